@@ -1,0 +1,5 @@
+pub mod Causes
+pub mod Heard
+pub mod Octets
+pub mod Read
+pub mod Tape
