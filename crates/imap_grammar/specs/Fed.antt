@@ -4,8 +4,8 @@ use Rattle.imap_automaton.specs.declared.sym.Sym.{Sym}
 use Rattle.imap_automaton.specs.Symbols.{symbols_of}
 use Rattle.imap_automaton.specs.Run.{run, start}
 use Rattle.imap_automaton.specs.Flow.{Ready, left_of}
-use Rattle.imap_grammar.specs.declared.scanner.Scan.{Scan}
-use Rattle.imap_grammar.specs.declared.scanner.Scan.TheVariants.{Whole, NeedMore, Bad}
+use Rattle.imap_grammar.specs.declared.answer.Scan.{Scan}
+use Rattle.imap_grammar.specs.declared.answer.Scan.TheVariants.{Whole, NeedMore, Bad}
 use Rattle.imap_grammar.specs.declared.scanner.Scanner.{Scanner}
 use Rattle.imap_grammar.specs.Scan.{IsPrefix}
 use Rattle.imap_syntax.specs.declared.response.Response.{Response}

@@ -1,7 +1,7 @@
 -- Octets that are a response, or begin one.
 use Rattle.std.specs.Prelude.{◌≡◌, ◌≢◌, ℕ, ◌+◌, ◌<◌, ◌≤◌, List, [], ◌++◌, length, take}
-use Rattle.imap_grammar.specs.declared.scanner.Scan.{Scan}
-use Rattle.imap_grammar.specs.declared.scanner.Scan.TheVariants.{Whole, NeedMore, Bad}
+use Rattle.imap_grammar.specs.declared.answer.Scan.{Scan}
+use Rattle.imap_grammar.specs.declared.answer.Scan.TheVariants.{Whole, NeedMore, Bad}
 use Rattle.imap_syntax.specs.declared.response.Response.{Response}
 use Rattle.imap_syntax.specs.Texts.{plain, outside, limit}
 use Rattle.imap_syntax.specs.Spells.{Spells, IsSpelling}

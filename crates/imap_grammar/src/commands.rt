@@ -18,7 +18,8 @@ fn push_quoted(out: &mut Vec<u8>, text: &[u8]) -> Result<(), AllocError>
         }
         out.push(*octet)?;
     }
-    out.push(b'"')
+    out.push(b'"')?;
+    Ok(())
 }
 
 /// `a`, the number in decimals and a space.

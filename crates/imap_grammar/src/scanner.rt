@@ -1,19 +1,9 @@
 // Where a response ends.
+use crate::answer::Scan;
 use imap_automaton::{Line, Stack, Sym, advance};
 
 /// Octets that may stand outside literals in one response.
 pub const LIMIT: u32 = 8_388_608;
-
-/// What octets are, so far.
-#[derive(Clone, Copy, Debug, PartialEq, Eq, Drop)]
-pub enum Scan {
-    /// The first so many octets are a response.
-    Whole(usize),
-    /// They begin a response, and are none yet.
-    NeedMore,
-    /// The octet at this place is the first that no response has there.
-    Bad(usize),
-}
 
 /// Reads one response in pieces.
 #[derive(Clone, Copy)]
@@ -44,7 +34,7 @@ fn marked_by(inside: bool, octet: u8) -> u16
 
 impl Scanner {
     ghost use Rattle.std.specs.Prelude.{List, [], ◌∷◌, ◌++◌, ℕ};
-    ghost use Rattle.imap_grammar.specs.declared.scanner.Scan.TheVariants.{NeedMore};
+    ghost use Rattle.imap_grammar.specs.declared.answer.Scan.TheVariants.{NeedMore};
     ghost use Rattle.imap_grammar.specs.Scan.{ScanOf};
     ghost use Rattle.imap_grammar.specs.Fed.{Fed, Takes};
 
@@ -100,7 +90,7 @@ impl Scanner {
 
 ghost use Rattle.std.specs.Prelude.{List, ℕ};
 ghost use Rattle.imap_grammar.specs.Scan as scans;
-ghost use Rattle.imap_grammar.specs.declared.scanner.Scan.{Scan};
+ghost use Rattle.imap_grammar.specs.declared.answer.Scan.{Scan};
 
 /// What the octets are: a response at their front, the beginning of one, or neither.
 pub fn scan(bytes: &[u8]) -> Scan
