@@ -11,7 +11,7 @@ use Rattle.imap_automaton.specs.declared.sym.Item.{Item}
 use Rattle.imap_automaton.specs.declared.sym.Item.TheVariants as item
 use Rattle.imap_automaton.specs.declared.sym.Sym.{Sym}
 use Rattle.imap_automaton.specs.declared.sym.Sym.TheVariants as sym
-use Rattle.imap_automaton.specs.Keys.{key_text, phrase_text}
+use Rattle.imap_automaton.specs.Keys.{key_text, phrase_text, keys, is_among}
 
 abbrev pub PendFits : Pending → Bool
 PendFits (pending.Open v n) = nat_le v 50000001 && nat_le n 8
@@ -35,7 +35,7 @@ ItemFits _ = true
 
 abbrev pub SymFits : Sym → Bool
 SymFits (sym.Line s) = LineFits s
-SymFits (sym.Word place key at) = nat_le at (length (key_text key))
+SymFits (sym.Word place key at) = nat_le at (length (key_text key)) && is_among key (keys place)
 SymFits (sym.Free s) = FreeFits s
 SymFits (sym.Item s) = ItemFits s
 SymFits (sym.Names s) = true

@@ -92,3 +92,9 @@ sym_left _ = 0
 abbrev pub left_of : List Sym → ℕ
 left_of [] = 0
 left_of (s ∷ ss) = sym_left s + left_of ss
+
+-- may end before an octet
+abbrev pub may_yield : Sym → Bool
+may_yield (sym.Item (item.Number value digits)) = true
+may_yield (sym.Names names.AtomRest) = true
+may_yield _ = false

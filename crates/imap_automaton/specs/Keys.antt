@@ -1,5 +1,5 @@
 -- The words by which a reader decides, and where they count.
-use Rattle.std.specs.Prelude.{ℕ, ◌+◌, Bool, ◌&&◌, nat_lt, ◌==◌, List, [], ◌∷◌, length, take, get_or, codes, bytes_eq, find, Option}
+use Rattle.std.specs.Prelude.{ℕ, ◌+◌, Bool, false, ◌&&◌, ◌||◌, nat_lt, ◌==◌, List, [], ◌∷◌, length, take, get_or, codes, bytes_eq, find, Option}
 use Rattle.imap_automaton.specs.declared.sym.Key.{Key}
 use Rattle.imap_automaton.specs.declared.sym.Key.TheVariants as key
 use Rattle.imap_automaton.specs.declared.sym.Place.{Place}
@@ -48,3 +48,15 @@ goes_on key at c k = nat_lt at (length (key_text k)) && get_or (key_text k) at 0
 
 abbrev pub next_key : Place → Key → ℕ → ℕ → Option Key
 next_key place key at c = find (goes_on key at c) (keys place)
+
+-- the key is the word so far
+abbrev pub is_whole : Key → ℕ → Key → Bool
+is_whole key at k = length (key_text k) == at && bytes_eq (take at (key_text k)) (take at (key_text key))
+
+abbrev pub whole_key : Place → Key → ℕ → Option Key
+whole_key place key at = find (is_whole key at) (keys place)
+
+-- the key counts in the place
+abbrev pub is_among : Key → List Key → Bool
+is_among k [] = false
+is_among k (x ∷ xs) = bytes_eq (key_text k) (key_text x) || is_among k xs

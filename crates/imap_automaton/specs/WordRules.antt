@@ -1,5 +1,5 @@
 -- Words by which a reader decides.
-use Rattle.std.specs.Prelude.{ℕ, ◌+◌, ◌&&◌, nat_lt, ◌==◌, if◌then◌else◌, length, Option, Some, None}
+use Rattle.std.specs.Prelude.{ℕ, ◌+◌, ◌==◌, if◌then◌else◌, Option, Some, None}
 use Rattle.imap_automaton.specs.declared.sym.Key.{Key}
 use Rattle.imap_automaton.specs.declared.sym.Key.TheVariants as key
 use Rattle.imap_automaton.specs.declared.sym.Place.{Place}
@@ -12,7 +12,7 @@ use Rattle.imap_automaton.specs.declared.sym.Names.TheVariants as names
 use Rattle.imap_automaton.specs.declared.sym.Sym.TheVariants as sym
 use Rattle.imap_automaton.specs.declared.sym.Move.{Move}
 use Rattle.imap_automaton.specs.declared.sym.Move.TheVariants as move
-use Rattle.imap_automaton.specs.Keys.{key_text, in_word, next_key}
+use Rattle.imap_automaton.specs.Keys.{in_word, next_key, whole_key}
 use Rattle.imap_automaton.specs.FreeRules.{text_rule}
 use Rattle.imap_syntax.specs.Octets.{lower}
 
@@ -51,8 +51,12 @@ abbrev pub word_goes : Place → ℕ → ℕ → Option Key → Move
 word_goes place at c (Some k) = move.One (sym.Word place k (at + 1))
 word_goes place at c None = stray place c
 
+abbrev pub word_ends : Place → ℕ → Option Key → Move
+word_ends place c (Some k) = behind_key place k c
+word_ends place c None = stray place c
+
 abbrev pub word_rule : Place → Key → ℕ → ℕ → Move
 word_rule place key at c =
     if in_word place c then word_goes place at c (next_key place key at (lower c))
-    else if at == length (key_text key) then behind_key place key c
-    else if nat_lt 0 at then stray place c else move.Fail
+    else if at == 0 then move.Fail
+    else word_ends place c (whole_key place key at)

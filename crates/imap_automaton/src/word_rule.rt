@@ -96,6 +96,32 @@ fn next_key(place: Place, key: Key, at: u8, c: u16) -> Option<Key>
     None
 }
 
+fn is_whole(key: Key, at: u8, candidate: Key) -> bool
+    requires { at ≤ length (keywords.key_text key) }
+    ensures { result ≡ keywords.is_whole key at candidate }
+{
+    let text = key_text(candidate);
+    let at = at as usize;
+    if text.len() == at {
+        begin_alike(text, key_text(key), at)
+    } else {
+        false
+    }
+}
+
+/// The key that is the word so far.
+fn whole_key(place: Place, key: Key, at: u8) -> Option<Key>
+    requires { at ≤ length (keywords.key_text key) }
+    ensures { result ≡ keywords.whole_key place key at }
+{
+    for candidate in keys(place) {
+        if is_whole(key, at, *candidate) {
+            return Some(*candidate);
+        }
+    }
+    None
+}
+
 fn rest_rule(c: u16) -> Move
     ensures { result ≡ rules.rest_rule c }
 {
@@ -155,17 +181,24 @@ fn word_goes(place: Place, at: u8, c: u16, next: Option<Key>) -> Move
     }
 }
 
+fn word_ends(place: Place, c: u16, whole: Option<Key>) -> Move
+    ensures { result ≡ rules.word_ends place c whole }
+{
+    match whole {
+        Some(key) => behind_key(place, key, c),
+        None => stray(place, c),
+    }
+}
+
 pub fn word_rule(place: Place, key: Key, at: u8, c: u16) -> Move
     requires { IsTrue (nat_le at (length (keywords.key_text key))) }
     ensures { result ≡ rules.word_rule place key at c }
 {
     if in_word(place, c) {
         word_goes(place, at, c, next_key(place, key, at, lower(c)))
-    } else if at as usize == key_text(key).len() {
-        behind_key(place, key, c)
-    } else if 0 < at {
-        stray(place, c)
-    } else {
+    } else if at == 0 {
         Move::Fail
+    } else {
+        word_ends(place, c, whole_key(place, key, at))
     }
 }
