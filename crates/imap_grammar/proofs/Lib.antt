@@ -1,1 +1,4 @@
+pub mod Standing
+pub mod ScannerLemmas
+pub mod Readings
 pub mod Spellings
