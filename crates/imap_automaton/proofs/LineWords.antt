@@ -129,10 +129,10 @@ tagged_from t h = by h.says
         (s.0, s.1, record { front = h.word; back = h.tail; whole = h.whole; first = s.2; second = s.3 })
     by (inr s) = absurd s.1
 
-lower_word : (c : ℕ) → is_key_octet (lower c) ≡ true → is_word c ≡ true
+pub lower_word : (c : ℕ) → is_key_octet (lower c) ≡ true → is_word c ≡ true
 lower_word c e = grind arith
 
-word_of_key : (x y : List ℕ) → Each is_key_octet y → map lower x ≡ y → Each is_word x
+pub word_of_key : (x y : List ℕ) → Each is_key_octet y → map lower x ≡ y → Each is_word x
 word_of_key [] y h e = tt
 word_of_key (c ∷ x) [] h e = absurd cc
 word_of_key (c ∷ x) (d ∷ y) h e =

@@ -7,7 +7,6 @@ use Rattle.imap_syntax.specs.declared.response.FetchItems.{FetchItems}
 use Rattle.imap_syntax.specs.declared.response.Response.{Response}
 use Rattle.imap_syntax.specs.declared.response.Response.TheVariants.{Tagged, Untagged, Fetch, Other}
 use Rattle.imap_syntax.specs.Octets.{is_digit, is_word, lower}
-use Rattle.imap_syntax.specs.Numbers.{value_from}
 use Rattle.imap_syntax.specs.Items.{add_name, no_items}
 
 -- how many octets at the front are of the class
@@ -19,13 +18,17 @@ span p (c ∷ b) = if p c then suc (span p b) else 0
 abbrev pub in_name : ℕ → Bool
 in_name c = not (c == 32) && not (c == 41)
 
--- the number, or 2^32 - 1 where it is greater
+-- the number, or 2^32 where it is greater
 abbrev pub capped : ℕ → ℕ
-capped n = if nat_le n 4294967295 then n else 4294967295
+capped n = if nat_le n 4294967295 then n else 4294967296
 
 unfoldable pub number_from : ℕ → List ℕ → ℕ
 number_from n [] = n
 number_from n (c ∷ t) = number_from (capped (10 * n + (c - 48))) t
+
+-- the number, or 2^32 - 1 where it is greater
+abbrev pub number_in : List ℕ → ℕ
+number_in t = if nat_le (number_from 0 t) 4294967295 then number_from 0 t else 4294967295
 
 -- ---- flags
 
@@ -47,7 +50,7 @@ flags_in b = if get_or b 0 0 == 41 then ([], drop 1 b) else names_in (length b) 
 unfoldable pub value_in : FetchItems → List ℕ → List ℕ → FetchItems × List ℕ
 value_in so_far name b =
     if bytes_eq name (codes "uid")
-    then (let n = span is_digit b in (record so_far { uid = Some (number_from 0 (take n b)) }, drop n b))
+    then (let n = span is_digit b in (record so_far { uid = Some (number_in (take n b)) }, drop n b))
     else (let f = flags_in (drop 1 b) in (record so_far { flags = Some f.0 }, f.1))
 
 unfoldable pub item_in : FetchItems → List ℕ → FetchItems × List ℕ
@@ -79,7 +82,7 @@ all_digits [] = true
 all_digits (c ∷ t) = is_digit c && all_digits t
 
 unfoldable pub is_sequence : List ℕ → Bool
-is_sequence w = nat_lt 0 (length w) && nat_le (length w) 10 && all_digits w && nat_le (value_from 0 w) 4294967295
+is_sequence w = nat_lt 0 (length w) && nat_le (length w) 10 && all_digits w && nat_le (number_from 0 w) 4294967295
 
 unfoldable pub numbered_in : ℕ → List ℕ → Response
 numbered_in seq b = if bytes_eq (word_in b) (codes "fetch") then Fetch seq (items_in (length b) no_items (drop 7 b)) else Other
@@ -93,7 +96,7 @@ unfoldable pub untagged_in : List ℕ → Response
 untagged_in b =
     let n = span is_word b in
     if is_sequence (take n b) && get_or b n 0 == 32
-    then numbered_in (number_from 0 (take n b)) (drop (n + 1) b)
+    then numbered_in (number_in (take n b)) (drop (n + 1) b)
     else plain_in (status_named (word_in b))
 
 unfoldable pub tagged_in : List ℕ → Response

@@ -4,6 +4,8 @@
 mod answer;
 mod commands;
 mod decoder;
+mod flags;
+mod octets;
 mod scanner;
 
 pub use answer::Scan;
