@@ -114,7 +114,7 @@ item_from t h = by h.says
         of_key _ e b = absurd b
     by (inr s) = absurd s.1
 
-name_some : (n : List ℕ) → (map lower n ≡ []  → ⊥) → 0 < length n
+name_some : (n : List ℕ) → (map lower n ≡ [] → ⊥) → 0 < length n
 name_some [] e = absurd (e refl)
 name_some (c ∷ n) e = omega arith
 

@@ -234,8 +234,7 @@ numbered_rest : (n c : ℕ) (l t digits : List ℕ) → c ∷ t ≡ digits ++ 32
 numbered_rest n c l t [] e h = absurd (omega (arith, h.some))
 numbered_rest n c l t (d ∷ x) e h =
     let same : c ≡ d = cons_head c d t (x ++ 32 ∷ l) e in
-    let v : value_from (d - 48) x ≤ 4294967295 = (let q = first_value d x in omega (arith, q, h.value, h.most)) in
-    (
+    let v : value_from (d - 48) x ≤ 4294967295 = (let q = first_value d x in omega (arith, q, h.value, h.most)) in (
       is_true_at is_digit c d same h.digits.0,
       record { more = x; whole = cons_tail c d t (x ++ 32 ∷ l) e; each = h.digits.1; few = omega (arith, h.few); most = subst (λ (q : ℕ). value_from (q - 48) x ≤ 4294967295) (sym same) v },
     )
@@ -244,8 +243,8 @@ untagged_back : (c : ℕ) (t : List ℕ) → After (line_rule line.Untagged c) t
 untagged_back c t h = from_test (is_digit c) (move.One (sym.Line (line.Sequence (c - 48) 1))) (word_rule place.Plain (first_key place.Plain) 0 c) t (LineLang line.Untagged (c ∷ t))
     (λ d k. elim k [
       | inl r ↦ (
-        let v = numbered_from (value_from (c - 48) r.1.more) r.0 r.2 in
-        (v.0, inl (value_from (c - 48) r.1.more, r.0, numbered_whole c r.0 t d r.1, v.1)))
+          let v = numbered_from (value_from (c - 48) r.1.more) r.0 r.2 in
+          (v.0, inl (value_from (c - 48) r.1.more, r.0, numbered_whole c r.0 t d r.1, v.1)))
       | inr r ↦ (response.Other, inr (digit_line c t d r.0, λ n l q. r.1 l (numbered_rest n c l t q.0 q.1 q.2).1))
     ])
     (λ d k.

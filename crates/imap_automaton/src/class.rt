@@ -3,6 +3,7 @@ ghost use Rattle.std.specs.Prelude.{◌≡◌};
 ghost use Rattle.imap_syntax.specs.Octets as octets;
 
 pub const CR: u16 = 13;
+
 pub const LF: u16 = 10;
 
 pub fn is_digit(c: u16) -> bool

@@ -63,7 +63,10 @@ fn free_end(pending: Pending) -> Move
     match pending {
         Pending::Closed(v) => {
             if v <= LITERAL_LIMIT {
-                Move::Two(Sym::Free(Free::Break(v)), Sym::Free(Free::Text(Pending::Nothing)))
+                Move::Two(
+                    Sym::Free(Free::Break(v)),
+                    Sym::Free(Free::Text(Pending::Nothing)),
+                )
             } else {
                 Move::Fail
             }
@@ -101,7 +104,11 @@ fn octets_rule(n: u32, c: u16) -> Move
     ensures { result ≡ rules.free_rule (Free.Octets n) c }
 {
     if 256 <= c && c < 512 && 0 < n {
-        if n == 1 { Move::End } else { Move::One(Sym::Free(Free::Octets(n - 1))) }
+        if n == 1 {
+            Move::End
+        } else {
+            Move::One(Sym::Free(Free::Octets(n - 1)))
+        }
     } else {
         Move::Fail
     }

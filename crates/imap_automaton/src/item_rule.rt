@@ -18,7 +18,10 @@ fn number_rule(value: u32, digits: u8, c: u16) -> Move
 {
     if is_digit(c) {
         let next = 10 * value as u64 + (c - b'0' as u16) as u64;
-        if digits < NUMBER_DIGITS && next <= u32::MAX as u64 && !(next == 0 && digits == NUMBER_DIGITS - 1) {
+        if digits < NUMBER_DIGITS
+            && next <= u32::MAX as u64
+            && !(next == 0 && digits == NUMBER_DIGITS - 1)
+        {
             Move::One(Sym::Item(Item::Number(next as u32, digits + 1)))
         } else {
             Move::Fail

@@ -32,7 +32,10 @@ fn start_rule(c: u16) -> Move
     ensures { result ≡ rules.line_rule Line.Start c }
 {
     if c == b'*' as u16 {
-        Move::Two(Sym::Line(Line::Fixed(Phrase::Space, 0)), Sym::Line(Line::Untagged))
+        Move::Two(
+            Sym::Line(Line::Fixed(Phrase::Space, 0)),
+            Sym::Line(Line::Untagged),
+        )
     } else if is_alnum(c) {
         Move::One(Sym::Line(Line::Tag(1)))
     } else {
@@ -65,7 +68,10 @@ fn untagged_rule(c: u16) -> Move
 fn sequence_rule(value: u32, digits: u8, c: u16) -> Move
     ensures { result ≡ rules.sequence_rule value digits c }
 {
-    if is_digit(c) && digits < NUMBER_DIGITS && 10 * value as u64 + (c - b'0' as u16) as u64 <= u32::MAX as u64 {
+    if is_digit(c)
+        && digits < NUMBER_DIGITS
+        && 10 * value as u64 + (c - b'0' as u16) as u64 <= u32::MAX as u64
+    {
         Move::One(Sym::Line(Line::Sequence(10 * value + (c - b'0' as u16) as u32, digits + 1)))
     } else if c == b' ' as u16 {
         Move::One(word_start(Place::Numbered))
@@ -93,7 +99,11 @@ fn fixed_rule(phrase: Phrase, at: u8, c: u16) -> Move
     let text = phrase_text(phrase);
     let place = at as usize;
     if place < text.len() && c == text[place] as u16 {
-        if place + 1 == text.len() { Move::End } else { Move::One(Sym::Line(Line::Fixed(phrase, at + 1))) }
+        if place + 1 == text.len() {
+            Move::End
+        } else {
+            Move::One(Sym::Line(Line::Fixed(phrase, at + 1)))
+        }
     } else {
         Move::Fail
     }

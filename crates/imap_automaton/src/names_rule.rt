@@ -34,7 +34,11 @@ fn more_rule(c: u16) -> Move
 fn atom_rule(c: u16) -> Move
     ensures { result ≡ rules.names_rule Names.Atom c }
 {
-    if is_atom(c) { Move::One(Sym::Names(Names::AtomRest)) } else { Move::Fail }
+    if is_atom(c) {
+        Move::One(Sym::Names(Names::AtomRest))
+    } else {
+        Move::Fail
+    }
 }
 
 pub fn names_rule(names: Names, c: u16) -> Move

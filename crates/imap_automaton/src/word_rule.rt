@@ -25,7 +25,14 @@ fn key_text(key: Key) -> &'static [u8]
 
 static TAGGED_KEYS: [Key; 3] = [Key::Ok, Key::No, Key::Bad];
 
-static LINE_KEYS: [Key; 6] = [Key::Ok, Key::No, Key::Bad, Key::Preauth, Key::Bye, Key::Fetch];
+static LINE_KEYS: [Key; 6] = [
+    Key::Ok,
+    Key::No,
+    Key::Bad,
+    Key::Preauth,
+    Key::Bye,
+    Key::Fetch,
+];
 
 static ITEM_KEYS: [Key; 2] = [Key::Uid, Key::Flags];
 
@@ -137,7 +144,11 @@ fn rest_rule(c: u16) -> Move
 fn spaced_rule(next: Sym, c: u16) -> Move
     ensures { result ≡ rules.spaced_rule (Move.One next) c }
 {
-    if c == b' ' as u16 { Move::One(next) } else { Move::Fail }
+    if c == b' ' as u16 {
+        Move::One(next)
+    } else {
+        Move::Fail
+    }
 }
 
 /// Behind a word that is a key.

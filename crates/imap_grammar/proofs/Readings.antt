@@ -87,8 +87,7 @@ plain_head (c ∷ t) e = cond-true (nat_lt c 256) c (c - 256) e
 word_cut : (number : Option ℕ) (v : Response) (t : List ℕ) → (h : IsWordLine number v t) → CutAt is_word h.word (plain h.tail) (plain t) × (get_or (plain h.tail) 0 0 ≡ get_or h.tail 0 0)
 word_cut number v t h =
     let s = says_small number v h.word h.tail t h.whole h.word_is h.says in
-    let head = plain_head h.tail s in
-    (
+    let head = plain_head h.tail s in (
       cut_at is_word h.word (plain h.tail) (plain t) (ap plain h.whole ∙ plain_join h.word h.tail (each_to is_word small h.word word_small h.word_is)) h.word_is (ap is_word head ∙ h.longest),
       head,
     )

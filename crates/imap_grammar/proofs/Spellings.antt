@@ -69,11 +69,11 @@ fronts (c ∷ t) (d ∷ u) x y e =
 pub spelling_front : (v w : Response) (t u x y : List ℕ) → IsSpelling v t → IsSpelling w u → t ++ x ≡ u ++ y → (v ≡ w) × (t ≡ u) × (x ≡ y)
 spelling_front v w t u x y h k e = elim (fronts t u x y e) [
   | inl r ↦ (
-    let q = spelling_within v w t r.0 h (subst (IsSpelling w) r.1 k) in
-    (q.0, sym (append-nil t) ∙ ap (λ (z : List ℕ). t ++ z) (sym q.1) ∙ sym r.1, r.2 ∙ ap (λ (z : List ℕ). z ++ y) q.1))
+      let q = spelling_within v w t r.0 h (subst (IsSpelling w) r.1 k) in
+      (q.0, sym (append-nil t) ∙ ap (λ (z : List ℕ). t ++ z) (sym q.1) ∙ sym r.1, r.2 ∙ ap (λ (z : List ℕ). z ++ y) q.1))
   | inr r ↦ (
-    let q = spelling_within w v u r.0 k (subst (IsSpelling v) r.1 h) in
-    (sym q.0, r.1 ∙ ap (λ (z : List ℕ). u ++ z) q.1 ∙ append-nil u, sym (r.2 ∙ ap (λ (z : List ℕ). z ++ x) q.1)))
+      let q = spelling_within w v u r.0 k (subst (IsSpelling v) r.1 h) in
+      (sym q.0, r.1 ∙ ap (λ (z : List ℕ). u ++ z) q.1 ∙ append-nil u, sym (r.2 ∙ ap (λ (z : List ℕ). z ++ x) q.1)))
 ]
 
 -- octets spell at most one value

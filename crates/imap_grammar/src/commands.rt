@@ -62,7 +62,11 @@ fn text_of(alloc: Global, command: &Command, tag: u64) -> Result<Vec<u8>, AllocE
 
 /// The pieces of the command's text under the tag of this number, each but the first to be sent after a continuation
 /// (RFC 9051 section 6).
-pub fn write_command(alloc: Global, command: &Command, tag: u64) -> Result<Listed<Bytes>, AllocError>
+pub fn write_command(
+    alloc: Global,
+    command: &Command,
+    tag: u64,
+) -> Result<Listed<Bytes>, AllocError>
     requires { texts.IsQuotable command.now }
     ensures { IfOk result (λ pieces. pieces ≡ texts.command_pieces command.now tag) }
 {

@@ -7,7 +7,9 @@ ghost use Rattle.imap_syntax.specs.declared.response.Response.{Response};
 ghost use Rattle.imap_grammar.specs.Reading as reading;
 
 use crate::flags::flags_in;
-use crate::octets::{before, behind, digits_len, is_key, is_sequence, name_len, number_of, octet_at, word_len};
+use crate::octets::{
+    before, behind, digits_len, is_key, is_sequence, name_len, number_of, octet_at, word_len,
+};
 use gate_world::{Bytes, Names};
 use imap_syntax::{FetchItems, Response, Status};
 use std::alloc::{AllocError, Global};
@@ -52,19 +54,29 @@ fn with_uid(items: FetchItems, uid: u32) -> FetchItems
     ensures { result ≡ record items { uid = Some uid } }
 {
     let FetchItems { uid: _, flags } = items;
-    FetchItems { uid: Some(uid), flags }
+    FetchItems {
+        uid: Some(uid),
+        flags,
+    }
 }
 
 fn with_flags(items: FetchItems, flags: Names) -> FetchItems
     ensures { result ≡ record items { flags = Some flags } }
 {
     let FetchItems { uid, flags: _ } = items;
-    FetchItems { uid, flags: Some(flags) }
+    FetchItems {
+        uid,
+        flags: Some(flags),
+    }
 }
 
 /// The item at the front, and what follows it.
 #[tactic(auto, unfolding(crate::specs::Reading::item_in, crate::specs::Reading::value_in))]
-fn item_in(alloc: Global, so_far: FetchItems, bytes: &[u8]) -> Result<(FetchItems, &[u8]), AllocError>
+fn item_in(
+    alloc: Global,
+    so_far: FetchItems,
+    bytes: &[u8],
+) -> Result<(FetchItems, &[u8]), AllocError>
     ensures items { IfOk result (λ r. r.0 ≡ (reading.item_in so_far bytes.now).0) }
     ensures rest { IfOk result (λ r. r.1.now ≡ (reading.item_in so_far bytes.now).1) }
 {
@@ -72,7 +84,10 @@ fn item_in(alloc: Global, so_far: FetchItems, bytes: &[u8]) -> Result<(FetchItem
     let value = behind(bytes, n + 1);
     if is_key(before(bytes, n), b"uid") {
         let n = digits_len(value);
-        Ok((with_uid(so_far, number_of(before(value, n))), behind(value, n)))
+        Ok((
+            with_uid(so_far, number_of(before(value, n))),
+            behind(value, n),
+        ))
     } else {
         let (flags, rest) = flags_in(alloc, behind(value, 1))?;
         Ok((with_flags(so_far, flags), rest))
@@ -84,7 +99,10 @@ fn item_in(alloc: Global, so_far: FetchItems, bytes: &[u8]) -> Result<(FetchItem
 fn items_in(alloc: Global, bytes: &[u8], most: usize) -> Result<FetchItems, AllocError>
     ensures { IfOk result (λ items. items ≡ reading.items_in most no_items bytes.now) }
 {
-    let mut items = FetchItems { uid: None, flags: None };
+    let mut items = FetchItems {
+        uid: None,
+        flags: None,
+    };
     let mut rest = bytes;
     let mut left = most;
     while 0 < left {

@@ -115,7 +115,11 @@ fn all_digits(bytes: &[u8]) -> bool
 fn capped(n: u64) -> u64
     ensures { result ≡ reading.capped n }
 {
-    if n <= u32::MAX as u64 { n } else { u32::MAX as u64 + 1 }
+    if n <= u32::MAX as u64 {
+        n
+    } else {
+        u32::MAX as u64 + 1
+    }
 }
 
 /// The number, or 2^32 where it is greater.
@@ -135,7 +139,11 @@ pub fn number_of(digits: &[u8]) -> u32
     ensures { result ≡ reading.number_in digits.now }
 {
     let count = count_of(digits);
-    if count <= u32::MAX as u64 { count as u32 } else { u32::MAX }
+    if count <= u32::MAX as u64 {
+        count as u32
+    } else {
+        u32::MAX
+    }
 }
 
 fn is_few(word: &[u8]) -> bool
