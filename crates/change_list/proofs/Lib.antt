@@ -1,0 +1,10 @@
+pub mod Ascending
+pub mod HistoryLaws
+pub mod MapLaws
+pub mod CopyLaws
+pub mod AnswerLaws
+pub mod Gathering
+pub mod Picked
+pub mod FromSeen
+pub mod AdvanceLaws
+pub mod FromTouched

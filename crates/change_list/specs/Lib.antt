@@ -1,0 +1,11 @@
+pub mod Touches
+pub mod Kept
+pub mod Changes
+pub mod TouchedIds
+pub mod Refusal
+pub mod History
+pub mod Copy
+pub mod Advance
+pub mod Seen
+pub mod Parts
+pub mod Answer
