@@ -1,5 +1,5 @@
 -- What keeps a client's copy right, and where it ends.
-use Rattle.std.proofs.Common.{◌≡◌, ◌≢◌, ℕ, zero, suc, ◌≤◌, List, [], ◌∷◌, ◌++◌, Bool, true, false, cond, nat_eq, take, drop, length, Option, Some, None, refl, sym, ap, subst, ◌∙◌, arith, ◌||◌, is_some, length-append}
+use Rattle.std.proofs.Common.{◌≡◌, ◌≢◌, ℕ, ◌≤◌, List, [], ◌∷◌, ◌++◌, Bool, true, false, cond, nat_eq, take, drop, length, Option, Some, None, refl, sym, ap, subst, ◌∙◌, arith, ◌||◌, is_some, length-append}
 use Rattle.std.proofs.lemmas.Bool.{eqb-true}
 use Rattle.std.proofs.lemmas.List.{take-take, length-take-le, take-append-le}
 use Rattle.std.proofs.Math.Seq.{take-append_seam, take-length}
@@ -7,7 +7,6 @@ use Rattle.change_list.specs.Touches.{between, touches}
 use Rattle.change_list.specs.Changes.{IsChanges}
 use Rattle.change_list.specs.History.{Touch, map_at, value_after, entries_of}
 use Rattle.change_list.specs.Copy.{IsCopy, applied, with_value, holds_id, Round, IsRound, AreRounds, copy_after, place_after}
-use Rattle.change_list.specs.declared.entries.Entry.{Entry}
 use Rattle.change_list.specs.declared.answer.Changes.{Changes}
 use Rattle.change_list.proofs.Ascending.{Contains-holds_id, holds_id-Contains}
 use Rattle.change_list.proofs.HistoryLaws.{touches-append, take-parts, between-append, between_none, between-take, there_at-take, map_at_untouched, length-entries_from}

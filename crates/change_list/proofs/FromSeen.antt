@@ -1,5 +1,5 @@
 -- What the walk has seen says what changed.
-use Rattle.std.proofs.Common.{◌≡◌, ◌≢◌, ℕ, ◌+◌, ◌-◌, ◌<◌, ◌≤◌, List, [], ◌∷◌, ◌++◌, Bool, true, false, not, ◌&&◌, cond, nat_eq, take, drop, length, Option, Some, None, refl, sym, ap, subst, ◌∙◌, arith, is_some, BTreeMap, nat_cmp, Contains, ◌↔◌, IsSome, IsTrue}
+use Rattle.std.proofs.Common.{◌≡◌, ◌≢◌, ℕ, ◌+◌, ◌-◌, ◌<◌, ◌≤◌, List, [], ◌∷◌, ◌++◌, Bool, true, false, not, ◌&&◌, cond, nat_eq, take, drop, length, Option, Some, None, refl, sym, ap, subst, ◌∙◌, arith, is_some, BTreeMap, nat_cmp, Contains, ◌↔◌, IsTrue}
 use Rattle.std.proofs.lemmas.Bool.{eqb-true}
 use Rattle.std.proofs.Math.Bool.{and-true}
 use Rattle.std.proofs.lemmas.List.{drop-take, drop-drop, take-append-drop, length-drop}
@@ -218,7 +218,7 @@ no_further h s t j None jn full here =
     let stops : s + t < j → ⊥ = λ beyond. (let f = full (omega (arith, length-drop s h)) in let g : None ≡ Some f.0 = f.1 in cc) in omega (arith, stops)
 no_further h s t j (Some most) jn full here =
     let stops : s + t < j → ⊥ = λ beyond. (let f = full (omega (arith, length-drop s h)) in let g : Some most ≡ Some f.0 = f.1 in let same : most ≡ f.0 = cc in
-      omega (arith, here, past_the_limit h s t j most beyond jn (omega (arith, f.2, same)))) in
+    omega (arith, here, past_the_limit h s t j most beyond jn (omega (arith, f.2, same)))) in
     omega (arith, stops)
 
 reaches_to : (h : List Entry) (s t : ℕ) (max : Option ℕ) (m : BTreeMap ℕ Seen) → s + t ≤ length h → Gathered (drop s h) max m t → Reaches h s max (s + t)

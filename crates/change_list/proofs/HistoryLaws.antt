@@ -1,18 +1,11 @@
 -- Which ids are there, by touches with kinds and by maps, and copies of a history.
-use Rattle.std.proofs.Common.{◌≡◌, ◌≢◌, ℕ, zero, suc, ◌+◌, ◌<◌, ◌≤◌, List, [], ◌∷◌, ◌++◌, Bool, true, false, cond, nat_eq, nat_lt, subst, take, drop, length, Option, Some, None, refl, sym, ap, ◌∙◌, arith, ◌||◌, is_some}
-use Rattle.std.proofs.lemmas.List.{take-append-drop, take-take, length-take-le, take-append-le}
-use Rattle.std.proofs.Math.Seq.{take-append_seam}
-use Rattle.std.proofs.Common.{length-append}
-use Rattle.std.proofs.lemmas.Map.Views.{Contains-from_any, list_any-from_Contains}
-use Rattle.std.proofs.lemmas.Cmp.{nat_eq_equiv}
+use Rattle.std.proofs.Common.{◌≡◌, ◌≢◌, ℕ, zero, suc, ◌+◌, ◌≤◌, List, [], ◌∷◌, ◌++◌, Bool, true, false, cond, nat_eq, nat_lt, subst, take, drop, length, Option, Some, None, refl, sym, ap, ◌∙◌, arith, ◌||◌, is_some}
+use Rattle.std.proofs.lemmas.List.{take-append-drop, take-take}
 use Rattle.std.proofs.lemmas.Bool.{eqb-true, ltb-true, ltb-false}
 use Rattle.std.proofs.Math.Bool.{or-true}
 use Rattle.change_list.specs.Touches.{there_after, there_at, between, touches, leaves, finds, FitsFrom, AreTouches}
-use Rattle.change_list.specs.Changes.{IsChanges}
 use Rattle.change_list.specs.History.{Touch, IsHistory, IsTouched, DifferFrom, map_then, map_at, value_after, entries_of, entries_from, entry_of, kind_of}
-use Rattle.change_list.specs.Copy.{IsCopy, applied, holds_id}
 use Rattle.change_list.specs.declared.entries.Entry.{Entry}
-use Rattle.change_list.specs.declared.answer.Changes.{Changes}
 
 -- ---- touches of appended lists
 

@@ -1,9 +1,9 @@
 -- What an answer tells of the maps at both places, and how a history grows.
-use Rattle.std.proofs.Common.{◌≡◌, ◌≢◌, ◌↔◌, ℕ, ◌+◌, ◌<◌, ◌≤◌, List, [], ◌∷◌, ◌++◌, Bool, true, false, cond, Contains, nat_eq, nat_lt, take, length, Option, Some, None, refl, sym, ap, subst, ◌∙◌, arith, is_some, length-append}
+use Rattle.std.proofs.Common.{◌≡◌, ◌≢◌, ◌↔◌, ℕ, ◌<◌, ◌≤◌, List, [], ◌∷◌, ◌++◌, Bool, true, false, cond, Contains, nat_eq, nat_lt, length, Option, Some, None, refl, sym, ap, subst, ◌∙◌, arith, is_some, length-append}
 use Rattle.std.proofs.lemmas.Bool.{eqb-true, ltb-true, ltb-false}
 use Rattle.std.proofs.lemmas.List.{take-append-le, take_all}
 use Rattle.std.proofs.Math.Seq.{take-length}
-use Rattle.change_list.specs.Touches.{there_at, between, touches}
+use Rattle.change_list.specs.Touches.{between, touches}
 use Rattle.change_list.specs.Changes.{IsChanges, IsCreated, IsUpdated, IsDestroyed}
 use Rattle.change_list.specs.History.{Touch, IsHistory, IsTouched, DifferFrom, map_then, map_at, value_after, entries_of}
 use Rattle.change_list.specs.Copy.{TellsMaps}
@@ -53,9 +53,6 @@ module _ {V : Type 0} where
   -- maps at places of the old history stay
   pub map_at-early : (h more : List (Touch V)) (k q : ℕ) → k ≤ length h → map_at (h ++ more) k q ≡ map_at h k q
   map_at-early h more k q kn = ap (λ ts. value_after None ts q) (take-append-le k h more kn)
-
-
-
 
   -- and beyond them the new touch counts
   map_at-late : (h : List (Touch V)) (t : Touch V) (k q : ℕ) → length h < k → map_at (h ++ t ∷ []) k q ≡ cond (nat_eq t.id q) t.value (map_at h (length h) q)

@@ -125,3 +125,7 @@ impl ChangeList {
     }
 }
 
+#[cfg(test)]
+mod random_touches;
+#[cfg(test)]
+mod tests;
