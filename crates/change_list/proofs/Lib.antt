@@ -1,6 +1,7 @@
 pub mod Ascending
 pub mod HistoryLaws
 pub mod MapLaws
+pub mod Growth
 pub mod CopyLaws
 pub mod AnswerLaws
 pub mod Gathering

@@ -1,4 +1,4 @@
--- What an answer tells of the maps at both places, and how a history grows.
+-- What an answer tells of the maps at both places.
 use Rattle.std.proofs.Common.{◌≡◌, ◌≢◌, ◌↔◌, ℕ, ◌<◌, ◌≤◌, List, [], ◌∷◌, ◌++◌, Bool, true, false, cond, Contains, nat_eq, nat_lt, length, Option, Some, None, refl, sym, ap, subst, ◌∙◌, arith, is_some, length-append}
 use Rattle.std.proofs.lemmas.Bool.{eqb-true, ltb-true, ltb-false}
 use Rattle.std.proofs.lemmas.List.{take-append-le, take_all}
@@ -44,54 +44,4 @@ module _ {V : Type 0} where
             (λ e f. c' ((created q).1 (e, f))) (λ e f. d' ((destroyed q).1 (e, f)))
             (λ e f t. u' ((updated q).1 (e, f, touched_differs h history s k q t)))
             (λ t. map_at_untouched h s k q is.reaches.after t);
-      }
-
-  differ_snoc : (w : ℕ → Option V) (h : List (Touch V)) (t : Touch V) → DifferFrom w h → value_after (w t.id) h t.id ≢ t.value → DifferFrom w (h ++ t ∷ [])
-  differ_snoc w [] t d last = (last, tt)
-  differ_snoc w (u ∷ h) t d last = (d.0, differ_snoc (map_then w u) h t d.1 last)
-
-  -- maps at places of the old history stay
-  pub map_at-early : (h more : List (Touch V)) (k q : ℕ) → k ≤ length h → map_at (h ++ more) k q ≡ map_at h k q
-  map_at-early h more k q kn = ap (λ ts. value_after None ts q) (take-append-le k h more kn)
-
-  -- and beyond them the new touch counts
-  map_at-late : (h : List (Touch V)) (t : Touch V) (k q : ℕ) → length h < k → map_at (h ++ t ∷ []) k q ≡ cond (nat_eq t.id q) t.value (map_at h (length h) q)
-  map_at-late h t k q beyond =
-      ap (λ ts. value_after None ts q) (take_all k (h ++ t ∷ []) (omega (arith, length-append h (t ∷ []))))
-      ∙ value_after-append None h (t ∷ []) q
-      ∙ ap (λ ts. cond (nat_eq t.id q) t.value (value_after None ts q)) (sym (take-length h))
-
-  -- an id that is lost isn't given a value
-  no_value : (h : List (Touch V)) (t : Touch V) (i q : ℕ) → (t.value ≢ None → map_at h (length h) t.id ≡ None → (j : ℕ) → map_at h j t.id ≡ None)
-      → t.id ≡ q → map_at h i q ≢ None → map_at h (length h) q ≡ None → t.value ≡ None
-  no_value h t i q fresh same had last = elim t.value as (λ v. t.value ≡ v → v ≡ None) [
-    | None ↦ λ e. refl
-    | Some v ↦ λ e. absurd (had (ap (map_at h i) (sym same) ∙ fresh (λ f. let g : Some v ≡ None = sym e ∙ f in cc) (ap (map_at h (length h)) same ∙ last) i))
-  ] refl
-
-  -- a history goes on by a touch that gives its id another value, and no value to an id that was lost
-  pub history_grows : (h : List (Touch V)) (t : Touch V) → IsHistory h → map_at h (length h) t.id ≢ t.value
-      → (t.value ≢ None → map_at h (length h) t.id ≡ None → (i : ℕ) → map_at h i t.id ≡ None) → IsHistory (h ++ t ∷ [])
-  history_grows h t is other fresh =
-      let n = length h in
-      let H = h ++ t ∷ [] in
-      let P : List (Touch V) → Type 0 = λ ts. value_after None ts t.id ≢ t.value in
-      record {
-        differ = differ_snoc (λ _. None) h t is.differ (subst P (take-length h) other);
-        lost_for_good = λ i j k q ij jk was gone. elim (nat_lt n k) as (λ b. nat_lt n k ≡ b → map_at H k q ≡ None) [
-          | false ↦ λ e.
-              let kn : k ≤ n = ltb-false n k e in
-              map_at-early h (t ∷ []) k q kn ∙ is.lost_for_good i j k q ij jk (λ f. was (map_at-early h (t ∷ []) i q (omega arith) ∙ f)) (sym (map_at-early h (t ∷ []) j q (omega arith)) ∙ gone)
-          | true ↦ λ e. map_at-late h t k q (ltb-true n k e) ∙ elim (nat_lt n j) as (λ b. nat_lt n j ≡ b → cond (nat_eq t.id q) t.value (map_at h n q) ≡ None) [
-            | true ↦ λ f. sym (map_at-late h t j q (ltb-true n j f)) ∙ gone
-            | false ↦ λ f.
-                let jn : j ≤ n = ltb-false n j f in
-                let had : map_at h i q ≢ None = λ g. was (map_at-early h (t ∷ []) i q (omega arith) ∙ g) in
-                let last : map_at h n q ≡ None = is.lost_for_good i j n q ij jn had (sym (map_at-early h (t ∷ []) j q jn) ∙ gone) in
-                elim (nat_eq t.id q) as (λ b. nat_eq t.id q ≡ b → cond b t.value (map_at h n q) ≡ None) [
-                  | true ↦ λ same. no_value h t i q fresh (eqb-true t.id q same) had last
-                  | false ↦ λ g. last
-                ] refl
-          ] refl
-        ] refl;
       }

@@ -1,5 +1,5 @@
 -- A history of values of any type: the touches that lead from each of its maps to the next.
-use Rattle.std.specs.Prelude.{◌≡◌, ◌≢◌, ℕ, ◌+◌, ◌≤◌, ◌<◌, ◌==◌, List, [], ◌∷◌, Bool, if◌then◌else◌, take, Option, Some, None}
+use Rattle.std.specs.Prelude.{◌≡◌, ◌≢◌, ℕ, ◌+◌, ◌≤◌, ◌<◌, ◌==◌, List, [], ◌∷◌, Bool, if◌then◌else◌, take, length, Option, Some, None}
 use Rattle.change_list.specs.declared.entries.Kind.{Kind}
 use Rattle.change_list.specs.declared.entries.Kind.TheVariants.{Added, Changed, Removed}
 use Rattle.change_list.specs.declared.entries.Entry.{Entry}
@@ -33,6 +33,24 @@ module _ {V : Type 0} where
   pub record IsHistory (h : List (Touch V)) : Type 0 where
     pub differ : DifferFrom (λ _. None) h
     pub lost_for_good : (i j k q : ℕ) → i ≤ j → j ≤ k → map_at h i q ≢ None → map_at h j q ≡ None → map_at h k q ≡ None
+
+  -- two maps differ at one id
+  pub record DifferAtOne (m n : ℕ → Option V) : Type 0 where
+    pub id : ℕ
+    pub differ : m id ≢ n id
+    pub others : (q : ℕ) → q ≢ id → m q ≡ n q
+
+  -- the maps M 0 to M n of a type: the first is empty, neighbours differ at one id, and none has an id again that was lost
+  pub record AreMaps (M : ℕ → ℕ → Option V) (n : ℕ) : Type 0 where
+    pub first_empty : (q : ℕ) → M 0 q ≡ None
+    pub neighbours : (i : ℕ) → i < n → DifferAtOne (M i) (M (i + 1))
+    pub lost_for_good : (i j k q : ℕ) → i ≤ j → j ≤ k → k ≤ n → M i q ≢ None → M j q ≡ None → M k q ≡ None
+
+  -- the maps of the history are these
+  pub record HasMaps (h : List (Touch V)) (M : ℕ → ℕ → Option V) (n : ℕ) : Type 0 where
+    pub history : IsHistory h
+    pub places : length h ≡ n
+    pub maps : (i q : ℕ) → i ≤ n → map_at h i q ≡ M i q
 
   -- neighbours among the maps s to k differ at q
   abbrev pub IsTouched : List (Touch V) → ℕ → ℕ → ℕ → Type 0

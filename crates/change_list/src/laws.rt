@@ -6,7 +6,7 @@ ghost use Rattle.std.specs.Option.{ForSome};
 ghost use Rattle.change_list.specs.Touches.{AreTouches};
 ghost use Rattle.change_list.specs.Advance.{row_at, AreRows, advance};
 ghost use Rattle.change_list.specs.Changes.{IsChanges};
-ghost use Rattle.change_list.specs.History.{Touch, IsHistory, map_at, entries_of, value_after};
+ghost use Rattle.change_list.specs.History.{Touch, IsHistory, AreMaps, HasMaps, map_at, entries_of, value_after};
 ghost use Rattle.change_list.specs.Copy.{IsCopy, Round, AreRounds, TellsMaps, applied, with_value, copy_after, place_after};
 ghost use Rattle.change_list.specs.declared.entries.Entry.{Entry};
 ghost use Rattle.change_list.specs.declared.answer.Changes.{Changes};
@@ -21,6 +21,16 @@ pub fn one_answer()
 pub fn answers_go_on()
     ensures { (h : List Entry) (s : ℕ) (max : Option ℕ) (c : Changes)
         → IsChanges h s max c → ForSome max (λ most. 0 < most) → s < length h → s < c.to }
+{}
+
+/// A history's maps begin empty, neighbours differ at one id, and no id comes back that was lost.
+pub fn history_has_maps<V>()
+    ensures { (h : List (Touch V)) → IsHistory h → AreMaps (map_at h) (length h) }
+{}
+
+/// All such maps are those of a history.
+pub fn maps_have_history<V>()
+    ensures { (M : ℕ → ℕ → Option V) (n : ℕ) → AreMaps M n → (h : List (Touch V)) × HasMaps h M n }
 {}
 
 /// The touches of a history fit what was there, and no id comes back that was lost.

@@ -1,4 +1,4 @@
-use Rattle.change_list.proofs.MapLaws.{history_grows}
+use Rattle.change_list.proofs.Growth.{history_grows}
 use Rattle.change_list.proofs.laws.history_grows.Goals as goal
 
 pub returns : goal.returns
