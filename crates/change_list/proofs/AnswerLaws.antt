@@ -9,7 +9,7 @@ use Rattle.change_list.specs.declared.answer.Changes.{Changes}
 use Rattle.change_list.proofs.Ascending.{same_listed, same_marks}
 
 same_reach : (h : List Entry) (s : ℕ) (max : Option ℕ) (k l : ℕ) → Reaches h s max k → Reaches h s max l → k ≡ l
-same_reach h s max k l a b = omega (arith, a.greatest l b.kept b.within, b.greatest k a.kept a.within)
+same_reach h s max k l a b = omega (arith, a.greatest l b.to_last b.within, b.greatest k a.to_last a.within)
 
 pub one_answer : (h : List Entry) (s : ℕ) (max : Option ℕ) (c d : Changes) → IsChanges h s max c → IsChanges h s max d → c ≡ d
 one_answer h s max c d a b =

@@ -46,11 +46,12 @@ neither false b = λ e. (refl, e)
 
 module _ {V : Type 0} where
   pub copies_follow : (h : List (Touch V)) (m s : ℕ) (max : Option ℕ) (c : Changes) (copy : ℕ → Option V)
-      → m ≤ length h → s ≤ m → IsChanges (entries_of (take m h)) s max c → IsCopy copy h s
+      → m ≤ length h → IsChanges (entries_of (take m h)) s max c → IsCopy copy h s
       → IsCopy (applied c (map_at h (length h)) copy) h c.to
-  copies_follow h m s max c copy mh sm is was =
-      let km : c.to ≤ m = omega (arith, is.reaches.kept, length-entries_from (λ _. None) (take m h), length-take-le m h mh) in
+  copies_follow h m s max c copy mh is was =
+      let km : c.to ≤ m = omega (arith, is.reaches.to_last, length-entries_from (λ _. None) (take m h), length-take-le m h mh) in
       let sk : s ≤ c.to = is.reaches.after in
+      let sm : s ≤ m = omega arith in
       let at_s = λ (q : ℕ). there_at-take h m s q sm in
       let at_k = λ (q : ℕ). there_at-take h m c.to q km in
       let early = λ (q : ℕ). ap (λ es. touches es q) (between-take h m s c.to km) in
@@ -132,7 +133,7 @@ module _ {V : Type 0} where
       subst P (sym (take-parts h m n mn)) (copies_stay (take m h) (drop m (take n h)) s copy (omega (arith, length-take-le m h (omega arith))) is)
 
   round_comes_to : (h : List (Touch V)) (s now : ℕ) (r : Round) → IsRound h s now r → r.changes.to ≤ r.fetched
-  round_comes_to h s now r is = omega (arith, is.changes.reaches.kept, length-entries_from (λ _. None) (take r.answered h), length-take-le r.answered h (omega (arith, is.answer_first, is.by_now)), is.answer_first)
+  round_comes_to h s now r is = omega (arith, is.changes.reaches.to_last, length-entries_from (λ _. None) (take r.answered h), length-take-le r.answered h (omega (arith, is.answer_first, is.by_now)), is.answer_first)
 
   -- one round keeps a copy
   round_keeps : (h : List (Touch V)) (s now : ℕ) (r : Round) (copy : ℕ → Option V) → s ≤ now → IsCopy copy (take now h) s → IsRound h s now r
@@ -143,7 +144,7 @@ module _ {V : Type 0} where
       let early : take r.answered later ≡ take r.answered h = take-take r.answered r.fetched h is.answer_first in
       let A : List (Touch V) → Type 0 = λ ts. IsChanges (entries_of ts) s r.max r.changes in
       let then : IsCopy copy later s = copies_go_on h s now r.fetched copy sn is.in_order is.by_now was in
-      let to = copies_follow later r.answered s r.max r.changes copy (omega (arith, long, is.answer_first)) is.known (subst A (sym early) is.changes) then in
+      let to = copies_follow later r.answered s r.max r.changes copy (omega (arith, long, is.answer_first)) (subst A (sym early) is.changes) then in
       let C : List (Touch V) → Type 0 = λ ts. IsCopy (applied r.changes (λ q. value_after None ts q) copy) later r.changes.to in
       subst C (take-length later) to
 

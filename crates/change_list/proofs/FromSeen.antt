@@ -224,7 +224,7 @@ no_further h s t j (Some most) jn full here =
 reaches_to : (h : List Entry) (s t : ℕ) (max : Option ℕ) (m : BTreeMap ℕ Seen) → s + t ≤ length h → Gathered (drop s h) max m t → Reaches h s max (s + t)
 reaches_to h s t max m tn g = record {
   after = omega arith;
-  kept = tn;
+  to_last = tn;
   within = within_to h s t max g.few;
   greatest = λ j jn here. no_further h s t j max jn g.full here;
 }
@@ -261,6 +261,6 @@ changes_from h s max c a fits sn =
 pub changes_of_kept : (k : Kept) (h : List Entry) (s start : ℕ) (max : Option ℕ) (c : Changes) → IsOf k h → AreTouches h → front_of k.place + start ≡ s → s ≤ k.place → Answers (drop start k.entries) s max c → IsChanges h s max c
 changes_of_kept k h s start max c of fits is high a =
     let P : List Entry → Type 0 = λ rest. Answers rest s max c in
-    let front = length h - 8192 in
+    let front = front_of (length h) in
     let sum : front + start ≡ s = omega (arith, of.place) in
     changes_from h s max c (subst P (ap (drop start) of.entries ∙ drop-drop start front h ∙ ap (λ n. drop n h) sum) a) fits (omega (arith, of.place))

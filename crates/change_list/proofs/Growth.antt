@@ -1,5 +1,5 @@
 -- How a history grows, and that a history and its maps are one.
-use Rattle.std.proofs.Common.{◌≡◌, ◌≢◌, ℕ, zero, suc, ◌+◌, ◌<◌, ◌≤◌, List, [], ◌∷◌, ◌++◌, Bool, true, false, cond, nat_eq, nat_lt, take, length, Option, Some, None, refl, sym, ap, subst, ◌∙◌, arith, is_some, length-append, append_assoc}
+use Rattle.std.proofs.Common.{◌≡◌, ◌≢◌, ℕ, zero, suc, ◌+◌, ◌<◌, ◌≤◌, List, [], ◌∷◌, ◌++◌, Bool, true, false, cond, nat_eq, nat_lt, take, length, Option, Some, None, refl, sym, ap, subst, ◌∙◌, arith, length-append, append_assoc, append-nil}
 use Rattle.std.proofs.lemmas.Bool.{eqb-true, eq-eqb, ltb-true, ltb-false}
 use Rattle.std.proofs.lemmas.List.{take-append-le, take_all}
 use Rattle.std.proofs.Math.Seq.{take-length}
@@ -135,3 +135,54 @@ module _ {V : Type 0} where
     maps = λ i q within. map_at-beyond [] i q (omega arith) ∙ sym (are.first_empty q) ∙ ap (λ k. M k q) (omega arith);
   })
   maps_have_history M (suc n) are = let before = maps_have_history M n (fewer M n are) in one_more M n before.0 are before.1
+
+  -- ---- touches of which no two are of one id
+
+  abbrev pub is_touched : List (Touch V) → ℕ → Bool
+  is_touched [] q = false
+  is_touched (t ∷ ts) q = cond (nat_eq t.id q) true (is_touched ts q)
+
+  abbrev pub AreOnce : List (Touch V) → Type 0
+  AreOnce [] = Unit {0}
+  AreOnce (t ∷ ts) = (is_touched ts t.id ≡ false) × AreOnce ts
+
+  untouched_value : (was : Option V) (ts : List (Touch V)) (q : ℕ) → is_touched ts q ≡ false → value_after was ts q ≡ was
+  untouched_value was [] q e = refl
+  untouched_value was (t ∷ ts) q e = elim (nat_eq t.id q) as (λ b. cond b true (is_touched ts q) ≡ false → value_after (cond b t.value was) ts q ≡ was) [
+    | true ↦ λ f. absurd (let g : true ≡ false = f in cc)
+    | false ↦ λ f. untouched_value was ts q f
+  ] e
+
+  differ_same : (was then : ℕ → Option V) (ts : List (Touch V)) → ((q : ℕ) → was q ≡ then q) → DifferFrom was ts → DifferFrom then ts
+  differ_same was then [] same d = tt
+  differ_same was then (t ∷ ts) same d = (
+    (λ e. d.0 (same t.id ∙ e)),
+    differ_same (map_then was t) (map_then then t) ts (λ q. ap (λ o. cond (nat_eq t.id q) t.value o) (same q)) d.1,
+  )
+
+  -- a history goes on by such touches, where none gives a value to an id that was lost
+  pub grows_by : (h more : List (Touch V)) → IsHistory h → DifferFrom (map_at h (length h)) more → AreOnce more
+      → ((q : ℕ) → map_at h (length h) q ≡ None → value_after None more q ≢ None → (i : ℕ) → map_at h i q ≡ None) → IsHistory (h ++ more)
+  grows_by h [] is d once fresh = let P : List (Touch V) → Type 0 = λ ts. IsHistory ts in subst P (sym (append-nil h)) is
+  grows_by h (t ∷ more) is d once fresh =
+      let n = length h in
+      let g = h ++ t ∷ [] in
+      let head : value_after None (t ∷ more) t.id ≡ t.value = ap (λ b. value_after (cond b t.value None) more t.id) (eq-eqb t.id t.id refl) ∙ untouched_value t.value more t.id once.0 in
+      let first : IsHistory g = history_grows h t is d.0 (λ now before. fresh t.id before (λ e. now (sym head ∙ e))) in
+      let late : (k q : ℕ) → n < k → map_at g k q ≡ cond (nat_eq t.id q) t.value (map_at h n q) = λ k q. map_at-late h t k q in
+      let long : n < length g = omega (arith, length-append h (t ∷ [])) in
+      let rest : DifferFrom (map_at g (length g)) more = differ_same (map_then (map_at h n) t) (map_at g (length g)) more (λ q. sym (late (length g) q long)) d.1 in
+      let fresh_rest : (q : ℕ) → map_at g (length g) q ≡ None → value_after None more q ≢ None → (i : ℕ) → map_at g i q ≡ None =
+      λ q gone now i. elim (nat_eq t.id q) as (λ b. nat_eq t.id q ≡ b → map_at g i q ≡ None) [
+        | true ↦ λ same. absurd (now (untouched_value None more q (ap (is_touched more) (sym (eqb-true t.id q same)) ∙ once.0)))
+        | false ↦ λ other.
+            let keeps : (k : ℕ) → n < k → map_at g k q ≡ map_at h n q = λ k beyond. late k q beyond ∙ ap (λ b. cond b t.value (map_at h n q)) other in
+            let base : map_at h n q ≡ None = sym (keeps (length g) long) ∙ gone in
+            let step : value_after None (t ∷ more) q ≡ value_after None more q = ap (λ b. value_after (cond b t.value None) more q) other in
+            elim (nat_lt n i) as (λ b. nat_lt n i ≡ b → map_at g i q ≡ None) [
+              | true ↦ λ e. keeps i (ltb-true n i e) ∙ base
+              | false ↦ λ e. map_at-early h (t ∷ []) i q (ltb-false n i e) ∙ fresh q base (λ f. now (sym step ∙ f)) i
+            ] refl
+      ] refl in
+      let P : List (Touch V) → Type 0 = λ ts. IsHistory ts in
+      subst P (append_assoc h (t ∷ []) more) (grows_by g more first rest once.1 fresh_rest)

@@ -7,5 +7,6 @@ pub mod AnswerLaws
 pub mod Gathering
 pub mod Picked
 pub mod FromSeen
+pub mod Phases
 pub mod AdvanceLaws
 pub mod FromTouched

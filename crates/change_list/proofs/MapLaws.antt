@@ -1,14 +1,11 @@
 -- What an answer tells of the maps at both places.
-use Rattle.std.proofs.Common.{◌≡◌, ◌≢◌, ◌↔◌, ℕ, ◌<◌, ◌≤◌, List, [], ◌∷◌, ◌++◌, Bool, true, false, cond, Contains, nat_eq, nat_lt, length, Option, Some, None, refl, sym, ap, subst, ◌∙◌, arith, is_some, length-append}
-use Rattle.std.proofs.lemmas.Bool.{eqb-true, ltb-true, ltb-false}
-use Rattle.std.proofs.lemmas.List.{take-append-le, take_all}
-use Rattle.std.proofs.Math.Seq.{take-length}
+use Rattle.std.proofs.Common.{◌≡◌, ◌≢◌, ◌↔◌, ℕ, List, Bool, true, false, Contains, Option, Some, None, refl, sym, ap, ◌∙◌, is_some}
 use Rattle.change_list.specs.Touches.{between, touches}
 use Rattle.change_list.specs.Changes.{IsChanges, IsCreated, IsUpdated, IsDestroyed}
-use Rattle.change_list.specs.History.{Touch, IsHistory, IsTouched, DifferFrom, map_then, map_at, value_after, entries_of}
+use Rattle.change_list.specs.History.{Touch, IsHistory, IsTouched, map_at, entries_of}
 use Rattle.change_list.specs.Copy.{TellsMaps}
 use Rattle.change_list.specs.declared.answer.Changes.{Changes}
-use Rattle.change_list.proofs.HistoryLaws.{some_is_not_none, not_none_is_some, none_from, there_at-entries_of, touched_differs, differs_touched, map_at_untouched, value_after-append}
+use Rattle.change_list.proofs.HistoryLaws.{some_is_not_none, not_none_is_some, none_from, there_at-entries_of, touched_differs, differs_touched, map_at_untouched}
 
 module _ {V : Type 0} where
   -- at one id that no list has: a and b are its values at the two places, t whether it is touched

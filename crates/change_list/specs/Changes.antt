@@ -18,7 +18,7 @@ IsWithin (Some most) h s k = touched_count (between h s k) ≤ most
 -- k is the greatest place up to which no more ids than the limit are touched after s
 pub record Reaches (h : List Entry) (s : ℕ) (max : Option ℕ) (k : ℕ) : Type 0 where
   pub after : s ≤ k
-  pub kept : k ≤ length h
+  pub to_last : k ≤ length h
   pub within : IsWithin max h s k
   pub greatest : (j : ℕ) → j ≤ length h → IsWithin max h s j → j ≤ k
 

@@ -33,7 +33,6 @@ module _ {V : Type 0} where
 
   -- the answer is right where it was made, and the values were fetched then or later, and not before place now
   pub record IsRound (h : List (Touch V)) (s now : ℕ) (r : Round) : Type 0 where
-    pub known : s ≤ r.answered
     pub answer_first : r.answered ≤ r.fetched
     pub in_order : now ≤ r.fetched
     pub by_now : r.fetched ≤ length h

@@ -34,7 +34,7 @@ abbrev pub touches : List Entry → ℕ → Bool
 touches [] q = false
 touches (e ∷ es) q = if e.id == q then true else touches es q
 
--- how many ids are touched that the touches before don't touch
+-- how many of these touches are the first of their id, after those before
 abbrev pub fresh_count : List Entry → List Entry → ℕ
 fresh_count before [] = 0
 fresh_count before (e ∷ es) = if touches before e.id then fresh_count before es else suc (fresh_count (e ∷ before) es)

@@ -1,10 +1,10 @@
 //! The laws of histories, answers and copies, as clauses of functions that do nothing. A caller has a law at a type of
 //! its own by calling its function.
 
-ghost use Rattle.std.specs.Prelude.{◌≡◌, ◌≢◌, ◌<◌, ◌≤◌, ◌↔◌, [], ◌∷◌, ◌++◌, ℕ, List, Option, Some, None, Bool, true, length, take};
+ghost use Rattle.std.specs.Prelude.{◌≡◌, ◌≢◌, ◌<◌, ◌≤◌, ◌↔◌, [], ◌∷◌, ◌++◌, ℕ, List, Option, Some, None, Bool, true, IsTrue, length, take};
 ghost use Rattle.std.specs.Option.{ForSome};
 ghost use Rattle.change_list.specs.Touches.{AreTouches};
-ghost use Rattle.change_list.specs.Advance.{row_at, AreRows, advance};
+ghost use Rattle.change_list.specs.Advance.{row_at, AreRows, GoesOn, advance};
 ghost use Rattle.change_list.specs.Changes.{IsChanges};
 ghost use Rattle.change_list.specs.History.{Touch, IsHistory, AreMaps, HasMaps, map_at, entries_of, value_after};
 ghost use Rattle.change_list.specs.Copy.{IsCopy, Round, AreRounds, TellsMaps, applied, with_value, copy_after, place_after};
@@ -60,7 +60,7 @@ pub fn empty_copy<V>()
 /// A copy stays a copy under changes answered then or earlier, with values fetched afterwards.
 pub fn copies_follow<V>()
     ensures { (h : List (Touch V)) (m s : ℕ) (max : Option ℕ) (c : Changes) (copy : ℕ → Option V)
-        → m ≤ length h → s ≤ m → IsChanges (entries_of (take m h)) s max c → IsCopy copy h s
+        → m ≤ length h → IsChanges (entries_of (take m h)) s max c → IsCopy copy h s
         → IsCopy (applied c (map_at h (length h)) copy) h c.to }
 {}
 
@@ -107,4 +107,14 @@ pub fn advance_leads<V>()
     ensures { (same counts : V → V → Bool) (old new : List (ℕ × V)) (q : ℕ)
         → ((u v : V) → same u v ≡ true → u ≡ v) → AreRows old → AreRows new
         → value_after (row_at old q) (advance same counts old new) q ≡ row_at new q }
+{}
+
+/// A history whose last map is the old one goes on by an advance, where no new id was there before.
+pub fn advance_goes_on<V>()
+    ensures { (h : List (Touch V)) (same counts : V → V → Bool) (old new : List (ℕ × V))
+        → IsHistory h → AreRows old → AreRows new
+        → ((u v : V) → IsTrue (same u v) ↔ (u ≡ v))
+        → ((q : ℕ) → row_at old q ≡ map_at h (length h) q)
+        → ((q i : ℕ) → row_at old q ≡ None → row_at new q ≢ None → map_at h i q ≡ None)
+        → GoesOn h same counts old new }
 {}

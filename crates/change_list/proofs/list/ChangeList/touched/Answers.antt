@@ -2,6 +2,7 @@ use Rattle.std.proofs.Common.{◌≡◌, ◌-◌, ◌+◌, ℕ, ap, subst, arith
 use Rattle.std.proofs.lemmas.List.{drop-drop}
 use Rattle.change_list.specs.Seen.{Gathered}
 use Rattle.change_list.specs.TouchedIds.{AreTouched}
+use Rattle.change_list.specs.Kept.{front_of}
 use Rattle.change_list.specs.declared.entries.Entry.{Entry}
 use Rattle.change_list.proofs.FromTouched.{touched_from}
 use Rattle.change_list.proofs.list.ChangeList.touched.Goals as goal
@@ -9,7 +10,7 @@ use Rattle.change_list.proofs.list.ChangeList.touched.Goals as goal
 pub returns-clause-ids : goal.returns-clause-ids
 returns-clause-ids c h of fits =
     let start = c.in_ok-start.start in
-    let front = length h - 8192 in
+    let front = front_of (length h) in
     let sum : front + start ≡ c.args.place = omega (arith, of.place, c.in_ok-start.ensures.index) in
     let rest : drop start c.self.inside.ring.items ≡ drop c.args.place h =
     ap (drop start) (ap (λ k. k.entries) c.self.view_is ∙ of.entries) ∙ drop-drop start front h ∙ ap (λ (n : ℕ). drop n h) sum in
