@@ -103,22 +103,24 @@ module _ {V : Type 0} where
               | None ↦ λ f. refl
               | Some v ↦ λ f. absurd (now (are.lost_for_good i n (suc n) d.id below (omega arith) (omega arith) (λ g. let c : Some v ≡ None = sym f ∙ g in cc) (sym (last d.id) ∙ before)))
             ] refl)
-      ] refl in
-      (h ++ t ∷ [], record {
-        history = history_grows h t has.history (λ e. d.differ (sym (last d.id) ∙ e)) never;
-        places = omega (arith, length-append h (t ∷ []), has.places);
-        maps = λ i q within. elim (nat_lt n i) as (λ b. nat_lt n i ≡ b → map_at (h ++ t ∷ []) i q ≡ M i q) [
-          | false ↦ λ e. map_at-early h (t ∷ []) i q (omega (arith, ltb-false n i e, has.places)) ∙ has.maps i q (ltb-false n i e)
-          | true ↦ λ e.
-              let is : suc n ≡ i = omega (arith, ltb-true n i e) in
-              map_at-late h t i q (omega (arith, ltb-true n i e, has.places))
-              ∙ (elim (nat_eq d.id q) as (λ b. nat_eq d.id q ≡ b → cond b (M (suc n) d.id) (map_at h (length h) q) ≡ M (suc n) q) [
-                | true ↦ λ same. ap (M (suc n)) (eqb-true d.id q same)
-                | false ↦ λ other. last q ∙ d.others q (λ f. let g : true ≡ false = sym (eq-eqb d.id q (sym f)) ∙ other in cc)
-              ] refl)
-              ∙ ap (λ k. M k q) is
-        ] refl;
-      })
+      ] refl in (
+        h ++ t ∷ [],
+        record {
+          history = history_grows h t has.history (λ e. d.differ (sym (last d.id) ∙ e)) never;
+          places = omega (arith, length-append h (t ∷ []), has.places);
+          maps = λ i q within. elim (nat_lt n i) as (λ b. nat_lt n i ≡ b → map_at (h ++ t ∷ []) i q ≡ M i q) [
+            | false ↦ λ e. map_at-early h (t ∷ []) i q (omega (arith, ltb-false n i e, has.places)) ∙ has.maps i q (ltb-false n i e)
+            | true ↦ λ e.
+                let is : suc n ≡ i = omega (arith, ltb-true n i e) in
+                map_at-late h t i q (omega (arith, ltb-true n i e, has.places))
+                ∙ (elim (nat_eq d.id q) as (λ b. nat_eq d.id q ≡ b → cond b (M (suc n) d.id) (map_at h (length h) q) ≡ M (suc n) q) [
+                  | true ↦ λ same. ap (M (suc n)) (eqb-true d.id q same)
+                  | false ↦ λ other. last q ∙ d.others q (λ f. let g : true ≡ false = sym (eq-eqb d.id q (sym f)) ∙ other in cc)
+                ] refl)
+                ∙ ap (λ k. M k q) is
+          ] refl;
+        },
+      )
 
   fewer : (M : ℕ → ℕ → Option V) (n : ℕ) → AreMaps M (suc n) → AreMaps M n
   fewer M n are = record {
@@ -129,11 +131,14 @@ module _ {V : Type 0} where
 
   -- and the history of maps
   pub maps_have_history : (M : ℕ → ℕ → Option V) (n : ℕ) → AreMaps M n → (h : List (Touch V)) × HasMaps h M n
-  maps_have_history M zero are = ([], record {
-    history = record { differ = tt; lost_for_good = λ i j k q ij jk was gone. map_at-beyond [] k q (omega arith) };
-    places = refl;
-    maps = λ i q within. map_at-beyond [] i q (omega arith) ∙ sym (are.first_empty q) ∙ ap (λ k. M k q) (omega arith);
-  })
+  maps_have_history M zero are = (
+    [],
+    record {
+      history = record { differ = tt; lost_for_good = λ i j k q ij jk was gone. map_at-beyond [] k q (omega arith) };
+      places = refl;
+      maps = λ i q within. map_at-beyond [] i q (omega arith) ∙ sym (are.first_empty q) ∙ ap (λ k. M k q) (omega arith);
+    },
+  )
   maps_have_history M (suc n) are = let before = maps_have_history M n (fewer M n are) in one_more M n before.0 are before.1
 
   -- ---- touches of which no two are of one id

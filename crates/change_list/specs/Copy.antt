@@ -9,16 +9,15 @@ use Rattle.change_list.specs.declared.answer.Changes.{Changes}
 abbrev pub holds_id : List ℕ → ℕ → Bool
 holds_id xs q = list_any (λ x. q == x) xs
 
--- what a client was answered when, and when it fetched the values
+-- a round of a client: an answer, the last place when it was made, and the last place when the values were fetched
 pub record Round : Type 0 where
   pub max : Option ℕ
   pub changes : Changes
-  -- the last place at the answer, and at the fetch
   pub answered : ℕ
   pub fetched : ℕ
 
 module _ {V : Type 0} where
-  -- a copy that is right up to place s: it has no id that the map there lacks, and what was not touched since as it is now
+  -- a copy that is right up to place s: it has no id that the map there lacks, and each id untouched since as it is now
   pub record IsCopy (copy : ℕ → Option V) (h : List (Touch V)) (s : ℕ) : Type 0 where
     pub no_other : (q : ℕ) → map_at h s q ≡ None → copy q ≡ None
     pub agrees : (q : ℕ) → touches (between (entries_of h) s (length h)) q ≡ false → copy q ≡ map_at h (length h) q

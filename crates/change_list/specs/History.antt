@@ -4,7 +4,7 @@ use Rattle.change_list.specs.declared.entries.Kind.{Kind}
 use Rattle.change_list.specs.declared.entries.Kind.TheVariants.{Added, Changed, Removed}
 use Rattle.change_list.specs.declared.entries.Entry.{Entry}
 
--- what the later of two neighbours has at the one id where they differ
+-- what the later of two neighbouring maps has at the one id where they differ, and whether they differ in counts alone
 pub record Touch (V : Type 0) : Type 0 where
   pub id : ℕ
   pub value : Option V
@@ -34,24 +34,6 @@ module _ {V : Type 0} where
     pub differ : DifferFrom (λ _. None) h
     pub lost_for_good : (i j k q : ℕ) → i ≤ j → j ≤ k → map_at h i q ≢ None → map_at h j q ≡ None → map_at h k q ≡ None
 
-  -- two maps differ at one id
-  pub record DifferAtOne (m n : ℕ → Option V) : Type 0 where
-    pub id : ℕ
-    pub differ : m id ≢ n id
-    pub others : (q : ℕ) → q ≢ id → m q ≡ n q
-
-  -- the maps M 0 to M n of a type: the first is empty, neighbours differ at one id, and none has an id again that was lost
-  pub record AreMaps (M : ℕ → ℕ → Option V) (n : ℕ) : Type 0 where
-    pub first_empty : (q : ℕ) → M 0 q ≡ None
-    pub neighbours : (i : ℕ) → i < n → DifferAtOne (M i) (M (i + 1))
-    pub lost_for_good : (i j k q : ℕ) → i ≤ j → j ≤ k → k ≤ n → M i q ≢ None → M j q ≡ None → M k q ≡ None
-
-  -- the maps of the history are these
-  pub record HasMaps (h : List (Touch V)) (M : ℕ → ℕ → Option V) (n : ℕ) : Type 0 where
-    pub history : IsHistory h
-    pub places : length h ≡ n
-    pub maps : (i q : ℕ) → i ≤ n → map_at h i q ≡ M i q
-
   -- neighbours among the maps s to k differ at q
   abbrev pub IsTouched : List (Touch V) → ℕ → ℕ → ℕ → Type 0
   IsTouched h s k q = (i : ℕ) × (s ≤ i) × (i < k) × (map_at h i q ≢ map_at h (i + 1) q)
@@ -71,3 +53,23 @@ module _ {V : Type 0} where
   -- the touches with their kinds
   abbrev pub entries_of : List (Touch V) → List Entry
   entries_of h = entries_from (λ _. None) h
+
+  -- ---- the same in maps
+
+  -- two maps differ at one id
+  pub record DifferAtOne (m n : ℕ → Option V) : Type 0 where
+    pub id : ℕ
+    pub differ : m id ≢ n id
+    pub others : (q : ℕ) → q ≢ id → m q ≡ n q
+
+  -- the maps M 0 to M n of a type: the first is empty, neighbours differ at one id, and none has an id again that was lost
+  pub record AreMaps (M : ℕ → ℕ → Option V) (n : ℕ) : Type 0 where
+    pub first_empty : (q : ℕ) → M 0 q ≡ None
+    pub neighbours : (i : ℕ) → i < n → DifferAtOne (M i) (M (i + 1))
+    pub lost_for_good : (i j k q : ℕ) → i ≤ j → j ≤ k → k ≤ n → M i q ≢ None → M j q ≡ None → M k q ≡ None
+
+  -- the maps of the history are these
+  pub record HasMaps (h : List (Touch V)) (M : ℕ → ℕ → Option V) (n : ℕ) : Type 0 where
+    pub history : IsHistory h
+    pub places : length h ≡ n
+    pub maps : (i q : ℕ) → i ≤ n → map_at h i q ≡ M i q

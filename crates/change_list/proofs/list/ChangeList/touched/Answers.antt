@@ -1,4 +1,4 @@
-use Rattle.std.proofs.Common.{◌≡◌, ◌-◌, ◌+◌, ℕ, ap, subst, arith, sym, ◌∙◌, None, List, drop, length, Bool}
+use Rattle.std.proofs.Common.{◌≡◌, ◌+◌, ℕ, ap, subst, arith, sym, ◌∙◌, None, List, drop, length, Bool}
 use Rattle.std.proofs.lemmas.List.{drop-drop}
 use Rattle.change_list.specs.Seen.{Gathered}
 use Rattle.change_list.specs.TouchedIds.{AreTouched}
