@@ -8,9 +8,11 @@ use Rattle.change_list.specs.declared.entries.Entry.{Entry}
 use Rattle.change_list.specs.declared.answer.Changes.{Changes}
 use Rattle.change_list.proofs.Ascending.{same_listed, same_marks}
 
+-- two greatest places are one
 same_reach : (h : List Entry) (s : ℕ) (max : Option ℕ) (k l : ℕ) → Reaches h s max k → Reaches h s max l → k ≡ l
 same_reach h s max k l a b = omega (arith, a.greatest l b.to_last b.within, b.greatest k a.to_last a.within)
 
+-- two answers are one
 pub one_answer : (h : List Entry) (s : ℕ) (max : Option ℕ) (c d : Changes) → IsChanges h s max c → IsChanges h s max d → c ≡ d
 one_answer h s max c d a b =
     let to : d.to ≡ c.to = same_reach h s max d.to c.to b.reaches a.reaches in
@@ -30,6 +32,7 @@ one_answer h s max c d a b =
     ∙ ap (λ xs. made d.to d.created d.updated xs c.counts_only) destroyed
     ∙ ap (λ m. made d.to d.created d.updated d.destroyed m) counts_only
 
+-- no more ids are touched than there are touches
 fresh_at_most : (before es : List Entry) → fresh_count before es ≤ length es
 fresh_at_most before [] = omega arith
 fresh_at_most before (e ∷ es) = elim (touches before e.id) as (λ b. cond b (fresh_count before es) (suc (fresh_count (e ∷ before) es)) ≤ suc (length es)) [

@@ -7,12 +7,14 @@ use Rattle.std.proofs.lemmas.Cmp.{nat_eq_equiv}
 use Rattle.change_list.specs.Changes.{Lists}
 use Rattle.change_list.specs.Copy.{holds_id}
 
+-- the test of membership, and what it tests
 pub Contains-holds_id : (xs : List ℕ) (q : ℕ) → holds_id xs q ≡ true → Contains xs q
 Contains-holds_id xs q e = Contains-from_any eqb-true q xs e
 
 pub holds_id-Contains : (xs : List ℕ) (q : ℕ) → Contains xs q → holds_id xs q ≡ true
 holds_id-Contains xs q e = list_any-from_Contains nat_eq_equiv q xs e
 
+-- the rest of an ascending list ascends
 ascending_rest : (x : ℕ) (xs : List ℕ) → IsStrictlyIncreasing (x ∷ xs) → IsStrictlyIncreasing xs
 ascending_rest x xs up k within =
     let P : ℕ → Type 0 = λ n. slice_index xs k < slice_index (x ∷ xs) n in
@@ -29,6 +31,7 @@ first_below x (y ∷ ys) up q =
       | false ↦ λ other h. omega (arith, first, first_below y ys (ascending_rest x (y ∷ ys) up) q h)
     ] refl
 
+-- a list holds its first number
 held_first : (x : ℕ) (xs : List ℕ) → holds_id (x ∷ xs) x ≡ true
 held_first x xs = ap (λ b. b || holds_id xs x) (eq-eqb x x refl)
 
@@ -51,6 +54,7 @@ rest_held x xs ys up vp same q = elim (nat_eq q x) as (λ b. nat_eq q x ≡ b �
   | false ↦ λ other h. h
 ] refl (same q)
 
+-- two ascending lists of the same numbers are one
 pub same_held : (xs ys : List ℕ) → IsStrictlyIncreasing xs → IsStrictlyIncreasing ys → ((q : ℕ) → holds_id xs q ≡ holds_id ys q) → xs ≡ ys
 same_held [] [] up vp same = refl
 same_held [] (y ∷ ys) up vp same = absurd (let f : false ≡ true = same y ∙ held_first y ys in cc)
@@ -64,16 +68,19 @@ same_held (x ∷ xs) (y ∷ ys) up vp same =
     let rest : xs ≡ ys = same_held xs ys (ascending_rest x xs up) (ascending_rest y ys vp) (rest_held x xs ys up (subst U (sym first) vp) (subst S (sym first) same)) in
     cc
 
+-- two tests of one fact are equal
 same_truth : (a b : Bool) → (a ≡ true → b ≡ true) → (b ≡ true → a ≡ true) → a ≡ b
 same_truth true true f g = refl
 same_truth true false f g = sym (f refl)
 same_truth false true f g = g refl
 same_truth false false f g = refl
 
+-- a list is known by what it lists
 pub same_listed : (xs ys : List ℕ) (P : ℕ → Type 0) → Lists xs P → Lists ys P → xs ≡ ys
 same_listed xs ys P a b = same_held xs ys a.ascending b.ascending (λ q. same_truth (holds_id xs q) (holds_id ys q)
     (λ h. holds_id-Contains ys q ((b.members q).1 ((a.members q).0 (Contains-holds_id xs q h))))
     (λ h. holds_id-Contains xs q ((a.members q).1 ((b.members q).0 (Contains-holds_id ys q h)))))
 
+-- a mark is known by when it is set
 pub same_marks : (a b : Bool) (P : Type 0) → (a ≡ true) ↔ P → (b ≡ true) ↔ P → a ≡ b
 same_marks a b P f g = same_truth a b (λ h. g.1 (f.0 h)) (λ h. f.1 (g.0 h))

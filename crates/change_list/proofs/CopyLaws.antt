@@ -45,6 +45,7 @@ neither true b = λ e. absurd (let f : true ≡ false = e in cc)
 neither false b = λ e. (refl, e)
 
 module _ {V : Type 0} where
+  -- an answer, and the values fetched then or later, take a copy to the place of the answer
   pub copies_follow : (h : List (Touch V)) (m s : ℕ) (max : Option ℕ) (c : Changes) (copy : ℕ → Option V)
       → m ≤ length h → IsChanges (entries_of (take m h)) s max c → IsCopy copy h s
       → IsCopy (applied c (map_at h (length h)) copy) h c.to
@@ -75,6 +76,7 @@ module _ {V : Type 0} where
             (was.no_other q) (λ f. was.agrees q (parts q ∙ f)) e (map_at_untouched h c.to n q (omega arith) e);
       }
 
+  -- what a history gains keeps a copy
   pub copies_stay : (h more : List (Touch V)) (s : ℕ) (copy : ℕ → Option V) → s ≤ length h → IsCopy copy h s → IsCopy copy (h ++ more) s
   copies_stay h more s copy sn was =
       let n = length h in
@@ -123,6 +125,7 @@ module _ {V : Type 0} where
     agrees = λ q e. map_at_untouched h 0 (length h) q (omega arith) e;
   }
 
+  -- a copy at the last place is the last map
   pub last_copy_is_map : (h : List (Touch V)) (copy : ℕ → Option V) → IsCopy copy h (length h) → (q : ℕ) → copy q ≡ map_at h (length h) q
   last_copy_is_map h copy is q = is.agrees q (ap (λ es. touches es q) (between_none (entries_of h) (length h) (length h) (omega arith)))
 
@@ -132,6 +135,7 @@ module _ {V : Type 0} where
       let P : List (Touch V) → Type 0 = λ ts. IsCopy copy ts s in
       subst P (sym (take-parts h m n mn)) (copies_stay (take m h) (drop m (take n h)) s copy (omega (arith, length-take-le m h (omega arith))) is)
 
+  -- a round comes no further than the history had when it ended
   round_comes_to : (h : List (Touch V)) (s now : ℕ) (r : Round) → IsRound h s now r → r.changes.to ≤ r.fetched
   round_comes_to h s now r is = omega (arith, is.changes.reaches.to_last, length-entries_from (λ _. None) (take r.answered h), length-take-le r.answered h (omega (arith, is.answer_first, is.by_now)), is.answer_first)
 

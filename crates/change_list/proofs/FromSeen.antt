@@ -19,6 +19,7 @@ use Rattle.change_list.specs.declared.parts.Part.TheVariants.{Created, Updated, 
 use Rattle.change_list.proofs.HistoryLaws.{take-parts}
 use Rattle.change_list.proofs.Gathering.{is_some-seen_after, fresh_count_up}
 
+-- whether an id is there, was there, and changed counts alone, by what was seen of it, or else as said
 abbrev is_after : Option Seen → Bool → Bool
 is_after None b = b
 is_after (Some x) b = x.is_there
@@ -31,6 +32,7 @@ abbrev alone_so_far : Option Seen → Bool
 alone_so_far None = true
 alone_so_far (Some x) = x.counts_alone
 
+-- what was seen agrees with the definitions, touch by touch
 is_after_one : (known : Option Seen) (e : Entry) (b : Bool) → is_after (Some (seen_after_one known e)) b ≡ leaves e.kind
 is_after_one None e b = refl
 is_after_one (Some x) e b = refl
@@ -82,10 +84,12 @@ alone-seen_after known (e ∷ es) q =
       | false ↦ refl
     ]
 
+-- touches that fit, after the first of them
 fits_after : (w : ℕ → Bool) (a b : List Entry) → FitsFrom w (a ++ b) → FitsFrom (λ q. there_after (w q) a q) b
 fits_after w [] b fits = fits
 fits_after w (e ∷ a) b fits = fits_after (λ q. cond (nat_eq e.id q) (leaves e.kind) (w q)) a b fits.1
 
+-- and without the last of them
 fits_before : (w : ℕ → Bool) (a b : List Entry) → FitsFrom w (a ++ b) → FitsFrom w a
 fits_before w [] b fits = tt
 fits_before w (e ∷ a) b fits = (fits.0, fits_before (λ q. cond (nat_eq e.id q) (leaves e.kind) (w q)) a b fits.1)
@@ -96,6 +100,7 @@ there_after-append was (e ∷ a) b q = there_after-append (cond (nat_eq e.id q) 
 
 -- ---- at one id: o is what was seen of it, s and k whether it is there at the two places
 
+-- of two tests that pass, each does
 parts_of_and : (a b : Bool) → a && b ≡ true → (a ≡ true) × (b ≡ true)
 parts_of_and true b = λ h. (refl, h)
 parts_of_and false b = λ h. absurd (let f : false ≡ true = h in cc)
@@ -107,9 +112,11 @@ not_true : (a : Bool) → not a ≡ true → a ≡ false
 not_true true = λ h. absurd (let f : false ≡ true = h in cc)
 not_true false = λ h. refl
 
+-- something was seen of the id, and it passes the test
 abbrev Picks : (Seen → Bool) → Option Seen → Type 0
 Picks p o = (x : Seen) × (o ≡ Some x) × (p x ≡ true)
 
+-- the four parts: what was seen picks an id exactly where the definition lists it
 created_at : (o : Option Seen) (s k : Bool) → k ≡ is_after o s → s ≡ was_before o s → Picks (has_of Created) o ↔ (s ≡ false) × (k ≡ true)
 created_at None s k e f = ((λ h. absurd (let g : None ≡ Some h.0 = h.1 in cc)), (λ h. absurd (let g : s ≡ true = sym e ∙ h.1 in let i : s ≡ false = h.0 in cc)))
 created_at (Some x) s k e f = (
@@ -146,12 +153,10 @@ mixed_at (Some x) t s k a d e f g = (
 -- ---- at every id
 
 module _ (h : List Entry) (s t : ℕ) (fits : AreTouches h) (sn : s + t ≤ length h) where
-  es : List Entry
-  es = take t (drop s h)
-
   between-es : between h s (s + t) ≡ take t (drop s h)
   between-es = drop-take s t h
 
+  -- what was seen of an id after place s tells of its presence at s and s + t, its touches, and their marks
   is_at_end : (q : ℕ) → there_at h (s + t) q ≡ is_after (seen_after None (take t (drop s h)) q) (there_at h s q)
   is_at_end q =
       ap (λ xs. there_after false xs q) (take-parts h s (s + t) (omega arith) ∙ ap (λ xs. take s h ++ xs) between-es)
@@ -172,12 +177,15 @@ module _ (h : List Entry) (s t : ℕ) (fits : AreTouches h) (sn : s + t ≤ leng
   alone_is : (q : ℕ) → counts_alone (between h s (s + t)) q ≡ alone_so_far (seen_after None (take t (drop s h)) q)
   alone_is q = ap (λ xs. counts_alone xs q) between-es ∙ sym (alone-seen_after None (take t (drop s h)) q)
 
+-- a list of what is one fact lists the other
 pub Lists_for : (xs : List ℕ) (P Q : ℕ → Type 0) → ((q : ℕ) → P q ↔ Q q) → Lists xs P → Lists xs Q
 Lists_for xs P Q same l = record { ascending = l.ascending; members = λ q. ((λ h. (same q).0 ((l.members q).0 h)), (λ h. (l.members q).1 ((same q).1 h))) }
 
+-- an empty list holds nothing
 nothing_in : (q : ℕ) → Contains [] q → ⊥
 nothing_in q h = omega (arith, h.1)
 
+-- a list holds its first number
 first_in : (x : ℕ) (xs : List ℕ) → Contains (x ∷ xs) x
 first_in x xs = (0, omega arith, refl)
 
@@ -186,6 +194,7 @@ none_listed : (xs : List ℕ) (P : ℕ → Type 0) → Lists xs P → (xs ≡ []
 none_listed [] P l = ((λ e q p. nothing_in q ((l.members q).1 p)), (λ f. refl))
 none_listed (x ∷ xs) P l = ((λ e. absurd (cc)), (λ f. absurd (f x ((l.members x).0 (first_in x xs)))))
 
+-- what a map says of an id, by its entry there
 seen_as : (m : BTreeMap ℕ Seen) (part : Part) (q : ℕ) (o : Option Seen) → get nat_cmp m q ≡ o → IsIn m part q ↔ Picks (has_of part) o
 seen_as m part q o e = ((λ h. (h.0, sym e ∙ h.1, h.2)), (λ h. (h.0, e ∙ h.1, h.2)))
 
@@ -208,10 +217,12 @@ past_the_limit h s t j most beyond jn more =
     let parts : take n (drop s h) ≡ take (t + 1) (drop s h) ++ drop (t + 1) (take n (drop s h)) = take-parts (drop s h) (t + 1) n (omega arith) in
     omega (arith, more, ap touched_count (whole ∙ parts), fresh_count_up [] (take (t + 1) (drop s h)) (drop (t + 1) (take n (drop s h))))
 
+-- as many touches as were taken are within the limit
 within_to : (h : List Entry) (s t : ℕ) (max : Option ℕ) → ForSome max (λ most. touched_count (take t (drop s h)) ≤ most) → IsWithin max h s (s + t)
 within_to h s t None few = tt
 within_to h s t (Some most) few = omega (arith, few most refl, ap touched_count (drop-take s t h))
 
+-- and no more are
 no_further : (h : List Entry) (s t j : ℕ) (max : Option ℕ) → j ≤ length h
     → (t < length (drop s h) → (most : ℕ) × (max ≡ Some most) × (most < touched_count (take (t + 1) (drop s h)))) → IsWithin max h s j → j ≤ s + t
 no_further h s t j None jn full here =
@@ -221,6 +232,7 @@ no_further h s t j (Some most) jn full here =
     omega (arith, here, past_the_limit h s t j most beyond jn (omega (arith, f.2, same)))) in
     omega (arith, stops)
 
+-- the walk comes to the greatest place
 reaches_to : (h : List Entry) (s t : ℕ) (max : Option ℕ) (m : BTreeMap ℕ Seen) → s + t ≤ length h → Gathered (drop s h) max m t → Reaches h s max (s + t)
 reaches_to h s t max m tn g = record {
   after = omega arith;
@@ -229,6 +241,7 @@ reaches_to h s t max m tn g = record {
   greatest = λ j jn here. no_further h s t j max jn g.full here;
 }
 
+-- the answer of a walk over the touches after s is what changed after s
 pub changes_from : (h : List Entry) (s : ℕ) (max : Option ℕ) (c : Changes) → Answers (drop s h) s max c → AreTouches h → s ≤ length h → IsChanges h s max c
 changes_from h s max c a fits sn =
     let t = a.taken in
@@ -258,6 +271,7 @@ changes_from h s max c a fits sn =
       counts_only = subst O (sym a.to) alone_all;
     }
 
+-- so it is over the touches that a list keeps after s
 pub changes_of_kept : (k : Kept) (h : List Entry) (s start : ℕ) (max : Option ℕ) (c : Changes) → IsOf k h → AreTouches h → front_of k.place + start ≡ s → s ≤ k.place → Answers (drop start k.entries) s max c → IsChanges h s max c
 changes_of_kept k h s start max c of fits is high a =
     let P : List Entry → Type 0 = λ rest. Answers rest s max c in

@@ -15,9 +15,11 @@ use Rattle.change_list.specs.declared.walk.Seen.{Seen}
 use Rattle.change_list.proofs.Picked.{picked, lists_picked}
 use Rattle.change_list.proofs.FromSeen.{Lists_for, was_at_start, touched_is, was_before}
 
+-- each id with whether it was there before
 abbrev pub with_presence : List (ℕ × Seen) → List (ℕ × Bool)
 with_presence es = map (λ e. (e.0, e.1.was_there)) es
 
+-- it has all ids that were seen
 keys_with_presence : (es : List (ℕ × Seen)) → picked (λ _. true) es ≡ map (λ x. x.0) (with_presence es)
 keys_with_presence [] = refl
 keys_with_presence (e ∷ es) = ap (λ ks. e.0 ∷ ks) (keys_with_presence es)
@@ -27,6 +29,7 @@ all_shown : (P : ℕ × Bool → Type 0) (es : List (ℕ × Seen)) → ((i : ℕ
 all_shown P [] f = All-nil P
 all_shown P (e ∷ es) f = All-cons P (e.0, e.1.was_there) (with_presence es) (f 0 e refl) (all_shown P es (λ i e' h. f (suc i) e' h))
 
+-- an id is touched exactly where something was seen of it
 found_is : (o : Option Seen) (t : Bool) → t ≡ is_some o → (x : Seen) × (o ≡ Some x) × (true ≡ true) → t ≡ true
 found_is o t e h = e ∙ ap is_some h.1
 
@@ -34,6 +37,7 @@ is_found : (o : Option Seen) (t : Bool) → t ≡ is_some o → t ≡ true → (
 is_found None t e h = absurd (let f : true ≡ false = sym h ∙ e in cc)
 is_found (Some x) t e h = (x, refl, refl)
 
+-- a walk over all touches after s tells what was touched after s
 pub touched_from : (h : List Entry) (s t : ℕ) (m : BTreeMap ℕ Seen) → AreTouches h → s ≤ length h → IsOrdered nat_cmp m → Gathered (drop s h) None m t → AreTouched h s (with_presence m.entries)
 touched_from h s t m fits sn ordered g =
     let all : length (drop s h) ≤ t = elim (nat_lt t (length (drop s h))) as (λ b. nat_lt t (length (drop s h)) ≡ b → length (drop s h) ≤ t) [

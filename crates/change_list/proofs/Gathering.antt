@@ -14,10 +14,12 @@ pub record SoFar (rest : List Entry) (max : Option ℕ) (m : BTreeMap ℕ Seen) 
   pub count : btree_map_len m ≡ touched_count (take taken rest)
   pub few : ForSome max (λ most. btree_map_len m ≤ most)
 
+-- one more touch
 pub seen_after-snoc : (known : Option Seen) (es : List Entry) (e : Entry) (q : ℕ) → seen_after known (es ++ e ∷ []) q ≡ cond (nat_eq e.id q) (Some (seen_after_one (seen_after known es q) e)) (seen_after known es q)
 seen_after-snoc known [] e q = refl
 seen_after-snoc known (f ∷ es) e q = seen_after-snoc (cond (nat_eq f.id q) (Some (seen_after_one known f)) known) es e q
 
+-- something is seen of the ids that are touched
 pub is_some-seen_after : (known : Option Seen) (es : List Entry) (q : ℕ) → is_some (seen_after known es q) ≡ is_some known || touches es q
 is_some-seen_after known [] q = elim known as (λ k. is_some k ≡ is_some k || false) [ None ↦ refl | Some x ↦ refl ]
 is_some-seen_after known (f ∷ es) q =
@@ -30,6 +32,7 @@ is_some-seen_after known (f ∷ es) q =
 same_touched : (b : List Entry) (p q : ℕ) → nat_eq p q ≡ true → touches b p ≡ touches b q
 same_touched b p q e = ap (touches b) (eqb-true p q e)
 
+-- at no touch, and at one more: whether its id was touched before decides whether it counts
 fresh_end : (b : Bool) (n : ℕ) → cond b n (suc n) ≡ cond (b || false) n (suc n)
 fresh_end true n = refl
 fresh_end false n = refl
@@ -52,6 +55,7 @@ fresh_count-snoc before (f ∷ es) e =
     fresh_step (touches before f.id) (nat_eq f.id e.id) (touches before e.id) (touches es e.id) _ _ _ _
     (λ h. ap (touches before) (eqb-true f.id e.id h)) (fresh_count-snoc before es e) (fresh_count-snoc (f ∷ before) es e)
 
+-- the first touches and the next one
 take-next_suc : (rest : List Entry) (taken : ℕ) (e : Entry) → slice_get rest taken ≡ Some e → take (suc taken) rest ≡ take taken rest ++ e ∷ []
 take-next_suc [] zero e h = absurd (cc)
 take-next_suc [] (suc taken) e h = absurd (cc)
@@ -61,12 +65,14 @@ take-next_suc (x ∷ rest) (suc taken) e h = ap (λ xs. x ∷ xs) (take-next_suc
 take-next : (rest : List Entry) (taken : ℕ) (e : Entry) → slice_get rest taken ≡ Some e → take (taken + 1) rest ≡ take taken rest ++ e ∷ []
 take-next rest taken e h = rw add-one (take-next_suc rest taken e h)
 
+-- the next one is there
 below-next : (rest : List Entry) (taken : ℕ) (e : Entry) → slice_get rest taken ≡ Some e → taken + 1 ≤ length rest
 below-next [] zero e h = absurd (cc)
 below-next [] (suc taken) e h = absurd (cc)
 below-next (x ∷ rest) zero e h = omega arith
 below-next (x ∷ rest) (suc taken) e h = omega (arith, below-next rest taken e h)
 
+-- what the map knows, the limit, and the count, after one more touch
 known_next : (es : List Entry) (e : Entry) (known : Option Seen) (g : Option Seen) (q : ℕ) (b : Bool) → nat_eq e.id q ≡ b → known ≡ seen_after None es e.id → g ≡ seen_after None es q
     → cond b (Some (seen_after_one known e)) g ≡ cond b (Some (seen_after_one (seen_after None es q) e)) (seen_after None es q)
 known_next es e known g q true same k r = ap (λ o. Some (seen_after_one o e)) (k ∙ ap (seen_after None es) (eqb-true e.id q same))
@@ -80,9 +86,11 @@ count_next : (known : Option Seen) (a m n : ℕ) → n ≡ m + cond (is_some kno
 count_next None a m n e f = omega arith
 count_next (Some x) a m n e f = omega arith
 
+-- the order finds equal numbers
 pub is_eq-nat_cmp : (a b : ℕ) → is_at (nat_cmp a) b ≡ nat_eq a b
 is_eq-nat_cmp a b = search rules
 
+-- the walk goes on by one touch
 pub so_far_next : (rest : List Entry) (max : Option ℕ) (m n : BTreeMap ℕ Seen) (taken : ℕ) (e : Entry) (known : Option Seen)
     → slice_get rest taken ≡ Some e → known ≡ get nat_cmp m e.id
     → ((q : ℕ) → get nat_cmp n q ≡ cond (is_at (nat_cmp e.id) q) (Some (seen_after_one known e)) (get nat_cmp m q))
@@ -119,6 +127,7 @@ stopped rest max m taken e most here absent is full old =
       full = λ below. (most, is, omega (arith, next, old.count));
     }
 
+-- a touch after the first s is one of all
 slice_get-drop : (xs : List Entry) (s t : ℕ) → slice_get (drop s xs) t ≡ slice_get xs (s + t)
 slice_get-drop xs zero t = rw zero-add refl
 slice_get-drop [] (suc s) t = refl
@@ -130,6 +139,7 @@ room_for known max count r f past k most e =
     let never : most ≤ count → ⊥ = λ h. let t : r ≡ true = f (most, k, e, h) in absurd (cc) in
     omega (arith, never)
 
+-- the touch that the walk reads
 pub entry_here : (xs : List Entry) (s i t : ℕ) (e : Entry) → i ≡ s + t → Some e ≡ slice_get xs i → slice_get (drop s xs) t ≡ Some e
 entry_here xs s i t e is h = slice_get-drop xs s t ∙ ap (slice_get xs) (sym is) ∙ sym h
 

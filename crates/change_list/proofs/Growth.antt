@@ -7,6 +7,7 @@ use Rattle.change_list.specs.History.{Touch, IsHistory, DifferAtOne, AreMaps, Ha
 use Rattle.change_list.proofs.HistoryLaws.{value_after-append}
 
 module _ {V : Type 0} where
+  -- touches that differ from what was there, and one more
   differ_snoc : (w : ℕ → Option V) (h : List (Touch V)) (t : Touch V) → DifferFrom w h → value_after (w t.id) h t.id ≢ t.value → DifferFrom w (h ++ t ∷ [])
   differ_snoc w [] t d last = (last, tt)
   differ_snoc w (u ∷ h) t d last = (d.0, differ_snoc (map_then w u) h t d.1 last)
@@ -122,6 +123,7 @@ module _ {V : Type 0} where
         },
       )
 
+  -- the maps without the last one
   fewer : (M : ℕ → ℕ → Option V) (n : ℕ) → AreMaps M (suc n) → AreMaps M n
   fewer M n are = record {
     first_empty = are.first_empty;
@@ -143,6 +145,7 @@ module _ {V : Type 0} where
 
   -- ---- touches of which no two are of one id
 
+  -- whether an id is touched; each at most once
   abbrev pub is_touched : List (Touch V) → ℕ → Bool
   is_touched [] q = false
   is_touched (t ∷ ts) q = cond (nat_eq t.id q) true (is_touched ts q)
@@ -151,6 +154,7 @@ module _ {V : Type 0} where
   AreOnce [] = Unit {0}
   AreOnce (t ∷ ts) = (is_touched ts t.id ≡ false) × AreOnce ts
 
+  -- an untouched id keeps its value
   untouched_value : (was : Option V) (ts : List (Touch V)) (q : ℕ) → is_touched ts q ≡ false → value_after was ts q ≡ was
   untouched_value was [] q e = refl
   untouched_value was (t ∷ ts) q e = elim (nat_eq t.id q) as (λ b. cond b true (is_touched ts q) ≡ false → value_after (cond b t.value was) ts q ≡ was) [
@@ -158,6 +162,7 @@ module _ {V : Type 0} where
     | false ↦ λ f. untouched_value was ts q f
   ] e
 
+  -- only what was there counts, however it is written
   differ_same : (was then : ℕ → Option V) (ts : List (Touch V)) → ((q : ℕ) → was q ≡ then q) → DifferFrom was ts → DifferFrom then ts
   differ_same was then [] same d = tt
   differ_same was then (t ∷ ts) same d = (

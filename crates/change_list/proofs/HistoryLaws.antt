@@ -28,6 +28,7 @@ between-append h (suc s) (suc k) zero sk kn = absurd (omega arith)
 between-append [] (suc s) (suc k) (suc n) sk kn = refl
 between-append (e ∷ h) (suc s) (suc k) (suc n) sk kn = between-append h s k n (omega arith) (omega arith)
 
+-- nothing is touched between a place and an earlier one
 pub between_none : (h : List Entry) (s k : ℕ) → k ≤ s → between h s k ≡ []
 between_none h zero zero ks = refl
 between_none h (suc s) zero ks = refl
@@ -36,6 +37,7 @@ between_none [] (suc s) (suc k) ks = refl
 between_none (e ∷ h) (suc s) (suc k) ks = between_none h s k (omega arith)
 
 module _ {V : Type 0} where
+  -- a touch leaves its id exactly where it gives a value
   leaves-kind_of : (was v : Option V) → leaves (kind_of was v) ≡ is_some v
   leaves-kind_of None None = refl
   leaves-kind_of (Some u) None = refl
@@ -55,6 +57,7 @@ module _ {V : Type 0} where
   value_after-append was [] b q = refl
   value_after-append was (t ∷ a) b q = value_after-append (cond (nat_eq t.id q) t.value was) a b q
 
+  -- an untouched id keeps its value
   value_after_untouched : (w : ℕ → Option V) (was : Option V) (ts : List (Touch V)) (q : ℕ) → touches (entries_from w ts) q ≡ false → value_after was ts q ≡ was
   value_after_untouched w was [] q = λ e. refl
   value_after_untouched w was (t ∷ ts) q =
@@ -63,6 +66,7 @@ module _ {V : Type 0} where
         | false ↦ λ e. value_after_untouched (λ p. cond (nat_eq t.id p) t.value (w p)) was ts q e
       ]
 
+  -- the first touches, and those after them, as entries
   take-entries_from : (w : ℕ → Option V) (k : ℕ) (ts : List (Touch V)) → take k (entries_from w ts) ≡ entries_from w (take k ts)
   take-entries_from w zero ts = refl
   take-entries_from w (suc k) [] = refl
@@ -89,6 +93,7 @@ module _ {V : Type 0} where
       let untouched : touches (entries_from w (drop k (take n h))) q ≡ false = sym (ap (λ es. touches es q) same) ∙ e in
       sym (ap (λ ts. value_after None ts q) (take-parts h k n kn) ∙ value_after-append None (take k h) (drop k (take n h)) q ∙ value_after_untouched w (value_after None (take k h) q) (drop k (take n h)) q untouched)
 
+  -- an earlier history agrees with the whole one up to its last place
   pub there_at-take : (h : List (Touch V)) (m k q : ℕ) → k ≤ m → there_at (entries_of (take m h)) k q ≡ is_some (map_at h k q)
   there_at-take h m k q km = there_at-entries_of (take m h) k q ∙ ap (λ ts. is_some (value_after None ts q)) (take-take k m h km)
 
@@ -97,12 +102,14 @@ module _ {V : Type 0} where
       ap (drop s) (take-entries_from (λ _. None) k (take m h) ∙ ap (entries_from (λ _. None)) (take-take k m h km) ∙ sym (take-entries_from (λ _. None) k h))
 
 module _ {V : Type 0} where
+  -- a touch that changes something finds what was there
   finds-kind_of : (was v : Option V) → was ≢ v → is_some was ≡ finds (kind_of was v)
   finds-kind_of None None d = absurd (d refl)
   finds-kind_of (Some u) None d = refl
   finds-kind_of None (Some v) d = refl
   finds-kind_of (Some u) (Some v) d = refl
 
+  -- so touches that differ from what was there fit it
   fits_from : (was : ℕ → Option V) (there : ℕ → Bool) (ts : List (Touch V)) → ((q : ℕ) → there q ≡ is_some (was q)) → DifferFrom was ts → FitsFrom there (entries_from was ts)
   fits_from was there [] same d = tt
   fits_from was there (t ∷ ts) same d = (
@@ -114,6 +121,7 @@ module _ {V : Type 0} where
         ]) d.1,
   )
 
+  -- there is a value exactly where it is not none
   pub some_is_not_none : (o : Option V) → is_some o ≡ true → o ≢ None
   some_is_not_none o h e = let f : true ≡ false = sym h ∙ ap is_some e in cc
 
@@ -125,6 +133,7 @@ module _ {V : Type 0} where
   none_from None h = refl
   none_from (Some v) h = absurd (let f : true ≡ false = h in cc)
 
+  -- the entries of a history are touches
   pub history_fits : (h : List (Touch V)) → IsHistory h → AreTouches (entries_of h)
   history_fits h d = record {
     fit = fits_from (λ _. None) (λ _. false) h (λ q. refl) d.differ;

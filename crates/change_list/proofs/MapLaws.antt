@@ -16,6 +16,7 @@ module _ {V : Type 0} where
   as_it_was_at (Some v) (Some w) true c d u k = absurd (u (λ e. cc) (λ e. cc) refl)
   as_it_was_at (Some v) (Some w) false c d u k = sym (k refl)
 
+  -- an answer tells of the maps at its two places
   pub tells_maps : (h : List (Touch V)) (s : ℕ) (max : Option ℕ) (c : Changes) → IsHistory h → IsChanges (entries_of h) s max c → TellsMaps h s c
   tells_maps h s max c history is =
       let k = c.to in

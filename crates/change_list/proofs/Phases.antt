@@ -12,6 +12,7 @@ module _ {V : Type 0} where
     pub differ : DifferFrom was ts
     pub entries : entries_from was ts ≡ es
 
+  -- the map after touches
   abbrev pub after : (ℕ → Option V) → List (Touch V) → ℕ → Option V
   after was ts q = value_after (was q) ts q
 
