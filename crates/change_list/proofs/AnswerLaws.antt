@@ -2,11 +2,13 @@
 use Rattle.std.proofs.Common.{◌≡◌, ◌≢◌, ◌↔◌, ℕ, suc, ◌+◌, ◌<◌, ◌≤◌, List, [], ◌∷◌, Bool, true, false, cond, IsTrue, take, length, Option, Some, None, refl, sym, ap, subst, ◌∙◌, arith}
 use Rattle.std.specs.Option.{ForSome}
 use Rattle.std.proofs.lemmas.List.{length-drop, length-take-le}
-use Rattle.change_list.specs.Touches.{between, touches, touched_count, fresh_count, counts_alone}
+use Rattle.change_list.specs.Touches.{between, touches, counts_alone}
+use Rattle.change_list.specs.Seen.{touched_count, fresh_count}
 use Rattle.change_list.specs.Changes.{IsChanges, Lists, IsWithin, Reaches, IsCreated, IsUpdated, IsDestroyed}
 use Rattle.change_list.specs.declared.entries.Entry.{Entry}
 use Rattle.change_list.specs.declared.answer.Changes.{Changes}
 use Rattle.change_list.proofs.Ascending.{same_listed, same_marks}
+use Rattle.change_list.proofs.Counting.{ids_listed, count_listed}
 
 -- two greatest places are one
 same_reach : (h : List Entry) (s : ℕ) (max : Option ℕ) (k l : ℕ) → Reaches h s max k → Reaches h s max l → k ≡ l
@@ -49,6 +51,6 @@ pub answers_go_on : (h : List Entry) (s : ℕ) (max : Option ℕ) (c : Changes) 
 answers_go_on h s max c is some inside =
     let one : IsWithin max h s (s + 1) = elim max as (λ m. ForSome m (λ most. 0 < most) → IsWithin m h s (s + 1)) [
       | None ↦ λ f. tt
-      | Some most ↦ λ f. omega (arith, f most refl, one_touched h s inside)
+      | Some most ↦ λ f. (let ids = ids_listed (between h s (s + 1)) in (ids.0, ids.1, omega (arith, f most refl, one_touched h s inside, count_listed (between h s (s + 1)) ids.0 ids.1)))
     ] some in
     omega (arith, is.reaches.greatest (s + 1) (omega arith) one)

@@ -15,14 +15,14 @@ pub holds_id-Contains : (xs : List ℕ) (q : ℕ) → Contains xs q → holds_id
 holds_id-Contains xs q e = list_any-from_Contains nat_eq_equiv q xs e
 
 -- the rest of an ascending list ascends
-ascending_rest : (x : ℕ) (xs : List ℕ) → IsStrictlyIncreasing (x ∷ xs) → IsStrictlyIncreasing xs
+pub ascending_rest : (x : ℕ) (xs : List ℕ) → IsStrictlyIncreasing (x ∷ xs) → IsStrictlyIncreasing xs
 ascending_rest x xs up k within =
     let P : ℕ → Type 0 = λ n. slice_index xs k < slice_index (x ∷ xs) n in
     let e : suc k + 1 ≡ suc (k + 1) = omega arith in
     subst P e (up (suc k) (omega arith))
 
 -- the first number is below all others
-first_below : (x : ℕ) (xs : List ℕ) → IsStrictlyIncreasing (x ∷ xs) → (q : ℕ) → holds_id xs q ≡ true → x < q
+pub first_below : (x : ℕ) (xs : List ℕ) → IsStrictlyIncreasing (x ∷ xs) → (q : ℕ) → holds_id xs q ≡ true → x < q
 first_below x [] up q = λ h. absurd (let f : false ≡ true = h in cc)
 first_below x (y ∷ ys) up q =
     let first : x < y = up 0 (omega arith) in
@@ -32,7 +32,7 @@ first_below x (y ∷ ys) up q =
     ] refl
 
 -- a list holds its first number
-held_first : (x : ℕ) (xs : List ℕ) → holds_id (x ∷ xs) x ≡ true
+pub held_first : (x : ℕ) (xs : List ℕ) → holds_id (x ∷ xs) x ≡ true
 held_first x xs = ap (λ b. b || holds_id xs x) (eq-eqb x x refl)
 
 -- a number of the list is the first, or one behind it
@@ -69,7 +69,7 @@ same_held (x ∷ xs) (y ∷ ys) up vp same =
     cc
 
 -- two tests of one fact are equal
-same_truth : (a b : Bool) → (a ≡ true → b ≡ true) → (b ≡ true → a ≡ true) → a ≡ b
+pub same_truth : (a b : Bool) → (a ≡ true → b ≡ true) → (b ≡ true → a ≡ true) → a ≡ b
 same_truth true true f g = refl
 same_truth true false f g = sym (f refl)
 same_truth false true f g = g refl

@@ -5,9 +5,9 @@ use Rattle.std.proofs.Math.Bool.{and-true}
 use Rattle.std.proofs.lemmas.List.{drop-take, drop-drop, take-append-drop, length-drop}
 use Rattle.std.specs.Option.{ForSome}
 use Rattle.std.specs.BTreeMap.{get}
-use Rattle.change_list.specs.Touches.{there_after, there_at, between, touches, leaves, FitsFrom, AreTouches, counts_alone, touched_count}
+use Rattle.change_list.specs.Touches.{there_after, there_at, between, touches, leaves, FitsFrom, AreTouches, counts_alone}
 use Rattle.change_list.specs.Changes.{IsChanges, Lists, IsWithin, Reaches, IsCreated, IsUpdated, IsDestroyed}
-use Rattle.change_list.specs.Seen.{seen_after, seen_after_one, Gathered}
+use Rattle.change_list.specs.Seen.{seen_after, seen_after_one, touched_count, Gathered}
 use Rattle.change_list.specs.Parts.{has_of, IsIn}
 use Rattle.change_list.specs.Kept.{Kept, IsOf, front_of}
 use Rattle.change_list.specs.Answer.{Answers}
@@ -18,6 +18,7 @@ use Rattle.change_list.specs.declared.parts.Part.{Part}
 use Rattle.change_list.specs.declared.parts.Part.TheVariants.{Created, Updated, Destroyed, Mixed}
 use Rattle.change_list.proofs.HistoryLaws.{take-parts}
 use Rattle.change_list.proofs.Gathering.{is_some-seen_after, fresh_count_up}
+use Rattle.change_list.proofs.Counting.{ids_listed, count_listed}
 
 -- whether an id is there, was there, and changed counts alone, by what was seen of it, or else as said
 abbrev is_after : Option Seen → Bool → Bool
@@ -220,7 +221,9 @@ past_the_limit h s t j most beyond jn more =
 -- as many touches as were taken are within the limit
 within_to : (h : List Entry) (s t : ℕ) (max : Option ℕ) → ForSome max (λ most. touched_count (take t (drop s h)) ≤ most) → IsWithin max h s (s + t)
 within_to h s t None few = tt
-within_to h s t (Some most) few = omega (arith, few most refl, ap touched_count (drop-take s t h))
+within_to h s t (Some most) few =
+    let ids = ids_listed (between h s (s + t)) in
+    (ids.0, ids.1, omega (arith, few most refl, ap touched_count (drop-take s t h), count_listed (between h s (s + t)) ids.0 ids.1))
 
 -- and no more are
 no_further : (h : List Entry) (s t j : ℕ) (max : Option ℕ) → j ≤ length h
@@ -229,7 +232,7 @@ no_further h s t j None jn full here =
     let stops : s + t < j → ⊥ = λ beyond. (let f = full (omega (arith, length-drop s h)) in let g : None ≡ Some f.0 = f.1 in cc) in omega (arith, stops)
 no_further h s t j (Some most) jn full here =
     let stops : s + t < j → ⊥ = λ beyond. (let f = full (omega (arith, length-drop s h)) in let g : Some most ≡ Some f.0 = f.1 in let same : most ≡ f.0 = cc in
-    omega (arith, here, past_the_limit h s t j most beyond jn (omega (arith, f.2, same)))) in
+    omega (arith, here.2, count_listed (between h s j) here.0 here.1, past_the_limit h s t j most beyond jn (omega (arith, f.2, same)))) in
     omega (arith, stops)
 
 -- the walk comes to the greatest place

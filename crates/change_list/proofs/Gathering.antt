@@ -3,8 +3,8 @@ use Rattle.std.proofs.Common.{◌≡◌, ℕ, zero, suc, ◌+◌, ◌<◌, ◌�
 use Rattle.std.proofs.lemmas.Bool.{eqb-true}
 use Rattle.std.specs.Option.{ForSome}
 use Rattle.std.specs.BTreeMap.{get, btree_map_len, is_at}
-use Rattle.change_list.specs.Touches.{touches, fresh_count, touched_count}
-use Rattle.change_list.specs.Seen.{seen_after, seen_after_one, Gathered}
+use Rattle.change_list.specs.Touches.{touches}
+use Rattle.change_list.specs.Seen.{seen_after, seen_after_one, fresh_count, touched_count, Gathered}
 use Rattle.change_list.specs.declared.entries.Entry.{Entry}
 use Rattle.change_list.specs.declared.walk.Seen.{Seen}
 

@@ -1,4 +1,5 @@
 pub mod Ascending
+pub mod Counting
 pub mod HistoryLaws
 pub mod MapLaws
 pub mod Growth

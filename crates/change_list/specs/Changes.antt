@@ -1,7 +1,7 @@
 -- What changed between two places (RFC 8620, section 5.2).
 use Rattle.std.specs.Prelude.{◌≡◌, ◌≢◌, ℕ, ◌≤◌, ◌↔◌, List, [], true, false, length, Contains, Option, Some, None, IsTrue}
 use Rattle.std.specs.List.Sorted.{IsStrictlyIncreasing}
-use Rattle.change_list.specs.Touches.{there_at, between, touches, touched_count, counts_alone}
+use Rattle.change_list.specs.Touches.{there_at, between, touches, counts_alone}
 use Rattle.change_list.specs.declared.entries.Entry.{Entry}
 use Rattle.change_list.specs.declared.answer.Changes.{Changes}
 
@@ -10,10 +10,10 @@ pub record Lists (xs : List ℕ) (P : ℕ → Type 0) : Type 0 where
   pub ascending : IsStrictlyIncreasing xs
   pub members : (q : ℕ) → Contains xs q ↔ P q
 
--- no more ids than the limit are touched after s up to k
+-- no more ids than the limit are touched after s up to k: a list of them has at most so many
 abbrev pub IsWithin : Option ℕ → List Entry → ℕ → ℕ → Type 0
 IsWithin None h s k = Unit {0}
-IsWithin (Some most) h s k = touched_count (between h s k) ≤ most
+IsWithin (Some most) h s k = (ids : List ℕ) × Lists ids (λ q. touches (between h s k) q ≡ true) × (length ids ≤ most)
 
 -- k is the greatest place up to which no more ids than the limit are touched after s
 pub record Reaches (h : List Entry) (s : ℕ) (max : Option ℕ) (k : ℕ) : Type 0 where

@@ -1,5 +1,5 @@
 -- The touches of a type since its beginning, the oldest first, and which ids are there after them.
-use Rattle.std.specs.Prelude.{◌≡◌, ℕ, suc, ◌≤◌, ◌==◌, List, [], ◌∷◌, Bool, true, false, if◌then◌else◌, take, drop}
+use Rattle.std.specs.Prelude.{◌≡◌, ℕ, ◌≤◌, ◌==◌, List, [], ◌∷◌, Bool, true, false, if◌then◌else◌, take, drop}
 use Rattle.change_list.specs.declared.entries.Kind.{Kind}
 use Rattle.change_list.specs.declared.entries.Kind.TheVariants.{Added, Changed, Removed}
 use Rattle.change_list.specs.declared.entries.Entry.{Entry}
@@ -33,15 +33,6 @@ between h s k = drop s (take k h)
 abbrev pub touches : List Entry → ℕ → Bool
 touches [] q = false
 touches (e ∷ es) q = if e.id == q then true else touches es q
-
--- how many of these touches are the first of their id, after those before
-abbrev pub fresh_count : List Entry → List Entry → ℕ
-fresh_count before [] = 0
-fresh_count before (e ∷ es) = if touches before e.id then fresh_count before es else suc (fresh_count (e ∷ before) es)
-
--- how many ids are touched
-abbrev pub touched_count : List Entry → ℕ
-touched_count es = fresh_count [] es
 
 -- whether each touch of q changed counts alone
 abbrev pub counts_alone : List Entry → ℕ → Bool
