@@ -6,7 +6,7 @@ use Rattle.std.proofs.Math.Seq.{take-append_seam, take-length}
 use Rattle.change_list.specs.Touches.{between, touches}
 use Rattle.change_list.specs.Changes.{IsChanges}
 use Rattle.change_list.specs.History.{Touch, map_at, value_after, entries_of}
-use Rattle.change_list.specs.Copy.{IsCopy, applied, with_value, holds_id, Round, IsRound, AreRounds, copy_after, place_after}
+use Rattle.change_list.specs.Copy.{IsCopy, applied, with_value, holds_id, ClientStep, IsClientStep, AreClientSteps, copy_after, place_after}
 use Rattle.change_list.specs.declared.answer.Changes.{Changes}
 use Rattle.change_list.proofs.Ascending.{Contains-holds_id, holds_id-Contains}
 use Rattle.change_list.proofs.HistoryLaws.{touches-append, take-parts, between-append, between_none, between-take, there_at-take, map_at_untouched, length-entries_from}
@@ -135,14 +135,14 @@ module _ {V : Type 0} where
       let P : List (Touch V) → Type 0 = λ ts. IsCopy copy ts s in
       subst P (sym (take-parts h m n mn)) (copies_stay (take m h) (drop m (take n h)) s copy (omega (arith, length-take-le m h (omega arith))) is)
 
-  -- a round comes no further than the history had when it ended
-  round_comes_to : (h : List (Touch V)) (s now : ℕ) (r : Round) → IsRound h s now r → r.changes.to ≤ r.fetched
-  round_comes_to h s now r is = omega (arith, is.changes.reaches.to_last, length-entries_from (λ _. None) (take r.answered h), length-take-le r.answered h (omega (arith, is.answer_first, is.by_now)), is.answer_first)
+  -- a step comes no further than the history had when it ended
+  step_comes_to : (h : List (Touch V)) (s now : ℕ) (r : ClientStep) → IsClientStep h s now r → r.changes.to ≤ r.fetched
+  step_comes_to h s now r is = omega (arith, is.changes.reaches.to_last, length-entries_from (λ _. None) (take r.answered h), length-take-le r.answered h (omega (arith, is.answer_first, is.by_now)), is.answer_first)
 
-  -- one round keeps a copy
-  round_keeps : (h : List (Touch V)) (s now : ℕ) (r : Round) (copy : ℕ → Option V) → s ≤ now → IsCopy copy (take now h) s → IsRound h s now r
+  -- one step keeps a copy
+  step_keeps : (h : List (Touch V)) (s now : ℕ) (r : ClientStep) (copy : ℕ → Option V) → s ≤ now → IsCopy copy (take now h) s → IsClientStep h s now r
       → IsCopy (applied r.changes (map_at h r.fetched) copy) (take r.fetched h) r.changes.to
-  round_keeps h s now r copy sn was is =
+  step_keeps h s now r copy sn was is =
       let later = take r.fetched h in
       let long : length later ≡ r.fetched = length-take-le r.fetched h is.by_now in
       let early : take r.answered later ≡ take r.answered h = take-take r.answered r.fetched h is.answer_first in
@@ -152,18 +152,18 @@ module _ {V : Type 0} where
       let C : List (Touch V) → Type 0 = λ ts. IsCopy (applied r.changes (λ q. value_after None ts q) copy) later r.changes.to in
       subst C (take-length later) to
 
-  -- rounds one after the other keep a copy
-  pub rounds_keep : (h : List (Touch V)) (s now : ℕ) (rs : List Round) (copy : ℕ → Option V) → s ≤ now → now ≤ length h → IsCopy copy (take now h) s → AreRounds h s now rs
+  -- steps one after the other keep a copy
+  pub steps_keep : (h : List (Touch V)) (s now : ℕ) (rs : List ClientStep) (copy : ℕ → Option V) → s ≤ now → now ≤ length h → IsCopy copy (take now h) s → AreClientSteps h s now rs
       → IsCopy (copy_after h copy rs) h (place_after s rs)
-  rounds_keep h s now [] copy sn nh was are =
+  steps_keep h s now [] copy sn nh was are =
       let P : List (Touch V) → Type 0 = λ ts. IsCopy copy ts s in
       subst P (take-length h) (copies_go_on h s now (length h) copy sn nh (omega arith) was)
-  rounds_keep h s now (r ∷ rs) copy sn nh was are =
-      rounds_keep h r.changes.to r.fetched rs (applied r.changes (map_at h r.fetched) copy) (round_comes_to h s now r are.0) are.0.by_now (round_keeps h s now r copy sn was are.0) are.1
+  steps_keep h s now (r ∷ rs) copy sn nh was are =
+      steps_keep h r.changes.to r.fetched rs (applied r.changes (map_at h r.fetched) copy) (step_comes_to h s now r are.0) are.0.by_now (step_keeps h s now r copy sn was are.0) are.1
 
   -- where they come to the last place, the copy is the last map
-  pub rounds_end : (h : List (Touch V)) (s now : ℕ) (rs : List Round) (copy : ℕ → Option V) → s ≤ now → now ≤ length h → IsCopy copy (take now h) s → AreRounds h s now rs
+  pub steps_end : (h : List (Touch V)) (s now : ℕ) (rs : List ClientStep) (copy : ℕ → Option V) → s ≤ now → now ≤ length h → IsCopy copy (take now h) s → AreClientSteps h s now rs
       → place_after s rs ≡ length h → (q : ℕ) → copy_after h copy rs q ≡ map_at h (length h) q
-  rounds_end h s now rs copy sn nh was are end =
+  steps_end h s now rs copy sn nh was are end =
       let P : ℕ → Type 0 = λ k. IsCopy (copy_after h copy rs) h k in
-      last_copy_is_map h (copy_after h copy rs) (subst P end (rounds_keep h s now rs copy sn nh was are))
+      last_copy_is_map h (copy_after h copy rs) (subst P end (steps_keep h s now rs copy sn nh was are))

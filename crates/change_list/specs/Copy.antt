@@ -9,8 +9,8 @@ use Rattle.change_list.specs.declared.answer.Changes.{Changes}
 abbrev pub holds_id : List ℕ → ℕ → Bool
 holds_id xs q = list_any (λ x. q == x) xs
 
--- a round of a client: an answer, the last place when it was made, and the last place when the values were fetched
-pub record Round : Type 0 where
+-- a step of a client: an answer, the last place when it was made, and the last place when the values were fetched
+pub record ClientStep : Type 0 where
   pub max : Option ℕ
   pub changes : Changes
   pub answered : ℕ
@@ -31,18 +31,18 @@ module _ {V : Type 0} where
   with_value id value copy q = if id == q then value else copy q
 
   -- the answer is right where it was made, and the values were fetched then or later, and not before place now
-  pub record IsRound (h : List (Touch V)) (s now : ℕ) (r : Round) : Type 0 where
+  pub record IsClientStep (h : List (Touch V)) (s now : ℕ) (r : ClientStep) : Type 0 where
     pub answer_first : r.answered ≤ r.fetched
     pub in_order : now ≤ r.fetched
     pub by_now : r.fetched ≤ length h
     pub changes : IsChanges (entries_of (take r.answered h)) s r.max r.changes
 
-  -- rounds one after the other, each from the place to which the one before came
-  abbrev pub AreRounds : List (Touch V) → ℕ → ℕ → List Round → Type 0
-  AreRounds h s now [] = Unit {0}
-  AreRounds h s now (r ∷ rs) = IsRound h s now r × AreRounds h r.changes.to r.fetched rs
+  -- steps one after the other, each from the place to which the one before came
+  abbrev pub AreClientSteps : List (Touch V) → ℕ → ℕ → List ClientStep → Type 0
+  AreClientSteps h s now [] = Unit {0}
+  AreClientSteps h s now (r ∷ rs) = IsClientStep h s now r × AreClientSteps h r.changes.to r.fetched rs
 
-  abbrev pub copy_after : List (Touch V) → (ℕ → Option V) → List Round → ℕ → Option V
+  abbrev pub copy_after : List (Touch V) → (ℕ → Option V) → List ClientStep → ℕ → Option V
   copy_after h copy [] = copy
   copy_after h copy (r ∷ rs) = copy_after h (applied r.changes (map_at h r.fetched) copy) rs
 
@@ -54,7 +54,7 @@ module _ {V : Type 0} where
     pub updated : (q : ℕ) → Contains c.updated q ↔ ((map_at h s q ≢ None) × (map_at h c.to q ≢ None) × IsTouched h s c.to q)
     pub as_it_was : (q : ℕ) → ¬ Contains c.created q → ¬ Contains c.updated q → ¬ Contains c.destroyed q → map_at h c.to q ≡ map_at h s q
 
--- the place to which rounds from s come
-abbrev pub place_after : ℕ → List Round → ℕ
+-- the place to which steps from s come
+abbrev pub place_after : ℕ → List ClientStep → ℕ
 place_after s [] = s
 place_after s (r ∷ rs) = place_after r.changes.to rs

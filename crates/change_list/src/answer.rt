@@ -1,7 +1,7 @@
 use gate_world::Listed;
 
 /// What changed after a place (RFC 8620, section 5.2). Each list is ascending.
-#[derive(Debug, Drop)]
+#[derive(Debug, PartialEq, Drop)]
 pub struct Changes {
     /// The place up to which these are the changes.
     pub to: u64,

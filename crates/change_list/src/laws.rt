@@ -7,7 +7,7 @@ ghost use Rattle.change_list.specs.Touches.{AreTouches};
 ghost use Rattle.change_list.specs.Advance.{row_at, AreRows, GoesOn, advance};
 ghost use Rattle.change_list.specs.Changes.{IsChanges};
 ghost use Rattle.change_list.specs.History.{Touch, IsHistory, AreMaps, HasMaps, map_at, entries_of, value_after};
-ghost use Rattle.change_list.specs.Copy.{IsCopy, Round, AreRounds, TellsMaps, applied, with_value, copy_after, place_after};
+ghost use Rattle.change_list.specs.Copy.{IsCopy, ClientStep, AreClientSteps, TellsMaps, applied, with_value, copy_after, place_after};
 ghost use Rattle.change_list.specs.declared.entries.Entry.{Entry};
 ghost use Rattle.change_list.specs.declared.answer.Changes.{Changes};
 
@@ -89,17 +89,17 @@ pub fn copies_drop<V>()
 {}
 
 /// Answers and fetches one after the other, while the history goes on, keep a copy.
-pub fn rounds_keep_copies<V>()
-    ensures { (h : List (Touch V)) (s now : ℕ) (rounds : List Round) (copy : ℕ → Option V)
-        → s ≤ now → now ≤ length h → IsCopy copy (take now h) s → AreRounds h s now rounds
-        → IsCopy (copy_after h copy rounds) h (place_after s rounds) }
+pub fn steps_keep_copies<V>()
+    ensures { (h : List (Touch V)) (s now : ℕ) (steps : List ClientStep) (copy : ℕ → Option V)
+        → s ≤ now → now ≤ length h → IsCopy copy (take now h) s → AreClientSteps h s now steps
+        → IsCopy (copy_after h copy steps) h (place_after s steps) }
 {}
 
 /// Repeated until nothing is left, they end in the last map.
-pub fn rounds_end_in_last_map<V>()
-    ensures { (h : List (Touch V)) (s now : ℕ) (rounds : List Round) (copy : ℕ → Option V)
-        → s ≤ now → now ≤ length h → IsCopy copy (take now h) s → AreRounds h s now rounds
-        → place_after s rounds ≡ length h → (q : ℕ) → copy_after h copy rounds q ≡ map_at h (length h) q }
+pub fn steps_end_in_last_map<V>()
+    ensures { (h : List (Touch V)) (s now : ℕ) (steps : List ClientStep) (copy : ℕ → Option V)
+        → s ≤ now → now ≤ length h → IsCopy copy (take now h) s → AreClientSteps h s now steps
+        → place_after s steps ≡ length h → (q : ℕ) → copy_after h copy steps q ≡ map_at h (length h) q }
 {}
 
 /// The touches of an advance lead from the old map to the new one.
