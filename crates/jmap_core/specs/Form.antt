@@ -69,15 +69,26 @@ uses_both (Some uses) = uses.core && uses.mail
 abbrev pub is_inbox : Data → Bool
 is_inbox d = is_text (codes "m1") (option_and_then as_str (option_and_then one_item (as_array d)))
 
-abbrev pub wanted_of : Data → Option Properties
-wanted_of d = option_and_then (λ t. if is_text (codes "a1") (as_str t.0) && is_inbox t.1 then properties_of t.2 else None)
-    (option_and_then (three_of (codes "accountId") (codes "ids") (codes "properties")) (as_object d))
+-- the account, the ids and the properties
+abbrev pub wanted_from : Data × Data × Data → Option Properties
+wanted_from t = if is_text (codes "a1") (as_str t.0) && is_inbox t.1 then properties_of t.2 else None
 
--- what a call wants, if it is a Mailbox/get of the INBOX
+abbrev pub wanted_of : Data → Option Properties
+wanted_of d = option_and_then wanted_from (option_and_then (three_of (codes "accountId") (codes "ids") (codes "properties")) (as_object d))
+
+-- a call by this name, with these arguments and this id
+abbrev pub named_call : Data → Data → List ℕ → Option Request
+named_call name arguments id = if is_text (codes "Mailbox/get") (as_str name) then option_map (λ p. record { properties = p; id = id }) (wanted_of arguments) else None
+
+abbrev pub call_from : Data × Data × Data → Option Request
+call_from t = option_and_then (named_call t.0 t.1) (as_str t.2)
+
 abbrev pub call_of : Data → Option Request
-call_of d = option_and_then (λ t. option_and_then (λ id. if is_text (codes "Mailbox/get") (as_str t.0) then option_map (λ p. record { properties = p; id = id }) (wanted_of t.1) else None) (as_str t.2))
-    (option_and_then three_items (as_array d))
+call_of d = option_and_then call_from (option_and_then three_items (as_array d))
+
+-- the calls and the capabilities
+abbrev pub request_from : Data × Data → Option Request
+request_from t = if uses_both (using_of t.1) then option_and_then call_of (option_and_then one_item (as_array t.0)) else None
 
 abbrev pub request_of : Data → Option Request
-request_of d = option_and_then (λ t. if uses_both (using_of t.1) then option_and_then call_of (option_and_then one_item (as_array t.0)) else None)
-    (option_and_then (two_of (codes "methodCalls") (codes "using")) (as_object d))
+request_of d = option_and_then request_from (option_and_then (two_of (codes "methodCalls") (codes "using")) (as_object d))

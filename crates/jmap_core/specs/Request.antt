@@ -11,7 +11,7 @@ abbrev pub texts : List (List ℕ) → Items
 texts names = items_of (map string names)
 
 abbrev pub is_among : List (List ℕ) → List ℕ → Bool
-is_among names name = list_any (bytes_eq name) names
+is_among names name = list_any (λ n. bytes_eq n name) names
 
 -- the two capabilities
 abbrev pub core_capability : List ℕ
@@ -21,10 +21,10 @@ abbrev pub mail_capability : List ℕ
 mail_capability = codes "urn:ietf:params:jmap:mail"
 
 abbrev pub is_capability : List ℕ → Bool
-is_capability name = is_among (core_capability ∷ mail_capability ∷ []) name
+is_capability name = bytes_eq name core_capability || bytes_eq name mail_capability
 
 abbrev pub is_property : List ℕ → Bool
-is_property name = is_among (codes "id" ∷ codes "totalEmails" ∷ codes "unreadEmails" ∷ []) name
+is_property name = bytes_eq name (codes "id") || bytes_eq name (codes "totalEmails") || bytes_eq name (codes "unreadEmails")
 
 -- the arguments of a Mailbox/get that wants these properties of the INBOX
 abbrev pub arguments_data : List (List ℕ) → Data
@@ -45,15 +45,21 @@ request_data capabilities call = object
     (member (codes "using") (array (texts capabilities))
     no_members))
 
--- The body is a text that reads as a request with both capabilities and no other, for known properties.
-pub record IsRequest (body : List ℕ) (request : Request) : Type 0 where
+-- The data is a request with both capabilities and no other, for known properties.
+pub record Asks (d : Data) (request : Request) : Type 0 where
   pub capabilities : List (List ℕ)
   pub properties : List (List ℕ)
-  pub is_text : IsUtf8 body
-  pub reads : read body ≡ Some (request_data capabilities (call_data (codes "Mailbox/get") (arguments_data properties) request.id))
+  pub form : d ≡ request_data capabilities (call_data (codes "Mailbox/get") (arguments_data properties) request.id)
   pub uses_core : IsTrue (is_among capabilities core_capability)
   pub uses_mail : IsTrue (is_among capabilities mail_capability)
   pub uses_no_other : IsTrue (list_all is_capability capabilities)
   pub knows_properties : IsTrue (list_all is_property properties)
   pub total_emails : request.properties.total_emails ≡ is_among properties (codes "totalEmails")
   pub unread_emails : request.properties.unread_emails ≡ is_among properties (codes "unreadEmails")
+
+-- the body is a text that reads as such data
+pub record IsRequest (body : List ℕ) (request : Request) : Type 0 where
+  pub is_text : IsUtf8 body
+  pub value : Data
+  pub reads : read body ≡ Some value
+  pub asks : Asks value request
