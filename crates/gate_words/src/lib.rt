@@ -7,6 +7,8 @@ mod place;
 mod reading;
 mod rules;
 mod task;
+#[cfg(test)]
+mod tests;
 
 pub use place::Place;
 pub use reading::{one_task, read_words};

@@ -29,12 +29,19 @@ pub(crate) fn name_of(word: &str) -> Option<Name>
     }
 }
 
+/// The parts of a word round its first `=`.
+fn cut(word: &str) -> Option<(&str, &str)>
+    ensures { option_map (λ parts. (parts.0.now, parts.1.now)) result ≡ spec.cut word.now }
+{
+    word.split_once('=')
+}
+
 /// The option and value that a word is with `=` between them.
 pub(crate) fn joined(word: &str) -> Option<LentSetting<'_>>
-    ensures { option_map (λ j. record { name = j.name; value = j.value.now }) result
+    ensures { option_map (λ setting. record { name = setting.name; value = setting.value.now }) result
         ≡ spec.joined word.now }
 {
-    let (name, value) = word.split_once('=')?;
+    let (name, value) = cut(word)?;
     Some(LentSetting {
         name: name_of(name)?,
         value,

@@ -9,9 +9,10 @@ use crate::given::{Given, given_by};
 use crate::rules::{is_base, is_user};
 use crate::{Place, Task, WordsError};
 use gate_world::Text;
-use std::alloc::Global;
+use std::alloc::{AllocError, Global};
 
 /// A place whose texts are lent.
+#[derive(Clone, Copy)]
 struct LentPlace<'a> {
     store: &'a str,
     user: &'a str,
@@ -37,6 +38,17 @@ fn place_of(words: &[String]) -> Option<LentPlace<'_>>
     }
 }
 
+/// A copy of the place.
+fn owned(alloc: Global, place: LentPlace<'_>) -> Result<Place, AllocError>
+    ensures { IfOk result (λ p. p ≡ record { store = place.entry.store.now; user = place.entry.user.now; base = place.entry.base.now }) }
+{
+    Ok(Place {
+        store: Text::copy_of(alloc, place.store)?,
+        user: Text::copy_of(alloc, place.user)?,
+        base: Text::copy_of(alloc, place.base)?,
+    })
+}
+
 /// The task that the words of a command ask for, the program's own name left out.
 pub fn read_words(alloc: Global, words: &[String]) -> Result<Task, WordsError>
     ensures ok { IfOk result (λ task. IsTask (map string_bytes words.now) task) }
@@ -49,15 +61,11 @@ pub fn read_words(alloc: Global, words: &[String]) -> Result<Task, WordsError>
     if command.as_str() != "once" {
         return Err(WordsError::Refused);
     }
-    let Some(LentPlace { store, user, base }) = place_of(options) else {
+    let Some(place) = place_of(options) else {
         return Err(WordsError::Refused);
     };
     Ok(Task::Once {
-        place: Place {
-            store: Text::copy_of(alloc, store)?,
-            user: Text::copy_of(alloc, user)?,
-            base: Text::copy_of(alloc, base)?,
-        },
+        place: owned(alloc, place)?,
     })
 }
 

@@ -1,6 +1,6 @@
 // Which values are taken.
-ghost use Rattle.std.specs.Prelude.{◌≡◌};
-ghost use Rattle.std.specs.List.{list_any};
+ghost use Rattle.std.specs.Prelude.{◌≡◌, nat_eq};
+ghost use Rattle.std.specs.List.{list_any, starts_with, ends_with};
 ghost use Rattle.gate_words.specs.Rules as spec;
 
 const DELETE: u8 = 127;
@@ -22,6 +22,18 @@ fn has_control(text: &str) -> bool
     false
 }
 
+fn begins_with(text: &str, front: &str) -> bool
+    ensures { result ≡ starts_with nat_eq text.now front.now }
+{
+    text.starts_with(front)
+}
+
+fn ends_in(text: &str, back: &str) -> bool
+    ensures { result ≡ ends_with nat_eq text.now back.now }
+{
+    text.ends_with(back)
+}
+
 /// Whether a user can have this name: not empty, and without control characters.
 pub(crate) fn is_user(text: &str) -> bool
     ensures { result ≡ spec.is_user text.now }
@@ -29,11 +41,15 @@ pub(crate) fn is_user(text: &str) -> bool
     !text.is_empty() && !has_control(text)
 }
 
+fn is_http(text: &str) -> bool
+    ensures { result ≡ spec.is_http text.now }
+{
+    begins_with(text, "http://") || begins_with(text, "https://")
+}
+
 /// Whether paths can be added to this URL.
 pub(crate) fn is_base(text: &str) -> bool
     ensures { result ≡ spec.is_base text.now }
 {
-    (text.starts_with("http://") || text.starts_with("https://"))
-        && !text.ends_with("/")
-        && !has_control(text)
+    is_http(text) && !ends_in(text, "/") && !has_control(text)
 }

@@ -9,6 +9,8 @@ mod request;
 mod response;
 mod session;
 mod state;
+#[cfg(test)]
+mod tests;
 
 pub use counts::Counts;
 pub use form::{one_request, read_request};
