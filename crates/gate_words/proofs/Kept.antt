@@ -1,6 +1,6 @@
 -- Values that are kept one by one are those of the settings.
 use Rattle.std.proofs.Common.{◌≡◌, ℕ, List, [], ◌∷◌, ◌++◌, if◌then◌else◌, is_some, Option, Some, None, option_and_then, refl, sym, ap, ◌∙◌, subst, append-nil}
-use Rattle.std.proofs.lemmas.Option.{none-some, same_Some}
+use Rattle.std.proofs.lemmas.Option.{same_Some}
 use Rattle.gate_words.specs.Options.{Setting, value_if, values_of}
 use Rattle.gate_words.specs.Given.{Values, keep}
 use Rattle.gate_words.specs.declared.option.Name.{Name}

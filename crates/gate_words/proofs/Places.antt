@@ -1,7 +1,7 @@
 -- Options are read as a place exactly where they name it.
-use Rattle.std.proofs.Common.{◌≡◌, ℕ, List, [], ◌∷◌, true, ◌&&◌, IsTrue, Option, Some, None, option_and_then, refl, sym, ap, ◌∙◌}
-use Rattle.std.proofs.lemmas.Option.{none-some, same_Some, cond_some}
-use Rattle.gate_words.specs.Given.{Values, no_values, taken, place_if, place_from, place_of}
+use Rattle.std.proofs.Common.{◌≡◌, ℕ, List, true, ◌&&◌, IsTrue, Option, Some, None, option_and_then, refl, sym, ap, ◌∙◌}
+use Rattle.std.proofs.lemmas.Option.{none-some, cond_some}
+use Rattle.gate_words.specs.Given.{Values, no_values, taken, place_from, place_of}
 use Rattle.gate_words.specs.Rules.{is_user, is_base}
 use Rattle.gate_words.specs.Task.{NamesPlace}
 use Rattle.gate_words.specs.declared.place.Place.{Place}

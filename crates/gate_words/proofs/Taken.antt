@@ -1,8 +1,8 @@
 -- Words are taken one by one exactly where they spell settings.
-use Rattle.std.proofs.Common.{◌≡◌, ◌⊎◌, inl, inr, ℕ, List, [], ◌∷◌, ◌++◌, false, if◌then◌else◌, Option, Some, None, option_map, option_and_then, refl, sym, ap, ◌∙◌, subst}
+use Rattle.std.proofs.Common.{◌≡◌, inl, inr, ℕ, List, [], ◌∷◌, ◌++◌, Option, Some, None, option_map, option_and_then, refl, ap, ◌∙◌}
 use Rattle.std.proofs.lemmas.Option.{none-some, same_Some}
 use Rattle.gate_words.specs.Options.{name_text, Setting, joined_text, BeginsWithDash, Spells, SpellsAll}
-use Rattle.gate_words.specs.Given.{name_of, joined, begins_with_dash, Values, keep, keep_joined, with_first, with_word, at_end, taken}
+use Rattle.gate_words.specs.Given.{name_of, joined, begins_with_dash, Values, keep, keep_joined, with_first, with_word, taken}
 use Rattle.gate_words.specs.declared.option.Name.{Name}
 use Rattle.gate_words.proofs.Kept.{keeps}
 use Rattle.gate_words.proofs.Names.{name_of-is, name_of-text, name_of-joined, joined-text, joined-is, no-dash, test-no-dash}

@@ -1,5 +1,5 @@
 -- Reading words one by one, for private clauses.
-use Rattle.std.specs.Prelude.{ℕ, List, [], ◌∷◌, Bool, true, false, ◌&&◌, ◌==◌, if◌then◌else◌, is_some, bytes_eq, codes, Option, Some, None, option_map, option_and_then}
+use Rattle.std.specs.Prelude.{ℕ, List, [], ◌∷◌, Bool, false, ◌&&◌, ◌==◌, if◌then◌else◌, is_some, bytes_eq, codes, Option, Some, None, option_map, option_and_then}
 use Rattle.gate_words.specs.Options.{Setting}
 use Rattle.gate_words.specs.Rules.{is_user, is_base}
 use Rattle.gate_words.specs.declared.option.Name.{Name}

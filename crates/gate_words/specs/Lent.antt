@@ -1,5 +1,5 @@
 -- What lent values are, for private clauses.
-use Rattle.std.specs.Prelude.{ℕ, List, Option, option_map}
+use Rattle.std.specs.Prelude.{Option, option_map}
 use Rattle.gate_words.specs.Given.{Values}
 use Rattle.gate_words.specs.declared.option.Name.{Name}
 use Rattle.gate_words.specs.declared.given.Given.{Given}

@@ -2,10 +2,10 @@
 use Rattle.std.proofs.Common.{◌≡◌, ℕ, List, Bool, true, false, ◌&&◌, if◌then◌else◌, Option, Some, None, option_map, option_and_then, IsTrue, refl, sym, ap, ◌∙◌, codes}
 use Rattle.std.specs.List.{list_all}
 use Rattle.std.proofs.lemmas.Option.{none-some, same_Some, cond_some}
-use Rattle.serde_json.specs.Data.{Data, string, array, object, Items, no_items, item, Members, no_members, member}
+use Rattle.serde_json.specs.Data.{Data, string, array, object, Items, no_items, item, no_members, member}
 use Rattle.serde_json.specs.Find.{as_str, as_array, as_object}
 use Rattle.jmap_core.specs.Form.{is_text, two_of, three_of, one_item, three_items, noted, note_capability, note_property, using_of, uses_both, properties_of, is_inbox, wanted_from, wanted_of, named_call, call_from, call_of, request_from, request_of}
-use Rattle.jmap_core.specs.Request.{texts, is_among, is_capability, is_property, core_capability, mail_capability, arguments_data, call_data, request_data, Asks}
+use Rattle.jmap_core.specs.Request.{texts, is_among, is_capability, is_property, core_capability, mail_capability, arguments_data, call_data, Asks}
 use Rattle.jmap_core.specs.declared.form.Using.{Using}
 use Rattle.jmap_core.specs.declared.request.Properties.{Properties}
 use Rattle.jmap_core.specs.declared.request.Request.{Request}

@@ -1,5 +1,5 @@
 -- The bodies that are requests (RFC 8620 section 3.3): a Mailbox/get of the INBOX, in one form.
-use Rattle.std.specs.Prelude.{◌≡◌, ℕ, List, [], ◌∷◌, Bool, ◌||◌, Some, IsTrue, IsUtf8, bytes_eq, codes, map}
+use Rattle.std.specs.Prelude.{◌≡◌, ℕ, List, Bool, ◌||◌, Some, IsTrue, IsUtf8, bytes_eq, codes, map}
 use Rattle.std.specs.List.{list_any, list_all}
 use Rattle.serde_json.specs.Data.{Data, string, array, object, Items, no_items, item, no_members, member}
 use Rattle.serde_json.specs.Read.{read}

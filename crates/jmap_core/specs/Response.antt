@@ -1,5 +1,5 @@
 -- The response to a request (RFC 8620 section 3.4).
-use Rattle.std.specs.Prelude.{◌≡◌, ℕ, List, false, map, codes}
+use Rattle.std.specs.Prelude.{◌≡◌, ℕ, List, false, codes}
 use Rattle.serde_json.specs.Data.{Data, string, array, object, no_members, member}
 use Rattle.serde_json.specs.View.{items_of, view}
 use Rattle.serde_json.specs.Written.{has_float}

@@ -1,8 +1,9 @@
 use crate::{
-    Counts, RequestError, State, mailbox_response, not_request, read_request, session_state,
-    state_text, unavailable_response,
+    Counts, State, mailbox_response, not_request, read_request, session_state, state_text,
+    unavailable_response,
 };
 use std::alloc::{AllocError, Global};
+use std::process::Abort;
 use std::test::Fail;
 
 const BASE: &str = "http://127.0.0.1:8080";
@@ -11,6 +12,12 @@ const BOTH: &str = "[\"urn:ietf:params:jmap:core\",\"urn:ietf:params:jmap:mail\"
 
 const INBOX: &str =
     "{\"accountId\":\"a1\",\"ids\":[\"m1\"],\"properties\":[\"totalEmails\",\"unreadEmails\"]}";
+
+const TURNED: &str =
+    "[\"urn:ietf:params:jmap:mail\",\"urn:ietf:params:jmap:core\",\"urn:ietf:params:jmap:mail\"]";
+
+const CLOSED: &str =
+    "]]]]]]]]]]]]]]]]]]]]]]]]]]]]]]]]]]]]]]]]]]]]]]]]]]]]]]]]]]]]]]]]]]]]]]]]]]]]]]]]]]]]]]]]]]]]]]]]]]]]]]]]]]]]]]]]]]]]]]]]]]]]]]]]]]]]]]]]]]]]]]]]]]]]]]]]]]]]]]]]]]]]]]]]]]]]]]]]]]]]]]]]]]]]]]]]]]]]]]]]";
 
 const WHOLE: &str =
     "{\"using\":[\"urn:ietf:params:jmap:core\",\"urn:ietf:params:jmap:mail\"],\"methodCalls\":[[\"Mailbox/get\",{\"accountId\":\"a1\",\"ids\":[\"m1\"],\"properties\":[\"totalEmails\",\"unreadEmails\"]},\"c1\"]]}";
@@ -27,12 +34,33 @@ fn shown(alloc: Global, body: &[u8]) -> Result<String, AllocError> {
     }
 }
 
-fn shown_call(alloc: Global, uses: &str, arguments: &str, id: &str) -> Result<String, AllocError> {
+fn expect(rt: &impl Abort, alloc: Global, body: &[u8], wanted: &str) -> Result<(), AllocError> {
+    let found = shown(alloc, body)?;
+    assert_eq!(rt; found.as_str(), wanted);
+    Ok(())
+}
+
+fn expect_call(
+    rt: &impl Abort,
+    alloc: Global,
+    uses: &str,
+    arguments: &str,
+    id: &str,
+    wanted: &str,
+) -> Result<(), AllocError> {
     let body = format!(in alloc;
         "{{\"using\":{uses},\"methodCalls\":[[\"Mailbox/get\",{arguments},{id}]]}}"
     )?;
-    shown(alloc, body.as_bytes())
+    expect(rt, alloc, body.as_bytes(), wanted)
 }
+
+const COUNTED: &str =
+    "{\"methodResponses\":[[\"Mailbox/get\",{\"accountId\":\"a1\",\"list\":[{\"id\":\"m1\",\"totalEmails\":3,\"unreadEmails\":2}],\"notFound\":[],\"state\":\"000000000000001f-1\"},\"c1\"]],\"sessionState\":\"1;5;alice;http://127.0.0.1:8080\"}";
+
+const UNAVAILABLE: &str =
+    "{\"methodResponses\":[[\"error\",{\"type\":\"serverUnavailable\"},\"c1\"]],\"sessionState\":\"1;5;alice;http://127.0.0.1:8080\"}";
+
+const PROBLEM: &str = "{\"status\":400,\"type\":\"urn:ietf:params:jmap:error:notRequest\"}";
 
 #[test]
 fn counts_of_inbox(rt: HostRuntime) -> Result<(), Fail> {
@@ -47,47 +75,51 @@ fn counts_of_inbox(rt: HostRuntime) -> Result<(), Fail> {
         place: 1,
     };
     let text = mailbox_response(alloc, &request, counts, state, "alice", BASE)?;
-    let wanted =
-        "{\"methodResponses\":[[\"Mailbox/get\",{\"accountId\":\"a1\",\"list\":[{\"id\":\"m1\",\"totalEmails\":3,\"unreadEmails\":2}],\"notFound\":[],\"state\":\"000000000000001f-1\"},\"c1\"]],\"sessionState\":\"1;5;alice;http://127.0.0.1:8080\"}";
-    assert_eq!(rt; text.as_slice(), wanted.as_bytes());
+    assert_eq!(rt; text.as_slice(), COUNTED.as_bytes());
     let text = unavailable_response(alloc, &request, "alice", BASE)?;
-    let wanted =
-        "{\"methodResponses\":[[\"error\",{\"type\":\"serverUnavailable\"},\"c1\"]],\"sessionState\":\"1;5;alice;http://127.0.0.1:8080\"}";
-    assert_eq!(rt; text.as_slice(), wanted.as_bytes());
-    let wanted = "{\"status\":400,\"type\":\"urn:ietf:params:jmap:error:notRequest\"}";
-    assert_eq!(rt; not_request(), wanted.as_bytes());
+    assert_eq!(rt; text.as_slice(), UNAVAILABLE.as_bytes());
+    assert_eq!(rt; not_request(), PROBLEM.as_bytes());
     Ok(())
 }
 
+const GREATEST: Counts = Counts {
+    total_emails: 0,
+    unread_emails: u64::MAX,
+};
+
+const LAST: State = State {
+    epoch: u64::MAX,
+    place: 9_007_199_254_740_991,
+};
+
+/// The answer to a request for these properties has this INBOX.
+fn expect_inbox(rt: &impl Abort, alloc: Global, names: &str, inbox: &str) -> Result<(), Fail> {
+    let body = format!(in alloc;
+        "{{\"using\":{BOTH},\"methodCalls\":[[\"Mailbox/get\",{{\"accountId\":\"a1\",\"ids\":[\"m1\"],\"properties\":{names}}},\"\\u00e9\\\"\"]]}}"
+    )?;
+    let request = read_request(alloc, body.as_bytes())?;
+    let text = mailbox_response(alloc, &request, GREATEST, LAST, "\u{e9}", BASE)?;
+    let wanted = format!(in alloc;
+        "{{\"methodResponses\":[[\"Mailbox/get\",{{\"accountId\":\"a1\",\"list\":[{inbox}],\"notFound\":[],\"state\":\"ffffffffffffffff-9007199254740991\"}},\"\u{e9}\\\"\"]],\"sessionState\":\"1;2;\u{e9};{BASE}\"}}"
+    )?;
+    assert_eq!(rt; text.as_slice(), wanted.as_bytes());
+    Ok(())
+}
+
+const INBOXES: [(&str, &str); 4] = [
+    ("[]", "{\"id\":\"m1\"}"),
+    ("[\"id\"]", "{\"id\":\"m1\"}"),
+    ("[\"totalEmails\"]", "{\"id\":\"m1\",\"totalEmails\":0}"),
+    (
+        "[\"unreadEmails\",\"id\"]",
+        "{\"id\":\"m1\",\"unreadEmails\":18446744073709551615}",
+    ),
+];
+
 #[test]
 fn counts_that_are_wanted(rt: HostRuntime) -> Result<(), Fail> {
-    let alloc = rt.alloc();
-    for (names, list) in [
-        ("[]", "{\"id\":\"m1\"}"),
-        ("[\"id\"]", "{\"id\":\"m1\"}"),
-        ("[\"totalEmails\"]", "{\"id\":\"m1\",\"totalEmails\":0}"),
-        (
-            "[\"unreadEmails\",\"id\"]",
-            "{\"id\":\"m1\",\"unreadEmails\":18446744073709551615}",
-        ),
-    ] {
-        let body = format!(in alloc;
-            "{{\"using\":{BOTH},\"methodCalls\":[[\"Mailbox/get\",{{\"accountId\":\"a1\",\"ids\":[\"m1\"],\"properties\":{names}}},\"\\u00e9\\\"\"]]}}"
-        )?;
-        let request = read_request(alloc, body.as_bytes())?;
-        let counts = Counts {
-            total_emails: 0,
-            unread_emails: u64::MAX,
-        };
-        let state = State {
-            epoch: u64::MAX,
-            place: 9_007_199_254_740_991,
-        };
-        let text = mailbox_response(alloc, &request, counts, state, "\u{e9}", BASE)?;
-        let wanted = format!(in alloc;
-            "{{\"methodResponses\":[[\"Mailbox/get\",{{\"accountId\":\"a1\",\"list\":[{list}],\"notFound\":[],\"state\":\"ffffffffffffffff-9007199254740991\"}},\"\u{e9}\\\"\"]],\"sessionState\":\"1;2;\u{e9};{BASE}\"}}"
-        )?;
-        assert_eq!(rt; text.as_slice(), wanted.as_bytes(), "of {names}");
+    for (names, inbox) in INBOXES {
+        expect_inbox(&rt, rt.alloc(), names, inbox)?;
     }
     Ok(())
 }
@@ -107,160 +139,155 @@ fn states(rt: HostRuntime) -> Result<(), Fail> {
     Ok(())
 }
 
+const NO: &str = "no request";
+
+/// The capabilities, the arguments and the id of a call, and what is read.
+const CALLS: [(&str, &str, &str, &str); 24] = [
+    (BOTH, INBOX, "\"c1\"", "true true c1"),
+    (TURNED, INBOX, "\"\"", "true true "),
+    (
+        BOTH,
+        INBOX,
+        "\"a\\u002f\\n\\ud83d\\ude00\"",
+        "true true a/\n\u{1F600}",
+    ),
+    ("[]", INBOX, "\"c1\"", NO),
+    ("[\"urn:ietf:params:jmap:core\"]", INBOX, "\"c1\"", NO),
+    (
+        "[\"urn:ietf:params:jmap:core\",\"urn:ietf:params:jmap:mail\",\"x\"]",
+        INBOX,
+        "\"c1\"",
+        NO,
+    ),
+    (
+        "[\"urn:ietf:params:jmap:core\",\"urn:ietf:params:jmap:mail\",1]",
+        INBOX,
+        "\"c1\"",
+        NO,
+    ),
+    ("\"urn:ietf:params:jmap:core\"", INBOX, "\"c1\"", NO),
+    (BOTH, INBOX, "1", NO),
+    (BOTH, INBOX, "\"c1\",\"c2\"", NO),
+    (BOTH, INBOX, "\"\\ud83d\"", NO),
+    (BOTH, "[]", "\"c1\"", NO),
+    (
+        BOTH,
+        "{\"accountId\":\"a1\",\"ids\":[\"m1\"],\"properties\":[]}",
+        "\"c1\"",
+        "false false c1",
+    ),
+    (
+        BOTH,
+        "{\"ids\":[\"m1\"],\"properties\":[\"id\",\"id\",\"unreadEmails\"],\"accountId\":\"a1\"}",
+        "\"c1\"",
+        "false true c1",
+    ),
+    (
+        BOTH,
+        "{\"accountId\":\"a1\",\"ids\":[\"m2\"],\"ids\":[\"m1\"],\"properties\":[\"totalEmails\"]}",
+        "\"c1\"",
+        "true false c1",
+    ),
+    (
+        BOTH,
+        "{\"accountId\":\"a1\",\"ids\":[\"m1\"],\"ids\":[\"m2\"],\"properties\":[]}",
+        "\"c1\"",
+        NO,
+    ),
+    (
+        BOTH,
+        "{\"accountId\":\"a2\",\"ids\":[\"m1\"],\"properties\":[]}",
+        "\"c1\"",
+        NO,
+    ),
+    (
+        BOTH,
+        "{\"accountId\":\"a1\",\"ids\":[\"m1\",\"m1\"],\"properties\":[]}",
+        "\"c1\"",
+        NO,
+    ),
+    (
+        BOTH,
+        "{\"accountId\":\"a1\",\"ids\":[],\"properties\":[]}",
+        "\"c1\"",
+        NO,
+    ),
+    (
+        BOTH,
+        "{\"accountId\":\"a1\",\"ids\":null,\"properties\":[]}",
+        "\"c1\"",
+        NO,
+    ),
+    (
+        BOTH,
+        "{\"accountId\":\"a1\",\"ids\":[\"m1\"],\"properties\":null}",
+        "\"c1\"",
+        NO,
+    ),
+    (
+        BOTH,
+        "{\"accountId\":\"a1\",\"ids\":[\"m1\"],\"properties\":[\"name\"]}",
+        "\"c1\"",
+        NO,
+    ),
+    (
+        BOTH,
+        "{\"accountId\":\"a1\",\"ids\":[\"m1\"]}",
+        "\"c1\"",
+        NO,
+    ),
+    (
+        BOTH,
+        "{\"accountId\":\"a1\",\"ids\":[\"m1\"],\"properties\":[],\"x\":1}",
+        "\"c1\"",
+        NO,
+    ),
+];
+
 #[test]
 fn calls_of_the_one_form(rt: HostRuntime) -> Result<(), Fail> {
-    let alloc = rt.alloc();
-    let turned =
-        "[\"urn:ietf:params:jmap:mail\",\"urn:ietf:params:jmap:core\",\"urn:ietf:params:jmap:mail\"]";
-    let no = "no request";
-    for (uses, arguments, id, wanted) in [
-        (BOTH, INBOX, "\"c1\"", "true true c1"),
-        (turned, INBOX, "\"\"", "true true "),
-        (
-            BOTH,
-            INBOX,
-            "\"a\\u002f\\n\\ud83d\\ude00\"",
-            "true true a/\n\u{1F600}",
-        ),
-        ("[]", INBOX, "\"c1\"", no),
-        ("[\"urn:ietf:params:jmap:core\"]", INBOX, "\"c1\"", no),
-        (
-            "[\"urn:ietf:params:jmap:core\",\"urn:ietf:params:jmap:mail\",\"x\"]",
-            INBOX,
-            "\"c1\"",
-            no,
-        ),
-        (
-            "[\"urn:ietf:params:jmap:core\",\"urn:ietf:params:jmap:mail\",1]",
-            INBOX,
-            "\"c1\"",
-            no,
-        ),
-        ("\"urn:ietf:params:jmap:core\"", INBOX, "\"c1\"", no),
-        (BOTH, INBOX, "1", no),
-        (BOTH, INBOX, "\"c1\",\"c2\"", no),
-        (BOTH, INBOX, "\"\\ud83d\"", no),
-        (BOTH, "[]", "\"c1\"", no),
-        (
-            BOTH,
-            "{\"accountId\":\"a1\",\"ids\":[\"m1\"],\"properties\":[]}",
-            "\"c1\"",
-            "false false c1",
-        ),
-        (
-            BOTH,
-            "{\"ids\":[\"m1\"],\"properties\":[\"id\",\"id\",\"unreadEmails\"],\"accountId\":\"a1\"}",
-            "\"c1\"",
-            "false true c1",
-        ),
-        (
-            BOTH,
-            "{\"accountId\":\"a1\",\"ids\":[\"m2\"],\"ids\":[\"m1\"],\"properties\":[\"totalEmails\"]}",
-            "\"c1\"",
-            "true false c1",
-        ),
-        (
-            BOTH,
-            "{\"accountId\":\"a1\",\"ids\":[\"m1\"],\"ids\":[\"m2\"],\"properties\":[]}",
-            "\"c1\"",
-            no,
-        ),
-        (
-            BOTH,
-            "{\"accountId\":\"a2\",\"ids\":[\"m1\"],\"properties\":[]}",
-            "\"c1\"",
-            no,
-        ),
-        (
-            BOTH,
-            "{\"accountId\":\"a1\",\"ids\":[\"m1\",\"m1\"],\"properties\":[]}",
-            "\"c1\"",
-            no,
-        ),
-        (
-            BOTH,
-            "{\"accountId\":\"a1\",\"ids\":[],\"properties\":[]}",
-            "\"c1\"",
-            no,
-        ),
-        (
-            BOTH,
-            "{\"accountId\":\"a1\",\"ids\":null,\"properties\":[]}",
-            "\"c1\"",
-            no,
-        ),
-        (
-            BOTH,
-            "{\"accountId\":\"a1\",\"ids\":[\"m1\"],\"properties\":null}",
-            "\"c1\"",
-            no,
-        ),
-        (
-            BOTH,
-            "{\"accountId\":\"a1\",\"ids\":[\"m1\"],\"properties\":[\"name\"]}",
-            "\"c1\"",
-            no,
-        ),
-        (
-            BOTH,
-            "{\"accountId\":\"a1\",\"ids\":[\"m1\"]}",
-            "\"c1\"",
-            no,
-        ),
-        (
-            BOTH,
-            "{\"accountId\":\"a1\",\"ids\":[\"m1\"],\"properties\":[],\"x\":1}",
-            "\"c1\"",
-            no,
-        ),
-    ] {
-        let found = shown_call(alloc, uses, arguments, id)?;
-        assert_eq!(rt; found.as_str(), wanted, "{uses} {arguments} {id}");
+    for (uses, arguments, id, wanted) in CALLS {
+        expect_call(&rt, rt.alloc(), uses, arguments, id, wanted)?;
     }
     Ok(())
+}
+
+/// Bodies that are no request.
+const OTHERS: [&[u8]; 11] = [
+    b"",
+    b" ",
+    b"{}",
+    b"[]",
+    b"null",
+    b"{\"using\":[],\"methodCalls\":[]}",
+    b"{\"using\":[\"urn:ietf:params:jmap:core\",\"urn:ietf:params:jmap:mail\"],\"methodCalls\":[]}",
+    b"{\"using\":[\"\xff\"]}",
+    b"{\"using\":[\"urn:ietf:params:jmap:core\",\"urn:ietf:params:jmap:mail\"],\"methodCalls\":[[\"Mailbox/set\",{\"accountId\":\"a1\",\"ids\":[\"m1\"],\"properties\":[]},\"c1\"]]}",
+    b"{\"using\":[\"urn:ietf:params:jmap:core\",\"urn:ietf:params:jmap:mail\"],\"methodCalls\":[[\"Mailbox/get\",{\"accountId\":\"a1\",\"ids\":[\"m1\"],\"properties\":[]},\"c1\"]],\"createdIds\":{}}",
+    b"{\"using\":[\"urn:ietf:params:jmap:core\",\"urn:ietf:params:jmap:mail\"],\"methodCalls\":[[\"Mailbox/get\",{\"accountId\":\"a1\",\"ids\":[\"m1\"],\"properties\":[]},\"c1\"],[\"Mailbox/get\",{\"accountId\":\"a1\",\"ids\":[\"m1\"],\"properties\":[]},\"c1\"]]}",
+];
+
+/// So many octets, and a text behind them.
+fn padded(alloc: Global, octet: u8, count: usize, text: &str) -> Result<Vec<u8>, AllocError> {
+    let mut body = vec![in alloc; octet; count]?;
+    body.extend_from_slice(text.as_bytes())?;
+    Ok(body)
 }
 
 #[test]
 fn bodies(rt: HostRuntime) -> Result<(), Fail> {
     let alloc = rt.alloc();
-    assert_eq!(rt; shown(alloc, WHOLE.as_bytes())?.as_str(), "true true c1");
-    for body in [
-        b"".as_slice(),
-        b" ",
-        b"{}",
-        b"[]",
-        b"null",
-        b"{\"using\":[],\"methodCalls\":[]}",
-        b"{\"using\":[\"urn:ietf:params:jmap:core\",\"urn:ietf:params:jmap:mail\"],\"methodCalls\":[]}",
-        b"{\"using\":[\"\xff\"]}",
-    ] {
-        assert_eq!(rt; shown(alloc, body)?.as_str(), "no request");
+    for body in OTHERS {
+        expect(&rt, alloc, body, NO)?;
     }
-    for body in [
-        "{\"using\":[\"urn:ietf:params:jmap:core\",\"urn:ietf:params:jmap:mail\"],\"methodCalls\":[[\"Mailbox/set\",{\"accountId\":\"a1\",\"ids\":[\"m1\"],\"properties\":[]},\"c1\"]]}",
-        "{\"using\":[\"urn:ietf:params:jmap:core\",\"urn:ietf:params:jmap:mail\"],\"methodCalls\":[[\"Mailbox/get\",{\"accountId\":\"a1\",\"ids\":[\"m1\"],\"properties\":[]},\"c1\"]],\"createdIds\":{}}",
-        "{\"using\":[\"urn:ietf:params:jmap:core\",\"urn:ietf:params:jmap:mail\"],\"methodCalls\":[[\"Mailbox/get\",{\"accountId\":\"a1\",\"ids\":[\"m1\"],\"properties\":[]},\"c1\"],[\"Mailbox/get\",{\"accountId\":\"a1\",\"ids\":[\"m1\"],\"properties\":[]},\"c1\"]]}",
-    ] {
-        assert_eq!(rt;
-            shown(alloc, body.as_bytes())?.as_str(),
-            "no request",
-            "{body}"
-        );
-    }
-    let behind = format!(in alloc; "{WHOLE} {WHOLE}")?;
-    assert_eq!(rt; shown(alloc, behind.as_bytes())?.as_str(), "no request");
-    let mut late = vec![in alloc; b' '; 10_000_000]?;
-    late.extend_from_slice(WHOLE.as_bytes())?;
-    assert_eq!(rt; shown(alloc, &late)?.as_str(), "true true c1");
-    let mut deep = vec![in alloc; b'['; 200]?;
-    assert_eq!(rt; shown(alloc, &deep)?.as_str(), "no request");
-    for _ in 0..200 {
-        deep.push(b']')?;
-    }
-    assert_eq!(rt; shown(alloc, &deep)?.as_str(), "no request");
-    assert_eq!(rt;
-        read_request(alloc, &deep).err(),
-        Some(RequestError::NotRequest)
-    );
+    expect(
+        &rt,
+        alloc,
+        &padded(alloc, b' ', 10_000_000, WHOLE)?,
+        "true true c1",
+    )?;
+    expect(&rt, alloc, &padded(alloc, b' ', 1, "{} {}")?, NO)?;
+    expect(&rt, alloc, &padded(alloc, b'[', 200, "")?, NO)?;
+    expect(&rt, alloc, &padded(alloc, b'[', 200, CLOSED)?, NO)?;
     Ok(())
 }

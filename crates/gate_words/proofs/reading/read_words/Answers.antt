@@ -1,4 +1,4 @@
-use Rattle.std.proofs.Common.{◌≡◌, Some, map, string_bytes, sym, ap, ◌∙◌}
+use Rattle.std.proofs.Common.{Some, map, string_bytes, sym, ap, ◌∙◌}
 use Rattle.gate_words.specs.declared.place.Place.{Place}
 use Rattle.gate_words.proofs.Tasks.{no-task, is-task, not-other}
 use Rattle.gate_words.proofs.reading.read_words.Goals as goal

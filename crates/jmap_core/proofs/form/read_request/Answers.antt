@@ -3,7 +3,6 @@ use Rattle.std.proofs.lemmas.Option.{same_Some, none-some}
 use Rattle.serde_json.specs.View.{view}
 use Rattle.jmap_core.specs.Form.{request_of}
 use Rattle.jmap_core.specs.declared.request.Request.{Request}
-use Rattle.jmap_core.specs.Request.{IsRequest}
 use Rattle.gate_world.specs.declared.text.Text.{Text}
 use Rattle.jmap_core.proofs.Reading.{asks-from, request_of-asks}
 use Rattle.jmap_core.proofs.form.read_request.Goals as goal

@@ -1,4 +1,4 @@
-use Rattle.std.proofs.Common.{refl, ◌∙◌, append_assoc, ◌≡◌, string_bytes}
+use Rattle.std.proofs.Common.{◌∙◌, append_assoc, ◌≡◌, string_bytes}
 use Rattle.std.proofs.lemmas.Result.{IfOk-weaker}
 use Rattle.jmap_core.specs.Session.{session_state_text}
 use Rattle.jmap_core.proofs.session.session_state.Goals as goal
