@@ -8,9 +8,9 @@ use gate_world::{Bytes, Chance, Console, Failed, Front, Link, Secrets, Taped, Te
 #[derive(Drop)]
 pub struct HostWorld<H: Host> {
     host: H,
-    link: TcpLink<H>,
-    front: StandardFront<H::Input, H::Output>,
-    console: ErrorConsole<H::Errors>,
+    pub(crate) link: TcpLink<H>,
+    pub(crate) front: StandardFront<H::Input, H::Output>,
+    pub(crate) console: ErrorConsole<H::Errors>,
     password: Bytes,
     token: Bytes,
 }
