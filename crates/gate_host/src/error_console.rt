@@ -24,8 +24,8 @@ impl<E: Write + Drop> ErrorConsole<E> {
     /// Says the whole text. Where it fails, some of the text may have been said.
     pub fn say(&mut self, text: &[u8]) -> Result<(), Failed>
         ensures octets { OnOk result (Appends (E.contents self.old.stream) (E.contents self.new.stream) text.now) }
-        ensures ok { OnOk result (self.new.faults ≡ self.old.faults) }
-        ensures err { OnErr result (self.new.faults ≡ one_more self.old.faults) }
+        ensures ok { OnOk result (self.new ≡ record self.old { stream = self.new.stream }) }
+        ensures err { OnErr result (self.new ≡ record self.old { stream = self.new.stream; faults = one_more self.old.faults }) }
         ensures later { self.old.faults ≤ self.new.faults }
     {
         match self.stream.write_all(text) {
