@@ -1,6 +1,9 @@
 //! A mail gateway: JMAP for its clients, over the mail of an IMAP store.
 #![tactic(auto)]
 
+ghost use Rattle.std.specs.Prelude.{map, string_bytes, IfOk};
+ghost use Rattle.jmapgate.specs.Store.{NamesStore};
+
 use gate_host::HostWorld;
 use gate_words::{Task, WordsError, read_words};
 use gate_world::{Bytes, Text, Watcher};
@@ -47,7 +50,9 @@ fn words_of(rt: &HostRuntime) -> Result<Vec<String>, AllocError> {
 }
 
 /// The store that the words name. Where they are refused it is empty, and nobody dials it.
-fn store_of(alloc: Global, words: &[String]) -> Result<Text, AllocError> {
+fn store_of(alloc: Global, words: &[String]) -> Result<Text, AllocError>
+    ensures { IfOk result (NamesStore (map string_bytes words.now)) }
+{
     match read_words(alloc, words) {
         Ok(Task::Once { place }) => Ok(place.store),
         Err(WordsError::Refused) => Ok(Text::from_string(String::new(alloc))),
