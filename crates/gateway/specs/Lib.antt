@@ -1,6 +1,7 @@
+pub mod Complete
 pub mod Front
-pub mod Mail
-pub mod Wants
 pub mod Machine
-pub mod Segment
+pub mod Mail
 pub mod Run
+pub mod Segment
+pub mod Wants

@@ -4,6 +4,7 @@ ghost use Rattle.gate_world.specs.Causes.{Rose, Later};
 ghost use Rattle.gate_world.specs.Tape.{Adds};
 ghost use Rattle.gate_words.specs.Task.{IsTask};
 ghost use Rattle.gate_words.specs.declared.task.Task.{Task};
+ghost use Rattle.gateway.specs.Complete.{Completes};
 ghost use Rattle.gateway.specs.Run.{IsRun, Performs, RunsOnce};
 
 use crate::segment::serve_one;
@@ -65,6 +66,10 @@ pub fn run<W: World>(words: &[String], world: &mut W, watchers: &mut Vec<Box<dyn
     // Where the tape is told, it has grown by a run over these words.
     ensures run { Adds (W.tape world.old) (W.tape world.new)
         (IsRun (map string_bytes words.now) (W.hidden world.old).password (W.faults world.old).link (W.faults world.new).link result) }
+
+    // Whoever asks in the form, while the front does not fail and all exchanges are answered OK, is told the counts; or
+    // memory was wanting.
+    ensures complete { (result ≡ 6 → ⊥) → Adds (W.tape world.old) (W.tape world.new) (Completes (map string_bytes words.now) (W.hidden world.old).password) }
 
     // When each status comes, in every world. Want of memory in the words comes before their refusal.
     ensures statuses { (result ≡ 0) ⊎ (result ≡ 2) ⊎ (result ≡ 5) ⊎ (result ≡ 6) }

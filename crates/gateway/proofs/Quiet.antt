@@ -1,0 +1,85 @@
+-- Which octets the events of each part of a run have.
+use Rattle.std.proofs.Common.{◌≡◌, ◌++◌, ℕ, List, [], ◌∷◌, refl, sym, ◌∙◌, ap, All}
+use Rattle.std.specs.List.{flat_map}
+use Rattle.std.proofs.lemmas.List.{append-nil}
+use Rattle.std.proofs.lemmas.List.Concat.{flat_map-append}
+use Rattle.std.proofs.lemmas.List.Elements.{All-head, All-tail}
+use Rattle.gate_world.specs.declared.event.Event.{Event}
+use Rattle.gate_world.specs.declared.event.Event.TheVariants.{Accepted, ClientGave, ClientEnded, ClientTook, ClientDone, Dialed, StoreGave, StoreTook, LinkEnded, Word}
+use Rattle.gate_world.specs.Octets.{store_gave_in, store_took_in, client_gave_in, client_took_in, IsTalk, IsClientGave, IsClientTook}
+
+-- events that all have no octets of a kind
+quiet : (f : Event → List ℕ) (P : Event → Type 0) → ((e : Event) → P e → f e ≡ []) → (es : List Event) → All P es → flat_map f es ≡ []
+quiet f P each [] all = refl
+quiet f P each (e ∷ es) all = (λ i. each e (All-head P e es all) i ++ quiet f P each es (All-tail P e es all) i)
+
+asks_store_gave : (e : Event) → IsClientGave e → store_gave_in e ≡ []
+asks_store_gave (ClientGave octets) here = refl
+asks_store_gave _ never = absurd never
+
+asks_store_took : (e : Event) → IsClientGave e → store_took_in e ≡ []
+asks_store_took (ClientGave octets) here = refl
+asks_store_took _ never = absurd never
+
+asks_client_took : (e : Event) → IsClientGave e → client_took_in e ≡ []
+asks_client_took (ClientGave octets) here = refl
+asks_client_took _ never = absurd never
+
+talk_client_gave : (e : Event) → IsTalk e → client_gave_in e ≡ []
+talk_client_gave (StoreGave octets) here = refl
+talk_client_gave (StoreTook octets) here = refl
+talk_client_gave _ never = absurd never
+
+talk_client_took : (e : Event) → IsTalk e → client_took_in e ≡ []
+talk_client_took (StoreGave octets) here = refl
+talk_client_took (StoreTook octets) here = refl
+talk_client_took _ never = absurd never
+
+heard_client_gave : (e : Event) → IsClientTook e → client_gave_in e ≡ []
+heard_client_gave (ClientTook octets) here = refl
+heard_client_gave _ never = absurd never
+
+heard_store_gave : (e : Event) → IsClientTook e → store_gave_in e ≡ []
+heard_store_gave (ClientTook octets) here = refl
+heard_store_gave _ never = absurd never
+
+heard_store_took : (e : Event) → IsClientTook e → store_took_in e ≡ []
+heard_store_took (ClientTook octets) here = refl
+heard_store_took _ never = absurd never
+
+pub asks_gave_store : (es : List Event) → All IsClientGave es → flat_map store_gave_in es ≡ []
+asks_gave_store = quiet store_gave_in IsClientGave asks_store_gave
+
+pub asks_took_store : (es : List Event) → All IsClientGave es → flat_map store_took_in es ≡ []
+asks_took_store = quiet store_took_in IsClientGave asks_store_took
+
+pub asks_took_client : (es : List Event) → All IsClientGave es → flat_map client_took_in es ≡ []
+asks_took_client = quiet client_took_in IsClientGave asks_client_took
+
+pub talk_gave_client : (es : List Event) → All IsTalk es → flat_map client_gave_in es ≡ []
+talk_gave_client = quiet client_gave_in IsTalk talk_client_gave
+
+pub talk_took_client : (es : List Event) → All IsTalk es → flat_map client_took_in es ≡ []
+talk_took_client = quiet client_took_in IsTalk talk_client_took
+
+pub heard_gave_client : (es : List Event) → All IsClientTook es → flat_map client_gave_in es ≡ []
+heard_gave_client = quiet client_gave_in IsClientTook heard_client_gave
+
+pub heard_gave_store : (es : List Event) → All IsClientTook es → flat_map store_gave_in es ≡ []
+heard_gave_store = quiet store_gave_in IsClientTook heard_store_gave
+
+pub heard_took_store : (es : List Event) → All IsClientTook es → flat_map store_took_in es ≡ []
+heard_took_store = quiet store_took_in IsClientTook heard_store_took
+
+-- a list before one event that has none
+pub before_one : (f : Event → List ℕ) (es : List Event) (e : Event) → f e ≡ [] → flat_map f (es ++ e ∷ []) ≡ flat_map f es
+before_one f es e none = flat_map-append f es (e ∷ []) ∙ ap (λ (l : List ℕ). flat_map f es ++ l) (ap (λ (l : List ℕ). l ++ []) none) ∙ append-nil (flat_map f es)
+
+-- a whole segment
+pub segment_octets : (f : Event → List ℕ) (request heard : List Event) → f Accepted ≡ [] → f ClientDone ≡ [] → flat_map f (Accepted ∷ ((request ++ heard) ++ ClientDone ∷ [])) ≡ flat_map f request ++ flat_map f heard
+segment_octets f request heard accepted done =
+    ap (λ (l : List ℕ). l ++ flat_map f ((request ++ heard) ++ ClientDone ∷ [])) accepted ∙ before_one f (request ++ heard) ClientDone done ∙ flat_map-append f request heard
+
+-- a whole link life
+pub life_octets : (f : Event → List ℕ) (talk : List Event) → f Dialed ≡ [] → f LinkEnded ≡ [] → flat_map f (Dialed ∷ (talk ++ LinkEnded ∷ [])) ≡ flat_map f talk
+life_octets f talk dialed ended = ap (λ (l : List ℕ). l ++ flat_map f (talk ++ LinkEnded ∷ [])) dialed ∙ before_one f talk LinkEnded ended
