@@ -1,5 +1,6 @@
 -- Where lists are cut.
-use Rattle.std.proofs.Common.{◌≡◌, ℕ, ◌+◌, ◌<◌, Bool, true, false, List, [], ◌∷◌, ◌++◌, cond, length, take, drop, get_or, refl, sym, ap, ◌∙◌, subst}
+use Rattle.std.proofs.Common.{◌≡◌, ◌≢◌, ℕ, ◌+◌, ◌<◌, ◌≤◌, Bool, true, false, ◌&&◌, List, [], ◌∷◌, ◌++◌, cond, length, take, drop, get_or, refl, sym, ap, ◌∙◌, subst}
+use Rattle.std.specs.List.{list_all}
 use Rattle.std.proofs.lemmas.Bool.{cond-true, cond-false}
 use Rattle.std.proofs.lemmas.List.{append-nil, take-append-drop, take_more, drop_more}
 use Rattle.text_words.specs.Cuts.{Each, Stops, front, back}
@@ -93,3 +94,35 @@ nothing_behind {A} p t e =
 
 pub all_before : {A : Type 0} (p : A → Bool) (t : List A) → Each p t → back p t ≡ []
 all_before p t e = sym (cut_at_end p t e).back
+
+-- a run that ends before an element outside the class is cut there
+pub run_cut : {A : Type 0} (p : A → Bool) (x y : List A) (s : A) → Each p x → p s ≡ false → SameCut x (front p (x ++ s ∷ y)) (s ∷ y) (back p (x ++ s ∷ y))
+run_cut p x y s e k = record { front = sym (front_is p x (s ∷ y) e k); back = sym (back_is p x (s ∷ y) e k) }
+
+-- there is one such run
+pub one_run : {A : Type 0} (p : A → Bool) (x y u v : List A) (s : A) → Each p x → Each p u → p s ≡ false → x ++ s ∷ y ≡ u ++ s ∷ v → SameCut x u y v
+one_run {A} p x y u v s e f k h =
+    let c = one_cut p x u (s ∷ y) (s ∷ v) h e k f k in
+    record { front = c.front; back = let b = c.back in cc }
+
+-- the same as a test
+pub each_list_all : {A : Type 0} (p : A → Bool) (t : List A) → Each p t → list_all p t ≡ true
+each_list_all p [] e = refl
+each_list_all p (x ∷ t) e = ap (λ (q : Bool). q && list_all p t) e.0 ∙ each_list_all p t e.1
+
+pub list_all_each : {A : Type 0} (p : A → Bool) (t : List A) → list_all p t ≡ true → Each p t
+list_all_each p [] e = tt
+list_all_each {A} p (x ∷ t) e = by (p x) (list_all p t) refl (list_all_each p t) e
+  where
+    by : (q r : Bool) → p x ≡ q → (r ≡ true → Each p t) → (q && r) ≡ true → Each p (x ∷ t)
+    by true true h k e = (h, k refl)
+    by true false h k e = absurd cc
+    by false r h k e = absurd cc
+
+pub all_is : {A : Type 0} (p : A → Bool) (t : List A) (b : Bool) → (b ≡ true → Each p t) → (Each p t → b ≡ true) → b ≡ list_all p t
+all_is {A} p t b f g = by b (list_all p t) refl refl
+  where
+    by : (q r : Bool) → b ≡ q → list_all p t ≡ r → b ≡ list_all p t
+    by true r h k = h ∙ sym (each_list_all p t (f h))
+    by false true h k = g (list_all_each p t k) ∙ sym k
+    by false false h k = h ∙ sym k

@@ -1,7 +1,7 @@
 -- Units one behind another: one reading, and a walk over them.
-use Rattle.std.proofs.Common.{◌≡◌, ◌≢◌, List, [], ◌∷◌, ◌++◌, refl, sym, ap, ◌∙◌, subst, append_assoc}
-use Rattle.std.proofs.lemmas.List.{append-nil}
-use Rattle.text_words.specs.Sequence.{Sequence, IsDetermined}
+use Rattle.std.proofs.Common.{◌≡◌, ◌≢◌, ℕ, ◌+◌, ◌<◌, ◌≤◌, List, [], ◌∷◌, ◌++◌, length, take, drop, refl, sym, ap, ◌∙◌, subst, arith, append_assoc, Option, Some, None}
+use Rattle.std.proofs.lemmas.List.{append-nil, append_cancel_left, length-append, take_at, drop_at}
+use Rattle.text_words.specs.Sequence.{Starts, Sequence, SameStart, IsDetermined, UnitAt}
 
 nothing_left : {A : Type 0} (x s : List A) → x ++ s ≡ [] → x ≡ []
 nothing_left [] s e = refl
@@ -54,3 +54,53 @@ no_more {V} {A} {Is} vs rest b h n none all s = by (h.back all s).0 (h.back all 
     by : (more : List V) → Sequence Is more rest → ⊥
     by [] g = n g
     by (u ∷ us) g = none u g.unit g.rest g.whole g.is
+
+-- A function that reads the unit at the front of a text, and how many elements it has.
+pub record IsReader {V A : Type 0} (Is : V → List A → List A → Type 0) (read : List A → Option (V × ℕ)) : Type 0 where
+  pub sound : (v : V) (n : ℕ) (t : List A) → read t ≡ Some (v, n) → UnitAt Is v n t
+  pub complete : (v : V) (x s : List A) → Is v x s → read (x ++ s) ≡ Some (v, length x)
+  pub some : (v : V) (x s : List A) → Is v x s → x ≢ []
+
+pub record SamePair {V : Type 0} (v w : V) (m n : ℕ) : Type 0 where
+  pub value : v ≡ w
+  pub count : m ≡ n
+
+pub same_pair : {V : Type 0} (v w : V) (m n : ℕ) → ◌≡◌ {A = Option (V × ℕ)} (Some (v, m)) (Some (w, n)) → SamePair v w m n
+same_pair {V} v w m n e =
+    let p : ◌≡◌ {A = V × ℕ} (v, m) (w, n) = cc in
+    record { value = ap (λ (q : V × ℕ). q.0) p; count = ap (λ (q : V × ℕ). q.1) p }
+
+pub determined : {V A : Type 0} {Is : V → List A → List A → Type 0} (read : List A → Option (V × ℕ)) → IsReader Is read → IsDetermined Is
+determined {V} {A} {Is} read r = record { one = one; some = r.some }
+  where
+    one : (v w : V) (x y s t : List A) → x ++ s ≡ y ++ t → Is v x s → Is w y t → SameStart v w x y s t
+    one v w x y s t e i j =
+        let p = same_pair v w (length x) (length y) (sym (r.complete v x s i) ∙ ap read e ∙ r.complete w y t j) in
+        let u : x ≡ y = sym (take_at x s (length x) refl) ∙ ap (take (length x)) e ∙ take_at y t (length x) (sym p.count) in
+        record { value = p.value; unit = u; rest = append_cancel_left y s t (ap (λ (z : List A). z ++ s) (sym u) ∙ e) }
+
+pub record Within (n m : ℕ) : Type 0 where
+  pub some : 0 < n
+  pub within : n ≤ m
+
+-- what is read is some of the text
+pub unit_within : {V A : Type 0} {Is : V → List A → List A → Type 0} (read : List A → Option (V × ℕ)) → IsReader Is read → (v : V) (n : ℕ) (t : List A) → read t ≡ Some (v, n) → Within n (length t)
+unit_within {V} {A} {Is} read r v n t e =
+    let u = r.sound v n t e in
+    record { some = positive u.unit (r.some v u.unit u.rest u.is) u.counted; within = omega (arith, u.counted, ap length u.whole, length-append u.unit u.rest) }
+  where
+    positive : (x : List A) → x ≢ [] → n ≡ length x → 0 < n
+    positive [] k h = absurd (k refl)
+    positive (c ∷ x) k h = omega (arith, h)
+
+-- the unit that is read is the next
+pub read_more : {V A : Type 0} {Is : V → List A → List A → Type 0} (read : List A → Option (V × ℕ)) → IsReader Is read → (vs : List V) (v : V) (n : ℕ) (rest b : List A) → Behind Is vs rest b → read rest ≡ Some (v, n) → Behind Is (vs ++ v ∷ []) (drop n rest) b
+read_more {V} {A} {Is} read r vs v n rest b h e =
+    let u = r.sound v n rest e in
+    let behind : drop n rest ≡ u.rest = ap (drop n) u.whole ∙ drop_at u.unit u.rest n (sym u.counted) in
+    let P : List A → Type 0 = λ t. Behind Is (vs ++ v ∷ []) t b in
+    subst P (sym behind) (one_more (determined read r) vs v u.unit u.rest rest b h u.whole u.is)
+
+-- where nothing is read, the whole is no sequence
+pub read_no_more : {V A : Type 0} {Is : V → List A → List A → Type 0} (read : List A → Option (V × ℕ)) → IsReader Is read → (vs : List V) (rest b : List A) → Behind Is vs rest b → rest ≢ [] → read rest ≡ None → (all : List V) → Sequence Is all b → ⊥
+read_no_more {V} {A} {Is} read r vs rest b h k e = no_more vs rest b h k (λ v x more w i. let q = r.complete v x more i in let p = ap read w in absurd cc)

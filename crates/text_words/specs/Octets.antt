@@ -1,6 +1,7 @@
 -- Classes of octets, and texts that are equal but for the case of their letters.
 use Rattle.std.specs.Prelude.{◌≡◌, ℕ, ◌-◌, Bool, ◌&&◌, ◌||◌, ◌==◌, nat_le, if◌then◌else◌, List, map, Option, Some, None}
 use Rattle.std.specs.Char.{to_ascii_lowercase}
+use Rattle.std.specs.Str.{bytes_eq}
 
 -- a space or a tab
 abbrev pub is_blank : ℕ → Bool
@@ -31,3 +32,7 @@ hex_value c =
 -- the texts are equal where A to Z count as a to z
 abbrev pub SameText : List ℕ → List ℕ → Type 0
 SameText s t = map to_ascii_lowercase s ≡ map to_ascii_lowercase t
+
+-- the same as a test
+abbrev pub is_same_text : List ℕ → List ℕ → Bool
+is_same_text s t = bytes_eq (map to_ascii_lowercase s) (map to_ascii_lowercase t)

@@ -1,4 +1,5 @@
 ghost use Rattle.std.specs.Prelude.{◌≡◌, ◌↔◌, Bool, IsTrue};
+ghost use Rattle.std.specs.List.{list_all};
 ghost use Rattle.text_words.specs.Cuts.{Each, front, back};
 
 /// A class of elements, as a set of octets or of tokens.
@@ -25,7 +26,8 @@ pub fn cut<'a, T, C: Class<T>>(class: &C, items: &'a [T]) -> (&'a [T], &'a [T])
 
 /// Whether each element is in the class.
 pub fn are_all<T, C: Class<T>>(class: &C, items: &[T]) -> bool
-    ensures { IsTrue result ↔ Each C.test items.now }
+    ensures each { IsTrue result ↔ Each C.test items.now }
+    ensures test { result ≡ list_all C.test items.now }
 {
     let (_, rest) = cut(class, items);
     rest.is_empty()

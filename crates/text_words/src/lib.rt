@@ -4,6 +4,7 @@
 
 pub mod class;
 pub mod octets;
+pub mod parts;
 #[cfg(test)]
 mod tests;
 
@@ -11,3 +12,4 @@ pub use class::{Class, are_all, cut};
 pub use octets::{
     Alpha, Blank, Digit, White, hex_value, is_alpha, is_blank, is_digit, is_white, same_text,
 };
+pub use parts::{behind, first, run_before};

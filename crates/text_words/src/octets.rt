@@ -1,4 +1,4 @@
-ghost use Rattle.std.specs.Prelude.{◌≡◌, ◌↔◌, IsTrue};
+ghost use Rattle.std.specs.Prelude.{◌≡◌, ◌<◌, ◌↔◌, IsTrue, IfSome};
 ghost use Rattle.text_words.specs.Octets as octets;
 
 use crate::class::Class;
@@ -61,7 +61,8 @@ pub fn is_white(octet: u8) -> bool
 
 /// What a hexadecimal digit of either case counts.
 pub fn hex_value(octet: u8) -> Option<u8>
-    ensures { result ≡ octets.hex_value octet }
+    ensures value { result ≡ octets.hex_value octet }
+    ensures small { IfSome result (λ v. v < 16) }
 {
     match octet {
         b'0'..=b'9' => Some(octet - b'0'),
@@ -86,7 +87,8 @@ pub fn is_alpha(octet: u8) -> bool
 
 /// Whether the texts are equal where A to Z count as a to z.
 pub fn same_text(one: &[u8], other: &[u8]) -> bool
-    ensures { IsTrue result ↔ octets.SameText one.now other.now }
+    ensures same { IsTrue result ↔ octets.SameText one.now other.now }
+    ensures test { result ≡ octets.is_same_text one.now other.now }
 {
     one.eq_ignore_ascii_case(other)
 }

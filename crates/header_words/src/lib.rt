@@ -1,0 +1,11 @@
+//! What the octets of a mail spell: charsets, encoded words (RFC 2047) and transfer encodings (RFC 2045).
+#![tactic(auto)]
+
+pub mod base64_text;
+pub mod charset;
+pub mod encoded_word;
+pub mod quoted_text;
+pub mod words;
+
+pub use charset::decode_charset;
+pub use words::decode_words;
