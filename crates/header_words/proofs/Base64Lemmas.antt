@@ -1,7 +1,7 @@
 -- A text in base64 is cut behind its symbols.
-use Rattle.std.proofs.Common.{◌≡◌, ◌≢◌, ℕ, ◌≤◌, ◌%◌, Bool, true, false, List, [], ◌∷◌, ◌++◌, length, refl, sym, ap, ◌∙◌, subst, eqb-true, arith}
+use Rattle.std.proofs.Common.{◌≡◌, ◌≢◌, ℕ, ◌≤◌, ◌%◌, false, List, [], ◌∷◌, ◌++◌, length, refl, sym, ap, ◌∙◌, subst, eqb-true}
 use Rattle.text_words.specs.Cuts.{Each, Stops, front, back}
-use Rattle.text_words.proofs.CutLemmas.{front_back, front_each, back_stops, front_is, back_is}
+use Rattle.text_words.proofs.CutLemmas.{front_back, front_each, front_is, back_is}
 use Rattle.header_words.specs.Base64.{is_symbol, is_equals_sign, spelled_octets, IsBase64}
 
 equals_stop : (p : List ℕ) → Each is_equals_sign p → Stops is_symbol p

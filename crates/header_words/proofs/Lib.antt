@@ -3,3 +3,4 @@ pub mod QuotedLemmas
 pub mod Base64Lemmas
 pub mod ShapeLemmas
 pub mod WordLemmas
+pub mod PrintableLemmas

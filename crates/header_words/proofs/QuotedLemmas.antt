@@ -1,9 +1,9 @@
 -- Octets in "Q" are read as they are spelled.
-use Rattle.std.proofs.Common.{◌≡◌, ◌≢◌, ℕ, ◌+◌, ◌*◌, Bool, true, false, List, [], ◌∷◌, ◌++◌, length, cond, refl, sym, ap, ◌∙◌, subst, Option, Some, None, eqb, eqb-true, eq-eqb}
-use Rattle.std.proofs.lemmas.Bool.{cond-true, cond-false, eqb-false, ne_eqb}
+use Rattle.std.proofs.Common.{◌≡◌, ◌≢◌, ℕ, ◌+◌, ◌*◌, Bool, true, false, List, [], ◌∷◌, ◌++◌, length, cond, refl, sym, ap, ◌∙◌, subst, Option, Some, None, eqb, eqb-true}
+use Rattle.std.proofs.lemmas.Bool.{cond-false, eqb-false, ne_eqb}
 use Rattle.text_words.specs.Octets.{hex_value}
-use Rattle.text_words.specs.Sequence.{UnitAt, IsDetermined}
-use Rattle.text_words.proofs.SequenceLemmas.{IsReader, SamePair, same_pair, determined}
+use Rattle.text_words.specs.Sequence.{UnitAt}
+use Rattle.text_words.proofs.SequenceLemmas.{IsReader, same_pair}
 use Rattle.header_words.specs.QuotedText.{IsQUnit, Space, Hex, Itself}
 use Rattle.header_words.specs.Reading.{hex_pair, hex_in, escape_of, q_unit_in}
 

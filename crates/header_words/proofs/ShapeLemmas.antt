@@ -1,12 +1,12 @@
 -- The parts of an encoded word are cut one behind another.
-use Rattle.std.proofs.Common.{◌≡◌, ◌≢◌, ℕ, ◌+◌, ◌-◌, true, false, List, [], ◌∷◌, ◌++◌, length, refl, sym, ap, ◌∙◌, subst, append_assoc, Option, Some, None, Result, Ok, Err, ◌⊎◌, arith}
+use Rattle.std.proofs.Common.{◌≡◌, ℕ, ◌-◌, List, [], ◌∷◌, ◌++◌, length, refl, sym, ap, ◌∙◌, subst, append_assoc, Option, Some, None, Result, Ok, Err, ◌⊎◌, arith}
 use Rattle.std.specs.Option.{IfNone, IfSome}
 use Rattle.std.specs.Result.{IfOk}
 use Rattle.std.proofs.lemmas.List.{length-append}
-use Rattle.text_words.specs.Cuts.{Each, IsRun}
+use Rattle.text_words.specs.Cuts.{IsRun}
 use Rattle.text_words.proofs.CutLemmas.{SameCut, one_run}
 use Rattle.header_words.specs.Base64.{IsBase64}
-use Rattle.header_words.specs.EncodedWords.{is_token, is_encoded, is_b, is_q, HasShape, Spells, InBase64, InQ}
+use Rattle.header_words.specs.EncodedWords.{is_token, is_encoded, HasShape, Spells, InBase64, InQ}
 
 pub if_none : {X : Type 0} {P : Type 0} (r : Option X) → P → IfNone r P
 if_none None p = p

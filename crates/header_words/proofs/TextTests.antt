@@ -1,5 +1,5 @@
 -- Tests of texts, and what they say.
-use Rattle.std.proofs.Common.{◌≡◌, Bool, true, false, not, List, ℕ, refl, ap}
+use Rattle.std.proofs.Common.{◌≡◌, true, false, not, List, ℕ, refl, ap}
 use Rattle.std.specs.Str.{IsUtf8, is_utf8}
 use Rattle.std.proofs.lemmas.Str.{IsUtf8-from_is_utf8, is_utf8-from_IsUtf8}
 

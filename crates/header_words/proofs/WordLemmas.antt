@@ -1,16 +1,15 @@
 -- Encoded words: each is determined by the text that begins with it, and so is a value's text.
-use Rattle.std.proofs.Common.{◌≡◌, ◌≢◌, ℕ, ◌+◌, ◌-◌, ◌<◌, ◌≤◌, Bool, true, false, List, [], ◌∷◌, ◌++◌, length, take, drop, get_or, refl, sym, ap, ◌∙◌, subst, append_assoc, inl, inr, arith}
+use Rattle.std.proofs.Common.{◌≡◌, ℕ, ◌+◌, ◌<◌, ◌≤◌, Bool, true, false, List, [], ◌∷◌, ◌++◌, length, take, drop, get_or, refl, sym, ap, ◌∙◌, subst, append_assoc, inl, inr, arith}
 use Rattle.std.proofs.lemmas.List.{append_cancel_left, length-append, take_at, drop_at, take_more, length-take, take-append-drop}
 use Rattle.std.proofs.lemmas.Bool.{cases_lt}
 use Rattle.text_words.specs.Sequence.{UnitAt}
 use Rattle.text_words.proofs.SequenceLemmas.{determined, one_reading}
-use Rattle.header_words.specs.Base64.{IsBase64}
 use Rattle.header_words.specs.Charsets.{text_in, charset_of}
-use Rattle.header_words.specs.EncodedWords.{is_b, is_q, is_edge, HasShape, Spells, InBase64, InQ, IsEncodedWord, BeginsAtEdge, ends_at_edge, Stands, NoneBefore, HasNone, IsFirst, kept, IsText, Plain, Worded, charset_name}
+use Rattle.header_words.specs.EncodedWords.{is_b, is_q, is_edge, Spells, InBase64, InQ, IsEncodedWord, ends_at_edge, NoneBefore, HasNone, IsFirst, kept, IsText, Plain, Worded, charset_name}
 use Rattle.header_words.specs.Reading.{q_unit_in, IsWordBefore, FoundAt}
 use Rattle.header_words.proofs.QuotedLemmas.{q_reader}
 use Rattle.header_words.proofs.Base64Lemmas.{one_base64}
-use Rattle.header_words.proofs.ShapeLemmas.{SameShape, one_shape, shape_before}
+use Rattle.header_words.proofs.ShapeLemmas.{one_shape, shape_before}
 
 not_both : (l : ℕ) → is_b l ≡ true → is_q l ≡ true → ⊥
 not_both l b q = grind arith

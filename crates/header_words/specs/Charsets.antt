@@ -1,5 +1,5 @@
 -- Charsets (RFC 2045 section 2.2, RFC 3629, ISO 8859-1), and the UTF-8 texts that octets spell in them.
-use Rattle.std.specs.Prelude.{ℕ, Bool, false, not, nat_lt, nat_le, if◌then◌else◌, List, [], ◌∷◌, codes}
+use Rattle.std.specs.Prelude.{ℕ, Bool, false, not, nat_lt, if◌then◌else◌, List, [], ◌∷◌, codes}
 use Rattle.std.specs.Char.{encode_utf8}
 use Rattle.std.specs.List.{flat_map, list_any}
 use Rattle.std.specs.Str.{is_utf8}

@@ -1,7 +1,7 @@
 -- Encoded words (RFC 2047 section 2), and the text of a value that has some.
-use Rattle.std.specs.Prelude.{◌≡◌, ◌≢◌, ℕ, ◌+◌, ◌≤◌, Bool, true, false, not, ◌&&◌, ◌||◌, ◌==◌, if◌then◌else◌, List, [], ◌∷◌, ◌++◌, length}
+use Rattle.std.specs.Prelude.{◌≡◌, ℕ, ◌≤◌, Bool, true, not, ◌&&◌, ◌||◌, ◌==◌, if◌then◌else◌, List, [], ◌∷◌, ◌++◌, length}
 use Rattle.std.specs.List.{list_all}
-use Rattle.text_words.specs.Cuts.{Each, IsRun, Stops, front}
+use Rattle.text_words.specs.Cuts.{IsRun, Stops, front}
 use Rattle.text_words.specs.Octets.{is_between, is_white}
 use Rattle.header_words.specs.Charsets.{charset_of, text_in}
 use Rattle.header_words.specs.Base64.{IsBase64}

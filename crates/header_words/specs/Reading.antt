@@ -1,7 +1,9 @@
 -- What stands at the front of a text, as functions on lists: how the code reads it.
-use Rattle.std.specs.Prelude.{◌≡◌, ℕ, ◌+◌, ◌*◌, ◌==◌, if◌then◌else◌, List, [], ◌∷◌, length, Option, Some, None}
-use Rattle.text_words.specs.Octets.{hex_value}
+use Rattle.std.specs.Prelude.{◌≡◌, ℕ, zero, suc, ◌+◌, ◌*◌, Bool, true, ◌&&◌, ◌==◌, if◌then◌else◌, List, [], ◌∷◌, ◌++◌, length, drop, Option, Some, None}
+use Rattle.text_words.specs.Cuts.{front, back}
+use Rattle.text_words.specs.Octets.{is_blank, hex_value}
 use Rattle.header_words.specs.EncodedWords.{IsEncodedWord, BeginsAtEdge, IsFirst}
+use Rattle.header_words.specs.QuotedPrintable.{Piece, right, begins_with_lf, ends_line}
 
 -- the octet of two hexadecimal digits
 abbrev pub hex_pair : Option ℕ → Option ℕ → Option ℕ
@@ -39,3 +41,39 @@ pub record FoundAt (reading : List ℕ) (start end : ℕ) (t : List ℕ) : Type 
   pub first : IsFirst reading before word behind t
   pub start_is : start ≡ length before
   pub end_is : end ≡ length before + length word
+
+-- how many octets the end of the line at the front has
+abbrev pub line_end_len : List ℕ → ℕ
+line_end_len [] = 0
+line_end_len (c ∷ t) = if c == 10 then 1 else if c == 13 && begins_with_lf t then 2 else 0
+
+-- behind an "=" without hexadecimal digits, so many blanks, and an end of the line of so many octets
+abbrev pub break_of : ℕ → ℕ → Option (Piece × ℕ)
+break_of n zero = Some (record { octets = 61 ∷ []; wrong = true }, 1)
+break_of n (suc k) = Some (right [], 1 + n + suc k)
+
+-- what an "=" begins
+abbrev pub sign_of : Option ℕ → List ℕ → Option (Piece × ℕ)
+sign_of (Some c) t = Some (right (c ∷ []), 3)
+sign_of None t = break_of (length (front is_blank t)) (line_end_len (back is_blank t))
+
+-- blanks at the front, and what follows them
+abbrev pub blanks_of : List ℕ → List ℕ → Option (Piece × ℕ)
+blanks_of blanks rest = if ends_line rest then Some (right [], length blanks) else Some (right blanks, length blanks)
+
+-- the piece at the front of a text in quoted-printable, and how many octets it has
+unfoldable pub piece_in : List ℕ → Option (Piece × ℕ)
+piece_in [] = None
+piece_in (c ∷ t) =
+    if c == 61 then sign_of (hex_in t) t
+    else if is_blank c then blanks_of (front is_blank (c ∷ t)) (back is_blank (c ∷ t))
+    else Some (right (c ∷ []), 1)
+
+-- what was read at the front of a text was written, and rest follows it
+pub record Pushes (read : Option (Piece × ℕ)) (text rest old new : List ℕ) (wrong : Bool) : Type 0 where
+  pub piece : Piece
+  pub len : ℕ
+  pub read_is : read ≡ Some (piece, len)
+  pub rest_is : rest ≡ drop len text
+  pub wrong_is : wrong ≡ piece.wrong
+  pub pushed : new ≡ old ++ piece.octets

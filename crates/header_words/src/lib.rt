@@ -4,8 +4,14 @@
 pub mod base64_text;
 pub mod charset;
 pub mod encoded_word;
+pub mod laws;
+pub mod quoted_printable;
 pub mod quoted_text;
+#[cfg(test)]
+mod tests;
+pub mod transfer;
 pub mod words;
 
 pub use charset::decode_charset;
+pub use transfer::decode_transfer;
 pub use words::decode_words;

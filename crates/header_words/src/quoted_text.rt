@@ -1,4 +1,4 @@
-ghost use Rattle.std.specs.Prelude.{◌≡◌, ℕ, List, IfOk, IfSome, IfNone};
+ghost use Rattle.std.specs.Prelude.{◌≡◌, ◌≤◌, ℕ, List, length, IfOk, IfSome, IfNone};
 ghost use Rattle.header_words.specs.QuotedText.{IsQText};
 ghost use Rattle.header_words.specs.Reading.{escape_of, hex_in, q_unit_in};
 
@@ -54,7 +54,8 @@ fn escaped(digits: &[u8]) -> Option<(u8, usize)>
 
 /// The octet that two hexadecimal digits at the front spell.
 pub fn hex_octet(text: &[u8]) -> Option<u8>
-    ensures { result ≡ hex_in text.now }
+    ensures value { result ≡ hex_in text.now }
+    ensures long { IfSome result (λ _. 2 ≤ length text.now) }
 {
     match text {
         [] | [_] => None,

@@ -1,8 +1,8 @@
 -- Where lists are cut.
-use Rattle.std.proofs.Common.{◌≡◌, ◌≢◌, ℕ, ◌+◌, ◌<◌, ◌≤◌, Bool, true, false, ◌&&◌, List, [], ◌∷◌, ◌++◌, cond, length, take, drop, get_or, refl, sym, ap, ◌∙◌, subst}
+use Rattle.std.proofs.Common.{◌≡◌, ℕ, ◌+◌, ◌<◌, Bool, true, false, ◌&&◌, List, [], ◌∷◌, ◌++◌, cond, length, take, drop, get_or, refl, sym, ap, ◌∙◌, subst}
 use Rattle.std.specs.List.{list_all}
 use Rattle.std.proofs.lemmas.Bool.{cond-true, cond-false}
-use Rattle.std.proofs.lemmas.List.{append-nil, take-append-drop, take_more, drop_more}
+use Rattle.std.proofs.lemmas.List.{append-nil, take-append-drop, drop_at, take_more, drop_more}
 use Rattle.text_words.specs.Cuts.{Each, Stops, front, back}
 
 pub front_back : {A : Type 0} (p : A → Bool) (t : List A) → t ≡ front p t ++ back p t
@@ -126,3 +126,7 @@ all_is {A} p t b f g = by b (list_all p t) refl refl
     by true r h k = h ∙ sym (each_list_all p t (f h))
     by false true h k = g (list_all_each p t k) ∙ sym k
     by false false h k = h ∙ sym k
+
+-- what is cut off stands behind the front
+pub drop_front : {A : Type 0} (p : A → Bool) (t : List A) → drop (length (front p t)) t ≡ back p t
+drop_front p t = ap (drop (length (front p t))) (front_back p t) ∙ drop_at (front p t) (back p t) (length (front p t)) refl

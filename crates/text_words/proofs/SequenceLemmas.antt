@@ -1,7 +1,7 @@
 -- Units one behind another: one reading, and a walk over them.
-use Rattle.std.proofs.Common.{◌≡◌, ◌≢◌, ℕ, ◌+◌, ◌<◌, ◌≤◌, List, [], ◌∷◌, ◌++◌, length, take, drop, refl, sym, ap, ◌∙◌, subst, arith, append_assoc, Option, Some, None}
+use Rattle.std.proofs.Common.{◌≡◌, ◌≢◌, ℕ, ◌<◌, ◌≤◌, List, [], ◌∷◌, ◌++◌, length, take, drop, refl, sym, ap, ◌∙◌, subst, arith, append_assoc, Option, Some, None}
 use Rattle.std.proofs.lemmas.List.{append-nil, append_cancel_left, length-append, take_at, drop_at}
-use Rattle.text_words.specs.Sequence.{Starts, Sequence, SameStart, IsDetermined, UnitAt}
+use Rattle.text_words.specs.Sequence.{Sequence, SameStart, IsDetermined, UnitAt}
 
 nothing_left : {A : Type 0} (x s : List A) → x ++ s ≡ [] → x ≡ []
 nothing_left [] s e = refl
@@ -104,3 +104,10 @@ read_more {V} {A} {Is} read r vs v n rest b h e =
 -- where nothing is read, the whole is no sequence
 pub read_no_more : {V A : Type 0} {Is : V → List A → List A → Type 0} (read : List A → Option (V × ℕ)) → IsReader Is read → (vs : List V) (rest b : List A) → Behind Is vs rest b → rest ≢ [] → read rest ≡ None → (all : List V) → Sequence Is all b → ⊥
 read_no_more {V} {A} {Is} read r vs rest b h k e = no_more vs rest b h k (λ v x more w i. let q = r.complete v x more i in let p = ap read w in absurd cc)
+
+pub unit_same : {V A : Type 0} (Is : V → List A → List A → Type 0) (v w : V) (m n : ℕ) (t : List A) → ◌≡◌ {A = Option (V × ℕ)} (Some (v, m)) (Some (w, n)) → UnitAt Is v m t → UnitAt Is w n t
+unit_same {V} {A} Is v w m n t e u =
+    let p = same_pair v w m n e in
+    let P : V → Type 0 = λ y. UnitAt Is y n t in
+    let Q : ℕ → Type 0 = λ y. UnitAt Is v y t in
+    subst P p.value (subst Q p.count u)

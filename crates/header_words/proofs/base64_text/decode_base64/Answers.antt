@@ -1,6 +1,6 @@
-use Rattle.std.proofs.Common.{◌≡◌, ◌≢◌, ℕ, ◌≤◌, ◌<◌, ◌%◌, true, false, not, List, length, ap, sym, ◌∙◌, subst, arith}
+use Rattle.std.proofs.Common.{ℕ, ◌%◌, List, length, ap, sym, ◌∙◌, subst, arith}
 use Rattle.text_words.specs.Cuts.{Each}
-use Rattle.header_words.specs.Base64.{is_equals_sign, IsBase64}
+use Rattle.header_words.specs.Base64.{is_equals_sign}
 use Rattle.header_words.proofs.Base64Lemmas.{symbols_are, padding_is, is_base64}
 use Rattle.header_words.proofs.base64_text.decode_base64.Goals as goal
 

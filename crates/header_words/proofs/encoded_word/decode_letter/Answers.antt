@@ -1,4 +1,4 @@
-use Rattle.std.proofs.Common.{◌≡◌, ℕ, List}
+use Rattle.std.proofs.Common.{ℕ, List}
 use Rattle.header_words.specs.Base64.{IsBase64}
 use Rattle.header_words.specs.EncodedWords.{Spells}
 use Rattle.header_words.proofs.ShapeLemmas.{none_map, spells_b}

@@ -1,5 +1,4 @@
-use Rattle.std.proofs.Common.{◌≡◌, ℕ, List, [], ◌∷◌, ◌++◌, sym, ap, ◌∙◌}
-use Rattle.header_words.specs.EncodedWords.{HasShape}
+use Rattle.std.proofs.Common.{◌∷◌, ◌++◌}
 use Rattle.header_words.proofs.ShapeLemmas.{NoShape, if_none, behind_charset, behind_text}
 use Rattle.header_words.proofs.encoded_word.shape_at.Goals as goal
 

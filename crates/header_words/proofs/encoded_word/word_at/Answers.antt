@@ -1,8 +1,7 @@
-use Rattle.std.proofs.Common.{◌≡◌, ℕ, List, [], ◌++◌, true, false, sym, ap, ◌∙◌, subst, Vec, Global}
-use Rattle.text_words.specs.Cuts.{Stops, front}
+use Rattle.std.proofs.Common.{ℕ, List, sym, ap, ◌∙◌, subst, Vec, Global}
 use Rattle.header_words.specs.Charsets.{text_in, charset_of}
 use Rattle.header_words.specs.EncodedWords.{BeginsAtEdge, Spells, charset_name}
-use Rattle.header_words.proofs.ShapeLemmas.{SameShape, one_shape, shape_before, shape_word, whole_word, word_len, word_of, take_none, take_some}
+use Rattle.header_words.proofs.ShapeLemmas.{one_shape, shape_before, shape_word, whole_word, word_len, word_of, take_none, take_some}
 use Rattle.header_words.proofs.encoded_word.word_at.Goals as goal
 
 pub returns-then-not-begins_at_edge-clause-none : goal.returns-then-not-begins_at_edge-clause-none

@@ -1,6 +1,6 @@
-use Rattle.std.proofs.Common.{◌≡◌, ◌≢◌, ℕ, List, [], ◌∷◌, ◌++◌, length, Option, Some, None, ap, sym, subst, arith, eqb, true, false, eq-eqb, eqb-true, ◌∙◌, drop}
+use Rattle.std.proofs.Common.{◌≡◌, ◌≢◌, ℕ, List, [], ◌∷◌, ◌++◌, length, Some, None, ap, sym, subst, arith, eqb, true, false, eq-eqb, eqb-true}
 use Rattle.std.proofs.lemmas.List.{nil_from_length}
-use Rattle.text_words.proofs.SequenceLemmas.{Behind, Within, unit_within, read_more, read_no_more, all_done}
+use Rattle.text_words.proofs.SequenceLemmas.{Behind, unit_within, read_more, read_no_more, all_done}
 use Rattle.header_words.specs.QuotedText.{IsQUnit}
 use Rattle.header_words.specs.Reading.{q_unit_in}
 use Rattle.header_words.proofs.QuotedLemmas.{q_reader}

@@ -1,4 +1,4 @@
-use Rattle.std.proofs.Common.{◌≡◌, ◌++◌, ℕ, List, Bool, true, false, sym, ap, ◌∙◌, subst, take, drop}
+use Rattle.std.proofs.Common.{◌++◌, ℕ, List, true, sym, ap, ◌∙◌, subst, take}
 use Rattle.header_words.specs.EncodedWords.{HasNone, kept}
 use Rattle.header_words.specs.Reading.{FoundAt}
 use Rattle.header_words.specs.declared.words.Found.{Found}

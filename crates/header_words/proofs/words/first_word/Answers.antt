@@ -1,4 +1,4 @@
-use Rattle.std.proofs.Common.{◌≡◌, ◌++◌, ◌∷◌, [], ℕ, List, Bool, true, refl, get_or, sym, ap, ◌∙◌, subst}
+use Rattle.std.proofs.Common.{◌≡◌, ◌++◌, ℕ, List, true, refl, get_or, ◌∙◌, subst}
 use Rattle.text_words.specs.Sequence.{UnitAt}
 use Rattle.header_words.specs.Reading.{IsWordBefore}
 use Rattle.header_words.specs.declared.encoded_word.Word.{Word}

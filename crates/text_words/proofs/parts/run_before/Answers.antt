@@ -1,6 +1,6 @@
-use Rattle.std.proofs.Common.{◌≡◌, ◌≢◌, ℕ, List, [], ◌∷◌, ◌++◌, length, eqb, eqb-true, eq-eqb, true, false, sym, ap, ◌∙◌, subst}
+use Rattle.std.proofs.Common.{◌≡◌, ℕ, List, ◌++◌, length, eqb, eqb-true, eq-eqb, true, false, sym, ap, ◌∙◌, subst}
 use Rattle.std.proofs.lemmas.List.{nil_from_length}
-use Rattle.text_words.specs.Cuts.{Each, IsRun, front, back}
+use Rattle.text_words.specs.Cuts.{Each, front, back}
 use Rattle.text_words.proofs.CutLemmas.{front_back, front_each, run_cut}
 use Rattle.text_words.proofs.parts.run_before.Goals as goal
 
