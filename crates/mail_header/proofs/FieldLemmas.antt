@@ -1,19 +1,19 @@
 -- Blocks of lines, fields, and the walk over them.
-use Rattle.std.proofs.Common.{◌≡◌, ◌≢◌, ℕ, zero, suc, ◌+◌, ◌-◌, ◌<◌, ◌≤◌, Bool, true, false, not, ◌&&◌, ◌⊎◌, inl, inr, List, [], ◌∷◌, ◌++◌, length, take, drop, get_or, map, cond, refl, sym, ap, ◌∙◌, subst, append_assoc, Option, Some, None, eqb, eqb-true, arith}
+use Rattle.std.proofs.Common.{◌≡◌, ◌≢◌, ℕ, zero, suc, ◌+◌, ◌-◌, ◌<◌, ◌≤◌, Bool, true, false, ◌&&◌, inl, inr, List, [], ◌∷◌, ◌++◌, length, take, drop, get_or, cond, refl, sym, ap, ◌∙◌, subst, Option, Some, None, eqb, arith}
 use Rattle.std.specs.List.{flat_map}
 use Rattle.std.proofs.lemmas.Bool.{cond-true, cond-false}
 use Rattle.std.proofs.lemmas.Grind.{flat_map-append}
 use Rattle.std.proofs.lemmas.List.{append-nil, append_cancel_left, length-append, take_at, drop_at, drop_more, take-append-drop, map-append}
 use Rattle.text_words.specs.Cuts.{Each, IsRun, Stops, front, back}
 use Rattle.text_words.specs.Octets.{is_blank, is_same_text}
-use Rattle.text_words.specs.Sequence.{Sequence, SameStart, IsDetermined}
-use Rattle.text_words.proofs.CutLemmas.{SameCut, one_cut, front_is, back_is, front_back, front_each}
+use Rattle.text_words.specs.Sequence.{SameStart, IsDetermined}
+use Rattle.text_words.proofs.CutLemmas.{front_is, back_is, front_back, front_each}
 use Rattle.text_words.proofs.SequenceLemmas.{Behind, begins, one_more, all_done, one_reading}
 use Rattle.mail_header.specs.Lines.{IsLineEnd, Lf, CrLf, begins_with_lf, line_end_len, without_end}
-use Rattle.mail_header.specs.Fields.{is_name, IsField, begins_with_blank, ends_block, IsBlock, Part, AField, Other, Body, IsPart, ThisField, OtherLines, ThisBody, NameAndRaw, field_in, body_in, fields_view, IsHeader, later_or, last_named}
+use Rattle.mail_header.specs.Fields.{is_name, IsField, ends_block, IsBlock, Part, AField, Other, Body, IsPart, ThisField, OtherLines, ThisBody, NameAndRaw, field_in, body_in, fields_view, IsHeader, later_or, last_named}
 use Rattle.mail_header.specs.declared.header.Field.{Field}
 use Rattle.mail_header.specs.Reading.{block_len, Adds, Added, Passed}
-use Rattle.mail_header.proofs.LineLemmas.{end_len, end_some, EndsAt, end_found}
+use Rattle.mail_header.proofs.LineLemmas.{end_len, end_some, end_found}
 
 -- ---- blocks
 

@@ -1,3 +1,5 @@
 pub mod Lines
 pub mod Fields
+pub mod RawForms
+pub mod Bracketed
 pub mod Reading

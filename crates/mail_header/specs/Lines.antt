@@ -1,5 +1,5 @@
 -- Ends of lines (RFC 5322 section 2.1): LF, or CR LF.
-use Rattle.std.specs.Prelude.{◌≡◌, ℕ, Bool, true, false, ◌&&◌, ◌||◌, ◌==◌, if◌then◌else◌, List, [], ◌∷◌, ◌++◌}
+use Rattle.std.specs.Prelude.{ℕ, Bool, false, ◌&&◌, ◌||◌, ◌==◌, if◌then◌else◌, List, [], ◌∷◌}
 
 pub data IsLineEnd : List ℕ → Type 0 where
   Lf : IsLineEnd (10 ∷ [])

@@ -2,8 +2,15 @@
 #![tactic(auto)]
 
 pub mod blocks;
+pub mod bracketed;
 pub mod header;
+pub mod laws;
 pub mod lines;
+pub mod raw_forms;
+#[cfg(test)]
+mod tests;
 
 pub use blocks::fields;
+pub use bracketed::{as_message_ids, as_urls};
 pub use header::{Field, Fields};
+pub use raw_forms::{as_raw, as_text};

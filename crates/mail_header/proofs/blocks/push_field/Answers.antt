@@ -1,4 +1,4 @@
-use Rattle.std.proofs.Common.{◌≡◌, ◌++◌, ◌∷◌, [], ℕ, List, sym, subst}
+use Rattle.std.proofs.Common.{List, sym, subst}
 use Rattle.mail_header.specs.Fields.{NameAndRaw, fields_view}
 use Rattle.mail_header.specs.Reading.{Adds, Added, Passed}
 use Rattle.mail_header.proofs.FieldLemmas.{pushed_view}

@@ -1,4 +1,4 @@
-use Rattle.std.proofs.Common.{◌≡◌, ◌+◌, ◌-◌, ◌<◌, List, ℕ, length, true, Option, Some, sym, ap, ◌∙◌, arith}
+use Rattle.std.proofs.Common.{◌≡◌, ◌-◌, List, ℕ, true, Some, sym, ap, ◌∙◌, arith}
 use Rattle.text_words.specs.Octets.{is_same_text}
 use Rattle.mail_header.specs.declared.header.Field.{Field}
 use Rattle.mail_header.specs.Fields.{fields_view, last_named}
