@@ -3,3 +3,6 @@ pub mod Fields
 pub mod RawForms
 pub mod Bracketed
 pub mod Reading
+pub mod Tokens
+pub mod TokenReading
+pub mod TokenView

@@ -9,6 +9,8 @@ pub mod lines;
 pub mod raw_forms;
 #[cfg(test)]
 mod tests;
+pub mod token;
+pub mod tokens;
 
 pub use blocks::fields;
 pub use bracketed::{as_message_ids, as_urls};
