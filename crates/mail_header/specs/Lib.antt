@@ -6,3 +6,5 @@ pub mod Reading
 pub mod Tokens
 pub mod TokenReading
 pub mod TokenView
+pub mod Lexemes
+pub mod Dates

@@ -3,8 +3,11 @@
 
 pub mod blocks;
 pub mod bracketed;
+pub mod date;
+pub mod dates;
 pub mod header;
 pub mod laws;
+pub mod lexemes;
 pub mod lines;
 pub mod raw_forms;
 #[cfg(test)]
