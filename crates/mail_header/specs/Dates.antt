@@ -1,6 +1,6 @@
 -- Dates (RFC 5322 sections 3.3 and 4.3). Each production reads what stands at the front of the lexemes, and gives
 -- its value and what follows it.
-use Rattle.std.specs.Prelude.{◌≡◌, ℕ, ℤ, pos, negsuc, ◌+◌, ◌-◌, ◌*◌, ◌/◌, ◌%◌, ◌-ℤ◌, ◌*ℤ◌, min, Bool, true, false, not, ◌&&◌, ◌||◌, ◌==◌, nat_le, nat_lt, if◌then◌else◌, List, [], ◌∷◌, length, Option, Some, None, codes}
+use Rattle.std.specs.Prelude.{ℕ, ℤ, pos, negsuc, ◌+◌, ◌-◌, ◌*◌, ◌/◌, ◌%◌, ◌-ℤ◌, ◌*ℤ◌, min, Bool, true, false, not, ◌&&◌, ◌||◌, ◌==◌, nat_le, nat_lt, if◌then◌else◌, List, [], ◌∷◌, length, Option, Some, None, codes}
 use Rattle.std.specs.List.{list_all}
 use Rattle.std.specs.Str.{bytes_eq}
 use Rattle.text_words.specs.Octets.{is_digit, is_alpha, is_same_text}
@@ -146,14 +146,19 @@ days_in y m =
     else if m == 4 || m == 6 || m == 9 || m == 11 then 30
     else 31
 
+-- days of a year that isn't a leap year before March or a later month
+abbrev pub days_before_later : ℕ → ℕ
+days_before_later m =
+    if m == 3 then 59 else if m == 4 then 90 else if m == 5 then 120 else if m == 6 then 151 else if m == 7 then 181
+    else if m == 8 then 212 else if m == 9 then 243 else if m == 10 then 273 else if m == 11 then 304 else 334
+
 -- days of a year before a month
 abbrev pub days_before : ℕ → ℕ → ℕ
 days_before y m =
     if m == 1 then 0
     else if m == 2 then 31
-    else (if is_leap y then 1 else 0)
-    + (if m == 3 then 59 else if m == 4 then 90 else if m == 5 then 120 else if m == 6 then 151 else if m == 7 then 181
-    else if m == 8 then 212 else if m == 9 then 243 else if m == 10 then 273 else if m == 11 then 304 else 334)
+    else if is_leap y then 1 + days_before_later m
+    else days_before_later m
 
 -- days from the first of January of the year 0 on
 abbrev pub day_number : ℕ → ℕ → ℕ → ℕ

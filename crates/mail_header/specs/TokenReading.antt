@@ -1,5 +1,5 @@
 -- The token at the front of a text, as functions on lists.
-use Rattle.std.specs.Prelude.{ℕ, suc, ◌+◌, ◌-◌, Bool, true, false, ◌==◌, if◌then◌else◌, List, [], ◌∷◌, length, take, Option, Some, None}
+use Rattle.std.specs.Prelude.{ℕ, ◌+◌, ◌-◌, Bool, true, false, ◌==◌, if◌then◌else◌, List, [], ◌∷◌, length, take, Option, Some, None}
 use Rattle.text_words.specs.Cuts.{front}
 use Rattle.text_words.specs.Octets.{is_white}
 use Rattle.mail_header.specs.declared.token.Kind.{Kind}

@@ -1,5 +1,5 @@
 -- The tokens of a header's value (RFC 5322 section 3.2), and the texts that spell them.
-use Rattle.std.specs.Prelude.{◌≡◌, ◌≢◌, ℕ, ◌+◌, Bool, true, false, not, ◌&&◌, ◌||◌, ◌==◌, nat_lt, List, [], ◌∷◌, ◌++◌, length}
+use Rattle.std.specs.Prelude.{◌≡◌, ◌≢◌, ℕ, Bool, true, not, ◌&&◌, ◌||◌, ◌==◌, nat_lt, List, [], ◌∷◌, ◌++◌}
 use Rattle.text_words.specs.Cuts.{IsRun, Stops}
 use Rattle.text_words.specs.Octets.{is_white}
 use Rattle.text_words.specs.Sequence.{Sequence}

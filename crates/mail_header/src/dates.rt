@@ -2,15 +2,9 @@ ghost use Rattle.std.specs.Prelude.{◌≡◌, ◌≢◌, ◌<◌, ◌≤◌, �
 ghost use Rattle.mail_header.specs.Dates as dates;
 ghost use Rattle.mail_header.specs.TokenView.{token_view, tokens_view};
 
-use crate::date::{Clock, Day, Moment};
-use crate::lexemes::lexemes;
-use crate::raw_forms::as_raw;
+use crate::date::{Clock, Day};
 use crate::token::{Kind, Token};
-use std::alloc::{AllocError, Global};
-use text_words::{Alpha, Digit, are_all, same_text};
-
-/// The seconds from the first of January of the year 0 to the first of January 1970.
-const EPOCH: i64 = 62_167_219_200;
+use text_words::{Digit, are_all, same_text};
 
 fn is_atom(kind: Kind) -> bool
     ensures { result ≡ dates.is_atom kind }
@@ -32,7 +26,7 @@ fn is_sign(sign: u8, token: &Token<'_>) -> bool
 }
 
 /// The atom at the front, and what follows it.
-fn atom<'a, 'b>(lexemes: &'b [Token<'a>]) -> Option<(&'a [u8], &'b [Token<'a>])>
+pub(crate) fn atom<'a, 'b>(lexemes: &'b [Token<'a>]) -> Option<(&'a [u8], &'b [Token<'a>])>
     ensures { MatchOption result (dates.atom_in (tokens_view lexemes.now) ≡ None) (λ r. dates.atom_in (tokens_view lexemes.now) ≡ Some (r.0.now, tokens_view r.1.now)) }
 {
     match lexemes {
@@ -93,7 +87,7 @@ fn value(digits: &[u8]) -> u32
 }
 
 /// The number that a text of so many digits spells.
-fn number_of(low: usize, high: usize, text: &[u8]) -> Option<u32>
+pub(crate) fn number_of(low: usize, high: usize, text: &[u8]) -> Option<u32>
     requires { high ≤ 4 }
     ensures value { result ≡ dates.number_of low high text.now }
     ensures small { IfSome result (λ n. n < 300000) }
@@ -239,7 +233,7 @@ fn second<'a, 'b>(lexemes: &'b [Token<'a>]) -> Option<(u32, &'b [Token<'a>])>
 }
 
 /// The day at the front, and what follows it.
-fn day<'a, 'b>(lexemes: &'b [Token<'a>]) -> Option<(Day, &'b [Token<'a>])>
+pub(crate) fn day<'a, 'b>(lexemes: &'b [Token<'a>]) -> Option<(Day, &'b [Token<'a>])>
     ensures value { MatchOption result (dates.day_in (tokens_view lexemes.now) ≡ None) (λ r. dates.day_in (tokens_view lexemes.now) ≡ Some (r.0, tokens_view r.1.now)) }
     ensures small { IfSome result (λ r. r.0.year < 310000) }
 {
@@ -250,7 +244,7 @@ fn day<'a, 'b>(lexemes: &'b [Token<'a>]) -> Option<(Day, &'b [Token<'a>])>
 }
 
 /// The time of the day at the front, and what follows it.
-fn clock<'a, 'b>(lexemes: &'b [Token<'a>]) -> Option<(Clock, &'b [Token<'a>])>
+pub(crate) fn clock<'a, 'b>(lexemes: &'b [Token<'a>]) -> Option<(Clock, &'b [Token<'a>])>
     ensures { MatchOption result (dates.clock_in (tokens_view lexemes.now) ≡ None) (λ r. dates.clock_in (tokens_view lexemes.now) ≡ Some (r.0, tokens_view r.1.now)) }
 {
     let (hour, rest) = number(2, 2, lexemes)?;

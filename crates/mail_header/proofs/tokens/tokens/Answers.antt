@@ -1,6 +1,6 @@
-use Rattle.std.proofs.Common.{◌≡◌, ◌≢◌, ℕ, List, [], ◌∷◌, ◌++◌, length, take, drop, Option, Some, None, ap, sym, subst, arith, eqb, true, false, eq-eqb, eqb-true, ◌∙◌}
+use Rattle.std.proofs.Common.{◌≡◌, ◌≢◌, ℕ, List, [], ◌∷◌, ◌++◌, length, take, Some, None, ap, sym, subst, arith, eqb, true, false, eq-eqb, eqb-true, ◌∙◌}
 use Rattle.std.proofs.lemmas.List.{nil_from_length, map-append}
-use Rattle.text_words.proofs.SequenceLemmas.{Behind, Within, unit_within, read_more, read_no_more, all_done}
+use Rattle.text_words.proofs.SequenceLemmas.{Behind, unit_within, read_more, read_no_more, all_done}
 use Rattle.mail_header.specs.declared.token.Kind.{Kind}
 use Rattle.mail_header.specs.declared.token.Token.{Token}
 use Rattle.mail_header.specs.Tokens.{Spelled, IsToken}
