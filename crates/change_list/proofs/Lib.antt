@@ -1,0 +1,13 @@
+pub mod Ascending
+pub mod Counting
+pub mod HistoryLaws
+pub mod MapLaws
+pub mod Growth
+pub mod CopyLaws
+pub mod AnswerLaws
+pub mod Gathering
+pub mod Picked
+pub mod FromSeen
+pub mod Phases
+pub mod AdvanceLaws
+pub mod FromTouched

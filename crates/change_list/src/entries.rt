@@ -1,0 +1,35 @@
+ghost use Rattle.std.specs.Prelude.{◌≡◌};
+ghost use Rattle.change_list.specs.Touches.{leaves, finds};
+
+/// What a touch does to its id.
+#[derive(Clone, Copy, Debug, PartialEq, Eq)]
+pub enum Kind {
+    Added,
+    Changed,
+    Removed,
+}
+
+impl Kind {
+    /// Whether the id is there after the touch.
+    pub(crate) fn leaves(self) -> bool
+        ensures { result ≡ leaves self }
+    {
+        self != Kind::Removed
+    }
+
+    /// Whether the id was there before the touch.
+    pub(crate) fn finds(self) -> bool
+        ensures { result ≡ finds self }
+    {
+        self != Kind::Added
+    }
+}
+
+/// One touch of a type: the id at which two neighbouring maps differ.
+#[derive(Clone, Copy, Debug, PartialEq, Eq)]
+pub struct Entry {
+    pub id: u64,
+    pub kind: Kind,
+    /// Whether the touch changed nothing but counts (RFC 8621, section 2.2).
+    pub counts_only: bool,
+}

@@ -1,0 +1,21 @@
+//! The outside of the gateway on a real host: a store over TCP, a client over the standard streams, a console, and
+//! random words. None of them tells a tape; each counts its faults.
+#![tactic(auto)]
+
+mod chance;
+mod error_console;
+mod faults;
+mod host;
+mod host_world;
+mod standard_front;
+mod streams;
+mod tcp_link;
+#[cfg(test)]
+mod tests;
+
+pub use chance::random_word;
+pub use error_console::ErrorConsole;
+pub use host::Host;
+pub use host_world::HostWorld;
+pub use standard_front::StandardFront;
+pub use tcp_link::TcpLink;

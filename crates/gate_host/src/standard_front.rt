@@ -1,0 +1,78 @@
+// One client, over an input and an output.
+ghost use Rattle.std.specs.Prelude.{◌≡◌, ◌<◌, ◌≤◌, ◌↔◌, length, take, false, true, IsTrue, IfOk, OnOk, OnErr};
+ghost use Rattle.std.specs.Io.KnownBytes.{Appends, Keeps, ReadConsumes};
+ghost use Rattle.gate_host.specs.Faults.{one_more};
+
+use crate::faults::raised;
+use crate::streams::{read_once, write_some};
+use gate_world::Failed;
+use std::io::{Read, Write};
+
+/// A front with one client, who gives an input and takes an output.
+#[derive(Drop)]
+pub struct StandardFront<I: Read + Drop, O: Write + Drop> {
+    pub input: I,
+    pub output: O,
+    pub has_come: bool,
+    pub faults: u64,
+}
+
+impl<I: Read + Drop, O: Write + Drop> StandardFront<I, O> {
+    /// A front whose client has not come yet.
+    pub fn new(input: I, output: O) -> StandardFront<I, O>
+        ensures { result ≡ record { input = input; output = output; has_come = false; faults = 0 } }
+    {
+        StandardFront {
+            input,
+            output,
+            has_come: false,
+            faults: 0,
+        }
+    }
+
+    fn fail(&mut self) -> Failed
+        ensures same { self.new ≡ record self.old { faults = one_more self.old.faults } }
+        ensures later { self.old.faults ≤ self.new.faults }
+    {
+        self.faults = raised(self.faults);
+        Failed
+    }
+
+    /// Whether the client comes: the first time alone.
+    pub fn accept(&mut self) -> bool
+        ensures first { IsTrue result ↔ (self.old.has_come ≡ false) }
+        ensures same { self.new ≡ record self.old { has_come = true } }
+    {
+        let is_first = !self.has_come;
+        self.has_come = true;
+        is_first
+    }
+
+    /// What the client gives next. It is 0 where its input ended.
+    pub fn recv(&mut self, into: &mut [u8]) -> Result<usize, Failed>
+        ensures bound { IfOk result (λ n. n ≤ length into.new) }
+        ensures octets { ReadConsumes (I.remaining self.old.input) (I.remaining self.new.input) result into.new }
+        ensures ok { OnOk result (self.new ≡ record self.old { input = self.new.input }) }
+        ensures err { OnErr result (self.new ≡ record self.old { input = self.new.input; faults = one_more self.old.faults }) }
+        ensures later { self.old.faults ≤ self.new.faults }
+    {
+        match read_once(&mut self.input, into) {
+            Ok(count) => Ok(count),
+            Err(_) => Err(self.fail()),
+        }
+    }
+
+    /// Gives the client some of the octets, from their front.
+    pub fn send(&mut self, from: &[u8]) -> Result<usize, Failed>
+        ensures bound { IfOk result (λ n. (0 < n) × (n ≤ length from.now)) }
+        ensures octets { IfOk result (λ n. Appends (O.contents self.old.output) (O.contents self.new.output) (take n from.now)) }
+        ensures ok { OnOk result (self.new ≡ record self.old { output = self.new.output }) }
+        ensures err { OnErr result (self.new ≡ record self.old { output = self.new.output; faults = one_more self.old.faults }) }
+        ensures later { self.old.faults ≤ self.new.faults }
+    {
+        match write_some(&mut self.output, from) {
+            Some(count) => Ok(count),
+            None => Err(self.fail()),
+        }
+    }
+}

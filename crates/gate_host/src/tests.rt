@@ -1,0 +1,166 @@
+// A world over loopback and memory, and an input that fails.
+use crate::{Host, HostWorld, StandardFront};
+use gate_world::{Bytes, Chance, Console, Failed, Front, Link, Secrets, Text};
+use std::alloc::Global;
+use std::io;
+use std::io::{ErrorKind, Read, Write};
+use std::net::{Net, SocketAddr, TcpListener, TcpStream};
+use std::random::RandomSource;
+use std::rt::Clock;
+use std::test::Fail;
+use std::time::Duration;
+
+/// A host with a network, streams in memory, a clock that stands still and no random octets.
+#[derive(Clone, Copy)]
+struct Desk {
+    rt: HostRuntime,
+    alloc: Global,
+}
+
+impl Net for Desk {
+    type Stream = TcpStream;
+
+    type Listener = TcpListener;
+
+    fn bind(&self, addr: SocketAddr) -> io::Result<TcpListener> {
+        self.rt.bind(addr)
+    }
+
+    fn connect(&self, addr: SocketAddr) -> io::Result<TcpStream> {
+        self.rt.connect(addr)
+    }
+
+    fn connect_timeout(&self, addr: SocketAddr, timeout: Duration) -> io::Result<TcpStream> {
+        self.rt.connect_timeout(addr, timeout)
+    }
+}
+
+impl Clock for Desk {
+    fn monotonic(&self) -> io::Result<Duration> {
+        Ok(Duration::ZERO)
+    }
+
+    fn since_1970(&self) -> io::Result<Duration> {
+        Ok(Duration::new(1, 5))
+    }
+}
+
+impl RandomSource for Desk {
+    fn fill_bytes(&self, _buf: &mut [u8]) -> io::Result<()> {
+        Err(io::Error::from(ErrorKind::Unsupported))
+    }
+}
+
+impl Host for Desk {
+    type Input = &'static [u8];
+
+    type Output = Vec<u8>;
+
+    type Errors = Vec<u8>;
+
+    fn input(&self) -> &'static [u8] {
+        b"ask"
+    }
+
+    fn output(&self) -> Vec<u8> {
+        Vec::new(self.alloc)
+    }
+
+    fn errors(&self) -> Vec<u8> {
+        Vec::new(self.alloc)
+    }
+
+    fn process_number(&self) -> u32 {
+        3
+    }
+}
+
+fn world_at(rt: HostRuntime, listener: &TcpListener) -> Result<HostWorld<Desk>, Fail> {
+    let alloc = rt.alloc();
+    let address = listener.local_addr()?;
+    let store = Text::from_string(format!(in alloc; "{address}")?);
+    let password = Bytes::copy_of(alloc, b"pw")?;
+    let token = Bytes::copy_of(alloc, b"word")?;
+    Ok(HostWorld::new(Desk { rt, alloc }, store, password, token))
+}
+
+#[test]
+fn the_link_carries_octets_both_ways_and_counts_its_faults(rt: HostRuntime) -> Result<(), Fail> {
+    let listener = TcpListener::bind(&rt, "127.0.0.1:0")?;
+    let mut world = world_at(rt, &listener)?;
+    let mut room = [0u8; 16];
+    assert!(rt; world.read(&mut room) == Err(Failed));
+    assert!(rt; world.write(b"hello") == Err(Failed));
+    assert_eq!(rt; world.link.faults, 2);
+    assert!(rt; world.dial().is_ok());
+    let (mut store, _) = listener.accept()?;
+    assert!(rt; world.write(b"hello") == Ok(5));
+    assert!(rt; store.read(&mut room)? == 5);
+    assert_eq!(rt; &room[..5], b"hello".as_slice());
+    assert!(rt; store.write(b"back")? == 4);
+    assert!(rt; world.read(&mut room) == Ok(4));
+    assert_eq!(rt; &room[..4], b"back".as_slice());
+    assert_eq!(rt; world.link.faults, 2);
+
+    drop(store);
+    assert!(rt; world.read(&mut room) == Err(Failed), "the store hung up");
+    assert_eq!(rt; world.link.faults, 3);
+    world.hang_up();
+    drop(listener);
+    assert!(rt; world.dial() == Err(Failed), "nobody listens");
+    assert_eq!(rt; world.link.faults, 4);
+    Ok(())
+}
+
+#[test]
+fn the_other_parts_of_a_world(rt: HostRuntime) -> Result<(), Fail> {
+    let listener = TcpListener::bind(&rt, "127.0.0.1:0")?;
+    let mut world = world_at(rt, &listener)?;
+    let mut room = [0u8; 2];
+    assert!(rt; world.accept() == Ok(true));
+    assert!(rt; world.recv(&mut room) == Ok(2));
+    assert_eq!(rt; &room, b"as");
+    assert!(rt; world.recv(&mut room) == Ok(1));
+    assert!(rt; world.recv(&mut room) == Ok(0));
+    assert!(rt; world.send(b"answer") == Ok(6));
+    assert_eq!(rt; world.front.output.as_slice(), b"answer".as_slice());
+    world.finish();
+    assert!(rt; world.accept() == Ok(false));
+    assert_eq!(rt; world.front.faults, 0);
+
+    assert!(rt; world.say(b"line\n").is_ok());
+    assert_eq!(rt; world.console.stream.as_slice(), b"line\n".as_slice());
+    assert_eq!(rt; world.word(), 1_000_000_005 + (3 << 32));
+    assert_eq!(rt; world.password(), b"pw".as_slice());
+    assert_eq!(rt; world.token(), b"word".as_slice());
+    Ok(())
+}
+
+/// An input that a signal breaks into, and that then fails once.
+#[derive(Drop)]
+struct Rough {
+    reads: u8,
+}
+
+impl Read for Rough {
+    fn read(&mut self, buf: &mut [u8]) -> io::Result<usize> {
+        self.reads = self.reads.saturating_add(1);
+        match self.reads {
+            1 | 3 => Err(io::Error::from(ErrorKind::Interrupted)),
+            2 | 5 => Ok(buf.len().min(1)),
+            _ => Err(io::Error::from(ErrorKind::ConnectionReset)),
+        }
+    }
+}
+
+#[test]
+fn a_signal_is_no_fault_and_a_reset_is_one(rt: HostRuntime) {
+    let mut front = StandardFront::new(Rough { reads: 0 }, Vec::new(rt.alloc()));
+    let mut room = [0u8; 2];
+    assert!(rt; front.recv(&mut room) == Ok(1));
+    assert_eq!(rt; front.faults, 0);
+    assert!(rt; front.recv(&mut room) == Err(Failed));
+    assert_eq!(rt; front.faults, 1);
+    assert!(rt; front.recv(&mut room) == Ok(1));
+    assert_eq!(rt; front.faults, 1);
+}

@@ -1,0 +1,56 @@
+-- Options as they are written, and as they are read.
+use Rattle.std.proofs.Common.{◌≡◌, ◌⊎◌, inl, inr, ℕ, List, [], ◌∷◌, ◌++◌, true, false, ◌==◌, Some, None, refl, sym, ap, ◌∙◌, codes}
+use Rattle.std.specs.Str.{bytes_eq}
+use Rattle.std.proofs.lemmas.Bool.{eqb-true, eq-eqb}
+use Rattle.std.proofs.lemmas.Option.{none-some, same_Some}
+use Rattle.gate_words.specs.Options.{name_text, Setting, joined_text, BeginsWithDash}
+use Rattle.gate_words.specs.Given.{cut, name_of, named, joined, begins_with_dash}
+use Rattle.gate_words.specs.declared.option.Name.{Name}
+use Rattle.gate_words.specs.declared.option.Name.TheVariants.{Store, User, Base}
+use Rattle.gate_words.proofs.Cut.{cut-is}
+use Rattle.gate_words.proofs.Steps.{and_then-some, map-some, is_or_not}
+
+name-from : (word : List ℕ) (name : Name) → (word ≡ codes "--store") ⊎ (bytes_eq word (codes "--store") ≡ false) → (word ≡ codes "--user") ⊎ (bytes_eq word (codes "--user") ≡ false) → (word ≡ codes "--base") ⊎ (bytes_eq word (codes "--base") ≡ false) → name_of word ≡ Some name → word ≡ name_text name
+name-from word name (inl is) user base found = is ∙ ap name_text (same_Some Store name (ap name_of (sym is) ∙ found))
+name-from word name (inr no_store) (inl is) base found = is ∙ ap name_text (same_Some User name (ap name_of (sym is) ∙ found))
+name-from word name (inr no_store) (inr no_user) (inl is) found = is ∙ ap name_text (same_Some Base name (ap name_of (sym is) ∙ found))
+name-from word name (inr no_store) (inr no_user) (inr no_base) found = absurd (none-some name (rw (no_store, no_user, no_base) at found))
+
+-- a word that is read as an option is its text
+pub name_of-is : (word : List ℕ) (name : Name) → name_of word ≡ Some name → word ≡ name_text name
+name_of-is word name found = name-from word name (is_or_not word _) (is_or_not word _) (is_or_not word _) found
+
+-- and its text is read as it
+pub name_of-text : (name : Name) → name_of (name_text name) ≡ Some name
+name_of-text Store = refl
+name_of-text User = refl
+name_of-text Base = refl
+
+-- a setting in one word is no option alone
+pub name_of-joined : (name : Name) (value : List ℕ) → name_of (name_text name ++ 61 ∷ value) ≡ None
+name_of-joined Store value = refl
+name_of-joined User value = refl
+name_of-joined Base value = refl
+
+pub joined-text : (name : Name) (value : List ℕ) → joined (name_text name ++ 61 ∷ value) ≡ Some (record { name = name; value = value })
+joined-text Store value = refl
+joined-text User value = refl
+joined-text Base value = refl
+
+pub joined-is : (word : List ℕ) (setting : Setting) → joined word ≡ Some setting → word ≡ joined_text setting
+joined-is word setting found =
+    let parts = and_then-some named (cut word) setting found in
+    let name = map-some (λ n. let s : Setting = record { name = n; value = parts.0.1 } in s) (name_of parts.0.0) setting parts.2 in
+    let text : parts.0.0 ≡ name_text name.0 = name_of-is parts.0.0 name.0 name.1 in
+    cut-is word parts.0.0 parts.0.1 parts.1 ∙ ap (λ (t : List ℕ). t ++ 61 ∷ parts.0.1) text ∙ ap joined_text name.2
+
+pub no-dash : (word : List ℕ) → begins_with_dash word ≡ false → BeginsWithDash word → ⊥
+no-dash [] is dash = let e = dash.1 in cc
+no-dash (octet ∷ word) is dash =
+    let first : octet ≡ 45 = ap (λ (t : List ℕ). elim t as (λ _. ℕ) [ [] ↦ 0 | a ∷ b ↦ a ]) dash.1 in
+    let yes : (octet == 45) ≡ true = eq-eqb octet 45 first in
+    cc
+
+pub test-no-dash : (word : List ℕ) → (BeginsWithDash word → ⊥) → begins_with_dash word ≡ false
+test-no-dash [] none = refl
+test-no-dash (octet ∷ word) none = elim (octet == 45) as (λ t. (octet == 45) ≡ t → t ≡ false) [ true ↦ λ is. absurd (none (word, ap (λ (o : ℕ). o ∷ word) (eqb-true octet 45 is))) | false ↦ λ is. refl ] refl

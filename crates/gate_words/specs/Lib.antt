@@ -1,0 +1,5 @@
+pub mod Given
+pub mod Lent
+pub mod Options
+pub mod Rules
+pub mod Task

@@ -1,0 +1,91 @@
+use crate::{Task, read_words};
+use std::alloc::{AllocError, Global};
+use std::test::Fail;
+
+const USUAL: &str = "once|--store|127.0.0.1:1143|--user|alice|--base|http://127.0.0.1:8080";
+
+/// What the words between bars ask for. No text stands for no words.
+fn shown(alloc: Global, line: &str) -> Result<String, AllocError> {
+    let mut words = Vec::new(alloc);
+    if !line.is_empty() {
+        for word in line.split('|') {
+            words.push(String::from_str(alloc, word)?)?;
+        }
+    }
+    match read_words(alloc, &words) {
+        Ok(Task::Once { place }) => {
+            let (store, user, base) = (
+                place.store.as_str(),
+                place.user.as_str(),
+                place.base.as_str(),
+            );
+            format!(in alloc; "{store} {user} {base}")
+        }
+        Err(error) => format!(in alloc; "{error}"),
+    }
+}
+
+#[test]
+fn places_that_words_name(rt: HostRuntime) -> Result<(), Fail> {
+    let alloc = rt.alloc();
+    for (line, wanted) in [
+        (USUAL, "127.0.0.1:1143 alice http://127.0.0.1:8080"),
+        (
+            "once|--base=https://h|--user=a b|--store=",
+            " a b https://h",
+        ),
+        (
+            "once|--user=-x|--store=--user|--base|http://h/a",
+            "--user -x http://h/a",
+        ),
+        ("once|--store||--base=http://h|--user=a=b", " a=b http://h"),
+        (
+            "once|--user|\u{e9}|--base|http://\u{1F600}|--store|s",
+            "s \u{e9} http://\u{1F600}",
+        ),
+    ] {
+        assert_eq!(rt; shown(alloc, line)?.as_str(), wanted, "{line}");
+    }
+    Ok(())
+}
+
+#[test]
+fn words_that_are_refused(rt: HostRuntime) -> Result<(), Fail> {
+    let alloc = rt.alloc();
+    for line in [
+        "",
+        "once",
+        "serve",
+        "drill|1|0",
+        "once|--user",
+        "--store|s|once|--user|u|--base|http://h",
+        "once|--user|u|--base|http://h",
+        "once|--store|s|--base|http://h",
+        "once|--store|s|--user|u",
+        "once|--store|s|--user|u|--base|http://h|--user|u",
+        "once|--store|s|--user|u|--base|http://h|--base=http://h",
+        "once|--store|s|--user|u|--base|http://h|--store",
+        "once|--store|s|--user|u|--base|http://h|--",
+        "once|--|--store|s|--user|u|--base|http://h",
+        "once|--store|s|--user|u|--base|http://h|more",
+        "once|--store|s|--user|u|--base|http://h|--keep|f",
+        "once|--store|s|--user|-x|--base|http://h",
+        "once|--store|-|--user|u|--base|http://h",
+        "once|--store|--user=u|--base|http://h",
+        "once|--store|s|-user|u|--base|http://h",
+        "once|--store|s|--user|u|--bas|http://h",
+        "once|--store|s|--user=|--base|http://h",
+        "once|--store|s|--user|a\tb|--base|http://h",
+        "once|--store|s|--user|a\u{7f}|--base|http://h",
+        "once|--store|s|--user|u|--base|http://h/",
+        "once|--store|s|--user|u|--base|http://",
+        "once|--store|s|--user|u|--base|ftp://h",
+        "once|--store|s|--user|u|--base|HTTP://h",
+        "once|--store|s|--user|u|--base|http://h\n",
+        "once|--store|s|--user|u|--base=",
+        "Once|--store|s|--user|u|--base|http://h",
+    ] {
+        assert_eq!(rt; shown(alloc, line)?.as_str(), "words refused", "{line}");
+    }
+    Ok(())
+}

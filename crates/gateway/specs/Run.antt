@@ -1,0 +1,56 @@
+-- A run of the program over its words and the outside, and its status.
+use Rattle.std.specs.Prelude.{◌≡◌, ◌⊎◌, ◌++◌, ℕ, zero, suc, List, [], ◌∷◌, codes}
+use Rattle.gate_world.specs.Causes.{Faults, RoseBy}
+use Rattle.gate_world.specs.declared.event.Event.{Event}
+use Rattle.gate_world.specs.declared.event.Event.TheVariants.{Word, Said, SayFailed}
+use Rattle.gate_words.specs.declared.place.Place.{Place}
+use Rattle.gate_words.specs.declared.task.Task.{Task}
+use Rattle.gate_words.specs.declared.task.Task.TheVariants.{Once}
+use Rattle.gate_words.specs.Task.{IsTask}
+use Rattle.gateway.specs.Machine.{Account, Machine, opened}
+use Rattle.gateway.specs.Segment.{Segment, segment_faults, front_faults}
+
+-- a line on the console, or that it failed
+abbrev pub Says : List ℕ → List Event → Type 0
+Says line events = (events ≡ Said line ∷ []) ⊎ (events ≡ SayFailed ∷ [])
+
+abbrev pub words_refused : List ℕ
+words_refused = codes "jmapgate: words refused\n"
+
+abbrev pub front_failed : List ℕ
+front_failed = codes "jmapgate: front failed\n"
+
+-- the status at the end of the one segment, by the faults of the front in it, and what is said
+abbrev pub EndsOnce : ℕ → ℕ → List Event → Type 0
+EndsOnce zero status said = (status ≡ 0) × (said ≡ [])
+EndsOnce (suc _) status said = (status ≡ 6) × Says front_failed said
+
+abbrev pub account_of : Place → List ℕ → Account
+account_of place password = record { user = place.user; password = password; base = place.base }
+
+-- The words are refused; or memory is wanting before anything is asked of the outside; or an epoch is drawn and one client is
+-- served.
+pub data Run (words : List (List ℕ)) (password : List ℕ) (status : ℕ) (events : List Event) : Type 0 where
+  Refused : ((task : Task) → IsTask words task → ⊥) → status ≡ 2 → Says words_refused events → Run words password status events
+  Wanting : status ≡ 5 → events ≡ [] → Run words password status events
+  ServedOnce : (place : Place) (epoch : ℕ) (segment said : List Event) (after : Machine) (served : Segment (account_of place password) (opened epoch) segment after) → IsTask words (Once place) → events ≡ Word epoch ∷ (segment ++ said) → EndsOnce (front_faults served) status said → Run words password status events
+
+-- how many faults of the link the run is blamed on
+abbrev pub run_faults : {words : List (List ℕ)} {password : List ℕ} {status : ℕ} {events : List Event} → Run words password status events → ℕ
+run_faults (Refused a b c) = 0
+run_faults (Wanting a b) = 0
+run_faults (ServedOnce place epoch segment said after served a b c) = segment_faults served
+
+-- a run whose blames are borne out by the counts of faults
+abbrev pub IsRun : List (List ℕ) → List ℕ → ℕ → ℕ → ℕ → List Event → Type 0
+IsRun words password was now status events = (run : Run words password status events) × RoseBy (run_faults run) was now
+
+-- what serving once at this place adds
+abbrev pub RunsOnce : Place → List ℕ → ℕ → ℕ → ℕ → List Event → Type 0
+RunsOnce place password was now status events =
+    (epoch : ℕ) × (segment : List Event) × (said : List Event) × (after : Machine) × (served : Segment (account_of place password) (opened epoch) segment after)
+    × (events ≡ Word epoch ∷ (segment ++ said)) × EndsOnce (front_faults served) status said × RoseBy (segment_faults served) was now
+
+-- what a task adds
+abbrev pub Performs : Task → List ℕ → ℕ → ℕ → ℕ → List Event → Type 0
+Performs (Once place) password was now status events = RunsOnce place password was now status events

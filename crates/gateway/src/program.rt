@@ -1,0 +1,89 @@
+// The top call: from the words of the command to the status of the program.
+ghost use Rattle.std.specs.Prelude.{◌≡◌, ◌⊎◌, map, string_bytes};
+ghost use Rattle.gate_world.specs.Causes.{Rose, Later};
+ghost use Rattle.gate_world.specs.Tape.{Adds};
+ghost use Rattle.gate_words.specs.Task.{IsTask};
+ghost use Rattle.gate_words.specs.declared.task.Task.{Task};
+ghost use Rattle.gateway.specs.Run.{IsRun, Performs, RunsOnce};
+
+use crate::segment::serve_one;
+use gate_words::{Place, Task, WordsError, read_words};
+use gate_world::{Watcher, World};
+use std::alloc::Global;
+
+/// The program did what it was asked.
+pub const STATUS_DONE: u8 = 0;
+/// The words are refused.
+pub const STATUS_WORDS: u8 = 2;
+/// Memory was wanting before a client came.
+pub const STATUS_MEMORY: u8 = 5;
+/// The front failed.
+pub const STATUS_FRONT: u8 = 6;
+
+// Draws an epoch and serves one client.
+fn once<W: World>(alloc: Global, world: &mut W, place: &Place) -> u8
+    ensures run { Adds (W.tape world.old) (W.tape world.new)
+        (RunsOnce place.now (W.hidden world.old).password (W.faults world.old).link (W.faults world.new).link result) }
+    ensures statuses { (result ≡ 0) ⊎ (result ≡ 6) }
+    ensures front { result ≡ 6 → Rose (W.faults world.old).front (W.faults world.new).front }
+    ensures later { Later (W.faults world.old) (W.faults world.new) }
+    ensures hidden { W.hidden world.new ≡ W.hidden world.old }
+{
+    let epoch = world.word();
+    match serve_one(alloc, world, place, epoch) {
+        Ok(()) => STATUS_DONE,
+        Err(_) => {
+            let _ = world.say(b"jmapgate: front failed\n");
+            STATUS_FRONT
+        }
+    }
+}
+
+fn place_of(task: &Task) -> &Place
+    ensures { task.now ≡ Task.Once result.now }
+{
+    match task {
+        Task::Once { place } => place,
+    }
+}
+
+// Does what the task asks.
+fn perform<W: World>(alloc: Global, world: &mut W, task: &Task) -> u8
+    ensures run { Adds (W.tape world.old) (W.tape world.new)
+        (Performs task.now (W.hidden world.old).password (W.faults world.old).link (W.faults world.new).link result) }
+    ensures statuses { (result ≡ 0) ⊎ (result ≡ 6) }
+    ensures front { result ≡ 6 → Rose (W.faults world.old).front (W.faults world.new).front }
+    ensures later { Later (W.faults world.old) (W.faults world.new) }
+    ensures hidden { W.hidden world.new ≡ W.hidden world.old }
+{
+    once(alloc, world, place_of(task))
+}
+
+/// Does what the words ask, the program's own name left out, over the outside; the status that the program ends with.
+/// No watcher is told anything yet.
+pub fn run<W: World>(words: &[String], world: &mut W, watchers: &mut Vec<Box<dyn Watcher>>) -> u8
+    // Where the tape is told, it has grown by a run over these words.
+    ensures run { Adds (W.tape world.old) (W.tape world.new)
+        (IsRun (map string_bytes words.now) (W.hidden world.old).password (W.faults world.old).link (W.faults world.new).link result) }
+
+    // When each status comes, in every world. Want of memory in the words comes before their refusal.
+    ensures statuses { (result ≡ 0) ⊎ (result ≡ 2) ⊎ (result ≡ 5) ⊎ (result ≡ 6) }
+    ensures words { result ≡ 2 → (task : Task) → IsTask (map string_bytes words.now) task → ⊥ }
+    ensures refused { ((task : Task) → IsTask (map string_bytes words.now) task → ⊥) → (result ≡ 2) ⊎ (result ≡ 5) }
+    ensures front { result ≡ 6 → Rose (W.faults world.old).front (W.faults world.new).front }
+
+    // What stays.
+    ensures later { Later (W.faults world.old) (W.faults world.new) }
+    ensures hidden { W.hidden world.new ≡ W.hidden world.old }
+    ensures watchers { watchers.new ≡ watchers.old }
+{
+    let alloc: Global = *watchers.allocator();
+    match read_words(alloc, words) {
+        Ok(task) => perform(alloc, world, &task),
+        Err(WordsError::Refused) => {
+            let _ = world.say(b"jmapgate: words refused\n");
+            STATUS_WORDS
+        }
+        Err(WordsError::Memory) => STATUS_MEMORY,
+    }
+}

@@ -1,0 +1,89 @@
+-- What one octet does to one symbol.
+use Rattle.std.proofs.Common.{◌≡◌, ℕ, ◌≤◌, Bool, true, false, ◌&&◌, List, [], ◌∷◌, length, take, cond, refl, sym, ap, ◌∙◌, arith}
+use Rattle.std.specs.Prelude.{nat_le}
+use Rattle.std.proofs.lemmas.Bool.{leb-true, and_parts, cond-false}
+use Rattle.imap_automaton.specs.declared.sym.Key.{Key}
+use Rattle.imap_automaton.specs.declared.sym.Place.{Place}
+use Rattle.imap_automaton.specs.declared.sym.Item.TheVariants as item
+use Rattle.imap_automaton.specs.declared.sym.Names.{Names}
+use Rattle.imap_automaton.specs.declared.sym.Names.TheVariants as names
+use Rattle.imap_automaton.specs.declared.sym.Sym.{Sym}
+use Rattle.imap_automaton.specs.declared.sym.Sym.TheVariants as sym
+use Rattle.imap_automaton.specs.declared.sym.Move.{Move}
+use Rattle.imap_automaton.specs.declared.sym.Move.TheVariants as move
+use Rattle.imap_automaton.specs.Keys.{key_text, keys, is_among}
+use Rattle.imap_automaton.specs.Rules.{rule_of}
+use Rattle.imap_automaton.specs.Fits.{SymFits}
+use Rattle.imap_automaton.specs.Flow.{begins, stops, may_yield}
+use Rattle.imap_automaton.proofs.Langs.{Lang, After}
+use Rattle.imap_automaton.proofs.FreeEdges.{free_back, free_forth, free_empty, free_example}
+use Rattle.imap_automaton.proofs.NamesEdges.{names_back, names_forth, names_empty, more_stops, names_example}
+use Rattle.imap_automaton.proofs.ItemEdges.{item_back, item_forth, open_none, more_empty, items_stop, number_ends, number_yields, item_example}
+use Rattle.imap_automaton.proofs.WordEdges.{word_back, word_forth, word_empty, word_example}
+use Rattle.imap_automaton.proofs.LineEdges.{line_edge_back, line_edge_forth, line_empty, line_example}
+use Rattle.imap_syntax.specs.Octets.{is_atom}
+
+word_le : (place : Place) (key : Key) (at : ℕ) → SymFits (sym.Word place key at) ≡ true → at ≤ length (key_text key)
+word_le place key at fits = leb-true _ _ (and_parts (nat_le at (length (key_text key))) (is_among key (keys place)) fits).0
+
+word_among : (place : Place) (key : Key) (at : ℕ) → SymFits (sym.Word place key at) ≡ true → is_among key (keys place) ≡ true
+word_among place key at fits = (and_parts (nat_le at (length (key_text key))) (is_among key (keys place)) fits).1
+
+pub edge_back : (s : Sym) (c : ℕ) (t : List ℕ) → SymFits s ≡ true → After (rule_of s c) t → Lang s (c ∷ t)
+edge_back (sym.Line s) c t fits h = line_edge_back s c t fits h
+edge_back (sym.Word place key at) c t fits h = word_back place key at c t (word_le place key at fits) h
+edge_back (sym.Free s) c t fits h = free_back s c t h
+edge_back (sym.Item s) c t fits h = item_back s c t h
+edge_back (sym.Names s) c t fits h = names_back s c t h
+
+pub edge_forth : (s : Sym) (c : ℕ) (t : List ℕ) → SymFits s ≡ true → Lang s (c ∷ t) → After (rule_of s c) t
+edge_forth (sym.Line s) c t fits h = line_edge_forth s c t fits h
+edge_forth (sym.Word place key at) c t fits h = word_forth place key at c t (word_le place key at fits) h
+edge_forth (sym.Free s) c t fits h = free_forth s c t h
+edge_forth (sym.Item s) c t fits h = item_forth s c t h
+edge_forth (sym.Names s) c t fits h = names_forth s c t h
+
+names_yield : (s : Names) → s ≡ names.AtomRest → may_yield (sym.Names s) ≡ true
+names_yield s e = ap (λ (q : Names). may_yield (sym.Names q)) e
+
+-- only a symbol that may end has an empty text
+pub empty_may : (s : Sym) → SymFits s ≡ true → Lang s [] → may_yield s ≡ true
+empty_may (sym.Line s) fits h = absurd (line_empty s fits h)
+empty_may (sym.Word place key at) fits h = absurd (word_empty place (take at (key_text key)) h)
+empty_may (sym.Free s) fits h = absurd (free_empty s fits h)
+empty_may (sym.Item item.Open) fits h = absurd (open_none h)
+empty_may (sym.Item item.More) fits h = absurd (more_empty h)
+empty_may (sym.Item (item.Number v n)) fits h = refl
+empty_may (sym.Names s) fits h = names_yield s (names_empty s h)
+
+-- a symbol that ends before an octet has the empty text
+pub yield_empty : (s : Sym) (c : ℕ) → may_yield s ≡ true → SymFits s ≡ true → rule_of s c ≡ move.Yield → Lang s []
+yield_empty (sym.Item (item.Number v n)) c may fits e = number_yields v n c fits e
+yield_empty (sym.Names names.AtomRest) c may fits e = tt
+yield_empty _ c may fits e = absurd cc
+
+stop_no_atom : (c : ℕ) → stops c ≡ true → is_atom c ≡ false
+stop_no_atom c e = grind arith
+
+-- a symbol with the empty text ends before an octet that ends those
+pub ends_by : (s : Sym) (c : ℕ) → may_yield s ≡ true → Lang s [] → stops c ≡ true → rule_of s c ≡ move.Yield
+ends_by (sym.Item (item.Number v n)) c may h e = number_ends v n c h e
+ends_by (sym.Names names.AtomRest) c may h e = cond-false (is_atom c) (move.One (sym.Names names.AtomRest)) move.Yield (stop_no_atom c e)
+ends_by _ c may h e = absurd cc
+
+pub begin_stops : (s : Sym) (c : ℕ) (t : List ℕ) → begins s ≡ true → Lang s (c ∷ t) → stops c ≡ true
+begin_stops (sym.Item item.More) c t b h = items_stop h.0 c t h.1
+begin_stops (sym.Names names.More) c t b h = more_stops h.0 c t h.2
+begin_stops _ c t b h = absurd cc
+
+pub example : (s : Sym) → SymFits s ≡ true → (t : List ℕ) × Lang s t
+example (sym.Line s) fits = line_example s fits
+example (sym.Word place key at) fits = word_example place key at (word_le place key at fits) (word_among place key at fits)
+example (sym.Free s) fits = free_example s
+example (sym.Item s) fits = item_example s fits
+example (sym.Names s) fits = names_example s
+
+pub begin_no_yield : (s : Sym) → begins s ≡ true → may_yield s ≡ true → ⊥
+begin_no_yield (sym.Item item.More) b y = cc
+begin_no_yield (sym.Names names.More) b y = cc
+begin_no_yield _ b y = cc

@@ -1,0 +1,224 @@
+-- What each move keeps: registers, room, and which symbol may end open.
+use Rattle.std.proofs.Common.{◌≡◌, ℕ, zero, suc, ◌+◌, ◌-◌, ◌*◌, ◌≤◌, Bool, true, false, not, ◌&&◌, ◌||◌, List, [], ◌∷◌, length, cond, Option, Some, None, refl, sym, ap, subst, ◌∙◌, arith}
+use Rattle.std.specs.Prelude.{◌==◌, nat_lt, nat_le, get_or}
+use Rattle.std.proofs.lemmas.Bool.{and_parts, and_from, le-leb, ltb-true, leb-true, lt-ltb, eqb-false}
+use Rattle.imap_automaton.specs.declared.sym.Key.{Key}
+use Rattle.imap_automaton.specs.declared.sym.Key.TheVariants as key
+use Rattle.imap_automaton.specs.declared.sym.Place.{Place}
+use Rattle.imap_automaton.specs.declared.sym.Place.TheVariants as place
+use Rattle.imap_automaton.specs.declared.sym.Phrase.{Phrase}
+use Rattle.imap_automaton.specs.declared.sym.Phrase.TheVariants as phrase
+use Rattle.imap_automaton.specs.declared.sym.Pending.{Pending}
+use Rattle.imap_automaton.specs.declared.sym.Pending.TheVariants as pending
+use Rattle.imap_automaton.specs.declared.sym.Line.{Line}
+use Rattle.imap_automaton.specs.declared.sym.Line.TheVariants as line
+use Rattle.imap_automaton.specs.declared.sym.Free.TheVariants as free
+use Rattle.imap_automaton.specs.declared.sym.Item.TheVariants as item
+use Rattle.imap_automaton.specs.declared.sym.Names.TheVariants as names
+use Rattle.imap_automaton.specs.declared.sym.Sym.{Sym}
+use Rattle.imap_automaton.specs.declared.sym.Sym.TheVariants as sym
+use Rattle.imap_automaton.specs.declared.sym.Move.{Move}
+use Rattle.imap_automaton.specs.declared.sym.Move.TheVariants as move
+use Rattle.imap_automaton.specs.Counts.{pend}
+use Rattle.imap_automaton.specs.Keys.{key_text, phrase_text, keys, first_key, is_among, in_word, goes_on, next_key, whole_key}
+use Rattle.imap_automaton.specs.FreeRules.{free_end, text_rule}
+use Rattle.imap_automaton.specs.WordRules.{rest_rule, spaced_rule, behind_key, stray, word_goes, word_ends, word_rule}
+use Rattle.imap_automaton.specs.ItemRules.{number_rule}
+use Rattle.imap_automaton.specs.LineRules.{word_start, line_rule, fixed_rule, sequence_rule}
+use Rattle.imap_automaton.specs.Rules.{rule_of}
+use Rattle.imap_automaton.specs.Fits.{PendFits, SymFits}
+use Rattle.imap_automaton.specs.Run.{is_octets}
+use Rattle.imap_automaton.specs.Flow.{ends_open, begins, may_yield, need, sym_left}
+use Rattle.imap_automaton.proofs.KeyLemmas.{find_some, goes_to, among_is}
+use Rattle.imap_syntax.specs.Octets.{is_digit, is_alnum, is_text, is_word, is_atom, lower}
+
+-- what a move may be of a symbol that ends open or not, may yield or not, has this room, at an octet outside a literal
+-- or not
+abbrev pub fine : Bool → Bool → ℕ → Bool → Move → Bool
+fine ends yields room small move.Fail = true
+fine ends yields room small move.Yield = yields
+fine ends yields room small move.End = small
+fine ends yields room small (move.One a) = small && SymFits a && (not (ends_open a) || ends) && nat_le (need a) room && nat_le (sym_left a) 50000000
+fine ends yields room small (move.Two a b) =
+    small && SymFits a && SymFits b && (not (ends_open a) || begins b) && (not (ends_open b) || ends) && nat_le (need a + 1) room && nat_le (need b) room && nat_le (sym_left a + sym_left b) 50000000
+
+pub fine_by : (o y : Bool) (r : ℕ) (s b : Bool) (m n : Move) → (b ≡ true → fine o y r s m ≡ true) → (b ≡ false → fine o y r s n ≡ true) → fine o y r s (cond b m n) ≡ true
+fine_by o y r s true m n f g = f refl
+fine_by o y r s false m n f g = g refl
+
+-- ---- text with literals
+
+pend_fits : (s : Pending) (c : ℕ) → PendFits s ≡ true → PendFits (pend s c) ≡ true
+pend_fits pending.Nothing c e = grind arith
+pend_fits (pending.Open v n) c e = grind arith
+pend_fits (pending.Closed v) c e = grind arith
+
+small_text : (c : ℕ) → is_text c ≡ true → nat_lt c 256 ≡ true
+small_text c e = grind arith
+
+small_13 : (c : ℕ) → (c == 13) ≡ true → nat_lt c 256 ≡ true
+small_13 c e = grind arith
+
+small_32 : (c : ℕ) → (c == 32) ≡ true → nat_lt c 256 ≡ true
+small_32 c e = grind arith
+
+end_fine : (r : ℕ) (s : Pending) (c : ℕ) → 2 ≤ r → (c == 13) ≡ true → fine false false r (nat_lt c 256) (free_end s) ≡ true
+end_fine r pending.Nothing c le e = and_from _ _ (and_from _ _ (and_from _ _ (and_from _ _ (small_13 c e) refl) refl) (le-leb 1 r (omega arith))) refl
+end_fine r (pending.Open v n) c le e = and_from _ _ (and_from _ _ (and_from _ _ (and_from _ _ (small_13 c e) refl) refl) (le-leb 1 r (omega arith))) refl
+end_fine r (pending.Closed v) c le e = fine_by false false r (nat_lt c 256) (nat_le v 50000000) (move.Two (sym.Free (free.Break v)) (sym.Free (free.Text pending.Nothing))) move.Fail
+    (λ f. and_from _ _ (and_from _ _ (and_from _ _ (and_from _ _ (and_from _ _ (and_from _ _ (and_from _ _ (small_13 c e) f) refl) refl) refl) (le-leb 2 r le)) (le-leb 2 r le)) refl)
+    (λ f. refl)
+
+text_fine : (r : ℕ) (s : Pending) (c : ℕ) → 2 ≤ r → PendFits s ≡ true → fine false false r (nat_lt c 256) (text_rule s c) ≡ true
+text_fine r s c le fits = fine_by false false r (nat_lt c 256) (c == 13) (free_end s) (cond (is_text c) (move.One (sym.Free (free.Text (pend s c)))) move.Fail)
+    (λ e. end_fine r s c le e)
+    (λ e. fine_by false false r (nat_lt c 256) (is_text c) (move.One (sym.Free (free.Text (pend s c)))) move.Fail
+    (λ f. and_from _ _ (and_from _ _ (and_from _ _ (and_from _ _ (small_text c f) (pend_fits s c fits)) refl) (le-leb 2 r le)) refl)
+    (λ f. refl))
+
+-- ---- words
+
+rest_fine : (o : Bool) (r : ℕ) (c : ℕ) → 1 ≤ r → fine o false r (nat_lt c 256) (rest_rule c) ≡ true
+rest_fine o r c le = fine_by o false r (nat_lt c 256) (c == 32) (move.One (sym.Line line.Text)) (cond (c == 13) (move.One (sym.Line (line.Fixed phrase.Crlf 1))) move.Fail)
+    (λ e. and_from _ _ (and_from _ _ (and_from _ _ (and_from _ _ (small_32 c e) refl) refl) (le-leb 1 r le)) refl)
+    (λ e. fine_by o false r (nat_lt c 256) (c == 13) (move.One (sym.Line (line.Fixed phrase.Crlf 1))) move.Fail
+    (λ f. and_from _ _ (and_from _ _ (and_from _ _ (and_from _ _ (small_13 c f) refl) refl) (le-leb 1 r le)) refl)
+    (λ f. refl))
+
+spaced_fine : (o : Bool) (r : ℕ) (s : Sym) (c : ℕ) → SymFits s ≡ true → (not (ends_open s) || o) ≡ true → nat_le (need s) r ≡ true → nat_le (sym_left s) 50000000 ≡ true → fine o false r (nat_lt c 256) (spaced_rule (move.One s) c) ≡ true
+spaced_fine o r s c fits ends room left = fine_by o false r (nat_lt c 256) (c == 32) (move.One s) move.Fail (λ e. and_from _ _ (and_from _ _ (and_from _ _ (and_from _ _ (small_32 c e) fits) ends) room) left) (λ e. refl)
+
+behind_fine : (p : Place) (k q : Key) (at c : ℕ) → fine (ends_open (sym.Word p q at)) false (need (sym.Word p q at)) (nat_lt c 256) (behind_key p k c) ≡ true
+behind_fine place.Tagged key.Ok q at c = rest_fine false 4 c (omega arith)
+behind_fine place.Tagged key.No q at c = rest_fine false 4 c (omega arith)
+behind_fine place.Tagged key.Bad q at c = rest_fine false 4 c (omega arith)
+behind_fine place.Plain key.Ok q at c = rest_fine false 4 c (omega arith)
+behind_fine place.Plain key.No q at c = rest_fine false 4 c (omega arith)
+behind_fine place.Plain key.Bad q at c = rest_fine false 4 c (omega arith)
+behind_fine place.Plain key.Preauth q at c = rest_fine false 4 c (omega arith)
+behind_fine place.Plain key.Bye q at c = rest_fine false 4 c (omega arith)
+behind_fine place.Numbered key.Fetch q at c = spaced_fine false 4 (sym.Item item.Open) c refl refl refl refl
+behind_fine place.Item key.Uid q at c = spaced_fine true 2 (sym.Item (item.Number 0 0)) c refl refl refl refl
+behind_fine place.Item key.Flags q at c = spaced_fine true 2 (sym.Names names.Open) c refl refl refl refl
+behind_fine _ _ q at c = refl
+
+stray_fine : (p : Place) (q : Key) (at c : ℕ) → fine (ends_open (sym.Word p q at)) false (need (sym.Word p q at)) (nat_lt c 256) (stray p c) ≡ true
+stray_fine place.Tagged q at c = refl
+stray_fine place.Plain q at c = text_fine 4 pending.Nothing c (omega arith) refl
+stray_fine place.Numbered q at c = text_fine 4 pending.Nothing c (omega arith) refl
+stray_fine place.Item q at c = refl
+
+in_word_small : (p : Place) (c : ℕ) → in_word p c ≡ true → nat_lt c 256 ≡ true
+in_word_small place.Tagged c e = grind arith
+in_word_small place.Plain c e = grind arith
+in_word_small place.Numbered c e = grind arith
+in_word_small place.Item c e = grind arith
+
+same_word : (p : Place) (k q : Key) (at n : ℕ) → (ends_open (sym.Word p k at) ≡ ends_open (sym.Word p q n)) × (need (sym.Word p k at) ≡ need (sym.Word p q n))
+same_word place.Tagged k q at n = (refl, refl)
+same_word place.Plain k q at n = (refl, refl)
+same_word place.Numbered k q at n = (refl, refl)
+same_word place.Item k q at n = (refl, refl)
+
+not_or_self : (a b : Bool) → a ≡ b → (not a || b) ≡ true
+not_or_self a b e = grind arith
+
+goes_fine : (p : Place) (k : Key) (at c : ℕ) (o : Option Key) → next_key p k at (lower c) ≡ o → in_word p c ≡ true → fine (ends_open (sym.Word p k at)) false (need (sym.Word p k at)) (nat_lt c 256) (word_goes p at c o) ≡ true
+goes_fine p k at c (Some x) e i =
+    let f = find_some (goes_on k at (lower c)) (keys p) x e in
+    let g = goes_to k x at (lower c) f.0 in
+    let w = same_word p x k (at + 1) at in
+    and_from _ _ (and_from _ _ (and_from _ _ (and_from _ _ (in_word_small p c i) (and_from _ _ (le-leb _ _ g.1) (among_is x (keys p) f.1))) (not_or_self _ _ w.0)) (le-leb (need (sym.Word p x (at + 1))) (need (sym.Word p k at)) (omega (arith, w.1)))) refl
+goes_fine p k at c None e i = stray_fine p k at c
+
+ends_fine : (p : Place) (k : Key) (at c : ℕ) (o : Option Key) → fine (ends_open (sym.Word p k at)) false (need (sym.Word p k at)) (nat_lt c 256) (word_ends p c o) ≡ true
+ends_fine p k at c (Some x) = behind_fine p x k at c
+ends_fine p k at c None = stray_fine p k at c
+
+word_fine : (p : Place) (k : Key) (at c : ℕ) → fine (ends_open (sym.Word p k at)) false (need (sym.Word p k at)) (nat_lt c 256) (word_rule p k at c) ≡ true
+word_fine p k at c = fine_by (ends_open (sym.Word p k at)) false (need (sym.Word p k at)) (nat_lt c 256) (in_word p c) (word_goes p at c (next_key p k at (lower c))) (cond (at == 0) move.Fail (word_ends p c (whole_key p k at)))
+    (λ i. goes_fine p k at c (next_key p k at (lower c)) refl i)
+    (λ i. fine_by (ends_open (sym.Word p k at)) false (need (sym.Word p k at)) (nat_lt c 256) (at == 0) move.Fail (word_ends p c (whole_key p k at)) (λ z. refl) (λ z. ends_fine p k at c (whole_key p k at)))
+
+-- ---- lines
+
+octet_small : (p : Phrase) (at c : ℕ) → (c == get_or (phrase_text p) at 0) ≡ true → nat_lt c 256 ≡ true
+octet_small phrase.Space zero c e = small_32 c e
+octet_small phrase.Space (suc at) c e = small_zero c e
+  where
+    small_zero : (c : ℕ) → (c == 0) ≡ true → nat_lt c 256 ≡ true
+    small_zero c e = grind arith
+octet_small phrase.Crlf zero c e = small_13 c e
+octet_small phrase.Crlf (suc zero) c e = small_ten c e
+  where
+    small_ten : (c : ℕ) → (c == 10) ≡ true → nat_lt c 256 ≡ true
+    small_ten c e = grind arith
+octet_small phrase.Crlf (suc (suc at)) c e = small_zero c e
+  where
+    small_zero : (c : ℕ) → (c == 0) ≡ true → nat_lt c 256 ≡ true
+    small_zero c e = grind arith
+
+fixed_fine : (p : Phrase) (at c : ℕ) → SymFits (sym.Line (line.Fixed p at)) ≡ true → fine false false 1 (nat_lt c 256) (fixed_rule p at c) ≡ true
+fixed_fine p at c fits = fine_by false false 1 (nat_lt c 256) (nat_lt at (length (phrase_text p)) && c == get_or (phrase_text p) at 0) (cond (at + 1 == length (phrase_text p)) move.End (move.One (sym.Line (line.Fixed p (at + 1))))) move.Fail
+    (λ e.
+    let q = and_parts (nat_lt at (length (phrase_text p))) (c == get_or (phrase_text p) at 0) e in
+    let small = octet_small p at c q.1 in
+    fine_by false false 1 (nat_lt c 256) (at + 1 == length (phrase_text p)) move.End (move.One (sym.Line (line.Fixed p (at + 1)))) (λ f. small)
+    (λ f. let ne : at + 1 ≡ length (phrase_text p) → ⊥ = eqb-false _ _ f in and_from _ _ (and_from _ _ (and_from _ _ (and_from _ _ small (lt-ltb _ _ (omega (arith, ltb-true _ _ q.0, ne)))) refl) refl) refl))
+    (λ e. refl)
+
+line_fine : (s : Line) (c : ℕ) → SymFits (sym.Line s) ≡ true → fine (ends_open (sym.Line s)) false (need (sym.Line s)) (nat_lt c 256) (line_rule s c) ≡ true
+line_fine line.Start c fits = grind arith
+line_fine (line.Tag n) c fits = grind arith
+line_fine line.Untagged c fits = fine_by false false 4 (nat_lt c 256) (is_digit c) (move.One (sym.Line (line.Sequence (c - 48) 1))) (word_rule place.Plain (first_key place.Plain) 0 c) (λ d. digit_fine c d) (λ d. word_fine place.Plain key.Ok 0 c)
+  where
+    digit_fine : (c : ℕ) → is_digit c ≡ true → fine false false 4 (nat_lt c 256) (move.One (sym.Line (line.Sequence (c - 48) 1))) ≡ true
+    digit_fine c d = grind arith
+line_fine (line.Sequence v n) c fits = fine_by false false 4 (nat_lt c 256) (is_digit c && nat_lt n 10 && nat_le (10 * v + (c - 48)) 4294967295) (move.One (sym.Line (line.Sequence (10 * v + (c - 48)) (n + 1)))) (cond (c == 32) (move.One (word_start place.Numbered)) (text_rule pending.Nothing c))
+    (λ d. digits_fine v n c d)
+    (λ d. fine_by false false 4 (nat_lt c 256) (c == 32) (move.One (word_start place.Numbered)) (text_rule pending.Nothing c) (λ e. space_fine c e) (λ e. text_fine 4 pending.Nothing c (omega arith) refl))
+  where
+    digits_fine : (v n c : ℕ) → (is_digit c && nat_lt n 10 && nat_le (10 * v + (c - 48)) 4294967295) ≡ true → fine false false 4 (nat_lt c 256) (move.One (sym.Line (line.Sequence (10 * v + (c - 48)) (n + 1)))) ≡ true
+    digits_fine v n c d = grind arith
+
+    space_fine : (c : ℕ) → (c == 32) ≡ true → fine false false 4 (nat_lt c 256) (move.One (word_start place.Numbered)) ≡ true
+    space_fine c e = grind arith
+line_fine line.Text c fits = grind arith
+line_fine (line.Fixed p at) c fits = fixed_fine p at c fits
+
+-- ---- numbers
+
+digits_fit : (n w : ℕ) → (nat_lt n 10 && nat_le w 4294967295 && not (w == 0 && n == 9)) ≡ true → SymFits (sym.Item (item.Number w (n + 1))) ≡ true
+digits_fit n w e = grind arith
+
+small_digit : (c : ℕ) → is_digit c ≡ true → nat_lt c 256 ≡ true
+small_digit c e = grind arith
+
+number_fine : (v n c : ℕ) → fine true true 1 (nat_lt c 256) (number_rule v n c) ≡ true
+number_fine v n c =
+    let w : ℕ = 10 * v + (c - 48) in
+    fine_by true true 1 (nat_lt c 256) (is_digit c)
+    (cond (nat_lt n 10 && nat_le w 4294967295 && not (w == 0 && n == 9)) (move.One (sym.Item (item.Number w (n + 1)))) move.Fail)
+    (cond (nat_lt 0 v) move.Yield move.Fail)
+    (λ d. fine_by true true 1 (nat_lt c 256) (nat_lt n 10 && nat_le w 4294967295 && not (w == 0 && n == 9)) (move.One (sym.Item (item.Number w (n + 1)))) move.Fail
+    (λ e. and_from _ _ (and_from _ _ (and_from _ _ (and_from _ _ (small_digit c d) (digits_fit n w e)) refl) refl) refl)
+    (λ e. refl))
+    (λ d. fine_by true true 1 (nat_lt c 256) (nat_lt 0 v) move.Yield move.Fail (λ e. refl) (λ e. refl))
+
+-- ---- all
+
+pub move_fine : (s : Sym) (c : ℕ) → is_octets s ≡ false → SymFits s ≡ true → fine (ends_open s) (may_yield s) (need s) (nat_lt c 256) (rule_of s c) ≡ true
+move_fine (sym.Line s) c o fits = line_fine s c fits
+move_fine (sym.Word p k at) c o fits = word_fine p k at c
+move_fine (sym.Free (free.Text s)) c o fits = text_fine 2 s c (omega arith) fits
+move_fine (sym.Free (free.Break n)) c o fits = grind arith
+move_fine (sym.Free (free.Octets n)) c o fits = absurd cc
+move_fine (sym.Item item.Open) c o fits = grind arith
+move_fine (sym.Item item.More) c o fits = grind arith
+move_fine (sym.Item (item.Number v n)) c o fits = number_fine v n c
+move_fine (sym.Names names.Open) c o fits = grind arith
+move_fine (sym.Names names.First) c o fits = grind arith
+move_fine (sym.Names names.More) c o fits = grind arith
+move_fine (sym.Names names.Name) c o fits = grind arith
+move_fine (sym.Names names.Atom) c o fits = grind arith
+move_fine (sym.Names names.AtomRest) c o fits = grind arith

@@ -1,0 +1,228 @@
+-- One octet at the items of a FETCH.
+use Rattle.std.proofs.Common.{◌≡◌, ℕ, ◌+◌, ◌-◌, ◌*◌, ◌<◌, ◌≤◌, Bool, true, false, not, ◌&&◌, ◌||◌, List, [], ◌∷◌, ◌++◌, length, map, get_or, cond, refl, sym, ap, subst, ◌∙◌, append_assoc, arith, inl, inr, zero, suc}
+use Rattle.std.specs.Prelude.{◌==◌, nat_lt, nat_le, codes}
+use Rattle.std.proofs.lemmas.Bool.{eqb-true, ltb-true, leb-true, and_parts, and_from, lt-ltb, le-leb, eq-eqb, ne_eqb, not-true}
+use Rattle.imap_automaton.specs.declared.sym.Key.{Key}
+use Rattle.imap_automaton.specs.declared.sym.Key.TheVariants as key
+use Rattle.imap_automaton.specs.declared.sym.Place.TheVariants as place
+use Rattle.imap_automaton.specs.declared.sym.Phrase.TheVariants as phrase
+use Rattle.imap_automaton.specs.declared.sym.Line.TheVariants as line
+use Rattle.imap_automaton.specs.declared.sym.Item.{Item}
+use Rattle.imap_automaton.specs.declared.sym.Item.TheVariants as item
+use Rattle.imap_automaton.specs.declared.sym.Sym.TheVariants as sym
+use Rattle.imap_automaton.specs.declared.sym.Move.TheVariants as move
+use Rattle.imap_automaton.specs.Keys.{key_text, keys, in_word}
+use Rattle.imap_automaton.specs.ItemRules.{item_start, number_rule, item_rule}
+use Rattle.imap_automaton.specs.Fits.{ItemFits}
+use Rattle.imap_automaton.specs.Flow.{stops}
+use Rattle.imap_automaton.proofs.Langs.{NumberRest, ItemLang, IsSpaced, IsBehind, IsStray, WordSays, WordRest, Lang, After}
+use Rattle.imap_automaton.proofs.Lists.{cons_head, cons_tail}
+use Rattle.imap_automaton.proofs.Tests.{from_test, to_test, at_true, at_false, is_true_at, crlf_of, mid}
+use Rattle.imap_syntax.specs.Octets.{is_digit, is_atom, lower}
+use Rattle.imap_syntax.specs.Texts.{Each, Then, crlf}
+use Rattle.imap_syntax.specs.Numbers.{value_from, IsNumber, IsNonZero}
+use Rattle.imap_syntax.specs.Items as items
+
+-- ---- numbers
+
+pub value_mono : (v : ℕ) (t : List ℕ) → v ≤ value_from v t
+value_mono v [] = omega arith
+value_mono v (c ∷ t) = let ih = value_mono (10 * v + (c - 48)) t in omega (arith, ih)
+
+number_back : (v n c : ℕ) (t : List ℕ) → After (number_rule v n c) t → NumberRest v n (c ∷ t)
+number_back v n c t h =
+    let w : ℕ = 10 * v + (c - 48) in
+    from_test (is_digit c)
+    (cond (nat_lt n 10 && nat_le w 4294967295 && not (w == 0 && n == 9)) (move.One (sym.Item (item.Number w (n + 1)))) move.Fail)
+    (cond (nat_lt 0 v) move.Yield move.Fail) t (NumberRest v n (c ∷ t))
+    (λ e a. from_test (nat_lt n 10 && nat_le w 4294967295 && not (w == 0 && n == 9)) (move.One (sym.Item (item.Number w (n + 1)))) move.Fail t (NumberRest v n (c ∷ t))
+    (λ f l. record { each = (e, l.each); some = omega arith; few = omega (arith, l.few); most = l.most; not_zero = l.not_zero })
+    (λ f l. absurd l) a)
+    (λ e a. from_test (nat_lt 0 v) move.Yield move.Fail t (NumberRest v n (c ∷ t)) (λ f l. absurd l) (λ f l. absurd l) a) h
+
+-- nine digits and none left make no 0
+zero_left : (w n : ℕ) (t : List ℕ) → 0 < value_from w t → n + (1 + length t) ≤ 10 → not (w == 0 && n == 9) ≡ true
+zero_left w n [] e few = let ne : (w == 0) ≡ false = ne_eqb w 0 (λ q. omega (arith, e, q)) in rw ne refl
+zero_left w n (c ∷ t) e few = let ne : (n == 9) ≡ false = ne_eqb n 9 (λ q. omega (arith, few)) in rw ne (grind arith)
+
+number_forth : (v n c : ℕ) (t : List ℕ) → NumberRest v n (c ∷ t) → After (number_rule v n c) t
+number_forth v n c t h =
+    let w : ℕ = 10 * v + (c - 48) in
+    let few : n + (1 + length t) ≤ 10 = omega (arith, h.few) in
+    let most : value_from w t ≤ 4294967295 = h.most in
+    let mono = value_mono w t in
+    at_true (is_digit c)
+    (cond (nat_lt n 10 && nat_le w 4294967295 && not (w == 0 && n == 9)) (move.One (sym.Item (item.Number w (n + 1)))) move.Fail)
+    (cond (nat_lt 0 v) move.Yield move.Fail) t h.each.0
+    (at_true (nat_lt n 10 && nat_le w 4294967295 && not (w == 0 && n == 9)) (move.One (sym.Item (item.Number w (n + 1)))) move.Fail t
+    (and_from _ _ (and_from _ _ (lt-ltb n 10 (omega (arith, few))) (le-leb w 4294967295 (omega (arith, most, mono)))) (zero_left w n t h.not_zero few))
+    (record { each = h.each.1; some = omega arith; few = omega (arith, few); most = h.most; not_zero = h.not_zero }))
+
+pub stop_no_digit : (c : ℕ) → stops c ≡ true → is_digit c ≡ false
+stop_no_digit c e = grind arith
+
+pub number_ends : (v n c : ℕ) → NumberRest v n [] → stops c ≡ true → number_rule v n c ≡ move.Yield
+number_ends v n c h e =
+    cond_no (is_digit c) (cond (nat_lt n 10 && nat_le (10 * v + (c - 48)) 4294967295 && not (10 * v + (c - 48) == 0 && n == 9)) (move.One (sym.Item (item.Number (10 * v + (c - 48)) (n + 1)))) move.Fail) (cond (nat_lt 0 v) move.Yield move.Fail) (stop_no_digit c e)
+    ∙ cond_yes (nat_lt 0 v) move.Yield move.Fail (lt-ltb 0 v h.not_zero)
+  where
+    cond_no : {A : Type 0} (b : Bool) (x y : A) → b ≡ false → cond b x y ≡ y
+    cond_no b x y e = rw e refl
+
+    cond_yes : {A : Type 0} (b : Bool) (x y : A) → b ≡ true → cond b x y ≡ x
+    cond_yes b x y e = rw e refl
+
+-- a number that has come whole
+pub number_yields : (v n c : ℕ) → ItemFits (item.Number v n) ≡ true → number_rule v n c ≡ move.Yield → NumberRest v n []
+number_yields v n c fits e =
+    let a = and_parts (nat_le n 10 && nat_le v 4294967295 && (nat_lt 0 n || v == 0)) (not (v == 0 && n == 10)) fits in
+    let b = and_parts (nat_le n 10 && nat_le v 4294967295) (nat_lt 0 n || v == 0) a.0 in
+    let d = and_parts (nat_le n 10) (nat_le v 4294967295) b.0 in
+    let pos : nat_lt 0 v ≡ true = ended (is_digit c) (nat_lt n 10 && nat_le (10 * v + (c - 48)) 4294967295 && not (10 * v + (c - 48) == 0 && n == 9)) (nat_lt 0 v) (sym.Item (item.Number (10 * v + (c - 48)) (n + 1))) e in
+    let some : 0 < n = digits_some v n (ltb-true 0 v pos) b.1 in
+    record { each = tt; some = omega (arith, some); few = omega (arith, leb-true _ _ d.0); most = leb-true _ _ d.1; not_zero = ltb-true 0 v pos }
+  where
+    ended : (p q r : Bool) (s : Rattle.imap_automaton.specs.declared.sym.Sym.Sym) → cond p (cond q (move.One s) move.Fail) (cond r move.Yield move.Fail) ≡ move.Yield → r ≡ true
+    ended true true r s e = absurd cc
+    ended true false r s e = absurd cc
+    ended false q true s e = refl
+    ended false q false s e = absurd cc
+
+    digits_some : (v n : ℕ) → 0 < v → (nat_lt 0 n || v == 0) ≡ true → 0 < n
+    digits_some v n pos e = grind arith
+
+number_from : (n : ℕ) (t : List ℕ) → IsNonZero n t → NumberRest 0 0 t
+number_from n t h = record { each = h.0.digits; some = omega (arith, h.0.some); few = omega (arith, h.0.few); most = omega (arith, h.0.value, h.0.most); not_zero = omega (arith, h.0.value, h.1) }
+
+number_to : (t : List ℕ) → NumberRest 0 0 t → IsNonZero (value_from 0 t) t
+number_to t h = (record { digits = h.each; some = omega (arith, h.some); few = omega (arith, h.few); value = refl; most = h.most }, h.not_zero)
+
+-- ---- an item is a word, a space and a value
+
+no_atom_space : is_atom 32 ≡ false
+no_atom_space = refl
+
+pub item_from : (t : List ℕ) → WordRest place.Item [] t → (i : items.Item) × items.IsItem i t
+item_from t h = by h.says
+  where
+    by : WordSays place.Item ([] ++ map lower h.word) h.tail t → (i : items.Item) × items.IsItem i t
+    by (inl k) = of_key k.0 k.2 k.3
+      where
+        of_key : (k : Key) → [] ++ map lower h.word ≡ key_text k → IsBehind place.Item k h.tail → (i : items.Item) × items.IsItem i t
+        of_key key.Uid e b = (items.Uid (value_from 0 b.0), record { name = h.word; value = b.0; whole = h.whole ∙ ap (λ (u : List ℕ). h.word ++ u) b.1; atom = h.each; item = (e, number_to b.0 b.2) })
+        of_key key.Flags e b = (items.Flags b.2.0, record { name = h.word; value = b.0; whole = h.whole ∙ ap (λ (u : List ℕ). h.word ++ u) b.1; atom = h.each; item = (e, b.2.1) })
+        of_key _ e b = absurd b
+    by (inr s) = absurd s.1
+
+name_some : (n : List ℕ) → (map lower n ≡ [] → ⊥) → 0 < length n
+name_some [] e = absurd (e refl)
+name_some (c ∷ n) e = omega arith
+
+pub item_to : (i : items.Item) (t : List ℕ) → items.IsItem i t → WordRest place.Item [] t
+item_to (items.Uid n) t h = record {
+  word = h.name;
+  tail = 32 ∷ h.value;
+  whole = h.whole;
+  each = h.atom;
+  some = (let s = name_some h.name (λ q. let f = sym q ∙ h.item.0 in cc) in omega (arith, s));
+  longest = refl;
+  says = inl (key.Uid, inl refl, h.item.0, (h.value, refl, number_from n h.value h.item.1));
+}
+item_to (items.Flags ns) t h = record {
+  word = h.name;
+  tail = 32 ∷ h.value;
+  whole = h.whole;
+  each = h.atom;
+  some = (let s = name_some h.name (λ q. let f = sym q ∙ h.item.0 in cc) in omega (arith, s));
+  longest = refl;
+  says = inl (key.Flags, inr (inl refl), h.item.0, (h.value, refl, (ns, h.item.1)));
+}
+
+-- ---- Open and More
+
+items_from : (t : List ℕ) → Then (Lang item_start) (Lang (sym.Item item.More)) t → (is : List items.Item) × items.IsItems is t
+items_from t h =
+    let i = item_from h.front h.first in
+    (i.0 ∷ h.second.0, record { front = h.front; back = h.back; whole = h.whole; first = i.1; second = h.second.1 })
+
+items_to : (is : List items.Item) (t : List ℕ) → items.IsItems is t → Then (Lang item_start) (Lang (sym.Item item.More)) t
+items_to [] t h = absurd h
+items_to (i ∷ is) t h = record { front = h.front; back = h.back; whole = h.whole; first = item_to i h.front h.first; second = (is, h.second) }
+
+open_back : (c : ℕ) (t : List ℕ) → After (item_rule item.Open c) t → ItemLang item.Open (c ∷ t)
+open_back c t h = from_test (c == 40) (move.Two item_start (sym.Item item.More)) move.Fail t (ItemLang item.Open (c ∷ t))
+    (λ e k. let i = items_from t k in (i.0, t, ap (λ (d : ℕ). d ∷ t) (eqb-true c 40 e), i.1))
+    (λ e k. absurd k) h
+
+open_forth : (c : ℕ) (t : List ℕ) → ItemLang item.Open (c ∷ t) → After (item_rule item.Open c) t
+open_forth c t h =
+    at_true (c == 40) (move.Two item_start (sym.Item item.More)) move.Fail t (eq-eqb c 40 (cons_head c 40 t h.1 h.2))
+    (items_to h.0 t (subst (items.IsItems h.0) (sym (cons_tail c 40 t h.1 h.2)) h.3))
+
+more_back : (c : ℕ) (t : List ℕ) → After (item_rule item.More c) t → ItemLang item.More (c ∷ t)
+more_back c t h = from_test (c == 32) (move.Two item_start (sym.Item item.More)) (cond (c == 41) (move.One (sym.Line (line.Fixed phrase.Crlf 0))) move.Fail) t (ItemLang item.More (c ∷ t))
+    (λ e k.
+    let i = item_from k.front k.first in
+    (i.0 ∷ k.second.0, (k.front, k.back, ap (λ (d : ℕ). d ∷ t) (eqb-true c 32 e) ∙ ap (λ (u : List ℕ). 32 ∷ u) k.whole, i.1, k.second.1)))
+    (λ e k. from_test (c == 41) (move.One (sym.Line (line.Fixed phrase.Crlf 0))) move.Fail t (ItemLang item.More (c ∷ t))
+    (λ f l. ([], ap (λ (d : ℕ). d ∷ t) (eqb-true c 41 f) ∙ ap (λ (u : List ℕ). 41 ∷ u) l)) (λ f l. absurd l) k) h
+
+more_at : (is : List items.Item) (c : ℕ) (t : List ℕ) → items.IsMore is (c ∷ t) → After (item_rule item.More c) t
+more_at [] c t h =
+    at_false (c == 32) (move.Two item_start (sym.Item item.More)) (cond (c == 41) (move.One (sym.Line (line.Fixed phrase.Crlf 0))) move.Fail) t (ap (λ (d : ℕ). d == 32) (cons_head c 41 t crlf h))
+    (at_true (c == 41) (move.One (sym.Line (line.Fixed phrase.Crlf 0))) move.Fail t (eq-eqb c 41 (cons_head c 41 t crlf h)) (cons_tail c 41 t crlf h))
+more_at (i ∷ is) c t h =
+    at_true (c == 32) (move.Two item_start (sym.Item item.More)) (cond (c == 41) (move.One (sym.Line (line.Fixed phrase.Crlf 0))) move.Fail) t (eq-eqb c 32 (cons_head c 32 t (h.0 ++ h.1) h.2))
+    (record { front = h.0; back = h.1; whole = cons_tail c 32 t (h.0 ++ h.1) h.2; first = item_to i h.0 h.3; second = (is, h.4) })
+
+-- ---- the group
+
+pub item_back : (s : Item) (c : ℕ) (t : List ℕ) → After (item_rule s c) t → ItemLang s (c ∷ t)
+item_back item.Open c t h = open_back c t h
+item_back item.More c t h = more_back c t h
+item_back (item.Number v n) c t h = number_back v n c t h
+
+pub item_forth : (s : Item) (c : ℕ) (t : List ℕ) → ItemLang s (c ∷ t) → After (item_rule s c) t
+item_forth item.Open c t h = open_forth c t h
+item_forth item.More c t h = more_at h.0 c t h.1
+item_forth (item.Number v n) c t h = number_forth v n c t h
+
+more_none : (is : List items.Item) → items.IsMore is [] → ⊥
+more_none [] h = cc
+more_none (i ∷ is) h = let e = h.2 in cc
+
+pub open_none : ItemLang item.Open [] → ⊥
+open_none h = let e = h.2 in cc
+
+pub more_empty : ItemLang item.More [] → ⊥
+more_empty h = more_none h.0 h.1
+
+pub items_stop : (is : List items.Item) (c : ℕ) (t : List ℕ) → items.IsMore is (c ∷ t) → stops c ≡ true
+items_stop [] c t h = is_true_at stops c 41 (cons_head c 41 t crlf h) refl
+items_stop (i ∷ is) c t h = is_true_at stops c 32 (cons_head c 32 t (h.0 ++ h.1) h.2) refl
+
+-- `UID 1`
+pub one_item : (i : items.Item) × items.IsItem i (codes "uid 1")
+one_item = (items.Uid 1, record { name = codes "uid"; value = 49 ∷ []; whole = refl; atom = (refl, (refl, (refl, tt))); item = (refl, (record { digits = (refl, tt); some = omega arith; few = omega arith; value = refl; most = omega arith }, omega arith)) })
+
+number_some : (v n : ℕ) → ItemFits (item.Number v n) ≡ true → (t : List ℕ) × NumberRest v n t
+number_some v n fits =
+    let a = and_parts (nat_le n 10 && nat_le v 4294967295 && (nat_lt 0 n || v == 0)) (not (v == 0 && n == 10)) fits in
+    let b = and_parts (nat_le n 10 && nat_le v 4294967295) (nat_lt 0 n || v == 0) a.0 in
+    let d = and_parts (nat_le n 10) (nat_le v 4294967295) b.0 in
+    by v n (leb-true _ _ d.0) (leb-true _ _ d.1) b.1 a.1
+  where
+    by : (v n : ℕ) → n ≤ 10 → v ≤ 4294967295 → (nat_lt 0 n || v == 0) ≡ true → not (v == 0 && n == 10) ≡ true → (t : List ℕ) × NumberRest v n t
+    by zero n few most e f = (49 ∷ [], record { each = (refl, tt); some = omega arith; few = (let q : n ≤ 9 = short n few f in omega (arith, q)); most = omega arith; not_zero = omega arith })
+      where
+        short : (n : ℕ) → n ≤ 10 → not (0 == 0 && n == 10) ≡ true → n ≤ 9
+        short n few f = grind arith
+    by (suc v) n few most e f = ([], record { each = tt; some = (let q : 0 < n = digits v n e in omega (arith, q)); few = omega (arith, few); most = most; not_zero = omega arith })
+      where
+        digits : (v n : ℕ) → (nat_lt 0 n || suc v == 0) ≡ true → 0 < n
+        digits v n e = grind arith
+
+pub item_example : (s : Item) → ItemFits s ≡ true → (t : List ℕ) × ItemLang s t
+item_example item.Open fits = (40 ∷ codes "uid 1" ++ 41 ∷ crlf, (one_item.0 ∷ [], codes "uid 1" ++ 41 ∷ crlf, refl, record { front = codes "uid 1"; back = 41 ∷ crlf; whole = refl; first = one_item.1; second = refl }))
+item_example item.More fits = (41 ∷ crlf, ([], refl))
+item_example (item.Number v n) fits = number_some v n fits

@@ -1,0 +1,192 @@
+-- What each symbol of the automaton still reads, in the words of the grammar.
+use Rattle.std.proofs.Common.{◌≡◌, ◌⊎◌, ℕ, zero, suc, ◌+◌, ◌<◌, ◌≤◌, false, List, [], ◌∷◌, ◌++◌, length, map, take, drop, get_or}
+use Rattle.imap_automaton.specs.declared.sym.Key.{Key}
+use Rattle.imap_automaton.specs.declared.sym.Key.TheVariants as key
+use Rattle.imap_automaton.specs.declared.sym.Place.{Place}
+use Rattle.imap_automaton.specs.declared.sym.Place.TheVariants as place
+use Rattle.imap_automaton.specs.declared.sym.Pending.{Pending}
+use Rattle.imap_automaton.specs.declared.sym.Pending.TheVariants as pending
+use Rattle.imap_automaton.specs.declared.sym.Line.{Line}
+use Rattle.imap_automaton.specs.declared.sym.Line.TheVariants as line
+use Rattle.imap_automaton.specs.declared.sym.Free.{Free}
+use Rattle.imap_automaton.specs.declared.sym.Free.TheVariants as free
+use Rattle.imap_automaton.specs.declared.sym.Item.{Item}
+use Rattle.imap_automaton.specs.declared.sym.Item.TheVariants as item
+use Rattle.imap_automaton.specs.declared.sym.Names.{Names}
+use Rattle.imap_automaton.specs.declared.sym.Names.TheVariants as names
+use Rattle.imap_automaton.specs.declared.sym.Sym.{Sym}
+use Rattle.imap_automaton.specs.declared.sym.Sym.TheVariants as sym
+use Rattle.imap_automaton.specs.declared.sym.Move.{Move}
+use Rattle.imap_automaton.specs.declared.sym.Move.TheVariants as move
+use Rattle.imap_automaton.specs.Counts.{pends}
+use Rattle.imap_automaton.specs.Keys.{key_text, phrase_text, keys, in_word}
+use Rattle.imap_syntax.specs.declared.response.Response.{Response}
+use Rattle.imap_syntax.specs.Octets.{is_digit, is_alnum, is_text, is_atom, is_inside, lower}
+use Rattle.imap_syntax.specs.Texts.{Each, Then, crlf}
+use Rattle.imap_syntax.specs.Numbers.{value_from}
+use Rattle.imap_syntax.specs.Lines.{IsLine, IsRest}
+use Rattle.imap_syntax.specs.Items as items
+use Rattle.imap_syntax.specs.Spells.{Spells, IsUntagged}
+
+-- ---- text with literals
+
+abbrev pub NoCount : Pending → Type 0
+NoCount (pending.Closed v) = ⊥
+NoCount _ = Unit {0}
+
+pub record FreeEnd (s : Pending) (t : List ℕ) : Type 0 where
+  pub text : List ℕ
+  pub whole : t ≡ text ++ crlf
+  pub text_is : Each is_text text
+  pub no_count : NoCount (pends s text)
+
+pub record FreeLiteral (Rest : List ℕ → Type 0) (s : Pending) (t : List ℕ) : Type 0 where
+  pub text : List ℕ
+  pub count : ℕ
+  pub octets : List ℕ
+  pub rest : List ℕ
+  pub whole : t ≡ text ++ 13 ∷ 10 ∷ octets ++ rest
+  pub text_is : Each is_text text
+  pub counted : pends s text ≡ pending.Closed count
+  pub most : count ≤ 50000000
+  pub length_is : length octets ≡ count
+  pub inside : Each is_inside octets
+  pub goes_on : Rest rest
+
+-- with so many literals, behind a text that ends so
+abbrev pub IsFreeFrom : ℕ → Pending → List ℕ → Type 0
+IsFreeFrom zero s t = FreeEnd s t
+IsFreeFrom (suc literals) s t = FreeLiteral (IsFreeFrom literals pending.Nothing) s t
+
+pub record OctetsRest (n : ℕ) (t : List ℕ) : Type 0 where
+  pub counted : length t ≡ n
+  pub inside : Each is_inside t
+
+abbrev pub FreeLang : Free → List ℕ → Type 0
+FreeLang (free.Text s) t = (literals : ℕ) × IsFreeFrom literals s t
+FreeLang (free.Break n) t = (o : List ℕ) × (t ≡ 10 ∷ o) × OctetsRest n o
+FreeLang (free.Octets n) t = OctetsRest n t
+
+-- ---- names
+
+abbrev pub NamesLang : Names → List ℕ → Type 0
+NamesLang names.Open t = (ns : List (List ℕ)) × items.IsNames ns t
+NamesLang names.First t = (ns : List (List ℕ)) × items.AllNames ns × (t ≡ items.joined ns ++ 41 ∷ [])
+NamesLang names.More t = (ns : List (List ℕ)) × items.AllNames ns × (t ≡ items.spaced ns ++ 41 ∷ [])
+NamesLang names.Name t = items.IsName t
+NamesLang names.Atom t = items.IsAtom t
+NamesLang names.AtomRest t = Each is_atom t
+
+-- ---- items
+
+-- the rest of a number that isn't 0, of which `digits` digits made `value`
+pub record NumberRest (value digits : ℕ) (t : List ℕ) : Type 0 where
+  pub each : Each is_digit t
+  pub some : 0 < digits + length t
+  pub few : digits + length t ≤ 10
+  pub most : value_from value t ≤ 4294967295
+  pub not_zero : 0 < value_from value t
+
+abbrev pub ItemLang : Item → List ℕ → Type 0
+ItemLang item.Open t = (is : List items.Item) × (inner : List ℕ) × (t ≡ 40 ∷ inner) × items.IsItems is inner
+ItemLang item.More t = (is : List items.Item) × items.IsMore is t
+ItemLang (item.Number value digits) t = NumberRest value digits t
+
+-- ---- words
+
+abbrev pub IsSpaced : (List ℕ → Type 0) → List ℕ → Type 0
+IsSpaced L t = (rest : List ℕ) × (t ≡ 32 ∷ rest) × L rest
+
+-- what follows a key
+abbrev pub IsBehind : Place → Key → List ℕ → Type 0
+IsBehind place.Tagged key.Ok t = IsRest t
+IsBehind place.Tagged key.No t = IsRest t
+IsBehind place.Tagged key.Bad t = IsRest t
+IsBehind place.Plain key.Ok t = IsRest t
+IsBehind place.Plain key.No t = IsRest t
+IsBehind place.Plain key.Bad t = IsRest t
+IsBehind place.Plain key.Preauth t = IsRest t
+IsBehind place.Plain key.Bye t = IsRest t
+IsBehind place.Numbered key.Fetch t = IsSpaced (ItemLang item.Open) t
+IsBehind place.Item key.Uid t = IsSpaced (ItemLang (item.Number 0 0)) t
+IsBehind place.Item key.Flags t = IsSpaced (NamesLang names.Open) t
+IsBehind _ _ t = ⊥
+
+-- one of the keys
+abbrev pub Among : Key → List Key → Type 0
+Among k [] = ⊥
+Among k (x ∷ xs) = (k ≡ x) ⊎ Among k xs
+
+-- the text of a word that is no key
+abbrev pub IsStray : Place → List ℕ → Type 0
+IsStray place.Plain t = FreeLang (free.Text pending.Nothing) t
+IsStray place.Numbered t = FreeLang (free.Text pending.Nothing) t
+IsStray _ t = ⊥
+
+abbrev pub WordSays : Place → List ℕ → List ℕ → List ℕ → Type 0
+WordSays place word tail t =
+    ((k : Key) × Among k (keys place) × (word ≡ key_text k) × IsBehind place k tail)
+    ⊎ (((k : Key) → Among k (keys place) → word ≡ key_text k → ⊥) × IsStray place t)
+
+-- the rest of a word that began so, and what follows it
+pub record WordRest (place : Place) (begun t : List ℕ) : Type 0 where
+  pub word : List ℕ
+  pub tail : List ℕ
+  pub whole : t ≡ word ++ tail
+  pub each : Each (in_word place) word
+  pub some : 0 < length begun + length word
+  pub longest : in_word place (get_or tail 0 0) ≡ false
+  pub says : WordSays place (begun ++ map lower word) tail t
+
+-- ---- lines
+
+pub record TagRest (n : ℕ) (t : List ℕ) : Type 0 where
+  pub tag : List ℕ
+  pub after : List ℕ
+  pub whole : t ≡ tag ++ 32 ∷ after
+  pub tag_is : Each is_alnum tag
+  pub few : n + length tag ≤ 32
+  pub line : WordRest place.Tagged [] after
+
+-- the rest of a number of which `digits` digits made `value`, a space and a line
+pub record NumberedRest (value digits : ℕ) (line t : List ℕ) : Type 0 where
+  pub more : List ℕ
+  pub whole : t ≡ more ++ 32 ∷ line
+  pub each : Each is_digit more
+  pub few : digits + length more ≤ 10
+  pub most : value_from value more ≤ 4294967295
+
+abbrev pub SequenceRest : ℕ → ℕ → List ℕ → Type 0
+SequenceRest value digits t =
+    ((line : List ℕ) × NumberedRest value digits line t × WordRest place.Numbered [] line)
+    ⊎ (FreeLang (free.Text pending.Nothing) t × ((line : List ℕ) → NumberedRest value digits line t → ⊥))
+
+abbrev pub LineLang : Line → List ℕ → Type 0
+LineLang line.Start t = (v : Response) × Spells v t
+LineLang (line.Tag n) t = TagRest n t
+LineLang line.Untagged t = (v : Response) × IsUntagged v t
+LineLang (line.Sequence value digits) t = SequenceRest value digits t
+LineLang line.Text t = IsLine t
+LineLang (line.Fixed p at) t = t ≡ drop at (phrase_text p)
+
+-- ---- symbols
+
+abbrev pub Lang : Sym → List ℕ → Type 0
+Lang (sym.Line s) t = LineLang s t
+Lang (sym.Word place key at) t = WordRest place (take at (key_text key)) t
+Lang (sym.Free s) t = FreeLang s t
+Lang (sym.Item s) t = ItemLang s t
+Lang (sym.Names s) t = NamesLang s t
+
+-- the symbols in turn
+abbrev pub Langs : List Sym → List ℕ → Type 0
+Langs [] t = t ≡ []
+Langs (s ∷ ss) t = Then (Lang s) (Langs ss) t
+
+-- what is still read after a move
+abbrev pub After : Move → List ℕ → Type 0
+After move.Fail t = ⊥
+After move.Yield t = ⊥
+After move.End t = t ≡ []
+After (move.One a) t = Lang a t
+After (move.Two a b) t = Then (Lang a) (Lang b) t

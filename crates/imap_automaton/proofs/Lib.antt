@@ -1,0 +1,16 @@
+pub mod Lists
+pub mod Langs
+pub mod Tests
+pub mod FreeEdges
+pub mod NamesEdges
+pub mod ItemEdges
+pub mod KeyLemmas
+pub mod WordEdges
+pub mod CountLemmas
+pub mod LineWords
+pub mod LineEdges
+pub mod Edges
+pub mod Fine
+pub mod Kept
+pub mod Whole
+pub mod Marks

@@ -1,0 +1,168 @@
+-- The grammar's lines by their first word, and the automaton's words.
+use Rattle.std.proofs.Common.{◌≡◌, ◌⊎◌, ℕ, zero, suc, ◌+◌, ◌<◌, ◌≤◌, Bool, true, false, not, ◌&&◌, List, [], ◌∷◌, ◌++◌, length, map, get_or, Option, Some, None, refl, sym, ap, subst, ◌∙◌, arith, inl, inr}
+use Rattle.std.specs.Prelude.{◌==◌, ◌≢◌, Contains, codes}
+use Rattle.std.proofs.lemmas.Bool.{eqb-true}
+use Rattle.imap_automaton.specs.declared.sym.Key.{Key}
+use Rattle.imap_automaton.specs.declared.sym.Key.TheVariants as key
+use Rattle.imap_automaton.specs.declared.sym.Place.{Place}
+use Rattle.imap_automaton.specs.declared.sym.Place.TheVariants as place
+use Rattle.imap_automaton.specs.declared.sym.Item.TheVariants as item
+use Rattle.imap_automaton.specs.Keys.{key_text, keys, line_keys, is_among}
+use Rattle.imap_automaton.proofs.Langs.{ItemLang, IsSpaced, Among, IsBehind, IsStray, WordSays, WordRest}
+use Rattle.imap_automaton.proofs.Lists.{cons_head, cons_tail}
+use Rattle.imap_automaton.proofs.KeyLemmas.{is_key_octet, key_octets, key_some, among_is}
+use Rattle.imap_automaton.proofs.CountLemmas.{free_to, free_from}
+use Rattle.imap_syntax.specs.declared.response.Status.{Status}
+use Rattle.imap_syntax.specs.declared.response.Status.TheVariants as status
+use Rattle.imap_syntax.specs.declared.response.Response.{Response}
+use Rattle.imap_syntax.specs.declared.response.Response.TheVariants as response
+use Rattle.imap_syntax.specs.Octets.{is_digit, is_word, is_atom, lower}
+use Rattle.imap_syntax.specs.Texts.{Each, Then, crlf, IsWord}
+use Rattle.imap_syntax.specs.Lines.{word_of, Completes, IsRest}
+use Rattle.imap_syntax.specs.Items.{Item, IsItems, items_of}
+use Rattle.imap_syntax.specs.Spells.{keywords, Says, IsWordLine}
+
+-- ---- keywords
+
+pub keyword_key : (w : List ℕ) → Contains keywords w → (k : Key) × Among k line_keys × (w ≡ key_text k)
+keyword_key w (zero, lt, e) = (key.Ok, inl refl, sym e)
+keyword_key w (suc zero, lt, e) = (key.No, inr (inl refl), sym e)
+keyword_key w (suc (suc zero), lt, e) = (key.Bad, inr (inr (inl refl)), sym e)
+keyword_key w (suc (suc (suc zero)), lt, e) = (key.Preauth, inr (inr (inr (inl refl))), sym e)
+keyword_key w (suc (suc (suc (suc zero))), lt, e) = (key.Bye, inr (inr (inr (inr (inl refl)))), sym e)
+keyword_key w (suc (suc (suc (suc (suc zero)))), lt, e) = (key.Fetch, inr (inr (inr (inr (inr (inl refl))))), sym e)
+keyword_key w (suc (suc (suc (suc (suc (suc i))))), lt, e) = absurd (omega (arith, lt))
+
+key_keyword : (k : Key) → Among k line_keys → Contains keywords (key_text k)
+key_keyword key.Ok m = (0, omega arith, refl)
+key_keyword key.No m = (1, omega arith, refl)
+key_keyword key.Bad m = (2, omega arith, refl)
+key_keyword key.Preauth m = (3, omega arith, refl)
+key_keyword key.Bye m = (4, omega arith, refl)
+key_keyword key.Fetch m = (5, omega arith, refl)
+key_keyword key.Uid m = let e = among_is key.Uid line_keys m in absurd cc
+key_keyword key.Flags m = let e = among_is key.Flags line_keys m in absurd cc
+
+-- ---- behind `* `
+
+stray_to : (w t : List ℕ) → (Contains keywords w → ⊥) → (k : Key) → Among k line_keys → w ≡ key_text k → ⊥
+stray_to w t no_key k m e = no_key (subst (Contains keywords) (sym e) (key_keyword k m))
+
+plain_says : (v : Response) (w tail t : List ℕ) → Says None v w tail t → WordSays place.Plain w tail t
+plain_says (response.Untagged status.Ok) w tail t h = inl (key.Ok, inl refl, h.0, h.1)
+plain_says (response.Untagged status.No) w tail t h = inl (key.No, inr (inl refl), h.0, h.1)
+plain_says (response.Untagged status.Bad) w tail t h = inl (key.Bad, inr (inr (inl refl)), h.0, h.1)
+plain_says (response.Untagged status.Preauth) w tail t h = inl (key.Preauth, inr (inr (inr (inl refl))), h.0, h.1)
+plain_says (response.Untagged status.Bye) w tail t h = inl (key.Bye, inr (inr (inr (inr (inl refl)))), h.0, h.1)
+plain_says response.Other w tail t h = inr (stray_to w t h.0, (h.1.0, free_to h.1.0 t h.1.1))
+plain_says (response.Tagged tag status) w tail t h = absurd h
+plain_says (response.Fetch seq items) w tail t h = absurd h
+
+pub word_some : (w : List ℕ) → w ≢ [] → 0 < length w
+word_some [] ne = absurd (ne refl)
+word_some (c ∷ w) ne = omega arith
+
+pub some_word : (w : List ℕ) → 0 < length w → w ≢ []
+some_word w lt e = omega (arith, lt, ap length e)
+
+pub plain_to : (v : Response) (t : List ℕ) → IsWordLine None v t → WordRest place.Plain [] t
+plain_to v t h = record { word = h.word; tail = h.tail; whole = h.whole; each = h.word_is; some = (let s = word_some h.word h.some in omega (arith, s)); longest = h.longest; says = plain_says v (map lower h.word) h.tail t h.says }
+
+said_by_key : (k : Key) (w tail t : List ℕ) → w ≡ key_text k → IsBehind place.Plain k tail → (v : Response) × Says None v w tail t
+said_by_key key.Ok w tail t e b = (response.Untagged status.Ok, (e, b))
+said_by_key key.No w tail t e b = (response.Untagged status.No, (e, b))
+said_by_key key.Bad w tail t e b = (response.Untagged status.Bad, (e, b))
+said_by_key key.Preauth w tail t e b = (response.Untagged status.Preauth, (e, b))
+said_by_key key.Bye w tail t e b = (response.Untagged status.Bye, (e, b))
+said_by_key _ w tail t e b = absurd b
+
+no_keyword : (w : List ℕ) → ((k : Key) → Among k line_keys → w ≡ key_text k → ⊥) → Contains keywords w → ⊥
+no_keyword w f h = let k = keyword_key w h in f k.0 k.1 k.2
+
+plain_said : (w tail t : List ℕ) → WordSays place.Plain w tail t → (v : Response) × Says None v w tail t
+plain_said w tail t (inl k) = said_by_key k.0 w tail t k.2 k.3
+plain_said w tail t (inr s) = (response.Other, (no_keyword w s.0, (s.1.0, free_from s.1.0 t s.1.1)))
+
+pub plain_from : (t : List ℕ) → WordRest place.Plain [] t → (v : Response) × IsWordLine None v t
+plain_from t h =
+    let s = plain_said (map lower h.word) h.tail t h.says in
+    (s.0, record { word = h.word; tail = h.tail; whole = h.whole; word_is = h.each; some = some_word h.word (let q = h.some in omega (arith, q)); longest = h.longest; says = s.1 })
+
+-- ---- behind `* ` and a number
+
+numbered_says : (n : ℕ) (v : Response) (w tail t : List ℕ) → Says (Some n) v w tail t → WordSays place.Numbered w tail t
+numbered_says n (response.Fetch seq items) w tail t h = inl (key.Fetch, inr (inr (inr (inr (inr (inl refl))))), h.1, (40 ∷ h.2.1, h.2.2, (h.2.0, h.2.1, refl, h.2.3)))
+numbered_says n response.Other w tail t h = inr (stray_to w t h.0, (h.1.0, free_to h.1.0 t h.1.1))
+numbered_says n (response.Tagged tag status) w tail t h = absurd h
+numbered_says n (response.Untagged status) w tail t h = absurd h
+
+pub numbered_to : (n : ℕ) (v : Response) (t : List ℕ) → IsWordLine (Some n) v t → WordRest place.Numbered [] t
+numbered_to n v t h = record { word = h.word; tail = h.tail; whole = h.whole; each = h.word_is; some = (let s = word_some h.word h.some in omega (arith, s)); longest = h.longest; says = numbered_says n v (map lower h.word) h.tail t h.says }
+
+fetch_said : (n : ℕ) (k : Key) (w tail t : List ℕ) → w ≡ key_text k → IsBehind place.Numbered k tail → (v : Response) × Says (Some n) v w tail t
+fetch_said n key.Fetch w tail t e b = (response.Fetch n (items_of b.2.0), (refl, e, (b.2.0, b.2.1, b.1 ∙ ap (λ (u : List ℕ). 32 ∷ u) b.2.2, b.2.3, refl)))
+fetch_said n _ w tail t e b = absurd b
+
+numbered_said : (n : ℕ) (w tail t : List ℕ) → WordSays place.Numbered w tail t → (v : Response) × Says (Some n) v w tail t
+numbered_said n w tail t (inl k) = fetch_said n k.0 w tail t k.2 k.3
+numbered_said n w tail t (inr s) = (response.Other, (no_keyword w s.0, (s.1.0, free_from s.1.0 t s.1.1)))
+
+pub numbered_from : (n : ℕ) (t : List ℕ) → WordRest place.Numbered [] t → (v : Response) × IsWordLine (Some n) v t
+numbered_from n t h =
+    let s = numbered_said n (map lower h.word) h.tail t h.says in
+    (s.0, record { word = h.word; tail = h.tail; whole = h.whole; word_is = h.each; some = some_word h.word (let q = h.some in omega (arith, q)); longest = h.longest; says = s.1 })
+
+-- ---- behind a tag
+
+tagged_said : (k : Key) (x tail : List ℕ) → map lower x ≡ key_text k → IsBehind place.Tagged k tail → (s : Status) × Completes s × IsWord (word_of s) x × IsRest tail
+tagged_said key.Ok x tail e b = (status.Ok, tt, e, b)
+tagged_said key.No x tail e b = (status.No, tt, e, b)
+tagged_said key.Bad x tail e b = (status.Bad, tt, e, b)
+tagged_said _ x tail e b = absurd b
+
+pub tagged_from : (t : List ℕ) → WordRest place.Tagged [] t → (s : Status) × Completes s × Then (IsWord (word_of s)) IsRest t
+tagged_from t h = by h.says
+  where
+    by : WordSays place.Tagged ([] ++ map lower h.word) h.tail t → (s : Status) × Completes s × Then (IsWord (word_of s)) IsRest t
+    by (inl k) =
+        let s = tagged_said k.0 h.word h.tail k.2 k.3 in
+        (s.0, s.1, record { front = h.word; back = h.tail; whole = h.whole; first = s.2; second = s.3 })
+    by (inr s) = absurd s.1
+
+pub lower_word : (c : ℕ) → is_key_octet (lower c) ≡ true → is_word c ≡ true
+lower_word c e = grind arith
+
+pub word_of_key : (x y : List ℕ) → Each is_key_octet y → map lower x ≡ y → Each is_word x
+word_of_key [] y h e = tt
+word_of_key (c ∷ x) [] h e = absurd cc
+word_of_key (c ∷ x) (d ∷ y) h e =
+    let q = cons_head (lower c) d (map lower x) y e in
+    (lower_word c (ap is_key_octet q ∙ h.0), word_of_key x y h.1 (cons_tail (lower c) d (map lower x) y e))
+
+rest_out : (t : List ℕ) → IsRest t → is_word (get_or t 0 0) ≡ false
+rest_out t (inl e) = ap (λ (u : List ℕ). is_word (get_or u 0 0)) e
+rest_out t (inr w) = ap (λ (u : List ℕ). is_word (get_or u 0 0)) w.1
+
+tagged_key : (s : Status) → Completes s → (k : Key) × Among k (keys place.Tagged) × (word_of s ≡ key_text k) × ((u : List ℕ) → IsRest u → IsBehind place.Tagged k u)
+tagged_key status.Ok h = (key.Ok, inl refl, refl, λ u r. r)
+tagged_key status.No h = (key.No, inr (inl refl), refl, λ u r. r)
+tagged_key status.Bad h = (key.Bad, inr (inr (inl refl)), refl, λ u r. r)
+tagged_key status.Preauth h = absurd h
+tagged_key status.Bye h = absurd h
+
+lower_length : (x : List ℕ) → length (map lower x) ≡ length x
+lower_length [] = refl
+lower_length (c ∷ x) = ap (λ (n : ℕ). suc n) (lower_length x)
+
+pub tagged_to : (s : Status) (t : List ℕ) → Completes s → Then (IsWord (word_of s)) IsRest t → WordRest place.Tagged [] t
+tagged_to s t done h =
+    let k = tagged_key s done in
+    record {
+      word = h.front;
+      tail = h.back;
+      whole = h.whole;
+      each = word_of_key h.front (key_text k.0) (key_octets k.0) (h.first ∙ k.2);
+      some = (let n = key_some k.0 in let l = ap length (h.first ∙ k.2) in let m = lower_length h.front in omega (arith, n, l, m));
+      longest = rest_out h.back h.second;
+      says = inl (k.0, k.1, h.first ∙ k.2, k.3 h.back h.second);
+    }

@@ -1,0 +1,67 @@
+-- Moves by tests, and what the tests say of an octet.
+use Rattle.std.proofs.Common.{◌≡◌, ℕ, ◌+◌, ◌<◌, ◌≤◌, Bool, true, false, List, [], ◌∷◌, ◌++◌, length, map, drop, get_or, cond, refl, ap, ◌∙◌, arith}
+use Rattle.std.specs.Prelude.{◌==◌}
+use Rattle.std.proofs.lemmas.Bool.{eqb-false}
+use Rattle.imap_automaton.specs.declared.sym.Move.{Move}
+use Rattle.imap_syntax.specs.Octets.{is_digit, is_alnum, is_text, is_word, is_atom, lower}
+use Rattle.imap_syntax.specs.Texts.{crlf, Each}
+use Rattle.imap_automaton.proofs.Langs.{After}
+use Rattle.std.proofs.Math.Seq.{drop-cons}
+use Rattle.std.proofs.Common.{add-one}
+use Rattle.imap_automaton.proofs.Lists.{cons_head}
+
+-- what is still read after the move that a test chose
+pub from_test : (b : Bool) (m n : Move) (t : List ℕ) (P : Type 0) → (b ≡ true → After m t → P) → (b ≡ false → After n t → P) → After (cond b m n) t → P
+from_test true m n t P f g h = f refl h
+from_test false m n t P f g h = g refl h
+
+pub to_test : (b : Bool) (m n : Move) (t : List ℕ) → (b ≡ true → After m t) → (b ≡ false → After n t) → After (cond b m n) t
+to_test true m n t f g = f refl
+to_test false m n t f g = g refl
+
+pub at_true : (b : Bool) (m n : Move) (t : List ℕ) → b ≡ true → After m t → After (cond b m n) t
+at_true true m n t e h = h
+at_true false m n t e h = absurd cc
+
+pub at_false : (b : Bool) (m n : Move) (t : List ℕ) → b ≡ false → After n t → After (cond b m n) t
+at_false true m n t e h = absurd cc
+at_false false m n t e h = h
+
+pub both : {P : Type 0} (b : Bool) → b ≡ true → b ≡ false → P
+both true e f = absurd cc
+both false e f = absurd cc
+
+pub is_true_at : (p : ℕ → Bool) (c d : ℕ) → c ≡ d → p d ≡ true → p c ≡ true
+is_true_at p c d e h = ap p e ∙ h
+
+pub atom_range : (c : ℕ) → is_atom c ≡ true → (33 ≤ c) × (c ≤ 126)
+atom_range c e = grind arith
+
+pub digit_range : (c : ℕ) → is_digit c ≡ true → (48 ≤ c) × (c ≤ 57)
+digit_range c e = grind arith
+
+pub alnum_not_space : (c : ℕ) → is_alnum c ≡ true → (c == 32) ≡ false
+alnum_not_space c e = grind arith
+
+pub text_not_cr : (c : ℕ) → is_text c ≡ true → (c == 13) ≡ false
+text_not_cr c e = grind arith
+
+-- a text with its first octet
+pub drop_at : (l : List ℕ) (n : ℕ) → n < length l → drop n l ≡ get_or l n 0 ∷ drop (n + 1) l
+drop_at l n h = rw add-one (drop-cons l n 0 h)
+
+-- texts that begin differently
+pub apart : (c d : ℕ) (x y : List ℕ) → (c == d) ≡ false → c ∷ x ≡ d ∷ y → ⊥
+apart c d x y ne e = eqb-false c d ne (cons_head c d x y e)
+
+-- the end of a line
+pub crlf_of : (c : ℕ) (t : List ℕ) → c ≡ 13 → t ≡ 10 ∷ [] → c ∷ t ≡ crlf
+crlf_of c t e f = cc
+
+pub crlf_parts : (c : ℕ) (t : List ℕ) → c ∷ t ≡ crlf → (c ≡ 13) × (t ≡ 10 ∷ [])
+crlf_parts c t e = (cc, cc)
+
+-- an octet in the middle is one
+pub mid : (x y : List ℕ) (c : ℕ) → [] ≡ x ++ c ∷ y → ⊥
+mid [] y c e = cc
+mid (d ∷ x) y c e = cc

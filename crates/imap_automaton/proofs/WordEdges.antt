@@ -1,0 +1,337 @@
+-- One octet at a word by which a reader decides.
+use Rattle.std.proofs.Common.{◌≡◌, ◌⊎◌, ℕ, zero, suc, ◌+◌, ◌<◌, ◌≤◌, Bool, true, false, ◌&&◌, List, [], ◌∷◌, ◌++◌, length, map, take, drop, get_or, cond, Option, Some, None, refl, sym, ap, subst, ◌∙◌, append_assoc, arith, inl, inr}
+use Rattle.std.specs.Prelude.{◌==◌, nat_le, codes}
+use Rattle.std.proofs.lemmas.Bool.{eqb-true, eqb-false, leb-true, and_parts, eq-eqb, cond-false, cond-true}
+use Rattle.std.proofs.lemmas.List.{length-append, length-take-le, append-nil, take-append-drop}
+use Rattle.imap_automaton.specs.declared.sym.Key.{Key}
+use Rattle.imap_automaton.specs.declared.sym.Key.TheVariants as key
+use Rattle.imap_automaton.specs.declared.sym.Place.{Place}
+use Rattle.imap_automaton.specs.declared.sym.Place.TheVariants as place
+use Rattle.imap_automaton.specs.declared.sym.Pending.TheVariants as pending
+use Rattle.imap_automaton.specs.declared.sym.Phrase.TheVariants as phrase
+use Rattle.imap_automaton.specs.declared.sym.Line.TheVariants as line
+use Rattle.imap_automaton.specs.declared.sym.Free.TheVariants as free
+use Rattle.imap_automaton.specs.declared.sym.Item.TheVariants as item
+use Rattle.imap_automaton.specs.declared.sym.Names.TheVariants as names
+use Rattle.imap_automaton.specs.declared.sym.Sym.{Sym}
+use Rattle.imap_automaton.specs.declared.sym.Sym.TheVariants as sym
+use Rattle.imap_automaton.specs.declared.sym.Move.TheVariants as move
+use Rattle.imap_automaton.specs.Counts.{pend}
+use Rattle.imap_automaton.specs.Keys.{key_text, keys, is_among, in_word, goes_on, next_key, is_whole, whole_key}
+use Rattle.imap_automaton.specs.FreeRules.{text_rule}
+use Rattle.imap_automaton.specs.WordRules.{rest_rule, spaced_rule, behind_key, stray, word_goes, word_ends, word_rule}
+use Rattle.imap_automaton.proofs.Langs.{FreeLang, ItemLang, NamesLang, IsSpaced, Among, IsBehind, IsStray, WordSays, WordRest, Lang, After}
+use Rattle.imap_automaton.proofs.Lists.{cons_head, cons_tail, no_append}
+use Rattle.imap_automaton.proofs.Tests.{from_test, to_test, at_true, at_false, is_true_at, both, crlf_of, crlf_parts, mid}
+use Rattle.imap_automaton.proofs.FreeEdges.{text_back, text_forth, goes_back, goes_forth, free_some, free_empty}
+use Rattle.imap_automaton.proofs.KeyLemmas.{one_key, key_some, key_in_word, key_lower, no_bang, find_some, find_none, is_among_is, goes_to, goes_from, goes_octet, whole_to, whole_from}
+use Rattle.imap_syntax.specs.Octets.{is_text, is_word, is_atom, lower}
+use Rattle.imap_syntax.specs.Texts.{Each, crlf}
+use Rattle.imap_syntax.specs.Lines.{IsLine, IsRest}
+
+-- ---- behind a key
+
+rest_back : (c : ℕ) (t : List ℕ) → After (rest_rule c) t → IsRest (c ∷ t)
+rest_back c t h = from_test (c == 32) (move.One (sym.Line line.Text)) (cond (c == 13) (move.One (sym.Line (line.Fixed phrase.Crlf 1))) move.Fail) t (IsRest (c ∷ t))
+    (λ e k. inr (t, ap (λ (n : ℕ). n ∷ t) (eqb-true c 32 e), k))
+    (λ e k. from_test (c == 13) (move.One (sym.Line (line.Fixed phrase.Crlf 1))) move.Fail t (IsRest (c ∷ t)) (λ f l. inl (crlf_of c t (eqb-true c 13 f) l)) (λ f l. absurd l) k) h
+
+rest_forth : (c : ℕ) (t : List ℕ) → IsRest (c ∷ t) → After (rest_rule c) t
+rest_forth c t (inl e) =
+    let k = crlf_parts c t e in
+    at_false (c == 32) (move.One (sym.Line line.Text)) (cond (c == 13) (move.One (sym.Line (line.Fixed phrase.Crlf 1))) move.Fail) t (ap (λ (n : ℕ). n == 32) k.0)
+    (at_true (c == 13) (move.One (sym.Line (line.Fixed phrase.Crlf 1))) move.Fail t (eq-eqb c 13 k.0) k.1)
+rest_forth c t (inr w) =
+    at_true (c == 32) (move.One (sym.Line line.Text)) (cond (c == 13) (move.One (sym.Line (line.Fixed phrase.Crlf 1))) move.Fail) t (eq-eqb c 32 (cons_head c 32 t w.0 w.1))
+    (subst IsLine (sym (cons_tail c 32 t w.0 w.1)) w.2)
+
+spaced_back : (s : Sym) (c : ℕ) (t : List ℕ) → After (spaced_rule (move.One s) c) t → IsSpaced (Lang s) (c ∷ t)
+spaced_back s c t h = from_test (c == 32) (move.One s) move.Fail t (IsSpaced (Lang s) (c ∷ t)) (λ e k. (t, ap (λ (n : ℕ). n ∷ t) (eqb-true c 32 e), k)) (λ e k. absurd k) h
+
+spaced_forth : (s : Sym) (c : ℕ) (t : List ℕ) → IsSpaced (Lang s) (c ∷ t) → After (spaced_rule (move.One s) c) t
+spaced_forth s c t h = at_true (c == 32) (move.One s) move.Fail t (eq-eqb c 32 (cons_head c 32 t h.0 h.1)) (subst (Lang s) (sym (cons_tail c 32 t h.0 h.1)) h.2)
+
+behind_back : (p : Place) (k : Key) (c : ℕ) (t : List ℕ) → After (behind_key p k c) t → IsBehind p k (c ∷ t)
+behind_back place.Tagged key.Ok c t h = rest_back c t h
+behind_back place.Tagged key.No c t h = rest_back c t h
+behind_back place.Tagged key.Bad c t h = rest_back c t h
+behind_back place.Plain key.Ok c t h = rest_back c t h
+behind_back place.Plain key.No c t h = rest_back c t h
+behind_back place.Plain key.Bad c t h = rest_back c t h
+behind_back place.Plain key.Preauth c t h = rest_back c t h
+behind_back place.Plain key.Bye c t h = rest_back c t h
+behind_back place.Numbered key.Fetch c t h = spaced_back (sym.Item item.Open) c t h
+behind_back place.Item key.Uid c t h = spaced_back (sym.Item (item.Number 0 0)) c t h
+behind_back place.Item key.Flags c t h = spaced_back (sym.Names names.Open) c t h
+behind_back _ _ c t h = absurd h
+
+behind_forth : (p : Place) (k : Key) (c : ℕ) (t : List ℕ) → IsBehind p k (c ∷ t) → After (behind_key p k c) t
+behind_forth place.Tagged key.Ok c t h = rest_forth c t h
+behind_forth place.Tagged key.No c t h = rest_forth c t h
+behind_forth place.Tagged key.Bad c t h = rest_forth c t h
+behind_forth place.Plain key.Ok c t h = rest_forth c t h
+behind_forth place.Plain key.No c t h = rest_forth c t h
+behind_forth place.Plain key.Bad c t h = rest_forth c t h
+behind_forth place.Plain key.Preauth c t h = rest_forth c t h
+behind_forth place.Plain key.Bye c t h = rest_forth c t h
+behind_forth place.Numbered key.Fetch c t h = spaced_forth (sym.Item item.Open) c t h
+behind_forth place.Item key.Uid c t h = spaced_forth (sym.Item (item.Number 0 0)) c t h
+behind_forth place.Item key.Flags c t h = spaced_forth (sym.Names names.Open) c t h
+behind_forth _ _ c t h = absurd h
+
+rest_none : IsRest [] → ⊥
+rest_none (inl e) = cc
+rest_none (inr w) = let e = w.1 in cc
+
+spaced_none : (L : List ℕ → Type 0) → IsSpaced L [] → ⊥
+spaced_none L h = let e = h.1 in cc
+
+behind_none : (p : Place) (k : Key) → IsBehind p k [] → ⊥
+behind_none place.Tagged key.Ok h = rest_none h
+behind_none place.Tagged key.No h = rest_none h
+behind_none place.Tagged key.Bad h = rest_none h
+behind_none place.Plain key.Ok h = rest_none h
+behind_none place.Plain key.No h = rest_none h
+behind_none place.Plain key.Bad h = rest_none h
+behind_none place.Plain key.Preauth h = rest_none h
+behind_none place.Plain key.Bye h = rest_none h
+behind_none place.Numbered key.Fetch h = spaced_none (ItemLang item.Open) h
+behind_none place.Item key.Uid h = spaced_none (ItemLang (item.Number 0 0)) h
+behind_none place.Item key.Flags h = spaced_none (NamesLang names.Open) h
+behind_none _ _ h = h
+
+-- ---- at a word that is no key
+
+stray_back : (p : Place) (c : ℕ) (t : List ℕ) → After (stray p c) t → IsStray p (c ∷ t)
+stray_back place.Plain c t h = text_back pending.Nothing c t h
+stray_back place.Numbered c t h = text_back pending.Nothing c t h
+stray_back place.Tagged c t h = absurd h
+stray_back place.Item c t h = absurd h
+
+stray_forth : (p : Place) (c : ℕ) (t : List ℕ) → IsStray p (c ∷ t) → After (stray p c) t
+stray_forth place.Plain c t h = text_forth pending.Nothing c t h
+stray_forth place.Numbered c t h = text_forth pending.Nothing c t h
+stray_forth place.Tagged c t h = absurd h
+stray_forth place.Item c t h = absurd h
+
+pub pend_none : (c : ℕ) → (c == 123) ≡ false → pend pending.Nothing c ≡ pending.Nothing
+pend_none c e = cond-false (c == 123) (pending.Open 0 0) pending.Nothing e
+
+word_is : (c : ℕ) → is_word c ≡ true → is_text c ≡ true
+word_is c e = grind arith
+
+atom_is : (c : ℕ) → is_atom c ≡ true → is_text c ≡ true
+atom_is c e = grind arith
+
+pub word_text : (p : Place) (c : ℕ) → in_word p c ≡ true → is_text c ≡ true
+word_text place.Tagged c e = word_is c e
+word_text place.Plain c e = word_is c e
+word_text place.Numbered c e = word_is c e
+word_text place.Item c e = atom_is c e
+
+pub text_goes : (c : ℕ) (t : List ℕ) → is_text c ≡ true → (c == 123) ≡ false → FreeLang (free.Text pending.Nothing) (c ∷ t) → FreeLang (free.Text pending.Nothing) t
+text_goes c t e f h = subst (λ s. FreeLang (free.Text s) t) (pend_none c f) (goes_forth pending.Nothing c t e h)
+
+pub text_comes : (c : ℕ) (t : List ℕ) → is_text c ≡ true → (c == 123) ≡ false → FreeLang (free.Text pending.Nothing) t → FreeLang (free.Text pending.Nothing) (c ∷ t)
+text_comes c t e f h = goes_back pending.Nothing c t e (subst (λ s. FreeLang (free.Text s) t) (sym (pend_none c f)) h)
+
+stray_goes : (p : Place) (c : ℕ) (t : List ℕ) → in_word p c ≡ true → (c == 123) ≡ false → IsStray p (c ∷ t) → IsStray p t
+stray_goes place.Plain c t e f h = text_goes c t (word_text place.Plain c e) f h
+stray_goes place.Numbered c t e f h = text_goes c t (word_text place.Numbered c e) f h
+stray_goes place.Tagged c t e f h = h
+stray_goes place.Item c t e f h = h
+
+stray_comes : (p : Place) (c : ℕ) (t : List ℕ) → in_word p c ≡ true → (c == 123) ≡ false → IsStray p t → IsStray p (c ∷ t)
+stray_comes place.Plain c t e f h = text_comes c t (word_text place.Plain c e) f h
+stray_comes place.Numbered c t e f h = text_comes c t (word_text place.Numbered c e) f h
+stray_comes place.Tagged c t e f h = h
+stray_comes place.Item c t e f h = h
+
+-- ---- the longest run of a word
+
+pub record Cut (p : ℕ → Bool) (t : List ℕ) : Type 0 where
+  pub front : List ℕ
+  pub back : List ℕ
+  pub whole : t ≡ front ++ back
+  pub each : Each p front
+  pub longest : p (get_or back 0 0) ≡ false
+
+pub cut : (p : ℕ → Bool) (t : List ℕ) → p 0 ≡ false → Cut p t
+cut p [] z = record { front = []; back = []; whole = refl; each = tt; longest = z }
+cut p (c ∷ t) z = by (p c) refl (cut p t z)
+  where
+    by : (b : Bool) → p c ≡ b → Cut p t → Cut p (c ∷ t)
+    by true e r = record { front = c ∷ r.front; back = r.back; whole = ap (λ (u : List ℕ). c ∷ u) r.whole; each = (e, r.each); longest = r.longest }
+    by false e r = record { front = []; back = c ∷ t; whole = refl; each = tt; longest = e }
+
+pub no_word_zero : (p : Place) → in_word p 0 ≡ false
+no_word_zero place.Tagged = refl
+no_word_zero place.Plain = refl
+no_word_zero place.Numbered = refl
+no_word_zero place.Item = refl
+
+-- ---- an octet of the word
+
+says_goes : (p : Place) (begun : List ℕ) (c : ℕ) (w tail t : List ℕ) → in_word p c ≡ true → (c == 123) ≡ false → WordSays p (begun ++ map lower (c ∷ w)) tail (c ∷ t) → WordSays p ((begun ++ lower c ∷ []) ++ map lower w) tail t
+says_goes p begun c w tail t e f (inl k) = inl (k.0, k.1, append_assoc begun (lower c ∷ []) (map lower w) ∙ k.2, k.3)
+says_goes p begun c w tail t e f (inr s) = inr (λ k m q. s.0 k m (sym (append_assoc begun (lower c ∷ []) (map lower w)) ∙ q), stray_goes p c t e f s.1)
+
+says_comes : (p : Place) (begun : List ℕ) (c : ℕ) (w tail t : List ℕ) → in_word p c ≡ true → (c == 123) ≡ false → WordSays p ((begun ++ lower c ∷ []) ++ map lower w) tail t → WordSays p (begun ++ map lower (c ∷ w)) tail (c ∷ t)
+says_comes p begun c w tail t e f (inl k) = inl (k.0, k.1, sym (append_assoc begun (lower c ∷ []) (map lower w)) ∙ k.2, k.3)
+says_comes p begun c w tail t e f (inr s) = inr (λ k m q. s.0 k m (append_assoc begun (lower c ∷ []) (map lower w) ∙ q), stray_comes p c t e f s.1)
+
+-- the word's text is taken from the text of its front
+goes_forth_at : (p : Place) (k : Key) (at c : ℕ) (t w tail : List ℕ) (o : Option Key) → next_key p k at (lower c) ≡ o → at ≤ length (key_text k) → in_word p c ≡ true → t ≡ w ++ tail → Each (in_word p) w → in_word p (get_or tail 0 0) ≡ false → WordSays p (take at (key_text k) ++ map lower (c ∷ w)) tail (c ∷ t) → After (word_goes p at c o) t
+goes_forth_at p k at c t w tail (Some x) e le i whole each longest says =
+    let f = find_some (goes_on k at (lower c)) (keys p) x e in
+    let g = goes_to k x at (lower c) f.0 in
+    let s = says_goes p (take at (key_text k)) c w tail t i (goes_octet k x at c f.0) says in
+    let n : length (take (at + 1) (key_text x)) ≡ at + 1 = length-take-le (at + 1) (key_text x) g.1 in
+    record {
+      word = w;
+      tail = tail;
+      whole = whole;
+      each = each;
+      some = omega (arith, n);
+      longest = longest;
+      says = subst (λ (b : List ℕ). WordSays p (b ++ map lower w) tail t) (sym g.0) s;
+    }
+goes_forth_at p k at c t w tail None e le i whole each longest (inl x) = absurd (find_none (goes_on k at (lower c)) (keys p) x.0 e x.1 (goes_from k x.0 at (lower c) (map lower w) le x.2))
+goes_forth_at p k at c t w tail None e le i whole each longest (inr s) = stray_forth p c t s.1
+
+goes_back_at : (p : Place) (k : Key) (at c : ℕ) (t : List ℕ) (o : Option Key) → next_key p k at (lower c) ≡ o → at ≤ length (key_text k) → in_word p c ≡ true → After (word_goes p at c o) t → WordRest p (take at (key_text k)) (c ∷ t)
+goes_back_at p k at c t (Some x) e le i h =
+    let f = find_some (goes_on k at (lower c)) (keys p) x e in
+    let g = goes_to k x at (lower c) f.0 in
+    record {
+      word = c ∷ h.word;
+      tail = h.tail;
+      whole = ap (λ (u : List ℕ). c ∷ u) h.whole;
+      each = (i, h.each);
+      some = omega arith;
+      longest = h.longest;
+      says = says_comes p (take at (key_text k)) c h.word h.tail t i (goes_octet k x at c f.0) (subst (λ (b : List ℕ). WordSays p (b ++ map lower h.word) h.tail t) g.0 h.says);
+    }
+goes_back_at p k at c t None e le i h =
+    let r = cut (in_word p) t (no_word_zero p) in
+    record {
+      word = c ∷ r.front;
+      tail = r.back;
+      whole = ap (λ (u : List ℕ). c ∷ u) r.whole;
+      each = (i, r.each);
+      some = omega arith;
+      longest = r.longest;
+      says = inr (λ x m q. find_none (goes_on k at (lower c)) (keys p) x e m (goes_from k x at (lower c) (map lower r.front) le q), stray_back p c t h);
+    }
+
+-- ---- an octet behind the word
+
+ends_forth : (p : Place) (k : Key) (at c : ℕ) (t : List ℕ) (o : Option Key) → whole_key p k at ≡ o → at ≤ length (key_text k) → WordSays p (take at (key_text k) ++ []) (c ∷ t) (c ∷ t) → After (word_ends p c o) t
+ends_forth p k at c t (Some x) e le (inl y) =
+    let f = find_some (is_whole k at) (keys p) x e in
+    let same : y.0 ≡ x = one_key y.0 x (sym y.2 ∙ append-nil (take at (key_text k)) ∙ whole_to k x at f.0) in
+    behind_forth p x c t (subst (λ (q : Key). IsBehind p q (c ∷ t)) same y.3)
+ends_forth p k at c t (Some x) e le (inr s) =
+    let f = find_some (is_whole k at) (keys p) x e in
+    absurd (s.0 x f.1 (append-nil (take at (key_text k)) ∙ whole_to k x at f.0))
+ends_forth p k at c t None e le (inl y) = absurd (find_none (is_whole k at) (keys p) y.0 e y.1 (whole_from k y.0 at le (sym (append-nil (take at (key_text k))) ∙ y.2)))
+ends_forth p k at c t None e le (inr s) = stray_forth p c t s.1
+
+ends_back : (p : Place) (k : Key) (at c : ℕ) (t : List ℕ) (o : Option Key) → whole_key p k at ≡ o → at ≤ length (key_text k) → After (word_ends p c o) t → WordSays p (take at (key_text k) ++ []) (c ∷ t) (c ∷ t)
+ends_back p k at c t (Some x) e le h =
+    let f = find_some (is_whole k at) (keys p) x e in
+    inl (x, f.1, append-nil (take at (key_text k)) ∙ whole_to k x at f.0, behind_back p x c t h)
+ends_back p k at c t None e le h =
+    inr (λ x m q. find_none (is_whole k at) (keys p) x e m (whole_from k x at le (sym (append-nil (take at (key_text k))) ∙ q)), stray_back p c t h)
+
+-- ---- the group
+
+fits_le : (p : Place) (k : Key) (at : ℕ) → (nat_le at (length (key_text k)) && is_among k (keys p)) ≡ true → at ≤ length (key_text k)
+fits_le p k at fits = leb-true _ _ (and_parts (nat_le at (length (key_text k))) (is_among k (keys p)) fits).0
+
+pub word_back : (p : Place) (k : Key) (at c : ℕ) (t : List ℕ) → at ≤ length (key_text k) → After (word_rule p k at c) t → WordRest p (take at (key_text k)) (c ∷ t)
+word_back p k at c t le h = from_test (in_word p c) (word_goes p at c (next_key p k at (lower c))) (cond (at == 0) move.Fail (word_ends p c (whole_key p k at))) t (WordRest p (take at (key_text k)) (c ∷ t))
+    (λ i g. goes_back_at p k at c t (next_key p k at (lower c)) refl le i g)
+    (λ i g. from_test (at == 0) move.Fail (word_ends p c (whole_key p k at)) t (WordRest p (take at (key_text k)) (c ∷ t))
+    (λ z l. absurd l)
+    (λ z l. record {
+      word = [];
+      tail = c ∷ t;
+      whole = refl;
+      each = tt;
+      some = (let n : length (take at (key_text k)) ≡ at = length-take-le at (key_text k) le in let pos : at ≡ 0 → ⊥ = eqb-false at 0 z in omega (arith, n, pos));
+      longest = i;
+      says = ends_back p k at c t (whole_key p k at) refl le l;
+    }) g) h
+
+word_at : (p : Place) (k : Key) (at c : ℕ) (t w tail : List ℕ) → at ≤ length (key_text k) → c ∷ t ≡ w ++ tail → Each (in_word p) w → 0 < length (take at (key_text k)) + length w → in_word p (get_or tail 0 0) ≡ false → WordSays p (take at (key_text k) ++ map lower w) tail (c ∷ t) → After (word_rule p k at c) t
+word_at p k at c t [] tail le e each some longest says =
+    let out : in_word p c ≡ false = ap (λ (u : List ℕ). in_word p (get_or u 0 0)) e ∙ longest in
+    let n : length (take at (key_text k)) ≡ at = length-take-le at (key_text k) le in
+    at_false (in_word p c) (word_goes p at c (next_key p k at (lower c))) (cond (at == 0) move.Fail (word_ends p c (whole_key p k at))) t out
+    (at_false (at == 0) move.Fail (word_ends p c (whole_key p k at)) t (not_zero at (omega (arith, some, n)))
+    (ends_forth p k at c t (whole_key p k at) refl le (subst (λ (u : List ℕ). WordSays p (take at (key_text k) ++ []) u (c ∷ t)) (sym e) says)))
+  where
+    not_zero : (at : ℕ) → 0 < at → (at == 0) ≡ false
+    not_zero at lt = grind arith
+word_at p k at c t (d ∷ w) tail le e each some longest says =
+    let same : d ≡ c = sym (cons_head c d t (w ++ tail) e) in
+    let i : in_word p c ≡ true = ap (in_word p) (sym same) ∙ each.0 in
+    at_true (in_word p c) (word_goes p at c (next_key p k at (lower c))) (cond (at == 0) move.Fail (word_ends p c (whole_key p k at))) t i
+    (goes_forth_at p k at c t w tail (next_key p k at (lower c)) refl le i (cons_tail c d t (w ++ tail) e) each.1 longest (subst (λ (q : ℕ). WordSays p (take at (key_text k) ++ map lower (q ∷ w)) tail (c ∷ t)) same says))
+
+pub word_forth : (p : Place) (k : Key) (at c : ℕ) (t : List ℕ) → at ≤ length (key_text k) → WordRest p (take at (key_text k)) (c ∷ t) → After (word_rule p k at c) t
+word_forth p k at c t le h = word_at p k at c t h.word h.tail le h.whole h.each h.some h.longest h.says
+
+pub word_empty : (p : Place) (begun : List ℕ) → WordRest p begun [] → ⊥
+word_empty p begun h =
+    let n = no_append h.word h.tail h.whole in
+    by h.says n.1
+  where
+    stray_none : (p : Place) → IsStray p [] → ⊥
+    stray_none place.Plain s = free_empty (free.Text pending.Nothing) refl s
+    stray_none place.Numbered s = free_empty (free.Text pending.Nothing) refl s
+    stray_none place.Tagged s = s
+    stray_none place.Item s = s
+
+    by : WordSays p (begun ++ map lower h.word) h.tail [] → h.tail ≡ [] → ⊥
+    by (inl k) e = behind_none p k.0 (subst (IsBehind p k.0) e k.3)
+    by (inr s) e = stray_none p s.1
+
+-- ---- an example of each
+
+key_example : (p : Place) (k : Key) (at : ℕ) (tail : List ℕ) → at ≤ length (key_text k) → Among k (keys p) → in_word p (get_or tail 0 0) ≡ false → IsBehind p k tail → WordRest p (take at (key_text k)) (drop at (key_text k) ++ tail)
+key_example p k at tail le m out b = record {
+  word = drop at (key_text k);
+  tail = tail;
+  whole = refl;
+  each = key_in_word p k at;
+  some = (let n = length-append (take at (key_text k)) (drop at (key_text k)) in let l = ap length (take-append-drop at (key_text k)) in let s = key_some k in omega (arith, n, l, s));
+  longest = out;
+  says = inl (k, m, ap (λ (u : List ℕ). take at (key_text k) ++ u) (key_lower k at) ∙ take-append-drop at (key_text k), b);
+}
+
+stray_example : (p : Place) (k : Key) (at : ℕ) → in_word p 33 ≡ true → in_word p 13 ≡ false → IsStray p (33 ∷ crlf) → WordRest p (take at (key_text k)) (33 ∷ crlf)
+stray_example p k at i o s = record {
+  word = 33 ∷ [];
+  tail = crlf;
+  whole = refl;
+  each = (i, tt);
+  some = omega arith;
+  longest = o;
+  says = inr (λ x m q. no_bang x (take at (key_text k)) [] q, s);
+}
+
+bang_line : FreeLang (free.Text pending.Nothing) (33 ∷ crlf)
+bang_line = (0, record { text = 33 ∷ []; whole = refl; text_is = (refl, tt); no_count = tt })
+
+pub word_example : (p : Place) (k : Key) (at : ℕ) → at ≤ length (key_text k) → is_among k (keys p) ≡ true → (t : List ℕ) × WordRest p (take at (key_text k)) t
+word_example place.Plain k at le m = (33 ∷ crlf, stray_example place.Plain k at refl refl bang_line)
+word_example place.Numbered k at le m = (33 ∷ crlf, stray_example place.Numbered k at refl refl bang_line)
+word_example place.Tagged key.Ok at le m = (drop at (codes "ok") ++ crlf, key_example place.Tagged key.Ok at crlf le (is_among_is key.Ok (keys place.Tagged) m) refl (inl refl))
+word_example place.Tagged key.No at le m = (drop at (codes "no") ++ crlf, key_example place.Tagged key.No at crlf le (is_among_is key.No (keys place.Tagged) m) refl (inl refl))
+word_example place.Tagged key.Bad at le m = (drop at (codes "bad") ++ crlf, key_example place.Tagged key.Bad at crlf le (is_among_is key.Bad (keys place.Tagged) m) refl (inl refl))
+word_example place.Tagged _ at le m = absurd cc
+word_example place.Item key.Uid at le m = (drop at (codes "uid") ++ 32 ∷ 49 ∷ [], key_example place.Item key.Uid at (32 ∷ 49 ∷ []) le (is_among_is key.Uid (keys place.Item) m) refl (49 ∷ [], refl, record { each = (refl, tt); some = omega arith; few = omega arith; most = omega arith; not_zero = omega arith }))
+word_example place.Item key.Flags at le m = (drop at (codes "flags") ++ 32 ∷ 40 ∷ 41 ∷ [], key_example place.Item key.Flags at (32 ∷ 40 ∷ 41 ∷ []) le (is_among_is key.Flags (keys place.Item) m) refl (40 ∷ 41 ∷ [], refl, ([], (tt, refl))))
+word_example place.Item _ at le m = absurd cc

@@ -1,0 +1,41 @@
+-- What the registers of a symbol keep.
+use Rattle.std.specs.Prelude.{ℕ, Bool, true, false, not, ◌&&◌, ◌||◌, nat_lt, nat_le, ◌==◌, length}
+use Rattle.imap_automaton.specs.declared.sym.Pending.{Pending}
+use Rattle.imap_automaton.specs.declared.sym.Pending.TheVariants as pending
+use Rattle.imap_automaton.specs.declared.sym.Key.{Key}
+use Rattle.imap_automaton.specs.declared.sym.Line.{Line}
+use Rattle.imap_automaton.specs.declared.sym.Line.TheVariants as line
+use Rattle.imap_automaton.specs.declared.sym.Free.{Free}
+use Rattle.imap_automaton.specs.declared.sym.Free.TheVariants as free
+use Rattle.imap_automaton.specs.declared.sym.Item.{Item}
+use Rattle.imap_automaton.specs.declared.sym.Item.TheVariants as item
+use Rattle.imap_automaton.specs.declared.sym.Sym.{Sym}
+use Rattle.imap_automaton.specs.declared.sym.Sym.TheVariants as sym
+use Rattle.imap_automaton.specs.Keys.{key_text, phrase_text, keys, is_among}
+
+abbrev pub PendFits : Pending → Bool
+PendFits (pending.Open v n) = nat_le v 50000001 && nat_le n 8
+PendFits (pending.Closed v) = nat_le v 50000001
+PendFits pending.Nothing = true
+
+abbrev pub LineFits : Line → Bool
+LineFits (line.Tag n) = nat_lt 0 n && nat_le n 32
+LineFits (line.Sequence value digits) = nat_lt 0 digits && nat_le digits 10 && nat_le value 4294967295
+LineFits (line.Fixed p at) = nat_lt at (length (phrase_text p))
+LineFits _ = true
+
+abbrev pub FreeFits : Free → Bool
+FreeFits (free.Text s) = PendFits s
+FreeFits (free.Break n) = nat_le n 50000000
+FreeFits (free.Octets n) = nat_lt 0 n && nat_le n 50000000
+
+abbrev pub ItemFits : Item → Bool
+ItemFits (item.Number value digits) = nat_le digits 10 && nat_le value 4294967295 && (nat_lt 0 digits || value == 0) && not (value == 0 && digits == 10)
+ItemFits _ = true
+
+abbrev pub SymFits : Sym → Bool
+SymFits (sym.Line s) = LineFits s
+SymFits (sym.Word place key at) = nat_le at (length (key_text key)) && is_among key (keys place)
+SymFits (sym.Free s) = FreeFits s
+SymFits (sym.Item s) = ItemFits s
+SymFits (sym.Names s) = true

@@ -1,0 +1,100 @@
+-- Which symbol may end before an octet, which begins with one that ends those, and how many may stand on a stack.
+use Rattle.std.specs.Prelude.{◌≡◌, ℕ, ◌+◌, ◌≤◌, nat_le, Bool, true, false, not, ◌&&◌, ◌||◌, ◌==◌, List, [], ◌∷◌, length}
+use Rattle.imap_automaton.specs.declared.sym.Place.TheVariants as place
+use Rattle.imap_automaton.specs.declared.sym.Line.TheVariants as line
+use Rattle.imap_automaton.specs.declared.sym.Free.TheVariants as free
+use Rattle.imap_automaton.specs.declared.sym.Item.TheVariants as item
+use Rattle.imap_automaton.specs.declared.sym.Names.TheVariants as names
+use Rattle.imap_automaton.specs.declared.sym.Sym.{Sym}
+use Rattle.imap_automaton.specs.declared.sym.Sym.TheVariants as sym
+use Rattle.imap_automaton.specs.declared.sym.Move.{Move}
+use Rattle.imap_automaton.specs.declared.sym.Move.TheVariants as move
+use Rattle.imap_automaton.specs.Fits.{SymFits}
+
+-- the last octets may be followed by nothing but a space or a closing bracket
+abbrev pub ends_open : Sym → Bool
+ends_open (sym.Word place.Item key at) = true
+ends_open (sym.Item (item.Number value digits)) = true
+ends_open (sym.Names names.Name) = true
+ends_open (sym.Names names.Atom) = true
+ends_open (sym.Names names.AtomRest) = true
+ends_open _ = false
+
+-- begins with a space or a closing bracket
+abbrev pub begins : Sym → Bool
+begins (sym.Item item.More) = true
+begins (sym.Names names.More) = true
+begins _ = false
+
+abbrev pub stops : ℕ → Bool
+stops c = c == 32 || c == 41
+
+-- what follows the symbols begins so, `last` for the end
+abbrev pub first_begins : Bool → List Sym → Bool
+first_begins last [] = last
+first_begins last (s ∷ ss) = begins s
+
+-- symbols that can stand, `last` for whether the last of them may end open
+abbrev pub Good : Bool → List Sym → Type 0
+Good last [] = Unit {0}
+Good last (s ∷ ss) = (SymFits s ≡ true) × ((not (ends_open s) || first_begins last ss) ≡ true) × Good last ss
+
+-- a move of a symbol that ends open or doesn't keeps the symbols good
+abbrev pub move_good : Bool → Move → Bool
+move_good ends move.Fail = true
+move_good ends move.Yield = ends
+move_good ends move.End = true
+move_good ends (move.One a) = SymFits a && (not (ends_open a) || ends)
+move_good ends (move.Two a b) = SymFits a && SymFits b && (not (ends_open a) || begins b) && (not (ends_open b) || ends)
+
+-- how many symbols there may be while a symbol is read, itself among them
+abbrev pub need : Sym → ℕ
+need (sym.Line line.Start) = 5
+need (sym.Line (line.Tag n)) = 4
+need (sym.Line line.Untagged) = 4
+need (sym.Line (line.Sequence value digits)) = 4
+need (sym.Word place.Item key at) = 2
+need (sym.Word p key at) = 4
+need (sym.Free (free.Text s)) = 2
+need (sym.Item item.Open) = 3
+need (sym.Item item.More) = 3
+need (sym.Names names.Open) = 2
+need (sym.Names names.First) = 2
+need (sym.Names names.More) = 2
+need _ = 1
+
+abbrev pub move_needs : ℕ → Move → Bool
+move_needs n (move.One a) = nat_le (need a) n
+move_needs n (move.Two a b) = nat_le (need a + 1) n && nat_le (need b) n
+move_needs n _ = true
+
+-- the stack has room for the symbols to come
+abbrev pub Room : List Sym → Type 0
+Room [] = Unit {0}
+Room (s ∷ ss) = (need s + length ss ≤ 5) × Room ss
+
+abbrev pub AllFit : List Sym → Type 0
+AllFit [] = Unit {0}
+AllFit (s ∷ ss) = (SymFits s ≡ true) × AllFit ss
+
+abbrev pub Ready : List Sym → Type 0
+Ready ss = Good false ss × Room ss
+
+-- a step may be made
+abbrev pub CanStep : List Sym → Type 0
+CanStep ss = AllFit ss × Room ss
+
+-- how many octets of literals are still to come
+abbrev pub sym_left : Sym → ℕ
+sym_left (sym.Free (free.Octets n)) = n
+sym_left _ = 0
+
+abbrev pub left_of : List Sym → ℕ
+left_of [] = 0
+left_of (s ∷ ss) = sym_left s + left_of ss
+
+-- may end before an octet
+abbrev pub may_yield : Sym → Bool
+may_yield (sym.Item (item.Number value digits)) = true
+may_yield (sym.Names names.AtomRest) = true
+may_yield _ = false

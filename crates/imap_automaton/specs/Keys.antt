@@ -1,0 +1,62 @@
+-- The words by which a reader decides, and where they count.
+use Rattle.std.specs.Prelude.{ℕ, ◌+◌, Bool, false, ◌&&◌, ◌||◌, nat_lt, ◌==◌, List, [], ◌∷◌, length, take, get_or, codes, bytes_eq, find, Option}
+use Rattle.imap_automaton.specs.declared.sym.Key.{Key}
+use Rattle.imap_automaton.specs.declared.sym.Key.TheVariants as key
+use Rattle.imap_automaton.specs.declared.sym.Place.{Place}
+use Rattle.imap_automaton.specs.declared.sym.Place.TheVariants as place
+use Rattle.imap_automaton.specs.declared.sym.Phrase.{Phrase}
+use Rattle.imap_automaton.specs.declared.sym.Phrase.TheVariants as phrase
+use Rattle.imap_syntax.specs.Octets.{is_word, is_atom}
+
+abbrev pub phrase_text : Phrase → List ℕ
+phrase_text phrase.Space = 32 ∷ []
+phrase_text phrase.Crlf = 13 ∷ 10 ∷ []
+
+-- in lower case
+abbrev pub key_text : Key → List ℕ
+key_text key.Ok = codes "ok"
+key_text key.No = codes "no"
+key_text key.Bad = codes "bad"
+key_text key.Preauth = codes "preauth"
+key_text key.Bye = codes "bye"
+key_text key.Fetch = codes "fetch"
+key_text key.Uid = codes "uid"
+key_text key.Flags = codes "flags"
+
+abbrev pub line_keys : List Key
+line_keys = key.Ok ∷ key.No ∷ key.Bad ∷ key.Preauth ∷ key.Bye ∷ key.Fetch ∷ []
+
+-- the words that count in a place
+abbrev pub keys : Place → List Key
+keys place.Tagged = key.Ok ∷ key.No ∷ key.Bad ∷ []
+keys place.Plain = line_keys
+keys place.Numbered = line_keys
+keys place.Item = key.Uid ∷ key.Flags ∷ []
+
+abbrev pub first_key : Place → Key
+first_key place.Item = key.Uid
+first_key _ = key.Ok
+
+-- the octets of a word
+abbrev pub in_word : Place → ℕ → Bool
+in_word place.Item c = is_atom c
+in_word _ c = is_word c
+
+-- the key begins as this one does up to `at`, and goes on with the octet
+abbrev pub goes_on : Key → ℕ → ℕ → Key → Bool
+goes_on key at c k = nat_lt at (length (key_text k)) && get_or (key_text k) at 0 == c && bytes_eq (take at (key_text k)) (take at (key_text key))
+
+abbrev pub next_key : Place → Key → ℕ → ℕ → Option Key
+next_key place key at c = find (goes_on key at c) (keys place)
+
+-- the key is the word so far
+abbrev pub is_whole : Key → ℕ → Key → Bool
+is_whole key at k = length (key_text k) == at && bytes_eq (take at (key_text k)) (take at (key_text key))
+
+abbrev pub whole_key : Place → Key → ℕ → Option Key
+whole_key place key at = find (is_whole key at) (keys place)
+
+-- the key counts in the place
+abbrev pub is_among : Key → List Key → Bool
+is_among k [] = false
+is_among k (x ∷ xs) = bytes_eq (key_text k) (key_text x) || is_among k xs

@@ -1,0 +1,12 @@
+pub mod Symbols
+pub mod Counts
+pub mod Keys
+pub mod LineRules
+pub mod WordRules
+pub mod FreeRules
+pub mod ItemRules
+pub mod NamesRules
+pub mod Rules
+pub mod Fits
+pub mod Run
+pub mod Flow

@@ -1,0 +1,17 @@
+-- The automaton: what an octet does to the first symbol.
+use Rattle.std.specs.Prelude.{ℕ}
+use Rattle.imap_automaton.specs.declared.sym.Sym.{Sym}
+use Rattle.imap_automaton.specs.declared.sym.Sym.TheVariants as sym
+use Rattle.imap_automaton.specs.declared.sym.Move.{Move}
+use Rattle.imap_automaton.specs.LineRules.{line_rule}
+use Rattle.imap_automaton.specs.WordRules.{word_rule}
+use Rattle.imap_automaton.specs.FreeRules.{free_rule}
+use Rattle.imap_automaton.specs.ItemRules.{item_rule}
+use Rattle.imap_automaton.specs.NamesRules.{names_rule}
+
+abbrev pub rule_of : Sym → ℕ → Move
+rule_of (sym.Line s) c = line_rule s c
+rule_of (sym.Word place key at) c = word_rule place key at c
+rule_of (sym.Free s) c = free_rule s c
+rule_of (sym.Item s) c = item_rule s c
+rule_of (sym.Names s) c = names_rule s c

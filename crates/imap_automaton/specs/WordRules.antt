@@ -1,0 +1,62 @@
+-- Words by which a reader decides.
+use Rattle.std.specs.Prelude.{ℕ, ◌+◌, ◌==◌, if◌then◌else◌, Option, Some, None}
+use Rattle.imap_automaton.specs.declared.sym.Key.{Key}
+use Rattle.imap_automaton.specs.declared.sym.Key.TheVariants as key
+use Rattle.imap_automaton.specs.declared.sym.Place.{Place}
+use Rattle.imap_automaton.specs.declared.sym.Place.TheVariants as place
+use Rattle.imap_automaton.specs.declared.sym.Pending.TheVariants as pending
+use Rattle.imap_automaton.specs.declared.sym.Phrase.TheVariants as phrase
+use Rattle.imap_automaton.specs.declared.sym.Line.TheVariants as line
+use Rattle.imap_automaton.specs.declared.sym.Item.TheVariants as item
+use Rattle.imap_automaton.specs.declared.sym.Names.TheVariants as names
+use Rattle.imap_automaton.specs.declared.sym.Sym.TheVariants as sym
+use Rattle.imap_automaton.specs.declared.sym.Move.{Move}
+use Rattle.imap_automaton.specs.declared.sym.Move.TheVariants as move
+use Rattle.imap_automaton.specs.Keys.{in_word, next_key, whole_key}
+use Rattle.imap_automaton.specs.FreeRules.{text_rule}
+use Rattle.imap_syntax.specs.Octets.{lower}
+
+-- rest = empty / SP *text
+abbrev pub rest_rule : ℕ → Move
+rest_rule c =
+    if c == 32 then move.One (sym.Line line.Text)
+    else if c == 13 then move.One (sym.Line (line.Fixed phrase.Crlf 1)) else move.Fail
+
+-- a space, and then the rest of the line
+abbrev pub spaced_rule : Move → ℕ → Move
+spaced_rule m c = if c == 32 then m else move.Fail
+
+-- behind a word that is a key
+abbrev pub behind_key : Place → Key → ℕ → Move
+behind_key place.Tagged key.Ok c = rest_rule c
+behind_key place.Tagged key.No c = rest_rule c
+behind_key place.Tagged key.Bad c = rest_rule c
+behind_key place.Plain key.Ok c = rest_rule c
+behind_key place.Plain key.No c = rest_rule c
+behind_key place.Plain key.Bad c = rest_rule c
+behind_key place.Plain key.Preauth c = rest_rule c
+behind_key place.Plain key.Bye c = rest_rule c
+behind_key place.Numbered key.Fetch c = spaced_rule (move.One (sym.Item item.Open)) c
+behind_key place.Item key.Uid c = spaced_rule (move.One (sym.Item (item.Number 0 0))) c
+behind_key place.Item key.Flags c = spaced_rule (move.One (sym.Names names.Open)) c
+behind_key _ _ c = move.Fail
+
+-- at a word that is none
+abbrev pub stray : Place → ℕ → Move
+stray place.Plain c = text_rule pending.Nothing c
+stray place.Numbered c = text_rule pending.Nothing c
+stray _ c = move.Fail
+
+abbrev pub word_goes : Place → ℕ → ℕ → Option Key → Move
+word_goes place at c (Some k) = move.One (sym.Word place k (at + 1))
+word_goes place at c None = stray place c
+
+abbrev pub word_ends : Place → ℕ → Option Key → Move
+word_ends place c (Some k) = behind_key place k c
+word_ends place c None = stray place c
+
+abbrev pub word_rule : Place → Key → ℕ → ℕ → Move
+word_rule place key at c =
+    if in_word place c then word_goes place at c (next_key place key at (lower c))
+    else if at == 0 then move.Fail
+    else word_ends place c (whole_key place key at)

@@ -1,0 +1,52 @@
+// Classes of octets. An octet within a literal is 256 above itself.
+ghost use Rattle.std.specs.Prelude.{◌≡◌};
+ghost use Rattle.imap_syntax.specs.Octets as octets;
+
+pub const CR: u16 = 13;
+
+pub const LF: u16 = 10;
+
+pub fn is_digit(c: u16) -> bool
+    ensures { result ≡ octets.is_digit c }
+{
+    b'0' as u16 <= c && c <= b'9' as u16
+}
+
+pub fn is_alnum(c: u16) -> bool
+    ensures { result ≡ octets.is_alnum c }
+{
+    is_digit(c) || b'A' as u16 <= c && c <= b'Z' as u16 || b'a' as u16 <= c && c <= b'z' as u16
+}
+
+pub fn is_text(c: u16) -> bool
+    ensures { result ≡ octets.is_text c }
+{
+    0 < c && c < 256 && c != CR && c != LF
+}
+
+pub fn is_word(c: u16) -> bool
+    ensures { result ≡ octets.is_word c }
+{
+    33 <= c && c <= 126
+}
+
+pub fn is_atom(c: u16) -> bool
+    ensures { result ≡ octets.is_atom c }
+{
+    is_word(c)
+        && c != b'(' as u16
+        && c != b')' as u16
+        && c != b'{' as u16
+        && c != b'"' as u16
+        && c != b'\\' as u16
+}
+
+pub fn lower(c: u16) -> u16
+    ensures { result ≡ octets.lower c }
+{
+    if b'A' as u16 <= c && c <= b'Z' as u16 {
+        c + 32
+    } else {
+        c
+    }
+}

@@ -1,0 +1,126 @@
+// Text with literals.
+ghost use Rattle.std.specs.Prelude.{◌≡◌, IsTrue};
+ghost use Rattle.imap_automaton.specs.Counts as counts;
+ghost use Rattle.imap_automaton.specs.FreeRules as rules;
+ghost use Rattle.imap_automaton.specs.Fits.{PendFits, FreeFits};
+
+use crate::class::{CR, LF, is_digit, is_text};
+use crate::sym::{Free, Line, Move, Pending, Phrase, Sym};
+
+/// Octets of a literal.
+const LITERAL_LIMIT: u32 = 50_000_000;
+
+/// Digits of a literal's count.
+const COUNT_DIGITS: u8 = 8;
+
+fn capped(v: u32) -> u32
+    ensures { result ≡ counts.capped v }
+{
+    if v <= LITERAL_LIMIT {
+        v
+    } else {
+        LITERAL_LIMIT + 1
+    }
+}
+
+fn pend_on(pending: Pending, c: u16) -> Pending
+    requires { IsTrue (PendFits pending) }
+    ensures { result ≡ counts.pend_on pending c }
+{
+    match pending {
+        Pending::Nothing => Pending::Nothing,
+        Pending::Open(v, n) => {
+            if is_digit(c) {
+                if n < COUNT_DIGITS {
+                    Pending::Open(capped(10 * v + (c - b'0' as u16) as u32), n + 1)
+                } else {
+                    Pending::Nothing
+                }
+            } else if c == b'}' as u16 && 0 < n {
+                Pending::Closed(v)
+            } else {
+                Pending::Nothing
+            }
+        }
+        Pending::Closed(_) => Pending::Nothing,
+    }
+}
+
+fn pend(pending: Pending, c: u16) -> Pending
+    requires { IsTrue (PendFits pending) }
+    ensures { result ≡ counts.pend pending c }
+{
+    if c == b'{' as u16 {
+        Pending::Open(0, 0)
+    } else {
+        pend_on(pending, c)
+    }
+}
+
+fn free_end(pending: Pending) -> Move
+    ensures { result ≡ rules.free_end pending }
+{
+    match pending {
+        Pending::Closed(v) => {
+            if v <= LITERAL_LIMIT {
+                Move::Two(
+                    Sym::Free(Free::Break(v)),
+                    Sym::Free(Free::Text(Pending::Nothing)),
+                )
+            } else {
+                Move::Fail
+            }
+        }
+        _ => Move::One(Sym::Line(Line::Fixed(Phrase::Crlf, 1))),
+    }
+}
+
+pub fn text_rule(pending: Pending, c: u16) -> Move
+    requires { IsTrue (PendFits pending) }
+    ensures { result ≡ rules.text_rule pending c }
+{
+    if c == CR {
+        free_end(pending)
+    } else if is_text(c) {
+        Move::One(Sym::Free(Free::Text(pend(pending, c))))
+    } else {
+        Move::Fail
+    }
+}
+
+fn break_rule(n: u32, c: u16) -> Move
+    ensures { result ≡ rules.free_rule (Free.Break n) c }
+{
+    if c != LF {
+        Move::Fail
+    } else if n == 0 {
+        Move::End
+    } else {
+        Move::One(Sym::Free(Free::Octets(n)))
+    }
+}
+
+fn octets_rule(n: u32, c: u16) -> Move
+    ensures { result ≡ rules.free_rule (Free.Octets n) c }
+{
+    if 256 <= c && c < 512 && 0 < n {
+        if n == 1 {
+            Move::End
+        } else {
+            Move::One(Sym::Free(Free::Octets(n - 1)))
+        }
+    } else {
+        Move::Fail
+    }
+}
+
+pub fn free_rule(free: Free, c: u16) -> Move
+    requires { IsTrue (FreeFits free) }
+    ensures { result ≡ rules.free_rule free c }
+{
+    match free {
+        Free::Text(pending) => text_rule(pending, c),
+        Free::Break(n) => break_rule(n, c),
+        Free::Octets(n) => octets_rule(n, c),
+    }
+}

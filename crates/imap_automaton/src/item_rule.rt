@@ -1,0 +1,59 @@
+// The items of a FETCH.
+ghost use Rattle.std.specs.Prelude.{◌≡◌, IsTrue};
+ghost use Rattle.imap_automaton.specs.ItemRules as rules;
+ghost use Rattle.imap_automaton.specs.Fits.{ItemFits};
+
+use crate::class::is_digit;
+use crate::sym::{Item, Key, Line, Move, Phrase, Place, Sym};
+
+/// Digits of a number.
+pub const NUMBER_DIGITS: u8 = 10;
+
+/// A word of an item, from its first octet on.
+const ITEM_START: Sym = Sym::Word(Place::Item, Key::Uid, 0);
+
+fn number_rule(value: u32, digits: u8, c: u16) -> Move
+    requires { IsTrue (ItemFits (Item.Number value digits)) }
+    ensures { result ≡ rules.number_rule value digits c }
+{
+    if is_digit(c) {
+        let next = 10 * value as u64 + (c - b'0' as u16) as u64;
+        if digits < NUMBER_DIGITS
+            && next <= u32::MAX as u64
+            && !(next == 0 && digits == NUMBER_DIGITS - 1)
+        {
+            Move::One(Sym::Item(Item::Number(next as u32, digits + 1)))
+        } else {
+            Move::Fail
+        }
+    } else if 0 < value {
+        Move::Yield
+    } else {
+        Move::Fail
+    }
+}
+
+pub fn item_rule(item: Item, c: u16) -> Move
+    requires { IsTrue (ItemFits item) }
+    ensures { result ≡ rules.item_rule item c }
+{
+    match item {
+        Item::Open => {
+            if c == b'(' as u16 {
+                Move::Two(ITEM_START, Sym::Item(Item::More))
+            } else {
+                Move::Fail
+            }
+        }
+        Item::More => {
+            if c == b' ' as u16 {
+                Move::Two(ITEM_START, Sym::Item(Item::More))
+            } else if c == b')' as u16 {
+                Move::One(Sym::Line(Line::Fixed(Phrase::Crlf, 0)))
+            } else {
+                Move::Fail
+            }
+        }
+        Item::Number(value, digits) => number_rule(value, digits, c),
+    }
+}

@@ -1,0 +1,63 @@
+use crate::sym::{Sym, is_octets};
+
+/// As many symbols as the grammar needs at once.
+pub const ROOM: usize = 5;
+
+/// Symbols, kept from the end of the array, the first one to be read at `top`.
+#[derive(Clone, Copy)]
+pub struct Stack {
+    symbols: [Sym; ROOM],
+    top: usize,
+    ghost in_range: { top ≤ 5 },
+    ghost whole: { length symbols ≡ 5 },
+}
+
+ghost use Rattle.std.specs.Prelude.{◌≤◌, ◌≡◌, length};
+
+impl Stack {
+    ghost use Rattle.std.specs.Prelude.{◌<◌, List, [], ◌∷◌, MatchOption, IsTrue, ◌↔◌};
+    ghost use Rattle.imap_automaton.specs.Symbols.{symbols_of};
+    ghost use Rattle.imap_automaton.specs.Run.{inside_top};
+
+    pub fn of(first: Sym) -> Stack
+        ensures { symbols_of result ≡ first ∷ [] }
+    {
+        Stack {
+            symbols: [first; ROOM],
+            top: ROOM - 1,
+        }
+    }
+
+    pub fn push(&mut self, symbol: Sym)
+        requires { length (symbols_of self.old) < 5 }
+        ensures { symbols_of self.new ≡ symbol ∷ symbols_of self.old }
+    {
+        self.top -= 1;
+        self.symbols[self.top] = symbol;
+    }
+
+    pub fn pop(&mut self) -> Option<Sym>
+        ensures { MatchOption result ((symbols_of self.old ≡ []) × (symbols_of self.new ≡ [])) (λ s. symbols_of self.old ≡ s ∷ symbols_of self.new) }
+    {
+        if self.top < ROOM {
+            let symbol = self.symbols[self.top];
+            self.top += 1;
+            Some(symbol)
+        } else {
+            None
+        }
+    }
+
+    /// Whether the next octet stands within a literal.
+    pub fn is_inside(&self) -> bool
+        ensures { result ≡ inside_top (symbols_of self.now) }
+    {
+        self.top < ROOM && is_octets(self.symbols[self.top])
+    }
+
+    pub fn is_empty(&self) -> bool
+        ensures { IsTrue result ↔ (symbols_of self.now ≡ []) }
+    {
+        self.top == ROOM
+    }
+}

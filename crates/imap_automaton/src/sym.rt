@@ -1,0 +1,134 @@
+// The symbols of the automaton's stack, in groups, and what an octet does to the first of them.
+
+/// A fixed text.
+#[derive(Clone, Copy)]
+pub enum Phrase {
+    Space,
+    Crlf,
+}
+
+/// A word by which a reader decides.
+#[derive(Clone, Copy)]
+pub enum Key {
+    Ok,
+    No,
+    Bad,
+    Preauth,
+    Bye,
+    Fetch,
+    Uid,
+    Flags,
+}
+
+/// Where a word is read.
+#[derive(Clone, Copy)]
+pub enum Place {
+    /// Behind a tag.
+    Tagged,
+    /// Behind `* `.
+    Plain,
+    /// Behind `* `, a number and a space.
+    Numbered,
+    /// An item's name.
+    Item,
+}
+
+/// A count in braces that may stand at the end of a text: none, one with so many digits, one with its closing brace.
+#[derive(Clone, Copy)]
+pub enum Pending {
+    Nothing,
+    Open(u32, u8),
+    Closed(u32),
+}
+
+/// Within a line.
+#[derive(Clone, Copy)]
+pub enum Line {
+    Start,
+    /// Within a tag, behind so many octets.
+    Tag(u8),
+    /// Behind `* `.
+    Untagged,
+    /// Behind `* ` and a number of so many digits, if a space follows.
+    Sequence(u32, u8),
+    /// Text up to the line's end.
+    Text,
+    /// Within a fixed text, behind so many octets.
+    Fixed(Phrase, u8),
+}
+
+/// Within text with literals.
+#[derive(Clone, Copy)]
+pub enum Free {
+    Text(Pending),
+    /// Behind the CR of a literal of so many octets.
+    Break(u32),
+    /// Within a literal, before so many octets.
+    Octets(u32),
+}
+
+/// Within the items of a FETCH.
+#[derive(Clone, Copy)]
+pub enum Item {
+    Open,
+    /// Behind an item.
+    More,
+    /// Within a number that isn't 0, its value so far and how many digits it has.
+    Number(u32, u8),
+}
+
+/// Within names in brackets.
+#[derive(Clone, Copy)]
+pub enum Names {
+    Open,
+    First,
+    /// Behind a name.
+    More,
+    Name,
+    Atom,
+    /// Within an atom, behind its first octet.
+    AtomRest,
+}
+
+/// What is still to come: a place within a rule of the grammar.
+#[derive(Clone, Copy)]
+pub enum Sym {
+    Line(Line),
+    /// Within a word, whose octets so far are the first so many of the key's.
+    Word(Place, Key, u8),
+    Free(Free),
+    Item(Item),
+    Names(Names),
+}
+
+/// What an octet does to the first symbol.
+#[derive(Clone, Copy)]
+pub enum Move {
+    /// No text goes on so.
+    Fail,
+    /// The symbol ends before the octet.
+    Yield,
+    /// The octet ends the symbol.
+    End,
+    One(Sym),
+    Two(Sym, Sym),
+}
+
+ghost use Rattle.std.specs.Prelude.{◌≡◌};
+ghost use Rattle.imap_automaton.specs.Run as runs;
+
+/// Whether the symbol is within a literal.
+pub fn is_octets(sym: Sym) -> bool
+    ensures { result ≡ runs.is_octets sym }
+{
+    match sym {
+        Sym::Free(free) => is_literal(free),
+        _ => false,
+    }
+}
+
+fn is_literal(free: Free) -> bool
+    ensures { result ≡ runs.is_octets (Sym.Free free) }
+{
+    matches!(free, Free::Octets(_))
+}

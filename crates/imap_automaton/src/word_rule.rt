@@ -1,0 +1,215 @@
+// Words by which a reader decides.
+ghost use Rattle.std.specs.Prelude.{◌≡◌, ◌≤◌, ◌<◌, IsTrue, length, take, bytes_eq, nat_le};
+ghost use Rattle.imap_automaton.specs.Keys as keywords;
+ghost use Rattle.imap_automaton.specs.WordRules as rules;
+
+use crate::class::{CR, is_atom, is_word, lower};
+use crate::free_rule::text_rule;
+use crate::sym::{Item, Key, Line, Move, Names, Pending, Phrase, Place, Sym};
+
+/// The word in lower case.
+fn key_text(key: Key) -> &'static [u8]
+    ensures { result.now ≡ keywords.key_text key }
+{
+    match key {
+        Key::Ok => b"ok",
+        Key::No => b"no",
+        Key::Bad => b"bad",
+        Key::Preauth => b"preauth",
+        Key::Bye => b"bye",
+        Key::Fetch => b"fetch",
+        Key::Uid => b"uid",
+        Key::Flags => b"flags",
+    }
+}
+
+static TAGGED_KEYS: [Key; 3] = [Key::Ok, Key::No, Key::Bad];
+
+static LINE_KEYS: [Key; 6] = [
+    Key::Ok,
+    Key::No,
+    Key::Bad,
+    Key::Preauth,
+    Key::Bye,
+    Key::Fetch,
+];
+
+static ITEM_KEYS: [Key; 2] = [Key::Uid, Key::Flags];
+
+/// The words that count in a place.
+fn keys(place: Place) -> &'static [Key]
+    ensures { result.now ≡ keywords.keys place }
+{
+    match place {
+        Place::Tagged => &TAGGED_KEYS,
+        Place::Plain => &LINE_KEYS,
+        Place::Numbered => &LINE_KEYS,
+        Place::Item => &ITEM_KEYS,
+    }
+}
+
+/// The key from which a place's words are read.
+pub fn first_key(place: Place) -> Key
+    ensures { result ≡ keywords.first_key place }
+{
+    match place {
+        Place::Item => Key::Uid,
+        _ => Key::Ok,
+    }
+}
+
+fn in_word(place: Place, c: u16) -> bool
+    ensures { result ≡ keywords.in_word place c }
+{
+    match place {
+        Place::Item => is_atom(c),
+        _ => is_word(c),
+    }
+}
+
+fn begin_alike(a: &[u8], b: &[u8], at: usize) -> bool
+    requires a { at ≤ length a.now }
+    requires b { at ≤ length b.now }
+    ensures { result ≡ bytes_eq (take at a.now) (take at b.now) }
+{
+    let (front, _) = a.split_at(at);
+    let (other, _) = b.split_at(at);
+    front == other
+}
+
+fn goes_on(key: Key, at: u8, c: u16, candidate: Key) -> bool
+    requires { at ≤ length (keywords.key_text key) }
+    ensures { result ≡ keywords.goes_on key at c candidate }
+{
+    let text = key_text(candidate);
+    let at = at as usize;
+    if at < text.len() && text[at] as u16 == c {
+        begin_alike(text, key_text(key), at)
+    } else {
+        false
+    }
+}
+
+/// The key that begins as this one does up to `at` and goes on with the octet.
+fn next_key(place: Place, key: Key, at: u8, c: u16) -> Option<Key>
+    requires { at ≤ length (keywords.key_text key) }
+    ensures { result ≡ keywords.next_key place key at c }
+{
+    for candidate in keys(place) {
+        if goes_on(key, at, c, *candidate) {
+            return Some(*candidate);
+        }
+    }
+    None
+}
+
+fn is_whole(key: Key, at: u8, candidate: Key) -> bool
+    requires { at ≤ length (keywords.key_text key) }
+    ensures { result ≡ keywords.is_whole key at candidate }
+{
+    let text = key_text(candidate);
+    let at = at as usize;
+    if text.len() == at {
+        begin_alike(text, key_text(key), at)
+    } else {
+        false
+    }
+}
+
+/// The key that is the word so far.
+fn whole_key(place: Place, key: Key, at: u8) -> Option<Key>
+    requires { at ≤ length (keywords.key_text key) }
+    ensures { result ≡ keywords.whole_key place key at }
+{
+    for candidate in keys(place) {
+        if is_whole(key, at, *candidate) {
+            return Some(*candidate);
+        }
+    }
+    None
+}
+
+fn rest_rule(c: u16) -> Move
+    ensures { result ≡ rules.rest_rule c }
+{
+    if c == b' ' as u16 {
+        Move::One(Sym::Line(Line::Text))
+    } else if c == CR {
+        Move::One(Sym::Line(Line::Fixed(Phrase::Crlf, 1)))
+    } else {
+        Move::Fail
+    }
+}
+
+fn spaced_rule(next: Sym, c: u16) -> Move
+    ensures { result ≡ rules.spaced_rule (Move.One next) c }
+{
+    if c == b' ' as u16 {
+        Move::One(next)
+    } else {
+        Move::Fail
+    }
+}
+
+/// Behind a word that is a key.
+fn behind_key(place: Place, key: Key, c: u16) -> Move
+    ensures { result ≡ rules.behind_key place key c }
+{
+    match (place, key) {
+        (Place::Tagged, Key::Ok) => rest_rule(c),
+        (Place::Tagged, Key::No) => rest_rule(c),
+        (Place::Tagged, Key::Bad) => rest_rule(c),
+        (Place::Plain, Key::Ok) => rest_rule(c),
+        (Place::Plain, Key::No) => rest_rule(c),
+        (Place::Plain, Key::Bad) => rest_rule(c),
+        (Place::Plain, Key::Preauth) => rest_rule(c),
+        (Place::Plain, Key::Bye) => rest_rule(c),
+        (Place::Numbered, Key::Fetch) => spaced_rule(Sym::Item(Item::Open), c),
+        (Place::Item, Key::Uid) => spaced_rule(Sym::Item(Item::Number(0, 0)), c),
+        (Place::Item, Key::Flags) => spaced_rule(Sym::Names(Names::Open), c),
+        _ => Move::Fail,
+    }
+}
+
+/// At a word that is no key.
+fn stray(place: Place, c: u16) -> Move
+    ensures { result ≡ rules.stray place c }
+{
+    match place {
+        Place::Plain => text_rule(Pending::Nothing, c),
+        Place::Numbered => text_rule(Pending::Nothing, c),
+        _ => Move::Fail,
+    }
+}
+
+fn word_goes(place: Place, at: u8, c: u16, next: Option<Key>) -> Move
+    requires { at < 255 }
+    ensures { result ≡ rules.word_goes place at c next }
+{
+    match next {
+        Some(key) => Move::One(Sym::Word(place, key, at + 1)),
+        None => stray(place, c),
+    }
+}
+
+fn word_ends(place: Place, c: u16, whole: Option<Key>) -> Move
+    ensures { result ≡ rules.word_ends place c whole }
+{
+    match whole {
+        Some(key) => behind_key(place, key, c),
+        None => stray(place, c),
+    }
+}
+
+pub fn word_rule(place: Place, key: Key, at: u8, c: u16) -> Move
+    requires { IsTrue (nat_le at (length (keywords.key_text key))) }
+    ensures { result ≡ rules.word_rule place key at c }
+{
+    if in_word(place, c) {
+        word_goes(place, at, c, next_key(place, key, at, lower(c)))
+    } else if at == 0 {
+        Move::Fail
+    } else {
+        word_ends(place, c, whole_key(place, key, at))
+    }
+}

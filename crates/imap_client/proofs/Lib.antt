@@ -1,0 +1,5 @@
+pub mod Pieces
+mod Fronts
+mod Responses
+mod Answering
+pub mod Turning

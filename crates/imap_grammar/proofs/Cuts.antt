@@ -1,0 +1,111 @@
+-- Where a run of octets of a class ends.
+use Rattle.std.proofs.Common.{◌≡◌, ℕ, zero, suc, ◌+◌, ◌-◌, ◌*◌, ◌<◌, ◌≤◌, Bool, true, false, List, [], ◌∷◌, ◌++◌, length, map, take, drop, get_or, cond, refl, sym, ap, subst, ◌∙◌, arith}
+use Rattle.std.specs.Prelude.{nat_lt, nat_le}
+use Rattle.std.proofs.lemmas.Bool.{cond-true, cond-false, leb-true, leb-false, le-leb}
+use Rattle.std.proofs.lemmas.List.{map-append}
+use Rattle.imap_grammar.specs.Reading.{span, capped, number_from, number_in}
+use Rattle.imap_syntax.specs.Texts.{Each, plain_of, plain}
+use Rattle.imap_syntax.specs.Numbers.{value_from}
+
+abbrev pub small : ℕ → Bool
+small c = nat_lt c 256
+
+pub plain_small : (x : List ℕ) → Each small x → plain x ≡ x
+plain_small [] h = refl
+plain_small (c ∷ x) h = let e : plain_of c ≡ c = cond-true (nat_lt c 256) c (c - 256) h.0 in let r = plain_small x h.1 in cc
+
+pub each_to : (p q : ℕ → Bool) (t : List ℕ) → ((c : ℕ) → p c ≡ true → q c ≡ true) → Each p t → Each q t
+each_to p q [] f h = tt
+each_to p q (c ∷ t) f h = (f c h.0, each_to p q t f h.1)
+
+pub each_join : (p : ℕ → Bool) (x y : List ℕ) → Each p x → Each p y → Each p (x ++ y)
+each_join p [] y h k = k
+each_join p (c ∷ x) y h k = (h.0, each_join p x y h.1 k)
+
+pub plain_join : (x y : List ℕ) → Each small x → plain (x ++ y) ≡ x ++ plain y
+plain_join x y h = map-append plain_of x y ∙ ap (λ (u : List ℕ). u ++ plain y) (plain_small x h)
+
+pub span_at : (p : ℕ → Bool) (x y : List ℕ) → Each p x → p (get_or y 0 0) ≡ false → span p (x ++ y) ≡ length x
+unfolding span
+span_at p [] [] h e = refl
+span_at p [] (c ∷ y) h e = cond-false (p c) (suc (span p y)) 0 e
+span_at p (c ∷ x) y h e = cond-true (p c) (suc (span p (x ++ y))) 0 h.0 ∙ ap (λ (n : ℕ). suc n) (span_at p x y h.1 e)
+
+take_front : (x y : List ℕ) → take (length x) (x ++ y) ≡ x
+take_front [] y = refl
+take_front (c ∷ x) y = ap (λ (u : List ℕ). c ∷ u) (take_front x y)
+
+drop_front : (x y : List ℕ) → drop (length x) (x ++ y) ≡ y
+drop_front [] y = refl
+drop_front (c ∷ x) y = drop_front x y
+
+drop_suc : (x y : List ℕ) (c : ℕ) → drop (suc (length x)) (x ++ c ∷ y) ≡ y
+drop_suc [] y c = refl
+drop_suc (d ∷ x) y c = drop_suc x y c
+
+drop_past : (x y : List ℕ) (c : ℕ) → drop (length x + 1) (x ++ c ∷ y) ≡ y
+drop_past x y c = let e : length x + 1 ≡ suc (length x) = omega arith in ap (λ (n : ℕ). drop n (x ++ c ∷ y)) e ∙ drop_suc x y c
+
+get_front : (x y : List ℕ) → get_or (x ++ y) (length x) 0 ≡ get_or y 0 0
+get_front [] y = refl
+get_front (c ∷ x) y = get_front x y
+
+-- octets cut behind a run of a class
+pub record CutAt (p : ℕ → Bool) (x y b : List ℕ) : Type 0 where
+  pub count : span p b ≡ length x
+  pub front : take (span p b) b ≡ x
+  pub back : drop (span p b) b ≡ y
+  pub octet : get_or b (span p b) 0 ≡ get_or y 0 0
+  pub past : (c : ℕ) (z : List ℕ) → y ≡ c ∷ z → drop (span p b + 1) b ≡ z
+
+pub cut_at : (p : ℕ → Bool) (x y b : List ℕ) → b ≡ x ++ y → Each p x → p (get_or y 0 0) ≡ false → CutAt p x y b
+cut_at p x y b e h o =
+    let n : span p b ≡ length x = ap (span p) e ∙ span_at p x y h o in
+    record {
+      count = n;
+      front = ap (λ (k : ℕ). take k b) n ∙ ap (take (length x)) e ∙ take_front x y;
+      back = ap (λ (k : ℕ). drop k b) n ∙ ap (drop (length x)) e ∙ drop_front x y;
+      octet = ap (λ (k : ℕ). get_or b k 0) n ∙ ap (λ (u : List ℕ). get_or u (length x) 0) e ∙ get_front x y;
+      past = λ c z f. ap (λ (k : ℕ). drop (k + 1) b) n ∙ ap (drop (length x + 1)) (e ∙ ap (λ (u : List ℕ). x ++ u) f) ∙ drop_past x z c;
+    }
+
+-- ---- numbers
+
+capped_more : (v d : ℕ) → capped (10 * capped v + d) ≡ capped (10 * v + d)
+capped_more v d = by (nat_le v 4294967295) refl
+  where
+    by : (b : Bool) → nat_le v 4294967295 ≡ b → capped (10 * capped v + d) ≡ capped (10 * v + d)
+    by true e = ap (λ (n : ℕ). capped (10 * n + d)) (cond-true (nat_le v 4294967295) v 4294967296 e)
+    by false e =
+        let over : 4294967295 < v = leb-false v 4294967295 e in
+        let is : capped v ≡ 4294967296 = cond-false (nat_le v 4294967295) v 4294967296 e in
+        past (10 * capped v + d) (omega (arith, is)) ∙ sym (past (10 * v + d) (omega (arith, over)))
+      where
+        past : (n : ℕ) → 4294967296 ≤ n → capped n ≡ 4294967296
+        past n lt = grind arith
+
+number_capped : (v : ℕ) (t : List ℕ) → number_from (capped v) t ≡ capped (value_from v t)
+unfolding number_from
+number_capped v [] = refl
+number_capped v (c ∷ t) = ap (λ (n : ℕ). number_from n t) (capped_more v (c - 48)) ∙ number_capped (10 * v + (c - 48)) t
+
+capped_small : (n : ℕ) → n ≤ 4294967295 → capped n ≡ n
+capped_small n le = grind arith
+
+pub number_from_is : (t : List ℕ) → number_from 0 t ≡ capped (value_from 0 t)
+number_from_is t = number_capped 0 t
+
+pub number_is : (t : List ℕ) → value_from 0 t ≤ 4294967295 → number_in t ≡ value_from 0 t
+number_is t le =
+    let e : number_from 0 t ≡ value_from 0 t = number_from_is t ∙ capped_small (value_from 0 t) le in
+    ap (λ (n : ℕ). cond (nat_le n 4294967295) n 4294967295) e ∙ cond-true (nat_le (value_from 0 t) 4294967295) (value_from 0 t) 4294967295 (le-leb (value_from 0 t) 4294967295 le)
+
+pub small_capped : (n : ℕ) → capped n ≤ 4294967295 → n ≤ 4294967295
+small_capped n le = by (nat_le n 4294967295) refl
+  where
+    by : (b : Bool) → nat_le n 4294967295 ≡ b → n ≤ 4294967295
+    by true e = leb-true n 4294967295 e
+    by false e = absurd (omega (arith, le, cond-false (nat_le n 4294967295) n 4294967296 e))
+
+pub capped_le : (n : ℕ) → n ≤ 4294967295 → capped n ≤ 4294967295
+capped_le n le = let e = capped_small n le in omega (arith, e, le)

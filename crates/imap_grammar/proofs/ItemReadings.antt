@@ -1,0 +1,140 @@
+-- The items of a FETCH are read back as what they tell.
+use Rattle.std.proofs.Common.{◌≡◌, ◌⊎◌, ℕ, zero, suc, ◌+◌, ◌<◌, ◌≤◌, Bool, true, false, List, [], ◌∷◌, ◌++◌, length, map, take, drop, get_or, cond, refl, sym, ap, subst, ◌∙◌, append_assoc, arith, inl, inr, Option, Some}
+use Rattle.std.specs.Prelude.{◌==◌, codes, bytes_eq}
+use Rattle.std.proofs.lemmas.Bool.{cond-true, cond-false}
+use Rattle.std.proofs.lemmas.List.{length-append, append-nil, map-append}
+use Rattle.imap_automaton.proofs.KeyLemmas.{text_same}
+use Rattle.imap_automaton.proofs.Lists.{cons_head, cons_tail}
+use Rattle.imap_grammar.specs.Reading.{span, in_name, number_in, names_in, flags_in, value_in, item_in, items_in}
+use Rattle.imap_grammar.proofs.Cuts.{small, plain_small, plain_join, each_to, each_join, CutAt, cut_at, number_is}
+use Rattle.imap_syntax.specs.declared.response.FetchItems.{FetchItems}
+use Rattle.imap_syntax.specs.Octets.{is_digit, is_atom, lower}
+use Rattle.imap_syntax.specs.Texts.{Each, plain_of, plain, crlf}
+use Rattle.imap_syntax.specs.Numbers.{value_from}
+use Rattle.imap_syntax.specs.Items.{IsAtom, IsName, AllNames, spaced, joined, IsNames, Item, Uid, Flags, IsItemValue, IsItem, IsMore, IsItems, add_name, kept_from, kept, told, told_from}
+
+-- ---- names
+
+atom_name : (c : ℕ) → is_atom c ≡ true → in_name c ≡ true
+atom_name c e = grind arith
+
+atom_small : (c : ℕ) → is_atom c ≡ true → small c ≡ true
+atom_small c e = grind arith
+
+name_class : (p : ℕ → Bool) (n : List ℕ) → ((c : ℕ) → is_atom c ≡ true → p c ≡ true) → p 92 ≡ true → IsName n → Each p n
+name_class p n f s (inl a) = each_to is_atom p n f a.0
+name_class p n f s (inr a) = subst (Each p) (sym a.1) (s, each_to is_atom p a.0 f a.2.0)
+
+names_small : (ns : List (List ℕ)) → AllNames ns → Each small (spaced ns)
+names_small [] h = tt
+names_small (n ∷ ns) h = (refl, each_join small n (spaced ns) (name_class small n atom_small refl h.0) (names_small ns h.1))
+
+joined_small : (ns : List (List ℕ)) → AllNames ns → Each small (joined ns)
+joined_small [] h = tt
+joined_small (n ∷ ns) h = each_join small n (spaced ns) (name_class small n atom_small refl h.0) (names_small ns h.1)
+
+spaced_long : (ns : List (List ℕ)) → length ns ≤ length (spaced ns)
+spaced_long [] = omega arith
+spaced_long (n ∷ ns) = let ih = spaced_long ns in let l = length-append n (spaced ns) in omega (arith, ih, l)
+
+names_read : (ns : List (List ℕ)) (most : ℕ) (so_far : List (List ℕ)) (n rest b : List ℕ) → IsName n → AllNames ns → length ns < most → b ≡ n ++ (spaced ns ++ 41 ∷ rest) → names_in most so_far b ≡ (kept_from so_far (n ∷ ns), rest)
+unfolding names_in
+names_read ns zero so_far n rest b name all lt e = absurd (omega (arith, lt))
+names_read [] (suc most) so_far n rest b name all lt e =
+    let k = cut_at in_name n (41 ∷ rest) b e (name_class in_name n atom_name refl name) refl in
+    cond-false (get_or b (span in_name b) 0 == 32) (names_in most (add_name so_far (map lower (take (span in_name b) b))) (drop (span in_name b + 1) b)) (add_name so_far (map lower (take (span in_name b) b)), drop (span in_name b + 1) b) (ap (λ (c : ℕ). c == 32) k.octet)
+    ∙ ap (λ (u : List ℕ). (add_name so_far (map lower u), drop (span in_name b + 1) b)) k.front ∙ ap (λ (u : List ℕ). (add_name so_far (map lower n), u)) (k.past 41 rest refl)
+names_read (m ∷ ns) (suc most) so_far n rest b name all lt e =
+    let k = cut_at in_name n ((32 ∷ m ++ spaced ns) ++ 41 ∷ rest) b e (name_class in_name n atom_name refl name) refl in
+    cond-true (get_or b (span in_name b) 0 == 32) (names_in most (add_name so_far (map lower (take (span in_name b) b))) (drop (span in_name b + 1) b)) (add_name so_far (map lower (take (span in_name b) b)), drop (span in_name b + 1) b) (ap (λ (c : ℕ). c == 32) k.octet)
+    ∙ ap (λ (u : List ℕ). names_in most (add_name so_far (map lower u)) (drop (span in_name b + 1) b)) k.front
+    ∙ names_read ns most (add_name so_far (map lower n)) m rest (drop (span in_name b + 1) b) all.0 all.1 (omega (arith, lt)) (k.past 32 ((m ++ spaced ns) ++ 41 ∷ rest) refl ∙ append_assoc m (spaced ns) (41 ∷ rest))
+
+name_first : (n rest : List ℕ) → IsName n → (get_or (n ++ rest) 0 0 == 41) ≡ false
+name_first [] rest (inl a) = absurd (omega (arith, a.1))
+name_first [] rest (inr a) = let f = a.1 in absurd cc
+name_first (c ∷ n) rest (inl a) = not_bracket c a.0.0
+  where
+    not_bracket : (c : ℕ) → is_atom c ≡ true → (c == 41) ≡ false
+    not_bracket c e = grind arith
+name_first (c ∷ n) rest (inr a) = ap (λ (d : ℕ). d == 41) (cons_head c 92 n a.0 a.1)
+
+flags_read : (ns : List (List ℕ)) (rest b : List ℕ) → AllNames ns → b ≡ joined ns ++ 41 ∷ rest → flags_in b ≡ (kept ns, rest)
+unfolding flags_in
+flags_read [] rest b all e =
+    cond-true (get_or b 0 0 == 41) ([], drop 1 b) (names_in (length b) [] b) (ap (λ (u : List ℕ). get_or u 0 0 == 41) e)
+    ∙ ap (λ (u : List ℕ). ([], drop 1 u)) e
+flags_read (n ∷ ns) rest b all e =
+    let f : b ≡ n ++ (spaced ns ++ 41 ∷ rest) = e ∙ append_assoc n (spaced ns) (41 ∷ rest) in
+    let long = spaced_long ns in
+    let l1 = length-append n (spaced ns ++ 41 ∷ rest) in
+    let l2 = length-append (spaced ns) (41 ∷ rest) in
+    cond-false (get_or b 0 0 == 41) ([], drop 1 b) (names_in (length b) [] b) (ap (λ (u : List ℕ). get_or u 0 0 == 41) f ∙ name_first n (spaced ns ++ 41 ∷ rest) all.0)
+    ∙ names_read ns (length b) [] n rest b all.0 all.1 (omega (arith, long, l1, l2, ap length f)) f
+
+-- ---- items
+
+digit_small : (c : ℕ) → is_digit c ≡ true → small c ≡ true
+digit_small c e = grind arith
+
+value_read : (i : Item) (so_far : FetchItems) (name value back b : List ℕ) → IsItem i (name ++ 32 ∷ value) → IsItemValue i (map lower name) value → is_digit (get_or back 0 0) ≡ false → b ≡ plain value ++ back → value_in so_far (map lower name) b ≡ (told so_far i, back)
+unfolding value_in
+value_read (Uid n) so_far name value back b item h out e =
+    let v : plain value ≡ value = plain_small value (each_to is_digit small value digit_small h.1.0.digits) in
+    let k = cut_at is_digit value back b (e ∙ ap (λ (u : List ℕ). u ++ back) v) h.1.0.digits out in
+    let num : number_in (take (span is_digit b) b) ≡ n = ap number_in k.front ∙ number_is value (omega (arith, h.1.0.value, h.1.0.most)) ∙ sym h.1.0.value in
+    cond-true (bytes_eq (map lower name) (codes "uid")) (record so_far { uid = Some (number_in (take (span is_digit b) b)) }, drop (span is_digit b) b) (record so_far { flags = Some (flags_in (drop 1 b)).0 }, (flags_in (drop 1 b)).1) (text_same (map lower name) (codes "uid") h.0)
+    ∙ ap (λ (m : ℕ). (told so_far (Uid m), drop (span is_digit b) b)) num ∙ ap (λ (u : List ℕ). (told so_far (Uid n), u)) k.back
+value_read (Flags ns) so_far name value back b item h out e =
+    let inner : plain value ≡ 40 ∷ joined ns ++ 41 ∷ [] = ap plain h.1.1 ∙ plain_small (40 ∷ joined ns ++ 41 ∷ []) (refl, each_join small (joined ns) (41 ∷ []) (joined_small ns h.1.0) (refl, tt)) in
+    let f : drop 1 b ≡ joined ns ++ 41 ∷ back = ap (drop 1) (e ∙ ap (λ (u : List ℕ). u ++ back) inner) ∙ append_assoc (joined ns) (41 ∷ []) back in
+    cond-false (bytes_eq (map lower name) (codes "uid")) (record so_far { uid = Some (number_in (take (span is_digit b) b)) }, drop (span is_digit b) b) (record so_far { flags = Some (flags_in (drop 1 b)).0 }, (flags_in (drop 1 b)).1) (ap (λ (u : List ℕ). bytes_eq u (codes "uid")) h.0)
+    ∙ ap (λ (r : List (List ℕ) × List ℕ). (record so_far { flags = Some r.0 }, r.1)) (flags_read ns back (drop 1 b) h.1.0 f)
+
+item_read : (i : Item) (so_far : FetchItems) (t back b : List ℕ) → IsItem i t → is_digit (get_or back 0 0) ≡ false → b ≡ plain t ++ back → item_in so_far b ≡ (told so_far i, back)
+unfolding item_in
+item_read i so_far t back b h out e =
+    let s = each_to is_atom small h.name atom_small h.atom in
+    let cut : b ≡ h.name ++ (32 ∷ (plain h.value ++ back)) = e ∙ ap (λ (u : List ℕ). u ++ back) (ap plain h.whole ∙ plain_join h.name (32 ∷ h.value) s) ∙ append_assoc h.name (32 ∷ plain h.value) back in
+    let k = cut_at in_name h.name (32 ∷ (plain h.value ++ back)) b cut (each_to is_atom in_name h.name atom_name h.atom) refl in
+    ap (λ (u : List ℕ). value_in so_far (map lower u) (drop (span in_name b + 1) b)) k.front
+    ∙ value_read i so_far h.name h.value back (drop (span in_name b + 1) b) (subst (IsItem i) h.whole h) h.item out (k.past 32 (plain h.value ++ back) refl)
+
+more_head : (is : List Item) (y : List ℕ) → IsMore is y → is_digit (get_or (plain y) 0 0) ≡ false
+more_head [] y h = ap (λ (u : List ℕ). is_digit (get_or (plain u) 0 0)) h
+more_head (i ∷ is) y h = ap (λ (u : List ℕ). is_digit (get_or (plain u) 0 0)) h.2
+
+more_long : (is : List Item) (y : List ℕ) → IsMore is y → length is < length y
+more_long [] y h = let l = ap length h in omega (arith, l)
+more_long (i ∷ is) y h =
+    let ih = more_long is h.1 h.4 in
+    let l = ap length h.2 in
+    let m = length-append h.0 h.1 in
+    omega (arith, ih, l, m)
+
+-- a space before each item, at most so many
+pub items_read : (is : List Item) (most : ℕ) (so_far : FetchItems) (i : Item) (x y b : List ℕ) → IsItem i x → IsMore is y → length is < most → b ≡ plain x ++ plain y → items_in most so_far b ≡ told_from so_far (i ∷ is)
+unfolding items_in
+items_read is zero so_far i x y b h m lt e = absurd (omega (arith, lt))
+items_read [] (suc most) so_far i x y b h m lt e =
+    let r = item_read i so_far x (plain y) b h (more_head [] y m) e in
+    ap (λ (q : FetchItems × List ℕ). cond (get_or q.1 0 0 == 32) (items_in most q.0 (drop 1 q.1)) q.0) r
+    ∙ cond-false (get_or (plain y) 0 0 == 32) (items_in most (told so_far i) (drop 1 (plain y))) (told so_far i) (ap (λ (u : List ℕ). get_or (plain u) 0 0 == 32) m)
+items_read (j ∷ is) (suc most) so_far i x y b h m lt e =
+    let r = item_read i so_far x (plain y) b h (more_head (j ∷ is) y m) e in
+    ap (λ (q : FetchItems × List ℕ). cond (get_or q.1 0 0 == 32) (items_in most q.0 (drop 1 q.1)) q.0) r
+    ∙ cond-true (get_or (plain y) 0 0 == 32) (items_in most (told so_far i) (drop 1 (plain y))) (told so_far i) (ap (λ (u : List ℕ). get_or (plain u) 0 0 == 32) m.2)
+    ∙ items_read is most (told so_far i) j m.0 m.1 (drop 1 (plain y)) m.3 m.4 (omega (arith, lt)) (ap (λ (u : List ℕ). drop 1 (plain u)) m.2 ∙ map-append plain_of m.0 m.1)
+
+pub plain_length : (t : List ℕ) → length (plain t) ≡ length t
+plain_length [] = refl
+plain_length (c ∷ t) = ap (λ (n : ℕ). suc n) (plain_length t)
+
+-- items up to the line's end, with the octets' number to bound them
+pub all_items_read : (is : List Item) (so_far : FetchItems) (t : List ℕ) (most : ℕ) → IsItems is t → length t ≤ most → items_in most so_far (plain t) ≡ told_from so_far is
+all_items_read [] so_far t most h le = absurd h
+all_items_read (i ∷ is) so_far t most h le =
+    let l = more_long is h.back h.second in
+    let n = ap length h.whole in
+    let m = length-append h.front h.back in
+    items_read is most so_far i h.front h.back (plain t) h.first h.second (omega (arith, l, n, m, le)) (ap plain h.whole ∙ map-append plain_of h.front h.back)

@@ -1,0 +1,106 @@
+-- How a spelling is read back: each function takes the octets from its place on. That it gives the spelled value is a
+-- law of this crate.
+use Rattle.std.specs.Prelude.{ℕ, zero, suc, ◌+◌, ◌-◌, ◌*◌, Bool, true, false, not, ◌&&◌, nat_lt, nat_le, ◌==◌, if◌then◌else◌, List, [], ◌∷◌, length, map, take, drop, get_or, codes, bytes_eq, Option, Some, None, unwrap_or}
+use Rattle.imap_syntax.specs.declared.response.Status.{Status}
+use Rattle.imap_syntax.specs.declared.response.Status.TheVariants as status
+use Rattle.imap_syntax.specs.declared.response.FetchItems.{FetchItems}
+use Rattle.imap_syntax.specs.declared.response.Response.{Response}
+use Rattle.imap_syntax.specs.declared.response.Response.TheVariants.{Tagged, Untagged, Fetch, Other}
+use Rattle.imap_syntax.specs.Octets.{is_digit, is_word, lower}
+use Rattle.imap_syntax.specs.Items.{add_name, no_items}
+
+-- how many octets at the front are of the class
+unfoldable pub span : (ℕ → Bool) → List ℕ → ℕ
+span p [] = 0
+span p (c ∷ b) = if p c then suc (span p b) else 0
+
+-- an octet of a tag, of an item's name or of a flag
+abbrev pub in_name : ℕ → Bool
+in_name c = not (c == 32) && not (c == 41)
+
+-- the number, or 2^32 where it is greater
+abbrev pub capped : ℕ → ℕ
+capped n = if nat_le n 4294967295 then n else 4294967296
+
+unfoldable pub number_from : ℕ → List ℕ → ℕ
+number_from n [] = n
+number_from n (c ∷ t) = number_from (capped (10 * n + (c - 48))) t
+
+-- the number, or 2^32 - 1 where it is greater
+abbrev pub number_in : List ℕ → ℕ
+number_in t = if nat_le (number_from 0 t) 4294967295 then number_from 0 t else 4294967295
+
+-- ---- flags
+
+-- at most so many names, and what follows the closing bracket
+unfoldable pub names_in : ℕ → List (List ℕ) → List ℕ → List (List ℕ) × List ℕ
+names_in zero so_far b = (so_far, b)
+names_in (suc most) so_far b =
+    let n = span in_name b in
+    let next = add_name so_far (map lower (take n b)) in
+    if get_or b n 0 == 32 then names_in most next (drop (n + 1) b) else (next, drop (n + 1) b)
+
+-- from behind the opening bracket on
+unfoldable pub flags_in : List ℕ → List (List ℕ) × List ℕ
+flags_in b = if get_or b 0 0 == 41 then ([], drop 1 b) else names_in (length b) [] b
+
+-- ---- items
+
+-- an item's value by its name
+unfoldable pub value_in : FetchItems → List ℕ → List ℕ → FetchItems × List ℕ
+value_in so_far name b =
+    if bytes_eq name (codes "uid")
+    then (let n = span is_digit b in (record so_far { uid = Some (number_in (take n b)) }, drop n b))
+    else (let f = flags_in (drop 1 b) in (record so_far { flags = Some f.0 }, f.1))
+
+unfoldable pub item_in : FetchItems → List ℕ → FetchItems × List ℕ
+item_in so_far b = let n = span in_name b in value_in so_far (map lower (take n b)) (drop (n + 1) b)
+
+-- at most so many items, each but the first behind a space
+unfoldable pub items_in : ℕ → FetchItems → List ℕ → FetchItems
+items_in zero so_far b = so_far
+items_in (suc most) so_far b =
+    let r = item_in so_far b in
+    if get_or r.1 0 0 == 32 then items_in most r.0 (drop 1 r.1) else r.0
+
+-- ---- lines
+
+unfoldable pub status_named : List ℕ → Option Status
+status_named w =
+    if bytes_eq w (codes "ok") then Some status.Ok
+    else if bytes_eq w (codes "no") then Some status.No
+    else if bytes_eq w (codes "bad") then Some status.Bad
+    else if bytes_eq w (codes "preauth") then Some status.Preauth
+    else if bytes_eq w (codes "bye") then Some status.Bye else None
+
+-- the first word, in lower case
+unfoldable pub word_in : List ℕ → List ℕ
+word_in b = map lower (take (span is_word b) b)
+
+unfoldable pub all_digits : List ℕ → Bool
+all_digits [] = true
+all_digits (c ∷ t) = is_digit c && all_digits t
+
+unfoldable pub is_sequence : List ℕ → Bool
+is_sequence w = nat_lt 0 (length w) && nat_le (length w) 10 && all_digits w && nat_le (number_from 0 w) 4294967295
+
+unfoldable pub numbered_in : ℕ → List ℕ → Response
+numbered_in seq b = if bytes_eq (word_in b) (codes "fetch") then Fetch seq (items_in (length b) no_items (drop 7 b)) else Other
+
+unfoldable pub plain_in : Option Status → Response
+plain_in None = Other
+plain_in (Some s) = Untagged s
+
+-- from behind `* ` on
+unfoldable pub untagged_in : List ℕ → Response
+untagged_in b =
+    let n = span is_word b in
+    if is_sequence (take n b) && get_or b n 0 == 32
+    then numbered_in (number_in (take n b)) (drop (n + 1) b)
+    else plain_in (status_named (word_in b))
+
+unfoldable pub tagged_in : List ℕ → Response
+tagged_in b = let n = span in_name b in Tagged (take n b) (unwrap_or (status_named (word_in (drop (n + 1) b))) status.Bad)
+
+unfoldable pub response_in : List ℕ → Response
+response_in b = if get_or b 0 0 == 42 then untagged_in (drop 2 b) else tagged_in b

@@ -1,0 +1,195 @@
+// What a response says.
+ghost use Rattle.std.specs.Prelude.{◌≡◌, ◌++◌, List, [], ℕ, IfOk, length, map, drop, Some, bytes_eq, codes};
+ghost use Rattle.imap_syntax.specs.Items.{no_items};
+ghost use Rattle.imap_syntax.specs.Octets as classes;
+ghost use Rattle.imap_syntax.specs.Spells.{IsSpelling};
+ghost use Rattle.imap_syntax.specs.declared.response.Response.{Response};
+ghost use Rattle.imap_grammar.specs.Reading as reading;
+
+use crate::flags::flags_in;
+use crate::octets::{
+    before, behind, digits_len, is_key, is_sequence, name_len, number_of, octet_at, word_len,
+};
+use gate_world::{Bytes, Names};
+use imap_syntax::{FetchItems, Response, Status};
+use std::alloc::{AllocError, Global};
+
+/// The status that a word names.
+#[tactic(auto, unfolding(crate::specs::Reading::status_named))]
+fn status_named(word: &[u8]) -> Option<Status>
+    ensures { result ≡ reading.status_named (map classes.lower word.now) }
+{
+    if is_key(word, b"ok") {
+        Some(Status::Ok)
+    } else if is_key(word, b"no") {
+        Some(Status::No)
+    } else if is_key(word, b"bad") {
+        Some(Status::Bad)
+    } else if is_key(word, b"preauth") {
+        Some(Status::Preauth)
+    } else if is_key(word, b"bye") {
+        Some(Status::Bye)
+    } else {
+        None
+    }
+}
+
+/// The status that the first word names.
+#[tactic(auto, unfolding(crate::specs::Reading::word_in))]
+fn status_in(bytes: &[u8]) -> Option<Status>
+    ensures { result ≡ reading.status_named (reading.word_in bytes.now) }
+{
+    status_named(before(bytes, word_len(bytes)))
+}
+
+/// Whether the first word is FETCH.
+#[tactic(auto, unfolding(crate::specs::Reading::word_in))]
+fn is_fetch(bytes: &[u8]) -> bool
+    ensures { result ≡ bytes_eq (reading.word_in bytes.now) (codes "fetch") }
+{
+    is_key(before(bytes, word_len(bytes)), b"fetch")
+}
+
+fn with_uid(items: FetchItems, uid: u32) -> FetchItems
+    ensures { result ≡ record items { uid = Some uid } }
+{
+    let FetchItems { uid: _, flags } = items;
+    FetchItems {
+        uid: Some(uid),
+        flags,
+    }
+}
+
+fn with_flags(items: FetchItems, flags: Names) -> FetchItems
+    ensures { result ≡ record items { flags = Some flags } }
+{
+    let FetchItems { uid, flags: _ } = items;
+    FetchItems {
+        uid,
+        flags: Some(flags),
+    }
+}
+
+/// The item at the front, and what follows it.
+#[tactic(auto, unfolding(crate::specs::Reading::item_in, crate::specs::Reading::value_in))]
+fn item_in(
+    alloc: Global,
+    so_far: FetchItems,
+    bytes: &[u8],
+) -> Result<(FetchItems, &[u8]), AllocError>
+    ensures items { IfOk result (λ r. r.0 ≡ (reading.item_in so_far bytes.now).0) }
+    ensures rest { IfOk result (λ r. r.1.now ≡ (reading.item_in so_far bytes.now).1) }
+{
+    let n = name_len(bytes);
+    let value = behind(bytes, n + 1);
+    if is_key(before(bytes, n), b"uid") {
+        let n = digits_len(value);
+        Ok((
+            with_uid(so_far, number_of(before(value, n))),
+            behind(value, n),
+        ))
+    } else {
+        let (flags, rest) = flags_in(alloc, behind(value, 1))?;
+        Ok((with_flags(so_far, flags), rest))
+    }
+}
+
+/// The items, up to the closing bracket.
+#[tactic(auto, unfolding(crate::specs::Reading::items_in))]
+fn items_in(alloc: Global, bytes: &[u8], most: usize) -> Result<FetchItems, AllocError>
+    ensures { IfOk result (λ items. items ≡ reading.items_in most no_items bytes.now) }
+{
+    let mut items = FetchItems {
+        uid: None,
+        flags: None,
+    };
+    let mut rest = bytes;
+    let mut left = most;
+    while 0 < left {
+        let (next, after) = item_in(alloc, items, rest)?;
+        items = next;
+        if octet_at(after, 0) != b' ' {
+            return Ok(items);
+        }
+        rest = behind(after, 1);
+        left -= 1;
+    }
+    Ok(items)
+}
+
+/// What stands behind `* `, a number and a space.
+#[tactic(auto, unfolding(crate::specs::Reading::numbered_in))]
+fn numbered(alloc: Global, seq: u32, bytes: &[u8]) -> Result<Response, AllocError>
+    ensures { IfOk result (λ v. v ≡ reading.numbered_in seq bytes.now) }
+{
+    if is_fetch(bytes) {
+        let items = items_in(alloc, behind(bytes, 7), bytes.len())?;
+        Ok(Response::Fetch { seq, items })
+    } else {
+        Ok(Response::Other)
+    }
+}
+
+#[tactic(auto, unfolding(crate::specs::Reading::plain_in))]
+fn plain(status: Option<Status>) -> Response
+    ensures { result ≡ reading.plain_in status }
+{
+    match status {
+        None => Response::Other,
+        Some(status) => Response::Untagged { status },
+    }
+}
+
+/// What stands behind `* `.
+#[tactic(auto, unfolding(crate::specs::Reading::untagged_in))]
+fn untagged(alloc: Global, bytes: &[u8]) -> Result<Response, AllocError>
+    ensures { IfOk result (λ v. v ≡ reading.untagged_in bytes.now) }
+{
+    let n = word_len(bytes);
+    let word = before(bytes, n);
+    if is_sequence(word) && octet_at(bytes, n) == b' ' {
+        numbered(alloc, number_of(word), behind(bytes, n + 1))
+    } else {
+        Ok(plain(status_in(bytes)))
+    }
+}
+
+#[tactic(auto, unfolding(crate::specs::Reading::tagged_in))]
+fn tagged(alloc: Global, bytes: &[u8]) -> Result<Response, AllocError>
+    ensures { IfOk result (λ v. v ≡ reading.tagged_in bytes.now) }
+{
+    let n = name_len(bytes);
+    let tag = Bytes::copy_of(alloc, before(bytes, n))?;
+    let status = status_in(behind(bytes, n + 1)).unwrap_or(Status::Bad);
+    Ok(Response::Tagged { tag, status })
+}
+
+#[tactic(auto, unfolding(crate::specs::Reading::response_in))]
+fn response(alloc: Global, bytes: &[u8]) -> Result<Response, AllocError>
+    ensures { IfOk result (λ v. v ≡ reading.response_in bytes.now) }
+{
+    if octet_at(bytes, 0) == b'*' {
+        untagged(alloc, behind(bytes, 2))
+    } else {
+        tagged(alloc, bytes)
+    }
+}
+
+/// The value of the octets, which are one whole spelling.
+pub fn decode(alloc: Global, bytes: &[u8]) -> Result<Response, AllocError>
+    requires { (v : Response) × IsSpelling v bytes.now }
+    ensures spelled { IfOk result (λ r. IsSpelling r bytes.now) }
+    ensures value { (v : Response) → IsSpelling v bytes.now → IfOk result (λ r. r ≡ v) }
+{
+    response(alloc, bytes)
+}
+
+/// Octets spell at most one value.
+pub fn one_value()
+    ensures { (v w : Response) (b : List ℕ) → IsSpelling v b → IsSpelling w b → v ≡ w }
+{}
+
+/// No spelling is a proper prefix of another.
+pub fn no_spelling_within()
+    ensures { (v w : Response) (b more : List ℕ) → IsSpelling v b → IsSpelling w (b ++ more) → more ≡ [] }
+{}

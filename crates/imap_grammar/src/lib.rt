@@ -1,0 +1,19 @@
+//! A store's grammar: where a response ends, what it says, and the texts of commands.
+#![tactic(auto)]
+
+mod answer;
+mod commands;
+#[cfg(test)]
+mod decode_tests;
+mod decoder;
+mod flags;
+mod octets;
+#[cfg(test)]
+mod scan_tests;
+mod scanner;
+
+pub use answer::Scan;
+pub use commands::write_command;
+pub use decoder::{decode, no_spelling_within, one_value};
+pub use imap_syntax::{Command, FetchItems, Response, Status};
+pub use scanner::{Scanner, one_answer, scan};

@@ -1,0 +1,114 @@
+// Where responses end, whole and octet by octet.
+use crate::answer::Scan;
+use crate::scanner::{Scanner, scan};
+use std::test::Fail;
+
+/// The answer to the octets, fed one at a time.
+fn fed(bytes: &[u8]) -> Scan {
+    let mut scanner = Scanner::new();
+    for octet in bytes {
+        let answer = scanner.feed(&[*octet]);
+        match answer {
+            Scan::NeedMore => {}
+            _ => return answer,
+        }
+    }
+    Scan::NeedMore
+}
+
+/// Octets, and how many of them are a response.
+const WHOLE: [(&[u8], usize); 30] = [
+    (b"a1 OK\r\n", 7),
+    (b"a1 OK\r\nzzz", 7),
+    (b"a1 ok done\r\n", 12),
+    (b"a1 OK {5}\r\n", 11),
+    (b"Zz9 No [TRYCREATE] x\r\n", 22),
+    (b"a1 bAD \xff\r\n", 10),
+    (b"aaaaaaaaaaaaaaaaaaaaaaaaaaaaaaaa OK\r\n", 37),
+    (b"* OK [UIDVALIDITY 7] v\r\n", 24),
+    (b"* PreAuth hi\r\n", 14),
+    (b"* BYE\r\n", 7),
+    (b"* 3 EXISTS\r\n", 12),
+    (b"* FLAGS (\\Answered)\r\n", 21),
+    (b"* CAPABILITY IMAP4rev2\r\n", 24),
+    (b"* OKAY x\r\n", 10),
+    (b"* 12\r\n", 6),
+    (b"* 12\tx\r\n", 8),
+    (b"* 4294967296 FETCH x\r\n", 22),
+    (b"* 00000000001 FETCH x\r\n", 23),
+    (b"* 1 FETCH (UID 7)\r\n", 19),
+    (b"* 0 fetch (FLAGS () uid 4294967295)\r\n", 37),
+    (
+        b"* 4294967295 Fetch (UID 0000000001 FLAGS (a \\B c))\r\n",
+        52,
+    ),
+    (b"* X {5}\r\nab\r\nc y\r\n", 18),
+    (b"* X {0}\r\n\r\n", 11),
+    (b"* 3 X {1}\r\nz{00000002}\r\n\r\n{3\r\n", 30),
+    (b"* X {{1}\r\nz\r\n", 13),
+    (b"* X {a}\r\n", 9),
+    (b"* X {5} \r\n", 10),
+    (b"* X {}\r\n", 8),
+    (b"* X {000000005}\r\n", 17),
+    (b"* {1}\r\n\x00\r\n", 10),
+];
+
+/// Octets that begin a response and are none.
+const OPEN: [&[u8]; 9] = [
+    b"",
+    b"a1 OK\r",
+    b"* X {5}\r\n",
+    b"* X {5}\r\nabcde",
+    b"* X {5}\r\nabcde\r",
+    b"* X {50000000}\r\n",
+    b"* 1 FETCH (UID 1)",
+    b"* 1 FETCH (FLAGS (\\",
+    b"* fetc",
+];
+
+/// Octets, and the first place at which no response goes on so.
+const BAD: [(&[u8], usize); 26] = [
+    (b"* 1 FETCH (UID 0)", 16),
+    (b"* 1 FETCH (UID 4294967296)", 24),
+    (b"* 1 FETCH (UID 0000000000)", 24),
+    (b"* 1 FETCH (UID 11111111111)", 25),
+    (b"* 1 FETCH (UID 1 UID 2 )", 23),
+    (b"* 1 FETCH ()", 11),
+    (b"* 1 FETCH (MODSEQ (4))", 11),
+    (b"* 1 FETCH (UIDX 1)", 14),
+    (b"* 1 FETCH (UID  1)", 15),
+    (b"* 1 FETCH (FLAGS (\\Seen \\))", 25),
+    (b"* 1 FETCH (FLAGS (a  b))", 20),
+    (b"* 1 FETCH (FLAGS (\"a\"))", 18),
+    (b"* 1 FETCH (UID 1)x", 17),
+    (b"* 1 FETCH x", 10),
+    (b"aaaaaaaaaaaaaaaaaaaaaaaaaaaaaaaaa OK\r\n", 32),
+    (b"a1 OKAY\r\n", 5),
+    (b"a1 PREAUTH\r\n", 3),
+    (b"a1  OK\r\n", 3),
+    (b"a1 OK\rx", 6),
+    (b"+ go\r\n", 0),
+    (b"* OK\tx\r\n", 4),
+    (b"* 3 OK x\r\n", 6),
+    (b"* FETCH x\r\n", 7),
+    (b"* \r\n", 2),
+    (b"* 3 \r\n", 4),
+    (b"* X {50000001}\r\n", 14),
+];
+
+#[test]
+fn responses_end_where_the_grammar_says(rt: HostRuntime) -> Result<(), Fail> {
+    for (bytes, n) in WHOLE.iter() {
+        assert_eq!(rt; scan(bytes), Scan::Whole(*n), "{n}");
+        assert_eq!(rt; fed(bytes), Scan::Whole(*n), "{n}");
+    }
+    for bytes in OPEN.iter() {
+        assert_eq!(rt; scan(bytes), Scan::NeedMore);
+        assert_eq!(rt; fed(bytes), Scan::NeedMore);
+    }
+    for (bytes, at) in BAD.iter() {
+        assert_eq!(rt; scan(bytes), Scan::Bad(*at), "{at}");
+        assert_eq!(rt; fed(bytes), Scan::Bad(*at), "{at}");
+    }
+    Ok(())
+}

@@ -1,0 +1,105 @@
+// Where a response ends.
+use crate::answer::Scan;
+use imap_automaton::{Line, Stack, Sym, advance};
+
+/// Octets that may stand outside literals in one response.
+pub const LIMIT: u32 = 8_388_608;
+
+/// Reads one response in pieces.
+#[derive(Clone, Copy)]
+pub struct Scanner {
+    stack: Stack,
+    outside: u32,
+    taken: usize,
+}
+
+ghost use Rattle.std.specs.Prelude.{◌≡◌, ◌+◌, if◌then◌else◌};
+
+fn cost_of(inside: bool) -> u32
+    ensures { result ≡ (if inside then 0 else 1) }
+{
+    if inside { 0 } else { 1 }
+}
+
+/// The octet, 256 above itself within a literal.
+fn marked_by(inside: bool, octet: u8) -> u16
+    ensures { result ≡ (if inside then octet + 256 else octet) }
+{
+    if inside {
+        octet as u16 + 256
+    } else {
+        octet as u16
+    }
+}
+
+impl Scanner {
+    ghost use Rattle.std.specs.Prelude.{List, [], ◌∷◌, ◌++◌, ℕ};
+    ghost use Rattle.imap_grammar.specs.declared.answer.Scan.TheVariants.{NeedMore};
+    ghost use Rattle.imap_grammar.specs.Scan.{ScanOf};
+    ghost use Rattle.imap_grammar.specs.Fed.{Fed, Takes};
+
+    pub fn new() -> Scanner
+        ensures { Fed result [] }
+    {
+        Scanner {
+            stack: Stack::of(Sym::Line(Line::Start)),
+            outside: 0,
+            taken: 0,
+        }
+    }
+
+    fn take(&mut self, octet: u8) -> Scan
+        requires { (b : List ℕ) × Fed self.old b }
+        ensures { (b : List ℕ) → Fed self.old b → Takes self.new b octet result }
+    {
+        let inside = self.stack.is_inside();
+        let cost = cost_of(inside);
+        if LIMIT - self.outside < cost {
+            return Scan::Bad(self.taken);
+        }
+        let marked = marked_by(inside, octet);
+        if !advance(&mut self.stack, marked) {
+            return Scan::Bad(self.taken);
+        }
+        self.outside += cost;
+        self.taken += 1;
+        if self.stack.is_empty() {
+            Scan::Whole(self.taken)
+        } else {
+            Scan::NeedMore
+        }
+    }
+
+    /// Takes the next piece. The answer is that for all pieces joined, and its places count from the first piece. After
+    /// another answer than NeedMore the scanner is to be made anew.
+    pub fn feed(&mut self, piece: &[u8]) -> Scan
+        requires { (b : List ℕ) × Fed self.old b }
+        ensures scan { (b : List ℕ) → Fed self.old b → ScanOf (b ++ piece.now) result }
+        ensures more { (b : List ℕ) → Fed self.old b → result ≡ NeedMore → Fed self.new (b ++ piece.now) }
+    {
+        for octet in piece {
+            let answer = self.take(*octet);
+            match answer {
+                Scan::NeedMore => {}
+                _ => return answer,
+            }
+        }
+        Scan::NeedMore
+    }
+}
+
+ghost use Rattle.std.specs.Prelude.{List, ℕ};
+ghost use Rattle.imap_grammar.specs.Scan as scans;
+ghost use Rattle.imap_grammar.specs.declared.answer.Scan.{Scan};
+
+/// What the octets are: a response at their front, the beginning of one, or neither.
+pub fn scan(bytes: &[u8]) -> Scan
+    ensures { scans.ScanOf bytes.now result }
+{
+    Scanner::new().feed(bytes)
+}
+
+/// No octets have two answers, so each of them comes exactly where it is right.
+pub fn one_answer()
+    ensures { (b : List ℕ) (p q : Scan) → scans.ScanOf b p → scans.ScanOf b q → p ≡ q }
+{}

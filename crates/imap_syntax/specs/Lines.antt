@@ -1,0 +1,39 @@
+-- Status lines: tag SP ("OK" / "NO" / "BAD") rest CRLF, and what follows the word of an untagged one.
+use Rattle.std.specs.Prelude.{◌≡◌, ◌⊎◌, ℕ, ◌<◌, ◌≤◌, List, [], ◌∷◌, ◌++◌, length, codes}
+use Rattle.imap_syntax.specs.declared.response.Status.{Status}
+use Rattle.imap_syntax.specs.declared.response.Status.TheVariants as status
+use Rattle.imap_syntax.specs.Octets.{is_alnum, is_text}
+use Rattle.imap_syntax.specs.Texts.{Each, Then, crlf, IsWord}
+
+abbrev pub word_of : Status → List ℕ
+word_of status.Ok = codes "ok"
+word_of status.No = codes "no"
+word_of status.Bad = codes "bad"
+word_of status.Preauth = codes "preauth"
+word_of status.Bye = codes "bye"
+
+-- the statuses that complete a command
+abbrev pub Completes : Status → Type 0
+Completes status.Ok = Unit {0}
+Completes status.No = Unit {0}
+Completes status.Bad = Unit {0}
+Completes _ = ⊥
+
+-- *text CRLF
+pub record IsLine (t : List ℕ) : Type 0 where
+  pub text : List ℕ
+  pub whole : t ≡ text ++ crlf
+  pub text_is : Each is_text text
+
+-- rest = empty / SP *text, and the line's end
+abbrev pub IsRest : List ℕ → Type 0
+IsRest t = (t ≡ crlf) ⊎ ((line : List ℕ) × (t ≡ 32 ∷ line) × IsLine line)
+
+pub record IsTagged (tag : List ℕ) (s : Status) (t : List ℕ) : Type 0 where
+  pub after : List ℕ
+  pub whole : t ≡ tag ++ 32 ∷ after
+  pub tag_is : Each is_alnum tag
+  pub some : 0 < length tag
+  pub few : length tag ≤ 32
+  pub completes : Completes s
+  pub line : Then (IsWord (word_of s)) IsRest after

@@ -1,0 +1,59 @@
+-- The responses, and the texts that spell them (RFC 9051 section 9):
+--
+--   response = tag SP ("OK" / "NO" / "BAD") rest CRLF
+--            / "*" SP ("OK" / "NO" / "BAD" / "PREAUTH" / "BYE") rest CRLF
+--            / "*" SP num SP "FETCH" SP "(" item *(SP item) ")" CRLF
+--            / "*" SP other CRLF
+use Rattle.std.specs.Prelude.{◌≡◌, ◌≢◌, ◌⊎◌, ℕ, ◌≤◌, false, List, [], ◌∷◌, ◌++◌, map, get_or, codes, Contains, Option, Some, None}
+use Rattle.imap_syntax.specs.declared.response.Response.{Response}
+use Rattle.imap_syntax.specs.declared.response.Response.TheVariants.{Tagged, Untagged, Fetch, Other}
+use Rattle.imap_syntax.specs.Octets.{is_word, lower}
+use Rattle.imap_syntax.specs.Texts.{Each, plain, outside, limit}
+use Rattle.imap_syntax.specs.Numbers.{IsNumber}
+use Rattle.imap_syntax.specs.Lines.{word_of, IsRest, IsTagged}
+use Rattle.imap_syntax.specs.Items.{Item, IsItems, items_of}
+use Rattle.imap_syntax.specs.Free.{IsFree}
+
+-- the words with which no other response begins
+abbrev pub keywords : List (List ℕ)
+keywords = codes "ok" ∷ codes "no" ∷ codes "bad" ∷ codes "preauth" ∷ codes "bye" ∷ codes "fetch" ∷ []
+
+-- what a line says, behind the number n or none, by its first word in lower case and what follows the word
+abbrev pub Says : Option ℕ → Response → List ℕ → List ℕ → List ℕ → Type 0
+Says None (Untagged status) word tail line = (word ≡ word_of status) × IsRest tail
+Says (Some n) (Fetch seq items) word tail line =
+    (seq ≡ n) × (word ≡ codes "fetch") × ((is : List Item) × (rest : List ℕ) × (tail ≡ 32 ∷ 40 ∷ rest) × IsItems is rest × (items ≡ items_of is))
+Says _ Other word tail line = (Contains keywords word → ⊥) × ((literals : ℕ) × IsFree literals line)
+Says _ _ word tail line = ⊥
+
+-- a line by its first word, the longest run of octets of words
+pub record IsWordLine (number : Option ℕ) (v : Response) (t : List ℕ) : Type 0 where
+  pub word : List ℕ
+  pub tail : List ℕ
+  pub whole : t ≡ word ++ tail
+  pub word_is : Each is_word word
+  pub some : word ≢ []
+  pub longest : is_word (get_or tail 0 0) ≡ false
+  pub says : Says number v (map lower word) tail t
+
+-- a number, a space and a line
+abbrev pub Numbered : ℕ → List ℕ → List ℕ → Type 0
+Numbered n line t = (digits : List ℕ) × (t ≡ digits ++ 32 ∷ line) × IsNumber n digits
+
+-- what stands behind `* `: behind a number and a space the first word is the one after them
+abbrev pub IsUntagged : Response → List ℕ → Type 0
+IsUntagged v t =
+    ((n : ℕ) × (line : List ℕ) × Numbered n line t × IsWordLine (Some n) v line)
+    ⊎ (IsWordLine None v t × ((n : ℕ) (line : List ℕ) → Numbered n line t → ⊥))
+
+-- the text spells the response
+abbrev pub Spells : Response → List ℕ → Type 0
+Spells (Tagged tag status) t = IsTagged tag status t
+Spells v t = (line : List ℕ) × (t ≡ 42 ∷ 32 ∷ line) × IsUntagged v line
+
+-- the octets are a spelling of the response
+pub record IsSpelling (v : Response) (b : List ℕ) : Type 0 where
+  pub text : List ℕ
+  pub spells : Spells v text
+  pub octets : plain text ≡ b
+  pub within : outside text ≤ limit

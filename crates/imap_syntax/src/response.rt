@@ -1,0 +1,29 @@
+// What a store's responses say (RFC 9051 section 7).
+use gate_world::{Bytes, Names};
+
+/// The status of a tagged or an untagged status response.
+#[derive(Clone, Copy, Debug, PartialEq, Drop)]
+pub enum Status {
+    Ok,
+    No,
+    Bad,
+    Preauth,
+    Bye,
+}
+
+/// The items of a FETCH response, of each the last one told.
+#[derive(Debug, PartialEq, Drop)]
+pub struct FetchItems {
+    pub uid: Option<u32>,
+    /// In kept form: lower case, sorted by octets, each once, without `\recent`.
+    pub flags: Option<Names>,
+}
+
+/// What one response says.
+#[derive(Debug, PartialEq, Drop)]
+pub enum Response {
+    Tagged { tag: Bytes, status: Status },
+    Untagged { status: Status },
+    Fetch { seq: u32, items: FetchItems },
+    Other,
+}
