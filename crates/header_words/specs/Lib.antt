@@ -1,0 +1,7 @@
+pub mod Charsets
+pub mod Base64
+pub mod QuotedText
+pub mod QuotedPrintable
+pub mod Transfer
+pub mod EncodedWords
+pub mod Reading

@@ -1,0 +1,70 @@
+-- The quoted-printable encoding (RFC 2045 section 6.7).
+use Rattle.std.specs.Prelude.{◌≡◌, ◌≢◌, ℕ, ◌+◌, ◌*◌, Bool, true, false, ◌&&◌, ◌||◌, ◌==◌, List, [], ◌∷◌, ◌++◌, Some}
+use Rattle.std.specs.List.{flat_map, list_any}
+use Rattle.text_words.specs.Cuts.{Each, IsRun, Stops}
+use Rattle.text_words.specs.Octets.{is_blank, hex_value}
+use Rattle.text_words.specs.Sequence.{Sequence}
+
+-- what a piece of a text stands for, and whether it is a wrong "="
+pub record Piece : Type 0 where
+  pub octets : List ℕ
+  pub wrong : Bool
+
+abbrev pub right : List ℕ → Piece
+right octets = record { octets = octets; wrong = false }
+
+-- LF or CR LF
+pub data IsLineEnd : List ℕ → Type 0 where
+  Lf : IsLineEnd (10 ∷ [])
+  CrLf : IsLineEnd (13 ∷ 10 ∷ [])
+
+-- white space and the end of the line
+pub record IsSoft (t : List ℕ) : Type 0 where
+  pub blanks : List ℕ
+  pub end : List ℕ
+  pub whole : t ≡ blanks ++ end
+  pub are_blank : Each is_blank blanks
+  pub is_end : IsLineEnd end
+
+-- the text begins with two hexadecimal digits
+pub record BeginsWithHex (t : List ℕ) : Type 0 where
+  pub high : ℕ
+  pub low : ℕ
+  pub left : ℕ
+  pub right_digit : ℕ
+  pub rest : List ℕ
+  pub whole : t ≡ high ∷ low ∷ rest
+  pub high_is : hex_value high ≡ Some left
+  pub low_is : hex_value low ≡ Some right_digit
+
+-- the text begins with white space, which may be none, and the end of the line
+pub record BeginsWithSoft (t : List ℕ) : Type 0 where
+  pub break : List ℕ
+  pub rest : List ℕ
+  pub whole : t ≡ break ++ rest
+  pub soft : IsSoft break
+
+abbrev pub begins_with_lf : List ℕ → Bool
+begins_with_lf [] = false
+begins_with_lf (c ∷ t) = c == 10
+
+-- nothing follows in the line
+abbrev pub ends_line : List ℕ → Bool
+ends_line [] = true
+ends_line (c ∷ t) = c == 10 || (c == 13 && begins_with_lf t)
+
+-- A piece of a text, and what follows it.
+pub data IsPiece : Piece → List ℕ → List ℕ → Type 0 where
+  Hex : (h l a b : ℕ) (rest : List ℕ) → hex_value h ≡ Some a → hex_value l ≡ Some b → IsPiece (right ((16 * a + b) ∷ [])) (61 ∷ h ∷ l ∷ []) rest
+  SoftBreak : (break rest : List ℕ) → IsSoft break → IsPiece (right []) (61 ∷ break) rest
+  WrongSign : (rest : List ℕ) → (BeginsWithHex rest → ⊥) → (BeginsWithSoft rest → ⊥) → IsPiece (record { octets = 61 ∷ []; wrong = true }) (61 ∷ []) rest
+  Trailing : (blanks rest : List ℕ) → IsRun is_blank blanks → ends_line rest ≡ true → IsPiece (right []) blanks rest
+  Blanks : (blanks rest : List ℕ) → IsRun is_blank blanks → Stops is_blank rest → ends_line rest ≡ false → IsPiece (right blanks) blanks rest
+  Itself : (c : ℕ) (rest : List ℕ) → c ≢ 61 → is_blank c ≡ false → IsPiece (right (c ∷ [])) (c ∷ []) rest
+
+-- the octets that a text spells, and whether it has a wrong "="
+pub record IsPrintable (octets : List ℕ) (problem : Bool) (t : List ℕ) : Type 0 where
+  pub pieces : List Piece
+  pub are : Sequence IsPiece pieces t
+  pub spelled : octets ≡ flat_map (λ (p : Piece). p.octets) pieces
+  pub wrong : problem ≡ list_any (λ (p : Piece). p.wrong) pieces

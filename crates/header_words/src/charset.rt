@@ -1,0 +1,88 @@
+ghost use Rattle.std.specs.Prelude.{◌≡◌, IfOk};
+ghost use Rattle.header_words.specs.Charsets.{charset_of, text_in, has_problem_in};
+ghost use Rattle.header_words.specs.declared.charset.Charset.TheVariants as charset;
+
+use std::alloc::{AllocError, Global};
+use std::str::from_utf8;
+use text_words::same_text;
+
+/// A charset that is read. Others are read as us-ascii.
+#[derive(Clone, Copy, PartialEq, Eq, Debug)]
+pub enum Charset {
+    Ascii,
+    Utf8,
+    Latin1,
+}
+
+/// U+FFFD in UTF-8, which stands for what can't be read.
+pub const REPLACEMENT: [u8; 3] = [0xEF, 0xBF, 0xBD];
+
+/// The UTF-8 text that the octets spell in the charset of this name, and whether some of them spell none. Names
+/// compare without regard to case. In us-ascii and in an unknown charset an octet above 127 becomes U+FFFD, in utf-8
+/// each invalid sequence does.
+pub fn decode_charset(
+    alloc: Global,
+    name: &[u8],
+    bytes: &[u8],
+) -> Result<(Vec<u8>, bool), AllocError>
+    ensures text { IfOk result (λ r. r.0.items ≡ text_in (charset_of name.now) bytes.now) }
+    ensures problem { IfOk result (λ r. r.1 ≡ has_problem_in (charset_of name.now) bytes.now) }
+{
+    match charset_named(name) {
+        Charset::Ascii => ascii_text(alloc, bytes),
+        Charset::Utf8 => utf8_text(alloc, bytes),
+        Charset::Latin1 => latin1_text(alloc, bytes),
+    }
+}
+
+fn charset_named(name: &[u8]) -> Charset
+    ensures { result ≡ charset_of name.now }
+{
+    if same_text(name, b"utf-8") {
+        Charset::Utf8
+    } else if same_text(name, b"iso-8859-1") {
+        Charset::Latin1
+    } else {
+        Charset::Ascii
+    }
+}
+
+fn ascii_text(alloc: Global, bytes: &[u8]) -> Result<(Vec<u8>, bool), AllocError>
+    ensures text { IfOk result (λ r. r.0.items ≡ text_in charset.Ascii bytes.now) }
+    ensures problem { IfOk result (λ r. r.1 ≡ has_problem_in charset.Ascii bytes.now) }
+{
+    let mut text = Vec::new(alloc);
+    let mut problem = false;
+    for octet in bytes {
+        if *octet < 128 {
+            text.push(*octet)?;
+        } else {
+            text.extend_from_slice(&REPLACEMENT)?;
+            problem = true;
+        }
+    }
+    Ok((text, problem))
+}
+
+#[tactic(auto, using(crate::proofs::TextTests::utf8_passes, crate::proofs::TextTests::others_fail))]
+fn utf8_text(alloc: Global, bytes: &[u8]) -> Result<(Vec<u8>, bool), AllocError>
+    ensures text { IfOk result (λ r. r.0.items ≡ text_in charset.Utf8 bytes.now) }
+    ensures problem { IfOk result (λ r. r.1 ≡ has_problem_in charset.Utf8 bytes.now) }
+{
+    let text = String::from_utf8_lossy(alloc, bytes)?;
+    match from_utf8(bytes) {
+        Ok(_) => Ok((text.into_bytes(), false)),
+        Err(_) => Ok((text.into_bytes(), true)),
+    }
+}
+
+fn latin1_text(alloc: Global, bytes: &[u8]) -> Result<(Vec<u8>, bool), AllocError>
+    ensures text { IfOk result (λ r. r.0.items ≡ text_in charset.Latin1 bytes.now) }
+    ensures problem { IfOk result (λ r. r.1 ≡ has_problem_in charset.Latin1 bytes.now) }
+{
+    let mut text = String::new(alloc);
+    for octet in bytes {
+        text.push(*octet as char)?;
+    }
+    Ok((text.into_bytes(), false))
+}

@@ -1,0 +1,133 @@
+ghost use Rattle.std.specs.Prelude.{◌≡◌, ◌↔◌, ◌==◌, not, ℕ, List, ◌++◌, IfOk, IfSome, IfNone, IsTrue};
+ghost use Rattle.text_words.specs.Sequence.{UnitAt};
+ghost use Rattle.header_words.specs.EncodedWords as words;
+ghost use Rattle.header_words.specs.Reading.{IsWordBefore};
+
+use crate::base64_text::decode_base64;
+use crate::charset::decode_charset;
+use crate::quoted_text::decode_quoted;
+use std::alloc::{AllocError, Global};
+use text_words::{Class, behind, cut, first, is_white, run_before};
+
+/// The octets of a charset's name.
+struct Token;
+
+impl Class<u8> for Token {
+    ghost test = { words.is_token };
+
+    fn has(&self, item: &u8) -> bool {
+        match *item {
+            b'(' | b')' | b'<' | b'>' | b'@' | b',' | b';' | b':' | b'"' => false,
+            b'/' | b'[' | b']' | b'?' | b'.' | b'=' => false,
+            octet => b'!' <= octet && octet <= b'~',
+        }
+    }
+}
+
+/// The octets of an encoded text.
+struct Encoded;
+
+impl Class<u8> for Encoded {
+    ghost test = { words.is_encoded };
+
+    fn has(&self, item: &u8) -> bool {
+        b'!' <= *item && *item <= b'~' && *item != b'?'
+    }
+}
+
+/// The octets before the language of a charset.
+struct BeforeStar;
+
+impl Class<u8> for BeforeStar {
+    ghost test = { λ c. not (c == 42) };
+
+    fn has(&self, item: &u8) -> bool {
+        *item != b'*'
+    }
+}
+
+/// White space or a parenthesis.
+pub fn is_edge(octet: u8) -> bool
+    ensures { result ≡ words.is_edge octet }
+{
+    is_white(octet) || octet == b'(' || octet == b')'
+}
+
+/// The parts of an encoded word, and what follows it.
+#[derive(Clone, Copy)]
+struct Shape<'a> {
+    charset: &'a [u8],
+    letter: u8,
+    text: &'a [u8],
+    behind: &'a [u8],
+}
+
+/// An encoded word's text, and how many octets the word has.
+#[derive(Drop)]
+pub struct Word {
+    pub text: Vec<u8>,
+    pub len: usize,
+}
+
+/// The parts of the encoded word at the front, where the text begins with the shape of one (RFC 2047 section 2).
+fn shape_at(text: &[u8]) -> Option<Shape<'_>>
+    ensures some { IfSome result (λ s. words.HasShape s.charset.now s.letter s.text.now s.behind.now text.now) }
+    ensures none { IfNone result ((c : List ℕ) (l : ℕ) (t b : List ℕ) → words.HasShape c l t b text.now → ⊥) }
+{
+    let inner = behind(b'=', text)?;
+    let inner = behind(b'?', inner)?;
+    let (charset, rest) = run_before(&Token, b'?', inner)?;
+    let (letter, rest) = first(rest)?;
+    let inner = behind(b'?', rest)?;
+    let (encoded, rest) = run_before(&Encoded, b'?', inner)?;
+    let after = behind(b'=', rest)?;
+    Some(Shape {
+        charset,
+        letter,
+        text: encoded,
+        behind: after,
+    })
+}
+
+/// The octets that a text spells in the encoding "B" or "Q".
+fn decode_letter(alloc: Global, letter: u8, text: &[u8]) -> Result<Option<Vec<u8>>, AllocError>
+    ensures some { IfOk result (λ r. IfSome r (λ v. words.Spells letter v.items text.now)) }
+    ensures none { IfOk result (λ r. IfNone r ((octets : List ℕ) → words.Spells letter octets text.now → ⊥)) }
+{
+    match letter {
+        b'B' | b'b' => decode_base64(alloc, text),
+        b'Q' | b'q' => decode_quoted(alloc, text),
+        _ => Ok(None),
+    }
+}
+
+fn begins_at_edge(text: &[u8]) -> bool
+    ensures { IsTrue result ↔ words.BeginsAtEdge text.now }
+{
+    match text {
+        [] => true,
+        [first, ..] => is_edge(*first),
+    }
+}
+
+/// The encoded word at the front of the text, where one stands there before an edge.
+pub fn word_at(alloc: Global, text: &[u8]) -> Result<Option<Word>, AllocError>
+    ensures some { IfOk result (λ r. IfSome r (λ w. UnitAt IsWordBefore w.text.items w.len text.now)) }
+    ensures none { IfOk result (λ r. IfNone r ((reading word rest : List ℕ) → text.now ≡ word ++ rest → IsWordBefore reading word rest → ⊥)) }
+{
+    let Some(shape) = shape_at(text) else {
+        return Ok(None);
+    };
+    if !begins_at_edge(shape.behind) {
+        return Ok(None);
+    }
+    let Some(octets) = decode_letter(alloc, shape.letter, shape.text)? else {
+        return Ok(None);
+    };
+    let (name, _) = cut(&BeforeStar, shape.charset);
+    let (reading, _) = decode_charset(alloc, name, octets.as_slice())?;
+    Ok(Some(Word {
+        text: reading,
+        len: text.len() - shape.behind.len(),
+    }))
+}

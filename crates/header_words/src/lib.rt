@@ -1,0 +1,17 @@
+//! What the octets of a mail spell: charsets, encoded words (RFC 2047) and transfer encodings (RFC 2045).
+#![tactic(auto)]
+
+pub mod base64_text;
+pub mod charset;
+pub mod encoded_word;
+pub mod laws;
+pub mod quoted_printable;
+pub mod quoted_text;
+#[cfg(test)]
+mod tests;
+pub mod transfer;
+pub mod words;
+
+pub use charset::decode_charset;
+pub use transfer::decode_transfer;
+pub use words::decode_words;

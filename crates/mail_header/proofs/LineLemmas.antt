@@ -1,0 +1,124 @@
+-- Ends of lines.
+use Rattle.std.proofs.Common.{◌≡◌, ℕ, suc, Bool, true, false, ◌&&◌, List, [], ◌∷◌, ◌++◌, length, cond, refl, sym, ap, ◌∙◌, append_assoc, eqb, eqb-true, arith}
+use Rattle.std.proofs.lemmas.Bool.{cond-true, cond-false}
+use Rattle.std.proofs.lemmas.List.{length-append, nil_from_length, same_from_push}
+use Rattle.mail_header.specs.Lines.{IsLineEnd, Lf, CrLf, begins_with_lf, begins_with_cr, line_end_len, is_line_end, without_end}
+
+pub end_len : (e s : List ℕ) → IsLineEnd e → line_end_len (e ++ s) ≡ length e
+end_len _ s Lf = refl
+end_len _ s CrLf = refl
+
+pub end_some : (e : List ℕ) → IsLineEnd e → (k : ℕ) × (length e ≡ suc k)
+end_some _ Lf = (0, refl)
+end_some _ CrLf = (1, refl)
+
+pub record EndsAt (n : ℕ) (t : List ℕ) : Type 0 where
+  pub end : List ℕ
+  pub rest : List ℕ
+  pub whole : t ≡ end ++ rest
+  pub is_end : IsLineEnd end
+  pub counted : n ≡ length end
+
+-- an end of a line is found
+pub end_found : (t : List ℕ) (n : ℕ) → line_end_len t ≡ suc n → EndsAt (suc n) t
+end_found [] n e = absurd cc
+end_found (c ∷ t) n e = by_lf (eqb c 10) refl e
+  where
+    two : (q : Bool) (t : List ℕ) → begins_with_lf t ≡ q → c ≡ 13 → cond q 2 0 ≡ suc n → EndsAt (suc n) (c ∷ t)
+    two false t h k e = absurd cc
+    two true [] h k e = absurd cc
+    two true (d ∷ t) h k e =
+        let f : c ∷ d ∷ t ≡ 13 ∷ 10 ∷ t = ap (λ (x : ℕ). x ∷ d ∷ t) k ∙ ap (λ (x : ℕ). 13 ∷ x ∷ t) (eqb-true d 10 h) in
+        record { end = 13 ∷ 10 ∷ []; rest = t; whole = f; is_end = CrLf; counted = sym e }
+
+    by_cr : (q : Bool) → eqb c 13 ≡ q → cond (q && begins_with_lf t) 2 0 ≡ suc n → EndsAt (suc n) (c ∷ t)
+    by_cr true h e = two (begins_with_lf t) t refl (eqb-true c 13 h) e
+    by_cr false h e = absurd cc
+
+    by_lf : (q : Bool) → eqb c 10 ≡ q → cond q 1 (cond (eqb c 13 && begins_with_lf t) 2 0) ≡ suc n → EndsAt (suc n) (c ∷ t)
+    by_lf true h e = record { end = 10 ∷ []; rest = t; whole = ap (λ (x : ℕ). x ∷ t) (eqb-true c 10 h); is_end = Lf; counted = sym e }
+    by_lf false h e = by_cr (eqb c 13) refl e
+
+-- ---- the text without the end of its last line
+
+no_end : (x : List ℕ) (d : ℕ) → begins_with_lf (d ∷ []) ≡ false → is_line_end (x ++ d ∷ []) ≡ false
+no_end [] d e = e
+no_end (c ∷ []) d e = by (eqb c 13)
+  where
+    by : (q : Bool) → (q && eqb d 10) ≡ false
+    by true = e
+    by false = refl
+no_end (c ∷ b ∷ []) d e = refl
+no_end (c ∷ b ∷ a ∷ x) d e = refl
+
+-- a text whose last octet is no LF has no end to lose
+pub kept_whole : (x : List ℕ) (d : ℕ) → begins_with_lf (d ∷ []) ≡ false → without_end (x ++ d ∷ []) ≡ x ++ d ∷ []
+kept_whole [] d e = cond-false (is_line_end (d ∷ [])) _ _ e
+kept_whole (c ∷ x) d e = cond-false (is_line_end (c ∷ (x ++ d ∷ []))) _ _ (no_end (c ∷ x) d e) ∙ ap (λ (u : List ℕ). c ∷ u) (kept_whole x d e)
+
+long_no_end : (x : List ℕ) (c d e : ℕ) → is_line_end (c ∷ (x ++ d ∷ e ∷ [])) ≡ false
+long_no_end [] c d e = refl
+long_no_end (b ∷ x) c d e = by x
+  where
+    by : (x : List ℕ) → is_line_end (c ∷ b ∷ (x ++ d ∷ e ∷ [])) ≡ false
+    by [] = refl
+    by (a ∷ x) = refl
+
+-- CR LF at the end is lost
+pub crlf_lost : (x : List ℕ) (d e : ℕ) → is_line_end (d ∷ e ∷ []) ≡ true → without_end (x ++ d ∷ e ∷ []) ≡ x
+crlf_lost [] d e h = cond-true (is_line_end (d ∷ e ∷ [])) _ _ h
+crlf_lost (c ∷ x) d e h = cond-false (is_line_end (c ∷ (x ++ d ∷ e ∷ []))) _ _ (long_no_end x c d e) ∙ ap (λ (u : List ℕ). c ∷ u) (crlf_lost x d e h)
+
+-- LF without a CR at the end is lost
+pub lf_lost : (x : List ℕ) (d e : ℕ) → is_line_end (d ∷ e ∷ []) ≡ false → eqb e 10 ≡ true → without_end (x ++ d ∷ e ∷ []) ≡ x ++ d ∷ []
+lf_lost [] d e h k = cond-false (is_line_end (d ∷ e ∷ [])) _ _ h ∙ ap (λ (u : List ℕ). d ∷ u) (cond-true (is_line_end (e ∷ [])) _ _ k)
+lf_lost (c ∷ x) d e h k = cond-false (is_line_end (c ∷ (x ++ d ∷ e ∷ []))) _ _ (long_no_end x c d e) ∙ ap (λ (u : List ℕ). c ∷ u) (lf_lost x d e h k)
+
+one_octet : (t : List ℕ) → length t ≡ 1 → (d : ℕ) × (t ≡ d ∷ [])
+one_octet [] e = absurd (omega arith)
+one_octet (d ∷ []) e = (d, refl)
+one_octet (d ∷ c ∷ t) e = absurd (omega arith)
+
+two_octets : (t : List ℕ) → length t ≡ 2 → (d : ℕ) × (e : ℕ) × (t ≡ d ∷ e ∷ [])
+two_octets [] e = absurd (omega arith)
+two_octets (d ∷ []) e = absurd (omega arith)
+two_octets (d ∷ c ∷ []) e = (d, c, refl)
+two_octets (d ∷ c ∷ b ∷ t) e = absurd (omega arith)
+
+-- two cuts of a text, before its last octet and before the two last
+last_is : (t x l y : List ℕ) (d e : ℕ) → t ≡ x ++ l → length l ≡ 1 → t ≡ y ++ d ∷ e ∷ [] → (x ≡ y ++ d ∷ []) × (l ≡ e ∷ [])
+last_is t x l y d e w n v =
+    let o = one_octet l n in
+    let a : x ++ o.0 ∷ [] ≡ (y ++ d ∷ []) ++ e ∷ [] = ap (λ (u : List ℕ). x ++ u) (sym o.1) ∙ sym w ∙ v ∙ sym (append_assoc y (d ∷ []) (e ∷ [])) in
+    let s = same_from_push x (y ++ d ∷ []) o.0 e a in
+    (s.0, o.1 ∙ ap (λ (c : ℕ). c ∷ []) s.1)
+
+-- a text is cut before its last octet
+pub whole_kept : (t x l : List ℕ) → t ≡ x ++ l → length l ≡ 1 → begins_with_lf l ≡ false → t ≡ without_end t
+whole_kept t x l w n h =
+    let o = one_octet l n in
+    let e : t ≡ x ++ o.0 ∷ [] = w ∙ ap (λ (u : List ℕ). x ++ u) o.1 in
+    e ∙ sym (kept_whole x o.0 (ap begins_with_lf (sym o.1) ∙ h)) ∙ ap without_end (sym e)
+
+pub lone_lf : (t x l : List ℕ) → t ≡ x ++ l → length l ≡ 1 → begins_with_lf l ≡ true → length t ≡ 1 → x ≡ without_end t
+lone_lf t x l w n h k =
+    let o = one_octet l n in
+    let z : x ≡ [] = nil_from_length x (omega (arith, ap length w, length-append x l)) in
+    let e : t ≡ o.0 ∷ [] = w ∙ ap (λ (u : List ℕ). u ++ l) z ∙ o.1 in
+    z ∙ sym (cond-true (is_line_end (o.0 ∷ [])) [] _ (ap begins_with_lf (sym o.1) ∙ h)) ∙ ap without_end (sym e)
+
+pub crlf_cut : (t x l y m : List ℕ) → t ≡ x ++ l → length l ≡ 1 → begins_with_lf l ≡ true → t ≡ y ++ m → length m ≡ 2 → begins_with_cr m ≡ true → y ≡ without_end t
+crlf_cut t x l y m w n h v k c =
+    let o = one_octet l n in
+    let p = two_octets m k in
+    let e : t ≡ y ++ p.0 ∷ p.1 ∷ [] = v ∙ ap (λ (u : List ℕ). y ++ u) p.2 in
+    let q = last_is t x l y p.0 p.1 w n e in
+    sym (crlf_lost y p.0 p.1 (ap (λ (b : Bool). b && eqb p.1 10) (ap begins_with_cr (sym p.2) ∙ c) ∙ ap begins_with_lf (sym q.1) ∙ h)) ∙ ap without_end (sym e)
+
+pub lf_cut : (t x l y m : List ℕ) → t ≡ x ++ l → length l ≡ 1 → begins_with_lf l ≡ true → t ≡ y ++ m → length m ≡ 2 → begins_with_cr m ≡ false → x ≡ without_end t
+lf_cut t x l y m w n h v k c =
+    let o = one_octet l n in
+    let p = two_octets m k in
+    let e : t ≡ y ++ p.0 ∷ p.1 ∷ [] = v ∙ ap (λ (u : List ℕ). y ++ u) p.2 in
+    let q = last_is t x l y p.0 p.1 w n e in
+    q.0 ∙ sym (lf_lost y p.0 p.1 (ap (λ (b : Bool). b && eqb p.1 10) (ap begins_with_cr (sym p.2) ∙ c)) (ap begins_with_lf (sym q.1) ∙ h)) ∙ ap without_end (sym e)

@@ -1,0 +1,20 @@
+-- Lexemes: the tokens of a value without white space and comments.
+use Rattle.std.specs.Prelude.{◌≡◌, Bool, true, false, List, ℕ}
+use Rattle.std.specs.List.{filter}
+use Rattle.mail_header.specs.declared.token.Kind.{Kind}
+use Rattle.mail_header.specs.declared.token.Kind.TheVariants as kind
+use Rattle.mail_header.specs.Tokens.{Spelled, AreTokens}
+
+abbrev pub is_lexeme_kind : Kind → Bool
+is_lexeme_kind kind.Space = false
+is_lexeme_kind kind.Comment = false
+is_lexeme_kind _ = true
+
+abbrev pub is_lexeme : Spelled → Bool
+is_lexeme s = is_lexeme_kind s.kind
+
+-- the lexemes of a text
+pub record AreLexemes (lexemes : List Spelled) (t : List ℕ) : Type 0 where
+  pub tokens : List Spelled
+  pub are : AreTokens tokens t
+  pub lexemes_are : lexemes ≡ filter is_lexeme tokens

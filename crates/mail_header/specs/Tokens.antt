@@ -1,0 +1,67 @@
+-- The tokens of a header's value (RFC 5322 section 3.2), and the texts that spell them.
+use Rattle.std.specs.Prelude.{◌≡◌, ◌≢◌, ℕ, Bool, true, not, ◌&&◌, ◌||◌, ◌==◌, nat_lt, List, [], ◌∷◌, ◌++◌}
+use Rattle.text_words.specs.Cuts.{IsRun, Stops}
+use Rattle.text_words.specs.Octets.{is_white}
+use Rattle.text_words.specs.Sequence.{Sequence}
+use Rattle.mail_header.specs.declared.token.Kind.{Kind}
+use Rattle.mail_header.specs.declared.token.Kind.TheVariants as kind
+
+-- a token of one octet: < > @ , ; : .
+abbrev pub is_mark : ℕ → Bool
+is_mark c = c == 60 || c == 62 || c == 64 || c == 44 || c == 59 || c == 58 || c == 46
+
+-- an octet of an atom: those above 127 are letters
+abbrev pub is_letter : ℕ → Bool
+is_letter c = nat_lt 32 c && not (c == 127) && not (is_mark c) && not (c == 34) && not (c == 40) && not (c == 41) && not (c == 91) && not (c == 93) && not (c == 92)
+
+-- What stands between a bracket and the one that closes it: octets, pairs of a backslash and any octet, and
+-- the same again in brackets.
+pub data Contents (opener closer : ℕ) : List ℕ → Type 0 where
+  Empty : Contents opener closer []
+  Octet : (c : ℕ) (t : List ℕ) → c ≢ opener → c ≢ closer → c ≢ 92 → Contents opener closer t → Contents opener closer (c ∷ t)
+  Pair : (c : ℕ) (t : List ℕ) → Contents opener closer t → Contents opener closer (92 ∷ c ∷ t)
+  Nested : (s t : List ℕ) → Contents opener closer s → Contents opener closer t → Contents opener closer (opener ∷ s ++ closer ∷ t)
+
+-- an opening octet, contents, and the closing octet; inner opens inside
+pub record IsBracketed (first inner closer : ℕ) (t : List ℕ) : Type 0 where
+  pub contents : List ℕ
+  pub whole : t ≡ first ∷ contents ++ closer ∷ []
+  pub inside : Contents inner closer contents
+
+-- no octet opens a bracket in a quoted text
+abbrev pub none : ℕ
+none = 256
+
+abbrev pub IsKind : Kind → List ℕ → Type 0
+IsKind kind.Atom t = IsRun is_letter t
+IsKind kind.Space t = IsRun is_white t
+IsKind kind.Quoted t = IsBracketed 34 none 34 t
+IsKind kind.Literal t = IsBracketed 91 none 93 t
+IsKind kind.Comment t = IsBracketed 40 40 41 t
+IsKind kind.Mark t = (c : ℕ) × (t ≡ c ∷ []) × (is_mark c ≡ true)
+
+-- atoms and spaces are as long as they can be
+abbrev pub EndsBefore : Kind → List ℕ → Type 0
+EndsBefore kind.Atom t = Stops is_letter t
+EndsBefore kind.Space t = Stops is_white t
+EndsBefore _ t = Unit {0}
+
+-- the text begins with a token of the kind, and rest follows it
+pub record Begins (k : Kind) (front rest t : List ℕ) : Type 0 where
+  pub whole : t ≡ front ++ rest
+  pub spelled : IsKind k front
+  pub ends : EndsBefore k rest
+
+-- a token's kind, and the octets that spell it
+pub record Spelled : Type 0 where
+  pub kind : Kind
+  pub text : List ℕ
+
+pub record IsToken (v : Spelled) (front rest : List ℕ) : Type 0 where
+  pub text_is : v.text ≡ front
+  pub spelled : IsKind v.kind front
+  pub ends : EndsBefore v.kind rest
+
+-- the tokens of a text
+abbrev pub AreTokens : List Spelled → List ℕ → Type 0
+AreTokens tokens t = Sequence IsToken tokens t

@@ -1,0 +1,23 @@
+/// What a token is.
+#[derive(Clone, Copy, PartialEq, Eq, Debug)]
+pub enum Kind {
+    /// Octets that are no specials. Those above 127 are letters.
+    Atom,
+    /// White space and folding.
+    Space,
+    /// A quoted text, with its quotes.
+    Quoted,
+    /// What stands in square brackets, with them.
+    Literal,
+    /// A comment, with its parentheses.
+    Comment,
+    /// One of `< > @ , ; : .`
+    Mark,
+}
+
+/// A token, and the octets that spell it.
+#[derive(Clone, Copy, Debug)]
+pub struct Token<'a> {
+    pub kind: Kind,
+    pub text: &'a [u8],
+}

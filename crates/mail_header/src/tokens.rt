@@ -1,0 +1,128 @@
+ghost use Rattle.std.specs.Prelude.{false, ◌≡◌, ◌≤◌, ◌+◌, ℕ, List, IfOk, MatchOption, IfSome, IfNone, length};
+ghost use Rattle.mail_header.specs.Tokens as tokens;
+ghost use Rattle.mail_header.specs.TokenReading as reading;
+ghost use Rattle.mail_header.specs.TokenView.{tokens_view};
+
+use crate::token::{Kind, Token};
+use std::alloc::{AllocError, Global};
+use text_words::{Class, White, cut, is_white};
+
+/// No octet opens a bracket in a quoted text or a literal.
+const NONE: u16 = 256;
+
+/// The octets of an atom.
+struct Letter;
+
+impl Class<u8> for Letter {
+    ghost test = { tokens.is_letter };
+
+    fn has(&self, item: &u8) -> bool {
+        is_letter(*item)
+    }
+}
+
+fn is_mark(octet: u8) -> bool
+    ensures { result ≡ tokens.is_mark octet }
+{
+    octet == b'<'
+        || octet == b'>'
+        || octet == b'@'
+        || octet == b','
+        || octet == b';'
+        || octet == b':'
+        || octet == b'.'
+}
+
+fn is_letter(octet: u8) -> bool
+    ensures { result ≡ tokens.is_letter octet }
+{
+    b' ' < octet
+        && octet != 127
+        && !is_mark(octet)
+        && octet != b'"'
+        && octet != b'('
+        && octet != b')'
+        && octet != b'['
+        && octet != b']'
+        && octet != b'\\'
+}
+
+/// How many octets go up to the end of the bracket whose contents the text begins with.
+fn closing(text: &[u8], opener: u16, closer: u16) -> Option<usize>
+    ensures value { result ≡ reading.close_in opener closer 0 false text.now }
+    ensures within { IfSome result (λ n. n ≤ length text.now) }
+{
+    let mut depth: usize = 0;
+    let mut escaped = false;
+    for (i, octet) in text.iter().enumerate() {
+        if escaped {
+            escaped = false;
+        } else if *octet == b'\\' {
+            escaped = true;
+        } else if *octet as u16 == closer {
+            if depth == 0 {
+                return Some(i + 1);
+            }
+            depth -= 1;
+        } else if *octet as u16 == opener {
+            depth += 1;
+        }
+    }
+    None
+}
+
+/// A bracket, where `rest` follows its first octet in the text, if it is closed.
+fn bracket(kind: Kind, text: &[u8], rest: &[u8], opener: u16, closer: u16) -> Option<(Kind, usize)>
+    requires { length text.now ≡ length rest.now + 1 }
+    ensures { result ≡ reading.token_of kind (reading.further 1 (reading.close_in opener closer 0 false rest.now)) }
+{
+    match closing(rest, opener, closer) {
+        None => None,
+        Some(len) => Some((kind, text.len() - (rest.len() - len))),
+    }
+}
+
+/// The token at the front, and how many octets it has.
+#[tactic(auto, unfolding(crate::specs::TokenReading::token_in))]
+fn token_at(text: &[u8]) -> Option<(Kind, usize)>
+    ensures { result ≡ reading.token_in text.now }
+{
+    match text {
+        [] => None,
+        [first, rest @ ..] => {
+            if is_letter(*first) {
+                Some((Kind::Atom, cut(&Letter, text).0.len()))
+            } else if is_white(*first) {
+                Some((Kind::Space, cut(&White, text).0.len()))
+            } else if is_mark(*first) {
+                Some((Kind::Mark, 1))
+            } else if *first == b'"' {
+                bracket(Kind::Quoted, text, rest, NONE, b'"' as u16)
+            } else if *first == b'[' {
+                bracket(Kind::Literal, text, rest, NONE, b']' as u16)
+            } else if *first == b'(' {
+                bracket(Kind::Comment, text, rest, b'(' as u16, b')' as u16)
+            } else {
+                None
+            }
+        }
+    }
+}
+
+/// The tokens of a header's value (RFC 5322 section 3.2), where it is a row of tokens.
+pub fn tokens(alloc: Global, text: &[u8]) -> Result<Option<Vec<Token<'_>>>, AllocError>
+    ensures some { IfOk result (λ r. IfSome r (λ v. tokens.AreTokens (tokens_view v.items) text.now)) }
+    ensures none { IfOk result (λ r. IfNone r ((ts : List tokens.Spelled) → tokens.AreTokens ts text.now → ⊥)) }
+{
+    let mut found = Vec::new(alloc);
+    let mut rest = text;
+    while !rest.is_empty() {
+        let Some((kind, len)) = token_at(rest) else {
+            return Ok(None);
+        };
+        let (token, behind) = rest.split_at(len);
+        found.push(Token { kind, text: token })?;
+        rest = behind;
+    }
+    Ok(Some(found))
+}

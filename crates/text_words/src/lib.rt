@@ -1,0 +1,15 @@
+//! General words on lists of octets: cuts at the first element that fails a test, texts that are units one behind
+//! another, and classes of octets. Grammars over octets are stated in them.
+#![tactic(auto)]
+
+pub mod class;
+pub mod octets;
+pub mod parts;
+#[cfg(test)]
+mod tests;
+
+pub use class::{Class, are_all, cut};
+pub use octets::{
+    Alpha, Blank, Digit, White, hex_value, is_alpha, is_blank, is_digit, is_white, same_text,
+};
+pub use parts::{behind, first, run_before};

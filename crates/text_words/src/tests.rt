@@ -1,0 +1,37 @@
+use crate::class::{are_all, cut};
+use crate::octets::{Alpha, Blank, Digit, White, hex_value, is_alpha, same_text};
+use std::test::Fail;
+
+#[test]
+fn texts_are_cut_by_class(rt: HostRuntime) -> Result<(), Fail> {
+    let (digits, rest) = cut(&Digit, b"2024 Jan");
+    assert_eq!(rt; digits, b"2024".as_slice());
+    assert_eq!(rt; rest, b" Jan".as_slice());
+    let (blanks, rest) = cut(&Blank, b" \t\r\n");
+    assert_eq!(rt; blanks, b" \t".as_slice());
+    assert_eq!(rt; rest, b"\r\n".as_slice());
+    let (front, rest) = cut(&White, b" \t\r\n");
+    assert_eq!(rt; front, b" \t\r\n".as_slice());
+    assert_eq!(rt; rest, b"".as_slice());
+    let (front, rest) = cut(&Alpha, b"");
+    assert_eq!(rt; front, b"".as_slice());
+    assert_eq!(rt; rest, b"".as_slice());
+    assert!(rt; are_all(&Alpha, b"azAZ"));
+    assert!(rt; !are_all(&Alpha, b"az AZ"));
+    assert!(rt; are_all(&Digit, b""));
+    Ok(())
+}
+
+#[test]
+fn octets_have_classes(rt: HostRuntime) -> Result<(), Fail> {
+    assert_eq!(rt; hex_value(b'0'), Some(0));
+    assert_eq!(rt; hex_value(b'a'), Some(10));
+    assert_eq!(rt; hex_value(b'F'), Some(15));
+    assert_eq!(rt; hex_value(b'g'), None);
+    assert!(rt; !is_alpha(b'@'));
+    assert!(rt; !is_alpha(b'['));
+    assert!(rt; same_text(b"Subject", b"sUBJECT"));
+    assert!(rt; !same_text(b"Subject", b"Subjects"));
+    assert!(rt; !same_text(b"[", b"{"));
+    Ok(())
+}
