@@ -5,7 +5,11 @@ mod front;
 mod mail;
 mod program;
 mod request;
+#[cfg(test)]
+mod script_tests;
 mod segment;
+#[cfg(test)]
+mod tests;
 
 pub use front::{AskError, MAX_BODY_OCTETS, ask, send_all};
 pub use mail::{Mail, Marks, counts_of, mail_of};
