@@ -1,26 +1,22 @@
 -- Whoever is owed the counts is told them.
-use Rattle.std.proofs.Common.{◌≡◌, ◌⊎◌, ◌≤◌, ◌<◌, ◌++◌, ◌+◌, ℕ, zero, suc, List, [], ◌∷◌, length, refl, sym, ◌∙◌, ap, subst, append_assoc, arith, inl, inr, Result, Ok, Err, Option, Some, None}
+use Rattle.std.proofs.Common.{◌≡◌, ◌⊎◌, ◌≤◌, ◌++◌, ℕ, zero, suc, List, [], ◌∷◌, length, refl, sym, ◌∙◌, ap, subst, arith, inl, inr, Result, Ok, Err}
 use Rattle.std.specs.List.{flat_map}
 use Rattle.std.proofs.lemmas.List.{append-nil}
 use Rattle.std.proofs.lemmas.List.Concat.{flat_map-append}
 use Rattle.std.proofs.lemmas.Option.{same_Some}
 use Rattle.gate_world.specs.declared.event.Event.{Event}
-use Rattle.gate_world.specs.declared.event.Event.TheVariants.{Accepted, NoMore, ClientEnded, ClientDone, FrontFailed, Dialed, LinkEnded, Word}
-use Rattle.gate_world.specs.declared.outside.Failed.{Failed}
-use Rattle.gate_world.specs.Octets.{store_gave_in, store_took_in, client_gave_in, client_took_in, Talk, Asks, Hears}
+use Rattle.gate_world.specs.declared.event.Event.TheVariants.{Accepted, ClientEnded, ClientDone, FrontFailed, Word}
+use Rattle.gate_world.specs.Octets.{store_gave_in, store_took_in, client_gave_in, client_took_in}
 use Rattle.gate_words.specs.declared.place.Place.{Place}
-use Rattle.gate_words.specs.declared.task.Task.{Task}
 use Rattle.gate_words.specs.declared.task.Task.TheVariants.{Once}
-use Rattle.gate_words.specs.Task.{IsTask}
 use Rattle.gate_words.proofs.Tasks.{same-task}
 use Rattle.imap_syntax.specs.declared.response.Response.{Response}
-use Rattle.imap_syntax.specs.Spells.{IsSpelling}
 use Rattle.imap_grammar.proofs.Spellings.{spelling_front, spelling_some}
 use Rattle.imap_client.specs.declared.link_end.LinkEnd.{LinkEnd}
 use Rattle.imap_client.specs.declared.link_end.LinkEnd.TheVariants as end
 use Rattle.imap_syntax.specs.declared.response.Status.TheVariants as status
 use Rattle.imap_client.specs.Exchanges.{IsAnswer}
-use Rattle.imap_client.specs.LinkLife.{InboxFetched, Comes, Life, Unsent, NotBegun, Undialed, Lived}
+use Rattle.imap_client.specs.LinkLife.{InboxFetched, Life, Unsent, NotBegun, Undialed, Lived}
 use Rattle.imap_client.proofs.Turning.{one_answer}
 use Rattle.jmap_core.specs.declared.request.Request.{Request}
 use Rattle.jmap_core.specs.Request.{IsRequest}
@@ -31,10 +27,10 @@ use Rattle.gateway.specs.declared.front.AskError.TheVariants as ask
 use Rattle.gateway.specs.declared.mail.Marks.{Marks}
 use Rattle.gateway.specs.Mail.{IsMail}
 use Rattle.gateway.specs.Machine.{Account, Machine, Follows, Moves, Stays, opened}
-use Rattle.gateway.specs.Front.{Asked, Sends}
+use Rattle.gateway.specs.Front.{Asked}
 use Rattle.gateway.specs.Segment.{counts_line, first_told, no_memory_line, Replies, NoRequest, TooLarge, Answered, Unavailable, Wanting as WantingReply, Segment, NoneComes, NotAccepted, Unasked, Served, front_faults}
 use Rattle.gateway.specs.Run.{Run, Refused, Wanting, ServedOnce, account_of, EndsOnce}
-use Rattle.gateway.specs.Complete.{asked_for, Owes, Tells, Completes}
+use Rattle.gateway.specs.Complete.{asked_for, Tells, Completes}
 use Rattle.gateway.proofs.Quiet.{asks_gave_store, asks_took_store, asks_took_client, talk_gave_client, talk_took_client, heard_gave_client, heard_gave_store, heard_took_store, before_one, segment_octets, life_octets}
 
 -- a body is one request

@@ -1,11 +1,11 @@
 -- Which octets the events of each part of a run have.
-use Rattle.std.proofs.Common.{◌≡◌, ◌++◌, ℕ, List, [], ◌∷◌, refl, sym, ◌∙◌, ap, All}
+use Rattle.std.proofs.Common.{◌≡◌, ◌++◌, ℕ, List, [], ◌∷◌, refl, ◌∙◌, ap, All}
 use Rattle.std.specs.List.{flat_map}
 use Rattle.std.proofs.lemmas.List.{append-nil}
 use Rattle.std.proofs.lemmas.List.Concat.{flat_map-append}
 use Rattle.std.proofs.lemmas.List.Elements.{All-head, All-tail}
 use Rattle.gate_world.specs.declared.event.Event.{Event}
-use Rattle.gate_world.specs.declared.event.Event.TheVariants.{Accepted, ClientGave, ClientEnded, ClientTook, ClientDone, Dialed, StoreGave, StoreTook, LinkEnded, Word}
+use Rattle.gate_world.specs.declared.event.Event.TheVariants.{Accepted, ClientGave, ClientTook, ClientDone, Dialed, StoreGave, StoreTook, LinkEnded}
 use Rattle.gate_world.specs.Octets.{store_gave_in, store_took_in, client_gave_in, client_took_in, IsTalk, IsClientGave, IsClientTook}
 
 -- events that all have no octets of a kind

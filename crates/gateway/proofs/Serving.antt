@@ -1,5 +1,5 @@
 -- From what the calls add to what a request and its response are.
-use Rattle.std.proofs.Common.{◌≡◌, ◌≢◌, ◌⊎◌, ◌<◌, ◌≤◌, ◌++◌, ◌+◌, ◌-◌, ◌^◌, ℕ, List, [], ◌∷◌, refl, sym, ◌∙◌, ap, subst, append_assoc, arith, inl, inr, Result, Ok, Err, Option, Some, None}
+use Rattle.std.proofs.Common.{◌≡◌, ◌≤◌, ◌++◌, ℕ, List, [], ◌∷◌, refl, sym, ◌∙◌, ap, subst, arith, inl, inr, Result, Ok, Err, Option, Some, None}
 use Rattle.std.specs.Prelude.{IfOk, OnOk, OnErr}
 use Rattle.std.specs.declared.alloc.AllocError.{AllocError}
 use Rattle.std.proofs.lemmas.List.{append-nil}
@@ -23,15 +23,14 @@ use Rattle.jmap_core.specs.Request.{IsRequest}
 use Rattle.jmap_core.specs.MailboxGet.{mailbox_response_text, unavailable_response_text}
 use Rattle.jmap_core.specs.Problem.{not_request_text}
 use Rattle.jmap_core.specs.declared.counts.Counts.{Counts}
-use Rattle.gateway.specs.declared.front.AskError.{AskError}
 use Rattle.gateway.specs.declared.front.AskError.TheVariants as ask
 use Rattle.gateway.specs.declared.mail.Marks.{Marks}
 use Rattle.gateway.specs.declared.request.Reply.{Reply}
 use Rattle.gateway.specs.declared.request.Reply.TheVariants as reply
 use Rattle.gateway.specs.Mail.{IsMail, counts_of}
-use Rattle.gateway.specs.Machine.{Account, Machine, Follows, Moves, opened}
-use Rattle.gateway.specs.Front.{Asked, Sends}
-use Rattle.gateway.specs.Segment.{line_end, counts_line, not_request_line, unavailable_line, first_told, Replies, NoRequest, TooLarge, Answered, Unavailable, Wanting, Segment, NoneComes, NotAccepted, Unasked, Served, lost_in, unsent, Responds, AnswersBody, AnswersRequest, Tells, SendsReply, Serves, ServesOne, segment_faults, front_faults}
+use Rattle.gateway.specs.Machine.{Account, Machine, Moves, opened}
+use Rattle.gateway.specs.Front.{Asked}
+use Rattle.gateway.specs.Segment.{line_end, counts_line, not_request_line, unavailable_line, first_told, NoRequest, TooLarge, Answered, Unavailable, Wanting, NoneComes, NotAccepted, Unasked, Served, lost_in, Responds, AnswersBody, AnswersRequest, Tells, SendsReply, Serves, ServesOne}
 
 -- no fault is blamed
 pub rose_none : (was now : ℕ) → was ≤ now → RoseBy 0 was now

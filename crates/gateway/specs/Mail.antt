@@ -7,7 +7,6 @@ use Rattle.std.specs.Ordering.{nat_cmp}
 use Rattle.std.specs.BTreeMap.{is_at}
 use Rattle.imap_syntax.specs.declared.response.Response.{Response}
 use Rattle.imap_syntax.specs.declared.response.Response.TheVariants.{Tagged, Untagged, Fetch, Other}
-use Rattle.imap_syntax.specs.declared.response.FetchItems.{FetchItems}
 use Rattle.jmap_core.specs.declared.counts.Counts.{Counts}
 use Rattle.gateway.specs.declared.mail.Marks.{Marks}
 

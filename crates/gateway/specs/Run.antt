@@ -1,6 +1,6 @@
 -- A run of the program over its words and the outside, and its status.
 use Rattle.std.specs.Prelude.{◌≡◌, ◌⊎◌, ◌++◌, ℕ, zero, suc, List, [], ◌∷◌, codes}
-use Rattle.gate_world.specs.Causes.{Faults, RoseBy}
+use Rattle.gate_world.specs.Causes.{RoseBy}
 use Rattle.gate_world.specs.declared.event.Event.{Event}
 use Rattle.gate_world.specs.declared.event.Event.TheVariants.{Word, Said, SayFailed}
 use Rattle.gate_words.specs.declared.place.Place.{Place}

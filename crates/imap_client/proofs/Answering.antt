@@ -1,5 +1,5 @@
 -- The answer to one command, response by response.
-use Rattle.std.proofs.Common.{◌≡◌, ◌≢◌, ◌⊎◌, ◌<◌, ◌++◌, ◌+◌, ℕ, List, [], ◌∷◌, length, refl, sym, ◌∙◌, ap, subst, append_assoc, length-append, arith, rules, inl, inr, Result, Ok, Err, All, Bool, true, false, count_by}
+use Rattle.std.proofs.Common.{◌≡◌, ◌⊎◌, ◌++◌, ℕ, List, [], ◌∷◌, length, refl, sym, ◌∙◌, ap, subst, append_assoc, length-append, arith, rules, inl, inr, Result, Ok, Err, All, false, count_by}
 use Rattle.std.proofs.lemmas.List.{append-nil}
 use Rattle.std.proofs.lemmas.List.Elements.{All-nil, All-cons, All-head, All-tail, All-append}
 use Rattle.std.proofs.lemmas.Bool.Decides.{nat_tests}
@@ -12,7 +12,6 @@ use Rattle.imap_syntax.specs.declared.command.Command.{Command}
 use Rattle.imap_syntax.specs.declared.response.Response.{Response}
 use Rattle.imap_syntax.specs.declared.response.Response.TheVariants.{Tagged, Untagged, Fetch, Other}
 use Rattle.imap_syntax.specs.declared.response.Status.{Status}
-use Rattle.imap_syntax.specs.declared.response.Status.TheVariants as status
 use Rattle.imap_syntax.specs.Commands.{command_text, tag_of}
 use Rattle.imap_syntax.specs.Spells.{IsSpelling}
 use Rattle.imap_client.specs.declared.exchange.Answer.{Answer}
@@ -21,9 +20,9 @@ use Rattle.imap_client.specs.declared.link_end.LinkEnd.{LinkEnd}
 use Rattle.imap_client.specs.declared.link_end.LinkEnd.TheVariants as end
 use Rattle.imap_client.specs.Unread.{Octets}
 use Rattle.imap_client.specs.Reading.{Begins, BeginsNone}
-use Rattle.imap_client.specs.Exchanges.{IsOpen, IsAnswer}
-use Rattle.imap_client.specs.LinkLife.{Stops, is_tagged}
-use Rattle.imap_client.specs.Calls.{Writes, Reads, Ended, Fails, Unanswered, NoAnswer, Answers, Exchanges, Collects, Gathers, Judges}
+use Rattle.imap_client.specs.Exchanges.{IsOpen}
+use Rattle.imap_client.specs.LinkLife.{is_tagged}
+use Rattle.imap_client.specs.Calls.{Writes, Reads, Ended, Fails, Unanswered, NoAnswer, Exchanges, Collects, Gathers, Judges}
 use Rattle.imap_client.proofs.Fronts.{same_front}
 
 -- more responses behind some

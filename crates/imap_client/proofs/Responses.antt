@@ -1,9 +1,8 @@
 -- Reading one response.
-use Rattle.std.proofs.Common.{◌≡◌, ◌≢◌, ◌<◌, ◌≤◌, ◌++◌, ◌+◌, ℕ, List, [], ◌∷◌, length, take, drop, refl, sym, ◌∙◌, ap, subst, append_assoc, length-append, arith, rules, Ok, Err}
+use Rattle.std.proofs.Common.{◌≡◌, ◌≤◌, ◌++◌, ◌+◌, ℕ, List, [], length, take, drop, refl, sym, ◌∙◌, ap, subst, append_assoc, length-append, arith, rules, Ok, Err}
 use Rattle.std.proofs.Math.Seq.{take-append_seam}
 use Rattle.std.proofs.lemmas.List.{append-nil, take-append-drop}
 use Rattle.gate_world.specs.declared.event.Event.{Event}
-use Rattle.gate_world.specs.declared.event.Event.TheVariants.{LinkEnded}
 use Rattle.gate_world.specs.Octets.{Talk}
 use Rattle.gate_world.proofs.Joins.{Talk-append}
 use Rattle.imap_syntax.specs.declared.response.Response.{Response}
@@ -14,7 +13,6 @@ use Rattle.imap_grammar.specs.declared.answer.Scan.TheVariants.{NeedMore, Bad}
 use Rattle.imap_grammar.specs.Scan.{ScanOf}
 use Rattle.imap_client.specs.Unread.{Octets}
 use Rattle.imap_client.specs.Reading.{BeginsNone}
-use Rattle.imap_client.specs.LinkLife.{BeginsNoPrefix}
 use Rattle.imap_client.specs.Calls.{Gains, Fills, Reads}
 use Rattle.imap_grammar.proofs.Spellings.{need_more_none, bad_none}
 

@@ -1,17 +1,16 @@
 -- Commands one after another.
-use Rattle.std.proofs.Common.{◌≡◌, ◌≢◌, ◌⊎◌, ◌<◌, ◌≤◌, ◌++◌, ◌+◌, ℕ, List, [], ◌∷◌, length, refl, sym, ◌∙◌, ap, subst, append_assoc, length-append, arith, rules, inl, inr, Result, Ok, Err, All, Bool, true, false, cond, count_by}
+use Rattle.std.proofs.Common.{◌≡◌, ◌⊎◌, ◌≤◌, ◌++◌, ◌+◌, ℕ, List, [], ◌∷◌, length, refl, sym, ◌∙◌, ap, subst, append_assoc, length-append, arith, inl, inr, Result, Ok, Err, All, true, false, cond, count_by}
 use Rattle.std.proofs.lemmas.List.{append-nil, append_cancel_left}
 use Rattle.std.proofs.lemmas.List.Sums.{sum_by-append}
 use Rattle.std.proofs.lemmas.List.Elements.{All-nil, All-cons, All-head, All-tail}
 use Rattle.std.proofs.lemmas.Bool.Decides.{nat_tests}
 use Rattle.gate_world.specs.declared.event.Event.{Event}
 use Rattle.gate_world.specs.declared.event.Event.TheVariants.{Dialed, LinkEnded}
-use Rattle.gate_world.specs.Octets.{Talk}
 use Rattle.gate_world.proofs.Joins.{Talk-append}
 use Rattle.imap_syntax.specs.declared.command.Command.{Command}
 use Rattle.imap_syntax.specs.declared.command.Command.TheVariants.{Login, FetchFlags}
 use Rattle.imap_syntax.specs.declared.response.Response.{Response}
-use Rattle.imap_syntax.specs.declared.response.Response.TheVariants.{Tagged, Untagged, Fetch, Other}
+use Rattle.imap_syntax.specs.declared.response.Response.TheVariants.{Tagged, Untagged}
 use Rattle.imap_syntax.specs.declared.response.Status.{Status}
 use Rattle.imap_syntax.specs.declared.response.Status.TheVariants as status
 use Rattle.imap_syntax.specs.Commands.{command_text, tag_of, IsQuotable, is_printable}
@@ -19,9 +18,9 @@ use Rattle.imap_syntax.specs.Texts.{Each}
 use Rattle.imap_client.specs.declared.link_end.LinkEnd.{LinkEnd}
 use Rattle.imap_client.specs.declared.link_end.LinkEnd.TheVariants as end
 use Rattle.imap_client.specs.Unread.{Octets, begun}
-use Rattle.imap_client.specs.Reading.{Begins, BeginsNone}
+use Rattle.imap_client.specs.Reading.{Begins}
 use Rattle.imap_client.specs.Exchanges.{IsOpen, IsAnswer}
-use Rattle.imap_client.specs.LinkLife.{Stops, Blames, is_tagged, inbox_fetch, InboxFetched, Comes, Life, Undialed, Lived}
+use Rattle.imap_client.specs.LinkLife.{Stops, is_tagged, inbox_fetch, InboxFetched, Comes, Life, Undialed, Lived}
 use Rattle.imap_client.specs.Calls.{Reads, Ended, Fails, Answers}
 use Rattle.imap_client.specs.Turns.{Welcomes, NotOk, Obeys, AllOk, ObeysAll, Greeted, Ungreeted, Conversed, Converses, ComesTo, Lives, NeverDialed, LivedFor}
 use Rattle.imap_client.proofs.Fronts.{same_front}

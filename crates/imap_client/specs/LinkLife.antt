@@ -1,5 +1,5 @@
 -- One link life: a greeting, LOGIN, SELECT of INBOX and the fetch of all flags (RFC 9051 sections 6 and 7.1).
-use Rattle.std.specs.Prelude.{◌≡◌, ◌≢◌, ◌⊎◌, ◌<◌, ◌≤◌, ◌+◌, ◌++◌, ℕ, Bool, true, false, List, [], ◌∷◌, length, count_by, take, Result, Ok, Err, codes}
+use Rattle.std.specs.Prelude.{◌≡◌, ◌≢◌, ◌⊎◌, ◌<◌, ◌+◌, ◌++◌, ℕ, Bool, true, false, List, [], ◌∷◌, length, count_by, take, Result, Ok, Err, codes}
 use Rattle.gate_world.specs.declared.event.Event.{Event}
 use Rattle.gate_world.specs.declared.event.Event.TheVariants.{Dialed, LinkEnded}
 use Rattle.gate_world.specs.Octets.{Talk}

@@ -1,4 +1,4 @@
-use Rattle.std.proofs.Common.{rules, take, ◌++◌, ◌<◌, length, arith, length-take, length-append, refl}
+use Rattle.std.proofs.Common.{rules, take, ◌++◌, ◌<◌, length, arith, length-take, refl}
 use Rattle.std.proofs.lemmas.Result.{err_from_is_err_and}
 use Rattle.gate_world.proofs.Joins.{then_one, Asks-given}
 use Rattle.gateway.proofs.front.ask.Goals as goal

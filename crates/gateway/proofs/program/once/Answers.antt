@@ -1,4 +1,4 @@
-use Rattle.std.proofs.Common.{◌≡◌, ◌++◌, ◌∷◌, [], refl, sym, subst, List, ℕ, Ok, Err}
+use Rattle.std.proofs.Common.{◌≡◌, ◌++◌, ◌∷◌, [], refl, sym, subst, List, ℕ, Err}
 use Rattle.gate_world.specs.declared.event.Event.TheVariants.{Word}
 use Rattle.gate_world.specs.Causes.{Hidden, Faults}
 use Rattle.gate_world.specs.declared.event.Event.{Event}

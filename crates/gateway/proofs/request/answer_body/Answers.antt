@@ -1,7 +1,5 @@
 use Rattle.std.proofs.Common.{arith}
 use Rattle.gate_world.proofs.Joins.{none}
-use Rattle.gateway.specs.Machine.{opened}
-use Rattle.gateway.specs.Run.{account_of}
 use Rattle.gateway.proofs.Serving.{refused_reply, forgotten_request}
 use Rattle.gateway.proofs.request.answer_body.Goals as goal
 

@@ -1,4 +1,4 @@
-use Rattle.std.proofs.Common.{◌≡◌, ◌∙◌, subst, List, ℕ, Ok, Err}
+use Rattle.std.proofs.Common.{◌∙◌, subst, List, ℕ, Ok, Err}
 use Rattle.std.specs.Prelude.{IfOk}
 use Rattle.gate_world.proofs.Joins.{widen}
 use Rattle.imap_syntax.specs.declared.response.Response.{Response}

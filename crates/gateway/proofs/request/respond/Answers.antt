@@ -1,4 +1,4 @@
-use Rattle.std.proofs.Common.{◌≡◌, ◌++◌, subst, sym, List, ℕ, Ok, Err, arith}
+use Rattle.std.proofs.Common.{◌++◌, subst, sym, List, ℕ, Ok, arith}
 use Rattle.gate_world.specs.Causes.{Hidden}
 use Rattle.gate_world.proofs.Joins.{join, widen}
 use Rattle.gateway.specs.Front.{Asked}

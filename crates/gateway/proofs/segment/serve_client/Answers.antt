@@ -1,4 +1,4 @@
-use Rattle.std.proofs.Common.{◌≡◌, ◌++◌, ◌∷◌, [], ◌∙◌, subst, sym, ap, List, ℕ}
+use Rattle.std.proofs.Common.{◌≡◌, ◌++◌, ◌∷◌, [], ◌∙◌, subst, sym, ap, ℕ}
 use Rattle.gate_world.specs.Causes.{Faults}
 use Rattle.gate_world.specs.declared.event.Event.TheVariants.{ClientDone}
 use Rattle.gate_world.proofs.Joins.{join, then_one}

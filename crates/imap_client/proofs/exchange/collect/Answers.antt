@@ -1,9 +1,8 @@
-use Rattle.std.proofs.Common.{rules, ◌∙◌, ◌≡◌, ◌++◌, ◌∷◌, [], List, sym}
+use Rattle.std.proofs.Common.{rules, ◌∙◌, ◌≡◌}
 use Rattle.std.proofs.lemmas.Result.{err_from_is_err_and}
-use Rattle.gate_world.proofs.Joins.{join, widen, none}
+use Rattle.gate_world.proofs.Joins.{join, none}
 use Rattle.imap_syntax.specs.Commands.{tag_of}
-use Rattle.imap_client.specs.Calls.{Gathers}
-use Rattle.imap_client.proofs.Answering.{Gathers-none, Talk-none, gather_more, answered, ended, unread_further, wanting}
+use Rattle.imap_client.proofs.Answering.{Talk-none, gather_more, answered, ended, unread_further, wanting}
 use Rattle.imap_client.proofs.exchange.collect.Goals as goal
 
 pub returns-in_err-due-clause-tape : goal.returns-in_err-due-clause-tape

@@ -1,6 +1,5 @@
-use Rattle.std.proofs.Common.{◌≡◌, ◌++◌, ◌+◌, ℕ, List, length, All}
+use Rattle.std.proofs.Common.{◌≡◌}
 use Rattle.gate_world.specs.Causes.{LinkAlone}
-use Rattle.gate_world.specs.Octets.{Talk}
 use Rattle.gate_world.specs.Tape.{Adds}
 use Rattle.imap_client.specs.Unread.{room_left}
 use Rattle.imap_client.specs.Calls.{Gathers}

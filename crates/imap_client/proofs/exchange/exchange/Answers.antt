@@ -1,10 +1,8 @@
-use Rattle.std.proofs.Common.{◌≡◌, ◌∙◌, subst, List, ℕ, [], Err}
+use Rattle.std.proofs.Common.{◌∙◌, subst, List, ℕ, []}
 use Rattle.std.proofs.lemmas.Result.{err_from_is_err_and}
 use Rattle.gate_world.specs.Octets.{Talk}
-use Rattle.gate_world.proofs.Joins.{join, widen, none}
-use Rattle.imap_syntax.specs.Commands.{command_text}
-use Rattle.imap_client.specs.Calls.{Writes}
-use Rattle.imap_client.proofs.Answering.{Talk-none, sent, cut_short, wanting}
+use Rattle.gate_world.proofs.Joins.{join, none}
+use Rattle.imap_client.proofs.Answering.{Talk-none, sent, wanting}
 use Rattle.imap_client.proofs.exchange.exchange.Goals as goal
 
 pub returns-in_err-text-clause-tape : goal.returns-in_err-text-clause-tape

@@ -1,4 +1,4 @@
-use Rattle.std.proofs.Common.{◌≡◌, ◌∙◌, ap, List, ℕ}
+use Rattle.std.proofs.Common.{◌∙◌, ap, List, ℕ}
 use Rattle.gate_world.proofs.Joins.{widen}
 use Rattle.imap_client.specs.LinkLife.{inbox_fetch}
 use Rattle.imap_client.proofs.Turning.{life_of}

@@ -1,5 +1,4 @@
-use Rattle.std.proofs.Common.{rules, arith, sym, subst, take, ◌++◌, ◌∙◌, ◌≡◌, ap, length, length-append, List, ℕ}
-use Rattle.std.proofs.Math.Seq.{take-append_seam}
+use Rattle.std.proofs.Common.{rules, sym, subst, ◌++◌, ◌∙◌, ◌≡◌, List, ℕ}
 use Rattle.std.proofs.lemmas.Result.{err_from_is_err_and}
 use Rattle.gate_world.proofs.Joins.{join, widen}
 use Rattle.imap_grammar.specs.Fed.{Fed}

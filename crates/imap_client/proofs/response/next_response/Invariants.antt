@@ -1,4 +1,4 @@
-use Rattle.std.proofs.Common.{◌≡◌, ◌-◌, ◌≤◌, ℕ, List, [], length, take}
+use Rattle.std.proofs.Common.{◌≡◌, ◌-◌, ◌≤◌, ℕ, List, length, take}
 use Rattle.gate_world.specs.Causes.{LinkAlone}
 use Rattle.gate_world.specs.Tape.{Adds}
 use Rattle.imap_grammar.specs.Fed.{Fed}
