@@ -6,7 +6,7 @@ ghost use Rattle.gate_world.specs.Read.{given};
 ghost use Rattle.gate_world.specs.Tape.{AddsOne};
 
 use crate::{
-    Bytes, Chance, Console, Event, Failed, Front, Link, Script, Secrets, Tape, Taped, World,
+    Bytes, Chance, Console, Event, Failed, Front, Link, Listed, Script, Secrets, Tape, Taped, World,
 };
 use std::alloc::Global;
 
@@ -63,6 +63,11 @@ fn is_to_fail(script: &Script, calls: &mut u64) -> bool {
         .as_slice()
         .iter()
         .any(|fail| fail.call == *calls)
+}
+
+// The text of the last that began, where there is one.
+fn last_begun(texts: &Listed<Bytes>, begun: usize) -> Option<&Bytes> {
+    texts.as_slice().get(begun.checked_sub(1)?)
 }
 
 // Copies octets of `from` to the front of `into`, from place `at` on and at most `piece`; how many.
@@ -124,12 +129,7 @@ impl Link for ScriptWorld {
         if is_to_fail(&self.script, &mut self.calls) {
             return Err(self.link_fails());
         }
-        let count = match self
-            .script
-            .links
-            .as_slice()
-            .get(self.dials.saturating_sub(1))
-        {
+        let count = match last_begun(&self.script.links, self.dials) {
             None => 0,
             Some(link) => copy_piece(
                 link.as_slice(),
@@ -185,12 +185,7 @@ impl Front for ScriptWorld {
         if is_to_fail(&self.script, &mut self.calls) {
             return Err(self.front_fails());
         }
-        let count = match self
-            .script
-            .clients
-            .as_slice()
-            .get(self.accepts.saturating_sub(1))
-        {
+        let count = match last_begun(&self.script.clients, self.accepts) {
             None => 0,
             Some(client) => copy_piece(
                 client.as_slice(),

@@ -98,7 +98,12 @@ fn tape(alloc: Global, script: Script, calls: &str) -> Result<String, Fail> {
 }
 
 /// The most octets that a read gives, calls, and the tape after them.
-const CALLS: [(usize, &str, &str); 7] = [
+const CALLS: [(usize, &str, &str); 8] = [
+    (
+        2,
+        "rdrRAR",
+        "[LinkEnded, Dialed, StoreGave([97, 98]), ClientEnded, Accepted, ClientGave([120, 121])]",
+    ),
     (
         2,
         "drrrwdrrdrh",
