@@ -1,0 +1,12 @@
+//! The uploads of a run (RFC 8620, section 6.1), oldest first, each found by the digest of its octets.
+#![tactic(auto)]
+
+mod blob_id;
+mod error;
+mod store;
+#[cfg(test)]
+mod tests;
+mod uploads;
+
+pub use error::BlobError;
+pub use store::{BlobStore, MAX_KEPT_OCTETS, MAX_UPLOAD_OCTETS};
