@@ -1,5 +1,5 @@
 // Uploads in the order in which they came, each found by its id.
-ghost use Rattle.std.specs.Prelude.{◌≡◌, ◌+◌, ◌<◌, ◌^◌, [], ◌∷◌, ◌++◌, List, ℕ, None, Some, length, OnOk, OnErr, MatchOption};
+ghost use Rattle.std.specs.Prelude.{◌≡◌, ◌+◌, ◌<◌, ◌≤◌, ◌^◌, [], ◌∷◌, ◌++◌, List, ℕ, None, Some, length, OnOk, OnErr, MatchOption};
 ghost use Rattle.blob_store.specs.Uploads.{blob_id as id_of, octets_of, upload_with};
 
 use crate::blob_id::BlobId;
@@ -81,6 +81,7 @@ impl Uploads {
     pub fn pop(&mut self)
         ensures none { self.old ≡ [] → self.new ≡ [] }
         ensures oldest { (octets : List ℕ) → (rest : List (List ℕ)) → self.old ≡ octets ∷ rest → self.new ≡ rest }
+        ensures fewer { octets_of self.new ≤ octets_of self.old }
     {
         let Some(id) = self.ids.pop_front() else {
             return;

@@ -1,4 +1,4 @@
-use Rattle.std.proofs.Common.{◌≡◌, ◌==◌, ◌+◌, ◌-◌, List, ℕ, ◌∷◌, ◌++◌, [], Some, length, refl, sym, ap, subst, ◌∙◌, arith}
+use Rattle.std.proofs.Common.{◌≡◌, ◌==◌, ◌+◌, ◌-◌, ◌≤◌, List, ℕ, ◌∷◌, ◌++◌, [], Some, length, refl, sym, ap, subst, ◌∙◌, arith}
 use Rattle.std.specs.Cmp.Lexicographic.{pointwise}
 use Rattle.indexmap.specs.IndexMap.{get}
 use Rattle.blob_store.specs.Uploads.{octets_of}
@@ -23,3 +23,9 @@ returns-in-Some-swap_remove-clause-oldest c octets rest is =
     let all : w.oldest ∷ gathered (get (pointwise ◌==◌) c.swap_remove.new.self) c.pop_front.new.self.items ≡ octets ∷ rest =
     sym w.all ∙ ap (gathered (get (pointwise ◌==◌) c.self.inside.octets)) (sym c.in-Some.ensures.items) ∙ c.self.view_is ∙ is in
     cc all
+
+pub returns-in-Some-swap_remove-clause-fewer : goal.returns-in-Some-swap_remove-clause-fewer
+returns-in-Some-swap_remove-clause-fewer c =
+    let w = left c in
+    let all = sym w.all ∙ ap (gathered (get (pointwise ◌==◌) c.self.inside.octets)) (sym c.in-Some.ensures.items) ∙ c.self.view_is in
+    omega (arith, ap octets_of all)
