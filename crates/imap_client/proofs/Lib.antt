@@ -3,3 +3,4 @@ mod Fronts
 mod Responses
 mod Answering
 pub mod Turning
+pub mod Quotable

@@ -1,5 +1,5 @@
 -- One link life: a greeting, LOGIN, SELECT of INBOX and the fetch of all flags (RFC 9051 sections 6 and 7.1).
-use Rattle.std.specs.Prelude.{◌≡◌, ◌≢◌, ◌⊎◌, ◌<◌, ◌+◌, ◌++◌, ℕ, Bool, true, false, List, [], ◌∷◌, length, count_by, take, Result, Ok, Err, codes}
+use Rattle.std.specs.Prelude.{◌≡◌, ◌≢◌, ◌⊎◌, ◌<◌, ◌+◌, ◌++◌, ℕ, Bool, true, false, List, [], ◌∷◌, length, count_by, take, None, Result, Ok, Err, codes}
 use Rattle.gate_world.specs.declared.event.Event.{Event}
 use Rattle.gate_world.specs.declared.event.Event.TheVariants.{Dialed, LinkEnded}
 use Rattle.gate_world.specs.Octets.{Talk}
@@ -26,7 +26,7 @@ inbox = codes "INBOX"
 
 -- the commands of the life
 abbrev pub inbox_fetch : List ℕ → List ℕ → List Command
-inbox_fetch user password = Login user password ∷ Select inbox ∷ FetchFlags ∷ []
+inbox_fetch user password = Login user password ∷ Select inbox None ∷ FetchFlags ∷ []
 
 -- The store greeted with OK, three exchanges were completed with OK, and these are the responses of the last.
 pub record InboxFetched (user password gave took : List ℕ) (responses : List Response) : Type 0 where
@@ -35,7 +35,7 @@ pub record InboxFetched (user password gave took : List ℕ) (responses : List R
   pub logging_in : List Response
   pub selecting : List Response
   pub rest : List ℕ
-  pub completed : Completed 1 (answered_ok (Login user password) logging_in ∷ answered_ok (Select inbox) selecting ∷ answered_ok FetchFlags responses ∷ []) rest behind took
+  pub completed : Completed 1 (answered_ok (Login user password) logging_in ∷ answered_ok (Select inbox None) selecting ∷ answered_ok FetchFlags responses ∷ []) rest behind took
 
 abbrev pub is_tagged : Response → Bool
 is_tagged (Tagged _ _) = true

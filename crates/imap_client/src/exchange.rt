@@ -37,6 +37,7 @@ fn write_all<L: Link>(link: &mut L, octets: &[u8]) -> Result<(), Failed>
 }
 
 // The whole text of a command. No command of this client waits for a continuation.
+#[tactic(auto, using(crate::proofs::Quotable::quotable_pieces))]
 fn text_of(alloc: Global, command: &Command, number: u64) -> Result<Bytes, AllocError>
     requires { IsQuotable command.now }
     ensures { IfOk result (λ text. text ≡ command_text command.now number) }

@@ -142,6 +142,7 @@ fn inbox_commands(alloc: Global, user: &[u8], password: &[u8]) -> Result<Vec<Com
     })?;
     commands.push(Command::Select {
         name: Bytes::copy_of(alloc, b"INBOX")?,
+        known: None,
     })?;
     commands.push(Command::FetchFlags)?;
     Ok(commands)

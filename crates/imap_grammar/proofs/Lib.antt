@@ -6,3 +6,4 @@ pub mod Cuts
 pub mod ItemReadings
 pub mod Readings
 pub mod Spellings
+pub mod Pieces

@@ -1,3 +1,4 @@
 pub mod Scan
 pub mod Fed
 pub mod Reading
+pub mod Written

@@ -1,5 +1,4 @@
 // What responses say, and the texts of commands.
-ghost use Rattle.imap_syntax.specs.Commands.{IsQuotable};
 
 use crate::answer::Scan;
 use crate::commands::write_command;
@@ -135,34 +134,186 @@ fn responses_say_what_was_told(rt: HostRuntime) -> Result<(), Fail> {
     Ok(())
 }
 
-/// Whether the command's text is one piece, and this.
-fn is_written(alloc: Global, command: &Command, tag: u64, text: &[u8]) -> Result<bool, AllocError>
-    requires { IsQuotable command.now }
-{
+/// Whether the command is written in these pieces.
+fn is_written(
+    alloc: Global,
+    command: &Command,
+    tag: u64,
+    wanted: &[&[u8]],
+) -> Result<bool, AllocError> {
     let pieces = write_command(alloc, command, tag)?;
-    match pieces.as_slice() {
-        [piece] => Ok(piece.as_slice() == text),
-        _ => Ok(false),
+    let mut same = pieces.len() == wanted.len();
+    for (piece, wanted) in pieces.as_slice().iter().zip(wanted) {
+        same = same && piece.as_slice() == *wanted;
     }
+    Ok(same)
+}
+
+fn bytes(alloc: Global, text: &[u8]) -> Result<Bytes, AllocError> {
+    Bytes::copy_of(alloc, text)
+}
+
+fn flags_of(alloc: Global, flags: &[&[u8]]) -> Result<Names, AllocError> {
+    let mut names = Names::new(alloc);
+    for flag in flags {
+        names.push(bytes(alloc, flag)?)?;
+    }
+    Ok(names)
 }
 
 #[test]
 fn commands_are_written(rt: HostRuntime) -> Result<(), Fail> {
     let alloc = rt.alloc();
-    let user = Bytes::copy_of(alloc, b"alice")?;
-    let password = Bytes::copy_of(alloc, b"p\"w\\ ~")?;
-    let login = Command::Login { user, password };
-    assert!(rt; is_written(alloc, &login, 1, b"a1 LOGIN \"alice\" \"p\\\"w\\\\ ~\"\r\n")?);
-    let name = Bytes::copy_of(alloc, b"INBOX")?;
-    assert!(rt;
-        is_written(
-            alloc,
-            &Command::Select { name },
-            2,
-            b"a2 SELECT \"INBOX\"\r\n"
-        )?
-    );
-    let text = b"a18446744073709551615 UID FETCH 1:* (UID FLAGS)\r\n";
-    assert!(rt; is_written(alloc, &Command::FetchFlags, u64::MAX, text)?);
+    let headers =
+        b"a7 UID FETCH 1:10000 (UID FLAGS MODSEQ INTERNALDATE RFC822.SIZE BODY.PEEK[HEADER]<0.32768>)\r\n";
+    let new_ones =
+        b"a8 UID FETCH 4294967295:* (UID FLAGS INTERNALDATE RFC822.SIZE BODY.PEEK[HEADER]<0.32768>)\r\n";
+    let system: [&[u8]; 6] = [
+        b"\\seen",
+        b"\\answered",
+        b"\\flagged",
+        b"\\draft",
+        b"\\deleted",
+        b"$junk",
+    ];
+    let rows: [(Command, &[u8]); 19] = [
+        (Command::Capability, b"a7 CAPABILITY\r\n"),
+        (Command::Enable, b"a7 ENABLE QRESYNC IMAP4rev2\r\n"),
+        (Command::List, b"a7 LIST \"\" \"*\" RETURN (SUBSCRIBED)\r\n"),
+        (
+            Command::Select {
+                name: bytes(alloc, b"INBOX")?,
+                known: None,
+            },
+            b"a7 SELECT \"INBOX\"\r\n",
+        ),
+        (
+            Command::Select {
+                name: bytes(alloc, b"a\"b\\c \xc3\xa9")?,
+                known: Some((7, 1)),
+            },
+            b"a7 SELECT \"a\\\"b\\\\c \xc3\xa9\" (QRESYNC (7 1))\r\n",
+        ),
+        (Command::Unselect, b"a7 UNSELECT\r\n"),
+        (Command::FetchFlags, b"a7 UID FETCH 1:* (UID FLAGS)\r\n"),
+        (
+            Command::FetchSlice {
+                from: 1,
+                to: 10_000,
+                modseq: true,
+            },
+            headers,
+        ),
+        (
+            Command::FetchSlice {
+                from: 1,
+                to: 2,
+                modseq: false,
+            },
+            b"a7 UID FETCH 1:2 (UID FLAGS INTERNALDATE RFC822.SIZE BODY.PEEK[HEADER]<0.32768>)\r\n",
+        ),
+        (
+            Command::FetchBody { uid: 9 },
+            b"a7 UID FETCH 9 (UID BODY.PEEK[]<0.50000000>)\r\n",
+        ),
+        (
+            Command::Store {
+                uid: 5,
+                add: true,
+                flags: flags_of(alloc, &system)?,
+            },
+            b"a7 UID STORE 5 +FLAGS (\\Seen \\Answered \\Flagged \\Draft \\Deleted $junk)\r\n",
+        ),
+        (
+            Command::Store {
+                uid: 5,
+                add: false,
+                flags: flags_of(alloc, &[])?,
+            },
+            b"a7 UID STORE 5 -FLAGS ()\r\n",
+        ),
+        (
+            Command::Move {
+                uid: 5,
+                name: bytes(alloc, b"A b")?,
+            },
+            b"a7 UID MOVE 5 \"A b\"\r\n",
+        ),
+        (Command::Expunge { uid: 5 }, b"a7 UID EXPUNGE 5\r\n"),
+        (
+            Command::Create {
+                name: bytes(alloc, b"Work")?,
+            },
+            b"a7 CREATE \"Work\"\r\n",
+        ),
+        (
+            Command::Delete {
+                name: bytes(alloc, b"Work")?,
+            },
+            b"a7 DELETE \"Work\"\r\n",
+        ),
+        (
+            Command::Rename {
+                from: bytes(alloc, b"a")?,
+                to: bytes(alloc, b"b/c")?,
+            },
+            b"a7 RENAME \"a\" \"b/c\"\r\n",
+        ),
+        (
+            Command::Subscribe {
+                name: bytes(alloc, b"a")?,
+                on: true,
+            },
+            b"a7 SUBSCRIBE \"a\"\r\n",
+        ),
+        (
+            Command::Subscribe {
+                name: bytes(alloc, b"")?,
+                on: false,
+            },
+            b"a7 UNSUBSCRIBE \"\"\r\n",
+        ),
+    ];
+    for (command, text) in rows.iter() {
+        assert!(rt; is_written(alloc, command, 7, &[*text])?, "{command:?}");
+    }
+    let new = Command::FetchNew {
+        from: u32::MAX,
+        modseq: false,
+    };
+    assert!(rt; is_written(alloc, &new, 8, &[new_ones])?);
+    let text = b"a18446744073709551615 UNSELECT\r\n";
+    assert!(rt; is_written(alloc, &Command::Unselect, u64::MAX, &[text])?);
+    Ok(())
+}
+
+#[test]
+fn credentials_are_quoted_or_literals(rt: HostRuntime) -> Result<(), Fail> {
+    let alloc = rt.alloc();
+    let rows: [(&[u8], &[u8], &[&[u8]]); 4] = [
+        (
+            b"alice",
+            b"p\"w\\ ~",
+            &[b"a1 LOGIN \"alice\" \"p\\\"w\\\\ ~\"\r\n"],
+        ),
+        (
+            b"\xc3\xa9",
+            b"",
+            &[b"a1 LOGIN {2}\r\n", b"\xc3\xa9 \"\"\r\n"],
+        ),
+        (b"", b"a\r\nb", &[b"a1 LOGIN \"\" {4}\r\n", b"a\r\nb\r\n"]),
+        (
+            b"\x7f",
+            b"\x1f",
+            &[b"a1 LOGIN {1}\r\n", b"\x7f {1}\r\n", b"\x1f\r\n"],
+        ),
+    ];
+    for (user, password, pieces) in rows.iter() {
+        let login = Command::Login {
+            user: bytes(alloc, user)?,
+            password: bytes(alloc, password)?,
+        };
+        assert!(rt; is_written(alloc, &login, 1, pieces)?);
+    }
     Ok(())
 }
