@@ -4,3 +4,6 @@ pub mod Base64Lemmas
 pub mod ShapeLemmas
 pub mod WordLemmas
 pub mod PrintableLemmas
+pub mod WrittenBase64
+pub mod WordListLemmas
+pub mod WrittenWords

@@ -4,4 +4,5 @@ pub mod QuotedText
 pub mod QuotedPrintable
 pub mod Transfer
 pub mod EncodedWords
+pub mod WordList
 pub mod Reading

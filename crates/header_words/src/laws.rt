@@ -1,6 +1,9 @@
 ghost use Rattle.std.specs.Prelude.{◌≡◌, Bool, false, ℕ, List};
+ghost use Rattle.text_words.specs.Cuts.{IsRun};
+ghost use Rattle.text_words.specs.Octets.{is_white};
 ghost use Rattle.header_words.specs.EncodedWords.{IsText};
 ghost use Rattle.header_words.specs.Transfer.{IsBody};
+ghost use Rattle.header_words.specs.WordList.{AreWords, joined, IsWritten};
 ghost use Rattle.header_words.specs.declared.transfer.Encoding.{Encoding};
 
 /// No value has two texts.
@@ -12,4 +15,16 @@ pub fn one_text()
 pub fn one_body()
     ensures octets { (e : Encoding) (s t b : List ℕ) (p q : Bool) → IsBody e s p b → IsBody e t q b → s ≡ t }
     ensures problem { (e : Encoding) (s t b : List ℕ) (p q : Bool) → IsBody e s p b → IsBody e t q b → p ≡ q }
+{}
+
+/// No text is written as two values.
+pub fn one_writing()
+    ensures { (text s t : List ℕ) → IsWritten text s → IsWritten text t → s ≡ t }
+{}
+
+/// What a text is written as reads as the text, also with other white space between the words, as in a line that is
+/// unfolded.
+pub fn reads_back()
+    ensures written { (text value : List ℕ) → IsWritten text value → IsText false value text }
+    ensures joined { (between text : List ℕ) (words : List (List ℕ)) → IsRun is_white between → AreWords words text → IsText false (joined between words) text }
 {}

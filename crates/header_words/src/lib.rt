@@ -1,4 +1,5 @@
-//! What the octets of a mail spell: charsets, encoded words (RFC 2047) and transfer encodings (RFC 2045).
+//! What the octets of a mail spell: charsets, encoded words (RFC 2047) and transfer encodings (RFC 2045). And how a text
+//! is written as encoded words.
 #![tactic(auto)]
 
 pub mod base64_text;
@@ -10,8 +11,10 @@ pub mod quoted_text;
 #[cfg(test)]
 mod tests;
 pub mod transfer;
+pub mod word_list;
 pub mod words;
 
 pub use charset::decode_charset;
 pub use transfer::decode_transfer;
+pub use word_list::encode_words;
 pub use words::decode_words;

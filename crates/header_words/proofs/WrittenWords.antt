@@ -1,0 +1,185 @@
+-- What a text is written as reads as the text.
+use Rattle.std.proofs.Common.{◌≡◌, ◌≢◌, ℕ, ◌+◌, ◌/◌, ◌%◌, ◌<◌, ◌≤◌, ltb, cond, not, ◌&&◌, Bool, true, false, List, [], ◌∷◌, ◌++◌, length, codes, IsUtf8, flat_map, refl, sym, ap, ◌∙◌, subst, arith, inl, inr}
+use Rattle.std.proofs.lemmas.List.{append_assoc}
+use Rattle.std.proofs.lemmas.Bool.{and_parts, lt-ltb}
+use Rattle.std.proofs.lemmas.Str.{IsUtf8-append, utf8_lossy-IsUtf8}
+use Rattle.base64.specs.GeneralPurpose.{encode_of}
+use Rattle.base64.specs.Engines.{standard}
+use lib.Utf8.{scalar, scalars, encode, encodes, scalar_cases}
+use Rattle.text_words.specs.Cuts.{Each, IsRun, front}
+use Rattle.text_words.specs.Octets.{is_white}
+use Rattle.text_words.proofs.CutLemmas.{each_append, each_list_all}
+use Rattle.header_words.specs.Base64.{is_symbol, is_equals_sign, IsBase64}
+use Rattle.header_words.specs.Charsets.{charset_of, text_in}
+use Rattle.header_words.specs.declared.charset.Charset.{Charset}
+use Rattle.header_words.specs.declared.charset.Charset.TheVariants as charset
+use Rattle.header_words.specs.EncodedWords.{is_encoded, InBase64, HasShape, charset_name, IsEncodedWord, is_edge, ends_at_edge, BeginsAtEdge, kept, NoneBefore, HasNone, IsFirst, IsText, Plain, Worded}
+use Rattle.header_words.specs.WordList.{utf8_word, IsPiece, IsLongestPiece, AreWords, NoneLeft, Next, joined, line_fold, IsWritten}
+use Rattle.header_words.proofs.WordLemmas.{none_yet}
+use Rattle.header_words.proofs.WordListLemmas.{longest_some}
+use Rattle.header_words.proofs.WrittenBase64.{is_octet, reads_back}
+
+-- ---- the octets of a text
+
+small : (n : ℕ) → n < 256 → is_octet n ≡ true
+small n lt = lt-ltb n 256 lt
+
+char_octets : (c : ℕ) → c < 1114112 → Each is_octet (encode c)
+unfolding encode
+char_octets c lt = by (ltb c 128) (ltb c 2048) (ltb c 65536) refl refl refl
+  where
+    by : (p q r : Bool) → ltb c 128 ≡ p → ltb c 2048 ≡ q → ltb c 65536 ≡ r → Each is_octet (cond p (c ∷ []) (cond q ((192 + c / 64) ∷ (128 + c % 64) ∷ []) (cond r ((224 + c / 4096) ∷ (128 + c / 64 % 64) ∷ (128 + c % 64) ∷ []) ((240 + c / 262144) ∷ (128 + c / 4096 % 64) ∷ (128 + c / 64 % 64) ∷ (128 + c % 64) ∷ []))))
+    by true q r e f g = (grind arith, tt)
+    by false true r e f g = (small _ (grind arith), (small _ (omega arith), tt))
+    by false false true e f g = (small _ (grind arith), (small _ (omega arith), (small _ (omega arith), tt)))
+    by false false false e f g = (small _ (omega arith), (small _ (omega arith), (small _ (omega arith), (small _ (omega arith), tt))))
+
+scalar_below : (c : ℕ) → scalar c ≡ true → c < 1114112
+scalar_below c e = elim (scalar_cases c e) [ inl h ↦ omega (arith, h) | inr h ↦ h.1 ]
+
+chars_octets : (cs : List ℕ) → scalars cs ≡ true → Each is_octet (encodes cs)
+chars_octets [] e = tt
+chars_octets (c ∷ cs) e =
+    let p = and_parts (scalar c) (scalars cs) e in
+    each_append is_octet (encode c) (encodes cs) (char_octets c (scalar_below c p.0)) (chars_octets cs p.1)
+
+text_octets : (t : List ℕ) → IsUtf8 t → Each is_octet t
+text_octets t (cs, u) = let P : List ℕ → Type 0 = λ x. Each is_octet x in subst P u.1 (chars_octets cs u.0)
+
+-- ---- one word
+
+each_widen : (p q : ℕ → Bool) (t : List ℕ) → ((c : ℕ) → p c ≡ true → q c ≡ true) → Each p t → Each q t
+each_widen p q [] w e = tt
+each_widen p q (c ∷ t) w e = (w c e.0, each_widen p q t w e.1)
+
+symbol_printed : (c : ℕ) → is_symbol c ≡ true → is_encoded c ≡ true
+symbol_printed c e = grind arith
+
+equals_printed : (c : ℕ) → is_equals_sign c ≡ true → is_encoded c ≡ true
+equals_printed c e = grind arith
+
+printed : (octets t : List ℕ) → IsBase64 octets t → Each is_encoded t
+printed octets t b =
+    let P : List ℕ → Type 0 = λ x. Each is_encoded x in
+    subst P (sym b.whole) (each_append is_encoded b.symbols b.padding (each_widen is_symbol is_encoded b.symbols symbol_printed b.alphabet) (each_widen is_equals_sign is_encoded b.padding equals_printed b.equals))
+
+some_spelled : (octets t : List ℕ) → IsBase64 octets t → 0 < length octets → t ≢ []
+some_spelled octets t b some e = none b.symbols b.padding (sym b.whole ∙ e) b.are
+  where
+    none : (s p : List ℕ) → s ++ p ≡ [] → octets ≡ Rattle.header_words.specs.Base64.spelled_octets s → ⊥
+    none [] p f a = omega (arith, ap length a)
+    none (c ∷ s) p f a = absurd cc
+
+word_shape : (piece text : List ℕ) → text ≡ encode_of standard piece → IsRun is_encoded text → HasShape (codes "utf-8") 66 text [] (utf8_word piece)
+unfolding utf8_word
+word_shape piece text e r = record {
+  whole = ap (λ (u : List ℕ). codes "=?utf-8?B?" ++ (u ++ codes "?=")) (sym e);
+  token = (grind arith, λ n. absurd cc);
+  printed = r;
+}
+
+utf8_name : charset_of (charset_name (codes "utf-8")) ≡ charset.Utf8
+unfolding front
+utf8_name = refl
+
+-- the word of a piece stands for the piece
+word_is : (piece : List ℕ) → IsUtf8 piece → 0 < length piece → IsEncodedWord piece (utf8_word piece)
+word_is piece u some =
+    let b = reads_back piece (text_octets piece u) in
+    record {
+      charset = codes "utf-8";
+      letter = 66;
+      text = encode_of standard piece;
+      octets = piece;
+      shape = word_shape piece (encode_of standard piece) refl (printed piece (encode_of standard piece) b, some_spelled piece (encode_of standard piece) b some);
+      spelled = InBase64 refl b;
+      said = sym (ap (λ (c : Charset). text_in c piece) utf8_name ∙ utf8_lossy-IsUtf8 piece u);
+    }
+
+-- ---- the words of a text
+
+text_is : (piece rest text : List ℕ) → IsPiece piece rest text → IsUtf8 text
+text_is piece rest text p = subst (λ (u : List ℕ). IsUtf8 u) (sym p.whole) (IsUtf8-append piece rest p.characters p.characters_behind)
+
+longest_is : (piece rest text : List ℕ) → text ≢ [] → IsLongestPiece piece rest text → IsEncodedWord piece (utf8_word piece)
+longest_is piece rest text n l = word_is piece l.is.characters (longest_some piece rest text (text_is piece rest text l.is) n l)
+
+white_is_edge : (c : ℕ) → is_white c ≡ true → is_edge c ≡ true
+white_is_edge c e = grind arith
+
+white_edge : (edge : Bool) (b : List ℕ) → edge ≡ true → Each is_white b → ends_at_edge edge b ≡ true
+white_edge edge [] e w = e
+white_edge edge (c ∷ b) e w = white_edge (is_edge c) b (white_is_edge c w.0) w.1
+
+white_dropped : (b : List ℕ) → Each is_white b → kept true b ≡ []
+white_dropped b w = ap (λ (q : Bool). cond (true && q) [] b) (each_list_all is_white b w)
+
+-- no word begins with white space
+no_word_begins : (reading word behind t : List ℕ) (c : ℕ) → is_white c ≡ true → c ∷ t ≡ word ++ behind → IsEncodedWord reading word → ⊥
+no_word_begins reading word behind t c w e i = let f = head_is word behind i.shape.whole e in absurd (grind arith)
+  where
+    head_is : (w b : List ℕ) {x : List ℕ} → w ≡ 61 ∷ x → c ∷ t ≡ w ++ b → c ≡ 61
+    head_is [] b f e = absurd cc
+    head_is (d ∷ w) b f e = cc
+
+none_in_white : (b t : List ℕ) → Each is_white b → NoneBefore (length b) (b ++ t)
+none_in_white b t w = λ reading before word behind e s. by b before w reading word behind e s.word
+  where
+    by : (b before : List ℕ) → Each is_white b → (reading word behind : List ℕ) → b ++ t ≡ before ++ (word ++ behind) → IsEncodedWord reading word → length b ≤ length before
+    by [] before w reading word behind e i = omega arith
+    by (c ∷ b) [] w reading word behind e i = absurd (no_word_begins reading word behind (b ++ t) c w.0 e i)
+    by (c ∷ b) (d ∷ before) w reading word behind e i =
+        let f : b ++ t ≡ before ++ (word ++ behind) = cc in
+        let n = by b before w.1 reading word behind f i in
+        omega arith
+
+none_in_empty : HasNone []
+none_in_empty = λ reading before word behind e s. by before word behind e s.word.shape.whole
+  where
+    by : (before word behind : List ℕ) {x : List ℕ} → [] ≡ before ++ (word ++ behind) → word ≡ 61 ∷ x → ⊥
+    by [] [] behind e f = absurd cc
+    by [] (d ∷ word) behind e f = absurd cc
+    by (a ∷ before) word behind e f = absurd cc
+
+-- the words behind the first
+abbrev more_words : List ℕ → List (List ℕ) → List ℕ
+more_words between words = flat_map (λ (w : List ℕ). between ++ w) words
+
+begins_white : (between : List ℕ) (words : List (List ℕ)) → IsRun is_white between → BeginsAtEdge (more_words between words)
+begins_white between [] r = tt
+begins_white [] (w ∷ words) r = absurd (r.1 refl)
+begins_white (c ∷ between) (w ∷ words) r = ap not (white_is_edge c r.0.0)
+
+more_read : (between : List ℕ) (words : List (List ℕ)) (text : List ℕ) → IsRun is_white between → AreWords words text → IsText true (more_words between words) text
+more_read between _ _ r NoneLeft = Plain true [] none_in_empty
+more_read between _ _ r (Next piece rest text words n l a) =
+    let word = utf8_word piece in
+    let more = more_words between words in
+    let value = (between ++ word) ++ more in
+    let same : value ≡ between ++ (word ++ more) = append_assoc between word more in
+    let first : IsFirst piece between word more value = record {
+      whole = same;
+      stands = record { edge_before = white_edge true between refl r.0; word = longest_is piece rest text n l; edge_behind = begins_white between words r };
+      first = subst (λ (u : List ℕ). NoneBefore (length between) u) (sym same) (none_in_white between (word ++ more) r.0);
+    } in
+    subst (λ (u : List ℕ). IsText true value u) (ap (λ (u : List ℕ). u ++ (piece ++ rest)) (white_dropped between r.0) ∙ sym l.is.whole)
+    (Worded true piece between word more rest value first (more_read between words rest r a))
+
+pub words_read : (between : List ℕ) (words : List (List ℕ)) (text : List ℕ) → IsRun is_white between → AreWords words text → IsText false (joined between words) text
+words_read between _ _ r NoneLeft = Plain false [] none_in_empty
+words_read between _ _ r (Next piece rest text words n l a) =
+    let word = utf8_word piece in
+    let more = more_words between words in
+    let first : IsFirst piece [] word more (word ++ more) = record {
+      whole = refl;
+      stands = record { edge_before = refl; word = longest_is piece rest text n l; edge_behind = begins_white between words r };
+      first = none_yet (word ++ more);
+    } in
+    subst (λ (u : List ℕ). IsText false (word ++ more) u) (sym l.is.whole)
+    (Worded false piece [] word more rest (word ++ more) first (more_read between words rest r a))
+
+fold_is_white : IsRun is_white line_fold
+fold_is_white = ((refl, (refl, (refl, tt))), λ n. absurd cc)
+
+pub written_reads : (text value : List ℕ) → IsWritten text value → IsText false value text
+written_reads text value w = subst (λ (u : List ℕ). IsText false u text) (sym w.folds) (words_read line_fold w.words text fold_is_white w.are)

@@ -1,0 +1,57 @@
+use crate::charset::decode_charset;
+use crate::transfer::decode_transfer;
+use std::test::Fail;
+
+#[test]
+fn charsets_and_bodies_are_decoded(rt: HostRuntime) -> Result<(), Fail> {
+    let charsets: [(&[u8], &[u8], &[u8], bool); 8] = [
+        (b"US-ASCII", b"a\xE9", b"a\xEF\xBF\xBD", true),
+        (b"us-ascii", b"ab", b"ab", false),
+        (b"koi8-r", b"a\xE9", b"a\xEF\xBF\xBD", true),
+        (b"koi8-r", b"a", b"a", false),
+        (b"UTF-8", b"\xC3\xA9", b"\xC3\xA9", false),
+        (b"utf-8", b"a\xC3b", b"a\xEF\xBF\xBDb", true),
+        (b"ISO-8859-1", b"a\xE9\x80", b"a\xC3\xA9\xC2\x80", false),
+        (b"", b"", b"", false),
+    ];
+    for row in charsets {
+        let (text, problem) = decode_charset(rt.alloc(), row.0, row.1)?;
+        assert_eq!(rt; text.as_slice(), row.2);
+        assert_eq!(rt; problem, row.3);
+    }
+    let bodies: [(&[u8], &[u8], &[u8], bool); 22] = [
+        (b"7bit", b"a\xE9=", b"a\xE9=", false),
+        (b"8BIT", b"", b"", false),
+        (b"Binary", b"\x00", b"\x00", false),
+        (b"x-none", b"a", b"a", true),
+        (b"", b"a", b"a", true),
+        (
+            b"quoted-printable",
+            b"Caf=E9 =\nat ten\n",
+            b"Caf\xE9 at ten\n",
+            false,
+        ),
+        (b"Quoted-Printable", b"a=3d=3D", b"a==", false),
+        (b"quoted-printable", b"a= \t\r\nb", b"ab", false),
+        (b"quoted-printable", b"a \t\r\nb\t \n", b"a\r\nb\n", false),
+        (b"quoted-printable", b"a b \t", b"a b", false),
+        (b"quoted-printable", b"a=20\r\n", b"a \r\n", false),
+        (b"quoted-printable", b"a=", b"a=", true),
+        (b"quoted-printable", b"a=  ", b"a=", true),
+        (b"quoted-printable", b"a=G1=\rb", b"a=G1=\rb", true),
+        (b"quoted-printable", b"a=C", b"a=C", true),
+        (b"base64", b"R0lG\r\nODlh", b"GIF89a", false),
+        (b"BASE64", b"JVBERg==", b"%PDF", false),
+        (b"base64", b"JVBERg==JVBERg==", b"%PDF", false),
+        (b"base64", b"J!VB*ERg", b"%PDF", true),
+        (b"base64", b"JVBERh", b"%PDF", false),
+        (b"base64", b"JVBEA", b"%PD", false),
+        (b"base64", b"", b"", false),
+    ];
+    for row in bodies {
+        let (octets, problem) = decode_transfer(rt.alloc(), row.0, row.1)?;
+        assert_eq!(rt; octets.as_slice(), row.2);
+        assert_eq!(rt; problem, row.3);
+    }
+    Ok(())
+}
