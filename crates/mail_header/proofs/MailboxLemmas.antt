@@ -8,7 +8,7 @@ use Rattle.mail_header.specs.declared.token.Kind.{Kind}
 use Rattle.mail_header.specs.declared.token.Kind.TheVariants as kind
 use Rattle.mail_header.specs.Tokens.{Spelled}
 use Rattle.mail_header.specs.Lexemes.{is_lexeme_kind}
-use Rattle.mail_header.specs.Mailboxes.{mark_in, mark_of, has_mark, is_gap, is_atom_kind, is_atom, is_word_kind, is_word, is_literal_kind, is_literal, is_phrase_part, begins_phrase, is_phrase, is_display_name, is_dotted, is_local_part, begins_literal, is_domain, is_no_at, spec_of, is_addr_spec, begins_hop, is_hop, are_hops, is_route, is_no_colon, inner_of, is_inner}
+use Rattle.mail_header.specs.Mailboxes.{mark_in, mark_of, has_mark, is_gap, is_atom_kind, is_atom, is_word_kind, is_word, is_literal_kind, has_no_opener, behind_first, is_literal, is_phrase_part, begins_phrase, is_phrase, is_display_name, is_dotted, is_local_part, begins_literal, is_domain, is_no_at, spec_of, is_addr_spec, begins_hop, is_hop, are_hops, is_route, is_no_colon, inner_of, is_inner}
 use Rattle.mail_header.specs.AddressLists.{is_no_comma}
 use Rattle.mail_header.specs.ElementReading.{are_hops_behind}
 
@@ -73,7 +73,7 @@ atom_mark s e = by s.kind s.text e
     by kind.Comment t e = refl
 
 literal_mark : (s : Spelled) → is_literal s ≡ true → mark_of s ≡ 0
-literal_mark s e = by s.kind s.text e
+literal_mark s e = by s.kind s.text (and_parts (is_literal_kind s.kind) (has_no_opener false (behind_first s.text)) e).0
   where
     by : (k : Kind) (t : List ℕ) → is_literal_kind k ≡ true → mark_in k t ≡ 0
     by kind.Mark t e = absurd cc

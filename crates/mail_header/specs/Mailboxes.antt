@@ -47,8 +47,22 @@ abbrev pub is_literal_kind : Kind → Bool
 is_literal_kind kind.Literal = true
 is_literal_kind _ = false
 
+-- the octet is this sign, and `escaped` doesn't say that a backslash stands directly before it
+abbrev pub is_bare : ℕ → Bool → ℕ → Bool
+is_bare sign escaped c = not escaped && c == sign
+
+-- no "[" stands in the text but behind a backslash
+abbrev pub has_no_opener : Bool → List ℕ → Bool
+has_no_opener escaped [] = true
+has_no_opener escaped (c ∷ t) = not (is_bare 91 escaped c) && has_no_opener (is_bare 92 escaped c) t
+
+abbrev pub behind_first : List ℕ → List ℕ
+behind_first [] = []
+behind_first (c ∷ t) = t
+
+-- domain-literal
 abbrev pub is_literal : Spelled → Bool
-is_literal s = is_literal_kind s.kind
+is_literal s = is_literal_kind s.kind && has_no_opener false (behind_first s.text)
 
 -- ---- phrase = word *(word / "." / CFWS)
 

@@ -1,4 +1,4 @@
-ghost use Rattle.std.specs.Prelude.{◌≡◌, Bool};
+ghost use Rattle.std.specs.Prelude.{◌≡◌, Bool, false};
 ghost use Rattle.std.specs.List.{list_all, list_any};
 ghost use Rattle.text_words.specs.Cuts.{front, back};
 ghost use Rattle.mail_header.specs.Tokens.{Spelled};
@@ -219,11 +219,42 @@ pub(crate) fn is_word(token: &Token<'_>) -> bool
     }
 }
 
+/// A domain literal (RFC 5322 section 3.4.1).
 pub(crate) fn is_literal(token: &Token<'_>) -> bool
     ensures { result ≡ mailboxes.is_literal (token_view token.now) }
 {
     match token.kind {
-        Kind::Literal => true,
+        Kind::Literal => has_no_opener(behind_first(token.text)),
         Kind::Atom | Kind::Quoted | Kind::Space | Kind::Comment | Kind::Mark => false,
     }
+}
+
+fn behind_first(text: &[u8]) -> &[u8]
+    ensures { result.now ≡ mailboxes.behind_first text.now }
+{
+    match text {
+        [] => text,
+        [_first, rest @ ..] => rest,
+    }
+}
+
+/// Whether no `[` stands in the text but behind a backslash.
+fn has_no_opener(text: &[u8]) -> bool
+    ensures { result ≡ mailboxes.has_no_opener false text.now }
+{
+    let mut escaped = false;
+    for octet in text {
+        if is_bare(b'[', escaped, *octet) {
+            return false;
+        }
+        escaped = is_bare(b'\\', escaped, *octet);
+    }
+    true
+}
+
+/// Whether the octet is this sign, and no backslash stands directly before it.
+fn is_bare(sign: u8, escaped: bool, octet: u8) -> bool
+    ensures { result ≡ mailboxes.is_bare sign escaped octet }
+{
+    !escaped && octet == sign
 }
