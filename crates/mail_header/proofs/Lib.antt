@@ -4,3 +4,10 @@ pub mod BracketLemmas
 pub mod BracketSteps
 pub mod BracketContents
 pub mod OneToken
+pub mod ClassLemmas
+pub mod MailboxLemmas
+pub mod ElementLemmas
+pub mod AddresseeLemmas
+pub mod GroupLemmas
+pub mod TextLemmas
+pub mod FormLemmas

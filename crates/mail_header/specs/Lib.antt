@@ -8,3 +8,9 @@ pub mod TokenReading
 pub mod TokenView
 pub mod Lexemes
 pub mod Dates
+pub mod Mailboxes
+pub mod AddressLists
+pub mod Names
+pub mod ElementReading
+pub mod ElementView
+pub mod GroupBuilding

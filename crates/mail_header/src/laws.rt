@@ -1,4 +1,8 @@
-ghost use Rattle.std.specs.Prelude.{◌≡◌, ℕ, List};
+ghost use Rattle.std.specs.Prelude.{◌≡◌, ℕ, List, Option};
+ghost use Rattle.mail_header.specs.declared.address.Address.{Address};
+ghost use Rattle.mail_header.specs.declared.address.Group.{Group};
+ghost use Rattle.mail_header.specs.AddressLists.{Addressee, IsAddressList};
+ghost use Rattle.mail_header.specs.Names.{IsAddressesForm, IsGroupsForm};
 ghost use Rattle.mail_header.specs.Bracketed.{HasPieces};
 ghost use Rattle.mail_header.specs.Fields.{IsHeader, NameAndRaw};
 
@@ -11,4 +15,15 @@ pub fn one_header()
 /// No text has two lists of pieces in angle brackets.
 pub fn one_list_of_pieces()
     ensures { (m n : List (List ℕ)) (b : List ℕ) → HasPieces m b → HasPieces n b → m ≡ n }
+{}
+
+/// No text has two lists of mailboxes and groups.
+pub fn one_address_list()
+    ensures { (one other : List Addressee) (t : List ℕ) → IsAddressList one t → IsAddressList other t → one ≡ other }
+{}
+
+/// No raw value has two readings as addresses, nor as groups.
+pub fn one_reading_of_addresses()
+    ensures addresses { (one other : Option (List Address)) (raw : List ℕ) → IsAddressesForm raw one → IsAddressesForm raw other → one ≡ other }
+    ensures groups { (one other : Option (List Group)) (raw : List ℕ) → IsGroupsForm raw one → IsGroupsForm raw other → one ≡ other }
 {}

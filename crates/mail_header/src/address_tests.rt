@@ -1,0 +1,315 @@
+use crate::address::{Address, Group};
+use crate::address_lists::{as_addresses, as_groups};
+use crate::blocks::fields;
+use crate::bracketed::as_message_ids;
+use crate::moments::as_date;
+use crate::raw_forms::as_text;
+use std::alloc::{AllocError, Global};
+use std::test::Fail;
+
+/// A reading written out: each address as `name<email>`, or `-<email>` without a name, with `|` behind it.
+fn push_address(text: &mut Vec<u8>, address: &Address) -> Result<(), AllocError> {
+    match &address.name {
+        None => text.push(b'-')?,
+        Some(name) => text.extend_from_slice(name.as_slice())?,
+    }
+    text.push(b'<')?;
+    text.extend_from_slice(address.email.as_slice())?;
+    text.extend_from_slice(b">|")
+}
+
+fn addresses_text(alloc: Global, raw: &[u8]) -> Result<Vec<u8>, AllocError> {
+    let mut text = Vec::new(alloc);
+    match as_addresses(alloc, raw)? {
+        None => text.extend_from_slice(b"null")?,
+        Some(list) => {
+            for address in list.as_slice() {
+                push_address(&mut text, address)?;
+            }
+        }
+    }
+    Ok(text)
+}
+
+/// Each group as `name:`, or `-:` without a name, its addresses, and `;`.
+fn push_group(text: &mut Vec<u8>, group: &Group) -> Result<(), AllocError> {
+    match &group.name {
+        None => text.push(b'-')?,
+        Some(name) => text.extend_from_slice(name.as_slice())?,
+    }
+    text.push(b':')?;
+    for address in group.members.as_slice() {
+        push_address(text, address)?;
+    }
+    text.push(b';')?;
+    Ok(())
+}
+
+fn groups_text(alloc: Global, raw: &[u8]) -> Result<Vec<u8>, AllocError> {
+    let mut text = Vec::new(alloc);
+    match as_groups(alloc, raw)? {
+        None => text.extend_from_slice(b"null")?,
+        Some(list) => {
+            for group in list.as_slice() {
+                push_group(&mut text, group)?;
+            }
+        }
+    }
+    Ok(text)
+}
+
+/// The examples of RFC 5322 appendix A.
+#[test]
+fn examples_of_the_standard_are_read(rt: HostRuntime) -> Result<(), Fail> {
+    let rows: [(&[u8], &[u8]); 14] = [
+        (
+            b" John Doe <jdoe@machine.example>",
+            b"John Doe<jdoe@machine.example>|",
+        ),
+        (
+            b" Mary Smith <mary@example.net>",
+            b"Mary Smith<mary@example.net>|",
+        ),
+        (
+            b"Michael Jones <mjones@machine.example>",
+            b"Michael Jones<mjones@machine.example>|",
+        ),
+        (
+            b" \"Joe Q. Public\" <john.q.public@example.com>",
+            b"Joe Q. Public<john.q.public@example.com>|",
+        ),
+        (
+            b" Mary Smith <mary@x.test>, jdoe@example.org, Who? <one@y.test>",
+            b"Mary Smith<mary@x.test>|-<jdoe@example.org>|Who?<one@y.test>|",
+        ),
+        (
+            b"<boss@nil.test>, \"Giant; \\\"Big\\\" Box\" <sysservices@example.net>",
+            b"-<boss@nil.test>|Giant; \"Big\" Box<sysservices@example.net>|",
+        ),
+        (b" Pete <pete@silly.example>", b"Pete<pete@silly.example>|"),
+        (
+            b"A Group:Ed Jones <joe@where.test>,joe@where.test,John <jdoe@one.test>;",
+            b"Ed Jones<joe@where.test>|-<joe@where.test>|John<jdoe@one.test>|",
+        ),
+        (
+            b" \"Mary Smith: Personal Account\" <smith@home.example>",
+            b"Mary Smith: Personal Account<smith@home.example>|",
+        ),
+        (
+            b" Pete(A nice \\) chap) <pete(his account)@silly.test(his host)>",
+            b"Pete<pete@silly.test>|",
+        ),
+        (
+            b"A Group(Some people)\r\n     :Chris Jones <c@(Chris's host.)public.example>,\r\n         joe@example.org,\r\n  John <jdoe@one.test> (my dear friend); (the end of the group)",
+            b"Chris Jones<c@public.example>|-<joe@example.org>|John<jdoe@one.test>|",
+        ),
+        (
+            b"Joe Q. Public <john.q.public@example.com>",
+            b"Joe Q. Public<john.q.public@example.com>|",
+        ),
+        (
+            b"Mary Smith <@node.test:mary@example.net>, , jdoe@test  . example",
+            b"Mary Smith<mary@example.net>|-<jdoe@test.example>|",
+        ),
+        (
+            b" Mary Smith\r\n          \r\n  <mary@example.net>",
+            b"Mary Smith<mary@example.net>|",
+        ),
+    ];
+    for row in rows {
+        let text = addresses_text(rt.alloc(), row.0)?;
+        assert_eq!(rt; text.as_slice(), row.1);
+    }
+    Ok(())
+}
+
+/// Names, comments, routes, groups and obsolete forms, and values that are no list of addresses.
+#[test]
+fn values_are_addresses(rt: HostRuntime) -> Result<(), Fail> {
+    let rows: [(&[u8], &[u8]); 88] = [
+        (
+            b" =?utf-8?Q?Ren=C3=A9?= <rene@example.org>",
+            b"Ren\xC3\xA9<rene@example.org>|",
+        ),
+        (
+            b" Team: ann@example.org, \"B. Ob\" <bob@example.org>;",
+            b"-<ann@example.org>|B. Ob<bob@example.org>|",
+        ),
+        (b"G: a@x, b (Bob);", b"-<a@x>|Bob<b>|"),
+        (
+            b"=?US-ASCII?Q?Keith_Moore?= <moore@cs.utk.edu>",
+            b"Keith Moore<moore@cs.utk.edu>|",
+        ),
+        (
+            b"=?ISO-8859-1?Q?Keld_J=F8rn_Simonsen?= <keld@dkuug.dk>",
+            b"Keld J\xC3\xB8rn Simonsen<keld@dkuug.dk>|",
+        ),
+        (
+            b"=?ISO-8859-1?Q?Andr=E9?= Pirard <PIRARD@vm1.ulg.ac.be>",
+            b"Andr\xC3\xA9 Pirard<PIRARD@vm1.ulg.ac.be>|",
+        ),
+        (
+            b"Patrik =?ISO-8859-1?Q?F=E4ltstr=F6m?= <paf@nada.kth.se>",
+            b"Patrik F\xC3\xA4ltstr\xC3\xB6m<paf@nada.kth.se>|",
+        ),
+        (b"a@b (=?ISO-8859-1?Q?a?= =?ISO-8859-1?Q?b?=)", b"ab<a@b>|"),
+        (b"=?utf-8?Q?a.b?= <x@y>", b"a.b<x@y>|"),
+        (b"\"=?utf-8?Q?a?=\" <x@y>", b"a<x@y>|"),
+        (b"\"\" <a@b>", b"<a@b>|"),
+        (b"A.B. C <x@y>", b"A.B. C<x@y>|"),
+        (b"A \t (c) B <x@y>", b"A B<x@y>|"),
+        (b"A(c)B <x@y>", b"A B<x@y>|"),
+        (b"\"a\"b <x@y>", b"ab<x@y>|"),
+        (b"\"a\\b\r\n c\" <x@y>", b"ab c<x@y>|"),
+        (b"\"a\x01b\" <x@y>", b"a\x01b<x@y>|"),
+        (
+            b"J\xC3\xBCrgen <j\xC3\xBC@b>",
+            b"J\xC3\xBCrgen<j\xC3\xBC@b>|",
+        ),
+        (b"a\x00b@c", b"-<ab@c>|"),
+        (b"\xFF@c", b"-<\xEF\xBF\xBD@c>|"),
+        (b"a", b"-<a>|"),
+        (b"<a>", b"-<a>|"),
+        (b"<@x:a>", b"-<a>|"),
+        (b"<@a,@b:c@d>", b"-<c@d>|"),
+        (b"N < , @a.x ,, @[1.2.3.4] , : c@d >", b"N<c@d>|"),
+        (b"\"a b\"@c", b"-<\"a b\"@c>|"),
+        (b"\"a\\\"\".b . \"c\"@d", b"-<\"a\\\"\".b.\"c\"@d>|"),
+        (b"a@[10.0.0.1]", b"-<a@[10.0.0.1]>|"),
+        (b"a@[1\r\n .2\\[]", b"-<a@[1 .2\\[]>|"),
+        (b"a@b (x (y) z)", b"x (y) z<a@b>|"),
+        (b"a@b ( \\(x\\)\r\n y\t)", b"(x) y<a@b>|"),
+        (b"a@b ()", b"-<a@b>|"),
+        (b"a@b ( \r\n )", b"-<a@b>|"),
+        (b"a@b (x) (y)", b"x<a@b>|"),
+        (b"(x) a@b", b"-<a@b>|"),
+        (b"a(x)@(y)b", b"-<a@b>|"),
+        (b"<a@b> (x)", b"x<a@b>|"),
+        (b"(x) <a@b(y)>", b"-<a@b>|"),
+        (b"N <a@b> (x)", b"N<a@b>|"),
+        (b", a@b, , c@d ,(x),", b"-<a@b>|-<c@d>|"),
+        (b"g:;", b""),
+        (b"g : (c) , ;", b""),
+        (b"a@x, g: b@y;, c@z, d@w", b"-<a@x>|-<b@y>|-<c@z>|-<d@w>|"),
+        (b"", b"null"),
+        (b" \r\n ", b"null"),
+        (b" ,(x), ,", b"null"),
+        (b"a..b@c", b"null"),
+        (b".a@b", b"null"),
+        (b"a.@b", b"null"),
+        (b"a@b.", b"null"),
+        (b"a@.b", b"null"),
+        (b"a@", b"null"),
+        (b"@b", b"null"),
+        (b"a@\"b\"", b"null"),
+        (b"a@b@c", b"null"),
+        (b"a@[b[c]", b"null"),
+        (b"a@[b].c", b"null"),
+        (b"<>", b"null"),
+        (b"<a@b", b"null"),
+        (b"a@b>", b"null"),
+        (b"<<a@b>>", b"null"),
+        (b"<a@b> c", b"null"),
+        (b"a@b <c@d>", b"null"),
+        (b". A <x@y>", b"null"),
+        (b"<:a@b>", b"null"),
+        (b"<,:a@b>", b"null"),
+        (b"<@a@b:c@d>", b"null"),
+        (b"<@a:@b:c@d>", b"null"),
+        (b"<a:c@d>", b"null"),
+        (b"a b", b"null"),
+        (b"a@b c@d", b"null"),
+        (b"a@b; c@d", b"null"),
+        (b"a@b, c@, d@e", b"null"),
+        (b"g: a@b, c d;", b"null"),
+        (b"a\x01@b", b"null"),
+        (b"a\x7F@b", b"null"),
+        (b"(a@b", b"null"),
+        (b"a@b)", b"null"),
+        (b"\"a@b", b"null"),
+        (b"a@[b", b"null"),
+        (b"a\\@b", b"null"),
+        (b"g:a@b", b"null"),
+        (b"g:a@b;;", b"null"),
+        (b"g:h:a@b;;", b"null"),
+        (b":a@b;", b"null"),
+        (b"g:;c@d", b"null"),
+        (b"g:a@b; (c) d@e", b"null"),
+        (b";", b"null"),
+    ];
+    for row in rows {
+        let text = addresses_text(rt.alloc(), row.0)?;
+        assert_eq!(rt; text.as_slice(), row.1);
+        let groups = as_groups(rt.alloc(), row.0)?;
+        assert_eq!(rt; groups.is_none(), row.1 == b"null".as_slice());
+    }
+    Ok(())
+}
+
+#[test]
+fn addresses_stand_in_groups(rt: HostRuntime) -> Result<(), Fail> {
+    let rows: [(&[u8], &[u8]); 11] = [
+        (
+            b"a@x, g: b@y;, c@z, d@w",
+            b"-:-<a@x>|;g:-<b@y>|;-:-<c@z>|-<d@w>|;",
+        ),
+        (b"G: a@x, b (Bob);", b"G:-<a@x>|Bob<b>|;"),
+        (b"g:;", b"g:;"),
+        (b"g: , ;, \"h i\" : ;", b"g:;h i:;"),
+        (b"a@b,, c@d,", b"-:-<a@b>|-<c@d>|;"),
+        (b"=?utf-8?Q?G=C3=A9?= (c) x:a@b;", b"G\xC3\xA9 x:-<a@b>|;"),
+        (b"Undisclosed recipients:;(c)", b"Undisclosed recipients:;"),
+        (b"a@b, c@, d@e", b"null"),
+        (b"g:a@b", b"null"),
+        (b" , ", b"null"),
+        (b"", b"null"),
+    ];
+    for row in rows {
+        let text = groups_text(rt.alloc(), row.0)?;
+        assert_eq!(rt; text.as_slice(), row.1);
+    }
+    Ok(())
+}
+
+/// So many of the piece, one behind another.
+fn many(alloc: Global, piece: &[u8], count: usize) -> Result<Vec<u8>, AllocError> {
+    let mut text = Vec::new(alloc);
+    for _ in 0..count {
+        text.extend_from_slice(piece)?;
+    }
+    Ok(text)
+}
+
+/// Ten thousand of each opener are read by every form, and so is a long line of addresses.
+#[test]
+fn long_values_are_read(rt: HostRuntime) -> Result<(), Fail> {
+    let alloc = rt.alloc();
+    let openers: [&[u8]; 7] = [b"(", b"\"", b"<", b"[", b" =?", b"g:", b"\\"];
+    for opener in openers {
+        let text = many(alloc, opener, 10_000)?;
+        assert!(rt; as_addresses(alloc, text.as_slice())?.is_none());
+        assert!(rt; as_groups(alloc, text.as_slice())?.is_none());
+        assert!(rt; as_date(alloc, text.as_slice())?.is_none());
+        assert!(rt; as_message_ids(alloc, text.as_slice())?.is_none());
+        assert!(rt; as_text(alloc, text.as_slice())?.as_slice().len() > 9_000);
+        assert_eq!(rt; fields(alloc, text.as_slice())?.end(), text.len());
+    }
+    let atom = many(alloc, b"=?", 10_000)?;
+    assert!(rt; as_addresses(alloc, atom.as_slice())?.is_some());
+    assert_eq!(rt;
+        as_text(alloc, atom.as_slice())?.as_slice(),
+        atom.as_slice()
+    );
+    let commas = many(alloc, b",", 10_000)?;
+    assert!(rt; as_addresses(alloc, commas.as_slice())?.is_none());
+    let list = many(alloc, b"A =?utf-8?Q?B?= <a@b> (c), ", 20_000)?;
+    match as_addresses(alloc, list.as_slice())? {
+        None => assert!(rt; false),
+        Some(found) => assert_eq!(rt; found.len(), 20_000),
+    }
+    match as_groups(alloc, list.as_slice())? {
+        None => assert!(rt; false),
+        Some(found) => assert_eq!(rt; found.len(), 1),
+    }
+    Ok(())
+}
