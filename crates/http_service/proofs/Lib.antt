@@ -1,0 +1,5 @@
+pub mod SendingLemmas
+pub mod FieldLemmas
+pub mod HeadLemmas
+pub mod HeadEndLemmas
+pub mod HeadReadingLemmas

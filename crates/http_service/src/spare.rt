@@ -1,0 +1,88 @@
+// What the client gave and that isn't read yet.
+ghost use Rattle.std.specs.Prelude.{◌≡◌, ◌<◌, ◌≤◌, [], length, drop, IsErrOf};
+ghost use Rattle.gate_world.specs.Causes.{Rose, FrontAlone};
+ghost use Rattle.gate_world.specs.Tape.{Adds};
+ghost use Rattle.http_service.specs.Reading.{Fills, Grows};
+
+use crate::error::HttpError;
+use gate_world::Front;
+use std::alloc::{AllocError, Global};
+use std::marker::Model;
+
+/// The most octets that one recv asks for.
+const PIECE: usize = 8192;
+
+/// The octets of a connection that came behind what was read of it.
+#[derive(Drop)]
+pub struct Spare {
+    held: Vec<u8>,
+    from: usize,
+}
+
+impl Model for Spare {
+    ghost use Rattle.std.specs.Prelude.{◌≤◌, List, ℕ, vec_len, drop};
+
+    ghost Value = { List ℕ };
+
+    ghost view = { λ s. drop s.from s.held.items };
+
+    ghost invariant = { λ s. s.from ≤ vec_len s.held };
+}
+
+impl Spare {
+    /// Nothing has come yet. It takes no memory.
+    pub fn new(alloc: Global) -> Spare
+        ensures { result ≡ [] }
+    {
+        Spare {
+            held: Vec::new(alloc),
+            from: 0,
+        }
+    }
+
+    pub(crate) fn as_slice(&self) -> &[u8]
+        ensures { result.now ≡ self.now }
+    {
+        &self.held[self.from..]
+    }
+
+    /// So many octets are read.
+    pub(crate) fn skip(&mut self, count: usize)
+        requires { count ≤ length self.old }
+        ensures { self.new ≡ drop count self.old }
+    {
+        self.from += count;
+    }
+
+    // Gives back the room of what is read.
+    fn compact(&mut self) -> Result<(), AllocError>
+        ensures { self.new ≡ self.old }
+    {
+        if self.from != 0 {
+            let alloc = *self.held.allocator();
+            self.held = self.held[self.from..].to_vec(alloc)?;
+            self.from = 0;
+        }
+        Ok(())
+    }
+
+    /// Reads at most so many octets more, and says whether some came.
+    pub(crate) fn fill<F: Front>(&mut self, front: &mut F, most: usize) -> Result<bool, HttpError>
+        requires { 0 < most }
+        ensures tape { Adds (F.tape front.old) (F.tape front.new) (Fills self.old self.new result) }
+        ensures grows { Grows self.old self.new most result }
+        ensures alone { FrontAlone (F.faults front.old) (F.faults front.new) }
+        ensures cause { IsErrOf result HttpError.FrontFault → Rose (F.faults front.old).front (F.faults front.new).front }
+        ensures hidden { F.hidden front.new ≡ F.hidden front.old }
+    {
+        self.compact()?;
+        let mut piece = [0u8; PIECE];
+        let (part, _) = piece.split_at_mut(PIECE.min(most));
+        let count = front.recv(part)?;
+        if count == 0 {
+            return Ok(false);
+        }
+        self.held.extend_from_slice(&part[..count])?;
+        Ok(true)
+    }
+}
