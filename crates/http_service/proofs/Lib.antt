@@ -3,3 +3,4 @@ pub mod FieldLemmas
 pub mod HeadLemmas
 pub mod HeadEndLemmas
 pub mod HeadReadingLemmas
+pub mod BodyLemmas

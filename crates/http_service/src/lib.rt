@@ -1,6 +1,7 @@
 //! HTTP/1.x at a server's edge (RFC 9112): heads of requests, bodies, and responses.
 #![tactic(auto)]
 
+mod body;
 mod error;
 mod fields;
 mod head;

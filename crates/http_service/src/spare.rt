@@ -1,13 +1,14 @@
 // What the client gave and that isn't read yet.
-ghost use Rattle.std.specs.Prelude.{◌≡◌, ◌<◌, ◌≤◌, [], length, drop, IsErrOf};
+ghost use Rattle.std.specs.Prelude.{◌≡◌, ◌<◌, ◌≤◌, [], length, take, drop, IfOk, OnOk, IsErrOf};
 ghost use Rattle.gate_world.specs.Causes.{Rose, FrontAlone};
 ghost use Rattle.gate_world.specs.Tape.{Adds};
-ghost use Rattle.http_service.specs.Reading.{Fills, Grows};
+ghost use Rattle.http_service.specs.Reading.{Fills, FillsTo, Grows};
 
 use crate::error::HttpError;
 use gate_world::Front;
 use std::alloc::{AllocError, Global};
 use std::marker::Model;
+use std::mem;
 
 /// The most octets that one recv asks for.
 const PIECE: usize = 8192;
@@ -84,5 +85,37 @@ impl Spare {
         }
         self.held.extend_from_slice(&part[..count])?;
         Ok(true)
+    }
+
+    /// Reads until so many octets stand there, and none that aren't needed for that.
+    pub(crate) fn fill_to<F: Front>(&mut self, front: &mut F, size: usize) -> Result<(), HttpError>
+        ensures tape { Adds (F.tape front.old) (F.tape front.new) (FillsTo size self.old self.new result) }
+        ensures filled { OnOk result (size ≤ length self.new) }
+        ensures alone { FrontAlone (F.faults front.old) (F.faults front.new) }
+        ensures cause { IsErrOf result HttpError.FrontFault → Rose (F.faults front.old).front (F.faults front.new).front }
+        ensures hidden { F.hidden front.new ≡ F.hidden front.old }
+    {
+        'filling: while self.as_slice().len() < size {
+            let missing = size - self.as_slice().len();
+            if !self.fill(front, missing)? {
+                return Err(HttpError::Short);
+            }
+        }
+        Ok(())
+    }
+
+    /// Takes so many octets off the front.
+    pub(crate) fn take_front(&mut self, alloc: Global, size: usize) -> Result<Vec<u8>, AllocError>
+        requires { size ≤ length self.old }
+        ensures taken { IfOk result (λ taken. taken.items ≡ take size self.old) }
+        ensures rest { OnOk result (self.new ≡ drop size self.old) }
+    {
+        if self.from == 0 && self.held.len() == size {
+            return Ok(mem::replace(&mut self.held, Vec::new(alloc)));
+        }
+        let (front, _) = self.as_slice().split_at(size);
+        let taken = front.to_vec(alloc)?;
+        self.skip(size);
+        Ok(taken)
     }
 }
