@@ -15,7 +15,7 @@ run-append place (c ∷ xs) ys = run-append (step place c) xs ys
 pub run_more : (place : Place) (octets : List ℕ) (i : ℕ) → i < length octets → run place (take (i + 1) octets) ≡ step (run place (take i octets)) (get_or octets i 0)
 run_more place octets i lt = ap (run place) (take_more octets i 0 lt) ∙ run-append place (take i octets) (get_or octets i 0 ∷ [])
 
-stays_ended : (octets : List ℕ) → run Ended octets ≡ Ended
+pub stays_ended : (octets : List ℕ) → run Ended octets ≡ Ended
 stays_ended [] = refl
 stays_ended (c ∷ octets) = stays_ended octets
 
@@ -25,30 +25,30 @@ stays_blank (crlf ∷ ends) octets = stays_blank ends octets
 stays_blank (lf ∷ ends) octets = stays_blank ends octets
 
 -- something but line ends has come
-abbrev Past : Place → Type 0
+abbrev pub Past : Place → Type 0
 Past Blank = ⊥
 Past Inside = Unit {0}
 Past Begun = Unit {0}
 Past Returned = Unit {0}
 Past Ended = Unit {0}
 
-past_either : (b : Bool) (p q : Place) → Past p → Past q → Past (cond b p q)
+pub past_either : (b : Bool) (p q : Place) → Past p → Past q → Past (cond b p q)
 past_either true p q x y = x
 past_either false p q x y = y
 
-past_step : (place : Place) (c : ℕ) → Past place → Past (step place c)
+pub past_step : (place : Place) (c : ℕ) → Past place → Past (step place c)
 past_step Blank c past = absurd past
 past_step Inside c past = past_either (c == 10) Begun Inside tt tt
 past_step Begun c past = past_either (c == 10) Ended (cond (c == 13) Returned Inside) tt (past_either (c == 13) Returned Inside tt tt)
 past_step Returned c past = past_either (c == 10) Ended Inside tt tt
 past_step Ended c past = tt
 
-past_run : (place : Place) (octets : List ℕ) → Past place → Past (run place octets)
+pub past_run : (place : Place) (octets : List ℕ) → Past place → Past (run place octets)
 past_run place [] past = past
 past_run place (c ∷ octets) past = past_run (step place c) octets (past_step place c past)
 
 -- an empty line behind a line's end
-empty_line : (place : Place) (last : LineEnd) → Past place → run place (10 ∷ print_end last) ≡ Ended
+pub empty_line : (place : Place) (last : LineEnd) → Past place → run place (10 ∷ print_end last) ≡ Ended
 empty_line Blank last past = absurd past
 empty_line Inside crlf past = refl
 empty_line Inside lf past = refl
@@ -67,7 +67,7 @@ begins_line c token =
     grind (arith, other, another)
 
 -- lines end in a line feed
-lines_end : (text : List ℕ) (e : LineEnd) (fields : List Field) → (more : List ℕ) × ((text ++ print_end e) ++ flat_map print_field fields ≡ text ++ (more ++ 10 ∷ []))
+pub lines_end : (text : List ℕ) (e : LineEnd) (fields : List Field) → (more : List ℕ) × ((text ++ print_end e) ++ flat_map print_field fields ≡ text ++ (more ++ 10 ∷ []))
 lines_end text crlf [] = (13 ∷ [], append-nil (text ++ 13 ∷ 10 ∷ []))
 lines_end text lf [] = ([], append-nil (text ++ 10 ∷ []))
 lines_end text e (f ∷ fields) =

@@ -4,3 +4,6 @@ pub mod HeadLemmas
 pub mod HeadEndLemmas
 pub mod HeadReadingLemmas
 pub mod BodyLemmas
+pub mod PartLemmas
+pub mod PartReadingLemmas
+pub mod ChunkLemmas

@@ -5,3 +5,7 @@ pub mod Heads
 pub mod Reading
 pub mod HeadEnd
 pub mod HeadReading
+pub mod Chunks
+pub mod PartReading
+pub mod ChunkedBody
+pub mod Bodies

@@ -126,7 +126,7 @@ fn head_of(
 }
 
 // Room for the fields of a head of so many octets: each takes two at least.
-fn room(alloc: Global, octets: usize) -> Result<Vec<HeaderSpan>, AllocError>
+pub(crate) fn room(alloc: Global, octets: usize) -> Result<Vec<HeaderSpan>, AllocError>
     ensures { IfOk result (λ fields. octets ≤ 2 * vec_len fields) }
 {
     vec![in alloc; EMPTY_HEADER_SPAN; octets / 2 + 1]

@@ -14,7 +14,7 @@ use gate_world::Front;
 use std::alloc::Global;
 
 // The octets that a head may stand in.
-fn window(octets: &[u8]) -> &[u8]
+pub(crate) fn window(octets: &[u8]) -> &[u8]
     ensures { result.now ≡ window octets.now }
 {
     if octets.len() < MAX_HEAD_OCTETS {

@@ -2,14 +2,18 @@
 #![tactic(auto)]
 
 mod body;
+mod chunks;
 mod error;
 mod fields;
 mod head;
 mod head_end;
 mod head_reading;
+mod part;
+mod part_reading;
 mod response;
 mod spare;
 
+pub use body::read_body;
 pub use error::HttpError;
 pub use head::{BodyKind, Head, MAX_HEAD_OCTETS};
 pub use head_reading::read_head;
