@@ -1,0 +1,70 @@
+-- What the parser's answers say of a head.
+use Rattle.std.proofs.Common.{◌≡◌, ◌≢◌, ◌≤◌, ◌<◌, ◌*◌, ◌++◌, ℕ, List, [], ◌∷◌, length, take, map, refl, ap, subst, arith, length-append, inl, inr, Ok, Err, Result}
+use Rattle.std.specs.List.{flat_map}
+use Rattle.httparse.specs.declared.Error.{Error}
+use Rattle.httparse.specs.declared.Error.TheVariants.{HeaderName, HeaderValue, NewLine, Status, Token, TooManyHeaders, Version}
+use Rattle.httparse.specs.declared.spans.HeaderSpan.{HeaderSpan}
+use Rattle.httparse.specs.declared.spans.RequestSpans.{RequestSpans}
+use Rattle.httparse.specs.Ascii.{space, colon}
+use Rattle.httparse.specs.Grammar.{LineEnd, crlf, lf, print_end, Field, print_field, print_section, RequestHead, print_request, print_blank, print_version, NeverHasRequest}
+use Rattle.httparse.specs.Spans.{span_bytes, header_bytes, name_and_value, IsRequestAt, IsRequestOf, RequestExceeds}
+use Rattle.http_service.specs.declared.head.Head.{Head}
+use Rattle.http_service.specs.declared.error.HttpError.{HttpError}
+use Rattle.http_service.specs.declared.error.HttpError.TheVariants as error
+use Rattle.http_service.specs.Heads.{Makes, Begins, BeginsBadly, Parses}
+
+end_long : (e : LineEnd) → 1 ≤ length (print_end e)
+end_long crlf = omega arith
+end_long lf = omega arith
+
+field_long : (f : Field) → 2 ≤ length (print_field f)
+field_long f =
+    omega (arith, length-append (f.name ++ colon ∷ f.raw) (print_end f.end), length-append f.name (colon ∷ f.raw), end_long f.end)
+
+fields_long : (fields : List Field) → 2 * length fields ≤ length (flat_map print_field fields)
+fields_long [] = omega arith
+fields_long (f ∷ fields) = omega (arith, length-append (print_field f) (flat_map print_field fields), field_long f, fields_long fields)
+
+pub section_long : (fields : List Field) (last : LineEnd) → 2 * length fields < length (print_section fields last)
+section_long fields last = omega (arith, length-append (flat_map print_field fields) (print_end last), end_long last, fields_long fields)
+
+request_long : (h : RequestHead) → length (print_section h.fields h.last) ≤ length (print_request h)
+unfolding print_request
+request_long h =
+    omega (arith, length-append (print_blank h.blank ++ h.method ++ space ∷ h.target ++ space ∷ print_version h.minor ++ print_end h.line_end) (print_section h.fields h.last))
+
+-- there is room for all fields
+not_too_many : (octets : List ℕ) (room : ℕ) → length octets ≤ 2 * room → RequestExceeds room octets → ⊥
+not_too_many octets room enough (front, rest, is, h, reads, more) =
+    omega (arith, enough, more, ap length is, length-append front rest, ap length reads.1, length-append front (print_end lf), length-append (print_request h) [], request_long h, section_long h.fields h.last)
+
+-- an error of the parser
+pub refused : (octets : List ℕ) (room : ℕ) (e : Error) → length octets ≤ 2 * room → (e ≢ TooManyHeaders → NeverHasRequest octets) → (◌≡◌ {A = Error} e TooManyHeaders → RequestExceeds room octets) → BeginsBadly octets
+refused octets room HeaderName enough never over = inl (never (λ is. cc))
+refused octets room HeaderValue enough never over = inl (never (λ is. cc))
+refused octets room NewLine enough never over = inl (never (λ is. cc))
+refused octets room Status enough never over = inl (never (λ is. cc))
+refused octets room Token enough never over = inl (never (λ is. cc))
+refused octets room TooManyHeaders enough never over = absurd (not_too_many octets room enough (over refl))
+refused octets room Version enough never over = inl (never (λ is. cc))
+
+-- what is made of a head, where its parts stand in the octets
+pub made : (octets : List ℕ) (headers : List HeaderSpan) (spans : RequestSpans) (h : RequestHead) (r : Result Head HttpError) → IsRequestAt octets headers spans h → Makes (span_bytes octets spans.method) (span_bytes octets spans.path) spans.version (map (header_bytes octets) (take spans.headers headers)) r → Makes h.method h.target h.minor (map name_and_value h.fields) r
+made octets headers spans h r at makes =
+    subst (λ (l : List ℕ). Makes l h.target h.minor (map name_and_value h.fields) r) at.method
+    (subst (λ (l : List ℕ). Makes (span_bytes octets spans.method) l h.minor (map name_and_value h.fields) r) at.path
+    (subst (λ (n : ℕ). Makes (span_bytes octets spans.method) (span_bytes octets spans.path) n (map name_and_value h.fields) r) at.version
+    (subst (λ (l : List (List ℕ × List ℕ)). Makes (span_bytes octets spans.method) (span_bytes octets spans.path) spans.version l r) at.fields makes)))
+
+-- the head that was found
+pub found : (octets : List ℕ) (headers : List HeaderSpan) (spans : RequestSpans) (head : Head) → IsRequestOf octets headers spans → Makes (span_bytes octets spans.method) (span_bytes octets spans.path) spans.version (map (header_bytes octets) (take spans.headers headers)) (Ok head) → Begins octets spans.len head
+found octets headers spans head (h, at) makes = (h, at.reads, at.len, made octets headers spans h (Ok head) at makes)
+
+-- the head that was found says no body, or memory was wanting
+pub not_made : (octets : List ℕ) (headers : List HeaderSpan) (spans : RequestSpans) (e : HttpError) → IsRequestOf octets headers spans → Makes (span_bytes octets spans.method) (span_bytes octets spans.path) spans.version (map (header_bytes octets) (take spans.headers headers)) (Err e) → Parses octets (Err e)
+not_made octets headers spans error.BadHead (h, at) makes = inr (h, _, at.reads, made octets headers spans h (Err error.BadHead) at makes)
+not_made octets headers spans error.HeadTooLarge so makes = absurd makes
+not_made octets headers spans (error.TooLarge limit) so makes = absurd makes
+not_made octets headers spans error.Short so makes = absurd makes
+not_made octets headers spans error.FrontFault so makes = absurd makes
+not_made octets headers spans error.Memory so makes = tt

@@ -1,0 +1,9 @@
+pub mod SendingLemmas
+pub mod FieldLemmas
+pub mod HeadLemmas
+pub mod HeadEndLemmas
+pub mod HeadReadingLemmas
+pub mod BodyLemmas
+pub mod PartLemmas
+pub mod PartReadingLemmas
+pub mod ChunkLemmas

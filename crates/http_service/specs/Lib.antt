@@ -1,0 +1,11 @@
+pub mod Sending
+pub mod Fields
+pub mod Values
+pub mod Heads
+pub mod Reading
+pub mod HeadEnd
+pub mod HeadReading
+pub mod Chunks
+pub mod PartReading
+pub mod ChunkedBody
+pub mod Bodies

@@ -1,0 +1,91 @@
+// A chunked body (RFC 9112 section 7.1).
+ghost use Rattle.std.specs.Prelude.{◌≡◌, ◌≤◌, ◌+◌, length, vec_len, OnOk, IsErrOf};
+ghost use Rattle.gate_world.specs.Causes.{Rose, FrontAlone};
+ghost use Rattle.gate_world.specs.Tape.{Adds};
+ghost use Rattle.http_service.specs.ChunkedBody.{ReadsOctet, ReadsData, ReadsChunk, ReadsChunks};
+
+use crate::error::HttpError;
+use crate::part::Part;
+use crate::part_reading::read_part;
+use crate::spare::Spare;
+use gate_world::{Bytes, Front};
+use std::alloc::Global;
+
+// Reads this octet.
+fn read_octet<F: Front>(front: &mut F, spare: &mut Spare, octet: u8) -> Result<(), HttpError>
+    ensures tape { Adds (F.tape front.old) (F.tape front.new) (ReadsOctet octet spare.old spare.new result) }
+    ensures alone { FrontAlone (F.faults front.old) (F.faults front.new) }
+    ensures cause { IsErrOf result HttpError.FrontFault → Rose (F.faults front.old).front (F.faults front.new).front }
+    ensures hidden { F.hidden front.new ≡ F.hidden front.old }
+{
+    spare.fill_to(front, 1)?;
+    if spare.as_slice()[0] != octet {
+        return Err(HttpError::BadHead);
+    }
+    spare.skip(1);
+    Ok(())
+}
+
+// Reads so many octets of data, and adds them to the body.
+fn read_data<F: Front>(
+    front: &mut F,
+    spare: &mut Spare,
+    size: usize,
+    body: &mut Vec<u8>,
+) -> Result<(), HttpError>
+    ensures tape { Adds (F.tape front.old) (F.tape front.new) (ReadsData size body.old.items body.new.items spare.old spare.new result) }
+    ensures grows { OnOk result (vec_len body.new ≡ vec_len body.old + size) }
+    ensures alone { FrontAlone (F.faults front.old) (F.faults front.new) }
+    ensures cause { IsErrOf result HttpError.FrontFault → Rose (F.faults front.old).front (F.faults front.new).front }
+    ensures hidden { F.hidden front.new ≡ F.hidden front.old }
+{
+    spare.fill_to(front, size)?;
+    let (octets, _) = spare.as_slice().split_at(size);
+    body.extend_from_slice(octets)?;
+    spare.skip(size);
+    Ok(())
+}
+
+// Reads a chunk's data and the line end behind it.
+fn read_chunk<F: Front>(
+    front: &mut F,
+    spare: &mut Spare,
+    size: usize,
+    body: &mut Vec<u8>,
+) -> Result<(), HttpError>
+    ensures tape { Adds (F.tape front.old) (F.tape front.new) (ReadsChunk size body.old.items body.new.items spare.old spare.new result) }
+    ensures grows { OnOk result (vec_len body.new ≡ vec_len body.old + size) }
+    ensures alone { FrontAlone (F.faults front.old) (F.faults front.new) }
+    ensures cause { IsErrOf result HttpError.FrontFault → Rose (F.faults front.old).front (F.faults front.new).front }
+    ensures hidden { F.hidden front.new ≡ F.hidden front.old }
+{
+    read_data(front, spare, size, body)?;
+    read_octet(front, spare, b'\r')?;
+    read_octet(front, spare, b'\n')
+}
+
+/// Reads a chunked body of at most so many octets.
+pub(crate) fn read_chunks<F: Front>(
+    alloc: Global,
+    front: &mut F,
+    spare: &mut Spare,
+    limit: u64,
+) -> Result<Bytes, HttpError>
+    ensures tape { Adds (F.tape front.old) (F.tape front.new) (ReadsChunks limit spare.old spare.new result) }
+    ensures alone { FrontAlone (F.faults front.old) (F.faults front.new) }
+    ensures cause { IsErrOf result HttpError.FrontFault → Rose (F.faults front.old).front (F.faults front.new).front }
+    ensures hidden { F.hidden front.new ≡ F.hidden front.old }
+{
+    let mut body = Vec::new(alloc);
+    'chunks: loop {
+        let size = read_part(alloc, front, spare, Part::Line)?;
+        if size == 0 {
+            read_part(alloc, front, spare, Part::Trailer)?;
+            return Ok(Bytes::from_vec(body));
+        }
+        if limit - (body.len() as u64) < size {
+            return Err(HttpError::TooLarge { limit });
+        }
+        read_chunk(front, spare, size as usize, &mut body)?;
+    }
+}

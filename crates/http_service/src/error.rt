@@ -1,0 +1,47 @@
+// Why a request isn't read.
+use gate_world::Failed;
+use std::alloc::AllocError;
+use thiserror::Error;
+
+/// Why a head or a body isn't read.
+#[derive(Clone, Copy, Debug, PartialEq, Eq, Error)]
+pub enum HttpError {
+    /// The octets begin no head, or no chunk where one is due; or the head's fields say no length of the body.
+    #[error("malformed request")]
+    BadHead,
+    /// `MAX_HEAD_OCTETS` came that may begin a head, and it isn't whole.
+    #[error("the head is too large")]
+    HeadTooLarge,
+    /// The body has more octets than this.
+    #[error("the body has more than {limit} octets")]
+    TooLarge { limit: u64 },
+    /// The client ended its input inside a head or a body.
+    #[error("the client ended its input")]
+    Short,
+    #[error("the front failed")]
+    FrontFault,
+    #[error("out of memory")]
+    Memory,
+}
+
+impl From<Failed> for HttpError {
+    ghost use Rattle.http_service.specs.declared.error.HttpError.TheVariants.{FrontFault};
+    ghost use Rattle.std.specs.Prelude.{◌≡◌};
+
+    ghost from_gives = { λ _ e. e ≡ FrontFault };
+
+    fn from(_: Failed) -> HttpError {
+        HttpError::FrontFault
+    }
+}
+
+impl From<AllocError> for HttpError {
+    ghost use Rattle.http_service.specs.declared.error.HttpError.TheVariants.{Memory};
+    ghost use Rattle.std.specs.Prelude.{◌≡◌};
+
+    ghost from_gives = { λ _ e. e ≡ Memory };
+
+    fn from(_: AllocError) -> HttpError {
+        HttpError::Memory
+    }
+}
