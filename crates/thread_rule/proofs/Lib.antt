@@ -1,0 +1,4 @@
+pub mod PieceLemmas
+pub mod BlobLemmas
+pub mod LeaderLemmas
+pub mod NormalForms

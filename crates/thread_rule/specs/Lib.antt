@@ -1,0 +1,3 @@
+pub mod Subject
+pub mod BaseSubject
+pub mod Reading
