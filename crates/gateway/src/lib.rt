@@ -11,7 +11,4 @@ mod segment;
 #[cfg(test)]
 mod tests;
 
-pub use front::{AskError, MAX_BODY_OCTETS, ask, send_all};
-pub use mail::{Mail, Marks, counts_of, mail_of};
-pub use program::{STATUS_DONE, STATUS_FRONT, STATUS_MEMORY, STATUS_WORDS, run};
-pub use request::Reply;
+pub use program::run;
