@@ -11,6 +11,7 @@ mod head_reading;
 mod part;
 mod part_reading;
 mod response;
+mod response_text;
 mod spare;
 
 pub use body::read_body;
@@ -18,4 +19,5 @@ pub use error::HttpError;
 pub use head::{BodyKind, Head, MAX_HEAD_OCTETS};
 pub use head_reading::read_head;
 pub use response::write_response;
+pub use response_text::response_head;
 pub use spare::Spare;
