@@ -12,6 +12,8 @@ mod part;
 mod part_reading;
 mod response;
 mod spare;
+#[cfg(test)]
+mod tests;
 
 pub use body::read_body;
 pub use error::HttpError;
