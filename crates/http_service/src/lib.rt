@@ -13,6 +13,8 @@ mod part_reading;
 mod response;
 mod response_text;
 mod spare;
+#[cfg(test)]
+mod tests;
 
 pub use body::read_body;
 pub use error::HttpError;
