@@ -1,11 +1,11 @@
 -- Leaders at the front of a text.
-use Rattle.std.proofs.Common.{◌≡◌, ◌≢◌, ℕ, ◌+◌, ◌<◌, Bool, true, false, List, [], ◌∷◌, ◌++◌, length, refl, sym, ap, ◌∙◌, subst, append_assoc, arith}
+use Rattle.std.proofs.Common.{◌≡◌, ℕ, ◌<◌, false, List, [], ◌∷◌, ◌++◌, length, refl, sym, ap, ◌∙◌, subst, append_assoc, arith}
 use Rattle.std.proofs.lemmas.List.{length-append}
 use Rattle.text_words.specs.Cuts.{Stops}
-use Rattle.text_words.specs.Octets.{is_blank, is_alpha}
+use Rattle.text_words.specs.Octets.{is_blank}
 use Rattle.thread_rule.specs.Subject.{IsWsp, IsBlob, IsReplyMark, IsMarkBehindBlobs, Mark, BehindBlob, IsLeader, Marked, BlankAtFront}
 use Rattle.thread_rule.specs.BaseSubject.{Drops, DropsBlob, Lacks}
-use Rattle.thread_rule.proofs.BlobLemmas.{word_letters, no_blank_letter, blob_whole, drops_whole, one_blob, one_mark, mark_is_no_blob}
+use Rattle.thread_rule.proofs.BlobLemmas.{word_letters, no_blank_letter, blob_whole, one_blob, one_mark, mark_is_no_blob}
 
 pub mark_stops : (m t : List ℕ) → IsReplyMark m → Stops is_blank (m ++ t)
 mark_stops m t i =

@@ -2,3 +2,5 @@ pub mod PieceLemmas
 pub mod BlobLemmas
 pub mod LeaderLemmas
 pub mod NormalForms
+pub mod IndexLemmas
+pub mod SearchLemmas

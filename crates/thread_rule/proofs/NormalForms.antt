@@ -1,10 +1,9 @@
 -- A text has one normal form under the steps.
-use Rattle.std.proofs.Common.{◌≡◌, ℕ, ◌≤◌, List, ◌++◌, length, refl, sym, ap, ◌∙◌, subst, ◌↔◌, Result, Ok, Err, arith}
+use Rattle.std.proofs.Common.{◌≡◌, ℕ, List, refl, sym, subst, ◌↔◌, Result, Ok, Err}
 use Rattle.std.specs.Result.{IfOk}
 use Rattle.thread_rule.specs.Subject.{IsLeader, IsTrailer}
-use Rattle.thread_rule.specs.BaseSubject.{Drops, DropsEnd, DropsBlob, DropsBlobBeforeText, Unwraps, Lacks, Step, Step2, Step3, Step4, Step6, Reaches, Stays, Goes, IsNormalFormOf}
-use Rattle.thread_rule.specs.Reading.{IsStripped}
-use Rattle.thread_rule.proofs.PieceLemmas.{one_trailer, one_inner, lacks_trailer_behind}
+use Rattle.thread_rule.specs.BaseSubject.{Drops, DropsEnd, DropsBlobBeforeText, Unwraps, Lacks, Step, Step2, Step3, Step4, Step6, Reaches, Stays, Goes, IsNormalFormOf}
+use Rattle.thread_rule.proofs.PieceLemmas.{one_trailer, one_inner}
 use Rattle.thread_rule.proofs.BlobLemmas.{one_blob}
 use Rattle.thread_rule.proofs.LeaderLemmas.{one_leader}
 

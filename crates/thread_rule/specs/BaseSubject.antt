@@ -1,6 +1,6 @@
 -- The base subject (RFC 5256 section 2.1): the steps as rewriting rules, each of which removes one piece of the
 -- text, and the normal form under them.
-use Rattle.std.specs.Prelude.{◌≡◌, ◌≢◌, ℕ, Bool, true, false, if◌then◌else◌, List, [], ◌∷◌, ◌++◌}
+use Rattle.std.specs.Prelude.{◌≡◌, ◌≢◌, ℕ, Bool, false, if◌then◌else◌, List, [], ◌∷◌, ◌++◌}
 use Rattle.text_words.specs.Cuts.{Stops}
 use Rattle.text_words.specs.Octets.{is_blank}
 use Rattle.thread_rule.specs.Subject.{IsBlob, IsLeader, IsTrailer, IsForwardHeader, IsForwardTrailer}

@@ -9,6 +9,9 @@ use gate_world::Bytes;
 use std::alloc::{AllocError, Global};
 use text_words::is_blank;
 
+#[cfg(test)]
+mod tests;
+
 /// The base subject of a Subject in its text form: without reply marks, blobs, trailers and the wrapping of forwarded
 /// subjects, by the steps of RFC 5256 section 2.1. Each text has exactly one.
 pub fn base_subject(alloc: Global, text: &[u8]) -> Result<Bytes, AllocError>

@@ -1,9 +1,14 @@
 //! How replies come into one conversation: the base subject of an Email, and the Thread of a new one.
 #![tactic(auto)]
 
-pub mod base;
-pub mod subject;
-#[cfg(test)]
-mod tests;
+mod base;
+mod book;
+mod entries;
+mod index;
+mod member;
+mod search;
+mod subject;
 
 pub use base::{base_of, base_subject};
+pub use book::ThreadBook;
+pub use member::{Member, Named};

@@ -1,4 +1,3 @@
-use Rattle.std.proofs.Common.{arith}
 use Rattle.thread_rule.specs.BaseSubject.{Step6}
 use Rattle.thread_rule.proofs.NormalForms.{reaches_on, reaches_more, no_step, is_the_form}
 use Rattle.thread_rule.proofs.base.base_of.Goals as goal

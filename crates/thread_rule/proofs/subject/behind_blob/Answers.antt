@@ -1,7 +1,4 @@
-use Rattle.std.proofs.Common.{◌≡◌, List, ℕ, ◌∷◌, sym, ap, ◌∙◌, subst}
-use Rattle.text_words.specs.Cuts.{back}
-use Rattle.text_words.specs.Octets.{is_blank}
-use Rattle.thread_rule.specs.Subject.{is_blob_char}
+use Rattle.std.proofs.Common.{List, ℕ, sym, ◌∙◌, subst}
 use Rattle.thread_rule.specs.BaseSubject.{DropsBlob}
 use Rattle.thread_rule.proofs.PieceLemmas.{of_none}
 use Rattle.thread_rule.proofs.BlobLemmas.{no_blob, blob_here}

@@ -1,4 +1,4 @@
-use Rattle.std.proofs.Common.{◌≡◌, length, eqb, eqb-true, true, sym, ◌∙◌}
+use Rattle.std.proofs.Common.{◌≡◌, length, eqb, eqb-true, true, ◌∙◌}
 use Rattle.std.proofs.lemmas.List.{nil_from_length}
 use Rattle.thread_rule.proofs.BlobLemmas.{one_blob}
 use Rattle.thread_rule.proofs.subject.behind_blob_before_text.Goals as goal

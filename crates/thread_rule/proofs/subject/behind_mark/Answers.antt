@@ -1,6 +1,6 @@
-use Rattle.std.proofs.Common.{◌≡◌, ◌∷◌, List, ℕ, true, sym, ap, ◌∙◌, subst}
-use Rattle.text_words.specs.Cuts.{back, front}
-use Rattle.text_words.specs.Octets.{is_blank, is_alpha}
+use Rattle.std.proofs.Common.{List, ℕ, sym, ap, ◌∙◌, subst}
+use Rattle.text_words.specs.Cuts.{back}
+use Rattle.text_words.specs.Octets.{is_blank}
 use Rattle.thread_rule.specs.Subject.{IsReplyWord}
 use Rattle.thread_rule.specs.Reading.{PassesBlob}
 use Rattle.thread_rule.proofs.PieceLemmas.{match_map}

@@ -1,0 +1,213 @@
+-- What the search by the index finds is the Thread among all Emails.
+use Rattle.std.proofs.Common.{◌≡◌, ℕ, ◌≤◌, ◌<◌, Bool, true, false, ◌||◌, cond, eqb-true, eq-eqb, ◌+◌, List, [], ◌∷◌, length, get_or, drop, refl, sym, ap, ◌∙◌, subst, Option, Some, None, Vec, arith}
+use Rattle.std.specs.Option.{option_map_or}
+use Rattle.std.specs.List.{list_any, AllByRecursion}
+use Rattle.std.specs.List.Sorted.{IsStrictlySortedBy}
+use Rattle.std.specs.Ordering.{nat_cmp}
+use Rattle.std.specs.declared.cmp.Ordering.TheVariants.{Less}
+use Rattle.std.specs.Cmp.Lexicographic.{slice_cmp}
+use Rattle.std.specs.BTreeMap.{is_at, get_by}
+use Rattle.std.specs.BTreeSet.{BTreeSet, contains}
+use Rattle.std.proofs.lemmas.List.{drop_more, drop_all}
+use Rattle.std.proofs.lemmas.Map.Keys.{sorted_head, sorted_tail}
+use Rattle.std.proofs.lemmas.Slice.Eq.{bytes_eq-Decides}
+use Rattle.text_words.specs.Octets.{SameText, is_same_text}
+use Rattle.thread_rule.specs.declared.member.Member.{Member}
+use Rattle.thread_rule.specs.Threads.{Members, member_at, Shares, IsThreadOf, Founds, Joins, Passes}
+use Rattle.thread_rule.specs.Index.{Ids, has, emails_at, names_of, IsIndexOf, thread_if, first_thread}
+use Rattle.thread_rule.proofs.IndexLemmas.{number_test}
+
+-- an Email of these has an equal base subject
+pub record SharesBase (members : Members) (base : List ℕ) (emails : List ℕ) (email : ℕ) (member : Member) : Type 0 where
+  pub listed : list_any (is_at (nat_cmp email)) emails ≡ true
+  pub there : member_at members email ≡ Some member
+  pub same : SameText member.base base
+
+-- the lowest of these Emails with an equal base subject, which is in this Thread
+pub record IsLowest (members : Members) (base : List ℕ) (emails : List ℕ) (thread : ℕ) : Type 0 where
+  pub email : ℕ
+  pub member : Member
+  pub shares : SharesBase members base emails email member
+  pub is : thread ≡ member.thread
+  pub lowest : (other : ℕ) (m : Member) → SharesBase members base emails other m → email ≤ other
+
+abbrev pub LacksBase : Members → List ℕ → List ℕ → Type 0
+LacksBase members base emails = (other : ℕ) (m : Member) → SharesBase members base emails other m → ⊥
+
+abbrev pub Finds : Members → List ℕ → List ℕ → Option ℕ → Type 0
+Finds members base emails None = LacksBase members base emails
+Finds members base emails (Some thread) = IsLowest members base emails thread
+
+-- a number is listed at the front, or behind it
+pub listed_first : (x : ℕ) (es : List ℕ) → list_any (is_at (nat_cmp x)) (x ∷ es) ≡ true
+listed_first x es = ap (λ (q : Bool). q || list_any (is_at (nat_cmp x)) es) (number_test x x ∙ eq-eqb x x refl)
+
+or_right : (p q : Bool) → q ≡ true → (p || q) ≡ true
+or_right true q e = refl
+or_right false q e = e
+
+pub listed_behind : (x y : ℕ) (es : List ℕ) → list_any (is_at (nat_cmp x)) es ≡ true → list_any (is_at (nat_cmp x)) (y ∷ es) ≡ true
+listed_behind x y es e = or_right (is_at (nat_cmp x) y) (list_any (is_at (nat_cmp x)) es) e
+
+-- a listed number is the first, or listed behind it
+pub data Listed (x y : ℕ) (es : List ℕ) : Type 0 where
+  First : x ≡ y → Listed x y es
+  Behind : list_any (is_at (nat_cmp x)) es ≡ true → Listed x y es
+
+pub listed_where : (x y : ℕ) (es : List ℕ) → list_any (is_at (nat_cmp x)) (y ∷ es) ≡ true → Listed x y es
+listed_where x y es e = by (is_at (nat_cmp x) y) refl e
+  where
+    by : (q : Bool) → is_at (nat_cmp x) y ≡ q → (q || list_any (is_at (nat_cmp x)) es) ≡ true → Listed x y es
+    by true k h = First (eqb-true x y (sym (number_test x y) ∙ k))
+    by false k h = Behind h
+
+pub less_is : (a b : ℕ) → nat_cmp a b ≡ Less → a < b
+less_is a b e = grind arith
+
+-- what is listed behind the first is above it
+pub above_first : (y : ℕ) (es : List ℕ) → AllByRecursion (λ z. nat_cmp y z ≡ Less) es → (x : ℕ) → list_any (is_at (nat_cmp x)) es ≡ true → y ≤ x
+above_first y [] a x e = absurd cc
+above_first y (z ∷ es) a x e = by (listed_where x z es e) (above_first y es a.1 x)
+  where
+    by : Listed x z es → (list_any (is_at (nat_cmp x)) es ≡ true → y ≤ x) → y ≤ x
+    by (First s) f = let l = less_is y z a.0 in omega arith
+    by (Behind h) f = f h
+
+pub same_is : (s t : List ℕ) → is_same_text s t ≡ true → SameText s t
+same_is s t e = (bytes_eq-Decides _ _).0 e
+
+pub same_test : (s t : List ℕ) → SameText s t → is_same_text s t ≡ true
+same_test s t e = (bytes_eq-Decides _ _).1 e
+
+-- the first Email doesn't count
+pub skipped : (members : Members) (base : List ℕ) (x : ℕ) (es : List ℕ) (r : Option ℕ) → ((m : Member) → member_at members x ≡ Some m → SameText m.base base → ⊥) → Finds members base es r → Finds members base (x ∷ es) r
+skipped members base x es None n f = λ other m h. behind other m h (listed_where other x es h.listed)
+  where
+    behind : (other : ℕ) (m : Member) → SharesBase members base (x ∷ es) other m → Listed other x es → ⊥
+    behind other m h (First e) = let P : ℕ → Type 0 = λ y. member_at members y ≡ Some m in n m (subst P e h.there) h.same
+    behind other m h (Behind l) = f other m (record { listed = l; there = h.there; same = h.same })
+skipped members base x es (Some t) n f = record {
+  email = f.email;
+  member = f.member;
+  shares = record { listed = listed_behind f.email x es f.shares.listed; there = f.shares.there; same = f.shares.same };
+  is = f.is;
+  lowest = λ other m h. behind other m h (listed_where other x es h.listed);
+}
+  where
+    behind : (other : ℕ) (m : Member) → SharesBase members base (x ∷ es) other m → Listed other x es → f.email ≤ other
+    behind other m h (First e) = let P : ℕ → Type 0 = λ y. member_at members y ≡ Some m in absurd (n m (subst P e h.there) h.same)
+    behind other m h (Behind l) = f.lowest other m (record { listed = l; there = h.there; same = h.same })
+
+-- the first Email counts
+pub counted : (members : Members) (base : List ℕ) (x : ℕ) (es : List ℕ) (member : Member) → IsStrictlySortedBy nat_cmp (x ∷ es) → member_at members x ≡ Some member → SameText member.base base → IsLowest members base (x ∷ es) member.thread
+counted members base x es member s e k = record {
+  email = x;
+  member = member;
+  shares = record { listed = listed_first x es; there = e; same = k };
+  is = refl;
+  lowest = λ other m h. above other (listed_where other x es h.listed);
+}
+  where
+    above : (other : ℕ) → Listed other x es → x ≤ other
+    above other (First z) = omega (arith, z)
+    above other (Behind l) = above_first x es (sorted_head nat_cmp x es s) other l
+
+pub first_finds_more : (members : Members) (base : List ℕ) (x : ℕ) (es : List ℕ) → IsStrictlySortedBy nat_cmp (x ∷ es) → (r : Option ℕ) → Finds members base es r → Finds members base (x ∷ es) (thread_if (member_at members x) base r)
+first_finds_more members base x es s r more = by (member_at members x) refl
+  where
+    tested : (member : Member) → member_at members x ≡ Some member → (q : Bool) → is_same_text member.base base ≡ q → Finds members base (x ∷ es) (cond q (Some member.thread) r)
+    tested member e true k = counted members base x es member s e (same_is member.base base k)
+    tested member e false k = skipped members base x es r (λ m f h. let p : m ≡ member = cc in let t = same_test m.base base h in absurd cc) more
+
+    by : (o : Option Member) → member_at members x ≡ o → Finds members base (x ∷ es) (thread_if o base r)
+    by None e = skipped members base x es r (λ m f h. absurd cc) more
+    by (Some member) e = tested member e (is_same_text member.base base) refl
+
+pub first_finds : (members : Members) (base emails : List ℕ) → IsStrictlySortedBy nat_cmp emails → Finds members base emails (first_thread members base emails)
+first_finds members base [] s = λ other m h. let l = h.listed in absurd cc
+first_finds members base (x ∷ es) s = first_finds_more members base x es s (first_thread members base es) (first_finds members base es (sorted_tail nat_cmp x es s))
+
+-- the index has an Email at an id where its number is listed there
+pub has_listed : {Z : Type 0} (ids : Ids Z) (id : List ℕ) (email : ℕ) → has ids id email ≡ list_any (is_at (nat_cmp email)) (emails_at ids id)
+has_listed {Z} ids id email = by (get_by (λ (k : Vec ℕ Z). slice_cmp nat_cmp id k.items) ids)
+  where
+    by : (o : Option (BTreeSet ℕ)) → option_map_or (λ s. contains nat_cmp s email) o false ≡ list_any (is_at (nat_cmp email)) (option_map_or (λ s. s.keys) o [])
+    by None = refl
+    by (Some s) = refl
+
+pub shares_listed : {Z : Type 0} (ids : Ids Z) (members : Members) (base id : List ℕ) (email : ℕ) (member : Member) → IsIndexOf ids members → Shares members base id email member → SharesBase members base (emails_at ids id) email member
+shares_listed ids members base id email member i s = record {
+  listed = sym (has_listed ids id email) ∙ i id email ∙ ap (λ (o : Option Member). names_of o id) s.there ∙ s.named;
+  there = s.there;
+  same = s.same;
+}
+
+pub listed_shares : {Z : Type 0} (ids : Ids Z) (members : Members) (base id : List ℕ) (email : ℕ) (member : Member) → IsIndexOf ids members → SharesBase members base (emails_at ids id) email member → Shares members base id email member
+listed_shares ids members base id email member i s = record {
+  there = s.there;
+  named = sym (ap (λ (o : Option Member). names_of o id) s.there) ∙ sym (i id email) ∙ has_listed ids id email ∙ s.listed;
+  same = s.same;
+}
+
+-- the first id decides
+pub joins : {Z : Type 0} (ids : Ids Z) (members : Members) (base : List ℕ) (number : ℕ) (id : List ℕ) (more : List (List ℕ)) (thread : ℕ) → IsIndexOf ids members → IsStrictlySortedBy nat_cmp (emails_at ids id)
+    → Some thread ≡ first_thread members base (emails_at ids id) → IsThreadOf members base number (id ∷ more) thread
+joins ids members base number id more thread i s e =
+    let F : Option ℕ → Type 0 = λ o. Finds members base (emails_at ids id) o in
+    let l : IsLowest members base (emails_at ids id) thread = subst F (sym e) (first_finds members base (emails_at ids id) s) in
+    let P : ℕ → Type 0 = λ t. IsThreadOf members base number (id ∷ more) t in
+    subst P (sym l.is) (Joins id more l.email l.member (listed_shares ids members base id l.email l.member i l.shares)
+    (λ other m h. l.lowest other m (shares_listed ids members base id other m i h)))
+
+-- the first id decides nothing
+pub passes : {Z : Type 0} (ids : Ids Z) (members : Members) (base : List ℕ) (number : ℕ) (id : List ℕ) (more : List (List ℕ)) (thread : ℕ) → IsIndexOf ids members → IsStrictlySortedBy nat_cmp (emails_at ids id)
+    → None ≡ first_thread members base (emails_at ids id) → IsThreadOf members base number more thread → IsThreadOf members base number (id ∷ more) thread
+passes ids members base number id more thread i s e t =
+    let F : Option ℕ → Type 0 = λ o. Finds members base (emails_at ids id) o in
+    let l : LacksBase members base (emails_at ids id) = subst F (sym e) (first_finds members base (emails_at ids id) s) in
+    Passes id more thread (λ other m h. l other m (shares_listed ids members base id other m i h)) t
+
+-- an id that the index lacks has no Emails
+pub none_sorted : {Z : Type 0} (ids : Ids Z) (id : List ℕ) → get_by (λ k. slice_cmp nat_cmp id k.items) ids ≡ None → IsStrictlySortedBy nat_cmp (emails_at ids id)
+unfolding IsStrictlySortedBy
+none_sorted ids id e =
+    let P : List ℕ → Type 0 = λ es. IsStrictlySortedBy nat_cmp es in
+    subst P (sym (ap (λ (o : Option (BTreeSet ℕ)). option_map_or (λ s. s.keys) o []) e)) tt
+
+-- one turn of the search: b is the base subject and y the id, as they were read
+pub joins_here : {Z : Type 0} (ids : Ids Z) (members : Members) (base : List ℕ) (number : ℕ) (named : List (List ℕ)) (i : ℕ) (x y b : List ℕ) (thread : ℕ) → IsIndexOf ids members
+    → i < length named → x ≡ get_or named i x → y ≡ x → b ≡ base → IsStrictlySortedBy nat_cmp (emails_at ids y) → Some thread ≡ first_thread members b (emails_at ids y) → IsThreadOf members base number (drop i named) thread
+joins_here ids members base number named i x y b thread o l e f g s h =
+    let P : List (List ℕ) → Type 0 = λ xs. IsThreadOf members base number xs thread in
+    let Q : List ℕ → Type 0 = λ z. IsThreadOf members z number (y ∷ drop (i + 1) named) thread in
+    subst P (ap (λ (z : List ℕ). z ∷ drop (i + 1) named) (f ∙ e) ∙ sym (drop_more named i x l))
+    (subst Q g (joins ids members b number y (drop (i + 1) named) thread o s h))
+
+pub passes_here : {Z : Type 0} (ids : Ids Z) (members : Members) (base : List ℕ) (number : ℕ) (named : List (List ℕ)) (i : ℕ) (x y b : List ℕ) (thread : ℕ) → IsIndexOf ids members
+    → i < length named → x ≡ get_or named i x → y ≡ x → b ≡ base → IsStrictlySortedBy nat_cmp (emails_at ids y) → None ≡ first_thread members b (emails_at ids y)
+    → IsThreadOf members base number (drop (i + 1) named) thread → IsThreadOf members base number (drop i named) thread
+passes_here ids members base number named i x y b thread o l e f g s h t =
+    let P : List (List ℕ) → Type 0 = λ xs. IsThreadOf members base number xs thread in
+    let Q : List ℕ → Type 0 = λ z. IsThreadOf members z number (y ∷ drop (i + 1) named) thread in
+    let R : List ℕ → Type 0 = λ z. IsThreadOf members z number (drop (i + 1) named) thread in
+    subst P (ap (λ (z : List ℕ). z ∷ drop (i + 1) named) (f ∙ e) ∙ sym (drop_more named i x l))
+    (subst Q g (passes ids members b number y (drop (i + 1) named) thread o s h (subst R (sym g) t)))
+
+pub founds_at_end : (members : Members) (base : List ℕ) (number : ℕ) (named : List (List ℕ)) (i : ℕ) → length named ≤ i → IsThreadOf members base number (drop i named) number
+founds_at_end members base number named i l =
+    let P : List (List ℕ) → Type 0 = λ xs. IsThreadOf members base number xs number in
+    subst P (sym (drop_all i named l)) Founds
+
+-- an Email has one Thread
+pub one_thread : (members : Members) (base : List ℕ) (number : ℕ) (ids : List (List ℕ)) (t u : ℕ) → IsThreadOf members base number ids t → IsThreadOf members base number ids u → t ≡ u
+one_thread members base number _ _ _ Founds Founds = refl
+one_thread members base number _ _ _ (Joins id ids x m s l) (Joins _ _ y n r k) =
+    let same : x ≡ y = let a = l y n r in let b = k x m s in omega arith in
+    let P : ℕ → Type 0 = λ e. member_at members e ≡ Some m in
+    let there = subst P same s.there in
+    let other = r.there in
+    let member : m ≡ n = cc in
+    ap (λ (v : Member). v.thread) member
+one_thread members base number _ _ _ (Joins id ids x m s l) (Passes _ _ u n h) = absurd (n x m s)
+one_thread members base number _ _ _ (Passes id ids t n h) (Joins _ _ y m r k) = absurd (n y m r)
+one_thread members base number _ t u (Passes id ids _ n h) (Passes _ _ _ m k) = one_thread members base number ids t u h k

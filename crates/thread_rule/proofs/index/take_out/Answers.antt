@@ -1,0 +1,15 @@
+use Rattle.std.proofs.Common.{Bool, false, cond, eqb, sym, ap, ◌∙◌, Some, rules}
+use Rattle.thread_rule.proofs.IndexLemmas.{looked_up, sets_at, set_changed, has_some}
+use Rattle.thread_rule.proofs.index.take_out.Goals as goal
+
+pub returns-in-Some-clause-out : goal.returns-in-Some-clause-out
+returns-in-Some-clause-out c =
+    let m = c.args.ids.now in
+    let at = c.args.id.now in
+    let s = c.in-Some.emails.now in
+    let t = c.remove.new.self in
+    let n = c.get_mut.follows.lender t in
+    let there = has_some m at s (sym c.in-Some.ensures.value) in
+    sets_at m n at c.args.email false (Some t)
+    (looked_up at m n (Some t) ((c.get_mut.follows.holds t).3 (search rules)))
+    (λ e. set_changed s t c.args.email false c.remove.ensures.updates e ∙ ap (λ (q : Bool). cond (eqb c.args.email e) false q) (there e))

@@ -1,0 +1,84 @@
+// The book of Threads: which Emails are there, by what they name, and in which Thread each is.
+ghost use Rattle.std.specs.Prelude.{◌≡◌, ◌↔◌, ℕ, [], None, OnOk, OnErr, IsSome, MatchBool};
+ghost use Rattle.std.specs.Ordering.{nat_cmp};
+ghost use Rattle.std.specs.BTreeMap.{insert_entry, is_at};
+ghost use Rattle.std.specs.Map.{remove_entry};
+ghost use Rattle.thread_rule.specs.Threads as threads;
+
+use crate::entries::{put_in, take_out};
+use crate::index::IdIndex;
+use crate::member::Named;
+use crate::search::{Members, thread_of};
+use std::alloc::{AllocError, Global};
+use std::collections::BTreeMap;
+use std::marker::Model;
+
+#[cfg(test)]
+mod tests;
+
+/// The Emails that were put and not forgotten, each in its Thread. Contracts see the list of them, by ascending number.
+#[derive(Drop)]
+pub struct ThreadBook {
+    alloc: Global,
+    members: Members,
+    ids: IdIndex,
+}
+
+impl Model for ThreadBook {
+    ghost use Rattle.std.specs.Prelude.{List, ℕ};
+    ghost use Rattle.thread_rule.specs.declared.member.Member.{Member};
+    ghost use Rattle.thread_rule.specs.Index.{IsIndexOf};
+
+    ghost Value = { List (ℕ × Member) };
+
+    ghost view = { λ b. b.members.entries };
+
+    ghost invariant = { λ b. IsIndexOf b.ids b.members.entries };
+}
+
+impl ThreadBook {
+    /// A book without Emails. It takes no memory.
+    pub fn new(alloc: Global) -> ThreadBook
+        ensures { result ≡ [] }
+    {
+        ThreadBook {
+            alloc,
+            members: BTreeMap::new(alloc),
+            ids: BTreeMap::new(alloc),
+        }
+    }
+
+    /// The Thread of a new Email: that of the lowest Email with an equal base subject which names the first of its ids
+    /// that such an Email names, or its own number. It takes no memory, looks each id up, and walks over the Emails
+    /// that share it up to the first with an equal base subject.
+    pub fn find(&self, named: &Named) -> u64
+        ensures { (thread : ℕ) → threads.IsThreadOf self.now named.now.base named.now.email named.now.ids thread ↔ (thread ≡ result) }
+    {
+        thread_of(&self.members, &self.ids, named)
+    }
+
+    /// Whether the Email is in the book.
+    pub fn contains(&self, email: u64) -> bool
+        ensures { MatchBool result
+            (IsSome (threads.member_at self.now email))
+            (threads.member_at self.now email ≡ None) }
+    {
+        self.members.contains_key(&email)
+    }
+
+    /// Takes an Email that isn't in the book into it, under a Thread.
+    pub fn put(&mut self, named: Named, thread: u64) -> Result<(), AllocError>
+        requires { threads.member_at self.old named.email ≡ None }
+        ensures ok { OnOk result (self.new ≡ insert_entry nat_cmp self.old named.email (threads.member_of named thread)) }
+        ensures err { OnErr result (self.new ≡ self.old) }
+    {
+        put_in(self.alloc, &mut self.members, &mut self.ids, named, thread)
+    }
+
+    /// Takes an Email out of the book, if it is there. It takes no memory.
+    pub fn forget(&mut self, email: u64)
+        ensures { self.new ≡ remove_entry (is_at (nat_cmp email)) self.old }
+    {
+        take_out(&mut self.members, &mut self.ids, email);
+    }
+}
