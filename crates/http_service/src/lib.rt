@@ -11,6 +11,8 @@ mod head_reading;
 mod part;
 mod part_reading;
 mod response;
+#[cfg(test)]
+mod response_tests;
 mod response_text;
 mod spare;
 #[cfg(test)]
