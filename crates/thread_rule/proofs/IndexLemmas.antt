@@ -1,7 +1,8 @@
 -- What a change at one id, or at several, leaves of the index.
-use Rattle.std.proofs.Common.{◌≡◌, ℕ, ◌+◌, ◌<◌, Bool, true, false, ◌&&◌, ◌||◌, cond, eqb, eqb-true, List, [], ◌∷◌, ◌++◌, length, get_or, take, drop, refl, sym, ap, ◌∙◌, subst, Option, Some, None, Vec, Result, Ok, Err, arith}
+use Rattle.std.proofs.Common.{◌≡◌, ◌≢◌, ℕ, ◌+◌, ◌<◌, Bool, true, false, ◌&&◌, ◌||◌, cond, eqb, eqb-true, List, [], ◌∷◌, ◌++◌, length, get_or, take, drop, refl, sym, ap, ◌∙◌, subst, Option, Some, None, Vec, Result, Ok, Err, arith}
 use Rattle.std.specs.Option.{option_map_or}
 use Rattle.std.specs.Result.{OnErr}
+use Rattle.std.specs.Bool.{MatchBool}
 use Rattle.std.specs.List.{list_any}
 use Rattle.std.specs.Map.{KeepsOthers}
 use Rattle.std.specs.Ordering.{nat_cmp, is_eq}
@@ -17,7 +18,7 @@ use Rattle.std.proofs.lemmas.List.Folds.{list_any-append}
 use Rattle.std.proofs.lemmas.Map.Text.{is_eq-slice_cmp}
 use Rattle.std.proofs.lemmas.Slice.Eq.{bytes_eq-Decides}
 use Rattle.thread_rule.specs.Threads.{is_among}
-use Rattle.thread_rule.specs.Index.{Ids, has, SameIndex, SetsOne, SetsAll, SameApart}
+use Rattle.thread_rule.specs.Index.{Ids, has, SameIndex, SetsOne, SetsAll, SameApart, IsTight, IsTightApart}
 
 pub on_err : {T E P : Type 0} (r : Result T E) → P → OnErr r P
 on_err (Ok x) p = tt
@@ -155,3 +156,44 @@ undone k m n ids email a g h id e = by (is_among ids id) (eqb email e) refl refl
 
 pub sets_then_same : {Z : Type 0} (k m n : Ids Z) (at : List ℕ) (email : ℕ) (b : Bool) → SetsOne k m at email b → SameIndex m n → SetsOne k n at email b
 sets_then_same k m n at email b g h id e = h id e ∙ g id e
+
+-- no id is left without Emails where one takes or has them
+pub tight_some : {Z : Type 0} (m n : Ids Z) (at : List ℕ) (t : BTreeSet ℕ)
+    → ((id : List ℕ) → get_by (λ k. slice_cmp nat_cmp id k.items) n ≡ cond (bytes_eq id at) (Some t) (get_by (λ k. slice_cmp nat_cmp id k.items) m))
+    → IsTightApart m at → t.keys ≢ [] → IsTight n
+tight_some {Z} m n at t g a h id s e = by (bytes_eq id at) refl
+  where
+    by : (q : Bool) → bytes_eq id at ≡ q → s.keys ≢ []
+    by true k =
+        let found = sym (g id ∙ cond-true (bytes_eq id at) (Some t) _ k) ∙ e in
+        let same : t ≡ s = cc in
+        let P : BTreeSet ℕ → Type 0 = λ u. u.keys ≢ [] in
+        subst P same h
+    by false k = a id s k (sym (g id ∙ cond-false (bytes_eq id at) (Some t) _ k) ∙ e)
+
+pub tight_none : {Z : Type 0} (m n : Ids Z) (at : List ℕ)
+    → ((id : List ℕ) → get_by (λ k. slice_cmp nat_cmp id k.items) n ≡ cond (bytes_eq id at) None (get_by (λ k. slice_cmp nat_cmp id k.items) m))
+    → IsTightApart m at → IsTight n
+tight_none {Z} m n at g a id s e = by (bytes_eq id at) refl
+  where
+    by : (q : Bool) → bytes_eq id at ≡ q → s.keys ≢ []
+    by true k = let found = sym (g id ∙ cond-true (bytes_eq id at) None _ k) ∙ e in absurd cc
+    by false k = a id s k (sym (g id ∙ cond-false (bytes_eq id at) None _ k) ∙ e)
+
+pub tight_apart : {Z : Type 0} (m n : Ids Z) (at : List ℕ) (w : Option (BTreeSet ℕ))
+    → ((id : List ℕ) → get_by (λ k. slice_cmp nat_cmp id k.items) n ≡ cond (bytes_eq id at) w (get_by (λ k. slice_cmp nat_cmp id k.items) m))
+    → IsTight m → IsTightApart n at
+tight_apart m n at w g a id s k e = a id s (sym (g id ∙ cond-false (bytes_eq id at) w _ k) ∙ e)
+
+pub tight_but : {Z : Type 0} (m : Ids Z) (at : List ℕ) → IsTight m → IsTightApart m at
+tight_but m at a id s k e = a id s e
+
+pub keys_some : (t : BTreeSet ℕ) (email : ℕ) → contains nat_cmp t email ≡ true → t.keys ≢ []
+keys_some t email h = λ e. let f = ap (list_any (is_at (nat_cmp email))) e in absurd cc
+
+pub keys_stay : (s t : BTreeSet ℕ) → t.keys ≡ s.keys → s.keys ≢ [] → t.keys ≢ []
+keys_stay s t e h = λ f. h (sym e ∙ f)
+
+pub if_false : {P : Type 0} (r : Bool) → (r ≡ false → P) → MatchBool r (Unit {0}) P
+if_false true f = tt
+if_false false f = f refl

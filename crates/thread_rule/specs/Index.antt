@@ -1,5 +1,5 @@
 -- The index from an id to the numbers of the Emails that name it.
-use Rattle.std.specs.Prelude.{◌≡◌, ℕ, Bool, false, ◌&&◌, ◌==◌, if◌then◌else◌, List, [], ◌∷◌, Option, Some, None, Vec}
+use Rattle.std.specs.Prelude.{◌≡◌, ◌≢◌, ℕ, Bool, false, ◌&&◌, ◌==◌, if◌then◌else◌, List, [], ◌∷◌, Option, Some, None, Vec}
 use Rattle.std.specs.Option.{option_map_or}
 use Rattle.std.specs.Ordering.{nat_cmp}
 use Rattle.std.specs.BTreeMap.{BTreeMap, get_by}
@@ -29,6 +29,14 @@ names_of (Some member) id = is_among member.ids id
 -- an Email is in the index at an id exactly where it names the id
 abbrev pub IsIndexOf : {Z : Type 0} → Ids Z → Members → Type 0
 IsIndexOf index members = (id : List ℕ) (email : ℕ) → has index id email ≡ names_of (member_at members email) id
+
+-- no id is known that no Email names
+abbrev pub IsTight : {Z : Type 0} → Ids Z → Type 0
+IsTight index = (id : List ℕ) (emails : BTreeSet ℕ) → get_by (λ k. slice_cmp nat_cmp id k.items) index ≡ Some emails → emails.keys ≢ []
+
+-- but for one id
+abbrev pub IsTightApart : {Z : Type 0} → Ids Z → List ℕ → Type 0
+IsTightApart index at = (id : List ℕ) (emails : BTreeSet ℕ) → bytes_eq id at ≡ false → get_by (λ k. slice_cmp nat_cmp id k.items) index ≡ Some emails → emails.keys ≢ []
 
 -- the index has the same Emails at each id
 abbrev pub SameIndex : {Z : Type 0} → Ids Z → Ids Z → Type 0

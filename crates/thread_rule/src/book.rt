@@ -27,13 +27,13 @@ pub struct ThreadBook {
 impl Model for ThreadBook {
     ghost use Rattle.std.specs.Prelude.{List, ℕ};
     ghost use Rattle.thread_rule.specs.declared.member.Member.{Member};
-    ghost use Rattle.thread_rule.specs.Index.{IsIndexOf};
+    ghost use Rattle.thread_rule.specs.Index.{IsIndexOf, IsTight};
 
     ghost Value = { List (ℕ × Member) };
 
     ghost view = { λ b. b.members.entries };
 
-    ghost invariant = { λ b. IsIndexOf b.ids b.members.entries };
+    ghost invariant = { λ b. IsIndexOf b.ids b.members.entries × IsTight b.ids };
 }
 
 impl ThreadBook {

@@ -22,6 +22,7 @@ pub fn put_in(
     requires index { index.IsIndexOf ids.old members.old.entries }
     requires absent { threads.member_at members.old.entries named.email ≡ None }
     ensures index { index.IsIndexOf ids.new members.new.entries }
+    ensures tight { index.IsTight ids.old → index.IsTight ids.new }
     ensures ok { OnOk result (members.new.entries ≡ insert_entry nat_cmp members.old.entries named.email (threads.member_of named thread)) }
     ensures err { OnErr result (members.new.entries ≡ members.old.entries) }
 {
@@ -56,6 +57,7 @@ fn keep(
     ensures same { OnOk result (index.SameIndex ids.old ids.new) }
     ensures err { OnErr result (members.new.entries ≡ members.old.entries) }
     ensures undone { OnErr result (index.SetsAll ids.old ids.new member.ids email false) }
+    ensures tight { index.IsTight ids.old → index.IsTight ids.new }
 {
     match members.insert(email, member) {
         Ok(_) => Ok(()),
@@ -71,6 +73,7 @@ fn keep(
 pub fn take_out(members: &mut Members, ids: &mut IdIndex, email: u64)
     requires { index.IsIndexOf ids.old members.old.entries }
     ensures index { index.IsIndexOf ids.new members.new.entries }
+    ensures tight { index.IsTight ids.old → index.IsTight ids.new }
     ensures out { members.new.entries ≡ remove_entry (is_at (nat_cmp email)) members.old.entries }
 {
     match members.remove(&email) {

@@ -22,6 +22,7 @@ pub fn add_all(
     requires { (id : List ℕ) → index.has ids.old id email ≡ false }
     ensures ok { OnOk result (index.SetsAll ids.old ids.new named.now email true) }
     ensures err { OnErr result (index.SameIndex ids.old ids.new) }
+    ensures tight { index.IsTight ids.old → index.IsTight ids.new }
 {
     match add_each(alloc, ids, named, email) {
         Ok(()) => Ok(()),
@@ -34,7 +35,8 @@ pub fn add_all(
 
 /// Takes the Email away at each of the ids. It takes no memory.
 pub fn remove_all(ids: &mut IdIndex, named: &[Bytes], email: u64)
-    ensures { index.SetsAll ids.old ids.new named.now email false }
+    ensures sets { index.SetsAll ids.old ids.new named.now email false }
+    ensures tight { index.IsTight ids.old → index.IsTight ids.new }
 {
     for id in named {
         remove(ids, id.as_slice(), email);
@@ -44,6 +46,7 @@ pub fn remove_all(ids: &mut IdIndex, named: &[Bytes], email: u64)
 fn add_each(alloc: Global, ids: &mut IdIndex, named: &[Bytes], email: u64) -> Result<(), AllocError>
     ensures ok { OnOk result (index.SetsAll ids.old ids.new named.now email true) }
     ensures err { OnErr result (index.SameApart ids.old ids.new named.now email) }
+    ensures tight { index.IsTight ids.old → index.IsTight ids.new }
 {
     for id in named {
         add(alloc, ids, id.as_slice(), email)?;
@@ -54,6 +57,7 @@ fn add_each(alloc: Global, ids: &mut IdIndex, named: &[Bytes], email: u64) -> Re
 fn add(alloc: Global, ids: &mut IdIndex, id: &[u8], email: u64) -> Result<(), AllocError>
     ensures ok { OnOk result (index.SetsOne ids.old ids.new id.now email true) }
     ensures err { OnErr result (index.SameIndex ids.old ids.new) }
+    ensures tight { index.IsTight ids.old → index.IsTight ids.new }
 {
     if add_to_known(ids, id, email)? {
         return Ok(());
@@ -70,6 +74,7 @@ fn add_to_known(ids: &mut IdIndex, id: &[u8], email: u64) -> Result<bool, AllocE
     ensures unknown { IfOk result (λ known. MatchBool known
         (Unit {0})
         (get_by (λ k. slice_cmp nat_cmp id.now k.items) ids.new ≡ None)) }
+    ensures tight { index.IsTight ids.old → index.IsTight ids.new }
 {
     match ids.get_mut(id) {
         None => Ok(false),
@@ -85,6 +90,7 @@ fn add_first(alloc: Global, ids: &mut IdIndex, id: &[u8], email: u64) -> Result<
     requires { get_by (λ k. slice_cmp nat_cmp id.now k.items) ids.old ≡ None }
     ensures ok { OnOk result (index.SetsOne ids.old ids.new id.now email true) }
     ensures err { OnErr result (index.SameIndex ids.old ids.new) }
+    ensures tight { index.IsTight ids.old → index.IsTight ids.new }
 {
     let key = id.to_vec(alloc)?;
     let mut emails = BTreeSet::new(alloc);
@@ -94,7 +100,8 @@ fn add_first(alloc: Global, ids: &mut IdIndex, id: &[u8], email: u64) -> Result<
 }
 
 fn remove(ids: &mut IdIndex, id: &[u8], email: u64)
-    ensures { index.SetsOne ids.old ids.new id.now email false }
+    ensures sets { index.SetsOne ids.old ids.new id.now email false }
+    ensures tight { index.IsTight ids.old → index.IsTight ids.new }
 {
     if take_out(ids, id, email) {
         ids.remove(id);
@@ -105,6 +112,8 @@ fn remove(ids: &mut IdIndex, id: &[u8], email: u64)
 fn take_out(ids: &mut IdIndex, id: &[u8], email: u64) -> bool
     ensures out { index.SetsOne ids.old ids.new id.now email false }
     ensures last { MatchBool result ((e : ℕ) → index.has ids.new id.now e ≡ false) (Unit {0}) }
+    ensures apart { index.IsTight ids.old → index.IsTightApart ids.new id.now }
+    ensures tight { MatchBool result (Unit {0}) (index.IsTight ids.old → index.IsTight ids.new) }
 {
     match ids.get_mut(id) {
         None => false,
