@@ -191,7 +191,7 @@ fn a_head_that_is_cut_anywhere_is_short(rt: HostRuntime) -> Result<(), Fail> {
 /// A head of so many octets.
 fn long_head(alloc: Global, size: usize) -> Result<Vec<u8>, AllocError> {
     let mut client = b"GET / HTTP/1.1\r\nX: ".as_slice().to_vec(alloc)?;
-    while client.len() < size.saturating_sub(4) {
+    for _ in client.len()..size.saturating_sub(4) {
         client.push(b'x')?;
     }
     client.extend_from_slice(b"\r\n\r\n")?;
@@ -381,7 +381,7 @@ fn a_client_that_waits_is_told_to_go_on(rt: HostRuntime) -> Result<(), Fail> {
             took.as_slice(),
             b"HTTP/1.1 100 Continue\r\n\r\n".as_slice()
         );
-        assert_eq!(rt; given + body.len(), client.len());
+        assert_eq!(rt; given.saturating_add(body.len()), client.len());
     }
     let client = posted(alloc, "Expect: 100-continue\r\nContent-Length: 3", "abc")?;
     let mut world = world_of(alloc, &client, 1, 0)?;
@@ -405,14 +405,14 @@ fn a_front_that_fails_at_any_call_is_a_fault(rt: HostRuntime) -> Result<(), Fail
         let mut spare = Spare::new(alloc);
         let seen = read_both(alloc, &mut world, &mut spare, 10)?;
         if seen.as_slice() == b"FrontFault".as_slice() {
-            faults += 1;
-            assert_eq!(rt; faults + 1, call);
+            faults = faults.saturating_add(1);
+            assert_eq!(rt; faults.saturating_add(1), call);
         } else {
             assert_eq!(rt; seen.as_slice(), b"abc".as_slice());
         }
     }
     // one recv an octet, and the send of `100 Continue`
-    assert_eq!(rt; faults, client.len() as u64 + 1);
+    assert_eq!(rt; faults, (client.len() as u64).saturating_add(1));
     Ok(())
 }
 

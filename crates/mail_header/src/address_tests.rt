@@ -5,6 +5,7 @@ use crate::bracketed::as_message_ids;
 use crate::moments::as_date;
 use crate::raw_forms::as_text;
 use std::alloc::{AllocError, Global};
+use std::process::Abort;
 use std::test::Fail;
 
 /// A reading written out: each address as `name<email>`, or `-<email>` without a name, with `|` behind it.
@@ -123,126 +124,155 @@ fn examples_of_the_standard_are_read(rt: HostRuntime) -> Result<(), Fail> {
     Ok(())
 }
 
+/// Names: phrases, quoted texts, encoded words, octets above 127.
+const NAMES: [(&[u8], &[u8]); 18] = [
+    (
+        b" =?utf-8?Q?Ren=C3=A9?= <rene@example.org>",
+        b"Ren\xC3\xA9<rene@example.org>|",
+    ),
+    (
+        b" Team: ann@example.org, \"B. Ob\" <bob@example.org>;",
+        b"-<ann@example.org>|B. Ob<bob@example.org>|",
+    ),
+    (b"G: a@x, b (Bob);", b"-<a@x>|Bob<b>|"),
+    (
+        b"=?US-ASCII?Q?Keith_Moore?= <moore@cs.utk.edu>",
+        b"Keith Moore<moore@cs.utk.edu>|",
+    ),
+    (
+        b"=?ISO-8859-1?Q?Keld_J=F8rn_Simonsen?= <keld@dkuug.dk>",
+        b"Keld J\xC3\xB8rn Simonsen<keld@dkuug.dk>|",
+    ),
+    (
+        b"=?ISO-8859-1?Q?Andr=E9?= Pirard <PIRARD@vm1.ulg.ac.be>",
+        b"Andr\xC3\xA9 Pirard<PIRARD@vm1.ulg.ac.be>|",
+    ),
+    (
+        b"Patrik =?ISO-8859-1?Q?F=E4ltstr=F6m?= <paf@nada.kth.se>",
+        b"Patrik F\xC3\xA4ltstr\xC3\xB6m<paf@nada.kth.se>|",
+    ),
+    (b"a@b (=?ISO-8859-1?Q?a?= =?ISO-8859-1?Q?b?=)", b"ab<a@b>|"),
+    (b"=?utf-8?Q?a.b?= <x@y>", b"a.b<x@y>|"),
+    (b"\"=?utf-8?Q?a?=\" <x@y>", b"a<x@y>|"),
+    (b"\"\" <a@b>", b"<a@b>|"),
+    (b"A.B. C <x@y>", b"A.B. C<x@y>|"),
+    (b"A \t (c) B <x@y>", b"A B<x@y>|"),
+    (b"A(c)B <x@y>", b"A B<x@y>|"),
+    (b"\"a\"b <x@y>", b"ab<x@y>|"),
+    (b"\"a\\b\r\n c\" <x@y>", b"ab c<x@y>|"),
+    (b"\"a\x01b\" <x@y>", b"a\x01b<x@y>|"),
+    (
+        b"J\xC3\xBCrgen <j\xC3\xBC@b>",
+        b"J\xC3\xBCrgen<j\xC3\xBC@b>|",
+    ),
+];
+
+/// Routes, quoted local parts, literals, comments, empty places and groups.
+const ADDRESSES: [(&[u8], &[u8]); 25] = [
+    (b"a\x00b@c", b"-<ab@c>|"),
+    (b"\xFF@c", b"-<\xEF\xBF\xBD@c>|"),
+    (b"a", b"-<a>|"),
+    (b"<a>", b"-<a>|"),
+    (b"<@x:a>", b"-<a>|"),
+    (b"<@a,@b:c@d>", b"-<c@d>|"),
+    (b"N < , @a.x ,, @[1.2.3.4] , : c@d >", b"N<c@d>|"),
+    (b"\"a b\"@c", b"-<\"a b\"@c>|"),
+    (b"\"a\\\"\".b . \"c\"@d", b"-<\"a\\\"\".b.\"c\"@d>|"),
+    (b"a@[10.0.0.1]", b"-<a@[10.0.0.1]>|"),
+    (b"a@[1\r\n .2\\[]", b"-<a@[1 .2\\[]>|"),
+    (b"a@b (x (y) z)", b"x (y) z<a@b>|"),
+    (b"a@b ( \\(x\\)\r\n y\t)", b"(x) y<a@b>|"),
+    (b"a@b ()", b"-<a@b>|"),
+    (b"a@b ( \r\n )", b"-<a@b>|"),
+    (b"a@b (x) (y)", b"x<a@b>|"),
+    (b"(x) a@b", b"-<a@b>|"),
+    (b"a(x)@(y)b", b"-<a@b>|"),
+    (b"<a@b> (x)", b"x<a@b>|"),
+    (b"(x) <a@b(y)>", b"-<a@b>|"),
+    (b"N <a@b> (x)", b"N<a@b>|"),
+    (b", a@b, , c@d ,(x),", b"-<a@b>|-<c@d>|"),
+    (b"g:;", b""),
+    (b"g : (c) , ;", b""),
+    (b"a@x, g: b@y;, c@z, d@w", b"-<a@x>|-<b@y>|-<c@z>|-<d@w>|"),
+];
+
+/// Empty values, and addresses that have no reading.
+const NO_ADDRESSES: [&[u8]; 22] = [
+    b"",
+    b" \r\n ",
+    b" ,(x), ,",
+    b"a..b@c",
+    b".a@b",
+    b"a.@b",
+    b"a@b.",
+    b"a@.b",
+    b"a@",
+    b"@b",
+    b"a@\"b\"",
+    b"a@b@c",
+    b"a@[b[c]",
+    b"a@[b].c",
+    b"<>",
+    b"<a@b",
+    b"a@b>",
+    b"<<a@b>>",
+    b"<a@b> c",
+    b"a@b <c@d>",
+    b". A <x@y>",
+    b"<:a@b>",
+];
+
+/// Values of which one part has no reading, and brackets and groups that don't close.
+const NO_LISTS: [&[u8]; 23] = [
+    b"<,:a@b>",
+    b"<@a@b:c@d>",
+    b"<@a:@b:c@d>",
+    b"<a:c@d>",
+    b"a b",
+    b"a@b c@d",
+    b"a@b; c@d",
+    b"a@b, c@, d@e",
+    b"g: a@b, c d;",
+    b"a\x01@b",
+    b"a\x7F@b",
+    b"(a@b",
+    b"a@b)",
+    b"\"a@b",
+    b"a@[b",
+    b"a\\@b",
+    b"g:a@b",
+    b"g:a@b;;",
+    b"g:h:a@b;;",
+    b":a@b;",
+    b"g:;c@d",
+    b"g:a@b; (c) d@e",
+    b";",
+];
+
+fn expect_addresses(rt: &impl Abort, alloc: Global, rows: &[(&[u8], &[u8])]) -> Result<(), Fail> {
+    for row in rows {
+        let text = addresses_text(alloc, row.0)?;
+        assert_eq!(rt; text.as_slice(), row.1);
+        assert!(rt; as_groups(alloc, row.0)?.is_some());
+    }
+    Ok(())
+}
+
+fn expect_none(rt: &impl Abort, alloc: Global, values: &[&[u8]]) -> Result<(), Fail> {
+    for value in values {
+        assert!(rt; as_addresses(alloc, value)?.is_none());
+        assert!(rt; as_groups(alloc, value)?.is_none());
+    }
+    Ok(())
+}
+
 /// Names, comments, routes, groups and obsolete forms, and values that are no list of addresses.
 #[test]
 fn values_are_addresses(rt: HostRuntime) -> Result<(), Fail> {
-    let rows: [(&[u8], &[u8]); 88] = [
-        (
-            b" =?utf-8?Q?Ren=C3=A9?= <rene@example.org>",
-            b"Ren\xC3\xA9<rene@example.org>|",
-        ),
-        (
-            b" Team: ann@example.org, \"B. Ob\" <bob@example.org>;",
-            b"-<ann@example.org>|B. Ob<bob@example.org>|",
-        ),
-        (b"G: a@x, b (Bob);", b"-<a@x>|Bob<b>|"),
-        (
-            b"=?US-ASCII?Q?Keith_Moore?= <moore@cs.utk.edu>",
-            b"Keith Moore<moore@cs.utk.edu>|",
-        ),
-        (
-            b"=?ISO-8859-1?Q?Keld_J=F8rn_Simonsen?= <keld@dkuug.dk>",
-            b"Keld J\xC3\xB8rn Simonsen<keld@dkuug.dk>|",
-        ),
-        (
-            b"=?ISO-8859-1?Q?Andr=E9?= Pirard <PIRARD@vm1.ulg.ac.be>",
-            b"Andr\xC3\xA9 Pirard<PIRARD@vm1.ulg.ac.be>|",
-        ),
-        (
-            b"Patrik =?ISO-8859-1?Q?F=E4ltstr=F6m?= <paf@nada.kth.se>",
-            b"Patrik F\xC3\xA4ltstr\xC3\xB6m<paf@nada.kth.se>|",
-        ),
-        (b"a@b (=?ISO-8859-1?Q?a?= =?ISO-8859-1?Q?b?=)", b"ab<a@b>|"),
-        (b"=?utf-8?Q?a.b?= <x@y>", b"a.b<x@y>|"),
-        (b"\"=?utf-8?Q?a?=\" <x@y>", b"a<x@y>|"),
-        (b"\"\" <a@b>", b"<a@b>|"),
-        (b"A.B. C <x@y>", b"A.B. C<x@y>|"),
-        (b"A \t (c) B <x@y>", b"A B<x@y>|"),
-        (b"A(c)B <x@y>", b"A B<x@y>|"),
-        (b"\"a\"b <x@y>", b"ab<x@y>|"),
-        (b"\"a\\b\r\n c\" <x@y>", b"ab c<x@y>|"),
-        (b"\"a\x01b\" <x@y>", b"a\x01b<x@y>|"),
-        (
-            b"J\xC3\xBCrgen <j\xC3\xBC@b>",
-            b"J\xC3\xBCrgen<j\xC3\xBC@b>|",
-        ),
-        (b"a\x00b@c", b"-<ab@c>|"),
-        (b"\xFF@c", b"-<\xEF\xBF\xBD@c>|"),
-        (b"a", b"-<a>|"),
-        (b"<a>", b"-<a>|"),
-        (b"<@x:a>", b"-<a>|"),
-        (b"<@a,@b:c@d>", b"-<c@d>|"),
-        (b"N < , @a.x ,, @[1.2.3.4] , : c@d >", b"N<c@d>|"),
-        (b"\"a b\"@c", b"-<\"a b\"@c>|"),
-        (b"\"a\\\"\".b . \"c\"@d", b"-<\"a\\\"\".b.\"c\"@d>|"),
-        (b"a@[10.0.0.1]", b"-<a@[10.0.0.1]>|"),
-        (b"a@[1\r\n .2\\[]", b"-<a@[1 .2\\[]>|"),
-        (b"a@b (x (y) z)", b"x (y) z<a@b>|"),
-        (b"a@b ( \\(x\\)\r\n y\t)", b"(x) y<a@b>|"),
-        (b"a@b ()", b"-<a@b>|"),
-        (b"a@b ( \r\n )", b"-<a@b>|"),
-        (b"a@b (x) (y)", b"x<a@b>|"),
-        (b"(x) a@b", b"-<a@b>|"),
-        (b"a(x)@(y)b", b"-<a@b>|"),
-        (b"<a@b> (x)", b"x<a@b>|"),
-        (b"(x) <a@b(y)>", b"-<a@b>|"),
-        (b"N <a@b> (x)", b"N<a@b>|"),
-        (b", a@b, , c@d ,(x),", b"-<a@b>|-<c@d>|"),
-        (b"g:;", b""),
-        (b"g : (c) , ;", b""),
-        (b"a@x, g: b@y;, c@z, d@w", b"-<a@x>|-<b@y>|-<c@z>|-<d@w>|"),
-        (b"", b"null"),
-        (b" \r\n ", b"null"),
-        (b" ,(x), ,", b"null"),
-        (b"a..b@c", b"null"),
-        (b".a@b", b"null"),
-        (b"a.@b", b"null"),
-        (b"a@b.", b"null"),
-        (b"a@.b", b"null"),
-        (b"a@", b"null"),
-        (b"@b", b"null"),
-        (b"a@\"b\"", b"null"),
-        (b"a@b@c", b"null"),
-        (b"a@[b[c]", b"null"),
-        (b"a@[b].c", b"null"),
-        (b"<>", b"null"),
-        (b"<a@b", b"null"),
-        (b"a@b>", b"null"),
-        (b"<<a@b>>", b"null"),
-        (b"<a@b> c", b"null"),
-        (b"a@b <c@d>", b"null"),
-        (b". A <x@y>", b"null"),
-        (b"<:a@b>", b"null"),
-        (b"<,:a@b>", b"null"),
-        (b"<@a@b:c@d>", b"null"),
-        (b"<@a:@b:c@d>", b"null"),
-        (b"<a:c@d>", b"null"),
-        (b"a b", b"null"),
-        (b"a@b c@d", b"null"),
-        (b"a@b; c@d", b"null"),
-        (b"a@b, c@, d@e", b"null"),
-        (b"g: a@b, c d;", b"null"),
-        (b"a\x01@b", b"null"),
-        (b"a\x7F@b", b"null"),
-        (b"(a@b", b"null"),
-        (b"a@b)", b"null"),
-        (b"\"a@b", b"null"),
-        (b"a@[b", b"null"),
-        (b"a\\@b", b"null"),
-        (b"g:a@b", b"null"),
-        (b"g:a@b;;", b"null"),
-        (b"g:h:a@b;;", b"null"),
-        (b":a@b;", b"null"),
-        (b"g:;c@d", b"null"),
-        (b"g:a@b; (c) d@e", b"null"),
-        (b";", b"null"),
-    ];
-    for row in rows {
-        let text = addresses_text(rt.alloc(), row.0)?;
-        assert_eq!(rt; text.as_slice(), row.1);
-        let groups = as_groups(rt.alloc(), row.0)?;
-        assert_eq!(rt; groups.is_none(), row.1 == b"null".as_slice());
-    }
+    expect_addresses(&rt, rt.alloc(), &NAMES)?;
+    expect_addresses(&rt, rt.alloc(), &ADDRESSES)?;
+    expect_none(&rt, rt.alloc(), &NO_ADDRESSES)?;
+    expect_none(&rt, rt.alloc(), &NO_LISTS)?;
     Ok(())
 }
 
