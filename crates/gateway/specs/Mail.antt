@@ -6,7 +6,7 @@ use Rattle.std.specs.List.Sorted.{IsStrictlySortedBy}
 use Rattle.std.specs.Ordering.{nat_cmp}
 use Rattle.std.specs.BTreeMap.{is_at}
 use Rattle.imap_syntax.specs.declared.response.Response.{Response}
-use Rattle.imap_syntax.specs.declared.response.Response.TheVariants.{Tagged, Untagged, Fetch, Other}
+use Rattle.imap_syntax.specs.declared.response.Response.TheVariants.{Fetch}
 use Rattle.jmap_core.specs.declared.counts.Counts.{Counts}
 use Rattle.gateway.specs.declared.mail.Marks.{Marks}
 
@@ -24,10 +24,8 @@ flags_for uid None flags = None
 flags_for uid (Some told) flags = if uid == told then flags else None
 
 abbrev pub told_flags : ℕ → Response → Option (List (List ℕ))
-told_flags uid (Tagged _ _) = None
-told_flags uid (Untagged _) = None
 told_flags uid (Fetch _ items) = flags_for uid items.uid items.flags
-told_flags uid Other = None
+told_flags uid _ = None
 
 abbrev pub later_of : {X : Type 0} → Option X → Option X → Option X
 later_of (Some later) earlier = Some later

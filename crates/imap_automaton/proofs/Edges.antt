@@ -19,6 +19,7 @@ use Rattle.imap_automaton.proofs.Langs.{Lang, After}
 use Rattle.imap_automaton.proofs.FreeEdges.{free_back, free_forth, free_empty, free_example}
 use Rattle.imap_automaton.proofs.NamesEdges.{names_back, names_forth, names_empty, more_stops, names_example}
 use Rattle.imap_automaton.proofs.ItemEdges.{item_back, item_forth, open_none, more_empty, items_stop, number_ends, number_yields, item_example}
+use Rattle.imap_automaton.proofs.SetEdges.{words_back, words_forth, words_empty, words_example, set_edge_back, set_edge_forth, set_empty, set_example}
 use Rattle.imap_automaton.proofs.WordEdges.{word_back, word_forth, word_empty, word_example}
 use Rattle.imap_automaton.proofs.LineEdges.{line_edge_back, line_edge_forth, line_empty, line_example}
 use Rattle.imap_syntax.specs.Octets.{is_atom}
@@ -35,6 +36,8 @@ edge_back (sym.Word place key at) c t fits h = word_back place key at c t (word_
 edge_back (sym.Free s) c t fits h = free_back s c t h
 edge_back (sym.Item s) c t fits h = item_back s c t h
 edge_back (sym.Names s) c t fits h = names_back s c t h
+edge_back (sym.Words s) c t fits h = words_back s c t h
+edge_back (sym.Set s) c t fits h = set_edge_back s c t fits h
 
 pub edge_forth : (s : Sym) (c : ℕ) (t : List ℕ) → SymFits s ≡ true → Lang s (c ∷ t) → After (rule_of s c) t
 edge_forth (sym.Line s) c t fits h = line_edge_forth s c t fits h
@@ -42,6 +45,8 @@ edge_forth (sym.Word place key at) c t fits h = word_forth place key at c t (wor
 edge_forth (sym.Free s) c t fits h = free_forth s c t h
 edge_forth (sym.Item s) c t fits h = item_forth s c t h
 edge_forth (sym.Names s) c t fits h = names_forth s c t h
+edge_forth (sym.Words s) c t fits h = words_forth s c t h
+edge_forth (sym.Set s) c t fits h = set_edge_forth s c t h
 
 names_yield : (s : Names) → s ≡ names.AtomRest → may_yield (sym.Names s) ≡ true
 names_yield s e = ap (λ (q : Names). may_yield (sym.Names q)) e
@@ -55,6 +60,8 @@ empty_may (sym.Item item.Open) fits h = absurd (open_none h)
 empty_may (sym.Item item.More) fits h = absurd (more_empty h)
 empty_may (sym.Item (item.Number v n)) fits h = refl
 empty_may (sym.Names s) fits h = names_yield s (names_empty s h)
+empty_may (sym.Words s) fits h = absurd (words_empty s h)
+empty_may (sym.Set s) fits h = absurd (set_empty s h)
 
 -- a symbol that ends before an octet has the empty text
 pub yield_empty : (s : Sym) (c : ℕ) → may_yield s ≡ true → SymFits s ≡ true → rule_of s c ≡ move.Yield → Lang s []
@@ -82,6 +89,8 @@ example (sym.Word place key at) fits = word_example place key at (word_le place 
 example (sym.Free s) fits = free_example s
 example (sym.Item s) fits = item_example s fits
 example (sym.Names s) fits = names_example s
+example (sym.Words s) fits = words_example s
+example (sym.Set s) fits = set_example s fits
 
 pub begin_no_yield : (s : Sym) → begins s ≡ true → may_yield s ≡ true → ⊥
 begin_no_yield (sym.Item item.More) b y = cc

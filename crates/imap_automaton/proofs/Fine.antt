@@ -15,6 +15,8 @@ use Rattle.imap_automaton.specs.declared.sym.Line.TheVariants as line
 use Rattle.imap_automaton.specs.declared.sym.Free.TheVariants as free
 use Rattle.imap_automaton.specs.declared.sym.Item.TheVariants as item
 use Rattle.imap_automaton.specs.declared.sym.Names.TheVariants as names
+use Rattle.imap_automaton.specs.declared.sym.Words.TheVariants as words
+use Rattle.imap_automaton.specs.declared.sym.Set.TheVariants as set
 use Rattle.imap_automaton.specs.declared.sym.Sym.{Sym}
 use Rattle.imap_automaton.specs.declared.sym.Sym.TheVariants as sym
 use Rattle.imap_automaton.specs.declared.sym.Move.{Move}
@@ -22,15 +24,17 @@ use Rattle.imap_automaton.specs.declared.sym.Move.TheVariants as move
 use Rattle.imap_automaton.specs.Counts.{pend}
 use Rattle.imap_automaton.specs.Keys.{key_text, phrase_text, keys, first_key, is_among, in_word, goes_on, next_key, whole_key}
 use Rattle.imap_automaton.specs.FreeRules.{free_end, text_rule}
-use Rattle.imap_automaton.specs.WordRules.{rest_rule, spaced_rule, behind_key, stray, word_goes, word_ends, word_rule}
+use Rattle.imap_automaton.specs.WordRules.{rest_rule, spaced_rule, end_rule, behind_key, stray, word_goes, word_ends, word_rule}
 use Rattle.imap_automaton.specs.ItemRules.{number_rule}
-use Rattle.imap_automaton.specs.LineRules.{word_start, line_rule, fixed_rule, sequence_rule}
+use Rattle.imap_automaton.specs.LineRules.{word_start, line_rule, fixed_rule, folded_rule, sequence_rule}
+use Rattle.imap_automaton.specs.SetRules.{words_more, set_ends, set_number, set_rule}
 use Rattle.imap_automaton.specs.Rules.{rule_of}
 use Rattle.imap_automaton.specs.Fits.{PendFits, SymFits}
 use Rattle.imap_automaton.specs.Run.{is_octets}
 use Rattle.imap_automaton.specs.Flow.{ends_open, begins, may_yield, need, sym_left}
 use Rattle.imap_automaton.proofs.KeyLemmas.{find_some, goes_to, among_is}
 use Rattle.imap_syntax.specs.Octets.{is_digit, is_alnum, is_text, is_word, is_atom, lower}
+use Rattle.imap_syntax.specs.Texts.{Each}
 
 -- what a move may be of a symbol that ends open or not, may yield or not, has this room, at an octet outside a literal
 -- or not
@@ -88,6 +92,16 @@ rest_fine o r c le = fine_by o false r (nat_lt c 256) (c == 32) (move.One (sym.L
 spaced_fine : (o : Bool) (r : ℕ) (s : Sym) (c : ℕ) → SymFits s ≡ true → (not (ends_open s) || o) ≡ true → nat_le (need s) r ≡ true → nat_le (sym_left s) 50000000 ≡ true → fine o false r (nat_lt c 256) (spaced_rule (move.One s) c) ≡ true
 spaced_fine o r s c fits ends room left = fine_by o false r (nat_lt c 256) (c == 32) (move.One s) move.Fail (λ e. and_from _ _ (and_from _ _ (and_from _ _ (and_from _ _ (small_32 c e) fits) ends) room) left) (λ e. refl)
 
+end_rule_fine : (r c : ℕ) → 1 ≤ r → fine false false r (nat_lt c 256) (end_rule c) ≡ true
+end_rule_fine r c le = fine_by false false r (nat_lt c 256) (c == 13) (move.One (sym.Line (line.Fixed phrase.Crlf 1))) move.Fail
+    (λ f. and_from _ _ (and_from _ _ (and_from _ _ (and_from _ _ (small_13 c f) refl) refl) (le-leb 1 r le)) refl)
+    (λ f. refl)
+
+words_more_fine : (r c : ℕ) → 1 ≤ r → fine false false r (nat_lt c 256) (words_more c) ≡ true
+words_more_fine r c le = fine_by false false r (nat_lt c 256) (c == 32) (move.One (sym.Words words.First)) (cond (c == 13) (move.One (sym.Line (line.Fixed phrase.Crlf 1))) move.Fail)
+    (λ e. and_from _ _ (and_from _ _ (and_from _ _ (and_from _ _ (small_32 c e) refl) refl) (le-leb 1 r le)) refl)
+    (λ e. end_rule_fine r c le)
+
 behind_fine : (p : Place) (k q : Key) (at c : ℕ) → fine (ends_open (sym.Word p q at)) false (need (sym.Word p q at)) (nat_lt c 256) (behind_key p k c) ≡ true
 behind_fine place.Tagged key.Ok q at c = rest_fine false 4 c (omega arith)
 behind_fine place.Tagged key.No q at c = rest_fine false 4 c (omega arith)
@@ -97,6 +111,15 @@ behind_fine place.Plain key.No q at c = rest_fine false 4 c (omega arith)
 behind_fine place.Plain key.Bad q at c = rest_fine false 4 c (omega arith)
 behind_fine place.Plain key.Preauth q at c = rest_fine false 4 c (omega arith)
 behind_fine place.Plain key.Bye q at c = rest_fine false 4 c (omega arith)
+behind_fine place.Plain key.Capability q at c = words_more_fine 4 c (omega arith)
+behind_fine place.Plain key.Enabled q at c = words_more_fine 4 c (omega arith)
+behind_fine place.Plain key.Flags q at c = fine_by false false 4 (nat_lt c 256) (c == 32) (move.Two (sym.Names names.Open) (sym.Line (line.Fixed phrase.Crlf 0))) move.Fail (λ e. pair_fine c (small_32 c e)) (λ e. refl)
+  where
+    pair_fine : (c : ℕ) → nat_lt c 256 ≡ true → fine false false 4 (nat_lt c 256) (move.Two (sym.Names names.Open) (sym.Line (line.Fixed phrase.Crlf 0))) ≡ true
+    pair_fine c e = rw e refl
+behind_fine place.Plain key.Vanished q at c = spaced_fine false 4 (sym.Set set.Open) c refl refl refl refl
+behind_fine place.Numbered key.Exists q at c = end_rule_fine 4 c (omega arith)
+behind_fine place.Numbered key.Expunge q at c = end_rule_fine 4 c (omega arith)
 behind_fine place.Numbered key.Fetch q at c = spaced_fine false 4 (sym.Item item.Open) c refl refl refl refl
 behind_fine place.Item key.Uid q at c = spaced_fine true 2 (sym.Item (item.Number 0 0)) c refl refl refl refl
 behind_fine place.Item key.Flags q at c = spaced_fine true 2 (sym.Names names.Open) c refl refl refl refl
@@ -142,21 +165,30 @@ word_fine p k at c = fine_by (ends_open (sym.Word p k at)) false (need (sym.Word
 
 -- ---- lines
 
+abbrev is_low : ℕ → Bool
+is_low c = nat_lt c 128
+
+low_at : (t : List ℕ) (at : ℕ) → Each is_low t → nat_lt (get_or t at 0) 128 ≡ true
+low_at [] at h = refl
+low_at (c ∷ t) zero h = h.0
+low_at (c ∷ t) (suc at) h = low_at t at h.1
+
+phrase_low : (p : Phrase) → Each is_low (phrase_text p)
+phrase_low phrase.Space = (refl, tt)
+phrase_low phrase.Crlf = (refl, (refl, tt))
+phrase_low phrase.Earlier = (refl, (refl, (refl, (refl, (refl, (refl, (refl, (refl, (refl, (refl, tt))))))))))
+
 octet_small : (p : Phrase) (at c : ℕ) → (c == get_or (phrase_text p) at 0) ≡ true → nat_lt c 256 ≡ true
-octet_small phrase.Space zero c e = small_32 c e
-octet_small phrase.Space (suc at) c e = small_zero c e
+octet_small p at c e = small c (get_or (phrase_text p) at 0) (low_at (phrase_text p) at (phrase_low p)) e
   where
-    small_zero : (c : ℕ) → (c == 0) ≡ true → nat_lt c 256 ≡ true
-    small_zero c e = grind arith
-octet_small phrase.Crlf zero c e = small_13 c e
-octet_small phrase.Crlf (suc zero) c e = small_ten c e
+    small : (c d : ℕ) → nat_lt d 128 ≡ true → (c == d) ≡ true → nat_lt c 256 ≡ true
+    small c d f e = grind arith
+
+folded_small : (p : Phrase) (at c : ℕ) → (lower c == get_or (phrase_text p) at 0) ≡ true → nat_lt c 256 ≡ true
+folded_small p at c e = small c (get_or (phrase_text p) at 0) (low_at (phrase_text p) at (phrase_low p)) e
   where
-    small_ten : (c : ℕ) → (c == 10) ≡ true → nat_lt c 256 ≡ true
-    small_ten c e = grind arith
-octet_small phrase.Crlf (suc (suc at)) c e = small_zero c e
-  where
-    small_zero : (c : ℕ) → (c == 0) ≡ true → nat_lt c 256 ≡ true
-    small_zero c e = grind arith
+    small : (c d : ℕ) → nat_lt d 128 ≡ true → (lower c == d) ≡ true → nat_lt c 256 ≡ true
+    small c d f e = grind arith
 
 fixed_fine : (p : Phrase) (at c : ℕ) → SymFits (sym.Line (line.Fixed p at)) ≡ true → fine false false 1 (nat_lt c 256) (fixed_rule p at c) ≡ true
 fixed_fine p at c fits = fine_by false false 1 (nat_lt c 256) (nat_lt at (length (phrase_text p)) && c == get_or (phrase_text p) at 0) (cond (at + 1 == length (phrase_text p)) move.End (move.One (sym.Line (line.Fixed p (at + 1))))) move.Fail
@@ -164,6 +196,15 @@ fixed_fine p at c fits = fine_by false false 1 (nat_lt c 256) (nat_lt at (length
     let q = and_parts (nat_lt at (length (phrase_text p))) (c == get_or (phrase_text p) at 0) e in
     let small = octet_small p at c q.1 in
     fine_by false false 1 (nat_lt c 256) (at + 1 == length (phrase_text p)) move.End (move.One (sym.Line (line.Fixed p (at + 1)))) (λ f. small)
+    (λ f. let ne : at + 1 ≡ length (phrase_text p) → ⊥ = eqb-false _ _ f in and_from _ _ (and_from _ _ (and_from _ _ (and_from _ _ small (lt-ltb _ _ (omega (arith, ltb-true _ _ q.0, ne)))) refl) refl) refl))
+    (λ e. refl)
+
+folded_fine : (p : Phrase) (at c : ℕ) → SymFits (sym.Line (line.Folded p at)) ≡ true → fine false false 1 (nat_lt c 256) (folded_rule p at c) ≡ true
+folded_fine p at c fits = fine_by false false 1 (nat_lt c 256) (nat_lt at (length (phrase_text p)) && lower c == get_or (phrase_text p) at 0) (cond (at + 1 == length (phrase_text p)) move.End (move.One (sym.Line (line.Folded p (at + 1))))) move.Fail
+    (λ e.
+    let q = and_parts (nat_lt at (length (phrase_text p))) (lower c == get_or (phrase_text p) at 0) e in
+    let small = folded_small p at c q.1 in
+    fine_by false false 1 (nat_lt c 256) (at + 1 == length (phrase_text p)) move.End (move.One (sym.Line (line.Folded p (at + 1)))) (λ f. small)
     (λ f. let ne : at + 1 ≡ length (phrase_text p) → ⊥ = eqb-false _ _ f in and_from _ _ (and_from _ _ (and_from _ _ (and_from _ _ small (lt-ltb _ _ (omega (arith, ltb-true _ _ q.0, ne)))) refl) refl) refl))
     (λ e. refl)
 
@@ -185,6 +226,7 @@ line_fine (line.Sequence v n) c fits = fine_by false false 4 (nat_lt c 256) (is_
     space_fine c e = grind arith
 line_fine line.Text c fits = grind arith
 line_fine (line.Fixed p at) c fits = fixed_fine p at c fits
+line_fine (line.Folded p at) c fits = folded_fine p at c fits
 
 -- ---- numbers
 
@@ -205,6 +247,37 @@ number_fine v n c =
     (λ e. refl))
     (λ d. fine_by true true 1 (nat_lt c 256) (nat_lt 0 v) move.Yield move.Fail (λ e. refl) (λ e. refl))
 
+-- ---- sets
+
+set_ends_fine : (second : Bool) (c : ℕ) → fine false false 1 (nat_lt c 256) (set_ends second c) ≡ true
+set_ends_fine true c = grind arith
+set_ends_fine false c = grind arith
+
+set_number_fine : (v n : ℕ) (second : Bool) (c r : ℕ) → 1 ≤ r → fine false false r (nat_lt c 256) (set_ends second c) ≡ true → fine false false r (nat_lt c 256) (set_number v n second c) ≡ true
+set_number_fine v n second c r le ends =
+    let w : ℕ = 10 * v + (c - 48) in
+    fine_by false false r (nat_lt c 256) (is_digit c)
+    (cond (nat_lt n 10 && nat_le w 4294967295 && not (w == 0 && n == 9)) (move.One (sym.Set (set.Number w (n + 1) second))) move.Fail)
+    (cond (nat_lt 0 v) (set_ends second c) move.Fail)
+    (λ d. fine_by false false r (nat_lt c 256) (nat_lt n 10 && nat_le w 4294967295 && not (w == 0 && n == 9)) (move.One (sym.Set (set.Number w (n + 1) second))) move.Fail
+    (λ e. and_from _ _ (and_from _ _ (and_from _ _ (and_from _ _ (small_digit c d) (digits_fit n w e)) refl) (le-leb 1 r le)) refl)
+    (λ e. refl))
+    (λ d. fine_by false false r (nat_lt c 256) (nat_lt 0 v) (set_ends second c) move.Fail (λ e. ends) (λ e. refl))
+
+set_ends_wide : (c : ℕ) → fine false false 2 (nat_lt c 256) (set_ends false c) ≡ true
+set_ends_wide c = grind arith
+
+open_fine : (c : ℕ) → fine false false 2 (nat_lt c 256) (set_rule set.Open c) ≡ true
+open_fine c = fine_by false false 2 (nat_lt c 256) (c == 40) (move.Two (sym.Line (line.Folded phrase.Earlier 1)) (sym.Set (set.Number 0 0 false))) (set_number 0 0 false c)
+    (λ e. pair_fine c (small_40 c e))
+    (λ e. set_number_fine 0 0 false c 2 (omega arith) (set_ends_wide c))
+  where
+    small_40 : (c : ℕ) → (c == 40) ≡ true → nat_lt c 256 ≡ true
+    small_40 c e = grind arith
+
+    pair_fine : (c : ℕ) → nat_lt c 256 ≡ true → fine false false 2 (nat_lt c 256) (move.Two (sym.Line (line.Folded phrase.Earlier 1)) (sym.Set (set.Number 0 0 false))) ≡ true
+    pair_fine c e = rw e refl
+
 -- ---- all
 
 pub move_fine : (s : Sym) (c : ℕ) → is_octets s ≡ false → SymFits s ≡ true → fine (ends_open s) (may_yield s) (need s) (nat_lt c 256) (rule_of s c) ≡ true
@@ -222,3 +295,11 @@ move_fine (sym.Names names.More) c o fits = grind arith
 move_fine (sym.Names names.Name) c o fits = grind arith
 move_fine (sym.Names names.Atom) c o fits = grind arith
 move_fine (sym.Names names.AtomRest) c o fits = grind arith
+move_fine (sym.Words words.More) c o fits = words_more_fine 1 c (omega arith)
+move_fine (sym.Words words.First) c o fits = grind arith
+move_fine (sym.Words words.Rest) c o fits = fine_by false false 1 (nat_lt c 256) (is_word c) (move.One (sym.Words words.Rest)) (words_more c) (λ e. rest_word_fine c e) (λ e. words_more_fine 1 c (omega arith))
+  where
+    rest_word_fine : (c : ℕ) → is_word c ≡ true → fine false false 1 (nat_lt c 256) (move.One (sym.Words words.Rest)) ≡ true
+    rest_word_fine c e = grind arith
+move_fine (sym.Set set.Open) c o fits = open_fine c
+move_fine (sym.Set (set.Number v n second)) c o fits = set_number_fine v n second c 1 (omega arith) (set_ends_fine second c)

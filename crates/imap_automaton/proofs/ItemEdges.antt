@@ -29,14 +29,21 @@ pub value_mono : (v : ℕ) (t : List ℕ) → v ≤ value_from v t
 value_mono v [] = omega arith
 value_mono v (c ∷ t) = let ih = value_mono (10 * v + (c - 48)) t in omega (arith, ih)
 
+abbrev next_fits : ℕ → ℕ → ℕ → Bool
+next_fits v n c = nat_lt n 10 && nat_le (10 * v + (c - 48)) 4294967295 && not (10 * v + (c - 48) == 0 && n == 9)
+
+-- one digit more
+pub number_more : (v n c : ℕ) (t : List ℕ) → is_digit c ≡ true → NumberRest (10 * v + (c - 48)) (n + 1) t → NumberRest v n (c ∷ t)
+number_more v n c t e h = record { each = (e, h.each); some = omega arith; few = omega (arith, h.few); most = h.most; not_zero = h.not_zero }
+
 number_back : (v n c : ℕ) (t : List ℕ) → After (number_rule v n c) t → NumberRest v n (c ∷ t)
 number_back v n c t h =
     let w : ℕ = 10 * v + (c - 48) in
     from_test (is_digit c)
-    (cond (nat_lt n 10 && nat_le w 4294967295 && not (w == 0 && n == 9)) (move.One (sym.Item (item.Number w (n + 1)))) move.Fail)
+    (cond (next_fits v n c) (move.One (sym.Item (item.Number w (n + 1)))) move.Fail)
     (cond (nat_lt 0 v) move.Yield move.Fail) t (NumberRest v n (c ∷ t))
-    (λ e a. from_test (nat_lt n 10 && nat_le w 4294967295 && not (w == 0 && n == 9)) (move.One (sym.Item (item.Number w (n + 1)))) move.Fail t (NumberRest v n (c ∷ t))
-    (λ f l. record { each = (e, l.each); some = omega arith; few = omega (arith, l.few); most = l.most; not_zero = l.not_zero })
+    (λ e a. from_test (next_fits v n c) (move.One (sym.Item (item.Number w (n + 1)))) move.Fail t (NumberRest v n (c ∷ t))
+    (λ f l. number_more v n c t e l)
     (λ f l. absurd l) a)
     (λ e a. from_test (nat_lt 0 v) move.Yield move.Fail t (NumberRest v n (c ∷ t)) (λ f l. absurd l) (λ f l. absurd l) a) h
 
@@ -45,18 +52,25 @@ zero_left : (w n : ℕ) (t : List ℕ) → 0 < value_from w t → n + (1 + lengt
 zero_left w n [] e few = let ne : (w == 0) ≡ false = ne_eqb w 0 (λ q. omega (arith, e, q)) in rw ne refl
 zero_left w n (c ∷ t) e few = let ne : (n == 9) ≡ false = ne_eqb n 9 (λ q. omega (arith, few)) in rw ne (grind arith)
 
-number_forth : (v n c : ℕ) (t : List ℕ) → NumberRest v n (c ∷ t) → After (number_rule v n c) t
-number_forth v n c t h =
+-- the first digit of the rest
+pub number_goes : (v n c : ℕ) (t : List ℕ) → NumberRest v n (c ∷ t) → (is_digit c ≡ true) × (next_fits v n c ≡ true) × NumberRest (10 * v + (c - 48)) (n + 1) t
+number_goes v n c t h =
     let w : ℕ = 10 * v + (c - 48) in
     let few : n + (1 + length t) ≤ 10 = omega (arith, h.few) in
     let most : value_from w t ≤ 4294967295 = h.most in
-    let mono = value_mono w t in
+    let mono = value_mono w t in (
+      h.each.0,
+      and_from _ _ (and_from _ _ (lt-ltb n 10 (omega (arith, few))) (le-leb w 4294967295 (omega (arith, most, mono)))) (zero_left w n t h.not_zero few),
+      record { each = h.each.1; some = omega arith; few = omega (arith, few); most = h.most; not_zero = h.not_zero },
+    )
+
+number_forth : (v n c : ℕ) (t : List ℕ) → NumberRest v n (c ∷ t) → After (number_rule v n c) t
+number_forth v n c t h =
+    let k = number_goes v n c t h in
     at_true (is_digit c)
-    (cond (nat_lt n 10 && nat_le w 4294967295 && not (w == 0 && n == 9)) (move.One (sym.Item (item.Number w (n + 1)))) move.Fail)
-    (cond (nat_lt 0 v) move.Yield move.Fail) t h.each.0
-    (at_true (nat_lt n 10 && nat_le w 4294967295 && not (w == 0 && n == 9)) (move.One (sym.Item (item.Number w (n + 1)))) move.Fail t
-    (and_from _ _ (and_from _ _ (lt-ltb n 10 (omega (arith, few))) (le-leb w 4294967295 (omega (arith, most, mono)))) (zero_left w n t h.not_zero few))
-    (record { each = h.each.1; some = omega arith; few = omega (arith, few); most = h.most; not_zero = h.not_zero }))
+    (cond (next_fits v n c) (move.One (sym.Item (item.Number (10 * v + (c - 48)) (n + 1)))) move.Fail)
+    (cond (nat_lt 0 v) move.Yield move.Fail) t k.0
+    (at_true (next_fits v n c) (move.One (sym.Item (item.Number (10 * v + (c - 48)) (n + 1)))) move.Fail t k.1 k.2)
 
 pub stop_no_digit : (c : ℕ) → stops c ≡ true → is_digit c ≡ false
 stop_no_digit c e = grind arith
@@ -73,23 +87,27 @@ number_ends v n c h e =
     cond_yes b x y e = rw e refl
 
 -- a number that has come whole
-pub number_yields : (v n c : ℕ) → ItemFits (item.Number v n) ≡ true → number_rule v n c ≡ move.Yield → NumberRest v n []
-number_yields v n c fits e =
+pub number_none : (v n : ℕ) → ItemFits (item.Number v n) ≡ true → 0 < v → NumberRest v n []
+number_none v n fits pos =
     let a = and_parts (nat_le n 10 && nat_le v 4294967295 && (nat_lt 0 n || v == 0)) (not (v == 0 && n == 10)) fits in
     let b = and_parts (nat_le n 10 && nat_le v 4294967295) (nat_lt 0 n || v == 0) a.0 in
     let d = and_parts (nat_le n 10) (nat_le v 4294967295) b.0 in
-    let pos : nat_lt 0 v ≡ true = ended (is_digit c) (nat_lt n 10 && nat_le (10 * v + (c - 48)) 4294967295 && not (10 * v + (c - 48) == 0 && n == 9)) (nat_lt 0 v) (sym.Item (item.Number (10 * v + (c - 48)) (n + 1))) e in
-    let some : 0 < n = digits_some v n (ltb-true 0 v pos) b.1 in
-    record { each = tt; some = omega (arith, some); few = omega (arith, leb-true _ _ d.0); most = leb-true _ _ d.1; not_zero = ltb-true 0 v pos }
+    let some : 0 < n = digits_some v n pos b.1 in
+    record { each = tt; some = omega (arith, some); few = omega (arith, leb-true _ _ d.0); most = leb-true _ _ d.1; not_zero = pos }
+  where
+    digits_some : (v n : ℕ) → 0 < v → (nat_lt 0 n || v == 0) ≡ true → 0 < n
+    digits_some v n pos e = grind arith
+
+pub number_yields : (v n c : ℕ) → ItemFits (item.Number v n) ≡ true → number_rule v n c ≡ move.Yield → NumberRest v n []
+number_yields v n c fits e =
+    let pos : nat_lt 0 v ≡ true = ended (is_digit c) (next_fits v n c) (nat_lt 0 v) (sym.Item (item.Number (10 * v + (c - 48)) (n + 1))) e in
+    number_none v n fits (ltb-true 0 v pos)
   where
     ended : (p q r : Bool) (s : Rattle.imap_automaton.specs.declared.sym.Sym.Sym) → cond p (cond q (move.One s) move.Fail) (cond r move.Yield move.Fail) ≡ move.Yield → r ≡ true
     ended true true r s e = absurd cc
     ended true false r s e = absurd cc
     ended false q true s e = refl
     ended false q false s e = absurd cc
-
-    digits_some : (v n : ℕ) → 0 < v → (nat_lt 0 n || v == 0) ≡ true → 0 < n
-    digits_some v n pos e = grind arith
 
 number_from : (n : ℕ) (t : List ℕ) → IsNonZero n t → NumberRest 0 0 t
 number_from n t h = record { each = h.0.digits; some = omega (arith, h.0.some); few = omega (arith, h.0.few); most = omega (arith, h.0.value, h.0.most); not_zero = omega (arith, h.0.value, h.1) }
@@ -205,7 +223,7 @@ items_stop (i ∷ is) c t h = is_true_at stops c 32 (cons_head c 32 t (h.0 ++ h.
 pub one_item : (i : items.Item) × items.IsItem i (codes "uid 1")
 one_item = (items.Uid 1, record { name = codes "uid"; value = 49 ∷ []; whole = refl; atom = (refl, (refl, (refl, tt))); item = (refl, (record { digits = (refl, tt); some = omega arith; few = omega arith; value = refl; most = omega arith }, omega arith)) })
 
-number_some : (v n : ℕ) → ItemFits (item.Number v n) ≡ true → (t : List ℕ) × NumberRest v n t
+pub number_some : (v n : ℕ) → ItemFits (item.Number v n) ≡ true → (t : List ℕ) × NumberRest v n t
 number_some v n fits =
     let a = and_parts (nat_le n 10 && nat_le v 4294967295 && (nat_lt 0 n || v == 0)) (not (v == 0 && n == 10)) fits in
     let b = and_parts (nat_le n 10 && nat_le v 4294967295) (nat_lt 0 n || v == 0) a.0 in

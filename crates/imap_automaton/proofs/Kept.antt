@@ -103,6 +103,8 @@ by_octets P (sym.Line q) f g = g refl
 by_octets P (sym.Word p k at) f g = g refl
 by_octets P (sym.Item q) f g = g refl
 by_octets P (sym.Names q) f g = g refl
+by_octets P (sym.Words q) f g = g refl
+by_octets P (sym.Set q) f g = g refl
 
 pub moves_good : (s : Sym) (c : ℕ) → SymFits s ≡ true → move_good (ends_open s) (rule_of s c) ≡ true
 moves_good s c = by_octets (λ s. SymFits s ≡ true → move_good (ends_open s) (rule_of s c) ≡ true) s (λ n fits. octets_good n c fits)

@@ -17,7 +17,7 @@ use Rattle.imap_syntax.specs.Texts.{Each}
 -- ---- texts of keys
 
 abbrev key_named : List ℕ → Key
-key_named t = unwrap_or (find (λ k. bytes_eq (key_text k) t) (key.Ok ∷ key.No ∷ key.Bad ∷ key.Preauth ∷ key.Bye ∷ key.Fetch ∷ key.Uid ∷ key.Flags ∷ [])) key.Ok
+key_named t = unwrap_or (find (λ k. bytes_eq (key_text k) t) (key.Ok ∷ key.No ∷ key.Bad ∷ key.Preauth ∷ key.Bye ∷ key.Capability ∷ key.Enabled ∷ key.Vanished ∷ key.Exists ∷ key.Expunge ∷ key.Fetch ∷ key.Uid ∷ key.Flags ∷ [])) key.Ok
 
 named : (k : Key) → key_named (key_text k) ≡ k
 named key.Ok = refl
@@ -25,6 +25,11 @@ named key.No = refl
 named key.Bad = refl
 named key.Preauth = refl
 named key.Bye = refl
+named key.Capability = refl
+named key.Enabled = refl
+named key.Vanished = refl
+named key.Exists = refl
+named key.Expunge = refl
 named key.Fetch = refl
 named key.Uid = refl
 named key.Flags = refl
@@ -42,6 +47,11 @@ key_octets key.No = (refl, (refl, tt))
 key_octets key.Bad = (refl, (refl, (refl, tt)))
 key_octets key.Preauth = (refl, (refl, (refl, (refl, (refl, (refl, (refl, tt)))))))
 key_octets key.Bye = (refl, (refl, (refl, tt)))
+key_octets key.Capability = (refl, (refl, (refl, (refl, (refl, (refl, (refl, (refl, (refl, (refl, tt))))))))))
+key_octets key.Enabled = (refl, (refl, (refl, (refl, (refl, (refl, (refl, tt)))))))
+key_octets key.Vanished = (refl, (refl, (refl, (refl, (refl, (refl, (refl, (refl, tt))))))))
+key_octets key.Exists = (refl, (refl, (refl, (refl, (refl, (refl, tt))))))
+key_octets key.Expunge = (refl, (refl, (refl, (refl, (refl, (refl, (refl, tt)))))))
 key_octets key.Fetch = (refl, (refl, (refl, (refl, (refl, tt)))))
 key_octets key.Uid = (refl, (refl, (refl, tt)))
 key_octets key.Flags = (refl, (refl, (refl, (refl, (refl, tt)))))
@@ -52,6 +62,11 @@ key_some key.No = omega arith
 key_some key.Bad = omega arith
 key_some key.Preauth = omega arith
 key_some key.Bye = omega arith
+key_some key.Capability = omega arith
+key_some key.Enabled = omega arith
+key_some key.Vanished = omega arith
+key_some key.Exists = omega arith
+key_some key.Expunge = omega arith
 key_some key.Fetch = omega arith
 key_some key.Uid = omega arith
 key_some key.Flags = omega arith

@@ -1,5 +1,5 @@
 -- What each symbol of the automaton still reads, in the words of the grammar.
-use Rattle.std.proofs.Common.{◌≡◌, ◌⊎◌, ℕ, zero, suc, ◌+◌, ◌<◌, ◌≤◌, false, List, [], ◌∷◌, ◌++◌, length, map, take, drop, get_or}
+use Rattle.std.proofs.Common.{◌≡◌, ◌⊎◌, ℕ, zero, suc, ◌+◌, ◌<◌, ◌≤◌, Bool, true, false, List, [], ◌∷◌, ◌++◌, length, map, take, drop, get_or}
 use Rattle.imap_automaton.specs.declared.sym.Key.{Key}
 use Rattle.imap_automaton.specs.declared.sym.Key.TheVariants as key
 use Rattle.imap_automaton.specs.declared.sym.Place.{Place}
@@ -14,6 +14,10 @@ use Rattle.imap_automaton.specs.declared.sym.Item.{Item}
 use Rattle.imap_automaton.specs.declared.sym.Item.TheVariants as item
 use Rattle.imap_automaton.specs.declared.sym.Names.{Names}
 use Rattle.imap_automaton.specs.declared.sym.Names.TheVariants as names
+use Rattle.imap_automaton.specs.declared.sym.Words.{Words}
+use Rattle.imap_automaton.specs.declared.sym.Words.TheVariants as words
+use Rattle.imap_automaton.specs.declared.sym.Set.{Set}
+use Rattle.imap_automaton.specs.declared.sym.Set.TheVariants as set
 use Rattle.imap_automaton.specs.declared.sym.Sym.{Sym}
 use Rattle.imap_automaton.specs.declared.sym.Sym.TheVariants as sym
 use Rattle.imap_automaton.specs.declared.sym.Move.{Move}
@@ -21,10 +25,12 @@ use Rattle.imap_automaton.specs.declared.sym.Move.TheVariants as move
 use Rattle.imap_automaton.specs.Counts.{pends}
 use Rattle.imap_automaton.specs.Keys.{key_text, phrase_text, keys, in_word}
 use Rattle.imap_syntax.specs.declared.response.Response.{Response}
-use Rattle.imap_syntax.specs.Octets.{is_digit, is_alnum, is_text, is_atom, is_inside, lower}
-use Rattle.imap_syntax.specs.Texts.{Each, Then, crlf}
+use Rattle.imap_syntax.specs.Octets.{is_digit, is_alnum, is_text, is_word, is_atom, is_inside, lower}
+use Rattle.imap_syntax.specs.Texts.{Each, Then, crlf, IsCrlf}
 use Rattle.imap_syntax.specs.Numbers.{value_from}
-use Rattle.imap_syntax.specs.Lines.{IsLine, IsRest}
+use Rattle.imap_syntax.specs.Lines.{IsLine, IsRest, IsPrinted, AllPrinted, spaced, IsWords}
+use Rattle.imap_syntax.specs.declared.uid_set.UidRange.{UidRange}
+use Rattle.imap_syntax.specs.UidSets as sets
 use Rattle.imap_syntax.specs.Items as items
 use Rattle.imap_syntax.specs.Spells.{Spells, IsUntagged}
 
@@ -72,7 +78,7 @@ FreeLang (free.Octets n) t = OctetsRest n t
 abbrev pub NamesLang : Names → List ℕ → Type 0
 NamesLang names.Open t = (ns : List (List ℕ)) × items.IsNames ns t
 NamesLang names.First t = (ns : List (List ℕ)) × items.AllNames ns × (t ≡ items.joined ns ++ 41 ∷ [])
-NamesLang names.More t = (ns : List (List ℕ)) × items.AllNames ns × (t ≡ items.spaced ns ++ 41 ∷ [])
+NamesLang names.More t = (ns : List (List ℕ)) × items.AllNames ns × (t ≡ spaced ns ++ 41 ∷ [])
 NamesLang names.Name t = items.IsName t
 NamesLang names.Atom t = items.IsAtom t
 NamesLang names.AtomRest t = Each is_atom t
@@ -92,6 +98,38 @@ ItemLang item.Open t = (is : List items.Item) × (inner : List ℕ) × (t ≡ 40
 ItemLang item.More t = (is : List items.Item) × items.IsMore is t
 ItemLang (item.Number value digits) t = NumberRest value digits t
 
+-- ---- words up to a line's end
+
+pub record FirstWord (Front : List ℕ → Type 0) (t : List ℕ) : Type 0 where
+  pub word : List ℕ
+  pub words : List (List ℕ)
+  pub whole : t ≡ word ++ spaced words ++ crlf
+  pub front : Front word
+  pub others : AllPrinted words
+
+abbrev pub WordsLang : Words → List ℕ → Type 0
+WordsLang words.More t = (ws : List (List ℕ)) × IsWords ws t
+WordsLang words.First t = FirstWord IsPrinted t
+WordsLang words.Rest t = FirstWord (Each is_word) t
+
+-- ---- sets of UIDs up to a line's end
+
+abbrev pub SetLine : List ℕ → Type 0
+SetLine t = (rs : List UidRange) × sets.IsSetLine rs t
+
+-- behind a range
+abbrev pub RangeEnds : List ℕ → Type 0
+RangeEnds t = IsCrlf t ⊎ ((rest : List ℕ) × (t ≡ 44 ∷ rest) × SetLine rest)
+
+-- behind a number, the second of its range or not
+abbrev pub NumberEnds : Bool → List ℕ → Type 0
+NumberEnds true t = RangeEnds t
+NumberEnds false t = RangeEnds t ⊎ ((rest : List ℕ) × (t ≡ 58 ∷ rest) × Then (NumberRest 0 0) RangeEnds rest)
+
+abbrev pub SetLang : Set → List ℕ → Type 0
+SetLang set.Open t = (earlier : Bool) × (rs : List UidRange) × sets.IsVanished earlier rs t
+SetLang (set.Number value digits second) t = Then (NumberRest value digits) (NumberEnds second) t
+
 -- ---- words
 
 abbrev pub IsSpaced : (List ℕ → Type 0) → List ℕ → Type 0
@@ -107,6 +145,12 @@ IsBehind place.Plain key.No t = IsRest t
 IsBehind place.Plain key.Bad t = IsRest t
 IsBehind place.Plain key.Preauth t = IsRest t
 IsBehind place.Plain key.Bye t = IsRest t
+IsBehind place.Plain key.Capability t = WordsLang words.More t
+IsBehind place.Plain key.Enabled t = WordsLang words.More t
+IsBehind place.Plain key.Flags t = IsSpaced (Then (NamesLang names.Open) IsCrlf) t
+IsBehind place.Plain key.Vanished t = IsSpaced (SetLang set.Open) t
+IsBehind place.Numbered key.Exists t = IsCrlf t
+IsBehind place.Numbered key.Expunge t = IsCrlf t
 IsBehind place.Numbered key.Fetch t = IsSpaced (ItemLang item.Open) t
 IsBehind place.Item key.Uid t = IsSpaced (ItemLang (item.Number 0 0)) t
 IsBehind place.Item key.Flags t = IsSpaced (NamesLang names.Open) t
@@ -168,6 +212,7 @@ LineLang line.Untagged t = (v : Response) × IsUntagged v t
 LineLang (line.Sequence value digits) t = SequenceRest value digits t
 LineLang line.Text t = IsLine t
 LineLang (line.Fixed p at) t = t ≡ drop at (phrase_text p)
+LineLang (line.Folded p at) t = map lower t ≡ drop at (phrase_text p)
 
 -- ---- symbols
 
@@ -177,6 +222,8 @@ Lang (sym.Word place key at) t = WordRest place (take at (key_text key)) t
 Lang (sym.Free s) t = FreeLang s t
 Lang (sym.Item s) t = ItemLang s t
 Lang (sym.Names s) t = NamesLang s t
+Lang (sym.Words s) t = WordsLang s t
+Lang (sym.Set s) t = SetLang s t
 
 -- the symbols in turn
 abbrev pub Langs : List Sym → List ℕ → Type 0

@@ -4,6 +4,7 @@ pub mod Tests
 pub mod FreeEdges
 pub mod NamesEdges
 pub mod ItemEdges
+pub mod SetEdges
 pub mod KeyLemmas
 pub mod WordEdges
 pub mod CountLemmas

@@ -15,10 +15,10 @@ use Rattle.imap_automaton.specs.declared.sym.Line.TheVariants as line
 use Rattle.imap_automaton.specs.declared.sym.Sym.TheVariants as sym
 use Rattle.imap_automaton.specs.declared.sym.Move.{Move}
 use Rattle.imap_automaton.specs.declared.sym.Move.TheVariants as move
-use Rattle.imap_automaton.specs.Keys.{key_text, phrase_text, line_keys, first_key}
+use Rattle.imap_automaton.specs.Keys.{key_text, phrase_text, first_key}
 use Rattle.imap_automaton.specs.FreeRules.{text_rule}
 use Rattle.imap_automaton.specs.WordRules.{word_rule}
-use Rattle.imap_automaton.specs.LineRules.{word_start, sequence_rule, fixed_rule, line_rule}
+use Rattle.imap_automaton.specs.LineRules.{word_start, sequence_rule, fixed_rule, folded_rule, line_rule}
 use Rattle.imap_automaton.specs.Fits.{LineFits}
 use Rattle.imap_automaton.proofs.Langs.{FreeLang, Among, WordSays, WordRest, TagRest, NumberedRest, SequenceRest, LineLang, After}
 use Rattle.imap_automaton.proofs.Lists.{cons_head, cons_tail, no_append}
@@ -28,7 +28,7 @@ use Rattle.imap_automaton.proofs.KeyLemmas.{no_bang}
 use Rattle.imap_automaton.proofs.ItemEdges.{value_mono}
 use Rattle.imap_automaton.proofs.WordEdges.{Cut, cut, text_goes, text_comes, word_back, word_forth, word_empty, word_example}
 use Rattle.imap_automaton.proofs.CountLemmas.{free_to, free_from}
-use Rattle.imap_automaton.proofs.LineWords.{keyword_key, plain_to, plain_from, numbered_to, numbered_from, tagged_to, tagged_from}
+use Rattle.imap_automaton.proofs.LineWords.{plain_key, plain_to, plain_from, numbered_to, numbered_from, tagged_to, tagged_from}
 use Rattle.imap_syntax.specs.declared.response.Status.{Status}
 use Rattle.imap_syntax.specs.declared.response.Response.{Response}
 use Rattle.imap_syntax.specs.declared.response.Response.TheVariants as response
@@ -79,6 +79,44 @@ fixed_forth p at c t fits h =
     (to_test (at + 1 == length (phrase_text p)) move.End (move.One (sym.Line (line.Fixed p (at + 1)))) t
     (λ e. tail ∙ drop_all (at + 1) (phrase_text p) (omega (arith, eqb-true _ _ e)))
     (λ e. tail))
+
+folded_back : (p : Phrase) (at c : ℕ) (t : List ℕ) → After (folded_rule p at c) t → map lower (c ∷ t) ≡ drop at (phrase_text p)
+folded_back p at c t h = from_test (nat_lt at (length (phrase_text p)) && lower c == get_or (phrase_text p) at 0) (cond (at + 1 == length (phrase_text p)) move.End (move.One (sym.Line (line.Folded p (at + 1))))) move.Fail t (map lower (c ∷ t) ≡ drop at (phrase_text p))
+    (λ e k.
+    let b = and_parts (nat_lt at (length (phrase_text p))) (lower c == get_or (phrase_text p) at 0) e in
+    let lt : at < length (phrase_text p) = ltb-true _ _ b.0 in
+    let same : lower c ≡ get_or (phrase_text p) at 0 = eqb-true _ _ b.1 in
+    let split = drop_at (phrase_text p) at lt in
+    from_test (at + 1 == length (phrase_text p)) move.End (move.One (sym.Line (line.Folded p (at + 1)))) t (map lower (c ∷ t) ≡ drop at (phrase_text p))
+    (λ f l. let past : drop (at + 1) (phrase_text p) ≡ [] = drop_all (at + 1) (phrase_text p) (omega (arith, eqb-true _ _ f)) in cc)
+    (λ f l. cc) k)
+    (λ e k. absurd k) h
+
+lowered_none : (t : List ℕ) → map lower t ≡ [] → t ≡ []
+lowered_none [] e = refl
+lowered_none (c ∷ t) e = absurd cc
+
+folded_forth : (p : Phrase) (at c : ℕ) (t : List ℕ) → nat_lt at (length (phrase_text p)) ≡ true → map lower (c ∷ t) ≡ drop at (phrase_text p) → After (folded_rule p at c) t
+folded_forth p at c t fits h =
+    let split = drop_at (phrase_text p) at (ltb-true _ _ fits) in
+    let head = cons_head (lower c) (get_or (phrase_text p) at 0) (map lower t) (drop (at + 1) (phrase_text p)) (h ∙ split) in
+    let tail = cons_tail (lower c) (get_or (phrase_text p) at 0) (map lower t) (drop (at + 1) (phrase_text p)) (h ∙ split) in
+    at_true (nat_lt at (length (phrase_text p)) && lower c == get_or (phrase_text p) at 0) (cond (at + 1 == length (phrase_text p)) move.End (move.One (sym.Line (line.Folded p (at + 1))))) move.Fail t
+    (and_from _ _ fits (eq-eqb _ _ head))
+    (to_test (at + 1 == length (phrase_text p)) move.End (move.One (sym.Line (line.Folded p (at + 1)))) t
+    (λ e. lowered_none t (tail ∙ drop_all (at + 1) (phrase_text p) (omega (arith, eqb-true _ _ e))))
+    (λ e. tail))
+
+-- a text that is read in letters of any case
+lower_drop : (t : List ℕ) (at : ℕ) → map lower t ≡ t → map lower (drop at t) ≡ drop at t
+lower_drop t zero e = e
+lower_drop [] (suc at) e = refl
+lower_drop (c ∷ t) (suc at) e = lower_drop t at (cons_tail (lower c) c (map lower t) t e)
+
+folded_some : (p : Phrase) (at : ℕ) → (t : List ℕ) × (map lower t ≡ drop at (phrase_text p))
+folded_some phrase.Space at = (drop at (phrase_text phrase.Space), lower_drop (phrase_text phrase.Space) at refl)
+folded_some phrase.Crlf at = (drop at (phrase_text phrase.Crlf), lower_drop (phrase_text phrase.Crlf) at refl)
+folded_some phrase.Earlier at = (drop at (phrase_text phrase.Earlier), lower_drop (phrase_text phrase.Earlier) at refl)
 
 -- ---- tags
 
@@ -190,6 +228,11 @@ first_no_digit key.No = refl
 first_no_digit key.Bad = refl
 first_no_digit key.Preauth = refl
 first_no_digit key.Bye = refl
+first_no_digit key.Capability = refl
+first_no_digit key.Enabled = refl
+first_no_digit key.Vanished = refl
+first_no_digit key.Exists = refl
+first_no_digit key.Expunge = refl
 first_no_digit key.Fetch = refl
 first_no_digit key.Uid = refl
 first_no_digit key.Flags = refl
@@ -215,7 +258,7 @@ digit_line c t d h =
       word_is = (digit_word c d, r.each);
       some = λ e. cc;
       longest = r.longest;
-      says = (λ k. (let q = keyword_key (map lower (c ∷ r.front)) k in digit_no_key c r.front q.0 d q.2), (f.0, free_from f.0 (c ∷ t) f.1));
+      says = (λ k. (let q = plain_key (map lower (c ∷ r.front)) k in digit_no_key c r.front q.0 d q.2), (f.0, free_from f.0 (c ∷ t) f.1));
     }
 
 -- the text of such a line
@@ -267,42 +310,73 @@ untagged_at v c t (inr r) =
 star_from : (v : Response) (t : List ℕ) → IsUntagged v t → Spells v (42 ∷ 32 ∷ t)
 star_from (response.Tagged tag status) t (inl r) = absurd r.3.says
 star_from (response.Tagged tag status) t (inr r) = absurd r.0.says
+star_from response.Continue t (inl r) = absurd r.3.says
+star_from response.Continue t (inr r) = absurd r.0.says
 star_from (response.Untagged status) t h = (t, refl, h)
+star_from (response.Capability ws) t h = (t, refl, h)
+star_from (response.Enabled ws) t h = (t, refl, h)
+star_from (response.Flags flags) t h = (t, refl, h)
+star_from (response.Exists count) t h = (t, refl, h)
+star_from (response.Expunge seq) t h = (t, refl, h)
 star_from (response.Fetch seq items) t h = (t, refl, h)
+star_from (response.Vanished earlier uids) t h = (t, refl, h)
 star_from response.Other t h = (t, refl, h)
 
+abbrev tag_or_none : ℕ → Move
+tag_or_none c = cond (is_alnum c) (move.One (sym.Line (line.Tag 1))) move.Fail
+
+abbrev plus_or_tag : ℕ → Move
+plus_or_tag c = cond (c == 43) (move.One (sym.Line line.Text)) (tag_or_none c)
+
 start_back : (c : ℕ) (t : List ℕ) → After (line_rule line.Start c) t → LineLang line.Start (c ∷ t)
-start_back c t h = from_test (c == 42) (move.Two (sym.Line (line.Fixed phrase.Space 0)) (sym.Line line.Untagged)) (cond (is_alnum c) (move.One (sym.Line (line.Tag 1))) move.Fail) t (LineLang line.Start (c ∷ t))
+start_back c t h = from_test (c == 42) (move.Two (sym.Line (line.Fixed phrase.Space 0)) (sym.Line line.Untagged)) (plus_or_tag c) t (LineLang line.Start (c ∷ t))
     (λ e k.
     let is : c ∷ t ≡ 42 ∷ 32 ∷ k.back = ap (λ (n : ℕ). n ∷ t) (eqb-true c 42 e) ∙ ap (λ (u : List ℕ). 42 ∷ u) (k.whole ∙ ap (λ (u : List ℕ). u ++ k.back) k.first) in
     (k.second.0, subst (Spells k.second.0) (sym is) (star_from k.second.0 k.back k.second.1)))
-    (λ e k. from_test (is_alnum c) (move.One (sym.Line (line.Tag 1))) move.Fail t (LineLang line.Start (c ∷ t))
-    (λ f l.
-    let s = tagged_from l.after l.line in
-    (response.Tagged (c ∷ l.tag) s.0, record { after = l.after; whole = ap (λ (u : List ℕ). c ∷ u) l.whole; tag_is = (f, l.tag_is); some = omega arith; few = omega (arith, l.few); completes = s.1; line = s.2 }))
-    (λ f l. absurd l) k) h
+    (λ e k. from_test (c == 43) (move.One (sym.Line line.Text)) (tag_or_none c) t (LineLang line.Start (c ∷ t))
+    (λ f l. (response.Continue, (t, ap (λ (n : ℕ). n ∷ t) (eqb-true c 43 f), l)))
+    (λ f l. from_test (is_alnum c) (move.One (sym.Line (line.Tag 1))) move.Fail t (LineLang line.Start (c ∷ t))
+    (λ g m.
+    let s = tagged_from m.after m.line in
+    (response.Tagged (c ∷ m.tag) s.0, record { after = m.after; whole = ap (λ (u : List ℕ). c ∷ u) m.whole; tag_is = (g, m.tag_is); some = omega arith; few = omega (arith, m.few); completes = s.1; line = s.2 }))
+    (λ g m. absurd m) l) k) h
 
-star_not_alnum : (c : ℕ) → is_alnum c ≡ true → (c == 42) ≡ false
-star_not_alnum c e = grind arith
+alnum_apart : (c : ℕ) → is_alnum c ≡ true → ((c == 42) ≡ false) × ((c == 43) ≡ false)
+alnum_apart c e = (grind arith, grind arith)
 
 tagged_at : (s : Status) (c : ℕ) (t tag : List ℕ) → (h : IsTagged tag s (c ∷ t)) → c ∷ t ≡ tag ++ 32 ∷ h.after → After (line_rule line.Start c) t
 tagged_at s c t [] h e = absurd (omega (arith, h.some))
 tagged_at s c t (d ∷ x) h e =
     let same : c ≡ d = cons_head c d t (x ++ 32 ∷ h.after) e in
     let ok : is_alnum c ≡ true = is_true_at is_alnum c d same h.tag_is.0 in
-    at_false (c == 42) (move.Two (sym.Line (line.Fixed phrase.Space 0)) (sym.Line line.Untagged)) (cond (is_alnum c) (move.One (sym.Line (line.Tag 1))) move.Fail) t (star_not_alnum c ok)
+    let apart = alnum_apart c ok in
+    at_false (c == 42) (move.Two (sym.Line (line.Fixed phrase.Space 0)) (sym.Line line.Untagged)) (plus_or_tag c) t apart.0
+    (at_false (c == 43) (move.One (sym.Line line.Text)) (tag_or_none c) t apart.1
     (at_true (is_alnum c) (move.One (sym.Line (line.Tag 1))) move.Fail t ok
-    (record { tag = x; after = h.after; whole = cons_tail c d t (x ++ 32 ∷ h.after) e; tag_is = h.tag_is.1; few = omega (arith, h.few); line = tagged_to s h.after h.completes h.line }))
+    (record { tag = x; after = h.after; whole = cons_tail c d t (x ++ 32 ∷ h.after) e; tag_is = h.tag_is.1; few = omega (arith, h.few); line = tagged_to s h.after h.completes h.line })))
 
 star_at : (v : Response) (c : ℕ) (t l : List ℕ) → c ∷ t ≡ 42 ∷ 32 ∷ l → IsUntagged v l → After (line_rule line.Start c) t
 star_at v c t l e h =
-    at_true (c == 42) (move.Two (sym.Line (line.Fixed phrase.Space 0)) (sym.Line line.Untagged)) (cond (is_alnum c) (move.One (sym.Line (line.Tag 1))) move.Fail) t (eq-eqb c 42 (cons_head c 42 t (32 ∷ l) e))
+    at_true (c == 42) (move.Two (sym.Line (line.Fixed phrase.Space 0)) (sym.Line line.Untagged)) (plus_or_tag c) t (eq-eqb c 42 (cons_head c 42 t (32 ∷ l) e))
     (record { front = 32 ∷ []; back = l; whole = cons_tail c 42 t (32 ∷ l) e; first = refl; second = (v, h) })
+
+plus_at : (c : ℕ) (t l : List ℕ) → c ∷ t ≡ 43 ∷ l → IsLine l → After (line_rule line.Start c) t
+plus_at c t l e h =
+    let same : c ≡ 43 = cons_head c 43 t l e in
+    at_false (c == 42) (move.Two (sym.Line (line.Fixed phrase.Space 0)) (sym.Line line.Untagged)) (plus_or_tag c) t (ap (λ (n : ℕ). n == 42) same)
+    (at_true (c == 43) (move.One (sym.Line line.Text)) (tag_or_none c) t (eq-eqb c 43 same) (subst IsLine (sym (cons_tail c 43 t l e)) h))
 
 start_at : (v : Response) (c : ℕ) (t : List ℕ) → Spells v (c ∷ t) → After (line_rule line.Start c) t
 start_at (response.Tagged tag status) c t h = tagged_at status c t tag h h.whole
+start_at response.Continue c t h = plus_at c t h.0 h.1 h.2
 start_at (response.Untagged status) c t h = star_at (response.Untagged status) c t h.0 h.1 h.2
+start_at (response.Capability ws) c t h = star_at (response.Capability ws) c t h.0 h.1 h.2
+start_at (response.Enabled ws) c t h = star_at (response.Enabled ws) c t h.0 h.1 h.2
+start_at (response.Flags flags) c t h = star_at (response.Flags flags) c t h.0 h.1 h.2
+start_at (response.Exists count) c t h = star_at (response.Exists count) c t h.0 h.1 h.2
+start_at (response.Expunge seq) c t h = star_at (response.Expunge seq) c t h.0 h.1 h.2
 start_at (response.Fetch seq items) c t h = star_at (response.Fetch seq items) c t h.0 h.1 h.2
+start_at (response.Vanished earlier uids) c t h = star_at (response.Vanished earlier uids) c t h.0 h.1 h.2
 start_at response.Other c t h = star_at response.Other c t h.0 h.1 h.2
 
 -- ---- the group
@@ -314,6 +388,7 @@ line_edge_back line.Untagged c t fits h = untagged_back c t h
 line_edge_back (line.Sequence v n) c t fits h = sequence_back v n c t fits h
 line_edge_back line.Text c t fits h = line_back c t h
 line_edge_back (line.Fixed p at) c t fits h = fixed_back p at c t h
+line_edge_back (line.Folded p at) c t fits h = folded_back p at c t h
 
 pub line_edge_forth : (s : Line) (c : ℕ) (t : List ℕ) → LineFits s ≡ true → LineLang s (c ∷ t) → After (line_rule s c) t
 line_edge_forth line.Start c t fits h = start_at h.0 c t h.1
@@ -322,11 +397,19 @@ line_edge_forth line.Untagged c t fits h = untagged_at h.0 c t h.1
 line_edge_forth (line.Sequence v n) c t fits h = sequence_forth v n c t fits h
 line_edge_forth line.Text c t fits h = line_at c t h.text h.whole h.text_is
 line_edge_forth (line.Fixed p at) c t fits h = fixed_forth p at c t fits h
+line_edge_forth (line.Folded p at) c t fits h = folded_forth p at c t fits h
 
 start_none : (v : Response) → Spells v [] → ⊥
 start_none (response.Tagged tag status) h = mid tag h.after 32 h.whole
+start_none response.Continue h = let e = h.1 in cc
 start_none (response.Untagged status) h = let e = h.1 in cc
+start_none (response.Capability ws) h = let e = h.1 in cc
+start_none (response.Enabled ws) h = let e = h.1 in cc
+start_none (response.Flags flags) h = let e = h.1 in cc
+start_none (response.Exists count) h = let e = h.1 in cc
+start_none (response.Expunge seq) h = let e = h.1 in cc
 start_none (response.Fetch seq items) h = let e = h.1 in cc
+start_none (response.Vanished earlier uids) h = let e = h.1 in cc
 start_none response.Other h = let e = h.1 in cc
 
 untagged_none : (v : Response) → IsUntagged v [] → ⊥
@@ -344,12 +427,13 @@ line_empty line.Untagged fits h = untagged_none h.0 h.1
 line_empty (line.Sequence v n) fits h = sequence_none v n h
 line_empty line.Text fits h = mid h.text (10 ∷ []) 13 h.whole
 line_empty (line.Fixed p at) fits h = let split = drop_at (phrase_text p) at (ltb-true _ _ fits) in cc
+line_empty (line.Folded p at) fits h = let split = drop_at (phrase_text p) at (ltb-true _ _ fits) in let e : [] ≡ drop at (phrase_text p) = h in cc
 
 ok_line : (t : List ℕ) × WordRest place.Tagged [] t
 ok_line = word_example place.Tagged key.Ok 0 (omega arith) refl
 
 bang_word : (t : List ℕ) × WordRest place.Numbered [] t
-bang_word = word_example place.Numbered key.Ok 0 (omega arith) refl
+bang_word = word_example place.Numbered key.Exists 0 (omega arith) refl
 
 bang_line : IsWordLine None response.Other (33 ∷ crlf)
 bang_line = record {
@@ -359,7 +443,7 @@ bang_line = record {
   word_is = (refl, tt);
   some = λ e. cc;
   longest = refl;
-  says = (λ k. (let q = keyword_key (33 ∷ []) k in no_bang q.0 [] [] q.2), (0, free_from 0 (33 ∷ crlf) (record { text = 33 ∷ []; whole = refl; text_is = (refl, tt); no_count = tt })));
+  says = (λ k. (let q = plain_key (33 ∷ []) k in no_bang q.0 [] [] q.2), (0, free_from 0 (33 ∷ crlf) (record { text = 33 ∷ []; whole = refl; text_is = (refl, tt); no_count = tt })));
 }
 
 bang_untagged : IsUntagged response.Other (33 ∷ crlf)
@@ -377,3 +461,4 @@ line_example (line.Sequence v n) fits =
     (32 ∷ bang_word.0, inl (bang_word.0, numbered_here v n bang_word.0 s.1 s.2, bang_word.1))
 line_example line.Text fits = (crlf, record { text = []; whole = refl; text_is = tt })
 line_example (line.Fixed p at) fits = (drop at (phrase_text p), refl)
+line_example (line.Folded p at) fits = folded_some p at

@@ -7,7 +7,7 @@ use Rattle.imap_automaton.specs.declared.sym.Key.TheVariants as key
 use Rattle.imap_automaton.specs.declared.sym.Place.{Place}
 use Rattle.imap_automaton.specs.declared.sym.Place.TheVariants as place
 use Rattle.imap_automaton.specs.declared.sym.Item.TheVariants as item
-use Rattle.imap_automaton.specs.Keys.{key_text, keys, line_keys, is_among}
+use Rattle.imap_automaton.specs.Keys.{key_text, keys}
 use Rattle.imap_automaton.proofs.Langs.{ItemLang, IsSpaced, Among, IsBehind, IsStray, WordSays, WordRest}
 use Rattle.imap_automaton.proofs.Lists.{cons_head, cons_tail}
 use Rattle.imap_automaton.proofs.KeyLemmas.{is_key_octet, key_octets, key_some, among_is}
@@ -19,34 +19,66 @@ use Rattle.imap_syntax.specs.declared.response.Response.TheVariants as response
 use Rattle.imap_syntax.specs.Octets.{is_digit, is_word, is_atom, lower}
 use Rattle.imap_syntax.specs.Texts.{Each, Then, crlf, IsWord}
 use Rattle.imap_syntax.specs.Lines.{word_of, Completes, IsRest}
-use Rattle.imap_syntax.specs.Items.{Item, IsItems, items_of}
-use Rattle.imap_syntax.specs.Spells.{keywords, Says, IsWordLine}
+use Rattle.imap_syntax.specs.Items.{kept, items_of}
+use Rattle.imap_syntax.specs.Spells.{keywords, IsFlagsLine, Says, IsWordLine}
 
 -- ---- keywords
 
-pub keyword_key : (w : List ℕ) → Contains keywords w → (k : Key) × Among k line_keys × (w ≡ key_text k)
-keyword_key w (zero, lt, e) = (key.Ok, inl refl, sym e)
-keyword_key w (suc zero, lt, e) = (key.No, inr (inl refl), sym e)
-keyword_key w (suc (suc zero), lt, e) = (key.Bad, inr (inr (inl refl)), sym e)
-keyword_key w (suc (suc (suc zero)), lt, e) = (key.Preauth, inr (inr (inr (inl refl))), sym e)
-keyword_key w (suc (suc (suc (suc zero))), lt, e) = (key.Bye, inr (inr (inr (inr (inl refl)))), sym e)
-keyword_key w (suc (suc (suc (suc (suc zero)))), lt, e) = (key.Fetch, inr (inr (inr (inr (inr (inl refl))))), sym e)
-keyword_key w (suc (suc (suc (suc (suc (suc i))))), lt, e) = absurd (omega (arith, lt))
+pub plain_key : (w : List ℕ) → Contains (keywords None) w → (k : Key) × Among k (keys place.Plain) × (w ≡ key_text k)
+plain_key w (zero, lt, e) = (key.Ok, inl refl, sym e)
+plain_key w (suc zero, lt, e) = (key.No, inr (inl refl), sym e)
+plain_key w (suc (suc zero), lt, e) = (key.Bad, inr (inr (inl refl)), sym e)
+plain_key w (suc (suc (suc zero)), lt, e) = (key.Preauth, inr (inr (inr (inl refl))), sym e)
+plain_key w (suc (suc (suc (suc zero))), lt, e) = (key.Bye, inr (inr (inr (inr (inl refl)))), sym e)
+plain_key w (suc (suc (suc (suc (suc zero)))), lt, e) = (key.Capability, inr (inr (inr (inr (inr (inl refl))))), sym e)
+plain_key w (suc (suc (suc (suc (suc (suc zero))))), lt, e) = (key.Enabled, inr (inr (inr (inr (inr (inr (inl refl)))))), sym e)
+plain_key w (suc (suc (suc (suc (suc (suc (suc zero)))))), lt, e) = (key.Flags, inr (inr (inr (inr (inr (inr (inr (inl refl))))))), sym e)
+plain_key w (suc (suc (suc (suc (suc (suc (suc (suc zero))))))), lt, e) = (key.Vanished, inr (inr (inr (inr (inr (inr (inr (inr (inl refl)))))))), sym e)
+plain_key w (suc (suc (suc (suc (suc (suc (suc (suc (suc i)))))))), lt, e) = absurd (omega (arith, lt))
 
-key_keyword : (k : Key) → Among k line_keys → Contains keywords (key_text k)
-key_keyword key.Ok m = (0, omega arith, refl)
-key_keyword key.No m = (1, omega arith, refl)
-key_keyword key.Bad m = (2, omega arith, refl)
-key_keyword key.Preauth m = (3, omega arith, refl)
-key_keyword key.Bye m = (4, omega arith, refl)
-key_keyword key.Fetch m = (5, omega arith, refl)
-key_keyword key.Uid m = let e = among_is key.Uid line_keys m in absurd cc
-key_keyword key.Flags m = let e = among_is key.Flags line_keys m in absurd cc
+numbered_key : (n : ℕ) (w : List ℕ) → Contains (keywords (Some n)) w → (k : Key) × Among k (keys place.Numbered) × (w ≡ key_text k)
+numbered_key n w (zero, lt, e) = (key.Exists, inl refl, sym e)
+numbered_key n w (suc zero, lt, e) = (key.Expunge, inr (inl refl), sym e)
+numbered_key n w (suc (suc zero), lt, e) = (key.Fetch, inr (inr (inl refl)), sym e)
+numbered_key n w (suc (suc (suc i)), lt, e) = absurd (omega (arith, lt))
+
+key_plain : (k : Key) → Among k (keys place.Plain) → Contains (keywords None) (key_text k)
+key_plain key.Ok m = (0, omega arith, refl)
+key_plain key.No m = (1, omega arith, refl)
+key_plain key.Bad m = (2, omega arith, refl)
+key_plain key.Preauth m = (3, omega arith, refl)
+key_plain key.Bye m = (4, omega arith, refl)
+key_plain key.Capability m = (5, omega arith, refl)
+key_plain key.Enabled m = (6, omega arith, refl)
+key_plain key.Vanished m = (8, omega arith, refl)
+key_plain key.Exists m = let e = among_is key.Exists (keys place.Plain) m in absurd cc
+key_plain key.Expunge m = let e = among_is key.Expunge (keys place.Plain) m in absurd cc
+key_plain key.Fetch m = let e = among_is key.Fetch (keys place.Plain) m in absurd cc
+key_plain key.Uid m = let e = among_is key.Uid (keys place.Plain) m in absurd cc
+key_plain key.Flags m = (7, omega arith, refl)
+
+key_numbered : (n : ℕ) (k : Key) → Among k (keys place.Numbered) → Contains (keywords (Some n)) (key_text k)
+key_numbered n key.Ok m = let e = among_is key.Ok (keys place.Numbered) m in absurd cc
+key_numbered n key.No m = let e = among_is key.No (keys place.Numbered) m in absurd cc
+key_numbered n key.Bad m = let e = among_is key.Bad (keys place.Numbered) m in absurd cc
+key_numbered n key.Preauth m = let e = among_is key.Preauth (keys place.Numbered) m in absurd cc
+key_numbered n key.Bye m = let e = among_is key.Bye (keys place.Numbered) m in absurd cc
+key_numbered n key.Capability m = let e = among_is key.Capability (keys place.Numbered) m in absurd cc
+key_numbered n key.Enabled m = let e = among_is key.Enabled (keys place.Numbered) m in absurd cc
+key_numbered n key.Vanished m = let e = among_is key.Vanished (keys place.Numbered) m in absurd cc
+key_numbered n key.Exists m = (0, omega arith, refl)
+key_numbered n key.Expunge m = (1, omega arith, refl)
+key_numbered n key.Fetch m = (2, omega arith, refl)
+key_numbered n key.Uid m = let e = among_is key.Uid (keys place.Numbered) m in absurd cc
+key_numbered n key.Flags m = let e = among_is key.Flags (keys place.Numbered) m in absurd cc
 
 -- ---- behind `* `
 
-stray_to : (w t : List ℕ) → (Contains keywords w → ⊥) → (k : Key) → Among k line_keys → w ≡ key_text k → ⊥
-stray_to w t no_key k m e = no_key (subst (Contains keywords) (sym e) (key_keyword k m))
+stray_to : (w : List ℕ) → (Contains (keywords None) w → ⊥) → (k : Key) → Among k (keys place.Plain) → w ≡ key_text k → ⊥
+stray_to w no_key k m e = no_key (subst (Contains (keywords None)) (sym e) (key_plain k m))
+
+flags_to : (flags : List (List ℕ)) (t : List ℕ) → IsFlagsLine flags t → IsBehind place.Plain key.Flags t
+flags_to flags t h = (h.1 ++ crlf, h.2, record { front = h.1; back = crlf; whole = refl; first = (h.0, h.3); second = refl })
 
 plain_says : (v : Response) (w tail t : List ℕ) → Says None v w tail t → WordSays place.Plain w tail t
 plain_says (response.Untagged status.Ok) w tail t h = inl (key.Ok, inl refl, h.0, h.1)
@@ -54,9 +86,12 @@ plain_says (response.Untagged status.No) w tail t h = inl (key.No, inr (inl refl
 plain_says (response.Untagged status.Bad) w tail t h = inl (key.Bad, inr (inr (inl refl)), h.0, h.1)
 plain_says (response.Untagged status.Preauth) w tail t h = inl (key.Preauth, inr (inr (inr (inl refl))), h.0, h.1)
 plain_says (response.Untagged status.Bye) w tail t h = inl (key.Bye, inr (inr (inr (inr (inl refl)))), h.0, h.1)
-plain_says response.Other w tail t h = inr (stray_to w t h.0, (h.1.0, free_to h.1.0 t h.1.1))
-plain_says (response.Tagged tag status) w tail t h = absurd h
-plain_says (response.Fetch seq items) w tail t h = absurd h
+plain_says (response.Capability ws) w tail t h = inl (key.Capability, inr (inr (inr (inr (inr (inl refl))))), h.0, (ws, h.1))
+plain_says (response.Enabled ws) w tail t h = inl (key.Enabled, inr (inr (inr (inr (inr (inr (inl refl)))))), h.0, (ws, h.1))
+plain_says (response.Flags flags) w tail t h = inl (key.Flags, inr (inr (inr (inr (inr (inr (inr (inl refl))))))), h.0, flags_to flags tail h.1)
+plain_says (response.Vanished earlier uids) w tail t h = inl (key.Vanished, inr (inr (inr (inr (inr (inr (inr (inr (inl refl)))))))), h.0, (h.1.0, h.1.1, (earlier, uids.ranges, h.1.2)))
+plain_says response.Other w tail t h = inr (stray_to w h.0, (h.1.0, free_to h.1.0 t h.1.1))
+plain_says _ w tail t h = absurd h
 
 pub word_some : (w : List ℕ) → w ≢ [] → 0 < length w
 word_some [] ne = absurd (ne refl)
@@ -68,20 +103,30 @@ some_word w lt e = omega (arith, lt, ap length e)
 pub plain_to : (v : Response) (t : List ℕ) → IsWordLine None v t → WordRest place.Plain [] t
 plain_to v t h = record { word = h.word; tail = h.tail; whole = h.whole; each = h.word_is; some = (let s = word_some h.word h.some in omega (arith, s)); longest = h.longest; says = plain_says v (map lower h.word) h.tail t h.says }
 
+flags_from : (t : List ℕ) → IsBehind place.Plain key.Flags t → (flags : List (List ℕ)) × IsFlagsLine flags t
+flags_from t b = (
+  kept b.2.first.0,
+  (b.2.first.0, b.2.front, b.1 ∙ ap (λ (u : List ℕ). 32 ∷ u) (b.2.whole ∙ ap (λ (u : List ℕ). b.2.front ++ u) b.2.second), b.2.first.1, refl),
+)
+
 said_by_key : (k : Key) (w tail t : List ℕ) → w ≡ key_text k → IsBehind place.Plain k tail → (v : Response) × Says None v w tail t
 said_by_key key.Ok w tail t e b = (response.Untagged status.Ok, (e, b))
 said_by_key key.No w tail t e b = (response.Untagged status.No, (e, b))
 said_by_key key.Bad w tail t e b = (response.Untagged status.Bad, (e, b))
 said_by_key key.Preauth w tail t e b = (response.Untagged status.Preauth, (e, b))
 said_by_key key.Bye w tail t e b = (response.Untagged status.Bye, (e, b))
+said_by_key key.Capability w tail t e b = (response.Capability b.0, (e, b.1))
+said_by_key key.Enabled w tail t e b = (response.Enabled b.0, (e, b.1))
+said_by_key key.Flags w tail t e b = let f = flags_from tail b in (response.Flags f.0, (e, f.1))
+said_by_key key.Vanished w tail t e b = (response.Vanished b.2.0 (record { ranges = b.2.1 }), (e, (b.0, b.1, b.2.2)))
 said_by_key _ w tail t e b = absurd b
 
-no_keyword : (w : List ℕ) → ((k : Key) → Among k line_keys → w ≡ key_text k → ⊥) → Contains keywords w → ⊥
-no_keyword w f h = let k = keyword_key w h in f k.0 k.1 k.2
+no_plain : (w : List ℕ) → ((k : Key) → Among k (keys place.Plain) → w ≡ key_text k → ⊥) → Contains (keywords None) w → ⊥
+no_plain w f h = let k = plain_key w h in f k.0 k.1 k.2
 
 plain_said : (w tail t : List ℕ) → WordSays place.Plain w tail t → (v : Response) × Says None v w tail t
 plain_said w tail t (inl k) = said_by_key k.0 w tail t k.2 k.3
-plain_said w tail t (inr s) = (response.Other, (no_keyword w s.0, (s.1.0, free_from s.1.0 t s.1.1)))
+plain_said w tail t (inr s) = (response.Other, (no_plain w s.0, (s.1.0, free_from s.1.0 t s.1.1)))
 
 pub plain_from : (t : List ℕ) → WordRest place.Plain [] t → (v : Response) × IsWordLine None v t
 plain_from t h =
@@ -90,22 +135,31 @@ plain_from t h =
 
 -- ---- behind `* ` and a number
 
+stray_numbered : (n : ℕ) (w : List ℕ) → (Contains (keywords (Some n)) w → ⊥) → (k : Key) → Among k (keys place.Numbered) → w ≡ key_text k → ⊥
+stray_numbered n w no_key k m e = no_key (subst (Contains (keywords (Some n))) (sym e) (key_numbered n k m))
+
 numbered_says : (n : ℕ) (v : Response) (w tail t : List ℕ) → Says (Some n) v w tail t → WordSays place.Numbered w tail t
-numbered_says n (response.Fetch seq items) w tail t h = inl (key.Fetch, inr (inr (inr (inr (inr (inl refl))))), h.1, (40 ∷ h.2.1, h.2.2, (h.2.0, h.2.1, refl, h.2.3)))
-numbered_says n response.Other w tail t h = inr (stray_to w t h.0, (h.1.0, free_to h.1.0 t h.1.1))
-numbered_says n (response.Tagged tag status) w tail t h = absurd h
-numbered_says n (response.Untagged status) w tail t h = absurd h
+numbered_says n (response.Exists count) w tail t h = inl (key.Exists, inl refl, h.1, h.2)
+numbered_says n (response.Expunge seq) w tail t h = inl (key.Expunge, inr (inl refl), h.1, h.2)
+numbered_says n (response.Fetch seq items) w tail t h = inl (key.Fetch, inr (inr (inl refl)), h.1, (40 ∷ h.2.1, h.2.2, (h.2.0, h.2.1, refl, h.2.3)))
+numbered_says n response.Other w tail t h = inr (stray_numbered n w h.0, (h.1.0, free_to h.1.0 t h.1.1))
+numbered_says n _ w tail t h = absurd h
 
 pub numbered_to : (n : ℕ) (v : Response) (t : List ℕ) → IsWordLine (Some n) v t → WordRest place.Numbered [] t
 numbered_to n v t h = record { word = h.word; tail = h.tail; whole = h.whole; each = h.word_is; some = (let s = word_some h.word h.some in omega (arith, s)); longest = h.longest; says = numbered_says n v (map lower h.word) h.tail t h.says }
 
-fetch_said : (n : ℕ) (k : Key) (w tail t : List ℕ) → w ≡ key_text k → IsBehind place.Numbered k tail → (v : Response) × Says (Some n) v w tail t
-fetch_said n key.Fetch w tail t e b = (response.Fetch n (items_of b.2.0), (refl, e, (b.2.0, b.2.1, b.1 ∙ ap (λ (u : List ℕ). 32 ∷ u) b.2.2, b.2.3, refl)))
-fetch_said n _ w tail t e b = absurd b
+numbered_by_key : (n : ℕ) (k : Key) (w tail t : List ℕ) → w ≡ key_text k → IsBehind place.Numbered k tail → (v : Response) × Says (Some n) v w tail t
+numbered_by_key n key.Exists w tail t e b = (response.Exists n, (refl, e, b))
+numbered_by_key n key.Expunge w tail t e b = (response.Expunge n, (refl, e, b))
+numbered_by_key n key.Fetch w tail t e b = (response.Fetch n (items_of b.2.0), (refl, e, (b.2.0, b.2.1, b.1 ∙ ap (λ (u : List ℕ). 32 ∷ u) b.2.2, b.2.3, refl)))
+numbered_by_key n _ w tail t e b = absurd b
+
+no_numbered : (n : ℕ) (w : List ℕ) → ((k : Key) → Among k (keys place.Numbered) → w ≡ key_text k → ⊥) → Contains (keywords (Some n)) w → ⊥
+no_numbered n w f h = let k = numbered_key n w h in f k.0 k.1 k.2
 
 numbered_said : (n : ℕ) (w tail t : List ℕ) → WordSays place.Numbered w tail t → (v : Response) × Says (Some n) v w tail t
-numbered_said n w tail t (inl k) = fetch_said n k.0 w tail t k.2 k.3
-numbered_said n w tail t (inr s) = (response.Other, (no_keyword w s.0, (s.1.0, free_from s.1.0 t s.1.1)))
+numbered_said n w tail t (inl k) = numbered_by_key n k.0 w tail t k.2 k.3
+numbered_said n w tail t (inr s) = (response.Other, (no_numbered n w s.0, (s.1.0, free_from s.1.0 t s.1.1)))
 
 pub numbered_from : (n : ℕ) (t : List ℕ) → WordRest place.Numbered [] t → (v : Response) × IsWordLine (Some n) v t
 numbered_from n t h =

@@ -13,7 +13,8 @@ use Rattle.imap_automaton.proofs.Lists.{cons_head, cons_tail}
 use Rattle.imap_automaton.proofs.Tests.{from_test, to_test, at_true, at_false, is_true_at, mid}
 use Rattle.imap_syntax.specs.Octets.{is_atom}
 use Rattle.imap_syntax.specs.Texts.{Each, Then}
-use Rattle.imap_syntax.specs.Items.{IsAtom, IsName, AllNames, spaced, joined, IsNames}
+use Rattle.imap_syntax.specs.Lines.{spaced}
+use Rattle.imap_syntax.specs.Items.{IsAtom, IsName, AllNames, joined, IsNames}
 
 atom_not : (c : ℕ) → is_atom c ≡ true → ((c == 40) ≡ false) × ((c == 41) ≡ false) × ((c == 92) ≡ false) × ((c == 32) ≡ false)
 atom_not c e = (grind arith, grind arith, grind arith, grind arith)

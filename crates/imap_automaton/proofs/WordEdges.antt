@@ -13,20 +13,23 @@ use Rattle.imap_automaton.specs.declared.sym.Line.TheVariants as line
 use Rattle.imap_automaton.specs.declared.sym.Free.TheVariants as free
 use Rattle.imap_automaton.specs.declared.sym.Item.TheVariants as item
 use Rattle.imap_automaton.specs.declared.sym.Names.TheVariants as names
+use Rattle.imap_automaton.specs.declared.sym.Set.TheVariants as set
 use Rattle.imap_automaton.specs.declared.sym.Sym.{Sym}
 use Rattle.imap_automaton.specs.declared.sym.Sym.TheVariants as sym
+use Rattle.imap_automaton.specs.declared.sym.Move.{Move}
 use Rattle.imap_automaton.specs.declared.sym.Move.TheVariants as move
 use Rattle.imap_automaton.specs.Counts.{pend}
 use Rattle.imap_automaton.specs.Keys.{key_text, keys, is_among, in_word, goes_on, next_key, is_whole, whole_key}
 use Rattle.imap_automaton.specs.FreeRules.{text_rule}
-use Rattle.imap_automaton.specs.WordRules.{rest_rule, spaced_rule, behind_key, stray, word_goes, word_ends, word_rule}
-use Rattle.imap_automaton.proofs.Langs.{FreeLang, ItemLang, NamesLang, IsSpaced, Among, IsBehind, IsStray, WordSays, WordRest, Lang, After}
+use Rattle.imap_automaton.specs.WordRules.{rest_rule, spaced_rule, end_rule, behind_key, stray, word_goes, word_ends, word_rule}
+use Rattle.imap_automaton.proofs.Langs.{FreeLang, ItemLang, NamesLang, SetLang, IsSpaced, Among, IsBehind, IsStray, WordSays, WordRest, Lang, After}
 use Rattle.imap_automaton.proofs.Lists.{cons_head, cons_tail, no_append}
 use Rattle.imap_automaton.proofs.Tests.{from_test, to_test, at_true, at_false, is_true_at, both, crlf_of, crlf_parts, mid}
+use Rattle.imap_automaton.proofs.SetEdges.{words_more_back, words_more_forth, words_more_none}
 use Rattle.imap_automaton.proofs.FreeEdges.{text_back, text_forth, goes_back, goes_forth, free_some, free_empty}
 use Rattle.imap_automaton.proofs.KeyLemmas.{one_key, key_some, key_in_word, key_lower, no_bang, find_some, find_none, is_among_is, goes_to, goes_from, goes_octet, whole_to, whole_from}
 use Rattle.imap_syntax.specs.Octets.{is_text, is_word, is_atom, lower}
-use Rattle.imap_syntax.specs.Texts.{Each, crlf}
+use Rattle.imap_syntax.specs.Texts.{Each, Then, crlf, IsCrlf}
 use Rattle.imap_syntax.specs.Lines.{IsLine, IsRest}
 
 -- ---- behind a key
@@ -45,6 +48,20 @@ rest_forth c t (inr w) =
     at_true (c == 32) (move.One (sym.Line line.Text)) (cond (c == 13) (move.One (sym.Line (line.Fixed phrase.Crlf 1))) move.Fail) t (eq-eqb c 32 (cons_head c 32 t w.0 w.1))
     (subst IsLine (sym (cons_tail c 32 t w.0 w.1)) w.2)
 
+-- the end of the line
+end_back : (c : ℕ) (t : List ℕ) → After (end_rule c) t → IsCrlf (c ∷ t)
+end_back c t h = from_test (c == 13) (move.One (sym.Line (line.Fixed phrase.Crlf 1))) move.Fail t (IsCrlf (c ∷ t)) (λ e k. crlf_of c t (eqb-true c 13 e) k) (λ e k. absurd k) h
+
+end_forth : (c : ℕ) (t : List ℕ) → IsCrlf (c ∷ t) → After (end_rule c) t
+end_forth c t e = let k = crlf_parts c t e in at_true (c == 13) (move.One (sym.Line (line.Fixed phrase.Crlf 1))) move.Fail t (eq-eqb c 13 k.0) k.1
+
+-- a space, and what a move reads
+spaced_move_back : (m : Move) (c : ℕ) (t : List ℕ) → After (spaced_rule m c) t → IsSpaced (After m) (c ∷ t)
+spaced_move_back m c t h = from_test (c == 32) m move.Fail t (IsSpaced (After m) (c ∷ t)) (λ e k. (t, ap (λ (n : ℕ). n ∷ t) (eqb-true c 32 e), k)) (λ e k. absurd k) h
+
+spaced_move_forth : (m : Move) (c : ℕ) (t : List ℕ) → IsSpaced (After m) (c ∷ t) → After (spaced_rule m c) t
+spaced_move_forth m c t h = at_true (c == 32) m move.Fail t (eq-eqb c 32 (cons_head c 32 t h.0 h.1)) (subst (After m) (sym (cons_tail c 32 t h.0 h.1)) h.2)
+
 spaced_back : (s : Sym) (c : ℕ) (t : List ℕ) → After (spaced_rule (move.One s) c) t → IsSpaced (Lang s) (c ∷ t)
 spaced_back s c t h = from_test (c == 32) (move.One s) move.Fail t (IsSpaced (Lang s) (c ∷ t)) (λ e k. (t, ap (λ (n : ℕ). n ∷ t) (eqb-true c 32 e), k)) (λ e k. absurd k) h
 
@@ -60,6 +77,12 @@ behind_back place.Plain key.No c t h = rest_back c t h
 behind_back place.Plain key.Bad c t h = rest_back c t h
 behind_back place.Plain key.Preauth c t h = rest_back c t h
 behind_back place.Plain key.Bye c t h = rest_back c t h
+behind_back place.Plain key.Capability c t h = words_more_back c t h
+behind_back place.Plain key.Enabled c t h = words_more_back c t h
+behind_back place.Plain key.Flags c t h = spaced_move_back (move.Two (sym.Names names.Open) (sym.Line (line.Fixed phrase.Crlf 0))) c t h
+behind_back place.Plain key.Vanished c t h = spaced_back (sym.Set set.Open) c t h
+behind_back place.Numbered key.Exists c t h = end_back c t h
+behind_back place.Numbered key.Expunge c t h = end_back c t h
 behind_back place.Numbered key.Fetch c t h = spaced_back (sym.Item item.Open) c t h
 behind_back place.Item key.Uid c t h = spaced_back (sym.Item (item.Number 0 0)) c t h
 behind_back place.Item key.Flags c t h = spaced_back (sym.Names names.Open) c t h
@@ -74,6 +97,12 @@ behind_forth place.Plain key.No c t h = rest_forth c t h
 behind_forth place.Plain key.Bad c t h = rest_forth c t h
 behind_forth place.Plain key.Preauth c t h = rest_forth c t h
 behind_forth place.Plain key.Bye c t h = rest_forth c t h
+behind_forth place.Plain key.Capability c t h = words_more_forth c t h
+behind_forth place.Plain key.Enabled c t h = words_more_forth c t h
+behind_forth place.Plain key.Flags c t h = spaced_move_forth (move.Two (sym.Names names.Open) (sym.Line (line.Fixed phrase.Crlf 0))) c t h
+behind_forth place.Plain key.Vanished c t h = spaced_forth (sym.Set set.Open) c t h
+behind_forth place.Numbered key.Exists c t h = end_forth c t h
+behind_forth place.Numbered key.Expunge c t h = end_forth c t h
 behind_forth place.Numbered key.Fetch c t h = spaced_forth (sym.Item item.Open) c t h
 behind_forth place.Item key.Uid c t h = spaced_forth (sym.Item (item.Number 0 0)) c t h
 behind_forth place.Item key.Flags c t h = spaced_forth (sym.Names names.Open) c t h
@@ -95,6 +124,12 @@ behind_none place.Plain key.No h = rest_none h
 behind_none place.Plain key.Bad h = rest_none h
 behind_none place.Plain key.Preauth h = rest_none h
 behind_none place.Plain key.Bye h = rest_none h
+behind_none place.Plain key.Capability h = words_more_none h
+behind_none place.Plain key.Enabled h = words_more_none h
+behind_none place.Plain key.Flags h = spaced_none (Then (NamesLang names.Open) IsCrlf) h
+behind_none place.Plain key.Vanished h = spaced_none (SetLang set.Open) h
+behind_none place.Numbered key.Exists h = let e : [] ≡ crlf = h in cc
+behind_none place.Numbered key.Expunge h = let e : [] ≡ crlf = h in cc
 behind_none place.Numbered key.Fetch h = spaced_none (ItemLang item.Open) h
 behind_none place.Item key.Uid h = spaced_none (ItemLang (item.Number 0 0)) h
 behind_none place.Item key.Flags h = spaced_none (NamesLang names.Open) h

@@ -9,6 +9,8 @@ use Rattle.imap_automaton.specs.declared.sym.Free.{Free}
 use Rattle.imap_automaton.specs.declared.sym.Free.TheVariants as free
 use Rattle.imap_automaton.specs.declared.sym.Item.{Item}
 use Rattle.imap_automaton.specs.declared.sym.Item.TheVariants as item
+use Rattle.imap_automaton.specs.declared.sym.Set.{Set}
+use Rattle.imap_automaton.specs.declared.sym.Set.TheVariants as set
 use Rattle.imap_automaton.specs.declared.sym.Sym.{Sym}
 use Rattle.imap_automaton.specs.declared.sym.Sym.TheVariants as sym
 use Rattle.imap_automaton.specs.Keys.{key_text, phrase_text, keys, is_among}
@@ -22,6 +24,7 @@ abbrev pub LineFits : Line → Bool
 LineFits (line.Tag n) = nat_lt 0 n && nat_le n 32
 LineFits (line.Sequence value digits) = nat_lt 0 digits && nat_le digits 10 && nat_le value 4294967295
 LineFits (line.Fixed p at) = nat_lt at (length (phrase_text p))
+LineFits (line.Folded p at) = nat_lt at (length (phrase_text p))
 LineFits _ = true
 
 abbrev pub FreeFits : Free → Bool
@@ -33,9 +36,15 @@ abbrev pub ItemFits : Item → Bool
 ItemFits (item.Number value digits) = nat_le digits 10 && nat_le value 4294967295 && (nat_lt 0 digits || value == 0) && not (value == 0 && digits == 10)
 ItemFits _ = true
 
+abbrev pub SetFits : Set → Bool
+SetFits (set.Number value digits second) = ItemFits (item.Number value digits)
+SetFits _ = true
+
 abbrev pub SymFits : Sym → Bool
 SymFits (sym.Line s) = LineFits s
 SymFits (sym.Word place key at) = nat_le at (length (key_text key)) && is_among key (keys place)
 SymFits (sym.Free s) = FreeFits s
 SymFits (sym.Item s) = ItemFits s
 SymFits (sym.Names s) = true
+SymFits (sym.Words s) = true
+SymFits (sym.Set s) = SetFits s

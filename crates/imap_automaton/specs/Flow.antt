@@ -5,6 +5,7 @@ use Rattle.imap_automaton.specs.declared.sym.Line.TheVariants as line
 use Rattle.imap_automaton.specs.declared.sym.Free.TheVariants as free
 use Rattle.imap_automaton.specs.declared.sym.Item.TheVariants as item
 use Rattle.imap_automaton.specs.declared.sym.Names.TheVariants as names
+use Rattle.imap_automaton.specs.declared.sym.Set.TheVariants as set
 use Rattle.imap_automaton.specs.declared.sym.Sym.{Sym}
 use Rattle.imap_automaton.specs.declared.sym.Sym.TheVariants as sym
 use Rattle.imap_automaton.specs.declared.sym.Move.{Move}
@@ -61,6 +62,7 @@ need (sym.Item item.More) = 3
 need (sym.Names names.Open) = 2
 need (sym.Names names.First) = 2
 need (sym.Names names.More) = 2
+need (sym.Set set.Open) = 2
 need _ = 1
 
 abbrev pub move_needs : ℕ → Move → Bool

@@ -11,6 +11,7 @@ use Rattle.imap_syntax.specs.Octets.{is_word, is_atom}
 abbrev pub phrase_text : Phrase → List ℕ
 phrase_text phrase.Space = 32 ∷ []
 phrase_text phrase.Crlf = 13 ∷ 10 ∷ []
+phrase_text phrase.Earlier = codes "(earlier) "
 
 -- in lower case
 abbrev pub key_text : Key → List ℕ
@@ -19,22 +20,25 @@ key_text key.No = codes "no"
 key_text key.Bad = codes "bad"
 key_text key.Preauth = codes "preauth"
 key_text key.Bye = codes "bye"
+key_text key.Capability = codes "capability"
+key_text key.Enabled = codes "enabled"
+key_text key.Vanished = codes "vanished"
+key_text key.Exists = codes "exists"
+key_text key.Expunge = codes "expunge"
 key_text key.Fetch = codes "fetch"
 key_text key.Uid = codes "uid"
 key_text key.Flags = codes "flags"
 
-abbrev pub line_keys : List Key
-line_keys = key.Ok ∷ key.No ∷ key.Bad ∷ key.Preauth ∷ key.Bye ∷ key.Fetch ∷ []
-
 -- the words that count in a place
 abbrev pub keys : Place → List Key
 keys place.Tagged = key.Ok ∷ key.No ∷ key.Bad ∷ []
-keys place.Plain = line_keys
-keys place.Numbered = line_keys
+keys place.Plain = key.Ok ∷ key.No ∷ key.Bad ∷ key.Preauth ∷ key.Bye ∷ key.Capability ∷ key.Enabled ∷ key.Flags ∷ key.Vanished ∷ []
+keys place.Numbered = key.Exists ∷ key.Expunge ∷ key.Fetch ∷ []
 keys place.Item = key.Uid ∷ key.Flags ∷ []
 
 abbrev pub first_key : Place → Key
 first_key place.Item = key.Uid
+first_key place.Numbered = key.Exists
 first_key _ = key.Ok
 
 -- the octets of a word

@@ -2,6 +2,7 @@ pub mod Symbols
 pub mod Counts
 pub mod Keys
 pub mod LineRules
+pub mod SetRules
 pub mod WordRules
 pub mod FreeRules
 pub mod ItemRules

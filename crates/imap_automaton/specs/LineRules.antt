@@ -15,7 +15,7 @@ use Rattle.imap_automaton.specs.declared.sym.Move.TheVariants as move
 use Rattle.imap_automaton.specs.Keys.{first_key, phrase_text}
 use Rattle.imap_automaton.specs.FreeRules.{text_rule}
 use Rattle.imap_automaton.specs.WordRules.{word_rule}
-use Rattle.imap_syntax.specs.Octets.{is_digit, is_alnum, is_text}
+use Rattle.imap_syntax.specs.Octets.{is_digit, is_alnum, is_text, lower}
 
 abbrev pub word_start : Place → Sym
 word_start p = sym.Word p (first_key p) 0
@@ -32,9 +32,15 @@ fixed_rule p at c =
     if nat_lt at (length (phrase_text p)) && c == get_or (phrase_text p) at 0
     then (if at + 1 == length (phrase_text p) then move.End else move.One (sym.Line (line.Fixed p (at + 1)))) else move.Fail
 
+abbrev pub folded_rule : Phrase → ℕ → ℕ → Move
+folded_rule p at c =
+    if nat_lt at (length (phrase_text p)) && lower c == get_or (phrase_text p) at 0
+    then (if at + 1 == length (phrase_text p) then move.End else move.One (sym.Line (line.Folded p (at + 1)))) else move.Fail
+
 abbrev pub line_rule : Line → ℕ → Move
 line_rule line.Start c =
     if c == 42 then move.Two (sym.Line (line.Fixed phrase.Space 0)) (sym.Line line.Untagged)
+    else if c == 43 then move.One (sym.Line line.Text)
     else if is_alnum c then move.One (sym.Line (line.Tag 1)) else move.Fail
 line_rule (line.Tag n) c =
     if c == 32 then move.One (word_start place.Tagged)
@@ -46,3 +52,4 @@ line_rule line.Text c =
     if c == 13 then move.One (sym.Line (line.Fixed phrase.Crlf 1))
     else if is_text c then move.One (sym.Line line.Text) else move.Fail
 line_rule (line.Fixed p at) c = fixed_rule p at c
+line_rule (line.Folded p at) c = folded_rule p at c

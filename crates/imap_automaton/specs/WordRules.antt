@@ -9,11 +9,13 @@ use Rattle.imap_automaton.specs.declared.sym.Phrase.TheVariants as phrase
 use Rattle.imap_automaton.specs.declared.sym.Line.TheVariants as line
 use Rattle.imap_automaton.specs.declared.sym.Item.TheVariants as item
 use Rattle.imap_automaton.specs.declared.sym.Names.TheVariants as names
+use Rattle.imap_automaton.specs.declared.sym.Set.TheVariants as set
 use Rattle.imap_automaton.specs.declared.sym.Sym.TheVariants as sym
 use Rattle.imap_automaton.specs.declared.sym.Move.{Move}
 use Rattle.imap_automaton.specs.declared.sym.Move.TheVariants as move
 use Rattle.imap_automaton.specs.Keys.{in_word, next_key, whole_key}
 use Rattle.imap_automaton.specs.FreeRules.{text_rule}
+use Rattle.imap_automaton.specs.SetRules.{words_more}
 use Rattle.imap_syntax.specs.Octets.{lower}
 
 -- rest = empty / SP *text
@@ -26,6 +28,10 @@ rest_rule c =
 abbrev pub spaced_rule : Move → ℕ → Move
 spaced_rule m c = if c == 32 then m else move.Fail
 
+-- the end of the line
+abbrev pub end_rule : ℕ → Move
+end_rule c = if c == 13 then move.One (sym.Line (line.Fixed phrase.Crlf 1)) else move.Fail
+
 -- behind a word that is a key
 abbrev pub behind_key : Place → Key → ℕ → Move
 behind_key place.Tagged key.Ok c = rest_rule c
@@ -36,6 +42,12 @@ behind_key place.Plain key.No c = rest_rule c
 behind_key place.Plain key.Bad c = rest_rule c
 behind_key place.Plain key.Preauth c = rest_rule c
 behind_key place.Plain key.Bye c = rest_rule c
+behind_key place.Plain key.Capability c = words_more c
+behind_key place.Plain key.Enabled c = words_more c
+behind_key place.Plain key.Flags c = spaced_rule (move.Two (sym.Names names.Open) (sym.Line (line.Fixed phrase.Crlf 0))) c
+behind_key place.Plain key.Vanished c = spaced_rule (move.One (sym.Set set.Open)) c
+behind_key place.Numbered key.Exists c = end_rule c
+behind_key place.Numbered key.Expunge c = end_rule c
 behind_key place.Numbered key.Fetch c = spaced_rule (move.One (sym.Item item.Open)) c
 behind_key place.Item key.Uid c = spaced_rule (move.One (sym.Item (item.Number 0 0))) c
 behind_key place.Item key.Flags c = spaced_rule (move.One (sym.Names names.Open)) c

@@ -6,6 +6,7 @@ mod free_rule;
 mod item_rule;
 mod line_rule;
 mod names_rule;
+mod set_rule;
 mod stack;
 mod step;
 mod sym;
@@ -13,4 +14,4 @@ mod word_rule;
 
 pub use stack::Stack;
 pub use step::advance;
-pub use sym::{Free, Item, Key, Line, Move, Names, Pending, Phrase, Place, Sym};
+pub use sym::{Free, Item, Key, Line, Move, Names, Pending, Phrase, Place, Set, Sym, Words};

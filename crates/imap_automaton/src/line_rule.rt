@@ -4,7 +4,7 @@ ghost use Rattle.imap_automaton.specs.Keys as keywords;
 ghost use Rattle.imap_automaton.specs.LineRules as rules;
 ghost use Rattle.imap_automaton.specs.Fits.{LineFits};
 
-use crate::class::{CR, is_alnum, is_digit, is_text};
+use crate::class::{CR, is_alnum, is_digit, is_text, lower};
 use crate::free_rule::text_rule;
 use crate::item_rule::NUMBER_DIGITS;
 use crate::sym::{Line, Move, Pending, Phrase, Place, Sym};
@@ -19,6 +19,7 @@ fn phrase_text(phrase: Phrase) -> &'static [u8]
     match phrase {
         Phrase::Space => b" ",
         Phrase::Crlf => b"\r\n",
+        Phrase::Earlier => b"(earlier) ",
     }
 }
 
@@ -36,6 +37,8 @@ fn start_rule(c: u16) -> Move
             Sym::Line(Line::Fixed(Phrase::Space, 0)),
             Sym::Line(Line::Untagged),
         )
+    } else if c == b'+' as u16 {
+        Move::One(Sym::Line(Line::Text))
     } else if is_alnum(c) {
         Move::One(Sym::Line(Line::Tag(1)))
     } else {
@@ -109,6 +112,23 @@ fn fixed_rule(phrase: Phrase, at: u8, c: u16) -> Move
     }
 }
 
+fn folded_rule(phrase: Phrase, at: u8, c: u16) -> Move
+    requires { IsTrue (LineFits (Line.Folded phrase at)) }
+    ensures { result ≡ rules.folded_rule phrase at c }
+{
+    let text = phrase_text(phrase);
+    let place = at as usize;
+    if place < text.len() && lower(c) == text[place] as u16 {
+        if place + 1 == text.len() {
+            Move::End
+        } else {
+            Move::One(Sym::Line(Line::Folded(phrase, at + 1)))
+        }
+    } else {
+        Move::Fail
+    }
+}
+
 pub fn line_rule(line: Line, c: u16) -> Move
     requires { IsTrue (LineFits line) }
     ensures { result ≡ rules.line_rule line c }
@@ -120,5 +140,6 @@ pub fn line_rule(line: Line, c: u16) -> Move
         Line::Sequence(value, digits) => sequence_rule(value, digits, c),
         Line::Text => text_line_rule(c),
         Line::Fixed(phrase, at) => fixed_rule(phrase, at, c),
+        Line::Folded(phrase, at) => folded_rule(phrase, at, c),
     }
 }

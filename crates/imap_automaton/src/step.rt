@@ -10,6 +10,7 @@ use crate::free_rule::free_rule;
 use crate::item_rule::item_rule;
 use crate::line_rule::line_rule;
 use crate::names_rule::names_rule;
+use crate::set_rule::{set_rule, words_rule};
 use crate::stack::Stack;
 use crate::sym::{Move, Sym};
 use crate::word_rule::word_rule;
@@ -24,6 +25,8 @@ fn rule(sym: Sym, c: u16) -> Move
         Sym::Free(free) => free_rule(free, c),
         Sym::Item(item) => item_rule(item, c),
         Sym::Names(names) => names_rule(names, c),
+        Sym::Words(words) => words_rule(words, c),
+        Sym::Set(set) => set_rule(set, c),
     }
 }
 

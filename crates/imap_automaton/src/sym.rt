@@ -5,6 +5,7 @@
 pub enum Phrase {
     Space,
     Crlf,
+    Earlier,
 }
 
 /// A word by which a reader decides.
@@ -15,6 +16,11 @@ pub enum Key {
     Bad,
     Preauth,
     Bye,
+    Capability,
+    Enabled,
+    Vanished,
+    Exists,
+    Expunge,
     Fetch,
     Uid,
     Flags,
@@ -55,6 +61,28 @@ pub enum Line {
     Text,
     /// Within a fixed text, behind so many octets.
     Fixed(Phrase, u8),
+    /// Within a fixed text in letters of any case, behind so many octets.
+    Folded(Phrase, u8),
+}
+
+/// Within words up to the line's end.
+#[derive(Clone, Copy)]
+pub enum Words {
+    /// Behind a word.
+    More,
+    First,
+    /// Within a word, behind its first octet.
+    Rest,
+}
+
+/// Within a set of UIDs up to the line's end.
+#[derive(Clone, Copy)]
+pub enum Set {
+    /// Before the set, or the word that it is an earlier one.
+    Open,
+    /// Within a number that isn't 0, its value so far and how many digits it has, and whether it is the second of a
+    /// range.
+    Number(u32, u8, bool),
 }
 
 /// Within text with literals.
@@ -99,6 +127,8 @@ pub enum Sym {
     Free(Free),
     Item(Item),
     Names(Names),
+    Words(Words),
+    Set(Set),
 }
 
 /// What an octet does to the first symbol.

@@ -5,7 +5,8 @@ ghost use Rattle.imap_automaton.specs.WordRules as rules;
 
 use crate::class::{CR, is_atom, is_word, lower};
 use crate::free_rule::text_rule;
-use crate::sym::{Item, Key, Line, Move, Names, Pending, Phrase, Place, Sym};
+use crate::set_rule::words_more;
+use crate::sym::{Item, Key, Line, Move, Names, Pending, Phrase, Place, Set, Sym};
 
 /// The word in lower case.
 fn key_text(key: Key) -> &'static [u8]
@@ -17,6 +18,11 @@ fn key_text(key: Key) -> &'static [u8]
         Key::Bad => b"bad",
         Key::Preauth => b"preauth",
         Key::Bye => b"bye",
+        Key::Capability => b"capability",
+        Key::Enabled => b"enabled",
+        Key::Vanished => b"vanished",
+        Key::Exists => b"exists",
+        Key::Expunge => b"expunge",
         Key::Fetch => b"fetch",
         Key::Uid => b"uid",
         Key::Flags => b"flags",
@@ -25,14 +31,19 @@ fn key_text(key: Key) -> &'static [u8]
 
 static TAGGED_KEYS: [Key; 3] = [Key::Ok, Key::No, Key::Bad];
 
-static LINE_KEYS: [Key; 6] = [
+static LINE_KEYS: [Key; 9] = [
     Key::Ok,
     Key::No,
     Key::Bad,
     Key::Preauth,
     Key::Bye,
-    Key::Fetch,
+    Key::Capability,
+    Key::Enabled,
+    Key::Flags,
+    Key::Vanished,
 ];
+
+static NUMBERED_KEYS: [Key; 3] = [Key::Exists, Key::Expunge, Key::Fetch];
 
 static ITEM_KEYS: [Key; 2] = [Key::Uid, Key::Flags];
 
@@ -43,7 +54,7 @@ fn keys(place: Place) -> &'static [Key]
     match place {
         Place::Tagged => &TAGGED_KEYS,
         Place::Plain => &LINE_KEYS,
-        Place::Numbered => &LINE_KEYS,
+        Place::Numbered => &NUMBERED_KEYS,
         Place::Item => &ITEM_KEYS,
     }
 }
@@ -54,6 +65,7 @@ pub fn first_key(place: Place) -> Key
 {
     match place {
         Place::Item => Key::Uid,
+        Place::Numbered => Key::Exists,
         _ => Key::Ok,
     }
 }
@@ -151,6 +163,37 @@ fn spaced_rule(next: Sym, c: u16) -> Move
     }
 }
 
+/// A space, and then two symbols.
+fn spaced_pair_rule(next: Sym, later: Sym, c: u16) -> Move
+    ensures { result ≡ rules.spaced_rule (Move.Two next later) c }
+{
+    if c == b' ' as u16 {
+        Move::Two(next, later)
+    } else {
+        Move::Fail
+    }
+}
+
+fn end_rule(c: u16) -> Move
+    ensures { result ≡ rules.end_rule c }
+{
+    if c == CR {
+        Move::One(Sym::Line(Line::Fixed(Phrase::Crlf, 1)))
+    } else {
+        Move::Fail
+    }
+}
+
+fn flags_rule(c: u16) -> Move
+    ensures { result ≡ rules.behind_key Place.Plain Key.Flags c }
+{
+    spaced_pair_rule(
+        Sym::Names(Names::Open),
+        Sym::Line(Line::Fixed(Phrase::Crlf, 0)),
+        c,
+    )
+}
+
 /// Behind a word that is a key.
 fn behind_key(place: Place, key: Key, c: u16) -> Move
     ensures { result ≡ rules.behind_key place key c }
@@ -164,6 +207,12 @@ fn behind_key(place: Place, key: Key, c: u16) -> Move
         (Place::Plain, Key::Bad) => rest_rule(c),
         (Place::Plain, Key::Preauth) => rest_rule(c),
         (Place::Plain, Key::Bye) => rest_rule(c),
+        (Place::Plain, Key::Capability) => words_more(c),
+        (Place::Plain, Key::Enabled) => words_more(c),
+        (Place::Plain, Key::Flags) => flags_rule(c),
+        (Place::Plain, Key::Vanished) => spaced_rule(Sym::Set(Set::Open), c),
+        (Place::Numbered, Key::Exists) => end_rule(c),
+        (Place::Numbered, Key::Expunge) => end_rule(c),
         (Place::Numbered, Key::Fetch) => spaced_rule(Sym::Item(Item::Open), c),
         (Place::Item, Key::Uid) => spaced_rule(Sym::Item(Item::Number(0, 0)), c),
         (Place::Item, Key::Flags) => spaced_rule(Sym::Names(Names::Open), c),

@@ -152,9 +152,7 @@ answered {vs = vs} {before} {mid} {after} n w due s so (gave, text, said, spells
 -- open responses have no tag
 untagged : (w : Response) → IsOpen w → is_tagged w ≡ false
 untagged (Tagged t s) never = absurd never
-untagged (Untagged s) so = refl
-untagged (Fetch seq items) so = refl
-untagged Other so = refl
+untagged _ so = refl
 
 pub count-open : (vs : List Response) → All IsOpen vs → count_by is_tagged vs ≡ 0
 count-open [] so = refl

@@ -19,9 +19,7 @@ pub record Exchange : Type 0 where
 abbrev pub IsOpen : Response → Type 0
 IsOpen (Tagged _ _) = ⊥
 IsOpen (Untagged status.Bye) = ⊥
-IsOpen (Untagged _) = Unit {0}
-IsOpen (Fetch _ _) = Unit {0}
-IsOpen Other = Unit {0}
+IsOpen _ = Unit {0}
 
 -- The octets begin with these responses and the tagged line of number n and this status, and the rest stands behind.
 pub record IsAnswer (n : ℕ) (responses : List Response) (status : Status) (rest octets : List ℕ) : Type 0 where

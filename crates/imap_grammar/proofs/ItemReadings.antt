@@ -11,7 +11,8 @@ use Rattle.imap_syntax.specs.declared.response.FetchItems.{FetchItems}
 use Rattle.imap_syntax.specs.Octets.{is_digit, is_atom, lower}
 use Rattle.imap_syntax.specs.Texts.{Each, plain_of, plain, crlf}
 use Rattle.imap_syntax.specs.Numbers.{value_from}
-use Rattle.imap_syntax.specs.Items.{IsAtom, IsName, AllNames, spaced, joined, IsNames, Item, Uid, Flags, IsItemValue, IsItem, IsMore, IsItems, add_name, kept_from, kept, told, told_from}
+use Rattle.imap_syntax.specs.Lines.{spaced}
+use Rattle.imap_syntax.specs.Items.{IsAtom, IsName, AllNames, joined, IsNames, Item, Uid, Flags, IsItemValue, IsItem, IsMore, IsItems, add_name, kept_from, kept, told, told_from}
 
 -- ---- names
 
@@ -29,7 +30,7 @@ names_small : (ns : List (List ℕ)) → AllNames ns → Each small (spaced ns)
 names_small [] h = tt
 names_small (n ∷ ns) h = (refl, each_join small n (spaced ns) (name_class small n atom_small refl h.0) (names_small ns h.1))
 
-joined_small : (ns : List (List ℕ)) → AllNames ns → Each small (joined ns)
+pub joined_small : (ns : List (List ℕ)) → AllNames ns → Each small (joined ns)
 joined_small [] h = tt
 joined_small (n ∷ ns) h = each_join small n (spaced ns) (name_class small n atom_small refl h.0) (names_small ns h.1)
 
@@ -59,7 +60,7 @@ name_first (c ∷ n) rest (inl a) = not_bracket c a.0.0
     not_bracket c e = grind arith
 name_first (c ∷ n) rest (inr a) = ap (λ (d : ℕ). d == 41) (cons_head c 92 n a.0 a.1)
 
-flags_read : (ns : List (List ℕ)) (rest b : List ℕ) → AllNames ns → b ≡ joined ns ++ 41 ∷ rest → flags_in b ≡ (kept ns, rest)
+pub flags_read : (ns : List (List ℕ)) (rest b : List ℕ) → AllNames ns → b ≡ joined ns ++ 41 ∷ rest → flags_in b ≡ (kept ns, rest)
 unfolding flags_in
 flags_read [] rest b all e =
     cond-true (get_or b 0 0 == 41) ([], drop 1 b) (names_in (length b) [] b) (ap (λ (u : List ℕ). get_or u 0 0 == 41) e)

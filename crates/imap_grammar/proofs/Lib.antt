@@ -4,6 +4,7 @@ pub mod SpanLemmas
 pub mod FlagLemmas
 pub mod Cuts
 pub mod ItemReadings
+pub mod SetReadings
 pub mod Readings
 pub mod Spellings
 pub mod Pieces

@@ -7,9 +7,10 @@ use Rattle.imap_automaton.proofs.KeyLemmas.{is_key_octet, same_text, text_same}
 use Rattle.imap_automaton.proofs.LineWords.{word_of_key}
 use Rattle.imap_automaton.proofs.Lists.{cons_head, cons_tail}
 use Rattle.imap_automaton.proofs.Tests.{both}
-use Rattle.imap_grammar.specs.Reading.{span, in_name, number_from, number_in, items_in, status_named, word_in, all_digits, is_sequence, numbered_in, plain_in, untagged_in, tagged_in, response_in}
-use Rattle.imap_grammar.proofs.Cuts.{small, plain_small, plain_join, each_to, CutAt, cut_at, number_from_is, number_is, small_capped, capped_le}
-use Rattle.imap_grammar.proofs.ItemReadings.{plain_length, all_items_read}
+use Rattle.imap_grammar.specs.Reading.{span, in_name, number_from, number_in, flags_in, words_in, vanished_in, items_in, status_named, word_in, all_digits, is_sequence, numbered_in, told_in, said_in, plain_in, untagged_in, tagged_in, response_in}
+use Rattle.imap_grammar.proofs.Cuts.{small, plain_small, plain_join, each_to, each_join, CutAt, cut_at, number_from_is, number_is, small_capped, capped_le}
+use Rattle.imap_grammar.proofs.ItemReadings.{plain_length, joined_small, flags_read, all_items_read}
+use Rattle.imap_grammar.proofs.SetReadings.{words_read, vanished_read}
 use Rattle.imap_syntax.specs.declared.response.Status.{Status}
 use Rattle.imap_syntax.specs.declared.response.Status.TheVariants as status
 use Rattle.imap_syntax.specs.declared.response.Response.{Response}
@@ -17,10 +18,10 @@ use Rattle.imap_syntax.specs.declared.response.Response.TheVariants as response
 use Rattle.imap_syntax.specs.Octets.{is_digit, is_alnum, is_text, is_word, lower}
 use Rattle.imap_syntax.specs.Texts.{Each, Then, plain_of, plain, crlf, IsWord}
 use Rattle.imap_syntax.specs.Numbers.{value_from, IsNumber}
-use Rattle.imap_syntax.specs.Lines.{word_of, IsRest, IsTagged}
-use Rattle.imap_syntax.specs.Items.{no_items, items_of}
+use Rattle.imap_syntax.specs.Lines.{word_of, IsRest, IsTagged, IsWords}
+use Rattle.imap_syntax.specs.Items.{joined, no_items, items_of}
 use Rattle.imap_syntax.specs.Free.{IsFree}
-use Rattle.imap_syntax.specs.Spells.{keywords, Says, IsWordLine, Numbered, IsUntagged, Spells, IsSpelling}
+use Rattle.imap_syntax.specs.Spells.{keywords, IsFlagsLine, Says, IsWordLine, Numbered, IsUntagged, Spells, IsSpelling}
 
 -- ---- words
 
@@ -35,14 +36,24 @@ named_back status.Bye = refl
 passes : {A : Type 0} (w k : List ℕ) (x y : A) → (w ≡ k → ⊥) → cond (bytes_eq w k) x y ≡ y
 passes w k x y ne = cond-false (bytes_eq w k) x y (false_from_ne_true (bytes_eq w k) (λ e. ne (same_text w k e)))
 
-named_none : (w : List ℕ) → (Contains keywords w → ⊥) → status_named w ≡ None
+named_none : (w : List ℕ) → (w ≡ codes "ok" → ⊥) → (w ≡ codes "no" → ⊥) → (w ≡ codes "bad" → ⊥) → (w ≡ codes "preauth" → ⊥) → (w ≡ codes "bye" → ⊥) → status_named w ≡ None
 unfolding status_named
-named_none w ne =
-    passes w (codes "ok") (Some status.Ok) (cond (bytes_eq w (codes "no")) (Some status.No) (cond (bytes_eq w (codes "bad")) (Some status.Bad) (cond (bytes_eq w (codes "preauth")) (Some status.Preauth) (cond (bytes_eq w (codes "bye")) (Some status.Bye) None)))) (λ e. ne (0, omega arith, sym e))
-    ∙ passes w (codes "no") (Some status.No) (cond (bytes_eq w (codes "bad")) (Some status.Bad) (cond (bytes_eq w (codes "preauth")) (Some status.Preauth) (cond (bytes_eq w (codes "bye")) (Some status.Bye) None))) (λ e. ne (1, omega arith, sym e))
-    ∙ passes w (codes "bad") (Some status.Bad) (cond (bytes_eq w (codes "preauth")) (Some status.Preauth) (cond (bytes_eq w (codes "bye")) (Some status.Bye) None)) (λ e. ne (2, omega arith, sym e))
-    ∙ passes w (codes "preauth") (Some status.Preauth) (cond (bytes_eq w (codes "bye")) (Some status.Bye) None) (λ e. ne (3, omega arith, sym e))
-    ∙ passes w (codes "bye") (Some status.Bye) None (λ e. ne (4, omega arith, sym e))
+named_none w ok no_ bad preauth bye =
+    passes w (codes "ok") (Some status.Ok) (cond (bytes_eq w (codes "no")) (Some status.No) (cond (bytes_eq w (codes "bad")) (Some status.Bad) (cond (bytes_eq w (codes "preauth")) (Some status.Preauth) (cond (bytes_eq w (codes "bye")) (Some status.Bye) None)))) ok
+    ∙ passes w (codes "no") (Some status.No) (cond (bytes_eq w (codes "bad")) (Some status.Bad) (cond (bytes_eq w (codes "preauth")) (Some status.Preauth) (cond (bytes_eq w (codes "bye")) (Some status.Bye) None))) no_
+    ∙ passes w (codes "bad") (Some status.Bad) (cond (bytes_eq w (codes "preauth")) (Some status.Preauth) (cond (bytes_eq w (codes "bye")) (Some status.Bye) None)) bad
+    ∙ passes w (codes "preauth") (Some status.Preauth) (cond (bytes_eq w (codes "bye")) (Some status.Bye) None) preauth
+    ∙ passes w (codes "bye") (Some status.Bye) None bye
+
+-- two texts that aren't one
+differ : (a b : List ℕ) → bytes_eq a b ≡ false → a ≡ b → ⊥
+differ a b f e = both (bytes_eq a b) (text_same a b e) f
+
+named_none_of : (k : List ℕ) → bytes_eq k (codes "ok") ≡ false → bytes_eq k (codes "no") ≡ false → bytes_eq k (codes "bad") ≡ false → bytes_eq k (codes "preauth") ≡ false → bytes_eq k (codes "bye") ≡ false → status_named k ≡ None
+named_none_of k a b c d e = named_none k (differ k (codes "ok") a) (differ k (codes "no") b) (differ k (codes "bad") c) (differ k (codes "preauth") d) (differ k (codes "bye") e)
+
+no_keyword : (n : Option ℕ) (w k : List ℕ) → (Contains (keywords n) w → ⊥) → Contains (keywords n) k → w ≡ k → ⊥
+no_keyword n w k ne m e = ne (subst (Contains (keywords n)) (sym e) m)
 
 -- ---- the octet behind a word
 
@@ -69,15 +80,22 @@ behind_rest : (t : List ℕ) → IsRest t → small (get_or t 0 0) ≡ true
 behind_rest t (inl e) = ap (λ (u : List ℕ). small (get_or u 0 0)) e
 behind_rest t (inr w) = ap (λ (u : List ℕ). small (get_or u 0 0)) w.1
 
+behind_words : (ws : List (List ℕ)) (t : List ℕ) → IsWords ws t → small (get_or t 0 0) ≡ true
+behind_words [] t h = ap (λ (u : List ℕ). small (get_or u 0 0)) h.1
+behind_words (w ∷ ws) t h = ap (λ (u : List ℕ). small (get_or u 0 0)) h.1
+
 says_small : (number : Option ℕ) (v : Response) (w tail t : List ℕ) → t ≡ w ++ tail → Each is_word w → Says number v (map lower w) tail t → small (get_or tail 0 0) ≡ true
 says_small None (response.Untagged s) w tail t e h k = behind_rest tail k.1
+says_small None (response.Capability ws) w tail t e h k = behind_words ws tail k.1
+says_small None (response.Enabled ws) w tail t e h k = behind_words ws tail k.1
+says_small None (response.Flags flags) w tail t e h k = ap (λ (u : List ℕ). small (get_or u 0 0)) k.1.2
+says_small None (response.Vanished earlier uids) w tail t e h k = ap (λ (u : List ℕ). small (get_or u 0 0)) k.1.1
+says_small (Some n) (response.Exists count) w tail t e h k = ap (λ (u : List ℕ). small (get_or u 0 0)) k.2
+says_small (Some n) (response.Expunge seq) w tail t e h k = ap (λ (u : List ℕ). small (get_or u 0 0)) k.2
 says_small (Some n) (response.Fetch seq items) w tail t e h k = ap (λ (u : List ℕ). small (get_or u 0 0)) k.2.2
 says_small None response.Other w tail t e h k = behind_free k.1.0 w tail t e h k.1.1
 says_small (Some n) response.Other w tail t e h k = behind_free k.1.0 w tail t e h k.1.1
-says_small None (response.Tagged tag s) w tail t e h k = absurd k
-says_small (Some n) (response.Tagged tag s) w tail t e h k = absurd k
-says_small None (response.Fetch seq items) w tail t e h k = absurd k
-says_small (Some n) (response.Untagged s) w tail t e h k = absurd k
+says_small _ _ w tail t e h k = absurd k
 
 plain_head : (t : List ℕ) → small (get_or t 0 0) ≡ true → get_or (plain t) 0 0 ≡ get_or t 0 0
 plain_head [] e = refl
@@ -107,6 +125,19 @@ five_long (a ∷ b ∷ c ∷ []) h rest = absurd cc
 five_long (a ∷ b ∷ c ∷ d ∷ []) h rest = absurd cc
 five_long (a ∷ b ∷ c ∷ d ∷ e ∷ f ∷ w) h rest = absurd cc
 
+abbrev fetch_of : ℕ → List ℕ → Response
+fetch_of n b = response.Fetch n (items_in (length b) no_items (drop 7 b))
+
+abbrev expunge_or : ℕ → List ℕ → Response
+expunge_or n b = cond (bytes_eq (word_in b) (codes "expunge")) (response.Expunge n) response.Other
+
+abbrev exists_or : ℕ → List ℕ → Response
+exists_or n b = cond (bytes_eq (word_in b) (codes "exists")) (response.Exists n) (expunge_or n b)
+
+-- the word is another
+apart_by : (w k : List ℕ) → w ≡ k → (q : List ℕ) → (k ≡ q → ⊥) → w ≡ q → ⊥
+apart_by w k e q f g = f (sym e ∙ g)
+
 numbered_read : (n : ℕ) (v : Response) (t : List ℕ) → IsWordLine (Some n) v t → numbered_in n (plain t) ≡ v
 unfolding numbered_in
 numbered_read n (response.Fetch seq items) t h =
@@ -120,14 +151,28 @@ numbered_read n (response.Fetch seq items) t h =
     let l2 = length-append h.word (32 ∷ 40 ∷ plain k.1) in
     let l3 = plain_length k.1 in
     let read : items_in (length (plain t)) no_items (drop 7 (plain t)) ≡ items = ap (items_in (length (plain t)) no_items) rest ∙ all_items_read k.0 no_items k.1 (length (plain t)) k.3 (omega (arith, l1, l2, l3)) ∙ sym k.4 in
-    cond-true (bytes_eq (word_in (plain t)) (codes "fetch")) (response.Fetch n (items_in (length (plain t)) no_items (drop 7 (plain t)))) response.Other (text_same (word_in (plain t)) (codes "fetch") (w ∙ says.1))
+    cond-true (bytes_eq (word_in (plain t)) (codes "fetch")) (fetch_of n (plain t)) (exists_or n (plain t)) (text_same (word_in (plain t)) (codes "fetch") (w ∙ says.1))
     ∙ ap (λ q. response.Fetch n q) read ∙ ap (λ (m : ℕ). response.Fetch m items) (sym says.0)
+numbered_read n (response.Exists count) t h =
+    let b = plain t in
+    let w : word_in b ≡ codes "exists" = word_read (Some n) (response.Exists count) t h ∙ h.says.1 in
+    passes (word_in b) (codes "fetch") (fetch_of n b) (exists_or n b) (apart_by (word_in b) (codes "exists") w (codes "fetch") (differ (codes "exists") (codes "fetch") refl))
+    ∙ cond-true (bytes_eq (word_in b) (codes "exists")) (response.Exists n) (expunge_or n b) (text_same (word_in b) (codes "exists") w) ∙ ap response.Exists (sym h.says.0)
+numbered_read n (response.Expunge seq) t h =
+    let b = plain t in
+    let w : word_in b ≡ codes "expunge" = word_read (Some n) (response.Expunge seq) t h ∙ h.says.1 in
+    passes (word_in b) (codes "fetch") (fetch_of n b) (exists_or n b) (apart_by (word_in b) (codes "expunge") w (codes "fetch") (differ (codes "expunge") (codes "fetch") refl))
+    ∙ passes (word_in b) (codes "exists") (response.Exists n) (expunge_or n b) (apart_by (word_in b) (codes "expunge") w (codes "exists") (differ (codes "expunge") (codes "exists") refl))
+    ∙ cond-true (bytes_eq (word_in b) (codes "expunge")) (response.Expunge n) response.Other (text_same (word_in b) (codes "expunge") w) ∙ ap response.Expunge (sym h.says.0)
 numbered_read n response.Other t h =
+    let b = plain t in
     let w = word_read (Some n) response.Other t h in
     let says = h.says in
-    passes (word_in (plain t)) (codes "fetch") (response.Fetch n (items_in (length (plain t)) no_items (drop 7 (plain t)))) response.Other (λ e. says.0 (5, omega arith, sym (sym w ∙ e)))
-numbered_read n (response.Tagged tag s) t h = absurd h.says
-numbered_read n (response.Untagged s) t h = absurd h.says
+    let ne : (k : List ℕ) → Contains (keywords (Some n)) k → word_in b ≡ k → ⊥ = λ k m e. no_keyword (Some n) (map lower h.word) k says.0 m (sym w ∙ e) in
+    passes (word_in b) (codes "fetch") (fetch_of n b) (exists_or n b) (ne (codes "fetch") (2, omega arith, refl))
+    ∙ passes (word_in b) (codes "exists") (response.Exists n) (expunge_or n b) (ne (codes "exists") (0, omega arith, refl))
+    ∙ passes (word_in b) (codes "expunge") (response.Expunge n) response.Other (ne (codes "expunge") (1, omega arith, refl))
+numbered_read n _ t h = absurd h.says
 
 -- ---- behind `* `
 
@@ -163,12 +208,65 @@ headed : (u : List ℕ) (c : ℕ) → get_or u 0 0 ≡ c → 0 < c → (z : List
 headed [] c e lt = absurd (omega (arith, e, lt))
 headed (d ∷ u) c e lt = (u, ap (λ (n : ℕ). n ∷ u) e)
 
-plain_said : (v : Response) (w tail t : List ℕ) → Says None v w tail t → plain_in (status_named w) ≡ v
+abbrev vanished_or : List ℕ → List ℕ → Response
+vanished_or w tail = cond (bytes_eq w (codes "vanished")) (vanished_in (drop 1 tail)) response.Other
+
+abbrev flags_or : List ℕ → List ℕ → Response
+flags_or w tail = cond (bytes_eq w (codes "flags")) (response.Flags (flags_in (drop 2 tail)).0) (vanished_or w tail)
+
+abbrev enabled_or : List ℕ → List ℕ → Response
+enabled_or w tail = cond (bytes_eq w (codes "enabled")) (response.Enabled (words_in (length tail) tail)) (flags_or w tail)
+
+flags_line : (flags : List (List ℕ)) (t : List ℕ) → IsFlagsLine flags t → (flags_in (drop 2 (plain t))).0 ≡ flags
+flags_line flags t h =
+    let ns = h.0 in
+    let all = h.3.0 in
+    let e : plain t ≡ 32 ∷ 40 ∷ joined ns ++ 41 ∷ crlf = ap plain (h.2 ∙ ap (λ (u : List ℕ). 32 ∷ u ++ crlf) h.3.1 ∙ ap (λ (u : List ℕ). 32 ∷ 40 ∷ u) (append_assoc (joined ns) (41 ∷ []) crlf))
+    ∙ plain_small (32 ∷ 40 ∷ joined ns ++ 41 ∷ crlf) (refl, (refl, each_join small (joined ns) (41 ∷ crlf) (joined_small ns all) (refl, (refl, (refl, tt))))) in
+    ap (λ (r : List (List ℕ) × List ℕ). r.0) (flags_read ns crlf (drop 2 (plain t)) all (ap (drop 2) e)) ∙ sym h.4
+
+told_said : (v : Response) (w tail t : List ℕ) → Says None v w tail t → said_in (status_named w) w (plain tail) ≡ v
+unfolding said_in told_in
+told_said (response.Untagged s) w tail t h = ap (λ (o : Option Status). said_in o w (plain tail)) (ap status_named h.0 ∙ named_back s)
+told_said (response.Capability ws) w tail t h =
+    ap (λ (o : Option Status). said_in o w (plain tail)) (ap status_named h.0 ∙ named_none_of (codes "capability") refl refl refl refl refl)
+    ∙ cond-true (bytes_eq w (codes "capability")) (response.Capability (words_in (length (plain tail)) (plain tail))) (enabled_or w (plain tail)) (text_same w (codes "capability") h.0)
+    ∙ ap response.Capability (words_read ws tail h.1)
+told_said (response.Enabled ws) w tail t h =
+    ap (λ (o : Option Status). said_in o w (plain tail)) (ap status_named h.0 ∙ named_none_of (codes "enabled") refl refl refl refl refl)
+    ∙ passes w (codes "capability") (response.Capability (words_in (length (plain tail)) (plain tail))) (enabled_or w (plain tail)) (apart_by w (codes "enabled") h.0 (codes "capability") (differ (codes "enabled") (codes "capability") refl))
+    ∙ cond-true (bytes_eq w (codes "enabled")) (response.Enabled (words_in (length (plain tail)) (plain tail))) (flags_or w (plain tail)) (text_same w (codes "enabled") h.0)
+    ∙ ap response.Enabled (words_read ws tail h.1)
+told_said (response.Flags flags) w tail t h =
+    ap (λ (o : Option Status). said_in o w (plain tail)) (ap status_named h.0 ∙ named_none_of (codes "flags") refl refl refl refl refl)
+    ∙ passes w (codes "capability") (response.Capability (words_in (length (plain tail)) (plain tail))) (enabled_or w (plain tail)) (apart_by w (codes "flags") h.0 (codes "capability") (differ (codes "flags") (codes "capability") refl))
+    ∙ passes w (codes "enabled") (response.Enabled (words_in (length (plain tail)) (plain tail))) (flags_or w (plain tail)) (apart_by w (codes "flags") h.0 (codes "enabled") (differ (codes "flags") (codes "enabled") refl))
+    ∙ cond-true (bytes_eq w (codes "flags")) (response.Flags (flags_in (drop 2 (plain tail))).0) (vanished_or w (plain tail)) (text_same w (codes "flags") h.0)
+    ∙ ap response.Flags (flags_line flags tail h.1)
+told_said (response.Vanished earlier uids) w tail t h =
+    ap (λ (o : Option Status). said_in o w (plain tail)) (ap status_named h.0 ∙ named_none_of (codes "vanished") refl refl refl refl refl)
+    ∙ passes w (codes "capability") (response.Capability (words_in (length (plain tail)) (plain tail))) (enabled_or w (plain tail)) (apart_by w (codes "vanished") h.0 (codes "capability") (differ (codes "vanished") (codes "capability") refl))
+    ∙ passes w (codes "enabled") (response.Enabled (words_in (length (plain tail)) (plain tail))) (flags_or w (plain tail)) (apart_by w (codes "vanished") h.0 (codes "enabled") (differ (codes "vanished") (codes "enabled") refl))
+    ∙ passes w (codes "flags") (response.Flags (flags_in (drop 2 (plain tail))).0) (vanished_or w (plain tail)) (apart_by w (codes "vanished") h.0 (codes "flags") (differ (codes "vanished") (codes "flags") refl))
+    ∙ cond-true (bytes_eq w (codes "vanished")) (vanished_in (drop 1 (plain tail))) response.Other (text_same w (codes "vanished") h.0)
+    ∙ ap (λ (u : List ℕ). vanished_in (drop 1 (plain u))) h.1.1 ∙ vanished_read earlier uids.ranges h.1.0 h.1.2
+told_said response.Other w tail t h =
+    let ne : (k : List ℕ) → Contains (keywords None) k → w ≡ k → ⊥ = λ k m e. no_keyword None w k h.0 m e in
+    ap (λ (o : Option Status). said_in o w (plain tail)) (named_none w (ne (codes "ok") (0, omega arith, refl)) (ne (codes "no") (1, omega arith, refl)) (ne (codes "bad") (2, omega arith, refl)) (ne (codes "preauth") (3, omega arith, refl)) (ne (codes "bye") (4, omega arith, refl)))
+    ∙ passes w (codes "capability") (response.Capability (words_in (length (plain tail)) (plain tail))) (enabled_or w (plain tail)) (ne (codes "capability") (5, omega arith, refl))
+    ∙ passes w (codes "enabled") (response.Enabled (words_in (length (plain tail)) (plain tail))) (flags_or w (plain tail)) (ne (codes "enabled") (6, omega arith, refl))
+    ∙ passes w (codes "flags") (response.Flags (flags_in (drop 2 (plain tail))).0) (vanished_or w (plain tail)) (ne (codes "flags") (7, omega arith, refl))
+    ∙ passes w (codes "vanished") (vanished_in (drop 1 (plain tail))) response.Other (ne (codes "vanished") (8, omega arith, refl))
+told_said _ w tail t h = absurd h
+
+plain_read : (v : Response) (t : List ℕ) → IsWordLine None v t → plain_in (plain t) ≡ v
 unfolding plain_in
-plain_said (response.Untagged s) w tail t h = ap plain_in (ap status_named h.0 ∙ named_back s)
-plain_said response.Other w tail t h = ap plain_in (named_none w h.0)
-plain_said (response.Tagged tag s) w tail t h = absurd h
-plain_said (response.Fetch seq items) w tail t h = absurd h
+plain_read v t h =
+    let b = plain t in
+    let c = word_cut None v t h in
+    ap (λ (w : List ℕ). said_in (status_named w) w (drop (span is_word b) b)) (word_read None v t h)
+    ∙ ap (said_in (status_named (map lower h.word)) (map lower h.word)) c.0.back
+    ∙ told_said v (map lower h.word) h.tail t h.says
 
 untagged_read : (v : Response) (t : List ℕ) → IsUntagged v t → untagged_in (plain t) ≡ v
 unfolding untagged_in
@@ -181,20 +279,20 @@ untagged_read v t (inl r) =
     let k = cut_at is_word digits (32 ∷ plain r.1) b cut (each_to is_digit is_word digits digit_word num.digits) refl in
     let test : (is_sequence (take (span is_word b) b) && get_or b (span is_word b) 0 == 32) ≡ true = and_from _ _ (ap is_sequence k.front ∙ sequence_true n digits num) (ap (λ (c : ℕ). c == 32) k.octet) in
     let value : number_in (take (span is_word b) b) ≡ n = ap number_in k.front ∙ number_is digits (omega (arith, num.value, num.most)) ∙ sym num.value in
-    cond-true (is_sequence (take (span is_word b) b) && get_or b (span is_word b) 0 == 32) (numbered_in (number_in (take (span is_word b) b)) (drop (span is_word b + 1) b)) (plain_in (status_named (word_in b))) test
+    cond-true (is_sequence (take (span is_word b) b) && get_or b (span is_word b) 0 == 32) (numbered_in (number_in (take (span is_word b) b)) (drop (span is_word b + 1) b)) (plain_in b) test
     ∙ ap (λ (m : ℕ). numbered_in m (drop (span is_word b + 1) b)) value ∙ ap (numbered_in n) (k.past 32 (plain r.1) refl) ∙ numbered_read n v r.1 r.3
 untagged_read v t (inr r) =
     let b = plain t in
     let c = word_cut None v t r.0 in
     let k = c.0 in
-    cond-false (is_sequence (take (span is_word b) b) && get_or b (span is_word b) 0 == 32) (numbered_in (number_in (take (span is_word b) b)) (drop (span is_word b + 1) b)) (plain_in (status_named (word_in b)))
+    cond-false (is_sequence (take (span is_word b) b) && get_or b (span is_word b) 0 == 32) (numbered_in (number_in (take (span is_word b) b)) (drop (span is_word b + 1) b)) (plain_in b)
     (false_from_ne_true (is_sequence (take (span is_word b) b) && get_or b (span is_word b) 0 == 32) (λ e.
     let p = and_parts (is_sequence (take (span is_word b) b)) (get_or b (span is_word b) 0 == 32) e in
     let num = true_sequence r.0.word (ap is_sequence (sym k.front) ∙ p.0) in
     let space : get_or r.0.tail 0 0 ≡ 32 = sym c.1 ∙ sym k.octet ∙ eqb-true (get_or b (span is_word b) 0) 32 p.1 in
     let tail = headed r.0.tail 32 space (omega arith) in
     r.1 (value_from 0 r.0.word) tail.0 (r.0.word, r.0.whole ∙ ap (λ (u : List ℕ). r.0.word ++ u) tail.1, num)))
-    ∙ ap (λ (w : List ℕ). plain_in (status_named w)) (word_read None v t r.0) ∙ plain_said v (map lower r.0.word) r.0.tail t r.0.says
+    ∙ plain_read v t r.0
 
 -- ---- behind a tag
 
@@ -234,12 +332,15 @@ tagged_read tag s t h =
 
 -- ---- responses
 
-tag_first : (tag t after : List ℕ) → t ≡ tag ++ 32 ∷ after → Each is_alnum tag → (get_or (plain t) 0 0 == 42) ≡ false
-tag_first [] t after e h = ap (λ (u : List ℕ). get_or (plain u) 0 0 == 42) e
-tag_first (c ∷ tag) t after e h = ap (λ (u : List ℕ). get_or (plain u) 0 0 == 42) e ∙ not_star c h.0
+tag_first : (tag t after : List ℕ) → t ≡ tag ++ 32 ∷ after → Each is_alnum tag → ((get_or (plain t) 0 0 == 42) ≡ false) × ((get_or (plain t) 0 0 == 43) ≡ false)
+tag_first [] t after e h = (ap (λ (u : List ℕ). get_or (plain u) 0 0 == 42) e, ap (λ (u : List ℕ). get_or (plain u) 0 0 == 43) e)
+tag_first (c ∷ tag) t after e h = (ap (λ (u : List ℕ). get_or (plain u) 0 0 == 42) e ∙ not_star c h.0, ap (λ (u : List ℕ). get_or (plain u) 0 0 == 43) e ∙ not_plus c h.0)
   where
     not_star : (c : ℕ) → is_alnum c ≡ true → (plain_of c == 42) ≡ false
     not_star c e = grind arith
+
+    not_plus : (c : ℕ) → is_alnum c ≡ true → (plain_of c == 43) ≡ false
+    not_plus c e = grind arith
 
 star_read : (v : Response) (t line : List ℕ) → t ≡ 42 ∷ 32 ∷ line → IsUntagged v line → response_in (plain t) ≡ v
 unfolding response_in
@@ -249,10 +350,18 @@ star_read v t line e h = ap (λ (u : List ℕ). response_in (plain u)) e ∙ unt
 pub reads_value : (v : Response) (t : List ℕ) → Spells v t → response_in (plain t) ≡ v
 unfolding response_in
 reads_value (response.Tagged tag s) t h =
-    cond-false (get_or (plain t) 0 0 == 42) (untagged_in (drop 2 (plain t))) (tagged_in (plain t)) (tag_first tag t h.after h.whole h.tag_is)
-    ∙ tagged_read tag s t h
+    let f = tag_first tag t h.after h.whole h.tag_is in
+    cond-false (get_or (plain t) 0 0 == 42) (untagged_in (drop 2 (plain t))) (cond (get_or (plain t) 0 0 == 43) response.Continue (tagged_in (plain t))) f.0
+    ∙ cond-false (get_or (plain t) 0 0 == 43) response.Continue (tagged_in (plain t)) f.1 ∙ tagged_read tag s t h
+reads_value response.Continue t h = ap (λ (u : List ℕ). response_in (plain u)) h.1
 reads_value (response.Untagged s) t h = star_read (response.Untagged s) t h.0 h.1 h.2
+reads_value (response.Capability ws) t h = star_read (response.Capability ws) t h.0 h.1 h.2
+reads_value (response.Enabled ws) t h = star_read (response.Enabled ws) t h.0 h.1 h.2
+reads_value (response.Flags flags) t h = star_read (response.Flags flags) t h.0 h.1 h.2
+reads_value (response.Exists count) t h = star_read (response.Exists count) t h.0 h.1 h.2
+reads_value (response.Expunge seq) t h = star_read (response.Expunge seq) t h.0 h.1 h.2
 reads_value (response.Fetch seq items) t h = star_read (response.Fetch seq items) t h.0 h.1 h.2
+reads_value (response.Vanished earlier uids) t h = star_read (response.Vanished earlier uids) t h.0 h.1 h.2
 reads_value response.Other t h = star_read response.Other t h.0 h.1 h.2
 
 -- a text spells at most one value

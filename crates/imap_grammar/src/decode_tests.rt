@@ -5,7 +5,7 @@ use crate::commands::write_command;
 use crate::decoder::decode;
 use crate::scanner::scan;
 use gate_world::{Bytes, Names};
-use imap_syntax::{Command, Response, Status};
+use imap_syntax::{Command, Response, Status, UidSet};
 use std::alloc::{AllocError, Global};
 use std::test::Fail;
 
@@ -92,8 +92,10 @@ const UNTAGGED: [(&[u8], Status); 5] = [
     (b"* Bye\r\n", Status::Bye),
 ];
 
-const OTHER: [&[u8]; 4] = [
-    b"* 3 EXISTS\r\n",
+const OTHER: [&[u8]; 6] = [
+    b"* 3 RECENT\r\n",
+    b"* EXISTS\r\n",
+    b"* 3 OK x\r\n",
     b"* X {4}\r\n* OK\r\n",
     b"* 4294967296 FETCH (UID 1)\r\n",
     b"* OKAY\r\n",
@@ -115,6 +117,131 @@ const FETCH: [(&[u8], u32, Option<u32>, &[u8]); 4] = [
     (b"* 4294967295 FETCH (FLAGS ())\r\n", u32::MAX, None, b""),
     (b"* 0 FETCH (UID 0000000042)\r\n", 0, Some(42), b"-"),
 ];
+
+/// The names of a response that has but names.
+fn names_of(response: Response) -> Option<Names> {
+    match response {
+        Response::Capability(names) => Some(names),
+        Response::Enabled(names) => Some(names),
+        Response::Flags(names) => Some(names),
+        _ => None,
+    }
+}
+
+fn has_names(alloc: Global, bytes: &[u8], wanted: &[u8]) -> Result<bool, AllocError> {
+    let names = match read(alloc, bytes)? {
+        Some(response) => names_of(response),
+        None => None,
+    };
+    Ok(joined(alloc, &names)?.as_slice() == wanted)
+}
+
+const NAMES: [(&[u8], &[u8]); 6] = [
+    (
+        b"* CAPABILITY IMAP4rev2 qresync IMAP4rev2\r\n",
+        b" IMAP4rev2 qresync IMAP4rev2",
+    ),
+    (b"* capability\r\n", b""),
+    (b"* ENABLED QRESYNC X-{1}(\"\r\n", b" QRESYNC X-{1}(\""),
+    (
+        b"* FLAGS (\\Seen $Junk \\Recent \\ANSWERED $junk)\r\n",
+        b" $junk \\answered \\seen",
+    ),
+    (b"* flags ()\r\n", b""),
+    (b"* OK [PERMANENTFLAGS ()] x\r\n", b"-"),
+];
+
+#[test]
+fn capabilities_and_flags_are_told(rt: HostRuntime) -> Result<(), Fail> {
+    for (bytes, wanted) in NAMES.iter() {
+        assert!(rt; has_names(rt.alloc(), bytes, wanted)?);
+    }
+    Ok(())
+}
+
+fn has_ranges(set: &UidSet, wanted: &[(u32, u32)]) -> bool {
+    let mut same = set.ranges.as_slice().len() == wanted.len();
+    for (range, (first, last)) in set.ranges.as_slice().iter().zip(wanted) {
+        same = same && range.first == *first && range.last == *last;
+    }
+    same
+}
+
+fn is_vanished(
+    alloc: Global,
+    bytes: &[u8],
+    wanted: bool,
+    ranges: &[(u32, u32)],
+) -> Result<bool, AllocError> {
+    match read(alloc, bytes)? {
+        Some(Response::Vanished { earlier, uids }) => {
+            Ok(earlier == wanted && has_ranges(&uids, ranges))
+        }
+        _ => Ok(false),
+    }
+}
+
+const VANISHED: [(&[u8], bool, &[(u32, u32)]); 4] = [
+    (b"* VANISHED 1\r\n", false, &[(1, 1)]),
+    (
+        b"* vanished (EARLIER) 41,43:116,118\r\n",
+        true,
+        &[(41, 41), (43, 116), (118, 118)],
+    ),
+    (
+        b"* VANISHED (earlier) 5:3,3:5,0000000004\r\n",
+        true,
+        &[(3, 5), (3, 5), (4, 4)],
+    ),
+    (b"* VANISHED 4294967295:1\r\n", false, &[(1, u32::MAX)]),
+];
+
+#[test]
+fn vanished_messages_are_told(rt: HostRuntime) -> Result<(), Fail> {
+    for (bytes, earlier, ranges) in VANISHED.iter() {
+        assert!(rt; is_vanished(rt.alloc(), bytes, *earlier, ranges)?);
+    }
+    Ok(())
+}
+
+#[test]
+fn counts_and_continuations_are_told(rt: HostRuntime) -> Result<(), Fail> {
+    let alloc = rt.alloc();
+    assert!(rt; matches!(read(alloc, b"+ go\r\n")?, Some(Response::Continue)));
+    assert!(rt; matches!(read(alloc, b"* 3 exists\r\n")?, Some(Response::Exists(3))));
+    assert!(rt;
+        matches!(
+            read(alloc, b"* 4294967295 EXPUNGE\r\n")?,
+            Some(Response::Expunge(u32::MAX))
+        )
+    );
+    Ok(())
+}
+
+/// A set, a UID, whether the set holds it, and the one UID that the set holds.
+const SETS: [(&[u8], u32, bool, Option<u32>); 7] = [
+    (b"* VANISHED 7\r\n", 7, true, Some(7)),
+    (b"* VANISHED 7\r\n", 6, false, Some(7)),
+    (b"* VANISHED 7:7,7\r\n", 7, true, Some(7)),
+    (b"* VANISHED 7:8\r\n", 8, true, None),
+    (b"* VANISHED 1:3,9\r\n", 4, false, None),
+    (b"* VANISHED 1:3,9\r\n", 9, true, None),
+    (b"* VANISHED 4294967295:1\r\n", u32::MAX, true, None),
+];
+
+#[test]
+fn sets_hold_their_ranges(rt: HostRuntime) -> Result<(), Fail> {
+    for (bytes, uid, held, only) in SETS.iter() {
+        match read(rt.alloc(), bytes)? {
+            Some(Response::Vanished { uids, .. }) => {
+                assert_eq!(rt; uids.contains(*uid), *held);
+                assert_eq!(rt; uids.only(), *only);
+            }
+            _ => assert!(rt; false),
+        }
+    }
+    Ok(())
+}
 
 #[test]
 fn responses_say_what_was_told(rt: HostRuntime) -> Result<(), Fail> {

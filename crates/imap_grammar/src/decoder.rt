@@ -10,6 +10,7 @@ use crate::flags::flags_in;
 use crate::octets::{
     before, behind, digits_len, is_key, is_sequence, name_len, number_of, octet_at, word_len,
 };
+use crate::sets::{vanished_in, words_in};
 use gate_world::{Bytes, Names};
 use imap_syntax::{FetchItems, Response, Status};
 use std::alloc::{AllocError, Global};
@@ -42,12 +43,12 @@ fn status_in(bytes: &[u8]) -> Option<Status>
     status_named(before(bytes, word_len(bytes)))
 }
 
-/// Whether the first word is FETCH.
+/// Whether the first word is the key.
 #[tactic(auto, unfolding(crate::specs::Reading::word_in))]
-fn is_fetch(bytes: &[u8]) -> bool
-    ensures { result ≡ bytes_eq (reading.word_in bytes.now) (codes "fetch") }
+fn begins_with(bytes: &[u8], key: &[u8]) -> bool
+    ensures { result ≡ bytes_eq (reading.word_in bytes.now) key.now }
 {
-    is_key(before(bytes, word_len(bytes)), b"fetch")
+    is_key(before(bytes, word_len(bytes)), key)
 }
 
 fn with_uid(items: FetchItems, uid: u32) -> FetchItems
@@ -122,21 +123,47 @@ fn items_in(alloc: Global, bytes: &[u8], most: usize) -> Result<FetchItems, Allo
 fn numbered(alloc: Global, seq: u32, bytes: &[u8]) -> Result<Response, AllocError>
     ensures { IfOk result (λ v. v ≡ reading.numbered_in seq bytes.now) }
 {
-    if is_fetch(bytes) {
+    if begins_with(bytes, b"fetch") {
         let items = items_in(alloc, behind(bytes, 7), bytes.len())?;
         Ok(Response::Fetch { seq, items })
+    } else if begins_with(bytes, b"exists") {
+        Ok(Response::Exists(seq))
+    } else if begins_with(bytes, b"expunge") {
+        Ok(Response::Expunge(seq))
     } else {
         Ok(Response::Other)
     }
 }
 
-#[tactic(auto, unfolding(crate::specs::Reading::plain_in))]
-fn plain(status: Option<Status>) -> Response
-    ensures { result ≡ reading.plain_in status }
+/// What a word that names no status says with what follows it.
+#[tactic(auto, unfolding(crate::specs::Reading::told_in))]
+fn told(alloc: Global, word: &[u8], tail: &[u8]) -> Result<Response, AllocError>
+    ensures { IfOk result (λ v. v ≡ reading.told_in (map classes.lower word.now) tail.now) }
 {
-    match status {
-        None => Response::Other,
-        Some(status) => Response::Untagged { status },
+    if is_key(word, b"capability") {
+        Ok(Response::Capability(words_in(alloc, tail)?))
+    } else if is_key(word, b"enabled") {
+        Ok(Response::Enabled(words_in(alloc, tail)?))
+    } else if is_key(word, b"flags") {
+        let (flags, _) = flags_in(alloc, behind(tail, 2))?;
+        Ok(Response::Flags(flags))
+    } else if is_key(word, b"vanished") {
+        vanished_in(alloc, behind(tail, 1))
+    } else {
+        Ok(Response::Other)
+    }
+}
+
+/// What stands behind `* ` where no number does.
+#[tactic(auto, unfolding(crate::specs::Reading::plain_in, crate::specs::Reading::said_in, crate::specs::Reading::word_in))]
+fn plain(alloc: Global, bytes: &[u8]) -> Result<Response, AllocError>
+    ensures { IfOk result (λ v. v ≡ reading.plain_in bytes.now) }
+{
+    let n = word_len(bytes);
+    let word = before(bytes, n);
+    match status_named(word) {
+        None => told(alloc, word, behind(bytes, n)),
+        Some(status) => Ok(Response::Untagged { status }),
     }
 }
 
@@ -150,7 +177,7 @@ fn untagged(alloc: Global, bytes: &[u8]) -> Result<Response, AllocError>
     if is_sequence(word) && octet_at(bytes, n) == b' ' {
         numbered(alloc, number_of(word), behind(bytes, n + 1))
     } else {
-        Ok(plain(status_in(bytes)))
+        plain(alloc, bytes)
     }
 }
 
@@ -170,6 +197,8 @@ fn response(alloc: Global, bytes: &[u8]) -> Result<Response, AllocError>
 {
     if octet_at(bytes, 0) == b'*' {
         untagged(alloc, behind(bytes, 2))
+    } else if octet_at(bytes, 0) == b'+' {
+        Ok(Response::Continue)
     } else {
         tagged(alloc, bytes)
     }

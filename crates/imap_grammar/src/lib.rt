@@ -11,9 +11,10 @@ mod octets;
 #[cfg(test)]
 mod scan_tests;
 mod scanner;
+mod sets;
 
 pub use answer::Scan;
 pub use commands::write_command;
 pub use decoder::{decode, no_spelling_within, one_value};
-pub use imap_syntax::{Command, FetchItems, Response, Status};
+pub use imap_syntax::{Command, FetchItems, Response, Status, UidRange, UidSet};
 pub use scanner::{Scanner, one_answer, scan};

@@ -17,7 +17,7 @@ fn fed(bytes: &[u8]) -> Scan {
 }
 
 /// Octets, and how many of them are a response.
-const WHOLE: [(&[u8], usize); 30] = [
+const WHOLE: [(&[u8], usize); 44] = [
     (b"a1 OK\r\n", 7),
     (b"a1 OK\r\nzzz", 7),
     (b"a1 ok done\r\n", 12),
@@ -31,6 +31,20 @@ const WHOLE: [(&[u8], usize); 30] = [
     (b"* 3 EXISTS\r\n", 12),
     (b"* FLAGS (\\Answered)\r\n", 21),
     (b"* CAPABILITY IMAP4rev2\r\n", 24),
+    (b"* capability\r\n", 14),
+    (b"* Enabled QRESYNC X-{1}(\"\r\n", 28),
+    (b"* FLAGS ()\r\n", 12),
+    (b"* 23 eXiStS\r\n", 13),
+    (b"* 0 EXPUNGE\r\n", 13),
+    (b"* VANISHED 300:310,405,411\r\n", 28),
+    (b"* vanished (Earlier) 5:3,1\r\n", 28),
+    (b"+\r\n", 3),
+    (b"+ go\r\n", 6),
+    (b"+{5}\r\n", 6),
+    (b"* 3 OK x\r\n", 10),
+    (b"* 3 FLAGS ()\r\n", 14),
+    (b"* EXISTS\r\n", 10),
+    (b"* FETCH x\r\n", 11),
     (b"* OKAY x\r\n", 10),
     (b"* 12\r\n", 6),
     (b"* 12\tx\r\n", 8),
@@ -54,7 +68,7 @@ const WHOLE: [(&[u8], usize); 30] = [
 ];
 
 /// Octets that begin a response and are none.
-const OPEN: [&[u8]; 9] = [
+const OPEN: [&[u8]; 13] = [
     b"",
     b"a1 OK\r",
     b"* X {5}\r\n",
@@ -64,10 +78,14 @@ const OPEN: [&[u8]; 9] = [
     b"* 1 FETCH (UID 1)",
     b"* 1 FETCH (FLAGS (\\",
     b"* fetc",
+    b"* VANISHED (earl",
+    b"* VANISHED 1:4294967295",
+    b"* CAPABILITY ",
+    b"+",
 ];
 
 /// Octets, and the first place at which no response goes on so.
-const BAD: [(&[u8], usize); 26] = [
+const BAD: [(&[u8], usize); 38] = [
     (b"* 1 FETCH (UID 0)", 16),
     (b"* 1 FETCH (UID 4294967296)", 24),
     (b"* 1 FETCH (UID 0000000000)", 24),
@@ -87,10 +105,22 @@ const BAD: [(&[u8], usize); 26] = [
     (b"a1 PREAUTH\r\n", 3),
     (b"a1  OK\r\n", 3),
     (b"a1 OK\rx", 6),
-    (b"+ go\r\n", 0),
+    (b"+ go\x00", 4),
+    (b"*+ go\r\n", 1),
     (b"* OK\tx\r\n", 4),
-    (b"* 3 OK x\r\n", 6),
-    (b"* FETCH x\r\n", 7),
+    (b"* 3 EXISTS x\r\n", 10),
+    (b"* CAPABILITY  X\r\n", 13),
+    (b"* CAPABILITY \r\n", 13),
+    (b"* ENABLED x\xff\r\n", 11),
+    (b"* FLAGS x\r\n", 8),
+    (b"* FLAGS () x\r\n", 10),
+    (b"* VANISHED 0\r\n", 12),
+    (b"* VANISHED 1:2:3\r\n", 14),
+    (b"* VANISHED 1,\r\n", 13),
+    (b"* VANISHED *\r\n", 11),
+    (b"* VANISHED 4294967296\r\n", 20),
+    (b"* VANISHED (EARLIER)1\r\n", 20),
+    (b"* VANISHED (X\r\n", 12),
     (b"* \r\n", 2),
     (b"* 3 \r\n", 4),
     (b"* X {50000001}\r\n", 14),

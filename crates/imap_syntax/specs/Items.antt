@@ -7,6 +7,7 @@ use Rattle.imap_syntax.specs.declared.response.FetchItems.{FetchItems}
 use Rattle.imap_syntax.specs.Octets.{is_atom, lower}
 use Rattle.imap_syntax.specs.Texts.{Each, Then, crlf}
 use Rattle.imap_syntax.specs.Numbers.{IsNonZero}
+use Rattle.imap_syntax.specs.Lines.{spaced}
 
 -- ---- names
 
@@ -20,11 +21,6 @@ IsName t = IsAtom t ⊎ ((atom : List ℕ) × (t ≡ 92 ∷ atom) × IsAtom atom
 abbrev pub AllNames : List (List ℕ) → Type 0
 AllNames [] = Unit {0}
 AllNames (n ∷ ns) = IsName n × AllNames ns
-
--- a space before each
-abbrev pub spaced : List (List ℕ) → List ℕ
-spaced [] = []
-spaced (n ∷ ns) = 32 ∷ n ++ spaced ns
 
 -- a space between two
 abbrev pub joined : List (List ℕ) → List ℕ

@@ -1,6 +1,7 @@
 pub mod Octets
 pub mod Texts
 pub mod Numbers
+pub mod UidSets
 pub mod Lines
 pub mod Items
 pub mod Free

@@ -2,7 +2,7 @@
 use Rattle.std.specs.Prelude.{◌≡◌, ◌⊎◌, ℕ, ◌<◌, ◌≤◌, List, [], ◌∷◌, ◌++◌, length, codes}
 use Rattle.imap_syntax.specs.declared.response.Status.{Status}
 use Rattle.imap_syntax.specs.declared.response.Status.TheVariants as status
-use Rattle.imap_syntax.specs.Octets.{is_alnum, is_text}
+use Rattle.imap_syntax.specs.Octets.{is_alnum, is_text, is_word}
 use Rattle.imap_syntax.specs.Texts.{Each, Then, crlf, IsWord}
 
 abbrev pub word_of : Status → List ℕ
@@ -37,3 +37,22 @@ pub record IsTagged (tag : List ℕ) (s : Status) (t : List ℕ) : Type 0 where
   pub few : length tag ≤ 32
   pub completes : Completes s
   pub line : Then (IsWord (word_of s)) IsRest after
+
+-- ---- words
+
+-- word = one or more octets 33 to 126
+abbrev pub IsPrinted : List ℕ → Type 0
+IsPrinted w = Each is_word w × (0 < length w)
+
+abbrev pub AllPrinted : List (List ℕ) → Type 0
+AllPrinted [] = Unit {0}
+AllPrinted (w ∷ ws) = IsPrinted w × AllPrinted ws
+
+-- a space before each
+abbrev pub spaced : List (List ℕ) → List ℕ
+spaced [] = []
+spaced (w ∷ ws) = 32 ∷ w ++ spaced ws
+
+-- *(SP word) CRLF
+abbrev pub IsWords : List (List ℕ) → List ℕ → Type 0
+IsWords ws t = AllPrinted ws × (t ≡ spaced ws ++ crlf)

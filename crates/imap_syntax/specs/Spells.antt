@@ -1,29 +1,50 @@
 -- The responses, and the texts that spell them (RFC 9051 section 9):
 --
 --   response = tag SP ("OK" / "NO" / "BAD") rest CRLF
+--            / "+" *text CRLF
 --            / "*" SP ("OK" / "NO" / "BAD" / "PREAUTH" / "BYE") rest CRLF
+--            / "*" SP ("CAPABILITY" / "ENABLED") *(SP word) CRLF
+--            / "*" SP "FLAGS" SP names CRLF
+--            / "*" SP "VANISHED" SP ["(EARLIER)" SP] set CRLF
+--            / "*" SP num SP ("EXISTS" / "EXPUNGE") CRLF
 --            / "*" SP num SP "FETCH" SP "(" item *(SP item) ")" CRLF
 --            / "*" SP other CRLF
 use Rattle.std.specs.Prelude.{◌≡◌, ◌≢◌, ◌⊎◌, ℕ, ◌≤◌, false, List, [], ◌∷◌, ◌++◌, map, get_or, codes, Contains, Option, Some, None}
 use Rattle.imap_syntax.specs.declared.response.Response.{Response}
-use Rattle.imap_syntax.specs.declared.response.Response.TheVariants.{Tagged, Untagged, Fetch, Other}
+use Rattle.imap_syntax.specs.declared.response.Response.TheVariants.{Tagged, Untagged, Continue, Capability, Enabled, Flags, Exists, Expunge, Fetch, Vanished, Other}
 use Rattle.imap_syntax.specs.Octets.{is_word, lower}
-use Rattle.imap_syntax.specs.Texts.{Each, plain, outside, limit}
+use Rattle.imap_syntax.specs.declared.response.FetchItems.{FetchItems}
+use Rattle.imap_syntax.specs.Texts.{Each, plain, outside, limit, crlf, IsCrlf}
 use Rattle.imap_syntax.specs.Numbers.{IsNumber}
-use Rattle.imap_syntax.specs.Lines.{word_of, IsRest, IsTagged}
-use Rattle.imap_syntax.specs.Items.{Item, IsItems, items_of}
+use Rattle.imap_syntax.specs.Lines.{word_of, IsLine, IsRest, IsTagged, IsWords}
+use Rattle.imap_syntax.specs.UidSets.{IsVanished}
+use Rattle.imap_syntax.specs.Items.{Item, IsNames, IsItems, kept, items_of}
 use Rattle.imap_syntax.specs.Free.{IsFree}
 
--- the words with which no other response begins
-abbrev pub keywords : List (List ℕ)
-keywords = codes "ok" ∷ codes "no" ∷ codes "bad" ∷ codes "preauth" ∷ codes "bye" ∷ codes "fetch" ∷ []
+-- the words with which no other response begins, behind the number or none
+abbrev pub keywords : Option ℕ → List (List ℕ)
+keywords None = codes "ok" ∷ codes "no" ∷ codes "bad" ∷ codes "preauth" ∷ codes "bye" ∷ codes "capability" ∷ codes "enabled" ∷ codes "flags" ∷ codes "vanished" ∷ []
+keywords (Some n) = codes "exists" ∷ codes "expunge" ∷ codes "fetch" ∷ []
+
+-- SP names CRLF
+abbrev pub IsFlagsLine : List (List ℕ) → List ℕ → Type 0
+IsFlagsLine flags t = (ns : List (List ℕ)) × (names : List ℕ) × (t ≡ 32 ∷ names ++ crlf) × IsNames ns names × (flags ≡ kept ns)
+
+-- SP "(" item *(SP item) ")" CRLF
+abbrev pub IsItemsLine : FetchItems → List ℕ → Type 0
+IsItemsLine items t = (is : List Item) × (rest : List ℕ) × (t ≡ 32 ∷ 40 ∷ rest) × IsItems is rest × (items ≡ items_of is)
 
 -- what a line says, behind the number n or none, by its first word in lower case and what follows the word
 abbrev pub Says : Option ℕ → Response → List ℕ → List ℕ → List ℕ → Type 0
 Says None (Untagged status) word tail line = (word ≡ word_of status) × IsRest tail
-Says (Some n) (Fetch seq items) word tail line =
-    (seq ≡ n) × (word ≡ codes "fetch") × ((is : List Item) × (rest : List ℕ) × (tail ≡ 32 ∷ 40 ∷ rest) × IsItems is rest × (items ≡ items_of is))
-Says _ Other word tail line = (Contains keywords word → ⊥) × ((literals : ℕ) × IsFree literals line)
+Says None (Capability words) word tail line = (word ≡ codes "capability") × IsWords words tail
+Says None (Enabled words) word tail line = (word ≡ codes "enabled") × IsWords words tail
+Says None (Flags flags) word tail line = (word ≡ codes "flags") × IsFlagsLine flags tail
+Says None (Vanished earlier uids) word tail line = (word ≡ codes "vanished") × ((rest : List ℕ) × (tail ≡ 32 ∷ rest) × IsVanished earlier uids.ranges rest)
+Says (Some n) (Exists count) word tail line = (count ≡ n) × (word ≡ codes "exists") × IsCrlf tail
+Says (Some n) (Expunge seq) word tail line = (seq ≡ n) × (word ≡ codes "expunge") × IsCrlf tail
+Says (Some n) (Fetch seq items) word tail line = (seq ≡ n) × (word ≡ codes "fetch") × IsItemsLine items tail
+Says number Other word tail line = (Contains (keywords number) word → ⊥) × ((literals : ℕ) × IsFree literals line)
 Says _ _ word tail line = ⊥
 
 -- a line by its first word, the longest run of octets of words
@@ -49,6 +70,7 @@ IsUntagged v t =
 -- the text spells the response
 abbrev pub Spells : Response → List ℕ → Type 0
 Spells (Tagged tag status) t = IsTagged tag status t
+Spells Continue t = (line : List ℕ) × (t ≡ 43 ∷ line) × IsLine line
 Spells v t = (line : List ℕ) × (t ≡ 42 ∷ 32 ∷ line) × IsUntagged v line
 
 -- the octets are a spelling of the response

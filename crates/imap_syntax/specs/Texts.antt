@@ -18,6 +18,9 @@ pub record Then (A B : List ℕ → Type 0) (t : List ℕ) : Type 0 where
 abbrev pub crlf : List ℕ
 crlf = 13 ∷ 10 ∷ []
 
+abbrev pub IsCrlf : List ℕ → Type 0
+IsCrlf t = t ≡ crlf
+
 -- the word, whatever the case of its letters
 abbrev pub IsWord : List ℕ → List ℕ → Type 0
 IsWord word t = map lower t ≡ word

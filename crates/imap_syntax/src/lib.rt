@@ -4,6 +4,8 @@
 
 mod command;
 mod response;
+mod uid_set;
 
 pub use command::Command;
 pub use response::{FetchItems, Response, Status};
+pub use uid_set::{UidRange, UidSet};

@@ -1,4 +1,5 @@
 // What a store's responses say (RFC 9051 section 7).
+use crate::uid_set::UidSet;
 use gate_world::{Bytes, Names};
 
 /// The status of a tagged or an untagged status response.
@@ -24,6 +25,17 @@ pub struct FetchItems {
 pub enum Response {
     Tagged { tag: Bytes, status: Status },
     Untagged { status: Status },
+    /// A continuation.
+    Continue,
+    /// The words as they were told.
+    Capability(Names),
+    /// The words as they were told.
+    Enabled(Names),
+    /// In kept form, as in a FETCH.
+    Flags(Names),
+    Exists(u32),
+    Expunge(u32),
     Fetch { seq: u32, items: FetchItems },
+    Vanished { earlier: bool, uids: UidSet },
     Other,
 }

@@ -1,0 +1,113 @@
+// Words and sets of UIDs.
+ghost use Rattle.std.specs.Prelude.{◌≡◌, ◌++◌, ◌∷◌, [], length, IfOk};
+ghost use Rattle.imap_syntax.specs.UidSets.{range_of};
+ghost use Rattle.imap_syntax.specs.declared.response.Response.{Response};
+ghost use Rattle.imap_grammar.specs.Reading as reading;
+
+use crate::octets::{before, behind, digits_len, number_of, octet_at, word_len};
+use gate_world::{Bytes, Listed, Names};
+use imap_syntax::{Response, UidRange, UidSet};
+use std::alloc::{AllocError, Global};
+
+/// The words, each behind a space.
+#[tactic(auto, using(crate::proofs::SetReadings::words))]
+pub fn words_in(alloc: Global, bytes: &[u8]) -> Result<Names, AllocError>
+    ensures { IfOk result (λ names. names ≡ reading.words_in (length bytes.now) bytes.now) }
+{
+    let mut names = Names::new(alloc);
+    let mut rest = bytes;
+    let mut left = bytes.len();
+    while 0 < left {
+        if octet_at(rest, 0) != b' ' {
+            return Ok(names);
+        }
+        let word = behind(rest, 1);
+        let n = word_len(word);
+        names.push(Bytes::copy_of(alloc, before(word, n))?)?;
+        rest = behind(word, n);
+        left -= 1;
+    }
+    Ok(names)
+}
+
+fn range_of(first: u32, second: u32) -> UidRange
+    ensures { result ≡ range_of first second }
+{
+    if first <= second {
+        UidRange {
+            first,
+            last: second,
+        }
+    } else {
+        UidRange {
+            first: second,
+            last: first,
+        }
+    }
+}
+
+/// A range, and what follows it.
+#[tactic(auto, unfolding(crate::specs::Reading::range_in))]
+fn range_in(bytes: &[u8]) -> (UidRange, &[u8])
+    ensures range { result.0 ≡ (reading.range_in bytes.now).0 }
+    ensures rest { result.1.now ≡ (reading.range_in bytes.now).1 }
+{
+    let n = digits_len(bytes);
+    let first = number_of(before(bytes, n));
+    let after = behind(bytes, n);
+    if octet_at(after, 0) == b':' {
+        let second = behind(after, 1);
+        let n = digits_len(second);
+        (
+            range_of(first, number_of(before(second, n))),
+            behind(second, n),
+        )
+    } else {
+        (range_of(first, first), after)
+    }
+}
+
+/// The ranges, each but the first behind a comma.
+#[tactic(auto, using(crate::proofs::SetReadings::ranges))]
+fn ranges_in(alloc: Global, bytes: &[u8], most: usize) -> Result<Vec<UidRange>, AllocError>
+    ensures { IfOk result (λ ranges. ranges.items ≡ reading.ranges_in most bytes.now) }
+{
+    let mut ranges = Vec::new(alloc);
+    let mut rest = bytes;
+    let mut left = most;
+    while 0 < left {
+        let (range, after) = range_in(rest);
+        ranges.push(range)?;
+        if octet_at(after, 0) != b',' {
+            return Ok(ranges);
+        }
+        rest = behind(after, 1);
+        left -= 1;
+    }
+    Ok(ranges)
+}
+
+fn vanished(earlier: bool, ranges: Vec<UidRange>) -> Response
+    ensures { result ≡ Response.Vanished earlier (record { ranges = ranges.items }) }
+{
+    Response::Vanished {
+        earlier,
+        uids: UidSet {
+            ranges: Listed::from_vec(ranges),
+        },
+    }
+}
+
+/// What stands behind the space after VANISHED.
+#[tactic(auto, unfolding(crate::specs::Reading::vanished_in))]
+pub fn vanished_in(alloc: Global, bytes: &[u8]) -> Result<Response, AllocError>
+    ensures { IfOk result (λ v. v ≡ reading.vanished_in bytes.now) }
+{
+    if octet_at(bytes, 0) == b'(' {
+        let ranges = ranges_in(alloc, behind(bytes, 10), bytes.len())?;
+        Ok(vanished(true, ranges))
+    } else {
+        let ranges = ranges_in(alloc, bytes, bytes.len())?;
+        Ok(vanished(false, ranges))
+    }
+}
