@@ -3,7 +3,7 @@ use Rattle.std.proofs.Common.{◌≡◌, ℕ, Bool, true, ◌&&◌, if◌then◌
 use Rattle.std.specs.List.{list_all}
 use Rattle.std.proofs.lemmas.List.{append-nil}
 use Rattle.imap_syntax.specs.declared.command.Command.{Command}
-use Rattle.imap_syntax.specs.declared.command.Command.TheVariants.{Capability, Login, Enable, List as ListFolders, Select, Unselect, FetchFlags, FetchSlice, FetchNew, FetchBody, Store, Move, Expunge, Create, Delete, Rename, Subscribe}
+use Rattle.imap_syntax.specs.declared.command.Command.TheVariants.{Capability, Login, Enable, List as ListFolders, Select, Unselect, FetchFlags, FetchSlice, FetchNew, FetchBody, Store, Move, Expunge, Append, Create, Delete, Rename, Subscribe}
 use Rattle.imap_syntax.specs.Commands.{Part, Plain, Literal, is_printable, credential, quoted, tag_of, put_before, pieces_of, parts_of, words_of, command_pieces, joined_pieces, command_text, IsQuotable}
 use Rattle.imap_syntax.specs.Texts.{Each, crlf}
 
@@ -33,6 +33,7 @@ quotable_pieces (FetchBody uid) tag _ = only _ _ refl
 quotable_pieces (Store uid add flags) tag _ = only _ _ refl
 quotable_pieces (Move uid name) tag _ = only _ _ refl
 quotable_pieces (Expunge uid) tag _ = only _ _ refl
+quotable_pieces (Append name flags date message) tag never = absurd never
 quotable_pieces (Create name) tag _ = only _ _ refl
 quotable_pieces (Delete name) tag _ = only _ _ refl
 quotable_pieces (Rename from to) tag _ = only _ _ refl

@@ -8,3 +8,4 @@ pub mod SetReadings
 pub mod Readings
 pub mod Spellings
 pub mod Pieces
+pub mod DateLemmas

@@ -1,9 +1,10 @@
 -- Parts of a command make its pieces.
 use Rattle.std.proofs.Common.{◌≡◌, ℕ, List, [], ◌∷◌, ◌++◌, codes, refl, sym, ap, ◌∙◌}
+use Rattle.std.specs.Prelude.{ℤ}
 use Rattle.std.proofs.lemmas.List.{append_assoc}
 use Rattle.imap_syntax.specs.declared.command.Command.{Command}
-use Rattle.imap_syntax.specs.declared.command.Command.TheVariants.{Capability, Login, Enable, List as ListFolders, Select, Unselect, FetchFlags, FetchSlice, FetchNew, FetchBody, Store, Move, Expunge, Create, Delete, Rename, Subscribe}
-use Rattle.imap_syntax.specs.Commands.{Part, Plain, tag_of, credential, put_before, pieces_of, parts_of, words_of, command_pieces}
+use Rattle.imap_syntax.specs.declared.command.Command.TheVariants.{Capability, Login, Enable, List as ListFolders, Select, Unselect, FetchFlags, FetchSlice, FetchNew, FetchBody, Store, Move, Expunge, Append, Create, Delete, Rename, Subscribe}
+use Rattle.imap_syntax.specs.Commands.{Part, Plain, Literal, tag_of, credential, put_before, pieces_of, parts_of, words_of, command_pieces}
 use Rattle.imap_syntax.specs.Texts.{crlf}
 use Rattle.imap_grammar.specs.Written.{AddsPart}
 
@@ -11,31 +12,42 @@ put_twice : (s t : List ℕ) (pieces : List (List ℕ)) → put_before s (put_be
 put_twice s t [] = refl
 put_twice s t (p ∷ ps) = ap (λ q. q ∷ ps) (sym (append_assoc s t p))
 
--- a command but LOGIN has no literal
-has_words : (c : Command) → ((user password : List ℕ) → c ≡ Login user password → ⊥) → parts_of c ≡ Plain (words_of c) ∷ []
-has_words Capability other = refl
-has_words (Login user password) other = absurd (other user password refl)
-has_words Enable other = refl
-has_words ListFolders other = refl
-has_words (Select name known) other = refl
-has_words Unselect other = refl
-has_words FetchFlags other = refl
-has_words (FetchSlice from to modseq) other = refl
-has_words (FetchNew from modseq) other = refl
-has_words (FetchBody uid) other = refl
-has_words (Store uid add flags) other = refl
-has_words (Move uid name) other = refl
-has_words (Expunge uid) other = refl
-has_words (Create name) other = refl
-has_words (Delete name) other = refl
-has_words (Rename from to) other = refl
-has_words (Subscribe name on) other = refl
+-- a command but LOGIN and APPEND has no literal
+has_words : (c : Command) → ((user password : List ℕ) → c ≡ Login user password → ⊥) → ((name : List ℕ) (flags : List (List ℕ)) (date : ℤ) (message : List ℕ) → c ≡ Append name flags date message → ⊥) → parts_of c ≡ Plain (words_of c) ∷ []
+has_words Capability other another = refl
+has_words (Login user password) other another = absurd (other user password refl)
+has_words Enable other another = refl
+has_words ListFolders other another = refl
+has_words (Select name known) other another = refl
+has_words Unselect other another = refl
+has_words FetchFlags other another = refl
+has_words (FetchSlice from to modseq) other another = refl
+has_words (FetchNew from modseq) other another = refl
+has_words (FetchBody uid) other another = refl
+has_words (Store uid add flags) other another = refl
+has_words (Move uid name) other another = refl
+has_words (Expunge uid) other another = refl
+has_words (Append name flags date message) other another = absurd (another name flags date message refl)
+has_words (Create name) other another = refl
+has_words (Delete name) other another = refl
+has_words (Rename from to) other another = refl
+has_words (Subscribe name on) other another = refl
 
 -- its text is its only piece
-pub one_piece : (c : Command) (tag : ℕ) → ((user password : List ℕ) → c ≡ Login user password → ⊥) → (tag_of tag ++ 32 ∷ words_of c ++ crlf) ∷ [] ≡ command_pieces c tag
-one_piece c tag other =
+pub one_piece : (c : Command) (tag : ℕ) → ((user password : List ℕ) → c ≡ Login user password → ⊥) → ((name : List ℕ) (flags : List (List ℕ)) (date : ℤ) (message : List ℕ) → c ≡ Append name flags date message → ⊥) → (tag_of tag ++ 32 ∷ words_of c ++ crlf) ∷ [] ≡ command_pieces c tag
+one_piece c tag other another =
     ap (λ text. text ∷ []) (append_assoc (tag_of tag) (32 ∷ words_of c) crlf ∙ sym (append_assoc (tag_of tag) (32 ∷ []) (words_of c ++ crlf)))
-    ∙ ap (λ parts. put_before (tag_of tag ++ 32 ∷ []) (pieces_of parts)) (sym (has_words c other))
+    ∙ ap (λ parts. put_before (tag_of tag ++ 32 ∷ []) (pieces_of parts)) (sym (has_words c other another))
+
+-- the pieces of an APPEND
+pub append_pieces : (tag : ℕ) (words message : List ℕ) (after : List (List ℕ)) (begun with_message : List ℕ)
+    → begun ≡ tag_of tag ++ 32 ∷ words → AddsPart (Literal message) [] begun after with_message
+    → after ++ (with_message ++ crlf) ∷ [] ≡ put_before (tag_of tag ++ 32 ∷ []) (pieces_of (Plain words ∷ Literal message ∷ []))
+append_pieces tag words message after begun with_message first adds =
+    let last = pieces_of (Literal message ∷ []) in
+    adds []
+    ∙ ap (λ t. put_before t last) (first ∙ sym (append_assoc (tag_of tag) (32 ∷ []) words))
+    ∙ sym (put_twice (tag_of tag ++ 32 ∷ []) words last)
 
 -- the pieces of a LOGIN
 pub login_pieces : (tag : ℕ) (user password : List ℕ) (after_user after_both : List (List ℕ)) (begun with_user with_both : List ℕ)

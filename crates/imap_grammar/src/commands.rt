@@ -2,11 +2,12 @@
 ghost use Rattle.std.specs.Prelude.{◌≡◌, ◌++◌, ◌∷◌, [], ℕ, List, Some, IfOk, OnOk, codes};
 ghost use Rattle.std.specs.List.{list_all};
 ghost use Rattle.imap_syntax.specs.Commands as texts;
-ghost use Rattle.imap_syntax.specs.Commands.{Literal};
+ghost use Rattle.imap_syntax.specs.Commands.{Plain, Literal};
 ghost use Rattle.imap_syntax.specs.Texts.{crlf};
 ghost use Rattle.imap_syntax.specs.declared.command.Command.TheVariants.{Login};
 ghost use Rattle.imap_grammar.specs.Written.{AddsPart};
 
+use crate::dates::push_date;
 use gate_world::{Bytes, Listed, Names};
 use imap_syntax::Command;
 use std::alloc::{AllocError, Global};
@@ -187,6 +188,7 @@ fn words(alloc: Global, command: &Command) -> Result<Vec<u8>, AllocError>
         Command::Store { uid, add, flags } => store(alloc, *uid, *add, flags),
         Command::Move { uid, name } => move_to(alloc, *uid, name.as_slice()),
         Command::Expunge { uid } => expunge(alloc, *uid),
+        Command::Append { .. } => Ok(Vec::new(alloc)),
         Command::Create { name } => named(alloc, b"CREATE ", name.as_slice()),
         Command::Delete { name } => named(alloc, b"DELETE ", name.as_slice()),
         Command::Rename { from, to } => rename(alloc, from.as_slice(), to.as_slice()),
@@ -270,6 +272,40 @@ fn login(alloc: Global, user: &[u8], password: &[u8], tag: u64) -> Result<Vec<By
     Ok(done)
 }
 
+/// What stands before the message of an APPEND.
+fn append_words(alloc: Global, name: &[u8], flags: &Names, date: i64) -> Result<Vec<u8>, AllocError>
+    ensures { IfOk result (λ out. out.items ≡ texts.append_words name.now flags.now date) }
+{
+    let mut out = named(alloc, b"APPEND ", name)?;
+    out.extend_from_slice(b" (")?;
+    push_flags(&mut out, flags.as_slice())?;
+    out.extend_from_slice(b") ")?;
+    push_date(&mut out, date)?;
+    out.push(b' ')?;
+    Ok(out)
+}
+
+/// The tag of this number, and the words.
+fn tagged_words(alloc: Global, words: &[u8], tag: u64) -> Result<Vec<u8>, AllocError>
+    ensures { IfOk result (λ out. out.items ≡ texts.tag_of tag ++ 32 ∷ words.now) }
+{
+    let mut out = format!(in alloc; "a{tag} ")?.into_bytes();
+    out.extend_from_slice(words)?;
+    Ok(out)
+}
+
+/// The pieces of an APPEND (RFC 9051 section 6.3.12).
+fn append(alloc: Global, words: &[u8], message: &[u8], tag: u64) -> Result<Vec<Bytes>, AllocError>
+    ensures { IfOk result (λ pieces. pieces.items ≡ texts.put_before (texts.tag_of tag ++ 32 ∷ []) (texts.pieces_of (Plain words.now ∷ Literal message.now ∷ []))) }
+{
+    let mut done = Vec::new(alloc);
+    let piece = tagged_words(alloc, words, tag)?;
+    let mut piece = push_literal(alloc, &mut done, piece, message)?;
+    piece.extend_from_slice(b"\r\n")?;
+    done.push(Bytes::from_vec(piece))?;
+    Ok(done)
+}
+
 /// The pieces of the command's text under the tag of this number, each but the first to be sent after a continuation
 /// (RFC 9051 section 6).
 pub fn write_command(
@@ -281,6 +317,17 @@ pub fn write_command(
 {
     if let Command::Login { user, password } = command {
         let pieces = login(alloc, user.as_slice(), password.as_slice(), tag)?;
+        return Ok(Listed::from_vec(pieces));
+    }
+    if let Command::Append {
+        name,
+        flags,
+        date,
+        message,
+    } = command
+    {
+        let words = append_words(alloc, name.as_slice(), flags, *date)?;
+        let pieces = append(alloc, &words, message.as_slice(), tag)?;
         return Ok(Listed::from_vec(pieces));
     }
     let mut pieces = Vec::new(alloc);

@@ -414,6 +414,46 @@ fn commands_are_written(rt: HostRuntime) -> Result<(), Fail> {
     Ok(())
 }
 
+/// Seconds since 1970, and the date that is sent.
+const DATES: [(i64, &[u8]); 9] = [
+    (1_704_186_000, b"02-Jan-2024 09:00:00"),
+    (0, b"01-Jan-1970 00:00:00"),
+    (-1, b"31-Dec-1969 23:59:59"),
+    (951_868_799, b"29-Feb-2000 23:59:59"),
+    (1_709_164_800, b"29-Feb-2024 00:00:00"),
+    (-2_203_891_200, b"01-Mar-1900 00:00:00"),
+    (-62_167_219_200, b"01-Jan-0000 00:00:00"),
+    (i64::MIN, b"01-Jan-0000 00:00:00"),
+    (i64::MAX, b"31-Dec-9999 23:59:59"),
+];
+
+/// The first piece of an APPEND of two octets.
+fn append_line(alloc: Global, date: &[u8]) -> Result<Vec<u8>, AllocError> {
+    let mut line = b"a10 APPEND \"Drafts\" (\\Draft) \"".to_vec(alloc)?;
+    line.extend_from_slice(date)?;
+    line.extend_from_slice(b" +0000\" {2}\r\n")?;
+    Ok(line)
+}
+
+fn is_append(alloc: Global, date: i64, text: &[u8]) -> Result<bool, AllocError> {
+    let append = Command::Append {
+        name: bytes(alloc, b"Drafts")?,
+        flags: flags_of(alloc, &[b"\\draft"])?,
+        date,
+        message: bytes(alloc, b"\r\n")?,
+    };
+    let line = append_line(alloc, text)?;
+    is_written(alloc, &append, 10, &[line.as_slice(), b"\r\n\r\n"])
+}
+
+#[test]
+fn messages_are_appended_with_their_dates(rt: HostRuntime) -> Result<(), Fail> {
+    for (date, text) in DATES.iter() {
+        assert!(rt; is_append(rt.alloc(), *date, text)?, "{date}");
+    }
+    Ok(())
+}
+
 #[test]
 fn credentials_are_quoted_or_literals(rt: HostRuntime) -> Result<(), Fail> {
     let alloc = rt.alloc();

@@ -3,6 +3,7 @@
 
 mod answer;
 mod commands;
+mod dates;
 #[cfg(test)]
 mod decode_tests;
 mod decoder;

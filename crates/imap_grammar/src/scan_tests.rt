@@ -32,7 +32,7 @@ const WHOLE: [(&[u8], usize); 44] = [
     (b"* FLAGS (\\Answered)\r\n", 21),
     (b"* CAPABILITY IMAP4rev2\r\n", 24),
     (b"* capability\r\n", 14),
-    (b"* Enabled QRESYNC X-{1}(\"\r\n", 28),
+    (b"* Enabled QRESYNC X-{1}(\"\r\n", 27),
     (b"* FLAGS ()\r\n", 12),
     (b"* 23 eXiStS\r\n", 13),
     (b"* 0 EXPUNGE\r\n", 13),

@@ -1,10 +1,11 @@
 -- The texts of commands (RFC 9051 section 6, RFC 7162 section 3.2).
-use Rattle.std.specs.Prelude.{ℕ, Bool, ◌&&◌, ◌||◌, nat_le, ◌==◌, if◌then◌else◌, List, [], ◌∷◌, ◌++◌, length, codes, Option, Some, None, bytes_eq}
+use Rattle.std.specs.Prelude.{ℕ, ℤ, Bool, ◌&&◌, ◌||◌, nat_le, ◌==◌, if◌then◌else◌, List, [], ◌∷◌, ◌++◌, length, codes, Option, Some, None, bytes_eq}
 use Rattle.std.specs.List.{list_all}
 use Rattle.std.specs.Fmt.{decimal}
 use Rattle.imap_syntax.specs.declared.command.Command.{Command}
-use Rattle.imap_syntax.specs.declared.command.Command.TheVariants.{Capability, Login, Enable, List as ListFolders, Select, Unselect, FetchFlags, FetchSlice, FetchNew, FetchBody, Store, Move, Expunge, Create, Delete, Rename, Subscribe}
+use Rattle.imap_syntax.specs.declared.command.Command.TheVariants.{Capability, Login, Enable, List as ListFolders, Select, Unselect, FetchFlags, FetchSlice, FetchNew, FetchBody, Store, Move, Expunge, Append, Create, Delete, Rename, Subscribe}
 use Rattle.imap_syntax.specs.Texts.{Each, crlf}
+use Rattle.imap_syntax.specs.Dates.{date_text}
 
 abbrev pub tag_of : ℕ → List ℕ
 tag_of n = 97 ∷ decimal n
@@ -89,6 +90,9 @@ move_words uid name = codes "UID MOVE " ++ decimal uid ++ 32 ∷ quoted name
 abbrev pub expunge_words : ℕ → List ℕ
 expunge_words uid = codes "UID EXPUNGE " ++ decimal uid
 
+abbrev pub append_words : List ℕ → List (List ℕ) → ℤ → List ℕ
+append_words name flags date = codes "APPEND " ++ quoted name ++ 32 ∷ flags_text flags ++ 32 ∷ date_text date ++ 32 ∷ []
+
 abbrev pub rename_words : List ℕ → List ℕ → List ℕ
 rename_words from to = codes "RENAME " ++ quoted from ++ 32 ∷ quoted to
 
@@ -110,6 +114,7 @@ words_of (FetchBody uid) = fetch_body_words uid
 words_of (Store uid add flags) = store_words uid add flags
 words_of (Move uid name) = move_words uid name
 words_of (Expunge uid) = expunge_words uid
+words_of (Append name flags date message) = []
 words_of (Create name) = codes "CREATE " ++ quoted name
 words_of (Delete name) = codes "DELETE " ++ quoted name
 words_of (Rename from to) = rename_words from to
@@ -117,6 +122,7 @@ words_of (Subscribe name on) = subscribe_words name on
 
 abbrev pub parts_of : Command → List Part
 parts_of (Login user password) = Plain (codes "LOGIN ") ∷ credential user ∷ Plain (32 ∷ []) ∷ credential password ∷ []
+parts_of (Append name flags date message) = Plain (append_words name flags date) ∷ Literal message ∷ []
 parts_of command = Plain (words_of command) ∷ []
 
 -- ---- pieces
@@ -150,4 +156,5 @@ command_text command tag = joined_pieces (command_pieces command tag)
 -- a command that needs no literal
 abbrev pub IsQuotable : Command → Type 0
 IsQuotable (Login user password) = Each is_printable user × Each is_printable password
+IsQuotable (Append name flags date message) = ⊥
 IsQuotable _ = Unit {0}

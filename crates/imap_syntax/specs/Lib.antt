@@ -6,4 +6,5 @@ pub mod Lines
 pub mod Items
 pub mod Free
 pub mod Spells
+pub mod Dates
 pub mod Commands

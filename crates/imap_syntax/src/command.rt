@@ -48,6 +48,13 @@ pub enum Command {
     Expunge {
         uid: u32,
     },
+    Append {
+        name: Bytes,
+        flags: Names,
+        /// Seconds since 1970-01-01T00:00:00Z. Outside the years 0 to 9999 the nearest second of them is sent.
+        date: i64,
+        message: Bytes,
+    },
     Create {
         name: Bytes,
     },
