@@ -4,16 +4,20 @@ ghost use Rattle.mail_header.specs.Tokens.{Spelled, AreTokens};
 ghost use Rattle.mail_header.specs.TokenView.{tokens_view};
 ghost use Rattle.std.specs.List.{filter};
 
-use crate::token::{Kind, Token};
+use crate::token::{Alphabet, Kind, Token};
 use crate::tokens::tokens;
 use std::alloc::{AllocError, Global};
 
 /// The tokens of a value without white space and comments, where the value is a row of tokens.
-pub fn lexemes(alloc: Global, text: &[u8]) -> Result<Option<Vec<Token<'_>>>, AllocError>
-    ensures some { IfOk result (λ r. IfSome r (λ v. lexemes.AreLexemes (tokens_view v.items) text.now)) }
-    ensures none { IfOk result (λ r. IfNone r ((ts : List Spelled) → AreTokens ts text.now → ⊥)) }
+pub fn lexemes(
+    alloc: Global,
+    alphabet: Alphabet,
+    text: &[u8],
+) -> Result<Option<Vec<Token<'_>>>, AllocError>
+    ensures some { IfOk result (λ r. IfSome r (λ v. lexemes.AreLexemes alphabet (tokens_view v.items) text.now)) }
+    ensures none { IfOk result (λ r. IfNone r ((ts : List Spelled) → AreTokens alphabet ts text.now → ⊥)) }
 {
-    match tokens(alloc, text)? {
+    match tokens(alloc, alphabet, text)? {
         None => Ok(None),
         Some(found) => Ok(Some(without_gaps(alloc, found.as_slice())?)),
     }

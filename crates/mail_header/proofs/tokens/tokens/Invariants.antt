@@ -5,7 +5,7 @@ use Rattle.mail_header.specs.TokenView.{tokens_view}
 use Rattle.mail_header.proofs.tokens.tokens.Given as goal
 
 abbrev pub invariant-loop-rest : goal.invariant-loop-rest
-invariant-loop-rest l = Behind IsToken (tokens_view l.found.items) l.rest l.text
+invariant-loop-rest l = Behind (IsToken l.fn.alphabet) (tokens_view l.found.items) l.rest l.text
 
 abbrev pub decreases-loop-rest : goal.decreases-loop-rest
 decreases-loop-rest l = length l.rest
