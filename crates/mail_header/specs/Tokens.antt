@@ -3,7 +3,7 @@
 use Rattle.std.specs.Prelude.{◌≡◌, ◌≢◌, ℕ, Bool, true, not, ◌&&◌, ◌||◌, ◌==◌, nat_lt, List, [], ◌∷◌, ◌++◌}
 use Rattle.text_words.specs.Cuts.{IsRun, Stops}
 use Rattle.text_words.specs.Octets.{is_white}
-use Rattle.text_words.specs.Sequence.{Sequence}
+use Rattle.text_words.specs.Sequence.{Starts, Sequence}
 use Rattle.mail_header.specs.declared.token.Alphabet.{Alphabet}
 use Rattle.mail_header.specs.declared.token.Alphabet.TheVariants as alphabet
 use Rattle.mail_header.specs.declared.token.Kind.{Kind}
@@ -69,3 +69,12 @@ pub record IsToken (a : Alphabet) (v : Spelled) (front rest : List ℕ) : Type 0
 -- the tokens of a text
 abbrev pub AreTokens : Alphabet → List Spelled → List ℕ → Type 0
 AreTokens a tokens t = Sequence (IsToken a) tokens t
+
+-- no token begins the text
+abbrev pub BeginsNone : Alphabet → List ℕ → Type 0
+BeginsNone a t = (v : Spelled) (front rest : List ℕ) → t ≡ front ++ rest → IsToken a v front rest → ⊥
+
+-- the tokens at the front of a text, up to the rest, which no token begins
+abbrev pub AreLeading : Alphabet → List Spelled → List ℕ → List ℕ → Type 0
+AreLeading a [] rest t = (t ≡ rest) × BeginsNone a t
+AreLeading a (v ∷ vs) rest t = Starts (IsToken a) v (AreLeading a vs rest) t

@@ -157,6 +157,24 @@ fn token_at(alphabet: Alphabet, text: &[u8]) -> Option<(Kind, usize)>
     }
 }
 
+/// The tokens at the front of a text, up to what no token begins.
+pub fn leading_tokens<'a>(
+    alloc: Global,
+    alphabet: Alphabet,
+    text: &'a [u8],
+) -> Result<(Vec<Token<'a>>, &'a [u8]), AllocError>
+    ensures { IfOk result (λ r. tokens.AreLeading alphabet (tokens_view r.0.items) r.1.now text.now) }
+{
+    let mut found = Vec::new(alloc);
+    let mut rest = text;
+    while let Some((kind, len)) = token_at(alphabet, rest) {
+        let (token, behind) = rest.split_at(len);
+        found.push(Token { kind, text: token })?;
+        rest = behind;
+    }
+    Ok((found, rest))
+}
+
 /// The tokens of a header's value (RFC 5322 section 3.2), where it is a row of tokens.
 pub fn tokens(
     alloc: Global,
@@ -166,15 +184,10 @@ pub fn tokens(
     ensures some { IfOk result (λ r. IfSome r (λ v. tokens.AreTokens alphabet (tokens_view v.items) text.now)) }
     ensures none { IfOk result (λ r. IfNone r ((ts : List tokens.Spelled) → tokens.AreTokens alphabet ts text.now → ⊥)) }
 {
-    let mut found = Vec::new(alloc);
-    let mut rest = text;
-    while !rest.is_empty() {
-        let Some((kind, len)) = token_at(alphabet, rest) else {
-            return Ok(None);
-        };
-        let (token, behind) = rest.split_at(len);
-        found.push(Token { kind, text: token })?;
-        rest = behind;
+    let (found, rest) = leading_tokens(alloc, alphabet, text)?;
+    if rest.is_empty() {
+        Ok(Some(found))
+    } else {
+        Ok(None)
     }
-    Ok(Some(found))
 }
