@@ -1,0 +1,6 @@
+//! The tree of parts that the octets of a message are (RFC 2045, RFC 2046).
+#![tactic(auto)]
+
+pub mod part;
+
+pub use part::Part;
