@@ -2,5 +2,6 @@
 #![tactic(auto)]
 
 pub mod part;
+pub mod split;
 
 pub use part::Part;

@@ -1,0 +1,4 @@
+pub mod LineLemmas
+pub mod SplitLemmas
+pub mod OneSplit
+pub mod BehindLemmas
