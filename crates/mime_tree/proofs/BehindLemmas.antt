@@ -7,6 +7,7 @@ use Rattle.mime_tree.specs.declared.split.Piece.{Piece}
 use Rattle.mime_tree.specs.Delimiters.{size, onto, lines, mark_of}
 use Rattle.mime_tree.specs.Splits.{before, end_of, AreParts, Follows, HasParts, IsSplit, AreBehind}
 use Rattle.mime_tree.proofs.LineLemmas.{without_end_within}
+use Rattle.mime_tree.proofs.HeadLemmas.{range_len}
 use Rattle.std.proofs.lemmas.List.{length-take}
 
 size-append : (a b : List (List ℕ)) → size (a ++ b) ≡ size a + size b
@@ -26,8 +27,6 @@ size-lines (c ∷ t) = by (eqb c 10) (size-lines t)
     by true h = omega arith
     by false h = omega (arith, size-onto c (lines t))
 
-range_len : (b : List ℕ) (s e : ℕ) → length (slice_range b s e) ≤ e - s
-range_len b s e = omega (arith, length-take (e - s) (drop s b))
 
 before_within : (b : List ℕ) (start e : ℕ) → start ≤ e → (start ≤ before b start e) × (before b start e ≤ e)
 unfolding before

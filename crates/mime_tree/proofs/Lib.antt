@@ -1,4 +1,5 @@
 pub mod LineLemmas
+pub mod HeadLemmas
 pub mod SplitLemmas
 pub mod OneSplit
 pub mod BehindLemmas
