@@ -3,3 +3,4 @@ pub mod HeadLemmas
 pub mod SplitLemmas
 pub mod OneSplit
 pub mod BehindLemmas
+pub mod TreeLemmas
