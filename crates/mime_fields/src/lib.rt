@@ -1,0 +1,13 @@
+//! What the header of a body part says: its media type, its name, its ids and its encoding (RFC 2045, RFC 2183).
+#![tactic(auto)]
+
+mod content_type;
+mod disposition;
+pub mod header;
+pub mod laws;
+mod lexemes;
+mod parameters;
+#[cfg(test)]
+mod tests;
+
+pub use header::{PartHeader, part_header};
