@@ -4,6 +4,8 @@ use Rattle.std.specs.List.{list_any}
 use Rattle.std.proofs.lemmas.List.{append-nil}
 use Rattle.text_words.specs.Sequence.{Sequence}
 use Rattle.text_words.proofs.SequenceLemmas.{one_reading, determined}
+use Rattle.mail_header.specs.declared.token.Alphabet.{Alphabet}
+use Rattle.mail_header.specs.declared.token.Alphabet.TheVariants as alphabet
 use Rattle.mail_header.specs.Tokens.{Spelled, AreTokens}
 use Rattle.mail_header.specs.TokenReading.{spelled_in}
 use Rattle.mail_header.specs.Mailboxes.{Mailbox}
@@ -145,15 +147,15 @@ read_is _ _ (Passed who es h) = read_is who es h
 read_is _ _ (NextOne m who es h) = ap (λ (u : List Addressee). One m ∷ u) (read_is who es h)
 read_is _ _ (NextGroup phrase ms inner who es i h) = ap (λ (u : List Addressee). Group phrase ms ∷ u) (read_is who es h) ∙ inner_read phrase ms inner es i []
 
-pub one_tokens : (x y : List Spelled) (t : List ℕ) → AreTokens x t → AreTokens y t → x ≡ y
-one_tokens x y t g h = one_reading (determined spelled_in token_reader) x y t g h
+pub one_tokens : (a : Alphabet) (x y : List Spelled) (t : List ℕ) → AreTokens a x t → AreTokens a y t → x ≡ y
+one_tokens a x y t g h = one_reading (determined (spelled_in a) (token_reader a)) x y t g h
 
 pub one_elements : (x y : List Element) (ts : List Spelled) → Sequence IsElement x ts → Sequence IsElement y ts → x ≡ y
 one_elements x y ts g h = one_reading (determined element_in element_reader) x y ts g h
 
 -- the elements of a list of addresses, with the tokens of the text
-pub elements_here : (who : List Addressee) (t : List ℕ) (ts : List Spelled) (l : IsAddressList who t) → AreTokens ts t → Sequence IsElement l.elements ts
-elements_here who t ts l a = subst (λ (u : List Spelled). Sequence IsElement l.elements u) (one_tokens l.tokens ts t l.are_tokens a) l.are_elements
+pub elements_here : (who : List Addressee) (t : List ℕ) (ts : List Spelled) (l : IsAddressList who t) → AreTokens alphabet.Mail ts t → Sequence IsElement l.elements ts
+elements_here who t ts l a = subst (λ (u : List Spelled). Sequence IsElement l.elements u) (one_tokens alphabet.Mail l.tokens ts t l.are_tokens a) l.are_elements
 
 pub one_list : (who other : List Addressee) (t : List ℕ) → IsAddressList who t → IsAddressList other t → who ≡ other
 one_list who other t g h =

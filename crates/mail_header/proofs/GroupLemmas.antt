@@ -6,6 +6,7 @@ use Rattle.mail_header.specs.declared.address.Address.{Address}
 use Rattle.mail_header.specs.declared.address.Group.{Group}
 use Rattle.mail_header.specs.declared.address_lists.Builder.{Builder}
 use Rattle.mail_header.specs.RawForms.{raw_form}
+use Rattle.mail_header.specs.declared.token.Alphabet.TheVariants as alphabet
 use Rattle.mail_header.specs.Tokens.{Spelled, AreTokens}
 use Rattle.mail_header.specs.Mailboxes.{Mailbox}
 use Rattle.mail_header.specs.AddressLists.{Element, IsElement, Grouped, IsAddressList}
@@ -47,24 +48,24 @@ pub none_checked : {X : Type 0} (r : Option X) (Q : X → Type 0) (es : List Ele
 none_checked (Some x) Q es ts s h = tt
 none_checked None Q es ts s h = λ fs t l. let e = ap are_list (one_elements fs es ts t s) in absurd cc
 
-no_list : (raw : List ℕ) (ts : List Spelled) → AreTokens ts (raw_form raw) → IsNoList ts → HasNone raw
+no_list : (raw : List ℕ) (ts : List Spelled) → AreTokens alphabet.Mail ts (raw_form raw) → IsNoList ts → HasNone raw
 no_list raw ts a n = λ who l. n l.elements (elements_here who (raw_form raw) ts l a) (is_listed who l.elements l.are_addressees l.some)
 
-pub no_tokens : (raw : List ℕ) → ((ts : List Spelled) → AreTokens ts (raw_form raw) → ⊥) → HasNone raw
+pub no_tokens : (raw : List ℕ) → ((ts : List Spelled) → AreTokens alphabet.Mail ts (raw_form raw) → ⊥) → HasNone raw
 no_tokens raw n = λ who l. n l.tokens l.are_tokens
 
-is_list : (raw : List ℕ) (ts : List Spelled) (es : List Element) (a : AreTokens ts (raw_form raw)) (l : IsList es ts) → IsAddressList ((listed es l.list).who) (raw_form raw)
+is_list : (raw : List ℕ) (ts : List Spelled) (es : List Element) (a : AreTokens alphabet.Mail ts (raw_form raw)) (l : IsList es ts) → IsAddressList ((listed es l.list).who) (raw_form raw)
 is_list raw ts es a l =
     let w = listed es l.list in
     record { tokens = ts; are_tokens = a; elements = es; are_elements = l.are; are_addressees = w.addressees; some = w.some }
 
-pub addresses_form : (raw : List ℕ) (ts : List Spelled) (r : Option (List Address)) → AreTokens ts (raw_form raw) → AddressesIn ts r → IsAddressesForm raw r
+pub addresses_form : (raw : List ℕ) (ts : List Spelled) (r : Option (List Address)) → AreTokens alphabet.Mail ts (raw_form raw) → AddressesIn ts r → IsAddressesForm raw r
 addresses_form raw ts _ a (NoAddresses n) = names.NoAddresses (no_list raw ts a n)
 addresses_form raw ts _ a (Addresses es list l h) =
     let w = listed es l.list in
     names.Addresses w.who list (is_list raw ts es a l) (subst (λ (u : List Mailbox). AllZip IsAddress u list) (sym (members_are w.who es w.addressees)) h)
 
-pub groups_form : (raw : List ℕ) (ts : List Spelled) (r : Option (List Group)) → AreTokens ts (raw_form raw) → GroupsIn ts r → IsGroupsForm raw r
+pub groups_form : (raw : List ℕ) (ts : List Spelled) (r : Option (List Group)) → AreTokens alphabet.Mail ts (raw_form raw) → GroupsIn ts r → IsGroupsForm raw r
 groups_form raw ts _ a (NoGroups n) = names.NoGroups (no_list raw ts a n)
 groups_form raw ts _ a (Groups es list l h) =
     let w = listed es l.list in

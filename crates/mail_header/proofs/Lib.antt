@@ -4,6 +4,7 @@ pub mod BracketLemmas
 pub mod BracketSteps
 pub mod BracketContents
 pub mod OneToken
+pub mod LeadingLemmas
 pub mod ClassLemmas
 pub mod MailboxLemmas
 pub mod ElementLemmas

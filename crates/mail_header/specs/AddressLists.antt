@@ -3,6 +3,7 @@
 use Rattle.std.specs.Prelude.{◌≡◌, ◌≢◌, ℕ, Bool, true, not, ◌||◌, List, [], ◌∷◌, ◌++◌, Option, Some, None}
 use Rattle.text_words.specs.Cuts.{Each, IsRun, Stops}
 use Rattle.text_words.specs.Sequence.{Sequence}
+use Rattle.mail_header.specs.declared.token.Alphabet.TheVariants as alphabet
 use Rattle.mail_header.specs.Tokens.{Spelled, AreTokens}
 use Rattle.mail_header.specs.Mailboxes.{has_mark, is_gap, is_phrase, is_display_name, is_addr_spec, is_inner, behind_route, Mailbox}
 
@@ -61,7 +62,7 @@ pub data AreAddressees : List Addressee → List Element → Type 0 where
 -- address-list: one or more mailboxes and groups
 pub record IsAddressList (who : List Addressee) (t : List ℕ) : Type 0 where
   pub tokens : List Spelled
-  pub are_tokens : AreTokens tokens t
+  pub are_tokens : AreTokens alphabet.Mail tokens t
   pub elements : List Element
   pub are_elements : Sequence IsElement elements tokens
   pub are_addressees : AreAddressees who elements

@@ -9,6 +9,7 @@ use Rattle.mail_header.specs.declared.token.Kind.TheVariants as kind
 use Rattle.mail_header.specs.declared.date.Clock.{Clock}
 use Rattle.mail_header.specs.declared.date.Day.{Day}
 use Rattle.mail_header.specs.declared.date.Moment.{Moment}
+use Rattle.mail_header.specs.declared.token.Alphabet.TheVariants as alphabet
 use Rattle.mail_header.specs.Tokens.{Spelled, AreTokens}
 use Rattle.mail_header.specs.Lexemes.{AreLexemes}
 use Rattle.mail_header.specs.RawForms.{raw_form}
@@ -213,5 +214,5 @@ date_in ls =
 
 -- the date of a raw value, of which comments and folding are passed over
 pub data IsDateForm (raw : List ℕ) : Option Moment → Type 0 where
-  NoTokens : ((ts : List Spelled) → AreTokens ts (raw_form raw) → ⊥) → IsDateForm raw None
-  Read : (lexemes : List Spelled) → AreLexemes lexemes (raw_form raw) → IsDateForm raw (date_in lexemes)
+  NoTokens : ((ts : List Spelled) → AreTokens alphabet.Mail ts (raw_form raw) → ⊥) → IsDateForm raw None
+  Read : (lexemes : List Spelled) → AreLexemes alphabet.Mail lexemes (raw_form raw) → IsDateForm raw (date_in lexemes)

@@ -2,6 +2,7 @@
 use Rattle.std.specs.Prelude.{ℕ, ◌+◌, ◌-◌, Bool, true, false, ◌==◌, if◌then◌else◌, List, [], ◌∷◌, length, take, Option, Some, None}
 use Rattle.text_words.specs.Cuts.{front}
 use Rattle.text_words.specs.Octets.{is_white}
+use Rattle.mail_header.specs.declared.token.Alphabet.{Alphabet}
 use Rattle.mail_header.specs.declared.token.Kind.{Kind}
 use Rattle.mail_header.specs.declared.token.Kind.TheVariants as kind
 use Rattle.mail_header.specs.Tokens.{none, is_mark, is_letter, Spelled}
@@ -29,12 +30,12 @@ token_of k None = None
 token_of k (Some n) = Some (k, n)
 
 -- the token at the front, and how many octets it has
-unfoldable pub token_in : List ℕ → Option (Kind × ℕ)
-token_in [] = None
-token_in (c ∷ t) =
-    if is_letter c then Some (kind.Atom, span is_letter (c ∷ t))
+unfoldable pub token_in : Alphabet → List ℕ → Option (Kind × ℕ)
+token_in a [] = None
+token_in a (c ∷ t) =
+    if is_letter a c then Some (kind.Atom, span (is_letter a) (c ∷ t))
     else if is_white c then Some (kind.Space, span is_white (c ∷ t))
-    else if is_mark c then Some (kind.Mark, 1)
+    else if is_mark a c then Some (kind.Mark, 1)
     else if c == 34 then token_of kind.Quoted (further 1 (close_in none 34 0 false t))
     else if c == 91 then token_of kind.Literal (further 1 (close_in none 93 0 false t))
     else if c == 40 then token_of kind.Comment (further 1 (close_in 40 41 0 false t))
@@ -45,5 +46,5 @@ spelled_of t None = None
 spelled_of t (Some p) = Some (record { kind = p.0; text = take p.1 t }, p.1)
 
 -- the token at the front with its octets
-abbrev pub spelled_in : List ℕ → Option (Spelled × ℕ)
-spelled_in t = spelled_of t (token_in t)
+abbrev pub spelled_in : Alphabet → List ℕ → Option (Spelled × ℕ)
+spelled_in a t = spelled_of t (token_in a t)

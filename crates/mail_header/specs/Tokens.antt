@@ -1,18 +1,22 @@
--- The tokens of a header's value (RFC 5322 section 3.2), and the texts that spell them.
+-- The tokens of a header's value (RFC 5322 section 3.2), and the texts that spell them. In a field of MIME
+-- other octets are marks of their own (RFC 2045 section 5.1).
 use Rattle.std.specs.Prelude.{◌≡◌, ◌≢◌, ℕ, Bool, true, not, ◌&&◌, ◌||◌, ◌==◌, nat_lt, List, [], ◌∷◌, ◌++◌}
 use Rattle.text_words.specs.Cuts.{IsRun, Stops}
 use Rattle.text_words.specs.Octets.{is_white}
-use Rattle.text_words.specs.Sequence.{Sequence}
+use Rattle.text_words.specs.Sequence.{Starts, Sequence}
+use Rattle.mail_header.specs.declared.token.Alphabet.{Alphabet}
+use Rattle.mail_header.specs.declared.token.Alphabet.TheVariants as alphabet
 use Rattle.mail_header.specs.declared.token.Kind.{Kind}
 use Rattle.mail_header.specs.declared.token.Kind.TheVariants as kind
 
--- a token of one octet: < > @ , ; : .
-abbrev pub is_mark : ℕ → Bool
-is_mark c = c == 60 || c == 62 || c == 64 || c == 44 || c == 59 || c == 58 || c == 46
+-- a token of one octet: < > @ , ; : and a dot, or / ? =
+abbrev pub is_mark : Alphabet → ℕ → Bool
+is_mark alphabet.Mail c = c == 60 || c == 62 || c == 64 || c == 44 || c == 59 || c == 58 || c == 46
+is_mark alphabet.Mime c = c == 60 || c == 62 || c == 64 || c == 44 || c == 59 || c == 58 || c == 47 || c == 63 || c == 61
 
 -- an octet of an atom: those above 127 are letters
-abbrev pub is_letter : ℕ → Bool
-is_letter c = nat_lt 32 c && not (c == 127) && not (is_mark c) && not (c == 34) && not (c == 40) && not (c == 41) && not (c == 91) && not (c == 93) && not (c == 92)
+abbrev pub is_letter : Alphabet → ℕ → Bool
+is_letter a c = nat_lt 32 c && not (c == 127) && not (is_mark a c) && not (c == 34) && not (c == 40) && not (c == 41) && not (c == 91) && not (c == 93) && not (c == 92)
 
 -- What stands between a bracket and the one that closes it: octets, pairs of a backslash and any octet, and
 -- the same again in brackets.
@@ -32,36 +36,45 @@ pub record IsBracketed (first inner closer : ℕ) (t : List ℕ) : Type 0 where
 abbrev pub none : ℕ
 none = 256
 
-abbrev pub IsKind : Kind → List ℕ → Type 0
-IsKind kind.Atom t = IsRun is_letter t
-IsKind kind.Space t = IsRun is_white t
-IsKind kind.Quoted t = IsBracketed 34 none 34 t
-IsKind kind.Literal t = IsBracketed 91 none 93 t
-IsKind kind.Comment t = IsBracketed 40 40 41 t
-IsKind kind.Mark t = (c : ℕ) × (t ≡ c ∷ []) × (is_mark c ≡ true)
+abbrev pub IsKind : Alphabet → Kind → List ℕ → Type 0
+IsKind a kind.Atom t = IsRun (is_letter a) t
+IsKind a kind.Space t = IsRun is_white t
+IsKind a kind.Quoted t = IsBracketed 34 none 34 t
+IsKind a kind.Literal t = IsBracketed 91 none 93 t
+IsKind a kind.Comment t = IsBracketed 40 40 41 t
+IsKind a kind.Mark t = (c : ℕ) × (t ≡ c ∷ []) × (is_mark a c ≡ true)
 
 -- atoms and spaces are as long as they can be
-abbrev pub EndsBefore : Kind → List ℕ → Type 0
-EndsBefore kind.Atom t = Stops is_letter t
-EndsBefore kind.Space t = Stops is_white t
-EndsBefore _ t = Unit {0}
+abbrev pub EndsBefore : Alphabet → Kind → List ℕ → Type 0
+EndsBefore a kind.Atom t = Stops (is_letter a) t
+EndsBefore a kind.Space t = Stops is_white t
+EndsBefore a _ t = Unit {0}
 
 -- the text begins with a token of the kind, and rest follows it
-pub record Begins (k : Kind) (front rest t : List ℕ) : Type 0 where
+pub record Begins (a : Alphabet) (k : Kind) (front rest t : List ℕ) : Type 0 where
   pub whole : t ≡ front ++ rest
-  pub spelled : IsKind k front
-  pub ends : EndsBefore k rest
+  pub spelled : IsKind a k front
+  pub ends : EndsBefore a k rest
 
 -- a token's kind, and the octets that spell it
 pub record Spelled : Type 0 where
   pub kind : Kind
   pub text : List ℕ
 
-pub record IsToken (v : Spelled) (front rest : List ℕ) : Type 0 where
+pub record IsToken (a : Alphabet) (v : Spelled) (front rest : List ℕ) : Type 0 where
   pub text_is : v.text ≡ front
-  pub spelled : IsKind v.kind front
-  pub ends : EndsBefore v.kind rest
+  pub spelled : IsKind a v.kind front
+  pub ends : EndsBefore a v.kind rest
 
 -- the tokens of a text
-abbrev pub AreTokens : List Spelled → List ℕ → Type 0
-AreTokens tokens t = Sequence IsToken tokens t
+abbrev pub AreTokens : Alphabet → List Spelled → List ℕ → Type 0
+AreTokens a tokens t = Sequence (IsToken a) tokens t
+
+-- no token begins the text
+abbrev pub BeginsNone : Alphabet → List ℕ → Type 0
+BeginsNone a t = (v : Spelled) (front rest : List ℕ) → t ≡ front ++ rest → IsToken a v front rest → ⊥
+
+-- the tokens at the front of a text, up to the rest, which no token begins
+abbrev pub AreLeading : Alphabet → List Spelled → List ℕ → List ℕ → Type 0
+AreLeading a [] rest t = (t ≡ rest) × BeginsNone a t
+AreLeading a (v ∷ vs) rest t = Starts (IsToken a) v (AreLeading a vs rest) t

@@ -12,7 +12,7 @@ use crate::address::{Address, Group};
 use crate::elements::{Element, Mailbox, elements};
 use crate::names::{address_of, phrase_name};
 use crate::raw_forms::as_raw;
-use crate::token::Token;
+use crate::token::{Alphabet, Token};
 use crate::tokens::tokens;
 use gate_world::{Bytes, Listed};
 use std::alloc::{AllocError, Global};
@@ -252,7 +252,7 @@ pub fn as_addresses(alloc: Global, raw: &[u8]) -> Result<Option<Listed<Address>>
     ensures { IfOk result (λ r. names.IsAddressesForm raw.now r) }
 {
     let raw = as_raw(alloc, raw)?;
-    match tokens(alloc, raw.as_slice())? {
+    match tokens(alloc, Alphabet::Mail, raw.as_slice())? {
         None => Ok(None),
         Some(found) => addresses_in(alloc, found.as_slice()),
     }
@@ -273,7 +273,7 @@ pub fn as_groups(alloc: Global, raw: &[u8]) -> Result<Option<Listed<Group>>, All
     ensures { IfOk result (λ r. names.IsGroupsForm raw.now r) }
 {
     let raw = as_raw(alloc, raw)?;
-    match tokens(alloc, raw.as_slice())? {
+    match tokens(alloc, Alphabet::Mail, raw.as_slice())? {
         None => Ok(None),
         Some(found) => groups_in(alloc, found.as_slice()),
     }

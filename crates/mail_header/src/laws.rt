@@ -1,15 +1,24 @@
 ghost use Rattle.std.specs.Prelude.{◌≡◌, ℕ, List, Option};
+ghost use Rattle.mail_header.specs.declared.token.Alphabet.{Alphabet};
 ghost use Rattle.mail_header.specs.declared.address.Address.{Address};
 ghost use Rattle.mail_header.specs.declared.address.Group.{Group};
 ghost use Rattle.mail_header.specs.AddressLists.{Addressee, IsAddressList};
 ghost use Rattle.mail_header.specs.Names.{IsAddressesForm, IsGroupsForm};
 ghost use Rattle.mail_header.specs.Bracketed.{HasPieces};
 ghost use Rattle.mail_header.specs.Fields.{IsHeader, NameAndRaw};
+ghost use Rattle.mail_header.specs.Lexemes.{AreLeadingLexemes};
+ghost use Rattle.mail_header.specs.Tokens.{Spelled, AreTokens};
 
 /// No octets have two headers.
 pub fn one_header()
     ensures fields { (f g : List NameAndRaw) (m n : ℕ) (b : List ℕ) → IsHeader f m b → IsHeader g n b → f ≡ g }
     ensures end { (f g : List NameAndRaw) (m n : ℕ) (b : List ℕ) → IsHeader f m b → IsHeader g n b → m ≡ n }
+{}
+
+/// No text has two rows of tokens, and none has two rows of lexemes at its front.
+pub fn one_row_of_tokens()
+    ensures tokens { (a : Alphabet) (one other : List Spelled) (t : List ℕ) → AreTokens a one t → AreTokens a other t → one ≡ other }
+    ensures lexemes { (a : Alphabet) (one other : List Spelled) (t : List ℕ) → AreLeadingLexemes a one t → AreLeadingLexemes a other t → one ≡ other }
 {}
 
 /// No text has two lists of pieces in angle brackets.

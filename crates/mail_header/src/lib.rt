@@ -33,3 +33,4 @@ pub use date::Moment;
 pub use header::{Field, Fields};
 pub use moments::as_date;
 pub use raw_forms::{as_raw, as_text};
+pub use token_class::{has_mark, is_atom, is_word};

@@ -6,7 +6,7 @@ use crate::date::{Clock, Day, Moment};
 use crate::dates::{clock, day};
 use crate::lexemes::lexemes;
 use crate::raw_forms::as_raw;
-use crate::token::Token;
+use crate::token::{Alphabet, Token};
 use crate::zones::zone;
 use std::alloc::{AllocError, Global};
 
@@ -160,7 +160,7 @@ pub fn as_date(alloc: Global, raw: &[u8]) -> Result<Option<Moment>, AllocError>
     ensures { IfOk result (λ m. dates.IsDateForm raw.now m) }
 {
     let raw = as_raw(alloc, raw)?;
-    match lexemes(alloc, raw.as_slice())? {
+    match lexemes(alloc, Alphabet::Mail, raw.as_slice())? {
         None => Ok(None),
         Some(found) => Ok(date_of(found.as_slice())),
     }

@@ -66,6 +66,15 @@ fn push_word(alloc: Global, text: &mut Vec<u8>, word: &Token<'_>) -> Result<(), 
     }
 }
 
+/// What a word spells, which is unquoted where it is a quoted text.
+pub fn word_text(alloc: Global, word: &Token<'_>) -> Result<Vec<u8>, AllocError>
+    ensures { IfOk result (λ v. v.items ≡ names.word_text word.now.kind word.now.text.now) }
+{
+    let mut text = Vec::new(alloc);
+    push_word(alloc, &mut text, word)?;
+    Ok(text)
+}
+
 fn push_space(text: &mut Vec<u8>, gap: bool) -> Result<(), AllocError>
     ensures { OnOk result (text.new.items ≡ text.old.items ++ names.space gap) }
 {

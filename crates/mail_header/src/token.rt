@@ -1,3 +1,12 @@
+/// Which octets are letters of an atom.
+#[derive(Clone, Copy, PartialEq, Eq, Debug)]
+pub enum Alphabet {
+    /// All but the specials of mail (RFC 5322 section 3.2.3).
+    Mail,
+    /// All but the specials of MIME (RFC 2045 section 5.1).
+    Mime,
+}
+
 /// What a token is.
 #[derive(Clone, Copy, PartialEq, Eq, Debug)]
 pub enum Kind {
@@ -11,7 +20,7 @@ pub enum Kind {
     Literal,
     /// A comment, with its parentheses.
     Comment,
-    /// One of `< > @ , ; : .`
+    /// One of `< > @ , ; :`, and in mail `.`, in MIME `/ ? =`.
     Mark,
 }
 

@@ -184,7 +184,8 @@ fn first_octet(text: &[u8]) -> u8
     }
 }
 
-pub(crate) fn has_mark(mark: u8, token: &Token<'_>) -> bool
+/// Whether the token is this mark.
+pub fn has_mark(mark: u8, token: &Token<'_>) -> bool
     ensures { result ≡ mailboxes.has_mark mark (token_view token.now) }
 {
     mark_of(token) == mark
@@ -200,7 +201,7 @@ pub(crate) fn is_gap(token: &Token<'_>) -> bool
     }
 }
 
-fn is_atom(token: &Token<'_>) -> bool
+pub fn is_atom(token: &Token<'_>) -> bool
     ensures { result ≡ mailboxes.is_atom (token_view token.now) }
 {
     match token.kind {
@@ -210,7 +211,7 @@ fn is_atom(token: &Token<'_>) -> bool
 }
 
 /// An atom or a quoted text.
-pub(crate) fn is_word(token: &Token<'_>) -> bool
+pub fn is_word(token: &Token<'_>) -> bool
     ensures { result ≡ mailboxes.is_word (token_view token.now) }
 {
     match token.kind {

@@ -3,26 +3,41 @@ ghost use Rattle.mail_header.specs.Tokens as tokens;
 ghost use Rattle.mail_header.specs.TokenReading as reading;
 ghost use Rattle.mail_header.specs.TokenView.{tokens_view};
 
-use crate::token::{Kind, Token};
+use crate::token::{Alphabet, Kind, Token};
 use std::alloc::{AllocError, Global};
 use text_words::{Class, White, cut, is_white};
 
 /// No octet opens a bracket in a quoted text or a literal.
 const NONE: u16 = 256;
 
-/// The octets of an atom.
-struct Letter;
+/// The octets of an atom in mail.
+struct MailLetter;
 
-impl Class<u8> for Letter {
-    ghost test = { tokens.is_letter };
+impl Class<u8> for MailLetter {
+    ghost use Rattle.mail_header.specs.declared.token.Alphabet.{Alphabet};
+
+    ghost test = { tokens.is_letter Alphabet.Mail };
 
     fn has(&self, item: &u8) -> bool {
-        is_letter(*item)
+        is_letter(Alphabet::Mail, *item)
     }
 }
 
-fn is_mark(octet: u8) -> bool
-    ensures { result ≡ tokens.is_mark octet }
+/// The octets of an atom in MIME.
+struct MimeLetter;
+
+impl Class<u8> for MimeLetter {
+    ghost use Rattle.mail_header.specs.declared.token.Alphabet.{Alphabet};
+
+    ghost test = { tokens.is_letter Alphabet.Mime };
+
+    fn has(&self, item: &u8) -> bool {
+        is_letter(Alphabet::Mime, *item)
+    }
+}
+
+fn is_mail_mark(octet: u8) -> bool
+    ensures { result ≡ tokens.is_mark Alphabet.Mail octet }
 {
     octet == b'<'
         || octet == b'>'
@@ -33,18 +48,51 @@ fn is_mark(octet: u8) -> bool
         || octet == b'.'
 }
 
-fn is_letter(octet: u8) -> bool
-    ensures { result ≡ tokens.is_letter octet }
+fn is_mime_mark(octet: u8) -> bool
+    ensures { result ≡ tokens.is_mark Alphabet.Mime octet }
+{
+    octet == b'<'
+        || octet == b'>'
+        || octet == b'@'
+        || octet == b','
+        || octet == b';'
+        || octet == b':'
+        || octet == b'/'
+        || octet == b'?'
+        || octet == b'='
+}
+
+fn is_mark(alphabet: Alphabet, octet: u8) -> bool
+    ensures { result ≡ tokens.is_mark alphabet octet }
+{
+    match alphabet {
+        Alphabet::Mail => is_mail_mark(octet),
+        Alphabet::Mime => is_mime_mark(octet),
+    }
+}
+
+fn is_letter(alphabet: Alphabet, octet: u8) -> bool
+    ensures { result ≡ tokens.is_letter alphabet octet }
 {
     b' ' < octet
         && octet != 127
-        && !is_mark(octet)
+        && !is_mark(alphabet, octet)
         && octet != b'"'
         && octet != b'('
         && octet != b')'
         && octet != b'['
         && octet != b']'
         && octet != b'\\'
+}
+
+/// How many letters stand at the front.
+fn letters(alphabet: Alphabet, text: &[u8]) -> usize
+    ensures { result ≡ reading.span (tokens.is_letter alphabet) text.now }
+{
+    match alphabet {
+        Alphabet::Mail => cut(&MailLetter, text).0.len(),
+        Alphabet::Mime => cut(&MimeLetter, text).0.len(),
+    }
 }
 
 /// How many octets go up to the end of the bracket whose contents the text begins with.
@@ -84,17 +132,17 @@ fn bracket(kind: Kind, text: &[u8], rest: &[u8], opener: u16, closer: u16) -> Op
 
 /// The token at the front, and how many octets it has.
 #[tactic(auto, unfolding(crate::specs::TokenReading::token_in))]
-fn token_at(text: &[u8]) -> Option<(Kind, usize)>
-    ensures { result ≡ reading.token_in text.now }
+fn token_at(alphabet: Alphabet, text: &[u8]) -> Option<(Kind, usize)>
+    ensures { result ≡ reading.token_in alphabet text.now }
 {
     match text {
         [] => None,
         [first, rest @ ..] => {
-            if is_letter(*first) {
-                Some((Kind::Atom, cut(&Letter, text).0.len()))
+            if is_letter(alphabet, *first) {
+                Some((Kind::Atom, letters(alphabet, text)))
             } else if is_white(*first) {
                 Some((Kind::Space, cut(&White, text).0.len()))
-            } else if is_mark(*first) {
+            } else if is_mark(alphabet, *first) {
                 Some((Kind::Mark, 1))
             } else if *first == b'"' {
                 bracket(Kind::Quoted, text, rest, NONE, b'"' as u16)
@@ -109,20 +157,37 @@ fn token_at(text: &[u8]) -> Option<(Kind, usize)>
     }
 }
 
-/// The tokens of a header's value (RFC 5322 section 3.2), where it is a row of tokens.
-pub fn tokens(alloc: Global, text: &[u8]) -> Result<Option<Vec<Token<'_>>>, AllocError>
-    ensures some { IfOk result (λ r. IfSome r (λ v. tokens.AreTokens (tokens_view v.items) text.now)) }
-    ensures none { IfOk result (λ r. IfNone r ((ts : List tokens.Spelled) → tokens.AreTokens ts text.now → ⊥)) }
+/// The tokens at the front of a text, up to what no token begins.
+pub fn leading_tokens<'a>(
+    alloc: Global,
+    alphabet: Alphabet,
+    text: &'a [u8],
+) -> Result<(Vec<Token<'a>>, &'a [u8]), AllocError>
+    ensures { IfOk result (λ r. tokens.AreLeading alphabet (tokens_view r.0.items) r.1.now text.now) }
 {
     let mut found = Vec::new(alloc);
     let mut rest = text;
-    while !rest.is_empty() {
-        let Some((kind, len)) = token_at(rest) else {
-            return Ok(None);
-        };
+    while let Some((kind, len)) = token_at(alphabet, rest) {
         let (token, behind) = rest.split_at(len);
         found.push(Token { kind, text: token })?;
         rest = behind;
     }
-    Ok(Some(found))
+    Ok((found, rest))
+}
+
+/// The tokens of a header's value (RFC 5322 section 3.2), where it is a row of tokens.
+pub fn tokens(
+    alloc: Global,
+    alphabet: Alphabet,
+    text: &[u8],
+) -> Result<Option<Vec<Token<'_>>>, AllocError>
+    ensures some { IfOk result (λ r. IfSome r (λ v. tokens.AreTokens alphabet (tokens_view v.items) text.now)) }
+    ensures none { IfOk result (λ r. IfNone r ((ts : List tokens.Spelled) → tokens.AreTokens alphabet ts text.now → ⊥)) }
+{
+    let (found, rest) = leading_tokens(alloc, alphabet, text)?;
+    if rest.is_empty() {
+        Ok(Some(found))
+    } else {
+        Ok(None)
+    }
 }

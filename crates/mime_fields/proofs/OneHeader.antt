@@ -1,9 +1,54 @@
--- Fields are one header.
-use Rattle.std.proofs.Common.{◌≡◌, List, sym, ◌∙◌}
-use Rattle.mail_header.specs.Fields.{NameAndRaw}
-use Rattle.mime_fields.specs.declared.PartHeader.{PartHeader}
-use Rattle.mime_fields.specs.PartHeaders.{IsPartHeader}
+-- Fields are one header of a part.
+use Rattle.std.proofs.Common.{◌≡◌, ℕ, false, List, [], sym, ap, ◌∙◌, subst, Option, Some, None, unwrap_or, slice_get}
+use Rattle.std.specs.Prelude.{codes}
+use Rattle.header_words.proofs.WordLemmas.{one_text}
+use Rattle.mail_header.specs.declared.token.Alphabet.TheVariants as alphabet
+use Rattle.mail_header.specs.Fields.{NameAndRaw, last_named}
+use Rattle.mail_header.specs.RawForms.{raw_form}
+use Rattle.mail_header.specs.Tokens.{Spelled}
+use Rattle.mail_header.proofs.BracketLemmas.{one_names}
+use Rattle.mail_header.proofs.LeadingLemmas.{one_leading_lexemes}
+use Rattle.mime_fields.specs.declared.header.PartHeader.{PartHeader}
+use Rattle.mime_fields.specs.ContentTypes.{media_in, behind_media}
+use Rattle.mime_fields.specs.Dispositions.{token_in, IsName}
+use Rattle.mime_fields.specs.Parameters.{parameter}
+use Rattle.mime_fields.specs.PartHeaders.{HasLexemes, extended_name, written_name, IsTextOf, IsFirstId, IsPartHeader}
+
+one_lexemes : (f : List NameAndRaw) (name : List ℕ) (x y : List Spelled) → HasLexemes f name x → HasLexemes f name y → x ≡ y
+one_lexemes f name x y g h = one_leading_lexemes alphabet.Mime x y (raw_form (unwrap_or (last_named name f) [])) g h
+
+one_name : (extended written x y : Option (List ℕ)) → IsName extended written x → IsName extended written y → x ≡ y
+one_name (Some e) w x y g h = g ∙ sym h
+one_name None None x y g h = g ∙ sym h
+one_name None (Some w) x y g h = g.2 ∙ ap (λ (u : List ℕ). Some u) (one_text false w g.0 h.0 g.1 h.1) ∙ sym h.2
+
+one_text_form : (raw x y : Option (List ℕ)) → IsTextOf raw x → IsTextOf raw y → x ≡ y
+one_text_form None x y g h = g ∙ sym h
+one_text_form (Some r) x y g h = g.2 ∙ ap (λ (u : List ℕ). Some u) (one_text false _ g.0 h.0 g.1 h.1) ∙ sym h.2
+
+one_id : (raw x y : Option (List ℕ)) → IsFirstId raw x → IsFirstId raw y → x ≡ y
+one_id None x y g h = g ∙ sym h
+one_id (Some r) x y g h = g.2 ∙ ap (λ (ids : List (List ℕ)). slice_get ids 0) (one_names g.0 h.0 (raw_form r) g.1 h.1) ∙ sym h.2
+
+record_same : (m b c d n i l p : Option (List ℕ)) (e : List ℕ) (m' b' c' d' n' i' l' p' : Option (List ℕ)) (e' : List ℕ)
+    → m ≡ m' → b ≡ b' → c ≡ c' → d ≡ d' → n ≡ n' → i ≡ i' → l ≡ l' → p ≡ p' → e ≡ e'
+    → ◌≡◌ {A = PartHeader} (record { media = m; boundary = b; charset = c; disposition = d; name = n; cid = i; language = l; location = p; encoding = e }) (record { media = m'; boundary = b'; charset = c'; disposition = d'; name = n'; cid = i'; language = l'; location = p'; encoding = e' })
+record_same m b c d n i l p e m' b' c' d' n' i' l' p' e' q1 q2 q3 q4 q5 q6 q7 q8 q9 = cc
 
 pub one_part_header : (f : List NameAndRaw) (g h : PartHeader) → IsPartHeader f g → IsPartHeader f h → g ≡ h
-unfolding IsPartHeader
-one_part_header f g h i j = i ∙ sym j
+one_part_header f g h i j =
+    let t = one_lexemes f (codes "content-type") i.content_type j.content_type i.has_content_type j.has_content_type in
+    let d = one_lexemes f (codes "content-disposition") i.content_disposition j.content_disposition i.has_content_disposition j.has_content_disposition in
+    let e = one_lexemes f (codes "content-transfer-encoding") i.transfer_encoding j.transfer_encoding i.has_transfer_encoding j.has_transfer_encoding in
+    let n = subst (λ (u : List Spelled). IsName (extended_name u) (written_name u i.content_type) g.name) d i.name in
+    let m = subst (λ (u : List Spelled). IsName (extended_name j.content_disposition) (written_name j.content_disposition u) g.name) t n in
+    record_same _ _ _ _ _ _ _ _ _ _ _ _ _ _ _ _ _ _
+    (i.media ∙ ap media_in t ∙ sym j.media)
+    (i.boundary ∙ ap (λ u. parameter (codes "boundary") (behind_media u)) t ∙ sym j.boundary)
+    (i.charset ∙ ap (λ u. parameter (codes "charset") (behind_media u)) t ∙ sym j.charset)
+    (i.disposition ∙ ap token_in d ∙ sym j.disposition)
+    (one_name _ _ g.name h.name m j.name)
+    (one_id _ g.cid h.cid i.cid j.cid)
+    (one_text_form _ g.language h.language i.language j.language)
+    (one_text_form _ g.location h.location i.location j.location)
+    (i.encoding ∙ ap (λ u. unwrap_or (token_in u) (codes "7bit")) e ∙ sym j.encoding)

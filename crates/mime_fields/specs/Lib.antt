@@ -1,1 +1,4 @@
+pub mod Parameters
+pub mod ContentTypes
+pub mod Dispositions
 pub mod PartHeaders

@@ -1,0 +1,202 @@
+use crate::header::{PartHeader, part_header};
+use gate_world::Bytes;
+use mail_header::fields;
+use std::alloc::{AllocError, Global};
+use std::process::Abort;
+use std::test::Fail;
+
+fn push_value(text: &mut Vec<u8>, value: &Option<Bytes>) -> Result<(), AllocError> {
+    match value {
+        None => text.push(b'-')?,
+        Some(value) => text.extend_from_slice(value.as_slice())?,
+    }
+    text.push(b'|')?;
+    Ok(())
+}
+
+/// Type, boundary, charset, disposition, name, id, language, place and encoding, `-` for none, with `|` between.
+fn written(alloc: Global, header: &PartHeader) -> Result<Vec<u8>, AllocError> {
+    let mut text = Vec::new(alloc);
+    push_value(&mut text, &header.media)?;
+    push_value(&mut text, &header.boundary)?;
+    push_value(&mut text, &header.charset)?;
+    push_value(&mut text, &header.disposition)?;
+    push_value(&mut text, &header.name)?;
+    push_value(&mut text, &header.cid)?;
+    push_value(&mut text, &header.language)?;
+    push_value(&mut text, &header.location)?;
+    text.extend_from_slice(header.encoding.as_slice())?;
+    Ok(text)
+}
+
+/// Examples of RFC 2045, RFC 2046, RFC 2183, RFC 2231, RFC 2392, RFC 3282, RFC 6266 and RFC 8187.
+const EXAMPLES: [(&[u8], &[u8]); 14] = [
+    (b"", b"-|-|-|-|-|-|-|-|7bit"),
+    (
+        b"Content-type: text/plain; charset=us-ascii (Plain text)\r\n",
+        b"text/plain|-|us-ascii|-|-|-|-|-|7bit",
+    ),
+    (
+        b"Content-type: text/plain; charset=\"us-ascii\"\r\n",
+        b"text/plain|-|us-ascii|-|-|-|-|-|7bit",
+    ),
+    (
+        b"Content-Type: text/plain; charset=ISO-8859-1\r\nContent-transfer-encoding: base64\r\n",
+        b"text/plain|-|ISO-8859-1|-|-|-|-|-|base64",
+    ),
+    (
+        b"Content-Type: multipart/mixed;\r\n     boundary=\"gc0pJq0M:08jU534c0p\"\r\n",
+        b"multipart/mixed|gc0pJq0M:08jU534c0p|-|-|-|-|-|-|7bit",
+    ),
+    (
+        b"Content-Type: multipart/mixed; boundary=gc0p4Jq0M2Yt08j34c0p\r\n",
+        b"multipart/mixed|gc0p4Jq0M2Yt08j34c0p|-|-|-|-|-|-|7bit",
+    ),
+    (
+        b"Content-Type: image/jpeg\r\nContent-Disposition: attachment; filename=genome.jpeg;\r\n  modification-date=\"Wed, 12 Feb 1997 16:29:51 -0500\";\r\nContent-Description: a complete map of the human genome\r\n",
+        b"image/jpeg|-|-|attachment|genome.jpeg|-|-|-|7bit",
+    ),
+    (
+        b"Content-Disposition: inline\r\n",
+        b"-|-|-|inline|-|-|-|-|7bit",
+    ),
+    (
+        b"Content-Disposition: attachment;\r\n   filename=\"EURO rates\";\r\n   filename*=utf-8''%e2%82%ac%20rates\r\n",
+        b"-|-|-|attachment|\xE2\x82\xAC rates|-|-|-|7bit",
+    ),
+    (
+        b"Content-Disposition: inline; filename*=iso-8859-1'en'%A3%20rates\r\n",
+        b"-|-|-|inline|\xC2\xA3 rates|-|-|-|7bit",
+    ),
+    (
+        b"Content-Disposition: x; FileName*=UTF-8''%c2%a3%20and%20%e2%82%ac%20rates\r\n",
+        b"-|-|-|x|\xC2\xA3 and \xE2\x82\xAC rates|-|-|-|7bit",
+    ),
+    (
+        b"Content-Disposition: x; filename*=us-ascii'en-us'This%20is%20%2A%2A%2Afun%2A%2A%2A\r\n",
+        b"-|-|-|x|This is ***fun***|-|-|-|7bit",
+    ),
+    (
+        b"Content-ID: <foo4*foo1@bar.net>\r\n",
+        b"-|-|-|-|-|foo4*foo1@bar.net|-|-|7bit",
+    ),
+    (
+        b"Content-Language: mi, en\r\nContent-Location: http://www.ietf.cnri.reston.va.us/images/foo1.jpg\r\n",
+        b"-|-|-|-|-|-|mi, en|http://www.ietf.cnri.reston.va.us/images/foo1.jpg|7bit",
+    ),
+];
+
+/// What counts where fields or parameters repeat or lack, and what can't be read.
+const READINGS: [(&[u8], &[u8]); 26] = [
+    (
+        b"CONTENT-TYPE: TEXT/HTML; CHARSET=UTF-8\nContent-Transfer-Encoding: QUOTED-PRINTABLE\n",
+        b"text/html|-|UTF-8|-|-|-|-|-|quoted-printable",
+    ),
+    (
+        b"Content-Type: text(a)/\r\n plain(b) ; (c) charset (d) = (e) utf-8\r\n",
+        b"text/plain|-|utf-8|-|-|-|-|-|7bit",
+    ),
+    (
+        b"Content-Type: text/html\nContent-Type: text/plain\n",
+        b"text/plain|-|-|-|-|-|-|-|7bit",
+    ),
+    (
+        b"Content-Type: text/html\nContent-Type:\n",
+        b"-|-|-|-|-|-|-|-|7bit",
+    ),
+    (
+        b"Content-Type: a/b; charset=one; charset=two\n",
+        b"a/b|-|one|-|-|-|-|-|7bit",
+    ),
+    (
+        b"Content-Type: text/html; charset=utf-8; =x; name=y\n",
+        b"text/html|-|utf-8|-|-|-|-|-|7bit",
+    ),
+    (
+        b"Content-Type: text/html; charset; name=y\n",
+        b"text/html|-|-|-|-|-|-|-|7bit",
+    ),
+    (
+        b"Content-Type: text/html;; charset=utf-8\n",
+        b"text/html|-|-|-|-|-|-|-|7bit",
+    ),
+    (
+        b"Content-Type: text/html; charset=utf-8;\n",
+        b"text/html|-|utf-8|-|-|-|-|-|7bit",
+    ),
+    (
+        b"Content-Type: text/html charset=utf-8\n",
+        b"text/html|-|-|-|-|-|-|-|7bit",
+    ),
+    (
+        b"Content-Type: text/html; charset=\"utf-8\n",
+        b"text/html|-|-|-|-|-|-|-|7bit",
+    ),
+    (
+        b"Content-Type: text/html\x01; charset=utf-8\n",
+        b"text/html|-|-|-|-|-|-|-|7bit",
+    ),
+    (
+        b"Content-Type: a/b; boundary=one/two; charset=x\n",
+        b"a/b|one|-|-|-|-|-|-|7bit",
+    ),
+    (
+        b"Content-Type: a/b; boundary=\"one\\/\\\"two\"\n",
+        b"a/b|one/\"two|-|-|-|-|-|-|7bit",
+    ),
+    (b"Content-Type: text; charset=x\n", b"-|-|-|-|-|-|-|-|7bit"),
+    (b"Content-Type: \"text\"/plain\n", b"-|-|-|-|-|-|-|-|7bit"),
+    (b"Content-Type: text.plain\n", b"-|-|-|-|-|-|-|-|7bit"),
+    (
+        b"Content-Type: application/vnd.ms-x+y; name=\"=?utf-8?Q?Ren=C3=A9?=.doc\"\n",
+        b"application/vnd.ms-x+y|-|-|-|=?utf-8?Q?Ren=C3=A9?=.doc|-|-|-|7bit",
+    ),
+    (
+        b"Content-Type: a/b; name=\"=?utf-8?Q?Ren=C3=A9?=\"\nContent-Disposition: ATTACHMENT\n",
+        b"a/b|-|-|attachment|Ren\xC3\xA9|-|-|-|7bit",
+    ),
+    (
+        b"Content-Type: a/b; name=one\nContent-Disposition: attachment; filename=\"=?utf-8?B?dHdv?= =?utf-8?B?IQ==?=\"\n",
+        b"a/b|-|-|attachment|two!|-|-|-|7bit",
+    ),
+    (
+        b"Content-Disposition: inline; filename*=utf-8; filename=\"\"\n",
+        b"-|-|-|inline||-|-|-|7bit",
+    ),
+    (
+        b"Content-Disposition: inline; filename*=\"utf-8''a%zz%C3%A9'\"; filename=b\n",
+        b"-|-|-|inline|a%zz\xC3\xA9'|-|-|-|7bit",
+    ),
+    (
+        b"Content-Disposition: ; filename=a\n",
+        b"-|-|-|-|-|-|-|-|7bit",
+    ),
+    (
+        b"Content-ID: one@two\nContent-Language: =?utf-8?Q?de?=\n",
+        b"-|-|-|-|-|-|de|-|7bit",
+    ),
+    (
+        b"Content-ID: (c) <a@b> <c@d>\nContent-Location:\n",
+        b"-|-|-|-|-|a@b|-||7bit",
+    ),
+    (
+        b"Content-Transfer-Encoding:\r\n (comment) Base64 (comment)\r\n",
+        b"-|-|-|-|-|-|-|-|base64",
+    ),
+];
+
+fn expect_headers(rt: &impl Abort, alloc: Global, rows: &[(&[u8], &[u8])]) -> Result<(), Fail> {
+    for row in rows {
+        let header = part_header(alloc, &fields(alloc, row.0)?)?;
+        let text = written(alloc, &header)?;
+        assert_eq!(rt; text.as_slice(), row.1);
+    }
+    Ok(())
+}
+
+#[test]
+fn parts_have_headers(rt: HostRuntime) -> Result<(), Fail> {
+    expect_headers(&rt, rt.alloc(), &EXAMPLES)?;
+    expect_headers(&rt, rt.alloc(), &READINGS)?;
+    Ok(())
+}
