@@ -1,6 +1,9 @@
 pub mod LineLemmas
+pub mod MarkLemmas
 pub mod HeadLemmas
 pub mod SplitLemmas
 pub mod OneSplit
 pub mod BehindLemmas
 pub mod TreeLemmas
+pub mod OneTree
+pub mod UnderLemmas

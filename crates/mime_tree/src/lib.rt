@@ -5,6 +5,9 @@ pub mod part;
 pub mod split;
 pub mod head;
 pub mod tree;
+pub mod body;
+pub mod laws;
 
+pub use body::part_bytes;
 pub use part::Part;
 pub use tree::parse;

@@ -39,7 +39,7 @@ fn part_at(
 ) -> Result<(Part, u64), AllocError>
     requires ordered { place.start ≤ place.end }
     requires within { place.end ≤ length bytes.now }
-    requires room { first + (place.end - place.start) < 2 ^ 63 }
+    requires room { first + (place.end - place.start) ≤ 2 ^ 63 }
     ensures tree { IfOk result (λ r. IsTree more bytes.now place.start place.end default.now first r.0 r.1) }
     ensures numbers { IfOk result (λ r. r.1 ≤ first + (place.end - place.start) + 1) }
 {
