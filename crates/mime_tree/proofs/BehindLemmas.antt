@@ -27,7 +27,6 @@ size-lines (c ∷ t) = by (eqb c 10) (size-lines t)
     by true h = omega arith
     by false h = omega (arith, size-onto c (lines t))
 
-
 before_within : (b : List ℕ) (start e : ℕ) → start ≤ e → (start ≤ before b start e) × (before b start e ≤ e)
 unfolding before
 before_within b start e le =

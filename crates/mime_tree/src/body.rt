@@ -8,11 +8,7 @@ use std::alloc::{AllocError, Global};
 
 /// The octets that a part's body spells in its transfer encoding, and whether that has a problem, as `decode_transfer`
 /// says. The part is one of the tree of these octets.
-pub fn part_bytes(
-    alloc: Global,
-    bytes: &[u8],
-    part: &Part,
-) -> Result<(Vec<u8>, bool), AllocError>
+pub fn part_bytes(alloc: Global, bytes: &[u8], part: &Part) -> Result<(Vec<u8>, bool), AllocError>
     requires { IsWithin part.now bytes.now }
     ensures { IfOk result (λ r. HasOctets part.now bytes.now r.0.items r.1) }
 {

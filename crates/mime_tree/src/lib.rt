@@ -1,12 +1,14 @@
 //! The tree of parts that the octets of a message are (RFC 2045, RFC 2046).
 #![tactic(auto)]
 
+pub mod body;
+pub mod head;
+pub mod laws;
 pub mod part;
 pub mod split;
-pub mod head;
+#[cfg(test)]
+mod tests;
 pub mod tree;
-pub mod body;
-pub mod laws;
 
 pub use body::part_bytes;
 pub use part::Part;
