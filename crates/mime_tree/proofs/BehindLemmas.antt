@@ -1,14 +1,11 @@
 -- Parts lie behind one another.
-use Rattle.std.proofs.Common.{◌≡◌, ℕ, suc, ◌+◌, ◌-◌, ◌<◌, ◌≤◌, Bool, true, false, List, [], ◌∷◌, ◌++◌, length, take, drop, cond, refl, ap, ◌∙◌, arith, eqb, Option, Some, None}
-use Rattle.std.specs.Prelude.{slice_range, IfSome}
-use Rattle.mail_header.specs.Lines.{without_end}
-use Rattle.mime_tree.specs.declared.split.Mark.TheVariants as mark
+use Rattle.std.proofs.Common.{◌≡◌, ℕ, suc, ◌+◌, ◌<◌, ◌≤◌, Bool, true, false, List, [], ◌∷◌, ◌++◌, length, cond, refl, ap, ◌∙◌, arith, eqb, Some}
+use Rattle.std.specs.Prelude.{slice_range}
 use Rattle.mime_tree.specs.declared.split.Piece.{Piece}
-use Rattle.mime_tree.specs.Delimiters.{size, onto, lines, mark_of}
-use Rattle.mime_tree.specs.Splits.{before, end_of, AreParts, Follows, HasParts, IsSplit, AreBehind}
+use Rattle.mime_tree.specs.Delimiters.{size, onto, lines, IsDelimiter}
+use Rattle.mime_tree.specs.Splits.{before, end_of, AreParts, IsSplit, AreBehind}
 use Rattle.mime_tree.proofs.LineLemmas.{without_end_within}
 use Rattle.mime_tree.proofs.HeadLemmas.{range_len}
-use Rattle.std.proofs.lemmas.List.{length-take}
 
 size-append : (a b : List (List ℕ)) → size (a ++ b) ≡ size a + size b
 size-append [] b = omega arith
@@ -34,10 +31,9 @@ before_within b start e le =
     let r = range_len b start e in
     (omega arith, omega arith)
 
-opens_some : (y l : List ℕ) → mark_of y l ≡ mark.Opens → 0 < length l
-unfolding mark_of
-opens_some y [] e = absurd cc
-opens_some y (c ∷ l) e = omega arith
+opens_some : (y l : List ℕ) → IsDelimiter y l → 0 < length l
+opens_some y [] d = let w = d.whole in absurd cc
+opens_some y (c ∷ l) d = omega arith
 
 behind_lower : (low at : ℕ) (ps : List Piece) (n : ℕ) → low ≤ at → AreBehind at ps n → AreBehind low ps n
 behind_lower low at [] n le h = omega arith

@@ -1,12 +1,13 @@
 -- Lines, octet by octet.
-use Rattle.std.proofs.Common.{◌≡◌, ◌≢◌, ℕ, suc, ◌+◌, ◌-◌, ◌<◌, ◌≤◌, Bool, true, false, List, [], ◌∷◌, ◌++◌, length, take, drop, cond, refl, sym, ap, ◌∙◌, arith, eqb}
-use Rattle.std.specs.Prelude.{slice_range, not}
-use Rattle.std.proofs.lemmas.Bool.{cond-true, cond-false, eqb-true}
+use Rattle.std.proofs.Common.{◌≡◌, ◌≢◌, ℕ, suc, ◌+◌, ◌-◌, ◌<◌, ◌≤◌, Bool, true, false, List, [], ◌∷◌, length, take, drop, cond, refl, sym, ap, ◌∙◌, arith, eqb}
+use Rattle.std.specs.Prelude.{not}
+use Rattle.std.proofs.lemmas.Bool.{eqb-true}
 use Rattle.std.proofs.lemmas.List.{drop-drop, length-append, length-drop, length-take-le}
 use Rattle.text_words.specs.Cuts.{front, back}
 use Rattle.text_words.proofs.CutLemmas.{front_back}
 use Rattle.mail_header.specs.Lines.{without_end, is_line_end}
-use Rattle.mime_tree.specs.Delimiters.{onto, lines, line_len, is_in_line}
+use Rattle.mime_tree.specs.Delimiters.{onto, lines}
+use Rattle.mime_tree.specs.LineReading.{line_len, is_in_line}
 
 -- the first line is a cut at the first LF, and the LF
 line_cut : (t : List ℕ) → line_len t ≡ length (front is_in_line t) + (length (back is_in_line t) - (length (back is_in_line t) - 1))

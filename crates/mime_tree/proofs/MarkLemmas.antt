@@ -9,7 +9,8 @@ use Rattle.text_words.specs.Octets.{is_white}
 use Rattle.text_words.proofs.CutLemmas.{each_list_all, list_all_each}
 use Rattle.mime_tree.specs.declared.split.Mark.{Mark}
 use Rattle.mime_tree.specs.declared.split.Mark.TheVariants as mark
-use Rattle.mime_tree.specs.Delimiters.{IsDelimiter, IsClosing, IsMarked, behind, behind_dashes, closes, rest_mark, mark_of}
+use Rattle.mime_tree.specs.Delimiters.{IsDelimiter, IsClosing, IsMarked}
+use Rattle.mime_tree.specs.LineReading.{behind, behind_dashes, closes, rest_mark, mark_of}
 
 -- the text begins with the prefix, or with no text behind it
 data Behind (p t : List ℕ) : Option (List ℕ) → Type 0 where
@@ -63,7 +64,7 @@ marked y l = by (behind (45 ∷ 45 ∷ []) l) (behind_is (45 ∷ 45 ∷ []) l)
     by _ (Begins t w) = boundary t (behind y t) w (behind_is y t)
     by _ (BeginsNot k) = (λ d. k (y ++ d.white) d.whole, λ c. k (y ++ 45 ∷ 45 ∷ c.white) c.whole)
 
-opens_closes : (y l : List ℕ) → IsDelimiter y l → IsClosing y l → ⊥
+pub opens_closes : (y l : List ℕ) → IsDelimiter y l → IsClosing y l → ⊥
 opens_closes y l d c =
     let g = sym d.whole ∙ c.whole in
     let w : d.white ≡ 45 ∷ 45 ∷ c.white = append_cancel_left y d.white (45 ∷ 45 ∷ c.white) cc in
@@ -83,3 +84,10 @@ one_mark y l mark.Opens mark.Closes g h = absurd (opens_closes y l g h)
 one_mark y l mark.Closes mark.Plain g h = absurd (h.1 g)
 one_mark y l mark.Closes mark.Opens g h = absurd (opens_closes y l h g)
 one_mark y l mark.Closes mark.Closes g h = refl
+
+-- between the mark as a function and as a fact
+pub mark_is : (y l : List ℕ) (m : Mark) → mark_of y l ≡ m → IsMarked y l m
+mark_is y l m e = let P : Mark → Type 0 = λ x. IsMarked y l x in subst P e (marked y l)
+
+pub is_mark : (y l : List ℕ) (m : Mark) → IsMarked y l m → mark_of y l ≡ m
+is_mark y l m h = one_mark y l (mark_of y l) m (marked y l) h

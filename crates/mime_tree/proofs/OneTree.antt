@@ -1,7 +1,7 @@
 -- Octets have one tree.
-use Rattle.std.proofs.Common.{◌≡◌, ℕ, zero, suc, ◌+◌, List, [], ◌∷◌, refl, sym, ap, subst, ◌∙◌, Option, Some, None}
+use Rattle.std.proofs.Common.{◌≡◌, ℕ, zero, suc, ◌+◌, List, [], ◌∷◌, sym, ap, subst, ◌∙◌, Option, Some, None}
 use Rattle.std.specs.Prelude.{slice_range, unwrap_or, length}
-use Rattle.mail_header.specs.Fields.{NameAndRaw, IsHeader}
+use Rattle.mail_header.specs.Fields.{NameAndRaw}
 use Rattle.mail_header.proofs.FieldLemmas as fields
 use Rattle.mime_fields.specs.PartHeaders.{IsPartHeader}
 use Rattle.mime_fields.specs.declared.header.PartHeader.{PartHeader}
@@ -10,8 +10,8 @@ use Rattle.mime_tree.specs.declared.head.Head.{Head}
 use Rattle.mime_tree.specs.declared.split.Piece.{Piece}
 use Rattle.mime_tree.specs.declared.part.Part.{Part, out-Part}
 use Rattle.mime_tree.specs.Parts.{children}
-use Rattle.mime_tree.specs.Heads.{IsHead, boundary_of, default_in, leaf_media, leaf_charset}
-use Rattle.mime_tree.specs.Trees.{TreeWord, HasHead, IsLeaf, IsNode, AreTrees, ArePieces, IsPartOf, IsTree, IsMessage}
+use Rattle.mime_tree.specs.Heads.{IsHead, boundary_of, default_in}
+use Rattle.mime_tree.specs.Trees.{TreeWord, HasHead, IsLeaf, AreTrees, ArePieces, IsPartOf, IsTree, IsMessage}
 use Rattle.mime_tree.specs.SameTrees.{AllSame, SamePart, NoPart, Same}
 use Rattle.mime_tree.proofs.OneSplit.{one_split}
 

@@ -1,14 +1,14 @@
 -- Splitting, line by line.
-use Rattle.std.proofs.Common.{◌≡◌, ℕ, ◌+◌, ◌≤◌, Bool, true, false, List, [], ◌∷◌, ◌++◌, length, drop, refl, sym, ap, subst, ◌∙◌, arith, append_assoc, Option, Some, None}
+use Rattle.std.proofs.Common.{◌≡◌, ℕ, ◌+◌, ◌≤◌, List, [], ◌∷◌, ◌++◌, length, drop, refl, sym, ap, subst, ◌∙◌, arith, append_assoc, Option, Some, None}
 use Rattle.std.specs.Prelude.{IfSome}
-use Rattle.std.proofs.lemmas.List.{append-nil, drop_all}
-use Rattle.text_words.specs.Cuts.{Each}
-use Rattle.mime_tree.specs.declared.split.Mark.{Mark}
+use Rattle.std.proofs.lemmas.List.{drop_all}
 use Rattle.mime_tree.specs.declared.split.Mark.TheVariants as mark
 use Rattle.mime_tree.specs.declared.split.Piece.{Piece}
-use Rattle.mime_tree.specs.Delimiters.{size, lines, mark_of}
-use Rattle.mime_tree.specs.Splits.{piece, ending, plain_mark, is_plain, before, end_of, InPart, IsEnd, IsClosed, IsPart, AreParts, Follows, HasParts, IsSplit}
+use Rattle.mime_tree.specs.Delimiters.{size, lines}
+use Rattle.mime_tree.specs.LineReading.{mark_of}
+use Rattle.mime_tree.specs.Splits.{piece, ending, before, end_of, InPart, AreParts, Follows, HasParts, IsSplit}
 use Rattle.mime_tree.proofs.LineLemmas.{Here}
+use Rattle.mime_tree.proofs.MarkLemmas.{mark_is}
 
 -- pieces before those that are found
 abbrev pub onto : List Piece → Option (List Piece) → Option (List Piece)
@@ -26,16 +26,13 @@ Left (Some start) b y None at t = ⊥
 Left (Some start) b y (Some []) at t = ⊥
 Left (Some start) b y (Some (p ∷ ps)) at t = InPart (AreParts b y ps) b y start at p t
 
-plain_is : (y l : List ℕ) → mark_of y l ≡ mark.Plain → is_plain y l ≡ true
-plain_is y l e = ap plain_mark e
-
 -- a line that is no delimiter is the preamble's, or the part's
 plain_more : (begun : Option ℕ) (b y : List ℕ) (at : ℕ) (l : List ℕ) (t : List (List ℕ)) (r : Option (List Piece)) → mark_of y l ≡ mark.Plain → Left begun b y r (at + length l) t → Left begun b y r at (l ∷ t)
 plain_more None b y at l t r e h = record {
   preamble = l ∷ h.preamble;
   rest = h.rest;
   whole = ap (λ (u : List (List ℕ)). l ∷ u) h.whole;
-  plain = (plain_is y l e, h.plain);
+  plain = (mark_is y l mark.Plain e, h.plain);
   follows = let P : ℕ → Type 0 = λ n. Follows b y r n h.rest in subst P (omega arith) h.follows;
 }
 plain_more (Some start) b y at l t None e h = h
@@ -46,7 +43,7 @@ plain_more (Some start) b y at l t (Some (p ∷ ps)) e h =
       inner = l ∷ h.inner;
       rest = h.rest;
       whole = ap (λ (u : List (List ℕ)). l ∷ u) h.whole;
-      plain = (plain_is y l e, h.plain);
+      plain = (mark_is y l mark.Plain e, h.plain);
       start_is = h.start_is;
       end_is = h.end_is ∙ ap (λ (n : ℕ). end_of b start n h.rest) n;
       behind = let P : ℕ → Type 0 = λ n. AreParts b y ps n h.rest in subst P n h.behind;
@@ -71,12 +68,12 @@ begins b y at t r h = record { preamble = []; rest = t; whole = refl; plain = tt
 opens_more : (begun : Option ℕ) (b y : List ℕ) (at : ℕ) (l : List ℕ) (t : List (List ℕ)) (r : Option (List Piece)) → mark_of y l ≡ mark.Opens → Left (Some (at + length l)) b y r (at + length l) t → Left begun b y (onto (ending begun b at) r) at (l ∷ t)
 opens_more begun b y at l t None e h = absurd h
 opens_more begun b y at l t (Some []) e h = absurd h
-opens_more None b y at l t (Some (p ∷ ps)) e h = begins b y at (l ∷ t) (Some (p ∷ ps)) (record { line = l; lines = t; whole = refl; delimiter = e; part = h })
-opens_more (Some start) b y at l t (Some (p ∷ ps)) e h = ended b y start at l t (p ∷ ps) (record { line = l; lines = t; whole = refl; delimiter = e; part = h })
+opens_more None b y at l t (Some (p ∷ ps)) e h = begins b y at (l ∷ t) (Some (p ∷ ps)) (record { line = l; lines = t; whole = refl; delimiter = mark_is y l mark.Opens e; part = h })
+opens_more (Some start) b y at l t (Some (p ∷ ps)) e h = ended b y start at l t (p ∷ ps) (record { line = l; lines = t; whole = refl; delimiter = mark_is y l mark.Opens e; part = h })
 
 closes_here : (begun : Option ℕ) (b y : List ℕ) (at : ℕ) (l : List ℕ) (t : List (List ℕ)) → mark_of y l ≡ mark.Closes → Left begun b y (Some (ending begun b at)) at (l ∷ t)
-closes_here None b y at l t e = begins b y at (l ∷ t) (Some []) e
-closes_here (Some start) b y at l t e = ended b y start at l t [] e
+closes_here None b y at l t e = begins b y at (l ∷ t) (Some []) (mark_is y l mark.Closes e)
+closes_here (Some start) b y at l t e = ended b y start at l t [] (mark_is y l mark.Closes e)
 
 ends_inside : (b y : List ℕ) (start at : ℕ) → Left (Some start) b y (Some (piece start at ∷ [])) at []
 ends_inside b y start at = record { inner = []; rest = []; whole = refl; plain = tt; start_is = refl; end_is = omega arith; behind = tt }

@@ -1,14 +1,14 @@
 -- Parts under a part: where they stand, and their numbers.
-use Rattle.std.proofs.Common.{◌≡◌, ◌≢◌, ℕ, zero, suc, ◌+◌, ◌-◌, ◌<◌, ◌≤◌, ◌⊎◌, inl, inr, List, [], ◌∷◌, length, refl, sym, ap, subst, ◌∙◌, arith, Option, Some, None}
+use Rattle.std.proofs.Common.{◌≡◌, ℕ, zero, suc, ◌+◌, ◌<◌, ◌≤◌, ◌⊎◌, inl, inr, List, [], ◌∷◌, length, refl, sym, ap, subst, ◌∙◌, arith, Option, Some, None}
 use Rattle.std.specs.Prelude.{slice_range, Contains}
 use Rattle.mime_tree.specs.declared.head.Head.{Head}
 use Rattle.mime_tree.specs.declared.split.Piece.{Piece}
-use Rattle.mime_tree.specs.declared.part.Part.{Part, out-Part}
+use Rattle.mime_tree.specs.declared.part.Part.{Part}
 use Rattle.mime_tree.specs.Parts.{children, number_of, IsUnder, Itself, Below, IsWithin}
 use Rattle.mime_tree.specs.Splits.{AreBehind}
 use Rattle.mime_tree.specs.Heads.{IsHead, boundary_of, default_in}
-use Rattle.mime_tree.specs.Trees.{HasHead, IsLeaf, IsNode, AreTrees, ArePieces, IsPartOf, IsTree, IsMessage}
-use Rattle.mime_tree.proofs.TreeLemmas.{BodyWithin, body_within, behind_end}
+use Rattle.mime_tree.specs.Trees.{HasHead, IsLeaf, IsNode, AreTrees, ArePieces, IsPartOf, IsTree}
+use Rattle.mime_tree.proofs.TreeLemmas.{body_within, behind_end}
 use Rattle.mime_tree.proofs.BehindLemmas.{split_behind}
 use Rattle.mime_tree.proofs.HeadLemmas.{range_len}
 use Rattle.std.proofs.lemmas.Bool.{cases_lt}

@@ -1,20 +1,15 @@
 -- The parts of a multipart's body (RFC 2046 section 5.1.1): the lines of a preamble, then delimiter lines with a part
 -- behind each, up to a closing line or to the end. What stands behind the closing line is no part's.
-use Rattle.std.specs.Prelude.{◌≡◌, ℕ, ◌+◌, ◌<◌, ◌≤◌, Bool, true, false, List, [], ◌∷◌, ◌++◌, length, slice_range, Option, Some, None}
-use Rattle.text_words.specs.Cuts.{Each}
+use Rattle.std.specs.Prelude.{◌≡◌, ℕ, ◌+◌, ◌<◌, ◌≤◌, List, [], ◌∷◌, ◌++◌, length, slice_range, Option, Some, None}
 use Rattle.mail_header.specs.Lines.{without_end}
-use Rattle.mime_tree.specs.declared.split.Mark.{Mark}
 use Rattle.mime_tree.specs.declared.split.Mark.TheVariants as mark
 use Rattle.mime_tree.specs.declared.split.Piece.{Piece}
-use Rattle.mime_tree.specs.Delimiters.{lines, size, mark_of}
+use Rattle.mime_tree.specs.Delimiters.{lines, size, IsDelimiter, IsClosing, IsMarked}
 
-abbrev pub plain_mark : Mark → Bool
-plain_mark mark.Plain = true
-plain_mark _ = false
-
--- the line is neither a delimiter nor closing
-abbrev pub is_plain : List ℕ → List ℕ → Bool
-is_plain boundary line = plain_mark (mark_of boundary line)
+-- lines that are neither delimiter lines nor closing
+abbrev pub ArePlain : List ℕ → List (List ℕ) → Type 0
+ArePlain boundary [] = Unit {0}
+ArePlain boundary (l ∷ ls) = IsMarked boundary l mark.Plain × ArePlain boundary ls
 
 -- where the line end begins that stands before offset e of b and belongs to the delimiter line there; the part's octets
 -- begin at start
@@ -31,7 +26,7 @@ pub record InPart (Behind : ℕ → List (List ℕ) → Type 0) (b boundary : Li
   pub inner : List (List ℕ)
   pub rest : List (List ℕ)
   pub whole : t ≡ inner ++ rest
-  pub plain : Each (is_plain boundary) inner
+  pub plain : ArePlain boundary inner
   pub start_is : p.start ≡ start
   pub end_is : p.end ≡ end_of b start (at + size inner) rest
   pub behind : Behind (at + size inner) rest
@@ -41,13 +36,13 @@ pub record IsPart (Behind : ℕ → List (List ℕ) → Type 0) (b boundary : Li
   pub line : List ℕ
   pub lines : List (List ℕ)
   pub whole : t ≡ line ∷ lines
-  pub delimiter : mark_of boundary line ≡ mark.Opens
+  pub delimiter : IsDelimiter boundary line
   pub part : InPart Behind b boundary (at + length line) (at + length line) p lines
 
 -- a closing line, and what is no part's
 abbrev pub IsClosed : List ℕ → List (List ℕ) → Type 0
 IsClosed boundary [] = ⊥
-IsClosed boundary (l ∷ ls) = mark_of boundary l ≡ mark.Closes
+IsClosed boundary (l ∷ ls) = IsClosing boundary l
 
 -- nothing, or a closing line and what is no part's
 abbrev pub IsEnd : List ℕ → List (List ℕ) → Type 0
@@ -70,7 +65,7 @@ pub record HasParts (b boundary : List ℕ) (parts : Option (List Piece)) (at : 
   pub preamble : List (List ℕ)
   pub rest : List (List ℕ)
   pub whole : t ≡ preamble ++ rest
-  pub plain : Each (is_plain boundary) preamble
+  pub plain : ArePlain boundary preamble
   pub follows : Follows b boundary parts (at + size preamble) rest
 
 -- the octets are split so: None where no delimiter line comes

@@ -3,15 +3,15 @@ ghost use Rattle.mime_tree.specs.declared.part.Part.{Part};
 ghost use Rattle.mime_tree.specs.declared.split.Mark.{Mark};
 ghost use Rattle.mime_tree.specs.declared.split.Piece.{Piece};
 ghost use Rattle.mime_tree.specs.Bodies.{HasOctets};
-ghost use Rattle.mime_tree.specs.Delimiters.{IsMarked, mark_of};
+ghost use Rattle.mime_tree.specs.Delimiters.{IsMarked};
 ghost use Rattle.mime_tree.specs.Parts.{IsUnder, number_of};
 ghost use Rattle.mime_tree.specs.SameTrees.{Same};
 ghost use Rattle.mime_tree.specs.Splits.{IsSplit};
 ghost use Rattle.mime_tree.specs.Trees.{IsMessage};
 
-/// A line is marked in one way, by the grammar of delimiter and closing lines.
+/// A line is a delimiter line, a closing line or neither, and one of them alone.
 pub fn one_mark()
-    ensures marked { (boundary line : List ℕ) → IsMarked boundary line (mark_of boundary line) }
+    ensures some { (boundary line : List ℕ) → (m : Mark) × IsMarked boundary line m }
     ensures one { (boundary line : List ℕ) (m n : Mark) → IsMarked boundary line m → IsMarked boundary line n → m ≡ n }
 {}
 

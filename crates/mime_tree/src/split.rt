@@ -1,5 +1,5 @@
 ghost use Rattle.std.specs.Prelude.{◌≡◌, ◌≤◌, ◌<◌, ◌+◌, IfOk, OnOk, IfSome, MatchOption, None, Some, ◌++◌, length, ℕ, List};
-ghost use Rattle.mime_tree.specs.Delimiters as delimiters;
+ghost use Rattle.mime_tree.specs.LineReading as reading;
 ghost use Rattle.mime_tree.specs.Splits as splits;
 ghost use Rattle.mime_tree.specs.Splits.{IsSplit, AreBehind, ending};
 
@@ -29,9 +29,9 @@ pub struct Piece {
 struct InLine;
 
 impl Class<u8> for InLine {
-    ghost use Rattle.mime_tree.specs.Delimiters as delimiters;
+    ghost use Rattle.mime_tree.specs.LineReading as reading;
 
-    ghost test = { delimiters.is_in_line };
+    ghost test = { reading.is_in_line };
 
     fn has(&self, item: &u8) -> bool {
         *item != b'\n'
@@ -41,7 +41,7 @@ impl Class<u8> for InLine {
 /// How many octets the first line has, with its end.
 #[tactic(auto, using(crate::proofs::LineLemmas::line_counts))]
 fn line_len(bytes: &[u8]) -> usize
-    ensures value { result ≡ delimiters.line_len bytes.now }
+    ensures value { result ≡ reading.line_len bytes.now }
     ensures within { result ≤ length bytes.now }
 {
     let (line, rest) = cut(&InLine, bytes);
@@ -54,7 +54,7 @@ fn line_len(bytes: &[u8]) -> usize
 
 /// What the line is, by what stands behind the boundary.
 fn rest_mark(rest: &[u8]) -> Mark
-    ensures { result ≡ delimiters.rest_mark (Some rest.now) }
+    ensures { result ≡ reading.rest_mark (Some rest.now) }
 {
     if are_all(&White, rest) {
         return Mark::Opens;
@@ -72,9 +72,9 @@ fn rest_mark(rest: &[u8]) -> Mark
 }
 
 /// What the line is to a multipart with this boundary.
-#[tactic(auto, unfolding(crate::specs::Delimiters::mark_of))]
-pub fn mark_of(line: &[u8], boundary: &[u8]) -> Mark
-    ensures { result ≡ delimiters.mark_of boundary.now line.now }
+#[tactic(auto, unfolding(crate::specs::LineReading::mark_of))]
+fn mark_of(line: &[u8], boundary: &[u8]) -> Mark
+    ensures { result ≡ reading.mark_of boundary.now line.now }
 {
     match line.strip_prefix(b"--") {
         None => Mark::Plain,

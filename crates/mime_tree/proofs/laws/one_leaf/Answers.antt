@@ -1,4 +1,4 @@
-use Rattle.std.proofs.Common.{◌≡◌, ◌<◌, ◌≤◌, ℕ, List, length, arith, Some}
+use Rattle.std.proofs.Common.{ℕ, List, length, arith}
 use Rattle.mime_tree.specs.declared.part.Part.{Part}
 use Rattle.mime_tree.specs.Heads.{text_plain}
 use Rattle.mime_tree.specs.Parts.{IsUnder}

@@ -1,9 +1,8 @@
-use Rattle.std.proofs.Common.{◌≡◌, arith, sym, ◌∙◌, Some}
-use Rattle.mime_tree.specs.Delimiters.{mark_of}
-use Rattle.mime_tree.specs.Splits.{ending}
+use Rattle.std.proofs.Common.{◌≡◌, arith, sym, ◌∙◌}
+use Rattle.mime_tree.specs.LineReading.{mark_of}
 use Rattle.mime_tree.specs.declared.split.Mark.TheVariants as mark
 use Rattle.mime_tree.proofs.LineLemmas.{here}
-use Rattle.mime_tree.proofs.SplitLemmas.{split_begins, at_plain, at_opens, at_closes, at_end_inside, at_end_outside}
+use Rattle.mime_tree.proofs.SplitLemmas.{at_plain, at_opens, at_closes, at_end_inside, at_end_outside}
 use Rattle.mime_tree.proofs.BehindLemmas.{split_behind}
 use Rattle.mime_tree.proofs.split.split.Goals as goal
 use Rattle.mime_tree.proofs.split.split.Goals.{in-Plain, in-Opens+in_ok-end_part-in-Opens}

@@ -1,4 +1,4 @@
-use Rattle.std.proofs.Common.{length, arith, ◌≤◌, ◌+◌, ◌^◌, ◌<◌}
+use Rattle.std.proofs.Common.{length, arith}
 use Rattle.mime_tree.specs.Heads.{text_plain}
 use Rattle.mime_tree.proofs.UnderLemmas.{tree_within}
 use Rattle.mime_tree.proofs.tree.parse.Goals as goal

@@ -1,6 +1,6 @@
 use Rattle.std.proofs.Common.{◌≡◌, ◌≢◌, ◌<◌, ℕ, get_or, Some}
 use Rattle.mime_tree.specs.declared.part.Part.{Part}
-use Rattle.mime_tree.specs.Parts.{children, number_of, IsUnder}
+use Rattle.mime_tree.specs.Parts.{number_of, IsUnder}
 use Rattle.mime_tree.proofs.part.Part.+leaf.Given as goal
 
 abbrev pub decreases-leaf : goal.decreases-leaf
