@@ -7,3 +7,4 @@ pub mod BehindLemmas
 pub mod TreeLemmas
 pub mod OneTree
 pub mod UnderLemmas
+pub mod KindLemmas

@@ -36,7 +36,7 @@ under_first q c cs h = by (contains_cases c cs h.child h.is_there)
     by (inl e) = let P : Part → Type 0 = λ x. IsUnder q x in inl (subst P (sym e) h.under)
     by (inr i) = inr (record { child = h.child; is_there = i; under = h.under })
 
-none_under : (q : Part) → UnderOne q [] → ⊥
+pub none_under : (q : Part) → UnderOne q [] → ⊥
 none_under q h = omega (arith, h.is_there.1)
 
 -- what is under a part is the part, or under one directly in it
@@ -44,7 +44,7 @@ pub itself_or_below : (q p : Part) → IsUnder q p → (q ≡ p) ⊎ UnderOne q 
 itself_or_below q _ Itself = inl refl
 itself_or_below q _ (Below p c i u) = inr (record { child = c; is_there = i; under = u })
 
-under_leaf : (q p : Part) → children p ≡ [] → IsUnder q p → q ≡ p
+pub under_leaf : (q p : Part) → children p ≡ [] → IsUnder q p → q ≡ p
 under_leaf q p e u = by (itself_or_below q p u)
   where
     by : (q ≡ p) ⊎ UnderOne q (children p) → q ≡ p

@@ -1,11 +1,11 @@
 -- The tree of parts that octets are (RFC 2046 section 5.1).
-use Rattle.std.specs.Prelude.{◌≡◌, ℕ, zero, suc, ◌+◌, List, [], ◌∷◌, length, slice_range, Option, Some, None}
+use Rattle.std.specs.Prelude.{◌≡◌, ℕ, zero, suc, ◌+◌, true, false, List, [], ◌∷◌, length, slice_range, Option, Some, None}
 use Rattle.mime_tree.specs.declared.head.Head.{Head}
 use Rattle.mime_tree.specs.declared.split.Piece.{Piece}
 use Rattle.mime_tree.specs.declared.part.Part.{Part, out-Part}
 use Rattle.mime_tree.specs.Parts.{children}
 use Rattle.mime_tree.specs.Splits.{IsSplit}
-use Rattle.mime_tree.specs.Heads.{IsHead, boundary_of, default_in, leaf_media, leaf_charset, text_plain}
+use Rattle.mime_tree.specs.Heads.{IsHead, boundary_of, default_in, leaf_media, leaf_charset, is_multipart, text_plain}
 
 -- the part stands where its head says, and has what its header says
 pub record HasHead (h : Head) (p : Part) : Type 0 where
@@ -68,3 +68,15 @@ IsTree (suc more) b s e default first p next =
 -- the part is the message b, of which a part at depth 64 is a leaf
 abbrev pub IsMessage : List ℕ → Part → Type 0
 IsMessage b p = (next : ℕ) × IsTree 64 b 0 (length b) text_plain 1 p next
+
+-- a part with a number and no parts in it, which is no multipart
+pub record IsSingle (p : Part) : Type 0 where
+  pub number : ℕ
+  pub number_is : (out-Part p).number ≡ Some number
+  pub children : children p ≡ []
+  pub media : is_multipart (out-Part p).media ≡ false
+
+-- a multipart, which has no number
+pub record IsMulti (p : Part) : Type 0 where
+  pub number : (out-Part p).number ≡ None
+  pub media : is_multipart (out-Part p).media ≡ true

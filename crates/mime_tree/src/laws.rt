@@ -1,4 +1,4 @@
-ghost use Rattle.std.specs.Prelude.{◌≡◌, ◌≤◌, ℕ, Bool, List, Option, Some};
+ghost use Rattle.std.specs.Prelude.{◌≡◌, ◌≤◌, ◌⊎◌, ℕ, Bool, List, Option, Some};
 ghost use Rattle.mime_tree.specs.declared.part.Part.{Part};
 ghost use Rattle.mime_tree.specs.declared.split.Mark.{Mark};
 ghost use Rattle.mime_tree.specs.declared.split.Piece.{Piece};
@@ -7,7 +7,7 @@ ghost use Rattle.mime_tree.specs.Delimiters.{IsMarked};
 ghost use Rattle.mime_tree.specs.Parts.{IsUnder, number_of};
 ghost use Rattle.mime_tree.specs.SameTrees.{Same};
 ghost use Rattle.mime_tree.specs.Splits.{IsSplit};
-ghost use Rattle.mime_tree.specs.Trees.{IsMessage};
+ghost use Rattle.mime_tree.specs.Trees.{IsMessage, IsSingle, IsMulti};
 
 /// A line is a delimiter line, a closing line or neither, and one of them alone.
 pub fn one_mark()
@@ -30,6 +30,11 @@ pub fn one_leaf()
     ensures one { (b : List ℕ) (p q r : Part) (n : ℕ) → IsMessage b p → IsUnder q p → IsUnder r p → number_of q ≡ Some n → number_of r ≡ Some n → q ≡ r }
     ensures from_one { (b : List ℕ) (p q : Part) (n : ℕ) → IsMessage b p → IsUnder q p → number_of q ≡ Some n → 1 ≤ n }
     ensures no_gap { (b : List ℕ) (p q : Part) (m n : ℕ) → IsMessage b p → IsUnder q p → number_of q ≡ Some n → 1 ≤ m → m ≤ n → (r : Part) × IsUnder r p × (number_of r ≡ Some m) }
+{}
+
+/// A part of a message has a number and no parts in it, or it is a multipart and has none.
+pub fn two_kinds()
+    ensures { (b : List ℕ) (p q : Part) → IsMessage b p → IsUnder q p → IsSingle q ⊎ IsMulti q }
 {}
 
 /// No part spells two lists of octets.
