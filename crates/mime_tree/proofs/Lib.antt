@@ -1,0 +1,10 @@
+pub mod LineLemmas
+pub mod MarkLemmas
+pub mod HeadLemmas
+pub mod SplitLemmas
+pub mod OneSplit
+pub mod BehindLemmas
+pub mod TreeLemmas
+pub mod OneTree
+pub mod UnderLemmas
+pub mod KindLemmas

@@ -1,0 +1,98 @@
+-- Lines, octet by octet.
+use Rattle.std.proofs.Common.{◌≡◌, ◌≢◌, ℕ, suc, ◌+◌, ◌-◌, ◌<◌, ◌≤◌, Bool, true, false, List, [], ◌∷◌, length, take, drop, cond, refl, sym, ap, ◌∙◌, arith, eqb}
+use Rattle.std.specs.Prelude.{not}
+use Rattle.std.proofs.lemmas.Bool.{eqb-true}
+use Rattle.std.proofs.lemmas.List.{drop-drop, length-append, length-drop, length-take-le}
+use Rattle.text_words.specs.Cuts.{front, back}
+use Rattle.text_words.proofs.CutLemmas.{front_back}
+use Rattle.mail_header.specs.Lines.{without_end, is_line_end}
+use Rattle.mime_tree.specs.Delimiters.{onto, lines}
+use Rattle.mime_tree.specs.LineReading.{line_len, is_in_line}
+
+-- the first line is a cut at the first LF, and the LF
+line_cut : (t : List ℕ) → line_len t ≡ length (front is_in_line t) + (length (back is_in_line t) - (length (back is_in_line t) - 1))
+unfolding line_len front back
+line_cut [] = omega arith
+line_cut (c ∷ t) = by (eqb c 10) (line_cut t)
+  where
+    by : (q : Bool) → line_len t ≡ length (front is_in_line t) + (length (back is_in_line t) - (length (back is_in_line t) - 1)) → cond q 1 (suc (line_len t)) ≡ length (cond (not q) (c ∷ front is_in_line t) []) + (length (cond (not q) (back is_in_line t) (c ∷ t)) - (length (cond (not q) (back is_in_line t) (c ∷ t)) - 1))
+    by true h = omega arith
+    by false h = omega (arith, h)
+
+pub len_open : (t : List ℕ) → length (back is_in_line t) ≡ 0 → line_len t ≡ length (front is_in_line t)
+len_open t e = omega (arith, line_cut t)
+
+pub len_ended : (t : List ℕ) → length (back is_in_line t) ≢ 0 → line_len t ≡ length (front is_in_line t) + 1
+len_ended t e = omega (arith, line_cut t)
+
+pub len_within : (t : List ℕ) → line_len t ≤ length t
+unfolding line_len
+len_within [] = omega arith
+len_within (c ∷ t) = by (eqb c 10) (len_within t)
+  where
+    by : (q : Bool) → line_len t ≤ length t → cond q 1 (suc (line_len t)) ≤ length (c ∷ t)
+    by true h = omega arith
+    by false h = omega arith
+
+-- a cut loses nothing
+pub cut_total : (t : List ℕ) → length (front is_in_line t) + length (back is_in_line t) ≡ length t
+cut_total t = omega (arith, ap length (front_back is_in_line t), length-append (front is_in_line t) (back is_in_line t))
+
+pub ruleset line_counts = (len_open, len_ended, cut_total)
+
+-- a text loses no more than it has
+pub without_end_within : (t : List ℕ) → length (without_end t) ≤ length t
+without_end_within [] = omega arith
+without_end_within (c ∷ t) = by (is_line_end (c ∷ t)) (without_end_within t)
+  where
+    by : (q : Bool) → length (without_end t) ≤ length t → length (cond q [] (c ∷ without_end t)) ≤ length (c ∷ t)
+    by true h = omega arith
+    by false h = omega arith
+
+-- the first line, and the others
+abbrev pub FirstLine : List ℕ → Type 0
+FirstLine t = lines t ≡ take (line_len t) t ∷ lines (drop (line_len t) t)
+
+by_end : (c : ℕ) (t : List ℕ) → onto c (lines t) ≡ (c ∷ take (line_len t) t) ∷ lines (drop (line_len t) t) → FirstLine (c ∷ t)
+unfolding lines line_len
+by_end c t h = by (eqb c 10) refl
+  where
+    by : (q : Bool) → eqb c 10 ≡ q → cond q ((10 ∷ []) ∷ lines t) (onto c (lines t)) ≡ take (cond q 1 (suc (line_len t))) (c ∷ t) ∷ lines (drop (cond q 1 (suc (line_len t))) (c ∷ t))
+    by true e = ap (λ (x : ℕ). (x ∷ []) ∷ lines t) (sym (eqb-true c 10 e))
+    by false e = h
+
+lines_first : (c : ℕ) (t : List ℕ) → FirstLine (c ∷ t)
+unfolding lines line_len
+lines_first c [] = by_end c [] refl
+lines_first c (d ∷ t) = by_end c (d ∷ t) (ap (λ (ls : List (List ℕ)). onto c ls) (lines_first d t))
+
+len_some : (c : ℕ) (t : List ℕ) → 0 < line_len (c ∷ t)
+unfolding line_len
+len_some c t = by (eqb c 10)
+  where
+    by : (q : Bool) → 0 < cond q 1 (suc (line_len t))
+    by true = omega arith
+    by false = omega arith
+
+-- the line at offset at
+pub record Here (b : List ℕ) (at : ℕ) (line : List ℕ) (n : ℕ) : Type 0 where
+  pub first : lines (drop at b) ≡ line ∷ lines (drop (at + n) b)
+  pub counted : n ≡ length line
+  pub some : 0 < n
+  pub within : at + n ≤ length b
+
+pub here : (b : List ℕ) (at : ℕ) (rest line : List ℕ) (n : ℕ) → at < length b → rest ≡ drop at b → n ≡ line_len rest → line ≡ take n rest → Here b at line n
+here b at rest line n lt r e l = by rest r e l
+  where
+    by : (rest : List ℕ) → rest ≡ drop at b → n ≡ line_len rest → line ≡ take n rest → Here b at line n
+    by [] r e l = absurd (omega (arith, ap length r, length-drop at b))
+    by (c ∷ t) r e l =
+        let f = lines_first c t in
+        let w : n ≤ length (c ∷ t) = omega (arith, len_within (c ∷ t)) in
+        let d : drop n (c ∷ t) ≡ drop (at + n) b = ap (drop n) r ∙ drop-drop n at b in
+        record {
+          first = ap lines (sym r) ∙ f ∙ ap (λ (m : ℕ). take m (c ∷ t) ∷ lines (drop m (c ∷ t))) (sym e) ∙ ap (λ (u : List ℕ). u ∷ lines (drop n (c ∷ t))) (sym l) ∙ ap (λ (u : List ℕ). line ∷ lines u) d;
+          counted = sym (length-take-le n (c ∷ t) w) ∙ ap length (sym l);
+          some = omega (arith, len_some c t);
+          within = omega (arith, ap length r, length-drop at b);
+        }

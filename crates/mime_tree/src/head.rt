@@ -1,0 +1,157 @@
+ghost use Rattle.std.specs.Prelude.{◌≡◌, ◌≤◌, IfOk, MatchOption, None, Some, length, unwrap_or};
+ghost use Rattle.mime_tree.specs.Heads as heads;
+ghost use Rattle.mime_tree.specs.Heads.{IsHead};
+
+use crate::split::Piece;
+use gate_world::Bytes;
+use mail_header::fields;
+use mime_fields::{PartHeader, part_header};
+use std::alloc::{AllocError, Global};
+use text_words::{Class, cut, same_text};
+
+/// What a part's header says, and where the header and the body stand.
+#[derive(Drop)]
+pub struct Head {
+    pub header: PartHeader,
+    /// The media type that the header names, or else the default one.
+    pub media: Bytes,
+    pub start: usize,
+    /// The place behind the header, where the body begins.
+    pub body: usize,
+    pub end: usize,
+}
+
+/// The head of the part that stands there.
+#[tactic(auto, using(crate::proofs::HeadLemmas::header_within))]
+pub fn head_at(
+    alloc: Global,
+    bytes: &[u8],
+    place: Piece,
+    default: &[u8],
+) -> Result<Head, AllocError>
+    requires ordered { place.start ≤ place.end }
+    requires within { place.end ≤ length bytes.now }
+    ensures { IfOk result (λ h. IsHead bytes.now place.start place.end default.now h) }
+{
+    let text = &bytes[place.start..place.end];
+    let list = fields(alloc, text)?;
+    let header = part_header(alloc, &list)?;
+    let media = media_or(alloc, &header, default)?;
+    Ok(Head {
+        header,
+        media,
+        start: place.start,
+        body: place.start + list.end(),
+        end: place.end,
+    })
+}
+
+fn media_or(alloc: Global, header: &PartHeader, default: &[u8]) -> Result<Bytes, AllocError>
+    ensures { IfOk result (λ m. m ≡ unwrap_or header.now.media default.now) }
+{
+    match &header.media {
+        None => Bytes::copy_of(alloc, default),
+        Some(media) => Bytes::copy_of(alloc, media.as_slice()),
+    }
+}
+
+/// The octets before a slash.
+struct BeforeSlash;
+
+impl Class<u8> for BeforeSlash {
+    ghost use Rattle.mime_tree.specs.Heads as heads;
+
+    ghost test = { heads.is_no_slash };
+
+    fn has(&self, item: &u8) -> bool {
+        *item != b'/'
+    }
+}
+
+#[tactic(auto, unfolding(crate::specs::Heads::is_multipart))]
+fn is_multipart(media: &[u8]) -> bool
+    ensures { result ≡ heads.is_multipart media.now }
+{
+    let (kind, _) = cut(&BeforeSlash, media);
+    same_text(kind, b"multipart")
+}
+
+#[tactic(auto, unfolding(crate::specs::Heads::is_text))]
+fn is_text(media: &[u8]) -> bool
+    ensures { result ≡ heads.is_text media.now }
+{
+    let (kind, _) = cut(&BeforeSlash, media);
+    same_text(kind, b"text")
+}
+
+#[tactic(auto, unfolding(crate::specs::Heads::is_digest))]
+fn is_digest(media: &[u8]) -> bool
+    ensures { result ≡ heads.is_digest media.now }
+{
+    same_text(media, b"multipart/digest")
+}
+
+/// The media type of a leaf, which is no multipart.
+#[tactic(auto, unfolding(crate::specs::Heads::text_plain))]
+pub fn leaf_media(alloc: Global, media: Bytes) -> Result<Bytes, AllocError>
+    ensures { IfOk result (λ m. m ≡ heads.leaf_media media) }
+{
+    if is_multipart(media.as_slice()) {
+        Bytes::copy_of(alloc, b"text/plain")
+    } else {
+        Ok(media)
+    }
+}
+
+/// The charset of a leaf of this media type.
+#[tactic(auto, unfolding(crate::specs::Heads::us_ascii))]
+pub fn leaf_charset(
+    alloc: Global,
+    media: &[u8],
+    charset: Option<Bytes>,
+) -> Result<Option<Bytes>, AllocError>
+    ensures { IfOk result (λ c. c ≡ heads.leaf_charset media.now charset) }
+{
+    if !is_text(media) {
+        return Ok(charset);
+    }
+    match charset {
+        None => Ok(Some(Bytes::copy_of(alloc, b"us-ascii")?)),
+        Some(given) => Ok(Some(given)),
+    }
+}
+
+/// The default media type in a multipart of this one.
+#[tactic(auto, unfolding(crate::specs::Heads::text_plain, crate::specs::Heads::message_rfc822))]
+pub fn default_in(media: &[u8]) -> &'static [u8]
+    ensures { result.now ≡ heads.default_in media.now }
+{
+    if is_digest(media) {
+        b"message/rfc822"
+    } else {
+        b"text/plain"
+    }
+}
+
+/// The boundary of a multipart that has one.
+pub fn boundary_of(head: &Head) -> Option<&[u8]>
+    ensures { MatchOption result (heads.boundary_of head.now ≡ None) (λ y. heads.boundary_of head.now ≡ Some y.now) }
+{
+    if !is_multipart(head.media.as_slice()) {
+        return None;
+    }
+    match &head.header.boundary {
+        None => None,
+        Some(boundary) => filled(boundary.as_slice()),
+    }
+}
+
+/// The text, where it isn't empty.
+fn filled(text: &[u8]) -> Option<&[u8]>
+    ensures { MatchOption result (heads.filled (Some text.now) ≡ None) (λ t. heads.filled (Some text.now) ≡ Some t.now) }
+{
+    match text {
+        [] => None,
+        [_, ..] => Some(text),
+    }
+}

@@ -1,0 +1,157 @@
+ghost use Rattle.std.specs.Prelude.{◌≡◌, ◌≤◌, ◌<◌, ◌+◌, IfOk, OnOk, IfSome, MatchOption, None, Some, ◌++◌, length, ℕ, List};
+ghost use Rattle.mime_tree.specs.LineReading as reading;
+ghost use Rattle.mime_tree.specs.Splits as splits;
+ghost use Rattle.mime_tree.specs.Splits.{IsSplit, AreBehind, ending};
+
+use gate_world::Listed;
+use mail_header::lines::without_end;
+use std::alloc::{AllocError, Global};
+use text_words::{Class, White, are_all, cut};
+
+/// What a line is to a multipart.
+#[derive(Clone, Copy, PartialEq, Eq, Debug)]
+pub enum Mark {
+    Plain,
+    /// A delimiter line, behind which a part begins.
+    Opens,
+    /// A closing line, behind which no part stands.
+    Closes,
+}
+
+/// Where a part stands, in octets.
+#[derive(Clone, Copy, PartialEq, Eq, Debug)]
+pub struct Piece {
+    pub start: usize,
+    pub end: usize,
+}
+
+/// The octets that end no line.
+struct InLine;
+
+impl Class<u8> for InLine {
+    ghost use Rattle.mime_tree.specs.LineReading as reading;
+
+    ghost test = { reading.is_in_line };
+
+    fn has(&self, item: &u8) -> bool {
+        *item != b'\n'
+    }
+}
+
+/// How many octets the first line has, with its end.
+#[tactic(auto, using(crate::proofs::LineLemmas::line_counts))]
+fn line_len(bytes: &[u8]) -> usize
+    ensures value { result ≡ reading.line_len bytes.now }
+    ensures within { result ≤ length bytes.now }
+{
+    let (line, rest) = cut(&InLine, bytes);
+    if rest.is_empty() {
+        line.len()
+    } else {
+        line.len() + 1
+    }
+}
+
+/// What the line is, by what stands behind the boundary.
+fn rest_mark(rest: &[u8]) -> Mark
+    ensures { result ≡ reading.rest_mark (Some rest.now) }
+{
+    if are_all(&White, rest) {
+        return Mark::Opens;
+    }
+    match rest.strip_prefix(b"--") {
+        None => Mark::Plain,
+        Some(end) => {
+            if are_all(&White, end) {
+                Mark::Closes
+            } else {
+                Mark::Plain
+            }
+        }
+    }
+}
+
+/// What the line is to a multipart with this boundary.
+#[tactic(auto, unfolding(crate::specs::LineReading::mark_of))]
+fn mark_of(line: &[u8], boundary: &[u8]) -> Mark
+    ensures { result ≡ reading.mark_of boundary.now line.now }
+{
+    match line.strip_prefix(b"--") {
+        None => Mark::Plain,
+        Some(behind) => match behind.strip_prefix(boundary) {
+            None => Mark::Plain,
+            Some(rest) => rest_mark(rest),
+        },
+    }
+}
+
+/// Where the line end before a delimiter line begins, in a part's octets.
+#[tactic(auto, unfolding(crate::specs::Splits::before), using(crate::proofs::LineLemmas::without_end_within))]
+fn before(bytes: &[u8], start: usize, at: usize) -> usize
+    requires ordered { start ≤ at }
+    requires within { at ≤ length bytes.now }
+    ensures { result ≡ splits.before bytes.now start at }
+{
+    let text = &bytes[start..at];
+    start + without_end(text).len()
+}
+
+/// Ends a part, where there is one, at a delimiter line.
+fn end_part(
+    pieces: &mut Vec<Piece>,
+    bytes: &[u8],
+    begun: Option<usize>,
+    at: usize,
+) -> Result<(), AllocError>
+    requires ordered { IfSome begun (λ start. start ≤ at) }
+    requires within { at ≤ length bytes.now }
+    ensures { OnOk result (pieces.new.items ≡ pieces.old.items ++ ending begun bytes.now at) }
+{
+    match begun {
+        None => Ok(()),
+        Some(start) => {
+            let end = before(bytes, start, at);
+            pieces.push(Piece { start, end })?;
+            Ok(())
+        }
+    }
+}
+
+/// Where the parts of a multipart's body stand in it. None where no delimiter line comes; no part where the closing
+/// line comes first.
+pub fn split(
+    alloc: Global,
+    bytes: &[u8],
+    boundary: &[u8],
+) -> Result<Option<Listed<Piece>>, AllocError>
+    ensures split { IfOk result (λ parts. IsSplit bytes.now boundary.now parts) }
+    ensures behind { IfOk result (λ parts. IfSome parts (λ ps. AreBehind 0 ps (length bytes.now))) }
+{
+    let mut pieces = Vec::new(alloc);
+    let mut begun: Option<usize> = None;
+    let mut at = 0;
+    while at < bytes.len() {
+        let (_, rest) = bytes.split_at(at);
+        let len = line_len(rest);
+        let (line, _) = rest.split_at(len);
+        match mark_of(line, boundary) {
+            Mark::Plain => {}
+            Mark::Opens => {
+                end_part(&mut pieces, bytes, begun, at)?;
+                begun = Some(at + len);
+            }
+            Mark::Closes => {
+                end_part(&mut pieces, bytes, begun, at)?;
+                return Ok(Some(Listed::from_vec(pieces)));
+            }
+        }
+        at += len;
+    }
+    match begun {
+        None => Ok(None),
+        Some(start) => {
+            pieces.push(Piece { start, end: at })?;
+            Ok(Some(Listed::from_vec(pieces)))
+        }
+    }
+}

@@ -1,0 +1,4 @@
+mod bodies;
+mod examples;
+mod outline;
+mod trees;

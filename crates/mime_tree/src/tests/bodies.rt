@@ -1,0 +1,114 @@
+use crate::body::part_bytes;
+use crate::tree::parse;
+use gate_world::Bytes;
+use std::alloc::Global;
+use std::process::Abort;
+use std::test::Fail;
+
+/// A leaf: its number, where its header and its body begin and where it ends, and the octets that its body spells.
+type Leaf = (u64, usize, usize, usize, &'static [u8]);
+
+const MESSAGE: &[u8] =
+    b"From: =?utf-8?Q?Ren=C3=A9?= <rene@example.org>\nTo: Team: ann@example.org, \"B. Ob\" <bob@example.org>;\nSubject: =?iso-8859-1?Q?Caf=E9?=\n =?utf-8?B?IHBsYW4=?=\nMessage-ID: <m17@example.org>\nDate: Tue, 2 Jan 2024 10:00:00 +0100\nMIME-Version: 1.0\nContent-Type: multipart/mixed; boundary=aa\n\n--aa\nContent-Type: multipart/alternative; boundary=bb\n\n--bb\nContent-Type: text/plain; charset=iso-8859-1\nContent-Transfer-Encoding: quoted-printable\n\nCaf=E9 =\nat ten\n--bb\nContent-Type: text/html; charset=utf-8\n\n<p>Hi</p>\n--bb--\n--aa\nContent-Type: image/gif\nContent-Disposition: inline; filename=x.gif\nContent-ID: <i1>\nContent-Transfer-Encoding: base64\n\nR0lGODlh\n--aa\nContent-Type: application/pdf\nContent-Disposition: attachment; filename=r.pdf\nContent-Transfer-Encoding: base64\n\nJVBERg==\n--aa--\n";
+
+const LEAVES: [Leaf; 4] = [
+    (1, 345, 435, 450, b"Caf\xE9 at ten"),
+    (2, 456, 496, 505, b"<p>Hi</p>"),
+    (3, 518, 638, 646, b"GIF89a"),
+    (4, 652, 765, 773, b"%PDF"),
+];
+
+/// The same message with lines that end in CR LF.
+const CRLF_MESSAGE: &[u8] =
+    b"From: =?utf-8?Q?Ren=C3=A9?= <rene@example.org>\r\nTo: Team: ann@example.org, \"B. Ob\" <bob@example.org>;\r\nSubject: =?iso-8859-1?Q?Caf=E9?=\r\n =?utf-8?B?IHBsYW4=?=\r\nMessage-ID: <m17@example.org>\r\nDate: Tue, 2 Jan 2024 10:00:00 +0100\r\nMIME-Version: 1.0\r\nContent-Type: multipart/mixed; boundary=aa\r\n\r\n--aa\r\nContent-Type: multipart/alternative; boundary=bb\r\n\r\n--bb\r\nContent-Type: text/plain; charset=iso-8859-1\r\nContent-Transfer-Encoding: quoted-printable\r\n\r\nCaf=E9 =\r\nat ten\r\n--bb\r\nContent-Type: text/html; charset=utf-8\r\n\r\n<p>Hi</p>\r\n--bb--\r\n--aa\r\nContent-Type: image/gif\r\nContent-Disposition: inline; filename=x.gif\r\nContent-ID: <i1>\r\nContent-Transfer-Encoding: base64\r\n\r\nR0lGODlh\r\n--aa\r\nContent-Type: application/pdf\r\nContent-Disposition: attachment; filename=r.pdf\r\nContent-Transfer-Encoding: base64\r\n\r\nJVBERg==\r\n--aa--\r\n";
+
+const CRLF_LEAVES: [Leaf; 4] = [
+    (1, 358, 451, 467, b"Caf\xE9 at ten"),
+    (2, 475, 517, 526, b"<p>Hi</p>"),
+    (3, 542, 667, 675, b"GIF89a"),
+    (4, 683, 800, 808, b"%PDF"),
+];
+
+fn go_over_leaves(
+    rt: &impl Abort,
+    alloc: Global,
+    bytes: &[u8],
+    leaves: &[Leaf],
+) -> Result<(), Fail> {
+    let root = parse(alloc, bytes)?;
+    for leaf in leaves {
+        match root.leaf(leaf.0) {
+            None => assert!(rt; false),
+            Some(part) => {
+                assert_eq!(rt; part.head_start, leaf.1);
+                assert_eq!(rt; part.head_end, leaf.2);
+                assert_eq!(rt; part.start, leaf.2);
+                assert_eq!(rt; part.end, leaf.3);
+                let (octets, problem) = part_bytes(alloc, bytes, part)?;
+                assert_eq!(rt; octets.as_slice(), leaf.4);
+                assert!(rt; !problem);
+            }
+        }
+    }
+    assert!(rt; root.leaf(0).is_none());
+    assert!(rt; root.leaf(5).is_none());
+    Ok(())
+}
+
+#[test]
+fn leaves_stand_in_their_places(rt: HostRuntime) -> Result<(), Fail> {
+    go_over_leaves(&rt, rt.alloc(), MESSAGE, LEAVES.as_slice())?;
+    go_over_leaves(&rt, rt.alloc(), CRLF_MESSAGE, CRLF_LEAVES.as_slice())
+}
+
+fn is_text(given: &Option<Bytes>, text: &[u8]) -> bool {
+    match given {
+        None => false,
+        Some(bytes) => bytes.as_slice() == text,
+    }
+}
+
+#[test]
+fn leaves_have_what_their_headers_say(rt: HostRuntime) -> Result<(), Fail> {
+    let root = parse(rt.alloc(), MESSAGE)?;
+    assert!(rt; root.cid.is_none());
+    assert!(rt; root.disposition.is_none());
+    assert_eq!(rt; root.encoding.as_slice(), b"7bit".as_slice());
+    match root.leaf(3) {
+        None => assert!(rt; false),
+        Some(part) => {
+            assert_eq!(rt; part.media.as_slice(), b"image/gif".as_slice());
+            assert_eq!(rt; part.encoding.as_slice(), b"base64".as_slice());
+            assert!(rt; is_text(&part.disposition, b"inline"));
+            assert!(rt; is_text(&part.name, b"x.gif"));
+            assert!(rt; is_text(&part.cid, b"i1"));
+            assert!(rt; part.charset.is_none());
+            assert!(rt; part.language.is_none());
+            assert!(rt; part.location.is_none());
+        }
+    }
+    Ok(())
+}
+
+const HELD: &[u8] =
+    b"Content-Type: multipart/mixed; name=n\nContent-Disposition: attachment\nContent-ID: <i>\nContent-Language: de\nContent-Location: http://x/\nContent-Transfer-Encoding: base64\n\nJVBERg==";
+
+#[test]
+fn a_multipart_that_is_a_leaf_keeps_its_header(rt: HostRuntime) -> Result<(), Fail> {
+    let root = parse(rt.alloc(), HELD)?;
+    assert_eq!(rt; root.number, Some(1));
+    assert_eq!(rt; root.media.as_slice(), b"text/plain".as_slice());
+    assert_eq!(rt; root.encoding.as_slice(), b"base64".as_slice());
+    assert!(rt; is_text(&root.charset, b"us-ascii"));
+    assert!(rt; is_text(&root.disposition, b"attachment"));
+    assert!(rt; is_text(&root.name, b"n"));
+    assert!(rt; is_text(&root.cid, b"i"));
+    assert!(rt; is_text(&root.language, b"de"));
+    assert!(rt; is_text(&root.location, b"http://x/"));
+    if let Some(part) = root.leaf(1) {
+        let (octets, problem) = part_bytes(rt.alloc(), HELD, part)?;
+        assert_eq!(rt; octets.as_slice(), b"%PDF".as_slice());
+        assert!(rt; !problem);
+    }
+    Ok(())
+}

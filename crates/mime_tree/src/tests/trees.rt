@@ -1,0 +1,267 @@
+use crate::part::Part;
+use crate::tests::outline::go_over;
+use crate::tree::parse;
+use std::alloc::{AllocError, Global};
+use std::process::Abort;
+use std::test::Fail;
+
+/// Messages that are one part.
+const LEAVES: [(&[u8], &[u8]); 16] = [
+    (b"", b"1 text/plain;us-ascii[]"),
+    (b"\n", b"1 text/plain;us-ascii[]"),
+    (b"\r\nHi", b"1 text/plain;us-ascii[Hi]"),
+    (b"Subject: a\n", b"1 text/plain;us-ascii[]"),
+    (b"Subject: a", b"1 text/plain;us-ascii[]"),
+    (b"Subject: a\n\nHi\n", b"1 text/plain;us-ascii[Hi\n]"),
+    (
+        b"Content-Type: TEXT/Html\n\n<p>",
+        b"1 text/html;us-ascii[<p>]",
+    ),
+    (
+        b"Content-Type: text/html; charset=utf-8\r\n\r\n<p>",
+        b"1 text/html;utf-8[<p>]",
+    ),
+    (b"Content-Type: image/gif\n\nGIF", b"1 image/gif[GIF]"),
+    (b"Content-Type: nothing\n\na", b"1 text/plain;us-ascii[a]"),
+    (
+        b"Content-Type: message/rfc822\n\nContent-Type: multipart/mixed; boundary=a\n\n--a\n\nx\n--a--\n",
+        b"1 message/rfc822[Content-Type: multipart/mixed; boundary=a\n\n--a\n\nx\n--a--\n]",
+    ),
+    // no boundary, an empty one, one that never comes
+    (
+        b"Content-Type: multipart/mixed\n\n--a\n\nx\n--a--\n",
+        b"1 text/plain;us-ascii[--a\n\nx\n--a--\n]",
+    ),
+    (
+        b"Content-Type: multipart/mixed; boundary=\"\"\n\n--\n\nx\n----\n",
+        b"1 text/plain;us-ascii[--\n\nx\n----\n]",
+    ),
+    (
+        b"Content-Type: multipart/mixed; boundary=a\n\n-- a\n--b\n--aa\n--a-\n--a--x\n --a\nx--a",
+        b"1 text/plain;us-ascii[-- a\n--b\n--aa\n--a-\n--a--x\n --a\nx--a]",
+    ),
+    (
+        b"Content-Type: multipart/mixed; boundary=a; charset=utf-8\n\nx",
+        b"1 text/plain;utf-8[x]",
+    ),
+    // the boundary stands in the header alone
+    (
+        b"Content-Type: multipart/mixed; boundary=a\n--a\n",
+        b"1 text/plain;us-ascii[]",
+    ),
+];
+
+/// Multiparts, each with the boundary a.
+const MULTIPARTS: [(&[u8], &[u8]); 18] = [
+    (
+        b"Content-Type: multipart/mixed; boundary=a\n\n--a\n\nx\n--a\n\ny\n--a--\n",
+        b"- multipart/mixed(1 text/plain;us-ascii[x]2 text/plain;us-ascii[y])",
+    ),
+    (
+        b"Content-Type: multipart/mixed; boundary=a\r\n\r\n--a\r\n\r\nx\r\n--a\r\n\r\ny\r\n--a--\r\n",
+        b"- multipart/mixed(1 text/plain;us-ascii[x]2 text/plain;us-ascii[y])",
+    ),
+    // a line end of the part's own, and lines of both kinds
+    (
+        b"Content-Type: multipart/mixed; boundary=a\n\n--a\n\nx\r\n\n--a\r\n\r\ny\n\r\n--a--\n",
+        b"- multipart/mixed(1 text/plain;us-ascii[x\r\n]2 text/plain;us-ascii[y\n])",
+    ),
+    // a CR alone ends no line
+    (
+        b"Content-Type: multipart/mixed; boundary=a\n\n--a\n\nx\r--a\n--a--",
+        b"- multipart/mixed(1 text/plain;us-ascii[x\r--a])",
+    ),
+    // white space behind the boundary, a CR among it
+    (
+        b"Content-Type: multipart/mixed; boundary=a\n\n--a \t\r\r\n\nx\n--a-- \t\r\r\nz",
+        b"- multipart/mixed(1 text/plain;us-ascii[x])",
+    ),
+    // other text there, or between the boundary and the dashes
+    (
+        b"Content-Type: multipart/mixed; boundary=a\n\n--a\n\nx\n--a b\n--a --\n--a---\n--ab\n--A\n--a--",
+        b"- multipart/mixed(1 text/plain;us-ascii[x\n--a b\n--a --\n--a---\n--ab\n--A])",
+    ),
+    // what stands before the first delimiter line and behind the closing one
+    (
+        b"Content-Type: multipart/mixed; boundary=a\n\nbefore\n\n--a\n\nx\n--a--\nbehind\n--a\n\ny\n--a--\n",
+        b"- multipart/mixed(1 text/plain;us-ascii[x])",
+    ),
+    // no closing line
+    (
+        b"Content-Type: multipart/mixed; boundary=a\n\n--a\n\nx\n--a\n\ny\n",
+        b"- multipart/mixed(1 text/plain;us-ascii[x]2 text/plain;us-ascii[y\n])",
+    ),
+    (
+        b"Content-Type: multipart/mixed; boundary=a\n\n--a",
+        b"- multipart/mixed(1 text/plain;us-ascii[])",
+    ),
+    // the closing line comes first
+    (
+        b"Content-Type: multipart/mixed; boundary=a\n\n--a--\n--a\n\nx\n--a--\n",
+        b"- multipart/mixed()",
+    ),
+    (
+        b"Content-Type: multipart/mixed; boundary=a; charset=utf-8\n\nbefore\n--a--",
+        b"- multipart/mixed;utf-8()",
+    ),
+    // parts without a header, without a body, with neither
+    (
+        b"Content-Type: multipart/mixed; boundary=a\n\n--a\nContent-Type: image/gif\n--a\n--a\n\n--a\n\n\n--a\n\n\n\n--a--\n",
+        b"- multipart/mixed(1 image/gif[]2 text/plain;us-ascii[]3 text/plain;us-ascii[]4 text/plain;us-ascii[]5 text/plain;us-ascii[\n])",
+    ),
+    // a delimiter line in a part's header ends the part
+    (
+        b"Content-Type: multipart/mixed; boundary=a\n\n--a\nContent-Type: image/gif;\n--a\n\nx\n--a--\n",
+        b"- multipart/mixed(1 image/gif[]2 text/plain;us-ascii[x])",
+    ),
+    // the default in a digest
+    (
+        b"Content-Type: MULTIPART/Digest; boundary=a\n\n--a\n\nSubject: x\n--a\nContent-Type: text/plain\n\ny\n--a\nContent-Type: ;\n\nz\n--a--\n",
+        b"- multipart/digest(1 message/rfc822[Subject: x]2 text/plain;us-ascii[y]3 message/rfc822[z])",
+    ),
+    // the default is a digest's for the parts directly in it alone
+    (
+        b"Content-Type: multipart/digest; boundary=a\n\n--a\nContent-Type: multipart/mixed; boundary=b\n\n--b\n\nx\n--a\n\ny\n--a--\n",
+        b"- multipart/digest(- multipart/mixed(1 text/plain;us-ascii[x])2 message/rfc822[y])",
+    ),
+    // a multipart that is a leaf in a digest
+    (
+        b"Content-Type: multipart/digest; boundary=a\n\n--a\nContent-Type: multipart/mixed\n\nx\n--a--\n",
+        b"- multipart/digest(1 text/plain;us-ascii[x])",
+    ),
+    // a message in a multipart is a leaf, whatever it has
+    (
+        b"Content-Type: multipart/mixed; boundary=a\n\n--a\nContent-Type: message/rfc822\n\nContent-Type: multipart/mixed; boundary=b\n\n--b\n\nx\n--b--\n--a--\n",
+        b"- multipart/mixed(1 message/rfc822[Content-Type: multipart/mixed; boundary=b\n\n--b\n\nx\n--b--])",
+    ),
+    // the transfer encoding of a multipart is passed over
+    (
+        b"Content-Type: multipart/mixed; boundary=a\nContent-Transfer-Encoding: base64\n\n--a\n\nx\n--a--\n",
+        b"- multipart/mixed(1 text/plain;us-ascii[x])",
+    ),
+];
+
+/// Multiparts in multiparts.
+const NESTED: [(&[u8], &[u8]); 8] = [
+    // the outer delimiter ends the inner part
+    (
+        b"Content-Type: multipart/mixed; boundary=a\n\n--a\nContent-Type: multipart/mixed; boundary=b\n\n--b\n\nx\n--a\n\ny\n--a--\n",
+        b"- multipart/mixed(- multipart/mixed(1 text/plain;us-ascii[x])2 text/plain;us-ascii[y])",
+    ),
+    // the outer closing line ends it too
+    (
+        b"Content-Type: multipart/mixed; boundary=a\n\n--a\nContent-Type: multipart/mixed; boundary=b\n\n--b\n\nx\n--a--\n--b\n\ny\n--b--\n",
+        b"- multipart/mixed(- multipart/mixed(1 text/plain;us-ascii[x]))",
+    ),
+    // inner delimiter lines outside the inner multipart are text
+    (
+        b"Content-Type: multipart/mixed; boundary=a\n\n--b\n--a\n\nx\n--b\n\ny\n--a--\n",
+        b"- multipart/mixed(1 text/plain;us-ascii[x\n--b\n\ny])",
+    ),
+    // boundaries of which one is the other's front
+    (
+        b"Content-Type: multipart/mixed; boundary=a\n\n--a\nContent-Type: multipart/mixed; boundary=ab\n\n--ab\n\nx\n--ab\n\ny\n--ab--\n--a\n\nz\n--a--\n",
+        b"- multipart/mixed(- multipart/mixed(1 text/plain;us-ascii[x]2 text/plain;us-ascii[y])3 text/plain;us-ascii[z])",
+    ),
+    (
+        b"Content-Type: multipart/mixed; boundary=ab\n\n--ab\nContent-Type: multipart/mixed; boundary=a\n\n--a\n\nx\n--ab\n\ny\n--ab--\n",
+        b"- multipart/mixed(- multipart/mixed(1 text/plain;us-ascii[x])2 text/plain;us-ascii[y])",
+    ),
+    // the outer closing line is the inner boundary's delimiter line
+    (
+        b"Content-Type: multipart/mixed; boundary=a\n\n--a\nContent-Type: multipart/mixed; boundary=\"a--\"\n\n--a--\n\nx\n",
+        b"- multipart/mixed(1 text/plain;us-ascii[])",
+    ),
+    // one boundary for both
+    (
+        b"Content-Type: multipart/mixed; boundary=a\n\n--a\nContent-Type: multipart/mixed; boundary=a\n\n--a\n\nx\n--a--\n--a--\n",
+        b"- multipart/mixed(1 text/plain;us-ascii[]2 text/plain;us-ascii[x])",
+    ),
+    // numbers go on behind the inner multipart, also one with no parts
+    (
+        b"Content-Type: multipart/mixed; boundary=a\n\n--a\n\nw\n--a\nContent-Type: multipart/related; boundary=b\n\n--b--\n--a\nContent-Type: multipart/alternative; boundary=c\n\n--c\n\nx\n--c\n\ny\n--c--\n--a\n\nz\n--a--\n",
+        b"- multipart/mixed(1 text/plain;us-ascii[w]- multipart/related()- multipart/alternative(2 text/plain;us-ascii[x]3 text/plain;us-ascii[y])4 text/plain;us-ascii[z])",
+    ),
+];
+
+#[test]
+fn messages_of_one_part_are_leaves(rt: HostRuntime) -> Result<(), Fail> {
+    go_over(&rt, rt.alloc(), LEAVES.as_slice())
+}
+
+#[test]
+fn multiparts_are_split_at_delimiter_lines(rt: HostRuntime) -> Result<(), Fail> {
+    go_over(&rt, rt.alloc(), MULTIPARTS.as_slice())
+}
+
+#[test]
+fn multiparts_stand_in_multiparts(rt: HostRuntime) -> Result<(), Fail> {
+    go_over(&rt, rt.alloc(), NESTED.as_slice())
+}
+
+fn push_pair(text: &mut Vec<u8>, level: u8) -> Result<(), AllocError> {
+    text.push(b'0' + level / 10 % 10)?;
+    text.push(b'0' + level % 10)?;
+    Ok(())
+}
+
+/// A multipart in each of so many others, each with a boundary of its own.
+fn nested(alloc: Global, levels: u8) -> Result<Vec<u8>, AllocError> {
+    let mut text = Vec::new(alloc);
+    for level in 0..levels {
+        text.extend_from_slice(b"Content-Type: multipart/mixed; boundary=")?;
+        push_pair(&mut text, level)?;
+        text.extend_from_slice(b"\n\n--")?;
+        push_pair(&mut text, level)?;
+        text.push(b'\n')?;
+    }
+    text.extend_from_slice(b"\nHi")?;
+    Ok(text)
+}
+
+/// The part under so many others, each the first in the one above.
+fn part_below(part: &Part, levels: u8) -> &Part {
+    let mut below = part;
+    for _ in 0..levels {
+        match below.children.as_slice().first() {
+            None => {}
+            Some(child) => below = child,
+        }
+    }
+    below
+}
+
+fn body_of<'a>(bytes: &'a [u8], part: &Part) -> &'a [u8] {
+    match bytes.get(part.start..part.end) {
+        None => b"?",
+        Some(body) => body,
+    }
+}
+
+#[test]
+fn parts_at_depth_64_are_leaves(rt: HostRuntime) -> Result<(), Fail> {
+    let text = nested(rt.alloc(), 100)?;
+    let root = parse(rt.alloc(), text.as_slice())?;
+    let above = part_below(&root, 63);
+    assert_eq!(rt; above.number, None);
+    assert_eq!(rt; above.children.len(), 1);
+    assert_eq!(rt; above.media.as_slice(), b"multipart/mixed".as_slice());
+    let leaf = part_below(&root, 64);
+    assert_eq!(rt; leaf.number, Some(1));
+    assert_eq!(rt; leaf.children.len(), 0);
+    assert_eq!(rt; leaf.media.as_slice(), b"text/plain".as_slice());
+    // 36 levels of 49 octets, less the 44 of the first header, and the last part of 3
+    assert_eq!(rt; body_of(text.as_slice(), leaf).len(), 1723);
+    Ok(())
+}
+
+#[test]
+fn parts_above_depth_64_are_split(rt: HostRuntime) -> Result<(), Fail> {
+    let text = nested(rt.alloc(), 64)?;
+    let root = parse(rt.alloc(), text.as_slice())?;
+    let leaf = part_below(&root, 64);
+    assert_eq!(rt; leaf.number, Some(1));
+    assert_eq!(rt; leaf.media.as_slice(), b"text/plain".as_slice());
+    assert_eq!(rt; body_of(text.as_slice(), leaf), b"Hi".as_slice());
+    Ok(())
+}

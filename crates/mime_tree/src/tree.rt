@@ -1,0 +1,145 @@
+ghost use Rattle.std.specs.Prelude.{◌≡◌, ◌≤◌, ◌<◌, ◌+◌, ◌-◌, ◌^◌, ℕ, IfOk, IfSome, None, Some, length, slice_range};
+ghost use Rattle.mime_tree.specs.declared.part.Part.{Part, out-Part};
+ghost use Rattle.mime_tree.specs.Heads as heads;
+ghost use Rattle.mime_tree.specs.Parts.{IsUnder, IsWithin};
+ghost use Rattle.mime_tree.specs.Splits.{AreBehind};
+ghost use Rattle.mime_tree.specs.Trees.{ArePieces, IsLeaf, IsNode, IsTree, IsMessage};
+
+use crate::head::{Head, boundary_of, default_in, head_at, leaf_charset, leaf_media};
+use crate::part::Part;
+use crate::split::{Piece, split};
+use gate_world::Listed;
+use std::alloc::{AllocError, Global};
+
+/// The depth at which each part is a leaf. The root is at depth 0.
+const MAX_DEPTH: usize = 64;
+
+/// The tree of the octets of a message, which may be any.
+#[tactic(auto, unfolding(crate::specs::Heads::text_plain))]
+pub fn parse(alloc: Global, bytes: &[u8]) -> Result<Part, AllocError>
+    ensures message { IfOk result (λ p. IsMessage bytes.now p) }
+    ensures within { IfOk result (λ p. (q : Part) → IsUnder q p → IsWithin q bytes.now) }
+{
+    let place = Piece {
+        start: 0,
+        end: bytes.len(),
+    };
+    let (part, _) = part_at(alloc, bytes, place, b"text/plain", MAX_DEPTH, 1)?;
+    Ok(part)
+}
+
+/// The part that stands there, and the number behind its leaves'.
+fn part_at(
+    alloc: Global,
+    bytes: &[u8],
+    place: Piece,
+    default: &[u8],
+    more: usize,
+    first: u64,
+) -> Result<(Part, u64), AllocError>
+    requires ordered { place.start ≤ place.end }
+    requires within { place.end ≤ length bytes.now }
+    requires room { first + (place.end - place.start) ≤ 2 ^ 63 }
+    ensures tree { IfOk result (λ r. IsTree more bytes.now place.start place.end default.now first r.0 r.1) }
+    ensures numbers { IfOk result (λ r. r.1 ≤ first + (place.end - place.start) + 1) }
+{
+    let head = head_at(alloc, bytes, place, default)?;
+    if more == 0 {
+        return Ok((leaf(alloc, head, first)?, first + 1));
+    }
+    match pieces_of(alloc, bytes, &head)? {
+        None => Ok((leaf(alloc, head, first)?, first + 1)),
+        Some(pieces) => {
+            let mut children = Vec::new(alloc);
+            let mut next = first;
+            for piece in pieces.as_slice() {
+                let place = Piece {
+                    start: head.body + piece.start,
+                    end: head.body + piece.end,
+                };
+                let default = default_in(head.media.as_slice());
+                let (child, after) = part_at(alloc, bytes, place, default, more - 1, next)?;
+                children.push(child)?;
+                next = after;
+            }
+            Ok((node(head, children), next))
+        }
+    }
+}
+
+/// The pieces of the body, where it is split by a boundary and a delimiter line comes.
+fn pieces_of(alloc: Global, bytes: &[u8], head: &Head) -> Result<Option<Listed<Piece>>, AllocError>
+    requires ordered { head.now.body ≤ head.now.end }
+    requires within { head.now.end ≤ length bytes.now }
+    ensures pieces { IfOk result (λ qs. ArePieces (heads.boundary_of head.now) (slice_range bytes.now head.now.body head.now.end) qs) }
+    ensures behind { IfOk result (λ qs. IfSome qs (λ ps. AreBehind 0 ps (head.now.end - head.now.body))) }
+{
+    match boundary_of(head) {
+        None => Ok(None),
+        Some(boundary) => {
+            let body = &bytes[head.body..head.end];
+            split(alloc, body, boundary)
+        }
+    }
+}
+
+/// A part with no parts in it.
+fn leaf(alloc: Global, head: Head, number: u64) -> Result<Part, AllocError>
+    ensures { IfOk result (λ p. IsLeaf head number p (number + 1)) }
+{
+    let Head {
+        header,
+        media,
+        start,
+        body,
+        end,
+    } = head;
+    let media = leaf_media(alloc, media)?;
+    let charset = leaf_charset(alloc, media.as_slice(), header.charset)?;
+    Ok(Part {
+        number: Some(number),
+        media,
+        charset,
+        disposition: header.disposition,
+        name: header.name,
+        cid: header.cid,
+        language: header.language,
+        location: header.location,
+        encoding: header.encoding,
+        start: body,
+        end,
+        head_start: start,
+        head_end: body,
+        children: Vec::new(alloc),
+    })
+}
+
+/// A multipart.
+fn node(head: Head, children: Vec<Part>) -> Part
+    ensures node { IsNode head result }
+    ensures children { (out-Part result).children.items ≡ children.items }
+{
+    let Head {
+        header,
+        media,
+        start,
+        body,
+        end,
+    } = head;
+    Part {
+        number: None,
+        media,
+        charset: header.charset,
+        disposition: header.disposition,
+        name: header.name,
+        cid: header.cid,
+        language: header.language,
+        location: header.location,
+        encoding: header.encoding,
+        start: body,
+        end,
+        head_start: start,
+        head_end: body,
+        children,
+    }
+}
