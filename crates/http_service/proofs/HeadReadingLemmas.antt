@@ -14,9 +14,6 @@ use Rattle.http_service.specs.Heads.{Begins}
 use Rattle.http_service.specs.Reading.{Fills, Grows}
 use Rattle.http_service.specs.HeadReading.{window, Came, CameAndEnded, ReadsHead, Looks, EndsInside}
 
-pub came_none : (before : List ℕ) → Came before before []
-came_none before = record { gave = []; asks = record { kind = search rules; gave_is = refl }; octets = sym (append-nil before); waited = inl refl }
-
 -- one piece more
 came_more : {before now : List ℕ} {es : List Event} (after piece : List ℕ) → Came before now es → HasNoRequest now → after ≡ now ++ piece → Came before after (es ++ ClientGave piece ∷ [])
 came_more {before} {now} {es} after piece came open_still grew =
@@ -57,14 +54,6 @@ fill_failed {before} {now} {xs} ys after error.FrontFault came open_still short 
   subst (λ (l : List ℕ). length l < MAX_HEAD_OCTETS) (sym same) short,
 )
 fill_failed {before} {now} {xs} ys after error.Memory came open_still short (gave, asks) = (came.gave ++ gave, xs ++ ys, Asks-append came.asks asks, inl refl)
-
-pub look_failed : {before : List ℕ} {es : List Event} (now : List ℕ) (e : HttpError) → Came before now es → Looks (window now) (Err e) → ReadsHead before now (Err e) es
-look_failed now error.BadHead came looks = (inl came, looks)
-look_failed now error.HeadTooLarge came looks = absurd looks
-look_failed now (error.TooLarge limit) came looks = absurd looks
-look_failed now error.Short came looks = absurd looks
-look_failed now error.FrontFault came looks = absurd looks
-look_failed {es = es} now error.Memory came looks = (came.gave, es, came.asks, inl refl)
 
 pub whole_window : (octets : List ℕ) → length octets ≤ MAX_HEAD_OCTETS → window octets ≡ octets
 whole_window octets few = take_all MAX_HEAD_OCTETS octets few
