@@ -1,12 +1,11 @@
 -- Reading so many octets.
-use Rattle.std.proofs.Common.{◌≡◌, ◌<◌, ◌≤◌, ◌+◌, ◌-◌, ◌++◌, ℕ, Bool, true, false, List, [], ◌∷◌, length, take, drop, refl, sym, ap, ◌∙◌, subst, arith, append_assoc, length-append, length-take, inl, Ok, Err, rules}
-use Rattle.std.proofs.lemmas.List.{append-nil, take-append-drop}
+use Rattle.std.proofs.Common.{◌≡◌, ◌<◌, ◌≤◌, ◌+◌, ◌-◌, ◌++◌, ℕ, Bool, true, false, List, [], ◌∷◌, length, refl, sym, ap, ◌∙◌, subst, arith, append_assoc, length-append, inl, Ok, Err}
 use Rattle.gate_world.specs.declared.event.Event.{Event}
 use Rattle.gate_world.specs.declared.event.Event.TheVariants.{ClientGave}
 use Rattle.gate_world.proofs.Joins.{Asks-append, Asks-one}
 use Rattle.http_service.specs.declared.error.HttpError.{HttpError}
 use Rattle.http_service.specs.declared.error.HttpError.TheVariants as error
-use Rattle.http_service.specs.Reading.{Fills, Grows, Gained, FillsTo, ReadsLength}
+use Rattle.http_service.specs.Reading.{Fills, Grows, Gained, FillsTo}
 
 pub gained_more : {a b : List ℕ} {xs : List Event} (ys : List Event) (c : List ℕ) → Gained a b xs → Gained b c ys → Gained a c (xs ++ ys)
 gained_more {a} ys c first second =

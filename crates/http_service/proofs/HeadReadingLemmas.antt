@@ -1,7 +1,7 @@
 -- Reading a head, piece by piece.
-use Rattle.std.proofs.Common.{◌≡◌, ◌<◌, ◌≤◌, ◌+◌, ◌-◌, ◌++◌, ℕ, Bool, true, false, List, [], ◌∷◌, length, take, drop, refl, sym, ap, ◌∙◌, subst, arith, append_assoc, length-append, length-take, inl, inr, Ok, Err, rules}
+use Rattle.std.proofs.Common.{◌≡◌, ◌<◌, ◌≤◌, ◌+◌, ◌-◌, ◌++◌, ℕ, Bool, true, false, List, [], ◌∷◌, length, take, drop, refl, sym, ap, ◌∙◌, subst, arith, append_assoc, length-append, length-take, inl, inr, Ok, Err}
 use Rattle.std.proofs.Math.Seq.{take-append_seam}
-use Rattle.std.proofs.lemmas.List.{append-nil, take_all}
+use Rattle.std.proofs.lemmas.List.{take_all}
 use Rattle.gate_world.specs.declared.event.Event.{Event}
 use Rattle.gate_world.specs.declared.event.Event.TheVariants.{ClientGave}
 use Rattle.gate_world.proofs.Joins.{Asks-append, Asks-one}
@@ -12,7 +12,7 @@ use Rattle.http_service.specs.declared.error.HttpError.{HttpError}
 use Rattle.http_service.specs.declared.error.HttpError.TheVariants as error
 use Rattle.http_service.specs.Heads.{Begins}
 use Rattle.http_service.specs.Reading.{Fills, Grows}
-use Rattle.http_service.specs.HeadReading.{window, Came, CameAndEnded, ReadsHead, Looks, EndsInside}
+use Rattle.http_service.specs.HeadReading.{window, Came, CameAndEnded, ReadsHead, EndsInside}
 
 -- one piece more
 came_more : {before now : List ℕ} {es : List Event} (after piece : List ℕ) → Came before now es → HasNoRequest now → after ≡ now ++ piece → Came before after (es ++ ClientGave piece ∷ [])
