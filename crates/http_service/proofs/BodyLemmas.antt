@@ -1,15 +1,11 @@
 -- Reading so many octets.
-use Rattle.std.proofs.Common.{◌≡◌, ◌<◌, ◌≤◌, ◌+◌, ◌-◌, ◌++◌, ℕ, Bool, true, false, List, [], ◌∷◌, length, take, drop, refl, sym, ap, ◌∙◌, subst, arith, append_assoc, length-append, length-take, inl, Ok, Err, rules}
-use Rattle.std.proofs.lemmas.List.{append-nil, take-append-drop}
+use Rattle.std.proofs.Common.{◌≡◌, ◌<◌, ◌≤◌, ◌+◌, ◌-◌, ◌++◌, ℕ, Bool, true, false, List, [], ◌∷◌, length, refl, sym, ap, ◌∙◌, subst, arith, append_assoc, length-append, inl, Ok, Err}
 use Rattle.gate_world.specs.declared.event.Event.{Event}
 use Rattle.gate_world.specs.declared.event.Event.TheVariants.{ClientGave}
 use Rattle.gate_world.proofs.Joins.{Asks-append, Asks-one}
 use Rattle.http_service.specs.declared.error.HttpError.{HttpError}
 use Rattle.http_service.specs.declared.error.HttpError.TheVariants as error
-use Rattle.http_service.specs.Reading.{Fills, Grows, Gained, FillsTo, ReadsLength}
-
-pub gained_none : (before : List ℕ) → Gained before before []
-gained_none before = record { gave = []; asks = record { kind = search rules; gave_is = refl }; octets = sym (append-nil before) }
+use Rattle.http_service.specs.Reading.{Fills, Grows, Gained, FillsTo}
 
 pub gained_more : {a b : List ℕ} {xs : List Event} (ys : List Event) (c : List ℕ) → Gained a b xs → Gained b c ys → Gained a c (xs ++ ys)
 gained_more {a} ys c first second =
@@ -24,13 +20,6 @@ pub piece_gained : {before now : List ℕ} {xs : List Event} (ys : List Event) (
 piece_gained ys after false is gained fills = absurd cc
 piece_gained {before} {now} {xs} ys after true is gained (piece, one, grew) =
     subst (λ (l : List Event). Gained before after (xs ++ l)) (sym one) (gained_more (ClientGave piece ∷ []) after gained (record { gave = piece; asks = Asks-one piece; octets = grew }))
-
-pub short_of : {before now : List ℕ} {xs : List Event} (ys : List Event) (after : List ℕ) (came : Bool) (size : ℕ) → came ≡ false → Gained before now xs → length now < size → Fills now after (Ok came) ys → FillsTo size before after (Err error.Short) (xs ++ ys)
-short_of ys after true size is gained short fills = absurd cc
-short_of {before} {now} {xs} ys after false size is gained short (one, same) = (
-  (xs, ap (λ (l : List Event). xs ++ l) one, subst (λ (l : List ℕ). Gained before l xs) (sym same) gained),
-  subst (λ (l : List ℕ). length l < size) (sym same) short,
-)
 
 pub not_filled : {before now : List ℕ} {xs : List Event} (ys : List Event) (after : List ℕ) (e : HttpError) (size : ℕ) → Gained before now xs → length now < size → Fills now after (Err e) ys → FillsTo size before after (Err e) (xs ++ ys)
 not_filled ys after error.BadHead size gained short fills = absurd fills
@@ -50,24 +39,3 @@ enough now after held size true is same short (piece, grew, some, few) =
     let long : length after ≡ length now + length piece = ap length grew ∙ length-append now piece in
     let all : length held ≡ length now = ap length same in
     (omega (arith, long, few, short, all), omega (arith, long, few, short, some, all))
-
--- the octets that stand there begin with the body
-pub length_read : {before now : List ℕ} {es : List Event} (after body : List ℕ) (size : ℕ) → FillsTo size before now (Ok tt) es → body ≡ take size now → after ≡ drop size now → ReadsLength size before after (Ok body) es
-length_read {before} {now} after body size (gained, filled, no_more) is rest = (
-  now,
-  gained,
-  no_more,
-  sym (take-append-drop size now) ∙ (λ i. sym is i ++ sym rest i),
-  omega (arith, ap length is, length-take size now, filled),
-)
-
-pub length_wanting : {before now : List ℕ} {es : List Event} (after : List ℕ) (size : ℕ) → FillsTo size before now (Ok tt) es → ReadsLength size before after (Err error.Memory) es
-length_wanting {es = es} after size (gained, filled, no_more) = (gained.gave, es, gained.asks, inl refl)
-
-pub length_failed : (before now : List ℕ) (es : List Event) (e : HttpError) (size : ℕ) → FillsTo size before now (Err e) es → ReadsLength size before now (Err e) es
-length_failed before now es error.BadHead size fails = absurd fails
-length_failed before now es error.HeadTooLarge size fails = absurd fails
-length_failed before now es (error.TooLarge limit) size fails = absurd fails
-length_failed before now es error.Short size fails = fails
-length_failed before now es error.FrontFault size fails = fails
-length_failed before now es error.Memory size fails = fails

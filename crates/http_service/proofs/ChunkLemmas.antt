@@ -1,5 +1,5 @@
 -- Reading a chunked body, step by step.
-use Rattle.std.proofs.Common.{◌≡◌, ◌≢◌, ◌<◌, ◌≤◌, ◌+◌, ◌++◌, ℕ, List, [], ◌∷◌, length, rules, refl, sym, ap, ◌∙◌, subst, arith, append_assoc, inl, inr, Ok, Err, Result, All}
+use Rattle.std.proofs.Common.{◌≡◌, ◌≢◌, ◌<◌, ◌≤◌, ◌+◌, ◌++◌, ℕ, List, [], ◌∷◌, length, refl, sym, ap, ◌∙◌, subst, arith, append_assoc, inl, inr, Ok, Err, Result, All}
 use Rattle.std.proofs.lemmas.List.{append-nil}
 use Rattle.gate_world.specs.declared.event.Event.{Event}
 use Rattle.gate_world.specs.declared.event.Event.TheVariants.{ClientEnded, FrontFailed}
@@ -102,9 +102,6 @@ Gathered before after body events = (chunks : List Chunk) × All IsChunk chunks 
 -- and then a chunk's line that says this size
 abbrev pub LineRead : List ℕ → List ℕ → List ℕ → ℕ → List Event → Type 0
 LineRead before after body size events = (chunks : List Chunk) × (line : List ℕ) × All IsChunk chunks × Takes (texts_of chunks ++ line) before after events × (body ≡ content chunks) × IsPart Line line size × (length line ≤ MAX_HEAD_OCTETS)
-
-pub gathered_none : (before : List ℕ) → Gathered before before [] []
-gathered_none before = ([], search rules, record { gave = []; asks = record { kind = search rules; gave_is = refl }; octets = append-nil before }, refl)
 
 pub after_line : {a b : List ℕ} {xs : List Event} (body c : List ℕ) (size : ℕ) (ys : List Event) → Gathered a b body xs → ReadsPart Line b c (Ok size) ys → LineRead a c body size (xs ++ ys)
 after_line body c size ys (chunks, all, takes, is) reads =

@@ -1,7 +1,7 @@
 -- Reading a head, piece by piece.
-use Rattle.std.proofs.Common.{◌≡◌, ◌<◌, ◌≤◌, ◌+◌, ◌-◌, ◌++◌, ℕ, Bool, true, false, List, [], ◌∷◌, length, take, drop, refl, sym, ap, ◌∙◌, subst, arith, append_assoc, length-append, length-take, inl, inr, Ok, Err, rules}
+use Rattle.std.proofs.Common.{◌≡◌, ◌<◌, ◌≤◌, ◌+◌, ◌-◌, ◌++◌, ℕ, Bool, true, false, List, [], ◌∷◌, length, take, drop, refl, sym, ap, ◌∙◌, subst, arith, append_assoc, length-append, length-take, inl, inr, Ok, Err}
 use Rattle.std.proofs.Math.Seq.{take-append_seam}
-use Rattle.std.proofs.lemmas.List.{append-nil, take_all}
+use Rattle.std.proofs.lemmas.List.{take_all}
 use Rattle.gate_world.specs.declared.event.Event.{Event}
 use Rattle.gate_world.specs.declared.event.Event.TheVariants.{ClientGave}
 use Rattle.gate_world.proofs.Joins.{Asks-append, Asks-one}
@@ -12,10 +12,7 @@ use Rattle.http_service.specs.declared.error.HttpError.{HttpError}
 use Rattle.http_service.specs.declared.error.HttpError.TheVariants as error
 use Rattle.http_service.specs.Heads.{Begins}
 use Rattle.http_service.specs.Reading.{Fills, Grows}
-use Rattle.http_service.specs.HeadReading.{window, Came, CameAndEnded, ReadsHead, Looks, EndsInside}
-
-pub came_none : (before : List ℕ) → Came before before []
-came_none before = record { gave = []; asks = record { kind = search rules; gave_is = refl }; octets = sym (append-nil before); waited = inl refl }
+use Rattle.http_service.specs.HeadReading.{window, Came, CameAndEnded, ReadsHead, EndsInside}
 
 -- one piece more
 came_more : {before now : List ℕ} {es : List Event} (after piece : List ℕ) → Came before now es → HasNoRequest now → after ≡ now ++ piece → Came before after (es ++ ClientGave piece ∷ [])
@@ -57,14 +54,6 @@ fill_failed {before} {now} {xs} ys after error.FrontFault came open_still short 
   subst (λ (l : List ℕ). length l < MAX_HEAD_OCTETS) (sym same) short,
 )
 fill_failed {before} {now} {xs} ys after error.Memory came open_still short (gave, asks) = (came.gave ++ gave, xs ++ ys, Asks-append came.asks asks, inl refl)
-
-pub look_failed : {before : List ℕ} {es : List Event} (now : List ℕ) (e : HttpError) → Came before now es → Looks (window now) (Err e) → ReadsHead before now (Err e) es
-look_failed now error.BadHead came looks = (inl came, looks)
-look_failed now error.HeadTooLarge came looks = absurd looks
-look_failed now (error.TooLarge limit) came looks = absurd looks
-look_failed now error.Short came looks = absurd looks
-look_failed now error.FrontFault came looks = absurd looks
-look_failed {es = es} now error.Memory came looks = (came.gave, es, came.asks, inl refl)
 
 pub whole_window : (octets : List ℕ) → length octets ≤ MAX_HEAD_OCTETS → window octets ≡ octets
 whole_window octets few = take_all MAX_HEAD_OCTETS octets few

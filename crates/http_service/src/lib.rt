@@ -2,12 +2,16 @@
 #![tactic(auto)]
 
 mod body;
+#[cfg(test)]
+mod body_tests;
 mod chunks;
 mod error;
 mod fields;
 mod head;
 mod head_end;
 mod head_reading;
+#[cfg(test)]
+mod head_tests;
 mod part;
 mod part_reading;
 mod response;
@@ -16,7 +20,7 @@ mod response_tests;
 mod response_text;
 mod spare;
 #[cfg(test)]
-mod tests;
+mod test_client;
 
 pub use body::read_body;
 pub use error::HttpError;

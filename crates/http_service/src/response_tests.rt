@@ -1,79 +1,120 @@
 use crate::response_text::response_head;
+use crate::test_client::{given_and_taken, world_of};
+use crate::write_response;
 use http::StatusCode;
+use std::alloc::Global;
+use std::process::Abort;
 use std::test::Fail;
+
+/// Status codes, the lengths and the types of bodies, and the heads of their responses.
+const HEADS: [(u16, u64, &[u8], &[u8]); 10] = [
+    (
+        404,
+        0,
+        b"text/plain",
+        b"HTTP/1.1 404 Not Found\r\nConnection: close\r\nCache-Control: no-store\r\nContent-Length: 0\r\n\r\n",
+    ),
+    (
+        400,
+        58,
+        b"application/problem+json",
+        b"HTTP/1.1 400 Bad Request\r\nConnection: close\r\nCache-Control: no-store\r\nContent-Length: 58\r\nContent-Type: application/problem+json\r\n\r\n",
+    ),
+    (
+        401,
+        0,
+        b"",
+        b"HTTP/1.1 401 Unauthorized\r\nConnection: close\r\nCache-Control: no-store\r\nWWW-Authenticate: Bearer\r\nContent-Length: 0\r\n\r\n",
+    ),
+    (
+        200,
+        50_000_000,
+        b"application/json",
+        b"HTTP/1.1 200 OK\r\nConnection: close\r\nCache-Control: no-store\r\nContent-Length: 50000000\r\nContent-Type: application/json\r\n\r\n",
+    ),
+    (
+        201,
+        1,
+        b"a",
+        b"HTTP/1.1 201 Created\r\nConnection: close\r\nCache-Control: no-store\r\nContent-Length: 1\r\nContent-Type: a\r\n\r\n",
+    ),
+    (
+        405,
+        0,
+        b"",
+        b"HTTP/1.1 405 Method Not Allowed\r\nConnection: close\r\nCache-Control: no-store\r\nContent-Length: 0\r\n\r\n",
+    ),
+    (
+        413,
+        u64::MAX,
+        b"b",
+        b"HTTP/1.1 413 Payload Too Large\r\nConnection: close\r\nCache-Control: no-store\r\nContent-Length: 18446744073709551615\r\nContent-Type: b\r\n\r\n",
+    ),
+    (
+        431,
+        0,
+        b"",
+        b"HTTP/1.1 431 Request Header Fields Too Large\r\nConnection: close\r\nCache-Control: no-store\r\nContent-Length: 0\r\n\r\n",
+    ),
+    (
+        503,
+        0,
+        b"",
+        b"HTTP/1.1 503 Service Unavailable\r\nConnection: close\r\nCache-Control: no-store\r\nContent-Length: 0\r\n\r\n",
+    ),
+    (
+        599,
+        0,
+        b"",
+        b"HTTP/1.1 599 \r\nConnection: close\r\nCache-Control: no-store\r\nContent-Length: 0\r\n\r\n",
+    ),
+];
+
+fn expect_head(rt: &impl Abort, alloc: Global, row: &(u16, u64, &[u8], &[u8])) -> Result<(), Fail> {
+    let status = StatusCode::from_u16(row.0)?;
+    let head = response_head(alloc, status, row.1, row.2)?;
+    assert_eq!(rt; head.as_slice(), row.3);
+    Ok(())
+}
+
+fn expect_heads(
+    rt: &impl Abort,
+    alloc: Global,
+    rows: &[(u16, u64, &[u8], &[u8])],
+) -> Result<(), Fail> {
+    for row in rows {
+        expect_head(rt, alloc, row)?;
+    }
+    Ok(())
+}
 
 #[test]
 fn responses_have_heads(rt: HostRuntime) -> Result<(), Fail> {
-    let rows: [(u16, u64, &[u8], &[u8]); 10] = [
-        (
-            404,
-            0,
-            b"text/plain",
-            b"HTTP/1.1 404 Not Found\r\nConnection: close\r\nCache-Control: no-store\r\nContent-Length: 0\r\n\r\n",
-        ),
-        (
-            400,
-            58,
-            b"application/problem+json",
-            b"HTTP/1.1 400 Bad Request\r\nConnection: close\r\nCache-Control: no-store\r\nContent-Length: 58\r\nContent-Type: application/problem+json\r\n\r\n",
-        ),
-        (
-            401,
-            0,
-            b"",
-            b"HTTP/1.1 401 Unauthorized\r\nConnection: close\r\nCache-Control: no-store\r\nWWW-Authenticate: Bearer\r\nContent-Length: 0\r\n\r\n",
-        ),
-        (
-            200,
-            50_000_000,
-            b"application/json",
-            b"HTTP/1.1 200 OK\r\nConnection: close\r\nCache-Control: no-store\r\nContent-Length: 50000000\r\nContent-Type: application/json\r\n\r\n",
-        ),
-        (
-            201,
-            1,
-            b"a",
-            b"HTTP/1.1 201 Created\r\nConnection: close\r\nCache-Control: no-store\r\nContent-Length: 1\r\nContent-Type: a\r\n\r\n",
-        ),
-        (
-            405,
-            0,
-            b"",
-            b"HTTP/1.1 405 Method Not Allowed\r\nConnection: close\r\nCache-Control: no-store\r\nContent-Length: 0\r\n\r\n",
-        ),
-        (
-            413,
-            u64::MAX,
-            b"b",
-            b"HTTP/1.1 413 Payload Too Large\r\nConnection: close\r\nCache-Control: no-store\r\nContent-Length: 18446744073709551615\r\nContent-Type: b\r\n\r\n",
-        ),
-        (
-            431,
-            0,
-            b"",
-            b"HTTP/1.1 431 Request Header Fields Too Large\r\nConnection: close\r\nCache-Control: no-store\r\nContent-Length: 0\r\n\r\n",
-        ),
-        (
-            503,
-            0,
-            b"",
-            b"HTTP/1.1 503 Service Unavailable\r\nConnection: close\r\nCache-Control: no-store\r\nContent-Length: 0\r\n\r\n",
-        ),
-        (
-            599,
-            0,
-            b"",
-            b"HTTP/1.1 599 \r\nConnection: close\r\nCache-Control: no-store\r\nContent-Length: 0\r\n\r\n",
-        ),
-    ];
-    for (code, length, media, text) in rows {
-        match StatusCode::from_u16(code) {
-            Ok(status) => {
-                let head = response_head(rt.alloc(), status, length, media)?;
-                assert!(rt; head.as_slice() == text, "{code}");
-            }
-            Err(_) => assert!(rt; false, "{code}"),
-        }
+    expect_heads(&rt, rt.alloc(), &HEADS)
+}
+
+/// Whether all was sent, and what the client took.
+fn sent(alloc: Global, head: &[u8], body: &[u8]) -> Result<(bool, Vec<u8>), Fail> {
+    let mut world = world_of(alloc, b"", 1, 0)?;
+    let is_sent = write_response(&mut world, head, body).is_ok();
+    let (_, took) = given_and_taken(alloc, &world)?;
+    Ok((is_sent, took))
+}
+
+/// The first call of a client is `accept`, the second and third take the head and the body.
+fn expect_failed(rt: &impl Abort, alloc: Global, head: &[u8], body: &[u8]) -> Result<(), Fail> {
+    for call in 2..4 {
+        let mut world = world_of(alloc, b"", 1, call)?;
+        assert!(rt; write_response(&mut world, head, body).is_err());
     }
+    Ok(())
+}
+
+#[test]
+fn a_response_is_its_head_and_its_body(rt: HostRuntime) -> Result<(), Fail> {
+    let (is_sent, took) = sent(rt.alloc(), b"HTTP/1.1 200 OK\r\n\r\n", b"{}")?;
+    assert!(rt; is_sent);
+    assert_eq!(rt; took.as_slice(), b"HTTP/1.1 200 OK\r\n\r\n{}".as_slice());
+    expect_failed(&rt, rt.alloc(), b"HTTP/1.1 200 OK\r\n\r\n", b"{}")?;
     Ok(())
 }

@@ -1,4 +1,4 @@
-use Rattle.std.proofs.Common.{◌≡◌, ◌++◌, ◌∷◌, [], codes, refl, sym, ap, ◌∙◌}
+use Rattle.std.proofs.Common.{◌++◌, codes, ap, ◌∙◌}
 use Rattle.std.proofs.lemmas.List.{append_assoc}
 use Rattle.http_service.specs.Responses.{media_field, crlf}
 use Rattle.http_service.proofs.response_text.push_media.Goals as goal

@@ -1,4 +1,4 @@
-use Rattle.std.proofs.Common.{◌≡◌, ℕ, Bool, false, sym, None}
+use Rattle.std.proofs.Common.{false, sym, None}
 use Rattle.thread_rule.proofs.IndexLemmas.{looked_up, same_at, sets_then_same, tight_none}
 use Rattle.thread_rule.proofs.index.remove.Goals as goal
 
