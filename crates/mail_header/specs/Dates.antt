@@ -1,9 +1,10 @@
 -- Dates (RFC 5322 sections 3.3 and 4.3). Each production reads what stands at the front of the lexemes, and gives
 -- its value and what follows it.
-use Rattle.std.specs.Prelude.{ℕ, ℤ, pos, negsuc, ◌+◌, ◌-◌, ◌*◌, ◌/◌, ◌%◌, ◌-ℤ◌, ◌*ℤ◌, min, Bool, true, false, not, ◌&&◌, ◌||◌, ◌==◌, nat_le, nat_lt, if◌then◌else◌, List, [], ◌∷◌, length, Option, Some, None, codes}
+use Rattle.std.specs.Prelude.{ℕ, ℤ, pos, negsuc, ◌+◌, ◌-◌, ◌*◌, ◌/◌, ◌%◌, ◌+ℤ◌, ◌-ℤ◌, ◌*ℤ◌, min, Bool, true, false, ◌&&◌, ◌==◌, nat_le, nat_lt, if◌then◌else◌, List, [], ◌∷◌, length, Option, Some, None, codes}
 use Rattle.std.specs.List.{list_all}
 use Rattle.std.specs.Str.{bytes_eq}
-use Rattle.text_words.specs.Octets.{is_digit, is_alpha, is_same_text}
+use Rattle.jiff_core.specs.Calendar.{days_in_month, days_from_civil}
+use Rattle.text_words.specs.Octets.{is_between, is_digit, is_alpha, is_same_text}
 use Rattle.mail_header.specs.declared.token.Kind.{Kind}
 use Rattle.mail_header.specs.declared.token.Kind.TheVariants as kind
 use Rattle.mail_header.specs.declared.date.Clock.{Clock}
@@ -136,35 +137,6 @@ zone_of (c ∷ t) =
 abbrev pub zone_in : List Spelled → Option (ℤ × List Spelled)
 zone_in ls = then_read (atom_in ls) (λ t rest. with_rest (zone_of t) rest)
 
--- ---- days (ISO 8601: the Gregorian calendar, also before it was in use)
-
-abbrev pub is_leap : ℕ → Bool
-is_leap y = y % 4 == 0 && (not (y % 100 == 0) || y % 400 == 0)
-
-abbrev pub days_in : ℕ → ℕ → ℕ
-days_in y m =
-    if m == 2 then (if is_leap y then 29 else 28)
-    else if m == 4 || m == 6 || m == 9 || m == 11 then 30
-    else 31
-
--- days of a year that isn't a leap year before March or a later month
-abbrev pub days_before_later : ℕ → ℕ
-days_before_later m =
-    if m == 3 then 59 else if m == 4 then 90 else if m == 5 then 120 else if m == 6 then 151 else if m == 7 then 181
-    else if m == 8 then 212 else if m == 9 then 243 else if m == 10 then 273 else if m == 11 then 304 else 334
-
--- days of a year before a month
-abbrev pub days_before : ℕ → ℕ → ℕ
-days_before y m =
-    if m == 1 then 0
-    else if m == 2 then 31
-    else if is_leap y then 1 + days_before_later m
-    else days_before_later m
-
--- days from the first of January of the year 0 on
-abbrev pub day_number : ℕ → ℕ → ℕ → ℕ
-day_number y m d = 365 * y + (y + 3) / 4 - (y + 99) / 100 + (y + 399) / 400 + days_before y m + (d - 1)
-
 -- ---- the whole
 
 abbrev pub day_in : List Spelled → Option (Day × List Spelled)
@@ -180,25 +152,26 @@ clock_in ls =
     then_read (number_in 2 2 r') (λ m r''.
     then_read (second_in r'') (λ s r'''. Some (record { hour = h; minute = m; second = s }, r''')))))
 
+-- the Gregorian calendar, also before it was in use (ISO 8601)
 abbrev pub day_exists : Day → Bool
-day_exists d = nat_le 1 d.day && nat_le d.day (days_in d.year d.month)
+day_exists d = nat_le d.year 9999 && is_between 1 12 d.month && is_between 1 (days_in_month (pos d.year) d.month) d.day
 
 -- a leap second is there
 abbrev pub clock_exists : Clock → Bool
 clock_exists c = nat_le c.hour 23 && nat_le c.minute 59 && nat_le c.second 60
 
--- seconds from the year 0 on; second 60 is 59
-abbrev pub local_seconds : Day → Clock → ℕ
-local_seconds d c = day_number d.year d.month d.day * 86400 + c.hour * 3600 + c.minute * 60 + min c.second 59
+-- seconds since midnight; second 60 is 59
+abbrev pub seconds_of_day : Clock → ℕ
+seconds_of_day c = c.hour * 3600 + c.minute * 60 + min c.second 59
 
--- seconds from the year 0 to 1970
-abbrev pub epoch : ℕ
-epoch = 62167219200
+-- the days since 1970-01-01
+abbrev pub day_number : Day → ℤ
+day_number d = days_from_civil (pos d.year) d.month d.day
 
 abbrev pub moment_of : Day → Clock → ℤ → Option Moment
 moment_of d c zone =
     if day_exists d && clock_exists c
-    then Some (record { seconds = pos (local_seconds d c) -ℤ pos epoch -ℤ (zone *ℤ pos 60); offset_minutes = zone })
+    then Some (record { seconds = day_number d *ℤ pos 86400 +ℤ pos (seconds_of_day c) -ℤ (zone *ℤ pos 60); offset_minutes = zone })
     else None
 
 abbrev pub at_end : List Spelled → Option Moment → Option Moment

@@ -172,8 +172,7 @@ fn month<'a, 'b>(lexemes: &'b [Token<'a>]) -> Option<(u32, &'b [Token<'a>])>
 
 /// The year that two to four digits spell.
 fn year_of(text: &[u8]) -> Option<u32>
-    ensures value { result ≡ dates.year_of text.now }
-    ensures small { IfSome result (λ n. n < 310000) }
+    ensures { result ≡ dates.year_of text.now }
 {
     if !are_all(&Digit, text) {
         return None;
@@ -190,8 +189,7 @@ fn year_of(text: &[u8]) -> Option<u32>
 /// The year that a number of so many digits means.
 fn whole_year(digits: usize, number: u32) -> u32
     requires { number < 300000 }
-    ensures value { result ≡ dates.whole_year digits number }
-    ensures small { result < 310000 }
+    ensures { result ≡ dates.whole_year digits number }
 {
     if digits == 4 {
         number
@@ -204,8 +202,7 @@ fn whole_year(digits: usize, number: u32) -> u32
 
 /// The year at the front, and what follows it.
 fn year<'a, 'b>(lexemes: &'b [Token<'a>]) -> Option<(u32, &'b [Token<'a>])>
-    ensures value { MatchOption result (dates.year_in (tokens_view lexemes.now) ≡ None) (λ r. dates.year_in (tokens_view lexemes.now) ≡ Some (r.0, tokens_view r.1.now)) }
-    ensures small { IfSome result (λ r. r.0 < 310000) }
+    ensures { MatchOption result (dates.year_in (tokens_view lexemes.now) ≡ None) (λ r. dates.year_in (tokens_view lexemes.now) ≡ Some (r.0, tokens_view r.1.now)) }
 {
     match atom(lexemes) {
         None => None,
@@ -234,8 +231,7 @@ fn second<'a, 'b>(lexemes: &'b [Token<'a>]) -> Option<(u32, &'b [Token<'a>])>
 
 /// The day at the front, and what follows it.
 pub(crate) fn day<'a, 'b>(lexemes: &'b [Token<'a>]) -> Option<(Day, &'b [Token<'a>])>
-    ensures value { MatchOption result (dates.day_in (tokens_view lexemes.now) ≡ None) (λ r. dates.day_in (tokens_view lexemes.now) ≡ Some (r.0, tokens_view r.1.now)) }
-    ensures small { IfSome result (λ r. r.0.year < 310000) }
+    ensures { MatchOption result (dates.day_in (tokens_view lexemes.now) ≡ None) (λ r. dates.day_in (tokens_view lexemes.now) ≡ Some (r.0, tokens_view r.1.now)) }
 {
     let (day, rest) = number(1, 2, behind_day_name(lexemes))?;
     let (month, rest) = month(rest)?;

@@ -3,6 +3,8 @@ use crate::bracketed::{as_message_ids, as_urls};
 use crate::date::Moment;
 use crate::moments::as_date;
 use crate::raw_forms::{as_raw, as_text};
+use std::alloc::Global;
+use std::process::Abort;
 use std::test::Fail;
 
 fn is_text(found: Option<&[u8]>, text: &[u8]) -> bool {
@@ -179,5 +181,72 @@ fn values_are_dates(rt: HostRuntime) -> Result<(), Fail> {
         let found = as_date(rt.alloc(), row.0)?;
         assert_eq!(rt; found, expected);
     }
+    Ok(())
+}
+
+/// The last second of each month of a year, and of the last year; leap years; leap seconds; years of three digits.
+const SECONDS: [(&[u8], i64); 17] = [
+    (b"31 Jan 2023 23:59:59 GMT", 1675209599),
+    (b"28 Feb 2023 23:59:59 GMT", 1677628799),
+    (b"31 Mar 2023 23:59:59 GMT", 1680307199),
+    (b"30 Apr 2023 23:59:59 GMT", 1682899199),
+    (b"31 May 2023 23:59:59 GMT", 1685577599),
+    (b"30 Jun 2023 23:59:59 GMT", 1688169599),
+    (b"31 Jul 2023 23:59:59 GMT", 1690847999),
+    (b"31 Aug 2023 23:59:59 GMT", 1693526399),
+    (b"30 Sep 2023 23:59:59 GMT", 1696118399),
+    (b"31 Oct 2023 23:59:59 GMT", 1698796799),
+    (b"30 Nov 2023 23:59:59 GMT", 1701388799),
+    (b"31 Dec 2023 23:59:59 GMT", 1704067199),
+    (b"31 Dec 9999 23:59:59 GMT", 253402300799),
+    (b"31 Dec 999 00:00 GMT", 29347920000),
+    (b"1 Mar 99 00:00 GMT", 920246400),
+    (b"1 Mar 00 00:00 GMT", 951868800),
+    (b"31 Dec 2016 23:59:60 GMT", 1483228799),
+];
+
+/// The day behind each of those, and days and years that are none.
+const NO_DATES: [&[u8]; 18] = [
+    b"32 Jan 2023 00:00 GMT",
+    b"29 Feb 2023 00:00 GMT",
+    b"32 Mar 2023 00:00 GMT",
+    b"31 Apr 2023 00:00 GMT",
+    b"32 May 2023 00:00 GMT",
+    b"31 Jun 2023 00:00 GMT",
+    b"32 Jul 2023 00:00 GMT",
+    b"32 Aug 2023 00:00 GMT",
+    b"31 Sep 2023 00:00 GMT",
+    b"32 Oct 2023 00:00 GMT",
+    b"31 Nov 2023 00:00 GMT",
+    b"32 Dec 2023 00:00 GMT",
+    b"1 Jan 10000 00:00 GMT",
+    b"1 Jan 1 00:00 GMT",
+    b"1 Foo 2023 00:00 GMT",
+    b"00 Jan 2023 00:00 GMT",
+    b"99 Dec 2023 00:00 GMT",
+    b"100 Jan 2023 00:00 GMT",
+];
+
+fn expect_seconds(rt: &impl Abort, alloc: Global, rows: &[(&[u8], i64)]) -> Result<(), Fail> {
+    for row in rows {
+        match as_date(alloc, row.0)? {
+            None => assert!(rt; false),
+            Some(moment) => assert_eq!(rt; moment.seconds, row.1),
+        }
+    }
+    Ok(())
+}
+
+fn expect_no_dates(rt: &impl Abort, alloc: Global, values: &[&[u8]]) -> Result<(), Fail> {
+    for value in values {
+        assert!(rt; as_date(alloc, value)?.is_none());
+    }
+    Ok(())
+}
+
+#[test]
+fn months_end(rt: HostRuntime) -> Result<(), Fail> {
+    expect_seconds(&rt, rt.alloc(), &SECONDS)?;
+    expect_no_dates(&rt, rt.alloc(), &NO_DATES)?;
     Ok(())
 }

@@ -1,4 +1,5 @@
 pub mod Parameters
 pub mod ContentTypes
+pub mod ExtendedValues
 pub mod Dispositions
 pub mod PartHeaders

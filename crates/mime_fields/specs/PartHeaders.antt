@@ -8,7 +8,8 @@ use Rattle.mail_header.specs.Lexemes.{AreLeadingLexemes}
 use Rattle.mail_header.specs.RawForms.{raw_form, IsTextForm}
 use Rattle.mail_header.specs.Tokens.{Spelled}
 use Rattle.mime_fields.specs.ContentTypes.{media_in, behind_media}
-use Rattle.mime_fields.specs.Dispositions.{token_in, behind_token, extended_text, IsName}
+use Rattle.mime_fields.specs.Dispositions.{token_in, behind_token, IsName}
+use Rattle.mime_fields.specs.ExtendedValues.{extended_text}
 use Rattle.mime_fields.specs.Parameters.{parameter}
 use Rattle.mime_fields.specs.declared.header.PartHeader.{PartHeader}
 

@@ -5,7 +5,7 @@ ghost use Rattle.mail_header.specs.TokenView.{token_view, tokens_view};
 ghost use Rattle.mime_fields.specs.ContentTypes as types;
 ghost use Rattle.mime_fields.specs.PartHeaders.{HasLexemes};
 
-use crate::lexemes::field_text;
+use crate::field_text::field_text;
 use crate::parameters::parameter;
 use gate_world::Bytes;
 use mail_header::lexemes::leading_lexemes;

@@ -6,7 +6,7 @@ ghost use Rattle.mime_fields.specs.PartHeaders as headers;
 
 use crate::content_type::content_type;
 use crate::disposition::{content_disposition, name_of, token_at};
-use crate::lexemes::field_text;
+use crate::field_text::field_text;
 use gate_world::{Bytes, Names};
 use mail_header::lexemes::leading_lexemes;
 use mail_header::token::Alphabet;

@@ -3,9 +3,10 @@
 
 mod content_type;
 mod disposition;
+mod extended_value;
+mod field_text;
 pub mod header;
 pub mod laws;
-mod lexemes;
 mod parameters;
 #[cfg(test)]
 mod tests;

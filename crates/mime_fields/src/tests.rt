@@ -200,3 +200,31 @@ fn parts_have_headers(rt: HostRuntime) -> Result<(), Fail> {
     expect_headers(&rt, rt.alloc(), &READINGS)?;
     Ok(())
 }
+
+/// A type, so many of the piece, and a charset.
+fn long_type(alloc: Global, piece: &[u8]) -> Result<Vec<u8>, AllocError> {
+    let mut text = Vec::new(alloc);
+    text.extend_from_slice(b"Content-Type: a/b")?;
+    for _ in 0..20_000 {
+        text.extend_from_slice(piece)?;
+    }
+    text.extend_from_slice(b"; charset=z\n")?;
+    Ok(text)
+}
+
+/// Twenty thousand parameters, blanks and openers are read.
+#[test]
+fn long_values_are_read(rt: HostRuntime) -> Result<(), Fail> {
+    let alloc = rt.alloc();
+    for piece in [b"; x=y", b"  (c)"] {
+        let header = part_header(alloc, &fields(alloc, long_type(alloc, piece)?.as_slice())?)?;
+        let text = written(alloc, &header)?;
+        assert_eq!(rt; text.as_slice(), b"a/b|-|z|-|-|-|-|-|7bit".as_slice());
+    }
+    for piece in [b"(", b"\"", b"[", b";", b"=", b"\\"] {
+        let header = part_header(alloc, &fields(alloc, long_type(alloc, piece)?.as_slice())?)?;
+        let text = written(alloc, &header)?;
+        assert_eq!(rt; text.as_slice(), b"a/b|-|-|-|-|-|-|-|7bit".as_slice());
+    }
+    Ok(())
+}

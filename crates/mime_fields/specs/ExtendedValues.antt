@@ -1,0 +1,24 @@
+-- Extended values of parameters (RFC 8187 section 3.2): a charset, an apostrophe, a language, an apostrophe, and
+-- octets with percent escapes.
+use Rattle.std.specs.Prelude.{ℕ, Bool, not, ◌==◌, List, [], ◌∷◌, Option, Some, None}
+use Rattle.std.specs.Option.{option_map, option_and_then}
+use Rattle.text_words.specs.Cuts.{front, back}
+use Rattle.header_words.specs.Charsets.{charset_of, text_in}
+use Rattle.percent_encoding.specs.Percent.{percent_decode}
+
+abbrev pub is_no_apostrophe : ℕ → Bool
+is_no_apostrophe c = not (c == 39)
+
+abbrev pub behind_first : List ℕ → Option (List ℕ)
+behind_first [] = None
+behind_first (c ∷ t) = Some t
+
+-- what follows the first apostrophe
+abbrev pub behind_apostrophe : List ℕ → Option (List ℕ)
+behind_apostrophe t = behind_first (back is_no_apostrophe t)
+
+-- the text of the octets behind the second apostrophe, in the charset before the first
+abbrev pub extended_text : List ℕ → Option (List ℕ)
+extended_text t =
+    option_map (λ (escaped : List ℕ). text_in (charset_of (front is_no_apostrophe t)) (percent_decode escaped))
+    (option_and_then behind_apostrophe (behind_apostrophe t))

@@ -1,0 +1,80 @@
+ghost use Rattle.std.specs.Prelude.{◌≡◌, None, Some, IfOk, MatchOption};
+ghost use Rattle.std.specs.Option.{option_and_then};
+ghost use Rattle.percent_encoding.specs.Percent as percent;
+ghost use Rattle.mime_fields.specs.ExtendedValues as values;
+
+use gate_world::Bytes;
+use header_words::decode_charset;
+use percent_encoding::percent_decode;
+use std::alloc::{AllocError, Global};
+use text_words::{Class, cut};
+
+/// All octets but the apostrophe.
+struct NoApostrophe;
+
+impl Class<u8> for NoApostrophe {
+    ghost test = { values.is_no_apostrophe };
+
+    fn has(&self, item: &u8) -> bool {
+        *item != b'\''
+    }
+}
+
+/// What follows the first octet.
+fn behind_first(text: &[u8]) -> Option<&[u8]>
+    ensures { MatchOption result (values.behind_first text.now ≡ None) (λ t. values.behind_first text.now ≡ Some t.now) }
+{
+    match text {
+        [] => None,
+        [_first, rest @ ..] => Some(rest),
+    }
+}
+
+/// What follows the first apostrophe.
+fn behind_apostrophe(text: &[u8]) -> Option<&[u8]>
+    ensures { MatchOption result (values.behind_apostrophe text.now ≡ None) (λ t. values.behind_apostrophe text.now ≡ Some t.now) }
+{
+    behind_first(cut(&NoApostrophe, text).1)
+}
+
+/// What follows the second apostrophe.
+fn escaped_octets(text: &[u8]) -> Option<&[u8]>
+    ensures { MatchOption result (option_and_then values.behind_apostrophe (values.behind_apostrophe text.now) ≡ None)
+        (λ t. option_and_then values.behind_apostrophe (values.behind_apostrophe text.now) ≡ Some t.now) }
+{
+    match behind_apostrophe(text) {
+        None => None,
+        Some(rest) => behind_apostrophe(rest),
+    }
+}
+
+fn percent_decoded(alloc: Global, text: &[u8]) -> Result<Vec<u8>, AllocError>
+    ensures { IfOk result (λ v. v.items ≡ percent.percent_decode text.now) }
+{
+    let mut octets = Vec::new(alloc);
+    percent_decode(text).append_to(&mut octets)?;
+    Ok(octets)
+}
+
+/// The text of one extended value.
+fn extended_text(alloc: Global, value: &[u8]) -> Result<Option<Bytes>, AllocError>
+    ensures { IfOk result (λ t. t ≡ values.extended_text value.now) }
+{
+    let Some(escaped) = escaped_octets(value) else {
+        return Ok(None);
+    };
+    let octets = percent_decoded(alloc, escaped)?;
+    let (charset, _) = cut(&NoApostrophe, value);
+    let (text, _) = decode_charset(alloc, charset, octets.as_slice())?;
+    Ok(Some(Bytes::from_vec(text)))
+}
+
+/// The text of the extended value that a parameter has.
+pub(crate) fn extended(alloc: Global, value: Option<Bytes>) -> Result<Option<Bytes>, AllocError>
+    ensures { IfOk result (λ t. t ≡ option_and_then values.extended_text value) }
+{
+    match value {
+        None => Ok(None),
+        Some(value) => extended_text(alloc, value.as_slice()),
+    }
+}
