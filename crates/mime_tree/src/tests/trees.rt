@@ -265,3 +265,42 @@ fn parts_above_depth_64_are_split(rt: HostRuntime) -> Result<(), Fail> {
     assert_eq!(rt; body_of(text.as_slice(), leaf), b"Hi".as_slice());
     Ok(())
 }
+
+fn many_parts(alloc: Global, count: u32) -> Result<Vec<u8>, AllocError> {
+    let mut text = Vec::new(alloc);
+    text.extend_from_slice(b"Content-Type: multipart/mixed; boundary=a\n\n")?;
+    for _ in 0..count {
+        text.extend_from_slice(b"--a\n\nx\n")?;
+    }
+    text.extend_from_slice(b"--a--")?;
+    Ok(text)
+}
+
+#[test]
+fn many_parts_are_split(rt: HostRuntime) -> Result<(), Fail> {
+    let text = many_parts(rt.alloc(), 200_000)?;
+    let root = parse(rt.alloc(), text.as_slice())?;
+    assert_eq!(rt; root.children.len(), 200_000);
+    match root.leaf(200_000) {
+        None => assert!(rt; false),
+        Some(part) => assert_eq!(rt; body_of(text.as_slice(), part), b"x".as_slice()),
+    }
+    Ok(())
+}
+
+/// A delimiter line may be as long as the message.
+#[test]
+fn long_lines_are_read(rt: HostRuntime) -> Result<(), Fail> {
+    let mut text = Vec::new(rt.alloc());
+    text.extend_from_slice(b"Content-Type: multipart/mixed; boundary=a\n\n--a")?;
+    for _ in 0..1_000_000 {
+        text.push(b' ')?;
+    }
+    text.extend_from_slice(b"\n\nx")?;
+    let root = parse(rt.alloc(), text.as_slice())?;
+    assert_eq!(rt; root.children.len(), 1);
+    if let Some(part) = root.leaf(1) {
+        assert_eq!(rt; body_of(text.as_slice(), part), b"x".as_slice());
+    }
+    Ok(())
+}
