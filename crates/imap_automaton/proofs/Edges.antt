@@ -1,9 +1,11 @@
 -- What one octet does to one symbol.
-use Rattle.std.proofs.Common.{◌≡◌, ℕ, ◌≤◌, Bool, true, false, ◌&&◌, List, [], ◌∷◌, length, take, cond, refl, sym, ap, ◌∙◌, arith}
+use Rattle.std.proofs.Common.{◌≡◌, ℕ, zero, ◌≤◌, Bool, true, false, ◌&&◌, List, [], ◌∷◌, length, take, cond, refl, sym, ap, ◌∙◌, arith}
 use Rattle.std.specs.Prelude.{nat_le}
 use Rattle.std.proofs.lemmas.Bool.{leb-true, and_parts, cond-false}
 use Rattle.imap_automaton.specs.declared.sym.Key.{Key}
 use Rattle.imap_automaton.specs.declared.sym.Place.{Place}
+use Rattle.imap_automaton.specs.declared.sym.Phrase.TheVariants as phrase
+use Rattle.imap_automaton.specs.declared.sym.Line.TheVariants as line
 use Rattle.imap_automaton.specs.declared.sym.Item.TheVariants as item
 use Rattle.imap_automaton.specs.declared.sym.Names.{Names}
 use Rattle.imap_automaton.specs.declared.sym.Names.TheVariants as names
@@ -18,7 +20,9 @@ use Rattle.imap_automaton.specs.Flow.{begins, stops, may_yield}
 use Rattle.imap_automaton.proofs.Langs.{Lang, After}
 use Rattle.imap_automaton.proofs.FreeEdges.{free_back, free_forth, free_empty, free_example}
 use Rattle.imap_automaton.proofs.NamesEdges.{names_back, names_forth, names_empty, more_stops, names_example}
-use Rattle.imap_automaton.proofs.ItemEdges.{item_back, item_forth, open_none, more_empty, items_stop, number_ends, number_yields, item_example}
+use Rattle.imap_automaton.proofs.ItemEdges.{item_back, item_forth, open_none, more_empty, items_stop, number_ends, number_yields, long_open_none, long_ends, long_yields, item_example}
+use Rattle.imap_automaton.proofs.Lists.{cons_head}
+use Rattle.imap_automaton.proofs.Tests.{is_true_at}
 use Rattle.imap_automaton.proofs.SetEdges.{words_back, words_forth, words_empty, words_example, set_edge_back, set_edge_forth, set_empty, set_example}
 use Rattle.imap_automaton.proofs.WordEdges.{word_back, word_forth, word_empty, word_example}
 use Rattle.imap_automaton.proofs.LineEdges.{line_edge_back, line_edge_forth, line_empty, line_example}
@@ -59,6 +63,8 @@ empty_may (sym.Free s) fits h = absurd (free_empty s fits h)
 empty_may (sym.Item item.Open) fits h = absurd (open_none h)
 empty_may (sym.Item item.More) fits h = absurd (more_empty h)
 empty_may (sym.Item (item.Number v n)) fits h = refl
+empty_may (sym.Item item.LongOpen) fits h = absurd (long_open_none h)
+empty_may (sym.Item (item.Long v n)) fits h = refl
 empty_may (sym.Names s) fits h = names_yield s (names_empty s h)
 empty_may (sym.Words s) fits h = absurd (words_empty s h)
 empty_may (sym.Set s) fits h = absurd (set_empty s h)
@@ -66,6 +72,7 @@ empty_may (sym.Set s) fits h = absurd (set_empty s h)
 -- a symbol that ends before an octet has the empty text
 pub yield_empty : (s : Sym) (c : ℕ) → may_yield s ≡ true → SymFits s ≡ true → rule_of s c ≡ move.Yield → Lang s []
 yield_empty (sym.Item (item.Number v n)) c may fits e = number_yields v n c fits e
+yield_empty (sym.Item (item.Long v n)) c may fits e = long_yields v n c fits e
 yield_empty (sym.Names names.AtomRest) c may fits e = tt
 yield_empty _ c may fits e = absurd cc
 
@@ -75,12 +82,14 @@ stop_no_atom c e = grind arith
 -- a symbol with the empty text ends before an octet that ends those
 pub ends_by : (s : Sym) (c : ℕ) → may_yield s ≡ true → Lang s [] → stops c ≡ true → rule_of s c ≡ move.Yield
 ends_by (sym.Item (item.Number v n)) c may h e = number_ends v n c h e
+ends_by (sym.Item (item.Long v n)) c may h e = long_ends v n c h e
 ends_by (sym.Names names.AtomRest) c may h e = cond-false (is_atom c) (move.One (sym.Names names.AtomRest)) move.Yield (stop_no_atom c e)
 ends_by _ c may h e = absurd cc
 
 pub begin_stops : (s : Sym) (c : ℕ) (t : List ℕ) → begins s ≡ true → Lang s (c ∷ t) → stops c ≡ true
 begin_stops (sym.Item item.More) c t b h = items_stop h.0 c t h.1
 begin_stops (sym.Names names.More) c t b h = more_stops h.0 c t h.2
+begin_stops (sym.Line (line.Fixed phrase.Close zero)) c t b h = is_true_at stops c 41 (cons_head c 41 t [] h) refl
 begin_stops _ c t b h = absurd cc
 
 pub example : (s : Sym) → SymFits s ≡ true → (t : List ℕ) × Lang s t
@@ -95,4 +104,5 @@ example (sym.Set s) fits = set_example s fits
 pub begin_no_yield : (s : Sym) → begins s ≡ true → may_yield s ≡ true → ⊥
 begin_no_yield (sym.Item item.More) b y = cc
 begin_no_yield (sym.Names names.More) b y = cc
+begin_no_yield (sym.Line (line.Fixed phrase.Close zero)) b y = cc
 begin_no_yield _ b y = cc

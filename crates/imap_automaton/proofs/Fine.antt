@@ -25,7 +25,7 @@ use Rattle.imap_automaton.specs.Counts.{pend}
 use Rattle.imap_automaton.specs.Keys.{key_text, phrase_text, keys, first_key, is_among, in_word, goes_on, next_key, whole_key}
 use Rattle.imap_automaton.specs.FreeRules.{free_end, text_rule}
 use Rattle.imap_automaton.specs.WordRules.{rest_rule, spaced_rule, end_rule, behind_key, stray, word_goes, word_ends, word_rule}
-use Rattle.imap_automaton.specs.ItemRules.{number_rule}
+use Rattle.imap_automaton.specs.ItemRules.{number_rule, long_rule}
 use Rattle.imap_automaton.specs.LineRules.{word_start, line_rule, fixed_rule, folded_rule, sequence_rule}
 use Rattle.imap_automaton.specs.SetRules.{words_more, set_ends, set_number, set_rule}
 use Rattle.imap_automaton.specs.Rules.{rule_of}
@@ -123,6 +123,8 @@ behind_fine place.Numbered key.Expunge q at c = end_rule_fine 4 c (omega arith)
 behind_fine place.Numbered key.Fetch q at c = spaced_fine false 4 (sym.Item item.Open) c refl refl refl refl
 behind_fine place.Item key.Uid q at c = spaced_fine true 2 (sym.Item (item.Number 0 0)) c refl refl refl refl
 behind_fine place.Item key.Flags q at c = spaced_fine true 2 (sym.Names names.Open) c refl refl refl refl
+behind_fine place.Item key.ModSeq q at c = spaced_fine true 2 (sym.Item item.LongOpen) c refl refl refl refl
+behind_fine place.Item key.Size q at c = spaced_fine true 2 (sym.Item (item.Long 0 0)) c refl refl refl refl
 behind_fine _ _ q at c = refl
 
 stray_fine : (p : Place) (q : Key) (at c : ℕ) → fine (ends_open (sym.Word p q at)) false (need (sym.Word p q at)) (nat_lt c 256) (stray p c) ≡ true
@@ -176,6 +178,7 @@ low_at (c ∷ t) (suc at) h = low_at t at h.1
 phrase_low : (p : Phrase) → Each is_low (phrase_text p)
 phrase_low phrase.Space = (refl, tt)
 phrase_low phrase.Crlf = (refl, (refl, tt))
+phrase_low phrase.Close = (refl, tt)
 phrase_low phrase.Earlier = (refl, (refl, (refl, (refl, (refl, (refl, (refl, (refl, (refl, (refl, tt))))))))))
 
 octet_small : (p : Phrase) (at c : ℕ) → (c == get_or (phrase_text p) at 0) ≡ true → nat_lt c 256 ≡ true
@@ -247,6 +250,20 @@ number_fine v n c =
     (λ e. refl))
     (λ d. fine_by true true 1 (nat_lt c 256) (nat_lt 0 v) move.Yield move.Fail (λ e. refl) (λ e. refl))
 
+long_fits : (n w : ℕ) → (nat_lt n 19 && nat_le w 9223372036854775807) ≡ true → SymFits (sym.Item (item.Long w (n + 1))) ≡ true
+long_fits n w e = grind arith
+
+long_fine : (v n c : ℕ) → fine true true 1 (nat_lt c 256) (long_rule v n c) ≡ true
+long_fine v n c =
+    let w : ℕ = 10 * v + (c - 48) in
+    fine_by true true 1 (nat_lt c 256) (is_digit c)
+    (cond (nat_lt n 19 && nat_le w 9223372036854775807) (move.One (sym.Item (item.Long w (n + 1)))) move.Fail)
+    (cond (nat_lt 0 n) move.Yield move.Fail)
+    (λ d. fine_by true true 1 (nat_lt c 256) (nat_lt n 19 && nat_le w 9223372036854775807) (move.One (sym.Item (item.Long w (n + 1)))) move.Fail
+    (λ e. and_from _ _ (and_from _ _ (and_from _ _ (and_from _ _ (small_digit c d) (long_fits n w e)) refl) refl) refl)
+    (λ e. refl))
+    (λ d. fine_by true true 1 (nat_lt c 256) (nat_lt 0 n) move.Yield move.Fail (λ e. refl) (λ e. refl))
+
 -- ---- sets
 
 set_ends_fine : (second : Bool) (c : ℕ) → fine false false 1 (nat_lt c 256) (set_ends second c) ≡ true
@@ -289,6 +306,8 @@ move_fine (sym.Free (free.Octets n)) c o fits = absurd cc
 move_fine (sym.Item item.Open) c o fits = grind arith
 move_fine (sym.Item item.More) c o fits = grind arith
 move_fine (sym.Item (item.Number v n)) c o fits = number_fine v n c
+move_fine (sym.Item item.LongOpen) c o fits = grind arith
+move_fine (sym.Item (item.Long v n)) c o fits = long_fine v n c
 move_fine (sym.Names names.Open) c o fits = grind arith
 move_fine (sym.Names names.First) c o fits = grind arith
 move_fine (sym.Names names.More) c o fits = grind arith

@@ -12,15 +12,15 @@ use Rattle.imap_automaton.specs.declared.sym.Item.TheVariants as item
 use Rattle.imap_automaton.specs.declared.sym.Sym.TheVariants as sym
 use Rattle.imap_automaton.specs.declared.sym.Move.TheVariants as move
 use Rattle.imap_automaton.specs.Keys.{key_text, keys, in_word}
-use Rattle.imap_automaton.specs.ItemRules.{item_start, number_rule, item_rule}
+use Rattle.imap_automaton.specs.ItemRules.{item_start, number_rule, long_rule, item_rule}
 use Rattle.imap_automaton.specs.Fits.{ItemFits}
 use Rattle.imap_automaton.specs.Flow.{stops}
-use Rattle.imap_automaton.proofs.Langs.{NumberRest, ItemLang, IsSpaced, IsBehind, IsStray, WordSays, WordRest, Lang, After}
+use Rattle.imap_automaton.proofs.Langs.{NumberRest, LongRest, ItemLang, IsSpaced, IsBehind, IsStray, WordSays, WordRest, Lang, After}
 use Rattle.imap_automaton.proofs.Lists.{cons_head, cons_tail}
 use Rattle.imap_automaton.proofs.Tests.{from_test, to_test, at_true, at_false, is_true_at, crlf_of, mid}
 use Rattle.imap_syntax.specs.Octets.{is_digit, is_atom, lower}
 use Rattle.imap_syntax.specs.Texts.{Each, Then, crlf}
-use Rattle.imap_syntax.specs.Numbers.{value_from, IsNumber, IsNonZero}
+use Rattle.imap_syntax.specs.Numbers.{value_from, IsNumber, IsNonZero, IsLong}
 use Rattle.imap_syntax.specs.Items as items
 
 -- ---- numbers
@@ -115,6 +115,78 @@ number_from n t h = record { each = h.0.digits; some = omega (arith, h.0.some); 
 number_to : (t : List ℕ) → NumberRest 0 0 t → IsNonZero (value_from 0 t) t
 number_to t h = (record { digits = h.each; some = omega (arith, h.some); few = omega (arith, h.few); value = refl; most = h.most }, h.not_zero)
 
+-- ---- long numbers
+
+abbrev long_next : ℕ → ℕ → ℕ → Bool
+long_next v n c = nat_lt n 19 && nat_le (10 * v + (c - 48)) 9223372036854775807
+
+long_back : (v n c : ℕ) (t : List ℕ) → After (long_rule v n c) t → LongRest v n (c ∷ t)
+long_back v n c t h =
+    let w : ℕ = 10 * v + (c - 48) in
+    from_test (is_digit c)
+    (cond (long_next v n c) (move.One (sym.Item (item.Long w (n + 1)))) move.Fail)
+    (cond (nat_lt 0 n) move.Yield move.Fail) t (LongRest v n (c ∷ t))
+    (λ e a. from_test (long_next v n c) (move.One (sym.Item (item.Long w (n + 1)))) move.Fail t (LongRest v n (c ∷ t))
+    (λ f l. record { each = (e, l.each); some = omega arith; few = omega (arith, l.few); most = l.most })
+    (λ f l. absurd l) a)
+    (λ e a. from_test (nat_lt 0 n) move.Yield move.Fail t (LongRest v n (c ∷ t)) (λ f l. absurd l) (λ f l. absurd l) a) h
+
+long_forth : (v n c : ℕ) (t : List ℕ) → LongRest v n (c ∷ t) → After (long_rule v n c) t
+long_forth v n c t h =
+    let w : ℕ = 10 * v + (c - 48) in
+    let few : n + (1 + length t) ≤ 19 = omega (arith, h.few) in
+    let most : value_from w t ≤ 9223372036854775807 = h.most in
+    let mono = value_mono w t in
+    at_true (is_digit c)
+    (cond (long_next v n c) (move.One (sym.Item (item.Long w (n + 1)))) move.Fail)
+    (cond (nat_lt 0 n) move.Yield move.Fail) t h.each.0
+    (at_true (long_next v n c) (move.One (sym.Item (item.Long w (n + 1)))) move.Fail t
+    (and_from _ _ (lt-ltb n 19 (omega (arith, few))) (le-leb w 9223372036854775807 (omega (arith, most, mono))))
+    (record { each = h.each.1; some = omega arith; few = omega (arith, few); most = h.most }))
+
+pub long_ends : (v n c : ℕ) → LongRest v n [] → stops c ≡ true → long_rule v n c ≡ move.Yield
+long_ends v n c h e =
+    cond_no (is_digit c) (cond (long_next v n c) (move.One (sym.Item (item.Long (10 * v + (c - 48)) (n + 1)))) move.Fail) (cond (nat_lt 0 n) move.Yield move.Fail) (stop_no_digit c e)
+    ∙ cond_yes (nat_lt 0 n) move.Yield move.Fail (lt-ltb 0 n (let s = h.some in omega (arith, s)))
+  where
+    cond_no : {A : Type 0} (b : Bool) (x y : A) → b ≡ false → cond b x y ≡ y
+    cond_no b x y e = rw e refl
+
+    cond_yes : {A : Type 0} (b : Bool) (x y : A) → b ≡ true → cond b x y ≡ x
+    cond_yes b x y e = rw e refl
+
+pub long_yields : (v n c : ℕ) → ItemFits (item.Long v n) ≡ true → long_rule v n c ≡ move.Yield → LongRest v n []
+long_yields v n c fits e =
+    let b = and_parts (nat_le n 19 && nat_le v 9223372036854775807) (nat_lt 0 n || v == 0) fits in
+    let a = and_parts (nat_le n 19) (nat_le v 9223372036854775807) b.0 in
+    let some : nat_lt 0 n ≡ true = ended (is_digit c) (long_next v n c) (nat_lt 0 n) (sym.Item (item.Long (10 * v + (c - 48)) (n + 1))) e in
+    record { each = tt; some = omega (arith, ltb-true 0 n some); few = omega (arith, leb-true _ _ a.0); most = leb-true _ _ a.1 }
+  where
+    ended : (p q r : Bool) (s : Rattle.imap_automaton.specs.declared.sym.Sym.Sym) → cond p (cond q (move.One s) move.Fail) (cond r move.Yield move.Fail) ≡ move.Yield → r ≡ true
+    ended true true r s e = absurd cc
+    ended true false r s e = absurd cc
+    ended false q true s e = refl
+    ended false q false s e = absurd cc
+
+long_from : (n : ℕ) (t : List ℕ) → IsLong n t → LongRest 0 0 t
+long_from n t h = record { each = h.digits; some = omega (arith, h.some); few = omega (arith, h.few); most = omega (arith, h.value, h.most) }
+
+long_to : (t : List ℕ) → LongRest 0 0 t → IsLong (value_from 0 t) t
+long_to t h = record { digits = h.each; some = omega (arith, h.some); few = omega (arith, h.few); value = refl; most = h.most }
+
+long_open_back : (c : ℕ) (t : List ℕ) → After (item_rule item.LongOpen c) t → ItemLang item.LongOpen (c ∷ t)
+long_open_back c t h = from_test (c == 40) (move.Two (sym.Item (item.Long 0 0)) (sym.Line (line.Fixed phrase.Close 0))) move.Fail t (ItemLang item.LongOpen (c ∷ t))
+    (λ e k. (k.front, ap (λ (d : ℕ). d ∷ t) (eqb-true c 40 e) ∙ ap (λ (u : List ℕ). 40 ∷ u) (k.whole ∙ ap (λ (u : List ℕ). k.front ++ u) k.second), k.first))
+    (λ e k. absurd k) h
+
+long_open_forth : (c : ℕ) (t : List ℕ) → ItemLang item.LongOpen (c ∷ t) → After (item_rule item.LongOpen c) t
+long_open_forth c t h =
+    at_true (c == 40) (move.Two (sym.Item (item.Long 0 0)) (sym.Line (line.Fixed phrase.Close 0))) move.Fail t (eq-eqb c 40 (cons_head c 40 t (h.0 ++ 41 ∷ []) h.1))
+    (record { front = h.0; back = 41 ∷ []; whole = cons_tail c 40 t (h.0 ++ 41 ∷ []) h.1; first = h.2; second = refl })
+
+pub long_open_none : ItemLang item.LongOpen [] → ⊥
+long_open_none h = let e = h.1 in cc
+
 -- ---- an item is a word, a space and a value
 
 no_atom_space : is_atom 32 ≡ false
@@ -129,6 +201,8 @@ item_from t h = by h.says
         of_key : (k : Key) → [] ++ map lower h.word ≡ key_text k → IsBehind place.Item k h.tail → (i : items.Item) × items.IsItem i t
         of_key key.Uid e b = (items.Uid (value_from 0 b.0), record { name = h.word; value = b.0; whole = h.whole ∙ ap (λ (u : List ℕ). h.word ++ u) b.1; atom = h.each; item = (e, number_to b.0 b.2) })
         of_key key.Flags e b = (items.Flags b.2.0, record { name = h.word; value = b.0; whole = h.whole ∙ ap (λ (u : List ℕ). h.word ++ u) b.1; atom = h.each; item = (e, b.2.1) })
+        of_key key.ModSeq e b = (items.ModSeq (value_from 0 b.2.0), record { name = h.word; value = b.0; whole = h.whole ∙ ap (λ (u : List ℕ). h.word ++ u) b.1; atom = h.each; item = (e, (b.2.0, b.2.1, long_to b.2.0 b.2.2)) })
+        of_key key.Size e b = (items.Size (value_from 0 b.0), record { name = h.word; value = b.0; whole = h.whole ∙ ap (λ (u : List ℕ). h.word ++ u) b.1; atom = h.each; item = (e, long_to b.0 b.2) })
         of_key _ e b = absurd b
     by (inr s) = absurd s.1
 
@@ -154,6 +228,24 @@ item_to (items.Flags ns) t h = record {
   some = (let s = name_some h.name (λ q. let f = sym q ∙ h.item.0 in cc) in omega (arith, s));
   longest = refl;
   says = inl (key.Flags, inr (inl refl), h.item.0, (h.value, refl, (ns, h.item.1)));
+}
+item_to (items.ModSeq n) t h = record {
+  word = h.name;
+  tail = 32 ∷ h.value;
+  whole = h.whole;
+  each = h.atom;
+  some = (let s = name_some h.name (λ q. let f = sym q ∙ h.item.0 in cc) in omega (arith, s));
+  longest = refl;
+  says = inl (key.ModSeq, inr (inr (inl refl)), h.item.0, (h.value, refl, (h.item.1.0, h.item.1.1, long_from n h.item.1.0 h.item.1.2)));
+}
+item_to (items.Size n) t h = record {
+  word = h.name;
+  tail = 32 ∷ h.value;
+  whole = h.whole;
+  each = h.atom;
+  some = (let s = name_some h.name (λ q. let f = sym q ∙ h.item.0 in cc) in omega (arith, s));
+  longest = refl;
+  says = inl (key.Size, inr (inr (inr (inl refl))), h.item.0, (h.value, refl, long_from n h.value h.item.1));
 }
 
 -- ---- Open and More
@@ -199,11 +291,15 @@ pub item_back : (s : Item) (c : ℕ) (t : List ℕ) → After (item_rule s c) t 
 item_back item.Open c t h = open_back c t h
 item_back item.More c t h = more_back c t h
 item_back (item.Number v n) c t h = number_back v n c t h
+item_back item.LongOpen c t h = long_open_back c t h
+item_back (item.Long v n) c t h = long_back v n c t h
 
 pub item_forth : (s : Item) (c : ℕ) (t : List ℕ) → ItemLang s (c ∷ t) → After (item_rule s c) t
 item_forth item.Open c t h = open_forth c t h
 item_forth item.More c t h = more_at h.0 c t h.1
 item_forth (item.Number v n) c t h = number_forth v n c t h
+item_forth item.LongOpen c t h = long_open_forth c t h
+item_forth (item.Long v n) c t h = long_forth v n c t h
 
 more_none : (is : List items.Item) → items.IsMore is [] → ⊥
 more_none [] h = cc
@@ -240,7 +336,22 @@ number_some v n fits =
         digits : (v n : ℕ) → (nat_lt 0 n || suc v == 0) ≡ true → 0 < n
         digits v n e = grind arith
 
+long_some : (v n : ℕ) → ItemFits (item.Long v n) ≡ true → (t : List ℕ) × LongRest v n t
+long_some v n fits =
+    let b = and_parts (nat_le n 19 && nat_le v 9223372036854775807) (nat_lt 0 n || v == 0) fits in
+    let a = and_parts (nat_le n 19) (nat_le v 9223372036854775807) b.0 in
+    by n (leb-true _ _ a.0) (leb-true _ _ a.1) b.1
+  where
+    none_yet : (v : ℕ) → (nat_lt 0 0 || v == 0) ≡ true → v ≡ 0
+    none_yet v e = grind arith
+
+    by : (n : ℕ) → n ≤ 19 → v ≤ 9223372036854775807 → (nat_lt 0 n || v == 0) ≡ true → (t : List ℕ) × LongRest v n t
+    by zero few most e = let z = none_yet v e in (48 ∷ [], record { each = (refl, tt); some = omega arith; few = omega arith; most = omega (arith, z) })
+    by (suc n) few most e = ([], record { each = tt; some = omega arith; few = omega (arith, few); most = most })
+
 pub item_example : (s : Item) → ItemFits s ≡ true → (t : List ℕ) × ItemLang s t
 item_example item.Open fits = (40 ∷ codes "uid 1" ++ 41 ∷ crlf, (one_item.0 ∷ [], codes "uid 1" ++ 41 ∷ crlf, refl, record { front = codes "uid 1"; back = 41 ∷ crlf; whole = refl; first = one_item.1; second = refl }))
 item_example item.More fits = (41 ∷ crlf, ([], refl))
 item_example (item.Number v n) fits = number_some v n fits
+item_example item.LongOpen fits = (codes "(1)", (49 ∷ [], refl, record { each = (refl, tt); some = omega arith; few = omega arith; most = omega arith }))
+item_example (item.Long v n) fits = long_some v n fits

@@ -74,6 +74,7 @@ fine_yield o y r s m e f = sym (ap (fine o y r s) e) ∙ f
 
 pub yield_open : (s : Sym) → may_yield s ≡ true → ends_open s ≡ true
 yield_open (sym.Item (item.Number v n)) e = refl
+yield_open (sym.Item (item.Long v n)) e = refl
 yield_open (sym.Names names.AtomRest) e = refl
 yield_open _ e = absurd cc
 

@@ -17,7 +17,7 @@ use Rattle.imap_syntax.specs.Texts.{Each}
 -- ---- texts of keys
 
 abbrev key_named : List ℕ → Key
-key_named t = unwrap_or (find (λ k. bytes_eq (key_text k) t) (key.Ok ∷ key.No ∷ key.Bad ∷ key.Preauth ∷ key.Bye ∷ key.Capability ∷ key.Enabled ∷ key.Vanished ∷ key.Exists ∷ key.Expunge ∷ key.Fetch ∷ key.Uid ∷ key.Flags ∷ [])) key.Ok
+key_named t = unwrap_or (find (λ k. bytes_eq (key_text k) t) (key.Ok ∷ key.No ∷ key.Bad ∷ key.Preauth ∷ key.Bye ∷ key.Capability ∷ key.Enabled ∷ key.Vanished ∷ key.Exists ∷ key.Expunge ∷ key.Fetch ∷ key.Uid ∷ key.Flags ∷ key.ModSeq ∷ key.Size ∷ [])) key.Ok
 
 named : (k : Key) → key_named (key_text k) ≡ k
 named key.Ok = refl
@@ -33,6 +33,8 @@ named key.Expunge = refl
 named key.Fetch = refl
 named key.Uid = refl
 named key.Flags = refl
+named key.ModSeq = refl
+named key.Size = refl
 
 pub one_key : (a b : Key) → key_text a ≡ key_text b → a ≡ b
 one_key a b e = sym (named a) ∙ ap key_named e ∙ named b
@@ -55,6 +57,8 @@ key_octets key.Expunge = (refl, (refl, (refl, (refl, (refl, (refl, (refl, tt))))
 key_octets key.Fetch = (refl, (refl, (refl, (refl, (refl, tt)))))
 key_octets key.Uid = (refl, (refl, (refl, tt)))
 key_octets key.Flags = (refl, (refl, (refl, (refl, (refl, tt)))))
+key_octets key.ModSeq = (refl, (refl, (refl, (refl, (refl, (refl, tt))))))
+key_octets key.Size = (refl, (refl, (refl, (refl, (refl, (refl, (refl, (refl, (refl, (refl, (refl, tt)))))))))))
 
 pub key_some : (k : Key) → 0 < length (key_text k)
 key_some key.Ok = omega arith
@@ -70,6 +74,8 @@ key_some key.Expunge = omega arith
 key_some key.Fetch = omega arith
 key_some key.Uid = omega arith
 key_some key.Flags = omega arith
+key_some key.ModSeq = omega arith
+key_some key.Size = omega arith
 
 -- ---- lists of octets of a class
 

@@ -93,10 +93,19 @@ pub record NumberRest (value digits : ℕ) (t : List ℕ) : Type 0 where
   pub most : value_from value t ≤ 4294967295
   pub not_zero : 0 < value_from value t
 
+-- the rest of a long number, of which `digits` digits made `value`
+pub record LongRest (value digits : ℕ) (t : List ℕ) : Type 0 where
+  pub each : Each is_digit t
+  pub some : 0 < digits + length t
+  pub few : digits + length t ≤ 19
+  pub most : value_from value t ≤ 9223372036854775807
+
 abbrev pub ItemLang : Item → List ℕ → Type 0
 ItemLang item.Open t = (is : List items.Item) × (inner : List ℕ) × (t ≡ 40 ∷ inner) × items.IsItems is inner
 ItemLang item.More t = (is : List items.Item) × items.IsMore is t
 ItemLang (item.Number value digits) t = NumberRest value digits t
+ItemLang item.LongOpen t = (digits : List ℕ) × (t ≡ 40 ∷ digits ++ 41 ∷ []) × LongRest 0 0 digits
+ItemLang (item.Long value digits) t = LongRest value digits t
 
 -- ---- words up to a line's end
 
@@ -154,6 +163,8 @@ IsBehind place.Numbered key.Expunge t = IsCrlf t
 IsBehind place.Numbered key.Fetch t = IsSpaced (ItemLang item.Open) t
 IsBehind place.Item key.Uid t = IsSpaced (ItemLang (item.Number 0 0)) t
 IsBehind place.Item key.Flags t = IsSpaced (NamesLang names.Open) t
+IsBehind place.Item key.ModSeq t = IsSpaced (ItemLang item.LongOpen) t
+IsBehind place.Item key.Size t = IsSpaced (ItemLang (item.Long 0 0)) t
 IsBehind _ _ t = ⊥
 
 -- one of the keys

@@ -116,6 +116,7 @@ lower_drop (c ∷ t) (suc at) e = lower_drop t at (cons_tail (lower c) c (map lo
 folded_some : (p : Phrase) (at : ℕ) → (t : List ℕ) × (map lower t ≡ drop at (phrase_text p))
 folded_some phrase.Space at = (drop at (phrase_text phrase.Space), lower_drop (phrase_text phrase.Space) at refl)
 folded_some phrase.Crlf at = (drop at (phrase_text phrase.Crlf), lower_drop (phrase_text phrase.Crlf) at refl)
+folded_some phrase.Close at = (drop at (phrase_text phrase.Close), lower_drop (phrase_text phrase.Close) at refl)
 folded_some phrase.Earlier at = (drop at (phrase_text phrase.Earlier), lower_drop (phrase_text phrase.Earlier) at refl)
 
 -- ---- tags
@@ -236,6 +237,8 @@ first_no_digit key.Expunge = refl
 first_no_digit key.Fetch = refl
 first_no_digit key.Uid = refl
 first_no_digit key.Flags = refl
+first_no_digit key.ModSeq = refl
+first_no_digit key.Size = refl
 
 lower_digit : (c : ℕ) → is_digit c ≡ true → is_digit (lower c) ≡ true
 lower_digit c e = grind arith

@@ -54,6 +54,8 @@ key_plain key.Vanished m = (8, omega arith, refl)
 key_plain key.Exists m = let e = among_is key.Exists (keys place.Plain) m in absurd cc
 key_plain key.Expunge m = let e = among_is key.Expunge (keys place.Plain) m in absurd cc
 key_plain key.Fetch m = let e = among_is key.Fetch (keys place.Plain) m in absurd cc
+key_plain key.ModSeq m = let e = among_is key.ModSeq (keys place.Plain) m in absurd cc
+key_plain key.Size m = let e = among_is key.Size (keys place.Plain) m in absurd cc
 key_plain key.Uid m = let e = among_is key.Uid (keys place.Plain) m in absurd cc
 key_plain key.Flags m = (7, omega arith, refl)
 
@@ -69,6 +71,8 @@ key_numbered n key.Vanished m = let e = among_is key.Vanished (keys place.Number
 key_numbered n key.Exists m = (0, omega arith, refl)
 key_numbered n key.Expunge m = (1, omega arith, refl)
 key_numbered n key.Fetch m = (2, omega arith, refl)
+key_numbered n key.ModSeq m = let e = among_is key.ModSeq (keys place.Numbered) m in absurd cc
+key_numbered n key.Size m = let e = among_is key.Size (keys place.Numbered) m in absurd cc
 key_numbered n key.Uid m = let e = among_is key.Uid (keys place.Numbered) m in absurd cc
 key_numbered n key.Flags m = let e = among_is key.Flags (keys place.Numbered) m in absurd cc
 

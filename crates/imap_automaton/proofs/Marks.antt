@@ -1,7 +1,9 @@
 -- An octet's mark is forced by the symbols, so octets lead to one text alone; and what a step leaves of literals.
-use Rattle.std.proofs.Common.{◌≡◌, ℕ, ◌+◌, ◌-◌, ◌*◌, ◌<◌, ◌≤◌, Bool, true, false, not, ◌&&◌, ◌||◌, List, [], ◌∷◌, ◌++◌, length, cond, Option, Some, None, refl, sym, ap, subst, ◌∙◌, arith}
+use Rattle.std.proofs.Common.{◌≡◌, ℕ, zero, ◌+◌, ◌-◌, ◌*◌, ◌<◌, ◌≤◌, Bool, true, false, not, ◌&&◌, ◌||◌, List, [], ◌∷◌, ◌++◌, length, cond, Option, Some, None, refl, sym, ap, subst, ◌∙◌, arith}
 use Rattle.std.specs.Prelude.{◌==◌, nat_lt, nat_le}
 use Rattle.std.proofs.lemmas.Bool.{ltb-false, leb-true, and_parts, le-ltb, cond-true, cond-false}
+use Rattle.imap_automaton.specs.declared.sym.Phrase.TheVariants as phrase
+use Rattle.imap_automaton.specs.declared.sym.Line.TheVariants as line
 use Rattle.imap_automaton.specs.declared.sym.Free.TheVariants as free
 use Rattle.imap_automaton.specs.declared.sym.Item.TheVariants as item
 use Rattle.imap_automaton.specs.declared.sym.Names.TheVariants as names
@@ -28,6 +30,7 @@ plain_small c e = cond-true (nat_lt c 256) c (c - 256) e
 begins_no_octets : (s : Sym) → begins s ≡ true → is_octets s ≡ false
 begins_no_octets (sym.Item item.More) b = refl
 begins_no_octets (sym.Names names.More) b = refl
+begins_no_octets (sym.Line (line.Fixed phrase.Close zero)) b = refl
 begins_no_octets _ b = absurd cc
 
 open_no_octets : (s : Sym) → ends_open s ≡ true → is_octets s ≡ false

@@ -86,6 +86,8 @@ behind_back place.Numbered key.Expunge c t h = end_back c t h
 behind_back place.Numbered key.Fetch c t h = spaced_back (sym.Item item.Open) c t h
 behind_back place.Item key.Uid c t h = spaced_back (sym.Item (item.Number 0 0)) c t h
 behind_back place.Item key.Flags c t h = spaced_back (sym.Names names.Open) c t h
+behind_back place.Item key.ModSeq c t h = spaced_back (sym.Item item.LongOpen) c t h
+behind_back place.Item key.Size c t h = spaced_back (sym.Item (item.Long 0 0)) c t h
 behind_back _ _ c t h = absurd h
 
 behind_forth : (p : Place) (k : Key) (c : ℕ) (t : List ℕ) → IsBehind p k (c ∷ t) → After (behind_key p k c) t
@@ -106,6 +108,8 @@ behind_forth place.Numbered key.Expunge c t h = end_forth c t h
 behind_forth place.Numbered key.Fetch c t h = spaced_forth (sym.Item item.Open) c t h
 behind_forth place.Item key.Uid c t h = spaced_forth (sym.Item (item.Number 0 0)) c t h
 behind_forth place.Item key.Flags c t h = spaced_forth (sym.Names names.Open) c t h
+behind_forth place.Item key.ModSeq c t h = spaced_forth (sym.Item item.LongOpen) c t h
+behind_forth place.Item key.Size c t h = spaced_forth (sym.Item (item.Long 0 0)) c t h
 behind_forth _ _ c t h = absurd h
 
 rest_none : IsRest [] → ⊥
@@ -133,6 +137,8 @@ behind_none place.Numbered key.Expunge h = let e : [] ≡ crlf = h in cc
 behind_none place.Numbered key.Fetch h = spaced_none (ItemLang item.Open) h
 behind_none place.Item key.Uid h = spaced_none (ItemLang (item.Number 0 0)) h
 behind_none place.Item key.Flags h = spaced_none (NamesLang names.Open) h
+behind_none place.Item key.ModSeq h = spaced_none (ItemLang item.LongOpen) h
+behind_none place.Item key.Size h = spaced_none (ItemLang (item.Long 0 0)) h
 behind_none _ _ h = h
 
 -- ---- at a word that is no key
@@ -369,4 +375,6 @@ word_example place.Tagged key.Bad at le m = (drop at (codes "bad") ++ crlf, key_
 word_example place.Tagged _ at le m = absurd cc
 word_example place.Item key.Uid at le m = (drop at (codes "uid") ++ 32 ∷ 49 ∷ [], key_example place.Item key.Uid at (32 ∷ 49 ∷ []) le (is_among_is key.Uid (keys place.Item) m) refl (49 ∷ [], refl, record { each = (refl, tt); some = omega arith; few = omega arith; most = omega arith; not_zero = omega arith }))
 word_example place.Item key.Flags at le m = (drop at (codes "flags") ++ 32 ∷ 40 ∷ 41 ∷ [], key_example place.Item key.Flags at (32 ∷ 40 ∷ 41 ∷ []) le (is_among_is key.Flags (keys place.Item) m) refl (40 ∷ 41 ∷ [], refl, ([], (tt, refl))))
+word_example place.Item key.ModSeq at le m = (drop at (codes "modseq") ++ 32 ∷ codes "(1)", key_example place.Item key.ModSeq at (32 ∷ codes "(1)") le (is_among_is key.ModSeq (keys place.Item) m) refl (codes "(1)", refl, (49 ∷ [], refl, record { each = (refl, tt); some = omega arith; few = omega arith; most = omega arith })))
+word_example place.Item key.Size at le m = (drop at (codes "rfc822.size") ++ 32 ∷ 49 ∷ [], key_example place.Item key.Size at (32 ∷ 49 ∷ []) le (is_among_is key.Size (keys place.Item) m) refl (49 ∷ [], refl, record { each = (refl, tt); some = omega arith; few = omega arith; most = omega arith }))
 word_example place.Item _ at le m = absurd cc

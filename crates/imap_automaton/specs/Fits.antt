@@ -34,6 +34,7 @@ FreeFits (free.Octets n) = nat_lt 0 n && nat_le n 50000000
 
 abbrev pub ItemFits : Item → Bool
 ItemFits (item.Number value digits) = nat_le digits 10 && nat_le value 4294967295 && (nat_lt 0 digits || value == 0) && not (value == 0 && digits == 10)
+ItemFits (item.Long value digits) = nat_le digits 19 && nat_le value 9223372036854775807 && (nat_lt 0 digits || value == 0)
 ItemFits _ = true
 
 abbrev pub SetFits : Set → Bool

@@ -1,6 +1,7 @@
 -- Which symbol may end before an octet, which begins with one that ends those, and how many may stand on a stack.
-use Rattle.std.specs.Prelude.{◌≡◌, ℕ, ◌+◌, ◌≤◌, nat_le, Bool, true, false, not, ◌&&◌, ◌||◌, ◌==◌, List, [], ◌∷◌, length}
+use Rattle.std.specs.Prelude.{◌≡◌, ℕ, zero, ◌+◌, ◌≤◌, nat_le, Bool, true, false, not, ◌&&◌, ◌||◌, ◌==◌, List, [], ◌∷◌, length}
 use Rattle.imap_automaton.specs.declared.sym.Place.TheVariants as place
+use Rattle.imap_automaton.specs.declared.sym.Phrase.TheVariants as phrase
 use Rattle.imap_automaton.specs.declared.sym.Line.TheVariants as line
 use Rattle.imap_automaton.specs.declared.sym.Free.TheVariants as free
 use Rattle.imap_automaton.specs.declared.sym.Item.TheVariants as item
@@ -16,6 +17,7 @@ use Rattle.imap_automaton.specs.Fits.{SymFits}
 abbrev pub ends_open : Sym → Bool
 ends_open (sym.Word place.Item key at) = true
 ends_open (sym.Item (item.Number value digits)) = true
+ends_open (sym.Item (item.Long value digits)) = true
 ends_open (sym.Names names.Name) = true
 ends_open (sym.Names names.Atom) = true
 ends_open (sym.Names names.AtomRest) = true
@@ -25,6 +27,7 @@ ends_open _ = false
 abbrev pub begins : Sym → Bool
 begins (sym.Item item.More) = true
 begins (sym.Names names.More) = true
+begins (sym.Line (line.Fixed phrase.Close zero)) = true
 begins _ = false
 
 abbrev pub stops : ℕ → Bool
@@ -59,6 +62,7 @@ need (sym.Word p key at) = 4
 need (sym.Free (free.Text s)) = 2
 need (sym.Item item.Open) = 3
 need (sym.Item item.More) = 3
+need (sym.Item item.LongOpen) = 2
 need (sym.Names names.Open) = 2
 need (sym.Names names.First) = 2
 need (sym.Names names.More) = 2
@@ -98,5 +102,6 @@ left_of (s ∷ ss) = sym_left s + left_of ss
 -- may end before an octet
 abbrev pub may_yield : Sym → Bool
 may_yield (sym.Item (item.Number value digits)) = true
+may_yield (sym.Item (item.Long value digits)) = true
 may_yield (sym.Names names.AtomRest) = true
 may_yield _ = false

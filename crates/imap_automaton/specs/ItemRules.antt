@@ -23,9 +23,18 @@ number_rule value digits c =
     then move.One (sym.Item (item.Number (10 * value + (c - 48)) (digits + 1))) else move.Fail)
     else if nat_lt 0 value then move.Yield else move.Fail
 
+abbrev pub long_rule : ℕ → ℕ → ℕ → Move
+long_rule value digits c =
+    if is_digit c then
+    (if nat_lt digits 19 && nat_le (10 * value + (c - 48)) 9223372036854775807
+    then move.One (sym.Item (item.Long (10 * value + (c - 48)) (digits + 1))) else move.Fail)
+    else if nat_lt 0 digits then move.Yield else move.Fail
+
 abbrev pub item_rule : Item → ℕ → Move
 item_rule item.Open c = if c == 40 then move.Two item_start (sym.Item item.More) else move.Fail
 item_rule item.More c =
     if c == 32 then move.Two item_start (sym.Item item.More)
     else if c == 41 then move.One (sym.Line (line.Fixed phrase.Crlf 0)) else move.Fail
 item_rule (item.Number value digits) c = number_rule value digits c
+item_rule item.LongOpen c = if c == 40 then move.Two (sym.Item (item.Long 0 0)) (sym.Line (line.Fixed phrase.Close 0)) else move.Fail
+item_rule (item.Long value digits) c = long_rule value digits c

@@ -12,6 +12,7 @@ abbrev pub phrase_text : Phrase → List ℕ
 phrase_text phrase.Space = 32 ∷ []
 phrase_text phrase.Crlf = 13 ∷ 10 ∷ []
 phrase_text phrase.Earlier = codes "(earlier) "
+phrase_text phrase.Close = 41 ∷ []
 
 -- in lower case
 abbrev pub key_text : Key → List ℕ
@@ -28,13 +29,15 @@ key_text key.Expunge = codes "expunge"
 key_text key.Fetch = codes "fetch"
 key_text key.Uid = codes "uid"
 key_text key.Flags = codes "flags"
+key_text key.ModSeq = codes "modseq"
+key_text key.Size = codes "rfc822.size"
 
 -- the words that count in a place
 abbrev pub keys : Place → List Key
 keys place.Tagged = key.Ok ∷ key.No ∷ key.Bad ∷ []
 keys place.Plain = key.Ok ∷ key.No ∷ key.Bad ∷ key.Preauth ∷ key.Bye ∷ key.Capability ∷ key.Enabled ∷ key.Flags ∷ key.Vanished ∷ []
 keys place.Numbered = key.Exists ∷ key.Expunge ∷ key.Fetch ∷ []
-keys place.Item = key.Uid ∷ key.Flags ∷ []
+keys place.Item = key.Uid ∷ key.Flags ∷ key.ModSeq ∷ key.Size ∷ []
 
 abbrev pub first_key : Place → Key
 first_key place.Item = key.Uid

@@ -51,6 +51,8 @@ behind_key place.Numbered key.Expunge c = end_rule c
 behind_key place.Numbered key.Fetch c = spaced_rule (move.One (sym.Item item.Open)) c
 behind_key place.Item key.Uid c = spaced_rule (move.One (sym.Item (item.Number 0 0))) c
 behind_key place.Item key.Flags c = spaced_rule (move.One (sym.Names names.Open)) c
+behind_key place.Item key.ModSeq c = spaced_rule (move.One (sym.Item item.LongOpen)) c
+behind_key place.Item key.Size c = spaced_rule (move.One (sym.Item (item.Long 0 0))) c
 behind_key _ _ c = move.Fail
 
 -- at a word that is none

@@ -33,6 +33,40 @@ fn number_rule(value: u32, digits: u8, c: u16) -> Move
     }
 }
 
+/// Digits of a long number.
+const LONG_DIGITS: u8 = 19;
+
+fn long_rule(value: u64, digits: u8, c: u16) -> Move
+    requires { IsTrue (ItemFits (Item.Long value digits)) }
+    ensures { result ≡ rules.long_rule value digits c }
+{
+    if is_digit(c) {
+        let next = 10 * value as u128 + (c - b'0' as u16) as u128;
+        if digits < LONG_DIGITS && next <= i64::MAX as u128 {
+            Move::One(Sym::Item(Item::Long(next as u64, digits + 1)))
+        } else {
+            Move::Fail
+        }
+    } else if 0 < digits {
+        Move::Yield
+    } else {
+        Move::Fail
+    }
+}
+
+fn long_open_rule(c: u16) -> Move
+    ensures { result ≡ rules.item_rule Item.LongOpen c }
+{
+    if c == b'(' as u16 {
+        Move::Two(
+            Sym::Item(Item::Long(0, 0)),
+            Sym::Line(Line::Fixed(Phrase::Close, 0)),
+        )
+    } else {
+        Move::Fail
+    }
+}
+
 pub fn item_rule(item: Item, c: u16) -> Move
     requires { IsTrue (ItemFits item) }
     ensures { result ≡ rules.item_rule item c }
@@ -55,5 +89,7 @@ pub fn item_rule(item: Item, c: u16) -> Move
             }
         }
         Item::Number(value, digits) => number_rule(value, digits, c),
+        Item::LongOpen => long_open_rule(c),
+        Item::Long(value, digits) => long_rule(value, digits, c),
     }
 }

@@ -20,6 +20,7 @@ fn phrase_text(phrase: Phrase) -> &'static [u8]
         Phrase::Space => b" ",
         Phrase::Crlf => b"\r\n",
         Phrase::Earlier => b"(earlier) ",
+        Phrase::Close => b")",
     }
 }
 

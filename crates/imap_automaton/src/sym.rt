@@ -6,6 +6,7 @@ pub enum Phrase {
     Space,
     Crlf,
     Earlier,
+    Close,
 }
 
 /// A word by which a reader decides.
@@ -24,6 +25,8 @@ pub enum Key {
     Fetch,
     Uid,
     Flags,
+    ModSeq,
+    Size,
 }
 
 /// Where a word is read.
@@ -103,6 +106,10 @@ pub enum Item {
     More,
     /// Within a number that isn't 0, its value so far and how many digits it has.
     Number(u32, u8),
+    /// Before a long number in brackets.
+    LongOpen,
+    /// Within a long number, its value so far and how many digits it has.
+    Long(u64, u8),
 }
 
 /// Within names in brackets.

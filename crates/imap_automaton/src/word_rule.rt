@@ -26,6 +26,8 @@ fn key_text(key: Key) -> &'static [u8]
         Key::Fetch => b"fetch",
         Key::Uid => b"uid",
         Key::Flags => b"flags",
+        Key::ModSeq => b"modseq",
+        Key::Size => b"rfc822.size",
     }
 }
 
@@ -45,7 +47,7 @@ static LINE_KEYS: [Key; 9] = [
 
 static NUMBERED_KEYS: [Key; 3] = [Key::Exists, Key::Expunge, Key::Fetch];
 
-static ITEM_KEYS: [Key; 2] = [Key::Uid, Key::Flags];
+static ITEM_KEYS: [Key; 4] = [Key::Uid, Key::Flags, Key::ModSeq, Key::Size];
 
 /// The words that count in a place.
 fn keys(place: Place) -> &'static [Key]
@@ -216,6 +218,8 @@ fn behind_key(place: Place, key: Key, c: u16) -> Move
         (Place::Numbered, Key::Fetch) => spaced_rule(Sym::Item(Item::Open), c),
         (Place::Item, Key::Uid) => spaced_rule(Sym::Item(Item::Number(0, 0)), c),
         (Place::Item, Key::Flags) => spaced_rule(Sym::Names(Names::Open), c),
+        (Place::Item, Key::ModSeq) => spaced_rule(Sym::Item(Item::LongOpen), c),
+        (Place::Item, Key::Size) => spaced_rule(Sym::Item(Item::Long(0, 0)), c),
         _ => Move::Fail,
     }
 }

@@ -1,9 +1,9 @@
 -- Where a run of octets of a class ends.
 use Rattle.std.proofs.Common.{◌≡◌, ℕ, zero, suc, ◌+◌, ◌-◌, ◌*◌, ◌<◌, ◌≤◌, Bool, true, false, List, [], ◌∷◌, ◌++◌, length, map, take, drop, get_or, cond, refl, sym, ap, subst, ◌∙◌, arith}
 use Rattle.std.specs.Prelude.{nat_lt, nat_le}
-use Rattle.std.proofs.lemmas.Bool.{cond-true, cond-false, leb-true, leb-false, le-leb}
+use Rattle.std.proofs.lemmas.Bool.{cond-true, cond-false, leb-true, leb-false, le-leb, false_from_ne_true}
 use Rattle.std.proofs.lemmas.List.{map-append}
-use Rattle.imap_grammar.specs.Reading.{span, capped, number_from, number_in}
+use Rattle.imap_grammar.specs.Reading.{span, cap, count_from, number_from, number_in, long_in}
 use Rattle.imap_syntax.specs.Texts.{Each, plain_of, plain}
 use Rattle.imap_syntax.specs.Numbers.{value_from}
 
@@ -71,41 +71,44 @@ cut_at p x y b e h o =
 
 -- ---- numbers
 
-capped_more : (v d : ℕ) → capped (10 * capped v + d) ≡ capped (10 * v + d)
-capped_more v d = by (nat_le v 4294967295) refl
+cap_more : (most v d : ℕ) → cap most (10 * cap most v + d) ≡ cap most (10 * v + d)
+cap_more most v d = by (nat_le v most) refl
   where
-    by : (b : Bool) → nat_le v 4294967295 ≡ b → capped (10 * capped v + d) ≡ capped (10 * v + d)
-    by true e = ap (λ (n : ℕ). capped (10 * n + d)) (cond-true (nat_le v 4294967295) v 4294967296 e)
+    past : (n : ℕ) → most + 1 ≤ n → cap most n ≡ most + 1
+    past n lt = cond-false (nat_le n most) n (most + 1) (false_from_ne_true (nat_le n most) (λ e. let le = leb-true n most e in omega (arith, le, lt)))
+
+    by : (b : Bool) → nat_le v most ≡ b → cap most (10 * cap most v + d) ≡ cap most (10 * v + d)
+    by true e = ap (λ (n : ℕ). cap most (10 * n + d)) (cond-true (nat_le v most) v (most + 1) e)
     by false e =
-        let over : 4294967295 < v = leb-false v 4294967295 e in
-        let is : capped v ≡ 4294967296 = cond-false (nat_le v 4294967295) v 4294967296 e in
-        past (10 * capped v + d) (omega (arith, is)) ∙ sym (past (10 * v + d) (omega (arith, over)))
-      where
-        past : (n : ℕ) → 4294967296 ≤ n → capped n ≡ 4294967296
-        past n lt = grind arith
+        let over : most < v = leb-false v most e in
+        let is : cap most v ≡ most + 1 = cond-false (nat_le v most) v (most + 1) e in
+        past (10 * cap most v + d) (omega (arith, is)) ∙ sym (past (10 * v + d) (omega (arith, over)))
 
-number_capped : (v : ℕ) (t : List ℕ) → number_from (capped v) t ≡ capped (value_from v t)
-unfolding number_from
-number_capped v [] = refl
-number_capped v (c ∷ t) = ap (λ (n : ℕ). number_from n t) (capped_more v (c - 48)) ∙ number_capped (10 * v + (c - 48)) t
+count_capped : (most v : ℕ) (t : List ℕ) → count_from most (cap most v) t ≡ cap most (value_from v t)
+unfolding count_from
+count_capped most v [] = refl
+count_capped most v (c ∷ t) = ap (λ (n : ℕ). count_from most n t) (cap_more most v (c - 48)) ∙ count_capped most (10 * v + (c - 48)) t
 
-capped_small : (n : ℕ) → n ≤ 4294967295 → capped n ≡ n
-capped_small n le = grind arith
+cap_small : (most n : ℕ) → n ≤ most → cap most n ≡ n
+cap_small most n le = cond-true (nat_le n most) n (most + 1) (le-leb n most le)
 
-pub number_from_is : (t : List ℕ) → number_from 0 t ≡ capped (value_from 0 t)
-number_from_is t = number_capped 0 t
+pub number_from_is : (t : List ℕ) → number_from 0 t ≡ cap 4294967295 (value_from 0 t)
+number_from_is t = count_capped 4294967295 0 t
 
 pub number_is : (t : List ℕ) → value_from 0 t ≤ 4294967295 → number_in t ≡ value_from 0 t
 number_is t le =
-    let e : number_from 0 t ≡ value_from 0 t = number_from_is t ∙ capped_small (value_from 0 t) le in
+    let e : number_from 0 t ≡ value_from 0 t = number_from_is t ∙ cap_small 4294967295 (value_from 0 t) le in
     ap (λ (n : ℕ). cond (nat_le n 4294967295) n 4294967295) e ∙ cond-true (nat_le (value_from 0 t) 4294967295) (value_from 0 t) 4294967295 (le-leb (value_from 0 t) 4294967295 le)
 
-pub small_capped : (n : ℕ) → capped n ≤ 4294967295 → n ≤ 4294967295
+pub long_is : (t : List ℕ) → value_from 0 t ≤ 9223372036854775807 → long_in t ≡ value_from 0 t
+long_is t le = count_capped 9223372036854775807 0 t ∙ cap_small 9223372036854775807 (value_from 0 t) le
+
+pub small_capped : (n : ℕ) → cap 4294967295 n ≤ 4294967295 → n ≤ 4294967295
 small_capped n le = by (nat_le n 4294967295) refl
   where
     by : (b : Bool) → nat_le n 4294967295 ≡ b → n ≤ 4294967295
     by true e = leb-true n 4294967295 e
     by false e = absurd (omega (arith, le, cond-false (nat_le n 4294967295) n 4294967296 e))
 
-pub capped_le : (n : ℕ) → n ≤ 4294967295 → capped n ≤ 4294967295
-capped_le n le = let e = capped_small n le in omega (arith, e, le)
+pub capped_le : (n : ℕ) → n ≤ 4294967295 → cap 4294967295 n ≤ 4294967295
+capped_le n le = let e = cap_small 4294967295 n le in omega (arith, e, le)

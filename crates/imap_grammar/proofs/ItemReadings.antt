@@ -1,18 +1,18 @@
 -- The items of a FETCH are read back as what they tell.
-use Rattle.std.proofs.Common.{◌≡◌, ◌⊎◌, ℕ, zero, suc, ◌+◌, ◌<◌, ◌≤◌, Bool, true, false, List, [], ◌∷◌, ◌++◌, length, map, take, drop, get_or, cond, refl, sym, ap, subst, ◌∙◌, append_assoc, arith, inl, inr, Option, Some}
+use Rattle.std.proofs.Common.{◌≡◌, ◌⊎◌, ℕ, zero, suc, ◌+◌, ◌-◌, ◌<◌, ◌≤◌, Bool, true, false, List, [], ◌∷◌, ◌++◌, length, map, take, drop, get_or, cond, refl, sym, ap, subst, ◌∙◌, append_assoc, arith, inl, inr, Option, Some}
 use Rattle.std.specs.Prelude.{◌==◌, codes, bytes_eq}
 use Rattle.std.proofs.lemmas.Bool.{cond-true, cond-false}
 use Rattle.std.proofs.lemmas.List.{length-append, append-nil, map-append}
 use Rattle.imap_automaton.proofs.KeyLemmas.{text_same}
 use Rattle.imap_automaton.proofs.Lists.{cons_head, cons_tail}
-use Rattle.imap_grammar.specs.Reading.{span, in_name, number_in, names_in, flags_in, value_in, item_in, items_in}
-use Rattle.imap_grammar.proofs.Cuts.{small, plain_small, plain_join, each_to, each_join, CutAt, cut_at, number_is}
+use Rattle.imap_grammar.specs.Reading.{span, in_name, number_in, long_in, names_in, flags_in, value_in, item_in, items_in}
+use Rattle.imap_grammar.proofs.Cuts.{small, plain_small, plain_join, each_to, each_join, CutAt, cut_at, number_is, long_is}
 use Rattle.imap_syntax.specs.declared.response.FetchItems.{FetchItems}
 use Rattle.imap_syntax.specs.Octets.{is_digit, is_atom, lower}
 use Rattle.imap_syntax.specs.Texts.{Each, plain_of, plain, crlf}
-use Rattle.imap_syntax.specs.Numbers.{value_from}
+use Rattle.imap_syntax.specs.Numbers.{value_from, IsLong}
 use Rattle.imap_syntax.specs.Lines.{spaced}
-use Rattle.imap_syntax.specs.Items.{IsAtom, IsName, AllNames, joined, IsNames, Item, Uid, Flags, IsItemValue, IsItem, IsMore, IsItems, add_name, kept_from, kept, told, told_from}
+use Rattle.imap_syntax.specs.Items.{IsAtom, IsName, AllNames, joined, IsNames, Item, Uid, Flags, ModSeq, Size, IsItemValue, IsItem, IsMore, IsItems, add_name, kept_from, kept, told, told_from}
 
 -- ---- names
 
@@ -78,19 +78,66 @@ flags_read (n ∷ ns) rest b all e =
 digit_small : (c : ℕ) → is_digit c ≡ true → small c ≡ true
 digit_small c e = grind arith
 
+abbrev flags_part : FetchItems → List ℕ → FetchItems × List ℕ
+flags_part so_far b = (record so_far { flags = Some (flags_in (drop 1 b)).0 }, (flags_in (drop 1 b)).1)
+
+abbrev size_part : FetchItems → List ℕ → FetchItems × List ℕ
+size_part so_far b = (record so_far { size = Some (long_in (take (span is_digit b) b)) }, drop (span is_digit b) b)
+
+abbrev size_or : FetchItems → List ℕ → List ℕ → FetchItems × List ℕ
+size_or so_far name b = cond (bytes_eq name (codes "rfc822.size")) (size_part so_far b) (flags_part so_far b)
+
+abbrev modseq_part : FetchItems → List ℕ → FetchItems × List ℕ
+modseq_part so_far b = (record so_far { modseq = Some (long_in (take (span is_digit (drop 1 b)) (drop 1 b))) }, drop (span is_digit (drop 1 b) + 1) (drop 1 b))
+
+abbrev modseq_or : FetchItems → List ℕ → List ℕ → FetchItems × List ℕ
+modseq_or so_far name b = cond (bytes_eq name (codes "modseq")) (modseq_part so_far b) (size_or so_far name b)
+
+abbrev uid_part : FetchItems → List ℕ → FetchItems × List ℕ
+uid_part so_far b = (record so_far { uid = Some (number_in (take (span is_digit b) b)) }, drop (span is_digit b) b)
+
+-- another name
+other_name : {A : Type 0} (name is key : List ℕ) (x y : A) → name ≡ is → bytes_eq is key ≡ false → cond (bytes_eq name key) x y ≡ y
+other_name name is key x y e f = cond-false (bytes_eq name key) x y (ap (λ (u : List ℕ). bytes_eq u key) e ∙ f)
+
+this_name : {A : Type 0} (name key : List ℕ) (x y : A) → name ≡ key → cond (bytes_eq name key) x y ≡ x
+this_name name key x y e = cond-true (bytes_eq name key) x y (text_same name key e)
+
+long_read : (n : ℕ) (t : List ℕ) → IsLong n t → long_in t ≡ n
+long_read n t h = long_is t (omega (arith, h.value, h.most)) ∙ sym h.value
+
 value_read : (i : Item) (so_far : FetchItems) (name value back b : List ℕ) → IsItem i (name ++ 32 ∷ value) → IsItemValue i (map lower name) value → is_digit (get_or back 0 0) ≡ false → b ≡ plain value ++ back → value_in so_far (map lower name) b ≡ (told so_far i, back)
 unfolding value_in
 value_read (Uid n) so_far name value back b item h out e =
     let v : plain value ≡ value = plain_small value (each_to is_digit small value digit_small h.1.0.digits) in
     let k = cut_at is_digit value back b (e ∙ ap (λ (u : List ℕ). u ++ back) v) h.1.0.digits out in
     let num : number_in (take (span is_digit b) b) ≡ n = ap number_in k.front ∙ number_is value (omega (arith, h.1.0.value, h.1.0.most)) ∙ sym h.1.0.value in
-    cond-true (bytes_eq (map lower name) (codes "uid")) (record so_far { uid = Some (number_in (take (span is_digit b) b)) }, drop (span is_digit b) b) (record so_far { flags = Some (flags_in (drop 1 b)).0 }, (flags_in (drop 1 b)).1) (text_same (map lower name) (codes "uid") h.0)
+    this_name (map lower name) (codes "uid") (uid_part so_far b) (modseq_or so_far (map lower name) b) h.0
     ∙ ap (λ (m : ℕ). (told so_far (Uid m), drop (span is_digit b) b)) num ∙ ap (λ (u : List ℕ). (told so_far (Uid n), u)) k.back
 value_read (Flags ns) so_far name value back b item h out e =
     let inner : plain value ≡ 40 ∷ joined ns ++ 41 ∷ [] = ap plain h.1.1 ∙ plain_small (40 ∷ joined ns ++ 41 ∷ []) (refl, each_join small (joined ns) (41 ∷ []) (joined_small ns h.1.0) (refl, tt)) in
     let f : drop 1 b ≡ joined ns ++ 41 ∷ back = ap (drop 1) (e ∙ ap (λ (u : List ℕ). u ++ back) inner) ∙ append_assoc (joined ns) (41 ∷ []) back in
-    cond-false (bytes_eq (map lower name) (codes "uid")) (record so_far { uid = Some (number_in (take (span is_digit b) b)) }, drop (span is_digit b) b) (record so_far { flags = Some (flags_in (drop 1 b)).0 }, (flags_in (drop 1 b)).1) (ap (λ (u : List ℕ). bytes_eq u (codes "uid")) h.0)
+    other_name (map lower name) (codes "flags") (codes "uid") (uid_part so_far b) (modseq_or so_far (map lower name) b) h.0 refl
+    ∙ other_name (map lower name) (codes "flags") (codes "modseq") (modseq_part so_far b) (size_or so_far (map lower name) b) h.0 refl
+    ∙ other_name (map lower name) (codes "flags") (codes "rfc822.size") (size_part so_far b) (flags_part so_far b) h.0 refl
     ∙ ap (λ (r : List (List ℕ) × List ℕ). (record so_far { flags = Some r.0 }, r.1)) (flags_read ns back (drop 1 b) h.1.0 f)
+value_read (ModSeq n) so_far name value back b item h out e =
+    let digits = h.1.0 in
+    let is = h.1.2 in
+    let d = drop 1 b in
+    let inner : plain value ≡ 40 ∷ digits ++ 41 ∷ [] = ap plain h.1.1 ∙ plain_small (40 ∷ digits ++ 41 ∷ []) (refl, each_join small digits (41 ∷ []) (each_to is_digit small digits digit_small is.digits) (refl, tt)) in
+    let f : d ≡ digits ++ 41 ∷ back = ap (drop 1) (e ∙ ap (λ (u : List ℕ). u ++ back) inner) ∙ append_assoc digits (41 ∷ []) back in
+    let k = cut_at is_digit digits (41 ∷ back) d f is.digits refl in
+    other_name (map lower name) (codes "modseq") (codes "uid") (uid_part so_far b) (modseq_or so_far (map lower name) b) h.0 refl
+    ∙ this_name (map lower name) (codes "modseq") (modseq_part so_far b) (size_or so_far (map lower name) b) h.0
+    ∙ ap (λ (m : ℕ). (told so_far (ModSeq m), drop (span is_digit d + 1) d)) (ap long_in k.front ∙ long_read n digits is) ∙ ap (λ (u : List ℕ). (told so_far (ModSeq n), u)) (k.past 41 back refl)
+value_read (Size n) so_far name value back b item h out e =
+    let v : plain value ≡ value = plain_small value (each_to is_digit small value digit_small h.1.digits) in
+    let k = cut_at is_digit value back b (e ∙ ap (λ (u : List ℕ). u ++ back) v) h.1.digits out in
+    other_name (map lower name) (codes "rfc822.size") (codes "uid") (uid_part so_far b) (modseq_or so_far (map lower name) b) h.0 refl
+    ∙ other_name (map lower name) (codes "rfc822.size") (codes "modseq") (modseq_part so_far b) (size_or so_far (map lower name) b) h.0 refl
+    ∙ this_name (map lower name) (codes "rfc822.size") (size_part so_far b) (flags_part so_far b) h.0
+    ∙ ap (λ (m : ℕ). (told so_far (Size m), drop (span is_digit b) b)) (ap long_in k.front ∙ long_read n value h.1) ∙ ap (λ (u : List ℕ). (told so_far (Size n), u)) k.back
 
 item_read : (i : Item) (so_far : FetchItems) (t back b : List ℕ) → IsItem i t → is_digit (get_or back 0 0) ≡ false → b ≡ plain t ++ back → item_in so_far b ≡ (told so_far i, back)
 unfolding item_in
@@ -100,6 +147,23 @@ item_read i so_far t back b h out e =
     let k = cut_at in_name h.name (32 ∷ (plain h.value ++ back)) b cut (each_to is_atom in_name h.name atom_name h.atom) refl in
     ap (λ (u : List ℕ). value_in so_far (map lower u) (drop (span in_name b + 1) b)) k.front
     ∙ value_read i so_far h.name h.value back (drop (span in_name b + 1) b) (subst (IsItem i) h.whole h) h.item out (k.past 32 (plain h.value ++ back) refl)
+
+-- ---- one item more
+
+less_one : (n : ℕ) → n ≡ suc n - 1
+less_one n = omega arith
+
+pub items_next : (left : ℕ) (so_far : FetchItems) (b : List ℕ) → 0 < left → (get_or (item_in so_far b).1 0 0 == 32) ≡ true → items_in left so_far b ≡ items_in (left - 1) (item_in so_far b).0 (drop 1 (item_in so_far b).1)
+unfolding items_in
+items_next zero so_far b lt e = absurd (omega (arith, lt))
+items_next (suc left) so_far b lt e =
+    let r = item_in so_far b in
+    cond-true (get_or r.1 0 0 == 32) (items_in left r.0 (drop 1 r.1)) r.0 e ∙ ap (λ (n : ℕ). items_in n r.0 (drop 1 r.1)) (less_one left)
+
+pub items_last : (left : ℕ) (so_far : FetchItems) (b : List ℕ) → 0 < left → (get_or (item_in so_far b).1 0 0 == 32) ≡ false → items_in left so_far b ≡ (item_in so_far b).0
+unfolding items_in
+items_last zero so_far b lt e = absurd (omega (arith, lt))
+items_last (suc left) so_far b lt e = let r = item_in so_far b in cond-false (get_or r.1 0 0 == 32) (items_in left r.0 (drop 1 r.1)) r.0 e
 
 more_head : (is : List Item) (y : List ℕ) → IsMore is y → is_digit (get_or (plain y) 0 0) ≡ false
 more_head [] y h = ap (λ (u : List ℕ). is_digit (get_or (plain u) 0 0)) h

@@ -2,7 +2,7 @@
 use Rattle.std.proofs.Common.{◌≡◌, ℕ, zero, suc, ◌+◌, ◌-◌, ◌*◌, ◌<◌, ◌≤◌, Bool, true, false, List, [], ◌∷◌, length, take, drop, get_or, cond, refl, ◌∙◌, arith}
 use Rattle.std.proofs.lemmas.Bool.{cond-true, cond-false}
 use Rattle.std.proofs.lemmas.List.{drop_all}
-use Rattle.imap_grammar.specs.Reading.{span, capped, number_from, all_digits}
+use Rattle.imap_grammar.specs.Reading.{span, cap, count_from, all_digits}
 use Rattle.imap_syntax.specs.Octets.{is_digit}
 use Rattle.imap_automaton.proofs.Tests.{drop_at}
 
@@ -32,12 +32,12 @@ pub digits_end : (b : List ℕ) (i : ℕ) → length b ≤ i → all_digits (dro
 unfolding all_digits
 digits_end b i le = rw (drop_all i b le) refl
 
-pub number_more : (n : ℕ) (b : List ℕ) (i : ℕ) → i < length b → number_from n (drop i b) ≡ number_from (capped (10 * n + (get_or b i 0 - 48))) (drop (i + 1) b)
-unfolding number_from
-number_more n b i lt = rw (drop_at b i lt) refl
+pub count_more : (most n : ℕ) (b : List ℕ) (i : ℕ) → i < length b → count_from most n (drop i b) ≡ count_from most (cap most (10 * n + (get_or b i 0 - 48))) (drop (i + 1) b)
+unfolding count_from
+count_more most n b i lt = rw (drop_at b i lt) refl
 
-pub number_end : (n : ℕ) (b : List ℕ) (i : ℕ) → length b ≤ i → number_from n (drop i b) ≡ n
-unfolding number_from
-number_end n b i le = rw (drop_all i b le) refl
+pub count_end : (most n : ℕ) (b : List ℕ) (i : ℕ) → length b ≤ i → count_from most n (drop i b) ≡ n
+unfolding count_from
+count_end most n b i le = rw (drop_all i b le) refl
 
-pub ruleset runs = (digits_more, digits_stop, digits_end, number_more, number_end)
+pub ruleset runs = (digits_more, digits_stop, digits_end, count_more, count_end)

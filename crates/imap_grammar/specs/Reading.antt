@@ -20,13 +20,21 @@ span p (c ∷ b) = if p c then suc (span p b) else 0
 abbrev pub in_name : ℕ → Bool
 in_name c = not (c == 32) && not (c == 41)
 
--- the number, or 2^32 where it is greater
-abbrev pub capped : ℕ → ℕ
-capped n = if nat_le n 4294967295 then n else 4294967296
+-- the number, or one more than the most where it is greater
+abbrev pub cap : ℕ → ℕ → ℕ
+cap most n = if nat_le n most then n else most + 1
 
-unfoldable pub number_from : ℕ → List ℕ → ℕ
-number_from n [] = n
-number_from n (c ∷ t) = number_from (capped (10 * n + (c - 48))) t
+-- the same of the number that the digits go on to make
+unfoldable pub count_from : ℕ → ℕ → List ℕ → ℕ
+count_from most n [] = n
+count_from most n (c ∷ t) = count_from most (cap most (10 * n + (c - 48))) t
+
+abbrev pub number_from : ℕ → List ℕ → ℕ
+number_from n t = count_from 4294967295 n t
+
+-- the number, or 2^63 where it is greater
+abbrev pub long_in : List ℕ → ℕ
+long_in t = count_from 9223372036854775807 0 t
 
 -- the number, or 2^32 - 1 where it is greater
 abbrev pub number_in : List ℕ → ℕ
@@ -88,6 +96,10 @@ unfoldable pub value_in : FetchItems → List ℕ → List ℕ → FetchItems ×
 value_in so_far name b =
     if bytes_eq name (codes "uid")
     then (let n = span is_digit b in (record so_far { uid = Some (number_in (take n b)) }, drop n b))
+    else if bytes_eq name (codes "modseq")
+    then (let d = drop 1 b in (record so_far { modseq = Some (long_in (take (span is_digit d) d)) }, drop (span is_digit d + 1) d))
+    else if bytes_eq name (codes "rfc822.size")
+    then (let n = span is_digit b in (record so_far { size = Some (long_in (take n b)) }, drop n b))
     else (let f = flags_in (drop 1 b) in (record so_far { flags = Some f.0 }, f.1))
 
 unfoldable pub item_in : FetchItems → List ℕ → FetchItems × List ℕ

@@ -118,6 +118,36 @@ const FETCH: [(&[u8], u32, Option<u32>, &[u8]); 4] = [
     (b"* 0 FETCH (UID 0000000042)\r\n", 0, Some(42), b"-"),
 ];
 
+/// A FETCH, and the mod-sequence and the size that it tells.
+const SIZES: [(&[u8], Option<u64>, Option<u64>); 4] = [
+    (b"* 1 FETCH (UID 1 MODSEQ (14))\r\n", Some(14), None),
+    (
+        b"* 1 FETCH (rfc822.Size 9223372036854775807 modseq (0))\r\n",
+        Some(0),
+        Some(9_223_372_036_854_775_807),
+    ),
+    (
+        b"* 2 FETCH (RFC822.SIZE 7 RFC822.SIZE 0000000000000000063)\r\n",
+        None,
+        Some(63),
+    ),
+    (b"* 2 FETCH (FLAGS ())\r\n", None, None),
+];
+
+#[test]
+fn sizes_and_mod_sequences_are_told(rt: HostRuntime) -> Result<(), Fail> {
+    for (bytes, modseq, size) in SIZES.iter() {
+        match read(rt.alloc(), bytes)? {
+            Some(Response::Fetch { items, .. }) => {
+                assert_eq!(rt; items.modseq, *modseq);
+                assert_eq!(rt; items.size, *size);
+            }
+            _ => assert!(rt; false),
+        }
+    }
+    Ok(())
+}
+
 /// The names of a response that has but names.
 fn names_of(response: Response) -> Option<Names> {
     match response {

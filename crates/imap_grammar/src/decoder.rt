@@ -8,7 +8,8 @@ ghost use Rattle.imap_grammar.specs.Reading as reading;
 
 use crate::flags::flags_in;
 use crate::octets::{
-    before, behind, digits_len, is_key, is_sequence, name_len, number_of, octet_at, word_len,
+    before, behind, digits_len, is_key, is_sequence, long_of, name_len, number_of, octet_at,
+    word_len,
 };
 use crate::sets::{vanished_in, words_in};
 use gate_world::{Bytes, Names};
@@ -54,25 +55,109 @@ fn begins_with(bytes: &[u8], key: &[u8]) -> bool
 fn with_uid(items: FetchItems, uid: u32) -> FetchItems
     ensures { result ≡ record items { uid = Some uid } }
 {
-    let FetchItems { uid: _, flags } = items;
+    let FetchItems {
+        uid: _,
+        flags,
+        modseq,
+        size,
+    } = items;
     FetchItems {
         uid: Some(uid),
         flags,
+        modseq,
+        size,
     }
 }
 
 fn with_flags(items: FetchItems, flags: Names) -> FetchItems
     ensures { result ≡ record items { flags = Some flags } }
 {
-    let FetchItems { uid, flags: _ } = items;
+    let FetchItems {
+        uid,
+        flags: _,
+        modseq,
+        size,
+    } = items;
     FetchItems {
         uid,
         flags: Some(flags),
+        modseq,
+        size,
+    }
+}
+
+fn with_modseq(items: FetchItems, modseq: u64) -> FetchItems
+    ensures { result ≡ record items { modseq = Some modseq } }
+{
+    let FetchItems {
+        uid,
+        flags,
+        modseq: _,
+        size,
+    } = items;
+    FetchItems {
+        uid,
+        flags,
+        modseq: Some(modseq),
+        size,
+    }
+}
+
+fn with_size(items: FetchItems, size: u64) -> FetchItems
+    ensures { result ≡ record items { size = Some size } }
+{
+    let FetchItems {
+        uid,
+        flags,
+        modseq,
+        size: _,
+    } = items;
+    FetchItems {
+        uid,
+        flags,
+        modseq,
+        size: Some(size),
+    }
+}
+
+/// The value of an item of this name, and what follows it.
+#[tactic(auto, unfolding(crate::specs::Reading::value_in))]
+fn value_in<'a>(
+    alloc: Global,
+    so_far: FetchItems,
+    name: &[u8],
+    value: &'a [u8],
+) -> Result<(FetchItems, &'a [u8]), AllocError>
+    ensures items { IfOk result (λ r. r.0 ≡ (reading.value_in so_far (map classes.lower name.now) value.now).0) }
+    ensures rest { IfOk result (λ r. r.1.now ≡ (reading.value_in so_far (map classes.lower name.now) value.now).1) }
+{
+    if is_key(name, b"uid") {
+        let n = digits_len(value);
+        Ok((
+            with_uid(so_far, number_of(before(value, n))),
+            behind(value, n),
+        ))
+    } else if is_key(name, b"modseq") {
+        let digits = behind(value, 1);
+        let n = digits_len(digits);
+        Ok((
+            with_modseq(so_far, long_of(before(digits, n))),
+            behind(digits, n + 1),
+        ))
+    } else if is_key(name, b"rfc822.size") {
+        let n = digits_len(value);
+        Ok((
+            with_size(so_far, long_of(before(value, n))),
+            behind(value, n),
+        ))
+    } else {
+        let (flags, rest) = flags_in(alloc, behind(value, 1))?;
+        Ok((with_flags(so_far, flags), rest))
     }
 }
 
 /// The item at the front, and what follows it.
-#[tactic(auto, unfolding(crate::specs::Reading::item_in, crate::specs::Reading::value_in))]
+#[tactic(auto, unfolding(crate::specs::Reading::item_in))]
 fn item_in(
     alloc: Global,
     so_far: FetchItems,
@@ -82,17 +167,7 @@ fn item_in(
     ensures rest { IfOk result (λ r. r.1.now ≡ (reading.item_in so_far bytes.now).1) }
 {
     let n = name_len(bytes);
-    let value = behind(bytes, n + 1);
-    if is_key(before(bytes, n), b"uid") {
-        let n = digits_len(value);
-        Ok((
-            with_uid(so_far, number_of(before(value, n))),
-            behind(value, n),
-        ))
-    } else {
-        let (flags, rest) = flags_in(alloc, behind(value, 1))?;
-        Ok((with_flags(so_far, flags), rest))
-    }
+    value_in(alloc, so_far, before(bytes, n), behind(bytes, n + 1))
 }
 
 /// The items, up to the closing bracket.
@@ -103,6 +178,8 @@ fn items_in(alloc: Global, bytes: &[u8], most: usize) -> Result<FetchItems, Allo
     let mut items = FetchItems {
         uid: None,
         flags: None,
+        modseq: None,
+        size: None,
     };
     let mut rest = bytes;
     let mut left = most;

@@ -113,7 +113,7 @@ fn all_digits(bytes: &[u8]) -> bool
 }
 
 fn capped(n: u64) -> u64
-    ensures { result ≡ reading.capped n }
+    ensures { result ≡ reading.cap 4294967295 n }
 {
     if n <= u32::MAX as u64 {
         n
@@ -144,6 +144,28 @@ pub fn number_of(digits: &[u8]) -> u32
     } else {
         u32::MAX
     }
+}
+
+fn capped_long(n: u128) -> u64
+    ensures { result ≡ reading.cap 9223372036854775807 n }
+{
+    if n <= i64::MAX as u128 {
+        n as u64
+    } else {
+        i64::MAX as u64 + 1
+    }
+}
+
+/// The number, or 2^63 where it is greater.
+#[tactic(auto, using(crate::proofs::SpanLemmas::runs))]
+pub fn long_of(digits: &[u8]) -> u64
+    ensures { result ≡ reading.long_in digits.now }
+{
+    let mut value: u64 = 0;
+    for c in digits {
+        value = capped_long(10 * value as u128 + c.saturating_sub(b'0') as u128);
+    }
+    value
 }
 
 fn is_few(word: &[u8]) -> bool

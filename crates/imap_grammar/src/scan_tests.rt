@@ -17,7 +17,7 @@ fn fed(bytes: &[u8]) -> Scan {
 }
 
 /// Octets, and how many of them are a response.
-const WHOLE: [(&[u8], usize); 44] = [
+const WHOLE: [(&[u8], usize); 47] = [
     (b"a1 OK\r\n", 7),
     (b"a1 OK\r\nzzz", 7),
     (b"a1 ok done\r\n", 12),
@@ -56,6 +56,12 @@ const WHOLE: [(&[u8], usize); 44] = [
         b"* 4294967295 Fetch (UID 0000000001 FLAGS (a \\B c))\r\n",
         52,
     ),
+    (b"* 1 FETCH (MODSEQ (4))\r\n", 24),
+    (
+        b"* 1 FETCH (rfc822.size 9223372036854775807 MODSEQ (0) UID 1)\r\n",
+        62,
+    ),
+    (b"* 1 FETCH (RFC822.SIZE 0000000000000000001)\r\n", 45),
     (b"* X {5}\r\nab\r\nc y\r\n", 18),
     (b"* X {0}\r\n\r\n", 11),
     (b"* 3 X {1}\r\nz{00000002}\r\n\r\n{3\r\n", 30),
@@ -85,14 +91,18 @@ const OPEN: [&[u8]; 13] = [
 ];
 
 /// Octets, and the first place at which no response goes on so.
-const BAD: [(&[u8], usize); 38] = [
+const BAD: [(&[u8], usize); 42] = [
     (b"* 1 FETCH (UID 0)", 16),
     (b"* 1 FETCH (UID 4294967296)", 24),
     (b"* 1 FETCH (UID 0000000000)", 24),
     (b"* 1 FETCH (UID 11111111111)", 25),
     (b"* 1 FETCH (UID 1 UID 2 )", 23),
     (b"* 1 FETCH ()", 11),
-    (b"* 1 FETCH (MODSEQ (4))", 11),
+    (b"* 1 FETCH (MODSEQ 4)", 18),
+    (b"* 1 FETCH (MODSEQ ())", 19),
+    (b"* 1 FETCH (MODSEQ (9223372036854775808))", 37),
+    (b"* 1 FETCH (RFC822.SIZE )", 23),
+    (b"* 1 FETCH (RFC822.SIZE 00000000000000000001)", 42),
     (b"* 1 FETCH (UIDX 1)", 14),
     (b"* 1 FETCH (UID  1)", 15),
     (b"* 1 FETCH (FLAGS (\\Seen \\))", 25),

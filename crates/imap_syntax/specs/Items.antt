@@ -6,7 +6,7 @@ use Rattle.std.specs.BTreeSet.{insert_key}
 use Rattle.imap_syntax.specs.declared.response.FetchItems.{FetchItems}
 use Rattle.imap_syntax.specs.Octets.{is_atom, lower}
 use Rattle.imap_syntax.specs.Texts.{Each, Then, crlf}
-use Rattle.imap_syntax.specs.Numbers.{IsNonZero}
+use Rattle.imap_syntax.specs.Numbers.{IsNonZero, IsLong}
 use Rattle.imap_syntax.specs.Lines.{spaced}
 
 -- ---- names
@@ -37,12 +37,16 @@ IsNames ns t = AllNames ns × (t ≡ 40 ∷ joined ns ++ 41 ∷ [])
 pub data Item : Type 0 where
   Uid : ℕ → Item
   Flags : List (List ℕ) → Item
+  ModSeq : ℕ → Item
+  Size : ℕ → Item
 
 abbrev pub IsItemValue : Item → List ℕ → List ℕ → Type 0
 IsItemValue (Uid n) name value = (name ≡ codes "uid") × IsNonZero n value
 IsItemValue (Flags ns) name value = (name ≡ codes "flags") × IsNames ns value
+IsItemValue (ModSeq n) name value = (name ≡ codes "modseq") × ((digits : List ℕ) × (value ≡ 40 ∷ digits ++ 41 ∷ []) × IsLong n digits)
+IsItemValue (Size n) name value = (name ≡ codes "rfc822.size") × IsLong n value
 
--- item = "UID" SP nz / "FLAGS" SP names
+-- item = "UID" SP nz / "FLAGS" SP names / "MODSEQ" SP "(" long ")" / "RFC822.SIZE" SP long
 pub record IsItem (i : Item) (t : List ℕ) : Type 0 where
   pub name : List ℕ
   pub value : List ℕ
@@ -77,13 +81,15 @@ kept ns = kept_from [] ns
 abbrev pub told : FetchItems → Item → FetchItems
 told items (Uid n) = record items { uid = Some n }
 told items (Flags ns) = record items { flags = Some (kept ns) }
+told items (ModSeq n) = record items { modseq = Some n }
+told items (Size n) = record items { size = Some n }
 
 abbrev pub told_from : FetchItems → List Item → FetchItems
 told_from items [] = items
 told_from items (i ∷ is) = told_from (told items i) is
 
 abbrev pub no_items : FetchItems
-no_items = record { uid = None; flags = None }
+no_items = record { uid = None; flags = None; modseq = None; size = None }
 
 abbrev pub items_of : List Item → FetchItems
 items_of is = told_from no_items is

@@ -18,6 +18,10 @@ pub struct FetchItems {
     pub uid: Option<u32>,
     /// In kept form: lower case, sorted by octets, each once, without `\recent`.
     pub flags: Option<Names>,
+    /// The mod-sequence (RFC 7162 section 3.1.4.2).
+    pub modseq: Option<u64>,
+    /// Octets of the whole message.
+    pub size: Option<u64>,
 }
 
 /// What one response says.
