@@ -6,7 +6,8 @@ use Rattle.mime_tree.specs.declared.part.Part.{Part}
 use Rattle.mime_tree.specs.declared.roles.Walk.{Walk}
 use Rattle.mime_tree.specs.declared.lists.BodyLists.{BodyLists}
 use Rattle.mime_tree.specs.Parts.{children}
-use Rattle.mime_tree.specs.BodyLists.{PartLists, nothing, both, is_leaf, leaf_number, is_attached, is_inline, at_leaf, lists_of, meeting, leaf_lists, into, next, spread, Walks, End, Multi, Leaf}
+use Rattle.mime_tree.specs.Roles.{is_leaf, leaf_number, is_downloadable, is_inline}
+use Rattle.mime_tree.specs.BodyLists.{PartLists, nothing, both, at_leaf, lists_of, meeting, leaf_lists, into, next, spread, Walks, End, Multi, Leaf}
 use Rattle.mime_tree.specs.ListBuilding.{Gains, GainsBy, GainsBelow}
 
 map_both : (a b : List Part) → map leaf_number (a ++ b) ≡ map leaf_number a ++ map leaf_number b
@@ -21,19 +22,19 @@ or_false : (a : Bool) → a ≡ (a || false)
 or_false true = refl
 or_false false = refl
 
-any_both : (a b : List Part) → list_any is_attached (a ++ b) ≡ (list_any is_attached a || list_any is_attached b)
+any_both : (a b : List Part) → list_any is_downloadable (a ++ b) ≡ (list_any is_downloadable a || list_any is_downloadable b)
 any_both [] b = refl
 any_both (p ∷ a) b =
-    ap (λ (t : Bool). is_attached p || t) (any_both a b) ∙ or_assoc (is_attached p) (list_any is_attached a) (list_any is_attached b)
+    ap (λ (t : Bool). is_downloadable p || t) (any_both a b) ∙ or_assoc (is_downloadable p) (list_any is_downloadable a) (list_any is_downloadable b)
 
 grows : (old mid new : List ℕ) (a b : List Part) → mid ≡ old ++ map leaf_number a → new ≡ mid ++ map leaf_number b → new ≡ old ++ map leaf_number (a ++ b)
 grows old mid new a b first second =
     second ∙ ap (λ (l : List ℕ). l ++ map leaf_number b) first ∙ append_assoc old (map leaf_number a) (map leaf_number b) ∙ ap (λ (l : List ℕ). old ++ l) (sym (map_both a b))
 
-attaches : (old mid new : Bool) (a b : List Part) → mid ≡ (old || list_any is_attached a) → new ≡ (mid || list_any is_attached b) → new ≡ (old || list_any is_attached (a ++ b))
+attaches : (old mid new : Bool) (a b : List Part) → mid ≡ (old || list_any is_downloadable a) → new ≡ (mid || list_any is_downloadable b) → new ≡ (old || list_any is_downloadable (a ++ b))
 attaches old mid new a b first second =
-    second ∙ ap (λ (t : Bool). t || list_any is_attached b) first
-    ∙ sym (or_assoc old (list_any is_attached a) (list_any is_attached b)) ∙ ap (λ (t : Bool). old || t) (sym (any_both a b))
+    second ∙ ap (λ (t : Bool). t || list_any is_downloadable b) first
+    ∙ sym (or_assoc old (list_any is_downloadable a) (list_any is_downloadable b)) ∙ ap (λ (t : Bool). old || t) (sym (any_both a b))
 
 gains_both : {old mid new : BodyLists} {a b : PartLists} → Gains old mid a → Gains mid new b → Gains old new (both a b)
 gains_both {old} {mid} {new} {a} {b} first second =

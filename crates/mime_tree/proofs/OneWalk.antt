@@ -4,7 +4,8 @@ use Rattle.std.specs.List.{list_any}
 use Rattle.mime_tree.specs.declared.lists.BodyLists.{BodyLists}
 use Rattle.mime_tree.specs.declared.part.Part.{Part}
 use Rattle.mime_tree.specs.declared.roles.Walk.{Walk}
-use Rattle.mime_tree.specs.BodyLists.{PartLists, leaf_number, is_attached, start, AreBodyLists, nothing, both, leaf_lists, into, spread, Walks, End, Multi, Leaf}
+use Rattle.mime_tree.specs.Roles.{leaf_number, is_downloadable}
+use Rattle.mime_tree.specs.BodyLists.{PartLists, start, AreBodyLists, nothing, both, leaf_lists, into, spread, Walks, End, Multi, Leaf}
 
 abbrev pub Ends : List Part → PartLists → Type 0
 Ends [] a = a ≡ nothing
@@ -43,4 +44,4 @@ one_value p l m i j =
     (i.text ∙ ap (λ (a : PartLists). map leaf_number a.text) same ∙ sym j.text)
     (i.html ∙ ap (λ (a : PartLists). map leaf_number a.html) same ∙ sym j.html)
     (i.attachments ∙ ap (λ (a : PartLists). map leaf_number a.attachments) same ∙ sym j.attachments)
-    (i.has_attachment ∙ ap (λ (a : PartLists). list_any is_attached a.attachments) same ∙ sym j.has_attachment)
+    (i.has_attachment ∙ ap (λ (a : PartLists). list_any is_downloadable a.attachments) same ∙ sym j.has_attachment)

@@ -1,5 +1,5 @@
 -- Parts that are the same have the same walks, up to memory.
-use Rattle.std.proofs.Common.{◌≡◌, ℕ, zero, suc, Bool, true, false, not, if◌then◌else◌, map, List, [], ◌∷◌, ◌++◌, Option, codes, is_none, is_some, unwrap_or, refl, sym, ap, subst, ◌∙◌}
+use Rattle.std.proofs.Common.{◌≡◌, ℕ, zero, suc, Bool, true, false, not, if◌then◌else◌, map, List, [], ◌∷◌, ◌++◌, Option, codes, is_some, unwrap_or, refl, sym, ap, subst, ◌∙◌}
 use Rattle.std.specs.Prelude.{◌&&◌, ◌||◌}
 use Rattle.std.specs.List.{list_any}
 use Rattle.std.specs.Option.{option_map_or}
@@ -9,8 +9,10 @@ use Rattle.mime_tree.specs.declared.part.Part.{Part, out-Part}
 use Rattle.mime_tree.specs.declared.roles.Walk.{Walk}
 use Rattle.mime_tree.specs.Parts.{children, number_of}
 use Rattle.mime_tree.specs.SameTrees.{AllSame, SamePart, NoPart, Same}
+use Rattle.mime_tree.specs.Roles as roles
 use Rattle.mime_tree.specs.BodyLists as body
-use Rattle.mime_tree.specs.BodyLists.{PartLists, leaf_number, is_attached, is_leaf, is_inline, is_alternative, media, meeting, start, AreBodyLists, nothing, both, alone, or_else, shared, leaf_lists, into, next, spread, Walks, End, Multi, Leaf}
+use Rattle.mime_tree.specs.Roles.{leaf_number, is_downloadable, is_leaf, is_inline, is_alternative, media}
+use Rattle.mime_tree.specs.BodyLists.{PartLists, meeting, start, AreBodyLists, nothing, both, alone, or_else, shared, leaf_lists, into, next, spread, Walks, End, Multi, Leaf}
 use Rattle.mime_tree.proofs.OneWalk.{ends, lists_eq}
 
 -- ---- what the walk sees of a part
@@ -21,20 +23,20 @@ pub record Twin (p q : Part) : Type 0 where
   pub disposition : (out-Part p).disposition ≡ (out-Part q).disposition
   pub name : (out-Part p).name ≡ (out-Part q).name
 
-is_disposed_twin : {p q : Part} (word : List ℕ) → Twin p q → body.is_disposed p word ≡ body.is_disposed q word
+is_disposed_twin : {p q : Part} (word : List ℕ) → Twin p q → roles.is_disposed p word ≡ roles.is_disposed q word
 is_disposed_twin word t = ap (λ (d : Option (List ℕ)). option_map_or (λ (x : List ℕ). is_same_text x word) d false) t.disposition
 
-is_plain_twin : {p q : Part} → Twin p q → body.is_plain p ≡ body.is_plain q
+is_plain_twin : {p q : Part} → Twin p q → roles.is_plain p ≡ roles.is_plain q
 is_plain_twin t = ap (λ (m : List ℕ). is_same_text m (codes "text/plain")) t.media
 
-is_html_twin : {p q : Part} → Twin p q → body.is_html p ≡ body.is_html q
+is_html_twin : {p q : Part} → Twin p q → roles.is_html p ≡ roles.is_html q
 is_html_twin t = ap (λ (m : List ℕ). is_same_text m (codes "text/html")) t.media
 
-is_media_twin : {p q : Part} → Twin p q → body.is_media p ≡ body.is_media q
-is_media_twin t = ap (λ (m : List ℕ). body.is_type m (codes "image") || body.is_type m (codes "audio") || body.is_type m (codes "video")) t.media
+is_media_twin : {p q : Part} → Twin p q → roles.is_media p ≡ roles.is_media q
+is_media_twin t = ap (λ (m : List ℕ). roles.is_type m (codes "image") || roles.is_type m (codes "audio") || roles.is_type m (codes "video")) t.media
 
-is_attached_twin : {p q : Part} → Twin p q → is_attached p ≡ is_attached q
-is_attached_twin t = ap not (is_disposed_twin (codes "inline") t)
+is_downloadable_twin : {p q : Part} → Twin p q → is_downloadable p ≡ is_downloadable q
+is_downloadable_twin t = ap not (is_disposed_twin (codes "inline") t)
 
 is_inline_twin : {p q : Part} (walk : Walk) → Twin p q → is_inline walk p ≡ is_inline walk q
 is_inline_twin walk t =
@@ -42,8 +44,8 @@ is_inline_twin walk t =
     let plain = is_plain_twin t in
     let html = is_html_twin t in
     let medial = is_media_twin t in
-    let unnamed = ap is_none t.name in
-    λ i. not (disposed i) && ((plain i || html i || medial i) && (walk.first || (not (body.is_related walk.multipart) && (medial i || unnamed i))))
+    let unnamed = ap roles.is_unnamed t.name in
+    λ i. not (disposed i) && ((plain i || html i || medial i) && (walk.first || (not (roles.is_related walk.multipart) && (medial i || unnamed i))))
 
 meeting_twin : {p q : Part} (walk : Walk) → Twin p q → meeting walk p ≡ meeting walk q
 meeting_twin walk t =
@@ -54,7 +56,7 @@ meeting_twin walk t =
 
 into_twin : {p q : Part} (walk : Walk) → Twin p q → into walk p ≡ into walk q
 into_twin walk t =
-    let many = ap body.multipart_of t.media in
+    let many = ap roles.multipart_of t.media in
     λ i. record { multipart = many i; within = walk.within || is_alternative (many i); text = walk.text; html = walk.html; first = true }
 
 -- ---- lists of parts
@@ -81,11 +83,11 @@ numbers [] (q ∷ c) none = absurd none
 numbers (p ∷ a) [] none = absurd none
 numbers (p ∷ a) (q ∷ c) (twin, twins) = let n = ap (λ (o : Option ℕ). unwrap_or o 0) twin.number in let ns = numbers a c twins in λ i. n i ∷ ns i
 
-any_attached : (a c : List Part) → AllSame Twin a c → list_any is_attached a ≡ list_any is_attached c
+any_attached : (a c : List Part) → AllSame Twin a c → list_any is_downloadable a ≡ list_any is_downloadable c
 any_attached [] [] none = refl
 any_attached [] (q ∷ c) none = absurd none
 any_attached (p ∷ a) [] none = absurd none
-any_attached (p ∷ a) (q ∷ c) (twin, twins) = let one = is_attached_twin twin in let others = any_attached a c twins in λ i. one i || others i
+any_attached (p ∷ a) (q ∷ c) (twin, twins) = let one = is_downloadable_twin twin in let others = any_attached a c twins in λ i. one i || others i
 
 -- ---- three lists of parts
 
@@ -122,11 +124,11 @@ alike_leaf {p} {q} walk inline t =
     let as_text : Alike (body.to_text p) (body.to_text q) = record { text = (t, tt); html = tt; attachments = tt } in
     let as_html : Alike (body.to_html p) (body.to_html q) = record { text = tt; html = (t, tt); attachments = tt } in
     let too = ap (λ (m : Bool). m && not (walk.text && walk.html)) (is_media_twin t) in
-    let P : Bool → Type 0 = λ b. AllSame Twin (alone (body.is_media p && not (walk.text && walk.html)) p) (alone b q) in
+    let P : Bool → Type 0 = λ b. AllSame Twin (alone (roles.is_media p && not (walk.text && walk.html)) p) (alone b q) in
     let shown : Alike (body.to_open_lists walk p) (body.to_open_lists walk q) = record {
       text = twins_alone walk.text t;
       html = twins_alone walk.html t;
-      attachments = subst P too (twins_alone (body.is_media p && not (walk.text && walk.html)) t);
+      attachments = subst P too (twins_alone (roles.is_media p && not (walk.text && walk.html)) t);
     } in
     alike_if _ _ _ _ _ _ refl attached
     (alike_if _ _ _ _ _ _ refl

@@ -1,86 +1,13 @@
--- Body lists (RFC 8621 section 4.1.4): the parts that are the text, the HTML and the attachments of a message.
-use Rattle.std.specs.Prelude.{◌≡◌, ℕ, Bool, true, false, not, ◌&&◌, ◌||◌, ◌==◌, if◌then◌else◌, List, [], ◌∷◌, ◌++◌, map, codes, unwrap_or, is_none, is_some}
+-- Body lists (RFC 8621 section 4.1.4): the leaves that are the text, the HTML and the attachments of a message. A walk
+-- goes over the parts of a multipart in turn, and adds each leaf to lists, at the end.
+use Rattle.std.specs.Prelude.{◌≡◌, Bool, true, false, not, ◌&&◌, ◌||◌, if◌then◌else◌, List, [], ◌∷◌, ◌++◌, map}
 use Rattle.std.specs.List.{list_any}
-use Rattle.std.specs.Option.{option_map_or}
-use Rattle.text_words.specs.Cuts.{front}
-use Rattle.text_words.specs.Octets.{is_same_text}
-use Rattle.mime_tree.specs.declared.part.Part.{Part, out-Part}
-use Rattle.mime_tree.specs.declared.roles.Multipart.{Multipart}
+use Rattle.mime_tree.specs.declared.part.Part.{Part}
 use Rattle.mime_tree.specs.declared.roles.Multipart.TheVariants as multipart
 use Rattle.mime_tree.specs.declared.roles.Walk.{Walk}
 use Rattle.mime_tree.specs.declared.lists.BodyLists.{BodyLists}
-use Rattle.mime_tree.specs.Parts.{children, number_of}
-
--- What a part is.
-
-abbrev pub media : Part → List ℕ
-media p = (out-Part p).media
-
-abbrev pub is_plain : Part → Bool
-is_plain p = is_same_text (media p) (codes "text/plain")
-
-abbrev pub is_html : Part → Bool
-is_html p = is_same_text (media p) (codes "text/html")
-
--- the type stands before the "/", the subtype behind it
-abbrev pub in_type : ℕ → Bool
-in_type c = not (c == 47)
-
-abbrev pub is_type : List ℕ → List ℕ → Bool
-is_type of_media name = is_same_text (front in_type of_media) name
-
--- an image, a sound or a film
-abbrev pub is_media : Part → Bool
-is_media p = is_type (media p) (codes "image") || is_type (media p) (codes "audio") || is_type (media p) (codes "video")
-
-abbrev pub is_disposed : Part → List ℕ → Bool
-is_disposed p name = option_map_or (λ (d : List ℕ). is_same_text d name) (out-Part p).disposition false
-
--- its disposition is other than inline; so it is where there is none
-abbrev pub is_attached : Part → Bool
-is_attached p = not (is_disposed p (codes "inline"))
-
--- leaves alone have a number
-abbrev pub is_leaf : Part → Bool
-is_leaf p = is_some (number_of p)
-
-abbrev pub leaf_number : Part → ℕ
-leaf_number p = unwrap_or (number_of p) 0
-
-abbrev pub multipart_of : List ℕ → Multipart
-multipart_of of_media =
-    if is_same_text of_media (codes "multipart/alternative") then multipart.Alternative
-    else if is_same_text of_media (codes "multipart/related") then multipart.Related
-    else multipart.Mixed
-
-abbrev pub is_alternative : Multipart → Bool
-is_alternative multipart.Alternative = true
-is_alternative multipart.Related = false
-is_alternative multipart.Mixed = false
-
-abbrev pub is_related : Multipart → Bool
-is_related multipart.Alternative = false
-is_related multipart.Related = true
-is_related multipart.Mixed = false
-
--- Which parts are inline: of the body, and no attachment.
-
--- of a type that a body may show
-abbrev pub is_shown : Part → Bool
-is_shown p = is_plain p || is_html p || is_media p
-
--- a text with a name is a file
-abbrev pub is_no_file : Part → Bool
-is_no_file p = is_media p || is_none (out-Part p).name
-
--- the first part of its multipart; elsewhere none of a related multipart, and no file
-abbrev pub has_place : Walk → Part → Bool
-has_place walk p = walk.first || (not (is_related walk.multipart) && is_no_file p)
-
-abbrev pub is_inline : Walk → Part → Bool
-is_inline walk p = not (is_disposed p (codes "attachment")) && (is_shown p && has_place walk p)
-
--- The lists that parts are added to.
+use Rattle.mime_tree.specs.Parts.{children}
+use Rattle.mime_tree.specs.Roles.{media, is_plain, is_html, is_media, is_downloadable, is_leaf, leaf_number, multipart_of, is_alternative, is_inline}
 
 pub record PartLists : Type 0 where
   pub text : List Part
@@ -108,14 +35,17 @@ to_attachments p = record { text = []; html = []; attachments = p ∷ [] }
 abbrev pub attached : Bool → Part → PartLists
 attached wanted p = record { text = []; html = []; attachments = alone wanted p }
 
--- Directly in an alternative an inline part goes to the list of its type, where that is open.
+-- ---- a leaf
+
+-- Directly in an alternative an inline leaf goes to the list of its type, where that is open. Otherwise it is an
+-- attachment.
 abbrev pub to_its_list : Walk → Part → PartLists
 to_its_list walk p =
     if walk.text && is_plain p then to_text p
     else if walk.html && is_html p then to_html p
     else to_attachments p
 
--- Elsewhere it goes to each open list, and where one is closed, an image, a sound or a film is an attachment too.
+-- Elsewhere it goes to each open list; where both are closed, a text goes nowhere. Where one is closed, an image, audio or video is an attachment too.
 abbrev pub to_open_lists : Walk → Part → PartLists
 to_open_lists walk p = record {
   text = alone walk.text p;
@@ -148,6 +78,8 @@ lists_of walk inline p =
 abbrev pub leaf_lists : Walk → Part → PartLists
 leaf_lists walk p = lists_of (meeting walk p) (is_inline walk p) p
 
+-- ---- a multipart
+
 -- the walk behind a part
 abbrev pub next : Walk → Walk
 next walk = record walk { first = false }
@@ -170,6 +102,8 @@ shared a = record { text = or_else a.text a.html; html = or_else a.html a.text; 
 abbrev pub spread : Walk → PartLists → PartLists
 spread inner a = if is_alternative inner.multipart && (inner.text && inner.html) then shared a else a
 
+-- ---- the walk
+
 -- What a walk over parts adds. What is closed in a multipart is open again behind it.
 pub data Walks : Walk → List Part → PartLists → Type 0 where
   End : (walk : Walk) → Walks walk [] nothing
@@ -188,4 +122,4 @@ pub record AreBodyLists (lists : BodyLists) (root : Part) : Type 0 where
   pub text : lists.text ≡ map leaf_number parts.text
   pub html : lists.html ≡ map leaf_number parts.html
   pub attachments : lists.attachments ≡ map leaf_number parts.attachments
-  pub has_attachment : lists.has_attachment ≡ list_any is_attached parts.attachments
+  pub has_attachment : lists.has_attachment ≡ list_any is_downloadable parts.attachments

@@ -6,7 +6,8 @@ use Rattle.mime_tree.specs.declared.roles.Walk.{Walk}
 use Rattle.mime_tree.specs.declared.lists.BodyLists.{BodyLists}
 use Rattle.mime_tree.specs.declared.list_walk.Growing.{Growing}
 use Rattle.mime_tree.specs.Parts.{children}
-use Rattle.mime_tree.specs.BodyLists.{PartLists, leaf_number, is_attached, into, shared, spread, Walks}
+use Rattle.mime_tree.specs.Roles.{leaf_number, is_downloadable}
+use Rattle.mime_tree.specs.BodyLists.{PartLists, into, shared, spread, Walks}
 
 -- the lists as they stand
 abbrev pub grown : Growing → BodyLists
@@ -20,7 +21,7 @@ pub record Gains (old new : BodyLists) (a : PartLists) : Type 0 where
   pub text : new.text ≡ old.text ++ map leaf_number a.text
   pub html : new.html ≡ old.html ++ map leaf_number a.html
   pub attachments : new.attachments ≡ old.attachments ++ map leaf_number a.attachments
-  pub has_attachment : new.has_attachment ≡ (old.has_attachment || list_any is_attached a.attachments)
+  pub has_attachment : new.has_attachment ≡ (old.has_attachment || list_any is_downloadable a.attachments)
 
 -- what was added since the lists had these lengths is spread
 abbrev pub Spreads : Walk → ℕ → ℕ → BodyLists → BodyLists → Type 0

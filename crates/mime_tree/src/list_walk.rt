@@ -1,13 +1,14 @@
 // The walk over parts that makes the body lists of a message (RFC 8621 section 4.1.4).
 ghost use Rattle.std.specs.Prelude.{◌≡◌, ◌≤◌, ◌++◌, ◌||◌, ◌&&◌, not, OnOk, length, drop, map};
 ghost use Rattle.mime_tree.specs.BodyLists as body;
+ghost use Rattle.mime_tree.specs.Roles as roles;
 ghost use Rattle.mime_tree.specs.BodyLists.{PartLists};
 ghost use Rattle.mime_tree.specs.ListBuilding.{grown, Gains, GainsBy, GainsBelow, Shares, Spreads};
 
-use crate::Part;
+use crate::part::Part;
 use crate::roles::{
-    Multipart, Walk, is_alternative, is_attached, is_html, is_inline, is_leaf, is_media, is_plain,
-    leaf_number, multipart_of,
+    Multipart, Walk, is_alternative, is_downloadable, is_html, is_inline, is_leaf, is_media,
+    is_plain, leaf_number, multipart_of,
 };
 use std::alloc::AllocError;
 
@@ -22,7 +23,7 @@ pub struct Growing {
 
 /// Puts a leaf at the end of a list where that is wanted.
 fn put(list: &mut Vec<u64>, wanted: bool, part: &Part) -> Result<(), AllocError>
-    ensures { OnOk result (list.new.items ≡ list.old.items ++ map body.leaf_number (body.alone wanted part.now)) }
+    ensures { OnOk result (list.new.items ≡ list.old.items ++ map roles.leaf_number (body.alone wanted part.now)) }
 {
     if wanted {
         list.push(leaf_number(part))?;
@@ -34,18 +35,18 @@ fn add_attachment(lists: &mut Growing, part: &Part) -> Result<(), AllocError>
     ensures { OnOk result (Gains (grown lists.old) (grown lists.new) (body.to_attachments part.now)) }
 {
     lists.attachments.push(leaf_number(part))?;
-    lists.has_attachment = lists.has_attachment || is_attached(part);
+    lists.has_attachment = lists.has_attachment || is_downloadable(part);
     Ok(())
 }
 
 fn takes_plain(walk: Walk, part: &Part) -> bool
-    ensures { result ≡ (walk.text && body.is_plain part.now) }
+    ensures { result ≡ (walk.text && roles.is_plain part.now) }
 {
     walk.text && is_plain(part)
 }
 
 fn takes_html(walk: Walk, part: &Part) -> bool
-    ensures { result ≡ (walk.html && body.is_html part.now) }
+    ensures { result ≡ (walk.html && roles.is_html part.now) }
 {
     walk.html && is_html(part)
 }
@@ -57,7 +58,7 @@ fn are_both_open(walk: Walk) -> bool
 }
 
 fn is_attached_too(walk: Walk, part: &Part) -> bool
-    ensures { result ≡ (body.is_media part.now && not (walk.text && walk.html)) }
+    ensures { result ≡ (roles.is_media part.now && not (walk.text && walk.html)) }
 {
     is_media(part) && !are_both_open(walk)
 }
@@ -145,7 +146,7 @@ fn next(walk: Walk) -> Walk
 }
 
 fn is_within(walk: Walk, multipart: Multipart) -> bool
-    ensures { result ≡ (walk.within || body.is_alternative multipart) }
+    ensures { result ≡ (walk.within || roles.is_alternative multipart) }
 {
     walk.within || is_alternative(multipart)
 }
@@ -190,7 +191,7 @@ fn share(lists: &mut Growing, text: usize, html: usize) -> Result<(), AllocError
 }
 
 fn is_shared(walk: Walk) -> bool
-    ensures { result ≡ (body.is_alternative walk.multipart && (walk.text && walk.html)) }
+    ensures { result ≡ (roles.is_alternative walk.multipart && (walk.text && walk.html)) }
 {
     is_alternative(walk.multipart) && are_both_open(walk)
 }

@@ -3,8 +3,8 @@ ghost use Rattle.std.specs.Prelude.{◌≡◌, IfOk};
 ghost use Rattle.mime_tree.specs.BodyLists as body;
 ghost use Rattle.mime_tree.specs.ListBuilding.{grown, none};
 
-use crate::Part;
 use crate::list_walk::{Growing, walk_parts};
+use crate::part::Part;
 use crate::roles::{Multipart, Walk};
 use gate_world::Listed;
 use std::alloc::{AllocError, Global};

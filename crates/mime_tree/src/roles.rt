@@ -1,9 +1,11 @@
 // What a part is to the body lists of its message (RFC 8621 section 4.1.4).
-ghost use Rattle.std.specs.Prelude.{◌≡◌};
-ghost use Rattle.mime_tree.specs.BodyLists as body;
+ghost use Rattle.std.specs.Prelude.{◌≡◌, not, Some};
+ghost use Rattle.mime_tree.specs.declared.part.Part.{out-Part};
+ghost use Rattle.mime_tree.specs.Roles as roles;
 
-use crate::Part;
-use text_words::{Class, cut, same_text};
+use crate::head::BeforeSlash;
+use crate::part::Part;
+use text_words::{cut, same_text};
 
 /// What a multipart is to the parts in it.
 #[derive(Clone, Copy, PartialEq, Eq, Debug)]
@@ -28,19 +30,9 @@ pub struct Walk {
     pub first: bool,
 }
 
-struct InType;
-
-impl Class<u8> for InType {
-    ghost test = { body.in_type };
-
-    fn has(&self, item: &u8) -> bool {
-        *item != b'/'
-    }
-}
-
 /// What a multipart of this media type is.
 pub(crate) fn multipart_of(media: &[u8]) -> Multipart
-    ensures { result ≡ body.multipart_of media.now }
+    ensures { result ≡ roles.multipart_of media.now }
 {
     if same_text(media, b"multipart/alternative") {
         Multipart::Alternative
@@ -52,7 +44,7 @@ pub(crate) fn multipart_of(media: &[u8]) -> Multipart
 }
 
 pub(crate) fn is_alternative(multipart: Multipart) -> bool
-    ensures { result ≡ body.is_alternative multipart }
+    ensures { result ≡ roles.is_alternative multipart }
 {
     match multipart {
         Multipart::Alternative => true,
@@ -61,7 +53,7 @@ pub(crate) fn is_alternative(multipart: Multipart) -> bool
 }
 
 fn is_related(multipart: Multipart) -> bool
-    ensures { result ≡ body.is_related multipart }
+    ensures { result ≡ roles.is_related multipart }
 {
     match multipart {
         Multipart::Related => true,
@@ -70,34 +62,34 @@ fn is_related(multipart: Multipart) -> bool
 }
 
 pub(crate) fn is_plain(part: &Part) -> bool
-    ensures { result ≡ body.is_plain part.now }
+    ensures { result ≡ roles.is_plain part.now }
 {
     same_text(part.media.as_slice(), b"text/plain")
 }
 
 pub(crate) fn is_html(part: &Part) -> bool
-    ensures { result ≡ body.is_html part.now }
+    ensures { result ≡ roles.is_html part.now }
 {
     same_text(part.media.as_slice(), b"text/html")
 }
 
 fn is_type(media: &[u8], name: &[u8]) -> bool
-    ensures { result ≡ body.is_type media.now name.now }
+    ensures { result ≡ roles.is_type media.now name.now }
 {
-    let (kind, _) = cut(&InType, media);
+    let (kind, _) = cut(&BeforeSlash, media);
     same_text(kind, name)
 }
 
-/// An image, a sound or a film.
+/// An image, audio or video.
 pub(crate) fn is_media(part: &Part) -> bool
-    ensures { result ≡ body.is_media part.now }
+    ensures { result ≡ roles.is_media part.now }
 {
     let media = part.media.as_slice();
     is_type(media, b"image") || is_type(media, b"audio") || is_type(media, b"video")
 }
 
 fn is_disposed(part: &Part, name: &[u8]) -> bool
-    ensures { result ≡ body.is_disposed part.now name.now }
+    ensures { result ≡ roles.is_disposed part.now name.now }
 {
     match &part.disposition {
         None => false,
@@ -105,49 +97,68 @@ fn is_disposed(part: &Part, name: &[u8]) -> bool
     }
 }
 
-/// Whether the disposition is other than inline, or there is none.
-pub(crate) fn is_attached(part: &Part) -> bool
-    ensures { result ≡ body.is_attached part.now }
+/// Whether the part is to be offered as an attachment: its disposition is other than inline, or it has none.
+pub(crate) fn is_downloadable(part: &Part) -> bool
+    ensures { result ≡ roles.is_downloadable part.now }
 {
     !is_disposed(part, b"inline")
 }
 
 /// Whether a body may show it.
 fn is_shown(part: &Part) -> bool
-    ensures { result ≡ body.is_shown part.now }
+    ensures { result ≡ roles.is_shown part.now }
 {
     is_plain(part) || is_html(part) || is_media(part)
 }
 
-fn is_no_file(part: &Part) -> bool
-    ensures { result ≡ body.is_no_file part.now }
+fn is_filled(text: &[u8]) -> bool
+    ensures { result ≡ not (roles.is_unnamed (Some text.now)) }
 {
-    is_media(part) || part.name.is_none()
+    match text {
+        [] => false,
+        [_, ..] => true,
+    }
+}
+
+/// Whether the part has no name, or an empty one.
+fn is_unnamed(part: &Part) -> bool
+    ensures { result ≡ roles.is_unnamed (out-Part part.now).name }
+{
+    match &part.name {
+        None => true,
+        Some(name) => !is_filled(name.as_slice()),
+    }
+}
+
+fn is_no_file(part: &Part) -> bool
+    ensures { result ≡ roles.is_no_file part.now }
+{
+    is_media(part) || is_unnamed(part)
 }
 
 fn has_place(walk: Walk, part: &Part) -> bool
-    ensures { result ≡ body.has_place walk part.now }
+    ensures { result ≡ roles.has_place walk part.now }
 {
     walk.first || (!is_related(walk.multipart) && is_no_file(part))
 }
 
 /// Whether the part is of the body, and no attachment.
 pub(crate) fn is_inline(walk: Walk, part: &Part) -> bool
-    ensures { result ≡ body.is_inline walk part.now }
+    ensures { result ≡ roles.is_inline walk part.now }
 {
     !is_disposed(part, b"attachment") && (is_shown(part) && has_place(walk, part))
 }
 
 /// Whether it is no multipart that has children.
 pub(crate) fn is_leaf(part: &Part) -> bool
-    ensures { result ≡ body.is_leaf part.now }
+    ensures { result ≡ roles.is_leaf part.now }
 {
     part.number.is_some()
 }
 
 /// The number of a leaf.
 pub(crate) fn leaf_number(part: &Part) -> u64
-    ensures { result ≡ body.leaf_number part.now }
+    ensures { result ≡ roles.leaf_number part.now }
 {
     part.number.unwrap_or(0)
 }
