@@ -17,9 +17,11 @@ pub record PartLists : Type 0 where
 abbrev pub nothing : PartLists
 nothing = record { text = []; html = []; attachments = [] }
 
+-- what stands in a, and behind it what stands in b
 abbrev pub both : PartLists → PartLists → PartLists
 both a b = record { text = a.text ++ b.text; html = a.html ++ b.html; attachments = a.attachments ++ b.attachments }
 
+-- the part, where it is wanted
 abbrev pub alone : Bool → Part → List Part
 alone wanted p = if wanted then p ∷ [] else []
 
@@ -32,9 +34,6 @@ to_html p = record { text = []; html = p ∷ []; attachments = [] }
 abbrev pub to_attachments : Part → PartLists
 to_attachments p = record { text = []; html = []; attachments = p ∷ [] }
 
-abbrev pub attached : Bool → Part → PartLists
-attached wanted p = record { text = []; html = []; attachments = alone wanted p }
-
 -- ---- a leaf
 
 -- Directly in an alternative an inline leaf goes to the list of its type, where that is open. Otherwise it is an
@@ -45,7 +44,8 @@ to_its_list walk p =
     else if walk.html && is_html p then to_html p
     else to_attachments p
 
--- Elsewhere it goes to each open list; where both are closed, a text goes nowhere. Where one is closed, an image, audio or video is an attachment too.
+-- Elsewhere it goes to each open list; where both are closed, a text goes nowhere. Where one is closed, an image, audio
+-- or video is an attachment too.
 abbrev pub to_open_lists : Walk → Part → PartLists
 to_open_lists walk p = record {
   text = alone walk.text p;
@@ -68,6 +68,7 @@ at_leaf walk inline p = if closes walk inline then closed walk p else walk
 abbrev pub meeting : Walk → Part → Walk
 meeting walk p = at_leaf walk (is_inline walk p) p
 
+-- where the leaf goes; one that isn't inline is an attachment
 abbrev pub lists_of : Walk → Bool → Part → PartLists
 lists_of walk inline p =
     if not inline then to_attachments p
@@ -90,6 +91,7 @@ into walk p =
     let inner = multipart_of (media p) in
     record { multipart = inner; within = walk.within || is_alternative inner; text = walk.text; html = walk.html; first = true }
 
+-- the first, or the other where the first has nothing
 abbrev pub or_else : List Part → List Part → List Part
 or_else [] other = other
 or_else (p ∷ ps) other = p ∷ ps

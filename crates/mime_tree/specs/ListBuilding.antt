@@ -1,5 +1,5 @@
 -- Lists of leaf numbers that grow while parts are walked.
-use Rattle.std.specs.Prelude.{◌≡◌, ℕ, ◌||◌, false, List, [], ◌++◌, length, map}
+use Rattle.std.specs.Prelude.{◌≡◌, ℕ, Bool, ◌||◌, false, List, [], ◌++◌, length, map}
 use Rattle.std.specs.List.{list_any}
 use Rattle.mime_tree.specs.declared.part.Part.{Part}
 use Rattle.mime_tree.specs.declared.roles.Walk.{Walk}
@@ -7,7 +7,7 @@ use Rattle.mime_tree.specs.declared.lists.BodyLists.{BodyLists}
 use Rattle.mime_tree.specs.declared.list_walk.Growing.{Growing}
 use Rattle.mime_tree.specs.Parts.{children}
 use Rattle.mime_tree.specs.Roles.{leaf_number, is_downloadable}
-use Rattle.mime_tree.specs.BodyLists.{PartLists, into, shared, spread, Walks}
+use Rattle.mime_tree.specs.BodyLists.{PartLists, alone, into, shared, spread, Walks}
 
 -- the lists as they stand
 abbrev pub grown : Growing → BodyLists
@@ -15,6 +15,10 @@ grown g = record { text = g.text.items; html = g.html.items; attachments = g.att
 
 abbrev pub none : BodyLists
 none = record { text = []; html = []; attachments = []; has_attachment = false }
+
+-- an attachment, where it is wanted
+abbrev pub attached : Bool → Part → PartLists
+attached wanted p = record { text = []; html = []; attachments = alone wanted p }
 
 -- these parts were added
 pub record Gains (old new : BodyLists) (a : PartLists) : Type 0 where

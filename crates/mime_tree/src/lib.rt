@@ -4,8 +4,6 @@
 pub mod body;
 pub mod head;
 pub mod laws;
-#[cfg(test)]
-mod list_tests;
 mod list_walk;
 mod lists;
 pub mod part;

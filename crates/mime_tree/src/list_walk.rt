@@ -3,7 +3,7 @@ ghost use Rattle.std.specs.Prelude.{◌≡◌, ◌≤◌, ◌++◌, ◌||◌, �
 ghost use Rattle.mime_tree.specs.BodyLists as body;
 ghost use Rattle.mime_tree.specs.Roles as roles;
 ghost use Rattle.mime_tree.specs.BodyLists.{PartLists};
-ghost use Rattle.mime_tree.specs.ListBuilding.{grown, Gains, GainsBy, GainsBelow, Shares, Spreads};
+ghost use Rattle.mime_tree.specs.ListBuilding.{grown, attached, Gains, GainsBy, GainsBelow, Shares, Spreads};
 
 use crate::part::Part;
 use crate::roles::{
@@ -80,7 +80,7 @@ fn add_to_its_list(lists: &mut Growing, walk: Walk, part: &Part) -> Result<(), A
 
 /// Adds an attachment where that is wanted.
 fn put_attachment(lists: &mut Growing, wanted: bool, part: &Part) -> Result<(), AllocError>
-    ensures { OnOk result (Gains (grown lists.old) (grown lists.new) (body.attached wanted part.now)) }
+    ensures { OnOk result (Gains (grown lists.old) (grown lists.new) (attached wanted part.now)) }
 {
     if wanted {
         return add_attachment(lists, part);

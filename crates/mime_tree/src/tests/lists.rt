@@ -1,15 +1,17 @@
-use crate::{Part, body_lists, parse};
+use crate::lists::body_lists;
+use crate::part::Part;
+use crate::tree::parse;
 use std::alloc::{AllocError, Global};
 use std::process::Abort;
 use std::test::Fail;
 
 /// Trees, and their body lists.
 ///
-/// A tree is spelled part by part. A leaf is `p` (text/plain), `h` (text/html), `i`, `s`, `v` (an image, a sound, a
-/// film) or `x` (application/pdf); behind it `!` is the disposition attachment, `~` inline, and `'` a name. `m`, `a`,
-/// `r` begin a multipart (mixed, alternative, related), and `)` ends it. Lists are of leaf numbers: text, HTML and
+/// A tree is spelled part by part. A leaf is `p` (text/plain), `h` (text/html), `i`, `s`, `v` (image, audio, video),
+/// `x` (application/pdf) or `e` (message/rfc822); behind it `!` is the disposition attachment, `~` inline, `'` a name
+/// and `"` an empty name. `m`, `a`, `r` begin a multipart (mixed, alternative, related), and `)` ends it. Lists are of leaf numbers: text, HTML and
 /// attachments, and then whether there is an attachment.
-const TREES: [(&[u8], &[u8]); 35] = [
+const TREES: [(&[u8], &[u8]); 41] = [
     // one leaf alone
     (b"p", b"1|1||no"),
     (b"h", b"1|1||no"),
@@ -18,16 +20,20 @@ const TREES: [(&[u8], &[u8]); 35] = [
     (b"x~", b"||1|no"),
     (b"p!", b"||1|yes"),
     (b"p'", b"1|1||no"),
+    (b"e", b"||1|yes"),
     (b"m)", b"|||no"),
     // side by side: a text with a name is a file but in the first place, an image isn't
     (b"mpx)", b"1|1|2|yes"),
     (b"mpp')", b"1|1|2|yes"),
+    (b"mpp\")", b"1,2|1,2||no"),
     (b"mpi')", b"1,2|1,2||no"),
+    (b"mpe)", b"1|1|2|yes"),
     (b"msv~h)", b"1,2,3|1,2,3||no"),
     (b"mp!i!)", b"||1,2|yes"),
     (b"mpmp'))", b"1,2|1,2||no"),
     // in a related multipart the first alone is inline
     (b"rhi)", b"1|1|2|yes"),
+    (b"rih)", b"1|1|2|yes"),
     (b"rhi~)", b"1|1|2|no"),
     (b"rxh)", b"||1,2|yes"),
     // directly in an alternative, each goes to its list
@@ -40,8 +46,10 @@ const TREES: [(&[u8], &[u8]); 35] = [
     (b"ah)", b"1|1||no"),
     (b"aah))", b"1|1||no"),
     (b"a)", b"|||no"),
+    (b"ami))", b"1|1||no"),
+    (b"amih))", b"1|1,2||no"),
     (b"ampi))", b"1,2|1,2|2|yes"),
-    (b"maph)i'~x!)", b"1,3|2,3|4|yes"),
+    (b"maph)i'~x'!)", b"1,3|2,3|4|yes"),
     // within an alternative plain text closes HTML and HTML text, in its multipart alone
     (b"maph)p)", b"1,3|2,3||no"),
     (b"amphi))", b"1|1|3|yes"),
@@ -52,7 +60,7 @@ const TREES: [(&[u8], &[u8]); 35] = [
     (b"aprhi~))", b"1|2|3|no"),
     // the example of RFC 8621 section 4.1.4
     (
-        b"mp~mamp~i~p~)rhi))i!xx)p~)",
+        b"mp~mamp~i~p~)rhi))i!xe)p~)",
         b"1,2,3,4,10|1,5,10|3,6,7,8,9|yes",
     ),
 ];
@@ -65,6 +73,7 @@ fn media_of(letter: u8) -> &'static [u8] {
         b's' => b"audio/ogg",
         b'v' => b"video/mp4",
         b'x' => b"application/pdf",
+        b'e' => b"message/rfc822",
         b'a' => b"multipart/alternative",
         b'r' => b"multipart/related",
         _ => b"multipart/mixed",
@@ -117,6 +126,7 @@ fn put_spelled(
         b'!' => mail.extend_from_slice(b"\r\nContent-Disposition: attachment")?,
         b'~' => mail.extend_from_slice(b"\r\nContent-Disposition: inline")?,
         b'\'' => mail.extend_from_slice(b"; name=n")?,
+        b'"' => mail.extend_from_slice(b"; name=\"\"")?,
         _ => put_head(alloc, mail, depth, letter)?,
     }
     Ok(depth)
@@ -172,4 +182,22 @@ fn expect_all(rt: &impl Abort, alloc: Global, rows: &[(&[u8], &[u8])]) -> Result
 #[test]
 fn trees_have_body_lists(rt: HostRuntime) -> Result<(), Fail> {
     expect_all(&rt, rt.alloc(), &TREES)
+}
+
+/// A list that is shared may be as long as the message has parts.
+#[test]
+fn many_parts_are_listed(rt: HostRuntime) -> Result<(), Fail> {
+    let mut tree = Vec::new(rt.alloc());
+    tree.extend_from_slice(b"am")?;
+    for _ in 0..100_000 {
+        tree.push(b'p')?;
+    }
+    tree.extend_from_slice(b"))")?;
+    let mail = spelled(rt.alloc(), tree.as_slice())?;
+    let root = parse(rt.alloc(), mail.as_slice())?;
+    let lists = body_lists(rt.alloc(), &root)?;
+    assert_eq!(rt; lists.text.len(), 100_000);
+    assert_eq!(rt; lists.html.len(), 100_000);
+    assert!(rt; lists.attachments.is_empty());
+    Ok(())
 }
