@@ -8,3 +8,6 @@ pub mod TreeLemmas
 pub mod OneTree
 pub mod UnderLemmas
 pub mod KindLemmas
+pub mod ListWalkLemmas
+pub mod OneWalk
+pub mod SameWalks

@@ -56,7 +56,7 @@ fn media_or(alloc: Global, header: &PartHeader, default: &[u8]) -> Result<Bytes,
 }
 
 /// The octets before a slash.
-struct BeforeSlash;
+pub(crate) struct BeforeSlash;
 
 impl Class<u8> for BeforeSlash {
     ghost use Rattle.mime_tree.specs.Heads as heads;

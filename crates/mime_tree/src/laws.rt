@@ -1,8 +1,10 @@
 ghost use Rattle.std.specs.Prelude.{◌≡◌, ◌≤◌, ◌⊎◌, ℕ, Bool, List, Option, Some};
+ghost use Rattle.mime_tree.specs.declared.lists.BodyLists.{BodyLists};
 ghost use Rattle.mime_tree.specs.declared.part.Part.{Part};
 ghost use Rattle.mime_tree.specs.declared.split.Mark.{Mark};
 ghost use Rattle.mime_tree.specs.declared.split.Piece.{Piece};
 ghost use Rattle.mime_tree.specs.Bodies.{HasOctets};
+ghost use Rattle.mime_tree.specs.BodyLists.{AreBodyLists};
 ghost use Rattle.mime_tree.specs.Delimiters.{IsMarked};
 ghost use Rattle.mime_tree.specs.Parts.{IsUnder, number_of};
 ghost use Rattle.mime_tree.specs.SameTrees.{Same};
@@ -41,4 +43,10 @@ pub fn two_kinds()
 pub fn one_body()
     ensures octets { (p : Part) (b s t : List ℕ) (x y : Bool) → HasOctets p b s x → HasOctets p b t y → s ≡ t }
     ensures problem { (p : Part) (b s t : List ℕ) (x y : Bool) → HasOctets p b s x → HasOctets p b t y → x ≡ y }
+{}
+
+/// No part has two values of its body lists, nor have octets.
+pub fn one_value_of_body_lists()
+    ensures part { (p : Part) (l m : BodyLists) → AreBodyLists l p → AreBodyLists m p → l ≡ m }
+    ensures message { (b : List ℕ) (p q : Part) (l m : BodyLists) → IsMessage b p → IsMessage b q → AreBodyLists l p → AreBodyLists m q → l ≡ m }
 {}

@@ -4,12 +4,16 @@
 pub mod body;
 pub mod head;
 pub mod laws;
+mod list_walk;
+mod lists;
 pub mod part;
+mod roles;
 pub mod split;
 #[cfg(test)]
 mod tests;
 pub mod tree;
 
 pub use body::part_bytes;
+pub use lists::{BodyLists, body_lists};
 pub use part::Part;
 pub use tree::parse;

@@ -1,4 +1,5 @@
 mod bodies;
 mod examples;
+mod lists;
 mod outline;
 mod trees;

@@ -1,4 +1,5 @@
 use crate::body::part_bytes;
+use crate::lists::body_lists;
 use crate::tree::parse;
 use gate_world::Bytes;
 use std::alloc::Global;
@@ -111,4 +112,23 @@ fn a_multipart_that_is_a_leaf_keeps_its_header(rt: HostRuntime) -> Result<(), Fa
         assert!(rt; !problem);
     }
     Ok(())
+}
+
+fn go_over_lists(rt: &impl Abort, alloc: Global, bytes: &[u8]) -> Result<(), Fail> {
+    let root = parse(alloc, bytes)?;
+    let lists = body_lists(alloc, &root)?;
+    let text: [u64; 2] = [1, 3];
+    let html: [u64; 2] = [2, 3];
+    let attachments: [u64; 1] = [4];
+    assert_eq!(rt; lists.text.as_slice(), text.as_slice());
+    assert_eq!(rt; lists.html.as_slice(), html.as_slice());
+    assert_eq!(rt; lists.attachments.as_slice(), attachments.as_slice());
+    assert!(rt; lists.has_attachment);
+    Ok(())
+}
+
+#[test]
+fn leaves_stand_in_their_lists(rt: HostRuntime) -> Result<(), Fail> {
+    go_over_lists(&rt, rt.alloc(), MESSAGE)?;
+    go_over_lists(&rt, rt.alloc(), CRLF_MESSAGE)
 }
