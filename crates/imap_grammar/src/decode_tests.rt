@@ -134,16 +134,24 @@ const SIZES: [(&[u8], Option<u64>, Option<u64>); 4] = [
     (b"* 2 FETCH (FLAGS ())\r\n", None, None),
 ];
 
+fn has_sizes(
+    alloc: Global,
+    bytes: &[u8],
+    modseq: Option<u64>,
+    size: Option<u64>,
+) -> Result<bool, AllocError> {
+    match read(alloc, bytes)? {
+        Some(Response::Fetch { seq: _seq, items }) => {
+            Ok(items.modseq == modseq && items.size == size)
+        }
+        _ => Ok(false),
+    }
+}
+
 #[test]
 fn sizes_and_mod_sequences_are_told(rt: HostRuntime) -> Result<(), Fail> {
     for (bytes, modseq, size) in SIZES.iter() {
-        match read(rt.alloc(), bytes)? {
-            Some(Response::Fetch { items, .. }) => {
-                assert_eq!(rt; items.modseq, *modseq);
-                assert_eq!(rt; items.size, *size);
-            }
-            _ => assert!(rt; false),
-        }
+        assert!(rt; has_sizes(rt.alloc(), bytes, *modseq, *size)?);
     }
     Ok(())
 }
@@ -259,16 +267,28 @@ const SETS: [(&[u8], u32, bool, Option<u32>); 7] = [
     (b"* VANISHED 4294967295:1\r\n", u32::MAX, true, None),
 ];
 
+fn is_held(
+    alloc: Global,
+    bytes: &[u8],
+    uid: u32,
+    held: bool,
+    only: Option<u32>,
+) -> Result<bool, AllocError> {
+    match read(alloc, bytes)? {
+        Some(
+            Response::Vanished {
+                earlier: _earlier,
+                uids,
+            },
+        ) => Ok(uids.contains(uid) == held && uids.only() == only),
+        _ => Ok(false),
+    }
+}
+
 #[test]
 fn sets_hold_their_ranges(rt: HostRuntime) -> Result<(), Fail> {
     for (bytes, uid, held, only) in SETS.iter() {
-        match read(rt.alloc(), bytes)? {
-            Some(Response::Vanished { uids, .. }) => {
-                assert_eq!(rt; uids.contains(*uid), *held);
-                assert_eq!(rt; uids.only(), *only);
-            }
-            _ => assert!(rt; false),
-        }
+        assert!(rt; is_held(rt.alloc(), bytes, *uid, *held, *only)?);
     }
     Ok(())
 }
