@@ -1,0 +1,111 @@
+// What is shown of the leaves of a message.
+ghost use Rattle.std.specs.Prelude.{◌≡◌, ℕ, Bool, Contains, IfOk, OnOk, Some, List};
+ghost use Rattle.serde_json.specs.Data.{put as put_member};
+ghost use Rattle.serde_json.specs.View.{members_view};
+ghost use Rattle.mime_tree.specs.declared.part.Part.{Part};
+ghost use Rattle.mime_tree.specs.Bodies.{HasOctets};
+ghost use Rattle.mime_tree.specs.Parts.{IsUnder, IsWithin, number_of};
+ghost use Rattle.mime_tree.specs.Heads.{is_text as is_text_of};
+ghost use Rattle.mime_tree.specs.Roles.{media};
+ghost use Rattle.email_get.specs.BodyValues.{PutsIf};
+ghost use Rattle.email_get.specs.Shown.{IsShown, IsLeafPreview, Gathers};
+
+use crate::part_objects::part_value;
+use crate::previews::preview_of;
+use crate::values::{PartText, text_of, value_of};
+use gate_world::Bytes;
+use mime_tree::head::is_text;
+use mime_tree::{Part, is_plain, part_bytes};
+use serde_json::{Map, Value, put};
+use std::alloc::{AllocError, Global};
+
+/// What is shown of a leaf.
+#[derive(Drop)]
+pub(crate) struct LeafShown {
+    pub object: Value,
+    /// The preview of a plain text.
+    pub preview: Option<Bytes>,
+}
+
+/// What is gathered of the leaves of a message.
+#[derive(Drop)]
+pub(crate) struct Gathered {
+    /// In the order of the leaves' numbers, which begin at 1.
+    pub leaves: Vec<LeafShown>,
+    /// The values of the texts by part ids.
+    pub values: Map<String, Value>,
+}
+
+/// The preview of a leaf, where it is a plain text.
+fn leaf_preview(alloc: Global, part: &Part, text: &PartText) -> Result<Option<Bytes>, AllocError>
+{
+    if is_plain(part) {
+        return Ok(Some(preview_of(alloc, text.text.as_slice())?));
+    }
+    Ok(None)
+}
+
+/// Puts the value of a text, and gives the preview of a plain one.
+fn put_text(
+    values: &mut Map<String, Value>,
+    alloc: Global,
+    part: &Part,
+    number: &str,
+    octets: &[u8],
+    misspelled: bool,
+) -> Result<Option<Bytes>, AllocError>
+{
+    if !is_text(part.media.as_slice()) {
+        return Ok(None);
+    }
+    let text = text_of(alloc, part, octets, misspelled)?;
+    put(values, alloc, number, value_of(alloc, &text)?)?;
+    leaf_preview(alloc, part, &text)
+}
+
+/// Gathers a leaf, whose octets are decoded once.
+fn gather_leaf(
+    gathered: &mut Gathered,
+    alloc: Global,
+    bytes: &[u8],
+    id: &[u8],
+    part: &Part,
+    number: u64,
+) -> Result<(), AllocError>
+    requires within { IsWithin part.now bytes.now }
+    requires number { number_of part.now ≡ Some number }
+{
+    let number = format!(in alloc; "{number}")?;
+    let (octets, misspelled) = part_bytes(alloc, bytes, part)?;
+    let object = part_value(alloc, id, part, number.as_str(), octets.len())?;
+    let preview = put_text(
+        &mut gathered.values,
+        alloc,
+        part,
+        number.as_str(),
+        octets.as_slice(),
+        misspelled,
+    )?;
+    gathered.leaves.push(LeafShown { object, preview })?;
+    Ok(())
+}
+
+/// Gathers the leaves under parts that stand side by side.
+pub(crate) fn gather(
+    gathered: &mut Gathered,
+    alloc: Global,
+    bytes: &[u8],
+    id: &[u8],
+    parts: &[Part],
+) -> Result<(), AllocError>
+    requires within { (p q : Part) → Contains parts.now p → IsUnder q p → IsWithin q bytes.now }
+    ensures { OnOk result (Gathers id.now bytes.now parts.now gathered.old gathered.new) }
+{
+    for part in parts {
+        match part.number {
+            Some(number) => gather_leaf(gathered, alloc, bytes, id, part, number)?,
+            None => gather(gathered, alloc, bytes, id, &part.children)?,
+        }
+    }
+    Ok(())
+}
