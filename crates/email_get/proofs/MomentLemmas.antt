@@ -1,9 +1,9 @@
 -- Moments, their days and their times.
-use Rattle.std.proofs.Common.{◌≡◌, ◌∙◌, ℕ, zero, suc, ◌+◌, ◌*◌, ◌/◌, ◌%◌, ◌<◌, ◌≤◌, Bool, true, false, cond, ◌&&◌, ◌==◌, nat_le, ◌⊎◌, inl, inr, refl, sym, ap, subst, arith, ℤ, pos, negsuc, ◌+ℤ◌, ◌-ℤ◌, ◌*ℤ◌, ◌≤ℤ◌, ◌<ℤ◌, List, [], ◌∷◌, Option, Some, None}
-use Rattle.std.specs.Prelude.{IfSome, codes}
-use Rattle.std.specs.List.{list_all}
-use Rattle.std.proofs.lemmas.Bool.{cond-true, cond-false, leb-true, and_parts, and_from}
-use Rattle.jiff_core.specs.Calendar.{IsCivilDate, days_in_month, day_count, days_from_civil}
+use Rattle.std.proofs.Common.{◌≡◌, ◌∙◌, ℕ, zero, suc, ◌+◌, ◌*◌, ◌/◌, ◌%◌, ◌<◌, ◌≤◌, Bool, true, false, cond, ◌&&◌, ◌==◌, nat_le, refl, sym, ap, subst, arith, ℤ, pos, negsuc, ◌+ℤ◌, ◌-ℤ◌, ◌*ℤ◌, ◌≤ℤ◌, ◌<ℤ◌, List, [], ◌∷◌, Option, Some, None}
+use Rattle.std.specs.Prelude.{IfSome, codes, unsigned_abs}
+use Rattle.std.specs.List.{list_all, filter}
+use Rattle.std.proofs.lemmas.Bool.{cond-true, leb-true, and_parts, and_from}
+use Rattle.jiff_core.specs.Calendar.{days_in_month, day_count}
 use Rattle.jiff_core.specs.Date.{epoch_day}
 use Rattle.jiff_core.specs.declared.civil.date.Date.{Date}
 use Rattle.jiff_core.proofs.CalendarLemmas.{day_count-lt_year, day_count-later_year, day_count-day_of_year, days_from_civil-day_count}
@@ -15,8 +15,10 @@ use Rattle.mail_header.specs.declared.date.Day.{Day}
 use Rattle.mail_header.specs.declared.date.Moment.{Moment}
 use Rattle.text_words.specs.Octets.{is_between, is_alpha, is_same_text}
 use Rattle.mail_header.specs.Tokens.{Spelled}
+use Rattle.mail_header.specs.Lexemes.{is_lexeme}
 use Rattle.mail_header.specs.Dates as dates
-use Rattle.email_get.specs.MomentText.{IsMomentText, IsShown, local_seconds}
+use Rattle.mail_header.proofs.AddresseeLemmas.{one_tokens}
+use Rattle.email_get.specs.MomentText.{IsMomentText, IsShown, local_text}
 
 year_zero : day_count (pos 0) 1 1 ≡ 3652425
 year_zero = day_count-early (pos 0) 9999 1 1 refl (omega arith) (omega arith) (omega arith)
@@ -213,3 +215,68 @@ form_shown raw r (dates.Read lexemes h) = date_shown lexemes
 -- the moment of a date field is shown
 pub shown : (raw : List ℕ) (r : Option Moment) (m : Moment) → r ≡ Some m → dates.IsDateForm raw r → IsShown m
 shown raw r m e form = subst (λ o. IfSome o IsShown) e (form_shown raw r form)
+
+-- ---- a moment has one text
+
+record IsMoment (d : Day) (c : Clock) (m : Moment) : Type 0 where
+  day : dates.day_exists d ≡ true
+  clock : dates.clock_exists c ≡ true
+  seconds : (made d c m.offset_minutes).seconds ≡ m.seconds
+
+made_is : (b : Bool) (d : Day) (c : Clock) (m : Moment) → b ≡ (dates.day_exists d && dates.clock_exists c) → cond b (Some (made d c m.offset_minutes)) None ≡ Some m → IsMoment d c m
+made_is false d c m e h = absurd (cc)
+made_is true d c m e h =
+    let both = and_parts (dates.day_exists d) (dates.clock_exists c) (sym e) in
+    let same : made d c m.offset_minutes ≡ m = cc in
+    record { day = both.0; clock = both.1; seconds = ap (λ n. n.seconds) same }
+
+moment_is : (d : Day) (c : Clock) (m : Moment) → dates.moment_of d c m.offset_minutes ≡ Some m → IsMoment d c m
+moment_is d c m h = made_is (dates.day_exists d && dates.clock_exists c) d c m refl h
+
+-- seconds have one day and one time of it
+same_number : (x y w z : ℤ) (s t : ℕ) → s < 86400 → t < 86400 → x *ℤ pos 86400 +ℤ pos s -ℤ w ≡ z → y *ℤ pos 86400 +ℤ pos t -ℤ w ≡ z → x ≡ y
+same_number x y w z s t h k e f = omega (arith, signed_arith, e, f)
+
+same_second : (x y w z : ℤ) (s t : ℕ) → s < 86400 → t < 86400 → x *ℤ pos 86400 +ℤ pos s -ℤ w ≡ z → y *ℤ pos 86400 +ℤ pos t -ℤ w ≡ z → s ≡ t
+same_second x y w z s t h k e f = omega (arith, signed_arith, e, f)
+
+same_day : (d e : Day) → Exists d → Exists e → dates.day_number d ≡ dates.day_number e → d ≡ e
+unfolding date_of
+same_day d e h k same =
+    let parts = epoch_day_injective (date_of d h) (date_of e k) same in
+    let year : d.year ≡ e.year = ap unsigned_abs parts.0 in
+    let of_parts : ℕ → ℕ → ℕ → Day = λ y m n. record { year = y; month = m; day = n } in
+    ap (λ y. of_parts y d.month d.day) year ∙ ap (λ m. of_parts e.year m d.day) parts.1 ∙ ap (λ n. of_parts e.year e.month n) parts.2
+
+same_clock : (c d : Clock) → dates.clock_exists c ≡ true → dates.clock_exists d ≡ true → c.second ≤ 59 → d.second ≤ 59 → dates.seconds_of_day c ≡ dates.seconds_of_day d → c ≡ d
+same_clock c d p q low high same =
+    let whole = and_parts (nat_le c.hour 23 && nat_le c.minute 59) (nat_le c.second 60) p in
+    let front = and_parts (nat_le c.hour 23) (nat_le c.minute 59) whole.0 in
+    let whole' = and_parts (nat_le d.hour 23 && nat_le d.minute 59) (nat_le d.second 60) q in
+    let front' = and_parts (nat_le d.hour 23) (nat_le d.minute 59) whole'.0 in
+    let minute : c.minute ≤ 59 = leb-true _ _ front.1 in
+    let minute' : d.minute ≤ 59 = leb-true _ _ front'.1 in
+    let hours : c.hour ≡ d.hour = omega (arith, same) in
+    let minutes : c.minute ≡ d.minute = omega (arith, same, hours) in
+    let seconds : c.second ≡ d.second = omega (arith, same, hours, minutes) in
+    let of_parts : ℕ → ℕ → ℕ → Clock = λ h m s. record { hour = h; minute = m; second = s } in
+    ap (λ h. of_parts h c.minute c.second) hours ∙ ap (λ m. of_parts d.hour m c.second) minutes ∙ ap (λ s. of_parts d.hour d.minute s) seconds
+
+pub one_moment_text : (m : Moment) (s t : List ℕ) → IsMomentText m s → IsMomentText m t → s ≡ t
+one_moment_text m s t p q =
+    let f = moment_is p.day p.clock m p.is_moment in
+    let g = moment_is q.day q.clock m q.is_moment in
+    let w = m.offset_minutes *ℤ pos 60 in
+    let n = same_number (dates.day_number p.day) (dates.day_number q.day) w m.seconds (dates.seconds_of_day p.clock) (dates.seconds_of_day q.clock) (clock_small p.clock f.clock) (clock_small q.clock g.clock) f.seconds g.seconds in
+    let k = same_second (dates.day_number p.day) (dates.day_number q.day) w m.seconds (dates.seconds_of_day p.clock) (dates.seconds_of_day q.clock) (clock_small p.clock f.clock) (clock_small q.clock g.clock) f.seconds g.seconds in
+    let day = same_day p.day q.day (exists p.day f.day) (exists q.day g.day) n in
+    let clock = same_clock p.clock q.clock f.clock g.clock p.is_second q.is_second k in
+    p.text_is ∙ ap (λ d. local_text d p.clock m.offset_minutes) day ∙ ap (λ c. local_text q.day c m.offset_minutes) clock ∙ sym q.text_is
+
+-- ---- a raw value has one date
+
+pub one_date : (raw : List ℕ) (x y : Option Moment) → dates.IsDateForm raw x → dates.IsDateForm raw y → x ≡ y
+one_date raw x y (dates.NoTokens h) (dates.NoTokens k) = refl
+one_date raw x y (dates.NoTokens h) (dates.Read ls k) = absurd (h k.tokens k.are)
+one_date raw x y (dates.Read ls h) (dates.NoTokens k) = absurd (k h.tokens h.are)
+one_date raw x y (dates.Read ls h) (dates.Read ms k) = ap dates.date_in (h.lexemes_are ∙ ap (filter is_lexeme) (one_tokens _ h.tokens k.tokens _ h.are k.are) ∙ sym k.lexemes_are)

@@ -9,3 +9,4 @@ pub mod HeaderProperties
 pub mod MomentText
 pub mod EmailObjects
 pub mod BodyViews
+pub mod EmailMembers

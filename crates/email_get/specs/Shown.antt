@@ -4,13 +4,14 @@ use Rattle.std.specs.List.{flat_map}
 use Rattle.serde_json.specs.Data.{Data, Members}
 use Rattle.serde_json.specs.View.{view, members_view}
 use Rattle.mime_tree.specs.declared.part.Part.{Part}
-use Rattle.mime_tree.specs.Roles.{is_plain}
+use Rattle.mime_tree.specs.Heads.{is_text}
+use Rattle.mime_tree.specs.Roles.{is_plain, media}
 use Rattle.email_get.specs.declared.leaves.LeafShown.{LeafShown}
 use Rattle.email_get.specs.declared.leaves.Gathered.{Gathered}
 use Rattle.email_get.specs.Leaves.{AreLeaves}
 use Rattle.email_get.specs.Previews.{IsPreviewOf}
 use Rattle.email_get.specs.PartObjects.{IsPartObject}
-use Rattle.email_get.specs.BodyValues.{AddsValues, AreValues}
+use Rattle.email_get.specs.BodyValues.{PutsIf, AddsValues, AreValues}
 
 -- a plain text has a preview, another leaf none
 abbrev pub IsLeafPreview : List ℕ → Part → Option (List ℕ) → Type 0
@@ -27,6 +28,13 @@ AreShown id b [] [] = Unit {0}
 AreShown id b [] (l ∷ ls) = ⊥
 AreShown id b (p ∷ ps) [] = ⊥
 AreShown id b (p ∷ ps) (l ∷ ls) = IsShown id b p l × AreShown id b ps ls
+
+-- a leaf was gathered
+pub record GathersLeaf (id b : List ℕ) (p : Part) (before after : Gathered) : Type 0 where
+  pub shown : LeafShown
+  pub is_shown : IsShown id b p shown
+  pub leaves : after.leaves.items ≡ before.leaves.items ++ shown ∷ []
+  pub values : PutsIf (is_text (media p)) b p (members_view before.values.entries) (members_view after.values.entries)
 
 -- what these parts have was gathered
 pub record Gathers (id b : List ℕ) (ps : List Part) (before after : Gathered) : Type 0 where

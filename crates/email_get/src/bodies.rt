@@ -1,21 +1,19 @@
 // The bodies of messages.
 ghost use Rattle.std.specs.Prelude.{◌≡◌, IfOk, MatchOption, None, Some, List, map};
-ghost use Rattle.blob_store.specs.Uploads.{blob_id as blob_id_of};
 ghost use Rattle.mime_tree.specs.declared.part.Part.{Part};
 ghost use Rattle.mime_tree.specs.Parts.{IsUnder, IsWithin};
 ghost use Rattle.mime_tree.specs.Trees.{IsMessage};
 ghost use Rattle.serde_json.specs.View.{view};
-ghost use Rattle.email_get.specs.BodyViews.{body_view};
+ghost use Rattle.email_get.specs.BodyViews.{body_view, body_at};
 ghost use Rattle.email_get.specs.EmailObjects.{IsBody};
 ghost use Rattle.email_get.specs.Shown as shown;
 
-use crate::leaves::{Gathered, LeafShown, gather};
+use crate::leaves::{Gathered, LeafShown, gather_part};
 use blob_store::blob_id::blob_id;
 use gate_world::Bytes;
-use mime_tree::{Part, body_lists};
+use mime_tree::{BodyLists, Part, body_lists};
 use serde_json::{Map, Value};
 use std::alloc::{AllocError, Global};
-use std::slice;
 
 /// What an Email object has that doesn't come of the header.
 #[derive(Drop)]
@@ -86,8 +84,27 @@ fn gathered(alloc: Global, bytes: &[u8], id: &[u8], root: &Part) -> Result<Gathe
         leaves: Vec::new(alloc),
         values: Map::new(alloc),
     };
-    gather(&mut gathered, alloc, bytes, id, slice::from_ref(root))?;
+    gather_part(root, &mut gathered, alloc, bytes, id)?;
     Ok(gathered)
+}
+
+/// The body that the lists and what was gathered make.
+fn shown_body(
+    alloc: Global,
+    gathered: Gathered,
+    lists: &BodyLists,
+) -> Result<BodyShown, AllocError>
+    ensures { IfOk result (λ b. body_view b ≡ body_at gathered lists.now) }
+{
+    let Gathered { leaves, values } = gathered;
+    Ok(BodyShown {
+        attachments: objects_at(alloc, leaves.as_slice(), lists.attachments.as_slice())?,
+        has_attachment: lists.has_attachment,
+        html: objects_at(alloc, leaves.as_slice(), lists.html.as_slice())?,
+        preview: preview_at(alloc, leaves.as_slice(), lists.text.as_slice())?,
+        text: objects_at(alloc, leaves.as_slice(), lists.text.as_slice())?,
+        values,
+    })
 }
 
 /// The body of a message with this tree.
@@ -98,13 +115,6 @@ pub(crate) fn body_of(alloc: Global, bytes: &[u8], root: &Part) -> Result<BodySh
 {
     let id = blob_id(bytes);
     let lists = body_lists(alloc, root)?;
-    let Gathered { leaves, values } = gathered(alloc, bytes, &id, root)?;
-    Ok(BodyShown {
-        attachments: objects_at(alloc, leaves.as_slice(), lists.attachments.as_slice())?,
-        has_attachment: lists.has_attachment,
-        html: objects_at(alloc, leaves.as_slice(), lists.html.as_slice())?,
-        preview: preview_at(alloc, leaves.as_slice(), lists.text.as_slice())?,
-        text: objects_at(alloc, leaves.as_slice(), lists.text.as_slice())?,
-        values,
-    })
+    let gathered = gathered(alloc, bytes, &id, root)?;
+    shown_body(alloc, gathered, &lists)
 }

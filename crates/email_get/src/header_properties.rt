@@ -5,8 +5,8 @@ ghost use Rattle.serde_json.specs.View.{view};
 ghost use Rattle.email_get.specs.Texts.{text_data};
 ghost use Rattle.email_get.specs.HeaderProperties as header;
 
-use crate::texts::{optional_text_value, text_value};
 use crate::moment_text::moment_text;
+use crate::texts::{optional_text_value, text_value};
 use gate_world::Bytes;
 use mail_header::{Address, Fields, as_addresses, as_date, as_message_ids, as_text};
 use serde_json::{Value, json};

@@ -1,14 +1,14 @@
 // What is shown of the leaves of a message.
-ghost use Rattle.std.specs.Prelude.{◌≡◌, ℕ, Bool, Contains, IfOk, OnOk, Some, List};
-ghost use Rattle.serde_json.specs.Data.{put as put_member};
+ghost use Rattle.std.specs.Prelude.{◌≡◌, ◌∷◌, [], true, false, ℕ, List, Contains, IfOk, OnOk, MatchOption, Some, decimal};
 ghost use Rattle.serde_json.specs.View.{members_view};
 ghost use Rattle.mime_tree.specs.declared.part.Part.{Part};
 ghost use Rattle.mime_tree.specs.Bodies.{HasOctets};
-ghost use Rattle.mime_tree.specs.Parts.{IsUnder, IsWithin, number_of};
 ghost use Rattle.mime_tree.specs.Heads.{is_text as is_text_of};
-ghost use Rattle.mime_tree.specs.Roles.{media};
+ghost use Rattle.mime_tree.specs.Parts.{IsUnder, IsWithin, number_of};
+ghost use Rattle.mime_tree.specs.Roles.{leaf_number, media, is_plain as is_plain_leaf};
 ghost use Rattle.email_get.specs.BodyValues.{PutsIf};
-ghost use Rattle.email_get.specs.Shown.{IsShown, IsLeafPreview, Gathers};
+ghost use Rattle.email_get.specs.Previews.{preview_of as preview_text};
+ghost use Rattle.email_get.specs.Shown.{IsLeafPreview, GathersLeaf, Gathers};
 
 use crate::part_objects::part_value;
 use crate::previews::preview_of;
@@ -38,6 +38,7 @@ pub(crate) struct Gathered {
 
 /// The preview of a leaf, where it is a plain text.
 fn leaf_preview(alloc: Global, part: &Part, text: &PartText) -> Result<Option<Bytes>, AllocError>
+    ensures { IfOk result (λ p. MatchOption p (is_plain_leaf part.now ≡ false) (λ t. (is_plain_leaf part.now ≡ true) × (t ≡ preview_text text.now.text.items))) }
 {
     if is_plain(part) {
         return Ok(Some(preview_of(alloc, text.text.as_slice())?));
@@ -54,6 +55,10 @@ fn put_text(
     octets: &[u8],
     misspelled: bool,
 ) -> Result<Option<Bytes>, AllocError>
+    requires { number.now ≡ decimal (leaf_number part.now) }
+    ensures value { OnOk result ((b : List ℕ) → HasOctets part.now b octets.now misspelled
+        → PutsIf (is_text_of (media part.now)) b part.now (members_view values.old.entries) (members_view values.new.entries)) }
+    ensures preview { IfOk result (λ p. (b : List ℕ) → HasOctets part.now b octets.now misspelled → IsLeafPreview b part.now p) }
 {
     if !is_text(part.media.as_slice()) {
         return Ok(None);
@@ -74,38 +79,51 @@ fn gather_leaf(
 ) -> Result<(), AllocError>
     requires within { IsWithin part.now bytes.now }
     requires number { number_of part.now ≡ Some number }
+    ensures { OnOk result (GathersLeaf id.now bytes.now part.now gathered.old gathered.new) }
 {
-    let number = format!(in alloc; "{number}")?;
-    let (octets, misspelled) = part_bytes(alloc, bytes, part)?;
-    let object = part_value(alloc, id, part, number.as_str(), octets.len())?;
-    let preview = put_text(
-        &mut gathered.values,
-        alloc,
-        part,
-        number.as_str(),
-        octets.as_slice(),
-        misspelled,
-    )?;
+    let text = format!(in alloc; "{number}")?;
+    let number = text.as_str();
+    let (decoded, misspelled) = part_bytes(alloc, bytes, part)?;
+    let octets = decoded.as_slice();
+    let object = part_value(alloc, id, part, number, octets.len())?;
+    let values = &mut gathered.values;
+    let preview = put_text(values, alloc, part, number, octets, misspelled)?;
     gathered.leaves.push(LeafShown { object, preview })?;
     Ok(())
 }
 
-/// Gathers the leaves under parts that stand side by side.
-pub(crate) fn gather(
+/// Gathers the leaves under a part, which may be one.
+#[cycle(gather)]
+pub(crate) fn gather_part(
+    part: &Part,
     gathered: &mut Gathered,
     alloc: Global,
     bytes: &[u8],
     id: &[u8],
-    parts: &[Part],
 ) -> Result<(), AllocError>
-    requires within { (p q : Part) → Contains parts.now p → IsUnder q p → IsWithin q bytes.now }
+    requires { (q : Part) → IsUnder q part.now → IsWithin q bytes.now }
+    ensures { OnOk result (Gathers id.now bytes.now (part.now ∷ []) gathered.old gathered.new) }
+{
+    match part.number {
+        Some(number) => gather_leaf(gathered, alloc, bytes, id, part, number),
+        None => gather(&part.children, gathered, alloc, bytes, id),
+    }
+}
+
+/// Gathers the leaves under parts that stand side by side.
+#[cycle(gather)]
+fn gather(
+    parts: &[Part],
+    gathered: &mut Gathered,
+    alloc: Global,
+    bytes: &[u8],
+    id: &[u8],
+) -> Result<(), AllocError>
+    requires { (p q : Part) → Contains parts.now p → IsUnder q p → IsWithin q bytes.now }
     ensures { OnOk result (Gathers id.now bytes.now parts.now gathered.old gathered.new) }
 {
     for part in parts {
-        match part.number {
-            Some(number) => gather_leaf(gathered, alloc, bytes, id, part, number)?,
-            None => gather(gathered, alloc, bytes, id, &part.children)?,
-        }
+        gather_part(part, gathered, alloc, bytes, id)?;
     }
     Ok(())
 }

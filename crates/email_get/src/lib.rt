@@ -7,6 +7,7 @@ pub mod header_laws;
 pub mod header_properties;
 #[cfg(test)]
 mod header_tests;
+pub mod laws;
 mod leaves;
 mod moment_text;
 mod part_objects;

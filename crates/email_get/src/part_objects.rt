@@ -54,21 +54,21 @@ fn blob_id_value(alloc: Global, id: &[u8], number: &str) -> Result<Value, AllocE
 }
 
 /// The object of the leaf of this number that spells so many octets, in the message with this blob id.
-pub(crate) fn part_value(
+fn described(
     alloc: Global,
     id: &[u8],
     part: &Part,
     number: &str,
+    language: Value,
     size: usize,
 ) -> Result<Value, AllocError>
     requires { number.now ≡ decimal (leaf_number part.now) }
-    ensures { IfOk result (λ v. (l : Data) × objects.IsLanguage (out-Part part.now).language l × (view v ≡ objects.part_data id.now part.now l size)) }
+    ensures { IfOk result (λ v. view v ≡ objects.part_data id.now part.now (view language) size) }
 {
     let blob_id = blob_id_value(alloc, id, number)?;
     let charset = optional_text_value(alloc, &part.charset)?;
     let cid = optional_text_value(alloc, &part.cid)?;
     let disposition = optional_text_value(alloc, &part.disposition)?;
-    let language = language_value(alloc, &part.language)?;
     let location = optional_text_value(alloc, &part.location)?;
     let name = optional_text_value(alloc, &part.name)?;
     let media = text_value(alloc, part.media.as_slice())?;
@@ -84,4 +84,19 @@ pub(crate) fn part_value(
         "size": size as u64,
         "type": media,
     })
+}
+
+/// The same, with the language tags.
+pub(crate) fn part_value(
+    alloc: Global,
+    id: &[u8],
+    part: &Part,
+    number: &str,
+    size: usize,
+) -> Result<Value, AllocError>
+    requires { number.now ≡ decimal (leaf_number part.now) }
+    ensures { IfOk result (λ v. (l : Data) × objects.IsLanguage (out-Part part.now).language l × (view v ≡ objects.part_data id.now part.now l size)) }
+{
+    let language = language_value(alloc, &part.language)?;
+    described(alloc, id, part, number, language, size)
 }

@@ -1,1 +1,2 @@
-use crate::email_object;
+mod objects;
+mod parts;

@@ -1,5 +1,3 @@
-use Rattle.std.proofs.Common.{◌≡◌, Some, None, refl, subst}
-use Rattle.mail_header.specs.Dates.{IsDateForm}
 use Rattle.email_get.proofs.MomentLemmas.{shown}
 use Rattle.email_get.proofs.header_properties.date_value.Goals as goal
 
