@@ -5,3 +5,5 @@ pub mod GatherLemmas
 pub mod LeafLemmas
 pub mod ShownLemmas
 pub mod WholeLemmas
+pub mod KinLemmas
+pub mod OneObject
