@@ -8,7 +8,7 @@ use Rattle.gate_world.specs.declared.event.Event.{Event}
 use Rattle.gate_world.specs.declared.event.Event.TheVariants.{Accepted, ClientEnded, ClientDone, FrontFailed, Word}
 use Rattle.gate_world.specs.Octets.{store_gave_in, store_took_in, client_gave_in, client_took_in}
 use Rattle.gate_words.specs.declared.place.Place.{Place}
-use Rattle.gate_words.specs.declared.task.Task.TheVariants.{Once}
+use Rattle.gate_words.specs.declared.task.Task.TheVariants.{Once, Show}
 use Rattle.gate_words.proofs.Tasks.{same-task}
 use Rattle.imap_syntax.specs.declared.response.Response.{Response}
 use Rattle.imap_grammar.proofs.Spellings.{spelling_front, spelling_some}
@@ -29,7 +29,7 @@ use Rattle.gateway.specs.Mail.{IsMail}
 use Rattle.gateway.specs.Machine.{Account, Machine, Follows, Moves, Stays, opened}
 use Rattle.gateway.specs.Front.{Asked}
 use Rattle.gateway.specs.Segment.{counts_line, first_told, no_memory_line, Replies, NoRequest, TooLarge, Answered, Unavailable, Wanting as WantingReply, Segment, NoneComes, NotAccepted, Unasked, Served, front_faults}
-use Rattle.gateway.specs.Run.{Run, Refused, Wanting, ServedOnce, account_of, EndsOnce}
+use Rattle.gateway.specs.Run.{Run, Refused, Wanting, ServedOnce, ShownOne, account_of, EndsOnce}
 use Rattle.gateway.specs.Complete.{asked_for, Tells, Completes}
 use Rattle.gateway.proofs.Quiet.{asks_gave_store, asks_took_store, asks_took_client, talk_gave_client, talk_took_client, heard_gave_client, heard_gave_store, heard_took_store, before_one, segment_octets, life_octets}
 
@@ -133,7 +133,7 @@ told_first epoch messages after (Moves other is) = is
 told_first epoch messages after (Stays never is) = absurd (cc)
 
 -- the parts of a request's events, one kind at a time
-parts : (f : Event → List ℕ) (es asked life : List Event) (a l : List ℕ) → es ≡ asked ++ life → flat_map f asked ≡ a → flat_map f life ≡ l → flat_map f es ≡ a ++ l
+pub parts : (f : Event → List ℕ) (es asked life : List Event) (a l : List ℕ) → es ≡ asked ++ life → flat_map f asked ≡ a → flat_map f life ≡ l → flat_map f es ≡ a ++ l
 parts f es asked life a l is first second = ap (λ (x : List Event). flat_map f x) is ∙ flat_map-append f asked life ∙ (λ i. first i ++ second i)
 
 abbrev Owed : Place → ℕ → Request → List Response → List ℕ → Type 0
@@ -172,6 +172,9 @@ ends_well (suc n) status said other ends = absurd (other ends.0)
 same_place : (a b : Place) → Once a ≡ Once b → a ≡ b
 same_place a b is = cc
 
+pub other_task : (a : Place) → Once a ≡ Show → ⊥
+other_task a is = cc
+
 same_word : (a b : ℕ) (x y : List Event) → Word a ∷ x ≡ Word b ∷ y → a ≡ b
 same_word a b x y is = cc
 
@@ -208,3 +211,5 @@ completes {words} {password} {status} {events} (ServedOnce other drawn segment s
     (subst (λ (p : Place). Tells events p drawn request responses) (sym places)
     (segment_owed other password drawn request responses segment said events served quiet.0 quiet.1 is owes.within owes.form
     (subst (λ (p : Place). InboxFetched p.user password (flat_map store_gave_in events) (flat_map store_took_in events) responses) places owes.fetched)))
+completes {words} {password} {status} {events} (ShownOne shown said outcome is_task is shows ends) well place epoch request responses owes =
+    absurd (other_task place (same-task words (Once place) Show owes.task is_task))
