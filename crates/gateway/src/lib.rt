@@ -11,6 +11,8 @@ mod script_tests;
 mod segment;
 mod show;
 #[cfg(test)]
+mod show_tests;
+#[cfg(test)]
 mod tests;
 
 pub use program::run;
