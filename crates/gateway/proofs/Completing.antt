@@ -24,6 +24,8 @@ use Rattle.jmap_core.specs.Form.{request_of}
 use Rattle.jmap_core.proofs.Reading.{request_of-asks}
 use Rattle.gateway.specs.declared.front.AskError.{AskError}
 use Rattle.gateway.specs.declared.front.AskError.TheVariants as ask
+use Rattle.gateway.specs.declared.front.FrontError.TheVariants as error
+use Rattle.gateway.specs.declared.front.Input.TheVariants.{Whole, Cut}
 use Rattle.gateway.specs.declared.mail.Marks.{Marks}
 use Rattle.gateway.specs.Mail.{IsMail}
 use Rattle.gateway.specs.Machine.{Account, Machine, Follows, Moves, Stays, opened}
@@ -31,7 +33,7 @@ use Rattle.gateway.specs.Front.{Asked}
 use Rattle.gateway.specs.Segment.{counts_line, first_told, no_memory_line, Replies, NoRequest, TooLarge, Answered, Unavailable, Wanting as WantingReply, Segment, NoneComes, NotAccepted, Unasked, Served, front_faults}
 use Rattle.gateway.specs.Run.{Run, Refused, Wanting, ServedOnce, ShownOne, account_of, EndsOnce}
 use Rattle.gateway.specs.Complete.{asked_for, Tells, Completes}
-use Rattle.gateway.proofs.Quiet.{asks_gave_store, asks_took_store, asks_took_client, talk_gave_client, talk_took_client, heard_gave_client, heard_gave_store, heard_took_store, before_one, segment_octets, life_octets}
+use Rattle.gateway.proofs.Quiet.{gives_took, gives_gave, asks_gave_store, asks_took_store, talk_gave_client, talk_took_client, heard_gave_client, heard_gave_store, heard_took_store, before_one, segment_octets, life_octets}
 
 -- a body is one request
 one_reading : {body : List ℕ} {first second : Request} → IsRequest body first → IsRequest body second → first ≡ second
@@ -68,19 +70,19 @@ one_fetch {first = first} {second} a b =
 
 -- what the parts of a request have of each kind of octets
 asked_took : (r : Result (List ℕ) AskError) (es : List Event) → Asked r es → flat_map client_took_in es ≡ []
-asked_took (Ok octets) es (asks, is, said) = ap (λ (l : List Event). flat_map client_took_in l) is ∙ before_one client_took_in asks ClientEnded refl ∙ asks_took_client asks said.kind
-asked_took (Err ask.TooLarge) es (gave, said, much) = asks_took_client es said.kind
-asked_took (Err ask.Failed) es (asks, gave, is, said) = ap (λ (l : List Event). flat_map client_took_in l) is ∙ before_one client_took_in asks FrontFailed refl ∙ asks_took_client asks said.kind
-asked_took (Err ask.Memory) es (gave, said) = asks_took_client es said.kind
+asked_took (Ok octets) es so = gives_took 10000001 (Ok (Whole octets)) es so
+asked_took (Err ask.TooLarge) es (octets, so) = gives_took 10000001 (Ok (Cut octets)) es so
+asked_took (Err ask.Failed) es so = gives_took 10000001 (Err error.Failed) es so
+asked_took (Err ask.Memory) es so = gives_took 10000001 (Err error.Memory) es so
 
 asked_gave : (octets : List ℕ) (es : List Event) → Asked (Ok octets) es → flat_map client_gave_in es ≡ octets
-asked_gave octets es (asks, is, said) = ap (λ (l : List Event). flat_map client_gave_in l) is ∙ before_one client_gave_in asks ClientEnded refl ∙ said.gave_is
+asked_gave octets es so = gives_gave 10000001 (Whole octets) es so
 
 asked_store_gave : (octets : List ℕ) (es : List Event) → Asked (Ok octets) es → flat_map store_gave_in es ≡ []
-asked_store_gave octets es (asks, is, said) = ap (λ (l : List Event). flat_map store_gave_in l) is ∙ before_one store_gave_in asks ClientEnded refl ∙ asks_gave_store asks said.kind
+asked_store_gave octets es (asks, is, said, few) = ap (λ (l : List Event). flat_map store_gave_in l) is ∙ before_one store_gave_in asks ClientEnded refl ∙ asks_gave_store asks said.kind
 
 asked_store_took : (octets : List ℕ) (es : List Event) → Asked (Ok octets) es → flat_map store_took_in es ≡ []
-asked_store_took octets es (asks, is, said) = ap (λ (l : List Event). flat_map store_took_in l) is ∙ before_one store_took_in asks ClientEnded refl ∙ asks_took_store asks said.kind
+asked_store_took octets es (asks, is, said, few) = ap (λ (l : List Event). flat_map store_took_in l) is ∙ before_one store_took_in asks ClientEnded refl ∙ asks_took_store asks said.kind
 
 life_took : {user password : List ℕ} {r : Result (List Response) LinkEnd} (es : List Event) → Life user password r es → flat_map client_took_in es ≡ []
 life_took es (Unsent is a b) = ap (λ (l : List Event). flat_map client_took_in l) is
@@ -143,7 +145,7 @@ Owed place epoch request responses response = ((messages : List (ℕ × Marks)) 
 owed : {after : Machine} (place : Place) (password : List ℕ) (epoch : ℕ) (request : Request) (responses : List Response) (response : List ℕ) (es : List Event) → Replies (account_of place password) (opened epoch) es response after → length (flat_map client_gave_in es) ≤ 10000000 → IsRequest (flat_map client_gave_in es) request → InboxFetched place.user password (flat_map store_gave_in es) (flat_map store_took_in es) responses → Owed place epoch request responses response
 owed place password epoch request responses response es (NoRequest octets asked none a b) within form fetched =
     absurd (none request (subst (λ (l : List ℕ). IsRequest l request) (asked_gave octets es asked) form))
-owed place password epoch request responses response es (TooLarge (gave, said, much) a b) within form fetched =
+owed place password epoch request responses response es (TooLarge (gave, (said, much)) a b) within form fetched =
     absurd (omega (arith, ap length said.gave_is, much, within))
 owed {after} place password epoch request responses response es (Answered asked life octets other told messages is so is_request lived mail follows text) within form fetched =
     let gave = parts client_gave_in es asked life octets [] is (asked_gave octets asked so) (life_gave_client life lived) ∙ append-nil octets in
@@ -183,7 +185,7 @@ segment_owed : {after : Machine} (place : Place) (password : List ℕ) (epoch : 
 segment_owed place password epoch request responses segment said events (NoneComes is a) well none events_are within form fetched =
     absurd (never_fetched (flat_map store_gave_in events) (ap (λ (l : List Event). flat_map store_gave_in l) (events_are ∙ (λ i. Word epoch ∷ (is i ++ none i)))) fetched)
 segment_owed place password epoch request responses segment said events (NotAccepted is a) well none events_are within form fetched = absurd (cc)
-segment_owed place password epoch request responses segment said events (Unasked asks gave is a b) well none events_are within form fetched = absurd (cc)
+segment_owed place password epoch request responses segment said events (Unasked asked is a b) well none events_are within form fetched = absurd (cc)
 segment_owed place password epoch request responses segment said events (Served req heard response (Err e) is replies sends) well none events_are within form fetched = absurd (cc)
 segment_owed place password epoch request responses segment said events (Served req heard response (Ok u) is replies sends) well none events_are within form fetched =
     let cg = whole client_gave_in epoch req heard said segment events refl refl refl events_are none is ∙ ap (λ (l : List ℕ). flat_map client_gave_in req ++ l) (heard_gave_client heard sends.kind) ∙ append-nil (flat_map client_gave_in req) in

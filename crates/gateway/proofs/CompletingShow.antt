@@ -16,18 +16,7 @@ use Rattle.gateway.specs.Show.{ShowsObject, Answers, Unread, Sent, Shows, NoneCo
 use Rattle.gateway.specs.Run.{Run, Refused, Wanting, ServedOnce, ShownOne, EndsShow}
 use Rattle.gateway.specs.Complete.{asked_for, IsGiven, TellsObject, CompletesShow}
 use Rattle.gateway.proofs.Completing.{parts, other_task}
-use Rattle.gateway.proofs.Quiet.{asks_took_client, heard_gave_client, before_one}
-
--- what a client's input has of each kind of octets
-gives_took : (most : ℕ) (r : Result Input FrontError) (es : List Event) → Gives most r es → flat_map client_took_in es ≡ []
-gives_took most (Ok (Whole octets)) es (asks, is, so, few) = ap (λ (l : List Event). flat_map client_took_in l) is ∙ before_one client_took_in asks ClientEnded refl ∙ asks_took_client asks so.kind
-gives_took most (Ok (Cut octets)) es (so, many) = asks_took_client es so.kind
-gives_took most (Err error.Failed) es (asks, gave, is, so, few) = ap (λ (l : List Event). flat_map client_took_in l) is ∙ before_one client_took_in asks FrontFailed refl ∙ asks_took_client asks so.kind
-gives_took most (Err error.Memory) es (gave, so, few) = asks_took_client es so.kind
-
-gives_gave : (most : ℕ) (input : Input) (es : List Event) → Gives most (Ok input) es → flat_map client_gave_in es ≡ octets_of input
-gives_gave most (Whole octets) es (asks, is, so, few) = ap (λ (l : List Event). flat_map client_gave_in l) is ∙ before_one client_gave_in asks ClientEnded refl ∙ so.gave_is
-gives_gave most (Cut octets) es (so, many) = so.gave_is
+use Rattle.gateway.proofs.Quiet.{gives_took, gives_gave, heard_gave_client, before_one}
 
 -- all events of a run that showed one client its message
 shown_events : (answered said shown events : List Event) → events ≡ shown ++ said → said ≡ [] → shown ≡ Accepted ∷ (answered ++ ClientDone ∷ []) → events ≡ Accepted ∷ (answered ++ ClientDone ∷ [])

@@ -117,8 +117,8 @@ forgotten_body {events} account before was now later so = (before, Wanting event
 pub served : (xs ys : List Event) (account : Account) (before : Machine) (was now : ℕ) (result : Reply) (sent : Result (Unit {0}) Failed) → was ≤ now → Responds account before was now result xs → SendsReply result sent ys → Serves account before was now sent ((xs ++ ys) ++ ClientDone ∷ [])
 served xs ys account before was now (reply.Line text) sent later (after, replies, rose) sends = (after, Served xs ys text sent refl replies sends, rose, refl)
 served xs ys account before was now reply.NoMemory sent later (after, replies, rose) sends = (after, Served xs ys line_end sent refl replies sends, rose, refl)
-served xs ys account before was now reply.Nothing sent later (asks, gave, is, said) (none, failed) =
-    (before, Unasked asks gave (ap (λ (l : List Event). Accepted ∷ ((xs ++ l) ++ ClientDone ∷ [])) none ∙ ap (λ (l : List Event). Accepted ∷ (l ++ ClientDone ∷ [])) (append-nil xs ∙ is)) said refl, rose_none was now later, sym failed)
+served xs ys account before was now reply.Nothing sent later asked (none, failed) =
+    (before, Unasked xs (ap (λ (l : List Event). Accepted ∷ ((xs ++ l) ++ ClientDone ∷ [])) none ∙ ap (λ (l : List Event). Accepted ∷ (l ++ ClientDone ∷ [])) (append-nil xs)) asked refl, rose_none was now later, sym failed)
 
 -- the client was accepted
 pub accepted : {xs : List Event} (ys : List Event) (account : Account) (before : Machine) (was now : ℕ) (result : Result (Unit {0}) Failed) → xs ≡ Accepted ∷ [] → Serves account before was now result ys → ServesOne account before was now result (xs ++ ys)

@@ -27,12 +27,12 @@ Gives most (Err front.Memory) events = (gave : List ℕ) × Asks gave events × 
 abbrev pub body_limit : ℕ
 body_limit = 10000000
 
--- The client gave these octets and ended; or it gave one octet too many, and no more were read; or the front failed before.
+-- A request's body is the client's whole input; or it gave one octet too many; or the front failed before; or memory was wanting.
 abbrev pub Asked : Result (List ℕ) AskError → List Event → Type 0
-Asked (Ok octets) events = (asks : List Event) × (events ≡ asks ++ ClientEnded ∷ []) × Asks octets asks
-Asked (Err ask.TooLarge) events = (gave : List ℕ) × Asks gave events × (length gave ≡ body_limit + 1)
-Asked (Err ask.Failed) events = (asks : List Event) × (gave : List ℕ) × (events ≡ asks ++ FrontFailed ∷ []) × Asks gave asks
-Asked (Err ask.Memory) events = (gave : List ℕ) × Asks gave events
+Asked (Ok octets) events = Gives (body_limit + 1) (Ok (Whole octets)) events
+Asked (Err ask.TooLarge) events = (octets : List ℕ) × Gives (body_limit + 1) (Ok (Cut octets)) events
+Asked (Err ask.Failed) events = Gives (body_limit + 1) (Err front.Failed) events
+Asked (Err ask.Memory) events = Gives (body_limit + 1) (Err front.Memory) events
 
 -- the client took these octets, or the front failed before it took them all
 abbrev pub Sends : List ℕ → Result (Unit {0}) Failed → List Event → Type 0
