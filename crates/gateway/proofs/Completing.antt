@@ -5,7 +5,7 @@ use Rattle.std.proofs.lemmas.List.{append-nil}
 use Rattle.std.proofs.lemmas.List.Concat.{flat_map-append}
 use Rattle.std.proofs.lemmas.Option.{same_Some}
 use Rattle.gate_world.specs.declared.event.Event.{Event}
-use Rattle.gate_world.specs.declared.event.Event.TheVariants.{Accepted, ClientEnded, ClientDone, FrontFailed, Word}
+use Rattle.gate_world.specs.declared.event.Event.TheVariants.{Accepted, ClientEnded, ClientDone, Word}
 use Rattle.gate_world.specs.Octets.{store_gave_in, store_took_in, client_gave_in, client_took_in}
 use Rattle.gate_words.specs.declared.place.Place.{Place}
 use Rattle.gate_words.specs.declared.task.Task.TheVariants.{Once, Show}

@@ -3,7 +3,7 @@ use Rattle.std.proofs.Common.{◌≡◌, ◌⊎◌, ◌++◌, ℕ, List, [], ◌
 use Rattle.std.specs.List.{flat_map}
 use Rattle.std.proofs.lemmas.List.{append-nil}
 use Rattle.gate_world.specs.declared.event.Event.{Event}
-use Rattle.gate_world.specs.declared.event.Event.TheVariants.{Accepted, NoMore, ClientEnded, ClientDone, FrontFailed}
+use Rattle.gate_world.specs.declared.event.Event.TheVariants.{Accepted, NoMore, ClientEnded, ClientDone}
 use Rattle.gate_world.specs.Octets.{client_gave_in, client_took_in}
 use Rattle.gate_words.specs.declared.task.Task.TheVariants.{Once, Show}
 use Rattle.gate_words.proofs.Tasks.{same-task}

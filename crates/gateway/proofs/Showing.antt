@@ -1,19 +1,19 @@
 -- From what the calls add to what showing a message is.
-use Rattle.std.proofs.Common.{◌≡◌, ◌≤◌, ◌++◌, ℕ, List, [], ◌∷◌, refl, sym, ◌∙◌, ap, subst, arith, Result, Ok, Err}
+use Rattle.std.proofs.Common.{◌≡◌, ◌++◌, ℕ, List, [], ◌∷◌, refl, sym, ◌∙◌, ap, subst, Result, Ok, Err}
 use Rattle.std.specs.Prelude.{IfOk}
 use Rattle.std.specs.declared.alloc.AllocError.{AllocError}
 use Rattle.std.proofs.lemmas.List.{append-nil}
 use Rattle.serde_json.specs.Data.{Data}
 use Rattle.serde_json.specs.Written.{compact_text}
 use Rattle.gate_world.specs.declared.event.Event.{Event}
-use Rattle.gate_world.specs.declared.event.Event.TheVariants.{Accepted, NoMore, ClientDone, FrontFailed}
+use Rattle.gate_world.specs.declared.event.Event.TheVariants.{Accepted}
 use Rattle.gate_world.specs.declared.outside.Failed.{Failed}
 use Rattle.email_get.specs.EmailObjects.{IsEmailObject}
 use Rattle.gateway.specs.declared.front.FrontError.{FrontError}
 use Rattle.gateway.specs.declared.front.FrontError.TheVariants as error
 use Rattle.gateway.specs.Front.{Sends}
 use Rattle.gateway.specs.Segment.{line_end}
-use Rattle.gateway.specs.Show.{object_line, ShowsObject, Reads, Answers, Unread, Sent, Shows, NoneComes, NotAccepted, Came, ShowsClient}
+use Rattle.gateway.specs.Show.{object_line, ShowsObject, Reads, Answers, Sent, Shows, ShowsClient}
 use Rattle.gateway.specs.Run.{Says, front_failed, RunsShow}
 
 -- the text with its line end shows the object
