@@ -97,6 +97,7 @@ kin_lists ls ms m n same f g (p ∷ ps) (q ∷ qs) e i j =
     let a = place 1 ls m f p i.0 in
     let b = place 1 ms n g q j.0 in
     let number : leaf_number p ≡ leaf_number q = ap (head_or 0) e in
-    let at : b.at ≡ a.at = omega (arith, a.number, b.number, number) in
-    (kin_at ls ms same a.at p q a.there (subst (λ (k : ℕ). slice_get ms k ≡ Some q) at b.there),
-    kin_lists ls ms m n same f g ps qs (ap tail_of e) i.1 j.1)
+    let at : b.at ≡ a.at = omega (arith, a.number, b.number, number) in (
+      kin_at ls ms same a.at p q a.there (subst (λ (k : ℕ). slice_get ms k ≡ Some q) at b.there),
+      kin_lists ls ms m n same f g ps qs (ap tail_of e) i.1 j.1,
+    )

@@ -76,18 +76,18 @@ one_part_data id p q l m s t k e f =
     let name = ap optional_text k.name in
     let type = ap text_data k.media in
     λ i.
-        object
-        (member (codes "blobId") (text_data (part_blob_id id (n i)))
-        (member (codes "charset") (charset i)
-        (member (codes "cid") (cid i)
-        (member (codes "disposition") (disposition i)
-        (member (codes "language") (e i)
-        (member (codes "location") (location i)
-        (member (codes "name") (name i)
-        (member (codes "partId") (string (decimal (n i)))
-        (member (codes "size") (number (unsigned (f i)))
-        (member (codes "type") (type i)
-        no_members))))))))))
+    object
+    (member (codes "blobId") (text_data (part_blob_id id (n i)))
+    (member (codes "charset") (charset i)
+    (member (codes "cid") (cid i)
+    (member (codes "disposition") (disposition i)
+    (member (codes "language") (e i)
+    (member (codes "location") (location i)
+    (member (codes "name") (name i)
+    (member (codes "partId") (string (decimal (n i)))
+    (member (codes "size") (number (unsigned (f i)))
+    (member (codes "type") (type i)
+    no_members))))))))))
 
 one_object : (id b : List ℕ) (p q : Part) (d e : Data) → Kin p q → IsPartObject id b p d → IsPartObject id b q e → d ≡ e
 one_object id b p q d e k g h =

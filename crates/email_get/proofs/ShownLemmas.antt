@@ -57,10 +57,12 @@ is_preview id b ls ss n a f (p ∷ ps) h =
 
 -- all that was gathered, from nothing on
 pub all_gathered : (id b : List ℕ) (root : Part) (before after : Gathered) → before.leaves.items ≡ [] → before.values.entries ≡ [] → Gathers id b (root ∷ []) before after → GathersAll id b root after
-all_gathered id b root before after e f g =
-    (g.leaves, g.are_leaves,
-    subst (λ (ss : List LeafShown). AreShown id b g.leaves ss) (sym (g.shown_is ∙ ap (λ (u : List LeafShown). u ++ g.shown) e)) g.are_shown,
-    subst (λ (ms : Members). AddsValues b g.leaves ms (members_view after.values.entries)) (ap members_view f) g.values)
+all_gathered id b root before after e f g = (
+  g.leaves,
+  g.are_leaves,
+  subst (λ (ss : List LeafShown). AreShown id b g.leaves ss) (sym (g.shown_is ∙ ap (λ (u : List LeafShown). u ++ g.shown) e)) g.are_shown,
+  subst (λ (ms : Members). AddsValues b g.leaves ms (members_view after.values.entries)) (ap members_view f) g.values,
+)
 
 body_from : (b : List ℕ) (root : Part) (lists : BodyLists) (g : Gathered) → IsMessage b root → AreBodyLists lists root → GathersAll (blob_id b) b root g → IsBody b root (body_at g lists)
 body_from b root lists g m are (leaves, are_leaves, shown, values) =
