@@ -1,12 +1,12 @@
 -- Leaves of trees that are the same, up to memory.
-use Rattle.std.proofs.Common.{◌≡◌, ℕ, zero, suc, ◌+◌, ◌⊎◌, inl, inr, Bool, true, false, List, [], ◌∷◌, ◌++◌, map, refl, sym, ap, ◌∙◌, subst, arith, Option, Some, None}
-use Rattle.std.specs.Prelude.{slice_get, is_some, unwrap_or}
+use Rattle.std.proofs.Common.{◌≡◌, ℕ, zero, suc, ◌⊎◌, inl, inr, List, [], ◌∷◌, ◌++◌, map, sym, ap, ◌∙◌, subst, arith, Some}
+use Rattle.std.specs.Prelude.{slice_get, is_some}
 use Rattle.mime_tree.specs.declared.part.Part.{Part, out-Part}
-use Rattle.mime_tree.specs.Parts.{children, number_of}
-use Rattle.mime_tree.specs.Roles.{is_leaf, leaf_number}
+use Rattle.mime_tree.specs.Parts.{children}
+use Rattle.mime_tree.specs.Roles.{leaf_number}
 use Rattle.mime_tree.specs.SameTrees.{AllSame, SamePart, NoPart, Same}
 use Rattle.email_get.specs.Leaves.{AreLeaves, End, Leaf, Multi}
-use Rattle.email_get.proofs.LeafLemmas.{FirstLeaf, FirstMulti, cases, AreFrom, IsIn, AllIn, place}
+use Rattle.email_get.proofs.LeafLemmas.{FirstLeaf, FirstMulti, cases, AreFrom, AllIn, place}
 
 -- the same but for what stands below
 pub record Kin (p q : Part) : Type 0 where

@@ -1,5 +1,5 @@
 -- No octets are two objects.
-use Rattle.std.proofs.Common.{◌≡◌, ℕ, Bool, true, false, ◌||◌, List, [], ◌∷◌, length, map, refl, sym, ap, ◌∙◌, subst, Option, Some, None}
+use Rattle.std.proofs.Common.{◌≡◌, ℕ, Bool, true, false, ◌||◌, List, [], ◌∷◌, length, refl, sym, ap, ◌∙◌, subst, Option, Some, None}
 use Rattle.std.specs.Prelude.{slice_range, unwrap_or, codes, decimal}
 use Rattle.std.specs.Bool.{MatchBool}
 use Rattle.blob_store.specs.Uploads.{blob_id}
@@ -19,13 +19,13 @@ use Rattle.mime_tree.specs.Bodies.{encoding_by, HasOctets}
 use Rattle.mime_tree.specs.BodyLists.{start}
 use Rattle.mime_tree.specs.Heads.{is_text, us_ascii}
 use Rattle.mime_tree.specs.Roles.{leaf_number, media, is_plain}
-use Rattle.mime_tree.specs.SameTrees.{AllSame, Same}
+use Rattle.mime_tree.specs.SameTrees.{AllSame}
 use Rattle.mime_tree.specs.Trees.{IsMessage}
 use Rattle.mime_tree.proofs.OneTree.{one_message}
 use Rattle.mime_tree.proofs.SameWalks.{same_lists}
 use Rattle.email_get.specs.BodyValues.{value_data, PutsValue, PutsIf, AddsValues}
 use Rattle.email_get.specs.EmailObjects.{AreObjects, IsPreview, BodyData, IsBody as IsBodyOf, email_data, IsEmailObject}
-use Rattle.email_get.specs.HeaderProperties.{HeaderData, IsHeaderData}
+use Rattle.email_get.specs.HeaderProperties.{IsHeaderData}
 use Rattle.email_get.specs.PartObjects.{IsLanguage, atoms, part_blob_id, part_data, IsPartObject}
 use Rattle.email_get.specs.Previews.{preview_of, IsPreviewOf}
 use Rattle.email_get.specs.Texts.{text_data, optional_text, text_list}

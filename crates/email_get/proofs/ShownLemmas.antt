@@ -1,22 +1,22 @@
 -- What is shown of the leaves in a list, by their numbers.
-use Rattle.std.proofs.Common.{◌≡◌, ℕ, zero, suc, ◌+◌, ◌-◌, Bool, true, false, List, [], ◌∷◌, ◌++◌, map, refl, sym, ap, ◌∙◌, subst, arith, Option, Some, None}
+use Rattle.std.proofs.Common.{◌≡◌, ℕ, zero, suc, ◌-◌, Bool, List, [], ◌∷◌, ◌++◌, map, refl, sym, ap, ◌∙◌, subst, arith, Option, Some, None}
 use Rattle.std.specs.Prelude.{slice_get, option_map, option_and_then, option_to_list, unwrap_or}
 use Rattle.std.specs.Bool.{MatchBool}
 use Rattle.blob_store.specs.Uploads.{blob_id}
-use Rattle.serde_json.specs.Data.{Data, Members}
+use Rattle.serde_json.specs.Data.{Members}
 use Rattle.serde_json.specs.View.{view, members_view}
 use Rattle.mime_tree.specs.declared.part.Part.{Part}
 use Rattle.mime_tree.specs.declared.lists.BodyLists.{BodyLists}
 use Rattle.mime_tree.specs.BodyLists.{start, AreBodyLists}
 use Rattle.mime_tree.specs.Trees.{IsMessage}
-use Rattle.mime_tree.specs.Roles.{leaf_number, is_plain}
+use Rattle.mime_tree.specs.Roles.{leaf_number}
 use Rattle.email_get.specs.declared.leaves.Gathered.{Gathered}
 use Rattle.email_get.specs.declared.leaves.LeafShown.{LeafShown}
 use Rattle.email_get.specs.BodyValues.{AddsValues}
 use Rattle.email_get.specs.BodyViews.{body_at}
 use Rattle.email_get.specs.EmailObjects.{AreObjects, IsPreview, BodyData, IsBody}
 use Rattle.email_get.specs.Previews.{IsPreviewOf}
-use Rattle.email_get.specs.Shown.{IsLeafPreview, IsShown, AreShown, Gathers, GathersAll, shown_at, objects_at, leaf_preview, preview_at}
+use Rattle.email_get.specs.Shown.{IsLeafPreview, IsShown, AreShown, Gathers, GathersAll, shown_at, objects_at, preview_at}
 use Rattle.email_get.proofs.LeafLemmas.{AreFrom, AllIn, place, message_from, walk_inside}
 
 pub record ShownThere (id b : List ℕ) (p : Part) (o : Option LeafShown) : Type 0 where
