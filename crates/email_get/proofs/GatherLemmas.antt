@@ -1,12 +1,11 @@
 -- What is gathered of parts, one after another.
-use Rattle.std.proofs.Common.{◌≡◌, ℕ, true, false, List, [], ◌∷◌, ◌++◌, refl, sym, ap, ◌∙◌, subst, append_assoc, Option, Some, None, ◌+◌, ◌<◌, length, take, get_or}
+use Rattle.std.proofs.Common.{◌≡◌, ℕ, List, [], ◌∷◌, ◌++◌, refl, sym, ap, ◌∙◌, subst, append_assoc, Some, None, ◌+◌, ◌<◌, length, take, get_or}
 use Rattle.std.specs.Prelude.{is_some}
 use Rattle.std.proofs.lemmas.List.{append-nil, take_more}
 use Rattle.serde_json.specs.Data.{Members}
 use Rattle.serde_json.specs.View.{members_view}
 use Rattle.mime_tree.specs.declared.part.Part.{Part}
 use Rattle.mime_tree.specs.Parts.{children, number_of}
-use Rattle.mime_tree.specs.Roles.{is_leaf}
 use Rattle.email_get.specs.declared.leaves.Gathered.{Gathered}
 use Rattle.email_get.specs.declared.leaves.LeafShown.{LeafShown}
 use Rattle.email_get.specs.BodyValues.{AddsValues}

@@ -1,12 +1,12 @@
 -- Leaves of trees that are the same, up to memory.
-use Rattle.std.proofs.Common.{◌≡◌, ℕ, zero, suc, ◌+◌, ◌⊎◌, inl, inr, Bool, true, false, List, [], ◌∷◌, ◌++◌, map, refl, sym, ap, ◌∙◌, subst, arith, Option, Some, None}
-use Rattle.std.specs.Prelude.{slice_get, is_some, unwrap_or}
+use Rattle.std.proofs.Common.{◌≡◌, ℕ, zero, suc, ◌⊎◌, inl, inr, List, [], ◌∷◌, ◌++◌, map, sym, ap, ◌∙◌, subst, arith, Some}
+use Rattle.std.specs.Prelude.{slice_get, is_some}
 use Rattle.mime_tree.specs.declared.part.Part.{Part, out-Part}
-use Rattle.mime_tree.specs.Parts.{children, number_of}
-use Rattle.mime_tree.specs.Roles.{is_leaf, leaf_number}
+use Rattle.mime_tree.specs.Parts.{children}
+use Rattle.mime_tree.specs.Roles.{leaf_number}
 use Rattle.mime_tree.specs.SameTrees.{AllSame, SamePart, NoPart, Same}
 use Rattle.email_get.specs.Leaves.{AreLeaves, End, Leaf, Multi}
-use Rattle.email_get.proofs.LeafLemmas.{FirstLeaf, FirstMulti, cases, AreFrom, IsIn, AllIn, place}
+use Rattle.email_get.proofs.LeafLemmas.{FirstLeaf, FirstMulti, cases, AreFrom, AllIn, place}
 
 -- the same but for what stands below
 pub record Kin (p q : Part) : Type 0 where
@@ -97,6 +97,7 @@ kin_lists ls ms m n same f g (p ∷ ps) (q ∷ qs) e i j =
     let a = place 1 ls m f p i.0 in
     let b = place 1 ms n g q j.0 in
     let number : leaf_number p ≡ leaf_number q = ap (head_or 0) e in
-    let at : b.at ≡ a.at = omega (arith, a.number, b.number, number) in
-    (kin_at ls ms same a.at p q a.there (subst (λ (k : ℕ). slice_get ms k ≡ Some q) at b.there),
-    kin_lists ls ms m n same f g ps qs (ap tail_of e) i.1 j.1)
+    let at : b.at ≡ a.at = omega (arith, a.number, b.number, number) in (
+      kin_at ls ms same a.at p q a.there (subst (λ (k : ℕ). slice_get ms k ≡ Some q) at b.there),
+      kin_lists ls ms m n same f g ps qs (ap tail_of e) i.1 j.1,
+    )

@@ -1,6 +1,6 @@
 -- The leaves of a message have their numbers as places, and the body lists have no other leaves.
-use Rattle.std.proofs.Common.{◌≡◌, ℕ, zero, suc, ◌+◌, ◌-◌, ◌⊎◌, inl, inr, Bool, true, false, List, [], ◌∷◌, ◌++◌, refl, sym, ap, ◌∙◌, subst, arith, Option, Some, None, if◌then◌else◌, not}
-use Rattle.std.specs.Prelude.{slice_get, slice_range, is_some, unwrap_or, ◌&&◌}
+use Rattle.std.proofs.Common.{◌≡◌, ℕ, zero, suc, ◌+◌, ◌⊎◌, inl, inr, Bool, true, false, List, [], ◌∷◌, ◌++◌, refl, sym, ap, ◌∙◌, subst, arith, Option, Some, None, if◌then◌else◌, not}
+use Rattle.std.specs.Prelude.{slice_get, is_some, unwrap_or, ◌&&◌}
 use Rattle.std.proofs.lemmas.List.{append-nil}
 use Rattle.mime_tree.specs.declared.head.Head.{Head}
 use Rattle.mime_tree.specs.declared.part.Part.{Part}
@@ -10,7 +10,7 @@ use Rattle.mime_tree.specs.BodyLists as body
 use Rattle.mime_tree.specs.BodyLists.{PartLists, alone, or_else, shared, spread, into, meeting, Walks, End, Multi, Leaf}
 use Rattle.mime_tree.specs.Heads.{default_in}
 use Rattle.mime_tree.specs.Parts.{children, number_of}
-use Rattle.mime_tree.specs.Roles.{is_leaf, leaf_number, is_inline, is_alternative, is_media, is_plain, is_html}
+use Rattle.mime_tree.specs.Roles.{is_leaf, leaf_number, is_inline, is_alternative, is_plain, is_html}
 use Rattle.mime_tree.specs.Trees.{TreeWord, IsLeaf, IsNode, AreTrees, IsPartOf, IsTree, IsMessage}
 use Rattle.email_get.specs.Leaves as leaves
 use Rattle.email_get.specs.Leaves.{AreLeaves}

@@ -1,5 +1,5 @@
 -- No octets are two objects.
-use Rattle.std.proofs.Common.{◌≡◌, ℕ, Bool, true, false, ◌||◌, List, [], ◌∷◌, length, map, refl, sym, ap, ◌∙◌, subst, Option, Some, None}
+use Rattle.std.proofs.Common.{◌≡◌, ℕ, Bool, true, false, ◌||◌, List, [], ◌∷◌, length, refl, sym, ap, ◌∙◌, subst, Option, Some, None}
 use Rattle.std.specs.Prelude.{slice_range, unwrap_or, codes, decimal}
 use Rattle.std.specs.Bool.{MatchBool}
 use Rattle.blob_store.specs.Uploads.{blob_id}
@@ -19,13 +19,13 @@ use Rattle.mime_tree.specs.Bodies.{encoding_by, HasOctets}
 use Rattle.mime_tree.specs.BodyLists.{start}
 use Rattle.mime_tree.specs.Heads.{is_text, us_ascii}
 use Rattle.mime_tree.specs.Roles.{leaf_number, media, is_plain}
-use Rattle.mime_tree.specs.SameTrees.{AllSame, Same}
+use Rattle.mime_tree.specs.SameTrees.{AllSame}
 use Rattle.mime_tree.specs.Trees.{IsMessage}
 use Rattle.mime_tree.proofs.OneTree.{one_message}
 use Rattle.mime_tree.proofs.SameWalks.{same_lists}
 use Rattle.email_get.specs.BodyValues.{value_data, PutsValue, PutsIf, AddsValues}
 use Rattle.email_get.specs.EmailObjects.{AreObjects, IsPreview, BodyData, IsBody as IsBodyOf, email_data, IsEmailObject}
-use Rattle.email_get.specs.HeaderProperties.{HeaderData, IsHeaderData}
+use Rattle.email_get.specs.HeaderProperties.{IsHeaderData}
 use Rattle.email_get.specs.PartObjects.{IsLanguage, atoms, part_blob_id, part_data, IsPartObject}
 use Rattle.email_get.specs.Previews.{preview_of, IsPreviewOf}
 use Rattle.email_get.specs.Texts.{text_data, optional_text, text_list}
@@ -76,18 +76,18 @@ one_part_data id p q l m s t k e f =
     let name = ap optional_text k.name in
     let type = ap text_data k.media in
     λ i.
-        object
-        (member (codes "blobId") (text_data (part_blob_id id (n i)))
-        (member (codes "charset") (charset i)
-        (member (codes "cid") (cid i)
-        (member (codes "disposition") (disposition i)
-        (member (codes "language") (e i)
-        (member (codes "location") (location i)
-        (member (codes "name") (name i)
-        (member (codes "partId") (string (decimal (n i)))
-        (member (codes "size") (number (unsigned (f i)))
-        (member (codes "type") (type i)
-        no_members))))))))))
+    object
+    (member (codes "blobId") (text_data (part_blob_id id (n i)))
+    (member (codes "charset") (charset i)
+    (member (codes "cid") (cid i)
+    (member (codes "disposition") (disposition i)
+    (member (codes "language") (e i)
+    (member (codes "location") (location i)
+    (member (codes "name") (name i)
+    (member (codes "partId") (string (decimal (n i)))
+    (member (codes "size") (number (unsigned (f i)))
+    (member (codes "type") (type i)
+    no_members))))))))))
 
 one_object : (id b : List ℕ) (p q : Part) (d e : Data) → Kin p q → IsPartObject id b p d → IsPartObject id b q e → d ≡ e
 one_object id b p q d e k g h =

@@ -1,22 +1,22 @@
 -- What is shown of the leaves in a list, by their numbers.
-use Rattle.std.proofs.Common.{◌≡◌, ℕ, zero, suc, ◌+◌, ◌-◌, Bool, true, false, List, [], ◌∷◌, ◌++◌, map, refl, sym, ap, ◌∙◌, subst, arith, Option, Some, None}
+use Rattle.std.proofs.Common.{◌≡◌, ℕ, zero, suc, ◌-◌, Bool, List, [], ◌∷◌, ◌++◌, map, refl, sym, ap, ◌∙◌, subst, arith, Option, Some, None}
 use Rattle.std.specs.Prelude.{slice_get, option_map, option_and_then, option_to_list, unwrap_or}
 use Rattle.std.specs.Bool.{MatchBool}
 use Rattle.blob_store.specs.Uploads.{blob_id}
-use Rattle.serde_json.specs.Data.{Data, Members}
+use Rattle.serde_json.specs.Data.{Members}
 use Rattle.serde_json.specs.View.{view, members_view}
 use Rattle.mime_tree.specs.declared.part.Part.{Part}
 use Rattle.mime_tree.specs.declared.lists.BodyLists.{BodyLists}
 use Rattle.mime_tree.specs.BodyLists.{start, AreBodyLists}
 use Rattle.mime_tree.specs.Trees.{IsMessage}
-use Rattle.mime_tree.specs.Roles.{leaf_number, is_plain}
+use Rattle.mime_tree.specs.Roles.{leaf_number}
 use Rattle.email_get.specs.declared.leaves.Gathered.{Gathered}
 use Rattle.email_get.specs.declared.leaves.LeafShown.{LeafShown}
 use Rattle.email_get.specs.BodyValues.{AddsValues}
 use Rattle.email_get.specs.BodyViews.{body_at}
 use Rattle.email_get.specs.EmailObjects.{AreObjects, IsPreview, BodyData, IsBody}
 use Rattle.email_get.specs.Previews.{IsPreviewOf}
-use Rattle.email_get.specs.Shown.{IsLeafPreview, IsShown, AreShown, Gathers, GathersAll, shown_at, objects_at, leaf_preview, preview_at}
+use Rattle.email_get.specs.Shown.{IsLeafPreview, IsShown, AreShown, Gathers, GathersAll, shown_at, objects_at, preview_at}
 use Rattle.email_get.proofs.LeafLemmas.{AreFrom, AllIn, place, message_from, walk_inside}
 
 pub record ShownThere (id b : List ℕ) (p : Part) (o : Option LeafShown) : Type 0 where
@@ -57,10 +57,12 @@ is_preview id b ls ss n a f (p ∷ ps) h =
 
 -- all that was gathered, from nothing on
 pub all_gathered : (id b : List ℕ) (root : Part) (before after : Gathered) → before.leaves.items ≡ [] → before.values.entries ≡ [] → Gathers id b (root ∷ []) before after → GathersAll id b root after
-all_gathered id b root before after e f g =
-    (g.leaves, g.are_leaves,
-    subst (λ (ss : List LeafShown). AreShown id b g.leaves ss) (sym (g.shown_is ∙ ap (λ (u : List LeafShown). u ++ g.shown) e)) g.are_shown,
-    subst (λ (ms : Members). AddsValues b g.leaves ms (members_view after.values.entries)) (ap members_view f) g.values)
+all_gathered id b root before after e f g = (
+  g.leaves,
+  g.are_leaves,
+  subst (λ (ss : List LeafShown). AreShown id b g.leaves ss) (sym (g.shown_is ∙ ap (λ (u : List LeafShown). u ++ g.shown) e)) g.are_shown,
+  subst (λ (ms : Members). AddsValues b g.leaves ms (members_view after.values.entries)) (ap members_view f) g.values,
+)
 
 body_from : (b : List ℕ) (root : Part) (lists : BodyLists) (g : Gathered) → IsMessage b root → AreBodyLists lists root → GathersAll (blob_id b) b root g → IsBody b root (body_at g lists)
 body_from b root lists g m are (leaves, are_leaves, shown, values) =

@@ -1,6 +1,5 @@
 -- No number of an Email object has a fraction.
-use Rattle.std.proofs.Common.{◌≡◌, ℕ, Bool, true, false, ◌||◌, List, [], ◌∷◌, refl, sym, ap, ◌∙◌, subst, map, Option, Some, None, Ordering, Less, Equal, Greater, nat_cmp, length}
-use Rattle.std.specs.Bool.{MatchBool}
+use Rattle.std.proofs.Common.{◌≡◌, ℕ, Bool, true, false, ◌||◌, List, [], ◌∷◌, refl, ap, ◌∙◌, Option, Some, None, Ordering, Less, Equal, Greater, nat_cmp, length}
 use Rattle.std.specs.Ordering.{match_ordering}
 use Rattle.std.specs.Cmp.Lexicographic.{slice_cmp}
 use Rattle.blob_store.specs.Uploads.{blob_id}
@@ -10,11 +9,11 @@ use Rattle.serde_json.specs.Written.{has_float, items_have_float, members_have_f
 use Rattle.mime_tree.specs.declared.part.Part.{Part, out-Part}
 use Rattle.mime_tree.specs.Heads.{is_text}
 use Rattle.mime_tree.specs.Roles.{media}
-use Rattle.email_get.specs.BodyValues.{PutsIf, PutsValue, AddsValues}
-use Rattle.email_get.specs.EmailObjects.{AreObjects, BodyData, IsBody, email_data, IsEmailObject}
+use Rattle.email_get.specs.BodyValues.{PutsIf, AddsValues}
+use Rattle.email_get.specs.EmailObjects.{AreObjects, BodyData, email_data, IsEmailObject}
 use Rattle.email_get.specs.HeaderProperties.{HeaderData}
 use Rattle.email_get.specs.PartObjects.{IsLanguage, part_data, IsPartObject, atoms}
-use Rattle.email_get.specs.Texts.{text_data, optional_text}
+use Rattle.email_get.specs.Texts.{text_data}
 use Rattle.email_get.proofs.HeaderLemmas.{items_whole, text_whole, IsWholeHeader, whole_header}
 
 -- ---- members

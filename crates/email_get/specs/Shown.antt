@@ -1,7 +1,7 @@
 -- What is gathered of the leaves of a message, in their order.
-use Rattle.std.specs.Prelude.{◌≡◌, ℕ, ◌-◌, false, true, List, [], ◌∷◌, ◌++◌, Option, Some, None, map, slice_get, option_map, option_and_then, option_to_list, unwrap_or, Bool}
+use Rattle.std.specs.Prelude.{◌≡◌, ℕ, ◌-◌, false, true, List, [], ◌∷◌, ◌++◌, Option, Some, None, slice_get, option_map, option_and_then, option_to_list, unwrap_or}
 use Rattle.std.specs.List.{flat_map}
-use Rattle.serde_json.specs.Data.{Data, Members}
+use Rattle.serde_json.specs.Data.{Data}
 use Rattle.serde_json.specs.View.{view, members_view}
 use Rattle.mime_tree.specs.declared.part.Part.{Part}
 use Rattle.mime_tree.specs.Heads.{is_text}

@@ -89,11 +89,7 @@ fn gathered(alloc: Global, bytes: &[u8], id: &[u8], root: &Part) -> Result<Gathe
 }
 
 /// The body that the lists and what was gathered make.
-fn shown_body(
-    alloc: Global,
-    gathered: Gathered,
-    lists: &BodyLists,
-) -> Result<BodyShown, AllocError>
+fn shown_body(alloc: Global, gathered: Gathered, lists: &BodyLists) -> Result<BodyShown, AllocError>
     ensures { IfOk result (λ b. body_view b ≡ body_at gathered lists.now) }
 {
     let Gathered { leaves, values } = gathered;

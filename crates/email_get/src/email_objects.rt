@@ -23,9 +23,19 @@ fn put_body(
     ensures { OnOk result (members_view members.new.entries ≡ email.with_body (body_view body) (members_view members.old.entries)) }
 {
     let preview = text_value(alloc, body.preview.as_slice())?;
-    put(members, alloc, "attachments", Value::Array(body.attachments))?;
+    put(
+        members,
+        alloc,
+        "attachments",
+        Value::Array(body.attachments),
+    )?;
     put(members, alloc, "bodyValues", Value::Object(body.values))?;
-    put(members, alloc, "hasAttachment", Value::Bool(body.has_attachment))?;
+    put(
+        members,
+        alloc,
+        "hasAttachment",
+        Value::Bool(body.has_attachment),
+    )?;
     put(members, alloc, "htmlBody", Value::Array(body.html))?;
     put(members, alloc, "preview", preview)?;
     put(members, alloc, "textBody", Value::Array(body.text))?;

@@ -1,4 +1,4 @@
-use Rattle.std.proofs.Common.{◌≡◌, ap, ◌∙◌, refl, List, String, Global}
+use Rattle.std.proofs.Common.{◌≡◌, ap, ◌∙◌, refl, List}
 use Rattle.serde_json.specs.Data.{Members, object, no_members}
 use Rattle.serde_json.specs.View.{members_view}
 use Rattle.serde_json.proofs.OnLiterals.{serde_json_on_literals}

@@ -1,4 +1,4 @@
-use Rattle.std.proofs.Common.{◌≡◌, ℕ, List, sym, subst}
+use Rattle.std.proofs.Common.{ℕ, List, sym, subst}
 use Rattle.mime_tree.specs.Bodies.{HasOctets}
 use Rattle.email_get.proofs.leaves.gather_leaf.Goals as goal
 
