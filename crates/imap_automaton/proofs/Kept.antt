@@ -5,6 +5,7 @@ use Rattle.std.proofs.lemmas.Bool.{and_parts, leb-true}
 use Rattle.imap_automaton.specs.declared.sym.Free.TheVariants as free
 use Rattle.imap_automaton.specs.declared.sym.Item.TheVariants as item
 use Rattle.imap_automaton.specs.declared.sym.Names.TheVariants as names
+use Rattle.imap_automaton.specs.declared.sym.Str.TheVariants as str
 use Rattle.imap_automaton.specs.declared.sym.Sym.{Sym}
 use Rattle.imap_automaton.specs.declared.sym.Sym.TheVariants as sym
 use Rattle.imap_automaton.specs.declared.sym.Move.{Move}
@@ -76,6 +77,7 @@ pub yield_open : (s : Sym) → may_yield s ≡ true → ends_open s ≡ true
 yield_open (sym.Item (item.Number v n)) e = refl
 yield_open (sym.Item (item.Long v n)) e = refl
 yield_open (sym.Names names.AtomRest) e = refl
+yield_open (sym.Str str.AtomTilde) e = refl
 yield_open _ e = absurd cc
 
 octets_good : (n c : ℕ) → SymFits (sym.Free (free.Octets n)) ≡ true → move_good false (free_rule (free.Octets n) c) ≡ true
@@ -106,6 +108,9 @@ by_octets P (sym.Item q) f g = g refl
 by_octets P (sym.Names q) f g = g refl
 by_octets P (sym.Words q) f g = g refl
 by_octets P (sym.Set q) f g = g refl
+by_octets P (sym.Str q) f g = g refl
+by_octets P (sym.Value q) f g = g refl
+by_octets P (sym.Folder q) f g = g refl
 
 pub moves_good : (s : Sym) (c : ℕ) → SymFits s ≡ true → move_good (ends_open s) (rule_of s c) ≡ true
 moves_good s c = by_octets (λ s. SymFits s ≡ true → move_good (ends_open s) (rule_of s c) ≡ true) s (λ n fits. octets_good n c fits)

@@ -31,7 +31,7 @@ pub record IsListLine (attributes : List (List ℕ)) (delimiter : Option ℕ) (n
   pub second : List ℕ
   pub third : List ℕ
   pub rest : List ℕ
-  pub whole : t ≡ 32 ∷ first ++ 32 ∷ second ++ 32 ∷ third ++ rest
+  pub whole : t ≡ 32 ∷ first ++ (32 ∷ second ++ (32 ∷ third ++ rest))
   pub names : IsNames told first
   pub delimited : IsDelimiter delimiter second
   pub spelled : IsAString string third
