@@ -1,4 +1,7 @@
 pub mod Scan
 pub mod Fed
+pub mod Spans
+pub mod StringReading
+pub mod FolderReading
 pub mod Reading
 pub mod Written

@@ -59,15 +59,17 @@ abbrev pub IsCounts : List (List ℕ × ℕ) → List ℕ → Type 0
 IsCounts [] t = t ≡ 41 ∷ crlf
 IsCounts (c ∷ cs) t = Then (IsCount c) (IsMoreCounts cs) t
 
+abbrev pub told_small : StatusItems → List ℕ → ℕ → StatusItems
+told_small items word n =
+    if bytes_eq word (codes "messages") then record items { messages = Some n }
+    else if bytes_eq word (codes "uidnext") then record items { uid_next = Some n }
+    else if bytes_eq word (codes "uidvalidity") then record items { uid_validity = Some n } else items
+
 -- A count takes the place of an earlier one of its word. MESSAGES, UIDNEXT and UIDVALIDITY above 2^32 - 1 are passed over.
 abbrev pub told_as : StatusItems → List ℕ → ℕ → StatusItems
 told_as items word n =
     if bytes_eq word (codes "highestmodseq") then record items { modseq = Some n }
-    else if nat_le n 4294967295
-    then (if bytes_eq word (codes "messages") then record items { messages = Some n }
-    else if bytes_eq word (codes "uidnext") then record items { uid_next = Some n }
-    else if bytes_eq word (codes "uidvalidity") then record items { uid_validity = Some n } else items)
-    else items
+    else if nat_le n 4294967295 then told_small items word n else items
 
 abbrev pub told_counts : StatusItems → List (List ℕ × ℕ) → StatusItems
 told_counts items [] = items
