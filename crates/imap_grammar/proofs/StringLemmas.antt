@@ -1,8 +1,8 @@
 -- A quoted text, octet by octet.
-use Rattle.std.proofs.Common.{◌≡◌, ℕ, ◌+◌, ◌<◌, ◌≤◌, Bool, true, false, List, [], ◌∷◌, ◌++◌, length, drop, get_or, cond, refl, ap, ◌∙◌, append_assoc}
+use Rattle.std.proofs.Common.{◌≡◌, ℕ, ◌+◌, ◌<◌, ◌≤◌, Bool, true, false, List, [], ◌∷◌, ◌++◌, length, drop, get_or, cond, refl, sym, ap, ◌∙◌, append_assoc}
 use Rattle.std.specs.Prelude.{◌==◌}
 use Rattle.std.proofs.lemmas.Bool.{cond-true, cond-false}
-use Rattle.std.proofs.lemmas.List.{drop_all}
+use Rattle.std.proofs.lemmas.List.{drop_all, append-nil}
 use Rattle.imap_automaton.proofs.Tests.{drop_at}
 use Rattle.imap_grammar.specs.StringReading.{unquoted}
 
@@ -39,4 +39,23 @@ pub unquoted_pair : (b : List ℕ) (i : ℕ) → i < length b → unquoted true 
 unfolding unquoted
 unquoted_pair b i lt = ap (unquoted true) (drop_at b i lt)
 
-pub ruleset unquoting = (unquoted_end, unquoted_close, unquoted_slash, unquoted_octet, unquoted_pair)
+-- ---- with the text so far
+
+abbrev pub so_far : List ℕ → List ℕ × List ℕ → List ℕ × List ℕ
+so_far t r = (t ++ r.0, r.1)
+
+pub end_of : (pair : Bool) (t b : List ℕ) (i : ℕ) → length b ≤ i → (t, []) ≡ so_far t (unquoted pair (drop i b))
+end_of pair t b i le = ap (λ (u : List ℕ). (u, [])) (sym (append-nil t)) ∙ ap (so_far t) (sym (unquoted_end pair b i le))
+
+pub close_of : (t b : List ℕ) (i : ℕ) → i < length b → (get_or b i 0 == 34) ≡ true → (t, drop (i + 1) b) ≡ so_far t (unquoted false (drop i b))
+close_of t b i lt e = ap (λ (u : List ℕ). (u, drop (i + 1) b)) (sym (append-nil t)) ∙ ap (so_far t) (sym (unquoted_close b i lt e))
+
+pub octet_of : (t b : List ℕ) (i : ℕ) → i < length b → (get_or b i 0 == 34) ≡ false → (get_or b i 0 == 92) ≡ false → so_far (t ++ get_or b i 0 ∷ []) (unquoted false (drop (i + 1) b)) ≡ so_far t (unquoted false (drop i b))
+octet_of t b i lt e f =
+    let r = unquoted false (drop (i + 1) b) in
+    ap (λ (u : List ℕ). (u, r.1)) (append_assoc t (get_or b i 0 ∷ []) r.0) ∙ ap (so_far t) (sym (unquoted_octet b i lt e f))
+
+pub pair_of : (t b : List ℕ) (i : ℕ) → i < length b → so_far (t ++ get_or b i 0 ∷ []) (unquoted false (drop (i + 1) b)) ≡ so_far t (unquoted true (drop i b))
+pair_of t b i lt =
+    let r = unquoted false (drop (i + 1) b) in
+    ap (λ (u : List ℕ). (u, r.1)) (append_assoc t (get_or b i 0 ∷ []) r.0) ∙ ap (so_far t) (sym (unquoted_pair b i lt))

@@ -68,8 +68,8 @@ literal_read s x y b h e =
     let count : number_in (take n r) ≡ length o = ap number_in k.front ∙ number_is h.digits (let c = h.counted in let m = h.most in omega (arith, c, m)) ∙ sym h.counted ∙ sym long in
     let octets : drop 3 (drop n r) ≡ o ++ y = ap (drop 3) k.back in (
       ap (λ (u : List ℕ). (take (number_in (take n r)) u, drop (number_in (take n r)) u)) octets
-      ∙ ap (λ (m : ℕ). (take m (o ++ y), drop m (o ++ y))) count
-      ∙ ap (λ (u : List ℕ). (u, drop (length o) (o ++ y))) (take_front o y ∙ sym h.string) ∙ ap (λ (u : List ℕ). (s, u)) (drop_front o y),
+          ∙ ap (λ (m : ℕ). (take m (o ++ y), drop m (o ++ y))) count
+          ∙ ap (λ (u : List ℕ). (u, drop (length o) (o ++ y))) (take_front o y ∙ sym h.string) ∙ ap (λ (u : List ℕ). (s, u)) (drop_front o y),
       ap (λ (u : List ℕ). get_or u 0 0) f,
     )
 
