@@ -1,0 +1,8 @@
+-- Sets of codes.
+use Rattle.std.specs.Prelude.{List, Option, Some, None}
+use Rattle.imap_syntax.specs.declared.uid_set.UidRange.{UidRange}
+use Rattle.imap_syntax.specs.declared.uid_set.UidSet.{UidSet}
+
+abbrev pub ranges_of : Option UidSet → Option (List UidRange)
+ranges_of None = None
+ranges_of (Some set) = Some set.ranges
