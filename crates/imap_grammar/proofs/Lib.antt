@@ -9,3 +9,4 @@ pub mod Readings
 pub mod Spellings
 pub mod Pieces
 pub mod DateLemmas
+pub mod CodeReadings

@@ -179,21 +179,21 @@ numbered_read n _ t h = absurd h.says
 
 -- ---- behind `* `
 
-digits_true : (t : List ℕ) → Each is_digit t → all_digits t ≡ true
+pub digits_true : (t : List ℕ) → Each is_digit t → all_digits t ≡ true
 unfolding all_digits
 digits_true [] h = refl
 digits_true (c ∷ t) h = and_from (is_digit c) (all_digits t) h.0 (digits_true t h.1)
 
-true_digits : (t : List ℕ) → all_digits t ≡ true → Each is_digit t
+pub true_digits : (t : List ℕ) → all_digits t ≡ true → Each is_digit t
 unfolding all_digits
 true_digits [] e = tt
 true_digits (c ∷ t) e = let p = and_parts (is_digit c) (all_digits t) e in (p.0, true_digits t p.1)
 
-sequence_true : (n : ℕ) (t : List ℕ) → IsNumber n t → is_sequence t ≡ true
+pub sequence_true : (n : ℕ) (t : List ℕ) → IsNumber n t → is_sequence t ≡ true
 unfolding is_sequence
 sequence_true n t h = and_from _ _ (and_from _ _ (and_from _ _ (lt-ltb 0 (length t) h.some) (le-leb (length t) 10 h.few)) (digits_true t h.digits)) (le-leb (number_from 0 t) 4294967295 (let c = capped_le (value_from 0 t) (omega (arith, h.value, h.most)) in omega (arith, number_from_is t, c)))
 
-true_sequence : (t : List ℕ) → is_sequence t ≡ true → IsNumber (value_from 0 t) t
+pub true_sequence : (t : List ℕ) → is_sequence t ≡ true → IsNumber (value_from 0 t) t
 unfolding is_sequence
 true_sequence t e =
     let a = and_parts (nat_lt 0 (length t) && nat_le (length t) 10 && all_digits t) (nat_le (number_from 0 t) 4294967295) e in
@@ -332,8 +332,8 @@ rest_out t (inr w) = ap (λ (u : List ℕ). is_word (get_or u 0 0)) w.1
 
 -- the status and the code behind a tag
 record StatusRead (s : Status) (code : Code) (b : List ℕ) : Type 0 where
-  status : status_named (word_in b) ≡ Some s
-  code : code_in (drop (span is_word b) b) ≡ code
+  named : status_named (word_in b) ≡ Some s
+  told : code_in (drop (span is_word b) b) ≡ code
 
 status_read : (s : Status) (code : Code) (t : List ℕ) → Then (IsWord (word_of s)) (IsCodedRest code) t → StatusRead s code (plain t)
 unfolding word_in
@@ -343,8 +343,8 @@ status_read s code t h =
     let head = plain_head h.back (behind_rest h.back rest) in
     let k = cut_at is_word h.front (plain h.back) (plain t) (ap plain h.whole ∙ plain_join h.front h.back (each_to is_word small h.front word_small each)) each (ap is_word head ∙ rest_out h.back rest) in
     record {
-      status = ap (λ (u : List ℕ). status_named (map lower u)) k.front ∙ ap status_named h.first ∙ named_back s;
-      code = ap code_in k.back ∙ code_read code h.back h.second;
+      named = ap (λ (u : List ℕ). status_named (map lower u)) k.front ∙ ap status_named h.first ∙ named_back s;
+      told = ap code_in k.back ∙ code_read code h.back h.second;
     }
 
 abbrev tagged_line : List ℕ → List ℕ → Response
@@ -358,8 +358,8 @@ tagged_read tag s code t h =
     let read = status_read s code h.after h.line in
     ap (λ (u : List ℕ). tagged_line u (drop (span in_name b + 1) b)) k.front
     ∙ ap (tagged_line tag) (k.past 32 (plain h.after) refl)
-    ∙ ap (λ (o : Option Status). response.Tagged tag (unwrap_or o status.Bad) (code_in (drop (span is_word (plain h.after)) (plain h.after)))) read.status
-    ∙ ap (response.Tagged tag s) read.code
+    ∙ ap (λ (o : Option Status). response.Tagged tag (unwrap_or o status.Bad) (code_in (drop (span is_word (plain h.after)) (plain h.after)))) read.named
+    ∙ ap (response.Tagged tag s) read.told
 
 -- ---- responses
 

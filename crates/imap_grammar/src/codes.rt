@@ -12,6 +12,9 @@ use gate_world::Listed;
 use imap_syntax::{Code, UidRange, UidSet};
 use std::alloc::{AllocError, Global};
 
+/// Digits of a long number.
+const LONG_DIGITS: usize = 19;
+
 /// What stands before the first such octet, and what follows it.
 fn cut(bytes: &[u8], octet: u8) -> Option<(&[u8], &[u8])>
     ensures { MatchOption result (reading.cut octet bytes.now ≡ None) (λ r. reading.cut octet bytes.now ≡ Some (r.0.now, r.1.now)) }
@@ -24,21 +27,27 @@ fn cut(bytes: &[u8], octet: u8) -> Option<(&[u8], &[u8])>
     None
 }
 
+#[tactic(auto, using(crate::proofs::CodeReadings::numbers))]
 fn nonzero_in(text: &[u8]) -> Option<u32>
     ensures { result ≡ reading.nonzero_in text.now }
 {
-    if is_sequence(text) && 0 < number_of(text) {
-        Some(number_of(text))
-    } else {
-        None
+    if !is_sequence(text) {
+        return None;
     }
+    let number = number_of(text);
+    if 0 < number { Some(number) } else { None }
 }
 
+#[tactic(auto, using(crate::proofs::CodeReadings::longs))]
 fn long_in(text: &[u8]) -> Option<u64>
     ensures { result ≡ reading.long_in text.now }
 {
-    if is_decimal(text, 19) && long_of(text) <= i64::MAX as u64 {
-        Some(long_of(text))
+    if !is_decimal(text, LONG_DIGITS) {
+        return None;
+    }
+    let number = long_of(text);
+    if number <= i64::MAX as u64 {
+        Some(number)
     } else {
         None
     }

@@ -1,8 +1,8 @@
 -- Texts that are cut at an octet.
-use Rattle.std.proofs.Common.{◌≡◌, ℕ, ◌+◌, ◌<◌, ◌≤◌, Bool, true, false, List, [], ◌∷◌, ◌++◌, length, map, cond, refl, sym, ap, subst, ◌∙◌, arith, Option, Some, None}
+use Rattle.std.proofs.Common.{◌≡◌, ℕ, zero, suc, ◌+◌, ◌<◌, ◌≤◌, Bool, true, false, List, [], ◌∷◌, ◌++◌, length, map, take, drop, get_or, cond, refl, sym, ap, subst, ◌∙◌, arith, Option, Some, None}
 use Rattle.std.specs.Prelude.{not, ◌==◌}
 use Rattle.std.specs.List.{list_all}
-use Rattle.std.proofs.lemmas.Bool.{cond-true, cond-false, and_parts, and_from, eqb-true}
+use Rattle.std.proofs.lemmas.Bool.{cond-true, cond-false, and_parts, and_from, eqb-true, eq-eqb, ne_eqb}
 use Rattle.imap_syntax.specs.Octets.{lower}
 use Rattle.imap_syntax.specs.Texts.{Each}
 use Rattle.imap_syntax.specs.ReadCodes.{cut, put_front}
@@ -112,3 +112,21 @@ cut_none c (d ∷ front) back e = by_test (d == c) (Some ([], front ++ c ∷ bac
     kept : (o : Option (List ℕ × List ℕ)) → put_front d o ≡ None → (o ≡ None → ⊥) → ⊥
     kept None f g = g refl
     kept (Some q) f g = absurd cc
+
+-- cut at the first index of the octet
+pub cut_index : (c : ℕ) (t : List ℕ) (i : ℕ) → i < length t → ((k : ℕ) → k < i → get_or t k 0 ≡ c → ⊥) → get_or t i 0 ≡ c → cut c t ≡ Some (take i t, drop (i + 1) t)
+unfolding cut
+cut_index c [] i lt h e = absurd (omega (arith, lt))
+cut_index c (d ∷ t) zero lt h e = cond-true (d == c) (Some ([], t)) (put_front d (cut c t)) (eq-eqb d c e)
+cut_index c (d ∷ t) (suc i) lt h e =
+    let past : suc i + 1 ≡ suc (i + 1) = omega arith in
+    cond-false (d == c) (Some ([], t)) (put_front d (cut c t)) (ne_eqb d c (h 0 (omega arith)))
+    ∙ ap (put_front d) (cut_index c t i (omega (arith, lt)) (λ k l. h (suc k) (omega (arith, l))) e)
+    ∙ ap (λ (n : ℕ). Some (d ∷ take i t, drop n (d ∷ t))) (sym past)
+
+pub cut_never : (c : ℕ) (t : List ℕ) → ((k : ℕ) → k < length t → get_or t k 0 ≡ c → ⊥) → cut c t ≡ None
+unfolding cut
+cut_never c [] h = refl
+cut_never c (d ∷ t) h =
+    cond-false (d == c) (Some ([], t)) (put_front d (cut c t)) (ne_eqb d c (h 0 (omega arith)))
+    ∙ ap (put_front d) (cut_never c t (λ k l. h (suc k) (omega (arith, l))))
