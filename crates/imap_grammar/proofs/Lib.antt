@@ -12,3 +12,4 @@ pub mod Readings
 pub mod Spellings
 pub mod Pieces
 pub mod DateLemmas
+pub mod CodeReadings

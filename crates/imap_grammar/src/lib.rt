@@ -2,6 +2,9 @@
 #![tactic(auto)]
 
 mod answer;
+#[cfg(test)]
+mod code_tests;
+mod codes;
 mod commands;
 mod dates;
 #[cfg(test)]
@@ -21,5 +24,7 @@ mod strings;
 pub use answer::Scan;
 pub use commands::write_command;
 pub use decoder::{decode, no_spelling_within, one_value};
-pub use imap_syntax::{Command, FetchItems, Response, Status, StatusItems, UidRange, UidSet};
+pub use imap_syntax::{
+    Code, Command, FetchItems, Response, Status, StatusItems, UidRange, UidSet,
+};
 pub use scanner::{Scanner, one_answer, scan};
