@@ -24,7 +24,5 @@ mod strings;
 pub use answer::Scan;
 pub use commands::write_command;
 pub use decoder::{decode, no_spelling_within, one_value};
-pub use imap_syntax::{
-    Code, Command, FetchItems, Response, Status, StatusItems, UidRange, UidSet,
-};
+pub use imap_syntax::{Code, Command, FetchItems, Response, Status, StatusItems, UidRange, UidSet};
 pub use scanner::{Scanner, one_answer, scan};
