@@ -2,9 +2,14 @@
 use Rattle.std.proofs.Common.{◌≡◌, ℕ, ◌+◌, ◌-◌, ◌≤◌, Bool, true, false, not, ◌&&◌, ◌||◌, [], cond, refl, sym, ap, subst, ◌∙◌, arith}
 use Rattle.std.specs.Prelude.{◌==◌, nat_lt, nat_le}
 use Rattle.std.proofs.lemmas.Bool.{and_parts, leb-true}
+use Rattle.imap_automaton.specs.declared.sym.Place.TheVariants as place
+use Rattle.imap_automaton.specs.declared.sym.Line.TheVariants as line
 use Rattle.imap_automaton.specs.declared.sym.Free.TheVariants as free
 use Rattle.imap_automaton.specs.declared.sym.Item.TheVariants as item
 use Rattle.imap_automaton.specs.declared.sym.Names.TheVariants as names
+use Rattle.imap_automaton.specs.declared.sym.Set.TheVariants as set
+use Rattle.imap_automaton.specs.declared.sym.Str.TheVariants as str
+use Rattle.imap_automaton.specs.declared.sym.Folder.TheVariants as folder
 use Rattle.imap_automaton.specs.declared.sym.Sym.{Sym}
 use Rattle.imap_automaton.specs.declared.sym.Sym.TheVariants as sym
 use Rattle.imap_automaton.specs.declared.sym.Move.{Move}
@@ -76,6 +81,7 @@ pub yield_open : (s : Sym) → may_yield s ≡ true → ends_open s ≡ true
 yield_open (sym.Item (item.Number v n)) e = refl
 yield_open (sym.Item (item.Long v n)) e = refl
 yield_open (sym.Names names.AtomRest) e = refl
+yield_open (sym.Str str.AtomTilde) e = refl
 yield_open _ e = absurd cc
 
 octets_good : (n c : ℕ) → SymFits (sym.Free (free.Octets n)) ≡ true → move_good false (free_rule (free.Octets n) c) ≡ true
@@ -106,6 +112,9 @@ by_octets P (sym.Item q) f g = g refl
 by_octets P (sym.Names q) f g = g refl
 by_octets P (sym.Words q) f g = g refl
 by_octets P (sym.Set q) f g = g refl
+by_octets P (sym.Str q) f g = g refl
+by_octets P (sym.Value q) f g = g refl
+by_octets P (sym.Folder q) f g = g refl
 
 pub moves_good : (s : Sym) (c : ℕ) → SymFits s ≡ true → move_good (ends_open s) (rule_of s c) ≡ true
 moves_good s c = by_octets (λ s. SymFits s ≡ true → move_good (ends_open s) (rule_of s c) ≡ true) s (λ n fits. octets_good n c fits)
@@ -134,3 +143,20 @@ moves_left s c = by_octets (λ s. SymFits s ≡ true → Leaves (is_octets s) (s
 
 pub yields : (s : Sym) (c : ℕ) → SymFits s ≡ true → rule_of s c ≡ move.Yield → Lang s []
 yields s c fits e = yield_empty s c (moves_yield s c fits e) fits e
+
+need_some : (s : Sym) → 1 ≤ need s
+need_some (sym.Line line.Start) = omega arith
+need_some (sym.Word place.Item k at) = omega arith
+need_some (sym.Free (free.Text q)) = omega arith
+need_some (sym.Item item.Open) = omega arith
+need_some (sym.Names names.Open) = omega arith
+need_some (sym.Set set.Open) = omega arith
+need_some (sym.Folder folder.Attributes) = omega arith
+need_some _ = omega arith
+
+-- a symbol that is followed by two has room for them
+pub two_room : (s : Sym) (c : ℕ) (a b : Sym) → SymFits s ≡ true → rule_of s c ≡ move.Two a b → 2 ≤ need s
+two_room s c a b fits e =
+    let p = and_parts (nat_le (need a + 1) (need s)) (nat_le (need b) (need s)) (subst (λ (m : Move). move_needs (need s) m ≡ true) e (moves_room s c fits)) in
+    let n = need_some a in
+    omega (arith, leb-true _ _ p.0, n)

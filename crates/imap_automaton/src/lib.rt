@@ -2,6 +2,7 @@
 #![tactic(auto)]
 
 mod class;
+mod folder_rule;
 mod free_rule;
 mod item_rule;
 mod line_rule;
@@ -9,9 +10,13 @@ mod names_rule;
 mod set_rule;
 mod stack;
 mod step;
+mod string_rule;
 mod sym;
+mod value_rule;
 mod word_rule;
 
 pub use stack::Stack;
 pub use step::advance;
-pub use sym::{Free, Item, Key, Line, Move, Names, Pending, Phrase, Place, Set, Sym, Words};
+pub use sym::{
+    Folder, Free, Item, Key, Line, Move, Names, Pending, Phrase, Place, Set, Str, Sym, Value, Words,
+};

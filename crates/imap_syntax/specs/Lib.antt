@@ -5,7 +5,10 @@ pub mod UidSets
 pub mod Codes
 pub mod ReadCodes
 pub mod Lines
+pub mod Strings
+pub mod Values
 pub mod Items
+pub mod Folders
 pub mod Free
 pub mod Spells
 pub mod Dates

@@ -9,5 +9,5 @@ mod uid_set;
 
 pub use code::Code;
 pub use command::Command;
-pub use response::{FetchItems, Response, Status};
+pub use response::{FetchItems, Response, Status, StatusItems};
 pub use uid_set::{UidRange, UidSet};
