@@ -21,3 +21,4 @@ pub mod Fine
 pub mod Kept
 pub mod Whole
 pub mod Marks
+pub mod Skips
