@@ -2,6 +2,9 @@
 use Rattle.std.proofs.Common.{◌≡◌, ℕ, ◌+◌, ◌-◌, ◌≤◌, Bool, true, false, not, ◌&&◌, ◌||◌, [], cond, refl, sym, ap, subst, ◌∙◌, arith}
 use Rattle.std.specs.Prelude.{◌==◌, nat_lt, nat_le}
 use Rattle.std.proofs.lemmas.Bool.{and_parts, leb-true}
+use Rattle.imap_automaton.specs.declared.sym.Place.TheVariants as place
+use Rattle.imap_automaton.specs.declared.sym.Line.TheVariants as line
+use Rattle.imap_automaton.specs.declared.sym.Set.TheVariants as set
 use Rattle.imap_automaton.specs.declared.sym.Free.TheVariants as free
 use Rattle.imap_automaton.specs.declared.sym.Item.TheVariants as item
 use Rattle.imap_automaton.specs.declared.sym.Names.TheVariants as names
@@ -104,6 +107,7 @@ by_octets P (sym.Line q) f g = g refl
 by_octets P (sym.Word p k at) f g = g refl
 by_octets P (sym.Item q) f g = g refl
 by_octets P (sym.Names q) f g = g refl
+by_octets P (sym.Date q) f g = g refl
 by_octets P (sym.Words q) f g = g refl
 by_octets P (sym.Set q) f g = g refl
 
@@ -114,6 +118,31 @@ moves_good s c = by_octets (λ s. SymFits s ≡ true → move_good (ends_open s)
 pub moves_room : (s : Sym) (c : ℕ) → SymFits s ≡ true → move_needs (need s) (rule_of s c) ≡ true
 moves_room s c = by_octets (λ s. SymFits s ≡ true → move_needs (need s) (rule_of s c) ≡ true) s (λ n fits. octets_room n c)
     (λ o fits. fine_room (ends_open s) (may_yield s) (need s) (nat_lt c 256) (rule_of s c) (move_fine s c o fits))
+
+need_some : (s : Sym) → 1 ≤ need s
+need_some (sym.Line line.Start) = omega arith
+need_some (sym.Line (line.Tag n)) = omega arith
+need_some (sym.Line line.Untagged) = omega arith
+need_some (sym.Line (line.Sequence value digits)) = omega arith
+need_some (sym.Word place.Item key at) = omega arith
+need_some (sym.Word place.Month key at) = omega arith
+need_some (sym.Word p key at) = omega arith
+need_some (sym.Free (free.Text q)) = omega arith
+need_some (sym.Item item.Open) = omega arith
+need_some (sym.Item item.More) = omega arith
+need_some (sym.Item item.LongOpen) = omega arith
+need_some (sym.Names names.Open) = omega arith
+need_some (sym.Names names.First) = omega arith
+need_some (sym.Names names.More) = omega arith
+need_some (sym.Set set.Open) = omega arith
+need_some _ = omega arith
+
+-- where two symbols are pushed, there is room for two
+pub two_needs : (s a b : Sym) (c : ℕ) → SymFits s ≡ true → rule_of s c ≡ move.Two a b → 2 ≤ need s
+two_needs s a b c fits e =
+    let k : move_needs (need s) (move.Two a b) ≡ true = ap (move_needs (need s)) (sym e) ∙ moves_room s c fits in
+    let p = and_parts (nat_le (need a + 1) (need s)) (nat_le (need b) (need s)) k in
+    omega (arith, leb-true _ _ p.0, need_some a)
 
 pub moves_yield : (s : Sym) (c : ℕ) → SymFits s ≡ true → rule_of s c ≡ move.Yield → may_yield s ≡ true
 moves_yield s c = by_octets (λ s. SymFits s ≡ true → rule_of s c ≡ move.Yield → may_yield s ≡ true) s (λ n fits e. absurd (octets_no_yield n c e))

@@ -6,6 +6,8 @@ pub mod NamesEdges
 pub mod ItemEdges
 pub mod SetEdges
 pub mod KeyLemmas
+pub mod DateForms
+pub mod DateEdges
 pub mod WordEdges
 pub mod CountLemmas
 pub mod LineWords

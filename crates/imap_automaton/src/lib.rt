@@ -2,6 +2,7 @@
 #![tactic(auto)]
 
 mod class;
+mod date_rule;
 mod free_rule;
 mod item_rule;
 mod line_rule;
@@ -14,4 +15,4 @@ mod word_rule;
 
 pub use stack::Stack;
 pub use step::advance;
-pub use sym::{Free, Item, Key, Line, Move, Names, Pending, Phrase, Place, Set, Sym, Words};
+pub use sym::{Date, Free, Item, Key, Line, Move, Names, Pending, Phrase, Place, Set, Sym, Words};

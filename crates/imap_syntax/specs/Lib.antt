@@ -3,8 +3,9 @@ pub mod Texts
 pub mod Numbers
 pub mod UidSets
 pub mod Lines
+pub mod Dates
+pub mod DateTimes
 pub mod Items
 pub mod Free
 pub mod Spells
-pub mod Dates
 pub mod Commands
