@@ -139,7 +139,7 @@ times_two time hours minutes seconds a b c e f g h = omega (arith, e, f, g, h)
 zone_two : (zone hours minutes a b : ℕ) → zone ≡ zone_of hours minutes → hours ≡ a → minutes ≡ b → zone ≡ zone_of a b
 zone_two zone hours minutes a b e f g = omega (arith, e, f, g)
 
-seconds_same : (year month day time zone year2 day2 time2 zone2 : ℕ) (east east2 : Bool) → year ≡ year2 → day ≡ day2 → time ≡ time2 → east ≡ east2 → zone ≡ zone2 → seconds_of year month day time east zone ≡ seconds_of year2 month day2 time2 east2 zone2
+pub seconds_same : (year month day time zone year2 day2 time2 zone2 : ℕ) (east east2 : Bool) → year ≡ year2 → day ≡ day2 → time ≡ time2 → east ≡ east2 → zone ≡ zone2 → seconds_of year month day time east zone ≡ seconds_of year2 month day2 time2 east2 zone2
 seconds_same year month day time zone year2 day2 time2 zone2 east east2 a b c d e =
     ap (λ (q : ℕ). seconds_of q month day time east zone) a ∙ ap (λ (q : ℕ). seconds_of year2 month q time east zone) b
     ∙ ap (λ (q : ℕ). seconds_of year2 month day2 q east zone) c ∙ ap (λ (q : Bool). seconds_of year2 month day2 time2 q zone) d

@@ -3,6 +3,7 @@ pub mod ScannerLemmas
 pub mod SpanLemmas
 pub mod FlagLemmas
 pub mod Cuts
+pub mod DateReadings
 pub mod ItemReadings
 pub mod SetReadings
 pub mod Readings

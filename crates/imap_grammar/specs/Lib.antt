@@ -1,4 +1,5 @@
 pub mod Scan
 pub mod Fed
+pub mod DateReading
 pub mod Reading
 pub mod Written

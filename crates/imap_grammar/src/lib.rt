@@ -3,6 +3,7 @@
 
 mod answer;
 mod commands;
+mod date_times;
 mod dates;
 #[cfg(test)]
 mod decode_tests;
