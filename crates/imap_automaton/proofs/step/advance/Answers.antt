@@ -1,4 +1,4 @@
-use Rattle.std.proofs.Common.{◌≡◌, ℕ, ◌+◌, ◌<◌, ◌≤◌, length, arith, ap, ◌∙◌, sym, subst}
+use Rattle.std.proofs.Common.{length, arith, ap, ◌∙◌, sym, subst}
 use Rattle.imap_automaton.specs.Flow.{AllFit, Room}
 use Rattle.imap_automaton.proofs.Kept.{two_needs}
 use Rattle.imap_automaton.proofs.step.advance.Goals as goal
