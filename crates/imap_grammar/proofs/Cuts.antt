@@ -31,11 +31,11 @@ span_at p [] [] h e = refl
 span_at p [] (c ∷ y) h e = cond-false (p c) (suc (span p y)) 0 e
 span_at p (c ∷ x) y h e = cond-true (p c) (suc (span p (x ++ y))) 0 h.0 ∙ ap (λ (n : ℕ). suc n) (span_at p x y h.1 e)
 
-take_front : (x y : List ℕ) → take (length x) (x ++ y) ≡ x
+pub take_front : (x y : List ℕ) → take (length x) (x ++ y) ≡ x
 take_front [] y = refl
 take_front (c ∷ x) y = ap (λ (u : List ℕ). c ∷ u) (take_front x y)
 
-drop_front : (x y : List ℕ) → drop (length x) (x ++ y) ≡ y
+pub drop_front : (x y : List ℕ) → drop (length x) (x ++ y) ≡ y
 drop_front [] y = refl
 drop_front (c ∷ x) y = drop_front x y
 
@@ -112,3 +112,13 @@ small_capped n le = by (nat_le n 4294967295) refl
 
 pub capped_le : (n : ℕ) → n ≤ 4294967295 → cap 4294967295 n ≤ 4294967295
 capped_le n le = let e = cap_small 4294967295 n le in omega (arith, e, le)
+
+pub long_capped : (t : List ℕ) → long_in t ≡ cap 9223372036854775807 (value_from 0 t)
+long_capped t = count_capped 9223372036854775807 0 t
+
+pub within_cap : (most n : ℕ) → cap most n ≤ most → n ≤ most
+within_cap most n le = by (nat_le n most) refl
+  where
+    by : (b : Bool) → nat_le n most ≡ b → n ≤ most
+    by true e = leb-true n most e
+    by false e = absurd (omega (arith, le, cond-false (nat_le n most) n (most + 1) e))

@@ -10,7 +10,7 @@ use std::alloc::{AllocError, Global};
 use std::test::Fail;
 
 /// The value of the response at the front, if there is one.
-fn read(alloc: Global, bytes: &[u8]) -> Result<Option<Response>, AllocError> {
+pub fn read(alloc: Global, bytes: &[u8]) -> Result<Option<Response>, AllocError> {
     match scan(bytes) {
         Scan::Whole(n) => {
             let (front, _) = bytes.split_at(n);
@@ -27,6 +27,7 @@ fn is_tagged(alloc: Global, bytes: &[u8], tag: &[u8], status: Status) -> Result<
             Response::Tagged {
                 tag: told,
                 status: given,
+                ..
             },
         ) => Ok(told.as_slice() == tag && given == status),
         _ => Ok(false),
@@ -35,7 +36,7 @@ fn is_tagged(alloc: Global, bytes: &[u8], tag: &[u8], status: Status) -> Result<
 
 fn is_untagged(alloc: Global, bytes: &[u8], status: Status) -> Result<bool, AllocError> {
     match read(alloc, bytes)? {
-        Some(Response::Untagged { status: given }) => Ok(given == status),
+        Some(Response::Untagged { status: given, .. }) => Ok(given == status),
         _ => Ok(false),
     }
 }
@@ -48,7 +49,7 @@ fn is_other(alloc: Global, bytes: &[u8]) -> Result<bool, AllocError> {
 }
 
 /// The names with a space before each, or `-` for none told.
-fn joined(alloc: Global, names: &Option<Names>) -> Result<Vec<u8>, AllocError> {
+pub fn joined(alloc: Global, names: &Option<Names>) -> Result<Vec<u8>, AllocError> {
     let mut out = Vec::new(alloc);
     match names {
         None => out.push(b'-')?,

@@ -6,8 +6,11 @@ ghost use Rattle.imap_syntax.specs.Spells.{IsSpelling};
 ghost use Rattle.imap_syntax.specs.declared.response.Response.{Response};
 ghost use Rattle.imap_grammar.specs.Reading as reading;
 
+use crate::codes::code_in;
 use crate::date_times::date_in;
 use crate::flags::flags_in;
+use crate::folders;
+use crate::folders::list_in;
 use crate::octets::{
     before, behind, digits_len, is_key, is_sequence, long_of, name_len, number_of, octet_at,
     word_len,
@@ -257,6 +260,10 @@ fn told(alloc: Global, word: &[u8], tail: &[u8]) -> Result<Response, AllocError>
         Ok(Response::Flags(flags))
     } else if is_key(word, b"vanished") {
         vanished_in(alloc, behind(tail, 1))
+    } else if is_key(word, b"list") {
+        list_in(alloc, tail)
+    } else if is_key(word, b"status") {
+        folders::status_in(alloc, tail)
     } else {
         Ok(Response::Other)
     }
@@ -271,7 +278,10 @@ fn plain(alloc: Global, bytes: &[u8]) -> Result<Response, AllocError>
     let word = before(bytes, n);
     match status_named(word) {
         None => told(alloc, word, behind(bytes, n)),
-        Some(status) => Ok(Response::Untagged { status }),
+        Some(status) => {
+            let code = code_in(alloc, behind(bytes, n))?;
+            Ok(Response::Untagged { status, code })
+        }
     }
 }
 
@@ -295,8 +305,10 @@ fn tagged(alloc: Global, bytes: &[u8]) -> Result<Response, AllocError>
 {
     let n = name_len(bytes);
     let tag = Bytes::copy_of(alloc, before(bytes, n))?;
-    let status = status_in(behind(bytes, n + 1)).unwrap_or(Status::Bad);
-    Ok(Response::Tagged { tag, status })
+    let line = behind(bytes, n + 1);
+    let status = status_in(line).unwrap_or(Status::Bad);
+    let code = code_in(alloc, behind(line, word_len(line)))?;
+    Ok(Response::Tagged { tag, status, code })
 }
 
 #[tactic(auto, unfolding(crate::specs::Reading::response_in))]

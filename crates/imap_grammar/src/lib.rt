@@ -2,6 +2,9 @@
 #![tactic(auto)]
 
 mod answer;
+#[cfg(test)]
+mod code_tests;
+mod codes;
 mod commands;
 mod date_times;
 mod dates;
@@ -9,14 +12,18 @@ mod dates;
 mod decode_tests;
 mod decoder;
 mod flags;
+#[cfg(test)]
+mod folder_tests;
+mod folders;
 mod octets;
 #[cfg(test)]
 mod scan_tests;
 mod scanner;
 mod sets;
+mod strings;
 
 pub use answer::Scan;
 pub use commands::write_command;
 pub use decoder::{decode, no_spelling_within, one_value};
-pub use imap_syntax::{Command, FetchItems, Response, Status, UidRange, UidSet};
+pub use imap_syntax::{Code, Command, FetchItems, Response, Status, StatusItems, UidRange, UidSet};
 pub use scanner::{Scanner, one_answer, scan};

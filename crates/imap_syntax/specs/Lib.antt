@@ -2,10 +2,15 @@ pub mod Octets
 pub mod Texts
 pub mod Numbers
 pub mod UidSets
+pub mod Codes
+pub mod ReadCodes
 pub mod Lines
+pub mod Strings
+pub mod Values
 pub mod Dates
 pub mod DateTimes
 pub mod Items
+pub mod Folders
 pub mod Free
 pub mod Spells
 pub mod Commands

@@ -1,4 +1,5 @@
 // What a store's responses say (RFC 9051 section 7).
+use crate::code::Code;
 use crate::uid_set::UidSet;
 use gate_world::{Bytes, Names};
 
@@ -26,17 +27,37 @@ pub struct FetchItems {
     pub size: Option<u64>,
 }
 
+/// The items of a STATUS response, of each the last one told.
+#[derive(Clone, Copy, Debug, PartialEq, Drop)]
+pub struct StatusItems {
+    pub messages: Option<u32>,
+    pub uid_next: Option<u32>,
+    pub uid_validity: Option<u32>,
+    /// The greatest mod-sequence (RFC 7162 section 3.1.2.1).
+    pub modseq: Option<u64>,
+}
+
 /// What one response says.
 #[derive(Debug, PartialEq, Drop)]
 pub enum Response {
-    Tagged { tag: Bytes, status: Status },
-    Untagged { status: Status },
+    Tagged { tag: Bytes, status: Status, code: Code },
+    Untagged { status: Status, code: Code },
     /// A continuation.
     Continue,
     /// The words as they were told.
     Capability(Names),
     /// The words as they were told.
     Enabled(Names),
+    /// A folder. A name that is INBOX in letters of any case is `INBOX`.
+    List {
+        /// In kept form, as flags.
+        attributes: Names,
+        /// None where folders have no hierarchy.
+        delimiter: Option<u8>,
+        name: Bytes,
+    },
+    /// Counts of a folder, whose name is as in a LIST.
+    StatusItems { name: Bytes, items: StatusItems },
     /// In kept form, as in a FETCH.
     Flags(Names),
     Exists(u32),
