@@ -23,3 +23,4 @@ pub mod Fine
 pub mod Kept
 pub mod Whole
 pub mod Marks
+pub mod Skips

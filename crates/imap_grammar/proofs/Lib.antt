@@ -14,3 +14,4 @@ pub mod Spellings
 pub mod Pieces
 pub mod DateLemmas
 pub mod CodeReadings
+pub mod Skipping

@@ -15,11 +15,15 @@ mod flags;
 #[cfg(test)]
 mod folder_tests;
 mod folders;
+#[cfg(test)]
+mod limit_tests;
 mod octets;
 #[cfg(test)]
 mod scan_tests;
 mod scanner;
 mod sets;
+#[cfg(test)]
+mod store_tests;
 mod strings;
 
 pub use answer::Scan;
