@@ -7,7 +7,9 @@ use crate::class::{CR, is_atom, is_word, lower};
 use crate::date_rule::time_rule;
 use crate::free_rule::text_rule;
 use crate::set_rule::words_more;
-use crate::sym::{Folder, Item, Key, Line, Move, Names, Pending, Phrase, Place, Set, Str, Sym};
+use crate::sym::{
+    Date, Folder, Item, Key, Line, Move, Names, Pending, Phrase, Place, Set, Str, Sym,
+};
 
 /// The word in lower case.
 fn key_text(key: Key) -> &'static [u8]
