@@ -21,6 +21,8 @@ pub struct FetchItems {
     pub flags: Option<Names>,
     /// The mod-sequence (RFC 7162 section 3.1.4.2).
     pub modseq: Option<u64>,
+    /// When the message came, in seconds since 1970-01-01T00:00:00Z, within the years 0 to 9999.
+    pub date: Option<i64>,
     /// Octets of the whole message.
     pub size: Option<u64>,
 }
