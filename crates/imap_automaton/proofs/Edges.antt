@@ -1,6 +1,6 @@
 -- What one octet does to one symbol.
-use Rattle.std.proofs.Common.{◌≡◌, ℕ, zero, ◌≤◌, Bool, true, false, ◌&&◌, List, [], ◌∷◌, length, take, cond, refl, sym, ap, ◌∙◌, arith}
-use Rattle.std.specs.Prelude.{nat_le}
+use Rattle.std.proofs.Common.{◌≡◌, ℕ, zero, ◌≤◌, Bool, true, false, ◌&&◌, List, [], ◌∷◌, length, take, cond, refl, sym, ap, ◌∙◌, arith, inl}
+use Rattle.std.specs.Prelude.{◌==◌, nat_le}
 use Rattle.std.proofs.lemmas.Bool.{leb-true, and_parts, cond-false}
 use Rattle.imap_automaton.specs.declared.sym.Key.{Key}
 use Rattle.imap_automaton.specs.declared.sym.Place.{Place}
@@ -9,6 +9,10 @@ use Rattle.imap_automaton.specs.declared.sym.Line.TheVariants as line
 use Rattle.imap_automaton.specs.declared.sym.Item.TheVariants as item
 use Rattle.imap_automaton.specs.declared.sym.Names.{Names}
 use Rattle.imap_automaton.specs.declared.sym.Names.TheVariants as names
+use Rattle.imap_automaton.specs.declared.sym.Str.{Str}
+use Rattle.imap_automaton.specs.declared.sym.Str.TheVariants as str
+use Rattle.imap_automaton.specs.declared.sym.Value.TheVariants as value
+use Rattle.imap_automaton.specs.declared.sym.Folder.TheVariants as folder
 use Rattle.imap_automaton.specs.declared.sym.Sym.{Sym}
 use Rattle.imap_automaton.specs.declared.sym.Sym.TheVariants as sym
 use Rattle.imap_automaton.specs.declared.sym.Move.{Move}
@@ -25,6 +29,9 @@ use Rattle.imap_automaton.proofs.Lists.{cons_head}
 use Rattle.imap_automaton.proofs.Tests.{is_true_at}
 use Rattle.imap_automaton.proofs.DateEdges.{date_back, date_forth, date_empty, date_lang_example}
 use Rattle.imap_automaton.proofs.SetEdges.{words_back, words_forth, words_empty, words_example, set_edge_back, set_edge_forth, set_empty, set_example}
+use Rattle.imap_automaton.proofs.StringEdges.{string_back, string_forth, string_empty, string_example}
+use Rattle.imap_automaton.proofs.ValueEdges.{value_back, value_forth, value_empty, opened_stops, value_example}
+use Rattle.imap_automaton.proofs.FolderEdges.{folder_back, folder_forth, folder_empty, end_stops, counts_stop, more_stop, folder_example}
 use Rattle.imap_automaton.proofs.WordEdges.{word_back, word_forth, word_empty, word_example}
 use Rattle.imap_automaton.proofs.LineEdges.{line_edge_back, line_edge_forth, line_empty, line_example}
 use Rattle.imap_syntax.specs.Octets.{is_atom}
@@ -44,6 +51,9 @@ edge_back (sym.Names s) c t fits h = names_back s c t h
 edge_back (sym.Date s) c t fits h = date_back s c t h
 edge_back (sym.Words s) c t fits h = words_back s c t h
 edge_back (sym.Set s) c t fits h = set_edge_back s c t fits h
+edge_back (sym.Str s) c t fits h = string_back s c t fits h
+edge_back (sym.Value s) c t fits h = value_back s c t h
+edge_back (sym.Folder s) c t fits h = folder_back s c t h
 
 pub edge_forth : (s : Sym) (c : ℕ) (t : List ℕ) → SymFits s ≡ true → Lang s (c ∷ t) → After (rule_of s c) t
 edge_forth (sym.Line s) c t fits h = line_edge_forth s c t fits h
@@ -54,9 +64,15 @@ edge_forth (sym.Names s) c t fits h = names_forth s c t h
 edge_forth (sym.Date s) c t fits h = date_forth s c t fits h
 edge_forth (sym.Words s) c t fits h = words_forth s c t h
 edge_forth (sym.Set s) c t fits h = set_edge_forth s c t h
+edge_forth (sym.Str s) c t fits h = string_forth s c t h
+edge_forth (sym.Value s) c t fits h = value_forth s c t h
+edge_forth (sym.Folder s) c t fits h = folder_forth s c t h
 
 names_yield : (s : Names) → s ≡ names.AtomRest → may_yield (sym.Names s) ≡ true
 names_yield s e = ap (λ (q : Names). may_yield (sym.Names q)) e
+
+string_yield : (s : Str) → s ≡ str.AtomTilde → may_yield (sym.Str s) ≡ true
+string_yield s e = ap (λ (q : Str). may_yield (sym.Str q)) e
 
 -- only a symbol that may end has an empty text
 pub empty_may : (s : Sym) → SymFits s ≡ true → Lang s [] → may_yield s ≡ true
@@ -72,13 +88,20 @@ empty_may (sym.Names s) fits h = names_yield s (names_empty s h)
 empty_may (sym.Date s) fits h = absurd (date_empty s fits h)
 empty_may (sym.Words s) fits h = absurd (words_empty s h)
 empty_may (sym.Set s) fits h = absurd (set_empty s h)
+empty_may (sym.Str s) fits h = string_yield s (string_empty s h)
+empty_may (sym.Value s) fits h = absurd (value_empty s h)
+empty_may (sym.Folder s) fits h = absurd (folder_empty s h)
 
 -- a symbol that ends before an octet has the empty text
 pub yield_empty : (s : Sym) (c : ℕ) → may_yield s ≡ true → SymFits s ≡ true → rule_of s c ≡ move.Yield → Lang s []
 yield_empty (sym.Item (item.Number v n)) c may fits e = number_yields v n c fits e
 yield_empty (sym.Item (item.Long v n)) c may fits e = long_yields v n c fits e
 yield_empty (sym.Names names.AtomRest) c may fits e = tt
+yield_empty (sym.Str str.AtomTilde) c may fits e = inl tt
 yield_empty _ c may fits e = absurd cc
+
+stop_no_brace : (c : ℕ) → stops c ≡ true → (c == 123) ≡ false
+stop_no_brace c e = grind arith
 
 stop_no_atom : (c : ℕ) → stops c ≡ true → is_atom c ≡ false
 stop_no_atom c e = grind arith
@@ -88,12 +111,20 @@ pub ends_by : (s : Sym) (c : ℕ) → may_yield s ≡ true → Lang s [] → sto
 ends_by (sym.Item (item.Number v n)) c may h e = number_ends v n c h e
 ends_by (sym.Item (item.Long v n)) c may h e = long_ends v n c h e
 ends_by (sym.Names names.AtomRest) c may h e = cond-false (is_atom c) (move.One (sym.Names names.AtomRest)) move.Yield (stop_no_atom c e)
+ends_by (sym.Str str.AtomTilde) c may h e =
+    cond-false (c == 123) (move.One (sym.Str (str.Count 0 0))) (cond (is_atom c) (move.One (sym.Names names.AtomRest)) move.Yield) (stop_no_brace c e)
+    ∙ cond-false (is_atom c) (move.One (sym.Names names.AtomRest)) move.Yield (stop_no_atom c e)
 ends_by _ c may h e = absurd cc
 
 pub begin_stops : (s : Sym) (c : ℕ) (t : List ℕ) → begins s ≡ true → Lang s (c ∷ t) → stops c ≡ true
 begin_stops (sym.Item item.More) c t b h = items_stop h.0 c t h.1
 begin_stops (sym.Names names.More) c t b h = more_stops h.0 c t h.2
 begin_stops (sym.Line (line.Fixed phrase.Close zero)) c t b h = is_true_at stops c 41 (cons_head c 41 t [] h) refl
+begin_stops (sym.Line (line.Fixed phrase.Crlf zero)) c t b h = is_true_at stops c 13 (cons_head c 13 t (10 ∷ []) h) refl
+begin_stops (sym.Value (value.More w)) c t b h = opened_stops w c t h
+begin_stops (sym.Folder folder.ListEnd) c t b h = end_stops c t h
+begin_stops (sym.Folder folder.Counts) c t b h = counts_stop c t h
+begin_stops (sym.Folder folder.MoreCounts) c t b h = more_stop h.0 c t h.1
 begin_stops _ c t b h = absurd cc
 
 pub example : (s : Sym) → SymFits s ≡ true → (t : List ℕ) × Lang s t
@@ -105,9 +136,17 @@ example (sym.Names s) fits = names_example s
 example (sym.Date s) fits = date_lang_example s fits
 example (sym.Words s) fits = words_example s
 example (sym.Set s) fits = set_example s fits
+example (sym.Str s) fits = string_example s fits
+example (sym.Value s) fits = value_example s
+example (sym.Folder s) fits = folder_example s
 
 pub begin_no_yield : (s : Sym) → begins s ≡ true → may_yield s ≡ true → ⊥
 begin_no_yield (sym.Item item.More) b y = cc
 begin_no_yield (sym.Names names.More) b y = cc
 begin_no_yield (sym.Line (line.Fixed phrase.Close zero)) b y = cc
+begin_no_yield (sym.Line (line.Fixed phrase.Crlf zero)) b y = cc
+begin_no_yield (sym.Value (value.More w)) b y = cc
+begin_no_yield (sym.Folder folder.ListEnd) b y = cc
+begin_no_yield (sym.Folder folder.Counts) b y = cc
+begin_no_yield (sym.Folder folder.MoreCounts) b y = cc
 begin_no_yield _ b y = cc

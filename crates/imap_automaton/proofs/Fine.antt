@@ -18,6 +18,12 @@ use Rattle.imap_automaton.specs.declared.sym.Names.TheVariants as names
 use Rattle.imap_automaton.specs.declared.sym.Date.TheVariants as date
 use Rattle.imap_automaton.specs.declared.sym.Words.TheVariants as words
 use Rattle.imap_automaton.specs.declared.sym.Set.TheVariants as set
+use Rattle.imap_automaton.specs.declared.sym.Str.{Str}
+use Rattle.imap_automaton.specs.declared.sym.Str.TheVariants as str
+use Rattle.imap_automaton.specs.declared.sym.Value.{Value}
+use Rattle.imap_automaton.specs.declared.sym.Value.TheVariants as value
+use Rattle.imap_automaton.specs.declared.sym.Folder.{Folder}
+use Rattle.imap_automaton.specs.declared.sym.Folder.TheVariants as folder
 use Rattle.imap_automaton.specs.declared.sym.Sym.{Sym}
 use Rattle.imap_automaton.specs.declared.sym.Sym.TheVariants as sym
 use Rattle.imap_automaton.specs.declared.sym.Move.{Move}
@@ -30,6 +36,9 @@ use Rattle.imap_automaton.specs.ItemRules.{number_rule, long_rule}
 use Rattle.imap_automaton.specs.LineRules.{word_start, line_rule, fixed_rule, folded_rule, sequence_rule}
 use Rattle.imap_automaton.specs.DateRules.{month_start, day_octet, time_octet, day_rule, time_rule}
 use Rattle.imap_automaton.specs.SetRules.{words_more, set_ends, set_number, set_rule}
+use Rattle.imap_automaton.specs.StringRules.{flat_start, alone, before, count_rule, string_rule}
+use Rattle.imap_automaton.specs.ValueRules.{inner_rule, closes, value_rule}
+use Rattle.imap_automaton.specs.FolderRules.{folder_rule}
 use Rattle.imap_automaton.specs.Rules.{rule_of}
 use Rattle.imap_automaton.specs.Fits.{PendFits, SymFits}
 use Rattle.imap_automaton.specs.Run.{is_octets}
@@ -182,6 +191,14 @@ behind_fine place.Plain key.Flags q at c = fine_by false false 4 (nat_lt c 256) 
   where
     pair_fine : (c : ℕ) → nat_lt c 256 ≡ true → fine false false 4 (nat_lt c 256) (move.Two (sym.Names names.Open) (sym.Line (line.Fixed phrase.Crlf 0))) ≡ true
     pair_fine c e = rw e refl
+behind_fine place.Plain key.List q at c = fine_by false false 4 (nat_lt c 256) (c == 32) (move.Two (sym.Names names.Open) (sym.Folder folder.Attributes)) move.Fail (λ e. pair_fine c (small_32 c e)) (λ e. refl)
+  where
+    pair_fine : (c : ℕ) → nat_lt c 256 ≡ true → fine false false 4 (nat_lt c 256) (move.Two (sym.Names names.Open) (sym.Folder folder.Attributes)) ≡ true
+    pair_fine c e = rw e refl
+behind_fine place.Plain key.Status q at c = fine_by false false 4 (nat_lt c 256) (c == 32) (move.Two (sym.Str str.AString) (sym.Folder folder.Counts)) move.Fail (λ e. pair_fine c (small_32 c e)) (λ e. refl)
+  where
+    pair_fine : (c : ℕ) → nat_lt c 256 ≡ true → fine false false 4 (nat_lt c 256) (move.Two (sym.Str str.AString) (sym.Folder folder.Counts)) ≡ true
+    pair_fine c e = rw e refl
 behind_fine place.Plain key.Vanished q at c = spaced_fine false 4 (sym.Set set.Open) c refl refl refl refl
 behind_fine place.Numbered key.Exists q at c = end_rule_fine 4 c (omega arith)
 behind_fine place.Numbered key.Expunge q at c = end_rule_fine 4 c (omega arith)
@@ -249,6 +266,8 @@ phrase_low : (p : Phrase) → Each is_low (phrase_text p)
 phrase_low phrase.Space = (refl, tt)
 phrase_low phrase.Crlf = (refl, (refl, tt))
 phrase_low phrase.Close = (refl, tt)
+phrase_low phrase.Quote = (refl, tt)
+phrase_low phrase.Nil = (refl, (refl, (refl, tt)))
 phrase_low phrase.Earlier = (refl, (refl, (refl, (refl, (refl, (refl, (refl, (refl, (refl, (refl, tt))))))))))
 
 octet_small : (p : Phrase) (at c : ℕ) → (c == get_or (phrase_text p) at 0) ≡ true → nat_lt c 256 ≡ true
@@ -365,6 +384,122 @@ open_fine c = fine_by false false 2 (nat_lt c 256) (c == 40) (move.Two (sym.Line
     pair_fine : (c : ℕ) → nat_lt c 256 ≡ true → fine false false 2 (nat_lt c 256) (move.Two (sym.Line (line.Folded phrase.Earlier 1)) (sym.Set (set.Number 0 0 false))) ≡ true
     pair_fine c e = rw e refl
 
+-- ---- strings
+
+small_34 : (c : ℕ) → (c == 34) ≡ true → nat_lt c 256 ≡ true
+small_34 c e = grind arith
+
+small_123 : (c : ℕ) → (c == 123) ≡ true → nat_lt c 256 ≡ true
+small_123 c e = grind arith
+
+small_126 : (c : ℕ) → (c == 126) ≡ true → nat_lt c 256 ≡ true
+small_126 c e = grind arith
+
+small_atom : (c : ℕ) → is_atom c ≡ true → nat_lt c 256 ≡ true
+small_atom c e = grind arith
+
+-- a fact of each symbol that reads what follows a string's first octet
+starts_fine : (P : Option Sym → Type 0) (c : ℕ) → (nat_lt c 256 ≡ true → P (Some (sym.Str str.Quoted))) → (nat_lt c 256 ≡ true → P (Some (sym.Str (str.Count 0 0)))) → (nat_lt c 256 ≡ true → P (Some (sym.Str str.AtomTilde))) → (nat_lt c 256 ≡ true → P (Some (sym.Names names.AtomRest))) → P None → P (flat_start c)
+starts_fine P c quoted count tilde atom none = by (c == 34) refl (c == 123) refl (c == 126) refl (is_atom c) refl
+  where
+    by : (p : Bool) → (c == 34) ≡ p → (q : Bool) → (c == 123) ≡ q → (r : Bool) → (c == 126) ≡ r → (s : Bool) → is_atom c ≡ s
+        → P (cond p (Some (sym.Str str.Quoted)) (cond q (Some (sym.Str (str.Count 0 0))) (cond r (Some (sym.Str str.AtomTilde)) (cond s (Some (sym.Names names.AtomRest)) None))))
+    by true e q f r g s h = quoted (small_34 c e)
+    by false e true f r g s h = count (small_123 c f)
+    by false e false f true g s h = tilde (small_126 c g)
+    by false e false f false g true h = atom (small_atom c h)
+    by false e false f false g false h = none
+
+alone_fine : (c : ℕ) → fine true false 1 (nat_lt c 256) (alone (flat_start c)) ≡ true
+alone_fine c = starts_fine (λ o. fine true false 1 (nat_lt c 256) (alone o) ≡ true) c (λ e. rw e refl) (λ e. rw e refl) (λ e. rw e refl) (λ e. rw e refl) refl
+
+value_alone_fine : (c : ℕ) → fine true false 2 (nat_lt c 256) (alone (flat_start c)) ≡ true
+value_alone_fine c = starts_fine (λ o. fine true false 2 (nat_lt c 256) (alone o) ≡ true) c (λ e. rw e refl) (λ e. rw e refl) (λ e. rw e refl) (λ e. rw e refl) refl
+
+before_fine : (w c : ℕ) → nat_le w 63 ≡ true → fine false false 2 (nat_lt c 256) (before (sym.Value (value.More w)) (flat_start c)) ≡ true
+before_fine w c f = starts_fine (λ o. fine false false 2 (nat_lt c 256) (before (sym.Value (value.More w)) o) ≡ true) c (λ e. rw e (rw f refl)) (λ e. rw e (rw f refl)) (λ e. rw e (rw f refl)) (λ e. rw e (rw f refl)) refl
+
+count_fits : (n w : ℕ) → (nat_lt n 8 && nat_le w 50000000) ≡ true → SymFits (sym.Str (str.Count w (n + 1))) ≡ true
+count_fits n w e = grind arith
+
+brace_fits : (v n : ℕ) → SymFits (sym.Str (str.Count v n)) ≡ true → SymFits (sym.Str (str.Brace v)) ≡ true
+brace_fits v n e = grind arith
+
+small_125 : (c n : ℕ) → (c == 125 && nat_lt 0 n) ≡ true → nat_lt c 256 ≡ true
+small_125 c n e = grind arith
+
+count_fine : (v n c : ℕ) → SymFits (sym.Str (str.Count v n)) ≡ true → fine false false 1 (nat_lt c 256) (count_rule v n c) ≡ true
+count_fine v n c fits =
+    let w : ℕ = 10 * v + (c - 48) in
+    fine_by false false 1 (nat_lt c 256) (is_digit c)
+    (cond (nat_lt n 8 && nat_le w 50000000) (move.One (sym.Str (str.Count w (n + 1)))) move.Fail)
+    (cond (c == 125 && nat_lt 0 n) (move.One (sym.Str (str.Brace v))) move.Fail)
+    (λ d. fine_by false false 1 (nat_lt c 256) (nat_lt n 8 && nat_le w 50000000) (move.One (sym.Str (str.Count w (n + 1)))) move.Fail
+    (λ e. and_from _ _ (and_from _ _ (and_from _ _ (and_from _ _ (small_digit c d) (count_fits n w e)) refl) refl) refl)
+    (λ e. refl))
+    (λ d. fine_by false false 1 (nat_lt c 256) (c == 125 && nat_lt 0 n) (move.One (sym.Str (str.Brace v))) move.Fail
+    (λ e. and_from _ _ (and_from _ _ (and_from _ _ (and_from _ _ (small_125 c n e) (brace_fits v n fits)) refl) refl) refl)
+    (λ e. refl))
+
+string_fine : (s : Str) (c : ℕ) → SymFits (sym.Str s) ≡ true → fine (ends_open (sym.Str s)) (may_yield (sym.Str s)) 1 (nat_lt c 256) (string_rule s c) ≡ true
+string_fine str.NString c fits = grind arith
+string_fine str.AString c fits = alone_fine c
+string_fine str.Quoted c fits = grind arith
+string_fine str.Escaped c fits = grind arith
+string_fine str.Tilde c fits = grind arith
+string_fine str.AtomTilde c fits = grind arith
+string_fine (str.Count v n) c fits = count_fine v n c fits
+string_fine (str.Brace n) c fits = fine_by false false 1 (nat_lt c 256) (c == 13) (move.One (sym.Free (free.Break n))) move.Fail (λ e. and_from _ _ (and_from _ _ (and_from _ _ (and_from _ _ (small_13 c e) fits) refl) refl) refl) (λ e. refl)
+
+-- ---- values
+
+small_40 : (c : ℕ) → (c == 40) ≡ true → nat_lt c 256 ≡ true
+small_40 c e = grind arith
+
+small_41 : (c : ℕ) → (c == 41) ≡ true → nat_lt c 256 ≡ true
+small_41 c e = grind arith
+
+deeper : (w : ℕ) → nat_lt w 63 ≡ true → nat_le (w + 1) 63 ≡ true
+deeper w e = grind arith
+
+higher : (w : ℕ) → nat_le w 63 ≡ true → nat_le (w - 1) 63 ≡ true
+higher w e = grind arith
+
+inner_fine : (w c : ℕ) → nat_le w 63 ≡ true → fine false false 2 (nat_lt c 256) (inner_rule w c) ≡ true
+inner_fine w c f = fine_by false false 2 (nat_lt c 256) (c == 40) (cond (nat_lt w 63) (move.One (sym.Value (value.First (w + 1)))) move.Fail) (before (sym.Value (value.More w)) (flat_start c))
+    (λ e. fine_by false false 2 (nat_lt c 256) (nat_lt w 63) (move.One (sym.Value (value.First (w + 1)))) move.Fail
+    (λ g. and_from _ _ (and_from _ _ (and_from _ _ (and_from _ _ (small_40 c e) (deeper w g)) refl) refl) refl)
+    (λ g. refl))
+    (λ e. before_fine w c f)
+
+closes_fine : (w c : ℕ) → nat_le w 63 ≡ true → nat_lt c 256 ≡ true → fine false false 2 (nat_lt c 256) (closes w) ≡ true
+closes_fine w c f small = fine_by false false 2 (nat_lt c 256) (w == 0) move.End (move.One (sym.Value (value.More (w - 1)))) (λ e. small)
+    (λ e. and_from _ _ (and_from _ _ (and_from _ _ (and_from _ _ small (higher w f)) refl) refl) refl)
+
+value_fine : (s : Value) (c : ℕ) → SymFits (sym.Value s) ≡ true → fine (ends_open (sym.Value s)) (may_yield (sym.Value s)) 2 (nat_lt c 256) (value_rule s c) ≡ true
+value_fine value.Start c f = fine_by true false 2 (nat_lt c 256) (c == 40) (move.One (sym.Value (value.First 0))) (alone (flat_start c)) (λ e. rw (small_40 c e) refl) (λ e. value_alone_fine c)
+value_fine (value.First w) c f = fine_by false false 2 (nat_lt c 256) (c == 41) (closes w) (inner_rule w c) (λ e. closes_fine w c f (small_41 c e)) (λ e. inner_fine w c f)
+value_fine (value.Next w) c f = inner_fine w c f
+value_fine (value.More w) c f = fine_by false false 2 (nat_lt c 256) (c == 32) (move.One (sym.Value (value.Next w))) (cond (c == 41) (closes w) move.Fail)
+    (λ e. and_from _ _ (and_from _ _ (and_from _ _ (and_from _ _ (small_32 c e) f) refl) refl) refl)
+    (λ e. fine_by false false 2 (nat_lt c 256) (c == 41) (closes w) move.Fail (λ g. closes_fine w c f (small_41 c g)) (λ g. refl))
+
+-- ---- folders
+
+folder_fine : (s : Folder) (c : ℕ) → fine (ends_open (sym.Folder s)) (may_yield (sym.Folder s)) (need (sym.Folder s)) (nat_lt c 256) (folder_rule s c) ≡ true
+folder_fine folder.Attributes c = grind arith
+folder_fine folder.Delimiter c = grind arith
+folder_fine folder.DelimiterOctet c = grind arith
+folder_fine folder.DelimiterEscaped c = grind arith
+folder_fine folder.Name c = grind arith
+folder_fine folder.ListEnd c = grind arith
+folder_fine folder.Counts c = grind arith
+folder_fine folder.CountsOpen c = grind arith
+folder_fine folder.FirstCount c = grind arith
+folder_fine folder.Count c = grind arith
+folder_fine folder.CountWord c = grind arith
+folder_fine folder.MoreCounts c = grind arith
+
 -- ---- all
 
 pub move_fine : (s : Sym) (c : ℕ) → is_octets s ≡ false → SymFits s ≡ true → fine (ends_open s) (may_yield s) (need s) (nat_lt c 256) (rule_of s c) ≡ true
@@ -393,5 +528,8 @@ move_fine (sym.Words words.Rest) c o fits = fine_by false false 1 (nat_lt c 256)
   where
     rest_word_fine : (c : ℕ) → is_word c ≡ true → fine false false 1 (nat_lt c 256) (move.One (sym.Words words.Rest)) ≡ true
     rest_word_fine c e = grind arith
+move_fine (sym.Str s) c o fits = string_fine s c fits
+move_fine (sym.Value s) c o fits = value_fine s c fits
+move_fine (sym.Folder s) c o fits = folder_fine s c
 move_fine (sym.Set set.Open) c o fits = open_fine c
 move_fine (sym.Set (set.Number v n second)) c o fits = set_number_fine v n second c 1 (omega arith) (set_ends_fine second c)

@@ -153,7 +153,7 @@ inside : (n : ℕ) → Each is_inside (replicate n 256)
 inside zero = tt
 inside (suc n) = (refl, inside n)
 
-octets_some : (n : ℕ) → OctetsRest n (replicate n 256)
+pub octets_some : (n : ℕ) → OctetsRest n (replicate n 256)
 octets_some n = record { counted = length-replicate n 256; inside = inside n }
 
 -- ---- the group

@@ -168,10 +168,10 @@ long_yields v n c fits e =
     ended false q true s e = refl
     ended false q false s e = absurd cc
 
-long_from : (n : ℕ) (t : List ℕ) → IsLong n t → LongRest 0 0 t
+pub long_from : (n : ℕ) (t : List ℕ) → IsLong n t → LongRest 0 0 t
 long_from n t h = record { each = h.digits; some = omega (arith, h.some); few = omega (arith, h.few); most = omega (arith, h.value, h.most) }
 
-long_to : (t : List ℕ) → LongRest 0 0 t → IsLong (value_from 0 t) t
+pub long_to : (t : List ℕ) → LongRest 0 0 t → IsLong (value_from 0 t) t
 long_to t h = record { digits = h.each; some = omega (arith, h.some); few = omega (arith, h.few); value = refl; most = h.most }
 
 long_open_back : (c : ℕ) (t : List ℕ) → After (item_rule item.LongOpen c) t → ItemLang item.LongOpen (c ∷ t)

@@ -4,10 +4,12 @@ use Rattle.std.specs.Prelude.{◌==◌, nat_lt, nat_le}
 use Rattle.std.proofs.lemmas.Bool.{and_parts, leb-true}
 use Rattle.imap_automaton.specs.declared.sym.Place.TheVariants as place
 use Rattle.imap_automaton.specs.declared.sym.Line.TheVariants as line
-use Rattle.imap_automaton.specs.declared.sym.Set.TheVariants as set
 use Rattle.imap_automaton.specs.declared.sym.Free.TheVariants as free
 use Rattle.imap_automaton.specs.declared.sym.Item.TheVariants as item
 use Rattle.imap_automaton.specs.declared.sym.Names.TheVariants as names
+use Rattle.imap_automaton.specs.declared.sym.Set.TheVariants as set
+use Rattle.imap_automaton.specs.declared.sym.Str.TheVariants as str
+use Rattle.imap_automaton.specs.declared.sym.Folder.TheVariants as folder
 use Rattle.imap_automaton.specs.declared.sym.Sym.{Sym}
 use Rattle.imap_automaton.specs.declared.sym.Sym.TheVariants as sym
 use Rattle.imap_automaton.specs.declared.sym.Move.{Move}
@@ -79,6 +81,7 @@ pub yield_open : (s : Sym) → may_yield s ≡ true → ends_open s ≡ true
 yield_open (sym.Item (item.Number v n)) e = refl
 yield_open (sym.Item (item.Long v n)) e = refl
 yield_open (sym.Names names.AtomRest) e = refl
+yield_open (sym.Str str.AtomTilde) e = refl
 yield_open _ e = absurd cc
 
 octets_good : (n c : ℕ) → SymFits (sym.Free (free.Octets n)) ≡ true → move_good false (free_rule (free.Octets n) c) ≡ true
@@ -110,6 +113,9 @@ by_octets P (sym.Names q) f g = g refl
 by_octets P (sym.Date q) f g = g refl
 by_octets P (sym.Words q) f g = g refl
 by_octets P (sym.Set q) f g = g refl
+by_octets P (sym.Str q) f g = g refl
+by_octets P (sym.Value q) f g = g refl
+by_octets P (sym.Folder q) f g = g refl
 
 pub moves_good : (s : Sym) (c : ℕ) → SymFits s ≡ true → move_good (ends_open s) (rule_of s c) ≡ true
 moves_good s c = by_octets (λ s. SymFits s ≡ true → move_good (ends_open s) (rule_of s c) ≡ true) s (λ n fits. octets_good n c fits)
@@ -118,31 +124,6 @@ moves_good s c = by_octets (λ s. SymFits s ≡ true → move_good (ends_open s)
 pub moves_room : (s : Sym) (c : ℕ) → SymFits s ≡ true → move_needs (need s) (rule_of s c) ≡ true
 moves_room s c = by_octets (λ s. SymFits s ≡ true → move_needs (need s) (rule_of s c) ≡ true) s (λ n fits. octets_room n c)
     (λ o fits. fine_room (ends_open s) (may_yield s) (need s) (nat_lt c 256) (rule_of s c) (move_fine s c o fits))
-
-need_some : (s : Sym) → 1 ≤ need s
-need_some (sym.Line line.Start) = omega arith
-need_some (sym.Line (line.Tag n)) = omega arith
-need_some (sym.Line line.Untagged) = omega arith
-need_some (sym.Line (line.Sequence value digits)) = omega arith
-need_some (sym.Word place.Item key at) = omega arith
-need_some (sym.Word place.Month key at) = omega arith
-need_some (sym.Word p key at) = omega arith
-need_some (sym.Free (free.Text q)) = omega arith
-need_some (sym.Item item.Open) = omega arith
-need_some (sym.Item item.More) = omega arith
-need_some (sym.Item item.LongOpen) = omega arith
-need_some (sym.Names names.Open) = omega arith
-need_some (sym.Names names.First) = omega arith
-need_some (sym.Names names.More) = omega arith
-need_some (sym.Set set.Open) = omega arith
-need_some _ = omega arith
-
--- where two symbols are pushed, there is room for two
-pub two_needs : (s a b : Sym) (c : ℕ) → SymFits s ≡ true → rule_of s c ≡ move.Two a b → 2 ≤ need s
-two_needs s a b c fits e =
-    let k : move_needs (need s) (move.Two a b) ≡ true = ap (move_needs (need s)) (sym e) ∙ moves_room s c fits in
-    let p = and_parts (nat_le (need a + 1) (need s)) (nat_le (need b) (need s)) k in
-    omega (arith, leb-true _ _ p.0, need_some a)
 
 pub moves_yield : (s : Sym) (c : ℕ) → SymFits s ≡ true → rule_of s c ≡ move.Yield → may_yield s ≡ true
 moves_yield s c = by_octets (λ s. SymFits s ≡ true → rule_of s c ≡ move.Yield → may_yield s ≡ true) s (λ n fits e. absurd (octets_no_yield n c e))
@@ -163,3 +144,20 @@ moves_left s c = by_octets (λ s. SymFits s ≡ true → Leaves (is_octets s) (s
 
 pub yields : (s : Sym) (c : ℕ) → SymFits s ≡ true → rule_of s c ≡ move.Yield → Lang s []
 yields s c fits e = yield_empty s c (moves_yield s c fits e) fits e
+
+need_some : (s : Sym) → 1 ≤ need s
+need_some (sym.Line line.Start) = omega arith
+need_some (sym.Word place.Item k at) = omega arith
+need_some (sym.Free (free.Text q)) = omega arith
+need_some (sym.Item item.Open) = omega arith
+need_some (sym.Names names.Open) = omega arith
+need_some (sym.Set set.Open) = omega arith
+need_some (sym.Folder folder.Attributes) = omega arith
+need_some _ = omega arith
+
+-- a symbol that is followed by two has room for them
+pub two_room : (s : Sym) (c : ℕ) (a b : Sym) → SymFits s ≡ true → rule_of s c ≡ move.Two a b → 2 ≤ need s
+two_room s c a b fits e =
+    let p = and_parts (nat_le (need a + 1) (need s)) (nat_le (need b) (need s)) (subst (λ (m : Move). move_needs (need s) m ≡ true) e (moves_room s c fits)) in
+    let n = need_some a in
+    omega (arith, leb-true _ _ p.0, n)

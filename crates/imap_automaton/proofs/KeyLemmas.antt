@@ -17,7 +17,7 @@ use Rattle.imap_syntax.specs.Texts.{Each}
 -- ---- texts of keys
 
 abbrev key_named : List ℕ → Key
-key_named t = unwrap_or (find (λ k. bytes_eq (key_text k) t) (key.Ok ∷ key.No ∷ key.Bad ∷ key.Preauth ∷ key.Bye ∷ key.Capability ∷ key.Enabled ∷ key.Vanished ∷ key.Exists ∷ key.Expunge ∷ key.Fetch ∷ key.Uid ∷ key.Flags ∷ key.ModSeq ∷ key.Size ∷ key.InternalDate ∷ key.Jan ∷ key.Feb ∷ key.Mar ∷ key.Apr ∷ key.May ∷ key.Jun ∷ key.Jul ∷ key.Aug ∷ key.Sep ∷ key.Oct ∷ key.Nov ∷ key.Dec ∷ [])) key.Ok
+key_named t = unwrap_or (find (λ k. bytes_eq (key_text k) t) (key.Ok ∷ key.No ∷ key.Bad ∷ key.Preauth ∷ key.Bye ∷ key.Capability ∷ key.Enabled ∷ key.Vanished ∷ key.List ∷ key.Status ∷ key.Exists ∷ key.Expunge ∷ key.Fetch ∷ key.Uid ∷ key.Flags ∷ key.ModSeq ∷ key.Size ∷ key.InternalDate ∷ key.Jan ∷ key.Feb ∷ key.Mar ∷ key.Apr ∷ key.May ∷ key.Jun ∷ key.Jul ∷ key.Aug ∷ key.Sep ∷ key.Oct ∷ key.Nov ∷ key.Dec ∷ [])) key.Ok
 
 named : (k : Key) → key_named (key_text k) ≡ k
 named key.Ok = refl
@@ -28,6 +28,8 @@ named key.Bye = refl
 named key.Capability = refl
 named key.Enabled = refl
 named key.Vanished = refl
+named key.List = refl
+named key.Status = refl
 named key.Exists = refl
 named key.Expunge = refl
 named key.Fetch = refl
@@ -65,6 +67,8 @@ key_octets key.Bye = (refl, (refl, (refl, tt)))
 key_octets key.Capability = (refl, (refl, (refl, (refl, (refl, (refl, (refl, (refl, (refl, (refl, tt))))))))))
 key_octets key.Enabled = (refl, (refl, (refl, (refl, (refl, (refl, (refl, tt)))))))
 key_octets key.Vanished = (refl, (refl, (refl, (refl, (refl, (refl, (refl, (refl, tt))))))))
+key_octets key.List = (refl, (refl, (refl, (refl, tt))))
+key_octets key.Status = (refl, (refl, (refl, (refl, (refl, (refl, tt))))))
 key_octets key.Exists = (refl, (refl, (refl, (refl, (refl, (refl, tt))))))
 key_octets key.Expunge = (refl, (refl, (refl, (refl, (refl, (refl, (refl, tt)))))))
 key_octets key.Fetch = (refl, (refl, (refl, (refl, (refl, tt)))))
@@ -95,6 +99,8 @@ key_some key.Bye = omega arith
 key_some key.Capability = omega arith
 key_some key.Enabled = omega arith
 key_some key.Vanished = omega arith
+key_some key.List = omega arith
+key_some key.Status = omega arith
 key_some key.Exists = omega arith
 key_some key.Expunge = omega arith
 key_some key.Fetch = omega arith

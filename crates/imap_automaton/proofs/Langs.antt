@@ -20,6 +20,8 @@ use Rattle.imap_automaton.specs.declared.sym.Words.{Words}
 use Rattle.imap_automaton.specs.declared.sym.Words.TheVariants as words
 use Rattle.imap_automaton.specs.declared.sym.Set.{Set}
 use Rattle.imap_automaton.specs.declared.sym.Set.TheVariants as set
+use Rattle.imap_automaton.specs.declared.sym.Str.TheVariants as str
+use Rattle.imap_automaton.specs.declared.sym.Folder.TheVariants as folder
 use Rattle.imap_automaton.specs.declared.sym.Sym.{Sym}
 use Rattle.imap_automaton.specs.declared.sym.Sym.TheVariants as sym
 use Rattle.imap_automaton.specs.declared.sym.Move.{Move}
@@ -27,6 +29,9 @@ use Rattle.imap_automaton.specs.declared.sym.Move.TheVariants as move
 use Rattle.imap_automaton.specs.Counts.{pends}
 use Rattle.imap_automaton.specs.DateRules.{day_octet, time_octet}
 use Rattle.imap_automaton.specs.Keys.{key_text, phrase_text, keys, in_word}
+pub use Rattle.imap_automaton.proofs.Rests.{OctetsRest, NumberRest, LongRest, IsSpaced}
+use Rattle.imap_automaton.proofs.StringLangs.{StrLang, ValueLang}
+use Rattle.imap_automaton.proofs.FolderLangs.{FolderLang}
 use Rattle.imap_syntax.specs.declared.response.Response.{Response}
 use Rattle.imap_syntax.specs.Octets.{is_digit, is_alnum, is_text, is_word, is_atom, is_inside, lower}
 use Rattle.imap_syntax.specs.Texts.{Each, Then, crlf, IsCrlf}
@@ -68,10 +73,6 @@ abbrev pub IsFreeFrom : ℕ → Pending → List ℕ → Type 0
 IsFreeFrom zero s t = FreeEnd s t
 IsFreeFrom (suc literals) s t = FreeLiteral (IsFreeFrom literals pending.Nothing) s t
 
-pub record OctetsRest (n : ℕ) (t : List ℕ) : Type 0 where
-  pub counted : length t ≡ n
-  pub inside : Each is_inside t
-
 abbrev pub FreeLang : Free → List ℕ → Type 0
 FreeLang (free.Text s) t = (literals : ℕ) × IsFreeFrom literals s t
 FreeLang (free.Break n) t = (o : List ℕ) × (t ≡ 10 ∷ o) × OctetsRest n o
@@ -88,21 +89,6 @@ NamesLang names.Atom t = items.IsAtom t
 NamesLang names.AtomRest t = Each is_atom t
 
 -- ---- items
-
--- the rest of a number that isn't 0, of which `digits` digits made `value`
-pub record NumberRest (value digits : ℕ) (t : List ℕ) : Type 0 where
-  pub each : Each is_digit t
-  pub some : 0 < digits + length t
-  pub few : digits + length t ≤ 10
-  pub most : value_from value t ≤ 4294967295
-  pub not_zero : 0 < value_from value t
-
--- the rest of a long number, of which `digits` digits made `value`
-pub record LongRest (value digits : ℕ) (t : List ℕ) : Type 0 where
-  pub each : Each is_digit t
-  pub some : 0 < digits + length t
-  pub few : digits + length t ≤ 19
-  pub most : value_from value t ≤ 9223372036854775807
 
 abbrev pub ItemLang : Item → List ℕ → Type 0
 ItemLang item.Open t = (is : List items.Item) × (inner : List ℕ) × (t ≡ 40 ∷ inner) × items.IsItems is inner
@@ -156,9 +142,6 @@ SetLang (set.Number value digits second) t = Then (NumberRest value digits) (Num
 
 -- ---- words
 
-abbrev pub IsSpaced : (List ℕ → Type 0) → List ℕ → Type 0
-IsSpaced L t = (rest : List ℕ) × (t ≡ 32 ∷ rest) × L rest
-
 -- what follows a key
 abbrev pub IsBehind : Place → Key → List ℕ → Type 0
 IsBehind place.Tagged key.Ok t = IsRest t
@@ -173,6 +156,8 @@ IsBehind place.Plain key.Capability t = WordsLang words.More t
 IsBehind place.Plain key.Enabled t = WordsLang words.More t
 IsBehind place.Plain key.Flags t = IsSpaced (Then (NamesLang names.Open) IsCrlf) t
 IsBehind place.Plain key.Vanished t = IsSpaced (SetLang set.Open) t
+IsBehind place.Plain key.List t = IsSpaced (Then (NamesLang names.Open) (FolderLang folder.Attributes)) t
+IsBehind place.Plain key.Status t = IsSpaced (Then (StrLang str.AString) (FolderLang folder.Counts)) t
 IsBehind place.Numbered key.Exists t = IsCrlf t
 IsBehind place.Numbered key.Expunge t = IsCrlf t
 IsBehind place.Numbered key.Fetch t = IsSpaced (ItemLang item.Open) t
@@ -269,6 +254,9 @@ Lang (sym.Names s) t = NamesLang s t
 Lang (sym.Date s) t = DateLang s t
 Lang (sym.Words s) t = WordsLang s t
 Lang (sym.Set s) t = SetLang s t
+Lang (sym.Str s) t = StrLang s t
+Lang (sym.Value s) t = ValueLang s t
+Lang (sym.Folder s) t = FolderLang s t
 
 -- the symbols in turn
 abbrev pub Langs : List Sym → List ℕ → Type 0

@@ -1,9 +1,15 @@
 pub mod Lists
+pub mod Rests
+pub mod StringLangs
+pub mod FolderLangs
 pub mod Langs
 pub mod Tests
 pub mod FreeEdges
 pub mod NamesEdges
 pub mod ItemEdges
+pub mod StringEdges
+pub mod ValueEdges
+pub mod FolderEdges
 pub mod SetEdges
 pub mod KeyLemmas
 pub mod DateForms

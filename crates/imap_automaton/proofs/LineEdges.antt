@@ -117,6 +117,8 @@ folded_some : (p : Phrase) (at : ℕ) → (t : List ℕ) × (map lower t ≡ dro
 folded_some phrase.Space at = (drop at (phrase_text phrase.Space), lower_drop (phrase_text phrase.Space) at refl)
 folded_some phrase.Crlf at = (drop at (phrase_text phrase.Crlf), lower_drop (phrase_text phrase.Crlf) at refl)
 folded_some phrase.Close at = (drop at (phrase_text phrase.Close), lower_drop (phrase_text phrase.Close) at refl)
+folded_some phrase.Quote at = (drop at (phrase_text phrase.Quote), lower_drop (phrase_text phrase.Quote) at refl)
+folded_some phrase.Nil at = (drop at (phrase_text phrase.Nil), lower_drop (phrase_text phrase.Nil) at refl)
 folded_some phrase.Earlier at = (drop at (phrase_text phrase.Earlier), lower_drop (phrase_text phrase.Earlier) at refl)
 
 -- ---- tags
@@ -232,6 +234,8 @@ first_no_digit key.Bye = refl
 first_no_digit key.Capability = refl
 first_no_digit key.Enabled = refl
 first_no_digit key.Vanished = refl
+first_no_digit key.List = refl
+first_no_digit key.Status = refl
 first_no_digit key.Exists = refl
 first_no_digit key.Expunge = refl
 first_no_digit key.Fetch = refl
@@ -331,6 +335,8 @@ star_from response.Continue t (inr r) = absurd r.0.says
 star_from (response.Untagged status) t h = (t, refl, h)
 star_from (response.Capability ws) t h = (t, refl, h)
 star_from (response.Enabled ws) t h = (t, refl, h)
+star_from (response.List attributes delimiter name) t h = (t, refl, h)
+star_from (response.StatusItems name items) t h = (t, refl, h)
 star_from (response.Flags flags) t h = (t, refl, h)
 star_from (response.Exists count) t h = (t, refl, h)
 star_from (response.Expunge seq) t h = (t, refl, h)
@@ -388,6 +394,8 @@ start_at response.Continue c t h = plus_at c t h.0 h.1 h.2
 start_at (response.Untagged status) c t h = star_at (response.Untagged status) c t h.0 h.1 h.2
 start_at (response.Capability ws) c t h = star_at (response.Capability ws) c t h.0 h.1 h.2
 start_at (response.Enabled ws) c t h = star_at (response.Enabled ws) c t h.0 h.1 h.2
+start_at (response.List attributes delimiter name) c t h = star_at (response.List attributes delimiter name) c t h.0 h.1 h.2
+start_at (response.StatusItems name items) c t h = star_at (response.StatusItems name items) c t h.0 h.1 h.2
 start_at (response.Flags flags) c t h = star_at (response.Flags flags) c t h.0 h.1 h.2
 start_at (response.Exists count) c t h = star_at (response.Exists count) c t h.0 h.1 h.2
 start_at (response.Expunge seq) c t h = star_at (response.Expunge seq) c t h.0 h.1 h.2
@@ -421,6 +429,8 @@ start_none response.Continue h = let e = h.1 in cc
 start_none (response.Untagged status) h = let e = h.1 in cc
 start_none (response.Capability ws) h = let e = h.1 in cc
 start_none (response.Enabled ws) h = let e = h.1 in cc
+start_none (response.List attributes delimiter name) h = let e = h.1 in cc
+start_none (response.StatusItems name items) h = let e = h.1 in cc
 start_none (response.Flags flags) h = let e = h.1 in cc
 start_none (response.Exists count) h = let e = h.1 in cc
 start_none (response.Expunge seq) h = let e = h.1 in cc

@@ -9,17 +9,20 @@ use Rattle.imap_automaton.specs.declared.sym.Place.TheVariants as place
 use Rattle.imap_automaton.specs.declared.sym.Item.TheVariants as item
 use Rattle.imap_automaton.specs.Keys.{key_text, keys}
 use Rattle.imap_automaton.proofs.Langs.{ItemLang, IsSpaced, Among, IsBehind, IsStray, WordSays, WordRest}
+use Rattle.imap_automaton.proofs.FolderLangs.{NameLine, DelimiterLine}
 use Rattle.imap_automaton.proofs.Lists.{cons_head, cons_tail}
 use Rattle.imap_automaton.proofs.KeyLemmas.{is_key_octet, key_octets, key_some, among_is}
 use Rattle.imap_automaton.proofs.CountLemmas.{free_to, free_from}
 use Rattle.imap_syntax.specs.declared.response.Status.{Status}
 use Rattle.imap_syntax.specs.declared.response.Status.TheVariants as status
+use Rattle.imap_syntax.specs.declared.response.StatusItems.{StatusItems}
 use Rattle.imap_syntax.specs.declared.response.Response.{Response}
 use Rattle.imap_syntax.specs.declared.response.Response.TheVariants as response
 use Rattle.imap_syntax.specs.Octets.{is_digit, is_word, is_atom, lower}
 use Rattle.imap_syntax.specs.Texts.{Each, Then, crlf, IsWord}
 use Rattle.imap_syntax.specs.Lines.{word_of, Completes, IsRest}
 use Rattle.imap_syntax.specs.Items.{kept, items_of}
+use Rattle.imap_syntax.specs.Folders.{folder_name, IsListLine, told_counts, no_counts, IsStatusLine}
 use Rattle.imap_syntax.specs.Spells.{keywords, IsFlagsLine, Says, IsWordLine}
 
 -- ---- keywords
@@ -34,7 +37,9 @@ plain_key w (suc (suc (suc (suc (suc zero)))), lt, e) = (key.Capability, inr (in
 plain_key w (suc (suc (suc (suc (suc (suc zero))))), lt, e) = (key.Enabled, inr (inr (inr (inr (inr (inr (inl refl)))))), sym e)
 plain_key w (suc (suc (suc (suc (suc (suc (suc zero)))))), lt, e) = (key.Flags, inr (inr (inr (inr (inr (inr (inr (inl refl))))))), sym e)
 plain_key w (suc (suc (suc (suc (suc (suc (suc (suc zero))))))), lt, e) = (key.Vanished, inr (inr (inr (inr (inr (inr (inr (inr (inl refl)))))))), sym e)
-plain_key w (suc (suc (suc (suc (suc (suc (suc (suc (suc i)))))))), lt, e) = absurd (omega (arith, lt))
+plain_key w (suc (suc (suc (suc (suc (suc (suc (suc (suc zero)))))))), lt, e) = (key.List, inr (inr (inr (inr (inr (inr (inr (inr (inr (inl refl))))))))), sym e)
+plain_key w (suc (suc (suc (suc (suc (suc (suc (suc (suc (suc zero))))))))), lt, e) = (key.Status, inr (inr (inr (inr (inr (inr (inr (inr (inr (inr (inl refl)))))))))), sym e)
+plain_key w (suc (suc (suc (suc (suc (suc (suc (suc (suc (suc (suc i)))))))))), lt, e) = absurd (omega (arith, lt))
 
 numbered_key : (n : ℕ) (w : List ℕ) → Contains (keywords (Some n)) w → (k : Key) × Among k (keys place.Numbered) × (w ≡ key_text k)
 numbered_key n w (zero, lt, e) = (key.Exists, inl refl, sym e)
@@ -51,6 +56,8 @@ key_plain key.Bye m = (4, omega arith, refl)
 key_plain key.Capability m = (5, omega arith, refl)
 key_plain key.Enabled m = (6, omega arith, refl)
 key_plain key.Vanished m = (8, omega arith, refl)
+key_plain key.List m = (9, omega arith, refl)
+key_plain key.Status m = (10, omega arith, refl)
 key_plain key.Exists m = let e = among_is key.Exists (keys place.Plain) m in absurd cc
 key_plain key.Expunge m = let e = among_is key.Expunge (keys place.Plain) m in absurd cc
 key_plain key.Fetch m = let e = among_is key.Fetch (keys place.Plain) m in absurd cc
@@ -81,6 +88,8 @@ key_numbered n key.Bye m = let e = among_is key.Bye (keys place.Numbered) m in a
 key_numbered n key.Capability m = let e = among_is key.Capability (keys place.Numbered) m in absurd cc
 key_numbered n key.Enabled m = let e = among_is key.Enabled (keys place.Numbered) m in absurd cc
 key_numbered n key.Vanished m = let e = among_is key.Vanished (keys place.Numbered) m in absurd cc
+key_numbered n key.List m = let e = among_is key.List (keys place.Numbered) m in absurd cc
+key_numbered n key.Status m = let e = among_is key.Status (keys place.Numbered) m in absurd cc
 key_numbered n key.Exists m = (0, omega arith, refl)
 key_numbered n key.Expunge m = (1, omega arith, refl)
 key_numbered n key.Fetch m = (2, omega arith, refl)
@@ -110,6 +119,64 @@ stray_to w no_key k m e = no_key (subst (Contains (keywords None)) (sym e) (key_
 flags_to : (flags : List (List ℕ)) (t : List ℕ) → IsFlagsLine flags t → IsBehind place.Plain key.Flags t
 flags_to flags t h = (h.1 ++ crlf, h.2, record { front = h.1; back = crlf; whole = refl; first = (h.0, h.3); second = refl })
 
+list_to : (attributes : List (List ℕ)) (delimiter : Option ℕ) (name t : List ℕ) → IsListLine attributes delimiter name t → IsBehind place.Plain key.List t
+list_to attributes delimiter name t h =
+    let after_name : NameLine (32 ∷ h.third ++ h.rest) = (h.third ++ h.rest, refl, record { front = h.third; back = h.rest; whole = refl; first = (h.string, h.spelled); second = h.ends }) in
+    let after_names : DelimiterLine (32 ∷ h.second ++ (32 ∷ h.third ++ h.rest)) = (h.second ++ (32 ∷ h.third ++ h.rest), refl, record { front = h.second; back = 32 ∷ h.third ++ h.rest; whole = refl; first = (delimiter, h.delimited); second = after_name }) in (
+      h.first ++ (32 ∷ h.second ++ (32 ∷ h.third ++ h.rest)),
+      h.whole,
+      record { front = h.first; back = 32 ∷ h.second ++ (32 ∷ h.third ++ h.rest); whole = refl; first = (h.told, h.names); second = after_names },
+    )
+
+list_from : (t : List ℕ) → IsBehind place.Plain key.List t → (attributes : List (List ℕ)) × (delimiter : Option ℕ) × (name : List ℕ) × IsListLine attributes delimiter name t
+list_from t b =
+    let d = b.2.second in
+    let n = d.2.second in (
+      kept b.2.first.0,
+      d.2.first.0,
+      folder_name n.2.first.0,
+      record {
+        told = b.2.first.0;
+        string = n.2.first.0;
+        first = b.2.front;
+        second = d.2.front;
+        third = n.2.front;
+        rest = n.2.back;
+        whole = b.1 ∙ ap (λ (u : List ℕ). 32 ∷ u) (b.2.whole ∙ ap (λ (u : List ℕ). b.2.front ++ u) (d.1 ∙ ap (λ (u : List ℕ). 32 ∷ u) (d.2.whole ∙ ap (λ (u : List ℕ). d.2.front ++ u) (n.1 ∙ ap (λ (u : List ℕ). 32 ∷ u) n.2.whole))));
+        names = b.2.first.1;
+        delimited = d.2.first.1;
+        spelled = n.2.first.1;
+        ends = n.2.second;
+        attributes_are = refl;
+        name_is = refl;
+      },
+    )
+
+status_to : (name : List ℕ) (items : StatusItems) (t : List ℕ) → IsStatusLine name items t → IsBehind place.Plain key.Status t
+status_to name items t h = (
+  h.first ++ 32 ∷ 40 ∷ h.rest,
+  h.whole,
+  record { front = h.first; back = 32 ∷ 40 ∷ h.rest; whole = refl; first = (h.string, h.spelled); second = (40 ∷ h.rest, refl, (h.rest, refl, (h.counts, h.counted))) },
+)
+
+status_from : (t : List ℕ) → IsBehind place.Plain key.Status t → (name : List ℕ) × (items : StatusItems) × IsStatusLine name items t
+status_from t b =
+    let c = b.2.second in (
+      folder_name b.2.first.0,
+      told_counts no_counts c.2.2.0,
+      record {
+        string = b.2.first.0;
+        counts = c.2.2.0;
+        first = b.2.front;
+        rest = c.2.0;
+        whole = b.1 ∙ ap (λ (u : List ℕ). 32 ∷ u) (b.2.whole ∙ ap (λ (u : List ℕ). b.2.front ++ u) (c.1 ∙ ap (λ (u : List ℕ). 32 ∷ u) c.2.1));
+        spelled = b.2.first.1;
+        counted = c.2.2.1;
+        name_is = refl;
+        items_are = refl;
+      },
+    )
+
 plain_says : (v : Response) (w tail t : List ℕ) → Says None v w tail t → WordSays place.Plain w tail t
 plain_says (response.Untagged status.Ok) w tail t h = inl (key.Ok, inl refl, h.0, h.1)
 plain_says (response.Untagged status.No) w tail t h = inl (key.No, inr (inl refl), h.0, h.1)
@@ -119,6 +186,8 @@ plain_says (response.Untagged status.Bye) w tail t h = inl (key.Bye, inr (inr (i
 plain_says (response.Capability ws) w tail t h = inl (key.Capability, inr (inr (inr (inr (inr (inl refl))))), h.0, (ws, h.1))
 plain_says (response.Enabled ws) w tail t h = inl (key.Enabled, inr (inr (inr (inr (inr (inr (inl refl)))))), h.0, (ws, h.1))
 plain_says (response.Flags flags) w tail t h = inl (key.Flags, inr (inr (inr (inr (inr (inr (inr (inl refl))))))), h.0, flags_to flags tail h.1)
+plain_says (response.List attributes delimiter name) w tail t h = inl (key.List, inr (inr (inr (inr (inr (inr (inr (inr (inr (inl refl))))))))), h.0, list_to attributes delimiter name tail h.1)
+plain_says (response.StatusItems name items) w tail t h = inl (key.Status, inr (inr (inr (inr (inr (inr (inr (inr (inr (inr (inl refl)))))))))), h.0, status_to name items tail h.1)
 plain_says (response.Vanished earlier uids) w tail t h = inl (key.Vanished, inr (inr (inr (inr (inr (inr (inr (inr (inl refl)))))))), h.0, (h.1.0, h.1.1, (earlier, uids.ranges, h.1.2)))
 plain_says response.Other w tail t h = inr (stray_to w h.0, (h.1.0, free_to h.1.0 t h.1.1))
 plain_says _ w tail t h = absurd h
@@ -148,6 +217,8 @@ said_by_key key.Bye w tail t e b = (response.Untagged status.Bye, (e, b))
 said_by_key key.Capability w tail t e b = (response.Capability b.0, (e, b.1))
 said_by_key key.Enabled w tail t e b = (response.Enabled b.0, (e, b.1))
 said_by_key key.Flags w tail t e b = let f = flags_from tail b in (response.Flags f.0, (e, f.1))
+said_by_key key.List w tail t e b = let l = list_from tail b in (response.List l.0 l.1 l.2, (e, l.3))
+said_by_key key.Status w tail t e b = let s = status_from tail b in (response.StatusItems s.0 s.1, (e, s.2))
 said_by_key key.Vanished w tail t e b = (response.Vanished b.2.0 (record { ranges = b.2.1 }), (e, (b.0, b.1, b.2.2)))
 said_by_key _ w tail t e b = absurd b
 

@@ -7,6 +7,8 @@ use Rattle.imap_automaton.specs.declared.sym.Line.TheVariants as line
 use Rattle.imap_automaton.specs.declared.sym.Free.TheVariants as free
 use Rattle.imap_automaton.specs.declared.sym.Item.TheVariants as item
 use Rattle.imap_automaton.specs.declared.sym.Names.TheVariants as names
+use Rattle.imap_automaton.specs.declared.sym.Value.TheVariants as value
+use Rattle.imap_automaton.specs.declared.sym.Folder.TheVariants as folder
 use Rattle.imap_automaton.specs.declared.sym.Sym.{Sym}
 use Rattle.imap_automaton.specs.declared.sym.Sym.TheVariants as sym
 use Rattle.imap_automaton.specs.declared.sym.Move.{Move}
@@ -31,6 +33,11 @@ begins_no_octets : (s : Sym) → begins s ≡ true → is_octets s ≡ false
 begins_no_octets (sym.Item item.More) b = refl
 begins_no_octets (sym.Names names.More) b = refl
 begins_no_octets (sym.Line (line.Fixed phrase.Close zero)) b = refl
+begins_no_octets (sym.Line (line.Fixed phrase.Crlf zero)) b = refl
+begins_no_octets (sym.Value (value.More w)) b = refl
+begins_no_octets (sym.Folder folder.ListEnd) b = refl
+begins_no_octets (sym.Folder folder.Counts) b = refl
+begins_no_octets (sym.Folder folder.MoreCounts) b = refl
 begins_no_octets _ b = absurd cc
 
 open_no_octets : (s : Sym) → ends_open s ≡ true → is_octets s ≡ false

@@ -15,6 +15,8 @@ use Rattle.imap_automaton.specs.declared.sym.Item.TheVariants as item
 use Rattle.imap_automaton.specs.declared.sym.Names.TheVariants as names
 use Rattle.imap_automaton.specs.declared.sym.Date.TheVariants as date
 use Rattle.imap_automaton.specs.declared.sym.Set.TheVariants as set
+use Rattle.imap_automaton.specs.declared.sym.Str.TheVariants as str
+use Rattle.imap_automaton.specs.declared.sym.Folder.TheVariants as folder
 use Rattle.imap_automaton.specs.declared.sym.Sym.{Sym}
 use Rattle.imap_automaton.specs.declared.sym.Sym.TheVariants as sym
 use Rattle.imap_automaton.specs.declared.sym.Move.{Move}
@@ -24,6 +26,8 @@ use Rattle.imap_automaton.specs.Keys.{key_text, keys, is_among, in_word, goes_on
 use Rattle.imap_automaton.specs.FreeRules.{text_rule}
 use Rattle.imap_automaton.specs.WordRules.{rest_rule, spaced_rule, end_rule, behind_key, stray, word_goes, word_ends, word_rule}
 use Rattle.imap_automaton.proofs.Langs.{FreeLang, ItemLang, NamesLang, SetLang, IsSpaced, Among, IsBehind, IsStray, WordSays, WordRest, Lang, After}
+use Rattle.imap_automaton.proofs.StringLangs.{StrLang}
+use Rattle.imap_automaton.proofs.FolderLangs.{FolderLang}
 use Rattle.imap_automaton.proofs.Lists.{cons_head, cons_tail, no_append}
 use Rattle.imap_automaton.proofs.Tests.{from_test, to_test, at_true, at_false, is_true_at, both, crlf_of, crlf_parts, mid}
 use Rattle.imap_automaton.proofs.DateEdges.{date_text, date_example, time_text, time_example, time_back, time_forth, time_none}
@@ -83,6 +87,8 @@ behind_back place.Plain key.Capability c t h = words_more_back c t h
 behind_back place.Plain key.Enabled c t h = words_more_back c t h
 behind_back place.Plain key.Flags c t h = spaced_move_back (move.Two (sym.Names names.Open) (sym.Line (line.Fixed phrase.Crlf 0))) c t h
 behind_back place.Plain key.Vanished c t h = spaced_back (sym.Set set.Open) c t h
+behind_back place.Plain key.List c t h = spaced_move_back (move.Two (sym.Names names.Open) (sym.Folder folder.Attributes)) c t h
+behind_back place.Plain key.Status c t h = spaced_move_back (move.Two (sym.Str str.AString) (sym.Folder folder.Counts)) c t h
 behind_back place.Numbered key.Exists c t h = end_back c t h
 behind_back place.Numbered key.Expunge c t h = end_back c t h
 behind_back place.Numbered key.Fetch c t h = spaced_back (sym.Item item.Open) c t h
@@ -107,6 +113,8 @@ behind_forth place.Plain key.Capability c t h = words_more_forth c t h
 behind_forth place.Plain key.Enabled c t h = words_more_forth c t h
 behind_forth place.Plain key.Flags c t h = spaced_move_forth (move.Two (sym.Names names.Open) (sym.Line (line.Fixed phrase.Crlf 0))) c t h
 behind_forth place.Plain key.Vanished c t h = spaced_forth (sym.Set set.Open) c t h
+behind_forth place.Plain key.List c t h = spaced_move_forth (move.Two (sym.Names names.Open) (sym.Folder folder.Attributes)) c t h
+behind_forth place.Plain key.Status c t h = spaced_move_forth (move.Two (sym.Str str.AString) (sym.Folder folder.Counts)) c t h
 behind_forth place.Numbered key.Exists c t h = end_forth c t h
 behind_forth place.Numbered key.Expunge c t h = end_forth c t h
 behind_forth place.Numbered key.Fetch c t h = spaced_forth (sym.Item item.Open) c t h
@@ -138,6 +146,8 @@ behind_none place.Plain key.Capability h = words_more_none h
 behind_none place.Plain key.Enabled h = words_more_none h
 behind_none place.Plain key.Flags h = spaced_none (Then (NamesLang names.Open) IsCrlf) h
 behind_none place.Plain key.Vanished h = spaced_none (SetLang set.Open) h
+behind_none place.Plain key.List h = spaced_none (Then (NamesLang names.Open) (FolderLang folder.Attributes)) h
+behind_none place.Plain key.Status h = spaced_none (Then (StrLang str.AString) (FolderLang folder.Counts)) h
 behind_none place.Numbered key.Exists h = let e : [] ≡ crlf = h in cc
 behind_none place.Numbered key.Expunge h = let e : [] ≡ crlf = h in cc
 behind_none place.Numbered key.Fetch h = spaced_none (ItemLang item.Open) h

@@ -13,6 +13,10 @@ use Rattle.imap_automaton.specs.declared.sym.Date.{Date}
 use Rattle.imap_automaton.specs.declared.sym.Date.TheVariants as date
 use Rattle.imap_automaton.specs.declared.sym.Set.{Set}
 use Rattle.imap_automaton.specs.declared.sym.Set.TheVariants as set
+use Rattle.imap_automaton.specs.declared.sym.Str.{Str}
+use Rattle.imap_automaton.specs.declared.sym.Str.TheVariants as str
+use Rattle.imap_automaton.specs.declared.sym.Value.{Value}
+use Rattle.imap_automaton.specs.declared.sym.Value.TheVariants as value
 use Rattle.imap_automaton.specs.declared.sym.Sym.{Sym}
 use Rattle.imap_automaton.specs.declared.sym.Sym.TheVariants as sym
 use Rattle.imap_automaton.specs.Keys.{key_text, phrase_text, keys, is_among}
@@ -48,6 +52,17 @@ abbrev pub SetFits : Set → Bool
 SetFits (set.Number value digits second) = ItemFits (item.Number value digits)
 SetFits _ = true
 
+abbrev pub StrFits : Str → Bool
+StrFits (str.Count value digits) = nat_le digits 8 && nat_le value 50000000 && (nat_lt 0 digits || value == 0)
+StrFits (str.Brace n) = nat_le n 50000000
+StrFits _ = true
+
+abbrev pub ValueFits : Value → Bool
+ValueFits value.Start = true
+ValueFits (value.First within) = nat_le within 63
+ValueFits (value.Next within) = nat_le within 63
+ValueFits (value.More within) = nat_le within 63
+
 abbrev pub SymFits : Sym → Bool
 SymFits (sym.Line s) = LineFits s
 SymFits (sym.Word place key at) = nat_le at (length (key_text key)) && is_among key (keys place)
@@ -57,3 +72,6 @@ SymFits (sym.Names s) = true
 SymFits (sym.Date s) = DateFits s
 SymFits (sym.Words s) = true
 SymFits (sym.Set s) = SetFits s
+SymFits (sym.Str s) = StrFits s
+SymFits (sym.Value s) = ValueFits s
+SymFits (sym.Folder s) = true

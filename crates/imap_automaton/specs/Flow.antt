@@ -7,13 +7,16 @@ use Rattle.imap_automaton.specs.declared.sym.Free.TheVariants as free
 use Rattle.imap_automaton.specs.declared.sym.Item.TheVariants as item
 use Rattle.imap_automaton.specs.declared.sym.Names.TheVariants as names
 use Rattle.imap_automaton.specs.declared.sym.Set.TheVariants as set
+use Rattle.imap_automaton.specs.declared.sym.Str.TheVariants as str
+use Rattle.imap_automaton.specs.declared.sym.Value.TheVariants as value
+use Rattle.imap_automaton.specs.declared.sym.Folder.TheVariants as folder
 use Rattle.imap_automaton.specs.declared.sym.Sym.{Sym}
 use Rattle.imap_automaton.specs.declared.sym.Sym.TheVariants as sym
 use Rattle.imap_automaton.specs.declared.sym.Move.{Move}
 use Rattle.imap_automaton.specs.declared.sym.Move.TheVariants as move
 use Rattle.imap_automaton.specs.Fits.{SymFits}
 
--- the last octets may be followed by nothing but a space or a closing bracket
+-- the last octets may be followed by nothing but a space, a closing bracket or a line's end
 abbrev pub ends_open : Sym → Bool
 ends_open (sym.Word place.Item key at) = true
 ends_open (sym.Item (item.Number value digits)) = true
@@ -21,17 +24,25 @@ ends_open (sym.Item (item.Long value digits)) = true
 ends_open (sym.Names names.Name) = true
 ends_open (sym.Names names.Atom) = true
 ends_open (sym.Names names.AtomRest) = true
+ends_open (sym.Str str.AString) = true
+ends_open (sym.Str str.AtomTilde) = true
+ends_open (sym.Value value.Start) = true
 ends_open _ = false
 
--- begins with a space or a closing bracket
+-- begins with a space, a closing bracket or a line's end
 abbrev pub begins : Sym → Bool
 begins (sym.Item item.More) = true
 begins (sym.Names names.More) = true
 begins (sym.Line (line.Fixed phrase.Close zero)) = true
+begins (sym.Line (line.Fixed phrase.Crlf zero)) = true
+begins (sym.Value (value.More within)) = true
+begins (sym.Folder folder.ListEnd) = true
+begins (sym.Folder folder.Counts) = true
+begins (sym.Folder folder.MoreCounts) = true
 begins _ = false
 
 abbrev pub stops : ℕ → Bool
-stops c = c == 32 || c == 41
+stops c = c == 32 || c == 41 || c == 13
 
 -- what follows the symbols begins so, `last` for the end
 abbrev pub first_begins : Bool → List Sym → Bool
@@ -68,6 +79,16 @@ need (sym.Names names.Open) = 2
 need (sym.Names names.First) = 2
 need (sym.Names names.More) = 2
 need (sym.Set set.Open) = 2
+need (sym.Value s) = 2
+need (sym.Folder folder.Attributes) = 3
+need (sym.Folder folder.Name) = 3
+need (sym.Folder folder.ListEnd) = 3
+need (sym.Folder folder.Counts) = 2
+need (sym.Folder folder.CountsOpen) = 2
+need (sym.Folder folder.FirstCount) = 2
+need (sym.Folder folder.Count) = 2
+need (sym.Folder folder.CountWord) = 2
+need (sym.Folder folder.MoreCounts) = 2
 need _ = 1
 
 abbrev pub move_needs : ℕ → Move → Bool
@@ -105,4 +126,5 @@ abbrev pub may_yield : Sym → Bool
 may_yield (sym.Item (item.Number value digits)) = true
 may_yield (sym.Item (item.Long value digits)) = true
 may_yield (sym.Names names.AtomRest) = true
+may_yield (sym.Str str.AtomTilde) = true
 may_yield _ = false

@@ -13,6 +13,8 @@ phrase_text phrase.Space = 32 ∷ []
 phrase_text phrase.Crlf = 13 ∷ 10 ∷ []
 phrase_text phrase.Earlier = codes "(earlier) "
 phrase_text phrase.Close = 41 ∷ []
+phrase_text phrase.Quote = 34 ∷ []
+phrase_text phrase.Nil = codes "nil"
 
 -- in lower case
 abbrev pub key_text : Key → List ℕ
@@ -24,6 +26,8 @@ key_text key.Bye = codes "bye"
 key_text key.Capability = codes "capability"
 key_text key.Enabled = codes "enabled"
 key_text key.Vanished = codes "vanished"
+key_text key.List = codes "list"
+key_text key.Status = codes "status"
 key_text key.Exists = codes "exists"
 key_text key.Expunge = codes "expunge"
 key_text key.Fetch = codes "fetch"
@@ -48,7 +52,7 @@ key_text key.Dec = codes "dec"
 -- the words that count in a place
 abbrev pub keys : Place → List Key
 keys place.Tagged = key.Ok ∷ key.No ∷ key.Bad ∷ []
-keys place.Plain = key.Ok ∷ key.No ∷ key.Bad ∷ key.Preauth ∷ key.Bye ∷ key.Capability ∷ key.Enabled ∷ key.Flags ∷ key.Vanished ∷ []
+keys place.Plain = key.Ok ∷ key.No ∷ key.Bad ∷ key.Preauth ∷ key.Bye ∷ key.Capability ∷ key.Enabled ∷ key.Flags ∷ key.Vanished ∷ key.List ∷ key.Status ∷ []
 keys place.Numbered = key.Exists ∷ key.Expunge ∷ key.Fetch ∷ []
 keys place.Item = key.Uid ∷ key.Flags ∷ key.ModSeq ∷ key.InternalDate ∷ key.Size ∷ []
 keys place.Month = key.Jan ∷ key.Feb ∷ key.Mar ∷ key.Apr ∷ key.May ∷ key.Jun ∷ key.Jul ∷ key.Aug ∷ key.Sep ∷ key.Oct ∷ key.Nov ∷ key.Dec ∷ []

@@ -8,6 +8,9 @@ pub mod WordRules
 pub mod FreeRules
 pub mod ItemRules
 pub mod NamesRules
+pub mod StringRules
+pub mod ValueRules
+pub mod FolderRules
 pub mod Rules
 pub mod Fits
 pub mod Run

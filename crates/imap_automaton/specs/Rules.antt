@@ -10,6 +10,9 @@ use Rattle.imap_automaton.specs.ItemRules.{item_rule}
 use Rattle.imap_automaton.specs.NamesRules.{names_rule}
 use Rattle.imap_automaton.specs.DateRules.{date_rule}
 use Rattle.imap_automaton.specs.SetRules.{words_rule, set_rule}
+use Rattle.imap_automaton.specs.StringRules.{string_rule}
+use Rattle.imap_automaton.specs.ValueRules.{value_rule}
+use Rattle.imap_automaton.specs.FolderRules.{folder_rule}
 
 abbrev pub rule_of : Sym → ℕ → Move
 rule_of (sym.Line s) c = line_rule s c
@@ -20,3 +23,6 @@ rule_of (sym.Names s) c = names_rule s c
 rule_of (sym.Date s) c = date_rule s c
 rule_of (sym.Words s) c = words_rule s c
 rule_of (sym.Set s) c = set_rule s c
+rule_of (sym.Str s) c = string_rule s c
+rule_of (sym.Value s) c = value_rule s c
+rule_of (sym.Folder s) c = folder_rule s c

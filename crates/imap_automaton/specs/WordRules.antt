@@ -11,6 +11,8 @@ use Rattle.imap_automaton.specs.declared.sym.Item.TheVariants as item
 use Rattle.imap_automaton.specs.declared.sym.Names.TheVariants as names
 use Rattle.imap_automaton.specs.declared.sym.Date.TheVariants as date
 use Rattle.imap_automaton.specs.declared.sym.Set.TheVariants as set
+use Rattle.imap_automaton.specs.declared.sym.Str.TheVariants as str
+use Rattle.imap_automaton.specs.declared.sym.Folder.TheVariants as folder
 use Rattle.imap_automaton.specs.declared.sym.Sym.TheVariants as sym
 use Rattle.imap_automaton.specs.declared.sym.Move.{Move}
 use Rattle.imap_automaton.specs.declared.sym.Move.TheVariants as move
@@ -48,6 +50,8 @@ behind_key place.Plain key.Capability c = words_more c
 behind_key place.Plain key.Enabled c = words_more c
 behind_key place.Plain key.Flags c = spaced_rule (move.Two (sym.Names names.Open) (sym.Line (line.Fixed phrase.Crlf 0))) c
 behind_key place.Plain key.Vanished c = spaced_rule (move.One (sym.Set set.Open)) c
+behind_key place.Plain key.List c = spaced_rule (move.Two (sym.Names names.Open) (sym.Folder folder.Attributes)) c
+behind_key place.Plain key.Status c = spaced_rule (move.Two (sym.Str str.AString) (sym.Folder folder.Counts)) c
 behind_key place.Numbered key.Exists c = end_rule c
 behind_key place.Numbered key.Expunge c = end_rule c
 behind_key place.Numbered key.Fetch c = spaced_rule (move.One (sym.Item item.Open)) c

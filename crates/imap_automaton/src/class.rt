@@ -30,6 +30,12 @@ pub fn is_word(c: u16) -> bool
     33 <= c && c <= 126
 }
 
+pub fn is_status_word(c: u16) -> bool
+    ensures { result ≡ octets.is_status_word c }
+{
+    is_word(c) && c != b'(' as u16 && c != b')' as u16
+}
+
 pub fn is_atom(c: u16) -> bool
     ensures { result ≡ octets.is_atom c }
 {

@@ -3,6 +3,7 @@
 
 mod class;
 mod date_rule;
+mod folder_rule;
 mod free_rule;
 mod item_rule;
 mod line_rule;
@@ -10,9 +11,13 @@ mod names_rule;
 mod set_rule;
 mod stack;
 mod step;
+mod string_rule;
 mod sym;
+mod value_rule;
 mod word_rule;
 
 pub use stack::Stack;
 pub use step::advance;
-pub use sym::{Date, Free, Item, Key, Line, Move, Names, Pending, Phrase, Place, Set, Sym, Words};
+pub use sym::{
+    Date, Folder, Free, Item, Key, Line, Move, Names, Pending, Phrase, Place, Set, Str, Sym, Value, Words,
+};

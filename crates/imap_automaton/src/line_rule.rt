@@ -21,6 +21,8 @@ fn phrase_text(phrase: Phrase) -> &'static [u8]
         Phrase::Crlf => b"\r\n",
         Phrase::Earlier => b"(earlier) ",
         Phrase::Close => b")",
+        Phrase::Quote => b"\"",
+        Phrase::Nil => b"nil",
     }
 }
 

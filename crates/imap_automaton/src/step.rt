@@ -7,13 +7,16 @@ ghost use Rattle.imap_automaton.specs.Flow.{CanStep};
 ghost use Rattle.imap_automaton.specs.Symbols.{symbols_of};
 
 use crate::date_rule::date_rule;
+use crate::folder_rule::folder_rule;
 use crate::free_rule::free_rule;
 use crate::item_rule::item_rule;
 use crate::line_rule::line_rule;
 use crate::names_rule::names_rule;
 use crate::set_rule::{set_rule, words_rule};
 use crate::stack::Stack;
+use crate::string_rule::string_rule;
 use crate::sym::{Move, Sym};
+use crate::value_rule::value_rule;
 use crate::word_rule::word_rule;
 
 fn rule(sym: Sym, c: u16) -> Move
@@ -29,6 +32,9 @@ fn rule(sym: Sym, c: u16) -> Move
         Sym::Date(date) => date_rule(date, c),
         Sym::Words(words) => words_rule(words, c),
         Sym::Set(set) => set_rule(set, c),
+        Sym::Str(string) => string_rule(string, c),
+        Sym::Value(value) => value_rule(value, c),
+        Sym::Folder(folder) => folder_rule(folder, c),
     }
 }
 

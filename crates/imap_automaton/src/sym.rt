@@ -7,6 +7,8 @@ pub enum Phrase {
     Crlf,
     Earlier,
     Close,
+    Quote,
+    Nil,
 }
 
 /// A word by which a reader decides.
@@ -20,6 +22,8 @@ pub enum Key {
     Capability,
     Enabled,
     Vanished,
+    List,
+    Status,
     Exists,
     Expunge,
     Fetch,
@@ -151,6 +155,65 @@ pub enum Names {
     AtomRest,
 }
 
+/// Within a string.
+#[derive(Clone, Copy)]
+pub enum Str {
+    /// Before NIL, a quoted text or a literal.
+    NString,
+    /// Before an atom, a quoted text or a literal.
+    AString,
+    /// Behind the opening quote of a quoted text.
+    Quoted,
+    /// Behind a `\` of a quoted text.
+    Escaped,
+    /// Behind the `~` of a literal.
+    Tilde,
+    /// Behind a `~` that begins an atom or a literal.
+    AtomTilde,
+    /// Within a literal's count, its value so far and how many digits it has.
+    Count(u32, u8),
+    /// Behind the count of a literal of so many octets.
+    Brace(u32),
+}
+
+/// Within a value.
+#[derive(Clone, Copy)]
+pub enum Value {
+    Start,
+    /// Behind an opening bracket that stands within so many others.
+    First(u8),
+    /// Before a value in a bracket that stands within so many others.
+    Next(u8),
+    /// Behind a value in a bracket that stands within so many others.
+    More(u8),
+}
+
+/// Within a LIST or a STATUS.
+#[derive(Clone, Copy)]
+pub enum Folder {
+    /// Behind the attributes.
+    Attributes,
+    Delimiter,
+    /// Behind the opening quote of a delimiter.
+    DelimiterOctet,
+    /// Behind a `\` of a delimiter.
+    DelimiterEscaped,
+    /// Behind the delimiter.
+    Name,
+    /// Behind the name of a LIST.
+    ListEnd,
+    /// Behind the name of a STATUS.
+    Counts,
+    CountsOpen,
+    FirstCount,
+    /// Before a word and its number.
+    Count,
+    /// Within the word of a count, behind its first octet.
+    CountWord,
+    /// Behind a count.
+    MoreCounts,
+}
+
 /// What is still to come: a place within a rule of the grammar.
 #[derive(Clone, Copy)]
 pub enum Sym {
@@ -163,6 +226,9 @@ pub enum Sym {
     Date(Date),
     Words(Words),
     Set(Set),
+    Str(Str),
+    Value(Value),
+    Folder(Folder),
 }
 
 /// What an octet does to the first symbol.

@@ -7,7 +7,9 @@ use crate::class::{CR, is_atom, is_word, lower};
 use crate::date_rule::time_rule;
 use crate::free_rule::text_rule;
 use crate::set_rule::words_more;
-use crate::sym::{Date, Item, Key, Line, Move, Names, Pending, Phrase, Place, Set, Sym};
+use crate::sym::{
+    Date, Folder, Item, Key, Line, Move, Names, Pending, Phrase, Place, Set, Str, Sym,
+};
 
 /// The word in lower case.
 fn key_text(key: Key) -> &'static [u8]
@@ -22,6 +24,8 @@ fn key_text(key: Key) -> &'static [u8]
         Key::Capability => b"capability",
         Key::Enabled => b"enabled",
         Key::Vanished => b"vanished",
+        Key::List => b"list",
+        Key::Status => b"status",
         Key::Exists => b"exists",
         Key::Expunge => b"expunge",
         Key::Fetch => b"fetch",
@@ -47,7 +51,7 @@ fn key_text(key: Key) -> &'static [u8]
 
 static TAGGED_KEYS: [Key; 3] = [Key::Ok, Key::No, Key::Bad];
 
-static LINE_KEYS: [Key; 9] = [
+static LINE_KEYS: [Key; 11] = [
     Key::Ok,
     Key::No,
     Key::Bad,
@@ -57,6 +61,8 @@ static LINE_KEYS: [Key; 9] = [
     Key::Enabled,
     Key::Flags,
     Key::Vanished,
+    Key::List,
+    Key::Status,
 ];
 
 static NUMBERED_KEYS: [Key; 3] = [Key::Exists, Key::Expunge, Key::Fetch];
@@ -234,6 +240,22 @@ fn flags_rule(c: u16) -> Move
     )
 }
 
+fn list_rule(c: u16) -> Move
+    ensures { result ≡ rules.behind_key Place.Plain Key.List c }
+{
+    spaced_pair_rule(
+        Sym::Names(Names::Open),
+        Sym::Folder(Folder::Attributes),
+        c,
+    )
+}
+
+fn status_rule(c: u16) -> Move
+    ensures { result ≡ rules.behind_key Place.Plain Key.Status c }
+{
+    spaced_pair_rule(Sym::Str(Str::AString), Sym::Folder(Folder::Counts), c)
+}
+
 /// Behind a word that is a key.
 fn behind_key(place: Place, key: Key, c: u16) -> Move
     ensures { result ≡ rules.behind_key place key c }
@@ -251,6 +273,8 @@ fn behind_key(place: Place, key: Key, c: u16) -> Move
         (Place::Plain, Key::Enabled) => words_more(c),
         (Place::Plain, Key::Flags) => flags_rule(c),
         (Place::Plain, Key::Vanished) => spaced_rule(Sym::Set(Set::Open), c),
+        (Place::Plain, Key::List) => list_rule(c),
+        (Place::Plain, Key::Status) => status_rule(c),
         (Place::Numbered, Key::Exists) => end_rule(c),
         (Place::Numbered, Key::Expunge) => end_rule(c),
         (Place::Numbered, Key::Fetch) => spaced_rule(Sym::Item(Item::Open), c),

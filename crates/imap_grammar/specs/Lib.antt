@@ -1,5 +1,8 @@
 pub mod Scan
 pub mod Fed
 pub mod DateReading
+pub mod Spans
+pub mod StringReading
+pub mod FolderReading
 pub mod Reading
 pub mod Written

@@ -10,7 +10,7 @@ use std::alloc::{AllocError, Global};
 use std::test::Fail;
 
 /// The value of the response at the front, if there is one.
-fn read(alloc: Global, bytes: &[u8]) -> Result<Option<Response>, AllocError> {
+pub fn read(alloc: Global, bytes: &[u8]) -> Result<Option<Response>, AllocError> {
     match scan(bytes) {
         Scan::Whole(n) => {
             let (front, _) = bytes.split_at(n);
@@ -48,7 +48,7 @@ fn is_other(alloc: Global, bytes: &[u8]) -> Result<bool, AllocError> {
 }
 
 /// The names with a space before each, or `-` for none told.
-fn joined(alloc: Global, names: &Option<Names>) -> Result<Vec<u8>, AllocError> {
+pub fn joined(alloc: Global, names: &Option<Names>) -> Result<Vec<u8>, AllocError> {
     let mut out = Vec::new(alloc);
     match names {
         None => out.push(b'-')?,

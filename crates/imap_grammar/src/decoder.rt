@@ -8,6 +8,8 @@ ghost use Rattle.imap_grammar.specs.Reading as reading;
 
 use crate::date_times::date_in;
 use crate::flags::flags_in;
+use crate::folders;
+use crate::folders::list_in;
 use crate::octets::{
     before, behind, digits_len, is_key, is_sequence, long_of, name_len, number_of, octet_at,
     word_len,
@@ -257,6 +259,10 @@ fn told(alloc: Global, word: &[u8], tail: &[u8]) -> Result<Response, AllocError>
         Ok(Response::Flags(flags))
     } else if is_key(word, b"vanished") {
         vanished_in(alloc, behind(tail, 1))
+    } else if is_key(word, b"list") {
+        list_in(alloc, tail)
+    } else if is_key(word, b"status") {
+        folders::status_in(alloc, tail)
     } else {
         Ok(Response::Other)
     }

@@ -48,7 +48,7 @@ fn names_of(alloc: Global, set: BTreeSet<Vec<u8>>) -> Result<Names, AllocError>
 }
 
 /// The names up to the closing bracket, and what follows it.
-#[tactic(auto, unfolding(crate::specs::Reading::names_in))]
+#[tactic(auto, unfolding(crate::specs::Spans::names_in))]
 fn names_in(alloc: Global, bytes: &[u8]) -> Result<(BTreeSet<Vec<u8>>, &[u8]), AllocError>
     ensures names { IfOk result (λ r. map (λ v. v.items) r.0.keys ≡ (reading.names_in (length bytes.now) [] bytes.now).0) }
     ensures rest { IfOk result (λ r. r.1.now ≡ (reading.names_in (length bytes.now) [] bytes.now).1) }
@@ -71,7 +71,7 @@ fn names_in(alloc: Global, bytes: &[u8]) -> Result<(BTreeSet<Vec<u8>>, &[u8]), A
 }
 
 /// The flags in kept form from behind the opening bracket on, and what follows the closing one.
-#[tactic(auto, unfolding(crate::specs::Reading::flags_in))]
+#[tactic(auto, unfolding(crate::specs::Spans::flags_in))]
 pub fn flags_in(alloc: Global, bytes: &[u8]) -> Result<(Names, &[u8]), AllocError>
     ensures flags { IfOk result (λ r. r.0 ≡ (reading.flags_in bytes.now).0) }
     ensures rest { IfOk result (λ r. r.1.now ≡ (reading.flags_in bytes.now).1) }

@@ -9,14 +9,18 @@ mod dates;
 mod decode_tests;
 mod decoder;
 mod flags;
+#[cfg(test)]
+mod folder_tests;
+mod folders;
 mod octets;
 #[cfg(test)]
 mod scan_tests;
 mod scanner;
 mod sets;
+mod strings;
 
 pub use answer::Scan;
 pub use commands::write_command;
 pub use decoder::{decode, no_spelling_within, one_value};
-pub use imap_syntax::{Command, FetchItems, Response, Status, UidRange, UidSet};
+pub use imap_syntax::{Command, FetchItems, Response, Status, StatusItems, UidRange, UidSet};
 pub use scanner::{Scanner, one_answer, scan};

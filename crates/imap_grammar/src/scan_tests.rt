@@ -4,7 +4,7 @@ use crate::scanner::{Scanner, scan};
 use std::test::Fail;
 
 /// The answer to the octets, fed one at a time.
-fn fed(bytes: &[u8]) -> Scan {
+pub fn fed(bytes: &[u8]) -> Scan {
     let mut scanner = Scanner::new();
     for octet in bytes {
         let answer = scanner.feed(&[*octet]);

@@ -1,7 +1,5 @@
 -- Sets of UIDs: what they hold.
-use Rattle.std.proofs.Common.{◌≡◌, ℕ, ◌<◌, List, length, refl, sym, ap, subst, ◌∙◌, All, slice_index_or}
-use Rattle.std.specs.Prelude.{◌↔◌}
-use Rattle.std.specs.List.{Any}
+use Rattle.std.proofs.Common.{◌≡◌, ℕ, ◌<◌, List, length, refl, sym, subst, ◌∙◌, All, slice_index_or}
 use Rattle.std.proofs.lemmas.List.{get_or_default}
 use Rattle.imap_syntax.specs.declared.uid_set.UidRange.{UidRange}
 use Rattle.imap_syntax.specs.UidSets.{InRange, IsWithin, Holds, HoldsOnly}

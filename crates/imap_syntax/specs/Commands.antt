@@ -1,22 +1,15 @@
 -- The texts of commands (RFC 9051 section 6, RFC 7162 section 3.2).
-use Rattle.std.specs.Prelude.{ℕ, ℤ, Bool, ◌&&◌, ◌||◌, nat_le, ◌==◌, if◌then◌else◌, List, [], ◌∷◌, ◌++◌, length, codes, Option, Some, None, bytes_eq}
+use Rattle.std.specs.Prelude.{ℕ, ℤ, Bool, ◌&&◌, nat_le, if◌then◌else◌, List, [], ◌∷◌, ◌++◌, length, codes, Option, Some, None, bytes_eq}
 use Rattle.std.specs.List.{list_all}
 use Rattle.std.specs.Fmt.{decimal}
 use Rattle.imap_syntax.specs.declared.command.Command.{Command}
 use Rattle.imap_syntax.specs.declared.command.Command.TheVariants.{Capability, Login, Enable, List as ListFolders, Select, Unselect, FetchFlags, FetchSlice, FetchNew, FetchBody, Store, Move, Expunge, Append, Create, Delete, Rename, Subscribe}
 use Rattle.imap_syntax.specs.Texts.{Each, crlf}
+pub use Rattle.imap_syntax.specs.Strings.{escaped, quoted}
 use Rattle.imap_syntax.specs.Dates.{date_text}
 
 abbrev pub tag_of : ℕ → List ℕ
 tag_of n = 97 ∷ decimal n
-
--- `\` before each `"` and `\`
-abbrev pub escaped : List ℕ → List ℕ
-escaped [] = []
-escaped (c ∷ t) = if c == 34 || c == 92 then 92 ∷ c ∷ escaped t else c ∷ escaped t
-
-abbrev pub quoted : List ℕ → List ℕ
-quoted t = 34 ∷ escaped t ++ 34 ∷ []
 
 -- ---- flags
 

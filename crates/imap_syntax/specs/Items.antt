@@ -1,5 +1,5 @@
 -- The items of a FETCH response (RFC 9051 section 7.5.2), and what they tell together.
-use Rattle.std.specs.Prelude.{◌≡◌, ◌⊎◌, ℕ, ◌<◌, if◌then◌else◌, List, [], ◌∷◌, ◌++◌, length, map, codes, bytes_eq, Option, Some, None, ℤ}
+use Rattle.std.specs.Prelude.{◌≡◌, ◌⊎◌, ℕ, if◌then◌else◌, List, [], ◌∷◌, ◌++◌, map, codes, bytes_eq, Some, None, ℤ}
 use Rattle.std.specs.Ordering.{nat_cmp}
 use Rattle.std.specs.Cmp.Lexicographic.{slice_cmp}
 use Rattle.std.specs.BTreeSet.{insert_key}
@@ -7,13 +7,11 @@ use Rattle.imap_syntax.specs.declared.response.FetchItems.{FetchItems}
 use Rattle.imap_syntax.specs.Octets.{is_atom, lower}
 use Rattle.imap_syntax.specs.Texts.{Each, Then, crlf}
 use Rattle.imap_syntax.specs.Numbers.{IsNonZero, IsLong}
-use Rattle.imap_syntax.specs.Lines.{spaced}
+pub use Rattle.imap_syntax.specs.Lines.{joined}
+pub use Rattle.imap_syntax.specs.Strings.{IsAtom}
 use Rattle.imap_syntax.specs.DateTimes.{IsDateTime}
 
 -- ---- names
-
-abbrev pub IsAtom : List ℕ → Type 0
-IsAtom t = Each is_atom t × (0 < length t)
 
 -- name = ["\"] atom
 abbrev pub IsName : List ℕ → Type 0
@@ -22,11 +20,6 @@ IsName t = IsAtom t ⊎ ((atom : List ℕ) × (t ≡ 92 ∷ atom) × IsAtom atom
 abbrev pub AllNames : List (List ℕ) → Type 0
 AllNames [] = Unit {0}
 AllNames (n ∷ ns) = IsName n × AllNames ns
-
--- a space between two
-abbrev pub joined : List (List ℕ) → List ℕ
-joined [] = []
-joined (n ∷ ns) = n ++ spaced ns
 
 -- names = "(" [name *(SP name)] ")"
 abbrev pub IsNames : List (List ℕ) → List ℕ → Type 0

@@ -3,9 +3,12 @@ pub mod Texts
 pub mod Numbers
 pub mod UidSets
 pub mod Lines
+pub mod Strings
+pub mod Values
 pub mod Dates
 pub mod DateTimes
 pub mod Items
+pub mod Folders
 pub mod Free
 pub mod Spells
 pub mod Commands

@@ -53,6 +53,11 @@ abbrev pub spaced : List (List ℕ) → List ℕ
 spaced [] = []
 spaced (w ∷ ws) = 32 ∷ w ++ spaced ws
 
+-- a space between two
+abbrev pub joined : List (List ℕ) → List ℕ
+joined [] = []
+joined (w ∷ ws) = w ++ spaced ws
+
 -- *(SP word) CRLF
 abbrev pub IsWords : List (List ℕ) → List ℕ → Type 0
 IsWords ws t = AllPrinted ws × (t ≡ spaced ws ++ crlf)

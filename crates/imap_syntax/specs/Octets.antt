@@ -16,6 +16,10 @@ is_text c = nat_lt 0 c && nat_lt c 256 && not (c == 13) && not (c == 10)
 abbrev pub is_word : ℕ → Bool
 is_word c = nat_le 33 c && nat_le c 126
 
+-- an octet of a word of a STATUS
+abbrev pub is_status_word : ℕ → Bool
+is_status_word c = is_word c && not (c == 40) && not (c == 41)
+
 -- an octet of a word other than `(`, `)`, `{`, `"`, `\`
 abbrev pub is_atom : ℕ → Bool
 is_atom c = is_word c && not (c == 40) && not (c == 41) && not (c == 123) && not (c == 34) && not (c == 92)

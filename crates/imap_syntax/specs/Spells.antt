@@ -4,6 +4,8 @@
 --            / "+" *text CRLF
 --            / "*" SP ("OK" / "NO" / "BAD" / "PREAUTH" / "BYE") rest CRLF
 --            / "*" SP ("CAPABILITY" / "ENABLED") *(SP word) CRLF
+--            / "*" SP "LIST" SP names SP (quoted / "NIL") SP astring [SP value] CRLF
+--            / "*" SP "STATUS" SP astring SP "(" [word SP long *(SP word SP long)] ")" CRLF
 --            / "*" SP "FLAGS" SP names CRLF
 --            / "*" SP "VANISHED" SP ["(EARLIER)" SP] set CRLF
 --            / "*" SP num SP ("EXISTS" / "EXPUNGE") CRLF
@@ -11,7 +13,7 @@
 --            / "*" SP other CRLF
 use Rattle.std.specs.Prelude.{◌≡◌, ◌≢◌, ◌⊎◌, ℕ, ◌≤◌, false, List, [], ◌∷◌, ◌++◌, map, get_or, codes, Contains, Option, Some, None}
 use Rattle.imap_syntax.specs.declared.response.Response.{Response}
-use Rattle.imap_syntax.specs.declared.response.Response.TheVariants.{Tagged, Untagged, Continue, Capability, Enabled, Flags, Exists, Expunge, Fetch, Vanished, Other}
+use Rattle.imap_syntax.specs.declared.response.Response.TheVariants.{Tagged, Untagged, Continue, Capability, Enabled, List as Listing, StatusItems as Counts, Flags, Exists, Expunge, Fetch, Vanished, Other}
 use Rattle.imap_syntax.specs.Octets.{is_word, lower}
 use Rattle.imap_syntax.specs.declared.response.FetchItems.{FetchItems}
 use Rattle.imap_syntax.specs.Texts.{Each, plain, outside, limit, crlf, IsCrlf}
@@ -19,11 +21,12 @@ use Rattle.imap_syntax.specs.Numbers.{IsNumber}
 use Rattle.imap_syntax.specs.Lines.{word_of, IsLine, IsRest, IsTagged, IsWords}
 use Rattle.imap_syntax.specs.UidSets.{IsVanished}
 use Rattle.imap_syntax.specs.Items.{Item, IsNames, IsItems, kept, items_of}
+use Rattle.imap_syntax.specs.Folders.{IsListLine, IsStatusLine}
 use Rattle.imap_syntax.specs.Free.{IsFree}
 
 -- the words with which no other response begins, behind the number or none
 abbrev pub keywords : Option ℕ → List (List ℕ)
-keywords None = codes "ok" ∷ codes "no" ∷ codes "bad" ∷ codes "preauth" ∷ codes "bye" ∷ codes "capability" ∷ codes "enabled" ∷ codes "flags" ∷ codes "vanished" ∷ []
+keywords None = codes "ok" ∷ codes "no" ∷ codes "bad" ∷ codes "preauth" ∷ codes "bye" ∷ codes "capability" ∷ codes "enabled" ∷ codes "flags" ∷ codes "vanished" ∷ codes "list" ∷ codes "status" ∷ []
 keywords (Some n) = codes "exists" ∷ codes "expunge" ∷ codes "fetch" ∷ []
 
 -- SP names CRLF
@@ -39,6 +42,8 @@ abbrev pub Says : Option ℕ → Response → List ℕ → List ℕ → List ℕ
 Says None (Untagged status) word tail line = (word ≡ word_of status) × IsRest tail
 Says None (Capability words) word tail line = (word ≡ codes "capability") × IsWords words tail
 Says None (Enabled words) word tail line = (word ≡ codes "enabled") × IsWords words tail
+Says None (Listing attributes delimiter name) word tail line = (word ≡ codes "list") × IsListLine attributes delimiter name tail
+Says None (Counts name items) word tail line = (word ≡ codes "status") × IsStatusLine name items tail
 Says None (Flags flags) word tail line = (word ≡ codes "flags") × IsFlagsLine flags tail
 Says None (Vanished earlier uids) word tail line = (word ≡ codes "vanished") × ((rest : List ℕ) × (tail ≡ 32 ∷ rest) × IsVanished earlier uids.ranges rest)
 Says (Some n) (Exists count) word tail line = (count ≡ n) × (word ≡ codes "exists") × IsCrlf tail

@@ -7,5 +7,5 @@ mod response;
 mod uid_set;
 
 pub use command::Command;
-pub use response::{FetchItems, Response, Status};
+pub use response::{FetchItems, Response, Status, StatusItems};
 pub use uid_set::{UidRange, UidSet};

@@ -26,6 +26,16 @@ pub struct FetchItems {
     pub size: Option<u64>,
 }
 
+/// The items of a STATUS response, of each the last one told.
+#[derive(Clone, Copy, Debug, PartialEq, Drop)]
+pub struct StatusItems {
+    pub messages: Option<u32>,
+    pub uid_next: Option<u32>,
+    pub uid_validity: Option<u32>,
+    /// The greatest mod-sequence (RFC 7162 section 3.1.2.1).
+    pub modseq: Option<u64>,
+}
+
 /// What one response says.
 #[derive(Debug, PartialEq, Drop)]
 pub enum Response {
@@ -37,6 +47,16 @@ pub enum Response {
     Capability(Names),
     /// The words as they were told.
     Enabled(Names),
+    /// A folder. A name that is INBOX in letters of any case is `INBOX`.
+    List {
+        /// In kept form, as flags.
+        attributes: Names,
+        /// None where folders have no hierarchy.
+        delimiter: Option<u8>,
+        name: Bytes,
+    },
+    /// Counts of a folder, whose name is as in a LIST.
+    StatusItems { name: Bytes, items: StatusItems },
     /// In kept form, as in a FETCH.
     Flags(Names),
     Exists(u32),
