@@ -5,6 +5,7 @@ pub mod UidSets
 pub mod Lines
 pub mod Strings
 pub mod Values
+pub mod ItemNames
 pub mod Dates
 pub mod DateTimes
 pub mod Items
