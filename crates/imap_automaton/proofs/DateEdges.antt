@@ -1,7 +1,7 @@
 -- One octet at a date.
-use Rattle.std.proofs.Common.{◌≡◌, ◌⊎◌, ℕ, zero, suc, ◌+◌, ◌-◌, ◌<◌, ◌≤◌, Bool, true, false, ◌&&◌, ◌||◌, ℤ, List, [], ◌∷◌, ◌++◌, length, map, drop, get_or, cond, refl, sym, ap, subst, ◌∙◌, arith, inl, inr}
+use Rattle.std.proofs.Common.{◌≡◌, ℕ, zero, suc, ◌+◌, ◌<◌, ◌≤◌, Bool, true, false, ◌&&◌, ℤ, List, [], ◌∷◌, ◌++◌, length, map, drop, get_or, cond, refl, sym, ap, subst, ◌∙◌, arith, inl, inr}
 use Rattle.std.specs.Prelude.{◌==◌, nat_lt, nat_le, codes}
-use Rattle.std.proofs.lemmas.Bool.{eqb-true, eqb-false, ltb-true, and_parts, and_from, lt-ltb, eq-eqb, cond-false}
+use Rattle.std.proofs.lemmas.Bool.{eqb-true, ltb-true, and_parts, and_from, lt-ltb, eq-eqb, cond-false}
 use Rattle.std.proofs.lemmas.List.{length-drop}
 use Rattle.imap_automaton.specs.declared.sym.Key.{Key}
 use Rattle.imap_automaton.specs.declared.sym.Key.TheVariants as key
@@ -17,7 +17,7 @@ use Rattle.imap_automaton.proofs.Langs.{Places, TimeRest, Among, WordSays, WordR
 use Rattle.imap_automaton.proofs.Lists.{cons_head, cons_tail, no_append}
 use Rattle.imap_automaton.proofs.Tests.{from_test, to_test, at_true}
 use Rattle.imap_automaton.proofs.KeyLemmas.{is_key_octet, key_octets, key_octet_month, key_some}
-use Rattle.imap_automaton.proofs.DateForms.{starts_day, is_sign, two, four, time_of, zone_of, DateOctets, octets_of, of_octets}
+use Rattle.imap_automaton.proofs.DateForms.{starts_day, is_sign, two, four, time_of, zone_of, octets_of, of_octets}
 use Rattle.imap_syntax.specs.Octets.{is_digit, lower}
 use Rattle.imap_syntax.specs.Texts.{Each}
 use Rattle.imap_syntax.specs.Dates.{month_name}
@@ -233,39 +233,39 @@ date_from t h =
     let s : ℤ = seconds_of (four o.y1 o.y2 o.y3 o.y4) m.month (two d.d1 d.d2) (time_of (two o.h1 o.h2) (two o.m1 o.m2) (two o.s1 o.s2)) (o.sign == 43) (zone_of (two o.z1 o.z2) (two o.z3 o.z4)) in (
       s,
       of_octets s (34 ∷ t)
-      (record {
-        d1 = d.d1;
-        d2 = d.d2;
-        month = m.month;
-        name = m.name;
-        y1 = o.y1;
-        y2 = o.y2;
-        y3 = o.y3;
-        y4 = o.y4;
-        h1 = o.h1;
-        h2 = o.h2;
-        m1 = o.m1;
-        m2 = o.m2;
-        s1 = o.s1;
-        s2 = o.s2;
-        sign = o.sign;
-        z1 = o.z1;
-        z2 = o.z2;
-        z3 = o.z3;
-        z4 = o.z4;
-        whole = ap (λ (u : List ℕ). 34 ∷ u) (h.whole ∙ ap (λ (u : List ℕ). u ++ h.back) d.whole ∙ ap (λ (u : List ℕ). d.d1 ∷ d.d2 ∷ 45 ∷ u) (m.whole ∙ ap (λ (u : List ℕ). m.name ++ u) o.whole));
-        starts = d.starts;
-        digit = d.digit;
-        month_is = m.month_is;
-        year_digits = o.year_digits;
-        hour_digits = o.hour_digits;
-        minute_digits = o.minute_digits;
-        second_digits = o.second_digits;
-        is_signed = o.is_signed;
-        zone_digits = o.zone_digits;
-        zone_more = o.zone_more;
-        value = refl;
-      }),
+          (record {
+            d1 = d.d1;
+            d2 = d.d2;
+            month = m.month;
+            name = m.name;
+            y1 = o.y1;
+            y2 = o.y2;
+            y3 = o.y3;
+            y4 = o.y4;
+            h1 = o.h1;
+            h2 = o.h2;
+            m1 = o.m1;
+            m2 = o.m2;
+            s1 = o.s1;
+            s2 = o.s2;
+            sign = o.sign;
+            z1 = o.z1;
+            z2 = o.z2;
+            z3 = o.z3;
+            z4 = o.z4;
+            whole = ap (λ (u : List ℕ). 34 ∷ u) (h.whole ∙ ap (λ (u : List ℕ). u ++ h.back) d.whole ∙ ap (λ (u : List ℕ). d.d1 ∷ d.d2 ∷ 45 ∷ u) (m.whole ∙ ap (λ (u : List ℕ). m.name ++ u) o.whole));
+            starts = d.starts;
+            digit = d.digit;
+            month_is = m.month_is;
+            year_digits = o.year_digits;
+            hour_digits = o.hour_digits;
+            minute_digits = o.minute_digits;
+            second_digits = o.second_digits;
+            is_signed = o.is_signed;
+            zone_digits = o.zone_digits;
+            zone_more = o.zone_more;
+            value = refl;
+          }),
     )
 
 -- what stands behind the quote

@@ -1,11 +1,10 @@
 -- The octets of a spelled date.
-use Rattle.std.proofs.Common.{◌≡◌, ◌⊎◌, ℕ, zero, suc, ◌+◌, ◌-◌, ◌*◌, ◌≤◌, Bool, true, false, ◌||◌, ℤ, List, [], ◌∷◌, ◌++◌, length, map, cond, refl, sym, ap, subst, ◌∙◌, append_assoc, arith, inl, inr}
-use Rattle.std.specs.Prelude.{◌==◌, codes}
+use Rattle.std.proofs.Common.{◌≡◌, ◌⊎◌, ℕ, ◌+◌, ◌-◌, ◌*◌, Bool, true, false, ◌||◌, ℤ, List, [], ◌∷◌, ◌++◌, cond, refl, sym, ap, ◌∙◌, append_assoc, arith, inl, inr}
+use Rattle.std.specs.Prelude.{◌==◌}
 use Rattle.std.proofs.lemmas.Bool.{eqb-true, or_cases}
-use Rattle.imap_syntax.specs.Octets.{is_digit, lower}
+use Rattle.imap_syntax.specs.Octets.{is_digit}
 use Rattle.imap_syntax.specs.Texts.{Each}
-use Rattle.imap_syntax.specs.Numbers.{value_from}
-use Rattle.imap_syntax.specs.DateTimes.{seconds_of, IsDigits, IsFixedDay, IsMonth, IsDate, IsTime, IsZone, IsDateTime}
+use Rattle.imap_syntax.specs.DateTimes.{seconds_of, IsDigits, IsFixedDay, IsMonth, IsDateTime}
 
 -- the number of two digits, a space counting as none
 abbrev pub two : ℕ → ℕ → ℕ
@@ -189,10 +188,10 @@ octets_of seconds t h =
       z3 = zm.first;
       z4 = zm.second;
       whole =
-        h.whole ∙ ap (λ (u : List ℕ). 34 ∷ u ++ 32 ∷ h.time_text ++ 32 ∷ h.zone_text ++ 34 ∷ []) date
-        ∙ ap (λ (u : List ℕ). 34 ∷ day.first ∷ day.second ∷ 45 ∷ (d.month_text ++ 45 ∷ ys) ++ 32 ∷ u ++ 32 ∷ h.zone_text ++ 34 ∷ []) clock
-        ∙ ap (λ (u : List ℕ). 34 ∷ day.first ∷ day.second ∷ 45 ∷ (d.month_text ++ 45 ∷ ys) ++ 32 ∷ cs ++ 32 ∷ u ++ 34 ∷ []) zone
-        ∙ ap (λ (u : List ℕ). 34 ∷ day.first ∷ day.second ∷ 45 ∷ u) (rejoin d.month_text (45 ∷ ys) (32 ∷ cs) (32 ∷ zs) (34 ∷ []));
+          h.whole ∙ ap (λ (u : List ℕ). 34 ∷ u ++ 32 ∷ h.time_text ++ 32 ∷ h.zone_text ++ 34 ∷ []) date
+          ∙ ap (λ (u : List ℕ). 34 ∷ day.first ∷ day.second ∷ 45 ∷ (d.month_text ++ 45 ∷ ys) ++ 32 ∷ u ++ 32 ∷ h.zone_text ++ 34 ∷ []) clock
+          ∙ ap (λ (u : List ℕ). 34 ∷ day.first ∷ day.second ∷ 45 ∷ (d.month_text ++ 45 ∷ ys) ++ 32 ∷ cs ++ 32 ∷ u ++ 34 ∷ []) zone
+          ∙ ap (λ (u : List ℕ). 34 ∷ day.first ∷ day.second ∷ 45 ∷ u) (rejoin d.month_text (45 ∷ ys) (32 ∷ cs) (32 ∷ zs) (34 ∷ []));
       starts = day.starts;
       digit = day.digit;
       month_is = d.month_is;
@@ -204,9 +203,9 @@ octets_of seconds t h =
       zone_digits = zh.digits;
       zone_more = zm.digits;
       value =
-        h.value
-        ∙ seconds_same h.year h.month h.day h.time h.zone (four y.first y.second y.third y.fourth) (two day.first day.second) (time_of (two hh.first hh.second) (two mm.first mm.second) (two ss.first ss.second)) (zone_of (two zh.first zh.second) (two zm.first zm.second)) h.east (sign == 43) y.value day.value
-        (times_two h.time c.hours c.minutes c.seconds (two hh.first hh.second) (two mm.first mm.second) (two ss.first ss.second) c.value hh.value mm.value ss.value) (sym (sign_east h.east)) (zone_two h.zone z.hours z.minutes (two zh.first zh.second) (two zm.first zm.second) z.value zh.value zm.value);
+          h.value
+          ∙ seconds_same h.year h.month h.day h.time h.zone (four y.first y.second y.third y.fourth) (two day.first day.second) (time_of (two hh.first hh.second) (two mm.first mm.second) (two ss.first ss.second)) (zone_of (two zh.first zh.second) (two zm.first zm.second)) h.east (sign == 43) y.value day.value
+          (times_two h.time c.hours c.minutes c.seconds (two hh.first hh.second) (two mm.first mm.second) (two ss.first ss.second) c.value hh.value mm.value ss.value) (sym (sign_east h.east)) (zone_two h.zone z.hours z.minutes (two zh.first zh.second) (two zm.first zm.second) z.value zh.value zm.value);
     }
 
 pub of_octets : (seconds : ℤ) (t : List ℕ) → DateOctets seconds t → IsDateTime seconds t

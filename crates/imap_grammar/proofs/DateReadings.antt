@@ -1,9 +1,9 @@
 -- A spelled date is read back as its seconds.
-use Rattle.std.proofs.Common.{◌≡◌, ℕ, zero, suc, ◌+◌, ◌-◌, ◌*◌, ◌≤◌, Bool, true, false, ◌||◌, ℤ, List, [], ◌∷◌, ◌++◌, length, map, take, drop, get_or, cond, refl, sym, ap, subst, ◌∙◌, arith}
-use Rattle.std.specs.Prelude.{◌==◌, codes, bytes_eq}
+use Rattle.std.proofs.Common.{◌≡◌, ℕ, zero, suc, ◌+◌, ◌-◌, ◌*◌, ◌≤◌, Bool, true, false, ℤ, List, [], ◌∷◌, ◌++◌, length, map, drop, cond, refl, sym, ap, subst, ◌∙◌, arith}
+use Rattle.std.specs.Prelude.{◌==◌}
 use Rattle.std.proofs.lemmas.Bool.{cond-true, cond-false}
 use Rattle.imap_automaton.proofs.DateForms.{two, four, starts_day, is_sign, time_of, zone_of, seconds_same, DateOctets, octets_of}
-use Rattle.imap_grammar.specs.DateReading.{digit_at, two_at, month_named, date_in}
+use Rattle.imap_grammar.specs.DateReading.{month_named, date_in}
 use Rattle.imap_grammar.proofs.Cuts.{small, plain_small, each_to}
 use Rattle.imap_syntax.specs.Octets.{is_digit, lower}
 use Rattle.imap_syntax.specs.Texts.{Each, plain}

@@ -1,5 +1,5 @@
 -- How a spelled date is read back, by the places of its octets.
-use Rattle.std.specs.Prelude.{ℕ, ◌+◌, ◌-◌, ◌*◌, Bool, ◌==◌, if◌then◌else◌, List, map, take, drop, get_or, codes, bytes_eq, ℤ}
+use Rattle.std.specs.Prelude.{ℕ, ◌+◌, ◌-◌, ◌*◌, ◌==◌, if◌then◌else◌, List, map, take, drop, get_or, codes, bytes_eq, ℤ}
 use Rattle.imap_syntax.specs.Octets.{is_digit, lower}
 use Rattle.imap_syntax.specs.DateTimes.{seconds_of}
 

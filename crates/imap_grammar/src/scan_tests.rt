@@ -62,9 +62,18 @@ const WHOLE: [(&[u8], usize); 50] = [
         62,
     ),
     (b"* 1 FETCH (RFC822.SIZE 0000000000000000001)\r\n", 45),
-    (b"* 1 FETCH (INTERNALDATE \"17-Jul-1996 02:44:25 -0700\")\r\n", 55),
-    (b"* 1 FETCH (internaldate \" 7-jul-0000 99:99:99 +9999\" UID 1)\r\n", 61),
-    (b"* 1 FETCH (INTERNALDATE \"00-DEC-9999 00:00:00 +0000\")\r\n", 55),
+    (
+        b"* 1 FETCH (INTERNALDATE \"17-Jul-1996 02:44:25 -0700\")\r\n",
+        55,
+    ),
+    (
+        b"* 1 FETCH (internaldate \" 7-jul-0000 99:99:99 +9999\" UID 1)\r\n",
+        61,
+    ),
+    (
+        b"* 1 FETCH (INTERNALDATE \"00-DEC-9999 00:00:00 +0000\")\r\n",
+        55,
+    ),
     (b"* X {5}\r\nab\r\nc y\r\n", 18),
     (b"* X {0}\r\n\r\n", 11),
     (b"* 3 X {1}\r\nz{00000002}\r\n\r\n{3\r\n", 30),
@@ -119,7 +128,10 @@ const BAD: [(&[u8], usize); 53] = [
     (b"* 1 FETCH (INTERNALDATE \"17-Ju-1996", 30),
     (b"* 1 FETCH (INTERNALDATE \"17--1996", 28),
     (b"* 1 FETCH (INTERNALDATE \"17-Jul-1996 02:44:25 -07000", 51),
-    (b"* 1 FETCH (INTERNALDATE \"17-Jul-1996 02:44:25 -0700\"x", 52),
+    (
+        b"* 1 FETCH (INTERNALDATE \"17-Jul-1996 02:44:25 -0700\"x",
+        52,
+    ),
     (b"* 1 FETCH (UID  1)", 15),
     (b"* 1 FETCH (FLAGS (\\Seen \\))", 25),
     (b"* 1 FETCH (FLAGS (a  b))", 20),
