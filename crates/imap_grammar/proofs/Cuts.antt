@@ -31,11 +31,11 @@ span_at p [] [] h e = refl
 span_at p [] (c ∷ y) h e = cond-false (p c) (suc (span p y)) 0 e
 span_at p (c ∷ x) y h e = cond-true (p c) (suc (span p (x ++ y))) 0 h.0 ∙ ap (λ (n : ℕ). suc n) (span_at p x y h.1 e)
 
-take_front : (x y : List ℕ) → take (length x) (x ++ y) ≡ x
+pub take_front : (x y : List ℕ) → take (length x) (x ++ y) ≡ x
 take_front [] y = refl
 take_front (c ∷ x) y = ap (λ (u : List ℕ). c ∷ u) (take_front x y)
 
-drop_front : (x y : List ℕ) → drop (length x) (x ++ y) ≡ y
+pub drop_front : (x y : List ℕ) → drop (length x) (x ++ y) ≡ y
 drop_front [] y = refl
 drop_front (c ∷ x) y = drop_front x y
 

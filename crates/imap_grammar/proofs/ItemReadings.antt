@@ -21,7 +21,7 @@ use Rattle.imap_syntax.specs.Items.{IsAtom, IsName, AllNames, joined, IsNames, I
 atom_name : (c : ℕ) → is_atom c ≡ true → in_name c ≡ true
 atom_name c e = grind arith
 
-atom_small : (c : ℕ) → is_atom c ≡ true → small c ≡ true
+pub atom_small : (c : ℕ) → is_atom c ≡ true → small c ≡ true
 atom_small c e = grind arith
 
 name_class : (p : ℕ → Bool) (n : List ℕ) → ((c : ℕ) → is_atom c ≡ true → p c ≡ true) → p 92 ≡ true → IsName n → Each p n
@@ -77,7 +77,7 @@ flags_read (n ∷ ns) rest b all e =
 
 -- ---- items
 
-digit_small : (c : ℕ) → is_digit c ≡ true → small c ≡ true
+pub digit_small : (c : ℕ) → is_digit c ≡ true → small c ≡ true
 digit_small c e = grind arith
 
 abbrev flags_part : FetchItems → List ℕ → FetchItems × List ℕ
@@ -111,7 +111,7 @@ other_name name is key x y e f = cond-false (bytes_eq name key) x y (ap (λ (u :
 this_name : {A : Type 0} (name key : List ℕ) (x y : A) → name ≡ key → cond (bytes_eq name key) x y ≡ x
 this_name name key x y e = cond-true (bytes_eq name key) x y (text_same name key e)
 
-long_read : (n : ℕ) (t : List ℕ) → IsLong n t → long_in t ≡ n
+pub long_read : (n : ℕ) (t : List ℕ) → IsLong n t → long_in t ≡ n
 long_read n t h = long_is t (omega (arith, h.value, h.most)) ∙ sym h.value
 
 value_read : (i : Item) (so_far : FetchItems) (name value back b : List ℕ) → IsItem i (name ++ 32 ∷ value) → IsItemValue i (map lower name) value → is_digit (get_or back 0 0) ≡ false → b ≡ plain value ++ back → value_in so_far (map lower name) b ≡ (told so_far i, back)

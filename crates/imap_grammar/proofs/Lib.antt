@@ -2,10 +2,13 @@ pub mod Standing
 pub mod ScannerLemmas
 pub mod SpanLemmas
 pub mod FlagLemmas
+pub mod StringLemmas
 pub mod Cuts
 pub mod DateReadings
 pub mod ItemReadings
 pub mod SetReadings
+pub mod StringReadings
+pub mod FolderReadings
 pub mod Readings
 pub mod Spellings
 pub mod Pieces

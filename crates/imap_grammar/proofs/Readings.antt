@@ -10,7 +10,9 @@ use Rattle.imap_automaton.proofs.Tests.{both}
 use Rattle.imap_grammar.specs.Reading.{span, in_name, number_from, number_in, flags_in, words_in, vanished_in, items_in, status_named, word_in, all_digits, is_sequence, numbered_in, told_in, said_in, plain_in, untagged_in, tagged_in, response_in}
 use Rattle.imap_grammar.proofs.Cuts.{small, plain_small, plain_join, each_to, each_join, CutAt, cut_at, number_from_is, number_is, small_capped, capped_le}
 use Rattle.imap_grammar.proofs.ItemReadings.{plain_length, joined_small, flags_read, all_items_read}
+use Rattle.imap_grammar.specs.FolderReading.{list_in, status_in}
 use Rattle.imap_grammar.proofs.SetReadings.{words_read, vanished_read}
+use Rattle.imap_grammar.proofs.FolderReadings.{list_line_read, status_line_read}
 use Rattle.imap_syntax.specs.declared.response.Status.{Status}
 use Rattle.imap_syntax.specs.declared.response.Status.TheVariants as status
 use Rattle.imap_syntax.specs.declared.response.Response.{Response}
@@ -90,6 +92,8 @@ says_small None (response.Capability ws) w tail t e h k = behind_words ws tail k
 says_small None (response.Enabled ws) w tail t e h k = behind_words ws tail k.1
 says_small None (response.Flags flags) w tail t e h k = ap (λ (u : List ℕ). small (get_or u 0 0)) k.1.2
 says_small None (response.Vanished earlier uids) w tail t e h k = ap (λ (u : List ℕ). small (get_or u 0 0)) k.1.1
+says_small None (response.List attributes delimiter name) w tail t e h k = ap (λ (u : List ℕ). small (get_or u 0 0)) k.1.whole
+says_small None (response.StatusItems name items) w tail t e h k = ap (λ (u : List ℕ). small (get_or u 0 0)) k.1.whole
 says_small (Some n) (response.Exists count) w tail t e h k = ap (λ (u : List ℕ). small (get_or u 0 0)) k.2
 says_small (Some n) (response.Expunge seq) w tail t e h k = ap (λ (u : List ℕ). small (get_or u 0 0)) k.2
 says_small (Some n) (response.Fetch seq items) w tail t e h k = ap (λ (u : List ℕ). small (get_or u 0 0)) k.2.2
@@ -208,8 +212,14 @@ headed : (u : List ℕ) (c : ℕ) → get_or u 0 0 ≡ c → 0 < c → (z : List
 headed [] c e lt = absurd (omega (arith, e, lt))
 headed (d ∷ u) c e lt = (u, ap (λ (n : ℕ). n ∷ u) e)
 
+abbrev status_or : List ℕ → List ℕ → Response
+status_or w tail = cond (bytes_eq w (codes "status")) (status_in tail) response.Other
+
+abbrev list_or : List ℕ → List ℕ → Response
+list_or w tail = cond (bytes_eq w (codes "list")) (list_in tail) (status_or w tail)
+
 abbrev vanished_or : List ℕ → List ℕ → Response
-vanished_or w tail = cond (bytes_eq w (codes "vanished")) (vanished_in (drop 1 tail)) response.Other
+vanished_or w tail = cond (bytes_eq w (codes "vanished")) (vanished_in (drop 1 tail)) (list_or w tail)
 
 abbrev flags_or : List ℕ → List ℕ → Response
 flags_or w tail = cond (bytes_eq w (codes "flags")) (response.Flags (flags_in (drop 2 tail)).0) (vanished_or w tail)
@@ -248,15 +258,34 @@ told_said (response.Vanished earlier uids) w tail t h =
     ∙ passes w (codes "capability") (response.Capability (words_in (length (plain tail)) (plain tail))) (enabled_or w (plain tail)) (apart_by w (codes "vanished") h.0 (codes "capability") (differ (codes "vanished") (codes "capability") refl))
     ∙ passes w (codes "enabled") (response.Enabled (words_in (length (plain tail)) (plain tail))) (flags_or w (plain tail)) (apart_by w (codes "vanished") h.0 (codes "enabled") (differ (codes "vanished") (codes "enabled") refl))
     ∙ passes w (codes "flags") (response.Flags (flags_in (drop 2 (plain tail))).0) (vanished_or w (plain tail)) (apart_by w (codes "vanished") h.0 (codes "flags") (differ (codes "vanished") (codes "flags") refl))
-    ∙ cond-true (bytes_eq w (codes "vanished")) (vanished_in (drop 1 (plain tail))) response.Other (text_same w (codes "vanished") h.0)
+    ∙ cond-true (bytes_eq w (codes "vanished")) (vanished_in (drop 1 (plain tail))) (list_or w (plain tail)) (text_same w (codes "vanished") h.0)
     ∙ ap (λ (u : List ℕ). vanished_in (drop 1 (plain u))) h.1.1 ∙ vanished_read earlier uids.ranges h.1.0 h.1.2
+told_said (response.List attributes delimiter name) w tail t h =
+    ap (λ (o : Option Status). said_in o w (plain tail)) (ap status_named h.0 ∙ named_none_of (codes "list") refl refl refl refl refl)
+    ∙ passes w (codes "capability") (response.Capability (words_in (length (plain tail)) (plain tail))) (enabled_or w (plain tail)) (apart_by w (codes "list") h.0 (codes "capability") (differ (codes "list") (codes "capability") refl))
+    ∙ passes w (codes "enabled") (response.Enabled (words_in (length (plain tail)) (plain tail))) (flags_or w (plain tail)) (apart_by w (codes "list") h.0 (codes "enabled") (differ (codes "list") (codes "enabled") refl))
+    ∙ passes w (codes "flags") (response.Flags (flags_in (drop 2 (plain tail))).0) (vanished_or w (plain tail)) (apart_by w (codes "list") h.0 (codes "flags") (differ (codes "list") (codes "flags") refl))
+    ∙ passes w (codes "vanished") (vanished_in (drop 1 (plain tail))) (list_or w (plain tail)) (apart_by w (codes "list") h.0 (codes "vanished") (differ (codes "list") (codes "vanished") refl))
+    ∙ cond-true (bytes_eq w (codes "list")) (list_in (plain tail)) (status_or w (plain tail)) (text_same w (codes "list") h.0)
+    ∙ list_line_read attributes delimiter name tail h.1
+told_said (response.StatusItems name items) w tail t h =
+    ap (λ (o : Option Status). said_in o w (plain tail)) (ap status_named h.0 ∙ named_none_of (codes "status") refl refl refl refl refl)
+    ∙ passes w (codes "capability") (response.Capability (words_in (length (plain tail)) (plain tail))) (enabled_or w (plain tail)) (apart_by w (codes "status") h.0 (codes "capability") (differ (codes "status") (codes "capability") refl))
+    ∙ passes w (codes "enabled") (response.Enabled (words_in (length (plain tail)) (plain tail))) (flags_or w (plain tail)) (apart_by w (codes "status") h.0 (codes "enabled") (differ (codes "status") (codes "enabled") refl))
+    ∙ passes w (codes "flags") (response.Flags (flags_in (drop 2 (plain tail))).0) (vanished_or w (plain tail)) (apart_by w (codes "status") h.0 (codes "flags") (differ (codes "status") (codes "flags") refl))
+    ∙ passes w (codes "vanished") (vanished_in (drop 1 (plain tail))) (list_or w (plain tail)) (apart_by w (codes "status") h.0 (codes "vanished") (differ (codes "status") (codes "vanished") refl))
+    ∙ passes w (codes "list") (list_in (plain tail)) (status_or w (plain tail)) (apart_by w (codes "status") h.0 (codes "list") (differ (codes "status") (codes "list") refl))
+    ∙ cond-true (bytes_eq w (codes "status")) (status_in (plain tail)) response.Other (text_same w (codes "status") h.0)
+    ∙ status_line_read name items tail h.1
 told_said response.Other w tail t h =
     let ne : (k : List ℕ) → Contains (keywords None) k → w ≡ k → ⊥ = λ k m e. no_keyword None w k h.0 m e in
     ap (λ (o : Option Status). said_in o w (plain tail)) (named_none w (ne (codes "ok") (0, omega arith, refl)) (ne (codes "no") (1, omega arith, refl)) (ne (codes "bad") (2, omega arith, refl)) (ne (codes "preauth") (3, omega arith, refl)) (ne (codes "bye") (4, omega arith, refl)))
     ∙ passes w (codes "capability") (response.Capability (words_in (length (plain tail)) (plain tail))) (enabled_or w (plain tail)) (ne (codes "capability") (5, omega arith, refl))
     ∙ passes w (codes "enabled") (response.Enabled (words_in (length (plain tail)) (plain tail))) (flags_or w (plain tail)) (ne (codes "enabled") (6, omega arith, refl))
     ∙ passes w (codes "flags") (response.Flags (flags_in (drop 2 (plain tail))).0) (vanished_or w (plain tail)) (ne (codes "flags") (7, omega arith, refl))
-    ∙ passes w (codes "vanished") (vanished_in (drop 1 (plain tail))) response.Other (ne (codes "vanished") (8, omega arith, refl))
+    ∙ passes w (codes "vanished") (vanished_in (drop 1 (plain tail))) (list_or w (plain tail)) (ne (codes "vanished") (8, omega arith, refl))
+    ∙ passes w (codes "list") (list_in (plain tail)) (status_or w (plain tail)) (ne (codes "list") (9, omega arith, refl))
+    ∙ passes w (codes "status") (status_in (plain tail)) response.Other (ne (codes "status") (10, omega arith, refl))
 told_said _ w tail t h = absurd h
 
 plain_read : (v : Response) (t : List ℕ) → IsWordLine None v t → plain_in (plain t) ≡ v
@@ -357,6 +386,8 @@ reads_value response.Continue t h = ap (λ (u : List ℕ). response_in (plain u)
 reads_value (response.Untagged s) t h = star_read (response.Untagged s) t h.0 h.1 h.2
 reads_value (response.Capability ws) t h = star_read (response.Capability ws) t h.0 h.1 h.2
 reads_value (response.Enabled ws) t h = star_read (response.Enabled ws) t h.0 h.1 h.2
+reads_value (response.List attributes delimiter name) t h = star_read (response.List attributes delimiter name) t h.0 h.1 h.2
+reads_value (response.StatusItems name items) t h = star_read (response.StatusItems name items) t h.0 h.1 h.2
 reads_value (response.Flags flags) t h = star_read (response.Flags flags) t h.0 h.1 h.2
 reads_value (response.Exists count) t h = star_read (response.Exists count) t h.0 h.1 h.2
 reads_value (response.Expunge seq) t h = star_read (response.Expunge seq) t h.0 h.1 h.2

@@ -1,7 +1,7 @@
 -- How a spelling is read back: each function takes the octets from its place on. That it gives the spelled value is a
 -- law of this crate.
 use Rattle.std.specs.Prelude.{ℕ, zero, suc, ◌+◌, ◌-◌, ◌*◌, Bool, true, false, not, ◌&&◌, nat_lt, nat_le, ◌==◌, if◌then◌else◌, List, [], ◌∷◌, length, map, take, drop, get_or, codes, bytes_eq, Option, Some, None, unwrap_or}
-pub use Rattle.imap_grammar.specs.Spans.{span, in_name, cap, count_from, number_from, long_in, number_in, names_in, flags_in}
+unfoldable pub use Rattle.imap_grammar.specs.Spans.{span, in_name, cap, count_from, number_from, long_in, number_in, names_in, flags_in}
 use Rattle.imap_grammar.specs.FolderReading.{list_in, status_in}
 use Rattle.imap_syntax.specs.declared.response.Status.{Status}
 use Rattle.imap_syntax.specs.declared.response.Status.TheVariants as status

@@ -137,7 +137,7 @@ const NO_COUNTS: StatusItems = StatusItems {
 };
 
 /// The counts, up to the closing bracket.
-#[tactic(auto, using(crate::proofs::FolderReadings::counting))]
+#[tactic(auto, unfolding(crate::specs::FolderReading::counts_in))]
 fn counts_in(bytes: &[u8]) -> StatusItems
     ensures { result ≡ reading.counts_in (length bytes.now) folders.no_counts bytes.now }
 {

@@ -29,7 +29,6 @@ fn atom_len(bytes: &[u8]) -> usize
 }
 
 /// The text of a quoted one from behind its opening quote on, and what follows the closing one.
-#[tactic(auto, using(crate::proofs::StringLemmas::unquoting))]
 fn unquoted(alloc: Global, bytes: &[u8]) -> Result<(Vec<u8>, &[u8]), AllocError>
     ensures text { IfOk result (λ r. r.0.items ≡ (reading.unquoted false bytes.now).0) }
     ensures rest { IfOk result (λ r. r.1.now ≡ (reading.unquoted false bytes.now).1) }
@@ -37,11 +36,14 @@ fn unquoted(alloc: Global, bytes: &[u8]) -> Result<(Vec<u8>, &[u8]), AllocError>
     let mut text = Vec::new(alloc);
     let mut pair = false;
     for (i, c) in bytes.iter().enumerate() {
-        if !pair && *c == b'"' {
+        if pair {
+            text.push(*c)?;
+            pair = false;
+        } else if *c == b'"' {
             return Ok((text, behind(bytes, i + 1)));
-        }
-        pair = !pair && *c == b'\\';
-        if !pair {
+        } else if *c == b'\\' {
+            pair = true;
+        } else {
             text.push(*c)?;
         }
     }
