@@ -46,6 +46,7 @@ use Rattle.imap_automaton.specs.Rules.{rule_of}
 use Rattle.imap_automaton.specs.Fits.{PendFits, SymFits}
 use Rattle.imap_automaton.specs.Run.{is_octets}
 use Rattle.imap_automaton.specs.Flow.{ends_open, begins, may_yield, need, sym_left}
+use Rattle.imap_automaton.proofs.ItemNameEdges.{takes_small}
 use Rattle.imap_automaton.proofs.KeyLemmas.{find_some, goes_to, among_is}
 use Rattle.imap_syntax.specs.Octets.{is_digit, is_alnum, is_text, is_word, is_atom, lower}
 use Rattle.imap_syntax.specs.Texts.{Each}
@@ -180,14 +181,6 @@ time_fine at c = fine_by false false 1 (nat_lt c 256) (nat_lt at 21 && time_octe
     (λ e. refl)
 
 -- names of other items
-
-takes_small : (s : ItemName) (c : ℕ) → takes s c ≡ true → nat_lt c 256 ≡ true
-takes_small name.Plain c e = grind arith
-takes_small name.Section c e = grind arith
-takes_small name.After c e = grind arith
-takes_small name.Part c e = grind arith
-takes_small name.Digits c e = grind arith
-takes_small name.End c e = absurd cc
 
 name_fine : (s : ItemName) (c : ℕ) → fine true false 2 (nat_lt c 256) (item_name_rule s c) ≡ true
 name_fine s c = fine_by true false 2 (nat_lt c 256) (c == 32 && may_end s) (move.One (sym.Value value.Start))

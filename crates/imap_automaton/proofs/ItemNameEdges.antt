@@ -1,6 +1,6 @@
 -- One octet at the name of another item.
 use Rattle.std.proofs.Common.{◌≡◌, ◌⊎◌, ℕ, zero, suc, ◌+◌, ◌<◌, ◌≤◌, Bool, true, false, not, ◌&&◌, ◌||◌, List, [], ◌∷◌, ◌++◌, length, map, cond, refl, sym, ap, subst, ◌∙◌, append_assoc, arith, inl, inr}
-use Rattle.std.specs.Prelude.{◌==◌, nat_le, codes}
+use Rattle.std.specs.Prelude.{◌==◌, nat_lt, codes}
 use Rattle.std.proofs.lemmas.Bool.{eqb-true, eqb-false, eq-eqb, and_parts, and_from, or_cases, or_left, or_right, not-true}
 use Rattle.imap_automaton.specs.declared.sym.Str.TheVariants as str
 use Rattle.imap_automaton.specs.declared.sym.Value.TheVariants as value
@@ -236,6 +236,14 @@ pub item_name_example : (s : ItemName) → (t : List ℕ) × NameRest s t
 item_name_example s =
     let f = form_example s in
     (f.0 ++ 32 ∷ codes "a", record { rest = f.0; value = codes "a"; whole = refl; form = f.1; value_is = atom_value })
+
+pub takes_small : (s : ItemName) (c : ℕ) → takes s c ≡ true → nat_lt c 256 ≡ true
+takes_small name.Plain c e = grind arith
+takes_small name.Section c e = grind arith
+takes_small name.After c e = grind arith
+takes_small name.Part c e = grind arith
+takes_small name.Digits c e = grind arith
+takes_small name.End c e = absurd cc
 
 -- ---- runs of an atom's octets
 

@@ -1,6 +1,6 @@
 -- Items that are passed over, and the words that name others.
 use Rattle.std.proofs.Common.{◌≡◌, ◌⊎◌, ℕ, zero, suc, ◌+◌, ◌<◌, ◌≤◌, Bool, true, false, not, ◌&&◌, List, [], ◌∷◌, ◌++◌, length, map, get_or, refl, sym, ap, subst, ◌∙◌, arith, inl, inr}
-use Rattle.std.specs.Prelude.{Contains, codes}
+use Rattle.std.specs.Prelude.{Contains, codes, nat_lt}
 use Rattle.std.proofs.lemmas.Bool.{and_parts}
 use Rattle.std.proofs.lemmas.List.{append-nil}
 use Rattle.imap_automaton.specs.declared.sym.Key.{Key}
@@ -11,7 +11,7 @@ use Rattle.imap_automaton.specs.declared.sym.ItemName.TheVariants as name
 use Rattle.imap_automaton.specs.Keys.{key_text, keys}
 use Rattle.imap_automaton.specs.ItemNameRules.{may_end, name_from}
 use Rattle.imap_automaton.proofs.ItemNameLangs.{NameForm, NameRest}
-use Rattle.imap_automaton.proofs.ItemNameEdges.{walk, goes_atom}
+use Rattle.imap_automaton.proofs.ItemNameEdges.{form_forth, takes_small, walk, goes_atom}
 use Rattle.imap_automaton.proofs.Langs.{Among, WordRest}
 use Rattle.imap_automaton.proofs.Lists.{cons_head, cons_tail, Cut, cut, one_cut}
 use Rattle.imap_automaton.proofs.Tests.{both}
@@ -135,18 +135,54 @@ cut_some t c e = by c.front c.whole
     by [] whole = absurd (both (is_atom (get_or t 0 0)) e (ap (λ (u : List ℕ). is_atom (get_or u 0 0)) whole ∙ c.longest))
     by (d ∷ f) whole = omega arith
 
-pub other_to : (t : List ℕ) → items.IsItem items.Other t → WordRest place.Item [] t
-other_to t h =
+-- the word with which an item begins that is passed over
+pub record OtherWord (t : List ℕ) : Type 0 where
+  pub word : List ℕ
+  pub tail : List ℕ
+  pub whole : t ≡ word ++ tail
+  pub each : Each is_atom word
+  pub some : 0 < length word
+  pub longest : is_atom (get_or tail 0 0) ≡ false
+  pub small : nat_lt (get_or tail 0 0) 256 ≡ true
+  pub goes_on : 0 < length tail
+  pub no_key : (k : Key) → Among k (keys place.Item) → map lower word ≡ key_text k → ⊥
+
+quote_or_small : (s : ItemName) (c : ℕ) (t : List ℕ) → NameForm s (c ∷ t) → nat_lt c 256 ≡ true
+quote_or_small s c t h = elim (form_forth s c t h) [ | inl q ↦ ap (λ (d : ℕ). nat_lt d 256) q.1 | inr g ↦ takes_small s c g.0 ]
+
+rest_small : (s : ItemName) (rest v tail : List ℕ) → NameForm s rest → tail ≡ rest ++ 32 ∷ v → (nat_lt (get_or tail 0 0) 256 ≡ true) × (0 < length tail)
+rest_small s [] v tail h e = (ap (λ (u : List ℕ). nat_lt (get_or u 0 0) 256) e, (let l = ap length e in omega (arith, l)))
+rest_small s (c ∷ rest) v tail h e = (ap (λ (u : List ℕ). nat_lt (get_or u 0 0) 256) e ∙ quote_or_small s c rest h, (let l = ap length e in omega (arith, l)))
+
+pub other_word : (t : List ℕ) → items.IsItem items.Other t → OtherWord t
+other_word t h =
     let c = cut is_atom t refl in
     let n = h.item.0 in
     let first : is_atom (get_or t 0 0) ≡ true = ap (λ (u : List ℕ). is_atom (get_or u 0 0)) h.whole ∙ first_atom h.name (32 ∷ h.value) n.0 in
-    let some = cut_some t c first in
+    let w = walk c.front name.Plain h.name c.back h.value c.each (sym c.whole ∙ h.whole) (form_of h.name n.0) in
+    let r = rest_small (name_from name.Plain (map lower c.front)) w.rest h.value c.back w.form w.back in
     record {
       word = c.front;
       tail = c.back;
       whole = c.whole;
       each = c.each;
-      some = omega (arith, some);
+      some = cut_some t c first;
       longest = c.longest;
-      says = inr (λ k m is. no_key h.name h.value c.front c.back n (sym c.whole ∙ h.whole) c.each c.longest k m is, record { rest = h.name; value = h.value; whole = h.whole; form = form_of h.name n.0; value_is = h.item.1 });
+      small = r.0;
+      goes_on = r.1;
+      no_key = λ k m is. no_key h.name h.value c.front c.back n (sym c.whole ∙ h.whole) c.each c.longest k m is;
+    }
+
+pub other_to : (t : List ℕ) → items.IsItem items.Other t → WordRest place.Item [] t
+other_to t h =
+    let o = other_word t h in
+    let some = o.some in
+    record {
+      word = o.word;
+      tail = o.tail;
+      whole = o.whole;
+      each = o.each;
+      some = omega (arith, some);
+      longest = o.longest;
+      says = inr (o.no_key, record { rest = h.name; value = h.value; whole = h.whole; form = form_of h.name h.item.0.0; value_is = h.item.1 });
     }

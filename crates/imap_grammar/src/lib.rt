@@ -12,6 +12,9 @@ mod flags;
 #[cfg(test)]
 mod folder_tests;
 mod folders;
+#[cfg(test)]
+mod item_tests;
+mod items;
 mod octets;
 #[cfg(test)]
 mod scan_tests;
