@@ -27,3 +27,4 @@ pub mod Fine
 pub mod Kept
 pub mod Whole
 pub mod Marks
+pub mod Skips

@@ -29,6 +29,7 @@ use Rattle.imap_automaton.proofs.ItemEdges.{value_mono}
 use Rattle.imap_automaton.proofs.WordEdges.{Cut, cut, text_goes, text_comes, word_back, word_forth, word_empty, word_example}
 use Rattle.imap_automaton.proofs.CountLemmas.{free_to, free_from}
 use Rattle.imap_automaton.proofs.LineWords.{plain_key, plain_to, plain_from, numbered_to, numbered_from, tagged_to, tagged_from}
+use Rattle.imap_syntax.specs.declared.code.Code.{Code}
 use Rattle.imap_syntax.specs.declared.response.Status.{Status}
 use Rattle.imap_syntax.specs.declared.response.Response.{Response}
 use Rattle.imap_syntax.specs.declared.response.Response.TheVariants as response
@@ -332,11 +333,11 @@ untagged_at v c t (inr r) =
 -- ---- the first octet
 
 star_from : (v : Response) (t : List ℕ) → IsUntagged v t → Spells v (42 ∷ 32 ∷ t)
-star_from (response.Tagged tag status) t (inl r) = absurd r.3.says
-star_from (response.Tagged tag status) t (inr r) = absurd r.0.says
+star_from (response.Tagged tag status code) t (inl r) = absurd r.3.says
+star_from (response.Tagged tag status code) t (inr r) = absurd r.0.says
 star_from response.Continue t (inl r) = absurd r.3.says
 star_from response.Continue t (inr r) = absurd r.0.says
-star_from (response.Untagged status) t h = (t, refl, h)
+star_from (response.Untagged status code) t h = (t, refl, h)
 star_from (response.Capability ws) t h = (t, refl, h)
 star_from (response.Enabled ws) t h = (t, refl, h)
 star_from (response.List attributes delimiter name) t h = (t, refl, h)
@@ -364,22 +365,22 @@ start_back c t h = from_test (c == 42) (move.Two (sym.Line (line.Fixed phrase.Sp
     (λ f l. from_test (is_alnum c) (move.One (sym.Line (line.Tag 1))) move.Fail t (LineLang line.Start (c ∷ t))
     (λ g m.
     let s = tagged_from m.after m.line in
-    (response.Tagged (c ∷ m.tag) s.0, record { after = m.after; whole = ap (λ (u : List ℕ). c ∷ u) m.whole; tag_is = (g, m.tag_is); some = omega arith; few = omega (arith, m.few); completes = s.1; line = s.2 }))
+    (response.Tagged (c ∷ m.tag) s.0 s.1, record { after = m.after; whole = ap (λ (u : List ℕ). c ∷ u) m.whole; tag_is = (g, m.tag_is); some = omega arith; few = omega (arith, m.few); completes = s.2; line = s.3 }))
     (λ g m. absurd m) l) k) h
 
 alnum_apart : (c : ℕ) → is_alnum c ≡ true → ((c == 42) ≡ false) × ((c == 43) ≡ false)
 alnum_apart c e = (grind arith, grind arith)
 
-tagged_at : (s : Status) (c : ℕ) (t tag : List ℕ) → (h : IsTagged tag s (c ∷ t)) → c ∷ t ≡ tag ++ 32 ∷ h.after → After (line_rule line.Start c) t
-tagged_at s c t [] h e = absurd (omega (arith, h.some))
-tagged_at s c t (d ∷ x) h e =
+tagged_at : (s : Status) (code : Code) (c : ℕ) (t tag : List ℕ) → (h : IsTagged tag s code (c ∷ t)) → c ∷ t ≡ tag ++ 32 ∷ h.after → After (line_rule line.Start c) t
+tagged_at s code c t [] h e = absurd (omega (arith, h.some))
+tagged_at s code c t (d ∷ x) h e =
     let same : c ≡ d = cons_head c d t (x ++ 32 ∷ h.after) e in
     let ok : is_alnum c ≡ true = is_true_at is_alnum c d same h.tag_is.0 in
     let apart = alnum_apart c ok in
     at_false (c == 42) (move.Two (sym.Line (line.Fixed phrase.Space 0)) (sym.Line line.Untagged)) (plus_or_tag c) t apart.0
     (at_false (c == 43) (move.One (sym.Line line.Text)) (tag_or_none c) t apart.1
     (at_true (is_alnum c) (move.One (sym.Line (line.Tag 1))) move.Fail t ok
-    (record { tag = x; after = h.after; whole = cons_tail c d t (x ++ 32 ∷ h.after) e; tag_is = h.tag_is.1; few = omega (arith, h.few); line = tagged_to s h.after h.completes h.line })))
+    (record { tag = x; after = h.after; whole = cons_tail c d t (x ++ 32 ∷ h.after) e; tag_is = h.tag_is.1; few = omega (arith, h.few); line = tagged_to s code h.after h.completes h.line })))
 
 star_at : (v : Response) (c : ℕ) (t l : List ℕ) → c ∷ t ≡ 42 ∷ 32 ∷ l → IsUntagged v l → After (line_rule line.Start c) t
 star_at v c t l e h =
@@ -393,9 +394,9 @@ plus_at c t l e h =
     (at_true (c == 43) (move.One (sym.Line line.Text)) (tag_or_none c) t (eq-eqb c 43 same) (subst IsLine (sym (cons_tail c 43 t l e)) h))
 
 start_at : (v : Response) (c : ℕ) (t : List ℕ) → Spells v (c ∷ t) → After (line_rule line.Start c) t
-start_at (response.Tagged tag status) c t h = tagged_at status c t tag h h.whole
+start_at (response.Tagged tag status code) c t h = tagged_at status code c t tag h h.whole
 start_at response.Continue c t h = plus_at c t h.0 h.1 h.2
-start_at (response.Untagged status) c t h = star_at (response.Untagged status) c t h.0 h.1 h.2
+start_at (response.Untagged status code) c t h = star_at (response.Untagged status code) c t h.0 h.1 h.2
 start_at (response.Capability ws) c t h = star_at (response.Capability ws) c t h.0 h.1 h.2
 start_at (response.Enabled ws) c t h = star_at (response.Enabled ws) c t h.0 h.1 h.2
 start_at (response.List attributes delimiter name) c t h = star_at (response.List attributes delimiter name) c t h.0 h.1 h.2
@@ -428,9 +429,9 @@ line_edge_forth (line.Fixed p at) c t fits h = fixed_forth p at c t fits h
 line_edge_forth (line.Folded p at) c t fits h = folded_forth p at c t fits h
 
 start_none : (v : Response) → Spells v [] → ⊥
-start_none (response.Tagged tag status) h = mid tag h.after 32 h.whole
+start_none (response.Tagged tag status code) h = mid tag h.after 32 h.whole
 start_none response.Continue h = let e = h.1 in cc
-start_none (response.Untagged status) h = let e = h.1 in cc
+start_none (response.Untagged status code) h = let e = h.1 in cc
 start_none (response.Capability ws) h = let e = h.1 in cc
 start_none (response.Enabled ws) h = let e = h.1 in cc
 start_none (response.List attributes delimiter name) h = let e = h.1 in cc

@@ -20,7 +20,10 @@ use Rattle.imap_syntax.specs.declared.response.Response.{Response}
 use Rattle.imap_syntax.specs.declared.response.Response.TheVariants as response
 use Rattle.imap_syntax.specs.Octets.{is_digit, is_word, is_atom, lower}
 use Rattle.imap_syntax.specs.Texts.{Each, Then, crlf, IsWord}
-use Rattle.imap_syntax.specs.Lines.{word_of, Completes, IsRest}
+use Rattle.imap_syntax.specs.Lines.{word_of, Completes, IsRest, IsCodedRest}
+use Rattle.imap_syntax.specs.declared.code.Code.{Code}
+use Rattle.imap_syntax.specs.ReadCodes.{code_in}
+use Rattle.imap_syntax.proofs.CodeLemmas.{code_has}
 use Rattle.imap_syntax.specs.Items.{kept, items_of}
 use Rattle.imap_syntax.specs.Folders.{folder_name, IsListLine, told_counts, no_counts, IsStatusLine}
 use Rattle.imap_syntax.specs.Spells.{keywords, IsFlagsLine, Says, IsWordLine}
@@ -186,11 +189,11 @@ status_from t b =
     )
 
 plain_says : (v : Response) (w tail t : List ℕ) → Says None v w tail t → WordSays place.Plain [] w tail t
-plain_says (response.Untagged status.Ok) w tail t h = inl (key.Ok, inl refl, h.0, h.1)
-plain_says (response.Untagged status.No) w tail t h = inl (key.No, inr (inl refl), h.0, h.1)
-plain_says (response.Untagged status.Bad) w tail t h = inl (key.Bad, inr (inr (inl refl)), h.0, h.1)
-plain_says (response.Untagged status.Preauth) w tail t h = inl (key.Preauth, inr (inr (inr (inl refl))), h.0, h.1)
-plain_says (response.Untagged status.Bye) w tail t h = inl (key.Bye, inr (inr (inr (inr (inl refl)))), h.0, h.1)
+plain_says (response.Untagged status.Ok code) w tail t h = inl (key.Ok, inl refl, h.0, h.1.0)
+plain_says (response.Untagged status.No code) w tail t h = inl (key.No, inr (inl refl), h.0, h.1.0)
+plain_says (response.Untagged status.Bad code) w tail t h = inl (key.Bad, inr (inr (inl refl)), h.0, h.1.0)
+plain_says (response.Untagged status.Preauth code) w tail t h = inl (key.Preauth, inr (inr (inr (inl refl))), h.0, h.1.0)
+plain_says (response.Untagged status.Bye code) w tail t h = inl (key.Bye, inr (inr (inr (inr (inl refl)))), h.0, h.1.0)
 plain_says (response.Capability ws) w tail t h = inl (key.Capability, inr (inr (inr (inr (inr (inl refl))))), h.0, (ws, h.1))
 plain_says (response.Enabled ws) w tail t h = inl (key.Enabled, inr (inr (inr (inr (inr (inr (inl refl)))))), h.0, (ws, h.1))
 plain_says (response.Flags flags) w tail t h = inl (key.Flags, inr (inr (inr (inr (inr (inr (inr (inl refl))))))), h.0, flags_to flags tail h.1)
@@ -217,11 +220,11 @@ flags_from t b = (
 )
 
 said_by_key : (k : Key) (w tail t : List ℕ) → w ≡ key_text k → IsBehind place.Plain k tail → (v : Response) × Says None v w tail t
-said_by_key key.Ok w tail t e b = (response.Untagged status.Ok, (e, b))
-said_by_key key.No w tail t e b = (response.Untagged status.No, (e, b))
-said_by_key key.Bad w tail t e b = (response.Untagged status.Bad, (e, b))
-said_by_key key.Preauth w tail t e b = (response.Untagged status.Preauth, (e, b))
-said_by_key key.Bye w tail t e b = (response.Untagged status.Bye, (e, b))
+said_by_key key.Ok w tail t e b = (response.Untagged status.Ok (code_in tail), (e, (b, code_has tail)))
+said_by_key key.No w tail t e b = (response.Untagged status.No (code_in tail), (e, (b, code_has tail)))
+said_by_key key.Bad w tail t e b = (response.Untagged status.Bad (code_in tail), (e, (b, code_has tail)))
+said_by_key key.Preauth w tail t e b = (response.Untagged status.Preauth (code_in tail), (e, (b, code_has tail)))
+said_by_key key.Bye w tail t e b = (response.Untagged status.Bye (code_in tail), (e, (b, code_has tail)))
 said_by_key key.Capability w tail t e b = (response.Capability b.0, (e, b.1))
 said_by_key key.Enabled w tail t e b = (response.Enabled b.0, (e, b.1))
 said_by_key key.Flags w tail t e b = let f = flags_from tail b in (response.Flags f.0, (e, f.1))
@@ -283,13 +286,13 @@ tagged_said key.No x tail e b = (status.No, tt, e, b)
 tagged_said key.Bad x tail e b = (status.Bad, tt, e, b)
 tagged_said _ x tail e b = absurd b
 
-pub tagged_from : (t : List ℕ) → WordRest place.Tagged [] t → (s : Status) × Completes s × Then (IsWord (word_of s)) IsRest t
+pub tagged_from : (t : List ℕ) → WordRest place.Tagged [] t → (s : Status) × (code : Code) × Completes s × Then (IsWord (word_of s)) (IsCodedRest code) t
 tagged_from t h = by h.says
   where
-    by : WordSays place.Tagged [] ([] ++ map lower h.word) h.tail t → (s : Status) × Completes s × Then (IsWord (word_of s)) IsRest t
+    by : WordSays place.Tagged [] ([] ++ map lower h.word) h.tail t → (s : Status) × (code : Code) × Completes s × Then (IsWord (word_of s)) (IsCodedRest code) t
     by (inl k) =
         let s = tagged_said k.0 h.word h.tail k.2 k.3 in
-        (s.0, s.1, record { front = h.word; back = h.tail; whole = h.whole; first = s.2; second = s.3 })
+        (s.0, code_in h.tail, s.1, record { front = h.word; back = h.tail; whole = h.whole; first = s.2; second = (s.3, code_has h.tail) })
     by (inr s) = absurd s.1
 
 pub lower_word : (c : ℕ) → is_key_octet (lower c) ≡ true → is_word c ≡ true
@@ -317,8 +320,8 @@ lower_length : (x : List ℕ) → length (map lower x) ≡ length x
 lower_length [] = refl
 lower_length (c ∷ x) = ap (λ (n : ℕ). suc n) (lower_length x)
 
-pub tagged_to : (s : Status) (t : List ℕ) → Completes s → Then (IsWord (word_of s)) IsRest t → WordRest place.Tagged [] t
-tagged_to s t done h =
+pub tagged_to : (s : Status) (code : Code) (t : List ℕ) → Completes s → Then (IsWord (word_of s)) (IsCodedRest code) t → WordRest place.Tagged [] t
+tagged_to s code t done h =
     let k = tagged_key s done in
     record {
       word = h.front;
@@ -326,6 +329,6 @@ tagged_to s t done h =
       whole = h.whole;
       each = word_of_key h.front (key_text k.0) (key_octets k.0) (h.first ∙ k.2);
       some = (let n = key_some k.0 in let l = ap length (h.first ∙ k.2) in let m = lower_length h.front in omega (arith, n, l, m));
-      longest = rest_out h.back h.second;
-      says = inl (k.0, k.1, h.first ∙ k.2, k.3 h.back h.second);
+      longest = rest_out h.back h.second.0;
+      says = inl (k.0, k.1, h.first ∙ k.2, k.3 h.back h.second.0);
     }

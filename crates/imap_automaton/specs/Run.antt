@@ -1,5 +1,5 @@
 -- What texts do to the symbols of a stack.
-use Rattle.std.specs.Prelude.{ℕ, ◌+◌, Bool, true, false, if◌then◌else◌, List, [], ◌∷◌, Option, Some, None}
+use Rattle.std.specs.Prelude.{ℕ, ◌+◌, ◌-◌, Bool, true, false, if◌then◌else◌, List, [], ◌∷◌, Option, Some, None}
 use Rattle.imap_automaton.specs.declared.sym.Line.TheVariants as line
 use Rattle.imap_automaton.specs.declared.sym.Free.TheVariants as free
 use Rattle.imap_automaton.specs.declared.sym.Sym.{Sym}
@@ -47,3 +47,13 @@ mark ss c = if inside_top ss then c + 256 else c
 -- what an octet counts
 abbrev pub cost : List Sym → ℕ
 cost ss = if inside_top ss then 0 else 1
+
+-- how many octets of the literal at hand are still to come
+abbrev pub inside_left : List Sym → ℕ
+inside_left (sym.Free (free.Octets n) ∷ ss) = n
+inside_left _ = 0
+
+-- so many octets of the literal at hand are taken, and not its last
+abbrev pub skipped : ℕ → List Sym → List Sym
+skipped k (sym.Free (free.Octets n) ∷ ss) = sym.Free (free.Octets (n - k)) ∷ ss
+skipped k ss = ss

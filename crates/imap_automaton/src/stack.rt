@@ -1,4 +1,4 @@
-use crate::sym::{Sym, is_octets};
+use crate::sym::{Free, Sym, is_octets, octets_left};
 
 /// As many symbols as the grammar needs at once.
 pub const ROOM: usize = 5;
@@ -17,7 +17,7 @@ ghost use Rattle.std.specs.Prelude.{◌≤◌, ◌≡◌, length};
 impl Stack {
     ghost use Rattle.std.specs.Prelude.{◌<◌, List, [], ◌∷◌, MatchOption, IsTrue, ◌↔◌};
     ghost use Rattle.imap_automaton.specs.Symbols.{symbols_of};
-    ghost use Rattle.imap_automaton.specs.Run.{inside_top};
+    ghost use Rattle.imap_automaton.specs.Run.{inside_left, inside_top, skipped};
 
     pub fn of(first: Sym) -> Stack
         ensures { symbols_of result ≡ first ∷ [] }
@@ -53,6 +53,26 @@ impl Stack {
         ensures { result ≡ inside_top (symbols_of self.now) }
     {
         self.top < ROOM && is_octets(self.symbols[self.top])
+    }
+
+    /// How many octets of the literal at hand are still to come; 0 outside literals.
+    pub fn inside_left(&self) -> u32
+        ensures { result ≡ inside_left (symbols_of self.now) }
+    {
+        if self.top < ROOM {
+            octets_left(self.symbols[self.top])
+        } else {
+            0
+        }
+    }
+
+    /// Takes so many octets of the literal at hand, and not its last.
+    pub fn skip(&mut self, count: u32)
+        requires { count < inside_left (symbols_of self.old) }
+        ensures { symbols_of self.new ≡ skipped count (symbols_of self.old) }
+    {
+        let left = self.inside_left();
+        self.symbols[self.top] = Sym::Free(Free::Octets(left - count));
     }
 
     pub fn is_empty(&self) -> bool

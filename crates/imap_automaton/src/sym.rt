@@ -266,7 +266,7 @@ pub enum Move {
     Two(Sym, Sym),
 }
 
-ghost use Rattle.std.specs.Prelude.{◌≡◌};
+ghost use Rattle.std.specs.Prelude.{◌≡◌, [], ◌∷◌};
 ghost use Rattle.imap_automaton.specs.Run as runs;
 
 /// Whether the symbol is within a literal.
@@ -276,6 +276,25 @@ pub fn is_octets(sym: Sym) -> bool
     match sym {
         Sym::Free(free) => is_literal(free),
         _ => false,
+    }
+}
+
+/// How many octets of its literal a symbol still reads; 0 outside literals.
+pub fn octets_left(sym: Sym) -> u32
+    ensures { result ≡ runs.inside_left (sym ∷ []) }
+{
+    match sym {
+        Sym::Free(free) => literal_left(free),
+        _ => 0,
+    }
+}
+
+fn literal_left(free: Free) -> u32
+    ensures { result ≡ runs.inside_left (Sym.Free free ∷ []) }
+{
+    match free {
+        Free::Octets(n) => n,
+        _ => 0,
     }
 }
 

@@ -253,11 +253,7 @@ fn flags_rule(c: u16) -> Move
 fn list_rule(c: u16) -> Move
     ensures { result ≡ rules.behind_key Place.Plain Key.List c }
 {
-    spaced_pair_rule(
-        Sym::Names(Names::Open),
-        Sym::Folder(Folder::Attributes),
-        c,
-    )
+    spaced_pair_rule(Sym::Names(Names::Open), Sym::Folder(Folder::Attributes), c)
 }
 
 fn status_rule(c: u16) -> Move

@@ -9,6 +9,7 @@ use Rattle.gate_world.specs.declared.outside.Failed.{Failed}
 use Rattle.gate_world.specs.Octets.{Talk}
 use Rattle.gate_world.proofs.Joins.{Talk-append}
 use Rattle.imap_syntax.specs.declared.command.Command.{Command}
+use Rattle.imap_syntax.specs.declared.code.Code.{Code}
 use Rattle.imap_syntax.specs.declared.response.Response.{Response}
 use Rattle.imap_syntax.specs.declared.response.Response.TheVariants.{Tagged, Untagged, Fetch, Other}
 use Rattle.imap_syntax.specs.declared.response.Status.{Status}
@@ -37,26 +38,26 @@ Begins-more (v ∷ vs) r b g (text, more, spells, is, rest) =
     (text, more ++ g, spells, ap (λ (l : List ℕ). l ++ g) is ∙ append_assoc text more g, Begins-more vs r more g rest)
 
 -- where no response comes behind open ones, there is no answer
-pub none_behind : (n : ℕ) (vs rs : List Response) (s : Status) (r rest b : List ℕ) → All IsOpen vs → Begins vs r b → BeginsNone r → All IsOpen rs → Begins (rs ++ Tagged (tag_of n) s ∷ []) rest b → ⊥
-none_behind n [] [] s r rest b open_vs is none open_rs (text, more, spells, b_is, _) = none _ text more spells (sym is ∙ b_is)
-none_behind n [] (y ∷ ys) s r rest b open_vs is none open_rs (text, more, spells, b_is, _) = none _ text more spells (sym is ∙ b_is)
-none_behind n (v ∷ vs) [] s r rest b open_vs (text, more, spells, b_is, _) none open_rs (text', more', spells', b_is', _) =
+pub none_behind : (n : ℕ) (vs rs : List Response) (s : Status) (k : Code) (r rest b : List ℕ) → All IsOpen vs → Begins vs r b → BeginsNone r → All IsOpen rs → Begins (rs ++ Tagged (tag_of n) s k ∷ []) rest b → ⊥
+none_behind n [] [] s k r rest b open_vs is none open_rs (text, more, spells, b_is, _) = none _ text more spells (sym is ∙ b_is)
+none_behind n [] (y ∷ ys) s k r rest b open_vs is none open_rs (text, more, spells, b_is, _) = none _ text more spells (sym is ∙ b_is)
+none_behind n (v ∷ vs) [] s k r rest b open_vs (text, more, spells, b_is, _) none open_rs (text', more', spells', b_is', _) =
     subst IsOpen (same_front spells spells' (sym b_is ∙ b_is')).0 (All-head IsOpen v vs open_vs)
-none_behind n (v ∷ vs) (y ∷ ys) s r rest b open_vs (text, more, spells, b_is, behind) none open_rs (text', more', spells', b_is', behind') =
-    none_behind n vs ys s r rest more (All-tail IsOpen v vs open_vs) behind none (All-tail IsOpen y ys open_rs)
-    (subst (λ (l : List ℕ). Begins (ys ++ Tagged (tag_of n) s ∷ []) rest l) (sym (same_front spells spells' (sym b_is ∙ b_is')).2) behind')
+none_behind n (v ∷ vs) (y ∷ ys) s k r rest b open_vs (text, more, spells, b_is, behind) none open_rs (text', more', spells', b_is', behind') =
+    none_behind n vs ys s k r rest more (All-tail IsOpen v vs open_vs) behind none (All-tail IsOpen y ys open_rs)
+    (subst (λ (l : List ℕ). Begins (ys ++ Tagged (tag_of n) s k ∷ []) rest l) (sym (same_front spells spells' (sym b_is ∙ b_is')).2) behind')
 
 -- nor where a response comes behind open ones that is neither open nor its tagged line
-pub other_behind : (n : ℕ) (vs rs : List Response) (w : Response) (s : Status) (r rest b : List ℕ) → All IsOpen vs → Begins (vs ++ w ∷ []) r b → (IsOpen w → ⊥) → (w ≡ Tagged (tag_of n) s → ⊥) → All IsOpen rs → Begins (rs ++ Tagged (tag_of n) s ∷ []) rest b → ⊥
-other_behind n [] [] w s r rest b open_vs (text, more, spells, b_is, _) not_open not_due open_rs (text', more', spells', b_is', _) =
+pub other_behind : (n : ℕ) (vs rs : List Response) (w : Response) (s : Status) (k : Code) (r rest b : List ℕ) → All IsOpen vs → Begins (vs ++ w ∷ []) r b → (IsOpen w → ⊥) → (w ≡ Tagged (tag_of n) s k → ⊥) → All IsOpen rs → Begins (rs ++ Tagged (tag_of n) s k ∷ []) rest b → ⊥
+other_behind n [] [] w s k r rest b open_vs (text, more, spells, b_is, _) not_open not_due open_rs (text', more', spells', b_is', _) =
     not_due (same_front spells spells' (sym b_is ∙ b_is')).0
-other_behind n [] (y ∷ ys) w s r rest b open_vs (text, more, spells, b_is, _) not_open not_due open_rs (text', more', spells', b_is', _) =
+other_behind n [] (y ∷ ys) w s k r rest b open_vs (text, more, spells, b_is, _) not_open not_due open_rs (text', more', spells', b_is', _) =
     not_open (subst IsOpen (sym (same_front spells spells' (sym b_is ∙ b_is')).0) (All-head IsOpen y ys open_rs))
-other_behind n (v ∷ vs) [] w s r rest b open_vs (text, more, spells, b_is, _) not_open not_due open_rs (text', more', spells', b_is', _) =
+other_behind n (v ∷ vs) [] w s k r rest b open_vs (text, more, spells, b_is, _) not_open not_due open_rs (text', more', spells', b_is', _) =
     subst IsOpen (same_front spells spells' (sym b_is ∙ b_is')).0 (All-head IsOpen v vs open_vs)
-other_behind n (v ∷ vs) (y ∷ ys) w s r rest b open_vs (text, more, spells, b_is, behind) not_open not_due open_rs (text', more', spells', b_is', behind') =
-    other_behind n vs ys w s r rest more (All-tail IsOpen v vs open_vs) behind not_open not_due (All-tail IsOpen y ys open_rs)
-    (subst (λ (l : List ℕ). Begins (ys ++ Tagged (tag_of n) s ∷ []) rest l) (sym (same_front spells spells' (sym b_is ∙ b_is')).2) behind')
+other_behind n (v ∷ vs) (y ∷ ys) w s k r rest b open_vs (text, more, spells, b_is, behind) not_open not_due open_rs (text', more', spells', b_is', behind') =
+    other_behind n vs ys w s k r rest more (All-tail IsOpen v vs open_vs) behind not_open not_due (All-tail IsOpen y ys open_rs)
+    (subst (λ (l : List ℕ). Begins (ys ++ Tagged (tag_of n) s k ∷ []) rest l) (sym (same_front spells spells' (sym b_is ∙ b_is')).2) behind')
 
 -- events before those that an end stands behind
 pub Ended-append : (e : LinkEnd) (xs talk ys : List Event) → Ended e talk ys → Ended e (xs ++ talk) (xs ++ ys)
@@ -91,7 +92,7 @@ unread_further {xs} ys {vs} {before} {mid} n after end.Lost so (talk, gave, is, 
       took = [];
       ended = Ended-append end.Lost xs talk ys is;
       said = Talk-append so.said said;
-      lacks = inr (refl, λ rs s rest answer. none_behind n vs rs s _ rest _ so.open_still (held_with vs before.octets mid.octets so.gave gave so.spelled) none answer.open_until answer.spelled);
+      lacks = inr (refl, λ rs s rest answer. none_behind n vs rs s answer.code _ rest _ so.open_still (held_with vs before.octets mid.octets so.gave gave so.spelled) none answer.open_until answer.spelled);
       stops = tt;
     }
 unread_further {xs} ys {vs} {before} {mid} n after end.TooMuch so (gave, said, none, much) =
@@ -101,7 +102,7 @@ unread_further {xs} ys {vs} {before} {mid} n after end.TooMuch so (gave, said, n
       took = [];
       ended = refl;
       said = Talk-append so.said said;
-      lacks = inr (refl, λ rs s rest answer. none_behind n vs rs s _ rest _ so.open_still (held_with vs before.octets mid.octets so.gave gave so.spelled) none answer.open_until answer.spelled);
+      lacks = inr (refl, λ rs s rest answer. none_behind n vs rs s answer.code _ rest _ so.open_still (held_with vs before.octets mid.octets so.gave gave so.spelled) none answer.open_until answer.spelled);
       stops = omega (arith, so.given, length-append so.gave gave);
     }
 unread_further {xs} ys {vs} {before} {mid} n after (end.Bad at) so (gave, said, none, place, no_prefix) =
@@ -112,7 +113,7 @@ unread_further {xs} ys {vs} {before} {mid} n after (end.Bad at) so (gave, said, 
       took = [];
       ended = refl;
       said = Talk-append so.said said;
-      lacks = inr (refl, λ rs s rest answer. none_behind n vs rs s _ rest _ so.open_still spelled none answer.open_until answer.spelled);
+      lacks = inr (refl, λ rs s rest answer. none_behind n vs rs s answer.code _ rest _ so.open_still spelled none answer.open_until answer.spelled);
       stops = (vs, mid.octets ++ gave, spelled, omega (arith, place, so.given, length-append so.gave gave), no_prefix);
     }
 unread_further {xs} ys n after end.Memory so (gave, said) =
@@ -139,19 +140,19 @@ gather_more {vs = vs} {before} {mid} {after} w so (gave, text, said, spells, is,
     }
 
 -- the tagged line
-pub answered : {xs ys : List Event} {vs : List Response} {before mid after : Octets} (n : ℕ) (w : Response) (due : List ℕ) (s : Status) → Gathers before mid vs xs → Reads mid after (Ok w) ys → w ≡ Tagged due s → due ≡ tag_of n → Collects n before after (Ok (record { responses = vs; status = s })) (xs ++ ys)
-answered {vs = vs} {before} {mid} {after} n w due s so (gave, text, said, spells, is, given) tagged due_is =
-    let here : w ≡ Tagged (tag_of n) s = tagged ∙ ap (λ (l : List ℕ). Tagged l s) due_is in
+pub answered : {xs ys : List Event} {vs : List Response} {before mid after : Octets} (n : ℕ) (w : Response) (due : List ℕ) (s : Status) → Gathers before mid vs xs → Reads mid after (Ok w) ys → (code : Code) × (w ≡ Tagged due s code) → due ≡ tag_of n → Collects n before after (Ok (record { responses = vs; status = s })) (xs ++ ys)
+answered {vs = vs} {before} {mid} {after} n w due s so (gave, text, said, spells, is, given) (code, tagged) due_is =
+    let here : w ≡ Tagged (tag_of n) s code = tagged ∙ ap (λ (l : List ℕ). Tagged l s code) due_is in
     let spelled = read_behind vs w before mid after so.gave gave text so.spelled spells is in (
       so.gave ++ gave,
       Talk-append so.said said,
-      record { open_until = so.open_still; spelled = subst (λ (r : Response). Begins (vs ++ r ∷ []) after.octets (before.octets ++ (so.gave ++ gave))) here spelled },
+      record { code = code; open_until = so.open_still; spelled = subst (λ (r : Response). Begins (vs ++ r ∷ []) after.octets (before.octets ++ (so.gave ++ gave))) here spelled },
       omega (arith, given, so.given, length-append so.gave gave),
     )
 
 -- open responses have no tag
 untagged : (w : Response) → IsOpen w → is_tagged w ≡ false
-untagged (Tagged t s) never = absurd never
+untagged (Tagged t s k) never = absurd never
 untagged _ so = refl
 
 pub count-open : (vs : List Response) → All IsOpen vs → count_by is_tagged vs ≡ 0
@@ -160,7 +161,7 @@ count-open (v ∷ vs) so = grind (arith, nat_tests, untagged v (All-head IsOpen 
 
 -- a response that ends the life
 pub ended : {xs ys : List Event} {vs : List Response} {before mid after : Octets} (n : ℕ) (w : Response) (due : List ℕ) (e : LinkEnd) → Gathers before mid vs xs → Reads mid after (Ok w) ys → Judges w due (turn.Ends e) → due ≡ tag_of n → Fails (Unanswered n) n before e (xs ++ ys)
-ended {xs} {ys} {vs} {before} {mid} {after} n w due end.Stray so (gave, text, said, spells, is, given) (tag, s, tagged, other) due_is =
+ended {xs} {ys} {vs} {before} {mid} {after} n w due end.Stray so (gave, text, said, spells, is, given) (tag, s, code, tagged, other) due_is =
     let spelled = read_behind vs w before mid after so.gave gave text so.spelled spells is in
     record {
       talk = xs ++ ys;
@@ -168,20 +169,21 @@ ended {xs} {ys} {vs} {before} {mid} {after} n w due end.Stray so (gave, text, sa
       took = [];
       ended = refl;
       said = Talk-append so.said said;
-      lacks = inr (refl, λ rs t rest answer. other_behind n vs rs w t after.octets rest _ so.open_still spelled (λ opens. subst IsOpen tagged opens) (λ is_due. other (tag_same tag (tag_of n) s t (sym tagged ∙ is_due) ∙ sym due_is)) answer.open_until answer.spelled);
+      lacks = inr (refl, λ rs t rest answer. other_behind n vs rs w t answer.code after.octets rest _ so.open_still spelled (λ opens. subst IsOpen tagged opens) (λ is_due. other (tag_same tag (tag_of n) s t code answer.code (sym tagged ∙ is_due) ∙ sym due_is)) answer.open_until answer.spelled);
       stops = (
         vs,
         tag,
         s,
+        code,
         after.octets,
         subst (λ (r : Response). Begins (vs ++ r ∷ []) after.octets (before.octets ++ (so.gave ++ gave))) tagged spelled,
         λ same. other (same ∙ ap tag_of (omega (arith, count-open vs so.open_still)) ∙ sym due_is),
       );
     }
   where
-    tag_same : (a b : List ℕ) (s t : Status) → Tagged a s ≡ Tagged b t → a ≡ b
-    tag_same a b s t is = cc
-ended {xs} {ys} {vs} {before} {mid} {after} n w due end.Bye so (gave, text, said, spells, is, given) bye due_is =
+    tag_same : (a b : List ℕ) (s t : Status) (k l : Code) → Tagged a s k ≡ Tagged b t l → a ≡ b
+    tag_same a b s t k l is = cc
+ended {xs} {ys} {vs} {before} {mid} {after} n w due end.Bye so (gave, text, said, spells, is, given) (code, bye) due_is =
     let spelled = read_behind vs w before mid after so.gave gave text so.spelled spells is in
     record {
       talk = xs ++ ys;
@@ -189,8 +191,8 @@ ended {xs} {ys} {vs} {before} {mid} {after} n w due end.Bye so (gave, text, said
       took = [];
       ended = refl;
       said = Talk-append so.said said;
-      lacks = inr (refl, λ rs t rest answer. other_behind n vs rs w t after.octets rest _ so.open_still spelled (λ opens. subst IsOpen bye opens) (λ is_due. absurd (cc (bye, is_due))) answer.open_until answer.spelled);
-      stops = (vs, after.octets, subst (λ (r : Response). Begins (vs ++ r ∷ []) after.octets (before.octets ++ (so.gave ++ gave))) bye spelled);
+      lacks = inr (refl, λ rs t rest answer. other_behind n vs rs w t answer.code after.octets rest _ so.open_still spelled (λ opens. subst IsOpen bye opens) (λ is_due. absurd (cc (bye, is_due))) answer.open_until answer.spelled);
+      stops = (vs, code, after.octets, subst (λ (r : Response). Begins (vs ++ r ∷ []) after.octets (before.octets ++ (so.gave ++ gave))) bye spelled);
     }
 ended n w due end.Lost so reads never due_is = absurd never
 ended n w due (end.Bad at) so reads never due_is = absurd never

@@ -9,6 +9,7 @@ use Rattle.gate_world.specs.declared.event.Event.TheVariants.{Dialed, LinkEnded}
 use Rattle.gate_world.proofs.Joins.{Talk-append}
 use Rattle.imap_syntax.specs.declared.command.Command.{Command}
 use Rattle.imap_syntax.specs.declared.command.Command.TheVariants.{Login, FetchFlags}
+use Rattle.imap_syntax.specs.declared.code.Code.{Code}
 use Rattle.imap_syntax.specs.declared.response.Response.{Response}
 use Rattle.imap_syntax.specs.declared.response.Response.TheVariants.{Tagged, Untagged}
 use Rattle.imap_syntax.specs.declared.response.Status.{Status}
@@ -21,34 +22,34 @@ use Rattle.imap_client.specs.Unread.{Octets, begun}
 use Rattle.imap_client.specs.Reading.{Begins}
 use Rattle.imap_client.specs.Exchanges.{IsOpen, IsAnswer}
 use Rattle.imap_client.specs.LinkLife.{Stops, is_tagged, inbox_fetch, InboxFetched, Comes, Life, Undialed, Lived}
-use Rattle.imap_client.specs.Calls.{Reads, Ended, Fails, Answers}
+use Rattle.imap_client.specs.Calls.{NoAnswer, Reads, Ended, Fails, Answers}
 use Rattle.imap_client.specs.Turns.{Welcomes, NotOk, Obeys, AllOk, ObeysAll, Greeted, Ungreeted, Conversed, Converses, ComesTo, Lives, NeverDialed, LivedFor}
 use Rattle.imap_client.proofs.Fronts.{same_front}
 use Rattle.imap_client.proofs.Answering.{Begins-append, Begins-more, Ended-append, count-open}
 
 -- octets have one answer of a number
-one_spelled : (t : List ℕ) (rs ps : List Response) (s u : Status) (r q b : List ℕ) → All IsOpen rs → All IsOpen ps → Begins (rs ++ Tagged t s ∷ []) r b → Begins (ps ++ Tagged t u ∷ []) q b → (rs ≡ ps) × (s ≡ u) × (r ≡ q)
-one_spelled t [] [] s u r q b open_rs open_ps (x, more, spells, is, behind) (x', more', spells', is', behind') =
+one_spelled : (t : List ℕ) (rs ps : List Response) (s u : Status) (k l : Code) (r q b : List ℕ) → All IsOpen rs → All IsOpen ps → Begins (rs ++ Tagged t s k ∷ []) r b → Begins (ps ++ Tagged t u l ∷ []) q b → (rs ≡ ps) × (s ≡ u) × (r ≡ q)
+one_spelled t [] [] s u k l r q b open_rs open_ps (x, more, spells, is, behind) (x', more', spells', is', behind') =
     let front = same_front spells spells' (sym is ∙ is') in
-    (refl, status_same t s u front.0, sym behind ∙ front.2 ∙ behind')
+    (refl, status_same t s u k l front.0, sym behind ∙ front.2 ∙ behind')
   where
-    status_same : (t : List ℕ) (s u : Status) → Tagged t s ≡ Tagged t u → s ≡ u
-    status_same t s u same = cc
-one_spelled t [] (p ∷ ps) s u r q b open_rs open_ps (x, more, spells, is, behind) (x', more', spells', is', behind') =
+    status_same : (t : List ℕ) (s u : Status) (k l : Code) → Tagged t s k ≡ Tagged t u l → s ≡ u
+    status_same t s u k l same = cc
+one_spelled t [] (p ∷ ps) s u k l r q b open_rs open_ps (x, more, spells, is, behind) (x', more', spells', is', behind') =
     absurd (subst IsOpen (sym (same_front spells spells' (sym is ∙ is')).0) (All-head IsOpen p ps open_ps))
-one_spelled t (v ∷ rs) [] s u r q b open_rs open_ps (x, more, spells, is, behind) (x', more', spells', is', behind') =
+one_spelled t (v ∷ rs) [] s u k l r q b open_rs open_ps (x, more, spells, is, behind) (x', more', spells', is', behind') =
     absurd (subst IsOpen (same_front spells spells' (sym is ∙ is')).0 (All-head IsOpen v rs open_rs))
-one_spelled t (v ∷ rs) (p ∷ ps) s u r q b open_rs open_ps (x, more, spells, is, behind) (x', more', spells', is', behind') =
+one_spelled t (v ∷ rs) (p ∷ ps) s u k l r q b open_rs open_ps (x, more, spells, is, behind) (x', more', spells', is', behind') =
     let front = same_front spells spells' (sym is ∙ is') in
-    let rest = one_spelled t rs ps s u r q more (All-tail IsOpen v rs open_rs) (All-tail IsOpen p ps open_ps) behind (subst (λ (l : List ℕ). Begins (ps ++ Tagged t u ∷ []) q l) (sym front.2) behind') in
+    let rest = one_spelled t rs ps s u k l r q more (All-tail IsOpen v rs open_rs) (All-tail IsOpen p ps open_ps) behind (subst (λ (x : List ℕ). Begins (ps ++ Tagged t u l ∷ []) q x) (sym front.2) behind') in
     ((λ i. front.0 i ∷ rest.0 i), rest.1, rest.2)
 
 pub one_answer : {n : ℕ} {rs ps : List Response} {s u : Status} {r q b : List ℕ} → IsAnswer n rs s r b → IsAnswer n ps u q b → (rs ≡ ps) × (s ≡ u) × (r ≡ q)
-one_answer {n} {rs} {ps} {s} {u} {r} {q} {b} first second = one_spelled (tag_of n) rs ps s u r q b first.open_until second.open_until first.spelled second.spelled
+one_answer {n} {rs} {ps} {s} {u} {r} {q} {b} first second = one_spelled (tag_of n) rs ps s u first.code second.code r q b first.open_until second.open_until first.spelled second.spelled
 
 -- further octets behind an answer
 pub IsAnswer-more : {n : ℕ} {rs : List Response} {s : Status} {r b : List ℕ} (g : List ℕ) → IsAnswer n rs s r b → IsAnswer n rs s (r ++ g) (b ++ g)
-IsAnswer-more {n} {rs} {s} {r} {b} g answer = record { open_until = answer.open_until; spelled = Begins-more (rs ++ Tagged (tag_of n) s ∷ []) r b g answer.spelled }
+IsAnswer-more {n} {rs} {s} {r} {b} g answer = record { code = answer.code; open_until = answer.open_until; spelled = Begins-more (rs ++ Tagged (tag_of n) s answer.code ∷ []) r b g answer.spelled }
 
 -- the tagged line refuses the command
 pub refused : {events : List Event} {before after : Octets} (n : ℕ) (command : Command) (rs : List Response) (s : Status) → Answers n command before after rs s events → (s ≡ status.Ok → ⊥) → Obeys n command before after (Err end.Refused) events
@@ -60,8 +61,17 @@ refused {events} {before} {after} n command rs s answers not_ok =
       ended = refl;
       said = answers.said;
       lacks = inr (λ ps rest left other whole. not_ok (one_answer answers.answer other).1);
-      stops = (rs, Tagged (tag_of n) s, after.octets, answers.answer.spelled, not_ok);
+      stops = (rs, Tagged (tag_of n) s answers.answer.code, after.octets, answers.answer.spelled, not_ok);
     }
+
+-- the command has no answer
+pub unanswered : {events : List Event} {before : Octets} (n : ℕ) (command : Command) (e : LinkEnd) → Fails (NoAnswer n command) n before e events → Fails (NotOk n command) n before e events
+unanswered {events} {before} n command e fails =
+    record { talk = fails.talk; gave = fails.gave; took = fails.took; ended = fails.ended; said = fails.said; lacks = lacking fails.lacks; stops = fails.stops }
+  where
+    lacking : (e ≡ end.Memory) ⊎ NoAnswer n command (before.octets ++ fails.gave) fails.took → (e ≡ end.Memory) ⊎ NotOk n command (before.octets ++ fails.gave) fails.took
+    lacking (inl memory) = inl memory
+    lacking (inr none) = inr (λ rs rest left answer whole. none rs status.Ok rest left answer whole)
 
 -- one command that wasn't obeyed
 pub first_fails : {events : List Event} {before : Octets} (n : ℕ) (c : Command) (cs : List Command) (e : LinkEnd) → Fails (NotOk n c) n before e events → ObeysAll n (c ∷ cs) before (Err e) events
@@ -90,31 +100,32 @@ stops_before n rs before mid g h end.Memory answer given stops = tt
 stops_before n rs before mid g h end.Unsendable answer given stops = stops
 stops_before n rs before mid g h end.TooMuch answer given stops = omega (arith, given, length-append g h)
 stops_before n rs before mid g h (end.Bad at) answer given (known, rest, spelled, place, none) = (
-  (rs ++ Tagged (tag_of n) status.Ok ∷ []) ++ known,
+  (rs ++ Tagged (tag_of n) status.Ok answer.code ∷ []) ++ known,
   rest,
-  subst (λ (l : List ℕ). Begins ((rs ++ Tagged (tag_of n) status.Ok ∷ []) ++ known) rest l) (append_assoc before.octets g h) (Begins-append (rs ++ Tagged (tag_of n) status.Ok ∷ []) known (mid.octets ++ h) rest ((before.octets ++ g) ++ h) (Begins-more (rs ++ Tagged (tag_of n) status.Ok ∷ []) mid.octets (before.octets ++ g) h answer.spelled) spelled),
+  subst (λ (l : List ℕ). Begins ((rs ++ Tagged (tag_of n) status.Ok answer.code ∷ []) ++ known) rest l) (append_assoc before.octets g h) (Begins-append (rs ++ Tagged (tag_of n) status.Ok answer.code ∷ []) known (mid.octets ++ h) rest ((before.octets ++ g) ++ h) (Begins-more (rs ++ Tagged (tag_of n) status.Ok answer.code ∷ []) mid.octets (before.octets ++ g) h answer.spelled) spelled),
   omega (arith, place, given, length-append g h),
   none,
 )
-stops_before n rs before mid g h end.Stray answer given (known, tag, s, rest, spelled, other) =
-    let front = rs ++ Tagged (tag_of n) status.Ok ∷ [] in
-    let all = subst (λ (l : List ℕ). Begins (front ++ (known ++ Tagged tag s ∷ [])) rest l) (append_assoc before.octets g h) (Begins-append front (known ++ Tagged tag s ∷ []) (mid.octets ++ h) rest ((before.octets ++ g) ++ h) (Begins-more front mid.octets (before.octets ++ g) h answer.spelled) spelled) in (
+stops_before n rs before mid g h end.Stray answer given (known, tag, s, code, rest, spelled, other) =
+    let front = rs ++ Tagged (tag_of n) status.Ok answer.code ∷ [] in
+    let all = subst (λ (l : List ℕ). Begins (front ++ (known ++ Tagged tag s code ∷ [])) rest l) (append_assoc before.octets g h) (Begins-append front (known ++ Tagged tag s code ∷ []) (mid.octets ++ h) rest ((before.octets ++ g) ++ h) (Begins-more front mid.octets (before.octets ++ g) h answer.spelled) spelled) in (
       front ++ known,
       tag,
       s,
+      code,
       rest,
-      subst (λ (l : List Response). Begins l rest (before.octets ++ (g ++ h))) (sym (append_assoc front known (Tagged tag s ∷ []))) all,
+      subst (λ (l : List Response). Begins l rest (before.octets ++ (g ++ h))) (sym (append_assoc front known (Tagged tag s code ∷ []))) all,
       λ same. other (same ∙ ap tag_of (counted rs known answer.open_until)),
     )
   where
-    counted : (rs known : List Response) → All IsOpen rs → count_by is_tagged ((rs ++ Tagged (tag_of n) status.Ok ∷ []) ++ known) + n ≡ count_by is_tagged known + (n + 1)
-    counted rs known open_rs = omega (arith, sum_by-append (λ (x : Response). cond (is_tagged x) 1 0) (rs ++ Tagged (tag_of n) status.Ok ∷ []) known, sum_by-append (λ (x : Response). cond (is_tagged x) 1 0) rs (Tagged (tag_of n) status.Ok ∷ []), count-open rs open_rs)
-stops_before n rs before mid g h end.Bye answer given (known, rest, spelled) =
-    let front = rs ++ Tagged (tag_of n) status.Ok ∷ [] in
-    let all = subst (λ (l : List ℕ). Begins (front ++ (known ++ Untagged status.Bye ∷ [])) rest l) (append_assoc before.octets g h) (Begins-append front (known ++ Untagged status.Bye ∷ []) (mid.octets ++ h) rest ((before.octets ++ g) ++ h) (Begins-more front mid.octets (before.octets ++ g) h answer.spelled) spelled) in
-    (front ++ known, rest, subst (λ (l : List Response). Begins l rest (before.octets ++ (g ++ h))) (sym (append_assoc front known (Untagged status.Bye ∷ []))) all)
+    counted : (rs known : List Response) → All IsOpen rs → count_by is_tagged ((rs ++ Tagged (tag_of n) status.Ok answer.code ∷ []) ++ known) + n ≡ count_by is_tagged known + (n + 1)
+    counted rs known open_rs = omega (arith, sum_by-append (λ (x : Response). cond (is_tagged x) 1 0) (rs ++ Tagged (tag_of n) status.Ok answer.code ∷ []) known, sum_by-append (λ (x : Response). cond (is_tagged x) 1 0) rs (Tagged (tag_of n) status.Ok answer.code ∷ []), count-open rs open_rs)
+stops_before n rs before mid g h end.Bye answer given (known, code, rest, spelled) =
+    let front = rs ++ Tagged (tag_of n) status.Ok answer.code ∷ [] in
+    let all = subst (λ (l : List ℕ). Begins (front ++ (known ++ Untagged status.Bye code ∷ [])) rest l) (append_assoc before.octets g h) (Begins-append front (known ++ Untagged status.Bye code ∷ []) (mid.octets ++ h) rest ((before.octets ++ g) ++ h) (Begins-more front mid.octets (before.octets ++ g) h answer.spelled) spelled) in
+    (front ++ known, code, rest, subst (λ (l : List Response). Begins l rest (before.octets ++ (g ++ h))) (sym (append_assoc front known (Untagged status.Bye code ∷ []))) all)
 stops_before n rs before mid g h end.Refused answer given (known, last, rest, spelled, refuses) =
-    let front = rs ++ Tagged (tag_of n) status.Ok ∷ [] in
+    let front = rs ++ Tagged (tag_of n) status.Ok answer.code ∷ [] in
     let all = subst (λ (l : List ℕ). Begins (front ++ (known ++ last ∷ [])) rest l) (append_assoc before.octets g h) (Begins-append front (known ++ last ∷ []) (mid.octets ++ h) rest ((before.octets ++ g) ++ h) (Begins-more front mid.octets (before.octets ++ g) h answer.spelled) spelled) in
     (front ++ known, last, rest, subst (λ (l : List Response). Begins l rest (before.octets ++ (g ++ h))) (sym (append_assoc front known (last ∷ []))) all, refuses)
 
@@ -149,11 +160,11 @@ then_others {xs} ys before mid n c d cs rs (Err e) answers fails =
 -- no greeting came
 pub unread_greeting : {events : List Event} (after : Octets) (e : LinkEnd) → Reads begun after (Err e) events → Ungreeted e events
 unread_greeting {events} after end.Lost (talk, gave, is, said, none) =
-    record { talk = talk; gave = gave; ended = is; said = said; lacks = inr (λ behind greets. none _ greets.0 greets.1 greets.2 greets.3); blames = inl tt }
+    record { talk = talk; gave = gave; ended = is; said = said; lacks = inr (λ code behind greets. none _ greets.0 greets.1 greets.2 greets.3); blames = inl tt }
 unread_greeting {events} after end.TooMuch (gave, said, none, much) =
-    record { talk = events; gave = gave; ended = refl; said = said; lacks = inr (λ behind greets. none _ greets.0 greets.1 greets.2 greets.3); blames = inl much }
+    record { talk = events; gave = gave; ended = refl; said = said; lacks = inr (λ code behind greets. none _ greets.0 greets.1 greets.2 greets.3); blames = inl much }
 unread_greeting {events} after (end.Bad at) (gave, said, none, place, no_prefix) =
-    record { talk = events; gave = gave; ended = refl; said = said; lacks = inr (λ behind greets. none _ greets.0 greets.1 greets.2 greets.3); blames = inl ([], gave, refl, place, no_prefix) }
+    record { talk = events; gave = gave; ended = refl; said = said; lacks = inr (λ code behind greets. none _ greets.0 greets.1 greets.2 greets.3); blames = inl ([], gave, refl, place, no_prefix) }
 unread_greeting {events} after end.Memory (gave, said) =
     record { talk = events; gave = gave; ended = refl; said = said; lacks = inl refl; blames = inl tt }
 unread_greeting after end.Stray never = absurd never
@@ -162,8 +173,8 @@ unread_greeting after end.Refused never = absurd never
 unread_greeting after end.Unsendable never = absurd never
 
 -- a greeting that isn't OK
-bye_not_ok : Untagged status.Bye ≡ Untagged status.Ok → ⊥
-bye_not_ok same = cc
+bye_not_ok : (k l : Code) → Untagged status.Bye k ≡ Untagged status.Ok l → ⊥
+bye_not_ok k l same = cc
 
 pub greeted_badly : {events : List Event} (after : Octets) (w : Response) (e : LinkEnd) → Reads begun after (Ok w) events → Welcomes w (Err e) → Ungreeted e events
 greeted_badly {events} after w end.Refused (gave, text, said, spells, is, given) other =
@@ -172,17 +183,17 @@ greeted_badly {events} after w end.Refused (gave, text, said, spells, is, given)
       gave = gave;
       ended = refl;
       said = said;
-      lacks = inr (λ behind greets. other (same_front spells greets.2 (sym is ∙ greets.3)).0);
+      lacks = inr (λ code behind greets. other code (same_front spells greets.2 (sym is ∙ greets.3)).0);
       blames = inr (refl, (w, after.octets, (text, after.octets, spells, is, refl), other));
     }
-greeted_badly {events} after w end.Bye (gave, text, said, spells, is, given) bye =
+greeted_badly {events} after w end.Bye (gave, text, said, spells, is, given) (told, bye) =
     record {
       talk = events;
       gave = gave;
       ended = refl;
       said = said;
-      lacks = inr (λ behind greets. bye_not_ok (sym bye ∙ (same_front spells greets.2 (sym is ∙ greets.3)).0));
-      blames = inl ([], after.octets, subst (λ (r : Response). Begins (r ∷ []) after.octets gave) bye (text, after.octets, spells, is, refl));
+      lacks = inr (λ code behind greets. bye_not_ok told code (sym bye ∙ (same_front spells greets.2 (sym is ∙ greets.3)).0));
+      blames = inl ([], told, after.octets, subst (λ (r : Response). Begins (r ∷ []) after.octets gave) bye (text, after.octets, spells, is, refl));
     }
 greeted_badly after w end.Lost reads never = absurd never
 greeted_badly after w end.TooMuch reads never = absurd never
@@ -195,9 +206,9 @@ greeted_badly after w end.Unsendable reads never = absurd never
 pub ungreeted : {events : List Event} (commands : List Command) (e : LinkEnd) → Ungreeted e events → Converses commands (Err e) events
 ungreeted commands e fails = (fails.talk, fails.gave, [], fails.ended, fails.said, lacking fails.lacks, fails.blames)
   where
-    lacking : (e ≡ end.Memory) ⊎ ((behind : List ℕ) → Begins (Untagged status.Ok ∷ []) behind fails.gave → ⊥) → (e ≡ end.Memory) ⊎ ((last : List Response) → Conversed commands fails.gave [] last → ⊥)
+    lacking : (e ≡ end.Memory) ⊎ ((code : Code) (behind : List ℕ) → Begins (Untagged status.Ok code ∷ []) behind fails.gave → ⊥) → (e ≡ end.Memory) ⊎ ((last : List Response) → Conversed commands fails.gave [] last → ⊥)
     lacking (inl memory) = inl memory
-    lacking (inr none) = inr (λ last so. none so.behind so.greeted)
+    lacking (inr none) = inr (λ last so. none so.code so.behind so.greeted)
 
 -- an end, seen from before the greeting
 stops_from : (greeting : Response) (after : Octets) (g h : List ℕ) (e : LinkEnd) → is_tagged greeting ≡ false → Begins (greeting ∷ []) after.octets g → after.given ≡ length g → Stops 1 after.given after.octets h e → Stops 1 0 [] (g ++ h) e
@@ -207,16 +218,17 @@ stops_from w after g h end.Unsendable plain greets given stops = stops
 stops_from w after g h end.TooMuch plain greets given stops = omega (arith, given, length-append g h)
 stops_from w after g h (end.Bad at) plain greets given (known, rest, spelled, place, none) =
     (w ∷ known, rest, Begins-append (w ∷ []) known (after.octets ++ h) rest (g ++ h) (Begins-more (w ∷ []) after.octets g h greets) spelled, omega (arith, place, given, length-append g h), none)
-stops_from w after g h end.Stray plain greets given (known, tag, s, rest, spelled, other) = (
+stops_from w after g h end.Stray plain greets given (known, tag, s, code, rest, spelled, other) = (
   w ∷ known,
   tag,
   s,
+  code,
   rest,
-  Begins-append (w ∷ []) (known ++ Tagged tag s ∷ []) (after.octets ++ h) rest (g ++ h) (Begins-more (w ∷ []) after.octets g h greets) spelled,
+  Begins-append (w ∷ []) (known ++ Tagged tag s code ∷ []) (after.octets ++ h) rest (g ++ h) (Begins-more (w ∷ []) after.octets g h greets) spelled,
   λ same. other (same ∙ ap tag_of (grind (arith, nat_tests, plain))),
 )
-stops_from w after g h end.Bye plain greets given (known, rest, spelled) =
-    (w ∷ known, rest, Begins-append (w ∷ []) (known ++ Untagged status.Bye ∷ []) (after.octets ++ h) rest (g ++ h) (Begins-more (w ∷ []) after.octets g h greets) spelled)
+stops_from w after g h end.Bye plain greets given (known, code, rest, spelled) =
+    (w ∷ known, code, rest, Begins-append (w ∷ []) (known ++ Untagged status.Bye code ∷ []) (after.octets ++ h) rest (g ++ h) (Begins-more (w ∷ []) after.octets g h greets) spelled)
 stops_from w after g h end.Refused plain greets given (known, last, rest, spelled, refuses) =
     (w ∷ known, last, rest, Begins-append (w ∷ []) (known ++ last ∷ []) (after.octets ++ h) rest (g ++ h) (Begins-more (w ∷ []) after.octets g h greets) spelled, refuses)
 
@@ -225,7 +237,7 @@ then_commands {xs} ys after commands (Ok last) greeted (gave, took, rest, said, 
   greeted.gave ++ gave,
   took,
   Talk-append greeted.said said,
-  record { behind = after.octets ++ gave; rest = rest; greeted = Begins-more (Untagged status.Ok ∷ []) after.octets greeted.gave gave greeted.spelled; obeyed = all },
+  record { code = greeted.code; behind = after.octets ++ gave; rest = rest; greeted = Begins-more (Untagged status.Ok greeted.code ∷ []) after.octets greeted.gave gave greeted.spelled; obeyed = all },
 )
 then_commands {xs} ys after commands (Err e) greeted fails = (
   xs ++ fails.talk,
@@ -234,13 +246,13 @@ then_commands {xs} ys after commands (Err e) greeted fails = (
   Ended-append e xs fails.talk ys fails.ended,
   Talk-append greeted.said fails.said,
   lacking fails.lacks,
-  inl (stops_from (Untagged status.Ok) after greeted.gave fails.gave e refl greeted.spelled greeted.given fails.stops),
+  inl (stops_from (Untagged status.Ok greeted.code) after greeted.gave fails.gave e refl greeted.spelled greeted.given fails.stops),
 )
   where
     lacking : (e ≡ end.Memory) ⊎ ((last : List Response) (rest : List ℕ) → AllOk 1 commands last rest (after.octets ++ fails.gave) fails.took → ⊥) → (e ≡ end.Memory) ⊎ ((last : List Response) → Conversed commands (greeted.gave ++ fails.gave) fails.took last → ⊥)
     lacking (inl memory) = inl memory
     lacking (inr none) = inr (λ last so.
-        let here = Begins-more (Untagged status.Ok ∷ []) after.octets greeted.gave fails.gave greeted.spelled in
+        let here = Begins-more (Untagged status.Ok greeted.code ∷ []) after.octets greeted.gave fails.gave greeted.spelled in
         let same = (same_front here.2 so.greeted.2 (sym here.3 ∙ so.greeted.3)).2 in
         let behind : so.behind ≡ after.octets ++ fails.gave = sym so.greeted.4 ∙ sym same ∙ here.4 in
         none last so.rest (subst (λ (l : List ℕ). AllOk 1 commands last so.rest l fails.took) behind so.obeyed))
@@ -288,6 +300,7 @@ fetched so =
     let second = first.5 in
     let third = second.5 in
     record {
+      code = so.code;
       behind = so.behind;
       greeted = so.greeted;
       logging_in = first.0;
@@ -302,6 +315,7 @@ unfetched {user} {password} {gave} {took} {last} so =
     let second = first.4 in
     let third = second.4 in
     record {
+      code = so.code;
       behind = so.behind;
       rest = so.rest;
       greeted = so.greeted;

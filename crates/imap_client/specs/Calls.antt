@@ -4,6 +4,7 @@ use Rattle.gate_world.specs.declared.event.Event.{Event}
 use Rattle.gate_world.specs.declared.event.Event.TheVariants.{LinkEnded}
 use Rattle.gate_world.specs.declared.outside.Failed.{Failed}
 use Rattle.gate_world.specs.Octets.{Talk}
+use Rattle.imap_syntax.specs.declared.code.Code.{Code}
 use Rattle.imap_syntax.specs.declared.response.Response.{Response}
 use Rattle.imap_syntax.specs.declared.response.Response.TheVariants.{Tagged, Untagged}
 use Rattle.imap_syntax.specs.declared.response.Status.{Status}
@@ -97,9 +98,9 @@ Collects n before after (Err e) events = Fails (Unanswered n) n before e events
 -- what a response does to an exchange whose tag is due
 abbrev pub Judges : Response → List ℕ → Turn → Type 0
 Judges response due turn.Open = IsOpen response
-Judges response due (turn.Done status) = response ≡ Tagged due status
-Judges response due (turn.Ends end.Stray) = (tag : List ℕ) × (status : Status) × (response ≡ Tagged tag status) × (tag ≢ due)
-Judges response due (turn.Ends end.Bye) = response ≡ Untagged status.Bye
+Judges response due (turn.Done status) = (code : Code) × (response ≡ Tagged due status code)
+Judges response due (turn.Ends end.Stray) = (tag : List ℕ) × (status : Status) × (code : Code) × (response ≡ Tagged tag status code) × (tag ≢ due)
+Judges response due (turn.Ends end.Bye) = (code : Code) × (response ≡ Untagged status.Bye code)
 Judges response due (turn.Ends _) = ⊥
 
 -- these responses came, and the exchange is still open

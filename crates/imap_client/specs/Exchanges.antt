@@ -2,6 +2,7 @@
 -- with commands by their order alone, whenever their octets came.
 use Rattle.std.specs.Prelude.{◌≡◌, ◌++◌, ◌+◌, ℕ, List, [], ◌∷◌, All}
 use Rattle.imap_syntax.specs.declared.command.Command.{Command}
+use Rattle.imap_syntax.specs.declared.code.Code.{Code}
 use Rattle.imap_syntax.specs.declared.response.Response.{Response}
 use Rattle.imap_syntax.specs.declared.response.Response.TheVariants.{Tagged, Untagged, Fetch, Other}
 use Rattle.imap_syntax.specs.declared.response.Status.{Status}
@@ -17,14 +18,16 @@ pub record Exchange : Type 0 where
 
 -- a response that leaves the exchange open: one without a tag, but BYE, which ends the life
 abbrev pub IsOpen : Response → Type 0
-IsOpen (Tagged _ _) = ⊥
-IsOpen (Untagged status.Bye) = ⊥
+IsOpen (Tagged _ _ _) = ⊥
+IsOpen (Untagged status.Bye _) = ⊥
 IsOpen _ = Unit {0}
 
--- The octets begin with these responses and the tagged line of number n and this status, and the rest stands behind.
+-- The octets begin with these responses and the tagged line of number n and this status, whatever its code, and the rest
+-- stands behind.
 pub record IsAnswer (n : ℕ) (responses : List Response) (status : Status) (rest octets : List ℕ) : Type 0 where
+  pub code : Code
   pub open_until : All IsOpen responses
-  pub spelled : Begins (responses ++ Tagged (tag_of n) status ∷ []) rest octets
+  pub spelled : Begins (responses ++ Tagged (tag_of n) status code ∷ []) rest octets
 
 -- What the store gave begins with these completed exchanges, tagged from n on, and the rest stands behind them; it took
 -- their commands whole and nothing more.

@@ -3,6 +3,7 @@ use Rattle.std.specs.Prelude.{◌≡◌, ◌≢◌, ◌⊎◌, ◌<◌, ◌+◌,
 use Rattle.gate_world.specs.declared.event.Event.{Event}
 use Rattle.gate_world.specs.declared.event.Event.TheVariants.{Dialed, LinkEnded}
 use Rattle.gate_world.specs.Octets.{Talk}
+use Rattle.imap_syntax.specs.declared.code.Code.{Code}
 use Rattle.imap_syntax.specs.declared.response.Response.{Response}
 use Rattle.imap_syntax.specs.declared.response.Response.TheVariants.{Tagged, Untagged}
 use Rattle.imap_syntax.specs.declared.response.Status.{Status}
@@ -30,20 +31,21 @@ inbox_fetch user password = Login user password ∷ Select inbox None ∷ FetchF
 
 -- The store greeted with OK, three exchanges were completed with OK, and these are the responses of the last.
 pub record InboxFetched (user password gave took : List ℕ) (responses : List Response) : Type 0 where
+  pub code : Code
   pub behind : List ℕ
-  pub greeted : Begins (Untagged status.Ok ∷ []) behind gave
+  pub greeted : Begins (Untagged status.Ok code ∷ []) behind gave
   pub logging_in : List Response
   pub selecting : List Response
   pub rest : List ℕ
   pub completed : Completed 1 (answered_ok (Login user password) logging_in ∷ answered_ok (Select inbox None) selecting ∷ answered_ok FetchFlags responses ∷ []) rest behind took
 
 abbrev pub is_tagged : Response → Bool
-is_tagged (Tagged _ _) = true
+is_tagged (Tagged _ _ _) = true
 is_tagged _ = false
 
 -- a tagged line that refuses its command
 abbrev pub Refuses : Response → Type 0
-Refuses (Tagged _ s) = s ≢ status.Ok
+Refuses (Tagged _ s _) = s ≢ status.Ok
 Refuses _ = ⊥
 
 -- no front of a response stands there
@@ -61,15 +63,15 @@ Stops n given held gave end.Memory = Unit {0}
 -- no spelling begins there
 Stops n given held gave (end.Bad at) = (known : List Response) × (rest : List ℕ) × Begins known rest (held ++ gave) × (at + length rest ≡ given + length gave) × BeginsNoPrefix rest
 -- a tagged line whose tag is not the one that is due
-Stops n given held gave end.Stray = (known : List Response) × (tag : List ℕ) × (s : Status) × (rest : List ℕ) × Begins (known ++ Tagged tag s ∷ []) rest (held ++ gave) × (tag ≢ tag_of (count_by is_tagged known + n))
-Stops n given held gave end.Bye = (known : List Response) × (rest : List ℕ) × Begins (known ++ Untagged status.Bye ∷ []) rest (held ++ gave)
+Stops n given held gave end.Stray = (known : List Response) × (tag : List ℕ) × (s : Status) × (code : Code) × (rest : List ℕ) × Begins (known ++ Tagged tag s code ∷ []) rest (held ++ gave) × (tag ≢ tag_of (count_by is_tagged known + n))
+Stops n given held gave end.Bye = (known : List Response) × (code : Code) × (rest : List ℕ) × Begins (known ++ Untagged status.Bye code ∷ []) rest (held ++ gave)
 Stops n given held gave end.TooMuch = MAX_LIFE_OCTETS < given + length gave
 Stops n given held gave end.Refused = (known : List Response) × (last : Response) × (rest : List ℕ) × Begins (known ++ last ∷ []) rest (held ++ gave) × Refuses last
 Stops n given held gave end.Unsendable = ⊥
 
 -- a greeting other than OK
 abbrev pub GreetsOtherwise : List ℕ → Type 0
-GreetsOtherwise gave = (greeting : Response) × (rest : List ℕ) × Begins (greeting ∷ []) rest gave × (greeting ≢ Untagged status.Ok)
+GreetsOtherwise gave = (greeting : Response) × (rest : List ℕ) × Begins (greeting ∷ []) rest gave × ((code : Code) → greeting ≢ Untagged status.Ok code)
 
 -- what the octets of a whole life have to do with its end
 abbrev pub Blames : List ℕ → LinkEnd → Type 0

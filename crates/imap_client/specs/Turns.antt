@@ -3,6 +3,7 @@ use Rattle.std.specs.Prelude.{◌≡◌, ◌⊎◌, ◌++◌, ◌+◌, ℕ, List
 use Rattle.gate_world.specs.declared.event.Event.{Event}
 use Rattle.gate_world.specs.declared.event.Event.TheVariants.{Dialed, LinkEnded}
 use Rattle.gate_world.specs.Octets.{Talk}
+use Rattle.imap_syntax.specs.declared.code.Code.{Code}
 use Rattle.imap_syntax.specs.declared.response.Response.{Response}
 use Rattle.imap_syntax.specs.declared.response.Response.TheVariants.{Untagged}
 use Rattle.imap_syntax.specs.declared.response.Status.TheVariants as status
@@ -39,16 +40,17 @@ ObeysAll n commands before (Err e) events = Fails (λ gave took. (last : List Re
 
 -- OK alone is a welcome
 abbrev pub Welcomes : Response → Result (Unit {0}) LinkEnd → Type 0
-Welcomes greeting (Ok _) = greeting ≡ Untagged status.Ok
-Welcomes greeting (Err end.Bye) = greeting ≡ Untagged status.Bye
-Welcomes greeting (Err end.Refused) = greeting ≡ Untagged status.Ok → ⊥
+Welcomes greeting (Ok _) = (code : Code) × (greeting ≡ Untagged status.Ok code)
+Welcomes greeting (Err end.Bye) = (code : Code) × (greeting ≡ Untagged status.Bye code)
+Welcomes greeting (Err end.Refused) = (code : Code) → greeting ≡ Untagged status.Ok code → ⊥
 Welcomes greeting (Err _) = ⊥
 
 -- The greeting came, and what stands behind it is unread; or there was none that was OK.
 pub record Greeted (after : Octets) (events : List Event) : Type 0 where
   pub gave : List ℕ
   pub said : Talk gave [] events
-  pub spelled : Begins (Untagged status.Ok ∷ []) after.octets gave
+  pub code : Code
+  pub spelled : Begins (Untagged status.Ok code ∷ []) after.octets gave
   pub given : after.given ≡ length gave
 
 pub record Ungreeted (e : LinkEnd) (events : List Event) : Type 0 where
@@ -56,7 +58,7 @@ pub record Ungreeted (e : LinkEnd) (events : List Event) : Type 0 where
   pub gave : List ℕ
   pub ended : Ended e talk events
   pub said : Talk gave [] talk
-  pub lacks : (e ≡ end.Memory) ⊎ ((behind : List ℕ) → Begins (Untagged status.Ok ∷ []) behind gave → ⊥)
+  pub lacks : (e ≡ end.Memory) ⊎ ((code : Code) (behind : List ℕ) → Begins (Untagged status.Ok code ∷ []) behind gave → ⊥)
   pub blames : Blames gave e
 
 abbrev pub Greets : Result Octets LinkEnd → List Event → Type 0
@@ -67,7 +69,8 @@ Greets (Err e) events = Ungreeted e events
 pub record Conversed (commands : List Command) (gave took : List ℕ) (last : List Response) : Type 0 where
   pub behind : List ℕ
   pub rest : List ℕ
-  pub greeted : Begins (Untagged status.Ok ∷ []) behind gave
+  pub code : Code
+  pub greeted : Begins (Untagged status.Ok code ∷ []) behind gave
   pub obeyed : AllOk 1 commands last rest behind took
 
 abbrev pub Converses : List Command → Result (List Response) LinkEnd → List Event → Type 0

@@ -67,7 +67,7 @@ fn turn_of(response: &Response, due: &[u8]) -> Turn
     ensures { Judges response.now due.now result }
 {
     match response {
-        Response::Tagged { tag, status } => {
+        Response::Tagged { tag, status, .. } => {
             if tag.as_slice() == due {
                 Turn::Done(*status)
             } else {
@@ -76,6 +76,7 @@ fn turn_of(response: &Response, due: &[u8]) -> Turn
         }
         Response::Untagged {
             status: Status::Bye,
+            ..
         } => Turn::Ends(LinkEnd::Bye),
         _ => Turn::Open,
     }

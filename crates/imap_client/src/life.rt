@@ -21,9 +21,13 @@ fn welcome(greeting: &Response) -> Result<(), LinkEnd>
     ensures { Welcomes greeting.now result }
 {
     match greeting {
-        Response::Untagged { status: Status::Ok } => Ok(()),
+        Response::Untagged {
+            status: Status::Ok,
+            ..
+        } => Ok(()),
         Response::Untagged {
             status: Status::Bye,
+            ..
         } => Err(LinkEnd::Bye),
         _ => Err(LinkEnd::Refused),
     }

@@ -112,3 +112,13 @@ small_capped n le = by (nat_le n 4294967295) refl
 
 pub capped_le : (n : ℕ) → n ≤ 4294967295 → cap 4294967295 n ≤ 4294967295
 capped_le n le = let e = cap_small 4294967295 n le in omega (arith, e, le)
+
+pub long_capped : (t : List ℕ) → long_in t ≡ cap 9223372036854775807 (value_from 0 t)
+long_capped t = count_capped 9223372036854775807 0 t
+
+pub within_cap : (most n : ℕ) → cap most n ≤ most → n ≤ most
+within_cap most n le = by (nat_le n most) refl
+  where
+    by : (b : Bool) → nat_le n most ≡ b → n ≤ most
+    by true e = leb-true n most e
+    by false e = absurd (omega (arith, le, cond-false (nat_le n most) n (most + 1) e))

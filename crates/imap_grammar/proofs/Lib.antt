@@ -15,3 +15,5 @@ pub mod Readings
 pub mod Spellings
 pub mod Pieces
 pub mod DateLemmas
+pub mod CodeReadings
+pub mod Skipping

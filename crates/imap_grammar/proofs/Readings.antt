@@ -20,7 +20,10 @@ use Rattle.imap_syntax.specs.declared.response.Response.TheVariants as response
 use Rattle.imap_syntax.specs.Octets.{is_digit, is_alnum, is_text, is_word, lower}
 use Rattle.imap_syntax.specs.Texts.{Each, Then, plain_of, plain, crlf, IsWord}
 use Rattle.imap_syntax.specs.Numbers.{value_from, IsNumber}
-use Rattle.imap_syntax.specs.Lines.{word_of, IsRest, IsTagged, IsWords}
+use Rattle.imap_syntax.specs.Lines.{word_of, IsRest, IsCodedRest, IsTagged, IsWords}
+use Rattle.imap_syntax.specs.ReadCodes.{code_in}
+use Rattle.imap_syntax.proofs.CodeLemmas.{has_code}
+use Rattle.imap_syntax.specs.declared.code.Code.{Code}
 use Rattle.imap_syntax.specs.Items.{joined, no_items, items_of}
 use Rattle.imap_syntax.specs.Free.{IsFree}
 use Rattle.imap_syntax.specs.Spells.{keywords, IsFlagsLine, Says, IsWordLine, Numbered, IsUntagged, Spells, IsSpelling}
@@ -87,7 +90,7 @@ behind_words [] t h = ap (λ (u : List ℕ). small (get_or u 0 0)) h.1
 behind_words (w ∷ ws) t h = ap (λ (u : List ℕ). small (get_or u 0 0)) h.1
 
 says_small : (number : Option ℕ) (v : Response) (w tail t : List ℕ) → t ≡ w ++ tail → Each is_word w → Says number v (map lower w) tail t → small (get_or tail 0 0) ≡ true
-says_small None (response.Untagged s) w tail t e h k = behind_rest tail k.1
+says_small None (response.Untagged s code) w tail t e h k = behind_rest tail k.1.0
 says_small None (response.Capability ws) w tail t e h k = behind_words ws tail k.1
 says_small None (response.Enabled ws) w tail t e h k = behind_words ws tail k.1
 says_small None (response.Flags flags) w tail t e h k = ap (λ (u : List ℕ). small (get_or u 0 0)) k.1.2
@@ -180,21 +183,21 @@ numbered_read n _ t h = absurd h.says
 
 -- ---- behind `* `
 
-digits_true : (t : List ℕ) → Each is_digit t → all_digits t ≡ true
+pub digits_true : (t : List ℕ) → Each is_digit t → all_digits t ≡ true
 unfolding all_digits
 digits_true [] h = refl
 digits_true (c ∷ t) h = and_from (is_digit c) (all_digits t) h.0 (digits_true t h.1)
 
-true_digits : (t : List ℕ) → all_digits t ≡ true → Each is_digit t
+pub true_digits : (t : List ℕ) → all_digits t ≡ true → Each is_digit t
 unfolding all_digits
 true_digits [] e = tt
 true_digits (c ∷ t) e = let p = and_parts (is_digit c) (all_digits t) e in (p.0, true_digits t p.1)
 
-sequence_true : (n : ℕ) (t : List ℕ) → IsNumber n t → is_sequence t ≡ true
+pub sequence_true : (n : ℕ) (t : List ℕ) → IsNumber n t → is_sequence t ≡ true
 unfolding is_sequence
 sequence_true n t h = and_from _ _ (and_from _ _ (and_from _ _ (lt-ltb 0 (length t) h.some) (le-leb (length t) 10 h.few)) (digits_true t h.digits)) (le-leb (number_from 0 t) 4294967295 (let c = capped_le (value_from 0 t) (omega (arith, h.value, h.most)) in omega (arith, number_from_is t, c)))
 
-true_sequence : (t : List ℕ) → is_sequence t ≡ true → IsNumber (value_from 0 t) t
+pub true_sequence : (t : List ℕ) → is_sequence t ≡ true → IsNumber (value_from 0 t) t
 unfolding is_sequence
 true_sequence t e =
     let a = and_parts (nat_lt 0 (length t) && nat_le (length t) 10 && all_digits t) (nat_le (number_from 0 t) 4294967295) e in
@@ -235,9 +238,23 @@ flags_line flags t h =
     ∙ plain_small (32 ∷ 40 ∷ joined ns ++ 41 ∷ crlf) (refl, (refl, each_join small (joined ns) (41 ∷ crlf) (joined_small ns all) (refl, (refl, (refl, tt))))) in
     ap (λ (r : List (List ℕ) × List ℕ). r.0) (flags_read ns crlf (drop 2 (plain t)) all (ap (drop 2) e)) ∙ sym h.4
 
+rest_plain : (t : List ℕ) → IsRest t → plain t ≡ t
+rest_plain t (inl e) = ap plain e ∙ sym e
+rest_plain t (inr w) =
+    let line = w.2 in
+    ap plain (w.1 ∙ ap (λ (u : List ℕ). 32 ∷ u) line.whole)
+    ∙ plain_small (32 ∷ line.text ++ crlf) (refl, each_join small line.text crlf (each_to is_text small line.text text_small line.text_is) (refl, (refl, tt)))
+    ∙ sym (w.1 ∙ ap (λ (u : List ℕ). 32 ∷ u) line.whole)
+
+-- the code of a rest is read back
+code_read : (code : Code) (t : List ℕ) → IsCodedRest code t → code_in (plain t) ≡ code
+code_read code t h = ap code_in (rest_plain t h.0) ∙ has_code code t h.1
+
 told_said : (v : Response) (w tail t : List ℕ) → Says None v w tail t → said_in (status_named w) w (plain tail) ≡ v
 unfolding said_in told_in
-told_said (response.Untagged s) w tail t h = ap (λ (o : Option Status). said_in o w (plain tail)) (ap status_named h.0 ∙ named_back s)
+told_said (response.Untagged s code) w tail t h =
+    ap (λ (o : Option Status). said_in o w (plain tail)) (ap status_named h.0 ∙ named_back s)
+    ∙ ap (λ (c : Code). response.Untagged s c) (code_read code tail h.1)
 told_said (response.Capability ws) w tail t h =
     ap (λ (o : Option Status). said_in o w (plain tail)) (ap status_named h.0 ∙ named_none_of (codes "capability") refl refl refl refl refl)
     ∙ cond-true (bytes_eq w (codes "capability")) (response.Capability (words_in (length (plain tail)) (plain tail))) (enabled_or w (plain tail)) (text_same w (codes "capability") h.0)
@@ -342,22 +359,36 @@ rest_out : (t : List ℕ) → IsRest t → is_word (get_or t 0 0) ≡ false
 rest_out t (inl e) = ap (λ (u : List ℕ). is_word (get_or u 0 0)) e
 rest_out t (inr w) = ap (λ (u : List ℕ). is_word (get_or u 0 0)) w.1
 
-status_read : (s : Status) (t : List ℕ) → Then (IsWord (word_of s)) IsRest t → status_named (word_in (plain t)) ≡ Some s
-unfolding word_in
-status_read s t h =
-    let each = word_of_key h.front (word_of s) (word_octets s) h.first in
-    let head = plain_head h.back (behind_rest h.back h.second) in
-    let k = cut_at is_word h.front (plain h.back) (plain t) (ap plain h.whole ∙ plain_join h.front h.back (each_to is_word small h.front word_small each)) each (ap is_word head ∙ rest_out h.back h.second) in
-    ap (λ (u : List ℕ). status_named (map lower u)) k.front ∙ ap status_named h.first ∙ named_back s
+-- the status and the code behind a tag
+record StatusRead (s : Status) (code : Code) (b : List ℕ) : Type 0 where
+  named : status_named (word_in b) ≡ Some s
+  told : code_in (drop (span is_word b) b) ≡ code
 
-tagged_read : (tag : List ℕ) (s : Status) (t : List ℕ) → IsTagged tag s t → tagged_in (plain t) ≡ response.Tagged tag s
+status_read : (s : Status) (code : Code) (t : List ℕ) → Then (IsWord (word_of s)) (IsCodedRest code) t → StatusRead s code (plain t)
+unfolding word_in
+status_read s code t h =
+    let rest = h.second.0 in
+    let each = word_of_key h.front (word_of s) (word_octets s) h.first in
+    let head = plain_head h.back (behind_rest h.back rest) in
+    let k = cut_at is_word h.front (plain h.back) (plain t) (ap plain h.whole ∙ plain_join h.front h.back (each_to is_word small h.front word_small each)) each (ap is_word head ∙ rest_out h.back rest) in
+    record {
+      named = ap (λ (u : List ℕ). status_named (map lower u)) k.front ∙ ap status_named h.first ∙ named_back s;
+      told = ap code_in k.back ∙ code_read code h.back h.second;
+    }
+
+abbrev tagged_line : List ℕ → List ℕ → Response
+tagged_line tag line = response.Tagged tag (unwrap_or (status_named (word_in line)) status.Bad) (code_in (drop (span is_word line) line))
+
+tagged_read : (tag : List ℕ) (s : Status) (code : Code) (t : List ℕ) → IsTagged tag s code t → tagged_in (plain t) ≡ response.Tagged tag s code
 unfolding tagged_in
-tagged_read tag s t h =
+tagged_read tag s code t h =
     let b = plain t in
     let k = cut_at in_name tag (32 ∷ plain h.after) b (ap plain h.whole ∙ plain_join tag (32 ∷ h.after) (each_to is_alnum small tag alnum_small h.tag_is)) (each_to is_alnum in_name tag alnum_name h.tag_is) refl in
-    let named : status_named (word_in (drop (span in_name b + 1) b)) ≡ Some s = ap (λ (u : List ℕ). status_named (word_in u)) (k.past 32 (plain h.after) refl) ∙ status_read s h.after h.line in
-    ap (λ (u : List ℕ). response.Tagged u (unwrap_or (status_named (word_in (drop (span in_name b + 1) b))) status.Bad)) k.front
-    ∙ ap (λ (o : Option Status). response.Tagged tag (unwrap_or o status.Bad)) named
+    let read = status_read s code h.after h.line in
+    ap (λ (u : List ℕ). tagged_line u (drop (span in_name b + 1) b)) k.front
+    ∙ ap (tagged_line tag) (k.past 32 (plain h.after) refl)
+    ∙ ap (λ (o : Option Status). response.Tagged tag (unwrap_or o status.Bad) (code_in (drop (span is_word (plain h.after)) (plain h.after)))) read.named
+    ∙ ap (response.Tagged tag s) read.told
 
 -- ---- responses
 
@@ -378,12 +409,12 @@ star_read v t line e h = ap (λ (u : List ℕ). response_in (plain u)) e ∙ unt
 -- a spelling is read back as its value
 pub reads_value : (v : Response) (t : List ℕ) → Spells v t → response_in (plain t) ≡ v
 unfolding response_in
-reads_value (response.Tagged tag s) t h =
+reads_value (response.Tagged tag s code) t h =
     let f = tag_first tag t h.after h.whole h.tag_is in
     cond-false (get_or (plain t) 0 0 == 42) (untagged_in (drop 2 (plain t))) (cond (get_or (plain t) 0 0 == 43) response.Continue (tagged_in (plain t))) f.0
-    ∙ cond-false (get_or (plain t) 0 0 == 43) response.Continue (tagged_in (plain t)) f.1 ∙ tagged_read tag s t h
+    ∙ cond-false (get_or (plain t) 0 0 == 43) response.Continue (tagged_in (plain t)) f.1 ∙ tagged_read tag s code t h
 reads_value response.Continue t h = ap (λ (u : List ℕ). response_in (plain u)) h.1
-reads_value (response.Untagged s) t h = star_read (response.Untagged s) t h.0 h.1 h.2
+reads_value (response.Untagged s code) t h = star_read (response.Untagged s code) t h.0 h.1 h.2
 reads_value (response.Capability ws) t h = star_read (response.Capability ws) t h.0 h.1 h.2
 reads_value (response.Enabled ws) t h = star_read (response.Enabled ws) t h.0 h.1 h.2
 reads_value (response.List attributes delimiter name) t h = star_read (response.List attributes delimiter name) t h.0 h.1 h.2

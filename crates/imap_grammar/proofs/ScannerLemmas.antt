@@ -1,8 +1,9 @@
 -- What a scanner's step answers.
-use Rattle.std.proofs.Common.{◌≡◌, ℕ, zero, suc, ◌+◌, ◌-◌, ◌<◌, ◌≤◌, Bool, true, false, List, [], ◌∷◌, ◌++◌, length, take, get_or, cond, Some, None, refl, sym, ap, subst, ◌∙◌, append_assoc, arith}
+use Rattle.std.proofs.Common.{◌≡◌, ℕ, zero, suc, ◌+◌, ◌-◌, ◌<◌, ◌≤◌, Bool, true, false, List, [], ◌∷◌, ◌++◌, length, take, cond, Some, None, refl, sym, ap, subst, ◌∙◌, append_assoc, arith}
 use Rattle.std.proofs.lemmas.Bool.{cond-true, cond-false}
 use Rattle.imap_automaton.specs.declared.sym.Sym.{Sym}
-use Rattle.std.proofs.lemmas.List.{length-append, length-take-le, take_all}
+use Rattle.std.proofs.lemmas.List.{length-append, append-nil}
+use Rattle.std.proofs.Math.Seq.{take-append_seam}
 use Rattle.imap_grammar.specs.declared.answer.Scan.{Scan}
 use Rattle.imap_grammar.specs.declared.answer.Scan.TheVariants as scan
 use Rattle.imap_grammar.specs.declared.scanner.Scanner.{Scanner}
@@ -11,10 +12,9 @@ use Rattle.imap_grammar.specs.Scan.{IsPrefix, IsProperPrefix, ScanOf}
 use Rattle.imap_syntax.specs.declared.response.Response.{Response}
 use Rattle.imap_syntax.specs.Texts.{limit}
 use Rattle.imap_syntax.specs.Spells.{IsSpelling}
-use Rattle.imap_grammar.specs.Fed.{Stands, Fed, Takes}
+use Rattle.imap_grammar.specs.Fed.{Stands, Fed, FedUpTo, Takes}
 use Rattle.imap_automaton.specs.Symbols.{symbols_of}
 use Rattle.imap_grammar.proofs.Standing.{prefix_goes, no_prefix_none, stands_step, stands_whole, stands_proper}
-use Rattle.std.proofs.lemmas.Grind.{common_steps}
 
 pub cost_is : (ss : List Sym) (inside : Bool) (k : ℕ) → inside ≡ inside_top ss → k ≡ cond inside 0 1 → k ≡ cost ss
 cost_is ss inside k e f = f ∙ ap (λ (b : Bool). cond b 0 1) e
@@ -49,39 +49,46 @@ fed_proper s b h = proper_of (symbols_of s.stack) s.outside b h.more h.stands
 
 -- ---- a piece
 
-before_at : (b piece : List ℕ) (i n : ℕ) → n ≡ length b + i → take n (b ++ piece) ≡ b ++ take i piece
-before_at [] piece i n e = ap (λ (m : ℕ). take m piece) (omega (arith, e))
-before_at (x ∷ b) piece i zero e = absurd (omega (arith, e))
-before_at (x ∷ b) piece i (suc n) e = ap (λ (u : List ℕ). x ∷ u) (before_at b piece i n (omega (arith, e)))
+-- the front that an octet ends, where it stands in a piece
+octet_ends : (b piece front after : List ℕ) (c : ℕ) → piece ≡ front ++ c ∷ after → b ++ piece ≡ ((b ++ front) ++ c ∷ []) ++ after
+octet_ends b piece front after c e =
+    ap (λ (u : List ℕ). b ++ u) e ∙ sym (append_assoc b front (c ∷ after)) ∙ sym (append_assoc (b ++ front) (c ∷ []) after)
 
-take_next : (piece : List ℕ) (i c : ℕ) → i < length piece → c ≡ get_or piece i 0 → take (i + 1) piece ≡ take i piece ++ c ∷ []
-take_next piece i c lt e = grind (arith, common_steps)
+front_taken : (x after whole : List ℕ) (n : ℕ) → whole ≡ x ++ after → n ≡ length x → take n whole ≡ x
+front_taken x after whole n e f = ap (λ (k : ℕ). take k whole) f ∙ ap (take (length x)) e ∙ take-append_seam x after
 
-length_before : (b piece : List ℕ) (i : ℕ) → i ≤ length piece → length (b ++ take i piece) ≡ length b + i
-length_before b piece i le = length-append b (take i piece) ∙ ap (λ (n : ℕ). length b + n) (length-take-le i piece le)
+-- what an octet of a piece is answered is what the whole is answered, unless more is needed
+pub answered : (b piece front after : List ℕ) (c : ℕ) (before new : Scanner) (told : Scan) → piece ≡ front ++ c ∷ after → Fed before (b ++ front) → Takes new (b ++ front) c told → (told ≡ scan.NeedMore → ⊥) → ScanOf (b ++ piece) told
+answered b piece front after c before new scan.NeedMore e fed took ne = absurd (ne refl)
+answered b piece front after c before new (scan.Whole n) e fed took ne =
+    let x = (b ++ front) ++ c ∷ [] in
+    let whole = octet_ends b piece front after c e in
+    let long : n ≡ length x = omega (arith, took.0, length-append (b ++ front) (c ∷ [])) in (
+      omega (arith, long, ap length whole, length-append x after),
+      subst (λ (u : List ℕ). (v : Response) × IsSpelling v u) (sym (front_taken x after (b ++ piece) n whole long)) took.1,
+    )
+answered b piece front after c before new (scan.Bad at) e fed took ne =
+    let x = (b ++ front) ++ c ∷ [] in
+    let whole = octet_ends b piece front after c e in
+    let long : at + 1 ≡ length x = omega (arith, took.0, length-append (b ++ front) (c ∷ [])) in (
+      omega (arith, long, ap length whole, length-append x after),
+      λ p. took.1 (subst IsPrefix (front_taken x after (b ++ piece) (at + 1) whole long) p),
+      subst IsProperPrefix (sym (front_taken (b ++ front) (c ∷ after) (b ++ piece) at (ap (λ (u : List ℕ). b ++ u) e ∙ sym (append_assoc b front (c ∷ after))) took.0)) (fed_proper before (b ++ front) fed),
+    )
 
--- the octets before the one at i, and with it
-before_is : (b piece : List ℕ) (i n : ℕ) → i ≤ length piece → n ≡ length (b ++ take i piece) → take n (b ++ piece) ≡ b ++ take i piece
-before_is b piece i n le e = before_at b piece i n (e ∙ length_before b piece i le)
+-- from one place of a piece to a later one
+pub up_to : (s new : Scanner) (b piece rest left : List ℕ) → (h : FedUpTo s b piece rest) → FedUpTo new (b ++ h.front) rest left → FedUpTo new b piece left
+up_to s new b piece rest left h k = record {
+  front = h.front ++ k.front;
+  whole = h.whole ∙ ap (λ (u : List ℕ). h.front ++ u) k.whole ∙ sym (append_assoc h.front k.front left);
+  fed = subst (Fed new) (append_assoc b h.front k.front) k.fed;
+}
 
-pub front_is : (b piece : List ℕ) (i c n : ℕ) → i < length piece → c ≡ get_or piece i 0 → n ≡ length (b ++ take i piece) + 1 → take n (b ++ piece) ≡ (b ++ take i piece) ++ c ∷ []
-front_is b piece i c n lt e f =
-    before_at b piece (i + 1) n (omega (arith, f, length_before b piece i (omega arith)))
-    ∙ ap (λ (u : List ℕ). b ++ u) (take_next piece i c lt e) ∙ sym (append_assoc b (take i piece) (c ∷ []))
+-- the whole piece
+pub all_fed : (s : Scanner) (b piece rest : List ℕ) → FedUpTo s b piece rest → length rest ≡ 0 → Fed s (b ++ piece)
+all_fed s b piece [] h e = subst (λ (u : List ℕ). Fed s (b ++ u)) (sym (h.whole ∙ append-nil h.front)) h.fed
+all_fed s b piece (c ∷ rest) h e = absurd (omega (arith, e))
 
--- what the octet at i of a piece is answered is what the whole is answered, unless more is needed
-pub answered : (b piece : List ℕ) (i c : ℕ) (before new : Scanner) (told : Scan) → i < length piece → c ≡ get_or piece i 0 → Fed before (b ++ take i piece) → Takes new (b ++ take i piece) c told → (told ≡ scan.NeedMore → ⊥) → ScanOf (b ++ piece) told
-answered b piece i c before new scan.NeedMore lt e fed took ne = absurd (ne refl)
-answered b piece i c before new (scan.Whole n) lt e fed took ne =
-    (omega (arith, took.0, length_before b piece i (omega arith), length-append b piece), subst (λ (u : List ℕ). (v : Response) × IsSpelling v u) (sym (front_is b piece i c n lt e took.0)) took.1)
-answered b piece i c before new (scan.Bad at) lt e fed took ne = (
-  omega (arith, took.0, length_before b piece i (omega arith), length-append b piece),
-  λ p. took.1 (subst IsPrefix (front_is b piece i c (at + 1) lt e (omega (arith, took.0))) p),
-  subst IsProperPrefix (sym (before_is b piece i at (omega arith) took.0)) (fed_proper before (b ++ take i piece) fed),
-)
-
-pub all_fed : (s : Scanner) (b piece : List ℕ) (i : ℕ) → length piece ≤ i → Fed s (b ++ take i piece) → Fed s (b ++ piece)
-all_fed s b piece i le h = subst (λ (u : List ℕ). Fed s (b ++ u)) (take_all i piece le) h
-
-pub next_fed : (s : Scanner) (b piece : List ℕ) (i c : ℕ) → i < length piece → c ≡ get_or piece i 0 → Fed s ((b ++ take i piece) ++ c ∷ []) → Fed s (b ++ take (i + 1) piece)
-next_fed s b piece i c lt e h = subst (Fed s) (append_assoc b (take i piece) (c ∷ []) ∙ ap (λ (u : List ℕ). b ++ u) (sym (take_next piece i c lt e))) h
+-- an octet more
+pub next_fed : (new : Scanner) (b front rest after : List ℕ) (c : ℕ) → rest ≡ c ∷ after → Fed new ((b ++ front) ++ c ∷ []) → FedUpTo new (b ++ front) rest after
+next_fed new b front rest after c e h = record { front = c ∷ []; whole = e; fed = h }

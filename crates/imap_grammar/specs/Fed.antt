@@ -28,6 +28,12 @@ pub record Fed (s : Scanner) (b : List ℕ) : Type 0 where
   pub taken : s.taken ≡ length b
   pub bound : s.taken + left_of (symbols_of s.stack) ≤ 50000001 * s.outside
 
+-- of a piece the scanner was fed what stands before the rest
+pub record FedUpTo (s : Scanner) (b piece rest : List ℕ) : Type 0 where
+  pub front : List ℕ
+  pub whole : piece ≡ front ++ rest
+  pub fed : Fed s (b ++ front)
+
 -- what one octet more is answered
 abbrev pub Takes : Scanner → List ℕ → ℕ → Scan → Type 0
 Takes new b c (Whole n) = (n ≡ length b + 1) × ((v : Response) × IsSpelling v (b ++ c ∷ []))

@@ -6,5 +6,6 @@ pub mod FolderReading
 pub mod DateReading
 pub mod Passing
 pub mod ItemReading
+pub mod Codes
 pub mod Reading
 pub mod Written

@@ -12,6 +12,7 @@ use Rattle.imap_syntax.specs.declared.uid_set.UidRange.{UidRange}
 use Rattle.imap_syntax.specs.Octets.{is_digit, is_word, lower}
 use Rattle.imap_syntax.specs.UidSets.{range_of}
 use Rattle.imap_syntax.specs.Items.{add_name, no_items}
+use Rattle.imap_syntax.specs.ReadCodes.{code_in}
 unfoldable pub use Rattle.imap_grammar.specs.ItemReading.{value_in, item_in, items_in}
 
 -- ---- words
@@ -89,7 +90,7 @@ told_in w tail =
 -- by the status that the word names, or none
 unfoldable pub said_in : Option Status → List ℕ → List ℕ → Response
 said_in None w tail = told_in w tail
-said_in (Some s) w tail = Untagged s
+said_in (Some s) w tail = Untagged s (code_in tail)
 
 unfoldable pub plain_in : List ℕ → Response
 plain_in b = said_in (status_named (word_in b)) (word_in b) (drop (span is_word b) b)
@@ -103,7 +104,10 @@ untagged_in b =
     else plain_in b
 
 unfoldable pub tagged_in : List ℕ → Response
-tagged_in b = let n = span in_name b in Tagged (take n b) (unwrap_or (status_named (word_in (drop (n + 1) b))) status.Bad)
+tagged_in b =
+    let n = span in_name b in
+    let line = drop (n + 1) b in
+    Tagged (take n b) (unwrap_or (status_named (word_in line)) status.Bad) (code_in (drop (span is_word line) line))
 
 unfoldable pub response_in : List ℕ → Response
 response_in b =

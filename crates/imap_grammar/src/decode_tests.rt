@@ -27,6 +27,7 @@ fn is_tagged(alloc: Global, bytes: &[u8], tag: &[u8], status: Status) -> Result<
             Response::Tagged {
                 tag: told,
                 status: given,
+                ..
             },
         ) => Ok(told.as_slice() == tag && given == status),
         _ => Ok(false),
@@ -35,7 +36,7 @@ fn is_tagged(alloc: Global, bytes: &[u8], tag: &[u8], status: Status) -> Result<
 
 fn is_untagged(alloc: Global, bytes: &[u8], status: Status) -> Result<bool, AllocError> {
     match read(alloc, bytes)? {
-        Some(Response::Untagged { status: given }) => Ok(given == status),
+        Some(Response::Untagged { status: given, .. }) => Ok(given == status),
         _ => Ok(false),
     }
 }

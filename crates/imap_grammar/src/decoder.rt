@@ -6,6 +6,7 @@ ghost use Rattle.imap_syntax.specs.Spells.{IsSpelling};
 ghost use Rattle.imap_syntax.specs.declared.response.Response.{Response};
 ghost use Rattle.imap_grammar.specs.Reading as reading;
 
+use crate::codes::code_in;
 use crate::flags::flags_in;
 use crate::folders;
 use crate::folders::list_in;
@@ -103,7 +104,10 @@ fn plain(alloc: Global, bytes: &[u8]) -> Result<Response, AllocError>
     let word = before(bytes, n);
     match status_named(word) {
         None => told(alloc, word, behind(bytes, n)),
-        Some(status) => Ok(Response::Untagged { status }),
+        Some(status) => {
+            let code = code_in(alloc, behind(bytes, n))?;
+            Ok(Response::Untagged { status, code })
+        }
     }
 }
 
@@ -127,8 +131,10 @@ fn tagged(alloc: Global, bytes: &[u8]) -> Result<Response, AllocError>
 {
     let n = name_len(bytes);
     let tag = Bytes::copy_of(alloc, before(bytes, n))?;
-    let status = status_in(behind(bytes, n + 1)).unwrap_or(Status::Bad);
-    Ok(Response::Tagged { tag, status })
+    let line = behind(bytes, n + 1);
+    let status = status_in(line).unwrap_or(Status::Bad);
+    let code = code_in(alloc, behind(line, word_len(line)))?;
+    Ok(Response::Tagged { tag, status, code })
 }
 
 #[tactic(auto, unfolding(crate::specs::Reading::response_in))]

@@ -168,10 +168,17 @@ pub fn long_of(digits: &[u8]) -> u64
     value
 }
 
-fn is_few(word: &[u8]) -> bool
-    ensures { result ≡ (nat_lt 0 (length word.now) && nat_le (length word.now) 10) }
+fn is_few(word: &[u8], most: usize) -> bool
+    ensures { result ≡ (nat_lt 0 (length word.now) && nat_le (length word.now) most) }
 {
-    0 < word.len() && word.len() <= 10
+    0 < word.len() && word.len() <= most
+}
+
+/// Whether the word is of at most so many digits.
+pub fn is_decimal(word: &[u8], most: usize) -> bool
+    ensures { result ≡ (nat_lt 0 (length word.now) && nat_le (length word.now) most && reading.all_digits word.now) }
+{
+    is_few(word, most) && all_digits(word)
 }
 
 fn is_small(word: &[u8]) -> bool
@@ -185,7 +192,7 @@ fn is_small(word: &[u8]) -> bool
 pub fn is_sequence(word: &[u8]) -> bool
     ensures { result ≡ reading.is_sequence word.now }
 {
-    is_few(word) && all_digits(word) && is_small(word)
+    is_decimal(word, 10) && is_small(word)
 }
 
 /// Whether the word, whatever the case of its letters, is the key.

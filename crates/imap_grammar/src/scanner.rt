@@ -36,7 +36,7 @@ impl Scanner {
     ghost use Rattle.std.specs.Prelude.{List, [], ◌∷◌, ◌++◌, ℕ};
     ghost use Rattle.imap_grammar.specs.declared.answer.Scan.TheVariants.{NeedMore};
     ghost use Rattle.imap_grammar.specs.Scan.{ScanOf};
-    ghost use Rattle.imap_grammar.specs.Fed.{Fed, Takes};
+    ghost use Rattle.imap_grammar.specs.Fed.{Fed, FedUpTo, Takes};
 
     pub fn new() -> Scanner
         ensures { Fed result [] }
@@ -70,6 +70,22 @@ impl Scanner {
         }
     }
 
+    /// Takes the octets of the literal at hand, but for its last: what follows them.
+    fn skip<'a>(&mut self, octets: &'a [u8]) -> &'a [u8]
+        requires { (b : List ℕ) × Fed self.old b }
+        ensures { (b : List ℕ) → Fed self.old b → FedUpTo self.new b octets.now result.now }
+    {
+        let left = self.stack.inside_left();
+        if left <= 1 {
+            return octets;
+        }
+        let count = octets.len().min(left as usize - 1);
+        let (_, rest) = octets.split_at(count);
+        self.stack.skip(count as u32);
+        self.taken += count;
+        rest
+    }
+
     /// Takes the next piece. The answer is that for all pieces joined, and its places count from the first piece. After
     /// another answer than NeedMore the scanner is to be made anew.
     pub fn feed(&mut self, piece: &[u8]) -> Scan
@@ -77,14 +93,19 @@ impl Scanner {
         ensures scan { (b : List ℕ) → Fed self.old b → ScanOf (b ++ piece.now) result }
         ensures more { (b : List ℕ) → Fed self.old b → result ≡ NeedMore → Fed self.new (b ++ piece.now) }
     {
-        for octet in piece {
+        let mut rest = piece;
+        'feeding: loop {
+            let octets = self.skip(rest);
+            let Some((octet, after)) = octets.split_first() else {
+                return Scan::NeedMore;
+            };
             let answer = self.take(*octet);
             match answer {
                 Scan::NeedMore => {}
                 _ => return answer,
             }
+            rest = after;
         }
-        Scan::NeedMore
     }
 }
 

@@ -30,7 +30,7 @@ pub fn words_in(alloc: Global, bytes: &[u8]) -> Result<Names, AllocError>
     Ok(names)
 }
 
-fn range_of(first: u32, second: u32) -> UidRange
+pub fn range_of(first: u32, second: u32) -> UidRange
     ensures { result ≡ range_of first second }
 {
     if first <= second {

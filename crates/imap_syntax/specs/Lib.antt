@@ -2,6 +2,8 @@ pub mod Octets
 pub mod Texts
 pub mod Numbers
 pub mod UidSets
+pub mod Codes
+pub mod ReadCodes
 pub mod Lines
 pub mod Strings
 pub mod Values

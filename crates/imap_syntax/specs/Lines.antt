@@ -1,9 +1,11 @@
 -- Status lines: tag SP ("OK" / "NO" / "BAD") rest CRLF, and what follows the word of an untagged one.
 use Rattle.std.specs.Prelude.{◌≡◌, ◌⊎◌, ℕ, ◌<◌, ◌≤◌, List, [], ◌∷◌, ◌++◌, length, codes}
+use Rattle.imap_syntax.specs.declared.code.Code.{Code}
 use Rattle.imap_syntax.specs.declared.response.Status.{Status}
 use Rattle.imap_syntax.specs.declared.response.Status.TheVariants as status
 use Rattle.imap_syntax.specs.Octets.{is_alnum, is_text, is_word}
 use Rattle.imap_syntax.specs.Texts.{Each, Then, crlf, IsWord}
+use Rattle.imap_syntax.specs.Codes.{HasCode}
 
 abbrev pub word_of : Status → List ℕ
 word_of status.Ok = codes "ok"
@@ -29,14 +31,18 @@ pub record IsLine (t : List ℕ) : Type 0 where
 abbrev pub IsRest : List ℕ → Type 0
 IsRest t = (t ≡ crlf) ⊎ ((line : List ℕ) × (t ≡ 32 ∷ line) × IsLine line)
 
-pub record IsTagged (tag : List ℕ) (s : Status) (t : List ℕ) : Type 0 where
+-- a rest that has this code
+abbrev pub IsCodedRest : Code → List ℕ → Type 0
+IsCodedRest code t = IsRest t × HasCode code t
+
+pub record IsTagged (tag : List ℕ) (s : Status) (code : Code) (t : List ℕ) : Type 0 where
   pub after : List ℕ
   pub whole : t ≡ tag ++ 32 ∷ after
   pub tag_is : Each is_alnum tag
   pub some : 0 < length tag
   pub few : length tag ≤ 32
   pub completes : Completes s
-  pub line : Then (IsWord (word_of s)) IsRest after
+  pub line : Then (IsWord (word_of s)) (IsCodedRest code) after
 
 -- ---- words
 

@@ -18,7 +18,7 @@ use Rattle.imap_syntax.specs.Octets.{is_word, lower}
 use Rattle.imap_syntax.specs.declared.response.FetchItems.{FetchItems}
 use Rattle.imap_syntax.specs.Texts.{Each, plain, outside, limit, crlf, IsCrlf}
 use Rattle.imap_syntax.specs.Numbers.{IsNumber}
-use Rattle.imap_syntax.specs.Lines.{word_of, IsLine, IsRest, IsTagged, IsWords}
+use Rattle.imap_syntax.specs.Lines.{word_of, IsLine, IsCodedRest, IsTagged, IsWords}
 use Rattle.imap_syntax.specs.UidSets.{IsVanished}
 use Rattle.imap_syntax.specs.Items.{Item, IsNames, IsItems, kept, items_of}
 use Rattle.imap_syntax.specs.Folders.{IsListLine, IsStatusLine}
@@ -39,7 +39,7 @@ IsItemsLine items t = (is : List Item) × (rest : List ℕ) × (t ≡ 32 ∷ 40 
 
 -- what a line says, behind the number n or none, by its first word in lower case and what follows the word
 abbrev pub Says : Option ℕ → Response → List ℕ → List ℕ → List ℕ → Type 0
-Says None (Untagged status) word tail line = (word ≡ word_of status) × IsRest tail
+Says None (Untagged status code) word tail line = (word ≡ word_of status) × IsCodedRest code tail
 Says None (Capability words) word tail line = (word ≡ codes "capability") × IsWords words tail
 Says None (Enabled words) word tail line = (word ≡ codes "enabled") × IsWords words tail
 Says None (Listing attributes delimiter name) word tail line = (word ≡ codes "list") × IsListLine attributes delimiter name tail
@@ -74,7 +74,7 @@ IsUntagged v t =
 
 -- the text spells the response
 abbrev pub Spells : Response → List ℕ → Type 0
-Spells (Tagged tag status) t = IsTagged tag status t
+Spells (Tagged tag status code) t = IsTagged tag status code t
 Spells Continue t = (line : List ℕ) × (t ≡ 43 ∷ line) × IsLine line
 Spells v t = (line : List ℕ) × (t ≡ 42 ∷ 32 ∷ line) × IsUntagged v line
 

@@ -2,10 +2,12 @@
 //! octets that spell them.
 #![tactic(auto)]
 
+mod code;
 mod command;
 mod response;
 mod uid_set;
 
+pub use code::Code;
 pub use command::Command;
 pub use response::{FetchItems, Response, Status, StatusItems};
 pub use uid_set::{UidRange, UidSet};

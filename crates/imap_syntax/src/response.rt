@@ -1,4 +1,5 @@
 // What a store's responses say (RFC 9051 section 7).
+use crate::code::Code;
 use crate::uid_set::UidSet;
 use gate_world::{Bytes, Names};
 
@@ -43,8 +44,8 @@ pub struct StatusItems {
 /// What one response says.
 #[derive(Debug, PartialEq, Drop)]
 pub enum Response {
-    Tagged { tag: Bytes, status: Status },
-    Untagged { status: Status },
+    Tagged { tag: Bytes, status: Status, code: Code },
+    Untagged { status: Status, code: Code },
     /// A continuation.
     Continue,
     /// The words as they were told.

@@ -1,22 +1,37 @@
-use Rattle.std.proofs.Common.{◌++◌, take, get_or, refl}
-use Rattle.imap_grammar.proofs.ScannerLemmas.{answered, all_fed, next_fed, fed_proper}
+use Rattle.std.proofs.Common.{List, ℕ, ◌++◌, ap, ◌∙◌}
+use Rattle.imap_grammar.specs.Fed.{FedUpTo}
+use Rattle.imap_grammar.proofs.ScannerLemmas.{answered, up_to, all_fed, next_fed, fed_proper}
 use Rattle.imap_grammar.proofs.scanner.Scanner.feed.Goals as goal
 
-pub returns-in_default : goal.returns-in_default
-returns-in_default c =
-    let piece = c.args.piece.now in
-    let i = c.loop-octet.octet-index in
+pub returns-in_default-clause-scan : goal.returns-in_default-clause-scan
+returns-in_default-clause-scan c = λ b f.
+    let here = c.feeding.invariant b f in
+    let s = c.skip-octets.new.self in
+    let at = up_to c.feeding.self s b c.args.piece.now c.feeding.rest.now c.skip-octets.result.now here (c.skip-octets.ensures (b ++ here.front) here.fed) in
+    fed_proper s (b ++ c.args.piece.now) (all_fed s b c.args.piece.now c.skip-octets.result.now at c.in_default.ensures.cases)
+
+pub returns-in_default-clause-more : goal.returns-in_default-clause-more
+returns-in_default-clause-more c = λ b f e.
+    let here = c.feeding.invariant b f in
+    let s = c.skip-octets.new.self in
+    let at = up_to c.feeding.self s b c.args.piece.now c.feeding.rest.now c.skip-octets.result.now here (c.skip-octets.ensures (b ++ here.front) here.fed) in
+    all_fed s b c.args.piece.now c.skip-octets.result.now at c.in_default.ensures.cases
+
+pub returns-in_default-answer : goal.returns-in_default-answer
+returns-in_default-answer c =
     record {
-      scan = λ b f. answered b piece i (get_or piece i 0) c.loop-octet.self c.take-answer.new.self c.take-answer.result c.loop-octet-test.true refl (c.loop-octet.invariant b f) (c.take-answer.ensures (b ++ take i piece) (c.loop-octet.invariant b f)) c.in_default.not-NeedMore;
-      more = λ b f e. absurd (c.in_default.not-NeedMore e);
+      scan = λ b f.
+          let here = c.feeding.invariant b f in
+          let s = c.skip-octets.new.self in
+          let at = up_to c.feeding.self s b c.args.piece.now c.feeding.rest.now c.skip-octets.result.now here (c.skip-octets.ensures (b ++ here.front) here.fed) in
+          let piece = at.whole ∙ ap (λ (u : List ℕ). at.front ++ u) c.in-Some.ensures.cases.0 in
+          answered b c.args.piece.now at.front c.in-Some.after.now c.in-Some.octet.now s c.take-answer.new.self c.take-answer.result piece at.fed (c.take-answer.ensures (b ++ at.front) at.fed) c.in_default-answer.not-NeedMore;
+      more = λ b f e. absurd (c.in_default-answer.not-NeedMore e);
     }
 
-pub loop-octet-preserved : goal.loop-octet-preserved
-loop-octet-preserved c = λ b f.
-    let piece = c.args.piece.now in
-    let i = c.loop-octet.octet-index in
-    next_fed c.take-answer.new.self b piece i (get_or piece i 0) c.loop-octet-test.true refl (c.in-NeedMore.ensures (b ++ take i piece) (c.loop-octet.invariant b f))
-
-pub returns-clause-scan : goal.returns-clause-scan
-returns-clause-scan c = λ b f.
-    fed_proper c.loop-octet.self (b ++ c.args.piece.now) (all_fed c.loop-octet.self b c.args.piece.now c.loop-octet.octet-index c.loop-octet-test.false (c.loop-octet.invariant b f))
+pub feeding-preserved : goal.feeding-preserved
+feeding-preserved c = λ b f.
+    let here = c.feeding.invariant b f in
+    let s = c.skip-octets.new.self in
+    let at = up_to c.feeding.self s b c.args.piece.now c.feeding.rest.now c.skip-octets.result.now here (c.skip-octets.ensures (b ++ here.front) here.fed) in
+    up_to s c.take-answer.new.self b c.args.piece.now c.skip-octets.result.now c.in-Some.after.now at (next_fed c.take-answer.new.self b at.front c.skip-octets.result.now c.in-Some.after.now c.in-Some.octet.now c.in-Some.ensures.cases.0 (c.in-NeedMore.ensures (b ++ at.front) at.fed))

@@ -1,0 +1,94 @@
+//! How fast a store's responses are read. `scan_speed PIECE` makes 10,000 responses of 10,000 octets each, and says how long
+//! `memchr` takes to go over them, and how long they take to be scanned, in pieces of PIECE octets, and decoded.
+#![tactic(auto)]
+
+ghost use Rattle.std.specs.Prelude.{◌≤◌, ◌<◌, length, take, IfSome};
+ghost use Rattle.imap_syntax.specs.Spells.{IsSpelling};
+ghost use Rattle.imap_syntax.specs.declared.response.Response.{Response};
+
+use imap_grammar::{Scan, Scanner, decode};
+use memchr::memchr;
+use std::alloc::{AllocError, Global};
+use std::env;
+use std::time::Instant;
+
+const RESPONSES: usize = 10_000;
+
+/// The octets of each response's literal.
+const HEADER: usize = 10_000;
+
+fn responses(alloc: Global) -> Result<Vec<u8>, AllocError> {
+    let header = vec![in alloc; b'a'; HEADER]?;
+    let mut out = Vec::new(alloc);
+    for uid in 1..RESPONSES + 1 {
+        let front = format!(in alloc; "* X (UID {uid} FLAGS (\\Seen) {{{HEADER}}}\r\n")?;
+        out.extend_from_slice(front.as_bytes())?;
+        out.extend_from_slice(&header)?;
+        out.extend_from_slice(b")\r\n")?;
+    }
+    Ok(out)
+}
+
+/// How many octets the response at the front has, where there is one. They are fed in pieces.
+fn first(bytes: &[u8], piece: usize) -> Option<usize>
+    requires { 0 < piece }
+    ensures length { IfSome result (λ n. n ≤ length bytes.now) }
+    ensures whole { IfSome result (λ n. (v : Response) × IsSpelling v (take n bytes.now)) }
+{
+    let mut scanner = Scanner::new();
+    let mut rest = bytes;
+    while !rest.is_empty() {
+        let (front, after) = rest.split_at(rest.len().min(piece));
+        match scanner.feed(front) {
+            Scan::NeedMore => {}
+            Scan::Whole(n) => return Some(n),
+            Scan::Bad(_) => return None,
+        }
+        rest = after;
+    }
+    None
+}
+
+/// Scans and decodes responses up to the first octets that are none: how many there were.
+fn read(alloc: Global, bytes: &[u8], piece: usize) -> Result<usize, AllocError>
+    requires { 0 < piece }
+{
+    let mut rest = bytes;
+    for count in 0..bytes.len() {
+        let Some(n) = first(rest, piece) else {
+            return Ok(count);
+        };
+        let (front, after) = rest.split_at(n);
+        decode(alloc, front)?;
+        rest = after;
+    }
+    Ok(bytes.len())
+}
+
+fn measure(rt: &HostRuntime, piece: usize) -> Result<(), anyhow::Error>
+    requires { 0 < piece }
+{
+    let bytes = responses(rt.alloc())?;
+    let length = bytes.len();
+    let start = Instant::now(rt)?;
+    let found = memchr(b'\0', &bytes).is_some();
+    let searched = start.elapsed(rt)?.as_micros();
+    println!(rt; "{length} octets, of which one is 0: {found}; memchr: {searched} microseconds")?;
+    let start = Instant::now(rt)?;
+    let count = read(rt.alloc(), &bytes, piece)?;
+    let taken = start.elapsed(rt)?.as_micros();
+    println!(rt; "{count} responses in pieces of {piece}: {taken} microseconds")?;
+    Ok(())
+}
+
+fn main(rt: HostRuntime) -> Result<(), anyhow::Error> {
+    let piece = match env::args(&rt)?.nth(1) {
+        Some(word) => word.parse::<usize>().unwrap_or(0),
+        None => 0,
+    };
+    if piece == 0 {
+        println!(rt; "usage: scan_speed PIECE")?;
+        return Ok(());
+    }
+    measure(&rt, piece)
+}
