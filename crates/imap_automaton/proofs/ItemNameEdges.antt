@@ -118,8 +118,8 @@ section_goes c t rest (u ∷ us) e (inl one, all) p =
     inr (or_right (c == 93) (is_inner c) i, next_at name.Section name.After name.Section (c == 93) t false (inner_not c i) (record { units = us; rest = rest; whole = cons_tail c one.0 t (concat us ++ 93 ∷ rest) f; units_are = all; rest_is = p }))
 section_goes c t rest (u ∷ us) e (inr q, all) p =
     let inner : List ℕ = escaped q.0 ++ 34 ∷ [] in
-    let f : c ∷ t ≡ 34 ∷ (inner ++ (concat us ++ 93 ∷ rest)) = e ∙ ap (λ (v : List ℕ). (v ++ concat us) ++ 93 ∷ rest) q.2 ∙ ap (λ (v : List ℕ). 34 ∷ v) (append_assoc inner (concat us) (93 ∷ rest)) in
-    inl (refl, cons_head c 34 t (inner ++ (concat us ++ 93 ∷ rest)) f, record { front = inner; back = concat us ++ 93 ∷ rest; whole = cons_tail c 34 t (inner ++ (concat us ++ 93 ∷ rest)) f; first = (q.0, q.1, refl); second = record { units = us; rest = rest; whole = refl; units_are = all; rest_is = p } })
+    let f : c ∷ t ≡ 34 ∷ (inner ++ (concat us ++ 93 ∷ rest)) = e ∙ ap (λ (v : List ℕ). (v ++ concat us) ++ 93 ∷ rest) q.1.1 ∙ ap (λ (v : List ℕ). 34 ∷ v) (append_assoc inner (concat us) (93 ∷ rest)) in
+    inl (refl, cons_head c 34 t (inner ++ (concat us ++ 93 ∷ rest)) f, record { front = inner; back = concat us ++ 93 ∷ rest; whole = cons_tail c 34 t (inner ++ (concat us ++ 93 ∷ rest)) f; first = (q.0, q.1.0, refl); second = record { units = us; rest = rest; whole = refl; units_are = all; rest_is = p } })
 
 digit_not : (c : ℕ) → is_digit c ≡ true → (c == 62) ≡ false
 digit_not c e = grind arith

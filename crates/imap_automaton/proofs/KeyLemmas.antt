@@ -150,7 +150,7 @@ each_mid p x y c h = (each_append p x (c ∷ y) h).1.0
 atom_no_brace : (c : ℕ) → is_atom c ≡ true → (c == 123) ≡ false
 atom_no_brace c e = grind arith
 
-key_octet_parts : (c : ℕ) → is_key_octet c ≡ true → (is_atom c ≡ true) × ((lower c == c) ≡ true) × ((c == 33) ≡ false) × ((c == 123) ≡ false) × (not (c == 45) ≡ true)
+pub key_octet_parts : (c : ℕ) → is_key_octet c ≡ true → (is_atom c ≡ true) × ((lower c == c) ≡ true) × ((c == 33) ≡ false) × ((c == 123) ≡ false) × (not (c == 45) ≡ true)
 key_octet_parts c e =
     let p = and_parts (is_atom c && (lower c == c) && not (c == 33)) (not (c == 45)) e in
     let q = and_parts (is_atom c && (lower c == c)) (not (c == 33)) p.0 in

@@ -93,9 +93,9 @@ other_from t word tail e each some longest no_key h =
         (
           formed h.rest (some_name h.rest h.value word tail same each some) h.form,
           λ m.
-          let k = told_key (map lower h.rest) m in
-          let is : word ≡ h.rest = one_cut is_atom word tail h.rest (32 ∷ h.value) each longest (named_atoms k.0 h.rest k.2) refl same in
-          no_key k.0 k.1 (ap (map lower) is ∙ k.2),
+              let k = told_key (map lower h.rest) m in
+              let is : word ≡ h.rest = one_cut is_atom word tail h.rest (32 ∷ h.value) each longest (named_atoms k.0 h.rest k.2) refl same in
+              no_key k.0 k.1 (ap (map lower) is ∙ k.2),
         ),
         h.value_is,
       );
@@ -148,7 +148,7 @@ pub record OtherWord (t : List ℕ) : Type 0 where
   pub no_key : (k : Key) → Among k (keys place.Item) → map lower word ≡ key_text k → ⊥
 
 quote_or_small : (s : ItemName) (c : ℕ) (t : List ℕ) → NameForm s (c ∷ t) → nat_lt c 256 ≡ true
-quote_or_small s c t h = elim (form_forth s c t h) [ | inl q ↦ ap (λ (d : ℕ). nat_lt d 256) q.1 | inr g ↦ takes_small s c g.0 ]
+quote_or_small s c t h = elim (form_forth s c t h) [ inl q ↦ ap (λ (d : ℕ). nat_lt d 256) q.1 | inr g ↦ takes_small s c g.0 ]
 
 rest_small : (s : ItemName) (rest v tail : List ℕ) → NameForm s rest → tail ≡ rest ++ 32 ∷ v → (nat_lt (get_or tail 0 0) 256 ≡ true) × (0 < length tail)
 rest_small s [] v tail h e = (ap (λ (u : List ℕ). nat_lt (get_or u 0 0) 256) e, (let l = ap length e in omega (arith, l)))

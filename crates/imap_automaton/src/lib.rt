@@ -20,5 +20,6 @@ mod word_rule;
 pub use stack::Stack;
 pub use step::advance;
 pub use sym::{
-    Date, Folder, Free, Item, ItemName, Key, Line, Move, Names, Pending, Phrase, Place, Set, Str, Sym, Value, Words,
+    Date, Folder, Free, Item, ItemName, Key, Line, Move, Names, Pending, Phrase, Place, Set, Str,
+    Sym, Value, Words,
 };

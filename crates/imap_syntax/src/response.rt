@@ -44,8 +44,15 @@ pub struct StatusItems {
 /// What one response says.
 #[derive(Debug, PartialEq, Drop)]
 pub enum Response {
-    Tagged { tag: Bytes, status: Status, code: Code },
-    Untagged { status: Status, code: Code },
+    Tagged {
+        tag: Bytes,
+        status: Status,
+        code: Code,
+    },
+    Untagged {
+        status: Status,
+        code: Code,
+    },
     /// A continuation.
     Continue,
     /// The words as they were told.
@@ -61,12 +68,21 @@ pub enum Response {
         name: Bytes,
     },
     /// Counts of a folder, whose name is as in a LIST.
-    StatusItems { name: Bytes, items: StatusItems },
+    StatusItems {
+        name: Bytes,
+        items: StatusItems,
+    },
     /// In kept form, as in a FETCH.
     Flags(Names),
     Exists(u32),
     Expunge(u32),
-    Fetch { seq: u32, items: FetchItems },
-    Vanished { earlier: bool, uids: UidSet },
+    Fetch {
+        seq: u32,
+        items: FetchItems,
+    },
+    Vanished {
+        earlier: bool,
+        uids: UidSet,
+    },
     Other,
 }
