@@ -12,7 +12,7 @@ use Rattle.imap_automaton.specs.declared.sym.Place.TheVariants as place
 use Rattle.imap_automaton.proofs.Langs.{Among, WordRest}
 use Rattle.imap_automaton.proofs.KeyLemmas.{text_same, same_text}
 use Rattle.imap_automaton.proofs.Lists.{cons_head, cons_tail}
-use Rattle.imap_automaton.proofs.ItemEdges.{stop_no_digit, item_to, lower_length}
+use Rattle.imap_automaton.proofs.ItemEdges.{stop_no_digit, item_to}
 use Rattle.imap_automaton.proofs.OtherItems.{named_atoms, other_word}
 use Rattle.imap_grammar.specs.Spans.{span, number_in, long_in, flags_in}
 use Rattle.imap_grammar.specs.StringReading.{astring_in}
@@ -57,11 +57,11 @@ unfolding is_told
 size_told = refl
 
 header_told : (is_told (codes "body[header]") ≡ true) × (is_told (codes "body[header]<0>") ≡ true)
-unfolding is_told
+unfolding is_told is_header is_body
 header_told = (refl, refl)
 
 body_told : (is_told (codes "body[]") ≡ true) × (is_told (codes "body[]<0>") ≡ true)
-unfolding is_told
+unfolding is_told is_header is_body
 body_told = (refl, refl)
 
 -- an item whose name is a key
@@ -116,7 +116,7 @@ told_date seconds so_far value back h =
     ap (λ (z : ℤ). (told so_far (Date z), drop 28 b)) r.0 ∙ ap (λ (u : List ℕ). (told so_far (Date seconds), u)) r.1
 
 told_flags : (ns : List (List ℕ)) (so_far : FetchItems) (value back : List ℕ) → IsNames ns value → value_in so_far (codes "flags") (plain value ++ back) ≡ (told so_far (Flags ns), back)
-unfolding value_in text_in
+unfolding value_in text_in is_header is_body
 told_flags ns so_far value back h =
     let inner : plain value ≡ 40 ∷ joined ns ++ 41 ∷ [] = ap plain h.1 ∙ plain_small (40 ∷ joined ns ++ 41 ∷ []) (refl, each_join small (joined ns) (41 ∷ []) (joined_small ns h.0) (refl, tt)) in
     let f : drop 1 (plain value ++ back) ≡ joined ns ++ 41 ∷ back = ap (λ (u : List ℕ). drop 1 (u ++ back)) inner ∙ append_assoc (joined ns) (41 ∷ []) back in
@@ -160,23 +160,23 @@ string_read s x y (inr q) out =
 
 -- a header, under either name
 header_read : (s : List ℕ) (so_far : FetchItems) (value back : List ℕ) → IsNString s value → stops (get_or back 0 0) ≡ true → (value_in so_far (codes "body[header]") (plain value ++ back) ≡ (told so_far (Header s), back)) × (value_in so_far (codes "body[header]<0>") (plain value ++ back) ≡ (told so_far (Header s), back))
-unfolding value_in text_in
+unfolding value_in text_in is_header is_body
 header_read s so_far value back h out =
     let r = ap (λ (q : List ℕ × List ℕ). (record so_far { header = Some (take header_limit q.0) }, q.1)) (string_read s value back h out) in (r, r)
 
 body_read : (s : List ℕ) (so_far : FetchItems) (value back : List ℕ) → IsNString s value → stops (get_or back 0 0) ≡ true → (value_in so_far (codes "body[]") (plain value ++ back) ≡ (told so_far (Body s), back)) × (value_in so_far (codes "body[]<0>") (plain value ++ back) ≡ (told so_far (Body s), back))
-unfolding value_in text_in
+unfolding value_in text_in is_header is_body
 body_read s so_far value back h out =
     let r = ap (λ (q : List ℕ × List ℕ). (record so_far { body = Some (take body_limit q.0) }, q.1)) (string_read s value back h out) in (r, r)
 
 -- ---- other items
 
 either : {P : Type 0} (a b : Bool) → (a || b) ≡ true → (a ≡ true → P) → (b ≡ true → P) → P
-either a b e f g = elim (or_cases a b e) [ | inl x ↦ f x | inr y ↦ g y ]
+either a b e f g = elim (or_cases a b e) [ inl x ↦ f x | inr y ↦ g y ]
 
 -- a told name is a key
 told_key : {P : Type 0} (w : List ℕ) → is_told w ≡ true → ((k : Key) → Among k (keys place.Item) → w ≡ key_text k → P) → P
-unfolding is_told
+unfolding is_told is_header is_body
 told_key w e f =
     let is : List ℕ → Bool = bytes_eq w in
     either (is (codes "uid") || is (codes "modseq") || is (codes "rfc822.size") || is (codes "internaldate") || is (codes "flags") || is_header w) (is_body w) e

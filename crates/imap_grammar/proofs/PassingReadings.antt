@@ -7,7 +7,7 @@ use Rattle.imap_automaton.specs.declared.sym.Sym.{Sym}
 use Rattle.imap_automaton.specs.declared.sym.Move.{Move}
 use Rattle.imap_automaton.specs.declared.sym.Move.TheVariants as move
 use Rattle.imap_automaton.specs.Rules.{rule_of}
-use Rattle.imap_automaton.specs.Run.{moved, step, is_octets, mark}
+use Rattle.imap_automaton.specs.Run.{moved, step, is_octets, inside_top, mark}
 use Rattle.imap_automaton.specs.Flow.{ends_open, begins, stops, first_begins, Good}
 use Rattle.imap_automaton.specs.ItemRules.{item_start}
 use Rattle.imap_automaton.proofs.Langs.{Lang, Langs}
@@ -29,6 +29,23 @@ passed_at b i ss lt = rw (drop_at b i lt) refl
 pub passed_end : (b : List ℕ) (i : ℕ) (ss : List Sym) → length b ≤ i → passed (drop i b) ss ≡ 0
 unfolding passed
 passed_end b i ss le = rw (drop_all i b le) refl
+
+-- a step with the octet as it stands in a text
+pub marked_step : (ss : List Sym) (c : ℕ) (inside : Bool) (marked : ℕ) (took : Bool) (next : Option (List Sym)) → inside ≡ inside_top ss → marked ≡ cond inside (c + 256) c → step ss marked ≡ cond took next None → step ss (mark ss c) ≡ cond took next None
+marked_step ss c inside marked took next e f g = ap (step ss) (ap (λ (b : Bool). cond b (c + 256) c) (sym e) ∙ sym f) ∙ g
+
+pub not_taken : (b : List ℕ) (i : ℕ) (ss : List Sym) → i < length b → step ss (mark ss (get_or b i 0)) ≡ None → passed (drop i b) ss ≡ 0
+not_taken b i ss lt e = passed_at b i ss lt ∙ ap (λ (o : Option (List Sym)). beyond o (passed (drop (i + 1) b))) e
+
+beyond_more : (left : List Sym) (more : List Sym → ℕ) → (left ≡ [] → ⊥) → beyond (Some left) more ≡ more left + 1
+beyond_more [] more ne = absurd (ne refl)
+beyond_more (s ∷ ss) more ne = refl
+
+pub taken_on : (b : List ℕ) (i : ℕ) (ss left : List Sym) → i < length b → step ss (mark ss (get_or b i 0)) ≡ Some left → (left ≡ [] → ⊥) → passed (drop i b) ss ≡ passed (drop (i + 1) b) left + 1
+taken_on b i ss left lt e ne = passed_at b i ss lt ∙ ap (λ (o : Option (List Sym)). beyond o (passed (drop (i + 1) b))) e ∙ beyond_more left (passed (drop (i + 1) b)) ne
+
+pub taken_last : (b : List ℕ) (i : ℕ) (ss left : List Sym) → i < length b → step ss (mark ss (get_or b i 0)) ≡ Some left → left ≡ [] → passed (drop i b) ss ≡ 1
+taken_last b i ss left lt e none = passed_at b i ss lt ∙ ap (λ (o : Option (List Sym)). beyond o (passed (drop (i + 1) b))) (e ∙ ap (λ (l : List Sym). Some l) none)
 
 -- ---- where a text ends
 

@@ -13,10 +13,10 @@ use Rattle.imap_grammar.specs.Passing.{passed}
 unfoldable pub nstring_in : List ℕ → List ℕ × List ℕ
 nstring_in b = if lower (get_or b 0 0) == 110 then ([], drop 3 b) else astring_in b
 
-abbrev pub is_header : List ℕ → Bool
+unfoldable pub is_header : List ℕ → Bool
 is_header name = bytes_eq name (codes "body[header]") || bytes_eq name (codes "body[header]<0>")
 
-abbrev pub is_body : List ℕ → Bool
+unfoldable pub is_body : List ℕ → Bool
 is_body name = bytes_eq name (codes "body[]") || bytes_eq name (codes "body[]<0>")
 
 -- the name of an item that is told

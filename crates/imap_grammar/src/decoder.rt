@@ -11,9 +11,7 @@ use crate::flags::flags_in;
 use crate::folders;
 use crate::folders::list_in;
 use crate::items::items_in;
-use crate::octets::{
-    before, behind, is_key, is_sequence, name_len, number_of, octet_at, word_len,
-};
+use crate::octets::{before, behind, is_key, is_sequence, name_len, number_of, octet_at, word_len};
 use crate::sets::{vanished_in, words_in};
 use gate_world::{Bytes, Names};
 use imap_syntax::{Response, Status};

@@ -17,7 +17,7 @@ const WHOLE: [&[u8]; 12] = [
     b"* 1 FETCH (UIDX 1)\r\n",
     b"* 1 FETCH (X[A (B) UID 7 C] 5)\r\n",
     b"* 1 FETCH (BODY[HEADER.FIELDS (\"a]b\" SUBJECT)]<12> NIL UID 7)\r\n",
-    b"* 1 FETCH (BODY[1.2.MIME] \"x\" ENVELOPE (NIL () ((NIL \"a\" {1}\r\n))) UID 7)\r\n",
+    b"* 1 FETCH (BODY[1.2.MIME] \"x\" ENVELOPE (NIL () ((NIL \"a\" {1}\r\n)))) UID 7)\r\n",
     b"* 1 FETCH ([] a UID 7)\r\n",
     b"* 1 FETCH (X] ~ UID 7)\r\n",
     b"* 1 FETCH (BODY[HEADER]<1> \"\" BODY[]<00> x)\r\n",
@@ -40,7 +40,10 @@ const BAD: [(&[u8], usize); 15] = [
     (b"* 1 FETCH (\"X\" a)", 11),
     (b"* 1 FETCH (X a b)", 16),
     (b"* 1 FETCH (BODY[] {50000001}", 26),
-    (b"* 1 FETCH (X (((((((((((((((((((((((((((((((((((((((((((((((((((((((((((((((((", 77),
+    (
+        b"* 1 FETCH (X (((((((((((((((((((((((((((((((((((((((((((((((((((((((((((((((((",
+        77,
+    ),
 ];
 
 #[test]
@@ -117,7 +120,7 @@ const TEXTS: [(&[u8], Option<u32>, Option<&[u8]>, Option<&[u8]>); 8] = [
         None,
     ),
     (
-        b"* 1 FETCH (BODY[HEADER]<1> \"x\" BODY[\"]\"] {3}\r\n) (~)\r\n",
+        b"* 1 FETCH (BODY[HEADER]<1> \"x\" BODY[\"]\"] {3}\r\n) ( X ~)\r\n",
         None,
         None,
         None,
@@ -133,7 +136,9 @@ fn has_texts(
     body: Option<&[u8]>,
 ) -> Result<bool, AllocError> {
     match items_of(alloc, bytes)? {
-        Some(items) => Ok(items.uid == uid && is_text(&items.header, header) && is_text(&items.body, body)),
+        Some(items) => Ok(
+            items.uid == uid && is_text(&items.header, header) && is_text(&items.body, body),
+        ),
         None => Ok(false),
     }
 }

@@ -1,7 +1,8 @@
 // The items of a FETCH.
-ghost use Rattle.std.specs.Prelude.{◌≡◌, ◌+◌, ◌∷◌, [], IfOk, map, take, Some};
+ghost use Rattle.std.specs.Prelude.{◌≡◌, ◌+◌, ◌∷◌, [], IfOk, map, take, drop, Some};
 ghost use Rattle.imap_automaton.specs.ItemRules.{item_start};
-ghost use Rattle.imap_syntax.specs.Items.{no_items};
+ghost use Rattle.imap_syntax.specs.Items.{no_items, header_limit, body_limit};
+ghost use Rattle.imap_grammar.specs.Spans as spans;
 ghost use Rattle.imap_syntax.specs.Octets as classes;
 ghost use Rattle.imap_grammar.specs.ItemReading as reading;
 ghost use Rattle.imap_grammar.specs.Passing as passing;
@@ -109,12 +110,14 @@ fn nstring_in(alloc: Global, bytes: &[u8], most: usize) -> Result<(Bytes, &[u8])
     Ok((Bytes::copy_of(alloc, before(octets, most))?, rest))
 }
 
+#[tactic(auto, unfolding(crate::specs::ItemReading::is_header))]
 fn is_header(name: &[u8]) -> bool
     ensures { result ≡ reading.is_header (map classes.lower name.now) }
 {
     is_key(name, b"body[header]") || is_key(name, b"body[header]<0>")
 }
 
+#[tactic(auto, unfolding(crate::specs::ItemReading::is_body))]
 fn is_body(name: &[u8]) -> bool
     ensures { result ≡ reading.is_body (map classes.lower name.now) }
 {
@@ -135,6 +138,45 @@ fn is_told(name: &[u8]) -> bool
         || is_body(name)
 }
 
+/// The header told by the string at the front, and what follows it.
+fn header_in<'a>(
+    alloc: Global,
+    so_far: FetchItems,
+    value: &'a [u8],
+) -> Result<(FetchItems, &'a [u8]), AllocError>
+    ensures items { IfOk result (λ r. r.0 ≡ record so_far { header = Some (take header_limit (reading.nstring_in value.now).0) }) }
+    ensures rest { IfOk result (λ r. r.1.now ≡ (reading.nstring_in value.now).1) }
+{
+    let (header, rest) = nstring_in(alloc, value, HEADER_LIMIT)?;
+    Ok((with_header(so_far, header), rest))
+}
+
+/// The body told by the string at the front, and what follows it.
+fn body_in<'a>(
+    alloc: Global,
+    so_far: FetchItems,
+    value: &'a [u8],
+) -> Result<(FetchItems, &'a [u8]), AllocError>
+    ensures items { IfOk result (λ r. r.0 ≡ record so_far { body = Some (take body_limit (reading.nstring_in value.now).0) }) }
+    ensures rest { IfOk result (λ r. r.1.now ≡ (reading.nstring_in value.now).1) }
+{
+    let (body, rest) = nstring_in(alloc, value, BODY_LIMIT)?;
+    Ok((with_body(so_far, body), rest))
+}
+
+/// The flags told by the names at the front, and what follows them.
+fn told_flags<'a>(
+    alloc: Global,
+    so_far: FetchItems,
+    value: &'a [u8],
+) -> Result<(FetchItems, &'a [u8]), AllocError>
+    ensures items { IfOk result (λ r. r.0 ≡ record so_far { flags = Some (spans.flags_in (drop 1 value.now)).0 }) }
+    ensures rest { IfOk result (λ r. r.1.now ≡ (spans.flags_in (drop 1 value.now)).1) }
+{
+    let (flags, rest) = flags_in(alloc, behind(value, 1))?;
+    Ok((with_flags(so_far, flags), rest))
+}
+
 /// The value of an item that has octets or flags, and what follows it.
 #[tactic(auto, unfolding(crate::specs::ItemReading::text_in))]
 fn text_in<'a>(
@@ -147,14 +189,11 @@ fn text_in<'a>(
     ensures rest { IfOk result (λ r. r.1.now ≡ (reading.text_in so_far (map classes.lower name.now) value.now).1) }
 {
     if is_header(name) {
-        let (header, rest) = nstring_in(alloc, value, HEADER_LIMIT)?;
-        Ok((with_header(so_far, header), rest))
+        header_in(alloc, so_far, value)
     } else if is_body(name) {
-        let (body, rest) = nstring_in(alloc, value, BODY_LIMIT)?;
-        Ok((with_body(so_far, body), rest))
+        body_in(alloc, so_far, value)
     } else {
-        let (flags, rest) = flags_in(alloc, behind(value, 1))?;
-        Ok((with_flags(so_far, flags), rest))
+        told_flags(alloc, so_far, value)
     }
 }
 
