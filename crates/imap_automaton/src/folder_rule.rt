@@ -105,10 +105,7 @@ fn count_word_rule(c: u16) -> Move
     if is_status_word(c) {
         Move::One(Sym::Folder(Folder::CountWord))
     } else if c == b' ' as u16 {
-        Move::Two(
-            Sym::Item(Item::Long(0, 0)),
-            Sym::Folder(Folder::MoreCounts),
-        )
+        Move::Two(Sym::Item(Item::Long(0, 0)), Sym::Folder(Folder::MoreCounts))
     } else {
         Move::Fail
     }

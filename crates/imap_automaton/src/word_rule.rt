@@ -6,9 +6,7 @@ ghost use Rattle.imap_automaton.specs.WordRules as rules;
 use crate::class::{CR, is_atom, is_word, lower};
 use crate::free_rule::text_rule;
 use crate::set_rule::words_more;
-use crate::sym::{
-    Folder, Item, Key, Line, Move, Names, Pending, Phrase, Place, Set, Str, Sym,
-};
+use crate::sym::{Folder, Item, Key, Line, Move, Names, Pending, Phrase, Place, Set, Str, Sym};
 
 /// The word in lower case.
 fn key_text(key: Key) -> &'static [u8]
@@ -205,11 +203,7 @@ fn flags_rule(c: u16) -> Move
 fn list_rule(c: u16) -> Move
     ensures { result ≡ rules.behind_key Place.Plain Key.List c }
 {
-    spaced_pair_rule(
-        Sym::Names(Names::Open),
-        Sym::Folder(Folder::Attributes),
-        c,
-    )
+    spaced_pair_rule(Sym::Names(Names::Open), Sym::Folder(Folder::Attributes), c)
 }
 
 fn status_rule(c: u16) -> Move
