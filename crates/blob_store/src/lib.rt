@@ -1,7 +1,7 @@
 //! The uploads of a run (RFC 8620, section 6.1), oldest first, each found by the digest of its octets.
 #![tactic(auto)]
 
-mod blob_id;
+pub mod blob_id;
 mod error;
 mod store;
 #[cfg(test)]

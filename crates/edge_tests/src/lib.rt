@@ -11,4 +11,6 @@ mod long_texts;
 #[cfg(test)]
 mod requests;
 #[cfg(test)]
+mod steady_worlds;
+#[cfg(test)]
 mod subjects;

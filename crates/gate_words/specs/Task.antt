@@ -5,7 +5,7 @@ use Rattle.gate_words.specs.Rules.{is_user, is_base}
 use Rattle.gate_words.specs.declared.option.Name.TheVariants.{Store, User, Base}
 use Rattle.gate_words.specs.declared.place.Place.{Place}
 use Rattle.gate_words.specs.declared.task.Task.{Task}
-use Rattle.gate_words.specs.declared.task.Task.TheVariants.{Once}
+use Rattle.gate_words.specs.declared.task.Task.TheVariants.{Once, Show}
 
 -- Three options in any order, each given one value, the user and the base by their rules.
 pub record NamesPlace (words : List (List ℕ)) (place : Place) : Type 0 where
@@ -20,3 +20,4 @@ pub record NamesPlace (words : List (List ℕ)) (place : Place) : Type 0 where
 -- the words, without the program's name, ask for the task
 abbrev pub IsTask : List (List ℕ) → Task → Type 0
 IsTask words (Once place) = (options : List (List ℕ)) × (words ≡ codes "once" ∷ options) × NamesPlace options place
+IsTask words Show = words ≡ codes "show" ∷ []

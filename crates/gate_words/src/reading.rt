@@ -1,5 +1,5 @@
 // Reading the words of a command.
-ghost use Rattle.std.specs.Prelude.{◌≡◌, List, ℕ, map, string_bytes, option_map, IfOk, IfErr};
+ghost use Rattle.std.specs.Prelude.{◌≡◌, List, ℕ, ◌∷◌, codes, map, string_bytes, option_map, IfOk, IfErr};
 ghost use Rattle.gate_words.specs.Given.{place_of};
 ghost use Rattle.gate_words.specs.Task.{IsTask};
 ghost use Rattle.gate_words.specs.declared.task.Task.{Task};
@@ -49,6 +49,33 @@ fn owned(alloc: Global, place: LentPlace<'_>) -> Result<Place, AllocError>
     })
 }
 
+/// The task of the command `once` with these options.
+fn once(alloc: Global, options: &[String]) -> Result<Task, WordsError>
+    ensures ok { IfOk result (λ task. IsTask (codes "once" ∷ map string_bytes options.now) task) }
+    ensures refused { IfErr result (λ error. error ≡ Refused
+        → (task : Task) → ¬ IsTask (codes "once" ∷ map string_bytes options.now) task) }
+{
+    let Some(place) = place_of(options) else {
+        return Err(WordsError::Refused);
+    };
+    Ok(Task::Once {
+        place: owned(alloc, place)?,
+    })
+}
+
+/// The task of the command `show`, which has no options.
+fn show(options: &[String]) -> Result<Task, WordsError>
+    ensures ok { IfOk result (λ task. IsTask (codes "show" ∷ map string_bytes options.now) task) }
+    ensures refused { IfErr result (λ error. error ≡ Refused
+        → (task : Task) → ¬ IsTask (codes "show" ∷ map string_bytes options.now) task) }
+{
+    if options.is_empty() {
+        Ok(Task::Show)
+    } else {
+        Err(WordsError::Refused)
+    }
+}
+
 /// The task that the words of a command ask for, the program's own name left out.
 pub fn read_words(alloc: Global, words: &[String]) -> Result<Task, WordsError>
     ensures ok { IfOk result (λ task. IsTask (map string_bytes words.now) task) }
@@ -58,15 +85,11 @@ pub fn read_words(alloc: Global, words: &[String]) -> Result<Task, WordsError>
     let Some((command, options)) = words.split_first() else {
         return Err(WordsError::Refused);
     };
-    if command.as_str() != "once" {
-        return Err(WordsError::Refused);
+    match command.as_str() {
+        "once" => once(alloc, options),
+        "show" => show(options),
+        _ => Err(WordsError::Refused),
     }
-    let Some(place) = place_of(options) else {
-        return Err(WordsError::Refused);
-    };
-    Ok(Task::Once {
-        place: owned(alloc, place)?,
-    })
 }
 
 /// The law that words are one task at most.

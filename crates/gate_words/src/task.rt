@@ -11,6 +11,8 @@ use thiserror::Error;
 pub enum Task {
     /// Answers one request on standard input.
     Once { place: Place },
+    /// Shows the message on standard input as an Email object.
+    Show,
 }
 
 /// Why words are no task.

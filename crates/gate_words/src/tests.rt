@@ -21,12 +21,13 @@ fn shown(alloc: Global, line: &str) -> Result<String, AllocError> {
             );
             format!(in alloc; "{store} {user} {base}")
         }
+        Ok(Task::Show) => String::from_str(alloc, "show"),
         Err(error) => format!(in alloc; "{error}"),
     }
 }
 
 #[test]
-fn places_that_words_name(rt: HostRuntime) -> Result<(), Fail> {
+fn tasks_that_words_name(rt: HostRuntime) -> Result<(), Fail> {
     let alloc = rt.alloc();
     for (line, wanted) in [
         (USUAL, "127.0.0.1:1143 alice http://127.0.0.1:8080"),
@@ -43,6 +44,7 @@ fn places_that_words_name(rt: HostRuntime) -> Result<(), Fail> {
             "once|--user|\u{e9}|--base|http://\u{1F600}|--store|s",
             "s \u{e9} http://\u{1F600}",
         ),
+        ("show", "show"),
     ] {
         assert_eq!(rt; shown(alloc, line)?.as_str(), wanted, "{line}");
     }
@@ -84,6 +86,15 @@ fn words_that_are_refused(rt: HostRuntime) -> Result<(), Fail> {
         "once|--store|s|--user|u|--base|http://h\n",
         "once|--store|s|--user|u|--base=",
         "Once|--store|s|--user|u|--base|http://h",
+        "show|x",
+        "show|",
+        "show|show",
+        "show|--store|a",
+        "show|--store|s|--user|u|--base|http://h",
+        "show|--help",
+        "Show",
+        "shows",
+        "--show",
     ] {
         assert_eq!(rt; shown(alloc, line)?.as_str(), "words refused", "{line}");
     }

@@ -16,6 +16,10 @@ pub record Faults : Type 0 where
   pub front : ℕ
   pub say : ℕ
 
+-- no part has failed
+abbrev pub no_faults : Faults
+no_faults = record { link = 0; keep = 0; front = 0; say = 0 }
+
 -- no part has failed since
 abbrev pub NoFault : Faults → Faults → Type 0
 NoFault before now = now ≡ before

@@ -9,7 +9,7 @@ pub struct Fail {
     pub kept: bool,
 }
 
-/// What a `ScriptWorld` does.
+/// What a world in memory does. A `SteadyWorld` passes over `fails` and `stop_at`.
 #[derive(Drop)]
 pub struct Script {
     /// What the store gives, a text for each link life.

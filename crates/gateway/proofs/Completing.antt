@@ -5,10 +5,10 @@ use Rattle.std.proofs.lemmas.List.{append-nil}
 use Rattle.std.proofs.lemmas.List.Concat.{flat_map-append}
 use Rattle.std.proofs.lemmas.Option.{same_Some}
 use Rattle.gate_world.specs.declared.event.Event.{Event}
-use Rattle.gate_world.specs.declared.event.Event.TheVariants.{Accepted, ClientEnded, ClientDone, FrontFailed, Word}
+use Rattle.gate_world.specs.declared.event.Event.TheVariants.{Accepted, ClientEnded, ClientDone, Word}
 use Rattle.gate_world.specs.Octets.{store_gave_in, store_took_in, client_gave_in, client_took_in}
 use Rattle.gate_words.specs.declared.place.Place.{Place}
-use Rattle.gate_words.specs.declared.task.Task.TheVariants.{Once}
+use Rattle.gate_words.specs.declared.task.Task.TheVariants.{Once, Show}
 use Rattle.gate_words.proofs.Tasks.{same-task}
 use Rattle.imap_syntax.specs.declared.response.Response.{Response}
 use Rattle.imap_grammar.proofs.Spellings.{spelling_front, spelling_some}
@@ -24,14 +24,16 @@ use Rattle.jmap_core.specs.Form.{request_of}
 use Rattle.jmap_core.proofs.Reading.{request_of-asks}
 use Rattle.gateway.specs.declared.front.AskError.{AskError}
 use Rattle.gateway.specs.declared.front.AskError.TheVariants as ask
+use Rattle.gateway.specs.declared.front.FrontError.TheVariants as error
+use Rattle.gateway.specs.declared.front.Input.TheVariants.{Whole, Cut}
 use Rattle.gateway.specs.declared.mail.Marks.{Marks}
 use Rattle.gateway.specs.Mail.{IsMail}
 use Rattle.gateway.specs.Machine.{Account, Machine, Follows, Moves, Stays, opened}
 use Rattle.gateway.specs.Front.{Asked}
 use Rattle.gateway.specs.Segment.{counts_line, first_told, no_memory_line, Replies, NoRequest, TooLarge, Answered, Unavailable, Wanting as WantingReply, Segment, NoneComes, NotAccepted, Unasked, Served, front_faults}
-use Rattle.gateway.specs.Run.{Run, Refused, Wanting, ServedOnce, account_of, EndsOnce}
+use Rattle.gateway.specs.Run.{Run, Refused, Wanting, ServedOnce, ShownOne, account_of, EndsOnce}
 use Rattle.gateway.specs.Complete.{asked_for, Tells, Completes}
-use Rattle.gateway.proofs.Quiet.{asks_gave_store, asks_took_store, asks_took_client, talk_gave_client, talk_took_client, heard_gave_client, heard_gave_store, heard_took_store, before_one, segment_octets, life_octets}
+use Rattle.gateway.proofs.Quiet.{gives_took, gives_gave, asks_gave_store, asks_took_store, talk_gave_client, talk_took_client, heard_gave_client, heard_gave_store, heard_took_store, before_one, segment_octets, life_octets}
 
 -- a body is one request
 one_reading : {body : List ℕ} {first second : Request} → IsRequest body first → IsRequest body second → first ≡ second
@@ -68,19 +70,19 @@ one_fetch {first = first} {second} a b =
 
 -- what the parts of a request have of each kind of octets
 asked_took : (r : Result (List ℕ) AskError) (es : List Event) → Asked r es → flat_map client_took_in es ≡ []
-asked_took (Ok octets) es (asks, is, said) = ap (λ (l : List Event). flat_map client_took_in l) is ∙ before_one client_took_in asks ClientEnded refl ∙ asks_took_client asks said.kind
-asked_took (Err ask.TooLarge) es (gave, said, much) = asks_took_client es said.kind
-asked_took (Err ask.Failed) es (asks, gave, is, said) = ap (λ (l : List Event). flat_map client_took_in l) is ∙ before_one client_took_in asks FrontFailed refl ∙ asks_took_client asks said.kind
-asked_took (Err ask.Memory) es (gave, said) = asks_took_client es said.kind
+asked_took (Ok octets) es so = gives_took 10000001 (Ok (Whole octets)) es so
+asked_took (Err ask.TooLarge) es (octets, so) = gives_took 10000001 (Ok (Cut octets)) es so
+asked_took (Err ask.Failed) es so = gives_took 10000001 (Err error.Failed) es so
+asked_took (Err ask.Memory) es so = gives_took 10000001 (Err error.Memory) es so
 
 asked_gave : (octets : List ℕ) (es : List Event) → Asked (Ok octets) es → flat_map client_gave_in es ≡ octets
-asked_gave octets es (asks, is, said) = ap (λ (l : List Event). flat_map client_gave_in l) is ∙ before_one client_gave_in asks ClientEnded refl ∙ said.gave_is
+asked_gave octets es so = gives_gave 10000001 (Whole octets) es so
 
 asked_store_gave : (octets : List ℕ) (es : List Event) → Asked (Ok octets) es → flat_map store_gave_in es ≡ []
-asked_store_gave octets es (asks, is, said) = ap (λ (l : List Event). flat_map store_gave_in l) is ∙ before_one store_gave_in asks ClientEnded refl ∙ asks_gave_store asks said.kind
+asked_store_gave octets es (asks, is, said, few) = ap (λ (l : List Event). flat_map store_gave_in l) is ∙ before_one store_gave_in asks ClientEnded refl ∙ asks_gave_store asks said.kind
 
 asked_store_took : (octets : List ℕ) (es : List Event) → Asked (Ok octets) es → flat_map store_took_in es ≡ []
-asked_store_took octets es (asks, is, said) = ap (λ (l : List Event). flat_map store_took_in l) is ∙ before_one store_took_in asks ClientEnded refl ∙ asks_took_store asks said.kind
+asked_store_took octets es (asks, is, said, few) = ap (λ (l : List Event). flat_map store_took_in l) is ∙ before_one store_took_in asks ClientEnded refl ∙ asks_took_store asks said.kind
 
 life_took : {user password : List ℕ} {r : Result (List Response) LinkEnd} (es : List Event) → Life user password r es → flat_map client_took_in es ≡ []
 life_took es (Unsent is a b) = ap (λ (l : List Event). flat_map client_took_in l) is
@@ -133,7 +135,7 @@ told_first epoch messages after (Moves other is) = is
 told_first epoch messages after (Stays never is) = absurd (cc)
 
 -- the parts of a request's events, one kind at a time
-parts : (f : Event → List ℕ) (es asked life : List Event) (a l : List ℕ) → es ≡ asked ++ life → flat_map f asked ≡ a → flat_map f life ≡ l → flat_map f es ≡ a ++ l
+pub parts : (f : Event → List ℕ) (es asked life : List Event) (a l : List ℕ) → es ≡ asked ++ life → flat_map f asked ≡ a → flat_map f life ≡ l → flat_map f es ≡ a ++ l
 parts f es asked life a l is first second = ap (λ (x : List Event). flat_map f x) is ∙ flat_map-append f asked life ∙ (λ i. first i ++ second i)
 
 abbrev Owed : Place → ℕ → Request → List Response → List ℕ → Type 0
@@ -143,7 +145,7 @@ Owed place epoch request responses response = ((messages : List (ℕ × Marks)) 
 owed : {after : Machine} (place : Place) (password : List ℕ) (epoch : ℕ) (request : Request) (responses : List Response) (response : List ℕ) (es : List Event) → Replies (account_of place password) (opened epoch) es response after → length (flat_map client_gave_in es) ≤ 10000000 → IsRequest (flat_map client_gave_in es) request → InboxFetched place.user password (flat_map store_gave_in es) (flat_map store_took_in es) responses → Owed place epoch request responses response
 owed place password epoch request responses response es (NoRequest octets asked none a b) within form fetched =
     absurd (none request (subst (λ (l : List ℕ). IsRequest l request) (asked_gave octets es asked) form))
-owed place password epoch request responses response es (TooLarge (gave, said, much) a b) within form fetched =
+owed place password epoch request responses response es (TooLarge (gave, (said, much)) a b) within form fetched =
     absurd (omega (arith, ap length said.gave_is, much, within))
 owed {after} place password epoch request responses response es (Answered asked life octets other told messages is so is_request lived mail follows text) within form fetched =
     let gave = parts client_gave_in es asked life octets [] is (asked_gave octets asked so) (life_gave_client life lived) ∙ append-nil octets in
@@ -172,6 +174,9 @@ ends_well (suc n) status said other ends = absurd (other ends.0)
 same_place : (a b : Place) → Once a ≡ Once b → a ≡ b
 same_place a b is = cc
 
+pub other_task : (a : Place) → Once a ≡ Show → ⊥
+other_task a is = cc
+
 same_word : (a b : ℕ) (x y : List Event) → Word a ∷ x ≡ Word b ∷ y → a ≡ b
 same_word a b x y is = cc
 
@@ -180,7 +185,7 @@ segment_owed : {after : Machine} (place : Place) (password : List ℕ) (epoch : 
 segment_owed place password epoch request responses segment said events (NoneComes is a) well none events_are within form fetched =
     absurd (never_fetched (flat_map store_gave_in events) (ap (λ (l : List Event). flat_map store_gave_in l) (events_are ∙ (λ i. Word epoch ∷ (is i ++ none i)))) fetched)
 segment_owed place password epoch request responses segment said events (NotAccepted is a) well none events_are within form fetched = absurd (cc)
-segment_owed place password epoch request responses segment said events (Unasked asks gave is a b) well none events_are within form fetched = absurd (cc)
+segment_owed place password epoch request responses segment said events (Unasked asked is a b) well none events_are within form fetched = absurd (cc)
 segment_owed place password epoch request responses segment said events (Served req heard response (Err e) is replies sends) well none events_are within form fetched = absurd (cc)
 segment_owed place password epoch request responses segment said events (Served req heard response (Ok u) is replies sends) well none events_are within form fetched =
     let cg = whole client_gave_in epoch req heard said segment events refl refl refl events_are none is ∙ ap (λ (l : List ℕ). flat_map client_gave_in req ++ l) (heard_gave_client heard sends.kind) ∙ append-nil (flat_map client_gave_in req) in
@@ -208,3 +213,5 @@ completes {words} {password} {status} {events} (ServedOnce other drawn segment s
     (subst (λ (p : Place). Tells events p drawn request responses) (sym places)
     (segment_owed other password drawn request responses segment said events served quiet.0 quiet.1 is owes.within owes.form
     (subst (λ (p : Place). InboxFetched p.user password (flat_map store_gave_in events) (flat_map store_took_in events) responses) places owes.fetched)))
+completes {words} {password} {status} {events} (ShownOne shown said outcome is_task is shows ends) well place epoch request responses owes =
+    absurd (other_task place (same-task words (Once place) Show owes.task is_task))

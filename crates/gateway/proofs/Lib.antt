@@ -1,3 +1,5 @@
 mod Quiet
 mod Serving
+mod Showing
 mod Completing
+mod CompletingShow

@@ -1,11 +1,16 @@
 -- Which octets the events of each part of a run have.
-use Rattle.std.proofs.Common.{◌≡◌, ◌++◌, ℕ, List, [], ◌∷◌, refl, ◌∙◌, ap, All}
+use Rattle.std.proofs.Common.{◌≡◌, ◌++◌, ℕ, List, [], ◌∷◌, refl, ◌∙◌, ap, All, Result, Ok, Err}
 use Rattle.std.specs.List.{flat_map}
 use Rattle.std.proofs.lemmas.List.{append-nil}
 use Rattle.std.proofs.lemmas.List.Concat.{flat_map-append}
 use Rattle.std.proofs.lemmas.List.Elements.{All-head, All-tail}
 use Rattle.gate_world.specs.declared.event.Event.{Event}
-use Rattle.gate_world.specs.declared.event.Event.TheVariants.{Accepted, ClientGave, ClientTook, ClientDone, Dialed, StoreGave, StoreTook, LinkEnded}
+use Rattle.gate_world.specs.declared.event.Event.TheVariants.{Accepted, ClientGave, ClientEnded, ClientTook, ClientDone, FrontFailed, Dialed, StoreGave, StoreTook, LinkEnded}
+use Rattle.gateway.specs.declared.front.FrontError.{FrontError}
+use Rattle.gateway.specs.declared.front.FrontError.TheVariants as error
+use Rattle.gateway.specs.declared.front.Input.{Input}
+use Rattle.gateway.specs.declared.front.Input.TheVariants.{Whole, Cut}
+use Rattle.gateway.specs.Front.{octets_of, Gives}
 use Rattle.gate_world.specs.Octets.{store_gave_in, store_took_in, client_gave_in, client_took_in, IsTalk, IsClientGave, IsClientTook}
 
 -- events that all have no octets of a kind
@@ -74,6 +79,17 @@ heard_took_store = quiet store_took_in IsClientTook heard_store_took
 -- a list before one event that has none
 pub before_one : (f : Event → List ℕ) (es : List Event) (e : Event) → f e ≡ [] → flat_map f (es ++ e ∷ []) ≡ flat_map f es
 before_one f es e none = flat_map-append f es (e ∷ []) ∙ ap (λ (l : List ℕ). flat_map f es ++ l) (ap (λ (l : List ℕ). l ++ []) none) ∙ append-nil (flat_map f es)
+
+-- what a client's input has of each kind of octets
+pub gives_took : (most : ℕ) (r : Result Input FrontError) (es : List Event) → Gives most r es → flat_map client_took_in es ≡ []
+gives_took most (Ok (Whole octets)) es (asks, is, so, few) = ap (λ (l : List Event). flat_map client_took_in l) is ∙ before_one client_took_in asks ClientEnded refl ∙ asks_took_client asks so.kind
+gives_took most (Ok (Cut octets)) es (so, many) = asks_took_client es so.kind
+gives_took most (Err error.Failed) es (asks, gave, is, so, few) = ap (λ (l : List Event). flat_map client_took_in l) is ∙ before_one client_took_in asks FrontFailed refl ∙ asks_took_client asks so.kind
+gives_took most (Err error.Memory) es (gave, so, few) = asks_took_client es so.kind
+
+pub gives_gave : (most : ℕ) (input : Input) (es : List Event) → Gives most (Ok input) es → flat_map client_gave_in es ≡ octets_of input
+gives_gave most (Whole octets) es (asks, is, so, few) = ap (λ (l : List Event). flat_map client_gave_in l) is ∙ before_one client_gave_in asks ClientEnded refl ∙ so.gave_is
+gives_gave most (Cut octets) es (so, many) = so.gave_is
 
 -- a whole segment
 pub segment_octets : (f : Event → List ℕ) (request heard : List Event) → f Accepted ≡ [] → f ClientDone ≡ [] → flat_map f (Accepted ∷ ((request ++ heard) ++ ClientDone ∷ [])) ≡ flat_map f request ++ flat_map f heard

@@ -8,9 +8,9 @@ use Rattle.gate_world.specs.Tape.{Adds, AddsOne}
 use Rattle.gate_world.proofs.Joins.{widen}
 use Rattle.gate_words.specs.declared.place.Place.{Place}
 use Rattle.gate_words.specs.declared.task.Task.{Task}
-use Rattle.gate_words.specs.declared.task.Task.TheVariants.{Once}
+use Rattle.gate_words.specs.declared.task.Task.TheVariants.{Once, Show}
 use Rattle.gate_words.specs.Task.{IsTask}
-use Rattle.gateway.specs.Run.{Says, front_failed, EndsOnce, account_of, RunsOnce, Performs, IsRun, ServedOnce}
+use Rattle.gateway.specs.Run.{Says, front_failed, EndsOnce, account_of, RunsOnce, Performs, IsRun, ServedOnce, ShownOne}
 use Rattle.gate_world.specs.declared.event.Event.{Event}
 use Rattle.gate_world.specs.declared.event.Event.TheVariants.{Accepted, NoMore, ClientDone, FrontFailed, Word, Said, SayFailed}
 use Rattle.gate_world.specs.declared.outside.Failed.{Failed}
@@ -117,8 +117,8 @@ forgotten_body {events} account before was now later so = (before, Wanting event
 pub served : (xs ys : List Event) (account : Account) (before : Machine) (was now : ℕ) (result : Reply) (sent : Result (Unit {0}) Failed) → was ≤ now → Responds account before was now result xs → SendsReply result sent ys → Serves account before was now sent ((xs ++ ys) ++ ClientDone ∷ [])
 served xs ys account before was now (reply.Line text) sent later (after, replies, rose) sends = (after, Served xs ys text sent refl replies sends, rose, refl)
 served xs ys account before was now reply.NoMemory sent later (after, replies, rose) sends = (after, Served xs ys line_end sent refl replies sends, rose, refl)
-served xs ys account before was now reply.Nothing sent later (asks, gave, is, said) (none, failed) =
-    (before, Unasked asks gave (ap (λ (l : List Event). Accepted ∷ ((xs ++ l) ++ ClientDone ∷ [])) none ∙ ap (λ (l : List Event). Accepted ∷ (l ++ ClientDone ∷ [])) (append-nil xs ∙ is)) said refl, rose_none was now later, sym failed)
+served xs ys account before was now reply.Nothing sent later asked (none, failed) =
+    (before, Unasked xs (ap (λ (l : List Event). Accepted ∷ ((xs ++ l) ++ ClientDone ∷ [])) none ∙ ap (λ (l : List Event). Accepted ∷ (l ++ ClientDone ∷ [])) (append-nil xs)) asked refl, rose_none was now later, sym failed)
 
 -- the client was accepted
 pub accepted : {xs : List Event} (ys : List Event) (account : Account) (before : Machine) (was now : ℕ) (result : Result (Unit {0}) Failed) → xs ≡ Accepted ∷ [] → Serves account before was now result ys → ServesOne account before was now result (xs ++ ys)
@@ -147,3 +147,4 @@ said line (Err e) ok err = widen (Says line) err (λ x is. inr is)
 
 pub run_of : {events : List Event} (words : List (List ℕ)) (task : Task) (password : List ℕ) (was now status : ℕ) → IsTask words task → Performs task password was now status events → IsRun words password was now status events
 run_of words (Once place) password was now status is_task (epoch, segment, spoken, after, client, is, ends, rose) = (ServedOnce place epoch segment spoken after client is_task is ends, rose)
+run_of words Show password was now status is_task ((shown, spoken, outcome, is, shows, ends), rose) = (ShownOne shown spoken outcome is_task is shows ends, rose)

@@ -1,19 +1,38 @@
--- What a request and a response add to the tape.
-use Rattle.std.specs.Prelude.{◌≡◌, ◌<◌, ◌++◌, ◌+◌, ℕ, List, [], ◌∷◌, length, Result, Ok, Err}
+-- What a client's input and what it is sent add to the tape.
+use Rattle.std.specs.Prelude.{◌≡◌, ◌<◌, ◌≤◌, ◌++◌, ◌+◌, ℕ, List, [], ◌∷◌, length, Result, Ok, Err}
 use Rattle.gate_world.specs.declared.event.Event.{Event}
 use Rattle.gate_world.specs.declared.event.Event.TheVariants.{ClientEnded, FrontFailed}
 use Rattle.gate_world.specs.declared.outside.Failed.{Failed}
 use Rattle.gate_world.specs.Octets.{Asks, Hears}
 use Rattle.gateway.specs.declared.front.AskError.{AskError}
 use Rattle.gateway.specs.declared.front.AskError.TheVariants as ask
-use Rattle.gateway.specs.declared.front.TheConstants.{MAX_BODY_OCTETS}
+use Rattle.gateway.specs.declared.front.FrontError.{FrontError}
+use Rattle.gateway.specs.declared.front.FrontError.TheVariants as front
+use Rattle.gateway.specs.declared.front.Input.{Input}
+use Rattle.gateway.specs.declared.front.Input.TheVariants.{Whole, Cut}
 
--- The client gave these octets and ended; or it gave one octet too many, and no more were read; or the front failed before.
+abbrev pub octets_of : Input → List ℕ
+octets_of (Whole octets) = octets
+octets_of (Cut octets) = octets
+
+-- The client gave these octets, fewer than the most, and ended; or it gave the most, and no more were read; or the front
+-- failed before; or memory was wanting.
+abbrev pub Gives : ℕ → Result Input FrontError → List Event → Type 0
+Gives most (Ok (Whole octets)) events = (asks : List Event) × (events ≡ asks ++ ClientEnded ∷ []) × Asks octets asks × (length octets < most)
+Gives most (Ok (Cut octets)) events = Asks octets events × (length octets ≡ most)
+Gives most (Err front.Failed) events = (asks : List Event) × (gave : List ℕ) × (events ≡ asks ++ FrontFailed ∷ []) × Asks gave asks × (length gave < most)
+Gives most (Err front.Memory) events = (gave : List ℕ) × Asks gave events × (length gave ≤ most)
+
+-- the most octets of a request's body
+abbrev pub body_limit : ℕ
+body_limit = 10000000
+
+-- A request's body is the client's whole input; or it gave one octet too many; or the front failed before; or memory was wanting.
 abbrev pub Asked : Result (List ℕ) AskError → List Event → Type 0
-Asked (Ok octets) events = (asks : List Event) × (events ≡ asks ++ ClientEnded ∷ []) × Asks octets asks
-Asked (Err ask.TooLarge) events = (gave : List ℕ) × Asks gave events × (length gave ≡ MAX_BODY_OCTETS + 1)
-Asked (Err ask.Failed) events = (asks : List Event) × (gave : List ℕ) × (events ≡ asks ++ FrontFailed ∷ []) × Asks gave asks
-Asked (Err ask.Memory) events = (gave : List ℕ) × Asks gave events
+Asked (Ok octets) events = Gives (body_limit + 1) (Ok (Whole octets)) events
+Asked (Err ask.TooLarge) events = (octets : List ℕ) × Gives (body_limit + 1) (Ok (Cut octets)) events
+Asked (Err ask.Failed) events = Gives (body_limit + 1) (Err front.Failed) events
+Asked (Err ask.Memory) events = Gives (body_limit + 1) (Err front.Memory) events
 
 -- the client took these octets, or the front failed before it took them all
 abbrev pub Sends : List ℕ → Result (Unit {0}) Failed → List Event → Type 0

@@ -4,4 +4,5 @@ pub mod Machine
 pub mod Mail
 pub mod Run
 pub mod Segment
+pub mod Show
 pub mod Wants

@@ -4,7 +4,6 @@ use Rattle.gate_world.specs.Causes.{RoseBy}
 use Rattle.gate_world.specs.declared.event.Event.{Event}
 use Rattle.gate_world.specs.declared.event.Event.TheVariants.{Accepted, NoMore, ClientDone, FrontFailed}
 use Rattle.gate_world.specs.declared.outside.Failed.{Failed}
-use Rattle.gate_world.specs.Octets.{Asks}
 use Rattle.imap_syntax.specs.declared.response.Response.{Response}
 use Rattle.imap_client.specs.declared.link_end.LinkEnd.{LinkEnd}
 use Rattle.imap_client.specs.declared.link_end.LinkEnd.TheVariants as end
@@ -57,7 +56,7 @@ pub data Segment (account : Account) (before : Machine) (events : List Event) (a
   NoneComes : events ≡ NoMore ∷ [] → after ≡ before → Segment account before events after
   NotAccepted : events ≡ FrontFailed ∷ [] → after ≡ before → Segment account before events after
   -- the front failed before the request's end
-  Unasked : (asks : List Event) (gave : List ℕ) → events ≡ Accepted ∷ ((asks ++ FrontFailed ∷ []) ++ ClientDone ∷ []) → Asks gave asks → after ≡ before → Segment account before events after
+  Unasked : (asked : List Event) → events ≡ Accepted ∷ (asked ++ ClientDone ∷ []) → Asked (Err ask.Failed) asked → after ≡ before → Segment account before events after
   Served : (request heard : List Event) (response : List ℕ) (sent : Result (Unit {0}) Failed) → events ≡ Accepted ∷ ((request ++ heard) ++ ClientDone ∷ []) → Replies account before request response after → Sends response sent heard → Segment account before events after
 
 -- how many faults of the link an answer is blamed on
@@ -75,7 +74,7 @@ reply_faults (Wanting asked life read lived a b c d f) = 0
 abbrev pub segment_faults : {account : Account} {before : Machine} {events : List Event} {after : Machine} → Segment account before events after → ℕ
 segment_faults (NoneComes a b) = 0
 segment_faults (NotAccepted a b) = 0
-segment_faults (Unasked asks gave a b c) = 0
+segment_faults (Unasked asked a b c) = 0
 segment_faults (Served request heard response sent a replies c) = reply_faults replies
 
 -- how many faults of the front it is blamed on
@@ -86,12 +85,12 @@ unsent (Err _) = 1
 abbrev pub front_faults : {account : Account} {before : Machine} {events : List Event} {after : Machine} → Segment account before events after → ℕ
 front_faults (NoneComes a b) = 0
 front_faults (NotAccepted a b) = 1
-front_faults (Unasked asks gave a b c) = 1
+front_faults (Unasked asked a b c) = 1
 front_faults (Served request heard response sent a replies c) = unsent sent
 
 -- what a request adds before anything is sent: the response, or that the front failed
 abbrev pub Responds : Account → Machine → ℕ → ℕ → Reply → List Event → Type 0
-Responds account before was now reply.Nothing events = (asks : List Event) × (gave : List ℕ) × (events ≡ asks ++ FrontFailed ∷ []) × Asks gave asks
+Responds account before was now reply.Nothing events = Asked (Err ask.Failed) events
 Responds account before was now (reply.Line text) events = (after : Machine) × (replies : Replies account before events text after) × RoseBy (reply_faults replies) was now
 Responds account before was now reply.NoMemory events = (after : Machine) × (replies : Replies account before events no_memory_line after) × RoseBy (reply_faults replies) was now
 

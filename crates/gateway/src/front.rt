@@ -1,47 +1,73 @@
-// A bare request from the client, and the response to it.
-ghost use Rattle.std.specs.Prelude.{◌≡◌, ◌≤◌, OnErr, IsErrOf, IfOk, length};
+// What a client gives and is sent.
+ghost use Rattle.std.specs.Prelude.{◌≡◌, OnErr, IsErrOf};
 ghost use Rattle.gate_world.specs.Causes.{Rose, FrontAlone};
 ghost use Rattle.gate_world.specs.Tape.{Adds};
-ghost use Rattle.gateway.specs.Front.{Asked, Sends};
+ghost use Rattle.gateway.specs.Front.{octets_of, Gives, Asked, Sends};
 
 use gate_world::{Bytes, Failed, Front};
 use std::alloc::{AllocError, Global};
 
 /// The most octets of a request's body.
-pub const MAX_BODY_OCTETS: usize = 10_000_000;
+const MAX_BODY_OCTETS: usize = 10_000_000;
 
 /// The most octets that one call asks for.
 const PIECE: usize = 8192;
+
+/// What a client gives.
+#[derive(Debug, Drop)]
+pub enum Input {
+    /// All of it, up to its end.
+    Whole(Bytes),
+    /// As many octets as are wanted. What comes behind them is not read.
+    Cut(Bytes),
+}
+
+impl Input {
+    pub fn octets(&self) -> &[u8]
+        ensures { result.now ≡ octets_of self.now }
+    {
+        match self {
+            Input::Whole(octets) | Input::Cut(octets) => octets.as_slice(),
+        }
+    }
+}
+
+/// Why a client is given up.
+#[derive(Clone, Copy, Debug, PartialEq, Eq)]
+pub enum FrontError {
+    Failed,
+    Memory,
+}
+
+impl From<Failed> for FrontError {
+    ghost use Rattle.gateway.specs.declared.front.FrontError.TheVariants.{Failed};
+    ghost use Rattle.std.specs.Prelude.{◌≡◌};
+
+    ghost from_gives = { λ _ e. e ≡ Failed };
+
+    fn from(_: Failed) -> FrontError {
+        FrontError::Failed
+    }
+}
+
+impl From<AllocError> for FrontError {
+    ghost use Rattle.gateway.specs.declared.front.FrontError.TheVariants.{Memory};
+    ghost use Rattle.std.specs.Prelude.{◌≡◌};
+
+    ghost from_gives = { λ _ e. e ≡ Memory };
+
+    fn from(_: AllocError) -> FrontError {
+        FrontError::Memory
+    }
+}
 
 /// Why there is no request.
 #[derive(Clone, Copy, Debug, PartialEq, Eq)]
 pub enum AskError {
     Failed,
-    /// More than `MAX_BODY_OCTETS`.
+    /// More octets than a body has at most.
     TooLarge,
     Memory,
-}
-
-impl From<Failed> for AskError {
-    ghost use Rattle.gateway.specs.declared.front.AskError.TheVariants.{Failed};
-    ghost use Rattle.std.specs.Prelude.{◌≡◌};
-
-    ghost from_gives = { λ _ e. e ≡ Failed };
-
-    fn from(_: Failed) -> AskError {
-        AskError::Failed
-    }
-}
-
-impl From<AllocError> for AskError {
-    ghost use Rattle.gateway.specs.declared.front.AskError.TheVariants.{Memory};
-    ghost use Rattle.std.specs.Prelude.{◌≡◌};
-
-    ghost from_gives = { λ _ e. e ≡ Memory };
-
-    fn from(_: AllocError) -> AskError {
-        AskError::Memory
-    }
 }
 
 /// Sends all of it.
@@ -59,23 +85,38 @@ pub fn send_all<F: Front>(front: &mut F, octets: &[u8]) -> Result<(), Failed>
     Ok(())
 }
 
-/// The client's octets up to the end of its input. No more than one octet past the limit is read.
+/// The client's octets up to the end of its input, or the first of them, as many as are wanted at most.
+pub fn receive<F: Front>(alloc: Global, front: &mut F, most: usize) -> Result<Input, FrontError>
+    ensures tape { Adds (F.tape front.old) (F.tape front.new) (Gives most result) }
+    ensures alone { FrontAlone (F.faults front.old) (F.faults front.new) }
+    ensures cause { IsErrOf result FrontError.Failed → Rose (F.faults front.old).front (F.faults front.new).front }
+    ensures hidden { F.hidden front.new ≡ F.hidden front.old }
+{
+    let mut octets = Vec::new(alloc);
+    let mut piece = [0u8; PIECE];
+    'receiving: while octets.len() < most {
+        let room = PIECE.min(most - octets.len());
+        let (part, _) = piece.split_at_mut(room);
+        let count = front.recv(part)?;
+        if count == 0 {
+            return Ok(Input::Whole(Bytes::from_vec(octets)));
+        }
+        octets.extend_from_slice(&part[..count])?;
+    }
+    Ok(Input::Cut(Bytes::from_vec(octets)))
+}
+
+/// A request's body, which ends with the client's input. No more than one octet past the limit is read.
 pub fn ask<F: Front>(alloc: Global, front: &mut F) -> Result<Bytes, AskError>
     ensures tape { Adds (F.tape front.old) (F.tape front.new) (Asked result) }
     ensures alone { FrontAlone (F.faults front.old) (F.faults front.new) }
     ensures cause { IsErrOf result AskError.Failed → Rose (F.faults front.old).front (F.faults front.new).front }
     ensures hidden { F.hidden front.new ≡ F.hidden front.old }
 {
-    let mut octets = Vec::new(alloc);
-    let mut piece = [0u8; PIECE];
-    'asking: while octets.len() <= MAX_BODY_OCTETS {
-        let room = PIECE.min(MAX_BODY_OCTETS + 1 - octets.len());
-        let (part, _) = piece.split_at_mut(room);
-        let count = front.recv(part)?;
-        if count == 0 {
-            return Ok(Bytes::from_vec(octets));
-        }
-        octets.extend_from_slice(&part[..count])?;
+    match receive(alloc, front, MAX_BODY_OCTETS + 1) {
+        Ok(Input::Whole(octets)) => Ok(octets),
+        Ok(Input::Cut(_)) => Err(AskError::TooLarge),
+        Err(FrontError::Failed) => Err(AskError::Failed),
+        Err(FrontError::Memory) => Err(AskError::Memory),
     }
-    Err(AskError::TooLarge)
 }

@@ -1,13 +1,15 @@
 // The top call: from the words of the command to the status of the program.
 ghost use Rattle.std.specs.Prelude.{◌≡◌, ◌⊎◌, map, string_bytes};
-ghost use Rattle.gate_world.specs.Causes.{Rose, Later};
+ghost use Rattle.gate_world.specs.Causes.{Rose, Later, SayAlone};
 ghost use Rattle.gate_world.specs.Tape.{Adds};
 ghost use Rattle.gate_words.specs.Task.{IsTask};
 ghost use Rattle.gate_words.specs.declared.task.Task.{Task};
-ghost use Rattle.gateway.specs.Complete.{Completes};
-ghost use Rattle.gateway.specs.Run.{IsRun, Performs, RunsOnce};
+ghost use Rattle.gateway.specs.Complete.{Completes, CompletesShow};
+ghost use Rattle.gateway.specs.Run.{IsRun, Performs, RunsOnce, RunsShow, Says, front_failed};
 
+use crate::front::FrontError;
 use crate::segment::serve_one;
+use crate::show::show_one;
 use gate_words::{Place, Task, WordsError, read_words};
 use gate_world::{Watcher, World};
 use std::alloc::Global;
@@ -16,10 +18,21 @@ use std::alloc::Global;
 pub const STATUS_DONE: u8 = 0;
 /// The words are refused.
 pub const STATUS_WORDS: u8 = 2;
-/// Memory was wanting before a client came.
+/// Memory was wanting: before a client came, or while its message was shown.
 pub const STATUS_MEMORY: u8 = 5;
 /// The front failed.
 pub const STATUS_FRONT: u8 = 6;
+
+// Says that the front failed.
+fn end_failed<W: World>(world: &mut W) -> u8
+    ensures said { Adds (W.tape world.old) (W.tape world.new) (Says front_failed) }
+    ensures status { result ≡ 6 }
+    ensures alone { SayAlone (W.faults world.old) (W.faults world.new) }
+    ensures hidden { W.hidden world.new ≡ W.hidden world.old }
+{
+    let _ = world.say(b"jmapgate: front failed\n");
+    STATUS_FRONT
+}
 
 // Draws an epoch and serves one client.
 fn once<W: World>(alloc: Global, world: &mut W, place: &Place) -> u8
@@ -33,18 +46,23 @@ fn once<W: World>(alloc: Global, world: &mut W, place: &Place) -> u8
     let epoch = world.word();
     match serve_one(alloc, world, place, epoch) {
         Ok(()) => STATUS_DONE,
-        Err(_) => {
-            let _ = world.say(b"jmapgate: front failed\n");
-            STATUS_FRONT
-        }
+        Err(_) => end_failed(world),
     }
 }
 
-fn place_of(task: &Task) -> &Place
-    ensures { task.now ≡ Task.Once result.now }
+// Shows one client its message.
+fn show<W: World>(alloc: Global, world: &mut W) -> u8
+    ensures run { Adds (W.tape world.old) (W.tape world.new) (RunsShow result) }
+    ensures statuses { (result ≡ 0) ⊎ (result ≡ 5) ⊎ (result ≡ 6) }
+    ensures front { result ≡ 6 → Rose (W.faults world.old).front (W.faults world.new).front }
+    ensures later { Later (W.faults world.old) (W.faults world.new) }
+    ensures apart { (W.faults world.new).link ≡ (W.faults world.old).link }
+    ensures hidden { W.hidden world.new ≡ W.hidden world.old }
 {
-    match task {
-        Task::Once { place } => place,
+    match show_one(alloc, world) {
+        Ok(()) => STATUS_DONE,
+        Err(FrontError::Memory) => STATUS_MEMORY,
+        Err(FrontError::Failed) => end_failed(world),
     }
 }
 
@@ -52,12 +70,16 @@ fn place_of(task: &Task) -> &Place
 fn perform<W: World>(alloc: Global, world: &mut W, task: &Task) -> u8
     ensures run { Adds (W.tape world.old) (W.tape world.new)
         (Performs task.now (W.hidden world.old).password (W.faults world.old).link (W.faults world.new).link result) }
-    ensures statuses { (result ≡ 0) ⊎ (result ≡ 6) }
+    ensures statuses { (result ≡ 0) ⊎ (result ≡ 5) ⊎ (result ≡ 6) }
     ensures front { result ≡ 6 → Rose (W.faults world.old).front (W.faults world.new).front }
     ensures later { Later (W.faults world.old) (W.faults world.new) }
+    ensures apart { task.now ≡ Task.Show → (W.faults world.new).link ≡ (W.faults world.old).link }
     ensures hidden { W.hidden world.new ≡ W.hidden world.old }
 {
-    once(alloc, world, place_of(task))
+    match task {
+        Task::Once { place } => once(alloc, world, place),
+        Task::Show => show(alloc, world),
+    }
 }
 
 /// Does what the words ask, the program's own name left out, over the outside; the status that the program ends with.
@@ -71,14 +93,19 @@ pub fn run<W: World>(words: &[String], world: &mut W, watchers: &mut Vec<Box<dyn
     // memory was wanting.
     ensures complete { (result ≡ 6 → ⊥) → Adds (W.tape world.old) (W.tape world.new) (Completes (map string_bytes words.now) (W.hidden world.old).password) }
 
+    // Whoever gives a message to be shown, while the front does not fail, is sent its Email object and a line end; or memory
+    // was wanting, and nothing was sent.
+    ensures shown { (result ≡ 6 → ⊥) → Adds (W.tape world.old) (W.tape world.new) (CompletesShow (map string_bytes words.now) result) }
+
     // When each status comes, in every world. Want of memory in the words comes before their refusal.
     ensures statuses { (result ≡ 0) ⊎ (result ≡ 2) ⊎ (result ≡ 5) ⊎ (result ≡ 6) }
     ensures words { result ≡ 2 → (task : Task) → IsTask (map string_bytes words.now) task → ⊥ }
     ensures refused { ((task : Task) → IsTask (map string_bytes words.now) task → ⊥) → (result ≡ 2) ⊎ (result ≡ 5) }
     ensures front { result ≡ 6 → Rose (W.faults world.old).front (W.faults world.new).front }
 
-    // What stays.
+    // What stays. Showing a message has nothing to do with the store.
     ensures later { Later (W.faults world.old) (W.faults world.new) }
+    ensures apart { IsTask (map string_bytes words.now) Task.Show → (W.faults world.new).link ≡ (W.faults world.old).link }
     ensures hidden { W.hidden world.new ≡ W.hidden world.old }
     ensures watchers { watchers.new ≡ watchers.old }
 {

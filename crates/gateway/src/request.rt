@@ -1,13 +1,14 @@
 // One request: read, answered over a link life of its own, and the response sent.
-ghost use Rattle.std.specs.Prelude.{◌≡◌, ◌≢◌, ◌++◌, ◌↔◌, IsTrue, IfOk, OnErr};
+ghost use Rattle.std.specs.Prelude.{◌≡◌, ◌≢◌, ◌↔◌, IsTrue, IfOk, OnErr};
 ghost use Rattle.gate_world.specs.Causes.{Rose, Later};
 ghost use Rattle.gate_world.specs.Tape.{Adds};
 ghost use Rattle.imap_client.specs.declared.link_end.LinkEnd.TheVariants.{Memory};
 ghost use Rattle.gateway.specs.Machine.{opened};
 ghost use Rattle.gateway.specs.Run.{account_of};
-ghost use Rattle.gateway.specs.Segment.{line_end, not_request_line, unavailable_line, Tells, Responds, AnswersBody, AnswersRequest};
+ghost use Rattle.gateway.specs.Segment.{not_request_line, unavailable_line, Tells, Responds, AnswersBody, AnswersRequest};
 
 use crate::front::{AskError, ask};
+use crate::line::with_line_end;
 use crate::mail::{counts_of, mail_of};
 use gate_words::Place;
 use gate_world::{Bytes, World};
@@ -30,14 +31,6 @@ pub enum Reply {
     NoMemory,
     /// The front failed before the request's end.
     Nothing,
-}
-
-fn with_line_end(text: Bytes) -> Result<Bytes, AllocError>
-    ensures { IfOk result (λ line. line ≡ text ++ line_end) }
-{
-    let mut line = text.into_vec();
-    line.push(b'\n')?;
-    Ok(Bytes::from_vec(line))
 }
 
 fn not_request_line(alloc: Global) -> Result<Bytes, AllocError>

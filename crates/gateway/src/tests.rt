@@ -45,23 +45,23 @@ const THREE: &[u8] =
     b"* 1 FETCH (UID 1 FLAGS (\\Seen))\r\n* 2 FETCH (UID 2 FLAGS ())\r\n* 3 FETCH (UID 4 FLAGS ())\r\n";
 
 /// The most octets that one read gives.
-const PIECES: [usize; 4] = [1, 2, 3, 100_000];
+pub(crate) const PIECES: [usize; 4] = [1, 2, 3, 100_000];
 
 /// What a run came to.
 #[derive(Drop)]
-struct Seen {
-    status: u8,
-    client_gave: usize,
-    client_took: Vec<u8>,
+pub(crate) struct Seen {
+    pub(crate) status: u8,
+    pub(crate) client_gave: usize,
+    pub(crate) client_took: Vec<u8>,
     store_gave: usize,
     store_took: Vec<u8>,
-    said: Vec<u8>,
+    pub(crate) said: Vec<u8>,
     dials: usize,
     is_linked: bool,
     /// Whether a client took octets while a link life had not ended.
     was_early: bool,
-    front_failed: bool,
-    say_failed: bool,
+    pub(crate) front_failed: bool,
+    pub(crate) say_failed: bool,
 }
 
 impl Seen {
@@ -123,7 +123,7 @@ impl Seen {
 }
 
 /// The octets of the parts, one behind another.
-fn joined(alloc: Global, parts: &[&[u8]]) -> Result<Bytes, AllocError> {
+pub(crate) fn joined(alloc: Global, parts: &[&[u8]]) -> Result<Bytes, AllocError> {
     let mut octets = Vec::new(alloc);
     for part in parts {
         octets.extend_from_slice(part)?;
@@ -132,7 +132,7 @@ fn joined(alloc: Global, parts: &[&[u8]]) -> Result<Bytes, AllocError> {
 }
 
 /// The words between bars. No text stands for no words.
-fn words_of(alloc: Global, line: &str) -> Result<Vec<String>, AllocError> {
+pub(crate) fn words_of(alloc: Global, line: &str) -> Result<Vec<String>, AllocError> {
     let mut words = Vec::new(alloc);
     if !line.is_empty() {
         for word in line.split('|') {
@@ -166,7 +166,7 @@ fn asking(alloc: Global, parts: &[&[u8]]) -> Result<Script, AllocError> {
 }
 
 /// What a run over these words and this script comes to.
-fn follow(alloc: Global, words: &str, script: Script) -> Result<Seen, Fail> {
+pub(crate) fn follow(alloc: Global, words: &str, script: Script) -> Result<Seen, Fail> {
     let words = words_of(alloc, words)?;
     let mut watchers: Vec<Box<dyn Watcher>> = Vec::new(alloc);
     let mut world = ScriptWorld::new(alloc, script);
@@ -394,7 +394,7 @@ fn failing(alloc: Global, fails_at: Option<u64>, stop_at: u64) -> Result<Seen, F
     follow(alloc, USUAL, script)
 }
 
-const FRONT_FAILED: &[u8] = b"jmapgate: front failed\n";
+pub(crate) const FRONT_FAILED: &[u8] = b"jmapgate: front failed\n";
 
 /// The client took a whole line or none, and the status tells whether the front failed.
 fn expect_outcome(rt: &impl Abort, told: &[u8], seen: &Seen) {
@@ -429,7 +429,14 @@ fn each_call_failing(rt: HostRuntime) -> Result<(), Fail> {
 }
 
 /// Words that ask for nothing.
-const REFUSED: [&str; 4] = ["", "serve", "once", "once|--user"];
+const REFUSED: [&str; 6] = [
+    "",
+    "serve",
+    "once",
+    "once|--user",
+    "show|x",
+    "show|--store|a",
+];
 
 #[test]
 fn words_are_refused(rt: HostRuntime) -> Result<(), Fail> {

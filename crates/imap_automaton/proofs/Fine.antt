@@ -15,6 +15,7 @@ use Rattle.imap_automaton.specs.declared.sym.Line.TheVariants as line
 use Rattle.imap_automaton.specs.declared.sym.Free.TheVariants as free
 use Rattle.imap_automaton.specs.declared.sym.Item.TheVariants as item
 use Rattle.imap_automaton.specs.declared.sym.Names.TheVariants as names
+use Rattle.imap_automaton.specs.declared.sym.Date.TheVariants as date
 use Rattle.imap_automaton.specs.declared.sym.Words.TheVariants as words
 use Rattle.imap_automaton.specs.declared.sym.Set.TheVariants as set
 use Rattle.imap_automaton.specs.declared.sym.Str.{Str}
@@ -33,6 +34,7 @@ use Rattle.imap_automaton.specs.FreeRules.{free_end, text_rule}
 use Rattle.imap_automaton.specs.WordRules.{rest_rule, spaced_rule, end_rule, behind_key, stray, word_goes, word_ends, word_rule}
 use Rattle.imap_automaton.specs.ItemRules.{number_rule, long_rule}
 use Rattle.imap_automaton.specs.LineRules.{word_start, line_rule, fixed_rule, folded_rule, sequence_rule}
+use Rattle.imap_automaton.specs.DateRules.{month_start, day_octet, time_octet, day_rule, time_rule}
 use Rattle.imap_automaton.specs.SetRules.{words_more, set_ends, set_number, set_rule}
 use Rattle.imap_automaton.specs.StringRules.{flat_start, alone, before, count_rule, string_rule}
 use Rattle.imap_automaton.specs.ValueRules.{inner_rule, closes, value_rule}
@@ -111,6 +113,69 @@ words_more_fine r c le = fine_by false false r (nat_lt c 256) (c == 32) (move.On
     (λ e. and_from _ _ (and_from _ _ (and_from _ _ (and_from _ _ (small_32 c e) refl) refl) (le-leb 1 r le)) refl)
     (λ e. end_rule_fine r c le)
 
+-- dates
+
+by_test : {P : Type 0} (b p q : Bool) → cond b p q ≡ true → (p ≡ true → P) → (q ≡ true → P) → P
+by_test true p q e f g = f e
+by_test false p q e f g = g e
+
+day_small : (at c : ℕ) → day_octet at c ≡ true → nat_lt c 256 ≡ true
+day_small at c e = by_test (at == 0) (c == 32 || is_digit c) (cond (at == 1) (is_digit c) (c == 45)) e (λ f. one c f)
+    (λ f. by_test (at == 1) (is_digit c) (c == 45) f (λ g. two c g) (λ g. three c g))
+  where
+    one : (c : ℕ) → (c == 32 || is_digit c) ≡ true → nat_lt c 256 ≡ true
+    one c e = grind arith
+
+    two : (c : ℕ) → is_digit c ≡ true → nat_lt c 256 ≡ true
+    two c e = grind arith
+
+    three : (c : ℕ) → (c == 45) ≡ true → nat_lt c 256 ≡ true
+    three c e = grind arith
+
+small_at : (n c : ℕ) → nat_lt n 256 ≡ true → (c == n) ≡ true → nat_lt c 256 ≡ true
+small_at n c l e = grind arith
+
+time_small : (at c : ℕ) → time_octet at c ≡ true → nat_lt c 256 ≡ true
+time_small at c e =
+    let p3 : Bool = cond (at == 20) (c == 34) (is_digit c) in
+    let p2 : Bool = cond (at == 15) (c == 43 || c == 45) p3 in
+    let p1 : Bool = cond (at == 8 || at == 11) (c == 58) p2 in
+    let p0 : Bool = cond (at == 5 || at == 14) (c == 32) p1 in
+    by_test (at == 0) (c == 45) p0 e (λ f. small_at 45 c refl f)
+    (λ f. by_test (at == 5 || at == 14) (c == 32) p1 f (λ g. small_at 32 c refl g)
+    (λ g. by_test (at == 8 || at == 11) (c == 58) p2 g (λ h. small_at 58 c refl h)
+    (λ h. by_test (at == 15) (c == 43 || c == 45) p3 h (λ i. sign c i)
+    (λ i. by_test (at == 20) (c == 34) (is_digit c) i (λ j. small_at 34 c refl j) (λ j. digit c j)))))
+  where
+    sign : (c : ℕ) → (c == 43 || c == 45) ≡ true → nat_lt c 256 ≡ true
+    sign c e = grind arith
+
+    digit : (c : ℕ) → is_digit c ≡ true → nat_lt c 256 ≡ true
+    digit c e = grind arith
+
+next_lt : (n at : ℕ) → nat_lt at n ≡ true → (at + 1 == n) ≡ false → nat_lt (at + 1) n ≡ true
+next_lt n at l e = let ne : at + 1 ≡ n → ⊥ = eqb-false _ _ e in lt-ltb _ _ (omega (arith, ltb-true _ _ l, ne))
+
+day_fine : (at c : ℕ) → fine false false 1 (nat_lt c 256) (day_rule at c) ≡ true
+day_fine at c = fine_by false false 1 (nat_lt c 256) (nat_lt at 3 && day_octet at c) (cond (at + 1 == 3) (move.One month_start) (move.One (sym.Date (date.Day (at + 1))))) move.Fail
+    (λ e.
+    let q = and_parts (nat_lt at 3) (day_octet at c) e in
+    let small = day_small at c q.1 in
+    fine_by false false 1 (nat_lt c 256) (at + 1 == 3) (move.One month_start) (move.One (sym.Date (date.Day (at + 1))))
+    (λ f. and_from _ _ (and_from _ _ (and_from _ _ (and_from _ _ small refl) refl) refl) refl)
+    (λ f. and_from _ _ (and_from _ _ (and_from _ _ (and_from _ _ small (next_lt 3 at q.0 f)) refl) refl) refl))
+    (λ e. refl)
+
+time_fine : (at c : ℕ) → fine false false 1 (nat_lt c 256) (time_rule at c) ≡ true
+time_fine at c = fine_by false false 1 (nat_lt c 256) (nat_lt at 21 && time_octet at c) (cond (at + 1 == 21) move.End (move.One (sym.Date (date.Time (at + 1))))) move.Fail
+    (λ e.
+    let q = and_parts (nat_lt at 21) (time_octet at c) e in
+    let small = time_small at c q.1 in
+    fine_by false false 1 (nat_lt c 256) (at + 1 == 21) move.End (move.One (sym.Date (date.Time (at + 1))))
+    (λ f. small)
+    (λ f. and_from _ _ (and_from _ _ (and_from _ _ (and_from _ _ small (next_lt 21 at q.0 f)) refl) refl) refl))
+    (λ e. refl)
+
 behind_fine : (p : Place) (k q : Key) (at c : ℕ) → fine (ends_open (sym.Word p q at)) false (need (sym.Word p q at)) (nat_lt c 256) (behind_key p k c) ≡ true
 behind_fine place.Tagged key.Ok q at c = rest_fine false 4 c (omega arith)
 behind_fine place.Tagged key.No q at c = rest_fine false 4 c (omega arith)
@@ -141,7 +206,9 @@ behind_fine place.Numbered key.Fetch q at c = spaced_fine false 4 (sym.Item item
 behind_fine place.Item key.Uid q at c = spaced_fine true 2 (sym.Item (item.Number 0 0)) c refl refl refl refl
 behind_fine place.Item key.Flags q at c = spaced_fine true 2 (sym.Names names.Open) c refl refl refl refl
 behind_fine place.Item key.ModSeq q at c = spaced_fine true 2 (sym.Item item.LongOpen) c refl refl refl refl
+behind_fine place.Item key.InternalDate q at c = spaced_fine true 2 (sym.Date date.Open) c refl refl refl refl
 behind_fine place.Item key.Size q at c = spaced_fine true 2 (sym.Item (item.Long 0 0)) c refl refl refl refl
+behind_fine place.Month k q at c = time_fine 0 c
 behind_fine _ _ q at c = refl
 
 stray_fine : (p : Place) (q : Key) (at c : ℕ) → fine (ends_open (sym.Word p q at)) false (need (sym.Word p q at)) (nat_lt c 256) (stray p c) ≡ true
@@ -149,18 +216,21 @@ stray_fine place.Tagged q at c = refl
 stray_fine place.Plain q at c = text_fine 4 pending.Nothing c (omega arith) refl
 stray_fine place.Numbered q at c = text_fine 4 pending.Nothing c (omega arith) refl
 stray_fine place.Item q at c = refl
+stray_fine place.Month q at c = refl
 
 in_word_small : (p : Place) (c : ℕ) → in_word p c ≡ true → nat_lt c 256 ≡ true
 in_word_small place.Tagged c e = grind arith
 in_word_small place.Plain c e = grind arith
 in_word_small place.Numbered c e = grind arith
 in_word_small place.Item c e = grind arith
+in_word_small place.Month c e = grind arith
 
 same_word : (p : Place) (k q : Key) (at n : ℕ) → (ends_open (sym.Word p k at) ≡ ends_open (sym.Word p q n)) × (need (sym.Word p k at) ≡ need (sym.Word p q n))
 same_word place.Tagged k q at n = (refl, refl)
 same_word place.Plain k q at n = (refl, refl)
 same_word place.Numbered k q at n = (refl, refl)
 same_word place.Item k q at n = (refl, refl)
+same_word place.Month k q at n = (refl, refl)
 
 not_or_self : (a b : Bool) → a ≡ b → (not a || b) ≡ true
 not_or_self a b e = grind arith
@@ -449,6 +519,9 @@ move_fine (sym.Names names.More) c o fits = grind arith
 move_fine (sym.Names names.Name) c o fits = grind arith
 move_fine (sym.Names names.Atom) c o fits = grind arith
 move_fine (sym.Names names.AtomRest) c o fits = grind arith
+move_fine (sym.Date date.Open) c o fits = grind arith
+move_fine (sym.Date (date.Day at)) c o fits = day_fine at c
+move_fine (sym.Date (date.Time at)) c o fits = time_fine at c
 move_fine (sym.Words words.More) c o fits = words_more_fine 1 c (omega arith)
 move_fine (sym.Words words.First) c o fits = grind arith
 move_fine (sym.Words words.Rest) c o fits = fine_by false false 1 (nat_lt c 256) (is_word c) (move.One (sym.Words words.Rest)) (words_more c) (λ e. rest_word_fine c e) (λ e. words_more_fine 1 c (omega arith))

@@ -1,8 +1,7 @@
 -- One octet at a LIST or a STATUS.
-use Rattle.std.proofs.Common.{◌≡◌, ℕ, ◌+◌, ◌<◌, Bool, true, false, ◌&&◌, ◌||◌, List, [], ◌∷◌, ◌++◌, length, map, cond, Option, Some, None, refl, sym, ap, subst, ◌∙◌, append_assoc, arith, inl, inr}
+use Rattle.std.proofs.Common.{◌≡◌, ℕ, Bool, true, false, ◌||◌, List, [], ◌∷◌, ◌++◌, map, cond, Option, Some, None, refl, sym, ap, subst, ◌∙◌, append_assoc, arith, inl, inr}
 use Rattle.std.specs.Prelude.{◌==◌, codes}
 use Rattle.std.proofs.lemmas.Bool.{eqb-true, eq-eqb}
-use Rattle.std.proofs.lemmas.List.{append-nil}
 use Rattle.imap_automaton.specs.declared.sym.Phrase.TheVariants as phrase
 use Rattle.imap_automaton.specs.declared.sym.Line.TheVariants as line
 use Rattle.imap_automaton.specs.declared.sym.Item.TheVariants as item
@@ -15,17 +14,17 @@ use Rattle.imap_automaton.specs.declared.sym.Move.TheVariants as move
 use Rattle.imap_automaton.specs.FolderRules.{octet_rule, folder_rule}
 use Rattle.imap_automaton.specs.Flow.{stops}
 use Rattle.imap_automaton.proofs.Rests.{LongRest, IsSpaced}
-use Rattle.imap_automaton.proofs.FolderLangs.{AnyDelimiter, DelimiterRest, DelimiterPair, NameLine, DelimiterLine, AnyCounts, MoreCounts, IsStatusWord, WordCount, CountsOpen, CountsLine, FolderLang}
+use Rattle.imap_automaton.proofs.FolderLangs.{AnyDelimiter, DelimiterRest, DelimiterPair, NameLine, DelimiterLine, AnyCounts, MoreCounts, IsStatusWord, WordCount, CountsLine, FolderLang}
 use Rattle.imap_automaton.proofs.Langs.{After}
 use Rattle.imap_automaton.proofs.Lists.{cons_head, cons_tail}
-use Rattle.imap_automaton.proofs.Tests.{from_test, to_test, at_true, at_false, is_true_at, crlf_of, crlf_parts, mid}
+use Rattle.imap_automaton.proofs.Tests.{from_test, at_true, at_false, is_true_at, crlf_of, crlf_parts, mid}
 use Rattle.imap_automaton.proofs.ItemEdges.{long_from, long_to}
 use Rattle.imap_automaton.proofs.StringEdges.{special_text, no_special, from_parts, escaped_pair, escaped_self, flat_some}
 use Rattle.imap_syntax.specs.Octets.{is_text, is_status_word, lower}
-use Rattle.imap_syntax.specs.Texts.{Each, Then, crlf, IsCrlf}
-use Rattle.imap_syntax.specs.Numbers.{value_from, IsLong}
+use Rattle.imap_syntax.specs.Texts.{Each, Then, crlf}
+use Rattle.imap_syntax.specs.Numbers.{value_from}
 use Rattle.imap_syntax.specs.Strings.{escaped}
-use Rattle.imap_syntax.specs.Values.{IsFlat, IsValue}
+use Rattle.imap_syntax.specs.Values.{IsFlat}
 use Rattle.imap_syntax.specs.Folders.{IsDelimiter, IsListEnd, IsCount, IsMoreCounts, IsCounts}
 
 -- ---- one octet, and what follows it

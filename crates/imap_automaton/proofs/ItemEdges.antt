@@ -202,6 +202,7 @@ item_from t h = by h.says
         of_key key.Uid e b = (items.Uid (value_from 0 b.0), record { name = h.word; value = b.0; whole = h.whole ∙ ap (λ (u : List ℕ). h.word ++ u) b.1; atom = h.each; item = (e, number_to b.0 b.2) })
         of_key key.Flags e b = (items.Flags b.2.0, record { name = h.word; value = b.0; whole = h.whole ∙ ap (λ (u : List ℕ). h.word ++ u) b.1; atom = h.each; item = (e, b.2.1) })
         of_key key.ModSeq e b = (items.ModSeq (value_from 0 b.2.0), record { name = h.word; value = b.0; whole = h.whole ∙ ap (λ (u : List ℕ). h.word ++ u) b.1; atom = h.each; item = (e, (b.2.0, b.2.1, long_to b.2.0 b.2.2)) })
+        of_key key.InternalDate e b = (items.Date b.2.0, record { name = h.word; value = b.0; whole = h.whole ∙ ap (λ (u : List ℕ). h.word ++ u) b.1; atom = h.each; item = (e, b.2.1) })
         of_key key.Size e b = (items.Size (value_from 0 b.0), record { name = h.word; value = b.0; whole = h.whole ∙ ap (λ (u : List ℕ). h.word ++ u) b.1; atom = h.each; item = (e, long_to b.0 b.2) })
         of_key _ e b = absurd b
     by (inr s) = absurd s.1
@@ -238,6 +239,15 @@ item_to (items.ModSeq n) t h = record {
   longest = refl;
   says = inl (key.ModSeq, inr (inr (inl refl)), h.item.0, (h.value, refl, (h.item.1.0, h.item.1.1, long_from n h.item.1.0 h.item.1.2)));
 }
+item_to (items.Date seconds) t h = record {
+  word = h.name;
+  tail = 32 ∷ h.value;
+  whole = h.whole;
+  each = h.atom;
+  some = (let s = name_some h.name (λ q. let f = sym q ∙ h.item.0 in cc) in omega (arith, s));
+  longest = refl;
+  says = inl (key.InternalDate, inr (inr (inr (inl refl))), h.item.0, (h.value, refl, (seconds, h.item.1)));
+}
 item_to (items.Size n) t h = record {
   word = h.name;
   tail = 32 ∷ h.value;
@@ -245,7 +255,7 @@ item_to (items.Size n) t h = record {
   each = h.atom;
   some = (let s = name_some h.name (λ q. let f = sym q ∙ h.item.0 in cc) in omega (arith, s));
   longest = refl;
-  says = inl (key.Size, inr (inr (inr (inl refl))), h.item.0, (h.value, refl, long_from n h.value h.item.1));
+  says = inl (key.Size, inr (inr (inr (inr (inl refl)))), h.item.0, (h.value, refl, long_from n h.value h.item.1));
 }
 
 -- ---- Open and More

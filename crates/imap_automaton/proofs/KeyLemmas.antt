@@ -1,7 +1,7 @@
 -- The words by which a reader decides: no two have one text, and a search for one finds it.
 use Rattle.std.proofs.Common.{◌≡◌, ℕ, zero, suc, ◌+◌, ◌<◌, ◌≤◌, Bool, true, false, not, ◌&&◌, ◌||◌, List, [], ◌∷◌, ◌++◌, length, map, take, drop, get_or, cond, Option, Some, None, refl, sym, ap, subst, ◌∙◌, append_assoc, arith, inl, inr, bytes_eq}
 use Rattle.std.specs.Prelude.{◌==◌, nat_lt, find, unwrap_or, Decides}
-use Rattle.std.proofs.lemmas.Bool.{eqb-true, ltb-true, and_parts, and_from, lt-ltb, eq-eqb, or_cases, or_left, or_right}
+use Rattle.std.proofs.lemmas.Bool.{eqb-true, ltb-true, and_parts, and_from, lt-ltb, eq-eqb, or_cases, or_left, or_right, not-true}
 use Rattle.std.proofs.lemmas.List.{length-append, length-take-le, take-append-drop, append-nil}
 use Rattle.std.proofs.lemmas.Slice.Eq.{bytes_eq-Decides}
 use Rattle.std.proofs.lemmas.Grind.{common_steps}
@@ -17,7 +17,7 @@ use Rattle.imap_syntax.specs.Texts.{Each}
 -- ---- texts of keys
 
 abbrev key_named : List ℕ → Key
-key_named t = unwrap_or (find (λ k. bytes_eq (key_text k) t) (key.Ok ∷ key.No ∷ key.Bad ∷ key.Preauth ∷ key.Bye ∷ key.Capability ∷ key.Enabled ∷ key.Vanished ∷ key.List ∷ key.Status ∷ key.Exists ∷ key.Expunge ∷ key.Fetch ∷ key.Uid ∷ key.Flags ∷ key.ModSeq ∷ key.Size ∷ [])) key.Ok
+key_named t = unwrap_or (find (λ k. bytes_eq (key_text k) t) (key.Ok ∷ key.No ∷ key.Bad ∷ key.Preauth ∷ key.Bye ∷ key.Capability ∷ key.Enabled ∷ key.Vanished ∷ key.List ∷ key.Status ∷ key.Exists ∷ key.Expunge ∷ key.Fetch ∷ key.Uid ∷ key.Flags ∷ key.ModSeq ∷ key.Size ∷ key.InternalDate ∷ key.Jan ∷ key.Feb ∷ key.Mar ∷ key.Apr ∷ key.May ∷ key.Jun ∷ key.Jul ∷ key.Aug ∷ key.Sep ∷ key.Oct ∷ key.Nov ∷ key.Dec ∷ [])) key.Ok
 
 named : (k : Key) → key_named (key_text k) ≡ k
 named key.Ok = refl
@@ -37,13 +37,26 @@ named key.Uid = refl
 named key.Flags = refl
 named key.ModSeq = refl
 named key.Size = refl
+named key.InternalDate = refl
+named key.Jan = refl
+named key.Feb = refl
+named key.Mar = refl
+named key.Apr = refl
+named key.May = refl
+named key.Jun = refl
+named key.Jul = refl
+named key.Aug = refl
+named key.Sep = refl
+named key.Oct = refl
+named key.Nov = refl
+named key.Dec = refl
 
 pub one_key : (a b : Key) → key_text a ≡ key_text b → a ≡ b
 one_key a b e = sym (named a) ∙ ap key_named e ∙ named b
 
--- an octet of a key: an atom's, in lower case, and not `!`
+-- an octet of a key: an atom's, in lower case, and neither `!` nor `-`
 abbrev pub is_key_octet : ℕ → Bool
-is_key_octet c = is_atom c && (lower c == c) && not (c == 33)
+is_key_octet c = is_atom c && (lower c == c) && not (c == 33) && not (c == 45)
 
 pub key_octets : (k : Key) → Each is_key_octet (key_text k)
 key_octets key.Ok = (refl, (refl, tt))
@@ -62,6 +75,19 @@ key_octets key.Fetch = (refl, (refl, (refl, (refl, (refl, tt)))))
 key_octets key.Uid = (refl, (refl, (refl, tt)))
 key_octets key.Flags = (refl, (refl, (refl, (refl, (refl, tt)))))
 key_octets key.ModSeq = (refl, (refl, (refl, (refl, (refl, (refl, tt))))))
+key_octets key.InternalDate = (refl, (refl, (refl, (refl, (refl, (refl, (refl, (refl, (refl, (refl, (refl, (refl, tt))))))))))))
+key_octets key.Jan = (refl, (refl, (refl, tt)))
+key_octets key.Feb = (refl, (refl, (refl, tt)))
+key_octets key.Mar = (refl, (refl, (refl, tt)))
+key_octets key.Apr = (refl, (refl, (refl, tt)))
+key_octets key.May = (refl, (refl, (refl, tt)))
+key_octets key.Jun = (refl, (refl, (refl, tt)))
+key_octets key.Jul = (refl, (refl, (refl, tt)))
+key_octets key.Aug = (refl, (refl, (refl, tt)))
+key_octets key.Sep = (refl, (refl, (refl, tt)))
+key_octets key.Oct = (refl, (refl, (refl, tt)))
+key_octets key.Nov = (refl, (refl, (refl, tt)))
+key_octets key.Dec = (refl, (refl, (refl, tt)))
 key_octets key.Size = (refl, (refl, (refl, (refl, (refl, (refl, (refl, (refl, (refl, (refl, (refl, tt)))))))))))
 
 pub key_some : (k : Key) → 0 < length (key_text k)
@@ -82,6 +108,19 @@ key_some key.Uid = omega arith
 key_some key.Flags = omega arith
 key_some key.ModSeq = omega arith
 key_some key.Size = omega arith
+key_some key.InternalDate = omega arith
+key_some key.Jan = omega arith
+key_some key.Feb = omega arith
+key_some key.Mar = omega arith
+key_some key.Apr = omega arith
+key_some key.May = omega arith
+key_some key.Jun = omega arith
+key_some key.Jul = omega arith
+key_some key.Aug = omega arith
+key_some key.Sep = omega arith
+key_some key.Oct = omega arith
+key_some key.Nov = omega arith
+key_some key.Dec = omega arith
 
 -- ---- lists of octets of a class
 
@@ -96,25 +135,33 @@ each_all p q (c ∷ t) f h = (f c h.0, each_all p q t f h.1)
 each_mid : (p : ℕ → Bool) (x y : List ℕ) (c : ℕ) → Each p (x ++ c ∷ y) → p c ≡ true
 each_mid p x y c h = (each_append p x (c ∷ y) h).1.0
 
-key_octet_parts : (c : ℕ) → is_key_octet c ≡ true → (is_atom c ≡ true) × ((lower c == c) ≡ true) × ((c == 33) ≡ false) × ((c == 123) ≡ false)
-key_octet_parts c e = (grind arith, grind arith, grind arith, grind arith)
+atom_no_brace : (c : ℕ) → is_atom c ≡ true → (c == 123) ≡ false
+atom_no_brace c e = grind arith
 
-pub key_atoms : (k : Key) → Each is_atom (key_text k)
-key_atoms k = each_all is_key_octet is_atom (key_text k) (λ c e. (key_octet_parts c e).0) (key_octets k)
+key_octet_parts : (c : ℕ) → is_key_octet c ≡ true → (is_atom c ≡ true) × ((lower c == c) ≡ true) × ((c == 33) ≡ false) × ((c == 123) ≡ false) × (not (c == 45) ≡ true)
+key_octet_parts c e =
+    let p = and_parts (is_atom c && (lower c == c) && not (c == 33)) (not (c == 45)) e in
+    let q = and_parts (is_atom c && (lower c == c)) (not (c == 33)) p.0 in
+    let r = and_parts (is_atom c) (lower c == c) q.0 in
+    (r.0, r.1, not-true (c == 33) q.1, atom_no_brace c r.0, p.1)
 
 atom_word : (c : ℕ) → is_atom c ≡ true → is_word c ≡ true
 atom_word c e = grind arith
 
-pub atom_in_word : (place : Place) (c : ℕ) → is_atom c ≡ true → in_word place c ≡ true
-atom_in_word place.Tagged c e = atom_word c e
-atom_in_word place.Plain c e = atom_word c e
-atom_in_word place.Numbered c e = atom_word c e
-atom_in_word place.Item c e = e
+pub key_octet_month : (c : ℕ) → is_key_octet c ≡ true → in_word place.Month c ≡ true
+key_octet_month c e = let p = key_octet_parts c e in and_from (is_atom c) (not (c == 45)) p.0 p.4
+
+key_octet_in_word : (place : Place) (c : ℕ) → is_key_octet c ≡ true → in_word place c ≡ true
+key_octet_in_word place.Tagged c e = atom_word c (key_octet_parts c e).0
+key_octet_in_word place.Plain c e = atom_word c (key_octet_parts c e).0
+key_octet_in_word place.Numbered c e = atom_word c (key_octet_parts c e).0
+key_octet_in_word place.Item c e = (key_octet_parts c e).0
+key_octet_in_word place.Month c e = key_octet_month c e
 
 pub key_in_word : (place : Place) (k : Key) (at : ℕ) → Each (in_word place) (drop at (key_text k))
 key_in_word place k at =
-    each_all is_atom (in_word place) (drop at (key_text k)) (atom_in_word place)
-    (each_append is_atom (take at (key_text k)) (drop at (key_text k)) (subst (Each is_atom) (sym (take-append-drop at (key_text k))) (key_atoms k))).1
+    each_all is_key_octet (in_word place) (drop at (key_text k)) (key_octet_in_word place)
+    (each_append is_key_octet (take at (key_text k)) (drop at (key_text k)) (subst (Each is_key_octet) (sym (take-append-drop at (key_text k))) (key_octets k))).1
 
 same_lower : (t : List ℕ) → Each is_key_octet t → map lower t ≡ t
 same_lower [] h = refl

@@ -1,5 +1,5 @@
 -- What each symbol of the automaton still reads, in the words of the grammar.
-use Rattle.std.proofs.Common.{◌≡◌, ◌⊎◌, ℕ, zero, suc, ◌+◌, ◌<◌, ◌≤◌, Bool, true, false, List, [], ◌∷◌, ◌++◌, length, map, take, drop, get_or}
+use Rattle.std.proofs.Common.{◌≡◌, ◌⊎◌, ℕ, zero, suc, ◌+◌, ◌<◌, ◌≤◌, Bool, true, false, List, [], ◌∷◌, ◌++◌, length, map, take, drop, get_or, ℤ}
 use Rattle.imap_automaton.specs.declared.sym.Key.{Key}
 use Rattle.imap_automaton.specs.declared.sym.Key.TheVariants as key
 use Rattle.imap_automaton.specs.declared.sym.Place.{Place}
@@ -14,6 +14,8 @@ use Rattle.imap_automaton.specs.declared.sym.Item.{Item}
 use Rattle.imap_automaton.specs.declared.sym.Item.TheVariants as item
 use Rattle.imap_automaton.specs.declared.sym.Names.{Names}
 use Rattle.imap_automaton.specs.declared.sym.Names.TheVariants as names
+use Rattle.imap_automaton.specs.declared.sym.Date.{Date}
+use Rattle.imap_automaton.specs.declared.sym.Date.TheVariants as date
 use Rattle.imap_automaton.specs.declared.sym.Words.{Words}
 use Rattle.imap_automaton.specs.declared.sym.Words.TheVariants as words
 use Rattle.imap_automaton.specs.declared.sym.Set.{Set}
@@ -25,6 +27,7 @@ use Rattle.imap_automaton.specs.declared.sym.Sym.TheVariants as sym
 use Rattle.imap_automaton.specs.declared.sym.Move.{Move}
 use Rattle.imap_automaton.specs.declared.sym.Move.TheVariants as move
 use Rattle.imap_automaton.specs.Counts.{pends}
+use Rattle.imap_automaton.specs.DateRules.{day_octet, time_octet}
 use Rattle.imap_automaton.specs.Keys.{key_text, phrase_text, keys, in_word}
 pub use Rattle.imap_automaton.proofs.Rests.{OctetsRest, NumberRest, LongRest, IsSpaced}
 use Rattle.imap_automaton.proofs.StringLangs.{StrLang, ValueLang}
@@ -36,6 +39,7 @@ use Rattle.imap_syntax.specs.Numbers.{value_from}
 use Rattle.imap_syntax.specs.Lines.{IsLine, IsRest, IsPrinted, AllPrinted, spaced, IsWords}
 use Rattle.imap_syntax.specs.declared.uid_set.UidRange.{UidRange}
 use Rattle.imap_syntax.specs.UidSets as sets
+use Rattle.imap_syntax.specs.DateTimes.{IsDateTime}
 use Rattle.imap_syntax.specs.Items as items
 use Rattle.imap_syntax.specs.Spells.{Spells, IsUntagged}
 
@@ -93,6 +97,17 @@ ItemLang (item.Number value digits) t = NumberRest value digits t
 ItemLang item.LongOpen t = (digits : List ℕ) × (t ≡ 40 ∷ digits ++ 41 ∷ []) × LongRest 0 0 digits
 ItemLang (item.Long value digits) t = LongRest value digits t
 
+-- ---- what stands behind the month of a date
+
+-- each octet may stand at its place, of which the first is `at`
+abbrev pub Places : (ℕ → ℕ → Bool) → ℕ → List ℕ → Type 0
+Places p at [] = Unit {0}
+Places p at (c ∷ t) = (p at c ≡ true) × Places p (at + 1) t
+
+pub record TimeRest (at : ℕ) (t : List ℕ) : Type 0 where
+  pub each : Places time_octet at t
+  pub count : at + length t ≡ 21
+
 -- ---- words up to a line's end
 
 pub record FirstWord (Front : List ℕ → Type 0) (t : List ℕ) : Type 0 where
@@ -149,7 +164,9 @@ IsBehind place.Numbered key.Fetch t = IsSpaced (ItemLang item.Open) t
 IsBehind place.Item key.Uid t = IsSpaced (ItemLang (item.Number 0 0)) t
 IsBehind place.Item key.Flags t = IsSpaced (NamesLang names.Open) t
 IsBehind place.Item key.ModSeq t = IsSpaced (ItemLang item.LongOpen) t
+IsBehind place.Item key.InternalDate t = IsSpaced (λ u. (s : ℤ) × IsDateTime s u) t
 IsBehind place.Item key.Size t = IsSpaced (ItemLang (item.Long 0 0)) t
+IsBehind place.Month k t = TimeRest 0 t
 IsBehind _ _ t = ⊥
 
 -- one of the keys
@@ -177,6 +194,22 @@ pub record WordRest (place : Place) (begun t : List ℕ) : Type 0 where
   pub some : 0 < length begun + length word
   pub longest : in_word place (get_or tail 0 0) ≡ false
   pub says : WordSays place (begun ++ map lower word) tail t
+
+-- ---- dates
+
+-- what stands behind the quote of a date and so many octets
+pub record DayRest (at : ℕ) (t : List ℕ) : Type 0 where
+  pub front : List ℕ
+  pub back : List ℕ
+  pub whole : t ≡ front ++ back
+  pub each : Places day_octet at front
+  pub count : at + length front ≡ 3
+  pub month : WordRest place.Month [] back
+
+abbrev pub DateLang : Date → List ℕ → Type 0
+DateLang date.Open t = (s : ℤ) × IsDateTime s t
+DateLang (date.Day at) t = DayRest at t
+DateLang (date.Time at) t = TimeRest at t
 
 -- ---- lines
 
@@ -218,6 +251,7 @@ Lang (sym.Word place key at) t = WordRest place (take at (key_text key)) t
 Lang (sym.Free s) t = FreeLang s t
 Lang (sym.Item s) t = ItemLang s t
 Lang (sym.Names s) t = NamesLang s t
+Lang (sym.Date s) t = DateLang s t
 Lang (sym.Words s) t = WordsLang s t
 Lang (sym.Set s) t = SetLang s t
 Lang (sym.Str s) t = StrLang s t

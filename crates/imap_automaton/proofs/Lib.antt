@@ -12,6 +12,8 @@ pub mod ValueEdges
 pub mod FolderEdges
 pub mod SetEdges
 pub mod KeyLemmas
+pub mod DateForms
+pub mod DateEdges
 pub mod WordEdges
 pub mod CountLemmas
 pub mod LineWords

@@ -244,6 +244,19 @@ first_no_digit key.Uid = refl
 first_no_digit key.Flags = refl
 first_no_digit key.ModSeq = refl
 first_no_digit key.Size = refl
+first_no_digit key.InternalDate = refl
+first_no_digit key.Jan = refl
+first_no_digit key.Feb = refl
+first_no_digit key.Mar = refl
+first_no_digit key.Apr = refl
+first_no_digit key.May = refl
+first_no_digit key.Jun = refl
+first_no_digit key.Jul = refl
+first_no_digit key.Aug = refl
+first_no_digit key.Sep = refl
+first_no_digit key.Oct = refl
+first_no_digit key.Nov = refl
+first_no_digit key.Dec = refl
 
 lower_digit : (c : ℕ) → is_digit c ≡ true → is_digit (lower c) ≡ true
 lower_digit c e = grind arith

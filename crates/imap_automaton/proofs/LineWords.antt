@@ -66,6 +66,19 @@ key_plain key.Expunge m = let e = among_is key.Expunge (keys place.Plain) m in a
 key_plain key.Fetch m = let e = among_is key.Fetch (keys place.Plain) m in absurd cc
 key_plain key.ModSeq m = let e = among_is key.ModSeq (keys place.Plain) m in absurd cc
 key_plain key.Size m = let e = among_is key.Size (keys place.Plain) m in absurd cc
+key_plain key.InternalDate m = let e = among_is key.InternalDate (keys place.Plain) m in absurd cc
+key_plain key.Jan m = let e = among_is key.Jan (keys place.Plain) m in absurd cc
+key_plain key.Feb m = let e = among_is key.Feb (keys place.Plain) m in absurd cc
+key_plain key.Mar m = let e = among_is key.Mar (keys place.Plain) m in absurd cc
+key_plain key.Apr m = let e = among_is key.Apr (keys place.Plain) m in absurd cc
+key_plain key.May m = let e = among_is key.May (keys place.Plain) m in absurd cc
+key_plain key.Jun m = let e = among_is key.Jun (keys place.Plain) m in absurd cc
+key_plain key.Jul m = let e = among_is key.Jul (keys place.Plain) m in absurd cc
+key_plain key.Aug m = let e = among_is key.Aug (keys place.Plain) m in absurd cc
+key_plain key.Sep m = let e = among_is key.Sep (keys place.Plain) m in absurd cc
+key_plain key.Oct m = let e = among_is key.Oct (keys place.Plain) m in absurd cc
+key_plain key.Nov m = let e = among_is key.Nov (keys place.Plain) m in absurd cc
+key_plain key.Dec m = let e = among_is key.Dec (keys place.Plain) m in absurd cc
 key_plain key.Uid m = let e = among_is key.Uid (keys place.Plain) m in absurd cc
 key_plain key.Flags m = (7, omega arith, refl)
 
@@ -85,6 +98,19 @@ key_numbered n key.Expunge m = (1, omega arith, refl)
 key_numbered n key.Fetch m = (2, omega arith, refl)
 key_numbered n key.ModSeq m = let e = among_is key.ModSeq (keys place.Numbered) m in absurd cc
 key_numbered n key.Size m = let e = among_is key.Size (keys place.Numbered) m in absurd cc
+key_numbered n key.InternalDate m = let e = among_is key.InternalDate (keys place.Numbered) m in absurd cc
+key_numbered n key.Jan m = let e = among_is key.Jan (keys place.Numbered) m in absurd cc
+key_numbered n key.Feb m = let e = among_is key.Feb (keys place.Numbered) m in absurd cc
+key_numbered n key.Mar m = let e = among_is key.Mar (keys place.Numbered) m in absurd cc
+key_numbered n key.Apr m = let e = among_is key.Apr (keys place.Numbered) m in absurd cc
+key_numbered n key.May m = let e = among_is key.May (keys place.Numbered) m in absurd cc
+key_numbered n key.Jun m = let e = among_is key.Jun (keys place.Numbered) m in absurd cc
+key_numbered n key.Jul m = let e = among_is key.Jul (keys place.Numbered) m in absurd cc
+key_numbered n key.Aug m = let e = among_is key.Aug (keys place.Numbered) m in absurd cc
+key_numbered n key.Sep m = let e = among_is key.Sep (keys place.Numbered) m in absurd cc
+key_numbered n key.Oct m = let e = among_is key.Oct (keys place.Numbered) m in absurd cc
+key_numbered n key.Nov m = let e = among_is key.Nov (keys place.Numbered) m in absurd cc
+key_numbered n key.Dec m = let e = among_is key.Dec (keys place.Numbered) m in absurd cc
 key_numbered n key.Uid m = let e = among_is key.Uid (keys place.Numbered) m in absurd cc
 key_numbered n key.Flags m = let e = among_is key.Flags (keys place.Numbered) m in absurd cc
 

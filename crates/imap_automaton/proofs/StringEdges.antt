@@ -1,5 +1,5 @@
 -- One octet at a string.
-use Rattle.std.proofs.Common.{◌≡◌, ◌⊎◌, ℕ, zero, suc, ◌+◌, ◌-◌, ◌*◌, ◌<◌, ◌≤◌, Bool, true, false, ◌&&◌, ◌||◌, List, [], ◌∷◌, ◌++◌, length, map, cond, Option, Some, None, refl, sym, ap, subst, ◌∙◌, arith, inl, inr, replicate}
+use Rattle.std.proofs.Common.{◌≡◌, ℕ, zero, suc, ◌+◌, ◌-◌, ◌*◌, ◌<◌, ◌≤◌, Bool, true, false, ◌&&◌, ◌||◌, List, [], ◌∷◌, ◌++◌, length, map, cond, Option, Some, None, refl, sym, ap, subst, ◌∙◌, arith, inl, inr, replicate}
 use Rattle.std.specs.Prelude.{◌==◌, nat_lt, nat_le, codes}
 use Rattle.std.proofs.lemmas.Bool.{eqb-true, ltb-true, leb-true, and_parts, and_from, lt-ltb, le-leb, eq-eqb, cond-true, cond-false}
 use Rattle.imap_automaton.specs.declared.sym.Phrase.TheVariants as phrase
@@ -18,13 +18,13 @@ use Rattle.imap_automaton.proofs.Rests.{OctetsRest}
 use Rattle.imap_automaton.proofs.StringLangs.{QuotedRest, EscapedRest, AnyCounted, CountRest, BraceRest, StrLang}
 use Rattle.imap_automaton.proofs.Langs.{Lang, After}
 use Rattle.imap_automaton.proofs.Lists.{cons_head, cons_tail}
-use Rattle.imap_automaton.proofs.Tests.{from_test, to_test, at_true, at_false, is_true_at, mid}
+use Rattle.imap_automaton.proofs.Tests.{from_test, at_true, at_false, is_true_at, mid}
 use Rattle.imap_automaton.proofs.ItemEdges.{value_mono}
 use Rattle.imap_automaton.proofs.FreeEdges.{octets_some}
 use Rattle.imap_syntax.specs.Octets.{is_digit, is_text, is_atom, lower}
 use Rattle.imap_syntax.specs.Texts.{Each, Then, plain}
 use Rattle.imap_syntax.specs.Numbers.{value_from}
-use Rattle.imap_syntax.specs.Strings.{IsAtom, escaped, quoted, IsCounted, IsLiteral, IsNString, IsAString}
+use Rattle.imap_syntax.specs.Strings.{escaped, IsCounted, IsNString, IsAString}
 use Rattle.imap_syntax.specs.Values.{IsFlat}
 
 -- ---- quoted texts

@@ -1,5 +1,5 @@
 -- One octet at a value.
-use Rattle.std.proofs.Common.{◌≡◌, ◌⊎◌, ℕ, zero, suc, ◌+◌, ◌-◌, ◌<◌, Bool, true, false, List, [], ◌∷◌, ◌++◌, cond, Option, Some, None, refl, sym, ap, subst, ◌∙◌, append_assoc, arith, inl, inr}
+use Rattle.std.proofs.Common.{◌≡◌, ◌⊎◌, ℕ, zero, suc, ◌+◌, ◌-◌, ◌<◌, true, false, List, [], ◌∷◌, ◌++◌, cond, refl, sym, ap, subst, ◌∙◌, append_assoc, arith, inl, inr}
 use Rattle.std.specs.Prelude.{◌==◌, nat_lt}
 use Rattle.std.proofs.lemmas.Bool.{eqb-true, eqb-false, ltb-true, lt-ltb, eq-eqb, ne_eqb}
 use Rattle.imap_automaton.specs.declared.sym.Value.{Value}
@@ -10,15 +10,15 @@ use Rattle.imap_automaton.specs.StringRules.{flat_start, alone, before}
 use Rattle.imap_automaton.specs.ValueRules.{inner_rule, closes, value_rule}
 use Rattle.imap_automaton.specs.Flow.{stops}
 use Rattle.imap_automaton.proofs.StringLangs.{ValuesFirst, ValuesMore, Opened, ValueLang}
-use Rattle.imap_automaton.proofs.Langs.{Lang, After}
+use Rattle.imap_automaton.proofs.Langs.{After}
 use Rattle.imap_automaton.proofs.Lists.{cons_head, cons_tail, regroup, ungroup}
-use Rattle.imap_automaton.proofs.Tests.{from_test, to_test, at_true, at_false, is_true_at, mid}
+use Rattle.imap_automaton.proofs.Tests.{from_test, at_true, at_false, is_true_at, mid}
 use Rattle.imap_automaton.proofs.StringEdges.{Starts, after_alone, alone_after, after_before, before_after, flat_back, flat_forth, no_flat, flat_some}
 use Rattle.imap_syntax.specs.Octets.{is_atom}
 use Rattle.imap_syntax.specs.Texts.{Then}
 use Rattle.imap_syntax.specs.Lines.{joined, spaced}
 use Rattle.imap_syntax.specs.Strings.{escaped, IsAString}
-use Rattle.imap_syntax.specs.Values.{AllOf, IsFlat, IsListOf, IsValue}
+use Rattle.imap_syntax.specs.Values.{AllOf, IsFlat, IsValue}
 
 -- ---- the kinds of values
 

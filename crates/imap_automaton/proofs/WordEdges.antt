@@ -13,6 +13,7 @@ use Rattle.imap_automaton.specs.declared.sym.Line.TheVariants as line
 use Rattle.imap_automaton.specs.declared.sym.Free.TheVariants as free
 use Rattle.imap_automaton.specs.declared.sym.Item.TheVariants as item
 use Rattle.imap_automaton.specs.declared.sym.Names.TheVariants as names
+use Rattle.imap_automaton.specs.declared.sym.Date.TheVariants as date
 use Rattle.imap_automaton.specs.declared.sym.Set.TheVariants as set
 use Rattle.imap_automaton.specs.declared.sym.Str.TheVariants as str
 use Rattle.imap_automaton.specs.declared.sym.Folder.TheVariants as folder
@@ -29,6 +30,7 @@ use Rattle.imap_automaton.proofs.StringLangs.{StrLang}
 use Rattle.imap_automaton.proofs.FolderLangs.{FolderLang}
 use Rattle.imap_automaton.proofs.Lists.{cons_head, cons_tail, no_append}
 use Rattle.imap_automaton.proofs.Tests.{from_test, to_test, at_true, at_false, is_true_at, both, crlf_of, crlf_parts, mid}
+use Rattle.imap_automaton.proofs.DateEdges.{date_text, date_example, time_text, time_example, time_back, time_forth, time_none}
 use Rattle.imap_automaton.proofs.SetEdges.{words_more_back, words_more_forth, words_more_none}
 use Rattle.imap_automaton.proofs.FreeEdges.{text_back, text_forth, goes_back, goes_forth, free_some, free_empty}
 use Rattle.imap_automaton.proofs.KeyLemmas.{one_key, key_some, key_in_word, key_lower, no_bang, find_some, find_none, is_among_is, goes_to, goes_from, goes_octet, whole_to, whole_from}
@@ -93,7 +95,9 @@ behind_back place.Numbered key.Fetch c t h = spaced_back (sym.Item item.Open) c 
 behind_back place.Item key.Uid c t h = spaced_back (sym.Item (item.Number 0 0)) c t h
 behind_back place.Item key.Flags c t h = spaced_back (sym.Names names.Open) c t h
 behind_back place.Item key.ModSeq c t h = spaced_back (sym.Item item.LongOpen) c t h
+behind_back place.Item key.InternalDate c t h = spaced_back (sym.Date date.Open) c t h
 behind_back place.Item key.Size c t h = spaced_back (sym.Item (item.Long 0 0)) c t h
+behind_back place.Month k c t h = time_back 0 c t h
 behind_back _ _ c t h = absurd h
 
 behind_forth : (p : Place) (k : Key) (c : ℕ) (t : List ℕ) → IsBehind p k (c ∷ t) → After (behind_key p k c) t
@@ -117,7 +121,9 @@ behind_forth place.Numbered key.Fetch c t h = spaced_forth (sym.Item item.Open) 
 behind_forth place.Item key.Uid c t h = spaced_forth (sym.Item (item.Number 0 0)) c t h
 behind_forth place.Item key.Flags c t h = spaced_forth (sym.Names names.Open) c t h
 behind_forth place.Item key.ModSeq c t h = spaced_forth (sym.Item item.LongOpen) c t h
+behind_forth place.Item key.InternalDate c t h = spaced_forth (sym.Date date.Open) c t h
 behind_forth place.Item key.Size c t h = spaced_forth (sym.Item (item.Long 0 0)) c t h
+behind_forth place.Month k c t h = time_forth 0 c t h
 behind_forth _ _ c t h = absurd h
 
 rest_none : IsRest [] → ⊥
@@ -148,7 +154,9 @@ behind_none place.Numbered key.Fetch h = spaced_none (ItemLang item.Open) h
 behind_none place.Item key.Uid h = spaced_none (ItemLang (item.Number 0 0)) h
 behind_none place.Item key.Flags h = spaced_none (NamesLang names.Open) h
 behind_none place.Item key.ModSeq h = spaced_none (ItemLang item.LongOpen) h
+behind_none place.Item key.InternalDate h = spaced_none (Lang (sym.Date date.Open)) h
 behind_none place.Item key.Size h = spaced_none (ItemLang (item.Long 0 0)) h
+behind_none place.Month k h = time_none h
 behind_none _ _ h = h
 
 -- ---- at a word that is no key
@@ -158,12 +166,14 @@ stray_back place.Plain c t h = text_back pending.Nothing c t h
 stray_back place.Numbered c t h = text_back pending.Nothing c t h
 stray_back place.Tagged c t h = absurd h
 stray_back place.Item c t h = absurd h
+stray_back place.Month c t h = absurd h
 
 stray_forth : (p : Place) (c : ℕ) (t : List ℕ) → IsStray p (c ∷ t) → After (stray p c) t
 stray_forth place.Plain c t h = text_forth pending.Nothing c t h
 stray_forth place.Numbered c t h = text_forth pending.Nothing c t h
 stray_forth place.Tagged c t h = absurd h
 stray_forth place.Item c t h = absurd h
+stray_forth place.Month c t h = absurd h
 
 pub pend_none : (c : ℕ) → (c == 123) ≡ false → pend pending.Nothing c ≡ pending.Nothing
 pend_none c e = cond-false (c == 123) (pending.Open 0 0) pending.Nothing e
@@ -174,11 +184,15 @@ word_is c e = grind arith
 atom_is : (c : ℕ) → is_atom c ≡ true → is_text c ≡ true
 atom_is c e = grind arith
 
+month_is : (c : ℕ) → in_word place.Month c ≡ true → is_text c ≡ true
+month_is c e = grind arith
+
 pub word_text : (p : Place) (c : ℕ) → in_word p c ≡ true → is_text c ≡ true
 word_text place.Tagged c e = word_is c e
 word_text place.Plain c e = word_is c e
 word_text place.Numbered c e = word_is c e
 word_text place.Item c e = atom_is c e
+word_text place.Month c e = month_is c e
 
 pub text_goes : (c : ℕ) (t : List ℕ) → is_text c ≡ true → (c == 123) ≡ false → FreeLang (free.Text pending.Nothing) (c ∷ t) → FreeLang (free.Text pending.Nothing) t
 text_goes c t e f h = subst (λ s. FreeLang (free.Text s) t) (pend_none c f) (goes_forth pending.Nothing c t e h)
@@ -191,12 +205,14 @@ stray_goes place.Plain c t e f h = text_goes c t (word_text place.Plain c e) f h
 stray_goes place.Numbered c t e f h = text_goes c t (word_text place.Numbered c e) f h
 stray_goes place.Tagged c t e f h = h
 stray_goes place.Item c t e f h = h
+stray_goes place.Month c t e f h = h
 
 stray_comes : (p : Place) (c : ℕ) (t : List ℕ) → in_word p c ≡ true → (c == 123) ≡ false → IsStray p t → IsStray p (c ∷ t)
 stray_comes place.Plain c t e f h = text_comes c t (word_text place.Plain c e) f h
 stray_comes place.Numbered c t e f h = text_comes c t (word_text place.Numbered c e) f h
 stray_comes place.Tagged c t e f h = h
 stray_comes place.Item c t e f h = h
+stray_comes place.Month c t e f h = h
 
 -- ---- the longest run of a word
 
@@ -220,6 +236,7 @@ no_word_zero place.Tagged = refl
 no_word_zero place.Plain = refl
 no_word_zero place.Numbered = refl
 no_word_zero place.Item = refl
+no_word_zero place.Month = refl
 
 -- ---- an octet of the word
 
@@ -344,6 +361,7 @@ word_empty p begun h =
     stray_none place.Numbered s = free_empty (free.Text pending.Nothing) refl s
     stray_none place.Tagged s = s
     stray_none place.Item s = s
+    stray_none place.Month s = s
 
     by : WordSays p (begun ++ map lower h.word) h.tail [] → h.tail ≡ [] → ⊥
     by (inl k) e = behind_none p k.0 (subst (IsBehind p k.0) e k.3)
@@ -387,4 +405,6 @@ word_example place.Item key.Uid at le m = (drop at (codes "uid") ++ 32 ∷ 49 �
 word_example place.Item key.Flags at le m = (drop at (codes "flags") ++ 32 ∷ 40 ∷ 41 ∷ [], key_example place.Item key.Flags at (32 ∷ 40 ∷ 41 ∷ []) le (is_among_is key.Flags (keys place.Item) m) refl (40 ∷ 41 ∷ [], refl, ([], (tt, refl))))
 word_example place.Item key.ModSeq at le m = (drop at (codes "modseq") ++ 32 ∷ codes "(1)", key_example place.Item key.ModSeq at (32 ∷ codes "(1)") le (is_among_is key.ModSeq (keys place.Item) m) refl (codes "(1)", refl, (49 ∷ [], refl, record { each = (refl, tt); some = omega arith; few = omega arith; most = omega arith })))
 word_example place.Item key.Size at le m = (drop at (codes "rfc822.size") ++ 32 ∷ 49 ∷ [], key_example place.Item key.Size at (32 ∷ 49 ∷ []) le (is_among_is key.Size (keys place.Item) m) refl (49 ∷ [], refl, record { each = (refl, tt); some = omega arith; few = omega arith; most = omega arith }))
+word_example place.Item key.InternalDate at le m = (drop at (codes "internaldate") ++ 32 ∷ date_text, key_example place.Item key.InternalDate at (32 ∷ date_text) le (is_among_is key.InternalDate (keys place.Item) m) refl (date_text, refl, date_example))
 word_example place.Item _ at le m = absurd cc
+word_example place.Month k at le m = (drop at (key_text k) ++ time_text, key_example place.Month k at time_text le (is_among_is k (keys place.Month) m) refl time_example)

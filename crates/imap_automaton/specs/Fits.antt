@@ -9,6 +9,8 @@ use Rattle.imap_automaton.specs.declared.sym.Free.{Free}
 use Rattle.imap_automaton.specs.declared.sym.Free.TheVariants as free
 use Rattle.imap_automaton.specs.declared.sym.Item.{Item}
 use Rattle.imap_automaton.specs.declared.sym.Item.TheVariants as item
+use Rattle.imap_automaton.specs.declared.sym.Date.{Date}
+use Rattle.imap_automaton.specs.declared.sym.Date.TheVariants as date
 use Rattle.imap_automaton.specs.declared.sym.Set.{Set}
 use Rattle.imap_automaton.specs.declared.sym.Set.TheVariants as set
 use Rattle.imap_automaton.specs.declared.sym.Str.{Str}
@@ -41,6 +43,11 @@ ItemFits (item.Number value digits) = nat_le digits 10 && nat_le value 429496729
 ItemFits (item.Long value digits) = nat_le digits 19 && nat_le value 9223372036854775807 && (nat_lt 0 digits || value == 0)
 ItemFits _ = true
 
+abbrev pub DateFits : Date → Bool
+DateFits date.Open = true
+DateFits (date.Day at) = nat_lt at 3
+DateFits (date.Time at) = nat_lt at 21
+
 abbrev pub SetFits : Set → Bool
 SetFits (set.Number value digits second) = ItemFits (item.Number value digits)
 SetFits _ = true
@@ -62,6 +69,7 @@ SymFits (sym.Word place key at) = nat_le at (length (key_text key)) && is_among 
 SymFits (sym.Free s) = FreeFits s
 SymFits (sym.Item s) = ItemFits s
 SymFits (sym.Names s) = true
+SymFits (sym.Date s) = DateFits s
 SymFits (sym.Words s) = true
 SymFits (sym.Set s) = SetFits s
 SymFits (sym.Str s) = StrFits s

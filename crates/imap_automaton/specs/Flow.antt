@@ -69,6 +69,7 @@ need (sym.Line (line.Tag n)) = 4
 need (sym.Line line.Untagged) = 4
 need (sym.Line (line.Sequence value digits)) = 4
 need (sym.Word place.Item key at) = 2
+need (sym.Word place.Month key at) = 1
 need (sym.Word p key at) = 4
 need (sym.Free (free.Text s)) = 2
 need (sym.Item item.Open) = 3

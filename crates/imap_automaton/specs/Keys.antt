@@ -1,5 +1,5 @@
 -- The words by which a reader decides, and where they count.
-use Rattle.std.specs.Prelude.{ℕ, ◌+◌, Bool, false, ◌&&◌, ◌||◌, nat_lt, ◌==◌, List, [], ◌∷◌, length, take, get_or, codes, bytes_eq, find, Option}
+use Rattle.std.specs.Prelude.{ℕ, ◌+◌, Bool, false, not, ◌&&◌, ◌||◌, nat_lt, ◌==◌, List, [], ◌∷◌, length, take, get_or, codes, bytes_eq, find, Option}
 use Rattle.imap_automaton.specs.declared.sym.Key.{Key}
 use Rattle.imap_automaton.specs.declared.sym.Key.TheVariants as key
 use Rattle.imap_automaton.specs.declared.sym.Place.{Place}
@@ -34,23 +34,39 @@ key_text key.Fetch = codes "fetch"
 key_text key.Uid = codes "uid"
 key_text key.Flags = codes "flags"
 key_text key.ModSeq = codes "modseq"
+key_text key.InternalDate = codes "internaldate"
 key_text key.Size = codes "rfc822.size"
+key_text key.Jan = codes "jan"
+key_text key.Feb = codes "feb"
+key_text key.Mar = codes "mar"
+key_text key.Apr = codes "apr"
+key_text key.May = codes "may"
+key_text key.Jun = codes "jun"
+key_text key.Jul = codes "jul"
+key_text key.Aug = codes "aug"
+key_text key.Sep = codes "sep"
+key_text key.Oct = codes "oct"
+key_text key.Nov = codes "nov"
+key_text key.Dec = codes "dec"
 
 -- the words that count in a place
 abbrev pub keys : Place → List Key
 keys place.Tagged = key.Ok ∷ key.No ∷ key.Bad ∷ []
 keys place.Plain = key.Ok ∷ key.No ∷ key.Bad ∷ key.Preauth ∷ key.Bye ∷ key.Capability ∷ key.Enabled ∷ key.Flags ∷ key.Vanished ∷ key.List ∷ key.Status ∷ []
 keys place.Numbered = key.Exists ∷ key.Expunge ∷ key.Fetch ∷ []
-keys place.Item = key.Uid ∷ key.Flags ∷ key.ModSeq ∷ key.Size ∷ []
+keys place.Item = key.Uid ∷ key.Flags ∷ key.ModSeq ∷ key.InternalDate ∷ key.Size ∷ []
+keys place.Month = key.Jan ∷ key.Feb ∷ key.Mar ∷ key.Apr ∷ key.May ∷ key.Jun ∷ key.Jul ∷ key.Aug ∷ key.Sep ∷ key.Oct ∷ key.Nov ∷ key.Dec ∷ []
 
 abbrev pub first_key : Place → Key
 first_key place.Item = key.Uid
 first_key place.Numbered = key.Exists
+first_key place.Month = key.Jan
 first_key _ = key.Ok
 
 -- the octets of a word
 abbrev pub in_word : Place → ℕ → Bool
 in_word place.Item c = is_atom c
+in_word place.Month c = is_atom c && not (c == 45)
 in_word _ c = is_word c
 
 -- the key begins as this one does up to `at`, and goes on with the octet

@@ -3,6 +3,7 @@ pub mod Counts
 pub mod Keys
 pub mod LineRules
 pub mod SetRules
+pub mod DateRules
 pub mod WordRules
 pub mod FreeRules
 pub mod ItemRules

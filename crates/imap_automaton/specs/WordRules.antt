@@ -9,6 +9,7 @@ use Rattle.imap_automaton.specs.declared.sym.Phrase.TheVariants as phrase
 use Rattle.imap_automaton.specs.declared.sym.Line.TheVariants as line
 use Rattle.imap_automaton.specs.declared.sym.Item.TheVariants as item
 use Rattle.imap_automaton.specs.declared.sym.Names.TheVariants as names
+use Rattle.imap_automaton.specs.declared.sym.Date.TheVariants as date
 use Rattle.imap_automaton.specs.declared.sym.Set.TheVariants as set
 use Rattle.imap_automaton.specs.declared.sym.Str.TheVariants as str
 use Rattle.imap_automaton.specs.declared.sym.Folder.TheVariants as folder
@@ -18,6 +19,7 @@ use Rattle.imap_automaton.specs.declared.sym.Move.TheVariants as move
 use Rattle.imap_automaton.specs.Keys.{in_word, next_key, whole_key}
 use Rattle.imap_automaton.specs.FreeRules.{text_rule}
 use Rattle.imap_automaton.specs.SetRules.{words_more}
+use Rattle.imap_automaton.specs.DateRules.{time_rule}
 use Rattle.imap_syntax.specs.Octets.{lower}
 
 -- rest = empty / SP *text
@@ -56,7 +58,9 @@ behind_key place.Numbered key.Fetch c = spaced_rule (move.One (sym.Item item.Ope
 behind_key place.Item key.Uid c = spaced_rule (move.One (sym.Item (item.Number 0 0))) c
 behind_key place.Item key.Flags c = spaced_rule (move.One (sym.Names names.Open)) c
 behind_key place.Item key.ModSeq c = spaced_rule (move.One (sym.Item item.LongOpen)) c
+behind_key place.Item key.InternalDate c = spaced_rule (move.One (sym.Date date.Open)) c
 behind_key place.Item key.Size c = spaced_rule (move.One (sym.Item (item.Long 0 0))) c
+behind_key place.Month k c = time_rule 0 c
 behind_key _ _ c = move.Fail
 
 -- at a word that is none

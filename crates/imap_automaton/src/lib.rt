@@ -2,6 +2,7 @@
 #![tactic(auto)]
 
 mod class;
+mod date_rule;
 mod folder_rule;
 mod free_rule;
 mod item_rule;
@@ -18,5 +19,6 @@ mod word_rule;
 pub use stack::Stack;
 pub use step::advance;
 pub use sym::{
-    Folder, Free, Item, Key, Line, Move, Names, Pending, Phrase, Place, Set, Str, Sym, Value, Words,
+    Date, Folder, Free, Item, Key, Line, Move, Names, Pending, Phrase, Place, Set, Str, Sym, Value,
+    Words,
 };

@@ -6,6 +6,7 @@ ghost use Rattle.imap_automaton.specs.Run.{step};
 ghost use Rattle.imap_automaton.specs.Flow.{CanStep};
 ghost use Rattle.imap_automaton.specs.Symbols.{symbols_of};
 
+use crate::date_rule::date_rule;
 use crate::folder_rule::folder_rule;
 use crate::free_rule::free_rule;
 use crate::item_rule::item_rule;
@@ -30,6 +31,7 @@ fn rule(sym: Sym, c: u16) -> Move
         Sym::Free(free) => free_rule(free, c),
         Sym::Item(item) => item_rule(item, c),
         Sym::Names(names) => names_rule(names, c),
+        Sym::Date(date) => date_rule(date, c),
         Sym::Words(words) => words_rule(words, c),
         Sym::Set(set) => set_rule(set, c),
         Sym::Str(string) => string_rule(string, c),

@@ -30,7 +30,20 @@ pub enum Key {
     Uid,
     Flags,
     ModSeq,
+    InternalDate,
     Size,
+    Jan,
+    Feb,
+    Mar,
+    Apr,
+    May,
+    Jun,
+    Jul,
+    Aug,
+    Sep,
+    Oct,
+    Nov,
+    Dec,
 }
 
 /// Where a word is read.
@@ -44,6 +57,8 @@ pub enum Place {
     Numbered,
     /// An item's name.
     Item,
+    /// The month of a date.
+    Month,
 }
 
 /// A count in braces that may stand at the end of a text: none, one with so many digits, one with its closing brace.
@@ -114,6 +129,17 @@ pub enum Item {
     LongOpen,
     /// Within a long number, its value so far and how many digits it has.
     Long(u64, u8),
+}
+
+/// Within a date.
+#[derive(Clone, Copy)]
+pub enum Date {
+    /// Before its quote.
+    Open,
+    /// Behind the quote and so many octets, before the month.
+    Day(u8),
+    /// Behind the month and so many octets.
+    Time(u8),
 }
 
 /// Within names in brackets.
@@ -197,6 +223,7 @@ pub enum Sym {
     Free(Free),
     Item(Item),
     Names(Names),
+    Date(Date),
     Words(Words),
     Set(Set),
     Str(Str),

@@ -4,9 +4,12 @@ ghost use Rattle.imap_automaton.specs.Keys as keywords;
 ghost use Rattle.imap_automaton.specs.WordRules as rules;
 
 use crate::class::{CR, is_atom, is_word, lower};
+use crate::date_rule::time_rule;
 use crate::free_rule::text_rule;
 use crate::set_rule::words_more;
-use crate::sym::{Folder, Item, Key, Line, Move, Names, Pending, Phrase, Place, Set, Str, Sym};
+use crate::sym::{
+    Date, Folder, Item, Key, Line, Move, Names, Pending, Phrase, Place, Set, Str, Sym,
+};
 
 /// The word in lower case.
 fn key_text(key: Key) -> &'static [u8]
@@ -29,7 +32,20 @@ fn key_text(key: Key) -> &'static [u8]
         Key::Uid => b"uid",
         Key::Flags => b"flags",
         Key::ModSeq => b"modseq",
+        Key::InternalDate => b"internaldate",
         Key::Size => b"rfc822.size",
+        Key::Jan => b"jan",
+        Key::Feb => b"feb",
+        Key::Mar => b"mar",
+        Key::Apr => b"apr",
+        Key::May => b"may",
+        Key::Jun => b"jun",
+        Key::Jul => b"jul",
+        Key::Aug => b"aug",
+        Key::Sep => b"sep",
+        Key::Oct => b"oct",
+        Key::Nov => b"nov",
+        Key::Dec => b"dec",
     }
 }
 
@@ -51,7 +67,28 @@ static LINE_KEYS: [Key; 11] = [
 
 static NUMBERED_KEYS: [Key; 3] = [Key::Exists, Key::Expunge, Key::Fetch];
 
-static ITEM_KEYS: [Key; 4] = [Key::Uid, Key::Flags, Key::ModSeq, Key::Size];
+static ITEM_KEYS: [Key; 5] = [
+    Key::Uid,
+    Key::Flags,
+    Key::ModSeq,
+    Key::InternalDate,
+    Key::Size,
+];
+
+static MONTH_KEYS: [Key; 12] = [
+    Key::Jan,
+    Key::Feb,
+    Key::Mar,
+    Key::Apr,
+    Key::May,
+    Key::Jun,
+    Key::Jul,
+    Key::Aug,
+    Key::Sep,
+    Key::Oct,
+    Key::Nov,
+    Key::Dec,
+];
 
 /// The words that count in a place.
 fn keys(place: Place) -> &'static [Key]
@@ -62,6 +99,7 @@ fn keys(place: Place) -> &'static [Key]
         Place::Plain => &LINE_KEYS,
         Place::Numbered => &NUMBERED_KEYS,
         Place::Item => &ITEM_KEYS,
+        Place::Month => &MONTH_KEYS,
     }
 }
 
@@ -72,6 +110,7 @@ pub fn first_key(place: Place) -> Key
     match place {
         Place::Item => Key::Uid,
         Place::Numbered => Key::Exists,
+        Place::Month => Key::Jan,
         _ => Key::Ok,
     }
 }
@@ -81,6 +120,7 @@ fn in_word(place: Place, c: u16) -> bool
 {
     match place {
         Place::Item => is_atom(c),
+        Place::Month => is_atom(c) && c != b'-' as u16,
         _ => is_word(c),
     }
 }
@@ -237,6 +277,8 @@ fn behind_key(place: Place, key: Key, c: u16) -> Move
         (Place::Item, Key::Uid) => spaced_rule(Sym::Item(Item::Number(0, 0)), c),
         (Place::Item, Key::Flags) => spaced_rule(Sym::Names(Names::Open), c),
         (Place::Item, Key::ModSeq) => spaced_rule(Sym::Item(Item::LongOpen), c),
+        (Place::Item, Key::InternalDate) => spaced_rule(Sym::Date(Date::Open), c),
+        (Place::Month, _) => time_rule(0, c),
         (Place::Item, Key::Size) => spaced_rule(Sym::Item(Item::Long(0, 0)), c),
         _ => Move::Fail,
     }

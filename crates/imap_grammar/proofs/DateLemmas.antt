@@ -2,14 +2,15 @@
 use Rattle.std.proofs.Common.{◌≡◌, ℕ, zero, suc, ◌+◌, ◌<◌, ◌≤◌, Bool, true, false, cond, inl, inr, refl, sym, ap, subst, ◌∙◌, arith}
 use Rattle.std.specs.Prelude.{ℤ, pos, ◌-ℤ◌, nat_lt}
 use Rattle.std.proofs.lemmas.Bool.{ltb-true, ltb-false, cond-true, cond-false, cases_lt}
-use Rattle.jiff_core.specs.Calendar.{days_in_month, day_count}
+use Rattle.jiff_core.specs.Calendar.{days_in_month, day_count, days_from_civil, IsCivilDate}
 use Rattle.jiff_core.specs.Date.{epoch_day}
 use Rattle.jiff_core.specs.declared.civil.date.Date.{Date}
-use Rattle.jiff_core.proofs.CalendarLemmas.{day_count-day, day_count-next_month, day_count-next_year, day_count-last_of_year, day_count-later_year, day_count-day_of_year, day_count-end, days_in_month_bounds, days_from_civil-day_count}
+use Rattle.jiff_core.proofs.CalendarLemmas.{day_count-day, day_count-next_month, day_count-next_year, day_count-last_of_year, day_count-later_year, day_count-day_of_year, day_count-end, days_in_month_bounds, days_from_civil-day_count, day_count_bounds}
 use Rattle.jiff_core.proofs.DateLemmas.{epoch_day_injective}
 use Rattle.jiff_core.proofs.MarchLemmas.{day_count-early}
 use Rattle.jiff_core.proofs.SignedLemmas.{signed_arith}
 use Rattle.imap_syntax.specs.Dates.{Day, next_day, day_at}
+use Rattle.imap_syntax.specs.DateTimes.{days_to}
 
 -- the calendar has the day, and counts so many before it
 record Counted (n : ℕ) (d : Day) : Type 0 where
@@ -132,3 +133,19 @@ unfolding date_of
 is_day_at date n le e =
     let c = counted n in
     epoch_day_injective date (date_of n (day_at n) c le) (same_day date (date_of n (day_at n) c le) n e c.count)
+
+-- ---- the first day of a month
+
+since_zero : (y m : ℕ) → 1 ≤ m → 3652425 ≤ day_count (pos y) m 1
+since_zero zero m h = omega (arith, year_zero, day_count-day_of_year (pos 0) m 1 (omega arith))
+since_zero (suc y) m h =
+    let on = day_count-later_year (pos 0) (pos (suc y)) (omega (arith, signed_arith)) (omega (arith, signed_arith)) in
+    omega (arith, year_zero, on, day_count-day_of_year (pos (suc y)) m 1 (omega arith))
+
+pub first_day : (y m : ℕ) → y ≤ 9999 → 1 ≤ m → m ≤ 12 → (days_from_civil (pos y) m 1 ≡ pos (days_to y m) -ℤ pos 719528) × (days_to y m ≤ 3652424)
+first_day y m year low high =
+    let civil : IsCivilDate (pos y) m 1 = ((omega (arith, signed_arith), omega (arith, signed_arith, year)), (low, high), (omega arith, some_day y m)) in
+    let bound = day_count_bounds (pos y) m 1 civil in
+    let since = since_zero y m low in
+    let k = days_from_civil-day_count (pos y) m 1 in
+    (omega (arith, signed_arith, k, since, year_zero), omega (arith, bound.1, year_zero))

@@ -1,23 +1,22 @@
 -- A LIST and a STATUS are read back as their values.
-use Rattle.std.proofs.Common.{◌≡◌, ◌⊎◌, ℕ, zero, suc, ◌+◌, ◌-◌, ◌<◌, ◌≤◌, Bool, true, false, ◌||◌, List, [], ◌∷◌, ◌++◌, length, map, take, drop, get_or, cond, Option, Some, None, refl, sym, ap, subst, ◌∙◌, append_assoc, arith, inl, inr}
+use Rattle.std.proofs.Common.{◌≡◌, ℕ, zero, suc, ◌+◌, ◌-◌, ◌<◌, Bool, true, false, ◌||◌, List, [], ◌∷◌, ◌++◌, length, map, take, drop, get_or, cond, Option, Some, None, refl, sym, ap, subst, ◌∙◌, append_assoc, arith, inl, inr}
 use Rattle.std.specs.Prelude.{◌==◌, codes}
-use Rattle.std.proofs.lemmas.Bool.{cond-true, cond-false, eq-eqb}
+use Rattle.std.proofs.lemmas.Bool.{cond-true, cond-false}
 use Rattle.std.proofs.lemmas.List.{length-append, map-append}
-use Rattle.imap_automaton.proofs.Lists.{cons_head, cons_tail}
+use Rattle.imap_automaton.proofs.Lists.{cons_head}
 use Rattle.imap_automaton.proofs.StringEdges.{no_special}
 use Rattle.imap_grammar.specs.Spans.{span, long_in, flags_in}
 use Rattle.imap_grammar.specs.StringReading.{astring_in}
 use Rattle.imap_grammar.specs.FolderReading.{delimiter_in, list_in, count_in, counts_in, counts_of, status_in}
-use Rattle.imap_grammar.proofs.Cuts.{small, plain_small, plain_join, each_to, each_join, cut_at}
+use Rattle.imap_grammar.proofs.Cuts.{small, plain_small, each_to, each_join, cut_at}
 use Rattle.imap_grammar.proofs.ItemReadings.{digit_small, joined_small, flags_read, long_read, plain_length}
 use Rattle.imap_grammar.proofs.StringReadings.{quoted_small, Ends, astring_read}
 use Rattle.imap_syntax.specs.declared.response.StatusItems.{StatusItems}
-use Rattle.imap_syntax.specs.declared.response.Response.{Response}
 use Rattle.imap_syntax.specs.declared.response.Response.TheVariants as response
-use Rattle.imap_syntax.specs.Octets.{is_digit, is_text, is_status_word, lower}
-use Rattle.imap_syntax.specs.Texts.{Each, Then, plain_of, plain, crlf}
-use Rattle.imap_syntax.specs.Strings.{escaped, quoted}
-use Rattle.imap_syntax.specs.Items.{IsNames, joined, kept}
+use Rattle.imap_syntax.specs.Octets.{is_digit, is_status_word, lower}
+use Rattle.imap_syntax.specs.Texts.{Each, plain_of, plain}
+use Rattle.imap_syntax.specs.Strings.{quoted}
+use Rattle.imap_syntax.specs.Items.{joined, kept}
 use Rattle.imap_syntax.specs.Folders.{folder_name, IsDelimiter, IsListEnd, IsListLine, IsCount, IsMoreCounts, IsCounts, told_as, told_counts, no_counts, IsStatusLine}
 
 -- ---- LIST

@@ -1,18 +1,20 @@
 -- The items of a FETCH are read back as what they tell.
-use Rattle.std.proofs.Common.{◌≡◌, ◌⊎◌, ℕ, zero, suc, ◌+◌, ◌-◌, ◌<◌, ◌≤◌, Bool, true, false, List, [], ◌∷◌, ◌++◌, length, map, take, drop, get_or, cond, refl, sym, ap, subst, ◌∙◌, append_assoc, arith, inl, inr, Option, Some}
+use Rattle.std.proofs.Common.{◌≡◌, ◌⊎◌, ℕ, zero, suc, ◌+◌, ◌-◌, ◌<◌, ◌≤◌, Bool, true, false, List, [], ◌∷◌, ◌++◌, length, map, take, drop, get_or, cond, refl, sym, ap, subst, ◌∙◌, append_assoc, arith, inl, inr, Option, Some, ℤ}
 use Rattle.std.specs.Prelude.{◌==◌, codes, bytes_eq}
 use Rattle.std.proofs.lemmas.Bool.{cond-true, cond-false}
 use Rattle.std.proofs.lemmas.List.{length-append, append-nil, map-append}
 use Rattle.imap_automaton.proofs.KeyLemmas.{text_same}
 use Rattle.imap_automaton.proofs.Lists.{cons_head, cons_tail}
 use Rattle.imap_grammar.specs.Reading.{span, in_name, number_in, long_in, names_in, flags_in, value_in, item_in, items_in}
+use Rattle.imap_grammar.specs.DateReading.{date_in}
+use Rattle.imap_grammar.proofs.DateReadings.{date_read}
 use Rattle.imap_grammar.proofs.Cuts.{small, plain_small, plain_join, each_to, each_join, CutAt, cut_at, number_is, long_is}
 use Rattle.imap_syntax.specs.declared.response.FetchItems.{FetchItems}
 use Rattle.imap_syntax.specs.Octets.{is_digit, is_atom, lower}
 use Rattle.imap_syntax.specs.Texts.{Each, plain_of, plain, crlf}
 use Rattle.imap_syntax.specs.Numbers.{value_from, IsLong}
 use Rattle.imap_syntax.specs.Lines.{spaced}
-use Rattle.imap_syntax.specs.Items.{IsAtom, IsName, AllNames, joined, IsNames, Item, Uid, Flags, ModSeq, Size, IsItemValue, IsItem, IsMore, IsItems, add_name, kept_from, kept, told, told_from}
+use Rattle.imap_syntax.specs.Items.{IsAtom, IsName, AllNames, joined, IsNames, Item, Uid, Flags, ModSeq, Date, Size, IsItemValue, IsItem, IsMore, IsItems, add_name, kept_from, kept, told, told_from}
 
 -- ---- names
 
@@ -81,11 +83,17 @@ digit_small c e = grind arith
 abbrev flags_part : FetchItems → List ℕ → FetchItems × List ℕ
 flags_part so_far b = (record so_far { flags = Some (flags_in (drop 1 b)).0 }, (flags_in (drop 1 b)).1)
 
+abbrev date_part : FetchItems → List ℕ → FetchItems × List ℕ
+date_part so_far b = (record so_far { date = Some (date_in b) }, drop 28 b)
+
+abbrev date_or : FetchItems → List ℕ → List ℕ → FetchItems × List ℕ
+date_or so_far name b = cond (bytes_eq name (codes "internaldate")) (date_part so_far b) (flags_part so_far b)
+
 abbrev size_part : FetchItems → List ℕ → FetchItems × List ℕ
 size_part so_far b = (record so_far { size = Some (long_in (take (span is_digit b) b)) }, drop (span is_digit b) b)
 
 abbrev size_or : FetchItems → List ℕ → List ℕ → FetchItems × List ℕ
-size_or so_far name b = cond (bytes_eq name (codes "rfc822.size")) (size_part so_far b) (flags_part so_far b)
+size_or so_far name b = cond (bytes_eq name (codes "rfc822.size")) (size_part so_far b) (date_or so_far name b)
 
 abbrev modseq_part : FetchItems → List ℕ → FetchItems × List ℕ
 modseq_part so_far b = (record so_far { modseq = Some (long_in (take (span is_digit (drop 1 b)) (drop 1 b))) }, drop (span is_digit (drop 1 b) + 1) (drop 1 b))
@@ -119,7 +127,8 @@ value_read (Flags ns) so_far name value back b item h out e =
     let f : drop 1 b ≡ joined ns ++ 41 ∷ back = ap (drop 1) (e ∙ ap (λ (u : List ℕ). u ++ back) inner) ∙ append_assoc (joined ns) (41 ∷ []) back in
     other_name (map lower name) (codes "flags") (codes "uid") (uid_part so_far b) (modseq_or so_far (map lower name) b) h.0 refl
     ∙ other_name (map lower name) (codes "flags") (codes "modseq") (modseq_part so_far b) (size_or so_far (map lower name) b) h.0 refl
-    ∙ other_name (map lower name) (codes "flags") (codes "rfc822.size") (size_part so_far b) (flags_part so_far b) h.0 refl
+    ∙ other_name (map lower name) (codes "flags") (codes "rfc822.size") (size_part so_far b) (date_or so_far (map lower name) b) h.0 refl
+    ∙ other_name (map lower name) (codes "flags") (codes "internaldate") (date_part so_far b) (flags_part so_far b) h.0 refl
     ∙ ap (λ (r : List (List ℕ) × List ℕ). (record so_far { flags = Some r.0 }, r.1)) (flags_read ns back (drop 1 b) h.1.0 f)
 value_read (ModSeq n) so_far name value back b item h out e =
     let digits = h.1.0 in
@@ -131,12 +140,19 @@ value_read (ModSeq n) so_far name value back b item h out e =
     other_name (map lower name) (codes "modseq") (codes "uid") (uid_part so_far b) (modseq_or so_far (map lower name) b) h.0 refl
     ∙ this_name (map lower name) (codes "modseq") (modseq_part so_far b) (size_or so_far (map lower name) b) h.0
     ∙ ap (λ (m : ℕ). (told so_far (ModSeq m), drop (span is_digit d + 1) d)) (ap long_in k.front ∙ long_read n digits is) ∙ ap (λ (u : List ℕ). (told so_far (ModSeq n), u)) (k.past 41 back refl)
+value_read (Date seconds) so_far name value back b item h out e =
+    let r = date_read seconds value back b h.1 e in
+    other_name (map lower name) (codes "internaldate") (codes "uid") (uid_part so_far b) (modseq_or so_far (map lower name) b) h.0 refl
+    ∙ other_name (map lower name) (codes "internaldate") (codes "modseq") (modseq_part so_far b) (size_or so_far (map lower name) b) h.0 refl
+    ∙ other_name (map lower name) (codes "internaldate") (codes "rfc822.size") (size_part so_far b) (date_or so_far (map lower name) b) h.0 refl
+    ∙ this_name (map lower name) (codes "internaldate") (date_part so_far b) (flags_part so_far b) h.0
+    ∙ ap (λ (z : ℤ). (told so_far (Date z), drop 28 b)) r.0 ∙ ap (λ (u : List ℕ). (told so_far (Date seconds), u)) r.1
 value_read (Size n) so_far name value back b item h out e =
     let v : plain value ≡ value = plain_small value (each_to is_digit small value digit_small h.1.digits) in
     let k = cut_at is_digit value back b (e ∙ ap (λ (u : List ℕ). u ++ back) v) h.1.digits out in
     other_name (map lower name) (codes "rfc822.size") (codes "uid") (uid_part so_far b) (modseq_or so_far (map lower name) b) h.0 refl
     ∙ other_name (map lower name) (codes "rfc822.size") (codes "modseq") (modseq_part so_far b) (size_or so_far (map lower name) b) h.0 refl
-    ∙ this_name (map lower name) (codes "rfc822.size") (size_part so_far b) (flags_part so_far b) h.0
+    ∙ this_name (map lower name) (codes "rfc822.size") (size_part so_far b) (date_or so_far (map lower name) b) h.0
     ∙ ap (λ (m : ℕ). (told so_far (Size m), drop (span is_digit b) b)) (ap long_in k.front ∙ long_read n value h.1) ∙ ap (λ (u : List ℕ). (told so_far (Size n), u)) k.back
 
 item_read : (i : Item) (so_far : FetchItems) (t back b : List ℕ) → IsItem i t → is_digit (get_or back 0 0) ≡ false → b ≡ plain t ++ back → item_in so_far b ≡ (told so_far i, back)

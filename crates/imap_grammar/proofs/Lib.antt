@@ -4,6 +4,7 @@ pub mod SpanLemmas
 pub mod FlagLemmas
 pub mod StringLemmas
 pub mod Cuts
+pub mod DateReadings
 pub mod ItemReadings
 pub mod SetReadings
 pub mod StringReadings

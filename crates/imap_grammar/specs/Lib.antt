@@ -1,5 +1,6 @@
 pub mod Scan
 pub mod Fed
+pub mod DateReading
 pub mod Spans
 pub mod StringReading
 pub mod FolderReading

@@ -13,6 +13,7 @@ use Rattle.imap_syntax.specs.Octets.{is_digit, is_word, lower}
 use Rattle.imap_syntax.specs.UidSets.{range_of}
 use Rattle.imap_syntax.specs.Items.{add_name, no_items}
 use Rattle.imap_syntax.specs.ReadCodes.{code_in}
+use Rattle.imap_grammar.specs.DateReading.{date_in}
 
 -- ---- words
 
@@ -60,6 +61,8 @@ value_in so_far name b =
     then (let d = drop 1 b in (record so_far { modseq = Some (long_in (take (span is_digit d) d)) }, drop (span is_digit d + 1) d))
     else if bytes_eq name (codes "rfc822.size")
     then (let n = span is_digit b in (record so_far { size = Some (long_in (take n b)) }, drop n b))
+    else if bytes_eq name (codes "internaldate")
+    then (record so_far { date = Some (date_in b) }, drop 28 b)
     else (let f = flags_in (drop 1 b) in (record so_far { flags = Some f.0 }, f.1))
 
 unfoldable pub item_in : FetchItems → List ℕ → FetchItems × List ℕ

@@ -7,6 +7,7 @@ ghost use Rattle.imap_syntax.specs.declared.response.Response.{Response};
 ghost use Rattle.imap_grammar.specs.Reading as reading;
 
 use crate::codes::code_in;
+use crate::date_times::date_in;
 use crate::flags::flags_in;
 use crate::folders;
 use crate::folders::list_in;
@@ -62,12 +63,14 @@ fn with_uid(items: FetchItems, uid: u32) -> FetchItems
         uid: _,
         flags,
         modseq,
+        date,
         size,
     } = items;
     FetchItems {
         uid: Some(uid),
         flags,
         modseq,
+        date,
         size,
     }
 }
@@ -79,12 +82,14 @@ fn with_flags(items: FetchItems, flags: Names) -> FetchItems
         uid,
         flags: _,
         modseq,
+        date,
         size,
     } = items;
     FetchItems {
         uid,
         flags: Some(flags),
         modseq,
+        date,
         size,
     }
 }
@@ -96,12 +101,33 @@ fn with_modseq(items: FetchItems, modseq: u64) -> FetchItems
         uid,
         flags,
         modseq: _,
+        date,
         size,
     } = items;
     FetchItems {
         uid,
         flags,
         modseq: Some(modseq),
+        date,
+        size,
+    }
+}
+
+fn with_date(items: FetchItems, date: i64) -> FetchItems
+    ensures { result ≡ record items { date = Some date } }
+{
+    let FetchItems {
+        uid,
+        flags,
+        modseq,
+        date: _,
+        size,
+    } = items;
+    FetchItems {
+        uid,
+        flags,
+        modseq,
+        date: Some(date),
         size,
     }
 }
@@ -113,12 +139,14 @@ fn with_size(items: FetchItems, size: u64) -> FetchItems
         uid,
         flags,
         modseq,
+        date,
         size: _,
     } = items;
     FetchItems {
         uid,
         flags,
         modseq,
+        date,
         size: Some(size),
     }
 }
@@ -153,6 +181,8 @@ fn value_in<'a>(
             with_size(so_far, long_of(before(value, n))),
             behind(value, n),
         ))
+    } else if is_key(name, b"internaldate") {
+        Ok((with_date(so_far, date_in(value)), behind(value, 28)))
     } else {
         let (flags, rest) = flags_in(alloc, behind(value, 1))?;
         Ok((with_flags(so_far, flags), rest))
@@ -182,6 +212,7 @@ fn items_in(alloc: Global, bytes: &[u8], most: usize) -> Result<FetchItems, Allo
         uid: None,
         flags: None,
         modseq: None,
+        date: None,
         size: None,
     };
     let mut rest = bytes;

@@ -6,6 +6,7 @@ mod answer;
 mod code_tests;
 mod codes;
 mod commands;
+mod date_times;
 mod dates;
 #[cfg(test)]
 mod decode_tests;

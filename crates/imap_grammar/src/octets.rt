@@ -40,7 +40,7 @@ fn is_word(c: u8) -> bool
     33 <= c && c <= 126
 }
 
-fn is_digit(c: u8) -> bool
+pub fn is_digit(c: u8) -> bool
     ensures { result ≡ classes.is_digit c }
 {
     b'0' <= c && c <= b'9'

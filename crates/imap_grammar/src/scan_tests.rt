@@ -17,7 +17,7 @@ pub fn fed(bytes: &[u8]) -> Scan {
 }
 
 /// Octets, and how many of them are a response.
-const WHOLE: [(&[u8], usize); 47] = [
+const WHOLE: [(&[u8], usize); 50] = [
     (b"a1 OK\r\n", 7),
     (b"a1 OK\r\nzzz", 7),
     (b"a1 ok done\r\n", 12),
@@ -62,6 +62,18 @@ const WHOLE: [(&[u8], usize); 47] = [
         62,
     ),
     (b"* 1 FETCH (RFC822.SIZE 0000000000000000001)\r\n", 45),
+    (
+        b"* 1 FETCH (INTERNALDATE \"17-Jul-1996 02:44:25 -0700\")\r\n",
+        55,
+    ),
+    (
+        b"* 1 FETCH (internaldate \" 7-jul-0000 99:99:99 +9999\" UID 1)\r\n",
+        61,
+    ),
+    (
+        b"* 1 FETCH (INTERNALDATE \"00-DEC-9999 00:00:00 +0000\")\r\n",
+        55,
+    ),
     (b"* X {5}\r\nab\r\nc y\r\n", 18),
     (b"* X {0}\r\n\r\n", 11),
     (b"* 3 X {1}\r\nz{00000002}\r\n\r\n{3\r\n", 30),
@@ -74,7 +86,7 @@ const WHOLE: [(&[u8], usize); 47] = [
 ];
 
 /// Octets that begin a response and are none.
-const OPEN: [&[u8]; 13] = [
+const OPEN: [&[u8]; 15] = [
     b"",
     b"a1 OK\r",
     b"* X {5}\r\n",
@@ -83,6 +95,8 @@ const OPEN: [&[u8]; 13] = [
     b"* X {50000000}\r\n",
     b"* 1 FETCH (UID 1)",
     b"* 1 FETCH (FLAGS (\\",
+    b"* 1 FETCH (INTERNALDATE \"17-S",
+    b"* 1 FETCH (INTERNALDATE \"17-Jul-1996 02:44:25 -0700",
     b"* fetc",
     b"* VANISHED (earl",
     b"* VANISHED 1:4294967295",
@@ -91,7 +105,7 @@ const OPEN: [&[u8]; 13] = [
 ];
 
 /// Octets, and the first place at which no response goes on so.
-const BAD: [(&[u8], usize); 42] = [
+const BAD: [(&[u8], usize); 53] = [
     (b"* 1 FETCH (UID 0)", 16),
     (b"* 1 FETCH (UID 4294967296)", 24),
     (b"* 1 FETCH (UID 0000000000)", 24),
@@ -104,6 +118,20 @@ const BAD: [(&[u8], usize); 42] = [
     (b"* 1 FETCH (RFC822.SIZE )", 23),
     (b"* 1 FETCH (RFC822.SIZE 00000000000000000001)", 42),
     (b"* 1 FETCH (UIDX 1)", 14),
+    (b"* 1 FETCH (INTERNALDATE 17-Jul-1996", 24),
+    (b"* 1 FETCH (INTERNALDATE NIL)", 24),
+    (b"* 1 FETCH (INTERNALDATE \"7-Jul-1996", 26),
+    (b"* 1 FETCH (INTERNALDATE \"  -Jul-1996", 26),
+    (b"* 1 FETCH (INTERNALDATE \"17-Jun-1996 02:44:25 GMT\")", 46),
+    (b"* 1 FETCH (INTERNALDATE \"17-Jux", 30),
+    (b"* 1 FETCH (INTERNALDATE \"17-Juli-1996", 31),
+    (b"* 1 FETCH (INTERNALDATE \"17-Ju-1996", 30),
+    (b"* 1 FETCH (INTERNALDATE \"17--1996", 28),
+    (b"* 1 FETCH (INTERNALDATE \"17-Jul-1996 02:44:25 -07000", 51),
+    (
+        b"* 1 FETCH (INTERNALDATE \"17-Jul-1996 02:44:25 -0700\"x",
+        52,
+    ),
     (b"* 1 FETCH (UID  1)", 15),
     (b"* 1 FETCH (FLAGS (\\Seen \\))", 25),
     (b"* 1 FETCH (FLAGS (a  b))", 20),

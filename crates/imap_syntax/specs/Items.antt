@@ -1,5 +1,5 @@
 -- The items of a FETCH response (RFC 9051 section 7.5.2), and what they tell together.
-use Rattle.std.specs.Prelude.{◌≡◌, ◌⊎◌, ℕ, if◌then◌else◌, List, [], ◌∷◌, ◌++◌, map, codes, bytes_eq, Some, None}
+use Rattle.std.specs.Prelude.{◌≡◌, ◌⊎◌, ℕ, if◌then◌else◌, List, [], ◌∷◌, ◌++◌, map, codes, bytes_eq, Some, None, ℤ}
 use Rattle.std.specs.Ordering.{nat_cmp}
 use Rattle.std.specs.Cmp.Lexicographic.{slice_cmp}
 use Rattle.std.specs.BTreeSet.{insert_key}
@@ -9,6 +9,7 @@ use Rattle.imap_syntax.specs.Texts.{Each, Then, crlf}
 use Rattle.imap_syntax.specs.Numbers.{IsNonZero, IsLong}
 pub use Rattle.imap_syntax.specs.Lines.{joined}
 pub use Rattle.imap_syntax.specs.Strings.{IsAtom}
+use Rattle.imap_syntax.specs.DateTimes.{IsDateTime}
 
 -- ---- names
 
@@ -31,15 +32,17 @@ pub data Item : Type 0 where
   Uid : ℕ → Item
   Flags : List (List ℕ) → Item
   ModSeq : ℕ → Item
+  Date : ℤ → Item
   Size : ℕ → Item
 
 abbrev pub IsItemValue : Item → List ℕ → List ℕ → Type 0
 IsItemValue (Uid n) name value = (name ≡ codes "uid") × IsNonZero n value
 IsItemValue (Flags ns) name value = (name ≡ codes "flags") × IsNames ns value
 IsItemValue (ModSeq n) name value = (name ≡ codes "modseq") × ((digits : List ℕ) × (value ≡ 40 ∷ digits ++ 41 ∷ []) × IsLong n digits)
+IsItemValue (Date seconds) name value = (name ≡ codes "internaldate") × IsDateTime seconds value
 IsItemValue (Size n) name value = (name ≡ codes "rfc822.size") × IsLong n value
 
--- item = "UID" SP nz / "FLAGS" SP names / "MODSEQ" SP "(" long ")" / "RFC822.SIZE" SP long
+-- item = "UID" SP nz / "FLAGS" SP names / "MODSEQ" SP "(" long ")" / "INTERNALDATE" SP date-time / "RFC822.SIZE" SP long
 pub record IsItem (i : Item) (t : List ℕ) : Type 0 where
   pub name : List ℕ
   pub value : List ℕ
@@ -75,6 +78,7 @@ abbrev pub told : FetchItems → Item → FetchItems
 told items (Uid n) = record items { uid = Some n }
 told items (Flags ns) = record items { flags = Some (kept ns) }
 told items (ModSeq n) = record items { modseq = Some n }
+told items (Date seconds) = record items { date = Some seconds }
 told items (Size n) = record items { size = Some n }
 
 abbrev pub told_from : FetchItems → List Item → FetchItems
@@ -82,7 +86,7 @@ told_from items [] = items
 told_from items (i ∷ is) = told_from (told items i) is
 
 abbrev pub no_items : FetchItems
-no_items = record { uid = None; flags = None; modseq = None; size = None }
+no_items = record { uid = None; flags = None; modseq = None; date = None; size = None }
 
 abbrev pub items_of : List Item → FetchItems
 items_of is = told_from no_items is

@@ -7,9 +7,10 @@ pub mod ReadCodes
 pub mod Lines
 pub mod Strings
 pub mod Values
+pub mod Dates
+pub mod DateTimes
 pub mod Items
 pub mod Folders
 pub mod Free
 pub mod Spells
-pub mod Dates
 pub mod Commands

@@ -21,6 +21,8 @@ pub struct FetchItems {
     pub flags: Option<Names>,
     /// The mod-sequence (RFC 7162 section 3.1.4.2).
     pub modseq: Option<u64>,
+    /// When the message came, in seconds since 1970-01-01T00:00:00Z, within the years 0 to 9999.
+    pub date: Option<i64>,
     /// Octets of the whole message.
     pub size: Option<u64>,
 }
@@ -38,8 +40,15 @@ pub struct StatusItems {
 /// What one response says.
 #[derive(Debug, PartialEq, Drop)]
 pub enum Response {
-    Tagged { tag: Bytes, status: Status, code: Code },
-    Untagged { status: Status, code: Code },
+    Tagged {
+        tag: Bytes,
+        status: Status,
+        code: Code,
+    },
+    Untagged {
+        status: Status,
+        code: Code,
+    },
     /// A continuation.
     Continue,
     /// The words as they were told.
@@ -55,12 +64,21 @@ pub enum Response {
         name: Bytes,
     },
     /// Counts of a folder, whose name is as in a LIST.
-    StatusItems { name: Bytes, items: StatusItems },
+    StatusItems {
+        name: Bytes,
+        items: StatusItems,
+    },
     /// In kept form, as in a FETCH.
     Flags(Names),
     Exists(u32),
     Expunge(u32),
-    Fetch { seq: u32, items: FetchItems },
-    Vanished { earlier: bool, uids: UidSet },
+    Fetch {
+        seq: u32,
+        items: FetchItems,
+    },
+    Vanished {
+        earlier: bool,
+        uids: UidSet,
+    },
     Other,
 }

@@ -1,7 +1,7 @@
-//! A mail gateway: JMAP for its clients, over the mail of an IMAP store.
+//! A mail gateway: JMAP for its clients, over the mail of an IMAP store; and messages shown as Email objects.
 #![tactic(auto)]
 
-ghost use Rattle.std.specs.Prelude.{map, string_bytes, IfOk};
+ghost use Rattle.std.specs.Prelude.{◌≡◌, [], map, string_bytes, IfOk};
 ghost use Rattle.jmapgate.specs.Store.{NamesStore};
 
 use gate_host::HostWorld;
@@ -49,13 +49,20 @@ fn words_of(rt: &HostRuntime) -> Result<Vec<String>, AllocError> {
     }
 }
 
-/// The store that the words name. Where they are refused it is empty, and nobody dials it.
+fn no_store(alloc: Global) -> Text
+    ensures { result ≡ [] }
+{
+    Text::from_string(String::new(alloc))
+}
+
+/// The store that the words name. Where they name none it is empty, and nobody dials it.
 fn store_of(alloc: Global, words: &[String]) -> Result<Text, AllocError>
     ensures { IfOk result (NamesStore (map string_bytes words.now)) }
 {
     match read_words(alloc, words) {
         Ok(Task::Once { place }) => Ok(place.store),
-        Err(WordsError::Refused) => Ok(Text::from_string(String::new(alloc))),
+        Ok(Task::Show) => Ok(no_store(alloc)),
+        Err(WordsError::Refused) => Ok(no_store(alloc)),
         Err(WordsError::Memory) => Err(AllocError),
     }
 }

@@ -77,7 +77,7 @@ fn is_multipart(media: &[u8]) -> bool
 }
 
 #[tactic(auto, unfolding(crate::specs::Heads::is_text))]
-fn is_text(media: &[u8]) -> bool
+pub fn is_text(media: &[u8]) -> bool
     ensures { result ≡ heads.is_text media.now }
 {
     let (kind, _) = cut(&BeforeSlash, media);

@@ -16,4 +16,5 @@ pub mod tree;
 pub use body::part_bytes;
 pub use lists::{BodyLists, body_lists};
 pub use part::Part;
+pub use roles::is_plain;
 pub use tree::parse;

@@ -61,7 +61,7 @@ fn is_related(multipart: Multipart) -> bool
     }
 }
 
-pub(crate) fn is_plain(part: &Part) -> bool
+pub fn is_plain(part: &Part) -> bool
     ensures { result ≡ roles.is_plain part.now }
 {
     same_text(part.media.as_slice(), b"text/plain")

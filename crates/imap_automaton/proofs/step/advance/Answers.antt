@@ -1,4 +1,4 @@
-use Rattle.std.proofs.Common.{◌+◌, ◌<◌, ◌≤◌, length, ap, sym, subst, ◌∙◌, arith}
+use Rattle.std.proofs.Common.{length, ap, sym, subst, ◌∙◌, arith}
 use Rattle.imap_automaton.specs.Flow.{CanStep}
 use Rattle.imap_automaton.proofs.Kept.{two_room}
 use Rattle.imap_automaton.proofs.step.advance.Goals as goal

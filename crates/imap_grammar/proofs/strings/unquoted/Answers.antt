@@ -1,5 +1,4 @@
-use Rattle.std.proofs.Common.{◌≡◌, ◌++◌, ◌+◌, ◌∷◌, [], Bool, true, false, List, ℕ, drop, get_or, Vec, Global, ap, sym, ◌∙◌}
-use Rattle.std.specs.Prelude.{◌==◌}
+use Rattle.std.proofs.Common.{◌+◌, Bool, false, List, ℕ, drop, get_or, Vec, Global, ap, sym, ◌∙◌}
 use Rattle.std.proofs.lemmas.Bool.{eq-eqb, ne_eqb}
 use Rattle.imap_grammar.specs.StringReading.{unquoted}
 use Rattle.imap_grammar.proofs.StringLemmas.{so_far, end_of, close_of, octet_of, pair_of, unquoted_slash}

@@ -1,0 +1,12 @@
+pub mod Texts
+pub mod Leaves
+pub mod Values
+pub mod Previews
+pub mod PartObjects
+pub mod BodyValues
+pub mod Shown
+pub mod HeaderProperties
+pub mod MomentText
+pub mod EmailObjects
+pub mod BodyViews
+pub mod EmailMembers

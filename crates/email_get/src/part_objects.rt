@@ -1,0 +1,102 @@
+// The objects of leaves (RFC 8621 section 4.1.4, EmailBodyPart).
+ghost use Rattle.std.specs.Prelude.{◌≡◌, ◌++◌, ◌∷◌, IfOk, List, ℕ, map, decimal};
+ghost use Rattle.serde_json.specs.Data.{Data};
+ghost use Rattle.serde_json.specs.View.{view};
+ghost use Rattle.mime_tree.specs.Roles.{leaf_number};
+ghost use Rattle.mime_tree.specs.declared.part.Part.{out-Part};
+ghost use Rattle.email_get.specs.PartObjects as objects;
+ghost use Rattle.email_get.specs.Texts.{text_data};
+ghost use Rattle.mail_header.specs.TokenView.{tokens_view};
+
+use crate::texts::{optional_text_value, text_value};
+use gate_world::Bytes;
+use mail_header::is_atom;
+use mail_header::lexemes::leading_lexemes;
+use mail_header::token::{Alphabet, Token};
+use mime_tree::Part;
+use serde_json::{Value, json};
+use std::alloc::{AllocError, Global};
+
+/// The texts of the atoms among the lexemes.
+fn atom_values(alloc: Global, lexemes: &[Token<'_>]) -> Result<Vec<Value>, AllocError>
+    ensures { IfOk result (λ v. map view v.items ≡ map text_data (objects.atoms (tokens_view lexemes.now))) }
+{
+    let mut values = Vec::new(alloc);
+    for lexeme in lexemes {
+        if is_atom(lexeme) {
+            values.push(text_value(alloc, lexeme.text)?)?;
+        }
+    }
+    Ok(values)
+}
+
+/// The language tags in a Content-Language, or null where there is none.
+fn language_value(alloc: Global, language: &Option<Bytes>) -> Result<Value, AllocError>
+    ensures { IfOk result (λ v. objects.IsLanguage language.now (view v)) }
+{
+    match language {
+        None => Ok(Value::Null),
+        Some(text) => {
+            let lexemes = leading_lexemes(alloc, Alphabet::Mime, text.as_slice())?;
+            Ok(Value::Array(atom_values(alloc, lexemes.as_slice())?))
+        }
+    }
+}
+
+/// The id of a leaf's octets in the message with this blob id.
+fn blob_id_value(alloc: Global, id: &[u8], number: &str) -> Result<Value, AllocError>
+    ensures { IfOk result (λ v. view v ≡ text_data (id.now ++ 45 ∷ number.now)) }
+{
+    let mut text = Vec::from_slice(alloc, id)?;
+    text.push(b'-')?;
+    text.extend_from_slice(number.as_bytes())?;
+    text_value(alloc, text.as_slice())
+}
+
+/// The object of the leaf of this number that spells so many octets, in the message with this blob id.
+fn described(
+    alloc: Global,
+    id: &[u8],
+    part: &Part,
+    number: &str,
+    language: Value,
+    size: usize,
+) -> Result<Value, AllocError>
+    requires { number.now ≡ decimal (leaf_number part.now) }
+    ensures { IfOk result (λ v. view v ≡ objects.part_data id.now part.now (view language) size) }
+{
+    let blob_id = blob_id_value(alloc, id, number)?;
+    let charset = optional_text_value(alloc, &part.charset)?;
+    let cid = optional_text_value(alloc, &part.cid)?;
+    let disposition = optional_text_value(alloc, &part.disposition)?;
+    let location = optional_text_value(alloc, &part.location)?;
+    let name = optional_text_value(alloc, &part.name)?;
+    let media = text_value(alloc, part.media.as_slice())?;
+    json!(in alloc; {
+        "blobId": blob_id,
+        "charset": charset,
+        "cid": cid,
+        "disposition": disposition,
+        "language": language,
+        "location": location,
+        "name": name,
+        "partId": number,
+        "size": size as u64,
+        "type": media,
+    })
+}
+
+/// The same, with the language tags.
+pub(crate) fn part_value(
+    alloc: Global,
+    id: &[u8],
+    part: &Part,
+    number: &str,
+    size: usize,
+) -> Result<Value, AllocError>
+    requires { number.now ≡ decimal (leaf_number part.now) }
+    ensures { IfOk result (λ v. (l : Data) × objects.IsLanguage (out-Part part.now).language l × (view v ≡ objects.part_data id.now part.now l size)) }
+{
+    let language = language_value(alloc, &part.language)?;
+    described(alloc, id, part, number, language, size)
+}

@@ -1,0 +1,52 @@
+-- A client that gives a message, and is shown the message's Email object (RFC 8621 section 4.9).
+use Rattle.std.specs.Prelude.{◌≡◌, ◌++◌, ℕ, List, [], ◌∷◌, Result, Ok, Err}
+use Rattle.serde_json.specs.Data.{Data}
+use Rattle.serde_json.specs.Written.{compact_text}
+use Rattle.gate_world.specs.declared.event.Event.{Event}
+use Rattle.gate_world.specs.declared.event.Event.TheVariants.{Accepted, NoMore, ClientDone, FrontFailed}
+use Rattle.gate_world.specs.declared.outside.Failed.{Failed}
+use Rattle.email_get.specs.EmailObjects.{IsEmailObject}
+use Rattle.gateway.specs.declared.front.FrontError.{FrontError}
+use Rattle.gateway.specs.declared.front.FrontError.TheVariants as front
+use Rattle.gateway.specs.declared.front.Input.{Input}
+use Rattle.gateway.specs.Front.{octets_of, Gives, Sends}
+use Rattle.gateway.specs.Segment.{line_end}
+
+-- the most octets of a message
+abbrev pub message_limit : ℕ
+message_limit = 50000000
+
+-- the object as compact JSON, and a line end
+unfoldable pub object_line : Data → List ℕ
+object_line email = compact_text email ++ line_end
+
+-- the line shows the Email object of these octets
+abbrev pub ShowsObject : List ℕ → List ℕ → Type 0
+ShowsObject octets line = (email : Data) × IsEmailObject octets email × (line ≡ object_line email)
+
+-- the message is read and its line made; or the front failed before its end; or memory was wanting while it was read or
+-- behind that
+abbrev pub Reads : Result (List ℕ) FrontError → List Event → Type 0
+Reads (Ok line) events = (input : Input) × Gives message_limit (Ok input) events × ShowsObject (octets_of input) line
+Reads (Err front.Failed) events = Gives message_limit (Err front.Failed) events
+Reads (Err front.Memory) events = (input : Result Input FrontError) × Gives message_limit input events × (input ≡ Err front.Failed → ⊥)
+
+-- what is left of a call of the front
+abbrev pub over_front : Result (Unit {0}) Failed → Result (Unit {0}) FrontError
+over_front (Ok _) = Ok tt
+over_front (Err _) = Err front.Failed
+
+-- What comes of a message. Where memory is wanting or the front fails before the message's end, nothing is sent.
+pub data Answers (outcome : Result (Unit {0}) FrontError) (events : List Event) : Type 0 where
+  Unread : (e : FrontError) → Reads (Err e) events → outcome ≡ Err e → Answers outcome events
+  Sent : (reads heard : List Event) (line : List ℕ) (sent : Result (Unit {0}) Failed) → events ≡ reads ++ heard → Reads (Ok line) reads → Sends line sent heard → outcome ≡ over_front sent → Answers outcome events
+
+-- One client that gives a message, or that there is none.
+pub data Shows (outcome : Result (Unit {0}) FrontError) (events : List Event) : Type 0 where
+  NoneComes : events ≡ NoMore ∷ [] → outcome ≡ Ok tt → Shows outcome events
+  NotAccepted : events ≡ FrontFailed ∷ [] → outcome ≡ Err front.Failed → Shows outcome events
+  Came : (answered : List Event) → events ≡ Accepted ∷ (answered ++ ClientDone ∷ []) → Answers outcome answered → Shows outcome events
+
+-- what a client that was accepted adds
+abbrev pub ShowsClient : Result (Unit {0}) FrontError → List Event → Type 0
+ShowsClient outcome events = Shows outcome (Accepted ∷ events)
