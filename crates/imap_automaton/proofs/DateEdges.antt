@@ -150,7 +150,7 @@ record MonthAndTime (t : List ℕ) : Type 0 where
 month_from : (t : List ℕ) → WordRest place.Month [] t → MonthAndTime t
 month_from t h = by h.says
   where
-    by : WordSays place.Month ([] ++ map lower h.word) h.tail t → MonthAndTime t
+    by : WordSays place.Month [] ([] ++ map lower h.word) h.tail t → MonthAndTime t
     by (inl k) = let m = month_of k.0 k.1 in record { month = m.0; name = h.word; tail = h.tail; whole = h.whole; month_is = (m.1, m.2, k.2 ∙ m.3); time = k.3 }
     by (inr s) = absurd s.1
 

@@ -27,6 +27,7 @@ use Rattle.imap_automaton.proofs.NamesEdges.{names_back, names_forth, names_empt
 use Rattle.imap_automaton.proofs.ItemEdges.{item_back, item_forth, open_none, more_empty, items_stop, number_ends, number_yields, long_open_none, long_ends, long_yields, item_example}
 use Rattle.imap_automaton.proofs.Lists.{cons_head}
 use Rattle.imap_automaton.proofs.Tests.{is_true_at}
+use Rattle.imap_automaton.proofs.ItemNameEdges.{item_name_back, item_name_forth, item_name_empty, item_name_example}
 use Rattle.imap_automaton.proofs.DateEdges.{date_back, date_forth, date_empty, date_lang_example}
 use Rattle.imap_automaton.proofs.SetEdges.{words_back, words_forth, words_empty, words_example, set_edge_back, set_edge_forth, set_empty, set_example}
 use Rattle.imap_automaton.proofs.StringEdges.{string_back, string_forth, string_empty, string_example}
@@ -48,6 +49,7 @@ edge_back (sym.Word place key at) c t fits h = word_back place key at c t (word_
 edge_back (sym.Free s) c t fits h = free_back s c t h
 edge_back (sym.Item s) c t fits h = item_back s c t h
 edge_back (sym.Names s) c t fits h = names_back s c t h
+edge_back (sym.ItemName s) c t fits h = item_name_back s c t h
 edge_back (sym.Date s) c t fits h = date_back s c t h
 edge_back (sym.Words s) c t fits h = words_back s c t h
 edge_back (sym.Set s) c t fits h = set_edge_back s c t fits h
@@ -61,6 +63,7 @@ edge_forth (sym.Word place key at) c t fits h = word_forth place key at c t (wor
 edge_forth (sym.Free s) c t fits h = free_forth s c t h
 edge_forth (sym.Item s) c t fits h = item_forth s c t h
 edge_forth (sym.Names s) c t fits h = names_forth s c t h
+edge_forth (sym.ItemName s) c t fits h = item_name_forth s c t h
 edge_forth (sym.Date s) c t fits h = date_forth s c t fits h
 edge_forth (sym.Words s) c t fits h = words_forth s c t h
 edge_forth (sym.Set s) c t fits h = set_edge_forth s c t h
@@ -85,6 +88,7 @@ empty_may (sym.Item (item.Number v n)) fits h = refl
 empty_may (sym.Item item.LongOpen) fits h = absurd (long_open_none h)
 empty_may (sym.Item (item.Long v n)) fits h = refl
 empty_may (sym.Names s) fits h = names_yield s (names_empty s h)
+empty_may (sym.ItemName s) fits h = absurd (item_name_empty s h)
 empty_may (sym.Date s) fits h = absurd (date_empty s fits h)
 empty_may (sym.Words s) fits h = absurd (words_empty s h)
 empty_may (sym.Set s) fits h = absurd (set_empty s h)
@@ -133,6 +137,7 @@ example (sym.Word place key at) fits = word_example place key at (word_le place 
 example (sym.Free s) fits = free_example s
 example (sym.Item s) fits = item_example s fits
 example (sym.Names s) fits = names_example s
+example (sym.ItemName s) fits = item_name_example s
 example (sym.Date s) fits = date_lang_example s fits
 example (sym.Words s) fits = words_example s
 example (sym.Set s) fits = set_example s fits

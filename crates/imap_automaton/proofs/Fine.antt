@@ -1,6 +1,6 @@
 -- What each move keeps: registers, room, and which symbol may end open.
 use Rattle.std.proofs.Common.{◌≡◌, ℕ, zero, suc, ◌+◌, ◌-◌, ◌*◌, ◌≤◌, Bool, true, false, not, ◌&&◌, ◌||◌, List, [], ◌∷◌, length, cond, Option, Some, None, refl, sym, ap, subst, ◌∙◌, arith}
-use Rattle.std.specs.Prelude.{◌==◌, nat_lt, nat_le, get_or}
+use Rattle.std.specs.Prelude.{◌==◌, nat_lt, nat_le, get_or, take}
 use Rattle.std.proofs.lemmas.Bool.{and_parts, and_from, le-leb, ltb-true, leb-true, lt-ltb, eqb-false}
 use Rattle.imap_automaton.specs.declared.sym.Key.{Key}
 use Rattle.imap_automaton.specs.declared.sym.Key.TheVariants as key
@@ -16,6 +16,9 @@ use Rattle.imap_automaton.specs.declared.sym.Free.TheVariants as free
 use Rattle.imap_automaton.specs.declared.sym.Item.TheVariants as item
 use Rattle.imap_automaton.specs.declared.sym.Names.TheVariants as names
 use Rattle.imap_automaton.specs.declared.sym.Date.TheVariants as date
+use Rattle.imap_automaton.specs.declared.sym.ItemName.{ItemName}
+use Rattle.imap_automaton.specs.declared.sym.ItemName.TheVariants as name
+use Rattle.imap_automaton.specs.ItemNameRules.{may_end, in_section, takes, next_name, name_from, item_name_rule}
 use Rattle.imap_automaton.specs.declared.sym.Words.TheVariants as words
 use Rattle.imap_automaton.specs.declared.sym.Set.TheVariants as set
 use Rattle.imap_automaton.specs.declared.sym.Str.{Str}
@@ -43,6 +46,7 @@ use Rattle.imap_automaton.specs.Rules.{rule_of}
 use Rattle.imap_automaton.specs.Fits.{PendFits, SymFits}
 use Rattle.imap_automaton.specs.Run.{is_octets}
 use Rattle.imap_automaton.specs.Flow.{ends_open, begins, may_yield, need, sym_left}
+use Rattle.imap_automaton.proofs.ItemNameEdges.{takes_small}
 use Rattle.imap_automaton.proofs.KeyLemmas.{find_some, goes_to, among_is}
 use Rattle.imap_syntax.specs.Octets.{is_digit, is_alnum, is_text, is_word, is_atom, lower}
 use Rattle.imap_syntax.specs.Texts.{Each}
@@ -176,6 +180,25 @@ time_fine at c = fine_by false false 1 (nat_lt c 256) (nat_lt at 21 && time_octe
     (λ f. and_from _ _ (and_from _ _ (and_from _ _ (and_from _ _ small (next_lt 21 at q.0 f)) refl) refl) refl))
     (λ e. refl)
 
+-- names of other items
+
+name_fine : (s : ItemName) (c : ℕ) → fine true false 2 (nat_lt c 256) (item_name_rule s c) ≡ true
+name_fine s c = fine_by true false 2 (nat_lt c 256) (c == 32 && may_end s) (move.One (sym.Value value.Start))
+    (cond (c == 34 && in_section s) (move.Two (sym.Str str.Quoted) (sym.ItemName name.Section)) (cond (takes s c) (move.One (sym.ItemName (next_name s c))) move.Fail))
+    (λ e. one_fine c (small_at 32 c refl (and_parts (c == 32) (may_end s) e).0))
+    (λ e. fine_by true false 2 (nat_lt c 256) (c == 34 && in_section s) (move.Two (sym.Str str.Quoted) (sym.ItemName name.Section)) (cond (takes s c) (move.One (sym.ItemName (next_name s c))) move.Fail)
+    (λ f. two_fine c (small_at 34 c refl (and_parts (c == 34) (in_section s) f).0))
+    (λ f. fine_by true false 2 (nat_lt c 256) (takes s c) (move.One (sym.ItemName (next_name s c))) move.Fail (λ g. next_fine (next_name s c) c (takes_small s c g)) (λ g. refl)))
+  where
+    one_fine : (c : ℕ) → nat_lt c 256 ≡ true → fine true false 2 (nat_lt c 256) (move.One (sym.Value value.Start)) ≡ true
+    one_fine c e = rw e refl
+
+    two_fine : (c : ℕ) → nat_lt c 256 ≡ true → fine true false 2 (nat_lt c 256) (move.Two (sym.Str str.Quoted) (sym.ItemName name.Section)) ≡ true
+    two_fine c e = rw e refl
+
+    next_fine : (n : ItemName) (c : ℕ) → nat_lt c 256 ≡ true → fine true false 2 (nat_lt c 256) (move.One (sym.ItemName n)) ≡ true
+    next_fine n c e = rw e refl
+
 behind_fine : (p : Place) (k q : Key) (at c : ℕ) → fine (ends_open (sym.Word p q at)) false (need (sym.Word p q at)) (nat_lt c 256) (behind_key p k c) ≡ true
 behind_fine place.Tagged key.Ok q at c = rest_fine false 4 c (omega arith)
 behind_fine place.Tagged key.No q at c = rest_fine false 4 c (omega arith)
@@ -208,14 +231,18 @@ behind_fine place.Item key.Flags q at c = spaced_fine true 2 (sym.Names names.Op
 behind_fine place.Item key.ModSeq q at c = spaced_fine true 2 (sym.Item item.LongOpen) c refl refl refl refl
 behind_fine place.Item key.InternalDate q at c = spaced_fine true 2 (sym.Date date.Open) c refl refl refl refl
 behind_fine place.Item key.Size q at c = spaced_fine true 2 (sym.Item (item.Long 0 0)) c refl refl refl refl
+behind_fine place.Item key.Header q at c = spaced_fine true 2 (sym.Str str.NString) c refl refl refl refl
+behind_fine place.Item key.HeaderPart q at c = spaced_fine true 2 (sym.Str str.NString) c refl refl refl refl
+behind_fine place.Item key.Body q at c = spaced_fine true 2 (sym.Str str.NString) c refl refl refl refl
+behind_fine place.Item key.BodyPart q at c = spaced_fine true 2 (sym.Str str.NString) c refl refl refl refl
 behind_fine place.Month k q at c = time_fine 0 c
 behind_fine _ _ q at c = refl
 
-stray_fine : (p : Place) (q : Key) (at c : ℕ) → fine (ends_open (sym.Word p q at)) false (need (sym.Word p q at)) (nat_lt c 256) (stray p c) ≡ true
+stray_fine : (p : Place) (q : Key) (at c : ℕ) → fine (ends_open (sym.Word p q at)) false (need (sym.Word p q at)) (nat_lt c 256) (stray p q at c) ≡ true
 stray_fine place.Tagged q at c = refl
 stray_fine place.Plain q at c = text_fine 4 pending.Nothing c (omega arith) refl
 stray_fine place.Numbered q at c = text_fine 4 pending.Nothing c (omega arith) refl
-stray_fine place.Item q at c = refl
+stray_fine place.Item q at c = name_fine (name_from name.Plain (take at (key_text q))) c
 stray_fine place.Month q at c = refl
 
 in_word_small : (p : Place) (c : ℕ) → in_word p c ≡ true → nat_lt c 256 ≡ true
@@ -235,7 +262,7 @@ same_word place.Month k q at n = (refl, refl)
 not_or_self : (a b : Bool) → a ≡ b → (not a || b) ≡ true
 not_or_self a b e = grind arith
 
-goes_fine : (p : Place) (k : Key) (at c : ℕ) (o : Option Key) → next_key p k at (lower c) ≡ o → in_word p c ≡ true → fine (ends_open (sym.Word p k at)) false (need (sym.Word p k at)) (nat_lt c 256) (word_goes p at c o) ≡ true
+goes_fine : (p : Place) (k : Key) (at c : ℕ) (o : Option Key) → next_key p k at (lower c) ≡ o → in_word p c ≡ true → fine (ends_open (sym.Word p k at)) false (need (sym.Word p k at)) (nat_lt c 256) (word_goes p k at c o) ≡ true
 goes_fine p k at c (Some x) e i =
     let f = find_some (goes_on k at (lower c)) (keys p) x e in
     let g = goes_to k x at (lower c) f.0 in
@@ -243,14 +270,14 @@ goes_fine p k at c (Some x) e i =
     and_from _ _ (and_from _ _ (and_from _ _ (and_from _ _ (in_word_small p c i) (and_from _ _ (le-leb _ _ g.1) (among_is x (keys p) f.1))) (not_or_self _ _ w.0)) (le-leb (need (sym.Word p x (at + 1))) (need (sym.Word p k at)) (omega (arith, w.1)))) refl
 goes_fine p k at c None e i = stray_fine p k at c
 
-ends_fine : (p : Place) (k : Key) (at c : ℕ) (o : Option Key) → fine (ends_open (sym.Word p k at)) false (need (sym.Word p k at)) (nat_lt c 256) (word_ends p c o) ≡ true
+ends_fine : (p : Place) (k : Key) (at c : ℕ) (o : Option Key) → fine (ends_open (sym.Word p k at)) false (need (sym.Word p k at)) (nat_lt c 256) (word_ends p k at c o) ≡ true
 ends_fine p k at c (Some x) = behind_fine p x k at c
 ends_fine p k at c None = stray_fine p k at c
 
 word_fine : (p : Place) (k : Key) (at c : ℕ) → fine (ends_open (sym.Word p k at)) false (need (sym.Word p k at)) (nat_lt c 256) (word_rule p k at c) ≡ true
-word_fine p k at c = fine_by (ends_open (sym.Word p k at)) false (need (sym.Word p k at)) (nat_lt c 256) (in_word p c) (word_goes p at c (next_key p k at (lower c))) (cond (at == 0) move.Fail (word_ends p c (whole_key p k at)))
+word_fine p k at c = fine_by (ends_open (sym.Word p k at)) false (need (sym.Word p k at)) (nat_lt c 256) (in_word p c) (word_goes p k at c (next_key p k at (lower c))) (cond (at == 0) move.Fail (word_ends p k at c (whole_key p k at)))
     (λ i. goes_fine p k at c (next_key p k at (lower c)) refl i)
-    (λ i. fine_by (ends_open (sym.Word p k at)) false (need (sym.Word p k at)) (nat_lt c 256) (at == 0) move.Fail (word_ends p c (whole_key p k at)) (λ z. refl) (λ z. ends_fine p k at c (whole_key p k at)))
+    (λ i. fine_by (ends_open (sym.Word p k at)) false (need (sym.Word p k at)) (nat_lt c 256) (at == 0) move.Fail (word_ends p k at c (whole_key p k at)) (λ z. refl) (λ z. ends_fine p k at c (whole_key p k at)))
 
 -- ---- lines
 
@@ -519,6 +546,7 @@ move_fine (sym.Names names.More) c o fits = grind arith
 move_fine (sym.Names names.Name) c o fits = grind arith
 move_fine (sym.Names names.Atom) c o fits = grind arith
 move_fine (sym.Names names.AtomRest) c o fits = grind arith
+move_fine (sym.ItemName s) c o fits = name_fine s c
 move_fine (sym.Date date.Open) c o fits = grind arith
 move_fine (sym.Date (date.Day at)) c o fits = day_fine at c
 move_fine (sym.Date (date.Time at)) c o fits = time_fine at c

@@ -15,7 +15,9 @@ use Rattle.imap_automaton.specs.Keys.{key_text, keys, in_word}
 use Rattle.imap_automaton.specs.ItemRules.{item_start, number_rule, long_rule, item_rule}
 use Rattle.imap_automaton.specs.Fits.{ItemFits}
 use Rattle.imap_automaton.specs.Flow.{stops}
-use Rattle.imap_automaton.proofs.Langs.{NumberRest, LongRest, ItemLang, IsSpaced, IsBehind, IsStray, WordSays, WordRest, Lang, After}
+use Rattle.imap_automaton.proofs.KeyLemmas.{key_some}
+use Rattle.imap_automaton.proofs.OtherItems.{named_atoms, other_from, other_to}
+use Rattle.imap_automaton.proofs.Langs.{NumberRest, LongRest, ItemLang, IsSpaced, Among, IsBehind, IsStray, WordSays, WordRest, Lang, After}
 use Rattle.imap_automaton.proofs.Lists.{cons_head, cons_tail}
 use Rattle.imap_automaton.proofs.Tests.{from_test, to_test, at_true, at_false, is_true_at, crlf_of, mid}
 use Rattle.imap_syntax.specs.Octets.{is_digit, is_atom, lower}
@@ -195,68 +197,53 @@ no_atom_space = refl
 pub item_from : (t : List ℕ) → WordRest place.Item [] t → (i : items.Item) × items.IsItem i t
 item_from t h = by h.says
   where
-    by : WordSays place.Item ([] ++ map lower h.word) h.tail t → (i : items.Item) × items.IsItem i t
+    by : WordSays place.Item [] ([] ++ map lower h.word) h.tail t → (i : items.Item) × items.IsItem i t
     by (inl k) = of_key k.0 k.2 k.3
       where
         of_key : (k : Key) → [] ++ map lower h.word ≡ key_text k → IsBehind place.Item k h.tail → (i : items.Item) × items.IsItem i t
-        of_key key.Uid e b = (items.Uid (value_from 0 b.0), record { name = h.word; value = b.0; whole = h.whole ∙ ap (λ (u : List ℕ). h.word ++ u) b.1; atom = h.each; item = (e, number_to b.0 b.2) })
-        of_key key.Flags e b = (items.Flags b.2.0, record { name = h.word; value = b.0; whole = h.whole ∙ ap (λ (u : List ℕ). h.word ++ u) b.1; atom = h.each; item = (e, b.2.1) })
-        of_key key.ModSeq e b = (items.ModSeq (value_from 0 b.2.0), record { name = h.word; value = b.0; whole = h.whole ∙ ap (λ (u : List ℕ). h.word ++ u) b.1; atom = h.each; item = (e, (b.2.0, b.2.1, long_to b.2.0 b.2.2)) })
-        of_key key.InternalDate e b = (items.Date b.2.0, record { name = h.word; value = b.0; whole = h.whole ∙ ap (λ (u : List ℕ). h.word ++ u) b.1; atom = h.each; item = (e, b.2.1) })
-        of_key key.Size e b = (items.Size (value_from 0 b.0), record { name = h.word; value = b.0; whole = h.whole ∙ ap (λ (u : List ℕ). h.word ++ u) b.1; atom = h.each; item = (e, long_to b.0 b.2) })
+        of_key key.Uid e b = (items.Uid (value_from 0 b.0), record { name = h.word; value = b.0; whole = h.whole ∙ ap (λ (u : List ℕ). h.word ++ u) b.1; item = (e, number_to b.0 b.2) })
+        of_key key.Flags e b = (items.Flags b.2.0, record { name = h.word; value = b.0; whole = h.whole ∙ ap (λ (u : List ℕ). h.word ++ u) b.1; item = (e, b.2.1) })
+        of_key key.ModSeq e b = (items.ModSeq (value_from 0 b.2.0), record { name = h.word; value = b.0; whole = h.whole ∙ ap (λ (u : List ℕ). h.word ++ u) b.1; item = (e, (b.2.0, b.2.1, long_to b.2.0 b.2.2)) })
+        of_key key.InternalDate e b = (items.Date b.2.0, record { name = h.word; value = b.0; whole = h.whole ∙ ap (λ (u : List ℕ). h.word ++ u) b.1; item = (e, b.2.1) })
+        of_key key.Size e b = (items.Size (value_from 0 b.0), record { name = h.word; value = b.0; whole = h.whole ∙ ap (λ (u : List ℕ). h.word ++ u) b.1; item = (e, long_to b.0 b.2) })
+        of_key key.Header e b = (items.Header b.2.0, record { name = h.word; value = b.0; whole = h.whole ∙ ap (λ (u : List ℕ). h.word ++ u) b.1; item = (inl e, b.2.1) })
+        of_key key.HeaderPart e b = (items.Header b.2.0, record { name = h.word; value = b.0; whole = h.whole ∙ ap (λ (u : List ℕ). h.word ++ u) b.1; item = (inr e, b.2.1) })
+        of_key key.Body e b = (items.Body b.2.0, record { name = h.word; value = b.0; whole = h.whole ∙ ap (λ (u : List ℕ). h.word ++ u) b.1; item = (inl e, b.2.1) })
+        of_key key.BodyPart e b = (items.Body b.2.0, record { name = h.word; value = b.0; whole = h.whole ∙ ap (λ (u : List ℕ). h.word ++ u) b.1; item = (inr e, b.2.1) })
         of_key _ e b = absurd b
-    by (inr s) = absurd s.1
+    by (inr s) = (items.Other, other_from t h.word h.tail h.whole h.each (let n = h.some in omega (arith, n)) h.longest s.0 s.1)
 
-name_some : (n : List ℕ) → (map lower n ≡ [] → ⊥) → 0 < length n
-name_some [] e = absurd (e refl)
-name_some (c ∷ n) e = omega arith
+lower_length : (x : List ℕ) → length (map lower x) ≡ length x
+lower_length [] = refl
+lower_length (c ∷ x) = ap (λ (n : ℕ). suc n) (lower_length x)
+
+-- an item whose name is a key
+named_to : (k : Key) (n v t : List ℕ) → Among k (keys place.Item) → t ≡ n ++ 32 ∷ v → map lower n ≡ key_text k → IsBehind place.Item k (32 ∷ v) → WordRest place.Item [] t
+named_to k n v t m e is b = record {
+  word = n;
+  tail = 32 ∷ v;
+  whole = e;
+  each = named_atoms k n is;
+  some = (let s = key_some k in let l = ap length is in let q = lower_length n in omega (arith, s, l, q));
+  longest = refl;
+  says = inl (k, m, is, b);
+}
 
 pub item_to : (i : items.Item) (t : List ℕ) → items.IsItem i t → WordRest place.Item [] t
-item_to (items.Uid n) t h = record {
-  word = h.name;
-  tail = 32 ∷ h.value;
-  whole = h.whole;
-  each = h.atom;
-  some = (let s = name_some h.name (λ q. let f = sym q ∙ h.item.0 in cc) in omega (arith, s));
-  longest = refl;
-  says = inl (key.Uid, inl refl, h.item.0, (h.value, refl, number_from n h.value h.item.1));
-}
-item_to (items.Flags ns) t h = record {
-  word = h.name;
-  tail = 32 ∷ h.value;
-  whole = h.whole;
-  each = h.atom;
-  some = (let s = name_some h.name (λ q. let f = sym q ∙ h.item.0 in cc) in omega (arith, s));
-  longest = refl;
-  says = inl (key.Flags, inr (inl refl), h.item.0, (h.value, refl, (ns, h.item.1)));
-}
-item_to (items.ModSeq n) t h = record {
-  word = h.name;
-  tail = 32 ∷ h.value;
-  whole = h.whole;
-  each = h.atom;
-  some = (let s = name_some h.name (λ q. let f = sym q ∙ h.item.0 in cc) in omega (arith, s));
-  longest = refl;
-  says = inl (key.ModSeq, inr (inr (inl refl)), h.item.0, (h.value, refl, (h.item.1.0, h.item.1.1, long_from n h.item.1.0 h.item.1.2)));
-}
-item_to (items.Date seconds) t h = record {
-  word = h.name;
-  tail = 32 ∷ h.value;
-  whole = h.whole;
-  each = h.atom;
-  some = (let s = name_some h.name (λ q. let f = sym q ∙ h.item.0 in cc) in omega (arith, s));
-  longest = refl;
-  says = inl (key.InternalDate, inr (inr (inr (inl refl))), h.item.0, (h.value, refl, (seconds, h.item.1)));
-}
-item_to (items.Size n) t h = record {
-  word = h.name;
-  tail = 32 ∷ h.value;
-  whole = h.whole;
-  each = h.atom;
-  some = (let s = name_some h.name (λ q. let f = sym q ∙ h.item.0 in cc) in omega (arith, s));
-  longest = refl;
-  says = inl (key.Size, inr (inr (inr (inr (inl refl)))), h.item.0, (h.value, refl, long_from n h.value h.item.1));
-}
+item_to (items.Uid n) t h = named_to key.Uid h.name h.value t (inl refl) h.whole h.item.0 (h.value, refl, number_from n h.value h.item.1)
+item_to (items.Flags ns) t h = named_to key.Flags h.name h.value t (inr (inl refl)) h.whole h.item.0 (h.value, refl, (ns, h.item.1))
+item_to (items.ModSeq n) t h = named_to key.ModSeq h.name h.value t (inr (inr (inl refl))) h.whole h.item.0 (h.value, refl, (h.item.1.0, h.item.1.1, long_from n h.item.1.0 h.item.1.2))
+item_to (items.Date seconds) t h = named_to key.InternalDate h.name h.value t (inr (inr (inr (inl refl)))) h.whole h.item.0 (h.value, refl, (seconds, h.item.1))
+item_to (items.Size n) t h = named_to key.Size h.name h.value t (inr (inr (inr (inr (inl refl))))) h.whole h.item.0 (h.value, refl, long_from n h.value h.item.1)
+item_to (items.Header s) t h = elim h.item.0 [
+  | inl e ↦ named_to key.Header h.name h.value t (inr (inr (inr (inr (inr (inl refl)))))) h.whole e (h.value, refl, (s, h.item.1))
+  | inr e ↦ named_to key.HeaderPart h.name h.value t (inr (inr (inr (inr (inr (inr (inl refl))))))) h.whole e (h.value, refl, (s, h.item.1))
+]
+item_to (items.Body s) t h = elim h.item.0 [
+  | inl e ↦ named_to key.Body h.name h.value t (inr (inr (inr (inr (inr (inr (inr (inl refl)))))))) h.whole e (h.value, refl, (s, h.item.1))
+  | inr e ↦ named_to key.BodyPart h.name h.value t (inr (inr (inr (inr (inr (inr (inr (inr (inl refl))))))))) h.whole e (h.value, refl, (s, h.item.1))
+]
+item_to items.Other t h = other_to t h
 
 -- ---- Open and More
 
@@ -327,7 +314,7 @@ items_stop (i ∷ is) c t h = is_true_at stops c 32 (cons_head c 32 t (h.0 ++ h.
 
 -- `UID 1`
 pub one_item : (i : items.Item) × items.IsItem i (codes "uid 1")
-one_item = (items.Uid 1, record { name = codes "uid"; value = 49 ∷ []; whole = refl; atom = (refl, (refl, (refl, tt))); item = (refl, (record { digits = (refl, tt); some = omega arith; few = omega arith; value = refl; most = omega arith }, omega arith)) })
+one_item = (items.Uid 1, record { name = codes "uid"; value = 49 ∷ []; whole = refl; item = (refl, (record { digits = (refl, tt); some = omega arith; few = omega arith; value = refl; most = omega arith }, omega arith)) })
 
 pub number_some : (v n : ℕ) → ItemFits (item.Number v n) ≡ true → (t : List ℕ) × NumberRest v n t
 number_some v n fits =

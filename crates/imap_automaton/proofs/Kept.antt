@@ -111,6 +111,7 @@ by_octets P (sym.Word p k at) f g = g refl
 by_octets P (sym.Item q) f g = g refl
 by_octets P (sym.Names q) f g = g refl
 by_octets P (sym.Date q) f g = g refl
+by_octets P (sym.ItemName q) f g = g refl
 by_octets P (sym.Words q) f g = g refl
 by_octets P (sym.Set q) f g = g refl
 by_octets P (sym.Str q) f g = g refl

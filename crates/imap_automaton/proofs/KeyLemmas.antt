@@ -17,7 +17,7 @@ use Rattle.imap_syntax.specs.Texts.{Each}
 -- ---- texts of keys
 
 abbrev key_named : List ℕ → Key
-key_named t = unwrap_or (find (λ k. bytes_eq (key_text k) t) (key.Ok ∷ key.No ∷ key.Bad ∷ key.Preauth ∷ key.Bye ∷ key.Capability ∷ key.Enabled ∷ key.Vanished ∷ key.List ∷ key.Status ∷ key.Exists ∷ key.Expunge ∷ key.Fetch ∷ key.Uid ∷ key.Flags ∷ key.ModSeq ∷ key.Size ∷ key.InternalDate ∷ key.Jan ∷ key.Feb ∷ key.Mar ∷ key.Apr ∷ key.May ∷ key.Jun ∷ key.Jul ∷ key.Aug ∷ key.Sep ∷ key.Oct ∷ key.Nov ∷ key.Dec ∷ [])) key.Ok
+key_named t = unwrap_or (find (λ k. bytes_eq (key_text k) t) (key.Ok ∷ key.No ∷ key.Bad ∷ key.Preauth ∷ key.Bye ∷ key.Capability ∷ key.Enabled ∷ key.Vanished ∷ key.List ∷ key.Status ∷ key.Exists ∷ key.Expunge ∷ key.Fetch ∷ key.Uid ∷ key.Flags ∷ key.ModSeq ∷ key.Size ∷ key.InternalDate ∷ key.Header ∷ key.HeaderPart ∷ key.Body ∷ key.BodyPart ∷ key.Jan ∷ key.Feb ∷ key.Mar ∷ key.Apr ∷ key.May ∷ key.Jun ∷ key.Jul ∷ key.Aug ∷ key.Sep ∷ key.Oct ∷ key.Nov ∷ key.Dec ∷ [])) key.Ok
 
 named : (k : Key) → key_named (key_text k) ≡ k
 named key.Ok = refl
@@ -38,6 +38,10 @@ named key.Flags = refl
 named key.ModSeq = refl
 named key.Size = refl
 named key.InternalDate = refl
+named key.Header = refl
+named key.HeaderPart = refl
+named key.Body = refl
+named key.BodyPart = refl
 named key.Jan = refl
 named key.Feb = refl
 named key.Mar = refl
@@ -76,6 +80,10 @@ key_octets key.Uid = (refl, (refl, (refl, tt)))
 key_octets key.Flags = (refl, (refl, (refl, (refl, (refl, tt)))))
 key_octets key.ModSeq = (refl, (refl, (refl, (refl, (refl, (refl, tt))))))
 key_octets key.InternalDate = (refl, (refl, (refl, (refl, (refl, (refl, (refl, (refl, (refl, (refl, (refl, (refl, tt))))))))))))
+key_octets key.Header = (refl, (refl, (refl, (refl, (refl, (refl, (refl, (refl, (refl, (refl, (refl, (refl, tt))))))))))))
+key_octets key.HeaderPart = (refl, (refl, (refl, (refl, (refl, (refl, (refl, (refl, (refl, (refl, (refl, (refl, (refl, (refl, (refl, tt)))))))))))))))
+key_octets key.Body = (refl, (refl, (refl, (refl, (refl, (refl, tt))))))
+key_octets key.BodyPart = (refl, (refl, (refl, (refl, (refl, (refl, (refl, (refl, (refl, tt)))))))))
 key_octets key.Jan = (refl, (refl, (refl, tt)))
 key_octets key.Feb = (refl, (refl, (refl, tt)))
 key_octets key.Mar = (refl, (refl, (refl, tt)))
@@ -109,6 +117,10 @@ key_some key.Flags = omega arith
 key_some key.ModSeq = omega arith
 key_some key.Size = omega arith
 key_some key.InternalDate = omega arith
+key_some key.Header = omega arith
+key_some key.HeaderPart = omega arith
+key_some key.Body = omega arith
+key_some key.BodyPart = omega arith
 key_some key.Jan = omega arith
 key_some key.Feb = omega arith
 key_some key.Mar = omega arith
@@ -138,7 +150,7 @@ each_mid p x y c h = (each_append p x (c ∷ y) h).1.0
 atom_no_brace : (c : ℕ) → is_atom c ≡ true → (c == 123) ≡ false
 atom_no_brace c e = grind arith
 
-key_octet_parts : (c : ℕ) → is_key_octet c ≡ true → (is_atom c ≡ true) × ((lower c == c) ≡ true) × ((c == 33) ≡ false) × ((c == 123) ≡ false) × (not (c == 45) ≡ true)
+pub key_octet_parts : (c : ℕ) → is_key_octet c ≡ true → (is_atom c ≡ true) × ((lower c == c) ≡ true) × ((c == 33) ≡ false) × ((c == 123) ≡ false) × (not (c == 45) ≡ true)
 key_octet_parts c e =
     let p = and_parts (is_atom c && (lower c == c) && not (c == 33)) (not (c == 45)) e in
     let q = and_parts (is_atom c && (lower c == c)) (not (c == 33)) p.0 in

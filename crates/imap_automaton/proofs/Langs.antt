@@ -14,6 +14,7 @@ use Rattle.imap_automaton.specs.declared.sym.Item.{Item}
 use Rattle.imap_automaton.specs.declared.sym.Item.TheVariants as item
 use Rattle.imap_automaton.specs.declared.sym.Names.{Names}
 use Rattle.imap_automaton.specs.declared.sym.Names.TheVariants as names
+use Rattle.imap_automaton.specs.declared.sym.ItemName.TheVariants as name
 use Rattle.imap_automaton.specs.declared.sym.Date.{Date}
 use Rattle.imap_automaton.specs.declared.sym.Date.TheVariants as date
 use Rattle.imap_automaton.specs.declared.sym.Words.{Words}
@@ -28,6 +29,8 @@ use Rattle.imap_automaton.specs.declared.sym.Move.{Move}
 use Rattle.imap_automaton.specs.declared.sym.Move.TheVariants as move
 use Rattle.imap_automaton.specs.Counts.{pends}
 use Rattle.imap_automaton.specs.DateRules.{day_octet, time_octet}
+use Rattle.imap_automaton.specs.ItemNameRules.{name_from}
+use Rattle.imap_automaton.proofs.ItemNameLangs.{NameRest}
 use Rattle.imap_automaton.specs.Keys.{key_text, phrase_text, keys, in_word}
 pub use Rattle.imap_automaton.proofs.Rests.{OctetsRest, NumberRest, LongRest, IsSpaced}
 use Rattle.imap_automaton.proofs.StringLangs.{StrLang, ValueLang}
@@ -166,6 +169,10 @@ IsBehind place.Item key.Flags t = IsSpaced (NamesLang names.Open) t
 IsBehind place.Item key.ModSeq t = IsSpaced (ItemLang item.LongOpen) t
 IsBehind place.Item key.InternalDate t = IsSpaced (λ u. (s : ℤ) × IsDateTime s u) t
 IsBehind place.Item key.Size t = IsSpaced (ItemLang (item.Long 0 0)) t
+IsBehind place.Item key.Header t = IsSpaced (StrLang str.NString) t
+IsBehind place.Item key.HeaderPart t = IsSpaced (StrLang str.NString) t
+IsBehind place.Item key.Body t = IsSpaced (StrLang str.NString) t
+IsBehind place.Item key.BodyPart t = IsSpaced (StrLang str.NString) t
 IsBehind place.Month k t = TimeRest 0 t
 IsBehind _ _ t = ⊥
 
@@ -174,16 +181,17 @@ abbrev pub Among : Key → List Key → Type 0
 Among k [] = ⊥
 Among k (x ∷ xs) = (k ≡ x) ⊎ Among k xs
 
--- the text of a word that is no key
-abbrev pub IsStray : Place → List ℕ → Type 0
-IsStray place.Plain t = FreeLang (free.Text pending.Nothing) t
-IsStray place.Numbered t = FreeLang (free.Text pending.Nothing) t
-IsStray _ t = ⊥
+-- the text of a word that is no key and began so
+abbrev pub IsStray : Place → List ℕ → List ℕ → Type 0
+IsStray place.Plain begun t = FreeLang (free.Text pending.Nothing) t
+IsStray place.Numbered begun t = FreeLang (free.Text pending.Nothing) t
+IsStray place.Item begun t = NameRest (name_from name.Plain begun) t
+IsStray _ begun t = ⊥
 
-abbrev pub WordSays : Place → List ℕ → List ℕ → List ℕ → Type 0
-WordSays place word tail t =
+abbrev pub WordSays : Place → List ℕ → List ℕ → List ℕ → List ℕ → Type 0
+WordSays place begun word tail t =
     ((k : Key) × Among k (keys place) × (word ≡ key_text k) × IsBehind place k tail)
-    ⊎ (((k : Key) → Among k (keys place) → word ≡ key_text k → ⊥) × IsStray place t)
+    ⊎ (((k : Key) → Among k (keys place) → word ≡ key_text k → ⊥) × IsStray place begun t)
 
 -- the rest of a word that began so, and what follows it
 pub record WordRest (place : Place) (begun t : List ℕ) : Type 0 where
@@ -193,7 +201,7 @@ pub record WordRest (place : Place) (begun t : List ℕ) : Type 0 where
   pub each : Each (in_word place) word
   pub some : 0 < length begun + length word
   pub longest : in_word place (get_or tail 0 0) ≡ false
-  pub says : WordSays place (begun ++ map lower word) tail t
+  pub says : WordSays place begun (begun ++ map lower word) tail t
 
 -- ---- dates
 
@@ -252,6 +260,7 @@ Lang (sym.Free s) t = FreeLang s t
 Lang (sym.Item s) t = ItemLang s t
 Lang (sym.Names s) t = NamesLang s t
 Lang (sym.Date s) t = DateLang s t
+Lang (sym.ItemName s) t = NameRest s t
 Lang (sym.Words s) t = WordsLang s t
 Lang (sym.Set s) t = SetLang s t
 Lang (sym.Str s) t = StrLang s t

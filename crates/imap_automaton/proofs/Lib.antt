@@ -1,4 +1,5 @@
 pub mod Lists
+pub mod ItemNameLangs
 pub mod Rests
 pub mod StringLangs
 pub mod FolderLangs
@@ -6,12 +7,15 @@ pub mod Langs
 pub mod Tests
 pub mod FreeEdges
 pub mod NamesEdges
+pub mod KeyLemmas
+pub mod ItemNameEdges
+pub mod KeyNames
+pub mod OtherItems
 pub mod ItemEdges
 pub mod StringEdges
 pub mod ValueEdges
 pub mod FolderEdges
 pub mod SetEdges
-pub mod KeyLemmas
 pub mod DateForms
 pub mod DateEdges
 pub mod WordEdges

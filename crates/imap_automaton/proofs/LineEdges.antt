@@ -245,6 +245,10 @@ first_no_digit key.Flags = refl
 first_no_digit key.ModSeq = refl
 first_no_digit key.Size = refl
 first_no_digit key.InternalDate = refl
+first_no_digit key.Header = refl
+first_no_digit key.HeaderPart = refl
+first_no_digit key.Body = refl
+first_no_digit key.BodyPart = refl
 first_no_digit key.Jan = refl
 first_no_digit key.Feb = refl
 first_no_digit key.Mar = refl
@@ -283,7 +287,7 @@ digit_line c t d h =
     }
 
 -- the text of such a line
-line_digit : (c : ℕ) (t w tail : List ℕ) → is_digit c ≡ true → c ∷ t ≡ w ++ tail → is_word (get_or tail 0 0) ≡ false → WordSays place.Plain (map lower w) tail (c ∷ t) → FreeLang (free.Text pending.Nothing) (c ∷ t)
+line_digit : (c : ℕ) (t w tail : List ℕ) → is_digit c ≡ true → c ∷ t ≡ w ++ tail → is_word (get_or tail 0 0) ≡ false → WordSays place.Plain [] (map lower w) tail (c ∷ t) → FreeLang (free.Text pending.Nothing) (c ∷ t)
 line_digit c t w tail d e longest (inr s) = s.1
 line_digit c t [] tail d e longest (inl k) = absurd (both (is_word c) (digit_word c d) (ap (λ (u : List ℕ). is_word (get_or u 0 0)) e ∙ longest))
 line_digit c t (x ∷ w) tail d e longest (inl k) = absurd (digit_no_key c w k.0 d (ap (λ (q : ℕ). map lower (q ∷ w)) (cons_head c x t (w ++ tail) e) ∙ k.2))

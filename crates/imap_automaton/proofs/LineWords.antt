@@ -66,6 +66,10 @@ key_plain key.Expunge m = let e = among_is key.Expunge (keys place.Plain) m in a
 key_plain key.Fetch m = let e = among_is key.Fetch (keys place.Plain) m in absurd cc
 key_plain key.ModSeq m = let e = among_is key.ModSeq (keys place.Plain) m in absurd cc
 key_plain key.Size m = let e = among_is key.Size (keys place.Plain) m in absurd cc
+key_plain key.Header m = let e = among_is key.Header (keys place.Plain) m in absurd cc
+key_plain key.HeaderPart m = let e = among_is key.HeaderPart (keys place.Plain) m in absurd cc
+key_plain key.Body m = let e = among_is key.Body (keys place.Plain) m in absurd cc
+key_plain key.BodyPart m = let e = among_is key.BodyPart (keys place.Plain) m in absurd cc
 key_plain key.InternalDate m = let e = among_is key.InternalDate (keys place.Plain) m in absurd cc
 key_plain key.Jan m = let e = among_is key.Jan (keys place.Plain) m in absurd cc
 key_plain key.Feb m = let e = among_is key.Feb (keys place.Plain) m in absurd cc
@@ -98,6 +102,10 @@ key_numbered n key.Expunge m = (1, omega arith, refl)
 key_numbered n key.Fetch m = (2, omega arith, refl)
 key_numbered n key.ModSeq m = let e = among_is key.ModSeq (keys place.Numbered) m in absurd cc
 key_numbered n key.Size m = let e = among_is key.Size (keys place.Numbered) m in absurd cc
+key_numbered n key.Header m = let e = among_is key.Header (keys place.Numbered) m in absurd cc
+key_numbered n key.HeaderPart m = let e = among_is key.HeaderPart (keys place.Numbered) m in absurd cc
+key_numbered n key.Body m = let e = among_is key.Body (keys place.Numbered) m in absurd cc
+key_numbered n key.BodyPart m = let e = among_is key.BodyPart (keys place.Numbered) m in absurd cc
 key_numbered n key.InternalDate m = let e = among_is key.InternalDate (keys place.Numbered) m in absurd cc
 key_numbered n key.Jan m = let e = among_is key.Jan (keys place.Numbered) m in absurd cc
 key_numbered n key.Feb m = let e = among_is key.Feb (keys place.Numbered) m in absurd cc
@@ -180,7 +188,7 @@ status_from t b =
       },
     )
 
-plain_says : (v : Response) (w tail t : List ℕ) → Says None v w tail t → WordSays place.Plain w tail t
+plain_says : (v : Response) (w tail t : List ℕ) → Says None v w tail t → WordSays place.Plain [] w tail t
 plain_says (response.Untagged status.Ok code) w tail t h = inl (key.Ok, inl refl, h.0, h.1.0)
 plain_says (response.Untagged status.No code) w tail t h = inl (key.No, inr (inl refl), h.0, h.1.0)
 plain_says (response.Untagged status.Bad code) w tail t h = inl (key.Bad, inr (inr (inl refl)), h.0, h.1.0)
@@ -228,7 +236,7 @@ said_by_key _ w tail t e b = absurd b
 no_plain : (w : List ℕ) → ((k : Key) → Among k (keys place.Plain) → w ≡ key_text k → ⊥) → Contains (keywords None) w → ⊥
 no_plain w f h = let k = plain_key w h in f k.0 k.1 k.2
 
-plain_said : (w tail t : List ℕ) → WordSays place.Plain w tail t → (v : Response) × Says None v w tail t
+plain_said : (w tail t : List ℕ) → WordSays place.Plain [] w tail t → (v : Response) × Says None v w tail t
 plain_said w tail t (inl k) = said_by_key k.0 w tail t k.2 k.3
 plain_said w tail t (inr s) = (response.Other, (no_plain w s.0, (s.1.0, free_from s.1.0 t s.1.1)))
 
@@ -242,7 +250,7 @@ plain_from t h =
 stray_numbered : (n : ℕ) (w : List ℕ) → (Contains (keywords (Some n)) w → ⊥) → (k : Key) → Among k (keys place.Numbered) → w ≡ key_text k → ⊥
 stray_numbered n w no_key k m e = no_key (subst (Contains (keywords (Some n))) (sym e) (key_numbered n k m))
 
-numbered_says : (n : ℕ) (v : Response) (w tail t : List ℕ) → Says (Some n) v w tail t → WordSays place.Numbered w tail t
+numbered_says : (n : ℕ) (v : Response) (w tail t : List ℕ) → Says (Some n) v w tail t → WordSays place.Numbered [] w tail t
 numbered_says n (response.Exists count) w tail t h = inl (key.Exists, inl refl, h.1, h.2)
 numbered_says n (response.Expunge seq) w tail t h = inl (key.Expunge, inr (inl refl), h.1, h.2)
 numbered_says n (response.Fetch seq items) w tail t h = inl (key.Fetch, inr (inr (inl refl)), h.1, (40 ∷ h.2.1, h.2.2, (h.2.0, h.2.1, refl, h.2.3)))
@@ -261,7 +269,7 @@ numbered_by_key n _ w tail t e b = absurd b
 no_numbered : (n : ℕ) (w : List ℕ) → ((k : Key) → Among k (keys place.Numbered) → w ≡ key_text k → ⊥) → Contains (keywords (Some n)) w → ⊥
 no_numbered n w f h = let k = numbered_key n w h in f k.0 k.1 k.2
 
-numbered_said : (n : ℕ) (w tail t : List ℕ) → WordSays place.Numbered w tail t → (v : Response) × Says (Some n) v w tail t
+numbered_said : (n : ℕ) (w tail t : List ℕ) → WordSays place.Numbered [] w tail t → (v : Response) × Says (Some n) v w tail t
 numbered_said n w tail t (inl k) = numbered_by_key n k.0 w tail t k.2 k.3
 numbered_said n w tail t (inr s) = (response.Other, (no_numbered n w s.0, (s.1.0, free_from s.1.0 t s.1.1)))
 
@@ -281,7 +289,7 @@ tagged_said _ x tail e b = absurd b
 pub tagged_from : (t : List ℕ) → WordRest place.Tagged [] t → (s : Status) × (code : Code) × Completes s × Then (IsWord (word_of s)) (IsCodedRest code) t
 tagged_from t h = by h.says
   where
-    by : WordSays place.Tagged ([] ++ map lower h.word) h.tail t → (s : Status) × (code : Code) × Completes s × Then (IsWord (word_of s)) (IsCodedRest code) t
+    by : WordSays place.Tagged [] ([] ++ map lower h.word) h.tail t → (s : Status) × (code : Code) × Completes s × Then (IsWord (word_of s)) (IsCodedRest code) t
     by (inl k) =
         let s = tagged_said k.0 h.word h.tail k.2 k.3 in
         (s.0, code_in h.tail, s.1, record { front = h.word; back = h.tail; whole = h.whole; first = s.2; second = (s.3, code_has h.tail) })

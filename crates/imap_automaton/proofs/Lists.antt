@@ -1,6 +1,6 @@
 -- Lists that are cut in two.
-use Rattle.std.proofs.Common.{◌≡◌, ℕ, List, [], ◌∷◌, ◌++◌, Some, refl, sym, ap, ◌∙◌, append_assoc}
-use Rattle.imap_syntax.specs.Texts.{Then}
+use Rattle.std.proofs.Common.{◌≡◌, ℕ, Bool, true, false, List, [], ◌∷◌, ◌++◌, get_or, Some, refl, sym, ap, ◌∙◌, append_assoc}
+use Rattle.imap_syntax.specs.Texts.{Each, Then}
 
 pub cons_head : {A : Type 0} (c d : A) (x y : List A) → c ∷ x ≡ d ∷ y → c ≡ d
 cons_head c d x y e = cc
@@ -32,3 +32,34 @@ ungroup A B C t h = record {
   first = h.first.first;
   second = record { front = h.first.back; back = h.back; whole = refl; first = h.first.second; second = h.second };
 }
+
+-- ---- the longest run of octets of a class
+
+pub record Cut (p : ℕ → Bool) (t : List ℕ) : Type 0 where
+  pub front : List ℕ
+  pub back : List ℕ
+  pub whole : t ≡ front ++ back
+  pub each : Each p front
+  pub longest : p (get_or back 0 0) ≡ false
+
+pub cut : (p : ℕ → Bool) (t : List ℕ) → p 0 ≡ false → Cut p t
+cut p [] z = record { front = []; back = []; whole = refl; each = tt; longest = z }
+cut p (c ∷ t) z = by (p c) refl (cut p t z)
+  where
+    by : (b : Bool) → p c ≡ b → Cut p t → Cut p (c ∷ t)
+    by true e r = record { front = c ∷ r.front; back = r.back; whole = ap (λ (u : List ℕ). c ∷ u) r.whole; each = (e, r.each); longest = r.longest }
+    by false e r = record { front = []; back = c ∷ t; whole = refl; each = tt; longest = e }
+
+both_ways : (b : Bool) → b ≡ true → b ≡ false → ⊥
+both_ways true e f = cc
+both_ways false e f = cc
+
+-- there is one alone
+pub one_cut : (p : ℕ → Bool) (x y a b : List ℕ) → Each p x → p (get_or y 0 0) ≡ false → Each p a → p (get_or b 0 0) ≡ false → x ++ y ≡ a ++ b → x ≡ a
+one_cut p [] y [] b h o k q e = refl
+one_cut p [] y (d ∷ a) b h o k q e = absurd (both_ways (p d) k.0 (sym (ap (λ (u : List ℕ). p (get_or u 0 0)) e) ∙ o))
+one_cut p (c ∷ x) y [] b h o k q e = absurd (both_ways (p c) h.0 (ap (λ (u : List ℕ). p (get_or u 0 0)) e ∙ q))
+one_cut p (c ∷ x) y (d ∷ a) b h o k q e =
+    let same : c ≡ d = cons_head c d (x ++ y) (a ++ b) e in
+    let rest : x ≡ a = one_cut p x y a b h.1 o k.1 q (cons_tail c d (x ++ y) (a ++ b) e) in
+    (λ i. (same i) ∷ (rest i))

@@ -40,7 +40,7 @@ begins_no_octets (sym.Folder folder.Counts) b = refl
 begins_no_octets (sym.Folder folder.MoreCounts) b = refl
 begins_no_octets _ b = absurd cc
 
-open_no_octets : (s : Sym) → ends_open s ≡ true → is_octets s ≡ false
+pub open_no_octets : (s : Sym) → ends_open s ≡ true → is_octets s ≡ false
 open_no_octets (sym.Free (free.Octets n)) e = absurd cc
 open_no_octets _ e = refl
 

@@ -28,7 +28,13 @@ use Rattle.imap_automaton.specs.WordRules.{rest_rule, spaced_rule, end_rule, beh
 use Rattle.imap_automaton.proofs.Langs.{FreeLang, ItemLang, NamesLang, SetLang, IsSpaced, Among, IsBehind, IsStray, WordSays, WordRest, Lang, After}
 use Rattle.imap_automaton.proofs.StringLangs.{StrLang}
 use Rattle.imap_automaton.proofs.FolderLangs.{FolderLang}
+pub use Rattle.imap_automaton.proofs.Lists.{Cut, cut}
 use Rattle.imap_automaton.proofs.Lists.{cons_head, cons_tail, no_append}
+use Rattle.imap_automaton.proofs.ItemNameEdges.{name_goes, name_comes, item_name_back, item_name_forth, item_name_empty}
+use Rattle.imap_automaton.proofs.KeyNames.{key_takes}
+use Rattle.imap_automaton.proofs.ItemNameLangs.{NameRest}
+use Rattle.imap_automaton.specs.ItemNameRules.{takes, name_from, item_name_rule}
+use Rattle.imap_automaton.specs.declared.sym.ItemName.TheVariants as name
 use Rattle.imap_automaton.proofs.Tests.{from_test, to_test, at_true, at_false, is_true_at, both, crlf_of, crlf_parts, mid}
 use Rattle.imap_automaton.proofs.DateEdges.{date_text, date_example, time_text, time_example, time_back, time_forth, time_none}
 use Rattle.imap_automaton.proofs.SetEdges.{words_more_back, words_more_forth, words_more_none}
@@ -97,6 +103,10 @@ behind_back place.Item key.Flags c t h = spaced_back (sym.Names names.Open) c t 
 behind_back place.Item key.ModSeq c t h = spaced_back (sym.Item item.LongOpen) c t h
 behind_back place.Item key.InternalDate c t h = spaced_back (sym.Date date.Open) c t h
 behind_back place.Item key.Size c t h = spaced_back (sym.Item (item.Long 0 0)) c t h
+behind_back place.Item key.Header c t h = spaced_back (sym.Str str.NString) c t h
+behind_back place.Item key.HeaderPart c t h = spaced_back (sym.Str str.NString) c t h
+behind_back place.Item key.Body c t h = spaced_back (sym.Str str.NString) c t h
+behind_back place.Item key.BodyPart c t h = spaced_back (sym.Str str.NString) c t h
 behind_back place.Month k c t h = time_back 0 c t h
 behind_back _ _ c t h = absurd h
 
@@ -123,6 +133,10 @@ behind_forth place.Item key.Flags c t h = spaced_forth (sym.Names names.Open) c 
 behind_forth place.Item key.ModSeq c t h = spaced_forth (sym.Item item.LongOpen) c t h
 behind_forth place.Item key.InternalDate c t h = spaced_forth (sym.Date date.Open) c t h
 behind_forth place.Item key.Size c t h = spaced_forth (sym.Item (item.Long 0 0)) c t h
+behind_forth place.Item key.Header c t h = spaced_forth (sym.Str str.NString) c t h
+behind_forth place.Item key.HeaderPart c t h = spaced_forth (sym.Str str.NString) c t h
+behind_forth place.Item key.Body c t h = spaced_forth (sym.Str str.NString) c t h
+behind_forth place.Item key.BodyPart c t h = spaced_forth (sym.Str str.NString) c t h
 behind_forth place.Month k c t h = time_forth 0 c t h
 behind_forth _ _ c t h = absurd h
 
@@ -156,24 +170,28 @@ behind_none place.Item key.Flags h = spaced_none (NamesLang names.Open) h
 behind_none place.Item key.ModSeq h = spaced_none (ItemLang item.LongOpen) h
 behind_none place.Item key.InternalDate h = spaced_none (Lang (sym.Date date.Open)) h
 behind_none place.Item key.Size h = spaced_none (ItemLang (item.Long 0 0)) h
+behind_none place.Item key.Header h = spaced_none (StrLang str.NString) h
+behind_none place.Item key.HeaderPart h = spaced_none (StrLang str.NString) h
+behind_none place.Item key.Body h = spaced_none (StrLang str.NString) h
+behind_none place.Item key.BodyPart h = spaced_none (StrLang str.NString) h
 behind_none place.Month k h = time_none h
 behind_none _ _ h = h
 
 -- ---- at a word that is no key
 
-stray_back : (p : Place) (c : ℕ) (t : List ℕ) → After (stray p c) t → IsStray p (c ∷ t)
-stray_back place.Plain c t h = text_back pending.Nothing c t h
-stray_back place.Numbered c t h = text_back pending.Nothing c t h
-stray_back place.Tagged c t h = absurd h
-stray_back place.Item c t h = absurd h
-stray_back place.Month c t h = absurd h
+stray_back : (p : Place) (k : Key) (at c : ℕ) (t : List ℕ) → After (stray p k at c) t → IsStray p (take at (key_text k)) (c ∷ t)
+stray_back place.Plain k at c t h = text_back pending.Nothing c t h
+stray_back place.Numbered k at c t h = text_back pending.Nothing c t h
+stray_back place.Tagged k at c t h = absurd h
+stray_back place.Item k at c t h = item_name_back (name_from name.Plain (take at (key_text k))) c t h
+stray_back place.Month k at c t h = absurd h
 
-stray_forth : (p : Place) (c : ℕ) (t : List ℕ) → IsStray p (c ∷ t) → After (stray p c) t
-stray_forth place.Plain c t h = text_forth pending.Nothing c t h
-stray_forth place.Numbered c t h = text_forth pending.Nothing c t h
-stray_forth place.Tagged c t h = absurd h
-stray_forth place.Item c t h = absurd h
-stray_forth place.Month c t h = absurd h
+stray_forth : (p : Place) (k : Key) (at c : ℕ) (t : List ℕ) → IsStray p (take at (key_text k)) (c ∷ t) → After (stray p k at c) t
+stray_forth place.Plain k at c t h = text_forth pending.Nothing c t h
+stray_forth place.Numbered k at c t h = text_forth pending.Nothing c t h
+stray_forth place.Tagged k at c t h = absurd h
+stray_forth place.Item k at c t h = item_name_forth (name_from name.Plain (take at (key_text k))) c t h
+stray_forth place.Month k at c t h = absurd h
 
 pub pend_none : (c : ℕ) → (c == 123) ≡ false → pend pending.Nothing c ≡ pending.Nothing
 pend_none c e = cond-false (c == 123) (pending.Open 0 0) pending.Nothing e
@@ -200,36 +218,25 @@ text_goes c t e f h = subst (λ s. FreeLang (free.Text s) t) (pend_none c f) (go
 pub text_comes : (c : ℕ) (t : List ℕ) → is_text c ≡ true → (c == 123) ≡ false → FreeLang (free.Text pending.Nothing) t → FreeLang (free.Text pending.Nothing) (c ∷ t)
 text_comes c t e f h = goes_back pending.Nothing c t e (subst (λ s. FreeLang (free.Text s) t) (sym (pend_none c f)) h)
 
-stray_goes : (p : Place) (c : ℕ) (t : List ℕ) → in_word p c ≡ true → (c == 123) ≡ false → IsStray p (c ∷ t) → IsStray p t
-stray_goes place.Plain c t e f h = text_goes c t (word_text place.Plain c e) f h
-stray_goes place.Numbered c t e f h = text_goes c t (word_text place.Numbered c e) f h
-stray_goes place.Tagged c t e f h = h
-stray_goes place.Item c t e f h = h
-stray_goes place.Month c t e f h = h
+stray_goes : (p : Place) (begun : List ℕ) (c : ℕ) (t : List ℕ) → in_word p c ≡ true → (c == 123) ≡ false → IsStray p begun (c ∷ t) → IsStray p (begun ++ lower c ∷ []) t
+stray_goes place.Plain begun c t e f h = text_goes c t (word_text place.Plain c e) f h
+stray_goes place.Numbered begun c t e f h = text_goes c t (word_text place.Numbered c e) f h
+stray_goes place.Tagged begun c t e f h = h
+stray_goes place.Item begun c t e f h = name_goes begun c t e h
+stray_goes place.Month begun c t e f h = h
 
-stray_comes : (p : Place) (c : ℕ) (t : List ℕ) → in_word p c ≡ true → (c == 123) ≡ false → IsStray p t → IsStray p (c ∷ t)
-stray_comes place.Plain c t e f h = text_comes c t (word_text place.Plain c e) f h
-stray_comes place.Numbered c t e f h = text_comes c t (word_text place.Numbered c e) f h
-stray_comes place.Tagged c t e f h = h
-stray_comes place.Item c t e f h = h
-stray_comes place.Month c t e f h = h
+-- the octet goes on with a key
+abbrev GoesOn : List ℕ → ℕ → Type 0
+GoesOn begun c = (x : Key) × (y : List ℕ) × (begun ++ lower c ∷ y ≡ key_text x)
+
+stray_comes : (p : Place) (begun : List ℕ) (c : ℕ) (t : List ℕ) → in_word p c ≡ true → (c == 123) ≡ false → GoesOn begun c → IsStray p (begun ++ lower c ∷ []) t → IsStray p begun (c ∷ t)
+stray_comes place.Plain begun c t e f g h = text_comes c t (word_text place.Plain c e) f h
+stray_comes place.Numbered begun c t e f g h = text_comes c t (word_text place.Numbered c e) f h
+stray_comes place.Tagged begun c t e f g h = h
+stray_comes place.Item begun c t e f g h = name_comes begun c t (key_takes begun c g.0 g.1 g.2) h
+stray_comes place.Month begun c t e f g h = h
 
 -- ---- the longest run of a word
-
-pub record Cut (p : ℕ → Bool) (t : List ℕ) : Type 0 where
-  pub front : List ℕ
-  pub back : List ℕ
-  pub whole : t ≡ front ++ back
-  pub each : Each p front
-  pub longest : p (get_or back 0 0) ≡ false
-
-pub cut : (p : ℕ → Bool) (t : List ℕ) → p 0 ≡ false → Cut p t
-cut p [] z = record { front = []; back = []; whole = refl; each = tt; longest = z }
-cut p (c ∷ t) z = by (p c) refl (cut p t z)
-  where
-    by : (b : Bool) → p c ≡ b → Cut p t → Cut p (c ∷ t)
-    by true e r = record { front = c ∷ r.front; back = r.back; whole = ap (λ (u : List ℕ). c ∷ u) r.whole; each = (e, r.each); longest = r.longest }
-    by false e r = record { front = []; back = c ∷ t; whole = refl; each = tt; longest = e }
 
 pub no_word_zero : (p : Place) → in_word p 0 ≡ false
 no_word_zero place.Tagged = refl
@@ -240,16 +247,16 @@ no_word_zero place.Month = refl
 
 -- ---- an octet of the word
 
-says_goes : (p : Place) (begun : List ℕ) (c : ℕ) (w tail t : List ℕ) → in_word p c ≡ true → (c == 123) ≡ false → WordSays p (begun ++ map lower (c ∷ w)) tail (c ∷ t) → WordSays p ((begun ++ lower c ∷ []) ++ map lower w) tail t
+says_goes : (p : Place) (begun : List ℕ) (c : ℕ) (w tail t : List ℕ) → in_word p c ≡ true → (c == 123) ≡ false → WordSays p begun (begun ++ map lower (c ∷ w)) tail (c ∷ t) → WordSays p (begun ++ lower c ∷ []) ((begun ++ lower c ∷ []) ++ map lower w) tail t
 says_goes p begun c w tail t e f (inl k) = inl (k.0, k.1, append_assoc begun (lower c ∷ []) (map lower w) ∙ k.2, k.3)
-says_goes p begun c w tail t e f (inr s) = inr (λ k m q. s.0 k m (sym (append_assoc begun (lower c ∷ []) (map lower w)) ∙ q), stray_goes p c t e f s.1)
+says_goes p begun c w tail t e f (inr s) = inr (λ k m q. s.0 k m (sym (append_assoc begun (lower c ∷ []) (map lower w)) ∙ q), stray_goes p begun c t e f s.1)
 
-says_comes : (p : Place) (begun : List ℕ) (c : ℕ) (w tail t : List ℕ) → in_word p c ≡ true → (c == 123) ≡ false → WordSays p ((begun ++ lower c ∷ []) ++ map lower w) tail t → WordSays p (begun ++ map lower (c ∷ w)) tail (c ∷ t)
-says_comes p begun c w tail t e f (inl k) = inl (k.0, k.1, sym (append_assoc begun (lower c ∷ []) (map lower w)) ∙ k.2, k.3)
-says_comes p begun c w tail t e f (inr s) = inr (λ k m q. s.0 k m (append_assoc begun (lower c ∷ []) (map lower w) ∙ q), stray_comes p c t e f s.1)
+says_comes : (p : Place) (begun : List ℕ) (c : ℕ) (w tail t : List ℕ) → in_word p c ≡ true → (c == 123) ≡ false → GoesOn begun c → WordSays p (begun ++ lower c ∷ []) ((begun ++ lower c ∷ []) ++ map lower w) tail t → WordSays p begun (begun ++ map lower (c ∷ w)) tail (c ∷ t)
+says_comes p begun c w tail t e f g (inl k) = inl (k.0, k.1, sym (append_assoc begun (lower c ∷ []) (map lower w)) ∙ k.2, k.3)
+says_comes p begun c w tail t e f g (inr s) = inr (λ k m q. s.0 k m (append_assoc begun (lower c ∷ []) (map lower w) ∙ q), stray_comes p begun c t e f g s.1)
 
 -- the word's text is taken from the text of its front
-goes_forth_at : (p : Place) (k : Key) (at c : ℕ) (t w tail : List ℕ) (o : Option Key) → next_key p k at (lower c) ≡ o → at ≤ length (key_text k) → in_word p c ≡ true → t ≡ w ++ tail → Each (in_word p) w → in_word p (get_or tail 0 0) ≡ false → WordSays p (take at (key_text k) ++ map lower (c ∷ w)) tail (c ∷ t) → After (word_goes p at c o) t
+goes_forth_at : (p : Place) (k : Key) (at c : ℕ) (t w tail : List ℕ) (o : Option Key) → next_key p k at (lower c) ≡ o → at ≤ length (key_text k) → in_word p c ≡ true → t ≡ w ++ tail → Each (in_word p) w → in_word p (get_or tail 0 0) ≡ false → WordSays p (take at (key_text k)) (take at (key_text k) ++ map lower (c ∷ w)) tail (c ∷ t) → After (word_goes p k at c o) t
 goes_forth_at p k at c t w tail (Some x) e le i whole each longest says =
     let f = find_some (goes_on k at (lower c)) (keys p) x e in
     let g = goes_to k x at (lower c) f.0 in
@@ -262,12 +269,15 @@ goes_forth_at p k at c t w tail (Some x) e le i whole each longest says =
       each = each;
       some = omega (arith, n);
       longest = longest;
-      says = subst (λ (b : List ℕ). WordSays p (b ++ map lower w) tail t) (sym g.0) s;
+      says = subst (λ (b : List ℕ). WordSays p b (b ++ map lower w) tail t) (sym g.0) s;
     }
 goes_forth_at p k at c t w tail None e le i whole each longest (inl x) = absurd (find_none (goes_on k at (lower c)) (keys p) x.0 e x.1 (goes_from k x.0 at (lower c) (map lower w) le x.2))
-goes_forth_at p k at c t w tail None e le i whole each longest (inr s) = stray_forth p c t s.1
+goes_forth_at p k at c t w tail None e le i whole each longest (inr s) = stray_forth p k at c t s.1
 
-goes_back_at : (p : Place) (k : Key) (at c : ℕ) (t : List ℕ) (o : Option Key) → next_key p k at (lower c) ≡ o → at ≤ length (key_text k) → in_word p c ≡ true → After (word_goes p at c o) t → WordRest p (take at (key_text k)) (c ∷ t)
+goes_whole : (k x : Key) (at c : ℕ) → take (at + 1) (key_text x) ≡ take at (key_text k) ++ c ∷ [] → take at (key_text k) ++ c ∷ drop (at + 1) (key_text x) ≡ key_text x
+goes_whole k x at c e = sym (append_assoc (take at (key_text k)) (c ∷ []) (drop (at + 1) (key_text x))) ∙ ap (λ (u : List ℕ). u ++ drop (at + 1) (key_text x)) (sym e) ∙ take-append-drop (at + 1) (key_text x)
+
+goes_back_at : (p : Place) (k : Key) (at c : ℕ) (t : List ℕ) (o : Option Key) → next_key p k at (lower c) ≡ o → at ≤ length (key_text k) → in_word p c ≡ true → After (word_goes p k at c o) t → WordRest p (take at (key_text k)) (c ∷ t)
 goes_back_at p k at c t (Some x) e le i h =
     let f = find_some (goes_on k at (lower c)) (keys p) x e in
     let g = goes_to k x at (lower c) f.0 in
@@ -278,7 +288,7 @@ goes_back_at p k at c t (Some x) e le i h =
       each = (i, h.each);
       some = omega arith;
       longest = h.longest;
-      says = says_comes p (take at (key_text k)) c h.word h.tail t i (goes_octet k x at c f.0) (subst (λ (b : List ℕ). WordSays p (b ++ map lower h.word) h.tail t) g.0 h.says);
+      says = says_comes p (take at (key_text k)) c h.word h.tail t i (goes_octet k x at c f.0) (x, drop (at + 1) (key_text x), goes_whole k x at (lower c) g.0) (subst (λ (b : List ℕ). WordSays p b (b ++ map lower h.word) h.tail t) g.0 h.says);
     }
 goes_back_at p k at c t None e le i h =
     let r = cut (in_word p) t (no_word_zero p) in
@@ -289,12 +299,12 @@ goes_back_at p k at c t None e le i h =
       each = (i, r.each);
       some = omega arith;
       longest = r.longest;
-      says = inr (λ x m q. find_none (goes_on k at (lower c)) (keys p) x e m (goes_from k x at (lower c) (map lower r.front) le q), stray_back p c t h);
+      says = inr (λ x m q. find_none (goes_on k at (lower c)) (keys p) x e m (goes_from k x at (lower c) (map lower r.front) le q), stray_back p k at c t h);
     }
 
 -- ---- an octet behind the word
 
-ends_forth : (p : Place) (k : Key) (at c : ℕ) (t : List ℕ) (o : Option Key) → whole_key p k at ≡ o → at ≤ length (key_text k) → WordSays p (take at (key_text k) ++ []) (c ∷ t) (c ∷ t) → After (word_ends p c o) t
+ends_forth : (p : Place) (k : Key) (at c : ℕ) (t : List ℕ) (o : Option Key) → whole_key p k at ≡ o → at ≤ length (key_text k) → WordSays p (take at (key_text k)) (take at (key_text k) ++ []) (c ∷ t) (c ∷ t) → After (word_ends p k at c o) t
 ends_forth p k at c t (Some x) e le (inl y) =
     let f = find_some (is_whole k at) (keys p) x e in
     let same : y.0 ≡ x = one_key y.0 x (sym y.2 ∙ append-nil (take at (key_text k)) ∙ whole_to k x at f.0) in
@@ -303,14 +313,14 @@ ends_forth p k at c t (Some x) e le (inr s) =
     let f = find_some (is_whole k at) (keys p) x e in
     absurd (s.0 x f.1 (append-nil (take at (key_text k)) ∙ whole_to k x at f.0))
 ends_forth p k at c t None e le (inl y) = absurd (find_none (is_whole k at) (keys p) y.0 e y.1 (whole_from k y.0 at le (sym (append-nil (take at (key_text k))) ∙ y.2)))
-ends_forth p k at c t None e le (inr s) = stray_forth p c t s.1
+ends_forth p k at c t None e le (inr s) = stray_forth p k at c t s.1
 
-ends_back : (p : Place) (k : Key) (at c : ℕ) (t : List ℕ) (o : Option Key) → whole_key p k at ≡ o → at ≤ length (key_text k) → After (word_ends p c o) t → WordSays p (take at (key_text k) ++ []) (c ∷ t) (c ∷ t)
+ends_back : (p : Place) (k : Key) (at c : ℕ) (t : List ℕ) (o : Option Key) → whole_key p k at ≡ o → at ≤ length (key_text k) → After (word_ends p k at c o) t → WordSays p (take at (key_text k)) (take at (key_text k) ++ []) (c ∷ t) (c ∷ t)
 ends_back p k at c t (Some x) e le h =
     let f = find_some (is_whole k at) (keys p) x e in
     inl (x, f.1, append-nil (take at (key_text k)) ∙ whole_to k x at f.0, behind_back p x c t h)
 ends_back p k at c t None e le h =
-    inr (λ x m q. find_none (is_whole k at) (keys p) x e m (whole_from k x at le (sym (append-nil (take at (key_text k))) ∙ q)), stray_back p c t h)
+    inr (λ x m q. find_none (is_whole k at) (keys p) x e m (whole_from k x at le (sym (append-nil (take at (key_text k))) ∙ q)), stray_back p k at c t h)
 
 -- ---- the group
 
@@ -318,9 +328,9 @@ fits_le : (p : Place) (k : Key) (at : ℕ) → (nat_le at (length (key_text k)) 
 fits_le p k at fits = leb-true _ _ (and_parts (nat_le at (length (key_text k))) (is_among k (keys p)) fits).0
 
 pub word_back : (p : Place) (k : Key) (at c : ℕ) (t : List ℕ) → at ≤ length (key_text k) → After (word_rule p k at c) t → WordRest p (take at (key_text k)) (c ∷ t)
-word_back p k at c t le h = from_test (in_word p c) (word_goes p at c (next_key p k at (lower c))) (cond (at == 0) move.Fail (word_ends p c (whole_key p k at))) t (WordRest p (take at (key_text k)) (c ∷ t))
+word_back p k at c t le h = from_test (in_word p c) (word_goes p k at c (next_key p k at (lower c))) (cond (at == 0) move.Fail (word_ends p k at c (whole_key p k at))) t (WordRest p (take at (key_text k)) (c ∷ t))
     (λ i g. goes_back_at p k at c t (next_key p k at (lower c)) refl le i g)
-    (λ i g. from_test (at == 0) move.Fail (word_ends p c (whole_key p k at)) t (WordRest p (take at (key_text k)) (c ∷ t))
+    (λ i g. from_test (at == 0) move.Fail (word_ends p k at c (whole_key p k at)) t (WordRest p (take at (key_text k)) (c ∷ t))
     (λ z l. absurd l)
     (λ z l. record {
       word = [];
@@ -332,21 +342,21 @@ word_back p k at c t le h = from_test (in_word p c) (word_goes p at c (next_key 
       says = ends_back p k at c t (whole_key p k at) refl le l;
     }) g) h
 
-word_at : (p : Place) (k : Key) (at c : ℕ) (t w tail : List ℕ) → at ≤ length (key_text k) → c ∷ t ≡ w ++ tail → Each (in_word p) w → 0 < length (take at (key_text k)) + length w → in_word p (get_or tail 0 0) ≡ false → WordSays p (take at (key_text k) ++ map lower w) tail (c ∷ t) → After (word_rule p k at c) t
+word_at : (p : Place) (k : Key) (at c : ℕ) (t w tail : List ℕ) → at ≤ length (key_text k) → c ∷ t ≡ w ++ tail → Each (in_word p) w → 0 < length (take at (key_text k)) + length w → in_word p (get_or tail 0 0) ≡ false → WordSays p (take at (key_text k)) (take at (key_text k) ++ map lower w) tail (c ∷ t) → After (word_rule p k at c) t
 word_at p k at c t [] tail le e each some longest says =
     let out : in_word p c ≡ false = ap (λ (u : List ℕ). in_word p (get_or u 0 0)) e ∙ longest in
     let n : length (take at (key_text k)) ≡ at = length-take-le at (key_text k) le in
-    at_false (in_word p c) (word_goes p at c (next_key p k at (lower c))) (cond (at == 0) move.Fail (word_ends p c (whole_key p k at))) t out
-    (at_false (at == 0) move.Fail (word_ends p c (whole_key p k at)) t (not_zero at (omega (arith, some, n)))
-    (ends_forth p k at c t (whole_key p k at) refl le (subst (λ (u : List ℕ). WordSays p (take at (key_text k) ++ []) u (c ∷ t)) (sym e) says)))
+    at_false (in_word p c) (word_goes p k at c (next_key p k at (lower c))) (cond (at == 0) move.Fail (word_ends p k at c (whole_key p k at))) t out
+    (at_false (at == 0) move.Fail (word_ends p k at c (whole_key p k at)) t (not_zero at (omega (arith, some, n)))
+    (ends_forth p k at c t (whole_key p k at) refl le (subst (λ (u : List ℕ). WordSays p (take at (key_text k)) (take at (key_text k) ++ []) u (c ∷ t)) (sym e) says)))
   where
     not_zero : (at : ℕ) → 0 < at → (at == 0) ≡ false
     not_zero at lt = grind arith
 word_at p k at c t (d ∷ w) tail le e each some longest says =
     let same : d ≡ c = sym (cons_head c d t (w ++ tail) e) in
     let i : in_word p c ≡ true = ap (in_word p) (sym same) ∙ each.0 in
-    at_true (in_word p c) (word_goes p at c (next_key p k at (lower c))) (cond (at == 0) move.Fail (word_ends p c (whole_key p k at))) t i
-    (goes_forth_at p k at c t w tail (next_key p k at (lower c)) refl le i (cons_tail c d t (w ++ tail) e) each.1 longest (subst (λ (q : ℕ). WordSays p (take at (key_text k) ++ map lower (q ∷ w)) tail (c ∷ t)) same says))
+    at_true (in_word p c) (word_goes p k at c (next_key p k at (lower c))) (cond (at == 0) move.Fail (word_ends p k at c (whole_key p k at))) t i
+    (goes_forth_at p k at c t w tail (next_key p k at (lower c)) refl le i (cons_tail c d t (w ++ tail) e) each.1 longest (subst (λ (q : ℕ). WordSays p (take at (key_text k)) (take at (key_text k) ++ map lower (q ∷ w)) tail (c ∷ t)) same says))
 
 pub word_forth : (p : Place) (k : Key) (at c : ℕ) (t : List ℕ) → at ≤ length (key_text k) → WordRest p (take at (key_text k)) (c ∷ t) → After (word_rule p k at c) t
 word_forth p k at c t le h = word_at p k at c t h.word h.tail le h.whole h.each h.some h.longest h.says
@@ -356,14 +366,14 @@ word_empty p begun h =
     let n = no_append h.word h.tail h.whole in
     by h.says n.1
   where
-    stray_none : (p : Place) → IsStray p [] → ⊥
+    stray_none : (p : Place) → IsStray p begun [] → ⊥
     stray_none place.Plain s = free_empty (free.Text pending.Nothing) refl s
     stray_none place.Numbered s = free_empty (free.Text pending.Nothing) refl s
     stray_none place.Tagged s = s
-    stray_none place.Item s = s
+    stray_none place.Item s = item_name_empty (name_from name.Plain begun) s
     stray_none place.Month s = s
 
-    by : WordSays p (begun ++ map lower h.word) h.tail [] → h.tail ≡ [] → ⊥
+    by : WordSays p begun (begun ++ map lower h.word) h.tail [] → h.tail ≡ [] → ⊥
     by (inl k) e = behind_none p k.0 (subst (IsBehind p k.0) e k.3)
     by (inr s) e = stray_none p s.1
 
@@ -380,7 +390,7 @@ key_example p k at tail le m out b = record {
   says = inl (k, m, ap (λ (u : List ℕ). take at (key_text k) ++ u) (key_lower k at) ∙ take-append-drop at (key_text k), b);
 }
 
-stray_example : (p : Place) (k : Key) (at : ℕ) → in_word p 33 ≡ true → in_word p 13 ≡ false → IsStray p (33 ∷ crlf) → WordRest p (take at (key_text k)) (33 ∷ crlf)
+stray_example : (p : Place) (k : Key) (at : ℕ) → in_word p 33 ≡ true → in_word p 13 ≡ false → IsStray p (take at (key_text k)) (33 ∷ crlf) → WordRest p (take at (key_text k)) (33 ∷ crlf)
 stray_example p k at i o s = record {
   word = 33 ∷ [];
   tail = crlf;
@@ -394,6 +404,9 @@ stray_example p k at i o s = record {
 bang_line : FreeLang (free.Text pending.Nothing) (33 ∷ crlf)
 bang_line = (0, record { text = 33 ∷ []; whole = refl; text_is = (refl, tt); no_count = tt })
 
+nil_example : (k : Key) (at : ℕ) → at ≤ length (key_text k) → is_among k (keys place.Item) ≡ true → IsBehind place.Item k (32 ∷ codes "nil") → WordRest place.Item (take at (key_text k)) (drop at (key_text k) ++ 32 ∷ codes "nil")
+nil_example k at le m b = key_example place.Item k at (32 ∷ codes "nil") le (is_among_is k (keys place.Item) m) refl b
+
 pub word_example : (p : Place) (k : Key) (at : ℕ) → at ≤ length (key_text k) → is_among k (keys p) ≡ true → (t : List ℕ) × WordRest p (take at (key_text k)) t
 word_example place.Plain k at le m = (33 ∷ crlf, stray_example place.Plain k at refl refl bang_line)
 word_example place.Numbered k at le m = (33 ∷ crlf, stray_example place.Numbered k at refl refl bang_line)
@@ -406,5 +419,9 @@ word_example place.Item key.Flags at le m = (drop at (codes "flags") ++ 32 ∷ 4
 word_example place.Item key.ModSeq at le m = (drop at (codes "modseq") ++ 32 ∷ codes "(1)", key_example place.Item key.ModSeq at (32 ∷ codes "(1)") le (is_among_is key.ModSeq (keys place.Item) m) refl (codes "(1)", refl, (49 ∷ [], refl, record { each = (refl, tt); some = omega arith; few = omega arith; most = omega arith })))
 word_example place.Item key.Size at le m = (drop at (codes "rfc822.size") ++ 32 ∷ 49 ∷ [], key_example place.Item key.Size at (32 ∷ 49 ∷ []) le (is_among_is key.Size (keys place.Item) m) refl (49 ∷ [], refl, record { each = (refl, tt); some = omega arith; few = omega arith; most = omega arith }))
 word_example place.Item key.InternalDate at le m = (drop at (codes "internaldate") ++ 32 ∷ date_text, key_example place.Item key.InternalDate at (32 ∷ date_text) le (is_among_is key.InternalDate (keys place.Item) m) refl (date_text, refl, date_example))
+word_example place.Item key.Header at le m = (drop at (codes "body[header]") ++ 32 ∷ codes "nil", nil_example key.Header at le m (codes "nil", refl, ([], inl (refl, refl))))
+word_example place.Item key.HeaderPart at le m = (drop at (codes "body[header]<0>") ++ 32 ∷ codes "nil", nil_example key.HeaderPart at le m (codes "nil", refl, ([], inl (refl, refl))))
+word_example place.Item key.Body at le m = (drop at (codes "body[]") ++ 32 ∷ codes "nil", nil_example key.Body at le m (codes "nil", refl, ([], inl (refl, refl))))
+word_example place.Item key.BodyPart at le m = (drop at (codes "body[]<0>") ++ 32 ∷ codes "nil", nil_example key.BodyPart at le m (codes "nil", refl, ([], inl (refl, refl))))
 word_example place.Item _ at le m = absurd cc
 word_example place.Month k at le m = (drop at (key_text k) ++ time_text, key_example place.Month k at time_text le (is_among_is k (keys place.Month) m) refl time_example)

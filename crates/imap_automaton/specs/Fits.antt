@@ -70,6 +70,7 @@ SymFits (sym.Free s) = FreeFits s
 SymFits (sym.Item s) = ItemFits s
 SymFits (sym.Names s) = true
 SymFits (sym.Date s) = DateFits s
+SymFits (sym.ItemName s) = true
 SymFits (sym.Words s) = true
 SymFits (sym.Set s) = SetFits s
 SymFits (sym.Str s) = StrFits s

@@ -27,6 +27,7 @@ ends_open (sym.Names names.AtomRest) = true
 ends_open (sym.Str str.AString) = true
 ends_open (sym.Str str.AtomTilde) = true
 ends_open (sym.Value value.Start) = true
+ends_open (sym.ItemName s) = true
 ends_open _ = false
 
 -- begins with a space, a closing bracket or a line's end
@@ -80,6 +81,7 @@ need (sym.Names names.First) = 2
 need (sym.Names names.More) = 2
 need (sym.Set set.Open) = 2
 need (sym.Value s) = 2
+need (sym.ItemName s) = 2
 need (sym.Folder folder.Attributes) = 3
 need (sym.Folder folder.Name) = 3
 need (sym.Folder folder.ListEnd) = 3

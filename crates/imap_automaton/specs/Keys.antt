@@ -36,6 +36,10 @@ key_text key.Flags = codes "flags"
 key_text key.ModSeq = codes "modseq"
 key_text key.InternalDate = codes "internaldate"
 key_text key.Size = codes "rfc822.size"
+key_text key.Header = codes "body[header]"
+key_text key.HeaderPart = codes "body[header]<0>"
+key_text key.Body = codes "body[]"
+key_text key.BodyPart = codes "body[]<0>"
 key_text key.Jan = codes "jan"
 key_text key.Feb = codes "feb"
 key_text key.Mar = codes "mar"
@@ -54,7 +58,7 @@ abbrev pub keys : Place → List Key
 keys place.Tagged = key.Ok ∷ key.No ∷ key.Bad ∷ []
 keys place.Plain = key.Ok ∷ key.No ∷ key.Bad ∷ key.Preauth ∷ key.Bye ∷ key.Capability ∷ key.Enabled ∷ key.Flags ∷ key.Vanished ∷ key.List ∷ key.Status ∷ []
 keys place.Numbered = key.Exists ∷ key.Expunge ∷ key.Fetch ∷ []
-keys place.Item = key.Uid ∷ key.Flags ∷ key.ModSeq ∷ key.InternalDate ∷ key.Size ∷ []
+keys place.Item = key.Uid ∷ key.Flags ∷ key.ModSeq ∷ key.InternalDate ∷ key.Size ∷ key.Header ∷ key.HeaderPart ∷ key.Body ∷ key.BodyPart ∷ []
 keys place.Month = key.Jan ∷ key.Feb ∷ key.Mar ∷ key.Apr ∷ key.May ∷ key.Jun ∷ key.Jul ∷ key.Aug ∷ key.Sep ∷ key.Oct ∷ key.Nov ∷ key.Dec ∷ []
 
 abbrev pub first_key : Place → Key

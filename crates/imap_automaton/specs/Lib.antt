@@ -4,6 +4,7 @@ pub mod Keys
 pub mod LineRules
 pub mod SetRules
 pub mod DateRules
+pub mod ItemNameRules
 pub mod WordRules
 pub mod FreeRules
 pub mod ItemRules

@@ -9,6 +9,7 @@ use Rattle.imap_automaton.specs.FreeRules.{free_rule}
 use Rattle.imap_automaton.specs.ItemRules.{item_rule}
 use Rattle.imap_automaton.specs.NamesRules.{names_rule}
 use Rattle.imap_automaton.specs.DateRules.{date_rule}
+use Rattle.imap_automaton.specs.ItemNameRules.{item_name_rule}
 use Rattle.imap_automaton.specs.SetRules.{words_rule, set_rule}
 use Rattle.imap_automaton.specs.StringRules.{string_rule}
 use Rattle.imap_automaton.specs.ValueRules.{value_rule}
@@ -21,6 +22,7 @@ rule_of (sym.Free s) c = free_rule s c
 rule_of (sym.Item s) c = item_rule s c
 rule_of (sym.Names s) c = names_rule s c
 rule_of (sym.Date s) c = date_rule s c
+rule_of (sym.ItemName s) c = item_name_rule s c
 rule_of (sym.Words s) c = words_rule s c
 rule_of (sym.Set s) c = set_rule s c
 rule_of (sym.Str s) c = string_rule s c

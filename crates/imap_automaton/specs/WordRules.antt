@@ -1,5 +1,5 @@
 -- Words by which a reader decides.
-use Rattle.std.specs.Prelude.{ℕ, ◌+◌, ◌==◌, if◌then◌else◌, Option, Some, None}
+use Rattle.std.specs.Prelude.{ℕ, ◌+◌, ◌==◌, if◌then◌else◌, take, Option, Some, None}
 use Rattle.imap_automaton.specs.declared.sym.Key.{Key}
 use Rattle.imap_automaton.specs.declared.sym.Key.TheVariants as key
 use Rattle.imap_automaton.specs.declared.sym.Place.{Place}
@@ -10,16 +10,18 @@ use Rattle.imap_automaton.specs.declared.sym.Line.TheVariants as line
 use Rattle.imap_automaton.specs.declared.sym.Item.TheVariants as item
 use Rattle.imap_automaton.specs.declared.sym.Names.TheVariants as names
 use Rattle.imap_automaton.specs.declared.sym.Date.TheVariants as date
+use Rattle.imap_automaton.specs.declared.sym.ItemName.TheVariants as name
 use Rattle.imap_automaton.specs.declared.sym.Set.TheVariants as set
 use Rattle.imap_automaton.specs.declared.sym.Str.TheVariants as str
 use Rattle.imap_automaton.specs.declared.sym.Folder.TheVariants as folder
 use Rattle.imap_automaton.specs.declared.sym.Sym.TheVariants as sym
 use Rattle.imap_automaton.specs.declared.sym.Move.{Move}
 use Rattle.imap_automaton.specs.declared.sym.Move.TheVariants as move
-use Rattle.imap_automaton.specs.Keys.{in_word, next_key, whole_key}
+use Rattle.imap_automaton.specs.Keys.{key_text, in_word, next_key, whole_key}
 use Rattle.imap_automaton.specs.FreeRules.{text_rule}
 use Rattle.imap_automaton.specs.SetRules.{words_more}
 use Rattle.imap_automaton.specs.DateRules.{time_rule}
+use Rattle.imap_automaton.specs.ItemNameRules.{name_from, item_name_rule}
 use Rattle.imap_syntax.specs.Octets.{lower}
 
 -- rest = empty / SP *text
@@ -60,25 +62,30 @@ behind_key place.Item key.Flags c = spaced_rule (move.One (sym.Names names.Open)
 behind_key place.Item key.ModSeq c = spaced_rule (move.One (sym.Item item.LongOpen)) c
 behind_key place.Item key.InternalDate c = spaced_rule (move.One (sym.Date date.Open)) c
 behind_key place.Item key.Size c = spaced_rule (move.One (sym.Item (item.Long 0 0))) c
+behind_key place.Item key.Header c = spaced_rule (move.One (sym.Str str.NString)) c
+behind_key place.Item key.HeaderPart c = spaced_rule (move.One (sym.Str str.NString)) c
+behind_key place.Item key.Body c = spaced_rule (move.One (sym.Str str.NString)) c
+behind_key place.Item key.BodyPart c = spaced_rule (move.One (sym.Str str.NString)) c
 behind_key place.Month k c = time_rule 0 c
 behind_key _ _ c = move.Fail
 
 -- at a word that is none
-abbrev pub stray : Place → ℕ → Move
-stray place.Plain c = text_rule pending.Nothing c
-stray place.Numbered c = text_rule pending.Nothing c
-stray _ c = move.Fail
+abbrev pub stray : Place → Key → ℕ → ℕ → Move
+stray place.Plain key at c = text_rule pending.Nothing c
+stray place.Numbered key at c = text_rule pending.Nothing c
+stray place.Item key at c = item_name_rule (name_from name.Plain (take at (key_text key))) c
+stray _ key at c = move.Fail
 
-abbrev pub word_goes : Place → ℕ → ℕ → Option Key → Move
-word_goes place at c (Some k) = move.One (sym.Word place k (at + 1))
-word_goes place at c None = stray place c
+abbrev pub word_goes : Place → Key → ℕ → ℕ → Option Key → Move
+word_goes place key at c (Some k) = move.One (sym.Word place k (at + 1))
+word_goes place key at c None = stray place key at c
 
-abbrev pub word_ends : Place → ℕ → Option Key → Move
-word_ends place c (Some k) = behind_key place k c
-word_ends place c None = stray place c
+abbrev pub word_ends : Place → Key → ℕ → ℕ → Option Key → Move
+word_ends place key at c (Some k) = behind_key place k c
+word_ends place key at c None = stray place key at c
 
 abbrev pub word_rule : Place → Key → ℕ → ℕ → Move
 word_rule place key at c =
-    if in_word place c then word_goes place at c (next_key place key at (lower c))
+    if in_word place c then word_goes place key at c (next_key place key at (lower c))
     else if at == 0 then move.Fail
-    else word_ends place c (whole_key place key at)
+    else word_ends place key at c (whole_key place key at)

@@ -5,6 +5,7 @@ mod class;
 mod date_rule;
 mod folder_rule;
 mod free_rule;
+mod item_name_rule;
 mod item_rule;
 mod line_rule;
 mod names_rule;
@@ -19,6 +20,6 @@ mod word_rule;
 pub use stack::Stack;
 pub use step::advance;
 pub use sym::{
-    Date, Folder, Free, Item, Key, Line, Move, Names, Pending, Phrase, Place, Set, Str, Sym, Value,
-    Words,
+    Date, Folder, Free, Item, ItemName, Key, Line, Move, Names, Pending, Phrase, Place, Set, Str,
+    Sym, Value, Words,
 };

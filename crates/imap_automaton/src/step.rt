@@ -9,6 +9,7 @@ ghost use Rattle.imap_automaton.specs.Symbols.{symbols_of};
 use crate::date_rule::date_rule;
 use crate::folder_rule::folder_rule;
 use crate::free_rule::free_rule;
+use crate::item_name_rule::item_name_rule;
 use crate::item_rule::item_rule;
 use crate::line_rule::line_rule;
 use crate::names_rule::names_rule;
@@ -32,6 +33,7 @@ fn rule(sym: Sym, c: u16) -> Move
         Sym::Item(item) => item_rule(item, c),
         Sym::Names(names) => names_rule(names, c),
         Sym::Date(date) => date_rule(date, c),
+        Sym::ItemName(name) => item_name_rule(name, c),
         Sym::Words(words) => words_rule(words, c),
         Sym::Set(set) => set_rule(set, c),
         Sym::Str(string) => string_rule(string, c),

@@ -32,6 +32,10 @@ pub enum Key {
     ModSeq,
     InternalDate,
     Size,
+    Header,
+    HeaderPart,
+    Body,
+    BodyPart,
     Jan,
     Feb,
     Mar,
@@ -131,6 +135,23 @@ pub enum Item {
     Long(u64, u8),
 }
 
+/// Within the name of another item.
+#[derive(Clone, Copy)]
+pub enum ItemName {
+    /// Before its section.
+    Plain,
+    /// Within its section.
+    Section,
+    /// Behind the closing bracket.
+    After,
+    /// Behind the `<`.
+    Part,
+    /// Behind a digit.
+    Digits,
+    /// Behind the `>`.
+    End,
+}
+
 /// Within a date.
 #[derive(Clone, Copy)]
 pub enum Date {
@@ -224,6 +245,7 @@ pub enum Sym {
     Item(Item),
     Names(Names),
     Date(Date),
+    ItemName(ItemName),
     Words(Words),
     Set(Set),
     Str(Str),

@@ -2,13 +2,15 @@
 ghost use Rattle.std.specs.Prelude.{◌≡◌, ◌≤◌, ◌<◌, IsTrue, length, take, bytes_eq, nat_le};
 ghost use Rattle.imap_automaton.specs.Keys as keywords;
 ghost use Rattle.imap_automaton.specs.WordRules as rules;
+ghost use Rattle.imap_automaton.specs.ItemNameRules as names;
 
 use crate::class::{CR, is_atom, is_word, lower};
 use crate::date_rule::time_rule;
 use crate::free_rule::text_rule;
+use crate::item_name_rule::{item_name_rule, next_name};
 use crate::set_rule::words_more;
 use crate::sym::{
-    Date, Folder, Item, Key, Line, Move, Names, Pending, Phrase, Place, Set, Str, Sym,
+    Date, Folder, Item, ItemName, Key, Line, Move, Names, Pending, Phrase, Place, Set, Str, Sym,
 };
 
 /// The word in lower case.
@@ -34,6 +36,10 @@ fn key_text(key: Key) -> &'static [u8]
         Key::ModSeq => b"modseq",
         Key::InternalDate => b"internaldate",
         Key::Size => b"rfc822.size",
+        Key::Header => b"body[header]",
+        Key::HeaderPart => b"body[header]<0>",
+        Key::Body => b"body[]",
+        Key::BodyPart => b"body[]<0>",
         Key::Jan => b"jan",
         Key::Feb => b"feb",
         Key::Mar => b"mar",
@@ -67,12 +73,16 @@ static LINE_KEYS: [Key; 11] = [
 
 static NUMBERED_KEYS: [Key; 3] = [Key::Exists, Key::Expunge, Key::Fetch];
 
-static ITEM_KEYS: [Key; 5] = [
+static ITEM_KEYS: [Key; 9] = [
     Key::Uid,
     Key::Flags,
     Key::ModSeq,
     Key::InternalDate,
     Key::Size,
+    Key::Header,
+    Key::HeaderPart,
+    Key::Body,
+    Key::BodyPart,
 ];
 
 static MONTH_KEYS: [Key; 12] = [
@@ -280,37 +290,58 @@ fn behind_key(place: Place, key: Key, c: u16) -> Move
         (Place::Item, Key::InternalDate) => spaced_rule(Sym::Date(Date::Open), c),
         (Place::Month, _) => time_rule(0, c),
         (Place::Item, Key::Size) => spaced_rule(Sym::Item(Item::Long(0, 0)), c),
+        (Place::Item, Key::Header) => spaced_rule(Sym::Str(Str::NString), c),
+        (Place::Item, Key::HeaderPart) => spaced_rule(Sym::Str(Str::NString), c),
+        (Place::Item, Key::Body) => spaced_rule(Sym::Str(Str::NString), c),
+        (Place::Item, Key::BodyPart) => spaced_rule(Sym::Str(Str::NString), c),
         _ => Move::Fail,
     }
 }
 
-/// At a word that is no key.
-fn stray(place: Place, c: u16) -> Move
-    ensures { result ≡ rules.stray place c }
+/// The name that begins as the key does.
+fn name_of(key: Key, at: u8) -> ItemName
+    requires { at ≤ length (keywords.key_text key) }
+    ensures { result ≡ names.name_from ItemName.Plain (take at (keywords.key_text key)) }
+{
+    let (front, _) = key_text(key).split_at(at as usize);
+    let mut name = ItemName::Plain;
+    for octet in front {
+        name = next_name(name, *octet as u16);
+    }
+    name
+}
+
+/// At a word that is no key, behind octets that are the first so many of the key's.
+fn stray(place: Place, key: Key, at: u8, c: u16) -> Move
+    requires { at ≤ length (keywords.key_text key) }
+    ensures { result ≡ rules.stray place key at c }
 {
     match place {
         Place::Plain => text_rule(Pending::Nothing, c),
         Place::Numbered => text_rule(Pending::Nothing, c),
+        Place::Item => item_name_rule(name_of(key, at), c),
         _ => Move::Fail,
     }
 }
 
-fn word_goes(place: Place, at: u8, c: u16, next: Option<Key>) -> Move
-    requires { at < 255 }
-    ensures { result ≡ rules.word_goes place at c next }
+fn word_goes(place: Place, key: Key, at: u8, c: u16, next: Option<Key>) -> Move
+    requires within { at ≤ length (keywords.key_text key) }
+    requires most { at < 255 }
+    ensures { result ≡ rules.word_goes place key at c next }
 {
     match next {
         Some(key) => Move::One(Sym::Word(place, key, at + 1)),
-        None => stray(place, c),
+        None => stray(place, key, at, c),
     }
 }
 
-fn word_ends(place: Place, c: u16, whole: Option<Key>) -> Move
-    ensures { result ≡ rules.word_ends place c whole }
+fn word_ends(place: Place, key: Key, at: u8, c: u16, whole: Option<Key>) -> Move
+    requires { at ≤ length (keywords.key_text key) }
+    ensures { result ≡ rules.word_ends place key at c whole }
 {
     match whole {
         Some(key) => behind_key(place, key, c),
-        None => stray(place, c),
+        None => stray(place, key, at, c),
     }
 }
 
@@ -319,10 +350,10 @@ pub fn word_rule(place: Place, key: Key, at: u8, c: u16) -> Move
     ensures { result ≡ rules.word_rule place key at c }
 {
     if in_word(place, c) {
-        word_goes(place, at, c, next_key(place, key, at, lower(c)))
+        word_goes(place, key, at, c, next_key(place, key, at, lower(c)))
     } else if at == 0 {
         Move::Fail
     } else {
-        word_ends(place, c, whole_key(place, key, at))
+        word_ends(place, key, at, c, whole_key(place, key, at))
     }
 }

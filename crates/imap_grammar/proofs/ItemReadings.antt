@@ -1,168 +1,240 @@
 -- The items of a FETCH are read back as what they tell.
-use Rattle.std.proofs.Common.{◌≡◌, ◌⊎◌, ℕ, zero, suc, ◌+◌, ◌-◌, ◌<◌, ◌≤◌, Bool, true, false, List, [], ◌∷◌, ◌++◌, length, map, take, drop, get_or, cond, refl, sym, ap, subst, ◌∙◌, append_assoc, arith, inl, inr, Option, Some, ℤ}
-use Rattle.std.specs.Prelude.{◌==◌, codes, bytes_eq}
-use Rattle.std.proofs.lemmas.Bool.{cond-true, cond-false}
+use Rattle.std.proofs.Common.{◌≡◌, ◌⊎◌, ℕ, zero, suc, ◌+◌, ◌-◌, ◌<◌, ◌≤◌, Bool, true, false, ◌||◌, List, [], ◌∷◌, ◌++◌, length, map, take, drop, get_or, cond, refl, sym, ap, subst, ◌∙◌, append_assoc, arith, inl, inr, Option, Some, ℤ}
+use Rattle.std.specs.Prelude.{◌==◌, nat_lt, codes, bytes_eq}
+use Rattle.std.proofs.lemmas.Bool.{cond-true, cond-false, or_cases, false_from_ne_true}
 use Rattle.std.proofs.lemmas.List.{length-append, append-nil, map-append}
-use Rattle.imap_automaton.proofs.KeyLemmas.{text_same}
+use Rattle.imap_automaton.specs.Flow.{stops}
+use Rattle.imap_automaton.specs.ItemRules.{item_start}
+use Rattle.imap_automaton.specs.Keys.{key_text, keys}
+use Rattle.imap_automaton.specs.declared.sym.Key.{Key}
+use Rattle.imap_automaton.specs.declared.sym.Key.TheVariants as key
+use Rattle.imap_automaton.specs.declared.sym.Place.TheVariants as place
+use Rattle.imap_automaton.proofs.Langs.{Among, WordRest}
+use Rattle.imap_automaton.proofs.KeyLemmas.{text_same, same_text}
 use Rattle.imap_automaton.proofs.Lists.{cons_head, cons_tail}
-use Rattle.imap_grammar.specs.Reading.{span, in_name, number_in, long_in, names_in, flags_in, value_in, item_in, items_in}
+use Rattle.imap_automaton.proofs.ItemEdges.{stop_no_digit, item_to}
+use Rattle.imap_automaton.proofs.OtherItems.{named_atoms, other_word}
+use Rattle.imap_grammar.specs.Spans.{span, number_in, long_in, flags_in}
+use Rattle.imap_grammar.specs.StringReading.{astring_in}
+use Rattle.imap_grammar.specs.ItemReading.{nstring_in, is_header, is_body, is_told, text_in, value_in, item_in, items_in}
 use Rattle.imap_grammar.specs.DateReading.{date_in}
+use Rattle.imap_grammar.specs.Passing.{passed}
 use Rattle.imap_grammar.proofs.DateReadings.{date_read}
-use Rattle.imap_grammar.proofs.Cuts.{small, plain_small, plain_join, each_to, each_join, CutAt, cut_at, number_is, long_is}
+use Rattle.imap_grammar.proofs.StringReadings.{Ends, astring_read}
+use Rattle.imap_grammar.proofs.PassingReadings.{item_passed}
+pub use Rattle.imap_grammar.proofs.NameReadings.{atom_small, joined_small, flags_read, digit_small, long_read, plain_length}
+use Rattle.imap_grammar.proofs.Cuts.{small, plain_small, plain_join, each_to, each_join, CutAt, cut_at, number_is, long_is, drop_front}
 use Rattle.imap_syntax.specs.declared.response.FetchItems.{FetchItems}
 use Rattle.imap_syntax.specs.Octets.{is_digit, is_atom, lower}
-use Rattle.imap_syntax.specs.Texts.{Each, plain_of, plain, crlf}
-use Rattle.imap_syntax.specs.Numbers.{value_from, IsLong}
-use Rattle.imap_syntax.specs.Lines.{spaced}
-use Rattle.imap_syntax.specs.Items.{IsAtom, IsName, AllNames, joined, IsNames, Item, Uid, Flags, ModSeq, Date, Size, IsItemValue, IsItem, IsMore, IsItems, add_name, kept_from, kept, told, told_from}
-
--- ---- names
-
-atom_name : (c : ℕ) → is_atom c ≡ true → in_name c ≡ true
-atom_name c e = grind arith
-
-pub atom_small : (c : ℕ) → is_atom c ≡ true → small c ≡ true
-atom_small c e = grind arith
-
-name_class : (p : ℕ → Bool) (n : List ℕ) → ((c : ℕ) → is_atom c ≡ true → p c ≡ true) → p 92 ≡ true → IsName n → Each p n
-name_class p n f s (inl a) = each_to is_atom p n f a.0
-name_class p n f s (inr a) = subst (Each p) (sym a.1) (s, each_to is_atom p a.0 f a.2.0)
-
-names_small : (ns : List (List ℕ)) → AllNames ns → Each small (spaced ns)
-names_small [] h = tt
-names_small (n ∷ ns) h = (refl, each_join small n (spaced ns) (name_class small n atom_small refl h.0) (names_small ns h.1))
-
-pub joined_small : (ns : List (List ℕ)) → AllNames ns → Each small (joined ns)
-joined_small [] h = tt
-joined_small (n ∷ ns) h = each_join small n (spaced ns) (name_class small n atom_small refl h.0) (names_small ns h.1)
-
-spaced_long : (ns : List (List ℕ)) → length ns ≤ length (spaced ns)
-spaced_long [] = omega arith
-spaced_long (n ∷ ns) = let ih = spaced_long ns in let l = length-append n (spaced ns) in omega (arith, ih, l)
-
-names_read : (ns : List (List ℕ)) (most : ℕ) (so_far : List (List ℕ)) (n rest b : List ℕ) → IsName n → AllNames ns → length ns < most → b ≡ n ++ (spaced ns ++ 41 ∷ rest) → names_in most so_far b ≡ (kept_from so_far (n ∷ ns), rest)
-unfolding names_in
-names_read ns zero so_far n rest b name all lt e = absurd (omega (arith, lt))
-names_read [] (suc most) so_far n rest b name all lt e =
-    let k = cut_at in_name n (41 ∷ rest) b e (name_class in_name n atom_name refl name) refl in
-    cond-false (get_or b (span in_name b) 0 == 32) (names_in most (add_name so_far (map lower (take (span in_name b) b))) (drop (span in_name b + 1) b)) (add_name so_far (map lower (take (span in_name b) b)), drop (span in_name b + 1) b) (ap (λ (c : ℕ). c == 32) k.octet)
-    ∙ ap (λ (u : List ℕ). (add_name so_far (map lower u), drop (span in_name b + 1) b)) k.front ∙ ap (λ (u : List ℕ). (add_name so_far (map lower n), u)) (k.past 41 rest refl)
-names_read (m ∷ ns) (suc most) so_far n rest b name all lt e =
-    let k = cut_at in_name n ((32 ∷ m ++ spaced ns) ++ 41 ∷ rest) b e (name_class in_name n atom_name refl name) refl in
-    cond-true (get_or b (span in_name b) 0 == 32) (names_in most (add_name so_far (map lower (take (span in_name b) b))) (drop (span in_name b + 1) b)) (add_name so_far (map lower (take (span in_name b) b)), drop (span in_name b + 1) b) (ap (λ (c : ℕ). c == 32) k.octet)
-    ∙ ap (λ (u : List ℕ). names_in most (add_name so_far (map lower u)) (drop (span in_name b + 1) b)) k.front
-    ∙ names_read ns most (add_name so_far (map lower n)) m rest (drop (span in_name b + 1) b) all.0 all.1 (omega (arith, lt)) (k.past 32 ((m ++ spaced ns) ++ 41 ∷ rest) refl ∙ append_assoc m (spaced ns) (41 ∷ rest))
-
-name_first : (n rest : List ℕ) → IsName n → (get_or (n ++ rest) 0 0 == 41) ≡ false
-name_first [] rest (inl a) = absurd (omega (arith, a.1))
-name_first [] rest (inr a) = let f = a.1 in absurd cc
-name_first (c ∷ n) rest (inl a) = not_bracket c a.0.0
-  where
-    not_bracket : (c : ℕ) → is_atom c ≡ true → (c == 41) ≡ false
-    not_bracket c e = grind arith
-name_first (c ∷ n) rest (inr a) = ap (λ (d : ℕ). d == 41) (cons_head c 92 n a.0 a.1)
-
-pub flags_read : (ns : List (List ℕ)) (rest b : List ℕ) → AllNames ns → b ≡ joined ns ++ 41 ∷ rest → flags_in b ≡ (kept ns, rest)
-unfolding flags_in
-flags_read [] rest b all e =
-    cond-true (get_or b 0 0 == 41) ([], drop 1 b) (names_in (length b) [] b) (ap (λ (u : List ℕ). get_or u 0 0 == 41) e)
-    ∙ ap (λ (u : List ℕ). ([], drop 1 u)) e
-flags_read (n ∷ ns) rest b all e =
-    let f : b ≡ n ++ (spaced ns ++ 41 ∷ rest) = e ∙ append_assoc n (spaced ns) (41 ∷ rest) in
-    let long = spaced_long ns in
-    let l1 = length-append n (spaced ns ++ 41 ∷ rest) in
-    let l2 = length-append (spaced ns) (41 ∷ rest) in
-    cond-false (get_or b 0 0 == 41) ([], drop 1 b) (names_in (length b) [] b) (ap (λ (u : List ℕ). get_or u 0 0 == 41) f ∙ name_first n (spaced ns ++ 41 ∷ rest) all.0)
-    ∙ names_read ns (length b) [] n rest b all.0 all.1 (omega (arith, long, l1, l2, ap length f)) f
+use Rattle.imap_syntax.specs.Texts.{Each, IsWord, plain_of, plain, crlf}
+use Rattle.imap_syntax.specs.Numbers.{value_from, IsNonZero, IsLong}
+use Rattle.imap_syntax.specs.DateTimes.{IsDateTime}
+use Rattle.imap_syntax.specs.Strings.{IsQuoted, IsCounted, IsLiteral, IsNString, quoted}
+use Rattle.imap_syntax.specs.Items.{joined, IsNames, Item, Uid, Flags, ModSeq, Date, Size, Header, Body, Other, IsItemValue, IsItem, IsMore, IsItems, header_limit, body_limit, told, told_from}
 
 -- ---- items
 
-pub digit_small : (c : ℕ) → is_digit c ≡ true → small c ≡ true
-digit_small c e = grind arith
+-- ---- names that are told
 
-abbrev flags_part : FetchItems → List ℕ → FetchItems × List ℕ
-flags_part so_far b = (record so_far { flags = Some (flags_in (drop 1 b)).0 }, (flags_in (drop 1 b)).1)
+uid_told : is_told (codes "uid") ≡ true
+unfolding is_told
+uid_told = refl
 
-abbrev date_part : FetchItems → List ℕ → FetchItems × List ℕ
-date_part so_far b = (record so_far { date = Some (date_in b) }, drop 28 b)
+flags_told : is_told (codes "flags") ≡ true
+unfolding is_told
+flags_told = refl
 
-abbrev date_or : FetchItems → List ℕ → List ℕ → FetchItems × List ℕ
-date_or so_far name b = cond (bytes_eq name (codes "internaldate")) (date_part so_far b) (flags_part so_far b)
+modseq_told : is_told (codes "modseq") ≡ true
+unfolding is_told
+modseq_told = refl
 
-abbrev size_part : FetchItems → List ℕ → FetchItems × List ℕ
-size_part so_far b = (record so_far { size = Some (long_in (take (span is_digit b) b)) }, drop (span is_digit b) b)
+date_told : is_told (codes "internaldate") ≡ true
+unfolding is_told
+date_told = refl
 
-abbrev size_or : FetchItems → List ℕ → List ℕ → FetchItems × List ℕ
-size_or so_far name b = cond (bytes_eq name (codes "rfc822.size")) (size_part so_far b) (date_or so_far name b)
+size_told : is_told (codes "rfc822.size") ≡ true
+unfolding is_told
+size_told = refl
 
-abbrev modseq_part : FetchItems → List ℕ → FetchItems × List ℕ
-modseq_part so_far b = (record so_far { modseq = Some (long_in (take (span is_digit (drop 1 b)) (drop 1 b))) }, drop (span is_digit (drop 1 b) + 1) (drop 1 b))
+header_told : (is_told (codes "body[header]") ≡ true) × (is_told (codes "body[header]<0>") ≡ true)
+unfolding is_told is_header is_body
+header_told = (refl, refl)
 
-abbrev modseq_or : FetchItems → List ℕ → List ℕ → FetchItems × List ℕ
-modseq_or so_far name b = cond (bytes_eq name (codes "modseq")) (modseq_part so_far b) (size_or so_far name b)
+body_told : (is_told (codes "body[]") ≡ true) × (is_told (codes "body[]<0>") ≡ true)
+unfolding is_told is_header is_body
+body_told = (refl, refl)
 
-abbrev uid_part : FetchItems → List ℕ → FetchItems × List ℕ
-uid_part so_far b = (record so_far { uid = Some (number_in (take (span is_digit b) b)) }, drop (span is_digit b) b)
-
--- another name
-other_name : {A : Type 0} (name is key : List ℕ) (x y : A) → name ≡ is → bytes_eq is key ≡ false → cond (bytes_eq name key) x y ≡ y
-other_name name is key x y e f = cond-false (bytes_eq name key) x y (ap (λ (u : List ℕ). bytes_eq u key) e ∙ f)
-
-this_name : {A : Type 0} (name key : List ℕ) (x y : A) → name ≡ key → cond (bytes_eq name key) x y ≡ x
-this_name name key x y e = cond-true (bytes_eq name key) x y (text_same name key e)
-
-pub long_read : (n : ℕ) (t : List ℕ) → IsLong n t → long_in t ≡ n
-long_read n t h = long_is t (omega (arith, h.value, h.most)) ∙ sym h.value
-
-value_read : (i : Item) (so_far : FetchItems) (name value back b : List ℕ) → IsItem i (name ++ 32 ∷ value) → IsItemValue i (map lower name) value → is_digit (get_or back 0 0) ≡ false → b ≡ plain value ++ back → value_in so_far (map lower name) b ≡ (told so_far i, back)
-unfolding value_in
-value_read (Uid n) so_far name value back b item h out e =
-    let v : plain value ≡ value = plain_small value (each_to is_digit small value digit_small h.1.0.digits) in
-    let k = cut_at is_digit value back b (e ∙ ap (λ (u : List ℕ). u ++ back) v) h.1.0.digits out in
-    let num : number_in (take (span is_digit b) b) ≡ n = ap number_in k.front ∙ number_is value (omega (arith, h.1.0.value, h.1.0.most)) ∙ sym h.1.0.value in
-    this_name (map lower name) (codes "uid") (uid_part so_far b) (modseq_or so_far (map lower name) b) h.0
-    ∙ ap (λ (m : ℕ). (told so_far (Uid m), drop (span is_digit b) b)) num ∙ ap (λ (u : List ℕ). (told so_far (Uid n), u)) k.back
-value_read (Flags ns) so_far name value back b item h out e =
-    let inner : plain value ≡ 40 ∷ joined ns ++ 41 ∷ [] = ap plain h.1.1 ∙ plain_small (40 ∷ joined ns ++ 41 ∷ []) (refl, each_join small (joined ns) (41 ∷ []) (joined_small ns h.1.0) (refl, tt)) in
-    let f : drop 1 b ≡ joined ns ++ 41 ∷ back = ap (drop 1) (e ∙ ap (λ (u : List ℕ). u ++ back) inner) ∙ append_assoc (joined ns) (41 ∷ []) back in
-    other_name (map lower name) (codes "flags") (codes "uid") (uid_part so_far b) (modseq_or so_far (map lower name) b) h.0 refl
-    ∙ other_name (map lower name) (codes "flags") (codes "modseq") (modseq_part so_far b) (size_or so_far (map lower name) b) h.0 refl
-    ∙ other_name (map lower name) (codes "flags") (codes "rfc822.size") (size_part so_far b) (date_or so_far (map lower name) b) h.0 refl
-    ∙ other_name (map lower name) (codes "flags") (codes "internaldate") (date_part so_far b) (flags_part so_far b) h.0 refl
-    ∙ ap (λ (r : List (List ℕ) × List ℕ). (record so_far { flags = Some r.0 }, r.1)) (flags_read ns back (drop 1 b) h.1.0 f)
-value_read (ModSeq n) so_far name value back b item h out e =
-    let digits = h.1.0 in
-    let is = h.1.2 in
-    let d = drop 1 b in
-    let inner : plain value ≡ 40 ∷ digits ++ 41 ∷ [] = ap plain h.1.1 ∙ plain_small (40 ∷ digits ++ 41 ∷ []) (refl, each_join small digits (41 ∷ []) (each_to is_digit small digits digit_small is.digits) (refl, tt)) in
-    let f : d ≡ digits ++ 41 ∷ back = ap (drop 1) (e ∙ ap (λ (u : List ℕ). u ++ back) inner) ∙ append_assoc digits (41 ∷ []) back in
-    let k = cut_at is_digit digits (41 ∷ back) d f is.digits refl in
-    other_name (map lower name) (codes "modseq") (codes "uid") (uid_part so_far b) (modseq_or so_far (map lower name) b) h.0 refl
-    ∙ this_name (map lower name) (codes "modseq") (modseq_part so_far b) (size_or so_far (map lower name) b) h.0
-    ∙ ap (λ (m : ℕ). (told so_far (ModSeq m), drop (span is_digit d + 1) d)) (ap long_in k.front ∙ long_read n digits is) ∙ ap (λ (u : List ℕ). (told so_far (ModSeq n), u)) (k.past 41 back refl)
-value_read (Date seconds) so_far name value back b item h out e =
-    let r = date_read seconds value back b h.1 e in
-    other_name (map lower name) (codes "internaldate") (codes "uid") (uid_part so_far b) (modseq_or so_far (map lower name) b) h.0 refl
-    ∙ other_name (map lower name) (codes "internaldate") (codes "modseq") (modseq_part so_far b) (size_or so_far (map lower name) b) h.0 refl
-    ∙ other_name (map lower name) (codes "internaldate") (codes "rfc822.size") (size_part so_far b) (date_or so_far (map lower name) b) h.0 refl
-    ∙ this_name (map lower name) (codes "internaldate") (date_part so_far b) (flags_part so_far b) h.0
-    ∙ ap (λ (z : ℤ). (told so_far (Date z), drop 28 b)) r.0 ∙ ap (λ (u : List ℕ). (told so_far (Date seconds), u)) r.1
-value_read (Size n) so_far name value back b item h out e =
-    let v : plain value ≡ value = plain_small value (each_to is_digit small value digit_small h.1.digits) in
-    let k = cut_at is_digit value back b (e ∙ ap (λ (u : List ℕ). u ++ back) v) h.1.digits out in
-    other_name (map lower name) (codes "rfc822.size") (codes "uid") (uid_part so_far b) (modseq_or so_far (map lower name) b) h.0 refl
-    ∙ other_name (map lower name) (codes "rfc822.size") (codes "modseq") (modseq_part so_far b) (size_or so_far (map lower name) b) h.0 refl
-    ∙ this_name (map lower name) (codes "rfc822.size") (size_part so_far b) (date_or so_far (map lower name) b) h.0
-    ∙ ap (λ (m : ℕ). (told so_far (Size m), drop (span is_digit b) b)) (ap long_in k.front ∙ long_read n value h.1) ∙ ap (λ (u : List ℕ). (told so_far (Size n), u)) k.back
-
-item_read : (i : Item) (so_far : FetchItems) (t back b : List ℕ) → IsItem i t → is_digit (get_or back 0 0) ≡ false → b ≡ plain t ++ back → item_in so_far b ≡ (told so_far i, back)
+-- an item whose name is a key
+known_read : (i : Item) (so_far : FetchItems) (k : Key) (name value t back b : List ℕ) → map lower name ≡ key_text k → is_told (key_text k) ≡ true → value_in so_far (key_text k) (plain value ++ back) ≡ (told so_far i, back) → t ≡ name ++ 32 ∷ value → b ≡ plain t ++ back → item_in so_far b ≡ (told so_far i, back)
 unfolding item_in
-item_read i so_far t back b h out e =
-    let s = each_to is_atom small h.name atom_small h.atom in
-    let cut : b ≡ h.name ++ (32 ∷ (plain h.value ++ back)) = e ∙ ap (λ (u : List ℕ). u ++ back) (ap plain h.whole ∙ plain_join h.name (32 ∷ h.value) s) ∙ append_assoc h.name (32 ∷ plain h.value) back in
-    let k = cut_at in_name h.name (32 ∷ (plain h.value ++ back)) b cut (each_to is_atom in_name h.name atom_name h.atom) refl in
-    ap (λ (u : List ℕ). value_in so_far (map lower u) (drop (span in_name b + 1) b)) k.front
-    ∙ value_read i so_far h.name h.value back (drop (span in_name b + 1) b) (subst (IsItem i) h.whole h) h.item out (k.past 32 (plain h.value ++ back) refl)
+known_read i so_far k name value t back b is told_key read whole e =
+    let atoms = named_atoms k name is in
+    let s = each_to is_atom small name atom_small atoms in
+    let cut : b ≡ name ++ (32 ∷ (plain value ++ back)) = e ∙ ap (λ (u : List ℕ). u ++ back) (ap plain whole ∙ plain_join name (32 ∷ value) s) ∙ append_assoc name (32 ∷ plain value) back in
+    let c = cut_at is_atom name (32 ∷ (plain value ++ back)) b cut atoms refl in
+    let n = span is_atom b in
+    let word : map lower (take n b) ≡ key_text k = ap (map lower) c.front ∙ is in
+    cond-true (is_told (map lower (take n b))) (value_in so_far (map lower (take n b)) (drop (n + 1) b)) (so_far, drop (passed b (item_start ∷ [])) b) (ap is_told word ∙ told_key)
+    ∙ ap (λ (u : List ℕ). value_in so_far u (drop (n + 1) b)) word ∙ ap (value_in so_far (key_text k)) (c.past 32 (plain value ++ back) refl) ∙ read
+
+-- ---- values
+
+no_digit : (back : List ℕ) → stops (get_or back 0 0) ≡ true → is_digit (get_or back 0 0) ≡ false
+no_digit back e = stop_no_digit (get_or back 0 0) e
+
+uid_read : (n : ℕ) (so_far : FetchItems) (value back : List ℕ) → IsNonZero n value → stops (get_or back 0 0) ≡ true → value_in so_far (codes "uid") (plain value ++ back) ≡ (told so_far (Uid n), back)
+unfolding value_in
+uid_read n so_far value back h out =
+    let b = plain value ++ back in
+    let v : plain value ≡ value = plain_small value (each_to is_digit small value digit_small h.0.digits) in
+    let k = cut_at is_digit value back b (ap (λ (u : List ℕ). u ++ back) v) h.0.digits (no_digit back out) in
+    let num : number_in (take (span is_digit b) b) ≡ n = ap number_in k.front ∙ number_is value (omega (arith, h.0.value, h.0.most)) ∙ sym h.0.value in
+    ap (λ (m : ℕ). (told so_far (Uid m), drop (span is_digit b) b)) num ∙ ap (λ (u : List ℕ). (told so_far (Uid n), u)) k.back
+
+size_read : (n : ℕ) (so_far : FetchItems) (value back : List ℕ) → IsLong n value → stops (get_or back 0 0) ≡ true → value_in so_far (codes "rfc822.size") (plain value ++ back) ≡ (told so_far (Size n), back)
+unfolding value_in
+size_read n so_far value back h out =
+    let b = plain value ++ back in
+    let v : plain value ≡ value = plain_small value (each_to is_digit small value digit_small h.digits) in
+    let k = cut_at is_digit value back b (ap (λ (u : List ℕ). u ++ back) v) h.digits (no_digit back out) in
+    ap (λ (m : ℕ). (told so_far (Size m), drop (span is_digit b) b)) (ap long_in k.front ∙ long_read n value h) ∙ ap (λ (u : List ℕ). (told so_far (Size n), u)) k.back
+
+modseq_read : (n : ℕ) (so_far : FetchItems) (value back digits : List ℕ) → value ≡ 40 ∷ digits ++ 41 ∷ [] → IsLong n digits → value_in so_far (codes "modseq") (plain value ++ back) ≡ (told so_far (ModSeq n), back)
+unfolding value_in
+modseq_read n so_far value back digits e is =
+    let d = drop 1 (plain value ++ back) in
+    let inner : plain value ≡ 40 ∷ digits ++ 41 ∷ [] = ap plain e ∙ plain_small (40 ∷ digits ++ 41 ∷ []) (refl, each_join small digits (41 ∷ []) (each_to is_digit small digits digit_small is.digits) (refl, tt)) in
+    let f : d ≡ digits ++ 41 ∷ back = ap (λ (u : List ℕ). drop 1 (u ++ back)) inner ∙ append_assoc digits (41 ∷ []) back in
+    let k = cut_at is_digit digits (41 ∷ back) d f is.digits refl in
+    ap (λ (m : ℕ). (told so_far (ModSeq m), drop (span is_digit d + 1) d)) (ap long_in k.front ∙ long_read n digits is) ∙ ap (λ (u : List ℕ). (told so_far (ModSeq n), u)) (k.past 41 back refl)
+
+told_date : (seconds : ℤ) (so_far : FetchItems) (value back : List ℕ) → IsDateTime seconds value → value_in so_far (codes "internaldate") (plain value ++ back) ≡ (told so_far (Date seconds), back)
+unfolding value_in
+told_date seconds so_far value back h =
+    let b = plain value ++ back in
+    let r = date_read seconds value back b h refl in
+    ap (λ (z : ℤ). (told so_far (Date z), drop 28 b)) r.0 ∙ ap (λ (u : List ℕ). (told so_far (Date seconds), u)) r.1
+
+told_flags : (ns : List (List ℕ)) (so_far : FetchItems) (value back : List ℕ) → IsNames ns value → value_in so_far (codes "flags") (plain value ++ back) ≡ (told so_far (Flags ns), back)
+unfolding value_in text_in is_header is_body
+told_flags ns so_far value back h =
+    let inner : plain value ≡ 40 ∷ joined ns ++ 41 ∷ [] = ap plain h.1 ∙ plain_small (40 ∷ joined ns ++ 41 ∷ []) (refl, each_join small (joined ns) (41 ∷ []) (joined_small ns h.0) (refl, tt)) in
+    let f : drop 1 (plain value ++ back) ≡ joined ns ++ 41 ∷ back = ap (λ (u : List ℕ). drop 1 (u ++ back)) inner ∙ append_assoc (joined ns) (41 ∷ []) back in
+    ap (λ (r : List (List ℕ) × List ℕ). (record so_far { flags = Some r.0 }, r.1)) (flags_read ns back (drop 1 (plain value ++ back)) h.0 f)
+
+-- ---- strings
+
+string_first : (s x y : List ℕ) → IsQuoted s x ⊎ IsLiteral s x → (lower (get_or (plain x ++ y) 0 0) == 110) ≡ false
+string_first s x y (inl q) = ap (λ (u : List ℕ). lower (get_or (plain u ++ y) 0 0) == 110) q.1
+string_first s x y (inr (inl k)) = ap (λ (u : List ℕ). lower (get_or (plain u ++ y) 0 0) == 110) k.whole
+string_first s x y (inr (inr l)) = ap (λ (u : List ℕ). lower (get_or (plain u ++ y) 0 0) == 110) l.1
+
+stop_ends : (c : ℕ) → stops c ≡ true → (is_atom c ≡ false) × ((c == 123) ≡ false)
+stop_ends c e = (grind arith, grind arith)
+
+nil_letter : (c d : ℕ) → lower c ≡ d → nat_lt d 256 ≡ true → small c ≡ true
+nil_letter c d e f = of_lower c (ap small e ∙ f)
+  where
+    of_lower : (c : ℕ) → small (lower c) ≡ true → small c ≡ true
+    of_lower c e = grind arith
+
+nil_read : (x y : List ℕ) → map lower x ≡ codes "nil" → nstring_in (plain x ++ y) ≡ ([], y)
+unfolding nstring_in
+nil_read (a ∷ b ∷ c ∷ []) y e =
+    let f = cons_tail (lower a) 110 (lower b ∷ lower c ∷ []) (105 ∷ 108 ∷ []) e in
+    let g = cons_tail (lower b) 105 (lower c ∷ []) (108 ∷ []) f in
+    let first : lower a ≡ 110 = cons_head (lower a) 110 (lower b ∷ lower c ∷ []) (105 ∷ 108 ∷ []) e in
+    let second : lower b ≡ 105 = cons_head (lower b) 105 (lower c ∷ []) (108 ∷ []) f in
+    let third : lower c ≡ 108 = cons_head (lower c) 108 [] [] g in
+    let is : plain (a ∷ b ∷ c ∷ []) ≡ a ∷ b ∷ c ∷ [] = plain_small (a ∷ b ∷ c ∷ []) (nil_letter a 110 first refl, (nil_letter b 105 second refl, (nil_letter c 108 third refl, tt))) in
+    ap (λ (u : List ℕ). nstring_in (u ++ y)) is
+    ∙ cond-true (lower a == 110) ([], y) (astring_in (a ∷ b ∷ c ∷ y)) (ap (λ (n : ℕ). n == 110) first)
+nil_read _ y e = absurd (let l = ap length e in omega (arith, l))
+
+string_read : (s x y : List ℕ) → IsNString s x → stops (get_or y 0 0) ≡ true → nstring_in (plain x ++ y) ≡ (s, y)
+unfolding nstring_in
+string_read s x y (inl n) out = nil_read x y n.1 ∙ ap (λ (u : List ℕ). (u, y)) (sym n.0)
+string_read s x y (inr q) out =
+    let b = plain x ++ y in
+    cond-false (lower (get_or b 0 0) == 110) ([], drop 3 b) (astring_in b) (string_first s x y q) ∙ astring_read s x y b (inr q) (stop_ends (get_or y 0 0) out) refl
+
+-- a header, under either name
+header_read : (s : List ℕ) (so_far : FetchItems) (value back : List ℕ) → IsNString s value → stops (get_or back 0 0) ≡ true → (value_in so_far (codes "body[header]") (plain value ++ back) ≡ (told so_far (Header s), back)) × (value_in so_far (codes "body[header]<0>") (plain value ++ back) ≡ (told so_far (Header s), back))
+unfolding value_in text_in is_header is_body
+header_read s so_far value back h out =
+    let r = ap (λ (q : List ℕ × List ℕ). (record so_far { header = Some (take header_limit q.0) }, q.1)) (string_read s value back h out) in (r, r)
+
+body_read : (s : List ℕ) (so_far : FetchItems) (value back : List ℕ) → IsNString s value → stops (get_or back 0 0) ≡ true → (value_in so_far (codes "body[]") (plain value ++ back) ≡ (told so_far (Body s), back)) × (value_in so_far (codes "body[]<0>") (plain value ++ back) ≡ (told so_far (Body s), back))
+unfolding value_in text_in is_header is_body
+body_read s so_far value back h out =
+    let r = ap (λ (q : List ℕ × List ℕ). (record so_far { body = Some (take body_limit q.0) }, q.1)) (string_read s value back h out) in (r, r)
+
+-- ---- other items
+
+either : {P : Type 0} (a b : Bool) → (a || b) ≡ true → (a ≡ true → P) → (b ≡ true → P) → P
+either a b e f g = elim (or_cases a b e) [ inl x ↦ f x | inr y ↦ g y ]
+
+-- a told name is a key
+told_key : {P : Type 0} (w : List ℕ) → is_told w ≡ true → ((k : Key) → Among k (keys place.Item) → w ≡ key_text k → P) → P
+unfolding is_told is_header is_body
+told_key w e f =
+    let is : List ℕ → Bool = bytes_eq w in
+    either (is (codes "uid") || is (codes "modseq") || is (codes "rfc822.size") || is (codes "internaldate") || is (codes "flags") || is_header w) (is_body w) e
+    (λ a. either (is (codes "uid") || is (codes "modseq") || is (codes "rfc822.size") || is (codes "internaldate") || is (codes "flags")) (is_header w) a
+    (λ b. either (is (codes "uid") || is (codes "modseq") || is (codes "rfc822.size") || is (codes "internaldate")) (is (codes "flags")) b
+    (λ c. either (is (codes "uid") || is (codes "modseq") || is (codes "rfc822.size")) (is (codes "internaldate")) c
+    (λ d. either (is (codes "uid") || is (codes "modseq")) (is (codes "rfc822.size")) d
+    (λ g. either (is (codes "uid")) (is (codes "modseq")) g
+    (λ h. f key.Uid (inl refl) (same_text w (codes "uid") h))
+    (λ h. f key.ModSeq (inr (inr (inl refl))) (same_text w (codes "modseq") h)))
+    (λ g. f key.Size (inr (inr (inr (inr (inl refl))))) (same_text w (codes "rfc822.size") g)))
+    (λ d. f key.InternalDate (inr (inr (inr (inl refl)))) (same_text w (codes "internaldate") d)))
+    (λ c. f key.Flags (inr (inl refl)) (same_text w (codes "flags") c)))
+    (λ b. either (is (codes "body[header]")) (is (codes "body[header]<0>")) b
+    (λ c. f key.Header (inr (inr (inr (inr (inr (inl refl)))))) (same_text w (codes "body[header]") c))
+    (λ c. f key.HeaderPart (inr (inr (inr (inr (inr (inr (inl refl))))))) (same_text w (codes "body[header]<0>") c))))
+    (λ a. either (is (codes "body[]")) (is (codes "body[]<0>")) a
+    (λ b. f key.Body (inr (inr (inr (inr (inr (inr (inr (inl refl)))))))) (same_text w (codes "body[]") b))
+    (λ b. f key.BodyPart (inr (inr (inr (inr (inr (inr (inr (inr (inl refl))))))))) (same_text w (codes "body[]<0>") b)))
+
+tail_head : (tail back : List ℕ) → nat_lt (get_or tail 0 0) 256 ≡ true → 0 < length tail → is_atom (get_or tail 0 0) ≡ false → is_atom (get_or (plain tail ++ back) 0 0) ≡ false
+tail_head [] back s lt o = absurd (omega (arith, lt))
+tail_head (c ∷ t) back s lt o = ap is_atom (cond-true (nat_lt c 256) c (c - 256) s) ∙ o
+
+other_read : (so_far : FetchItems) (t back b : List ℕ) → IsItem Other t → stops (get_or back 0 0) ≡ true → b ≡ plain t ++ back → item_in so_far b ≡ (so_far, back)
+unfolding item_in
+other_read so_far t back b h out e =
+    let o = other_word t h in
+    let s = each_to is_atom small o.word atom_small o.each in
+    let cut : b ≡ o.word ++ (plain o.tail ++ back) = e ∙ ap (λ (u : List ℕ). u ++ back) (ap plain o.whole ∙ plain_join o.word o.tail s) ∙ append_assoc o.word (plain o.tail) back in
+    let c = cut_at is_atom o.word (plain o.tail ++ back) b cut o.each (tail_head o.tail back o.small o.goes_on o.longest) in
+    let n = span is_atom b in
+    let no : is_told (map lower (take n b)) ≡ false = false_from_ne_true (is_told (map lower (take n b))) (λ q. told_key (map lower (take n b)) q (λ k m w. o.no_key k m (sym (ap (map lower) c.front) ∙ w))) in
+    let count : passed b (item_start ∷ []) ≡ length (plain t) = item_passed t back b (item_to Other t h) out e ∙ sym (plain_length t) in
+    cond-false (is_told (map lower (take n b))) (value_in so_far (map lower (take n b)) (drop (n + 1) b)) (so_far, drop (passed b (item_start ∷ [])) b) no
+    ∙ ap (λ (m : ℕ). (so_far, drop m b)) count ∙ ap (λ (u : List ℕ). (so_far, drop (length (plain t)) u)) e ∙ ap (λ (u : List ℕ). (so_far, u)) (drop_front (plain t) back)
+
+-- ---- the item at the front
+
+item_read : (i : Item) (so_far : FetchItems) (t back b : List ℕ) → IsItem i t → stops (get_or back 0 0) ≡ true → b ≡ plain t ++ back → item_in so_far b ≡ (told so_far i, back)
+item_read (Uid n) so_far t back b h out e = known_read (Uid n) so_far key.Uid h.name h.value t back b h.item.0 uid_told (uid_read n so_far h.value back h.item.1 out) h.whole e
+item_read (Flags ns) so_far t back b h out e = known_read (Flags ns) so_far key.Flags h.name h.value t back b h.item.0 flags_told (told_flags ns so_far h.value back h.item.1) h.whole e
+item_read (ModSeq n) so_far t back b h out e = known_read (ModSeq n) so_far key.ModSeq h.name h.value t back b h.item.0 modseq_told (modseq_read n so_far h.value back h.item.1.0 h.item.1.1 h.item.1.2) h.whole e
+item_read (Date s) so_far t back b h out e = known_read (Date s) so_far key.InternalDate h.name h.value t back b h.item.0 date_told (told_date s so_far h.value back h.item.1) h.whole e
+item_read (Size n) so_far t back b h out e = known_read (Size n) so_far key.Size h.name h.value t back b h.item.0 size_told (size_read n so_far h.value back h.item.1 out) h.whole e
+item_read (Header s) so_far t back b h out e =
+    let r = header_read s so_far h.value back h.item.1 out in
+    elim h.item.0 [
+      | inl n ↦ known_read (Header s) so_far key.Header h.name h.value t back b n header_told.0 r.0 h.whole e
+      | inr n ↦ known_read (Header s) so_far key.HeaderPart h.name h.value t back b n header_told.1 r.1 h.whole e
+    ]
+item_read (Body s) so_far t back b h out e =
+    let r = body_read s so_far h.value back h.item.1 out in
+    elim h.item.0 [
+      | inl n ↦ known_read (Body s) so_far key.Body h.name h.value t back b n body_told.0 r.0 h.whole e
+      | inr n ↦ known_read (Body s) so_far key.BodyPart h.name h.value t back b n body_told.1 r.1 h.whole e
+    ]
+item_read Other so_far t back b h out e = other_read so_far t back b h out e
 
 -- ---- one item more
 
@@ -181,9 +253,9 @@ unfolding items_in
 items_last zero so_far b lt e = absurd (omega (arith, lt))
 items_last (suc left) so_far b lt e = let r = item_in so_far b in cond-false (get_or r.1 0 0 == 32) (items_in left r.0 (drop 1 r.1)) r.0 e
 
-more_head : (is : List Item) (y : List ℕ) → IsMore is y → is_digit (get_or (plain y) 0 0) ≡ false
-more_head [] y h = ap (λ (u : List ℕ). is_digit (get_or (plain u) 0 0)) h
-more_head (i ∷ is) y h = ap (λ (u : List ℕ). is_digit (get_or (plain u) 0 0)) h.2
+more_head : (is : List Item) (y : List ℕ) → IsMore is y → stops (get_or (plain y) 0 0) ≡ true
+more_head [] y h = ap (λ (u : List ℕ). stops (get_or (plain u) 0 0)) h
+more_head (i ∷ is) y h = ap (λ (u : List ℕ). stops (get_or (plain u) 0 0)) h.2
 
 more_long : (is : List Item) (y : List ℕ) → IsMore is y → length is < length y
 more_long [] y h = let l = ap length h in omega (arith, l)
@@ -206,10 +278,6 @@ items_read (j ∷ is) (suc most) so_far i x y b h m lt e =
     ap (λ (q : FetchItems × List ℕ). cond (get_or q.1 0 0 == 32) (items_in most q.0 (drop 1 q.1)) q.0) r
     ∙ cond-true (get_or (plain y) 0 0 == 32) (items_in most (told so_far i) (drop 1 (plain y))) (told so_far i) (ap (λ (u : List ℕ). get_or (plain u) 0 0 == 32) m.2)
     ∙ items_read is most (told so_far i) j m.0 m.1 (drop 1 (plain y)) m.3 m.4 (omega (arith, lt)) (ap (λ (u : List ℕ). drop 1 (plain u)) m.2 ∙ map-append plain_of m.0 m.1)
-
-pub plain_length : (t : List ℕ) → length (plain t) ≡ length t
-plain_length [] = refl
-plain_length (c ∷ t) = ap (λ (n : ℕ). suc n) (plain_length t)
 
 -- items up to the line's end, with the octets' number to bound them
 pub all_items_read : (is : List Item) (so_far : FetchItems) (t : List ℕ) (most : ℕ) → IsItems is t → length t ≤ most → items_in most so_far (plain t) ≡ told_from so_far is

@@ -5,9 +5,11 @@ pub mod FlagLemmas
 pub mod StringLemmas
 pub mod Cuts
 pub mod DateReadings
-pub mod ItemReadings
 pub mod SetReadings
+pub mod NameReadings
 pub mod StringReadings
+pub mod PassingReadings
+pub mod ItemReadings
 pub mod FolderReadings
 pub mod Readings
 pub mod Spellings

@@ -7,7 +7,7 @@ use Rattle.imap_automaton.proofs.StringEdges.{special_text, no_special}
 use Rattle.imap_grammar.specs.Spans.{span, number_in}
 use Rattle.imap_grammar.specs.StringReading.{unquoted, literal_in, atom_in, astring_in}
 use Rattle.imap_grammar.proofs.Cuts.{small, plain_small, plain_join, each_to, each_join, CutAt, cut_at, take_front, drop_front, number_is}
-use Rattle.imap_grammar.proofs.ItemReadings.{atom_small, digit_small, plain_length}
+use Rattle.imap_grammar.proofs.NameReadings.{atom_small, digit_small, plain_length}
 use Rattle.imap_syntax.specs.Octets.{is_digit, is_text, is_atom}
 use Rattle.imap_syntax.specs.Texts.{Each, plain_of, plain}
 use Rattle.imap_syntax.specs.Numbers.{value_from}

@@ -1,9 +1,11 @@
 pub mod Scan
 pub mod Fed
-pub mod DateReading
 pub mod Spans
 pub mod StringReading
 pub mod FolderReading
+pub mod DateReading
+pub mod Passing
+pub mod ItemReading
 pub mod Codes
 pub mod Reading
 pub mod Written

@@ -13,7 +13,7 @@ use Rattle.imap_syntax.specs.Octets.{is_digit, is_word, lower}
 use Rattle.imap_syntax.specs.UidSets.{range_of}
 use Rattle.imap_syntax.specs.Items.{add_name, no_items}
 use Rattle.imap_syntax.specs.ReadCodes.{code_in}
-use Rattle.imap_grammar.specs.DateReading.{date_in}
+unfoldable pub use Rattle.imap_grammar.specs.ItemReading.{value_in, item_in, items_in}
 
 -- ---- words
 
@@ -49,31 +49,6 @@ vanished_in b =
     if get_or b 0 0 == 40
     then Vanished true (record { ranges = ranges_in (length b) (drop 10 b) })
     else Vanished false (record { ranges = ranges_in (length b) b })
-
--- ---- items
-
--- an item's value by its name
-unfoldable pub value_in : FetchItems → List ℕ → List ℕ → FetchItems × List ℕ
-value_in so_far name b =
-    if bytes_eq name (codes "uid")
-    then (let n = span is_digit b in (record so_far { uid = Some (number_in (take n b)) }, drop n b))
-    else if bytes_eq name (codes "modseq")
-    then (let d = drop 1 b in (record so_far { modseq = Some (long_in (take (span is_digit d) d)) }, drop (span is_digit d + 1) d))
-    else if bytes_eq name (codes "rfc822.size")
-    then (let n = span is_digit b in (record so_far { size = Some (long_in (take n b)) }, drop n b))
-    else if bytes_eq name (codes "internaldate")
-    then (record so_far { date = Some (date_in b) }, drop 28 b)
-    else (let f = flags_in (drop 1 b) in (record so_far { flags = Some f.0 }, f.1))
-
-unfoldable pub item_in : FetchItems → List ℕ → FetchItems × List ℕ
-item_in so_far b = let n = span in_name b in value_in so_far (map lower (take n b)) (drop (n + 1) b)
-
--- at most so many items, each but the first behind a space
-unfoldable pub items_in : ℕ → FetchItems → List ℕ → FetchItems
-items_in zero so_far b = so_far
-items_in (suc most) so_far b =
-    let r = item_in so_far b in
-    if get_or r.1 0 0 == 32 then items_in most r.0 (drop 1 r.1) else r.0
 
 -- ---- lines
 

@@ -7,17 +7,14 @@ ghost use Rattle.imap_syntax.specs.declared.response.Response.{Response};
 ghost use Rattle.imap_grammar.specs.Reading as reading;
 
 use crate::codes::code_in;
-use crate::date_times::date_in;
 use crate::flags::flags_in;
 use crate::folders;
 use crate::folders::list_in;
-use crate::octets::{
-    before, behind, digits_len, is_key, is_sequence, long_of, name_len, number_of, octet_at,
-    word_len,
-};
+use crate::items::items_in;
+use crate::octets::{before, behind, is_key, is_sequence, name_len, number_of, octet_at, word_len};
 use crate::sets::{vanished_in, words_in};
 use gate_world::{Bytes, Names};
-use imap_syntax::{FetchItems, Response, Status};
+use imap_syntax::{Response, Status};
 use std::alloc::{AllocError, Global};
 
 /// The status that a word names.
@@ -54,179 +51,6 @@ fn begins_with(bytes: &[u8], key: &[u8]) -> bool
     ensures { result ≡ bytes_eq (reading.word_in bytes.now) key.now }
 {
     is_key(before(bytes, word_len(bytes)), key)
-}
-
-fn with_uid(items: FetchItems, uid: u32) -> FetchItems
-    ensures { result ≡ record items { uid = Some uid } }
-{
-    let FetchItems {
-        uid: _,
-        flags,
-        modseq,
-        date,
-        size,
-    } = items;
-    FetchItems {
-        uid: Some(uid),
-        flags,
-        modseq,
-        date,
-        size,
-    }
-}
-
-fn with_flags(items: FetchItems, flags: Names) -> FetchItems
-    ensures { result ≡ record items { flags = Some flags } }
-{
-    let FetchItems {
-        uid,
-        flags: _,
-        modseq,
-        date,
-        size,
-    } = items;
-    FetchItems {
-        uid,
-        flags: Some(flags),
-        modseq,
-        date,
-        size,
-    }
-}
-
-fn with_modseq(items: FetchItems, modseq: u64) -> FetchItems
-    ensures { result ≡ record items { modseq = Some modseq } }
-{
-    let FetchItems {
-        uid,
-        flags,
-        modseq: _,
-        date,
-        size,
-    } = items;
-    FetchItems {
-        uid,
-        flags,
-        modseq: Some(modseq),
-        date,
-        size,
-    }
-}
-
-fn with_date(items: FetchItems, date: i64) -> FetchItems
-    ensures { result ≡ record items { date = Some date } }
-{
-    let FetchItems {
-        uid,
-        flags,
-        modseq,
-        date: _,
-        size,
-    } = items;
-    FetchItems {
-        uid,
-        flags,
-        modseq,
-        date: Some(date),
-        size,
-    }
-}
-
-fn with_size(items: FetchItems, size: u64) -> FetchItems
-    ensures { result ≡ record items { size = Some size } }
-{
-    let FetchItems {
-        uid,
-        flags,
-        modseq,
-        date,
-        size: _,
-    } = items;
-    FetchItems {
-        uid,
-        flags,
-        modseq,
-        date,
-        size: Some(size),
-    }
-}
-
-/// The value of an item of this name, and what follows it.
-#[tactic(auto, unfolding(crate::specs::Reading::value_in))]
-fn value_in<'a>(
-    alloc: Global,
-    so_far: FetchItems,
-    name: &[u8],
-    value: &'a [u8],
-) -> Result<(FetchItems, &'a [u8]), AllocError>
-    ensures items { IfOk result (λ r. r.0 ≡ (reading.value_in so_far (map classes.lower name.now) value.now).0) }
-    ensures rest { IfOk result (λ r. r.1.now ≡ (reading.value_in so_far (map classes.lower name.now) value.now).1) }
-{
-    if is_key(name, b"uid") {
-        let n = digits_len(value);
-        Ok((
-            with_uid(so_far, number_of(before(value, n))),
-            behind(value, n),
-        ))
-    } else if is_key(name, b"modseq") {
-        let digits = behind(value, 1);
-        let n = digits_len(digits);
-        Ok((
-            with_modseq(so_far, long_of(before(digits, n))),
-            behind(digits, n + 1),
-        ))
-    } else if is_key(name, b"rfc822.size") {
-        let n = digits_len(value);
-        Ok((
-            with_size(so_far, long_of(before(value, n))),
-            behind(value, n),
-        ))
-    } else if is_key(name, b"internaldate") {
-        Ok((with_date(so_far, date_in(value)), behind(value, 28)))
-    } else {
-        let (flags, rest) = flags_in(alloc, behind(value, 1))?;
-        Ok((with_flags(so_far, flags), rest))
-    }
-}
-
-/// The item at the front, and what follows it.
-#[tactic(auto, unfolding(crate::specs::Reading::item_in))]
-fn item_in(
-    alloc: Global,
-    so_far: FetchItems,
-    bytes: &[u8],
-) -> Result<(FetchItems, &[u8]), AllocError>
-    ensures items { IfOk result (λ r. r.0 ≡ (reading.item_in so_far bytes.now).0) }
-    ensures rest { IfOk result (λ r. r.1.now ≡ (reading.item_in so_far bytes.now).1) }
-{
-    let n = name_len(bytes);
-    value_in(alloc, so_far, before(bytes, n), behind(bytes, n + 1))
-}
-
-/// The items, up to the closing bracket.
-#[tactic(auto, unfolding(crate::specs::Reading::items_in))]
-fn items_in(alloc: Global, bytes: &[u8], most: usize) -> Result<FetchItems, AllocError>
-    ensures { IfOk result (λ items. items ≡ reading.items_in most no_items bytes.now) }
-{
-    let mut items = FetchItems {
-        uid: None,
-        flags: None,
-        modseq: None,
-        date: None,
-        size: None,
-    };
-    let mut rest = bytes;
-    let mut left = most;
-    while 0 < left {
-        let (next, after) = item_in(alloc, items, rest)?;
-        items = next;
-        if octet_at(after, 0) != b' ' {
-            return Ok(items);
-        }
-        rest = behind(after, 1);
-        left -= 1;
-    }
-    Ok(items)
 }
 
 /// What stands behind `* `, a number and a space.

@@ -16,6 +16,9 @@ mod flags;
 mod folder_tests;
 mod folders;
 #[cfg(test)]
+mod item_tests;
+mod items;
+#[cfg(test)]
 mod limit_tests;
 mod octets;
 #[cfg(test)]

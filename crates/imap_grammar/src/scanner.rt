@@ -22,7 +22,7 @@ fn cost_of(inside: bool) -> u32
 }
 
 /// The octet, 256 above itself within a literal.
-fn marked_by(inside: bool, octet: u8) -> u16
+pub fn marked_by(inside: bool, octet: u8) -> u16
     ensures { result ≡ (if inside then octet + 256 else octet) }
 {
     if inside {

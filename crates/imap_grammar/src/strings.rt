@@ -16,7 +16,7 @@ fn is_atom(c: u8) -> bool
 
 /// How many octets of an atom stand at the front.
 #[tactic(auto, using(crate::proofs::SpanLemmas::spans))]
-fn atom_len(bytes: &[u8]) -> usize
+pub fn atom_len(bytes: &[u8]) -> usize
     ensures count { result ≡ spans.span classes.is_atom bytes.now }
     ensures most { result ≤ length bytes.now }
 {
@@ -29,7 +29,7 @@ fn atom_len(bytes: &[u8]) -> usize
 }
 
 /// The text of a quoted one from behind its opening quote on, and what follows the closing one.
-fn unquoted(alloc: Global, bytes: &[u8]) -> Result<(Vec<u8>, &[u8]), AllocError>
+pub fn unquoted(alloc: Global, bytes: &[u8]) -> Result<(Vec<u8>, &[u8]), AllocError>
     ensures text { IfOk result (λ r. r.0.items ≡ (reading.unquoted false bytes.now).0) }
     ensures rest { IfOk result (λ r. r.1.now ≡ (reading.unquoted false bytes.now).1) }
 {
@@ -52,7 +52,7 @@ fn unquoted(alloc: Global, bytes: &[u8]) -> Result<(Vec<u8>, &[u8]), AllocError>
 
 /// The octets of a literal from behind its opening brace on, and what follows them.
 #[tactic(auto, unfolding(crate::specs::StringReading::literal_in))]
-fn literal_in(bytes: &[u8]) -> (&[u8], &[u8])
+pub fn literal_in(bytes: &[u8]) -> (&[u8], &[u8])
     ensures octets { result.0.now ≡ (reading.literal_in bytes.now).0 }
     ensures rest { result.1.now ≡ (reading.literal_in bytes.now).1 }
 {
@@ -63,7 +63,7 @@ fn literal_in(bytes: &[u8]) -> (&[u8], &[u8])
 }
 
 #[tactic(auto, unfolding(crate::specs::StringReading::atom_in))]
-fn atom_in(bytes: &[u8]) -> (&[u8], &[u8])
+pub fn atom_in(bytes: &[u8]) -> (&[u8], &[u8])
     ensures atom { result.0.now ≡ (reading.atom_in bytes.now).0 }
     ensures rest { result.1.now ≡ (reading.atom_in bytes.now).1 }
 {

@@ -7,6 +7,7 @@ pub mod ReadCodes
 pub mod Lines
 pub mod Strings
 pub mod Values
+pub mod ItemNames
 pub mod Dates
 pub mod DateTimes
 pub mod Items

@@ -25,6 +25,10 @@ pub struct FetchItems {
     pub date: Option<i64>,
     /// Octets of the whole message.
     pub size: Option<u64>,
+    /// The first 32,768 octets of the message's header.
+    pub header: Option<Bytes>,
+    /// The first 50,000,000 octets of the message.
+    pub body: Option<Bytes>,
 }
 
 /// The items of a STATUS response, of each the last one told.

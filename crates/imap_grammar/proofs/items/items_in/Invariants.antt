@@ -1,7 +1,7 @@
 use Rattle.std.proofs.Common.{◌≡◌}
 use Rattle.imap_syntax.specs.Items.{no_items}
-use Rattle.imap_grammar.specs.Reading as reading
-use Rattle.imap_grammar.proofs.decoder.items_in.Given as goal
+use Rattle.imap_grammar.specs.ItemReading as reading
+use Rattle.imap_grammar.proofs.items.items_in.Given as goal
 
 abbrev pub invariant-loop-left : goal.invariant-loop-left
 invariant-loop-left l = reading.items_in l.left l.items l.rest ≡ reading.items_in l.fn.most no_items l.fn.bytes

@@ -1,0 +1,152 @@
+// Items of a FETCH: where they end, and what they tell.
+use crate::answer::Scan;
+use crate::decoder::decode;
+use crate::scan_tests::fed;
+use crate::scanner::scan;
+use gate_world::Bytes;
+use imap_syntax::{FetchItems, Response};
+use std::alloc::{AllocError, Global};
+use std::test::Fail;
+
+/// Whole responses.
+const WHOLE: [&[u8]; 12] = [
+    b"* 1 FETCH (BODY[HEADER] {4}\r\na\r\n) UID 7)\r\n",
+    b"* 1 FETCH (body[header]<0> NIL)\r\n",
+    b"* 1 FETCH (BODY[] \"a\\\"b\")\r\n",
+    b"* 1 FETCH (Body[]<0> ~{2}\r\n\x00\xff)\r\n",
+    b"* 1 FETCH (UIDX 1)\r\n",
+    b"* 1 FETCH (X[A (B) UID 7 C] 5)\r\n",
+    b"* 1 FETCH (BODY[HEADER.FIELDS (\"a]b\" SUBJECT)]<12> NIL UID 7)\r\n",
+    b"* 1 FETCH (BODY[1.2.MIME] \"x\" ENVELOPE (NIL () ((NIL \"a\" {1}\r\n)))) UID 7)\r\n",
+    b"* 1 FETCH ([] a UID 7)\r\n",
+    b"* 1 FETCH (X] ~ UID 7)\r\n",
+    b"* 1 FETCH (BODY[HEADER]<1> \"\" BODY[]<00> x)\r\n",
+    b"* 1 FETCH (X (((((((((((((((((((((((((((((((((((((((((((((((((((((((((((((((()))))))))))))))))))))))))))))))))))))))))))))))))))))))))))))))) UID 7)\r\n",
+];
+
+/// Octets, and the first place at which no response goes on so.
+const BAD: [(&[u8], usize); 15] = [
+    (b"* 1 FETCH (BODY[HEADER] x)", 24),
+    (b"* 1 FETCH (BODY[HEADER] nix)", 26),
+    (b"* 1 FETCH (BODY[HEADER](", 23),
+    (b"* 1 FETCH (BODY[]<0>x NIL)", 20),
+    (b"* 1 FETCH (BODY[]x NIL)", 17),
+    (b"* 1 FETCH (BODY[]<> NIL)", 18),
+    (b"* 1 FETCH (BODY[{] NIL)", 16),
+    (b"* 1 FETCH (BODY[\\] NIL)", 16),
+    (b"* 1 FETCH (BODY[\"\\a\"] NIL)", 18),
+    (b"* 1 FETCH (X)", 12),
+    (b"* 1 FETCH (X  a)", 13),
+    (b"* 1 FETCH (\"X\" a)", 11),
+    (b"* 1 FETCH (X a b)", 16),
+    (b"* 1 FETCH (BODY[] {50000001}", 26),
+    (
+        b"* 1 FETCH (X (((((((((((((((((((((((((((((((((((((((((((((((((((((((((((((((((",
+        77,
+    ),
+];
+
+#[test]
+fn items_end_where_the_grammar_says(rt: HostRuntime) -> Result<(), Fail> {
+    for bytes in WHOLE.iter() {
+        assert_eq!(rt; scan(bytes), Scan::Whole(bytes.len()));
+        assert_eq!(rt; fed(bytes), Scan::Whole(bytes.len()));
+    }
+    for (bytes, at) in BAD.iter() {
+        assert_eq!(rt; scan(bytes), Scan::Bad(*at), "{at}");
+        assert_eq!(rt; fed(bytes), Scan::Bad(*at), "{at}");
+    }
+    Ok(())
+}
+
+/// The items of the FETCH, if it is one.
+fn items_of(alloc: Global, bytes: &[u8]) -> Result<Option<FetchItems>, AllocError> {
+    match scan(bytes) {
+        Scan::Whole(n) => {
+            let (front, _) = bytes.split_at(n);
+            match decode(alloc, front)? {
+                Response::Fetch { seq: _seq, items } => Ok(Some(items)),
+                _ => Ok(None),
+            }
+        }
+        _ => Ok(None),
+    }
+}
+
+fn is_text(told: &Option<Bytes>, wanted: Option<&[u8]>) -> bool {
+    match (told, wanted) {
+        (Some(told), Some(wanted)) => told.as_slice() == wanted,
+        (None, None) => true,
+        _ => false,
+    }
+}
+
+/// A FETCH, and the UID, header and body that it tells.
+const TEXTS: [(&[u8], Option<u32>, Option<&[u8]>, Option<&[u8]>); 8] = [
+    (
+        b"* 1 FETCH (BODY[HEADER] {4}\r\na\r\n) UID 7)\r\n",
+        Some(7),
+        Some(b"a\r\n)"),
+        None,
+    ),
+    (
+        b"* 1 FETCH (body[header]<0> \"q\\\"\\\\\" BODY[] nil)\r\n",
+        None,
+        Some(b"q\"\\"),
+        Some(b""),
+    ),
+    (
+        b"* 1 FETCH (BODY[]<0> ~{2}\r\n\x00\xff)\r\n",
+        None,
+        None,
+        Some(b"\x00\xff"),
+    ),
+    (
+        b"* 1 FETCH (BODY[] {1}\r\na UID 7 BODY[]<0> {1}\r\nb)\r\n",
+        Some(7),
+        None,
+        Some(b"b"),
+    ),
+    (
+        b"* 1 FETCH (BODY[TEXT] \"x\" X[A (B) BODY[] 7 UID 3)\r\n",
+        Some(3),
+        None,
+        None,
+    ),
+    (
+        b"* 1 FETCH (X[A (B) UID 7 C] 5 UID 4 ENVELOPE (NIL \")\" {6}\r\nUID 8)) UID 5)\r\n",
+        Some(5),
+        None,
+        None,
+    ),
+    (
+        b"* 1 FETCH (BODY[HEADER]<1> \"x\" BODY[\"]\"] {3}\r\n) ( X ~)\r\n",
+        None,
+        None,
+        None,
+    ),
+    (b"* 1 FETCH (UIDX 3 XUID 4)\r\n", None, None, None),
+];
+
+fn has_texts(
+    alloc: Global,
+    bytes: &[u8],
+    uid: Option<u32>,
+    header: Option<&[u8]>,
+    body: Option<&[u8]>,
+) -> Result<bool, AllocError> {
+    match items_of(alloc, bytes)? {
+        Some(items) => Ok(
+            items.uid == uid && is_text(&items.header, header) && is_text(&items.body, body),
+        ),
+        None => Ok(false),
+    }
+}
+
+#[test]
+fn headers_and_bodies_are_told_and_other_items_passed_over(rt: HostRuntime) -> Result<(), Fail> {
+    for (bytes, uid, header, body) in TEXTS.iter() {
+        assert!(rt; has_texts(rt.alloc(), bytes, *uid, *header, *body)?);
+    }
+    Ok(())
+}
