@@ -80,6 +80,24 @@ const STATUS_LINES: [&[u8]; 72] = [
     b"a66 NO [CANNOT] Character not allowed in mailbox name: '.' (0.001 + 0.000 secs).\r\n",
 ];
 
+/// Headers and bodies of messages.
+const MESSAGES: [&[u8]; 14] = [
+    b"* 1 FETCH (UID 1 FLAGS (\\Deleted) MODSEQ (14) INTERNALDATE \"02-Jan-2024 09:00:00 +0000\" RFC822.SIZE 0 BODY[HEADER]<0> NIL)\r\n",
+    b"* 2 FETCH (UID 2 FLAGS () MODSEQ (3) INTERNALDATE \"02-Jan-2024 09:00:00 +0000\" RFC822.SIZE 63 BODY[HEADER]<0> {56}\r\nFrom: a2@example.org\r\nSubject: s2\r\nMessage-ID: <2@x>\r\n\r\n)\r\n",
+    b"* 1 FETCH (UID 1 FLAGS (\\Seen \\Recent $Label1) MODSEQ (3) INTERNALDATE \"02-Jan-2024 09:00:00 +0000\" RFC822.SIZE 63 BODY[HEADER]<0> {56}\r\nFrom: a1@example.org\r\nSubject: s1\r\nMessage-ID: <1@x>\r\n\r\n)\r\n",
+    b"* 2 FETCH (UID 2 FLAGS (\\Recent) MODSEQ (4) INTERNALDATE \"02-Jan-2024 09:00:00 +0000\" RFC822.SIZE 63 BODY[HEADER]<0> {56}\r\nFrom: a2@example.org\r\nSubject: s2\r\nMessage-ID: <2@x>\r\n\r\n)\r\n",
+    b"* 2 FETCH (UID 2 FLAGS () MODSEQ (3) INTERNALDATE \"02-Jan-2024 09:00:00 +0000\" RFC822.SIZE 9 BODY[HEADER]<0> {9}\r\njust text)\r\n",
+    b"* 5 FETCH (UID 5 FLAGS () MODSEQ (6) INTERNALDATE \"02-Jan-2024 09:00:00 +0000\" RFC822.SIZE 19 BODY[HEADER]<0> {15}\r\nSubject: \xc3\xa9\r\n\r\n)\r\n",
+    b"* 14 FETCH (UID 14 FLAGS (\\Flagged \\Draft $k) MODSEQ (16) INTERNALDATE \"29-Feb-2024 23:59:59 +0000\" RFC822.SIZE 66 BODY[HEADER]<0> {59}\r\nFrom: a50@example.org\r\nSubject: s50\r\nMessage-ID: <50@x>\r\n\r\n)\r\n",
+    b"* 17 FETCH (UID 17 FLAGS (\\Recent) MODSEQ (19) INTERNALDATE \"07-Feb-2036 06:28:16 +0000\" RFC822.SIZE 66 BODY[HEADER]<0> {59}\r\nFrom: a51@example.org\r\nSubject: s51\r\nMessage-ID: <51@x>\r\n\r\n)\r\n",
+    b"* 18 FETCH (UID 18 FLAGS (\\Recent) MODSEQ (20) INTERNALDATE \"14-Jul-2042 01:04:00 +0000\" RFC822.SIZE 66 BODY[HEADER]<0> {59}\r\nFrom: a51@example.org\r\nSubject: s51\r\nMessage-ID: <51@x>\r\n\r\n)\r\n",
+    b"* 19 FETCH (UID 19 FLAGS (\\Recent) MODSEQ (21) INTERNALDATE \"26-Nov-2026 23:54:12 +0000\" RFC822.SIZE 66 BODY[HEADER]<0> {59}\r\nFrom: a51@example.org\r\nSubject: s51\r\nMessage-ID: <51@x>\r\n\r\n)\r\n",
+    b"* 1 FETCH (UID 2 BODY[]<0> NIL)\r\n",
+    b"* 3 FETCH (UID 11 BODY[]<0> {66}\r\nFrom: a11@example.org\r\nSubject: s11\r\nMessage-ID: <11@x>\r\n\r\nhello\r\n)\r\n",
+    b"* 2 FETCH (UID 2 BODY[]<0> {9}\r\njust text)\r\n",
+    b"* 5 FETCH (UID 5 BODY[]<0> {19}\r\nSubject: \xc3\xa9\r\n\r\n\xc3\xbc\r\n)\r\n",
+];
+
 /// What they told of folders and messages.
 const DATA: [&[u8]; 68] = [
     b"* CAPABILITY IMAP4rev1 SASL-IR LOGIN-REFERRALS ID ENABLE IDLE IMAP4rev2 LITERAL+ AUTH=PLAIN AUTH=LOGIN\r\n",
@@ -159,6 +177,10 @@ fn responses_of_real_stores_are_whole(rt: HostRuntime) -> Result<(), Fail> {
         assert_eq!(rt; fed(bytes), Scan::Whole(bytes.len()));
     }
     for bytes in DATA.iter() {
+        assert_eq!(rt; scan(bytes), Scan::Whole(bytes.len()));
+        assert_eq!(rt; fed(bytes), Scan::Whole(bytes.len()));
+    }
+    for bytes in MESSAGES.iter() {
         assert_eq!(rt; scan(bytes), Scan::Whole(bytes.len()));
         assert_eq!(rt; fed(bytes), Scan::Whole(bytes.len()));
     }

@@ -22,7 +22,7 @@ fn responses(alloc: Global) -> Result<Vec<u8>, AllocError> {
     let mut out = Vec::new(alloc);
     for uid in 1..RESPONSES + 1 {
         let front = format!(in alloc;
-            "* {uid} X (UID {uid} FLAGS (\\Seen) MODSEQ (14) INTERNALDATE \"02-Jan-2024 09:00:00 +0000\" RFC822.SIZE 20000 BODY[HEADER]<0> {{{HEADER}}}\r\n"
+            "* {uid} FETCH (UID {uid} FLAGS (\\Seen) MODSEQ (14) INTERNALDATE \"02-Jan-2024 09:00:00 +0000\" RFC822.SIZE 20000 BODY[HEADER]<0> {{{HEADER}}}\r\n"
         )?;
         out.extend_from_slice(front.as_bytes())?;
         out.extend_from_slice(&header)?;
