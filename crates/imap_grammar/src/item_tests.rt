@@ -150,3 +150,32 @@ fn headers_and_bodies_are_told_and_other_items_passed_over(rt: HostRuntime) -> R
     }
     Ok(())
 }
+
+/// A FETCH with a header of one octet more than is kept.
+fn long_header(alloc: Global) -> Result<Vec<u8>, AllocError> {
+    let octets = vec![in alloc; b'a'; 32_769]?;
+    let mut bytes = Vec::new(alloc);
+    bytes.extend_from_slice(b"* 1 FETCH (BODY[HEADER] {32769}\r\n")?;
+    bytes.extend_from_slice(&octets)?;
+    bytes.extend_from_slice(b" UID 7)\r\n")?;
+    Ok(bytes)
+}
+
+fn is_cut(items: &FetchItems) -> bool {
+    match &items.header {
+        Some(header) => header.as_slice().len() == 32_768 && items.uid == Some(7),
+        None => false,
+    }
+}
+
+#[test]
+fn a_header_is_cut(rt: HostRuntime) -> Result<(), Fail> {
+    let alloc = rt.alloc();
+    let bytes = long_header(alloc)?;
+    let cut = match items_of(alloc, &bytes)? {
+        Some(items) => is_cut(&items),
+        None => false,
+    };
+    assert!(rt; cut);
+    Ok(())
+}
