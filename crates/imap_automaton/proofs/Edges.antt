@@ -1,5 +1,5 @@
 -- What one octet does to one symbol.
-use Rattle.std.proofs.Common.{◌≡◌, ℕ, zero, ◌≤◌, Bool, true, false, ◌&&◌, List, [], ◌∷◌, length, take, cond, refl, sym, ap, ◌∙◌, arith, inl}
+use Rattle.std.proofs.Common.{◌≡◌, ℕ, zero, ◌≤◌, true, false, List, [], ◌∷◌, length, take, cond, refl, ap, ◌∙◌, arith, inl}
 use Rattle.std.specs.Prelude.{◌==◌, nat_le}
 use Rattle.std.proofs.lemmas.Bool.{leb-true, and_parts, cond-false}
 use Rattle.imap_automaton.specs.declared.sym.Key.{Key}
@@ -15,7 +15,6 @@ use Rattle.imap_automaton.specs.declared.sym.Value.TheVariants as value
 use Rattle.imap_automaton.specs.declared.sym.Folder.TheVariants as folder
 use Rattle.imap_automaton.specs.declared.sym.Sym.{Sym}
 use Rattle.imap_automaton.specs.declared.sym.Sym.TheVariants as sym
-use Rattle.imap_automaton.specs.declared.sym.Move.{Move}
 use Rattle.imap_automaton.specs.declared.sym.Move.TheVariants as move
 use Rattle.imap_automaton.specs.Keys.{key_text, keys, is_among}
 use Rattle.imap_automaton.specs.Rules.{rule_of}

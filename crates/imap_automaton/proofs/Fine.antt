@@ -1,7 +1,7 @@
 -- What each move keeps: registers, room, and which symbol may end open.
-use Rattle.std.proofs.Common.{◌≡◌, ℕ, zero, suc, ◌+◌, ◌-◌, ◌*◌, ◌≤◌, Bool, true, false, not, ◌&&◌, ◌||◌, List, [], ◌∷◌, length, cond, Option, Some, None, refl, sym, ap, subst, ◌∙◌, arith}
+use Rattle.std.proofs.Common.{◌≡◌, ℕ, zero, suc, ◌+◌, ◌-◌, ◌*◌, ◌≤◌, Bool, true, false, not, ◌&&◌, ◌||◌, List, [], ◌∷◌, length, cond, Option, Some, None, refl, arith}
 use Rattle.std.specs.Prelude.{◌==◌, nat_lt, nat_le, get_or, take}
-use Rattle.std.proofs.lemmas.Bool.{and_parts, and_from, le-leb, ltb-true, leb-true, lt-ltb, eqb-false}
+use Rattle.std.proofs.lemmas.Bool.{and_parts, and_from, le-leb, ltb-true, lt-ltb, eqb-false}
 use Rattle.imap_automaton.specs.declared.sym.Key.{Key}
 use Rattle.imap_automaton.specs.declared.sym.Key.TheVariants as key
 use Rattle.imap_automaton.specs.declared.sym.Place.{Place}
@@ -32,11 +32,11 @@ use Rattle.imap_automaton.specs.declared.sym.Sym.TheVariants as sym
 use Rattle.imap_automaton.specs.declared.sym.Move.{Move}
 use Rattle.imap_automaton.specs.declared.sym.Move.TheVariants as move
 use Rattle.imap_automaton.specs.Counts.{pend}
-use Rattle.imap_automaton.specs.Keys.{key_text, phrase_text, keys, first_key, is_among, in_word, goes_on, next_key, whole_key}
+use Rattle.imap_automaton.specs.Keys.{key_text, phrase_text, keys, first_key, in_word, goes_on, next_key, whole_key}
 use Rattle.imap_automaton.specs.FreeRules.{free_end, text_rule}
 use Rattle.imap_automaton.specs.WordRules.{rest_rule, spaced_rule, end_rule, behind_key, stray, word_goes, word_ends, word_rule}
 use Rattle.imap_automaton.specs.ItemRules.{number_rule, long_rule}
-use Rattle.imap_automaton.specs.LineRules.{word_start, line_rule, fixed_rule, folded_rule, sequence_rule}
+use Rattle.imap_automaton.specs.LineRules.{word_start, line_rule, fixed_rule, folded_rule}
 use Rattle.imap_automaton.specs.DateRules.{month_start, day_octet, time_octet, day_rule, time_rule}
 use Rattle.imap_automaton.specs.SetRules.{words_more, set_ends, set_number, set_rule}
 use Rattle.imap_automaton.specs.StringRules.{flat_start, alone, before, count_rule, string_rule}
@@ -48,7 +48,7 @@ use Rattle.imap_automaton.specs.Run.{is_octets}
 use Rattle.imap_automaton.specs.Flow.{ends_open, begins, may_yield, need, sym_left}
 use Rattle.imap_automaton.proofs.ItemNameEdges.{takes_small}
 use Rattle.imap_automaton.proofs.KeyLemmas.{find_some, goes_to, among_is}
-use Rattle.imap_syntax.specs.Octets.{is_digit, is_alnum, is_text, is_word, is_atom, lower}
+use Rattle.imap_syntax.specs.Octets.{is_digit, is_text, is_word, is_atom, lower}
 use Rattle.imap_syntax.specs.Texts.{Each}
 
 -- what a move may be of a symbol that ends open or not, may yield or not, has this room, at an octet outside a literal

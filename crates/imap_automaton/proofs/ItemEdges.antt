@@ -1,7 +1,7 @@
 -- One octet at the items of a FETCH.
-use Rattle.std.proofs.Common.{◌≡◌, ℕ, ◌+◌, ◌-◌, ◌*◌, ◌<◌, ◌≤◌, Bool, true, false, not, ◌&&◌, ◌||◌, List, [], ◌∷◌, ◌++◌, length, map, get_or, cond, refl, sym, ap, subst, ◌∙◌, append_assoc, arith, inl, inr, zero, suc}
+use Rattle.std.proofs.Common.{◌≡◌, ℕ, ◌+◌, ◌-◌, ◌*◌, ◌<◌, ◌≤◌, Bool, true, false, not, ◌&&◌, ◌||◌, List, [], ◌∷◌, ◌++◌, length, map, cond, refl, sym, ap, subst, ◌∙◌, arith, inl, inr, zero, suc}
 use Rattle.std.specs.Prelude.{◌==◌, nat_lt, nat_le, codes}
-use Rattle.std.proofs.lemmas.Bool.{eqb-true, ltb-true, leb-true, and_parts, and_from, lt-ltb, le-leb, eq-eqb, ne_eqb, not-true}
+use Rattle.std.proofs.lemmas.Bool.{eqb-true, ltb-true, leb-true, and_parts, and_from, lt-ltb, le-leb, eq-eqb, ne_eqb}
 use Rattle.imap_automaton.specs.declared.sym.Key.{Key}
 use Rattle.imap_automaton.specs.declared.sym.Key.TheVariants as key
 use Rattle.imap_automaton.specs.declared.sym.Place.TheVariants as place
@@ -11,18 +11,18 @@ use Rattle.imap_automaton.specs.declared.sym.Item.{Item}
 use Rattle.imap_automaton.specs.declared.sym.Item.TheVariants as item
 use Rattle.imap_automaton.specs.declared.sym.Sym.TheVariants as sym
 use Rattle.imap_automaton.specs.declared.sym.Move.TheVariants as move
-use Rattle.imap_automaton.specs.Keys.{key_text, keys, in_word}
+use Rattle.imap_automaton.specs.Keys.{key_text, keys}
 use Rattle.imap_automaton.specs.ItemRules.{item_start, number_rule, long_rule, item_rule}
 use Rattle.imap_automaton.specs.Fits.{ItemFits}
 use Rattle.imap_automaton.specs.Flow.{stops}
 use Rattle.imap_automaton.proofs.KeyLemmas.{key_some}
 use Rattle.imap_automaton.proofs.OtherItems.{named_atoms, other_from, other_to}
-use Rattle.imap_automaton.proofs.Langs.{NumberRest, LongRest, ItemLang, IsSpaced, Among, IsBehind, IsStray, WordSays, WordRest, Lang, After}
+use Rattle.imap_automaton.proofs.Langs.{NumberRest, LongRest, ItemLang, Among, IsBehind, WordSays, WordRest, Lang, After}
 use Rattle.imap_automaton.proofs.Lists.{cons_head, cons_tail}
-use Rattle.imap_automaton.proofs.Tests.{from_test, to_test, at_true, at_false, is_true_at, crlf_of, mid}
+use Rattle.imap_automaton.proofs.Tests.{from_test, at_true, at_false, is_true_at}
 use Rattle.imap_syntax.specs.Octets.{is_digit, is_atom, lower}
-use Rattle.imap_syntax.specs.Texts.{Each, Then, crlf}
-use Rattle.imap_syntax.specs.Numbers.{value_from, IsNumber, IsNonZero, IsLong}
+use Rattle.imap_syntax.specs.Texts.{Then, crlf}
+use Rattle.imap_syntax.specs.Numbers.{value_from, IsNonZero, IsLong}
 use Rattle.imap_syntax.specs.Items as items
 
 -- ---- numbers

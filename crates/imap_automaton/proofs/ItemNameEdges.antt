@@ -1,7 +1,7 @@
 -- One octet at the name of another item.
-use Rattle.std.proofs.Common.{◌≡◌, ◌⊎◌, ℕ, zero, suc, ◌+◌, ◌<◌, ◌≤◌, Bool, true, false, not, ◌&&◌, ◌||◌, List, [], ◌∷◌, ◌++◌, length, map, cond, refl, sym, ap, subst, ◌∙◌, append_assoc, arith, inl, inr}
+use Rattle.std.proofs.Common.{◌≡◌, ◌⊎◌, ℕ, ◌<◌, Bool, true, false, not, ◌&&◌, ◌||◌, List, [], ◌∷◌, ◌++◌, length, map, cond, refl, sym, ap, subst, ◌∙◌, append_assoc, arith, inl, inr}
 use Rattle.std.specs.Prelude.{◌==◌, nat_lt, codes}
-use Rattle.std.proofs.lemmas.Bool.{eqb-true, eqb-false, eq-eqb, and_parts, and_from, or_cases, or_left, or_right, not-true}
+use Rattle.std.proofs.lemmas.Bool.{eqb-true, eq-eqb, and_parts, and_from, or_left, or_right, not-true}
 use Rattle.imap_automaton.specs.declared.sym.Str.TheVariants as str
 use Rattle.imap_automaton.specs.declared.sym.Value.TheVariants as value
 use Rattle.imap_automaton.specs.declared.sym.ItemName.{ItemName}
@@ -9,14 +9,14 @@ use Rattle.imap_automaton.specs.declared.sym.ItemName.TheVariants as name
 use Rattle.imap_automaton.specs.declared.sym.Sym.TheVariants as sym
 use Rattle.imap_automaton.specs.declared.sym.Move.TheVariants as move
 use Rattle.imap_automaton.specs.ItemNameRules.{may_end, in_section, takes, next_name, name_from, item_name_rule}
-use Rattle.imap_automaton.proofs.StringLangs.{QuotedRest, StrLang, ValueLang}
+use Rattle.imap_automaton.proofs.StringLangs.{QuotedRest}
 use Rattle.imap_automaton.proofs.ItemNameLangs.{SectionRest, NameForm, NameRest}
 use Rattle.imap_automaton.proofs.Langs.{After}
-use Rattle.imap_automaton.proofs.Lists.{cons_head, cons_tail, no_append}
-use Rattle.imap_automaton.proofs.Tests.{from_test, to_test, at_true, at_false, both, mid}
-use Rattle.imap_syntax.specs.Octets.{is_digit, is_text, is_atom, lower}
+use Rattle.imap_automaton.proofs.Lists.{cons_head, cons_tail}
+use Rattle.imap_automaton.proofs.Tests.{from_test, at_true, at_false, both, mid}
+use Rattle.imap_syntax.specs.Octets.{is_digit, is_atom, lower}
 use Rattle.imap_syntax.specs.Texts.{Each, Then}
-use Rattle.imap_syntax.specs.Strings.{escaped, quoted}
+use Rattle.imap_syntax.specs.Strings.{escaped}
 use Rattle.imap_syntax.specs.Values.{AllOf, IsValue}
 use Rattle.imap_syntax.specs.ItemNames.{is_plain, is_inner, IsUnit, concat, IsPartial, IsSection}
 

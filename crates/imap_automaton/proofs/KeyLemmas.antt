@@ -1,17 +1,17 @@
 -- The words by which a reader decides: no two have one text, and a search for one finds it.
-use Rattle.std.proofs.Common.{◌≡◌, ℕ, zero, suc, ◌+◌, ◌<◌, ◌≤◌, Bool, true, false, not, ◌&&◌, ◌||◌, List, [], ◌∷◌, ◌++◌, length, map, take, drop, get_or, cond, Option, Some, None, refl, sym, ap, subst, ◌∙◌, append_assoc, arith, inl, inr, bytes_eq}
-use Rattle.std.specs.Prelude.{◌==◌, nat_lt, find, unwrap_or, Decides}
+use Rattle.std.proofs.Common.{◌≡◌, ℕ, zero, suc, ◌+◌, ◌<◌, ◌≤◌, Bool, true, false, not, ◌&&◌, List, [], ◌∷◌, ◌++◌, length, map, take, drop, get_or, cond, Some, None, refl, sym, ap, subst, ◌∙◌, arith, inl, inr, bytes_eq}
+use Rattle.std.specs.Prelude.{◌==◌, nat_lt, find, unwrap_or}
 use Rattle.std.proofs.lemmas.Bool.{eqb-true, ltb-true, and_parts, and_from, lt-ltb, eq-eqb, or_cases, or_left, or_right, not-true}
-use Rattle.std.proofs.lemmas.List.{length-append, length-take-le, take-append-drop, append-nil}
+use Rattle.std.proofs.lemmas.List.{length-take-le, take-append-drop}
 use Rattle.std.proofs.lemmas.Slice.Eq.{bytes_eq-Decides}
 use Rattle.std.proofs.lemmas.Grind.{common_steps}
 use Rattle.imap_automaton.specs.declared.sym.Key.{Key}
 use Rattle.imap_automaton.specs.declared.sym.Key.TheVariants as key
 use Rattle.imap_automaton.specs.declared.sym.Place.{Place}
 use Rattle.imap_automaton.specs.declared.sym.Place.TheVariants as place
-use Rattle.imap_automaton.specs.Keys.{key_text, keys, goes_on, is_whole, is_among, in_word}
+use Rattle.imap_automaton.specs.Keys.{key_text, goes_on, is_whole, is_among, in_word}
 use Rattle.imap_automaton.proofs.Langs.{Among}
-use Rattle.imap_syntax.specs.Octets.{is_word, is_atom, is_text, lower}
+use Rattle.imap_syntax.specs.Octets.{is_word, is_atom, lower}
 use Rattle.imap_syntax.specs.Texts.{Each}
 
 -- ---- texts of keys

@@ -1,8 +1,8 @@
 -- One octet within a line.
-use Rattle.std.proofs.Common.{◌≡◌, ◌⊎◌, ℕ, zero, suc, ◌+◌, ◌-◌, ◌*◌, ◌<◌, ◌≤◌, Bool, true, false, not, ◌&&◌, ◌||◌, List, [], ◌∷◌, ◌++◌, length, map, take, drop, get_or, cond, Option, Some, None, refl, sym, ap, subst, ◌∙◌, append_assoc, arith, inl, inr}
-use Rattle.std.specs.Prelude.{◌==◌, nat_lt, nat_le, Contains, codes}
+use Rattle.std.proofs.Common.{◌≡◌, ◌⊎◌, ℕ, zero, suc, ◌+◌, ◌-◌, ◌*◌, ◌<◌, ◌≤◌, true, false, ◌&&◌, List, [], ◌∷◌, ◌++◌, length, map, drop, get_or, cond, None, refl, sym, ap, subst, ◌∙◌, arith, inl, inr}
+use Rattle.std.specs.Prelude.{◌==◌, nat_lt, nat_le}
 use Rattle.std.proofs.lemmas.Bool.{eqb-true, eqb-false, ltb-true, leb-true, and_parts, and_from, lt-ltb, le-leb, eq-eqb}
-use Rattle.std.proofs.lemmas.List.{drop_all, append-nil}
+use Rattle.std.proofs.lemmas.List.{drop_all}
 use Rattle.imap_automaton.specs.declared.sym.Key.{Key}
 use Rattle.imap_automaton.specs.declared.sym.Key.TheVariants as key
 use Rattle.imap_automaton.specs.declared.sym.Place.TheVariants as place
@@ -20,24 +20,24 @@ use Rattle.imap_automaton.specs.FreeRules.{text_rule}
 use Rattle.imap_automaton.specs.WordRules.{word_rule}
 use Rattle.imap_automaton.specs.LineRules.{word_start, sequence_rule, fixed_rule, folded_rule, line_rule}
 use Rattle.imap_automaton.specs.Fits.{LineFits}
-use Rattle.imap_automaton.proofs.Langs.{FreeLang, Among, WordSays, WordRest, TagRest, NumberedRest, SequenceRest, LineLang, After}
-use Rattle.imap_automaton.proofs.Lists.{cons_head, cons_tail, no_append}
-use Rattle.imap_automaton.proofs.Tests.{from_test, to_test, at_true, at_false, is_true_at, both, alnum_not_space, text_not_cr, digit_range, drop_at, crlf_of, crlf_parts, mid}
+use Rattle.imap_automaton.proofs.Langs.{FreeLang, WordSays, WordRest, TagRest, NumberedRest, SequenceRest, LineLang, After}
+use Rattle.imap_automaton.proofs.Lists.{cons_head, cons_tail}
+use Rattle.imap_automaton.proofs.Tests.{from_test, to_test, at_true, at_false, is_true_at, both, alnum_not_space, text_not_cr, drop_at, crlf_of, crlf_parts, mid}
 use Rattle.imap_automaton.proofs.FreeEdges.{text_back, text_forth, free_empty}
 use Rattle.imap_automaton.proofs.KeyLemmas.{no_bang}
 use Rattle.imap_automaton.proofs.ItemEdges.{value_mono}
-use Rattle.imap_automaton.proofs.WordEdges.{Cut, cut, text_goes, text_comes, word_back, word_forth, word_empty, word_example}
-use Rattle.imap_automaton.proofs.CountLemmas.{free_to, free_from}
+use Rattle.imap_automaton.proofs.WordEdges.{cut, text_goes, text_comes, word_back, word_forth, word_empty, word_example}
+use Rattle.imap_automaton.proofs.CountLemmas.{free_from}
 use Rattle.imap_automaton.proofs.LineWords.{plain_key, plain_to, plain_from, numbered_to, numbered_from, tagged_to, tagged_from}
 use Rattle.imap_syntax.specs.declared.code.Code.{Code}
 use Rattle.imap_syntax.specs.declared.response.Status.{Status}
 use Rattle.imap_syntax.specs.declared.response.Response.{Response}
 use Rattle.imap_syntax.specs.declared.response.Response.TheVariants as response
 use Rattle.imap_syntax.specs.Octets.{is_digit, is_alnum, is_text, is_word, lower}
-use Rattle.imap_syntax.specs.Texts.{Each, Then, crlf}
+use Rattle.imap_syntax.specs.Texts.{Each, crlf}
 use Rattle.imap_syntax.specs.Numbers.{value_from, IsNumber}
 use Rattle.imap_syntax.specs.Lines.{IsLine, IsTagged}
-use Rattle.imap_syntax.specs.Spells.{keywords, IsWordLine, Numbered, IsUntagged, Spells}
+use Rattle.imap_syntax.specs.Spells.{IsWordLine, Numbered, IsUntagged, Spells}
 
 -- ---- text and fixed texts
 

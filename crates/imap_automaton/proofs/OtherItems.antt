@@ -1,6 +1,6 @@
 -- Items that are passed over, and the words that name others.
-use Rattle.std.proofs.Common.{◌≡◌, ◌⊎◌, ℕ, zero, suc, ◌+◌, ◌<◌, ◌≤◌, Bool, true, false, not, ◌&&◌, List, [], ◌∷◌, ◌++◌, length, map, get_or, refl, sym, ap, subst, ◌∙◌, arith, inl, inr}
-use Rattle.std.specs.Prelude.{Contains, codes, nat_lt}
+use Rattle.std.proofs.Common.{◌≡◌, ℕ, zero, suc, ◌<◌, true, false, List, [], ◌∷◌, ◌++◌, length, map, get_or, refl, sym, ap, subst, ◌∙◌, arith, inl, inr}
+use Rattle.std.specs.Prelude.{Contains, nat_lt}
 use Rattle.std.proofs.lemmas.Bool.{and_parts}
 use Rattle.std.proofs.lemmas.List.{append-nil}
 use Rattle.imap_automaton.specs.declared.sym.Key.{Key}
@@ -17,9 +17,8 @@ use Rattle.imap_automaton.proofs.Lists.{cons_head, cons_tail, Cut, cut, one_cut}
 use Rattle.imap_automaton.proofs.Tests.{both}
 use Rattle.imap_automaton.proofs.KeyLemmas.{is_key_octet, key_octets, key_octet_parts}
 use Rattle.imap_syntax.specs.Octets.{is_atom, lower}
-use Rattle.imap_syntax.specs.Texts.{Each, Then}
-use Rattle.imap_syntax.specs.Values.{IsValue}
-use Rattle.imap_syntax.specs.ItemNames.{is_plain, IsSection, IsFormed, told_names, IsOtherName}
+use Rattle.imap_syntax.specs.Texts.{Each}
+use Rattle.imap_syntax.specs.ItemNames.{is_plain, IsFormed, told_names, IsOtherName}
 use Rattle.imap_syntax.specs.Items as items
 
 -- ---- keys

@@ -1,7 +1,7 @@
 -- One octet at a word by which a reader decides.
-use Rattle.std.proofs.Common.{◌≡◌, ◌⊎◌, ℕ, zero, suc, ◌+◌, ◌<◌, ◌≤◌, Bool, true, false, ◌&&◌, List, [], ◌∷◌, ◌++◌, length, map, take, drop, get_or, cond, Option, Some, None, refl, sym, ap, subst, ◌∙◌, append_assoc, arith, inl, inr}
+use Rattle.std.proofs.Common.{◌≡◌, ℕ, ◌+◌, ◌<◌, ◌≤◌, true, false, ◌&&◌, List, [], ◌∷◌, ◌++◌, length, map, take, drop, get_or, cond, Option, Some, None, refl, sym, ap, subst, ◌∙◌, append_assoc, arith, inl, inr}
 use Rattle.std.specs.Prelude.{◌==◌, nat_le, codes}
-use Rattle.std.proofs.lemmas.Bool.{eqb-true, eqb-false, leb-true, and_parts, eq-eqb, cond-false, cond-true}
+use Rattle.std.proofs.lemmas.Bool.{eqb-true, eqb-false, leb-true, and_parts, eq-eqb, cond-false}
 use Rattle.std.proofs.lemmas.List.{length-append, length-take-le, append-nil, take-append-drop}
 use Rattle.imap_automaton.specs.declared.sym.Key.{Key}
 use Rattle.imap_automaton.specs.declared.sym.Key.TheVariants as key
@@ -23,7 +23,6 @@ use Rattle.imap_automaton.specs.declared.sym.Move.{Move}
 use Rattle.imap_automaton.specs.declared.sym.Move.TheVariants as move
 use Rattle.imap_automaton.specs.Counts.{pend}
 use Rattle.imap_automaton.specs.Keys.{key_text, keys, is_among, in_word, goes_on, next_key, is_whole, whole_key}
-use Rattle.imap_automaton.specs.FreeRules.{text_rule}
 use Rattle.imap_automaton.specs.WordRules.{rest_rule, spaced_rule, end_rule, behind_key, stray, word_goes, word_ends, word_rule}
 use Rattle.imap_automaton.proofs.Langs.{FreeLang, ItemLang, NamesLang, SetLang, IsSpaced, Among, IsBehind, IsStray, WordSays, WordRest, Lang, After}
 use Rattle.imap_automaton.proofs.StringLangs.{StrLang}
@@ -32,13 +31,12 @@ pub use Rattle.imap_automaton.proofs.Lists.{Cut, cut}
 use Rattle.imap_automaton.proofs.Lists.{cons_head, cons_tail, no_append}
 use Rattle.imap_automaton.proofs.ItemNameEdges.{name_goes, name_comes, item_name_back, item_name_forth, item_name_empty}
 use Rattle.imap_automaton.proofs.KeyNames.{key_takes}
-use Rattle.imap_automaton.proofs.ItemNameLangs.{NameRest}
-use Rattle.imap_automaton.specs.ItemNameRules.{takes, name_from, item_name_rule}
+use Rattle.imap_automaton.specs.ItemNameRules.{name_from}
 use Rattle.imap_automaton.specs.declared.sym.ItemName.TheVariants as name
-use Rattle.imap_automaton.proofs.Tests.{from_test, to_test, at_true, at_false, is_true_at, both, crlf_of, crlf_parts, mid}
+use Rattle.imap_automaton.proofs.Tests.{from_test, at_true, at_false, crlf_of, crlf_parts}
 use Rattle.imap_automaton.proofs.DateEdges.{date_text, date_example, time_text, time_example, time_back, time_forth, time_none}
 use Rattle.imap_automaton.proofs.SetEdges.{words_more_back, words_more_forth, words_more_none}
-use Rattle.imap_automaton.proofs.FreeEdges.{text_back, text_forth, goes_back, goes_forth, free_some, free_empty}
+use Rattle.imap_automaton.proofs.FreeEdges.{text_back, text_forth, goes_back, goes_forth, free_empty}
 use Rattle.imap_automaton.proofs.KeyLemmas.{one_key, key_some, key_in_word, key_lower, no_bang, find_some, find_none, is_among_is, goes_to, goes_from, goes_octet, whole_to, whole_from}
 use Rattle.imap_syntax.specs.Octets.{is_text, is_word, is_atom, lower}
 use Rattle.imap_syntax.specs.Texts.{Each, Then, crlf, IsCrlf}

@@ -8,10 +8,10 @@ use crate::class::{CR, LF, is_digit, is_text};
 use crate::sym::{Free, Line, Move, Pending, Phrase, Sym};
 
 /// Octets of a literal.
-const LITERAL_LIMIT: u32 = 50_000_000;
+pub const LITERAL_LIMIT: u32 = 50_000_000;
 
 /// Digits of a literal's count.
-const COUNT_DIGITS: u8 = 8;
+pub const COUNT_DIGITS: u8 = 8;
 
 fn capped(v: u32) -> u32
     ensures { result ≡ counts.capped v }

@@ -20,6 +20,8 @@ use crate::sym::{Move, Sym};
 use crate::value_rule::value_rule;
 use crate::word_rule::word_rule;
 
+// Within the loop of `advance` all tests of the octet would be made before it, for every octet.
+#[inline(never)]
 fn rule(sym: Sym, c: u16) -> Move
     requires { IsTrue (SymFits sym) }
     ensures { result ≡ rules.rule_of sym c }

@@ -4,13 +4,8 @@ ghost use Rattle.imap_automaton.specs.StringRules as rules;
 ghost use Rattle.imap_automaton.specs.Fits.{StrFits};
 
 use crate::class::{CR, is_atom, is_digit, is_text, lower};
+use crate::free_rule::{COUNT_DIGITS, LITERAL_LIMIT};
 use crate::sym::{Free, Line, Move, Names, Phrase, Str, Sym};
-
-/// Octets of a literal.
-const LITERAL_LIMIT: u32 = 50_000_000;
-
-/// Digits of a literal's count.
-const COUNT_DIGITS: u8 = 8;
 
 /// A literal's count, from its first digit on.
 const COUNT_START: Sym = Sym::Str(Str::Count(0, 0));

@@ -1,36 +1,35 @@
 -- The items of a FETCH are read back as what they tell.
-use Rattle.std.proofs.Common.{◌≡◌, ◌⊎◌, ℕ, zero, suc, ◌+◌, ◌-◌, ◌<◌, ◌≤◌, Bool, true, false, ◌||◌, List, [], ◌∷◌, ◌++◌, length, map, take, drop, get_or, cond, refl, sym, ap, subst, ◌∙◌, append_assoc, arith, inl, inr, Option, Some, ℤ}
+use Rattle.std.proofs.Common.{◌≡◌, ◌⊎◌, ℕ, zero, suc, ◌+◌, ◌-◌, ◌<◌, ◌≤◌, Bool, true, false, ◌||◌, List, [], ◌∷◌, ◌++◌, length, map, take, drop, get_or, cond, refl, sym, ap, ◌∙◌, append_assoc, arith, inl, inr, Some, ℤ}
 use Rattle.std.specs.Prelude.{◌==◌, nat_lt, codes, bytes_eq}
 use Rattle.std.proofs.lemmas.Bool.{cond-true, cond-false, or_cases, false_from_ne_true}
-use Rattle.std.proofs.lemmas.List.{length-append, append-nil, map-append}
+use Rattle.std.proofs.lemmas.List.{length-append, map-append}
 use Rattle.imap_automaton.specs.Flow.{stops}
 use Rattle.imap_automaton.specs.ItemRules.{item_start}
 use Rattle.imap_automaton.specs.Keys.{key_text, keys}
 use Rattle.imap_automaton.specs.declared.sym.Key.{Key}
 use Rattle.imap_automaton.specs.declared.sym.Key.TheVariants as key
 use Rattle.imap_automaton.specs.declared.sym.Place.TheVariants as place
-use Rattle.imap_automaton.proofs.Langs.{Among, WordRest}
-use Rattle.imap_automaton.proofs.KeyLemmas.{text_same, same_text}
+use Rattle.imap_automaton.proofs.Langs.{Among}
+use Rattle.imap_automaton.proofs.KeyLemmas.{same_text}
 use Rattle.imap_automaton.proofs.Lists.{cons_head, cons_tail}
 use Rattle.imap_automaton.proofs.ItemEdges.{stop_no_digit, item_to}
 use Rattle.imap_automaton.proofs.OtherItems.{named_atoms, other_word}
-use Rattle.imap_grammar.specs.Spans.{span, number_in, long_in, flags_in}
+use Rattle.imap_grammar.specs.Spans.{span, number_in, long_in}
 use Rattle.imap_grammar.specs.StringReading.{astring_in}
 use Rattle.imap_grammar.specs.ItemReading.{nstring_in, is_header, is_body, is_told, text_in, value_in, item_in, items_in}
-use Rattle.imap_grammar.specs.DateReading.{date_in}
 use Rattle.imap_grammar.specs.Passing.{passed}
 use Rattle.imap_grammar.proofs.DateReadings.{date_read}
-use Rattle.imap_grammar.proofs.StringReadings.{Ends, astring_read}
+use Rattle.imap_grammar.proofs.StringReadings.{astring_read}
 use Rattle.imap_grammar.proofs.PassingReadings.{item_passed}
 pub use Rattle.imap_grammar.proofs.NameReadings.{atom_small, joined_small, flags_read, digit_small, long_read, plain_length}
-use Rattle.imap_grammar.proofs.Cuts.{small, plain_small, plain_join, each_to, each_join, CutAt, cut_at, number_is, long_is, drop_front}
+use Rattle.imap_grammar.proofs.Cuts.{small, plain_small, plain_join, each_to, each_join, cut_at, number_is, drop_front}
 use Rattle.imap_syntax.specs.declared.response.FetchItems.{FetchItems}
 use Rattle.imap_syntax.specs.Octets.{is_digit, is_atom, lower}
-use Rattle.imap_syntax.specs.Texts.{Each, IsWord, plain_of, plain, crlf}
-use Rattle.imap_syntax.specs.Numbers.{value_from, IsNonZero, IsLong}
+use Rattle.imap_syntax.specs.Texts.{plain_of, plain}
+use Rattle.imap_syntax.specs.Numbers.{IsNonZero, IsLong}
 use Rattle.imap_syntax.specs.DateTimes.{IsDateTime}
-use Rattle.imap_syntax.specs.Strings.{IsQuoted, IsCounted, IsLiteral, IsNString, quoted}
-use Rattle.imap_syntax.specs.Items.{joined, IsNames, Item, Uid, Flags, ModSeq, Date, Size, Header, Body, Other, IsItemValue, IsItem, IsMore, IsItems, header_limit, body_limit, told, told_from}
+use Rattle.imap_syntax.specs.Strings.{IsQuoted, IsLiteral, IsNString}
+use Rattle.imap_syntax.specs.Items.{joined, IsNames, Item, Uid, Flags, ModSeq, Date, Size, Header, Body, Other, IsItem, IsMore, IsItems, header_limit, body_limit, told, told_from}
 
 -- ---- items
 

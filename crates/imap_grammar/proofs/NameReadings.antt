@@ -1,14 +1,14 @@
 -- Names and numbers are read back as what they tell.
-use Rattle.std.proofs.Common.{◌≡◌, ◌⊎◌, ℕ, zero, suc, ◌+◌, ◌<◌, ◌≤◌, Bool, true, false, List, [], ◌∷◌, ◌++◌, length, map, take, drop, get_or, cond, refl, sym, ap, subst, ◌∙◌, append_assoc, arith, inl, inr}
+use Rattle.std.proofs.Common.{◌≡◌, ℕ, zero, suc, ◌+◌, ◌<◌, ◌≤◌, Bool, true, false, List, [], ◌∷◌, ◌++◌, length, map, take, drop, get_or, refl, sym, ap, subst, ◌∙◌, append_assoc, arith, inl, inr}
 use Rattle.std.specs.Prelude.{◌==◌}
 use Rattle.std.proofs.lemmas.Bool.{cond-true, cond-false}
 use Rattle.std.proofs.lemmas.List.{length-append}
 use Rattle.imap_automaton.proofs.Lists.{cons_head}
 use Rattle.imap_grammar.specs.Spans.{span, in_name, long_in, names_in, flags_in}
-use Rattle.imap_grammar.proofs.Cuts.{small, each_to, each_join, CutAt, cut_at, long_is}
+use Rattle.imap_grammar.proofs.Cuts.{small, each_to, each_join, cut_at, long_is}
 use Rattle.imap_syntax.specs.Octets.{is_digit, is_atom, lower}
-use Rattle.imap_syntax.specs.Texts.{Each, plain_of, plain}
-use Rattle.imap_syntax.specs.Numbers.{value_from, IsLong}
+use Rattle.imap_syntax.specs.Texts.{Each, plain}
+use Rattle.imap_syntax.specs.Numbers.{IsLong}
 use Rattle.imap_syntax.specs.Lines.{spaced}
 use Rattle.imap_syntax.specs.Items.{IsName, AllNames, joined, add_name, kept_from, kept}
 

@@ -1,22 +1,19 @@
 -- The symbols of a text take its octets and no more, where what follows ends it.
-use Rattle.std.proofs.Common.{◌≡◌, ℕ, ◌+◌, ◌<◌, Bool, true, false, not, ◌||◌, List, [], ◌∷◌, ◌++◌, length, drop, get_or, ◌≤◌, cond, Option, Some, None, refl, sym, ap, subst, ◌∙◌, arith}
-use Rattle.std.specs.Prelude.{◌≢◌}
+use Rattle.std.proofs.Common.{◌≡◌, ℕ, ◌+◌, ◌<◌, Bool, true, List, [], ◌∷◌, ◌++◌, length, drop, get_or, ◌≤◌, cond, Option, Some, None, refl, sym, ap, subst, ◌∙◌, arith}
 use Rattle.std.proofs.lemmas.Bool.{cond-false}
 use Rattle.std.proofs.lemmas.List.{append-nil, drop_all}
 use Rattle.imap_automaton.specs.declared.sym.Sym.{Sym}
 use Rattle.imap_automaton.specs.declared.sym.Move.{Move}
-use Rattle.imap_automaton.specs.declared.sym.Move.TheVariants as move
-use Rattle.imap_automaton.specs.Rules.{rule_of}
 use Rattle.imap_automaton.specs.Run.{moved, step, is_octets, inside_top, mark}
-use Rattle.imap_automaton.specs.Flow.{ends_open, begins, stops, first_begins, Good}
+use Rattle.imap_automaton.specs.Flow.{ends_open, begins, stops, Good}
 use Rattle.imap_automaton.specs.ItemRules.{item_start}
 use Rattle.imap_automaton.proofs.Langs.{Lang, Langs}
-use Rattle.imap_automaton.proofs.Lists.{no_append, some_is}
+use Rattle.imap_automaton.proofs.Lists.{no_append}
 use Rattle.imap_automaton.proofs.Edges.{empty_may, ends_by, begin_no_yield}
 use Rattle.imap_automaton.proofs.Kept.{yield_open}
 use Rattle.imap_automaton.proofs.Whole.{keeps, forth, open_begins}
 use Rattle.imap_automaton.proofs.Marks.{open_no_octets, forced}
-use Rattle.imap_automaton.proofs.Tests.{both, drop_at}
+use Rattle.imap_automaton.proofs.Tests.{drop_at}
 use Rattle.imap_grammar.specs.Passing.{beyond, passed}
 use Rattle.imap_syntax.specs.Texts.{plain_of, plain}
 

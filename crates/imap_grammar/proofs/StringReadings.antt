@@ -1,17 +1,15 @@
 -- Strings are read back as their values.
-use Rattle.std.proofs.Common.{◌≡◌, ◌⊎◌, ℕ, ◌+◌, ◌-◌, ◌<◌, ◌≤◌, Bool, true, false, ◌&&◌, ◌||◌, List, [], ◌∷◌, ◌++◌, length, map, take, drop, get_or, cond, refl, sym, ap, subst, ◌∙◌, append_assoc, arith, inl, inr}
-use Rattle.std.specs.Prelude.{◌==◌, nat_lt}
-use Rattle.std.proofs.lemmas.Bool.{cond-true, cond-false, eq-eqb}
-use Rattle.std.proofs.lemmas.List.{map-append}
-use Rattle.imap_automaton.proofs.StringEdges.{special_text, no_special}
+use Rattle.std.proofs.Common.{◌≡◌, ℕ, Bool, true, false, ◌&&◌, ◌||◌, List, [], ◌∷◌, ◌++◌, length, take, drop, get_or, cond, refl, sym, ap, subst, ◌∙◌, append_assoc, arith, inl, inr}
+use Rattle.std.specs.Prelude.{◌==◌}
+use Rattle.std.proofs.lemmas.Bool.{cond-true, cond-false}
+use Rattle.imap_automaton.proofs.StringEdges.{no_special}
 use Rattle.imap_grammar.specs.Spans.{span, number_in}
 use Rattle.imap_grammar.specs.StringReading.{unquoted, literal_in, atom_in, astring_in}
-use Rattle.imap_grammar.proofs.Cuts.{small, plain_small, plain_join, each_to, each_join, CutAt, cut_at, take_front, drop_front, number_is}
+use Rattle.imap_grammar.proofs.Cuts.{small, plain_small, plain_join, each_to, each_join, cut_at, take_front, drop_front, number_is}
 use Rattle.imap_grammar.proofs.NameReadings.{atom_small, digit_small, plain_length}
 use Rattle.imap_syntax.specs.Octets.{is_digit, is_text, is_atom}
-use Rattle.imap_syntax.specs.Texts.{Each, plain_of, plain}
-use Rattle.imap_syntax.specs.Numbers.{value_from}
-use Rattle.imap_syntax.specs.Strings.{IsAtom, escaped, quoted, IsQuoted, IsCounted, IsLiteral, IsAString}
+use Rattle.imap_syntax.specs.Texts.{Each, plain}
+use Rattle.imap_syntax.specs.Strings.{IsAtom, escaped, quoted, IsQuoted, IsCounted, IsAString}
 
 -- ---- quoted texts
 

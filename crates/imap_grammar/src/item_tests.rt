@@ -150,3 +150,96 @@ fn headers_and_bodies_are_told_and_other_items_passed_over(rt: HostRuntime) -> R
     }
     Ok(())
 }
+
+/// A FETCH with a header of one octet more than is kept.
+fn long_header(alloc: Global) -> Result<Vec<u8>, AllocError> {
+    let octets = vec![in alloc; b'a'; 32_769]?;
+    let mut bytes = Vec::new(alloc);
+    bytes.extend_from_slice(b"* 1 FETCH (BODY[HEADER] {32769}\r\n")?;
+    bytes.extend_from_slice(&octets)?;
+    bytes.extend_from_slice(b" UID 7)\r\n")?;
+    Ok(bytes)
+}
+
+fn is_cut(items: &FetchItems) -> bool {
+    match &items.header {
+        Some(header) => header.as_slice().len() == 32_768 && items.uid == Some(7),
+        None => false,
+    }
+}
+
+#[test]
+fn a_header_is_cut(rt: HostRuntime) -> Result<(), Fail> {
+    let alloc = rt.alloc();
+    let bytes = long_header(alloc)?;
+    let cut = match items_of(alloc, &bytes)? {
+        Some(items) => is_cut(&items),
+        None => false,
+    };
+    assert!(rt; cut);
+    Ok(())
+}
+
+/// A FETCH, and the date that it tells.
+const DATES: [(&[u8], Option<i64>); 12] = [
+    (
+        b"* 1 FETCH (INTERNALDATE \"17-Jul-1996 02:44:25 -0700\")\r\n",
+        Some(837_596_665),
+    ),
+    (
+        b"* 1 FETCH (internaldate \" 1-jAN-1970 00:00:00 +0000\")\r\n",
+        Some(0),
+    ),
+    (
+        b"* 1 FETCH (INTERNALDATE \"29-Feb-2000 23:59:59 +0130\")\r\n",
+        Some(951_863_399),
+    ),
+    (
+        b"* 1 FETCH (INTERNALDATE \"30-Feb-2001 00:00:00 +0000\")\r\n",
+        Some(983_491_200),
+    ),
+    (
+        b"* 1 FETCH (INTERNALDATE \"00-Mar-1970 99:99:99 +0000\")\r\n",
+        Some(5_373_639),
+    ),
+    (
+        b"* 1 FETCH (INTERNALDATE \"01-Jan-0000 00:00:00 +0000\")\r\n",
+        Some(-62_167_219_200),
+    ),
+    (
+        b"* 1 FETCH (INTERNALDATE \"01-Jan-0000 00:00:00 +0001\")\r\n",
+        Some(-62_167_219_200),
+    ),
+    (
+        b"* 1 FETCH (INTERNALDATE \"00-Jan-0000 00:00:00 -2400\")\r\n",
+        Some(-62_167_219_200),
+    ),
+    (
+        b"* 1 FETCH (INTERNALDATE \"31-Dec-9999 23:59:59 +0000\")\r\n",
+        Some(253_402_300_799),
+    ),
+    (
+        b"* 1 FETCH (INTERNALDATE \"31-Dec-9999 23:59:59 -0001\")\r\n",
+        Some(253_402_300_799),
+    ),
+    (
+        b"* 1 FETCH (INTERNALDATE \"01-Dec-2020 00:00:00 +0000\" UID 7 INTERNALDATE \"02-Dec-2020 00:00:00 +0000\")\r\n",
+        Some(1_606_867_200),
+    ),
+    (b"* 1 FETCH (UID 7)\r\n", None),
+];
+
+fn has_date(alloc: Global, bytes: &[u8], date: Option<i64>) -> Result<bool, AllocError> {
+    match items_of(alloc, bytes)? {
+        Some(items) => Ok(items.date == date),
+        None => Ok(false),
+    }
+}
+
+#[test]
+fn dates_are_told_in_seconds(rt: HostRuntime) -> Result<(), Fail> {
+    for (bytes, date) in DATES.iter() {
+        assert!(rt; has_date(rt.alloc(), bytes, *date)?);
+    }
+    Ok(())
+}

@@ -21,7 +21,9 @@ fn responses(alloc: Global) -> Result<Vec<u8>, AllocError> {
     let header = vec![in alloc; b'a'; HEADER]?;
     let mut out = Vec::new(alloc);
     for uid in 1..RESPONSES + 1 {
-        let front = format!(in alloc; "* X (UID {uid} FLAGS (\\Seen) {{{HEADER}}}\r\n")?;
+        let front = format!(in alloc;
+            "* {uid} FETCH (UID {uid} FLAGS (\\Seen) MODSEQ (14) INTERNALDATE \"02-Jan-2024 09:00:00 +0000\" RFC822.SIZE 20000 BODY[HEADER]<0> {{{HEADER}}}\r\n"
+        )?;
         out.extend_from_slice(front.as_bytes())?;
         out.extend_from_slice(&header)?;
         out.extend_from_slice(b")\r\n")?;

@@ -1,6 +1,5 @@
-use Rattle.std.proofs.Common.{◌≡◌, ◌∙◌, ℕ, ◌+◌, ◌<◌, ◌≤◌, Bool, true, false, List, length, drop, get_or, cond, Option, Some, None, ap, sym, arith}
-use Rattle.imap_automaton.specs.declared.sym.Sym.{Sym}
-use Rattle.imap_automaton.specs.Run.{step, inside_top, mark}
+use Rattle.std.proofs.Common.{◌≡◌, ◌∙◌, Bool, true, get_or, cond, Some, None, ap, arith}
+use Rattle.imap_automaton.specs.Run.{step, mark}
 use Rattle.imap_automaton.specs.Symbols.{symbols_of}
 use Rattle.imap_automaton.proofs.Tests.{both}
 use Rattle.imap_automaton.proofs.Whole.{keeps, room_keeps, good_fits}
