@@ -10,6 +10,9 @@ mod outside;
 mod playback;
 mod script;
 mod script_world;
+mod sending;
+#[cfg(test)]
+mod sending_tests;
 mod steady_world;
 mod tape;
 mod text;
@@ -22,6 +25,7 @@ pub use names::Names;
 pub use outside::{Chance, Console, Failed, Front, KeepError, Link, Secrets, Taped, World};
 pub use script::{Fail, Script};
 pub use script_world::ScriptWorld;
+pub use sending::{send_all, write_all};
 pub use steady_world::SteadyWorld;
 pub use tape::Tape;
 pub use text::Text;

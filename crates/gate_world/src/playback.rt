@@ -40,6 +40,7 @@ impl Playback {
     /// Nothing of the script has been played.
     pub(crate) fn new(alloc: Global, script: Script) -> Playback
         ensures told { result.tape ≡ Some [] }
+        ensures script { result.script ≡ script }
     {
         Playback {
             alloc,

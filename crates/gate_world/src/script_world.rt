@@ -1,5 +1,5 @@
 // A world in memory that follows a script, and fails where the script says so.
-ghost use Rattle.std.specs.Prelude.{◌≡◌, ◌≤◌, [], Some};
+ghost use Rattle.std.specs.Prelude.{◌≡◌, ◌≤◌, [], Some, None, IfSome, IsNone};
 ghost use Rattle.gate_world.specs.Causes.{Rose};
 ghost use Rattle.gate_world.specs.declared.event.Event.TheVariants.{FrontFailed, LinkEnded};
 ghost use Rattle.gate_world.specs.Tape.{AddsOne};
@@ -20,6 +20,8 @@ pub struct ScriptWorld {
 impl ScriptWorld {
     pub fn new(alloc: Global, script: Script) -> ScriptWorld
         ensures told { result.playback.tape ≡ Some [] }
+        ensures script { result.playback.script ≡ script }
+        ensures no_fault { result ≡ record { playback = result.playback; calls = 0; link_faults = 0; front_faults = 0; say_faults = 0 } }
     {
         ScriptWorld {
             playback: Playback::new(alloc, script),
@@ -31,7 +33,10 @@ impl ScriptWorld {
     }
 
     /// The events so far, where they are told.
-    pub fn events(&self) -> Option<&[Event]> {
+    pub fn events(&self) -> Option<&[Event]>
+        ensures told { IfSome result (λ events. self.now.playback.tape ≡ Some events.now) }
+        ensures stopped { IsNone result → self.now.playback.tape ≡ None }
+    {
         self.playback.tape.events()
     }
 }

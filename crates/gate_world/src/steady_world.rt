@@ -1,5 +1,5 @@
 // A world in memory that follows a script, and in which no call fails.
-ghost use Rattle.std.specs.Prelude.{◌≡◌, ◌<◌, ◌≤◌, ℕ, [], Some, length, slice_index};
+ghost use Rattle.std.specs.Prelude.{◌≡◌, ◌<◌, ◌≤◌, ℕ, [], Some, None, IfSome, IsNone, length, slice_index};
 ghost use Rattle.gate_world.specs.Causes.{no_faults};
 
 use crate::playback::Playback;
@@ -16,6 +16,7 @@ pub struct SteadyWorld {
 impl SteadyWorld {
     pub fn new(alloc: Global, script: Script) -> SteadyWorld
         ensures told { result.playback.tape ≡ Some [] }
+        ensures script { result.playback.script ≡ script }
     {
         SteadyWorld {
             playback: Playback::new(alloc, script),
@@ -23,7 +24,10 @@ impl SteadyWorld {
     }
 
     /// The events so far, where they are told.
-    pub fn events(&self) -> Option<&[Event]> {
+    pub fn events(&self) -> Option<&[Event]>
+        ensures told { IfSome result (λ events. self.now.playback.tape ≡ Some events.now) }
+        ensures stopped { IsNone result → self.now.playback.tape ≡ None }
+    {
         self.playback.tape.events()
     }
 }

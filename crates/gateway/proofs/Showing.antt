@@ -11,7 +11,7 @@ use Rattle.gate_world.specs.declared.outside.Failed.{Failed}
 use Rattle.email_get.specs.EmailObjects.{IsEmailObject}
 use Rattle.gateway.specs.declared.front.FrontError.{FrontError}
 use Rattle.gateway.specs.declared.front.FrontError.TheVariants as error
-use Rattle.gateway.specs.Front.{Sends}
+use Rattle.gate_world.specs.Sending.{Sends}
 use Rattle.gateway.specs.Segment.{line_end}
 use Rattle.gateway.specs.Show.{object_line, ShowsObject, Reads, Answers, Sent, Shows, ShowsClient}
 use Rattle.gateway.specs.Run.{Says, front_failed, RunsShow}

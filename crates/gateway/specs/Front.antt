@@ -1,9 +1,8 @@
--- What a client's input and what it is sent add to the tape.
+-- What a client's input adds to the tape.
 use Rattle.std.specs.Prelude.{◌≡◌, ◌<◌, ◌≤◌, ◌++◌, ◌+◌, ℕ, List, [], ◌∷◌, length, Result, Ok, Err}
 use Rattle.gate_world.specs.declared.event.Event.{Event}
 use Rattle.gate_world.specs.declared.event.Event.TheVariants.{ClientEnded, FrontFailed}
-use Rattle.gate_world.specs.declared.outside.Failed.{Failed}
-use Rattle.gate_world.specs.Octets.{Asks, Hears}
+use Rattle.gate_world.specs.Octets.{Asks}
 use Rattle.gateway.specs.declared.front.AskError.{AskError}
 use Rattle.gateway.specs.declared.front.AskError.TheVariants as ask
 use Rattle.gateway.specs.declared.front.FrontError.{FrontError}
@@ -33,8 +32,3 @@ Asked (Ok octets) events = Gives (body_limit + 1) (Ok (Whole octets)) events
 Asked (Err ask.TooLarge) events = (octets : List ℕ) × Gives (body_limit + 1) (Ok (Cut octets)) events
 Asked (Err ask.Failed) events = Gives (body_limit + 1) (Err front.Failed) events
 Asked (Err ask.Memory) events = Gives (body_limit + 1) (Err front.Memory) events
-
--- the client took these octets, or the front failed before it took them all
-abbrev pub Sends : List ℕ → Result (Unit {0}) Failed → List Event → Type 0
-Sends octets (Ok _) events = Hears octets events
-Sends octets (Err _) events = (heard : List Event) × (took : List ℕ) × (rest : List ℕ) × (events ≡ heard ++ FrontFailed ∷ []) × Hears took heard × (took ++ rest ≡ octets) × (0 < length rest)

@@ -19,7 +19,8 @@ use Rattle.gateway.specs.declared.request.Reply.{Reply}
 use Rattle.gateway.specs.declared.request.Reply.TheVariants as reply
 use Rattle.gateway.specs.Mail.{IsMail, counts_of}
 use Rattle.gateway.specs.Machine.{Account, Machine, Follows, state_of}
-use Rattle.gateway.specs.Front.{Asked, Sends}
+use Rattle.gate_world.specs.Sending.{Sends}
+use Rattle.gateway.specs.Front.{Asked}
 
 -- each text ends its line
 abbrev pub line_end : List ℕ

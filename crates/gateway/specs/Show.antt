@@ -9,7 +9,8 @@ use Rattle.email_get.specs.EmailObjects.{IsEmailObject}
 use Rattle.gateway.specs.declared.front.FrontError.{FrontError}
 use Rattle.gateway.specs.declared.front.FrontError.TheVariants as front
 use Rattle.gateway.specs.declared.front.Input.{Input}
-use Rattle.gateway.specs.Front.{octets_of, Gives, Sends}
+use Rattle.gate_world.specs.Sending.{Sends}
+use Rattle.gateway.specs.Front.{octets_of, Gives}
 use Rattle.gateway.specs.Segment.{line_end}
 
 -- the most octets of a message

@@ -1,8 +1,8 @@
-// What a client gives and is sent.
-ghost use Rattle.std.specs.Prelude.{◌≡◌, OnErr, IsErrOf};
+// What a client gives.
+ghost use Rattle.std.specs.Prelude.{◌≡◌, IsErrOf};
 ghost use Rattle.gate_world.specs.Causes.{Rose, FrontAlone};
 ghost use Rattle.gate_world.specs.Tape.{Adds};
-ghost use Rattle.gateway.specs.Front.{octets_of, Gives, Asked, Sends};
+ghost use Rattle.gateway.specs.Front.{octets_of, Gives, Asked};
 
 use gate_world::{Bytes, Failed, Front};
 use std::alloc::{AllocError, Global};
@@ -68,21 +68,6 @@ pub enum AskError {
     /// More octets than a body has at most.
     TooLarge,
     Memory,
-}
-
-/// Sends all of it.
-pub fn send_all<F: Front>(front: &mut F, octets: &[u8]) -> Result<(), Failed>
-    ensures tape { Adds (F.tape front.old) (F.tape front.new) (Sends octets.now result) }
-    ensures alone { FrontAlone (F.faults front.old) (F.faults front.new) }
-    ensures cause { OnErr result (Rose (F.faults front.old).front (F.faults front.new).front) }
-    ensures hidden { F.hidden front.new ≡ F.hidden front.old }
-{
-    let mut rest = octets;
-    while !rest.is_empty() {
-        let count = front.send(rest)?;
-        rest = &rest[count..];
-    }
-    Ok(())
 }
 
 /// The client's octets up to the end of its input, or the first of them, as many as are wanted at most.

@@ -6,10 +6,9 @@ ghost use Rattle.gateway.specs.Machine.{opened};
 ghost use Rattle.gateway.specs.Run.{account_of};
 ghost use Rattle.gateway.specs.Segment.{SendsReply, Serves, ServesOne};
 
-use crate::front::send_all;
 use crate::request::{Reply, respond};
 use gate_words::Place;
-use gate_world::{Failed, Front, World};
+use gate_world::{Failed, Front, World, send_all};
 use std::alloc::Global;
 
 // Sends the reply, where there is one.

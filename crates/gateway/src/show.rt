@@ -4,10 +4,10 @@ ghost use Rattle.gate_world.specs.Causes.{Rose, FrontAlone};
 ghost use Rattle.gate_world.specs.Tape.{Adds};
 ghost use Rattle.gateway.specs.Show.{ShowsObject, Reads, Answers, ShowsClient, Shows};
 
-use crate::front::{FrontError, receive, send_all};
+use crate::front::{FrontError, receive};
 use crate::line::with_line_end;
 use email_get::email_object;
-use gate_world::{Bytes, Front};
+use gate_world::{Bytes, Front, send_all};
 use std::alloc::{AllocError, Global};
 
 /// The most octets of a message that are read.

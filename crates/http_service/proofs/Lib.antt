@@ -1,4 +1,3 @@
-pub mod SendingLemmas
 pub mod FieldLemmas
 pub mod HeadLemmas
 pub mod HeadEndLemmas

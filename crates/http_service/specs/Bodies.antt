@@ -7,7 +7,7 @@ use Rattle.http_service.specs.declared.head.BodyKind.{BodyKind}
 use Rattle.http_service.specs.declared.head.BodyKind.TheVariants.{Length, Chunked}
 use Rattle.http_service.specs.declared.error.HttpError.{HttpError}
 use Rattle.http_service.specs.declared.error.HttpError.TheVariants.{TooLarge, FrontFault}
-use Rattle.http_service.specs.Sending.{Sends}
+use Rattle.gate_world.specs.Sending.{Sends}
 use Rattle.http_service.specs.Reading.{ReadsLength}
 use Rattle.http_service.specs.ChunkedBody.{ReadsChunks}
 

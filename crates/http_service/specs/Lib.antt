@@ -1,5 +1,4 @@
 pub mod Responses
-pub mod Sending
 pub mod Fields
 pub mod Values
 pub mod Heads

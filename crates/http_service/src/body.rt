@@ -8,9 +8,8 @@ ghost use Rattle.http_service.specs.Reading.{ReadsLength};
 use crate::chunks::read_chunks;
 use crate::error::HttpError;
 use crate::head::{BodyKind, Head};
-use crate::response::send_all;
 use crate::spare::Spare;
-use gate_world::{Bytes, Front};
+use gate_world::{Bytes, Front, send_all};
 use std::alloc::Global;
 
 // A body of so many octets (RFC 9112 section 6.2).

@@ -7,6 +7,7 @@ use Rattle.gate_world.specs.declared.event.Event.{Event}
 use Rattle.gate_world.specs.declared.event.Event.TheVariants.{LinkEnded}
 use Rattle.gate_world.specs.declared.outside.Failed.{Failed}
 use Rattle.gate_world.specs.Octets.{Talk}
+use Rattle.gate_world.specs.Sending.{Writes}
 use Rattle.gate_world.proofs.Joins.{Talk-append}
 use Rattle.imap_syntax.specs.declared.command.Command.{Command}
 use Rattle.imap_syntax.specs.declared.code.Code.{Code}
@@ -23,7 +24,7 @@ use Rattle.imap_client.specs.Unread.{Octets}
 use Rattle.imap_client.specs.Reading.{Begins, BeginsNone}
 use Rattle.imap_client.specs.Exchanges.{IsOpen}
 use Rattle.imap_client.specs.LinkLife.{is_tagged}
-use Rattle.imap_client.specs.Calls.{Writes, Reads, Ended, Fails, Unanswered, NoAnswer, Exchanges, Collects, Gathers, Judges}
+use Rattle.imap_client.specs.Calls.{Reads, Ended, Fails, Unanswered, NoAnswer, Exchanges, Collects, Gathers, Judges}
 use Rattle.imap_client.proofs.Fronts.{same_front}
 
 -- more responses behind some
@@ -70,18 +71,9 @@ Ended-append end.Refused xs talk ys is = ap (λ (l : List Event). xs ++ l) is
 Ended-append end.Unsendable xs talk ys is = ap (λ (l : List Event). xs ++ l) is
 Ended-append end.Memory xs talk ys is = ap (λ (l : List Event). xs ++ l) is
 
--- nothing has come yet
-pub Gathers-none : (before : Octets) → Gathers before before [] []
-Gathers-none before =
-    record { gave = []; said = record { kind = search rules; gave_is = refl; took_is = refl }; open_still = search rules; spelled = append-nil before.octets; given = omega arith }
-
 -- the octets behind the responses that came, with those that came after
 held_with : (vs : List Response) (before mid g h : List ℕ) → Begins vs mid (before ++ g) → Begins vs (mid ++ h) (before ++ (g ++ h))
 held_with vs before mid g h spelled = subst (λ (l : List ℕ). Begins vs (mid ++ h) l) (append_assoc before g h) (Begins-more vs mid (before ++ g) h spelled)
-
--- one response more, as far as the octets go
-pub one_more : (vs : List Response) (w : Response) (before mid after g h text : List ℕ) → Begins vs mid (before ++ g) → mid ++ h ≡ text ++ after → Begins (w ∷ []) after (mid ++ h) → Begins (vs ++ w ∷ []) after (before ++ (g ++ h))
-one_more vs w before mid after g h text spelled is one = Begins-append vs (w ∷ []) (mid ++ h) after (before ++ (g ++ h)) (held_with vs before mid g h spelled) one
 
 -- no response comes
 pub unread_further : {xs : List Event} (ys : List Event) {vs : List Response} {before mid : Octets} (n : ℕ) (after : Octets) (e : LinkEnd) → Gathers before mid vs xs → Reads mid after (Err e) ys → Fails (Unanswered n) n before e (xs ++ ys)
@@ -227,16 +219,3 @@ sent {xs} ys before after n command (Err e) talk fails =
     lacking : (e ≡ end.Memory) ⊎ Unanswered n (before.octets ++ fails.gave) fails.took → (e ≡ end.Memory) ⊎ NoAnswer n command (before.octets ++ fails.gave) (command_text command n ++ fails.took)
     lacking (inl memory) = inl memory
     lacking (inr (took, none)) = inr (λ rs s rest left answer whole. none rs s rest answer)
-
--- the link ended before the command was taken whole
-pub cut_short : {xs : List Event} {before : Octets} (n : ℕ) (command : Command) (e : Failed) → Writes (command_text command n) (Err e) xs → Fails (NoAnswer n command) n before end.Lost xs
-cut_short {xs} n command e (talk, took, rest, is, said, whole, some) =
-    record {
-      talk = talk;
-      gave = [];
-      took = took;
-      ended = is;
-      said = said;
-      lacks = inr (λ rs s back left answer all. omega (arith, ap length whole, ap length all, length-append took rest, length-append (command_text command n) left));
-      stops = tt;
-    }

@@ -1,4 +1,3 @@
-pub mod Pieces
 mod Fronts
 mod Responses
 mod Answering

@@ -16,10 +16,6 @@ use Rattle.imap_client.specs.Reading.{BeginsNone}
 use Rattle.imap_client.specs.Calls.{Gains, Fills, Reads}
 use Rattle.imap_grammar.proofs.Spellings.{need_more_none, bad_none}
 
--- nothing was given yet
-pub Gains-none : (before : Octets) → Gains before before [] []
-Gains-none before = record { said = record { kind = search rules; gave_is = refl; took_is = refl }; octets = sym (append-nil before.octets); given = omega arith }
-
 -- twice
 pub Gains-append : {a b c : Octets} {g h : List ℕ} {es fs : List Event} → Gains a b g es → Gains b c h fs → Gains a c (g ++ h) (es ++ fs)
 Gains-append {a} {b} {c} {g} {h} first second =

@@ -2,7 +2,6 @@
 use Rattle.std.specs.Prelude.{◌≡◌, ◌≢◌, ◌⊎◌, ◌<◌, ◌++◌, ◌+◌, ℕ, List, [], ◌∷◌, length, Result, Ok, Err, All}
 use Rattle.gate_world.specs.declared.event.Event.{Event}
 use Rattle.gate_world.specs.declared.event.Event.TheVariants.{LinkEnded}
-use Rattle.gate_world.specs.declared.outside.Failed.{Failed}
 use Rattle.gate_world.specs.Octets.{Talk}
 use Rattle.imap_syntax.specs.declared.code.Code.{Code}
 use Rattle.imap_syntax.specs.declared.response.Response.{Response}
@@ -28,11 +27,6 @@ pub record Gains (before after : Octets) (gave : List ℕ) (events : List Event)
   pub said : Talk gave [] events
   pub octets : after.octets ≡ before.octets ++ gave
   pub given : after.given ≡ before.given + length gave
-
--- the store took these octets, or the link ended before it took them all
-abbrev pub Writes : List ℕ → Result (Unit {0}) Failed → List Event → Type 0
-Writes octets (Ok _) events = Talk [] octets events
-Writes octets (Err _) events = (talk : List Event) × (took : List ℕ) × (rest : List ℕ) × (events ≡ talk ++ LinkEnded ∷ []) × Talk [] took talk × (took ++ rest ≡ octets) × (0 < length rest)
 
 -- the store gave octets; or the link ended; or the life had given too many
 abbrev pub Fills : Octets → Octets → Result (Unit {0}) LinkEnd → List Event → Type 0

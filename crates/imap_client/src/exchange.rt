@@ -4,12 +4,12 @@ ghost use Rattle.gate_world.specs.Causes.{Rose, LinkAlone};
 ghost use Rattle.gate_world.specs.Tape.{Adds};
 ghost use Rattle.imap_syntax.specs.Commands.{IsQuotable, command_text, tag_of};
 ghost use Rattle.imap_syntax.specs.declared.response.Response.TheVariants.{Tagged};
-ghost use Rattle.imap_client.specs.Calls.{Writes, Collects, Exchanges, Judges};
+ghost use Rattle.imap_client.specs.Calls.{Collects, Exchanges, Judges};
 
 use crate::link_end::LinkEnd;
 use crate::response::next_response;
 use crate::unread::Unread;
-use gate_world::{Bytes, Failed, Link, Listed};
+use gate_world::{Bytes, Link, Listed, write_all};
 use imap_grammar::write_command;
 use imap_syntax::{Command, Response, Status};
 use std::alloc::{AllocError, Global};
@@ -19,21 +19,6 @@ use std::alloc::{AllocError, Global};
 pub struct Answer {
     pub responses: Listed<Response>,
     pub status: Status,
-}
-
-/// Writes all of it.
-fn write_all<L: Link>(link: &mut L, octets: &[u8]) -> Result<(), Failed>
-    ensures tape { Adds (L.tape link.old) (L.tape link.new) (Writes octets.now result) }
-    ensures alone { LinkAlone (L.faults link.old) (L.faults link.new) }
-    ensures cause { OnErr result (Rose (L.faults link.old).link (L.faults link.new).link) }
-    ensures hidden { L.hidden link.new ≡ L.hidden link.old }
-{
-    let mut rest = octets;
-    while !rest.is_empty() {
-        let count = link.write(rest)?;
-        rest = &rest[count..];
-    }
-    Ok(())
 }
 
 // The whole text of a command. No command of this client waits for a continuation.

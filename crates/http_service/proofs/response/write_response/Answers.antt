@@ -1,5 +1,5 @@
 use Rattle.gate_world.proofs.Joins.{join, widen}
-use Rattle.http_service.proofs.SendingLemmas.{first_failed, then_second}
+use Rattle.gate_world.proofs.SendingLemmas.{first_failed, then_second}
 use Rattle.http_service.proofs.response.write_response.Goals as goal
 
 pub returns-in-Ok-clause-tape : goal.returns-in-Ok-clause-tape

@@ -2,7 +2,7 @@ use Rattle.std.proofs.Common.{◌≡◌, ◌++◌, ℕ, List, [], length}
 use Rattle.gate_world.specs.Causes.{LinkAlone}
 use Rattle.gate_world.specs.Octets.{Talk}
 use Rattle.gate_world.specs.Tape.{Adds}
-use Rattle.imap_client.proofs.exchange.write_all.Given as goal
+use Rattle.gate_world.proofs.sending.write_all.Given as goal
 
 abbrev pub invariant-loop-rest : goal.invariant-loop-rest
 invariant-loop-rest g l =

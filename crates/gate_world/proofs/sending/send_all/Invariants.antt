@@ -2,7 +2,7 @@ use Rattle.std.proofs.Common.{◌≡◌, ◌++◌, ℕ, List, length}
 use Rattle.gate_world.specs.Causes.{FrontAlone}
 use Rattle.gate_world.specs.Octets.{Hears}
 use Rattle.gate_world.specs.Tape.{Adds}
-use Rattle.http_service.proofs.response.send_all.Given as goal
+use Rattle.gate_world.proofs.sending.send_all.Given as goal
 
 abbrev pub invariant-loop-rest : goal.invariant-loop-rest
 invariant-loop-rest g l =

@@ -5,7 +5,7 @@ use Rattle.gate_world.specs.declared.event.Event.{Event}
 use Rattle.gate_world.specs.declared.outside.Failed.{Failed}
 use Rattle.gate_world.specs.Octets.{Hears}
 use Rattle.gate_world.proofs.Joins.{Hears-append}
-use Rattle.http_service.specs.Sending.{Sends}
+use Rattle.gate_world.specs.Sending.{Sends}
 
 -- one more piece off the front of the rest
 pub moves : (took rest all : List ℕ) (n m : ℕ) → took ++ rest ≡ all → m ≡ length rest - n → (took ++ take n rest) ++ take m (drop n rest) ≡ all

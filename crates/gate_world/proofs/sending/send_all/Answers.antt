@@ -1,7 +1,7 @@
 use Rattle.std.proofs.Common.{rules, take, ◌++◌, refl}
 use Rattle.gate_world.proofs.Joins.{then_one, Hears-append, Hears-one}
-use Rattle.imap_client.proofs.Pieces.{moves}
-use Rattle.gateway.proofs.front.send_all.Goals as goal
+use Rattle.gate_world.proofs.SendingLemmas.{moves}
+use Rattle.gate_world.proofs.sending.send_all.Goals as goal
 
 pub loop-rest-preserved : goal.loop-rest-preserved
 loop-rest-preserved g c =

@@ -1,7 +1,7 @@
 use Rattle.std.proofs.Common.{rules, take, ◌++◌, refl}
 use Rattle.gate_world.proofs.Joins.{then_one, Talk-append, Talk-took}
-use Rattle.imap_client.proofs.Pieces.{moves}
-use Rattle.imap_client.proofs.exchange.write_all.Goals as goal
+use Rattle.gate_world.proofs.SendingLemmas.{moves}
+use Rattle.gate_world.proofs.sending.write_all.Goals as goal
 
 pub loop-rest-preserved : goal.loop-rest-preserved
 loop-rest-preserved g c =
