@@ -1,9 +1,6 @@
 // Lines of folders: where they end, and what they say.
-use crate::answer::Scan;
-use crate::decode_tests::{joined, read};
-use crate::scan_tests::fed;
-use crate::scanner::scan;
-use imap_syntax::{Response, StatusItems};
+use crate::reading::{expect_scan, expect_whole, joined, read};
+use imap_grammar::{Response, Scan, StatusItems};
 use std::alloc::{AllocError, Global};
 use std::test::Fail;
 
@@ -88,16 +85,13 @@ const BAD: [(&[u8], usize); 36] = [
 #[test]
 fn lines_of_folders_end_where_the_grammar_says(rt: HostRuntime) -> Result<(), Fail> {
     for bytes in WHOLE.iter() {
-        assert_eq!(rt; scan(bytes), Scan::Whole(bytes.len()));
-        assert_eq!(rt; fed(bytes), Scan::Whole(bytes.len()));
+        expect_whole(&rt, bytes);
     }
     for bytes in OPEN.iter() {
-        assert_eq!(rt; scan(bytes), Scan::NeedMore);
-        assert_eq!(rt; fed(bytes), Scan::NeedMore);
+        expect_scan(&rt, bytes, Scan::NeedMore);
     }
     for (bytes, at) in BAD.iter() {
-        assert_eq!(rt; scan(bytes), Scan::Bad(*at), "{at}");
-        assert_eq!(rt; fed(bytes), Scan::Bad(*at), "{at}");
+        expect_scan(&rt, bytes, Scan::Bad(*at));
     }
     Ok(())
 }

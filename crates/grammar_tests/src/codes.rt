@@ -1,22 +1,14 @@
 // Codes of status lines.
-use crate::answer::Scan;
-use crate::decoder::decode;
-use crate::scanner::scan;
-use imap_syntax::{Code, Response, UidRange};
+use crate::reading::read;
+use imap_grammar::{Code, Response, UidRange};
 use std::alloc::{AllocError, Global};
 use std::test::Fail;
 
 /// The code of the status line that the octets are.
 fn code_of(alloc: Global, bytes: &[u8]) -> Result<Option<Code>, AllocError> {
-    match scan(bytes) {
-        Scan::Whole(n) => {
-            let (front, _) = bytes.split_at(n);
-            match decode(alloc, front)? {
-                Response::Tagged { code, .. } => Ok(Some(code)),
-                Response::Untagged { code, .. } => Ok(Some(code)),
-                _ => Ok(None),
-            }
-        }
+    match read(alloc, bytes)? {
+        Some(Response::Tagged { code, .. }) => Ok(Some(code)),
+        Some(Response::Untagged { code, .. }) => Ok(Some(code)),
         _ => Ok(None),
     }
 }

@@ -1,10 +1,7 @@
 // Items of a FETCH: where they end, and what they tell.
-use crate::answer::Scan;
-use crate::decoder::decode;
-use crate::scan_tests::fed;
-use crate::scanner::scan;
+use crate::reading::{expect_scan, expect_whole, read};
 use gate_world::Bytes;
-use imap_syntax::{FetchItems, Response};
+use imap_grammar::{FetchItems, Response, Scan};
 use std::alloc::{AllocError, Global};
 use std::test::Fail;
 
@@ -49,26 +46,18 @@ const BAD: [(&[u8], usize); 15] = [
 #[test]
 fn items_end_where_the_grammar_says(rt: HostRuntime) -> Result<(), Fail> {
     for bytes in WHOLE.iter() {
-        assert_eq!(rt; scan(bytes), Scan::Whole(bytes.len()));
-        assert_eq!(rt; fed(bytes), Scan::Whole(bytes.len()));
+        expect_whole(&rt, bytes);
     }
     for (bytes, at) in BAD.iter() {
-        assert_eq!(rt; scan(bytes), Scan::Bad(*at), "{at}");
-        assert_eq!(rt; fed(bytes), Scan::Bad(*at), "{at}");
+        expect_scan(&rt, bytes, Scan::Bad(*at));
     }
     Ok(())
 }
 
 /// The items of the FETCH, if it is one.
 fn items_of(alloc: Global, bytes: &[u8]) -> Result<Option<FetchItems>, AllocError> {
-    match scan(bytes) {
-        Scan::Whole(n) => {
-            let (front, _) = bytes.split_at(n);
-            match decode(alloc, front)? {
-                Response::Fetch { seq: _seq, items } => Ok(Some(items)),
-                _ => Ok(None),
-            }
-        }
+    match read(alloc, bytes)? {
+        Some(Response::Fetch { seq: _seq, items }) => Ok(Some(items)),
         _ => Ok(None),
     }
 }
@@ -151,32 +140,59 @@ fn headers_and_bodies_are_told_and_other_items_passed_over(rt: HostRuntime) -> R
     Ok(())
 }
 
-/// A FETCH with a header of one octet more than is kept.
-fn long_header(alloc: Global) -> Result<Vec<u8>, AllocError> {
-    let octets = vec![in alloc; b'a'; 32_769]?;
+/// A FETCH of an item with so many octets, and of UID 7.
+fn long_item(alloc: Global, name: &str, count: usize) -> Result<Vec<u8>, AllocError> {
+    let octets = vec![in alloc; b'a'; count]?;
+    let front = format!(in alloc; "* 1 FETCH ({name} {{{count}}}\r\n")?;
     let mut bytes = Vec::new(alloc);
-    bytes.extend_from_slice(b"* 1 FETCH (BODY[HEADER] {32769}\r\n")?;
+    bytes.extend_from_slice(front.as_bytes())?;
     bytes.extend_from_slice(&octets)?;
     bytes.extend_from_slice(b" UID 7)\r\n")?;
     Ok(bytes)
 }
 
-fn is_cut(items: &FetchItems) -> bool {
-    match &items.header {
-        Some(header) => header.as_slice().len() == 32_768 && items.uid == Some(7),
-        None => false,
+fn length_of(text: &Option<Bytes>) -> usize {
+    match text {
+        Some(text) => text.as_slice().len(),
+        None => 0,
+    }
+}
+
+/// An item with so many octets, and how many of a header and of a body are told.
+const LONG: [(&str, usize, usize, usize); 5] = [
+    ("BODY[HEADER]", 32_767, 32_767, 0),
+    ("BODY[HEADER]<0>", 32_768, 32_768, 0),
+    ("BODY[HEADER]", 32_769, 32_768, 0),
+    ("BODY[]", 32_769, 0, 32_769),
+    ("BODY[]<0>", 50_000_000, 0, 50_000_000),
+];
+
+fn has_lengths(
+    alloc: Global,
+    bytes: &[u8],
+    header: usize,
+    body: usize,
+) -> Result<bool, AllocError> {
+    match items_of(alloc, bytes)? {
+        Some(items) => Ok(
+            items.uid == Some(7)
+                && length_of(&items.header) == header
+                && length_of(&items.body) == body,
+        ),
+        None => Ok(false),
     }
 }
 
 #[test]
-fn a_header_is_cut(rt: HostRuntime) -> Result<(), Fail> {
+fn headers_are_cut_and_bodies_are_not(rt: HostRuntime) -> Result<(), Fail> {
     let alloc = rt.alloc();
-    let bytes = long_header(alloc)?;
-    let cut = match items_of(alloc, &bytes)? {
-        Some(items) => is_cut(&items),
-        None => false,
-    };
-    assert!(rt; cut);
+    for (name, count, header, body) in LONG.iter() {
+        let bytes = long_item(alloc, name, *count)?;
+        assert!(rt;
+            has_lengths(alloc, &bytes, *header, *body)?,
+            "{name} {count}"
+        );
+    }
     Ok(())
 }
 

@@ -1,20 +1,7 @@
-// Where responses end, whole and octet by octet.
-use crate::answer::Scan;
-use crate::scanner::{Scanner, scan};
+// Where responses end.
+use crate::reading::expect_scan;
+use imap_grammar::Scan;
 use std::test::Fail;
-
-/// The answer to the octets, fed one at a time.
-pub fn fed(bytes: &[u8]) -> Scan {
-    let mut scanner = Scanner::new();
-    for octet in bytes {
-        let answer = scanner.feed(&[*octet]);
-        match answer {
-            Scan::NeedMore => {}
-            _ => return answer,
-        }
-    }
-    Scan::NeedMore
-}
 
 /// Octets, and how many of them are a response.
 const WHOLE: [(&[u8], usize); 50] = [
@@ -86,7 +73,7 @@ const WHOLE: [(&[u8], usize); 50] = [
 ];
 
 /// Octets that begin a response and are none.
-const OPEN: [&[u8]; 15] = [
+const OPEN: [&[u8]; 18] = [
     b"",
     b"a1 OK\r",
     b"* X {5}\r\n",
@@ -97,6 +84,9 @@ const OPEN: [&[u8]; 15] = [
     b"* 1 FETCH (FLAGS (\\",
     b"* 1 FETCH (INTERNALDATE \"17-S",
     b"* 1 FETCH (INTERNALDATE \"17-Jul-1996 02:44:25 -0700",
+    b"* 1 FETCH (BODY[] {2}\r\n",
+    b"* 1 FETCH (BODY[] {2}\r\nab",
+    b"* 1 FETCH (BODY[HEADER] {50000000}\r\n",
     b"* fetc",
     b"* VANISHED (earl",
     b"* VANISHED 1:4294967295",
@@ -105,8 +95,9 @@ const OPEN: [&[u8]; 15] = [
 ];
 
 /// Octets, and the first place at which no response goes on so.
-const BAD: [(&[u8], usize); 52] = [
+const BAD: [(&[u8], usize); 53] = [
     (b"* 1 FETCH (UID 0)", 16),
+    (b"* 1 FETCH (BODY[] {50000001", 26),
     (b"* 1 FETCH (UID 4294967296)", 24),
     (b"* 1 FETCH (UID 0000000000)", 24),
     (b"* 1 FETCH (UID 11111111111)", 25),
@@ -166,16 +157,13 @@ const BAD: [(&[u8], usize); 52] = [
 #[test]
 fn responses_end_where_the_grammar_says(rt: HostRuntime) -> Result<(), Fail> {
     for (bytes, n) in WHOLE.iter() {
-        assert_eq!(rt; scan(bytes), Scan::Whole(*n), "{n}");
-        assert_eq!(rt; fed(bytes), Scan::Whole(*n), "{n}");
+        expect_scan(&rt, bytes, Scan::Whole(*n));
     }
     for bytes in OPEN.iter() {
-        assert_eq!(rt; scan(bytes), Scan::NeedMore);
-        assert_eq!(rt; fed(bytes), Scan::NeedMore);
+        expect_scan(&rt, bytes, Scan::NeedMore);
     }
     for (bytes, at) in BAD.iter() {
-        assert_eq!(rt; scan(bytes), Scan::Bad(*at), "{at}");
-        assert_eq!(rt; fed(bytes), Scan::Bad(*at), "{at}");
+        expect_scan(&rt, bytes, Scan::Bad(*at));
     }
     Ok(())
 }

@@ -1,6 +1,5 @@
 // The limits of a response, at their edges and one octet past them.
-use crate::answer::Scan;
-use crate::scanner::Scanner;
+use imap_grammar::{Scan, Scanner};
 use std::alloc::{AllocError, Global};
 use std::test::Fail;
 
