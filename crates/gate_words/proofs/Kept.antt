@@ -5,7 +5,8 @@ use Rattle.gate_words.specs.Options.{Setting, value_if, values_of}
 use Rattle.gate_words.specs.Given.{Values, keep}
 use Rattle.gate_words.specs.declared.option.Name.{Name}
 use Rattle.gate_words.specs.declared.option.Name.TheVariants.{Store, User, Base}
-use Rattle.gate_words.proofs.Steps.{and_then-some, free-some}
+use Rattle.gate_world.proofs.Steps.{and_then-some}
+use Rattle.gate_words.proofs.Steps.{free-some}
 
 -- the values with those of the settings, unless an option has two
 abbrev pub keeps : List Setting → Values → Option Values

@@ -8,7 +8,7 @@ use Rattle.gate_words.specs.Given.{cut, name_of, named, joined, begins_with_dash
 use Rattle.gate_words.specs.declared.option.Name.{Name}
 use Rattle.gate_words.specs.declared.option.Name.TheVariants.{Store, User, Base}
 use Rattle.gate_words.proofs.Cut.{cut-is}
-use Rattle.gate_words.proofs.Steps.{and_then-some, map-some, is_or_not}
+use Rattle.gate_world.proofs.Steps.{and_then-some, map-some, is_or_not}
 
 name-from : (word : List ℕ) (name : Name) → (word ≡ codes "--store") ⊎ (bytes_eq word (codes "--store") ≡ false) → (word ≡ codes "--user") ⊎ (bytes_eq word (codes "--user") ≡ false) → (word ≡ codes "--base") ⊎ (bytes_eq word (codes "--base") ≡ false) → name_of word ≡ Some name → word ≡ name_text name
 name-from word name (inl is) user base found = is ∙ ap name_text (same_Some Store name (ap name_of (sym is) ∙ found))

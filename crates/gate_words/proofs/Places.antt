@@ -1,12 +1,13 @@
 -- Options are read as a place exactly where they name it.
 use Rattle.std.proofs.Common.{◌≡◌, ℕ, List, true, ◌&&◌, IsTrue, Option, Some, None, option_and_then, refl, sym, ap, ◌∙◌}
 use Rattle.std.proofs.lemmas.Option.{none-some, cond_some}
+use Rattle.std.proofs.lemmas.Bool.{and_parts}
 use Rattle.gate_words.specs.Given.{Values, no_values, taken, place_from, place_of}
 use Rattle.gate_words.specs.Rules.{is_user, is_base}
 use Rattle.gate_words.specs.Task.{NamesPlace}
 use Rattle.gate_words.specs.declared.place.Place.{Place}
 use Rattle.gate_words.proofs.Kept.{listed, adds-from, keeps-from}
-use Rattle.gate_words.proofs.Steps.{and_then-some, both-true}
+use Rattle.gate_world.proofs.Steps.{and_then-some}
 use Rattle.gate_words.proofs.Taken.{spelled-from, taken-from}
 
 record Places (store user base : Option (List ℕ)) (place : Place) : Type 0 where
@@ -23,7 +24,7 @@ places-from (Some store) (Some user) None place is = absurd (none-some place is)
 places-from (Some store) (Some user) (Some base) place is =
     let made : Place = record { store = store; user = user; base = base } in
     let found = cond_some (is_user user && is_base base) made place is in
-    let tests = both-true (is_user user) (is_base base) found.0 in
+    let tests = and_parts (is_user user) (is_base base) found.0 in
     record {
       store_is = ap (λ (p : Place). Some p.store) found.1;
       user_is = ap (λ (p : Place). Some p.user) found.1;

@@ -6,7 +6,8 @@ use Rattle.gate_words.specs.Given.{name_of, joined, begins_with_dash, Values, ke
 use Rattle.gate_words.specs.declared.option.Name.{Name}
 use Rattle.gate_words.proofs.Kept.{keeps}
 use Rattle.gate_words.proofs.Names.{name_of-is, name_of-text, name_of-joined, joined-text, joined-is, no-dash, test-no-dash}
-use Rattle.gate_words.proofs.Steps.{and_then-some, map-some, else-some}
+use Rattle.gate_world.proofs.Steps.{and_then-some, map-some}
+use Rattle.gate_words.proofs.Steps.{else-some}
 
 -- ---- words that are taken spell settings
 

@@ -1,5 +1,5 @@
 -- Words are a task exactly where the options behind `once` name a place, or where they are `show` alone; and one at most.
-use Rattle.std.proofs.Common.{◌≡◌, ℕ, List, [], ◌∷◌, length, Bool, true, false, Some, None, codes, refl, sym, ap, ◌∙◌, arith}
+use Rattle.std.proofs.Common.{◌≡◌, ℕ, List, [], ◌∷◌, Bool, true, false, Some, None, codes, refl, sym, ap, ◌∙◌}
 use Rattle.std.specs.Str.{bytes_eq}
 use Rattle.std.proofs.lemmas.Option.{none-some, same_Some}
 use Rattle.gate_words.specs.Given.{place_of}
@@ -24,11 +24,6 @@ same-task words (Once a) Show one two = absurd (once-show one.0 [] (sym one.1 �
 same-task words Show (Once b) one two = absurd (once-show two.0 [] (sym two.1 ∙ one))
 same-task words Show Show one two = refl
 
--- behind another command there is no task
-pub no-other : (command : List ℕ) (options : List (List ℕ)) → (command ≡ codes "once" → ⊥) → (command ≡ codes "show" → ⊥) → (task : Task) → IsTask (command ∷ options) task → ⊥
-no-other command options once show (Once place) asked = once (ap (λ (l : List (List ℕ)). elim l as (λ _. List ℕ) [ [] ↦ [] | a ∷ b ↦ a ]) asked.1)
-no-other command options once show Show asked = show (ap (λ (l : List (List ℕ)). elim l as (λ _. List ℕ) [ [] ↦ [] | a ∷ b ↦ a ]) asked)
-
 pub no-place : (options : List (List ℕ)) → None ≡ place_of options → (task : Task) → IsTask (codes "once" ∷ options) task → ⊥
 no-place options none (Once place) asked =
     let whole : codes "once" ∷ options ≡ codes "once" ∷ asked.0 = asked.1 in
@@ -38,7 +33,3 @@ no-place options none Show asked = absurd (once-show options [] asked)
 
 pub is-once : (options : List (List ℕ)) (place : Place) → place_of options ≡ Some place → IsTask (codes "once" ∷ options) (Once place)
 is-once options place named = (options, refl, names-from options place named)
-
-pub no-options : (option : List ℕ) (options : List (List ℕ)) (task : Task) → IsTask (codes "show" ∷ option ∷ options) task → ⊥
-no-options option options (Once place) asked = absurd (once-show asked.0 (option ∷ options) (sym asked.1))
-no-options option options Show asked = absurd (omega (arith, ap length asked))

@@ -3,14 +3,14 @@ use Rattle.std.proofs.Common.{◌≡◌, ◌⊎◌, inl, inr, ℕ, List, [], ◌
 use Rattle.std.specs.List.{list_all}
 use Rattle.std.specs.Str.{bytes_eq}
 use Rattle.std.proofs.Math.Bool.{or-true, or-false}
-use Rattle.std.proofs.lemmas.Slice.Eq.{bytes_eq-Decides}
+use Rattle.gate_world.proofs.Steps.{and_then-some, is_or_not}
 use Rattle.serde_json.specs.Data.{Data, string, Items, no_items, item}
 use Rattle.serde_json.specs.Find.{as_str}
 use Rattle.jmap_core.specs.Form.{noted, note_capability, note_property}
 use Rattle.jmap_core.specs.Request.{texts, is_among, is_capability, is_property, core_capability, mail_capability}
 use Rattle.jmap_core.specs.declared.form.Using.{Using}
 use Rattle.jmap_core.specs.declared.request.Properties.{Properties}
-use Rattle.jmap_core.proofs.Parts.{and_then-some, as_str-is}
+use Rattle.jmap_core.proofs.Parts.{as_str-is}
 
 -- what can be noted is a list of texts
 pub noted-texts : {S : Type 0} (note : List ℕ → S → Option S) (ds : Items) (s t : S) → noted note ds s ≡ Some t → (names : List (List ℕ)) × (ds ≡ texts names)
@@ -22,10 +22,6 @@ noted-texts note (item d ds) s t is =
     let text : d ≡ string first.0 = as_str-is d first.0 first.1 in
     let others : ds ≡ texts names.0 = names.1 in
     (first.0 ∷ names.0, ap (λ (e : Data). item e ds) text ∙ ap (λ (es : Items). item (string first.0) es) others)
-
--- a name is that text, or the test says that it isn't
-is_or_not : (n k : List ℕ) → (n ≡ k) ⊎ (bytes_eq n k ≡ false)
-is_or_not n k = elim (bytes_eq n k) as (λ b. bytes_eq n k ≡ b → (n ≡ k) ⊎ (b ≡ false)) [ true ↦ λ is. inl ((bytes_eq-Decides n k).0 is) | false ↦ λ is. inr refl ] refl
 
 -- the properties that are wanted, with those of s
 abbrev wanted_with : List (List ℕ) → Properties → Option Properties

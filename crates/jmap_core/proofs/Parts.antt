@@ -1,19 +1,12 @@
 -- What data is, where a step of reading gave something.
-use Rattle.std.proofs.Common.{◌≡◌, ℕ, List, Bool, true, false, ◌&&◌, Option, Some, None, option_and_then, refl, ap}
+use Rattle.std.proofs.Common.{◌≡◌, ℕ, List, true, ◌&&◌, Option, Some, None, ap}
 use Rattle.std.specs.Str.{bytes_eq}
 use Rattle.std.proofs.lemmas.Option.{none-some, same_Some, cond_some}
 use Rattle.std.proofs.lemmas.Slice.Eq.{bytes_eq-Decides}
+use Rattle.std.proofs.lemmas.Bool.{and_parts}
 use Rattle.serde_json.specs.Data.{Data, null, boolean, number, string, array, object, Items, no_items, item, Members, no_members, member}
 use Rattle.serde_json.specs.Find.{as_str, as_array, as_object}
 use Rattle.jmap_core.specs.Form.{is_text, two_of, three_of, one_item, three_items}
-
-pub and_then-some : {A B : Type 0} (f : A → Option B) (o : Option A) (y : B) → option_and_then f o ≡ Some y → (x : A) × (o ≡ Some x) × (f x ≡ Some y)
-and_then-some f None y is = absurd (none-some y is)
-and_then-some f (Some x) y is = (x, refl, is)
-
-pub both-true : (a b : Bool) → (a && b) ≡ true → (a ≡ true) × (b ≡ true)
-both-true true b is = (refl, is)
-both-true false b is = absurd (cc)
 
 same : (a b : List ℕ) → bytes_eq a b ≡ true → a ≡ b
 same a b = (bytes_eq-Decides a b).0
@@ -51,7 +44,7 @@ two_of-is k l no_members x y is = absurd (none-some (x, y) is)
 two_of-is k l (member a u no_members) x y is = absurd (none-some (x, y) is)
 two_of-is k l (member a u (member b v no_members)) x y is =
     let found = cond_some (bytes_eq a k && bytes_eq b l) (u, v) (x, y) is in
-    let keys = both-true (bytes_eq a k) (bytes_eq b l) found.0 in
+    let keys = and_parts (bytes_eq a k) (bytes_eq b l) found.0 in
     let first : a ≡ k = same a k keys.0 in
     let second : b ≡ l = same b l keys.1 in
     let left : u ≡ x = ap (λ (p : Data × Data). p.0) found.1 in
@@ -65,8 +58,8 @@ three_of-is k l m (member a u no_members) x y z is = absurd (none-some (x, y, z)
 three_of-is k l m (member a u (member b v no_members)) x y z is = absurd (none-some (x, y, z) is)
 three_of-is k l m (member a u (member b v (member c w no_members))) x y z is =
     let found = cond_some (bytes_eq a k && bytes_eq b l && bytes_eq c m) (u, v, w) (x, y, z) is in
-    let keys = both-true (bytes_eq a k && bytes_eq b l) (bytes_eq c m) found.0 in
-    let front = both-true (bytes_eq a k) (bytes_eq b l) keys.0 in
+    let keys = and_parts (bytes_eq a k && bytes_eq b l) (bytes_eq c m) found.0 in
+    let front = and_parts (bytes_eq a k) (bytes_eq b l) keys.0 in
     let first : a ≡ k = same a k front.0 in
     let second : b ≡ l = same b l front.1 in
     let third : c ≡ m = same c m keys.1 in

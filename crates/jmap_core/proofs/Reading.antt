@@ -1,7 +1,9 @@
 -- Data is read as a request exactly where it asks for one.
 use Rattle.std.proofs.Common.{◌≡◌, ℕ, List, Bool, true, false, ◌&&◌, if◌then◌else◌, Option, Some, None, option_map, option_and_then, IsTrue, refl, sym, ap, ◌∙◌, codes}
 use Rattle.std.specs.List.{list_all}
-use Rattle.std.proofs.lemmas.Option.{none-some, same_Some, cond_some}
+use Rattle.std.proofs.lemmas.Option.{none-some, cond_some}
+use Rattle.std.proofs.lemmas.Bool.{and_parts}
+use Rattle.gate_world.proofs.Steps.{and_then-some, map-some}
 use Rattle.serde_json.specs.Data.{Data, string, array, object, Items, no_items, item, no_members, member}
 use Rattle.serde_json.specs.Find.{as_str, as_array, as_object}
 use Rattle.jmap_core.specs.Form.{is_text, two_of, three_of, one_item, three_items, noted, note_capability, note_property, using_of, uses_both, properties_of, is_inbox, wanted_from, wanted_of, named_call, call_from, call_of, request_from, request_of}
@@ -10,21 +12,18 @@ use Rattle.jmap_core.specs.declared.form.Using.{Using}
 use Rattle.jmap_core.specs.declared.request.Properties.{Properties}
 use Rattle.jmap_core.specs.declared.request.Request.{Request}
 use Rattle.jmap_core.proofs.Names.{noted-texts, noted-capabilities, noted-properties}
-use Rattle.jmap_core.proofs.Parts.{and_then-some, both-true, as_object-is, as_array-is, as_str-is, is_text-is, two_of-is, three_of-is, one_item-is, three_items-is}
+use Rattle.jmap_core.proofs.Parts.{as_object-is, as_array-is, as_str-is, is_text-is, two_of-is, three_of-is, one_item-is, three_items-is}
 
+-- a choice gave a value where the test holds
 when-some : {A : Type 0} (b : Bool) (o : Option A) (y : A) → (if b then o else None) ≡ Some y → (b ≡ true) × (o ≡ Some y)
 when-some true o y is = (refl, is)
 when-some false o y is = absurd (none-some y is)
-
-map-some : {A B : Type 0} (f : A → B) (o : Option A) (y : B) → option_map f o ≡ Some y → (x : A) × (o ≡ Some x) × (f x ≡ y)
-map-some f None y is = absurd (none-some y is)
-map-some f (Some x) y is = (x, refl, same_Some (f x) y is)
 
 -- ---- what data is, where it is read
 
 both-used : (o : Option Using) → uses_both o ≡ true → (u : Using) × (o ≡ Some u) × (u.core ≡ true) × (u.mail ≡ true)
 both-used None is = absurd (cc)
-both-used (Some u) is = let both = both-true u.core u.mail is in (u, refl, both.0, both.1)
+both-used (Some u) is = let both = and_parts u.core u.mail is in (u, refl, both.0, both.1)
 
 record Uses (d : Data) : Type 0 where
   names : List (List ℕ)
@@ -92,7 +91,7 @@ arguments-from d p is =
     let three = and_then-some wanted_from (option_and_then (three_of (codes "accountId") (codes "ids") (codes "properties")) (as_object d)) p is in
     let members = and_then-some (three_of (codes "accountId") (codes "ids") (codes "properties")) (as_object d) three.0 three.1 in
     let tested = when-some (is_text (codes "a1") (as_str three.0.0) && is_inbox three.0.1) (properties_of three.0.2) p three.2 in
-    let tests = both-true (is_text (codes "a1") (as_str three.0.0)) (is_inbox three.0.1) tested.0 in
+    let tests = and_parts (is_text (codes "a1") (as_str three.0.0)) (is_inbox three.0.1) tested.0 in
     let wants = wants-from three.0.2 p tested.1 in
     let account : three.0.0 ≡ string (codes "a1") = text-is (codes "a1") three.0.0 tests.0 in
     let ids : three.0.1 ≡ array (item (string (codes "m1")) no_items) = inbox-is three.0.1 tests.1 in
