@@ -1,17 +1,18 @@
 -- The automaton's reading of a count in braces is the grammar's.
 use Rattle.std.proofs.Common.{◌≡◌, ℕ, zero, suc, ◌+◌, ◌-◌, ◌*◌, ◌<◌, ◌≤◌, Bool, true, false, ◌&&◌, List, [], ◌∷◌, ◌++◌, length, cond, refl, sym, ap, subst, ◌∙◌, append_assoc, arith}
 use Rattle.std.specs.Prelude.{◌==◌, nat_lt, nat_le}
-use Rattle.std.proofs.lemmas.Bool.{eqb-true, ltb-true, ltb-false, leb-true, leb-false, and_parts, and_from, lt-ltb, eq-eqb, le-leb, cond-true, cond-false}
+use Rattle.std.proofs.lemmas.Bool.{eqb-true, ltb-true, leb-false, and_parts, lt-ltb, le-leb, cond-true, cond-false}
 use Rattle.std.proofs.lemmas.List.{length-append, append-nil}
+use Rattle.imap_syntax.proofs.EachLemmas.{each_append}
 use Rattle.imap_automaton.specs.declared.sym.Pending.{Pending}
 use Rattle.imap_automaton.specs.declared.sym.Pending.TheVariants as pending
 use Rattle.imap_automaton.specs.Counts.{capped, pend_on, pend, pends}
-use Rattle.imap_automaton.proofs.Langs.{NoCount, FreeEnd, FreeLiteral, IsFreeFrom}
-use Rattle.imap_automaton.proofs.Tests.{digit_range}
-use Rattle.imap_syntax.specs.Octets.{is_digit, is_text, is_inside}
-use Rattle.imap_syntax.specs.Texts.{Each, crlf}
+use Rattle.imap_automaton.proofs.Langs.{NoCount, IsFreeFrom}
+use Rattle.imap_automaton.proofs.Tests.{digit_no_brace}
+use Rattle.imap_syntax.specs.Octets.{is_digit}
+use Rattle.imap_syntax.specs.Texts.{Each}
 use Rattle.imap_syntax.specs.Numbers.{value_from}
-use Rattle.imap_syntax.specs.Free.{EndsInCount, IsLastLine, IsLiteralLine, IsFree}
+use Rattle.imap_syntax.specs.Free.{EndsInCount, IsFree}
 
 -- ---- from the automaton to the grammar
 
@@ -32,10 +33,6 @@ Holds (pending.Closed v) text = (n : ℕ) × EndsInCount n text × (v ≡ capped
 value_last : (v : ℕ) (t : List ℕ) (c : ℕ) → value_from v (t ++ c ∷ []) ≡ 10 * value_from v t + (c - 48)
 value_last v [] c = refl
 value_last v (d ∷ t) c = value_last (10 * v + (d - 48)) t c
-
-each_last : (p : ℕ → Bool) (t : List ℕ) (c : ℕ) → Each p t → p c ≡ true → Each p (t ++ c ∷ [])
-each_last p [] c h e = (e, tt)
-each_last p (d ∷ t) c h e = (h.0, each_last p t c h.1 e)
 
 capped_more : (v d : ℕ) → capped (10 * capped v + d) ≡ capped (10 * v + d)
 capped_more v d = by (nat_le v 50000000) refl
@@ -67,7 +64,7 @@ holds_step s text c h = pick (λ q. Holds q (text ++ c ∷ [])) (c == 123) (pend
           front = h.front;
           digits = h.digits ++ c ∷ [];
           whole = ap (λ (u : List ℕ). u ++ c ∷ []) h.whole ∙ append_assoc h.front (123 ∷ h.digits) (c ∷ []);
-          are_digits = each_last is_digit h.digits c h.are_digits e;
+          are_digits = each_append is_digit h.digits (c ∷ []) h.are_digits (e, tt);
           counted = omega (arith, h.counted, length-append h.digits (c ∷ []));
           few = omega (arith, ltb-true n 8 f);
           value = ap (λ (m : ℕ). capped (10 * m + (c - 48))) h.value ∙ capped_more (value_from 0 h.digits) (c - 48) ∙ ap capped (sym (value_last 0 h.digits c));
@@ -105,12 +102,9 @@ pends_append s (c ∷ x) y = pends_append (pend s c) x y
 
 open_digit : (v n c : ℕ) → is_digit c ≡ true → n < 8 → pend (pending.Open v n) c ≡ pending.Open (capped (10 * v + (c - 48))) (n + 1)
 open_digit v n c e lt =
-    cond-false (c == 123) (pending.Open 0 0) (pend_on (pending.Open v n) c) (no_brace c e)
+    cond-false (c == 123) (pending.Open 0 0) (pend_on (pending.Open v n) c) (digit_no_brace c e)
     ∙ cond-true (is_digit c) (cond (nat_lt n 8) (pending.Open (capped (10 * v + (c - 48))) (n + 1)) pending.Nothing) (cond (c == 125 && nat_lt 0 n) (pending.Closed v) pending.Nothing) e
     ∙ cond-true (nat_lt n 8) (pending.Open (capped (10 * v + (c - 48))) (n + 1)) pending.Nothing (lt-ltb n 8 lt)
-  where
-    no_brace : (c : ℕ) → is_digit c ≡ true → (c == 123) ≡ false
-    no_brace c e = grind arith
 
 open_closes : (v n : ℕ) (digits : List ℕ) → Each is_digit digits → 0 < n + length digits → n + length digits ≤ 8 → pends (pending.Open (capped v) n) (digits ++ 125 ∷ []) ≡ pending.Closed (capped (value_from v digits))
 open_closes v n [] all some few = cond-true (125 == 125 && nat_lt 0 n) (pending.Closed (capped v)) pending.Nothing (lt-ltb 0 n (omega (arith, some)))

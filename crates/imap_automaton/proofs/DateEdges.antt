@@ -2,7 +2,7 @@
 use Rattle.std.proofs.Common.{◌≡◌, ℕ, zero, suc, ◌+◌, ◌<◌, ◌≤◌, Bool, true, false, ◌&&◌, ℤ, List, [], ◌∷◌, ◌++◌, length, map, drop, get_or, cond, refl, sym, ap, subst, ◌∙◌, arith, inl, inr}
 use Rattle.std.specs.Prelude.{◌==◌, nat_lt, nat_le, codes}
 use Rattle.std.proofs.lemmas.Bool.{eqb-true, ltb-true, and_parts, and_from, lt-ltb, eq-eqb, cond-false}
-use Rattle.std.proofs.lemmas.List.{length-drop}
+use Rattle.std.proofs.lemmas.List.{length-drop, length-map, nil_from_length}
 use Rattle.imap_automaton.specs.declared.sym.Key.{Key}
 use Rattle.imap_automaton.specs.declared.sym.Key.TheVariants as key
 use Rattle.imap_automaton.specs.declared.sym.Place.TheVariants as place
@@ -34,15 +34,11 @@ time_back at c t h = from_test (nat_lt at 21 && time_octet at c) (cond (at + 1 =
     (λ f l. record { each = (o, l.each); count = omega (arith, l.count) }) k)
     (λ e k. absurd k) h
 
-empty_of : (t : List ℕ) → length t ≡ 0 → t ≡ []
-empty_of [] e = refl
-empty_of (c ∷ t) e = absurd (omega (arith, e))
-
 pub time_forth : (at c : ℕ) (t : List ℕ) → TimeRest at (c ∷ t) → After (time_rule at c) t
 time_forth at c t h =
     at_true (nat_lt at 21 && time_octet at c) (cond (at + 1 == 21) move.End (move.One (sym.Date (date.Time (at + 1))))) move.Fail t (and_from _ _ (lt-ltb at 21 (let n = h.count in omega (arith, n))) h.each.0)
     (to_test (at + 1 == 21) move.End (move.One (sym.Date (date.Time (at + 1)))) t
-    (λ e. empty_of t (let n = h.count in let f = eqb-true (at + 1) 21 e in omega (arith, n, f)))
+    (λ e. nil_from_length t (let n = h.count in let f = eqb-true (at + 1) 21 e in omega (arith, n, f)))
     (λ e. record { each = h.each.1; count = (let n = h.count in omega (arith, n)) }))
 
 pub time_none : TimeRest 0 [] → ⊥
@@ -65,7 +61,7 @@ day_at_text at c t (d ∷ x) back lt e each count m =
     let o : day_octet at c ≡ true = ap (day_octet at) (cons_head c d t (x ++ back) e) ∙ each.0 in
     at_true (nat_lt at 3 && day_octet at c) (cond (at + 1 == 3) (move.One month_start) (move.One (sym.Date (date.Day (at + 1))))) move.Fail t (and_from _ _ (lt-ltb at 3 lt) o)
     (to_test (at + 1 == 3) (move.One month_start) (move.One (sym.Date (date.Day (at + 1)))) t
-    (λ f. subst (WordRest place.Month []) (sym (cons_tail c d t (x ++ back) e ∙ ap (λ (u : List ℕ). u ++ back) (empty_of x (let g = eqb-true (at + 1) 3 f in omega (arith, count, g))))) m)
+    (λ f. subst (WordRest place.Month []) (sym (cons_tail c d t (x ++ back) e ∙ ap (λ (u : List ℕ). u ++ back) (nil_from_length x (let g = eqb-true (at + 1) 3 f in omega (arith, count, g))))) m)
     (λ f. record { front = x; back = back; whole = cons_tail c d t (x ++ back) e; each = each.1; count = omega (arith, count); month = m }))
 
 day_forth : (at c : ℕ) (t : List ℕ) → DateFits (date.Day at) ≡ true → DayRest at (c ∷ t) → After (day_rule at c) t
@@ -120,10 +116,6 @@ month_octets (c ∷ x) [] h e = absurd cc
 month_octets (c ∷ x) (d ∷ y) h e =
     (month_octet c (ap is_key_octet (cons_head (lower c) d (map lower x) y e) ∙ h.0), month_octets x y h.1 (cons_tail (lower c) d (map lower x) y e))
 
-lower_length : (x : List ℕ) → length (map lower x) ≡ length x
-lower_length [] = refl
-lower_length (c ∷ x) = ap (λ (n : ℕ). suc n) (lower_length x)
-
 -- a month and what stands behind it
 month_to : (m : ℕ) (name tail : List ℕ) → IsMonth m name → TimeRest 0 tail → in_word place.Month (get_or tail 0 0) ≡ false → WordRest place.Month [] (name ++ tail)
 month_to m name tail h t out =
@@ -134,7 +126,7 @@ month_to m name tail h t out =
       tail = tail;
       whole = refl;
       each = month_octets name (key_text k.0) (key_octets k.0) e;
-      some = (let s = key_some k.0 in let l = ap length e in let n = lower_length name in omega (arith, s, l, n));
+      some = (let s = key_some k.0 in let l = ap length e in let n = length-map name lower in omega (arith, s, l, n));
       longest = out;
       says = inl (k.0, k.1, e, t);
     }

@@ -55,7 +55,8 @@ pub record DayDigits (n : ℕ) (t : List ℕ) : Type 0 where
   pub digit : is_digit second ≡ true
   pub value : n ≡ two first second
 
-digit_starts : (c : ℕ) → is_digit c ≡ true → starts_day c ≡ true
+-- a digit may stand first in a day
+pub digit_starts : (c : ℕ) → is_digit c ≡ true → starts_day c ≡ true
 digit_starts c e = grind arith
 
 one_digit : (n : ℕ) (t digit : List ℕ) → t ≡ 32 ∷ digit → IsDigits 1 n digit → DayDigits n t

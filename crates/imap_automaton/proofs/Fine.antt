@@ -75,17 +75,19 @@ pend_fits (pending.Closed v) c e = grind arith
 small_text : (c : ℕ) → is_text c ≡ true → nat_lt c 256 ≡ true
 small_text c e = grind arith
 
-small_13 : (c : ℕ) → (c == 13) ≡ true → nat_lt c 256 ≡ true
-small_13 c e = grind arith
+-- an octet that is a given one
+small_at : (n c : ℕ) → nat_lt n 256 ≡ true → (c == n) ≡ true → nat_lt c 256 ≡ true
+small_at n c l e = grind arith
 
-small_32 : (c : ℕ) → (c == 32) ≡ true → nat_lt c 256 ≡ true
-small_32 c e = grind arith
+-- a digit
+small_digit : (c : ℕ) → is_digit c ≡ true → nat_lt c 256 ≡ true
+small_digit c e = grind arith
 
 end_fine : (r : ℕ) (s : Pending) (c : ℕ) → 2 ≤ r → (c == 13) ≡ true → fine false false r (nat_lt c 256) (free_end s) ≡ true
-end_fine r pending.Nothing c le e = and_from _ _ (and_from _ _ (and_from _ _ (and_from _ _ (small_13 c e) refl) refl) (le-leb 1 r (omega arith))) refl
-end_fine r (pending.Open v n) c le e = and_from _ _ (and_from _ _ (and_from _ _ (and_from _ _ (small_13 c e) refl) refl) (le-leb 1 r (omega arith))) refl
+end_fine r pending.Nothing c le e = and_from _ _ (and_from _ _ (and_from _ _ (and_from _ _ (small_at 13 c refl e) refl) refl) (le-leb 1 r (omega arith))) refl
+end_fine r (pending.Open v n) c le e = and_from _ _ (and_from _ _ (and_from _ _ (and_from _ _ (small_at 13 c refl e) refl) refl) (le-leb 1 r (omega arith))) refl
 end_fine r (pending.Closed v) c le e = fine_by false false r (nat_lt c 256) (nat_le v 50000000) (move.Two (sym.Free (free.Break v)) (sym.Free (free.Text pending.Nothing))) move.Fail
-    (λ f. and_from _ _ (and_from _ _ (and_from _ _ (and_from _ _ (and_from _ _ (and_from _ _ (and_from _ _ (small_13 c e) f) refl) refl) refl) (le-leb 2 r le)) (le-leb 2 r le)) refl)
+    (λ f. and_from _ _ (and_from _ _ (and_from _ _ (and_from _ _ (and_from _ _ (and_from _ _ (and_from _ _ (small_at 13 c refl e) f) refl) refl) refl) (le-leb 2 r le)) (le-leb 2 r le)) refl)
     (λ f. refl)
 
 text_fine : (r : ℕ) (s : Pending) (c : ℕ) → 2 ≤ r → PendFits s ≡ true → fine false false r (nat_lt c 256) (text_rule s c) ≡ true
@@ -99,22 +101,22 @@ text_fine r s c le fits = fine_by false false r (nat_lt c 256) (c == 13) (free_e
 
 rest_fine : (o : Bool) (r : ℕ) (c : ℕ) → 1 ≤ r → fine o false r (nat_lt c 256) (rest_rule c) ≡ true
 rest_fine o r c le = fine_by o false r (nat_lt c 256) (c == 32) (move.One (sym.Line line.Text)) (cond (c == 13) (move.One (sym.Line (line.Fixed phrase.Crlf 1))) move.Fail)
-    (λ e. and_from _ _ (and_from _ _ (and_from _ _ (and_from _ _ (small_32 c e) refl) refl) (le-leb 1 r le)) refl)
+    (λ e. and_from _ _ (and_from _ _ (and_from _ _ (and_from _ _ (small_at 32 c refl e) refl) refl) (le-leb 1 r le)) refl)
     (λ e. fine_by o false r (nat_lt c 256) (c == 13) (move.One (sym.Line (line.Fixed phrase.Crlf 1))) move.Fail
-    (λ f. and_from _ _ (and_from _ _ (and_from _ _ (and_from _ _ (small_13 c f) refl) refl) (le-leb 1 r le)) refl)
+    (λ f. and_from _ _ (and_from _ _ (and_from _ _ (and_from _ _ (small_at 13 c refl f) refl) refl) (le-leb 1 r le)) refl)
     (λ f. refl))
 
 spaced_fine : (o : Bool) (r : ℕ) (s : Sym) (c : ℕ) → SymFits s ≡ true → (not (ends_open s) || o) ≡ true → nat_le (need s) r ≡ true → nat_le (sym_left s) 50000000 ≡ true → fine o false r (nat_lt c 256) (spaced_rule (move.One s) c) ≡ true
-spaced_fine o r s c fits ends room left = fine_by o false r (nat_lt c 256) (c == 32) (move.One s) move.Fail (λ e. and_from _ _ (and_from _ _ (and_from _ _ (and_from _ _ (small_32 c e) fits) ends) room) left) (λ e. refl)
+spaced_fine o r s c fits ends room left = fine_by o false r (nat_lt c 256) (c == 32) (move.One s) move.Fail (λ e. and_from _ _ (and_from _ _ (and_from _ _ (and_from _ _ (small_at 32 c refl e) fits) ends) room) left) (λ e. refl)
 
 end_rule_fine : (r c : ℕ) → 1 ≤ r → fine false false r (nat_lt c 256) (end_rule c) ≡ true
 end_rule_fine r c le = fine_by false false r (nat_lt c 256) (c == 13) (move.One (sym.Line (line.Fixed phrase.Crlf 1))) move.Fail
-    (λ f. and_from _ _ (and_from _ _ (and_from _ _ (and_from _ _ (small_13 c f) refl) refl) (le-leb 1 r le)) refl)
+    (λ f. and_from _ _ (and_from _ _ (and_from _ _ (and_from _ _ (small_at 13 c refl f) refl) refl) (le-leb 1 r le)) refl)
     (λ f. refl)
 
 words_more_fine : (r c : ℕ) → 1 ≤ r → fine false false r (nat_lt c 256) (words_more c) ≡ true
 words_more_fine r c le = fine_by false false r (nat_lt c 256) (c == 32) (move.One (sym.Words words.First)) (cond (c == 13) (move.One (sym.Line (line.Fixed phrase.Crlf 1))) move.Fail)
-    (λ e. and_from _ _ (and_from _ _ (and_from _ _ (and_from _ _ (small_32 c e) refl) refl) (le-leb 1 r le)) refl)
+    (λ e. and_from _ _ (and_from _ _ (and_from _ _ (and_from _ _ (small_at 32 c refl e) refl) refl) (le-leb 1 r le)) refl)
     (λ e. end_rule_fine r c le)
 
 -- dates
@@ -125,19 +127,10 @@ by_test false p q e f g = g e
 
 day_small : (at c : ℕ) → day_octet at c ≡ true → nat_lt c 256 ≡ true
 day_small at c e = by_test (at == 0) (c == 32 || is_digit c) (cond (at == 1) (is_digit c) (c == 45)) e (λ f. one c f)
-    (λ f. by_test (at == 1) (is_digit c) (c == 45) f (λ g. two c g) (λ g. three c g))
+    (λ f. by_test (at == 1) (is_digit c) (c == 45) f (λ g. small_digit c g) (λ g. small_at 45 c refl g))
   where
     one : (c : ℕ) → (c == 32 || is_digit c) ≡ true → nat_lt c 256 ≡ true
     one c e = grind arith
-
-    two : (c : ℕ) → is_digit c ≡ true → nat_lt c 256 ≡ true
-    two c e = grind arith
-
-    three : (c : ℕ) → (c == 45) ≡ true → nat_lt c 256 ≡ true
-    three c e = grind arith
-
-small_at : (n c : ℕ) → nat_lt n 256 ≡ true → (c == n) ≡ true → nat_lt c 256 ≡ true
-small_at n c l e = grind arith
 
 time_small : (at c : ℕ) → time_octet at c ≡ true → nat_lt c 256 ≡ true
 time_small at c e =
@@ -149,13 +142,10 @@ time_small at c e =
     (λ f. by_test (at == 5 || at == 14) (c == 32) p1 f (λ g. small_at 32 c refl g)
     (λ g. by_test (at == 8 || at == 11) (c == 58) p2 g (λ h. small_at 58 c refl h)
     (λ h. by_test (at == 15) (c == 43 || c == 45) p3 h (λ i. sign c i)
-    (λ i. by_test (at == 20) (c == 34) (is_digit c) i (λ j. small_at 34 c refl j) (λ j. digit c j)))))
+    (λ i. by_test (at == 20) (c == 34) (is_digit c) i (λ j. small_at 34 c refl j) (λ j. small_digit c j)))))
   where
     sign : (c : ℕ) → (c == 43 || c == 45) ≡ true → nat_lt c 256 ≡ true
     sign c e = grind arith
-
-    digit : (c : ℕ) → is_digit c ≡ true → nat_lt c 256 ≡ true
-    digit c e = grind arith
 
 next_lt : (n at : ℕ) → nat_lt at n ≡ true → (at + 1 == n) ≡ false → nat_lt (at + 1) n ≡ true
 next_lt n at l e = let ne : at + 1 ≡ n → ⊥ = eqb-false _ _ e in lt-ltb _ _ (omega (arith, ltb-true _ _ l, ne))
@@ -210,15 +200,15 @@ behind_fine place.Plain key.Preauth q at c = rest_fine false 4 c (omega arith)
 behind_fine place.Plain key.Bye q at c = rest_fine false 4 c (omega arith)
 behind_fine place.Plain key.Capability q at c = words_more_fine 4 c (omega arith)
 behind_fine place.Plain key.Enabled q at c = words_more_fine 4 c (omega arith)
-behind_fine place.Plain key.Flags q at c = fine_by false false 4 (nat_lt c 256) (c == 32) (move.Two (sym.Names names.Open) (sym.Line (line.Fixed phrase.Crlf 0))) move.Fail (λ e. pair_fine c (small_32 c e)) (λ e. refl)
+behind_fine place.Plain key.Flags q at c = fine_by false false 4 (nat_lt c 256) (c == 32) (move.Two (sym.Names names.Open) (sym.Line (line.Fixed phrase.Crlf 0))) move.Fail (λ e. pair_fine c (small_at 32 c refl e)) (λ e. refl)
   where
     pair_fine : (c : ℕ) → nat_lt c 256 ≡ true → fine false false 4 (nat_lt c 256) (move.Two (sym.Names names.Open) (sym.Line (line.Fixed phrase.Crlf 0))) ≡ true
     pair_fine c e = rw e refl
-behind_fine place.Plain key.List q at c = fine_by false false 4 (nat_lt c 256) (c == 32) (move.Two (sym.Names names.Open) (sym.Folder folder.Attributes)) move.Fail (λ e. pair_fine c (small_32 c e)) (λ e. refl)
+behind_fine place.Plain key.List q at c = fine_by false false 4 (nat_lt c 256) (c == 32) (move.Two (sym.Names names.Open) (sym.Folder folder.Attributes)) move.Fail (λ e. pair_fine c (small_at 32 c refl e)) (λ e. refl)
   where
     pair_fine : (c : ℕ) → nat_lt c 256 ≡ true → fine false false 4 (nat_lt c 256) (move.Two (sym.Names names.Open) (sym.Folder folder.Attributes)) ≡ true
     pair_fine c e = rw e refl
-behind_fine place.Plain key.Status q at c = fine_by false false 4 (nat_lt c 256) (c == 32) (move.Two (sym.Str str.AString) (sym.Folder folder.Counts)) move.Fail (λ e. pair_fine c (small_32 c e)) (λ e. refl)
+behind_fine place.Plain key.Status q at c = fine_by false false 4 (nat_lt c 256) (c == 32) (move.Two (sym.Str str.AString) (sym.Folder folder.Counts)) move.Fail (λ e. pair_fine c (small_at 32 c refl e)) (λ e. refl)
   where
     pair_fine : (c : ℕ) → nat_lt c 256 ≡ true → fine false false 4 (nat_lt c 256) (move.Two (sym.Str str.AString) (sym.Folder folder.Counts)) ≡ true
     pair_fine c e = rw e refl
@@ -352,9 +342,6 @@ line_fine (line.Folded p at) c fits = folded_fine p at c fits
 digits_fit : (n w : ℕ) → (nat_lt n 10 && nat_le w 4294967295 && not (w == 0 && n == 9)) ≡ true → SymFits (sym.Item (item.Number w (n + 1))) ≡ true
 digits_fit n w e = grind arith
 
-small_digit : (c : ℕ) → is_digit c ≡ true → nat_lt c 256 ≡ true
-small_digit c e = grind arith
-
 number_fine : (v n c : ℕ) → fine true true 1 (nat_lt c 256) (number_rule v n c) ≡ true
 number_fine v n c =
     let w : ℕ = 10 * v + (c - 48) in
@@ -402,25 +389,13 @@ set_ends_wide c = grind arith
 
 open_fine : (c : ℕ) → fine false false 2 (nat_lt c 256) (set_rule set.Open c) ≡ true
 open_fine c = fine_by false false 2 (nat_lt c 256) (c == 40) (move.Two (sym.Line (line.Folded phrase.Earlier 1)) (sym.Set (set.Number 0 0 false))) (set_number 0 0 false c)
-    (λ e. pair_fine c (small_40 c e))
+    (λ e. pair_fine c (small_at 40 c refl e))
     (λ e. set_number_fine 0 0 false c 2 (omega arith) (set_ends_wide c))
   where
-    small_40 : (c : ℕ) → (c == 40) ≡ true → nat_lt c 256 ≡ true
-    small_40 c e = grind arith
-
     pair_fine : (c : ℕ) → nat_lt c 256 ≡ true → fine false false 2 (nat_lt c 256) (move.Two (sym.Line (line.Folded phrase.Earlier 1)) (sym.Set (set.Number 0 0 false))) ≡ true
     pair_fine c e = rw e refl
 
 -- ---- strings
-
-small_34 : (c : ℕ) → (c == 34) ≡ true → nat_lt c 256 ≡ true
-small_34 c e = grind arith
-
-small_123 : (c : ℕ) → (c == 123) ≡ true → nat_lt c 256 ≡ true
-small_123 c e = grind arith
-
-small_126 : (c : ℕ) → (c == 126) ≡ true → nat_lt c 256 ≡ true
-small_126 c e = grind arith
 
 small_atom : (c : ℕ) → is_atom c ≡ true → nat_lt c 256 ≡ true
 small_atom c e = grind arith
@@ -431,9 +406,9 @@ starts_fine P c quoted count tilde atom none = by (c == 34) refl (c == 123) refl
   where
     by : (p : Bool) → (c == 34) ≡ p → (q : Bool) → (c == 123) ≡ q → (r : Bool) → (c == 126) ≡ r → (s : Bool) → is_atom c ≡ s
         → P (cond p (Some (sym.Str str.Quoted)) (cond q (Some (sym.Str (str.Count 0 0))) (cond r (Some (sym.Str str.AtomTilde)) (cond s (Some (sym.Names names.AtomRest)) None))))
-    by true e q f r g s h = quoted (small_34 c e)
-    by false e true f r g s h = count (small_123 c f)
-    by false e false f true g s h = tilde (small_126 c g)
+    by true e q f r g s h = quoted (small_at 34 c refl e)
+    by false e true f r g s h = count (small_at 123 c refl f)
+    by false e false f true g s h = tilde (small_at 126 c refl g)
     by false e false f false g true h = atom (small_atom c h)
     by false e false f false g false h = none
 
@@ -476,15 +451,9 @@ string_fine str.Escaped c fits = grind arith
 string_fine str.Tilde c fits = grind arith
 string_fine str.AtomTilde c fits = grind arith
 string_fine (str.Count v n) c fits = count_fine v n c fits
-string_fine (str.Brace n) c fits = fine_by false false 1 (nat_lt c 256) (c == 13) (move.One (sym.Free (free.Break n))) move.Fail (λ e. and_from _ _ (and_from _ _ (and_from _ _ (and_from _ _ (small_13 c e) fits) refl) refl) refl) (λ e. refl)
+string_fine (str.Brace n) c fits = fine_by false false 1 (nat_lt c 256) (c == 13) (move.One (sym.Free (free.Break n))) move.Fail (λ e. and_from _ _ (and_from _ _ (and_from _ _ (and_from _ _ (small_at 13 c refl e) fits) refl) refl) refl) (λ e. refl)
 
 -- ---- values
-
-small_40 : (c : ℕ) → (c == 40) ≡ true → nat_lt c 256 ≡ true
-small_40 c e = grind arith
-
-small_41 : (c : ℕ) → (c == 41) ≡ true → nat_lt c 256 ≡ true
-small_41 c e = grind arith
 
 deeper : (w : ℕ) → nat_lt w 63 ≡ true → nat_le (w + 1) 63 ≡ true
 deeper w e = grind arith
@@ -495,7 +464,7 @@ higher w e = grind arith
 inner_fine : (w c : ℕ) → nat_le w 63 ≡ true → fine false false 2 (nat_lt c 256) (inner_rule w c) ≡ true
 inner_fine w c f = fine_by false false 2 (nat_lt c 256) (c == 40) (cond (nat_lt w 63) (move.One (sym.Value (value.First (w + 1)))) move.Fail) (before (sym.Value (value.More w)) (flat_start c))
     (λ e. fine_by false false 2 (nat_lt c 256) (nat_lt w 63) (move.One (sym.Value (value.First (w + 1)))) move.Fail
-    (λ g. and_from _ _ (and_from _ _ (and_from _ _ (and_from _ _ (small_40 c e) (deeper w g)) refl) refl) refl)
+    (λ g. and_from _ _ (and_from _ _ (and_from _ _ (and_from _ _ (small_at 40 c refl e) (deeper w g)) refl) refl) refl)
     (λ g. refl))
     (λ e. before_fine w c f)
 
@@ -504,12 +473,12 @@ closes_fine w c f small = fine_by false false 2 (nat_lt c 256) (w == 0) move.End
     (λ e. and_from _ _ (and_from _ _ (and_from _ _ (and_from _ _ small (higher w f)) refl) refl) refl)
 
 value_fine : (s : Value) (c : ℕ) → SymFits (sym.Value s) ≡ true → fine (ends_open (sym.Value s)) (may_yield (sym.Value s)) 2 (nat_lt c 256) (value_rule s c) ≡ true
-value_fine value.Start c f = fine_by true false 2 (nat_lt c 256) (c == 40) (move.One (sym.Value (value.First 0))) (alone (flat_start c)) (λ e. rw (small_40 c e) refl) (λ e. value_alone_fine c)
-value_fine (value.First w) c f = fine_by false false 2 (nat_lt c 256) (c == 41) (closes w) (inner_rule w c) (λ e. closes_fine w c f (small_41 c e)) (λ e. inner_fine w c f)
+value_fine value.Start c f = fine_by true false 2 (nat_lt c 256) (c == 40) (move.One (sym.Value (value.First 0))) (alone (flat_start c)) (λ e. rw (small_at 40 c refl e) refl) (λ e. value_alone_fine c)
+value_fine (value.First w) c f = fine_by false false 2 (nat_lt c 256) (c == 41) (closes w) (inner_rule w c) (λ e. closes_fine w c f (small_at 41 c refl e)) (λ e. inner_fine w c f)
 value_fine (value.Next w) c f = inner_fine w c f
 value_fine (value.More w) c f = fine_by false false 2 (nat_lt c 256) (c == 32) (move.One (sym.Value (value.Next w))) (cond (c == 41) (closes w) move.Fail)
-    (λ e. and_from _ _ (and_from _ _ (and_from _ _ (and_from _ _ (small_32 c e) f) refl) refl) refl)
-    (λ e. fine_by false false 2 (nat_lt c 256) (c == 41) (closes w) move.Fail (λ g. closes_fine w c f (small_41 c g)) (λ g. refl))
+    (λ e. and_from _ _ (and_from _ _ (and_from _ _ (and_from _ _ (small_at 32 c refl e) f) refl) refl) refl)
+    (λ e. fine_by false false 2 (nat_lt c 256) (c == 41) (closes w) move.Fail (λ g. closes_fine w c f (small_at 41 c refl g)) (λ g. refl))
 
 -- ---- folders
 

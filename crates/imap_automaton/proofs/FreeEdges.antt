@@ -1,8 +1,8 @@
 -- One octet at text with literals.
-use Rattle.std.proofs.Common.{◌≡◌, ℕ, zero, suc, ◌+◌, ◌-◌, ◌≤◌, Bool, true, false, ◌&&◌, List, [], ◌∷◌, ◌++◌, length, cond, refl, sym, ap, subst, ◌∙◌, arith, replicate}
+use Rattle.std.proofs.Common.{◌≡◌, ℕ, zero, suc, ◌+◌, ◌-◌, ◌≤◌, true, ◌&&◌, List, [], ◌∷◌, ◌++◌, length, cond, refl, sym, ap, subst, ◌∙◌, arith, replicate}
 use Rattle.std.specs.Prelude.{◌==◌, nat_lt, nat_le}
-use Rattle.std.proofs.lemmas.Bool.{eqb-true, eqb-false, ltb-true, leb-true, and_parts, and_from, lt-ltb, le-leb, eq-eqb}
-use Rattle.std.proofs.lemmas.List.{length-replicate}
+use Rattle.std.proofs.lemmas.Bool.{eqb-true, ltb-true, leb-true, and_parts, and_from, lt-ltb, le-leb, eq-eqb}
+use Rattle.std.proofs.lemmas.List.{length-replicate, nil_from_length}
 use Rattle.imap_automaton.specs.declared.sym.Pending.{Pending}
 use Rattle.imap_automaton.specs.declared.sym.Pending.TheVariants as pending
 use Rattle.imap_automaton.specs.declared.sym.Free.{Free}
@@ -12,7 +12,7 @@ use Rattle.imap_automaton.specs.declared.sym.Move.TheVariants as move
 use Rattle.imap_automaton.specs.Counts.{pend, pends}
 use Rattle.imap_automaton.specs.FreeRules.{free_end, text_rule, free_rule}
 use Rattle.imap_automaton.specs.Fits.{FreeFits}
-use Rattle.imap_automaton.proofs.Langs.{NoCount, FreeEnd, FreeLiteral, IsFreeFrom, OctetsRest, FreeLang, After}
+use Rattle.imap_automaton.proofs.Langs.{NoCount, IsFreeFrom, OctetsRest, FreeLang, After}
 use Rattle.imap_automaton.proofs.Lists.{cons_head, cons_tail, no_append}
 use Rattle.imap_automaton.proofs.Tests.{from_test, to_test, at_true, at_false, is_true_at, text_not_cr, crlf_of, crlf_parts, mid}
 use Rattle.imap_syntax.specs.Octets.{is_text, is_inside}
@@ -116,10 +116,6 @@ free_some (pending.Closed v) = (0, record { text = 120 ∷ []; whole = refl; tex
 after_nothing : (n : ℕ) (t : List ℕ) → n ≡ 0 → t ≡ [] → OctetsRest n t
 after_nothing n t e f = record { counted = cc; inside = subst (λ (u : List ℕ). Each is_inside u) (sym f) tt }
 
-empty_of : (t : List ℕ) → length t ≡ 0 → t ≡ []
-empty_of [] e = refl
-empty_of (c ∷ t) e = absurd (omega (arith, e))
-
 pub break_back : (n c : ℕ) (t : List ℕ) → After (free_rule (free.Break n) c) t → FreeLang (free.Break n) (c ∷ t)
 break_back n c t h = from_test (c == 10) (cond (n == 0) move.End (move.One (sym.Free (free.Octets n)))) move.Fail t (FreeLang (free.Break n) (c ∷ t))
     (λ e k. (
@@ -133,7 +129,7 @@ pub break_forth : (n c : ℕ) (t : List ℕ) → FreeLang (free.Break n) (c ∷ 
 break_forth n c t h =
     let r : OctetsRest n t = subst (OctetsRest n) (sym (cons_tail c 10 t h.0 h.1)) h.2 in
     at_true (c == 10) (cond (n == 0) move.End (move.One (sym.Free (free.Octets n)))) move.Fail t (eq-eqb c 10 (cons_head c 10 t h.0 h.1))
-    (to_test (n == 0) move.End (move.One (sym.Free (free.Octets n))) t (λ e. empty_of t (r.counted ∙ eqb-true n 0 e)) (λ e. r))
+    (to_test (n == 0) move.End (move.One (sym.Free (free.Octets n))) t (λ e. nil_from_length t (r.counted ∙ eqb-true n 0 e)) (λ e. r))
 
 pub octets_back : (n c : ℕ) (t : List ℕ) → After (free_rule (free.Octets n) c) t → FreeLang (free.Octets n) (c ∷ t)
 octets_back n c t h = from_test (nat_le 256 c && nat_lt c 512 && nat_lt 0 n) (cond (n == 1) move.End (move.One (sym.Free (free.Octets (n - 1))))) move.Fail t (OctetsRest n (c ∷ t))
@@ -147,7 +143,7 @@ octets_back n c t h = from_test (nat_le 256 c && nat_lt c 512 && nat_lt 0 n) (co
 pub octets_forth : (n c : ℕ) (t : List ℕ) → FreeLang (free.Octets n) (c ∷ t) → After (free_rule (free.Octets n) c) t
 octets_forth n c t h =
     at_true (nat_le 256 c && nat_lt c 512 && nat_lt 0 n) (cond (n == 1) move.End (move.One (sym.Free (free.Octets (n - 1))))) move.Fail t (and_from _ _ h.inside.0 (lt-ltb 0 n (omega (arith, h.counted))))
-    (to_test (n == 1) move.End (move.One (sym.Free (free.Octets (n - 1)))) t (λ e. empty_of t (omega (arith, eqb-true n 1 e, h.counted))) (λ e. record { counted = omega (arith, h.counted); inside = h.inside.1 }))
+    (to_test (n == 1) move.End (move.One (sym.Free (free.Octets (n - 1)))) t (λ e. nil_from_length t (omega (arith, eqb-true n 1 e, h.counted))) (λ e. record { counted = omega (arith, h.counted); inside = h.inside.1 }))
 
 inside : (n : ℕ) → Each is_inside (replicate n 256)
 inside zero = tt

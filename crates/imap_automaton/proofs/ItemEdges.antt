@@ -1,7 +1,8 @@
 -- One octet at the items of a FETCH.
 use Rattle.std.proofs.Common.{◌≡◌, ℕ, ◌+◌, ◌-◌, ◌*◌, ◌<◌, ◌≤◌, Bool, true, false, not, ◌&&◌, ◌||◌, List, [], ◌∷◌, ◌++◌, length, map, cond, refl, sym, ap, subst, ◌∙◌, arith, inl, inr, zero, suc}
 use Rattle.std.specs.Prelude.{◌==◌, nat_lt, nat_le, codes}
-use Rattle.std.proofs.lemmas.Bool.{eqb-true, ltb-true, leb-true, and_parts, and_from, lt-ltb, le-leb, eq-eqb, ne_eqb}
+use Rattle.std.proofs.lemmas.Bool.{eqb-true, ltb-true, leb-true, and_parts, and_from, lt-ltb, le-leb, eq-eqb, ne_eqb, cond-true, cond-false}
+use Rattle.std.proofs.lemmas.List.{length-map}
 use Rattle.imap_automaton.specs.declared.sym.Key.{Key}
 use Rattle.imap_automaton.specs.declared.sym.Key.TheVariants as key
 use Rattle.imap_automaton.specs.declared.sym.Place.TheVariants as place
@@ -9,6 +10,7 @@ use Rattle.imap_automaton.specs.declared.sym.Phrase.TheVariants as phrase
 use Rattle.imap_automaton.specs.declared.sym.Line.TheVariants as line
 use Rattle.imap_automaton.specs.declared.sym.Item.{Item}
 use Rattle.imap_automaton.specs.declared.sym.Item.TheVariants as item
+use Rattle.imap_automaton.specs.declared.sym.Sym.{Sym}
 use Rattle.imap_automaton.specs.declared.sym.Sym.TheVariants as sym
 use Rattle.imap_automaton.specs.declared.sym.Move.TheVariants as move
 use Rattle.imap_automaton.specs.Keys.{key_text, keys}
@@ -20,18 +22,16 @@ use Rattle.imap_automaton.proofs.OtherItems.{named_atoms, other_from, other_to}
 use Rattle.imap_automaton.proofs.Langs.{NumberRest, LongRest, ItemLang, Among, IsBehind, WordSays, WordRest, Lang, After}
 use Rattle.imap_automaton.proofs.Lists.{cons_head, cons_tail}
 use Rattle.imap_automaton.proofs.Tests.{from_test, at_true, at_false, is_true_at}
-use Rattle.imap_syntax.specs.Octets.{is_digit, is_atom, lower}
+use Rattle.imap_automaton.proofs.Rests.{value_mono, number_from, number_to, long_from, long_to}
+use Rattle.imap_syntax.specs.Octets.{is_digit, lower}
 use Rattle.imap_syntax.specs.Texts.{Then, crlf}
-use Rattle.imap_syntax.specs.Numbers.{value_from, IsNonZero, IsLong}
+use Rattle.imap_syntax.specs.Numbers.{value_from}
 use Rattle.imap_syntax.specs.Items as items
 
 -- ---- numbers
 
-pub value_mono : (v : ℕ) (t : List ℕ) → v ≤ value_from v t
-value_mono v [] = omega arith
-value_mono v (c ∷ t) = let ih = value_mono (10 * v + (c - 48)) t in omega (arith, ih)
-
-abbrev next_fits : ℕ → ℕ → ℕ → Bool
+-- a digit more keeps a number within its bounds
+abbrev pub next_fits : ℕ → ℕ → ℕ → Bool
 next_fits v n c = nat_lt n 10 && nat_le (10 * v + (c - 48)) 4294967295 && not (10 * v + (c - 48) == 0 && n == 9)
 
 -- one digit more
@@ -79,14 +79,8 @@ stop_no_digit c e = grind arith
 
 pub number_ends : (v n c : ℕ) → NumberRest v n [] → stops c ≡ true → number_rule v n c ≡ move.Yield
 number_ends v n c h e =
-    cond_no (is_digit c) (cond (nat_lt n 10 && nat_le (10 * v + (c - 48)) 4294967295 && not (10 * v + (c - 48) == 0 && n == 9)) (move.One (sym.Item (item.Number (10 * v + (c - 48)) (n + 1)))) move.Fail) (cond (nat_lt 0 v) move.Yield move.Fail) (stop_no_digit c e)
-    ∙ cond_yes (nat_lt 0 v) move.Yield move.Fail (lt-ltb 0 v h.not_zero)
-  where
-    cond_no : {A : Type 0} (b : Bool) (x y : A) → b ≡ false → cond b x y ≡ y
-    cond_no b x y e = rw e refl
-
-    cond_yes : {A : Type 0} (b : Bool) (x y : A) → b ≡ true → cond b x y ≡ x
-    cond_yes b x y e = rw e refl
+    cond-false (is_digit c) (cond (nat_lt n 10 && nat_le (10 * v + (c - 48)) 4294967295 && not (10 * v + (c - 48) == 0 && n == 9)) (move.One (sym.Item (item.Number (10 * v + (c - 48)) (n + 1)))) move.Fail) (cond (nat_lt 0 v) move.Yield move.Fail) (stop_no_digit c e)
+    ∙ cond-true (nat_lt 0 v) move.Yield move.Fail (lt-ltb 0 v h.not_zero)
 
 -- a number that has come whole
 pub number_none : (v n : ℕ) → ItemFits (item.Number v n) ≡ true → 0 < v → NumberRest v n []
@@ -100,22 +94,17 @@ number_none v n fits pos =
     digits_some : (v n : ℕ) → 0 < v → (nat_lt 0 n || v == 0) ≡ true → 0 < n
     digits_some v n pos e = grind arith
 
+-- a number that yields has ended where it may
+ended : (p q r : Bool) (s : Sym) → cond p (cond q (move.One s) move.Fail) (cond r move.Yield move.Fail) ≡ move.Yield → r ≡ true
+ended true true r s e = absurd cc
+ended true false r s e = absurd cc
+ended false q true s e = refl
+ended false q false s e = absurd cc
+
 pub number_yields : (v n c : ℕ) → ItemFits (item.Number v n) ≡ true → number_rule v n c ≡ move.Yield → NumberRest v n []
 number_yields v n c fits e =
     let pos : nat_lt 0 v ≡ true = ended (is_digit c) (next_fits v n c) (nat_lt 0 v) (sym.Item (item.Number (10 * v + (c - 48)) (n + 1))) e in
     number_none v n fits (ltb-true 0 v pos)
-  where
-    ended : (p q r : Bool) (s : Rattle.imap_automaton.specs.declared.sym.Sym.Sym) → cond p (cond q (move.One s) move.Fail) (cond r move.Yield move.Fail) ≡ move.Yield → r ≡ true
-    ended true true r s e = absurd cc
-    ended true false r s e = absurd cc
-    ended false q true s e = refl
-    ended false q false s e = absurd cc
-
-number_from : (n : ℕ) (t : List ℕ) → IsNonZero n t → NumberRest 0 0 t
-number_from n t h = record { each = h.0.digits; some = omega (arith, h.0.some); few = omega (arith, h.0.few); most = omega (arith, h.0.value, h.0.most); not_zero = omega (arith, h.0.value, h.1) }
-
-number_to : (t : List ℕ) → NumberRest 0 0 t → IsNonZero (value_from 0 t) t
-number_to t h = (record { digits = h.each; some = omega (arith, h.some); few = omega (arith, h.few); value = refl; most = h.most }, h.not_zero)
 
 -- ---- long numbers
 
@@ -148,14 +137,8 @@ long_forth v n c t h =
 
 pub long_ends : (v n c : ℕ) → LongRest v n [] → stops c ≡ true → long_rule v n c ≡ move.Yield
 long_ends v n c h e =
-    cond_no (is_digit c) (cond (long_next v n c) (move.One (sym.Item (item.Long (10 * v + (c - 48)) (n + 1)))) move.Fail) (cond (nat_lt 0 n) move.Yield move.Fail) (stop_no_digit c e)
-    ∙ cond_yes (nat_lt 0 n) move.Yield move.Fail (lt-ltb 0 n (let s = h.some in omega (arith, s)))
-  where
-    cond_no : {A : Type 0} (b : Bool) (x y : A) → b ≡ false → cond b x y ≡ y
-    cond_no b x y e = rw e refl
-
-    cond_yes : {A : Type 0} (b : Bool) (x y : A) → b ≡ true → cond b x y ≡ x
-    cond_yes b x y e = rw e refl
+    cond-false (is_digit c) (cond (long_next v n c) (move.One (sym.Item (item.Long (10 * v + (c - 48)) (n + 1)))) move.Fail) (cond (nat_lt 0 n) move.Yield move.Fail) (stop_no_digit c e)
+    ∙ cond-true (nat_lt 0 n) move.Yield move.Fail (lt-ltb 0 n (let s = h.some in omega (arith, s)))
 
 pub long_yields : (v n c : ℕ) → ItemFits (item.Long v n) ≡ true → long_rule v n c ≡ move.Yield → LongRest v n []
 long_yields v n c fits e =
@@ -163,18 +146,6 @@ long_yields v n c fits e =
     let a = and_parts (nat_le n 19) (nat_le v 9223372036854775807) b.0 in
     let some : nat_lt 0 n ≡ true = ended (is_digit c) (long_next v n c) (nat_lt 0 n) (sym.Item (item.Long (10 * v + (c - 48)) (n + 1))) e in
     record { each = tt; some = omega (arith, ltb-true 0 n some); few = omega (arith, leb-true _ _ a.0); most = leb-true _ _ a.1 }
-  where
-    ended : (p q r : Bool) (s : Rattle.imap_automaton.specs.declared.sym.Sym.Sym) → cond p (cond q (move.One s) move.Fail) (cond r move.Yield move.Fail) ≡ move.Yield → r ≡ true
-    ended true true r s e = absurd cc
-    ended true false r s e = absurd cc
-    ended false q true s e = refl
-    ended false q false s e = absurd cc
-
-pub long_from : (n : ℕ) (t : List ℕ) → IsLong n t → LongRest 0 0 t
-long_from n t h = record { each = h.digits; some = omega (arith, h.some); few = omega (arith, h.few); most = omega (arith, h.value, h.most) }
-
-pub long_to : (t : List ℕ) → LongRest 0 0 t → IsLong (value_from 0 t) t
-long_to t h = record { digits = h.each; some = omega (arith, h.some); few = omega (arith, h.few); value = refl; most = h.most }
 
 long_open_back : (c : ℕ) (t : List ℕ) → After (item_rule item.LongOpen c) t → ItemLang item.LongOpen (c ∷ t)
 long_open_back c t h = from_test (c == 40) (move.Two (sym.Item (item.Long 0 0)) (sym.Line (line.Fixed phrase.Close 0))) move.Fail t (ItemLang item.LongOpen (c ∷ t))
@@ -190,9 +161,6 @@ pub long_open_none : ItemLang item.LongOpen [] → ⊥
 long_open_none h = let e = h.1 in cc
 
 -- ---- an item is a word, a space and a value
-
-no_atom_space : is_atom 32 ≡ false
-no_atom_space = refl
 
 pub item_from : (t : List ℕ) → WordRest place.Item [] t → (i : items.Item) × items.IsItem i t
 item_from t h = by h.says
@@ -213,10 +181,6 @@ item_from t h = by h.says
         of_key _ e b = absurd b
     by (inr s) = (items.Other, other_from t h.word h.tail h.whole h.each (let n = h.some in omega (arith, n)) h.longest s.0 s.1)
 
-lower_length : (x : List ℕ) → length (map lower x) ≡ length x
-lower_length [] = refl
-lower_length (c ∷ x) = ap (λ (n : ℕ). suc n) (lower_length x)
-
 -- an item whose name is a key
 named_to : (k : Key) (n v t : List ℕ) → Among k (keys place.Item) → t ≡ n ++ 32 ∷ v → map lower n ≡ key_text k → IsBehind place.Item k (32 ∷ v) → WordRest place.Item [] t
 named_to k n v t m e is b = record {
@@ -224,7 +188,7 @@ named_to k n v t m e is b = record {
   tail = 32 ∷ v;
   whole = e;
   each = named_atoms k n is;
-  some = (let s = key_some k in let l = ap length is in let q = lower_length n in omega (arith, s, l, q));
+  some = (let s = key_some k in let l = ap length is in let q = length-map n lower in omega (arith, s, l, q));
   longest = refl;
   says = inl (k, m, is, b);
 }
@@ -339,11 +303,8 @@ long_some v n fits =
     let a = and_parts (nat_le n 19) (nat_le v 9223372036854775807) b.0 in
     by n (leb-true _ _ a.0) (leb-true _ _ a.1) b.1
   where
-    none_yet : (v : ℕ) → (nat_lt 0 0 || v == 0) ≡ true → v ≡ 0
-    none_yet v e = grind arith
-
     by : (n : ℕ) → n ≤ 19 → v ≤ 9223372036854775807 → (nat_lt 0 n || v == 0) ≡ true → (t : List ℕ) × LongRest v n t
-    by zero few most e = let z = none_yet v e in (48 ∷ [], record { each = (refl, tt); some = omega arith; few = omega arith; most = omega (arith, z) })
+    by zero few most e = let z = eqb-true v 0 e in (48 ∷ [], record { each = (refl, tt); some = omega arith; few = omega arith; most = omega (arith, z) })
     by (suc n) few most e = ([], record { each = tt; some = omega arith; few = omega (arith, few); most = most })
 
 pub item_example : (s : Item) → ItemFits s ≡ true → (t : List ℕ) × ItemLang s t

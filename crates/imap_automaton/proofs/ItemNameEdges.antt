@@ -46,6 +46,10 @@ plain_back c t true e a h = inr (record { front = []; back = c ∷ t; whole = re
 plain_back c t false e a (inl h) = inl (plain_from c a e, h)
 plain_back c t false e a (inr h) = inr (record { front = c ∷ h.front; back = h.back; whole = ap (λ (u : List ℕ). c ∷ u) h.whole; first = (plain_from c a e, h.first); second = h.second })
 
+-- where the first of two tests fails, the other holds
+other : (p q : Bool) → p ≡ false → (p || q) ≡ true → q ≡ true
+other p q e f = grind arith
+
 section_back : (c : ℕ) (t : List ℕ) (b : Bool) → (c == 93) ≡ b → (c == 93 || is_inner c) ≡ true → NameForm (cond b name.After name.Section) t → SectionRest (c ∷ t)
 section_back c t true e a h = record { units = []; rest = t; whole = ap (λ (d : ℕ). d ∷ t) (eqb-true c 93 e); units_are = tt; rest_is = h }
 section_back c t false e a h = record {
@@ -55,16 +59,10 @@ section_back c t false e a h = record {
   units_are = (inl (c, refl, other (c == 93) (is_inner c) e a), h.units_are);
   rest_is = h.rest_is;
 }
-  where
-    other : (p q : Bool) → p ≡ false → (p || q) ≡ true → q ≡ true
-    other p q e f = grind arith
 
 digits_back : (c : ℕ) (t : List ℕ) (b : Bool) → (c == 62) ≡ b → (c == 62 || is_digit c) ≡ true → NameForm (cond b name.End name.Digits) t → NameForm name.Digits (c ∷ t)
 digits_back c t true e a h = ([], ap (λ (d : ℕ). d ∷ t) (eqb-true c 62 e) ∙ ap (λ (u : List ℕ). 62 ∷ u) h, tt)
 digits_back c t false e a h = (c ∷ h.0, ap (λ (u : List ℕ). c ∷ u) h.1, (other (c == 62) (is_digit c) e a, h.2))
-  where
-    other : (p q : Bool) → p ≡ false → (p || q) ≡ true → q ≡ true
-    other p q e f = grind arith
 
 pub form_back : (s : ItemName) (c : ℕ) (t : List ℕ) → takes s c ≡ true → NameForm (next_name s c) t → NameForm s (c ∷ t)
 form_back name.Plain c t e h = plain_back c t (c == 91) refl e h

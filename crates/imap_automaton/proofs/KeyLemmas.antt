@@ -5,12 +5,15 @@ use Rattle.std.proofs.lemmas.Bool.{eqb-true, ltb-true, and_parts, and_from, lt-l
 use Rattle.std.proofs.lemmas.List.{length-take-le, take-append-drop}
 use Rattle.std.proofs.lemmas.Slice.Eq.{bytes_eq-Decides}
 use Rattle.std.proofs.lemmas.Grind.{common_steps}
+use Rattle.std.proofs.Math.Seq.{take-length}
+use Rattle.imap_syntax.proofs.EachLemmas.{each_to, each_parts}
 use Rattle.imap_automaton.specs.declared.sym.Key.{Key}
 use Rattle.imap_automaton.specs.declared.sym.Key.TheVariants as key
 use Rattle.imap_automaton.specs.declared.sym.Place.{Place}
 use Rattle.imap_automaton.specs.declared.sym.Place.TheVariants as place
 use Rattle.imap_automaton.specs.Keys.{key_text, goes_on, is_whole, is_among, in_word}
 use Rattle.imap_automaton.proofs.Langs.{Among}
+use Rattle.imap_automaton.proofs.Tests.{atom_apart}
 use Rattle.imap_syntax.specs.Octets.{is_word, is_atom, lower}
 use Rattle.imap_syntax.specs.Texts.{Each}
 
@@ -136,26 +139,15 @@ key_some key.Dec = omega arith
 
 -- ---- lists of octets of a class
 
-pub each_append : (p : ℕ → Bool) (x y : List ℕ) → Each p (x ++ y) → Each p x × Each p y
-each_append p [] y h = (tt, h)
-each_append p (c ∷ x) y h = let r = each_append p x y h.1 in ((h.0, r.0), r.1)
-
-pub each_all : (p q : ℕ → Bool) (t : List ℕ) → ((c : ℕ) → p c ≡ true → q c ≡ true) → Each p t → Each q t
-each_all p q [] f h = tt
-each_all p q (c ∷ t) f h = (f c h.0, each_all p q t f h.1)
-
 each_mid : (p : ℕ → Bool) (x y : List ℕ) (c : ℕ) → Each p (x ++ c ∷ y) → p c ≡ true
-each_mid p x y c h = (each_append p x (c ∷ y) h).1.0
-
-atom_no_brace : (c : ℕ) → is_atom c ≡ true → (c == 123) ≡ false
-atom_no_brace c e = grind arith
+each_mid p x y c h = (each_parts p x (c ∷ y) h).1.0
 
 pub key_octet_parts : (c : ℕ) → is_key_octet c ≡ true → (is_atom c ≡ true) × ((lower c == c) ≡ true) × ((c == 33) ≡ false) × ((c == 123) ≡ false) × (not (c == 45) ≡ true)
 key_octet_parts c e =
     let p = and_parts (is_atom c && (lower c == c) && not (c == 33)) (not (c == 45)) e in
     let q = and_parts (is_atom c && (lower c == c)) (not (c == 33)) p.0 in
     let r = and_parts (is_atom c) (lower c == c) q.0 in
-    (r.0, r.1, not-true (c == 33) q.1, atom_no_brace c r.0, p.1)
+    (r.0, r.1, not-true (c == 33) q.1, (atom_apart c r.0).1, p.1)
 
 atom_word : (c : ℕ) → is_atom c ≡ true → is_word c ≡ true
 atom_word c e = grind arith
@@ -172,15 +164,15 @@ key_octet_in_word place.Month c e = key_octet_month c e
 
 pub key_in_word : (place : Place) (k : Key) (at : ℕ) → Each (in_word place) (drop at (key_text k))
 key_in_word place k at =
-    each_all is_key_octet (in_word place) (drop at (key_text k)) (key_octet_in_word place)
-    (each_append is_key_octet (take at (key_text k)) (drop at (key_text k)) (subst (Each is_key_octet) (sym (take-append-drop at (key_text k))) (key_octets k))).1
+    each_to is_key_octet (in_word place) (drop at (key_text k)) (key_octet_in_word place)
+    (each_parts is_key_octet (take at (key_text k)) (drop at (key_text k)) (subst (Each is_key_octet) (sym (take-append-drop at (key_text k))) (key_octets k))).1
 
 same_lower : (t : List ℕ) → Each is_key_octet t → map lower t ≡ t
 same_lower [] h = refl
 same_lower (c ∷ t) h = let e : lower c ≡ c = eqb-true _ _ (key_octet_parts c h.0).1 in let r = same_lower t h.1 in cc
 
 pub key_lower : (k : Key) (at : ℕ) → map lower (drop at (key_text k)) ≡ drop at (key_text k)
-key_lower k at = same_lower (drop at (key_text k)) (each_append is_key_octet (take at (key_text k)) (drop at (key_text k)) (subst (Each is_key_octet) (sym (take-append-drop at (key_text k))) (key_octets k))).1
+key_lower k at = same_lower (drop at (key_text k)) (each_parts is_key_octet (take at (key_text k)) (drop at (key_text k)) (subst (Each is_key_octet) (sym (take-append-drop at (key_text k))) (key_octets k))).1
 
 -- `!` stands in no key
 pub no_bang : (k : Key) (x y : List ℕ) → x ++ 33 ∷ y ≡ key_text k → ⊥
@@ -248,7 +240,7 @@ pub goes_octet : (k x : Key) (at c : ℕ) → goes_on k at (lower c) x ≡ true 
 goes_octet k x at c e =
     let g = goes_to k x at (lower c) e in
     let all = subst (Each is_key_octet) (sym (take-append-drop (at + 1) (key_text x))) (key_octets x) in
-    let front = (each_append is_key_octet (take (at + 1) (key_text x)) (drop (at + 1) (key_text x)) all).0 in
+    let front = (each_parts is_key_octet (take (at + 1) (key_text x)) (drop (at + 1) (key_text x)) all).0 in
     let o = each_mid is_key_octet (take at (key_text k)) [] (lower c) (subst (Each is_key_octet) g.0 front) in
     no_brace c (key_octet_parts (lower c) o).3
   where
@@ -260,17 +252,9 @@ goes_octet k x at c e =
 pub whole_to : (k x : Key) (at : ℕ) → is_whole k at x ≡ true → take at (key_text k) ≡ key_text x
 whole_to k x at e =
     let p = and_parts (length (key_text x) == at) (bytes_eq (take at (key_text x)) (take at (key_text k))) e in
-    sym (same_text _ _ p.1) ∙ ap (λ (n : ℕ). take n (key_text x)) (sym (eqb-true _ _ p.0)) ∙ take_whole (key_text x)
-  where
-    take_whole : (t : List ℕ) → take (length t) t ≡ t
-    take_whole [] = refl
-    take_whole (c ∷ t) = ap (λ (u : List ℕ). c ∷ u) (take_whole t)
+    sym (same_text _ _ p.1) ∙ ap (λ (n : ℕ). take n (key_text x)) (sym (eqb-true _ _ p.0)) ∙ take-length (key_text x)
 
 pub whole_from : (k x : Key) (at : ℕ) → at ≤ length (key_text k) → take at (key_text k) ≡ key_text x → is_whole k at x ≡ true
 whole_from k x at le e =
     let n : length (key_text x) ≡ at = sym (ap length e) ∙ length-take-le at (key_text k) le in
-    and_from _ _ (eq-eqb _ _ n) (text_same _ _ (ap (λ (m : ℕ). take m (key_text x)) (sym n) ∙ take_whole (key_text x) ∙ sym e))
-  where
-    take_whole : (t : List ℕ) → take (length t) t ≡ t
-    take_whole [] = refl
-    take_whole (c ∷ t) = ap (λ (u : List ℕ). c ∷ u) (take_whole t)
+    and_from _ _ (eq-eqb _ _ n) (text_same _ _ (ap (λ (m : ℕ). take m (key_text x)) (sym n) ∙ take-length (key_text x) ∙ sym e))

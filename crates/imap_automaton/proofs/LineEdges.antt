@@ -22,13 +22,13 @@ use Rattle.imap_automaton.specs.LineRules.{word_start, sequence_rule, fixed_rule
 use Rattle.imap_automaton.specs.Fits.{LineFits}
 use Rattle.imap_automaton.proofs.Langs.{FreeLang, WordSays, WordRest, TagRest, NumberedRest, SequenceRest, LineLang, After}
 use Rattle.imap_automaton.proofs.Lists.{cons_head, cons_tail}
-use Rattle.imap_automaton.proofs.Tests.{from_test, to_test, at_true, at_false, is_true_at, both, alnum_not_space, text_not_cr, drop_at, crlf_of, crlf_parts, mid}
+use Rattle.imap_automaton.proofs.Tests.{from_test, to_test, at_true, at_false, is_true_at, both, alnum_not_space, text_not_cr, drop_at, crlf_of, crlf_parts, mid, digit_word, digit_no_brace}
 use Rattle.imap_automaton.proofs.FreeEdges.{text_back, text_forth, free_empty}
 use Rattle.imap_automaton.proofs.KeyLemmas.{no_bang}
-use Rattle.imap_automaton.proofs.ItemEdges.{value_mono}
 use Rattle.imap_automaton.proofs.WordEdges.{cut, text_goes, text_comes, word_back, word_forth, word_empty, word_example}
 use Rattle.imap_automaton.proofs.CountLemmas.{free_from}
 use Rattle.imap_automaton.proofs.LineWords.{plain_key, plain_to, plain_from, numbered_to, numbered_from, tagged_to, tagged_from}
+use Rattle.imap_automaton.proofs.Rests.{value_mono}
 use Rattle.imap_syntax.specs.declared.code.Code.{Code}
 use Rattle.imap_syntax.specs.declared.response.Status.{Status}
 use Rattle.imap_syntax.specs.declared.response.Response.{Response}
@@ -147,9 +147,6 @@ tag_at n c t (d ∷ x) after e all few h =
 digit_text : (c : ℕ) → is_digit c ≡ true → is_text c ≡ true
 digit_text c e = grind arith
 
-digit_no_brace : (c : ℕ) → is_digit c ≡ true → (c == 123) ≡ false
-digit_no_brace c e = grind arith
-
 digit_no_space : (c : ℕ) → c ≡ 32 → is_digit c ≡ false
 digit_no_space c e = grind arith
 
@@ -267,9 +264,6 @@ lower_digit c e = grind arith
 
 digit_no_key : (c : ℕ) (w : List ℕ) (k : Key) → is_digit c ≡ true → map lower (c ∷ w) ≡ key_text k → ⊥
 digit_no_key c w k d e = both (is_digit (get_or (key_text k) 0 0)) (ap (λ (u : List ℕ). is_digit (get_or u 0 0)) (sym e) ∙ lower_digit c d) (first_no_digit k)
-
-digit_word : (c : ℕ) → is_digit c ≡ true → is_word c ≡ true
-digit_word c e = grind arith
 
 -- a line whose first word begins with a digit
 digit_line : (c : ℕ) (t : List ℕ) → is_digit c ≡ true → FreeLang (free.Text pending.Nothing) t → IsWordLine None response.Other (c ∷ t)

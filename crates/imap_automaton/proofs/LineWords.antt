@@ -1,5 +1,6 @@
 -- The grammar's lines by their first word, and the automaton's words.
 use Rattle.std.proofs.Common.{◌≡◌, ℕ, zero, suc, ◌<◌, true, false, List, [], ◌∷◌, ◌++◌, length, map, get_or, Option, Some, None, refl, sym, ap, subst, ◌∙◌, arith, inl, inr}
+use Rattle.std.proofs.lemmas.List.{length-map}
 use Rattle.std.specs.Prelude.{◌≢◌, Contains}
 use Rattle.imap_automaton.specs.declared.sym.Key.{Key}
 use Rattle.imap_automaton.specs.declared.sym.Key.TheVariants as key
@@ -302,7 +303,8 @@ word_of_key (c ∷ x) (d ∷ y) h e =
     let q = cons_head (lower c) d (map lower x) y e in
     (lower_word c (ap is_key_octet q ∙ h.0), word_of_key x y h.1 (cons_tail (lower c) d (map lower x) y e))
 
-rest_out : (t : List ℕ) → IsRest t → is_word (get_or t 0 0) ≡ false
+-- no word goes on where the rest of a line begins
+pub rest_out : (t : List ℕ) → IsRest t → is_word (get_or t 0 0) ≡ false
 rest_out t (inl e) = ap (λ (u : List ℕ). is_word (get_or u 0 0)) e
 rest_out t (inr w) = ap (λ (u : List ℕ). is_word (get_or u 0 0)) w.1
 
@@ -313,10 +315,6 @@ tagged_key status.Bad h = (key.Bad, inr (inr (inl refl)), refl, λ u r. r)
 tagged_key status.Preauth h = absurd h
 tagged_key status.Bye h = absurd h
 
-lower_length : (x : List ℕ) → length (map lower x) ≡ length x
-lower_length [] = refl
-lower_length (c ∷ x) = ap (λ (n : ℕ). suc n) (lower_length x)
-
 pub tagged_to : (s : Status) (code : Code) (t : List ℕ) → Completes s → Then (IsWord (word_of s)) (IsCodedRest code) t → WordRest place.Tagged [] t
 tagged_to s code t done h =
     let k = tagged_key s done in
@@ -325,7 +323,7 @@ tagged_to s code t done h =
       tail = h.back;
       whole = h.whole;
       each = word_of_key h.front (key_text k.0) (key_octets k.0) (h.first ∙ k.2);
-      some = (let n = key_some k.0 in let l = ap length (h.first ∙ k.2) in let m = lower_length h.front in omega (arith, n, l, m));
+      some = (let n = key_some k.0 in let l = ap length (h.first ∙ k.2) in let m = length-map h.front lower in omega (arith, n, l, m));
       longest = rest_out h.back h.second.0;
       says = inl (k.0, k.1, h.first ∙ k.2, k.3 h.back h.second.0);
     }

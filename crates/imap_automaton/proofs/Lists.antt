@@ -1,5 +1,6 @@
 -- Lists that are cut in two.
-use Rattle.std.proofs.Common.{◌≡◌, ℕ, Bool, true, false, List, [], ◌∷◌, ◌++◌, get_or, Some, refl, sym, ap, ◌∙◌, append_assoc}
+use Rattle.std.proofs.Common.{◌≡◌, ℕ, Bool, true, false, List, [], ◌∷◌, ◌++◌, get_or, refl, sym, ap, ◌∙◌, append_assoc}
+use Rattle.std.proofs.lemmas.Bool.{both_ways}
 use Rattle.imap_syntax.specs.Texts.{Each, Then}
 
 pub cons_head : {A : Type 0} (c d : A) (x y : List A) → c ∷ x ≡ d ∷ y → c ≡ d
@@ -7,9 +8,6 @@ cons_head c d x y e = cc
 
 pub cons_tail : {A : Type 0} (c d : A) (x y : List A) → c ∷ x ≡ d ∷ y → x ≡ y
 cons_tail c d x y e = cc
-
-pub some_is : {A : Type 0} (x y : A) → Some x ≡ Some y → x ≡ y
-some_is x y e = cc
 
 pub no_append : (x y : List ℕ) → [] ≡ x ++ y → (x ≡ []) × (y ≡ [])
 no_append [] y e = (refl, sym e)
@@ -50,15 +48,11 @@ cut p (c ∷ t) z = by (p c) refl (cut p t z)
     by true e r = record { front = c ∷ r.front; back = r.back; whole = ap (λ (u : List ℕ). c ∷ u) r.whole; each = (e, r.each); longest = r.longest }
     by false e r = record { front = []; back = c ∷ t; whole = refl; each = tt; longest = e }
 
-both_ways : (b : Bool) → b ≡ true → b ≡ false → ⊥
-both_ways true e f = cc
-both_ways false e f = cc
-
 -- there is one alone
 pub one_cut : (p : ℕ → Bool) (x y a b : List ℕ) → Each p x → p (get_or y 0 0) ≡ false → Each p a → p (get_or b 0 0) ≡ false → x ++ y ≡ a ++ b → x ≡ a
 one_cut p [] y [] b h o k q e = refl
-one_cut p [] y (d ∷ a) b h o k q e = absurd (both_ways (p d) k.0 (sym (ap (λ (u : List ℕ). p (get_or u 0 0)) e) ∙ o))
-one_cut p (c ∷ x) y [] b h o k q e = absurd (both_ways (p c) h.0 (ap (λ (u : List ℕ). p (get_or u 0 0)) e ∙ q))
+one_cut p [] y (d ∷ a) b h o k q e = absurd (both_ways (p d) (sym (ap (λ (u : List ℕ). p (get_or u 0 0)) e) ∙ o) k.0)
+one_cut p (c ∷ x) y [] b h o k q e = absurd (both_ways (p c) (ap (λ (u : List ℕ). p (get_or u 0 0)) e ∙ q) h.0)
 one_cut p (c ∷ x) y (d ∷ a) b h o k q e =
     let same : c ≡ d = cons_head c d (x ++ y) (a ++ b) e in
     let rest : x ≡ a = one_cut p x y a b h.1 o k.1 q (cons_tail c d (x ++ y) (a ++ b) e) in

@@ -2,6 +2,7 @@
 use Rattle.std.proofs.Common.{◌≡◌, ℕ, zero, ◌+◌, ◌-◌, ◌*◌, ◌≤◌, Bool, true, false, ◌&&◌, List, [], ◌∷◌, ◌++◌, cond, Option, Some, None, refl, sym, ap, subst, ◌∙◌, arith}
 use Rattle.std.specs.Prelude.{◌==◌, nat_lt, nat_le}
 use Rattle.std.proofs.lemmas.Bool.{ltb-false, leb-true, and_parts, le-ltb, cond-true, cond-false}
+use Rattle.std.proofs.lemmas.Option.{same_Some}
 use Rattle.imap_automaton.specs.declared.sym.Phrase.TheVariants as phrase
 use Rattle.imap_automaton.specs.declared.sym.Line.TheVariants as line
 use Rattle.imap_automaton.specs.declared.sym.Free.TheVariants as free
@@ -19,7 +20,7 @@ use Rattle.imap_automaton.specs.Run.{start, moved, step, stepped, run, is_octets
 use Rattle.imap_automaton.specs.Flow.{ends_open, begins, first_begins, Good, sym_left, left_of}
 use Rattle.imap_automaton.proofs.Kept.{is_go, pushed_left, yield_open, moves_yield, large, Leaves, moves_left}
 use Rattle.imap_automaton.proofs.Whole.{keeps, none_stays, no_symbols, open_begins}
-use Rattle.imap_automaton.proofs.Lists.{cons_head, cons_tail, some_is}
+use Rattle.imap_automaton.proofs.Lists.{cons_head, cons_tail}
 use Rattle.imap_automaton.proofs.Tests.{both}
 use Rattle.imap_syntax.specs.Texts.{plain_of, plain}
 
@@ -100,7 +101,7 @@ good_from (c ∷ t) None left good e = absurd (no_symbols left (sym (none_stays 
 good_from (c ∷ t) (Some ss) left good e = good_from t (step ss c) left (λ next f. keeps false ss c next (good ss refl) f) e
 
 pub good_of : (t : List ℕ) (ss left : List Sym) → Good false ss → run (Some ss) t ≡ Some left → Good false left
-good_of t ss left good e = good_from t (Some ss) left (λ other f. subst (Good false) (some_is ss other f) good) e
+good_of t ss left good e = good_from t (Some ss) left (λ other f. subst (Good false) (same_Some ss other f) good) e
 
 pub record Alive (o : Option (List Sym)) : Type 0 where
   pub symbols : List Sym
@@ -127,16 +128,16 @@ same_text (c ∷ t) (d ∷ u) (Some ss) left other good e f p =
     cc
 
 pub start_same : (t u : List ℕ) (left other : List Sym) → run (Some start) t ≡ Some left → run (Some start) u ≡ Some other → plain t ≡ plain u → t ≡ u
-start_same t u left other e f p = same_text t u (Some start) left other (λ ss h. subst (Good false) (some_is start ss h) start_good) e f p
+start_same t u left other e f p = same_text t u (Some start) left other (λ ss h. subst (Good false) (same_Some start ss h) start_good) e f p
 
 -- ---- what is left of literals
 
 left_move : (m : Move) (s : Sym) (rest left : List Sym) (other : Option (List Sym)) → Leaves (is_octets s) (sym_left s) (pushed_left m) → (m ≡ move.Yield → other ≡ Some left → Leaves (is_octets s) (left_of (s ∷ rest)) (left_of left)) → moved m rest other ≡ Some left → Leaves (is_octets s) (left_of (s ∷ rest)) (left_of left)
 left_move move.Fail s rest left other g ih e = absurd cc
 left_move move.Yield s rest left other g ih e = ih refl e
-left_move move.End s rest left other g ih e = subst (λ (q : List Sym). Leaves (is_octets s) (left_of (s ∷ rest)) (left_of q)) (some_is rest left e) (omega (arith, g))
-left_move (move.One a) s rest left other g ih e = subst (λ (q : List Sym). Leaves (is_octets s) (left_of (s ∷ rest)) (left_of q)) (some_is (a ∷ rest) left e) (omega (arith, g))
-left_move (move.Two a b) s rest left other g ih e = subst (λ (q : List Sym). Leaves (is_octets s) (left_of (s ∷ rest)) (left_of q)) (some_is (a ∷ b ∷ rest) left e) (omega (arith, g))
+left_move move.End s rest left other g ih e = subst (λ (q : List Sym). Leaves (is_octets s) (left_of (s ∷ rest)) (left_of q)) (same_Some rest left e) (omega (arith, g))
+left_move (move.One a) s rest left other g ih e = subst (λ (q : List Sym). Leaves (is_octets s) (left_of (s ∷ rest)) (left_of q)) (same_Some (a ∷ rest) left e) (omega (arith, g))
+left_move (move.Two a b) s rest left other g ih e = subst (λ (q : List Sym). Leaves (is_octets s) (left_of (s ∷ rest)) (left_of q)) (same_Some (a ∷ b ∷ rest) left e) (omega (arith, g))
 
 top_begins : (ss : List Sym) → first_begins false ss ≡ true → inside_top ss ≡ false
 top_begins [] e = refl

@@ -1,7 +1,7 @@
 -- One octet at words and at sets of UIDs up to a line's end.
-use Rattle.std.proofs.Common.{◌≡◌, ◌⊎◌, ℕ, ◌+◌, ◌-◌, ◌*◌, ◌<◌, ◌≤◌, Bool, true, false, not, ◌&&◌, List, [], ◌∷◌, ◌++◌, length, map, cond, refl, sym, ap, subst, ◌∙◌, append_assoc, arith, inl, inr}
-use Rattle.std.specs.Prelude.{◌==◌, nat_lt, nat_le, codes}
-use Rattle.std.proofs.lemmas.Bool.{eqb-true, ltb-true, leb-true, and_parts, and_from, lt-ltb, le-leb, eq-eqb}
+use Rattle.std.proofs.Common.{◌≡◌, ℕ, ◌+◌, ◌-◌, ◌*◌, Bool, true, false, not, ◌&&◌, List, [], ◌∷◌, ◌++◌, map, cond, refl, sym, ap, subst, ◌∙◌, append_assoc, arith, inl, inr}
+use Rattle.std.specs.Prelude.{◌==◌, nat_lt, codes}
+use Rattle.std.proofs.lemmas.Bool.{eqb-true, ltb-true, and_parts, and_from, lt-ltb, eq-eqb}
 use Rattle.imap_automaton.specs.declared.sym.Phrase.TheVariants as phrase
 use Rattle.imap_automaton.specs.declared.sym.Line.TheVariants as line
 use Rattle.imap_automaton.specs.declared.sym.Item.TheVariants as item
@@ -10,20 +10,20 @@ use Rattle.imap_automaton.specs.declared.sym.Words.TheVariants as words
 use Rattle.imap_automaton.specs.declared.sym.Set.{Set}
 use Rattle.imap_automaton.specs.declared.sym.Set.TheVariants as set
 use Rattle.imap_automaton.specs.declared.sym.Sym.TheVariants as sym
-use Rattle.imap_automaton.specs.declared.sym.Move.{Move}
 use Rattle.imap_automaton.specs.declared.sym.Move.TheVariants as move
 use Rattle.imap_automaton.specs.SetRules.{words_more, words_rule, set_ends, set_number, set_rule}
 use Rattle.imap_automaton.specs.Fits.{ItemFits, SetFits}
 use Rattle.imap_automaton.proofs.Langs.{FirstWord, WordsLang, NumberRest, SetLine, RangeEnds, NumberEnds, SetLang, After}
 use Rattle.imap_automaton.proofs.Lists.{cons_head, cons_tail}
 use Rattle.imap_automaton.proofs.Tests.{from_test, to_test, at_true, at_false, is_true_at, both, crlf_of, crlf_parts, mid}
-use Rattle.imap_automaton.proofs.ItemEdges.{number_more, number_goes, number_none, number_some}
+use Rattle.imap_automaton.proofs.ItemEdges.{number_more, number_goes, number_none, number_some, next_fits}
+use Rattle.imap_automaton.proofs.Rests.{number_from, number_to}
 use Rattle.imap_syntax.specs.declared.uid_set.UidRange.{UidRange}
 use Rattle.imap_syntax.specs.Octets.{is_digit, is_word, lower}
 use Rattle.imap_syntax.specs.Texts.{Each, Then, crlf, IsCrlf, IsWord}
-use Rattle.imap_syntax.specs.Numbers.{value_from, IsNumber, IsNonZero}
+use Rattle.imap_syntax.specs.Numbers.{value_from}
 use Rattle.imap_syntax.specs.Lines.{IsPrinted, AllPrinted, spaced, IsWords}
-use Rattle.imap_syntax.specs.UidSets.{range_of, IsRange, IsSet, IsSetLine, IsVanished}
+use Rattle.imap_syntax.specs.UidSets.{range_of, IsRange, IsSet, IsSetLine}
 
 -- ---- words
 
@@ -104,12 +104,6 @@ words_example words.First = (97 ∷ crlf, record { word = 97 ∷ []; words = [];
 words_example words.Rest = (crlf, record { word = []; words = []; whole = refl; front = tt; others = tt })
 
 -- ---- a set is a number and what may stand behind it
-
-number_from : (n : ℕ) (t : List ℕ) → IsNonZero n t → NumberRest 0 0 t
-number_from n t h = record { each = h.0.digits; some = omega (arith, h.0.some); few = omega (arith, h.0.few); most = omega (arith, h.0.value, h.0.most); not_zero = omega (arith, h.0.value, h.1) }
-
-number_to : (t : List ℕ) → NumberRest 0 0 t → IsNonZero (value_from 0 t) t
-number_to t h = (record { digits = h.each; some = omega (arith, h.some); few = omega (arith, h.few); value = refl; most = h.most }, h.not_zero)
 
 -- what follows the first range of a set
 ends_of : (r : UidRange) (rs : List UidRange) (t : List ℕ) → IsSetLine (r ∷ rs) t → (front back : List ℕ) × (t ≡ front ++ back) × IsRange r front × RangeEnds back
@@ -235,9 +229,6 @@ ends_some second h = by second h
     by true h = range h
     by false (inl h) = range h
     by false (inr r) = let e = r.1 in cc
-
-abbrev next_fits : ℕ → ℕ → ℕ → Bool
-next_fits v n c = nat_lt n 10 && nat_le (10 * v + (c - 48)) 4294967295 && not (10 * v + (c - 48) == 0 && n == 9)
 
 number_back : (v n : ℕ) (second : Bool) (c : ℕ) (t : List ℕ) → ItemFits (item.Number v n) ≡ true → After (set_number v n second c) t → SetLang (set.Number v n second) (c ∷ t)
 number_back v n second c t fits h = from_test (is_digit c)

@@ -14,12 +14,11 @@ use Rattle.imap_automaton.specs.declared.sym.Move.{Move}
 use Rattle.imap_automaton.specs.declared.sym.Move.TheVariants as move
 use Rattle.imap_automaton.specs.StringRules.{flat_start, alone, before, nstring_rule, count_rule, string_rule}
 use Rattle.imap_automaton.specs.Fits.{StrFits}
-use Rattle.imap_automaton.proofs.Rests.{OctetsRest}
+use Rattle.imap_automaton.proofs.Rests.{OctetsRest, value_mono}
 use Rattle.imap_automaton.proofs.StringLangs.{QuotedRest, EscapedRest, AnyCounted, CountRest, BraceRest, StrLang}
 use Rattle.imap_automaton.proofs.Langs.{Lang, After}
 use Rattle.imap_automaton.proofs.Lists.{cons_head, cons_tail}
-use Rattle.imap_automaton.proofs.Tests.{from_test, at_true, at_false, is_true_at, mid}
-use Rattle.imap_automaton.proofs.ItemEdges.{value_mono}
+use Rattle.imap_automaton.proofs.Tests.{from_test, at_true, at_false, is_true_at, mid, atom_apart}
 use Rattle.imap_automaton.proofs.FreeEdges.{octets_some}
 use Rattle.imap_syntax.specs.Octets.{is_digit, is_text, is_atom, lower}
 use Rattle.imap_syntax.specs.Texts.{Each, Then, plain}
@@ -191,12 +190,9 @@ atom_tilde_back c t h = from_test (c == 123) (move.One (sym.Str (str.Count 0 0))
     (λ e k. inr (counted_from c t (eqb-true c 123 e) k))
     (λ e k. from_test (is_atom c) (move.One (sym.Names names.AtomRest)) move.Yield t (StrLang str.AtomTilde (c ∷ t)) (λ f l. inl (f, l)) (λ f l. absurd l) k) h
 
-atom_no_brace : (c : ℕ) → is_atom c ≡ true → (c == 123) ≡ false
-atom_no_brace c e = grind arith
-
 atom_tilde_forth : (c : ℕ) (t : List ℕ) → StrLang str.AtomTilde (c ∷ t) → After (string_rule str.AtomTilde c) t
 atom_tilde_forth c t (inl a) =
-    at_false (c == 123) (move.One (sym.Str (str.Count 0 0))) (cond (is_atom c) (move.One (sym.Names names.AtomRest)) move.Yield) t (atom_no_brace c a.0)
+    at_false (c == 123) (move.One (sym.Str (str.Count 0 0))) (cond (is_atom c) (move.One (sym.Names names.AtomRest)) move.Yield) t (atom_apart c a.0).1
     (at_true (is_atom c) (move.One (sym.Names names.AtomRest)) move.Yield t a.0 a.1)
 atom_tilde_forth c t (inr h) =
     let k = counted_to c t h in
@@ -269,9 +265,6 @@ flat_back c t h = starts_test (c == 34) (Some (sym.Str str.Quoted)) (count_start
     (λ f l. starts_test (c == 126) (Some (sym.Str str.AtomTilde)) (atom_start c) t (IsFlat (c ∷ t))
     (λ g m. tilde_flat c t (eqb-true c 126 g) m)
     (λ g m. starts_test (is_atom c) (Some (sym.Names names.AtomRest)) None t (IsFlat (c ∷ t)) (λ i o. atom_flat c t i o) (λ i o. absurd o) m) l) k) h
-
-atom_apart : (c : ℕ) → is_atom c ≡ true → ((c == 34) ≡ false) × ((c == 123) ≡ false)
-atom_apart c e = (grind arith, grind arith)
 
 atom_starts : (c : ℕ) (t : List ℕ) (b : Bool) → (c == 126) ≡ b → is_atom c ≡ true → Each is_atom t → Starts (flat_start c) t
 atom_starts c t true f e h =
@@ -413,11 +406,8 @@ counted_none = ([], record { digits = 48 ∷ []; octets = []; whole = refl; are_
 count_some : (v n : ℕ) → StrFits (str.Count v n) ≡ true → (t : List ℕ) × CountRest v n t
 count_some v n fits = by n (count_parts v n fits) (and_parts (nat_le n 8 && nat_le v 50000000) (nat_lt 0 n || v == 0) fits).1
   where
-    none_yet : (v : ℕ) → (nat_lt 0 0 || v == 0) ≡ true → v ≡ 0
-    none_yet v e = grind arith
-
     by : (n : ℕ) → (n ≤ 8) × (v ≤ 50000000) → (nat_lt 0 n || v == 0) ≡ true → (t : List ℕ) × CountRest v n t
-    by zero most e = (codes "0}" ++ 13 ∷ 10 ∷ [], record { front = 48 ∷ []; octets = []; whole = refl; each = (refl, tt); some = omega arith; few = omega arith; counted = (let z = none_yet v e in omega (arith, z)); most = omega arith; inside = tt })
+    by zero most e = (codes "0}" ++ 13 ∷ 10 ∷ [], record { front = 48 ∷ []; octets = []; whole = refl; each = (refl, tt); some = omega arith; few = omega arith; counted = (let z = eqb-true v 0 e in omega (arith, z)); most = omega arith; inside = tt })
     by (suc n) most e =
         let o = octets_some v in (
           125 ∷ 13 ∷ 10 ∷ replicate v 256,

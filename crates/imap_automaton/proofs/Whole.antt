@@ -1,7 +1,8 @@
 -- Symbols in turn read a text exactly where the automaton comes from them to no symbol.
-use Rattle.std.proofs.Common.{◌≡◌, ℕ, ◌+◌, ◌≤◌, Bool, true, false, not, ◌&&◌, ◌||◌, List, [], ◌∷◌, ◌++◌, length, Option, Some, None, refl, sym, ap, subst, ◌∙◌, arith}
+use Rattle.std.proofs.Common.{◌≡◌, ℕ, ◌+◌, Bool, true, false, not, ◌&&◌, ◌||◌, List, [], ◌∷◌, ◌++◌, Option, Some, None, refl, sym, ap, subst, ◌∙◌, arith}
 use Rattle.std.specs.Prelude.{nat_le}
 use Rattle.std.proofs.lemmas.Bool.{and_parts, leb-true}
+use Rattle.std.proofs.lemmas.Option.{same_Some}
 use Rattle.imap_automaton.specs.declared.sym.Sym.{Sym}
 use Rattle.imap_automaton.specs.declared.sym.Move.{Move}
 use Rattle.imap_automaton.specs.declared.sym.Move.TheVariants as move
@@ -12,7 +13,7 @@ use Rattle.imap_automaton.specs.Flow.{ends_open, begins, stops, first_begins, Go
 use Rattle.imap_automaton.proofs.Langs.{Lang, Langs, After}
 use Rattle.imap_automaton.proofs.Edges.{edge_back, edge_forth, empty_may, ends_by, begin_stops, begin_no_yield, example}
 use Rattle.imap_automaton.proofs.Kept.{yield_open, moves_good, moves_room, yields}
-use Rattle.imap_automaton.proofs.Lists.{cons_head, cons_tail, some_is, no_append, regroup, ungroup}
+use Rattle.imap_automaton.proofs.Lists.{cons_head, cons_tail, no_append, regroup, ungroup}
 
 -- ---- from a text read after an octet to a text read with it
 
@@ -24,10 +25,10 @@ unmoved s rest c left t move.End r fits ih e h = record {
   back = t;
   whole = refl;
   first = edge_back s c [] fits (subst (λ (m : Move). After m []) (sym r) refl);
-  second = subst (λ (ss : List Sym). Langs ss t) (sym (some_is rest left e)) h;
+  second = subst (λ (ss : List Sym). Langs ss t) (sym (same_Some rest left e)) h;
 }
 unmoved s rest c left t (move.One a) r fits ih e h =
-    let k = subst (λ (ss : List Sym). Langs ss t) (sym (some_is (a ∷ rest) left e)) h in
+    let k = subst (λ (ss : List Sym). Langs ss t) (sym (same_Some (a ∷ rest) left e)) h in
     record {
       front = c ∷ k.front;
       back = k.back;
@@ -36,7 +37,7 @@ unmoved s rest c left t (move.One a) r fits ih e h =
       second = k.second;
     }
 unmoved s rest c left t (move.Two a b) r fits ih e h =
-    let k = regroup (Lang a) (Lang b) (Langs rest) t (subst (λ (ss : List Sym). Langs ss t) (sym (some_is (a ∷ b ∷ rest) left e)) h) in
+    let k = regroup (Lang a) (Lang b) (Langs rest) t (subst (λ (ss : List Sym). Langs ss t) (sym (same_Some (a ∷ b ∷ rest) left e)) h) in
     record {
       front = c ∷ k.front;
       back = k.back;
@@ -108,15 +109,15 @@ chain p q r e f = grind arith
 keeps_move : (last : Bool) (m : Move) (s : Sym) (rest left : List Sym) (other : Option (List Sym)) → move_good (ends_open s) m ≡ true → Good last (s ∷ rest) → (other ≡ Some left → Good last left) → moved m rest other ≡ Some left → Good last left
 keeps_move last move.Fail s rest left other g good ih e = absurd cc
 keeps_move last move.Yield s rest left other g good ih e = ih e
-keeps_move last move.End s rest left other g good ih e = subst (Good last) (some_is rest left e) good.2
+keeps_move last move.End s rest left other g good ih e = subst (Good last) (same_Some rest left e) good.2
 keeps_move last (move.One a) s rest left other g good ih e =
     let p = and_parts (SymFits a) (not (ends_open a) || ends_open s) g in
-    subst (Good last) (some_is (a ∷ rest) left e) (p.0, chain (ends_open a) (ends_open s) (first_begins last rest) p.1 good.1, good.2)
+    subst (Good last) (same_Some (a ∷ rest) left e) (p.0, chain (ends_open a) (ends_open s) (first_begins last rest) p.1 good.1, good.2)
 keeps_move last (move.Two a b) s rest left other g good ih e =
     let p = and_parts (SymFits a && SymFits b && (not (ends_open a) || begins b)) (not (ends_open b) || ends_open s) g in
     let q = and_parts (SymFits a && SymFits b) (not (ends_open a) || begins b) p.0 in
     let r = and_parts (SymFits a) (SymFits b) q.0 in
-    subst (Good last) (some_is (a ∷ b ∷ rest) left e) (r.0, q.1, (r.1, chain (ends_open b) (ends_open s) (first_begins last rest) p.1 good.1, good.2))
+    subst (Good last) (same_Some (a ∷ b ∷ rest) left e) (r.0, q.1, (r.1, chain (ends_open b) (ends_open s) (first_begins last rest) p.1 good.1, good.2))
 
 pub keeps : (last : Bool) (ss : List Sym) (c : ℕ) (left : List Sym) → Good last ss → step ss c ≡ Some left → Good last left
 keeps last [] c left good e = absurd cc
@@ -125,12 +126,12 @@ keeps last (s ∷ rest) c left good e = keeps_move last (rule_of s c) s rest lef
 room_move : (m : Move) (s : Sym) (rest left : List Sym) (other : Option (List Sym)) → move_needs (need s) m ≡ true → Room (s ∷ rest) → (other ≡ Some left → Room left) → moved m rest other ≡ Some left → Room left
 room_move move.Fail s rest left other g room ih e = absurd cc
 room_move move.Yield s rest left other g room ih e = ih e
-room_move move.End s rest left other g room ih e = subst Room (some_is rest left e) room.1
+room_move move.End s rest left other g room ih e = subst Room (same_Some rest left e) room.1
 room_move (move.One a) s rest left other g room ih e =
-    subst Room (some_is (a ∷ rest) left e) (omega (arith, leb-true _ _ g, room.0), room.1)
+    subst Room (same_Some (a ∷ rest) left e) (omega (arith, leb-true _ _ g, room.0), room.1)
 room_move (move.Two a b) s rest left other g room ih e =
     let p = and_parts (nat_le (need a + 1) (need s)) (nat_le (need b) (need s)) g in
-    subst Room (some_is (a ∷ b ∷ rest) left e) (omega (arith, leb-true _ _ p.0, room.0), (omega (arith, leb-true _ _ p.1, room.0), room.1))
+    subst Room (same_Some (a ∷ b ∷ rest) left e) (omega (arith, leb-true _ _ p.0, room.0), (omega (arith, leb-true _ _ p.1, room.0), room.1))
 
 pub room_keeps : (ss : List Sym) (c : ℕ) (left : List Sym) → AllFit ss → Room ss → step ss c ≡ Some left → Room left
 room_keeps [] c left fits room e = absurd cc
@@ -160,7 +161,7 @@ back_at None ss c t good ih e s = absurd (no_symbols [] (sym (none_stays t) ∙ 
 back_at (Some left) ss c t good ih e s = unstep false ss c left t good s (ih left (keeps false ss c left good s) (ap (λ (o : Option (List Sym)). run o t) (sym s) ∙ e))
 
 pub reads_back : (t : List ℕ) (ss : List Sym) → Good false ss → run (Some ss) t ≡ Some [] → Langs ss t
-reads_back [] ss good e = subst (λ (u : List Sym). Langs u []) (sym (some_is ss [] e)) refl
+reads_back [] ss good e = subst (λ (u : List Sym). Langs u []) (sym (same_Some ss [] e)) refl
 reads_back (c ∷ t) ss good e = back_at (step ss c) ss c t good (λ left g k. reads_back t left g k) e refl
 
 begun : (rest : List Sym) → first_begins false rest ≡ true → Good false rest → Langs rest [] → ⊥

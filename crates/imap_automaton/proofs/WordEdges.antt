@@ -1,7 +1,7 @@
 -- One octet at a word by which a reader decides.
-use Rattle.std.proofs.Common.{◌≡◌, ℕ, ◌+◌, ◌<◌, ◌≤◌, true, false, ◌&&◌, List, [], ◌∷◌, ◌++◌, length, map, take, drop, get_or, cond, Option, Some, None, refl, sym, ap, subst, ◌∙◌, append_assoc, arith, inl, inr}
-use Rattle.std.specs.Prelude.{◌==◌, nat_le, codes}
-use Rattle.std.proofs.lemmas.Bool.{eqb-true, eqb-false, leb-true, and_parts, eq-eqb, cond-false}
+use Rattle.std.proofs.Common.{◌≡◌, ℕ, ◌+◌, ◌<◌, ◌≤◌, true, false, List, [], ◌∷◌, ◌++◌, length, map, take, drop, get_or, cond, Option, Some, None, refl, sym, ap, subst, ◌∙◌, append_assoc, arith, inl, inr}
+use Rattle.std.specs.Prelude.{◌==◌, codes}
+use Rattle.std.proofs.lemmas.Bool.{eqb-true, eqb-false, eq-eqb, cond-false}
 use Rattle.std.proofs.lemmas.List.{length-append, length-take-le, append-nil, take-append-drop}
 use Rattle.imap_automaton.specs.declared.sym.Key.{Key}
 use Rattle.imap_automaton.specs.declared.sym.Key.TheVariants as key
@@ -321,9 +321,6 @@ ends_back p k at c t None e le h =
     inr (λ x m q. find_none (is_whole k at) (keys p) x e m (whole_from k x at le (sym (append-nil (take at (key_text k))) ∙ q)), stray_back p k at c t h)
 
 -- ---- the group
-
-fits_le : (p : Place) (k : Key) (at : ℕ) → (nat_le at (length (key_text k)) && is_among k (keys p)) ≡ true → at ≤ length (key_text k)
-fits_le p k at fits = leb-true _ _ (and_parts (nat_le at (length (key_text k))) (is_among k (keys p)) fits).0
 
 pub word_back : (p : Place) (k : Key) (at c : ℕ) (t : List ℕ) → at ≤ length (key_text k) → After (word_rule p k at c) t → WordRest p (take at (key_text k)) (c ∷ t)
 word_back p k at c t le h = from_test (in_word p c) (word_goes p k at c (next_key p k at (lower c))) (cond (at == 0) move.Fail (word_ends p k at c (whole_key p k at))) t (WordRest p (take at (key_text k)) (c ∷ t))

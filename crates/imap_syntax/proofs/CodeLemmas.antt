@@ -1,20 +1,22 @@
 -- The code that is read is the one that the line has, and the only one.
-use Rattle.std.proofs.Common.{◌≡◌, ◌⊎◌, inl, inr, ℕ, zero, suc, ◌+◌, ◌<◌, ◌≤◌, Bool, true, false, ◌&&◌, List, [], ◌∷◌, ◌++◌, length, map, drop, get_or, cond, refl, sym, ap, subst, ◌∙◌, arith, Option, Some, None}
+use Rattle.std.proofs.Common.{◌≡◌, inl, inr, ℕ, zero, suc, ◌+◌, ◌<◌, ◌≤◌, Bool, true, false, ◌&&◌, List, [], ◌∷◌, ◌++◌, length, map, drop, get_or, cond, refl, sym, ap, subst, ◌∙◌, arith, Option, Some, None}
 use Rattle.std.specs.Prelude.{◌==◌, nat_lt, nat_le, codes, bytes_eq, unwrap_or}
 use Rattle.std.specs.List.{list_all}
 use Rattle.std.proofs.lemmas.Bool.{cond-true, and_parts, and_from, ltb-true, leb-true, lt-ltb, le-leb, eqb-true}
 use Rattle.std.proofs.lemmas.List.{length-append}
 use Rattle.std.proofs.lemmas.Slice.Eq.{bytes_eq-Decides}
+use Rattle.std.proofs.lemmas.Option.{same_Some}
 use Rattle.imap_syntax.specs.declared.code.Code.{Code}
 use Rattle.imap_syntax.specs.declared.code.Code.TheVariants as code
 use Rattle.imap_syntax.specs.declared.uid_set.UidRange.{UidRange}
 use Rattle.imap_syntax.specs.Octets.{is_digit, lower}
 use Rattle.imap_syntax.specs.Texts.{Each, IsWord}
-use Rattle.imap_syntax.specs.Numbers.{value_from, IsNumber, IsNonZero, IsLong}
+use Rattle.imap_syntax.specs.Numbers.{value_from, IsNonZero, IsLong}
 use Rattle.imap_syntax.specs.UidSets.{range_of, IsRange, IsSet}
 use Rattle.imap_syntax.specs.Codes.{Parted, IsKnown, Bracketed, HasCode}
 use Rattle.imap_syntax.specs.ReadCodes.{cut, is_decimal, nonzero_in, long_in, one_range, two_range, range_by, range_in, one_in_set, more_in_set, ranges_in, set_in, bare_code, validity_of, next_of, modseq_of, appended, append_in, copied, sets_in, copy_in, code_with, known_by, known_in, code_by, code_in}
-use Rattle.imap_syntax.proofs.CutLemmas.{by_test, by_some, some_is, other, each_to, each_append, each_all, all_each, free_of, cut_some, cut_at, cut_free, cut_none}
+use Rattle.imap_syntax.proofs.CutLemmas.{by_test, by_some, other, free_of, cut_some, cut_at, cut_free, cut_none}
+use Rattle.imap_syntax.proofs.EachLemmas.{each_to, each_append, each_all, all_each}
 
 -- ---- numbers
 
@@ -41,7 +43,7 @@ nonzero_sound t n e = by_test (is_decimal 10 4294967295 t && nat_lt 0 (value_fro
     (λ b f.
     let a = and_parts (is_decimal 10 4294967295 t) (nat_lt 0 (value_from 0 t)) b in
     let d = decimal 10 4294967295 t a.0 in
-    let same : value_from 0 t ≡ n = some_is (value_from 0 t) n f in
+    let same : value_from 0 t ≡ n = same_Some (value_from 0 t) n f in
     (record { digits = d.each; some = d.some; few = d.few; value = sym same; most = omega (arith, d.within, same) }, omega (arith, same, ltb-true 0 (value_from 0 t) a.1)))
     (λ b f. absurd cc)
 
@@ -58,7 +60,7 @@ unfolding long_in
 long_sound t n e = by_test (is_decimal 19 9223372036854775807 t) (Some (value_from 0 t)) None (Some n) (IsLong n t) e
     (λ b f.
     let d = decimal 19 9223372036854775807 t b in
-    let same : value_from 0 t ≡ n = some_is (value_from 0 t) n f in
+    let same : value_from 0 t ≡ n = same_Some (value_from 0 t) n f in
     record { digits = d.each; some = d.some; few = d.few; value = sym same; most = omega (arith, d.within, same) })
     (λ b f. absurd cc)
 
@@ -87,11 +89,11 @@ unfolding range_in
 range_sound t r e = by (cut 58 t) refl e
   where
     by : (o : Option (List ℕ × List ℕ)) → cut 58 t ≡ o → range_by t o ≡ Some r → IsRange r t
-    by None f g = by_some (nonzero_in t) one_range r (IsRange r t) refl g (λ n k l. inl (n, nonzero_sound t n k, sym (some_is (range_of n n) r l)))
+    by None f g = by_some (nonzero_in t) one_range r (IsRange r t) refl g (λ n k l. inl (n, nonzero_sound t n k, sym (same_Some (range_of n n) r l)))
     by (Some q) f g =
         by_some (nonzero_in q.0) (λ (m : Option ℕ). two_range m (nonzero_in q.1)) r (IsRange r t) refl g (λ m k l.
         by_some (nonzero_in q.1) (two_range (Some m)) r (IsRange r t) refl l (λ n i j.
-        inr (m, n, q.0, q.1, (cut_some 58 t q f).0, nonzero_sound q.0 m k, nonzero_sound q.1 n i, sym (some_is (range_of m n) r j))))
+        inr (m, n, q.0, q.1, (cut_some 58 t q f).0, nonzero_sound q.0 m k, nonzero_sound q.1 n i, sym (same_Some (range_of m n) r j))))
 
 range_complete : (r : UidRange) (t : List ℕ) → IsRange r t → range_in t ≡ Some r
 unfolding range_in
@@ -117,11 +119,11 @@ ranges_sound (suc most) t rs e = by (ranges_sound most) (cut 44 t) refl e
     joined r (s ∷ rs) front back e h k = (front, back, e, h, k)
 
     by : ((u : List ℕ) (more : List UidRange) → ranges_in most u ≡ Some more → IsSet more u) → (o : Option (List ℕ × List ℕ)) → cut 44 t ≡ o → elim o [ None ↦ one_in_set (range_in t) | Some r ↦ more_in_set (range_in r.0) (ranges_in most r.1) ] ≡ Some rs → IsSet rs t
-    by ih None f g = by_some (range_in t) one_in_set rs (IsSet rs t) refl g (λ r k l. subst (λ (q : List UidRange). IsSet q t) (some_is (r ∷ []) rs l) (range_sound t r k))
+    by ih None f g = by_some (range_in t) one_in_set rs (IsSet rs t) refl g (λ r k l. subst (λ (q : List UidRange). IsSet q t) (same_Some (r ∷ []) rs l) (range_sound t r k))
     by ih (Some q) f g =
         by_some (range_in q.0) (λ (m : Option UidRange). more_in_set m (ranges_in most q.1)) rs (IsSet rs t) refl g (λ r k l.
         by_some (ranges_in most q.1) (more_in_set (Some r)) rs (IsSet rs t) refl l (λ more i j.
-        subst (λ (q : List UidRange). IsSet q t) (some_is (r ∷ more) rs j) (joined r more q.0 q.1 (cut_some 44 t q f).0 (range_sound q.0 r k) (ih q.1 more i))))
+        subst (λ (q : List UidRange). IsSet q t) (same_Some (r ∷ more) rs j) (joined r more q.0 q.1 (cut_some 44 t q f).0 (range_sound q.0 r k) (ih q.1 more i))))
 
 ranges_complete : (most : ℕ) (rs : List UidRange) (t : List ℕ) → length rs ≤ most → IsSet rs t → ranges_in most t ≡ Some rs
 unfolding ranges_in
@@ -166,11 +168,11 @@ same_word t k e = (bytes_eq-Decides (map lower t) k).0 e
 bare_sound : (t : List ℕ) (c : Code) → bare_code (map lower t) ≡ Some c → IsKnown c t
 unfolding bare_code
 bare_sound t c e = by_test (bytes_eq (map lower t) (codes "nomodseq")) (Some code.NoModSeq) _ (Some c) (IsKnown c t) e
-    (λ b f. subst (λ (k : Code). IsKnown k t) (some_is code.NoModSeq c f) (same_word t (codes "nomodseq") b))
+    (λ b f. subst (λ (k : Code). IsKnown k t) (same_Some code.NoModSeq c f) (same_word t (codes "nomodseq") b))
     (λ b f. by_test (bytes_eq (map lower t) (codes "closed")) (Some code.Closed) _ (Some c) (IsKnown c t) f
-    (λ b f. subst (λ (k : Code). IsKnown k t) (some_is code.Closed c f) (same_word t (codes "closed") b))
+    (λ b f. subst (λ (k : Code). IsKnown k t) (same_Some code.Closed c f) (same_word t (codes "closed") b))
     (λ b f. by_test (bytes_eq (map lower t) (codes "overquota")) (Some code.OverQuota) None (Some c) (IsKnown c t) f
-    (λ b f. subst (λ (k : Code). IsKnown k t) (some_is code.OverQuota c f) (same_word t (codes "overquota") b))
+    (λ b f. subst (λ (k : Code). IsKnown k t) (same_Some code.OverQuota c f) (same_word t (codes "overquota") b))
     (λ b f. absurd cc)))
 
 parted : (A B : List ℕ → Type 0) (t : List ℕ) (r : List ℕ × List ℕ) → t ≡ r.0 ++ 32 ∷ r.1 → A r.0 → B r.1 → Parted A B t
@@ -184,7 +186,7 @@ append_sound t c P e g =
     by_some (cut 32 t) append_in c P refl e (λ r cut_is f.
     by_some (nonzero_in r.0) (λ (v : Option ℕ). appended v (nonzero_in r.1)) c P refl f (λ v is_v f.
     by_some (nonzero_in r.1) (appended (Some v)) c P refl f (λ u is_u f.
-    g v u (pair_of (IsNonZero v) (IsNonZero u) t r cut_is (nonzero_sound r.0 v is_v) (nonzero_sound r.1 u is_u)) (some_is (code.AppendUid v u) c f))))
+    g v u (pair_of (IsNonZero v) (IsNonZero u) t r cut_is (nonzero_sound r.0 v is_v) (nonzero_sound r.1 u is_u)) (same_Some (code.AppendUid v u) c f))))
 
 abbrev copy_of : ℕ → List UidRange → List UidRange → Code
 copy_of validity from to = code.CopyUid validity (record { ranges = from }) (record { ranges = to })
@@ -197,19 +199,19 @@ copy_sound t c P e g =
     by_some (set_in q.0) (λ (s : Option (List UidRange)). copied (Some v) s (set_in q.1)) c P refl f (λ from is_from f.
     by_some (set_in q.1) (copied (Some v) (Some from)) c P refl f (λ to is_to f.
     g v from to (pair_of (IsNonZero v) (Parted (IsSet from) (IsSet to)) t r cut_is (nonzero_sound r.0 v is_v)
-    (pair_of (IsSet from) (IsSet to) r.1 q inner_is (set_sound q.0 from is_from) (set_sound q.1 to is_to))) (some_is (copy_of v from to) c f))))))
+    (pair_of (IsSet from) (IsSet to) r.1 q inner_is (set_sound q.0 from is_from) (set_sound q.1 to is_to))) (same_Some (copy_of v from to) c f))))))
 
 with_sound : (t : List ℕ) (r : List ℕ × List ℕ) (c : Code) → t ≡ r.0 ++ 32 ∷ r.1 → code_with (map lower r.0) r.1 ≡ Some c → IsKnown c t
 unfolding code_with
 with_sound t r c e f = by_test (bytes_eq (map lower r.0) (codes "uidvalidity")) (validity_of (nonzero_in r.1)) _ (Some c) (IsKnown c t) f
     (λ b f. by_some (nonzero_in r.1) validity_of c (IsKnown c t) refl f (λ n is_n f.
-    subst (λ (k : Code). IsKnown k t) (some_is (code.UidValidity n) c f) (parted (IsWord (codes "uidvalidity")) (IsNonZero n) t r e (same_word r.0 (codes "uidvalidity") b) (nonzero_sound r.1 n is_n))))
+    subst (λ (k : Code). IsKnown k t) (same_Some (code.UidValidity n) c f) (parted (IsWord (codes "uidvalidity")) (IsNonZero n) t r e (same_word r.0 (codes "uidvalidity") b) (nonzero_sound r.1 n is_n))))
     (λ b f. by_test (bytes_eq (map lower r.0) (codes "uidnext")) (next_of (nonzero_in r.1)) _ (Some c) (IsKnown c t) f
     (λ b f. by_some (nonzero_in r.1) next_of c (IsKnown c t) refl f (λ n is_n f.
-    subst (λ (k : Code). IsKnown k t) (some_is (code.UidNext n) c f) (parted (IsWord (codes "uidnext")) (IsNonZero n) t r e (same_word r.0 (codes "uidnext") b) (nonzero_sound r.1 n is_n))))
+    subst (λ (k : Code). IsKnown k t) (same_Some (code.UidNext n) c f) (parted (IsWord (codes "uidnext")) (IsNonZero n) t r e (same_word r.0 (codes "uidnext") b) (nonzero_sound r.1 n is_n))))
     (λ b f. by_test (bytes_eq (map lower r.0) (codes "highestmodseq")) (modseq_of (long_in r.1)) _ (Some c) (IsKnown c t) f
     (λ b f. by_some (long_in r.1) modseq_of c (IsKnown c t) refl f (λ n is_n f.
-    subst (λ (k : Code). IsKnown k t) (some_is (code.HighestModSeq n) c f) (parted (IsWord (codes "highestmodseq")) (IsLong n) t r e (same_word r.0 (codes "highestmodseq") b) (long_sound r.1 n is_n))))
+    subst (λ (k : Code). IsKnown k t) (same_Some (code.HighestModSeq n) c f) (parted (IsWord (codes "highestmodseq")) (IsLong n) t r e (same_word r.0 (codes "highestmodseq") b) (long_sound r.1 n is_n))))
     (λ b f. by_test (bytes_eq (map lower r.0) (codes "appenduid")) (append_in (cut 32 r.1)) _ (Some c) (IsKnown c t) f
     (λ b f. append_sound r.1 c (IsKnown c t) f (λ v u h is.
     subst (λ (k : Code). IsKnown k t) is (parted (IsWord (codes "appenduid")) (Parted (IsNonZero v) (IsNonZero u)) t r e (same_word r.0 (codes "appenduid") b) h)))

@@ -1,8 +1,9 @@
 -- Texts that are cut at an octet.
-use Rattle.std.proofs.Common.{◌≡◌, ℕ, zero, suc, ◌+◌, ◌<◌, ◌≤◌, Bool, true, false, List, [], ◌∷◌, ◌++◌, length, map, take, drop, get_or, cond, refl, sym, ap, subst, ◌∙◌, arith, Option, Some, None}
+use Rattle.std.proofs.Common.{◌≡◌, ℕ, zero, suc, ◌+◌, ◌<◌, Bool, true, false, List, [], ◌∷◌, ◌++◌, length, map, take, drop, get_or, cond, refl, sym, ap, subst, ◌∙◌, arith, Option, Some, None}
 use Rattle.std.specs.Prelude.{not, ◌==◌}
 use Rattle.std.specs.List.{list_all}
-use Rattle.std.proofs.lemmas.Bool.{cond-true, cond-false, and_parts, and_from, eqb-true, eq-eqb, ne_eqb}
+use Rattle.std.proofs.lemmas.Bool.{cond-true, cond-false, and_parts, eqb-true, eq-eqb, ne_eqb, not_from_false, not-true}
+use Rattle.std.proofs.lemmas.Option.{same_Some}
 use Rattle.imap_syntax.specs.Octets.{lower}
 use Rattle.imap_syntax.specs.Texts.{Each}
 use Rattle.imap_syntax.specs.ReadCodes.{cut, put_front}
@@ -18,29 +19,10 @@ pub by_some : {A B : Type 0} (o : Option A) (f : Option A → Option B) (r : B) 
 by_some None f r P n e g = let none : None ≡ Some r = sym n ∙ e in absurd cc
 by_some (Some x) f r P n e g = g x refl e
 
-pub some_is : {A : Type 0} (x y : A) → Some x ≡ Some y → x ≡ y
-some_is x y e = cc
-
 -- ---- octets
 
 abbrev pub other : ℕ → ℕ → Bool
 other c d = not (d == c)
-
-pub each_to : (p q : ℕ → Bool) (t : List ℕ) → ((c : ℕ) → p c ≡ true → q c ≡ true) → Each p t → Each q t
-each_to p q [] f h = tt
-each_to p q (c ∷ t) f h = (f c h.0, each_to p q t f h.1)
-
-pub each_append : (p : ℕ → Bool) (x y : List ℕ) → Each p x → Each p y → Each p (x ++ y)
-each_append p [] y h k = k
-each_append p (c ∷ x) y h k = (h.0, each_append p x y h.1 k)
-
-pub each_all : (p : ℕ → Bool) (t : List ℕ) → list_all p t ≡ true → Each p t
-each_all p [] e = tt
-each_all p (c ∷ t) e = let a = and_parts (p c) (list_all p t) e in (a.0, each_all p t a.1)
-
-pub all_each : (p : ℕ → Bool) (t : List ℕ) → Each p t → list_all p t ≡ true
-all_each p [] h = refl
-all_each p (c ∷ t) h = and_from (p c) (list_all p t) h.0 (all_each p t h.1)
 
 space_lower : (c : ℕ) → other 32 (lower c) ≡ true → other 32 c ≡ true
 space_lower c e = grind arith
@@ -59,22 +41,15 @@ record Cut (c : ℕ) (t : List ℕ) (r : List ℕ × List ℕ) : Type 0 where
   whole : t ≡ r.0 ++ c ∷ r.1
   each : Each (other c) r.0
 
-is_not : (b : Bool) → b ≡ false → not b ≡ true
-is_not b e = ap not e
-
-not_is : (b : Bool) → not b ≡ true → b ≡ false
-not_is true e = absurd cc
-not_is false e = refl
-
 cut_first : (c d : ℕ) (t : List ℕ) (r : List ℕ × List ℕ) → (d == c) ≡ true → Some ([], t) ≡ Some r → Cut c (d ∷ t) r
 cut_first c d t r e f =
-    let same : ([], t) ≡ r = some_is ([], t) r f in
+    let same : ([], t) ≡ r = same_Some ([], t) r f in
     subst (λ (q : List ℕ × List ℕ). Cut c (d ∷ t) q) same (record { whole = ap (λ (n : ℕ). n ∷ t) (eqb-true d c e); each = tt })
 
 cut_later : (c d : ℕ) (t : List ℕ) (r q : List ℕ × List ℕ) → (d == c) ≡ false → Cut c t q → put_front d (Some q) ≡ Some r → Cut c (d ∷ t) r
 cut_later c d t r q e h f =
-    let same : (d ∷ q.0, q.1) ≡ r = some_is (d ∷ q.0, q.1) r f in
-    subst (λ (q : List ℕ × List ℕ). Cut c (d ∷ t) q) same (record { whole = ap (λ (u : List ℕ). d ∷ u) h.whole; each = (is_not (d == c) e, h.each) })
+    let same : (d ∷ q.0, q.1) ≡ r = same_Some (d ∷ q.0, q.1) r f in
+    subst (λ (q : List ℕ × List ℕ). Cut c (d ∷ t) q) same (record { whole = ap (λ (u : List ℕ). d ∷ u) h.whole; each = (not_from_false (d == c) e, h.each) })
 
 cut_is : (c : ℕ) (t : List ℕ) (r : List ℕ × List ℕ) → cut c t ≡ Some r → Cut c t r
 unfolding cut
@@ -93,13 +68,13 @@ pub cut_at : (c : ℕ) (front back : List ℕ) → Each (other c) front → cut 
 unfolding cut
 cut_at c [] back h = cond-true (c == c) (Some ([], back)) (put_front c (cut c back)) (same_octet c)
 cut_at c (d ∷ front) back h =
-    cond-false (d == c) (Some ([], front ++ c ∷ back)) (put_front d (cut c (front ++ c ∷ back))) (not_is (d == c) h.0)
+    cond-false (d == c) (Some ([], front ++ c ∷ back)) (put_front d (cut c (front ++ c ∷ back))) (not-true (d == c) h.0)
     ∙ ap (put_front d) (cut_at c front back h.1)
 
 pub cut_free : (c : ℕ) (t : List ℕ) → Each (other c) t → cut c t ≡ None
 unfolding cut
 cut_free c [] h = refl
-cut_free c (d ∷ t) h = cond-false (d == c) (Some ([], t)) (put_front d (cut c t)) (not_is (d == c) h.0) ∙ ap (put_front d) (cut_free c t h.1)
+cut_free c (d ∷ t) h = cond-false (d == c) (Some ([], t)) (put_front d (cut c t)) (not-true (d == c) h.0) ∙ ap (put_front d) (cut_free c t h.1)
 
 -- a text with the octet is cut somewhere
 pub cut_none : (c : ℕ) (front back : List ℕ) → cut c (front ++ c ∷ back) ≡ None → ⊥

@@ -1,3 +1,4 @@
+pub mod EachLemmas
 pub mod CutLemmas
 pub mod CodeLemmas
 pub mod SetLemmas
