@@ -1,43 +1,55 @@
 -- Where a run of octets of a class ends.
-use Rattle.std.proofs.Common.{◌≡◌, ℕ, zero, suc, ◌+◌, ◌-◌, ◌*◌, ◌<◌, ◌≤◌, Bool, true, false, List, [], ◌∷◌, ◌++◌, length, map, take, drop, get_or, cond, refl, sym, ap, subst, ◌∙◌, arith}
+use Rattle.std.proofs.Common.{◌≡◌, ℕ, suc, ◌+◌, ◌-◌, ◌*◌, ◌<◌, ◌≤◌, Bool, true, false, List, [], ◌∷◌, ◌++◌, length, take, drop, get_or, cond, refl, sym, ap, ◌∙◌, arith}
 use Rattle.std.specs.Prelude.{nat_lt, nat_le}
 use Rattle.std.proofs.lemmas.Bool.{cond-true, cond-false, leb-true, leb-false, le-leb, false_from_ne_true}
 use Rattle.std.proofs.lemmas.List.{map-append}
+use Rattle.std.proofs.Math.Seq.{take-append_seam, drop-append_seam}
 use Rattle.imap_grammar.specs.Reading.{span, cap, count_from, number_from, number_in, long_in}
+use Rattle.imap_syntax.specs.Octets.{is_digit, is_text, is_word, is_atom, lower}
 use Rattle.imap_syntax.specs.Texts.{Each, plain_of, plain}
 use Rattle.imap_syntax.specs.Numbers.{value_from}
 
 abbrev pub small : ℕ → Bool
 small c = nat_lt c 256
 
+-- ---- octets of a class are below 256
+
+-- a digit
+pub digit_small : (c : ℕ) → is_digit c ≡ true → small c ≡ true
+digit_small c e = grind arith
+
+-- an octet of a word
+pub word_small : (c : ℕ) → is_word c ≡ true → small c ≡ true
+word_small c e = grind arith
+
+-- an octet of text
+pub text_small : (c : ℕ) → is_text c ≡ true → small c ≡ true
+text_small c e = grind arith
+
+-- one whose lower case is below 256
+pub small_lower : (c : ℕ) → small (lower c) ≡ true → small c ≡ true
+small_lower c e = grind arith
+
+-- an octet of an atom
+pub atom_small : (c : ℕ) → is_atom c ≡ true → small c ≡ true
+atom_small c e = grind arith
+
+-- ---- texts of such octets are plain
+
 pub plain_small : (x : List ℕ) → Each small x → plain x ≡ x
 plain_small [] h = refl
 plain_small (c ∷ x) h = let e : plain_of c ≡ c = cond-true (nat_lt c 256) c (c - 256) h.0 in let r = plain_small x h.1 in cc
 
-pub each_to : (p q : ℕ → Bool) (t : List ℕ) → ((c : ℕ) → p c ≡ true → q c ≡ true) → Each p t → Each q t
-each_to p q [] f h = tt
-each_to p q (c ∷ t) f h = (f c h.0, each_to p q t f h.1)
-
-pub each_join : (p : ℕ → Bool) (x y : List ℕ) → Each p x → Each p y → Each p (x ++ y)
-each_join p [] y h k = k
-each_join p (c ∷ x) y h k = (h.0, each_join p x y h.1 k)
-
 pub plain_join : (x y : List ℕ) → Each small x → plain (x ++ y) ≡ x ++ plain y
 plain_join x y h = map-append plain_of x y ∙ ap (λ (u : List ℕ). u ++ plain y) (plain_small x h)
+
+-- ---- a run of a class, and what stands behind it
 
 pub span_at : (p : ℕ → Bool) (x y : List ℕ) → Each p x → p (get_or y 0 0) ≡ false → span p (x ++ y) ≡ length x
 unfolding span
 span_at p [] [] h e = refl
 span_at p [] (c ∷ y) h e = cond-false (p c) (suc (span p y)) 0 e
 span_at p (c ∷ x) y h e = cond-true (p c) (suc (span p (x ++ y))) 0 h.0 ∙ ap (λ (n : ℕ). suc n) (span_at p x y h.1 e)
-
-pub take_front : (x y : List ℕ) → take (length x) (x ++ y) ≡ x
-take_front [] y = refl
-take_front (c ∷ x) y = ap (λ (u : List ℕ). c ∷ u) (take_front x y)
-
-pub drop_front : (x y : List ℕ) → drop (length x) (x ++ y) ≡ y
-drop_front [] y = refl
-drop_front (c ∷ x) y = drop_front x y
 
 drop_suc : (x y : List ℕ) (c : ℕ) → drop (suc (length x)) (x ++ c ∷ y) ≡ y
 drop_suc [] y c = refl
@@ -63,8 +75,8 @@ cut_at p x y b e h o =
     let n : span p b ≡ length x = ap (span p) e ∙ span_at p x y h o in
     record {
       count = n;
-      front = ap (λ (k : ℕ). take k b) n ∙ ap (take (length x)) e ∙ take_front x y;
-      back = ap (λ (k : ℕ). drop k b) n ∙ ap (drop (length x)) e ∙ drop_front x y;
+      front = ap (λ (k : ℕ). take k b) n ∙ ap (take (length x)) e ∙ take-append_seam x y;
+      back = ap (λ (k : ℕ). drop k b) n ∙ ap (drop (length x)) e ∙ drop-append_seam x y;
       octet = ap (λ (k : ℕ). get_or b k 0) n ∙ ap (λ (u : List ℕ). get_or u (length x) 0) e ∙ get_front x y;
       past = λ c z f. ap (λ (k : ℕ). drop (k + 1) b) n ∙ ap (drop (length x + 1)) (e ∙ ap (λ (u : List ℕ). x ++ u) f) ∙ drop_past x z c;
     }
@@ -102,13 +114,6 @@ number_is t le =
 
 pub long_is : (t : List ℕ) → value_from 0 t ≤ 9223372036854775807 → long_in t ≡ value_from 0 t
 long_is t le = count_capped 9223372036854775807 0 t ∙ cap_small 9223372036854775807 (value_from 0 t) le
-
-pub small_capped : (n : ℕ) → cap 4294967295 n ≤ 4294967295 → n ≤ 4294967295
-small_capped n le = by (nat_le n 4294967295) refl
-  where
-    by : (b : Bool) → nat_le n 4294967295 ≡ b → n ≤ 4294967295
-    by true e = leb-true n 4294967295 e
-    by false e = absurd (omega (arith, le, cond-false (nat_le n 4294967295) n 4294967296 e))
 
 pub capped_le : (n : ℕ) → n ≤ 4294967295 → cap 4294967295 n ≤ 4294967295
 capped_le n le = let e = cap_small 4294967295 n le in omega (arith, e, le)

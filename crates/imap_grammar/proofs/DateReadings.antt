@@ -2,9 +2,10 @@
 use Rattle.std.proofs.Common.{◌≡◌, ℕ, zero, suc, ◌+◌, ◌-◌, ◌*◌, ◌≤◌, Bool, true, false, ℤ, List, [], ◌∷◌, ◌++◌, length, map, drop, cond, refl, sym, ap, subst, ◌∙◌, arith}
 use Rattle.std.specs.Prelude.{◌==◌}
 use Rattle.std.proofs.lemmas.Bool.{cond-true, cond-false}
-use Rattle.imap_automaton.proofs.DateForms.{two, four, starts_day, is_sign, time_of, zone_of, seconds_same, DateOctets, octets_of}
+use Rattle.imap_syntax.proofs.EachLemmas.{each_to}
+use Rattle.imap_automaton.proofs.DateForms.{two, four, starts_day, is_sign, time_of, zone_of, seconds_same, DateOctets, octets_of, digit_starts}
 use Rattle.imap_grammar.specs.DateReading.{month_named, date_in}
-use Rattle.imap_grammar.proofs.Cuts.{small, plain_small, each_to}
+use Rattle.imap_grammar.proofs.Cuts.{small, plain_small, digit_small, small_lower}
 use Rattle.imap_syntax.specs.Octets.{is_digit, lower}
 use Rattle.imap_syntax.specs.Texts.{Each, plain}
 use Rattle.imap_syntax.specs.Dates.{month_name}
@@ -35,9 +36,6 @@ name_of (suc (suc (suc (suc (suc (suc (suc (suc (suc (suc (suc zero))))))))))) l
 name_of (suc (suc (suc (suc (suc (suc (suc (suc (suc (suc (suc (suc zero)))))))))))) low high = record { three = refl; low = (refl, (refl, (refl, tt))); read = refl }
 name_of (suc (suc (suc (suc (suc (suc (suc (suc (suc (suc (suc (suc (suc m))))))))))))) low high = absurd (omega (arith, high))
 
-small_lower : (c : ℕ) → small (lower c) ≡ true → small c ≡ true
-small_lower c e = grind arith
-
 smalls_lower : (t : List ℕ) → Each small (map lower t) → Each small t
 smalls_lower [] h = tt
 smalls_lower (c ∷ t) h = (small_lower c h.0, smalls_lower t h.1)
@@ -59,9 +57,6 @@ letters : (m : ℕ) (t : List ℕ) → IsMonth m t → Letters m t
 letters m t h = letters_by m t (map lower (month_name m)) (name_of m h.0 h.1) h.2
 
 -- ---- digits
-
-digit_small : (c : ℕ) → is_digit c ≡ true → small c ≡ true
-digit_small c e = grind arith
 
 day_small : (c : ℕ) → starts_day c ≡ true → small c ≡ true
 day_small c e = grind arith
@@ -87,9 +82,6 @@ two_is a b e f =
     let x = digit_is a e in
     let y = cond-true (is_digit b) (b - 48) 0 f in
     omega (arith, x, y)
-
-digit_starts : (c : ℕ) → is_digit c ≡ true → starts_day c ≡ true
-digit_starts c e = grind arith
 
 digits_are : (a b : ℕ) → Each is_digit (a ∷ b ∷ []) → 10 * digit a + digit b ≡ two a b
 digits_are a b h = two_is a b (digit_starts a h.0) h.1.0

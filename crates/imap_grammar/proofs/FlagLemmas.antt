@@ -1,10 +1,11 @@
 -- Sets of owned names, and lists of names.
-use Rattle.std.proofs.Common.{◌≡◌, ℕ, zero, suc, ◌+◌, ◌-◌, ◌<◌, true, false, List, [], ◌∷◌, map, take, drop, get_or, Vec, Global, refl, sym, ap, ◌∙◌, arith, nat_cmp, Ordering, Less, Equal, Greater}
+use Rattle.std.proofs.Common.{◌≡◌, ℕ, zero, suc, ◌+◌, ◌-◌, ◌<◌, true, false, List, [], ◌∷◌, map, take, drop, get_or, Vec, Global, refl, ap, ◌∙◌, arith, nat_cmp, Ordering, Less, Equal, Greater}
 use Rattle.std.specs.Cmp.Lexicographic.{slice_cmp}
 use Rattle.std.specs.Ordering.{match_ordering}
 use Rattle.std.specs.BTreeSet.{insert_key}
 use Rattle.std.specs.Prelude.{◌==◌}
 use Rattle.std.proofs.lemmas.Bool.{cond-true, cond-false}
+use Rattle.imap_grammar.proofs.Lengths.{less_one}
 use Rattle.imap_grammar.specs.Reading.{span, in_name, names_in}
 use Rattle.imap_syntax.specs.Octets.{lower}
 use Rattle.imap_syntax.specs.Items.{add_name}
@@ -21,9 +22,6 @@ insert_items (x ∷ keys) k = by (slice_cmp nat_cmp k.items x.items) (insert_ite
     by Greater h = ap (λ (u : List (List ℕ)). x.items ∷ u) h
 
 -- ---- one name more
-
-less_one : (n : ℕ) → n ≡ suc n - 1
-less_one n = omega arith
 
 pub names_next : (left : ℕ) (so_far : List (List ℕ)) (b : List ℕ) → 0 < left → (get_or b (span in_name b) 0 == 32) ≡ true → names_in left so_far b ≡ names_in (left - 1) (add_name so_far (map lower (take (span in_name b) b))) (drop (span in_name b + 1) b)
 unfolding names_in

@@ -3,14 +3,16 @@ use Rattle.std.proofs.Common.{◌≡◌, ℕ, zero, suc, ◌+◌, ◌-◌, ◌<�
 use Rattle.std.specs.Prelude.{◌==◌, codes}
 use Rattle.std.proofs.lemmas.Bool.{cond-true, cond-false}
 use Rattle.std.proofs.lemmas.List.{length-append, map-append}
+use Rattle.imap_syntax.proofs.EachLemmas.{each_to, each_append}
 use Rattle.imap_automaton.proofs.Lists.{cons_head}
 use Rattle.imap_automaton.proofs.StringEdges.{no_special}
 use Rattle.imap_grammar.specs.Spans.{span, long_in, flags_in}
 use Rattle.imap_grammar.specs.StringReading.{astring_in}
 use Rattle.imap_grammar.specs.FolderReading.{delimiter_in, list_in, count_in, counts_in, counts_of, status_in}
-use Rattle.imap_grammar.proofs.Cuts.{small, plain_small, each_to, each_join, cut_at}
-use Rattle.imap_grammar.proofs.ItemReadings.{digit_small, joined_small, flags_read, long_read, plain_length}
+use Rattle.imap_grammar.proofs.Cuts.{small, plain_small, cut_at, digit_small}
+use Rattle.imap_grammar.proofs.ItemReadings.{joined_small, flags_read, long_read}
 use Rattle.imap_grammar.proofs.StringReadings.{quoted_small, Ends, astring_read}
+use Rattle.imap_grammar.proofs.Lengths.{plain_length, less_one}
 use Rattle.imap_syntax.specs.declared.response.StatusItems.{StatusItems}
 use Rattle.imap_syntax.specs.declared.response.Response.TheVariants as response
 use Rattle.imap_syntax.specs.Octets.{is_digit, is_status_word, lower}
@@ -62,7 +64,7 @@ list_line_read attributes delimiter name t h =
     let ns = h.told in
     let third : List ℕ = 32 ∷ (plain h.third ++ plain h.rest) in
     let second : List ℕ = 32 ∷ (plain h.second ++ third) in
-    let names : plain h.first ≡ 40 ∷ joined ns ++ 41 ∷ [] = ap plain h.names.1 ∙ plain_small (40 ∷ joined ns ++ 41 ∷ []) (refl, each_join small (joined ns) (41 ∷ []) (joined_small ns h.names.0) (refl, tt)) in
+    let names : plain h.first ≡ 40 ∷ joined ns ++ 41 ∷ [] = ap plain h.names.1 ∙ plain_small (40 ∷ joined ns ++ 41 ∷ []) (refl, each_append small (joined ns) (41 ∷ []) (joined_small ns h.names.0) (refl, tt)) in
     let all : b ≡ 32 ∷ (plain h.first ++ second) = ap plain h.whole
     ∙ ap (λ (u : List ℕ). 32 ∷ u) (map-append plain_of h.first (32 ∷ h.second ++ (32 ∷ h.third ++ h.rest)))
     ∙ ap (λ (u : List ℕ). 32 ∷ (plain h.first ++ (32 ∷ u))) (map-append plain_of h.second (32 ∷ h.third ++ h.rest))
@@ -77,15 +79,15 @@ list_line_read attributes delimiter name t h =
 
 -- ---- STATUS
 
-word_small : (c : ℕ) → is_status_word c ≡ true → small c ≡ true
-word_small c e = grind arith
+status_word_small : (c : ℕ) → is_status_word c ≡ true → small c ≡ true
+status_word_small c e = grind arith
 
 count_read : (k : List ℕ × ℕ) (so_far : StatusItems) (t back b : List ℕ) → IsCount k t → is_digit (get_or back 0 0) ≡ false → b ≡ plain t ++ back → count_in so_far b ≡ (told_as so_far (map lower k.0) k.1, back)
 unfolding count_in
 count_read k so_far t back b h out e =
     let word = k.0 in
     let rest : List ℕ = h.digits ++ back in
-    let is : plain t ≡ word ++ 32 ∷ h.digits = ap plain h.whole ∙ plain_small (word ++ 32 ∷ h.digits) (each_join small word (32 ∷ h.digits) (each_to is_status_word small word word_small h.word) (refl, each_to is_digit small h.digits digit_small h.number.digits)) in
+    let is : plain t ≡ word ++ 32 ∷ h.digits = ap plain h.whole ∙ plain_small (word ++ 32 ∷ h.digits) (each_append small word (32 ∷ h.digits) (each_to is_status_word small word status_word_small h.word) (refl, each_to is_digit small h.digits digit_small h.number.digits)) in
     let c = cut_at is_status_word word (32 ∷ rest) b (e ∙ ap (λ (u : List ℕ). u ++ back) is ∙ append_assoc word (32 ∷ h.digits) back) h.word refl in
     let d = drop (span is_status_word b + 1) b in
     let l = cut_at is_digit h.digits back d (c.past 32 rest refl) h.number.digits out in
@@ -93,9 +95,6 @@ count_read k so_far t back b h out e =
     ∙ ap (λ (u : List ℕ). (told_as so_far (map lower word) (long_in u), drop (span is_digit d) d)) l.front
     ∙ ap (λ (u : List ℕ). (told_as so_far (map lower word) (long_in h.digits), u)) l.back
     ∙ ap (λ (n : ℕ). (told_as so_far (map lower word) n, back)) (long_read k.1 h.digits h.number)
-
-less_one : (n : ℕ) → n ≡ suc n - 1
-less_one n = omega arith
 
 pub counts_next : (left : ℕ) (so_far : StatusItems) (b : List ℕ) → 0 < left → (get_or (count_in so_far b).1 0 0 == 32) ≡ true → counts_in left so_far b ≡ counts_in (left - 1) (count_in so_far b).0 (drop 1 (count_in so_far b).1)
 unfolding counts_in

@@ -3,6 +3,8 @@ use Rattle.std.proofs.Common.{◌≡◌, ◌⊎◌, ℕ, zero, suc, ◌+◌, ◌
 use Rattle.std.specs.Prelude.{◌==◌, nat_lt, codes, bytes_eq}
 use Rattle.std.proofs.lemmas.Bool.{cond-true, cond-false, or_cases, false_from_ne_true}
 use Rattle.std.proofs.lemmas.List.{length-append, map-append}
+use Rattle.std.proofs.Math.Seq.{drop-append_seam}
+use Rattle.imap_syntax.proofs.EachLemmas.{each_to, each_append}
 use Rattle.imap_automaton.specs.Flow.{stops}
 use Rattle.imap_automaton.specs.ItemRules.{item_start}
 use Rattle.imap_automaton.specs.Keys.{key_text, keys}
@@ -21,8 +23,9 @@ use Rattle.imap_grammar.specs.Passing.{passed}
 use Rattle.imap_grammar.proofs.DateReadings.{date_read}
 use Rattle.imap_grammar.proofs.StringReadings.{astring_read}
 use Rattle.imap_grammar.proofs.PassingReadings.{item_passed}
-pub use Rattle.imap_grammar.proofs.NameReadings.{atom_small, joined_small, flags_read, digit_small, long_read, plain_length}
-use Rattle.imap_grammar.proofs.Cuts.{small, plain_small, plain_join, each_to, each_join, cut_at, number_is, drop_front}
+pub use Rattle.imap_grammar.proofs.NameReadings.{joined_small, flags_read, long_read}
+use Rattle.imap_grammar.proofs.Cuts.{small, plain_small, plain_join, cut_at, number_is, atom_small, digit_small, small_lower}
+use Rattle.imap_grammar.proofs.Lengths.{plain_length, less_one}
 use Rattle.imap_syntax.specs.declared.response.FetchItems.{FetchItems}
 use Rattle.imap_syntax.specs.Octets.{is_digit, is_atom, lower}
 use Rattle.imap_syntax.specs.Texts.{plain_of, plain}
@@ -102,7 +105,7 @@ modseq_read : (n : ℕ) (so_far : FetchItems) (value back digits : List ℕ) →
 unfolding value_in
 modseq_read n so_far value back digits e is =
     let d = drop 1 (plain value ++ back) in
-    let inner : plain value ≡ 40 ∷ digits ++ 41 ∷ [] = ap plain e ∙ plain_small (40 ∷ digits ++ 41 ∷ []) (refl, each_join small digits (41 ∷ []) (each_to is_digit small digits digit_small is.digits) (refl, tt)) in
+    let inner : plain value ≡ 40 ∷ digits ++ 41 ∷ [] = ap plain e ∙ plain_small (40 ∷ digits ++ 41 ∷ []) (refl, each_append small digits (41 ∷ []) (each_to is_digit small digits digit_small is.digits) (refl, tt)) in
     let f : d ≡ digits ++ 41 ∷ back = ap (λ (u : List ℕ). drop 1 (u ++ back)) inner ∙ append_assoc digits (41 ∷ []) back in
     let k = cut_at is_digit digits (41 ∷ back) d f is.digits refl in
     ap (λ (m : ℕ). (told so_far (ModSeq m), drop (span is_digit d + 1) d)) (ap long_in k.front ∙ long_read n digits is) ∙ ap (λ (u : List ℕ). (told so_far (ModSeq n), u)) (k.past 41 back refl)
@@ -117,7 +120,7 @@ told_date seconds so_far value back h =
 told_flags : (ns : List (List ℕ)) (so_far : FetchItems) (value back : List ℕ) → IsNames ns value → value_in so_far (codes "flags") (plain value ++ back) ≡ (told so_far (Flags ns), back)
 unfolding value_in text_in is_header is_body
 told_flags ns so_far value back h =
-    let inner : plain value ≡ 40 ∷ joined ns ++ 41 ∷ [] = ap plain h.1 ∙ plain_small (40 ∷ joined ns ++ 41 ∷ []) (refl, each_join small (joined ns) (41 ∷ []) (joined_small ns h.0) (refl, tt)) in
+    let inner : plain value ≡ 40 ∷ joined ns ++ 41 ∷ [] = ap plain h.1 ∙ plain_small (40 ∷ joined ns ++ 41 ∷ []) (refl, each_append small (joined ns) (41 ∷ []) (joined_small ns h.0) (refl, tt)) in
     let f : drop 1 (plain value ++ back) ≡ joined ns ++ 41 ∷ back = ap (λ (u : List ℕ). drop 1 (u ++ back)) inner ∙ append_assoc (joined ns) (41 ∷ []) back in
     ap (λ (r : List (List ℕ) × List ℕ). (record so_far { flags = Some r.0 }, r.1)) (flags_read ns back (drop 1 (plain value ++ back)) h.0 f)
 
@@ -132,10 +135,7 @@ stop_ends : (c : ℕ) → stops c ≡ true → (is_atom c ≡ false) × ((c == 1
 stop_ends c e = (grind arith, grind arith)
 
 nil_letter : (c d : ℕ) → lower c ≡ d → nat_lt d 256 ≡ true → small c ≡ true
-nil_letter c d e f = of_lower c (ap small e ∙ f)
-  where
-    of_lower : (c : ℕ) → small (lower c) ≡ true → small c ≡ true
-    of_lower c e = grind arith
+nil_letter c d e f = small_lower c (ap small e ∙ f)
 
 nil_read : (x y : List ℕ) → map lower x ≡ codes "nil" → nstring_in (plain x ++ y) ≡ ([], y)
 unfolding nstring_in
@@ -211,7 +211,7 @@ other_read so_far t back b h out e =
     let no : is_told (map lower (take n b)) ≡ false = false_from_ne_true (is_told (map lower (take n b))) (λ q. told_key (map lower (take n b)) q (λ k m w. o.no_key k m (sym (ap (map lower) c.front) ∙ w))) in
     let count : passed b (item_start ∷ []) ≡ length (plain t) = item_passed t back b (item_to Other t h) out e ∙ sym (plain_length t) in
     cond-false (is_told (map lower (take n b))) (value_in so_far (map lower (take n b)) (drop (n + 1) b)) (so_far, drop (passed b (item_start ∷ [])) b) no
-    ∙ ap (λ (m : ℕ). (so_far, drop m b)) count ∙ ap (λ (u : List ℕ). (so_far, drop (length (plain t)) u)) e ∙ ap (λ (u : List ℕ). (so_far, u)) (drop_front (plain t) back)
+    ∙ ap (λ (m : ℕ). (so_far, drop m b)) count ∙ ap (λ (u : List ℕ). (so_far, drop (length (plain t)) u)) e ∙ ap (λ (u : List ℕ). (so_far, u)) (drop-append_seam (plain t) back)
 
 -- ---- the item at the front
 
@@ -236,9 +236,6 @@ item_read (Body s) so_far t back b h out e =
 item_read Other so_far t back b h out e = other_read so_far t back b h out e
 
 -- ---- one item more
-
-less_one : (n : ℕ) → n ≡ suc n - 1
-less_one n = omega arith
 
 pub items_next : (left : ℕ) (so_far : FetchItems) (b : List ℕ) → 0 < left → (get_or (item_in so_far b).1 0 0 == 32) ≡ true → items_in left so_far b ≡ items_in (left - 1) (item_in so_far b).0 (drop 1 (item_in so_far b).1)
 unfolding items_in

@@ -1,3 +1,4 @@
+pub mod Lengths
 pub mod Standing
 pub mod ScannerLemmas
 pub mod SpanLemmas

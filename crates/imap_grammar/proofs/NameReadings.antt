@@ -1,13 +1,15 @@
 -- Names and numbers are read back as what they tell.
-use Rattle.std.proofs.Common.{◌≡◌, ℕ, zero, suc, ◌+◌, ◌<◌, ◌≤◌, Bool, true, false, List, [], ◌∷◌, ◌++◌, length, map, take, drop, get_or, refl, sym, ap, subst, ◌∙◌, append_assoc, arith, inl, inr}
+use Rattle.std.proofs.Common.{◌≡◌, ℕ, zero, suc, ◌+◌, ◌<◌, Bool, true, false, List, [], ◌∷◌, ◌++◌, length, map, take, drop, get_or, refl, sym, ap, subst, ◌∙◌, append_assoc, arith, inl, inr}
 use Rattle.std.specs.Prelude.{◌==◌}
 use Rattle.std.proofs.lemmas.Bool.{cond-true, cond-false}
 use Rattle.std.proofs.lemmas.List.{length-append}
+use Rattle.imap_syntax.proofs.EachLemmas.{each_to, each_append}
 use Rattle.imap_automaton.proofs.Lists.{cons_head}
 use Rattle.imap_grammar.specs.Spans.{span, in_name, long_in, names_in, flags_in}
-use Rattle.imap_grammar.proofs.Cuts.{small, each_to, each_join, cut_at, long_is}
-use Rattle.imap_syntax.specs.Octets.{is_digit, is_atom, lower}
-use Rattle.imap_syntax.specs.Texts.{Each, plain}
+use Rattle.imap_grammar.proofs.Cuts.{small, cut_at, long_is, atom_small}
+use Rattle.imap_grammar.proofs.Lengths.{spaced_long}
+use Rattle.imap_syntax.specs.Octets.{is_atom, lower}
+use Rattle.imap_syntax.specs.Texts.{Each}
 use Rattle.imap_syntax.specs.Numbers.{IsLong}
 use Rattle.imap_syntax.specs.Lines.{spaced}
 use Rattle.imap_syntax.specs.Items.{IsName, AllNames, joined, add_name, kept_from, kept}
@@ -17,24 +19,17 @@ use Rattle.imap_syntax.specs.Items.{IsName, AllNames, joined, add_name, kept_fro
 pub atom_name : (c : ℕ) → is_atom c ≡ true → in_name c ≡ true
 atom_name c e = grind arith
 
-pub atom_small : (c : ℕ) → is_atom c ≡ true → small c ≡ true
-atom_small c e = grind arith
-
 name_class : (p : ℕ → Bool) (n : List ℕ) → ((c : ℕ) → is_atom c ≡ true → p c ≡ true) → p 92 ≡ true → IsName n → Each p n
 name_class p n f s (inl a) = each_to is_atom p n f a.0
 name_class p n f s (inr a) = subst (Each p) (sym a.1) (s, each_to is_atom p a.0 f a.2.0)
 
 names_small : (ns : List (List ℕ)) → AllNames ns → Each small (spaced ns)
 names_small [] h = tt
-names_small (n ∷ ns) h = (refl, each_join small n (spaced ns) (name_class small n atom_small refl h.0) (names_small ns h.1))
+names_small (n ∷ ns) h = (refl, each_append small n (spaced ns) (name_class small n atom_small refl h.0) (names_small ns h.1))
 
 pub joined_small : (ns : List (List ℕ)) → AllNames ns → Each small (joined ns)
 joined_small [] h = tt
-joined_small (n ∷ ns) h = each_join small n (spaced ns) (name_class small n atom_small refl h.0) (names_small ns h.1)
-
-spaced_long : (ns : List (List ℕ)) → length ns ≤ length (spaced ns)
-spaced_long [] = omega arith
-spaced_long (n ∷ ns) = let ih = spaced_long ns in let l = length-append n (spaced ns) in omega (arith, ih, l)
+joined_small (n ∷ ns) h = each_append small n (spaced ns) (name_class small n atom_small refl h.0) (names_small ns h.1)
 
 names_read : (ns : List (List ℕ)) (most : ℕ) (so_far : List (List ℕ)) (n rest b : List ℕ) → IsName n → AllNames ns → length ns < most → b ≡ n ++ (spaced ns ++ 41 ∷ rest) → names_in most so_far b ≡ (kept_from so_far (n ∷ ns), rest)
 unfolding names_in
@@ -73,12 +68,5 @@ flags_read (n ∷ ns) rest b all e =
 
 -- ---- numbers
 
-pub digit_small : (c : ℕ) → is_digit c ≡ true → small c ≡ true
-digit_small c e = grind arith
-
 pub long_read : (n : ℕ) (t : List ℕ) → IsLong n t → long_in t ≡ n
 long_read n t h = long_is t (omega (arith, h.value, h.most)) ∙ sym h.value
-
-pub plain_length : (t : List ℕ) → length (plain t) ≡ length t
-plain_length [] = refl
-plain_length (c ∷ t) = ap (λ (n : ℕ). suc n) (plain_length t)

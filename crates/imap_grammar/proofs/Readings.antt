@@ -1,18 +1,19 @@
 -- A spelling is read back as its value.
-use Rattle.std.proofs.Common.{◌≡◌, ◌⊎◌, ℕ, zero, suc, ◌+◌, ◌-◌, ◌<◌, ◌≤◌, Bool, true, false, ◌&&◌, List, [], ◌∷◌, ◌++◌, length, map, take, drop, get_or, cond, refl, sym, ap, subst, ◌∙◌, append_assoc, arith, inl, inr, Option, Some, None, Result, Ok, Err, IfOk}
+use Rattle.std.proofs.Common.{◌≡◌, ℕ, zero, suc, ◌+◌, ◌-◌, ◌<◌, true, false, ◌&&◌, List, [], ◌∷◌, ◌++◌, length, map, take, drop, get_or, cond, refl, sym, ap, subst, ◌∙◌, append_assoc, arith, inl, inr, Option, Some, None, Result, Ok, Err, IfOk}
 use Rattle.std.specs.Prelude.{◌==◌, nat_lt, nat_le, codes, bytes_eq, Contains, unwrap_or}
-use Rattle.std.proofs.lemmas.Bool.{cond-true, cond-false, and_parts, and_from, and_cases, lt-ltb, le-leb, ltb-true, leb-true, eqb-true, eq-eqb, false_from_ne_true}
-use Rattle.std.proofs.lemmas.List.{length-append, append-nil, map-append}
+use Rattle.std.proofs.lemmas.Bool.{cond-true, cond-false, and_parts, and_from, lt-ltb, le-leb, ltb-true, leb-true, eqb-true, false_from_ne_true}
+use Rattle.std.proofs.lemmas.List.{length-append}
 use Rattle.imap_automaton.proofs.KeyLemmas.{is_key_octet, same_text, text_same}
-use Rattle.imap_automaton.proofs.LineWords.{word_of_key}
+use Rattle.imap_automaton.proofs.LineWords.{word_of_key, rest_out}
 use Rattle.imap_automaton.proofs.Lists.{cons_head, cons_tail}
-use Rattle.imap_automaton.proofs.Tests.{both}
+use Rattle.imap_automaton.proofs.Tests.{both, digit_word}
 use Rattle.imap_grammar.specs.Reading.{span, in_name, number_from, number_in, flags_in, words_in, vanished_in, items_in, status_named, word_in, all_digits, is_sequence, numbered_in, told_in, said_in, plain_in, untagged_in, tagged_in, response_in}
-use Rattle.imap_grammar.proofs.Cuts.{small, plain_small, plain_join, each_to, each_join, CutAt, cut_at, number_from_is, number_is, small_capped, capped_le}
-use Rattle.imap_grammar.proofs.ItemReadings.{plain_length, joined_small, flags_read, all_items_read}
+use Rattle.imap_grammar.proofs.Cuts.{small, plain_small, plain_join, CutAt, cut_at, number_from_is, number_is, capped_le, digit_small, word_small, text_small, within_cap}
+use Rattle.imap_grammar.proofs.ItemReadings.{joined_small, flags_read, all_items_read}
 use Rattle.imap_grammar.specs.FolderReading.{list_in, status_in}
 use Rattle.imap_grammar.proofs.SetReadings.{words_read, vanished_read}
 use Rattle.imap_grammar.proofs.FolderReadings.{list_line_read, status_line_read}
+use Rattle.imap_grammar.proofs.Lengths.{plain_length}
 use Rattle.imap_syntax.specs.declared.response.Status.{Status}
 use Rattle.imap_syntax.specs.declared.response.Status.TheVariants as status
 use Rattle.imap_syntax.specs.declared.response.Response.{Response}
@@ -23,10 +24,11 @@ use Rattle.imap_syntax.specs.Numbers.{value_from, IsNumber}
 use Rattle.imap_syntax.specs.Lines.{word_of, IsRest, IsCodedRest, IsTagged, IsWords}
 use Rattle.imap_syntax.specs.ReadCodes.{code_in}
 use Rattle.imap_syntax.proofs.CodeLemmas.{has_code}
+use Rattle.imap_syntax.proofs.EachLemmas.{each_to, each_append}
 use Rattle.imap_syntax.specs.declared.code.Code.{Code}
-use Rattle.imap_syntax.specs.Items.{joined, no_items, items_of}
+use Rattle.imap_syntax.specs.Items.{joined, no_items}
 use Rattle.imap_syntax.specs.Free.{IsFree}
-use Rattle.imap_syntax.specs.Spells.{keywords, IsFlagsLine, Says, IsWordLine, Numbered, IsUntagged, Spells, IsSpelling}
+use Rattle.imap_syntax.specs.Spells.{keywords, IsFlagsLine, Says, IsWordLine, IsUntagged, Spells, IsSpelling}
 
 -- ---- words
 
@@ -61,12 +63,6 @@ no_keyword : (n : Option ℕ) (w k : List ℕ) → (Contains (keywords n) w → 
 no_keyword n w k ne m e = ne (subst (Contains (keywords n)) (sym e) m)
 
 -- ---- the octet behind a word
-
-word_small : (c : ℕ) → is_word c ≡ true → small c ≡ true
-word_small c e = grind arith
-
-text_small : (c : ℕ) → is_text c ≡ true → small c ≡ true
-text_small c e = grind arith
 
 no_cr : (c : ℕ) → is_word c ≡ true → c ≡ 13 → ⊥
 no_cr c e f = grind arith
@@ -203,13 +199,7 @@ true_sequence t e =
     let a = and_parts (nat_lt 0 (length t) && nat_le (length t) 10 && all_digits t) (nat_le (number_from 0 t) 4294967295) e in
     let b = and_parts (nat_lt 0 (length t) && nat_le (length t) 10) (all_digits t) a.0 in
     let c = and_parts (nat_lt 0 (length t)) (nat_le (length t) 10) b.0 in
-    record { digits = true_digits t b.1; some = ltb-true 0 (length t) c.0; few = leb-true (length t) 10 c.1; value = refl; most = small_capped (value_from 0 t) (omega (arith, sym (number_from_is t), leb-true (number_from 0 t) 4294967295 a.1)) }
-
-digit_word : (c : ℕ) → is_digit c ≡ true → is_word c ≡ true
-digit_word c e = grind arith
-
-digit_small : (c : ℕ) → is_digit c ≡ true → small c ≡ true
-digit_small c e = grind arith
+    record { digits = true_digits t b.1; some = ltb-true 0 (length t) c.0; few = leb-true (length t) 10 c.1; value = refl; most = within_cap 4294967295 (value_from 0 t) (omega (arith, sym (number_from_is t), leb-true (number_from 0 t) 4294967295 a.1)) }
 
 headed : (u : List ℕ) (c : ℕ) → get_or u 0 0 ≡ c → 0 < c → (z : List ℕ) × (u ≡ c ∷ z)
 headed [] c e lt = absurd (omega (arith, e, lt))
@@ -235,7 +225,7 @@ flags_line flags t h =
     let ns = h.0 in
     let all = h.3.0 in
     let e : plain t ≡ 32 ∷ 40 ∷ joined ns ++ 41 ∷ crlf = ap plain (h.2 ∙ ap (λ (u : List ℕ). 32 ∷ u ++ crlf) h.3.1 ∙ ap (λ (u : List ℕ). 32 ∷ 40 ∷ u) (append_assoc (joined ns) (41 ∷ []) crlf))
-    ∙ plain_small (32 ∷ 40 ∷ joined ns ++ 41 ∷ crlf) (refl, (refl, each_join small (joined ns) (41 ∷ crlf) (joined_small ns all) (refl, (refl, (refl, tt))))) in
+    ∙ plain_small (32 ∷ 40 ∷ joined ns ++ 41 ∷ crlf) (refl, (refl, each_append small (joined ns) (41 ∷ crlf) (joined_small ns all) (refl, (refl, (refl, tt))))) in
     ap (λ (r : List (List ℕ) × List ℕ). r.0) (flags_read ns crlf (drop 2 (plain t)) all (ap (drop 2) e)) ∙ sym h.4
 
 rest_plain : (t : List ℕ) → IsRest t → plain t ≡ t
@@ -243,7 +233,7 @@ rest_plain t (inl e) = ap plain e ∙ sym e
 rest_plain t (inr w) =
     let line = w.2 in
     ap plain (w.1 ∙ ap (λ (u : List ℕ). 32 ∷ u) line.whole)
-    ∙ plain_small (32 ∷ line.text ++ crlf) (refl, each_join small line.text crlf (each_to is_text small line.text text_small line.text_is) (refl, (refl, tt)))
+    ∙ plain_small (32 ∷ line.text ++ crlf) (refl, each_append small line.text crlf (each_to is_text small line.text text_small line.text_is) (refl, (refl, tt)))
     ∙ sym (w.1 ∙ ap (λ (u : List ℕ). 32 ∷ u) line.whole)
 
 -- the code of a rest is read back
@@ -354,10 +344,6 @@ word_octets status.No = (refl, (refl, tt))
 word_octets status.Bad = (refl, (refl, (refl, tt)))
 word_octets status.Preauth = (refl, (refl, (refl, (refl, (refl, (refl, (refl, tt)))))))
 word_octets status.Bye = (refl, (refl, (refl, tt)))
-
-rest_out : (t : List ℕ) → IsRest t → is_word (get_or t 0 0) ≡ false
-rest_out t (inl e) = ap (λ (u : List ℕ). is_word (get_or u 0 0)) e
-rest_out t (inr w) = ap (λ (u : List ℕ). is_word (get_or u 0 0)) w.1
 
 -- the status and the code behind a tag
 record StatusRead (s : Status) (code : Code) (b : List ℕ) : Type 0 where

@@ -1,24 +1,22 @@
 -- Words and sets of UIDs are read back as their values.
-use Rattle.std.proofs.Common.{◌≡◌, ◌⊎◌, ℕ, zero, suc, ◌+◌, ◌-◌, ◌<◌, ◌≤◌, Bool, true, false, List, [], ◌∷◌, ◌++◌, length, map, take, drop, get_or, cond, refl, sym, ap, subst, ◌∙◌, append_assoc, arith, inl, inr}
+use Rattle.std.proofs.Common.{◌≡◌, ℕ, zero, suc, ◌+◌, ◌-◌, ◌<◌, ◌≤◌, Bool, true, false, List, [], ◌∷◌, ◌++◌, length, map, take, drop, get_or, cond, refl, sym, ap, subst, ◌∙◌, append_assoc, arith, inl, inr}
 use Rattle.std.specs.Prelude.{◌==◌, codes}
 use Rattle.std.proofs.lemmas.Bool.{cond-true, cond-false}
-use Rattle.std.proofs.lemmas.List.{length-append, append-nil, map-append}
+use Rattle.std.proofs.lemmas.List.{length-append, append-nil}
+use Rattle.imap_syntax.proofs.EachLemmas.{each_to, each_append}
 use Rattle.imap_grammar.specs.Reading.{span, number_in, words_in, range_in, ranges_in, vanished_in}
-use Rattle.imap_grammar.proofs.Cuts.{small, plain_small, plain_join, each_to, each_join, CutAt, cut_at, number_is}
-use Rattle.imap_automaton.proofs.Lists.{cons_head, cons_tail}
-use Rattle.imap_syntax.specs.declared.response.Response.{Response}
+use Rattle.imap_grammar.proofs.Cuts.{small, plain_small, plain_join, cut_at, number_is, digit_small, word_small}
+use Rattle.imap_grammar.proofs.Lengths.{less_one, plain_length, spaced_long}
+use Rattle.imap_automaton.proofs.Lists.{cons_head}
 use Rattle.imap_syntax.specs.declared.response.Response.TheVariants as response
 use Rattle.imap_syntax.specs.declared.uid_set.UidRange.{UidRange}
 use Rattle.imap_syntax.specs.Octets.{is_digit, is_word, lower}
-use Rattle.imap_syntax.specs.Texts.{Each, Then, plain_of, plain, crlf, IsCrlf, IsWord}
-use Rattle.imap_syntax.specs.Numbers.{value_from, IsNumber, IsNonZero}
-use Rattle.imap_syntax.specs.Lines.{IsPrinted, AllPrinted, spaced, IsWords}
+use Rattle.imap_syntax.specs.Texts.{Each, plain_of, plain, crlf, IsWord}
+use Rattle.imap_syntax.specs.Numbers.{IsNonZero}
+use Rattle.imap_syntax.specs.Lines.{AllPrinted, spaced, IsWords}
 use Rattle.imap_syntax.specs.UidSets.{range_of, IsRange, IsSet, IsSetLine, IsVanished}
 
 -- ---- one word more, one range more
-
-less_one : (n : ℕ) → n ≡ suc n - 1
-less_one n = omega arith
 
 pub word_next : (left : ℕ) (so_far : List (List ℕ)) (b : List ℕ) → 0 < left → (get_or b 0 0 == 32) ≡ true → (so_far ++ take (span is_word (drop 1 b)) (drop 1 b) ∷ []) ++ words_in (left - 1) (drop (span is_word (drop 1 b)) (drop 1 b)) ≡ so_far ++ words_in left b
 unfolding words_in
@@ -62,20 +60,13 @@ range_end so_far b = append-nil so_far
 
 -- ---- words
 
-word_small : (c : ℕ) → is_word c ≡ true → small c ≡ true
-word_small c e = grind arith
-
 spaced_small : (ws : List (List ℕ)) → AllPrinted ws → Each small (spaced ws)
 spaced_small [] h = tt
-spaced_small (w ∷ ws) h = (refl, each_join small w (spaced ws) (each_to is_word small w word_small h.0.0) (spaced_small ws h.1))
+spaced_small (w ∷ ws) h = (refl, each_append small w (spaced ws) (each_to is_word small w word_small h.0.0) (spaced_small ws h.1))
 
 spaced_out : (ws : List (List ℕ)) → is_word (get_or (spaced ws ++ crlf) 0 0) ≡ false
 spaced_out [] = refl
 spaced_out (w ∷ ws) = refl
-
-spaced_long : (ws : List (List ℕ)) → length ws ≤ length (spaced ws)
-spaced_long [] = omega arith
-spaced_long (w ∷ ws) = let ih = spaced_long ws in let l = length-append w (spaced ws) in omega (arith, ih, l)
 
 read_words : (ws : List (List ℕ)) (most : ℕ) (b : List ℕ) → AllPrinted ws → length ws ≤ most → b ≡ spaced ws ++ crlf → words_in most b ≡ ws
 unfolding words_in
@@ -93,15 +84,12 @@ read_words (x ∷ ws) (suc most) b h le e =
 
 pub words_read : (ws : List (List ℕ)) (t : List ℕ) → IsWords ws t → words_in (length (plain t)) (plain t) ≡ ws
 words_read ws t h =
-    let e : plain t ≡ spaced ws ++ crlf = ap plain h.1 ∙ plain_small (spaced ws ++ crlf) (each_join small (spaced ws) crlf (spaced_small ws h.0) (refl, (refl, tt))) in
+    let e : plain t ≡ spaced ws ++ crlf = ap plain h.1 ∙ plain_small (spaced ws ++ crlf) (each_append small (spaced ws) crlf (spaced_small ws h.0) (refl, (refl, tt))) in
     let l = spaced_long ws in
     let m = length-append (spaced ws) crlf in
     read_words ws (length (plain t)) (plain t) h.0 (omega (arith, l, m, ap length e)) e
 
 -- ---- sets of UIDs
-
-digit_small : (c : ℕ) → is_digit c ≡ true → small c ≡ true
-digit_small c e = grind arith
 
 number_small : (n : ℕ) (t : List ℕ) → IsNonZero n t → Each small t
 number_small n t h = each_to is_digit small t digit_small h.0.digits
@@ -134,12 +122,12 @@ read_range r x y b (inr p) out no_colon e =
 
 range_small : (r : UidRange) (t : List ℕ) → IsRange r t → Each small t
 range_small r t (inl s) = number_small s.0 t s.1
-range_small r t (inr p) = subst (Each small) (sym p.4) (each_join small p.2 (58 ∷ p.3) (number_small p.0 p.2 p.5) (refl, number_small p.1 p.3 p.6))
+range_small r t (inr p) = subst (Each small) (sym p.4) (each_append small p.2 (58 ∷ p.3) (number_small p.0 p.2 p.5) (refl, number_small p.1 p.3 p.6))
 
 set_small : (rs : List UidRange) (t : List ℕ) → IsSet rs t → Each small t
 set_small [] t h = absurd h
 set_small (r ∷ []) t h = range_small r t h
-set_small (r ∷ q ∷ rs) t h = subst (Each small) (sym h.2) (each_join small h.0 (44 ∷ h.1) (range_small r h.0 h.3) (refl, set_small (q ∷ rs) h.1 h.4))
+set_small (r ∷ q ∷ rs) t h = subst (Each small) (sym h.2) (each_append small h.0 (44 ∷ h.1) (range_small r h.0 h.3) (refl, set_small (q ∷ rs) h.1 h.4))
 
 set_long : (rs : List UidRange) (t : List ℕ) → IsSet rs t → length rs ≤ length t + 1
 set_long [] t h = absurd h
@@ -215,15 +203,11 @@ earlier_first (c ∷ w) u h = bracket c (cons_head (lower c) 40 (map lower w) (c
     bracket : (c : ℕ) → lower c ≡ 40 → (plain_of c == 40) ≡ true
     bracket c e = grind arith
 
-length_plain : (t : List ℕ) → length (plain t) ≡ length t
-length_plain [] = refl
-length_plain (c ∷ t) = ap (λ (n : ℕ). suc n) (length_plain t)
-
 pub vanished_read : (earlier : Bool) (rs : List UidRange) (t : List ℕ) → IsVanished earlier rs t → vanished_in (plain t) ≡ response.Vanished earlier (record { ranges = rs })
 unfolding vanished_in
 vanished_read true rs t h =
     let b = plain t in
-    let n = length_plain t in
+    let n = plain_length t in
     let l = ap length h.whole in
     let m = length-append h.front h.back in
     let rest : drop 10 b ≡ plain h.back = ap (λ (u : List ℕ). drop 10 (plain u)) h.whole ∙ earlier_ten h.front h.first h.back in
@@ -232,7 +216,7 @@ vanished_read true rs t h =
     ∙ ap (λ (u : List UidRange). response.Vanished true (record { ranges = u })) is
 vanished_read false rs t h =
     let b = plain t in
-    let n = length_plain t in
+    let n = plain_length t in
     cond-false (get_or b 0 0 == 40) (response.Vanished true (record { ranges = ranges_in (length b) (drop 10 b) })) (response.Vanished false (record { ranges = ranges_in (length b) b })) (first_digit rs t h)
     ∙ ap (λ (u : List UidRange). response.Vanished false (record { ranges = u })) (line_ranges rs t (length b) h (omega (arith, n)))
 

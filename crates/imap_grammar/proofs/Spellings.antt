@@ -1,8 +1,9 @@
 -- Spellings at the front of octets.
-use Rattle.std.proofs.Common.{◌≡◌, ◌⊎◌, ℕ, zero, suc, ◌+◌, ◌<◌, ◌≤◌, List, [], ◌∷◌, ◌++◌, length, map, take, drop, Option, Some, refl, sym, ap, subst, ◌∙◌, append_assoc, arith, inl, inr}
+use Rattle.std.proofs.Common.{◌≡◌, ◌⊎◌, ℕ, zero, suc, ◌+◌, ◌<◌, ◌≤◌, List, [], ◌∷◌, ◌++◌, length, take, drop, Option, Some, refl, sym, ap, subst, ◌∙◌, append_assoc, arith, inl, inr}
 use Rattle.std.specs.Prelude.{◌≢◌}
 use Rattle.std.proofs.lemmas.Bool.{cases_lt, cases_order}
-use Rattle.std.proofs.lemmas.List.{append-nil, length-append, take_all, take-append-drop, length-take, take-map, map-append}
+use Rattle.std.proofs.lemmas.List.{append-nil, take_all, take-append-drop, length-take}
+use Rattle.std.proofs.Math.Seq.{take-append_seam}
 use Rattle.imap_automaton.specs.declared.sym.Sym.{Sym}
 use Rattle.imap_automaton.specs.Run.{start, run}
 use Rattle.imap_automaton.proofs.Whole.{none_stays, no_symbols}
@@ -140,12 +141,8 @@ bad_none b at h v t x k e = elim (cases_lt at (length t)) [
   | inr le ↦ proper_none (take at b) h.2 v t (drop (length t) (take at b)) k (take_take (length t) at b le ∙ ap (λ (u : List ℕ). u ++ drop (length t) (take at b)) (front_is t x b e))
 ]
   where
-    take_front : (t x : List ℕ) → take (length t) (t ++ x) ≡ t
-    take_front [] x = refl
-    take_front (c ∷ t) x = ap (λ (u : List ℕ). c ∷ u) (take_front t x)
-
     front_is : (t x b : List ℕ) → b ≡ t ++ x → take (length t) b ≡ t
-    front_is t x b e = ap (take (length t)) e ∙ take_front t x
+    front_is t x b e = ap (take (length t)) e ∙ take-append_seam t x
 
 -- a spelling has an octet
 pub spelling_some : (v : Response) (t : List ℕ) → IsSpelling v t → t ≢ []

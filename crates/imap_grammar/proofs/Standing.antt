@@ -1,8 +1,8 @@
 -- The symbols and the count that octets lead to.
 use Rattle.std.proofs.Common.{◌≡◌, ℕ, ◌+◌, ◌<◌, ◌≤◌, Bool, true, false, List, [], ◌∷◌, ◌++◌, cond, Option, Some, None, refl, sym, ap, subst, ◌∙◌, arith}
-use Rattle.std.specs.Prelude.{nat_lt}
 use Rattle.std.proofs.lemmas.Bool.{le-ltb, lt-ltb}
 use Rattle.std.proofs.lemmas.List.{append-nil, map-append}
+use Rattle.std.proofs.lemmas.Option.{same_Some}
 use Rattle.imap_automaton.specs.declared.sym.Line.TheVariants as line
 use Rattle.imap_automaton.specs.declared.sym.Sym.{Sym}
 use Rattle.imap_automaton.specs.declared.sym.Sym.TheVariants as sym
@@ -11,7 +11,7 @@ use Rattle.imap_automaton.specs.Flow.{Good}
 use Rattle.imap_automaton.proofs.Langs.{Lang, Langs}
 use Rattle.imap_automaton.proofs.Whole.{no_symbols, reads_back, reads_forth, reads_some}
 use Rattle.imap_automaton.proofs.Marks.{plain_large, plain_small, forced, start_good, run_append, good_of, Alive, alive, start_same}
-use Rattle.imap_automaton.proofs.Lists.{cons_head, cons_tail, some_is}
+use Rattle.imap_automaton.proofs.Lists.{cons_head, cons_tail}
 use Rattle.imap_grammar.specs.Scan.{IsPrefix, IsProperPrefix}
 use Rattle.imap_grammar.specs.Fed.{Stands}
 use Rattle.imap_syntax.specs.declared.response.Response.{Response}
@@ -25,9 +25,6 @@ outside_append (c ∷ t) u = let ih = outside_append t u in omega (arith, ih)
 -- a text that spells a response leads to no symbol
 pub spelled : (v : Response) (t : List ℕ) → Spells v t → run (Some start) t ≡ Some []
 spelled v t h = reads_forth t start start_good (record { front = t; back = []; whole = sym (append-nil t); first = (v, h); second = refl })
-
-pub stands_start : Stands start 0 []
-stands_start = record { text = []; octets = refl; leads = refl; counted = refl; within = omega arith }
 
 pub stands_good : (ss : List Sym) (out : ℕ) (b : List ℕ) → Stands ss out b → Good false ss
 stands_good ss out b h = good_of h.text start ss start_good h.leads
@@ -129,4 +126,4 @@ stands_proper s ss out b h =
     }
   where
     no_end : (s : Sym) (ss : List Sym) → Some (s ∷ ss) ≡ Some [] → ⊥
-    no_end s ss e = let q = some_is (s ∷ ss) [] e in cc
+    no_end s ss e = let q = same_Some (s ∷ ss) [] e in cc

@@ -6,7 +6,8 @@ use Rattle.std.proofs.lemmas.List.{drop_all, append-nil}
 use Rattle.imap_automaton.proofs.Tests.{drop_at}
 use Rattle.imap_grammar.specs.StringReading.{unquoted}
 
-abbrev with_octet : ℕ → List ℕ × List ℕ → List ℕ × List ℕ
+-- one octet before what is read
+abbrev pub with_octet : ℕ → List ℕ × List ℕ → List ℕ × List ℕ
 with_octet c r = (c ∷ r.0, r.1)
 
 abbrev one_read : ℕ → List ℕ → List ℕ × List ℕ

@@ -2,19 +2,20 @@
 use Rattle.std.proofs.Common.{◌≡◌, ℕ, Bool, true, false, ◌&&◌, ◌||◌, List, [], ◌∷◌, ◌++◌, length, take, drop, get_or, cond, refl, sym, ap, subst, ◌∙◌, append_assoc, arith, inl, inr}
 use Rattle.std.specs.Prelude.{◌==◌}
 use Rattle.std.proofs.lemmas.Bool.{cond-true, cond-false}
+use Rattle.std.proofs.Math.Seq.{take-append_seam, drop-append_seam}
+use Rattle.imap_syntax.proofs.EachLemmas.{each_to, each_append}
 use Rattle.imap_automaton.proofs.StringEdges.{no_special}
+use Rattle.imap_automaton.proofs.Tests.{atom_apart}
 use Rattle.imap_grammar.specs.Spans.{span, number_in}
 use Rattle.imap_grammar.specs.StringReading.{unquoted, literal_in, atom_in, astring_in}
-use Rattle.imap_grammar.proofs.Cuts.{small, plain_small, plain_join, each_to, each_join, cut_at, take_front, drop_front, number_is}
-use Rattle.imap_grammar.proofs.NameReadings.{atom_small, digit_small, plain_length}
+use Rattle.imap_grammar.proofs.Cuts.{small, plain_small, plain_join, cut_at, number_is, atom_small, digit_small, text_small}
+use Rattle.imap_grammar.proofs.Lengths.{plain_length}
+use Rattle.imap_grammar.proofs.StringLemmas.{with_octet}
 use Rattle.imap_syntax.specs.Octets.{is_digit, is_text, is_atom}
 use Rattle.imap_syntax.specs.Texts.{Each, plain}
 use Rattle.imap_syntax.specs.Strings.{IsAtom, escaped, quoted, IsQuoted, IsCounted, IsAString}
 
 -- ---- quoted texts
-
-text_small : (c : ℕ) → is_text c ≡ true → small c ≡ true
-text_small c e = grind arith
 
 escaped_small : (s : List ℕ) → Each is_text s → Each small (escaped s)
 escaped_small [] h = tt
@@ -25,10 +26,7 @@ escaped_small (c ∷ s) h = by (c == 34 || c == 92) refl (escaped_small s h.1)
     by false e ih = subst (Each small) (sym (cond-false (c == 34 || c == 92) (92 ∷ c ∷ escaped s) (c ∷ escaped s) e)) (text_small c h.0, ih)
 
 pub quoted_small : (s : List ℕ) → Each is_text s → Each small (quoted s)
-quoted_small s h = (refl, each_join small (escaped s) (34 ∷ []) (escaped_small s h) (refl, tt))
-
-abbrev with_octet : ℕ → List ℕ × List ℕ → List ℕ × List ℕ
-with_octet c r = (c ∷ r.0, r.1)
+quoted_small s h = (refl, each_append small (escaped s) (34 ∷ []) (escaped_small s h) (refl, tt))
 
 -- up to the closing quote
 unquoted_read : (s y : List ℕ) → unquoted false (escaped s ++ 34 ∷ y) ≡ (s, y)
@@ -67,7 +65,7 @@ literal_read s x y b h e =
     let octets : drop 3 (drop n r) ≡ o ++ y = ap (drop 3) k.back in (
       ap (λ (u : List ℕ). (take (number_in (take n r)) u, drop (number_in (take n r)) u)) octets
           ∙ ap (λ (m : ℕ). (take m (o ++ y), drop m (o ++ y))) count
-          ∙ ap (λ (u : List ℕ). (u, drop (length o) (o ++ y))) (take_front o y ∙ sym h.string) ∙ ap (λ (u : List ℕ). (s, u)) (drop_front o y),
+          ∙ ap (λ (u : List ℕ). (u, drop (length o) (o ++ y))) (take-append_seam o y ∙ sym h.string) ∙ ap (λ (u : List ℕ). (s, u)) (drop-append_seam o y),
       ap (λ (u : List ℕ). get_or u 0 0) f,
     )
 
@@ -76,9 +74,6 @@ literal_read s x y b h e =
 -- what may stand behind a string
 abbrev pub Ends : List ℕ → Type 0
 Ends y = (is_atom (get_or y 0 0) ≡ false) × ((get_or y 0 0 == 123) ≡ false)
-
-atom_apart : (c : ℕ) → is_atom c ≡ true → ((c == 34) ≡ false) × ((c == 123) ≡ false)
-atom_apart c e = (grind arith, grind arith)
 
 abbrev tilde_or : List ℕ → List ℕ × List ℕ
 tilde_or b = cond (get_or b 0 0 == 126 && get_or b 1 0 == 123) (literal_in (drop 2 b)) (atom_in b)
