@@ -1,5 +1,5 @@
 -- One octet at names in brackets.
-use Rattle.std.proofs.Common.{◌≡◌, ℕ, ◌<◌, true, false, List, [], ◌∷◌, ◌++◌, length, cond, refl, sym, ap, subst, ◌∙◌, append_assoc, arith, inl, inr}
+use Rattle.std.proofs.Common.{◌≡◌, ℕ, true, false, List, [], ◌∷◌, ◌++◌, cond, refl, sym, ap, subst, ◌∙◌, append_assoc, arith, inl, inr}
 use Rattle.std.specs.Prelude.{◌==◌}
 use Rattle.std.proofs.lemmas.Bool.{eqb-true, eq-eqb}
 use Rattle.imap_automaton.specs.declared.sym.Names.{Names}
@@ -10,11 +10,11 @@ use Rattle.imap_automaton.specs.NamesRules.{names_rule}
 use Rattle.imap_automaton.specs.Flow.{stops}
 use Rattle.imap_automaton.proofs.Langs.{NamesLang, After}
 use Rattle.imap_automaton.proofs.Lists.{cons_head, cons_tail}
-use Rattle.imap_automaton.proofs.Tests.{from_test, to_test, at_true, at_false, is_true_at, mid}
+use Rattle.imap_automaton.proofs.Tests.{from_test, at_true, at_false, is_true_at, mid}
 use Rattle.imap_syntax.specs.Octets.{is_atom}
-use Rattle.imap_syntax.specs.Texts.{Each, Then}
+use Rattle.imap_syntax.specs.Texts.{Each}
 use Rattle.imap_syntax.specs.Lines.{spaced}
-use Rattle.imap_syntax.specs.Items.{IsAtom, IsName, AllNames, joined, IsNames}
+use Rattle.imap_syntax.specs.Items.{IsAtom, IsName, AllNames, joined}
 
 atom_not : (c : ℕ) → is_atom c ≡ true → ((c == 40) ≡ false) × ((c == 41) ≡ false) × ((c == 92) ≡ false) × ((c == 32) ≡ false)
 atom_not c e = (grind arith, grind arith, grind arith, grind arith)
