@@ -17,6 +17,9 @@ use gate_world::{Bytes, Names};
 use imap_syntax::{Response, Status};
 use std::alloc::{AllocError, Global};
 
+/// Octets of `FETCH (`.
+const FETCH_OCTETS: usize = 7;
+
 /// The status that a word names.
 #[tactic(auto, unfolding(crate::specs::Reading::status_named))]
 fn status_named(word: &[u8]) -> Option<Status>
@@ -59,7 +62,7 @@ fn numbered(alloc: Global, seq: u32, bytes: &[u8]) -> Result<Response, AllocErro
     ensures { IfOk result (λ v. v ≡ reading.numbered_in seq bytes.now) }
 {
     if begins_with(bytes, b"fetch") {
-        let items = items_in(alloc, behind(bytes, 7), bytes.len())?;
+        let items = items_in(alloc, behind(bytes, FETCH_OCTETS), bytes.len())?;
         Ok(Response::Fetch { seq, items })
     } else if begins_with(bytes, b"exists") {
         Ok(Response::Exists(seq))

@@ -17,6 +17,9 @@ use imap_automaton::{Key, Place, Stack, Sym, advance};
 use imap_syntax::FetchItems;
 use std::alloc::{AllocError, Global};
 
+/// Octets of a date with its quotes.
+const DATE_TIME_OCTETS: usize = 28;
+
 /// Octets that are kept of a header.
 const HEADER_LIMIT: usize = 32_768;
 
@@ -226,7 +229,7 @@ fn value_in<'a>(
         let size = long_of(before(value, n));
         Ok((with_size(so_far, size), behind(value, n)))
     } else if is_key(name, b"internaldate") {
-        Ok((with_date(so_far, date_in(value)), behind(value, 28)))
+        Ok((with_date(so_far, date_in(value)), behind(value, DATE_TIME_OCTETS)))
     } else {
         text_in(alloc, so_far, name, value)
     }

@@ -9,6 +9,9 @@ use gate_world::{Bytes, Listed, Names};
 use imap_syntax::{Response, UidRange, UidSet};
 use std::alloc::{AllocError, Global};
 
+/// Octets of `(EARLIER) `.
+const EARLIER_OCTETS: usize = 10;
+
 /// The words, each behind a space: *(SP word).
 #[tactic(auto, using(crate::proofs::SetReadings::words))]
 pub fn words_in(alloc: Global, bytes: &[u8]) -> Result<Names, AllocError>
@@ -105,7 +108,7 @@ pub fn vanished_in(alloc: Global, bytes: &[u8]) -> Result<Response, AllocError>
     ensures { IfOk result (λ v. v ≡ reading.vanished_in bytes.now) }
 {
     if octet_at(bytes, 0) == b'(' {
-        let ranges = ranges_in(alloc, behind(bytes, 10), bytes.len())?;
+        let ranges = ranges_in(alloc, behind(bytes, EARLIER_OCTETS), bytes.len())?;
         Ok(vanished(true, ranges))
     } else {
         let ranges = ranges_in(alloc, bytes, bytes.len())?;
