@@ -1,7 +1,8 @@
 -- Octets of a literal that a scanner takes at once.
-use Rattle.std.proofs.Common.{◌≡◌, ◌≢◌, ℕ, zero, suc, ◌+◌, ◌-◌, ◌*◌, ◌<◌, ◌≤◌, true, List, [], ◌∷◌, ◌++◌, length, take, drop, get_or, Some, refl, sym, ap, subst, ◌∙◌, append_assoc, length-append, arith}
-use Rattle.std.proofs.lemmas.Bool.{ltb-true, lt-ltb}
-use Rattle.std.proofs.lemmas.List.{append-nil, length-take-le, take-append-drop}
+use Rattle.std.proofs.Common.{◌≡◌, ◌≢◌, ℕ, zero, suc, ◌+◌, ◌-◌, ◌*◌, ◌<◌, ◌≤◌, min, true, List, [], ◌∷◌, ◌++◌, length, take, drop, get_or, Some, inl, inr, refl, sym, ap, subst, ◌∙◌, append_assoc, length-append, arith}
+use Rattle.std.proofs.Math.Nat.{min-le_left, min-le_right}
+use Rattle.std.proofs.lemmas.Bool.{ltb-true, lt-ltb, cases_lt}
+use Rattle.std.proofs.lemmas.List.{append-nil, length-take-le, take-append-drop, drop_min, length-drop}
 use Rattle.imap_automaton.specs.declared.sym.Free.TheVariants as free
 use Rattle.imap_automaton.specs.declared.sym.Sym.{Sym}
 use Rattle.imap_automaton.specs.declared.sym.Sym.TheVariants as sym
@@ -57,7 +58,7 @@ skip_fed s new b cs h each lt is out taken =
     }
 
 -- so many octets of the literal at hand are taken
-pub skip_some : (s new : Scanner) (b octets rest : List ℕ) (k : ℕ) → Fed s b → ((i : ℕ) → get_or octets i 0 < 256) → k ≤ length octets → k < inside_left (symbols_of s.stack) → symbols_of new.stack ≡ skipped k (symbols_of s.stack) → new.outside ≡ s.outside → new.taken ≡ s.taken + k → rest ≡ drop k octets → FedUpTo new b octets rest
+skip_some : (s new : Scanner) (b octets rest : List ℕ) (k : ℕ) → Fed s b → ((i : ℕ) → get_or octets i 0 < 256) → k ≤ length octets → k < inside_left (symbols_of s.stack) → symbols_of new.stack ≡ skipped k (symbols_of s.stack) → new.outside ≡ s.outside → new.taken ≡ s.taken + k → rest ≡ drop k octets → FedUpTo new b octets rest
 skip_some s new b octets rest k h each le lt is out taken back =
     let long : length (take k octets) ≡ k = length-take-le k octets le in
     record {
@@ -66,6 +67,39 @@ skip_some s new b octets rest k h each le lt is out taken back =
       fed = skip_fed s new b (take k octets) h (small_front k octets each) (omega (arith, long, lt)) (is ∙ ap (λ (n : ℕ). skipped n (symbols_of s.stack)) (sym long)) out (omega (arith, taken, long));
     }
 
+skipped_zero : (ss : List Sym) → skipped 0 ss ≡ ss
+skipped_zero [] = refl
+skipped_zero (sym.Free (free.Octets n) ∷ ss) = let e : n - 0 ≡ n = omega arith in ap (λ (m : ℕ). sym.Free (free.Octets m) ∷ ss) e
+skipped_zero (_ ∷ ss) = refl
+
 -- none are taken
-pub skip_none : (s : Scanner) (b octets : List ℕ) → Fed s b → FedUpTo s b octets octets
-skip_none s b octets h = record { front = []; whole = refl; fed = subst (Fed s) (sym (append-nil b)) h }
+skip_none : (s new : Scanner) (b octets rest : List ℕ) → Fed s b → symbols_of new.stack ≡ symbols_of s.stack → new.outside ≡ s.outside → new.taken ≡ s.taken → rest ≡ octets → FedUpTo new b octets rest
+skip_none s new b octets rest h is out taken same =
+    record {
+      front = [];
+      whole = sym same;
+      fed = subst (Fed new) (sym (append-nil b)) (record {
+        ready = subst Ready (sym is) h.ready;
+        more = λ e. h.more (sym is ∙ e);
+        stands = subst (λ (ss : List Sym). Stands ss new.outside b) (sym is) (subst (λ (m : ℕ). Stands (symbols_of s.stack) m b) (sym out) h.stands);
+        taken = taken ∙ h.taken;
+        bound = omega (arith, ap left_of is, h.bound, taken, out);
+      });
+    }
+
+-- as many as there are, but for the last of the literal
+pub skip_all : (s new : Scanner) (b octets rest : List ℕ) → Fed s b → ((i : ℕ) → get_or octets i 0 < 256) → rest ≡ drop (inside_left (symbols_of s.stack) - 1) octets → symbols_of new.stack ≡ skipped (min (inside_left (symbols_of s.stack) - 1) (length octets)) (symbols_of s.stack) → new.outside ≡ s.outside → new.taken ≡ s.taken + (length octets - length rest) → FedUpTo new b octets rest
+skip_all s new b octets rest h each back is out taken =
+    let left : ℕ = inside_left (symbols_of s.stack) in
+    let k : ℕ = min (left - 1) (length octets) in
+    let le : k ≤ length octets = min-le_right (left - 1) (length octets) in
+    let least : k ≤ left - 1 = min-le_left (left - 1) (length octets) in
+    let from : rest ≡ drop k octets = back ∙ sym (drop_min (left - 1) octets) in
+    let long : length rest ≡ length octets - k = ap (λ (u : List ℕ). length u) from ∙ length-drop k octets in
+    let count : new.taken ≡ s.taken + k = omega (arith, taken, long, le) in
+    elim (cases_lt 0 left) [
+      | inl some ↦ skip_some s new b octets rest k h each le (omega (arith, some, least)) is out count from
+      | inr none ↦
+          let zero_k : k ≡ 0 = omega (arith, none, least) in
+          skip_none s new b octets rest h (is ∙ ap (λ (n : ℕ). skipped n (symbols_of s.stack)) zero_k ∙ skipped_zero (symbols_of s.stack)) out (omega (arith, count, zero_k)) (from ∙ ap (λ (n : ℕ). drop n octets) zero_k)
+    ]

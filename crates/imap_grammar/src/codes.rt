@@ -1,4 +1,4 @@
-// Codes of status lines.
+// Codes of status lines (RFC 9051 section 7.1, RFC 4315 section 3, RFC 7162, RFC 5530 section 3).
 ghost use Rattle.std.specs.Prelude.{◌≡◌, map, None, Some, IfOk, MatchOption};
 ghost use Rattle.imap_syntax.specs.Octets as classes;
 ghost use Rattle.imap_syntax.specs.ReadCodes as reading;
@@ -27,6 +27,7 @@ fn cut(bytes: &[u8], octet: u8) -> Option<(&[u8], &[u8])>
     None
 }
 
+/// The number that the text spells, 1 to 2^32 - 1.
 #[tactic(auto, using(crate::proofs::CodeReadings::numbers))]
 fn nonzero_in(text: &[u8]) -> Option<u32>
     ensures { result ≡ reading.nonzero_in text.now }
@@ -38,6 +39,7 @@ fn nonzero_in(text: &[u8]) -> Option<u32>
     if 0 < number { Some(number) } else { None }
 }
 
+/// The number that the text spells, at most 2^63 - 1.
 #[tactic(auto, using(crate::proofs::CodeReadings::longs))]
 fn long_in(text: &[u8]) -> Option<u64>
     ensures { result ≡ reading.long_in text.now }
@@ -71,6 +73,7 @@ fn one_range(number: Option<u32>) -> Option<UidRange>
     }
 }
 
+/// The range that the text spells: nz [":" nz].
 #[tactic(auto, unfolding(imap_syntax::specs::ReadCodes::range_in))]
 fn range_in(text: &[u8]) -> Option<UidRange>
     ensures { result ≡ reading.range_in text.now }
@@ -89,7 +92,7 @@ fn uid_set(ranges: Vec<UidRange>) -> UidSet
     }
 }
 
-/// The set that the text spells.
+/// The set that the text spells: range *("," range).
 fn set_in(alloc: Global, text: &[u8]) -> Result<Option<UidSet>, AllocError>
     ensures { IfOk result (λ set. ranges_of set ≡ reading.set_in text.now) }
 {
@@ -114,7 +117,7 @@ fn set_in(alloc: Global, text: &[u8]) -> Result<Option<UidSet>, AllocError>
     Ok(None)
 }
 
-/// A code that is a word.
+/// A code that is a word: "NOMODSEQ" / "CLOSED" / "OVERQUOTA".
 #[tactic(auto, unfolding(imap_syntax::specs::ReadCodes::bare_code))]
 fn bare_code(word: &[u8]) -> Option<Code>
     ensures { result ≡ reading.bare_code (map classes.lower word.now) }
@@ -166,7 +169,7 @@ fn appended(validity: Option<u32>, uid: Option<u32>) -> Option<Code>
     }
 }
 
-/// What follows APPENDUID and its space.
+/// What follows APPENDUID and its space: nz SP nz.
 fn append_in(text: &[u8]) -> Option<Code>
     ensures { result ≡ reading.append_in (reading.cut 32 text.now) }
 {
@@ -185,7 +188,7 @@ fn copied(validity: Option<u32>, from: Option<UidSet>, to: Option<UidSet>) -> Op
     }
 }
 
-/// What follows COPYUID and its space.
+/// What follows COPYUID and its space: nz SP set SP set.
 fn copy_in(alloc: Global, text: &[u8]) -> Result<Option<Code>, AllocError>
     ensures { IfOk result (λ code. code ≡ reading.copy_in (reading.cut 32 text.now)) }
 {
@@ -200,7 +203,8 @@ fn copy_in(alloc: Global, text: &[u8]) -> Result<Option<Code>, AllocError>
     Ok(copied(nonzero_in(validity), from, to))
 }
 
-/// A code that is a word and what follows it behind a space.
+/// A code that is a word and what follows it behind a space: ("UIDVALIDITY" / "UIDNEXT") SP nz,
+/// "HIGHESTMODSEQ" SP long, "APPENDUID" SP .. or "COPYUID" SP ...
 #[tactic(auto, unfolding(imap_syntax::specs::ReadCodes::code_with))]
 fn code_with(alloc: Global, word: &[u8], text: &[u8]) -> Result<Option<Code>, AllocError>
     ensures { IfOk result (λ code. code ≡ reading.code_with (map classes.lower word.now) text.now) }
@@ -231,7 +235,7 @@ fn known_in(alloc: Global, text: &[u8]) -> Result<Option<Code>, AllocError>
     }
 }
 
-/// The code of what follows a status.
+/// The code of what follows a status: [SP "[" code "]" ..]. One that isn't known is `Code::Other`.
 #[tactic(auto, unfolding(imap_syntax::specs::ReadCodes::code_in))]
 pub fn code_in(alloc: Global, tail: &[u8]) -> Result<Code, AllocError>
     ensures { IfOk result (λ code. code ≡ reading.code_in tail.now) }

@@ -12,7 +12,7 @@ use gate_world::{Bytes, Listed, Names};
 use imap_syntax::Command;
 use std::alloc::{AllocError, Global};
 
-/// The text in quotes, with `\` before each `"` and `\`.
+/// Adds the text in quotes, with `\` before each `"` and `\`: quoted (section 4.3).
 fn push_quoted(out: &mut Vec<u8>, text: &[u8]) -> Result<(), AllocError>
     ensures { OnOk result (out.new.items ≡ out.old.items ++ texts.quoted text.now) }
 {
@@ -27,7 +27,7 @@ fn push_quoted(out: &mut Vec<u8>, text: &[u8]) -> Result<(), AllocError>
     Ok(())
 }
 
-/// The words, and the name in quotes behind them.
+/// The words, and the name in quotes behind them, as CREATE and DELETE have it (sections 6.3.4 and 6.3.5).
 fn named(alloc: Global, words: &[u8], name: &[u8]) -> Result<Vec<u8>, AllocError>
     ensures { IfOk result (λ out. out.items ≡ words.now ++ texts.quoted name.now) }
 {
@@ -55,7 +55,7 @@ fn flag_text(flag: &[u8]) -> &[u8]
     }
 }
 
-/// The flags with a space between two.
+/// Adds the flags with a space between two.
 fn push_flags(out: &mut Vec<u8>, flags: &[Bytes]) -> Result<(), AllocError>
     ensures { OnOk result (out.new.items ≡ out.old.items ++ texts.flags_inside flags.now) }
 {
@@ -70,7 +70,8 @@ fn push_flags(out: &mut Vec<u8>, flags: &[Bytes]) -> Result<(), AllocError>
     Ok(())
 }
 
-/// SELECT of a folder that is known up to a mod-sequence.
+/// SELECT of a folder that is known up to a mod-sequence: "SELECT" SP quoted SP "(QRESYNC (" nz SP long "))" (RFC 7162
+/// section 3.2.5).
 fn select_known(
     alloc: Global,
     name: &[u8],
@@ -85,6 +86,7 @@ fn select_known(
     Ok(out)
 }
 
+/// SELECT, of a folder that is known or not (section 6.3.2).
 fn select(alloc: Global, name: &[u8], known: Option<(u32, u64)>) -> Result<Vec<u8>, AllocError>
     ensures { IfOk result (λ out. out.items ≡ texts.select_words name.now known) }
 {
@@ -105,6 +107,7 @@ fn header_items(modseq: bool) -> &'static [u8]
     }
 }
 
+/// The headers of a range of UIDs: "UID FETCH" SP nz ":" nz SP items (sections 6.4.5 and 6.4.9).
 fn fetch_slice(alloc: Global, from: u32, to: u32, modseq: bool) -> Result<Vec<u8>, AllocError>
     ensures { IfOk result (λ out. out.items ≡ texts.fetch_slice_words from to modseq) }
 {
@@ -113,6 +116,7 @@ fn fetch_slice(alloc: Global, from: u32, to: u32, modseq: bool) -> Result<Vec<u8
     Ok(out)
 }
 
+/// The headers from a UID on: "UID FETCH" SP nz ":*" SP items. The last message is among them, whatever its UID.
 fn fetch_new(alloc: Global, from: u32, modseq: bool) -> Result<Vec<u8>, AllocError>
     ensures { IfOk result (λ out. out.items ≡ texts.fetch_new_words from modseq) }
 {
@@ -121,6 +125,8 @@ fn fetch_new(alloc: Global, from: u32, modseq: bool) -> Result<Vec<u8>, AllocErr
     Ok(out)
 }
 
+/// Flags added to a message or taken from it: "UID STORE" SP nz SP ("+" / "-") "FLAGS" SP flags (sections 6.4.6 and
+/// 6.4.9).
 fn store(alloc: Global, uid: u32, add: bool, flags: &Names) -> Result<Vec<u8>, AllocError>
     ensures { IfOk result (λ out. out.items ≡ texts.store_words uid add flags.now) }
 {
@@ -131,6 +137,7 @@ fn store(alloc: Global, uid: u32, add: bool, flags: &Names) -> Result<Vec<u8>, A
     Ok(out)
 }
 
+/// A message moved to a folder: "UID MOVE" SP nz SP quoted (section 6.4.8).
 fn move_to(alloc: Global, uid: u32, name: &[u8]) -> Result<Vec<u8>, AllocError>
     ensures { IfOk result (λ out. out.items ≡ texts.move_words uid name.now) }
 {
@@ -139,6 +146,7 @@ fn move_to(alloc: Global, uid: u32, name: &[u8]) -> Result<Vec<u8>, AllocError>
     Ok(out)
 }
 
+/// A folder renamed: "RENAME" SP quoted SP quoted (section 6.3.6).
 fn rename(alloc: Global, from: &[u8], to: &[u8]) -> Result<Vec<u8>, AllocError>
     ensures { IfOk result (λ out. out.items ≡ texts.rename_words from.now to.now) }
 {
@@ -148,6 +156,7 @@ fn rename(alloc: Global, from: &[u8], to: &[u8]) -> Result<Vec<u8>, AllocError>
     Ok(out)
 }
 
+/// A folder subscribed to or no longer: ("SUBSCRIBE" / "UNSUBSCRIBE") SP quoted (sections 6.3.7 and 6.3.8).
 fn subscribe(alloc: Global, name: &[u8], on: bool) -> Result<Vec<u8>, AllocError>
     ensures { IfOk result (λ out. out.items ≡ texts.subscribe_words name.now on) }
 {
@@ -158,12 +167,14 @@ fn subscribe(alloc: Global, name: &[u8], on: bool) -> Result<Vec<u8>, AllocError
     }
 }
 
+/// A message that is marked as deleted removed: "UID EXPUNGE" SP nz (section 6.4.9).
 fn expunge(alloc: Global, uid: u32) -> Result<Vec<u8>, AllocError>
     ensures { IfOk result (λ out. out.items ≡ texts.expunge_words uid) }
 {
     Ok(format!(in alloc; "UID EXPUNGE {uid}")?.into_bytes())
 }
 
+/// A whole message, up to 50,000,000 octets: "UID FETCH" SP nz SP "(UID BODY.PEEK[]<0.50000000>)".
 fn fetch_body(alloc: Global, uid: u32) -> Result<Vec<u8>, AllocError>
     ensures { IfOk result (λ out. out.items ≡ texts.fetch_body_words uid) }
 {
@@ -207,6 +218,7 @@ fn text_of(alloc: Global, command: &Command, tag: u64) -> Result<Bytes, AllocErr
     Ok(Bytes::from_vec(out))
 }
 
+/// Whether the text may stand in quotes: octets 32 to 126.
 fn is_printable(text: &[u8]) -> bool
     ensures { result ≡ list_all texts.is_printable text.now }
 {
@@ -218,7 +230,7 @@ fn is_printable(text: &[u8]) -> bool
     true
 }
 
-/// Ends the piece with the head of a literal, whose octets begin the next one.
+/// Ends the piece with the head of a literal, whose octets begin the next one: "{" number "}" CRLF (section 4.3).
 fn push_literal(
     alloc: Global,
     done: &mut Vec<Bytes>,
@@ -272,7 +284,7 @@ fn login(alloc: Global, user: &[u8], password: &[u8], tag: u64) -> Result<Vec<By
     Ok(done)
 }
 
-/// What stands before the message of an APPEND.
+/// What stands before the message of an APPEND: "APPEND" SP quoted SP flags SP date-time SP (section 6.3.12).
 fn append_words(alloc: Global, name: &[u8], flags: &Names, date: i64) -> Result<Vec<u8>, AllocError>
     ensures { IfOk result (λ out. out.items ≡ texts.append_words name.now flags.now date) }
 {

@@ -4,19 +4,12 @@ ghost use Rattle.imap_syntax.specs.DateTimes as dates;
 ghost use Rattle.imap_syntax.specs.Octets as classes;
 ghost use Rattle.imap_grammar.specs.DateReading as reading;
 
+use crate::dates::{DAYS_TO_EPOCH, SECONDS_OF_DAY, SECONDS_TO_EPOCH};
 use crate::octets::{before, behind, is_digit, is_key, octet_at};
 use jiff_core::civil::Date;
 
-/// The seconds from the first of January of the year 0 to 1970-01-01.
-const SECONDS_TO_EPOCH: i64 = 62_167_219_200;
-
-/// The days from the first of January of the year 0 to 1970-01-01.
-const DAYS_TO_EPOCH: i64 = 719_528;
-
 /// The last second of the year 9999, since the first of the year 0.
 const LAST_SECOND: u64 = 315_569_519_999;
-
-const SECONDS_OF_DAY: u64 = 86_400;
 
 /// The digit at a place, or 0.
 fn digit_at(bytes: &[u8], at: usize) -> u32
@@ -119,7 +112,8 @@ fn seconds_of(year: u32, month: u8, day: u32, time: u32, east: bool, zone: u32) 
     }
 }
 
-/// The date from its quote on.
+/// The date from its quote on, in seconds since 1970-01-01T00:00:00Z: DQUOTE date-day-fixed "-" date-month "-" 4DIGIT SP
+/// 2DIGIT ":" 2DIGIT ":" 2DIGIT SP ("+" / "-") 4DIGIT DQUOTE.
 #[tactic(auto, unfolding(crate::specs::DateReading::date_in))]
 pub fn date_in(bytes: &[u8]) -> i64
     ensures { result ≡ reading.date_in bytes.now }

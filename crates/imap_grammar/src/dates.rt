@@ -6,15 +6,16 @@ use jiff_core::civil::Date;
 use std::alloc::AllocError;
 
 /// The seconds from the first of January of the year 0 to 1970-01-01.
-const SECONDS_TO_EPOCH: i64 = 62_167_219_200;
+pub const SECONDS_TO_EPOCH: i64 = 62_167_219_200;
 
 /// The days from the first of January of the year 0 to 1970-01-01.
-const DAYS_TO_EPOCH: i64 = 719_528;
+pub const DAYS_TO_EPOCH: i64 = 719_528;
 
 /// The last second of the year 9999, since 1970-01-01.
 const LAST_SECOND: i64 = 253_402_300_799;
 
-const SECONDS_OF_DAY: u64 = 86_400;
+/// The seconds of a day.
+pub const SECONDS_OF_DAY: u64 = 86_400;
 
 /// The seconds from the year 0 on, kept within the years 0 to 9999.
 fn seconds_from(date: i64) -> u64
@@ -53,6 +54,7 @@ fn date_at(days: u64) -> Date
     date
 }
 
+/// Adds the two digits of a number.
 fn push_two_digits(out: &mut Vec<u8>, number: u32) -> Result<(), AllocError>
     requires { number ≤ 99 }
     ensures { OnOk result (out.new.items ≡ out.old.items ++ dates.two_digits number) }
@@ -62,6 +64,7 @@ fn push_two_digits(out: &mut Vec<u8>, number: u32) -> Result<(), AllocError>
     Ok(())
 }
 
+/// The name of a month, 1 to 12.
 fn month_name(month: u8) -> &'static [u8]
     ensures { result.now ≡ dates.month_name month }
 {
@@ -81,7 +84,7 @@ fn month_name(month: u8) -> &'static [u8]
     }
 }
 
-/// dd-Mon-yyyy
+/// Adds a day: dd-Mon-yyyy.
 #[tactic(auto, unfolding(imap_syntax::specs::Dates::day_text))]
 fn push_day(out: &mut Vec<u8>, year: u32, month: u8, day: u8) -> Result<(), AllocError>
     requires year { year ≤ 9999 }
@@ -97,7 +100,7 @@ fn push_day(out: &mut Vec<u8>, year: u32, month: u8, day: u8) -> Result<(), Allo
     Ok(())
 }
 
-/// hh:mm:ss
+/// Adds a time, by the seconds of its day: hh:mm:ss.
 #[tactic(auto, unfolding(imap_syntax::specs::Dates::clock_text))]
 fn push_clock(out: &mut Vec<u8>, seconds: u32) -> Result<(), AllocError>
     requires { seconds ≤ 86399 }
@@ -111,7 +114,8 @@ fn push_clock(out: &mut Vec<u8>, seconds: u32) -> Result<(), AllocError>
     Ok(())
 }
 
-/// The date in quotes.
+/// Adds the date in quotes, by the seconds since 1970-01-01T00:00:00Z: DQUOTE dd-Mon-yyyy SP hh:mm:ss SP "+0000" DQUOTE.
+/// One outside the years 0 to 9999 is written as the nearest within them.
 #[tactic(auto, unfolding(imap_syntax::specs::Dates::date_text))]
 pub fn push_date(out: &mut Vec<u8>, date: i64) -> Result<(), AllocError>
     ensures { OnOk result (out.new.items ≡ out.old.items ++ dates.date_text date) }

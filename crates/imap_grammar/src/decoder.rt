@@ -1,4 +1,4 @@
-// What a response says.
+// What a response says (RFC 9051 sections 7 and 9, RFC 7162 section 3.2.10).
 ghost use Rattle.std.specs.Prelude.{◌≡◌, ◌++◌, List, [], ℕ, IfOk, length, map, drop, Some, bytes_eq, codes};
 ghost use Rattle.imap_syntax.specs.Items.{no_items};
 ghost use Rattle.imap_syntax.specs.Octets as classes;
@@ -16,6 +16,9 @@ use crate::sets::{vanished_in, words_in};
 use gate_world::{Bytes, Names};
 use imap_syntax::{Response, Status};
 use std::alloc::{AllocError, Global};
+
+/// Octets of `FETCH (`.
+const FETCH_OCTETS: usize = 7;
 
 /// The status that a word names.
 #[tactic(auto, unfolding(crate::specs::Reading::status_named))]
@@ -53,13 +56,13 @@ fn begins_with(bytes: &[u8], key: &[u8]) -> bool
     is_key(before(bytes, word_len(bytes)), key)
 }
 
-/// What stands behind `* `, a number and a space.
+/// What stands behind `* `, a number and a space: ("EXISTS" / "EXPUNGE" / "FETCH" SP "(" items) CRLF.
 #[tactic(auto, unfolding(crate::specs::Reading::numbered_in))]
 fn numbered(alloc: Global, seq: u32, bytes: &[u8]) -> Result<Response, AllocError>
     ensures { IfOk result (λ v. v ≡ reading.numbered_in seq bytes.now) }
 {
     if begins_with(bytes, b"fetch") {
-        let items = items_in(alloc, behind(bytes, 7), bytes.len())?;
+        let items = items_in(alloc, behind(bytes, FETCH_OCTETS), bytes.len())?;
         Ok(Response::Fetch { seq, items })
     } else if begins_with(bytes, b"exists") {
         Ok(Response::Exists(seq))
@@ -70,7 +73,8 @@ fn numbered(alloc: Global, seq: u32, bytes: &[u8]) -> Result<Response, AllocErro
     }
 }
 
-/// What a word that names no status says with what follows it.
+/// What a word that names no status says with what follows it: ("CAPABILITY" / "ENABLED") *(SP word),
+/// "FLAGS" SP names, "VANISHED" SP set, "LIST" list, "STATUS" status, each with CRLF.
 #[tactic(auto, unfolding(crate::specs::Reading::told_in))]
 fn told(alloc: Global, word: &[u8], tail: &[u8]) -> Result<Response, AllocError>
     ensures { IfOk result (λ v. v ≡ reading.told_in (map classes.lower word.now) tail.now) }
@@ -93,7 +97,8 @@ fn told(alloc: Global, word: &[u8], tail: &[u8]) -> Result<Response, AllocError>
     }
 }
 
-/// What stands behind `* ` where no number does.
+/// What stands behind `* ` where no number does: ("OK" / "NO" / "BAD" / "PREAUTH" / "BYE") [SP text] CRLF, or what `told`
+/// reads.
 #[tactic(auto, unfolding(crate::specs::Reading::plain_in, crate::specs::Reading::said_in, crate::specs::Reading::word_in))]
 fn plain(alloc: Global, bytes: &[u8]) -> Result<Response, AllocError>
     ensures { IfOk result (λ v. v ≡ reading.plain_in bytes.now) }
@@ -123,6 +128,7 @@ fn untagged(alloc: Global, bytes: &[u8]) -> Result<Response, AllocError>
     }
 }
 
+/// A tagged line: tag SP ("OK" / "NO" / "BAD") [SP text] CRLF.
 #[tactic(auto, unfolding(crate::specs::Reading::tagged_in))]
 fn tagged(alloc: Global, bytes: &[u8]) -> Result<Response, AllocError>
     ensures { IfOk result (λ v. v ≡ reading.tagged_in bytes.now) }
@@ -135,6 +141,7 @@ fn tagged(alloc: Global, bytes: &[u8]) -> Result<Response, AllocError>
     Ok(Response::Tagged { tag, status, code })
 }
 
+/// A response: an untagged one behind `* `, a continuation behind `+`, or a tagged line.
 #[tactic(auto, unfolding(crate::specs::Reading::response_in))]
 fn response(alloc: Global, bytes: &[u8]) -> Result<Response, AllocError>
     ensures { IfOk result (λ v. v ≡ reading.response_in bytes.now) }
@@ -148,7 +155,7 @@ fn response(alloc: Global, bytes: &[u8]) -> Result<Response, AllocError>
     }
 }
 
-/// The value of the octets, which are one whole spelling.
+/// The value of the octets, which are one whole response, as `Scan::Whole` counts them. It fails only for want of memory.
 pub fn decode(alloc: Global, bytes: &[u8]) -> Result<Response, AllocError>
     requires { (v : Response) × IsSpelling v bytes.now }
     ensures spelled { IfOk result (λ r. IsSpelling r bytes.now) }

@@ -1,4 +1,4 @@
-// The flags of a FETCH.
+// Flags: "(" [name *(SP name)] ")" (RFC 9051 section 9, flag-list and mbx-list-flags).
 ghost use Rattle.std.specs.Prelude.{◌≡◌, [], length, map, drop, bytes_eq, codes, IfOk, OnOk};
 ghost use Rattle.imap_syntax.specs.Octets as classes;
 ghost use Rattle.imap_syntax.specs.Items as items;
@@ -9,6 +9,7 @@ use gate_world::{Bytes, Names};
 use std::alloc::{AllocError, Global};
 use std::collections::BTreeSet;
 
+/// The name in lower case.
 fn lowered(alloc: Global, name: &[u8]) -> Result<Vec<u8>, AllocError>
     ensures { IfOk result (λ v. v.items ≡ map classes.lower name.now) }
 {
@@ -70,7 +71,8 @@ fn names_in(alloc: Global, bytes: &[u8]) -> Result<(BTreeSet<Vec<u8>>, &[u8]), A
     Ok((set, rest))
 }
 
-/// The flags in kept form from behind the opening bracket on, and what follows the closing one.
+/// The flags from behind the opening bracket on, and what follows the closing one. They are in lower case, in order, each
+/// once, and without `\recent`.
 #[tactic(auto, unfolding(crate::specs::Spans::flags_in))]
 pub fn flags_in(alloc: Global, bytes: &[u8]) -> Result<(Names, &[u8]), AllocError>
     ensures flags { IfOk result (λ r. r.0 ≡ (reading.flags_in bytes.now).0) }

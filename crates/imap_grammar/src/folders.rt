@@ -1,4 +1,4 @@
-// What LIST and STATUS tell of folders.
+// What LIST and STATUS tell of folders (RFC 9051 sections 7.3.1 and 7.3.3).
 ghost use Rattle.std.specs.Prelude.{◌≡◌, ◌≤◌, IfOk, length, map};
 ghost use Rattle.imap_syntax.specs.Octets as classes;
 ghost use Rattle.imap_syntax.specs.Folders as folders;
@@ -23,7 +23,7 @@ fn folder_name(alloc: Global, name: Bytes) -> Result<Bytes, AllocError>
     }
 }
 
-/// The delimiter at the front, and what follows it.
+/// The delimiter at the front, and what follows it: DQUOTE quoted-char DQUOTE / "NIL".
 #[tactic(auto, unfolding(crate::specs::FolderReading::delimiter_in))]
 fn delimiter_in(bytes: &[u8]) -> (Option<u8>, &[u8])
     ensures delimiter { result.0 ≡ (reading.delimiter_in bytes.now).0 }
@@ -38,7 +38,7 @@ fn delimiter_in(bytes: &[u8]) -> (Option<u8>, &[u8])
     }
 }
 
-/// What a LIST says, from behind its word on.
+/// What a LIST says, from behind its word on: SP names SP (quoted / "NIL") SP astring [SP value] CRLF.
 #[tactic(auto, unfolding(crate::specs::FolderReading::list_in))]
 pub fn list_in(alloc: Global, bytes: &[u8]) -> Result<Response, AllocError>
     ensures { IfOk result (λ v. v ≡ reading.list_in bytes.now) }
@@ -114,7 +114,7 @@ fn told_as(items: StatusItems, word: &[u8], n: u64) -> StatusItems
     }
 }
 
-/// The items with the count at the front, and what follows it.
+/// The items with the count at the front, and what follows it: word SP long.
 #[tactic(auto, unfolding(crate::specs::FolderReading::count_in))]
 fn count_in(so_far: StatusItems, bytes: &[u8]) -> (StatusItems, &[u8])
     ensures items { result.0 ≡ (reading.count_in so_far bytes.now).0 }
@@ -136,7 +136,7 @@ const NO_COUNTS: StatusItems = StatusItems {
     modseq: None,
 };
 
-/// The counts, up to the closing bracket.
+/// The counts, up to the closing bracket: count *(SP count) ")".
 #[tactic(auto, unfolding(crate::specs::FolderReading::counts_in))]
 fn counts_in(bytes: &[u8]) -> StatusItems
     ensures { result ≡ reading.counts_in (length bytes.now) folders.no_counts bytes.now }
@@ -156,6 +156,7 @@ fn counts_in(bytes: &[u8]) -> StatusItems
     items
 }
 
+/// The counts from behind the opening bracket on: [count *(SP count)] ")".
 #[tactic(auto, unfolding(crate::specs::FolderReading::counts_of))]
 fn counts_of(bytes: &[u8]) -> StatusItems
     ensures { result ≡ reading.counts_of bytes.now }
@@ -167,7 +168,7 @@ fn counts_of(bytes: &[u8]) -> StatusItems
     }
 }
 
-/// What a STATUS says, from behind its word on.
+/// What a STATUS says, from behind its word on: SP astring SP "(" [count *(SP count)] ")" CRLF.
 #[tactic(auto, unfolding(crate::specs::FolderReading::status_in))]
 pub fn status_in(alloc: Global, bytes: &[u8]) -> Result<Response, AllocError>
     ensures { IfOk result (λ v. v ≡ reading.status_in bytes.now) }

@@ -1,4 +1,4 @@
-// The items of a FETCH.
+// The items of a FETCH (RFC 9051 section 7.5.2).
 ghost use Rattle.std.specs.Prelude.{◌≡◌, ◌+◌, ◌∷◌, [], IfOk, map, take, drop, Some};
 ghost use Rattle.imap_automaton.specs.ItemRules.{item_start};
 ghost use Rattle.imap_syntax.specs.Items.{no_items, header_limit, body_limit};
@@ -10,12 +10,15 @@ ghost use Rattle.imap_grammar.specs.Passing as passing;
 use crate::date_times::date_in;
 use crate::flags::flags_in;
 use crate::octets::{before, behind, digits_len, is_key, long_of, lower, number_of, octet_at};
-use crate::scanner::marked_by;
+use crate::scanner::{marked_by, skip_inside};
 use crate::strings::{atom_in, atom_len, literal_in, unquoted};
 use gate_world::{Bytes, Names};
 use imap_automaton::{Key, Place, Stack, Sym, advance};
 use imap_syntax::FetchItems;
 use std::alloc::{AllocError, Global};
+
+/// Octets of a date with its quotes.
+const DATE_TIME_OCTETS: usize = 28;
 
 /// Octets that are kept of a header.
 const HEADER_LIMIT: usize = 32_768;
@@ -86,7 +89,8 @@ fn with_body(items: FetchItems, body: Bytes) -> FetchItems
     }
 }
 
-/// The first so many octets of the string at the front, none for NIL, and what follows the string.
+/// The first so many octets of the string at the front, none for NIL, and what follows the string:
+/// "NIL" / quoted / ["~"] literal.
 #[tactic(auto, unfolding(crate::specs::ItemReading::nstring_in, crate::specs::StringReading::astring_in))]
 fn nstring_in(alloc: Global, bytes: &[u8], most: usize) -> Result<(Bytes, &[u8]), AllocError>
     ensures string { IfOk result (λ r. r.0 ≡ take most (reading.nstring_in bytes.now).0) }
@@ -110,6 +114,7 @@ fn nstring_in(alloc: Global, bytes: &[u8], most: usize) -> Result<(Bytes, &[u8])
     Ok((Bytes::copy_of(alloc, before(octets, most))?, rest))
 }
 
+/// Whether an item of this name is a message's header.
 #[tactic(auto, unfolding(crate::specs::ItemReading::is_header))]
 fn is_header(name: &[u8]) -> bool
     ensures { result ≡ reading.is_header (map classes.lower name.now) }
@@ -117,6 +122,7 @@ fn is_header(name: &[u8]) -> bool
     is_key(name, b"body[header]") || is_key(name, b"body[header]<0>")
 }
 
+/// Whether an item of this name is a whole message.
 #[tactic(auto, unfolding(crate::specs::ItemReading::is_body))]
 fn is_body(name: &[u8]) -> bool
     ensures { result ≡ reading.is_body (map classes.lower name.now) }
@@ -177,7 +183,7 @@ fn told_flags<'a>(
     Ok((with_flags(so_far, flags), rest))
 }
 
-/// The value of an item that has octets or flags, and what follows it.
+/// The value of an item that has octets or flags, and what follows it: nstring / names.
 #[tactic(auto, unfolding(crate::specs::ItemReading::text_in))]
 fn text_in<'a>(
     alloc: Global,
@@ -197,7 +203,8 @@ fn text_in<'a>(
     }
 }
 
-/// The value of an item of this name, and what follows it.
+/// The value of an item of this name, and what follows it: nz for UID, "(" long ")" for MODSEQ, long for RFC822.SIZE,
+/// date-time for INTERNALDATE, or what `text_in` reads.
 #[tactic(auto, unfolding(crate::specs::ItemReading::value_in))]
 fn value_in<'a>(
     alloc: Global,
@@ -222,7 +229,7 @@ fn value_in<'a>(
         let size = long_of(before(value, n));
         Ok((with_size(so_far, size), behind(value, n)))
     } else if is_key(name, b"internaldate") {
-        Ok((with_date(so_far, date_in(value)), behind(value, 28)))
+        Ok((with_date(so_far, date_in(value)), behind(value, DATE_TIME_OCTETS)))
     } else {
         text_in(alloc, so_far, name, value)
     }
@@ -233,19 +240,24 @@ fn passed(bytes: &[u8]) -> usize
     ensures { result ≡ passing.passed bytes.now (item_start ∷ []) }
 {
     let mut stack = Stack::of(Sym::Word(Place::Item, Key::Uid, 0));
-    for (i, octet) in bytes.iter().enumerate() {
+    let mut rest = bytes;
+    'passing: loop {
+        let octets = skip_inside(&mut stack, rest);
+        let Some((octet, after)) = octets.split_first() else {
+            return bytes.len();
+        };
         let marked = marked_by(stack.is_inside(), *octet);
         if !advance(&mut stack, marked) {
-            return i;
+            return bytes.len() - octets.len();
         }
         if stack.is_empty() {
-            return i + 1;
+            return bytes.len() - after.len();
         }
+        rest = after;
     }
-    bytes.len()
 }
 
-/// The item at the front, and what follows it.
+/// The item at the front, and what follows it: name SP value. One whose name isn't told is passed over.
 #[tactic(auto, unfolding(crate::specs::ItemReading::item_in))]
 fn item_in(
     alloc: Global,
@@ -264,7 +276,8 @@ fn item_in(
     }
 }
 
-/// The items, up to the closing bracket.
+/// What the items up to the closing bracket tell, at most so many: item *(SP item) ")". A later item takes the place
+/// of an earlier one of its name.
 #[tactic(auto, unfolding(crate::specs::ItemReading::items_in))]
 pub fn items_in(alloc: Global, bytes: &[u8], most: usize) -> Result<FetchItems, AllocError>
     ensures { IfOk result (λ items. items ≡ reading.items_in most no_items bytes.now) }

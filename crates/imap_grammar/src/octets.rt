@@ -40,6 +40,7 @@ fn is_word(c: u8) -> bool
     33 <= c && c <= 126
 }
 
+/// Whether the octet is a decimal digit.
 pub fn is_digit(c: u8) -> bool
     ensures { result ≡ classes.is_digit c }
 {
@@ -52,13 +53,14 @@ fn in_name(c: u8) -> bool
     c != b' ' && c != b')'
 }
 
+/// The octet, an upper case letter in lower case.
 pub fn lower(c: u8) -> u8
     ensures { result ≡ classes.lower c }
 {
     if b'A' <= c && c <= b'Z' { c + 32 } else { c }
 }
 
-/// How many octets of a word stand at the front.
+/// How many octets of a word, 33 to 126, stand at the front.
 #[tactic(auto, using(crate::proofs::SpanLemmas::spans))]
 pub fn word_len(bytes: &[u8]) -> usize
     ensures count { result ≡ reading.span classes.is_word bytes.now }
@@ -72,7 +74,7 @@ pub fn word_len(bytes: &[u8]) -> usize
     bytes.len()
 }
 
-/// How many octets of a tag, an item's name or a flag stand at the front.
+/// How many octets of a tag or a flag, up to a space or `)`, stand at the front.
 #[tactic(auto, using(crate::proofs::SpanLemmas::spans))]
 pub fn name_len(bytes: &[u8]) -> usize
     ensures count { result ≡ reading.span reading.in_name bytes.now }
@@ -174,7 +176,7 @@ fn is_few(word: &[u8], most: usize) -> bool
     0 < word.len() && word.len() <= most
 }
 
-/// Whether the word is of at most so many digits.
+/// Whether the word is of digits, at least one and at most so many.
 pub fn is_decimal(word: &[u8], most: usize) -> bool
     ensures { result ≡ (nat_lt 0 (length word.now) && nat_le (length word.now) most && reading.all_digits word.now) }
 {
@@ -187,7 +189,7 @@ fn is_small(word: &[u8]) -> bool
     count_of(word) <= u32::MAX as u64
 }
 
-/// Whether the word is a number.
+/// Whether the word is a number: one to ten digits, and at most 2^32 - 1.
 #[tactic(auto, unfolding(crate::specs::Reading::is_sequence))]
 pub fn is_sequence(word: &[u8]) -> bool
     ensures { result ≡ reading.is_sequence word.now }
@@ -195,7 +197,7 @@ pub fn is_sequence(word: &[u8]) -> bool
     is_decimal(word, 10) && is_small(word)
 }
 
-/// Whether the word, whatever the case of its letters, is the key.
+/// Whether the word, whatever the case of its letters, is the key, which is in lower case.
 pub fn is_key(word: &[u8], key: &[u8]) -> bool
     ensures { result ≡ bytes_eq (map classes.lower word.now) key.now }
 {

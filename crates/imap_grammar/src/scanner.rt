@@ -1,11 +1,11 @@
-// Where a response ends.
+// Where a response ends (RFC 9051 section 9).
 use crate::answer::Scan;
 use imap_automaton::{Line, Stack, Sym, advance};
 
 /// Octets that may stand outside literals in one response.
 pub const LIMIT: u32 = 8_388_608;
 
-/// Reads one response in pieces.
+/// Finds the end of one response, which comes in pieces.
 #[derive(Clone, Copy)]
 pub struct Scanner {
     stack: Stack,
@@ -13,8 +13,11 @@ pub struct Scanner {
     taken: usize,
 }
 
-ghost use Rattle.std.specs.Prelude.{◌≡◌, ◌+◌, if◌then◌else◌};
+ghost use Rattle.std.specs.Prelude.{◌≡◌, ◌+◌, ◌-◌, if◌then◌else◌, drop, length, min};
+ghost use Rattle.imap_automaton.specs.Run.{inside_left, skipped};
+ghost use Rattle.imap_automaton.specs.Symbols.{symbols_of};
 
+/// What an octet counts against the limit.
 fn cost_of(inside: bool) -> u32
     ensures { result ≡ (if inside then 0 else 1) }
 {
@@ -32,12 +35,28 @@ pub fn marked_by(inside: bool, octet: u8) -> u16
     }
 }
 
+/// Takes the octets of the literal at hand, but for its last: what follows them.
+pub fn skip_inside<'a>(stack: &mut Stack, octets: &'a [u8]) -> &'a [u8]
+    ensures rest { result.now ≡ drop (inside_left (symbols_of stack.old) - 1) octets.now }
+    ensures symbols { symbols_of stack.new ≡ skipped (min (inside_left (symbols_of stack.old) - 1) (length octets.now)) (symbols_of stack.old) }
+{
+    let left = stack.inside_left();
+    if left <= 1 {
+        return octets;
+    }
+    let count = octets.len().min(left as usize - 1);
+    let (_, rest) = octets.split_at(count);
+    stack.skip(count as u32);
+    rest
+}
+
 impl Scanner {
     ghost use Rattle.std.specs.Prelude.{List, [], ◌∷◌, ◌++◌, ℕ};
     ghost use Rattle.imap_grammar.specs.declared.answer.Scan.TheVariants.{NeedMore};
     ghost use Rattle.imap_grammar.specs.Scan.{ScanOf};
     ghost use Rattle.imap_grammar.specs.Fed.{Fed, FedUpTo, Takes};
 
+    /// A scanner that was fed nothing.
     pub fn new() -> Scanner
         ensures { Fed result [] }
     {
@@ -48,6 +67,7 @@ impl Scanner {
         }
     }
 
+    /// Takes one octet more.
     fn take(&mut self, octet: u8) -> Scan
         requires { (b : List ℕ) × Fed self.old b }
         ensures { (b : List ℕ) → Fed self.old b → Takes self.new b octet result }
@@ -73,16 +93,11 @@ impl Scanner {
     /// Takes the octets of the literal at hand, but for its last: what follows them.
     fn skip<'a>(&mut self, octets: &'a [u8]) -> &'a [u8]
         requires { (b : List ℕ) × Fed self.old b }
-        ensures { (b : List ℕ) → Fed self.old b → FedUpTo self.new b octets.now result.now }
+        ensures fed { (b : List ℕ) → Fed self.old b → FedUpTo self.new b octets.now result.now }
+        ensures rest { result.now ≡ drop (inside_left (symbols_of self.old.stack) - 1) octets.now }
     {
-        let left = self.stack.inside_left();
-        if left <= 1 {
-            return octets;
-        }
-        let count = octets.len().min(left as usize - 1);
-        let (_, rest) = octets.split_at(count);
-        self.stack.skip(count as u32);
-        self.taken += count;
+        let rest = skip_inside(&mut self.stack, octets);
+        self.taken += octets.len() - rest.len();
         rest
     }
 

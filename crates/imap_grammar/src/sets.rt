@@ -9,7 +9,10 @@ use gate_world::{Bytes, Listed, Names};
 use imap_syntax::{Response, UidRange, UidSet};
 use std::alloc::{AllocError, Global};
 
-/// The words, each behind a space.
+/// Octets of `(EARLIER) `.
+const EARLIER_OCTETS: usize = 10;
+
+/// The words, each behind a space: *(SP word).
 #[tactic(auto, using(crate::proofs::SetReadings::words))]
 pub fn words_in(alloc: Global, bytes: &[u8]) -> Result<Names, AllocError>
     ensures { IfOk result (λ names. names ≡ reading.words_in (length bytes.now) bytes.now) }
@@ -30,6 +33,7 @@ pub fn words_in(alloc: Global, bytes: &[u8]) -> Result<Names, AllocError>
     Ok(names)
 }
 
+/// The range between two numbers, in whatever order.
 pub fn range_of(first: u32, second: u32) -> UidRange
     ensures { result ≡ range_of first second }
 {
@@ -46,7 +50,7 @@ pub fn range_of(first: u32, second: u32) -> UidRange
     }
 }
 
-/// A range, and what follows it.
+/// A range, and what follows it: nz [":" nz].
 #[tactic(auto, unfolding(crate::specs::Reading::range_in))]
 fn range_in(bytes: &[u8]) -> (UidRange, &[u8])
     ensures range { result.0 ≡ (reading.range_in bytes.now).0 }
@@ -67,7 +71,7 @@ fn range_in(bytes: &[u8]) -> (UidRange, &[u8])
     }
 }
 
-/// The ranges, each but the first behind a comma.
+/// At most so many ranges, each but the first behind a comma: range *("," range).
 #[tactic(auto, using(crate::proofs::SetReadings::ranges))]
 fn ranges_in(alloc: Global, bytes: &[u8], most: usize) -> Result<Vec<UidRange>, AllocError>
     ensures { IfOk result (λ ranges. ranges.items ≡ reading.ranges_in most bytes.now) }
@@ -98,13 +102,13 @@ fn vanished(earlier: bool, ranges: Vec<UidRange>) -> Response
     }
 }
 
-/// What stands behind the space after VANISHED.
+/// What stands behind the space after VANISHED: ["(EARLIER)" SP] set CRLF (RFC 7162 section 3.2.10).
 #[tactic(auto, unfolding(crate::specs::Reading::vanished_in))]
 pub fn vanished_in(alloc: Global, bytes: &[u8]) -> Result<Response, AllocError>
     ensures { IfOk result (λ v. v ≡ reading.vanished_in bytes.now) }
 {
     if octet_at(bytes, 0) == b'(' {
-        let ranges = ranges_in(alloc, behind(bytes, 10), bytes.len())?;
+        let ranges = ranges_in(alloc, behind(bytes, EARLIER_OCTETS), bytes.len())?;
         Ok(vanished(true, ranges))
     } else {
         let ranges = ranges_in(alloc, bytes, bytes.len())?;

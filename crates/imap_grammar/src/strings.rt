@@ -1,4 +1,4 @@
-// Strings at the front of octets.
+// Strings at the front of octets (RFC 9051 sections 4.3 and 9).
 ghost use Rattle.std.specs.Prelude.{◌≡◌, ◌≤◌, IfOk, length, true, false};
 ghost use Rattle.imap_syntax.specs.Octets as classes;
 ghost use Rattle.imap_grammar.specs.Spans as spans;
@@ -28,7 +28,7 @@ pub fn atom_len(bytes: &[u8]) -> usize
     bytes.len()
 }
 
-/// The text of a quoted one from behind its opening quote on, and what follows the closing one.
+/// The text from behind the opening quote on, and what follows the closing one: *quoted-char DQUOTE.
 pub fn unquoted(alloc: Global, bytes: &[u8]) -> Result<(Vec<u8>, &[u8]), AllocError>
     ensures text { IfOk result (λ r. r.0.items ≡ (reading.unquoted false bytes.now).0) }
     ensures rest { IfOk result (λ r. r.1.now ≡ (reading.unquoted false bytes.now).1) }
@@ -50,7 +50,7 @@ pub fn unquoted(alloc: Global, bytes: &[u8]) -> Result<(Vec<u8>, &[u8]), AllocEr
     Ok((text, &[]))
 }
 
-/// The octets of a literal from behind its opening brace on, and what follows them.
+/// The octets of a literal from behind its opening brace on, and what follows them: 1*8digit "}" CRLF *octet.
 #[tactic(auto, unfolding(crate::specs::StringReading::literal_in))]
 pub fn literal_in(bytes: &[u8]) -> (&[u8], &[u8])
     ensures octets { result.0.now ≡ (reading.literal_in bytes.now).0 }
@@ -62,6 +62,7 @@ pub fn literal_in(bytes: &[u8]) -> (&[u8], &[u8])
     (before(octets, count), behind(octets, count))
 }
 
+/// The atom at the front, and what follows it.
 #[tactic(auto, unfolding(crate::specs::StringReading::atom_in))]
 pub fn atom_in(bytes: &[u8]) -> (&[u8], &[u8])
     ensures atom { result.0.now ≡ (reading.atom_in bytes.now).0 }
@@ -71,7 +72,7 @@ pub fn atom_in(bytes: &[u8]) -> (&[u8], &[u8])
     (before(bytes, n), behind(bytes, n))
 }
 
-/// The atom, quoted text or literal at the front, and what follows it.
+/// The string at the front, and what follows it: atom / quoted / ["~"] literal.
 #[tactic(auto, unfolding(crate::specs::StringReading::astring_in))]
 pub fn astring_in(alloc: Global, bytes: &[u8]) -> Result<(Bytes, &[u8]), AllocError>
     ensures string { IfOk result (λ r. r.0 ≡ (reading.astring_in bytes.now).0) }

@@ -1,59 +1,48 @@
-use Rattle.std.proofs.Common.{◌≡◌, ◌∙◌, Bool, true, get_or, cond, Some, None, ap, arith}
+use Rattle.std.proofs.Common.{◌≡◌, ◌∙◌, Bool, true, cond, Some, None, ap}
 use Rattle.imap_automaton.specs.Run.{step, mark}
 use Rattle.imap_automaton.specs.Symbols.{symbols_of}
 use Rattle.imap_automaton.proofs.Tests.{both}
-use Rattle.imap_automaton.proofs.Whole.{keeps, room_keeps, good_fits}
-use Rattle.imap_grammar.proofs.PassingReadings.{passed_end, not_taken, taken_on, taken_last, marked_step}
+use Rattle.imap_automaton.proofs.Whole.{good_fits}
+use Rattle.imap_grammar.proofs.PassingReadings.{marked_step, skip_to, passed_all, passed_before, passed_with, passed_on}
 use Rattle.imap_grammar.proofs.items.passed.Goals as goal
 
+pub returns-in_default : goal.returns-in_default
+returns-in_default c =
+    let ss = symbols_of c.skip_inside-octets.new.stack in
+    let at = skip_to c.args.bytes.now c.passing.rest.now c.skip_inside-octets.result.now (symbols_of c.passing.stack) ss c.passing.invariant c.skip_inside-octets.ensures.rest c.skip_inside-octets.ensures.symbols in
+    passed_all c.args.bytes.now c.skip_inside-octets.result.now ss at c.in_default.ensures.cases
+
 pub advance-requires : goal.advance-requires
-advance-requires c = (good_fits true (symbols_of c.loop-i.stack) c.loop-i.invariant.good, c.loop-i.invariant.room)
+advance-requires c =
+    let ss = symbols_of c.skip_inside-octets.new.stack in
+    let at = skip_to c.args.bytes.now c.passing.rest.now c.skip_inside-octets.result.now (symbols_of c.passing.stack) ss c.passing.invariant c.skip_inside-octets.ensures.rest c.skip_inside-octets.ensures.symbols in
+    (good_fits true ss at.good, at.room)
 
 pub returns-then-not-advance : goal.returns-then-not-advance
 returns-then-not-advance c =
-    let b = c.args.bytes.now in
-    let i = c.loop-i.i in
-    let ss = symbols_of c.loop-i.stack in
-    let e = marked_step ss (get_or b i 0) c.is_inside.result c.marked_by-marked.result c.advance.result (Some (symbols_of c.advance.new.stack)) c.is_inside.ensures c.marked_by-marked.ensures c.advance.ensures in
-    let none : step ss (mark ss (get_or b i 0)) ≡ None = e ∙ ap (λ (q : Bool). cond q (Some (symbols_of c.advance.new.stack)) None) c.if-not-advance.true in
-    let zero = not_taken b i ss c.loop-i-test.true none in
-    let same = c.loop-i.invariant.same in
-    omega (arith, zero, same)
+    let ss = symbols_of c.skip_inside-octets.new.stack in
+    let octet = c.in-Some.octet.now in
+    let at = skip_to c.args.bytes.now c.passing.rest.now c.skip_inside-octets.result.now (symbols_of c.passing.stack) ss c.passing.invariant c.skip_inside-octets.ensures.rest c.skip_inside-octets.ensures.symbols in
+    let e = marked_step ss octet c.is_inside.result c.marked_by-marked.result c.advance.result (Some (symbols_of c.advance.new.stack)) c.is_inside.ensures c.marked_by-marked.ensures c.advance.ensures in
+    let none : step ss (mark ss octet) ≡ None = e ∙ ap (λ (q : Bool). cond q (Some (symbols_of c.advance.new.stack)) None) c.if-not-advance.true in
+    passed_before c.args.bytes.now c.skip_inside-octets.result.now c.in-Some.after.now octet ss at c.in-Some.ensures.cases.0 none
 
 pub returns-then-is_empty : goal.returns-then-is_empty
 returns-then-is_empty c =
-    let b = c.args.bytes.now in
-    let i = c.loop-i.i in
-    let ss = symbols_of c.loop-i.stack in
+    let ss = symbols_of c.skip_inside-octets.new.stack in
     let left = symbols_of c.advance.new.stack in
-    let e = marked_step ss (get_or b i 0) c.is_inside.result c.marked_by-marked.result c.advance.result (Some left) c.is_inside.ensures c.marked_by-marked.ensures c.advance.ensures in
-    let some : step ss (mark ss (get_or b i 0)) ≡ Some left = e ∙ ap (λ (q : Bool). cond q (Some left) None) c.if-not-advance.false in
-    let one = taken_last b i ss left c.loop-i-test.true some (c.is_empty.ensures.0 c.if-is_empty.true) in
-    let same = c.loop-i.invariant.same in
-    omega (arith, one, same)
+    let octet = c.in-Some.octet.now in
+    let at = skip_to c.args.bytes.now c.passing.rest.now c.skip_inside-octets.result.now (symbols_of c.passing.stack) ss c.passing.invariant c.skip_inside-octets.ensures.rest c.skip_inside-octets.ensures.symbols in
+    let e = marked_step ss octet c.is_inside.result c.marked_by-marked.result c.advance.result (Some left) c.is_inside.ensures c.marked_by-marked.ensures c.advance.ensures in
+    let some : step ss (mark ss octet) ≡ Some left = e ∙ ap (λ (q : Bool). cond q (Some left) None) c.if-not-advance.false in
+    passed_with c.args.bytes.now c.skip_inside-octets.result.now c.in-Some.after.now octet ss left at c.in-Some.ensures.cases.0 some (c.is_empty.ensures.0 c.if-is_empty.true)
 
-pub loop-i-preserved : goal.loop-i-preserved
-loop-i-preserved c =
-    let b = c.args.bytes.now in
-    let i = c.loop-i.i in
-    let ss = symbols_of c.loop-i.stack in
+pub passing-preserved : goal.passing-preserved
+passing-preserved c =
+    let ss = symbols_of c.skip_inside-octets.new.stack in
     let left = symbols_of c.advance.new.stack in
-    let good = c.loop-i.invariant.good in
-    let e = marked_step ss (get_or b i 0) c.is_inside.result c.marked_by-marked.result c.advance.result (Some left) c.is_inside.ensures c.marked_by-marked.ensures c.advance.ensures in
-    let some : step ss (mark ss (get_or b i 0)) ≡ Some left = e ∙ ap (λ (q : Bool). cond q (Some left) None) c.if-not-advance.false in
-    let more = taken_on b i ss left c.loop-i-test.true some (λ n. both c.is_empty.result (c.is_empty.ensures.1 n) c.if-is_empty.false) in
-    let same = c.loop-i.invariant.same in
-    record {
-      good = keeps true ss (mark ss (get_or b i 0)) left good some;
-      room = room_keeps ss (mark ss (get_or b i 0)) left (good_fits true ss good) c.loop-i.invariant.room some;
-      same = omega (arith, more, same);
-    }
-
-pub returns : goal.returns
-returns c =
-    let b = c.args.bytes.now in
-    let i = c.loop-i.i in
-    let zero = passed_end b i (symbols_of c.loop-i.stack) c.loop-i-test.false in
-    let same = c.loop-i.invariant.same in
-    let most = c.loop-i.auto.i-end in
-    omega (arith, zero, same, most, c.loop-i-test.false)
+    let octet = c.in-Some.octet.now in
+    let at = skip_to c.args.bytes.now c.passing.rest.now c.skip_inside-octets.result.now (symbols_of c.passing.stack) ss c.passing.invariant c.skip_inside-octets.ensures.rest c.skip_inside-octets.ensures.symbols in
+    let e = marked_step ss octet c.is_inside.result c.marked_by-marked.result c.advance.result (Some left) c.is_inside.ensures c.marked_by-marked.ensures c.advance.ensures in
+    let some : step ss (mark ss octet) ≡ Some left = e ∙ ap (λ (q : Bool). cond q (Some left) None) c.if-not-advance.false in
+    passed_on c.args.bytes.now c.skip_inside-octets.result.now c.in-Some.after.now octet ss left at c.in-Some.ensures.cases.0 some (λ n. both c.is_empty.result (c.is_empty.ensures.1 n) c.if-is_empty.false)

@@ -7,14 +7,14 @@ pub returns-in_default-clause-scan : goal.returns-in_default-clause-scan
 returns-in_default-clause-scan c = λ b f.
     let here = c.feeding.invariant b f in
     let s = c.skip-octets.new.self in
-    let at = up_to c.feeding.self s b c.args.piece.now c.feeding.rest.now c.skip-octets.result.now here (c.skip-octets.ensures (b ++ here.front) here.fed) in
+    let at = up_to c.feeding.self s b c.args.piece.now c.feeding.rest.now c.skip-octets.result.now here (c.skip-octets.ensures.fed (b ++ here.front) here.fed) in
     fed_proper s (b ++ c.args.piece.now) (all_fed s b c.args.piece.now c.skip-octets.result.now at c.in_default.ensures.cases)
 
 pub returns-in_default-clause-more : goal.returns-in_default-clause-more
 returns-in_default-clause-more c = λ b f e.
     let here = c.feeding.invariant b f in
     let s = c.skip-octets.new.self in
-    let at = up_to c.feeding.self s b c.args.piece.now c.feeding.rest.now c.skip-octets.result.now here (c.skip-octets.ensures (b ++ here.front) here.fed) in
+    let at = up_to c.feeding.self s b c.args.piece.now c.feeding.rest.now c.skip-octets.result.now here (c.skip-octets.ensures.fed (b ++ here.front) here.fed) in
     all_fed s b c.args.piece.now c.skip-octets.result.now at c.in_default.ensures.cases
 
 pub returns-in_default-answer : goal.returns-in_default-answer
@@ -23,7 +23,7 @@ returns-in_default-answer c =
       scan = λ b f.
           let here = c.feeding.invariant b f in
           let s = c.skip-octets.new.self in
-          let at = up_to c.feeding.self s b c.args.piece.now c.feeding.rest.now c.skip-octets.result.now here (c.skip-octets.ensures (b ++ here.front) here.fed) in
+          let at = up_to c.feeding.self s b c.args.piece.now c.feeding.rest.now c.skip-octets.result.now here (c.skip-octets.ensures.fed (b ++ here.front) here.fed) in
           let piece = at.whole ∙ ap (λ (u : List ℕ). at.front ++ u) c.in-Some.ensures.cases.0 in
           answered b c.args.piece.now at.front c.in-Some.after.now c.in-Some.octet.now s c.take-answer.new.self c.take-answer.result piece at.fed (c.take-answer.ensures (b ++ at.front) at.fed) c.in_default-answer.not-NeedMore;
       more = λ b f e. absurd (c.in_default-answer.not-NeedMore e);
@@ -33,5 +33,5 @@ pub feeding-preserved : goal.feeding-preserved
 feeding-preserved c = λ b f.
     let here = c.feeding.invariant b f in
     let s = c.skip-octets.new.self in
-    let at = up_to c.feeding.self s b c.args.piece.now c.feeding.rest.now c.skip-octets.result.now here (c.skip-octets.ensures (b ++ here.front) here.fed) in
+    let at = up_to c.feeding.self s b c.args.piece.now c.feeding.rest.now c.skip-octets.result.now here (c.skip-octets.ensures.fed (b ++ here.front) here.fed) in
     up_to s c.take-answer.new.self b c.args.piece.now c.skip-octets.result.now c.in-Some.after.now at (next_fed c.take-answer.new.self b at.front c.skip-octets.result.now c.in-Some.after.now c.in-Some.octet.now c.in-Some.ensures.cases.0 (c.in-NeedMore.ensures (b ++ at.front) at.fed))
