@@ -13,6 +13,9 @@ pub struct Scanner {
     taken: usize,
 }
 
+// A few hundred octets, however deep values are nested and however long literals are.
+const _: () = prove!(size_of::<Scanner>() <= 256);
+
 ghost use Rattle.std.specs.Prelude.{◌≡◌, ◌+◌, if◌then◌else◌};
 
 fn cost_of(inside: bool) -> u32
