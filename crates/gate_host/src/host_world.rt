@@ -1,6 +1,6 @@
 // The world of the gateway on a real host.
-ghost use Rattle.std.specs.Prelude.{◌≡◌, ◌<◌, ◌≤◌, not, true, length, take, None, IsSome, IsNone, IsErr, IsOk, IfOk, OnOk, OnErr};
-ghost use Rattle.std.specs.Io.KnownBytes.{Appends, Consumes, ReadConsumes};
+ghost use Rattle.std.specs.Prelude.{◌≡◌, ◌<◌, ◌≤◌, not, true, false, length, take, None, IsSome, IsNone, IsErr, IsOk, IfOk, OnOk, OnErr};
+ghost use Rattle.std.specs.Io.KnownBytes.{Appends, Consumes, ReadConsumes, WriteAppends};
 ghost use Rattle.gate_host.specs.Faults.{one_more};
 ghost use Rattle.gate_host.specs.Streams.{known_of};
 
@@ -23,6 +23,8 @@ impl<H: Host> HostWorld<H> {
     pub fn new(host: H, store: Text, password: Bytes, token: Bytes) -> HostWorld<H>
         ensures faults { ⟦<HostWorld<H> as Taped>⟧.faults result ≡ record { link = 0; keep = 0; front = 0; say = 0 } }
         ensures hidden { ⟦<HostWorld<H> as Taped>⟧.hidden result ≡ record { password = password; token = token } }
+        ensures undialed { IsNone result.link.stream }
+        ensures no_client { result.front.has_come ≡ false }
     {
         HostWorld {
             host,
@@ -106,7 +108,7 @@ impl<H: Host> Front for HostWorld<H> {
 
     fn send(&mut self, from: &[u8]) -> Result<usize, Failed>
         ensures bound { IfOk result (λ n. (0 < n) × (n ≤ length from.now)) }
-        ensures octets { IfOk result (λ n. Appends (H.Output.contents self.old.front.output) (H.Output.contents self.new.front.output) (take n from.now)) }
+        ensures octets { WriteAppends (H.Output.contents self.old.front.output) (H.Output.contents self.new.front.output) result from.now }
         ensures ok { OnOk result (self.new ≡ record self.old { front = record self.old.front { output = self.new.front.output } }) }
         ensures err { OnErr result (self.new ≡ record self.old { front = record self.old.front { output = self.new.front.output; faults = one_more self.old.front.faults } }) }
         ensures later { self.old.front.faults ≤ self.new.front.faults }

@@ -1,6 +1,6 @@
 // One client, over an input and an output.
 ghost use Rattle.std.specs.Prelude.{◌≡◌, ◌<◌, ◌≤◌, ◌↔◌, length, take, false, true, IsTrue, IfOk, OnOk, OnErr};
-ghost use Rattle.std.specs.Io.KnownBytes.{Appends, Keeps, ReadConsumes};
+ghost use Rattle.std.specs.Io.KnownBytes.{Keeps, ReadConsumes, WriteAppends};
 ghost use Rattle.gate_host.specs.Faults.{one_more};
 
 use crate::faults::raised;
@@ -62,10 +62,10 @@ impl<I: Read + Drop, O: Write + Drop> StandardFront<I, O> {
         }
     }
 
-    /// Gives the client some of the octets, from their front.
+    /// Gives the client some of the octets, from their front. Where it fails, none of them.
     pub fn send(&mut self, from: &[u8]) -> Result<usize, Failed>
         ensures bound { IfOk result (λ n. (0 < n) × (n ≤ length from.now)) }
-        ensures octets { IfOk result (λ n. Appends (O.contents self.old.output) (O.contents self.new.output) (take n from.now)) }
+        ensures octets { WriteAppends (O.contents self.old.output) (O.contents self.new.output) result from.now }
         ensures ok { OnOk result (self.new ≡ record self.old { output = self.new.output }) }
         ensures err { OnErr result (self.new ≡ record self.old { output = self.new.output; faults = one_more self.old.faults }) }
         ensures later { self.old.faults ≤ self.new.faults }

@@ -1,7 +1,7 @@
 // One read or one write of a stream, repeated where a signal broke in.
-ghost use Rattle.std.specs.Prelude.{◌≢◌, ◌<◌, ◌≤◌, length, take, IfOk, IfErr, IfSome};
+ghost use Rattle.std.specs.Prelude.{◌≢◌, ◌<◌, ◌≤◌, length, take, IfOk, IfErr, IfSome, IfNone};
 ghost use Rattle.std.specs.IoError.{error_kind};
-ghost use Rattle.std.specs.Io.KnownBytes.{Appends, Consumes, ReadConsumes, WriteAppends};
+ghost use Rattle.std.specs.Io.KnownBytes.{Appends, Consumes, Keeps, ReadConsumes, WriteAppends};
 
 use std::io;
 use std::io::{ErrorKind, Read, Write};
@@ -58,6 +58,7 @@ pub(crate) fn read_some<R: Read>(stream: &mut R, into: &mut [u8]) -> Option<usiz
 pub(crate) fn write_some<W: Write>(stream: &mut W, from: &[u8]) -> Option<usize>
     ensures bound { IfSome result (λ n. (0 < n) × (n ≤ length from.now)) }
     ensures octets { IfSome result (λ n. Appends (W.contents stream.old) (W.contents stream.new) (take n from.now)) }
+    ensures none { IfNone result (Keeps (W.contents stream.old) (W.contents stream.new)) }
 {
     match write_once(stream, from) {
         Ok(0) => None,

@@ -13,6 +13,9 @@ pub struct Scanner {
     taken: usize,
 }
 
+// A few hundred octets, however deep values are nested and however long literals are.
+const _: () = prove!(size_of::<Scanner>() <= 256);
+
 ghost use Rattle.std.specs.Prelude.{◌≡◌, ◌+◌, ◌-◌, if◌then◌else◌, drop, length, min};
 ghost use Rattle.imap_automaton.specs.Run.{inside_left, skipped};
 ghost use Rattle.imap_automaton.specs.Symbols.{symbols_of};
