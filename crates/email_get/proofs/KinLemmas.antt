@@ -4,7 +4,8 @@ use Rattle.std.specs.Prelude.{slice_get, is_some}
 use Rattle.mime_tree.specs.declared.part.Part.{Part, out-Part}
 use Rattle.mime_tree.specs.Parts.{children}
 use Rattle.mime_tree.specs.Roles.{leaf_number}
-use Rattle.mime_tree.specs.SameTrees.{AllSame, SamePart, NoPart, Same}
+use Rattle.mime_tree.specs.SameTrees.{AllSame, SamePart, Same}
+use Rattle.mime_tree.proofs.SameWalks.{below, same_below}
 use Rattle.email_get.specs.Leaves.{AreLeaves, End, Leaf, Multi}
 use Rattle.email_get.proofs.LeafLemmas.{FirstLeaf, FirstMulti, cases, AreFrom, AllIn, place}
 
@@ -29,21 +30,6 @@ kin : (more : ℕ) (p q : Part) → Same more p q → Kin p q
 unfolding Same
 kin zero p q s = kin_of s
 kin (suc more) p q s = kin_of s
-
-below : ℕ → ℕ
-below zero = zero
-below (suc more) = more
-
-no_part : (c d : List Part) → AllSame NoPart c d → AllSame (Same zero) c d
-no_part [] [] none = tt
-no_part [] (q ∷ d) none = absurd none
-no_part (p ∷ c) [] none = absurd none
-no_part (p ∷ c) (q ∷ d) (none, rest) = absurd none
-
-same_below : (more : ℕ) (p q : Part) → Same more p q → AllSame (Same (below more)) (children p) (children q)
-unfolding Same below
-same_below zero p q s = no_part (children p) (children q) s.children
-same_below (suc more) p q s = s.children
 
 kin_both : (a b c d : List Part) → AllSame Kin a c → AllSame Kin b d → AllSame Kin (a ++ b) (c ++ d)
 kin_both [] b [] d none rest = rest

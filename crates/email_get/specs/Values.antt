@@ -1,8 +1,8 @@
 -- What the text of a part is (RFC 8621 section 4.1.4, EmailBodyValue).
 use Rattle.std.specs.Prelude.{◌≡◌, ℕ, Bool, ◌&&◌, ◌||◌, ◌==◌, if◌then◌else◌, List, [], ◌∷◌, ◌++◌, unwrap_or}
+use Rattle.text_words.specs.LineEnds.{begins_with_lf}
 use Rattle.header_words.specs.Charsets.{charset_of, text_in, has_problem_in}
 use Rattle.header_words.specs.declared.charset.Charset.{Charset}
-use Rattle.mail_header.specs.Lines.{begins_with_lf}
 use Rattle.mime_tree.specs.declared.part.Part.{Part, out-Part}
 use Rattle.mime_tree.specs.Bodies.{HasOctets}
 use Rattle.mime_tree.specs.Heads.{us_ascii}

@@ -8,10 +8,10 @@ ghost use Rattle.email_get.specs.BodyValues.{value_data};
 
 use crate::texts::text_value;
 use header_words::decode_charset;
-use mail_header::lines::begins_with_lf;
 use mime_tree::Part;
 use serde_json::{Value, json};
 use std::alloc::{AllocError, Global};
+use text_words::begins_with_lf;
 
 /// A text in UTF-8, and whether what spelled it has a problem.
 #[derive(Drop)]

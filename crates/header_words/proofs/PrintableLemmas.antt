@@ -1,20 +1,22 @@
 -- Pieces of quoted-printable are read as they are spelled.
-use Rattle.std.proofs.Common.{◌≡◌, ◌≢◌, ℕ, zero, suc, ◌+◌, ◌<◌, Bool, true, false, ◌||◌, ◌&&◌, List, [], ◌∷◌, ◌++◌, length, drop, cond, refl, sym, ap, ◌∙◌, subst, append_assoc, Option, Some, None, eqb, eqb-true, arith}
+use Rattle.std.proofs.Common.{◌≡◌, ◌≢◌, ℕ, zero, suc, ◌+◌, ◌<◌, Bool, true, false, ◌||◌, List, [], ◌∷◌, ◌++◌, length, drop, cond, refl, sym, ap, ◌∙◌, subst, append_assoc, Option, Some, None, eqb, eqb-true, arith}
 use Rattle.std.specs.List.{flat_map, list_any}
 use Rattle.std.proofs.lemmas.Bool.{cond-true, cond-false, eqb-false, ne_eqb}
 use Rattle.std.proofs.lemmas.Grind.{flat_map-append}
 use Rattle.std.proofs.lemmas.List.{append-nil, length-append, length-drop, drop-drop}
 use Rattle.std.proofs.lemmas.List.Folds.{list_any-append}
 use Rattle.text_words.specs.Cuts.{Each, IsRun, Stops, front, back}
+use Rattle.text_words.specs.LineEnds.{IsLineEnd, Lf, CrLf, line_end_len}
 use Rattle.text_words.specs.Octets.{is_blank, hex_value}
 use Rattle.text_words.specs.Sequence.{UnitAt}
 use Rattle.text_words.proofs.CutLemmas.{front_back, front_each, back_stops, front_is, back_is, drop_front}
+use Rattle.text_words.proofs.LineEndLemmas.{end_len, end_some, end_found}
 use Rattle.text_words.proofs.SequenceLemmas.{IsReader, Behind, begins, unit_within, read_more, all_done, unit_same, one_reading, determined}
-use Rattle.header_words.specs.QuotedPrintable.{Piece, right, IsLineEnd, Lf, CrLf, IsSoft, BeginsWithHex, BeginsWithSoft, begins_with_lf, ends_line, IsPiece, Hex, SoftBreak, WrongSign, Trailing, Blanks, Itself, IsPrintable}
+use Rattle.header_words.specs.QuotedPrintable.{Piece, right, IsSoft, BeginsWithHex, BeginsWithSoft, ends_line, IsPiece, Hex, SoftBreak, WrongSign, Trailing, Blanks, Itself, IsPrintable}
 use Rattle.header_words.specs.Transfer.{IsBody}
 use Rattle.header_words.specs.declared.transfer.Encoding.{Encoding}
 use Rattle.header_words.specs.declared.transfer.Encoding.TheVariants as encoding
-use Rattle.header_words.specs.Reading.{hex_pair, hex_in, line_end_len, break_of, sign_of, blanks_of, piece_in, Pushes}
+use Rattle.header_words.specs.Reading.{hex_pair, hex_in, break_of, sign_of, blanks_of, piece_in, Pushes}
 use Rattle.header_words.proofs.QuotedLemmas.{hex_sound, hex_complete}
 
 -- ---- ends of lines
@@ -23,44 +25,9 @@ end_stops : (e s : List ℕ) → IsLineEnd e → Stops is_blank (e ++ s)
 end_stops _ s Lf = refl
 end_stops _ s CrLf = refl
 
-end_len : (e s : List ℕ) → IsLineEnd e → line_end_len (e ++ s) ≡ length e
-end_len _ s Lf = refl
-end_len _ s CrLf = refl
-
-end_some : (e : List ℕ) → IsLineEnd e → (k : ℕ) × (length e ≡ suc k)
-end_some _ Lf = (0, refl)
-end_some _ CrLf = (1, refl)
-
 ends_stops : (t : List ℕ) → ends_line t ≡ true → Stops is_blank t
 ends_stops [] e = tt
 ends_stops (c ∷ t) e = grind arith
-
-pub record EndsAt (n : ℕ) (t : List ℕ) : Type 0 where
-  pub end : List ℕ
-  pub rest : List ℕ
-  pub whole : t ≡ end ++ rest
-  pub is_end : IsLineEnd end
-  pub counted : n ≡ length end
-
--- an end of a line is found
-end_found : (t : List ℕ) (n : ℕ) → line_end_len t ≡ suc n → EndsAt (suc n) t
-end_found [] n e = absurd cc
-end_found (c ∷ t) n e = by_lf (eqb c 10) refl e
-  where
-    two : (q : Bool) (t : List ℕ) → begins_with_lf t ≡ q → c ≡ 13 → cond q 2 0 ≡ suc n → EndsAt (suc n) (c ∷ t)
-    two false t h k e = absurd cc
-    two true [] h k e = absurd cc
-    two true (d ∷ t) h k e =
-        let f : c ∷ d ∷ t ≡ 13 ∷ 10 ∷ t = ap (λ (x : ℕ). x ∷ d ∷ t) k ∙ ap (λ (x : ℕ). 13 ∷ x ∷ t) (eqb-true d 10 h) in
-        record { end = 13 ∷ 10 ∷ []; rest = t; whole = f; is_end = CrLf; counted = sym e }
-
-    by_cr : (q : Bool) → eqb c 13 ≡ q → cond (q && begins_with_lf t) 2 0 ≡ suc n → EndsAt (suc n) (c ∷ t)
-    by_cr true h e = two (begins_with_lf t) t refl (eqb-true c 13 h) e
-    by_cr false h e = absurd cc
-
-    by_lf : (q : Bool) → eqb c 10 ≡ q → cond q 1 (cond (eqb c 13 && begins_with_lf t) 2 0) ≡ suc n → EndsAt (suc n) (c ∷ t)
-    by_lf true h e = record { end = 10 ∷ []; rest = t; whole = ap (λ (x : ℕ). x ∷ t) (eqb-true c 10 h); is_end = Lf; counted = sym e }
-    by_lf false h e = by_cr (eqb c 13) refl e
 
 -- ---- what is spelled is read
 

@@ -54,7 +54,8 @@ word_some r w i = let e = ap length i.shape.whole in omega arith
 pub none_yet : (t : List ℕ) → NoneBefore 0 t
 none_yet t = λ reading before word behind e s. omega arith
 
-same_length : (x y s t : List ℕ) → x ++ s ≡ y ++ t → length x ≡ length y → x ≡ y
+-- texts of one length at the front are the same
+pub same_length : (x y s t : List ℕ) → x ++ s ≡ y ++ t → length x ≡ length y → x ≡ y
 same_length x y s t e n = sym (take_at x s (length x) refl) ∙ ap (take (length x)) e ∙ take_at y t (length x) (sym n)
 
 -- where none stands at i either, none stands before i + 1

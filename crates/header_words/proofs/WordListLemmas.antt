@@ -1,6 +1,6 @@
 -- Where a text is cut into words, and what its words are.
 use Rattle.std.proofs.Common.{◌≡◌, ◌≢◌, ℕ, ◌+◌, ◌<◌, ◌≤◌, eqb, eqb-true, Bool, true, false, ◌&&◌, List, [], ◌∷◌, ◌++◌, length, take, drop, codes, IsUtf8, IsCharBoundary, replicate, refl, sym, ap, ◌∙◌, subst, arith, inl, inr, flat_map}
-use Rattle.std.proofs.lemmas.List.{append_assoc, append-nil, append_cancel_left, nil_from_length, length-append, length-replicate, take-append-drop, take_at, length-drop}
+use Rattle.std.proofs.lemmas.List.{append_assoc, append-nil, append_cancel_left, nil_from_length, length-append, length-replicate, take-append-drop, length-drop}
 use Rattle.std.proofs.lemmas.List.Concat.{flat_map-append}
 use Rattle.std.proofs.lemmas.Bool.{cases_lt, and_parts}
 use Rattle.std.proofs.lemmas.Str.{IsUtf8-take, IsUtf8-drop, IsCharBoundary-at_seam, length-encode, len_utf8_bounds}
@@ -10,6 +10,7 @@ use Rattle.base64.specs.Rfc4648.{encode_symbols, unpadded_len, padding_len}
 use Rattle.base64.proofs.RoundTrip.{length-encode_symbols}
 use lib.Utf8.{scalar, scalars, encode, encodes}
 use Rattle.header_words.specs.WordList.{utf8_word, IsPiece, IsLongestPiece, AreWords, NoneLeft, Next, joined, line_fold, IsWritten}
+use Rattle.header_words.proofs.WordLemmas.{same_length}
 
 -- base64 of n octets
 encoded_len : (m : List ℕ) → length (encode_of standard m) ≡ unpadded_len (length m) + padding_len (length m)
@@ -129,9 +130,6 @@ pub none_written : (value text : List ℕ) → text ≡ [] → value ≡ [] → 
 none_written value text e f = record { words = []; are = subst (λ (u : List ℕ). AreWords [] u) (sym e) NoneLeft; folds = f }
 
 -- ---- a text is written in one way
-
-same_length : (x y s t : List ℕ) → x ++ s ≡ y ++ t → length x ≡ length y → x ≡ y
-same_length x y s t e n = sym (take_at x s (length x) refl) ∙ ap (take (length x)) e ∙ take_at y t (length x) (sym n)
 
 record SamePiece (p q r s : List ℕ) : Type 0 where
   piece : p ≡ q

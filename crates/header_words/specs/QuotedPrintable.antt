@@ -2,6 +2,7 @@
 use Rattle.std.specs.Prelude.{◌≡◌, ◌≢◌, ℕ, ◌+◌, ◌*◌, Bool, true, false, ◌&&◌, ◌||◌, ◌==◌, List, [], ◌∷◌, ◌++◌, Some}
 use Rattle.std.specs.List.{flat_map, list_any}
 use Rattle.text_words.specs.Cuts.{Each, IsRun, Stops}
+use Rattle.text_words.specs.LineEnds.{IsLineEnd, begins_with_lf}
 use Rattle.text_words.specs.Octets.{is_blank, hex_value}
 use Rattle.text_words.specs.Sequence.{Sequence}
 
@@ -12,11 +13,6 @@ pub record Piece : Type 0 where
 
 abbrev pub right : List ℕ → Piece
 right octets = record { octets = octets; wrong = false }
-
--- LF or CR LF
-pub data IsLineEnd : List ℕ → Type 0 where
-  Lf : IsLineEnd (10 ∷ [])
-  CrLf : IsLineEnd (13 ∷ 10 ∷ [])
 
 -- white space and the end of the line
 pub record IsSoft (t : List ℕ) : Type 0 where
@@ -43,10 +39,6 @@ pub record BeginsWithSoft (t : List ℕ) : Type 0 where
   pub rest : List ℕ
   pub whole : t ≡ break ++ rest
   pub soft : IsSoft break
-
-abbrev pub begins_with_lf : List ℕ → Bool
-begins_with_lf [] = false
-begins_with_lf (c ∷ t) = c == 10
 
 -- nothing follows in the line
 abbrev pub ends_line : List ℕ → Bool

@@ -1,9 +1,10 @@
 -- What stands at the front of a text, as functions on lists: how the code reads it.
-use Rattle.std.specs.Prelude.{◌≡◌, ℕ, zero, suc, ◌+◌, ◌*◌, Bool, true, ◌&&◌, ◌==◌, if◌then◌else◌, List, [], ◌∷◌, ◌++◌, length, drop, Option, Some, None}
+use Rattle.std.specs.Prelude.{◌≡◌, ℕ, zero, suc, ◌+◌, ◌*◌, Bool, true, ◌==◌, if◌then◌else◌, List, [], ◌∷◌, ◌++◌, length, drop, Option, Some, None}
 use Rattle.text_words.specs.Cuts.{front, back}
+use Rattle.text_words.specs.LineEnds.{line_end_len}
 use Rattle.text_words.specs.Octets.{is_blank, hex_value}
 use Rattle.header_words.specs.EncodedWords.{IsEncodedWord, BeginsAtEdge, IsFirst}
-use Rattle.header_words.specs.QuotedPrintable.{Piece, right, begins_with_lf, ends_line}
+use Rattle.header_words.specs.QuotedPrintable.{Piece, right, ends_line}
 
 -- the octet of two hexadecimal digits
 abbrev pub hex_pair : Option ℕ → Option ℕ → Option ℕ
@@ -41,11 +42,6 @@ pub record FoundAt (reading : List ℕ) (start end : ℕ) (t : List ℕ) : Type 
   pub first : IsFirst reading before word behind t
   pub start_is : start ≡ length before
   pub end_is : end ≡ length before + length word
-
--- how many octets the end of the line at the front has
-abbrev pub line_end_len : List ℕ → ℕ
-line_end_len [] = 0
-line_end_len (c ∷ t) = if c == 10 then 1 else if c == 13 && begins_with_lf t then 2 else 0
 
 -- behind an "=" without hexadecimal digits, so many blanks, and an end of the line of so many octets
 abbrev pub break_of : ℕ → ℕ → Option (Piece × ℕ)

@@ -1,12 +1,13 @@
-ghost use Rattle.std.specs.Prelude.{◌≡◌, ◌<◌, ◌≤◌, ◌∷◌, length, IfOk};
+ghost use Rattle.std.specs.Prelude.{◌≡◌, ◌<◌, ◌∷◌, length, IfOk};
 ghost use Rattle.text_words.specs.Cuts.{front, back};
+ghost use Rattle.text_words.specs.LineEnds as lines;
 ghost use Rattle.text_words.specs.Octets as classes;
 ghost use Rattle.header_words.specs.QuotedPrintable as printable;
 ghost use Rattle.header_words.specs.Reading as reading;
 
 use crate::quoted_text::hex_octet;
 use std::alloc::{AllocError, Global};
-use text_words::{Blank, cut, is_blank};
+use text_words::{Blank, begins_with_lf, cut, is_blank, line_end_len};
 
 /// The octets that a text in quoted-printable spells (RFC 2045 section 6.7), and whether it has a wrong "=", which
 /// stays as it is.
@@ -62,7 +63,7 @@ fn push_sign<'a>(octets: &mut Vec<u8>, text: &'a [u8]) -> Result<(&'a [u8], bool
 /// Adds nothing for a soft break behind an "=", and else the "=".
 fn push_break<'a>(octets: &mut Vec<u8>, text: &'a [u8]) -> Result<(&'a [u8], bool), AllocError>
     ensures { IfOk result (λ r. reading.Pushes
-        (reading.break_of (length (front classes.is_blank text.now)) (reading.line_end_len (back classes.is_blank text.now)))
+        (reading.break_of (length (front classes.is_blank text.now)) (lines.line_end_len (back classes.is_blank text.now)))
         (61 ∷ text.now) r.0.now octets.old.items octets.new.items r.1) }
 {
     let (_, rest) = cut(&Blank, text);
@@ -87,34 +88,6 @@ fn push_blanks<'a>(octets: &mut Vec<u8>, text: &'a [u8]) -> Result<(&'a [u8], bo
     }
     octets.extend_from_slice(blanks)?;
     Ok((rest, false))
-}
-
-/// How many octets the end of the line at the front has.
-fn line_end_len(text: &[u8]) -> usize
-    ensures value { result ≡ reading.line_end_len text.now }
-    ensures within { result ≤ length text.now }
-{
-    match text {
-        [] => 0,
-        [first, rest @ ..] => {
-            if *first == b'\n' {
-                1
-            } else if *first == b'\r' && begins_with_lf(rest) {
-                2
-            } else {
-                0
-            }
-        }
-    }
-}
-
-fn begins_with_lf(text: &[u8]) -> bool
-    ensures { result ≡ printable.begins_with_lf text.now }
-{
-    match text {
-        [] => false,
-        [first, ..] => *first == b'\n',
-    }
 }
 
 /// Whether nothing follows in the line.

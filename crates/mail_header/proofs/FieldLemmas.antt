@@ -5,15 +5,16 @@ use Rattle.std.proofs.lemmas.Bool.{cond-true, cond-false}
 use Rattle.std.proofs.lemmas.Grind.{flat_map-append}
 use Rattle.std.proofs.lemmas.List.{append-nil, append_cancel_left, length-append, take_at, drop_at, drop_more, take-append-drop, map-append}
 use Rattle.text_words.specs.Cuts.{Each, IsRun, Stops, front, back}
+use Rattle.text_words.specs.LineEnds.{IsLineEnd, Lf, CrLf, begins_with_lf, line_end_len}
 use Rattle.text_words.specs.Octets.{is_blank, is_same_text}
 use Rattle.text_words.specs.Sequence.{SameStart, IsDetermined}
 use Rattle.text_words.proofs.CutLemmas.{front_is, back_is, front_back, front_each}
+use Rattle.text_words.proofs.LineEndLemmas.{end_len, end_some, end_found}
 use Rattle.text_words.proofs.SequenceLemmas.{Behind, begins, one_more, all_done, one_reading}
-use Rattle.mail_header.specs.Lines.{IsLineEnd, Lf, CrLf, begins_with_lf, line_end_len, without_end}
+use Rattle.mail_header.specs.Lines.{without_end}
 use Rattle.mail_header.specs.Fields.{is_name, IsField, ends_block, IsBlock, Part, AField, Other, Body, IsPart, ThisField, OtherLines, ThisBody, NameAndRaw, field_in, body_in, fields_view, IsHeader, later_or, last_named}
 use Rattle.mail_header.specs.declared.header.Field.{Field}
 use Rattle.mail_header.specs.Reading.{block_len, Adds, Added, Passed}
-use Rattle.mail_header.proofs.LineLemmas.{end_len, end_some, end_found}
 
 -- ---- blocks
 

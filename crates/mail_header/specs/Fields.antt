@@ -2,9 +2,10 @@
 use Rattle.std.specs.Prelude.{◌≡◌, ℕ, ◌+◌, Bool, true, false, not, ◌&&◌, ◌==◌, if◌then◌else◌, ◌⊎◌, List, [], ◌∷◌, ◌++◌, length, map, Option, Some, None}
 use Rattle.std.specs.List.{flat_map}
 use Rattle.text_words.specs.Cuts.{Each, IsRun}
+use Rattle.text_words.specs.LineEnds.{IsLineEnd, line_end_len}
 use Rattle.text_words.specs.Octets.{is_blank, is_between, is_same_text}
 use Rattle.text_words.specs.Sequence.{Sequence}
-use Rattle.mail_header.specs.Lines.{IsLineEnd, line_end_len, without_end}
+use Rattle.mail_header.specs.Lines.{without_end}
 use Rattle.mail_header.specs.declared.header.Field.{Field}
 
 -- an octet of a field's name: 33 to 126 but ":"

@@ -1,7 +1,7 @@
 -- How the code finds the lines of a header.
 use Rattle.std.specs.Prelude.{◌≡◌, ℕ, suc, Bool, ◌&&◌, ◌||◌, ◌==◌, if◌then◌else◌, List, [], ◌∷◌, ◌++◌, Option, option_to_list}
+use Rattle.text_words.specs.LineEnds.{begins_with_lf}
 use Rattle.mail_header.specs.Bracketed.{IsPiece}
-use Rattle.mail_header.specs.Lines.{begins_with_lf}
 use Rattle.mail_header.specs.Fields.{ends_block, NameAndRaw, IsField}
 
 -- how many octets the block at the front has

@@ -3,10 +3,10 @@ ghost use Rattle.mail_header.specs.Fields as fields;
 ghost use Rattle.mail_header.specs.Reading as reading;
 
 use crate::header::{Field, Fields};
-use crate::lines::{line_end_len, without_end};
+use crate::lines::without_end;
 use gate_world::{Bytes, Listed};
 use std::alloc::{AllocError, Global};
-use text_words::{Blank, Class, behind, cut, is_blank};
+use text_words::{Blank, Class, behind, cut, is_blank, line_end_len};
 
 /// The octets of a field's name.
 struct NameOctet;

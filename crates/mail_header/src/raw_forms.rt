@@ -4,11 +4,10 @@ ghost use Rattle.mail_header.specs.Lines as lines;
 ghost use Rattle.mail_header.specs.RawForms as forms;
 ghost use Rattle.mail_header.specs.Reading as reading;
 
-use crate::lines::begins_with_lf;
 use gate_world::Bytes;
 use header_words::decode_words;
 use std::alloc::{AllocError, Global};
-use text_words::{Blank, cut};
+use text_words::{Blank, begins_with_lf, cut};
 
 /// The raw value without octets 0, and with U+FFFD for invalid UTF-8. Every other form is read of it.
 pub fn as_raw(alloc: Global, raw: &[u8]) -> Result<Bytes, AllocError>

@@ -146,7 +146,7 @@ unfolding Same
 twin zero p q s = twin_of s
 twin (suc more) p q s = twin_of s
 
-below : ℕ → ℕ
+pub below : ℕ → ℕ
 below zero = zero
 below (suc more) = more
 
@@ -156,7 +156,8 @@ no_part [] (q ∷ d) none = absurd none
 no_part (p ∷ c) [] none = absurd none
 no_part (p ∷ c) (q ∷ d) (none, rest) = absurd none
 
-same_below : (more : ℕ) (p q : Part) → Same more p q → AllSame (Same (below more)) (children p) (children q)
+-- what stands below parts that are the same is the same
+pub same_below : (more : ℕ) (p q : Part) → Same more p q → AllSame (Same (below more)) (children p) (children q)
 unfolding Same below
 same_below zero p q s = no_part (children p) (children q) s.children
 same_below (suc more) p q s = s.children

@@ -1,3 +1,4 @@
 pub mod Cuts
 pub mod Sequence
 pub mod Octets
+pub mod LineEnds

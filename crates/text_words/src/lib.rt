@@ -1,14 +1,16 @@
 //! General words on lists of octets: cuts at the first element that fails a test, texts that are units one behind
-//! another, and classes of octets. Grammars over octets are stated in them.
+//! another, classes of octets and ends of lines. Grammars over octets are stated in them.
 #![tactic(auto)]
 
 pub mod class;
+pub mod line_ends;
 pub mod octets;
 pub mod parts;
 #[cfg(test)]
 mod tests;
 
 pub use class::{Class, are_all, cut};
+pub use line_ends::{begins_with_lf, line_end_len};
 pub use octets::{
     Alpha, Blank, Digit, White, hex_value, is_alpha, is_blank, is_digit, is_white, same_text,
 };

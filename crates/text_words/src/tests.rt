@@ -1,4 +1,5 @@
 use crate::class::{are_all, cut};
+use crate::line_ends::line_end_len;
 use crate::octets::{Alpha, Blank, Digit, White, hex_value, is_alpha, same_text};
 use std::test::Fail;
 
@@ -33,5 +34,16 @@ fn octets_have_classes(rt: HostRuntime) -> Result<(), Fail> {
     assert!(rt; same_text(b"Subject", b"sUBJECT"));
     assert!(rt; !same_text(b"Subject", b"Subjects"));
     assert!(rt; !same_text(b"[", b"{"));
+    Ok(())
+}
+
+#[test]
+fn lf_and_cr_lf_end_a_line_and_cr_alone_does_not(rt: HostRuntime) -> Result<(), Fail> {
+    assert_eq!(rt; line_end_len(b"\n\n"), 1);
+    assert_eq!(rt; line_end_len(b"\r\n\n"), 2);
+    assert_eq!(rt; line_end_len(b"\r\r\n"), 0);
+    assert_eq!(rt; line_end_len(b"\r"), 0);
+    assert_eq!(rt; line_end_len(b"a\n"), 0);
+    assert_eq!(rt; line_end_len(b""), 0);
     Ok(())
 }

@@ -1,8 +1,8 @@
 use Rattle.std.proofs.Common.{◌≡◌, ◌+◌, ◌-◌, ℕ, List, length, take, drop, true, false, eqb, eqb-true, eq-eqb, sym, ap, ◌∙◌, subst, arith}
 use Rattle.std.proofs.lemmas.List.{nil_from_length}
+use Rattle.text_words.specs.LineEnds.{line_end_len}
 use Rattle.mail_header.specs.declared.header.Field.{Field}
 use Rattle.mail_header.specs.Fields.{fields_view, IsHeader}
-use Rattle.mail_header.specs.Lines.{line_end_len}
 use Rattle.mail_header.proofs.FieldLemmas.{walked_block, walked_end, walked_all}
 use Rattle.mail_header.proofs.blocks.fields.Goals as goal
 

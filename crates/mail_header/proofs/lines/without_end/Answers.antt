@@ -1,6 +1,7 @@
 use Rattle.std.proofs.Common.{◌≡◌, ◌++◌, ℕ, List, take, drop, true, false, sym, ap, ◌∙◌, arith}
 use Rattle.std.proofs.lemmas.List.{take-append-drop}
-use Rattle.mail_header.specs.Lines.{begins_with_lf, begins_with_cr}
+use Rattle.text_words.specs.LineEnds.{begins_with_lf}
+use Rattle.mail_header.specs.Lines.{begins_with_cr}
 use Rattle.mail_header.proofs.LineLemmas.{whole_kept, crlf_cut, lf_cut}
 use Rattle.mail_header.proofs.lines.without_end.Goals as goal
 
