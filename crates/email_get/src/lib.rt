@@ -5,15 +5,11 @@ mod bodies;
 mod email_objects;
 pub mod header_laws;
 pub mod header_properties;
-#[cfg(test)]
-mod header_tests;
 pub mod laws;
 mod leaves;
 mod moment_text;
 mod part_objects;
 mod previews;
-#[cfg(test)]
-mod tests;
 mod texts;
 mod values;
 

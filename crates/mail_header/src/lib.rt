@@ -3,8 +3,6 @@
 
 pub mod address;
 pub mod address_lists;
-#[cfg(test)]
-mod address_tests;
 pub mod blocks;
 pub mod bracketed;
 pub mod date;
@@ -18,8 +16,6 @@ pub(crate) mod mailboxes;
 pub mod moments;
 pub mod names;
 pub mod raw_forms;
-#[cfg(test)]
-mod tests;
 pub mod token;
 pub(crate) mod token_class;
 pub mod tokens;

@@ -8,7 +8,5 @@ mod field_text;
 pub mod header;
 pub mod laws;
 mod parameters;
-#[cfg(test)]
-mod tests;
 
 pub use header::{PartHeader, part_header};

@@ -9,8 +9,6 @@ mod lists;
 pub mod part;
 mod roles;
 pub mod split;
-#[cfg(test)]
-mod tests;
 pub mod tree;
 
 pub use body::part_bytes;

@@ -1,4 +1,4 @@
-use crate::tests::outline::go_over;
+use crate::outline::go_over;
 use std::test::Fail;
 
 /// The example of RFC 2046 section 5.1.1.
@@ -22,12 +22,13 @@ const DIGEST: &[u8] =
 const DIGEST_TREE: &[u8] =
     b"- multipart/mixed(1 text/plain;us-ascii[...Introductory text or table of contents...\r\n]- multipart/digest(2 message/rfc822[From: someone-else\r\n\r\n...body goes here...\r\n]3 message/rfc822[From: someone-else-again\r\n\r\n...another body goes here...\r\n]))";
 
+const EXAMPLES: [(&[u8], &[u8]); 3] = [
+    (TWO_TEXTS, TWO_TEXTS_TREE),
+    (FIVE_PARTS, FIVE_PARTS_TREE),
+    (DIGEST, DIGEST_TREE),
+];
+
 #[test]
 fn examples_of_the_standard_have_their_trees(rt: HostRuntime) -> Result<(), Fail> {
-    let rows: [(&[u8], &[u8]); 3] = [
-        (TWO_TEXTS, TWO_TEXTS_TREE),
-        (FIVE_PARTS, FIVE_PARTS_TREE),
-        (DIGEST, DIGEST_TREE),
-    ];
-    go_over(&rt, rt.alloc(), rows.as_slice())
+    go_over(&rt, rt.alloc(), &EXAMPLES)
 }

@@ -1,6 +1,6 @@
-use crate::header::{PartHeader, part_header};
 use gate_world::Bytes;
 use mail_header::fields;
+use mime_fields::{PartHeader, part_header};
 use std::alloc::{AllocError, Global};
 use std::process::Abort;
 use std::test::Fail;

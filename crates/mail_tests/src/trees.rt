@@ -1,6 +1,5 @@
-use crate::part::Part;
-use crate::tests::outline::go_over;
-use crate::tree::parse;
+use crate::outline::go_over;
+use mime_tree::{Part, parse};
 use std::alloc::{AllocError, Global};
 use std::process::Abort;
 use std::test::Fail;

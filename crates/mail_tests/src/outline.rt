@@ -1,5 +1,4 @@
-use crate::part::Part;
-use crate::tree::parse;
+use mime_tree::{Part, parse};
 use std::alloc::{AllocError, Global};
 use std::process::Abort;
 use std::test::Fail;
@@ -58,7 +57,7 @@ fn push_part(text: &mut Vec<u8>, bytes: &[u8], part: &Part) -> Result<(), AllocE
 }
 
 /// The tree of the octets, written out.
-pub fn outline(alloc: Global, bytes: &[u8]) -> Result<Vec<u8>, AllocError> {
+fn outline(alloc: Global, bytes: &[u8]) -> Result<Vec<u8>, AllocError> {
     let part = parse(alloc, bytes)?;
     let mut text = Vec::new(alloc);
     push_part(&mut text, bytes, &part)?;
@@ -66,7 +65,7 @@ pub fn outline(alloc: Global, bytes: &[u8]) -> Result<Vec<u8>, AllocError> {
 }
 
 /// Each row is octets, and their tree written out.
-pub fn go_over(rt: &impl Abort, alloc: Global, rows: &[(&[u8], &[u8])]) -> Result<(), Fail> {
+pub(crate) fn go_over(rt: &impl Abort, alloc: Global, rows: &[(&[u8], &[u8])]) -> Result<(), Fail> {
     for row in rows {
         let text = outline(alloc, row.0)?;
         assert_eq!(rt; text.as_slice(), row.1);

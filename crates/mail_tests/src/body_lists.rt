@@ -1,6 +1,4 @@
-use crate::lists::body_lists;
-use crate::part::Part;
-use crate::tree::parse;
+use mime_tree::{Part, body_lists, parse};
 use std::alloc::{AllocError, Global};
 use std::process::Abort;
 use std::test::Fail;

@@ -1,4 +1,4 @@
-use crate::{HeaderValues, header_values};
+use email_get::{HeaderValues, header_values};
 use mail_header::fields;
 use serde_json::Value;
 use std::alloc::{AllocError, Global};

@@ -1,7 +1,6 @@
-use crate::body::part_bytes;
-use crate::lists::body_lists;
-use crate::tree::parse;
+use crate::messages::{CRLF_MESSAGE, MESSAGE};
 use gate_world::Bytes;
+use mime_tree::{body_lists, parse, part_bytes};
 use std::alloc::Global;
 use std::process::Abort;
 use std::test::Fail;
@@ -9,19 +8,12 @@ use std::test::Fail;
 /// A leaf: its number, where its header and its body begin and where it ends, and the octets that its body spells.
 type Leaf = (u64, usize, usize, usize, &'static [u8]);
 
-const MESSAGE: &[u8] =
-    b"From: =?utf-8?Q?Ren=C3=A9?= <rene@example.org>\nTo: Team: ann@example.org, \"B. Ob\" <bob@example.org>;\nSubject: =?iso-8859-1?Q?Caf=E9?=\n =?utf-8?B?IHBsYW4=?=\nMessage-ID: <m17@example.org>\nDate: Tue, 2 Jan 2024 10:00:00 +0100\nMIME-Version: 1.0\nContent-Type: multipart/mixed; boundary=aa\n\n--aa\nContent-Type: multipart/alternative; boundary=bb\n\n--bb\nContent-Type: text/plain; charset=iso-8859-1\nContent-Transfer-Encoding: quoted-printable\n\nCaf=E9 =\nat ten\n--bb\nContent-Type: text/html; charset=utf-8\n\n<p>Hi</p>\n--bb--\n--aa\nContent-Type: image/gif\nContent-Disposition: inline; filename=x.gif\nContent-ID: <i1>\nContent-Transfer-Encoding: base64\n\nR0lGODlh\n--aa\nContent-Type: application/pdf\nContent-Disposition: attachment; filename=r.pdf\nContent-Transfer-Encoding: base64\n\nJVBERg==\n--aa--\n";
-
 const LEAVES: [Leaf; 4] = [
     (1, 345, 435, 450, b"Caf\xE9 at ten"),
     (2, 456, 496, 505, b"<p>Hi</p>"),
     (3, 518, 638, 646, b"GIF89a"),
     (4, 652, 765, 773, b"%PDF"),
 ];
-
-/// The same message with lines that end in CR LF.
-const CRLF_MESSAGE: &[u8] =
-    b"From: =?utf-8?Q?Ren=C3=A9?= <rene@example.org>\r\nTo: Team: ann@example.org, \"B. Ob\" <bob@example.org>;\r\nSubject: =?iso-8859-1?Q?Caf=E9?=\r\n =?utf-8?B?IHBsYW4=?=\r\nMessage-ID: <m17@example.org>\r\nDate: Tue, 2 Jan 2024 10:00:00 +0100\r\nMIME-Version: 1.0\r\nContent-Type: multipart/mixed; boundary=aa\r\n\r\n--aa\r\nContent-Type: multipart/alternative; boundary=bb\r\n\r\n--bb\r\nContent-Type: text/plain; charset=iso-8859-1\r\nContent-Transfer-Encoding: quoted-printable\r\n\r\nCaf=E9 =\r\nat ten\r\n--bb\r\nContent-Type: text/html; charset=utf-8\r\n\r\n<p>Hi</p>\r\n--bb--\r\n--aa\r\nContent-Type: image/gif\r\nContent-Disposition: inline; filename=x.gif\r\nContent-ID: <i1>\r\nContent-Transfer-Encoding: base64\r\n\r\nR0lGODlh\r\n--aa\r\nContent-Type: application/pdf\r\nContent-Disposition: attachment; filename=r.pdf\r\nContent-Transfer-Encoding: base64\r\n\r\nJVBERg==\r\n--aa--\r\n";
 
 const CRLF_LEAVES: [Leaf; 4] = [
     (1, 358, 451, 467, b"Caf\xE9 at ten"),

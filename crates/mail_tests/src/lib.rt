@@ -1,0 +1,42 @@
+//! Tests of the fields of headers, of the trees of parts and of Email objects, over the public calls of the crates that
+//! read them.
+#![tactic(auto)]
+
+#[cfg(test)]
+mod addresses;
+#[cfg(test)]
+mod body_lists;
+#[cfg(test)]
+mod body_values;
+#[cfg(test)]
+mod bracketed;
+#[cfg(test)]
+mod dates;
+#[cfg(test)]
+mod email_objects;
+#[cfg(test)]
+mod fields;
+#[cfg(test)]
+mod header_properties;
+#[cfg(test)]
+mod leaves;
+#[cfg(test)]
+mod long_values;
+#[cfg(test)]
+mod members;
+#[cfg(test)]
+mod messages;
+#[cfg(test)]
+mod outline;
+#[cfg(test)]
+mod part_headers;
+#[cfg(test)]
+mod part_objects;
+#[cfg(test)]
+mod previews;
+#[cfg(test)]
+mod texts;
+#[cfg(test)]
+mod tree_examples;
+#[cfg(test)]
+mod trees;

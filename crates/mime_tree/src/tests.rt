@@ -1,5 +1,0 @@
-mod bodies;
-mod examples;
-mod lists;
-mod outline;
-mod trees;
