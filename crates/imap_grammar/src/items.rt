@@ -229,7 +229,10 @@ fn value_in<'a>(
         let size = long_of(before(value, n));
         Ok((with_size(so_far, size), behind(value, n)))
     } else if is_key(name, b"internaldate") {
-        Ok((with_date(so_far, date_in(value)), behind(value, DATE_TIME_OCTETS)))
+        Ok((
+            with_date(so_far, date_in(value)),
+            behind(value, DATE_TIME_OCTETS),
+        ))
     } else {
         text_in(alloc, so_far, name, value)
     }
