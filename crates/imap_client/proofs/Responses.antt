@@ -1,5 +1,5 @@
 -- Reading one response.
-use Rattle.std.proofs.Common.{◌≡◌, ◌≤◌, ◌++◌, ◌+◌, ℕ, List, [], length, take, drop, refl, sym, ◌∙◌, ap, subst, append_assoc, length-append, arith, rules, Ok, Err}
+use Rattle.std.proofs.Common.{◌≡◌, ◌≤◌, ◌++◌, ◌+◌, ℕ, List, [], length, take, drop, sym, ◌∙◌, ap, subst, append_assoc, length-append, arith, Ok, Err}
 use Rattle.std.proofs.Math.Seq.{take-append_seam}
 use Rattle.std.proofs.lemmas.List.{append-nil, take-append-drop}
 use Rattle.gate_world.specs.declared.event.Event.{Event}
