@@ -2,25 +2,17 @@
 #![tactic(auto)]
 
 mod body;
-#[cfg(test)]
-mod body_tests;
 mod chunks;
 mod error;
 mod fields;
 mod head;
 mod head_end;
 mod head_reading;
-#[cfg(test)]
-mod head_tests;
 mod part;
 mod part_reading;
 mod response;
-#[cfg(test)]
-mod response_tests;
 mod response_text;
 mod spare;
-#[cfg(test)]
-mod test_client;
 
 pub use body::read_body;
 pub use error::HttpError;

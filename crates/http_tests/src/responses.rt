@@ -1,7 +1,6 @@
-use crate::response_text::response_head;
-use crate::test_client::{given_and_taken, world_of};
-use crate::write_response;
+use crate::client::{given_and_taken, world_of};
 use http::StatusCode;
+use http_service::{response_head, write_response};
 use std::alloc::Global;
 use std::process::Abort;
 use std::test::Fail;

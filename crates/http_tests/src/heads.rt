@@ -1,33 +1,34 @@
-use crate::test_client::{PIECES, world_of};
-use crate::{Head, MAX_HEAD_OCTETS, Spare, read_head};
+use crate::client::{PIECES, joined, world_of};
 use gate_world::Bytes;
+use http_service::{Head, MAX_HEAD_OCTETS, Spare, read_head};
 use std::alloc::{AllocError, Global};
 use std::process::Abort;
 use std::test::Fail;
 
-fn put_optional(text: &mut Vec<u8>, octets: &Option<Bytes>) -> Result<(), AllocError> {
+fn or_dash(octets: &Option<Bytes>) -> &[u8] {
     match octets {
-        Some(octets) => text.extend_from_slice(octets.as_slice())?,
-        None => text.extend_from_slice(b"-")?,
+        Some(octets) => octets.as_slice(),
+        None => b"-",
     }
-    text.extend_from_slice(b"|")?;
-    Ok(())
 }
 
 /// Method, path, query, token, content type, body, and whether the client waits.
 fn said(alloc: Global, head: &Head) -> Result<Vec<u8>, AllocError> {
-    let mut text = Vec::new(alloc);
-    text.extend_from_slice(head.method.as_slice())?;
-    text.extend_from_slice(b"|")?;
-    text.extend_from_slice(head.path.as_slice())?;
-    text.extend_from_slice(b"|")?;
-    text.extend_from_slice(head.query.as_slice())?;
-    text.extend_from_slice(b"|")?;
-    put_optional(&mut text, &head.token)?;
-    put_optional(&mut text, &head.content_type)?;
     let rest = format!(in alloc; "{:?}|{}", head.body, head.expects)?;
-    text.extend_from_slice(rest.as_bytes())?;
-    Ok(text)
+    let pieces: [&[u8]; 11] = [
+        head.method.as_slice(),
+        b"|",
+        head.path.as_slice(),
+        b"|",
+        head.query.as_slice(),
+        b"|",
+        or_dash(&head.token),
+        b"|",
+        or_dash(&head.content_type),
+        b"|",
+        rest.as_bytes(),
+    ];
+    joined(alloc, &pieces)
 }
 
 /// What is read of a client's head; an error by its name.
@@ -166,10 +167,17 @@ fn expect_rows(rt: &impl Abort, alloc: Global, rows: &[(&[u8], &[u8])]) -> Resul
 
 #[test]
 fn heads_are_read_in_any_pieces(rt: HostRuntime) -> Result<(), Fail> {
-    expect_rows(&rt, rt.alloc(), &HEADS)?;
-    expect_all(&rt, rt.alloc(), &PLAIN_HEADS, PLAIN)?;
-    expect_all(&rt, rt.alloc(), &BAD_HEADS, b"BadHead")?;
-    Ok(())
+    expect_rows(&rt, rt.alloc(), &HEADS)
+}
+
+#[test]
+fn heads_without_the_fields_say_no_more(rt: HostRuntime) -> Result<(), Fail> {
+    expect_all(&rt, rt.alloc(), &PLAIN_HEADS, PLAIN)
+}
+
+#[test]
+fn heads_of_another_form_are_refused(rt: HostRuntime) -> Result<(), Fail> {
+    expect_all(&rt, rt.alloc(), &BAD_HEADS, b"BadHead")
 }
 
 #[test]
@@ -182,14 +190,15 @@ fn a_head_that_is_cut_anywhere_is_short(rt: HostRuntime) -> Result<(), Fail> {
     Ok(())
 }
 
+const LONG_FRONT: &[u8] = b"GET / HTTP/1.1\r\nX: ";
+
+const LONG_BACK: &[u8] = b"\r\n\r\n";
+
 /// A head of so many octets.
 fn long_head(alloc: Global, size: usize) -> Result<Vec<u8>, AllocError> {
-    let mut client = b"GET / HTTP/1.1\r\nX: ".as_slice().to_vec(alloc)?;
-    for _ in client.len()..size.saturating_sub(4) {
-        client.push(b'x')?;
-    }
-    client.extend_from_slice(b"\r\n\r\n")?;
-    Ok(client)
+    let filled = size.saturating_sub(LONG_FRONT.len() + LONG_BACK.len());
+    let filler = vec![in alloc; b'x'; filled]?;
+    joined(alloc, &[LONG_FRONT, filler.as_slice(), LONG_BACK])
 }
 
 #[test]

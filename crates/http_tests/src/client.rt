@@ -1,5 +1,5 @@
-use crate::{Spare, read_body, read_head};
 use gate_world::{Bytes, Event, Fail as FailingCall, Front, Listed, Script, ScriptWorld};
+use http_service::{Spare, read_body, read_head};
 use std::alloc::{AllocError, Global};
 use std::test::Fail;
 
@@ -30,13 +30,18 @@ pub(crate) fn world_of(
     Ok(world)
 }
 
+/// The pieces, one behind another.
+pub(crate) fn joined(alloc: Global, pieces: &[&[u8]]) -> Result<Vec<u8>, AllocError> {
+    let mut text = Vec::new(alloc);
+    for piece in pieces {
+        text.extend_from_slice(piece)?;
+    }
+    Ok(text)
+}
+
 /// A request with these fields and this body.
 pub(crate) fn posted(alloc: Global, fields: &[u8], body: &[u8]) -> Result<Vec<u8>, AllocError> {
-    let mut client = b"POST / HTTP/1.1\r\n".as_slice().to_vec(alloc)?;
-    client.extend_from_slice(fields)?;
-    client.extend_from_slice(b"\r\n\r\n")?;
-    client.extend_from_slice(body)?;
-    Ok(client)
+    joined(alloc, &[b"POST / HTTP/1.1\r\n", fields, b"\r\n\r\n", body])
 }
 
 /// What is read of a client's body, behind its head; an error by its name.

@@ -1,0 +1,11 @@
+//! Tests of requests that are read, and of responses that are sent, over a world that follows a script.
+#![tactic(auto)]
+
+#[cfg(test)]
+mod bodies;
+#[cfg(test)]
+mod client;
+#[cfg(test)]
+mod heads;
+#[cfg(test)]
+mod responses;
