@@ -11,6 +11,8 @@ mod long_texts;
 #[cfg(test)]
 mod requests;
 #[cfg(test)]
+mod sending;
+#[cfg(test)]
 mod steady_worlds;
 #[cfg(test)]
 mod subjects;

@@ -11,8 +11,6 @@ mod playback;
 mod script;
 mod script_world;
 mod sending;
-#[cfg(test)]
-mod sending_tests;
 mod steady_world;
 mod tape;
 mod text;

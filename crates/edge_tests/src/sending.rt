@@ -1,4 +1,6 @@
-use crate::{Bytes, Event, Fail as FailingCall, Listed, Script, ScriptWorld, send_all, write_all};
+use gate_world::{
+    Bytes, Event, Fail as FailingCall, Listed, Script, ScriptWorld, send_all, write_all,
+};
 use std::alloc::{AllocError, Global};
 use std::test::Fail;
 
