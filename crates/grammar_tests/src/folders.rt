@@ -50,7 +50,7 @@ const BAD: [(&[u8], usize); 36] = [
     (b"* LIST () / a", 10),
     (b"* LIST () N/A", 11),
     (b"* LIST () \"/\" \r\n", 14),
-    (b"* LIST () \"/\" \r\n", 14),
+    (b"* LIST () \"/\" a\xff", 15),
     (b"* LIST () \"/\" a b c", 17),
     (b"* LIST () \"/\" \"a\r\n", 16),
     (b"* LIST () \"/\" \"\\x\"", 16),
