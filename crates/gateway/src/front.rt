@@ -84,11 +84,11 @@ pub fn receive<F: Front>(alloc: Global, front: &mut F, most: usize) -> Result<In
         let (part, _) = piece.split_at_mut(room);
         let count = front.recv(part)?;
         if count == 0 {
-            return Ok(Input::Whole(Bytes::from_vec(octets)));
+            return Ok(Input::Whole(Bytes::from_vec(octets)?));
         }
         octets.extend_from_slice(&part[..count])?;
     }
-    Ok(Input::Cut(Bytes::from_vec(octets)))
+    Ok(Input::Cut(Bytes::from_vec(octets)?))
 }
 
 /// A request's body, which ends with the client's input. No more than one octet past the limit is read.

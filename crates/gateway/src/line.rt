@@ -9,7 +9,7 @@ use std::alloc::AllocError;
 pub fn with_line_end(text: Bytes) -> Result<Bytes, AllocError>
     ensures { IfOk result (λ line. line ≡ text ++ line_end) }
 {
-    let mut line = text.into_vec();
+    let mut line = text.into_vec()?;
     line.push(b'\n')?;
-    Ok(Bytes::from_vec(line))
+    Ok(Bytes::from_vec(line)?)
 }

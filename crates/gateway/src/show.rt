@@ -19,7 +19,7 @@ fn object_line(alloc: Global, octets: &[u8]) -> Result<Bytes, AllocError>
 {
     let object = email_object(alloc, octets)?;
     let text = object.to_string(alloc)?;
-    with_line_end(Bytes::from_vec(text.into_bytes()))
+    with_line_end(Bytes::from_vec(text.into_bytes())?)
 }
 
 // Reads a message, and makes the line that shows it.

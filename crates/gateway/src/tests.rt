@@ -128,7 +128,7 @@ pub(crate) fn joined(alloc: Global, parts: &[&[u8]]) -> Result<Bytes, AllocError
     for part in parts {
         octets.extend_from_slice(part)?;
     }
-    Ok(Bytes::from_vec(octets))
+    Ok(Bytes::from_vec(octets)?)
 }
 
 /// The words between bars. No text stands for no words.

@@ -25,7 +25,7 @@ fn read_length<F: Front>(
     ensures hidden { F.hidden front.new ≡ F.hidden front.old }
 {
     match spare.fill_to(front, size) {
-        Ok(()) => Ok(Bytes::from_vec(spare.take_front(alloc, size)?)),
+        Ok(()) => Ok(Bytes::from_vec(spare.take_front(alloc, size)?)?),
         Err(error) => Err(error),
     }
 }

@@ -81,7 +81,7 @@ pub(crate) fn read_chunks<F: Front>(
         let size = read_part(alloc, front, spare, Part::Line)?;
         if size == 0 {
             read_part(alloc, front, spare, Part::Trailer)?;
-            return Ok(Bytes::from_vec(body));
+            return Ok(Bytes::from_vec(body)?);
         }
         if limit - (body.len() as u64) < size {
             return Err(HttpError::TooLarge { limit });

@@ -93,5 +93,5 @@ pub fn response_head(
     push_length(alloc, &mut head, length)?;
     push_type(&mut head, length, media)?;
     head.extend_from_slice(b"\r\n")?;
-    Ok(Bytes::from_vec(head))
+    Ok(Bytes::from_vec(head)?)
 }

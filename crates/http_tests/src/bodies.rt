@@ -130,7 +130,7 @@ fn read_three(alloc: Global, client: &[u8]) -> Result<[Vec<u8>; 3], Fail> {
     let first = read_both(alloc, &mut world, &mut spare, 10)?;
     let second = read_both(alloc, &mut world, &mut spare, 10)?;
     let third = read_head(alloc, &mut world, &mut spare)?;
-    Ok([first, second, third.method.into_vec()])
+    Ok([first, second, third.method.into_vec()?])
 }
 
 #[test]

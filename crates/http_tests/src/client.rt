@@ -56,7 +56,7 @@ pub(crate) fn read_both(
         Err(error) => Err(error),
     };
     match read {
-        Ok(body) => Ok(body.into_vec()),
+        Ok(body) => Ok(body.into_vec()?),
         Err(error) => {
             let text = format!(in alloc; "{error:?}")?;
             Ok(text.as_bytes().to_vec(alloc)?)

@@ -215,7 +215,7 @@ fn text_of(alloc: Global, command: &Command, tag: u64) -> Result<Bytes, AllocErr
     let mut out = format!(in alloc; "a{tag} ")?.into_bytes();
     out.extend_from_slice(&words)?;
     out.extend_from_slice(b"\r\n")?;
-    Ok(Bytes::from_vec(out))
+    Ok(Bytes::from_vec(out)?)
 }
 
 /// Whether the text may stand in quotes: octets 32 to 126.
@@ -242,7 +242,7 @@ fn push_literal(
     let mut piece = piece;
     let head = format!(in alloc; "{{{}}}\r\n", text.len())?;
     piece.extend_from_slice(head.as_bytes())?;
-    done.push(Bytes::from_vec(piece))?;
+    done.push(Bytes::from_vec(piece)?)?;
     text.to_vec(alloc)
 }
 
@@ -280,7 +280,7 @@ fn login(alloc: Global, user: &[u8], password: &[u8], tag: u64) -> Result<Vec<By
     piece.push(b' ')?;
     let mut piece = push_credential(alloc, &mut done, piece, password)?;
     piece.extend_from_slice(b"\r\n")?;
-    done.push(Bytes::from_vec(piece))?;
+    done.push(Bytes::from_vec(piece)?)?;
     Ok(done)
 }
 
@@ -314,7 +314,7 @@ fn append(alloc: Global, words: &[u8], message: &[u8], tag: u64) -> Result<Vec<B
     let piece = tagged_words(alloc, words, tag)?;
     let mut piece = push_literal(alloc, &mut done, piece, message)?;
     piece.extend_from_slice(b"\r\n")?;
-    done.push(Bytes::from_vec(piece))?;
+    done.push(Bytes::from_vec(piece)?)?;
     Ok(done)
 }
 

@@ -43,7 +43,7 @@ fn names_of(alloc: Global, set: BTreeSet<Vec<u8>>) -> Result<Names, AllocError>
 {
     let mut names = Names::new(alloc);
     for name in set {
-        names.push(Bytes::from_vec(name))?;
+        names.push(Bytes::from_vec(name)?)?;
     }
     Ok(names)
 }

@@ -100,7 +100,7 @@ fn nstring_in(alloc: Global, bytes: &[u8], most: usize) -> Result<(Bytes, &[u8])
     if first == b'"' {
         let (mut text, rest) = unquoted(alloc, behind(bytes, 1))?;
         text.truncate(most);
-        return Ok((Bytes::from_vec(text), rest));
+        return Ok((Bytes::from_vec(text)?, rest));
     }
     let (octets, rest) = if lower(first) == b'n' {
         (before(bytes, 0), behind(bytes, 3))

@@ -81,7 +81,7 @@ pub fn astring_in(alloc: Global, bytes: &[u8]) -> Result<(Bytes, &[u8]), AllocEr
     let first = octet_at(bytes, 0);
     if first == b'"' {
         let (text, rest) = unquoted(alloc, behind(bytes, 1))?;
-        return Ok((Bytes::from_vec(text), rest));
+        return Ok((Bytes::from_vec(text)?, rest));
     }
     let (octets, rest) = if first == b'{' {
         literal_in(behind(bytes, 1))

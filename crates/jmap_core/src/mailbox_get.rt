@@ -90,7 +90,7 @@ fn one_response(
         id: Text::copy_of(alloc, request.id.as_str())?,
     };
     let text = response_text(alloc, &[call], session.as_str())?;
-    Ok(Bytes::from_vec(text.into_bytes()))
+    Ok(Bytes::from_vec(text.into_bytes())?)
 }
 
 /// The response that tells the INBOX's counts at this state (RFC 8621 section 2.1), to the session state of this

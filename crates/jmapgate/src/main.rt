@@ -70,10 +70,10 @@ fn store_of(alloc: Global, words: &[String]) -> Result<Text, AllocError>
 /// A variable of the environment. One that is not there, or is no UTF-8, is empty.
 fn variable(rt: &HostRuntime, name: &str) -> Result<Bytes, AllocError> {
     match env::var(rt, name) {
-        Ok(text) => Ok(Bytes::from_vec(text.into_bytes())),
+        Ok(text) => Ok(Bytes::from_vec(text.into_bytes())?),
         Err(VarError::OutOfMemory) => Err(AllocError),
         Err(VarError::NotPresent | VarError::NotUnicode) => {
-            Ok(Bytes::from_vec(Vec::new(rt.alloc())))
+            Ok(Bytes::from_vec(Vec::new(rt.alloc()))?)
         }
     }
 }

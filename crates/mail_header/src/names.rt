@@ -108,7 +108,7 @@ pub(crate) fn phrase_name(alloc: Global, phrase: &[Token<'_>]) -> Result<Bytes, 
     ensures { IfOk result (λ b. IsText false (names.phrase_text (tokens_view phrase.now)) b) }
 {
     let text = phrase_text(alloc, phrase)?;
-    Ok(Bytes::from_vec(decode_words(alloc, text.as_slice())?))
+    Ok(Bytes::from_vec(decode_words(alloc, text.as_slice())?)?)
 }
 
 /// The text without the white space at its end.
@@ -160,13 +160,13 @@ fn comment_text(alloc: Global, comment: &[u8]) -> Result<Vec<u8>, AllocError>
 }
 
 /// The text, unless it is empty.
-fn some_text(text: Vec<u8>) -> Option<Bytes>
-    ensures { result ≡ names.some_text text.items }
+fn some_text(text: Vec<u8>) -> Result<Option<Bytes>, AllocError>
+    ensures { IfOk result (λ t. t ≡ names.some_text text.items) }
 {
     if text.is_empty() {
-        None
+        Ok(None)
     } else {
-        Some(Bytes::from_vec(text))
+        Ok(Some(Bytes::from_vec(text)?))
     }
 }
 
@@ -176,7 +176,7 @@ fn comment_name(alloc: Global, tokens: &[Token<'_>]) -> Result<Option<Bytes>, Al
 {
     match comment_behind(tokens) {
         None => Ok(None),
-        Some(comment) => Ok(some_text(comment_text(alloc, comment)?)),
+        Some(comment) => Ok(some_text(comment_text(alloc, comment)?)?),
     }
 }
 
@@ -208,7 +208,7 @@ fn email_of(alloc: Global, spec: &[Token<'_>]) -> Result<Bytes, AllocError>
     ensures { IfOk result (λ b. b ≡ names.email_text (tokens_view spec.now)) }
 {
     let text = spelling(alloc, spec)?;
-    Ok(Bytes::from_vec(unfold(alloc, text.as_slice())?))
+    Ok(Bytes::from_vec(unfold(alloc, text.as_slice())?)?)
 }
 
 /// The name and the address of a mailbox.

@@ -15,7 +15,7 @@ pub fn as_raw(alloc: Global, raw: &[u8]) -> Result<Bytes, AllocError>
 {
     let kept = without_zeros(alloc, raw)?;
     let text = String::from_utf8_lossy(alloc, kept.as_slice())?;
-    Ok(Bytes::from_vec(text.into_bytes()))
+    Ok(Bytes::from_vec(text.into_bytes())?)
 }
 
 fn without_zeros(alloc: Global, raw: &[u8]) -> Result<Vec<u8>, AllocError>
@@ -34,7 +34,7 @@ pub fn as_text(alloc: Global, raw: &[u8]) -> Result<Bytes, AllocError>
     let raw = as_raw(alloc, raw)?;
     let line = unfold(alloc, raw.as_slice())?;
     let (_, text) = cut(&Blank, line.as_slice());
-    Ok(Bytes::from_vec(decode_words(alloc, text)?))
+    Ok(Bytes::from_vec(decode_words(alloc, text)?)?)
 }
 
 /// The text without its line ends.

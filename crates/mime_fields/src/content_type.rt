@@ -36,7 +36,7 @@ fn media_text(alloc: Global, kind: &[u8], subtype: &[u8]) -> Result<Bytes, Alloc
     text.push(b'/')?;
     let subtype = subtype.to_ascii_lowercase(alloc)?;
     text.extend_from_slice(subtype.as_slice())?;
-    Ok(Bytes::from_vec(text))
+    Ok(Bytes::from_vec(text)?)
 }
 
 /// What the lexemes of a Content-Type say.

@@ -33,7 +33,7 @@ pub(crate) fn token_at(alloc: Global, lexemes: &[Token<'_>]) -> Result<Option<By
             if !is_atom(first) {
                 return Ok(None);
             }
-            Ok(Some(Bytes::from_vec(first.text.to_ascii_lowercase(alloc)?)))
+            Ok(Some(Bytes::from_vec(first.text.to_ascii_lowercase(alloc)?)?))
         }
     }
 }
@@ -91,6 +91,6 @@ fn decoded(alloc: Global, written: Option<Bytes>) -> Result<Option<Bytes>, Alloc
 {
     match written {
         None => Ok(None),
-        Some(value) => Ok(Some(Bytes::from_vec(decode_words(alloc, value.as_slice())?))),
+        Some(value) => Ok(Some(Bytes::from_vec(decode_words(alloc, value.as_slice())?)?)),
     }
 }

@@ -66,7 +66,7 @@ fn extended_text(alloc: Global, value: &[u8]) -> Result<Option<Bytes>, AllocErro
     let octets = percent_decoded(alloc, escaped)?;
     let (charset, _) = cut(&NoApostrophe, value);
     let (text, _) = decode_charset(alloc, charset, octets.as_slice())?;
-    Ok(Some(Bytes::from_vec(text)))
+    Ok(Some(Bytes::from_vec(text)?))
 }
 
 /// The text of the extended value that a parameter has.

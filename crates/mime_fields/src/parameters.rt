@@ -48,6 +48,6 @@ pub(crate) fn parameter(
 {
     match value_named(name, lexemes) {
         None => Ok(None),
-        Some(value) => Ok(Some(Bytes::from_vec(word_text(alloc, &value)?))),
+        Some(value) => Ok(Some(Bytes::from_vec(word_text(alloc, &value)?)?)),
     }
 }
