@@ -4,3 +4,4 @@ pub mod Octets
 pub mod Read
 pub mod Sending
 pub mod Tape
+pub mod Unread

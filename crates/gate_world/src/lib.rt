@@ -14,6 +14,7 @@ mod sending;
 mod steady_world;
 mod tape;
 mod text;
+mod unread;
 mod watcher;
 
 pub use bytes::Bytes;
@@ -27,4 +28,5 @@ pub use sending::{send_all, write_all};
 pub use steady_world::SteadyWorld;
 pub use tape::Tape;
 pub use text::Text;
+pub use unread::{FillError, MAX_FILL_OCTETS, Unread};
 pub use watcher::Watcher;
