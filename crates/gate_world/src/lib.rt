@@ -4,6 +4,7 @@
 
 mod bytes;
 mod event;
+mod left;
 mod listed;
 mod names;
 mod outside;

@@ -7,7 +7,6 @@ ghost use Rattle.gate_world.specs.Unread.{ClientFills, ClientTells, LinkFills, L
 use crate::{Front, Link};
 use std::alloc::{AllocError, Global};
 use std::marker::Model;
-use std::mem;
 
 /// The most octets that one fill asks for.
 pub const MAX_FILL_OCTETS: usize = 65_536;
