@@ -16,7 +16,7 @@ use Rattle.header_words.specs.QuotedPrintable.{Piece, right, IsSoft, BeginsWithH
 use Rattle.header_words.specs.Transfer.{IsBody}
 use Rattle.header_words.specs.declared.transfer.Encoding.{Encoding}
 use Rattle.header_words.specs.declared.transfer.Encoding.TheVariants as encoding
-use Rattle.header_words.specs.Reading.{hex_pair, hex_in, break_of, sign_of, blanks_of, piece_in, IsRead, HasPrintableLen}
+use Rattle.header_words.specs.reading.Units.{hex_pair, hex_in, break_of, sign_of, blanks_of, piece_in, IsRead, HasPrintableLen}
 use Rattle.header_words.proofs.QuotedLemmas.{hex_sound, hex_complete}
 
 -- ---- ends of lines

@@ -2,7 +2,7 @@ ghost use Rattle.std.specs.Prelude.{◌≡◌, ◌≢◌, ◌↔◌, ◌==◌, n
 ghost use Rattle.text_words.specs.Cuts.{Each};
 ghost use Rattle.text_words.specs.Sequence.{UnitAt};
 ghost use Rattle.header_words.specs.EncodedWords as words;
-ghost use Rattle.header_words.specs.Reading.{IsWordBefore};
+ghost use Rattle.header_words.specs.reading.Units.{IsWordBefore};
 
 use crate::base64_text::decode_base64;
 use crate::charset::decode_charset;

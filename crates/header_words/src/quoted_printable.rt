@@ -3,7 +3,7 @@ ghost use Rattle.text_words.specs.Cuts.{front, back};
 ghost use Rattle.text_words.specs.LineEnds as lines;
 ghost use Rattle.text_words.specs.Octets as classes;
 ghost use Rattle.header_words.specs.QuotedPrintable as printable;
-ghost use Rattle.header_words.specs.Reading as reading;
+ghost use Rattle.header_words.specs.reading.Units as reading;
 
 use crate::quoted_text::hex_octet;
 use std::alloc::{AllocError, Global};
@@ -70,7 +70,7 @@ fn piece_len(piece: PieceAt<'_>) -> usize
 }
 
 /// The piece at the front.
-#[tactic(auto, unfolding(crate::specs::Reading::piece_in))]
+#[tactic(auto, unfolding(crate::specs::reading::Units::piece_in))]
 fn piece_at(text: &[u8]) -> PieceAt<'_>
     requires { 0 < length text.now }
     ensures { reading.Reads (reading.piece_in text.now) text.now result }

@@ -14,7 +14,7 @@ use Rattle.text_words.proofs.SequenceLemmas.{Behind, begins, one_more, all_done,
 use Rattle.mail_header.specs.Lines.{without_end}
 use Rattle.mail_header.specs.Fields.{is_name, IsField, ends_block, IsBlock, Part, AField, Other, Body, IsPart, ThisField, OtherLines, ThisBody, NameAndRaw, field_in, body_in, field_view, fields_view, IsHeader, later_or, last_named, IsLastField}
 use Rattle.mail_header.specs.declared.header.Field.{Field}
-use Rattle.mail_header.specs.Reading.{block_len, EndsHeader, IsBlockAt, Later, Adds, Added, Passed}
+use Rattle.mail_header.specs.reading.HeaderLines.{block_len, EndsHeader, IsBlockAt, Later, Adds, Added, Passed}
 
 -- ---- blocks
 

@@ -2,7 +2,7 @@
 ghost use Rattle.std.specs.Prelude.{◌≡◌, ◌≤◌, ℕ, List, length, None, Some, IfOk, OnOk, MatchOption};
 ghost use Rattle.std.specs.Option.{option_map};
 ghost use Rattle.mail_header.specs.Fields as fields;
-ghost use Rattle.mail_header.specs.Reading as reading;
+ghost use Rattle.mail_header.specs.reading.HeaderLines as reading;
 
 use crate::header::{Field, Fields};
 use crate::lines::without_end;

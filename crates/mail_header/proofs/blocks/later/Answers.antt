@@ -1,6 +1,6 @@
 use Rattle.std.proofs.Common.{◌≡◌, true, false, [], ◌∷◌, ◌++◌, refl, sym, ◌∙◌}
 use Rattle.text_words.specs.Octets.{is_same_text}
-use Rattle.mail_header.specs.Reading.{Added, Passed}
+use Rattle.mail_header.specs.reading.HeaderLines.{Added, Passed}
 use Rattle.mail_header.proofs.FieldLemmas.{last_found, last_other}
 use Rattle.mail_header.proofs.blocks.later.Goals as goal
 

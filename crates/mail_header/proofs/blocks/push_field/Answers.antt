@@ -1,6 +1,6 @@
 use Rattle.std.proofs.Common.{List, sym, subst}
 use Rattle.mail_header.specs.Fields.{NameAndRaw, fields_view}
-use Rattle.mail_header.specs.Reading.{Adds, Added, Passed}
+use Rattle.mail_header.specs.reading.HeaderLines.{Adds, Added, Passed}
 use Rattle.mail_header.proofs.FieldLemmas.{pushed_view}
 use Rattle.mail_header.proofs.blocks.push_field.Goals as goal
 
