@@ -3,7 +3,7 @@ ghost use Rattle.std.specs.Prelude.{◌≡◌, ℕ, IsTrue, IfOk, Some, true, ma
 ghost use Rattle.std.specs.BTreeMap.{IsOrdered};
 ghost use Rattle.std.specs.List.{list_any};
 ghost use Rattle.std.specs.Ordering.{nat_cmp};
-ghost use Rattle.change_list.specs.Parts.{has_of, IsIn};
+ghost use Rattle.change_list.specs.reading.Parts.{has_of, IsIn};
 ghost use Rattle.change_list.specs.Changes.{Lists};
 
 use crate::walk::Seen;

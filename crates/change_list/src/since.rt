@@ -1,6 +1,6 @@
 //! What changed after a place, from a walk over the touches after it.
 ghost use Rattle.std.specs.Prelude.{◌≡◌, ◌≢◌, ◌↔◌, [], false, IsTrue, ◌+◌, ◌≤◌, ◌<◌, ◌^◌, drop, length, IfOk};
-ghost use Rattle.change_list.specs.Answer.{Answers};
+ghost use Rattle.change_list.specs.reading.Answer.{Answers};
 
 use crate::parts::{Part, has_any, ids_in};
 use crate::walk::gather;

@@ -1,5 +1,5 @@
 use Rattle.std.proofs.Common.{refl, ◌∙◌, sym}
-use Rattle.change_list.specs.Parts.{has_of}
+use Rattle.change_list.specs.reading.Parts.{has_of}
 use Rattle.change_list.specs.declared.parts.Part.TheVariants.{Mixed}
 use Rattle.change_list.proofs.Picked.{picked, lists_picked, none_picked, no_value_passes}
 use Rattle.change_list.proofs.since.answer.Goals as goal

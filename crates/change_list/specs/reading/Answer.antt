@@ -2,8 +2,8 @@
 use Rattle.std.specs.Prelude.{◌≡◌, ◌↔◌, ◌≢◌, ℕ, ◌+◌, List, [], Option, IsTrue}
 use Rattle.std.specs.BTreeMap.{BTreeMap}
 use Rattle.change_list.specs.Changes.{Lists}
-use Rattle.change_list.specs.Seen.{Gathered}
-use Rattle.change_list.specs.Parts.{IsIn}
+use Rattle.change_list.specs.reading.Seen.{Gathered}
+use Rattle.change_list.specs.reading.Parts.{IsIn}
 use Rattle.change_list.specs.declared.entries.Entry.{Entry}
 use Rattle.change_list.specs.declared.answer.Changes.{Changes}
 use Rattle.change_list.specs.declared.walk.Seen.{Seen}
