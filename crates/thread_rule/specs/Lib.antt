@@ -1,5 +1,4 @@
 pub mod Subject
 pub mod BaseSubject
-pub mod Reading
 pub mod Threads
-pub mod Index
+pub mod reading

@@ -5,6 +5,7 @@ mod base;
 mod book;
 mod entries;
 mod index;
+mod key;
 mod member;
 mod search;
 mod subject;

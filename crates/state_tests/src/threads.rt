@@ -1,7 +1,8 @@
-use crate::{Named, ThreadBook, base_subject};
+// Threads of Emails as they arrive.
 use gate_world::{Bytes, Names};
 use std::alloc::{AllocError, Global};
 use std::test::Fail;
+use thread_rule::{Named, ThreadBook, base_subject};
 
 /// An Email by its number, the ids that it names, and its Subject.
 fn named(alloc: Global, email: u64, ids: &[&[u8]], subject: &[u8]) -> Result<Named, AllocError> {
@@ -192,5 +193,40 @@ fn many_emails_share_one_id(rt: HostRuntime) -> Result<(), Fail> {
         book.find(&named(rt.alloc(), 20001, &[b"<b>"], b"Plan")?),
         20001
     );
+    Ok(())
+}
+
+/// The ids of 1,000 numbers.
+fn thousand_ids(alloc: Global) -> Result<Names, AllocError> {
+    let mut ids = Names::new(alloc);
+    for id in 0..1000u64 {
+        ids.push(Bytes::copy_of(alloc, &id.to_le_bytes())?)?;
+    }
+    Ok(ids)
+}
+
+/// 2,000 Emails that share 1,000 ids under base subjects of their own come in by look-ups alone, with no walk over those
+/// that share an id.
+#[test]
+fn shared_ids_under_many_base_subjects(rt: HostRuntime) -> Result<(), Fail> {
+    let mut book = ThreadBook::new(rt.alloc());
+    for email in 1..2001u64 {
+        let subject = format!(in rt.alloc(); "Plan {email}")?;
+        let new = Named {
+            email,
+            ids: thousand_ids(rt.alloc())?,
+            base: Bytes::copy_of(rt.alloc(), subject.as_bytes())?,
+        };
+        assert_eq!(rt; book.find(&new), email);
+        if !book.contains(email) {
+            book.put(new, email)?;
+        }
+    }
+    let last = Named {
+        email: 2001,
+        ids: thousand_ids(rt.alloc())?,
+        base: Bytes::copy_of(rt.alloc(), b"PLAN 1500")?,
+    };
+    assert_eq!(rt; book.find(&last), 1500);
     Ok(())
 }

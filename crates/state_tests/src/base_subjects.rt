@@ -1,7 +1,8 @@
-use crate::{base_of, base_subject};
+// Base subjects of decoded texts.
 use std::alloc::{AllocError, Global};
 use std::process::Abort;
 use std::test::Fail;
+use thread_rule::{base_of, base_subject};
 
 /// Examples of the procedure, each reasoned from its steps. The text is decoded before them: encoded words that stand in
 /// it still are text like other.

@@ -1,5 +1,5 @@
-use super::*;
-use crate::Kind;
+// Answers of a change list, and its refusals.
+use change_list::{ChangeList, Changes, Entry, Kind, SinceError, WINDOW};
 use std::process::Abort;
 use std::test::Fail;
 

@@ -1,3 +1,4 @@
+// Base subjects of raw Subject values.
 use mail_header::as_text;
 use std::alloc::Global;
 use std::process::Abort;

@@ -1,6 +1,7 @@
 //! Touches at random, and the answers of a slow program that goes by the definition alone.
-use super::*;
-use crate::Kind;
+use change_list::{ChangeList, Changes, Entry, Kind, SinceError, WINDOW};
+use gate_world::Listed;
+use std::alloc::{AllocError, Global};
 use std::process::Abort;
 use std::test::Fail;
 
