@@ -5,7 +5,7 @@ use Rattle.text_words.specs.Octets.{hex_value}
 use Rattle.text_words.specs.Sequence.{UnitAt}
 use Rattle.text_words.proofs.SequenceLemmas.{IsReader, same_pair}
 use Rattle.header_words.specs.QuotedText.{IsQUnit, Space, Hex, Itself}
-use Rattle.header_words.specs.Reading.{hex_pair, hex_in, escape_of, q_unit_in}
+use Rattle.header_words.specs.reading.Units.{hex_pair, hex_in, escape_of, q_unit_in}
 
 -- two digits at the front, and the octet that they spell
 pub record HexAt (c : ℕ) (t : List ℕ) : Type 0 where

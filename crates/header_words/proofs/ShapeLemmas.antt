@@ -3,7 +3,7 @@ use Rattle.std.proofs.Common.{◌≡◌, ℕ, ◌-◌, List, [], ◌∷◌, ◌+
 use Rattle.std.specs.Option.{IfNone, IfSome}
 use Rattle.std.specs.Result.{IfOk}
 use Rattle.std.proofs.lemmas.List.{length-append}
-use Rattle.text_words.specs.Cuts.{IsRun}
+use Rattle.text_words.specs.Cuts.{Each, IsRun}
 use Rattle.text_words.proofs.CutLemmas.{SameCut, one_run}
 use Rattle.header_words.specs.Base64.{IsBase64}
 use Rattle.header_words.specs.EncodedWords.{is_token, is_encoded, HasShape, Spells, InBase64, InQ}
@@ -20,8 +20,8 @@ behind_charset t a b cs d c l x y e f g r h =
     one_run is_token cs d c (l ∷ 63 ∷ (x ++ 63 ∷ 61 ∷ y)) 63 r.0 h.token.0 refl (sym g ∙ q)
 
 -- what stands behind the encoded text
-pub behind_text : (g tx k x y : List ℕ) → g ≡ tx ++ 63 ∷ k → IsRun is_encoded tx → IsRun is_encoded x → g ≡ x ++ 63 ∷ 61 ∷ y → SameCut tx x k (61 ∷ y)
-behind_text g tx k x y e r s f = one_run is_encoded tx k x (61 ∷ y) 63 r.0 s.0 refl (sym e ∙ f)
+pub behind_text : (g tx k x y : List ℕ) → g ≡ tx ++ 63 ∷ k → Each is_encoded tx → Each is_encoded x → g ≡ x ++ 63 ∷ 61 ∷ y → SameCut tx x k (61 ∷ y)
+behind_text g tx k x y e r s f = one_run is_encoded tx k x (61 ∷ y) 63 r s refl (sym e ∙ f)
 
 -- a text has one shape
 pub record SameShape (c d : List ℕ) (l m : ℕ) (x y s t : List ℕ) : Type 0 where

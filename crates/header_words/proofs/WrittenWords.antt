@@ -70,7 +70,7 @@ some_spelled octets t b some e = none b.symbols b.padding (sym b.whole ∙ e) b.
     none [] p f a = omega (arith, ap length a)
     none (c ∷ s) p f a = absurd cc
 
-word_shape : (piece text : List ℕ) → text ≡ encode_of standard piece → IsRun is_encoded text → HasShape (codes "utf-8") 66 text [] (utf8_word piece)
+word_shape : (piece text : List ℕ) → text ≡ encode_of standard piece → Each is_encoded text → HasShape (codes "utf-8") 66 text [] (utf8_word piece)
 unfolding utf8_word
 word_shape piece text e r = record {
   whole = ap (λ (u : List ℕ). codes "=?utf-8?B?" ++ (u ++ codes "?=")) (sym e);
@@ -91,7 +91,7 @@ word_is piece u some =
       letter = 66;
       text = encode_of standard piece;
       octets = piece;
-      shape = word_shape piece (encode_of standard piece) refl (printed piece (encode_of standard piece) b, some_spelled piece (encode_of standard piece) b some);
+      shape = word_shape piece (encode_of standard piece) refl (printed piece (encode_of standard piece) b);
       spelled = InBase64 refl b;
       said = sym (ap (λ (c : Charset). text_in c piece) utf8_name ∙ utf8_lossy-IsUtf8 piece u);
     }

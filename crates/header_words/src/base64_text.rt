@@ -78,6 +78,14 @@ pub fn decode_symbols(alloc: Global, symbols: &[u8]) -> Result<Vec<u8>, AllocErr
     Ok(octets)
 }
 
+/// How many octets so many symbols spell: three for each group of four, and one less than the symbols of a last group.
+#[tactic(auto, using(crate::proofs::Base64Lemmas::spelled_length))]
+pub fn spelled_len(symbols: usize) -> usize
+    ensures { (s : List ℕ) → length s ≡ symbols → result ≡ length (base64.spelled_octets s) }
+{
+    symbols - symbols / 4 - (symbols % 4).min(1)
+}
+
 /// Adds the octets of the symbols behind the last whole group.
 fn push_last(octets: &mut Vec<u8>, symbols: &[u8]) -> Result<(), AllocError>
     requires { length symbols.now < 4 }

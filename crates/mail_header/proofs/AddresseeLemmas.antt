@@ -7,11 +7,11 @@ use Rattle.text_words.proofs.SequenceLemmas.{one_reading, determined}
 use Rattle.mail_header.specs.declared.token.Alphabet.{Alphabet}
 use Rattle.mail_header.specs.declared.token.Alphabet.TheVariants as alphabet
 use Rattle.mail_header.specs.Tokens.{Spelled, AreTokens}
-use Rattle.mail_header.specs.TokenReading.{spelled_in}
+use Rattle.mail_header.specs.reading.TokenReading.{spelled_in}
 use Rattle.mail_header.specs.Mailboxes.{Mailbox}
 use Rattle.mail_header.specs.AddressLists.{Element, Empty, Head, End, Member, IsElement, Addressee, One, Group, AreMailboxes, NoMailboxes, EmptyPlace, NextMailbox, AreAddressees, NoAddressees, Passed, NextOne, NextGroup, IsAddressList, mailboxes_of, Grouped, run_of, groups_from}
-use Rattle.mail_header.specs.ElementReading.{element_in, are_nested, is_addressee, members_of, grouped_from}
-use Rattle.mail_header.specs.GroupBuilding.{are_list}
+use Rattle.mail_header.specs.reading.ElementReading.{element_in, are_nested, is_addressee, members_of, grouped_from}
+use Rattle.mail_header.specs.reading.GroupBuilding.{are_list}
 use Rattle.mail_header.proofs.OneToken.{token_reader}
 use Rattle.mail_header.proofs.MailboxLemmas.{and_parts, both}
 use Rattle.mail_header.proofs.ElementLemmas.{element_reader}

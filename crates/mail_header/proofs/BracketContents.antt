@@ -3,7 +3,7 @@ use Rattle.std.proofs.Common.{◌≡◌, ◌≢◌, ℕ, zero, suc, ◌+◌, ◌
 use Rattle.std.proofs.lemmas.List.{length-append}
 use Rattle.std.proofs.lemmas.Bool.Decides.{eqb_tells}
 use Rattle.mail_header.specs.Tokens.{Contents, Empty, Octet, Pair, Nested}
-use Rattle.mail_header.specs.TokenReading.{further, close_in}
+use Rattle.mail_header.specs.reading.TokenReading.{further, close_in}
 use Rattle.mail_header.proofs.BracketSteps.{further_more, close_escaped, close_slash, close_last, close_down, close_up, close_other, close_none}
 
 -- what is read behind the closing octet, with so many open

@@ -9,7 +9,7 @@ use Rattle.text_words.proofs.CutLemmas.{one_run}
 use Rattle.text_words.proofs.SequenceLemmas.{Behind, begins, one_more, all_done, one_reading}
 use Rattle.mail_header.specs.Lines.{unfolded}
 use Rattle.mail_header.specs.Bracketed.{is_inner, IsPiece, InBrackets, Passed, HasPieces}
-use Rattle.mail_header.specs.Reading.{Takes, is_of_line_end, kept_octet}
+use Rattle.mail_header.specs.reading.HeaderLines.{Takes, is_of_line_end, kept_octet}
 
 -- an octet more is kept, or dropped with its line end
 pub kept_more : (c : ℕ) (t old new whole : List ℕ) → old ++ unfolded (c ∷ t) ≡ whole → new ≡ old ++ kept_octet c t → new ++ unfolded t ≡ whole

@@ -2,7 +2,7 @@
 use Rattle.std.proofs.Common.{◌≡◌, ◌≢◌, ℕ, ◌+◌, ◌-◌, ◌<◌, ◌≤◌, Bool, true, false, List, [], ◌∷◌, length, drop, get_or, refl, ap, ◌∙◌, arith, add-one, drop-cons, Option, Some, None, eqb, eq-eqb}
 use Rattle.std.proofs.lemmas.Bool.{cond-true, cond-false, ne_eqb}
 use Rattle.std.proofs.lemmas.List.{drop_all}
-use Rattle.mail_header.specs.TokenReading.{further, close_in}
+use Rattle.mail_header.specs.reading.TokenReading.{further, close_in}
 
 pub drop_at : (b : List ℕ) (i : ℕ) → i < length b → drop i b ≡ get_or b i 0 ∷ drop (i + 1) b
 drop_at b i lt = rw add-one (drop-cons b i 0 lt)

@@ -10,7 +10,7 @@ use Rattle.text_words.proofs.SequenceLemmas.{IsReader, unit_same}
 use Rattle.mail_header.specs.Tokens.{Spelled}
 use Rattle.mail_header.specs.Mailboxes.{mark_of, has_mark, is_gap, is_phrase, is_display_name, is_addr_spec, is_inner}
 use Rattle.mail_header.specs.AddressLists.{Element, Empty, Head, End, Member, IsElement, Comma, Blank, Phrase, Closed, Bare, InAngle, EndsElement, EndsGroup, is_no_separator, is_no_comma}
-use Rattle.mail_header.specs.ElementReading.{is_plain, is_no_greater, stops, bare, in_angle, some_bare, bare_of, head_of, end_before, end_of, angle_before, angle_of, closed_of, opened_of, separator_of, is_empty, marked_of, element_of, element_in}
+use Rattle.mail_header.specs.reading.ElementReading.{is_plain, is_no_greater, stops, bare, in_angle, some_bare, bare_of, head_of, end_before, end_of, angle_before, angle_of, closed_of, opened_of, separator_of, is_empty, marked_of, element_of, element_in}
 use Rattle.mail_header.proofs.MailboxLemmas.{flip, picked, gap_mark, mark_is, gaps_each, phrase_each, name_each, spec_each, inner_each, spec_some}
 
 abbrev pub Read : Type 0

@@ -12,8 +12,8 @@ use Rattle.mail_header.specs.Mailboxes.{Mailbox}
 use Rattle.mail_header.specs.AddressLists.{Element, IsElement, Grouped, IsAddressList}
 use Rattle.mail_header.specs.Names.{IsAddress, IsGroupName, NoName, Named, IsGroup, phrase_text, HasNone, IsAddressesForm, IsGroupsForm}
 use Rattle.mail_header.specs.Names as names
-use Rattle.mail_header.specs.ElementReading.{closed}
-use Rattle.mail_header.specs.GroupBuilding.{Has, group_from, are_list, IsList, IsNoList, AddressesIn, NoAddresses, Addresses, GroupsIn, NoGroups, Groups}
+use Rattle.mail_header.specs.reading.ElementReading.{closed}
+use Rattle.mail_header.specs.reading.GroupBuilding.{Has, group_from, are_list, IsList, IsNoList, AddressesIn, NoAddresses, Addresses, GroupsIn, NoGroups, Groups}
 use Rattle.mail_header.proofs.AddresseeLemmas.{is_listed, members_are, groups_are, listed, one_elements, elements_here}
 
 pub zip_append : {A B : Type 0} (R : A → B → Type 0) (xs us : List A) (ys vs : List B) → AllZip R xs ys → AllZip R us vs → AllZip R (xs ++ us) (ys ++ vs)

@@ -6,7 +6,7 @@ use Rattle.text_words.specs.Sequence.{IsDetermined}
 use Rattle.text_words.proofs.SequenceLemmas.{determined}
 use Rattle.mail_header.specs.declared.token.Alphabet.{Alphabet}
 use Rattle.mail_header.specs.Tokens.{Spelled, IsToken, AreTokens, BeginsNone, AreLeading}
-use Rattle.mail_header.specs.TokenReading.{spelled_in}
+use Rattle.mail_header.specs.reading.TokenReading.{spelled_in}
 use Rattle.mail_header.specs.Lexemes.{is_lexeme, AreLeadingLexemes}
 use Rattle.mail_header.proofs.OneToken.{token_reader}
 

@@ -12,3 +12,4 @@ pub mod AddresseeLemmas
 pub mod GroupLemmas
 pub mod TextLemmas
 pub mod FormLemmas
+pub mod LexemeLemmas

@@ -13,7 +13,7 @@ use Rattle.text_words.specs.Cuts.{Each, IsRun, Stops, front, back}
 use Rattle.text_words.specs.Sequence.{UnitAt}
 use Rattle.text_words.proofs.CutLemmas.{front_back, front_each, back_stops, front_is}
 use Rattle.text_words.proofs.SequenceLemmas.{IsReader, unit_same}
-use Rattle.mail_header.specs.TokenReading.{span, further, close_in, token_of, token_in, spelled_of, spelled_in}
+use Rattle.mail_header.specs.reading.TokenReading.{span, further, close_in, token_of, token_in, spelled_of, spelled_in}
 use Rattle.mail_header.proofs.BracketContents.{Apart, closes_again, closed_in}
 
 -- ---- what is spelled is read

@@ -7,6 +7,7 @@ use Rattle.text_words.specs.Octets.{is_blank, is_between, is_same_text}
 use Rattle.text_words.specs.Sequence.{Sequence}
 use Rattle.mail_header.specs.Lines.{without_end}
 use Rattle.mail_header.specs.declared.header.Field.{Field}
+use Rattle.mail_header.specs.declared.header.Fields.{Fields}
 
 -- an octet of a field's name: 33 to 126 but ":"
 abbrev pub is_name : ℕ → Bool
@@ -69,8 +70,14 @@ pub record IsHeader (fields : List NameAndRaw) (end : ℕ) (b : List ℕ) : Type
   pub end_is : end + length (flat_map body_in parts) ≡ length b
 
 -- names and raw values of the code's fields
+abbrev pub field_view : Field → NameAndRaw
+field_view f = (f.name.now, f.raw.now)
+
 abbrev pub fields_view : List Field → List NameAndRaw
-fields_view fs = map (λ (f : Field). (f.name, f.raw)) fs
+fields_view fs = map field_view fs
+
+abbrev pub names_and_raws : Fields → List NameAndRaw
+names_and_raws f = fields_view f.list.items
 
 abbrev pub later_or : Option (List ℕ) → Bool → List ℕ → Option (List ℕ)
 later_or None same raw = if same then Some raw else None
@@ -80,3 +87,10 @@ later_or (Some later) same raw = Some later
 abbrev pub last_named : List ℕ → List NameAndRaw → Option (List ℕ)
 last_named name [] = None
 last_named name (f ∷ fs) = later_or (last_named name fs) (is_same_text f.0 name) f.1
+
+-- the raw value of the last field of this name in the header of the octets
+pub record IsLastField (name b : List ℕ) (raw : Option (List ℕ)) : Type 0 where
+  pub fields : List NameAndRaw
+  pub end : ℕ
+  pub is : IsHeader fields end b
+  pub raw_is : raw ≡ last_named name fields

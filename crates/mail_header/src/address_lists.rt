@@ -3,9 +3,9 @@ ghost use Rattle.std.specs.List.{AllZip, list_any};
 ghost use Rattle.text_words.specs.Sequence.{Sequence};
 ghost use Rattle.mail_header.specs.AddressLists as lists;
 ghost use Rattle.mail_header.specs.Names as names;
-ghost use Rattle.mail_header.specs.ElementReading as reading;
-ghost use Rattle.mail_header.specs.ElementView.{mailbox_view, element_view, elements_view};
-ghost use Rattle.mail_header.specs.GroupBuilding as building;
+ghost use Rattle.mail_header.specs.reading.ElementReading as reading;
+ghost use Rattle.mail_header.specs.reading.ElementView.{mailbox_view, element_view, elements_view};
+ghost use Rattle.mail_header.specs.reading.GroupBuilding as building;
 ghost use Rattle.mail_header.specs.TokenView.{tokens_view};
 
 use crate::address::{Address, Group};

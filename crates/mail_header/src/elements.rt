@@ -1,8 +1,8 @@
 ghost use Rattle.std.specs.Prelude.{◌≡◌, ◌+◌, None, Some, List, length, MatchOption, IfOk, IfSome, IfNone};
 ghost use Rattle.text_words.specs.Sequence.{Sequence};
 ghost use Rattle.mail_header.specs.AddressLists as lists;
-ghost use Rattle.mail_header.specs.ElementReading as reading;
-ghost use Rattle.mail_header.specs.ElementView.{mailbox_view, element_view, elements_view};
+ghost use Rattle.mail_header.specs.reading.ElementReading as reading;
+ghost use Rattle.mail_header.specs.reading.ElementView.{mailbox_view, element_view, elements_view};
 ghost use Rattle.mail_header.specs.TokenView.{token_view, tokens_view};
 
 use crate::mailboxes::{behind_route, is_addr_spec, is_display_name, is_inner, is_phrase};

@@ -1,11 +1,12 @@
-ghost use Rattle.std.specs.Prelude.{◌≡◌, List, IfOk, IfSome, IfNone};
+ghost use Rattle.std.specs.Prelude.{◌≡◌, ◌<◌, ◌≤◌, List, [], length, IfOk, IfSome, IfNone, MatchOption};
 ghost use Rattle.mail_header.specs.Lexemes as lexemes;
 ghost use Rattle.mail_header.specs.Tokens.{Spelled, AreTokens};
-ghost use Rattle.mail_header.specs.TokenView.{tokens_view};
+ghost use Rattle.mail_header.specs.TokenView.{token_view, tokens_view};
+ghost use Rattle.mail_header.specs.reading.LexemeReading as reading;
 ghost use Rattle.std.specs.List.{filter};
 
 use crate::token::{Alphabet, Kind, Token};
-use crate::tokens::{leading_tokens, tokens};
+use crate::tokens::{first_token, leading_tokens, tokens};
 use std::alloc::{AllocError, Global};
 
 /// The tokens of a value without white space and comments, where the value is a row of tokens.
@@ -33,6 +34,30 @@ pub fn leading_lexemes(
 {
     let (found, _rest) = leading_tokens(alloc, alphabet, text)?;
     without_gaps(alloc, found.as_slice())
+}
+
+/// The text behind the white space and comments at its front.
+pub fn behind_gaps(alphabet: Alphabet, text: &[u8]) -> &[u8]
+    ensures is { reading.IsBehindGaps alphabet result.now text.now }
+    ensures within { length result.now ≤ length text.now }
+{
+    let mut rest = text;
+    while let Some((token, behind)) = first_token(alphabet, rest) {
+        if is_lexeme(token.kind) {
+            return rest;
+        }
+        rest = behind;
+    }
+    rest
+}
+
+/// The first lexeme at the front of a value, and what follows it. There is none where no token begins behind white space
+/// and comments.
+pub fn next_lexeme(alphabet: Alphabet, text: &[u8]) -> Option<(Token<'_>, &[u8])>
+    ensures value { MatchOption result (reading.lexemes_in alphabet text.now ≡ []) (λ r. reading.IsNextLexeme alphabet (token_view r.0) r.1.now text.now) }
+    ensures shorter { IfSome result (λ r. length r.1.now < length text.now) }
+{
+    first_token(alphabet, behind_gaps(alphabet, text))
 }
 
 fn without_gaps<'a>(alloc: Global, found: &[Token<'a>]) -> Result<Vec<Token<'a>>, AllocError>

@@ -23,7 +23,7 @@ pub mod zones;
 
 pub use address::{Address, Group};
 pub use address_lists::{as_addresses, as_groups};
-pub use blocks::fields;
+pub use blocks::{fields, last_field};
 pub use bracketed::{as_message_ids, as_urls};
 pub use date::Moment;
 pub use header::{Field, Fields};

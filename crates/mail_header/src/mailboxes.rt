@@ -1,7 +1,7 @@
 ghost use Rattle.std.specs.Prelude.{◌≡◌, true, []};
 ghost use Rattle.std.specs.List.{list_any};
 ghost use Rattle.mail_header.specs.Mailboxes as mailboxes;
-ghost use Rattle.mail_header.specs.ElementReading as reading;
+ghost use Rattle.mail_header.specs.reading.ElementReading as reading;
 ghost use Rattle.mail_header.specs.TokenView.{token_view, tokens_view};
 
 use crate::token::Token;

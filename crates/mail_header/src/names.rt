@@ -1,7 +1,7 @@
 ghost use Rattle.std.specs.Prelude.{◌≡◌, ◌++◌, None, Some, false, IfOk, OnOk, MatchOption};
 ghost use Rattle.std.specs.Option.{option_map};
 ghost use Rattle.mail_header.specs.Names as names;
-ghost use Rattle.mail_header.specs.ElementView.{mailbox_view};
+ghost use Rattle.mail_header.specs.reading.ElementView.{mailbox_view};
 ghost use Rattle.mail_header.specs.TokenView.{token_view, tokens_view};
 ghost use Rattle.header_words.specs.EncodedWords.{IsText};
 
@@ -70,9 +70,12 @@ fn push_word(alloc: Global, text: &mut Vec<u8>, word: &Token<'_>) -> Result<(), 
 pub fn word_text(alloc: Global, word: &Token<'_>) -> Result<Vec<u8>, AllocError>
     ensures { IfOk result (λ v. v.items ≡ names.word_text word.now.kind word.now.text.now) }
 {
-    let mut text = Vec::new(alloc);
-    push_word(alloc, &mut text, word)?;
-    Ok(text)
+    match word.kind {
+        Kind::Quoted => unquoted(alloc, word.text),
+        Kind::Atom | Kind::Space | Kind::Literal | Kind::Comment | Kind::Mark => {
+            Vec::from_slice(alloc, word.text)
+        }
+    }
 }
 
 fn push_space(text: &mut Vec<u8>, gap: bool) -> Result<(), AllocError>
@@ -112,7 +115,7 @@ pub(crate) fn phrase_name(alloc: Global, phrase: &[Token<'_>]) -> Result<Bytes, 
 }
 
 /// The text without the white space at its end.
-fn without_white_end(text: &[u8]) -> &[u8]
+pub fn without_white_end(text: &[u8]) -> &[u8]
     ensures { result.now ≡ names.without_white_end text.now }
 {
     let mut rest = text;

@@ -4,7 +4,7 @@ ghost use Rattle.text_words.specs.Cuts.{front, back};
 ghost use Rattle.mail_header.specs.Tokens.{Spelled};
 ghost use Rattle.mail_header.specs.Mailboxes as mailboxes;
 ghost use Rattle.mail_header.specs.AddressLists as lists;
-ghost use Rattle.mail_header.specs.ElementReading as reading;
+ghost use Rattle.mail_header.specs.reading.ElementReading as reading;
 ghost use Rattle.mail_header.specs.TokenView.{token_view, tokens_view};
 
 use crate::token::{Kind, Token};

@@ -1,5 +1,5 @@
 ghost use Rattle.std.specs.Prelude.{◌≡◌, ◌++◌, ◌∷◌, List, None, IfOk, codes};
-ghost use Rattle.mail_header.specs.Fields.{fields_view};
+ghost use Rattle.mail_header.specs.Fields.{names_and_raws};
 ghost use Rattle.mail_header.specs.Tokens.{Spelled};
 ghost use Rattle.mail_header.specs.TokenView.{token_view, tokens_view};
 ghost use Rattle.mime_fields.specs.ContentTypes as types;
@@ -74,8 +74,8 @@ fn unreadable() -> ContentType
 }
 
 /// What the Content-Type of a header says.
-pub(crate) fn content_type(alloc: Global, fields: &Fields) -> Result<ContentType, AllocError>
-    ensures { IfOk result (λ c. (ls : List Spelled) × HasLexemes (fields_view fields.now.list) (codes "content-type") ls × types.IsContentType ls c) }
+pub(crate) fn content_type(alloc: Global, fields: &Fields<'_>) -> Result<ContentType, AllocError>
+    ensures { IfOk result (λ c. (ls : List Spelled) × HasLexemes (names_and_raws fields.now) (codes "content-type") ls × types.IsContentType ls c) }
 {
     let text = field_text(alloc, fields, b"content-type")?;
     let lexemes = leading_lexemes(alloc, Alphabet::Mime, text.as_slice())?;

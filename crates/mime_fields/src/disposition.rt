@@ -1,5 +1,5 @@
 ghost use Rattle.std.specs.Prelude.{◌≡◌, None, List, IfOk, codes};
-ghost use Rattle.mail_header.specs.Fields.{fields_view};
+ghost use Rattle.mail_header.specs.Fields.{names_and_raws};
 ghost use Rattle.mail_header.specs.Tokens.{Spelled};
 ghost use Rattle.mail_header.specs.TokenView.{tokens_view};
 ghost use Rattle.mime_fields.specs.Dispositions as dispositions;
@@ -64,8 +64,11 @@ fn disposition_of(alloc: Global, lexemes: &[Token<'_>]) -> Result<Disposition, A
 }
 
 /// What the Content-Disposition of a header says.
-pub(crate) fn content_disposition(alloc: Global, fields: &Fields) -> Result<Disposition, AllocError>
-    ensures { IfOk result (λ d. (ls : List Spelled) × HasLexemes (fields_view fields.now.list) (codes "content-disposition") ls × dispositions.IsDisposition ls d) }
+pub(crate) fn content_disposition(
+    alloc: Global,
+    fields: &Fields<'_>,
+) -> Result<Disposition, AllocError>
+    ensures { IfOk result (λ d. (ls : List Spelled) × HasLexemes (names_and_raws fields.now) (codes "content-disposition") ls × dispositions.IsDisposition ls d) }
 {
     let text = field_text(alloc, fields, b"content-disposition")?;
     let lexemes = leading_lexemes(alloc, Alphabet::Mime, text.as_slice())?;

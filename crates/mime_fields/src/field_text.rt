@@ -1,5 +1,5 @@
 ghost use Rattle.std.specs.Prelude.{◌≡◌, [], unwrap_or, IfOk};
-ghost use Rattle.mail_header.specs.Fields.{fields_view, last_named};
+ghost use Rattle.mail_header.specs.Fields.{names_and_raws, last_named};
 ghost use Rattle.mail_header.specs.RawForms.{raw_form};
 
 use gate_world::Bytes;
@@ -8,7 +8,7 @@ use std::alloc::{AllocError, Global};
 
 /// The raw value of the last field of this name, empty where there is none.
 fn last_or_empty<'a>(fields: &'a Fields, name: &[u8]) -> &'a [u8]
-    ensures { result.now ≡ unwrap_or (last_named name.now (fields_view fields.now.list)) [] }
+    ensures { result.now ≡ unwrap_or (last_named name.now (names_and_raws fields.now)) [] }
 {
     match fields.last(name) {
         None => &[],
@@ -17,8 +17,12 @@ fn last_or_empty<'a>(fields: &'a Fields, name: &[u8]) -> &'a [u8]
 }
 
 /// The octets of which the lexemes of that field are read.
-pub(crate) fn field_text(alloc: Global, fields: &Fields, name: &[u8]) -> Result<Bytes, AllocError>
-    ensures { IfOk result (λ b. b ≡ raw_form (unwrap_or (last_named name.now (fields_view fields.now.list)) [])) }
+pub(crate) fn field_text(
+    alloc: Global,
+    fields: &Fields<'_>,
+    name: &[u8],
+) -> Result<Bytes, AllocError>
+    ensures { IfOk result (λ b. b ≡ raw_form (unwrap_or (last_named name.now (names_and_raws fields.now)) [])) }
 {
     as_raw(alloc, last_or_empty(fields, name))
 }

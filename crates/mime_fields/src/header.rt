@@ -1,5 +1,5 @@
 ghost use Rattle.std.specs.Prelude.{◌≡◌, List, Some, IfOk, unwrap_or, slice_get, codes};
-ghost use Rattle.mail_header.specs.Fields.{fields_view, last_named};
+ghost use Rattle.mail_header.specs.Fields.{names_and_raws, last_named};
 ghost use Rattle.mail_header.specs.Tokens.{Spelled};
 ghost use Rattle.mime_fields.specs.Dispositions.{token_in};
 ghost use Rattle.mime_fields.specs.PartHeaders as headers;
@@ -57,8 +57,8 @@ fn first_id_of(alloc: Global, raw: &[u8]) -> Result<Option<Bytes>, AllocError>
 }
 
 /// The first message id of Content-ID.
-fn content_id(alloc: Global, fields: &Fields) -> Result<Option<Bytes>, AllocError>
-    ensures { IfOk result (λ id. headers.IsFirstId (last_named (codes "content-id") (fields_view fields.now.list)) id) }
+fn content_id(alloc: Global, fields: &Fields<'_>) -> Result<Option<Bytes>, AllocError>
+    ensures { IfOk result (λ id. headers.IsFirstId (last_named (codes "content-id") (names_and_raws fields.now)) id) }
 {
     match fields.last(b"content-id") {
         None => Ok(None),
@@ -67,8 +67,8 @@ fn content_id(alloc: Global, fields: &Fields) -> Result<Option<Bytes>, AllocErro
 }
 
 /// The last field of this name as a text.
-fn text_named(alloc: Global, fields: &Fields, name: &[u8]) -> Result<Option<Bytes>, AllocError>
-    ensures { IfOk result (λ t. headers.IsTextOf (last_named name.now (fields_view fields.now.list)) t) }
+fn text_named(alloc: Global, fields: &Fields<'_>, name: &[u8]) -> Result<Option<Bytes>, AllocError>
+    ensures { IfOk result (λ t. headers.IsTextOf (last_named name.now (names_and_raws fields.now)) t) }
 {
     match fields.last(name) {
         None => Ok(None),
@@ -77,8 +77,8 @@ fn text_named(alloc: Global, fields: &Fields, name: &[u8]) -> Result<Option<Byte
 }
 
 /// The mechanism of Content-Transfer-Encoding, or `7bit`.
-fn transfer_encoding(alloc: Global, fields: &Fields) -> Result<Bytes, AllocError>
-    ensures { IfOk result (λ e. (ls : List Spelled) × headers.HasLexemes (fields_view fields.now.list) (codes "content-transfer-encoding") ls × (e ≡ unwrap_or (token_in ls) (codes "7bit"))) }
+fn transfer_encoding(alloc: Global, fields: &Fields<'_>) -> Result<Bytes, AllocError>
+    ensures { IfOk result (λ e. (ls : List Spelled) × headers.HasLexemes (names_and_raws fields.now) (codes "content-transfer-encoding") ls × (e ≡ unwrap_or (token_in ls) (codes "7bit"))) }
 {
     let text = field_text(alloc, fields, b"content-transfer-encoding")?;
     let lexemes = leading_lexemes(alloc, Alphabet::Mime, text.as_slice())?;
@@ -96,8 +96,8 @@ fn encoding_of(alloc: Global, mechanism: Option<Bytes>) -> Result<Bytes, AllocEr
 
 /// What the header of a body part says, where of several fields of a name the last counts (RFC 8621 section 4.1.4).
 /// What can't be read is passed over: a parameter that is none ends the parameters.
-pub fn part_header(alloc: Global, fields: &Fields) -> Result<PartHeader, AllocError>
-    ensures { IfOk result (λ h. headers.IsPartHeader (fields_view fields.now.list) h) }
+pub fn part_header(alloc: Global, fields: &Fields<'_>) -> Result<PartHeader, AllocError>
+    ensures { IfOk result (λ h. headers.IsPartHeader (names_and_raws fields.now) h) }
 {
     let content = content_type(alloc, fields)?;
     let disposition = content_disposition(alloc, fields)?;

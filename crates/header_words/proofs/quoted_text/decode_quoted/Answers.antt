@@ -2,7 +2,7 @@ use Rattle.std.proofs.Common.{◌≡◌, ◌≢◌, ℕ, List, [], ◌∷◌, �
 use Rattle.std.proofs.lemmas.List.{nil_from_length}
 use Rattle.text_words.proofs.SequenceLemmas.{Behind, unit_within, read_more, read_no_more, all_done}
 use Rattle.header_words.specs.QuotedText.{IsQUnit}
-use Rattle.header_words.specs.Reading.{q_unit_in}
+use Rattle.header_words.specs.reading.Units.{q_unit_in}
 use Rattle.header_words.proofs.QuotedLemmas.{q_reader}
 use Rattle.header_words.proofs.quoted_text.decode_quoted.Goals as goal
 

@@ -4,9 +4,9 @@ use Rattle.mail_header.specs.declared.address.Address.{Address}
 use Rattle.mail_header.specs.declared.elements.Element.{Element as Code}
 use Rattle.std.specs.List.{AllZip}
 use Rattle.mail_header.specs.Names.{IsAddress}
-use Rattle.mail_header.specs.ElementReading.{members_of}
-use Rattle.mail_header.specs.ElementView.{elements_view}
-use Rattle.mail_header.specs.GroupBuilding.{IsList, IsNoList, AddressesIn, NoAddresses, Addresses}
+use Rattle.mail_header.specs.reading.ElementReading.{members_of}
+use Rattle.mail_header.specs.reading.ElementView.{elements_view}
+use Rattle.mail_header.specs.reading.GroupBuilding.{IsList, IsNoList, AddressesIn, NoAddresses, Addresses}
 use Rattle.mail_header.specs.TokenView.{tokens_view}
 use Rattle.mail_header.proofs.address_lists.addresses_in.Goals as goal
 

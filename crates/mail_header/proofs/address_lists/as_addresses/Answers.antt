@@ -5,7 +5,7 @@ use Rattle.mail_header.specs.declared.token.Token.{Token}
 use Rattle.mail_header.specs.declared.token.Alphabet.TheVariants as alphabet
 use Rattle.mail_header.specs.Tokens.{Spelled, AreTokens}
 use Rattle.mail_header.specs.Names.{NoAddresses}
-use Rattle.mail_header.specs.GroupBuilding.{AddressesIn}
+use Rattle.mail_header.specs.reading.GroupBuilding.{AddressesIn}
 use Rattle.mail_header.specs.TokenView.{tokens_view}
 use Rattle.mail_header.proofs.GroupLemmas.{no_tokens, addresses_form}
 use Rattle.mail_header.proofs.address_lists.as_addresses.Goals as goal

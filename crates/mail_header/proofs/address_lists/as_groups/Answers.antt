@@ -5,7 +5,7 @@ use Rattle.mail_header.specs.declared.token.Token.{Token}
 use Rattle.mail_header.specs.declared.token.Alphabet.TheVariants as alphabet
 use Rattle.mail_header.specs.Tokens.{Spelled, AreTokens}
 use Rattle.mail_header.specs.Names.{NoGroups}
-use Rattle.mail_header.specs.GroupBuilding.{GroupsIn}
+use Rattle.mail_header.specs.reading.GroupBuilding.{GroupsIn}
 use Rattle.mail_header.specs.TokenView.{tokens_view}
 use Rattle.mail_header.proofs.GroupLemmas.{no_tokens, groups_form}
 use Rattle.mail_header.proofs.address_lists.as_groups.Goals as goal

@@ -1,6 +1,6 @@
 use Rattle.std.proofs.Common.{Some, [], ◌++◌, append_assoc, ◌∙◌}
 use Rattle.mail_header.specs.Names.{Named}
-use Rattle.mail_header.specs.ElementReading.{closed, grouped_from}
+use Rattle.mail_header.specs.reading.ElementReading.{closed, grouped_from}
 use Rattle.mail_header.specs.TokenView.{tokens_view}
 use Rattle.mail_header.proofs.GroupLemmas.{closes, no_members}
 use Rattle.mail_header.proofs.address_lists.begin.Goals as goal

@@ -1,6 +1,6 @@
 use Rattle.std.proofs.Common.{None, [], ◌++◌, append_assoc, ◌∙◌}
 use Rattle.mail_header.specs.Names.{NoName}
-use Rattle.mail_header.specs.ElementReading.{closed, grouped_from}
+use Rattle.mail_header.specs.reading.ElementReading.{closed, grouped_from}
 use Rattle.mail_header.proofs.GroupLemmas.{closes, no_members}
 use Rattle.mail_header.proofs.address_lists.end.Goals as goal
 

@@ -5,9 +5,9 @@ use Rattle.std.proofs.lemmas.Result.{IfOk-weaker}
 use Rattle.mail_header.specs.declared.elements.Element.{Element as Code}
 use Rattle.mail_header.specs.AddressLists.{Grouped}
 use Rattle.mail_header.specs.Names.{NoName, IsGroup}
-use Rattle.mail_header.specs.ElementReading.{closed, grouped_from}
-use Rattle.mail_header.specs.ElementView.{elements_view}
-use Rattle.mail_header.specs.GroupBuilding.{Builds}
+use Rattle.mail_header.specs.reading.ElementReading.{closed, grouped_from}
+use Rattle.mail_header.specs.reading.ElementView.{elements_view}
+use Rattle.mail_header.specs.reading.GroupBuilding.{Builds}
 use Rattle.mail_header.proofs.GroupLemmas.{closes, no_members, no_groups}
 use Rattle.mail_header.proofs.address_lists.groups.Goals as goal
 

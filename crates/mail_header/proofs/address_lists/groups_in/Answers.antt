@@ -4,9 +4,9 @@ use Rattle.mail_header.specs.declared.address.Group.{Group}
 use Rattle.mail_header.specs.declared.elements.Element.{Element as Code}
 use Rattle.std.specs.List.{AllZip}
 use Rattle.mail_header.specs.Names.{IsGroup}
-use Rattle.mail_header.specs.ElementReading.{grouped_from}
-use Rattle.mail_header.specs.ElementView.{elements_view}
-use Rattle.mail_header.specs.GroupBuilding.{IsList, IsNoList, GroupsIn, NoGroups, Groups}
+use Rattle.mail_header.specs.reading.ElementReading.{grouped_from}
+use Rattle.mail_header.specs.reading.ElementView.{elements_view}
+use Rattle.mail_header.specs.reading.GroupBuilding.{IsList, IsNoList, GroupsIn, NoGroups, Groups}
 use Rattle.mail_header.specs.TokenView.{tokens_view}
 use Rattle.mail_header.proofs.address_lists.groups_in.Goals as goal
 

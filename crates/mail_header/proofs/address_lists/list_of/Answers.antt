@@ -3,7 +3,7 @@ use Rattle.header_words.proofs.ShapeLemmas.{take_some}
 use Rattle.text_words.specs.Sequence.{Sequence}
 use Rattle.mail_header.specs.declared.elements.Element.{Element as Code}
 use Rattle.mail_header.specs.AddressLists.{IsElement}
-use Rattle.mail_header.specs.ElementView.{elements_view}
+use Rattle.mail_header.specs.reading.ElementView.{elements_view}
 use Rattle.mail_header.specs.TokenView.{tokens_view}
 use Rattle.mail_header.proofs.GroupLemmas.{none_checked}
 use Rattle.mail_header.proofs.address_lists.list_of.Goals as goal

@@ -6,9 +6,9 @@ use Rattle.mail_header.specs.declared.address.Address.{Address}
 use Rattle.mail_header.specs.declared.elements.Element.{Element as Code}
 use Rattle.mail_header.specs.Mailboxes.{Mailbox}
 use Rattle.mail_header.specs.Names.{IsAddress}
-use Rattle.mail_header.specs.ElementReading.{member_of, members_of}
-use Rattle.mail_header.specs.ElementView.{element_view, elements_view}
-use Rattle.mail_header.specs.GroupBuilding.{Appends}
+use Rattle.mail_header.specs.reading.ElementReading.{member_of, members_of}
+use Rattle.mail_header.specs.reading.ElementView.{element_view, elements_view}
+use Rattle.mail_header.specs.reading.GroupBuilding.{Appends}
 use Rattle.mail_header.proofs.GroupLemmas.{zip_append}
 use Rattle.mail_header.proofs.address_lists.members.Goals as goal
 

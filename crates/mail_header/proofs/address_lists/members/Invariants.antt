@@ -1,8 +1,8 @@
 use Rattle.std.proofs.Common.{take}
 use Rattle.std.specs.List.{AllZip}
 use Rattle.mail_header.specs.Names.{IsAddress}
-use Rattle.mail_header.specs.ElementReading.{members_of}
-use Rattle.mail_header.specs.ElementView.{elements_view}
+use Rattle.mail_header.specs.reading.ElementReading.{members_of}
+use Rattle.mail_header.specs.reading.ElementView.{elements_view}
 use Rattle.mail_header.proofs.address_lists.members.Given as goal
 
 abbrev pub invariant-loop-element : goal.invariant-loop-element

@@ -1,5 +1,5 @@
 use Rattle.std.proofs.Common.{[], ◌∷◌, ◌++◌}
-use Rattle.mail_header.specs.ElementView.{mailbox_view}
+use Rattle.mail_header.specs.reading.ElementView.{mailbox_view}
 use Rattle.mail_header.proofs.GroupLemmas.{one_member_more}
 use Rattle.mail_header.proofs.address_lists.with_member.Goals as goal
 

@@ -4,8 +4,8 @@ use Rattle.text_words.specs.Cuts.{front, back}
 use Rattle.mail_header.specs.declared.token.Token.{Token}
 use Rattle.mail_header.specs.Tokens.{Spelled}
 use Rattle.mail_header.specs.AddressLists.{Element}
-use Rattle.mail_header.specs.ElementReading.{is_plain, bare_of, marked_of, element_of, element_in}
-use Rattle.mail_header.specs.ElementView.{element_view}
+use Rattle.mail_header.specs.reading.ElementReading.{is_plain, bare_of, marked_of, element_of, element_in}
+use Rattle.mail_header.specs.reading.ElementView.{element_view}
 use Rattle.mail_header.specs.TokenView.{token_view, tokens_view}
 use Rattle.mail_header.proofs.elements.element_at.Goals as goal
 

@@ -4,8 +4,8 @@ use Rattle.text_words.proofs.SequenceLemmas.{Behind, read_more, read_no_more, al
 use Rattle.mail_header.specs.declared.token.Token.{Token}
 use Rattle.mail_header.specs.Tokens.{Spelled}
 use Rattle.mail_header.specs.AddressLists.{Element, IsElement}
-use Rattle.mail_header.specs.ElementReading.{element_in, Pushes}
-use Rattle.mail_header.specs.ElementView.{elements_view}
+use Rattle.mail_header.specs.reading.ElementReading.{element_in, Pushes}
+use Rattle.mail_header.specs.reading.ElementView.{elements_view}
 use Rattle.mail_header.specs.TokenView.{token_view, tokens_view}
 use Rattle.mail_header.proofs.ElementLemmas.{element_reader}
 use Rattle.mail_header.proofs.elements.elements.Goals as goal

@@ -1,7 +1,7 @@
 use Rattle.std.proofs.Common.{◌≤◌, ◌-◌, drop, length}
 use Rattle.text_words.proofs.SequenceLemmas.{Behind}
 use Rattle.mail_header.specs.AddressLists.{IsElement}
-use Rattle.mail_header.specs.ElementView.{elements_view}
+use Rattle.mail_header.specs.reading.ElementView.{elements_view}
 use Rattle.mail_header.specs.TokenView.{tokens_view}
 use Rattle.mail_header.proofs.elements.elements.Given as goal
 

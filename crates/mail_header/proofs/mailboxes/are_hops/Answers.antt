@@ -3,7 +3,7 @@ use Rattle.std.proofs.lemmas.List.{take_all}
 use Rattle.mail_header.specs.declared.token.Token.{Token}
 use Rattle.mail_header.specs.Mailboxes.{are_hops}
 use Rattle.mail_header.specs.AddressLists.{is_no_comma}
-use Rattle.mail_header.specs.ElementReading.{are_hops_behind}
+use Rattle.mail_header.specs.reading.ElementReading.{are_hops_behind}
 use Rattle.mail_header.specs.TokenView.{token_view, tokens_view}
 use Rattle.mail_header.proofs.ClassLemmas.{viewed_shorter}
 use Rattle.mail_header.proofs.MailboxLemmas.{no_hop, hop_passed}

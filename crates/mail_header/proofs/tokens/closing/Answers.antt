@@ -1,5 +1,5 @@
 use Rattle.std.proofs.Common.{◌≡◌, ℕ, Bool, List, ◌∷◌, ◌+◌, ◌-◌, true, false, get_or, drop, arith, ◌∙◌}
-use Rattle.mail_header.specs.TokenReading.{close_in, further}
+use Rattle.mail_header.specs.reading.TokenReading.{close_in, further}
 use Rattle.mail_header.proofs.BracketSteps.{keeps, ends_here, found_here, close_escaped, close_slash, close_down, close_up, close_other}
 use Rattle.mail_header.proofs.tokens.closing.Goals as goal
 use Rattle.mail_header.proofs.tokens.closing.Goals.{then-escaped, else-escaped+then-octet-eq92, else-escaped+else-octet-eq92+then-octet-closer+else-depth-eq0, else-escaped+else-octet-eq92+else-octet-closer+then-octet-opener, else-escaped+else-octet-eq92+else-octet-closer+else-octet-opener}

@@ -1,5 +1,5 @@
 -- The token at the front of a text, as functions on lists.
-use Rattle.std.specs.Prelude.{ℕ, ◌+◌, ◌-◌, Bool, true, false, ◌==◌, if◌then◌else◌, List, [], ◌∷◌, length, take, Option, Some, None}
+use Rattle.std.specs.Prelude.{◌≡◌, ℕ, ◌+◌, ◌-◌, Bool, true, false, ◌==◌, if◌then◌else◌, List, [], ◌∷◌, length, take, drop, Option, Some, None}
 use Rattle.text_words.specs.Cuts.{front}
 use Rattle.text_words.specs.Octets.{is_white}
 use Rattle.mail_header.specs.declared.token.Alphabet.{Alphabet}
@@ -48,3 +48,9 @@ spelled_of t (Some p) = Some (record { kind = p.0; text = take p.1 t }, p.1)
 -- the token at the front with its octets
 abbrev pub spelled_in : Alphabet → List ℕ → Option (Spelled × ℕ)
 spelled_in a t = spelled_of t (token_in a t)
+
+-- v is the token at the front of the text, and rest follows it
+pub record IsFirstToken (a : Alphabet) (v : Spelled) (rest t : List ℕ) : Type 0 where
+  pub len : ℕ
+  pub read : spelled_in a t ≡ Some (v, len)
+  pub rest_is : rest ≡ drop len t

@@ -9,7 +9,7 @@ use Rattle.mail_header.specs.Tokens.{Spelled}
 use Rattle.mail_header.specs.Mailboxes.{Mailbox}
 use Rattle.mail_header.specs.AddressLists.{Element, IsElement, Grouped}
 use Rattle.mail_header.specs.Names.{IsAddress, IsGroupName, IsGroup}
-use Rattle.mail_header.specs.ElementReading.{are_nested, is_addressee, grouped_from, members_of}
+use Rattle.mail_header.specs.reading.ElementReading.{are_nested, is_addressee, grouped_from, members_of}
 
 -- what is paired with `more` was put at the end
 pub record Appends {A B : Type 0} (Is : A → B → Type 0) (more : List A) (old new : List B) : Type 0 where

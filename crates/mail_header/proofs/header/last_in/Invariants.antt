@@ -1,6 +1,6 @@
 use Rattle.std.proofs.Common.{◌≡◌, ◌≤◌, drop, length, None}
 use Rattle.mail_header.specs.Fields.{fields_view, last_named}
-use Rattle.mail_header.proofs.header.Fields.last.Given as goal
+use Rattle.mail_header.proofs.header.last_in.Given as goal
 
 abbrev pub invariant-loop-at : goal.invariant-loop-at
 invariant-loop-at l = record {

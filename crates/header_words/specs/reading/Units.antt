@@ -1,10 +1,11 @@
 -- What stands at the front of a text, as functions on lists: how the code reads it.
-use Rattle.std.specs.Prelude.{◌≡◌, ℕ, zero, suc, ◌+◌, ◌*◌, Bool, true, ◌==◌, if◌then◌else◌, List, [], ◌∷◌, ◌++◌, length, drop, Option, Some, None}
+use Rattle.std.specs.Prelude.{◌≡◌, ℕ, zero, suc, ◌+◌, ◌*◌, Bool, true, ◌==◌, if◌then◌else◌, List, [], ◌∷◌, ◌++◌, length, drop, Option, Some, None, option_to_list}
 use Rattle.text_words.specs.Cuts.{front, back}
 use Rattle.text_words.specs.LineEnds.{line_end_len}
 use Rattle.text_words.specs.Octets.{is_blank, hex_value}
 use Rattle.header_words.specs.EncodedWords.{IsEncodedWord, BeginsAtEdge, IsFirst}
-use Rattle.header_words.specs.QuotedPrintable.{Piece, right, ends_line}
+use Rattle.header_words.specs.QuotedPrintable.{Piece, right, ends_line, IsPrintable}
+use Rattle.header_words.specs.declared.quoted_printable.PieceAt.{PieceAt}
 
 -- the octet of two hexadecimal digits
 abbrev pub hex_pair : Option ℕ → Option ℕ → Option ℕ
@@ -65,11 +66,26 @@ piece_in (c ∷ t) =
     else if is_blank c then blanks_of (front is_blank (c ∷ t)) (back is_blank (c ∷ t))
     else Some (right (c ∷ []), 1)
 
--- what was read at the front of a text was written, and rest follows it
-pub record Pushes (read : Option (Piece × ℕ)) (text rest old new : List ℕ) (wrong : Bool) : Type 0 where
+-- the octets of a piece that the code read
+abbrev pub octets_read : PieceAt → List ℕ
+octets_read p = option_to_list p.spelled ++ p.kept.now
+
+-- what was read at the front of a text stands for these octets, and rest follows it
+pub record IsRead (read : Option (Piece × ℕ)) (text rest octets : List ℕ) (wrong : Bool) : Type 0 where
   pub piece : Piece
   pub len : ℕ
   pub read_is : read ≡ Some (piece, len)
   pub rest_is : rest ≡ drop len text
   pub wrong_is : wrong ≡ piece.wrong
-  pub pushed : new ≡ old ++ piece.octets
+  pub octets_are : octets ≡ piece.octets
+
+-- the code read this at the front of a text
+abbrev pub Reads : Option (Piece × ℕ) → List ℕ → PieceAt → Type 0
+Reads read text p = IsRead read text p.rest.now (octets_read p) p.wrong
+
+-- the text spells so many octets in quoted-printable
+pub record HasPrintableLen (n : ℕ) (t : List ℕ) : Type 0 where
+  pub octets : List ℕ
+  pub problem : Bool
+  pub is : IsPrintable octets problem t
+  pub counted : n ≡ length octets
