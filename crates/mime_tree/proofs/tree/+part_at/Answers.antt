@@ -27,7 +27,7 @@ part_at-requires t c =
     let ps = c.as_slice-piece-items.result.now in
     let d = piece_at ps c.loop-piece.piece-index (record { start = 0; end = 0 }) c.loop-piece-test.true in
     let f = placed_head c.args.first c.loop-piece.next (c.in_ok-head.head.end - c.in_ok-head.head.body) _ _ _ d c.loop-piece.invariant.placed in
-    (omega (arith, c.decreases), (omega (arith, f.ordered), (omega (arith, f.within, f.ordered, w.ordered, w.end, c.requires.within), omega (arith, f.room, f.ordered, w.from, w.ordered, w.end, c.requires.room))))
+    (omega (arith, c.decreases), (c.requires.shared, (omega (arith, f.ordered), (omega (arith, f.within, f.ordered, w.ordered, w.end, c.requires.within), omega (arith, f.room, f.ordered, w.from, w.ordered, w.end, c.requires.room)))))
 
 pub loop-piece-preserved : goal.loop-piece-preserved
 loop-piece-preserved t c =
