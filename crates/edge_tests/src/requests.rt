@@ -1,4 +1,4 @@
-use gate_world::{Bytes, Front, Listed, Script, ScriptWorld};
+use gate_world::{Bytes, Front, Script, ScriptWorld};
 use http_service::{HttpError, Spare, read_body, read_head};
 use std::alloc::{AllocError, Global};
 use std::process::Abort;
@@ -9,18 +9,7 @@ const PIECES: [usize; 4] = [1, 2, 3, 100_000];
 
 /// One client that gives these octets and ends.
 fn world_of(alloc: Global, client: &[u8], piece: usize) -> Result<ScriptWorld, AllocError> {
-    let script = Script {
-        links: Listed::from_vec(Vec::new(alloc)),
-        clients: Listed::from_vec(vec![in alloc; Bytes::copy_of(alloc, client)?]?),
-        batches: Listed::from_vec(Vec::new(alloc)),
-        moments: Listed::from_vec(Vec::new(alloc)),
-        words: Listed::from_vec(Vec::new(alloc)),
-        fails: Listed::from_vec(Vec::new(alloc)),
-        stop_at: 0,
-        piece,
-        password: Bytes::copy_of(alloc, b"")?,
-        token: Bytes::copy_of(alloc, b"")?,
-    };
+    let script = Script::new(alloc)?.with_client(client)?.in_pieces(piece);
     let mut world = ScriptWorld::new(alloc, script);
     let _ = world.accept();
     Ok(world)

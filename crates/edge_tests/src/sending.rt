@@ -1,23 +1,10 @@
-use gate_world::{
-    Bytes, Event, Fail as FailingCall, Listed, Script, ScriptWorld, send_all, write_all,
-};
+use gate_world::{Bytes, Event, Link, Script, ScriptWorld, send_all, write_all};
 use std::alloc::{AllocError, Global};
 use std::test::Fail;
 
 /// A world in which the call of this number fails. A call of number 0 is none.
 fn world_of(alloc: Global, call: u64) -> Result<ScriptWorld, AllocError> {
-    let script = Script {
-        links: Listed::from_vec(Vec::new(alloc)),
-        clients: Listed::from_vec(Vec::new(alloc)),
-        batches: Listed::from_vec(Vec::new(alloc)),
-        moments: Listed::from_vec(Vec::new(alloc)),
-        words: Listed::from_vec(Vec::new(alloc)),
-        fails: Listed::from_vec(vec![in alloc; FailingCall { call, kept: false }]?),
-        stop_at: 0,
-        piece: 1,
-        password: Bytes::copy_of(alloc, b"")?,
-        token: Bytes::copy_of(alloc, b"")?,
-    };
+    let script = Script::new(alloc)?.in_pieces(1).failing(call)?;
     Ok(ScriptWorld::new(alloc, script))
 }
 
@@ -38,13 +25,14 @@ fn a_client_takes_all_that_is_sent(rt: HostRuntime) -> Result<(), Fail> {
 #[test]
 fn a_store_takes_all_that_is_written(rt: HostRuntime) -> Result<(), Fail> {
     let alloc = rt.alloc();
-    let mut world = world_of(alloc, 2)?;
+    let mut world = world_of(alloc, 3)?;
+    assert!(rt; world.dial().is_ok());
     assert!(rt; write_all(&mut world, b"").is_ok());
     assert!(rt; write_all(&mut world, b"ab").is_ok());
     assert!(rt; write_all(&mut world, b"c").is_err());
     let events = world.events().ok_or("the tape is not told")?;
     let took = Event::StoreTook(Bytes::copy_of(alloc, b"ab")?);
-    let wanted = vec![in alloc; took, Event::LinkEnded]?;
+    let wanted = vec![in alloc; Event::Dialed, took, Event::LinkEnded]?;
     assert_eq!(rt; events, wanted.as_slice());
     Ok(())
 }

@@ -1,35 +1,22 @@
 // The calls of a world in which no call fails: the arms for a failure are proved to be out of reach.
-use gate_world::{
-    Bytes, Chance, Console, Fail as FailingCall, Front, Link, Listed, Script, Secrets, SteadyWorld,
-};
+use gate_world::{Chance, Console, Front, Link, Script, Secrets, SteadyWorld};
 use std::alloc::{AllocError, Global};
 use std::test::Fail;
 
 /// Two link lives, two clients and two words. Each call is said to fail.
 fn script_of(alloc: Global, piece: usize) -> Result<Script, AllocError> {
-    let links = vec![in alloc;
-        Bytes::copy_of(alloc, b"abc")?,
-        Bytes::copy_of(alloc, b"defgh")?,
-    ]?;
-    let clients = vec![in alloc; Bytes::copy_of(alloc, b"xy")?, Bytes::copy_of(alloc, b"z")?]?;
-    let fails = vec![in alloc;
-        FailingCall {
-            call: 1,
-            kept: false
-        },
-    ]?;
-    Ok(Script {
-        links: Listed::from_vec(links),
-        clients: Listed::from_vec(clients),
-        batches: Listed::from_vec(Vec::new(alloc)),
-        moments: Listed::from_vec(Vec::new(alloc)),
-        words: Listed::from_vec(vec![in alloc; 5, 6]?),
-        fails: Listed::from_vec(fails),
-        stop_at: 1,
-        piece,
-        password: Bytes::copy_of(alloc, b"pw")?,
-        token: Bytes::copy_of(alloc, b"t")?,
-    })
+    let script = Script::new(alloc)?
+        .with_link(b"abc")?
+        .with_link(b"defgh")?
+        .with_client(b"xy")?
+        .with_client(b"z")?
+        .with_word(5)?
+        .with_word(6)?
+        .with_secrets(b"pw", b"t")?
+        .in_pieces(piece)
+        .failing(1)?
+        .stopping_at(1);
+    Ok(script)
 }
 
 fn call_link(world: &mut SteadyWorld, letter: u8) {

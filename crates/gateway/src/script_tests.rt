@@ -1,39 +1,17 @@
 // The calls of a world that follows a script.
-use crate::tests::script_of;
-use gate_world::{
-    Bytes, Chance, Console, Fail as FailingCall, Front, Link, Listed, Script, ScriptWorld, Secrets,
-};
+use gate_world::{Chance, Console, Front, Link, Script, ScriptWorld, Secrets};
 use std::alloc::{AllocError, Global};
 use std::test::Fail;
 
 /// Link lives, clients and words, two of each.
 fn pairs(alloc: Global) -> Result<Script, AllocError> {
-    let mut script = script_of(
-        alloc,
-        Bytes::copy_of(alloc, b"")?,
-        Bytes::copy_of(alloc, b"")?,
-    )?;
-    let links = vec![in alloc;
-        Bytes::copy_of(alloc, b"abc")?,
-        Bytes::copy_of(alloc, b"defgh")?,
-    ]?;
-    let clients = vec![in alloc; Bytes::copy_of(alloc, b"xy")?, Bytes::copy_of(alloc, b"z")?]?;
-    script.links = Listed::from_vec(links);
-    script.clients = Listed::from_vec(clients);
-    script.words = Listed::from_vec(vec![in alloc; 5, 6]?);
-    Ok(script)
-}
-
-fn nothing(alloc: Global) -> Result<Script, AllocError> {
-    let mut script = script_of(
-        alloc,
-        Bytes::copy_of(alloc, b"")?,
-        Bytes::copy_of(alloc, b"")?,
-    )?;
-    script.links = Listed::from_vec(Vec::new(alloc));
-    script.clients = Listed::from_vec(Vec::new(alloc));
-    script.words = Listed::from_vec(Vec::new(alloc));
-    Ok(script)
+    Script::new(alloc)?
+        .with_link(b"abc")?
+        .with_link(b"defgh")?
+        .with_client(b"xy")?
+        .with_client(b"z")?
+        .with_word(5)?
+        .with_word(6)
 }
 
 fn call_link(world: &mut ScriptWorld, letter: u8) {
@@ -107,7 +85,7 @@ const CALLS: [(usize, &str, &str); 8] = [
     (
         2,
         "drrrwdrrdrh",
-        "[Dialed, StoreGave([97, 98]), StoreGave([99]), LinkEnded, StoreTook([113]), Dialed, StoreGave([100, 101]), StoreGave([102, 103]), Dialed, LinkEnded, LinkEnded]",
+        "[Dialed, StoreGave([97, 98]), StoreGave([99]), LinkEnded, LinkEnded, Dialed, StoreGave([100, 101]), StoreGave([102, 103]), Dialed, LinkEnded, LinkEnded]",
     ),
     (
         100,
@@ -144,12 +122,17 @@ const CALLS: [(usize, &str, &str); 8] = [
 /// A call that fails, the call from which on every call fails, calls, and the tape after them.
 const FAILS: [(u64, u64, &str, &str); 12] = [
     (1, 0, "ddr", "[LinkEnded, Dialed, StoreGave([97, 98, 99])]"),
-    (2, 0, "drr", "[Dialed, LinkEnded, StoreGave([97, 98, 99])]"),
     (
         2,
         0,
-        "dwwr",
-        "[Dialed, LinkEnded, StoreTook([113]), StoreGave([97, 98, 99])]",
+        "drrdr",
+        "[Dialed, LinkEnded, LinkEnded, Dialed, StoreGave([100, 101, 102, 103])]",
+    ),
+    (
+        2,
+        0,
+        "dwwrdw",
+        "[Dialed, LinkEnded, LinkEnded, LinkEnded, Dialed, StoreTook([113])]",
     ),
     (
         1,
@@ -191,15 +174,11 @@ const FAILS: [(u64, u64, &str, &str); 12] = [
 fn each_call_of_a_scripted_world(rt: HostRuntime) -> Result<(), Fail> {
     let alloc = rt.alloc();
     for (piece, calls, wanted) in CALLS {
-        let mut script = pairs(alloc)?;
-        script.piece = piece;
+        let script = pairs(alloc)?.in_pieces(piece);
         assert_eq!(rt; tape(alloc, script, calls)?.as_str(), wanted, "{calls}");
     }
     for (call, stop_at, calls, wanted) in FAILS {
-        let mut script = pairs(alloc)?;
-        let kept = false;
-        script.fails = Listed::from_vec(vec![in alloc; FailingCall { call, kept }]?);
-        script.stop_at = stop_at;
+        let script = pairs(alloc)?.failing(call)?.stopping_at(stop_at);
         assert_eq!(rt; tape(alloc, script, calls)?.as_str(), wanted, "{calls}");
     }
     Ok(())
@@ -208,10 +187,13 @@ fn each_call_of_a_scripted_world(rt: HostRuntime) -> Result<(), Fail> {
 #[test]
 fn a_script_of_nothing(rt: HostRuntime) -> Result<(), Fail> {
     let alloc = rt.alloc();
-    let wanted = "[Word(0), Word(0), NoMore, ClientEnded, Dialed, LinkEnded, StoreTook([113])]";
-    assert_eq!(rt; tape(alloc, nothing(alloc)?, "nnARdrw")?.as_str(), wanted);
-    let world = ScriptWorld::new(alloc, nothing(alloc)?);
+    let wanted = "[Word(0), Word(0), NoMore, ClientEnded, Dialed, LinkEnded, LinkEnded]";
+    assert_eq!(rt;
+        tape(alloc, Script::new(alloc)?, "nnARdrw")?.as_str(),
+        wanted
+    );
+    let world = ScriptWorld::new(alloc, Script::new(alloc)?.with_secrets(b"pw", b"t")?);
     assert_eq!(rt; world.password(), b"pw".as_slice());
-    assert_eq!(rt; world.token(), b"".as_slice());
+    assert_eq!(rt; world.token(), b"t".as_slice());
     Ok(())
 }

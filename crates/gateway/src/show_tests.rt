@@ -3,7 +3,7 @@ use crate::front::{Input, receive};
 use crate::run;
 use crate::tests::{FRONT_FAILED, PIECES, Seen, follow, joined, script_of, words_of};
 use email_get::email_object;
-use gate_world::{Bytes, Event, Fail as FailingCall, Front, Listed, Script, ScriptWorld, Watcher};
+use gate_world::{Bytes, Event, Front, Listed, Script, ScriptWorld, Watcher};
 use std::alloc::{AllocError, Global};
 use std::process::Abort;
 use std::test::Fail;
@@ -124,13 +124,11 @@ const CALLS: u64 = 6;
 
 /// That run, where this call fails, or where every call from this one on fails.
 fn failing(alloc: Global, fails_at: Option<u64>, stop_at: u64) -> Result<Seen, Fail> {
-    let mut script = giving(alloc, MESSAGE)?;
-    script.piece = 16;
-    script.stop_at = stop_at;
-    if let Some(call) = fails_at {
-        let kept = false;
-        script.fails = Listed::from_vec(vec![in alloc; FailingCall { call, kept }]?);
-    }
+    let script = giving(alloc, MESSAGE)?;
+    let script = script
+        .failing(fails_at.unwrap_or(0))?
+        .in_pieces(16)
+        .stopping_at(stop_at);
     follow(alloc, "show", script)
 }
 

@@ -1,6 +1,6 @@
 // Whole runs over a world that follows a script.
 use crate::run;
-use gate_world::{Bytes, Event, Fail as FailingCall, Listed, Script, ScriptWorld, Watcher};
+use gate_world::{Bytes, Event, Script, ScriptWorld, Watcher};
 use std::alloc::{AllocError, Global};
 use std::process::Abort;
 use std::test::Fail;
@@ -144,18 +144,11 @@ pub(crate) fn words_of(alloc: Global, line: &str) -> Result<Vec<String>, AllocEr
 
 /// One link life and one client, and nothing that fails.
 pub(crate) fn script_of(alloc: Global, link: Bytes, client: Bytes) -> Result<Script, AllocError> {
-    Ok(Script {
-        links: Listed::from_vec(vec![in alloc; link]?),
-        clients: Listed::from_vec(vec![in alloc; client]?),
-        batches: Listed::from_vec(Vec::new(alloc)),
-        moments: Listed::from_vec(Vec::new(alloc)),
-        words: Listed::from_vec(vec![in alloc; 31]?),
-        fails: Listed::from_vec(Vec::new(alloc)),
-        stop_at: 0,
-        piece: 100_000,
-        password: Bytes::copy_of(alloc, b"pw")?,
-        token: Bytes::copy_of(alloc, b"")?,
-    })
+    Script::new(alloc)?
+        .with_link(link.as_slice())?
+        .with_client(client.as_slice())?
+        .with_word(31)?
+        .with_secrets(b"pw", b"")
 }
 
 /// A request for both counts over a link life of these parts.
@@ -384,13 +377,11 @@ const CALLS: u64 = 30;
 
 /// The usual run in pieces of 16, where this call fails, or where every call from this one on fails.
 fn failing(alloc: Global, fails_at: Option<u64>, stop_at: u64) -> Result<Seen, Fail> {
-    let mut script = asking(alloc, &[SELECTED, THREE, DONE])?;
-    script.piece = 16;
-    script.stop_at = stop_at;
-    if let Some(call) = fails_at {
-        let kept = false;
-        script.fails = Listed::from_vec(vec![in alloc; FailingCall { call, kept }]?);
-    }
+    let script = asking(alloc, &[SELECTED, THREE, DONE])?;
+    let script = script
+        .failing(fails_at.unwrap_or(0))?
+        .in_pieces(16)
+        .stopping_at(stop_at);
     follow(alloc, USUAL, script)
 }
 

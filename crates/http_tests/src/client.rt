@@ -1,4 +1,4 @@
-use gate_world::{Bytes, Event, Fail as FailingCall, Front, Listed, Script, ScriptWorld};
+use gate_world::{Event, Front, Script, ScriptWorld};
 use http_service::{Spare, read_body, read_head};
 use std::alloc::{AllocError, Global};
 use std::test::Fail;
@@ -13,18 +13,10 @@ pub(crate) fn world_of(
     piece: usize,
     call: u64,
 ) -> Result<ScriptWorld, AllocError> {
-    let script = Script {
-        links: Listed::from_vec(Vec::new(alloc)),
-        clients: Listed::from_vec(vec![in alloc; Bytes::copy_of(alloc, client)?]?),
-        batches: Listed::from_vec(Vec::new(alloc)),
-        moments: Listed::from_vec(Vec::new(alloc)),
-        words: Listed::from_vec(Vec::new(alloc)),
-        fails: Listed::from_vec(vec![in alloc; FailingCall { call, kept: false }]?),
-        stop_at: 0,
-        piece,
-        password: Bytes::copy_of(alloc, b"")?,
-        token: Bytes::copy_of(alloc, b"")?,
-    };
+    let script = Script::new(alloc)?
+        .with_client(client)?
+        .in_pieces(piece)
+        .failing(call)?;
     let mut world = ScriptWorld::new(alloc, script);
     let _ = world.accept();
     Ok(world)
