@@ -67,6 +67,15 @@ one_leading a (v ∷ vs) (w ∷ ws) r q t h g =
     let tail = one_leading a vs ws r q h.rest h.more (subst P (sym s.rest) g.more) in
     ap (λ (x : Spelled). x ∷ vs) s.value ∙ ap (λ (xs : List Spelled). w ∷ xs) tail
 
+pub one_rest : (a : Alphabet) (vs ws : List Spelled) (r q t : List ℕ) → AreLeading a vs r t → AreLeading a ws q t → r ≡ q
+one_rest a [] [] r q t h g = sym h.0 ∙ g.0
+one_rest a [] (w ∷ ws) r q t h g = absurd (h.1 w g.unit g.rest g.whole g.is)
+one_rest a (v ∷ vs) [] r q t h g = absurd (g.1 v h.unit h.rest h.whole h.is)
+one_rest a (v ∷ vs) (w ∷ ws) r q t h g =
+    let s = (one_token a).one v w h.unit g.unit h.rest g.rest (sym h.whole ∙ g.whole) h.is g.is in
+    let P : List ℕ → Type 0 = λ x. AreLeading a ws q x in
+    one_rest a vs ws r q h.rest h.more (subst P (sym s.rest) g.more)
+
 pub one_leading_lexemes : (a : Alphabet) (x y : List Spelled) (t : List ℕ) → AreLeadingLexemes a x t → AreLeadingLexemes a y t → x ≡ y
 one_leading_lexemes a x y t h g =
     h.lexemes_are ∙ ap (filter is_lexeme) (one_leading a h.tokens g.tokens h.rest g.rest t h.are g.are) ∙ sym g.lexemes_are

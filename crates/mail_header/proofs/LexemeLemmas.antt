@@ -1,5 +1,5 @@
 -- The lexemes at the front of a text, read one after another.
-use Rattle.std.proofs.Common.{◌≡◌, ◌≢◌, ℕ, zero, suc, ◌<◌, ◌≤◌, true, false, List, [], ◌∷◌, length, drop, refl, sym, ap, ◌∙◌, subst, Option, Some, None, arith}
+use Rattle.std.proofs.Common.{◌≡◌, ◌≢◌, ℕ, zero, suc, ◌<◌, ◌≤◌, Bool, true, false, not, List, [], ◌∷◌, ◌++◌, length, drop, cond, refl, sym, ap, ◌∙◌, subst, Option, Some, None, arith}
 use Rattle.std.specs.List.{filter}
 use Rattle.std.specs.Option.{MatchOption, IfSome}
 use Rattle.std.proofs.lemmas.Bool.{cond-true, cond-false}
@@ -9,7 +9,8 @@ use Rattle.mail_header.specs.declared.token.Alphabet.{Alphabet}
 use Rattle.mail_header.specs.Tokens.{Spelled, AreTokens, AreLeading}
 use Rattle.mail_header.specs.reading.TokenReading.{spelled_in, IsFirstToken}
 use Rattle.mail_header.specs.Lexemes.{is_lexeme, AreLexemes, AreLeadingLexemes}
-use Rattle.mail_header.specs.reading.LexemeReading.{tokens_then, tokens_within, rest_then, rest_within, tokens_in, rest_in, lexemes_in, IsBehindGaps, IsNextLexeme, BeginsNoGap}
+use Rattle.mail_header.specs.reading.LexemeReading.{tokens_then, tokens_within, rest_then, rest_within, tokens_in, rest_in, lexemes_in, texts_of, IsBehindGaps, IsNextLexeme, BeginsNoGap}
+use Rattle.mail_header.specs.Names.{lexeme_text, spelling}
 use Rattle.mail_header.proofs.OneToken.{token_reader}
 use Rattle.mail_header.proofs.LeadingLemmas.{none_begins, all_read, not_all}
 
@@ -160,6 +161,31 @@ next_read a v more s t b f = record {
 
 pub nothing_read : (a : Alphabet) (s t : List ℕ) → IsBehindGaps a s t → spelled_in a s ≡ None → lexemes_in a t ≡ []
 nothing_read a s t b e = sym b.lexemes ∙ none_left a s e
+
+-- where no lexeme is left behind the gaps, no token begins there
+pub nothing_begins : (a : Alphabet) (t : List ℕ) → BeginsNoGap a t → lexemes_in a t ≡ [] → spelled_in a t ≡ None
+nothing_begins a t b e = by (spelled_in a t) refl
+  where
+    by : (o : Option (Spelled × ℕ)) → spelled_in a t ≡ o → spelled_in a t ≡ None
+    by None f = f
+    by (Some p) f = let l = lexeme_read a p.0 p.1 t f (b p.0 p.1 f) in absurd cc
+
+-- then what follows the tokens stands there
+pub rest_found : (a : Alphabet) (s t : List ℕ) → IsBehindGaps a s t → lexemes_in a t ≡ [] → s ≡ rest_in a t
+rest_found a s t b e = sym (rest_none a s (nothing_begins a s b.begins (b.lexemes ∙ e))) ∙ b.rest
+
+-- the lexemes' texts are the spelling of the tokens
+pub texts_spelling : (ts : List Spelled) → texts_of (filter is_lexeme ts) ≡ spelling ts
+texts_spelling [] = refl
+texts_spelling (s ∷ ts) = by (is_lexeme s) refl (texts_spelling ts)
+  where
+    by : (q : Bool) → is_lexeme s ≡ q → texts_of (filter is_lexeme ts) ≡ spelling ts → texts_of (cond q (s ∷ filter is_lexeme ts) (filter is_lexeme ts)) ≡ lexeme_text s ++ spelling ts
+    by true e h = ap (λ (u : List ℕ). s.text ++ u) h ∙ ap (λ (u : List ℕ). u ++ spelling ts) (sym (cond-false (not (is_lexeme s)) [] s.text (ap not e)))
+    by false e h = h ∙ ap (λ (u : List ℕ). u ++ spelling ts) (sym (cond-true (not (is_lexeme s)) [] s.text (ap not e)))
+
+pub texts_are : (a : Alphabet) (t : List ℕ) → texts_of (lexemes_in a t) ≡ spelling (tokens_in a t)
+unfolding lexemes_in
+texts_are a t = texts_spelling (tokens_in a t)
 
 -- ---- what is said of a result is widened
 

@@ -1,5 +1,5 @@
 -- Extended values of parameters (RFC 8187 section 3.2): a charset, an apostrophe, a language, an apostrophe, and
--- octets with percent escapes.
+-- octets with percent escapes. The value is octets as the field has them.
 use Rattle.std.specs.Prelude.{ℕ, Bool, not, ◌==◌, List, [], ◌∷◌, Option, Some, None}
 use Rattle.std.specs.Option.{option_map, option_and_then}
 use Rattle.text_words.specs.Cuts.{front, back}

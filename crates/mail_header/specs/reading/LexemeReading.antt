@@ -1,5 +1,5 @@
 -- The tokens and the lexemes at the front of a text, as functions on lists.
-use Rattle.std.specs.Prelude.{◌≡◌, ℕ, zero, suc, true, List, [], ◌∷◌, length, drop, Option, Some, None}
+use Rattle.std.specs.Prelude.{◌≡◌, ℕ, zero, suc, true, List, [], ◌∷◌, ◌++◌, length, drop, Option, Some, None}
 use Rattle.std.specs.List.{filter}
 use Rattle.mail_header.specs.declared.token.Alphabet.{Alphabet}
 use Rattle.mail_header.specs.Tokens.{Spelled}
@@ -35,6 +35,11 @@ rest_in a t = rest_within a (length t) t
 -- the lexemes among them
 unfoldable pub lexemes_in : Alphabet → List ℕ → List Spelled
 lexemes_in a t = filter is_lexeme (tokens_in a t)
+
+-- the texts of lexemes, one behind another
+abbrev pub texts_of : List Spelled → List ℕ
+texts_of [] = []
+texts_of (s ∷ ts) = s.text ++ texts_of ts
 
 -- no white space and no comment begins the text
 abbrev pub BeginsNoGap : Alphabet → List ℕ → Type 0
