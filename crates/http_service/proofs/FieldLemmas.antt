@@ -13,7 +13,7 @@ use Rattle.text_words.specs.Octets.{is_digit}
 use Rattle.text_words.specs.Cuts.{Each, front, back}
 use Rattle.text_words.proofs.CutLemmas.{front_back, front_each, back_stops, front_is}
 use Rattle.http_service.specs.Fields.{is_space, IsScheme, IsBearer, IsTokenOf, IsToken}
-use Rattle.http_service.specs.Values.{AreValues}
+use Rattle.http_service.specs.reading.Values.{AreValues}
 use Rattle.http_service.specs.declared.fields.Values.TheVariants.{Only}
 
 -- what `is_empty` says

@@ -1,6 +1,6 @@
 use Rattle.std.proofs.Common.{subst}
 use Rattle.std.specs.Option.{option_copied}
-use Rattle.http_service.specs.Values.{AreValues}
+use Rattle.http_service.specs.reading.Values.{AreValues}
 use Rattle.http_service.proofs.FieldLemmas.{token_is}
 use Rattle.http_service.proofs.fields.token_of.Goals as goal
 
