@@ -1,9 +1,7 @@
 pub mod MomentLemmas
 pub mod HeaderLemmas
-pub mod TextLemmas
-pub mod GatherLemmas
 pub mod LeafLemmas
-pub mod ShownLemmas
+pub mod ListLemmas
 pub mod WholeLemmas
 pub mod KinLemmas
 pub mod OneObject

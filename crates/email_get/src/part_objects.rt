@@ -1,19 +1,20 @@
 // The objects of leaves (RFC 8621 section 4.1.4, EmailBodyPart).
 ghost use Rattle.std.specs.Prelude.{◌≡◌, ◌++◌, ◌∷◌, IfOk, List, ℕ, map, decimal};
-ghost use Rattle.serde_json.specs.Data.{Data};
+ghost use Rattle.blob_store.specs.Uploads.{blob_id};
 ghost use Rattle.serde_json.specs.View.{view};
 ghost use Rattle.mime_tree.specs.Roles.{leaf_number};
-ghost use Rattle.mime_tree.specs.declared.part.Part.{out-Part};
+ghost use Rattle.mime_tree.specs.Parts.{IsWithin};
 ghost use Rattle.email_get.specs.PartObjects as objects;
 ghost use Rattle.email_get.specs.Texts.{text_data};
 ghost use Rattle.mail_header.specs.TokenView.{tokens_view};
 
+use crate::leaves::number_text;
 use crate::texts::{optional_text_value, text_value};
 use gate_world::Bytes;
 use mail_header::is_atom;
 use mail_header::lexemes::leading_lexemes;
 use mail_header::token::{Alphabet, Token};
-use mime_tree::Part;
+use mime_tree::{Part, part_len};
 use serde_json::{Value, json};
 use std::alloc::{AllocError, Global};
 
@@ -86,17 +87,19 @@ fn described(
     })
 }
 
-/// The same, with the language tags.
+/// The object of a leaf of these octets, which have this blob id. It has no more of the part than texts.
 pub(crate) fn part_value(
     alloc: Global,
+    bytes: &[u8],
     id: &[u8],
     part: &Part,
-    number: &str,
-    size: usize,
 ) -> Result<Value, AllocError>
-    requires { number.now ≡ decimal (leaf_number part.now) }
-    ensures { IfOk result (λ v. (l : Data) × objects.IsLanguage (out-Part part.now).language l × (view v ≡ objects.part_data id.now part.now l size)) }
+    requires within { IsWithin part.now bytes.now }
+    requires id { id.now ≡ blob_id bytes.now }
+    ensures { IfOk result (λ v. objects.IsPartObject (blob_id bytes.now) bytes.now part.now (view v)) }
 {
+    let size = part_len(bytes, part);
+    let number = number_text(alloc, part)?;
     let language = language_value(alloc, &part.language)?;
-    described(alloc, id, part, number, language, size)
+    described(alloc, id, part, number.as_str(), language, size)
 }

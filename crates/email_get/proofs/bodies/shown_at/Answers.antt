@@ -1,0 +1,18 @@
+use Rattle.std.proofs.Common.{ℕ, List, map, subst, refl}
+use Rattle.serde_json.specs.View.{view}
+use Rattle.email_get.specs.EmailObjects.{AreObjects, IsPreview}
+use Rattle.email_get.specs.LeafLists.{parts_of, parts_at}
+use Rattle.email_get.proofs.bodies.shown_at.Goals as goal
+
+pub returns : goal.returns
+returns c =
+    let b = c.args.leaves.now.bytes.now in
+    let ls = parts_of c.args.leaves.now.parts.now in
+    record {
+      text = subst (λ (ns : List ℕ). AreObjects b (parts_at ls ns) (map view c.in_ok-text.text.items)) c.as_slice-4.ensures c.in_ok-text.ensures;
+      html = subst (λ (ns : List ℕ). AreObjects b (parts_at ls ns) (map view c.in_ok-html.html.items)) c.as_slice-3.ensures c.in_ok-html.ensures;
+      attachments = subst (λ (ns : List ℕ). AreObjects b (parts_at ls ns) (map view c.in_ok-attachments.attachments.items)) c.as_slice-2.ensures c.in_ok-attachments.ensures;
+      has_attachment = refl;
+      preview = subst (λ (ns : List ℕ). IsPreview b (parts_at ls ns) c.in_ok-preview.preview) c.as_slice.ensures c.in_ok-preview.ensures;
+      values = c.in_ok-values.ensures;
+    }
