@@ -7,7 +7,7 @@ use Rattle.text_words.specs.Cuts.{front, back}
 use Rattle.text_words.proofs.CutLemmas.{front_back}
 use Rattle.mail_header.specs.Lines.{without_end, is_line_end}
 use Rattle.mime_tree.specs.Delimiters.{onto, lines}
-use Rattle.mime_tree.specs.LineReading.{line_len, is_in_line}
+use Rattle.mime_tree.specs.reading.LineReading.{line_len, is_in_line}
 
 -- the first line is a cut at the first LF, and the LF
 line_cut : (t : List ℕ) → line_len t ≡ length (front is_in_line t) + (length (back is_in_line t) - (length (back is_in_line t) - 1))

@@ -8,7 +8,7 @@ use Rattle.mime_tree.specs.declared.lists.BodyLists.{BodyLists}
 use Rattle.mime_tree.specs.Parts.{children}
 use Rattle.mime_tree.specs.Roles.{is_leaf, leaf_number, is_downloadable, is_inline}
 use Rattle.mime_tree.specs.BodyLists.{PartLists, nothing, both, at_leaf, lists_of, meeting, leaf_lists, into, next, spread, Walks, End, Multi, Leaf}
-use Rattle.mime_tree.specs.ListBuilding.{Gains, GainsBy, GainsBelow}
+use Rattle.mime_tree.specs.reading.ListBuilding.{Gains, GainsBy, GainsBelow}
 
 map_both : (a b : List Part) → map leaf_number (a ++ b) ≡ map leaf_number a ++ map leaf_number b
 map_both [] b = refl

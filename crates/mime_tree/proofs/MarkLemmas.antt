@@ -10,7 +10,7 @@ use Rattle.text_words.proofs.CutLemmas.{each_list_all, list_all_each}
 use Rattle.mime_tree.specs.declared.split.Mark.{Mark}
 use Rattle.mime_tree.specs.declared.split.Mark.TheVariants as mark
 use Rattle.mime_tree.specs.Delimiters.{IsDelimiter, IsClosing, IsMarked}
-use Rattle.mime_tree.specs.LineReading.{behind, behind_dashes, closes, rest_mark, mark_of}
+use Rattle.mime_tree.specs.reading.LineReading.{behind, behind_dashes, closes, rest_mark, mark_of}
 
 -- the text begins with the prefix, or with no text behind it
 data Behind (p t : List ℕ) : Option (List ℕ) → Type 0 where

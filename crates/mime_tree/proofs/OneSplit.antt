@@ -6,7 +6,7 @@ use Rattle.mime_tree.specs.declared.split.Mark.{Mark}
 use Rattle.mime_tree.specs.declared.split.Mark.TheVariants as mark
 use Rattle.mime_tree.specs.declared.split.Piece.{Piece}
 use Rattle.mime_tree.specs.Delimiters.{size}
-use Rattle.mime_tree.specs.LineReading.{mark_of}
+use Rattle.mime_tree.specs.reading.LineReading.{mark_of}
 use Rattle.mime_tree.specs.Splits.{piece, ArePlain, end_of, IsEnd, IsClosed, AreParts, Follows, IsSplit}
 use Rattle.mime_tree.proofs.MarkLemmas.{is_mark, opens_closes}
 

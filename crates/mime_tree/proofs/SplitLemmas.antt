@@ -5,7 +5,7 @@ use Rattle.std.proofs.lemmas.List.{drop_all}
 use Rattle.mime_tree.specs.declared.split.Mark.TheVariants as mark
 use Rattle.mime_tree.specs.declared.split.Piece.{Piece}
 use Rattle.mime_tree.specs.Delimiters.{size, lines}
-use Rattle.mime_tree.specs.LineReading.{mark_of}
+use Rattle.mime_tree.specs.reading.LineReading.{mark_of}
 use Rattle.mime_tree.specs.Splits.{piece, ending, before, end_of, InPart, AreParts, Follows, HasParts, IsSplit}
 use Rattle.mime_tree.proofs.LineLemmas.{Here}
 use Rattle.mime_tree.proofs.MarkLemmas.{mark_is}

@@ -1,11 +1,11 @@
 -- The tree of parts that octets are (RFC 2046 section 5.1).
-use Rattle.std.specs.Prelude.{◌≡◌, ℕ, zero, suc, ◌+◌, true, false, List, [], ◌∷◌, length, slice_range, Option, Some, None}
+use Rattle.std.specs.Prelude.{◌≡◌, ℕ, zero, suc, ◌+◌, true, false, List, [], ◌∷◌, length, slice_range, Option, Some, None, unwrap_or}
 use Rattle.mime_tree.specs.declared.head.Head.{Head}
 use Rattle.mime_tree.specs.declared.split.Piece.{Piece}
 use Rattle.mime_tree.specs.declared.part.Part.{Part, out-Part}
 use Rattle.mime_tree.specs.Parts.{children}
 use Rattle.mime_tree.specs.Splits.{IsSplit}
-use Rattle.mime_tree.specs.Heads.{IsHead, boundary_of, default_in, leaf_media, leaf_charset, is_multipart, text_plain}
+use Rattle.mime_tree.specs.Heads.{IsHead, boundary_of, default_in, leaf_media, leaf_charset, is_multipart, text_plain, seven_bit}
 
 -- the part stands where its head says, and has what its header says
 pub record HasHead (h : Head) (p : Part) : Type 0 where
@@ -18,7 +18,7 @@ pub record HasHead (h : Head) (p : Part) : Type 0 where
   pub cid : (out-Part p).cid ≡ h.header.cid
   pub language : (out-Part p).language ≡ h.header.language
   pub location : (out-Part p).location ≡ h.header.location
-  pub encoding : (out-Part p).encoding ≡ h.header.encoding
+  pub encoding : (out-Part p).encoding ≡ unwrap_or h.header.encoding seven_bit
 
 -- a part with no parts in it, whose number is first
 pub record IsLeaf (h : Head) (first : ℕ) (p : Part) (next : ℕ) : Type 0 where

@@ -1,7 +1,7 @@
 ghost use Rattle.std.specs.Prelude.{◌≡◌, ◌≤◌, IfOk, MatchOption, None, Some, length, unwrap_or};
 ghost use Rattle.mime_tree.specs.Heads as heads;
 ghost use Rattle.mime_tree.specs.Heads.{IsHead};
-ghost use Rattle.mime_tree.specs.Shared.{AreShared};
+ghost use Rattle.mime_tree.specs.reading.Shared.{AreShared};
 
 use crate::shared::SharedTexts;
 use crate::split::Piece;
@@ -121,6 +121,20 @@ pub(crate) fn leaf_charset(
     match charset {
         None => Ok(Some(shared.us_ascii.share()?)),
         Some(given) => Ok(Some(given)),
+    }
+}
+
+/// The transfer encoding that the header names, or else 7bit.
+pub(crate) fn encoding_or(
+    shared: &SharedTexts,
+    encoding: Option<Bytes>,
+) -> Result<Bytes, AllocError>
+    requires { AreShared shared.now }
+    ensures { IfOk result (λ e. e ≡ unwrap_or encoding heads.seven_bit) }
+{
+    match encoding {
+        None => shared.seven_bit.share(),
+        Some(given) => Ok(given),
     }
 }
 

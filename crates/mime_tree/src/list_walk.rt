@@ -3,7 +3,7 @@ ghost use Rattle.std.specs.Prelude.{◌≡◌, ◌≤◌, ◌++◌, ◌||◌, �
 ghost use Rattle.mime_tree.specs.BodyLists as body;
 ghost use Rattle.mime_tree.specs.Roles as roles;
 ghost use Rattle.mime_tree.specs.BodyLists.{PartLists};
-ghost use Rattle.mime_tree.specs.ListBuilding.{grown, attached, Gains, GainsBy, GainsBelow, Shares, Spreads};
+ghost use Rattle.mime_tree.specs.reading.ListBuilding.{grown, attached, Gains, GainsBy, GainsBelow, Shares, Spreads};
 
 use crate::part::Part;
 use crate::roles::{

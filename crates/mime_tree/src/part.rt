@@ -16,7 +16,7 @@ pub struct Part {
     pub cid: Option<Bytes>,
     pub language: Option<Bytes>,
     pub location: Option<Bytes>,
-    /// The transfer encoding that the header names.
+    /// The transfer encoding that the header names, `7bit` where it has none, and the empty text where it can't be read.
     pub encoding: Bytes,
     /// Where the body begins, as it stands, with its transfer encoding.
     pub start: usize,

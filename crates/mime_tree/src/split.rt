@@ -1,5 +1,5 @@
 ghost use Rattle.std.specs.Prelude.{◌≡◌, ◌≤◌, ◌<◌, ◌+◌, IfOk, OnOk, IfSome, MatchOption, None, Some, ◌++◌, length, ℕ, List};
-ghost use Rattle.mime_tree.specs.LineReading as reading;
+ghost use Rattle.mime_tree.specs.reading.LineReading as reading;
 ghost use Rattle.mime_tree.specs.Splits as splits;
 ghost use Rattle.mime_tree.specs.Splits.{IsSplit, AreBehind, ending};
 
@@ -29,7 +29,7 @@ pub struct Piece {
 struct InLine;
 
 impl Class<u8> for InLine {
-    ghost use Rattle.mime_tree.specs.LineReading as reading;
+    ghost use Rattle.mime_tree.specs.reading.LineReading as reading;
 
     ghost test = { reading.is_in_line };
 
@@ -72,7 +72,7 @@ fn rest_mark(rest: &[u8]) -> Mark
 }
 
 /// What the line is to a multipart with this boundary.
-#[tactic(auto, unfolding(crate::specs::LineReading::mark_of))]
+#[tactic(auto, unfolding(crate::specs::reading::LineReading::mark_of))]
 fn mark_of(line: &[u8], boundary: &[u8]) -> Mark
     ensures { result ≡ reading.mark_of boundary.now line.now }
 {

@@ -3,10 +3,10 @@ ghost use Rattle.mime_tree.specs.declared.part.Part.{Part, out-Part};
 ghost use Rattle.mime_tree.specs.Heads as heads;
 ghost use Rattle.mime_tree.specs.Parts.{IsUnder, IsWithin};
 ghost use Rattle.mime_tree.specs.Splits.{AreBehind};
-ghost use Rattle.mime_tree.specs.Shared.{AreShared};
+ghost use Rattle.mime_tree.specs.reading.Shared.{AreShared};
 ghost use Rattle.mime_tree.specs.Trees.{ArePieces, IsLeaf, IsNode, IsTree, IsMessage};
 
-use crate::head::{Head, boundary_of, default_in, head_at, leaf_charset, leaf_media};
+use crate::head::{Head, boundary_of, default_in, encoding_or, head_at, leaf_charset, leaf_media};
 use crate::part::Part;
 use crate::shared::{SharedTexts, shared_texts};
 use crate::split::{Piece, split};
@@ -67,7 +67,7 @@ fn part_at(
                 children.push(child)?;
                 next = after;
             }
-            Ok((node(head, children), next))
+            Ok((node(shared, head, children)?, next))
         }
     }
 }
@@ -102,6 +102,7 @@ fn leaf(alloc: Global, shared: &SharedTexts, head: Head, number: u64) -> Result<
     } = head;
     let media = leaf_media(shared, media)?;
     let charset = leaf_charset(shared, media.as_slice(), header.charset)?;
+    let encoding = encoding_or(shared, header.encoding)?;
     Ok(Part {
         number: Some(number),
         media,
@@ -111,7 +112,7 @@ fn leaf(alloc: Global, shared: &SharedTexts, head: Head, number: u64) -> Result<
         cid: header.cid,
         language: header.language,
         location: header.location,
-        encoding: header.encoding,
+        encoding,
         start: body,
         end,
         head_start: start,
@@ -121,9 +122,10 @@ fn leaf(alloc: Global, shared: &SharedTexts, head: Head, number: u64) -> Result<
 }
 
 /// A multipart.
-fn node(head: Head, children: Vec<Part>) -> Part
-    ensures node { IsNode head result }
-    ensures children { (out-Part result).children.items ≡ children.items }
+fn node(shared: &SharedTexts, head: Head, children: Vec<Part>) -> Result<Part, AllocError>
+    requires { AreShared shared.now }
+    ensures node { IfOk result (λ p. IsNode head p) }
+    ensures children { IfOk result (λ p. (out-Part p).children.items ≡ children.items) }
 {
     let Head {
         header,
@@ -132,7 +134,8 @@ fn node(head: Head, children: Vec<Part>) -> Part
         body,
         end,
     } = head;
-    Part {
+    let encoding = encoding_or(shared, header.encoding)?;
+    Ok(Part {
         number: None,
         media,
         charset: header.charset,
@@ -141,11 +144,11 @@ fn node(head: Head, children: Vec<Part>) -> Part
         cid: header.cid,
         language: header.language,
         location: header.location,
-        encoding: header.encoding,
+        encoding,
         start: body,
         end,
         head_start: start,
         head_end: body,
         children,
-    }
+    })
 }

@@ -1,7 +1,7 @@
 use Rattle.std.proofs.Common.{arith, ◌≡◌, ◌<◌, List, ◌∷◌, ◌+◌, ℕ, length, drop, get_or, sym, ap, ◌∙◌, add-one, drop-cons}
 use Rattle.std.proofs.lemmas.List.{drop_all}
 use Rattle.mime_tree.specs.declared.part.Part.{Part}
-use Rattle.mime_tree.specs.ListBuilding.{grown}
+use Rattle.mime_tree.specs.reading.ListBuilding.{grown}
 use Rattle.mime_tree.specs.BodyLists.{next}
 use Rattle.mime_tree.proofs.ListWalkLemmas.{so_far_multi, so_far_met, so_far_same, so_far_done, below_of}
 use Rattle.mime_tree.proofs.list_walk.+walk.Goals as goal

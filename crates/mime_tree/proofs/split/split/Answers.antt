@@ -1,5 +1,5 @@
 use Rattle.std.proofs.Common.{◌≡◌, arith, sym, ◌∙◌}
-use Rattle.mime_tree.specs.LineReading.{mark_of}
+use Rattle.mime_tree.specs.reading.LineReading.{mark_of}
 use Rattle.mime_tree.specs.declared.split.Mark.TheVariants as mark
 use Rattle.mime_tree.proofs.LineLemmas.{here}
 use Rattle.mime_tree.proofs.SplitLemmas.{at_plain, at_opens, at_closes, at_end_inside, at_end_outside}

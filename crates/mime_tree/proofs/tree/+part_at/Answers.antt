@@ -42,11 +42,11 @@ loop-piece-preserved t c =
     default_of : List ℕ → List ℕ
     default_of m = heads.default_in m
 
-pub returns-after-loop-piece-clause-tree : goal.returns-after-loop-piece-clause-tree
-returns-after-loop-piece-clause-tree t c =
+pub returns-in_ok-node-in-Some-clause-tree : goal.returns-in_ok-node-in-Some-clause-tree
+returns-in_ok-node-in-Some-clause-tree t c =
     let h = c.in_ok-head.head in
     let A : Option (List Piece) → Type 0 = λ r. ArePieces (boundary_of h) (slice_range c.args.bytes.now h.body h.end) r in
-    tree_node c.args.more _ _ _ _ _ _ _ h c.in-Some.pieces c.if-more-eq0.false c.in_ok-head.ensures (subst A c.in-Some.is c.in_ok-pieces_of.ensures.pieces) c.node.ensures.node (children_of _ _ _ _ _ _ _ _ _ _ _ c.loop-piece-test.false c.as_slice-piece-items.ensures c.node.ensures.children c.loop-piece.invariant.so_far)
+    tree_node c.args.more _ _ _ _ _ _ _ h c.in-Some.pieces c.if-more-eq0.false c.in_ok-head.ensures (subst A c.in-Some.is c.in_ok-pieces_of.ensures.pieces) c.in_ok-node-in-Some.ensures.node (children_of _ _ _ _ _ _ _ _ _ _ _ c.loop-piece-test.false c.as_slice-piece-items.ensures c.in_ok-node-in-Some.ensures.children c.loop-piece.invariant.so_far)
   where
     children_of : (more : ℕ) (b : List ℕ) (base : ℕ) (d : List ℕ) (ps qs : List Piece) (i first : ℕ) (cs ds : List Part) (next : ℕ) → length ps ≤ i → ps ≡ qs → ds ≡ cs → ChildrenSo more b base d ps (drop i ps) first cs next → AreTrees (IsTree more b) base d qs first ds next
     children_of more b base d ps qs i first cs ds next le e f h =
