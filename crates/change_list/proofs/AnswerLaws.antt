@@ -3,7 +3,7 @@ use Rattle.std.proofs.Common.{◌≡◌, ◌≢◌, ◌↔◌, ℕ, suc, ◌+◌
 use Rattle.std.specs.Option.{ForSome}
 use Rattle.std.proofs.lemmas.List.{length-drop, length-take-le}
 use Rattle.change_list.specs.Touches.{between, touches, counts_alone}
-use Rattle.change_list.specs.Seen.{touched_count, fresh_count}
+use Rattle.change_list.specs.reading.Seen.{touched_count, fresh_count}
 use Rattle.change_list.specs.Changes.{IsChanges, Lists, IsWithin, Reaches, IsCreated, IsUpdated, IsDestroyed}
 use Rattle.change_list.specs.declared.entries.Entry.{Entry}
 use Rattle.change_list.specs.declared.answer.Changes.{Changes}

@@ -7,7 +7,7 @@ use Rattle.std.proofs.lemmas.List.Kept.{IsStrictlyIncreasing-filter}
 use Rattle.change_list.specs.Touches.{touches}
 use Rattle.change_list.specs.Changes.{Lists}
 use Rattle.change_list.specs.Copy.{holds_id}
-use Rattle.change_list.specs.Seen.{fresh_count, touched_count}
+use Rattle.change_list.specs.reading.Seen.{fresh_count, touched_count}
 use Rattle.change_list.specs.declared.entries.Entry.{Entry}
 use Rattle.change_list.proofs.Ascending.{Contains-holds_id, holds_id-Contains, held_first, first_below, ascending_rest, same_truth}
 

@@ -7,10 +7,10 @@ use Rattle.std.specs.Option.{ForSome}
 use Rattle.std.specs.BTreeMap.{get}
 use Rattle.change_list.specs.Touches.{there_after, there_at, between, touches, leaves, FitsFrom, AreTouches, counts_alone}
 use Rattle.change_list.specs.Changes.{IsChanges, Lists, IsWithin, Reaches, IsCreated, IsUpdated, IsDestroyed}
-use Rattle.change_list.specs.Seen.{seen_after, seen_after_one, touched_count, Gathered}
-use Rattle.change_list.specs.Parts.{has_of, IsIn}
+use Rattle.change_list.specs.reading.Seen.{seen_after, seen_after_one, touched_count, Gathered}
+use Rattle.change_list.specs.reading.Parts.{has_of, IsIn}
 use Rattle.change_list.specs.Kept.{Kept, IsOf, front_of}
-use Rattle.change_list.specs.Answer.{Answers}
+use Rattle.change_list.specs.reading.Answer.{Answers}
 use Rattle.change_list.specs.declared.entries.Entry.{Entry}
 use Rattle.change_list.specs.declared.answer.Changes.{Changes}
 use Rattle.change_list.specs.declared.walk.Seen.{Seen}

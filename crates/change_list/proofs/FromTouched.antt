@@ -8,7 +8,7 @@ use Rattle.std.proofs.lemmas.Map.Entries.{btree_map_get_place}
 use Rattle.std.proofs.lemmas.Cmp.{nat_cmp_total}
 use Rattle.change_list.specs.Touches.{there_at, between, touches, AreTouches}
 use Rattle.change_list.specs.Changes.{Lists}
-use Rattle.change_list.specs.Seen.{Gathered}
+use Rattle.change_list.specs.reading.Seen.{Gathered}
 use Rattle.change_list.specs.TouchedIds.{AreTouched}
 use Rattle.change_list.specs.declared.entries.Entry.{Entry}
 use Rattle.change_list.specs.declared.walk.Seen.{Seen}

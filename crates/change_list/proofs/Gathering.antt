@@ -4,7 +4,7 @@ use Rattle.std.proofs.lemmas.Bool.{eqb-true}
 use Rattle.std.specs.Option.{ForSome}
 use Rattle.std.specs.BTreeMap.{get, btree_map_len, is_at}
 use Rattle.change_list.specs.Touches.{touches}
-use Rattle.change_list.specs.Seen.{seen_after, seen_after_one, fresh_count, touched_count, Gathered}
+use Rattle.change_list.specs.reading.Seen.{seen_after, seen_after_one, fresh_count, touched_count, Gathered}
 use Rattle.change_list.specs.declared.entries.Entry.{Entry}
 use Rattle.change_list.specs.declared.walk.Seen.{Seen}
 

@@ -1,10 +1,15 @@
 -- Touches of one kind, of rows with different ids.
-use Rattle.std.proofs.Common.{◌≡◌, ◌≢◌, ℕ, List, [], ◌∷◌, ◌++◌, Bool, true, false, cond, nat_eq, map, Option, Some, None, refl, sym, ap, ◌∙◌, subst}
+use Rattle.std.proofs.Common.{nat_cmp, rules, ◌≡◌, ◌≢◌, ℕ, List, [], ◌∷◌, ◌++◌, Bool, true, false, cond, nat_eq, map, Option, Some, None, refl, sym, ap, ◌∙◌, subst}
 use Rattle.std.proofs.lemmas.Bool.{eqb-true, eq-eqb}
+use Rattle.std.specs.BTreeMap.{is_at}
 use Rattle.change_list.specs.History.{Touch, map_then, value_after, entries_from, entry_of, kind_of, DifferFrom}
 use Rattle.change_list.specs.Advance.{row_at, AreRows}
 use Rattle.change_list.specs.declared.entries.Kind.{Kind}
 use Rattle.change_list.specs.declared.entries.Entry.{Entry}
+
+-- a row is looked up by the test that touches are
+pub key_is : (q k : ℕ) → is_at (nat_cmp q) k ≡ nat_eq k q
+key_is q k = search rules
 
 module _ {V : Type 0} where
   -- the touches differ from what was there, and their entries are these
@@ -33,7 +38,7 @@ module _ {V : Type 0} where
     pub phase : (was : ℕ → Option V) (es : List (ℕ × V)) → AreRows es → ((q : ℕ) (v : V) → row_at es q ≡ Some v → P (was q) v) → Fits was (map put es) (map entry es)
     phase was [] rows here = record { differ = tt; entries = refl }
     phase was (e ∷ es) rows here =
-        let first : P (was e.0) e.1 = here e.0 e.1 (ap (λ (b : Bool). cond b (Some e.1) (row_at es e.0)) (eq-eqb e.0 e.0 refl)) in
+        let first : P (was e.0) e.1 = here e.0 e.1 (ap (λ (b : Bool). cond b (Some e.1) (row_at es e.0)) (key_is e.0 e.0 ∙ eq-eqb e.0 e.0 refl)) in
         let at : was (put e).id ≡ was e.0 = ap was (ids e) in
         let given = facts (was e.0) e first in
         let rest = phase (map_then was (put e)) es rows.1 (λ q v is.
@@ -42,7 +47,7 @@ module _ {V : Type 0} where
           | false ↦ λ other.
               let to : was q ≡ map_then was (put e) q = sym (ap (λ (i : ℕ). cond (nat_eq i q) (put e).value (was q)) (ids e) ∙ ap (λ (b : Bool). cond b (put e).value (was q)) other) in
               let R : Option V → Type 0 = λ o. P o v in
-              subst R to (here q v (ap (λ (b : Bool). cond b (Some e.1) (row_at es q)) other ∙ is))
+              subst R to (here q v (ap (λ (b : Bool). cond b (Some e.1) (row_at es q)) (key_is q e.0 ∙ other) ∙ is))
         ] refl) in
         record {
           differ = ((λ same. given.0 (sym at ∙ same)), rest.differ);

@@ -1,9 +1,9 @@
 -- A client's copy of a type, and what answers do to it (RFC 8620, section 5.2).
-use Rattle.std.specs.Prelude.{◌≡◌, ◌≢◌, ◌↔◌, ℕ, ◌≤◌, ◌==◌, List, [], ◌∷◌, Bool, false, if◌then◌else◌, take, length, Contains, Option, None}
+use Rattle.std.specs.Prelude.{◌≡◌, ◌≢◌, ◌↔◌, ℕ, ◌≤◌, ◌==◌, List, [], ◌∷◌, Bool, false, IsTrue, if◌then◌else◌, map, take, All, Contains, Option, None}
 use Rattle.std.specs.List.{list_any}
 use Rattle.change_list.specs.Touches.{between, touches}
 use Rattle.change_list.specs.Changes.{IsChanges}
-use Rattle.change_list.specs.History.{Touch, map_at, entries_of, IsTouched}
+use Rattle.change_list.specs.History.{Touch, last_place, map_at, map_now, entries_of, IsTouched}
 use Rattle.change_list.specs.declared.answer.Changes.{Changes}
 
 abbrev pub holds_id : List ℕ → ℕ → Bool
@@ -20,7 +20,7 @@ module _ {V : Type 0} where
   -- a copy that is right up to place s: it has no id that the map there lacks, and each id untouched since as it is now
   pub record IsCopy (copy : ℕ → Option V) (h : List (Touch V)) (s : ℕ) : Type 0 where
     pub no_other : (q : ℕ) → map_at h s q ≡ None → copy q ≡ None
-    pub agrees : (q : ℕ) → touches (between (entries_of h) s (length h)) q ≡ false → copy q ≡ map_at h (length h) q
+    pub agrees : (q : ℕ) → touches (between (entries_of h) s (last_place h)) q ≡ false → copy q ≡ map_now h q
 
   -- what an answer makes of a copy: created and updated ids as they are now, destroyed ones dropped
   abbrev pub applied : Changes → (ℕ → Option V) → (ℕ → Option V) → ℕ → Option V
@@ -34,7 +34,7 @@ module _ {V : Type 0} where
   pub record IsClientStep (h : List (Touch V)) (s now : ℕ) (r : ClientStep) : Type 0 where
     pub answer_first : r.answered ≤ r.fetched
     pub in_order : now ≤ r.fetched
-    pub by_now : r.fetched ≤ length h
+    pub by_now : r.fetched ≤ last_place h
     pub changes : IsChanges (entries_of (take r.answered h)) s r.max r.changes
 
   -- steps one after the other, each from the place to which the one before came
@@ -53,6 +53,12 @@ module _ {V : Type 0} where
     pub destroyed : (q : ℕ) → Contains c.destroyed q ↔ ((map_at h s q ≢ None) × (map_at h c.to q ≡ None))
     pub updated : (q : ℕ) → Contains c.updated q ↔ ((map_at h s q ≢ None) × (map_at h c.to q ≢ None) × IsTouched h s c.to q)
     pub as_it_was : (q : ℕ) → ¬ Contains c.created q → ¬ Contains c.updated q → ¬ Contains c.destroyed q → map_at h c.to q ≡ map_at h s q
+
+  -- the ids listed are those touched after the place, each with whether the map there has it; what isn't listed is as it was
+  pub record TouchedTellsMaps (h : List (Touch V)) (s : ℕ) (xs : List (ℕ × Bool)) : Type 0 where
+    pub listed : (q : ℕ) → Contains (map (λ x. x.0) xs) q ↔ IsTouched h s (last_place h) q
+    pub presence : All (λ x. IsTrue x.1 ↔ (map_at h s x.0 ≢ None)) xs
+    pub as_it_was : (q : ℕ) → ¬ Contains (map (λ x. x.0) xs) q → map_now h q ≡ map_at h s q
 
 -- the place to which steps from s come
 abbrev pub place_after : ℕ → List ClientStep → ℕ

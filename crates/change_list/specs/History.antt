@@ -20,6 +20,14 @@ module _ {V : Type 0} where
   abbrev pub map_at : List (Touch V) → ℕ → ℕ → Option V
   map_at h place q = value_after None (take place h) q
 
+  -- the place of the last map
+  abbrev pub last_place : List (Touch V) → ℕ
+  last_place h = length h
+
+  -- the last map
+  abbrev pub map_now : List (Touch V) → ℕ → Option V
+  map_now h q = map_at h (last_place h) q
+
   -- the map after a touch
   abbrev pub map_then : (ℕ → Option V) → Touch V → ℕ → Option V
   map_then was t q = if t.id == q then t.value else was q

@@ -6,7 +6,4 @@ pub mod Refusal
 pub mod History
 pub mod Copy
 pub mod Advance
--- what the walk over the kept touches does
-pub mod Seen
-pub mod Parts
-pub mod Answer
+pub mod reading

@@ -1,3 +1,4 @@
+// What changed after a place, as it is answered.
 use gate_world::Listed;
 
 /// What changed after a place (RFC 8620, section 5.2). Each list is ascending.

@@ -1,3 +1,4 @@
+// Touches of a type, as a change list keeps them.
 ghost use Rattle.std.specs.Prelude.{◌≡◌};
 ghost use Rattle.change_list.specs.Touches.{leaves, finds};
 

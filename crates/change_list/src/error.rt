@@ -1,3 +1,4 @@
+// Refusals of a question about a place.
 ghost use Rattle.std.specs.Prelude.{◌≡◌};
 ghost use Rattle.change_list.specs.declared.error.SinceError.TheVariants.{Memory};
 

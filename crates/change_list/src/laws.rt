@@ -4,10 +4,11 @@
 ghost use Rattle.std.specs.Prelude.{◌≡◌, ◌≢◌, ◌<◌, ◌≤◌, ◌↔◌, [], ◌∷◌, ◌++◌, ℕ, List, Option, Some, None, Bool, true, IsTrue, length, take};
 ghost use Rattle.std.specs.Option.{ForSome};
 ghost use Rattle.change_list.specs.Touches.{AreTouches};
-ghost use Rattle.change_list.specs.Advance.{row_at, AreRows, GoesOn, advance};
+ghost use Rattle.change_list.specs.Advance.{Tests, IsExact, row_at, AreRows, GoesOn, advance};
 ghost use Rattle.change_list.specs.Changes.{IsChanges};
-ghost use Rattle.change_list.specs.History.{Touch, IsHistory, AreMaps, HasMaps, map_at, entries_of, value_after};
-ghost use Rattle.change_list.specs.Copy.{IsCopy, ClientStep, AreClientSteps, TellsMaps, applied, with_value, copy_after, place_after};
+ghost use Rattle.change_list.specs.History.{Touch, IsHistory, AreMaps, HasMaps, last_place, map_at, map_now, entries_of, value_after};
+ghost use Rattle.change_list.specs.TouchedIds.{AreTouched};
+ghost use Rattle.change_list.specs.Copy.{IsCopy, ClientStep, AreClientSteps, TellsMaps, TouchedTellsMaps, applied, with_value, copy_after, place_after};
 ghost use Rattle.change_list.specs.declared.entries.Entry.{Entry};
 ghost use Rattle.change_list.specs.declared.answer.Changes.{Changes};
 
@@ -25,7 +26,7 @@ pub fn answers_go_on()
 
 /// A history's maps begin empty, neighbours differ at one id, and no id comes back that was lost.
 pub fn history_has_maps<V>()
-    ensures { (h : List (Touch V)) → IsHistory h → AreMaps (map_at h) (length h) }
+    ensures { (h : List (Touch V)) → IsHistory h → AreMaps (map_at h) (last_place h) }
 {}
 
 /// All such maps are those of a history.
@@ -41,8 +42,8 @@ pub fn history_fits<V>()
 /// A history goes on by a touch that gives its id another value than it has, where the id has one or never had one.
 pub fn history_grows<V>()
     ensures { (h : List (Touch V)) (t : Touch V)
-        → IsHistory h → map_at h (length h) t.id ≢ t.value
-        → (t.value ≢ None → map_at h (length h) t.id ≡ None → (i : ℕ) → map_at h i t.id ≡ None)
+        → IsHistory h → map_now h t.id ≢ t.value
+        → (t.value ≢ None → map_now h t.id ≡ None → (i : ℕ) → map_at h i t.id ≡ None)
         → IsHistory (h ++ t ∷ []) }
 {}
 
@@ -50,6 +51,12 @@ pub fn history_grows<V>()
 pub fn answer_tells_maps<V>()
     ensures { (h : List (Touch V)) (s : ℕ) (max : Option ℕ) (c : Changes)
         → IsHistory h → IsChanges (entries_of h) s max c → TellsMaps h s c }
+{}
+
+/// What was touched after a place tells of the maps there and now.
+pub fn touched_tells_maps<V>()
+    ensures { (h : List (Touch V)) (s : ℕ) (xs : List (ℕ × Bool))
+        → IsHistory h → s ≤ last_place h → AreTouched (entries_of h) s xs → TouchedTellsMaps h s xs }
 {}
 
 /// Nothing is a copy of the first map.
@@ -60,61 +67,60 @@ pub fn empty_copy<V>()
 /// A copy stays a copy under changes answered then or earlier, with values fetched afterwards.
 pub fn copies_follow<V>()
     ensures { (h : List (Touch V)) (m s : ℕ) (max : Option ℕ) (c : Changes) (copy : ℕ → Option V)
-        → m ≤ length h → IsChanges (entries_of (take m h)) s max c → IsCopy copy h s
-        → IsCopy (applied c (map_at h (length h)) copy) h c.to }
+        → m ≤ last_place h → IsChanges (entries_of (take m h)) s max c → IsCopy copy h s
+        → IsCopy (applied c (map_now h) copy) h c.to }
 {}
 
 /// A copy at the last place is the last map.
 pub fn last_copy_is_map<V>()
     ensures { (h : List (Touch V)) (copy : ℕ → Option V)
-        → IsCopy copy h (length h) ↔ ((q : ℕ) → copy q ≡ map_at h (length h) q) }
+        → IsCopy copy h (last_place h) ↔ ((q : ℕ) → copy q ≡ map_now h q) }
 {}
 
 /// What a history gains keeps a copy at its place.
 pub fn copies_stay<V>()
     ensures { (h more : List (Touch V)) (s : ℕ) (copy : ℕ → Option V)
-        → s ≤ length h → IsCopy copy h s → IsCopy copy (h ++ more) s }
+        → s ≤ last_place h → IsCopy copy h s → IsCopy copy (h ++ more) s }
 {}
 
 /// So does taking the present value of an id that was there at the place.
 pub fn copies_take<V>()
     ensures { (h : List (Touch V)) (s id : ℕ) (copy : ℕ → Option V)
-        → map_at h s id ≢ None → IsCopy copy h s → IsCopy (with_value id (map_at h (length h) id) copy) h s }
+        → map_at h s id ≢ None → IsCopy copy h s → IsCopy (with_value id (map_now h id) copy) h s }
 {}
 
 /// So does dropping an id that isn't there now.
 pub fn copies_drop<V>()
     ensures { (h : List (Touch V)) (s id : ℕ) (copy : ℕ → Option V)
-        → map_at h (length h) id ≡ None → IsCopy copy h s → IsCopy (with_value id None copy) h s }
+        → map_now h id ≡ None → IsCopy copy h s → IsCopy (with_value id None copy) h s }
 {}
 
 /// Answers and fetches one after the other, while the history goes on, keep a copy.
 pub fn steps_keep_copies<V>()
     ensures { (h : List (Touch V)) (s now : ℕ) (steps : List ClientStep) (copy : ℕ → Option V)
-        → s ≤ now → now ≤ length h → IsCopy copy (take now h) s → AreClientSteps h s now steps
+        → s ≤ now → now ≤ last_place h → IsCopy copy (take now h) s → AreClientSteps h s now steps
         → IsCopy (copy_after h copy steps) h (place_after s steps) }
 {}
 
 /// Repeated until nothing is left, they end in the last map.
 pub fn steps_end_in_last_map<V>()
     ensures { (h : List (Touch V)) (s now : ℕ) (steps : List ClientStep) (copy : ℕ → Option V)
-        → s ≤ now → now ≤ length h → IsCopy copy (take now h) s → AreClientSteps h s now steps
-        → place_after s steps ≡ length h → (q : ℕ) → copy_after h copy steps q ≡ map_at h (length h) q }
+        → s ≤ now → now ≤ last_place h → IsCopy copy (take now h) s → AreClientSteps h s now steps
+        → place_after s steps ≡ last_place h → (q : ℕ) → copy_after h copy steps q ≡ map_now h q }
 {}
 
 /// The touches of an advance lead from the old map to the new one.
 pub fn advance_leads<V>()
-    ensures { (same counts : V → V → Bool) (old new : List (ℕ × V)) (q : ℕ)
-        → ((u v : V) → same u v ≡ true → u ≡ v) → AreRows old → AreRows new
-        → value_after (row_at old q) (advance same counts old new) q ≡ row_at new q }
+    ensures { (tests : Tests V) (old new : List (ℕ × V)) (q : ℕ)
+        → ((u v : V) → tests.same u v ≡ true → u ≡ v) → AreRows old → AreRows new
+        → value_after (row_at old q) (advance tests old new) q ≡ row_at new q }
 {}
 
 /// A history whose last map is the old one goes on by an advance, where no new id was there before.
 pub fn advance_goes_on<V>()
-    ensures { (h : List (Touch V)) (same counts : V → V → Bool) (old new : List (ℕ × V))
-        → IsHistory h → AreRows old → AreRows new
-        → ((u v : V) → IsTrue (same u v) ↔ (u ≡ v))
-        → ((q : ℕ) → row_at old q ≡ map_at h (length h) q)
+    ensures { (h : List (Touch V)) (tests : Tests V) (old new : List (ℕ × V))
+        → IsHistory h → AreRows old → AreRows new → IsExact tests
+        → ((q : ℕ) → row_at old q ≡ map_now h q)
         → ((q i : ℕ) → row_at old q ≡ None → row_at new q ≢ None → map_at h i q ≡ None)
-        → GoesOn h same counts old new }
+        → GoesOn h tests old new }
 {}

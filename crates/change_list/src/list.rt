@@ -124,8 +124,3 @@ impl ChangeList {
         Ok((place - front) as usize)
     }
 }
-
-#[cfg(test)]
-mod random_touches;
-#[cfg(test)]
-mod tests;

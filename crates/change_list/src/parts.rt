@@ -1,8 +1,9 @@
 //! The lists of an answer, from what a walk has seen.
 ghost use Rattle.std.specs.Prelude.{◌≡◌, ℕ, IsTrue, IfOk, Some, true, map, filter};
 ghost use Rattle.std.specs.BTreeMap.{IsOrdered};
+ghost use Rattle.std.specs.List.{list_any};
 ghost use Rattle.std.specs.Ordering.{nat_cmp};
-ghost use Rattle.change_list.specs.Parts.{has_of, IsIn};
+ghost use Rattle.change_list.specs.reading.Parts.{has_of, IsIn};
 ghost use Rattle.change_list.specs.Changes.{Lists};
 
 use crate::walk::Seen;
@@ -53,6 +54,14 @@ fn picked(alloc: Global, seen: &BTreeMap<u64, Seen>, part: Part) -> Result<Vec<u
         .filter(|(_, known)| part.has(known))
         .map(|(id, _)| *id)
         .collect(alloc)
+}
+
+/// Whether a part has an id.
+pub fn has_any(seen: &BTreeMap<u64, Seen>, part: Part) -> bool
+    ensures any { result ≡ list_any (λ e. has_of part e.1) seen.now.entries }
+    ensures ordered { IsOrdered nat_cmp seen.now }
+{
+    seen.iter().any(|(_, known)| part.has(known))
 }
 
 /// Each id with whether it was there before, ascending.

@@ -1,18 +1,19 @@
 //! What changed after a place, from a walk over the touches after it.
-ghost use Rattle.std.specs.Prelude.{◌≡◌, ◌≢◌, ◌↔◌, [], IsTrue, ◌+◌, ◌≤◌, ◌<◌, ◌^◌, drop, length, IfOk};
-ghost use Rattle.change_list.specs.Answer.{Answers};
+ghost use Rattle.std.specs.Prelude.{◌≡◌, ◌≢◌, ◌↔◌, [], false, IsTrue, ◌+◌, ◌≤◌, ◌<◌, ◌^◌, drop, length, IfOk};
+ghost use Rattle.change_list.specs.reading.Answer.{Answers};
 
-use crate::parts::{Part, ids_in};
+use crate::parts::{Part, has_any, ids_in};
 use crate::walk::gather;
 use crate::{Changes, Entry};
 use circular_buffer::HeapCircularBuffer;
 use gate_world::Listed;
 use std::alloc::{AllocError, Global};
 
-fn has_only_counts(updated: &Listed<u64>, mixed: &Listed<u64>) -> bool
-    ensures { IsTrue result ↔ ((updated.now ≢ []) × (mixed.now ≡ [])) }
+// Whether counts are all that changed in the updated ids, of which some may have changed in more.
+fn has_only_counts(updated: &Listed<u64>, has_mixed: bool) -> bool
+    ensures { IsTrue result ↔ ((updated.now ≢ []) × (has_mixed ≡ false)) }
 {
-    !updated.is_empty() && mixed.is_empty()
+    !updated.is_empty() && !has_mixed
 }
 
 /// What changed after `place`, from the touches from index `start` on.
@@ -31,8 +32,7 @@ pub fn answer(
     let created = ids_in(alloc, &seen, Part::Created)?;
     let updated = ids_in(alloc, &seen, Part::Updated)?;
     let destroyed = ids_in(alloc, &seen, Part::Destroyed)?;
-    let mixed = ids_in(alloc, &seen, Part::Mixed)?;
-    let counts_only = has_only_counts(&updated, &mixed);
+    let counts_only = has_only_counts(&updated, has_any(&seen, Part::Mixed));
     Ok(Changes {
         to: place + taken as u64,
         created,

@@ -1,6 +1,6 @@
 //! A walk over the kept touches from a place on.
 ghost use Rattle.std.specs.Prelude.{◌≡◌, ◌≤◌, ◌<◌, ◌↔◌, drop, length, IsTrue, IfOk, Some, None, ℕ};
-ghost use Rattle.change_list.specs.Seen.{seen_after_one, Gathered};
+ghost use Rattle.change_list.specs.reading.Seen.{seen_after_one, Gathered};
 
 use crate::Entry;
 use circular_buffer::HeapCircularBuffer;

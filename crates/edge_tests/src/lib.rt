@@ -14,5 +14,3 @@ mod requests;
 mod sending;
 #[cfg(test)]
 mod steady_worlds;
-#[cfg(test)]
-mod subjects;

@@ -27,7 +27,7 @@ fn text_of(alloc: Global, command: &Command, number: u64) -> Result<Bytes, Alloc
     requires { IsQuotable command.now }
     ensures { IfOk result (λ text. text ≡ command_text command.now number) }
 {
-    let mut pieces = write_command(alloc, command, number)?.into_vec();
+    let mut pieces = write_command(alloc, command, number)?;
     match pieces.pop() {
         Some(piece) => Ok(piece),
         None => unreachable!(),

@@ -8,7 +8,7 @@ ghost use Rattle.imap_syntax.specs.declared.command.Command.TheVariants.{Login};
 ghost use Rattle.imap_grammar.specs.Written.{AddsPart};
 
 use crate::dates::push_date;
-use gate_world::{Bytes, Listed, Names};
+use gate_world::{Bytes, Names};
 use imap_syntax::Command;
 use std::alloc::{AllocError, Global};
 
@@ -320,16 +320,11 @@ fn append(alloc: Global, words: &[u8], message: &[u8], tag: u64) -> Result<Vec<B
 
 /// The pieces of the command's text under the tag of this number, each but the first to be sent after a continuation
 /// (RFC 9051 section 6).
-pub fn write_command(
-    alloc: Global,
-    command: &Command,
-    tag: u64,
-) -> Result<Listed<Bytes>, AllocError>
-    ensures { IfOk result (λ pieces. pieces ≡ texts.command_pieces command.now tag) }
+pub fn write_command(alloc: Global, command: &Command, tag: u64) -> Result<Vec<Bytes>, AllocError>
+    ensures { IfOk result (λ pieces. pieces.items ≡ texts.command_pieces command.now tag) }
 {
     if let Command::Login { user, password } = command {
-        let pieces = login(alloc, user.as_slice(), password.as_slice(), tag)?;
-        return Ok(Listed::from_vec(pieces));
+        return login(alloc, user.as_slice(), password.as_slice(), tag);
     }
     if let Command::Append {
         name,
@@ -339,10 +334,9 @@ pub fn write_command(
     } = command
     {
         let words = append_words(alloc, name.as_slice(), flags, *date)?;
-        let pieces = append(alloc, &words, message.as_slice(), tag)?;
-        return Ok(Listed::from_vec(pieces));
+        return append(alloc, &words, message.as_slice(), tag);
     }
     let mut pieces = Vec::new(alloc);
     pieces.push(text_of(alloc, command, tag)?)?;
-    Ok(Listed::from_vec(pieces))
+    Ok(pieces)
 }

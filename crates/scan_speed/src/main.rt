@@ -1,5 +1,6 @@
-//! How fast a store's responses are read. `scan_speed PIECE` makes 10,000 responses of 10,000 octets each, and says how long
-//! `memchr` takes to go over them, and how long they take to be scanned, in pieces of PIECE octets, and decoded.
+//! How fast a store's responses are read. `scan_speed PIECE` makes 10,000 responses with a literal of 10,000 octets, and then
+//! 100,000 lines of flags, and says of each how long `memchr` takes to go over them, and how long they take to be scanned,
+//! in pieces of PIECE octets, and decoded.
 #![tactic(auto)]
 
 ghost use Rattle.std.specs.Prelude.{◌≤◌, ◌<◌, length, take, IfSome};
@@ -12,12 +13,27 @@ use std::alloc::{AllocError, Global};
 use std::env;
 use std::time::Instant;
 
+/// Responses with a literal.
 const RESPONSES: usize = 10_000;
 
 /// The octets of each response's literal.
 const HEADER: usize = 10_000;
 
-fn responses(alloc: Global) -> Result<Vec<u8>, AllocError> {
+/// Lines of flags.
+const LINES: usize = 100_000;
+
+/// Responses that tell flags, as a store tells those that changed.
+fn flag_lines(alloc: Global) -> Result<Vec<u8>, AllocError> {
+    let mut out = Vec::new(alloc);
+    for uid in 1..LINES + 1 {
+        let line = format!(in alloc; "* {uid} FETCH (UID {uid} FLAGS (\\Seen) MODSEQ ({uid}))\r\n")?;
+        out.extend_from_slice(line.as_bytes())?;
+    }
+    Ok(out)
+}
+
+/// Responses that tell a message with its header.
+fn header_responses(alloc: Global) -> Result<Vec<u8>, AllocError> {
     let header = vec![in alloc; b'a'; HEADER]?;
     let mut out = Vec::new(alloc);
     for uid in 1..RESPONSES + 1 {
@@ -67,17 +83,16 @@ fn read(alloc: Global, bytes: &[u8], piece: usize) -> Result<usize, AllocError>
     Ok(bytes.len())
 }
 
-fn measure(rt: &HostRuntime, piece: usize) -> Result<(), anyhow::Error>
+fn measure(rt: &HostRuntime, bytes: &[u8], piece: usize) -> Result<(), anyhow::Error>
     requires { 0 < piece }
 {
-    let bytes = responses(rt.alloc())?;
     let length = bytes.len();
     let start = Instant::now(rt)?;
-    let found = memchr(b'\0', &bytes).is_some();
+    let found = memchr(b'\0', bytes).is_some();
     let searched = start.elapsed(rt)?.as_micros();
     println!(rt; "{length} octets, of which one is 0: {found}; memchr: {searched} microseconds")?;
     let start = Instant::now(rt)?;
-    let count = read(rt.alloc(), &bytes, piece)?;
+    let count = read(rt.alloc(), bytes, piece)?;
     let taken = start.elapsed(rt)?.as_micros();
     println!(rt; "{count} responses in pieces of {piece}: {taken} microseconds")?;
     Ok(())
@@ -92,5 +107,8 @@ fn main(rt: HostRuntime) -> Result<(), anyhow::Error> {
         println!(rt; "usage: scan_speed PIECE")?;
         return Ok(());
     }
-    measure(&rt, piece)
+    let headers = header_responses(rt.alloc())?;
+    measure(&rt, &headers, piece)?;
+    let flags = flag_lines(rt.alloc())?;
+    measure(&rt, &flags, piece)
 }

@@ -7,7 +7,7 @@ use Rattle.text_words.specs.Octets.{is_blank, is_alpha, is_between, SameText}
 use Rattle.text_words.proofs.CutLemmas.{front_back, front_each, back_stops, front_is, back_is, one_cut, one_run, run_cut}
 use Rattle.thread_rule.specs.Subject.{is_blob_char, IsBlob, IsReplyWord, Re, Fw, Fwd, IsReplyMark}
 use Rattle.thread_rule.specs.BaseSubject.{Drops, DropsBlob, Lacks}
-use Rattle.thread_rule.specs.Reading.{PassesBlob, Dropped, Absent}
+use Rattle.thread_rule.specs.reading.Stripping.{PassesBlob, Dropped, Absent}
 
 pub blob_whole : (b t : List ℕ) (i : IsBlob b) → b ++ t ≡ 91 ∷ (i.inside ++ 93 ∷ (i.gap ++ t))
 blob_whole b t i = ap (λ (u : List ℕ). u ++ t) i.whole ∙ ap (λ (u : List ℕ). 91 ∷ u) (append_assoc i.inside (93 ∷ i.gap) t)

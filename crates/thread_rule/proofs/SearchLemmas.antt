@@ -1,5 +1,5 @@
 -- What the search by the index finds is the Thread among all Emails.
-use Rattle.std.proofs.Common.{◌≡◌, ℕ, ◌≤◌, ◌<◌, Bool, true, false, ◌||◌, cond, eqb-true, eq-eqb, ◌+◌, List, [], ◌∷◌, length, get_or, drop, refl, sym, ap, ◌∙◌, subst, Option, Some, None, Vec, arith}
+use Rattle.std.proofs.Common.{◌≡◌, ℕ, ◌≤◌, ◌<◌, Bool, true, false, ◌||◌, ◌&&◌, map, cond, eqb-true, eq-eqb, ◌+◌, List, [], ◌∷◌, length, get_or, drop, refl, sym, ap, ◌∙◌, subst, Option, Some, None, arith}
 use Rattle.std.specs.Option.{option_map_or}
 use Rattle.std.specs.List.{list_any, AllByRecursion}
 use Rattle.std.specs.List.Sorted.{IsStrictlySortedBy}
@@ -13,30 +13,34 @@ use Rattle.std.proofs.lemmas.Map.Keys.{sorted_head, sorted_tail}
 use Rattle.std.proofs.lemmas.Slice.Eq.{bytes_eq-Decides}
 use Rattle.text_words.specs.Octets.{SameText, is_same_text}
 use Rattle.thread_rule.specs.declared.member.Member.{Member}
-use Rattle.thread_rule.specs.Threads.{Members, member_at, Shares, IsThreadOf, Founds, Joins, Passes}
-use Rattle.thread_rule.specs.Index.{Ids, has, emails_at, names_of, IsIndexOf, thread_if, first_thread}
+use Rattle.std.specs.Str.{bytes_eq}
+use Rattle.sha2.specs.Sha256.{sha256}
+use Rattle.thread_rule.specs.reading.Keys.{base_digest, key_after}
+use Rattle.thread_rule.specs.Threads.{Members, member_at, is_among, Shares, IsThreadOf, Founds, Joins, Passes}
+use Rattle.thread_rule.specs.reading.Index.{KeyIndex, has, emails_at, keys_of, IsIndexOf, thread_if, first_thread}
 use Rattle.thread_rule.proofs.IndexLemmas.{number_test}
 
--- an Email of these has an equal base subject
-pub record SharesBase (members : Members) (base : List ℕ) (emails : List ℕ) (email : ℕ) (member : Member) : Type 0 where
+-- an Email of these names the id and has an equal base subject
+pub record SharesBase (members : Members) (base id : List ℕ) (emails : List ℕ) (email : ℕ) (member : Member) : Type 0 where
   pub listed : list_any (is_at (nat_cmp email)) emails ≡ true
   pub there : member_at members email ≡ Some member
+  pub named : is_among member.ids id ≡ true
   pub same : SameText member.base base
 
--- the lowest of these Emails with an equal base subject, which is in this Thread
-pub record IsLowest (members : Members) (base : List ℕ) (emails : List ℕ) (thread : ℕ) : Type 0 where
+-- the lowest of these Emails that names the id and has an equal base subject, which is in this Thread
+pub record IsLowest (members : Members) (base id : List ℕ) (emails : List ℕ) (thread : ℕ) : Type 0 where
   pub email : ℕ
   pub member : Member
-  pub shares : SharesBase members base emails email member
+  pub shares : SharesBase members base id emails email member
   pub is : thread ≡ member.thread
-  pub lowest : (other : ℕ) (m : Member) → SharesBase members base emails other m → email ≤ other
+  pub lowest : (other : ℕ) (m : Member) → SharesBase members base id emails other m → email ≤ other
 
-abbrev pub LacksBase : Members → List ℕ → List ℕ → Type 0
-LacksBase members base emails = (other : ℕ) (m : Member) → SharesBase members base emails other m → ⊥
+abbrev pub LacksBase : Members → List ℕ → List ℕ → List ℕ → Type 0
+LacksBase members base id emails = (other : ℕ) (m : Member) → SharesBase members base id emails other m → ⊥
 
-abbrev pub Finds : Members → List ℕ → List ℕ → Option ℕ → Type 0
-Finds members base emails None = LacksBase members base emails
-Finds members base emails (Some thread) = IsLowest members base emails thread
+abbrev pub Finds : Members → List ℕ → List ℕ → List ℕ → Option ℕ → Type 0
+Finds members base id emails None = LacksBase members base id emails
+Finds members base id emails (Some thread) = IsLowest members base id emails thread
 
 -- a number is listed at the front, or behind it
 pub listed_first : (x : ℕ) (es : List ℕ) → list_any (is_at (nat_cmp x)) (x ∷ es) ≡ true
@@ -80,30 +84,30 @@ pub same_test : (s t : List ℕ) → SameText s t → is_same_text s t ≡ true
 same_test s t e = (bytes_eq-Decides _ _).1 e
 
 -- the first Email doesn't count
-pub skipped : (members : Members) (base : List ℕ) (x : ℕ) (es : List ℕ) (r : Option ℕ) → ((m : Member) → member_at members x ≡ Some m → SameText m.base base → ⊥) → Finds members base es r → Finds members base (x ∷ es) r
-skipped members base x es None n f = λ other m h. behind other m h (listed_where other x es h.listed)
+pub skipped : (members : Members) (base id : List ℕ) (x : ℕ) (es : List ℕ) (r : Option ℕ) → ((m : Member) → member_at members x ≡ Some m → is_among m.ids id ≡ true → SameText m.base base → ⊥) → Finds members base id es r → Finds members base id (x ∷ es) r
+skipped members base id x es None n f = λ other m h. behind other m h (listed_where other x es h.listed)
   where
-    behind : (other : ℕ) (m : Member) → SharesBase members base (x ∷ es) other m → Listed other x es → ⊥
-    behind other m h (First e) = let P : ℕ → Type 0 = λ y. member_at members y ≡ Some m in n m (subst P e h.there) h.same
-    behind other m h (Behind l) = f other m (record { listed = l; there = h.there; same = h.same })
-skipped members base x es (Some t) n f = record {
+    behind : (other : ℕ) (m : Member) → SharesBase members base id (x ∷ es) other m → Listed other x es → ⊥
+    behind other m h (First e) = let P : ℕ → Type 0 = λ y. member_at members y ≡ Some m in n m (subst P e h.there) h.named h.same
+    behind other m h (Behind l) = f other m (record { listed = l; there = h.there; named = h.named; same = h.same })
+skipped members base id x es (Some t) n f = record {
   email = f.email;
   member = f.member;
-  shares = record { listed = listed_behind f.email x es f.shares.listed; there = f.shares.there; same = f.shares.same };
+  shares = record { listed = listed_behind f.email x es f.shares.listed; there = f.shares.there; named = f.shares.named; same = f.shares.same };
   is = f.is;
   lowest = λ other m h. behind other m h (listed_where other x es h.listed);
 }
   where
-    behind : (other : ℕ) (m : Member) → SharesBase members base (x ∷ es) other m → Listed other x es → f.email ≤ other
-    behind other m h (First e) = let P : ℕ → Type 0 = λ y. member_at members y ≡ Some m in absurd (n m (subst P e h.there) h.same)
-    behind other m h (Behind l) = f.lowest other m (record { listed = l; there = h.there; same = h.same })
+    behind : (other : ℕ) (m : Member) → SharesBase members base id (x ∷ es) other m → Listed other x es → f.email ≤ other
+    behind other m h (First e) = let P : ℕ → Type 0 = λ y. member_at members y ≡ Some m in absurd (n m (subst P e h.there) h.named h.same)
+    behind other m h (Behind l) = f.lowest other m (record { listed = l; there = h.there; named = h.named; same = h.same })
 
 -- the first Email counts
-pub counted : (members : Members) (base : List ℕ) (x : ℕ) (es : List ℕ) (member : Member) → IsStrictlySortedBy nat_cmp (x ∷ es) → member_at members x ≡ Some member → SameText member.base base → IsLowest members base (x ∷ es) member.thread
-counted members base x es member s e k = record {
+pub counted : (members : Members) (base id : List ℕ) (x : ℕ) (es : List ℕ) (member : Member) → IsStrictlySortedBy nat_cmp (x ∷ es) → member_at members x ≡ Some member → is_among member.ids id ≡ true → SameText member.base base → IsLowest members base id (x ∷ es) member.thread
+counted members base id x es member s e a k = record {
   email = x;
   member = member;
-  shares = record { listed = listed_first x es; there = e; same = k };
+  shares = record { listed = listed_first x es; there = e; named = a; same = k };
   is = refl;
   lowest = λ other m h. above other (listed_where other x es h.listed);
 }
@@ -112,86 +116,122 @@ counted members base x es member s e k = record {
     above other (First z) = omega (arith, z)
     above other (Behind l) = above_first x es (sorted_head nat_cmp x es s) other l
 
-pub first_finds_more : (members : Members) (base : List ℕ) (x : ℕ) (es : List ℕ) → IsStrictlySortedBy nat_cmp (x ∷ es) → (r : Option ℕ) → Finds members base es r → Finds members base (x ∷ es) (thread_if (member_at members x) base r)
-first_finds_more members base x es s r more = by (member_at members x) refl
+-- of two tests that pass, each does, and one that fails makes them fail
+both_pass : (p q : Bool) → p && q ≡ true → (p ≡ true) × (q ≡ true)
+both_pass true q = λ e. (refl, e)
+both_pass false q = λ e. absurd (let f : false ≡ true = e in cc)
+
+pass_both : (p q : Bool) → p ≡ true → q ≡ true → p && q ≡ true
+pass_both p q e f = ap (λ (x : Bool). x && q) e ∙ f
+
+pub first_finds_more : (members : Members) (base id : List ℕ) (x : ℕ) (es : List ℕ) → IsStrictlySortedBy nat_cmp (x ∷ es) → (r : Option ℕ) → Finds members base id es r → Finds members base id (x ∷ es) (thread_if (member_at members x) base id r)
+first_finds_more members base id x es s r more = by (member_at members x) refl
   where
-    tested : (member : Member) → member_at members x ≡ Some member → (q : Bool) → is_same_text member.base base ≡ q → Finds members base (x ∷ es) (cond q (Some member.thread) r)
-    tested member e true k = counted members base x es member s e (same_is member.base base k)
-    tested member e false k = skipped members base x es r (λ m f h. let p : m ≡ member = cc in let t = same_test m.base base h in absurd cc) more
+    tested : (member : Member) → member_at members x ≡ Some member → (q : Bool) → is_among member.ids id && is_same_text member.base base ≡ q → Finds members base id (x ∷ es) (cond q (Some member.thread) r)
+    tested member e true k = let parts = both_pass (is_among member.ids id) (is_same_text member.base base) k in counted members base id x es member s e parts.0 (same_is member.base base parts.1)
+    tested member e false k = skipped members base id x es r (λ m f a h.
+        let p : m ≡ member = cc in
+        let P : Member → Type 0 = λ n. is_among n.ids id && is_same_text n.base base ≡ true in
+        let t = subst P p (pass_both (is_among m.ids id) (is_same_text m.base base) a (same_test m.base base h)) in absurd cc) more
 
-    by : (o : Option Member) → member_at members x ≡ o → Finds members base (x ∷ es) (thread_if o base r)
-    by None e = skipped members base x es r (λ m f h. absurd cc) more
-    by (Some member) e = tested member e (is_same_text member.base base) refl
+    by : (o : Option Member) → member_at members x ≡ o → Finds members base id (x ∷ es) (thread_if o base id r)
+    by None e = skipped members base id x es r (λ m f a h. absurd cc) more
+    by (Some member) e = tested member e (is_among member.ids id && is_same_text member.base base) refl
 
-pub first_finds : (members : Members) (base emails : List ℕ) → IsStrictlySortedBy nat_cmp emails → Finds members base emails (first_thread members base emails)
-first_finds members base [] s = λ other m h. let l = h.listed in absurd cc
-first_finds members base (x ∷ es) s = first_finds_more members base x es s (first_thread members base es) (first_finds members base es (sorted_tail nat_cmp x es s))
+pub first_finds : (members : Members) (base id emails : List ℕ) → IsStrictlySortedBy nat_cmp emails → Finds members base id emails (first_thread members base id emails)
+first_finds members base id [] s = λ other m h. let l = h.listed in absurd cc
+first_finds members base id (x ∷ es) s = first_finds_more members base id x es s (first_thread members base id es) (first_finds members base id es (sorted_tail nat_cmp x es s))
 
 -- the index has an Email at an id where its number is listed there
-pub has_listed : {Z : Type 0} (ids : Ids Z) (id : List ℕ) (email : ℕ) → has ids id email ≡ list_any (is_at (nat_cmp email)) (emails_at ids id)
-has_listed {Z} ids id email = by (get_by (λ (k : Vec ℕ Z). slice_cmp nat_cmp id k.items) ids)
+pub has_listed : (ids : KeyIndex) (id : List ℕ) (email : ℕ) → has ids id email ≡ list_any (is_at (nat_cmp email)) (emails_at ids id)
+has_listed ids id email = by (get_by (λ (k : List ℕ). slice_cmp nat_cmp id k) ids)
   where
     by : (o : Option (BTreeSet ℕ)) → option_map_or (λ s. contains nat_cmp s email) o false ≡ list_any (is_at (nat_cmp email)) (option_map_or (λ s. s.keys) o [])
     by None = refl
     by (Some s) = refl
 
-pub shares_listed : {Z : Type 0} (ids : Ids Z) (members : Members) (base id : List ℕ) (email : ℕ) (member : Member) → IsIndexOf ids members → Shares members base id email member → SharesBase members base (emails_at ids id) email member
-shares_listed ids members base id email member i s = record {
-  listed = sym (has_listed ids id email) ∙ i id email ∙ ap (λ (o : Option Member). names_of o id) s.there ∙ s.named;
+-- an image of what is among some is among their images
+among_map : (f : List ℕ → List ℕ) (xs : List (List ℕ)) (x : List ℕ) → is_among xs x ≡ true → is_among (map f xs) (f x) ≡ true
+among_map f [] x e = absurd (let g : false ≡ true = e in cc)
+among_map f (y ∷ xs) x e = by (bytes_eq x y) refl e (among_map f xs x)
+  where
+    by : (q : Bool) → bytes_eq x y ≡ q → q || is_among xs x ≡ true → (is_among xs x ≡ true → is_among (map f xs) (f x) ≡ true) → bytes_eq (f x) (f y) || is_among (map f xs) (f x) ≡ true
+    by true k h more = ap (λ (z : Bool). z || is_among (map f xs) (f x)) ((bytes_eq-Decides (f x) (f y)).1 (ap f ((bytes_eq-Decides x y).0 k)))
+    by false k h more = or_right (bytes_eq (f x) (f y)) (is_among (map f xs) (f x)) (more h)
+
+-- an id that an Email names gives one of its keys, by any base subject equal to its own
+key_there : (member : Member) (base id : List ℕ) → is_among member.ids id ≡ true → SameText member.base base → is_among (keys_of (Some member)) (key_after (base_digest base) id) ≡ true
+unfolding base_digest
+key_there member base id named same =
+    let digest : base_digest member.base ≡ base_digest base = ap sha256 same in
+    let P : List ℕ → Type 0 = λ d. is_among (keys_of (Some member)) (key_after d id) ≡ true in
+    subst P digest (among_map (key_after (base_digest member.base)) member.ids id named)
+
+-- the key of the id and the base subject
+abbrev pub key_of : List ℕ → List ℕ → List ℕ
+key_of base id = key_after (base_digest base) id
+
+pub shares_listed : (index : KeyIndex) (members : Members) (base id : List ℕ) (email : ℕ) (member : Member) → IsIndexOf index members → Shares members base id email member
+    → SharesBase members base id (emails_at index (key_of base id)) email member
+shares_listed index members base id email member i s = record {
+  listed = sym (has_listed index (key_of base id) email) ∙ i (key_of base id) email ∙ ap (λ (o : Option Member). is_among (keys_of o) (key_of base id)) s.there ∙ key_there member base id s.named s.same;
   there = s.there;
+  named = s.named;
   same = s.same;
 }
 
-pub listed_shares : {Z : Type 0} (ids : Ids Z) (members : Members) (base id : List ℕ) (email : ℕ) (member : Member) → IsIndexOf ids members → SharesBase members base (emails_at ids id) email member → Shares members base id email member
-listed_shares ids members base id email member i s = record {
-  there = s.there;
-  named = sym (ap (λ (o : Option Member). names_of o id) s.there) ∙ sym (i id email) ∙ has_listed ids id email ∙ s.listed;
-  same = s.same;
-}
+pub listed_shares : (index : KeyIndex) (members : Members) (base id : List ℕ) (email : ℕ) (member : Member) → SharesBase members base id (emails_at index (key_of base id)) email member → Shares members base id email member
+listed_shares index members base id email member s = record { there = s.there; named = s.named; same = s.same }
 
 -- the first id decides
-pub joins : {Z : Type 0} (ids : Ids Z) (members : Members) (base : List ℕ) (number : ℕ) (id : List ℕ) (more : List (List ℕ)) (thread : ℕ) → IsIndexOf ids members → IsStrictlySortedBy nat_cmp (emails_at ids id)
-    → Some thread ≡ first_thread members base (emails_at ids id) → IsThreadOf members base number (id ∷ more) thread
-joins ids members base number id more thread i s e =
-    let F : Option ℕ → Type 0 = λ o. Finds members base (emails_at ids id) o in
-    let l : IsLowest members base (emails_at ids id) thread = subst F (sym e) (first_finds members base (emails_at ids id) s) in
+pub joins : (index : KeyIndex) (members : Members) (base : List ℕ) (number : ℕ) (id : List ℕ) (more : List (List ℕ)) (thread : ℕ) → IsIndexOf index members → IsStrictlySortedBy nat_cmp (emails_at index (key_of base id))
+    → Some thread ≡ first_thread members base id (emails_at index (key_of base id)) → IsThreadOf members base number (id ∷ more) thread
+joins index members base number id more thread i s e =
+    let at = emails_at index (key_of base id) in
+    let F : Option ℕ → Type 0 = λ o. Finds members base id at o in
+    let l : IsLowest members base id at thread = subst F (sym e) (first_finds members base id at s) in
     let P : ℕ → Type 0 = λ t. IsThreadOf members base number (id ∷ more) t in
-    subst P (sym l.is) (Joins id more l.email l.member (listed_shares ids members base id l.email l.member i l.shares)
-    (λ other m h. l.lowest other m (shares_listed ids members base id other m i h)))
+    subst P (sym l.is) (Joins id more l.email l.member (listed_shares index members base id l.email l.member l.shares)
+    (λ other m h. l.lowest other m (shares_listed index members base id other m i h)))
 
 -- the first id decides nothing
-pub passes : {Z : Type 0} (ids : Ids Z) (members : Members) (base : List ℕ) (number : ℕ) (id : List ℕ) (more : List (List ℕ)) (thread : ℕ) → IsIndexOf ids members → IsStrictlySortedBy nat_cmp (emails_at ids id)
-    → None ≡ first_thread members base (emails_at ids id) → IsThreadOf members base number more thread → IsThreadOf members base number (id ∷ more) thread
-passes ids members base number id more thread i s e t =
-    let F : Option ℕ → Type 0 = λ o. Finds members base (emails_at ids id) o in
-    let l : LacksBase members base (emails_at ids id) = subst F (sym e) (first_finds members base (emails_at ids id) s) in
-    Passes id more thread (λ other m h. l other m (shares_listed ids members base id other m i h)) t
+pub passes : (index : KeyIndex) (members : Members) (base : List ℕ) (number : ℕ) (id : List ℕ) (more : List (List ℕ)) (thread : ℕ) → IsIndexOf index members → IsStrictlySortedBy nat_cmp (emails_at index (key_of base id))
+    → None ≡ first_thread members base id (emails_at index (key_of base id)) → IsThreadOf members base number more thread → IsThreadOf members base number (id ∷ more) thread
+passes index members base number id more thread i s e t =
+    let at = emails_at index (key_of base id) in
+    let F : Option ℕ → Type 0 = λ o. Finds members base id at o in
+    let l : LacksBase members base id at = subst F (sym e) (first_finds members base id at s) in
+    Passes id more thread (λ other m h. l other m (shares_listed index members base id other m i h)) t
 
--- an id that the index lacks has no Emails
-pub none_sorted : {Z : Type 0} (ids : Ids Z) (id : List ℕ) → get_by (λ k. slice_cmp nat_cmp id k.items) ids ≡ None → IsStrictlySortedBy nat_cmp (emails_at ids id)
+-- a key that the index lacks has no Emails
+pub none_sorted : (ids : KeyIndex) (id : List ℕ) → get_by (λ k. slice_cmp nat_cmp id k) ids ≡ None → IsStrictlySortedBy nat_cmp (emails_at ids id)
 unfolding IsStrictlySortedBy
 none_sorted ids id e =
     let P : List ℕ → Type 0 = λ es. IsStrictlySortedBy nat_cmp es in
     subst P (sym (ap (λ (o : Option (BTreeSet ℕ)). option_map_or (λ s. s.keys) o []) e)) tt
 
--- one turn of the search: b is the base subject and y the id, as they were read
-pub joins_here : {Z : Type 0} (ids : Ids Z) (members : Members) (base : List ℕ) (number : ℕ) (named : List (List ℕ)) (i : ℕ) (x y b : List ℕ) (thread : ℕ) → IsIndexOf ids members
-    → i < length named → x ≡ get_or named i x → y ≡ x → b ≡ base → IsStrictlySortedBy nat_cmp (emails_at ids y) → Some thread ≡ first_thread members b (emails_at ids y) → IsThreadOf members base number (drop i named) thread
-joins_here ids members base number named i x y b thread o l e f g s h =
+-- one turn of the search: b is the base subject and y the id, as they were read, and k the key
+pub joins_here : (index : KeyIndex) (members : Members) (base : List ℕ) (number : ℕ) (named : List (List ℕ)) (i : ℕ) (x y b k : List ℕ) (thread : ℕ) → IsIndexOf index members
+    → i < length named → x ≡ get_or named i x → y ≡ x → b ≡ base → k ≡ key_of b y → IsStrictlySortedBy nat_cmp (emails_at index k) → Some thread ≡ first_thread members b y (emails_at index k) → IsThreadOf members base number (drop i named) thread
+joins_here index members base number named i x y b k thread o l e f g is s h =
     let P : List (List ℕ) → Type 0 = λ xs. IsThreadOf members base number xs thread in
     let Q : List ℕ → Type 0 = λ z. IsThreadOf members z number (y ∷ drop (i + 1) named) thread in
+    let S : List ℕ → Type 0 = λ z. IsStrictlySortedBy nat_cmp (emails_at index z) in
+    let T : List ℕ → Type 0 = λ z. Some thread ≡ first_thread members b y (emails_at index z) in
     subst P (ap (λ (z : List ℕ). z ∷ drop (i + 1) named) (f ∙ e) ∙ sym (drop_more named i x l))
-    (subst Q g (joins ids members b number y (drop (i + 1) named) thread o s h))
+    (subst Q g (joins index members b number y (drop (i + 1) named) thread o (subst S is s) (subst T is h)))
 
-pub passes_here : {Z : Type 0} (ids : Ids Z) (members : Members) (base : List ℕ) (number : ℕ) (named : List (List ℕ)) (i : ℕ) (x y b : List ℕ) (thread : ℕ) → IsIndexOf ids members
-    → i < length named → x ≡ get_or named i x → y ≡ x → b ≡ base → IsStrictlySortedBy nat_cmp (emails_at ids y) → None ≡ first_thread members b (emails_at ids y)
+pub passes_here : (index : KeyIndex) (members : Members) (base : List ℕ) (number : ℕ) (named : List (List ℕ)) (i : ℕ) (x y b k : List ℕ) (thread : ℕ) → IsIndexOf index members
+    → i < length named → x ≡ get_or named i x → y ≡ x → b ≡ base → k ≡ key_of b y → IsStrictlySortedBy nat_cmp (emails_at index k) → None ≡ first_thread members b y (emails_at index k)
     → IsThreadOf members base number (drop (i + 1) named) thread → IsThreadOf members base number (drop i named) thread
-passes_here ids members base number named i x y b thread o l e f g s h t =
+passes_here index members base number named i x y b k thread o l e f g is s h t =
     let P : List (List ℕ) → Type 0 = λ xs. IsThreadOf members base number xs thread in
     let Q : List ℕ → Type 0 = λ z. IsThreadOf members z number (y ∷ drop (i + 1) named) thread in
     let R : List ℕ → Type 0 = λ z. IsThreadOf members z number (drop (i + 1) named) thread in
+    let S : List ℕ → Type 0 = λ z. IsStrictlySortedBy nat_cmp (emails_at index z) in
+    let T : List ℕ → Type 0 = λ z. None ≡ first_thread members b y (emails_at index z) in
     subst P (ap (λ (z : List ℕ). z ∷ drop (i + 1) named) (f ∙ e) ∙ sym (drop_more named i x l))
-    (subst Q g (passes ids members b number y (drop (i + 1) named) thread o s h (subst R (sym g) t)))
+    (subst Q g (passes index members b number y (drop (i + 1) named) thread o (subst S is s) (subst T is h) (subst R (sym g) t)))
 
 pub founds_at_end : (members : Members) (base : List ℕ) (number : ℕ) (named : List (List ℕ)) (i : ℕ) → length named ≤ i → IsThreadOf members base number (drop i named) number
 founds_at_end members base number named i l =

@@ -1,5 +1,5 @@
 pub mod Subject
 pub mod BaseSubject
-pub mod Reading
 pub mod Threads
-pub mod Index
+pub mod NamedOf
+pub mod reading

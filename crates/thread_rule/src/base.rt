@@ -2,15 +2,12 @@
 ghost use Rattle.std.specs.Prelude.{◌≡◌, ◌≤◌, ◌++◌, ◌↔◌, ℕ, List, length, IfOk, OnOk};
 ghost use Rattle.thread_rule.specs.Subject.{IsLeader, IsTrailer};
 ghost use Rattle.thread_rule.specs.BaseSubject as base;
-ghost use Rattle.thread_rule.specs.Reading.{IsStripped};
+ghost use Rattle.thread_rule.specs.reading.Stripping.{IsStripped};
 
 use crate::subject::{before_trailer, behind_blob_before_text, behind_leader, unwrapped};
 use gate_world::Bytes;
 use std::alloc::{AllocError, Global};
 use text_words::is_blank;
-
-#[cfg(test)]
-mod tests;
 
 /// The base subject of a Subject in its text form: without reply marks, blobs, trailers and the wrapping of forwarded
 /// subjects, by the steps of RFC 5256 section 2.1. Each text has exactly one.

@@ -6,34 +6,31 @@ ghost use Rattle.std.specs.Map.{remove_entry};
 ghost use Rattle.thread_rule.specs.Threads as threads;
 
 use crate::entries::{put_in, take_out};
-use crate::index::IdIndex;
+use crate::index::KeyIndex;
 use crate::member::Named;
 use crate::search::{Members, thread_of};
 use std::alloc::{AllocError, Global};
 use std::collections::BTreeMap;
 use std::marker::Model;
 
-#[cfg(test)]
-mod tests;
-
 /// The Emails that were put and not forgotten, each in its Thread. Contracts see the list of them, by ascending number.
 #[derive(Drop)]
 pub struct ThreadBook {
     alloc: Global,
     members: Members,
-    ids: IdIndex,
+    index: KeyIndex,
 }
 
 impl Model for ThreadBook {
     ghost use Rattle.std.specs.Prelude.{List, ℕ};
     ghost use Rattle.thread_rule.specs.declared.member.Member.{Member};
-    ghost use Rattle.thread_rule.specs.Index.{IsIndexOf, IsTight};
+    ghost use Rattle.thread_rule.specs.reading.Index.{IsIndexOf, IsTight};
 
     ghost Value = { List (ℕ × Member) };
 
     ghost view = { λ b. b.members.entries };
 
-    ghost invariant = { λ b. IsIndexOf b.ids b.members.entries × IsTight b.ids };
+    ghost invariant = { λ b. IsIndexOf b.index b.members.entries × IsTight b.index };
 }
 
 impl ThreadBook {
@@ -44,17 +41,17 @@ impl ThreadBook {
         ThreadBook {
             alloc,
             members: BTreeMap::new(alloc),
-            ids: BTreeMap::new(alloc),
+            index: BTreeMap::new(alloc),
         }
     }
 
     /// The Thread of a new Email: that of the lowest Email with an equal base subject which names the first of its ids
-    /// that such an Email names, or its own number. It takes no memory, looks each id up, and walks over the Emails
-    /// that share it up to the first with an equal base subject.
+    /// that such an Email names, or its own number. It takes no memory, and costs a digest and a look-up for each id
+    /// and one pass over the ids of the Email that is found.
     pub fn find(&self, named: &Named) -> u64
         ensures { (thread : ℕ) → threads.IsThreadOf self.now named.now.base named.now.email named.now.ids thread ↔ (thread ≡ result) }
     {
-        thread_of(&self.members, &self.ids, named)
+        thread_of(&self.members, &self.index, named)
     }
 
     /// Whether the Email is in the book.
@@ -72,13 +69,19 @@ impl ThreadBook {
         ensures ok { OnOk result (self.new ≡ insert_entry nat_cmp self.old named.email (threads.member_of named thread)) }
         ensures err { OnErr result (self.new ≡ self.old) }
     {
-        put_in(self.alloc, &mut self.members, &mut self.ids, named, thread)
+        put_in(
+            self.alloc,
+            &mut self.members,
+            &mut self.index,
+            named,
+            thread,
+        )
     }
 
     /// Takes an Email out of the book, if it is there. It takes no memory.
     pub fn forget(&mut self, email: u64)
         ensures { self.new ≡ remove_entry (is_at (nat_cmp email)) self.old }
     {
-        take_out(&mut self.members, &mut self.ids, email);
+        take_out(&mut self.members, &mut self.index, email);
     }
 }

@@ -4,11 +4,14 @@
 mod base;
 mod book;
 mod entries;
+mod header;
 mod index;
+mod key;
 mod member;
 mod search;
 mod subject;
 
 pub use base::{base_of, base_subject};
 pub use book::ThreadBook;
+pub use header::{named_of, one_named};
 pub use member::{Member, Named};

@@ -1,12 +1,14 @@
 // The Thread of a new Email, by the index.
-ghost use Rattle.std.specs.Prelude.{◌≡◌, ℕ, None};
+ghost use Rattle.std.specs.Prelude.{◌≡◌, ℕ, None, Some};
 ghost use Rattle.std.specs.Ordering.{nat_cmp};
 ghost use Rattle.std.specs.BTreeSet.{IsOrdered};
 ghost use Rattle.std.specs.List.Sorted.{IsStrictlySortedBy};
 ghost use Rattle.thread_rule.specs.Threads as threads;
-ghost use Rattle.thread_rule.specs.Index as index;
+ghost use Rattle.thread_rule.specs.reading.Keys as keys;
+ghost use Rattle.thread_rule.specs.reading.Index as indexed;
 
-use crate::index::IdIndex;
+use crate::index::KeyIndex;
+use crate::key::{Key, base_digest, key_after};
 use crate::member::{Member, Named};
 use std::collections::{BTreeMap, BTreeSet};
 use text_words::same_text;
@@ -15,59 +17,73 @@ use text_words::same_text;
 pub type Members = BTreeMap<u64, Member>;
 
 /// The Thread of a new Email, where these are there.
-pub fn thread_of(members: &Members, ids: &IdIndex, named: &Named) -> u64
-    requires { index.IsIndexOf ids.now members.now.entries }
+pub fn thread_of(members: &Members, index: &KeyIndex, named: &Named) -> u64
+    requires { indexed.IsIndexOf index.now members.now.entries }
     ensures is { threads.IsThreadOf members.now.entries named.now.base named.now.email named.now.ids result }
     ensures only { (thread : ℕ) → threads.IsThreadOf members.now.entries named.now.base named.now.email named.now.ids thread → thread ≡ result }
 {
+    let digest = base_digest(named.base.as_slice());
     for id in named.ids.as_slice() {
-        if let Some(thread) = shared(members, ids, id.as_slice(), named.base.as_slice()) {
+        let id = id.as_slice();
+        let key = key_after(&digest, id);
+        if let Some(thread) = shared(members, index, &key, id, named.base.as_slice()) {
             return thread;
         }
     }
     named.email
 }
 
-/// The Thread of the lowest Email that names the id and has an equal base subject.
-pub fn shared(members: &Members, ids: &IdIndex, id: &[u8], base: &[u8]) -> Option<u64>
-    ensures first { result ≡ index.first_thread members.now.entries base.now (index.emails_at ids.now id.now) }
-    ensures sorted { IsStrictlySortedBy nat_cmp (index.emails_at ids.now id.now) }
+/// The Thread of the lowest Email at the key that names the id and has an equal base subject.
+pub fn shared(members: &Members, index: &KeyIndex, key: &Key, id: &[u8], base: &[u8]) -> Option<u64>
+    ensures first { result ≡ indexed.first_thread members.now.entries base.now id.now (indexed.emails_at index.now key.now) }
+    ensures sorted { IsStrictlySortedBy nat_cmp (indexed.emails_at index.now key.now) }
 {
-    match ids.get(id) {
+    match index.get(key) {
         None => None,
-        Some(emails) => first_in(members, emails, base),
+        Some(emails) => first_in(members, emails, id, base),
     }
 }
 
-/// The Thread of the first of these Emails that has an equal base subject.
-fn first_in(members: &Members, emails: &BTreeSet<u64>, base: &[u8]) -> Option<u64>
-    ensures first { result ≡ index.first_thread members.now.entries base.now emails.now.keys }
+/// The Thread of the first of these Emails that names the id and has an equal base subject.
+fn first_in(members: &Members, emails: &BTreeSet<u64>, id: &[u8], base: &[u8]) -> Option<u64>
+    ensures first { result ≡ indexed.first_thread members.now.entries base.now id.now emails.now.keys }
     ensures sorted { IsOrdered nat_cmp emails.now }
 {
     for email in emails.iter() {
-        if let Some(thread) = thread_if(members, *email, base) {
+        if let Some(thread) = thread_if(members, *email, id, base) {
             return Some(thread);
         }
     }
     None
 }
 
-/// The Thread of the Email, where it has an equal base subject.
-fn thread_if(members: &Members, email: u64, base: &[u8]) -> Option<u64>
-    ensures { result ≡ index.thread_if (threads.member_at members.now.entries email) base.now None }
+/// The Thread of the Email, where it names the id and has an equal base subject.
+fn thread_if(members: &Members, email: u64, id: &[u8], base: &[u8]) -> Option<u64>
+    ensures { result ≡ indexed.thread_if (threads.member_at members.now.entries email) base.now id.now None }
 {
     match members.get(&email) {
         None => None,
-        Some(member) => thread_where_same(member, base),
+        Some(member) => thread_where_shared(member, id, base),
     }
 }
 
-fn thread_where_same(member: &Member, base: &[u8]) -> Option<u64>
-    ensures { result ≡ index.thread_if (Some member.now) base.now None }
+fn thread_where_shared(member: &Member, id: &[u8], base: &[u8]) -> Option<u64>
+    ensures { result ≡ indexed.thread_if (Some member.now) base.now id.now None }
 {
-    if same_text(member.base.as_slice(), base) {
+    if is_named(member, id) && same_text(member.base.as_slice(), base) {
         Some(member.thread)
     } else {
         None
     }
+}
+
+/// Whether the Email names the id.
+fn is_named(member: &Member, id: &[u8]) -> bool
+    ensures { result ≡ threads.is_among member.now.ids id.now }
+{
+    member
+        .ids
+        .as_slice()
+        .iter()
+        .any(|name| name.as_slice() == id)
 }

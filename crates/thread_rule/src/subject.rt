@@ -3,7 +3,7 @@ ghost use Rattle.std.specs.Prelude.{◌≡◌, ◌<◌, ℕ, length, IfSome, Mat
 ghost use Rattle.text_words.specs.Octets.{SameText};
 ghost use Rattle.thread_rule.specs.Subject as subject;
 ghost use Rattle.thread_rule.specs.BaseSubject.{Drops, DropsEnd, DropsBlob, DropsBlobBeforeText, Unwraps, Lacks};
-ghost use Rattle.thread_rule.specs.Reading.{PassesBlob};
+ghost use Rattle.thread_rule.specs.reading.Stripping.{PassesBlob};
 
 use text_words::{Alpha, Blank, Class, behind, cut, is_blank, same_text};
 

@@ -7,8 +7,8 @@ use Rattle.thread_rule.proofs.index.add_to_known.Goals as goal
 
 pub returns-in_ok-insert-in-Some-clause-ok : goal.returns-in_ok-insert-in-Some-clause-ok
 returns-in_ok-insert-in-Some-clause-ok c =
-    let m = c.args.ids.now in
-    let at = c.args.id.now in
+    let m = c.args.index.now in
+    let at = c.args.key.now in
     let s = c.in-Some.emails.now in
     let t = c.insert.new.self in
     let n = c.get_mut.follows.lender t in
@@ -19,8 +19,8 @@ returns-in_ok-insert-in-Some-clause-ok c =
 
 pub returns-in_err-insert-in-Some-clause-err : goal.returns-in_err-insert-in-Some-clause-err
 returns-in_err-insert-in-Some-clause-err c =
-    let m = c.args.ids.now in
-    let at = c.args.id.now in
+    let m = c.args.index.now in
+    let at = c.args.key.now in
     let s = c.in-Some.emails.now in
     let t = c.insert.new.self in
     let n = c.get_mut.follows.lender t in
@@ -30,16 +30,16 @@ returns-in_err-insert-in-Some-clause-err c =
 
 pub returns-in_ok-insert-in-Some-clause-tight : goal.returns-in_ok-insert-in-Some-clause-tight
 returns-in_ok-insert-in-Some-clause-tight c = λ tight.
-    let m = c.args.ids.now in
-    let at = c.args.id.now in
+    let m = c.args.index.now in
+    let at = c.args.key.now in
     let t = c.insert.new.self in
     tight_some m (c.get_mut.follows.lender t) at t (looked_up at m (c.get_mut.follows.lender t) (Some t) ((c.get_mut.follows.holds t).3 (search rules)))
     (tight_but m at tight) (keys_some t c.args.email c.in_ok-insert-in-Some.ensures.updates.1)
 
 pub returns-in_err-insert-in-Some-clause-tight : goal.returns-in_err-insert-in-Some-clause-tight
 returns-in_err-insert-in-Some-clause-tight c = λ tight.
-    let m = c.args.ids.now in
-    let at = c.args.id.now in
+    let m = c.args.index.now in
+    let at = c.args.key.now in
     let s = c.in-Some.emails.now in
     let t = c.insert.new.self in
     tight_some m (c.get_mut.follows.lender t) at t (looked_up at m (c.get_mut.follows.lender t) (Some t) ((c.get_mut.follows.holds t).3 (search rules)))

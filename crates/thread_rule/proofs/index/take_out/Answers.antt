@@ -4,8 +4,8 @@ use Rattle.thread_rule.proofs.index.take_out.Goals as goal
 
 pub returns-in-Some-clause-out : goal.returns-in-Some-clause-out
 returns-in-Some-clause-out c =
-    let m = c.args.ids.now in
-    let at = c.args.id.now in
+    let m = c.args.index.now in
+    let at = c.args.key.now in
     let s = c.in-Some.emails.now in
     let t = c.remove.new.self in
     let n = c.get_mut.follows.lender t in
@@ -16,15 +16,15 @@ returns-in-Some-clause-out c =
 
 pub returns-in-Some-clause-apart : goal.returns-in-Some-clause-apart
 returns-in-Some-clause-apart c =
-    let m = c.args.ids.now in
-    let at = c.args.id.now in
+    let m = c.args.index.now in
+    let at = c.args.key.now in
     let t = c.remove.new.self in
     tight_apart m (c.get_mut.follows.lender t) at (Some t) (looked_up at m (c.get_mut.follows.lender t) (Some t) ((c.get_mut.follows.holds t).3 (search rules)))
 
 pub returns-in-Some-clause-tight : goal.returns-in-Some-clause-tight
 returns-in-Some-clause-tight c =
-    let m = c.args.ids.now in
-    let at = c.args.id.now in
+    let m = c.args.index.now in
+    let at = c.args.key.now in
     let t = c.remove.new.self in
     if_false c.is_empty.result (λ some tight.
     tight_some m (c.get_mut.follows.lender t) at t (looked_up at m (c.get_mut.follows.lender t) (Some t) ((c.get_mut.follows.holds t).3 (search rules)))

@@ -4,4 +4,4 @@ use Rattle.thread_rule.proofs.search.shared.Goals as goal
 
 pub returns-in-None-clause-sorted : goal.returns-in-None-clause-sorted
 returns-in-None-clause-sorted c =
-    none_sorted c.args.ids.now c.args.id.now (search rules)
+    none_sorted c.args.index.now c.args.key.now (search rules)

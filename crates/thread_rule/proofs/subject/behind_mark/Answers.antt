@@ -2,7 +2,7 @@ use Rattle.std.proofs.Common.{List, ℕ, sym, ap, ◌∙◌, subst}
 use Rattle.text_words.specs.Cuts.{back}
 use Rattle.text_words.specs.Octets.{is_blank}
 use Rattle.thread_rule.specs.Subject.{IsReplyWord}
-use Rattle.thread_rule.specs.Reading.{PassesBlob}
+use Rattle.thread_rule.specs.reading.Stripping.{PassesBlob}
 use Rattle.thread_rule.proofs.PieceLemmas.{match_map}
 use Rattle.thread_rule.proofs.BlobLemmas.{mark_read, mark_passed, mark_here}
 use Rattle.thread_rule.proofs.subject.behind_mark.Goals as goal

@@ -1,6 +1,6 @@
 use Rattle.std.proofs.Common.{ap, subst, List, drop}
 use Rattle.change_list.proofs.FromSeen.{changes_of_kept}
-use Rattle.change_list.specs.Answer.{Answers}
+use Rattle.change_list.specs.reading.Answer.{Answers}
 use Rattle.change_list.specs.declared.entries.Entry.{Entry}
 use Rattle.change_list.proofs.list.ChangeList.since.Goals as goal
 

@@ -1,6 +1,6 @@
 use Rattle.std.proofs.Common.{◌≡◌, ◌+◌, ℕ, ap, subst, arith, sym, ◌∙◌, None, List, drop, length, Bool}
 use Rattle.std.proofs.lemmas.List.{drop-drop}
-use Rattle.change_list.specs.Seen.{Gathered}
+use Rattle.change_list.specs.reading.Seen.{Gathered}
 use Rattle.change_list.specs.TouchedIds.{AreTouched}
 use Rattle.change_list.specs.Kept.{front_of}
 use Rattle.change_list.specs.declared.entries.Entry.{Entry}

@@ -1,0 +1,10 @@
+use Rattle.std.proofs.Common.{◌++◌, ◌∙◌, [], ap, List, ℕ}
+use Rattle.sha2.specs.Sha256.{sha256}
+use Rattle.thread_rule.specs.reading.Keys.{key_after}
+use Rattle.thread_rule.proofs.key.key_after.Goals as goal
+
+pub returns : goal.returns
+unfolding key_after
+returns c =
+    c.finalize.ensures (([] ++ c.as_slice.result.now) ++ c.args.id.now) (c.update-2.ensures ([] ++ c.as_slice.result.now) (c.update.ensures [] c.new-hasher.ensures))
+    ∙ ap (λ (digest : List ℕ). sha256 (digest ++ c.args.id.now)) c.as_slice.ensures
