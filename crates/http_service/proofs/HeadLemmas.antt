@@ -11,8 +11,8 @@ use Rattle.httparse.specs.Spans.{span_bytes, header_bytes, name_and_value, IsReq
 use Rattle.http_service.specs.declared.head.Head.{Head}
 use Rattle.http_service.specs.declared.error.HttpError.{HttpError}
 use Rattle.http_service.specs.declared.error.HttpError.TheVariants as error
-use Rattle.http_service.specs.Heads.{IsHeadText, IsMalformed}
-use Rattle.http_service.specs.reading.Parses.{MakesHead, IsAtFront, ParsesHead}
+use Rattle.http_service.specs.Heads.{IsHeadText}
+use Rattle.http_service.specs.reading.Parses.{MakesHead, IsAtFront, IsRefused, ParsesFields}
 
 end_long : (e : LineEnd) → 1 ≤ length (print_end e)
 end_long crlf = omega arith
@@ -40,7 +40,7 @@ not_too_many octets room enough (front, rest, is, h, reads, more) =
     omega (arith, enough, more, ap length is, length-append front rest, ap length reads.1, length-append front (print_end lf), length-append (print_request h) [], request_long h, section_long h.fields h.last)
 
 -- an error of the parser
-pub refused : (octets : List ℕ) (room : ℕ) (e : Error) → length octets ≤ 2 * room → (e ≢ TooManyHeaders → NeverHasRequest octets) → (◌≡◌ {A = Error} e TooManyHeaders → RequestExceeds room octets) → IsMalformed octets
+pub refused : (octets : List ℕ) (room : ℕ) (e : Error) → length octets ≤ 2 * room → (e ≢ TooManyHeaders → NeverHasRequest octets) → (◌≡◌ {A = Error} e TooManyHeaders → RequestExceeds room octets) → IsRefused octets
 refused octets room HeaderName enough never over = inl (never (λ is. cc))
 refused octets room HeaderValue enough never over = inl (never (λ is. cc))
 refused octets room NewLine enough never over = inl (never (λ is. cc))
@@ -62,7 +62,7 @@ pub found : (octets : List ℕ) (headers : List HeaderSpan) (spans : RequestSpan
 found octets headers spans head (h, at) makes = (print_request h, (h, at.reads.0, refl, made octets headers spans h (Ok head) at makes), at.reads.1, at.len)
 
 -- the head that was found says no body, or out of memory
-pub not_made : (octets : List ℕ) (headers : List HeaderSpan) (spans : RequestSpans) (e : HttpError) → IsRequestOf octets headers spans → MakesHead (span_bytes octets spans.method) (span_bytes octets spans.path) spans.version (map (header_bytes octets) (take spans.headers headers)) (Err e) → ParsesHead octets (Err e)
+pub not_made : (octets : List ℕ) (headers : List HeaderSpan) (spans : RequestSpans) (e : HttpError) → IsRequestOf octets headers spans → MakesHead (span_bytes octets spans.method) (span_bytes octets spans.path) spans.version (map (header_bytes octets) (take spans.headers headers)) (Err e) → ParsesFields octets (Err e)
 not_made octets headers spans error.BadHead (h, at) makes = inr (h, _, at.reads, made octets headers spans h (Err error.BadHead) at makes)
 not_made octets headers spans error.HeadTooLarge so makes = absurd makes
 not_made octets headers spans (error.TooLarge limit) so makes = absurd makes

@@ -13,7 +13,7 @@ use Rattle.http_service.specs.declared.lines.TheConstants.{MAX_HEAD_OCTETS}
 use Rattle.http_service.specs.declared.error.HttpError.{HttpError}
 use Rattle.http_service.specs.declared.error.HttpError.TheVariants as error
 use Rattle.http_service.specs.Fields.{is_space, IsBearer, IsTokenOf, IsToken, IsLength, IsChunkedCoding, IsBody}
-use Rattle.http_service.specs.Heads.{is_scheme_octet, is_authority_octet, IsAbsolute, IsPathAndQuery, is_path_octet, IsHead, IsHeadText}
+use Rattle.http_service.specs.Heads.{is_scheme_octet, is_authority_octet, IsAbsolute, IsPathAndQuery, is_path_octet, IsHead, IsHeadText, IsMalformed, IsIncomplete}
 use Rattle.http_service.specs.Taking.{window}
 use Rattle.http_service.specs.ReadHead.{HeadStops}
 use Rattle.http_service.specs.Chunked.{Chunk, IsChunk, IsLine, IsTrailer, IsChunked, texts_of, content}
@@ -98,7 +98,7 @@ in_window text rest few = cut text MAX_HEAD_OCTETS few
 
 -- octets that have a head have no refusal that is about them
 pub no_refusal : (text rest : List ℕ) (head : Head) (e : HttpError) → IsHeadText text head → length text ≤ MAX_HEAD_OCTETS → HeadStops (text ++ rest) e → (e ≡ error.FrontFault) ⊎ (e ≡ error.Memory)
-no_refusal text rest head error.BadHead (h, is, printed, says) few (inl never) =
+no_refusal text rest head error.BadHead (h, is, printed, says) few (inl (never, not_cut)) =
     let here = in_window text rest few in
     absurd (never [] h here.0 (is, append-nil (window (text ++ rest)) ∙ here.1 ∙ ap (λ (l : List ℕ). l ++ here.0) printed))
 no_refusal text rest head error.BadHead (h, is, printed, says) few (inr (k, more, reads, none)) =
@@ -112,6 +112,12 @@ no_refusal text rest head (error.TooLarge limit) is few stops = absurd stops
 no_refusal text rest head error.Short (h, is, printed, says) few incomplete = absurd (incomplete.0 h rest (is, ap (λ (l : List ℕ). l ++ rest) printed))
 no_refusal text rest head error.FrontFault is few stops = inl refl
 no_refusal text rest head error.Memory is few stops = inr refl
+
+-- no octets are malformed and incomplete
+pub not_both : (octets : List ℕ) → IsMalformed octets → IsIncomplete octets → ⊥
+not_both octets (inl (never, not_cut)) (none, inl (more, h, reads)) = never more h [] reads
+not_both octets (inl (never, not_cut)) (none, inr cut) = not_cut cut
+not_both octets (inr (h, rest, reads, no_body)) (none, may) = none h rest reads
 
 one_line : (line other rest more : List ℕ) (size count : ℕ) → IsLine line size → IsLine other count → line ++ rest ≡ other ++ more → (line ≡ other) × (size ≡ count) × (rest ≡ more)
 one_line line other rest more size count (l, is_l, printed_l, says_l, short_l) (k, is_k, printed_k, says_k, short_k) whole =

@@ -7,3 +7,4 @@ pub mod TargetLemmas
 pub mod ChunkLemmas
 pub mod RefusalLemmas
 pub mod LawLemmas
+pub mod CutTargetLemmas

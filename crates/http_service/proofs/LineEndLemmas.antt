@@ -5,7 +5,7 @@ use Rattle.std.proofs.lemmas.List.{append-nil, take_more}
 use Rattle.std.proofs.lemmas.List.Elements.{All-head, All-tail}
 use Rattle.std.specs.Char.{is_ascii_hexdigit}
 use Rattle.httparse.specs.Ascii.{space, colon}
-use Rattle.httparse.specs.Grammar.{LineEnd, crlf, lf, print_end, print_blank, print_version, Field, IsField, print_field, print_section, AllPass, is_token_byte, is_uri_byte, is_value_byte, is_ows, is_extension_byte, IsToken, RequestHead, IsRequestHead, ReadsRequest, print_request, HasNoRequest, MayBecomeRequest, ChunkLine, IsExtension, ReadsChunkLine, print_extension, print_chunk_line, HasNoChunkLine, MayBecomeChunkLine, ReadsSection, HasNoSection, MayBecomeSection}
+use Rattle.httparse.specs.Grammar.{LineEnd, crlf, lf, print_end, print_blank, print_version, Field, IsField, print_field, print_section, AllPass, is_token_byte, is_uri_byte, is_value_byte, is_ows, is_extension_byte, IsToken, RequestHead, IsRequestHead, ReadsRequest, print_request, HasNoRequest, MayBecomeRequest, EndsInTarget, ChunkLine, IsExtension, ReadsChunkLine, print_extension, print_chunk_line, HasNoChunkLine, MayBecomeChunkLine, ReadsSection, HasNoSection, MayBecomeSection}
 use Rattle.httparse.proofs.GrammarLemmas.{print_request-append}
 use Rattle.httparse.proofs.PieceLemmas.{print_field-append}
 use Rattle.http_service.specs.declared.lines.Place.{Place}
@@ -336,6 +336,20 @@ request_more h rest is =
     ∙ version_more h.minor (print_end h.line_end ++ rest)
     ∙ ends_line h.line_end rest
 
+-- octets that end inside a target
+inside_target : (octets : List ℕ) → EndsInTarget octets → run Blank octets ≡ Inside
+inside_target octets (blank, method, target, token, all, whole) =
+    ap (run Blank) (whole ∙ append_assoc (print_blank blank) method (32 ∷ target))
+    ∙ stays_blank blank (method ++ 32 ∷ target)
+    ∙ token_more Blank method (32 ∷ target) begins_at_blank token
+    ∙ ap (run Inside) (sym (append-nil target))
+    ∙ inside_more is_uri_byte target [] refl all
+
+-- they have no head
+pub no_head_in_target : (octets : List ℕ) (h : RequestHead) (rest : List ℕ) → EndsInTarget octets → ReadsRequest octets h rest → ⊥
+no_head_in_target octets h rest cut (is, whole) =
+    no_end Head octets (λ ended. absurd (let k = sym (inside_target octets cut) ∙ ended in cc)) (subst (HaveEnd Head) (sym whole) (head_end h rest is))
+
 -- a head that may go on
 pub head_open : (octets : List ℕ) → HasNoRequest octets → MayBecomeRequest octets → run Blank octets ≢ Ended
 head_open octets none (inl (more, h, (is, whole))) =
@@ -356,12 +370,4 @@ head_open octets none (inl (more, h, (is, whole))) =
         ∙ print_request-append h []
         ∙ ap lead (append-nil (print_section h.fields h.last) ∙ init.1)
         ∙ regroup (print_blank h.blank) h.method h.target (print_version h.minor) (print_end h.line_end) init.0 (10 ∷ [])
-head_open octets none (inr (blank, method, target, token, all, whole)) = λ ended. absurd (let k = sym inside ∙ ended in cc)
-  where
-    inside : run Blank octets ≡ Inside
-    inside =
-        ap (run Blank) (whole ∙ append_assoc (print_blank blank) method (32 ∷ target))
-        ∙ stays_blank blank (method ++ 32 ∷ target)
-        ∙ token_more Blank method (32 ∷ target) begins_at_blank token
-        ∙ ap (run Inside) (sym (append-nil target))
-        ∙ inside_more is_uri_byte target [] refl all
+head_open octets none (inr cut) = λ ended. absurd (let k = sym (inside_target octets cut) ∙ ended in cc)

@@ -1,7 +1,7 @@
 -- A request's head as it is read from its octets. Its form is RFC 9112's, with the liberties that a parser may take:
 -- empty lines before it, and LF alone as a line's end (section 2.2).
 use Rattle.std.specs.Prelude.{◌≡◌, ◌⊎◌, ◌↔◌, ◌==◌, ◌||◌, ◌++◌, ℕ, Bool, true, not, IsTrue, List, [], ◌∷◌, drop, map, codes}
-use Rattle.httparse.specs.Grammar.{RequestHead, IsRequestHead, ReadsRequest, HasNoRequest, NeverHasRequest, MayBecomeRequest, print_request}
+use Rattle.httparse.specs.Grammar.{RequestHead, IsRequestHead, ReadsRequest, HasNoRequest, NeverHasRequest, MayBecomeRequest, EndsInTarget, print_request}
 use Rattle.httparse.specs.Spans.{name_and_value}
 use Rattle.text_words.specs.Octets.{is_alpha, is_digit}
 use Rattle.text_words.specs.Cuts.{Each, Stops, front, back}
@@ -66,9 +66,10 @@ IsHead h head = IsRequest h.method h.target h.minor (map name_and_value h.fields
 abbrev pub IsHeadText : List ℕ → Head → Type 0
 IsHeadText text head = (h : RequestHead) × IsRequestHead h × (text ≡ print_request h) × IsHead h head
 
--- whatever follows, no head begins the octets; or one does whose fields tell no length of the body
+-- whatever follows, no head begins the octets, and they aren't cut inside a target; or one does whose fields tell no length
+-- of the body
 abbrev pub IsMalformed : List ℕ → Type 0
-IsMalformed octets = NeverHasRequest octets ⊎ ((h : RequestHead) × (rest : List ℕ) × ReadsRequest octets h rest × HasNoBody (map name_and_value h.fields))
+IsMalformed octets = (NeverHasRequest octets × (EndsInTarget octets → ⊥)) ⊎ ((h : RequestHead) × (rest : List ℕ) × ReadsRequest octets h rest × HasNoBody (map name_and_value h.fields))
 
 -- no head begins the octets, and one may where others follow
 abbrev pub IsIncomplete : List ℕ → Type 0

@@ -3,8 +3,9 @@ ghost use Rattle.std.specs.Prelude.{◌≡◌, ◌≤◌, ◌*◌, vec_len, leng
 ghost use Rattle.std.specs.Option.{option_copied};
 ghost use Rattle.httparse.specs.Spans.{IsRequestWithin, IsHeaderWithin, IsWithin, header_bytes, span_bytes};
 ghost use Rattle.http_service.specs.Heads.{IsTarget};
-ghost use Rattle.http_service.specs.reading.Parses.{MakesHead, ParsesHead};
+ghost use Rattle.http_service.specs.reading.Parses.{MakesHead, ParsesFields, ParsesHead};
 
+use crate::cut_target::ends_in_target;
 use crate::error::HttpError;
 use crate::fields::{body_in, content_type_in, is_expecting, token_in};
 use crate::target::split_target;
@@ -112,7 +113,7 @@ fn parse_into(
     fields: &mut [HeaderSpan],
 ) -> Result<Option<(Head, usize)>, HttpError>
     requires { length octets.now ≤ 2 * length fields.old }
-    ensures { ParsesHead octets.now result }
+    ensures { ParsesFields octets.now result }
 {
     match parse_request(octets, fields) {
         Ok(Status::Complete(spans)) => {
@@ -125,10 +126,27 @@ fn parse_into(
     }
 }
 
-/// The head at the front of the octets, and of how many octets it is. It may be that a head is still coming.
-pub(crate) fn parse_head(alloc: Global, octets: &[u8]) -> Result<Option<(Head, usize)>, HttpError>
-    ensures { ParsesHead octets.now result }
+// The head at the front of the octets, and of how many octets it is.
+fn parse(alloc: Global, octets: &[u8]) -> Result<Option<(Head, usize)>, HttpError>
+    ensures { ParsesFields octets.now result }
 {
     let mut fields = room(alloc, octets.len())?;
     parse_into(alloc, octets, &mut fields)
+}
+
+/// The head at the front of the octets, and of how many octets it is. It may be that a head is still coming, which octets
+/// that are cut inside their target never rule out.
+pub(crate) fn parse_head(alloc: Global, octets: &[u8]) -> Result<Option<(Head, usize)>, HttpError>
+    ensures { ParsesHead octets.now result }
+{
+    match parse(alloc, octets) {
+        Err(HttpError::BadHead) => {
+            if ends_in_target(octets) {
+                Ok(None)
+            } else {
+                Err(HttpError::BadHead)
+            }
+        }
+        parsed => parsed,
+    }
 }

@@ -3,7 +3,7 @@ ghost use Rattle.std.specs.Prelude.{◌≡◌, ◌≤◌, ◌⊎◌, ◌++◌, �
 ghost use Rattle.http_service.specs.declared.head.Head.{Head};
 ghost use Rattle.http_service.specs.declared.error.HttpError.{HttpError};
 ghost use Rattle.http_service.specs.declared.lines.TheConstants.{MAX_HEAD_OCTETS};
-ghost use Rattle.http_service.specs.Heads.{IsHeadText};
+ghost use Rattle.http_service.specs.Heads.{IsHeadText, IsIncomplete, IsMalformed};
 ghost use Rattle.http_service.specs.ReadHead.{HeadStops};
 ghost use Rattle.http_service.specs.Chunked.{IsChunked};
 
@@ -18,6 +18,11 @@ pub fn head_excludes_refusals()
     ensures { (text rest : List ℕ) (head : Head) (e : HttpError)
         → IsHeadText text head → length text ≤ MAX_HEAD_OCTETS → HeadStops (text ++ rest) e
         → (e ≡ HttpError.FrontFault) ⊎ (e ≡ HttpError.Memory) }
+{}
+
+/// No octets are malformed and incomplete: they are refused at once, or waited for.
+pub fn malformed_excludes_incomplete()
+    ensures { (octets : List ℕ) → IsMalformed octets → IsIncomplete octets → ⊥ }
 {}
 
 /// Octets begin with at most one chunked body.

@@ -4,6 +4,7 @@
 mod body;
 mod chunk_lines;
 mod chunks;
+mod cut_target;
 mod error;
 mod fields;
 mod filling;

@@ -1,6 +1,7 @@
 -- What is read from the octets that came.
-use Rattle.std.specs.Prelude.{◌≡◌, ◌++◌, ℕ, List, length, drop, All, Option, Some, None, Result, Ok, Err, ⊤}
-use Rattle.httparse.specs.Grammar.{ChunkLine, IsChunkLine, print_chunk_line, chunk_size, HasNoChunkLine, NeverHasChunkLine, MayBecomeChunkLine, Field, IsField, LineEnd, print_section, HasNoSection, NeverHasSection, MayBecomeSection}
+use Rattle.std.specs.Prelude.{◌≡◌, ◌⊎◌, ◌++◌, ℕ, List, length, drop, map, All, Option, Some, None, Result, Ok, Err, ⊤}
+use Rattle.httparse.specs.Spans.{name_and_value}
+use Rattle.httparse.specs.Grammar.{RequestHead, ReadsRequest, NeverHasRequest, ChunkLine, IsChunkLine, print_chunk_line, chunk_size, HasNoChunkLine, NeverHasChunkLine, MayBecomeChunkLine, Field, IsField, LineEnd, print_section, HasNoSection, NeverHasSection, MayBecomeSection}
 use Rattle.http_service.specs.declared.head.Head.{Head}
 use Rattle.http_service.specs.declared.error.HttpError.{HttpError}
 use Rattle.http_service.specs.declared.error.HttpError.TheVariants.{BadHead, Memory}
@@ -16,6 +17,18 @@ MakesHead method target minor fields (Err _) = ⊥
 -- so many octets at the front are such a text
 abbrev pub IsAtFront : (List ℕ → Type 0) → List ℕ → ℕ → Type 0
 IsAtFront IsText octets n = (text : List ℕ) × IsText text × (octets ≡ text ++ drop n octets) × (n ≡ length text)
+
+-- whatever follows, no head begins the octets; or one does whose fields tell no length of the body
+abbrev pub IsRefused : List ℕ → Type 0
+IsRefused octets = NeverHasRequest octets ⊎ ((h : RequestHead) × (rest : List ℕ) × ReadsRequest octets h rest × HasNoBody (map name_and_value h.fields))
+
+-- what the parser reads
+abbrev pub ParsesFields : List ℕ → Result (Option (Head × ℕ)) HttpError → Type 0
+ParsesFields octets (Ok (Some (head, n))) = IsAtFront (λ text. IsHeadText text head) octets n
+ParsesFields octets (Ok None) = IsIncomplete octets
+ParsesFields octets (Err BadHead) = IsRefused octets
+ParsesFields octets (Err Memory) = ⊤
+ParsesFields octets (Err _) = ⊥
 
 -- a head at the front of the octets, and of how many of them it is
 abbrev pub ParsesHead : List ℕ → Result (Option (Head × ℕ)) HttpError → Type 0
