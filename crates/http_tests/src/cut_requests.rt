@@ -1,3 +1,4 @@
+// Requests and their bodies, cut at every octet.
 use gate_world::{Bytes, Front, Script, ScriptWorld};
 use http_service::{HttpError, Spare, read_body, read_head};
 use std::alloc::{AllocError, Global};
