@@ -10,6 +10,7 @@ use std::time::Duration;
 /// Looks names up, and dials. What a look-up and a dial may come to is a relation that each implementation names, and of
 /// which a caller knows nothing else: so a stream that stands in it was given by a dial of that address with that limit.
 pub trait Dialer {
+    /// A stream to a store. Its reads and writes may fail, and a read gives 0 where the store has closed it.
     type Stream: Read + Write + Drop;
 
     /// The addresses that a look-up of this name may give, in order; None where it fails.
