@@ -347,11 +347,8 @@ head_open octets none (inl (more, h, (is, whole))) =
     init : (init : List ℕ) × (print_section h.fields h.last ≡ init ++ 10 ∷ []) × (run Begun init ≢ Ended)
     init = section_init h.fields h.last is.fields
 
-    cons : (x : ℕ) (a b : List ℕ) → (x ∷ a) ++ b ≡ x ∷ (a ++ b)
-    cons x a b = refl
-
     regroup : (a b c d e f r : List ℕ) → a ++ (b ++ 32 ∷ (c ++ 32 ∷ (d ++ (e ++ (f ++ r))))) ≡ (a ++ (b ++ 32 ∷ (c ++ 32 ∷ (d ++ (e ++ f))))) ++ r
-    regroup a b c d e f r = simp (append_assoc, cons)
+    regroup a b c d e f r = simp append_assoc
 
     text : octets ++ more ≡ lead init.0 ++ 10 ∷ []
     text =

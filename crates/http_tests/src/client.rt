@@ -22,7 +22,7 @@ pub(crate) fn world_of(
     Ok(world)
 }
 
-/// The pieces, one behind another.
+/// The pieces, one after another.
 pub(crate) fn joined(alloc: Global, pieces: &[&[u8]]) -> Result<Vec<u8>, AllocError> {
     let mut text = Vec::new(alloc);
     for piece in pieces {
@@ -36,7 +36,7 @@ pub(crate) fn posted(alloc: Global, fields: &[u8], body: &[u8]) -> Result<Vec<u8
     joined(alloc, &[b"POST / HTTP/1.1\r\n", fields, b"\r\n\r\n", body])
 }
 
-/// What is read of a client's body, behind its head; an error by its name.
+/// What is read of a client's body, after its head; an error by its name.
 pub(crate) fn read_both(
     alloc: Global,
     world: &mut ScriptWorld,
