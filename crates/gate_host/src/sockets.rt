@@ -25,7 +25,7 @@ pub trait Dialer {
         ensures bound { IfSome result (λ n. n ≤ length room.new) }
         ensures found { looks_up self.now store.now (option_map (λ n. take n room.new) result) };
 
-    /// A new stream to the address. The dial, each read and each write wait at most so many seconds. None where it fails.
+    /// A new stream to the address. The dial, each read and each write wait at most n seconds. None where it fails.
     fn dial(&self, address: SocketAddr, limit_seconds: u64) -> Option<Self::Stream>
         ensures { dials self.now address limit_seconds result };
 }

@@ -16,7 +16,7 @@ fn world_of(alloc: Global, client: &[u8], piece: usize) -> Result<ScriptWorld, A
     Ok(world)
 }
 
-/// What is read of a head and the body behind it.
+/// What is read of a head and the body after it.
 fn read(alloc: Global, client: &[u8], piece: usize) -> Result<Bytes, HttpError> {
     let mut world = world_of(alloc, client, piece)?;
     let mut spare = Spare::new(alloc);

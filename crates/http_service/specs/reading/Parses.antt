@@ -1,6 +1,7 @@
 -- What is read from the octets that came.
 use Rattle.std.specs.Prelude.{◌≡◌, ◌++◌, ℕ, List, length, drop, All, Option, Some, None, Result, Ok, Err, ⊤}
-use Rattle.httparse.specs.Grammar.{ChunkLine, IsChunkLine, print_chunk_line, chunk_size, HasNoChunkLine, NeverHasChunkLine, MayBecomeChunkLine, Field, IsField, LineEnd, print_section, HasNoSection, NeverHasSection, MayBecomeSection}
+use Rattle.httparse.specs.Grammar.{ChunkLine, IsChunkLine, print_chunk_line, chunk_size, HasNoChunkLine, NeverHasChunkLine, MayBecomeChunkLine, Field, IsField}
+use Rattle.httparse.specs.Grammar.{LineEnd, print_section, HasNoSection, NeverHasSection, MayBecomeSection}
 use Rattle.http_service.specs.declared.head.Head.{Head}
 use Rattle.http_service.specs.declared.error.HttpError.{HttpError}
 use Rattle.http_service.specs.declared.error.HttpError.TheVariants.{BadHead, Memory}
@@ -13,7 +14,7 @@ MakesHead method target minor fields (Err BadHead) = HasNoBody fields
 MakesHead method target minor fields (Err Memory) = ⊤
 MakesHead method target minor fields (Err _) = ⊥
 
--- so many octets at the front are such a text
+-- n octets at the front are such a text
 abbrev pub IsAtFront : (List ℕ → Type 0) → List ℕ → ℕ → Type 0
 IsAtFront IsText octets n = (text : List ℕ) × IsText text × (octets ≡ text ++ drop n octets) × (n ≡ length text)
 
@@ -34,7 +35,8 @@ ParsesLine octets (Err _) = ⊥
 
 -- the same of a trailer section
 abbrev pub ParsesTrailer : List ℕ → Result (Option ℕ) HttpError → Type 0
-ParsesTrailer octets (Ok (Some n)) = IsAtFront (λ text. (fields : List Field) × (last : LineEnd) × All IsField fields × (text ≡ print_section fields last)) octets n
+ParsesTrailer octets (Ok (Some n)) = IsAtFront (λ text. (fields : List Field) × (last : LineEnd) × All IsField fields
+    × (text ≡ print_section fields last)) octets n
 ParsesTrailer octets (Ok None) = HasNoSection octets × MayBecomeSection octets
 ParsesTrailer octets (Err BadHead) = NeverHasSection octets
 ParsesTrailer octets (Err Memory) = ⊤
