@@ -5,3 +5,4 @@ pub mod ListLemmas
 pub mod WholeLemmas
 pub mod KinLemmas
 pub mod OneObject
+pub mod TextLemmas

@@ -18,7 +18,7 @@ use Rattle.email_get.specs.BodyValues.{PutsIf, AddsValues}
 use Rattle.email_get.specs.EmailObjects.{AreObjects, IsPreview, BodyData, IsBody}
 use Rattle.email_get.specs.PartObjects.{IsPartObject}
 use Rattle.email_get.specs.Previews.{IsPreviewOf}
-use Rattle.email_get.specs.LeafLists.{parts_of, parts_at, part_at, Gathers, AreWithin, ListsBody}
+use Rattle.email_get.specs.reading.LeafLists.{parts_of, parts_at, part_at, Gathers, AreWithin, ListsBody}
 use Rattle.email_get.specs.Leaves.{AreLeaves, End, Leaf, Multi}
 use Rattle.email_get.proofs.LeafLemmas.{AreFrom, AllIn, place, message_from, walk_inside}
 

@@ -6,9 +6,9 @@ ghost use Rattle.mime_tree.specs.Trees.{IsMessage};
 ghost use Rattle.mime_tree.specs.declared.part.Part.{Part};
 ghost use Rattle.serde_json.specs.View.{view, members_view};
 ghost use Rattle.email_get.specs.BodyValues.{AreValues};
-ghost use Rattle.email_get.specs.BodyViews.{body_view};
+ghost use Rattle.email_get.specs.reading.BodyViews.{body_view};
 ghost use Rattle.email_get.specs.EmailObjects.{AreObjects, IsBody, IsPreview};
-ghost use Rattle.email_get.specs.LeafLists.{parts_of, parts_at, AreWithin, ListsBody};
+ghost use Rattle.email_get.specs.reading.LeafLists.{parts_of, parts_at, AreWithin, ListsBody};
 ghost use Rattle.email_get.specs.Previews.{IsPreviewOf};
 
 use crate::leaves::{leaf_at, leaves_of};

@@ -9,7 +9,7 @@ ghost use Rattle.email_get.specs.Texts.{text_data};
 ghost use Rattle.mail_header.specs.TokenView.{tokens_view};
 
 use crate::leaves::number_text;
-use crate::texts::{optional_text_value, text_value};
+use crate::texts::{optional_text_value, owned_text_value, text_value};
 use gate_world::Bytes;
 use mail_header::is_atom;
 use mail_header::lexemes::leading_lexemes;
@@ -48,10 +48,14 @@ fn language_value(alloc: Global, language: &Option<Bytes>) -> Result<Value, Allo
 fn blob_id_value(alloc: Global, id: &[u8], number: &str) -> Result<Value, AllocError>
     ensures { IfOk result (λ v. view v ≡ text_data (id.now ++ 45 ∷ number.now)) }
 {
-    let mut text = Vec::from_slice(alloc, id)?;
+    let mut text = Vec::with_capacity(
+        alloc,
+        id.len().saturating_add(number.len()).saturating_add(1),
+    )?;
+    text.extend_from_slice(id)?;
     text.push(b'-')?;
     text.extend_from_slice(number.as_bytes())?;
-    text_value(alloc, text.as_slice())
+    owned_text_value(alloc, text)
 }
 
 /// The object of the leaf of this number that spells so many octets, in the message with this blob id.

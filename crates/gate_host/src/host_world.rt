@@ -14,8 +14,11 @@ use gate_world::{Bytes, Chance, Console, Failed, Front, Link, Secrets, Taped, Te
 #[derive(Drop)]
 pub struct HostWorld<H: Host> {
     host: H,
+    /// The store.
     pub link: TcpLink<H>,
+    /// The client.
     pub front: StandardFront<H::Input, H::Output>,
+    /// Where whoever runs the program is told something.
     pub console: ErrorConsole<H::Errors>,
     password: Bytes,
     token: Bytes,

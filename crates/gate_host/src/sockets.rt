@@ -10,6 +10,7 @@ use std::time::Duration;
 /// Looks names up, and dials. What a look-up and a dial may come to is a relation that each implementation names, and of
 /// which a caller knows nothing else: so a stream that stands in it was given by a dial of that address with that limit.
 pub trait Dialer {
+    /// A stream to a store. Its reads and writes may fail, and a read gives 0 where the store has closed it.
     type Stream: Read + Write + Drop;
 
     /// The addresses that a look-up of this name may give, in order; None where it fails.
@@ -24,7 +25,7 @@ pub trait Dialer {
         ensures bound { IfSome result (λ n. n ≤ length room.new) }
         ensures found { looks_up self.now store.now (option_map (λ n. take n room.new) result) };
 
-    /// A new stream to the address. The dial, each read and each write wait at most so many seconds. None where it fails.
+    /// A new stream to the address. The dial, each read and each write wait at most n seconds. None where it fails.
     fn dial(&self, address: SocketAddr, limit_seconds: u64) -> Option<Self::Stream>
         ensures { dials self.now address limit_seconds result };
 }

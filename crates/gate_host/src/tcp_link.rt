@@ -22,12 +22,14 @@ pub const MAX_ADDRESSES: usize = 32;
 pub struct TcpLink<D: Dialer + Drop> {
     dialer: D,
     store: Text,
+    /// The stream of this link life; none where there is no link life.
     pub stream: Option<D::Stream>,
+    /// How often a dial, a read or a write has failed; the last number stays.
     pub faults: u64,
 }
 
 impl<D: Dialer + Drop> TcpLink<D> {
-    /// A link that is not dialed yet, to this store.
+    /// A link that is not dialed yet, to this store: a host's name or address, `:` and a port.
     pub fn new(dialer: D, store: Text) -> TcpLink<D>
         ensures dialer { result.dialer ≡ dialer }
         ensures store { result.store ≡ store }
@@ -42,6 +44,7 @@ impl<D: Dialer + Drop> TcpLink<D> {
         }
     }
 
+    // Ends the link life and counts the fault.
     fn fail(&mut self) -> Failed
         ensures same { self.new ≡ record self.old { stream = None; faults = one_more self.old.faults } }
         ensures later { self.old.faults ≤ self.new.faults }

@@ -1,5 +1,6 @@
 -- Reading a chunked body, step by step.
-use Rattle.std.proofs.Common.{◌≡◌, ◌≢◌, ◌<◌, ◌≤◌, ◌+◌, ◌++◌, ℕ, List, [], ◌∷◌, length, take, drop, refl, sym, ap, ◌∙◌, subst, arith, append_assoc, length-append, length-take, take-append-drop, ◌⊎◌, inl, inr, Ok, Err, Result, All}
+use Rattle.std.proofs.Common.{◌≡◌, ◌≢◌, ◌<◌, ◌≤◌, ◌+◌, ◌++◌, ℕ, List, [], ◌∷◌, length, take, drop, refl, sym, ap, ◌∙◌, subst, arith, append_assoc, length-append, length-take}
+use Rattle.std.proofs.Common.{take-append-drop, ◌⊎◌, inl, inr, Ok, Err, Result, All}
 use Rattle.std.proofs.lemmas.List.{append-nil}
 use Rattle.std.proofs.lemmas.List.Concat.{flat_map-append}
 use Rattle.std.proofs.lemmas.List.Elements.{All-append, All-cons, All-nil}
@@ -14,7 +15,8 @@ use Rattle.http_service.specs.reading.Steps.{FillsTo, NoLine, NoTrailer, NoOctet
 use Rattle.http_service.proofs.TakingLemmas.{then_takes, then_breaks, octets_taken}
 
 -- enough octets stand there: their front is taken
-pub front_taken : {before now : List ℕ} {es : List Event} (size : ℕ) (after : List ℕ) → FillsTo size before now (Ok tt) es → after ≡ drop size now → Takes Nothing (take size now) before after es × (length (take size now) ≡ size) × ((es ≡ []) ⊎ (after ≡ []))
+pub front_taken : {before now : List ℕ} {es : List Event} (size : ℕ) (after : List ℕ) → FillsTo size before now (Ok tt) es → after ≡ drop size now
+    → Takes Nothing (take size now) before after es × (length (take size now) ≡ size) × ((es ≡ []) ⊎ (after ≡ []))
 front_taken {before} {now} {es} size after (takes, enough, few) rest =
     let long : length (take size now) ≡ size = omega (arith, length-take size now, enough) in
     let whole : now ≡ take size now ++ after = sym (take-append-drop size now) ∙ ap (λ (l : List ℕ). take size now ++ l) (sym rest) in
@@ -32,7 +34,7 @@ front_taken {before} {now} {es} size after (takes, enough, few) rest =
 pub fill_breaks : {before after : List ℕ} (es : List Event) (size : ℕ) (e : HttpError) → FillsTo size before after (Err e) es → Breaks (NoData size) before after e es
 fill_breaks es size e (earlier, takes, ends, stops) = (Octets size, [], earlier, takes, ends, (refl, stops))
 
--- enough came, and memory is wanting
+-- enough came, and memory ran out
 pub fill_memory : {before after : List ℕ} (es : List Event) (size : ℕ) → FillsTo size before after (Ok tt) es → Breaks (NoData size) before after error.Memory es
 fill_memory es size (takes, enough, few) = (Octets size, [], es, takes, inl refl, (refl, refl))
 
@@ -40,13 +42,15 @@ fill_memory es size (takes, enough, few) = (Octets size, [], es, takes, inl refl
 pub length_breaks : {before after : List ℕ} (es : List Event) (size : ℕ) (e : HttpError) → Breaks (NoData size) before after e es → ReadsLength size before after (Err e) es
 length_breaks es size e (due, text, earlier, takes, ends, (none, stops)) = (due, text, earlier, takes, ends, inl (none, stops))
 
--- memory was wanting after it was taken
-pub length_memory : {before now : List ℕ} (es : List Event) (size : ℕ) (after : List ℕ) → FillsTo size before now (Ok tt) es → after ≡ drop size now → ReadsLength size before after (Err error.Memory) es
+-- memory ran out after it was taken
+pub length_memory : {before now : List ℕ} (es : List Event) (size : ℕ) (after : List ℕ) → FillsTo size before now (Ok tt) es → after ≡ drop size now
+    → ReadsLength size before after (Err error.Memory) es
 length_memory {now = now} es size after fills rest =
     let front = front_taken size after fills rest in
     (Nothing, take size now, es, front.0, inl refl, inr (front.1, refl, refl))
 
-pub length_read : {before now : List ℕ} (es : List Event) (size : ℕ) (after body : List ℕ) → FillsTo size before now (Ok tt) es → after ≡ drop size now → body ≡ take size now → ReadsLength size before after (Ok body) es
+pub length_read : {before now : List ℕ} (es : List Event) (size : ℕ) (after body : List ℕ) → FillsTo size before now (Ok tt) es → after ≡ drop size now → body ≡ take size now
+    → ReadsLength size before after (Ok body) es
 length_read {before} {now} es size after body fills rest is =
     let front = front_taken size after fills rest in
     (subst (λ (l : List ℕ). Takes Nothing l before after es) (sym is) front.0, ap length is ∙ front.1, front.2)
@@ -60,11 +64,13 @@ octet_breaks es octet error.Short (earlier, takes, ends, stops) = (Octets 1, [],
 octet_breaks es octet error.FrontFault (earlier, takes, ends, stops) = (Octets 1, [], earlier, takes, ends, (refl, refl))
 octet_breaks es octet error.Memory (earlier, takes, ends, stops) = (Octets 1, [], earlier, takes, ends, (refl, refl))
 
-pub octet_differs : {before : List ℕ} (after : List ℕ) (es : List Event) (octet c : ℕ) → FillsTo 1 before after (Ok tt) es → c ≢ octet → (more : List ℕ) → after ≡ c ∷ more → Breaks (NoOctet octet) before after error.BadHead es
+pub octet_differs : {before : List ℕ} (after : List ℕ) (es : List Event) (octet c : ℕ) → FillsTo 1 before after (Ok tt) es → c ≢ octet → (more : List ℕ) → after ≡ c ∷ more
+    → Breaks (NoOctet octet) before after error.BadHead es
 octet_differs after es octet c (takes, enough, few) other more is = (Octets 1, [], es, takes, inl refl, (refl, (refl, c, more, is, other)))
 
 -- the data was read, but not the CR after it
-pub return_stops : {a b c octets : List ℕ} {xs : List Event} {e : HttpError} (ys : List Event) (size : ℕ) → Takes Nothing octets a b xs → length octets ≡ size → Breaks (NoOctet 13) b c e ys → Breaks (ChunkStops size) a c e (xs ++ ys)
+pub return_stops : {a b c octets : List ℕ} {xs : List Event} {e : HttpError} (ys : List Event) (size : ℕ) → Takes Nothing octets a b xs → length octets ≡ size
+    → Breaks (NoOctet 13) b c e ys → Breaks (ChunkStops size) a c e (xs ++ ys)
 return_stops {octets = octets} ys size takes long breaks =
     then_breaks ys (NoOctet 13) (ChunkStops size) takes breaks (λ due text so. AtReturn (ap length (ap (λ (l : List ℕ). octets ++ l) so.0 ∙ append-nil octets) ∙ long) so.1)
 
@@ -73,11 +79,13 @@ abbrev pub Returned : ℕ → List ℕ → List ℕ → List ℕ → List ℕ �
 Returned size kept keeps before after events =
     (octets : List ℕ) × Takes Nothing (octets ++ 13 ∷ []) before after events × (length octets ≡ size) × (keeps ≡ kept ++ octets)
 
-pub returned : {a b : List ℕ} {xs : List Event} (kept keeps c : List ℕ) (ys : List Event) (size : ℕ) → ReadsData size kept keeps a b (Ok tt) xs → ReadsOctet 13 b c (Ok tt) ys → Returned size kept keeps a c (xs ++ ys)
+pub returned : {a b : List ℕ} {xs : List Event} (kept keeps c : List ℕ) (ys : List Event) (size : ℕ) → ReadsData size kept keeps a b (Ok tt) xs → ReadsOctet 13 b c (Ok tt) ys
+    → Returned size kept keeps a c (xs ++ ys)
 returned kept keeps c ys size (octets, takes, long, adds) return = (octets, then_takes Nothing takes return, long, adds)
 
 -- and then the LF, or not
-pub chunk_end : {a c : List ℕ} {es : List Event} (kept keeps d : List ℕ) (zs : List Event) (size : ℕ) (r : Result (Unit {0}) HttpError) → Returned size kept keeps a c es → ReadsOctet 10 c d r zs → ReadsChunk size kept keeps a d r (es ++ zs)
+pub chunk_end : {a c : List ℕ} {es : List Event} (kept keeps d : List ℕ) (zs : List Event) (size : ℕ) (r : Result (Unit {0}) HttpError) → Returned size kept keeps a c es
+    → ReadsOctet 10 c d r zs → ReadsChunk size kept keeps a d r (es ++ zs)
 chunk_end {a} {c} {es = es} kept keeps d zs size (Ok _) (octets, both, long, adds) feed = (
   octets,
   subst (λ (l : List ℕ). Takes Nothing l a d (es ++ zs)) (append_assoc octets (13 ∷ []) (10 ∷ [])) (then_takes Nothing both feed),
@@ -85,7 +93,8 @@ chunk_end {a} {c} {es = es} kept keeps d zs size (Ok _) (octets, both, long, add
   adds,
 )
 chunk_end {a} {c} kept keeps d zs size (Err e) (octets, both, long, adds) feed =
-    then_breaks zs (NoOctet 10) (ChunkStops size) both feed (λ due text so. AtFeed octets (ap (λ (l : List ℕ). (octets ++ 13 ∷ []) ++ l) so.0 ∙ append-nil (octets ++ 13 ∷ [])) long so.1)
+    then_breaks zs (NoOctet 10) (ChunkStops size) both feed (λ due text so. AtFeed octets
+    (ap (λ (l : List ℕ). (octets ++ 13 ∷ []) ++ l) so.0 ∙ append-nil (octets ++ 13 ∷ [])) long so.1)
 
 -- whole chunks were read, and this is their content
 abbrev pub Gathered : List ℕ → List ℕ → List ℕ → List Event → Type 0
@@ -93,44 +102,76 @@ Gathered before after body events = (chunks : List Chunk) × All IsChunk chunks 
 
 -- and then a chunk's line that says this size
 abbrev pub LineRead : List ℕ → List ℕ → List ℕ → ℕ → List Event → Type 0
-LineRead before after body size events = (chunks : List Chunk) × (line : List ℕ) × All IsChunk chunks × Takes Nothing (texts_of chunks ++ line) before after events × (body ≡ content chunks) × IsLine line size
+LineRead before after body size events = (chunks : List Chunk) × (line : List ℕ) × All IsChunk chunks × Takes Nothing (texts_of chunks ++ line) before after events
+    × (body ≡ content chunks) × IsLine line size
 
-pub after_line : {a b : List ℕ} {xs : List Event} (body c : List ℕ) (size : ℕ) (ys : List Event) → Gathered a b body xs → ReadsLine b c (Ok size) ys → LineRead a c body size (xs ++ ys)
+pub after_line : {a b : List ℕ} {xs : List Event} (body c : List ℕ) (size : ℕ) (ys : List Event) → Gathered a b body xs → ReadsLine b c (Ok size) ys
+    → LineRead a c body size (xs ++ ys)
 after_line body c size ys (chunks, all, takes, is) (line, more, said) = (chunks, line, all, then_takes Nothing takes more, is, said)
 
-pub line_stops : {a b : List ℕ} {xs : List Event} (limit : ℕ) (body c : List ℕ) (e : HttpError) (ys : List Event) → length body ≤ limit → Gathered a b body xs → ReadsLine b c (Err e) ys → Breaks (ChunksStop limit) a c e (xs ++ ys)
+pub line_stops : {a b : List ℕ} {xs : List Event} (limit : ℕ) (body c : List ℕ) (e : HttpError) (ys : List Event) → length body ≤ limit → Gathered a b body xs
+    → ReadsLine b c (Err e) ys → Breaks (ChunksStop limit) a c e (xs ++ ys)
 line_stops {a} {b} limit body c e ys within (chunks, all, takes, is) reads =
     then_breaks ys NoLine (ChunksStop limit) takes reads (λ due text so. (chunks, text, all, refl, subst (λ (l : List ℕ). length l ≤ limit) is within, AtLine so.0 so.1))
 
-pub limit_stops : {a b : List ℕ} {xs : List Event} (limit : ℕ) (body : List ℕ) (size : ℕ) → length body ≤ limit → limit < length body + size → LineRead a b body size xs → Breaks (ChunksStop limit) a b (error.TooLarge limit) xs
-limit_stops {xs = xs} limit body size within over (chunks, line, all, takes, is, said) =
-    (Nothing, texts_of chunks ++ line, xs, takes, refl, (chunks, line, all, refl, subst (λ (l : List ℕ). length l ≤ limit) is within, AtLimit size said (subst (λ (l : List ℕ). limit < length l + size) is over) refl refl))
+pub limit_stops : {a b : List ℕ} {xs : List Event} (limit : ℕ) (body : List ℕ) (size : ℕ) → length body ≤ limit → limit < length body + size → LineRead a b body size xs
+    → Breaks (ChunksStop limit) a b (error.TooLarge limit) xs
+limit_stops {xs = xs} limit body size within over (chunks, line, all, takes, is, said) = (
+  Nothing,
+  texts_of chunks ++ line,
+  xs,
+  takes,
+  refl,
+  (
+    chunks,
+    line,
+    all,
+    refl,
+    subst (λ (l : List ℕ). length l ≤ limit) is within,
+    AtLimit size said (subst (λ (l : List ℕ). limit < length l + size) is over) refl refl,
+  ),
+)
 
-pub trailer_stops : {a b : List ℕ} {xs : List Event} (limit : ℕ) (body c : List ℕ) (e : HttpError) (ys : List Event) → length body ≤ limit → LineRead a b body 0 xs → ReadsTrailer b c (Err e) ys → Breaks (ChunksStop limit) a c e (xs ++ ys)
+pub trailer_stops : {a b : List ℕ} {xs : List Event} (limit : ℕ) (body c : List ℕ) (e : HttpError) (ys : List Event) → length body ≤ limit → LineRead a b body 0 xs
+    → ReadsTrailer b c (Err e) ys → Breaks (ChunksStop limit) a c e (xs ++ ys)
 trailer_stops {a} {b} limit body c e ys within (chunks, line, all, takes, is, said) reads =
     then_breaks ys NoTrailer (ChunksStop limit) takes reads (λ due text so.
-    let none : line ++ text ≡ line = ap (λ (l : List ℕ). line ++ l) so.0 ∙ append-nil line in
-    (chunks, line ++ text, all, append_assoc (texts_of chunks) line text, subst (λ (l : List ℕ). length l ≤ limit) is within, AtTrailer (subst (λ (l : List ℕ). IsLine l 0) (sym none) said) so.1))
+    let none : line ++ text ≡ line = ap (λ (l : List ℕ). line ++ l) so.0 ∙ append-nil line in (
+      chunks,
+      line ++ text,
+      all,
+      append_assoc (texts_of chunks) line text,
+      subst (λ (l : List ℕ). length l ≤ limit) is within,
+      AtTrailer (subst (λ (l : List ℕ). IsLine l 0) (sym none) said) so.1,
+    ))
 
-pub chunk_stops : {a b : List ℕ} {xs : List Event} (limit : ℕ) (body keeps c : List ℕ) (size : ℕ) (e : HttpError) (ys : List Event) → length body + size ≤ limit → size ≢ 0 → LineRead a b body size xs → ReadsChunk size body keeps b c (Err e) ys → Breaks (ChunksStop limit) a c e (xs ++ ys)
+pub chunk_stops : {a b : List ℕ} {xs : List Event} (limit : ℕ) (body keeps c : List ℕ) (size : ℕ) (e : HttpError) (ys : List Event) → length body + size ≤ limit → size ≢ 0
+    → LineRead a b body size xs → ReadsChunk size body keeps b c (Err e) ys → Breaks (ChunksStop limit) a c e (xs ++ ys)
 chunk_stops {a} {b} limit body keeps c size e ys within some (chunks, line, all, takes, is, said) reads =
     let fits = subst (λ (l : List ℕ). length l + size ≤ limit) is within in
     then_breaks ys (ChunkStops size) (ChunksStop limit) takes reads (λ due text so.
     (chunks, line ++ text, all, append_assoc (texts_of chunks) line text, omega (arith, fits), InChunk line text size refl said (omega (arith, some)) fits so))
 
 -- a chunk more
-pub chunk_read : {a b : List ℕ} {xs : List Event} (body keeps c : List ℕ) (size : ℕ) (ys : List Event) → size ≢ 0 → LineRead a b body size xs → ReadsChunk size body keeps b c (Ok tt) ys → Gathered a c keeps (xs ++ ys)
+pub chunk_read : {a b : List ℕ} {xs : List Event} (body keeps c : List ℕ) (size : ℕ) (ys : List Event) → size ≢ 0 → LineRead a b body size xs
+    → ReadsChunk size body keeps b c (Ok tt) ys → Gathered a c keeps (xs ++ ys)
 chunk_read {a} {xs = xs} body keeps c size ys some (chunks, line, all, takes, is, said) (octets, more, long, adds) =
     let chunk : Chunk = record { line = line; data_octets = octets } in
     let is_chunk : IsChunk chunk = record { line = subst (λ (n : ℕ). IsLine line n) (sym long) said; some = omega (arith, long, some) } in
     let texts : (texts_of chunks ++ line) ++ (octets ++ 13 ∷ 10 ∷ []) ≡ texts_of (chunks ++ chunk ∷ []) =
-    append_assoc (texts_of chunks) line (octets ++ 13 ∷ 10 ∷ []) ∙ ap (λ (l : List ℕ). texts_of chunks ++ l) (sym (append-nil (line ++ (octets ++ 13 ∷ 10 ∷ [])))) ∙ sym (flat_map-append chunk_text chunks (chunk ∷ [])) in
+    append_assoc (texts_of chunks) line (octets ++ 13 ∷ 10 ∷ []) ∙ ap (λ (l : List ℕ). texts_of chunks ++ l) (sym (append-nil (line ++ (octets ++ 13 ∷ 10 ∷ []))))
+    ∙ sym (flat_map-append chunk_text chunks (chunk ∷ [])) in
     let kept : keeps ≡ content (chunks ++ chunk ∷ []) =
-    adds ∙ ap (λ (l : List ℕ). l ++ octets) is ∙ ap (λ (l : List ℕ). content chunks ++ l) (sym (append-nil octets)) ∙ sym (flat_map-append data_of chunks (chunk ∷ [])) in
-    (chunks ++ chunk ∷ [], All-append IsChunk chunks (chunk ∷ []) all (All-cons IsChunk chunk [] is_chunk (All-nil IsChunk)), subst (λ (l : List ℕ). Takes Nothing l a c (xs ++ ys)) texts (then_takes Nothing takes more), kept)
+    adds ∙ ap (λ (l : List ℕ). l ++ octets) is ∙ ap (λ (l : List ℕ). content chunks ++ l) (sym (append-nil octets)) ∙ sym (flat_map-append data_of chunks (chunk ∷ [])) in (
+      chunks ++ chunk ∷ [],
+      All-append IsChunk chunks (chunk ∷ []) all (All-cons IsChunk chunk [] is_chunk (All-nil IsChunk)),
+      subst (λ (l : List ℕ). Takes Nothing l a c (xs ++ ys)) texts (then_takes Nothing takes more),
+      kept,
+    )
 
 -- the whole body
-pub body_read : {a b : List ℕ} {xs : List Event} (limit : ℕ) (body c : List ℕ) (ys : List Event) → length body ≤ limit → LineRead a b body 0 xs → ReadsTrailer b c (Ok tt) ys → ReadsChunks limit a c (Ok body) (xs ++ ys)
+pub body_read : {a b : List ℕ} {xs : List Event} (limit : ℕ) (body c : List ℕ) (ys : List Event) → length body ≤ limit → LineRead a b body 0 xs → ReadsTrailer b c (Ok tt) ys
+    → ReadsChunks limit a c (Ok body) (xs ++ ys)
 body_read limit body c ys within (chunks, line, all, takes, is, said) (trailer, more, is_trailer) = (
   (texts_of chunks ++ line) ++ trailer,
   then_takes Nothing takes more,
@@ -147,12 +188,27 @@ body_read limit body c ys within (chunks, line, all, takes, is, said) (trailer, 
   within,
 )
 
--- the whole body, and then memory was wanting
-pub body_memory : {a b : List ℕ} {xs : List Event} (limit : ℕ) (body c : List ℕ) (ys : List Event) → length body ≤ limit → LineRead a b body 0 xs → ReadsTrailer b c (Ok tt) ys → Breaks (ChunksStop limit) a c error.Memory (xs ++ ys)
-body_memory {xs = xs} limit body c ys within (chunks, line, all, takes, is, said) (trailer, more, is_trailer) =
-    (Nothing, (texts_of chunks ++ line) ++ trailer, xs ++ ys, then_takes Nothing takes more, inl refl, (chunks, line ++ trailer, all, append_assoc (texts_of chunks) line trailer, subst (λ (l : List ℕ). length l ≤ limit) is within, AtEnd line trailer refl said is_trailer refl refl))
+-- the whole body, and then memory ran out
+pub body_memory : {a b : List ℕ} {xs : List Event} (limit : ℕ) (body c : List ℕ) (ys : List Event) → length body ≤ limit → LineRead a b body 0 xs → ReadsTrailer b c (Ok tt) ys
+    → Breaks (ChunksStop limit) a c error.Memory (xs ++ ys)
+body_memory {xs = xs} limit body c ys within (chunks, line, all, takes, is, said) (trailer, more, is_trailer) = (
+  Nothing,
+  (texts_of chunks ++ line) ++ trailer,
+  xs ++ ys,
+  then_takes Nothing takes more,
+  inl refl,
+  (
+    chunks,
+    line ++ trailer,
+    all,
+    append_assoc (texts_of chunks) line trailer,
+    subst (λ (l : List ℕ). length l ≤ limit) is within,
+    AtEnd line trailer refl said is_trailer refl refl,
+  ),
+)
 
-pub data_read : {before now : List ℕ} (es : List Event) (size : ℕ) (kept keeps octets after : List ℕ) → FillsTo size before now (Ok tt) es → after ≡ drop size now → octets ≡ take size now → keeps ≡ kept ++ octets → ReadsData size kept keeps before after (Ok tt) es
+pub data_read : {before now : List ℕ} (es : List Event) (size : ℕ) (kept keeps octets after : List ℕ) → FillsTo size before now (Ok tt) es → after ≡ drop size now
+    → octets ≡ take size now → keeps ≡ kept ++ octets → ReadsData size kept keeps before after (Ok tt) es
 data_read {before} {now} es size kept keeps octets after fills rest is adds =
     let front = front_taken size after fills rest in
     (octets, subst (λ (l : List ℕ). Takes Nothing l before after es) (sym is) front.0, ap length is ∙ front.1, adds)

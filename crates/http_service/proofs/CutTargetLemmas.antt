@@ -1,5 +1,6 @@
 -- Where octets are cut inside a target.
-use Rattle.std.proofs.Common.{◌≡◌, ◌≢◌, ◌<◌, ◌++◌, ◌==◌, ◌&&◌, ◌||◌, ℕ, zero, Bool, true, false, cond, IsTrue, List, [], ◌∷◌, length, drop, refl, sym, ap, ◌∙◌, subst, arith, append_assoc, inl, inr}
+use Rattle.std.proofs.Common.{◌≡◌, ◌≢◌, ◌<◌, ◌++◌, ◌==◌, ◌&&◌, ◌||◌, ℕ, zero, Bool, true, false, cond, IsTrue, List, [], ◌∷◌, length, drop, refl, sym, ap, ◌∙◌, subst, arith}
+use Rattle.std.proofs.Common.{append_assoc, inl, inr}
 use Rattle.std.specs.List.{flat_map}
 use Rattle.std.proofs.lemmas.Bool.{eqb-true}
 use Rattle.std.proofs.lemmas.List.{append-nil}
@@ -20,7 +21,8 @@ line_end_front : (text : List ℕ) → line_end_len text ≢ 0 → (e : LineEnd)
 line_end_front [] some = absurd (some refl)
 line_end_front (c ∷ t) some = first (c == 10) refl some
   where
-    second : (b : Bool) → (c == 13) ≡ b → (u : List ℕ) → (l : Bool) → begins_with_lf u ≡ l → (◌≢◌ {A = ℕ} (cond (b && l) 2 0) 0) → (e : LineEnd) × (c ∷ u ≡ print_end e ++ drop (cond (b && l) 2 0) (c ∷ u))
+    second : (b : Bool) → (c == 13) ≡ b → (u : List ℕ) → (l : Bool) → begins_with_lf u ≡ l → (◌≢◌ {A = ℕ} (cond (b && l) 2 0) 0)
+        → (e : LineEnd) × (c ∷ u ≡ print_end e ++ drop (cond (b && l) 2 0) (c ∷ u))
     second true is [] true feed some = absurd (let k = feed in cc)
     second true is (d ∷ u) true feed some =
         let return = eqb-true c 13 is in
@@ -29,19 +31,22 @@ line_end_front (c ∷ t) some = first (c == 10) refl some
     second true is u false feed some = absurd (some refl)
     second false is u l feed some = absurd (some refl)
 
-    first : (b : Bool) → (c == 10) ≡ b → (◌≢◌ {A = ℕ} (cond b 1 (cond ((c == 13) && begins_with_lf t) 2 0)) 0) → (e : LineEnd) × (c ∷ t ≡ print_end e ++ drop (cond b 1 (cond ((c == 13) && begins_with_lf t) 2 0)) (c ∷ t))
+    first : (b : Bool) → (c == 10) ≡ b → (◌≢◌ {A = ℕ} (cond b 1 (cond ((c == 13) && begins_with_lf t) 2 0)) 0)
+        → (e : LineEnd) × (c ∷ t ≡ print_end e ++ drop (cond b 1 (cond ((c == 13) && begins_with_lf t) 2 0)) (c ∷ t))
     first true is some = (lf, λ i. eqb-true c 10 is i ∷ t)
     first false is some = second (c == 13) refl t (begins_with_lf t) refl some
 
 -- one empty line more
-pub blank_more : (octets rest : List ℕ) → (ends : List LineEnd) × (octets ≡ print_blank ends ++ rest) → line_end_len rest ≢ 0 → (ends : List LineEnd) × (octets ≡ print_blank ends ++ drop (line_end_len rest) rest)
+pub blank_more : (octets rest : List ℕ) → (ends : List LineEnd) × (octets ≡ print_blank ends ++ rest) → line_end_len rest ≢ 0
+    → (ends : List LineEnd) × (octets ≡ print_blank ends ++ drop (line_end_len rest) rest)
 blank_more octets rest (ends, whole) some =
     let at = line_end_front rest some in (
       ends ++ at.0 ∷ [],
       whole
           ∙ ap (λ (l : List ℕ). print_blank ends ++ l) at.1
           ∙ sym (append_assoc (print_blank ends) (print_end at.0) (drop (line_end_len rest) rest))
-          ∙ ap (λ (l : List ℕ). l ++ drop (line_end_len rest) rest) (ap (λ (l : List ℕ). print_blank ends ++ l) (sym (append-nil (print_end at.0))) ∙ sym (flat_map-append print_end ends (at.0 ∷ []))),
+          ∙ ap (λ (l : List ℕ). l ++ drop (line_end_len rest) rest)
+          (ap (λ (l : List ℕ). print_blank ends ++ l) (sym (append-nil (print_end at.0))) ∙ sym (flat_map-append print_end ends (at.0 ∷ []))),
     )
 
 no_end_front : (text : List ℕ) → line_end_len text ≡ 0 → (e : LineEnd) (r : List ℕ) → text ≡ print_end e ++ r → ⊥
@@ -69,14 +74,17 @@ some_long [] some = absurd (some refl)
 some_long (c ∷ l) some = omega arith
 
 -- the octets end inside a target
-pub in_target : (octets rest target : List ℕ) → IsAfterBlankLines octets rest → back is_token_byte rest ≡ 32 ∷ target → front is_token_byte rest ≢ [] → Each is_uri_byte target → EndsInTarget octets
+pub in_target : (octets rest target : List ℕ) → IsAfterBlankLines octets rest → back is_token_byte rest ≡ 32 ∷ target → front is_token_byte rest ≢ [] → Each is_uri_byte target
+    → EndsInTarget octets
 in_target octets rest target (ends, whole, none) is some each = (
   ends,
   front is_token_byte rest,
   target,
   (some_long (front is_token_byte rest) some, pass_of is_token_byte (front is_token_byte rest) (front_each is_token_byte rest)),
   pass_of is_uri_byte target each,
-  whole ∙ ap (λ (l : List ℕ). print_blank ends ++ l) (front_back is_token_byte rest ∙ ap (λ (l : List ℕ). front is_token_byte rest ++ l) is) ∙ sym (append_assoc (print_blank ends) (front is_token_byte rest) (32 ∷ target)),
+  whole
+      ∙ ap (λ (l : List ℕ). print_blank ends ++ l) (front_back is_token_byte rest ∙ ap (λ (l : List ℕ). front is_token_byte rest ++ l) is)
+      ∙ sym (append_assoc (print_blank ends) (front is_token_byte rest) (32 ∷ target)),
 )
 
 -- a method begins no line end
@@ -91,9 +99,12 @@ method_first (c ∷ method) rest some all = by (c == 10) (c == 13) refl refl (St
     by false false is so stops = refl
 
 -- the parts of octets that end inside a target
-pub target_parts : (octets rest : List ℕ) → IsAfterBlankLines octets rest → EndsInTarget octets → (target : List ℕ) × (back is_token_byte rest ≡ 32 ∷ target) × (front is_token_byte rest ≢ []) × Each is_uri_byte target
+pub target_parts : (octets rest : List ℕ) → IsAfterBlankLines octets rest → EndsInTarget octets
+    → (target : List ℕ) × (back is_token_byte rest ≡ 32 ∷ target) × (front is_token_byte rest ≢ []) × Each is_uri_byte target
 target_parts octets rest (ends, whole, none) (blank, method, target, (some, token), all, text) =
-    let same : rest ≡ method ++ 32 ∷ target = same_rest ends blank rest (method ++ 32 ∷ target) none (method_first method (32 ∷ target) some token) (sym whole ∙ text ∙ append_assoc (print_blank blank) method (32 ∷ target)) in
+    let first = method_first method (32 ∷ target) some token in
+    let same : rest ≡ method ++ 32 ∷ target =
+    same_rest ends blank rest (method ++ 32 ∷ target) none first (sym whole ∙ text ∙ append_assoc (print_blank blank) method (32 ∷ target)) in
     let each = each_of is_token_byte method token in (
       target,
       ap (back is_token_byte) same ∙ back_is is_token_byte method (32 ∷ target) each space_ends_token,

@@ -1,5 +1,6 @@
 -- Octets have one head, which no refusal fits, and one chunked body.
-use Rattle.std.proofs.Common.{◌≡◌, ◌≤◌, ◌++◌, ◌↔◌, ℕ, zero, suc, Bool, true, false, IsTrue, List, [], ◌∷◌, length, take, drop, refl, sym, ap, ◌∙◌, subst, arith, append_assoc, ◌⊎◌, inl, inr, Option, Some, None, All, codes}
+use Rattle.std.proofs.Common.{◌≡◌, ◌≤◌, ◌++◌, ◌↔◌, ℕ, zero, suc, Bool, true, false, IsTrue, List, [], ◌∷◌, length, take, drop, refl, sym, ap, ◌∙◌, subst, arith, append_assoc, ◌⊎◌}
+use Rattle.std.proofs.Common.{inl, inr, Option, Some, None, All, codes}
 use Rattle.std.proofs.lemmas.List.{append_cancel_left, append-nil}
 use Rattle.std.proofs.lemmas.List.Elements.{All-head, All-tail}
 use Rattle.httparse.specs.Grammar.{RequestHead, print_request, print_chunk_line, chunk_size, print_section}
@@ -23,7 +24,8 @@ use Rattle.text_words.specs.Cuts.{front, back}
 -- a target has one rest after its authority
 one_absolute : (target one other : List ℕ) → IsAbsolute target one → IsAbsolute target other → one ≡ other
 one_absolute target one other a b =
-    let scheme = one_cut is_scheme_octet a.scheme b.scheme (codes "://" ++ (a.authority ++ one)) (codes "://" ++ (b.authority ++ other)) (sym a.whole ∙ b.whole) a.is_scheme refl b.is_scheme refl in
+    let scheme = one_cut is_scheme_octet a.scheme b.scheme (codes "://" ++ (a.authority ++ one)) (codes "://" ++ (b.authority ++ other))
+    (sym a.whole ∙ b.whole) a.is_scheme refl b.is_scheme refl in
     let rest = append_cancel_left (codes "://") (a.authority ++ one) (b.authority ++ other) scheme.back in
     (one_cut is_authority_octet a.authority b.authority one other rest a.is_authority a.ends b.is_authority b.ends).back
 
@@ -97,7 +99,8 @@ in_window text rest few = cut text MAX_HEAD_OCTETS few
     cut (c ∷ l) (suc n) few = let more = cut l n (omega (arith, few)) in (more.0, ap (λ (t : List ℕ). c ∷ t) more.1)
 
 -- octets that have a head have no refusal that is about them
-pub no_refusal : (text rest : List ℕ) (head : Head) (e : HttpError) → IsHeadText text head → length text ≤ MAX_HEAD_OCTETS → HeadStops (text ++ rest) e → (e ≡ error.FrontFault) ⊎ (e ≡ error.Memory)
+pub no_refusal : (text rest : List ℕ) (head : Head) (e : HttpError) → IsHeadText text head → length text ≤ MAX_HEAD_OCTETS → HeadStops (text ++ rest) e → (e ≡ error.FrontFault)
+    ⊎ (e ≡ error.Memory)
 no_refusal text rest head error.BadHead (h, is, printed, says) few (inl (never, not_cut)) =
     let here = in_window text rest few in
     absurd (never [] h here.0 (is, append-nil (window (text ++ rest)) ∙ here.1 ∙ ap (λ (l : List ℕ). l ++ here.0) printed))
@@ -126,7 +129,8 @@ one_line line other rest more size count (l, is_l, printed_l, says_l, short_l) (
 
 one_trailer : (trailer other rest more : List ℕ) → IsTrailer trailer → IsTrailer other → trailer ++ rest ≡ other ++ more → trailer ≡ other
 one_trailer trailer other rest more (fields, last, all, printed, short) (others, end, every, spelled, few) whole =
-    let same = section_unique (trailer ++ rest) fields others last end rest more (all, ap (λ (t : List ℕ). t ++ rest) printed) (every, whole ∙ ap (λ (t : List ℕ). t ++ more) spelled) in
+    let same = section_unique (trailer ++ rest) fields others last end rest more (all, ap (λ (t : List ℕ). t ++ rest) printed)
+    (every, whole ∙ ap (λ (t : List ℕ). t ++ more) spelled) in
     printed ∙ (λ i. print_section (same.0 i) (same.1 i)) ∙ sym spelled
 
 -- equally long fronts of one text
@@ -152,14 +156,16 @@ one_body_text [] [] last trailer rest end section more all every is_last is_end 
     (λ i. line.0 i ++ same i, refl)
 one_body_text [] (d ∷ ds) last trailer rest end section more all every is_last is_end is_trailer is_section whole =
     let is = All-head IsChunk d ds every in
-    let line = one_line last d.line (trailer ++ rest) ((d.data_octets ++ 13 ∷ 10 ∷ []) ++ (body_text ds end section ++ more)) 0 (length d.data_octets) is_last is.line (sym (append_assoc last trailer rest) ∙ whole ∙ regroup d.line (d.data_octets ++ 13 ∷ 10 ∷ []) (texts_of ds) (end ++ section) more) in
+    let line = one_line last d.line (trailer ++ rest) ((d.data_octets ++ 13 ∷ 10 ∷ []) ++ (body_text ds end section ++ more)) 0 (length d.data_octets) is_last is.line
+    (sym (append_assoc last trailer rest) ∙ whole ∙ regroup d.line (d.data_octets ++ 13 ∷ 10 ∷ []) (texts_of ds) (end ++ section) more) in
     absurd (omega (arith, line.1, is.some))
   where
     regroup : (l d t e m : List ℕ) → (((l ++ d) ++ t) ++ e) ++ m ≡ l ++ (d ++ ((t ++ e) ++ m))
     regroup l d t e m = simp append_assoc
 one_body_text (c ∷ cs) [] last trailer rest end section more all every is_last is_end is_trailer is_section whole =
     let is = All-head IsChunk c cs all in
-    let line = one_line end c.line (section ++ more) ((c.data_octets ++ 13 ∷ 10 ∷ []) ++ (body_text cs last trailer ++ rest)) 0 (length c.data_octets) is_end is.line (sym (append_assoc end section more) ∙ sym whole ∙ regroup c.line (c.data_octets ++ 13 ∷ 10 ∷ []) (texts_of cs) (last ++ trailer) rest) in
+    let line = one_line end c.line (section ++ more) ((c.data_octets ++ 13 ∷ 10 ∷ []) ++ (body_text cs last trailer ++ rest)) 0 (length c.data_octets) is_end is.line
+    (sym (append_assoc end section more) ∙ sym whole ∙ regroup c.line (c.data_octets ++ 13 ∷ 10 ∷ []) (texts_of cs) (last ++ trailer) rest) in
     absurd (omega (arith, line.1, is.some))
   where
     regroup : (l d t e m : List ℕ) → (((l ++ d) ++ t) ++ e) ++ m ≡ l ++ (d ++ ((t ++ e) ++ m))
@@ -167,11 +173,17 @@ one_body_text (c ∷ cs) [] last trailer rest end section more all every is_last
 one_body_text (c ∷ cs) (d ∷ ds) last trailer rest end section more all every is_last is_end is_trailer is_section whole =
     let is_c = All-head IsChunk c cs all in
     let is_d = All-head IsChunk d ds every in
-    let line = one_line c.line d.line ((c.data_octets ++ 13 ∷ 10 ∷ []) ++ (body_text cs last trailer ++ rest)) ((d.data_octets ++ 13 ∷ 10 ∷ []) ++ (body_text ds end section ++ more)) (length c.data_octets) (length d.data_octets) is_c.line is_d.line (sym (regroup c.line (c.data_octets ++ 13 ∷ 10 ∷ []) (texts_of cs) (last ++ trailer) rest) ∙ whole ∙ regroup d.line (d.data_octets ++ 13 ∷ 10 ∷ []) (texts_of ds) (end ++ section) more) in
-    let octets = same_front c.data_octets d.data_octets (13 ∷ 10 ∷ (body_text cs last trailer ++ rest)) (13 ∷ 10 ∷ (body_text ds end section ++ more)) line.1 (sym (append_assoc c.data_octets (13 ∷ 10 ∷ []) (body_text cs last trailer ++ rest)) ∙ line.2 ∙ append_assoc d.data_octets (13 ∷ 10 ∷ []) (body_text ds end section ++ more)) in
+    let line = one_line c.line d.line ((c.data_octets ++ 13 ∷ 10 ∷ []) ++ (body_text cs last trailer ++ rest))
+    ((d.data_octets ++ 13 ∷ 10 ∷ []) ++ (body_text ds end section ++ more)) (length c.data_octets) (length d.data_octets) is_c.line is_d.line
+    (sym (regroup c.line (c.data_octets ++ 13 ∷ 10 ∷ []) (texts_of cs) (last ++ trailer) rest) ∙ whole
+    ∙ regroup d.line (d.data_octets ++ 13 ∷ 10 ∷ []) (texts_of ds) (end ++ section) more) in
+    let octets = same_front c.data_octets d.data_octets (13 ∷ 10 ∷ (body_text cs last trailer ++ rest)) (13 ∷ 10 ∷ (body_text ds end section ++ more)) line.1
+    (sym (append_assoc c.data_octets (13 ∷ 10 ∷ []) (body_text cs last trailer ++ rest)) ∙ line.2
+    ∙ append_assoc d.data_octets (13 ∷ 10 ∷ []) (body_text ds end section ++ more)) in
     let after = append_cancel_left (13 ∷ 10 ∷ []) (body_text cs last trailer ++ rest) (body_text ds end section ++ more) octets.1 in
     let others = one_body_text cs ds last trailer rest end section more (All-tail IsChunk c cs all) (All-tail IsChunk d ds every) is_last is_end is_trailer is_section after in (
-      append_assoc (c.line ++ (c.data_octets ++ 13 ∷ 10 ∷ [])) (texts_of cs) (last ++ trailer) ∙ (λ i. (line.0 i ++ (octets.0 i ++ 13 ∷ 10 ∷ [])) ++ others.0 i) ∙ sym (append_assoc (d.line ++ (d.data_octets ++ 13 ∷ 10 ∷ [])) (texts_of ds) (end ++ section)),
+      append_assoc (c.line ++ (c.data_octets ++ 13 ∷ 10 ∷ [])) (texts_of cs) (last ++ trailer) ∙ (λ i. (line.0 i ++ (octets.0 i ++ 13 ∷ 10 ∷ [])) ++ others.0 i)
+          ∙ sym (append_assoc (d.line ++ (d.data_octets ++ 13 ∷ 10 ∷ [])) (texts_of ds) (end ++ section)),
       λ i. octets.0 i ++ others.1 i,
     )
   where
@@ -179,7 +191,9 @@ one_body_text (c ∷ cs) (d ∷ ds) last trailer rest end section more all every
     regroup l d t e m = simp append_assoc
 
 -- octets have one chunked body
-pub one_chunked : (text other rest more body content_of_other : List ℕ) → IsChunked body text → IsChunked content_of_other other → text ++ rest ≡ other ++ more → (text ≡ other) × (body ≡ content_of_other)
+pub one_chunked : (text other rest more body content_of_other : List ℕ) → IsChunked body text → IsChunked content_of_other other → text ++ rest ≡ other ++ more → (text ≡ other)
+    × (body ≡ content_of_other)
 one_chunked text other rest more body content_of_other a b whole =
-    let same = one_body_text a.chunks b.chunks a.last a.trailer rest b.last b.trailer more a.are_chunks b.are_chunks a.is_last b.is_last a.is_trailer b.is_trailer (ap (λ (l : List ℕ). l ++ rest) (sym a.whole) ∙ whole ∙ ap (λ (l : List ℕ). l ++ more) b.whole) in
+    let same = one_body_text a.chunks b.chunks a.last a.trailer rest b.last b.trailer more a.are_chunks b.are_chunks a.is_last b.is_last a.is_trailer b.is_trailer
+    (ap (λ (l : List ℕ). l ++ rest) (sym a.whole) ∙ whole ∙ ap (λ (l : List ℕ). l ++ more) b.whole) in
     (a.whole ∙ same.0 ∙ sym b.whole, a.body_is ∙ same.1 ∙ sym b.body_is)

@@ -1,11 +1,16 @@
 -- Lines haven't ended before their last line end has come, and not before all of them have.
-use Rattle.std.proofs.Common.{◌≡◌, ◌≢◌, ◌<◌, ◌+◌, ◌==◌, ◌++◌, ℕ, Bool, true, false, cond, List, [], ◌∷◌, length, take, get_or, refl, sym, ap, ◌∙◌, subst, arith, append_assoc, length-append, ◌⊎◌, inl, inr, All, Option, Some, None}
+use Rattle.std.proofs.Common.{◌≡◌, ◌≢◌, ◌<◌, ◌+◌, ◌==◌, ◌++◌, ℕ, Bool, true, false, cond, List, [], ◌∷◌, length, take, get_or, refl, sym, ap, ◌∙◌, subst, arith, append_assoc}
+use Rattle.std.proofs.Common.{length-append, ◌⊎◌, inl, inr, All, Option, Some, None}
 use Rattle.std.specs.List.{flat_map}
 use Rattle.std.proofs.lemmas.List.{append-nil, take_more}
 use Rattle.std.proofs.lemmas.List.Elements.{All-head, All-tail}
 use Rattle.std.specs.Char.{is_ascii_hexdigit}
 use Rattle.httparse.specs.Ascii.{space, colon}
-use Rattle.httparse.specs.Grammar.{LineEnd, crlf, lf, print_end, print_blank, print_version, Field, IsField, print_field, print_section, AllPass, is_token_byte, is_uri_byte, is_value_byte, is_ows, is_extension_byte, IsToken, RequestHead, IsRequestHead, ReadsRequest, print_request, HasNoRequest, MayBecomeRequest, EndsInTarget, ChunkLine, IsExtension, ReadsChunkLine, print_extension, print_chunk_line, HasNoChunkLine, MayBecomeChunkLine, ReadsSection, HasNoSection, MayBecomeSection}
+use Rattle.httparse.specs.Grammar.{LineEnd, crlf, lf, print_end, print_blank, print_version, Field, IsField, print_field, print_section, AllPass, is_token_byte, is_uri_byte}
+use Rattle.httparse.specs.Grammar.{is_value_byte, is_ows, is_extension_byte, IsToken, RequestHead, IsRequestHead, ReadsRequest, print_request, HasNoRequest, MayBecomeRequest}
+use Rattle.httparse.specs.Grammar.{EndsInTarget}
+use Rattle.httparse.specs.Grammar.{ChunkLine, IsExtension, ReadsChunkLine, print_extension, print_chunk_line, HasNoChunkLine, MayBecomeChunkLine, ReadsSection, HasNoSection}
+use Rattle.httparse.specs.Grammar.{MayBecomeSection}
 use Rattle.httparse.proofs.GrammarLemmas.{print_request-append}
 use Rattle.httparse.proofs.PieceLemmas.{print_field-append}
 use Rattle.http_service.specs.declared.lines.Place.{Place}
@@ -78,7 +83,8 @@ lines_end text lf [] = ([], append-nil (text ++ 10 ∷ []))
 lines_end text e (f ∷ fields) =
     let next = lines_end ((text ++ print_end e) ++ (f.name ++ colon ∷ f.raw)) f.end fields in (
       (print_end e ++ (f.name ++ colon ∷ f.raw)) ++ next.0,
-      regroup text (print_end e) (f.name ++ colon ∷ f.raw) (print_end f.end) (flat_map print_field fields) ∙ next.1 ∙ collect text (print_end e) (f.name ++ colon ∷ f.raw) next.0 (10 ∷ []),
+      regroup text (print_end e) (f.name ++ colon ∷ f.raw) (print_end f.end) (flat_map print_field fields) ∙ next.1
+          ∙ collect text (print_end e) (f.name ++ colon ∷ f.raw) next.0 (10 ∷ []),
     )
   where
     regroup : (t e n d r : List ℕ) → (t ++ e) ++ ((n ++ d) ++ r) ≡ (((t ++ e) ++ n) ++ d) ++ r
@@ -172,7 +178,8 @@ not_it test c d fails passes is = absurd (let k = subst (λ (n : ℕ). test n �
 pub head_end : (h : RequestHead) (rest : List ℕ) → IsRequestHead h → HaveEnd Head (print_request h ++ rest)
 head_end h rest is = by h.method is.method (head_parts h rest)
   where
-    by : (method : List ℕ) → IsToken method → (more : List ℕ) × (print_request h ++ rest ≡ print_blank h.blank ++ (method ++ (more ++ ((10 ∷ print_end h.last) ++ rest)))) → HaveEnd Head (print_request h ++ rest)
+    by : (method : List ℕ) → IsToken method → (more : List ℕ) × (print_request h ++ rest ≡ print_blank h.blank ++ (method ++ (more ++ ((10 ∷ print_end h.last) ++ rest))))
+        → HaveEnd Head (print_request h ++ rest)
     by [] token parts = absurd (omega (arith, token.0))
     by (c ∷ method) token (more, whole) =
         let passes = All-head (λ v. is_token_byte v ≡ true) c method token.1 in (
@@ -319,7 +326,8 @@ section_init fields lf all =
 pub trailer_open : (octets : List ℕ) → HasNoSection octets → MayBecomeSection octets → run Begun octets ≢ Ended
 trailer_open octets none (more, fields, last, (all, whole)) =
     let init = section_init fields last all in
-    cut_before Begun octets more init.0 10 (whole ∙ append-nil (print_section fields last) ∙ init.1) (goes_on octets more (λ text. ReadsSection text fields last []) (none fields last []) (all, whole)) init.2
+    cut_before Begun octets more init.0 10 (whole ∙ append-nil (print_section fields last) ∙ init.1)
+    (goes_on octets more (λ text. ReadsSection text fields last []) (none fields last []) (all, whole)) init.2
 
 version_more : (minor : ℕ) (rest : List ℕ) → run Inside (print_version minor ++ rest) ≡ run Inside rest
 version_more minor rest =
@@ -328,7 +336,8 @@ version_more minor rest =
     ap (λ (p : Place). run p rest) stays
 
 -- the line of a request, and what follows it
-request_more : (h : RequestHead) (rest : List ℕ) → IsRequestHead h → run Blank (print_blank h.blank ++ (h.method ++ 32 ∷ (h.target ++ 32 ∷ (print_version h.minor ++ (print_end h.line_end ++ rest))))) ≡ run Begun rest
+request_more : (h : RequestHead) (rest : List ℕ) → IsRequestHead h
+    → run Blank (print_blank h.blank ++ (h.method ++ 32 ∷ (h.target ++ 32 ∷ (print_version h.minor ++ (print_end h.line_end ++ rest))))) ≡ run Begun rest
 request_more h rest is =
     stays_blank h.blank (h.method ++ 32 ∷ (h.target ++ 32 ∷ (print_version h.minor ++ (print_end h.line_end ++ rest))))
     ∙ token_more Blank h.method (32 ∷ (h.target ++ 32 ∷ (print_version h.minor ++ (print_end h.line_end ++ rest)))) begins_at_blank is.method
@@ -353,7 +362,8 @@ no_head_in_target octets h rest cut (is, whole) =
 -- a head that may go on
 pub head_open : (octets : List ℕ) → HasNoRequest octets → MayBecomeRequest octets → run Blank octets ≢ Ended
 head_open octets none (inl (more, h, (is, whole))) =
-    cut_before Blank octets more (lead init.0) 10 text (goes_on octets more (λ t. ReadsRequest t h []) (none h []) (is, whole)) (λ ended. init.2 (sym (request_more h init.0 is) ∙ ended))
+    cut_before Blank octets more (lead init.0) 10 text (goes_on octets more (λ t. ReadsRequest t h []) (none h []) (is, whole))
+    (λ ended. init.2 (sym (request_more h init.0 is) ∙ ended))
   where
     lead : List ℕ → List ℕ
     lead rest = print_blank h.blank ++ (h.method ++ 32 ∷ (h.target ++ 32 ∷ (print_version h.minor ++ (print_end h.line_end ++ rest))))

@@ -7,7 +7,8 @@ pub head_400 : (media : List ℕ) → codes "HTTP/1.1 400 Bad Request\r\nConnect
 unfolding status_line fixed_fields length_field challenge digits
 head_400 media = refl
 
-pub head_401 : (media : List ℕ) → codes "HTTP/1.1 401 Unauthorized\r\nConnection: close\r\nCache-Control: no-store\r\nWWW-Authenticate: Bearer\r\nContent-Length: 0\r\n\r\n" ≡ response_head 401 0 media
+pub head_401 : (media : List ℕ) → codes "HTTP/1.1 401 Unauthorized\r\nConnection: close\r\nCache-Control: no-store\r\nWWW-Authenticate: Bearer\r\nContent-Length: 0\r\n\r\n"
+    ≡ response_head 401 0 media
 unfolding status_line fixed_fields length_field challenge digits
 head_401 media = refl
 
@@ -19,7 +20,8 @@ pub head_405 : (media : List ℕ) → codes "HTTP/1.1 405 Method Not Allowed\r\n
 unfolding status_line fixed_fields length_field challenge digits
 head_405 media = refl
 
-pub head_431 : (media : List ℕ) → codes "HTTP/1.1 431 Request Header Fields Too Large\r\nConnection: close\r\nCache-Control: no-store\r\nContent-Length: 0\r\n\r\n" ≡ response_head 431 0 media
+pub head_431 : (media : List ℕ) → codes "HTTP/1.1 431 Request Header Fields Too Large\r\nConnection: close\r\nCache-Control: no-store\r\nContent-Length: 0\r\n\r\n"
+    ≡ response_head 431 0 media
 unfolding status_line fixed_fields length_field challenge digits
 head_431 media = refl
 

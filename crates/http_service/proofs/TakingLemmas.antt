@@ -1,5 +1,6 @@
 -- Octets that are taken one text after another, and errors after them.
-use Rattle.std.proofs.Common.{◌≡◌, ◌<◌, ◌≤◌, ◌++◌, ℕ, Bool, true, false, max, List, [], ◌∷◌, length, refl, sym, ap, ◌∙◌, subst, arith, append_assoc, length-append, inl, inr, ◌⊎◌, Ok, Err}
+use Rattle.std.proofs.Common.{◌≡◌, ◌<◌, ◌≤◌, ◌++◌, ℕ, Bool, true, false, max, List, [], ◌∷◌, length, refl, sym, ap, ◌∙◌, subst, arith, append_assoc, length-append, inl, inr, ◌⊎◌}
+use Rattle.std.proofs.Common.{Ok, Err}
 use Rattle.std.specs.List.{flat_map}
 use Rattle.std.proofs.lemmas.List.{append-nil}
 use Rattle.std.proofs.lemmas.List.Elements.{All-nil}
@@ -27,13 +28,15 @@ none_gave : (gave : List ℕ) (events : List Event) → Asks gave events → eve
 none_gave gave [] asks is = sym asks.gave_is
 none_gave gave (e ∷ events) asks is = absurd cc
 
-join_missing : {a b s : List ℕ} {xs : List Event} (t : List ℕ) (ys : List Event) (due : Due) (first : Takes Nothing s a b xs) → WereMissing due t b ys → WereMissing due (s ++ t) a (xs ++ ys)
+join_missing : {a b s : List ℕ} {xs : List Event} (t : List ℕ) (ys : List Event) (due : Due) (first : Takes Nothing s a b xs) → WereMissing due t b ys
+    → WereMissing due (s ++ t) a (xs ++ ys)
 join_missing {a} {b} {s} {xs} t ys due first (inl none) =
     by first.missing
   where
     by : WereMissing Nothing s a xs → WereMissing due (s ++ t) a (xs ++ ys)
     by (inl empty) = inl (λ i. empty i ++ none i)
-    by (inr (earlier, held, piece, is, asks, inl short)) = inr (earlier, held, piece, (ap (λ (l : List Event). xs ++ l) none ∙ append-nil xs) ∙ is, asks, inl (omega (arith, short, length-append s t)))
+    by (inr (earlier, held, piece, is, asks, inl short)) = inr
+        (earlier, held, piece, (ap (λ (l : List Event). xs ++ l) none ∙ append-nil xs) ∙ is, asks, inl (omega (arith, short, length-append s t)))
     by (inr (earlier, held, piece, is, asks, inr (stood, same, missing))) = absurd missing
 join_missing {a} {b} {s} {xs} t ys due first (inr (earlier, held, piece, is, asks, inl short)) =
     inr (
@@ -77,7 +80,8 @@ then_takes {a} {b} {c} {s} {t} {xs} {ys} due first second =
     record {
       gave = first.gave ++ second.gave;
       asks = Asks-append first.asks second.asks;
-      octets = sym (append_assoc a first.gave second.gave) ∙ ap (λ (l : List ℕ). l ++ second.gave) first.octets ∙ append_assoc s b second.gave ∙ ap (λ (l : List ℕ). s ++ l) second.octets ∙ sym (append_assoc s t c);
+      octets = sym (append_assoc a first.gave second.gave) ∙ ap (λ (l : List ℕ). l ++ second.gave) first.octets ∙ append_assoc s b second.gave
+          ∙ ap (λ (l : List ℕ). s ++ l) second.octets ∙ sym (append_assoc s t c);
       missing = join_missing t ys due first second.missing;
       few = join_few due first second;
     }
@@ -96,11 +100,14 @@ then_ends error.Memory due rest xs ys earlier (inl is) = inl (ap (λ (l : List E
 then_ends error.Memory due rest xs ys earlier (inr ended) = inr (then_inside due rest xs ys earlier ended)
 
 -- a text, and then an error
-pub then_breaks : {a b c s : List ℕ} {xs : List Event} {e : HttpError} (ys : List Event) (C D : Due → List ℕ → List ℕ → HttpError → Type 0) → Takes Nothing s a b xs → Breaks C b c e ys → ((due : Due) (text : List ℕ) → C due text c e → D due (s ++ text) c e) → Breaks D a c e (xs ++ ys)
-then_breaks {c = c} {s = s} {xs = xs} {e = e} ys C D first (due, text, earlier, takes, ends, so) cause = (due, s ++ text, xs ++ earlier, then_takes due first takes, then_ends e due c xs ys earlier ends, cause due text so)
+pub then_breaks : {a b c s : List ℕ} {xs : List Event} {e : HttpError} (ys : List Event) (C D : Due → List ℕ → List ℕ → HttpError → Type 0) → Takes Nothing s a b xs
+    → Breaks C b c e ys → ((due : Due) (text : List ℕ) → C due text c e → D due (s ++ text) c e) → Breaks D a c e (xs ++ ys)
+then_breaks {c = c} {s = s} {xs = xs} {e = e} ys C D first (due, text, earlier, takes, ends, so) cause =
+    (due, s ++ text, xs ++ earlier, then_takes due first takes, then_ends e due c xs ys earlier ends, cause due text so)
 
 -- one piece more, where something was missing
-pub one_more : {before now : List ℕ} {xs : List Event} (ys : List Event) (due : Due) (after : List ℕ) (came : Bool) → came ≡ true → Takes due [] before now xs → IsMissing due now → Fills now after (Ok came) ys → length after ≤ most due → Takes due [] before after (xs ++ ys)
+pub one_more : {before now : List ℕ} {xs : List Event} (ys : List Event) (due : Due) (after : List ℕ) (came : Bool) → came ≡ true → Takes due [] before now xs → IsMissing due now
+    → Fills now after (Ok came) ys → length after ≤ most due → Takes due [] before after (xs ++ ys)
 one_more ys due after false is takes missing fills few = absurd cc
 one_more {before} {now} {xs} ys due after true is takes missing (piece, one, grew) few =
     record {
@@ -112,7 +119,8 @@ one_more {before} {now} {xs} ys due after true is takes missing (piece, one, gre
     }
 
 -- the client ended its input
-pub input_ended : {before now : List ℕ} {xs : List Event} (ys : List Event) (due : Due) (after : List ℕ) (came : Bool) → came ≡ false → Takes due [] before now xs → IsMissing due now → Fills now after (Ok came) ys → Takes due [] before after xs × EndedInside due after (xs ++ ys) xs
+pub input_ended : {before now : List ℕ} {xs : List Event} (ys : List Event) (due : Due) (after : List ℕ) (came : Bool) → came ≡ false → Takes due [] before now xs
+    → IsMissing due now → Fills now after (Ok came) ys → Takes due [] before after xs × EndedInside due after (xs ++ ys) xs
 input_ended ys due after true is takes missing fills = absurd cc
 input_ended {before} {now} {xs} ys due after false is takes missing (one, same) = (
   subst (λ (l : List ℕ). Takes due [] before l xs) (sym same) takes,
@@ -123,7 +131,8 @@ input_ended {before} {now} {xs} ys due after false is takes missing (one, same) 
 abbrev pub FillStops : Due → List ℕ → List ℕ → HttpError → List Event → Type 0
 FillStops due before after e events = (earlier : List Event) × Takes due [] before after earlier × EndsBy e due after events earlier × IsOutside e
 
-pub not_filled : {before now : List ℕ} {xs : List Event} (ys : List Event) (due : Due) (after : List ℕ) (e : HttpError) → Takes due [] before now xs → IsMissing due now → Fills now after (Err e) ys → FillStops due before after e (xs ++ ys)
+pub not_filled : {before now : List ℕ} {xs : List Event} (ys : List Event) (due : Due) (after : List ℕ) (e : HttpError) → Takes due [] before now xs → IsMissing due now
+    → Fills now after (Err e) ys → FillStops due before after e (xs ++ ys)
 not_filled ys due after error.BadHead takes missing fills = absurd fills
 not_filled ys due after error.HeadTooLarge takes missing fills = absurd fills
 not_filled ys due after (error.TooLarge limit) takes missing fills = absurd fills
@@ -141,8 +150,9 @@ not_filled {before} {now} {xs} ys due after error.Memory takes missing (none, sa
   tt,
 )
 
--- so many octets came, and they are taken
-pub octets_taken : {before now : List ℕ} {es : List Event} (size : ℕ) (text after : List ℕ) → Takes (Octets size) [] before now es → now ≡ text ++ after → length text ≡ size → Takes Nothing text before after es
+-- n octets came, and they are taken
+pub octets_taken : {before now : List ℕ} {es : List Event} (size : ℕ) (text after : List ℕ) → Takes (Octets size) [] before now es → now ≡ text ++ after → length text ≡ size
+    → Takes Nothing text before after es
 octets_taken {before} {now} {es} size text after takes whole long =
     record {
       gave = takes.gave;
@@ -167,12 +177,14 @@ begins_other [] stood after piece e = inr (stood, refl)
 begins_other (c ∷ text) [] after piece e = inl (omega arith)
 begins_other (c ∷ text) (d ∷ stood) after piece e = more (begins_other text stood after piece cc) cc
   where
-    more : (length stood < length text) ⊎ ((rest : List ℕ) × (stood ≡ text ++ rest)) → c ≡ d → (length (d ∷ stood) < length (c ∷ text)) ⊎ ((rest : List ℕ) × (d ∷ stood ≡ (c ∷ text) ++ rest))
+    more : (length stood < length text) ⊎ ((rest : List ℕ) × (stood ≡ text ++ rest)) → c ≡ d → (length (d ∷ stood) < length (c ∷ text))
+        ⊎ ((rest : List ℕ) × (d ∷ stood ≡ (c ∷ text) ++ rest))
     more (inl short) same = inl (omega (arith, short))
     more (inr (rest, is)) same = inr (rest, λ i. sym same i ∷ is i)
 
 -- lines came, and they are taken
-pub lines_taken : {before now : List ℕ} {es : List Event} (lines : Lines) (text after : List ℕ) → Takes (LinesOf lines) [] before now es → now ≡ text ++ after → ((rest : List ℕ) → HaveEnd lines (text ++ rest)) → Takes Nothing text before after es
+pub lines_taken : {before now : List ℕ} {es : List Event} (lines : Lines) (text after : List ℕ) → Takes (LinesOf lines) [] before now es → now ≡ text ++ after
+    → ((rest : List ℕ) → HaveEnd lines (text ++ rest)) → Takes Nothing text before after es
 lines_taken {before} {now} {es} lines text after takes whole ends =
     record {
       gave = takes.gave;
@@ -182,7 +194,8 @@ lines_taken {before} {now} {es} lines text after takes whole ends =
       few = left takes.few;
     }
   where
-    shorter : (held stood piece : List ℕ) → before ++ held ≡ stood → (HaveEnd lines stood → ⊥) → (length stood < length text) ⊎ ((rest : List ℕ) × (stood ≡ text ++ rest)) → length (before ++ held) < length text
+    shorter : (held stood piece : List ℕ) → before ++ held ≡ stood → (HaveEnd lines stood → ⊥) → (length stood < length text) ⊎ ((rest : List ℕ) × (stood ≡ text ++ rest))
+        → length (before ++ held) < length text
     shorter held stood piece same no_end (inl short) = omega (arith, ap length same, short)
     shorter held stood piece same no_end (inr (rest, is)) = absurd (no_end (subst (HaveEnd lines) (sym is) (ends rest)))
 
@@ -191,7 +204,8 @@ lines_taken {before} {now} {es} lines text after takes whole ends =
     were (inr (earlier, held, piece, is, asks, inl short)) = absurd (omega (arith, short))
     were (inr (earlier, held, piece, is, asks, inr (stood, same, (no_end, short)))) =
         let gave : takes.gave ≡ held ++ piece = sym takes.asks.gave_is ∙ ap (flat_map client_gave_in) is ∙ (Asks-append asks (Asks-one piece)).gave_is in
-        let all : text ++ after ≡ stood ++ piece = sym whole ∙ sym takes.octets ∙ ap (λ (l : List ℕ). before ++ l) gave ∙ sym (append_assoc before held piece) ∙ ap (λ (l : List ℕ). l ++ piece) same in
+        let all : text ++ after ≡ stood ++ piece = sym whole ∙ sym takes.octets ∙ ap (λ (l : List ℕ). before ++ l) gave ∙ sym (append_assoc before held piece)
+        ∙ ap (λ (l : List ℕ). l ++ piece) same in
         inr (earlier, held, piece, is, asks, inl (shorter held stood piece same no_end (begins_other text stood after piece all)))
 
     left : (es ≡ []) ⊎ (length now ≤ MAX_HEAD_OCTETS) → (es ≡ []) ⊎ (length after ≤ MAX_HEAD_OCTETS)

@@ -21,10 +21,12 @@ not_without_room target short rest h = omega (arith, short, ap length (scheme_pa
 pub not_without_sign : (target : List ℕ) → take 3 (back is_scheme_octet target) ≢ codes "://" → (rest : List ℕ) → HasScheme target rest → ⊥
 not_without_sign target other rest h = other (ap (take 3) (scheme_parts target rest h).1)
 
-pub has_scheme : (target : List ℕ) → BeginsWithLetter (front is_scheme_octet target) → take 3 (back is_scheme_octet target) ≡ codes "://" → HasScheme target (drop 3 (back is_scheme_octet target))
+pub has_scheme : (target : List ℕ) → BeginsWithLetter (front is_scheme_octet target) → take 3 (back is_scheme_octet target) ≡ codes "://"
+    → HasScheme target (drop 3 (back is_scheme_octet target))
 has_scheme target begins sign = (
   front is_scheme_octet target,
-  front_back is_scheme_octet target ∙ ap (λ (l : List ℕ). front is_scheme_octet target ++ l) (sym (take-append-drop 3 (back is_scheme_octet target)) ∙ ap (λ (l : List ℕ). l ++ drop 3 (back is_scheme_octet target)) sign),
+  front_back is_scheme_octet target ∙ ap (λ (l : List ℕ). front is_scheme_octet target ++ l)
+      (sym (take-append-drop 3 (back is_scheme_octet target)) ∙ ap (λ (l : List ℕ). l ++ drop 3 (back is_scheme_octet target)) sign),
   begins,
   front_each is_scheme_octet target,
 )

@@ -69,7 +69,9 @@ IsHeadText text head = (h : RequestHead) × IsRequestHead h × (text ≡ print_r
 -- whatever follows, no head begins the octets, and they aren't cut inside a target; or one does whose fields tell no length
 -- of the body
 abbrev pub IsMalformed : List ℕ → Type 0
-IsMalformed octets = (NeverHasRequest octets × (EndsInTarget octets → ⊥)) ⊎ ((h : RequestHead) × (rest : List ℕ) × ReadsRequest octets h rest × HasNoBody (map name_and_value h.fields))
+IsMalformed octets =
+    (NeverHasRequest octets × (EndsInTarget octets → ⊥))
+    ⊎ ((h : RequestHead) × (rest : List ℕ) × ReadsRequest octets h rest × HasNoBody (map name_and_value h.fields))
 
 -- no head begins the octets, and one may where others follow
 abbrev pub IsIncomplete : List ℕ → Type 0

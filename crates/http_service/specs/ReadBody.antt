@@ -11,11 +11,11 @@ use Rattle.http_service.specs.declared.error.HttpError.TheVariants.{TooLarge, Fr
 use Rattle.http_service.specs.Taking.{Due, Nothing, Takes, Breaks}
 use Rattle.http_service.specs.ReadChunked.{DataStops, ReadsChunks}
 
--- why a body of so many octets isn't read, where this was taken
+-- why a body of n octets isn't read, where this was taken
 abbrev pub LengthStops : ℕ → Due → List ℕ → HttpError → Type 0
 LengthStops size due text e = ((text ≡ []) × DataStops size due e) ⊎ ((length text ≡ size) × (due ≡ Nothing) × (e ≡ Memory))
 
--- The body is so many octets. None after them were asked for.
+-- The body is n octets. None after them were asked for.
 abbrev pub ReadsLength : ℕ → List ℕ → List ℕ → Result (List ℕ) HttpError → List Event → Type 0
 ReadsLength size before after (Ok body) events = Takes Nothing body before after events × (length body ≡ size) × ((events ≡ []) ⊎ (after ≡ []))
 ReadsLength size before after (Err e) events = Breaks (λ due text rest e. LengthStops size due text e) before after e events

@@ -42,27 +42,30 @@ OctetStops octet due octets FrontFault = due ≡ Octets 1
 OctetStops octet due octets Memory = due ≡ Octets 1
 OctetStops octet due octets _ = ⊥
 
--- why so many octets of data aren't read
+-- why n octets of data aren't read
 abbrev pub DataStops : ℕ → Due → HttpError → Type 0
 DataStops size due Short = due ≡ Octets size
 DataStops size due FrontFault = due ≡ Octets size
 DataStops size due Memory = due ≡ Octets size
 DataStops size due _ = ⊥
 
--- Why a chunk's data of so many octets and the line end after it aren't read, where this was read of them.
+-- Why a chunk's data of n octets and the line end after it aren't read, where this was read of them.
 pub data ChunkStops (size : ℕ) (due : Due) (started rest : List ℕ) (e : HttpError) : Type 0 where
   InData : started ≡ [] → DataStops size due e → ChunkStops size due started rest e
   AtReturn : length started ≡ size → OctetStops carriage_return due rest e → ChunkStops size due started rest e
-  AtFeed : (octets : List ℕ) → started ≡ octets ++ carriage_return ∷ [] → length octets ≡ size → OctetStops line_feed due rest e → ChunkStops size due started rest e
+  AtFeed : (octets : List ℕ) → started ≡ octets ++ carriage_return ∷ [] → length octets ≡ size → OctetStops line_feed due rest e
+      → ChunkStops size due started rest e
 
 -- Why a body isn't read after whole chunks with this content, where this was read after them. A chunk that would pass the
 -- limit is refused at its line.
 pub data BodyStops (limit : ℕ) (body : List ℕ) (due : Due) (started rest : List ℕ) (e : HttpError) : Type 0 where
   AtLine : started ≡ [] → LineStops due rest e → BodyStops limit body due started rest e
   AtLimit : (size : ℕ) → IsLine started size → limit < length body + size → due ≡ Nothing → e ≡ TooLarge limit → BodyStops limit body due started rest e
-  InChunk : (line more : List ℕ) (size : ℕ) → started ≡ line ++ more → IsLine line size → 0 < size → length body + size ≤ limit → ChunkStops size due more rest e → BodyStops limit body due started rest e
+  InChunk : (line more : List ℕ) (size : ℕ) → started ≡ line ++ more → IsLine line size → 0 < size → length body + size ≤ limit
+      → ChunkStops size due more rest e → BodyStops limit body due started rest e
   AtTrailer : IsLine started 0 → TrailerStops due rest e → BodyStops limit body due started rest e
-  AtEnd : (line trailer : List ℕ) → started ≡ line ++ trailer → IsLine line 0 → IsTrailer trailer → due ≡ Nothing → e ≡ Memory → BodyStops limit body due started rest e
+  AtEnd : (line trailer : List ℕ) → started ≡ line ++ trailer → IsLine line 0 → IsTrailer trailer → due ≡ Nothing → e ≡ Memory
+      → BodyStops limit body due started rest e
 
 -- the same, in all that was read
 abbrev pub ChunksStop : ℕ → Due → List ℕ → List ℕ → HttpError → Type 0

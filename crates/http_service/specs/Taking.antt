@@ -26,7 +26,7 @@ HaveEnd Trailer octets =
 abbrev pub window : List ℕ → List ℕ
 window octets = take MAX_HEAD_OCTETS octets
 
--- what is due after the octets that were taken: nothing more, so many octets, or lines of at most `MAX_HEAD_OCTETS`
+-- what is due after the octets that were taken: nothing more, n octets, or lines of at most `MAX_HEAD_OCTETS`
 pub data Due : Type 0 where
   Nothing : Due
   Octets : ℕ → Due

@@ -26,7 +26,7 @@ fn read_octet<F: Front>(front: &mut F, spare: &mut Unread, octet: u8) -> Result<
     Ok(())
 }
 
-// Reads so many octets of data, and adds them to the body.
+// Reads n octets of data, and adds them to the body.
 fn read_data<F: Front>(
     front: &mut F,
     spare: &mut Unread,
@@ -64,7 +64,7 @@ fn read_chunk<F: Front>(
     read_octet(front, spare, b'\n')
 }
 
-/// Reads a chunked body of at most so many octets.
+/// Reads a chunked body of at most n octets.
 pub(crate) fn read_chunks<F: Front>(
     alloc: Global,
     front: &mut F,

@@ -17,7 +17,7 @@ use std::alloc::{AllocError, Global};
 /// How a body's end is known (RFC 9112 section 6.3).
 #[derive(Clone, Copy, Debug, PartialEq, Eq)]
 pub enum BodyKind {
-    /// So many octets.
+    /// This many octets.
     Length(u64),
     /// Chunks up to one of size 0.
     Chunked,
@@ -99,7 +99,7 @@ fn head_of(
     })
 }
 
-// Room for the fields of a head of so many octets: each takes two at least.
+// Room for the fields of a head of n octets: each takes two at least.
 pub(crate) fn room(alloc: Global, octets: usize) -> Result<Vec<HeaderSpan>, AllocError>
     ensures { IfOk result (λ fields. octets ≤ 2 * vec_len fields) }
 {

@@ -125,19 +125,19 @@ const TRAILER_FRONT: &[u8] = b"A: ";
 
 const TRAILER_BACK: &[u8] = b"\r\n\r\n";
 
-/// A text of so many octets, between these.
+/// A text of n octets, between these.
 fn filled(alloc: Global, front: &[u8], back: &[u8], size: usize) -> Result<Vec<u8>, Fail> {
     let filler = vec![in alloc; b'x'; size.saturating_sub(front.len() + back.len())]?;
     Ok(joined(alloc, &[front, filler.as_slice(), back])?)
 }
 
-/// A body of one octet whose chunk's line has so many octets.
+/// A body of one octet whose chunk's line has n octets.
 fn with_line(alloc: Global, size: usize) -> Result<Vec<u8>, Fail> {
     let line = filled(alloc, LINE_FRONT, LINE_BACK, size)?;
     Ok(joined(alloc, &[&line, b"z\r\n0\r\n\r\n"])?)
 }
 
-/// An empty body whose trailer section has so many octets.
+/// An empty body whose trailer section has n octets.
 fn with_trailer(alloc: Global, size: usize) -> Result<Vec<u8>, Fail> {
     let trailer = filled(alloc, TRAILER_FRONT, TRAILER_BACK, size)?;
     Ok(joined(alloc, &[b"0\r\n", &trailer])?)

@@ -253,7 +253,7 @@ const LONG_FRONT: &[u8] = b"GET / HTTP/1.1\r\nX: ";
 
 const LONG_BACK: &[u8] = b"\r\n\r\n";
 
-/// A head of so many octets.
+/// A head of n octets.
 fn long_head(alloc: Global, size: usize) -> Result<Vec<u8>, AllocError> {
     let filled = size.saturating_sub(LONG_FRONT.len() + LONG_BACK.len());
     let filler = vec![in alloc; b'x'; filled]?;

@@ -1,7 +1,9 @@
 -- What is read from the octets that came.
 use Rattle.std.specs.Prelude.{◌≡◌, ◌⊎◌, ◌++◌, ℕ, List, length, drop, map, All, Option, Some, None, Result, Ok, Err, ⊤}
 use Rattle.httparse.specs.Spans.{name_and_value}
-use Rattle.httparse.specs.Grammar.{RequestHead, ReadsRequest, NeverHasRequest, ChunkLine, IsChunkLine, print_chunk_line, chunk_size, HasNoChunkLine, NeverHasChunkLine, MayBecomeChunkLine, Field, IsField, LineEnd, print_section, HasNoSection, NeverHasSection, MayBecomeSection}
+use Rattle.httparse.specs.Grammar.{RequestHead, ReadsRequest, NeverHasRequest, ChunkLine, IsChunkLine, print_chunk_line, chunk_size, HasNoChunkLine}
+use Rattle.httparse.specs.Grammar.{NeverHasChunkLine, MayBecomeChunkLine, Field, IsField}
+use Rattle.httparse.specs.Grammar.{LineEnd, print_section, HasNoSection, NeverHasSection, MayBecomeSection}
 use Rattle.http_service.specs.declared.head.Head.{Head}
 use Rattle.http_service.specs.declared.error.HttpError.{HttpError}
 use Rattle.http_service.specs.declared.error.HttpError.TheVariants.{BadHead, Memory}
@@ -14,7 +16,7 @@ MakesHead method target minor fields (Err BadHead) = HasNoBody fields
 MakesHead method target minor fields (Err Memory) = ⊤
 MakesHead method target minor fields (Err _) = ⊥
 
--- so many octets at the front are such a text
+-- n octets at the front are such a text
 abbrev pub IsAtFront : (List ℕ → Type 0) → List ℕ → ℕ → Type 0
 IsAtFront IsText octets n = (text : List ℕ) × IsText text × (octets ≡ text ++ drop n octets) × (n ≡ length text)
 
@@ -47,7 +49,8 @@ ParsesLine octets (Err _) = ⊥
 
 -- the same of a trailer section
 abbrev pub ParsesTrailer : List ℕ → Result (Option ℕ) HttpError → Type 0
-ParsesTrailer octets (Ok (Some n)) = IsAtFront (λ text. (fields : List Field) × (last : LineEnd) × All IsField fields × (text ≡ print_section fields last)) octets n
+ParsesTrailer octets (Ok (Some n)) = IsAtFront (λ text. (fields : List Field) × (last : LineEnd) × All IsField fields
+    × (text ≡ print_section fields last)) octets n
 ParsesTrailer octets (Ok None) = HasNoSection octets × MayBecomeSection octets
 ParsesTrailer octets (Err BadHead) = NeverHasSection octets
 ParsesTrailer octets (Err Memory) = ⊤

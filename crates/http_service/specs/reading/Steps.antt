@@ -24,7 +24,7 @@ Fills before after (Err FrontFault) events = (events ≡ FrontFailed ∷ []) × 
 Fills before after (Err Memory) events = (events ≡ []) × (after ≡ before)
 Fills before after (Err _) events = ⊥
 
--- so many octets more, at most
+-- n octets more, at most
 abbrev pub Grows : List ℕ → List ℕ → ℕ → Result Bool HttpError → Type 0
 Grows before after most (Ok true) = (piece : List ℕ) × (after ≡ before ++ piece) × (0 < length piece) × (length piece ≤ most)
 Grows before after most (Ok false) = after ≡ before
@@ -50,7 +50,8 @@ IsOutside _ = ⊥
 -- lines stand at the front, as far as their last line end, or as far as they may be read
 abbrev pub ReadsLines : Lines → List ℕ → List ℕ → Result Stop HttpError → List Event → Type 0
 ReadsLines lines before after (Ok at) events = (earlier : List Event) × Takes (LinesOf lines) [] before after earlier × StopsAt lines at after events earlier
-ReadsLines lines before after (Err e) events = (earlier : List Event) × Takes (LinesOf lines) [] before after earlier × EndsBy e (LinesOf lines) after events earlier × IsOutside e
+ReadsLines lines before after (Err e) events = (earlier : List Event) × Takes (LinesOf lines) [] before after earlier
+    × EndsBy e (LinesOf lines) after events earlier × IsOutside e
 
 abbrev pub NoLine : Due → List ℕ → List ℕ → HttpError → Type 0
 NoLine due text rest e = (text ≡ []) × LineStops due rest e
@@ -66,10 +67,11 @@ abbrev pub ReadsTrailer : List ℕ → List ℕ → Result (Unit {0}) HttpError 
 ReadsTrailer before after (Ok _) events = (text : List ℕ) × Takes Nothing text before after events × IsTrailer text
 ReadsTrailer before after (Err e) events = Breaks NoTrailer before after e events
 
--- so many octets stand there, and no more of them than that were asked for
+-- n octets stand there, and no more of them than that were asked for
 abbrev pub FillsTo : ℕ → List ℕ → List ℕ → Result (Unit {0}) HttpError → List Event → Type 0
 FillsTo size before after (Ok _) events = Takes (Octets size) [] before after events × (size ≤ length after) × ((events ≡ []) ⊎ (length after ≤ size))
-FillsTo size before after (Err e) events = (earlier : List Event) × Takes (Octets size) [] before after earlier × EndsBy e (Octets size) after events earlier × DataStops size (Octets size) e
+FillsTo size before after (Err e) events = (earlier : List Event) × Takes (Octets size) [] before after earlier × EndsBy e (Octets size) after events earlier
+    × DataStops size (Octets size) e
 
 abbrev pub NoOctet : ℕ → Due → List ℕ → List ℕ → HttpError → Type 0
 NoOctet octet due text rest e = (text ≡ []) × OctetStops octet due rest e
@@ -83,12 +85,14 @@ NoData size due text rest e = (text ≡ []) × DataStops size due e
 
 -- the data stands after what was kept before
 abbrev pub ReadsData : ℕ → List ℕ → List ℕ → List ℕ → List ℕ → Result (Unit {0}) HttpError → List Event → Type 0
-ReadsData size kept keeps before after (Ok _) events = (octets : List ℕ) × Takes Nothing octets before after events × (length octets ≡ size) × (keeps ≡ kept ++ octets)
+ReadsData size kept keeps before after (Ok _) events = (octets : List ℕ) × Takes Nothing octets before after events × (length octets ≡ size)
+    × (keeps ≡ kept ++ octets)
 ReadsData size kept keeps before after (Err e) events = Breaks (NoData size) before after e events
 
 -- the same, and the line end after it
 abbrev pub ReadsChunk : ℕ → List ℕ → List ℕ → List ℕ → List ℕ → Result (Unit {0}) HttpError → List Event → Type 0
-ReadsChunk size kept keeps before after (Ok _) events = (octets : List ℕ) × Takes Nothing (octets ++ crlf_bytes) before after events × (length octets ≡ size) × (keeps ≡ kept ++ octets)
+ReadsChunk size kept keeps before after (Ok _) events = (octets : List ℕ) × Takes Nothing (octets ++ crlf_bytes) before after events × (length octets ≡ size)
+    × (keeps ≡ kept ++ octets)
 ReadsChunk size kept keeps before after (Err e) events = Breaks (ChunkStops size) before after e events
 
 -- the client is told to go on, where it waits for that

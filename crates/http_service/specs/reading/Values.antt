@@ -17,7 +17,7 @@ AreValues octets (value ∷ other ∷ more) Absent = ⊥
 AreValues octets (value ∷ other ∷ more) (Only span) = ⊥
 AreValues octets (value ∷ other ∷ more) (Several span) = span_bytes octets span ≡ value
 
--- what is kept of them lies in so many octets
+-- what is kept of them lies in n octets
 abbrev pub AreWithin : ℕ → Values → Type 0
 AreWithin n Absent = ⊤
 AreWithin n (Only span) = IsWithin n span

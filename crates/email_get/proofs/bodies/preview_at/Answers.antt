@@ -3,7 +3,7 @@ use Rattle.std.proofs.Math.ListN.{drop_of_length-le}
 use Rattle.std.proofs.lemmas.Result.{IfOk-weaker}
 use Rattle.mime_tree.specs.Roles.{is_plain}
 use Rattle.email_get.specs.EmailObjects.{IsPreview}
-use Rattle.email_get.specs.LeafLists.{parts_of, parts_at}
+use Rattle.email_get.specs.reading.LeafLists.{parts_of, parts_at}
 use Rattle.email_get.proofs.ListLemmas.{within_at, no_leaf_here, no_plain_here, plain_here}
 use Rattle.email_get.proofs.bodies.preview_at.Goals as goal
 use Rattle.email_get.proofs.bodies.preview_at.Goals.{in-Some+else-is_plain, in-None}

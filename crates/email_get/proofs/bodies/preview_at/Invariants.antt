@@ -1,6 +1,6 @@
 use Rattle.std.proofs.Common.{ℕ, List, drop}
 use Rattle.email_get.specs.EmailObjects.{IsPreview}
-use Rattle.email_get.specs.LeafLists.{parts_of, parts_at}
+use Rattle.email_get.specs.reading.LeafLists.{parts_of, parts_at}
 use Rattle.email_get.proofs.bodies.preview_at.Given as goal
 
 -- none of the leaves so far is a plain text

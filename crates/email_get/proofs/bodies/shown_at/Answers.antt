@@ -1,7 +1,7 @@
 use Rattle.std.proofs.Common.{ℕ, List, map, subst, refl}
 use Rattle.serde_json.specs.View.{view}
 use Rattle.email_get.specs.EmailObjects.{AreObjects, IsPreview}
-use Rattle.email_get.specs.LeafLists.{parts_of, parts_at}
+use Rattle.email_get.specs.reading.LeafLists.{parts_of, parts_at}
 use Rattle.email_get.proofs.bodies.shown_at.Goals as goal
 
 pub returns : goal.returns

@@ -11,4 +11,5 @@ returns-in_err-from_vec-clause-tape g c =
 
 pub returns-clause-tape : goal.returns-clause-tape
 returns-clause-tape g c =
-    widen _ c.in_ok-fill_to.ensures.tape (λ es fills. length_read es c.args.size c.take_octets.new.spare c.in_ok-from_vec.field-0 fills c.in_ok-body.ensures.rest (c.in_ok-from_vec.ensures ∙ c.in_ok-body.ensures.taken))
+    widen _ c.in_ok-fill_to.ensures.tape (λ es fills. length_read es c.args.size c.take_octets.new.spare c.in_ok-from_vec.field-0 fills c.in_ok-body.ensures.rest
+    (c.in_ok-from_vec.ensures ∙ c.in_ok-body.ensures.taken))

@@ -16,7 +16,8 @@ pub returns-in-Some : goal.returns-in-Some
 returns-in-Some c = (
   λ is.
       let so = c.begins_target.ensures.0 is in
-      in_target c.args.octets.now c.after_blank_lines.result.now c.in-Some.target.now c.after_blank_lines.ensures (sym c.cut.ensures.back ∙ c.in-Some.ensures) (λ none. so.0 (c.cut.ensures.front ∙ none)) so.1,
+      let octets = sym c.cut.ensures.back ∙ c.in-Some.ensures in
+      in_target c.args.octets.now c.after_blank_lines.result.now c.in-Some.target.now c.after_blank_lines.ensures octets (λ none. so.0 (c.cut.ensures.front ∙ none)) so.1,
   λ inside.
       let parts = target_parts c.args.octets.now c.after_blank_lines.result.now c.after_blank_lines.ensures inside in
       let same = same_tail parts.0 c.in-Some.target.now (sym parts.1 ∙ sym c.cut.ensures.back ∙ c.in-Some.ensures) in

@@ -25,7 +25,8 @@ returns-in_err-length-clause-tape g c =
 pub skip-requires : goal.skip-requires
 skip-requires g c =
     let here = c.window.ensures ∙ ap window c.as_slice.ensures in
-    let parses = subst (λ (l : List ℕ). ParsesLine l (Ok (Some (c.in-Some.length, c.in-Some.size)))) here (subst (λ (r : Option (ℕ × ℕ)). ParsesLine c.window.result.now (Ok r)) c.in-Some.is c.in_ok-length.ensures) in
+    let parses = subst (λ (l : List ℕ). ParsesLine l (Ok (Some (c.in-Some.length, c.in-Some.size)))) here
+    (subst (λ (r : Option (ℕ × ℕ)). ParsesLine c.window.result.now (Ok r)) c.in-Some.is c.in_ok-length.ensures) in
     (line_found c.read_lines.new.spare c.in-Some.length c.in-Some.size parses).3
 
 pub unreachable-requires : goal.unreachable-requires
@@ -38,7 +39,8 @@ unreachable-requires g c =
 pub returns-in-Some-clause-tape : goal.returns-in-Some-clause-tape
 returns-in-Some-clause-tape g c =
     let here = c.window.ensures ∙ ap window c.as_slice.ensures in
-    let parses = subst (λ (l : List ℕ). ParsesLine l (Ok (Some (c.in-Some.length, c.in-Some.size)))) here (subst (λ (r : Option (ℕ × ℕ)). ParsesLine c.window.result.now (Ok r)) c.in-Some.is c.in_ok-length.ensures) in
+    let parses = subst (λ (l : List ℕ). ParsesLine l (Ok (Some (c.in-Some.length, c.in-Some.size)))) here
+    (subst (λ (r : Option (ℕ × ℕ)). ParsesLine c.window.result.now (Ok r)) c.in-Some.is c.in_ok-length.ensures) in
     let found = line_found c.read_lines.new.spare c.in-Some.length c.in-Some.size parses in
     let whole = found.1 ∙ ap (λ (l : List ℕ). found.0 ++ l) (sym c.skip.ensures) in
     widen _ c.in_ok-stop.ensures.tape (λ es reads. (found.0, lines_read lines.ChunkLine c.in_ok-stop.stop found.0 c.skip.new.self reads whole found.4, found.2))
@@ -48,10 +50,12 @@ returns-in-Full-clause-tape g c =
     let here = c.window.ensures ∙ ap window c.as_slice.ensures in
     let none = subst (λ (l : List ℕ). ParsesLine l (Ok None)) here (subst (λ (r : Option (ℕ × ℕ)). ParsesLine c.window.result.now (Ok r)) c.in-None.is c.in_ok-length.ensures) in
     let full = subst (λ (s : Stop). IsStopped lines.ChunkLine s c.read_lines.new.spare) c.in-Full.is c.in_ok-stop.ensures.stop in
-    widen _ c.in_ok-stop.ensures.tape (λ es reads. line_full (subst (λ (s : Stop). ReadsLines lines.ChunkLine c.args.spare.now c.read_lines.new.spare (Ok s) es) c.in-Full.is reads) none.0 full.1)
+    widen _ c.in_ok-stop.ensures.tape (λ es reads. line_full (subst
+    (λ (s : Stop). ReadsLines lines.ChunkLine c.args.spare.now c.read_lines.new.spare (Ok s) es) c.in-Full.is reads) none.0 full.1)
 
 pub returns-in-Closed-clause-tape : goal.returns-in-Closed-clause-tape
 returns-in-Closed-clause-tape g c =
     let here = c.window.ensures ∙ ap window c.as_slice.ensures in
     let none = subst (λ (l : List ℕ). ParsesLine l (Ok None)) here (subst (λ (r : Option (ℕ × ℕ)). ParsesLine c.window.result.now (Ok r)) c.in-None.is c.in_ok-length.ensures) in
-    widen _ c.in_ok-stop.ensures.tape (λ es reads. line_short (subst (λ (s : Stop). ReadsLines lines.ChunkLine c.args.spare.now c.read_lines.new.spare (Ok s) es) c.in-Closed.is reads) none)
+    widen _ c.in_ok-stop.ensures.tape (λ es reads. line_short
+    (subst (λ (s : Stop). ReadsLines lines.ChunkLine c.args.spare.now c.read_lines.new.spare (Ok s) es) c.in-Closed.is reads) none)

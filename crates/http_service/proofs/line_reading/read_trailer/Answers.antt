@@ -25,7 +25,8 @@ returns-in_err-length-clause-tape g c =
 pub skip-requires : goal.skip-requires
 skip-requires g c =
     let here = c.window.ensures ∙ ap window c.as_slice.ensures in
-    let parses = subst (λ (l : List ℕ). ParsesTrailer l (Ok (Some c.in-Some.length))) here (subst (λ (r : Option (ℕ)). ParsesTrailer c.window.result.now (Ok r)) c.in-Some.is c.in_ok-length.ensures) in
+    let parses = subst (λ (l : List ℕ). ParsesTrailer l (Ok (Some c.in-Some.length))) here
+    (subst (λ (r : Option (ℕ)). ParsesTrailer c.window.result.now (Ok r)) c.in-Some.is c.in_ok-length.ensures) in
     (trailer_found c.read_lines.new.spare c.in-Some.length parses).3
 
 pub unreachable-requires : goal.unreachable-requires
@@ -38,7 +39,8 @@ unreachable-requires g c =
 pub returns-in-Some-clause-tape : goal.returns-in-Some-clause-tape
 returns-in-Some-clause-tape g c =
     let here = c.window.ensures ∙ ap window c.as_slice.ensures in
-    let parses = subst (λ (l : List ℕ). ParsesTrailer l (Ok (Some c.in-Some.length))) here (subst (λ (r : Option (ℕ)). ParsesTrailer c.window.result.now (Ok r)) c.in-Some.is c.in_ok-length.ensures) in
+    let parses = subst (λ (l : List ℕ). ParsesTrailer l (Ok (Some c.in-Some.length))) here
+    (subst (λ (r : Option (ℕ)). ParsesTrailer c.window.result.now (Ok r)) c.in-Some.is c.in_ok-length.ensures) in
     let found = trailer_found c.read_lines.new.spare c.in-Some.length parses in
     let whole = found.1 ∙ ap (λ (l : List ℕ). found.0 ++ l) (sym c.skip.ensures) in
     widen _ c.in_ok-stop.ensures.tape (λ es reads. (found.0, lines_read lines.Trailer c.in_ok-stop.stop found.0 c.skip.new.self reads whole found.4, found.2))
@@ -48,10 +50,12 @@ returns-in-Full-clause-tape g c =
     let here = c.window.ensures ∙ ap window c.as_slice.ensures in
     let none = subst (λ (l : List ℕ). ParsesTrailer l (Ok None)) here (subst (λ (r : Option (ℕ)). ParsesTrailer c.window.result.now (Ok r)) c.in-None.is c.in_ok-length.ensures) in
     let full = subst (λ (s : Stop). IsStopped lines.Trailer s c.read_lines.new.spare) c.in-Full.is c.in_ok-stop.ensures.stop in
-    widen _ c.in_ok-stop.ensures.tape (λ es reads. trailer_full (subst (λ (s : Stop). ReadsLines lines.Trailer c.args.spare.now c.read_lines.new.spare (Ok s) es) c.in-Full.is reads) none.0 full.1)
+    widen _ c.in_ok-stop.ensures.tape (λ es reads. trailer_full
+    (subst (λ (s : Stop). ReadsLines lines.Trailer c.args.spare.now c.read_lines.new.spare (Ok s) es) c.in-Full.is reads) none.0 full.1)
 
 pub returns-in-Closed-clause-tape : goal.returns-in-Closed-clause-tape
 returns-in-Closed-clause-tape g c =
     let here = c.window.ensures ∙ ap window c.as_slice.ensures in
     let none = subst (λ (l : List ℕ). ParsesTrailer l (Ok None)) here (subst (λ (r : Option (ℕ)). ParsesTrailer c.window.result.now (Ok r)) c.in-None.is c.in_ok-length.ensures) in
-    widen _ c.in_ok-stop.ensures.tape (λ es reads. trailer_short (subst (λ (s : Stop). ReadsLines lines.Trailer c.args.spare.now c.read_lines.new.spare (Ok s) es) c.in-Closed.is reads) none)
+    widen _ c.in_ok-stop.ensures.tape (λ es reads. trailer_short
+    (subst (λ (s : Stop). ReadsLines lines.Trailer c.args.spare.now c.read_lines.new.spare (Ok s) es) c.in-Closed.is reads) none)

@@ -6,4 +6,5 @@ use Rattle.http_service.proofs.lines.Place.run.Goals as goal
 
 pub loop-octet-preserved : goal.loop-octet-preserved
 loop-octet-preserved c =
-    c.step-place.ensures ∙ ap (λ (p : Place). step p (get_or c.args.octets.now c.loop-octet.octet-index 0)) c.loop-octet.invariant ∙ sym (run_more c.args.self c.args.octets.now c.loop-octet.octet-index c.loop-octet-test.true)
+    c.step-place.ensures ∙ ap (λ (p : Place). step p (get_or c.args.octets.now c.loop-octet.octet-index 0)) c.loop-octet.invariant
+    ∙ sym (run_more c.args.self c.args.octets.now c.loop-octet.octet-index c.loop-octet-test.true)

@@ -1,3 +1,4 @@
+// Headers of ten million octets.
 use crate::long_texts::long;
 use mail_header::fields;
 use std::alloc::Global;

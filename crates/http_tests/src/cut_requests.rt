@@ -1,3 +1,4 @@
+// Requests and their bodies, cut at every octet.
 use gate_world::{Bytes, Front, Script, ScriptWorld};
 use http_service::{HttpError, Spare, read_body, read_head};
 use std::alloc::{AllocError, Global};
@@ -15,7 +16,7 @@ fn world_of(alloc: Global, client: &[u8], piece: usize) -> Result<ScriptWorld, A
     Ok(world)
 }
 
-/// What is read of a head and the body behind it.
+/// What is read of a head and the body after it.
 fn read(alloc: Global, client: &[u8], piece: usize) -> Result<Bytes, HttpError> {
     let mut world = world_of(alloc, client, piece)?;
     let mut spare = Spare::new(alloc);

@@ -1,3 +1,4 @@
+// Texts that are sent and written over a world that fails at a call.
 use gate_world::{Bytes, Event, Link, Script, ScriptWorld, send_all, write_all};
 use std::alloc::{AllocError, Global};
 use std::test::Fail;

@@ -1,3 +1,4 @@
+// Ten million octets through each form of a raw value.
 use crate::long_texts::long;
 use mail_header::{as_addresses, as_date, as_groups, as_message_ids, as_raw, as_text, as_urls};
 use std::alloc::{AllocError, Global};

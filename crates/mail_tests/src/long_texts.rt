@@ -1,3 +1,4 @@
+// Long texts.
 use std::alloc::{AllocError, Global};
 
 /// Ten million octets.
