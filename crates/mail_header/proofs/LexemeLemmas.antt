@@ -157,6 +157,7 @@ pub next_read : (a : Alphabet) (v : Spelled) (more s t : List ℕ) → IsBehindG
 next_read a v more s t b f = record {
   lexemes = sym b.lexemes ∙ lexeme_read a v f.len s f.read (b.begins v f.len f.read) ∙ ap (λ (u : List ℕ). v ∷ lexemes_in a u) (sym f.rest_is);
   rest = sym b.rest ∙ rest_step a v f.len s f.read ∙ ap (rest_in a) (sym f.rest_is);
+  some = λ e. let u = (token_reader a).sound v f.len s f.read in (token_reader a).some v u.unit u.rest u.is (sym u.is.text_is ∙ e);
 }
 
 pub nothing_read : (a : Alphabet) (s t : List ℕ) → IsBehindGaps a s t → spelled_in a s ≡ None → lexemes_in a t ≡ []

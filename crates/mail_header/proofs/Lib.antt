@@ -13,3 +13,5 @@ pub mod GroupLemmas
 pub mod TextLemmas
 pub mod FormLemmas
 pub mod LexemeLemmas
+pub mod PieceLemmas
+pub mod DateLemmas

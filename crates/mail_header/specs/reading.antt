@@ -5,3 +5,4 @@ pub mod LexemeReading
 pub mod ElementReading
 pub mod ElementView
 pub mod GroupBuilding
+pub mod DateReading

@@ -1,28 +1,12 @@
-ghost use Rattle.std.specs.Prelude.{◌≡◌, ◌<◌, ◌≤◌, List, [], length, IfOk, IfSome, IfNone, MatchOption};
+ghost use Rattle.std.specs.Prelude.{◌≡◌, ◌<◌, ◌≤◌, ◌==◌, [], length, IfOk, IfSome, MatchOption};
 ghost use Rattle.mail_header.specs.Lexemes as lexemes;
-ghost use Rattle.mail_header.specs.Tokens.{Spelled, AreTokens};
 ghost use Rattle.mail_header.specs.TokenView.{token_view, tokens_view};
 ghost use Rattle.mail_header.specs.reading.LexemeReading as reading;
 ghost use Rattle.std.specs.List.{filter};
 
 use crate::token::{Alphabet, Kind, Token};
-use crate::tokens::{first_token, leading_tokens, tokens};
+use crate::tokens::{first_token, leading_tokens};
 use std::alloc::{AllocError, Global};
-
-/// The tokens of a value without white space and comments, where the value is a row of tokens.
-pub fn lexemes(
-    alloc: Global,
-    alphabet: Alphabet,
-    text: &[u8],
-) -> Result<Option<Vec<Token<'_>>>, AllocError>
-    ensures some { IfOk result (λ r. IfSome r (λ v. lexemes.AreLexemes alphabet (tokens_view v.items) text.now)) }
-    ensures none { IfOk result (λ r. IfNone r ((ts : List Spelled) → AreTokens alphabet ts text.now → ⊥)) }
-{
-    match tokens(alloc, alphabet, text)? {
-        None => Ok(None),
-        Some(found) => Ok(Some(without_gaps(alloc, found.as_slice())?)),
-    }
-}
 
 /// The tokens at the front of a value without white space and comments, up to what no token begins.
 pub fn leading_lexemes(
@@ -58,6 +42,17 @@ pub fn next_lexeme(alphabet: Alphabet, text: &[u8]) -> Option<(Token<'_>, &[u8])
     ensures shorter { IfSome result (λ r. length r.1.now < length text.now) }
 {
     first_token(alphabet, behind_gaps(alphabet, text))
+}
+
+/// Whether the text is a row of tokens.
+pub fn is_row(alphabet: Alphabet, text: &[u8]) -> bool
+    ensures { result ≡ (length (reading.rest_in alphabet text.now) == 0) }
+{
+    let mut rest = text;
+    while let Some((_, behind)) = first_token(alphabet, rest) {
+        rest = behind;
+    }
+    rest.is_empty()
 }
 
 fn without_gaps<'a>(alloc: Global, found: &[Token<'a>]) -> Result<Vec<Token<'a>>, AllocError>

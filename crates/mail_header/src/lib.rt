@@ -15,6 +15,7 @@ pub mod lines;
 pub(crate) mod mailboxes;
 pub mod moments;
 pub mod names;
+pub mod pieces;
 pub mod raw_forms;
 pub mod token;
 pub(crate) mod token_class;

@@ -175,7 +175,7 @@ fn mark_of(token: &Token<'_>) -> u8
     }
 }
 
-fn first_octet(text: &[u8]) -> u8
+pub(crate) fn first_octet(text: &[u8]) -> u8
     ensures { result ≡ mailboxes.first_octet text.now }
 {
     match text {

@@ -1,5 +1,5 @@
 -- The tokens and the lexemes at the front of a text, as functions on lists.
-use Rattle.std.specs.Prelude.{◌≡◌, ℕ, zero, suc, true, List, [], ◌∷◌, ◌++◌, length, drop, Option, Some, None}
+use Rattle.std.specs.Prelude.{◌≡◌, ◌≢◌, ℕ, zero, suc, true, List, [], ◌∷◌, ◌++◌, length, drop, Option, Some, None}
 use Rattle.std.specs.List.{filter}
 use Rattle.mail_header.specs.declared.token.Alphabet.{Alphabet}
 use Rattle.mail_header.specs.Tokens.{Spelled}
@@ -55,3 +55,4 @@ pub record IsBehindGaps (a : Alphabet) (s t : List ℕ) : Type 0 where
 pub record IsNextLexeme (a : Alphabet) (v : Spelled) (more t : List ℕ) : Type 0 where
   pub lexemes : lexemes_in a t ≡ v ∷ lexemes_in a more
   pub rest : rest_in a t ≡ rest_in a more
+  pub some : v.text ≢ []
