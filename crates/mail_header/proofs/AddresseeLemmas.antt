@@ -9,8 +9,8 @@ use Rattle.mail_header.specs.declared.token.Alphabet.TheVariants as alphabet
 use Rattle.mail_header.specs.Tokens.{Spelled, AreTokens}
 use Rattle.mail_header.specs.reading.TokenReading.{spelled_in}
 use Rattle.mail_header.specs.Mailboxes.{Mailbox}
-use Rattle.mail_header.specs.AddressLists.{Element, Empty, Head, End, Member, IsElement, Addressee, One, Group, AreMailboxes, NoMailboxes, EmptyPlace, NextMailbox, AreAddressees, NoAddressees, Passed, NextOne, NextGroup, IsAddressList, mailboxes_of, Grouped, run_of, groups_from}
-use Rattle.mail_header.specs.reading.ElementReading.{element_in, are_nested, is_addressee, members_of, grouped_from}
+use Rattle.mail_header.specs.AddressLists.{Element, Empty, Head, End, Member, IsElement, Addressee, One, Group, AreMailboxes, NoMailboxes, EmptyPlace, NextMailbox, AreAddressees, NoAddressees, Passed, NextOne, NextGroup, IsAddressList, Grouped, run_of, groups_from}
+use Rattle.mail_header.specs.reading.ElementReading.{element_in, are_nested, is_addressee, grouped_from}
 use Rattle.mail_header.specs.reading.GroupBuilding.{are_list}
 use Rattle.mail_header.proofs.OneToken.{token_reader}
 use Rattle.mail_header.proofs.MailboxLemmas.{and_parts, both}
@@ -37,17 +37,6 @@ has_one _ _ (NextGroup phrase ms inner who es i h) n = refl
 
 pub is_listed : (who : List Addressee) (es : List Element) → AreAddressees who es → who ≢ [] → are_list es ≡ true
 is_listed who es h n = both (are_nested false es) (list_any is_addressee es) (nested who es h) (has_one who es h n)
-
-inner_members : (ms : List Mailbox) (inner es : List Element) → AreMailboxes ms inner → ms ++ members_of es ≡ members_of (inner ++ End ∷ es)
-inner_members _ _ es NoMailboxes = refl
-inner_members _ _ es (EmptyPlace ms inner h) = inner_members ms inner es h
-inner_members _ _ es (NextMailbox m ms inner h) = ap (λ (u : List Mailbox). m ∷ u) (inner_members ms inner es h)
-
-pub members_are : (who : List Addressee) (es : List Element) → AreAddressees who es → mailboxes_of who ≡ members_of es
-members_are _ _ NoAddressees = refl
-members_are _ _ (Passed who es h) = members_are who es h
-members_are _ _ (NextOne m who es h) = ap (λ (u : List Mailbox). m ∷ u) (members_are who es h)
-members_are _ _ (NextGroup phrase ms inner who es i h) = ap (λ (u : List Mailbox). ms ++ u) (members_are who es h) ∙ inner_members ms inner es i
 
 inner_grouped : (phrase : List Spelled) (ms : List Mailbox) (inner es : List Element) → AreMailboxes ms inner → (so_far : List Mailbox) → (Some phrase, so_far ++ ms) ∷ grouped_from None [] es ≡ grouped_from (Some phrase) so_far (inner ++ End ∷ es)
 inner_grouped phrase _ _ es NoMailboxes so_far = ap (λ (u : List Mailbox). (Some phrase, u) ∷ grouped_from None [] es) (append-nil so_far)

@@ -10,11 +10,11 @@ use Rattle.mail_header.specs.declared.token.Alphabet.TheVariants as alphabet
 use Rattle.mail_header.specs.Tokens.{Spelled, AreTokens}
 use Rattle.mail_header.specs.Mailboxes.{Mailbox}
 use Rattle.mail_header.specs.AddressLists.{Element, IsElement, Grouped, IsAddressList}
-use Rattle.mail_header.specs.Names.{IsAddress, IsGroupName, NoName, Named, IsGroup, phrase_text, HasNone, IsAddressesForm, IsGroupsForm}
+use Rattle.mail_header.specs.Names.{IsAddress, IsGroupName, NoName, Named, IsGroup, phrase_text, HasNone, IsGroupsForm}
 use Rattle.mail_header.specs.Names as names
 use Rattle.mail_header.specs.reading.ElementReading.{closed}
-use Rattle.mail_header.specs.reading.GroupBuilding.{Has, group_from, are_list, IsList, IsNoList, AddressesIn, NoAddresses, Addresses, GroupsIn, NoGroups, Groups}
-use Rattle.mail_header.proofs.AddresseeLemmas.{is_listed, members_are, groups_are, listed, one_elements, elements_here}
+use Rattle.mail_header.specs.reading.GroupBuilding.{Has, group_from, are_list, IsList, IsNoList, GroupsIn, NoGroups, Groups}
+use Rattle.mail_header.proofs.AddresseeLemmas.{is_listed, groups_are, listed, one_elements, elements_here}
 
 pub zip_append : {A B : Type 0} (R : A → B → Type 0) (xs us : List A) (ys vs : List B) → AllZip R xs ys → AllZip R us vs → AllZip R (xs ++ us) (ys ++ vs)
 zip_append R [] us [] vs h k = k
@@ -58,12 +58,6 @@ is_list : (raw : List ℕ) (ts : List Spelled) (es : List Element) (a : AreToken
 is_list raw ts es a l =
     let w = listed es l.list in
     record { tokens = ts; are_tokens = a; elements = es; are_elements = l.are; are_addressees = w.addressees; some = w.some }
-
-pub addresses_form : (raw : List ℕ) (ts : List Spelled) (r : Option (List Address)) → AreTokens alphabet.Mail ts (raw_form raw) → AddressesIn ts r → IsAddressesForm raw r
-addresses_form raw ts _ a (NoAddresses n) = names.NoAddresses (no_list raw ts a n)
-addresses_form raw ts _ a (Addresses es list l h) =
-    let w = listed es l.list in
-    names.Addresses w.who list (is_list raw ts es a l) (subst (λ (u : List Mailbox). AllZip IsAddress u list) (sym (members_are w.who es w.addressees)) h)
 
 pub groups_form : (raw : List ℕ) (ts : List Spelled) (r : Option (List Group)) → AreTokens alphabet.Mail ts (raw_form raw) → GroupsIn ts r → IsGroupsForm raw r
 groups_form raw ts _ a (NoGroups n) = names.NoGroups (no_list raw ts a n)

@@ -68,12 +68,6 @@ pub record IsAddressList (who : List Addressee) (t : List ℕ) : Type 0 where
   pub are_addressees : AreAddressees who elements
   pub some : who ≢ []
 
--- the mailboxes, those of groups too
-abbrev pub mailboxes_of : List Addressee → List Mailbox
-mailboxes_of [] = []
-mailboxes_of (One m ∷ who) = m ∷ mailboxes_of who
-mailboxes_of (Group phrase ms ∷ who) = ms ++ mailboxes_of who
-
 -- a group's phrase, and its mailboxes
 abbrev pub Grouped : Type 0
 Grouped = Option (List Spelled) × List Mailbox

@@ -1,6 +1,6 @@
 -- The element at the front of a list of addresses, as functions on lists.
 use Rattle.std.specs.Prelude.{◌≡◌, ℕ, ◌+◌, Bool, true, false, not, ◌&&◌, ◌||◌, if◌then◌else◌, List, [], ◌∷◌, ◌++◌, length, Option, Some, None}
-use Rattle.std.specs.List.{list_all, flat_map}
+use Rattle.std.specs.List.{list_all}
 use Rattle.text_words.specs.Cuts.{front, back}
 use Rattle.mail_header.specs.Tokens.{Spelled}
 use Rattle.mail_header.specs.Mailboxes.{has_mark, is_gap, is_phrase, is_display_name, is_addr_spec, is_inner, behind_route, are_hops, Mailbox}
@@ -110,16 +110,6 @@ is_addressee Empty = false
 is_addressee (Head phrase) = true
 is_addressee End = false
 is_addressee (Member m) = true
-
-abbrev pub member_of : Element → List Mailbox
-member_of Empty = []
-member_of (Head phrase) = []
-member_of End = []
-member_of (Member m) = m ∷ []
-
--- the mailboxes among the elements
-abbrev pub members_of : List Element → List Mailbox
-members_of es = flat_map member_of es
 
 -- what a group or a run of mailboxes outside one comes to
 abbrev pub closed : Option (List Spelled) → List Mailbox → List Grouped

@@ -9,13 +9,7 @@ use Rattle.mail_header.specs.Tokens.{Spelled}
 use Rattle.mail_header.specs.Mailboxes.{Mailbox}
 use Rattle.mail_header.specs.AddressLists.{Element, IsElement, Grouped}
 use Rattle.mail_header.specs.Names.{IsAddress, IsGroupName, IsGroup}
-use Rattle.mail_header.specs.reading.ElementReading.{are_nested, is_addressee, grouped_from, members_of}
-
--- what is paired with `more` was put at the end
-pub record Appends {A B : Type 0} (Is : A → B → Type 0) (more : List A) (old new : List B) : Type 0 where
-  pub added : List B
-  pub new_is : new ≡ old ++ added
-  pub are : AllZip Is more added
+use Rattle.mail_header.specs.reading.ElementReading.{are_nested, is_addressee, grouped_from}
 
 -- The builder has these groups, and the open one has this phrase and these mailboxes.
 pub record Has (b : Builder) (done : List Grouped) (phrase : Option (List Spelled)) (ms : List Mailbox) : Type 0 where
@@ -49,10 +43,6 @@ pub record IsList (es : List Element) (ts : List Spelled) : Type 0 where
 
 abbrev pub IsNoList : List Spelled → Type 0
 IsNoList ts = (es : List Element) → Sequence IsElement es ts → are_list es ≡ true → ⊥
-
-pub data AddressesIn (ts : List Spelled) : Option (List Address) → Type 0 where
-  NoAddresses : IsNoList ts → AddressesIn ts None
-  Addresses : (es : List Element) (list : List Address) → IsList es ts → AllZip IsAddress (members_of es) list → AddressesIn ts (Some list)
 
 pub data GroupsIn (ts : List Spelled) : Option (List Group) → Type 0 where
   NoGroups : IsNoList ts → GroupsIn ts None
