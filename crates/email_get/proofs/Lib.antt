@@ -7,3 +7,4 @@ pub mod WholeLemmas
 pub mod KinLemmas
 pub mod OneObject
 pub mod TextLemmas
+pub mod TagLemmas
