@@ -1,16 +1,17 @@
 -- The element at the front is read, and what is read is the element at the front.
 use Rattle.std.proofs.Common.{◌≡◌, ◌≢◌, ℕ, ◌+◌, ◌⊎◌, inl, inr, Bool, true, false, not, ◌&&◌, ◌||◌, List, [], ◌∷◌, ◌++◌, length, cond, refl, sym, ap, ◌∙◌, subst, arith, append_assoc, eqb, eqb-true, Option, Some, None}
-use Rattle.std.specs.List.{list_all}
+use Rattle.std.specs.List.{list_all, filter}
 use Rattle.std.proofs.lemmas.Bool.{cond-true, cond-false}
 use Rattle.std.proofs.lemmas.List.{length-append}
+use Rattle.std.proofs.lemmas.List.Elements.{filter-append}
 use Rattle.text_words.specs.Cuts.{Each, Stops, front, back}
 use Rattle.text_words.specs.Sequence.{UnitAt}
 use Rattle.text_words.proofs.CutLemmas.{front_back, front_each, back_stops, front_is, back_is, each_list_all, list_all_each}
-use Rattle.text_words.proofs.SequenceLemmas.{IsReader, unit_same}
+use Rattle.text_words.proofs.SequenceLemmas.{IsReader, Behind, begins, unit_same}
 use Rattle.mail_header.specs.Tokens.{Spelled}
 use Rattle.mail_header.specs.Mailboxes.{mark_of, has_mark, is_gap, is_phrase, is_display_name, is_addr_spec, is_inner}
 use Rattle.mail_header.specs.AddressLists.{Element, Empty, Head, End, Member, IsElement, Comma, Blank, Phrase, Closed, Bare, InAngle, EndsElement, EndsGroup, is_no_separator, is_no_comma}
-use Rattle.mail_header.specs.reading.ElementReading.{is_plain, is_no_greater, stops, bare, in_angle, some_bare, bare_of, head_of, end_before, end_of, angle_before, angle_of, closed_of, opened_of, separator_of, is_empty, marked_of, element_of, element_in}
+use Rattle.mail_header.specs.reading.ElementReading.{is_plain, is_no_greater, stops, bare, in_angle, some_bare, bare_of, head_of, end_before, end_of, angle_before, angle_of, closed_of, opened_of, separator_of, is_empty, marked_of, element_of, element_in, is_filled}
 use Rattle.mail_header.proofs.MailboxLemmas.{flip, picked, gap_mark, mark_is, gaps_each, phrase_each, name_each, spec_each, inner_each, spec_some}
 
 abbrev pub Read : Type 0
@@ -289,3 +290,17 @@ sound v n ts e = by (front is_plain ts) (back is_plain ts) (front_back is_plain 
 
 pub element_reader : IsReader IsElement element_in
 element_reader = record { sound = sound; complete = complete; some = some }
+
+-- ---- elements without the empty places
+
+-- the elements that were read are these, but for empty places, and rest is left
+pub record FilledBehind (kept : List Element) (rest b : List Spelled) : Type 0 where
+  pub all : List Element
+  pub read : Behind IsElement all rest b
+  pub kept_is : kept ≡ filter is_filled all
+
+pub none_filled : (b : List Spelled) → FilledBehind [] b b
+none_filled b = record { all = []; read = begins IsElement b; kept_is = refl }
+
+pub more_filled : (old new all : List Element) (v : Element) → old ≡ filter is_filled all → new ≡ old ++ cond (is_filled v) (v ∷ []) [] → new ≡ filter is_filled (all ++ v ∷ [])
+more_filled old new all v e p = p ∙ ap (λ (u : List Element). u ++ cond (is_filled v) (v ∷ []) []) e ∙ sym (filter-append is_filled all (v ∷ []))

@@ -190,7 +190,7 @@ fn groups(alloc: Global, elements: &[Element<'_, '_>]) -> Result<Vec<Group>, All
     close(builder)
 }
 
-/// The elements, where they are a list of one or more addresses.
+/// The elements without the empty places, where they are a list of one or more addresses.
 fn list_of<'a, 'b>(
     alloc: Global,
     tokens: &'b [Token<'a>],

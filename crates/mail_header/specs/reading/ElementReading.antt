@@ -1,10 +1,11 @@
 -- The element at the front of a list of addresses, as functions on lists.
 use Rattle.std.specs.Prelude.{◌≡◌, ℕ, ◌+◌, Bool, true, false, not, ◌&&◌, ◌||◌, if◌then◌else◌, List, [], ◌∷◌, ◌++◌, length, Option, Some, None}
-use Rattle.std.specs.List.{list_all}
+use Rattle.std.specs.List.{list_all, filter}
 use Rattle.text_words.specs.Cuts.{front, back}
+use Rattle.text_words.specs.Sequence.{Sequence}
 use Rattle.mail_header.specs.Tokens.{Spelled}
 use Rattle.mail_header.specs.Mailboxes.{has_mark, is_gap, is_phrase, is_display_name, is_addr_spec, is_inner, behind_route, are_hops, Mailbox}
-use Rattle.mail_header.specs.AddressLists.{Element, Empty, Head, End, Member, is_no_comma, is_no_separator, Grouped, run_of}
+use Rattle.mail_header.specs.AddressLists.{Element, IsElement, Empty, Head, End, Member, is_no_comma, is_no_separator, Grouped, run_of}
 
 -- a token that may stand outside angle brackets in a mailbox or a phrase
 abbrev pub is_plain : Spelled → Bool
@@ -124,10 +125,23 @@ grouped_from phrase ms (Head next ∷ es) = closed phrase ms ++ grouped_from (So
 grouped_from phrase ms (End ∷ es) = closed phrase ms ++ grouped_from None [] es
 grouped_from phrase ms (Member m ∷ es) = grouped_from phrase (ms ++ m ∷ []) es
 
--- what was read was put at the end, and how many tokens it has
+-- any element but an empty place
+abbrev pub is_filled : Element → Bool
+is_filled Empty = false
+is_filled (Head phrase) = true
+is_filled End = true
+is_filled (Member m) = true
+
+-- what was read was put at the end, unless it is an empty place, and how many tokens it has
 abbrev pub Pushes : Option (Element × ℕ) → List Element → List Element → Option ℕ → Type 0
 Pushes None old new len = len ≡ None
-Pushes (Some p) old new len = (len ≡ Some p.1) × (new ≡ old ++ p.0 ∷ [])
+Pushes (Some p) old new len = (len ≡ Some p.1) × (new ≡ old ++ (if is_filled p.0 then p.0 ∷ [] else []))
+
+-- the elements of the tokens without the empty places
+pub record AreFilled (kept : List Element) (ts : List Spelled) : Type 0 where
+  pub all : List Element
+  pub are : Sequence IsElement all ts
+  pub kept_is : kept ≡ filter is_filled all
 
 -- the hops behind the first, each behind a comma
 abbrev pub are_hops_behind : List Spelled → Bool

@@ -9,7 +9,7 @@ use Rattle.mail_header.specs.Tokens.{Spelled}
 use Rattle.mail_header.specs.Mailboxes.{Mailbox}
 use Rattle.mail_header.specs.AddressLists.{Element, IsElement, Grouped}
 use Rattle.mail_header.specs.Names.{IsAddress, IsGroupName, IsGroup}
-use Rattle.mail_header.specs.reading.ElementReading.{are_nested, is_addressee, grouped_from}
+use Rattle.mail_header.specs.reading.ElementReading.{are_nested, is_addressee, grouped_from, AreFilled}
 
 -- The builder has these groups, and the open one has this phrase and these mailboxes.
 pub record Has (b : Builder) (done : List Grouped) (phrase : Option (List Spelled)) (ms : List Mailbox) : Type 0 where
@@ -37,9 +37,10 @@ group_from (Some name) members = Some (record { name = Some name; members = memb
 abbrev pub are_list : List Element → Bool
 are_list es = are_nested false es && list_any is_addressee es
 
-pub record IsList (es : List Element) (ts : List Spelled) : Type 0 where
-  pub are : Sequence IsElement es ts
-  pub list : are_list es ≡ true
+-- the elements of the tokens without the empty places, where they are a list of addresses
+pub record IsList (kept : List Element) (ts : List Spelled) : Type 0 where
+  pub filled : AreFilled kept ts
+  pub list : are_list kept ≡ true
 
 abbrev pub IsNoList : List Spelled → Type 0
 IsNoList ts = (es : List Element) → Sequence IsElement es ts → are_list es ≡ true → ⊥
