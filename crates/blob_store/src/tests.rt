@@ -1,3 +1,4 @@
+// Tests of what is kept and what is refused.
 use crate::{BlobError, BlobStore, MAX_UPLOAD_OCTETS};
 use gate_world::Bytes;
 use std::alloc::{AllocError, Global};

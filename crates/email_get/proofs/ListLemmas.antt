@@ -1,5 +1,6 @@
 -- Leaves by their numbers, and what is written of them one after another.
-use Rattle.std.proofs.Common.{Bor, add-one, drop, drop-cons, ◌≡◌, ℕ, zero, suc, ◌+◌, ◌-◌, ◌<◌, Bool, true, false, List, [], ◌∷◌, ◌++◌, length, map, take, get_or, refl, sym, ap, ◌∙◌, subst, arith, append_assoc, Option, Some, None}
+use Rattle.std.proofs.Common.{Bor, add-one, drop, drop-cons, ◌≡◌, ℕ, zero, suc, ◌+◌, ◌-◌, ◌<◌, Bool, true, false, List, [], ◌∷◌, ◌++◌, length, map, take, get_or, refl, sym, ap}
+use Rattle.std.proofs.Common.{◌∙◌, subst, arith, append_assoc, Option, Some, None}
 use Rattle.std.specs.Prelude.{slice_get, option_to_list, Contains}
 use Rattle.std.proofs.lemmas.List.{append-nil, take_more}
 use Rattle.std.specs.Bool.{MatchBool}
@@ -33,7 +34,8 @@ leaves_both : (ps qs ls ms : List Part) → AreLeaves ps ls → AreLeaves qs ms 
 leaves_both _ qs _ ms End more = more
 leaves_both _ qs _ ms (Leaf p ps behind leaf rest) more = Leaf p (ps ++ qs) (behind ++ ms) leaf (leaves_both ps qs behind ms rest more)
 leaves_both _ qs _ ms (Multi p ps inner behind no_leaf kids rest) more =
-    subst (λ (u : List Part). AreLeaves (p ∷ (ps ++ qs)) u) (sym (append_assoc inner behind ms)) (Multi p (ps ++ qs) inner (behind ++ ms) no_leaf kids (leaves_both ps qs behind ms rest more))
+    subst (λ (u : List Part). AreLeaves (p ∷ (ps ++ qs)) u) (sym (append_assoc inner behind ms))
+    (Multi p (ps ++ qs) inner (behind ++ ms) no_leaf kids (leaves_both ps qs behind ms rest more))
 
 pub gathers_none : (g : List Part) → Gathers [] g g
 gathers_none g = ([], End, sym (append-nil g))
@@ -45,7 +47,8 @@ pub gathers_multi : (p : Part) (before after : List Part) → is_leaf p ≡ fals
 gathers_multi p before after no_leaf (ls, are, e) =
     (ls, subst (λ (u : List Part). AreLeaves (p ∷ []) u) (append-nil ls) (Multi p [] ls [] no_leaf are End), e)
 
-pub gathers_more : (ps : List Part) (i : ℕ) (d : Part) (before mid after : List Part) → i < length ps → Gathers (take i ps) before mid → Gathers (get_or ps i d ∷ []) mid after → Gathers (take (i + 1) ps) before after
+pub gathers_more : (ps : List Part) (i : ℕ) (d : Part) (before mid after : List Part) → i < length ps → Gathers (take i ps) before mid → Gathers (get_or ps i d ∷ []) mid after
+    → Gathers (take (i + 1) ps) before after
 gathers_more ps i d before mid after lt (ls, are, e) (ms, are', e') =
     subst (λ (u : List Part). Gathers u before after) (sym (take_more ps i d lt))
     (ls ++ ms, leaves_both (take i ps) (get_or ps i d ∷ []) ls ms are are', e' ∙ ap (λ (u : List Part). u ++ ms) e ∙ append_assoc before ls ms)
@@ -72,7 +75,8 @@ leaves_within : (b : List ℕ) (ps ls : List Part) → AreLeaves ps ls → AllUn
 leaves_within b _ _ End h = tt
 leaves_within b _ _ (Leaf p ps behind leaf rest) h = (h p p (first_of p ps) Itself, leaves_within b ps behind rest (λ x q i u. h x q (later_of p ps x i) u))
 leaves_within b _ _ (Multi p ps inner behind no_leaf kids rest) h =
-    within_both b inner behind (leaves_within b (children p) inner kids (λ x q i u. h p q (first_of p ps) (Below p x i u))) (leaves_within b ps behind rest (λ x q i u. h x q (later_of p ps x i) u))
+    within_both b inner behind (leaves_within b (children p) inner kids (λ x q i u. h p q (first_of p ps) (Below p x i u)))
+    (leaves_within b ps behind rest (λ x q i u. h x q (later_of p ps x i) u))
 
 pub message_within : (b : List ℕ) (root : Part) (ls : List Part) → AreLeaves (root ∷ []) ls → ((q : Part) → IsUnder q root → IsWithin q b) → AreWithin b ls
 message_within b root ls a h = leaves_within b (root ∷ []) ls a (λ p q i u. h q (subst (λ (x : Part). IsUnder q x) (sym (alone_is root p i)) u))
@@ -100,13 +104,17 @@ named ls n f (p ∷ ps) h =
 
 at_both : (ls : List Part) (ms ns : List ℕ) → parts_at ls (ms ++ ns) ≡ parts_at ls ms ++ parts_at ls ns
 at_both ls [] ns = refl
-at_both ls (m ∷ ms) ns = ap (λ (u : List Part). option_to_list (part_at ls m) ++ u) (at_both ls ms ns) ∙ sym (append_assoc (option_to_list (part_at ls m)) (parts_at ls ms) (parts_at ls ns))
+at_both ls (m ∷ ms) ns = ap (λ (u : List Part). option_to_list (part_at ls m) ++ u) (at_both ls ms ns)
+    ∙ sym (append_assoc (option_to_list (part_at ls m)) (parts_at ls ms) (parts_at ls ns))
 
-at_more : (ls : List Part) (ns : List ℕ) (i : ℕ) (o : Option Part) → i < length ns → part_at ls (get_or ns i 0) ≡ o → parts_at ls (take (i + 1) ns) ≡ parts_at ls (take i ns) ++ option_to_list o
+at_more : (ls : List Part) (ns : List ℕ) (i : ℕ) (o : Option Part) → i < length ns → part_at ls (get_or ns i 0) ≡ o
+    → parts_at ls (take (i + 1) ns) ≡ parts_at ls (take i ns) ++ option_to_list o
 at_more ls ns i o lt e =
-    ap (parts_at ls) (take_more ns i 0 lt) ∙ at_both ls (take i ns) (get_or ns i 0 ∷ []) ∙ ap (λ (u : List Part). parts_at ls (take i ns) ++ u) (append-nil (option_to_list (part_at ls (get_or ns i 0))) ∙ ap option_to_list e)
+    ap (parts_at ls) (take_more ns i 0 lt) ∙ at_both ls (take i ns) (get_or ns i 0 ∷ [])
+    ∙ ap (λ (u : List Part). parts_at ls (take i ns) ++ u) (append-nil (option_to_list (part_at ls (get_or ns i 0))) ∙ ap option_to_list e)
 
-at_here : (ls : List Part) (ns : List ℕ) (i : ℕ) (o : Option Part) → i < length ns → part_at ls (get_or ns i 0) ≡ o → parts_at ls (drop i ns) ≡ option_to_list o ++ parts_at ls (drop (i + 1) ns)
+at_here : (ls : List Part) (ns : List ℕ) (i : ℕ) (o : Option Part) → i < length ns → part_at ls (get_or ns i 0) ≡ o
+    → parts_at ls (drop i ns) ≡ option_to_list o ++ parts_at ls (drop (i + 1) ns)
 at_here ls ns i o lt e =
     let first : drop i ns ≡ get_or ns i 0 ∷ drop (i + 1) ns = rw add-one (drop-cons ns i 0 lt) in
     ap (parts_at ls) first ∙ ap (λ (u : Option Part). option_to_list u ++ parts_at ls (drop (i + 1) ns)) e
@@ -121,11 +129,13 @@ pub views_more : (vs : List Value) (v : Value) → map view (vs ++ v ∷ []) ≡
 views_more [] v = refl
 views_more (x ∷ vs) v = ap (λ (u : List Data). view x ∷ u) (views_more vs v)
 
-pub objects_more : (b : List ℕ) (ls : List Part) (ns : List ℕ) (i : ℕ) (p : Part) (ds : List Data) (d : Data) → i < length ns → part_at ls (get_or ns i 0) ≡ Some p → AreObjects b (parts_at ls (take i ns)) ds → IsPartObject (blob_id b) b p d → AreObjects b (parts_at ls (take (i + 1) ns)) (ds ++ d ∷ [])
+pub objects_more : (b : List ℕ) (ls : List Part) (ns : List ℕ) (i : ℕ) (p : Part) (ds : List Data) (d : Data) → i < length ns → part_at ls (get_or ns i 0) ≡ Some p
+    → AreObjects b (parts_at ls (take i ns)) ds → IsPartObject (blob_id b) b p d → AreObjects b (parts_at ls (take (i + 1) ns)) (ds ++ d ∷ [])
 objects_more b ls ns i p ds d lt e all one =
     subst (λ (ps : List Part). AreObjects b ps (ds ++ d ∷ [])) (sym (at_more ls ns i (Some p) lt e)) (objects_both b (parts_at ls (take i ns)) (p ∷ []) ds (d ∷ []) all (one, tt))
 
-pub objects_same : (b : List ℕ) (ls : List Part) (ns : List ℕ) (i : ℕ) (ds : List Data) → i < length ns → part_at ls (get_or ns i 0) ≡ None → AreObjects b (parts_at ls (take i ns)) ds → AreObjects b (parts_at ls (take (i + 1) ns)) ds
+pub objects_same : (b : List ℕ) (ls : List Part) (ns : List ℕ) (i : ℕ) (ds : List Data) → i < length ns → part_at ls (get_or ns i 0) ≡ None
+    → AreObjects b (parts_at ls (take i ns)) ds → AreObjects b (parts_at ls (take (i + 1) ns)) ds
 objects_same b ls ns i ds lt e all =
     subst (λ (ps : List Part). AreObjects b ps ds) (sym (at_more ls ns i None lt e ∙ append-nil (parts_at ls (take i ns)))) all
 
@@ -138,7 +148,8 @@ values_both : (b : List ℕ) (ps qs : List Part) (x y z : Members) → AddsValue
 values_both b [] qs x y z none rest = subst (λ (m : Members). AddsValues b qs m z) none rest
 values_both b (p ∷ ps) qs x y z (m, one, more) rest = (m, one, values_both b ps qs m y z more rest)
 
-pub values_more : (b : List ℕ) (refs : List (Bor Part)) (i : ℕ) (r : Bor Part) (before mid after : Members) → i < length refs → AddsValues b (parts_of (take i refs)) before mid → PutsIf (is_text (media (get_or refs i r).now)) b (get_or refs i r).now mid after → AddsValues b (parts_of (take (i + 1) refs)) before after
+pub values_more : (b : List ℕ) (refs : List (Bor Part)) (i : ℕ) (r : Bor Part) (before mid after : Members) → i < length refs → AddsValues b (parts_of (take i refs)) before mid
+    → PutsIf (is_text (media (get_or refs i r).now)) b (get_or refs i r).now mid after → AddsValues b (parts_of (take (i + 1) refs)) before after
 values_more b refs i r before mid after lt all has =
     subst (λ (ps : List Part). AddsValues b ps before after) (sym (ap parts_of (take_more refs i r lt) ∙ parts_more (take i refs) (get_or refs i r)))
     (values_both b (parts_of (take i refs)) ((get_or refs i r).now ∷ []) before mid after all (after, has, refl))
@@ -171,7 +182,8 @@ there_ref (x ∷ refs) (suc k) r lt = there_ref refs k r (omega arith)
 pub one_leaf : (refs : List (Bor Part)) (k : ℕ) (r : Bor Part) (p : Part) → k < length refs → slice_get (parts_of refs) k ≡ Some p → p ≡ (get_or refs k r).now
 one_leaf refs k r p lt e = let f = there_ref refs k r lt in cc
 
-pub values_split : (b : List ℕ) (refs : List (Bor Part)) (k : ℕ) (r : Bor Part) (m0 m1 m2 m3 : Members) → k < length refs → AddsValues b (parts_of (take k refs)) m0 m1 → PutsIf (is_text (media (get_or refs k r).now)) b (get_or refs k r).now m1 m2 → AddsValues b (parts_of (drop 1 (drop k refs))) m2 m3 → AddsValues b (parts_of refs) m0 m3
+pub values_split : (b : List ℕ) (refs : List (Bor Part)) (k : ℕ) (r : Bor Part) (m0 m1 m2 m3 : Members) → k < length refs → AddsValues b (parts_of (take k refs)) m0 m1
+    → PutsIf (is_text (media (get_or refs k r).now)) b (get_or refs k r).now m1 m2 → AddsValues b (parts_of (drop 1 (drop k refs))) m2 m3 → AddsValues b (parts_of refs) m0 m3
 values_split b [] k r m0 m1 m2 m3 lt before puts later = absurd (omega arith)
 values_split b (x ∷ refs) zero r m0 m1 m2 m3 lt before puts later = (m2, subst (λ (m : Members). PutsIf (is_text (media x.now)) b x.now m m2) before puts, later)
 values_split b (x ∷ refs) (suc k) r m0 m1 m2 m3 lt (m, one, more) puts later = (m, one, values_split b refs k r m m1 m2 m3 (omega arith) more puts later)
@@ -184,16 +196,21 @@ puts_plain b p q before after same plain puts =
 
 -- ---- the preview
 
-pub no_leaf_here : (b : List ℕ) (ls : List Part) (ns : List ℕ) (i : ℕ) (t : List ℕ) → i < length ns → part_at ls (get_or ns i 0) ≡ None → IsPreview b (parts_at ls (drop (i + 1) ns)) t → IsPreview b (parts_at ls (drop i ns)) t
+pub no_leaf_here : (b : List ℕ) (ls : List Part) (ns : List ℕ) (i : ℕ) (t : List ℕ) → i < length ns → part_at ls (get_or ns i 0) ≡ None
+    → IsPreview b (parts_at ls (drop (i + 1) ns)) t → IsPreview b (parts_at ls (drop i ns)) t
 no_leaf_here b ls ns i t lt e h = subst (λ (ps : List Part). IsPreview b ps t) (sym (at_here ls ns i None lt e)) h
 
-pub no_plain_here : (b : List ℕ) (ls : List Part) (ns : List ℕ) (i : ℕ) (p : Part) (t : List ℕ) → i < length ns → part_at ls (get_or ns i 0) ≡ Some p → is_plain p ≡ false → IsPreview b (parts_at ls (drop (i + 1) ns)) t → IsPreview b (parts_at ls (drop i ns)) t
+pub no_plain_here : (b : List ℕ) (ls : List Part) (ns : List ℕ) (i : ℕ) (p : Part) (t : List ℕ) → i < length ns → part_at ls (get_or ns i 0) ≡ Some p → is_plain p ≡ false
+    → IsPreview b (parts_at ls (drop (i + 1) ns)) t → IsPreview b (parts_at ls (drop i ns)) t
 no_plain_here b ls ns i p t lt e plain h =
-    subst (λ (ps : List Part). IsPreview b ps t) (sym (at_here ls ns i (Some p) lt e)) (subst (λ (q : Bool). MatchBool q (IsPreviewOf b p t) (IsPreview b (parts_at ls (drop (i + 1) ns)) t)) (sym plain) h)
+    subst (λ (ps : List Part). IsPreview b ps t) (sym (at_here ls ns i (Some p) lt e))
+    (subst (λ (q : Bool). MatchBool q (IsPreviewOf b p t) (IsPreview b (parts_at ls (drop (i + 1) ns)) t)) (sym plain) h)
 
-pub plain_here : (b : List ℕ) (ls : List Part) (ns : List ℕ) (i : ℕ) (p : Part) (t : List ℕ) → i < length ns → part_at ls (get_or ns i 0) ≡ Some p → is_plain p ≡ true → IsPreviewOf b p t → IsPreview b (parts_at ls (drop i ns)) t
+pub plain_here : (b : List ℕ) (ls : List Part) (ns : List ℕ) (i : ℕ) (p : Part) (t : List ℕ) → i < length ns → part_at ls (get_or ns i 0) ≡ Some p → is_plain p ≡ true
+    → IsPreviewOf b p t → IsPreview b (parts_at ls (drop i ns)) t
 plain_here b ls ns i p t lt e plain h =
-    subst (λ (ps : List Part). IsPreview b ps t) (sym (at_here ls ns i (Some p) lt e)) (subst (λ (q : Bool). MatchBool q (IsPreviewOf b p t) (IsPreview b (parts_at ls (drop (i + 1) ns)) t)) (sym plain) h)
+    subst (λ (ps : List Part). IsPreview b ps t) (sym (at_here ls ns i (Some p) lt e))
+    (subst (λ (q : Bool). MatchBool q (IsPreviewOf b p t) (IsPreview b (parts_at ls (drop (i + 1) ns)) t)) (sym plain) h)
 
 pub place_within : (refs : List (Bor Part)) (k : ℕ) (p : Part) → slice_get (parts_of refs) k ≡ Some p → k < length refs
 place_within [] k p e = absurd cc
@@ -205,7 +222,8 @@ same_leaf b ls k p t e (q, f, h) = let same : q ≡ p = cc in subst (λ (x : Par
 
 -- ---- the body
 
-pub body_is : (b : List ℕ) (root : Part) (lists : BodyLists) (leaves : List Part) (d : BodyData) → IsMessage b root → AreBodyLists lists root → AreLeaves (root ∷ []) leaves → ListsBody b leaves lists d → IsBody b root d
+pub body_is : (b : List ℕ) (root : Part) (lists : BodyLists) (leaves : List Part) (d : BodyData) → IsMessage b root → AreBodyLists lists root → AreLeaves (root ∷ []) leaves
+    → ListsBody b leaves lists d → IsBody b root d
 body_is b root lists leaves d m are are_leaves h =
     let numbered = message_from b root m leaves are_leaves in
     let inside = walk_inside start (root ∷ []) are.parts are.walks leaves are_leaves in

@@ -16,11 +16,13 @@ unfolding front
 front_lower [] = refl
 front_lower (c ∷ t) = by (is_no_slash c) (no_slash c) (front_lower t)
   where
-    by : (q : Bool) → is_no_slash (to_ascii_lowercase c) ≡ q → map to_ascii_lowercase (front is_no_slash t) ≡ front is_no_slash (map to_ascii_lowercase t) → map to_ascii_lowercase (cond q (c ∷ front is_no_slash t) []) ≡ front is_no_slash (to_ascii_lowercase c ∷ map to_ascii_lowercase t)
+    by : (q : Bool) → is_no_slash (to_ascii_lowercase c) ≡ q → map to_ascii_lowercase (front is_no_slash t) ≡ front is_no_slash (map to_ascii_lowercase t)
+        → map to_ascii_lowercase (cond q (c ∷ front is_no_slash t) []) ≡ front is_no_slash (to_ascii_lowercase c ∷ map to_ascii_lowercase t)
     by true e more = rw e (ap (λ (u : List ℕ). to_ascii_lowercase c ∷ u) more)
     by false e more = rw e refl
 
-text_of : (m : List ℕ) → map to_ascii_lowercase m ≡ map to_ascii_lowercase (codes "text/plain") → map to_ascii_lowercase (front is_no_slash m) ≡ map to_ascii_lowercase (codes "text")
+text_of : (m : List ℕ) → map to_ascii_lowercase m ≡ map to_ascii_lowercase (codes "text/plain")
+    → map to_ascii_lowercase (front is_no_slash m) ≡ map to_ascii_lowercase (codes "text")
 unfolding front
 text_of m e = front_lower m ∙ ap (λ (u : List ℕ). front is_no_slash u) e
 

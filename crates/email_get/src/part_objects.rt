@@ -75,7 +75,7 @@ fn blob_id_value(alloc: Global, id: &[u8], number: &str) -> Result<Value, AllocE
     owned_text_value(alloc, text)
 }
 
-/// The object of the leaf of this number that spells so many octets, in the message with this blob id.
+/// The object of the leaf of this number that spells n octets, in the message with this blob id.
 fn described(
     alloc: Global,
     id: &[u8],

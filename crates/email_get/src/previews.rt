@@ -32,14 +32,14 @@ fn begins_word(text: &[u8]) -> bool
     }
 }
 
-/// Whether the octet stands within a character in UTF-8, behind its first one.
+/// Whether the octet stands within a character in UTF-8, after its first one.
 fn is_inner(octet: u8) -> bool
     ensures { result ≡ previews.is_inner octet }
 {
     128 <= octet && octet <= 191
 }
 
-/// Adds an octet to a preview to which so many characters may still be added, and says how many may be added behind it;
+/// Adds an octet to a preview to which n characters may still be added, and says how many may be added after it;
 /// none where the preview is full.
 #[tactic(auto, unfolding(crate::specs::Previews::first_characters))]
 fn push_octet(preview: &mut Vec<u8>, left: usize, octet: u8) -> Result<Option<usize>, AllocError>

@@ -1,5 +1,6 @@
 -- Pieces of quoted-printable are read as they are spelled.
-use Rattle.std.proofs.Common.{◌≡◌, ◌≢◌, ℕ, zero, suc, ◌+◌, ◌<◌, ◌≤◌, Bool, true, false, ◌||◌, List, [], ◌∷◌, ◌++◌, length, drop, cond, refl, sym, ap, ◌∙◌, subst, append_assoc, Option, Some, None, eqb, eqb-true, arith}
+use Rattle.std.proofs.Common.{◌≡◌, ◌≢◌, ℕ, zero, suc, ◌+◌, ◌<◌, ◌≤◌, Bool, true, false, ◌||◌, List, [], ◌∷◌, ◌++◌, length, drop, cond, refl, sym, ap, ◌∙◌, subst, append_assoc}
+use Rattle.std.proofs.Common.{Option, Some, None, eqb, eqb-true, arith}
 use Rattle.std.specs.List.{flat_map, list_any}
 use Rattle.std.proofs.lemmas.Bool.{cond-true, cond-false, eqb-false, ne_eqb}
 use Rattle.std.proofs.lemmas.Grind.{flat_map-append}
@@ -12,7 +13,8 @@ use Rattle.text_words.specs.Sequence.{UnitAt}
 use Rattle.text_words.proofs.CutLemmas.{front_back, front_each, back_stops, front_is, back_is, drop_front}
 use Rattle.text_words.proofs.LineEndLemmas.{end_len, end_some, end_found}
 use Rattle.text_words.proofs.SequenceLemmas.{IsReader, Behind, begins, unit_within, read_more, all_done, unit_same, one_reading, determined}
-use Rattle.header_words.specs.QuotedPrintable.{Piece, right, IsSoft, BeginsWithHex, BeginsWithSoft, ends_line, IsPiece, Hex, SoftBreak, WrongSign, Trailing, Blanks, Itself, IsPrintable}
+use Rattle.header_words.specs.QuotedPrintable.{Piece, right, IsSoft, BeginsWithHex, BeginsWithSoft, ends_line, IsPiece, Hex, SoftBreak, WrongSign, Trailing, Blanks, Itself}
+use Rattle.header_words.specs.QuotedPrintable.{IsPrintable}
 use Rattle.header_words.specs.Transfer.{IsBody}
 use Rattle.header_words.specs.declared.transfer.Encoding.{Encoding}
 use Rattle.header_words.specs.declared.transfer.Encoding.TheVariants as encoding
@@ -120,7 +122,8 @@ sign_sound v n t e = by_hex (hex_in t) refl e
           unit = 61 ∷ [];
           rest = t;
           whole = refl;
-          is = WrongSign t (λ b. let f = ap hex_in b.whole ∙ hex_complete b.high b.low b.left b.right_digit b.rest b.high_is b.low_is in absurd cc) (λ b. no_soft b.break b.rest b.whole b.soft);
+          is = WrongSign t (λ b. let f = ap hex_in b.whole ∙ hex_complete b.high b.low b.left b.right_digit b.rest b.high_is b.low_is in absurd cc)
+              (λ b. no_soft b.break b.rest b.whole b.soft);
           counted = refl;
         })
       where
@@ -146,7 +149,13 @@ sign_sound v n t e = by_hex (hex_in t) refl e
     by_hex (Some c) h e =
         let x = hex_sound c t h in
         let P : ℕ → Type 0 = λ y. IsPiece (right (y ∷ [])) (61 ∷ x.high ∷ x.low ∷ []) x.rest in
-        unit_same IsPiece _ v 3 n (61 ∷ t) e (record { unit = 61 ∷ x.high ∷ x.low ∷ []; rest = x.rest; whole = ap (λ (u : List ℕ). 61 ∷ u) x.whole; is = subst P (sym x.value) (Hex x.high x.low x.left x.right x.rest x.high_is x.low_is); counted = refl })
+        unit_same IsPiece _ v 3 n (61 ∷ t) e (record {
+          unit = 61 ∷ x.high ∷ x.low ∷ [];
+          rest = x.rest;
+          whole = ap (λ (u : List ℕ). 61 ∷ u) x.whole;
+          is = subst P (sym x.value) (Hex x.high x.low x.left x.right x.rest x.high_is x.low_is);
+          counted = refl;
+        })
     by_hex None h e = by_break (line_end_len (back is_blank t)) h refl e
 
 blanks_sound : (v : Piece) (n c : ℕ) (t : List ℕ) → is_blank c ≡ true → blanks_of (front is_blank (c ∷ t)) (back is_blank (c ∷ t)) ≡ Some (v, n) → UnitAt IsPiece v n (c ∷ t)
@@ -156,16 +165,30 @@ blanks_sound v n c t b e = by (ends_line (back is_blank (c ∷ t))) refl e
     run : IsRun is_blank (front is_blank (c ∷ t))
     run = (front_each is_blank (c ∷ t), λ h. let k = cond-true (is_blank c) (c ∷ front is_blank t) [] b in absurd cc)
 
-    by : (q : Bool) → ends_line (back is_blank (c ∷ t)) ≡ q → cond {A = Option (Piece × ℕ)} q (Some (right [], length (front is_blank (c ∷ t)))) (Some (right (front is_blank (c ∷ t)), length (front is_blank (c ∷ t)))) ≡ Some (v, n) → UnitAt IsPiece v n (c ∷ t)
-    by true h e = unit_same IsPiece _ v _ n (c ∷ t) e (record { unit = front is_blank (c ∷ t); rest = back is_blank (c ∷ t); whole = front_back is_blank (c ∷ t); is = Trailing _ _ run h; counted = refl })
-    by false h e = unit_same IsPiece _ v _ n (c ∷ t) e (record { unit = front is_blank (c ∷ t); rest = back is_blank (c ∷ t); whole = front_back is_blank (c ∷ t); is = Blanks _ _ run (back_stops is_blank (c ∷ t)) h; counted = refl })
+    by : (q : Bool) → ends_line (back is_blank (c ∷ t)) ≡ q → cond {A = Option (Piece × ℕ)} q (Some (right [], length (front is_blank (c ∷ t))))
+        (Some (right (front is_blank (c ∷ t)), length (front is_blank (c ∷ t)))) ≡ Some (v, n) → UnitAt IsPiece v n (c ∷ t)
+    by true h e = unit_same IsPiece _ v _ n (c ∷ t) e (record {
+      unit = front is_blank (c ∷ t);
+      rest = back is_blank (c ∷ t);
+      whole = front_back is_blank (c ∷ t);
+      is = Trailing _ _ run h;
+      counted = refl;
+    })
+    by false h e = unit_same IsPiece _ v _ n (c ∷ t) e (record {
+      unit = front is_blank (c ∷ t);
+      rest = back is_blank (c ∷ t);
+      whole = front_back is_blank (c ∷ t);
+      is = Blanks _ _ run (back_stops is_blank (c ∷ t)) h;
+      counted = refl;
+    })
 
 sound : (v : Piece) (n : ℕ) (t : List ℕ) → piece_in t ≡ Some (v, n) → UnitAt IsPiece v n t
 unfolding piece_in
 sound v n [] e = absurd cc
 sound v n (c ∷ t) e = by (eqb c 61) (is_blank c) refl refl e
   where
-    by : (p q : Bool) → eqb c 61 ≡ p → is_blank c ≡ q → cond p (sign_of (hex_in t) t) (cond q (blanks_of (front is_blank (c ∷ t)) (back is_blank (c ∷ t))) (Some (right (c ∷ []), 1))) ≡ Some (v, n) → UnitAt IsPiece v n (c ∷ t)
+    by : (p q : Bool) → eqb c 61 ≡ p → is_blank c ≡ q → cond p (sign_of (hex_in t) t)
+        (cond q (blanks_of (front is_blank (c ∷ t)) (back is_blank (c ∷ t))) (Some (right (c ∷ []), 1))) ≡ Some (v, n) → UnitAt IsPiece v n (c ∷ t)
     by true q h k e = let P : ℕ → Type 0 = λ y. UnitAt IsPiece v n (y ∷ t) in subst P (sym (eqb-true c 61 h)) (sign_sound v n t e)
     by false true h k e = blanks_sound v n c t k e
     by false false h k e = unit_same IsPiece _ v 1 n (c ∷ t) e (record { unit = c ∷ []; rest = t; whole = refl; is = Itself c t (eqb-false c 61 h) k; counted = refl })
@@ -195,14 +218,17 @@ or_false : (p : Bool) → (p || false) ≡ p
 or_false true = refl
 or_false false = refl
 
-pub written_more : (octets octets' more rest rest' t : List ℕ) (problem wrong problem' : Bool) → Written octets problem rest t → IsRead (piece_in rest) rest rest' more wrong → octets' ≡ octets ++ more → problem' ≡ (problem || wrong) → Written octets' problem' rest' t
+pub written_more : (octets octets' more rest rest' t : List ℕ) (problem wrong problem' : Bool) → Written octets problem rest t → IsRead (piece_in rest) rest rest' more wrong
+    → octets' ≡ octets ++ more → problem' ≡ (problem || wrong) → Written octets' problem' rest' t
 written_more octets octets' more rest rest' t problem wrong problem' w p f e =
     let next = read_more piece_in piece_reader w.pieces p.piece p.len rest t w.behind p.read_is in
     record {
       pieces = w.pieces ++ p.piece ∷ [];
       behind = subst (λ (u : List ℕ). Behind IsPiece (w.pieces ++ p.piece ∷ []) u t) (sym p.rest_is) next;
-      spelled = f ∙ ap (λ (u : List ℕ). octets ++ u) p.octets_are ∙ ap (λ (u : List ℕ). u ++ p.piece.octets) w.spelled ∙ ap (λ (u : List ℕ). flat_map octets_of w.pieces ++ u) (sym (append-nil p.piece.octets)) ∙ sym (flat_map-append octets_of w.pieces (p.piece ∷ []));
-      wrong = e ∙ ap (λ (q : Bool). q || wrong) w.wrong ∙ ap (λ (q : Bool). list_any is_wrong w.pieces || q) (p.wrong_is ∙ sym (or_false p.piece.wrong)) ∙ sym (list_any-append is_wrong w.pieces (p.piece ∷ []));
+      spelled = f ∙ ap (λ (u : List ℕ). octets ++ u) p.octets_are ∙ ap (λ (u : List ℕ). u ++ p.piece.octets) w.spelled
+          ∙ ap (λ (u : List ℕ). flat_map octets_of w.pieces ++ u) (sym (append-nil p.piece.octets)) ∙ sym (flat_map-append octets_of w.pieces (p.piece ∷ []));
+      wrong = e ∙ ap (λ (q : Bool). q || wrong) w.wrong ∙ ap (λ (q : Bool). list_any is_wrong w.pieces || q) (p.wrong_is ∙ sym (or_false p.piece.wrong))
+          ∙ sym (list_any-append is_wrong w.pieces (p.piece ∷ []));
     }
 
 pub written_all : (octets rest t : List ℕ) (problem : Bool) → Written octets problem rest t → rest ≡ [] → IsPrintable octets problem t
@@ -225,7 +251,8 @@ dropped_blanks t rest none e z h = record {
   octets_are = z;
 }
 
-pub kept_blanks : (t blanks rest : List ℕ) → blanks ≡ front is_blank t → rest ≡ back is_blank t → ends_line rest ≡ false → IsRead (blanks_of (front is_blank t) (back is_blank t)) t rest blanks false
+pub kept_blanks : (t blanks rest : List ℕ) → blanks ≡ front is_blank t → rest ≡ back is_blank t → ends_line rest ≡ false
+    → IsRead (blanks_of (front is_blank t) (back is_blank t)) t rest blanks false
 kept_blanks t blanks rest f e h = record {
   piece = right (front is_blank t);
   len = length (front is_blank t);
@@ -236,7 +263,8 @@ kept_blanks t blanks rest f e h = record {
 }
 
 -- a soft break stands for nothing
-pub dropped_break : (t rest behind none : List ℕ) (n : ℕ) → rest ≡ back is_blank t → none ≡ [] → n ≡ line_end_len rest → n ≢ 0 → behind ≡ drop n rest → IsRead (break_of (length (front is_blank t)) (line_end_len (back is_blank t))) (61 ∷ t) behind none false
+pub dropped_break : (t rest behind none : List ℕ) (n : ℕ) → rest ≡ back is_blank t → none ≡ [] → n ≡ line_end_len rest → n ≢ 0 → behind ≡ drop n rest
+    → IsRead (break_of (length (front is_blank t)) (line_end_len (back is_blank t))) (61 ∷ t) behind none false
 dropped_break t rest behind none n e z l k b = by n refl
   where
     by : (m : ℕ) → n ≡ m → IsRead (break_of (length (front is_blank t)) (line_end_len (back is_blank t))) (61 ∷ t) behind none false
@@ -254,7 +282,8 @@ dropped_break t rest behind none n e z l k b = by n refl
         same = omega (arith, h)
 
 -- an "=" that begins nothing stands for itself
-pub kept_sign : (t rest behind sign : List ℕ) (n : ℕ) → rest ≡ back is_blank t → n ≡ line_end_len rest → n ≡ 0 → sign ≡ 61 ∷ [] → behind ≡ t → IsRead (break_of (length (front is_blank t)) (line_end_len (back is_blank t))) (61 ∷ t) behind sign true
+pub kept_sign : (t rest behind sign : List ℕ) (n : ℕ) → rest ≡ back is_blank t → n ≡ line_end_len rest → n ≡ 0 → sign ≡ 61 ∷ [] → behind ≡ t
+    → IsRead (break_of (length (front is_blank t)) (line_end_len (back is_blank t))) (61 ∷ t) behind sign true
 kept_sign t rest behind sign n e l z s b = record {
   piece = record { octets = 61 ∷ []; wrong = true };
   len = 1;
@@ -279,7 +308,7 @@ read_fits rest rest' more wrong p =
     let w = unit_within piece_in piece_reader p.piece p.len rest p.read_is in
     omega (arith, piece_fits p.piece u.unit u.rest u.is, u.counted, w.within, ap length p.octets_are, ap length p.rest_is, length-drop p.len rest)
 
--- so many octets were read, and rest is left
+-- n octets were read, and rest is left
 pub record Counted (n : ℕ) (rest t : List ℕ) : Type 0 where
   pub octets : List ℕ
   pub problem : Bool
@@ -289,7 +318,8 @@ pub record Counted (n : ℕ) (rest t : List ℕ) : Type 0 where
 pub none_counted : (t : List ℕ) → Counted 0 t t
 none_counted t = record { octets = []; problem = false; written = nothing_written t; counted = refl }
 
-pub counted_more : (n k : ℕ) (more rest rest' t : List ℕ) (wrong : Bool) → Counted n rest t → IsRead (piece_in rest) rest rest' more wrong → k ≡ length more → Counted (n + k) rest' t
+pub counted_more : (n k : ℕ) (more rest rest' t : List ℕ) (wrong : Bool) → Counted n rest t → IsRead (piece_in rest) rest rest' more wrong → k ≡ length more
+    → Counted (n + k) rest' t
 counted_more n k more rest rest' t wrong h p e = record {
   octets = h.octets ++ more;
   problem = h.problem || wrong;

@@ -38,7 +38,7 @@ pub record HasShape (charset : List ℕ) (letter : ℕ) (text behind t : List �
   pub token : IsRun is_token charset
   pub printed : Each is_encoded text
 
--- a language may follow the charset's name behind a "*" (RFC 2231 section 5)
+-- a language may follow the charset's name after a "*" (RFC 2231 section 5)
 abbrev pub charset_name : List ℕ → List ℕ
 charset_name charset = front (λ c. not (c == 42)) charset
 
@@ -92,4 +92,5 @@ kept behind_word between = if behind_word && list_all is_white between then [] e
 -- directly before the value.
 pub data IsText : Bool → List ℕ → List ℕ → Type 0 where
   Plain : (behind_word : Bool) (value : List ℕ) → HasNone value → IsText behind_word value value
-  Worded : (behind_word : Bool) (reading before word behind text value : List ℕ) → IsFirst reading before word behind value → IsText true behind text → IsText behind_word value (kept behind_word before ++ (reading ++ text))
+  Worded : (behind_word : Bool) (reading before word behind text value : List ℕ) → IsFirst reading before word behind value → IsText true behind text
+      → IsText behind_word value (kept behind_word before ++ (reading ++ text))

@@ -40,7 +40,7 @@ IsBody encoding.QuotedPrintable octets problem b = IsPrintable octets problem b
 IsBody encoding.Base64 octets problem b = (octets ≡ base64_octets b) × (problem ≡ base64_problem b)
 IsBody encoding.Unknown octets problem b = (octets ≡ b) × (problem ≡ true)
 
--- a body spells so many octets in the encoding
+-- a body spells n octets in the encoding
 pub record HasBodyLen (e : Encoding) (n : ℕ) (b : List ℕ) : Type 0 where
   pub octets : List ℕ
   pub problem : Bool

@@ -1,3 +1,4 @@
+// Charsets (RFC 2045 section 2.2), and texts read in them.
 ghost use Rattle.std.specs.Prelude.{◌≡◌, IfOk};
 ghost use Rattle.header_words.specs.Charsets as charsets;
 ghost use Rattle.header_words.specs.Charsets.{charset_of, text_in, has_problem_in};

@@ -1,3 +1,4 @@
+// One encoded word (RFC 2047 section 2).
 ghost use Rattle.std.specs.Prelude.{◌≡◌, ◌≢◌, ◌↔◌, ◌==◌, not, ℕ, List, ◌∷◌, ◌++◌, IfOk, IfSome, IfNone, MatchOption, IsTrue};
 ghost use Rattle.text_words.specs.Cuts.{Each};
 ghost use Rattle.text_words.specs.Sequence.{UnitAt};
@@ -70,7 +71,7 @@ pub struct Word {
     pub len: usize,
 }
 
-/// The encoded text at the front, which may be empty, and what stands behind the "?" that ends it.
+/// The encoded text at the front, which may be empty, and what stands after the "?" that ends it.
 fn encoded_text(text: &[u8]) -> Option<(&[u8], &[u8])>
     ensures { MatchOption result
         ((x y : List ℕ) → Each words.is_encoded x → text.now ≢ x ++ 63 ∷ y)

@@ -1,3 +1,4 @@
+// The quoted-printable encoding (RFC 2045 section 6.7).
 ghost use Rattle.std.specs.Prelude.{◌≡◌, ◌<◌, ◌≤◌, [], ◌∷◌, ◌++◌, length, IfOk, OnOk};
 ghost use Rattle.text_words.specs.Cuts.{front, back};
 ghost use Rattle.text_words.specs.LineEnds as lines;

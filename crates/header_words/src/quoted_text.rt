@@ -1,3 +1,4 @@
+// The "Q" encoding (RFC 2047 section 4.2).
 ghost use Rattle.std.specs.Prelude.{◌≡◌, ◌≤◌, ℕ, List, length, IfOk, IfSome, IfNone};
 ghost use Rattle.header_words.specs.QuotedText.{IsQText};
 ghost use Rattle.header_words.specs.reading.Units.{escape_of, hex_in, q_unit_in};
@@ -42,7 +43,7 @@ fn unit_at(text: &[u8]) -> Option<(u8, usize)>
     }
 }
 
-/// The octet behind an "=", and how long its spelling is.
+/// The octet after an "=", and how long its spelling is.
 fn escaped(digits: &[u8]) -> Option<(u8, usize)>
     ensures { result ≡ escape_of (hex_in digits.now) }
 {

@@ -1,3 +1,4 @@
+// Transfer encodings (RFC 2045 section 6).
 ghost use Rattle.std.specs.Prelude.{◌≡◌, ◌≤◌, length, IfOk};
 ghost use Rattle.std.specs.List.{filter, list_any};
 ghost use Rattle.header_words.specs.Base64 as base64;

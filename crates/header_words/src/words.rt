@@ -1,3 +1,4 @@
+// Values in which encoded words are decoded (RFC 2047 section 6).
 ghost use Rattle.std.specs.Prelude.{◌≡◌, ◌++◌, Bool, false, true, ℕ, List, IfOk, IfSome, IfNone, OnOk};
 ghost use Rattle.text_words.specs.Sequence.{UnitAt};
 ghost use Rattle.header_words.specs.EncodedWords as words;

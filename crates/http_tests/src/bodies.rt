@@ -1,3 +1,4 @@
+// Bodies by length and by chunks.
 use crate::client::{PIECES, given_and_taken, joined, posted, read_both, world_of};
 use http_service::{MAX_HEAD_OCTETS, Spare, read_head};
 use std::alloc::Global;

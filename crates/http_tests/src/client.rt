@@ -1,3 +1,4 @@
+// One client that gives octets, and what is read of it.
 use gate_world::{Event, Front, Script, ScriptWorld};
 use http_service::{Spare, read_body, read_head};
 use std::alloc::{AllocError, Global};

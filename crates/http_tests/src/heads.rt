@@ -1,3 +1,4 @@
+// Heads of requests.
 use crate::client::{PIECES, given_and_taken, joined, world_of};
 use gate_world::Bytes;
 use http_service::{Head, MAX_HEAD_OCTETS, Spare, read_head};

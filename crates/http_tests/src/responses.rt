@@ -1,3 +1,4 @@
+// Heads and bodies of responses.
 use crate::client::{given_and_taken, world_of};
 use http::StatusCode;
 use http_service::{MediaType, Refusal, refusal_head, response_head, write_response};

@@ -44,6 +44,7 @@ impl Unread {
         }
     }
 
+    /// The octets that aren't read yet.
     pub fn as_slice(&self) -> &[u8]
         ensures { result.now ≡ self.now.octets }
     {

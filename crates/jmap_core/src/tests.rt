@@ -1,3 +1,4 @@
+// Tests of requests and answers.
 use crate::{
     Counts, State, mailbox_response, not_request, read_request, session_state, state_text,
     unavailable_response,

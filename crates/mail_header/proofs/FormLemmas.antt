@@ -8,7 +8,8 @@ use Rattle.mail_header.specs.RawForms.{raw_form}
 use Rattle.mail_header.specs.Tokens.{Spelled}
 use Rattle.mail_header.specs.Mailboxes.{Mailbox}
 use Rattle.mail_header.specs.AddressLists.{Grouped, groups_of}
-use Rattle.mail_header.specs.Names.{comment_text, phrase_text, some_text, IsCommentName, NoComment, OfComment, IsName, OfPhrase, NoPhrase, IsAddress, IsGroupName, NoName, Named, IsGroup, members_in, IsAddressesForm, IsGroupsForm, NoGroups, Groups}
+use Rattle.mail_header.specs.Names.{comment_text, phrase_text, some_text, IsCommentName, NoComment, OfComment, IsName, OfPhrase, NoPhrase, IsAddress, IsGroupName, NoName, Named}
+use Rattle.mail_header.specs.Names.{IsGroup, members_in, IsAddressesForm, IsGroupsForm, NoGroups, Groups}
 use Rattle.mail_header.proofs.AddresseeLemmas.{one_list}
 
 zip_one : {A B : Type 0} (R : A → B → Type 0) → ((x : A) (y z : B) → R x y → R x z → y ≡ z) → (xs : List A) (ys zs : List B) → AllZip R xs ys → AllZip R xs zs → ys ≡ zs
@@ -48,7 +49,8 @@ one_groups raw _ _ (NoGroups n) (NoGroups k) = refl
 one_groups raw _ _ (NoGroups n) (Groups who list l h) = absurd (n who l)
 one_groups raw _ _ (Groups who list l h) (NoGroups n) = absurd (n who l)
 one_groups raw _ _ (Groups who list l h) (Groups other rest k j) =
-    ap (λ (u : List Group). Some u) (zip_one IsGroup one_group (groups_of other) list rest (subst (λ u. AllZip IsGroup (groups_of u) list) (one_list who other (raw_form raw) l k) h) j)
+    ap (λ (u : List Group). Some u) (zip_one IsGroup one_group (groups_of other) list rest
+    (subst (λ u. AllZip IsGroup (groups_of u) list) (one_list who other (raw_form raw) l k) h) j)
 
 pub one_addresses : (raw : List ℕ) (x y : Option (List Address)) → IsAddressesForm raw x → IsAddressesForm raw y → x ≡ y
 one_addresses raw None None g h = refl

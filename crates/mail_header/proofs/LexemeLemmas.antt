@@ -1,5 +1,6 @@
 -- The lexemes at the front of a text, read one after another.
-use Rattle.std.proofs.Common.{◌≡◌, ◌≢◌, ℕ, zero, suc, ◌<◌, ◌≤◌, Bool, true, false, not, List, [], ◌∷◌, ◌++◌, length, drop, cond, refl, sym, ap, ◌∙◌, subst, Option, Some, None, arith}
+use Rattle.std.proofs.Common.{◌≡◌, ◌≢◌, ℕ, zero, suc, ◌<◌, ◌≤◌, Bool, true, false, not, List, [], ◌∷◌, ◌++◌, length, drop, cond, refl, sym, ap, ◌∙◌, subst, Option, Some, None}
+use Rattle.std.proofs.Common.{arith}
 use Rattle.std.specs.List.{filter}
 use Rattle.std.specs.Option.{MatchOption, IfSome}
 use Rattle.std.proofs.lemmas.Bool.{cond-true, cond-false}
@@ -9,7 +10,8 @@ use Rattle.mail_header.specs.declared.token.Alphabet.{Alphabet}
 use Rattle.mail_header.specs.Tokens.{Spelled, AreTokens, AreLeading}
 use Rattle.mail_header.specs.reading.TokenReading.{spelled_in, IsFirstToken}
 use Rattle.mail_header.specs.Lexemes.{is_lexeme, AreLexemes, AreLeadingLexemes}
-use Rattle.mail_header.specs.reading.LexemeReading.{tokens_then, tokens_within, rest_then, rest_within, tokens_in, rest_in, lexemes_in, texts_of, IsBehindGaps, IsNextLexeme, BeginsNoGap}
+use Rattle.mail_header.specs.reading.LexemeReading.{tokens_then, tokens_within, rest_then, rest_within, tokens_in, rest_in, lexemes_in, texts_of, IsBehindGaps, IsNextLexeme}
+use Rattle.mail_header.specs.reading.LexemeReading.{BeginsNoGap}
 use Rattle.mail_header.specs.Names.{lexeme_text, spelling}
 use Rattle.mail_header.proofs.OneToken.{token_reader}
 use Rattle.mail_header.proofs.LeadingLemmas.{none_begins, all_read, not_all}
@@ -35,7 +37,8 @@ same_tokens a (suc n) zero t h k =
     ap (λ (o : Option (Spelled × ℕ)). tokens_then o (tokens_within a n) t) (ap (spelled_in a) e ∙ none_in_nothing a)
 same_tokens a (suc n) (suc m) t h k = by (spelled_in a t) refl (λ x l g. same_tokens a n m x l g)
   where
-    by : (o : Option (Spelled × ℕ)) → spelled_in a t ≡ o → ((x : List ℕ) → length x ≤ n → length x ≤ m → tokens_within a n x ≡ tokens_within a m x) → tokens_then (spelled_in a t) (tokens_within a n) t ≡ tokens_then (spelled_in a t) (tokens_within a m) t
+    by : (o : Option (Spelled × ℕ)) → spelled_in a t ≡ o → ((x : List ℕ) → length x ≤ n → length x ≤ m → tokens_within a n x ≡ tokens_within a m x)
+        → tokens_then (spelled_in a t) (tokens_within a n) t ≡ tokens_then (spelled_in a t) (tokens_within a m) t
     by None e same = ap (λ (o : Option (Spelled × ℕ)). tokens_then o (tokens_within a n) t) e ∙ sym (ap (λ (o : Option (Spelled × ℕ)). tokens_then o (tokens_within a m) t) e)
     by (Some p) e same =
         let w = read_within a p.0 p.1 t e in
@@ -56,7 +59,8 @@ same_rest a (suc n) zero t h k =
     ap (λ (o : Option (Spelled × ℕ)). rest_then o (rest_within a n) t) (ap (spelled_in a) e ∙ none_in_nothing a)
 same_rest a (suc n) (suc m) t h k = by (spelled_in a t) refl (λ x l g. same_rest a n m x l g)
   where
-    by : (o : Option (Spelled × ℕ)) → spelled_in a t ≡ o → ((x : List ℕ) → length x ≤ n → length x ≤ m → rest_within a n x ≡ rest_within a m x) → rest_then (spelled_in a t) (rest_within a n) t ≡ rest_then (spelled_in a t) (rest_within a m) t
+    by : (o : Option (Spelled × ℕ)) → spelled_in a t ≡ o → ((x : List ℕ) → length x ≤ n → length x ≤ m → rest_within a n x ≡ rest_within a m x)
+        → rest_then (spelled_in a t) (rest_within a n) t ≡ rest_then (spelled_in a t) (rest_within a m) t
     by None e same = ap (λ (o : Option (Spelled × ℕ)). rest_then o (rest_within a n) t) e ∙ sym (ap (λ (o : Option (Spelled × ℕ)). rest_then o (rest_within a m) t) e)
     by (Some p) e same =
         let w = read_within a p.0 p.1 t e in
@@ -111,7 +115,13 @@ leads_step a t shorter = by (spelled_in a t) refl
         let P : List Spelled → Type 0 = λ x. AreLeading a x (rest_in a t) t in
         let Q : List ℕ → Type 0 = λ x. AreLeading a (tokens_in a (drop p.1 t)) x u.rest in
         let R : List ℕ → Type 0 = λ x. AreLeading a (tokens_in a (drop p.1 t)) (rest_in a (drop p.1 t)) x in
-        subst P (sym (tokens_step a p.0 p.1 t e)) (record { unit = u.unit; rest = u.rest; whole = u.whole; is = u.is; more = subst Q (sym (rest_step a p.0 p.1 t e)) (subst R behind more) })
+        subst P (sym (tokens_step a p.0 p.1 t e)) (record {
+          unit = u.unit;
+          rest = u.rest;
+          whole = u.whole;
+          is = u.is;
+          more = subst Q (sym (rest_step a p.0 p.1 t e)) (subst R behind more);
+        })
 
 leads_within : (a : Alphabet) (n : ℕ) (t : List ℕ) → length t ≤ n → AreLeading a (tokens_in a t) (rest_in a t) t
 leads_within a zero t h = leads_step a t (λ x l. absurd (omega (arith, l, h)))
@@ -152,7 +162,7 @@ begins_lexeme a v n t e g = λ w m f. let p = same_pair w v m n (sym f ∙ e) in
 pub begins_nothing : (a : Alphabet) (t : List ℕ) → spelled_in a t ≡ None → BeginsNoGap a t
 begins_nothing a t e = λ w m f. absurd cc
 
--- the token at the front of what stands behind the gaps is the next lexeme
+-- the token at the front of what stands after the gaps is the next lexeme
 pub next_read : (a : Alphabet) (v : Spelled) (more s t : List ℕ) → IsBehindGaps a s t → IsFirstToken a v more s → IsNextLexeme a v more t
 next_read a v more s t b f = record {
   lexemes = sym b.lexemes ∙ lexeme_read a v f.len s f.read (b.begins v f.len f.read) ∙ ap (λ (u : List ℕ). v ∷ lexemes_in a u) (sym f.rest_is);
@@ -163,7 +173,7 @@ next_read a v more s t b f = record {
 pub nothing_read : (a : Alphabet) (s t : List ℕ) → IsBehindGaps a s t → spelled_in a s ≡ None → lexemes_in a t ≡ []
 nothing_read a s t b e = sym b.lexemes ∙ none_left a s e
 
--- where no lexeme is left behind the gaps, no token begins there
+-- where no lexeme is left after the gaps, no token begins there
 pub nothing_begins : (a : Alphabet) (t : List ℕ) → BeginsNoGap a t → lexemes_in a t ≡ [] → spelled_in a t ≡ None
 nothing_begins a t b e = by (spelled_in a t) refl
   where
@@ -180,7 +190,8 @@ pub texts_spelling : (ts : List Spelled) → texts_of (filter is_lexeme ts) ≡ 
 texts_spelling [] = refl
 texts_spelling (s ∷ ts) = by (is_lexeme s) refl (texts_spelling ts)
   where
-    by : (q : Bool) → is_lexeme s ≡ q → texts_of (filter is_lexeme ts) ≡ spelling ts → texts_of (cond q (s ∷ filter is_lexeme ts) (filter is_lexeme ts)) ≡ lexeme_text s ++ spelling ts
+    by : (q : Bool) → is_lexeme s ≡ q → texts_of (filter is_lexeme ts) ≡ spelling ts
+        → texts_of (cond q (s ∷ filter is_lexeme ts) (filter is_lexeme ts)) ≡ lexeme_text s ++ spelling ts
     by true e h = ap (λ (u : List ℕ). s.text ++ u) h ∙ ap (λ (u : List ℕ). u ++ spelling ts) (sym (cond-false (not (is_lexeme s)) [] s.text (ap not e)))
     by false e h = h ∙ ap (λ (u : List ℕ). u ++ spelling ts) (sym (cond-true (not (is_lexeme s)) [] s.text (ap not e)))
 

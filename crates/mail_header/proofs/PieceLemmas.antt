@@ -1,5 +1,6 @@
 -- The pieces of an atom are its runs.
-use Rattle.std.proofs.Common.{◌≡◌, ◌≢◌, ℕ, Bool, true, false, List, [], ◌∷◌, ◌++◌, cond, refl, sym, ap, ◌∙◌, subst, ◌⊎◌, inl, inr, length, get_or, ◌≤◌, eqb, eqb-true, eq-eqb, arith}
+use Rattle.std.proofs.Common.{◌≡◌, ◌≢◌, ℕ, Bool, true, false, List, [], ◌∷◌, ◌++◌, cond, refl, sym, ap, ◌∙◌, subst, ◌⊎◌, inl, inr, length, get_or, ◌≤◌, eqb, eqb-true, eq-eqb}
+use Rattle.std.proofs.Common.{arith}
 use Rattle.std.proofs.lemmas.Bool.{cond-true, cond-false}
 use Rattle.std.proofs.lemmas.List.{nil_from_length}
 use Rattle.text_words.specs.Cuts.{Each, IsRun, Stops, front, back}
@@ -56,7 +57,8 @@ joined_digit c (Other ∷ ps) n e = ap (λ (p : Piece). p ∷ Other ∷ ps) (alo
 joined_letter : (c : ℕ) (ps : List Piece) → NoLetters ps → is_alpha c ≡ true → joined c ps ≡ Letters (c ∷ []) ∷ ps
 unfolding joined
 joined_letter c [] n e = ap (λ (p : Piece). p ∷ []) (alone_letter c e)
-joined_letter c (Digits t ∷ ps) n e = cond-false (is_digit c) _ _ (letter_no_digit c e) ∙ cond-false (is_plus_or_minus c) _ _ (letter_no_sign c e) ∙ ap (λ (p : Piece). p ∷ Digits t ∷ ps) (alone_letter c e)
+joined_letter c (Digits t ∷ ps) n e = cond-false (is_digit c) _ _ (letter_no_digit c e) ∙ cond-false (is_plus_or_minus c) _ _ (letter_no_sign c e)
+    ∙ ap (λ (p : Piece). p ∷ Digits t ∷ ps) (alone_letter c e)
 joined_letter c (Letters t ∷ ps) n e = absurd n
 joined_letter c (Signed s t ∷ ps) n e = ap (λ (p : Piece). p ∷ Signed s t ∷ ps) (alone_letter c e)
 joined_letter c (Octet s ∷ ps) n e = ap (λ (p : Piece). p ∷ Octet s ∷ ps) (alone_letter c e)
@@ -197,7 +199,8 @@ pub none_behind : (rest : List ℕ) → lexemes_in alphabet.Mail rest ≡ [] →
 unfolding pieces_behind runs pieces_of
 none_behind rest e = ap pieces_of e
 
-pub lexeme_behind : (v : Spelled) (more rest : List ℕ) → lexemes_in alphabet.Mail rest ≡ v ∷ lexemes_in alphabet.Mail more → pieces_behind [] rest ≡ pieces_in v.kind v.text ++ pieces_behind [] more
+pub lexeme_behind : (v : Spelled) (more rest : List ℕ) → lexemes_in alphabet.Mail rest ≡ v ∷ lexemes_in alphabet.Mail more
+    → pieces_behind [] rest ≡ pieces_in v.kind v.text ++ pieces_behind [] more
 unfolding pieces_behind runs pieces_of
 lexeme_behind v more rest e = ap pieces_of e
 

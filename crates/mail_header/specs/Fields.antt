@@ -26,7 +26,7 @@ abbrev pub begins_with_blank : List ℕ → Bool
 begins_with_blank [] = false
 begins_with_blank (c ∷ t) = is_blank c
 
--- the octet ends a line, and the text behind it doesn't continue that line
+-- the octet ends a line, and the text after it doesn't continue that line
 abbrev pub ends_block : ℕ → List ℕ → Bool
 ends_block c t = c == 10 && not (begins_with_blank t)
 
@@ -37,7 +37,7 @@ IsBlock [] rest = ⊥
 IsBlock (c ∷ []) rest = (ends_block c rest ≡ true) ⊎ (rest ≡ [])
 IsBlock (c ∷ d ∷ t) rest = (ends_block c ((d ∷ t) ++ rest) ≡ false) × IsBlock (d ∷ t) rest
 
--- A part of a message: a field, other lines, or the empty line with the body behind it.
+-- A part of a message: a field, other lines, or the empty line with the body after it.
 pub data Part : Type 0 where
   AField : List ℕ → List ℕ → Part
   Other : Part
@@ -45,7 +45,8 @@ pub data Part : Type 0 where
 
 pub data IsPart : Part → List ℕ → List ℕ → Type 0 where
   ThisField : (name raw block rest : List ℕ) → IsField name raw block → IsBlock block rest → IsPart (AField name raw) block rest
-  OtherLines : (block rest : List ℕ) → ((name raw : List ℕ) → IsField name raw block → ⊥) → line_end_len (block ++ rest) ≡ 0 → IsBlock block rest → IsPart Other block rest
+  OtherLines : (block rest : List ℕ) → ((name raw : List ℕ) → IsField name raw block → ⊥) → line_end_len (block ++ rest) ≡ 0 → IsBlock block rest
+      → IsPart Other block rest
   ThisBody : (end body : List ℕ) → IsLineEnd end → IsPart (Body body) (end ++ body) []
 
 -- a field's name and its raw value
@@ -62,7 +63,7 @@ body_in (AField name raw) = []
 body_in Other = []
 body_in (Body b) = b
 
--- The header of the octets: its fields, and the place behind its empty line, or the length where there is none.
+-- The header of the octets: its fields, and the place after its empty line, or the length where there is none.
 pub record IsHeader (fields : List NameAndRaw) (end : ℕ) (b : List ℕ) : Type 0 where
   pub parts : List Part
   pub are : Sequence IsPart parts b

@@ -19,7 +19,7 @@ abbrev pub inside : List ℕ → List ℕ
 inside [] = []
 inside (c ∷ t) = take (length t - 1) t
 
--- a backslash gives way to the octet behind it; `escaped` says that one stands directly before
+-- a backslash gives way to the octet after it; `escaped` says that one stands directly before
 abbrev pub unescaped : Bool → List ℕ → List ℕ
 unescaped escaped [] = []
 unescaped true (c ∷ t) = c ∷ unescaped false t
@@ -65,7 +65,7 @@ comment_after found kind.Space t = found
 comment_after found kind.Comment t = first_of found t
 comment_after found _ t = None
 
--- the first comment behind the last lexeme
+-- the first comment after the last lexeme
 abbrev pub comment_behind : Option (List ℕ) → List Spelled → Option (List ℕ)
 comment_behind found [] = found
 comment_behind found (s ∷ ts) = comment_behind (comment_after found s.kind s.text) ts
@@ -81,7 +81,7 @@ pub data IsCommentName : Option (List ℕ) → Option (List ℕ) → Type 0 wher
   NoComment : IsCommentName None None
   OfComment : (comment name : List ℕ) → IsText false (comment_text comment) name → IsCommentName (Some comment) (some_text name)
 
--- the phrase's text, else that of the comment directly behind the address
+-- the phrase's text, else that of the comment directly after the address
 pub data IsName (m : Mailbox) : Option (List ℕ) → Type 0 where
   OfPhrase : (name : List ℕ) → is_phrase m.phrase ≡ true → IsText false (phrase_text m.phrase) name → IsName m (Some name)
   NoPhrase : (name : Option (List ℕ)) → is_phrase m.phrase ≡ false → IsCommentName (comment_behind None m.behind) name → IsName m name

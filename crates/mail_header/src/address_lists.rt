@@ -1,3 +1,4 @@
+// Lists of addresses and groups (RFC 5322 section 3.4).
 ghost use Rattle.std.specs.Prelude.{◌≡◌, ◌++◌, [], None, Some, false, true, List, MatchOption, IfOk, IfSome, IfNone, OnOk, option_to_list};
 ghost use Rattle.std.specs.List.{AllZip, flat_map, list_any};
 ghost use Rattle.text_words.specs.Sequence.{Sequence};
@@ -232,7 +233,7 @@ pub fn as_addresses(alloc: Global, raw: &[u8]) -> Result<Option<Listed<Address>>
     }
 }
 
-/// The members of the groups, those of one behind those of another.
+/// The members of the groups, those of one after those of another.
 fn flattened(alloc: Global, groups: &[Group]) -> Result<Vec<Address>, AllocError>
     ensures { IfOk result (λ v. v.items ≡ flat_map names.members_in groups.now) }
 {

@@ -12,7 +12,7 @@ use crate::token::Alphabet;
 use crate::token_class::{has_mark, is_atom};
 use text_words::same_text;
 
-/// The colon at the place, and the place behind it.
+/// The colon at the place, and the place after it.
 fn colon(place: Place<'_>) -> Option<(u8, Place<'_>)>
     ensures { MatchOption result (reading.colon_in (reading.pieces_at place.entry) ≡ None) (λ r. reading.colon_in (reading.pieces_at place.entry) ≡ Some (r.0, reading.pieces_at r.1)) }
 {
@@ -24,7 +24,7 @@ fn colon(place: Place<'_>) -> Option<(u8, Place<'_>)>
     }
 }
 
-/// What follows the day of the week and the comma behind it, where they stand at the front.
+/// What follows the day of the week and the comma after it, where they stand at the front.
 pub(crate) fn behind_day_name(text: &[u8]) -> &[u8]
     ensures { lexemes_in Alphabet.Mail result.now ≡ reading.behind_day_name (lexemes_in Alphabet.Mail text.now) }
 {
@@ -62,7 +62,7 @@ fn value(digits: &[u8]) -> u32
     value
 }
 
-/// The number that a text of so many digits spells.
+/// The number that a text of n digits spells.
 pub(crate) fn number_of(low: usize, high: usize, text: &[u8]) -> Option<u32>
     requires { high ≤ 4 }
     ensures value { result ≡ dates.number_of low high text.now }
@@ -77,7 +77,7 @@ pub(crate) fn number_of(low: usize, high: usize, text: &[u8]) -> Option<u32>
     Some(value(text))
 }
 
-/// The number at the place, and the place behind it.
+/// The number at the place, and the place after it.
 fn number(low: usize, high: usize, place: Place<'_>) -> Option<(u32, Place<'_>)>
     requires { high ≤ 4 }
     ensures value { MatchOption result (reading.number_in low high (reading.pieces_at place.entry) ≡ None) (λ r. reading.number_in low high (reading.pieces_at place.entry) ≡ Some (r.0, reading.pieces_at r.1)) }
@@ -126,7 +126,7 @@ fn month_of(text: &[u8]) -> Option<u32>
     }
 }
 
-/// The month at the place, and the place behind it.
+/// The month at the place, and the place after it.
 fn month(place: Place<'_>) -> Option<(u32, Place<'_>)>
     ensures { MatchOption result (reading.month_in (reading.pieces_at place.entry) ≡ None) (λ r. reading.month_in (reading.pieces_at place.entry) ≡ Some (r.0, reading.pieces_at r.1)) }
 {
@@ -152,7 +152,7 @@ fn year_of(text: &[u8]) -> Option<u32>
     Some(whole_year(text.len(), value(text)))
 }
 
-/// The year that a number of so many digits means.
+/// The year that a number of n digits means.
 fn whole_year(digits: usize, number: u32) -> u32
     requires { number < 300000 }
     ensures { result ≡ dates.whole_year digits number }
@@ -166,7 +166,7 @@ fn whole_year(digits: usize, number: u32) -> u32
     }
 }
 
-/// The year at the place, and the place behind it.
+/// The year at the place, and the place after it.
 fn year(place: Place<'_>) -> Option<(u32, Place<'_>)>
     ensures { MatchOption result (reading.year_in (reading.pieces_at place.entry) ≡ None) (λ r. reading.year_in (reading.pieces_at place.entry) ≡ Some (r.0, reading.pieces_at r.1)) }
 {
@@ -179,7 +179,7 @@ fn year(place: Place<'_>) -> Option<(u32, Place<'_>)>
     }
 }
 
-/// The seconds at the place, which may be missing, and the place behind them.
+/// The seconds at the place, which may be missing, and the place after them.
 fn second(place: Place<'_>) -> Option<(u32, Place<'_>)>
     ensures { MatchOption result (reading.second_in (reading.pieces_at place.entry) ≡ None) (λ r. reading.second_in (reading.pieces_at place.entry) ≡ Some (r.0, reading.pieces_at r.1)) }
 {
@@ -189,7 +189,7 @@ fn second(place: Place<'_>) -> Option<(u32, Place<'_>)>
     }
 }
 
-/// The day at the place, and the place behind it.
+/// The day at the place, and the place after it.
 pub(crate) fn day(place: Place<'_>) -> Option<(Day, Place<'_>)>
     ensures { MatchOption result (reading.day_in (reading.pieces_at place.entry) ≡ None) (λ r. reading.day_in (reading.pieces_at place.entry) ≡ Some (r.0, reading.pieces_at r.1)) }
 {
@@ -199,7 +199,7 @@ pub(crate) fn day(place: Place<'_>) -> Option<(Day, Place<'_>)>
     Some((Day { year, month, day }, rest))
 }
 
-/// The time of the day at the place, and the place behind it.
+/// The time of the day at the place, and the place after it.
 pub(crate) fn clock(place: Place<'_>) -> Option<(Clock, Place<'_>)>
     ensures { MatchOption result (reading.clock_in (reading.pieces_at place.entry) ≡ None) (λ r. reading.clock_in (reading.pieces_at place.entry) ≡ Some (r.0, reading.pieces_at r.1)) }
 {

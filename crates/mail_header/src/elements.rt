@@ -1,3 +1,4 @@
+// The elements of an address list, cut at its commas.
 ghost use Rattle.std.specs.Prelude.{◌≡◌, ◌+◌, None, Some, List, length, MatchOption, IfOk, IfSome, IfNone};
 ghost use Rattle.text_words.specs.Sequence.{Sequence};
 ghost use Rattle.mail_header.specs.AddressLists as lists;
@@ -25,7 +26,7 @@ pub(crate) struct Mailbox<'a, 'b> {
 pub(crate) enum Element<'a, 'b> {
     /// A comma, or gaps alone.
     Empty,
-    /// A group's phrase, with the colon behind it.
+    /// A group's phrase, with the colon after it.
     Head(&'b [Token<'a>]),
     /// The semicolon that ends a group.
     End,

@@ -55,7 +55,7 @@ impl<'a> Fields<'a> {
         last_in(self.list.as_slice(), name)
     }
 
-    /// The place behind the empty line that ends the header, or the length of the octets where there is none.
+    /// The place after the empty line that ends the header, or the length of the octets where there is none.
     pub fn end(&self) -> usize
         ensures { result ≡ self.now.end }
     {

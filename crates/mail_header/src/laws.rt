@@ -1,3 +1,4 @@
+// Laws of headers, tokens and forms.
 ghost use Rattle.std.specs.Prelude.{◌≡◌, ℕ, List, Option};
 ghost use Rattle.mail_header.specs.declared.token.Alphabet.{Alphabet};
 ghost use Rattle.mail_header.specs.declared.address.Address.{Address};

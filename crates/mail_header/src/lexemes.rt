@@ -1,3 +1,4 @@
+// Lexemes: tokens without white space and comments.
 ghost use Rattle.std.specs.Prelude.{◌≡◌, ◌<◌, ◌≤◌, ◌==◌, [], length, IfOk, IfSome, MatchOption};
 ghost use Rattle.mail_header.specs.Lexemes as lexemes;
 ghost use Rattle.mail_header.specs.TokenView.{token_view, tokens_view};
@@ -20,7 +21,7 @@ pub fn leading_lexemes(
     without_gaps(alloc, found.as_slice())
 }
 
-/// The text behind the white space and comments at its front.
+/// The text after the white space and comments at its front.
 pub fn behind_gaps(alphabet: Alphabet, text: &[u8]) -> &[u8]
     ensures is { reading.IsBehindGaps alphabet result.now text.now }
     ensures within { length result.now ≤ length text.now }
@@ -35,7 +36,7 @@ pub fn behind_gaps(alphabet: Alphabet, text: &[u8]) -> &[u8]
     rest
 }
 
-/// The first lexeme at the front of a value, and what follows it. There is none where no token begins behind white space
+/// The first lexeme at the front of a value, and what follows it. There is none where no token begins after white space
 /// and comments.
 pub fn next_lexeme(alphabet: Alphabet, text: &[u8]) -> Option<(Token<'_>, &[u8])>
     ensures value { MatchOption result (reading.lexemes_in alphabet text.now ≡ []) (λ r. reading.IsNextLexeme alphabet (token_view r.0) r.1.now text.now) }

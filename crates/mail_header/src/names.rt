@@ -1,3 +1,4 @@
+// Names of mailboxes and groups, and addresses as they are spelled.
 ghost use Rattle.std.specs.Prelude.{◌≡◌, ◌++◌, None, Some, false, IfOk, OnOk, MatchOption};
 ghost use Rattle.std.specs.Option.{option_map};
 ghost use Rattle.mail_header.specs.Names as names;
@@ -26,7 +27,7 @@ fn inside(text: &[u8]) -> &[u8]
     }
 }
 
-/// The text with each backslash replaced by the octet behind it.
+/// The text with each backslash replaced by the octet after it.
 fn unescaped(alloc: Global, text: &[u8]) -> Result<Vec<u8>, AllocError>
     ensures { IfOk result (λ v. v.items ≡ names.unescaped false text.now) }
 {
@@ -128,7 +129,7 @@ pub fn without_white_end(text: &[u8]) -> &[u8]
     rest
 }
 
-/// The first comment behind the last lexeme.
+/// The first comment after the last lexeme.
 fn comment_behind<'a>(tokens: &[Token<'a>]) -> Option<&'a [u8]>
     ensures { MatchOption result (names.comment_behind None (tokens_view tokens.now) ≡ None) (λ t. names.comment_behind None (tokens_view tokens.now) ≡ Some t.now) }
 {
@@ -173,7 +174,7 @@ fn some_text(text: Vec<u8>) -> Result<Option<Bytes>, AllocError>
     }
 }
 
-/// The name that a comment behind an address gives.
+/// The name that a comment after an address gives.
 fn comment_name(alloc: Global, tokens: &[Token<'_>]) -> Result<Option<Bytes>, AllocError>
     ensures { IfOk result (λ n. names.IsCommentName (names.comment_behind None (tokens_view tokens.now)) n) }
 {
@@ -183,7 +184,7 @@ fn comment_name(alloc: Global, tokens: &[Token<'_>]) -> Result<Option<Bytes>, Al
     }
 }
 
-/// The name of a mailbox: its phrase, else the comment behind its address.
+/// The name of a mailbox: its phrase, else the comment after its address.
 fn name_of(alloc: Global, mailbox: &Mailbox<'_, '_>) -> Result<Option<Bytes>, AllocError>
     ensures { IfOk result (λ n. names.IsName (mailbox_view mailbox.now) n) }
 {

@@ -16,7 +16,7 @@ pub enum Piece<'a> {
     Digits(&'a [u8]),
     /// A run of letters.
     Letters(&'a [u8]),
-    /// `+` or `-`, and the digits directly behind it.
+    /// `+` or `-`, and the digits directly after it.
     Signed(u8, &'a [u8]),
     /// Any other octet.
     Octet(u8),
@@ -24,14 +24,14 @@ pub enum Piece<'a> {
     Other,
 }
 
-/// A place in a date: what is left of an atom, and the text behind the atom.
+/// A place in a date: what is left of an atom, and the text after the atom.
 #[derive(Clone, Copy)]
 pub struct Place<'a> {
     pub(crate) atom: &'a [u8],
     pub(crate) rest: &'a [u8],
 }
 
-/// The piece at the place, and the place behind it.
+/// The piece at the place, and the place after it.
 pub(crate) fn next_piece(place: Place<'_>) -> Option<(Piece<'_>, Place<'_>)>
     ensures { MatchOption result (reading.pieces_at place.entry ≡ []) (λ r. reading.pieces_at place.entry ≡ reading.piece_view r.0 ∷ reading.pieces_at r.1) }
 {
@@ -110,7 +110,7 @@ fn is_plus_or_minus(octet: u8) -> bool
     octet == b'+' || octet == b'-'
 }
 
-/// The digits at the place, and the place behind them.
+/// The digits at the place, and the place after them.
 pub(crate) fn digits(place: Place<'_>) -> Option<(&[u8], Place<'_>)>
     ensures { MatchOption result (reading.digits_in (reading.pieces_at place.entry) ≡ None) (λ r. reading.digits_in (reading.pieces_at place.entry) ≡ Some (r.0.now, reading.pieces_at r.1)) }
 {
@@ -121,7 +121,7 @@ pub(crate) fn digits(place: Place<'_>) -> Option<(&[u8], Place<'_>)>
     }
 }
 
-/// The letters at the place, and the place behind them.
+/// The letters at the place, and the place after them.
 pub(crate) fn letters(place: Place<'_>) -> Option<(&[u8], Place<'_>)>
     ensures { MatchOption result (reading.letters_in (reading.pieces_at place.entry) ≡ None) (λ r. reading.letters_in (reading.pieces_at place.entry) ≡ Some (r.0.now, reading.pieces_at r.1)) }
 {
@@ -132,7 +132,7 @@ pub(crate) fn letters(place: Place<'_>) -> Option<(&[u8], Place<'_>)>
     }
 }
 
-/// The octet at the place, which is neither a digit nor a letter, and the place behind it.
+/// The octet at the place, which is neither a digit nor a letter, and the place after it.
 pub(crate) fn octet(place: Place<'_>) -> Option<(u8, Place<'_>)>
     ensures { MatchOption result (reading.octet_in (reading.pieces_at place.entry) ≡ None) (λ r. reading.octet_in (reading.pieces_at place.entry) ≡ Some (r.0, reading.pieces_at r.1)) }
 {

@@ -1,3 +1,4 @@
+// The forms Raw and Text.
 ghost use Rattle.std.specs.Prelude.{◌≡◌, ◌++◌, IfOk, OnOk};
 ghost use Rattle.std.specs.List.{filter};
 ghost use Rattle.mail_header.specs.Lines as lines;

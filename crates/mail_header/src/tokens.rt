@@ -1,3 +1,4 @@
+// The tokens of a raw value (RFC 5322 section 3.2).
 ghost use Rattle.std.specs.Prelude.{false, None, ◌≡◌, ◌<◌, ◌≤◌, ◌+◌, ℕ, List, IfOk, MatchOption, IfSome, IfNone, length};
 ghost use Rattle.mail_header.specs.Tokens as tokens;
 ghost use Rattle.mail_header.specs.reading.TokenReading as reading;

@@ -103,7 +103,7 @@ fn zone_of(piece: Piece<'_>) -> Option<i32>
     }
 }
 
-/// The zone at the place, and the place behind it.
+/// The zone at the place, and the place after it.
 pub(crate) fn zone(place: Place<'_>) -> Option<(i32, Place<'_>)>
     ensures value { MatchOption result (reading.zone_in (reading.pieces_at place.entry) ≡ None) (λ r. reading.zone_in (reading.pieces_at place.entry) ≡ Some (r.0, reading.pieces_at r.1)) }
     ensures low { IfSome result (λ r. negsuc 1439 ≤ℤ r.0) }

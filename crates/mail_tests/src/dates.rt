@@ -1,3 +1,4 @@
+// Dates.
 use mail_header::{Moment, as_date};
 use std::alloc::Global;
 use std::process::Abort;
@@ -123,7 +124,7 @@ const SECONDS: [(&[u8], i64); 17] = [
     (b"31 Dec 2016 23:59:60 GMT", 1483228799),
 ];
 
-/// The day behind each of those, and days and years that are none.
+/// The day after each of those, and days and years that are none.
 const NO_DATES: [&[u8]; 18] = [
     b"32 Jan 2023 00:00 GMT",
     b"29 Feb 2023 00:00 GMT",

@@ -1,3 +1,4 @@
+// Fields of headers.
 use mail_header::{fields, last_field};
 use std::alloc::Global;
 use std::process::Abort;

@@ -64,7 +64,7 @@ fn ten_million_octets_are_a_date(rt: HostRuntime) -> Result<(), Fail> {
     Ok(())
 }
 
-/// Addresses of ten million octets with an open comment behind them, which has no reading.
+/// Addresses of ten million octets with an open comment after them, which has no reading.
 fn unread(alloc: Global) -> Result<Vec<u8>, AllocError> {
     let mut value = long(alloc, b"", b"a@b,")?;
     value.push(b'(')?;

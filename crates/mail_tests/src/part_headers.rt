@@ -1,3 +1,4 @@
+// What the headers of parts say.
 use gate_world::Bytes;
 use mail_header::fields;
 use mime_fields::{PartHeader, part_header};
@@ -14,7 +15,7 @@ fn push_value(text: &mut Vec<u8>, value: &Option<Bytes>) -> Result<(), AllocErro
     Ok(())
 }
 
-/// Type, boundary, charset, disposition, name, id, language, place and encoding, `-` for none, with `|` behind each.
+/// Type, boundary, charset, disposition, name, id, language, place and encoding, `-` for none, with `|` after each.
 fn written(alloc: Global, header: &PartHeader) -> Result<Vec<u8>, AllocError> {
     let mut text = Vec::new(alloc);
     push_value(&mut text, &header.media)?;

@@ -17,7 +17,7 @@ behind_first (c ∷ t) = Some t
 abbrev pub behind_apostrophe : List ℕ → Option (List ℕ)
 behind_apostrophe t = behind_first (back is_no_apostrophe t)
 
--- the text of the octets behind the second apostrophe, in the charset before the first
+-- the text of the octets after the second apostrophe, in the charset before the first
 abbrev pub extended_text : List ℕ → Option (List ℕ)
 extended_text t =
     option_map (λ (escaped : List ℕ). text_in (charset_of (front is_no_apostrophe t)) (percent_decode escaped))

@@ -65,7 +65,8 @@ by_end : (c : ℕ) (t : List ℕ) → onto c (lines t) ≡ (c ∷ take (line_len
 unfolding lines line_len
 by_end c t h = by (eqb c 10) refl
   where
-    by : (q : Bool) → eqb c 10 ≡ q → cond q ((10 ∷ []) ∷ lines t) (onto c (lines t)) ≡ take (cond q 1 (suc (line_len t))) (c ∷ t) ∷ lines (drop (cond q 1 (suc (line_len t))) (c ∷ t))
+    by : (q : Bool) → eqb c 10 ≡ q → cond q ((10 ∷ []) ∷ lines t) (onto c (lines t))
+        ≡ take (cond q 1 (suc (line_len t))) (c ∷ t) ∷ lines (drop (cond q 1 (suc (line_len t))) (c ∷ t))
     by true e = ap (λ (x : ℕ). (x ∷ []) ∷ lines t) (sym (eqb-true c 10 e))
     by false e = h
 
@@ -99,7 +100,8 @@ here b at rest line n lt r e l = by rest r e l
         let w : n ≤ length (c ∷ t) = omega (arith, len_within (c ∷ t)) in
         let d : drop n (c ∷ t) ≡ drop (at + n) b = ap (drop n) r ∙ drop-drop n at b in
         record {
-          first = ap lines (sym r) ∙ f ∙ ap (λ (m : ℕ). take m (c ∷ t) ∷ lines (drop m (c ∷ t))) (sym e) ∙ ap (λ (u : List ℕ). u ∷ lines (drop n (c ∷ t))) (sym l) ∙ ap (λ (u : List ℕ). line ∷ lines u) d;
+          first = ap lines (sym r) ∙ f ∙ ap (λ (m : ℕ). take m (c ∷ t) ∷ lines (drop m (c ∷ t))) (sym e) ∙ ap (λ (u : List ℕ). u ∷ lines (drop n (c ∷ t))) (sym l)
+              ∙ ap (λ (u : List ℕ). line ∷ lines u) d;
           counted = sym (length-take-le n (c ∷ t) w) ∙ ap length (sym l);
           some = omega (arith, len_some c t);
           within = omega (arith, ap length r, length-drop at b);

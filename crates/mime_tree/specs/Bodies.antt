@@ -15,6 +15,6 @@ abbrev pub HasOctets : Part → List ℕ → List ℕ → Bool → Type 0
 HasOctets p b octets problem =
     IsBody (encoding_by (out-Part p).number (out-Part p).encoding) octets problem (slice_range b (out-Part p).start (out-Part p).end)
 
--- the part of the octets b spells so many octets
+-- the part of the octets b spells n octets
 abbrev pub HasLen : Part → List ℕ → ℕ → Type 0
 HasLen p b n = HasBodyLen (encoding_by (out-Part p).number (out-Part p).encoding) n (slice_range b (out-Part p).start (out-Part p).end)

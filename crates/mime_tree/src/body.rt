@@ -1,3 +1,4 @@
+// The octets that a part spells.
 ghost use Rattle.std.specs.Prelude.{IfOk};
 ghost use Rattle.mime_tree.specs.Bodies.{HasLen, HasOctets};
 ghost use Rattle.mime_tree.specs.Parts.{IsWithin};

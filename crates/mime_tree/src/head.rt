@@ -1,3 +1,4 @@
+// The head of a part, and its defaults.
 ghost use Rattle.std.specs.Prelude.{◌≡◌, ◌≤◌, IfOk, MatchOption, None, Some, length, unwrap_or};
 ghost use Rattle.mime_tree.specs.Heads as heads;
 ghost use Rattle.mime_tree.specs.Heads.{IsHead};
@@ -18,7 +19,7 @@ pub struct Head {
     /// The media type that the header names, or else the default one.
     pub media: Bytes,
     pub start: usize,
-    /// The place behind the header, where the body begins.
+    /// The place after the header, where the body begins.
     pub body: usize,
     pub end: usize,
 }
@@ -79,6 +80,7 @@ fn is_multipart(media: &[u8]) -> bool
     same_text(kind, b"multipart")
 }
 
+/// Whether the media type is a text.
 #[tactic(auto, unfolding(crate::specs::Heads::is_text))]
 pub fn is_text(media: &[u8]) -> bool
     ensures { result ≡ heads.is_text media.now }

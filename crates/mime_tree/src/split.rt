@@ -1,3 +1,4 @@
+// The parts of a multipart's body (RFC 2046 section 5.1.1).
 ghost use Rattle.std.specs.Prelude.{◌≡◌, ◌≤◌, ◌<◌, ◌+◌, IfOk, OnOk, IfSome, MatchOption, None, Some, ◌++◌, length, ℕ, List};
 ghost use Rattle.mime_tree.specs.reading.LineReading as reading;
 ghost use Rattle.mime_tree.specs.Splits as splits;
@@ -13,9 +14,9 @@ use text_words::{White, are_all};
 #[derive(Clone, Copy, PartialEq, Eq, Debug)]
 pub enum Mark {
     Plain,
-    /// A delimiter line, behind which a part begins.
+    /// A delimiter line, after which a part begins.
     Opens,
-    /// A closing line, behind which no part stands.
+    /// A closing line, after which no part stands.
     Closes,
 }
 
@@ -37,7 +38,7 @@ fn line_len(bytes: &[u8]) -> usize
     }
 }
 
-/// What the line is, by what stands behind the boundary.
+/// What the line is, by what stands after the boundary.
 fn rest_mark(rest: &[u8]) -> Mark
     ensures { result ≡ reading.rest_mark (Some rest.now) }
 {

@@ -1,3 +1,4 @@
+// The tree of a message's parts.
 ghost use Rattle.std.specs.Prelude.{◌≡◌, ◌≤◌, ◌<◌, ◌+◌, ◌-◌, ◌^◌, ℕ, IfOk, IfSome, None, Some, length, slice_range};
 ghost use Rattle.mime_tree.specs.declared.part.Part.{Part, out-Part};
 ghost use Rattle.mime_tree.specs.Heads as heads;
@@ -31,7 +32,7 @@ pub fn parse(alloc: Global, bytes: &[u8]) -> Result<Part, AllocError>
     Ok(part)
 }
 
-/// The part that stands there, and the number behind its leaves'.
+/// The part that stands there, and the number after its leaves'.
 fn part_at(
     alloc: Global,
     shared: &SharedTexts,

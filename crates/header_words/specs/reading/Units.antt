@@ -1,5 +1,6 @@
 -- What stands at the front of a text, as functions on lists: how the code reads it.
-use Rattle.std.specs.Prelude.{◌≡◌, ℕ, zero, suc, ◌+◌, ◌*◌, Bool, true, ◌==◌, if◌then◌else◌, List, [], ◌∷◌, ◌++◌, length, drop, Option, Some, None, option_to_list}
+use Rattle.std.specs.Prelude.{◌≡◌, ℕ, zero, suc, ◌+◌, ◌*◌, Bool, true, ◌==◌, if◌then◌else◌, List, [], ◌∷◌, ◌++◌, length, drop, Option, Some, None}
+use Rattle.std.specs.Prelude.{option_to_list}
 use Rattle.text_words.specs.Cuts.{front, back}
 use Rattle.text_words.specs.LineEnds.{line_end_len}
 use Rattle.text_words.specs.Octets.{is_blank, hex_value}
@@ -44,7 +45,7 @@ pub record FoundAt (reading : List ℕ) (start end : ℕ) (t : List ℕ) : Type 
   pub start_is : start ≡ length before
   pub end_is : end ≡ length before + length word
 
--- behind an "=" without hexadecimal digits, so many blanks, and an end of the line of so many octets
+-- after an "=" without hexadecimal digits, so many blanks, and an end of the line of n octets
 abbrev pub break_of : ℕ → ℕ → Option (Piece × ℕ)
 break_of n zero = Some (record { octets = 61 ∷ []; wrong = true }, 1)
 break_of n (suc k) = Some (right [], 1 + n + suc k)
@@ -83,7 +84,7 @@ pub record IsRead (read : Option (Piece × ℕ)) (text rest octets : List ℕ) (
 abbrev pub Reads : Option (Piece × ℕ) → List ℕ → PieceAt → Type 0
 Reads read text p = IsRead read text p.rest.now (octets_read p) p.wrong
 
--- the text spells so many octets in quoted-printable
+-- the text spells n octets in quoted-printable
 pub record HasPrintableLen (n : ℕ) (t : List ℕ) : Type 0 where
   pub octets : List ℕ
   pub problem : Bool

@@ -1,3 +1,4 @@
+// Bodies in their transfer encodings.
 use crate::charset::decode_charset;
 use crate::transfer::{decode_transfer, transfer_len};
 use std::test::Fail;

@@ -1,3 +1,4 @@
+// Values with encoded words.
 use crate::words::decode_words;
 use std::test::Fail;
 

@@ -75,7 +75,7 @@ abbrev pub is_empty : List Spelled → Bool
 is_empty [] = true
 is_empty (s ∷ ts) = false
 
--- of the plain tokens at the front, the token behind them, and what follows
+-- of the plain tokens at the front, the token after them, and what follows
 abbrev pub marked_of : List Spelled → Spelled → List Spelled → Option (Element × ℕ)
 marked_of plain s more =
     if has_mark 58 s then head_of plain
@@ -143,7 +143,7 @@ pub record AreFilled (kept : List Element) (ts : List Spelled) : Type 0 where
   pub are : Sequence IsElement all ts
   pub kept_is : kept ≡ filter is_filled all
 
--- the hops behind the first, each behind a comma
+-- the hops after the first, each after a comma
 abbrev pub are_hops_behind : List Spelled → Bool
 are_hops_behind [] = true
 are_hops_behind (comma ∷ ts) = are_hops [] ts

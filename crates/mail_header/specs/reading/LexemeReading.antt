@@ -36,7 +36,7 @@ rest_in a t = rest_within a (length t) t
 unfoldable pub lexemes_in : Alphabet → List ℕ → List Spelled
 lexemes_in a t = filter is_lexeme (tokens_in a t)
 
--- the texts of lexemes, one behind another
+-- the texts of lexemes, one after another
 abbrev pub texts_of : List Spelled → List ℕ
 texts_of [] = []
 texts_of (s ∷ ts) = s.text ++ texts_of ts
@@ -45,7 +45,7 @@ texts_of (s ∷ ts) = s.text ++ texts_of ts
 abbrev pub BeginsNoGap : Alphabet → List ℕ → Type 0
 BeginsNoGap a t = (v : Spelled) (n : ℕ) → spelled_in a t ≡ Some (v, n) → is_lexeme v ≡ true
 
--- s is t behind white space and comments
+-- s is t after white space and comments
 pub record IsBehindGaps (a : Alphabet) (s t : List ℕ) : Type 0 where
   pub lexemes : lexemes_in a s ≡ lexemes_in a t
   pub rest : rest_in a s ≡ rest_in a t

@@ -11,7 +11,7 @@ unfoldable pub line_len : List ℕ → ℕ
 line_len [] = 0
 line_len (c ∷ t) = if c == 10 then 1 else suc (line_len t)
 
--- what stands behind the prefix
+-- what stands after the prefix
 abbrev pub behind : List ℕ → List ℕ → Option (List ℕ)
 behind p t = if bytes_eq (take (length p) t) p then Some (drop (length p) t) else None
 
@@ -19,7 +19,7 @@ abbrev pub closes : Option (List ℕ) → Mark
 closes None = mark.Plain
 closes (Some t) = if list_all is_white t then mark.Closes else mark.Plain
 
--- what the line is, by what stands behind the boundary
+-- what the line is, by what stands after the boundary
 abbrev pub rest_mark : Option (List ℕ) → Mark
 rest_mark None = mark.Plain
 rest_mark (Some t) = if list_all is_white t then mark.Opens else closes (behind (45 ∷ 45 ∷ []) t)

@@ -29,7 +29,8 @@ pub record Gains (old new : BodyLists) (a : PartLists) : Type 0 where
 
 -- what was added since the lists had these lengths is spread
 abbrev pub Spreads : Walk → ℕ → ℕ → BodyLists → BodyLists → Type 0
-Spreads inner text html mid new = (old : BodyLists) (a : PartLists) → length old.text ≡ text → length old.html ≡ html → Gains old mid a → Gains old new (spread inner a)
+Spreads inner text html mid new = (old : BodyLists) (a : PartLists) → length old.text ≡ text → length old.html ≡ html → Gains old mid a
+    → Gains old new (spread inner a)
 
 abbrev pub Shares : ℕ → ℕ → BodyLists → BodyLists → Type 0
 Shares text html mid new = (old : BodyLists) (a : PartLists) → length old.text ≡ text → length old.html ≡ html → Gains old mid a → Gains old new (shared a)

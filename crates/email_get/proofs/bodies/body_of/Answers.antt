@@ -16,4 +16,5 @@ returns c =
     let refs = c.in_ok-parts.parts.items in
     IfOk-weaker c.shown_at.result _ _ (λ s e.
     let P : List (Bor Part) → Type 0 = λ u. ListsBody c.args.bytes.now (parts_of u) c.in_ok-lists.lists (body_view s) in
-    body_is c.args.bytes.now c.args.root.now c.in_ok-lists.lists (parts_of refs) (body_view s) c.requires.message c.in_ok-lists.ensures c.in_ok-parts.ensures (subst P c.as_slice.ensures.value e)) c.shown_at.ensures
+    body_is c.args.bytes.now c.args.root.now c.in_ok-lists.lists (parts_of refs) (body_view s) c.requires.message c.in_ok-lists.ensures c.in_ok-parts.ensures
+    (subst P c.as_slice.ensures.value e)) c.shown_at.ensures

@@ -16,8 +16,14 @@ returns-then-is_plain c =
     let k = c.saturating_sub.result in
     let P : ℕ → Type 0 = λ n. slice_get ls n ≡ Some p in
     let e : slice_get ls k ≡ Some p = subst P (sym c.saturating_sub.ensures) c.in-Some.ensures in
-    let plain : is_plain p ≡ true = sym c.is_plain.ensures ∙ c.if-is_plain.true in
-    (place_within refs k p e, ((p, e, plain), λ b t w. c.loop-number.invariant b t (plain_here b ls c.args.numbers.now c.loop-number.number-index p t c.loop-number-test.true c.in-Some.ensures plain (same_leaf b ls k p t e w))))
+    let plain : is_plain p ≡ true = sym c.is_plain.ensures ∙ c.if-is_plain.true in (
+      place_within refs k p e,
+      (
+        (p, e, plain),
+        λ b t w. c.loop-number.invariant b t
+            (plain_here b ls c.args.numbers.now c.loop-number.number-index p t c.loop-number-test.true c.in-Some.ensures plain (same_leaf b ls k p t e w)),
+      ),
+    )
 
 pub loop-number-preserved : goal.loop-number-preserved
 loop-number-preserved c b t h =

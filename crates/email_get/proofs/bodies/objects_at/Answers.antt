@@ -25,5 +25,6 @@ loop-number-preserved c =
       | in-Some+in_ok-part_value-in-Some+in_ok-push-in-Some w ↦
           let v = w.in_ok-part_value-in-Some.field-0 in
           let e = ap viewed w.objects-is ∙ ap (λ (vs : List Value). map view vs) w.in_ok-push-in-Some.ensures.items ∙ views_more before v in
-          subst P (sym e) (objects_more b ls ns i w.in-Some.part.now (map view before) (view v) c.loop-number-test.true w.in-Some.ensures c.loop-number.invariant w.in_ok-part_value-in-Some.ensures)
+          subst P (sym e) (objects_more b ls ns i w.in-Some.part.now (map view before)
+          (view v) c.loop-number-test.true w.in-Some.ensures c.loop-number.invariant w.in_ok-part_value-in-Some.ensures)
     ]

@@ -20,4 +20,5 @@ loop-part-preserved c =
     let before = members_view c.loop-part.values.entries in
     let after = members_view c.put_value.new.values.entries in
     let P : Bor Part → Type 0 = λ r. PutsIf (is_text (media r.now)) b r.now before after in
-    values_more b c.args.leaves.now c.loop-part.part-index c.part-item.result (members_view c.args.values.now.entries) before after c.loop-part-test.true c.loop-part.invariant (subst P c.part-item.is c.in_ok-put_value.ensures)
+    values_more b c.args.leaves.now c.loop-part.part-index c.part-item.result (members_view c.args.values.now.entries) before after c.loop-part-test.true c.loop-part.invariant
+    (subst P c.part-item.is c.in_ok-put_value.ensures)

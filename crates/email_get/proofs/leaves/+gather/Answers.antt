@@ -17,7 +17,8 @@ gather-loop-part-preserved t c =
 pub gather_part-returns-then-is_some : goal.gather_part-returns-then-is_some
 gather_part-returns-then-is_some t c =
     let leaf : is_leaf c.args.part.now ≡ true = sym c.is_some.ensures ∙ c.if-is_some.true in
-    gathers_leaf c.args.part.now (parts_of c.args.leaves.now.items) (parts_of c.push.new.self.items) leaf (ap parts_of c.in_ok-push.ensures.items ∙ parts_more c.args.leaves.now.items _)
+    gathers_leaf c.args.part.now (parts_of c.args.leaves.now.items) (parts_of c.push.new.self.items) leaf
+    (ap parts_of c.in_ok-push.ensures.items ∙ parts_more c.args.leaves.now.items _)
 
 pub gather_part-returns : goal.gather_part-returns
 gather_part-returns t c =

@@ -11,7 +11,8 @@ use Rattle.email_get.proofs.part_objects.tag_values.Goals as goal
 
 pub tags-preserved : goal.tags-preserved
 tags-preserved c =
-    tag_more (map view c.tags.values.items) (map view c.push_tag.new.values.items) (token_view c.in-Some.lexeme) (lexemes_in alphabet.Mime c.tags.rest.now) (lexemes_in alphabet.Mime c.in-Some.more.now)
+    tag_more (map view c.tags.values.items) (map view c.push_tag.new.values.items) (token_view c.in-Some.lexeme) (lexemes_in alphabet.Mime c.tags.rest.now)
+    (lexemes_in alphabet.Mime c.in-Some.more.now)
     (map text_data (atoms (lexemes_in alphabet.Mime c.args.text.now))) c.in-Some.ensures.value.lexemes c.in_ok-push_tag.ensures c.tags.invariant
 
 pub returns : goal.returns

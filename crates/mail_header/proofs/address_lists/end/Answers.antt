@@ -9,6 +9,10 @@ returns c = λ es all b. record {
   done = b.done ++ closed b.phrase b.ms;
   phrase = None;
   ms = [];
-  has = record { groups = closes c.args.builder b.done b.phrase b.ms c.in_ok-groups.groups.items b.has c.in_ok-groups.ensures; name = NoName; members = no_members c.new.result.items c.new.ensures.items };
+  has = record {
+    groups = closes c.args.builder b.done b.phrase b.ms c.in_ok-groups.groups.items b.has c.in_ok-groups.ensures;
+    name = NoName;
+    members = no_members c.new.result.items c.new.ensures.items;
+  };
   all_is = append_assoc b.done (closed b.phrase b.ms) (grouped_from None [] es) ∙ b.all_is;
 }

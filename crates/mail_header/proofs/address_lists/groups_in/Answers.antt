@@ -18,4 +18,7 @@ returns-in_ok-groups-in-Some c =
     let ts = tokens_view c.args.tokens.now in
     let es = c.in-Some.elements in
     let l = take_some (λ (v : Vec Code Global). IsList (elements_view v.items) ts) c.in_ok-list_of.field-0 es c.in-Some.is c.in_ok-list_of.ensures.some in
-    subst (λ (u : List Group). GroupsIn ts (Some u)) (sym c.from_vec.ensures) (Groups (elements_view es.items) c.in_ok-groups-in-Some.field-0.items l (subst (λ (u : List Code). AllZip IsGroup (grouped_from None [] (elements_view u)) c.in_ok-groups-in-Some.field-0.items) c.as_slice.ensures.value c.in_ok-groups-in-Some.ensures))
+    subst (λ (u : List Group). GroupsIn ts (Some u)) (sym c.from_vec.ensures)
+    (Groups (elements_view es.items) c.in_ok-groups-in-Some.field-0.items l
+    (subst (λ (u : List Code). AllZip IsGroup (grouped_from None []
+    (elements_view u)) c.in_ok-groups-in-Some.field-0.items) c.as_slice.ensures.value c.in_ok-groups-in-Some.ensures))

@@ -10,4 +10,5 @@ returns-clause-message c =
     (c.in_ok-part.field-0-1, subst P c.in_ok-shared.ensures.text_plain c.in_ok-part.ensures.tree)
 
 pub returns-clause-within : goal.returns-clause-within
-returns-clause-within c = λ q u. tree_within 64 c.args.bytes.now 0 (length c.args.bytes.now) c.in_ok-shared.shared.text_plain 1 c.in_ok-part.part c.in_ok-part.field-0-1 (omega arith) (omega arith) c.in_ok-part.ensures.tree q u
+returns-clause-within c = λ q u. tree_within 64 c.args.bytes.now 0 (length c.args.bytes.now) c.in_ok-shared.shared.text_plain 1 c.in_ok-part.part c.in_ok-part.field-0-1
+    (omega arith) (omega arith) c.in_ok-part.ensures.tree q u
