@@ -1,7 +1,6 @@
 -- Moments, their days and their times.
-use Rattle.std.proofs.Common.{◌≡◌, ◌∙◌, ℕ, zero, suc, ◌+◌, ◌*◌, ◌/◌, ◌%◌, ◌<◌, ◌≤◌, Bool, true, false, cond, ◌&&◌, ◌==◌, nat_le, refl, sym, ap, subst, arith, ℤ, pos, negsuc, ◌+ℤ◌, ◌-ℤ◌, ◌*ℤ◌, ◌≤ℤ◌, ◌<ℤ◌, List, [], ◌∷◌, Option, Some, None}
+use Rattle.std.proofs.Common.{◌≡◌, ◌∙◌, ℕ, zero, suc, ◌+◌, ◌*◌, ◌/◌, ◌%◌, ◌<◌, ◌≤◌, Bool, true, false, cond, ◌&&◌, ◌==◌, nat_le, refl, sym, ap, subst, arith, ℤ, pos, negsuc, ◌+ℤ◌, ◌-ℤ◌, ◌*ℤ◌, ◌≤ℤ◌, ◌<ℤ◌, List, Option, Some, None}
 use Rattle.std.specs.Prelude.{IfSome, codes, unsigned_abs}
-use Rattle.std.specs.List.{list_all, filter}
 use Rattle.std.proofs.lemmas.Bool.{cond-true, leb-true, and_parts, and_from}
 use Rattle.jiff_core.specs.Calendar.{days_in_month, day_count}
 use Rattle.jiff_core.specs.Date.{epoch_day}
@@ -13,7 +12,7 @@ use Rattle.jiff_core.proofs.SignedLemmas.{signed_arith}
 use Rattle.mail_header.specs.declared.date.Clock.{Clock}
 use Rattle.mail_header.specs.declared.date.Day.{Day}
 use Rattle.mail_header.specs.declared.date.Moment.{Moment}
-use Rattle.text_words.specs.Octets.{is_between, is_alpha, is_same_text}
+use Rattle.text_words.specs.Octets.{is_between, is_same_text}
 use Rattle.mail_header.specs.Tokens.{Spelled}
 use Rattle.mail_header.specs.Dates as dates
 use Rattle.email_get.specs.MomentText.{IsMomentText, IsShown, local_text}
