@@ -7,6 +7,4 @@ pub mod BodyValues
 pub mod HeaderProperties
 pub mod MomentText
 pub mod EmailObjects
-pub mod BodyViews
-pub mod EmailMembers
-pub mod LeafLists
+pub mod reading

@@ -30,11 +30,3 @@ pub record HasText (p : Part) (b text : List ℕ) (problem : Bool) : Type 0 wher
   pub has_octets : HasOctets p b octets misspelled
   pub text_is : text ≡ with_lf (text_in (charset_in p) octets)
   pub problem_is : problem ≡ (misspelled || has_problem_in (charset_in p) octets)
-
--- The octets b of the part spell this text, with a problem or none. The ends of its lines are as they stand.
-pub record HasDecoded (p : Part) (b text : List ℕ) (problem : Bool) : Type 0 where
-  pub octets : List ℕ
-  pub misspelled : Bool
-  pub has_octets : HasOctets p b octets misspelled
-  pub text_is : text ≡ text_in (charset_in p) octets
-  pub problem_is : problem ≡ (misspelled || has_problem_in (charset_in p) octets)

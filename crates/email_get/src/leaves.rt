@@ -1,7 +1,7 @@
 // The leaves of a message, in the order of its octets.
 ghost use Rattle.std.specs.Prelude.{◌≡◌, ◌∷◌, [], IfOk, OnOk, MatchOption, None, Some, string_bytes, decimal};
 ghost use Rattle.mime_tree.specs.Roles.{leaf_number};
-ghost use Rattle.email_get.specs.LeafLists.{parts_of, part_at, Gathers};
+ghost use Rattle.email_get.specs.reading.LeafLists.{parts_of, part_at, Gathers};
 ghost use Rattle.email_get.specs.Leaves.{AreLeaves};
 
 use mime_tree::Part;

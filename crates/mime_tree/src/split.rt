@@ -5,8 +5,9 @@ ghost use Rattle.mime_tree.specs.Splits.{IsSplit, AreBehind, ending};
 
 use gate_world::Listed;
 use mail_header::lines::without_end;
+use memchr::memchr;
 use std::alloc::{AllocError, Global};
-use text_words::{Class, White, are_all, cut};
+use text_words::{White, are_all};
 
 /// What a line is to a multipart.
 #[derive(Clone, Copy, PartialEq, Eq, Debug)]
@@ -25,30 +26,14 @@ pub struct Piece {
     pub end: usize,
 }
 
-/// The octets that end no line.
-struct InLine;
-
-impl Class<u8> for InLine {
-    ghost use Rattle.mime_tree.specs.reading.LineReading as reading;
-
-    ghost test = { reading.is_in_line };
-
-    fn has(&self, item: &u8) -> bool {
-        *item != b'\n'
-    }
-}
-
 /// How many octets the first line has, with its end.
-#[tactic(auto, using(crate::proofs::LineLemmas::line_counts))]
 fn line_len(bytes: &[u8]) -> usize
     ensures value { result ≡ reading.line_len bytes.now }
     ensures within { result ≤ length bytes.now }
 {
-    let (line, rest) = cut(&InLine, bytes);
-    if rest.is_empty() {
-        line.len()
-    } else {
-        line.len() + 1
+    match memchr(b'\n', bytes) {
+        None => bytes.len(),
+        Some(at) => at + 1,
     }
 }
 

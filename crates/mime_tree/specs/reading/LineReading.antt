@@ -1,14 +1,10 @@
 -- Lines as functions: where the first one ends, and what it is to a multipart.
-use Rattle.std.specs.Prelude.{ℕ, suc, Bool, not, ◌==◌, if◌then◌else◌, List, [], ◌∷◌, length, take, drop, Option, Some, None}
+use Rattle.std.specs.Prelude.{ℕ, suc, ◌==◌, if◌then◌else◌, List, [], ◌∷◌, length, take, drop, Option, Some, None}
 use Rattle.std.specs.List.{list_all}
 use Rattle.std.specs.Str.{bytes_eq}
 use Rattle.text_words.specs.Octets.{is_white}
 use Rattle.mime_tree.specs.declared.split.Mark.{Mark}
 use Rattle.mime_tree.specs.declared.split.Mark.TheVariants as mark
-
--- the octet ends no line
-abbrev pub is_in_line : ℕ → Bool
-is_in_line c = not (c == 10)
 
 -- how many octets the first line has, with its end
 unfoldable pub line_len : List ℕ → ℕ

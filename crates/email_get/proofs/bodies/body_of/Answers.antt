@@ -1,8 +1,8 @@
 use Rattle.std.proofs.Common.{List, Bor, subst, sym}
 use Rattle.std.proofs.lemmas.Result.{IfOk-weaker}
 use Rattle.mime_tree.specs.declared.part.Part.{Part}
-use Rattle.email_get.specs.BodyViews.{body_view}
-use Rattle.email_get.specs.LeafLists.{parts_of, AreWithin, ListsBody}
+use Rattle.email_get.specs.reading.BodyViews.{body_view}
+use Rattle.email_get.specs.reading.LeafLists.{parts_of, AreWithin, ListsBody}
 use Rattle.email_get.proofs.ListLemmas.{message_within, body_is}
 use Rattle.email_get.proofs.bodies.body_of.Goals as goal
 

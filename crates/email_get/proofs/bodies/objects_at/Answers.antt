@@ -3,7 +3,7 @@ use Rattle.serde_json.specs.Data.{Data}
 use Rattle.serde_json.specs.View.{view}
 use Rattle.serde_json.specs.declared.value.Value.{Value}
 use Rattle.email_get.specs.EmailObjects.{AreObjects}
-use Rattle.email_get.specs.LeafLists.{parts_of, parts_at}
+use Rattle.email_get.specs.reading.LeafLists.{parts_of, parts_at}
 use Rattle.email_get.proofs.ListLemmas.{within_at, views_more, objects_more, objects_same}
 use Rattle.email_get.proofs.bodies.objects_at.Goals as goal
 use Rattle.email_get.proofs.bodies.objects_at.Goals.{in-None, in-Some+in_ok-part_value-in-Some+in_ok-push-in-Some}

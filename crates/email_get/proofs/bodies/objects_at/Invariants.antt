@@ -1,7 +1,7 @@
 use Rattle.std.proofs.Common.{map, take}
 use Rattle.serde_json.specs.View.{view}
 use Rattle.email_get.specs.EmailObjects.{AreObjects}
-use Rattle.email_get.specs.LeafLists.{parts_of, parts_at}
+use Rattle.email_get.specs.reading.LeafLists.{parts_of, parts_at}
 use Rattle.email_get.proofs.bodies.objects_at.Given as goal
 
 abbrev pub invariant-loop-number : goal.invariant-loop-number

@@ -1,6 +1,6 @@
 use Rattle.std.proofs.lemmas.Result.{IfOk-weaker}
 use Rattle.mail_header.specs.Fields.{names_and_raws}
-use Rattle.email_get.specs.BodyViews.{body_view}
+use Rattle.email_get.specs.reading.BodyViews.{body_view}
 use Rattle.email_get.specs.HeaderProperties.{header_data}
 use Rattle.email_get.proofs.WholeLemmas.{whole_object}
 use Rattle.email_get.proofs.email_objects.email_object.Goals as goal

@@ -2,7 +2,7 @@ use Rattle.std.proofs.Common.{◌≡◌, false, true, List, [], ◌∷◌, ap, �
 use Rattle.std.proofs.lemmas.Result.{on_ok_weaker}
 use Rattle.mime_tree.specs.declared.part.Part.{Part}
 use Rattle.mime_tree.specs.Roles.{is_leaf}
-use Rattle.email_get.specs.LeafLists.{parts_of, Gathers}
+use Rattle.email_get.specs.reading.LeafLists.{parts_of, Gathers}
 use Rattle.email_get.proofs.ListLemmas.{parts_more, gathers_none, gathers_leaf, gathers_multi, gathers_more}
 use Rattle.email_get.proofs.leaves.+gather.Goals as goal
 

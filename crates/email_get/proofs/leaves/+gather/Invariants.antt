@@ -1,5 +1,5 @@
 use Rattle.std.proofs.Common.{take}
-use Rattle.email_get.specs.LeafLists.{parts_of, Gathers}
+use Rattle.email_get.specs.reading.LeafLists.{parts_of, Gathers}
 use Rattle.email_get.proofs.leaves.+gather.Given as goal
 
 abbrev pub invariant-gather-loop-part : goal.invariant-gather-loop-part

@@ -1,9 +1,0 @@
-use Rattle.std.proofs.Common.{ℕ, List, drop}
-use Rattle.email_get.specs.EmailObjects.{IsPreview}
-use Rattle.email_get.specs.LeafLists.{parts_of, parts_at}
-use Rattle.email_get.proofs.bodies.preview_at.Given as goal
-
--- none of the leaves so far is a plain text
-abbrev pub invariant-loop-number : goal.invariant-loop-number
-invariant-loop-number l =
-    (t : List ℕ) → IsPreview l.leaves.bytes.now (parts_at (parts_of l.leaves.parts.now) (drop l.number-index l.numbers)) t → IsPreview l.leaves.bytes.now (parts_at (parts_of l.leaves.parts.now) l.numbers) t
