@@ -26,17 +26,20 @@ known {A} o a r f e = ap (λ (x : Option A). then_read (with_rest x r) f) e
 
 day_read : (d : Day) (ps rest : List Piece) → IsDay d ps → day_in (ps ++ rest) ≡ Some (d, rest)
 day_read _ _ rest (DayMonthYear ds ms ys d m y e f g) =
-    known (number_of 1 2 ds) d (Letters ms ∷ Digits ys ∷ rest) (λ n r. then_read (month_in r) (λ o s. then_read (year_in s) (λ p t. Some (record { year = p; month = o; day = n }, t)))) e
+    known (number_of 1 2 ds) d (Letters ms ∷ Digits ys ∷ rest) (λ n r. then_read (month_in r)
+    (λ o s. then_read (year_in s) (λ p t. Some (record { year = p; month = o; day = n }, t)))) e
     ∙ known (month_of ms) m (Digits ys ∷ rest) (λ o s. then_read (year_in s) (λ p t. Some (record { year = p; month = o; day = d }, t))) f
     ∙ known (year_of ys) y rest (λ p t. Some (record { year = p; month = m; day = d }, t)) g
 
 clock_read : (c : Clock) (ps rest : List Piece) → IsClock c ps → colon_in rest ≡ None → clock_in (ps ++ rest) ≡ Some (c, rest)
 clock_read _ _ rest (HourMinute hs ms h m e f) n =
-    known (number_of 2 2 hs) h (Octet 58 ∷ Digits ms ∷ rest) (λ a r. then_read (colon_in r) (λ k s. then_read (number_in 2 2 s) (λ b t. then_read (second_in t) (λ d u. Some (record { hour = a; minute = b; second = d }, u))))) e
+    known (number_of 2 2 hs) h (Octet 58 ∷ Digits ms ∷ rest) (λ a r. then_read (colon_in r)
+    (λ k s. then_read (number_in 2 2 s) (λ b t. then_read (second_in t) (λ d u. Some (record { hour = a; minute = b; second = d }, u))))) e
     ∙ known (number_of 2 2 ms) m rest (λ b t. then_read (second_in t) (λ d u. Some (record { hour = h; minute = b; second = d }, u))) f
     ∙ ap (λ (o : Option (ℕ × List Piece)). then_read (second_behind o rest) (λ d u. Some (record { hour = h; minute = m; second = d }, u))) n
 clock_read _ _ rest (HourMinuteSecond hs ms ss h m s e f g) n =
-    known (number_of 2 2 hs) h (Octet 58 ∷ Digits ms ∷ Octet 58 ∷ Digits ss ∷ rest) (λ a r. then_read (colon_in r) (λ k s'. then_read (number_in 2 2 s') (λ b t. then_read (second_in t) (λ d u. Some (record { hour = a; minute = b; second = d }, u))))) e
+    known (number_of 2 2 hs) h (Octet 58 ∷ Digits ms ∷ Octet 58 ∷ Digits ss ∷ rest) (λ a r. then_read (colon_in r)
+    (λ k s'. then_read (number_in 2 2 s') (λ b t. then_read (second_in t) (λ d u. Some (record { hour = a; minute = b; second = d }, u))))) e
     ∙ known (number_of 2 2 ms) m (Octet 58 ∷ Digits ss ∷ rest) (λ b t. then_read (second_in t) (λ d u. Some (record { hour = h; minute = b; second = d }, u))) f
     ∙ known (number_of 2 2 ss) s rest (λ d u. Some (record { hour = h; minute = m; second = d }, u)) g
 
@@ -51,8 +54,10 @@ zone_no_colon _ _ (Named t) = refl
 date_time_read : (d : Day) (c : Clock) (z : ℤ) (ls : List Spelled) → IsDateTime d c z ls → date_in (pieces_of ls) ≡ moment_of d c z
 date_time_read d c z ls h =
     ap date_in h.whole
-    ∙ ap (λ (o : Option (Day × List Piece)). then_read o (λ d' r. then_read (clock_in r) (λ c' s. then_read (zone_in s) (λ z' t. at_end t (moment_of d' c' z'))))) (day_read d h.day (h.clock ++ h.zone) h.is_day)
-    ∙ ap (λ (o : Option (Clock × List Piece)). then_read o (λ c' s. then_read (zone_in s) (λ z' t. at_end t (moment_of d c' z')))) (clock_read c h.clock h.zone h.is_clock (zone_no_colon z h.zone h.is_zone))
+    ∙ ap (λ (o : Option (Day × List Piece)). then_read o (λ d' r. then_read (clock_in r) (λ c' s. then_read (zone_in s) (λ z' t. at_end t (moment_of d' c' z')))))
+    (day_read d h.day (h.clock ++ h.zone) h.is_day)
+    ∙ ap (λ (o : Option (Clock × List Piece)). then_read o (λ c' s. then_read (zone_in s) (λ z' t. at_end t (moment_of d c' z')))) (clock_read c h.clock h.zone h.is_clock
+    (zone_no_colon z h.zone h.is_zone))
     ∙ ap (λ (o : Option (ℤ × List Piece)). then_read o (λ z' t. at_end t (moment_of d c z'))) (zone_read z h.zone h.is_zone)
 
 -- ---- a date without a day of the week has no comma
@@ -103,7 +108,8 @@ no_day_name d c z (n ∷ m ∷ ls) h = by (is_atom n && has_mark 44 m) refl (λ 
     contradiction : (is_atom n && has_mark 44 m) ≡ true → ⊥
     contradiction e =
         let p = comma_piece m.kind m.text (and_second (is_atom n) (has_mark 44 m) e) in
-        let w : h.day ++ (h.clock ++ h.zone) ≡ pieces_in n.kind n.text ++ Octet 44 ∷ pieces_of ls = sym h.whole ∙ ap (λ (x : List Piece). pieces_in n.kind n.text ++ (x ++ pieces_of ls)) p in
+        let w : h.day ++ (h.clock ++ h.zone) ≡ pieces_in n.kind n.text ++ Octet 44 ∷ pieces_of ls = sym h.whole
+        ∙ ap (λ (x : List Piece). pieces_in n.kind n.text ++ (x ++ pieces_of ls)) p in
         let t = no_comma_in d c z h.day h.clock h.zone h.is_day h.is_clock h.is_zone in
         let f = ap (list_all is_no_comma) w ∙ comma_fails (pieces_in n.kind n.text) (pieces_of ls) in
         absurd cc
@@ -170,7 +176,8 @@ record Read (piece : List ℕ → Piece) (value : List ℕ → Option ℕ) (n : 
   whole : ps ≡ piece text ∷ r
   value_is : value text ≡ Some n
 
-number_found : (value : List ℕ → Option ℕ) (ps : List Piece) (n : ℕ) (r : List Piece) → then_read (digits_in ps) (λ t rest. with_rest (value t) rest) ≡ Some (n, r) → Read Digits value n ps r
+number_found : (value : List ℕ → Option ℕ) (ps : List Piece) (n : ℕ) (r : List Piece) → then_read (digits_in ps) (λ t rest. with_rest (value t) rest) ≡ Some (n, r)
+    → Read Digits value n ps r
 number_found value ps n r e =
     let s = step (digits_in ps) (λ t rest. with_rest (value t) rest) (n, r) e in
     let k = kept (value s.value) s.rest n r s.more in
@@ -185,7 +192,8 @@ month_found ps n r e =
 colon_found : (ps : List Piece) (c : ℕ) (r : List Piece) → colon_in ps ≡ Some (c, r) → ps ≡ Octet 58 ∷ r
 colon_found ps c r e = by (octet_in ps) refl e
   where
-    by : (o : Option (ℕ × List Piece)) → octet_in ps ≡ o → then_read {A = ℕ} {B = ℕ × List Piece} o (λ d rest. cond (eqb d 58) (Some (d, rest)) None) ≡ Some (c, r) → ps ≡ Octet 58 ∷ r
+    by : (o : Option (ℕ × List Piece)) → octet_in ps ≡ o → then_read {A = ℕ} {B = ℕ × List Piece} o (λ d rest. cond (eqb d 58) (Some (d, rest)) None) ≡ Some (c, r)
+        → ps ≡ Octet 58 ∷ r
     by None f g = absurd cc
     by (Some p) f g = colon (eqb p.0 58) refl g
       where
@@ -212,8 +220,10 @@ day_found ps d r e =
     let p : ◌≡◌ {A = Day × List Piece} (made, c.rest) (d, r) = let k = c.more in cc in
     record {
       pieces = Digits n.text ∷ Letters m.text ∷ Digits y.text ∷ [];
-      whole = n.whole ∙ ap (λ (u : List Piece). Digits n.text ∷ u) (m.whole ∙ ap (λ (u : List Piece). Letters m.text ∷ u) (y.whole ∙ ap (λ (q : Day × List Piece). Digits y.text ∷ q.1) p));
-      is = subst (λ (x : Day). IsDay x (Digits n.text ∷ Letters m.text ∷ Digits y.text ∷ [])) (ap (λ (q : Day × List Piece). q.0) p) (DayMonthYear n.text m.text y.text a.value b.value c.value n.value_is m.value_is y.value_is);
+      whole = n.whole ∙ ap (λ (u : List Piece). Digits n.text ∷ u) (m.whole ∙ ap (λ (u : List Piece). Letters m.text ∷ u)
+          (y.whole ∙ ap (λ (q : Day × List Piece). Digits y.text ∷ q.1) p));
+      is = subst (λ (x : Day). IsDay x (Digits n.text ∷ Letters m.text ∷ Digits y.text ∷ [])) (ap (λ (q : Day × List Piece). q.0) p)
+          (DayMonthYear n.text m.text y.text a.value b.value c.value n.value_is m.value_is y.value_is);
     }
 
 record FoundClock (c : Clock) (ps r : List Piece) : Type 0 where
@@ -222,7 +232,8 @@ record FoundClock (c : Clock) (ps r : List Piece) : Type 0 where
   is : IsClock c pieces
 
 -- with the seconds, or without them
-with_seconds : (hs ms : List ℕ) (h m n : ℕ) (ps t u : List Piece) → number_of 2 2 hs ≡ Some h → number_of 2 2 ms ≡ Some m → ps ≡ Digits hs ∷ Octet 58 ∷ Digits ms ∷ t → second_in t ≡ Some (n, u) → FoundClock (record { hour = h; minute = m; second = n }) ps u
+with_seconds : (hs ms : List ℕ) (h m n : ℕ) (ps t u : List Piece) → number_of 2 2 hs ≡ Some h → number_of 2 2 ms ≡ Some m → ps ≡ Digits hs ∷ Octet 58 ∷ Digits ms ∷ t
+    → second_in t ≡ Some (n, u) → FoundClock (record { hour = h; minute = m; second = n }) ps u
 with_seconds hs ms h m n ps t u e f w g = by (colon_in t) refl g
   where
     by : (o : Option (ℕ × List Piece)) → colon_in t ≡ o → second_behind o t ≡ Some (n, u) → FoundClock (record { hour = h; minute = m; second = n }) ps u
@@ -252,7 +263,8 @@ clock_found ps c r e =
     let m = number_found (number_of 2 2) b.rest d.value d.rest d.read in
     let made : Clock = record { hour = a.value; minute = d.value; second = f.value } in
     let p : ◌≡◌ {A = Clock × List Piece} (made, f.rest) (c, r) = let k = f.more in cc in
-    let w : ps ≡ Digits h.text ∷ Octet 58 ∷ Digits m.text ∷ d.rest = h.whole ∙ ap (λ (u : List Piece). Digits h.text ∷ u) (colon_found a.rest b.value b.rest b.read ∙ ap (λ (u : List Piece). Octet 58 ∷ u) m.whole) in
+    let w : ps ≡ Digits h.text ∷ Octet 58 ∷ Digits m.text ∷ d.rest = h.whole
+    ∙ ap (λ (u : List Piece). Digits h.text ∷ u) (colon_found a.rest b.value b.rest b.read ∙ ap (λ (u : List Piece). Octet 58 ∷ u) m.whole) in
     let s = with_seconds h.text m.text a.value d.value f.value ps d.rest f.rest h.value_is m.value_is w f.read in
     subst (λ (q : Clock × List Piece). FoundClock q.0 ps q.1) p s
 
@@ -268,7 +280,12 @@ zone_found (Signed c t ∷ ps) z r e =
     record { pieces = Signed c t ∷ []; whole = ap (λ (u : List Piece). Signed c t ∷ u) k.rest; is = Offset c t z k.value }
 zone_found (Letters t ∷ ps) z r e =
     let p : ◌≡◌ {A = ℤ × List Piece} (named_zone t, ps) (z, r) = cc in
-    record { pieces = Letters t ∷ []; whole = ap (λ (q : ℤ × List Piece). Letters t ∷ q.1) p; is = subst (λ (x : ℤ). IsZone x (Letters t ∷ [])) (ap (λ (q : ℤ × List Piece). q.0) p) (Named t) }
+    record {
+      pieces = Letters t ∷ [];
+      whole = ap (λ (q : ℤ × List Piece). Letters t ∷ q.1) p;
+      is = subst (λ (x : ℤ). IsZone x (Letters t ∷ []))
+          (ap (λ (q : ℤ × List Piece). q.0) p) (Named t);
+    }
 zone_found (Digits t ∷ ps) z r e = absurd cc
 zone_found (Octet c ∷ ps) z r e = absurd cc
 zone_found (Other ∷ ps) z r e = absurd cc
@@ -306,7 +323,8 @@ date_found ls m e =
         day = d.pieces;
         clock = k.pieces;
         zone = z.pieces;
-        whole = d.whole ∙ ap (λ (u : List Piece). d.pieces ++ u) (k.whole ∙ ap (λ (u : List Piece). k.pieces ++ u) (z.whole ∙ ap (λ (u : List Piece). z.pieces ++ u) n.nothing ∙ append-nil z.pieces));
+        whole = d.whole ∙ ap (λ (u : List Piece). d.pieces ++ u) (k.whole ∙ ap (λ (u : List Piece). k.pieces ++ u)
+            (z.whole ∙ ap (λ (u : List Piece). z.pieces ++ u) n.nothing ∙ append-nil z.pieces));
         is_day = d.is;
         is_clock = k.is;
         is_zone = z.is;
@@ -333,7 +351,14 @@ sound (n ∷ k ∷ ls) m e = by (is_atom n && has_mark 44 k) refl e
     by false b f = plain (n ∷ k ∷ ls) m (date_found (n ∷ k ∷ ls) m f)
     by true b f =
         let d = date_found ls m f in
-        record { day = d.day; clock = d.clock; zone = d.zone; is = OfWeek n k ls (and_first (is_atom n) (has_mark 44 k) b) (and_second (is_atom n) (has_mark 44 k) b) d.is; moment_is = d.moment_is }
+        record {
+          day = d.day;
+          clock = d.clock;
+          zone = d.zone;
+          is = OfWeek n k ls (and_first (is_atom n) (has_mark 44 k) b)
+              (and_second (is_atom n) (has_mark 44 k) b) d.is;
+          moment_is = d.moment_is;
+        }
 
 -- ---- raw values
 
@@ -346,7 +371,8 @@ moment_read raw m ls h a =
     ap (λ (u : List Spelled). date_in (pieces_of (behind_day_name u))) (one_lexemes ls h.lexemes (raw_form raw) a h.are)
     ∙ complete h.day h.clock h.zone h.lexemes h.is ∙ h.moment_is
 
-pub form_read : (raw t : List ℕ) (o : Option Moment) → t ≡ raw_form raw → rest_in alphabet.Mail t ≡ [] → o ≡ date_in (pieces_of (behind_day_name (lexemes_in alphabet.Mail t))) → IsDateForm raw o
+pub form_read : (raw t : List ℕ) (o : Option Moment) → t ≡ raw_form raw → rest_in alphabet.Mail t ≡ [] → o ≡ date_in (pieces_of (behind_day_name (lexemes_in alphabet.Mail t)))
+    → IsDateForm raw o
 form_read raw t o e r d = by o d
   where
     are : AreLexemes alphabet.Mail (lexemes_in alphabet.Mail t) (raw_form raw)

@@ -48,7 +48,8 @@ one_groups raw _ _ (NoGroups n) (NoGroups k) = refl
 one_groups raw _ _ (NoGroups n) (Groups who list l h) = absurd (n who l)
 one_groups raw _ _ (Groups who list l h) (NoGroups n) = absurd (n who l)
 one_groups raw _ _ (Groups who list l h) (Groups other rest k j) =
-    ap (λ (u : List Group). Some u) (zip_one IsGroup one_group (groups_of other) list rest (subst (λ u. AllZip IsGroup (groups_of u) list) (one_list who other (raw_form raw) l k) h) j)
+    ap (λ (u : List Group). Some u) (zip_one IsGroup one_group (groups_of other) list rest
+    (subst (λ u. AllZip IsGroup (groups_of u) list) (one_list who other (raw_form raw) l k) h) j)
 
 pub one_addresses : (raw : List ℕ) (x y : Option (List Address)) → IsAddressesForm raw x → IsAddressesForm raw y → x ≡ y
 one_addresses raw None None g h = refl

@@ -21,7 +21,8 @@ zip_append R [] us (y ∷ ys) vs h k = absurd h
 zip_append R (x ∷ xs) us [] vs h k = absurd h
 zip_append R (x ∷ xs) us (y ∷ ys) vs h k = (h.0, zip_append R xs us ys vs h.1 k)
 
-closed_group : (phrase : Option (List Spelled)) (ms : List Mailbox) (name : Option (List ℕ)) (members : List Address) → IsGroupName phrase name → AllZip IsAddress ms members → AllZip IsGroup (closed phrase ms) (option_to_list (group_from name members))
+closed_group : (phrase : Option (List Spelled)) (ms : List Mailbox) (name : Option (List ℕ)) (members : List Address) → IsGroupName phrase name → AllZip IsAddress ms members
+    → AllZip IsGroup (closed phrase ms) (option_to_list (group_from name members))
 closed_group _ [] _ [] NoName h = tt
 closed_group _ [] _ (a ∷ members) NoName h = absurd h
 closed_group _ (m ∷ ms) _ [] NoName h = absurd h
@@ -29,8 +30,10 @@ closed_group _ (m ∷ ms) _ (a ∷ members) NoName h = (record { name = NoName; 
 closed_group _ ms _ members (Named phrase name t) h = (record { name = Named phrase name t; members = h }, tt)
 
 -- the groups with the one that was open
-pub closes : (b : Builder) (done : List Grouped) (phrase : Option (List Spelled)) (ms : List Mailbox) (v : List Group) → Has b done phrase ms → v ≡ b.groups.items ++ option_to_list (group_from b.name b.members.items) → AllZip IsGroup (done ++ closed phrase ms) v
-closes b done phrase ms v h e = subst (λ (u : List Group). AllZip IsGroup (done ++ closed phrase ms) u) (sym e) (zip_append IsGroup done (closed phrase ms) b.groups.items (option_to_list (group_from b.name b.members.items)) h.groups (closed_group phrase ms b.name b.members.items h.name h.members))
+pub closes : (b : Builder) (done : List Grouped) (phrase : Option (List Spelled)) (ms : List Mailbox) (v : List Group) → Has b done phrase ms
+    → v ≡ b.groups.items ++ option_to_list (group_from b.name b.members.items) → AllZip IsGroup (done ++ closed phrase ms) v
+closes b done phrase ms v h e = subst (λ (u : List Group). AllZip IsGroup (done ++ closed phrase ms) u) (sym e) (zip_append IsGroup done (closed phrase ms) b.groups.items
+    (option_to_list (group_from b.name b.members.items)) h.groups (closed_group phrase ms b.name b.members.items h.name h.members))
 
 pub no_members : (v : List Address) → v ≡ [] → AllZip IsAddress [] v
 no_members v e = subst (λ (u : List Address). AllZip IsAddress [] u) (sym e) tt
@@ -38,7 +41,8 @@ no_members v e = subst (λ (u : List Address). AllZip IsAddress [] u) (sym e) tt
 pub no_groups : (v : List Group) → v ≡ [] → AllZip IsGroup [] v
 no_groups v e = subst (λ (u : List Group). AllZip IsGroup [] u) (sym e) tt
 
-pub one_member_more : (ms : List Mailbox) (m : Mailbox) (old new : List Address) (a : Address) → AllZip IsAddress ms old → IsAddress m a → new ≡ old ++ a ∷ [] → AllZip IsAddress (ms ++ m ∷ []) new
+pub one_member_more : (ms : List Mailbox) (m : Mailbox) (old new : List Address) (a : Address) → AllZip IsAddress ms old → IsAddress m a → new ≡ old ++ a ∷ []
+    → AllZip IsAddress (ms ++ m ∷ []) new
 one_member_more ms m old new a h k e = subst (λ (u : List Address). AllZip IsAddress (ms ++ m ∷ []) u) (sym e) (zip_append IsAddress ms (m ∷ []) old (a ∷ []) h (k, tt))
 
 -- ---- the forms
@@ -68,7 +72,8 @@ grouped_filled phrase ms (Head next ∷ es) = ap (λ (u : List Grouped). closed 
 grouped_filled phrase ms (End ∷ es) = ap (λ (u : List Grouped). closed phrase ms ++ u) (grouped_filled None [] es)
 grouped_filled phrase ms (Member m ∷ es) = grouped_filled phrase (ms ++ m ∷ []) es
 
-pub none_checked : {X : Type 0} (r : Option X) (Q : X → Type 0) (kept : List Element) (ts : List Spelled) → AreFilled kept ts → MatchOption r (are_list kept ≡ false) Q → IfNone r (IsNoList ts)
+pub none_checked : {X : Type 0} (r : Option X) (Q : X → Type 0) (kept : List Element) (ts : List Spelled) → AreFilled kept ts → MatchOption r (are_list kept ≡ false) Q
+    → IfNone r (IsNoList ts)
 none_checked (Some x) Q kept ts s h = tt
 none_checked None Q kept ts s h = λ fs t l. let e = ap are_list (one_elements fs s.all ts t s.are) ∙ sym (list_filled s.all) ∙ ap are_list (sym s.kept_is) in absurd cc
 
@@ -86,5 +91,7 @@ groups_form raw ts _ a (NoGroups n) = names.NoGroups (no_list raw ts a n)
 groups_form raw ts _ a (Groups kept list l h) =
     let all = l.filled.all in
     let w = listed all (all_list kept ts l) in
-    let g : grouped_from None [] kept ≡ groups_from [] w.who = ap (grouped_from None []) l.filled.kept_is ∙ grouped_filled None [] all ∙ sym (groups_are w.who all w.addressees []) in
-    names.Groups w.who list (record { tokens = ts; are_tokens = a; elements = all; are_elements = l.filled.are; are_addressees = w.addressees; some = w.some }) (subst (λ (u : List Grouped). AllZip IsGroup u list) g h)
+    let g : grouped_from None [] kept ≡ groups_from [] w.who = ap (grouped_from None []) l.filled.kept_is ∙ grouped_filled None [] all
+    ∙ sym (groups_are w.who all w.addressees []) in
+    names.Groups w.who list (record { tokens = ts; are_tokens = a; elements = all; are_elements = l.filled.are; are_addressees = w.addressees; some = w.some }) (subst
+    (λ (u : List Grouped). AllZip IsGroup u list) g h)

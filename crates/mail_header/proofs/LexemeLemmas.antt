@@ -35,7 +35,8 @@ same_tokens a (suc n) zero t h k =
     ap (λ (o : Option (Spelled × ℕ)). tokens_then o (tokens_within a n) t) (ap (spelled_in a) e ∙ none_in_nothing a)
 same_tokens a (suc n) (suc m) t h k = by (spelled_in a t) refl (λ x l g. same_tokens a n m x l g)
   where
-    by : (o : Option (Spelled × ℕ)) → spelled_in a t ≡ o → ((x : List ℕ) → length x ≤ n → length x ≤ m → tokens_within a n x ≡ tokens_within a m x) → tokens_then (spelled_in a t) (tokens_within a n) t ≡ tokens_then (spelled_in a t) (tokens_within a m) t
+    by : (o : Option (Spelled × ℕ)) → spelled_in a t ≡ o → ((x : List ℕ) → length x ≤ n → length x ≤ m → tokens_within a n x ≡ tokens_within a m x)
+        → tokens_then (spelled_in a t) (tokens_within a n) t ≡ tokens_then (spelled_in a t) (tokens_within a m) t
     by None e same = ap (λ (o : Option (Spelled × ℕ)). tokens_then o (tokens_within a n) t) e ∙ sym (ap (λ (o : Option (Spelled × ℕ)). tokens_then o (tokens_within a m) t) e)
     by (Some p) e same =
         let w = read_within a p.0 p.1 t e in
@@ -56,7 +57,8 @@ same_rest a (suc n) zero t h k =
     ap (λ (o : Option (Spelled × ℕ)). rest_then o (rest_within a n) t) (ap (spelled_in a) e ∙ none_in_nothing a)
 same_rest a (suc n) (suc m) t h k = by (spelled_in a t) refl (λ x l g. same_rest a n m x l g)
   where
-    by : (o : Option (Spelled × ℕ)) → spelled_in a t ≡ o → ((x : List ℕ) → length x ≤ n → length x ≤ m → rest_within a n x ≡ rest_within a m x) → rest_then (spelled_in a t) (rest_within a n) t ≡ rest_then (spelled_in a t) (rest_within a m) t
+    by : (o : Option (Spelled × ℕ)) → spelled_in a t ≡ o → ((x : List ℕ) → length x ≤ n → length x ≤ m → rest_within a n x ≡ rest_within a m x)
+        → rest_then (spelled_in a t) (rest_within a n) t ≡ rest_then (spelled_in a t) (rest_within a m) t
     by None e same = ap (λ (o : Option (Spelled × ℕ)). rest_then o (rest_within a n) t) e ∙ sym (ap (λ (o : Option (Spelled × ℕ)). rest_then o (rest_within a m) t) e)
     by (Some p) e same =
         let w = read_within a p.0 p.1 t e in
@@ -111,7 +113,8 @@ leads_step a t shorter = by (spelled_in a t) refl
         let P : List Spelled → Type 0 = λ x. AreLeading a x (rest_in a t) t in
         let Q : List ℕ → Type 0 = λ x. AreLeading a (tokens_in a (drop p.1 t)) x u.rest in
         let R : List ℕ → Type 0 = λ x. AreLeading a (tokens_in a (drop p.1 t)) (rest_in a (drop p.1 t)) x in
-        subst P (sym (tokens_step a p.0 p.1 t e)) (record { unit = u.unit; rest = u.rest; whole = u.whole; is = u.is; more = subst Q (sym (rest_step a p.0 p.1 t e)) (subst R behind more) })
+        subst P (sym (tokens_step a p.0 p.1 t e))
+        (record { unit = u.unit; rest = u.rest; whole = u.whole; is = u.is; more = subst Q (sym (rest_step a p.0 p.1 t e)) (subst R behind more) })
 
 leads_within : (a : Alphabet) (n : ℕ) (t : List ℕ) → length t ≤ n → AreLeading a (tokens_in a t) (rest_in a t) t
 leads_within a zero t h = leads_step a t (λ x l. absurd (omega (arith, l, h)))
@@ -180,7 +183,8 @@ pub texts_spelling : (ts : List Spelled) → texts_of (filter is_lexeme ts) ≡ 
 texts_spelling [] = refl
 texts_spelling (s ∷ ts) = by (is_lexeme s) refl (texts_spelling ts)
   where
-    by : (q : Bool) → is_lexeme s ≡ q → texts_of (filter is_lexeme ts) ≡ spelling ts → texts_of (cond q (s ∷ filter is_lexeme ts) (filter is_lexeme ts)) ≡ lexeme_text s ++ spelling ts
+    by : (q : Bool) → is_lexeme s ≡ q → texts_of (filter is_lexeme ts) ≡ spelling ts
+        → texts_of (cond q (s ∷ filter is_lexeme ts) (filter is_lexeme ts)) ≡ lexeme_text s ++ spelling ts
     by true e h = ap (λ (u : List ℕ). s.text ++ u) h ∙ ap (λ (u : List ℕ). u ++ spelling ts) (sym (cond-false (not (is_lexeme s)) [] s.text (ap not e)))
     by false e h = h ∙ ap (λ (u : List ℕ). u ++ spelling ts) (sym (cond-true (not (is_lexeme s)) [] s.text (ap not e)))
 

@@ -56,7 +56,8 @@ joined_digit c (Other ∷ ps) n e = ap (λ (p : Piece). p ∷ Other ∷ ps) (alo
 joined_letter : (c : ℕ) (ps : List Piece) → NoLetters ps → is_alpha c ≡ true → joined c ps ≡ Letters (c ∷ []) ∷ ps
 unfolding joined
 joined_letter c [] n e = ap (λ (p : Piece). p ∷ []) (alone_letter c e)
-joined_letter c (Digits t ∷ ps) n e = cond-false (is_digit c) _ _ (letter_no_digit c e) ∙ cond-false (is_plus_or_minus c) _ _ (letter_no_sign c e) ∙ ap (λ (p : Piece). p ∷ Digits t ∷ ps) (alone_letter c e)
+joined_letter c (Digits t ∷ ps) n e = cond-false (is_digit c) _ _ (letter_no_digit c e) ∙ cond-false (is_plus_or_minus c) _ _ (letter_no_sign c e)
+    ∙ ap (λ (p : Piece). p ∷ Digits t ∷ ps) (alone_letter c e)
 joined_letter c (Letters t ∷ ps) n e = absurd n
 joined_letter c (Signed s t ∷ ps) n e = ap (λ (p : Piece). p ∷ Signed s t ∷ ps) (alone_letter c e)
 joined_letter c (Octet s ∷ ps) n e = ap (λ (p : Piece). p ∷ Octet s ∷ ps) (alone_letter c e)
@@ -197,7 +198,8 @@ pub none_behind : (rest : List ℕ) → lexemes_in alphabet.Mail rest ≡ [] →
 unfolding pieces_behind runs pieces_of
 none_behind rest e = ap pieces_of e
 
-pub lexeme_behind : (v : Spelled) (more rest : List ℕ) → lexemes_in alphabet.Mail rest ≡ v ∷ lexemes_in alphabet.Mail more → pieces_behind [] rest ≡ pieces_in v.kind v.text ++ pieces_behind [] more
+pub lexeme_behind : (v : Spelled) (more rest : List ℕ) → lexemes_in alphabet.Mail rest ≡ v ∷ lexemes_in alphabet.Mail more
+    → pieces_behind [] rest ≡ pieces_in v.kind v.text ++ pieces_behind [] more
 unfolding pieces_behind runs pieces_of
 lexeme_behind v more rest e = ap pieces_of e
 

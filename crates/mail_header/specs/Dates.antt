@@ -132,11 +132,13 @@ named_zone t =
 
 -- date = day month year
 pub data IsDay : Day → List Piece → Type 0 where
-  DayMonthYear : (ds ms ys : List ℕ) (d m y : ℕ) → number_of 1 2 ds ≡ Some d → month_of ms ≡ Some m → year_of ys ≡ Some y → IsDay (record { year = y; month = m; day = d }) (Digits ds ∷ Letters ms ∷ Digits ys ∷ [])
+  DayMonthYear : (ds ms ys : List ℕ) (d m y : ℕ) → number_of 1 2 ds ≡ Some d → month_of ms ≡ Some m → year_of ys ≡ Some y
+      → IsDay (record { year = y; month = m; day = d }) (Digits ds ∷ Letters ms ∷ Digits ys ∷ [])
 
 -- time-of-day = hour ":" minute [ ":" second ]
 pub data IsClock : Clock → List Piece → Type 0 where
-  HourMinute : (hs ms : List ℕ) (h m : ℕ) → number_of 2 2 hs ≡ Some h → number_of 2 2 ms ≡ Some m → IsClock (record { hour = h; minute = m; second = 0 }) (Digits hs ∷ Octet 58 ∷ Digits ms ∷ [])
+  HourMinute : (hs ms : List ℕ) (h m : ℕ) → number_of 2 2 hs ≡ Some h → number_of 2 2 ms ≡ Some m
+      → IsClock (record { hour = h; minute = m; second = 0 }) (Digits hs ∷ Octet 58 ∷ Digits ms ∷ [])
   HourMinuteSecond : (hs ms ss : List ℕ) (h m s : ℕ) → number_of 2 2 hs ≡ Some h → number_of 2 2 ms ≡ Some m → number_of 2 2 ss ≡ Some s
       → IsClock (record { hour = h; minute = m; second = s }) (Digits hs ∷ Octet 58 ∷ Digits ms ∷ Octet 58 ∷ Digits ss ∷ [])
 

@@ -45,7 +45,8 @@ pub data Part : Type 0 where
 
 pub data IsPart : Part → List ℕ → List ℕ → Type 0 where
   ThisField : (name raw block rest : List ℕ) → IsField name raw block → IsBlock block rest → IsPart (AField name raw) block rest
-  OtherLines : (block rest : List ℕ) → ((name raw : List ℕ) → IsField name raw block → ⊥) → line_end_len (block ++ rest) ≡ 0 → IsBlock block rest → IsPart Other block rest
+  OtherLines : (block rest : List ℕ) → ((name raw : List ℕ) → IsField name raw block → ⊥) → line_end_len (block ++ rest) ≡ 0 → IsBlock block rest
+      → IsPart Other block rest
   ThisBody : (end body : List ℕ) → IsLineEnd end → IsPart (Body body) (end ++ body) []
 
 -- a field's name and its raw value

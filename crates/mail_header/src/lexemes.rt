@@ -1,24 +1,11 @@
-ghost use Rattle.std.specs.Prelude.{◌≡◌, ◌<◌, ◌≤◌, ◌==◌, [], length, IfOk, IfSome, MatchOption};
+// Lexemes, read one after another: tokens without white space and comments.
+ghost use Rattle.std.specs.Prelude.{◌≡◌, ◌<◌, ◌≤◌, ◌==◌, [], length, IfSome, MatchOption};
 ghost use Rattle.mail_header.specs.Lexemes as lexemes;
-ghost use Rattle.mail_header.specs.TokenView.{token_view, tokens_view};
+ghost use Rattle.mail_header.specs.TokenView.{token_view};
 ghost use Rattle.mail_header.specs.reading.LexemeReading as reading;
-ghost use Rattle.std.specs.List.{filter};
 
 use crate::token::{Alphabet, Kind, Token};
-use crate::tokens::{first_token, leading_tokens};
-use std::alloc::{AllocError, Global};
-
-/// The tokens at the front of a value without white space and comments, up to what no token begins.
-pub fn leading_lexemes(
-    alloc: Global,
-    alphabet: Alphabet,
-    text: &[u8],
-) -> Result<Vec<Token<'_>>, AllocError>
-    ensures { IfOk result (λ v. lexemes.AreLeadingLexemes alphabet (tokens_view v.items) text.now) }
-{
-    let (found, _rest) = leading_tokens(alloc, alphabet, text)?;
-    without_gaps(alloc, found.as_slice())
-}
+use crate::tokens::first_token;
 
 /// The text behind the white space and comments at its front.
 pub fn behind_gaps(alphabet: Alphabet, text: &[u8]) -> &[u8]
@@ -53,18 +40,6 @@ pub fn is_row(alphabet: Alphabet, text: &[u8]) -> bool
         rest = behind;
     }
     rest.is_empty()
-}
-
-fn without_gaps<'a>(alloc: Global, found: &[Token<'a>]) -> Result<Vec<Token<'a>>, AllocError>
-    ensures { IfOk result (λ v. tokens_view v.items ≡ filter lexemes.is_lexeme (tokens_view found.now)) }
-{
-    let mut kept = Vec::new(alloc);
-    for token in found {
-        if is_lexeme(token.kind) {
-            kept.push(*token)?;
-        }
-    }
-    Ok(kept)
 }
 
 fn is_lexeme(kind: Kind) -> bool
