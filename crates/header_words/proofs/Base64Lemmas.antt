@@ -15,10 +15,21 @@ symbols_are octets t b = sym (front_is is_symbol b.symbols b.padding b.alphabet 
 pub padding_is : (octets t : List ℕ) (b : IsBase64 octets t) → b.padding ≡ back is_symbol t
 padding_is octets t b = sym (back_is is_symbol b.symbols b.padding b.alphabet (equals_stop b.padding b.equals)) ∙ ap (back is_symbol) (sym b.whole)
 
-pub is_base64 : (octets t s p : List ℕ) → s ≡ front is_symbol t → p ≡ back is_symbol t → length s % 4 ≢ 1 → length p ≤ 2 → Each is_equals_sign p → octets ≡ spelled_octets s → IsBase64 octets t
+pub is_base64 : (octets t s p : List ℕ) → s ≡ front is_symbol t → p ≡ back is_symbol t → length s % 4 ≢ 1 → length p ≤ 2 → Each is_equals_sign p → octets ≡ spelled_octets s
+    → IsBase64 octets t
 is_base64 octets t s p es ep n f e a =
     let P : List ℕ → Type 0 = λ u. Each is_symbol u in
-    record { symbols = s; padding = p; whole = front_back is_symbol t ∙ ap (λ (u : List ℕ). u ++ back is_symbol t) (sym es) ∙ ap (λ (u : List ℕ). s ++ u) (sym ep); alphabet = subst P (sym es) (front_each is_symbol t); equals = e; few = f; complete = n; are = a }
+    record {
+      symbols = s;
+      padding = p;
+      whole = front_back is_symbol t ∙ ap (λ (u : List ℕ). u ++ back is_symbol t) (sym es) ∙ ap (λ (u : List ℕ). s ++ u)
+          (sym ep);
+      alphabet = subst P (sym es) (front_each is_symbol t);
+      equals = e;
+      few = f;
+      complete = n;
+      are = a;
+    }
 
 -- a text spells one list of octets
 pub one_base64 : (x y t : List ℕ) → IsBase64 x t → IsBase64 y t → x ≡ y

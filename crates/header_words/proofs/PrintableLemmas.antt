@@ -120,7 +120,8 @@ sign_sound v n t e = by_hex (hex_in t) refl e
           unit = 61 ∷ [];
           rest = t;
           whole = refl;
-          is = WrongSign t (λ b. let f = ap hex_in b.whole ∙ hex_complete b.high b.low b.left b.right_digit b.rest b.high_is b.low_is in absurd cc) (λ b. no_soft b.break b.rest b.whole b.soft);
+          is = WrongSign t (λ b. let f = ap hex_in b.whole ∙ hex_complete b.high b.low b.left b.right_digit b.rest b.high_is b.low_is in absurd cc)
+              (λ b. no_soft b.break b.rest b.whole b.soft);
           counted = refl;
         })
       where
@@ -156,8 +157,11 @@ blanks_sound v n c t b e = by (ends_line (back is_blank (c ∷ t))) refl e
     run : IsRun is_blank (front is_blank (c ∷ t))
     run = (front_each is_blank (c ∷ t), λ h. let k = cond-true (is_blank c) (c ∷ front is_blank t) [] b in absurd cc)
 
-    by : (q : Bool) → ends_line (back is_blank (c ∷ t)) ≡ q → cond {A = Option (Piece × ℕ)} q (Some (right [], length (front is_blank (c ∷ t)))) (Some (right (front is_blank (c ∷ t)), length (front is_blank (c ∷ t)))) ≡ Some (v, n) → UnitAt IsPiece v n (c ∷ t)
-    by true h e = unit_same IsPiece _ v _ n (c ∷ t) e (record { unit = front is_blank (c ∷ t); rest = back is_blank (c ∷ t); whole = front_back is_blank (c ∷ t); is = Trailing _ _ run h; counted = refl })
+    by : (q : Bool) → ends_line (back is_blank (c ∷ t)) ≡ q
+        → cond {A = Option (Piece × ℕ)} q (Some (right [], length (front is_blank (c ∷ t)))) (Some (right (front is_blank (c ∷ t)), length (front is_blank (c ∷ t)))) ≡ Some
+        (v, n) → UnitAt IsPiece v n (c ∷ t)
+    by true h e = unit_same IsPiece _ v _ n (c ∷ t) e
+        (record { unit = front is_blank (c ∷ t); rest = back is_blank (c ∷ t); whole = front_back is_blank (c ∷ t); is = Trailing _ _ run h; counted = refl })
     by false h e = unit_same IsPiece _ v _ n (c ∷ t) e (record { unit = front is_blank (c ∷ t); rest = back is_blank (c ∷ t); whole = front_back is_blank (c ∷ t); is = Blanks _ _ run (back_stops is_blank (c ∷ t)) h; counted = refl })
 
 sound : (v : Piece) (n : ℕ) (t : List ℕ) → piece_in t ≡ Some (v, n) → UnitAt IsPiece v n t
@@ -165,7 +169,8 @@ unfolding piece_in
 sound v n [] e = absurd cc
 sound v n (c ∷ t) e = by (eqb c 61) (is_blank c) refl refl e
   where
-    by : (p q : Bool) → eqb c 61 ≡ p → is_blank c ≡ q → cond p (sign_of (hex_in t) t) (cond q (blanks_of (front is_blank (c ∷ t)) (back is_blank (c ∷ t))) (Some (right (c ∷ []), 1))) ≡ Some (v, n) → UnitAt IsPiece v n (c ∷ t)
+    by : (p q : Bool) → eqb c 61 ≡ p → is_blank c ≡ q
+        → cond p (sign_of (hex_in t) t) (cond q (blanks_of (front is_blank (c ∷ t)) (back is_blank (c ∷ t))) (Some (right (c ∷ []), 1))) ≡ Some (v, n) → UnitAt IsPiece v n (c ∷ t)
     by true q h k e = let P : ℕ → Type 0 = λ y. UnitAt IsPiece v n (y ∷ t) in subst P (sym (eqb-true c 61 h)) (sign_sound v n t e)
     by false true h k e = blanks_sound v n c t k e
     by false false h k e = unit_same IsPiece _ v 1 n (c ∷ t) e (record { unit = c ∷ []; rest = t; whole = refl; is = Itself c t (eqb-false c 61 h) k; counted = refl })
@@ -195,14 +200,17 @@ or_false : (p : Bool) → (p || false) ≡ p
 or_false true = refl
 or_false false = refl
 
-pub written_more : (octets octets' more rest rest' t : List ℕ) (problem wrong problem' : Bool) → Written octets problem rest t → IsRead (piece_in rest) rest rest' more wrong → octets' ≡ octets ++ more → problem' ≡ (problem || wrong) → Written octets' problem' rest' t
+pub written_more : (octets octets' more rest rest' t : List ℕ) (problem wrong problem' : Bool) → Written octets problem rest t → IsRead (piece_in rest) rest rest' more wrong
+    → octets' ≡ octets ++ more → problem' ≡ (problem || wrong) → Written octets' problem' rest' t
 written_more octets octets' more rest rest' t problem wrong problem' w p f e =
     let next = read_more piece_in piece_reader w.pieces p.piece p.len rest t w.behind p.read_is in
     record {
       pieces = w.pieces ++ p.piece ∷ [];
       behind = subst (λ (u : List ℕ). Behind IsPiece (w.pieces ++ p.piece ∷ []) u t) (sym p.rest_is) next;
-      spelled = f ∙ ap (λ (u : List ℕ). octets ++ u) p.octets_are ∙ ap (λ (u : List ℕ). u ++ p.piece.octets) w.spelled ∙ ap (λ (u : List ℕ). flat_map octets_of w.pieces ++ u) (sym (append-nil p.piece.octets)) ∙ sym (flat_map-append octets_of w.pieces (p.piece ∷ []));
-      wrong = e ∙ ap (λ (q : Bool). q || wrong) w.wrong ∙ ap (λ (q : Bool). list_any is_wrong w.pieces || q) (p.wrong_is ∙ sym (or_false p.piece.wrong)) ∙ sym (list_any-append is_wrong w.pieces (p.piece ∷ []));
+      spelled = f ∙ ap (λ (u : List ℕ). octets ++ u) p.octets_are ∙ ap (λ (u : List ℕ). u ++ p.piece.octets) w.spelled
+          ∙ ap (λ (u : List ℕ). flat_map octets_of w.pieces ++ u) (sym (append-nil p.piece.octets)) ∙ sym (flat_map-append octets_of w.pieces (p.piece ∷ []));
+      wrong = e ∙ ap (λ (q : Bool). q || wrong) w.wrong ∙ ap (λ (q : Bool). list_any is_wrong w.pieces || q) (p.wrong_is ∙ sym (or_false p.piece.wrong))
+          ∙ sym (list_any-append is_wrong w.pieces (p.piece ∷ []));
     }
 
 pub written_all : (octets rest t : List ℕ) (problem : Bool) → Written octets problem rest t → rest ≡ [] → IsPrintable octets problem t
@@ -225,7 +233,8 @@ dropped_blanks t rest none e z h = record {
   octets_are = z;
 }
 
-pub kept_blanks : (t blanks rest : List ℕ) → blanks ≡ front is_blank t → rest ≡ back is_blank t → ends_line rest ≡ false → IsRead (blanks_of (front is_blank t) (back is_blank t)) t rest blanks false
+pub kept_blanks : (t blanks rest : List ℕ) → blanks ≡ front is_blank t → rest ≡ back is_blank t → ends_line rest ≡ false
+    → IsRead (blanks_of (front is_blank t) (back is_blank t)) t rest blanks false
 kept_blanks t blanks rest f e h = record {
   piece = right (front is_blank t);
   len = length (front is_blank t);
@@ -236,7 +245,8 @@ kept_blanks t blanks rest f e h = record {
 }
 
 -- a soft break stands for nothing
-pub dropped_break : (t rest behind none : List ℕ) (n : ℕ) → rest ≡ back is_blank t → none ≡ [] → n ≡ line_end_len rest → n ≢ 0 → behind ≡ drop n rest → IsRead (break_of (length (front is_blank t)) (line_end_len (back is_blank t))) (61 ∷ t) behind none false
+pub dropped_break : (t rest behind none : List ℕ) (n : ℕ) → rest ≡ back is_blank t → none ≡ [] → n ≡ line_end_len rest → n ≢ 0 → behind ≡ drop n rest
+    → IsRead (break_of (length (front is_blank t)) (line_end_len (back is_blank t))) (61 ∷ t) behind none false
 dropped_break t rest behind none n e z l k b = by n refl
   where
     by : (m : ℕ) → n ≡ m → IsRead (break_of (length (front is_blank t)) (line_end_len (back is_blank t))) (61 ∷ t) behind none false
@@ -254,7 +264,8 @@ dropped_break t rest behind none n e z l k b = by n refl
         same = omega (arith, h)
 
 -- an "=" that begins nothing stands for itself
-pub kept_sign : (t rest behind sign : List ℕ) (n : ℕ) → rest ≡ back is_blank t → n ≡ line_end_len rest → n ≡ 0 → sign ≡ 61 ∷ [] → behind ≡ t → IsRead (break_of (length (front is_blank t)) (line_end_len (back is_blank t))) (61 ∷ t) behind sign true
+pub kept_sign : (t rest behind sign : List ℕ) (n : ℕ) → rest ≡ back is_blank t → n ≡ line_end_len rest → n ≡ 0 → sign ≡ 61 ∷ [] → behind ≡ t
+    → IsRead (break_of (length (front is_blank t)) (line_end_len (back is_blank t))) (61 ∷ t) behind sign true
 kept_sign t rest behind sign n e l z s b = record {
   piece = record { octets = 61 ∷ []; wrong = true };
   len = 1;
@@ -289,7 +300,8 @@ pub record Counted (n : ℕ) (rest t : List ℕ) : Type 0 where
 pub none_counted : (t : List ℕ) → Counted 0 t t
 none_counted t = record { octets = []; problem = false; written = nothing_written t; counted = refl }
 
-pub counted_more : (n k : ℕ) (more rest rest' t : List ℕ) (wrong : Bool) → Counted n rest t → IsRead (piece_in rest) rest rest' more wrong → k ≡ length more → Counted (n + k) rest' t
+pub counted_more : (n k : ℕ) (more rest rest' t : List ℕ) (wrong : Bool) → Counted n rest t → IsRead (piece_in rest) rest rest' more wrong → k ≡ length more
+    → Counted (n + k) rest' t
 counted_more n k more rest rest' t wrong h p e = record {
   octets = h.octets ++ more;
   problem = h.problem || wrong;

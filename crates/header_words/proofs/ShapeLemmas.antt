@@ -13,7 +13,8 @@ if_none None p = p
 if_none (Some x) p = tt
 
 -- what stands behind the charset
-pub behind_charset : (t a b cs d c : List ℕ) (l : ℕ) (x y : List ℕ) → t ≡ 61 ∷ a → a ≡ 63 ∷ b → b ≡ cs ++ 63 ∷ d → IsRun is_token cs → HasShape c l x y t → SameCut cs c d (l ∷ 63 ∷ (x ++ 63 ∷ 61 ∷ y))
+pub behind_charset : (t a b cs d c : List ℕ) (l : ℕ) (x y : List ℕ) → t ≡ 61 ∷ a → a ≡ 63 ∷ b → b ≡ cs ++ 63 ∷ d → IsRun is_token cs → HasShape c l x y t
+    → SameCut cs c d (l ∷ 63 ∷ (x ++ 63 ∷ 61 ∷ y))
 behind_charset t a b cs d c l x y e f g r h =
     let w = h.whole in
     let q : b ≡ c ++ 63 ∷ l ∷ 63 ∷ (x ++ 63 ∷ 61 ∷ y) = cc in

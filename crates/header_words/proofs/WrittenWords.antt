@@ -28,7 +28,10 @@ char_octets : (c : ℕ) → c < 1114112 → Each is_octet (encode c)
 unfolding encode
 char_octets c lt = by (ltb c 128) (ltb c 2048) (ltb c 65536) refl refl refl
   where
-    by : (p q r : Bool) → ltb c 128 ≡ p → ltb c 2048 ≡ q → ltb c 65536 ≡ r → Each is_octet (cond p (c ∷ []) (cond q ((192 + c / 64) ∷ (128 + c % 64) ∷ []) (cond r ((224 + c / 4096) ∷ (128 + c / 64 % 64) ∷ (128 + c % 64) ∷ []) ((240 + c / 262144) ∷ (128 + c / 4096 % 64) ∷ (128 + c / 64 % 64) ∷ (128 + c % 64) ∷ []))))
+    by : (p q r : Bool) → ltb c 128 ≡ p → ltb c 2048 ≡ q → ltb c 65536 ≡ r
+        → Each is_octet (cond p (c ∷ [])
+        (cond q ((192 + c / 64) ∷ (128 + c % 64) ∷ [])
+        (cond r ((224 + c / 4096) ∷ (128 + c / 64 % 64) ∷ (128 + c % 64) ∷ []) ((240 + c / 262144) ∷ (128 + c / 4096 % 64) ∷ (128 + c / 64 % 64) ∷ (128 + c % 64) ∷ []))))
     by true q r e f g = (grind arith, tt)
     by false true r e f g = (small _ (grind arith), (small _ (omega arith), tt))
     by false false true e f g = (small _ (grind arith), (small _ (omega arith), (small _ (omega arith), tt)))
@@ -61,7 +64,8 @@ equals_printed c e = grind arith
 printed : (octets t : List ℕ) → IsBase64 octets t → Each is_encoded t
 printed octets t b =
     let P : List ℕ → Type 0 = λ x. Each is_encoded x in
-    subst P (sym b.whole) (each_append is_encoded b.symbols b.padding (each_widen is_symbol is_encoded b.symbols symbol_printed b.alphabet) (each_widen is_equals_sign is_encoded b.padding equals_printed b.equals))
+    subst P (sym b.whole) (each_append is_encoded b.symbols b.padding (each_widen is_symbol is_encoded b.symbols symbol_printed b.alphabet)
+    (each_widen is_equals_sign is_encoded b.padding equals_printed b.equals))
 
 some_spelled : (octets t : List ℕ) → IsBase64 octets t → 0 < length octets → t ≢ []
 some_spelled octets t b some e = none b.symbols b.padding (sym b.whole ∙ e) b.are

@@ -92,4 +92,5 @@ kept behind_word between = if behind_word && list_all is_white between then [] e
 -- directly before the value.
 pub data IsText : Bool → List ℕ → List ℕ → Type 0 where
   Plain : (behind_word : Bool) (value : List ℕ) → HasNone value → IsText behind_word value value
-  Worded : (behind_word : Bool) (reading before word behind text value : List ℕ) → IsFirst reading before word behind value → IsText true behind text → IsText behind_word value (kept behind_word before ++ (reading ++ text))
+  Worded : (behind_word : Bool) (reading before word behind text value : List ℕ) → IsFirst reading before word behind value → IsText true behind text
+      → IsText behind_word value (kept behind_word before ++ (reading ++ text))

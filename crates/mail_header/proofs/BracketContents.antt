@@ -118,7 +118,8 @@ case_open fuel o c d n t a ih le e =
       rest = q.rest;
       whole = ap (λ (u : List ℕ). o ∷ u) (r.whole ∙ ap (λ (u : List ℕ). r.contents ++ c ∷ u) q.whole ∙ sym (append_assoc r.contents (c ∷ q.contents) (c ∷ q.rest)));
       inside = Nested r.contents q.contents r.inside q.inside;
-      counted = grow (length q.contents + 1) n g.0 _ (1 + (length r.contents + 1)) (behind o c d q.rest) q.counted (omega (arith, h.2, g.2)) (omega (arith, length-append r.contents (c ∷ q.contents)));
+      counted = grow (length q.contents + 1) n g.0 _ (1 + (length r.contents + 1)) (behind o c d q.rest) q.counted (omega (arith, h.2, g.2)) (omega
+          (arith, length-append r.contents (c ∷ q.contents)));
     }
 
 case_other : (fuel o c d n x : ℕ) (t : List ℕ) → Ih fuel o c → length t ≤ fuel → x ≢ 92 → x ≢ c → x ≢ o → close_in o c d false (x ∷ t) ≡ Some n → Closed o c d n (x ∷ t)
@@ -138,11 +139,15 @@ case_other fuel o c d n x t ih le k m l e =
 Tells : ℕ → ℕ → Type 0
 Tells x y = ((eqb x y ≡ true) × (x ≡ y)) ⊎ ((eqb x y ≡ false) × (x ≢ y))
 
-by_octet : (fuel o c d n x : ℕ) (t : List ℕ) → Apart o c → Ih fuel o c → length t ≤ fuel → close_in o c d false (x ∷ t) ≡ Some n → Tells x 92 → Tells x c → Tells x o → Closed o c d n (x ∷ t)
+by_octet : (fuel o c d n x : ℕ) (t : List ℕ) → Apart o c → Ih fuel o c → length t ≤ fuel → close_in o c d false (x ∷ t) ≡ Some n → Tells x 92 → Tells x c → Tells x o
+    → Closed o c d n (x ∷ t)
 unfolding Tells
-by_octet fuel o c d n x t a ih le e (inl p) q r = let P : ℕ → Type 0 = λ y. close_in o c d false (y ∷ t) ≡ Some n → Closed o c d n (y ∷ t) in subst P (sym p.1) (case_slash fuel o c d n t ih le) e
-by_octet fuel o c d n x t a ih le e (inr p) (inl q) r = let P : ℕ → Type 0 = λ y. close_in o c d false (y ∷ t) ≡ Some n → Closed o c d n (y ∷ t) in subst P (sym q.1) (case_close o c d n t a) e
-by_octet fuel o c d n x t a ih le e (inr p) (inr q) (inl r) = let P : ℕ → Type 0 = λ y. close_in o c d false (y ∷ t) ≡ Some n → Closed o c d n (y ∷ t) in subst P (sym r.1) (case_open fuel o c d n t a ih le) e
+by_octet fuel o c d n x t a ih le e (inl p) q r = let P : ℕ → Type 0 = λ y. close_in o c d false (y ∷ t) ≡ Some n → Closed o c d n (y ∷ t) in subst P (sym p.1)
+    (case_slash fuel o c d n t ih le) e
+by_octet fuel o c d n x t a ih le e (inr p) (inl q) r = let P : ℕ → Type 0 = λ y. close_in o c d false (y ∷ t) ≡ Some n → Closed o c d n (y ∷ t) in subst P (sym q.1)
+    (case_close o c d n t a) e
+by_octet fuel o c d n x t a ih le e (inr p) (inr q) (inl r) = let P : ℕ → Type 0 = λ y. close_in o c d false (y ∷ t) ≡ Some n → Closed o c d n (y ∷ t) in subst P (sym r.1)
+    (case_open fuel o c d n t a ih le) e
 by_octet fuel o c d n x t a ih le e (inr p) (inr q) (inr r) = case_other fuel o c d n x t ih le p.1 q.1 r.1 e
 
 -- with at most so many octets

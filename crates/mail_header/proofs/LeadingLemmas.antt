@@ -18,7 +18,8 @@ pub leads_begin : (a : Alphabet) (t : List ℕ) → Leads a [] t t
 leads_begin a t = λ more end h. h
 
 -- the token that was read is the next
-pub leads_more : (a : Alphabet) (vs : List Spelled) (v : Spelled) (n : ℕ) (rest t : List ℕ) → Leads a vs rest t → spelled_in a rest ≡ Some (v, n) → Leads a (vs ++ v ∷ []) (drop n rest) t
+pub leads_more : (a : Alphabet) (vs : List Spelled) (v : Spelled) (n : ℕ) (rest t : List ℕ) → Leads a vs rest t → spelled_in a rest ≡ Some (v, n)
+    → Leads a (vs ++ v ∷ []) (drop n rest) t
 leads_more a vs v n rest t h e = λ more end g.
     let u = (token_reader a).sound v n rest e in
     let behind : drop n rest ≡ u.rest = ap (drop n) u.whole ∙ drop_at u.unit u.rest n (sym u.counted) in

@@ -1,5 +1,6 @@
 -- Dates (RFC 5322 sections 3.3 and 4.3), over the lexemes of a value. No white space is needed between a number and a word.
-use Rattle.std.specs.Prelude.{◌≡◌, ℕ, ℤ, pos, negsuc, ◌+◌, ◌-◌, ◌*◌, ◌/◌, ◌%◌, ◌+ℤ◌, ◌-ℤ◌, ◌*ℤ◌, min, Bool, ◌&&◌, ◌||◌, ◌==◌, true, nat_le, nat_lt, if◌then◌else◌, List, [], ◌∷◌, ◌++◌, length, Option, Some, None, codes}
+use Rattle.std.specs.Prelude.{◌≡◌, ℕ, ℤ, pos, negsuc, ◌+◌, ◌-◌, ◌*◌, ◌/◌, ◌%◌, ◌+ℤ◌, ◌-ℤ◌, ◌*ℤ◌, min, Bool}
+use Rattle.std.specs.Prelude.{◌&&◌, ◌||◌, ◌==◌, true, nat_le, nat_lt, if◌then◌else◌, List, [], ◌∷◌, ◌++◌, length, Option, Some, None, codes}
 use Rattle.jiff_core.specs.Calendar.{days_in_month, days_from_civil}
 use Rattle.text_words.specs.Octets.{is_between, is_digit, is_alpha, is_same_text}
 use Rattle.mail_header.specs.declared.token.Kind.{Kind}

@@ -45,7 +45,8 @@ one_kept : (x y t : List ℕ) → IsWithoutGaps x t → IsWithoutGaps y t → x 
 one_kept x y t g h =
     let e = one_leading alphabet.Mail g.tokens h.tokens g.rest h.rest t g.are h.are in
     let r = one_rest alphabet.Mail g.tokens h.tokens g.rest h.rest t g.are h.are in
-    g.kept_is ∙ ap (λ (u : List Spelled). unfolded (spelling u ++ filter is_visible g.rest)) e ∙ ap (λ (u : List ℕ). unfolded (spelling h.tokens ++ filter is_visible u)) r ∙ sym h.kept_is
+    g.kept_is ∙ ap (λ (u : List Spelled). unfolded (spelling u ++ filter is_visible g.rest)) e ∙ ap (λ (u : List ℕ). unfolded (spelling h.tokens ++ filter is_visible u)) r
+    ∙ sym h.kept_is
 
 one_id : (raw x y : Option (List ℕ)) → IsIdOf raw x → IsIdOf raw y → x ≡ y
 one_id None x y g h = g ∙ sym h
@@ -55,7 +56,8 @@ one_id (Some r) x y g h =
 
 record_same : (m b c d n i l p e m' b' c' d' n' i' l' p' e' : Option (List ℕ))
     → m ≡ m' → b ≡ b' → c ≡ c' → d ≡ d' → n ≡ n' → i ≡ i' → l ≡ l' → p ≡ p' → e ≡ e'
-    → ◌≡◌ {A = PartHeader} (record { media = m; boundary = b; charset = c; disposition = d; name = n; cid = i; language = l; location = p; encoding = e }) (record { media = m'; boundary = b'; charset = c'; disposition = d'; name = n'; cid = i'; language = l'; location = p'; encoding = e' })
+    → ◌≡◌ {A = PartHeader} (record { media = m; boundary = b; charset = c; disposition = d; name = n; cid = i; language = l; location = p; encoding = e })
+    (record { media = m'; boundary = b'; charset = c'; disposition = d'; name = n'; cid = i'; language = l'; location = p'; encoding = e' })
 record_same m b c d n i l p e m' b' c' d' n' i' l' p' e' q1 q2 q3 q4 q5 q6 q7 q8 q9 = cc
 
 pub one_part_header : (f : List NameAndRaw) (g h : PartHeader) → IsPartHeader f g → IsPartHeader f h → g ≡ h

@@ -74,7 +74,8 @@ each_more {A} p b i x lt e r h =
     subst P (sym (take_more b i x lt)) (each_append p (take i b) (get_or b i x ∷ []) e (ap p (sym r) ∙ h, tt))
 
 -- a walk that stopped at i has cut there
-pub cut_here : {A : Type 0} (p : A → Bool) (b : List A) (i : ℕ) (x : A) → i < length b → Each p (take i b) → x ≡ get_or b i x → p x ≡ false → SameCut (take i b) (front p b) (drop i b) (back p b)
+pub cut_here : {A : Type 0} (p : A → Bool) (b : List A) (i : ℕ) (x : A) → i < length b → Each p (take i b) → x ≡ get_or b i x → p x ≡ false
+    → SameCut (take i b) (front p b) (drop i b) (back p b)
 cut_here {A} p b i x lt e r h =
     let S : List A → Type 0 = λ u. Stops p u in
     one_cut p (take i b) (front p b) (drop i b) (back p b)

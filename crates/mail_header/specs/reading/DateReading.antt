@@ -9,7 +9,8 @@ use Rattle.mail_header.specs.declared.pieces.Place.{Place}
 use Rattle.mail_header.specs.declared.token.Alphabet.TheVariants as alphabet
 use Rattle.mail_header.specs.Tokens.{Spelled}
 use Rattle.mail_header.specs.Mailboxes.{has_mark, is_atom}
-use Rattle.mail_header.specs.Dates.{Piece, Digits, Letters, Signed, Octet, Other, runs, pieces_of, number_of, month_of, year_of, offset_of, named_zone, moment_of}
+use Rattle.mail_header.specs.Dates.{Piece, Digits, Letters, Signed, Octet, Other, runs}
+use Rattle.mail_header.specs.Dates.{pieces_of, number_of, month_of, year_of, offset_of, named_zone, moment_of}
 use Rattle.mail_header.specs.reading.LexemeReading.{lexemes_in}
 
 -- ---- what the code's pieces and places are

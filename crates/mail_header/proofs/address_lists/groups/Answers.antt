@@ -34,5 +34,7 @@ returns c =
     let i = c.loop-element.element-index in
     let b = c.loop-element.invariant in
     let all = grouped_from None [] (elements_view es) in
-    let end : b.done ++ closed b.phrase b.ms ≡ all = ap (λ (u : List Code). b.done ++ grouped_from b.phrase b.ms (elements_view u)) (sym (drop_all i es (omega arith))) ∙ b.all_is in
-    IfOk-weaker c.close.result _ _ (λ v h. subst (λ (u : List Grouped). AllZip IsGroup u v.items) end (closes c.loop-element.builder b.done b.phrase b.ms v.items b.has h)) c.close.ensures
+    let end : b.done ++ closed b.phrase b.ms ≡ all = ap (λ (u : List Code). b.done ++ grouped_from b.phrase b.ms (elements_view u)) (sym (drop_all i es (omega arith)))
+    ∙ b.all_is in
+    IfOk-weaker c.close.result _ _ (λ v h. subst (λ (u : List Grouped). AllZip IsGroup u v.items) end
+    (closes c.loop-element.builder b.done b.phrase b.ms v.items b.has h)) c.close.ensures

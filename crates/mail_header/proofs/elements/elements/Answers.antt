@@ -29,12 +29,19 @@ some_left : (ts : List Token) (at : ℕ) → at < length ts → tokens_view (dro
 some_left ts at lt = λ e. absurd (omega (arith, ap length e, length-map (drop at ts) token_view, length-drop at ts))
 
 within : (ts : List Token) (at n : ℕ) (v : Element) → at < length ts → element_in (tokens_view (drop at ts)) ≡ Some (v, n) → at + n ≤ length ts
-within ts at n v lt e = let w = unit_within element_in element_reader v n (tokens_view (drop at ts)) e in omega (arith, w.within, length-map (drop at ts) token_view, length-drop at ts)
+within ts at n v lt e = let w = unit_within element_in element_reader v n (tokens_view (drop at ts)) e in omega (
+  arith,
+  w.within,
+  length-map
+      (drop at ts) token_view,
+  length-drop at ts,
+)
 
 positive : (ts : List Token) (at n : ℕ) (v : Element) → element_in (tokens_view (drop at ts)) ≡ Some (v, n) → 0 < n
 positive ts at n v e = (unit_within element_in element_reader v n (tokens_view (drop at ts)) e).some
 
-walked : (old new : List Element) (at n : ℕ) (ts : List Token) (v : Element) → FilledBehind old (tokens_view (drop at ts)) (tokens_view ts) → element_in (tokens_view (drop at ts)) ≡ Some (v, n) → new ≡ old ++ cond (is_filled v) (v ∷ []) [] → FilledBehind new (tokens_view (drop (at + n) ts)) (tokens_view ts)
+walked : (old new : List Element) (at n : ℕ) (ts : List Token) (v : Element) → FilledBehind old (tokens_view (drop at ts)) (tokens_view ts)
+    → element_in (tokens_view (drop at ts)) ≡ Some (v, n) → new ≡ old ++ cond (is_filled v) (v ∷ []) [] → FilledBehind new (tokens_view (drop (at + n) ts)) (tokens_view ts)
 walked old new at n ts v b e p =
     let m = read_more element_in element_reader b.all v n (tokens_view (drop at ts)) (tokens_view ts) b.read e in
     let d : drop n (tokens_view (drop at ts)) ≡ tokens_view (drop (at + n) ts) = drop-map token_view n (drop at ts) ∙ ap tokens_view (drop-drop n at ts) in
@@ -45,7 +52,8 @@ walked old new at n ts v b e p =
     }
 
 -- of the tokens that are left
-pushes_here : (x : List Token) (ts : List Token) (at : ℕ) (old new : List Element) (r : Option ℕ) → x ≡ drop at ts → Pushes (element_in (tokens_view x)) old new r → Pushes (element_in (tokens_view (drop at ts))) old new r
+pushes_here : (x : List Token) (ts : List Token) (at : ℕ) (old new : List Element) (r : Option ℕ) → x ≡ drop at ts → Pushes (element_in (tokens_view x)) old new r
+    → Pushes (element_in (tokens_view (drop at ts))) old new r
 pushes_here x ts at old new r e h = subst (λ (u : List Token). Pushes (element_in (tokens_view u)) old new r) e h
 
 pub returns-in-None-clause-none : goal.returns-in-None-clause-none
@@ -53,7 +61,8 @@ returns-in-None-clause-none c = λ es s.
     let ts = c.args.tokens.now in
     let at = c.loop-at.at in
     let h = pushes_here c.split_at.result.1.now ts at _ _ c.in_ok-push_element.field-0 c.split_at.ensures.back c.in_ok-push_element.ensures in
-    read_no_more element_in element_reader c.loop-at.invariant.read.all (tokens_view (drop at ts)) (tokens_view ts) c.loop-at.invariant.read.read (some_left ts at c.loop-at-test.true) (none_pushed _ _ _ _ h c.in-None.is) es s
+    read_no_more element_in element_reader c.loop-at.invariant.read.all (tokens_view (drop at ts)) (tokens_view ts) c.loop-at.invariant.read.read
+    (some_left ts at c.loop-at-test.true) (none_pushed _ _ _ _ h c.in-None.is) es s
 
 pub overflow_add-at : goal.overflow_add-at
 overflow_add-at c =

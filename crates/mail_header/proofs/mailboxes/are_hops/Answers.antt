@@ -37,7 +37,8 @@ returns-then-not-is_hop-2 c =
 pub loop-rest-preserved : goal.loop-rest-preserved
 loop-rest-preserved c =
     let r = c.loop-rest.rest.now in
-    sym (hop_passed (tokens_view (more r)) _ _ c.cut_tokens-in-len1-up.ensures.front c.cut_tokens-in-len1-up.ensures.back (sym c.is_hop-in-len1-up.ensures ∙ c.if-not-is_hop-2.false))
+    sym (hop_passed (tokens_view (more r)) _ _ c.cut_tokens-in-len1-up.ensures.front c.cut_tokens-in-len1-up.ensures.back
+    (sym c.is_hop-in-len1-up.ensures ∙ c.if-not-is_hop-2.false))
     ∙ sym (behind_comma r c.in-len1-up.len_at_least)
     ∙ c.loop-rest.invariant
 

@@ -10,7 +10,8 @@ returns-then-is_empty c =
     let more = c.args.more.now in
     let d = c.cut.result.0.now in
     let q : eqb (length d) 0 ≡ true = cc in
-    behind_runs (o ∷ more) more c.args.rest.now (Octet o) (octet_run o more c.requires.digit c.requires.letter (inl (stops_here is_digit more d c.cut.ensures.front (nothing_cut d q))))
+    behind_runs (o ∷ more) more c.args.rest.now (Octet o) (octet_run o more c.requires.digit c.requires.letter
+    (inl (stops_here is_digit more d c.cut.ensures.front (nothing_cut d q))))
 
 pub returns-then-not-is_plus_or_minus : goal.returns-then-not-is_plus_or_minus
 returns-then-not-is_plus_or_minus c =

@@ -21,16 +21,36 @@ loop-i-preserved c =
     let was = c.loop-i.invariant.same in
     elim c.if-escaped.branch [
       | then-escaped w ↦ record { shallow = omega arith; same = keeps o q d d _ e false _ b i _ lt was w.depth-is w.escaped-is (at_true o q d e x t w.if-escaped.true) }
-      | else-escaped+then-octet-eq92 w ↦ record { shallow = omega arith; same = keeps o q d d _ e true _ b i _ lt was w.depth-is w.escaped-is (at_false o q d d e true x t w.if-escaped.false (close_slash o q d x t w.if-octet-eq92.true)) }
-      | else-escaped+else-octet-eq92+then-octet-closer+else-depth-eq0 w ↦ record { shallow = omega arith; same = keeps o q d (d - 1) _ e false _ b i _ lt was w.depth-is (w.escaped-is ∙ w.if-escaped.false) (at_false o q d (d - 1) e false x t w.if-escaped.false (close_down o q d x t w.if-octet-eq92.false w.if-octet-closer.true w.if-depth-eq0.false)) }
-      | else-escaped+else-octet-eq92+else-octet-closer+then-octet-opener w ↦ record { shallow = omega arith; same = keeps o q d (d + 1) _ e false _ b i _ lt was w.depth-is (w.escaped-is ∙ w.if-escaped.false) (at_false o q d (d + 1) e false x t w.if-escaped.false (close_up o q d x t w.if-octet-eq92.false w.if-octet-closer.false w.if-octet-opener.true)) }
-      | else-escaped+else-octet-eq92+else-octet-closer+else-octet-opener w ↦ record { shallow = omega arith; same = keeps o q d d _ e false _ b i _ lt was w.depth-is (w.escaped-is ∙ w.if-escaped.false) (at_false o q d d e false x t w.if-escaped.false (close_other o q d x t w.if-octet-eq92.false w.if-octet-closer.false w.if-octet-opener.false)) }
+      | else-escaped+then-octet-eq92 w ↦ record {
+        shallow = omega arith;
+        same = keeps o q d d _ e true _ b i _ lt was w.depth-is w.escaped-is
+            (at_false o q d d e true x t w.if-escaped.false (close_slash o q d x t w.if-octet-eq92.true));
+      }
+      | else-escaped+else-octet-eq92+then-octet-closer+else-depth-eq0 w ↦ record {
+        shallow = omega arith;
+        same = keeps o q d (d - 1) _ e false _ b i _ lt was w.depth-is
+            (w.escaped-is ∙ w.if-escaped.false) (at_false o q d (d - 1) e false x t w.if-escaped.false
+            (close_down o q d x t w.if-octet-eq92.false w.if-octet-closer.true w.if-depth-eq0.false));
+      }
+      | else-escaped+else-octet-eq92+else-octet-closer+then-octet-opener w ↦ record {
+        shallow = omega arith;
+        same = keeps o q d (d + 1) _ e false _ b i _ lt was w.depth-is
+            (w.escaped-is ∙ w.if-escaped.false) (at_false o q d (d + 1) e false x t w.if-escaped.false
+            (close_up o q d x t w.if-octet-eq92.false w.if-octet-closer.false w.if-octet-opener.true));
+      }
+      | else-escaped+else-octet-eq92+else-octet-closer+else-octet-opener w ↦ record {
+        shallow = omega arith;
+        same = keeps o q d d _ e false _ b i _ lt was w.depth-is
+            (w.escaped-is ∙ w.if-escaped.false) (at_false o q d d e false x t w.if-escaped.false
+            (close_other o q d x t w.if-octet-eq92.false w.if-octet-closer.false w.if-octet-opener.false));
+      }
     ]
   where
     at_true : (o c d : ℕ) (e : Bool) (x : ℕ) (t : List ℕ) → e ≡ true → close_in o c d e (x ∷ t) ≡ further 1 (close_in o c d false t)
     at_true o c d e x t h = let h' = close_escaped o c d x t in cc
 
-    at_false : (o c d d' : ℕ) (e e' : Bool) (x : ℕ) (t : List ℕ) → e ≡ false → close_in o c d false (x ∷ t) ≡ further 1 (close_in o c d' e' t) → close_in o c d e (x ∷ t) ≡ further 1 (close_in o c d' e' t)
+    at_false : (o c d d' : ℕ) (e e' : Bool) (x : ℕ) (t : List ℕ) → e ≡ false → close_in o c d false (x ∷ t) ≡ further 1 (close_in o c d' e' t)
+        → close_in o c d e (x ∷ t) ≡ further 1 (close_in o c d' e' t)
     at_false o c d d' e e' x t h k = cc
 
 pub returns-clause-value : goal.returns-clause-value

@@ -11,7 +11,8 @@ pub returns-in-None : goal.returns-in-None
 returns-in-None c = λ t e.
     let text = c.args.text.now in
     let o = c.args.octet in
-    c.in-None.ensures [] (c.split_at.ensures.back ∙ ap (λ (u : List ℕ). drop (length text - 1) u) e ∙ drop_at t (o ∷ []) (length text - 1) (omega (arith, ap length e, length-append t (o ∷ []))))
+    c.in-None.ensures [] (c.split_at.ensures.back ∙ ap (λ (u : List ℕ). drop (length text - 1) u) e ∙ drop_at t (o ∷ []) (length text - 1)
+    (omega (arith, ap length e, length-append t (o ∷ []))))
 
 pub returns-in-Some : goal.returns-in-Some
 returns-in-Some c =
@@ -22,4 +23,5 @@ returns-in-Some c =
     let q : eqb (length text) 0 ≡ false = cc in
     let some : length text ≢ 0 = λ z. let y = eq-eqb (length text) 0 z in absurd cc in
     let z : r ≡ [] = nil_from_length r (omega (arith, some, c.split_at.ensures.back_len, ap length c.in-Some.ensures)) in
-    sym (take-append-drop n text) ∙ ap (λ (u : List ℕ). u ++ drop n text) (sym c.split_at.ensures.front) ∙ ap (λ (u : List ℕ). f ++ u) (sym c.split_at.ensures.back ∙ c.in-Some.ensures ∙ ap (λ (u : List ℕ). c.args.octet ∷ u) z)
+    sym (take-append-drop n text) ∙ ap (λ (u : List ℕ). u ++ drop n text) (sym c.split_at.ensures.front)
+    ∙ ap (λ (u : List ℕ). f ++ u) (sym c.split_at.ensures.back ∙ c.in-Some.ensures ∙ ap (λ (u : List ℕ). c.args.octet ∷ u) z)
