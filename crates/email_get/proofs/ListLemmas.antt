@@ -8,7 +8,7 @@ use Rattle.blob_store.specs.Uploads.{blob_id}
 use Rattle.mime_tree.specs.declared.lists.BodyLists.{BodyLists}
 use Rattle.mime_tree.specs.declared.part.Part.{Part}
 use Rattle.mime_tree.specs.BodyLists.{start, AreBodyLists}
-use Rattle.mime_tree.specs.Parts.{children, number_of, IsUnder, IsWithin, Itself, Below}
+use Rattle.mime_tree.specs.Parts.{children, IsUnder, IsWithin, Itself, Below}
 use Rattle.mime_tree.specs.Roles.{is_leaf, leaf_number, is_plain, media}
 use Rattle.mime_tree.specs.Trees.{IsMessage}
 use Rattle.mime_tree.specs.Heads.{is_text}

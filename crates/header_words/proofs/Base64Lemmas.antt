@@ -1,4 +1,4 @@
--- A text in base64 is cut after its symbols.
+-- A text in base64 is cut behind its symbols.
 use Rattle.std.proofs.Common.{◌≡◌, ◌≢◌, ℕ, ◌-◌, ◌≤◌, ◌/◌, ◌%◌, min, false, List, [], ◌∷◌, ◌++◌, length, map, refl, sym, ap, ◌∙◌, subst, eqb-true, arith}
 use Rattle.std.proofs.lemmas.List.{length-map}
 use Rattle.text_words.specs.Cuts.{Each, Stops, front, back}
@@ -22,7 +22,8 @@ is_base64 octets t s p es ep n f e a =
     record {
       symbols = s;
       padding = p;
-      whole = front_back is_symbol t ∙ ap (λ (u : List ℕ). u ++ back is_symbol t) (sym es) ∙ ap (λ (u : List ℕ). s ++ u) (sym ep);
+      whole = front_back is_symbol t ∙ ap (λ (u : List ℕ). u ++ back is_symbol t) (sym es) ∙ ap (λ (u : List ℕ). s ++ u)
+          (sym ep);
       alphabet = subst P (sym es) (front_each is_symbol t);
       equals = e;
       few = f;

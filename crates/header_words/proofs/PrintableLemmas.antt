@@ -1,6 +1,5 @@
 -- Pieces of quoted-printable are read as they are spelled.
-use Rattle.std.proofs.Common.{◌≡◌, ◌≢◌, ℕ, zero, suc, ◌+◌, ◌<◌, ◌≤◌, Bool, true, false, ◌||◌, List, [], ◌∷◌, ◌++◌, length, drop, cond, refl, sym, ap, ◌∙◌, subst, append_assoc}
-use Rattle.std.proofs.Common.{Option, Some, None, eqb, eqb-true, arith}
+use Rattle.std.proofs.Common.{◌≡◌, ◌≢◌, ℕ, zero, suc, ◌+◌, ◌<◌, ◌≤◌, Bool, true, false, ◌||◌, List, [], ◌∷◌, ◌++◌, length, drop, cond, refl, sym, ap, ◌∙◌, subst, append_assoc, Option, Some, None, eqb, eqb-true, arith}
 use Rattle.std.specs.List.{flat_map, list_any}
 use Rattle.std.proofs.lemmas.Bool.{cond-true, cond-false, eqb-false, ne_eqb}
 use Rattle.std.proofs.lemmas.Grind.{flat_map-append}
@@ -13,8 +12,7 @@ use Rattle.text_words.specs.Sequence.{UnitAt}
 use Rattle.text_words.proofs.CutLemmas.{front_back, front_each, back_stops, front_is, back_is, drop_front}
 use Rattle.text_words.proofs.LineEndLemmas.{end_len, end_some, end_found}
 use Rattle.text_words.proofs.SequenceLemmas.{IsReader, Behind, begins, unit_within, read_more, all_done, unit_same, one_reading, determined}
-use Rattle.header_words.specs.QuotedPrintable.{Piece, right, IsSoft, BeginsWithHex, BeginsWithSoft, ends_line, IsPiece, Hex, SoftBreak, WrongSign, Trailing, Blanks, Itself}
-use Rattle.header_words.specs.QuotedPrintable.{IsPrintable}
+use Rattle.header_words.specs.QuotedPrintable.{Piece, right, IsSoft, BeginsWithHex, BeginsWithSoft, ends_line, IsPiece, Hex, SoftBreak, WrongSign, Trailing, Blanks, Itself, IsPrintable}
 use Rattle.header_words.specs.Transfer.{IsBody}
 use Rattle.header_words.specs.declared.transfer.Encoding.{Encoding}
 use Rattle.header_words.specs.declared.transfer.Encoding.TheVariants as encoding
@@ -149,13 +147,7 @@ sign_sound v n t e = by_hex (hex_in t) refl e
     by_hex (Some c) h e =
         let x = hex_sound c t h in
         let P : ℕ → Type 0 = λ y. IsPiece (right (y ∷ [])) (61 ∷ x.high ∷ x.low ∷ []) x.rest in
-        unit_same IsPiece _ v 3 n (61 ∷ t) e (record {
-          unit = 61 ∷ x.high ∷ x.low ∷ [];
-          rest = x.rest;
-          whole = ap (λ (u : List ℕ). 61 ∷ u) x.whole;
-          is = subst P (sym x.value) (Hex x.high x.low x.left x.right x.rest x.high_is x.low_is);
-          counted = refl;
-        })
+        unit_same IsPiece _ v 3 n (61 ∷ t) e (record { unit = 61 ∷ x.high ∷ x.low ∷ []; rest = x.rest; whole = ap (λ (u : List ℕ). 61 ∷ u) x.whole; is = subst P (sym x.value) (Hex x.high x.low x.left x.right x.rest x.high_is x.low_is); counted = refl })
     by_hex None h e = by_break (line_end_len (back is_blank t)) h refl e
 
 blanks_sound : (v : Piece) (n c : ℕ) (t : List ℕ) → is_blank c ≡ true → blanks_of (front is_blank (c ∷ t)) (back is_blank (c ∷ t)) ≡ Some (v, n) → UnitAt IsPiece v n (c ∷ t)
@@ -165,30 +157,20 @@ blanks_sound v n c t b e = by (ends_line (back is_blank (c ∷ t))) refl e
     run : IsRun is_blank (front is_blank (c ∷ t))
     run = (front_each is_blank (c ∷ t), λ h. let k = cond-true (is_blank c) (c ∷ front is_blank t) [] b in absurd cc)
 
-    by : (q : Bool) → ends_line (back is_blank (c ∷ t)) ≡ q → cond {A = Option (Piece × ℕ)} q (Some (right [], length (front is_blank (c ∷ t))))
-        (Some (right (front is_blank (c ∷ t)), length (front is_blank (c ∷ t)))) ≡ Some (v, n) → UnitAt IsPiece v n (c ∷ t)
-    by true h e = unit_same IsPiece _ v _ n (c ∷ t) e (record {
-      unit = front is_blank (c ∷ t);
-      rest = back is_blank (c ∷ t);
-      whole = front_back is_blank (c ∷ t);
-      is = Trailing _ _ run h;
-      counted = refl;
-    })
-    by false h e = unit_same IsPiece _ v _ n (c ∷ t) e (record {
-      unit = front is_blank (c ∷ t);
-      rest = back is_blank (c ∷ t);
-      whole = front_back is_blank (c ∷ t);
-      is = Blanks _ _ run (back_stops is_blank (c ∷ t)) h;
-      counted = refl;
-    })
+    by : (q : Bool) → ends_line (back is_blank (c ∷ t)) ≡ q
+        → cond {A = Option (Piece × ℕ)} q (Some (right [], length (front is_blank (c ∷ t)))) (Some (right (front is_blank (c ∷ t)), length (front is_blank (c ∷ t)))) ≡ Some
+        (v, n) → UnitAt IsPiece v n (c ∷ t)
+    by true h e = unit_same IsPiece _ v _ n (c ∷ t) e
+        (record { unit = front is_blank (c ∷ t); rest = back is_blank (c ∷ t); whole = front_back is_blank (c ∷ t); is = Trailing _ _ run h; counted = refl })
+    by false h e = unit_same IsPiece _ v _ n (c ∷ t) e (record { unit = front is_blank (c ∷ t); rest = back is_blank (c ∷ t); whole = front_back is_blank (c ∷ t); is = Blanks _ _ run (back_stops is_blank (c ∷ t)) h; counted = refl })
 
 sound : (v : Piece) (n : ℕ) (t : List ℕ) → piece_in t ≡ Some (v, n) → UnitAt IsPiece v n t
 unfolding piece_in
 sound v n [] e = absurd cc
 sound v n (c ∷ t) e = by (eqb c 61) (is_blank c) refl refl e
   where
-    by : (p q : Bool) → eqb c 61 ≡ p → is_blank c ≡ q → cond p (sign_of (hex_in t) t)
-        (cond q (blanks_of (front is_blank (c ∷ t)) (back is_blank (c ∷ t))) (Some (right (c ∷ []), 1))) ≡ Some (v, n) → UnitAt IsPiece v n (c ∷ t)
+    by : (p q : Bool) → eqb c 61 ≡ p → is_blank c ≡ q
+        → cond p (sign_of (hex_in t) t) (cond q (blanks_of (front is_blank (c ∷ t)) (back is_blank (c ∷ t))) (Some (right (c ∷ []), 1))) ≡ Some (v, n) → UnitAt IsPiece v n (c ∷ t)
     by true q h k e = let P : ℕ → Type 0 = λ y. UnitAt IsPiece v n (y ∷ t) in subst P (sym (eqb-true c 61 h)) (sign_sound v n t e)
     by false true h k e = blanks_sound v n c t k e
     by false false h k e = unit_same IsPiece _ v 1 n (c ∷ t) e (record { unit = c ∷ []; rest = t; whole = refl; is = Itself c t (eqb-false c 61 h) k; counted = refl })
@@ -308,7 +290,7 @@ read_fits rest rest' more wrong p =
     let w = unit_within piece_in piece_reader p.piece p.len rest p.read_is in
     omega (arith, piece_fits p.piece u.unit u.rest u.is, u.counted, w.within, ap length p.octets_are, ap length p.rest_is, length-drop p.len rest)
 
--- n octets were read, and rest is left
+-- so many octets were read, and rest is left
 pub record Counted (n : ℕ) (rest t : List ℕ) : Type 0 where
   pub octets : List ℕ
   pub problem : Bool

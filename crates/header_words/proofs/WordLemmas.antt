@@ -5,8 +5,7 @@ use Rattle.std.proofs.lemmas.Bool.{cases_lt}
 use Rattle.text_words.specs.Sequence.{UnitAt}
 use Rattle.text_words.proofs.SequenceLemmas.{determined, one_reading}
 use Rattle.header_words.specs.Charsets.{text_in, charset_of}
-use Rattle.header_words.specs.EncodedWords.{is_b, is_q, is_edge, Spells, InBase64, InQ, IsEncodedWord, ends_at_edge, NoneBefore, HasNone, IsFirst, kept, IsText, Plain, Worded}
-use Rattle.header_words.specs.EncodedWords.{charset_name}
+use Rattle.header_words.specs.EncodedWords.{is_b, is_q, is_edge, Spells, InBase64, InQ, IsEncodedWord, ends_at_edge, NoneBefore, HasNone, IsFirst, kept, IsText, Plain, Worded, charset_name}
 use Rattle.header_words.specs.reading.Units.{q_unit_in, IsWordBefore, FoundAt}
 use Rattle.header_words.proofs.QuotedLemmas.{q_reader}
 use Rattle.header_words.proofs.Base64Lemmas.{one_base64}
@@ -36,8 +35,8 @@ one_word r s w v b c e i j =
     let spelled = subst (λ (u : List ℕ). Spells i.letter j.octets u) (sym o.text) (subst (λ (l : ℕ). Spells l j.octets j.text) (sym o.letter) j.spelled) in
     let octets = one_spelling i.letter i.octets j.octets i.text i.spelled spelled in
     record {
-      reading = i.said ∙ ap (λ (u : List ℕ). text_in (charset_of (charset_name i.charset)) u) octets ∙ ap (λ (u : List ℕ). text_in (charset_of (charset_name u)) j.octets) o.charset
-          ∙ sym j.said;
+      reading = i.said ∙ ap (λ (u : List ℕ). text_in (charset_of (charset_name i.charset)) u) octets
+          ∙ ap (λ (u : List ℕ). text_in (charset_of (charset_name u)) j.octets) o.charset ∙ sym j.said;
       word = i.shape.whole ∙ same o.charset o.letter o.text ∙ sym j.shape.whole;
       behind = o.behind;
     }
@@ -132,7 +131,7 @@ one_text after value _ _ (Worded _ r b w x u _ g h) (Worded _ s c v y z _ k l) =
     ∙ ap (λ (a : List ℕ). kept after c ++ (a ++ u)) q.1.reading
     ∙ ap (λ (a : List ℕ). kept after c ++ (s ++ a)) tail
 
--- what the rest reads as goes after what was written
+-- what the rest reads as goes behind what was written
 pub record Goes (behind_word : Bool) (rest done value : List ℕ) : Type 0 where
   pub goes : (t : List ℕ) → IsText behind_word rest t → IsText false value (done ++ t)
 

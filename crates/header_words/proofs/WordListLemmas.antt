@@ -1,6 +1,5 @@
 -- Where a text is cut into words, and what its words are.
-use Rattle.std.proofs.Common.{◌≡◌, ◌≢◌, ℕ, ◌+◌, ◌<◌, ◌≤◌, eqb, eqb-true, Bool, true, false, ◌&&◌, List, [], ◌∷◌, ◌++◌, length, take, drop, codes, IsUtf8, IsCharBoundary, replicate}
-use Rattle.std.proofs.Common.{refl, sym, ap, ◌∙◌, subst, arith, inl, inr, flat_map}
+use Rattle.std.proofs.Common.{◌≡◌, ◌≢◌, ℕ, ◌+◌, ◌<◌, ◌≤◌, eqb, eqb-true, Bool, true, false, ◌&&◌, List, [], ◌∷◌, ◌++◌, length, take, drop, codes, IsUtf8, IsCharBoundary, replicate, refl, sym, ap, ◌∙◌, subst, arith, inl, inr, flat_map}
 use Rattle.std.proofs.lemmas.List.{append_assoc, append-nil, append_cancel_left, nil_from_length, length-append, length-replicate, take-append-drop, length-drop}
 use Rattle.std.proofs.lemmas.List.Concat.{flat_map-append}
 use Rattle.std.proofs.lemmas.Bool.{cases_lt, and_parts}
@@ -18,7 +17,8 @@ encoded_len : (m : List ℕ) → length (encode_of standard m) ≡ unpadded_len 
 encoded_len m =
     omega (
       arith,
-      length-append (encode_symbols standard.encode_table m) (replicate (padding_len (length m)) 61),
+      length-append (encode_symbols standard.encode_table m)
+          (replicate (padding_len (length m)) 61),
       length-encode_symbols standard.encode_table m,
       length-replicate {A = ℕ} (padding_len (length m)) 61,
     )
@@ -44,7 +44,8 @@ longest_here text n u le at nearest =
         whole = sym (take-append-drop n text);
         characters = IsUtf8-take text n u at;
         characters_behind = IsUtf8-drop text n u at;
-        fits = few_fit (take n text) (omega arith);
+        fits = few_fit (take n text)
+            (omega arith);
       };
       longest = λ other behind p. elim (cases_lt n (length other)) [
         | inl more ↦ absurd (nearest (length other) more (fit_few other p.fits) (IsCharBoundary-at_seam text other behind p.whole p.characters_behind))
@@ -71,7 +72,8 @@ first_piece text b = record {
   whole = b.whole;
   characters = b.characters;
   characters_behind = b.characters_behind;
-  fits = few_fit (encode b.char) (omega (arith, length-encode b.char, (len_utf8_bounds b.char).1));
+  fits = few_fit (encode b.char)
+      (omega (arith, length-encode b.char, (len_utf8_bounds b.char).1));
 }
 
 -- so the longest piece isn't empty
@@ -112,7 +114,7 @@ folded_more first words w =
     ap (λ (u : List ℕ). first ++ u) (flat_map-append fold_before words (w ∷ []) ∙ ap (λ (u : List ℕ). flat_map fold_before words ++ u) (append-nil (fold_before w)))
     ∙ sym (append_assoc first (flat_map fold_before words) (fold_before w))
 
--- words were written, and those of the rest go after them
+-- words were written, and those of the rest go behind them
 pub record Begun (value rest text : List ℕ) : Type 0 where
   pub first : List ℕ
   pub words : List (List ℕ)

@@ -1,6 +1,5 @@
 -- What is written in base64 is read back.
-use Rattle.std.proofs.Common.{◌≡◌, ◌≢◌, ℕ, zero, suc, ◌+◌, ◌*◌, ◌/◌, ◌%◌, ◌==◌, ◌<◌, nat_lt, Bool, true, ◌&&◌, List, [], ◌∷◌, length, replicate, slice_index, refl, ap, ◌∙◌, arith}
-use Rattle.std.proofs.Common.{eqb-true}
+use Rattle.std.proofs.Common.{◌≡◌, ◌≢◌, ℕ, zero, suc, ◌+◌, ◌*◌, ◌/◌, ◌%◌, ◌==◌, ◌<◌, nat_lt, Bool, true, ◌&&◌, List, [], ◌∷◌, length, replicate, slice_index, refl, ap, ◌∙◌, arith, eqb-true}
 use Rattle.std.proofs.lemmas.List.{length-replicate}
 use Rattle.std.proofs.lemmas.Bool.{and_parts, ltb-true}
 use Rattle.base64.specs.Rfc4648.{encode_symbols, padding_len}
@@ -45,8 +44,8 @@ two_octets a b x y z la lb p q r =
     record {
       alphabet = (p.symbol, (q.symbol, (r.symbol, tt)));
       complete = λ n. omega arith;
-      are = ap (λ (u : ℕ). u ∷ b ∷ []) e
-          ∙ ap (λ (u : ℕ). (symbol_value x * 4 + symbol_value y / 16) ∷ u ∷ []) f;
+      are = ap (λ (u : ℕ). u ∷ b ∷ []) e ∙ ap
+          (λ (u : ℕ). (symbol_value x * 4 + symbol_value y / 16) ∷ u ∷ []) f;
     }
 
 three_octets : (a b c w x y z : ℕ) (octets symbols : List ℕ) → a < 256 → b < 256 → c < 256

@@ -1,6 +1,5 @@
 -- What a text is written as reads as the text.
-use Rattle.std.proofs.Common.{◌≡◌, ◌≢◌, ℕ, ◌+◌, ◌/◌, ◌%◌, ◌<◌, ◌≤◌, ltb, cond, not, ◌&&◌, Bool, true, false, List, [], ◌∷◌, ◌++◌, length, codes, IsUtf8, flat_map, refl, sym, ap}
-use Rattle.std.proofs.Common.{◌∙◌, subst, arith, inl, inr}
+use Rattle.std.proofs.Common.{◌≡◌, ◌≢◌, ℕ, ◌+◌, ◌/◌, ◌%◌, ◌<◌, ◌≤◌, ltb, cond, not, ◌&&◌, Bool, true, false, List, [], ◌∷◌, ◌++◌, length, codes, IsUtf8, flat_map, refl, sym, ap, ◌∙◌, subst, arith, inl, inr}
 use Rattle.std.proofs.lemmas.List.{append_assoc}
 use Rattle.std.proofs.lemmas.Bool.{and_parts, lt-ltb}
 use Rattle.std.proofs.lemmas.Str.{IsUtf8-append, utf8_lossy-IsUtf8}
@@ -14,8 +13,7 @@ use Rattle.header_words.specs.Base64.{is_symbol, is_equals_sign, IsBase64}
 use Rattle.header_words.specs.Charsets.{charset_of, text_in}
 use Rattle.header_words.specs.declared.charset.Charset.{Charset}
 use Rattle.header_words.specs.declared.charset.Charset.TheVariants as charset
-use Rattle.header_words.specs.EncodedWords.{is_encoded, InBase64, HasShape, charset_name, IsEncodedWord, is_edge, ends_at_edge, BeginsAtEdge, kept, NoneBefore, HasNone, IsFirst}
-use Rattle.header_words.specs.EncodedWords.{IsText, Plain, Worded}
+use Rattle.header_words.specs.EncodedWords.{is_encoded, InBase64, HasShape, charset_name, IsEncodedWord, is_edge, ends_at_edge, BeginsAtEdge, kept, NoneBefore, HasNone, IsFirst, IsText, Plain, Worded}
 use Rattle.header_words.specs.WordList.{utf8_word, IsPiece, IsLongestPiece, AreWords, NoneLeft, Next, joined, line_fold, IsWritten}
 use Rattle.header_words.proofs.WordLemmas.{none_yet}
 use Rattle.header_words.proofs.WordListLemmas.{longest_some}
@@ -31,7 +29,8 @@ unfolding encode
 char_octets c lt = by (ltb c 128) (ltb c 2048) (ltb c 65536) refl refl refl
   where
     by : (p q r : Bool) → ltb c 128 ≡ p → ltb c 2048 ≡ q → ltb c 65536 ≡ r
-        → Each is_octet (cond p (c ∷ []) (cond q ((192 + c / 64) ∷ (128 + c % 64) ∷ [])
+        → Each is_octet (cond p (c ∷ [])
+        (cond q ((192 + c / 64) ∷ (128 + c % 64) ∷ [])
         (cond r ((224 + c / 4096) ∷ (128 + c / 64 % 64) ∷ (128 + c % 64) ∷ []) ((240 + c / 262144) ∷ (128 + c / 4096 % 64) ∷ (128 + c / 64 % 64) ∷ (128 + c % 64) ∷ []))))
     by true q r e f g = (grind arith, tt)
     by false true r e f g = (small _ (grind arith), (small _ (omega arith), tt))
@@ -146,7 +145,7 @@ none_in_empty = λ reading before word behind e s. by before word behind e s.wor
     by [] (d ∷ word) behind e f = absurd cc
     by (a ∷ before) word behind e f = absurd cc
 
--- the words after the first
+-- the words behind the first
 abbrev more_words : List ℕ → List (List ℕ) → List ℕ
 more_words between words = flat_map (λ (w : List ℕ). between ++ w) words
 

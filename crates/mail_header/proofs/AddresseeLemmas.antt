@@ -9,8 +9,7 @@ use Rattle.mail_header.specs.declared.token.Alphabet.TheVariants as alphabet
 use Rattle.mail_header.specs.Tokens.{Spelled, AreTokens}
 use Rattle.mail_header.specs.reading.TokenReading.{spelled_in}
 use Rattle.mail_header.specs.Mailboxes.{Mailbox}
-use Rattle.mail_header.specs.AddressLists.{Element, Empty, Head, End, Member, IsElement, Addressee, One, Group, AreMailboxes, NoMailboxes, EmptyPlace, NextMailbox, AreAddressees}
-use Rattle.mail_header.specs.AddressLists.{NoAddressees, Passed, NextOne, NextGroup, IsAddressList, Grouped, run_of, groups_from}
+use Rattle.mail_header.specs.AddressLists.{Element, Empty, Head, End, Member, IsElement, Addressee, One, Group, AreMailboxes, NoMailboxes, EmptyPlace, NextMailbox, AreAddressees, NoAddressees, Passed, NextOne, NextGroup, IsAddressList, Grouped, run_of, groups_from}
 use Rattle.mail_header.specs.reading.ElementReading.{element_in, are_nested, is_addressee, grouped_from}
 use Rattle.mail_header.specs.reading.GroupBuilding.{are_list}
 use Rattle.mail_header.proofs.OneToken.{token_reader}
@@ -85,7 +84,8 @@ reads true (Empty ∷ es) e =
       inner = Empty ∷ r.inner;
       rest = r.rest;
       who = r.who;
-      whole = ap (λ (u : List Element). Empty ∷ u) r.whole;
+      whole = ap
+          (λ (u : List Element). Empty ∷ u) r.whole;
       mailboxes = EmptyPlace r.ms r.inner r.mailboxes;
       addressees = r.addressees;
     }
@@ -109,7 +109,8 @@ reads true (Member m ∷ es) e =
       inner = Member m ∷ r.inner;
       rest = r.rest;
       who = r.who;
-      whole = ap (λ (u : List Element). Member m ∷ u) r.whole;
+      whole = ap
+          (λ (u : List Element). Member m ∷ u) r.whole;
       mailboxes = NextMailbox m r.ms r.inner r.mailboxes;
       addressees = r.addressees;
     }

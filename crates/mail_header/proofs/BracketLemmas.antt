@@ -13,8 +13,8 @@ use Rattle.mail_header.specs.reading.HeaderLines.{Takes, is_of_line_end, kept_oc
 
 -- an octet more is kept, or dropped with its line end
 pub kept_more : (c : ℕ) (t old new whole : List ℕ) → old ++ unfolded (c ∷ t) ≡ whole → new ≡ old ++ kept_octet c t → new ++ unfolded t ≡ whole
-kept_more c t old new whole h e = ap (λ (u : List ℕ). u ++ unfolded t) e ∙ append_assoc old (kept_octet c t) (unfolded t) ∙ ap (λ (u : List ℕ). old ++ u) (by (is_of_line_end c t))
-    ∙ h
+kept_more c t old new whole h e = ap (λ (u : List ℕ). u ++ unfolded t) e ∙ append_assoc old (kept_octet c t) (unfolded t)
+    ∙ ap (λ (u : List ℕ). old ++ u) (by (is_of_line_end c t)) ∙ h
   where
     by : (q : Bool) → cond q [] (c ∷ []) ++ unfolded t ≡ cond q (unfolded t) (c ∷ unfolded t)
     by true = refl

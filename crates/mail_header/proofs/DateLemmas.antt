@@ -13,10 +13,8 @@ use Rattle.mail_header.specs.Tokens.{Spelled, AreTokens}
 use Rattle.mail_header.specs.Lexemes.{is_lexeme, AreLexemes}
 use Rattle.mail_header.specs.Mailboxes.{mark_in, has_mark, is_atom}
 use Rattle.mail_header.specs.RawForms.{raw_form}
-use Rattle.mail_header.specs.Dates.{Piece, Digits, Letters, Signed, Octet, Other, pieces_in, pieces_of, number_of, month_of, year_of, offset_of, named_zone, IsDay, DayMonthYear}
-use Rattle.mail_header.specs.Dates.{IsClock, HourMinute, HourMinuteSecond, IsZone, Offset, Named, IsDateTime, IsDate, Plain, OfWeek, moment_of, IsMoment, IsDateForm}
-use Rattle.mail_header.specs.reading.DateReading.{then_read, with_rest, behind_day_name, digits_in, letters_in, octet_in, number_in, month_in, year_in, colon_in, second_behind}
-use Rattle.mail_header.specs.reading.DateReading.{second_in, zone_in, day_in, clock_in, at_end, date_in}
+use Rattle.mail_header.specs.Dates.{Piece, Digits, Letters, Signed, Octet, Other, pieces_in, pieces_of, number_of, month_of, year_of, offset_of, named_zone, IsDay, DayMonthYear, IsClock, HourMinute, HourMinuteSecond, IsZone, Offset, Named, IsDateTime, IsDate, Plain, OfWeek, moment_of, IsMoment, IsDateForm}
+use Rattle.mail_header.specs.reading.DateReading.{then_read, with_rest, behind_day_name, digits_in, letters_in, octet_in, number_in, month_in, year_in, colon_in, second_behind, second_in, zone_in, day_in, clock_in, at_end, date_in}
 use Rattle.mail_header.specs.reading.LexemeReading.{rest_in, lexemes_in}
 use Rattle.mail_header.proofs.AddresseeLemmas.{one_tokens}
 use Rattle.mail_header.proofs.LexemeLemmas.{row_read, no_row}
@@ -28,8 +26,8 @@ known {A} o a r f e = ap (λ (x : Option A). then_read (with_rest x r) f) e
 
 day_read : (d : Day) (ps rest : List Piece) → IsDay d ps → day_in (ps ++ rest) ≡ Some (d, rest)
 day_read _ _ rest (DayMonthYear ds ms ys d m y e f g) =
-    known (number_of 1 2 ds) d (Letters ms ∷ Digits ys ∷ rest)
-    (λ n r. then_read (month_in r) (λ o s. then_read (year_in s) (λ p t. Some (record { year = p; month = o; day = n }, t)))) e
+    known (number_of 1 2 ds) d (Letters ms ∷ Digits ys ∷ rest) (λ n r. then_read (month_in r)
+    (λ o s. then_read (year_in s) (λ p t. Some (record { year = p; month = o; day = n }, t)))) e
     ∙ known (month_of ms) m (Digits ys ∷ rest) (λ o s. then_read (year_in s) (λ p t. Some (record { year = p; month = o; day = d }, t))) f
     ∙ known (year_of ys) y rest (λ p t. Some (record { year = p; month = m; day = d }, t)) g
 
@@ -40,8 +38,8 @@ clock_read _ _ rest (HourMinute hs ms h m e f) n =
     ∙ known (number_of 2 2 ms) m rest (λ b t. then_read (second_in t) (λ d u. Some (record { hour = h; minute = b; second = d }, u))) f
     ∙ ap (λ (o : Option (ℕ × List Piece)). then_read (second_behind o rest) (λ d u. Some (record { hour = h; minute = m; second = d }, u))) n
 clock_read _ _ rest (HourMinuteSecond hs ms ss h m s e f g) n =
-    known (number_of 2 2 hs) h (Octet 58 ∷ Digits ms ∷ Octet 58 ∷ Digits ss ∷ rest)
-    (λ a r. then_read (colon_in r) (λ k s'. then_read (number_in 2 2 s') (λ b t. then_read (second_in t) (λ d u. Some (record { hour = a; minute = b; second = d }, u))))) e
+    known (number_of 2 2 hs) h (Octet 58 ∷ Digits ms ∷ Octet 58 ∷ Digits ss ∷ rest) (λ a r. then_read (colon_in r)
+    (λ k s'. then_read (number_in 2 2 s') (λ b t. then_read (second_in t) (λ d u. Some (record { hour = a; minute = b; second = d }, u))))) e
     ∙ known (number_of 2 2 ms) m (Octet 58 ∷ Digits ss ∷ rest) (λ b t. then_read (second_in t) (λ d u. Some (record { hour = h; minute = b; second = d }, u))) f
     ∙ known (number_of 2 2 ss) s rest (λ d u. Some (record { hour = h; minute = m; second = d }, u)) g
 
@@ -58,8 +56,8 @@ date_time_read d c z ls h =
     ap date_in h.whole
     ∙ ap (λ (o : Option (Day × List Piece)). then_read o (λ d' r. then_read (clock_in r) (λ c' s. then_read (zone_in s) (λ z' t. at_end t (moment_of d' c' z')))))
     (day_read d h.day (h.clock ++ h.zone) h.is_day)
-    ∙ ap (λ (o : Option (Clock × List Piece)). then_read o (λ c' s. then_read (zone_in s) (λ z' t. at_end t (moment_of d c' z'))))
-    (clock_read c h.clock h.zone h.is_clock (zone_no_colon z h.zone h.is_zone))
+    ∙ ap (λ (o : Option (Clock × List Piece)). then_read o (λ c' s. then_read (zone_in s) (λ z' t. at_end t (moment_of d c' z')))) (clock_read c h.clock h.zone h.is_clock
+    (zone_no_colon z h.zone h.is_zone))
     ∙ ap (λ (o : Option (ℤ × List Piece)). then_read o (λ z' t. at_end t (moment_of d c z'))) (zone_read z h.zone h.is_zone)
 
 -- ---- a date without a day of the week has no comma
@@ -222,8 +220,8 @@ day_found ps d r e =
     let p : ◌≡◌ {A = Day × List Piece} (made, c.rest) (d, r) = let k = c.more in cc in
     record {
       pieces = Digits n.text ∷ Letters m.text ∷ Digits y.text ∷ [];
-      whole = n.whole ∙ ap (λ (u : List Piece). Digits n.text ∷ u)
-          (m.whole ∙ ap (λ (u : List Piece). Letters m.text ∷ u) (y.whole ∙ ap (λ (q : Day × List Piece). Digits y.text ∷ q.1) p));
+      whole = n.whole ∙ ap (λ (u : List Piece). Digits n.text ∷ u) (m.whole ∙ ap (λ (u : List Piece). Letters m.text ∷ u)
+          (y.whole ∙ ap (λ (q : Day × List Piece). Digits y.text ∷ q.1) p));
       is = subst (λ (x : Day). IsDay x (Digits n.text ∷ Letters m.text ∷ Digits y.text ∷ [])) (ap (λ (q : Day × List Piece). q.0) p)
           (DayMonthYear n.text m.text y.text a.value b.value c.value n.value_is m.value_is y.value_is);
     }
@@ -285,7 +283,8 @@ zone_found (Letters t ∷ ps) z r e =
     record {
       pieces = Letters t ∷ [];
       whole = ap (λ (q : ℤ × List Piece). Letters t ∷ q.1) p;
-      is = subst (λ (x : ℤ). IsZone x (Letters t ∷ [])) (ap (λ (q : ℤ × List Piece). q.0) p) (Named t);
+      is = subst (λ (x : ℤ). IsZone x (Letters t ∷ []))
+          (ap (λ (q : ℤ × List Piece). q.0) p) (Named t);
     }
 zone_found (Digits t ∷ ps) z r e = absurd cc
 zone_found (Octet c ∷ ps) z r e = absurd cc
@@ -324,8 +323,8 @@ date_found ls m e =
         day = d.pieces;
         clock = k.pieces;
         zone = z.pieces;
-        whole = d.whole ∙ ap (λ (u : List Piece). d.pieces ++ u)
-            (k.whole ∙ ap (λ (u : List Piece). k.pieces ++ u) (z.whole ∙ ap (λ (u : List Piece). z.pieces ++ u) n.nothing ∙ append-nil z.pieces));
+        whole = d.whole ∙ ap (λ (u : List Piece). d.pieces ++ u) (k.whole ∙ ap (λ (u : List Piece). k.pieces ++ u)
+            (z.whole ∙ ap (λ (u : List Piece). z.pieces ++ u) n.nothing ∙ append-nil z.pieces));
         is_day = d.is;
         is_clock = k.is;
         is_zone = z.is;
@@ -356,7 +355,8 @@ sound (n ∷ k ∷ ls) m e = by (is_atom n && has_mark 44 k) refl e
           day = d.day;
           clock = d.clock;
           zone = d.zone;
-          is = OfWeek n k ls (and_first (is_atom n) (has_mark 44 k) b) (and_second (is_atom n) (has_mark 44 k) b) d.is;
+          is = OfWeek n k ls (and_first (is_atom n) (has_mark 44 k) b)
+              (and_second (is_atom n) (has_mark 44 k) b) d.is;
           moment_is = d.moment_is;
         }
 

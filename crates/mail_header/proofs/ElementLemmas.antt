@@ -1,6 +1,5 @@
 -- The element at the front is read, and what is read is the element at the front.
-use Rattle.std.proofs.Common.{◌≡◌, ◌≢◌, ℕ, ◌+◌, ◌⊎◌, inl, inr, Bool, true, false, not, ◌&&◌, ◌||◌, List, [], ◌∷◌, ◌++◌, length, cond, refl, sym, ap, ◌∙◌, subst, arith}
-use Rattle.std.proofs.Common.{append_assoc, eqb, eqb-true, Option, Some, None}
+use Rattle.std.proofs.Common.{◌≡◌, ◌≢◌, ℕ, ◌+◌, ◌⊎◌, inl, inr, Bool, true, false, not, ◌&&◌, ◌||◌, List, [], ◌∷◌, ◌++◌, length, cond, refl, sym, ap, ◌∙◌, subst, arith, append_assoc, eqb, eqb-true, Option, Some, None}
 use Rattle.std.specs.List.{list_all, filter}
 use Rattle.std.proofs.lemmas.Bool.{cond-true, cond-false}
 use Rattle.std.proofs.lemmas.List.{length-append}
@@ -11,16 +10,14 @@ use Rattle.text_words.proofs.CutLemmas.{front_back, front_each, back_stops, fron
 use Rattle.text_words.proofs.SequenceLemmas.{IsReader, Behind, begins, unit_same}
 use Rattle.mail_header.specs.Tokens.{Spelled}
 use Rattle.mail_header.specs.Mailboxes.{mark_of, has_mark, is_gap, is_phrase, is_display_name, is_addr_spec, is_inner}
-use Rattle.mail_header.specs.AddressLists.{Element, Empty, Head, End, Member, IsElement, Comma, Blank, Phrase, Closed, Bare, InAngle, EndsElement, EndsGroup, is_no_separator}
-use Rattle.mail_header.specs.AddressLists.{is_no_comma}
-use Rattle.mail_header.specs.reading.ElementReading.{is_plain, is_no_greater, stops, bare, in_angle, some_bare, bare_of, head_of, end_before, end_of, angle_before, angle_of}
-use Rattle.mail_header.specs.reading.ElementReading.{closed_of, opened_of, separator_of, is_empty, marked_of, element_of, element_in, is_filled}
+use Rattle.mail_header.specs.AddressLists.{Element, Empty, Head, End, Member, IsElement, Comma, Blank, Phrase, Closed, Bare, InAngle, EndsElement, EndsGroup, is_no_separator, is_no_comma}
+use Rattle.mail_header.specs.reading.ElementReading.{is_plain, is_no_greater, stops, bare, in_angle, some_bare, bare_of, head_of, end_before, end_of, angle_before, angle_of, closed_of, opened_of, separator_of, is_empty, marked_of, element_of, element_in, is_filled}
 use Rattle.mail_header.proofs.MailboxLemmas.{flip, picked, gap_mark, mark_is, gaps_each, phrase_each, name_each, spec_each, inner_each, spec_some}
 
 abbrev pub Read : Type 0
 Read = Option (Element × ℕ)
 
--- the same by the mark of the token after
+-- the same by the mark of the token behind
 separator_by : ℕ → List Spelled → Read
 separator_by m more = cond (eqb m 44) (Some (Empty, 1)) (cond (eqb m 59) (end_of more) None)
 
@@ -143,8 +140,8 @@ angle_again : (phrase inner gaps rest : List Spelled) → is_display_name phrase
 angle_again phrase inner gaps rest p i e k =
     ap (λ (u : List Spelled). angle_before phrase inner u (back is_gap (gaps ++ rest))) (front_is is_gap gaps rest e (element_stops rest k))
     ∙ ap (λ (u : List Spelled). angle_before phrase inner gaps u) (back_is is_gap gaps rest e (element_stops rest k))
-    ∙ cond-true (is_display_name phrase && is_inner inner && stops is_no_separator rest) _ _
-    (three (is_display_name phrase) (is_inner inner) (stops is_no_separator rest) p i (stops_true is_no_separator rest k))
+    ∙ cond-true (is_display_name phrase && is_inner inner && stops is_no_separator rest) _ _ (three (is_display_name phrase) (is_inner inner) (stops is_no_separator rest) p i
+    (stops_true is_no_separator rest k))
   where
     three : (a b c : Bool) → a ≡ true → b ≡ true → c ≡ true → (a && b && c) ≡ true
     three true true true e f g = refl
@@ -230,8 +227,8 @@ head_found v n plain s more h e = elim (picked (is_phrase plain) _ _ _ e) [
 
 end_found : (v : Element) (n : ℕ) (s : Spelled) (more : List Spelled) → has_mark 59 s ≡ true → end_of more ≡ Some (v, n) → Found v n (s ∷ more)
 end_found v n s more h e = elim (picked (stops is_no_comma (back is_gap more)) _ _ _ e) [
-  | inl i ↦ found v End (s ∷ front is_gap more) (back is_gap more) n _ _ (ap (λ (u : List Spelled). s ∷ u) (front_back is_gap more)) (omega arith)
-      (Closed s (front is_gap more) (back is_gap more) h (front_each is_gap more) (true_stops is_no_comma (back is_gap more) i.0)) i.1
+  | inl i ↦ found v End (s ∷ front is_gap more) (back is_gap more) n _ _ (ap (λ (u : List Spelled). s ∷ u) (front_back is_gap more)) (omega arith) (Closed s (front is_gap more)
+      (back is_gap more) h (front_each is_gap more) (true_stops is_no_comma (back is_gap more) i.0)) i.1
   | inr i ↦ absurd (let f = i.1 in cc)
 ]
 
@@ -241,8 +238,8 @@ angle_found v n phrase inner less greater more ts w l g e = elim (picked (is_dis
   | inl i ↦
       let q = three (is_display_name phrase) (is_inner inner) (stops is_no_separator (back is_gap more)) i.0 in
       found v (Member (in_angle phrase inner (front is_gap more))) (phrase ++ less ∷ (inner ++ greater ∷ front is_gap more)) (back is_gap more) n _ ts
-      (w ∙ ap (λ (u : List Spelled). phrase ++ less ∷ (inner ++ greater ∷ u)) (front_back is_gap more)
-      ∙ sym (spread phrase inner (front is_gap more) (back is_gap more) less greater))
+      (w ∙ ap (λ (u : List Spelled). phrase ++ less ∷ (inner ++ greater ∷ u)) (front_back is_gap more) ∙ sym
+      (spread phrase inner (front is_gap more) (back is_gap more) less greater))
       (counted phrase inner (front is_gap more) less greater)
       (InAngle phrase inner (front is_gap more) (back is_gap more) less greater q.0 l q.1 g (front_each is_gap more) (true_stops is_no_separator (back is_gap more) q.2)) i.1
   | inr i ↦ absurd (let f = i.1 in cc)

@@ -32,9 +32,8 @@ closed_group _ ms _ members (Named phrase name t) h = (record { name = Named phr
 -- the groups with the one that was open
 pub closes : (b : Builder) (done : List Grouped) (phrase : Option (List Spelled)) (ms : List Mailbox) (v : List Group) → Has b done phrase ms
     → v ≡ b.groups.items ++ option_to_list (group_from b.name b.members.items) → AllZip IsGroup (done ++ closed phrase ms) v
-closes b done phrase ms v h e = subst (λ (u : List Group). AllZip IsGroup (done ++ closed phrase ms) u) (sym e)
-    (zip_append IsGroup done (closed phrase ms) b.groups.items (option_to_list (group_from b.name b.members.items)) h.groups
-    (closed_group phrase ms b.name b.members.items h.name h.members))
+closes b done phrase ms v h e = subst (λ (u : List Group). AllZip IsGroup (done ++ closed phrase ms) u) (sym e) (zip_append IsGroup done (closed phrase ms) b.groups.items
+    (option_to_list (group_from b.name b.members.items)) h.groups (closed_group phrase ms b.name b.members.items h.name h.members))
 
 pub no_members : (v : List Address) → v ≡ [] → AllZip IsAddress [] v
 no_members v e = subst (λ (u : List Address). AllZip IsAddress [] u) (sym e) tt
@@ -94,5 +93,5 @@ groups_form raw ts _ a (Groups kept list l h) =
     let w = listed all (all_list kept ts l) in
     let g : grouped_from None [] kept ≡ groups_from [] w.who = ap (grouped_from None []) l.filled.kept_is ∙ grouped_filled None [] all
     ∙ sym (groups_are w.who all w.addressees []) in
-    names.Groups w.who list (record { tokens = ts; are_tokens = a; elements = all; are_elements = l.filled.are; are_addressees = w.addressees; some = w.some })
-    (subst (λ (u : List Grouped). AllZip IsGroup u list) g h)
+    names.Groups w.who list (record { tokens = ts; are_tokens = a; elements = all; are_elements = l.filled.are; are_addressees = w.addressees; some = w.some }) (subst
+    (λ (u : List Grouped). AllZip IsGroup u list) g h)

@@ -8,9 +8,7 @@ use Rattle.mail_header.specs.declared.token.Kind.{Kind}
 use Rattle.mail_header.specs.declared.token.Kind.TheVariants as kind
 use Rattle.mail_header.specs.Tokens.{Spelled}
 use Rattle.mail_header.specs.Lexemes.{is_lexeme_kind}
-use Rattle.mail_header.specs.Mailboxes.{mark_in, mark_of, has_mark, is_gap, is_atom_kind, is_atom, is_word_kind, is_word, is_literal_kind, has_no_opener, behind_first, is_literal}
-use Rattle.mail_header.specs.Mailboxes.{is_phrase_part, begins_phrase, is_phrase, is_display_name, is_dotted, is_local_part, begins_literal, is_domain, is_no_at, spec_of}
-use Rattle.mail_header.specs.Mailboxes.{is_addr_spec, begins_hop, is_hop, are_hops, is_route, is_no_colon, inner_of, is_inner}
+use Rattle.mail_header.specs.Mailboxes.{mark_in, mark_of, has_mark, is_gap, is_atom_kind, is_atom, is_word_kind, is_word, is_literal_kind, has_no_opener, behind_first, is_literal, is_phrase_part, begins_phrase, is_phrase, is_display_name, is_dotted, is_local_part, begins_literal, is_domain, is_no_at, spec_of, is_addr_spec, begins_hop, is_hop, are_hops, is_route, is_no_colon, inner_of, is_inner}
 use Rattle.mail_header.specs.AddressLists.{is_no_comma}
 use Rattle.mail_header.specs.reading.ElementReading.{are_hops_behind}
 
@@ -192,8 +190,8 @@ hops_each q part (s ∷ ts) z d a c e = elim (picked (has_mark 44 s) _ _ _ e) [
 ]
 
 pub inner_each : (q : ℕ → Bool) (ts : List Spelled) → q 0 ≡ true → q 46 ≡ true → q 64 ≡ true → q 44 ≡ true → q 58 ≡ true → is_inner ts ≡ true → Each (by_mark q) ts
-inner_each q ts z d a c k e = joined q is_no_colon ts (route (front is_no_colon ts) (back is_no_colon ts) e)
-    (spec (front is_no_colon ts) (back is_no_colon ts) (back_stops is_no_colon ts) e)
+inner_each q ts z d a c k e = joined q is_no_colon ts (route (front is_no_colon ts) (back is_no_colon ts) e) (spec (front is_no_colon ts) (back is_no_colon ts)
+    (back_stops is_no_colon ts) e)
   where
     route : (l r : List Spelled) → inner_of l r ≡ true → Each (by_mark q) l
     route l [] e = spec_each q l z d a e
@@ -229,8 +227,8 @@ hops_cut part [] = ap is_hop (sym (append-nil part)) ∙ and_true (is_hop (part 
 hops_cut part (s ∷ ts) = by (has_mark 44 s) (hops_cut (part ++ s ∷ []) ts)
   where
     by : (b : Bool) → are_hops (part ++ s ∷ []) ts ≡ (is_hop ((part ++ s ∷ []) ++ front is_no_comma ts) && are_hops_behind (back is_no_comma ts))
-        → cond b (is_hop part && are_hops [] ts) (are_hops (part ++ s ∷ []) ts)
-        ≡ (is_hop (part ++ cond (not b) (s ∷ front is_no_comma ts) []) && are_hops_behind (cond (not b) (back is_no_comma ts) (s ∷ ts)))
+        → cond b (is_hop part && are_hops [] ts) (are_hops (part ++ s ∷ []) ts) ≡ (is_hop (part ++ cond (not b) (s ∷ front is_no_comma ts) []) && are_hops_behind
+        (cond (not b) (back is_no_comma ts) (s ∷ ts)))
     by true h = ap (λ (u : List Spelled). is_hop u && are_hops [] ts) (sym (append-nil part))
     by false h = h ∙ ap (λ (u : List Spelled). is_hop u && are_hops_behind (back is_no_comma ts)) (append_assoc part (s ∷ []) (front is_no_comma ts))
 

@@ -1,6 +1,5 @@
 -- The token at the front is read, and what is read is the token at the front.
-use Rattle.std.proofs.Common.{◌≡◌, ◌≢◌, ◌⊎◌, take, ℕ, ◌+◌, ◌<◌, Bool, true, false, List, [], ◌∷◌, ◌++◌, length, cond, refl, sym, ap, ◌∙◌, subst, inl, inr, arith, append_assoc}
-use Rattle.std.proofs.Common.{Option, Some, None, eqb}
+use Rattle.std.proofs.Common.{◌≡◌, ◌≢◌, ◌⊎◌, take, ℕ, ◌+◌, ◌<◌, Bool, true, false, List, [], ◌∷◌, ◌++◌, length, cond, refl, sym, ap, ◌∙◌, subst, inl, inr, arith, append_assoc, Option, Some, None, eqb}
 use Rattle.std.proofs.lemmas.Bool.{cond-true, cond-false, eqb-true, eqb-false}
 use Rattle.std.proofs.lemmas.List.{length-append, take_at}
 use Rattle.mail_header.specs.declared.token.Alphabet.{Alphabet}
@@ -105,8 +104,8 @@ pub record Takes (a : Alphabet) (k : Kind) (n : ℕ) (t : List ℕ) : Type 0 whe
   pub counted : n ≡ length front
   pub some : 0 < n
 
-run_takes : (a : Alphabet) (k : Kind) (p : ℕ → Bool) (c n : ℕ) (t : List ℕ) → ((x : List ℕ) → IsRun p x → IsKind a k x) → ((x : List ℕ) → Stops p x → EndsBefore a k x) → p c ≡ true
-    → n ≡ span p (c ∷ t) → Takes a k n (c ∷ t)
+run_takes : (a : Alphabet) (k : Kind) (p : ℕ → Bool) (c n : ℕ) (t : List ℕ) → ((x : List ℕ) → IsRun p x → IsKind a k x) → ((x : List ℕ) → Stops p x → EndsBefore a k x)
+    → p c ≡ true → n ≡ span p (c ∷ t) → Takes a k n (c ∷ t)
 unfolding front
 run_takes a k p c n t f g e h =
     let some : front p (c ∷ t) ≡ c ∷ front p t = cond-true (p c) (c ∷ front p t) [] e in
@@ -116,7 +115,8 @@ run_takes a k p c n t f g e h =
       begins = record {
         whole = front_back p (c ∷ t);
         spelled = f (front p (c ∷ t)) (front_each p (c ∷ t), λ z. let q = sym some ∙ z in absurd cc);
-        ends = g (back p (c ∷ t)) (back_stops p (c ∷ t));
+        ends = g (back p (c ∷ t))
+            (back_stops p (c ∷ t));
       };
       counted = h;
       some = omega (arith, h, ap length some);
@@ -175,17 +175,16 @@ comment_takes a k c n t e = elim (chosen (eqb c 40) _ _ _ e) [
 ]
 
 literal_takes : (a : Alphabet) (k : Kind) (c n : ℕ) (t : List ℕ)
-    → cond (eqb c 91) (token_of kind.Literal (further 1 (close_in none 93 0 false t))) (cond (eqb c 40) (token_of kind.Comment (further 1 (close_in 40 41 0 false t))) None)
-    ≡ Some (k, n) → Takes a k n (c ∷ t)
+    → cond (eqb c 91) (token_of kind.Literal (further 1 (close_in none 93 0 false t))) (cond (eqb c 40)
+    (token_of kind.Comment (further 1 (close_in 40 41 0 false t))) None) ≡ Some (k, n) → Takes a k n (c ∷ t)
 literal_takes a k c n t e = elim (chosen (eqb c 91) _ _ _ e) [
   | inl h ↦ at_first a k c 91 n t (eqb-true c 91 h.0) (bracket_takes a k kind.Literal 91 none 93 n t apart_literal (λ x b. b) (λ x. tt) h.1)
   | inr h ↦ comment_takes a k c n t h.1
 ]
 
 quoted_takes : (a : Alphabet) (k : Kind) (c n : ℕ) (t : List ℕ)
-    → cond (eqb c 34) (token_of kind.Quoted (further 1 (close_in none 34 0 false t)))
-    (cond (eqb c 91) (token_of kind.Literal (further 1 (close_in none 93 0 false t))) (cond (eqb c 40) (token_of kind.Comment (further 1 (close_in 40 41 0 false t))) None))
-    ≡ Some (k, n) → Takes a k n (c ∷ t)
+    → cond (eqb c 34) (token_of kind.Quoted (further 1 (close_in none 34 0 false t))) (cond (eqb c 91) (token_of kind.Literal (further 1 (close_in none 93 0 false t)))
+    (cond (eqb c 40) (token_of kind.Comment (further 1 (close_in 40 41 0 false t))) None)) ≡ Some (k, n) → Takes a k n (c ∷ t)
 quoted_takes a k c n t e = elim (chosen (eqb c 34) _ _ _ e) [
   | inl h ↦ at_first a k c 34 n t (eqb-true c 34 h.0) (bracket_takes a k kind.Quoted 34 none 34 n t apart_quoted (λ x b. b) (λ x. tt) h.1)
   | inr h ↦ literal_takes a k c n t h.1
@@ -205,13 +204,8 @@ token_takes a k n (c ∷ t) e = elim (chosen (is_letter a c) _ _ _ e) [
   | inr h ↦ elim (chosen (is_white c) _ _ _ h.1) [
     | inl i ↦ at_kind a k kind.Space n _ (c ∷ t) i.1 (λ m. run_takes a kind.Space is_white c n t (λ x r. r) (λ x s. s) i.0 (sym m))
     | inr i ↦ elim (chosen (is_mark a c) _ _ _ i.1) [
-      | inl j ↦ at_kind a k kind.Mark n 1 (c ∷ t) j.1 (λ m. record {
-        front = c ∷ [];
-        rest = t;
-        begins = record { whole = refl; spelled = (c, refl, j.0); ends = tt };
-        counted = sym m;
-        some = omega arith;
-      })
+      | inl j ↦ at_kind a k kind.Mark n 1 (c ∷ t) j.1
+          (λ m. record { front = c ∷ []; rest = t; begins = record { whole = refl; spelled = (c, refl, j.0); ends = tt }; counted = sym m; some = omega arith })
       | inr j ↦ quoted_takes a k c n t j.1
     ]
   ]

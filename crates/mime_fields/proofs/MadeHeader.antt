@@ -23,17 +23,7 @@ pub made : (f : List NameAndRaw) (ct cd : List ℕ) (content : ContentType) (d :
     → IsIdOf (last_named (codes "content-id") f) cid → IsTextOf (last_named (codes "content-language") f) language
     → IsTrimmedTextOf (last_named (codes "content-location") f) location
     → encoding ≡ mechanism (last_named (codes "content-transfer-encoding") f) (mime_lexemes (octets_of f (codes "content-transfer-encoding")))
-    → IsPartHeader f (record {
-      media = content.media;
-      boundary = content.boundary;
-      charset = content.charset;
-      disposition = d.kind;
-      name = name;
-      cid = cid;
-      language = language;
-      location = location;
-      encoding = encoding;
-    })
+    → IsPartHeader f (record { media = content.media; boundary = content.boundary; charset = content.charset; disposition = d.kind; name = name; cid = cid; language = language; location = location; encoding = encoding })
 made f ct cd content d written name cid language location encoding et ed c i w n id l p e = record {
   content_type = mime_lexemes ct;
   has_content_type = has_lexemes f (codes "content-type") ct et;
@@ -47,8 +37,8 @@ made f ct cd content d written name cid language location encoding et ed c i w n
   disposition = i.kind;
   name = subst (λ (x : Option (List ℕ)). IsName x (written_name (mime_lexemes cd) (mime_lexemes ct)) name) i.extended
       (subst (λ (x : Option (List ℕ)). IsName d.extended x name)
-      (w ∙ ap (λ (x : Option (List ℕ)). option_or x content.name) i.file
-      ∙ ap (λ (x : Option (List ℕ)). option_or (parameter (codes "filename") (behind_token (mime_lexemes cd))) x) c.name) n);
+      (w ∙ ap (λ (x : Option (List ℕ)). option_or x content.name) i.file ∙ ap
+      (λ (x : Option (List ℕ)). option_or (parameter (codes "filename") (behind_token (mime_lexemes cd))) x) c.name) n);
   cid = id;
   language = l;
   location = p;

@@ -9,8 +9,8 @@ use Rattle.mail_header.specs.declared.pieces.Place.{Place}
 use Rattle.mail_header.specs.declared.token.Alphabet.TheVariants as alphabet
 use Rattle.mail_header.specs.Tokens.{Spelled}
 use Rattle.mail_header.specs.Mailboxes.{has_mark, is_atom}
-use Rattle.mail_header.specs.Dates.{Piece, Digits, Letters, Signed, Octet, Other, runs, pieces_of, number_of, month_of, year_of, offset_of, named_zone}
-use Rattle.mail_header.specs.Dates.{moment_of}
+use Rattle.mail_header.specs.Dates.{Piece, Digits, Letters, Signed, Octet, Other, runs}
+use Rattle.mail_header.specs.Dates.{pieces_of, number_of, month_of, year_of, offset_of, named_zone, moment_of}
 use Rattle.mail_header.specs.reading.LexemeReading.{lexemes_in}
 
 -- ---- what the code's pieces and places are
@@ -22,7 +22,7 @@ piece_view (code.Signed c t) = Signed c t.now
 piece_view (code.Octet c) = Octet c
 piece_view code.Other = Other
 
--- the pieces of the rest of an atom, and of the lexemes of a text after it
+-- the pieces of the rest of an atom, and of the lexemes of a text behind it
 unfoldable pub pieces_behind : List ℕ → List ℕ → List Piece
 pieces_behind atom rest = runs atom ++ pieces_of (lexemes_in alphabet.Mail rest)
 

@@ -23,5 +23,5 @@ loop-rest-preserved c =
     }
 
 pub returns : goal.returns
-returns c = counted_all c.loop-rest.len c.loop-rest.rest.now c.args.text.now c.loop-rest.invariant.counted
-    (nil_from_length c.loop-rest.rest.now (let e : eqb (length c.loop-rest.rest.now) 0 ≡ true = cc in eqb-true (length c.loop-rest.rest.now) 0 e))
+returns c = counted_all c.loop-rest.len c.loop-rest.rest.now c.args.text.now c.loop-rest.invariant.counted (nil_from_length c.loop-rest.rest.now
+    (let e : eqb (length c.loop-rest.rest.now) 0 ≡ true = cc in eqb-true (length c.loop-rest.rest.now) 0 e))

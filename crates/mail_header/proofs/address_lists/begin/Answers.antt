@@ -12,7 +12,8 @@ returns c = λ es all b. record {
   ms = [];
   has = record {
     groups = closes c.args.builder b.done b.phrase b.ms c.in_ok-groups.groups.items b.has c.in_ok-groups.ensures;
-    name = Named (tokens_view c.args.phrase.now) c.in_ok-name.name c.in_ok-name.ensures;
+    name = Named
+        (tokens_view c.args.phrase.now) c.in_ok-name.name c.in_ok-name.ensures;
     members = no_members c.new.result.items c.new.ensures.items;
   };
   all_is = append_assoc b.done (closed b.phrase b.ms) (grouped_from (Some (tokens_view c.args.phrase.now)) [] es) ∙ b.all_is;

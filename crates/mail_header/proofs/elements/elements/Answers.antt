@@ -29,8 +29,13 @@ some_left : (ts : List Token) (at : ℕ) → at < length ts → tokens_view (dro
 some_left ts at lt = λ e. absurd (omega (arith, ap length e, length-map (drop at ts) token_view, length-drop at ts))
 
 within : (ts : List Token) (at n : ℕ) (v : Element) → at < length ts → element_in (tokens_view (drop at ts)) ≡ Some (v, n) → at + n ≤ length ts
-within ts at n v lt e = let w = unit_within element_in element_reader v n (tokens_view (drop at ts)) e in
-    omega (arith, w.within, length-map (drop at ts) token_view, length-drop at ts)
+within ts at n v lt e = let w = unit_within element_in element_reader v n (tokens_view (drop at ts)) e in omega (
+  arith,
+  w.within,
+  length-map
+      (drop at ts) token_view,
+  length-drop at ts,
+)
 
 positive : (ts : List Token) (at n : ℕ) (v : Element) → element_in (tokens_view (drop at ts)) ≡ Some (v, n) → 0 < n
 positive ts at n v e = (unit_within element_in element_reader v n (tokens_view (drop at ts)) e).some

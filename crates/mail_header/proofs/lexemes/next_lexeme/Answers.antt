@@ -13,8 +13,8 @@ returns-clause-value c =
     let t = c.args.text.now in
     let Q : Token × Bor (List ℕ) → Type 0 = λ r. IsFirstToken a (token_view r.0) r.1.now s in
     let R : Token × Bor (List ℕ) → Type 0 = λ r. IsNextLexeme a (token_view r.0) r.1.now t in
-    match_map {Q = Q} {Q' = R} _ (nothing_read a s t c.behind_gaps.ensures.is)
-    (λ r f. next_read a (token_view r.0) r.1.now s t c.behind_gaps.ensures.is f) c.first_token.ensures.value
+    match_map {Q = Q} {Q' = R} _ (nothing_read a s t c.behind_gaps.ensures.is) (λ r f. next_read a
+    (token_view r.0) r.1.now s t c.behind_gaps.ensures.is f) c.first_token.ensures.value
 
 pub returns-clause-shorter : goal.returns-clause-shorter
 returns-clause-shorter c =

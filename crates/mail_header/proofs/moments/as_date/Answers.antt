@@ -16,6 +16,6 @@ pub returns : goal.returns
 returns c =
     let t = c.as_slice-text.result.now in
     let r = c.behind_day_name-rest.result.now in
-    form_read c.args.raw.now t c.date_at.result (c.as_slice-text.ensures ∙ c.in_ok-text.ensures)
-    (nothing_cut (rest_in alphabet.Mail t) (sym c.is_row.ensures ∙ c.if-not-is_row.false))
+    form_read c.args.raw.now t c.date_at.result (c.as_slice-text.ensures ∙ c.in_ok-text.ensures) (nothing_cut (rest_in alphabet.Mail t)
+    (sym c.is_row.ensures ∙ c.if-not-is_row.false))
     (c.date_at.ensures ∙ ap date_in (start_behind r ∙ ap pieces_of c.behind_day_name-rest.ensures))

@@ -11,8 +11,8 @@ pub returns-in-None : goal.returns-in-None
 returns-in-None c = λ t e.
     let text = c.args.text.now in
     let o = c.args.octet in
-    c.in-None.ensures [] (c.split_at.ensures.back ∙ ap (λ (u : List ℕ). drop (length text - 1) u) e
-    ∙ drop_at t (o ∷ []) (length text - 1) (omega (arith, ap length e, length-append t (o ∷ []))))
+    c.in-None.ensures [] (c.split_at.ensures.back ∙ ap (λ (u : List ℕ). drop (length text - 1) u) e ∙ drop_at t (o ∷ []) (length text - 1)
+    (omega (arith, ap length e, length-append t (o ∷ []))))
 
 pub returns-in-Some : goal.returns-in-Some
 returns-in-Some c =

@@ -24,6 +24,7 @@ returns c =
       tokens = tokens_in alphabet.Mail t;
       rest = rest_in alphabet.Mail t;
       are = leads alphabet.Mail t;
-      kept_is = c.in_ok-unfold.ensures ∙ ap unfolded (c.as_slice.ensures.value ∙ c.in_ok-push_visible.ensures ∙ ap (λ (u : List ℕ). u ++ filter is_visible s) k
-          ∙ ap (λ (u : List ℕ). spelling (tokens_in alphabet.Mail t) ++ filter is_visible u) r);
+      kept_is = c.in_ok-unfold.ensures
+          ∙ ap unfolded (c.as_slice.ensures.value ∙ c.in_ok-push_visible.ensures ∙ ap (λ (u : List ℕ). u ++ filter is_visible s) k ∙ ap
+          (λ (u : List ℕ). spelling (tokens_in alphabet.Mail t) ++ filter is_visible u) r);
     }

@@ -1,4 +1,4 @@
-use Rattle.std.proofs.Common.{sym, arith}
+use Rattle.std.proofs.Common.{sym}
 use Rattle.mime_tree.proofs.LineLemmas.{len_none, len_found}
 use Rattle.mime_tree.proofs.split.line_len.Goals as goal
 
