@@ -14,7 +14,8 @@ use Rattle.mail_header.proofs.FormLemmas.{one_addresses}
 use Rattle.email_get.specs.Texts.{text_data, optional_text}
 use Rattle.email_get.specs.HeaderProperties.{HeaderData, IsHeaderData, IsProperty, IsAddressesData, IsMessageIdsData, IsTextData, IsDateData, IsMomentData, address_data, addresses_data, message_ids_data}
 use Rattle.email_get.specs.MomentText.{IsMomentText}
-use Rattle.email_get.proofs.MomentLemmas.{one_date, one_moment_text}
+use Rattle.mail_header.proofs.DateLemmas.{one_date}
+use Rattle.email_get.proofs.MomentLemmas.{one_moment_text}
 
 -- ---- no number has a fraction: there is none
 

@@ -1,5 +1,6 @@
 pub mod MomentLemmas
 pub mod HeaderLemmas
+pub mod PlainLemmas
 pub mod LeafLemmas
 pub mod ListLemmas
 pub mod WholeLemmas

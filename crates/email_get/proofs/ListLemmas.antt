@@ -14,12 +14,13 @@ use Rattle.mime_tree.specs.Heads.{is_text}
 use Rattle.serde_json.specs.Data.{Data, Members}
 use Rattle.serde_json.specs.View.{view}
 use Rattle.serde_json.specs.declared.value.Value.{Value}
-use Rattle.email_get.specs.BodyValues.{PutsIf, AddsValues}
+use Rattle.email_get.specs.BodyValues.{PutsValue, PutsIf, AddsValues}
 use Rattle.email_get.specs.EmailObjects.{AreObjects, IsPreview, BodyData, IsBody}
 use Rattle.email_get.specs.PartObjects.{IsPartObject}
 use Rattle.email_get.specs.Previews.{IsPreviewOf}
-use Rattle.email_get.specs.reading.LeafLists.{parts_of, parts_at, part_at, Gathers, AreWithin, ListsBody}
+use Rattle.email_get.specs.reading.LeafLists.{parts_of, parts_at, part_at, Gathers, AreWithin, IsPreviewAt, ListsBody}
 use Rattle.email_get.specs.Leaves.{AreLeaves, End, Leaf, Multi}
+use Rattle.email_get.proofs.PlainLemmas.{plain_text}
 use Rattle.email_get.proofs.LeafLemmas.{AreFrom, AllIn, place, message_from, walk_inside}
 
 -- ---- gathering
@@ -142,6 +143,45 @@ values_more b refs i r before mid after lt all has =
     subst (λ (ps : List Part). AddsValues b ps before after) (sym (ap parts_of (take_more refs i r lt) ∙ parts_more (take i refs) (get_or refs i r)))
     (values_both b (parts_of (take i refs)) ((get_or refs i r).now ∷ []) before mid after all (after, has, refl))
 
+-- ---- the leaves before a place, the one there, and those after it
+
+pub within_take : (b : List ℕ) (refs : List (Bor Part)) (k : ℕ) → AreWithin b (parts_of refs) → AreWithin b (parts_of (take k refs))
+within_take b [] k h = by k
+  where
+    by : (k : ℕ) → AreWithin b (parts_of (take k []))
+    by zero = tt
+    by (suc k) = tt
+within_take b (x ∷ refs) zero h = tt
+within_take b (x ∷ refs) (suc k) h = (h.0, within_take b refs k h.1)
+
+pub within_drop : (b : List ℕ) (refs : List (Bor Part)) (k : ℕ) → AreWithin b (parts_of refs) → AreWithin b (parts_of (drop k refs))
+within_drop b [] k h = by k
+  where
+    by : (k : ℕ) → AreWithin b (parts_of (drop k []))
+    by zero = tt
+    by (suc k) = tt
+within_drop b (x ∷ refs) zero h = h
+within_drop b (x ∷ refs) (suc k) h = within_drop b refs k h.1
+
+pub there_ref : (refs : List (Bor Part)) (k : ℕ) (r : Bor Part) → k < length refs → slice_get (parts_of refs) k ≡ Some (get_or refs k r).now
+there_ref [] k r lt = absurd (omega arith)
+there_ref (x ∷ refs) zero r lt = refl
+there_ref (x ∷ refs) (suc k) r lt = there_ref refs k r (omega arith)
+
+pub one_leaf : (refs : List (Bor Part)) (k : ℕ) (r : Bor Part) (p : Part) → k < length refs → slice_get (parts_of refs) k ≡ Some p → p ≡ (get_or refs k r).now
+one_leaf refs k r p lt e = let f = there_ref refs k r lt in cc
+
+pub values_split : (b : List ℕ) (refs : List (Bor Part)) (k : ℕ) (r : Bor Part) (m0 m1 m2 m3 : Members) → k < length refs → AddsValues b (parts_of (take k refs)) m0 m1 → PutsIf (is_text (media (get_or refs k r).now)) b (get_or refs k r).now m1 m2 → AddsValues b (parts_of (drop 1 (drop k refs))) m2 m3 → AddsValues b (parts_of refs) m0 m3
+values_split b [] k r m0 m1 m2 m3 lt before puts later = absurd (omega arith)
+values_split b (x ∷ refs) zero r m0 m1 m2 m3 lt before puts later = (m2, subst (λ (m : Members). PutsIf (is_text (media x.now)) b x.now m m2) before puts, later)
+values_split b (x ∷ refs) (suc k) r m0 m1 m2 m3 lt (m, one, more) puts later = (m, one, values_split b refs k r m m1 m2 m3 (omega arith) more puts later)
+
+-- a plain text's value is put
+pub puts_plain : (b : List ℕ) (p q : Part) (before after : Members) → p ≡ q → is_plain p ≡ true → PutsValue b q before after → PutsIf (is_text (media q)) b q before after
+puts_plain b p q before after same plain puts =
+    let text : is_text (media q) ≡ true = subst (λ (x : Part). is_text (media x) ≡ true) same (plain_text (media p) plain) in
+    subst (λ (t : Bool). MatchBool t (PutsValue b q before after) (after ≡ before)) (sym text) puts
+
 -- ---- the preview
 
 pub no_leaf_here : (b : List ℕ) (ls : List Part) (ns : List ℕ) (i : ℕ) (t : List ℕ) → i < length ns → part_at ls (get_or ns i 0) ≡ None → IsPreview b (parts_at ls (drop (i + 1) ns)) t → IsPreview b (parts_at ls (drop i ns)) t
@@ -154,6 +194,14 @@ no_plain_here b ls ns i p t lt e plain h =
 pub plain_here : (b : List ℕ) (ls : List Part) (ns : List ℕ) (i : ℕ) (p : Part) (t : List ℕ) → i < length ns → part_at ls (get_or ns i 0) ≡ Some p → is_plain p ≡ true → IsPreviewOf b p t → IsPreview b (parts_at ls (drop i ns)) t
 plain_here b ls ns i p t lt e plain h =
     subst (λ (ps : List Part). IsPreview b ps t) (sym (at_here ls ns i (Some p) lt e)) (subst (λ (q : Bool). MatchBool q (IsPreviewOf b p t) (IsPreview b (parts_at ls (drop (i + 1) ns)) t)) (sym plain) h)
+
+pub place_within : (refs : List (Bor Part)) (k : ℕ) (p : Part) → slice_get (parts_of refs) k ≡ Some p → k < length refs
+place_within [] k p e = absurd cc
+place_within (x ∷ refs) zero p e = omega arith
+place_within (x ∷ refs) (suc k) p e = omega (arith, place_within refs k p e)
+
+pub same_leaf : (b : List ℕ) (ls : List Part) (k : ℕ) (p : Part) (t : List ℕ) → slice_get ls k ≡ Some p → IsPreviewAt b ls k t → IsPreviewOf b p t
+same_leaf b ls k p t e (q, f, h) = let same : q ≡ p = cc in subst (λ (x : Part). IsPreviewOf b x t) same h
 
 -- ---- the body
 

@@ -1,20 +1,18 @@
 // The bodies of messages.
-ghost use Rattle.std.specs.Prelude.{◌≡◌, IfOk, IfSome, MatchOption, None, Some, map};
+ghost use Rattle.std.specs.Prelude.{◌≡◌, ◌<◌, IfOk, OnOk, MatchOption, length, map};
 ghost use Rattle.blob_store.specs.Uploads.{blob_id as id_of};
 ghost use Rattle.mime_tree.specs.Parts.{IsUnder, IsWithin};
 ghost use Rattle.mime_tree.specs.Trees.{IsMessage};
 ghost use Rattle.mime_tree.specs.declared.part.Part.{Part};
 ghost use Rattle.serde_json.specs.View.{view, members_view};
-ghost use Rattle.email_get.specs.BodyValues.{AreValues};
+ghost use Rattle.email_get.specs.BodyValues.{AddsValues};
 ghost use Rattle.email_get.specs.reading.BodyViews.{body_view};
 ghost use Rattle.email_get.specs.EmailObjects.{AreObjects, IsBody, IsPreview};
-ghost use Rattle.email_get.specs.reading.LeafLists.{parts_of, parts_at, AreWithin, ListsBody};
-ghost use Rattle.email_get.specs.Previews.{IsPreviewOf};
+ghost use Rattle.email_get.specs.reading.LeafLists.{parts_of, parts_at, AreWithin, NoPlain, IsFirstPlain, IsPlainAt, IsPreviewAt, ListsBody};
 
 use crate::leaves::{leaf_at, leaves_of};
 use crate::part_objects::part_value;
-use crate::previews::preview_of;
-use crate::values::{put_value, text_of};
+use crate::values::{put_plain, put_value};
 use blob_store::blob_id::blob_id;
 use gate_world::Bytes;
 use mime_tree::{BodyLists, Part, body_lists, is_plain};
@@ -56,47 +54,80 @@ fn objects_at(alloc: Global, leaves: &Leaves<'_>, numbers: &[u64]) -> Result<Vec
     Ok(objects)
 }
 
-/// The values of the leaves that are texts. Beside them one text is held at a time.
-fn values_of(
+/// Puts the values of the leaves that are texts. Beside them one text is held at a time.
+fn put_values(
+    values: &mut Map<String, Value>,
     alloc: Global,
     bytes: &[u8],
     leaves: &[&Part],
-) -> Result<Map<String, Value>, AllocError>
+) -> Result<(), AllocError>
     requires { AreWithin bytes.now (parts_of leaves.now) }
-    ensures { IfOk result (λ m. AreValues bytes.now (parts_of leaves.now) (members_view m.entries)) }
+    ensures { OnOk result (AddsValues bytes.now (parts_of leaves.now) (members_view values.old.entries) (members_view values.new.entries)) }
 {
-    let mut values = Map::new(alloc);
     for part in leaves {
-        put_value(&mut values, alloc, bytes, *part)?;
+        put_value(values, alloc, bytes, *part)?;
     }
-    Ok(values)
+    Ok(())
 }
 
-/// The preview of a part of these octets.
-fn preview_of_part(alloc: Global, bytes: &[u8], part: &Part) -> Result<Bytes, AllocError>
-    requires { IsWithin part.now bytes.now }
-    ensures { IfOk result (λ p. IsPreviewOf bytes.now part.now p) }
-{
-    let text = text_of(alloc, bytes, part)?;
-    preview_of(alloc, text.text.as_slice())
-}
-
-/// The preview of the first plain text among the leaves of these numbers, which is empty without one.
-fn preview_at(alloc: Global, leaves: &Leaves<'_>, numbers: &[u64]) -> Result<Bytes, AllocError>
-    requires { AreWithin leaves.now.bytes.now (parts_of leaves.now.parts.now) }
-    ensures { IfOk result (λ p. IsPreview leaves.now.bytes.now (parts_at (parts_of leaves.now.parts.now) numbers.now) p) }
+/// The place among the leaves of the first plain text among those of these numbers.
+fn first_plain(leaves: &[&Part], numbers: &[u64]) -> Option<usize>
+    ensures { MatchOption result (NoPlain (parts_of leaves.now) numbers.now) (λ k. (k < length leaves.now) × IsFirstPlain (parts_of leaves.now) numbers.now k) }
 {
     for number in numbers {
-        match leaf_at(leaves.parts, *number) {
+        match leaf_at(leaves, *number) {
             None => {}
             Some(part) => {
                 if is_plain(part) {
-                    return preview_of_part(alloc, leaves.bytes, part);
+                    return Some(number.saturating_sub(1) as usize);
                 }
             }
         }
     }
-    Bytes::copy_of(alloc, &[])
+    None
+}
+
+/// Puts the values of the leaves that are texts, and gives the preview of the plain text at this place.
+fn put_values_with_preview(
+    values: &mut Map<String, Value>,
+    alloc: Global,
+    bytes: &[u8],
+    leaves: &[&Part],
+    place: usize,
+) -> Result<Bytes, AllocError>
+    requires within { AreWithin bytes.now (parts_of leaves.now) }
+    requires place { place < length leaves.now }
+    requires plain { IsPlainAt (parts_of leaves.now) place }
+    ensures values { OnOk result (AddsValues bytes.now (parts_of leaves.now) (members_view values.old.entries) (members_view values.new.entries)) }
+    ensures preview { IfOk result (λ p. IsPreviewAt bytes.now (parts_of leaves.now) place p) }
+{
+    let (before, rest) = leaves.split_at(place);
+    let (_, after) = rest.split_at(1);
+    put_values(values, alloc, bytes, before)?;
+    let preview = put_plain(values, alloc, bytes, leaves[place])?;
+    put_values(values, alloc, bytes, after)?;
+    Ok(preview)
+}
+
+/// Puts the values of the leaves that are texts, and gives the preview of the first plain text among the leaves of these
+/// numbers, which is empty without one.
+fn put_all_values(
+    values: &mut Map<String, Value>,
+    alloc: Global,
+    leaves: &Leaves<'_>,
+    numbers: &[u64],
+) -> Result<Bytes, AllocError>
+    requires { AreWithin leaves.now.bytes.now (parts_of leaves.now.parts.now) }
+    ensures values { OnOk result (AddsValues leaves.now.bytes.now (parts_of leaves.now.parts.now) (members_view values.old.entries) (members_view values.new.entries)) }
+    ensures preview { IfOk result (λ p. IsPreview leaves.now.bytes.now (parts_at (parts_of leaves.now.parts.now) numbers.now) p) }
+{
+    match first_plain(leaves.parts, numbers) {
+        None => {
+            put_values(values, alloc, leaves.bytes, leaves.parts)?;
+            Bytes::copy_of(alloc, &[])
+        }
+        Some(place) => put_values_with_preview(values, alloc, leaves.bytes, leaves.parts, place),
+    }
 }
 
 /// What stands at these lists. Each object is made for its list alone.
@@ -105,8 +136,8 @@ fn shown_at(alloc: Global, leaves: &Leaves<'_>, lists: &BodyLists) -> Result<Bod
     requires id { leaves.now.id.now ≡ id_of leaves.now.bytes.now }
     ensures { IfOk result (λ b. ListsBody leaves.now.bytes.now (parts_of leaves.now.parts.now) lists.now (body_view b)) }
 {
-    let values = values_of(alloc, leaves.bytes, leaves.parts)?;
-    let preview = preview_at(alloc, leaves, lists.text.as_slice())?;
+    let mut values = Map::new(alloc);
+    let preview = put_all_values(&mut values, alloc, leaves, lists.text.as_slice())?;
     let attachments = objects_at(alloc, leaves, lists.attachments.as_slice())?;
     let html = objects_at(alloc, leaves, lists.html.as_slice())?;
     let text = objects_at(alloc, leaves, lists.text.as_slice())?;

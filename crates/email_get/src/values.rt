@@ -1,15 +1,19 @@
 // The texts of parts (RFC 8621 section 4.1.4, EmailBodyValue).
-ghost use Rattle.std.specs.Prelude.{◌≡◌, ◌++◌, IfOk, OnOk};
+ghost use Rattle.std.specs.Prelude.{◌≡◌, ◌++◌, ℕ, List, IfOk, OnOk};
 ghost use Rattle.serde_json.specs.View.{view, members_view};
 ghost use Rattle.mime_tree.specs.Heads.{is_text as is_text_of};
 ghost use Rattle.mime_tree.specs.Parts.{IsWithin};
 ghost use Rattle.mime_tree.specs.Roles.{media};
 ghost use Rattle.email_get.specs.Values as values;
+ghost use Rattle.email_get.specs.Values.{HasText};
+ghost use Rattle.email_get.specs.Previews.{IsPreviewOf};
 ghost use Rattle.email_get.specs.reading.Decoded.{HasDecoded};
-ghost use Rattle.email_get.specs.BodyValues.{value_data, PutsIf};
+ghost use Rattle.email_get.specs.BodyValues.{value_data, PutsIf, PutsValue};
 
 use crate::leaves::number_text;
+use crate::previews::preview_of;
 use crate::texts::owned_text_value;
+use gate_world::Bytes;
 use header_words::decode_charset;
 use memchr::memchr;
 use mime_tree::head::is_text;
@@ -104,6 +108,21 @@ fn value_of(alloc: Global, text: PartText) -> Result<Value, AllocError>
     })
 }
 
+/// Puts a text of a part at its part id.
+fn put_text(
+    values: &mut Map<String, Value>,
+    alloc: Global,
+    part: &Part,
+    text: PartText,
+) -> Result<(), AllocError>
+    ensures { OnOk result ((b : List ℕ) → HasText part.now b text.text.items text.problem
+        → PutsValue b part.now (members_view values.old.entries) (members_view values.new.entries)) }
+{
+    let value = value_of(alloc, text)?;
+    let number = number_text(alloc, part)?;
+    put(values, alloc, number.as_str(), value)
+}
+
 /// Puts the value of a leaf of these octets at its part id, where it is a text.
 pub(crate) fn put_value(
     values: &mut Map<String, Value>,
@@ -118,7 +137,22 @@ pub(crate) fn put_value(
         return Ok(());
     }
     let text = text_of(alloc, bytes, part)?;
-    let value = value_of(alloc, text)?;
-    let number = number_text(alloc, part)?;
-    put(values, alloc, number.as_str(), value)
+    put_text(values, alloc, part, text)
+}
+
+/// Puts the value of a plain text of these octets at its part id, and gives the text's preview.
+pub(crate) fn put_plain(
+    values: &mut Map<String, Value>,
+    alloc: Global,
+    bytes: &[u8],
+    part: &Part,
+) -> Result<Bytes, AllocError>
+    requires { IsWithin part.now bytes.now }
+    ensures value { OnOk result (PutsValue bytes.now part.now (members_view values.old.entries) (members_view values.new.entries)) }
+    ensures preview { IfOk result (λ p. IsPreviewOf bytes.now part.now p) }
+{
+    let text = text_of(alloc, bytes, part)?;
+    let preview = preview_of(alloc, text.text.as_slice())?;
+    put_text(values, alloc, part, text)?;
+    Ok(preview)
 }
