@@ -30,9 +30,9 @@ use Rattle.gateway.specs.declared.mail.Marks.{Marks}
 use Rattle.gateway.specs.Mail.{IsMail}
 use Rattle.gateway.specs.Machine.{Account, Machine, Follows, Moves, Stays, opened}
 use Rattle.gateway.specs.Front.{Asked}
-use Rattle.gateway.specs.Segment.{counts_line, first_told, no_memory_line, Replies, NoRequest, TooLarge, Answered, Unavailable, Wanting as WantingReply, Segment, NoneComes, NotAccepted, Unasked, Served, front_faults}
-use Rattle.gateway.specs.Run.{Run, Refused, Wanting, ServedOnce, ShownOne, account_of, EndsOnce}
-use Rattle.gateway.specs.Complete.{asked_for, Tells, Completes}
+use Rattle.gateway.specs.Segment.{counts_line, first_told, no_memory_line, Replies, NoRequest, TooLarge, Answered, Unavailable, OutReading, OutRefusing, OutAsking, OutLiving, Segment, NoneComes, NotAccepted, Unasked, Served, front_faults}
+use Rattle.gateway.specs.Run.{Run, Refused, OutOfMemory, ServedOnce, ShownOne, account_of, EndsOnce}
+use Rattle.gateway.specs.Complete.{asked_for, IsTold, Completes}
 use Rattle.gateway.proofs.Quiet.{gives_took, gives_gave, asks_gave_store, asks_took_store, talk_gave_client, talk_took_client, heard_gave_client, heard_gave_store, heard_took_store, before_one, segment_octets, life_octets}
 
 -- a body is one request
@@ -124,10 +124,11 @@ replies_took es (Answered asked life octets request responses messages is so a l
     ap (λ (l : List Event). flat_map client_took_in l) is ∙ flat_map-append client_took_in asked life ∙ (λ i. asked_took (Ok octets) asked so i ++ life_took life lived i)
 replies_took es (Unavailable asked life octets request e is so a lived b c d) =
     ap (λ (l : List Event). flat_map client_took_in l) is ∙ flat_map-append client_took_in asked life ∙ (λ i. asked_took (Ok octets) asked so i ++ life_took life lived i)
-replies_took es (WantingReply asked life read lived is so (inl none) a b) =
-    ap (λ (l : List Event). flat_map client_took_in l) is ∙ flat_map-append client_took_in asked life ∙ (λ i. asked_took read asked so i ++ flat_map client_took_in (none i))
-replies_took es (WantingReply asked life read lived is so (inr here) a b) =
-    ap (λ (l : List Event). flat_map client_took_in l) is ∙ flat_map-append client_took_in asked life ∙ (λ i. asked_took read asked so i ++ life_took life here i)
+replies_took es (OutReading so a b) = asked_took (Err ask.Memory) es so
+replies_took es (OutRefusing so a b) = asked_took (Err ask.TooLarge) es so
+replies_took es (OutAsking octets so a b) = asked_took (Ok octets) es so
+replies_took es (OutLiving asked life octets request lived is so a here b c) =
+    ap (λ (l : List Event). flat_map client_took_in l) is ∙ flat_map-append client_took_in asked life ∙ (λ i. asked_took (Ok octets) asked so i ++ life_took life here i)
 
 -- the machine that told these messages first
 told_first : (epoch : ℕ) (messages : List (ℕ × Marks)) (after : Machine) → Follows (opened epoch) messages after → after ≡ first_told epoch messages
@@ -159,7 +160,10 @@ owed place password epoch request responses response es (Unavailable asked life 
     let g = parts store_gave_in es asked life [] (flat_map store_gave_in life) is (asked_store_gave octets asked so) refl in
     let t = parts store_took_in es asked life [] (flat_map store_took_in life) is (asked_store_took octets asked so) refl in
     absurd (life_unfetched e life lived not_memory (subst (λ (l : List ℕ). InboxFetched place.user password (flat_map store_gave_in life) l responses) t (subst (λ (l : List ℕ). InboxFetched place.user password l (flat_map store_took_in es) responses) g fetched)))
-owed place password epoch request responses response es (WantingReply asked life read lived is so here text a) within form fetched = inr text
+owed place password epoch request responses response es (OutReading so text a) within form fetched = inr text
+owed place password epoch request responses response es (OutRefusing so text a) within form fetched = inr text
+owed place password epoch request responses response es (OutAsking octets so text a) within form fetched = inr text
+owed place password epoch request responses response es (OutLiving asked life octets other lived is so a here text b) within form fetched = inr text
 
 -- all events of a run that served one client whole
 whole : (f : Event → List ℕ) (epoch : ℕ) (request heard said segment events : List Event) → f (Word epoch) ≡ [] → f Accepted ≡ [] → f ClientDone ≡ [] → events ≡ Word epoch ∷ (segment ++ said) → said ≡ [] → segment ≡ Accepted ∷ ((request ++ heard) ++ ClientDone ∷ []) → flat_map f events ≡ flat_map f request ++ flat_map f heard
@@ -181,7 +185,7 @@ same_word : (a b : ℕ) (x y : List Event) → Word a ∷ x ≡ Word b ∷ y →
 same_word a b x y is = cc
 
 -- a segment that is owed the counts
-segment_owed : {after : Machine} (place : Place) (password : List ℕ) (epoch : ℕ) (request : Request) (responses : List Response) (segment said events : List Event) (served : Segment (account_of place password) (opened epoch) segment after) → front_faults served ≡ 0 → said ≡ [] → events ≡ Word epoch ∷ (segment ++ said) → length (asked_for events) ≤ 10000000 → IsRequest (asked_for events) request → InboxFetched place.user password (flat_map store_gave_in events) (flat_map store_took_in events) responses → Tells events place epoch request responses
+segment_owed : {after : Machine} (place : Place) (password : List ℕ) (epoch : ℕ) (request : Request) (responses : List Response) (segment said events : List Event) (served : Segment (account_of place password) (opened epoch) segment after) → front_faults served ≡ 0 → said ≡ [] → events ≡ Word epoch ∷ (segment ++ said) → length (asked_for events) ≤ 10000000 → IsRequest (asked_for events) request → InboxFetched place.user password (flat_map store_gave_in events) (flat_map store_took_in events) responses → IsTold events place epoch request responses
 segment_owed place password epoch request responses segment said events (NoneComes is a) well none events_are within form fetched =
     absurd (never_fetched (flat_map store_gave_in events) (ap (λ (l : List Event). flat_map store_gave_in l) (events_are ∙ (λ i. Word epoch ∷ (is i ++ none i)))) fetched)
 segment_owed place password epoch request responses segment said events (NotAccepted is a) well none events_are within form fetched = absurd (cc)
@@ -196,21 +200,21 @@ segment_owed place password epoch request responses segment said events (Served 
     (subst (λ (l : List ℕ). InboxFetched place.user password (flat_map store_gave_in req) l responses) st (subst (λ (l : List ℕ). InboxFetched place.user password l (flat_map store_took_in events) responses) sg fetched)) in
     told ct so
   where
-    told : {response : List ℕ} → flat_map client_took_in events ≡ response → Owed place epoch request responses response → Tells events place epoch request responses
+    told : {response : List ℕ} → flat_map client_took_in events ≡ response → Owed place epoch request responses response → IsTold events place epoch request responses
     told ct (inl (messages, mail, text)) = inl (messages, mail, ct ∙ text)
     told ct (inr text) = inr (ct ∙ text)
 
 -- a run in which the front did not fail tells what it owes
 pub completes : {words : List (List ℕ)} {password : List ℕ} {status : ℕ} {events : List Event} → Run words password status events → (status ≡ 6 → ⊥) → Completes words password events
 completes {events = events} (Refused none a b) well place epoch request responses owes = absurd (none (Once place) owes.task)
-completes {events = events} (Wanting a none) well place epoch request responses owes =
+completes {events = events} (OutOfMemory a none) well place epoch request responses owes =
     absurd (never_fetched (flat_map store_gave_in events) (ap (λ (l : List Event). flat_map store_gave_in l) none) owes.fetched)
 completes {words} {password} {status} {events} (ServedOnce other drawn segment said after served is_task is ends) well place epoch request responses owes =
     let quiet = ends_well (front_faults served) status said well ends in
     let places : place ≡ other = same_place place other (same-task words (Once place) (Once other) owes.task is_task) in
-    let epochs : epoch ≡ drawn = same_word epoch drawn owes.behind (segment ++ said) (sym owes.drawn ∙ is) in
-    subst (λ (e : ℕ). Tells events place e request responses) (sym epochs)
-    (subst (λ (p : Place). Tells events p drawn request responses) (sym places)
+    let epochs : epoch ≡ drawn = same_word epoch drawn owes.later (segment ++ said) (sym owes.drawn ∙ is) in
+    subst (λ (e : ℕ). IsTold events place e request responses) (sym epochs)
+    (subst (λ (p : Place). IsTold events p drawn request responses) (sym places)
     (segment_owed other password drawn request responses segment said events served quiet.0 quiet.1 is owes.within owes.form
     (subst (λ (p : Place). InboxFetched p.user password (flat_map store_gave_in events) (flat_map store_took_in events) responses) places owes.fetched)))
 completes {words} {password} {status} {events} (ShownOne shown said outcome is_task is shows ends) well place epoch request responses owes =

@@ -13,7 +13,7 @@ use Rattle.gateway.specs.declared.front.Input.{Input}
 use Rattle.gateway.specs.declared.front.Input.TheVariants.{Whole, Cut}
 use Rattle.gateway.specs.Front.{octets_of, Gives}
 use Rattle.gateway.specs.Show.{ShowsObject, Answers, Unread, Sent, Shows, NoneComes, NotAccepted, Came}
-use Rattle.gateway.specs.Run.{Run, Refused, Wanting, ServedOnce, ShownOne, EndsShow}
+use Rattle.gateway.specs.Run.{Run, Refused, OutOfMemory, ServedOnce, ShownOne, EndsShow}
 use Rattle.gateway.specs.Complete.{asked_for, IsGiven, TellsObject, CompletesShow}
 use Rattle.gateway.proofs.Completing.{parts, other_task}
 use Rattle.gateway.proofs.Quiet.{gives_took, gives_gave, heard_gave_client, before_one}
@@ -71,6 +71,6 @@ shows_told outcome status behind said shown events (Came answered shown_is answe
 
 pub completes_show : {words : List (List ℕ)} {password : List ℕ} {status : ℕ} {events : List Event} → Run words password status events → (status ≡ 6 → ⊥) → CompletesShow words status events
 completes_show {events = events} (Refused none a b) well task behind came = absurd (none Show task)
-completes_show {events = events} (Wanting is none) well task behind came = inr (is, ap (λ (l : List Event). flat_map client_took_in l) none)
+completes_show {events = events} (OutOfMemory is none) well task behind came = inr (is, ap (λ (l : List Event). flat_map client_took_in l) none)
 completes_show {words} (ServedOnce place drawn segment said after served is_task is ends) well task behind came = absurd (other_task place (same-task words (Once place) Show is_task task))
 completes_show {words} {password} {status} {events} (ShownOne shown said outcome is_task is shows ends) well task behind came = shows_told outcome status behind said shown events shows well ends is came

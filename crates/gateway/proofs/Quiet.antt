@@ -1,5 +1,5 @@
 -- Which octets the events of each part of a run have.
-use Rattle.std.proofs.Common.{◌≡◌, ◌++◌, ℕ, List, [], ◌∷◌, refl, ◌∙◌, ap, All, Result, Ok, Err}
+use Rattle.std.proofs.Common.{◌≡◌, ◌++◌, ℕ, List, [], ◌∷◌, refl, ◌∙◌, ap, inl, inr, All, Result, Ok, Err}
 use Rattle.std.specs.List.{flat_map}
 use Rattle.std.proofs.lemmas.List.{append-nil}
 use Rattle.std.proofs.lemmas.List.Concat.{flat_map-append}
@@ -85,7 +85,8 @@ pub gives_took : (most : ℕ) (r : Result Input FrontError) (es : List Event) �
 gives_took most (Ok (Whole octets)) es (asks, is, so, few) = ap (λ (l : List Event). flat_map client_took_in l) is ∙ before_one client_took_in asks ClientEnded refl ∙ asks_took_client asks so.kind
 gives_took most (Ok (Cut octets)) es (so, many) = asks_took_client es so.kind
 gives_took most (Err error.Failed) es (asks, gave, is, so, few) = ap (λ (l : List Event). flat_map client_took_in l) is ∙ before_one client_took_in asks FrontFailed refl ∙ asks_took_client asks so.kind
-gives_took most (Err error.Memory) es (gave, so, few) = asks_took_client es so.kind
+gives_took most (Err error.Memory) es (asks, gave, so, few, inl is) = ap (λ (l : List Event). flat_map client_took_in l) is ∙ asks_took_client asks so.kind
+gives_took most (Err error.Memory) es (asks, gave, so, few, inr (is, short)) = ap (λ (l : List Event). flat_map client_took_in l) is ∙ before_one client_took_in asks ClientEnded refl ∙ asks_took_client asks so.kind
 
 pub gives_gave : (most : ℕ) (input : Input) (es : List Event) → Gives most (Ok input) es → flat_map client_gave_in es ≡ octets_of input
 gives_gave most (Whole octets) es (asks, is, so, few) = ap (λ (l : List Event). flat_map client_gave_in l) is ∙ before_one client_gave_in asks ClientEnded refl ∙ so.gave_is

@@ -1,5 +1,5 @@
 -- One request and its response (RFC 8620 sections 3.3 to 3.6): from a client that came to the end of the answer to it.
-use Rattle.std.specs.Prelude.{◌≡◌, ◌⊎◌, ◌++◌, ℕ, List, [], ◌∷◌, Result, Ok, Err, Some}
+use Rattle.std.specs.Prelude.{◌≡◌, ◌++◌, ℕ, List, [], ◌∷◌, Result, Ok, Err, Some}
 use Rattle.gate_world.specs.Causes.{RoseBy}
 use Rattle.gate_world.specs.declared.event.Event.{Event}
 use Rattle.gate_world.specs.declared.event.Event.TheVariants.{Accepted, NoMore, ClientDone, FrontFailed}
@@ -36,7 +36,7 @@ unavailable_line user base request = unavailable_response_text request user base
 unfoldable pub not_request_line : List ℕ
 not_request_line = not_request_text ++ line_end
 
--- want of memory: a body of no octet
+-- out of memory: a body of no octet
 abbrev pub no_memory_line : List ℕ
 no_memory_line = line_end
 
@@ -49,8 +49,12 @@ pub data Replies (account : Account) (before : Machine) (events : List Event) (r
   Answered : (asked life : List Event) (octets : List ℕ) (request : Request) (responses : List Response) (messages : List (ℕ × Marks)) → events ≡ asked ++ life → Asked (Ok octets) asked → IsRequest octets request → Life account.user account.password (Ok responses) life → IsMail responses messages → Follows before messages after → response ≡ counts_line account.user account.base request messages after → Replies account before events response after
   -- they were not
   Unavailable : (asked life : List Event) (octets : List ℕ) (request : Request) (e : LinkEnd) → events ≡ asked ++ life → Asked (Ok octets) asked → IsRequest octets request → Life account.user account.password (Err e) life → (e ≡ end.Memory → ⊥) → response ≡ unavailable_line account.user account.base request → after ≡ before → Replies account before events response after
-  -- want of memory, before the link life or behind it
-  Wanting : (asked life : List Event) (read : Result (List ℕ) AskError) (lived : Result (List Response) LinkEnd) → events ≡ asked ++ life → Asked read asked → ((life ≡ []) ⊎ Life account.user account.password lived life) → response ≡ no_memory_line → after ≡ before → Replies account before events response after
+  -- out of memory: as the request was read, as it was refused for its size, as it was found out what it asks, or in its link
+  -- life or after it
+  OutReading : Asked (Err ask.Memory) events → response ≡ no_memory_line → after ≡ before → Replies account before events response after
+  OutRefusing : Asked (Err ask.TooLarge) events → response ≡ no_memory_line → after ≡ before → Replies account before events response after
+  OutAsking : (octets : List ℕ) → Asked (Ok octets) events → response ≡ no_memory_line → after ≡ before → Replies account before events response after
+  OutLiving : (asked life : List Event) (octets : List ℕ) (request : Request) (lived : Result (List Response) LinkEnd) → events ≡ asked ++ life → Asked (Ok octets) asked → IsRequest octets request → Life account.user account.password lived life → response ≡ no_memory_line → after ≡ before → Replies account before events response after
 
 -- One client, or that there is none.
 pub data Segment (account : Account) (before : Machine) (events : List Event) (after : Machine) : Type 0 where
@@ -70,7 +74,10 @@ reply_faults (NoRequest octets a b c d) = 0
 reply_faults (TooLarge a b c) = 0
 reply_faults (Answered asked life octets request responses messages a b c d e f g) = 0
 reply_faults (Unavailable asked life octets request e a b c d f g h) = lost_in e
-reply_faults (Wanting asked life read lived a b c d f) = 0
+reply_faults (OutReading a b c) = 0
+reply_faults (OutRefusing a b c) = 0
+reply_faults (OutAsking octets a b c) = 0
+reply_faults (OutLiving asked life octets request lived a b c d f g) = 0
 
 abbrev pub segment_faults : {account : Account} {before : Machine} {events : List Event} {after : Machine} → Segment account before events after → ℕ
 segment_faults (NoneComes a b) = 0
@@ -95,7 +102,7 @@ Responds account before was now reply.Nothing events = Asked (Err ask.Failed) ev
 Responds account before was now (reply.Line text) events = (after : Machine) × (replies : Replies account before events text after) × RoseBy (reply_faults replies) was now
 Responds account before was now reply.NoMemory events = (after : Machine) × (replies : Replies account before events no_memory_line after) × RoseBy (reply_faults replies) was now
 
--- what comes of a request's body, behind the events by which it was given
+-- what comes of a request's body, after the events by which it was given
 abbrev pub AnswersBody : Account → Machine → List ℕ → ℕ → ℕ → Reply → List Event → Type 0
 AnswersBody account before octets was now result events = (asked : List Event) → Asked (Ok octets) asked → Responds account before was now result (asked ++ events)
 
@@ -108,8 +115,8 @@ abbrev pub first_told : ℕ → List (ℕ × Marks) → Machine
 first_told epoch messages = record { epoch = epoch; place = 1; mail = Some messages }
 
 -- the line tells the counts of the mail that these responses tell first in an epoch
-abbrev pub Tells : List ℕ → List ℕ → ℕ → Request → List Response → List ℕ → Type 0
-Tells user base epoch request responses line =
+abbrev pub TellsFirst : List ℕ → List ℕ → ℕ → Request → List Response → List ℕ → Type 0
+TellsFirst user base epoch request responses line =
     (messages : List (ℕ × Marks)) × IsMail responses messages × (line ≡ counts_line user base request messages (first_told epoch messages))
 
 -- the reply is sent, or the front failed; where there is none the front had failed before

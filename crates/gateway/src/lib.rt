@@ -15,4 +15,5 @@ mod show_tests;
 #[cfg(test)]
 mod tests;
 
+pub use gate_words::{Place, Task, WordsError, read_words};
 pub use program::run;

@@ -35,7 +35,7 @@ const NOT_REQUEST: &[u8] = b"{\"status\":400,\"type\":\"urn:ietf:params:jmap:err
 const COMMANDS: &[u8] =
     b"a1 LOGIN \"alice\" \"pw\"\r\na2 SELECT \"INBOX\"\r\na3 UID FETCH 1:* (UID FLAGS)\r\n";
 
-/// What a store gives before the flags, and behind them.
+/// What a store gives before the flags, and after them.
 const SELECTED: &[u8] =
     b"* OK hi\r\na1 OK in\r\n* 3 EXISTS\r\n* OK [UIDVALIDITY 7] v\r\na2 OK sel\r\n";
 
@@ -122,7 +122,7 @@ impl Seen {
     }
 }
 
-/// The octets of the parts, one behind another.
+/// The octets of the parts, one after another.
 pub(crate) fn joined(alloc: Global, parts: &[&[u8]]) -> Result<Bytes, AllocError> {
     let mut octets = Vec::new(alloc);
     for part in parts {
@@ -332,7 +332,7 @@ fn expect_life_limit(rt: &impl Abort, alloc: Global) -> Result<(), Fail> {
     Ok(())
 }
 
-/// A request of so many octets, most of them spaces behind it.
+/// A request of so many octets, most of them spaces after it.
 fn long_request(alloc: Global, count: usize) -> Result<Script, AllocError> {
     let known = ASK.len() + BOTH.len() + ASK_END.len();
     let spaces = vec![in alloc; b' '; count.saturating_sub(known)]?;
