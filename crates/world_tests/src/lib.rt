@@ -2,6 +2,8 @@
 #![tactic(auto)]
 
 #[cfg(test)]
+mod scripted_worlds;
+#[cfg(test)]
 mod sending;
 #[cfg(test)]
 mod steady_worlds;

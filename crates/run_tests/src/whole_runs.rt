@@ -1,6 +1,6 @@
 // Whole runs over a world that follows a script.
-use crate::run;
 use gate_world::{Bytes, Event, Script, ScriptWorld, Watcher};
+use gateway::run;
 use std::alloc::{AllocError, Global};
 use std::process::Abort;
 use std::test::Fail;

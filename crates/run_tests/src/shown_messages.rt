@@ -1,9 +1,8 @@
 // Runs that show a message.
-use crate::front::{Input, receive};
-use crate::run;
-use crate::tests::{FRONT_FAILED, PIECES, Seen, follow, joined, script_of, words_of};
+use crate::whole_runs::{FRONT_FAILED, PIECES, Seen, follow, joined, script_of, words_of};
 use email_get::email_object;
-use gate_world::{Bytes, Event, Front, Listed, Script, ScriptWorld, Watcher};
+use gate_world::{Bytes, Event, Listed, Script, ScriptWorld, Watcher};
+use gateway::run;
 use std::alloc::{AllocError, Global};
 use std::process::Abort;
 use std::test::Fail;
@@ -81,41 +80,6 @@ fn showing_dials_nobody_and_draws_no_word(rt: HostRuntime) -> Result<(), Fail> {
     nobody.clients = Listed::from_vec(Vec::new(alloc));
     let none = vec![in alloc; Event::NoMore]?;
     expect_events(&rt, alloc, nobody, &none)?;
-    Ok(())
-}
-
-const TWENTY: &[u8] = b"0123456789abcdefghij";
-
-/// How many of twenty octets are received where so many are wanted, and whether the end was seen.
-const RECEIVED: [(usize, usize, bool); 8] = [
-    (0, 0, false),
-    (1, 1, false),
-    (7, 7, false),
-    (8, 8, false),
-    (19, 19, false),
-    (20, 20, false),
-    (21, 20, true),
-    (usize::MAX, 20, true),
-];
-
-fn received(alloc: Global, most: usize) -> Result<(usize, bool), Fail> {
-    let mut script = giving(alloc, TWENTY)?;
-    script.piece = 7;
-    let mut world = ScriptWorld::new(alloc, script);
-    let _ = world.accept();
-    match receive(alloc, &mut world, most) {
-        Ok(Input::Whole(octets)) => Ok((octets.as_slice().len(), true)),
-        Ok(Input::Cut(octets)) => Ok((octets.as_slice().len(), false)),
-        Err(_) => Err("the front failed".into()),
-    }
-}
-
-#[test]
-fn no_more_is_received_than_wanted(rt: HostRuntime) -> Result<(), Fail> {
-    for (most, count, is_whole) in RECEIVED {
-        let got = received(rt.alloc(), most)?;
-        assert_eq!(rt; got, (count, is_whole), "{most}");
-    }
     Ok(())
 }
 
