@@ -1,5 +1,6 @@
 -- Moments, their days and their times.
-use Rattle.std.proofs.Common.{◌≡◌, ◌∙◌, ℕ, zero, suc, ◌+◌, ◌*◌, ◌/◌, ◌%◌, ◌<◌, ◌≤◌, Bool, true, false, cond, ◌&&◌, ◌==◌, nat_le, refl, sym, ap, subst, arith, ℤ, pos, negsuc, ◌+ℤ◌, ◌-ℤ◌, ◌*ℤ◌, ◌≤ℤ◌, ◌<ℤ◌, List, Option, Some, None}
+use Rattle.std.proofs.Common.{◌≡◌, ◌∙◌, ℕ, zero, suc, ◌+◌, ◌*◌, ◌/◌, ◌%◌, ◌<◌, ◌≤◌, Bool, true, false, cond, ◌&&◌, ◌==◌, nat_le, refl, sym, ap, subst, arith, ℤ, pos, negsuc, ◌+ℤ◌}
+use Rattle.std.proofs.Common.{◌-ℤ◌, ◌*ℤ◌, ◌≤ℤ◌, ◌<ℤ◌, List, Option, Some, None}
 use Rattle.std.specs.Prelude.{IfSome, codes, unsigned_abs}
 use Rattle.std.proofs.lemmas.Bool.{cond-true, leb-true, and_parts, and_from}
 use Rattle.jiff_core.specs.Calendar.{days_in_month, day_count}
@@ -32,11 +33,13 @@ pub from_year_zero : (date : Date) (n : ℕ) → epoch_day date +ℤ pos 719528 
 from_year_zero date n count = not_negative date n date.year refl count
 
 -- the moment of a day and a time in its zone
-pub is_moment : (d : Day) (c : Clock) (m : Moment) → dates.day_exists d ≡ true → dates.clock_exists c ≡ true → dates.day_number d *ℤ pos 86400 +ℤ pos (dates.seconds_of_day c) -ℤ (m.offset_minutes *ℤ pos 60) ≡ m.seconds → dates.moment_of d c m.offset_minutes ≡ Some m
+pub is_moment : (d : Day) (c : Clock) (m : Moment) → dates.day_exists d ≡ true → dates.clock_exists c ≡ true
+    → dates.day_number d *ℤ pos 86400 +ℤ pos (dates.seconds_of_day c) -ℤ (m.offset_minutes *ℤ pos 60) ≡ m.seconds → dates.moment_of d c m.offset_minutes ≡ Some m
 is_moment d c m day clock e =
     let made : ℤ → Option Moment = λ s. Some (record { seconds = s; offset_minutes = m.offset_minutes }) in
     let p = and_from (dates.day_exists d) (dates.clock_exists c) day clock in
-    cond-true (dates.day_exists d && dates.clock_exists c) (made (dates.day_number d *ℤ pos 86400 +ℤ pos (dates.seconds_of_day c) -ℤ (m.offset_minutes *ℤ pos 60))) None p ∙ ap made e
+    cond-true (dates.day_exists d && dates.clock_exists c) (made (dates.day_number d *ℤ pos 86400 +ℤ pos (dates.seconds_of_day c) -ℤ (m.offset_minutes *ℤ pos 60))) None p
+    ∙ ap made e
 
 -- ---- the moments of dates are shown
 
@@ -93,7 +96,8 @@ day_is_number d h =
     let of_year = day_count-day_of_year (pos d.year) d.month d.day h.first_day in
     record { low = omega (arith, signed_arith, count, of_year, later_year d.year, h.first_day); high = last_number d h }
 
-shown_local : (n zone : ℤ) (s : ℕ) (m : Moment) → IsDayNumber n → s < 86400 → m.seconds ≡ n *ℤ pos 86400 +ℤ pos s -ℤ (zone *ℤ pos 60) → m.offset_minutes ≡ zone → negsuc 1438 ≤ℤ zone → zone ≤ℤ pos 1439 → IsShown m
+shown_local : (n zone : ℤ) (s : ℕ) (m : Moment) → IsDayNumber n → s < 86400 → m.seconds ≡ n *ℤ pos 86400 +ℤ pos s -ℤ (zone *ℤ pos 60) → m.offset_minutes ≡ zone
+    → negsuc 1438 ≤ℤ zone → zone ≤ℤ pos 1439 → IsShown m
 shown_local n zone s m h lt e f west east = record {
   from_year_zero = omega (arith, signed_arith, h.low, e, f);
   to_year_9999 = omega (arith, signed_arith, h.high, lt, e, f);
@@ -205,7 +209,8 @@ record IsMoment (d : Day) (c : Clock) (m : Moment) : Type 0 where
   clock : dates.clock_exists c ≡ true
   seconds : (made d c m.offset_minutes).seconds ≡ m.seconds
 
-made_is : (b : Bool) (d : Day) (c : Clock) (m : Moment) → b ≡ (dates.day_exists d && dates.clock_exists c) → cond b (Some (made d c m.offset_minutes)) None ≡ Some m → IsMoment d c m
+made_is : (b : Bool) (d : Day) (c : Clock) (m : Moment) → b ≡ (dates.day_exists d && dates.clock_exists c) → cond b (Some (made d c m.offset_minutes)) None ≡ Some m
+    → IsMoment d c m
 made_is false d c m e h = absurd (cc)
 made_is true d c m e h =
     let both = and_parts (dates.day_exists d) (dates.clock_exists c) (sym e) in
@@ -249,8 +254,10 @@ one_moment_text m s t p q =
     let f = moment_is p.day p.clock m p.is_moment in
     let g = moment_is q.day q.clock m q.is_moment in
     let w = m.offset_minutes *ℤ pos 60 in
-    let n = same_number (dates.day_number p.day) (dates.day_number q.day) w m.seconds (dates.seconds_of_day p.clock) (dates.seconds_of_day q.clock) (clock_small p.clock f.clock) (clock_small q.clock g.clock) f.seconds g.seconds in
-    let k = same_second (dates.day_number p.day) (dates.day_number q.day) w m.seconds (dates.seconds_of_day p.clock) (dates.seconds_of_day q.clock) (clock_small p.clock f.clock) (clock_small q.clock g.clock) f.seconds g.seconds in
+    let n = same_number (dates.day_number p.day) (dates.day_number q.day) w m.seconds (dates.seconds_of_day p.clock) (dates.seconds_of_day q.clock) (clock_small p.clock f.clock)
+    (clock_small q.clock g.clock) f.seconds g.seconds in
+    let k = same_second (dates.day_number p.day) (dates.day_number q.day) w m.seconds (dates.seconds_of_day p.clock) (dates.seconds_of_day q.clock) (clock_small p.clock f.clock)
+    (clock_small q.clock g.clock) f.seconds g.seconds in
     let day = same_day p.day q.day (exists p.day f.day) (exists q.day g.day) n in
     let clock = same_clock p.clock q.clock f.clock g.clock p.is_second q.is_second k in
     p.text_is ∙ ap (λ d. local_text d p.clock m.offset_minutes) day ∙ ap (λ c. local_text q.day c m.offset_minutes) clock ∙ sym q.text_is

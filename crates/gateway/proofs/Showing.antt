@@ -17,7 +17,8 @@ use Rattle.gateway.specs.Show.{object_line, ShowsObject, Reads, Answers, Sent, S
 use Rattle.gateway.specs.Run.{IsSaid, front_failed, RunsShow}
 
 -- the text with its line end shows the object
-pub shows_object : (octets : List ℕ) (o : Data) (text : List ℕ) (line : Result (List ℕ) AllocError) → IsEmailObject octets o → text ≡ compact_text o → IfOk line (λ l. l ≡ text ++ line_end) → IfOk line (λ l. ShowsObject octets l)
+pub shows_object : (octets : List ℕ) (o : Data) (text : List ℕ) (line : Result (List ℕ) AllocError) → IsEmailObject octets o → text ≡ compact_text o
+    → IfOk line (λ l. l ≡ text ++ line_end) → IfOk line (λ l. ShowsObject octets l)
 unfolding object_line
 shows_object octets o text (Ok line) is text_is with_end = (o, is, with_end ∙ ap (λ (t : List ℕ). t ++ line_end) text_is)
 shows_object octets o text (Err e) is text_is with_end = tt

@@ -23,7 +23,8 @@ abbrev pub asked_for : List Event → List ℕ
 asked_for events = flat_map client_gave_in events
 
 -- what the client is owed of these events
-pub record Owes (words : List (List ℕ)) (password : List ℕ) (events : List Event) (place : Place) (epoch : ℕ) (request : Request) (responses : List Response) : Type 0 where
+pub record Owes (words : List (List ℕ)) (password : List ℕ) (events : List Event) (place : Place) (epoch : ℕ) (request : Request)
+    (responses : List Response) : Type 0 where
   pub task : IsTask words (Once place)
   pub later : List Event
   pub drawn : events ≡ Word epoch ∷ later
@@ -33,12 +34,14 @@ pub record Owes (words : List (List ℕ)) (password : List ℕ) (events : List E
 
 abbrev pub IsTold : List Event → Place → ℕ → Request → List Response → Type 0
 IsTold events place epoch request responses =
-    ((messages : List (ℕ × Marks)) × IsMail responses messages × (flat_map client_took_in events ≡ counts_line place.user place.base request messages (first_told epoch messages)))
+    ((messages : List (ℕ × Marks)) × IsMail responses messages
+    × (flat_map client_took_in events ≡ counts_line place.user place.base request messages (first_told epoch messages)))
     ⊎ (flat_map client_took_in events ≡ no_memory_line)
 
 -- whoever is owed the counts is told them
 abbrev pub Completes : List (List ℕ) → List ℕ → List Event → Type 0
-Completes words password events = (place : Place) (epoch : ℕ) (request : Request) (responses : List Response) → Owes words password events place epoch request responses → IsTold events place epoch request responses
+Completes words password events = (place : Place) (epoch : ℕ) (request : Request) (responses : List Response)
+    → Owes words password events place epoch request responses → IsTold events place epoch request responses
 
 -- The client's input is all octets that it gave: it ended, or gave as many as a message has at most.
 abbrev pub IsGiven : List Event → Type 0
@@ -50,4 +53,5 @@ TellsObject events = IsGiven events × ShowsObject (asked_for events) (flat_map 
 
 -- whoever comes with a message to be shown is told its Email object; or memory ran out, and nothing was sent
 abbrev pub CompletesShow : List (List ℕ) → ℕ → List Event → Type 0
-CompletesShow words status events = IsTask words Show → (after : List Event) → events ≡ Accepted ∷ after → TellsObject events ⊎ ((status ≡ 5) × (flat_map client_took_in events ≡ []))
+CompletesShow words status events = IsTask words Show → (after : List Event) → events ≡ Accepted ∷ after → TellsObject events
+    ⊎ ((status ≡ 5) × (flat_map client_took_in events ≡ []))

@@ -28,7 +28,8 @@ abbrev pub Gives : ℕ → Result Input FrontError → List Event → Type 0
 Gives most (Ok (Whole octets)) events = (asks : List Event) × (events ≡ asks ++ ClientEnded ∷ []) × Asks octets asks × (length octets < most)
 Gives most (Ok (Cut octets)) events = Asks octets events × (length octets ≡ most)
 Gives most (Err front.Failed) events = (asks : List Event) × (gave : List ℕ) × (events ≡ asks ++ FrontFailed ∷ []) × Asks gave asks × (length gave < most)
-Gives most (Err front.Memory) events = (asks : List Event) × (gave : List ℕ) × Asks gave asks × (length gave ≤ most) × ((events ≡ asks) ⊎ ((events ≡ asks ++ ClientEnded ∷ []) × (length gave < most)))
+Gives most (Err front.Memory) events = (asks : List Event) × (gave : List ℕ) × Asks gave asks × (length gave ≤ most)
+    × ((events ≡ asks) ⊎ ((events ≡ asks ++ ClientEnded ∷ []) × (length gave < most)))
 
 -- the most octets of a request's body
 abbrev pub body_limit : ℕ

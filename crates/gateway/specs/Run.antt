@@ -42,8 +42,11 @@ account_of place password = record { user = place.user; password = password; bas
 pub data Run (words : List (List ℕ)) (password : List ℕ) (status : ℕ) (events : List Event) : Type 0 where
   Refused : ((task : Task) → IsTask words task → ⊥) → status ≡ 2 → IsSaid words_refused events → Run words password status events
   OutOfMemory : status ≡ 5 → events ≡ [] → Run words password status events
-  ServedOnce : (place : Place) (epoch : ℕ) (segment said : List Event) (after : Machine) (served : Segment (account_of place password) (opened epoch) segment after) → IsTask words (Once place) → events ≡ Word epoch ∷ (segment ++ said) → EndsOnce (front_faults served) status said → Run words password status events
-  ShownOne : (shown said : List Event) (outcome : Result (Unit {0}) FrontError) → IsTask words Show → events ≡ shown ++ said → Shows outcome shown → EndsShow outcome status said → Run words password status events
+  ServedOnce : (place : Place) (epoch : ℕ) (segment said : List Event) (after : Machine)
+      (served : Segment (account_of place password) (opened epoch) segment after) → IsTask words (Once place) → events ≡ Word epoch ∷ (segment ++ said)
+      → EndsOnce (front_faults served) status said → Run words password status events
+  ShownOne : (shown said : List Event) (outcome : Result (Unit {0}) FrontError) → IsTask words Show → events ≡ shown ++ said → Shows outcome shown
+      → EndsShow outcome status said → Run words password status events
 
 -- how many faults of the link the run is blamed on
 abbrev pub run_faults : {words : List (List ℕ)} {password : List ℕ} {status : ℕ} {events : List Event} → Run words password status events → ℕ
@@ -64,7 +67,8 @@ RunsOnce place password was now status events =
 
 -- what showing one client its message adds
 abbrev pub RunsShow : ℕ → List Event → Type 0
-RunsShow status events = (shown : List Event) × (said : List Event) × (outcome : Result (Unit {0}) FrontError) × (events ≡ shown ++ said) × Shows outcome shown × EndsShow outcome status said
+RunsShow status events = (shown : List Event) × (said : List Event) × (outcome : Result (Unit {0}) FrontError) × (events ≡ shown ++ said) × Shows outcome shown
+    × EndsShow outcome status said
 
 -- what a task adds
 abbrev pub Performs : Task → List ℕ → ℕ → ℕ → ℕ → List Event → Type 0

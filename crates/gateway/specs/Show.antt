@@ -41,7 +41,8 @@ over_front (Err _) = Err front.Failed
 -- What comes of a message. Where memory runs out or the front fails before the message's end, nothing is sent.
 pub data Answers (outcome : Result (Unit {0}) FrontError) (events : List Event) : Type 0 where
   Unread : (e : FrontError) → Reads (Err e) events → outcome ≡ Err e → Answers outcome events
-  Sent : (reads heard : List Event) (line : List ℕ) (sent : Result (Unit {0}) Failed) → events ≡ reads ++ heard → Reads (Ok line) reads → Sends line sent heard → outcome ≡ over_front sent → Answers outcome events
+  Sent : (reads heard : List Event) (line : List ℕ) (sent : Result (Unit {0}) Failed) → events ≡ reads ++ heard → Reads (Ok line) reads → Sends line sent heard
+      → outcome ≡ over_front sent → Answers outcome events
 
 -- One client that gives a message, or that there is none.
 pub data Shows (outcome : Result (Unit {0}) FrontError) (events : List Event) : Type 0 where

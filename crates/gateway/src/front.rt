@@ -20,6 +20,7 @@ pub enum Input {
 }
 
 impl Input {
+    /// What was read, whole or cut.
     pub fn octets(&self) -> &[u8]
         ensures { result.now ≡ octets_of self.now }
     {

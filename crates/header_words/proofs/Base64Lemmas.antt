@@ -1,4 +1,4 @@
--- A text in base64 is cut behind its symbols.
+-- A text in base64 is cut after its symbols.
 use Rattle.std.proofs.Common.{◌≡◌, ◌≢◌, ℕ, ◌-◌, ◌≤◌, ◌/◌, ◌%◌, min, false, List, [], ◌∷◌, ◌++◌, length, map, refl, sym, ap, ◌∙◌, subst, eqb-true, arith}
 use Rattle.std.proofs.lemmas.List.{length-map}
 use Rattle.text_words.specs.Cuts.{Each, Stops, front, back}

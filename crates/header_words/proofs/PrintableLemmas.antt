@@ -1,5 +1,6 @@
 -- Pieces of quoted-printable are read as they are spelled.
-use Rattle.std.proofs.Common.{◌≡◌, ◌≢◌, ℕ, zero, suc, ◌+◌, ◌<◌, ◌≤◌, Bool, true, false, ◌||◌, List, [], ◌∷◌, ◌++◌, length, drop, cond, refl, sym, ap, ◌∙◌, subst, append_assoc, Option, Some, None, eqb, eqb-true, arith}
+use Rattle.std.proofs.Common.{◌≡◌, ◌≢◌, ℕ, zero, suc, ◌+◌, ◌<◌, ◌≤◌, Bool, true, false, ◌||◌, List, [], ◌∷◌, ◌++◌, length, drop, cond, refl, sym, ap, ◌∙◌, subst, append_assoc}
+use Rattle.std.proofs.Common.{Option, Some, None, eqb, eqb-true, arith}
 use Rattle.std.specs.List.{flat_map, list_any}
 use Rattle.std.proofs.lemmas.Bool.{cond-true, cond-false, eqb-false, ne_eqb}
 use Rattle.std.proofs.lemmas.Grind.{flat_map-append}
@@ -12,7 +13,8 @@ use Rattle.text_words.specs.Sequence.{UnitAt}
 use Rattle.text_words.proofs.CutLemmas.{front_back, front_each, back_stops, front_is, back_is, drop_front}
 use Rattle.text_words.proofs.LineEndLemmas.{end_len, end_some, end_found}
 use Rattle.text_words.proofs.SequenceLemmas.{IsReader, Behind, begins, unit_within, read_more, all_done, unit_same, one_reading, determined}
-use Rattle.header_words.specs.QuotedPrintable.{Piece, right, IsSoft, BeginsWithHex, BeginsWithSoft, ends_line, IsPiece, Hex, SoftBreak, WrongSign, Trailing, Blanks, Itself, IsPrintable}
+use Rattle.header_words.specs.QuotedPrintable.{Piece, right, IsSoft, BeginsWithHex, BeginsWithSoft, ends_line, IsPiece, Hex, SoftBreak, WrongSign, Trailing, Blanks, Itself}
+use Rattle.header_words.specs.QuotedPrintable.{IsPrintable}
 use Rattle.header_words.specs.Transfer.{IsBody}
 use Rattle.header_words.specs.declared.transfer.Encoding.{Encoding}
 use Rattle.header_words.specs.declared.transfer.Encoding.TheVariants as encoding
@@ -147,7 +149,13 @@ sign_sound v n t e = by_hex (hex_in t) refl e
     by_hex (Some c) h e =
         let x = hex_sound c t h in
         let P : ℕ → Type 0 = λ y. IsPiece (right (y ∷ [])) (61 ∷ x.high ∷ x.low ∷ []) x.rest in
-        unit_same IsPiece _ v 3 n (61 ∷ t) e (record { unit = 61 ∷ x.high ∷ x.low ∷ []; rest = x.rest; whole = ap (λ (u : List ℕ). 61 ∷ u) x.whole; is = subst P (sym x.value) (Hex x.high x.low x.left x.right x.rest x.high_is x.low_is); counted = refl })
+        unit_same IsPiece _ v 3 n (61 ∷ t) e (record {
+          unit = 61 ∷ x.high ∷ x.low ∷ [];
+          rest = x.rest;
+          whole = ap (λ (u : List ℕ). 61 ∷ u) x.whole;
+          is = subst P (sym x.value) (Hex x.high x.low x.left x.right x.rest x.high_is x.low_is);
+          counted = refl;
+        })
     by_hex None h e = by_break (line_end_len (back is_blank t)) h refl e
 
 blanks_sound : (v : Piece) (n c : ℕ) (t : List ℕ) → is_blank c ≡ true → blanks_of (front is_blank (c ∷ t)) (back is_blank (c ∷ t)) ≡ Some (v, n) → UnitAt IsPiece v n (c ∷ t)
@@ -162,7 +170,13 @@ blanks_sound v n c t b e = by (ends_line (back is_blank (c ∷ t))) refl e
         (v, n) → UnitAt IsPiece v n (c ∷ t)
     by true h e = unit_same IsPiece _ v _ n (c ∷ t) e
         (record { unit = front is_blank (c ∷ t); rest = back is_blank (c ∷ t); whole = front_back is_blank (c ∷ t); is = Trailing _ _ run h; counted = refl })
-    by false h e = unit_same IsPiece _ v _ n (c ∷ t) e (record { unit = front is_blank (c ∷ t); rest = back is_blank (c ∷ t); whole = front_back is_blank (c ∷ t); is = Blanks _ _ run (back_stops is_blank (c ∷ t)) h; counted = refl })
+    by false h e = unit_same IsPiece _ v _ n (c ∷ t) e (record {
+      unit = front is_blank (c ∷ t);
+      rest = back is_blank (c ∷ t);
+      whole = front_back is_blank (c ∷ t);
+      is = Blanks _ _ run (back_stops is_blank (c ∷ t)) h;
+      counted = refl;
+    })
 
 sound : (v : Piece) (n : ℕ) (t : List ℕ) → piece_in t ≡ Some (v, n) → UnitAt IsPiece v n t
 unfolding piece_in
@@ -290,7 +304,7 @@ read_fits rest rest' more wrong p =
     let w = unit_within piece_in piece_reader p.piece p.len rest p.read_is in
     omega (arith, piece_fits p.piece u.unit u.rest u.is, u.counted, w.within, ap length p.octets_are, ap length p.rest_is, length-drop p.len rest)
 
--- so many octets were read, and rest is left
+-- n octets were read, and rest is left
 pub record Counted (n : ℕ) (rest t : List ℕ) : Type 0 where
   pub octets : List ℕ
   pub problem : Bool

@@ -5,7 +5,8 @@ use Rattle.std.proofs.lemmas.Bool.{cases_lt}
 use Rattle.text_words.specs.Sequence.{UnitAt}
 use Rattle.text_words.proofs.SequenceLemmas.{determined, one_reading}
 use Rattle.header_words.specs.Charsets.{text_in, charset_of}
-use Rattle.header_words.specs.EncodedWords.{is_b, is_q, is_edge, Spells, InBase64, InQ, IsEncodedWord, ends_at_edge, NoneBefore, HasNone, IsFirst, kept, IsText, Plain, Worded, charset_name}
+use Rattle.header_words.specs.EncodedWords.{is_b, is_q, is_edge, Spells, InBase64, InQ, IsEncodedWord, ends_at_edge, NoneBefore, HasNone, IsFirst, kept, IsText, Plain, Worded}
+use Rattle.header_words.specs.EncodedWords.{charset_name}
 use Rattle.header_words.specs.reading.Units.{q_unit_in, IsWordBefore, FoundAt}
 use Rattle.header_words.proofs.QuotedLemmas.{q_reader}
 use Rattle.header_words.proofs.Base64Lemmas.{one_base64}
@@ -131,7 +132,7 @@ one_text after value _ _ (Worded _ r b w x u _ g h) (Worded _ s c v y z _ k l) =
     ∙ ap (λ (a : List ℕ). kept after c ++ (a ++ u)) q.1.reading
     ∙ ap (λ (a : List ℕ). kept after c ++ (s ++ a)) tail
 
--- what the rest reads as goes behind what was written
+-- what the rest reads as goes after what was written
 pub record Goes (behind_word : Bool) (rest done value : List ℕ) : Type 0 where
   pub goes : (t : List ℕ) → IsText behind_word rest t → IsText false value (done ++ t)
 

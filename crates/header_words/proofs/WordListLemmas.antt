@@ -1,5 +1,6 @@
 -- Where a text is cut into words, and what its words are.
-use Rattle.std.proofs.Common.{◌≡◌, ◌≢◌, ℕ, ◌+◌, ◌<◌, ◌≤◌, eqb, eqb-true, Bool, true, false, ◌&&◌, List, [], ◌∷◌, ◌++◌, length, take, drop, codes, IsUtf8, IsCharBoundary, replicate, refl, sym, ap, ◌∙◌, subst, arith, inl, inr, flat_map}
+use Rattle.std.proofs.Common.{◌≡◌, ◌≢◌, ℕ, ◌+◌, ◌<◌, ◌≤◌, eqb, eqb-true, Bool, true, false, ◌&&◌, List, [], ◌∷◌, ◌++◌, length, take, drop, codes, IsUtf8, IsCharBoundary, replicate}
+use Rattle.std.proofs.Common.{refl, sym, ap, ◌∙◌, subst, arith, inl, inr, flat_map}
 use Rattle.std.proofs.lemmas.List.{append_assoc, append-nil, append_cancel_left, nil_from_length, length-append, length-replicate, take-append-drop, length-drop}
 use Rattle.std.proofs.lemmas.List.Concat.{flat_map-append}
 use Rattle.std.proofs.lemmas.Bool.{cases_lt, and_parts}
@@ -114,7 +115,7 @@ folded_more first words w =
     ap (λ (u : List ℕ). first ++ u) (flat_map-append fold_before words (w ∷ []) ∙ ap (λ (u : List ℕ). flat_map fold_before words ++ u) (append-nil (fold_before w)))
     ∙ sym (append_assoc first (flat_map fold_before words) (fold_before w))
 
--- words were written, and those of the rest go behind them
+-- words were written, and those of the rest go after them
 pub record Begun (value rest text : List ℕ) : Type 0 where
   pub first : List ℕ
   pub words : List (List ℕ)

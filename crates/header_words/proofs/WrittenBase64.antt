@@ -1,5 +1,6 @@
 -- What is written in base64 is read back.
-use Rattle.std.proofs.Common.{◌≡◌, ◌≢◌, ℕ, zero, suc, ◌+◌, ◌*◌, ◌/◌, ◌%◌, ◌==◌, ◌<◌, nat_lt, Bool, true, ◌&&◌, List, [], ◌∷◌, length, replicate, slice_index, refl, ap, ◌∙◌, arith, eqb-true}
+use Rattle.std.proofs.Common.{◌≡◌, ◌≢◌, ℕ, zero, suc, ◌+◌, ◌*◌, ◌/◌, ◌%◌, ◌==◌, ◌<◌, nat_lt, Bool, true, ◌&&◌, List, [], ◌∷◌, length, replicate, slice_index, refl, ap, ◌∙◌, arith}
+use Rattle.std.proofs.Common.{eqb-true}
 use Rattle.std.proofs.lemmas.List.{length-replicate}
 use Rattle.std.proofs.lemmas.Bool.{and_parts, ltb-true}
 use Rattle.base64.specs.Rfc4648.{encode_symbols, padding_len}

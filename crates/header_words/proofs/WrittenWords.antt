@@ -1,5 +1,6 @@
 -- What a text is written as reads as the text.
-use Rattle.std.proofs.Common.{◌≡◌, ◌≢◌, ℕ, ◌+◌, ◌/◌, ◌%◌, ◌<◌, ◌≤◌, ltb, cond, not, ◌&&◌, Bool, true, false, List, [], ◌∷◌, ◌++◌, length, codes, IsUtf8, flat_map, refl, sym, ap, ◌∙◌, subst, arith, inl, inr}
+use Rattle.std.proofs.Common.{◌≡◌, ◌≢◌, ℕ, ◌+◌, ◌/◌, ◌%◌, ◌<◌, ◌≤◌, ltb, cond, not, ◌&&◌, Bool, true, false, List, [], ◌∷◌, ◌++◌, length, codes, IsUtf8, flat_map, refl, sym, ap}
+use Rattle.std.proofs.Common.{◌∙◌, subst, arith, inl, inr}
 use Rattle.std.proofs.lemmas.List.{append_assoc}
 use Rattle.std.proofs.lemmas.Bool.{and_parts, lt-ltb}
 use Rattle.std.proofs.lemmas.Str.{IsUtf8-append, utf8_lossy-IsUtf8}
@@ -13,7 +14,8 @@ use Rattle.header_words.specs.Base64.{is_symbol, is_equals_sign, IsBase64}
 use Rattle.header_words.specs.Charsets.{charset_of, text_in}
 use Rattle.header_words.specs.declared.charset.Charset.{Charset}
 use Rattle.header_words.specs.declared.charset.Charset.TheVariants as charset
-use Rattle.header_words.specs.EncodedWords.{is_encoded, InBase64, HasShape, charset_name, IsEncodedWord, is_edge, ends_at_edge, BeginsAtEdge, kept, NoneBefore, HasNone, IsFirst, IsText, Plain, Worded}
+use Rattle.header_words.specs.EncodedWords.{is_encoded, InBase64, HasShape, charset_name, IsEncodedWord, is_edge, ends_at_edge, BeginsAtEdge, kept, NoneBefore, HasNone, IsFirst}
+use Rattle.header_words.specs.EncodedWords.{IsText, Plain, Worded}
 use Rattle.header_words.specs.WordList.{utf8_word, IsPiece, IsLongestPiece, AreWords, NoneLeft, Next, joined, line_fold, IsWritten}
 use Rattle.header_words.proofs.WordLemmas.{none_yet}
 use Rattle.header_words.proofs.WordListLemmas.{longest_some}
@@ -145,7 +147,7 @@ none_in_empty = λ reading before word behind e s. by before word behind e s.wor
     by [] (d ∷ word) behind e f = absurd cc
     by (a ∷ before) word behind e f = absurd cc
 
--- the words behind the first
+-- the words after the first
 abbrev more_words : List ℕ → List (List ℕ) → List ℕ
 more_words between words = flat_map (λ (w : List ℕ). between ++ w) words
 

@@ -58,7 +58,7 @@ impl Unread {
         self.given - (self.held.len() - self.from) as u64
     }
 
-    /// So many octets are read.
+    /// The first n octets are read.
     pub fn skip(&mut self, count: usize)
         requires { count ≤ length self.old.octets }
         ensures octets { self.new.octets ≡ drop count self.old.octets }

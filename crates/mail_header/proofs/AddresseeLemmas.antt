@@ -9,7 +9,8 @@ use Rattle.mail_header.specs.declared.token.Alphabet.TheVariants as alphabet
 use Rattle.mail_header.specs.Tokens.{Spelled, AreTokens}
 use Rattle.mail_header.specs.reading.TokenReading.{spelled_in}
 use Rattle.mail_header.specs.Mailboxes.{Mailbox}
-use Rattle.mail_header.specs.AddressLists.{Element, Empty, Head, End, Member, IsElement, Addressee, One, Group, AreMailboxes, NoMailboxes, EmptyPlace, NextMailbox, AreAddressees, NoAddressees, Passed, NextOne, NextGroup, IsAddressList, Grouped, run_of, groups_from}
+use Rattle.mail_header.specs.AddressLists.{Element, Empty, Head, End, Member, IsElement, Addressee, One, Group, AreMailboxes, NoMailboxes, EmptyPlace, NextMailbox, AreAddressees}
+use Rattle.mail_header.specs.AddressLists.{NoAddressees, Passed, NextOne, NextGroup, IsAddressList, Grouped, run_of, groups_from}
 use Rattle.mail_header.specs.reading.ElementReading.{element_in, are_nested, is_addressee, grouped_from}
 use Rattle.mail_header.specs.reading.GroupBuilding.{are_list}
 use Rattle.mail_header.proofs.OneToken.{token_reader}

@@ -1,12 +1,13 @@
 -- Reading a bracket finds its contents, and contents are found.
-use Rattle.std.proofs.Common.{◌≡◌, ◌≢◌, ℕ, zero, suc, ◌+◌, ◌-◌, ◌≤◌, true, false, List, [], ◌∷◌, ◌++◌, ◌⊎◌, inl, inr, length, refl, sym, ap, subst, ◌∙◌, arith, append_assoc, Option, Some, None, eqb}
+use Rattle.std.proofs.Common.{◌≡◌, ◌≢◌, ℕ, zero, suc, ◌+◌, ◌-◌, ◌≤◌, true, false, List, [], ◌∷◌, ◌++◌, ◌⊎◌, inl, inr, length, refl, sym, ap, subst, ◌∙◌, arith, append_assoc}
+use Rattle.std.proofs.Common.{Option, Some, None, eqb}
 use Rattle.std.proofs.lemmas.List.{length-append}
 use Rattle.std.proofs.lemmas.Bool.Decides.{eqb_tells}
 use Rattle.mail_header.specs.Tokens.{Contents, Empty, Octet, Pair, Nested}
 use Rattle.mail_header.specs.reading.TokenReading.{further, close_in}
 use Rattle.mail_header.proofs.BracketSteps.{further_more, close_escaped, close_slash, close_last, close_down, close_up, close_other, close_none}
 
--- what is read behind the closing octet, with so many open
+-- what is read after the closing octet, with so many open
 abbrev pub behind : ℕ → ℕ → ℕ → List ℕ → Option ℕ
 behind o c zero t = Some 0
 behind o c (suc d) t = close_in o c d false t
@@ -74,7 +75,7 @@ pub further_some : (m n : ℕ) (r : Option ℕ) → further m r ≡ Some n → (
 further_some m n None e = absurd cc
 further_some m n (Some k) e = (k, refl, cc)
 
--- what is behind an octet
+-- what is after an octet
 Ih : ℕ → ℕ → ℕ → Type 0
 Ih fuel o c = (d n : ℕ) (t : List ℕ) → length t ≤ fuel → close_in o c d false t ≡ Some n → Closed o c d n t
 
@@ -150,7 +151,7 @@ by_octet fuel o c d n x t a ih le e (inr p) (inr q) (inl r) = let P : ℕ → Ty
     (case_open fuel o c d n t a ih le) e
 by_octet fuel o c d n x t a ih le e (inr p) (inr q) (inr r) = case_other fuel o c d n x t ih le p.1 q.1 r.1 e
 
--- with at most so many octets
+-- with at most n octets
 pub closed_in : (fuel o c d n : ℕ) (t : List ℕ) → Apart o c → length t ≤ fuel → close_in o c d false t ≡ Some n → Closed o c d n t
 unfolding Ih Tells
 closed_in fuel o c d n [] a le e = absurd (let e' = close_none o c d false in cc)

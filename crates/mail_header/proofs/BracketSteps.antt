@@ -1,5 +1,6 @@
 -- A bracket is read octet by octet.
-use Rattle.std.proofs.Common.{◌≡◌, ◌≢◌, ℕ, ◌+◌, ◌-◌, ◌<◌, ◌≤◌, Bool, true, false, List, [], ◌∷◌, length, drop, get_or, refl, ap, ◌∙◌, arith, add-one, drop-cons, Option, Some, None, eqb, eq-eqb}
+use Rattle.std.proofs.Common.{◌≡◌, ◌≢◌, ℕ, ◌+◌, ◌-◌, ◌<◌, ◌≤◌, Bool, true, false, List, [], ◌∷◌, length, drop, get_or, refl, ap, ◌∙◌, arith, add-one, drop-cons, Option, Some, None}
+use Rattle.std.proofs.Common.{eqb, eq-eqb}
 use Rattle.std.proofs.lemmas.Bool.{cond-true, cond-false, ne_eqb}
 use Rattle.std.proofs.lemmas.List.{drop_all}
 use Rattle.mail_header.specs.reading.TokenReading.{further, close_in}
@@ -40,7 +41,7 @@ pub close_none : (o c d : ℕ) (e : Bool) → close_in o c d e [] ≡ None
 unfolding close_in
 close_none o c d e = refl
 
--- the reading from i on, behind those i octets
+-- the reading from i on, after those i octets
 abbrev pub from : ℕ → ℕ → ℕ → Bool → List ℕ → ℕ → Option ℕ
 from o c d e b i = further i (close_in o c d e (drop i b))
 

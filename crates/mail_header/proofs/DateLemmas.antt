@@ -13,8 +13,10 @@ use Rattle.mail_header.specs.Tokens.{Spelled, AreTokens}
 use Rattle.mail_header.specs.Lexemes.{is_lexeme, AreLexemes}
 use Rattle.mail_header.specs.Mailboxes.{mark_in, has_mark, is_atom}
 use Rattle.mail_header.specs.RawForms.{raw_form}
-use Rattle.mail_header.specs.Dates.{Piece, Digits, Letters, Signed, Octet, Other, pieces_in, pieces_of, number_of, month_of, year_of, offset_of, named_zone, IsDay, DayMonthYear, IsClock, HourMinute, HourMinuteSecond, IsZone, Offset, Named, IsDateTime, IsDate, Plain, OfWeek, moment_of, IsMoment, IsDateForm}
-use Rattle.mail_header.specs.reading.DateReading.{then_read, with_rest, behind_day_name, digits_in, letters_in, octet_in, number_in, month_in, year_in, colon_in, second_behind, second_in, zone_in, day_in, clock_in, at_end, date_in}
+use Rattle.mail_header.specs.Dates.{Piece, Digits, Letters, Signed, Octet, Other, pieces_in, pieces_of, number_of, month_of, year_of, offset_of, named_zone, IsDay, DayMonthYear}
+use Rattle.mail_header.specs.Dates.{IsClock, HourMinute, HourMinuteSecond, IsZone, Offset, Named, IsDateTime, IsDate, Plain, OfWeek, moment_of, IsMoment, IsDateForm}
+use Rattle.mail_header.specs.reading.DateReading.{then_read, with_rest, behind_day_name, digits_in, letters_in, octet_in, number_in, month_in, year_in, colon_in, second_behind}
+use Rattle.mail_header.specs.reading.DateReading.{second_in, zone_in, day_in, clock_in, at_end, date_in}
 use Rattle.mail_header.specs.reading.LexemeReading.{rest_in, lexemes_in}
 use Rattle.mail_header.proofs.AddresseeLemmas.{one_tokens}
 use Rattle.mail_header.proofs.LexemeLemmas.{row_read, no_row}

@@ -1,5 +1,6 @@
 -- The element at the front is read, and what is read is the element at the front.
-use Rattle.std.proofs.Common.{◌≡◌, ◌≢◌, ℕ, ◌+◌, ◌⊎◌, inl, inr, Bool, true, false, not, ◌&&◌, ◌||◌, List, [], ◌∷◌, ◌++◌, length, cond, refl, sym, ap, ◌∙◌, subst, arith, append_assoc, eqb, eqb-true, Option, Some, None}
+use Rattle.std.proofs.Common.{◌≡◌, ◌≢◌, ℕ, ◌+◌, ◌⊎◌, inl, inr, Bool, true, false, not, ◌&&◌, ◌||◌, List, [], ◌∷◌, ◌++◌, length, cond, refl, sym, ap, ◌∙◌, subst, arith}
+use Rattle.std.proofs.Common.{append_assoc, eqb, eqb-true, Option, Some, None}
 use Rattle.std.specs.List.{list_all, filter}
 use Rattle.std.proofs.lemmas.Bool.{cond-true, cond-false}
 use Rattle.std.proofs.lemmas.List.{length-append}
@@ -10,14 +11,16 @@ use Rattle.text_words.proofs.CutLemmas.{front_back, front_each, back_stops, fron
 use Rattle.text_words.proofs.SequenceLemmas.{IsReader, Behind, begins, unit_same}
 use Rattle.mail_header.specs.Tokens.{Spelled}
 use Rattle.mail_header.specs.Mailboxes.{mark_of, has_mark, is_gap, is_phrase, is_display_name, is_addr_spec, is_inner}
-use Rattle.mail_header.specs.AddressLists.{Element, Empty, Head, End, Member, IsElement, Comma, Blank, Phrase, Closed, Bare, InAngle, EndsElement, EndsGroup, is_no_separator, is_no_comma}
-use Rattle.mail_header.specs.reading.ElementReading.{is_plain, is_no_greater, stops, bare, in_angle, some_bare, bare_of, head_of, end_before, end_of, angle_before, angle_of, closed_of, opened_of, separator_of, is_empty, marked_of, element_of, element_in, is_filled}
+use Rattle.mail_header.specs.AddressLists.{Element, Empty, Head, End, Member, IsElement, Comma, Blank, Phrase, Closed, Bare, InAngle, EndsElement, EndsGroup, is_no_separator}
+use Rattle.mail_header.specs.AddressLists.{is_no_comma}
+use Rattle.mail_header.specs.reading.ElementReading.{is_plain, is_no_greater, stops, bare, in_angle, some_bare, bare_of, head_of, end_before, end_of, angle_before, angle_of}
+use Rattle.mail_header.specs.reading.ElementReading.{closed_of, opened_of, separator_of, is_empty, marked_of, element_of, element_in, is_filled}
 use Rattle.mail_header.proofs.MailboxLemmas.{flip, picked, gap_mark, mark_is, gaps_each, phrase_each, name_each, spec_each, inner_each, spec_some}
 
 abbrev pub Read : Type 0
 Read = Option (Element × ℕ)
 
--- the same by the mark of the token behind
+-- the same by the mark of the token after
 separator_by : ℕ → List Spelled → Read
 separator_by m more = cond (eqb m 44) (Some (Empty, 1)) (cond (eqb m 59) (end_of more) None)
 

@@ -1,5 +1,6 @@
 -- Blocks of lines, fields, and the walk over them.
-use Rattle.std.proofs.Common.{◌≡◌, ◌≢◌, ℕ, zero, suc, ◌+◌, ◌-◌, ◌<◌, ◌≤◌, Bool, true, false, ◌&&◌, inl, inr, List, [], ◌∷◌, ◌++◌, length, take, drop, get_or, cond, refl, sym, ap, ◌∙◌, subst, Option, Some, None, eqb, arith}
+use Rattle.std.proofs.Common.{◌≡◌, ◌≢◌, ℕ, zero, suc, ◌+◌, ◌-◌, ◌<◌, ◌≤◌, Bool, true, false, ◌&&◌, inl, inr, List, [], ◌∷◌, ◌++◌, length, take, drop, get_or, cond, refl, sym, ap}
+use Rattle.std.proofs.Common.{◌∙◌, subst, Option, Some, None, eqb, arith}
 use Rattle.std.specs.List.{flat_map}
 use Rattle.std.proofs.lemmas.Bool.{cond-true, cond-false}
 use Rattle.std.proofs.lemmas.Grind.{flat_map-append}
@@ -12,7 +13,8 @@ use Rattle.text_words.proofs.CutLemmas.{front_is, back_is, front_back, front_eac
 use Rattle.text_words.proofs.LineEndLemmas.{end_len, end_some, end_found}
 use Rattle.text_words.proofs.SequenceLemmas.{Behind, begins, one_more, all_done, one_reading}
 use Rattle.mail_header.specs.Lines.{without_end}
-use Rattle.mail_header.specs.Fields.{is_name, IsField, ends_block, IsBlock, Part, AField, Other, Body, IsPart, ThisField, OtherLines, ThisBody, NameAndRaw, field_in, body_in, field_view, fields_view, IsHeader, later_or, last_named, IsLastField}
+use Rattle.mail_header.specs.Fields.{is_name, IsField, ends_block, IsBlock, Part, AField, Other, Body, IsPart, ThisField, OtherLines, ThisBody, NameAndRaw, field_in, body_in}
+use Rattle.mail_header.specs.Fields.{field_view, fields_view, IsHeader, later_or, last_named, IsLastField}
 use Rattle.mail_header.specs.declared.header.Field.{Field}
 use Rattle.mail_header.specs.reading.HeaderLines.{block_len, EndsHeader, IsBlockAt, Later, Adds, Added, Passed}
 
@@ -265,7 +267,7 @@ pub last_read : (name : List ℕ) (l : List Field) (i at : ℕ) (d : Field) → 
     → last_named name (fields_view (drop at l)) ≡ None → last_named name (fields_view l) ≡ Some (get_or l i d).raw.now
 last_read name l i at d lt n e none = last_at name l i at (get_or l i d) lt n (get_or_default l i d (get_or l i d) lt) e none
 
--- a field more behind them
+-- a field more after them
 pub last_other : (name : List ℕ) (fs : List NameAndRaw) (f : NameAndRaw) → is_same_text f.0 name ≡ false → last_named name (fs ++ f ∷ []) ≡ last_named name fs
 last_other name [] f e = cond-false (is_same_text f.0 name) _ _ e
 last_other name (g ∷ fs) f e = ap (λ (o : Option (List ℕ)). later_or o (is_same_text g.0 name) g.1) (last_other name fs f e)

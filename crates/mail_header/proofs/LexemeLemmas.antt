@@ -1,5 +1,6 @@
 -- The lexemes at the front of a text, read one after another.
-use Rattle.std.proofs.Common.{◌≡◌, ◌≢◌, ℕ, zero, suc, ◌<◌, ◌≤◌, Bool, true, false, not, List, [], ◌∷◌, ◌++◌, length, drop, cond, refl, sym, ap, ◌∙◌, subst, Option, Some, None, arith}
+use Rattle.std.proofs.Common.{◌≡◌, ◌≢◌, ℕ, zero, suc, ◌<◌, ◌≤◌, Bool, true, false, not, List, [], ◌∷◌, ◌++◌, length, drop, cond, refl, sym, ap, ◌∙◌, subst, Option, Some, None}
+use Rattle.std.proofs.Common.{arith}
 use Rattle.std.specs.List.{filter}
 use Rattle.std.specs.Option.{MatchOption, IfSome}
 use Rattle.std.proofs.lemmas.Bool.{cond-true, cond-false}
@@ -9,7 +10,8 @@ use Rattle.mail_header.specs.declared.token.Alphabet.{Alphabet}
 use Rattle.mail_header.specs.Tokens.{Spelled, AreTokens, AreLeading}
 use Rattle.mail_header.specs.reading.TokenReading.{spelled_in, IsFirstToken}
 use Rattle.mail_header.specs.Lexemes.{is_lexeme, AreLexemes, AreLeadingLexemes}
-use Rattle.mail_header.specs.reading.LexemeReading.{tokens_then, tokens_within, rest_then, rest_within, tokens_in, rest_in, lexemes_in, texts_of, IsBehindGaps, IsNextLexeme, BeginsNoGap}
+use Rattle.mail_header.specs.reading.LexemeReading.{tokens_then, tokens_within, rest_then, rest_within, tokens_in, rest_in, lexemes_in, texts_of, IsBehindGaps, IsNextLexeme}
+use Rattle.mail_header.specs.reading.LexemeReading.{BeginsNoGap}
 use Rattle.mail_header.specs.Names.{lexeme_text, spelling}
 use Rattle.mail_header.proofs.OneToken.{token_reader}
 use Rattle.mail_header.proofs.LeadingLemmas.{none_begins, all_read, not_all}
@@ -155,7 +157,7 @@ begins_lexeme a v n t e g = λ w m f. let p = same_pair w v m n (sym f ∙ e) in
 pub begins_nothing : (a : Alphabet) (t : List ℕ) → spelled_in a t ≡ None → BeginsNoGap a t
 begins_nothing a t e = λ w m f. absurd cc
 
--- the token at the front of what stands behind the gaps is the next lexeme
+-- the token at the front of what stands after the gaps is the next lexeme
 pub next_read : (a : Alphabet) (v : Spelled) (more s t : List ℕ) → IsBehindGaps a s t → IsFirstToken a v more s → IsNextLexeme a v more t
 next_read a v more s t b f = record {
   lexemes = sym b.lexemes ∙ lexeme_read a v f.len s f.read (b.begins v f.len f.read) ∙ ap (λ (u : List ℕ). v ∷ lexemes_in a u) (sym f.rest_is);
@@ -166,7 +168,7 @@ next_read a v more s t b f = record {
 pub nothing_read : (a : Alphabet) (s t : List ℕ) → IsBehindGaps a s t → spelled_in a s ≡ None → lexemes_in a t ≡ []
 nothing_read a s t b e = sym b.lexemes ∙ none_left a s e
 
--- where no lexeme is left behind the gaps, no token begins there
+-- where no lexeme is left after the gaps, no token begins there
 pub nothing_begins : (a : Alphabet) (t : List ℕ) → BeginsNoGap a t → lexemes_in a t ≡ [] → spelled_in a t ≡ None
 nothing_begins a t b e = by (spelled_in a t) refl
   where

@@ -8,7 +8,9 @@ use Rattle.mail_header.specs.declared.token.Kind.{Kind}
 use Rattle.mail_header.specs.declared.token.Kind.TheVariants as kind
 use Rattle.mail_header.specs.Tokens.{Spelled}
 use Rattle.mail_header.specs.Lexemes.{is_lexeme_kind}
-use Rattle.mail_header.specs.Mailboxes.{mark_in, mark_of, has_mark, is_gap, is_atom_kind, is_atom, is_word_kind, is_word, is_literal_kind, has_no_opener, behind_first, is_literal, is_phrase_part, begins_phrase, is_phrase, is_display_name, is_dotted, is_local_part, begins_literal, is_domain, is_no_at, spec_of, is_addr_spec, begins_hop, is_hop, are_hops, is_route, is_no_colon, inner_of, is_inner}
+use Rattle.mail_header.specs.Mailboxes.{mark_in, mark_of, has_mark, is_gap, is_atom_kind, is_atom, is_word_kind, is_word, is_literal_kind, has_no_opener, behind_first, is_literal}
+use Rattle.mail_header.specs.Mailboxes.{is_phrase_part, begins_phrase, is_phrase, is_display_name, is_dotted, is_local_part, begins_literal, is_domain, is_no_at, spec_of}
+use Rattle.mail_header.specs.Mailboxes.{is_addr_spec, begins_hop, is_hop, are_hops, is_route, is_no_colon, inner_of, is_inner}
 use Rattle.mail_header.specs.AddressLists.{is_no_comma}
 use Rattle.mail_header.specs.reading.ElementReading.{are_hops_behind}
 

@@ -1,5 +1,6 @@
 -- The token at the front is read, and what is read is the token at the front.
-use Rattle.std.proofs.Common.{◌≡◌, ◌≢◌, ◌⊎◌, take, ℕ, ◌+◌, ◌<◌, Bool, true, false, List, [], ◌∷◌, ◌++◌, length, cond, refl, sym, ap, ◌∙◌, subst, inl, inr, arith, append_assoc, Option, Some, None, eqb}
+use Rattle.std.proofs.Common.{◌≡◌, ◌≢◌, ◌⊎◌, take, ℕ, ◌+◌, ◌<◌, Bool, true, false, List, [], ◌∷◌, ◌++◌, length, cond, refl, sym, ap, ◌∙◌, subst, inl, inr, arith, append_assoc}
+use Rattle.std.proofs.Common.{Option, Some, None, eqb}
 use Rattle.std.proofs.lemmas.Bool.{cond-true, cond-false, eqb-true, eqb-false}
 use Rattle.std.proofs.lemmas.List.{length-append, take_at}
 use Rattle.mail_header.specs.declared.token.Alphabet.{Alphabet}

@@ -16,7 +16,7 @@ use Rattle.mail_header.specs.RawForms.{raw_form}
 
 -- ---- what dates are made of
 
--- A run of digits, a run of letters, a sign with the digits directly behind it, another octet, or what no date has.
+-- A run of digits, a run of letters, a sign with the digits directly after it, another octet, or what no date has.
 pub data Piece : Type 0 where
   Digits : List ℕ → Piece
   Letters : List ℕ → Piece
@@ -34,7 +34,7 @@ alone c =
     else if is_alpha c then Letters (c ∷ [])
     else Octet c
 
--- an octet, and the pieces behind it
+-- an octet, and the pieces after it
 unfoldable pub joined : ℕ → List Piece → List Piece
 joined c [] = alone c ∷ []
 joined c (Digits ds ∷ ps) =
@@ -61,12 +61,12 @@ pieces_of (s ∷ ls) = pieces_in s.kind s.text ++ pieces_of ls
 
 -- ---- numbers and names
 
--- the number that decimal digits spell behind those of value
+-- the number that decimal digits spell after those of value
 abbrev pub value_from : ℕ → List ℕ → ℕ
 value_from value [] = value
 value_from value (c ∷ t) = value_from (10 * value + (c - 48)) t
 
--- a number of so many digits
+-- a number of n digits
 abbrev pub number_of : ℕ → ℕ → List ℕ → Option ℕ
 number_of low high t = if nat_le low (length t) && nat_le (length t) high then Some (value_from 0 t) else None
 

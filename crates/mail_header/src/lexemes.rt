@@ -7,7 +7,7 @@ ghost use Rattle.mail_header.specs.reading.LexemeReading as reading;
 use crate::token::{Alphabet, Kind, Token};
 use crate::tokens::first_token;
 
-/// The text behind the white space and comments at its front.
+/// The text after the white space and comments at its front.
 pub fn behind_gaps(alphabet: Alphabet, text: &[u8]) -> &[u8]
     ensures is { reading.IsBehindGaps alphabet result.now text.now }
     ensures within { length result.now ≤ length text.now }
@@ -22,7 +22,7 @@ pub fn behind_gaps(alphabet: Alphabet, text: &[u8]) -> &[u8]
     rest
 }
 
-/// The first lexeme at the front of a value, and what follows it. There is none where no token begins behind white space
+/// The first lexeme at the front of a value, and what follows it. There is none where no token begins after white space
 /// and comments.
 pub fn next_lexeme(alphabet: Alphabet, text: &[u8]) -> Option<(Token<'_>, &[u8])>
     ensures value { MatchOption result (reading.lexemes_in alphabet text.now ≡ []) (λ r. reading.IsNextLexeme alphabet (token_view r.0) r.1.now text.now) }

@@ -23,7 +23,17 @@ pub made : (f : List NameAndRaw) (ct cd : List ℕ) (content : ContentType) (d :
     → IsIdOf (last_named (codes "content-id") f) cid → IsTextOf (last_named (codes "content-language") f) language
     → IsTrimmedTextOf (last_named (codes "content-location") f) location
     → encoding ≡ mechanism (last_named (codes "content-transfer-encoding") f) (mime_lexemes (octets_of f (codes "content-transfer-encoding")))
-    → IsPartHeader f (record { media = content.media; boundary = content.boundary; charset = content.charset; disposition = d.kind; name = name; cid = cid; language = language; location = location; encoding = encoding })
+    → IsPartHeader f (record {
+      media = content.media;
+      boundary = content.boundary;
+      charset = content.charset;
+      disposition = d.kind;
+      name = name;
+      cid = cid;
+      language = language;
+      location = location;
+      encoding = encoding;
+    })
 made f ct cd content d written name cid language location encoding et ed c i w n id l p e = record {
   content_type = mime_lexemes ct;
   has_content_type = has_lexemes f (codes "content-type") ct et;

@@ -301,7 +301,7 @@ const READ_OCTETS: usize = 8192;
 
 const SHORT: &[u8] = b"* 123456 EXISTS\r\n";
 
-/// So many short responses.
+/// This many short responses.
 fn short_ones(alloc: Global, count: usize) -> Result<Vec<u8>, AllocError> {
     let mut octets = Vec::new(alloc);
     for _ in 0..count {
@@ -332,7 +332,7 @@ fn expect_life_limit(rt: &impl Abort, alloc: Global) -> Result<(), Fail> {
     Ok(())
 }
 
-/// A request of so many octets, most of them spaces after it.
+/// A request of n octets, most of them spaces after it.
 fn long_request(alloc: Global, count: usize) -> Result<Script, AllocError> {
     let known = ASK.len() + BOTH.len() + ASK_END.len();
     let spaces = vec![in alloc; b' '; count.saturating_sub(known)]?;

@@ -22,7 +22,7 @@ piece_view (code.Signed c t) = Signed c t.now
 piece_view (code.Octet c) = Octet c
 piece_view code.Other = Other
 
--- the pieces of the rest of an atom, and of the lexemes of a text behind it
+-- the pieces of the rest of an atom, and of the lexemes of a text after it
 unfoldable pub pieces_behind : List ℕ → List ℕ → List Piece
 pieces_behind atom rest = runs atom ++ pieces_of (lexemes_in alphabet.Mail rest)
 

@@ -33,4 +33,5 @@ pub returns-in_err-fill-clause-tape : goal.returns-in_err-fill-clause-tape
 returns-in_err-fill-clause-tape g c =
     let is = err_from_is_err_and c.from_residual-in_err-fill.result c.from_residual-in_err-fill.ensures.1 in
     let scanned = subst (λ (l : List ℕ). ScanOf l NeedMore) c.as_slice.ensures c.in-NeedMore.ensures.scan in
-    rw (is.1, is.2) (join _ c.reading.invariant.tape c.in_err-fill.ensures.tape (λ x y so fills. fill_failed y c.args.unread.now c.reading.unread c.fill.new.self _ scanned so fills))
+    rw (is.1, is.2) (join _ c.reading.invariant.tape c.in_err-fill.ensures.tape
+    (λ x y so fills. fill_failed y c.args.unread.now c.reading.unread c.fill.new.self _ scanned so fills))

@@ -2,10 +2,13 @@ use Rattle.std.proofs.Common.{◌≡◌, ℕ, Bool, List, ◌∷◌, ◌+◌, �
 use Rattle.mail_header.specs.reading.TokenReading.{close_in, further}
 use Rattle.mail_header.proofs.BracketSteps.{keeps, ends_here, found_here, close_escaped, close_slash, close_down, close_up, close_other}
 use Rattle.mail_header.proofs.tokens.closing.Goals as goal
-use Rattle.mail_header.proofs.tokens.closing.Goals.{then-escaped, else-escaped+then-octet-eq92, else-escaped+else-octet-eq92+then-octet-closer+else-depth-eq0, else-escaped+else-octet-eq92+else-octet-closer+then-octet-opener, else-escaped+else-octet-eq92+else-octet-closer+else-octet-opener}
+use Rattle.mail_header.proofs.tokens.closing.Goals.{then-escaped, else-escaped+then-octet-eq92, else-escaped+else-octet-eq92+then-octet-closer+else-depth-eq0}
+use Rattle.mail_header.proofs.tokens.closing.Goals.{else-escaped+else-octet-eq92+else-octet-closer+then-octet-opener}
+use Rattle.mail_header.proofs.tokens.closing.Goals.{else-escaped+else-octet-eq92+else-octet-closer+else-octet-opener}
 
 pub returns-then-depth-eq0-clause-value : goal.returns-then-depth-eq0-clause-value
-returns-then-depth-eq0-clause-value c = found_here _ _ _ _ _ _ _ c.loop-i-test.true c.if-depth-eq0.true c.if-escaped.false c.if-octet-eq92.false c.if-octet-closer.true c.loop-i.invariant.same
+returns-then-depth-eq0-clause-value c =
+    found_here _ _ _ _ _ _ _ c.loop-i-test.true c.if-depth-eq0.true c.if-escaped.false c.if-octet-eq92.false c.if-octet-closer.true c.loop-i.invariant.same
 
 pub loop-i-preserved : goal.loop-i-preserved
 loop-i-preserved c =
