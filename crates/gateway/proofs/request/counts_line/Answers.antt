@@ -3,7 +3,8 @@ use Rattle.gateway.proofs.request.counts_line.Goals as goal
 
 pub returns : goal.returns
 returns c =
-    tells c.args.place.now.user c.args.place.now.base _ _ c.args.epoch c.args.request.now c.args.responses.now c.in_ok-mail.mail.entries c.counts_of.result c.in_ok-text.text c.with_line_end.result
+    tells c.args.place.now.user c.args.place.now.base _ _ c.args.epoch c.args.request.now c.args.responses.now c.in_ok-mail.mail.entries c.counts_of.result c.in_ok-text.text
+    c.with_line_end.result
     (record {
       ordered = c.in_ok-mail.ensures.ordered;
       told = c.in_ok-mail.ensures.told;

@@ -7,7 +7,9 @@ pub loop-rest-smaller : goal.loop-rest-smaller
 loop-rest-smaller c = shorter c.loop-rest.rest.now c.piece_at-piece.result.rest.now _ c.piece_at-piece.result.wrong c.piece_at-piece.ensures
 
 pub loop-rest-preserved : goal.loop-rest-preserved
-loop-rest-preserved c = written_more c.loop-rest.octets.items _ _ c.loop-rest.rest.now c.piece_at-piece.result.rest.now c.args.text.now c.loop-rest.problem c.piece_at-piece.result.wrong _ c.loop-rest.invariant c.piece_at-piece.ensures c.in_ok-push_piece.ensures refl
+loop-rest-preserved c =
+    written_more c.loop-rest.octets.items _ _ c.loop-rest.rest.now c.piece_at-piece.result.rest.now c.args.text.now c.loop-rest.problem c.piece_at-piece.result.wrong _
+    c.loop-rest.invariant c.piece_at-piece.ensures c.in_ok-push_piece.ensures refl
 
 pub returns : goal.returns
 returns c = written_all c.loop-rest.octets.items c.loop-rest.rest.now c.args.text.now c.loop-rest.problem c.loop-rest.invariant (nil_from_length c.loop-rest.rest.now

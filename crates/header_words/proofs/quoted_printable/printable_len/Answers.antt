@@ -18,7 +18,8 @@ pub loop-rest-preserved : goal.loop-rest-preserved
 loop-rest-preserved c =
     let f = read_fits c.loop-rest.rest.now c.piece_at-piece.result.rest.now _ c.piece_at-piece.result.wrong c.piece_at-piece.ensures in
     record {
-      counted = counted_more c.loop-rest.len c.piece_len-len.result _ c.loop-rest.rest.now c.piece_at-piece.result.rest.now c.args.text.now c.piece_at-piece.result.wrong c.loop-rest.invariant.counted c.piece_at-piece.ensures c.piece_len-len.ensures;
+      counted = counted_more c.loop-rest.len c.piece_len-len.result _ c.loop-rest.rest.now c.piece_at-piece.result.rest.now c.args.text.now c.piece_at-piece.result.wrong
+          c.loop-rest.invariant.counted c.piece_at-piece.ensures c.piece_len-len.ensures;
       within = omega (arith, f, c.piece_len-len.ensures, c.loop-rest.invariant.within);
     }
 

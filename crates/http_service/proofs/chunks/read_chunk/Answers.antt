@@ -10,6 +10,8 @@ returns-in_err-read_octet-clause-tape g c =
 
 pub returns-clause-tape : goal.returns-clause-tape
 returns-clause-tape g c =
-    let both = join (Returned c.args.size c.args.body.now.items c.read_data.new.body.items c.args.spare.now c.read_octet.new.spare) c.in_ok-read_data.ensures.tape c.in_ok-read_octet.ensures.tape (λ x y so back. returned c.args.body.now.items c.read_data.new.body.items c.read_octet.new.spare y c.args.size so back) in
+    let both = join
+    (Returned c.args.size c.args.body.now.items c.read_data.new.body.items c.args.spare.now c.read_octet.new.spare) c.in_ok-read_data.ensures.tape
+    c.in_ok-read_octet.ensures.tape (λ x y so back. returned c.args.body.now.items c.read_data.new.body.items c.read_octet.new.spare y c.args.size so back) in
     join _ both c.read_octet-2.ensures.tape
     (λ x y so feed. chunk_end c.args.body.now.items c.read_data.new.body.items c.read_octet-2.new.spare y c.args.size c.read_octet-2.result so feed)

@@ -53,7 +53,9 @@ returns-in_err-read_chunk-clause-tape g c =
     (λ x y gathered reads. after_line c.chunks.body.items c.read_line.new.spare c.in_ok-size.size y gathered reads) in
     let long : c.len.result ≡ c.chunks.body.len = c.len.ensures in
     let fits : length c.chunks.body.items + c.in_ok-size.size ≤ c.args.limit = omega (arith, c.if-limit-len.false, long, c.chunks.invariant.within, c.chunks.body.ok.0) in
-    rw (is.1, is.2) (join _ line c.in_err-read_chunk.ensures.tape (λ x y so reads. chunk_stops c.args.limit c.chunks.body.items c.read_chunk.new.body.items c.read_chunk.new.spare c.in_ok-size.size c.in_err-read_chunk.field-0.0 y fits c.if-size-eq0.false so reads))
+    rw (is.1, is.2) (join _ line c.in_err-read_chunk.ensures.tape
+    (λ x y so reads. chunk_stops c.args.limit c.chunks.body.items c.read_chunk.new.body.items c.read_chunk.new.spare c.in_ok-size.size c.in_err-read_chunk.field-0.0 y fits
+    c.if-size-eq0.false so reads))
 
 pub chunks-preserved : goal.chunks-preserved
 chunks-preserved g c =

@@ -17,7 +17,8 @@ returns-in_err-fill-clause-tape g c =
 pub filling-preserved : goal.filling-preserved
 filling-preserved g c =
     let short : length c.filling.spare < c.args.size = omega (arith, c.filling-test.true, ap length c.as_slice.ensures) in
-    let more = enough c.filling.spare c.fill.new.spare c.as_slice-in-filling.result.now c.args.size c.in_ok-fill.field-0 c.if-not-branch.false c.as_slice-in-filling.ensures short c.in_ok-fill.ensures.grows in
+    let more = enough c.filling.spare c.fill.new.spare c.as_slice-in-filling.result.now c.args.size c.in_ok-fill.field-0 c.if-not-branch.false c.as_slice-in-filling.ensures short
+    c.in_ok-fill.ensures.grows in
     record {
       tape = join _ c.filling.invariant.tape c.in_ok-fill.ensures.tape
           (λ x y so fills. (one_more y (Octets c.args.size) c.fill.new.spare c.in_ok-fill.field-0 c.if-not-branch.false so.0 short fills (omega (arith, more.0)), inr more.0));

@@ -9,7 +9,9 @@ use Rattle.imap_client.proofs.response.next_response.Goals as goal
 
 pub returns-in-Whole-clause-tape : goal.returns-in-Whole-clause-tape
 returns-in-Whole-clause-tape g c =
-    widen _ c.reading.invariant.tape (λ es so. read_whole c.args.unread.now c.reading.unread c.take_response.new.unread c.in-Whole.length so c.in_ok-take_response-in-Whole.ensures.response c.in_ok-take_response-in-Whole.ensures.rest c.take_response.ensures.given)
+    widen _ c.reading.invariant.tape
+    (λ es so. read_whole c.args.unread.now c.reading.unread c.take_response.new.unread c.in-Whole.length so c.in_ok-take_response-in-Whole.ensures.response
+    c.in_ok-take_response-in-Whole.ensures.rest c.take_response.ensures.given)
 
 pub returns-in-Bad-clause-tape : goal.returns-in-Bad-clause-tape
 returns-in-Bad-clause-tape g c =
