@@ -71,7 +71,7 @@ fn untagged_rule(c: u16) -> Move
     }
 }
 
-fn sequence_rule(value: u32, digits: u8, c: u16) -> Move
+pub fn sequence_rule(value: u32, digits: u8, c: u16) -> Move
     ensures { result ≡ rules.sequence_rule value digits c }
 {
     if is_digit(c)

@@ -125,7 +125,7 @@ pub fn first_key(place: Place) -> Key
     }
 }
 
-fn in_word(place: Place, c: u16) -> bool
+pub fn in_word(place: Place, c: u16) -> bool
     ensures { result ≡ keywords.in_word place c }
 {
     match place {
@@ -160,11 +160,10 @@ fn goes_on(key: Key, at: u8, c: u16, candidate: Key) -> bool
 
 /// Whether the key itself goes on with the octet.
 #[tactic(auto, using(crate::proofs::KeyLemmas::selves))]
-fn goes_on_itself(key: Key, at: u8, c: u16) -> bool
+pub fn goes_on_itself(key: Key, at: usize, c: u16) -> bool
     ensures { result ≡ keywords.goes_on key at c key }
 {
     let text = key_text(key);
-    let at = at as usize;
     at < text.len() && text[at] as u16 == c
 }
 
@@ -186,7 +185,7 @@ fn next_key(place: Place, key: Key, at: u8, c: u16) -> Option<Key>
     requires { at ≤ length (keywords.key_text key) }
     ensures { result ≡ keywords.next_key place key at c }
 {
-    if goes_on_itself(key, at, c) {
+    if goes_on_itself(key, at as usize, c) {
         Some(key)
     } else {
         first_that_goes_on(keys(place), key, at, c)

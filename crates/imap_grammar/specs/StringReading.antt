@@ -1,5 +1,5 @@
 -- How a string is read back, from its first octet on: its value, and what follows it.
-use Rattle.std.specs.Prelude.{ℕ, ◌+◌, Bool, true, false, ◌&&◌, ◌==◌, if◌then◌else◌, List, [], ◌∷◌, take, drop, get_or}
+use Rattle.std.specs.Prelude.{ℕ, Bool, true, false, ◌&&◌, ◌==◌, if◌then◌else◌, List, [], ◌∷◌, take, drop, get_or}
 use Rattle.imap_syntax.specs.Octets.{is_digit, is_atom}
 use Rattle.imap_grammar.specs.Spans.{span, number_in}
 

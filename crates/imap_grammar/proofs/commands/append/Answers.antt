@@ -1,4 +1,4 @@
-use Rattle.std.proofs.Common.{◌≡◌, ◌++◌, ◌∷◌, [], ◌∙◌, subst}
+use Rattle.std.proofs.Common.{◌++◌, ◌∷◌, [], ◌∙◌, subst}
 use Rattle.imap_syntax.specs.Commands.{Literal}
 use Rattle.imap_grammar.specs.Written.{AddsPart}
 use Rattle.imap_grammar.proofs.Pieces.{append_pieces}
