@@ -68,9 +68,9 @@ fn long_open_rule(c: u16) -> Move
 }
 
 #[inline(never)]
-pub fn item_rule(item: Item, c: u16) -> Move
-    requires { IsTrue (ItemFits item) }
-    ensures { result ≡ rules.item_rule item c }
+pub fn item_rule(item: &Item, c: u16) -> Move
+    requires { IsTrue (ItemFits item.now) }
+    ensures { result ≡ rules.item_rule item.now c }
 {
     match item {
         Item::Open => {
@@ -89,8 +89,8 @@ pub fn item_rule(item: Item, c: u16) -> Move
                 Move::Fail
             }
         }
-        Item::Number(value, digits) => number_rule(value, digits, c),
+        Item::Number(value, digits) => number_rule(*value, *digits, c),
         Item::LongOpen => long_open_rule(c),
-        Item::Long(value, digits) => long_rule(value, digits, c),
+        Item::Long(value, digits) => long_rule(*value, *digits, c),
     }
 }

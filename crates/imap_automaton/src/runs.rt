@@ -141,10 +141,12 @@ pub fn advance_run(stack: &mut Stack, octets: &[u8]) -> usize
     ensures run { run (Some (symbols_of stack.old)) (take result octets.now) ≡ Some (symbols_of stack.new) }
     ensures number { length (symbols_of stack.new) ≡ length (symbols_of stack.old) }
 {
-    let Some(symbol) = stack.pop() else {
+    let Some(symbol) = stack.first() else {
         return 0;
     };
     let (next, count) = run_of(symbol, octets);
-    stack.push(next);
+    if 0 < count {
+        stack.put(next);
+    }
     count
 }
