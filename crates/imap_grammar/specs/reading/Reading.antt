@@ -1,8 +1,8 @@
 -- How a spelling is read back: each function takes the octets from its place on. That it gives the spelled value is a
 -- law of this crate.
 use Rattle.std.specs.Prelude.{ℕ, zero, suc, ◌+◌, Bool, true, false, ◌&&◌, nat_lt, nat_le, ◌==◌, if◌then◌else◌, List, [], ◌∷◌, length, map, take, drop, get_or, codes, bytes_eq, Option, Some, None, unwrap_or}
-unfoldable pub use Rattle.imap_grammar.specs.Spans.{span, in_name, cap, count_from, number_from, long_in, number_in, names_in, flags_in}
-use Rattle.imap_grammar.specs.FolderReading.{list_in, status_in}
+unfoldable pub use Rattle.imap_grammar.specs.reading.Spans.{span, in_name, cap, count_from, number_from, long_in, number_in, names_in, flags_in}
+use Rattle.imap_grammar.specs.reading.FolderReading.{list_in, status_in}
 use Rattle.imap_syntax.specs.declared.response.Status.{Status}
 use Rattle.imap_syntax.specs.declared.response.Status.TheVariants as status
 use Rattle.imap_syntax.specs.declared.response.Response.{Response}
@@ -12,7 +12,7 @@ use Rattle.imap_syntax.specs.Octets.{is_digit, is_word, lower}
 use Rattle.imap_syntax.specs.UidSets.{range_of}
 use Rattle.imap_syntax.specs.Items.{no_items}
 use Rattle.imap_syntax.specs.ReadCodes.{code_in}
-unfoldable pub use Rattle.imap_grammar.specs.ItemReading.{value_in, item_in, items_in}
+unfoldable pub use Rattle.imap_grammar.specs.reading.ItemReading.{value_in, item_in, items_in}
 
 -- ---- words
 
