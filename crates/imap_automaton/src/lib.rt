@@ -18,7 +18,7 @@ mod sym;
 mod value_rule;
 mod word_rule;
 
-pub use runs::advance_run;
+pub use runs::advance_through;
 pub use stack::Stack;
 pub use step::advance;
 pub use sym::{

@@ -1,16 +1,17 @@
 // Runs of octets that one symbol takes: those of a word, of a number, of an atom.
-ghost use Rattle.std.specs.Prelude.{◌≡◌, ◌+◌, ◌≤◌, ◌&&◌, ◌∷◌, IsTrue, List, Some, length, take};
+ghost use Rattle.std.specs.Prelude.{◌≡◌, ◌+◌, ◌≤◌, ◌<◌, true, false, ◌&&◌, ◌∷◌, IsTrue, List, Some, length, take};
 ghost use Rattle.imap_automaton.specs.Keys as keywords;
 ghost use Rattle.imap_syntax.specs.Octets as classes;
 ghost use Rattle.imap_automaton.specs.Fits.{SymFits, ItemFits, LineFits};
-ghost use Rattle.imap_automaton.specs.Flow.{CanStep};
-ghost use Rattle.imap_automaton.specs.Run.{run, RunsTo};
+ghost use Rattle.imap_automaton.specs.Flow.{CanStep, Ready};
+ghost use Rattle.imap_automaton.specs.Run.{step, run, RunsTo};
 ghost use Rattle.imap_automaton.specs.Symbols.{symbols_of};
 
 use crate::class::{is_atom, lower};
 use crate::item_rule::{long_rule, number_rule};
 use crate::line_rule::sequence_rule;
 use crate::stack::Stack;
+use crate::step::rule;
 use crate::sym::{Item, Key, Line, Move, Names, Place, Sym};
 use crate::word_rule::{goes_on_itself, in_word};
 
@@ -133,9 +134,8 @@ fn run_of(symbol: Sym, octets: &[u8]) -> (Sym, usize)
     }
 }
 
-/// Takes a run of octets at the front, all outside literals, that the first symbol takes by itself: how many they are. It
-/// may be none where `advance` would take one.
-pub fn advance_run(stack: &mut Stack, octets: &[u8]) -> usize
+/// Takes a run of octets at the front that the first symbol takes by itself: how many they are.
+fn advance_run(stack: &mut Stack, octets: &[u8]) -> usize
     requires { CanStep (symbols_of stack.old) }
     ensures within { result ≤ length octets.now }
     ensures run { run (Some (symbols_of stack.old)) (take result octets.now) ≡ Some (symbols_of stack.new) }
@@ -147,6 +147,53 @@ pub fn advance_run(stack: &mut Stack, octets: &[u8]) -> usize
     let (next, count) = run_of(symbol, octets);
     if 0 < count {
         stack.put(next);
+    }
+    count
+}
+
+/// Takes an octet where it turns the first symbol into one or two. Where it does something else, nothing is changed.
+fn advance_within(stack: &mut Stack, c: u16) -> bool
+    requires { Ready (symbols_of stack.old) }
+    ensures taken { result ≡ true → step (symbols_of stack.old) c ≡ Some (symbols_of stack.new) }
+    ensures left { result ≡ false → symbols_of stack.new ≡ symbols_of stack.old }
+    ensures some { 0 < length (symbols_of stack.old) → 0 < length (symbols_of stack.new) }
+{
+    let Some(symbol) = stack.first() else {
+        return false;
+    };
+    match rule(&symbol, c) {
+        Move::One(a) => {
+            stack.put(a);
+            true
+        }
+        Move::Two(a, b) => {
+            stack.put(b);
+            stack.push(a);
+            true
+        }
+        _ => false,
+    }
+}
+
+/// Takes octets at the front, all outside literals, up to one that ends a symbol or that no text has there: how many they
+/// are. What they leave is for `advance`.
+pub fn advance_through(stack: &mut Stack, octets: &[u8]) -> usize
+    requires { Ready (symbols_of stack.old) }
+    ensures within { result ≤ length octets.now }
+    ensures run { run (Some (symbols_of stack.old)) (take result octets.now) ≡ Some (symbols_of stack.new) }
+    ensures some { 0 < length (symbols_of stack.old) → 0 < length (symbols_of stack.new) }
+{
+    let mut count: usize = 0;
+    while count < octets.len() {
+        let (_, rest) = octets.split_at(count);
+        count += advance_run(stack, rest);
+        if octets.len() <= count {
+            return count;
+        }
+        if !advance_within(stack, octets[count] as u16) {
+            return count;
+        }
+        count += 1;
     }
     count
 }

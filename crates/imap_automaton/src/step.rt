@@ -22,7 +22,7 @@ use crate::word_rule::word_rule;
 
 // Where it and the groups' rules are inlined, the tests of the octet for all symbols are made for each.
 #[inline(never)]
-fn rule(sym: &Sym, c: u16) -> Move
+pub fn rule(sym: &Sym, c: u16) -> Move
     requires { IsTrue (SymFits sym.now) }
     ensures { result ≡ rules.rule_of sym.now c }
 {

@@ -59,16 +59,16 @@ led_run (c ∷ cs) ss left out taken b each h e w =
     (subst (λ (n : ℕ). Led left (out + suc (length cs)) n ((b ++ c ∷ []) ++ cs)) taken_same
     (subst (λ (n : ℕ). Led left n (taken + 1 + length cs) ((b ++ c ∷ []) ++ cs)) out_same on))
 
-none_of : (ss : List Sym) → length ss ≡ 0 → ss ≡ []
-none_of [] e = refl
-none_of (s ∷ ss) e = absurd (omega (arith, e))
+some_of : (ss : List Sym) → (ss ≡ [] → ⊥) → 0 < length ss
+some_of [] ne = absurd (ne refl)
+some_of (s ∷ ss) ne = omega arith
 
-run_fed : (s new : Scanner) (b cs : List ℕ) → Fed s b → Each small cs → run (Some (symbols_of s.stack)) cs ≡ Some (symbols_of new.stack) → length (symbols_of new.stack) ≡ length (symbols_of s.stack) → new.outside ≡ s.outside + length cs → new.taken ≡ s.taken + length cs → s.outside + length cs ≤ limit → Fed new (b ++ cs)
-run_fed s new b cs h each e number out taken w =
+run_fed : (s new : Scanner) (b cs : List ℕ) → Fed s b → Each small cs → run (Some (symbols_of s.stack)) cs ≡ Some (symbols_of new.stack) → (0 < length (symbols_of s.stack) → 0 < length (symbols_of new.stack)) → new.outside ≡ s.outside + length cs → new.taken ≡ s.taken + length cs → s.outside + length cs ≤ limit → Fed new (b ++ cs)
+run_fed s new b cs h each e stays out taken w =
     let k = led_run cs (symbols_of s.stack) (symbols_of new.stack) s.outside s.taken b each (record { ready = h.ready; stands = h.stands; bound = h.bound }) e w in
     record {
       ready = k.ready;
-      more = λ none. h.more (none_of (symbols_of s.stack) (sym number ∙ ap (λ (q : List Sym). length q) none));
+      more = λ none. let some = stays (some_of (symbols_of s.stack) h.more) in omega (arith, some, ap (λ (q : List Sym). length q) none);
       stands = subst (λ (n : ℕ). Stands (symbols_of new.stack) n (b ++ cs)) (sym out) k.stands;
       taken = omega (arith, taken, h.taken, length-append b cs);
       bound = omega (arith, k.bound, taken, out);
@@ -91,8 +91,8 @@ front_most (suc n) [] = omega arith
 front_most (suc n) (c ∷ l) = let ih = front_most n l in omega (arith, ih)
 
 -- so many octets of a front that is within the limit
-pub run_some : (s new : Scanner) (b octets front rest : List ℕ) (k : ℕ) → Fed s b → ((i : ℕ) → get_or octets i 0 < 256) → front ≡ take (limit - s.outside) octets → k ≤ length front → run (Some (symbols_of s.stack)) (take k front) ≡ Some (symbols_of new.stack) → length (symbols_of new.stack) ≡ length (symbols_of s.stack) → new.outside ≡ s.outside + k → new.taken ≡ s.taken + k → rest ≡ drop k octets → FedUpTo new b octets rest
-run_some s new b octets front rest k h each is le e number out taken back =
+pub run_some : (s new : Scanner) (b octets front rest : List ℕ) (k : ℕ) → Fed s b → ((i : ℕ) → get_or octets i 0 < 256) → front ≡ take (limit - s.outside) octets → k ≤ length front → run (Some (symbols_of s.stack)) (take k front) ≡ Some (symbols_of new.stack) → (0 < length (symbols_of s.stack) → 0 < length (symbols_of new.stack)) → new.outside ≡ s.outside + k → new.taken ≡ s.taken + k → rest ≡ drop k octets → FedUpTo new b octets rest
+run_some s new b octets front rest k h each is le e stays out taken back =
     let room = limit - s.outside in
     let front_length : length front ≡ length (take room octets) = ap (λ (u : List ℕ). length u) is in
     let within : k ≤ room = omega (arith, le, front_length, front_len room octets) in
@@ -102,5 +102,5 @@ run_some s new b octets front rest k h each is le e number out taken back =
     record {
       front = take k octets;
       whole = sym (take-append-drop k octets) ∙ ap (λ (u : List ℕ). take k octets ++ u) (sym back);
-      fed = run_fed s new b (take k octets) h (small_front k octets each) (ap (run (Some (symbols_of s.stack))) (sym same) ∙ e) number (omega (arith, out, long)) (omega (arith, taken, long)) (omega (arith, long, within, h.stands.within));
+      fed = run_fed s new b (take k octets) h (small_front k octets each) (ap (run (Some (symbols_of s.stack))) (sym same) ∙ e) stays (omega (arith, out, long)) (omega (arith, taken, long)) (omega (arith, long, within, h.stands.within));
     }

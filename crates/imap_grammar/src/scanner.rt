@@ -1,7 +1,7 @@
 // Where a response ends (RFC 9051 section 9).
 use crate::answer::Scan;
 use crate::octets::{before, behind};
-use imap_automaton::{Line, Stack, Sym, advance, advance_run};
+use imap_automaton::{Line, Stack, Sym, advance, advance_through};
 
 /// Octets that may stand outside literals in one response.
 pub const LIMIT: u32 = 8_388_608;
@@ -105,14 +105,14 @@ impl Scanner {
         rest
     }
 
-    /// Takes a run of octets that one symbol takes: what follows them.
-    fn take_run<'a>(&mut self, octets: &'a [u8]) -> &'a [u8]
+    /// Takes octets that stand outside literals, as many as may be taken at once: what follows them.
+    fn take_many<'a>(&mut self, octets: &'a [u8]) -> &'a [u8]
         requires { (b : List ℕ) × Fed self.old b }
         ensures fed { (b : List ℕ) → Fed self.old b → FedUpTo self.new b octets.now result.now }
         ensures most { length result.now ≤ length octets.now }
     {
         let front = before(octets, (LIMIT - self.outside) as usize);
-        let count = advance_run(&mut self.stack, front);
+        let count = advance_through(&mut self.stack, front);
         self.outside += count as u32;
         self.taken += count;
         behind(octets, count)
@@ -128,7 +128,7 @@ impl Scanner {
         let mut rest = piece;
         'feeding: loop {
             let skipped = self.skip(rest);
-            let octets = self.take_run(skipped);
+            let octets = self.take_many(skipped);
             let Some((octet, after)) = octets.split_first() else {
                 return Scan::NeedMore;
             };
