@@ -87,7 +87,8 @@ key_short key.Dec = omega arith
 pub ruleset keys_short = (key_short)
 
 -- octets, and then one more or some more
-pub run_more : (ss left next : List Sym) (t : List ℕ) (i c : ℕ) → i < length t → get_or t i 0 ≡ c → run (Some ss) (take i t) ≡ Some left → step left c ≡ Some next → run (Some ss) (take (i + 1) t) ≡ Some next
+pub run_more : (ss left next : List Sym) (t : List ℕ) (i c : ℕ) → i < length t → get_or t i 0 ≡ c → run (Some ss) (take i t) ≡ Some left → step left c ≡ Some next
+    → run (Some ss) (take (i + 1) t) ≡ Some next
 run_more ss left next t i c lt at h e =
     ap (run (Some ss)) (take_next t i c lt at)
     ∙ run_append (take i t) (c ∷ []) (Some ss)
@@ -103,7 +104,8 @@ take_sum zero k t = let e : 0 + k ≡ k = omega arith in ap (λ (n : ℕ). take 
 take_sum (suc i) k [] = let e : suc i + k ≡ suc (i + k) = omega arith in ap (λ (n : ℕ). take n []) e ∙ sym (none_taken k)
 take_sum (suc i) k (c ∷ t) = let e : suc i + k ≡ suc (i + k) = omega arith in ap (λ (n : ℕ). take n (c ∷ t)) e ∙ ap (λ (u : List ℕ). c ∷ u) (take_sum i k t)
 
-pub run_on : (ss left next : List Sym) (t : List ℕ) (i k : ℕ) → run (Some ss) (take i t) ≡ Some left → run (Some left) (take k (drop i t)) ≡ Some next → run (Some ss) (take (i + k) t) ≡ Some next
+pub run_on : (ss left next : List Sym) (t : List ℕ) (i k : ℕ) → run (Some ss) (take i t) ≡ Some left → run (Some left) (take k (drop i t)) ≡ Some next
+    → run (Some ss) (take (i + k) t) ≡ Some next
 run_on ss left next t i k h e =
     ap (run (Some ss)) (take_sum i k t)
     ∙ run_append (take i t) (take k (drop i t)) (Some ss)

@@ -308,22 +308,14 @@ fn behind_key(place: Place, key: Key, c: u16) -> Move
     ensures { result ≡ rules.behind_key place key c }
 {
     match (place, key) {
-        (Place::Tagged, Key::Ok) => rest_rule(c),
-        (Place::Tagged, Key::No) => rest_rule(c),
-        (Place::Tagged, Key::Bad) => rest_rule(c),
-        (Place::Plain, Key::Ok) => rest_rule(c),
-        (Place::Plain, Key::No) => rest_rule(c),
-        (Place::Plain, Key::Bad) => rest_rule(c),
-        (Place::Plain, Key::Preauth) => rest_rule(c),
-        (Place::Plain, Key::Bye) => rest_rule(c),
-        (Place::Plain, Key::Capability) => words_more(c),
-        (Place::Plain, Key::Enabled) => words_more(c),
+        (Place::Tagged, Key::Ok | Key::No | Key::Bad) => rest_rule(c),
+        (Place::Plain, Key::Ok | Key::No | Key::Bad | Key::Preauth | Key::Bye) => rest_rule(c),
+        (Place::Plain, Key::Capability | Key::Enabled) => words_more(c),
         (Place::Plain, Key::Flags) => flags_rule(c),
         (Place::Plain, Key::Vanished) => spaced_rule(Sym::Set(Set::Open), c),
         (Place::Plain, Key::List) => list_rule(c),
         (Place::Plain, Key::Status) => status_rule(c),
-        (Place::Numbered, Key::Exists) => end_rule(c),
-        (Place::Numbered, Key::Expunge) => end_rule(c),
+        (Place::Numbered, Key::Exists | Key::Expunge) => end_rule(c),
         (Place::Numbered, Key::Fetch) => spaced_rule(Sym::Item(Item::Open), c),
         (Place::Item, Key::Uid) => spaced_rule(Sym::Item(Item::Number(0, 0)), c),
         (Place::Item, Key::Flags) => spaced_rule(Sym::Names(Names::Open), c),
@@ -331,10 +323,9 @@ fn behind_key(place: Place, key: Key, c: u16) -> Move
         (Place::Item, Key::InternalDate) => spaced_rule(Sym::Date(Date::Open), c),
         (Place::Month, _) => time_rule(0, c),
         (Place::Item, Key::Size) => spaced_rule(Sym::Item(Item::Long(0, 0)), c),
-        (Place::Item, Key::Header) => spaced_rule(Sym::Str(Str::NString), c),
-        (Place::Item, Key::HeaderPart) => spaced_rule(Sym::Str(Str::NString), c),
-        (Place::Item, Key::Body) => spaced_rule(Sym::Str(Str::NString), c),
-        (Place::Item, Key::BodyPart) => spaced_rule(Sym::Str(Str::NString), c),
+        (Place::Item, Key::Header | Key::HeaderPart | Key::Body | Key::BodyPart) => {
+            spaced_rule(Sym::Str(Str::NString), c)
+        }
         _ => Move::Fail,
     }
 }

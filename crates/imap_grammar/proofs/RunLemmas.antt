@@ -30,7 +30,8 @@ cost_one ss c e = by (inside_top ss) e
     by true f = absurd (omega (arith, f))
     by false f = refl
 
-led_step : (ss left : List Sym) (out taken c : ℕ) (b : List ℕ) → c < 256 → Led ss out taken b → step ss c ≡ Some left → out + 1 ≤ limit → Led left (out + 1) (taken + 1) (b ++ c ∷ [])
+led_step : (ss left : List Sym) (out taken c : ℕ) (b : List ℕ) → c < 256 → Led ss out taken b → step ss c ≡ Some left → out + 1 ≤ limit
+    → Led left (out + 1) (taken + 1) (b ++ c ∷ [])
 led_step ss left out taken c b lt h e w =
     let is : c ≡ mark ss c = forced false ss left c h.ready.0 e ∙ ap (mark ss) (plain_small c (lt-ltb c 256 lt)) in
     let one : cost ss ≡ 1 = cost_one ss c is in
@@ -40,7 +41,8 @@ led_step ss left out taken c b lt h e w =
       bound = bound_keeps (inside_top ss) taken out 1 (left_of ss) (left_of left) (sym one) (step_left ss c left h.ready.0 e) h.bound;
     }
 
-led_run : (cs : List ℕ) (ss left : List Sym) (out taken : ℕ) (b : List ℕ) → Each small cs → Led ss out taken b → run (Some ss) cs ≡ Some left → out + length cs ≤ limit → Led left (out + length cs) (taken + length cs) (b ++ cs)
+led_run : (cs : List ℕ) (ss left : List Sym) (out taken : ℕ) (b : List ℕ) → Each small cs → Led ss out taken b → run (Some ss) cs ≡ Some left → out + length cs ≤ limit
+    → Led left (out + length cs) (taken + length cs) (b ++ cs)
 led_run [] ss left out taken b each h e w =
     let same : ss ≡ left = same_Some ss left e in
     let out_same : out ≡ out + 0 = omega arith in
@@ -63,7 +65,9 @@ some_of : (ss : List Sym) → (ss ≡ [] → ⊥) → 0 < length ss
 some_of [] ne = absurd (ne refl)
 some_of (s ∷ ss) ne = omega arith
 
-run_fed : (s new : Scanner) (b cs : List ℕ) → Fed s b → Each small cs → run (Some (symbols_of s.stack)) cs ≡ Some (symbols_of new.stack) → (0 < length (symbols_of s.stack) → 0 < length (symbols_of new.stack)) → new.outside ≡ s.outside + length cs → new.taken ≡ s.taken + length cs → s.outside + length cs ≤ limit → Fed new (b ++ cs)
+run_fed : (s new : Scanner) (b cs : List ℕ) → Fed s b → Each small cs → run (Some (symbols_of s.stack)) cs ≡ Some (symbols_of new.stack)
+    → (0 < length (symbols_of s.stack) → 0 < length (symbols_of new.stack)) → new.outside ≡ s.outside + length cs → new.taken ≡ s.taken + length cs
+    → s.outside + length cs ≤ limit → Fed new (b ++ cs)
 run_fed s new b cs h each e stays out taken w =
     let k = led_run cs (symbols_of s.stack) (symbols_of new.stack) s.outside s.taken b each (record { ready = h.ready; stands = h.stands; bound = h.bound }) e w in
     record {
@@ -91,7 +95,10 @@ front_most (suc n) [] = omega arith
 front_most (suc n) (c ∷ l) = let ih = front_most n l in omega (arith, ih)
 
 -- so many octets of a front that is within the limit
-pub run_some : (s new : Scanner) (b octets front rest : List ℕ) (k : ℕ) → Fed s b → ((i : ℕ) → get_or octets i 0 < 256) → front ≡ take (limit - s.outside) octets → k ≤ length front → run (Some (symbols_of s.stack)) (take k front) ≡ Some (symbols_of new.stack) → (0 < length (symbols_of s.stack) → 0 < length (symbols_of new.stack)) → new.outside ≡ s.outside + k → new.taken ≡ s.taken + k → rest ≡ drop k octets → FedUpTo new b octets rest
+pub run_some : (s new : Scanner) (b octets front rest : List ℕ) (k : ℕ) → Fed s b → ((i : ℕ) → get_or octets i 0 < 256) → front ≡ take (limit - s.outside) octets
+    → k ≤ length front → run (Some (symbols_of s.stack)) (take k front) ≡ Some (symbols_of new.stack)
+    → (0 < length (symbols_of s.stack) → 0 < length (symbols_of new.stack)) → new.outside ≡ s.outside + k → new.taken ≡ s.taken + k → rest ≡ drop k octets
+    → FedUpTo new b octets rest
 run_some s new b octets front rest k h each is le e stays out taken back =
     let room = limit - s.outside in
     let front_length : length front ≡ length (take room octets) = ap (λ (u : List ℕ). length u) is in

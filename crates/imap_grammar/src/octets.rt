@@ -37,7 +37,7 @@ pub fn octet_at(bytes: &[u8], at: usize) -> u8
 fn is_word(c: u8) -> bool
     ensures { result ≡ classes.is_word c }
 {
-    33 <= c && c <= 126
+    b'!' <= c && c <= b'~'
 }
 
 /// Whether the octet is a decimal digit.
