@@ -224,7 +224,7 @@ among_keys p k x m (inr h) = h
 
 -- ---- a key that goes on
 
-take_next : (t : List ℕ) (i c : ℕ) → i < length t → get_or t i 0 ≡ c → take (i + 1) t ≡ take i t ++ c ∷ []
+pub take_next : (t : List ℕ) (i c : ℕ) → i < length t → get_or t i 0 ≡ c → take (i + 1) t ≡ take i t ++ c ∷ []
 take_next t i c lt e = grind (arith, common_steps)
 
 pub goes_to : (k x : Key) (at c : ℕ) → goes_on k at c x ≡ true → (take (at + 1) (key_text x) ≡ take at (key_text k) ++ c ∷ []) × (at + 1 ≤ length (key_text x))

@@ -28,3 +28,4 @@ pub mod Kept
 pub mod Whole
 pub mod Marks
 pub mod Skips
+pub mod RunLemmas

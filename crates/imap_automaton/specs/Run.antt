@@ -1,5 +1,5 @@
 -- What texts do to the symbols of a stack.
-use Rattle.std.specs.Prelude.{ℕ, ◌+◌, ◌-◌, Bool, true, false, if◌then◌else◌, List, [], ◌∷◌, Option, Some, None}
+use Rattle.std.specs.Prelude.{◌≡◌, ℕ, ◌+◌, ◌-◌, Bool, true, false, if◌then◌else◌, List, [], ◌∷◌, Option, Some, None}
 use Rattle.imap_automaton.specs.declared.sym.Line.TheVariants as line
 use Rattle.imap_automaton.specs.declared.sym.Free.TheVariants as free
 use Rattle.imap_automaton.specs.declared.sym.Sym.{Sym}
@@ -30,6 +30,10 @@ stepped (Some ss) c = step ss c
 abbrev pub run : Option (List Sym) → List ℕ → Option (List Sym)
 run state [] = state
 run state (c ∷ t) = run (stepped state c) t
+
+-- after the octets the symbol is the other one, whatever symbols follow it
+abbrev pub RunsTo : Sym → List ℕ → Sym → Type 0
+RunsTo s t a = (ss : List Sym) → run (Some (s ∷ ss)) t ≡ Some (a ∷ ss)
 
 abbrev pub is_octets : Sym → Bool
 is_octets (sym.Free (free.Octets n)) = true

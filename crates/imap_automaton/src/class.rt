@@ -27,7 +27,7 @@ pub fn is_text(c: u16) -> bool
 pub fn is_word(c: u16) -> bool
     ensures { result ≡ octets.is_word c }
 {
-    33 <= c && c <= 126
+    b'!' as u16 <= c && c <= b'~' as u16
 }
 
 pub fn is_status_word(c: u16) -> bool

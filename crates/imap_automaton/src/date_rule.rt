@@ -65,8 +65,8 @@ pub fn time_rule(at: u8, c: u16) -> Move
 }
 
 #[inline(never)]
-pub fn date_rule(date: Date, c: u16) -> Move
-    ensures { result ≡ rules.date_rule date c }
+pub fn date_rule(date: &Date, c: u16) -> Move
+    ensures { result ≡ rules.date_rule date.now c }
 {
     match date {
         Date::Open => {
@@ -76,7 +76,7 @@ pub fn date_rule(date: Date, c: u16) -> Move
                 Move::Fail
             }
         }
-        Date::Day(at) => day_rule(at, c),
-        Date::Time(at) => time_rule(at, c),
+        Date::Day(at) => day_rule(*at, c),
+        Date::Time(at) => time_rule(*at, c),
     }
 }

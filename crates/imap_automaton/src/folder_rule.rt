@@ -135,8 +135,8 @@ fn octet_rule(octet: u8, next: Folder, c: u16) -> Move
 }
 
 #[inline(never)]
-pub fn folder_rule(folder: Folder, c: u16) -> Move
-    ensures { result ≡ rules.folder_rule folder c }
+pub fn folder_rule(folder: &Folder, c: u16) -> Move
+    ensures { result ≡ rules.folder_rule folder.now c }
 {
     match folder {
         Folder::Attributes => attributes_rule(c),

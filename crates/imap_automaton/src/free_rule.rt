@@ -115,13 +115,13 @@ fn octets_rule(n: u32, c: u16) -> Move
 }
 
 #[inline(never)]
-pub fn free_rule(free: Free, c: u16) -> Move
-    requires { IsTrue (FreeFits free) }
-    ensures { result ≡ rules.free_rule free c }
+pub fn free_rule(free: &Free, c: u16) -> Move
+    requires { IsTrue (FreeFits free.now) }
+    ensures { result ≡ rules.free_rule free.now c }
 {
     match free {
-        Free::Text(pending) => text_rule(pending, c),
-        Free::Break(n) => break_rule(n, c),
-        Free::Octets(n) => octets_rule(n, c),
+        Free::Text(pending) => text_rule(*pending, c),
+        Free::Break(n) => break_rule(*n, c),
+        Free::Octets(n) => octets_rule(*n, c),
     }
 }

@@ -12,7 +12,7 @@ pub const NUMBER_DIGITS: u8 = 10;
 /// A word of an item, from its first octet on.
 const ITEM_START: Sym = Sym::Word(Place::Item, Key::Uid, 0);
 
-fn number_rule(value: u32, digits: u8, c: u16) -> Move
+pub fn number_rule(value: u32, digits: u8, c: u16) -> Move
     requires { IsTrue (ItemFits (Item.Number value digits)) }
     ensures { result ≡ rules.number_rule value digits c }
 {
@@ -36,7 +36,7 @@ fn number_rule(value: u32, digits: u8, c: u16) -> Move
 /// Digits of a long number.
 const LONG_DIGITS: u8 = 19;
 
-fn long_rule(value: u64, digits: u8, c: u16) -> Move
+pub fn long_rule(value: u64, digits: u8, c: u16) -> Move
     requires { IsTrue (ItemFits (Item.Long value digits)) }
     ensures { result ≡ rules.long_rule value digits c }
 {
@@ -68,9 +68,9 @@ fn long_open_rule(c: u16) -> Move
 }
 
 #[inline(never)]
-pub fn item_rule(item: Item, c: u16) -> Move
-    requires { IsTrue (ItemFits item) }
-    ensures { result ≡ rules.item_rule item c }
+pub fn item_rule(item: &Item, c: u16) -> Move
+    requires { IsTrue (ItemFits item.now) }
+    ensures { result ≡ rules.item_rule item.now c }
 {
     match item {
         Item::Open => {
@@ -89,8 +89,8 @@ pub fn item_rule(item: Item, c: u16) -> Move
                 Move::Fail
             }
         }
-        Item::Number(value, digits) => number_rule(value, digits, c),
+        Item::Number(value, digits) => number_rule(*value, *digits, c),
         Item::LongOpen => long_open_rule(c),
-        Item::Long(value, digits) => long_rule(value, digits, c),
+        Item::Long(value, digits) => long_rule(*value, *digits, c),
     }
 }

@@ -9,6 +9,7 @@ mod item_name_rule;
 mod item_rule;
 mod line_rule;
 mod names_rule;
+mod runs;
 mod set_rule;
 mod stack;
 mod step;
@@ -17,6 +18,7 @@ mod sym;
 mod value_rule;
 mod word_rule;
 
+pub use runs::advance_through;
 pub use stack::Stack;
 pub use step::advance;
 pub use sym::{

@@ -71,7 +71,7 @@ fn untagged_rule(c: u16) -> Move
     }
 }
 
-fn sequence_rule(value: u32, digits: u8, c: u16) -> Move
+pub fn sequence_rule(value: u32, digits: u8, c: u16) -> Move
     ensures { result ≡ rules.sequence_rule value digits c }
 {
     if is_digit(c)
@@ -133,17 +133,17 @@ fn folded_rule(phrase: Phrase, at: u8, c: u16) -> Move
 }
 
 #[inline(never)]
-pub fn line_rule(line: Line, c: u16) -> Move
-    requires { IsTrue (LineFits line) }
-    ensures { result ≡ rules.line_rule line c }
+pub fn line_rule(line: &Line, c: u16) -> Move
+    requires { IsTrue (LineFits line.now) }
+    ensures { result ≡ rules.line_rule line.now c }
 {
     match line {
         Line::Start => start_rule(c),
-        Line::Tag(n) => tag_rule(n, c),
+        Line::Tag(n) => tag_rule(*n, c),
         Line::Untagged => untagged_rule(c),
-        Line::Sequence(value, digits) => sequence_rule(value, digits, c),
+        Line::Sequence(value, digits) => sequence_rule(*value, *digits, c),
         Line::Text => text_line_rule(c),
-        Line::Fixed(phrase, at) => fixed_rule(phrase, at, c),
-        Line::Folded(phrase, at) => folded_rule(phrase, at, c),
+        Line::Fixed(phrase, at) => fixed_rule(*phrase, *at, c),
+        Line::Folded(phrase, at) => folded_rule(*phrase, *at, c),
     }
 }

@@ -27,8 +27,8 @@ pub fn words_more(c: u16) -> Move
 }
 
 #[inline(never)]
-pub fn words_rule(words: Words, c: u16) -> Move
-    ensures { result ≡ rules.words_rule words c }
+pub fn words_rule(words: &Words, c: u16) -> Move
+    ensures { result ≡ rules.words_rule words.now c }
 {
     match words {
         Words::More => words_more(c),
@@ -86,9 +86,9 @@ fn set_number(value: u32, digits: u8, second: bool, c: u16) -> Move
 }
 
 #[inline(never)]
-pub fn set_rule(set: Set, c: u16) -> Move
-    requires { IsTrue (SetFits set) }
-    ensures { result ≡ rules.set_rule set c }
+pub fn set_rule(set: &Set, c: u16) -> Move
+    requires { IsTrue (SetFits set.now) }
+    ensures { result ≡ rules.set_rule set.now c }
 {
     match set {
         Set::Open => {
@@ -98,6 +98,6 @@ pub fn set_rule(set: Set, c: u16) -> Move
                 set_number(0, 0, false, c)
             }
         }
-        Set::Number(value, digits, second) => set_number(value, digits, second, c),
+        Set::Number(value, digits, second) => set_number(*value, *digits, *second, c),
     }
 }

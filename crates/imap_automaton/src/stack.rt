@@ -15,7 +15,7 @@ pub struct Stack {
 ghost use Rattle.std.specs.Prelude.{◌≤◌, ◌≡◌, length};
 
 impl Stack {
-    ghost use Rattle.std.specs.Prelude.{◌<◌, List, [], ◌∷◌, MatchOption, IsTrue, ◌↔◌};
+    ghost use Rattle.std.specs.Prelude.{◌<◌, drop, List, [], ◌∷◌, MatchOption, IsTrue, ◌↔◌};
     ghost use Rattle.imap_automaton.specs.Symbols.{symbols_of};
     ghost use Rattle.imap_automaton.specs.Run.{inside_left, inside_top, skipped};
 
@@ -46,6 +46,25 @@ impl Stack {
         } else {
             None
         }
+    }
+
+    /// The symbol that is read first.
+    pub fn first(&self) -> Option<Sym>
+        ensures { MatchOption result (symbols_of self.now ≡ []) (λ s. symbols_of self.now ≡ s ∷ drop 1 (symbols_of self.now)) }
+    {
+        if self.top < ROOM {
+            Some(self.symbols[self.top])
+        } else {
+            None
+        }
+    }
+
+    /// Puts a symbol in the place of the first.
+    pub fn put(&mut self, symbol: Sym)
+        requires { 0 < length (symbols_of self.old) }
+        ensures { symbols_of self.new ≡ symbol ∷ drop 1 (symbols_of self.old) }
+    {
+        self.symbols[self.top] = symbol;
     }
 
     /// Whether the next octet stands within a literal.

@@ -22,18 +22,18 @@ use crate::word_rule::word_rule;
 
 // Where it and the groups' rules are inlined, the tests of the octet for all symbols are made for each.
 #[inline(never)]
-fn rule(sym: Sym, c: u16) -> Move
-    requires { IsTrue (SymFits sym) }
-    ensures { result ≡ rules.rule_of sym c }
+pub fn rule(sym: &Sym, c: u16) -> Move
+    requires { IsTrue (SymFits sym.now) }
+    ensures { result ≡ rules.rule_of sym.now c }
 {
     match sym {
         Sym::Line(line) => line_rule(line, c),
-        Sym::Word(place, key, at) => word_rule(place, key, at, c),
+        Sym::Word(place, key, at) => word_rule(*place, *key, *at, c),
         Sym::Free(free) => free_rule(free, c),
         Sym::Item(item) => item_rule(item, c),
         Sym::Names(names) => names_rule(names, c),
         Sym::Date(date) => date_rule(date, c),
-        Sym::ItemName(name) => item_name_rule(name, c),
+        Sym::ItemName(name) => item_name_rule(*name, c),
         Sym::Words(words) => words_rule(words, c),
         Sym::Set(set) => set_rule(set, c),
         Sym::Str(string) => string_rule(string, c),
@@ -49,7 +49,7 @@ pub fn advance(stack: &mut Stack, c: u16) -> bool
     ensures { step (symbols_of stack.old) c ≡ (if result then Some (symbols_of stack.new) else None) }
 {
     while let Some(symbol) = stack.pop() {
-        match rule(symbol, c) {
+        match rule(&symbol, c) {
             Move::Fail => return false,
             Move::Yield => {}
             Move::End => return true,

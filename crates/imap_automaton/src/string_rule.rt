@@ -137,9 +137,9 @@ fn brace_rule(n: u32, c: u16) -> Move
 }
 
 #[inline(never)]
-pub fn string_rule(string: Str, c: u16) -> Move
-    requires { IsTrue (StrFits string) }
-    ensures { result ≡ rules.string_rule string c }
+pub fn string_rule(string: &Str, c: u16) -> Move
+    requires { IsTrue (StrFits string.now) }
+    ensures { result ≡ rules.string_rule string.now c }
 {
     match string {
         Str::NString => nstring_rule(c),
@@ -148,7 +148,7 @@ pub fn string_rule(string: Str, c: u16) -> Move
         Str::Escaped => escaped_rule(c),
         Str::Tilde => tilde_rule(c),
         Str::AtomTilde => atom_tilde_rule(c),
-        Str::Count(value, digits) => count_rule(value, digits, c),
-        Str::Brace(n) => brace_rule(n, c),
+        Str::Count(value, digits) => count_rule(*value, *digits, c),
+        Str::Brace(n) => brace_rule(*n, c),
     }
 }

@@ -68,14 +68,14 @@ fn more_rule(within: u8, c: u16) -> Move
 }
 
 #[inline(never)]
-pub fn value_rule(value: Value, c: u16) -> Move
-    requires { IsTrue (ValueFits value) }
-    ensures { result ≡ rules.value_rule value c }
+pub fn value_rule(value: &Value, c: u16) -> Move
+    requires { IsTrue (ValueFits value.now) }
+    ensures { result ≡ rules.value_rule value.now c }
 {
     match value {
         Value::Start => start_rule(c),
-        Value::First(within) => first_rule(within, c),
-        Value::Next(within) => inner_rule(within, c),
-        Value::More(within) => more_rule(within, c),
+        Value::First(within) => first_rule(*within, c),
+        Value::Next(within) => inner_rule(*within, c),
+        Value::More(within) => more_rule(*within, c),
     }
 }

@@ -125,7 +125,7 @@ pub fn first_key(place: Place) -> Key
     }
 }
 
-fn in_word(place: Place, c: u16) -> bool
+pub fn in_word(place: Place, c: u16) -> bool
     ensures { result ≡ keywords.in_word place c }
 {
     match place {
@@ -160,11 +160,10 @@ fn goes_on(key: Key, at: u8, c: u16, candidate: Key) -> bool
 
 /// Whether the key itself goes on with the octet.
 #[tactic(auto, using(crate::proofs::KeyLemmas::selves))]
-fn goes_on_itself(key: Key, at: u8, c: u16) -> bool
+pub fn goes_on_itself(key: Key, at: usize, c: u16) -> bool
     ensures { result ≡ keywords.goes_on key at c key }
 {
     let text = key_text(key);
-    let at = at as usize;
     at < text.len() && text[at] as u16 == c
 }
 
@@ -186,7 +185,7 @@ fn next_key(place: Place, key: Key, at: u8, c: u16) -> Option<Key>
     requires { at ≤ length (keywords.key_text key) }
     ensures { result ≡ keywords.next_key place key at c }
 {
-    if goes_on_itself(key, at, c) {
+    if goes_on_itself(key, at as usize, c) {
         Some(key)
     } else {
         first_that_goes_on(keys(place), key, at, c)
@@ -309,22 +308,14 @@ fn behind_key(place: Place, key: Key, c: u16) -> Move
     ensures { result ≡ rules.behind_key place key c }
 {
     match (place, key) {
-        (Place::Tagged, Key::Ok) => rest_rule(c),
-        (Place::Tagged, Key::No) => rest_rule(c),
-        (Place::Tagged, Key::Bad) => rest_rule(c),
-        (Place::Plain, Key::Ok) => rest_rule(c),
-        (Place::Plain, Key::No) => rest_rule(c),
-        (Place::Plain, Key::Bad) => rest_rule(c),
-        (Place::Plain, Key::Preauth) => rest_rule(c),
-        (Place::Plain, Key::Bye) => rest_rule(c),
-        (Place::Plain, Key::Capability) => words_more(c),
-        (Place::Plain, Key::Enabled) => words_more(c),
+        (Place::Tagged, Key::Ok | Key::No | Key::Bad) => rest_rule(c),
+        (Place::Plain, Key::Ok | Key::No | Key::Bad | Key::Preauth | Key::Bye) => rest_rule(c),
+        (Place::Plain, Key::Capability | Key::Enabled) => words_more(c),
         (Place::Plain, Key::Flags) => flags_rule(c),
         (Place::Plain, Key::Vanished) => spaced_rule(Sym::Set(Set::Open), c),
         (Place::Plain, Key::List) => list_rule(c),
         (Place::Plain, Key::Status) => status_rule(c),
-        (Place::Numbered, Key::Exists) => end_rule(c),
-        (Place::Numbered, Key::Expunge) => end_rule(c),
+        (Place::Numbered, Key::Exists | Key::Expunge) => end_rule(c),
         (Place::Numbered, Key::Fetch) => spaced_rule(Sym::Item(Item::Open), c),
         (Place::Item, Key::Uid) => spaced_rule(Sym::Item(Item::Number(0, 0)), c),
         (Place::Item, Key::Flags) => spaced_rule(Sym::Names(Names::Open), c),
@@ -332,10 +323,9 @@ fn behind_key(place: Place, key: Key, c: u16) -> Move
         (Place::Item, Key::InternalDate) => spaced_rule(Sym::Date(Date::Open), c),
         (Place::Month, _) => time_rule(0, c),
         (Place::Item, Key::Size) => spaced_rule(Sym::Item(Item::Long(0, 0)), c),
-        (Place::Item, Key::Header) => spaced_rule(Sym::Str(Str::NString), c),
-        (Place::Item, Key::HeaderPart) => spaced_rule(Sym::Str(Str::NString), c),
-        (Place::Item, Key::Body) => spaced_rule(Sym::Str(Str::NString), c),
-        (Place::Item, Key::BodyPart) => spaced_rule(Sym::Str(Str::NString), c),
+        (Place::Item, Key::Header | Key::HeaderPart | Key::Body | Key::BodyPart) => {
+            spaced_rule(Sym::Str(Str::NString), c)
+        }
         _ => Move::Fail,
     }
 }

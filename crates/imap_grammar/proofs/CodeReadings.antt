@@ -1,5 +1,5 @@
 -- What the code of a status line is read of: numbers and sets of UIDs.
-use Rattle.std.proofs.Common.{◌≡◌, ℕ, zero, suc, ◌+◌, ◌-◌, ◌<◌, ◌≤◌, Bool, true, false, ◌&&◌, List, [], ◌∷◌, ◌++◌, length, refl, sym, ap, ◌∙◌, append_assoc, arith, Option, Some, None}
+use Rattle.std.proofs.Common.{◌≡◌, ℕ, zero, suc, ◌-◌, ◌<◌, ◌≤◌, Bool, true, false, ◌&&◌, List, [], ◌∷◌, ◌++◌, length, refl, sym, ap, ◌∙◌, append_assoc, arith, Option, Some, None}
 use Rattle.std.specs.Prelude.{nat_lt, nat_le}
 use Rattle.std.proofs.lemmas.Bool.{and_parts, and_from, ltb-true, leb-true, lt-ltb, le-leb}
 use Rattle.imap_automaton.proofs.Tests.{both}
@@ -7,8 +7,8 @@ use Rattle.imap_syntax.specs.declared.uid_set.UidRange.{UidRange}
 use Rattle.imap_syntax.specs.Numbers.{value_from, IsNonZero, IsLong}
 use Rattle.imap_syntax.specs.ReadCodes.{cut, nonzero_in, long_in, range_in, one_in_set, more_in_set, ranges_in}
 use Rattle.imap_syntax.proofs.CodeLemmas.{nonzero_sound, nonzero_complete, long_sound, long_complete}
-use Rattle.imap_grammar.specs.Codes.{put_ranges}
-use Rattle.imap_grammar.specs.Reading as reading
+use Rattle.imap_grammar.specs.reading.Codes.{put_ranges}
+use Rattle.imap_grammar.specs.reading.Reading as reading
 use Rattle.imap_grammar.proofs.Cuts.{number_is, long_is, long_capped, within_cap}
 use Rattle.imap_grammar.proofs.Readings.{sequence_true, true_sequence, digits_true, true_digits}
 

@@ -1,12 +1,12 @@
 -- Sets of owned names, and lists of names.
-use Rattle.std.proofs.Common.{◌≡◌, ℕ, zero, suc, ◌+◌, ◌-◌, ◌<◌, true, false, List, [], ◌∷◌, map, take, drop, get_or, Vec, Global, refl, ap, ◌∙◌, arith, nat_cmp, Ordering, Less, Equal, Greater}
+use Rattle.std.proofs.Common.{◌≡◌, ℕ, zero, suc, ◌+◌, ◌-◌, ◌<◌, true, false, List, [], ◌∷◌, length, map, take, drop, get_or, Vec, Global, refl, ap, ◌∙◌, arith, nat_cmp, Ordering, Less, Equal, Greater}
 use Rattle.std.specs.Cmp.Lexicographic.{slice_cmp}
 use Rattle.std.specs.Ordering.{match_ordering}
 use Rattle.std.specs.BTreeSet.{insert_key}
 use Rattle.std.specs.Prelude.{◌==◌}
 use Rattle.std.proofs.lemmas.Bool.{cond-true, cond-false}
 use Rattle.imap_grammar.proofs.Lengths.{less_one}
-use Rattle.imap_grammar.specs.Reading.{span, in_name, names_in}
+use Rattle.imap_grammar.specs.reading.Reading.{span, in_name, names_in, flags_in}
 use Rattle.imap_syntax.specs.Octets.{lower}
 use Rattle.imap_syntax.specs.Items.{add_name}
 
@@ -35,3 +35,8 @@ unfolding names_in
 names_last zero so_far b lt e = absurd (omega (arith, lt))
 names_last (suc left) so_far b lt e =
     cond-false (get_or b (span in_name b) 0 == 32) (names_in left (add_name so_far (map lower (take (span in_name b) b))) (drop (span in_name b + 1) b)) (add_name so_far (map lower (take (span in_name b) b)), drop (span in_name b + 1) b) e
+
+-- one name alone
+pub flags_one : (b : List ℕ) → (get_or b 0 0 == 41) ≡ false → 0 < length b → (get_or b (span in_name b) 0 == 32) ≡ false → flags_in b ≡ (add_name [] (map lower (take (span in_name b) b)), drop (span in_name b + 1) b)
+unfolding flags_in
+flags_one b begun some alone = cond-false (get_or b 0 0 == 41) ([], drop 1 b) (names_in (length b) [] b) begun ∙ names_last (length b) [] b some alone

@@ -16,10 +16,10 @@ use Rattle.imap_automaton.proofs.KeyLemmas.{same_text}
 use Rattle.imap_automaton.proofs.Lists.{cons_head, cons_tail}
 use Rattle.imap_automaton.proofs.ItemEdges.{stop_no_digit, item_to}
 use Rattle.imap_automaton.proofs.OtherItems.{named_atoms, other_word}
-use Rattle.imap_grammar.specs.Spans.{span, number_in, long_in}
-use Rattle.imap_grammar.specs.StringReading.{astring_in}
-use Rattle.imap_grammar.specs.ItemReading.{nstring_in, is_header, is_body, is_told, text_in, value_in, item_in, items_in}
-use Rattle.imap_grammar.specs.Passing.{passed}
+use Rattle.imap_grammar.specs.reading.Spans.{span, number_in, long_in}
+use Rattle.imap_grammar.specs.reading.StringReading.{astring_in}
+use Rattle.imap_grammar.specs.reading.ItemReading.{nstring_in, is_header, is_body, is_told, text_in, value_in, item_in, items_in}
+use Rattle.imap_grammar.specs.reading.Passing.{passed}
 use Rattle.imap_grammar.proofs.DateReadings.{date_read}
 use Rattle.imap_grammar.proofs.StringReadings.{astring_read}
 use Rattle.imap_grammar.proofs.PassingReadings.{item_passed}

@@ -18,3 +18,4 @@ pub mod Pieces
 pub mod DateLemmas
 pub mod CodeReadings
 pub mod Skipping
+pub mod RunLemmas

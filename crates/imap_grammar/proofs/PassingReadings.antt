@@ -18,7 +18,7 @@ use Rattle.imap_automaton.proofs.Kept.{yield_open}
 use Rattle.imap_automaton.proofs.Whole.{keeps, room_keeps, good_fits, forth, open_begins}
 use Rattle.imap_automaton.proofs.Marks.{open_no_octets, forced}
 use Rattle.imap_automaton.proofs.Skips.{step_inside, ready_fewer}
-use Rattle.imap_grammar.specs.Passing.{beyond, passed}
+use Rattle.imap_grammar.specs.reading.Passing.{beyond, passed}
 use Rattle.imap_syntax.specs.Texts.{plain_of, plain}
 
 -- ---- octets of a literal at once

@@ -4,9 +4,9 @@ use Rattle.std.specs.Prelude.{ℤ}
 use Rattle.std.proofs.lemmas.List.{append_assoc}
 use Rattle.imap_syntax.specs.declared.command.Command.{Command}
 use Rattle.imap_syntax.specs.declared.command.Command.TheVariants.{Capability, Login, Enable, List as ListFolders, Select, Unselect, FetchFlags, FetchSlice, FetchNew, FetchBody, Store, Move, Expunge, Append, Create, Delete, Rename, Subscribe}
-use Rattle.imap_syntax.specs.Commands.{Part, Plain, Literal, tag_of, credential, put_before, pieces_of, parts_of, words_of, command_pieces}
+use Rattle.imap_syntax.specs.Commands.{Plain, Literal, tag_of, credential, put_before, pieces_of, parts_of, words_of, command_pieces}
 use Rattle.imap_syntax.specs.Texts.{crlf}
-use Rattle.imap_grammar.specs.Written.{AddsPart}
+use Rattle.imap_grammar.specs.reading.Written.{AddsPart}
 
 put_twice : (s t : List ℕ) (pieces : List (List ℕ)) → put_before s (put_before t pieces) ≡ put_before (s ++ t) pieces
 put_twice s t [] = refl

@@ -7,10 +7,10 @@ use Rattle.imap_automaton.proofs.KeyLemmas.{is_key_octet, same_text, text_same}
 use Rattle.imap_automaton.proofs.LineWords.{word_of_key, rest_out}
 use Rattle.imap_automaton.proofs.Lists.{cons_head, cons_tail}
 use Rattle.imap_automaton.proofs.Tests.{both, digit_word}
-use Rattle.imap_grammar.specs.Reading.{span, in_name, number_from, number_in, flags_in, words_in, vanished_in, items_in, status_named, word_in, all_digits, is_sequence, numbered_in, told_in, said_in, plain_in, untagged_in, tagged_in, response_in}
+use Rattle.imap_grammar.specs.reading.Reading.{span, in_name, number_from, number_in, flags_in, words_in, vanished_in, items_in, status_named, word_in, all_digits, is_sequence, numbered_in, told_in, said_in, plain_in, untagged_in, tagged_in, response_in}
 use Rattle.imap_grammar.proofs.Cuts.{small, plain_small, plain_join, CutAt, cut_at, number_from_is, number_is, capped_le, digit_small, word_small, text_small, within_cap}
 use Rattle.imap_grammar.proofs.ItemReadings.{joined_small, flags_read, all_items_read}
-use Rattle.imap_grammar.specs.FolderReading.{list_in, status_in}
+use Rattle.imap_grammar.specs.reading.FolderReading.{list_in, status_in}
 use Rattle.imap_grammar.proofs.SetReadings.{words_read, vanished_read}
 use Rattle.imap_grammar.proofs.FolderReadings.{list_line_read, status_line_read}
 use Rattle.imap_grammar.proofs.Lengths.{plain_length}

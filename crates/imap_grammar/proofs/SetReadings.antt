@@ -4,7 +4,7 @@ use Rattle.std.specs.Prelude.{◌==◌, codes}
 use Rattle.std.proofs.lemmas.Bool.{cond-true, cond-false}
 use Rattle.std.proofs.lemmas.List.{length-append, append-nil}
 use Rattle.imap_syntax.proofs.EachLemmas.{each_to, each_append}
-use Rattle.imap_grammar.specs.Reading.{span, number_in, words_in, range_in, ranges_in, vanished_in}
+use Rattle.imap_grammar.specs.reading.Reading.{span, number_in, words_in, range_in, ranges_in, vanished_in}
 use Rattle.imap_grammar.proofs.Cuts.{small, plain_small, plain_join, cut_at, number_is, digit_small, word_small}
 use Rattle.imap_grammar.proofs.Lengths.{less_one, plain_length, spaced_long}
 use Rattle.imap_automaton.proofs.Lists.{cons_head}

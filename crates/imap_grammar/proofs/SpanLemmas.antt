@@ -1,8 +1,8 @@
 -- Spans, octet by octet.
-use Rattle.std.proofs.Common.{◌≡◌, ℕ, zero, suc, ◌+◌, ◌-◌, ◌*◌, ◌<◌, ◌≤◌, Bool, true, false, List, [], ◌∷◌, length, take, drop, get_or, cond, refl, ◌∙◌, arith}
+use Rattle.std.proofs.Common.{◌≡◌, ℕ, suc, ◌+◌, ◌-◌, ◌*◌, ◌<◌, ◌≤◌, Bool, true, false, List, length, drop, get_or, refl, ◌∙◌, arith}
 use Rattle.std.proofs.lemmas.Bool.{cond-true, cond-false}
 use Rattle.std.proofs.lemmas.List.{drop_all}
-use Rattle.imap_grammar.specs.Reading.{span, cap, count_from, all_digits}
+use Rattle.imap_grammar.specs.reading.Reading.{span, cap, count_from, all_digits}
 use Rattle.imap_syntax.specs.Octets.{is_digit}
 use Rattle.imap_automaton.proofs.Tests.{drop_at}
 

@@ -4,7 +4,7 @@ use Rattle.std.specs.Prelude.{◌==◌}
 use Rattle.std.proofs.lemmas.Bool.{cond-true, cond-false}
 use Rattle.std.proofs.lemmas.List.{drop_all, append-nil}
 use Rattle.imap_automaton.proofs.Tests.{drop_at}
-use Rattle.imap_grammar.specs.StringReading.{unquoted}
+use Rattle.imap_grammar.specs.reading.StringReading.{unquoted}
 
 -- one octet before what is read
 abbrev pub with_octet : ℕ → List ℕ × List ℕ → List ℕ × List ℕ

@@ -1,11 +1,4 @@
+-- What scanning means stands in Scan; Fed says what a scanner was fed. What reads spellings back stands in reading, and nobody need believe it.
 pub mod Scan
 pub mod Fed
-pub mod Spans
-pub mod StringReading
-pub mod FolderReading
-pub mod DateReading
-pub mod Passing
-pub mod ItemReading
-pub mod Codes
-pub mod Reading
-pub mod Written
+pub mod reading

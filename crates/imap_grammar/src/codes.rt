@@ -2,7 +2,7 @@
 ghost use Rattle.std.specs.Prelude.{◌≡◌, map, None, Some, IfOk, MatchOption};
 ghost use Rattle.imap_syntax.specs.Octets as classes;
 ghost use Rattle.imap_syntax.specs.ReadCodes as reading;
-ghost use Rattle.imap_grammar.specs.Codes.{ranges_of};
+ghost use Rattle.imap_grammar.specs.reading.Codes.{ranges_of};
 
 use crate::octets::{
     before, behind, is_decimal, is_key, is_sequence, long_of, number_of, octet_at,

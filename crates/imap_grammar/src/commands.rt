@@ -5,7 +5,7 @@ ghost use Rattle.imap_syntax.specs.Commands as texts;
 ghost use Rattle.imap_syntax.specs.Commands.{Plain, Literal};
 ghost use Rattle.imap_syntax.specs.Texts.{crlf};
 ghost use Rattle.imap_syntax.specs.declared.command.Command.TheVariants.{Login};
-ghost use Rattle.imap_grammar.specs.Written.{AddsPart};
+ghost use Rattle.imap_grammar.specs.reading.Written.{AddsPart};
 
 use crate::dates::push_date;
 use gate_world::{Bytes, Names};

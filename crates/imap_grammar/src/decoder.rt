@@ -4,7 +4,7 @@ ghost use Rattle.imap_syntax.specs.Items.{no_items};
 ghost use Rattle.imap_syntax.specs.Octets as classes;
 ghost use Rattle.imap_syntax.specs.Spells.{IsSpelling};
 ghost use Rattle.imap_syntax.specs.declared.response.Response.{Response};
-ghost use Rattle.imap_grammar.specs.Reading as reading;
+ghost use Rattle.imap_grammar.specs.reading.Reading as reading;
 
 use crate::codes::code_in;
 use crate::flags::flags_in;
@@ -21,7 +21,7 @@ use std::alloc::{AllocError, Global};
 const FETCH_OCTETS: usize = 7;
 
 /// The status that a word names.
-#[tactic(auto, unfolding(crate::specs::Reading::status_named))]
+#[tactic(auto, unfolding(crate::specs::reading::Reading::status_named))]
 fn status_named(word: &[u8]) -> Option<Status>
     ensures { result ≡ reading.status_named (map classes.lower word.now) }
 {
@@ -41,7 +41,7 @@ fn status_named(word: &[u8]) -> Option<Status>
 }
 
 /// The status that the first word names.
-#[tactic(auto, unfolding(crate::specs::Reading::word_in))]
+#[tactic(auto, unfolding(crate::specs::reading::Reading::word_in))]
 fn status_in(bytes: &[u8]) -> Option<Status>
     ensures { result ≡ reading.status_named (reading.word_in bytes.now) }
 {
@@ -49,7 +49,7 @@ fn status_in(bytes: &[u8]) -> Option<Status>
 }
 
 /// Whether the first word is the key.
-#[tactic(auto, unfolding(crate::specs::Reading::word_in))]
+#[tactic(auto, unfolding(crate::specs::reading::Reading::word_in))]
 fn begins_with(bytes: &[u8], key: &[u8]) -> bool
     ensures { result ≡ bytes_eq (reading.word_in bytes.now) key.now }
 {
@@ -57,7 +57,7 @@ fn begins_with(bytes: &[u8], key: &[u8]) -> bool
 }
 
 /// What stands behind `* `, a number and a space: ("EXISTS" / "EXPUNGE" / "FETCH" SP "(" items) CRLF.
-#[tactic(auto, unfolding(crate::specs::Reading::numbered_in))]
+#[tactic(auto, unfolding(crate::specs::reading::Reading::numbered_in))]
 fn numbered(alloc: Global, seq: u32, bytes: &[u8]) -> Result<Response, AllocError>
     ensures { IfOk result (λ v. v ≡ reading.numbered_in seq bytes.now) }
 {
@@ -75,7 +75,7 @@ fn numbered(alloc: Global, seq: u32, bytes: &[u8]) -> Result<Response, AllocErro
 
 /// What a word that names no status says with what follows it: ("CAPABILITY" / "ENABLED") *(SP word),
 /// "FLAGS" SP names, "VANISHED" SP set, "LIST" list, "STATUS" status, each with CRLF.
-#[tactic(auto, unfolding(crate::specs::Reading::told_in))]
+#[tactic(auto, unfolding(crate::specs::reading::Reading::told_in))]
 fn told(alloc: Global, word: &[u8], tail: &[u8]) -> Result<Response, AllocError>
     ensures { IfOk result (λ v. v ≡ reading.told_in (map classes.lower word.now) tail.now) }
 {
@@ -99,7 +99,7 @@ fn told(alloc: Global, word: &[u8], tail: &[u8]) -> Result<Response, AllocError>
 
 /// What stands behind `* ` where no number does: ("OK" / "NO" / "BAD" / "PREAUTH" / "BYE") [SP text] CRLF, or what `told`
 /// reads.
-#[tactic(auto, unfolding(crate::specs::Reading::plain_in, crate::specs::Reading::said_in, crate::specs::Reading::word_in))]
+#[tactic(auto, unfolding(crate::specs::reading::Reading::plain_in, crate::specs::reading::Reading::said_in, crate::specs::reading::Reading::word_in))]
 fn plain(alloc: Global, bytes: &[u8]) -> Result<Response, AllocError>
     ensures { IfOk result (λ v. v ≡ reading.plain_in bytes.now) }
 {
@@ -115,7 +115,7 @@ fn plain(alloc: Global, bytes: &[u8]) -> Result<Response, AllocError>
 }
 
 /// What stands behind `* `.
-#[tactic(auto, unfolding(crate::specs::Reading::untagged_in))]
+#[tactic(auto, unfolding(crate::specs::reading::Reading::untagged_in))]
 fn untagged(alloc: Global, bytes: &[u8]) -> Result<Response, AllocError>
     ensures { IfOk result (λ v. v ≡ reading.untagged_in bytes.now) }
 {
@@ -129,7 +129,7 @@ fn untagged(alloc: Global, bytes: &[u8]) -> Result<Response, AllocError>
 }
 
 /// A tagged line: tag SP ("OK" / "NO" / "BAD") [SP text] CRLF.
-#[tactic(auto, unfolding(crate::specs::Reading::tagged_in))]
+#[tactic(auto, unfolding(crate::specs::reading::Reading::tagged_in))]
 fn tagged(alloc: Global, bytes: &[u8]) -> Result<Response, AllocError>
     ensures { IfOk result (λ v. v ≡ reading.tagged_in bytes.now) }
 {
@@ -142,7 +142,7 @@ fn tagged(alloc: Global, bytes: &[u8]) -> Result<Response, AllocError>
 }
 
 /// A response: an untagged one behind `* `, a continuation behind `+`, or a tagged line.
-#[tactic(auto, unfolding(crate::specs::Reading::response_in))]
+#[tactic(auto, unfolding(crate::specs::reading::Reading::response_in))]
 fn response(alloc: Global, bytes: &[u8]) -> Result<Response, AllocError>
     ensures { IfOk result (λ v. v ≡ reading.response_in bytes.now) }
 {

@@ -2,7 +2,7 @@
 ghost use Rattle.std.specs.Prelude.{◌≡◌, [], length, map, drop, bytes_eq, codes, IfOk, OnOk};
 ghost use Rattle.imap_syntax.specs.Octets as classes;
 ghost use Rattle.imap_syntax.specs.Items as items;
-ghost use Rattle.imap_grammar.specs.Reading as reading;
+ghost use Rattle.imap_grammar.specs.reading.Reading as reading;
 
 use crate::octets::{before, behind, lower, name_len, octet_at};
 use gate_world::{Bytes, Names};
@@ -49,7 +49,7 @@ fn names_of(alloc: Global, set: BTreeSet<Vec<u8>>) -> Result<Names, AllocError>
 }
 
 /// The names up to the closing bracket, and what follows it.
-#[tactic(auto, unfolding(crate::specs::Spans::names_in))]
+#[tactic(auto, unfolding(crate::specs::reading::Spans::names_in))]
 fn names_in(alloc: Global, bytes: &[u8]) -> Result<(BTreeSet<Vec<u8>>, &[u8]), AllocError>
     ensures names { IfOk result (λ r. map (λ v. v.items) r.0.keys ≡ (reading.names_in (length bytes.now) [] bytes.now).0) }
     ensures rest { IfOk result (λ r. r.1.now ≡ (reading.names_in (length bytes.now) [] bytes.now).1) }
@@ -71,15 +71,33 @@ fn names_in(alloc: Global, bytes: &[u8]) -> Result<(BTreeSet<Vec<u8>>, &[u8]), A
     Ok((set, rest))
 }
 
+/// The name in lower case, or none where it is `\recent`.
+fn one_name(alloc: Global, name: &[u8]) -> Result<Names, AllocError>
+    ensures { IfOk result (λ names. names ≡ items.add_name [] (map classes.lower name.now)) }
+{
+    let mut names = Names::new(alloc);
+    let name = lowered(alloc, name)?;
+    if !is_recent(&name) {
+        names.push(Bytes::from_vec(name)?)?;
+    }
+    Ok(names)
+}
+
 /// The flags from behind the opening bracket on, and what follows the closing one. They are in lower case, in order, each
 /// once, and without `\recent`.
-#[tactic(auto, unfolding(crate::specs::Spans::flags_in))]
+#[tactic(auto, unfolding(crate::specs::reading::Spans::flags_in))]
 pub fn flags_in(alloc: Global, bytes: &[u8]) -> Result<(Names, &[u8]), AllocError>
     ensures flags { IfOk result (λ r. r.0 ≡ (reading.flags_in bytes.now).0) }
     ensures rest { IfOk result (λ r. r.1.now ≡ (reading.flags_in bytes.now).1) }
 {
     if octet_at(bytes, 0) == b')' {
         return Ok((Names::new(alloc), behind(bytes, 1)));
+    }
+    let n = name_len(bytes);
+    let after = octet_at(bytes, n);
+    if n < bytes.len() && after != b' ' {
+        let names = one_name(alloc, before(bytes, n))?;
+        return Ok((names, behind(bytes, n + 1)));
     }
     let (set, rest) = names_in(alloc, bytes)?;
     let names = names_of(alloc, set)?;

@@ -2,8 +2,8 @@
 ghost use Rattle.std.specs.Prelude.{◌≡◌, ◌≤◌, IfOk, length, map};
 ghost use Rattle.imap_syntax.specs.Octets as classes;
 ghost use Rattle.imap_syntax.specs.Folders as folders;
-ghost use Rattle.imap_grammar.specs.Spans as spans;
-ghost use Rattle.imap_grammar.specs.FolderReading as reading;
+ghost use Rattle.imap_grammar.specs.reading.Spans as spans;
+ghost use Rattle.imap_grammar.specs.reading.FolderReading as reading;
 
 use crate::flags::flags_in;
 use crate::octets::{before, behind, digits_len, is_key, long_of, octet_at};
@@ -24,7 +24,7 @@ fn folder_name(alloc: Global, name: Bytes) -> Result<Bytes, AllocError>
 }
 
 /// The delimiter at the front, and what follows it: DQUOTE quoted-char DQUOTE / "NIL".
-#[tactic(auto, unfolding(crate::specs::FolderReading::delimiter_in))]
+#[tactic(auto, unfolding(crate::specs::reading::FolderReading::delimiter_in))]
 fn delimiter_in(bytes: &[u8]) -> (Option<u8>, &[u8])
     ensures delimiter { result.0 ≡ (reading.delimiter_in bytes.now).0 }
     ensures rest { result.1.now ≡ (reading.delimiter_in bytes.now).1 }
@@ -39,7 +39,7 @@ fn delimiter_in(bytes: &[u8]) -> (Option<u8>, &[u8])
 }
 
 /// What a LIST says, from behind its word on: SP names SP (quoted / "NIL") SP astring [SP value] CRLF.
-#[tactic(auto, unfolding(crate::specs::FolderReading::list_in))]
+#[tactic(auto, unfolding(crate::specs::reading::FolderReading::list_in))]
 pub fn list_in(alloc: Global, bytes: &[u8]) -> Result<Response, AllocError>
     ensures { IfOk result (λ v. v ≡ reading.list_in bytes.now) }
 {
@@ -115,7 +115,7 @@ fn told_as(items: StatusItems, word: &[u8], n: u64) -> StatusItems
 }
 
 /// The items with the count at the front, and what follows it: word SP long.
-#[tactic(auto, unfolding(crate::specs::FolderReading::count_in))]
+#[tactic(auto, unfolding(crate::specs::reading::FolderReading::count_in))]
 fn count_in(so_far: StatusItems, bytes: &[u8]) -> (StatusItems, &[u8])
     ensures items { result.0 ≡ (reading.count_in so_far bytes.now).0 }
     ensures rest { result.1.now ≡ (reading.count_in so_far bytes.now).1 }
@@ -137,7 +137,7 @@ const NO_COUNTS: StatusItems = StatusItems {
 };
 
 /// The counts, up to the closing bracket: count *(SP count) ")".
-#[tactic(auto, unfolding(crate::specs::FolderReading::counts_in))]
+#[tactic(auto, unfolding(crate::specs::reading::FolderReading::counts_in))]
 fn counts_in(bytes: &[u8]) -> StatusItems
     ensures { result ≡ reading.counts_in (length bytes.now) folders.no_counts bytes.now }
 {
@@ -157,7 +157,7 @@ fn counts_in(bytes: &[u8]) -> StatusItems
 }
 
 /// The counts from behind the opening bracket on: [count *(SP count)] ")".
-#[tactic(auto, unfolding(crate::specs::FolderReading::counts_of))]
+#[tactic(auto, unfolding(crate::specs::reading::FolderReading::counts_of))]
 fn counts_of(bytes: &[u8]) -> StatusItems
     ensures { result ≡ reading.counts_of bytes.now }
 {
@@ -169,7 +169,7 @@ fn counts_of(bytes: &[u8]) -> StatusItems
 }
 
 /// What a STATUS says, from behind its word on: SP astring SP "(" [count *(SP count)] ")" CRLF.
-#[tactic(auto, unfolding(crate::specs::FolderReading::status_in))]
+#[tactic(auto, unfolding(crate::specs::reading::FolderReading::status_in))]
 pub fn status_in(alloc: Global, bytes: &[u8]) -> Result<Response, AllocError>
     ensures { IfOk result (λ v. v ≡ reading.status_in bytes.now) }
 {

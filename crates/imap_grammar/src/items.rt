@@ -2,10 +2,10 @@
 ghost use Rattle.std.specs.Prelude.{◌≡◌, ◌+◌, ◌∷◌, [], IfOk, map, take, drop, Some};
 ghost use Rattle.imap_automaton.specs.ItemRules.{item_start};
 ghost use Rattle.imap_syntax.specs.Items.{no_items, header_limit, body_limit};
-ghost use Rattle.imap_grammar.specs.Spans as spans;
+ghost use Rattle.imap_grammar.specs.reading.Spans as spans;
 ghost use Rattle.imap_syntax.specs.Octets as classes;
-ghost use Rattle.imap_grammar.specs.ItemReading as reading;
-ghost use Rattle.imap_grammar.specs.Passing as passing;
+ghost use Rattle.imap_grammar.specs.reading.ItemReading as reading;
+ghost use Rattle.imap_grammar.specs.reading.Passing as passing;
 
 use crate::date_times::date_in;
 use crate::flags::flags_in;
@@ -91,7 +91,7 @@ fn with_body(items: FetchItems, body: Bytes) -> FetchItems
 
 /// The first so many octets of the string at the front, none for NIL, and what follows the string:
 /// "NIL" / quoted / ["~"] literal.
-#[tactic(auto, unfolding(crate::specs::ItemReading::nstring_in, crate::specs::StringReading::astring_in))]
+#[tactic(auto, unfolding(crate::specs::reading::ItemReading::nstring_in, crate::specs::reading::StringReading::astring_in))]
 fn nstring_in(alloc: Global, bytes: &[u8], most: usize) -> Result<(Bytes, &[u8]), AllocError>
     ensures string { IfOk result (λ r. r.0 ≡ take most (reading.nstring_in bytes.now).0) }
     ensures rest { IfOk result (λ r. r.1.now ≡ (reading.nstring_in bytes.now).1) }
@@ -115,7 +115,7 @@ fn nstring_in(alloc: Global, bytes: &[u8], most: usize) -> Result<(Bytes, &[u8])
 }
 
 /// Whether an item of this name is a message's header.
-#[tactic(auto, unfolding(crate::specs::ItemReading::is_header))]
+#[tactic(auto, unfolding(crate::specs::reading::ItemReading::is_header))]
 fn is_header(name: &[u8]) -> bool
     ensures { result ≡ reading.is_header (map classes.lower name.now) }
 {
@@ -123,7 +123,7 @@ fn is_header(name: &[u8]) -> bool
 }
 
 /// Whether an item of this name is a whole message.
-#[tactic(auto, unfolding(crate::specs::ItemReading::is_body))]
+#[tactic(auto, unfolding(crate::specs::reading::ItemReading::is_body))]
 fn is_body(name: &[u8]) -> bool
     ensures { result ≡ reading.is_body (map classes.lower name.now) }
 {
@@ -131,7 +131,7 @@ fn is_body(name: &[u8]) -> bool
 }
 
 /// Whether an item of this name is told.
-#[tactic(auto, unfolding(crate::specs::ItemReading::is_told))]
+#[tactic(auto, unfolding(crate::specs::reading::ItemReading::is_told))]
 fn is_told(name: &[u8]) -> bool
     ensures { result ≡ reading.is_told (map classes.lower name.now) }
 {
@@ -184,7 +184,7 @@ fn told_flags<'a>(
 }
 
 /// The value of an item that has octets or flags, and what follows it: nstring / names.
-#[tactic(auto, unfolding(crate::specs::ItemReading::text_in))]
+#[tactic(auto, unfolding(crate::specs::reading::ItemReading::text_in))]
 fn text_in<'a>(
     alloc: Global,
     so_far: FetchItems,
@@ -205,7 +205,7 @@ fn text_in<'a>(
 
 /// The value of an item of this name, and what follows it: nz for UID, "(" long ")" for MODSEQ, long for RFC822.SIZE,
 /// date-time for INTERNALDATE, or what `text_in` reads.
-#[tactic(auto, unfolding(crate::specs::ItemReading::value_in))]
+#[tactic(auto, unfolding(crate::specs::reading::ItemReading::value_in))]
 fn value_in<'a>(
     alloc: Global,
     so_far: FetchItems,
@@ -261,7 +261,7 @@ fn passed(bytes: &[u8]) -> usize
 }
 
 /// The item at the front, and what follows it: name SP value. One whose name isn't told is passed over.
-#[tactic(auto, unfolding(crate::specs::ItemReading::item_in))]
+#[tactic(auto, unfolding(crate::specs::reading::ItemReading::item_in))]
 fn item_in(
     alloc: Global,
     so_far: FetchItems,
@@ -281,7 +281,7 @@ fn item_in(
 
 /// What the items up to the closing bracket tell, at most so many: item *(SP item) ")". A later item takes the place
 /// of an earlier one of its name.
-#[tactic(auto, unfolding(crate::specs::ItemReading::items_in))]
+#[tactic(auto, unfolding(crate::specs::reading::ItemReading::items_in))]
 pub fn items_in(alloc: Global, bytes: &[u8], most: usize) -> Result<FetchItems, AllocError>
     ensures { IfOk result (λ items. items ≡ reading.items_in most no_items bytes.now) }
 {

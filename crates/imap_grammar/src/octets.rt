@@ -1,7 +1,7 @@
 // Octets at the front of a spelling.
 ghost use Rattle.std.specs.Prelude.{◌≡◌, take, drop, get_or, length, map, bytes_eq, nat_lt, nat_le, ◌&&◌, ◌≤◌};
 ghost use Rattle.imap_syntax.specs.Octets as classes;
-ghost use Rattle.imap_grammar.specs.Reading as reading;
+ghost use Rattle.imap_grammar.specs.reading.Reading as reading;
 
 /// What stands behind the first so many octets.
 pub fn behind(bytes: &[u8], n: usize) -> &[u8]
@@ -37,7 +37,7 @@ pub fn octet_at(bytes: &[u8], at: usize) -> u8
 fn is_word(c: u8) -> bool
     ensures { result ≡ classes.is_word c }
 {
-    33 <= c && c <= 126
+    b'!' <= c && c <= b'~'
 }
 
 /// Whether the octet is a decimal digit.
@@ -190,7 +190,7 @@ fn is_small(word: &[u8]) -> bool
 }
 
 /// Whether the word is a number: one to ten digits, and at most 2^32 - 1.
-#[tactic(auto, unfolding(crate::specs::Reading::is_sequence))]
+#[tactic(auto, unfolding(crate::specs::reading::Reading::is_sequence))]
 pub fn is_sequence(word: &[u8]) -> bool
     ensures { result ≡ reading.is_sequence word.now }
 {

@@ -1,6 +1,7 @@
 // Where a response ends (RFC 9051 section 9).
 use crate::answer::Scan;
-use imap_automaton::{Line, Stack, Sym, advance};
+use crate::octets::{before, behind};
+use imap_automaton::{Line, Stack, Sym, advance, advance_through};
 
 /// Octets that may stand outside literals in one response.
 pub const LIMIT: u32 = 8_388_608;
@@ -16,7 +17,7 @@ pub struct Scanner {
 // A few hundred octets, however deep values are nested and however long literals are.
 const _: () = prove!(size_of::<Scanner>() <= 256);
 
-ghost use Rattle.std.specs.Prelude.{◌≡◌, ◌+◌, ◌-◌, if◌then◌else◌, drop, length, min};
+ghost use Rattle.std.specs.Prelude.{◌≡◌, ◌≤◌, ◌+◌, ◌-◌, if◌then◌else◌, drop, length, min};
 ghost use Rattle.imap_automaton.specs.Run.{inside_left, skipped};
 ghost use Rattle.imap_automaton.specs.Symbols.{symbols_of};
 
@@ -104,6 +105,19 @@ impl Scanner {
         rest
     }
 
+    /// Takes octets that stand outside literals, as many as may be taken at once: what follows them.
+    fn take_many<'a>(&mut self, octets: &'a [u8]) -> &'a [u8]
+        requires { (b : List ℕ) × Fed self.old b }
+        ensures fed { (b : List ℕ) → Fed self.old b → FedUpTo self.new b octets.now result.now }
+        ensures most { length result.now ≤ length octets.now }
+    {
+        let front = before(octets, (LIMIT - self.outside) as usize);
+        let count = advance_through(&mut self.stack, front);
+        self.outside += count as u32;
+        self.taken += count;
+        behind(octets, count)
+    }
+
     /// Takes the next piece. The answer is that for all pieces joined, and its places count from the first piece. After
     /// another answer than NeedMore the scanner is to be made anew.
     pub fn feed(&mut self, piece: &[u8]) -> Scan
@@ -113,7 +127,8 @@ impl Scanner {
     {
         let mut rest = piece;
         'feeding: loop {
-            let octets = self.skip(rest);
+            let skipped = self.skip(rest);
+            let octets = self.take_many(skipped);
             let Some((octet, after)) = octets.split_first() else {
                 return Scan::NeedMore;
             };

@@ -2,7 +2,7 @@
 ghost use Rattle.std.specs.Prelude.{◌≡◌, ◌++◌, ◌∷◌, [], length, IfOk};
 ghost use Rattle.imap_syntax.specs.UidSets.{range_of};
 ghost use Rattle.imap_syntax.specs.declared.response.Response.{Response};
-ghost use Rattle.imap_grammar.specs.Reading as reading;
+ghost use Rattle.imap_grammar.specs.reading.Reading as reading;
 
 use crate::octets::{before, behind, digits_len, number_of, octet_at, word_len};
 use gate_world::{Bytes, Listed, Names};
@@ -51,7 +51,7 @@ pub fn range_of(first: u32, second: u32) -> UidRange
 }
 
 /// A range, and what follows it: nz [":" nz].
-#[tactic(auto, unfolding(crate::specs::Reading::range_in))]
+#[tactic(auto, unfolding(crate::specs::reading::Reading::range_in))]
 fn range_in(bytes: &[u8]) -> (UidRange, &[u8])
     ensures range { result.0 ≡ (reading.range_in bytes.now).0 }
     ensures rest { result.1.now ≡ (reading.range_in bytes.now).1 }
@@ -103,7 +103,7 @@ fn vanished(earlier: bool, ranges: Vec<UidRange>) -> Response
 }
 
 /// What stands behind the space after VANISHED: ["(EARLIER)" SP] set CRLF (RFC 7162 section 3.2.10).
-#[tactic(auto, unfolding(crate::specs::Reading::vanished_in))]
+#[tactic(auto, unfolding(crate::specs::reading::Reading::vanished_in))]
 pub fn vanished_in(alloc: Global, bytes: &[u8]) -> Result<Response, AllocError>
     ensures { IfOk result (λ v. v ≡ reading.vanished_in bytes.now) }
 {

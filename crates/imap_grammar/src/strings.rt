@@ -1,8 +1,8 @@
 // Strings at the front of octets (RFC 9051 sections 4.3 and 9).
 ghost use Rattle.std.specs.Prelude.{◌≡◌, ◌≤◌, IfOk, length, true, false};
 ghost use Rattle.imap_syntax.specs.Octets as classes;
-ghost use Rattle.imap_grammar.specs.Spans as spans;
-ghost use Rattle.imap_grammar.specs.StringReading as reading;
+ghost use Rattle.imap_grammar.specs.reading.Spans as spans;
+ghost use Rattle.imap_grammar.specs.reading.StringReading as reading;
 
 use crate::octets::{before, behind, digits_len, number_of, octet_at};
 use gate_world::Bytes;
@@ -51,7 +51,7 @@ pub fn unquoted(alloc: Global, bytes: &[u8]) -> Result<(Vec<u8>, &[u8]), AllocEr
 }
 
 /// The octets of a literal from behind its opening brace on, and what follows them: 1*8digit "}" CRLF *octet.
-#[tactic(auto, unfolding(crate::specs::StringReading::literal_in))]
+#[tactic(auto, unfolding(crate::specs::reading::StringReading::literal_in))]
 pub fn literal_in(bytes: &[u8]) -> (&[u8], &[u8])
     ensures octets { result.0.now ≡ (reading.literal_in bytes.now).0 }
     ensures rest { result.1.now ≡ (reading.literal_in bytes.now).1 }
@@ -63,7 +63,7 @@ pub fn literal_in(bytes: &[u8]) -> (&[u8], &[u8])
 }
 
 /// The atom at the front, and what follows it.
-#[tactic(auto, unfolding(crate::specs::StringReading::atom_in))]
+#[tactic(auto, unfolding(crate::specs::reading::StringReading::atom_in))]
 pub fn atom_in(bytes: &[u8]) -> (&[u8], &[u8])
     ensures atom { result.0.now ≡ (reading.atom_in bytes.now).0 }
     ensures rest { result.1.now ≡ (reading.atom_in bytes.now).1 }
@@ -73,7 +73,7 @@ pub fn atom_in(bytes: &[u8]) -> (&[u8], &[u8])
 }
 
 /// The string at the front, and what follows it: atom / quoted / ["~"] literal.
-#[tactic(auto, unfolding(crate::specs::StringReading::astring_in))]
+#[tactic(auto, unfolding(crate::specs::reading::StringReading::astring_in))]
 pub fn astring_in(alloc: Global, bytes: &[u8]) -> Result<(Bytes, &[u8]), AllocError>
     ensures string { IfOk result (λ r. r.0 ≡ (reading.astring_in bytes.now).0) }
     ensures rest { IfOk result (λ r. r.1.now ≡ (reading.astring_in bytes.now).1) }

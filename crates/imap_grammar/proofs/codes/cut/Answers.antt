@@ -1,4 +1,4 @@
-use Rattle.std.proofs.Common.{◌≡◌, ◌∙◌, ◌+◌, ◌<◌, List, ℕ, length, take, drop, get_or, ap, sym, Some, arith}
+use Rattle.std.proofs.Common.{◌∙◌, ◌+◌, List, ℕ, drop, ap, sym, Some, arith}
 use Rattle.imap_syntax.proofs.CutLemmas.{cut_index, cut_never}
 use Rattle.imap_grammar.proofs.codes.cut.Goals as goal
 

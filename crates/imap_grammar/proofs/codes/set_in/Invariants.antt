@@ -1,6 +1,6 @@
 use Rattle.std.proofs.Common.{◌≡◌, length}
 use Rattle.imap_syntax.specs.ReadCodes as reading
-use Rattle.imap_grammar.specs.Codes.{put_ranges}
+use Rattle.imap_grammar.specs.reading.Codes.{put_ranges}
 use Rattle.imap_grammar.proofs.codes.set_in.Given as goal
 
 abbrev pub invariant-loop-left : goal.invariant-loop-left

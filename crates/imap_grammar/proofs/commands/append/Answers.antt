@@ -1,6 +1,6 @@
-use Rattle.std.proofs.Common.{◌≡◌, ◌++◌, ◌∷◌, [], ◌∙◌, subst}
+use Rattle.std.proofs.Common.{◌++◌, ◌∷◌, [], ◌∙◌, subst}
 use Rattle.imap_syntax.specs.Commands.{Literal}
-use Rattle.imap_grammar.specs.Written.{AddsPart}
+use Rattle.imap_grammar.specs.reading.Written.{AddsPart}
 use Rattle.imap_grammar.proofs.Pieces.{append_pieces}
 use Rattle.imap_grammar.proofs.commands.append.Goals as goal
 

@@ -1,7 +1,6 @@
-use Rattle.std.proofs.Common.{◌≡◌, ◌++◌, ◌∷◌, [], List, ℕ, codes, refl, sym, ap, subst, ◌∙◌}
-use Rattle.imap_syntax.specs.Commands.{tag_of, credential}
-use Rattle.imap_syntax.specs.Texts.{crlf}
-use Rattle.imap_grammar.specs.Written.{AddsPart}
+use Rattle.std.proofs.Common.{◌++◌, ◌∷◌, [], subst, ◌∙◌}
+use Rattle.imap_syntax.specs.Commands.{credential}
+use Rattle.imap_grammar.specs.reading.Written.{AddsPart}
 use Rattle.imap_grammar.proofs.Pieces.{login_pieces}
 use Rattle.imap_grammar.proofs.commands.login.Goals as goal
 

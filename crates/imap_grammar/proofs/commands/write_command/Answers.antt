@@ -1,6 +1,4 @@
-use Rattle.std.proofs.Common.{◌≡◌, ◌++◌, ◌∷◌, [], refl, sym, ap, ◌∙◌}
-use Rattle.imap_syntax.specs.Commands as texts
-use Rattle.imap_syntax.specs.declared.command.Command.TheVariants.{Login}
+use Rattle.std.proofs.Common.{◌++◌, ◌∷◌, [], ◌∙◌}
 use Rattle.imap_grammar.proofs.Pieces.{one_piece}
 use Rattle.imap_grammar.proofs.commands.write_command.Goals as goal
 

@@ -1,4 +1,4 @@
-use Rattle.std.proofs.Common.{◌≡◌, ◌∙◌, ℕ, List, map, Vec, Global, ap, sym, codes, bytes_eq, nat_cmp}
+use Rattle.std.proofs.Common.{◌∙◌, ℕ, List, map, Vec, Global, ap, sym, codes, bytes_eq, nat_cmp}
 use Rattle.std.proofs.lemmas.Bool.{cond-false}
 use Rattle.std.specs.Cmp.Lexicographic.{slice_cmp}
 use Rattle.std.specs.BTreeSet.{insert_key}

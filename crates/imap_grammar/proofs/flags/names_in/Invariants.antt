@@ -1,5 +1,5 @@
 use Rattle.std.proofs.Common.{◌≡◌, [], length, map}
-use Rattle.imap_grammar.specs.Reading as reading
+use Rattle.imap_grammar.specs.reading.Reading as reading
 use Rattle.imap_grammar.proofs.flags.names_in.Given as goal
 
 abbrev pub invariant-loop-left : goal.invariant-loop-left

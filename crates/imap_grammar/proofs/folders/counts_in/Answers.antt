@@ -2,7 +2,7 @@ use Rattle.std.proofs.Common.{◌≡◌, ◌∙◌, ◌-◌, ℕ, List, true, fa
 use Rattle.std.specs.Prelude.{◌==◌}
 use Rattle.std.proofs.lemmas.Bool.{eq-eqb, ne_eqb}
 use Rattle.imap_syntax.specs.declared.response.StatusItems.{StatusItems}
-use Rattle.imap_grammar.specs.FolderReading.{count_in, counts_in}
+use Rattle.imap_grammar.specs.reading.FolderReading.{count_in, counts_in}
 use Rattle.imap_grammar.proofs.FolderReadings.{counts_next, counts_last}
 use Rattle.imap_grammar.proofs.folders.counts_in.Goals as goal
 

@@ -1,6 +1,6 @@
 use Rattle.std.proofs.Common.{◌≡◌}
 use Rattle.imap_syntax.specs.Items.{no_items}
-use Rattle.imap_grammar.specs.ItemReading as reading
+use Rattle.imap_grammar.specs.reading.ItemReading as reading
 use Rattle.imap_grammar.proofs.items.items_in.Given as goal
 
 abbrev pub invariant-loop-left : goal.invariant-loop-left

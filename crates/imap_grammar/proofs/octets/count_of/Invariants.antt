@@ -1,5 +1,5 @@
 use Rattle.std.proofs.Common.{◌≡◌, ◌≤◌, drop}
-use Rattle.imap_grammar.specs.Reading as reading
+use Rattle.imap_grammar.specs.reading.Reading as reading
 use Rattle.imap_grammar.proofs.octets.count_of.Given as goal
 
 abbrev pub invariant-loop-c : goal.invariant-loop-c

@@ -1,6 +1,6 @@
 use Rattle.std.proofs.Common.{◌≡◌, ◌+◌, drop}
 use Rattle.imap_syntax.specs.Octets.{is_digit}
-use Rattle.imap_grammar.specs.Reading as reading
+use Rattle.imap_grammar.specs.reading.Reading as reading
 use Rattle.imap_grammar.proofs.octets.digits_len.Given as goal
 
 abbrev pub invariant-loop-i : goal.invariant-loop-i

@@ -1,6 +1,6 @@
 use Rattle.std.proofs.Common.{◌≡◌, ◌+◌, drop}
-use Rattle.imap_grammar.specs.Reading.{in_name}
-use Rattle.imap_grammar.specs.Reading as reading
+use Rattle.imap_grammar.specs.reading.Reading.{in_name}
+use Rattle.imap_grammar.specs.reading.Reading as reading
 use Rattle.imap_grammar.proofs.octets.name_len.Given as goal
 
 abbrev pub invariant-loop-i : goal.invariant-loop-i

@@ -1,5 +1,5 @@
 use Rattle.std.proofs.Common.{◌≡◌, ◌∙◌, ◌++◌, ℕ, ap, sym, arith}
-use Rattle.imap_grammar.specs.Reading.{ranges_in}
+use Rattle.imap_grammar.specs.reading.Reading.{ranges_in}
 use Rattle.imap_grammar.proofs.SetReadings.{range_end}
 use Rattle.imap_grammar.proofs.sets.ranges_in.Goals as goal
 

@@ -1,5 +1,5 @@
 use Rattle.std.proofs.Common.{◌≡◌, ◌∙◌, ◌++◌, ℕ, ap, sym, arith}
-use Rattle.imap_grammar.specs.Reading.{words_in}
+use Rattle.imap_grammar.specs.reading.Reading.{words_in}
 use Rattle.imap_grammar.proofs.SetReadings.{word_end}
 use Rattle.imap_grammar.proofs.sets.words_in.Goals as goal
 

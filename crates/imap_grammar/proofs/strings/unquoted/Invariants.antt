@@ -1,5 +1,5 @@
 use Rattle.std.proofs.Common.{◌≡◌, drop, false}
-use Rattle.imap_grammar.specs.StringReading.{unquoted}
+use Rattle.imap_grammar.specs.reading.StringReading.{unquoted}
 use Rattle.imap_grammar.proofs.StringLemmas.{so_far}
 use Rattle.imap_grammar.proofs.strings.unquoted.Given as goal
 

@@ -1,4 +1,4 @@
-use Rattle.std.proofs.Common.{List, ℕ, refl, arith}
+use Rattle.std.proofs.Common.{refl, arith}
 use Rattle.imap_grammar.proofs.Skipping.{skip_all}
 use Rattle.imap_grammar.proofs.scanner.Scanner.skip.Goals as goal
 

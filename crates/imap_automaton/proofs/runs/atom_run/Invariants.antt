@@ -1,0 +1,8 @@
+use Rattle.std.proofs.Common.{take}
+use Rattle.imap_automaton.specs.declared.sym.Names.TheVariants as names
+use Rattle.imap_automaton.specs.declared.sym.Sym.TheVariants as sym
+use Rattle.imap_automaton.specs.Run.{RunsTo}
+use Rattle.imap_automaton.proofs.runs.atom_run.Given as goal
+
+abbrev pub invariant-loop-i : goal.invariant-loop-i
+invariant-loop-i l = RunsTo (sym.Names names.AtomRest) (take l.i l.octets) (sym.Names names.AtomRest)

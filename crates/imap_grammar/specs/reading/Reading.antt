@@ -1,0 +1,114 @@
+-- How a spelling is read back: each function takes the octets from its place on. That it gives the spelled value is a
+-- law of this crate.
+use Rattle.std.specs.Prelude.{ℕ, zero, suc, ◌+◌, Bool, true, false, ◌&&◌, nat_lt, nat_le, ◌==◌, if◌then◌else◌, List, [], ◌∷◌, length, map, take, drop, get_or, codes, bytes_eq, Option, Some, None, unwrap_or}
+unfoldable pub use Rattle.imap_grammar.specs.reading.Spans.{span, in_name, cap, count_from, number_from, long_in, number_in, names_in, flags_in}
+use Rattle.imap_grammar.specs.reading.FolderReading.{list_in, status_in}
+use Rattle.imap_syntax.specs.declared.response.Status.{Status}
+use Rattle.imap_syntax.specs.declared.response.Status.TheVariants as status
+use Rattle.imap_syntax.specs.declared.response.Response.{Response}
+use Rattle.imap_syntax.specs.declared.response.Response.TheVariants.{Tagged, Untagged, Continue, Capability, Enabled, Flags, Exists, Expunge, Fetch, Vanished, Other}
+use Rattle.imap_syntax.specs.declared.uid_set.UidRange.{UidRange}
+use Rattle.imap_syntax.specs.Octets.{is_digit, is_word, lower}
+use Rattle.imap_syntax.specs.UidSets.{range_of}
+use Rattle.imap_syntax.specs.Items.{no_items}
+use Rattle.imap_syntax.specs.ReadCodes.{code_in}
+unfoldable pub use Rattle.imap_grammar.specs.reading.ItemReading.{value_in, item_in, items_in}
+
+-- ---- words
+
+-- at most so many words, each behind a space
+unfoldable pub words_in : ℕ → List ℕ → List (List ℕ)
+words_in zero b = []
+words_in (suc most) b =
+    if get_or b 0 0 == 32
+    then (let w = drop 1 b in take (span is_word w) w ∷ words_in most (drop (span is_word w) w)) else []
+
+-- ---- sets of UIDs
+
+-- a range, and what follows it
+unfoldable pub range_in : List ℕ → UidRange × List ℕ
+range_in b =
+    let n = span is_digit b in
+    let first = number_in (take n b) in
+    let after = drop n b in
+    if get_or after 0 0 == 58
+    then (let second = drop 1 after in (range_of first (number_in (take (span is_digit second) second)), drop (span is_digit second) second))
+    else (range_of first first, after)
+
+-- at most so many ranges, each but the first behind a comma
+unfoldable pub ranges_in : ℕ → List ℕ → List UidRange
+ranges_in zero b = []
+ranges_in (suc most) b =
+    let r = range_in b in
+    r.0 ∷ (if get_or r.1 0 0 == 44 then ranges_in most (drop 1 r.1) else [])
+
+-- behind the space after VANISHED
+unfoldable pub vanished_in : List ℕ → Response
+vanished_in b =
+    if get_or b 0 0 == 40
+    then Vanished true (record { ranges = ranges_in (length b) (drop 10 b) })
+    else Vanished false (record { ranges = ranges_in (length b) b })
+
+-- ---- lines
+
+unfoldable pub status_named : List ℕ → Option Status
+status_named w =
+    if bytes_eq w (codes "ok") then Some status.Ok
+    else if bytes_eq w (codes "no") then Some status.No
+    else if bytes_eq w (codes "bad") then Some status.Bad
+    else if bytes_eq w (codes "preauth") then Some status.Preauth
+    else if bytes_eq w (codes "bye") then Some status.Bye else None
+
+-- the first word, in lower case
+unfoldable pub word_in : List ℕ → List ℕ
+word_in b = map lower (take (span is_word b) b)
+
+unfoldable pub all_digits : List ℕ → Bool
+all_digits [] = true
+all_digits (c ∷ t) = is_digit c && all_digits t
+
+unfoldable pub is_sequence : List ℕ → Bool
+is_sequence w = nat_lt 0 (length w) && nat_le (length w) 10 && all_digits w && nat_le (number_from 0 w) 4294967295
+
+unfoldable pub numbered_in : ℕ → List ℕ → Response
+numbered_in seq b =
+    if bytes_eq (word_in b) (codes "fetch") then Fetch seq (items_in (length b) no_items (drop 7 b))
+    else if bytes_eq (word_in b) (codes "exists") then Exists seq
+    else if bytes_eq (word_in b) (codes "expunge") then Expunge seq else Other
+
+-- by the word and what follows it
+unfoldable pub told_in : List ℕ → List ℕ → Response
+told_in w tail =
+    if bytes_eq w (codes "capability") then Capability (words_in (length tail) tail)
+    else if bytes_eq w (codes "enabled") then Enabled (words_in (length tail) tail)
+    else if bytes_eq w (codes "flags") then Flags (flags_in (drop 2 tail)).0
+    else if bytes_eq w (codes "vanished") then vanished_in (drop 1 tail)
+    else if bytes_eq w (codes "list") then list_in tail
+    else if bytes_eq w (codes "status") then status_in tail else Other
+
+-- by the status that the word names, or none
+unfoldable pub said_in : Option Status → List ℕ → List ℕ → Response
+said_in None w tail = told_in w tail
+said_in (Some s) w tail = Untagged s (code_in tail)
+
+unfoldable pub plain_in : List ℕ → Response
+plain_in b = said_in (status_named (word_in b)) (word_in b) (drop (span is_word b) b)
+
+-- from behind `* ` on
+unfoldable pub untagged_in : List ℕ → Response
+untagged_in b =
+    let n = span is_word b in
+    if is_sequence (take n b) && get_or b n 0 == 32
+    then numbered_in (number_in (take n b)) (drop (n + 1) b)
+    else plain_in b
+
+unfoldable pub tagged_in : List ℕ → Response
+tagged_in b =
+    let n = span in_name b in
+    let line = drop (n + 1) b in
+    Tagged (take n b) (unwrap_or (status_named (word_in line)) status.Bad) (code_in (drop (span is_word line) line))
+
+unfoldable pub response_in : List ℕ → Response
+response_in b =
+    if get_or b 0 0 == 42 then untagged_in (drop 2 b)
+    else if get_or b 0 0 == 43 then Continue else tagged_in b
