@@ -140,7 +140,7 @@ fn headers_and_bodies_are_told_and_other_items_passed_over(rt: HostRuntime) -> R
     Ok(())
 }
 
-/// A FETCH of an item with so many octets, and of UID 7.
+/// A FETCH of an item with n octets, and of UID 7.
 fn long_item(alloc: Global, name: &str, count: usize) -> Result<Vec<u8>, AllocError> {
     let octets = vec![in alloc; b'a'; count]?;
     let front = format!(in alloc; "* 1 FETCH ({name} {{{count}}}\r\n")?;
@@ -158,7 +158,7 @@ fn length_of(text: &Option<Bytes>) -> usize {
     }
 }
 
-/// An item with so many octets, and how many of a header and of a body are told.
+/// An item with n octets, and how many of a header and of a body are told.
 const LONG: [(&str, usize, usize, usize); 5] = [
     ("BODY[HEADER]", 32_767, 32_767, 0),
     ("BODY[HEADER]<0>", 32_768, 32_768, 0),

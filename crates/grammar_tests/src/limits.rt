@@ -3,7 +3,7 @@ use imap_grammar::{Scan, Scanner};
 use std::alloc::{AllocError, Global};
 use std::test::Fail;
 
-/// The answer to the front, to so many pieces of this length, and to what follows them.
+/// The answer to the front, to n pieces of this length, and to what follows them.
 fn after(
     alloc: Global,
     front: &[u8],

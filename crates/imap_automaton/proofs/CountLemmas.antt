@@ -1,5 +1,6 @@
 -- The automaton's reading of a count in braces is the grammar's.
-use Rattle.std.proofs.Common.{◌≡◌, ℕ, zero, suc, ◌+◌, ◌-◌, ◌*◌, ◌<◌, ◌≤◌, Bool, true, false, ◌&&◌, List, [], ◌∷◌, ◌++◌, length, cond, refl, sym, ap, subst, ◌∙◌, append_assoc, arith}
+use Rattle.std.proofs.Common.{◌≡◌, ℕ, zero, suc, ◌+◌, ◌-◌, ◌*◌, ◌<◌, ◌≤◌, Bool, true, false, ◌&&◌, List, [], ◌∷◌, ◌++◌, length, cond, refl, sym, ap, subst, ◌∙◌, append_assoc}
+use Rattle.std.proofs.Common.{arith}
 use Rattle.std.specs.Prelude.{◌==◌, nat_lt, nat_le}
 use Rattle.std.proofs.lemmas.Bool.{eqb-true, ltb-true, leb-false, and_parts, lt-ltb, le-leb, cond-true, cond-false}
 use Rattle.std.proofs.lemmas.List.{length-append, append-nil}
@@ -58,7 +59,8 @@ holds_step s text c h = pick (λ q. Holds q (text ++ c ∷ [])) (c == 123) (pend
   where
     on : (s : Pending) → Holds s text → Holds (pend_on s c) (text ++ c ∷ [])
     on pending.Nothing h = tt
-    on (pending.Open v n) h = pick (λ q. Holds q (text ++ c ∷ [])) (is_digit c) (cond (nat_lt n 8) (pending.Open (capped (10 * v + (c - 48))) (n + 1)) pending.Nothing) (cond (c == 125 && nat_lt 0 n) (pending.Closed v) pending.Nothing)
+    on (pending.Open v n) h = pick (λ q. Holds q (text ++ c ∷ [])) (is_digit c) (cond (nat_lt n 8) (pending.Open (capped (10 * v + (c - 48))) (n + 1)) pending.Nothing)
+        (cond (c == 125 && nat_lt 0 n) (pending.Closed v) pending.Nothing)
         (λ e. pick (λ q. Holds q (text ++ c ∷ [])) (nat_lt n 8) (pending.Open (capped (10 * v + (c - 48))) (n + 1)) pending.Nothing
         (λ f. record {
           front = h.front;
@@ -76,7 +78,8 @@ holds_step s text c h = pick (λ q. Holds q (text ++ c ∷ [])) (c == 123) (pend
           record {
             front = h.front;
             digits = h.digits;
-            whole = ap (λ (u : List ℕ). u ++ c ∷ []) h.whole ∙ append_assoc h.front (123 ∷ h.digits) (c ∷ []) ∙ ap (λ (n : ℕ). h.front ++ 123 ∷ (h.digits ++ n ∷ [])) (eqb-true c 125 p.0) ∙ sym (append_assoc h.front (123 ∷ h.digits) (125 ∷ []));
+            whole = ap (λ (u : List ℕ). u ++ c ∷ []) h.whole ∙ append_assoc h.front (123 ∷ h.digits) (c ∷ [])
+                ∙ ap (λ (n : ℕ). h.front ++ 123 ∷ (h.digits ++ n ∷ [])) (eqb-true c 125 p.0) ∙ sym (append_assoc h.front (123 ∷ h.digits) (125 ∷ []));
             are_digits = h.are_digits;
             some = omega (arith, h.counted, ltb-true 0 n p.1);
             few = omega (arith, h.counted, h.few);
@@ -103,10 +106,12 @@ pends_append s (c ∷ x) y = pends_append (pend s c) x y
 open_digit : (v n c : ℕ) → is_digit c ≡ true → n < 8 → pend (pending.Open v n) c ≡ pending.Open (capped (10 * v + (c - 48))) (n + 1)
 open_digit v n c e lt =
     cond-false (c == 123) (pending.Open 0 0) (pend_on (pending.Open v n) c) (digit_no_brace c e)
-    ∙ cond-true (is_digit c) (cond (nat_lt n 8) (pending.Open (capped (10 * v + (c - 48))) (n + 1)) pending.Nothing) (cond (c == 125 && nat_lt 0 n) (pending.Closed v) pending.Nothing) e
+    ∙ cond-true (is_digit c) (cond (nat_lt n 8) (pending.Open (capped (10 * v + (c - 48))) (n + 1)) pending.Nothing)
+    (cond (c == 125 && nat_lt 0 n) (pending.Closed v) pending.Nothing) e
     ∙ cond-true (nat_lt n 8) (pending.Open (capped (10 * v + (c - 48))) (n + 1)) pending.Nothing (lt-ltb n 8 lt)
 
-open_closes : (v n : ℕ) (digits : List ℕ) → Each is_digit digits → 0 < n + length digits → n + length digits ≤ 8 → pends (pending.Open (capped v) n) (digits ++ 125 ∷ []) ≡ pending.Closed (capped (value_from v digits))
+open_closes : (v n : ℕ) (digits : List ℕ) → Each is_digit digits → 0 < n + length digits → n + length digits ≤ 8
+    → pends (pending.Open (capped v) n) (digits ++ 125 ∷ []) ≡ pending.Closed (capped (value_from v digits))
 open_closes v n [] all some few = cond-true (125 == 125 && nat_lt 0 n) (pending.Closed (capped v)) pending.Nothing (lt-ltb 0 n (omega (arith, some)))
 open_closes v n (c ∷ digits) all some few =
     ap (λ (s : Pending). pends s (digits ++ 125 ∷ [])) (open_digit (capped v) n c all.0 (omega (arith, few)) ∙ ap (λ (m : ℕ). pending.Open m (n + 1)) (capped_more v (c - 48)))

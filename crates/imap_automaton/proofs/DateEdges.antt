@@ -1,5 +1,6 @@
 -- One octet at a date.
-use Rattle.std.proofs.Common.{◌≡◌, ℕ, zero, suc, ◌+◌, ◌<◌, ◌≤◌, Bool, true, false, ◌&&◌, ℤ, List, [], ◌∷◌, ◌++◌, length, map, drop, get_or, cond, refl, sym, ap, subst, ◌∙◌, arith, inl, inr}
+use Rattle.std.proofs.Common.{◌≡◌, ℕ, zero, suc, ◌+◌, ◌<◌, ◌≤◌, Bool, true, false, ◌&&◌, ℤ, List, [], ◌∷◌, ◌++◌, length, map, drop, get_or, cond, refl, sym, ap, subst, ◌∙◌, arith}
+use Rattle.std.proofs.Common.{inl, inr}
 use Rattle.std.specs.Prelude.{◌==◌, nat_lt, nat_le, codes}
 use Rattle.std.proofs.lemmas.Bool.{eqb-true, ltb-true, and_parts, and_from, lt-ltb, eq-eqb, cond-false}
 use Rattle.std.proofs.lemmas.List.{length-drop, length-map, nil_from_length}
@@ -23,7 +24,7 @@ use Rattle.imap_syntax.specs.Texts.{Each}
 use Rattle.imap_syntax.specs.Dates.{month_name}
 use Rattle.imap_syntax.specs.DateTimes.{seconds_of, IsMonth, IsDateTime}
 
--- ---- behind the month
+-- ---- after the month
 
 pub time_back : (at c : ℕ) (t : List ℕ) → After (time_rule at c) t → TimeRest at (c ∷ t)
 time_back at c t h = from_test (nat_lt at 21 && time_octet at c) (cond (at + 1 == 21) move.End (move.One (sym.Date (date.Time (at + 1))))) move.Fail t (TimeRest at (c ∷ t))
@@ -36,7 +37,8 @@ time_back at c t h = from_test (nat_lt at 21 && time_octet at c) (cond (at + 1 =
 
 pub time_forth : (at c : ℕ) (t : List ℕ) → TimeRest at (c ∷ t) → After (time_rule at c) t
 time_forth at c t h =
-    at_true (nat_lt at 21 && time_octet at c) (cond (at + 1 == 21) move.End (move.One (sym.Date (date.Time (at + 1))))) move.Fail t (and_from _ _ (lt-ltb at 21 (let n = h.count in omega (arith, n))) h.each.0)
+    at_true (nat_lt at 21 && time_octet at c) (cond (at + 1 == 21) move.End (move.One (sym.Date (date.Time (at + 1))))) move.Fail t
+    (and_from _ _ (lt-ltb at 21 (let n = h.count in omega (arith, n))) h.each.0)
     (to_test (at + 1 == 21) move.End (move.One (sym.Date (date.Time (at + 1)))) t
     (λ e. nil_from_length t (let n = h.count in let f = eqb-true (at + 1) 21 e in omega (arith, n, f)))
     (λ e. record { each = h.each.1; count = (let n = h.count in omega (arith, n)) }))
@@ -55,13 +57,15 @@ day_back at c t h = from_test (nat_lt at 3 && day_octet at c) (cond (at + 1 == 3
     (λ f l. record { front = c ∷ l.front; back = l.back; whole = ap (λ (u : List ℕ). c ∷ u) l.whole; each = (o, l.each); count = omega (arith, l.count); month = l.month }) k)
     (λ e k. absurd k) h
 
-day_at_text : (at c : ℕ) (t front back : List ℕ) → at < 3 → c ∷ t ≡ front ++ back → Places day_octet at front → at + length front ≡ 3 → WordRest place.Month [] back → After (day_rule at c) t
+day_at_text : (at c : ℕ) (t front back : List ℕ) → at < 3 → c ∷ t ≡ front ++ back → Places day_octet at front → at + length front ≡ 3 → WordRest place.Month [] back
+    → After (day_rule at c) t
 day_at_text at c t [] back lt e each count m = absurd (omega (arith, lt, count))
 day_at_text at c t (d ∷ x) back lt e each count m =
     let o : day_octet at c ≡ true = ap (day_octet at) (cons_head c d t (x ++ back) e) ∙ each.0 in
     at_true (nat_lt at 3 && day_octet at c) (cond (at + 1 == 3) (move.One month_start) (move.One (sym.Date (date.Day (at + 1))))) move.Fail t (and_from _ _ (lt-ltb at 3 lt) o)
     (to_test (at + 1 == 3) (move.One month_start) (move.One (sym.Date (date.Day (at + 1)))) t
-    (λ f. subst (WordRest place.Month []) (sym (cons_tail c d t (x ++ back) e ∙ ap (λ (u : List ℕ). u ++ back) (nil_from_length x (let g = eqb-true (at + 1) 3 f in omega (arith, count, g))))) m)
+    (λ f. subst (WordRest place.Month []) (sym (cons_tail c d t (x ++ back) e
+    ∙ ap (λ (u : List ℕ). u ++ back) (nil_from_length x (let g = eqb-true (at + 1) 3 f in omega (arith, count, g))))) m)
     (λ f. record { front = x; back = back; whole = cons_tail c d t (x ++ back) e; each = each.1; count = omega (arith, count); month = m }))
 
 day_forth : (at c : ℕ) (t : List ℕ) → DateFits (date.Day at) ≡ true → DayRest at (c ∷ t) → After (day_rule at c) t
@@ -97,7 +101,8 @@ key_of (suc (suc (suc (suc (suc (suc (suc (suc zero)))))))) low high = (key.Aug,
 key_of (suc (suc (suc (suc (suc (suc (suc (suc (suc zero))))))))) low high = (key.Sep, inr (inr (inr (inr (inr (inr (inr (inr (inl refl)))))))), refl)
 key_of (suc (suc (suc (suc (suc (suc (suc (suc (suc (suc zero)))))))))) low high = (key.Oct, inr (inr (inr (inr (inr (inr (inr (inr (inr (inl refl))))))))), refl)
 key_of (suc (suc (suc (suc (suc (suc (suc (suc (suc (suc (suc zero))))))))))) low high = (key.Nov, inr (inr (inr (inr (inr (inr (inr (inr (inr (inr (inl refl)))))))))), refl)
-key_of (suc (suc (suc (suc (suc (suc (suc (suc (suc (suc (suc (suc zero)))))))))))) low high = (key.Dec, inr (inr (inr (inr (inr (inr (inr (inr (inr (inr (inr (inl refl))))))))))), refl)
+key_of (suc (suc (suc (suc (suc (suc (suc (suc (suc (suc (suc (suc zero)))))))))))) low high =
+    (key.Dec, inr (inr (inr (inr (inr (inr (inr (inr (inr (inr (inr (inl refl))))))))))), refl)
 key_of (suc (suc (suc (suc (suc (suc (suc (suc (suc (suc (suc (suc (suc m))))))))))))) low high = absurd (omega (arith, high))
 
 month_octet : (c : ℕ) → is_key_octet (lower c) ≡ true → in_word place.Month c ≡ true
@@ -116,7 +121,7 @@ month_octets (c ∷ x) [] h e = absurd cc
 month_octets (c ∷ x) (d ∷ y) h e =
     (month_octet c (ap is_key_octet (cons_head (lower c) d (map lower x) y e) ∙ h.0), month_octets x y h.1 (cons_tail (lower c) d (map lower x) y e))
 
--- a month and what stands behind it
+-- a month and what stands after it
 month_to : (m : ℕ) (name tail : List ℕ) → IsMonth m name → TimeRest 0 tail → in_word place.Month (get_or tail 0 0) ≡ false → WordRest place.Month [] (name ++ tail)
 month_to m name tail h t out =
     let k = key_of m h.0 h.1 in
@@ -148,7 +153,7 @@ month_from t h = by h.says
 
 -- ---- the quote
 
--- the octets behind the month
+-- the octets after the month
 record TimeOctets (t : List ℕ) : Type 0 where
   y1 : ℕ
   y2 : ℕ
@@ -174,35 +179,39 @@ record TimeOctets (t : List ℕ) : Type 0 where
   zone_digits : Each is_digit (z1 ∷ z2 ∷ [])
   zone_more : Each is_digit (z3 ∷ z4 ∷ [])
 
-fixed : (c0 c5 c8 c11 c14 c20 y1 y2 y3 y4 h1 h2 m1 m2 s1 s2 sign z1 z2 z3 z4 : ℕ) → c0 ≡ 45 → c5 ≡ 32 → c8 ≡ 58 → c11 ≡ 58 → c14 ≡ 32 → c20 ≡ 34 → c0 ∷ y1 ∷ y2 ∷ y3 ∷ y4 ∷ c5 ∷ h1 ∷ h2 ∷ c8 ∷ m1 ∷ m2 ∷ c11 ∷ s1 ∷ s2 ∷ c14 ∷ sign ∷ z1 ∷ z2 ∷ z3 ∷ z4 ∷ c20 ∷ [] ≡ 45 ∷ y1 ∷ y2 ∷ y3 ∷ y4 ∷ 32 ∷ h1 ∷ h2 ∷ 58 ∷ m1 ∷ m2 ∷ 58 ∷ s1 ∷ s2 ∷ 32 ∷ sign ∷ z1 ∷ z2 ∷ z3 ∷ z4 ∷ 34 ∷ []
+fixed : (c0 c5 c8 c11 c14 c20 y1 y2 y3 y4 h1 h2 m1 m2 s1 s2 sign z1 z2 z3 z4 : ℕ) → c0 ≡ 45 → c5 ≡ 32 → c8 ≡ 58 → c11 ≡ 58 → c14 ≡ 32 → c20 ≡ 34
+    → c0 ∷ y1 ∷ y2 ∷ y3 ∷ y4 ∷ c5 ∷ h1 ∷ h2 ∷ c8 ∷ m1 ∷ m2 ∷ c11 ∷ s1 ∷ s2 ∷ c14 ∷ sign ∷ z1 ∷ z2 ∷ z3 ∷ z4 ∷ c20 ∷ []
+    ≡ 45 ∷ y1 ∷ y2 ∷ y3 ∷ y4 ∷ 32 ∷ h1 ∷ h2 ∷ 58 ∷ m1 ∷ m2 ∷ 58 ∷ s1 ∷ s2 ∷ 32 ∷ sign ∷ z1 ∷ z2 ∷ z3 ∷ z4 ∷ 34 ∷ []
 fixed c0 c5 c8 c11 c14 c20 y1 y2 y3 y4 h1 h2 m1 m2 s1 s2 sign z1 z2 z3 z4 a b c d e f = rw (a, b, c, d, e, f) refl
 
 time_octets : (t : List ℕ) → Places time_octet 0 t → 0 + length t ≡ 21 → TimeOctets t
-time_octets (c0 ∷ y1 ∷ y2 ∷ y3 ∷ y4 ∷ c5 ∷ h1 ∷ h2 ∷ c8 ∷ m1 ∷ m2 ∷ c11 ∷ s1 ∷ s2 ∷ c14 ∷ sign ∷ z1 ∷ z2 ∷ z3 ∷ z4 ∷ c20 ∷ []) (e0, (e1, (e2, (e3, (e4, (e5, (e6, (e7, (e8, (e9, (e10, (e11, (e12, (e13, (e14, (e15, (e16, (e17, (e18, (e19, (e20, e21))))))))))))))))))))) n = record {
-  y1 = y1;
-  y2 = y2;
-  y3 = y3;
-  y4 = y4;
-  h1 = h1;
-  h2 = h2;
-  m1 = m1;
-  m2 = m2;
-  s1 = s1;
-  s2 = s2;
-  sign = sign;
-  z1 = z1;
-  z2 = z2;
-  z3 = z3;
-  z4 = z4;
-  whole = fixed c0 c5 c8 c11 c14 c20 y1 y2 y3 y4 h1 h2 m1 m2 s1 s2 sign z1 z2 z3 z4 (eqb-true c0 45 e0) (eqb-true c5 32 e5) (eqb-true c8 58 e8) (eqb-true c11 58 e11) (eqb-true c14 32 e14) (eqb-true c20 34 e20);
-  year_digits = (e1, (e2, (e3, (e4, tt))));
-  hour_digits = (e6, (e7, tt));
-  minute_digits = (e9, (e10, tt));
-  second_digits = (e12, (e13, tt));
-  is_signed = e15;
-  zone_digits = (e16, (e17, tt));
-  zone_more = (e18, (e19, tt));
-}
+time_octets (c0 ∷ y1 ∷ y2 ∷ y3 ∷ y4 ∷ c5 ∷ h1 ∷ h2 ∷ c8 ∷ m1 ∷ m2 ∷ c11 ∷ s1 ∷ s2 ∷ c14 ∷ sign ∷ z1 ∷ z2 ∷ z3 ∷ z4 ∷ c20 ∷ [])
+    (e0, (e1, (e2, (e3, (e4, (e5, (e6, (e7, (e8, (e9, (e10, (e11, (e12, (e13, (e14, (e15, (e16, (e17, (e18, (e19, (e20, e21))))))))))))))))))))) n = record {
+      y1 = y1;
+      y2 = y2;
+      y3 = y3;
+      y4 = y4;
+      h1 = h1;
+      h2 = h2;
+      m1 = m1;
+      m2 = m2;
+      s1 = s1;
+      s2 = s2;
+      sign = sign;
+      z1 = z1;
+      z2 = z2;
+      z3 = z3;
+      z4 = z4;
+      whole = fixed c0 c5 c8 c11 c14 c20 y1 y2 y3 y4 h1 h2 m1 m2 s1 s2 sign z1 z2 z3 z4 (eqb-true c0 45 e0) (eqb-true c5 32 e5) (eqb-true c8 58 e8) (eqb-true c11 58 e11)
+          (eqb-true c14 32 e14) (eqb-true c20 34 e20);
+      year_digits = (e1, (e2, (e3, (e4, tt))));
+      hour_digits = (e6, (e7, tt));
+      minute_digits = (e9, (e10, tt));
+      second_digits = (e12, (e13, tt));
+      is_signed = e15;
+      zone_digits = (e16, (e17, tt));
+      zone_more = (e18, (e19, tt));
+    }
 time_octets _ each n = absurd (omega (arith, n))
 
 -- the octets before the month
@@ -222,7 +231,8 @@ date_from t h =
     let d = day_octets h.front h.each h.count in
     let m = month_from h.back h.month in
     let o = time_octets m.tail m.time.each m.time.count in
-    let s : ℤ = seconds_of (four o.y1 o.y2 o.y3 o.y4) m.month (two d.d1 d.d2) (time_of (two o.h1 o.h2) (two o.m1 o.m2) (two o.s1 o.s2)) (o.sign == 43) (zone_of (two o.z1 o.z2) (two o.z3 o.z4)) in (
+    let s : ℤ = seconds_of (four o.y1 o.y2 o.y3 o.y4) m.month (two d.d1 d.d2) (time_of (two o.h1 o.h2) (two o.m1 o.m2) (two o.s1 o.s2)) (o.sign == 43)
+    (zone_of (two o.z1 o.z2) (two o.z3 o.z4)) in (
       s,
       of_octets s (34 ∷ t)
           (record {
@@ -245,7 +255,8 @@ date_from t h =
             z2 = o.z2;
             z3 = o.z3;
             z4 = o.z4;
-            whole = ap (λ (u : List ℕ). 34 ∷ u) (h.whole ∙ ap (λ (u : List ℕ). u ++ h.back) d.whole ∙ ap (λ (u : List ℕ). d.d1 ∷ d.d2 ∷ 45 ∷ u) (m.whole ∙ ap (λ (u : List ℕ). m.name ++ u) o.whole));
+            whole = ap (λ (u : List ℕ). 34 ∷ u) (h.whole ∙ ap (λ (u : List ℕ). u ++ h.back) d.whole
+                ∙ ap (λ (u : List ℕ). d.d1 ∷ d.d2 ∷ 45 ∷ u) (m.whole ∙ ap (λ (u : List ℕ). m.name ++ u) o.whole));
             starts = d.starts;
             digit = d.digit;
             month_is = m.month_is;
@@ -260,7 +271,7 @@ date_from t h =
           }),
     )
 
--- what stands behind the quote
+-- what stands after the quote
 record Quoted (t : List ℕ) : Type 0 where
   inner : List ℕ
   whole : t ≡ 34 ∷ inner
@@ -277,13 +288,38 @@ date_to s t h =
     let zm = o.zone_more in
     let tail : List ℕ = 45 ∷ o.y1 ∷ o.y2 ∷ o.y3 ∷ o.y4 ∷ 32 ∷ o.h1 ∷ o.h2 ∷ 58 ∷ o.m1 ∷ o.m2 ∷ 58 ∷ o.s1 ∷ o.s2 ∷ 32 ∷ o.sign ∷ o.z1 ∷ o.z2 ∷ o.z3 ∷ o.z4 ∷ 34 ∷ [] in
     let time : TimeRest 0 tail = record {
-      each = (refl, (y.0, (y.1.0, (y.1.1.0, (y.1.1.1.0, (refl, (hh.0, (hh.1.0, (refl, (mm.0, (mm.1.0, (refl, (ss.0, (ss.1.0, (refl, (o.is_signed, (zh.0, (zh.1.0, (zm.0, (zm.1.0, (refl, tt)))))))))))))))))))));
+      each = (
+        refl,
+        (
+          y.0,
+          (
+            y.1.0,
+            (
+              y.1.1.0,
+              (
+                y.1.1.1.0,
+                (
+                  refl,
+                  (hh.0, (hh.1.0, (refl, (mm.0, (mm.1.0, (refl, (ss.0, (ss.1.0, (refl, (o.is_signed, (zh.0, (zh.1.0, (zm.0, (zm.1.0, (refl, tt))))))))))))))),
+                ),
+              ),
+            ),
+          ),
+        ),
+      );
       count = refl;
     } in
     record {
       inner = o.d1 ∷ o.d2 ∷ 45 ∷ o.name ++ tail;
       whole = o.whole;
-      day = record { front = o.d1 ∷ o.d2 ∷ 45 ∷ []; back = o.name ++ tail; whole = refl; each = (o.starts, (o.digit, (refl, tt))); count = refl; month = month_to o.month o.name tail o.month_is time refl };
+      day = record {
+        front = o.d1 ∷ o.d2 ∷ 45 ∷ [];
+        back = o.name ++ tail;
+        whole = refl;
+        each = (o.starts, (o.digit, (refl, tt)));
+        count = refl;
+        month = month_to o.month o.name tail o.month_is time refl;
+      };
     }
 
 quote_back : (c : ℕ) (t : List ℕ) → After (date_rule date.Open c) t → DateLang date.Open (c ∷ t)
@@ -329,7 +365,25 @@ abbrev pub date_text : List ℕ
 date_text = 34 ∷ day_text ++ codes "jul" ++ time_text
 
 pub time_example : TimeRest 0 time_text
-time_example = record { each = (refl, (refl, (refl, (refl, (refl, (refl, (refl, (refl, (refl, (refl, (refl, (refl, (refl, (refl, (refl, (refl, (refl, (refl, (refl, (refl, (refl, tt))))))))))))))))))))); count = refl }
+time_example = record {
+  each = (
+    refl,
+    (
+      refl,
+      (
+        refl,
+        (
+          refl,
+          (
+            refl,
+            (refl, (refl, (refl, (refl, (refl, (refl, (refl, (refl, (refl, (refl, (refl, (refl, (refl, (refl, (refl, (refl, tt)))))))))))))))),
+          ),
+        ),
+      ),
+    ),
+  );
+  count = refl;
+}
 
 places_drop : (p : ℕ → ℕ → Bool) (n at : ℕ) (t : List ℕ) → Places p at t → Places p (at + n) (drop n t)
 places_drop p zero at t h = subst (λ (m : ℕ). Places p m t) (omega arith) h

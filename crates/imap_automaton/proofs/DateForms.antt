@@ -64,7 +64,14 @@ one_digit n t (b ∷ []) e h = record { first = 32; second = b; whole = e; start
 one_digit n t _ e h = absurd (omega (arith, h.count_is))
 
 day_digits : (n : ℕ) (t : List ℕ) → IsFixedDay n t → DayDigits n t
-day_digits n t (inl h) = let d = two_digits n t h in record { first = d.first; second = d.second; whole = d.whole; starts = digit_starts d.first d.digits.0; digit = d.digits.1.0; value = d.value }
+day_digits n t (inl h) = let d = two_digits n t h in record {
+  first = d.first;
+  second = d.second;
+  whole = d.whole;
+  starts = digit_starts d.first d.digits.0;
+  digit = d.digits.1.0;
+  value = d.value;
+}
 day_digits n t (inr h) = one_digit n t h.0 h.1 h.2
 
 pub digits_day : (a b : ℕ) → starts_day a ≡ true → is_digit b ≡ true → IsFixedDay (two a b) (a ∷ b ∷ [])
@@ -139,7 +146,8 @@ times_two time hours minutes seconds a b c e f g h = omega (arith, e, f, g, h)
 zone_two : (zone hours minutes a b : ℕ) → zone ≡ zone_of hours minutes → hours ≡ a → minutes ≡ b → zone ≡ zone_of a b
 zone_two zone hours minutes a b e f g = omega (arith, e, f, g)
 
-pub seconds_same : (year month day time zone year2 day2 time2 zone2 : ℕ) (east east2 : Bool) → year ≡ year2 → day ≡ day2 → time ≡ time2 → east ≡ east2 → zone ≡ zone2 → seconds_of year month day time east zone ≡ seconds_of year2 month day2 time2 east2 zone2
+pub seconds_same : (year month day time zone year2 day2 time2 zone2 : ℕ) (east east2 : Bool) → year ≡ year2 → day ≡ day2 → time ≡ time2 → east ≡ east2 → zone ≡ zone2
+    → seconds_of year month day time east zone ≡ seconds_of year2 month day2 time2 east2 zone2
 seconds_same year month day time zone year2 day2 time2 zone2 east east2 a b c d e =
     ap (λ (q : ℕ). seconds_of q month day time east zone) a ∙ ap (λ (q : ℕ). seconds_of year2 month q time east zone) b
     ∙ ap (λ (q : ℕ). seconds_of year2 month day2 q east zone) c ∙ ap (λ (q : Bool). seconds_of year2 month day2 time2 q zone) d
@@ -165,8 +173,11 @@ octets_of seconds t h =
     let ys : List ℕ = y.first ∷ y.second ∷ y.third ∷ y.fourth ∷ [] in
     let cs : List ℕ = hh.first ∷ hh.second ∷ 58 ∷ mm.first ∷ mm.second ∷ 58 ∷ ss.first ∷ ss.second ∷ [] in
     let zs : List ℕ = sign ∷ zh.first ∷ zh.second ∷ zm.first ∷ zm.second ∷ [] in
-    let date : h.date_text ≡ day.first ∷ day.second ∷ 45 ∷ d.month_text ++ 45 ∷ ys = d.whole ∙ ap (λ (u : List ℕ). u ++ 45 ∷ d.month_text ++ 45 ∷ d.year_text) day.whole ∙ ap (λ (u : List ℕ). day.first ∷ day.second ∷ 45 ∷ d.month_text ++ 45 ∷ u) y.whole in
-    let clock : h.time_text ≡ cs = c.whole ∙ ap (λ (u : List ℕ). u ++ 58 ∷ c.minute_text ++ 58 ∷ c.second_text) hh.whole ∙ ap (λ (u : List ℕ). hh.first ∷ hh.second ∷ 58 ∷ u ++ 58 ∷ c.second_text) mm.whole ∙ ap (λ (u : List ℕ). hh.first ∷ hh.second ∷ 58 ∷ mm.first ∷ mm.second ∷ 58 ∷ u) ss.whole in
+    let date : h.date_text ≡ day.first ∷ day.second ∷ 45 ∷ d.month_text ++ 45 ∷ ys = d.whole ∙ ap (λ (u : List ℕ). u ++ 45 ∷ d.month_text ++ 45 ∷ d.year_text) day.whole
+    ∙ ap (λ (u : List ℕ). day.first ∷ day.second ∷ 45 ∷ d.month_text ++ 45 ∷ u) y.whole in
+    let clock : h.time_text ≡ cs = c.whole ∙ ap (λ (u : List ℕ). u ++ 58 ∷ c.minute_text ++ 58 ∷ c.second_text) hh.whole
+    ∙ ap (λ (u : List ℕ). hh.first ∷ hh.second ∷ 58 ∷ u ++ 58 ∷ c.second_text) mm.whole
+    ∙ ap (λ (u : List ℕ). hh.first ∷ hh.second ∷ 58 ∷ mm.first ∷ mm.second ∷ 58 ∷ u) ss.whole in
     let zone : h.zone_text ≡ zs = z.whole ∙ ap (λ (u : List ℕ). sign ∷ u ++ z.minute_text) zh.whole ∙ ap (λ (u : List ℕ). sign ∷ zh.first ∷ zh.second ∷ u) zm.whole in
     record {
       d1 = day.first;
@@ -205,8 +216,11 @@ octets_of seconds t h =
       zone_more = zm.digits;
       value =
           h.value
-          ∙ seconds_same h.year h.month h.day h.time h.zone (four y.first y.second y.third y.fourth) (two day.first day.second) (time_of (two hh.first hh.second) (two mm.first mm.second) (two ss.first ss.second)) (zone_of (two zh.first zh.second) (two zm.first zm.second)) h.east (sign == 43) y.value day.value
-          (times_two h.time c.hours c.minutes c.seconds (two hh.first hh.second) (two mm.first mm.second) (two ss.first ss.second) c.value hh.value mm.value ss.value) (sym (sign_east h.east)) (zone_two h.zone z.hours z.minutes (two zh.first zh.second) (two zm.first zm.second) z.value zh.value zm.value);
+          ∙ seconds_same h.year h.month h.day h.time h.zone (four y.first y.second y.third y.fourth) (two day.first day.second)
+          (time_of (two hh.first hh.second) (two mm.first mm.second) (two ss.first ss.second)) (zone_of (two zh.first zh.second) (two zm.first zm.second)) h.east
+          (sign == 43) y.value day.value
+          (times_two h.time c.hours c.minutes c.seconds (two hh.first hh.second) (two mm.first mm.second) (two ss.first ss.second) c.value hh.value mm.value ss.value)
+          (sym (sign_east h.east)) (zone_two h.zone z.hours z.minutes (two zh.first zh.second) (two zm.first zm.second) z.value zh.value zm.value);
     }
 
 pub of_octets : (seconds : ℤ) (t : List ℕ) → DateOctets seconds t → IsDateTime seconds t
@@ -225,8 +239,37 @@ of_octets seconds t o =
       time_text = cs;
       zone_text = zs;
       whole = o.whole ∙ ap (λ (u : List ℕ). 34 ∷ o.d1 ∷ o.d2 ∷ 45 ∷ u) (sym (rejoin o.name (45 ∷ ys) (32 ∷ cs) (32 ∷ zs) (34 ∷ [])));
-      date_is = record { day_text = o.d1 ∷ o.d2 ∷ []; month_text = o.name; year_text = ys; whole = refl; day_is = digits_day o.d1 o.d2 o.starts o.digit; month_is = o.month_is; year_is = digits_four o.y1 o.y2 o.y3 o.y4 o.year_digits };
-      time_is = record { hours = two o.h1 o.h2; minutes = two o.m1 o.m2; seconds = two o.s1 o.s2; hour_text = o.h1 ∷ o.h2 ∷ []; minute_text = o.m1 ∷ o.m2 ∷ []; second_text = o.s1 ∷ o.s2 ∷ []; whole = refl; hours_are = digits_two o.h1 o.h2 o.hour_digits; minutes_are = digits_two o.m1 o.m2 o.minute_digits; seconds_are = digits_two o.s1 o.s2 o.second_digits; value = refl };
-      zone_is = record { hours = two o.z1 o.z2; minutes = two o.z3 o.z4; hour_text = o.z1 ∷ o.z2 ∷ []; minute_text = o.z3 ∷ o.z4 ∷ []; whole = ap (λ (c : ℕ). c ∷ o.z1 ∷ o.z2 ∷ o.z3 ∷ o.z4 ∷ []) (sign_is o.sign o.is_signed); hours_are = digits_two o.z1 o.z2 o.zone_digits; minutes_are = digits_two o.z3 o.z4 o.zone_more; value = refl };
+      date_is = record {
+        day_text = o.d1 ∷ o.d2 ∷ [];
+        month_text = o.name;
+        year_text = ys;
+        whole = refl;
+        day_is = digits_day o.d1 o.d2 o.starts o.digit;
+        month_is = o.month_is;
+        year_is = digits_four o.y1 o.y2 o.y3 o.y4 o.year_digits;
+      };
+      time_is = record {
+        hours = two o.h1 o.h2;
+        minutes = two o.m1 o.m2;
+        seconds = two o.s1 o.s2;
+        hour_text = o.h1 ∷ o.h2 ∷ [];
+        minute_text = o.m1 ∷ o.m2 ∷ [];
+        second_text = o.s1 ∷ o.s2 ∷ [];
+        whole = refl;
+        hours_are = digits_two o.h1 o.h2 o.hour_digits;
+        minutes_are = digits_two o.m1 o.m2 o.minute_digits;
+        seconds_are = digits_two o.s1 o.s2 o.second_digits;
+        value = refl;
+      };
+      zone_is = record {
+        hours = two o.z1 o.z2;
+        minutes = two o.z3 o.z4;
+        hour_text = o.z1 ∷ o.z2 ∷ [];
+        minute_text = o.z3 ∷ o.z4 ∷ [];
+        whole = ap (λ (c : ℕ). c ∷ o.z1 ∷ o.z2 ∷ o.z3 ∷ o.z4 ∷ []) (sign_is o.sign o.is_signed);
+        hours_are = digits_two o.z1 o.z2 o.zone_digits;
+        minutes_are = digits_two o.z3 o.z4 o.zone_more;
+        value = refl;
+      };
       value = o.value;
     }

@@ -59,7 +59,8 @@ fine ends yields room small move.Yield = yields
 fine ends yields room small move.End = small
 fine ends yields room small (move.One a) = small && SymFits a && (not (ends_open a) || ends) && nat_le (need a) room && nat_le (sym_left a) 50000000
 fine ends yields room small (move.Two a b) =
-    small && SymFits a && SymFits b && (not (ends_open a) || begins b) && (not (ends_open b) || ends) && nat_le (need a + 1) room && nat_le (need b) room && nat_le (sym_left a + sym_left b) 50000000
+    small && SymFits a && SymFits b && (not (ends_open a) || begins b) && (not (ends_open b) || ends) && nat_le (need a + 1) room && nat_le (need b) room
+    && nat_le (sym_left a + sym_left b) 50000000
 
 pub fine_by : (o y : Bool) (r : ℕ) (s b : Bool) (m n : Move) → (b ≡ true → fine o y r s m ≡ true) → (b ≡ false → fine o y r s n ≡ true) → fine o y r s (cond b m n) ≡ true
 fine_by o y r s true m n f g = f refl
@@ -86,8 +87,10 @@ small_digit c e = grind arith
 end_fine : (r : ℕ) (s : Pending) (c : ℕ) → 2 ≤ r → (c == 13) ≡ true → fine false false r (nat_lt c 256) (free_end s) ≡ true
 end_fine r pending.Nothing c le e = and_from _ _ (and_from _ _ (and_from _ _ (and_from _ _ (small_at 13 c refl e) refl) refl) (le-leb 1 r (omega arith))) refl
 end_fine r (pending.Open v n) c le e = and_from _ _ (and_from _ _ (and_from _ _ (and_from _ _ (small_at 13 c refl e) refl) refl) (le-leb 1 r (omega arith))) refl
-end_fine r (pending.Closed v) c le e = fine_by false false r (nat_lt c 256) (nat_le v 50000000) (move.Two (sym.Free (free.Break v)) (sym.Free (free.Text pending.Nothing))) move.Fail
-    (λ f. and_from _ _ (and_from _ _ (and_from _ _ (and_from _ _ (and_from _ _ (and_from _ _ (and_from _ _ (small_at 13 c refl e) f) refl) refl) refl) (le-leb 2 r le)) (le-leb 2 r le)) refl)
+end_fine r (pending.Closed v) c le e = fine_by false false r (nat_lt c 256) (nat_le v 50000000)
+    (move.Two (sym.Free (free.Break v)) (sym.Free (free.Text pending.Nothing))) move.Fail
+    (λ f. and_from _ _ (and_from _ _ (and_from _ _ (and_from _ _ (and_from _ _ (and_from _ _ (and_from _ _ (small_at 13 c refl e) f) refl) refl) refl) (le-leb 2 r le))
+    (le-leb 2 r le)) refl)
     (λ f. refl)
 
 text_fine : (r : ℕ) (s : Pending) (c : ℕ) → 2 ≤ r → PendFits s ≡ true → fine false false r (nat_lt c 256) (text_rule s c) ≡ true
@@ -106,8 +109,10 @@ rest_fine o r c le = fine_by o false r (nat_lt c 256) (c == 32) (move.One (sym.L
     (λ f. and_from _ _ (and_from _ _ (and_from _ _ (and_from _ _ (small_at 13 c refl f) refl) refl) (le-leb 1 r le)) refl)
     (λ f. refl))
 
-spaced_fine : (o : Bool) (r : ℕ) (s : Sym) (c : ℕ) → SymFits s ≡ true → (not (ends_open s) || o) ≡ true → nat_le (need s) r ≡ true → nat_le (sym_left s) 50000000 ≡ true → fine o false r (nat_lt c 256) (spaced_rule (move.One s) c) ≡ true
-spaced_fine o r s c fits ends room left = fine_by o false r (nat_lt c 256) (c == 32) (move.One s) move.Fail (λ e. and_from _ _ (and_from _ _ (and_from _ _ (and_from _ _ (small_at 32 c refl e) fits) ends) room) left) (λ e. refl)
+spaced_fine : (o : Bool) (r : ℕ) (s : Sym) (c : ℕ) → SymFits s ≡ true → (not (ends_open s) || o) ≡ true → nat_le (need s) r ≡ true → nat_le (sym_left s) 50000000 ≡ true
+    → fine o false r (nat_lt c 256) (spaced_rule (move.One s) c) ≡ true
+spaced_fine o r s c fits ends room left = fine_by o false r (nat_lt c 256) (c == 32) (move.One s) move.Fail
+    (λ e. and_from _ _ (and_from _ _ (and_from _ _ (and_from _ _ (small_at 32 c refl e) fits) ends) room) left) (λ e. refl)
 
 end_rule_fine : (r c : ℕ) → 1 ≤ r → fine false false r (nat_lt c 256) (end_rule c) ≡ true
 end_rule_fine r c le = fine_by false false r (nat_lt c 256) (c == 13) (move.One (sym.Line (line.Fixed phrase.Crlf 1))) move.Fail
@@ -115,7 +120,8 @@ end_rule_fine r c le = fine_by false false r (nat_lt c 256) (c == 13) (move.One 
     (λ f. refl)
 
 words_more_fine : (r c : ℕ) → 1 ≤ r → fine false false r (nat_lt c 256) (words_more c) ≡ true
-words_more_fine r c le = fine_by false false r (nat_lt c 256) (c == 32) (move.One (sym.Words words.First)) (cond (c == 13) (move.One (sym.Line (line.Fixed phrase.Crlf 1))) move.Fail)
+words_more_fine r c le = fine_by false false r (nat_lt c 256) (c == 32) (move.One (sym.Words words.First))
+    (cond (c == 13) (move.One (sym.Line (line.Fixed phrase.Crlf 1))) move.Fail)
     (λ e. and_from _ _ (and_from _ _ (and_from _ _ (and_from _ _ (small_at 32 c refl e) refl) refl) (le-leb 1 r le)) refl)
     (λ e. end_rule_fine r c le)
 
@@ -176,7 +182,8 @@ name_fine : (s : ItemName) (c : ℕ) → fine true false 2 (nat_lt c 256) (item_
 name_fine s c = fine_by true false 2 (nat_lt c 256) (c == 32 && may_end s) (move.One (sym.Value value.Start))
     (cond (c == 34 && in_section s) (move.Two (sym.Str str.Quoted) (sym.ItemName name.Section)) (cond (takes s c) (move.One (sym.ItemName (next_name s c))) move.Fail))
     (λ e. one_fine c (small_at 32 c refl (and_parts (c == 32) (may_end s) e).0))
-    (λ e. fine_by true false 2 (nat_lt c 256) (c == 34 && in_section s) (move.Two (sym.Str str.Quoted) (sym.ItemName name.Section)) (cond (takes s c) (move.One (sym.ItemName (next_name s c))) move.Fail)
+    (λ e. fine_by true false 2 (nat_lt c 256) (c == 34 && in_section s) (move.Two (sym.Str str.Quoted) (sym.ItemName name.Section))
+    (cond (takes s c) (move.One (sym.ItemName (next_name s c))) move.Fail)
     (λ f. two_fine c (small_at 34 c refl (and_parts (c == 34) (in_section s) f).0))
     (λ f. fine_by true false 2 (nat_lt c 256) (takes s c) (move.One (sym.ItemName (next_name s c))) move.Fail (λ g. next_fine (next_name s c) c (takes_small s c g)) (λ g. refl)))
   where
@@ -200,15 +207,18 @@ behind_fine place.Plain key.Preauth q at c = rest_fine false 4 c (omega arith)
 behind_fine place.Plain key.Bye q at c = rest_fine false 4 c (omega arith)
 behind_fine place.Plain key.Capability q at c = words_more_fine 4 c (omega arith)
 behind_fine place.Plain key.Enabled q at c = words_more_fine 4 c (omega arith)
-behind_fine place.Plain key.Flags q at c = fine_by false false 4 (nat_lt c 256) (c == 32) (move.Two (sym.Names names.Open) (sym.Line (line.Fixed phrase.Crlf 0))) move.Fail (λ e. pair_fine c (small_at 32 c refl e)) (λ e. refl)
+behind_fine place.Plain key.Flags q at c = fine_by false false 4 (nat_lt c 256) (c == 32) (move.Two (sym.Names names.Open) (sym.Line (line.Fixed phrase.Crlf 0))) move.Fail
+    (λ e. pair_fine c (small_at 32 c refl e)) (λ e. refl)
   where
     pair_fine : (c : ℕ) → nat_lt c 256 ≡ true → fine false false 4 (nat_lt c 256) (move.Two (sym.Names names.Open) (sym.Line (line.Fixed phrase.Crlf 0))) ≡ true
     pair_fine c e = rw e refl
-behind_fine place.Plain key.List q at c = fine_by false false 4 (nat_lt c 256) (c == 32) (move.Two (sym.Names names.Open) (sym.Folder folder.Attributes)) move.Fail (λ e. pair_fine c (small_at 32 c refl e)) (λ e. refl)
+behind_fine place.Plain key.List q at c = fine_by false false 4 (nat_lt c 256) (c == 32) (move.Two (sym.Names names.Open) (sym.Folder folder.Attributes)) move.Fail
+    (λ e. pair_fine c (small_at 32 c refl e)) (λ e. refl)
   where
     pair_fine : (c : ℕ) → nat_lt c 256 ≡ true → fine false false 4 (nat_lt c 256) (move.Two (sym.Names names.Open) (sym.Folder folder.Attributes)) ≡ true
     pair_fine c e = rw e refl
-behind_fine place.Plain key.Status q at c = fine_by false false 4 (nat_lt c 256) (c == 32) (move.Two (sym.Str str.AString) (sym.Folder folder.Counts)) move.Fail (λ e. pair_fine c (small_at 32 c refl e)) (λ e. refl)
+behind_fine place.Plain key.Status q at c = fine_by false false 4 (nat_lt c 256) (c == 32) (move.Two (sym.Str str.AString) (sym.Folder folder.Counts)) move.Fail
+    (λ e. pair_fine c (small_at 32 c refl e)) (λ e. refl)
   where
     pair_fine : (c : ℕ) → nat_lt c 256 ≡ true → fine false false 4 (nat_lt c 256) (move.Two (sym.Str str.AString) (sym.Folder folder.Counts)) ≡ true
     pair_fine c e = rw e refl
@@ -252,22 +262,27 @@ same_word place.Month k q at n = (refl, refl)
 not_or_self : (a b : Bool) → a ≡ b → (not a || b) ≡ true
 not_or_self a b e = grind arith
 
-goes_fine : (p : Place) (k : Key) (at c : ℕ) (o : Option Key) → is_among k (keys p) ≡ true → next_key p k at (lower c) ≡ o → in_word p c ≡ true → fine (ends_open (sym.Word p k at)) false (need (sym.Word p k at)) (nat_lt c 256) (word_goes p k at c o) ≡ true
+goes_fine : (p : Place) (k : Key) (at c : ℕ) (o : Option Key) → is_among k (keys p) ≡ true → next_key p k at (lower c) ≡ o → in_word p c ≡ true
+    → fine (ends_open (sym.Word p k at)) false (need (sym.Word p k at)) (nat_lt c 256) (word_goes p k at c o) ≡ true
 goes_fine p k at c (Some x) m e i =
     let f = find_some (goes_on k at (lower c)) (k ∷ keys p) x e in
     let g = goes_to k x at (lower c) f.0 in
     let w = same_word p x k (at + 1) at in
-    and_from _ _ (and_from _ _ (and_from _ _ (and_from _ _ (in_word_small p c i) (and_from _ _ (le-leb _ _ g.1) (among_is x (keys p) (among_keys p k x m f.1)))) (not_or_self _ _ w.0)) (le-leb (need (sym.Word p x (at + 1))) (need (sym.Word p k at)) (omega (arith, w.1)))) refl
+    and_from _ _ (and_from _ _ (and_from _ _ (and_from _ _ (in_word_small p c i) (and_from _ _ (le-leb _ _ g.1) (among_is x (keys p) (among_keys p k x m f.1))))
+    (not_or_self _ _ w.0)) (le-leb (need (sym.Word p x (at + 1))) (need (sym.Word p k at)) (omega (arith, w.1)))) refl
 goes_fine p k at c None m e i = stray_fine p k at c
 
 ends_fine : (p : Place) (k : Key) (at c : ℕ) (o : Option Key) → fine (ends_open (sym.Word p k at)) false (need (sym.Word p k at)) (nat_lt c 256) (word_ends p k at c o) ≡ true
 ends_fine p k at c (Some x) = behind_fine p x k at c
 ends_fine p k at c None = stray_fine p k at c
 
-word_fine : (p : Place) (k : Key) (at c : ℕ) → is_among k (keys p) ≡ true → fine (ends_open (sym.Word p k at)) false (need (sym.Word p k at)) (nat_lt c 256) (word_rule p k at c) ≡ true
-word_fine p k at c m = fine_by (ends_open (sym.Word p k at)) false (need (sym.Word p k at)) (nat_lt c 256) (in_word p c) (word_goes p k at c (next_key p k at (lower c))) (cond (at == 0) move.Fail (word_ends p k at c (whole_key p k at)))
+word_fine : (p : Place) (k : Key) (at c : ℕ) → is_among k (keys p) ≡ true
+    → fine (ends_open (sym.Word p k at)) false (need (sym.Word p k at)) (nat_lt c 256) (word_rule p k at c) ≡ true
+word_fine p k at c m = fine_by (ends_open (sym.Word p k at)) false (need (sym.Word p k at)) (nat_lt c 256) (in_word p c) (word_goes p k at c (next_key p k at (lower c)))
+    (cond (at == 0) move.Fail (word_ends p k at c (whole_key p k at)))
     (λ i. goes_fine p k at c (next_key p k at (lower c)) m refl i)
-    (λ i. fine_by (ends_open (sym.Word p k at)) false (need (sym.Word p k at)) (nat_lt c 256) (at == 0) move.Fail (word_ends p k at c (whole_key p k at)) (λ z. refl) (λ z. ends_fine p k at c (whole_key p k at)))
+    (λ i. fine_by (ends_open (sym.Word p k at)) false (need (sym.Word p k at)) (nat_lt c 256) (at == 0) move.Fail (word_ends p k at c (whole_key p k at)) (λ z. refl)
+    (λ z. ends_fine p k at c (whole_key p k at)))
 
 -- ---- lines
 
@@ -300,35 +315,43 @@ folded_small p at c e = small c (get_or (phrase_text p) at 0) (low_at (phrase_te
     small c d f e = grind arith
 
 fixed_fine : (p : Phrase) (at c : ℕ) → SymFits (sym.Line (line.Fixed p at)) ≡ true → fine false false 1 (nat_lt c 256) (fixed_rule p at c) ≡ true
-fixed_fine p at c fits = fine_by false false 1 (nat_lt c 256) (nat_lt at (length (phrase_text p)) && c == get_or (phrase_text p) at 0) (cond (at + 1 == length (phrase_text p)) move.End (move.One (sym.Line (line.Fixed p (at + 1))))) move.Fail
+fixed_fine p at c fits = fine_by false false 1 (nat_lt c 256) (nat_lt at (length (phrase_text p)) && c == get_or (phrase_text p) at 0)
+    (cond (at + 1 == length (phrase_text p)) move.End (move.One (sym.Line (line.Fixed p (at + 1))))) move.Fail
     (λ e.
     let q = and_parts (nat_lt at (length (phrase_text p))) (c == get_or (phrase_text p) at 0) e in
     let small = octet_small p at c q.1 in
     fine_by false false 1 (nat_lt c 256) (at + 1 == length (phrase_text p)) move.End (move.One (sym.Line (line.Fixed p (at + 1)))) (λ f. small)
-    (λ f. let ne : at + 1 ≡ length (phrase_text p) → ⊥ = eqb-false _ _ f in and_from _ _ (and_from _ _ (and_from _ _ (and_from _ _ small (lt-ltb _ _ (omega (arith, ltb-true _ _ q.0, ne)))) refl) refl) refl))
+    (λ f. let ne : at + 1 ≡ length (phrase_text p) → ⊥ = eqb-false _ _ f in
+    and_from _ _ (and_from _ _ (and_from _ _ (and_from _ _ small (lt-ltb _ _ (omega (arith, ltb-true _ _ q.0, ne)))) refl) refl) refl))
     (λ e. refl)
 
 folded_fine : (p : Phrase) (at c : ℕ) → SymFits (sym.Line (line.Folded p at)) ≡ true → fine false false 1 (nat_lt c 256) (folded_rule p at c) ≡ true
-folded_fine p at c fits = fine_by false false 1 (nat_lt c 256) (nat_lt at (length (phrase_text p)) && lower c == get_or (phrase_text p) at 0) (cond (at + 1 == length (phrase_text p)) move.End (move.One (sym.Line (line.Folded p (at + 1))))) move.Fail
+folded_fine p at c fits = fine_by false false 1 (nat_lt c 256) (nat_lt at (length (phrase_text p)) && lower c == get_or (phrase_text p) at 0)
+    (cond (at + 1 == length (phrase_text p)) move.End (move.One (sym.Line (line.Folded p (at + 1))))) move.Fail
     (λ e.
     let q = and_parts (nat_lt at (length (phrase_text p))) (lower c == get_or (phrase_text p) at 0) e in
     let small = folded_small p at c q.1 in
     fine_by false false 1 (nat_lt c 256) (at + 1 == length (phrase_text p)) move.End (move.One (sym.Line (line.Folded p (at + 1)))) (λ f. small)
-    (λ f. let ne : at + 1 ≡ length (phrase_text p) → ⊥ = eqb-false _ _ f in and_from _ _ (and_from _ _ (and_from _ _ (and_from _ _ small (lt-ltb _ _ (omega (arith, ltb-true _ _ q.0, ne)))) refl) refl) refl))
+    (λ f. let ne : at + 1 ≡ length (phrase_text p) → ⊥ = eqb-false _ _ f in
+    and_from _ _ (and_from _ _ (and_from _ _ (and_from _ _ small (lt-ltb _ _ (omega (arith, ltb-true _ _ q.0, ne)))) refl) refl) refl))
     (λ e. refl)
 
 line_fine : (s : Line) (c : ℕ) → SymFits (sym.Line s) ≡ true → fine (ends_open (sym.Line s)) false (need (sym.Line s)) (nat_lt c 256) (line_rule s c) ≡ true
 line_fine line.Start c fits = grind arith
 line_fine (line.Tag n) c fits = grind arith
-line_fine line.Untagged c fits = fine_by false false 4 (nat_lt c 256) (is_digit c) (move.One (sym.Line (line.Sequence (c - 48) 1))) (word_rule place.Plain (first_key place.Plain) 0 c) (λ d. digit_fine c d) (λ d. word_fine place.Plain key.Ok 0 c refl)
+line_fine line.Untagged c fits = fine_by false false 4 (nat_lt c 256) (is_digit c) (move.One (sym.Line (line.Sequence (c - 48) 1)))
+    (word_rule place.Plain (first_key place.Plain) 0 c) (λ d. digit_fine c d) (λ d. word_fine place.Plain key.Ok 0 c refl)
   where
     digit_fine : (c : ℕ) → is_digit c ≡ true → fine false false 4 (nat_lt c 256) (move.One (sym.Line (line.Sequence (c - 48) 1))) ≡ true
     digit_fine c d = grind arith
-line_fine (line.Sequence v n) c fits = fine_by false false 4 (nat_lt c 256) (is_digit c && nat_lt n 10 && nat_le (10 * v + (c - 48)) 4294967295) (move.One (sym.Line (line.Sequence (10 * v + (c - 48)) (n + 1)))) (cond (c == 32) (move.One (word_start place.Numbered)) (text_rule pending.Nothing c))
+line_fine (line.Sequence v n) c fits = fine_by false false 4 (nat_lt c 256) (is_digit c && nat_lt n 10 && nat_le (10 * v + (c - 48)) 4294967295)
+    (move.One (sym.Line (line.Sequence (10 * v + (c - 48)) (n + 1)))) (cond (c == 32) (move.One (word_start place.Numbered)) (text_rule pending.Nothing c))
     (λ d. digits_fine v n c d)
-    (λ d. fine_by false false 4 (nat_lt c 256) (c == 32) (move.One (word_start place.Numbered)) (text_rule pending.Nothing c) (λ e. space_fine c e) (λ e. text_fine 4 pending.Nothing c (omega arith) refl))
+    (λ d. fine_by false false 4 (nat_lt c 256) (c == 32) (move.One (word_start place.Numbered)) (text_rule pending.Nothing c) (λ e. space_fine c e)
+    (λ e. text_fine 4 pending.Nothing c (omega arith) refl))
   where
-    digits_fine : (v n c : ℕ) → (is_digit c && nat_lt n 10 && nat_le (10 * v + (c - 48)) 4294967295) ≡ true → fine false false 4 (nat_lt c 256) (move.One (sym.Line (line.Sequence (10 * v + (c - 48)) (n + 1)))) ≡ true
+    digits_fine : (v n c : ℕ) → (is_digit c && nat_lt n 10 && nat_le (10 * v + (c - 48)) 4294967295) ≡ true
+        → fine false false 4 (nat_lt c 256) (move.One (sym.Line (line.Sequence (10 * v + (c - 48)) (n + 1)))) ≡ true
     digits_fine v n c d = grind arith
 
     space_fine : (c : ℕ) → (c == 32) ≡ true → fine false false 4 (nat_lt c 256) (move.One (word_start place.Numbered)) ≡ true
@@ -373,7 +396,8 @@ set_ends_fine : (second : Bool) (c : ℕ) → fine false false 1 (nat_lt c 256) 
 set_ends_fine true c = grind arith
 set_ends_fine false c = grind arith
 
-set_number_fine : (v n : ℕ) (second : Bool) (c r : ℕ) → 1 ≤ r → fine false false r (nat_lt c 256) (set_ends second c) ≡ true → fine false false r (nat_lt c 256) (set_number v n second c) ≡ true
+set_number_fine : (v n : ℕ) (second : Bool) (c r : ℕ) → 1 ≤ r → fine false false r (nat_lt c 256) (set_ends second c) ≡ true
+    → fine false false r (nat_lt c 256) (set_number v n second c) ≡ true
 set_number_fine v n second c r le ends =
     let w : ℕ = 10 * v + (c - 48) in
     fine_by false false r (nat_lt c 256) (is_digit c)
@@ -401,7 +425,8 @@ small_atom : (c : ℕ) → is_atom c ≡ true → nat_lt c 256 ≡ true
 small_atom c e = grind arith
 
 -- a fact of each symbol that reads what follows a string's first octet
-starts_fine : (P : Option Sym → Type 0) (c : ℕ) → (nat_lt c 256 ≡ true → P (Some (sym.Str str.Quoted))) → (nat_lt c 256 ≡ true → P (Some (sym.Str (str.Count 0 0)))) → (nat_lt c 256 ≡ true → P (Some (sym.Str str.AtomTilde))) → (nat_lt c 256 ≡ true → P (Some (sym.Names names.AtomRest))) → P None → P (flat_start c)
+starts_fine : (P : Option Sym → Type 0) (c : ℕ) → (nat_lt c 256 ≡ true → P (Some (sym.Str str.Quoted))) → (nat_lt c 256 ≡ true → P (Some (sym.Str (str.Count 0 0))))
+    → (nat_lt c 256 ≡ true → P (Some (sym.Str str.AtomTilde))) → (nat_lt c 256 ≡ true → P (Some (sym.Names names.AtomRest))) → P None → P (flat_start c)
 starts_fine P c quoted count tilde atom none = by (c == 34) refl (c == 123) refl (c == 126) refl (is_atom c) refl
   where
     by : (p : Bool) → (c == 34) ≡ p → (q : Bool) → (c == 123) ≡ q → (r : Bool) → (c == 126) ≡ r → (s : Bool) → is_atom c ≡ s
@@ -419,7 +444,8 @@ value_alone_fine : (c : ℕ) → fine true false 2 (nat_lt c 256) (alone (flat_s
 value_alone_fine c = starts_fine (λ o. fine true false 2 (nat_lt c 256) (alone o) ≡ true) c (λ e. rw e refl) (λ e. rw e refl) (λ e. rw e refl) (λ e. rw e refl) refl
 
 before_fine : (w c : ℕ) → nat_le w 63 ≡ true → fine false false 2 (nat_lt c 256) (before (sym.Value (value.More w)) (flat_start c)) ≡ true
-before_fine w c f = starts_fine (λ o. fine false false 2 (nat_lt c 256) (before (sym.Value (value.More w)) o) ≡ true) c (λ e. rw e (rw f refl)) (λ e. rw e (rw f refl)) (λ e. rw e (rw f refl)) (λ e. rw e (rw f refl)) refl
+before_fine w c f = starts_fine (λ o. fine false false 2 (nat_lt c 256) (before (sym.Value (value.More w)) o) ≡ true) c (λ e. rw e (rw f refl)) (λ e. rw e (rw f refl))
+    (λ e. rw e (rw f refl)) (λ e. rw e (rw f refl)) refl
 
 count_fits : (n w : ℕ) → (nat_lt n 8 && nat_le w 50000000) ≡ true → SymFits (sym.Str (str.Count w (n + 1))) ≡ true
 count_fits n w e = grind arith
@@ -451,7 +477,8 @@ string_fine str.Escaped c fits = grind arith
 string_fine str.Tilde c fits = grind arith
 string_fine str.AtomTilde c fits = grind arith
 string_fine (str.Count v n) c fits = count_fine v n c fits
-string_fine (str.Brace n) c fits = fine_by false false 1 (nat_lt c 256) (c == 13) (move.One (sym.Free (free.Break n))) move.Fail (λ e. and_from _ _ (and_from _ _ (and_from _ _ (and_from _ _ (small_at 13 c refl e) fits) refl) refl) refl) (λ e. refl)
+string_fine (str.Brace n) c fits = fine_by false false 1 (nat_lt c 256) (c == 13) (move.One (sym.Free (free.Break n))) move.Fail
+    (λ e. and_from _ _ (and_from _ _ (and_from _ _ (and_from _ _ (small_at 13 c refl e) fits) refl) refl) refl) (λ e. refl)
 
 -- ---- values
 
@@ -462,7 +489,8 @@ higher : (w : ℕ) → nat_le w 63 ≡ true → nat_le (w - 1) 63 ≡ true
 higher w e = grind arith
 
 inner_fine : (w c : ℕ) → nat_le w 63 ≡ true → fine false false 2 (nat_lt c 256) (inner_rule w c) ≡ true
-inner_fine w c f = fine_by false false 2 (nat_lt c 256) (c == 40) (cond (nat_lt w 63) (move.One (sym.Value (value.First (w + 1)))) move.Fail) (before (sym.Value (value.More w)) (flat_start c))
+inner_fine w c f = fine_by false false 2 (nat_lt c 256) (c == 40) (cond (nat_lt w 63) (move.One (sym.Value (value.First (w + 1)))) move.Fail)
+    (before (sym.Value (value.More w)) (flat_start c))
     (λ e. fine_by false false 2 (nat_lt c 256) (nat_lt w 63) (move.One (sym.Value (value.First (w + 1)))) move.Fail
     (λ g. and_from _ _ (and_from _ _ (and_from _ _ (and_from _ _ (small_at 40 c refl e) (deeper w g)) refl) refl) refl)
     (λ g. refl))
@@ -473,7 +501,8 @@ closes_fine w c f small = fine_by false false 2 (nat_lt c 256) (w == 0) move.End
     (λ e. and_from _ _ (and_from _ _ (and_from _ _ (and_from _ _ small (higher w f)) refl) refl) refl)
 
 value_fine : (s : Value) (c : ℕ) → SymFits (sym.Value s) ≡ true → fine (ends_open (sym.Value s)) (may_yield (sym.Value s)) 2 (nat_lt c 256) (value_rule s c) ≡ true
-value_fine value.Start c f = fine_by true false 2 (nat_lt c 256) (c == 40) (move.One (sym.Value (value.First 0))) (alone (flat_start c)) (λ e. rw (small_at 40 c refl e) refl) (λ e. value_alone_fine c)
+value_fine value.Start c f = fine_by true false 2 (nat_lt c 256) (c == 40) (move.One (sym.Value (value.First 0))) (alone (flat_start c)) (λ e. rw (small_at 40 c refl e) refl)
+    (λ e. value_alone_fine c)
 value_fine (value.First w) c f = fine_by false false 2 (nat_lt c 256) (c == 41) (closes w) (inner_rule w c) (λ e. closes_fine w c f (small_at 41 c refl e)) (λ e. inner_fine w c f)
 value_fine (value.Next w) c f = inner_fine w c f
 value_fine (value.More w) c f = fine_by false false 2 (nat_lt c 256) (c == 32) (move.One (sym.Value (value.Next w))) (cond (c == 41) (closes w) move.Fail)
@@ -521,7 +550,8 @@ move_fine (sym.Date (date.Day at)) c o fits = day_fine at c
 move_fine (sym.Date (date.Time at)) c o fits = time_fine at c
 move_fine (sym.Words words.More) c o fits = words_more_fine 1 c (omega arith)
 move_fine (sym.Words words.First) c o fits = grind arith
-move_fine (sym.Words words.Rest) c o fits = fine_by false false 1 (nat_lt c 256) (is_word c) (move.One (sym.Words words.Rest)) (words_more c) (λ e. rest_word_fine c e) (λ e. words_more_fine 1 c (omega arith))
+move_fine (sym.Words words.Rest) c o fits = fine_by false false 1 (nat_lt c 256) (is_word c) (move.One (sym.Words words.Rest)) (words_more c) (λ e. rest_word_fine c e)
+    (λ e. words_more_fine 1 c (omega arith))
   where
     rest_word_fine : (c : ℕ) → is_word c ≡ true → fine false false 1 (nat_lt c 256) (move.One (sym.Words words.Rest)) ≡ true
     rest_word_fine c e = grind arith

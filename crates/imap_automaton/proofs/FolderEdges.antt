@@ -14,7 +14,8 @@ use Rattle.imap_automaton.specs.declared.sym.Move.TheVariants as move
 use Rattle.imap_automaton.specs.FolderRules.{octet_rule, folder_rule}
 use Rattle.imap_automaton.specs.Flow.{stops}
 use Rattle.imap_automaton.proofs.Rests.{LongRest, IsSpaced, long_from, long_to}
-use Rattle.imap_automaton.proofs.FolderLangs.{AnyDelimiter, DelimiterRest, DelimiterPair, NameLine, DelimiterLine, AnyCounts, MoreCounts, IsStatusWord, WordCount, CountsLine, FolderLang}
+use Rattle.imap_automaton.proofs.FolderLangs.{AnyDelimiter, DelimiterRest, DelimiterPair, NameLine, DelimiterLine, AnyCounts, MoreCounts, IsStatusWord, WordCount, CountsLine}
+use Rattle.imap_automaton.proofs.FolderLangs.{FolderLang}
 use Rattle.imap_automaton.proofs.Langs.{After}
 use Rattle.imap_automaton.proofs.Lists.{cons_head, cons_tail}
 use Rattle.imap_automaton.proofs.Tests.{from_test, at_true, at_false, is_true_at, crlf_of, crlf_parts, mid}
@@ -37,17 +38,20 @@ spaced_is L c t h = (eq-eqb c 32 (cons_head c 32 t h.0 h.1), subst L (sym (cons_
 -- ---- LIST
 
 attributes_back : (c : ℕ) (t : List ℕ) → After (folder_rule folder.Attributes c) t → DelimiterLine (c ∷ t)
-attributes_back c t h = from_test (c == 32) (move.Two (sym.Folder folder.Delimiter) (sym.Folder folder.Name)) move.Fail t (DelimiterLine (c ∷ t)) (λ e k. spaced_to (Then AnyDelimiter NameLine) c t e k) (λ e k. absurd k) h
+attributes_back c t h = from_test (c == 32) (move.Two (sym.Folder folder.Delimiter) (sym.Folder folder.Name)) move.Fail t (DelimiterLine (c ∷ t))
+    (λ e k. spaced_to (Then AnyDelimiter NameLine) c t e k) (λ e k. absurd k) h
 
 attributes_forth : (c : ℕ) (t : List ℕ) → DelimiterLine (c ∷ t) → After (folder_rule folder.Attributes c) t
-attributes_forth c t h = let k = spaced_is (Then AnyDelimiter NameLine) c t h in at_true (c == 32) (move.Two (sym.Folder folder.Delimiter) (sym.Folder folder.Name)) move.Fail t k.0 k.1
+attributes_forth c t h = let k = spaced_is (Then AnyDelimiter NameLine) c t h in
+    at_true (c == 32) (move.Two (sym.Folder folder.Delimiter) (sym.Folder folder.Name)) move.Fail t k.0 k.1
 
 -- the quoted text of one octet
 quoted_one : (c : ℕ) (t : List ℕ) → (c == 34) ≡ true → DelimiterRest t → AnyDelimiter (c ∷ t)
 quoted_one c t e h = (Some h.0, ((h.1, tt), ap (λ (n : ℕ). n ∷ t) (eqb-true c 34 e) ∙ ap (λ (u : List ℕ). 34 ∷ u) h.2))
 
 delimiter_back : (c : ℕ) (t : List ℕ) → After (folder_rule folder.Delimiter c) t → AnyDelimiter (c ∷ t)
-delimiter_back c t h = from_test (c == 34) (move.One (sym.Folder folder.DelimiterOctet)) (cond (lower c == 110) (move.One (sym.Line (line.Folded phrase.Nil 1))) move.Fail) t (AnyDelimiter (c ∷ t))
+delimiter_back c t h = from_test (c == 34) (move.One (sym.Folder folder.DelimiterOctet)) (cond (lower c == 110) (move.One (sym.Line (line.Folded phrase.Nil 1))) move.Fail) t
+    (AnyDelimiter (c ∷ t))
     (λ e k. quoted_one c t e k)
     (λ e k. from_test (lower c == 110) (move.One (sym.Line (line.Folded phrase.Nil 1))) move.Fail t (AnyDelimiter (c ∷ t))
     (λ f l. (None, ap (λ (n : ℕ). n ∷ map lower t) (eqb-true (lower c) 110 f) ∙ ap (λ (u : List ℕ). 110 ∷ u) l))
@@ -66,13 +70,16 @@ delimiter_forth c t h = by h.0 h.1
         (at_true (lower c == 110) (move.One (sym.Line (line.Folded phrase.Nil 1))) move.Fail t (eq-eqb (lower c) 110 e) (cons_tail (lower c) 110 (map lower t) (codes "il") n))
     by (Some d) q =
         let rest : List ℕ = escaped (d ∷ []) ++ 34 ∷ [] in
-        at_true (c == 34) (move.One (sym.Folder folder.DelimiterOctet)) (cond (lower c == 110) (move.One (sym.Line (line.Folded phrase.Nil 1))) move.Fail) t (eq-eqb c 34 (cons_head c 34 t rest q.1))
+        at_true (c == 34) (move.One (sym.Folder folder.DelimiterOctet)) (cond (lower c == 110) (move.One (sym.Line (line.Folded phrase.Nil 1))) move.Fail) t
+        (eq-eqb c 34 (cons_head c 34 t rest q.1))
         (d, q.0.0, cons_tail c 34 t rest q.1)
 
 octet_back : (c : ℕ) (t : List ℕ) → After (folder_rule folder.DelimiterOctet c) t → DelimiterRest (c ∷ t)
-octet_back c t h = from_test (c == 34) move.Fail (cond (c == 92) (move.One (sym.Folder folder.DelimiterEscaped)) (cond (is_text c) (move.One (sym.Line (line.Fixed phrase.Quote 0))) move.Fail)) t (DelimiterRest (c ∷ t))
+octet_back c t h = from_test (c == 34) move.Fail (cond (c == 92) (move.One (sym.Folder folder.DelimiterEscaped))
+    (cond (is_text c) (move.One (sym.Line (line.Fixed phrase.Quote 0))) move.Fail)) t (DelimiterRest (c ∷ t))
     (λ e k. absurd k)
-    (λ e k. from_test (c == 92) (move.One (sym.Folder folder.DelimiterEscaped)) (cond (is_text c) (move.One (sym.Line (line.Fixed phrase.Quote 0))) move.Fail) t (DelimiterRest (c ∷ t))
+    (λ e k. from_test (c == 92) (move.One (sym.Folder folder.DelimiterEscaped)) (cond (is_text c) (move.One (sym.Line (line.Fixed phrase.Quote 0))) move.Fail) t
+    (DelimiterRest (c ∷ t))
     (λ f l. (l.0, special_text l.0 l.1, ap (λ (n : ℕ). n ∷ t) (eqb-true c 92 f) ∙ ap (λ (u : List ℕ). 92 ∷ u) l.2 ∙ sym (escaped_pair l.0 [] l.1)))
     (λ f l. from_test (is_text c) (move.One (sym.Line (line.Fixed phrase.Quote 0))) move.Fail t (DelimiterRest (c ∷ t))
     (λ g m. (c, g, ap (λ (u : List ℕ). c ∷ u) m ∙ sym (escaped_self c [] (from_parts c e f))))
@@ -82,53 +89,66 @@ octet_at : (d c : ℕ) (t : List ℕ) (b : Bool) → (d == 34 || d == 92) ≡ b 
 octet_at d c t true f is e =
     let g : c ∷ t ≡ 92 ∷ d ∷ 34 ∷ [] = e ∙ escaped_pair d [] f in
     let slash : c ≡ 92 = cons_head c 92 t (d ∷ 34 ∷ []) g in
-    at_false (c == 34) move.Fail (cond (c == 92) (move.One (sym.Folder folder.DelimiterEscaped)) (cond (is_text c) (move.One (sym.Line (line.Fixed phrase.Quote 0))) move.Fail)) t (ap (λ (n : ℕ). n == 34) slash)
-    (at_true (c == 92) (move.One (sym.Folder folder.DelimiterEscaped)) (cond (is_text c) (move.One (sym.Line (line.Fixed phrase.Quote 0))) move.Fail) t (eq-eqb c 92 slash) (d, f, cons_tail c 92 t (d ∷ 34 ∷ []) g))
+    at_false (c == 34) move.Fail (cond (c == 92) (move.One (sym.Folder folder.DelimiterEscaped)) (cond (is_text c) (move.One (sym.Line (line.Fixed phrase.Quote 0))) move.Fail)) t
+    (ap (λ (n : ℕ). n == 34) slash)
+    (at_true (c == 92) (move.One (sym.Folder folder.DelimiterEscaped)) (cond (is_text c) (move.One (sym.Line (line.Fixed phrase.Quote 0))) move.Fail) t (eq-eqb c 92 slash)
+    (d, f, cons_tail c 92 t (d ∷ 34 ∷ []) g))
 octet_at d c t false f is e =
     let g : c ∷ t ≡ d ∷ 34 ∷ [] = e ∙ escaped_self d [] f in
     let same : c ≡ d = cons_head c d t (34 ∷ []) g in
     let apart = no_special d f in
-    at_false (c == 34) move.Fail (cond (c == 92) (move.One (sym.Folder folder.DelimiterEscaped)) (cond (is_text c) (move.One (sym.Line (line.Fixed phrase.Quote 0))) move.Fail)) t (ap (λ (n : ℕ). n == 34) same ∙ apart.0)
-    (at_false (c == 92) (move.One (sym.Folder folder.DelimiterEscaped)) (cond (is_text c) (move.One (sym.Line (line.Fixed phrase.Quote 0))) move.Fail) t (ap (λ (n : ℕ). n == 92) same ∙ apart.1)
+    at_false (c == 34) move.Fail (cond (c == 92) (move.One (sym.Folder folder.DelimiterEscaped)) (cond (is_text c) (move.One (sym.Line (line.Fixed phrase.Quote 0))) move.Fail)) t
+    (ap (λ (n : ℕ). n == 34) same ∙ apart.0)
+    (at_false (c == 92) (move.One (sym.Folder folder.DelimiterEscaped)) (cond (is_text c) (move.One (sym.Line (line.Fixed phrase.Quote 0))) move.Fail) t
+    (ap (λ (n : ℕ). n == 92) same ∙ apart.1)
     (at_true (is_text c) (move.One (sym.Line (line.Fixed phrase.Quote 0))) move.Fail t (is_true_at is_text c d same is) (cons_tail c d t (34 ∷ []) g)))
 
 octet_forth : (c : ℕ) (t : List ℕ) → DelimiterRest (c ∷ t) → After (folder_rule folder.DelimiterOctet c) t
 octet_forth c t h = octet_at h.0 c t (h.0 == 34 || h.0 == 92) refl h.1 h.2
 
 pair_back : (c : ℕ) (t : List ℕ) → After (folder_rule folder.DelimiterEscaped c) t → DelimiterPair (c ∷ t)
-pair_back c t h = from_test (c == 34 || c == 92) (move.One (sym.Line (line.Fixed phrase.Quote 0))) move.Fail t (DelimiterPair (c ∷ t)) (λ e k. (c, e, ap (λ (u : List ℕ). c ∷ u) k)) (λ e k. absurd k) h
+pair_back c t h = from_test (c == 34 || c == 92) (move.One (sym.Line (line.Fixed phrase.Quote 0))) move.Fail t (DelimiterPair (c ∷ t)) (λ e k. (c, e, ap (λ (u : List ℕ). c ∷ u) k))
+    (λ e k. absurd k) h
 
 pair_forth : (c : ℕ) (t : List ℕ) → DelimiterPair (c ∷ t) → After (folder_rule folder.DelimiterEscaped c) t
 pair_forth c t h =
-    at_true (c == 34 || c == 92) (move.One (sym.Line (line.Fixed phrase.Quote 0))) move.Fail t (ap (λ (n : ℕ). n == 34 || n == 92) (cons_head c h.0 t (34 ∷ []) h.2) ∙ h.1) (cons_tail c h.0 t (34 ∷ []) h.2)
+    at_true (c == 34 || c == 92) (move.One (sym.Line (line.Fixed phrase.Quote 0))) move.Fail t (ap (λ (n : ℕ). n == 34 || n == 92) (cons_head c h.0 t (34 ∷ []) h.2) ∙ h.1)
+    (cons_tail c h.0 t (34 ∷ []) h.2)
 
 name_back : (c : ℕ) (t : List ℕ) → After (folder_rule folder.Name c) t → NameLine (c ∷ t)
-name_back c t h = from_test (c == 32) (move.Two (sym.Str str.AString) (sym.Folder folder.ListEnd)) move.Fail t (NameLine (c ∷ t)) (λ e k. spaced_to (Then IsFlat IsListEnd) c t e k) (λ e k. absurd k) h
+name_back c t h = from_test (c == 32) (move.Two (sym.Str str.AString) (sym.Folder folder.ListEnd)) move.Fail t (NameLine (c ∷ t)) (λ e k. spaced_to (Then IsFlat IsListEnd) c t e k)
+    (λ e k. absurd k) h
 
 name_forth : (c : ℕ) (t : List ℕ) → NameLine (c ∷ t) → After (folder_rule folder.Name c) t
 name_forth c t h = let k = spaced_is (Then IsFlat IsListEnd) c t h in at_true (c == 32) (move.Two (sym.Str str.AString) (sym.Folder folder.ListEnd)) move.Fail t k.0 k.1
 
 end_back : (c : ℕ) (t : List ℕ) → After (folder_rule folder.ListEnd c) t → IsListEnd (c ∷ t)
-end_back c t h = from_test (c == 32) (move.Two (sym.Value value.Start) (sym.Line (line.Fixed phrase.Crlf 0))) (cond (c == 13) (move.One (sym.Line (line.Fixed phrase.Crlf 1))) move.Fail) t (IsListEnd (c ∷ t))
+end_back c t h = from_test (c == 32) (move.Two (sym.Value value.Start) (sym.Line (line.Fixed phrase.Crlf 0)))
+    (cond (c == 13) (move.One (sym.Line (line.Fixed phrase.Crlf 1))) move.Fail) t (IsListEnd (c ∷ t))
     (λ e k. inr (k.front, ap (λ (n : ℕ). n ∷ t) (eqb-true c 32 e) ∙ ap (λ (u : List ℕ). 32 ∷ u) (k.whole ∙ ap (λ (u : List ℕ). k.front ++ u) k.second), k.first))
-    (λ e k. from_test (c == 13) (move.One (sym.Line (line.Fixed phrase.Crlf 1))) move.Fail t (IsListEnd (c ∷ t)) (λ f l. inl (crlf_of c t (eqb-true c 13 f) l)) (λ f l. absurd l) k) h
+    (λ e k. from_test (c == 13) (move.One (sym.Line (line.Fixed phrase.Crlf 1))) move.Fail t (IsListEnd (c ∷ t)) (λ f l. inl (crlf_of c t (eqb-true c 13 f) l))
+    (λ f l. absurd l) k) h
 
 end_forth : (c : ℕ) (t : List ℕ) → IsListEnd (c ∷ t) → After (folder_rule folder.ListEnd c) t
 end_forth c t (inl e) =
     let k = crlf_parts c t e in
-    at_false (c == 32) (move.Two (sym.Value value.Start) (sym.Line (line.Fixed phrase.Crlf 0))) (cond (c == 13) (move.One (sym.Line (line.Fixed phrase.Crlf 1))) move.Fail) t (ap (λ (n : ℕ). n == 32) k.0)
+    at_false (c == 32) (move.Two (sym.Value value.Start) (sym.Line (line.Fixed phrase.Crlf 0))) (cond (c == 13) (move.One (sym.Line (line.Fixed phrase.Crlf 1))) move.Fail) t
+    (ap (λ (n : ℕ). n == 32) k.0)
     (at_true (c == 13) (move.One (sym.Line (line.Fixed phrase.Crlf 1))) move.Fail t (eq-eqb c 13 k.0) k.1)
 end_forth c t (inr v) =
-    at_true (c == 32) (move.Two (sym.Value value.Start) (sym.Line (line.Fixed phrase.Crlf 0))) (cond (c == 13) (move.One (sym.Line (line.Fixed phrase.Crlf 1))) move.Fail) t (eq-eqb c 32 (cons_head c 32 t (v.0 ++ crlf) v.1))
+    at_true (c == 32) (move.Two (sym.Value value.Start) (sym.Line (line.Fixed phrase.Crlf 0))) (cond (c == 13) (move.One (sym.Line (line.Fixed phrase.Crlf 1))) move.Fail) t
+    (eq-eqb c 32 (cons_head c 32 t (v.0 ++ crlf) v.1))
     (record { front = v.0; back = crlf; whole = cons_tail c 32 t (v.0 ++ crlf) v.1; first = v.2; second = refl })
 
 -- ---- STATUS
 
 one_back : (octet : ℕ) (next : Folder) (c : ℕ) (t : List ℕ) → After (octet_rule octet next c) t → (rest : List ℕ) × (c ∷ t ≡ octet ∷ rest) × FolderLang next rest
-one_back octet next c t h = from_test (c == octet) (move.One (sym.Folder next)) move.Fail t ((rest : List ℕ) × (c ∷ t ≡ octet ∷ rest) × FolderLang next rest) (λ e k. (t, ap (λ (n : ℕ). n ∷ t) (eqb-true c octet e), k)) (λ e k. absurd k) h
+one_back octet next c t h = from_test (c == octet) (move.One (sym.Folder next)) move.Fail t ((rest : List ℕ) × (c ∷ t ≡ octet ∷ rest) × FolderLang next rest)
+    (λ e k. (t, ap (λ (n : ℕ). n ∷ t) (eqb-true c octet e), k)) (λ e k. absurd k) h
 
 one_forth : (octet : ℕ) (next : Folder) (c : ℕ) (t : List ℕ) → (rest : List ℕ) × (c ∷ t ≡ octet ∷ rest) × FolderLang next rest → After (octet_rule octet next c) t
-one_forth octet next c t h = at_true (c == octet) (move.One (sym.Folder next)) move.Fail t (eq-eqb c octet (cons_head c octet t h.0 h.1)) (subst (FolderLang next) (sym (cons_tail c octet t h.0 h.1)) h.2)
+one_forth octet next c t h = at_true (c == octet) (move.One (sym.Folder next)) move.Fail t (eq-eqb c octet (cons_head c octet t h.0 h.1))
+    (subst (FolderLang next) (sym (cons_tail c octet t h.0 h.1)) h.2)
 
 -- a word, its number and what follows are a count and more of them
 count_join : (t : List ℕ) → WordCount IsStatusWord t → (k : List ℕ × ℕ) × (cs : List (List ℕ × ℕ)) × Then (IsCount k) (IsMoreCounts cs) t
@@ -157,13 +177,22 @@ count_split k cs t h = record {
 
 -- one octet more of a word
 word_more : (Front : List ℕ → Type 0) (c : ℕ) (t : List ℕ) → ((w : List ℕ) → Each is_status_word w → Front (c ∷ w)) → WordCount (Each is_status_word) t → WordCount Front (c ∷ t)
-word_more Front c t f h = record { word = c ∷ h.word; digits = h.digits; rest = h.rest; whole = ap (λ (u : List ℕ). c ∷ u) h.whole; front = f h.word h.front; number = h.number; more = h.more }
+word_more Front c t f h = record {
+  word = c ∷ h.word;
+  digits = h.digits;
+  rest = h.rest;
+  whole = ap (λ (u : List ℕ). c ∷ u) h.whole;
+  front = f h.word h.front;
+  number = h.number;
+  more = h.more;
+}
 
 begun : (c : ℕ) → is_status_word c ≡ true → (w : List ℕ) → Each is_status_word w → IsStatusWord (c ∷ w)
 begun c e w h = ((e, h), omega arith)
 
 count_back : (c : ℕ) (t : List ℕ) → After (folder_rule folder.Count c) t → WordCount IsStatusWord (c ∷ t)
-count_back c t h = from_test (is_status_word c) (move.One (sym.Folder folder.CountWord)) move.Fail t (WordCount IsStatusWord (c ∷ t)) (λ e k. word_more IsStatusWord c t (begun c e) k) (λ e k. absurd k) h
+count_back c t h = from_test (is_status_word c) (move.One (sym.Folder folder.CountWord)) move.Fail t (WordCount IsStatusWord (c ∷ t))
+    (λ e k. word_more IsStatusWord c t (begun c e) k) (λ e k. absurd k) h
 
 count_at : (c : ℕ) (t w digits rest : List ℕ) → c ∷ t ≡ w ++ (32 ∷ digits ++ rest) → IsStatusWord w → LongRest 0 0 digits → MoreCounts rest → After (folder_rule folder.Count c) t
 count_at c t [] digits rest e s l m = absurd (omega (arith, s.1))
@@ -176,7 +205,8 @@ count_forth : (c : ℕ) (t : List ℕ) → WordCount IsStatusWord (c ∷ t) → 
 count_forth c t h = count_at c t h.word h.digits h.rest h.whole h.front h.number h.more
 
 first_back : (c : ℕ) (t : List ℕ) → After (folder_rule folder.FirstCount c) t → AnyCounts (c ∷ t)
-first_back c t h = from_test (c == 41) (move.One (sym.Line (line.Fixed phrase.Crlf 0))) (cond (is_status_word c) (move.One (sym.Folder folder.CountWord)) move.Fail) t (AnyCounts (c ∷ t))
+first_back c t h = from_test (c == 41) (move.One (sym.Line (line.Fixed phrase.Crlf 0))) (cond (is_status_word c) (move.One (sym.Folder folder.CountWord)) move.Fail) t
+    (AnyCounts (c ∷ t))
     (λ e k. ([], ap (λ (n : ℕ). n ∷ t) (eqb-true c 41 e) ∙ ap (λ (u : List ℕ). 41 ∷ u) k))
     (λ e k. let j = count_join (c ∷ t) (count_back c t k) in (j.0 ∷ j.1, j.2)) h
 
@@ -192,36 +222,51 @@ count_first c t h = by h.word h.whole h.front
 
 first_at : (cs : List (List ℕ × ℕ)) (c : ℕ) (t : List ℕ) → IsCounts cs (c ∷ t) → After (folder_rule folder.FirstCount c) t
 first_at [] c t e =
-    at_true (c == 41) (move.One (sym.Line (line.Fixed phrase.Crlf 0))) (cond (is_status_word c) (move.One (sym.Folder folder.CountWord)) move.Fail) t (eq-eqb c 41 (cons_head c 41 t crlf e)) (cons_tail c 41 t crlf e)
+    at_true (c == 41) (move.One (sym.Line (line.Fixed phrase.Crlf 0))) (cond (is_status_word c) (move.One (sym.Folder folder.CountWord)) move.Fail) t
+    (eq-eqb c 41 (cons_head c 41 t crlf e)) (cons_tail c 41 t crlf e)
 first_at (k ∷ cs) c t h =
     let w = count_split k cs (c ∷ t) h in
-    at_false (c == 41) (move.One (sym.Line (line.Fixed phrase.Crlf 0))) (cond (is_status_word c) (move.One (sym.Folder folder.CountWord)) move.Fail) t (count_first c t w) (count_forth c t w)
+    at_false (c == 41) (move.One (sym.Line (line.Fixed phrase.Crlf 0))) (cond (is_status_word c) (move.One (sym.Folder folder.CountWord)) move.Fail) t (count_first c t w)
+    (count_forth c t w)
 
 word_back : (c : ℕ) (t : List ℕ) → After (folder_rule folder.CountWord c) t → WordCount (Each is_status_word) (c ∷ t)
-word_back c t h = from_test (is_status_word c) (move.One (sym.Folder folder.CountWord)) (cond (c == 32) (move.Two (sym.Item (item.Long 0 0)) (sym.Folder folder.MoreCounts)) move.Fail) t (WordCount (Each is_status_word) (c ∷ t))
+word_back c t h = from_test (is_status_word c) (move.One (sym.Folder folder.CountWord))
+    (cond (c == 32) (move.Two (sym.Item (item.Long 0 0)) (sym.Folder folder.MoreCounts)) move.Fail) t (WordCount (Each is_status_word) (c ∷ t))
     (λ e k. word_more (Each is_status_word) c t (λ w f. (e, f)) k)
     (λ e k. from_test (c == 32) (move.Two (sym.Item (item.Long 0 0)) (sym.Folder folder.MoreCounts)) move.Fail t (WordCount (Each is_status_word) (c ∷ t))
-    (λ f l. record { word = []; digits = l.front; rest = l.back; whole = ap (λ (n : ℕ). n ∷ t) (eqb-true c 32 f) ∙ ap (λ (u : List ℕ). 32 ∷ u) l.whole; front = tt; number = l.first; more = l.second })
+    (λ f l. record {
+      word = [];
+      digits = l.front;
+      rest = l.back;
+      whole = ap (λ (n : ℕ). n ∷ t) (eqb-true c 32 f) ∙ ap (λ (u : List ℕ). 32 ∷ u) l.whole;
+      front = tt;
+      number = l.first;
+      more = l.second;
+    })
     (λ f l. absurd l) k) h
 
 space_no_word : (c : ℕ) → c ≡ 32 → is_status_word c ≡ false
 space_no_word c e = ap is_status_word e
 
-word_at : (c : ℕ) (t w digits rest : List ℕ) → c ∷ t ≡ w ++ (32 ∷ digits ++ rest) → Each is_status_word w → LongRest 0 0 digits → MoreCounts rest → After (folder_rule folder.CountWord c) t
+word_at : (c : ℕ) (t w digits rest : List ℕ) → c ∷ t ≡ w ++ (32 ∷ digits ++ rest) → Each is_status_word w → LongRest 0 0 digits → MoreCounts rest
+    → After (folder_rule folder.CountWord c) t
 word_at c t [] digits rest e s l m =
     let same : c ≡ 32 = cons_head c 32 t (digits ++ rest) e in
-    at_false (is_status_word c) (move.One (sym.Folder folder.CountWord)) (cond (c == 32) (move.Two (sym.Item (item.Long 0 0)) (sym.Folder folder.MoreCounts)) move.Fail) t (space_no_word c same)
+    at_false (is_status_word c) (move.One (sym.Folder folder.CountWord)) (cond (c == 32) (move.Two (sym.Item (item.Long 0 0)) (sym.Folder folder.MoreCounts)) move.Fail) t
+    (space_no_word c same)
     (at_true (c == 32) (move.Two (sym.Item (item.Long 0 0)) (sym.Folder folder.MoreCounts)) move.Fail t (eq-eqb c 32 same)
     (record { front = digits; back = rest; whole = cons_tail c 32 t (digits ++ rest) e; first = l; second = m }))
 word_at c t (d ∷ w) digits rest e s l m =
     let same : c ≡ d = cons_head c d t (w ++ (32 ∷ digits ++ rest)) e in
-    at_true (is_status_word c) (move.One (sym.Folder folder.CountWord)) (cond (c == 32) (move.Two (sym.Item (item.Long 0 0)) (sym.Folder folder.MoreCounts)) move.Fail) t (is_true_at is_status_word c d same s.0)
+    at_true (is_status_word c) (move.One (sym.Folder folder.CountWord)) (cond (c == 32) (move.Two (sym.Item (item.Long 0 0)) (sym.Folder folder.MoreCounts)) move.Fail) t
+    (is_true_at is_status_word c d same s.0)
     (record { word = w; digits = digits; rest = rest; whole = cons_tail c d t (w ++ (32 ∷ digits ++ rest)) e; front = s.1; number = l; more = m })
 
 more_back : (c : ℕ) (t : List ℕ) → After (folder_rule folder.MoreCounts c) t → MoreCounts (c ∷ t)
 more_back c t h = from_test (c == 32) (move.One (sym.Folder folder.Count)) (cond (c == 41) (move.One (sym.Line (line.Fixed phrase.Crlf 0))) move.Fail) t (MoreCounts (c ∷ t))
     (λ e k. let j = count_join t k in (j.0 ∷ j.1, (j.2.front, j.2.back, ap (λ (n : ℕ). n ∷ t) (eqb-true c 32 e) ∙ ap (λ (u : List ℕ). 32 ∷ u) j.2.whole, j.2.first, j.2.second)))
-    (λ e k. from_test (c == 41) (move.One (sym.Line (line.Fixed phrase.Crlf 0))) move.Fail t (MoreCounts (c ∷ t)) (λ f l. ([], ap (λ (n : ℕ). n ∷ t) (eqb-true c 41 f) ∙ ap (λ (u : List ℕ). 41 ∷ u) l)) (λ f l. absurd l) k) h
+    (λ e k. from_test (c == 41) (move.One (sym.Line (line.Fixed phrase.Crlf 0))) move.Fail t (MoreCounts (c ∷ t))
+    (λ f l. ([], ap (λ (n : ℕ). n ∷ t) (eqb-true c 41 f) ∙ ap (λ (u : List ℕ). 41 ∷ u) l)) (λ f l. absurd l) k) h
 
 more_at : (cs : List (List ℕ × ℕ)) (c : ℕ) (t : List ℕ) → IsMoreCounts cs (c ∷ t) → After (folder_rule folder.MoreCounts c) t
 more_at [] c t e =
@@ -229,7 +274,8 @@ more_at [] c t e =
     at_false (c == 32) (move.One (sym.Folder folder.Count)) (cond (c == 41) (move.One (sym.Line (line.Fixed phrase.Crlf 0))) move.Fail) t (ap (λ (n : ℕ). n == 32) same)
     (at_true (c == 41) (move.One (sym.Line (line.Fixed phrase.Crlf 0))) move.Fail t (eq-eqb c 41 same) (cons_tail c 41 t crlf e))
 more_at (k ∷ cs) c t h =
-    at_true (c == 32) (move.One (sym.Folder folder.Count)) (cond (c == 41) (move.One (sym.Line (line.Fixed phrase.Crlf 0))) move.Fail) t (eq-eqb c 32 (cons_head c 32 t (h.0 ++ h.1) h.2))
+    at_true (c == 32) (move.One (sym.Folder folder.Count)) (cond (c == 41) (move.One (sym.Line (line.Fixed phrase.Crlf 0))) move.Fail) t
+    (eq-eqb c 32 (cons_head c 32 t (h.0 ++ h.1) h.2))
     (count_split k cs t (record { front = h.0; back = h.1; whole = cons_tail c 32 t (h.0 ++ h.1) h.2; first = h.3; second = h.4 }))
 
 -- ---- the group
@@ -315,7 +361,10 @@ word_some : WordCount (Each is_status_word) (codes " 1)" ++ crlf)
 word_some = record { word = []; digits = 49 ∷ []; rest = 41 ∷ crlf; whole = refl; front = tt; number = one_digit; more = ([], refl) }
 
 pub folder_example : (s : Folder) → (t : List ℕ) × FolderLang s t
-folder_example folder.Attributes = (32 ∷ codes "nil" ++ 32 ∷ 97 ∷ crlf, (codes "nil" ++ 32 ∷ 97 ∷ crlf, refl, record { front = codes "nil"; back = 32 ∷ 97 ∷ crlf; whole = refl; first = nil_some; second = name_some }))
+folder_example folder.Attributes = (
+  32 ∷ codes "nil" ++ 32 ∷ 97 ∷ crlf,
+  (codes "nil" ++ 32 ∷ 97 ∷ crlf, refl, record { front = codes "nil"; back = 32 ∷ 97 ∷ crlf; whole = refl; first = nil_some; second = name_some }),
+)
 folder_example folder.Delimiter = (codes "nil", nil_some)
 folder_example folder.DelimiterOctet = (47 ∷ 34 ∷ [], (47, refl, refl))
 folder_example folder.DelimiterEscaped = (34 ∷ 34 ∷ [], (34, refl, refl))

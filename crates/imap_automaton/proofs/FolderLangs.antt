@@ -15,11 +15,11 @@ use Rattle.imap_syntax.specs.Folders.{IsDelimiter, IsListEnd, IsMoreCounts, IsCo
 abbrev pub AnyDelimiter : List ℕ → Type 0
 AnyDelimiter t = (d : Option ℕ) × IsDelimiter d t
 
--- behind the quote
+-- after the quote
 abbrev pub DelimiterRest : List ℕ → Type 0
 DelimiterRest t = (c : ℕ) × (is_text c ≡ true) × (t ≡ escaped (c ∷ []) ++ 34 ∷ [])
 
--- behind the `\`
+-- after the `\`
 abbrev pub DelimiterPair : List ℕ → Type 0
 DelimiterPair t = (c : ℕ) × ((c == 34 || c == 92) ≡ true) × (t ≡ c ∷ 34 ∷ [])
 

@@ -26,7 +26,8 @@ end_none s t n h = (0, record { text = []; whole = crlf_of 13 t refl h; text_is 
 end_back : (s : Pending) (t : List ℕ) → After (free_end s) t → (k : ℕ) × IsFreeFrom k s (13 ∷ t)
 end_back pending.Nothing t h = end_none pending.Nothing t tt h
 end_back (pending.Open v n) t h = end_none (pending.Open v n) t tt h
-end_back (pending.Closed v) t h = from_test (nat_le v 50000000) (move.Two (sym.Free (free.Break v)) (sym.Free (free.Text pending.Nothing))) move.Fail t ((k : ℕ) × IsFreeFrom k (pending.Closed v) (13 ∷ t))
+end_back (pending.Closed v) t h = from_test (nat_le v 50000000) (move.Two (sym.Free (free.Break v)) (sym.Free (free.Text pending.Nothing))) move.Fail t
+    ((k : ℕ) × IsFreeFrom k (pending.Closed v) (13 ∷ t))
     (λ e k. (
       suc k.second.0,
       record {
@@ -47,14 +48,27 @@ end_back (pending.Closed v) t h = from_test (nat_le v 50000000) (move.Two (sym.F
 
 more_back : (k : ℕ) (s : Pending) (c : ℕ) (t : List ℕ) → is_text c ≡ true → IsFreeFrom k (pend s c) t → IsFreeFrom k s (c ∷ t)
 more_back zero s c t e h = record { text = c ∷ h.text; whole = ap (λ (u : List ℕ). c ∷ u) h.whole; text_is = (e, h.text_is); no_count = h.no_count }
-more_back (suc k) s c t e h = record { text = c ∷ h.text; count = h.count; octets = h.octets; rest = h.rest; whole = ap (λ (u : List ℕ). c ∷ u) h.whole; text_is = (e, h.text_is); counted = h.counted; most = h.most; length_is = h.length_is; inside = h.inside; goes_on = h.goes_on }
+more_back (suc k) s c t e h = record {
+  text = c ∷ h.text;
+  count = h.count;
+  octets = h.octets;
+  rest = h.rest;
+  whole = ap (λ (u : List ℕ). c ∷ u) h.whole;
+  text_is = (e, h.text_is);
+  counted = h.counted;
+  most = h.most;
+  length_is = h.length_is;
+  inside = h.inside;
+  goes_on = h.goes_on;
+}
 
 pub text_back : (s : Pending) (c : ℕ) (t : List ℕ) → After (text_rule s c) t → FreeLang (free.Text s) (c ∷ t)
 text_back s c t h = from_test (c == 13) (free_end s) (cond (is_text c) (move.One (sym.Free (free.Text (pend s c)))) move.Fail) t (FreeLang (free.Text s) (c ∷ t))
     (λ e k. subst (λ (n : ℕ). FreeLang (free.Text s) (n ∷ t)) (sym (eqb-true c 13 e)) (end_back s t k))
-    (λ e k. from_test (is_text c) (move.One (sym.Free (free.Text (pend s c)))) move.Fail t (FreeLang (free.Text s) (c ∷ t)) (λ f l. (l.0, more_back l.0 s c t f l.1)) (λ f l. absurd l) k) h
+    (λ e k. from_test (is_text c) (move.One (sym.Free (free.Text (pend s c)))) move.Fail t (FreeLang (free.Text s) (c ∷ t)) (λ f l. (l.0, more_back l.0 s c t f l.1))
+    (λ f l. absurd l) k) h
 
--- behind an octet of text
+-- after an octet of text
 pub goes_back : (s : Pending) (c : ℕ) (t : List ℕ) → is_text c ≡ true → FreeLang (free.Text (pend s c)) t → FreeLang (free.Text s) (c ∷ t)
 goes_back s c t e h = (h.0, more_back h.0 s c t e h.1)
 
@@ -71,9 +85,11 @@ at_end s c t (d ∷ x) e f n =
     let same : c ≡ d = cons_head c d t (x ++ crlf) e in
     let ok : is_text c ≡ true = is_true_at is_text c d same f.0 in
     at_false (c == 13) (free_end s) (cond (is_text c) (move.One (sym.Free (free.Text (pend s c)))) move.Fail) t (text_not_cr c ok)
-    (at_true (is_text c) (move.One (sym.Free (free.Text (pend s c)))) move.Fail t ok (0, record { text = x; whole = cons_tail c d t (x ++ crlf) e; text_is = f.1; no_count = subst (λ (q : ℕ). NoCount (pends (pend s q) x)) (sym same) n }))
+    (at_true (is_text c) (move.One (sym.Free (free.Text (pend s c)))) move.Fail t ok
+    (0, record { text = x; whole = cons_tail c d t (x ++ crlf) e; text_is = f.1; no_count = subst (λ (q : ℕ). NoCount (pends (pend s q) x)) (sym same) n }))
 
-at_literal : (k : ℕ) (s : Pending) (c v : ℕ) (t text o rest : List ℕ) → c ∷ t ≡ text ++ 13 ∷ 10 ∷ o ++ rest → Each is_text text → pends s text ≡ pending.Closed v → v ≤ 50000000 → length o ≡ v → Each is_inside o → IsFreeFrom k pending.Nothing rest → After (text_rule s c) t
+at_literal : (k : ℕ) (s : Pending) (c v : ℕ) (t text o rest : List ℕ) → c ∷ t ≡ text ++ 13 ∷ 10 ∷ o ++ rest → Each is_text text → pends s text ≡ pending.Closed v → v ≤ 50000000
+    → length o ≡ v → Each is_inside o → IsFreeFrom k pending.Nothing rest → After (text_rule s c) t
 at_literal k s c v t [] o rest e f n le len ins g =
     at_true (c == 13) (free_end s) (cond (is_text c) (move.One (sym.Free (free.Text (pend s c)))) move.Fail) t (eq-eqb c 13 (cons_head c 13 t (10 ∷ o ++ rest) e))
     (subst (λ (q : Pending). After (free_end q) t) (sym n)
@@ -83,7 +99,22 @@ at_literal k s c v t (d ∷ x) o rest e f n le len ins g =
     let same : c ≡ d = cons_head c d t (x ++ 13 ∷ 10 ∷ o ++ rest) e in
     let ok : is_text c ≡ true = is_true_at is_text c d same f.0 in
     at_false (c == 13) (free_end s) (cond (is_text c) (move.One (sym.Free (free.Text (pend s c)))) move.Fail) t (text_not_cr c ok)
-    (at_true (is_text c) (move.One (sym.Free (free.Text (pend s c)))) move.Fail t ok (suc k, record { text = x; count = v; octets = o; rest = rest; whole = cons_tail c d t (x ++ 13 ∷ 10 ∷ o ++ rest) e; text_is = f.1; counted = subst (λ (q : ℕ). pends (pend s q) x ≡ pending.Closed v) (sym same) n; most = le; length_is = len; inside = ins; goes_on = g }))
+    (at_true (is_text c) (move.One (sym.Free (free.Text (pend s c)))) move.Fail t ok (
+      suc k,
+      record {
+        text = x;
+        count = v;
+        octets = o;
+        rest = rest;
+        whole = cons_tail c d t (x ++ 13 ∷ 10 ∷ o ++ rest) e;
+        text_is = f.1;
+        counted = subst (λ (q : ℕ). pends (pend s q) x ≡ pending.Closed v) (sym same) n;
+        most = le;
+        length_is = len;
+        inside = ins;
+        goes_on = g;
+      },
+    ))
 
 free_at : (k : ℕ) (s : Pending) (c : ℕ) (t : List ℕ) → IsFreeFrom k s (c ∷ t) → After (text_rule s c) t
 free_at zero s c t h = at_end s c t h.text h.whole h.text_is h.no_count
@@ -92,7 +123,7 @@ free_at (suc k) s c t h = at_literal k s c h.count t h.text h.octets h.rest h.wh
 pub text_forth : (s : Pending) (c : ℕ) (t : List ℕ) → FreeLang (free.Text s) (c ∷ t) → After (text_rule s c) t
 text_forth s c t h = free_at h.0 s c t h.1
 
--- behind an octet of text
+-- after an octet of text
 pub goes_forth : (s : Pending) (c : ℕ) (t : List ℕ) → is_text c ≡ true → FreeLang (free.Text s) (c ∷ t) → FreeLang (free.Text (pend s c)) t
 goes_forth s c t e h =
     from_test (c == 13) (free_end s) (cond (is_text c) (move.One (sym.Free (free.Text (pend s c)))) move.Fail) t (FreeLang (free.Text (pend s c)) t)
@@ -142,8 +173,10 @@ octets_back n c t h = from_test (nat_le 256 c && nat_lt c 512 && nat_lt 0 n) (co
 
 pub octets_forth : (n c : ℕ) (t : List ℕ) → FreeLang (free.Octets n) (c ∷ t) → After (free_rule (free.Octets n) c) t
 octets_forth n c t h =
-    at_true (nat_le 256 c && nat_lt c 512 && nat_lt 0 n) (cond (n == 1) move.End (move.One (sym.Free (free.Octets (n - 1))))) move.Fail t (and_from _ _ h.inside.0 (lt-ltb 0 n (omega (arith, h.counted))))
-    (to_test (n == 1) move.End (move.One (sym.Free (free.Octets (n - 1)))) t (λ e. nil_from_length t (omega (arith, eqb-true n 1 e, h.counted))) (λ e. record { counted = omega (arith, h.counted); inside = h.inside.1 }))
+    at_true (nat_le 256 c && nat_lt c 512 && nat_lt 0 n) (cond (n == 1) move.End (move.One (sym.Free (free.Octets (n - 1))))) move.Fail t
+    (and_from _ _ h.inside.0 (lt-ltb 0 n (omega (arith, h.counted))))
+    (to_test (n == 1) move.End (move.One (sym.Free (free.Octets (n - 1)))) t (λ e. nil_from_length t (omega (arith, eqb-true n 1 e, h.counted)))
+    (λ e. record { counted = omega (arith, h.counted); inside = h.inside.1 }))
 
 inside : (n : ℕ) → Each is_inside (replicate n 256)
 inside zero = tt

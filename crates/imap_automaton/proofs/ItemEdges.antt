@@ -1,5 +1,6 @@
 -- One octet at the items of a FETCH.
-use Rattle.std.proofs.Common.{◌≡◌, ℕ, ◌+◌, ◌-◌, ◌*◌, ◌<◌, ◌≤◌, Bool, true, false, not, ◌&&◌, ◌||◌, List, [], ◌∷◌, ◌++◌, length, map, cond, refl, sym, ap, subst, ◌∙◌, arith, inl, inr, zero, suc}
+use Rattle.std.proofs.Common.{◌≡◌, ℕ, ◌+◌, ◌-◌, ◌*◌, ◌<◌, ◌≤◌, Bool, true, false, not, ◌&&◌, ◌||◌, List, [], ◌∷◌, ◌++◌, length, map, cond, refl, sym, ap, subst, ◌∙◌, arith, inl}
+use Rattle.std.proofs.Common.{inr, zero, suc}
 use Rattle.std.specs.Prelude.{◌==◌, nat_lt, nat_le, codes}
 use Rattle.std.proofs.lemmas.Bool.{eqb-true, ltb-true, leb-true, and_parts, and_from, lt-ltb, le-leb, eq-eqb, ne_eqb, cond-true, cond-false}
 use Rattle.std.proofs.lemmas.List.{length-map}
@@ -79,7 +80,8 @@ stop_no_digit c e = grind arith
 
 pub number_ends : (v n c : ℕ) → NumberRest v n [] → stops c ≡ true → number_rule v n c ≡ move.Yield
 number_ends v n c h e =
-    cond-false (is_digit c) (cond (nat_lt n 10 && nat_le (10 * v + (c - 48)) 4294967295 && not (10 * v + (c - 48) == 0 && n == 9)) (move.One (sym.Item (item.Number (10 * v + (c - 48)) (n + 1)))) move.Fail) (cond (nat_lt 0 v) move.Yield move.Fail) (stop_no_digit c e)
+    cond-false (is_digit c) (cond (nat_lt n 10 && nat_le (10 * v + (c - 48)) 4294967295 && not (10 * v + (c - 48) == 0 && n == 9))
+    (move.One (sym.Item (item.Number (10 * v + (c - 48)) (n + 1)))) move.Fail) (cond (nat_lt 0 v) move.Yield move.Fail) (stop_no_digit c e)
     ∙ cond-true (nat_lt 0 v) move.Yield move.Fail (lt-ltb 0 v h.not_zero)
 
 -- a number that has come whole
@@ -137,7 +139,8 @@ long_forth v n c t h =
 
 pub long_ends : (v n c : ℕ) → LongRest v n [] → stops c ≡ true → long_rule v n c ≡ move.Yield
 long_ends v n c h e =
-    cond-false (is_digit c) (cond (long_next v n c) (move.One (sym.Item (item.Long (10 * v + (c - 48)) (n + 1)))) move.Fail) (cond (nat_lt 0 n) move.Yield move.Fail) (stop_no_digit c e)
+    cond-false (is_digit c) (cond (long_next v n c) (move.One (sym.Item (item.Long (10 * v + (c - 48)) (n + 1)))) move.Fail) (cond (nat_lt 0 n) move.Yield move.Fail)
+    (stop_no_digit c e)
     ∙ cond-true (nat_lt 0 n) move.Yield move.Fail (lt-ltb 0 n (let s = h.some in omega (arith, s)))
 
 pub long_yields : (v n c : ℕ) → ItemFits (item.Long v n) ≡ true → long_rule v n c ≡ move.Yield → LongRest v n []
@@ -169,11 +172,25 @@ item_from t h = by h.says
     by (inl k) = of_key k.0 k.2 k.3
       where
         of_key : (k : Key) → [] ++ map lower h.word ≡ key_text k → IsBehind place.Item k h.tail → (i : items.Item) × items.IsItem i t
-        of_key key.Uid e b = (items.Uid (value_from 0 b.0), record { name = h.word; value = b.0; whole = h.whole ∙ ap (λ (u : List ℕ). h.word ++ u) b.1; item = (e, number_to b.0 b.2) })
+        of_key key.Uid e b = (
+          items.Uid (value_from 0 b.0),
+          record {
+            name = h.word;
+            value = b.0;
+            whole = h.whole ∙ ap (λ (u : List ℕ). h.word ++ u) b.1;
+            item = (e, number_to b.0 b.2);
+          },
+        )
         of_key key.Flags e b = (items.Flags b.2.0, record { name = h.word; value = b.0; whole = h.whole ∙ ap (λ (u : List ℕ). h.word ++ u) b.1; item = (e, b.2.1) })
-        of_key key.ModSeq e b = (items.ModSeq (value_from 0 b.2.0), record { name = h.word; value = b.0; whole = h.whole ∙ ap (λ (u : List ℕ). h.word ++ u) b.1; item = (e, (b.2.0, b.2.1, long_to b.2.0 b.2.2)) })
+        of_key key.ModSeq e b = (
+          items.ModSeq (value_from 0 b.2.0),
+          record { name = h.word; value = b.0; whole = h.whole ∙ ap (λ (u : List ℕ). h.word ++ u) b.1; item = (e, (b.2.0, b.2.1, long_to b.2.0 b.2.2)) },
+        )
         of_key key.InternalDate e b = (items.Date b.2.0, record { name = h.word; value = b.0; whole = h.whole ∙ ap (λ (u : List ℕ). h.word ++ u) b.1; item = (e, b.2.1) })
-        of_key key.Size e b = (items.Size (value_from 0 b.0), record { name = h.word; value = b.0; whole = h.whole ∙ ap (λ (u : List ℕ). h.word ++ u) b.1; item = (e, long_to b.0 b.2) })
+        of_key key.Size e b = (
+          items.Size (value_from 0 b.0),
+          record { name = h.word; value = b.0; whole = h.whole ∙ ap (λ (u : List ℕ). h.word ++ u) b.1; item = (e, long_to b.0 b.2) },
+        )
         of_key key.Header e b = (items.Header b.2.0, record { name = h.word; value = b.0; whole = h.whole ∙ ap (λ (u : List ℕ). h.word ++ u) b.1; item = (inl e, b.2.1) })
         of_key key.HeaderPart e b = (items.Header b.2.0, record { name = h.word; value = b.0; whole = h.whole ∙ ap (λ (u : List ℕ). h.word ++ u) b.1; item = (inr e, b.2.1) })
         of_key key.Body e b = (items.Body b.2.0, record { name = h.word; value = b.0; whole = h.whole ∙ ap (λ (u : List ℕ). h.word ++ u) b.1; item = (inl e, b.2.1) })
@@ -196,7 +213,8 @@ named_to k n v t m e is b = record {
 pub item_to : (i : items.Item) (t : List ℕ) → items.IsItem i t → WordRest place.Item [] t
 item_to (items.Uid n) t h = named_to key.Uid h.name h.value t (inl refl) h.whole h.item.0 (h.value, refl, number_from n h.value h.item.1)
 item_to (items.Flags ns) t h = named_to key.Flags h.name h.value t (inr (inl refl)) h.whole h.item.0 (h.value, refl, (ns, h.item.1))
-item_to (items.ModSeq n) t h = named_to key.ModSeq h.name h.value t (inr (inr (inl refl))) h.whole h.item.0 (h.value, refl, (h.item.1.0, h.item.1.1, long_from n h.item.1.0 h.item.1.2))
+item_to (items.ModSeq n) t h = named_to key.ModSeq h.name h.value t (inr (inr (inl refl))) h.whole h.item.0
+    (h.value, refl, (h.item.1.0, h.item.1.1, long_from n h.item.1.0 h.item.1.2))
 item_to (items.Date seconds) t h = named_to key.InternalDate h.name h.value t (inr (inr (inr (inl refl)))) h.whole h.item.0 (h.value, refl, (seconds, h.item.1))
 item_to (items.Size n) t h = named_to key.Size h.name h.value t (inr (inr (inr (inr (inl refl))))) h.whole h.item.0 (h.value, refl, long_from n h.value h.item.1)
 item_to (items.Header s) t h = elim h.item.0 [
@@ -231,7 +249,8 @@ open_forth c t h =
     (items_to h.0 t (subst (items.IsItems h.0) (sym (cons_tail c 40 t h.1 h.2)) h.3))
 
 more_back : (c : ℕ) (t : List ℕ) → After (item_rule item.More c) t → ItemLang item.More (c ∷ t)
-more_back c t h = from_test (c == 32) (move.Two item_start (sym.Item item.More)) (cond (c == 41) (move.One (sym.Line (line.Fixed phrase.Crlf 0))) move.Fail) t (ItemLang item.More (c ∷ t))
+more_back c t h = from_test (c == 32) (move.Two item_start (sym.Item item.More)) (cond (c == 41) (move.One (sym.Line (line.Fixed phrase.Crlf 0))) move.Fail) t
+    (ItemLang item.More (c ∷ t))
     (λ e k.
     let i = item_from k.front k.first in
     (i.0 ∷ k.second.0, (k.front, k.back, ap (λ (d : ℕ). d ∷ t) (eqb-true c 32 e) ∙ ap (λ (u : List ℕ). 32 ∷ u) k.whole, i.1, k.second.1)))
@@ -240,10 +259,12 @@ more_back c t h = from_test (c == 32) (move.Two item_start (sym.Item item.More))
 
 more_at : (is : List items.Item) (c : ℕ) (t : List ℕ) → items.IsMore is (c ∷ t) → After (item_rule item.More c) t
 more_at [] c t h =
-    at_false (c == 32) (move.Two item_start (sym.Item item.More)) (cond (c == 41) (move.One (sym.Line (line.Fixed phrase.Crlf 0))) move.Fail) t (ap (λ (d : ℕ). d == 32) (cons_head c 41 t crlf h))
+    at_false (c == 32) (move.Two item_start (sym.Item item.More)) (cond (c == 41) (move.One (sym.Line (line.Fixed phrase.Crlf 0))) move.Fail) t
+    (ap (λ (d : ℕ). d == 32) (cons_head c 41 t crlf h))
     (at_true (c == 41) (move.One (sym.Line (line.Fixed phrase.Crlf 0))) move.Fail t (eq-eqb c 41 (cons_head c 41 t crlf h)) (cons_tail c 41 t crlf h))
 more_at (i ∷ is) c t h =
-    at_true (c == 32) (move.Two item_start (sym.Item item.More)) (cond (c == 41) (move.One (sym.Line (line.Fixed phrase.Crlf 0))) move.Fail) t (eq-eqb c 32 (cons_head c 32 t (h.0 ++ h.1) h.2))
+    at_true (c == 32) (move.Two item_start (sym.Item item.More)) (cond (c == 41) (move.One (sym.Line (line.Fixed phrase.Crlf 0))) move.Fail) t
+    (eq-eqb c 32 (cons_head c 32 t (h.0 ++ h.1) h.2))
     (record { front = h.0; back = h.1; whole = cons_tail c 32 t (h.0 ++ h.1) h.2; first = item_to i h.0 h.3; second = (is, h.4) })
 
 -- ---- the group
@@ -278,7 +299,15 @@ items_stop (i ∷ is) c t h = is_true_at stops c 32 (cons_head c 32 t (h.0 ++ h.
 
 -- `UID 1`
 pub one_item : (i : items.Item) × items.IsItem i (codes "uid 1")
-one_item = (items.Uid 1, record { name = codes "uid"; value = 49 ∷ []; whole = refl; item = (refl, (record { digits = (refl, tt); some = omega arith; few = omega arith; value = refl; most = omega arith }, omega arith)) })
+one_item = (
+  items.Uid 1,
+  record {
+    name = codes "uid";
+    value = 49 ∷ [];
+    whole = refl;
+    item = (refl, (record { digits = (refl, tt); some = omega arith; few = omega arith; value = refl; most = omega arith }, omega arith));
+  },
+)
 
 pub number_some : (v n : ℕ) → ItemFits (item.Number v n) ≡ true → (t : List ℕ) × NumberRest v n t
 number_some v n fits =
@@ -288,7 +317,16 @@ number_some v n fits =
     by v n (leb-true _ _ d.0) (leb-true _ _ d.1) b.1 a.1
   where
     by : (v n : ℕ) → n ≤ 10 → v ≤ 4294967295 → (nat_lt 0 n || v == 0) ≡ true → not (v == 0 && n == 10) ≡ true → (t : List ℕ) × NumberRest v n t
-    by zero n few most e f = (49 ∷ [], record { each = (refl, tt); some = omega arith; few = (let q : n ≤ 9 = short n few f in omega (arith, q)); most = omega arith; not_zero = omega arith })
+    by zero n few most e f = (
+      49 ∷ [],
+      record {
+        each = (refl, tt);
+        some = omega arith;
+        few = (let q : n ≤ 9 = short n few f in omega (arith, q));
+        most = omega arith;
+        not_zero = omega arith;
+      },
+    )
       where
         short : (n : ℕ) → n ≤ 10 → not (0 == 0 && n == 10) ≡ true → n ≤ 9
         short n few f = grind arith
@@ -308,7 +346,10 @@ long_some v n fits =
     by (suc n) few most e = ([], record { each = tt; some = omega arith; few = omega (arith, few); most = most })
 
 pub item_example : (s : Item) → ItemFits s ≡ true → (t : List ℕ) × ItemLang s t
-item_example item.Open fits = (40 ∷ codes "uid 1" ++ 41 ∷ crlf, (one_item.0 ∷ [], codes "uid 1" ++ 41 ∷ crlf, refl, record { front = codes "uid 1"; back = 41 ∷ crlf; whole = refl; first = one_item.1; second = refl }))
+item_example item.Open fits = (
+  40 ∷ codes "uid 1" ++ 41 ∷ crlf,
+  (one_item.0 ∷ [], codes "uid 1" ++ 41 ∷ crlf, refl, record { front = codes "uid 1"; back = 41 ∷ crlf; whole = refl; first = one_item.1; second = refl }),
+)
 item_example item.More fits = (41 ∷ crlf, ([], refl))
 item_example (item.Number v n) fits = number_some v n fits
 item_example item.LongOpen fits = (codes "(1)", (49 ∷ [], refl, record { each = (refl, tt); some = omega arith; few = omega arith; most = omega arith }))

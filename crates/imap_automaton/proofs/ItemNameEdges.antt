@@ -1,5 +1,6 @@
 -- One octet at the name of another item.
-use Rattle.std.proofs.Common.{◌≡◌, ◌⊎◌, ℕ, ◌<◌, Bool, true, false, not, ◌&&◌, ◌||◌, List, [], ◌∷◌, ◌++◌, length, map, cond, refl, sym, ap, subst, ◌∙◌, append_assoc, arith, inl, inr}
+use Rattle.std.proofs.Common.{◌≡◌, ◌⊎◌, ℕ, ◌<◌, Bool, true, false, not, ◌&&◌, ◌||◌, List, [], ◌∷◌, ◌++◌, length, map, cond, refl, sym, ap, subst, ◌∙◌, append_assoc, arith, inl}
+use Rattle.std.proofs.Common.{inr}
 use Rattle.std.specs.Prelude.{◌==◌, nat_lt, codes}
 use Rattle.std.proofs.lemmas.Bool.{eqb-true, eq-eqb, and_parts, and_from, or_left, or_right, not-true}
 use Rattle.imap_automaton.specs.declared.sym.Str.TheVariants as str
@@ -42,9 +43,27 @@ plain_from : (c : ℕ) → is_atom c ≡ true → (c == 91) ≡ false → is_pla
 plain_from c e f = and_from (is_atom c) (not (c == 91)) e (ap not f)
 
 plain_back : (c : ℕ) (t : List ℕ) (b : Bool) → (c == 91) ≡ b → is_atom c ≡ true → NameForm (cond b name.Section name.Plain) t → NameForm name.Plain (c ∷ t)
-plain_back c t true e a h = inr (record { front = []; back = c ∷ t; whole = refl; first = tt; second = record { units = h.units; rest = h.rest; whole = ap (λ (d : ℕ). d ∷ t) (eqb-true c 91 e) ∙ ap (λ (u : List ℕ). 91 ∷ u) h.whole; units_are = h.units_are; rest_is = h.rest_is } })
+plain_back c t true e a h = inr (record {
+  front = [];
+  back = c ∷ t;
+  whole = refl;
+  first = tt;
+  second = record {
+    units = h.units;
+    rest = h.rest;
+    whole = ap (λ (d : ℕ). d ∷ t) (eqb-true c 91 e) ∙ ap (λ (u : List ℕ). 91 ∷ u) h.whole;
+    units_are = h.units_are;
+    rest_is = h.rest_is;
+  };
+})
 plain_back c t false e a (inl h) = inl (plain_from c a e, h)
-plain_back c t false e a (inr h) = inr (record { front = c ∷ h.front; back = h.back; whole = ap (λ (u : List ℕ). c ∷ u) h.whole; first = (plain_from c a e, h.first); second = h.second })
+plain_back c t false e a (inr h) = inr (record {
+  front = c ∷ h.front;
+  back = h.back;
+  whole = ap (λ (u : List ℕ). c ∷ u) h.whole;
+  first = (plain_from c a e, h.first);
+  second = h.second;
+})
 
 -- where the first of two tests fails, the other holds
 other : (p q : Bool) → p ≡ false → (p || q) ≡ true → q ≡ true
@@ -91,12 +110,18 @@ atom_91 c e = ap is_atom e
 then_goes : (c : ℕ) (t front back : List ℕ) → c ∷ t ≡ front ++ back → Each is_plain front → IsSection back → Goes name.Plain c t
 then_goes c t [] back e each h =
     let q = e ∙ h.whole in
-    let is : c ≡ 91 = cons_head c 91 t (concat h.units ++ 93 ∷ h.rest) q in
-    (atom_91 c is, next_at name.Plain name.Section name.Plain (c == 91) t true (eq-eqb c 91 is) (record { units = h.units; rest = h.rest; whole = cons_tail c 91 t (concat h.units ++ 93 ∷ h.rest) q; units_are = h.units_are; rest_is = h.rest_is }))
+    let is : c ≡ 91 = cons_head c 91 t (concat h.units ++ 93 ∷ h.rest) q in (
+      atom_91 c is,
+      next_at name.Plain name.Section name.Plain (c == 91) t true (eq-eqb c 91 is)
+          (record { units = h.units; rest = h.rest; whole = cons_tail c 91 t (concat h.units ++ 93 ∷ h.rest) q; units_are = h.units_are; rest_is = h.rest_is }),
+    )
 then_goes c t (d ∷ x) back e each h =
     let same : c ≡ d = cons_head c d t (x ++ back) e in
-    let p = plain_parts c (ap is_plain same ∙ each.0) in
-    (p.0, next_at name.Plain name.Section name.Plain (c == 91) t false p.1 (inr (record { front = x; back = back; whole = cons_tail c d t (x ++ back) e; first = each.1; second = h })))
+    let p = plain_parts c (ap is_plain same ∙ each.0) in (
+      p.0,
+      next_at name.Plain name.Section name.Plain (c == 91) t false p.1
+          (inr (record { front = x; back = back; whole = cons_tail c d t (x ++ back) e; first = each.1; second = h })),
+    )
 
 plain_goes : (c : ℕ) (t : List ℕ) → NameForm name.Plain (c ∷ t) → Goes name.Plain c t
 plain_goes c t (inl h) = let p = plain_parts c h.0 in (p.0, next_at name.Plain name.Section name.Plain (c == 91) t false p.1 (inl h.1))
@@ -108,16 +133,35 @@ inner_not c e = grind arith
 section_goes : (c : ℕ) (t rest : List ℕ) (us : List (List ℕ)) → c ∷ t ≡ concat us ++ 93 ∷ rest → AllOf IsUnit us → IsPartial rest → Quotes name.Section c t ⊎ Goes name.Section c t
 section_goes c t rest [] e all p =
     let is : c ≡ 93 = cons_head c 93 t rest e in
-    inr (or_left (c == 93) (is_inner c) (eq-eqb c 93 is), next_at name.Section name.After name.Section (c == 93) t true (eq-eqb c 93 is) (subst IsPartial (sym (cons_tail c 93 t rest e)) p))
+    inr (
+      or_left (c == 93) (is_inner c) (eq-eqb c 93 is),
+      next_at name.Section name.After name.Section (c == 93) t true (eq-eqb c 93 is)
+          (subst IsPartial (sym (cons_tail c 93 t rest e)) p),
+    )
 section_goes c t rest (u ∷ us) e (inl one, all) p =
     let f : c ∷ t ≡ one.0 ∷ (concat us ++ 93 ∷ rest) = e ∙ ap (λ (v : List ℕ). (v ++ concat us) ++ 93 ∷ rest) one.1 in
     let is : c ≡ one.0 = cons_head c one.0 t (concat us ++ 93 ∷ rest) f in
     let i : is_inner c ≡ true = ap is_inner is ∙ one.2 in
-    inr (or_right (c == 93) (is_inner c) i, next_at name.Section name.After name.Section (c == 93) t false (inner_not c i) (record { units = us; rest = rest; whole = cons_tail c one.0 t (concat us ++ 93 ∷ rest) f; units_are = all; rest_is = p }))
+    inr (
+      or_right (c == 93) (is_inner c) i,
+      next_at name.Section name.After name.Section (c == 93) t false (inner_not c i)
+          (record { units = us; rest = rest; whole = cons_tail c one.0 t (concat us ++ 93 ∷ rest) f; units_are = all; rest_is = p }),
+    )
 section_goes c t rest (u ∷ us) e (inr q, all) p =
     let inner : List ℕ = escaped q.0 ++ 34 ∷ [] in
-    let f : c ∷ t ≡ 34 ∷ (inner ++ (concat us ++ 93 ∷ rest)) = e ∙ ap (λ (v : List ℕ). (v ++ concat us) ++ 93 ∷ rest) q.1.1 ∙ ap (λ (v : List ℕ). 34 ∷ v) (append_assoc inner (concat us) (93 ∷ rest)) in
-    inl (refl, cons_head c 34 t (inner ++ (concat us ++ 93 ∷ rest)) f, record { front = inner; back = concat us ++ 93 ∷ rest; whole = cons_tail c 34 t (inner ++ (concat us ++ 93 ∷ rest)) f; first = (q.0, q.1.0, refl); second = record { units = us; rest = rest; whole = refl; units_are = all; rest_is = p } })
+    let f : c ∷ t ≡ 34 ∷ (inner ++ (concat us ++ 93 ∷ rest)) = e ∙ ap (λ (v : List ℕ). (v ++ concat us) ++ 93 ∷ rest) q.1.1
+    ∙ ap (λ (v : List ℕ). 34 ∷ v) (append_assoc inner (concat us) (93 ∷ rest)) in
+    inl (
+      refl,
+      cons_head c 34 t (inner ++ (concat us ++ 93 ∷ rest)) f,
+      record {
+        front = inner;
+        back = concat us ++ 93 ∷ rest;
+        whole = cons_tail c 34 t (inner ++ (concat us ++ 93 ∷ rest)) f;
+        first = (q.0, q.1.0, refl);
+        second = record { units = us; rest = rest; whole = refl; units_are = all; rest_is = p };
+      },
+    )
 
 digit_not : (c : ℕ) → is_digit c ≡ true → (c == 62) ≡ false
 digit_not c e = grind arith
@@ -169,9 +213,11 @@ quoted_back _ c t e i h = absurd cc
 
 pub item_name_back : (s : ItemName) (c : ℕ) (t : List ℕ) → After (item_name_rule s c) t → NameRest s (c ∷ t)
 item_name_back s c t h = from_test (c == 32 && may_end s) (move.One (sym.Value value.Start))
-    (cond (c == 34 && in_section s) (move.Two (sym.Str str.Quoted) (sym.ItemName name.Section)) (cond (takes s c) (move.One (sym.ItemName (next_name s c))) move.Fail)) t (NameRest s (c ∷ t))
+    (cond (c == 34 && in_section s) (move.Two (sym.Str str.Quoted) (sym.ItemName name.Section)) (cond (takes s c) (move.One (sym.ItemName (next_name s c))) move.Fail)) t
+    (NameRest s (c ∷ t))
     (λ e k. let p = and_parts (c == 32) (may_end s) e in record { rest = []; value = t; whole = ap (λ (d : ℕ). d ∷ t) (eqb-true c 32 p.0); form = ends_form s p.1; value_is = k })
-    (λ e k. from_test (c == 34 && in_section s) (move.Two (sym.Str str.Quoted) (sym.ItemName name.Section)) (cond (takes s c) (move.One (sym.ItemName (next_name s c))) move.Fail) t (NameRest s (c ∷ t))
+    (λ e k. from_test (c == 34 && in_section s) (move.Two (sym.Str str.Quoted) (sym.ItemName name.Section)) (cond (takes s c) (move.One (sym.ItemName (next_name s c))) move.Fail) t
+    (NameRest s (c ∷ t))
     (λ f l. let p = and_parts (c == 34) (in_section s) f in quoted_back s c t (eqb-true c 34 p.0) p.1 l)
     (λ f l. from_test (takes s c) (move.One (sym.ItemName (next_name s c))) move.Fail t (NameRest s (c ∷ t))
     (λ g m. record { rest = c ∷ m.rest; value = m.value; whole = ap (λ (u : List ℕ). c ∷ u) m.whole; form = form_back s c m.rest g m.form; value_is = m.value_is })
@@ -189,7 +235,8 @@ goes_no_end name.End c e = absurd cc
 goes_after : (s : ItemName) (c : ℕ) (t : List ℕ) → takes s c ≡ true → NameRest (next_name s c) t → After (item_name_rule s c) t
 goes_after s c t e h =
     let n = goes_no_end s c e in
-    at_false (c == 32 && may_end s) (move.One (sym.Value value.Start)) (cond (c == 34 && in_section s) (move.Two (sym.Str str.Quoted) (sym.ItemName name.Section)) (cond (takes s c) (move.One (sym.ItemName (next_name s c))) move.Fail)) t n.0
+    at_false (c == 32 && may_end s) (move.One (sym.Value value.Start))
+    (cond (c == 34 && in_section s) (move.Two (sym.Str str.Quoted) (sym.ItemName name.Section)) (cond (takes s c) (move.One (sym.ItemName (next_name s c))) move.Fail)) t n.0
     (at_false (c == 34 && in_section s) (move.Two (sym.Str str.Quoted) (sym.ItemName name.Section)) (cond (takes s c) (move.One (sym.ItemName (next_name s c))) move.Fail) t n.1
     (at_true (takes s c) (move.One (sym.ItemName (next_name s c))) move.Fail t e h))
 
@@ -197,19 +244,29 @@ quotes_after : (s : ItemName) (c : ℕ) (t : List ℕ) → s ≡ name.Section �
 quotes_after s c t i e h =
     let space : (c == 32 && may_end s) ≡ false = ap (λ (d : ℕ). d == 32 && may_end s) e in
     let quote : (c == 34 && in_section s) ≡ true = ap (λ (d : ℕ). d == 34 && in_section s) e ∙ ap in_section i in
-    at_false (c == 32 && may_end s) (move.One (sym.Value value.Start)) (cond (c == 34 && in_section s) (move.Two (sym.Str str.Quoted) (sym.ItemName name.Section)) (cond (takes s c) (move.One (sym.ItemName (next_name s c))) move.Fail)) t space
+    at_false (c == 32 && may_end s) (move.One (sym.Value value.Start))
+    (cond (c == 34 && in_section s) (move.Two (sym.Str str.Quoted) (sym.ItemName name.Section)) (cond (takes s c) (move.One (sym.ItemName (next_name s c))) move.Fail)) t space
     (at_true (c == 34 && in_section s) (move.Two (sym.Str str.Quoted) (sym.ItemName name.Section)) (cond (takes s c) (move.One (sym.ItemName (next_name s c))) move.Fail) t quote h)
 
 name_at : (s : ItemName) (c : ℕ) (t rest value : List ℕ) → c ∷ t ≡ rest ++ 32 ∷ value → NameForm s rest → IsValue 64 value → After (item_name_rule s c) t
 name_at s c t [] v e form h =
     let is : c ≡ 32 = cons_head c 32 t v e in
-    at_true (c == 32 && may_end s) (move.One (sym.Value value.Start)) (cond (c == 34 && in_section s) (move.Two (sym.Str str.Quoted) (sym.ItemName name.Section)) (cond (takes s c) (move.One (sym.ItemName (next_name s c))) move.Fail)) t (and_from (c == 32) (may_end s) (eq-eqb c 32 is) (form_ends s form))
+    at_true (c == 32 && may_end s) (move.One (sym.Value value.Start))
+    (cond (c == 34 && in_section s) (move.Two (sym.Str str.Quoted) (sym.ItemName name.Section)) (cond (takes s c) (move.One (sym.ItemName (next_name s c))) move.Fail)) t
+    (and_from (c == 32) (may_end s) (eq-eqb c 32 is) (form_ends s form))
     (subst (IsValue 64) (sym (cons_tail c 32 t v e)) h)
 name_at s c t (d ∷ x) v e form h =
     let same : c ≡ d = cons_head c d t (x ++ 32 ∷ v) e in
     let rest : t ≡ x ++ 32 ∷ v = cons_tail c d t (x ++ 32 ∷ v) e in
     elim (form_forth s c x (subst (λ (q : ℕ). NameForm s (q ∷ x)) (sym same) form)) [
-      | inl q ↦ quotes_after s c t q.0 q.1 (record { front = q.2.front; back = q.2.back ++ 32 ∷ v; whole = rest ∙ ap (λ (u : List ℕ). u ++ 32 ∷ v) q.2.whole ∙ append_assoc q.2.front q.2.back (32 ∷ v); first = q.2.first; second = record { rest = q.2.back; value = v; whole = refl; form = q.2.second; value_is = h } })
+      | inl q ↦ quotes_after s c t q.0 q.1 (record {
+        front = q.2.front;
+        back = q.2.back ++ 32 ∷ v;
+        whole = rest ∙ ap (λ (u : List ℕ). u ++ 32 ∷ v) q.2.whole
+            ∙ append_assoc q.2.front q.2.back (32 ∷ v);
+        first = q.2.first;
+        second = record { rest = q.2.back; value = v; whole = refl; form = q.2.second; value_is = h };
+      })
       | inr g ↦ goes_after s c t g.0 (record { rest = x; value = v; whole = rest; form = g.1; value_is = h })
     ]
 
@@ -290,15 +347,24 @@ rest_goes s c t (d ∷ x) v a e form h = record {
 }
 
 pub name_goes : (begun : List ℕ) (c : ℕ) (t : List ℕ) → is_atom c ≡ true → NameRest (name_from name.Plain begun) (c ∷ t) → NameRest (name_from name.Plain (begun ++ lower c ∷ [])) t
-name_goes begun c t e h = subst (λ (s : ItemName). NameRest s t) (sym (next_from name.Plain begun (lower c))) (rest_goes (name_from name.Plain begun) c t h.rest h.value e h.whole h.form h.value_is)
+name_goes begun c t e h = subst (λ (s : ItemName). NameRest s t) (sym (next_from name.Plain begun (lower c)))
+    (rest_goes (name_from name.Plain begun) c t h.rest h.value e h.whole h.form h.value_is)
 
 -- the same backwards, where the octet goes on with the name
-pub name_comes : (begun : List ℕ) (c : ℕ) (t : List ℕ) → takes (name_from name.Plain begun) c ≡ true → NameRest (name_from name.Plain (begun ++ lower c ∷ [])) t → NameRest (name_from name.Plain begun) (c ∷ t)
+pub name_comes : (begun : List ℕ) (c : ℕ) (t : List ℕ) → takes (name_from name.Plain begun) c ≡ true → NameRest (name_from name.Plain (begun ++ lower c ∷ [])) t
+    → NameRest (name_from name.Plain begun) (c ∷ t)
 name_comes begun c t e h =
-    let k : NameRest (next_name (name_from name.Plain begun) c) t = subst (λ (s : ItemName). NameRest s t) (next_from name.Plain begun (lower c) ∙ sym (lower_next (name_from name.Plain begun) c)) h in
-    record { rest = c ∷ k.rest; value = k.value; whole = ap (λ (u : List ℕ). c ∷ u) k.whole; form = form_back (name_from name.Plain begun) c k.rest e k.form; value_is = k.value_is }
+    let k : NameRest (next_name (name_from name.Plain begun) c) t =
+    subst (λ (s : ItemName). NameRest s t) (next_from name.Plain begun (lower c) ∙ sym (lower_next (name_from name.Plain begun) c)) h in
+    record {
+      rest = c ∷ k.rest;
+      value = k.value;
+      whole = ap (λ (u : List ℕ). c ∷ u) k.whole;
+      form = form_back (name_from name.Plain begun) c k.rest e k.form;
+      value_is = k.value_is;
+    }
 
--- what is left of a name behind octets of an atom
+-- what is left of a name after octets of an atom
 pub record Walked (s : ItemName) (w n tail v : List ℕ) : Type 0 where
   pub rest : List ℕ
   pub whole : n ≡ w ++ rest
@@ -310,7 +376,8 @@ walk [] s n tail v each e h = record { rest = n; whole = refl; back = e; form = 
 walk (c ∷ w) s [] tail v each e h = absurd (no_space c each.0 (cons_head c 32 (w ++ tail) v e))
 walk (c ∷ w) s (d ∷ n) tail v each e h =
     let same : c ≡ d = cons_head c d (w ++ tail) (n ++ 32 ∷ v) e in
-    let k = walk w (next_name s (lower c)) n tail v each.1 (cons_tail c d (w ++ tail) (n ++ 32 ∷ v) e) (atom_goes s c n each.0 (subst (λ (q : ℕ). NameForm s (q ∷ n)) (sym same) h)) in
+    let k = walk w (next_name s (lower c)) n tail v each.1 (cons_tail c d (w ++ tail) (n ++ 32 ∷ v) e)
+    (atom_goes s c n each.0 (subst (λ (q : ℕ). NameForm s (q ∷ n)) (sym same) h)) in
     record { rest = k.rest; whole = (λ i. (sym same i) ∷ (k.whole i)); back = k.back; form = k.form }
 
 atom_at : (s : ItemName) (c : ℕ) → may_end s ≡ true → takes s c ≡ true → is_atom c ≡ true

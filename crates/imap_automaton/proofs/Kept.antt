@@ -49,28 +49,32 @@ fine_good o y r s move.Fail f e = refl
 fine_good o y r s move.Yield f e = f e
 fine_good o y r s move.End f e = refl
 fine_good o y r s (move.One a) f e = (one_parts s (SymFits a) (not (ends_open a) || o) (nat_le (need a) r) (nat_le (sym_left a) 50000000) e).1
-fine_good o y r s (move.Two a b) f e = (two_parts s (SymFits a) (SymFits b) (not (ends_open a) || begins b) (not (ends_open b) || o) (nat_le (need a + 1) r) (nat_le (need b) r) (nat_le (sym_left a + sym_left b) 50000000) e).1
+fine_good o y r s (move.Two a b) f e = (two_parts s (SymFits a) (SymFits b) (not (ends_open a) || begins b) (not (ends_open b) || o) (nat_le (need a + 1) r) (nat_le (need b) r)
+    (nat_le (sym_left a + sym_left b) 50000000) e).1
 
 fine_room : (o y : Bool) (r : ℕ) (s : Bool) (m : Move) → fine o y r s m ≡ true → move_needs r m ≡ true
 fine_room o y r s move.Fail e = refl
 fine_room o y r s move.Yield e = refl
 fine_room o y r s move.End e = refl
 fine_room o y r s (move.One a) e = (one_parts s (SymFits a) (not (ends_open a) || o) (nat_le (need a) r) (nat_le (sym_left a) 50000000) e).2
-fine_room o y r s (move.Two a b) e = (two_parts s (SymFits a) (SymFits b) (not (ends_open a) || begins b) (not (ends_open b) || o) (nat_le (need a + 1) r) (nat_le (need b) r) (nat_le (sym_left a + sym_left b) 50000000) e).2
+fine_room o y r s (move.Two a b) e = (two_parts s (SymFits a) (SymFits b) (not (ends_open a) || begins b) (not (ends_open b) || o) (nat_le (need a + 1) r) (nat_le (need b) r)
+    (nat_le (sym_left a + sym_left b) 50000000) e).2
 
 fine_small : (o y : Bool) (r : ℕ) (s : Bool) (m : Move) → s ≡ false → fine o y r s m ≡ true → is_go m ≡ false
 fine_small o y r s move.Fail f e = refl
 fine_small o y r s move.Yield f e = refl
 fine_small o y r s move.End f e = absurd cc
 fine_small o y r s (move.One a) f e = let p = (one_parts s (SymFits a) (not (ends_open a) || o) (nat_le (need a) r) (nat_le (sym_left a) 50000000) e).0 in absurd cc
-fine_small o y r s (move.Two a b) f e = let p = (two_parts s (SymFits a) (SymFits b) (not (ends_open a) || begins b) (not (ends_open b) || o) (nat_le (need a + 1) r) (nat_le (need b) r) (nat_le (sym_left a + sym_left b) 50000000) e).0 in absurd cc
+fine_small o y r s (move.Two a b) f e = let p = (two_parts s (SymFits a) (SymFits b) (not (ends_open a) || begins b) (not (ends_open b) || o) (nat_le (need a + 1) r)
+    (nat_le (need b) r) (nat_le (sym_left a + sym_left b) 50000000) e).0 in absurd cc
 
 fine_left : (o y : Bool) (r : ℕ) (s : Bool) (m : Move) → fine o y r s m ≡ true → pushed_left m ≤ 50000000
 fine_left o y r s move.Fail e = omega arith
 fine_left o y r s move.Yield e = omega arith
 fine_left o y r s move.End e = omega arith
 fine_left o y r s (move.One a) e = leb-true _ _ (one_parts s (SymFits a) (not (ends_open a) || o) (nat_le (need a) r) (nat_le (sym_left a) 50000000) e).3
-fine_left o y r s (move.Two a b) e = leb-true _ _ (two_parts s (SymFits a) (SymFits b) (not (ends_open a) || begins b) (not (ends_open b) || o) (nat_le (need a + 1) r) (nat_le (need b) r) (nat_le (sym_left a + sym_left b) 50000000) e).3
+fine_left o y r s (move.Two a b) e = leb-true _ _ (two_parts s (SymFits a) (SymFits b) (not (ends_open a) || begins b) (not (ends_open b) || o) (nat_le (need a + 1) r)
+    (nat_le (need b) r) (nat_le (sym_left a + sym_left b) 50000000) e).3
 
 fine_yield : (o y : Bool) (r : ℕ) (s : Bool) (m : Move) → m ≡ move.Yield → fine o y r s m ≡ true → y ≡ true
 fine_yield o y r s m e f = sym (ap (fine o y r s) e) ∙ f
@@ -141,7 +145,8 @@ Leaves inside old new = new + cond inside 1 0 ≤ old + cond inside 0 50000000
 pub moves_left : (s : Sym) (c : ℕ) → SymFits s ≡ true → Leaves (is_octets s) (sym_left s) (pushed_left (rule_of s c))
 moves_left s c = by_octets (λ s. SymFits s ≡ true → Leaves (is_octets s) (sym_left s) (pushed_left (rule_of s c))) s
     (λ n fits. let l = octets_left n c fits in omega (arith, l))
-    (λ o fits. let l = fine_left (ends_open s) (may_yield s) (need s) (nat_lt c 256) (rule_of s c) (move_fine s c o fits) in subst (λ (b : Bool). Leaves b (sym_left s) (pushed_left (rule_of s c))) (sym o) (omega (arith, l)))
+    (λ o fits. let l = fine_left (ends_open s) (may_yield s) (need s) (nat_lt c 256) (rule_of s c) (move_fine s c o fits) in
+    subst (λ (b : Bool). Leaves b (sym_left s) (pushed_left (rule_of s c))) (sym o) (omega (arith, l)))
 
 pub yields : (s : Sym) (c : ℕ) → SymFits s ≡ true → rule_of s c ≡ move.Yield → Lang s []
 yields s c fits e = yield_empty s c (moves_yield s c fits e) fits e

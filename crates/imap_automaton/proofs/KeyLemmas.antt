@@ -1,5 +1,6 @@
 -- The words by which a reader decides: no two have one text, and a search for one finds it.
-use Rattle.std.proofs.Common.{◌≡◌, ℕ, zero, suc, ◌+◌, ◌<◌, ◌≤◌, Bool, true, false, not, ◌&&◌, List, [], ◌∷◌, ◌++◌, length, map, take, drop, get_or, cond, Some, None, refl, sym, ap, subst, ◌∙◌, arith, inl, inr, bytes_eq}
+use Rattle.std.proofs.Common.{◌≡◌, ℕ, zero, suc, ◌+◌, ◌<◌, ◌≤◌, Bool, true, false, not, ◌&&◌, List, [], ◌∷◌, ◌++◌, length, map, take, drop, get_or, cond, Some, None, refl, sym, ap}
+use Rattle.std.proofs.Common.{subst, ◌∙◌, arith, inl, inr, bytes_eq}
 use Rattle.std.specs.Prelude.{◌==◌, nat_lt, find, unwrap_or}
 use Rattle.std.proofs.lemmas.Bool.{eqb-true, ltb-true, and_parts, and_from, lt-ltb, eq-eqb, or_cases, or_left, or_right, not-true}
 use Rattle.std.proofs.lemmas.List.{length-take-le, take-append-drop}
@@ -20,7 +21,12 @@ use Rattle.imap_syntax.specs.Texts.{Each}
 -- ---- texts of keys
 
 abbrev key_named : List ℕ → Key
-key_named t = unwrap_or (find (λ k. bytes_eq (key_text k) t) (key.Ok ∷ key.No ∷ key.Bad ∷ key.Preauth ∷ key.Bye ∷ key.Capability ∷ key.Enabled ∷ key.Vanished ∷ key.List ∷ key.Status ∷ key.Exists ∷ key.Expunge ∷ key.Fetch ∷ key.Uid ∷ key.Flags ∷ key.ModSeq ∷ key.Size ∷ key.InternalDate ∷ key.Header ∷ key.HeaderPart ∷ key.Body ∷ key.BodyPart ∷ key.Jan ∷ key.Feb ∷ key.Mar ∷ key.Apr ∷ key.May ∷ key.Jun ∷ key.Jul ∷ key.Aug ∷ key.Sep ∷ key.Oct ∷ key.Nov ∷ key.Dec ∷ [])) key.Ok
+key_named t =
+    unwrap_or
+    (find (λ k. bytes_eq (key_text k) t)
+    (key.Ok ∷ key.No ∷ key.Bad ∷ key.Preauth ∷ key.Bye ∷ key.Capability ∷ key.Enabled ∷ key.Vanished ∷ key.List ∷ key.Status ∷ key.Exists ∷ key.Expunge ∷ key.Fetch ∷ key.Uid ∷
+    key.Flags ∷ key.ModSeq ∷ key.Size ∷ key.InternalDate ∷ key.Header ∷ key.HeaderPart ∷ key.Body ∷ key.BodyPart ∷ key.Jan ∷ key.Feb ∷ key.Mar ∷ key.Apr ∷ key.May ∷ key.Jun ∷
+    key.Jul ∷ key.Aug ∷ key.Sep ∷ key.Oct ∷ key.Nov ∷ key.Dec ∷ [])) key.Ok
 
 named : (k : Key) → key_named (key_text k) ≡ k
 named key.Ok = refl
@@ -172,7 +178,8 @@ same_lower [] h = refl
 same_lower (c ∷ t) h = let e : lower c ≡ c = eqb-true _ _ (key_octet_parts c h.0).1 in let r = same_lower t h.1 in cc
 
 pub key_lower : (k : Key) (at : ℕ) → map lower (drop at (key_text k)) ≡ drop at (key_text k)
-key_lower k at = same_lower (drop at (key_text k)) (each_parts is_key_octet (take at (key_text k)) (drop at (key_text k)) (subst (Each is_key_octet) (sym (take-append-drop at (key_text k))) (key_octets k))).1
+key_lower k at = same_lower (drop at (key_text k)) (each_parts is_key_octet (take at (key_text k)) (drop at (key_text k))
+    (subst (Each is_key_octet) (sym (take-append-drop at (key_text k))) (key_octets k))).1
 
 -- `!` stands in no key
 pub no_bang : (k : Key) (x y : List ℕ) → x ++ 33 ∷ y ≡ key_text k → ⊥
@@ -215,7 +222,11 @@ among_is x (y ∷ xs) (inr h) = or_right (bytes_eq (key_text x) (key_text y)) (i
 
 pub is_among_is : (x : Key) (xs : List Key) → is_among x xs ≡ true → Among x xs
 is_among_is x [] e = absurd cc
-is_among_is x (y ∷ xs) e = elim (or_cases (bytes_eq (key_text x) (key_text y)) (is_among x xs) e) [ inl f ↦ inl (one_key x y (same_text (key_text x) (key_text y) f)) | inr f ↦ inr (is_among_is x xs f) ]
+is_among_is x (y ∷ xs) e = elim (or_cases (bytes_eq (key_text x) (key_text y)) (is_among x xs) e) [
+  | inl f ↦ inl (one_key x y (same_text (key_text x) (key_text y) f))
+  | inr f ↦ inr
+      (is_among_is x xs f)
+]
 
 -- a key of a place, searched before the others, is one of them
 pub among_keys : (p : Place) (k x : Key) → is_among k (keys p) ≡ true → Among x (k ∷ keys p) → Among x (keys p)

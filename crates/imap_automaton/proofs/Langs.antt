@@ -71,7 +71,7 @@ pub record FreeLiteral (Rest : List ℕ → Type 0) (s : Pending) (t : List ℕ)
   pub inside : Each is_inside octets
   pub goes_on : Rest rest
 
--- with so many literals, behind a text that ends so
+-- with so many literals, after a text that ends so
 abbrev pub IsFreeFrom : ℕ → Pending → List ℕ → Type 0
 IsFreeFrom zero s t = FreeEnd s t
 IsFreeFrom (suc literals) s t = FreeLiteral (IsFreeFrom literals pending.Nothing) s t
@@ -100,7 +100,7 @@ ItemLang (item.Number value digits) t = NumberRest value digits t
 ItemLang item.LongOpen t = (digits : List ℕ) × (t ≡ 40 ∷ digits ++ 41 ∷ []) × LongRest 0 0 digits
 ItemLang (item.Long value digits) t = LongRest value digits t
 
--- ---- what stands behind the month of a date
+-- ---- what stands after the month of a date
 
 -- each octet may stand at its place, of which the first is `at`
 abbrev pub Places : (ℕ → ℕ → Bool) → ℕ → List ℕ → Type 0
@@ -130,11 +130,11 @@ WordsLang words.Rest t = FirstWord (Each is_word) t
 abbrev pub SetLine : List ℕ → Type 0
 SetLine t = (rs : List UidRange) × sets.IsSetLine rs t
 
--- behind a range
+-- after a range
 abbrev pub RangeEnds : List ℕ → Type 0
 RangeEnds t = IsCrlf t ⊎ ((rest : List ℕ) × (t ≡ 44 ∷ rest) × SetLine rest)
 
--- behind a number, the second of its range or not
+-- after a number, the second of its range or not
 abbrev pub NumberEnds : Bool → List ℕ → Type 0
 NumberEnds true t = RangeEnds t
 NumberEnds false t = RangeEnds t ⊎ ((rest : List ℕ) × (t ≡ 58 ∷ rest) × Then (NumberRest 0 0) RangeEnds rest)
@@ -205,7 +205,7 @@ pub record WordRest (place : Place) (begun t : List ℕ) : Type 0 where
 
 -- ---- dates
 
--- what stands behind the quote of a date and so many octets
+-- what stands after the quote of a date and n octets
 pub record DayRest (at : ℕ) (t : List ℕ) : Type 0 where
   pub front : List ℕ
   pub back : List ℕ

@@ -1,5 +1,6 @@
 -- One octet within a line.
-use Rattle.std.proofs.Common.{◌≡◌, ◌⊎◌, ℕ, zero, suc, ◌+◌, ◌-◌, ◌*◌, ◌<◌, ◌≤◌, true, false, ◌&&◌, List, [], ◌∷◌, ◌++◌, length, map, drop, get_or, cond, None, refl, sym, ap, subst, ◌∙◌, arith, inl, inr}
+use Rattle.std.proofs.Common.{◌≡◌, ◌⊎◌, ℕ, zero, suc, ◌+◌, ◌-◌, ◌*◌, ◌<◌, ◌≤◌, true, false, ◌&&◌, List, [], ◌∷◌, ◌++◌, length, map, drop, get_or, cond, None, refl, sym, ap, subst}
+use Rattle.std.proofs.Common.{◌∙◌, arith, inl, inr}
 use Rattle.std.specs.Prelude.{◌==◌, nat_lt, nat_le}
 use Rattle.std.proofs.lemmas.Bool.{eqb-true, eqb-false, ltb-true, leb-true, and_parts, and_from, lt-ltb, le-leb, eq-eqb}
 use Rattle.std.proofs.lemmas.List.{drop_all}
@@ -22,7 +23,8 @@ use Rattle.imap_automaton.specs.LineRules.{word_start, sequence_rule, fixed_rule
 use Rattle.imap_automaton.specs.Fits.{LineFits}
 use Rattle.imap_automaton.proofs.Langs.{FreeLang, WordSays, WordRest, TagRest, NumberedRest, SequenceRest, LineLang, After}
 use Rattle.imap_automaton.proofs.Lists.{cons_head, cons_tail}
-use Rattle.imap_automaton.proofs.Tests.{from_test, to_test, at_true, at_false, is_true_at, both, alnum_not_space, text_not_cr, drop_at, crlf_of, crlf_parts, mid, digit_word, digit_no_brace}
+use Rattle.imap_automaton.proofs.Tests.{from_test, to_test, at_true, at_false, is_true_at, both, alnum_not_space, text_not_cr, drop_at, crlf_of, crlf_parts, mid, digit_word}
+use Rattle.imap_automaton.proofs.Tests.{digit_no_brace}
 use Rattle.imap_automaton.proofs.FreeEdges.{text_back, text_forth, free_empty}
 use Rattle.imap_automaton.proofs.KeyLemmas.{no_bang}
 use Rattle.imap_automaton.proofs.WordEdges.{cut, text_goes, text_comes, word_back, word_forth, word_empty, word_example}
@@ -59,7 +61,8 @@ line_at c t (d ∷ x) e f =
     (at_true (is_text c) (move.One (sym.Line line.Text)) move.Fail t ok (record { text = x; whole = cons_tail c d t (x ++ crlf) e; text_is = f.1 }))
 
 fixed_back : (p : Phrase) (at c : ℕ) (t : List ℕ) → After (fixed_rule p at c) t → c ∷ t ≡ drop at (phrase_text p)
-fixed_back p at c t h = from_test (nat_lt at (length (phrase_text p)) && c == get_or (phrase_text p) at 0) (cond (at + 1 == length (phrase_text p)) move.End (move.One (sym.Line (line.Fixed p (at + 1))))) move.Fail t (c ∷ t ≡ drop at (phrase_text p))
+fixed_back p at c t h = from_test (nat_lt at (length (phrase_text p)) && c == get_or (phrase_text p) at 0)
+    (cond (at + 1 == length (phrase_text p)) move.End (move.One (sym.Line (line.Fixed p (at + 1))))) move.Fail t (c ∷ t ≡ drop at (phrase_text p))
     (λ e k.
     let b = and_parts (nat_lt at (length (phrase_text p))) (c == get_or (phrase_text p) at 0) e in
     let lt : at < length (phrase_text p) = ltb-true _ _ b.0 in
@@ -75,14 +78,16 @@ fixed_forth p at c t fits h =
     let split = drop_at (phrase_text p) at (ltb-true _ _ fits) in
     let head = cons_head c (get_or (phrase_text p) at 0) t (drop (at + 1) (phrase_text p)) (h ∙ split) in
     let tail = cons_tail c (get_or (phrase_text p) at 0) t (drop (at + 1) (phrase_text p)) (h ∙ split) in
-    at_true (nat_lt at (length (phrase_text p)) && c == get_or (phrase_text p) at 0) (cond (at + 1 == length (phrase_text p)) move.End (move.One (sym.Line (line.Fixed p (at + 1))))) move.Fail t
+    at_true (nat_lt at (length (phrase_text p)) && c == get_or (phrase_text p) at 0)
+    (cond (at + 1 == length (phrase_text p)) move.End (move.One (sym.Line (line.Fixed p (at + 1))))) move.Fail t
     (and_from _ _ fits (eq-eqb _ _ head))
     (to_test (at + 1 == length (phrase_text p)) move.End (move.One (sym.Line (line.Fixed p (at + 1)))) t
     (λ e. tail ∙ drop_all (at + 1) (phrase_text p) (omega (arith, eqb-true _ _ e)))
     (λ e. tail))
 
 folded_back : (p : Phrase) (at c : ℕ) (t : List ℕ) → After (folded_rule p at c) t → map lower (c ∷ t) ≡ drop at (phrase_text p)
-folded_back p at c t h = from_test (nat_lt at (length (phrase_text p)) && lower c == get_or (phrase_text p) at 0) (cond (at + 1 == length (phrase_text p)) move.End (move.One (sym.Line (line.Folded p (at + 1))))) move.Fail t (map lower (c ∷ t) ≡ drop at (phrase_text p))
+folded_back p at c t h = from_test (nat_lt at (length (phrase_text p)) && lower c == get_or (phrase_text p) at 0)
+    (cond (at + 1 == length (phrase_text p)) move.End (move.One (sym.Line (line.Folded p (at + 1))))) move.Fail t (map lower (c ∷ t) ≡ drop at (phrase_text p))
     (λ e k.
     let b = and_parts (nat_lt at (length (phrase_text p))) (lower c == get_or (phrase_text p) at 0) e in
     let lt : at < length (phrase_text p) = ltb-true _ _ b.0 in
@@ -102,7 +107,8 @@ folded_forth p at c t fits h =
     let split = drop_at (phrase_text p) at (ltb-true _ _ fits) in
     let head = cons_head (lower c) (get_or (phrase_text p) at 0) (map lower t) (drop (at + 1) (phrase_text p)) (h ∙ split) in
     let tail = cons_tail (lower c) (get_or (phrase_text p) at 0) (map lower t) (drop (at + 1) (phrase_text p)) (h ∙ split) in
-    at_true (nat_lt at (length (phrase_text p)) && lower c == get_or (phrase_text p) at 0) (cond (at + 1 == length (phrase_text p)) move.End (move.One (sym.Line (line.Folded p (at + 1))))) move.Fail t
+    at_true (nat_lt at (length (phrase_text p)) && lower c == get_or (phrase_text p) at 0)
+    (cond (at + 1 == length (phrase_text p)) move.End (move.One (sym.Line (line.Folded p (at + 1))))) move.Fail t
     (and_from _ _ fits (eq-eqb _ _ head))
     (to_test (at + 1 == length (phrase_text p)) move.End (move.One (sym.Line (line.Folded p (at + 1)))) t
     (λ e. lowered_none t (tail ∙ drop_all (at + 1) (phrase_text p) (omega (arith, eqb-true _ _ e))))
@@ -125,15 +131,32 @@ folded_some phrase.Earlier at = (drop at (phrase_text phrase.Earlier), lower_dro
 -- ---- tags
 
 tag_back : (n c : ℕ) (t : List ℕ) → LineFits (line.Tag n) ≡ true → After (line_rule (line.Tag n) c) t → TagRest n (c ∷ t)
-tag_back n c t fits h = from_test (c == 32) (move.One (word_start place.Tagged)) (cond (is_alnum c && nat_lt n 32) (move.One (sym.Line (line.Tag (n + 1)))) move.Fail) t (TagRest n (c ∷ t))
-    (λ e k. record { tag = []; after = t; whole = ap (λ (d : ℕ). d ∷ t) (eqb-true c 32 e); tag_is = tt; few = omega (arith, leb-true _ _ (and_parts (nat_lt 0 n) (nat_le n 32) fits).1); line = k })
+tag_back n c t fits h = from_test (c == 32) (move.One (word_start place.Tagged)) (cond (is_alnum c && nat_lt n 32) (move.One (sym.Line (line.Tag (n + 1)))) move.Fail) t
+    (TagRest n (c ∷ t))
+    (λ e k. record {
+      tag = [];
+      after = t;
+      whole = ap (λ (d : ℕ). d ∷ t) (eqb-true c 32 e);
+      tag_is = tt;
+      few = omega (arith, leb-true _ _ (and_parts (nat_lt 0 n) (nat_le n 32) fits).1);
+      line = k;
+    })
     (λ e k. from_test (is_alnum c && nat_lt n 32) (move.One (sym.Line (line.Tag (n + 1)))) move.Fail t (TagRest n (c ∷ t))
-    (λ f l. record { tag = c ∷ l.tag; after = l.after; whole = ap (λ (u : List ℕ). c ∷ u) l.whole; tag_is = ((and_parts (is_alnum c) (nat_lt n 32) f).0, l.tag_is); few = omega (arith, l.few); line = l.line })
+    (λ f l. record {
+      tag = c ∷ l.tag;
+      after = l.after;
+      whole = ap (λ (u : List ℕ). c ∷ u) l.whole;
+      tag_is = ((and_parts (is_alnum c) (nat_lt n 32) f).0, l.tag_is);
+      few = omega (arith, l.few);
+      line = l.line;
+    })
     (λ f l. absurd l) k) h
 
-tag_at : (n c : ℕ) (t tag after : List ℕ) → c ∷ t ≡ tag ++ 32 ∷ after → Each is_alnum tag → n + length tag ≤ 32 → WordRest place.Tagged [] after → After (line_rule (line.Tag n) c) t
+tag_at : (n c : ℕ) (t tag after : List ℕ) → c ∷ t ≡ tag ++ 32 ∷ after → Each is_alnum tag → n + length tag ≤ 32 → WordRest place.Tagged [] after
+    → After (line_rule (line.Tag n) c) t
 tag_at n c t [] after e all few h =
-    at_true (c == 32) (move.One (word_start place.Tagged)) (cond (is_alnum c && nat_lt n 32) (move.One (sym.Line (line.Tag (n + 1)))) move.Fail) t (eq-eqb c 32 (cons_head c 32 t after e))
+    at_true (c == 32) (move.One (word_start place.Tagged)) (cond (is_alnum c && nat_lt n 32) (move.One (sym.Line (line.Tag (n + 1)))) move.Fail) t
+    (eq-eqb c 32 (cons_head c 32 t after e))
     (subst (WordRest place.Tagged []) (sym (cons_tail c 32 t after e)) h)
 tag_at n c t (d ∷ x) after e all few h =
     let same : c ≡ d = cons_head c d t (x ++ 32 ∷ after) e in
@@ -142,7 +165,7 @@ tag_at n c t (d ∷ x) after e all few h =
     (at_true (is_alnum c && nat_lt n 32) (move.One (sym.Line (line.Tag (n + 1)))) move.Fail t (and_from _ _ ok (lt-ltb n 32 (omega (arith, few))))
     (record { tag = x; after = after; whole = cons_tail c d t (x ++ 32 ∷ after) e; tag_is = all.1; few = omega (arith, few); line = h }))
 
--- ---- behind `* ` and digits
+-- ---- after `* ` and digits
 
 digit_text : (c : ℕ) → is_digit c ≡ true → is_text c ≡ true
 digit_text c e = grind arith
@@ -151,27 +174,36 @@ digit_no_space : (c : ℕ) → c ≡ 32 → is_digit c ≡ false
 digit_no_space c e = grind arith
 
 -- the octet that a number and a line begin with
-numbered_at : (v n c : ℕ) (l t more : List ℕ) → c ∷ t ≡ more ++ 32 ∷ l → Each is_digit more → n + length more ≤ 10 → value_from v more ≤ 4294967295 → ((c ≡ 32) × (t ≡ l)) ⊎ ((is_digit c ≡ true) × (n < 10) × (10 * v + (c - 48) ≤ 4294967295) × NumberedRest (10 * v + (c - 48)) (n + 1) l t)
+numbered_at : (v n c : ℕ) (l t more : List ℕ) → c ∷ t ≡ more ++ 32 ∷ l → Each is_digit more → n + length more ≤ 10 → value_from v more ≤ 4294967295 → ((c ≡ 32) × (t ≡ l))
+    ⊎ ((is_digit c ≡ true) × (n < 10) × (10 * v + (c - 48) ≤ 4294967295) × NumberedRest (10 * v + (c - 48)) (n + 1) l t)
 numbered_at v n c l t [] e all few most = inl (cons_head c 32 t l e, cons_tail c 32 t l e)
 numbered_at v n c l t (d ∷ x) e all few most =
     let same : c ≡ d = cons_head c d t (x ++ 32 ∷ l) e in
     let m : value_from (10 * v + (c - 48)) x ≤ 4294967295 = subst (λ (q : ℕ). value_from (10 * v + (q - 48)) x ≤ 4294967295) (sym same) most in
     let mono = value_mono (10 * v + (c - 48)) x in
-    inr (is_true_at is_digit c d same all.0, omega (arith, few), omega (arith, mono, m), record { more = x; whole = cons_tail c d t (x ++ 32 ∷ l) e; each = all.1; few = omega (arith, few); most = m })
+    inr (
+      is_true_at is_digit c d same all.0,
+      omega (arith, few),
+      omega (arith, mono, m),
+      record { more = x; whole = cons_tail c d t (x ++ 32 ∷ l) e; each = all.1; few = omega (arith, few); most = m },
+    )
 
 numbered_more : (v n c : ℕ) (l t : List ℕ) → is_digit c ≡ true → NumberedRest (10 * v + (c - 48)) (n + 1) l t → NumberedRest v n l (c ∷ t)
 numbered_more v n c l t e h = record { more = c ∷ h.more; whole = ap (λ (u : List ℕ). c ∷ u) h.whole; each = (e, h.each); few = omega (arith, h.few); most = h.most }
 
-numbered_goes : (v n c : ℕ) (l t : List ℕ) → (is_digit c && nat_lt n 10 && nat_le (10 * v + (c - 48)) 4294967295) ≡ true → NumberedRest v n l (c ∷ t) → NumberedRest (10 * v + (c - 48)) (n + 1) l t
+numbered_goes : (v n c : ℕ) (l t : List ℕ) → (is_digit c && nat_lt n 10 && nat_le (10 * v + (c - 48)) 4294967295) ≡ true → NumberedRest v n l (c ∷ t)
+    → NumberedRest (10 * v + (c - 48)) (n + 1) l t
 numbered_goes v n c l t e h = elim (numbered_at v n c l t h.more h.whole h.each h.few h.most) [
-  | inl s ↦ absurd (both (is_digit c) (and_parts (is_digit c) (nat_lt n 10) (and_parts (is_digit c && nat_lt n 10) (nat_le (10 * v + (c - 48)) 4294967295) e).0).0 (digit_no_space c s.0))
+  | inl s ↦ absurd (both (is_digit c) (and_parts (is_digit c) (nat_lt n 10) (and_parts (is_digit c && nat_lt n 10) (nat_le (10 * v + (c - 48)) 4294967295) e).0).0
+      (digit_no_space c s.0))
   | inr r ↦ r.3
 ]
 
 numbered_stays : (v n c : ℕ) (l t : List ℕ) → (is_digit c && nat_lt n 10 && nat_le (10 * v + (c - 48)) 4294967295) ≡ false → (c == 32) ≡ false → NumberedRest v n l (c ∷ t) → ⊥
 numbered_stays v n c l t e s h = elim (numbered_at v n c l t h.more h.whole h.each h.few h.most) [
   | inl q ↦ eqb-false c 32 s q.0
-  | inr r ↦ both (is_digit c && nat_lt n 10 && nat_le (10 * v + (c - 48)) 4294967295) (and_from _ _ (and_from _ _ r.0 (lt-ltb n 10 r.1)) (le-leb (10 * v + (c - 48)) 4294967295 r.2)) e
+  | inr r ↦ both (is_digit c && nat_lt n 10 && nat_le (10 * v + (c - 48)) 4294967295)
+      (and_from _ _ (and_from _ _ r.0 (lt-ltb n 10 r.1)) (le-leb (10 * v + (c - 48)) 4294967295 r.2)) e
 ]
 
 numbered_space : (v n c : ℕ) (l t : List ℕ) → c ≡ 32 → NumberedRest v n l (c ∷ t) → t ≡ l
@@ -190,7 +222,8 @@ numbered_here : (v n : ℕ) (t : List ℕ) → n ≤ 10 → v ≤ 4294967295 →
 numbered_here v n t few most = record { more = []; whole = refl; each = tt; few = omega (arith, few); most = most }
 
 sequence_back : (v n c : ℕ) (t : List ℕ) → LineFits (line.Sequence v n) ≡ true → After (sequence_rule v n c) t → SequenceRest v n (c ∷ t)
-sequence_back v n c t fits h = from_test (is_digit c && nat_lt n 10 && nat_le (10 * v + (c - 48)) 4294967295) (move.One (sym.Line (line.Sequence (10 * v + (c - 48)) (n + 1)))) (cond (c == 32) (move.One (word_start place.Numbered)) (text_rule pending.Nothing c)) t (SequenceRest v n (c ∷ t))
+sequence_back v n c t fits h = from_test (is_digit c && nat_lt n 10 && nat_le (10 * v + (c - 48)) 4294967295) (move.One (sym.Line (line.Sequence (10 * v + (c - 48)) (n + 1))))
+    (cond (c == 32) (move.One (word_start place.Numbered)) (text_rule pending.Nothing c)) t (SequenceRest v n (c ∷ t))
     (λ e k.
     let d : is_digit c ≡ true = (and_parts (is_digit c) (nat_lt n 10) (and_parts (is_digit c && nat_lt n 10) (nat_le (10 * v + (c - 48)) 4294967295) e).0).0 in
     elim k [
@@ -203,14 +236,16 @@ sequence_back v n c t fits h = from_test (is_digit c && nat_lt n 10 && nat_le (1
 
 sequence_forth : (v n c : ℕ) (t : List ℕ) → LineFits (line.Sequence v n) ≡ true → SequenceRest v n (c ∷ t) → After (sequence_rule v n c) t
 sequence_forth v n c t fits (inl r) =
-    to_test (is_digit c && nat_lt n 10 && nat_le (10 * v + (c - 48)) 4294967295) (move.One (sym.Line (line.Sequence (10 * v + (c - 48)) (n + 1)))) (cond (c == 32) (move.One (word_start place.Numbered)) (text_rule pending.Nothing c)) t
+    to_test (is_digit c && nat_lt n 10 && nat_le (10 * v + (c - 48)) 4294967295) (move.One (sym.Line (line.Sequence (10 * v + (c - 48)) (n + 1))))
+    (cond (c == 32) (move.One (word_start place.Numbered)) (text_rule pending.Nothing c)) t
     (λ e. inl (r.0, numbered_goes v n c r.0 t e r.1, r.2))
     (λ e. to_test (c == 32) (move.One (word_start place.Numbered)) (text_rule pending.Nothing c) t
     (λ f. subst (WordRest place.Numbered []) (sym (numbered_space v n c r.0 t (eqb-true c 32 f) r.1)) r.2)
     (λ f. absurd (numbered_stays v n c r.0 t e f r.1)))
 sequence_forth v n c t fits (inr r) =
     let s = sequence_fits v n fits in
-    to_test (is_digit c && nat_lt n 10 && nat_le (10 * v + (c - 48)) 4294967295) (move.One (sym.Line (line.Sequence (10 * v + (c - 48)) (n + 1)))) (cond (c == 32) (move.One (word_start place.Numbered)) (text_rule pending.Nothing c)) t
+    to_test (is_digit c && nat_lt n 10 && nat_le (10 * v + (c - 48)) 4294967295) (move.One (sym.Line (line.Sequence (10 * v + (c - 48)) (n + 1))))
+    (cond (c == 32) (move.One (word_start place.Numbered)) (text_rule pending.Nothing c)) t
     (λ e.
     let d : is_digit c ≡ true = (and_parts (is_digit c) (nat_lt n 10) (and_parts (is_digit c && nat_lt n 10) (nat_le (10 * v + (c - 48)) 4294967295) e).0).0 in
     inr (text_goes_on d, λ l q. r.1 l (numbered_more v n c l t d q)))
@@ -221,7 +256,7 @@ sequence_forth v n c t fits (inr r) =
     text_goes_on : is_digit c ≡ true → FreeLang (free.Text pending.Nothing) t
     text_goes_on d = text_goes c t (digit_text c d) (digit_no_brace c d) r.0
 
--- ---- behind `* `
+-- ---- after `* `
 
 first_no_digit : (k : Key) → is_digit (get_or (key_text k) 0 0) ≡ false
 first_no_digit key.Ok = refl
@@ -281,7 +316,8 @@ digit_line c t d h =
     }
 
 -- the text of such a line
-line_digit : (c : ℕ) (t w tail : List ℕ) → is_digit c ≡ true → c ∷ t ≡ w ++ tail → is_word (get_or tail 0 0) ≡ false → WordSays place.Plain [] (map lower w) tail (c ∷ t) → FreeLang (free.Text pending.Nothing) (c ∷ t)
+line_digit : (c : ℕ) (t w tail : List ℕ) → is_digit c ≡ true → c ∷ t ≡ w ++ tail → is_word (get_or tail 0 0) ≡ false → WordSays place.Plain [] (map lower w) tail (c ∷ t)
+    → FreeLang (free.Text pending.Nothing) (c ∷ t)
 line_digit c t w tail d e longest (inr s) = s.1
 line_digit c t [] tail d e longest (inl k) = absurd (both (is_word c) (digit_word c d) (ap (λ (u : List ℕ). is_word (get_or u 0 0)) e ∙ longest))
 line_digit c t (x ∷ w) tail d e longest (inl k) = absurd (digit_no_key c w k.0 d (ap (λ (q : ℕ). map lower (q ∷ w)) (cons_head c x t (w ++ tail) e) ∙ k.2))
@@ -290,7 +326,11 @@ first_value : (c : ℕ) (t : List ℕ) → value_from 0 (c ∷ t) ≡ value_from
 first_value c t = ap (λ (n : ℕ). value_from n t) (omega arith)
 
 numbered_whole : (c : ℕ) (l t : List ℕ) → is_digit c ≡ true → (h : NumberedRest (c - 48) 1 l t) → Numbered (value_from (c - 48) h.more) l (c ∷ t)
-numbered_whole c l t d h = (c ∷ h.more, ap (λ (u : List ℕ). c ∷ u) h.whole, record { digits = (d, h.each); some = omega arith; few = omega (arith, h.few); value = sym (first_value c h.more); most = h.most })
+numbered_whole c l t d h = (
+  c ∷ h.more,
+  ap (λ (u : List ℕ). c ∷ u) h.whole,
+  record { digits = (d, h.each); some = omega arith; few = omega (arith, h.few); value = sym (first_value c h.more); most = h.most },
+)
 
 numbered_rest : (n c : ℕ) (l t digits : List ℕ) → c ∷ t ≡ digits ++ 32 ∷ l → IsNumber n digits → (is_digit c ≡ true) × NumberedRest (c - 48) 1 l t
 numbered_rest n c l t [] e h = absurd (omega (arith, h.some))
@@ -298,7 +338,13 @@ numbered_rest n c l t (d ∷ x) e h =
     let same : c ≡ d = cons_head c d t (x ++ 32 ∷ l) e in
     let v : value_from (d - 48) x ≤ 4294967295 = (let q = first_value d x in omega (arith, q, h.value, h.most)) in (
       is_true_at is_digit c d same h.digits.0,
-      record { more = x; whole = cons_tail c d t (x ++ 32 ∷ l) e; each = h.digits.1; few = omega (arith, h.few); most = subst (λ (q : ℕ). value_from (q - 48) x ≤ 4294967295) (sym same) v },
+      record {
+        more = x;
+        whole = cons_tail c d t (x ++ 32 ∷ l) e;
+        each = h.digits.1;
+        few = omega (arith, h.few);
+        most = subst (λ (q : ℕ). value_from (q - 48) x ≤ 4294967295) (sym same) v;
+      },
     )
 
 untagged_back : (c : ℕ) (t : List ℕ) → After (line_rule line.Untagged c) t → LineLang line.Untagged (c ∷ t)
@@ -321,7 +367,10 @@ untagged_at v c t (inl r) =
 untagged_at v c t (inr r) =
     let w = plain_to v (c ∷ t) r.0 in
     to_test (is_digit c) (move.One (sym.Line (line.Sequence (c - 48) 1))) (word_rule place.Plain (first_key place.Plain) 0 c) t
-    (λ d. inr (text_goes c t (digit_text c d) (digit_no_brace c d) (line_digit c t w.word w.tail d w.whole w.longest w.says), λ l q. r.1 (value_from (c - 48) q.more) l (numbered_whole c l t d q)))
+    (λ d. inr (
+      text_goes c t (digit_text c d) (digit_no_brace c d) (line_digit c t w.word w.tail d w.whole w.longest w.says),
+      λ l q. r.1 (value_from (c - 48) q.more) l (numbered_whole c l t d q),
+    ))
     (λ d. word_forth place.Plain (first_key place.Plain) 0 c t (omega arith) refl w)
 
 -- ---- the first octet
@@ -358,8 +407,18 @@ start_back c t h = from_test (c == 42) (move.Two (sym.Line (line.Fixed phrase.Sp
     (λ f l. (response.Continue, (t, ap (λ (n : ℕ). n ∷ t) (eqb-true c 43 f), l)))
     (λ f l. from_test (is_alnum c) (move.One (sym.Line (line.Tag 1))) move.Fail t (LineLang line.Start (c ∷ t))
     (λ g m.
-    let s = tagged_from m.after m.line in
-    (response.Tagged (c ∷ m.tag) s.0 s.1, record { after = m.after; whole = ap (λ (u : List ℕ). c ∷ u) m.whole; tag_is = (g, m.tag_is); some = omega arith; few = omega (arith, m.few); completes = s.2; line = s.3 }))
+    let s = tagged_from m.after m.line in (
+      response.Tagged (c ∷ m.tag) s.0 s.1,
+      record {
+        after = m.after;
+        whole = ap (λ (u : List ℕ). c ∷ u) m.whole;
+        tag_is = (g, m.tag_is);
+        some = omega arith;
+        few = omega (arith, m.few);
+        completes = s.2;
+        line = s.3;
+      },
+    ))
     (λ g m. absurd m) l) k) h
 
 alnum_apart : (c : ℕ) → is_alnum c ≡ true → ((c == 42) ≡ false) × ((c == 43) ≡ false)
@@ -374,7 +433,14 @@ tagged_at s code c t (d ∷ x) h e =
     at_false (c == 42) (move.Two (sym.Line (line.Fixed phrase.Space 0)) (sym.Line line.Untagged)) (plus_or_tag c) t apart.0
     (at_false (c == 43) (move.One (sym.Line line.Text)) (tag_or_none c) t apart.1
     (at_true (is_alnum c) (move.One (sym.Line (line.Tag 1))) move.Fail t ok
-    (record { tag = x; after = h.after; whole = cons_tail c d t (x ++ 32 ∷ h.after) e; tag_is = h.tag_is.1; few = omega (arith, h.few); line = tagged_to s code h.after h.completes h.line })))
+    (record {
+      tag = x;
+      after = h.after;
+      whole = cons_tail c d t (x ++ 32 ∷ h.after) e;
+      tag_is = h.tag_is.1;
+      few = omega (arith, h.few);
+      line = tagged_to s code h.after h.completes h.line;
+    })))
 
 star_at : (v : Response) (c : ℕ) (t l : List ℕ) → c ∷ t ≡ 42 ∷ 32 ∷ l → IsUntagged v l → After (line_rule line.Start c) t
 star_at v c t l e h =
@@ -468,14 +534,24 @@ bang_line = record {
   word_is = (refl, tt);
   some = λ e. cc;
   longest = refl;
-  says = (λ k. (let q = plain_key (33 ∷ []) k in no_bang q.0 [] [] q.2), (0, free_from 0 (33 ∷ crlf) (record { text = 33 ∷ []; whole = refl; text_is = (refl, tt); no_count = tt })));
+  says = (
+    λ k. (let q = plain_key (33 ∷ []) k in no_bang q.0 [] [] q.2),
+    (0, free_from 0 (33 ∷ crlf) (record { text = 33 ∷ []; whole = refl; text_is = (refl, tt); no_count = tt })),
+  );
 }
 
 bang_untagged : IsUntagged response.Other (33 ∷ crlf)
 bang_untagged = inr (bang_line, λ n l q. both (is_digit 33) (numbered_rest n 33 l crlf q.0 q.1 q.2).0 refl)
 
 tag_example : (n : ℕ) → LineFits (line.Tag n) ≡ true → TagRest n (32 ∷ ok_line.0)
-tag_example n fits = record { tag = []; after = ok_line.0; whole = refl; tag_is = tt; few = omega (arith, leb-true _ _ (and_parts (nat_lt 0 n) (nat_le n 32) fits).1); line = ok_line.1 }
+tag_example n fits = record {
+  tag = [];
+  after = ok_line.0;
+  whole = refl;
+  tag_is = tt;
+  few = omega (arith, leb-true _ _ (and_parts (nat_lt 0 n) (nat_le n 32) fits).1);
+  line = ok_line.1;
+}
 
 pub line_example : (s : Line) → LineFits s ≡ true → (t : List ℕ) × LineLang s t
 line_example line.Start fits = (42 ∷ 32 ∷ 33 ∷ crlf, (response.Other, (33 ∷ crlf, refl, bang_untagged)))

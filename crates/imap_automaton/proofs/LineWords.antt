@@ -120,7 +120,7 @@ key_numbered n key.Dec m = let e = among_is key.Dec (keys place.Numbered) m in a
 key_numbered n key.Uid m = let e = among_is key.Uid (keys place.Numbered) m in absurd cc
 key_numbered n key.Flags m = let e = among_is key.Flags (keys place.Numbered) m in absurd cc
 
--- ---- behind `* `
+-- ---- after `* `
 
 stray_to : (w : List ℕ) → (Contains (keywords None) w → ⊥) → (k : Key) → Among k (keys place.Plain) → w ≡ key_text k → ⊥
 stray_to w no_key k m e = no_key (subst (Contains (keywords None)) (sym e) (key_plain k m))
@@ -130,8 +130,22 @@ flags_to flags t h = (h.1 ++ crlf, h.2, record { front = h.1; back = crlf; whole
 
 list_to : (attributes : List (List ℕ)) (delimiter : Option ℕ) (name t : List ℕ) → IsListLine attributes delimiter name t → IsBehind place.Plain key.List t
 list_to attributes delimiter name t h =
-    let after_name : NameLine (32 ∷ h.third ++ h.rest) = (h.third ++ h.rest, refl, record { front = h.third; back = h.rest; whole = refl; first = (h.string, h.spelled); second = h.ends }) in
-    let after_names : DelimiterLine (32 ∷ h.second ++ (32 ∷ h.third ++ h.rest)) = (h.second ++ (32 ∷ h.third ++ h.rest), refl, record { front = h.second; back = 32 ∷ h.third ++ h.rest; whole = refl; first = (delimiter, h.delimited); second = after_name }) in (
+    let after_name : NameLine (32 ∷ h.third ++ h.rest) = (
+      h.third ++ h.rest,
+      refl,
+      record { front = h.third; back = h.rest; whole = refl; first = (h.string, h.spelled); second = h.ends },
+    ) in
+    let after_names : DelimiterLine (32 ∷ h.second ++ (32 ∷ h.third ++ h.rest)) = (
+      h.second ++ (32 ∷ h.third ++ h.rest),
+      refl,
+      record {
+        front = h.second;
+        back = 32 ∷ h.third ++ h.rest;
+        whole = refl;
+        first = (delimiter, h.delimited);
+        second = after_name;
+      },
+    ) in (
       h.first ++ (32 ∷ h.second ++ (32 ∷ h.third ++ h.rest)),
       h.whole,
       record { front = h.first; back = 32 ∷ h.second ++ (32 ∷ h.third ++ h.rest); whole = refl; first = (h.told, h.names); second = after_names },
@@ -151,7 +165,8 @@ list_from t b =
         second = d.2.front;
         third = n.2.front;
         rest = n.2.back;
-        whole = b.1 ∙ ap (λ (u : List ℕ). 32 ∷ u) (b.2.whole ∙ ap (λ (u : List ℕ). b.2.front ++ u) (d.1 ∙ ap (λ (u : List ℕ). 32 ∷ u) (d.2.whole ∙ ap (λ (u : List ℕ). d.2.front ++ u) (n.1 ∙ ap (λ (u : List ℕ). 32 ∷ u) n.2.whole))));
+        whole = b.1 ∙ ap (λ (u : List ℕ). 32 ∷ u) (b.2.whole ∙ ap (λ (u : List ℕ). b.2.front ++ u)
+            (d.1 ∙ ap (λ (u : List ℕ). 32 ∷ u) (d.2.whole ∙ ap (λ (u : List ℕ). d.2.front ++ u) (n.1 ∙ ap (λ (u : List ℕ). 32 ∷ u) n.2.whole))));
         names = b.2.first.1;
         delimited = d.2.first.1;
         spelled = n.2.first.1;
@@ -195,9 +210,15 @@ plain_says (response.Untagged status.Bye code) w tail t h = inl (key.Bye, inr (i
 plain_says (response.Capability ws) w tail t h = inl (key.Capability, inr (inr (inr (inr (inr (inl refl))))), h.0, (ws, h.1))
 plain_says (response.Enabled ws) w tail t h = inl (key.Enabled, inr (inr (inr (inr (inr (inr (inl refl)))))), h.0, (ws, h.1))
 plain_says (response.Flags flags) w tail t h = inl (key.Flags, inr (inr (inr (inr (inr (inr (inr (inl refl))))))), h.0, flags_to flags tail h.1)
-plain_says (response.List attributes delimiter name) w tail t h = inl (key.List, inr (inr (inr (inr (inr (inr (inr (inr (inr (inl refl))))))))), h.0, list_to attributes delimiter name tail h.1)
+plain_says (response.List attributes delimiter name) w tail t h =
+    inl (key.List, inr (inr (inr (inr (inr (inr (inr (inr (inr (inl refl))))))))), h.0, list_to attributes delimiter name tail h.1)
 plain_says (response.StatusItems name items) w tail t h = inl (key.Status, inr (inr (inr (inr (inr (inr (inr (inr (inr (inr (inl refl)))))))))), h.0, status_to name items tail h.1)
-plain_says (response.Vanished earlier uids) w tail t h = inl (key.Vanished, inr (inr (inr (inr (inr (inr (inr (inr (inl refl)))))))), h.0, (h.1.0, h.1.1, (earlier, uids.ranges, h.1.2)))
+plain_says (response.Vanished earlier uids) w tail t h = inl (
+  key.Vanished,
+  inr (inr (inr (inr (inr (inr (inr (inr (inl refl)))))))),
+  h.0,
+  (h.1.0, h.1.1, (earlier, uids.ranges, h.1.2)),
+)
 plain_says response.Other w tail t h = inr (stray_to w h.0, (h.1.0, free_to h.1.0 t h.1.1))
 plain_says _ w tail t h = absurd h
 
@@ -209,7 +230,15 @@ pub some_word : (w : List ℕ) → 0 < length w → w ≢ []
 some_word w lt e = omega (arith, lt, ap length e)
 
 pub plain_to : (v : Response) (t : List ℕ) → IsWordLine None v t → WordRest place.Plain [] t
-plain_to v t h = record { word = h.word; tail = h.tail; whole = h.whole; each = h.word_is; some = (let s = word_some h.word h.some in omega (arith, s)); longest = h.longest; says = plain_says v (map lower h.word) h.tail t h.says }
+plain_to v t h = record {
+  word = h.word;
+  tail = h.tail;
+  whole = h.whole;
+  each = h.word_is;
+  some = (let s = word_some h.word h.some in omega (arith, s));
+  longest = h.longest;
+  says = plain_says v (map lower h.word) h.tail t h.says;
+}
 
 flags_from : (t : List ℕ) → IsBehind place.Plain key.Flags t → (flags : List (List ℕ)) × IsFlagsLine flags t
 flags_from t b = (
@@ -243,7 +272,7 @@ plain_from t h =
     let s = plain_said (map lower h.word) h.tail t h.says in
     (s.0, record { word = h.word; tail = h.tail; whole = h.whole; word_is = h.each; some = some_word h.word (let q = h.some in omega (arith, q)); longest = h.longest; says = s.1 })
 
--- ---- behind `* ` and a number
+-- ---- after `* ` and a number
 
 stray_numbered : (n : ℕ) (w : List ℕ) → (Contains (keywords (Some n)) w → ⊥) → (k : Key) → Among k (keys place.Numbered) → w ≡ key_text k → ⊥
 stray_numbered n w no_key k m e = no_key (subst (Contains (keywords (Some n))) (sym e) (key_numbered n k m))
@@ -256,7 +285,15 @@ numbered_says n response.Other w tail t h = inr (stray_numbered n w h.0, (h.1.0,
 numbered_says n _ w tail t h = absurd h
 
 pub numbered_to : (n : ℕ) (v : Response) (t : List ℕ) → IsWordLine (Some n) v t → WordRest place.Numbered [] t
-numbered_to n v t h = record { word = h.word; tail = h.tail; whole = h.whole; each = h.word_is; some = (let s = word_some h.word h.some in omega (arith, s)); longest = h.longest; says = numbered_says n v (map lower h.word) h.tail t h.says }
+numbered_to n v t h = record {
+  word = h.word;
+  tail = h.tail;
+  whole = h.whole;
+  each = h.word_is;
+  some = (let s = word_some h.word h.some in omega (arith, s));
+  longest = h.longest;
+  says = numbered_says n v (map lower h.word) h.tail t h.says;
+}
 
 numbered_by_key : (n : ℕ) (k : Key) (w tail t : List ℕ) → w ≡ key_text k → IsBehind place.Numbered k tail → (v : Response) × Says (Some n) v w tail t
 numbered_by_key n key.Exists w tail t e b = (response.Exists n, (refl, e, b))
@@ -276,7 +313,7 @@ numbered_from n t h =
     let s = numbered_said n (map lower h.word) h.tail t h.says in
     (s.0, record { word = h.word; tail = h.tail; whole = h.whole; word_is = h.each; some = some_word h.word (let q = h.some in omega (arith, q)); longest = h.longest; says = s.1 })
 
--- ---- behind a tag
+-- ---- after a tag
 
 tagged_said : (k : Key) (x tail : List ℕ) → map lower x ≡ key_text k → IsBehind place.Tagged k tail → (s : Status) × Completes s × IsWord (word_of s) x × IsRest tail
 tagged_said key.Ok x tail e b = (status.Ok, tt, e, b)

@@ -48,12 +48,14 @@ open_no_octets _ e = refl
 octets_large : (n c : ℕ) (rest left : List Sym) → step (sym.Free (free.Octets n) ∷ rest) c ≡ Some left → nat_lt c 256 ≡ false
 octets_large n c rest left e = at_test (nat_le 256 c && nat_lt c 512 && nat_lt 0 n) refl e
   where
-    at_test : (b : Bool) → (nat_le 256 c && nat_lt c 512 && nat_lt 0 n) ≡ b → moved (cond b (cond (n == 1) move.End (move.One (sym.Free (free.Octets (n - 1))))) move.Fail) rest (step rest c) ≡ Some left → nat_lt c 256 ≡ false
+    at_test : (b : Bool) → (nat_le 256 c && nat_lt c 512 && nat_lt 0 n) ≡ b
+        → moved (cond b (cond (n == 1) move.End (move.One (sym.Free (free.Octets (n - 1))))) move.Fail) rest (step rest c) ≡ Some left → nat_lt c 256 ≡ false
     at_test true f e = le-ltb c 256 (leb-true 256 c (and_parts (nat_le 256 c) (nat_lt c 512) (and_parts (nat_le 256 c && nat_lt c 512) (nat_lt 0 n) f).0).0)
     at_test false f e = absurd cc
 
 -- a symbol that is no literal's takes no octet of one, unless it ends before it
-small_at : (m : Move) (s : Sym) (rest left : List Sym) (c : ℕ) → rule_of s c ≡ m → is_octets s ≡ false → SymFits s ≡ true → nat_lt c 256 ≡ false → (m ≡ move.Yield → step rest c ≡ Some left → ⊥) → moved m rest (step rest c) ≡ Some left → ⊥
+small_at : (m : Move) (s : Sym) (rest left : List Sym) (c : ℕ) → rule_of s c ≡ m → is_octets s ≡ false → SymFits s ≡ true → nat_lt c 256 ≡ false
+    → (m ≡ move.Yield → step rest c ≡ Some left → ⊥) → moved m rest (step rest c) ≡ Some left → ⊥
 small_at move.Fail s rest left c r o fits e f h = cc
 small_at move.Yield s rest left c r o fits e f h = f refl h
 small_at move.End s rest left c r o fits e f h = both (is_go (rule_of s c)) (ap is_go r) (large s c o fits e)
@@ -65,7 +67,8 @@ small_step last s [] left c good o e h = small_at (rule_of s c) s [] left c refl
 small_step last s (q ∷ rest) left c good o e h = small_at (rule_of s c) s (q ∷ rest) left c refl o good.0 e
     (λ y k. small_step last q rest left c good.2 (begins_no_octets q (open_begins (ends_open s) (begins q) good.1 (yield_open s (moves_yield s c good.0 y)))) e k) h
 
-forced_small : (last : Bool) (s : Sym) (rest left : List Sym) (c : ℕ) (b : Bool) → nat_lt c 256 ≡ b → Good last (s ∷ rest) → is_octets s ≡ false → step (s ∷ rest) c ≡ Some left → c ≡ plain_of c
+forced_small : (last : Bool) (s : Sym) (rest left : List Sym) (c : ℕ) (b : Bool) → nat_lt c 256 ≡ b → Good last (s ∷ rest) → is_octets s ≡ false → step (s ∷ rest) c ≡ Some left
+    → c ≡ plain_of c
 forced_small last s rest left c true e good o h = sym (plain_small c e)
 forced_small last s rest left c false e good o h = absurd (small_step last s rest left c good o e h)
 
@@ -78,7 +81,8 @@ is_literal : (s : Sym) → is_octets s ≡ true → (n : ℕ) × (s ≡ sym.Free
 is_literal (sym.Free (free.Octets n)) e = (n, refl)
 is_literal _ e = absurd cc
 
-forced_by : (last : Bool) (s : Sym) (rest left : List Sym) (c : ℕ) (b : Bool) → is_octets s ≡ b → Good last (s ∷ rest) → step (s ∷ rest) c ≡ Some left → c ≡ cond b (plain_of c + 256) (plain_of c)
+forced_by : (last : Bool) (s : Sym) (rest left : List Sym) (c : ℕ) (b : Bool) → is_octets s ≡ b → Good last (s ∷ rest) → step (s ∷ rest) c ≡ Some left
+    → c ≡ cond b (plain_of c + 256) (plain_of c)
 forced_by last s rest left c true o good h = let l = is_literal s o in forced_octets l.0 c rest left (ap (λ (q : Sym). step (q ∷ rest) c) (sym l.1) ∙ h)
 forced_by last s rest left c false o good h = forced_small last s rest left c (nat_lt c 256) refl good o h
 
@@ -116,7 +120,8 @@ head_is : (ss : List Sym) (c : ℕ) (t : List ℕ) (left : List Sym) → Good fa
 head_is ss c t left good e = let a = alive (step ss c) t left e in forced false ss a.symbols c good a.is
 
 -- a text of those octets that leads on is one alone
-same_text : (t u : List ℕ) (o : Option (List Sym)) (left other : List Sym) → ((ss : List Sym) → o ≡ Some ss → Good false ss) → run o t ≡ Some left → run o u ≡ Some other → plain t ≡ plain u → t ≡ u
+same_text : (t u : List ℕ) (o : Option (List Sym)) (left other : List Sym) → ((ss : List Sym) → o ≡ Some ss → Good false ss) → run o t ≡ Some left → run o u ≡ Some other
+    → plain t ≡ plain u → t ≡ u
 same_text [] [] o left other good e f p = refl
 same_text [] (d ∷ u) o left other good e f p = absurd cc
 same_text (c ∷ t) [] o left other good e f p = absurd cc
@@ -124,7 +129,8 @@ same_text (c ∷ t) (d ∷ u) None left other good e f p = absurd (no_symbols le
 same_text (c ∷ t) (d ∷ u) (Some ss) left other good e f p =
     let g = good ss refl in
     let same : c ≡ d = head_is ss c t left g e ∙ ap (mark ss) (cons_head (plain_of c) (plain_of d) (plain t) (plain u) p) ∙ sym (head_is ss d u other g f) in
-    let rest : t ≡ u = same_text t u (step ss c) left other (λ next h. keeps false ss c next g h) e (ap (λ (n : ℕ). run (step ss n) u) same ∙ f) (cons_tail (plain_of c) (plain_of d) (plain t) (plain u) p) in
+    let rest : t ≡ u = same_text t u (step ss c) left other (λ next h. keeps false ss c next g h) e (ap (λ (n : ℕ). run (step ss n) u) same ∙ f)
+    (cons_tail (plain_of c) (plain_of d) (plain t) (plain u) p) in
     cc
 
 pub start_same : (t u : List ℕ) (left other : List Sym) → run (Some start) t ≡ Some left → run (Some start) u ≡ Some other → plain t ≡ plain u → t ≡ u
@@ -132,12 +138,15 @@ start_same t u left other e f p = same_text t u (Some start) left other (λ ss h
 
 -- ---- what is left of literals
 
-left_move : (m : Move) (s : Sym) (rest left : List Sym) (other : Option (List Sym)) → Leaves (is_octets s) (sym_left s) (pushed_left m) → (m ≡ move.Yield → other ≡ Some left → Leaves (is_octets s) (left_of (s ∷ rest)) (left_of left)) → moved m rest other ≡ Some left → Leaves (is_octets s) (left_of (s ∷ rest)) (left_of left)
+left_move : (m : Move) (s : Sym) (rest left : List Sym) (other : Option (List Sym)) → Leaves (is_octets s) (sym_left s) (pushed_left m)
+    → (m ≡ move.Yield → other ≡ Some left → Leaves (is_octets s) (left_of (s ∷ rest)) (left_of left)) → moved m rest other ≡ Some left
+    → Leaves (is_octets s) (left_of (s ∷ rest)) (left_of left)
 left_move move.Fail s rest left other g ih e = absurd cc
 left_move move.Yield s rest left other g ih e = ih refl e
 left_move move.End s rest left other g ih e = subst (λ (q : List Sym). Leaves (is_octets s) (left_of (s ∷ rest)) (left_of q)) (same_Some rest left e) (omega (arith, g))
 left_move (move.One a) s rest left other g ih e = subst (λ (q : List Sym). Leaves (is_octets s) (left_of (s ∷ rest)) (left_of q)) (same_Some (a ∷ rest) left e) (omega (arith, g))
-left_move (move.Two a b) s rest left other g ih e = subst (λ (q : List Sym). Leaves (is_octets s) (left_of (s ∷ rest)) (left_of q)) (same_Some (a ∷ b ∷ rest) left e) (omega (arith, g))
+left_move (move.Two a b) s rest left other g ih e = subst (λ (q : List Sym). Leaves (is_octets s) (left_of (s ∷ rest)) (left_of q)) (same_Some (a ∷ b ∷ rest) left e)
+    (omega (arith, g))
 
 top_begins : (ss : List Sym) → first_begins false ss ≡ true → inside_top ss ≡ false
 top_begins [] e = refl

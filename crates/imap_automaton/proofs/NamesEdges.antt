@@ -76,9 +76,11 @@ first_of_two c t x y ns n all e f = (
 )
 
 first_back : (c : ℕ) (t : List ℕ) → After (names_rule names.First c) t → NamesLang names.First (c ∷ t)
-first_back c t h = from_test (c == 41) move.End (cond (c == 92) (move.Two (sym.Names names.Atom) (sym.Names names.More)) (cond (is_atom c) (move.Two (sym.Names names.AtomRest) (sym.Names names.More)) move.Fail)) t (NamesLang names.First (c ∷ t))
+first_back c t h = from_test (c == 41) move.End (cond (c == 92) (move.Two (sym.Names names.Atom) (sym.Names names.More))
+    (cond (is_atom c) (move.Two (sym.Names names.AtomRest) (sym.Names names.More)) move.Fail)) t (NamesLang names.First (c ∷ t))
     (λ e k. ([], tt, ap (λ (d : ℕ). d ∷ t) (eqb-true c 41 e) ∙ ap (λ (u : List ℕ). 41 ∷ u) k))
-    (λ e k. from_test (c == 92) (move.Two (sym.Names names.Atom) (sym.Names names.More)) (cond (is_atom c) (move.Two (sym.Names names.AtomRest) (sym.Names names.More)) move.Fail) t (NamesLang names.First (c ∷ t))
+    (λ e k. from_test (c == 92) (move.Two (sym.Names names.Atom) (sym.Names names.More)) (cond (is_atom c) (move.Two (sym.Names names.AtomRest) (sym.Names names.More)) move.Fail) t
+    (NamesLang names.First (c ∷ t))
     (λ f l. first_of_two c t l.front l.back l.second.0 (slash_name c l.front f l.first) l.second.1 l.whole l.second.2)
     (λ f l. from_test (is_atom c) (move.Two (sym.Names names.AtomRest) (sym.Names names.More)) move.Fail t (NamesLang names.First (c ∷ t))
     (λ g m. first_of_two c t m.front m.back m.second.0 (inl (atom_back c m.front g m.first)) m.second.1 m.whole m.second.2) (λ g m. absurd m) l) k) h
@@ -88,7 +90,8 @@ more_back c t h = from_test (c == 32) (move.Two (sym.Names names.Name) (sym.Name
     (λ e k. (
       k.front ∷ k.second.0,
       (k.first, k.second.1),
-      ap (λ (d : ℕ). d ∷ t) (eqb-true c 32 e) ∙ ap (λ (u : List ℕ). 32 ∷ u) (k.whole ∙ ap (λ (u : List ℕ). k.front ++ u) k.second.2 ∙ sym (append_assoc k.front (spaced k.second.0) (41 ∷ []))),
+      ap (λ (d : ℕ). d ∷ t) (eqb-true c 32 e) ∙ ap (λ (u : List ℕ). 32 ∷ u)
+          (k.whole ∙ ap (λ (u : List ℕ). k.front ++ u) k.second.2 ∙ sym (append_assoc k.front (spaced k.second.0) (41 ∷ []))),
     ))
     (λ e k. from_test (c == 41) move.End move.Fail t (NamesLang names.More (c ∷ t))
     (λ f l. ([], tt, ap (λ (d : ℕ). d ∷ t) (eqb-true c 41 f) ∙ ap (λ (u : List ℕ). 41 ∷ u) l)) (λ f l. absurd l) k) h
@@ -99,7 +102,13 @@ more_at [] c t all e =
     (at_true (c == 41) move.End move.Fail t (eq-eqb c 41 (cons_head c 41 t [] e)) (cons_tail c 41 t [] e))
 more_at (n ∷ ns) c t all e =
     at_true (c == 32) (move.Two (sym.Names names.Name) (sym.Names names.More)) (cond (c == 41) move.End move.Fail) t (eq-eqb c 32 (cons_head c 32 t (n ++ spaced ns ++ 41 ∷ []) e))
-    (record { front = n; back = spaced ns ++ 41 ∷ []; whole = cons_tail c 32 t ((n ++ spaced ns) ++ 41 ∷ []) e ∙ append_assoc n (spaced ns) (41 ∷ []); first = all.0; second = (ns, all.1, refl) })
+    (record {
+      front = n;
+      back = spaced ns ++ 41 ∷ [];
+      whole = cons_tail c 32 t ((n ++ spaced ns) ++ 41 ∷ []) e ∙ append_assoc n (spaced ns) (41 ∷ []);
+      first = all.0;
+      second = (ns, all.1, refl);
+    })
 
 more_forth : (c : ℕ) (t : List ℕ) → NamesLang names.More (c ∷ t) → After (names_rule names.More c) t
 more_forth c t h = more_at h.0 c t h.1 h.2
@@ -111,20 +120,36 @@ first_name (d ∷ x) ns c t (inl a) all e =
     let same : c ≡ d = cons_head c d t ((x ++ spaced ns) ++ 41 ∷ []) e in
     let ok : is_atom c ≡ true = is_true_at is_atom c d same a.0.0 in
     let apart = atom_not c ok in
-    at_false (c == 41) move.End (cond (c == 92) (move.Two (sym.Names names.Atom) (sym.Names names.More)) (cond (is_atom c) (move.Two (sym.Names names.AtomRest) (sym.Names names.More)) move.Fail)) t apart.1
+    at_false (c == 41) move.End (cond (c == 92) (move.Two (sym.Names names.Atom) (sym.Names names.More))
+    (cond (is_atom c) (move.Two (sym.Names names.AtomRest) (sym.Names names.More)) move.Fail)) t apart.1
     (at_false (c == 92) (move.Two (sym.Names names.Atom) (sym.Names names.More)) (cond (is_atom c) (move.Two (sym.Names names.AtomRest) (sym.Names names.More)) move.Fail) t apart.2
     (at_true (is_atom c) (move.Two (sym.Names names.AtomRest) (sym.Names names.More)) move.Fail t ok
-    (record { front = x; back = spaced ns ++ 41 ∷ []; whole = cons_tail c d t ((x ++ spaced ns) ++ 41 ∷ []) e ∙ append_assoc x (spaced ns) (41 ∷ []); first = a.0.1; second = (ns, all, refl) })))
+    (record {
+      front = x;
+      back = spaced ns ++ 41 ∷ [];
+      whole = cons_tail c d t ((x ++ spaced ns) ++ 41 ∷ []) e ∙ append_assoc x (spaced ns) (41 ∷ []);
+      first = a.0.1;
+      second = (ns, all, refl);
+    })))
 first_name (d ∷ x) ns c t (inr a) all e =
     let same : c ≡ d = cons_head c d t ((x ++ spaced ns) ++ 41 ∷ []) e in
     let slash : c ≡ 92 = same ∙ cons_head d 92 x a.0 a.1 in
-    at_false (c == 41) move.End (cond (c == 92) (move.Two (sym.Names names.Atom) (sym.Names names.More)) (cond (is_atom c) (move.Two (sym.Names names.AtomRest) (sym.Names names.More)) move.Fail)) t (ap (λ (q : ℕ). q == 41) slash)
-    (at_true (c == 92) (move.Two (sym.Names names.Atom) (sym.Names names.More)) (cond (is_atom c) (move.Two (sym.Names names.AtomRest) (sym.Names names.More)) move.Fail) t (eq-eqb c 92 slash)
-    (record { front = x; back = spaced ns ++ 41 ∷ []; whole = cons_tail c d t ((x ++ spaced ns) ++ 41 ∷ []) e ∙ append_assoc x (spaced ns) (41 ∷ []); first = subst IsAtom (sym (cons_tail d 92 x a.0 a.1)) a.2; second = (ns, all, refl) }))
+    at_false (c == 41) move.End (cond (c == 92) (move.Two (sym.Names names.Atom) (sym.Names names.More))
+    (cond (is_atom c) (move.Two (sym.Names names.AtomRest) (sym.Names names.More)) move.Fail)) t (ap (λ (q : ℕ). q == 41) slash)
+    (at_true (c == 92) (move.Two (sym.Names names.Atom) (sym.Names names.More)) (cond (is_atom c) (move.Two (sym.Names names.AtomRest) (sym.Names names.More)) move.Fail) t
+    (eq-eqb c 92 slash)
+    (record {
+      front = x;
+      back = spaced ns ++ 41 ∷ [];
+      whole = cons_tail c d t ((x ++ spaced ns) ++ 41 ∷ []) e ∙ append_assoc x (spaced ns) (41 ∷ []);
+      first = subst IsAtom (sym (cons_tail d 92 x a.0 a.1)) a.2;
+      second = (ns, all, refl);
+    }))
 
 first_at : (ns : List (List ℕ)) (c : ℕ) (t : List ℕ) → AllNames ns → c ∷ t ≡ joined ns ++ 41 ∷ [] → After (names_rule names.First c) t
 first_at [] c t all e =
-    at_true (c == 41) move.End (cond (c == 92) (move.Two (sym.Names names.Atom) (sym.Names names.More)) (cond (is_atom c) (move.Two (sym.Names names.AtomRest) (sym.Names names.More)) move.Fail)) t (eq-eqb c 41 (cons_head c 41 t [] e)) (cons_tail c 41 t [] e)
+    at_true (c == 41) move.End (cond (c == 92) (move.Two (sym.Names names.Atom) (sym.Names names.More))
+    (cond (is_atom c) (move.Two (sym.Names names.AtomRest) (sym.Names names.More)) move.Fail)) t (eq-eqb c 41 (cons_head c 41 t [] e)) (cons_tail c 41 t [] e)
 first_at (n ∷ ns) c t all e = first_name n ns c t all.0 all.1 e
 
 first_forth : (c : ℕ) (t : List ℕ) → NamesLang names.First (c ∷ t) → After (names_rule names.First c) t

@@ -81,7 +81,8 @@ formed : (n : List ℕ) → 0 < length n → NameForm name.Plain n → IsFormed 
 formed n some (inl h) = inl (h, some)
 formed n some (inr h) = inr h
 
-pub other_from : (t word tail : List ℕ) → t ≡ word ++ tail → Each is_atom word → 0 < length word → is_atom (get_or tail 0 0) ≡ false → ((k : Key) → Among k (keys place.Item) → map lower word ≡ key_text k → ⊥) → NameRest name.Plain t → items.IsItem items.Other t
+pub other_from : (t word tail : List ℕ) → t ≡ word ++ tail → Each is_atom word → 0 < length word → is_atom (get_or tail 0 0) ≡ false
+    → ((k : Key) → Among k (keys place.Item) → map lower word ≡ key_text k → ⊥) → NameRest name.Plain t → items.IsItem items.Other t
 other_from t word tail e each some longest no_key h =
     let same : word ++ tail ≡ h.rest ++ 32 ∷ h.value = sym e ∙ h.whole in
     record {
@@ -119,7 +120,8 @@ nothing_left : (s : ItemName) (rest tail v : List ℕ) → may_end s ≡ true �
 nothing_left s [] tail v m h e out = refl
 nothing_left s (c ∷ rest) tail v m h e out = absurd (both (is_atom c) (goes_atom s c rest m h) (sym (ap (λ (u : List ℕ). is_atom (get_or u 0 0)) e) ∙ out))
 
-no_key : (n v word tail : List ℕ) → IsOtherName n → word ++ tail ≡ n ++ 32 ∷ v → Each is_atom word → is_atom (get_or tail 0 0) ≡ false → (k : Key) → Among k (keys place.Item) → map lower word ≡ key_text k → ⊥
+no_key : (n v word tail : List ℕ) → IsOtherName n → word ++ tail ≡ n ++ 32 ∷ v → Each is_atom word → is_atom (get_or tail 0 0) ≡ false → (k : Key) → Among k (keys place.Item)
+    → map lower word ≡ key_text k → ⊥
 no_key n v word tail h e each out k m is =
     let w = walk word name.Plain n tail v each e (form_of n h.0) in
     let form = subst (λ (u : List ℕ). NameForm (name_from name.Plain u) w.rest) is w.form in

@@ -30,14 +30,16 @@ use Rattle.imap_syntax.specs.UidSets.{range_of, IsRange, IsSet, IsSetLine}
 word_apart : (c : ℕ) → is_word c ≡ true → ((c == 32) ≡ false) × ((c == 13) ≡ false)
 word_apart c e = (grind arith, grind arith)
 
--- a word and those behind it, behind a space
+-- a word and those after it, after a space
 joined_words : (c : ℕ) (t : List ℕ) → c ≡ 32 → FirstWord IsPrinted t → (ws : List (List ℕ)) × IsWords ws (c ∷ t)
 joined_words c t e h = (h.word ∷ h.words, ((h.front, h.others), ap (λ (n : ℕ). n ∷ t) e ∙ ap (λ (u : List ℕ). 32 ∷ u) h.whole))
 
 pub words_more_back : (c : ℕ) (t : List ℕ) → After (words_more c) t → WordsLang words.More (c ∷ t)
-words_more_back c t h = from_test (c == 32) (move.One (sym.Words words.First)) (cond (c == 13) (move.One (sym.Line (line.Fixed phrase.Crlf 1))) move.Fail) t (WordsLang words.More (c ∷ t))
+words_more_back c t h = from_test (c == 32) (move.One (sym.Words words.First)) (cond (c == 13) (move.One (sym.Line (line.Fixed phrase.Crlf 1))) move.Fail) t
+    (WordsLang words.More (c ∷ t))
     (λ e k. joined_words c t (eqb-true c 32 e) k)
-    (λ e k. from_test (c == 13) (move.One (sym.Line (line.Fixed phrase.Crlf 1))) move.Fail t (WordsLang words.More (c ∷ t)) (λ f l. ([], (tt, crlf_of c t (eqb-true c 13 f) l))) (λ f l. absurd l) k) h
+    (λ e k. from_test (c == 13) (move.One (sym.Line (line.Fixed phrase.Crlf 1))) move.Fail t (WordsLang words.More (c ∷ t)) (λ f l. ([], (tt, crlf_of c t (eqb-true c 13 f) l)))
+    (λ f l. absurd l) k) h
 
 words_at : (ws : List (List ℕ)) (c : ℕ) (t : List ℕ) → AllPrinted ws → c ∷ t ≡ spaced ws ++ crlf → After (words_more c) t
 words_at [] c t all e =
@@ -45,7 +47,8 @@ words_at [] c t all e =
     at_false (c == 32) (move.One (sym.Words words.First)) (cond (c == 13) (move.One (sym.Line (line.Fixed phrase.Crlf 1))) move.Fail) t (ap (λ (n : ℕ). n == 32) k.0)
     (at_true (c == 13) (move.One (sym.Line (line.Fixed phrase.Crlf 1))) move.Fail t (eq-eqb c 13 k.0) k.1)
 words_at (w ∷ ws) c t all e =
-    at_true (c == 32) (move.One (sym.Words words.First)) (cond (c == 13) (move.One (sym.Line (line.Fixed phrase.Crlf 1))) move.Fail) t (eq-eqb c 32 (cons_head c 32 t ((w ++ spaced ws) ++ crlf) e))
+    at_true (c == 32) (move.One (sym.Words words.First)) (cond (c == 13) (move.One (sym.Line (line.Fixed phrase.Crlf 1))) move.Fail) t
+    (eq-eqb c 32 (cons_head c 32 t ((w ++ spaced ws) ++ crlf) e))
     (record { word = w; words = ws; whole = cons_tail c 32 t ((w ++ spaced ws) ++ crlf) e; front = all.0; others = all.1 })
 
 pub words_more_forth : (c : ℕ) (t : List ℕ) → WordsLang words.More (c ∷ t) → After (words_more c) t
@@ -63,7 +66,8 @@ printed c e w h = ((e, h), omega arith)
 
 pub words_back : (s : Words) (c : ℕ) (t : List ℕ) → After (words_rule s c) t → WordsLang s (c ∷ t)
 words_back words.More c t h = words_more_back c t h
-words_back words.First c t h = from_test (is_word c) (move.One (sym.Words words.Rest)) move.Fail t (FirstWord IsPrinted (c ∷ t)) (λ e k. more_of_word c t IsPrinted (printed c e) k) (λ e k. absurd k) h
+words_back words.First c t h = from_test (is_word c) (move.One (sym.Words words.Rest)) move.Fail t (FirstWord IsPrinted (c ∷ t)) (λ e k. more_of_word c t IsPrinted (printed c e) k)
+    (λ e k. absurd k) h
 words_back words.Rest c t h = from_test (is_word c) (move.One (sym.Words words.Rest)) (words_more c) t (FirstWord (Each is_word) (c ∷ t))
     (λ e k. more_of_word c t (Each is_word) (λ w f. (e, f)) k)
     (λ e k. let m = words_more_back c t k in record { word = []; words = m.0; whole = m.1.1; front = tt; others = m.1.0 }) h
@@ -103,7 +107,7 @@ words_example words.More = (crlf, ([], (tt, refl)))
 words_example words.First = (97 ∷ crlf, record { word = 97 ∷ []; words = []; whole = refl; front = ((refl, tt), omega arith); others = tt })
 words_example words.Rest = (crlf, record { word = []; words = []; whole = refl; front = tt; others = tt })
 
--- ---- a set is a number and what may stand behind it
+-- ---- a set is a number and what may stand after it
 
 -- what follows the first range of a set
 ends_of : (r : UidRange) (rs : List UidRange) (t : List ℕ) → IsSetLine (r ∷ rs) t → (front back : List ℕ) × (t ≡ front ++ back) × IsRange r front × RangeEnds back
@@ -166,12 +170,14 @@ set_back t h = by h.second
         (h.whole ∙ ap (λ (u : List ℕ). h.front ++ u) (p.1 ∙ ap (λ (u : List ℕ). 58 ∷ u) k.whole) ∙ sym (append_assoc h.front (58 ∷ k.front) k.back))
         (inr (m, n, h.front, k.front, refl, number_to h.front h.first, number_to k.front k.first, refl)) k.second
 
--- ---- behind a number
+-- ---- after a number
 
 ends_back : (second : Bool) (c : ℕ) (t : List ℕ) → After (set_ends second c) t → NumberEnds second (c ∷ t)
-ends_back second c t h = from_test (c == 13) (move.One (sym.Line (line.Fixed phrase.Crlf 1))) (cond (c == 44) (move.One (sym.Set (set.Number 0 0 false))) (cond (c == 58 && not second) (move.One (sym.Set (set.Number 0 0 true))) move.Fail)) t (NumberEnds second (c ∷ t))
+ends_back second c t h = from_test (c == 13) (move.One (sym.Line (line.Fixed phrase.Crlf 1)))
+    (cond (c == 44) (move.One (sym.Set (set.Number 0 0 false))) (cond (c == 58 && not second) (move.One (sym.Set (set.Number 0 0 true))) move.Fail)) t (NumberEnds second (c ∷ t))
     (λ e k. range second (inl (crlf_of c t (eqb-true c 13 e) k)))
-    (λ e k. from_test (c == 44) (move.One (sym.Set (set.Number 0 0 false))) (cond (c == 58 && not second) (move.One (sym.Set (set.Number 0 0 true))) move.Fail) t (NumberEnds second (c ∷ t))
+    (λ e k. from_test (c == 44) (move.One (sym.Set (set.Number 0 0 false))) (cond (c == 58 && not second) (move.One (sym.Set (set.Number 0 0 true))) move.Fail) t
+    (NumberEnds second (c ∷ t))
     (λ f l. range second (inr (t, ap (λ (n : ℕ). n ∷ t) (eqb-true c 44 f), set_back t l)))
     (λ f l. from_test (c == 58 && not second) (move.One (sym.Set (set.Number 0 0 true))) move.Fail t (NumberEnds second (c ∷ t))
     (λ g m. let p = and_parts (c == 58) (not second) g in more second p.1 (t, ap (λ (n : ℕ). n ∷ t) (eqb-true c 58 p.0), m))
@@ -188,10 +194,13 @@ ends_back second c t h = from_test (c == 13) (move.One (sym.Line (line.Fixed phr
 range_forth : (second : Bool) (c : ℕ) (t : List ℕ) → RangeEnds (c ∷ t) → After (set_ends second c) t
 range_forth second c t (inl e) =
     let k = crlf_parts c t e in
-    at_true (c == 13) (move.One (sym.Line (line.Fixed phrase.Crlf 1))) (cond (c == 44) (move.One (sym.Set (set.Number 0 0 false))) (cond (c == 58 && not second) (move.One (sym.Set (set.Number 0 0 true))) move.Fail)) t (eq-eqb c 13 k.0) k.1
+    at_true (c == 13) (move.One (sym.Line (line.Fixed phrase.Crlf 1)))
+    (cond (c == 44) (move.One (sym.Set (set.Number 0 0 false))) (cond (c == 58 && not second) (move.One (sym.Set (set.Number 0 0 true))) move.Fail)) t (eq-eqb c 13 k.0) k.1
 range_forth second c t (inr r) =
     let same : c ≡ 44 = cons_head c 44 t r.0 r.1 in
-    at_false (c == 13) (move.One (sym.Line (line.Fixed phrase.Crlf 1))) (cond (c == 44) (move.One (sym.Set (set.Number 0 0 false))) (cond (c == 58 && not second) (move.One (sym.Set (set.Number 0 0 true))) move.Fail)) t (ap (λ (n : ℕ). n == 13) same)
+    at_false (c == 13) (move.One (sym.Line (line.Fixed phrase.Crlf 1)))
+    (cond (c == 44) (move.One (sym.Set (set.Number 0 0 false))) (cond (c == 58 && not second) (move.One (sym.Set (set.Number 0 0 true))) move.Fail)) t
+    (ap (λ (n : ℕ). n == 13) same)
     (at_true (c == 44) (move.One (sym.Set (set.Number 0 0 false))) (cond (c == 58 && not second) (move.One (sym.Set (set.Number 0 0 true))) move.Fail) t (eq-eqb c 44 same)
     (set_forth t (subst SetLine (sym (cons_tail c 44 t r.0 r.1)) r.2)))
 
@@ -200,7 +209,8 @@ ends_forth true c t h = range_forth true c t h
 ends_forth false c t (inl h) = range_forth false c t h
 ends_forth false c t (inr r) =
     let same : c ≡ 58 = cons_head c 58 t r.0 r.1 in
-    at_false (c == 13) (move.One (sym.Line (line.Fixed phrase.Crlf 1))) (cond (c == 44) (move.One (sym.Set (set.Number 0 0 false))) (cond (c == 58 && true) (move.One (sym.Set (set.Number 0 0 true))) move.Fail)) t (ap (λ (n : ℕ). n == 13) same)
+    at_false (c == 13) (move.One (sym.Line (line.Fixed phrase.Crlf 1)))
+    (cond (c == 44) (move.One (sym.Set (set.Number 0 0 false))) (cond (c == 58 && true) (move.One (sym.Set (set.Number 0 0 true))) move.Fail)) t (ap (λ (n : ℕ). n == 13) same)
     (at_false (c == 44) (move.One (sym.Set (set.Number 0 0 false))) (cond (c == 58 && true) (move.One (sym.Set (set.Number 0 0 true))) move.Fail) t (ap (λ (n : ℕ). n == 44) same)
     (at_true (c == 58 && true) (move.One (sym.Set (set.Number 0 0 true))) move.Fail t (and_from (c == 58) true (eq-eqb c 58 same) refl)
     (subst (λ (u : List ℕ). Then (NumberRest 0 0) RangeEnds u) (sym (cons_tail c 58 t r.0 r.1)) r.2)))
@@ -265,18 +275,30 @@ folded_earlier u e = ap (λ (q : List ℕ). 40 ∷ q) e
 open_back : (c : ℕ) (t : List ℕ) → After (set_rule set.Open c) t → SetLang set.Open (c ∷ t)
 open_back c t h = from_test (c == 40) (move.Two (sym.Line (line.Folded phrase.Earlier 1)) (sym.Set (set.Number 0 0 false))) (set_number 0 0 false c) t (SetLang set.Open (c ∷ t))
     (λ e k.
-    let s = set_back k.back k.second in
-    (true, s.0, record { front = 40 ∷ k.front; back = k.back; whole = ap (λ (n : ℕ). n ∷ t) (eqb-true c 40 e) ∙ ap (λ (u : List ℕ). 40 ∷ u) k.whole; first = folded_earlier k.front k.first; second = s.1 }))
+    let s = set_back k.back k.second in (
+      true,
+      s.0,
+      record {
+        front = 40 ∷ k.front;
+        back = k.back;
+        whole = ap (λ (n : ℕ). n ∷ t) (eqb-true c 40 e) ∙ ap (λ (u : List ℕ). 40 ∷ u) k.whole;
+        first = folded_earlier k.front k.first;
+        second = s.1;
+      },
+    ))
     (λ e k. let s = set_back (c ∷ t) (number_back 0 0 false c t refl k) in (false, s.0, s.1)) h
 
 lower_bracket : (c : ℕ) → lower c ≡ 40 → c ≡ 40
 lower_bracket c e = grind arith
 
-earlier_at : (c : ℕ) (t front back : List ℕ) → c ∷ t ≡ front ++ back → IsWord (codes "(earlier) ") front → (c ≡ 40) × ((u : List ℕ) × (t ≡ u ++ back) × (map lower u ≡ codes "earlier) "))
+earlier_at : (c : ℕ) (t front back : List ℕ) → c ∷ t ≡ front ++ back → IsWord (codes "(earlier) ") front → (c ≡ 40)
+    × ((u : List ℕ) × (t ≡ u ++ back) × (map lower u ≡ codes "earlier) "))
 earlier_at c t [] back e h = absurd cc
 earlier_at c t (d ∷ front) back e h =
-    let same : c ≡ d = cons_head c d t (front ++ back) e in
-    (same ∙ lower_bracket d (cons_head (lower d) 40 (map lower front) (codes "earlier) ") h), (front, cons_tail c d t (front ++ back) e, cons_tail (lower d) 40 (map lower front) (codes "earlier) ") h))
+    let same : c ≡ d = cons_head c d t (front ++ back) e in (
+      same ∙ lower_bracket d (cons_head (lower d) 40 (map lower front) (codes "earlier) ") h),
+      (front, cons_tail c d t (front ++ back) e, cons_tail (lower d) 40 (map lower front) (codes "earlier) ") h),
+    )
 
 digit_not_bracket : (c : ℕ) → is_digit c ≡ true → (c == 40) ≡ false
 digit_not_bracket c e = grind arith
@@ -292,7 +314,8 @@ open_forth c t (true, rs, h) =
     (record { front = k.1.0; back = h.back; whole = k.1.1; first = k.1.2; second = set_forth h.back (rs, h.second) })
 open_forth c t (false, rs, h) =
     let k = set_forth (c ∷ t) (rs, h) in
-    at_false (c == 40) (move.Two (sym.Line (line.Folded phrase.Earlier 1)) (sym.Set (set.Number 0 0 false))) (set_number 0 0 false c) t (digit_not_bracket c (first_digit c t k.front k.back k.whole k.first))
+    at_false (c == 40) (move.Two (sym.Line (line.Folded phrase.Earlier 1)) (sym.Set (set.Number 0 0 false))) (set_number 0 0 false c) t
+    (digit_not_bracket c (first_digit c t k.front k.back k.whole k.first))
     (number_at 0 0 false c t k.front k.back k.whole k.first k.second)
 
 -- ---- the group

@@ -27,7 +27,8 @@ octets_step n c small more =
     ∙ cond-false (n == 1) move.End (move.One (sym.Free (free.Octets (n - 1)))) (ne_eqb n 1 (λ e. omega (arith, e, more)))
 
 -- an octet that isn't the last of its literal
-pub step_inside : (n c : ℕ) (ss : List Sym) → c < 256 → 1 < n → step (sym.Free (free.Octets n) ∷ ss) (mark (sym.Free (free.Octets n) ∷ ss) c) ≡ Some (sym.Free (free.Octets (n - 1)) ∷ ss)
+pub step_inside : (n c : ℕ) (ss : List Sym) → c < 256 → 1 < n
+    → step (sym.Free (free.Octets n) ∷ ss) (mark (sym.Free (free.Octets n) ∷ ss) c) ≡ Some (sym.Free (free.Octets (n - 1)) ∷ ss)
 step_inside n c ss small more = ap (λ (m : Move). moved m ss (step ss (c + 256))) (octets_step n c small more)
 
 fewer_fits : (n k : ℕ) → FreeFits (free.Octets n) ≡ true → k < n → FreeFits (free.Octets (n - k)) ≡ true

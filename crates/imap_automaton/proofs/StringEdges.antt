@@ -1,5 +1,6 @@
 -- One octet at a string.
-use Rattle.std.proofs.Common.{◌≡◌, ℕ, zero, suc, ◌+◌, ◌-◌, ◌*◌, ◌<◌, ◌≤◌, Bool, true, false, ◌&&◌, ◌||◌, List, [], ◌∷◌, ◌++◌, length, map, cond, Option, Some, None, refl, sym, ap, subst, ◌∙◌, arith, inl, inr, replicate}
+use Rattle.std.proofs.Common.{◌≡◌, ℕ, zero, suc, ◌+◌, ◌-◌, ◌*◌, ◌<◌, ◌≤◌, Bool, true, false, ◌&&◌, ◌||◌, List, [], ◌∷◌, ◌++◌, length, map, cond, Option, Some, None, refl, sym, ap}
+use Rattle.std.proofs.Common.{subst, ◌∙◌, arith, inl, inr, replicate}
 use Rattle.std.specs.Prelude.{◌==◌, nat_lt, nat_le, codes}
 use Rattle.std.proofs.lemmas.Bool.{eqb-true, ltb-true, leb-true, and_parts, and_from, lt-ltb, le-leb, eq-eqb, cond-true, cond-false}
 use Rattle.imap_automaton.specs.declared.sym.Phrase.TheVariants as phrase
@@ -54,16 +55,19 @@ quoted_more : (c : ℕ) (t : List ℕ) → (c == 34) ≡ false → (c == 92) ≡
 quoted_more c t e f g h = (c ∷ h.0, (g, h.1), ap (λ (u : List ℕ). c ∷ u) h.2 ∙ sym (escaped_self c h.0 (from_parts c e f)))
 
 quoted_back : (c : ℕ) (t : List ℕ) → After (string_rule str.Quoted c) t → QuotedRest (c ∷ t)
-quoted_back c t h = from_test (c == 34) move.End (cond (c == 92) (move.One (sym.Str str.Escaped)) (cond (is_text c) (move.One (sym.Str str.Quoted)) move.Fail)) t (QuotedRest (c ∷ t))
+quoted_back c t h = from_test (c == 34) move.End (cond (c == 92) (move.One (sym.Str str.Escaped)) (cond (is_text c) (move.One (sym.Str str.Quoted)) move.Fail)) t
+    (QuotedRest (c ∷ t))
     (λ e k. ([], tt, ap (λ (n : ℕ). n ∷ t) (eqb-true c 34 e) ∙ ap (λ (u : List ℕ). 34 ∷ u) k))
     (λ e k. from_test (c == 92) (move.One (sym.Str str.Escaped)) (cond (is_text c) (move.One (sym.Str str.Quoted)) move.Fail) t (QuotedRest (c ∷ t))
     (λ f l. quoted_pair c t (eqb-true c 92 f) l)
     (λ f l. from_test (is_text c) (move.One (sym.Str str.Quoted)) move.Fail t (QuotedRest (c ∷ t)) (λ g m. quoted_more c t e f g m) (λ g m. absurd m) l) k) h
 
 quoted_end : (c : ℕ) (t : List ℕ) → c ∷ t ≡ 34 ∷ [] → After (string_rule str.Quoted c) t
-quoted_end c t e = at_true (c == 34) move.End (cond (c == 92) (move.One (sym.Str str.Escaped)) (cond (is_text c) (move.One (sym.Str str.Quoted)) move.Fail)) t (eq-eqb c 34 (cons_head c 34 t [] e)) (cons_tail c 34 t [] e)
+quoted_end c t e = at_true (c == 34) move.End (cond (c == 92) (move.One (sym.Str str.Escaped)) (cond (is_text c) (move.One (sym.Str str.Quoted)) move.Fail)) t
+    (eq-eqb c 34 (cons_head c 34 t [] e)) (cons_tail c 34 t [] e)
 
-quoted_at : (d : ℕ) (s : List ℕ) (c : ℕ) (t : List ℕ) (b : Bool) → (d == 34 || d == 92) ≡ b → is_text d ≡ true → Each is_text s → c ∷ t ≡ escaped (d ∷ s) ++ 34 ∷ [] → After (string_rule str.Quoted c) t
+quoted_at : (d : ℕ) (s : List ℕ) (c : ℕ) (t : List ℕ) (b : Bool) → (d == 34 || d == 92) ≡ b → is_text d ≡ true → Each is_text s → c ∷ t ≡ escaped (d ∷ s) ++ 34 ∷ []
+    → After (string_rule str.Quoted c) t
 quoted_at d s c t true f is all e =
     let g : c ∷ t ≡ 92 ∷ d ∷ escaped s ++ 34 ∷ [] = e ∙ escaped_pair d s f in
     let slash : c ≡ 92 = cons_head c 92 t (d ∷ escaped s ++ 34 ∷ []) g in
@@ -74,7 +78,8 @@ quoted_at d s c t false f is all e =
     let g : c ∷ t ≡ d ∷ escaped s ++ 34 ∷ [] = e ∙ escaped_self d s f in
     let same : c ≡ d = cons_head c d t (escaped s ++ 34 ∷ []) g in
     let apart = no_special d f in
-    at_false (c == 34) move.End (cond (c == 92) (move.One (sym.Str str.Escaped)) (cond (is_text c) (move.One (sym.Str str.Quoted)) move.Fail)) t (ap (λ (n : ℕ). n == 34) same ∙ apart.0)
+    at_false (c == 34) move.End (cond (c == 92) (move.One (sym.Str str.Escaped)) (cond (is_text c) (move.One (sym.Str str.Quoted)) move.Fail)) t
+    (ap (λ (n : ℕ). n == 34) same ∙ apart.0)
     (at_false (c == 92) (move.One (sym.Str str.Escaped)) (cond (is_text c) (move.One (sym.Str str.Quoted)) move.Fail) t (ap (λ (n : ℕ). n == 92) same ∙ apart.1)
     (at_true (is_text c) (move.One (sym.Str str.Quoted)) move.Fail t (is_true_at is_text c d same is) (s, all, cons_tail c d t (escaped s ++ 34 ∷ []) g)))
 
@@ -105,9 +110,20 @@ count_back : (v n c : ℕ) (t : List ℕ) → StrFits (str.Count v n) ≡ true �
 count_back v n c t fits h =
     let w : ℕ = 10 * v + (c - 48) in
     let most = count_parts v n fits in
-    from_test (is_digit c) (cond (count_fits v n c) (move.One (sym.Str (str.Count w (n + 1)))) move.Fail) (cond (c == 125 && nat_lt 0 n) (move.One (sym.Str (str.Brace v))) move.Fail) t (CountRest v n (c ∷ t))
+    from_test (is_digit c) (cond (count_fits v n c) (move.One (sym.Str (str.Count w (n + 1)))) move.Fail)
+    (cond (c == 125 && nat_lt 0 n) (move.One (sym.Str (str.Brace v))) move.Fail) t (CountRest v n (c ∷ t))
     (λ e a. from_test (count_fits v n c) (move.One (sym.Str (str.Count w (n + 1)))) move.Fail t (CountRest v n (c ∷ t))
-    (λ f l. record { front = c ∷ l.front; octets = l.octets; whole = ap (λ (u : List ℕ). c ∷ u) l.whole; each = (e, l.each); some = omega arith; few = omega (arith, l.few); counted = l.counted; most = l.most; inside = l.inside })
+    (λ f l. record {
+      front = c ∷ l.front;
+      octets = l.octets;
+      whole = ap (λ (u : List ℕ). c ∷ u) l.whole;
+      each = (e, l.each);
+      some = omega arith;
+      few = omega (arith, l.few);
+      counted = l.counted;
+      most = l.most;
+      inside = l.inside;
+    })
     (λ f l. absurd l) a)
     (λ e a. from_test (c == 125 && nat_lt 0 n) (move.One (sym.Str (str.Brace v))) move.Fail t (CountRest v n (c ∷ t))
     (λ f l. let b = and_parts (c == 125) (nat_lt 0 n) f in record {
@@ -126,11 +142,13 @@ count_back v n c t fits h =
 brace_no_digit : (c : ℕ) → c ≡ 125 → is_digit c ≡ false
 brace_no_digit c e = grind arith
 
-count_at : (v n c : ℕ) (t front o : List ℕ) → c ∷ t ≡ front ++ 125 ∷ 13 ∷ 10 ∷ o → Each is_digit front → 0 < n + length front → n + length front ≤ 8 → length o ≡ value_from v front → length o ≤ 50000000 → OctetsRest (length o) o → After (count_rule v n c) t
+count_at : (v n c : ℕ) (t front o : List ℕ) → c ∷ t ≡ front ++ 125 ∷ 13 ∷ 10 ∷ o → Each is_digit front → 0 < n + length front → n + length front ≤ 8 → length o ≡ value_from v front
+    → length o ≤ 50000000 → OctetsRest (length o) o → After (count_rule v n c) t
 count_at v n c t [] o e each some few counted most r =
     let same : c ≡ 125 = cons_head c 125 t (13 ∷ 10 ∷ o) e in
     let w : ℕ = 10 * v + (c - 48) in
-    at_false (is_digit c) (cond (count_fits v n c) (move.One (sym.Str (str.Count w (n + 1)))) move.Fail) (cond (c == 125 && nat_lt 0 n) (move.One (sym.Str (str.Brace v))) move.Fail) t (brace_no_digit c same)
+    at_false (is_digit c) (cond (count_fits v n c) (move.One (sym.Str (str.Count w (n + 1)))) move.Fail)
+    (cond (c == 125 && nat_lt 0 n) (move.One (sym.Str (str.Brace v))) move.Fail) t (brace_no_digit c same)
     (at_true (c == 125 && nat_lt 0 n) (move.One (sym.Str (str.Brace v))) move.Fail t (and_from _ _ (eq-eqb c 125 same) (lt-ltb 0 n (omega (arith, some))))
     (o, cons_tail c 125 t (13 ∷ 10 ∷ o) e, record { counted = counted; inside = r.inside }))
 count_at v n c t (d ∷ front) o e each some few counted most r =
@@ -138,10 +156,21 @@ count_at v n c t (d ∷ front) o e each some few counted most r =
     let w : ℕ = 10 * v + (c - 48) in
     let mono = value_mono w front in
     let is : length o ≡ value_from w front = counted ∙ ap (λ (m : ℕ). value_from (10 * v + (m - 48)) front) (sym same) in
-    at_true (is_digit c) (cond (count_fits v n c) (move.One (sym.Str (str.Count w (n + 1)))) move.Fail) (cond (c == 125 && nat_lt 0 n) (move.One (sym.Str (str.Brace v))) move.Fail) t (is_true_at is_digit c d same each.0)
+    at_true (is_digit c) (cond (count_fits v n c) (move.One (sym.Str (str.Count w (n + 1)))) move.Fail)
+    (cond (c == 125 && nat_lt 0 n) (move.One (sym.Str (str.Brace v))) move.Fail) t (is_true_at is_digit c d same each.0)
     (at_true (count_fits v n c) (move.One (sym.Str (str.Count w (n + 1)))) move.Fail t
     (and_from _ _ (lt-ltb n 8 (omega (arith, few))) (le-leb w 50000000 (omega (arith, is, mono, most))))
-    (record { front = front; octets = o; whole = cons_tail c d t (front ++ 125 ∷ 13 ∷ 10 ∷ o) e; each = each.1; some = omega arith; few = omega (arith, few); counted = is; most = most; inside = r.inside }))
+    (record {
+      front = front;
+      octets = o;
+      whole = cons_tail c d t (front ++ 125 ∷ 13 ∷ 10 ∷ o) e;
+      each = each.1;
+      some = omega arith;
+      few = omega (arith, few);
+      counted = is;
+      most = most;
+      inside = r.inside;
+    }))
 
 count_forth : (v n c : ℕ) (t : List ℕ) → CountRest v n (c ∷ t) → After (count_rule v n c) t
 count_forth v n c t h = count_at v n c t h.front h.octets h.whole h.each h.some h.few h.counted h.most (record { counted = refl; inside = h.inside })
@@ -176,7 +205,17 @@ counted_to c t h =
     let k = h.1 in
     let rest : List ℕ = k.digits ++ 125 ∷ 13 ∷ 10 ∷ k.octets in (
       cons_head c 123 t rest k.whole,
-      record { front = k.digits; octets = k.octets; whole = cons_tail c 123 t rest k.whole; each = k.are_digits; some = (let s = k.some in omega (arith, s)); few = (let s = k.few in omega (arith, s)); counted = k.counted; most = k.most; inside = k.inside },
+      record {
+        front = k.digits;
+        octets = k.octets;
+        whole = cons_tail c 123 t rest k.whole;
+        each = k.are_digits;
+        some = (let s = k.some in omega (arith, s));
+        few = (let s = k.few in omega (arith, s));
+        counted = k.counted;
+        most = k.most;
+        inside = k.inside;
+      },
     )
 
 tilde_back : (c : ℕ) (t : List ℕ) → After (string_rule str.Tilde c) t → AnyCounted (c ∷ t)
@@ -186,7 +225,8 @@ tilde_forth : (c : ℕ) (t : List ℕ) → AnyCounted (c ∷ t) → After (strin
 tilde_forth c t h = let k = counted_to c t h in at_true (c == 123) (move.One (sym.Str (str.Count 0 0))) move.Fail t (eq-eqb c 123 k.0) k.1
 
 atom_tilde_back : (c : ℕ) (t : List ℕ) → After (string_rule str.AtomTilde c) t → StrLang str.AtomTilde (c ∷ t)
-atom_tilde_back c t h = from_test (c == 123) (move.One (sym.Str (str.Count 0 0))) (cond (is_atom c) (move.One (sym.Names names.AtomRest)) move.Yield) t (StrLang str.AtomTilde (c ∷ t))
+atom_tilde_back c t h = from_test (c == 123) (move.One (sym.Str (str.Count 0 0))) (cond (is_atom c) (move.One (sym.Names names.AtomRest)) move.Yield) t
+    (StrLang str.AtomTilde (c ∷ t))
     (λ e k. inr (counted_from c t (eqb-true c 123 e) k))
     (λ e k. from_test (is_atom c) (move.One (sym.Names names.AtomRest)) move.Yield t (StrLang str.AtomTilde (c ∷ t)) (λ f l. inl (f, l)) (λ f l. absurd l) k) h
 
@@ -401,17 +441,54 @@ string_empty (str.Brace n) h = let e = h.1 in absurd cc
 
 -- `{0}` CRLF
 pub counted_none : AnyCounted (codes "{0}" ++ 13 ∷ 10 ∷ [])
-counted_none = ([], record { digits = 48 ∷ []; octets = []; whole = refl; are_digits = (refl, tt); some = omega arith; few = omega arith; counted = refl; most = omega arith; inside = tt; string = refl })
+counted_none = (
+  [],
+  record {
+    digits = 48 ∷ [];
+    octets = [];
+    whole = refl;
+    are_digits = (refl, tt);
+    some = omega arith;
+    few = omega arith;
+    counted = refl;
+    most = omega arith;
+    inside = tt;
+    string = refl;
+  },
+)
 
 count_some : (v n : ℕ) → StrFits (str.Count v n) ≡ true → (t : List ℕ) × CountRest v n t
 count_some v n fits = by n (count_parts v n fits) (and_parts (nat_le n 8 && nat_le v 50000000) (nat_lt 0 n || v == 0) fits).1
   where
     by : (n : ℕ) → (n ≤ 8) × (v ≤ 50000000) → (nat_lt 0 n || v == 0) ≡ true → (t : List ℕ) × CountRest v n t
-    by zero most e = (codes "0}" ++ 13 ∷ 10 ∷ [], record { front = 48 ∷ []; octets = []; whole = refl; each = (refl, tt); some = omega arith; few = omega arith; counted = (let z = eqb-true v 0 e in omega (arith, z)); most = omega arith; inside = tt })
+    by zero most e = (
+      codes "0}" ++ 13 ∷ 10 ∷ [],
+      record {
+        front = 48 ∷ [];
+        octets = [];
+        whole = refl;
+        each = (refl, tt);
+        some = omega arith;
+        few = omega arith;
+        counted = (let z = eqb-true v 0 e in omega (arith, z));
+        most = omega arith;
+        inside = tt;
+      },
+    )
     by (suc n) most e =
         let o = octets_some v in (
           125 ∷ 13 ∷ 10 ∷ replicate v 256,
-          record { front = []; octets = replicate v 256; whole = refl; each = tt; some = omega arith; few = omega (arith, most.0); counted = o.counted; most = omega (arith, o.counted, most.1); inside = o.inside },
+          record {
+            front = [];
+            octets = replicate v 256;
+            whole = refl;
+            each = tt;
+            some = omega arith;
+            few = omega (arith, most.0);
+            counted = o.counted;
+            most = omega (arith, o.counted, most.1);
+            inside = o.inside;
+          },
         )
 
 -- `a`

@@ -51,15 +51,15 @@ StrLang (str.Brace n) t = BraceRest n t
 
 -- ---- values
 
--- values of at most so many brackets and the closing one, from the first value on
+-- values of at most n brackets and the closing one, from the first value on
 abbrev pub ValuesFirst : ℕ → List ℕ → Type 0
 ValuesFirst depth t = (vs : List (List ℕ)) × AllOf (IsValue depth) vs × (t ≡ joined vs ++ 41 ∷ [])
 
--- the same behind a value
+-- the same after a value
 abbrev pub ValuesMore : ℕ → List ℕ → Type 0
 ValuesMore depth t = (vs : List (List ℕ)) × AllOf (IsValue depth) vs × (t ≡ spaced vs ++ 41 ∷ [])
 
--- behind a value, the rest of so many brackets
+-- after a value, the rest of so many brackets
 abbrev pub Opened : ℕ → List ℕ → Type 0
 Opened zero t = t ≡ []
 Opened (suc within) t = Then (ValuesMore (63 - within)) (Opened within) t

@@ -85,7 +85,8 @@ append_nothing (c ∷ x) = ap (λ (u : List ℕ). c ∷ u) (append_nothing x)
 start_forth : (c : ℕ) (t : List ℕ) → IsValue 64 (c ∷ t) → After (value_rule value.Start c) t
 start_forth c t h = elim (value_begins 64 c t h) [
   | inl f ↦ at_false (c == 40) (move.One (sym.Value (value.First 0))) (alone (flat_start c)) t (flat_first c t f).0 (alone_after (flat_start c) t (flat_forth c t f))
-  | inr l ↦ at_true (c == 40) (move.One (sym.Value (value.First 0))) (alone (flat_start c)) t (eq-eqb c 40 l.0) (record { front = t; back = []; whole = append_nothing t; first = l.2; second = refl })
+  | inr l ↦ at_true (c == 40) (move.One (sym.Value (value.First 0))) (alone (flat_start c)) t (eq-eqb c 40 l.0)
+      (record { front = t; back = []; whole = append_nothing t; first = l.2; second = refl })
 ]
 
 -- ---- a value in a bracket
@@ -100,16 +101,19 @@ with_octet : (c : ℕ) (t : List ℕ) (A B C : List ℕ → Type 0) → ((u : Li
 with_octet c t A B C f k = record { front = c ∷ k.front; back = k.back; whole = ap (λ (u : List ℕ). c ∷ u) k.whole; first = f k.front k.first; second = k.second }
 
 inner_back : (w c : ℕ) (t : List ℕ) → After (inner_rule w c) t → Inner w (c ∷ t)
-inner_back w c t h = from_test (c == 40) (cond (nat_lt w 63) (move.One (sym.Value (value.First (w + 1)))) move.Fail) (before (sym.Value (value.More w)) (flat_start c)) t (Inner w (c ∷ t))
+inner_back w c t h = from_test (c == 40) (cond (nat_lt w 63) (move.One (sym.Value (value.First (w + 1)))) move.Fail) (before (sym.Value (value.More w)) (flat_start c)) t
+    (Inner w (c ∷ t))
     (λ e k. from_test (nat_lt w 63) (move.One (sym.Value (value.First (w + 1)))) move.Fail t (Inner w (c ∷ t))
     (λ f l.
     let lt : w < 63 = ltb-true w 63 f in
     let deep : 63 - (w + 1) ≡ 63 - w - 1 = omega arith in
-    let j : Then (ValuesFirst (63 - w - 1)) (Opened (suc w)) t = subst (λ (n : ℕ). Then (ValuesFirst n) (Opened (suc w)) t) deep (subst (λ (n : ℕ). Then (ValuesFirst (63 - (w + 1))) (Opened n) t) (add_one w) l) in
+    let j : Then (ValuesFirst (63 - w - 1)) (Opened (suc w)) t =
+    subst (λ (n : ℕ). Then (ValuesFirst n) (Opened (suc w)) t) deep (subst (λ (n : ℕ). Then (ValuesFirst (63 - (w + 1))) (Opened n) t) (add_one w) l) in
     with_octet c t (ValuesFirst (63 - w - 1)) (Opened (suc w)) (IsValue (63 - w))
     (λ u a. subst (λ (n : ℕ). IsValue (63 - w) (n ∷ u)) (sym (eqb-true c 40 e)) (list_value (63 - w) u (omega (arith, lt)) a)) j)
     (λ f l. absurd l) k)
-    (λ e k. with_octet c t (Starts (flat_start c)) (Opened (suc w)) (IsValue (63 - w)) (λ u a. flat_value (63 - w) (c ∷ u) (flat_back c u a)) (after_before (sym.Value (value.More w)) (flat_start c) t k)) h
+    (λ e k. with_octet c t (Starts (flat_start c)) (Opened (suc w)) (IsValue (63 - w)) (λ u a. flat_value (63 - w) (c ∷ u) (flat_back c u a))
+    (after_before (sym.Value (value.More w)) (flat_start c) t k)) h
 
 inner_at : (w c : ℕ) (t x y : List ℕ) → c ∷ t ≡ x ++ y → IsValue (63 - w) x → Opened (suc w) y → After (inner_rule w c) t
 inner_at w c t [] y e v o = absurd (no_value (63 - w) v)
@@ -117,7 +121,8 @@ inner_at w c t (d ∷ x) y e v o =
     let v' : IsValue (63 - w) (c ∷ x) = subst (λ (n : ℕ). IsValue (63 - w) (n ∷ x)) (sym (cons_head c d t (x ++ y) e)) v in
     let f : t ≡ x ++ y = cons_tail c d t (x ++ y) e in
     elim (value_begins (63 - w) c x v') [
-      | inl a ↦ at_false (c == 40) (cond (nat_lt w 63) (move.One (sym.Value (value.First (w + 1)))) move.Fail) (before (sym.Value (value.More w)) (flat_start c)) t (flat_first c x a).0
+      | inl a ↦ at_false (c == 40) (cond (nat_lt w 63) (move.One (sym.Value (value.First (w + 1)))) move.Fail) (before (sym.Value (value.More w)) (flat_start c)) t
+          (flat_first c x a).0
           (before_after (sym.Value (value.More w)) (flat_start c) t (record { front = x; back = y; whole = f; first = flat_forth c x a; second = o }))
       | inr l ↦ (
           let lt : w < 63 = (let p = l.1 in omega (arith, p)) in
@@ -146,13 +151,13 @@ closes_forth (suc w) t h =
     let same : w ≡ suc w - 1 = omega arith in
     at_false (suc w == 0) move.End (move.One (sym.Value (value.More (suc w - 1)))) t (ne_eqb (suc w) 0 (λ e. omega (arith, e))) (subst (λ (n : ℕ). Opened (suc n) t) same h)
 
--- behind a bracket that closes
+-- after a bracket that closes
 closed_more : (w c : ℕ) (t : List ℕ) → c ≡ 41 → Opened w t → Opened (suc w) (c ∷ t)
 closed_more w c t e h = record { front = 41 ∷ []; back = t; whole = ap (λ (n : ℕ). n ∷ t) e; first = ([], tt, refl); second = h }
 
 -- ---- First and More
 
--- a value and those behind it
+-- a value and those after it
 values_join : (d : ℕ) (x : List ℕ) → (j : Then (IsValue d) (ValuesMore d) x) → x ≡ (j.front ++ spaced j.second.0) ++ 41 ∷ []
 values_join d x j = j.whole ∙ ap (λ (u : List ℕ). j.front ++ u) j.second.2 ∙ sym (append_assoc j.front (spaced j.second.0) (41 ∷ []))
 
@@ -167,8 +172,9 @@ first_back w c t h = from_test (c == 41) (closes w) (inner_rule w c) t (ValueLan
     (λ e k. record { front = 41 ∷ []; back = t; whole = ap (λ (n : ℕ). n ∷ t) (eqb-true c 41 e); first = ([], tt, refl); second = closes_back w t k })
     (λ e k. first_of w (c ∷ t) (inner_back w c t k)) h
 
--- values behind a value
-behind_value : (w : ℕ) (v : List ℕ) (vs : List (List ℕ)) (t x y : List ℕ) → t ≡ x ++ y → x ≡ (v ++ spaced vs) ++ 41 ∷ [] → IsValue (63 - w) v → AllOf (IsValue (63 - w)) vs → Opened w y → Inner w t
+-- values after a value
+behind_value : (w : ℕ) (v : List ℕ) (vs : List (List ℕ)) (t x y : List ℕ) → t ≡ x ++ y → x ≡ (v ++ spaced vs) ++ 41 ∷ [] → IsValue (63 - w) v → AllOf (IsValue (63 - w)) vs
+    → Opened w y → Inner w t
 behind_value w v vs t x y e f h all o = ungroup (IsValue (63 - w)) (ValuesMore (63 - w)) (Opened w) t (record {
   front = x;
   back = y;
@@ -185,7 +191,8 @@ inner_first w c t h = by h.front h.back h.whole h.first
     by [] y e v = absurd (no_value (63 - w) v)
     by (d ∷ x) y e v = ap (λ (n : ℕ). n == 41) (cons_head c d t (x ++ y) e) ∙ value_first (63 - w) d x v
 
-first_at : (w c : ℕ) (t x y : List ℕ) (vs : List (List ℕ)) → c ∷ t ≡ x ++ y → AllOf (IsValue (63 - w)) vs → x ≡ joined vs ++ 41 ∷ [] → Opened w y → After (value_rule (value.First w) c) t
+first_at : (w c : ℕ) (t x y : List ℕ) (vs : List (List ℕ)) → c ∷ t ≡ x ++ y → AllOf (IsValue (63 - w)) vs → x ≡ joined vs ++ 41 ∷ [] → Opened w y
+    → After (value_rule (value.First w) c) t
 first_at w c t x y [] e all f o =
     let g : c ∷ t ≡ 41 ∷ y = e ∙ ap (λ (u : List ℕ). u ++ y) f in
     at_true (c == 41) (closes w) (inner_rule w c) t (eq-eqb c 41 (cons_head c 41 t y g)) (closes_forth w t (subst (Opened w) (sym (cons_tail c 41 t y g)) o))
@@ -210,7 +217,8 @@ more_back w c t h = from_test (c == 32) (move.One (sym.Value (value.Next w))) (c
     (λ e k. more_of w c t (eqb-true c 32 e) k)
     (λ e k. from_test (c == 41) (closes w) move.Fail t (Opened (suc w) (c ∷ t)) (λ f l. closed_more w c t (eqb-true c 41 f) (closes_back w t l)) (λ f l. absurd l) k) h
 
-more_at : (w c : ℕ) (t x y : List ℕ) (vs : List (List ℕ)) → c ∷ t ≡ x ++ y → AllOf (IsValue (63 - w)) vs → x ≡ spaced vs ++ 41 ∷ [] → Opened w y → After (value_rule (value.More w) c) t
+more_at : (w c : ℕ) (t x y : List ℕ) (vs : List (List ℕ)) → c ∷ t ≡ x ++ y → AllOf (IsValue (63 - w)) vs → x ≡ spaced vs ++ 41 ∷ [] → Opened w y
+    → After (value_rule (value.More w) c) t
 more_at w c t x y [] e all f o =
     let g : c ∷ t ≡ 41 ∷ y = e ∙ ap (λ (u : List ℕ). u ++ y) f in
     let same : c ≡ 41 = cons_head c 41 t y g in
@@ -262,5 +270,8 @@ closing (suc w) = let k = closing w in (41 ∷ k.0, record { front = 41 ∷ []; 
 pub value_example : (s : Value) → (t : List ℕ) × ValueLang s t
 value_example value.Start = (97 ∷ [], flat_value 64 (97 ∷ []) flat_some)
 value_example (value.First w) = let k = closing w in (41 ∷ k.0, record { front = 41 ∷ []; back = k.0; whole = refl; first = ([], tt, refl); second = k.1 })
-value_example (value.Next w) = let k = closing (suc w) in (97 ∷ k.0, record { front = 97 ∷ []; back = k.0; whole = refl; first = flat_value (63 - w) (97 ∷ []) flat_some; second = k.1 })
+value_example (value.Next w) = let k = closing (suc w) in (
+  97 ∷ k.0,
+  record { front = 97 ∷ []; back = k.0; whole = refl; first = flat_value (63 - w) (97 ∷ []) flat_some; second = k.1 },
+)
 value_example (value.More w) = closing (suc w)

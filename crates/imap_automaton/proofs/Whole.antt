@@ -17,7 +17,8 @@ use Rattle.imap_automaton.proofs.Lists.{cons_head, cons_tail, no_append, regroup
 
 -- ---- from a text read after an octet to a text read with it
 
-unmoved : (s : Sym) (rest : List Sym) (c : ℕ) (left : List Sym) (t : List ℕ) (m : Move) → rule_of s c ≡ m → SymFits s ≡ true → (step rest c ≡ Some left → Langs rest (c ∷ t)) → moved m rest (step rest c) ≡ Some left → Langs left t → Langs (s ∷ rest) (c ∷ t)
+unmoved : (s : Sym) (rest : List Sym) (c : ℕ) (left : List Sym) (t : List ℕ) (m : Move) → rule_of s c ≡ m → SymFits s ≡ true → (step rest c ≡ Some left → Langs rest (c ∷ t))
+    → moved m rest (step rest c) ≡ Some left → Langs left t → Langs (s ∷ rest) (c ∷ t)
 unmoved s rest c left t move.Fail r fits ih e h = absurd cc
 unmoved s rest c left t move.Yield r fits ih e h = record { front = []; back = c ∷ t; whole = refl; first = yields s c fits r; second = ih e }
 unmoved s rest c left t move.End r fits ih e h = record {
@@ -79,12 +80,17 @@ removed move.Fail rest other t x y e a h = absurd a
 removed move.Yield rest other t x y e a h = absurd a
 removed move.End rest other t x y e a h = record { left = rest; by = refl; reads = subst (λ (u : List ℕ). Langs rest u) (sym (e ∙ ap (λ (u : List ℕ). u ++ y) a)) h }
 removed (move.One p) rest other t x y e a h = record { left = p ∷ rest; by = refl; reads = record { front = x; back = y; whole = e; first = a; second = h } }
-removed (move.Two p q) rest other t x y e a h = record { left = p ∷ q ∷ rest; by = refl; reads = ungroup (Lang p) (Lang q) (Langs rest) t (record { front = x; back = y; whole = e; first = a; second = h }) }
+removed (move.Two p q) rest other t x y e a h = record {
+  left = p ∷ q ∷ rest;
+  by = refl;
+  reads = ungroup (Lang p) (Lang q) (Langs rest) t (record { front = x; back = y; whole = e; first = a; second = h });
+}
 
 pub open_begins : (o b : Bool) → (not o || b) ≡ true → o ≡ true → b ≡ true
 open_begins o b e f = grind arith
 
-forth_at : (last : Bool) (s : Sym) (rest : List Sym) (c : ℕ) (t x y : List ℕ) → Good last (s ∷ rest) → c ∷ t ≡ x ++ y → Lang s x → Langs rest y → ((u : List ℕ) → Langs rest (c ∷ u) → Leads rest c u) → Leads (s ∷ rest) c t
+forth_at : (last : Bool) (s : Sym) (rest : List Sym) (c : ℕ) (t x y : List ℕ) → Good last (s ∷ rest) → c ∷ t ≡ x ++ y → Lang s x → Langs rest y
+    → ((u : List ℕ) → Langs rest (c ∷ u) → Leads rest c u) → Leads (s ∷ rest) c t
 forth_at last s rest c t [] y good e f h ih =
     let k : Langs rest (c ∷ t) = subst (λ (u : List ℕ). Langs rest u) (sym e) h in
     let may = empty_may s good.0 f in
@@ -106,7 +112,8 @@ forth last (s ∷ rest) c t good h = forth_at last s rest c t h.front h.back goo
 chain : (p q r : Bool) → (not p || q) ≡ true → (not q || r) ≡ true → (not p || r) ≡ true
 chain p q r e f = grind arith
 
-keeps_move : (last : Bool) (m : Move) (s : Sym) (rest left : List Sym) (other : Option (List Sym)) → move_good (ends_open s) m ≡ true → Good last (s ∷ rest) → (other ≡ Some left → Good last left) → moved m rest other ≡ Some left → Good last left
+keeps_move : (last : Bool) (m : Move) (s : Sym) (rest left : List Sym) (other : Option (List Sym)) → move_good (ends_open s) m ≡ true → Good last (s ∷ rest)
+    → (other ≡ Some left → Good last left) → moved m rest other ≡ Some left → Good last left
 keeps_move last move.Fail s rest left other g good ih e = absurd cc
 keeps_move last move.Yield s rest left other g good ih e = ih e
 keeps_move last move.End s rest left other g good ih e = subst (Good last) (same_Some rest left e) good.2
@@ -123,7 +130,8 @@ pub keeps : (last : Bool) (ss : List Sym) (c : ℕ) (left : List Sym) → Good l
 keeps last [] c left good e = absurd cc
 keeps last (s ∷ rest) c left good e = keeps_move last (rule_of s c) s rest left (step rest c) (moves_good s c good.0) good (λ e'. keeps last rest c left good.2 e') e
 
-room_move : (m : Move) (s : Sym) (rest left : List Sym) (other : Option (List Sym)) → move_needs (need s) m ≡ true → Room (s ∷ rest) → (other ≡ Some left → Room left) → moved m rest other ≡ Some left → Room left
+room_move : (m : Move) (s : Sym) (rest left : List Sym) (other : Option (List Sym)) → move_needs (need s) m ≡ true → Room (s ∷ rest) → (other ≡ Some left → Room left)
+    → moved m rest other ≡ Some left → Room left
 room_move move.Fail s rest left other g room ih e = absurd cc
 room_move move.Yield s rest left other g room ih e = ih e
 room_move move.End s rest left other g room ih e = subst Room (same_Some rest left e) room.1
@@ -156,7 +164,8 @@ none_stays (c ∷ t) = none_stays t
 pub no_symbols : {A : Type 0} (x : A) → None ≡ Some x → ⊥
 no_symbols x e = cc
 
-back_at : (o : Option (List Sym)) (ss : List Sym) (c : ℕ) (t : List ℕ) → Good false ss → ((left : List Sym) → Good false left → run (Some left) t ≡ Some [] → Langs left t) → run (Some ss) (c ∷ t) ≡ Some [] → step ss c ≡ o → Langs ss (c ∷ t)
+back_at : (o : Option (List Sym)) (ss : List Sym) (c : ℕ) (t : List ℕ) → Good false ss → ((left : List Sym) → Good false left → run (Some left) t ≡ Some [] → Langs left t)
+    → run (Some ss) (c ∷ t) ≡ Some [] → step ss c ≡ o → Langs ss (c ∷ t)
 back_at None ss c t good ih e s = absurd (no_symbols [] (sym (none_stays t) ∙ ap (λ (o : Option (List Sym)). run o t) (sym s) ∙ e))
 back_at (Some left) ss c t good ih e s = unstep false ss c left t good s (ih left (keeps false ss c left good s) (ap (λ (o : Option (List Sym)). run o t) (sym s) ∙ e))
 

@@ -1,5 +1,6 @@
 -- One octet at a word by which a reader decides.
-use Rattle.std.proofs.Common.{◌≡◌, ℕ, ◌+◌, ◌<◌, ◌≤◌, true, false, List, [], ◌∷◌, ◌++◌, length, map, take, drop, get_or, cond, Option, Some, None, refl, sym, ap, subst, ◌∙◌, append_assoc, arith, inl, inr}
+use Rattle.std.proofs.Common.{◌≡◌, ℕ, ◌+◌, ◌<◌, ◌≤◌, true, false, List, [], ◌∷◌, ◌++◌, length, map, take, drop, get_or, cond, Option, Some, None, refl, sym, ap, subst, ◌∙◌}
+use Rattle.std.proofs.Common.{append_assoc, arith, inl, inr}
 use Rattle.std.specs.Prelude.{◌==◌, codes}
 use Rattle.std.proofs.lemmas.Bool.{eqb-true, eqb-false, eq-eqb, cond-false}
 use Rattle.std.proofs.lemmas.List.{length-append, length-take-le, append-nil, take-append-drop}
@@ -37,12 +38,13 @@ use Rattle.imap_automaton.proofs.Tests.{from_test, at_true, at_false, crlf_of, c
 use Rattle.imap_automaton.proofs.DateEdges.{date_text, date_example, time_text, time_example, time_back, time_forth, time_none}
 use Rattle.imap_automaton.proofs.SetEdges.{words_more_back, words_more_forth, words_more_none}
 use Rattle.imap_automaton.proofs.FreeEdges.{text_back, text_forth, goes_back, goes_forth, free_empty}
-use Rattle.imap_automaton.proofs.KeyLemmas.{one_key, among_keys, key_some, key_in_word, key_lower, no_bang, find_some, find_none, is_among_is, goes_to, goes_from, goes_octet, whole_to, whole_from}
+use Rattle.imap_automaton.proofs.KeyLemmas.{one_key, among_keys, key_some, key_in_word, key_lower, no_bang, find_some, find_none, is_among_is, goes_to, goes_from, goes_octet}
+use Rattle.imap_automaton.proofs.KeyLemmas.{whole_to, whole_from}
 use Rattle.imap_syntax.specs.Octets.{is_text, is_word, is_atom, lower}
 use Rattle.imap_syntax.specs.Texts.{Each, Then, crlf, IsCrlf}
 use Rattle.imap_syntax.specs.Lines.{IsLine, IsRest}
 
--- ---- behind a key
+-- ---- after a key
 
 rest_back : (c : ℕ) (t : List ℕ) → After (rest_rule c) t → IsRest (c ∷ t)
 rest_back c t h = from_test (c == 32) (move.One (sym.Line line.Text)) (cond (c == 13) (move.One (sym.Line (line.Fixed phrase.Crlf 1))) move.Fail) t (IsRest (c ∷ t))
@@ -227,7 +229,8 @@ stray_goes place.Month begun c t e f h = h
 abbrev GoesOn : List ℕ → ℕ → Type 0
 GoesOn begun c = (x : Key) × (y : List ℕ) × (begun ++ lower c ∷ y ≡ key_text x)
 
-stray_comes : (p : Place) (begun : List ℕ) (c : ℕ) (t : List ℕ) → in_word p c ≡ true → (c == 123) ≡ false → GoesOn begun c → IsStray p (begun ++ lower c ∷ []) t → IsStray p begun (c ∷ t)
+stray_comes : (p : Place) (begun : List ℕ) (c : ℕ) (t : List ℕ) → in_word p c ≡ true → (c == 123) ≡ false → GoesOn begun c → IsStray p (begun ++ lower c ∷ []) t
+    → IsStray p begun (c ∷ t)
 stray_comes place.Plain begun c t e f g h = text_comes c t (word_text place.Plain c e) f h
 stray_comes place.Numbered begun c t e f g h = text_comes c t (word_text place.Numbered c e) f h
 stray_comes place.Tagged begun c t e f g h = h
@@ -245,16 +248,20 @@ no_word_zero place.Month = refl
 
 -- ---- an octet of the word
 
-says_goes : (p : Place) (begun : List ℕ) (c : ℕ) (w tail t : List ℕ) → in_word p c ≡ true → (c == 123) ≡ false → WordSays p begun (begun ++ map lower (c ∷ w)) tail (c ∷ t) → WordSays p (begun ++ lower c ∷ []) ((begun ++ lower c ∷ []) ++ map lower w) tail t
+says_goes : (p : Place) (begun : List ℕ) (c : ℕ) (w tail t : List ℕ) → in_word p c ≡ true → (c == 123) ≡ false → WordSays p begun (begun ++ map lower (c ∷ w)) tail (c ∷ t)
+    → WordSays p (begun ++ lower c ∷ []) ((begun ++ lower c ∷ []) ++ map lower w) tail t
 says_goes p begun c w tail t e f (inl k) = inl (k.0, k.1, append_assoc begun (lower c ∷ []) (map lower w) ∙ k.2, k.3)
 says_goes p begun c w tail t e f (inr s) = inr (λ k m q. s.0 k m (sym (append_assoc begun (lower c ∷ []) (map lower w)) ∙ q), stray_goes p begun c t e f s.1)
 
-says_comes : (p : Place) (begun : List ℕ) (c : ℕ) (w tail t : List ℕ) → in_word p c ≡ true → (c == 123) ≡ false → GoesOn begun c → WordSays p (begun ++ lower c ∷ []) ((begun ++ lower c ∷ []) ++ map lower w) tail t → WordSays p begun (begun ++ map lower (c ∷ w)) tail (c ∷ t)
+says_comes : (p : Place) (begun : List ℕ) (c : ℕ) (w tail t : List ℕ) → in_word p c ≡ true → (c == 123) ≡ false → GoesOn begun c
+    → WordSays p (begun ++ lower c ∷ []) ((begun ++ lower c ∷ []) ++ map lower w) tail t → WordSays p begun (begun ++ map lower (c ∷ w)) tail (c ∷ t)
 says_comes p begun c w tail t e f g (inl k) = inl (k.0, k.1, sym (append_assoc begun (lower c ∷ []) (map lower w)) ∙ k.2, k.3)
 says_comes p begun c w tail t e f g (inr s) = inr (λ k m q. s.0 k m (append_assoc begun (lower c ∷ []) (map lower w) ∙ q), stray_comes p begun c t e f g s.1)
 
 -- the word's text is taken from the text of its front
-goes_forth_at : (p : Place) (k : Key) (at c : ℕ) (t w tail : List ℕ) (o : Option Key) → next_key p k at (lower c) ≡ o → at ≤ length (key_text k) → in_word p c ≡ true → t ≡ w ++ tail → Each (in_word p) w → in_word p (get_or tail 0 0) ≡ false → WordSays p (take at (key_text k)) (take at (key_text k) ++ map lower (c ∷ w)) tail (c ∷ t) → After (word_goes p k at c o) t
+goes_forth_at : (p : Place) (k : Key) (at c : ℕ) (t w tail : List ℕ) (o : Option Key) → next_key p k at (lower c) ≡ o → at ≤ length (key_text k) → in_word p c ≡ true
+    → t ≡ w ++ tail → Each (in_word p) w → in_word p (get_or tail 0 0) ≡ false → WordSays p (take at (key_text k)) (take at (key_text k) ++ map lower (c ∷ w)) tail (c ∷ t)
+    → After (word_goes p k at c o) t
 goes_forth_at p k at c t w tail (Some x) e le i whole each longest says =
     let f = find_some (goes_on k at (lower c)) (k ∷ keys p) x e in
     let g = goes_to k x at (lower c) f.0 in
@@ -269,13 +276,16 @@ goes_forth_at p k at c t w tail (Some x) e le i whole each longest says =
       longest = longest;
       says = subst (λ (b : List ℕ). WordSays p b (b ++ map lower w) tail t) (sym g.0) s;
     }
-goes_forth_at p k at c t w tail None e le i whole each longest (inl x) = absurd (find_none (goes_on k at (lower c)) (k ∷ keys p) x.0 e (inr x.1) (goes_from k x.0 at (lower c) (map lower w) le x.2))
+goes_forth_at p k at c t w tail None e le i whole each longest (inl x) =
+    absurd (find_none (goes_on k at (lower c)) (k ∷ keys p) x.0 e (inr x.1) (goes_from k x.0 at (lower c) (map lower w) le x.2))
 goes_forth_at p k at c t w tail None e le i whole each longest (inr s) = stray_forth p k at c t s.1
 
 goes_whole : (k x : Key) (at c : ℕ) → take (at + 1) (key_text x) ≡ take at (key_text k) ++ c ∷ [] → take at (key_text k) ++ c ∷ drop (at + 1) (key_text x) ≡ key_text x
-goes_whole k x at c e = sym (append_assoc (take at (key_text k)) (c ∷ []) (drop (at + 1) (key_text x))) ∙ ap (λ (u : List ℕ). u ++ drop (at + 1) (key_text x)) (sym e) ∙ take-append-drop (at + 1) (key_text x)
+goes_whole k x at c e = sym (append_assoc (take at (key_text k)) (c ∷ []) (drop (at + 1) (key_text x))) ∙ ap (λ (u : List ℕ). u ++ drop (at + 1) (key_text x)) (sym e)
+    ∙ take-append-drop (at + 1) (key_text x)
 
-goes_back_at : (p : Place) (k : Key) (at c : ℕ) (t : List ℕ) (o : Option Key) → next_key p k at (lower c) ≡ o → at ≤ length (key_text k) → in_word p c ≡ true → After (word_goes p k at c o) t → WordRest p (take at (key_text k)) (c ∷ t)
+goes_back_at : (p : Place) (k : Key) (at c : ℕ) (t : List ℕ) (o : Option Key) → next_key p k at (lower c) ≡ o → at ≤ length (key_text k) → in_word p c ≡ true
+    → After (word_goes p k at c o) t → WordRest p (take at (key_text k)) (c ∷ t)
 goes_back_at p k at c t (Some x) e le i h =
     let f = find_some (goes_on k at (lower c)) (k ∷ keys p) x e in
     let g = goes_to k x at (lower c) f.0 in
@@ -286,7 +296,8 @@ goes_back_at p k at c t (Some x) e le i h =
       each = (i, h.each);
       some = omega arith;
       longest = h.longest;
-      says = says_comes p (take at (key_text k)) c h.word h.tail t i (goes_octet k x at c f.0) (x, drop (at + 1) (key_text x), goes_whole k x at (lower c) g.0) (subst (λ (b : List ℕ). WordSays p b (b ++ map lower h.word) h.tail t) g.0 h.says);
+      says = says_comes p (take at (key_text k)) c h.word h.tail t i (goes_octet k x at c f.0) (x, drop (at + 1) (key_text x), goes_whole k x at (lower c) g.0)
+          (subst (λ (b : List ℕ). WordSays p b (b ++ map lower h.word) h.tail t) g.0 h.says);
     }
 goes_back_at p k at c t None e le i h =
     let r = cut (in_word p) t (no_word_zero p) in
@@ -300,9 +311,10 @@ goes_back_at p k at c t None e le i h =
       says = inr (λ x m q. find_none (goes_on k at (lower c)) (k ∷ keys p) x e (inr m) (goes_from k x at (lower c) (map lower r.front) le q), stray_back p k at c t h);
     }
 
--- ---- an octet behind the word
+-- ---- an octet after the word
 
-ends_forth : (p : Place) (k : Key) (at c : ℕ) (t : List ℕ) (o : Option Key) → whole_key p k at ≡ o → at ≤ length (key_text k) → is_among k (keys p) ≡ true → WordSays p (take at (key_text k)) (take at (key_text k) ++ []) (c ∷ t) (c ∷ t) → After (word_ends p k at c o) t
+ends_forth : (p : Place) (k : Key) (at c : ℕ) (t : List ℕ) (o : Option Key) → whole_key p k at ≡ o → at ≤ length (key_text k) → is_among k (keys p) ≡ true
+    → WordSays p (take at (key_text k)) (take at (key_text k) ++ []) (c ∷ t) (c ∷ t) → After (word_ends p k at c o) t
 ends_forth p k at c t (Some x) e le m (inl y) =
     let f = find_some (is_whole k at) (k ∷ keys p) x e in
     let same : y.0 ≡ x = one_key y.0 x (sym y.2 ∙ append-nil (take at (key_text k)) ∙ whole_to k x at f.0) in
@@ -313,7 +325,8 @@ ends_forth p k at c t (Some x) e le m (inr s) =
 ends_forth p k at c t None e le m (inl y) = absurd (find_none (is_whole k at) (k ∷ keys p) y.0 e (inr y.1) (whole_from k y.0 at le (sym (append-nil (take at (key_text k))) ∙ y.2)))
 ends_forth p k at c t None e le m (inr s) = stray_forth p k at c t s.1
 
-ends_back : (p : Place) (k : Key) (at c : ℕ) (t : List ℕ) (o : Option Key) → whole_key p k at ≡ o → at ≤ length (key_text k) → is_among k (keys p) ≡ true → After (word_ends p k at c o) t → WordSays p (take at (key_text k)) (take at (key_text k) ++ []) (c ∷ t) (c ∷ t)
+ends_back : (p : Place) (k : Key) (at c : ℕ) (t : List ℕ) (o : Option Key) → whole_key p k at ≡ o → at ≤ length (key_text k) → is_among k (keys p) ≡ true
+    → After (word_ends p k at c o) t → WordSays p (take at (key_text k)) (take at (key_text k) ++ []) (c ∷ t) (c ∷ t)
 ends_back p k at c t (Some x) e le m h =
     let f = find_some (is_whole k at) (k ∷ keys p) x e in
     inl (x, among_keys p k x m f.1, append-nil (take at (key_text k)) ∙ whole_to k x at f.0, behind_back p x c t h)
@@ -322,8 +335,10 @@ ends_back p k at c t None e le m h =
 
 -- ---- the group
 
-pub word_back : (p : Place) (k : Key) (at c : ℕ) (t : List ℕ) → at ≤ length (key_text k) → is_among k (keys p) ≡ true → After (word_rule p k at c) t → WordRest p (take at (key_text k)) (c ∷ t)
-word_back p k at c t le m h = from_test (in_word p c) (word_goes p k at c (next_key p k at (lower c))) (cond (at == 0) move.Fail (word_ends p k at c (whole_key p k at))) t (WordRest p (take at (key_text k)) (c ∷ t))
+pub word_back : (p : Place) (k : Key) (at c : ℕ) (t : List ℕ) → at ≤ length (key_text k) → is_among k (keys p) ≡ true → After (word_rule p k at c) t
+    → WordRest p (take at (key_text k)) (c ∷ t)
+word_back p k at c t le m h = from_test (in_word p c) (word_goes p k at c (next_key p k at (lower c))) (cond (at == 0) move.Fail (word_ends p k at c (whole_key p k at))) t
+    (WordRest p (take at (key_text k)) (c ∷ t))
     (λ i g. goes_back_at p k at c t (next_key p k at (lower c)) refl le i g)
     (λ i g. from_test (at == 0) move.Fail (word_ends p k at c (whole_key p k at)) t (WordRest p (take at (key_text k)) (c ∷ t))
     (λ z l. absurd l)
@@ -337,7 +352,9 @@ word_back p k at c t le m h = from_test (in_word p c) (word_goes p k at c (next_
       says = ends_back p k at c t (whole_key p k at) refl le m l;
     }) g) h
 
-word_at : (p : Place) (k : Key) (at c : ℕ) (t w tail : List ℕ) → at ≤ length (key_text k) → is_among k (keys p) ≡ true → c ∷ t ≡ w ++ tail → Each (in_word p) w → 0 < length (take at (key_text k)) + length w → in_word p (get_or tail 0 0) ≡ false → WordSays p (take at (key_text k)) (take at (key_text k) ++ map lower w) tail (c ∷ t) → After (word_rule p k at c) t
+word_at : (p : Place) (k : Key) (at c : ℕ) (t w tail : List ℕ) → at ≤ length (key_text k) → is_among k (keys p) ≡ true → c ∷ t ≡ w ++ tail → Each (in_word p) w
+    → 0 < length (take at (key_text k)) + length w → in_word p (get_or tail 0 0) ≡ false → WordSays p (take at (key_text k)) (take at (key_text k) ++ map lower w) tail (c ∷ t)
+    → After (word_rule p k at c) t
 word_at p k at c t [] tail le m e each some longest says =
     let out : in_word p c ≡ false = ap (λ (u : List ℕ). in_word p (get_or u 0 0)) e ∙ longest in
     let n : length (take at (key_text k)) ≡ at = length-take-le at (key_text k) le in
@@ -351,9 +368,11 @@ word_at p k at c t (d ∷ w) tail le m e each some longest says =
     let same : d ≡ c = sym (cons_head c d t (w ++ tail) e) in
     let i : in_word p c ≡ true = ap (in_word p) (sym same) ∙ each.0 in
     at_true (in_word p c) (word_goes p k at c (next_key p k at (lower c))) (cond (at == 0) move.Fail (word_ends p k at c (whole_key p k at))) t i
-    (goes_forth_at p k at c t w tail (next_key p k at (lower c)) refl le i (cons_tail c d t (w ++ tail) e) each.1 longest (subst (λ (q : ℕ). WordSays p (take at (key_text k)) (take at (key_text k) ++ map lower (q ∷ w)) tail (c ∷ t)) same says))
+    (goes_forth_at p k at c t w tail (next_key p k at (lower c)) refl le i (cons_tail c d t (w ++ tail) e) each.1 longest
+    (subst (λ (q : ℕ). WordSays p (take at (key_text k)) (take at (key_text k) ++ map lower (q ∷ w)) tail (c ∷ t)) same says))
 
-pub word_forth : (p : Place) (k : Key) (at c : ℕ) (t : List ℕ) → at ≤ length (key_text k) → is_among k (keys p) ≡ true → WordRest p (take at (key_text k)) (c ∷ t) → After (word_rule p k at c) t
+pub word_forth : (p : Place) (k : Key) (at c : ℕ) (t : List ℕ) → at ≤ length (key_text k) → is_among k (keys p) ≡ true → WordRest p (take at (key_text k)) (c ∷ t)
+    → After (word_rule p k at c) t
 word_forth p k at c t le m h = word_at p k at c t h.word h.tail le m h.whole h.each h.some h.longest h.says
 
 pub word_empty : (p : Place) (begun : List ℕ) → WordRest p begun [] → ⊥
@@ -374,18 +393,21 @@ word_empty p begun h =
 
 -- ---- an example of each
 
-key_example : (p : Place) (k : Key) (at : ℕ) (tail : List ℕ) → at ≤ length (key_text k) → Among k (keys p) → in_word p (get_or tail 0 0) ≡ false → IsBehind p k tail → WordRest p (take at (key_text k)) (drop at (key_text k) ++ tail)
+key_example : (p : Place) (k : Key) (at : ℕ) (tail : List ℕ) → at ≤ length (key_text k) → Among k (keys p) → in_word p (get_or tail 0 0) ≡ false → IsBehind p k tail
+    → WordRest p (take at (key_text k)) (drop at (key_text k) ++ tail)
 key_example p k at tail le m out b = record {
   word = drop at (key_text k);
   tail = tail;
   whole = refl;
   each = key_in_word p k at;
-  some = (let n = length-append (take at (key_text k)) (drop at (key_text k)) in let l = ap length (take-append-drop at (key_text k)) in let s = key_some k in omega (arith, n, l, s));
+  some = (let n = length-append (take at (key_text k)) (drop at (key_text k)) in let l = ap length (take-append-drop at (key_text k)) in let s = key_some k in
+      omega (arith, n, l, s));
   longest = out;
   says = inl (k, m, ap (λ (u : List ℕ). take at (key_text k) ++ u) (key_lower k at) ∙ take-append-drop at (key_text k), b);
 }
 
-stray_example : (p : Place) (k : Key) (at : ℕ) → in_word p 33 ≡ true → in_word p 13 ≡ false → IsStray p (take at (key_text k)) (33 ∷ crlf) → WordRest p (take at (key_text k)) (33 ∷ crlf)
+stray_example : (p : Place) (k : Key) (at : ℕ) → in_word p 33 ≡ true → in_word p 13 ≡ false → IsStray p (take at (key_text k)) (33 ∷ crlf)
+    → WordRest p (take at (key_text k)) (33 ∷ crlf)
 stray_example p k at i o s = record {
   word = 33 ∷ [];
   tail = crlf;
@@ -399,7 +421,8 @@ stray_example p k at i o s = record {
 bang_line : FreeLang (free.Text pending.Nothing) (33 ∷ crlf)
 bang_line = (0, record { text = 33 ∷ []; whole = refl; text_is = (refl, tt); no_count = tt })
 
-nil_example : (k : Key) (at : ℕ) → at ≤ length (key_text k) → is_among k (keys place.Item) ≡ true → IsBehind place.Item k (32 ∷ codes "nil") → WordRest place.Item (take at (key_text k)) (drop at (key_text k) ++ 32 ∷ codes "nil")
+nil_example : (k : Key) (at : ℕ) → at ≤ length (key_text k) → is_among k (keys place.Item) ≡ true → IsBehind place.Item k (32 ∷ codes "nil")
+    → WordRest place.Item (take at (key_text k)) (drop at (key_text k) ++ 32 ∷ codes "nil")
 nil_example k at le m b = key_example place.Item k at (32 ∷ codes "nil") le (is_among_is k (keys place.Item) m) refl b
 
 pub word_example : (p : Place) (k : Key) (at : ℕ) → at ≤ length (key_text k) → is_among k (keys p) ≡ true → (t : List ℕ) × WordRest p (take at (key_text k)) t
@@ -409,13 +432,34 @@ word_example place.Tagged key.Ok at le m = (drop at (codes "ok") ++ crlf, key_ex
 word_example place.Tagged key.No at le m = (drop at (codes "no") ++ crlf, key_example place.Tagged key.No at crlf le (is_among_is key.No (keys place.Tagged) m) refl (inl refl))
 word_example place.Tagged key.Bad at le m = (drop at (codes "bad") ++ crlf, key_example place.Tagged key.Bad at crlf le (is_among_is key.Bad (keys place.Tagged) m) refl (inl refl))
 word_example place.Tagged _ at le m = absurd cc
-word_example place.Item key.Uid at le m = (drop at (codes "uid") ++ 32 ∷ 49 ∷ [], key_example place.Item key.Uid at (32 ∷ 49 ∷ []) le (is_among_is key.Uid (keys place.Item) m) refl (49 ∷ [], refl, record { each = (refl, tt); some = omega arith; few = omega arith; most = omega arith; not_zero = omega arith }))
-word_example place.Item key.Flags at le m = (drop at (codes "flags") ++ 32 ∷ 40 ∷ 41 ∷ [], key_example place.Item key.Flags at (32 ∷ 40 ∷ 41 ∷ []) le (is_among_is key.Flags (keys place.Item) m) refl (40 ∷ 41 ∷ [], refl, ([], (tt, refl))))
-word_example place.Item key.ModSeq at le m = (drop at (codes "modseq") ++ 32 ∷ codes "(1)", key_example place.Item key.ModSeq at (32 ∷ codes "(1)") le (is_among_is key.ModSeq (keys place.Item) m) refl (codes "(1)", refl, (49 ∷ [], refl, record { each = (refl, tt); some = omega arith; few = omega arith; most = omega arith })))
-word_example place.Item key.Size at le m = (drop at (codes "rfc822.size") ++ 32 ∷ 49 ∷ [], key_example place.Item key.Size at (32 ∷ 49 ∷ []) le (is_among_is key.Size (keys place.Item) m) refl (49 ∷ [], refl, record { each = (refl, tt); some = omega arith; few = omega arith; most = omega arith }))
-word_example place.Item key.InternalDate at le m = (drop at (codes "internaldate") ++ 32 ∷ date_text, key_example place.Item key.InternalDate at (32 ∷ date_text) le (is_among_is key.InternalDate (keys place.Item) m) refl (date_text, refl, date_example))
+word_example place.Item key.Uid at le m = (
+  drop at (codes "uid") ++ 32 ∷ 49 ∷ [],
+  key_example place.Item key.Uid at (32 ∷ 49 ∷ []) le (is_among_is key.Uid (keys place.Item) m) refl
+      (49 ∷ [], refl, record { each = (refl, tt); some = omega arith; few = omega arith; most = omega arith; not_zero = omega arith }),
+)
+word_example place.Item key.Flags at le m = (
+  drop at (codes "flags") ++ 32 ∷ 40 ∷ 41 ∷ [],
+  key_example place.Item key.Flags at (32 ∷ 40 ∷ 41 ∷ []) le (is_among_is key.Flags (keys place.Item) m) refl (40 ∷ 41 ∷ [], refl, ([], (tt, refl))),
+)
+word_example place.Item key.ModSeq at le m = (
+  drop at (codes "modseq") ++ 32 ∷ codes "(1)",
+  key_example place.Item key.ModSeq at (32 ∷ codes "(1)") le (is_among_is key.ModSeq (keys place.Item) m) refl
+      (codes "(1)", refl, (49 ∷ [], refl, record { each = (refl, tt); some = omega arith; few = omega arith; most = omega arith })),
+)
+word_example place.Item key.Size at le m = (
+  drop at (codes "rfc822.size") ++ 32 ∷ 49 ∷ [],
+  key_example place.Item key.Size at (32 ∷ 49 ∷ []) le (is_among_is key.Size (keys place.Item) m) refl
+      (49 ∷ [], refl, record { each = (refl, tt); some = omega arith; few = omega arith; most = omega arith }),
+)
+word_example place.Item key.InternalDate at le m = (
+  drop at (codes "internaldate") ++ 32 ∷ date_text,
+  key_example place.Item key.InternalDate at (32 ∷ date_text) le (is_among_is key.InternalDate (keys place.Item) m) refl (date_text, refl, date_example),
+)
 word_example place.Item key.Header at le m = (drop at (codes "body[header]") ++ 32 ∷ codes "nil", nil_example key.Header at le m (codes "nil", refl, ([], inl (refl, refl))))
-word_example place.Item key.HeaderPart at le m = (drop at (codes "body[header]<0>") ++ 32 ∷ codes "nil", nil_example key.HeaderPart at le m (codes "nil", refl, ([], inl (refl, refl))))
+word_example place.Item key.HeaderPart at le m = (
+  drop at (codes "body[header]<0>") ++ 32 ∷ codes "nil",
+  nil_example key.HeaderPart at le m (codes "nil", refl, ([], inl (refl, refl))),
+)
 word_example place.Item key.Body at le m = (drop at (codes "body[]") ++ 32 ∷ codes "nil", nil_example key.Body at le m (codes "nil", refl, ([], inl (refl, refl))))
 word_example place.Item key.BodyPart at le m = (drop at (codes "body[]<0>") ++ 32 ∷ codes "nil", nil_example key.BodyPart at le m (codes "nil", refl, ([], inl (refl, refl))))
 word_example place.Item _ at le m = absurd cc

@@ -17,7 +17,7 @@ month_start = sym.Word place.Month (first_key place.Month) 0
 abbrev pub day_octet : ℕ → ℕ → Bool
 day_octet at c = if at == 0 then c == 32 || is_digit c else if at == 1 then is_digit c else c == 45
 
--- the octet may stand at a place behind the month: `-yyyy hh:mm:ss +hhmm"`
+-- the octet may stand at a place after the month: `-yyyy hh:mm:ss +hhmm"`
 abbrev pub time_octet : ℕ → ℕ → Bool
 time_octet at c =
     if at == 0 then c == 45

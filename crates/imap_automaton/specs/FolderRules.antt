@@ -1,4 +1,4 @@
--- LIST and STATUS, behind the first of their parts.
+-- LIST and STATUS, after the first of their parts.
 use Rattle.std.specs.Prelude.{ℕ, ◌||◌, ◌==◌, if◌then◌else◌}
 use Rattle.imap_automaton.specs.declared.sym.Phrase.TheVariants as phrase
 use Rattle.imap_automaton.specs.declared.sym.Line.TheVariants as line

@@ -38,7 +38,7 @@ next_name name.Part c = name.Digits
 next_name name.Digits c = if c == 62 then name.End else name.Digits
 next_name name.End c = name.End
 
--- behind octets that go on with it
+-- after octets that go on with it
 abbrev pub name_from : ItemName → List ℕ → ItemName
 name_from s [] = s
 name_from s (c ∷ t) = name_from (next_name s c) t

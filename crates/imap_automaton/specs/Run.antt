@@ -57,7 +57,7 @@ abbrev pub inside_left : List Sym → ℕ
 inside_left (sym.Free (free.Octets n) ∷ ss) = n
 inside_left _ = 0
 
--- so many octets of the literal at hand are taken, and not its last
+-- n octets of the literal at hand are taken, and not its last
 abbrev pub skipped : ℕ → List Sym → List Sym
 skipped k (sym.Free (free.Octets n) ∷ ss) = sym.Free (free.Octets (n - k)) ∷ ss
 skipped k ss = ss

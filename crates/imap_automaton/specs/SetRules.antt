@@ -11,7 +11,7 @@ use Rattle.imap_automaton.specs.declared.sym.Move.{Move}
 use Rattle.imap_automaton.specs.declared.sym.Move.TheVariants as move
 use Rattle.imap_syntax.specs.Octets.{is_digit, is_word}
 
--- behind a word
+-- after a word
 abbrev pub words_more : ℕ → Move
 words_more c =
     if c == 32 then move.One (sym.Words words.First)
@@ -22,7 +22,7 @@ words_rule words.More c = words_more c
 words_rule words.First c = if is_word c then move.One (sym.Words words.Rest) else move.Fail
 words_rule words.Rest c = if is_word c then move.One (sym.Words words.Rest) else words_more c
 
--- behind a number, the second of its range or not
+-- after a number, the second of its range or not
 abbrev pub set_ends : Bool → ℕ → Move
 set_ends second c =
     if c == 13 then move.One (sym.Line (line.Fixed phrase.Crlf 1))

@@ -12,7 +12,7 @@ use Rattle.imap_automaton.specs.declared.sym.Move.{Move}
 use Rattle.imap_automaton.specs.declared.sym.Move.TheVariants as move
 use Rattle.imap_syntax.specs.Octets.{is_digit, is_text, is_atom, lower}
 
--- what is read behind the first octet of an atom, a quoted text or a literal
+-- what is read after the first octet of an atom, a quoted text or a literal
 abbrev pub flat_start : ℕ → Option Sym
 flat_start c =
     if c == 34 then Some (sym.Str str.Quoted)

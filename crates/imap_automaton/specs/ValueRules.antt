@@ -13,7 +13,7 @@ inner_rule within c =
     if c == 40 then (if nat_lt within 63 then move.One (sym.Value (value.First (within + 1))) else move.Fail)
     else before (sym.Value (value.More within)) (flat_start c)
 
--- behind the closing bracket
+-- after the closing bracket
 abbrev pub closes : ℕ → Move
 closes within = if within == 0 then move.End else move.One (sym.Value (value.More (within - 1)))
 

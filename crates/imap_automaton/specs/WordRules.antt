@@ -38,7 +38,7 @@ spaced_rule m c = if c == 32 then m else move.Fail
 abbrev pub end_rule : ℕ → Move
 end_rule c = if c == 13 then move.One (sym.Line (line.Fixed phrase.Crlf 1)) else move.Fail
 
--- behind a word that is a key
+-- after a word that is a key
 abbrev pub behind_key : Place → Key → ℕ → Move
 behind_key place.Tagged key.Ok c = rest_rule c
 behind_key place.Tagged key.No c = rest_rule c

@@ -8,7 +8,7 @@ use crate::sym::{Date, Key, Move, Place, Sym};
 /// The octets between the quote and the month.
 const DAY_LEN: u8 = 3;
 
-/// The octets behind the month.
+/// The octets after the month.
 const TIME_LEN: u8 = 21;
 
 /// Whether the octet may stand at a place between the quote and the month.
@@ -22,7 +22,7 @@ fn day_octet(at: u8, c: u16) -> bool
     }
 }
 
-/// Whether the octet may stand at a place behind the month.
+/// Whether the octet may stand at a place after the month.
 fn time_octet(at: u8, c: u16) -> bool
     ensures { result ≡ rules.time_octet at c }
 {
@@ -64,6 +64,7 @@ pub fn time_rule(at: u8, c: u16) -> Move
     }
 }
 
+/// Dates: what an octet does.
 #[inline(never)]
 pub fn date_rule(date: &Date, c: u16) -> Move
     ensures { result ≡ rules.date_rule date.now c }

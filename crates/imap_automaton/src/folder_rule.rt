@@ -1,4 +1,4 @@
-// LIST and STATUS, behind the first of their parts.
+// LIST and STATUS, after the first of their parts.
 ghost use Rattle.std.specs.Prelude.{◌≡◌};
 ghost use Rattle.imap_automaton.specs.FolderRules as rules;
 
@@ -134,6 +134,7 @@ fn octet_rule(octet: u8, next: Folder, c: u16) -> Move
     }
 }
 
+/// LIST and STATUS: what an octet does.
 #[inline(never)]
 pub fn folder_rule(folder: &Folder, c: u16) -> Move
     ensures { result ≡ rules.folder_rule folder.now c }

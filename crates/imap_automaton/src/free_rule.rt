@@ -114,6 +114,7 @@ fn octets_rule(n: u32, c: u16) -> Move
     }
 }
 
+/// Text with literals: what an octet does.
 #[inline(never)]
 pub fn free_rule(free: &Free, c: u16) -> Move
     requires { IsTrue (FreeFits free.now) }

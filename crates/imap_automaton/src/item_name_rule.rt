@@ -39,7 +39,7 @@ fn takes(name: ItemName, c: u16) -> bool
     }
 }
 
-/// What stands behind an octet that goes on with the name.
+/// What stands after an octet that goes on with the name.
 pub fn next_name(name: ItemName, c: u16) -> ItemName
     ensures { result ≡ rules.next_name name c }
 {
@@ -71,6 +71,7 @@ pub fn next_name(name: ItemName, c: u16) -> ItemName
     }
 }
 
+/// Names of other items: what an octet does.
 #[inline(never)]
 pub fn item_name_rule(name: ItemName, c: u16) -> Move
     ensures { result ≡ rules.item_name_rule name c }

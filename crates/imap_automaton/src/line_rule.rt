@@ -132,6 +132,7 @@ fn folded_rule(phrase: Phrase, at: u8, c: u16) -> Move
     }
 }
 
+/// Lines: what an octet does.
 #[inline(never)]
 pub fn line_rule(line: &Line, c: u16) -> Move
     requires { IsTrue (LineFits line.now) }

@@ -13,7 +13,7 @@ const FIRST_NUMBER: Sym = Sym::Set(Set::Number(0, 0, false));
 /// The second number of a range, from its first digit on.
 const SECOND_NUMBER: Sym = Sym::Set(Set::Number(0, 0, true));
 
-/// Behind a word.
+/// After a word.
 pub fn words_more(c: u16) -> Move
     ensures { result ≡ rules.words_more c }
 {
@@ -49,7 +49,7 @@ pub fn words_rule(words: &Words, c: u16) -> Move
     }
 }
 
-/// Behind a number.
+/// After a number.
 fn set_ends(second: bool, c: u16) -> Move
     ensures { result ≡ rules.set_ends second c }
 {

@@ -1,3 +1,4 @@
+// The stack of symbols.
 use crate::sym::{Free, Sym, is_octets, octets_left};
 
 /// As many symbols as the grammar needs at once.
@@ -19,6 +20,7 @@ impl Stack {
     ghost use Rattle.imap_automaton.specs.Symbols.{symbols_of};
     ghost use Rattle.imap_automaton.specs.Run.{inside_left, inside_top, skipped};
 
+    /// A stack of one symbol.
     pub fn of(first: Sym) -> Stack
         ensures { symbols_of result ≡ first ∷ [] }
     {
@@ -28,6 +30,7 @@ impl Stack {
         }
     }
 
+    /// Puts a symbol before the others.
     pub fn push(&mut self, symbol: Sym)
         requires { length (symbols_of self.old) < 5 }
         ensures { symbols_of self.new ≡ symbol ∷ symbols_of self.old }
@@ -36,6 +39,7 @@ impl Stack {
         self.symbols[self.top] = symbol;
     }
 
+    /// Takes the first symbol off.
     pub fn pop(&mut self) -> Option<Sym>
         ensures { MatchOption result ((symbols_of self.old ≡ []) × (symbols_of self.new ≡ [])) (λ s. symbols_of self.old ≡ s ∷ symbols_of self.new) }
     {
@@ -85,7 +89,7 @@ impl Stack {
         }
     }
 
-    /// Takes so many octets of the literal at hand, and not its last.
+    /// Takes n octets of the literal at hand, and not its last.
     pub fn skip(&mut self, count: u32)
         requires { count < inside_left (symbols_of self.old) }
         ensures { symbols_of self.new ≡ skipped count (symbols_of self.old) }
@@ -94,6 +98,7 @@ impl Stack {
         self.symbols[self.top] = Sym::Free(Free::Octets(left - count));
     }
 
+    /// Whether no symbol is left.
     pub fn is_empty(&self) -> bool
         ensures { IsTrue result ↔ (symbols_of self.now ≡ []) }
     {

@@ -10,7 +10,7 @@ use crate::sym::{Free, Line, Move, Names, Phrase, Str, Sym};
 /// A literal's count, from its first digit on.
 const COUNT_START: Sym = Sym::Str(Str::Count(0, 0));
 
-/// What is read behind the first octet of an atom, a quoted text or a literal.
+/// What is read after the first octet of an atom, a quoted text or a literal.
 pub fn flat_start(c: u16) -> Option<Sym>
     ensures { result ≡ rules.flat_start c }
 {
@@ -136,6 +136,7 @@ fn brace_rule(n: u32, c: u16) -> Move
     }
 }
 
+/// Strings: what an octet does.
 #[inline(never)]
 pub fn string_rule(string: &Str, c: u16) -> Move
     requires { IsTrue (StrFits string.now) }

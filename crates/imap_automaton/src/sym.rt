@@ -53,11 +53,11 @@ pub enum Key {
 /// Where a word is read.
 #[derive(Clone, Copy)]
 pub enum Place {
-    /// Behind a tag.
+    /// After a tag.
     Tagged,
-    /// Behind `* `.
+    /// After `* `.
     Plain,
-    /// Behind `* `, a number and a space.
+    /// After `* `, a number and a space.
     Numbered,
     /// An item's name.
     Item,
@@ -65,7 +65,7 @@ pub enum Place {
     Month,
 }
 
-/// A count in braces that may stand at the end of a text: none, one with so many digits, one with its closing brace.
+/// A count in braces that may stand at the end of a text: none, one with n digits, one with its closing brace.
 #[derive(Clone, Copy)]
 pub enum Pending {
     Nothing,
@@ -77,27 +77,27 @@ pub enum Pending {
 #[derive(Clone, Copy)]
 pub enum Line {
     Start,
-    /// Within a tag, behind so many octets.
+    /// Within a tag, after n octets.
     Tag(u8),
-    /// Behind `* `.
+    /// After `* `.
     Untagged,
-    /// Behind `* ` and a number of so many digits, if a space follows.
+    /// After `* ` and a number of n digits, if a space follows.
     Sequence(u32, u8),
     /// Text up to the line's end.
     Text,
-    /// Within a fixed text, behind so many octets.
+    /// Within a fixed text, after n octets.
     Fixed(Phrase, u8),
-    /// Within a fixed text in letters of any case, behind so many octets.
+    /// Within a fixed text in letters of any case, after n octets.
     Folded(Phrase, u8),
 }
 
 /// Within words up to the line's end.
 #[derive(Clone, Copy)]
 pub enum Words {
-    /// Behind a word.
+    /// After a word.
     More,
     First,
-    /// Within a word, behind its first octet.
+    /// Within a word, after its first octet.
     Rest,
 }
 
@@ -115,9 +115,9 @@ pub enum Set {
 #[derive(Clone, Copy)]
 pub enum Free {
     Text(Pending),
-    /// Behind the CR of a literal of so many octets.
+    /// After the CR of a literal of n octets.
     Break(u32),
-    /// Within a literal, before so many octets.
+    /// Within a literal, before n octets.
     Octets(u32),
 }
 
@@ -125,7 +125,7 @@ pub enum Free {
 #[derive(Clone, Copy)]
 pub enum Item {
     Open,
-    /// Behind an item.
+    /// After an item.
     More,
     /// Within a number that isn't 0, its value so far and how many digits it has.
     Number(u32, u8),
@@ -142,13 +142,13 @@ pub enum ItemName {
     Plain,
     /// Within its section.
     Section,
-    /// Behind the closing bracket.
+    /// After the closing bracket.
     After,
-    /// Behind the `<`.
+    /// After the `<`.
     Part,
-    /// Behind a digit.
+    /// After a digit.
     Digits,
-    /// Behind the `>`.
+    /// After the `>`.
     End,
 }
 
@@ -157,9 +157,9 @@ pub enum ItemName {
 pub enum Date {
     /// Before its quote.
     Open,
-    /// Behind the quote and so many octets, before the month.
+    /// After the quote and n octets, before the month.
     Day(u8),
-    /// Behind the month and so many octets.
+    /// After the month and n octets.
     Time(u8),
 }
 
@@ -168,11 +168,11 @@ pub enum Date {
 pub enum Names {
     Open,
     First,
-    /// Behind a name.
+    /// After a name.
     More,
     Name,
     Atom,
-    /// Within an atom, behind its first octet.
+    /// Within an atom, after its first octet.
     AtomRest,
 }
 
@@ -183,17 +183,17 @@ pub enum Str {
     NString,
     /// Before an atom, a quoted text or a literal.
     AString,
-    /// Behind the opening quote of a quoted text.
+    /// After the opening quote of a quoted text.
     Quoted,
-    /// Behind a `\` of a quoted text.
+    /// After a `\` of a quoted text.
     Escaped,
-    /// Behind the `~` of a literal.
+    /// After the `~` of a literal.
     Tilde,
-    /// Behind a `~` that begins an atom or a literal.
+    /// After a `~` that begins an atom or a literal.
     AtomTilde,
     /// Within a literal's count, its value so far and how many digits it has.
     Count(u32, u8),
-    /// Behind the count of a literal of so many octets.
+    /// After the count of a literal of n octets.
     Brace(u32),
 }
 
@@ -201,37 +201,37 @@ pub enum Str {
 #[derive(Clone, Copy)]
 pub enum Value {
     Start,
-    /// Behind an opening bracket that stands within so many others.
+    /// After an opening bracket that stands within n others.
     First(u8),
-    /// Before a value in a bracket that stands within so many others.
+    /// Before a value in a bracket that stands within n others.
     Next(u8),
-    /// Behind a value in a bracket that stands within so many others.
+    /// After a value in a bracket that stands within n others.
     More(u8),
 }
 
 /// Within a LIST or a STATUS.
 #[derive(Clone, Copy)]
 pub enum Folder {
-    /// Behind the attributes.
+    /// After the attributes.
     Attributes,
     Delimiter,
-    /// Behind the opening quote of a delimiter.
+    /// After the opening quote of a delimiter.
     DelimiterOctet,
-    /// Behind a `\` of a delimiter.
+    /// After a `\` of a delimiter.
     DelimiterEscaped,
-    /// Behind the delimiter.
+    /// After the delimiter.
     Name,
-    /// Behind the name of a LIST.
+    /// After the name of a LIST.
     ListEnd,
-    /// Behind the name of a STATUS.
+    /// After the name of a STATUS.
     Counts,
     CountsOpen,
     FirstCount,
     /// Before a word and its number.
     Count,
-    /// Within the word of a count, behind its first octet.
+    /// Within the word of a count, after its first octet.
     CountWord,
-    /// Behind a count.
+    /// After a count.
     MoreCounts,
 }
 
@@ -239,7 +239,7 @@ pub enum Folder {
 #[derive(Clone, Copy)]
 pub enum Sym {
     Line(Line),
-    /// Within a word, whose octets so far are the first so many of the key's.
+    /// Within a word, whose octets so far are the first n of the key's.
     Word(Place, Key, u8),
     Free(Free),
     Item(Item),

@@ -23,7 +23,7 @@ fn inner_rule(within: u8, c: u16) -> Move
     }
 }
 
-/// Behind the closing bracket.
+/// After the closing bracket.
 fn closes(within: u8) -> Move
     ensures { result ≡ rules.closes within }
 {
@@ -67,6 +67,7 @@ fn more_rule(within: u8, c: u16) -> Move
     }
 }
 
+/// Values of any form: what an octet does.
 #[inline(never)]
 pub fn value_rule(value: &Value, c: u16) -> Move
     requires { IsTrue (ValueFits value.now) }

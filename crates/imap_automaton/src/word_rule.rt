@@ -303,7 +303,7 @@ fn status_rule(c: u16) -> Move
     spaced_pair_rule(Sym::Str(Str::AString), Sym::Folder(Folder::Counts), c)
 }
 
-/// Behind a word that is a key.
+/// After a word that is a key.
 fn behind_key(place: Place, key: Key, c: u16) -> Move
     ensures { result ≡ rules.behind_key place key c }
 {
@@ -343,7 +343,7 @@ fn name_of(key: Key, at: u8) -> ItemName
     name
 }
 
-/// At a word that is no key, behind octets that are the first so many of the key's.
+/// At a word that is no key, after octets that are the first n of the key's.
 fn stray(place: Place, key: Key, at: u8, c: u16) -> Move
     requires { at ≤ length (keywords.key_text key) }
     ensures { result ≡ rules.stray place key at c }
@@ -377,6 +377,7 @@ fn word_ends(place: Place, key: Key, at: u8, c: u16, whole: Option<Key>) -> Move
     }
 }
 
+/// Words by which a reader decides: what an octet does.
 #[inline(never)]
 pub fn word_rule(place: Place, key: Key, at: u8, c: u16) -> Move
     requires { IsTrue (nat_le at (length (keywords.key_text key))) }

@@ -48,7 +48,8 @@ long_none t h = by (long_in t) refl
     by (Some n) e = absurd (h n (long_sound t n e))
 
 pub no_long : (t : List ℕ) (b : Bool) → b ≡ few_digits t → b ≡ false → None ≡ long_in t
-no_long t b is fails = long_none t (λ n h. both (few_digits t) (and_from _ _ (and_from _ _ (lt-ltb 0 (length t) h.some) (le-leb (length t) 19 h.few)) (digits_true t h.digits)) (sym is ∙ fails))
+no_long t b is fails = long_none t (λ n h. both (few_digits t) (and_from _ _ (and_from _ _ (lt-ltb 0 (length t) h.some) (le-leb (length t) 19 h.few)) (digits_true t h.digits))
+    (sym is ∙ fails))
 
 pub great_long : (t : List ℕ) (n : ℕ) → n ≡ reading.long_in t → 9223372036854775807 < n → None ≡ long_in t
 great_long t n is lt = long_none t (λ m h.
@@ -68,13 +69,15 @@ pub ruleset longs = (no_long, great_long, some_long)
 
 -- ---- sets of UIDs
 
-pub last_range : (ranges : List UidRange) (left : ℕ) (rest : List ℕ) (all : Option (List UidRange)) → 0 < left → cut 44 rest ≡ None → put_ranges ranges (ranges_in left rest) ≡ all → put_ranges ranges (one_in_set (range_in rest)) ≡ all
+pub last_range : (ranges : List UidRange) (left : ℕ) (rest : List ℕ) (all : Option (List UidRange)) → 0 < left → cut 44 rest ≡ None → put_ranges ranges (ranges_in left rest) ≡ all
+    → put_ranges ranges (one_in_set (range_in rest)) ≡ all
 unfolding ranges_in
 last_range ranges zero rest all lt e h = absurd (omega (arith, lt))
 last_range ranges (suc most) rest all lt e h =
     sym (ap (λ (o : Option (List ℕ × List ℕ)). put_ranges ranges (elim o [ None ↦ one_in_set (range_in rest) | Some r ↦ more_in_set (range_in r.0) (ranges_in most r.1) ])) e) ∙ h
 
-pub next_range : (ranges : List UidRange) (left : ℕ) (rest front back : List ℕ) (all : Option (List UidRange)) → 0 < left → cut 44 rest ≡ Some (front, back) → put_ranges ranges (ranges_in left rest) ≡ all → put_ranges ranges (more_in_set (range_in front) (ranges_in (left - 1) back)) ≡ all
+pub next_range : (ranges : List UidRange) (left : ℕ) (rest front back : List ℕ) (all : Option (List UidRange)) → 0 < left → cut 44 rest ≡ Some (front, back)
+    → put_ranges ranges (ranges_in left rest) ≡ all → put_ranges ranges (more_in_set (range_in front) (ranges_in (left - 1) back)) ≡ all
 unfolding ranges_in
 next_range ranges zero rest front back all lt e h = absurd (omega (arith, lt))
 next_range ranges (suc most) rest front back all lt e h =

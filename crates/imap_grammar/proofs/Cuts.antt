@@ -43,7 +43,7 @@ plain_small (c ∷ x) h = let e : plain_of c ≡ c = cond-true (nat_lt c 256) c 
 pub plain_join : (x y : List ℕ) → Each small x → plain (x ++ y) ≡ x ++ plain y
 plain_join x y h = map-append plain_of x y ∙ ap (λ (u : List ℕ). u ++ plain y) (plain_small x h)
 
--- ---- a run of a class, and what stands behind it
+-- ---- a run of a class, and what stands after it
 
 pub span_at : (p : ℕ → Bool) (x y : List ℕ) → Each p x → p (get_or y 0 0) ≡ false → span p (x ++ y) ≡ length x
 unfolding span
@@ -62,7 +62,7 @@ get_front : (x y : List ℕ) → get_or (x ++ y) (length x) 0 ≡ get_or y 0 0
 get_front [] y = refl
 get_front (c ∷ x) y = get_front x y
 
--- octets cut behind a run of a class
+-- octets cut after a run of a class
 pub record CutAt (p : ℕ → Bool) (x y b : List ℕ) : Type 0 where
   pub count : span p b ≡ length x
   pub front : take (span p b) b ≡ x

@@ -5,7 +5,8 @@ use Rattle.std.proofs.lemmas.Bool.{ltb-true, ltb-false, cond-true, cond-false, c
 use Rattle.jiff_core.specs.Calendar.{days_in_month, day_count, days_from_civil, IsCivilDate}
 use Rattle.jiff_core.specs.Date.{epoch_day}
 use Rattle.jiff_core.specs.declared.civil.date.Date.{Date}
-use Rattle.jiff_core.proofs.CalendarLemmas.{day_count-day, day_count-next_month, day_count-next_year, day_count-last_of_year, day_count-later_year, day_count-day_of_year, day_count-end, days_in_month_bounds, days_from_civil-day_count, day_count_bounds}
+use Rattle.jiff_core.proofs.CalendarLemmas.{day_count-day, day_count-next_month, day_count-next_year, day_count-last_of_year, day_count-later_year, day_count-day_of_year}
+use Rattle.jiff_core.proofs.CalendarLemmas.{day_count-end, days_in_month_bounds, days_from_civil-day_count, day_count_bounds}
 use Rattle.jiff_core.proofs.DateLemmas.{epoch_day_injective}
 use Rattle.jiff_core.proofs.MarchLemmas.{day_count-early}
 use Rattle.jiff_core.proofs.SignedLemmas.{signed_arith}
@@ -31,7 +32,8 @@ next_month n y m d h k last e = omega (arith, e, last, day_count-day (pos y) m d
 
 next_year : (n y m d : ℕ) → m ≡ 12 → d ≡ days_in_month (pos y) m → day_count (pos y) m d ≡ n + 3652425 → day_count (pos (y + 1)) 1 1 ≡ suc n + 3652425
 next_year n y m d month last e =
-    let same : day_count (pos y) m d ≡ day_count (pos y) 12 31 = ap (λ k. day_count (pos y) k d) month ∙ ap (λ k. day_count (pos y) 12 k) (last ∙ ap (days_in_month (pos y)) month) in
+    let same : day_count (pos y) m d ≡ day_count (pos y) 12 31 = ap (λ k. day_count (pos y) k d) month
+    ∙ ap (λ k. day_count (pos y) 12 k) (last ∙ ap (days_in_month (pos y)) month) in
     let on = day_count-next_year (pos y) (pos (y + 1)) (omega (arith, signed_arith)) (omega (arith, signed_arith)) in
     omega (arith, e, same, day_count-last_of_year (pos y), on)
 
@@ -127,8 +129,9 @@ same_day date other n e c =
     let k = days_from_civil-day_count other.year other.month other.day in
     omega (arith, signed_arith, e, c, k)
 
--- the date with this day number is the day so many days behind the first
-pub is_day_at : (date : Date) (n : ℕ) → n ≤ 3652424 → epoch_day date ≡ pos n -ℤ pos 719528 → (date.year ≡ pos (day_at n).year) × (date.month ≡ (day_at n).month) × (date.day ≡ (day_at n).day)
+-- the date with this day number is the day n days after the first
+pub is_day_at : (date : Date) (n : ℕ) → n ≤ 3652424 → epoch_day date ≡ pos n -ℤ pos 719528 → (date.year ≡ pos (day_at n).year) × (date.month ≡ (day_at n).month)
+    × (date.day ≡ (day_at n).day)
 unfolding date_of
 is_day_at date n le e =
     let c = counted n in

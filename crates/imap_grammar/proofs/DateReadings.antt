@@ -50,7 +50,15 @@ record Letters (m : ℕ) (t : List ℕ) : Type 0 where
   read : month_named (map lower (a ∷ b ∷ c ∷ [])) ≡ m
 
 letters_by : (m : ℕ) (t w : List ℕ) → Named m w → map lower t ≡ w → Letters m t
-letters_by m (a ∷ b ∷ c ∷ []) w n e = record { a = a; b = b; c = c; whole = refl; low = smalls_lower (a ∷ b ∷ c ∷ []) (subst (Each small) (sym e) n.low); read = ap month_named e ∙ n.read }
+letters_by m (a ∷ b ∷ c ∷ []) w n e = record {
+  a = a;
+  b = b;
+  c = c;
+  whole = refl;
+  low = smalls_lower (a ∷ b ∷ c ∷ []) (subst (Each small) (sym e) n.low);
+  read = ap month_named e
+      ∙ n.read;
+}
 letters_by m _ w n e = absurd (let l = ap length e in let k = n.three in omega (arith, l, k))
 
 letters : (m : ℕ) (t : List ℕ) → IsMonth m t → Letters m t
@@ -90,13 +98,15 @@ digits_are a b h = two_is a b (digit_starts a h.0) h.1.0
 
 abbrev text_of : {s : ℤ} {t : List ℕ} → DateOctets s t → ℕ → ℕ → ℕ → List ℕ → List ℕ
 text_of o a b c back =
-    34 ∷ o.d1 ∷ o.d2 ∷ 45 ∷ a ∷ b ∷ c ∷ 45 ∷ o.y1 ∷ o.y2 ∷ o.y3 ∷ o.y4 ∷ 32 ∷ o.h1 ∷ o.h2 ∷ 58 ∷ o.m1 ∷ o.m2 ∷ 58 ∷ o.s1 ∷ o.s2 ∷ 32 ∷ o.sign ∷ o.z1 ∷ o.z2 ∷ o.z3 ∷ o.z4 ∷ 34 ∷ back
+    34 ∷ o.d1 ∷ o.d2 ∷ 45 ∷ a ∷ b ∷ c ∷ 45 ∷ o.y1 ∷ o.y2 ∷ o.y3 ∷ o.y4 ∷ 32 ∷ o.h1 ∷ o.h2 ∷ 58 ∷ o.m1 ∷ o.m2 ∷ 58 ∷ o.s1 ∷ o.s2 ∷ 32 ∷ o.sign ∷ o.z1 ∷ o.z2 ∷ o.z3 ∷ o.z4 ∷ 34 ∷
+    back
 
 octets_read : (s : ℤ) (t back : List ℕ) (o : DateOctets s t) (a b c : ℕ) → month_named (map lower (a ∷ b ∷ c ∷ [])) ≡ o.month → date_in (text_of o a b c back) ≡ s
 unfolding date_in
 octets_read s t back o a b c e =
     let y = o.year_digits in
-    let year : 100 * (10 * digit o.y1 + digit o.y2) + (10 * digit o.y3 + digit o.y4) ≡ four o.y1 o.y2 o.y3 o.y4 = (let p = digits_are o.y1 o.y2 (y.0, (y.1.0, tt)) in let q = digits_are o.y3 o.y4 y.1.1 in omega (arith, p, q)) in
+    let year : 100 * (10 * digit o.y1 + digit o.y2) + (10 * digit o.y3 + digit o.y4) ≡ four o.y1 o.y2 o.y3 o.y4 =
+    (let p = digits_are o.y1 o.y2 (y.0, (y.1.0, tt)) in let q = digits_are o.y3 o.y4 y.1.1 in omega (arith, p, q)) in
     let hh = digits_are o.h1 o.h2 o.hour_digits in
     let mm = digits_are o.m1 o.m2 o.minute_digits in
     let ss = digits_are o.s1 o.s2 o.second_digits in
@@ -110,7 +120,8 @@ octets_read s t back o a b c e =
     let d2 : ℕ = 10 * digit o.d1 + digit o.d2 in
     let y4 : ℕ = 100 * (10 * digit o.y1 + digit o.y2) + (10 * digit o.y3 + digit o.y4) in
     ap (λ (m : ℕ). seconds_of y4 m d2 (3600 * h2 + 60 * m2 + s2) (o.sign == 43) (3600 * z2 + 60 * z4)) e
-    ∙ seconds_same y4 o.month d2 (3600 * h2 + 60 * m2 + s2) (3600 * z2 + 60 * z4) (four o.y1 o.y2 o.y3 o.y4) (two o.d1 o.d2) (time_of (two o.h1 o.h2) (two o.m1 o.m2) (two o.s1 o.s2)) (zone_of (two o.z1 o.z2) (two o.z3 o.z4)) (o.sign == 43) (o.sign == 43) year (two_is o.d1 o.d2 o.starts o.digit)
+    ∙ seconds_same y4 o.month d2 (3600 * h2 + 60 * m2 + s2) (3600 * z2 + 60 * z4) (four o.y1 o.y2 o.y3 o.y4) (two o.d1 o.d2)
+    (time_of (two o.h1 o.h2) (two o.m1 o.m2) (two o.s1 o.s2)) (zone_of (two o.z1 o.z2) (two o.z3 o.z4)) (o.sign == 43) (o.sign == 43) year (two_is o.d1 o.d2 o.starts o.digit)
     (omega (arith, hh, mm, ss)) refl (omega (arith, zh, zm))
     ∙ sym o.value
 
@@ -121,8 +132,61 @@ octets_small s t o a b c h =
     let mm = each_to is_digit small (o.m1 ∷ o.m2 ∷ []) digit_small o.minute_digits in
     let ss = each_to is_digit small (o.s1 ∷ o.s2 ∷ []) digit_small o.second_digits in
     let zh = each_to is_digit small (o.z1 ∷ o.z2 ∷ []) digit_small o.zone_digits in
-    let zm = each_to is_digit small (o.z3 ∷ o.z4 ∷ []) digit_small o.zone_more in
-    (refl, (day_small o.d1 o.starts, (digit_small o.d2 o.digit, (refl, (h.0, (h.1.0, (h.1.1.0, (refl, (y.0, (y.1.0, (y.1.1.0, (y.1.1.1.0, (refl, (hh.0, (hh.1.0, (refl, (mm.0, (mm.1.0, (refl, (ss.0, (ss.1.0, (refl, (sign_small o.sign o.is_signed, (zh.0, (zh.1.0, (zm.0, (zm.1.0, (refl, tt))))))))))))))))))))))))))))
+    let zm = each_to is_digit small (o.z3 ∷ o.z4 ∷ []) digit_small o.zone_more in (
+      refl,
+      (
+        day_small o.d1 o.starts,
+        (
+          digit_small o.d2 o.digit,
+          (
+            refl,
+            (
+              h.0,
+              (
+                h.1.0,
+                (
+                  h.1.1.0,
+                  (
+                    refl,
+                    (
+                      y.0,
+                      (
+                        y.1.0,
+                        (
+                          y.1.1.0,
+                          (
+                            y.1.1.1.0,
+                            (
+                              refl,
+                              (
+                                hh.0,
+                                (
+                                  hh.1.0,
+                                  (
+                                    refl,
+                                    (
+                                      mm.0,
+                                      (
+                                        mm.1.0,
+                                        (refl, (ss.0, (ss.1.0, (refl, (sign_small o.sign o.is_signed, (zh.0, (zh.1.0, (zm.0, (zm.1.0, (refl, tt)))))))))),
+                                      ),
+                                    ),
+                                  ),
+                                ),
+                              ),
+                            ),
+                          ),
+                        ),
+                      ),
+                    ),
+                  ),
+                ),
+              ),
+            ),
+          ),
+        ),
+      ),
+    )
 
 pub date_read : (s : ℤ) (t back b : List ℕ) → IsDateTime s t → b ≡ plain t ++ back → (date_in b ≡ s) × (drop 28 b ≡ back)
 date_read s t back b h e =

@@ -1,5 +1,6 @@
 -- A LIST and a STATUS are read back as their values.
-use Rattle.std.proofs.Common.{◌≡◌, ℕ, zero, suc, ◌+◌, ◌-◌, ◌<◌, Bool, true, false, ◌||◌, List, [], ◌∷◌, ◌++◌, length, map, take, drop, get_or, cond, Option, Some, None, refl, sym, ap, subst, ◌∙◌, append_assoc, arith, inl, inr}
+use Rattle.std.proofs.Common.{◌≡◌, ℕ, zero, suc, ◌+◌, ◌-◌, ◌<◌, Bool, true, false, ◌||◌, List, [], ◌∷◌, ◌++◌, length, map, take, drop, get_or, cond, Option, Some, None, refl, sym}
+use Rattle.std.proofs.Common.{ap, subst, ◌∙◌, append_assoc, arith, inl, inr}
 use Rattle.std.specs.Prelude.{◌==◌, codes}
 use Rattle.std.proofs.lemmas.Bool.{cond-true, cond-false}
 use Rattle.std.proofs.lemmas.List.{length-append, map-append}
@@ -43,7 +44,8 @@ nil_read : (x y : List ℕ) → map lower x ≡ codes "nil" → delimiter_in (pl
 unfolding delimiter_in
 nil_read (a ∷ b ∷ c ∷ []) y h =
     let r : List ℕ = plain_of a ∷ plain_of b ∷ plain_of c ∷ y in
-    cond-false (plain_of a == 34) (cond (plain_of b == 92) (Some (plain_of c), drop 4 r) (Some (plain_of b), y)) (None, y) (no_quote a (cons_head (lower a) 110 (map lower (b ∷ c ∷ [])) (codes "il") h))
+    cond-false (plain_of a == 34) (cond (plain_of b == 92) (Some (plain_of c), drop 4 r) (Some (plain_of b), y)) (None, y)
+    (no_quote a (cons_head (lower a) 110 (map lower (b ∷ c ∷ [])) (codes "il") h))
 nil_read [] y h = absurd cc
 nil_read (a ∷ []) y h = absurd cc
 nil_read (a ∷ b ∷ []) y h = absurd cc
@@ -57,21 +59,24 @@ list_ends : (rest : List ℕ) → IsListEnd rest → Ends (plain rest)
 list_ends rest (inl e) = subst (λ (u : List ℕ). Ends (plain u)) (sym e) (refl, refl)
 list_ends rest (inr v) = subst (λ (u : List ℕ). Ends (plain u)) (sym v.1) (refl, refl)
 
-pub list_line_read : (attributes : List (List ℕ)) (delimiter : Option ℕ) (name t : List ℕ) → IsListLine attributes delimiter name t → list_in (plain t) ≡ response.List attributes delimiter name
+pub list_line_read : (attributes : List (List ℕ)) (delimiter : Option ℕ) (name t : List ℕ) → IsListLine attributes delimiter name t
+    → list_in (plain t) ≡ response.List attributes delimiter name
 unfolding list_in
 list_line_read attributes delimiter name t h =
     let b = plain t in
     let ns = h.told in
     let third : List ℕ = 32 ∷ (plain h.third ++ plain h.rest) in
     let second : List ℕ = 32 ∷ (plain h.second ++ third) in
-    let names : plain h.first ≡ 40 ∷ joined ns ++ 41 ∷ [] = ap plain h.names.1 ∙ plain_small (40 ∷ joined ns ++ 41 ∷ []) (refl, each_append small (joined ns) (41 ∷ []) (joined_small ns h.names.0) (refl, tt)) in
+    let names : plain h.first ≡ 40 ∷ joined ns ++ 41 ∷ [] = ap plain h.names.1
+    ∙ plain_small (40 ∷ joined ns ++ 41 ∷ []) (refl, each_append small (joined ns) (41 ∷ []) (joined_small ns h.names.0) (refl, tt)) in
     let all : b ≡ 32 ∷ (plain h.first ++ second) = ap plain h.whole
     ∙ ap (λ (u : List ℕ). 32 ∷ u) (map-append plain_of h.first (32 ∷ h.second ++ (32 ∷ h.third ++ h.rest)))
     ∙ ap (λ (u : List ℕ). 32 ∷ (plain h.first ++ (32 ∷ u))) (map-append plain_of h.second (32 ∷ h.third ++ h.rest))
     ∙ ap (λ (u : List ℕ). 32 ∷ (plain h.first ++ (32 ∷ (plain h.second ++ (32 ∷ u))))) (map-append plain_of h.third h.rest) in
     let inner : drop 2 b ≡ joined ns ++ 41 ∷ second = ap (drop 2) (all ∙ ap (λ (u : List ℕ). 32 ∷ (u ++ second)) names) ∙ append_assoc (joined ns) (41 ∷ []) second in
     let f : flags_in (drop 2 b) ≡ (kept ns, second) = flags_read ns second (drop 2 b) h.names.0 inner in
-    let a : astring_in (plain h.third ++ plain h.rest) ≡ (h.string, plain h.rest) = astring_read h.string h.third (plain h.rest) (plain h.third ++ plain h.rest) h.spelled (list_ends h.rest h.ends) refl in
+    let a : astring_in (plain h.third ++ plain h.rest) ≡ (h.string, plain h.rest) =
+    astring_read h.string h.third (plain h.rest) (plain h.third ++ plain h.rest) h.spelled (list_ends h.rest h.ends) refl in
     ap (λ (r : List (List ℕ) × List ℕ). response.List r.0 (delimiter_in (drop 1 r.1)).0 (folder_name (astring_in (drop 1 (delimiter_in (drop 1 r.1)).1)).0)) f
     ∙ ap (λ (r : Option ℕ × List ℕ). response.List (kept ns) r.0 (folder_name (astring_in (drop 1 r.1)).0)) (delimiter_read delimiter h.second third h.delimited)
     ∙ ap (λ (r : List ℕ × List ℕ). response.List (kept ns) delimiter (folder_name r.0)) a
@@ -82,12 +87,15 @@ list_line_read attributes delimiter name t h =
 status_word_small : (c : ℕ) → is_status_word c ≡ true → small c ≡ true
 status_word_small c e = grind arith
 
-count_read : (k : List ℕ × ℕ) (so_far : StatusItems) (t back b : List ℕ) → IsCount k t → is_digit (get_or back 0 0) ≡ false → b ≡ plain t ++ back → count_in so_far b ≡ (told_as so_far (map lower k.0) k.1, back)
+count_read : (k : List ℕ × ℕ) (so_far : StatusItems) (t back b : List ℕ) → IsCount k t → is_digit (get_or back 0 0) ≡ false → b ≡ plain t ++ back
+    → count_in so_far b ≡ (told_as so_far (map lower k.0) k.1, back)
 unfolding count_in
 count_read k so_far t back b h out e =
     let word = k.0 in
     let rest : List ℕ = h.digits ++ back in
-    let is : plain t ≡ word ++ 32 ∷ h.digits = ap plain h.whole ∙ plain_small (word ++ 32 ∷ h.digits) (each_append small word (32 ∷ h.digits) (each_to is_status_word small word status_word_small h.word) (refl, each_to is_digit small h.digits digit_small h.number.digits)) in
+    let is : plain t ≡ word ++ 32 ∷ h.digits = ap plain h.whole
+    ∙ plain_small (word ++ 32 ∷ h.digits) (each_append small word (32 ∷ h.digits) (each_to is_status_word small word status_word_small h.word)
+    (refl, each_to is_digit small h.digits digit_small h.number.digits)) in
     let c = cut_at is_status_word word (32 ∷ rest) b (e ∙ ap (λ (u : List ℕ). u ++ back) is ∙ append_assoc word (32 ∷ h.digits) back) h.word refl in
     let d = drop (span is_status_word b + 1) b in
     let l = cut_at is_digit h.digits back d (c.past 32 rest refl) h.number.digits out in
@@ -96,7 +104,8 @@ count_read k so_far t back b h out e =
     ∙ ap (λ (u : List ℕ). (told_as so_far (map lower word) (long_in h.digits), u)) l.back
     ∙ ap (λ (n : ℕ). (told_as so_far (map lower word) n, back)) (long_read k.1 h.digits h.number)
 
-pub counts_next : (left : ℕ) (so_far : StatusItems) (b : List ℕ) → 0 < left → (get_or (count_in so_far b).1 0 0 == 32) ≡ true → counts_in left so_far b ≡ counts_in (left - 1) (count_in so_far b).0 (drop 1 (count_in so_far b).1)
+pub counts_next : (left : ℕ) (so_far : StatusItems) (b : List ℕ) → 0 < left → (get_or (count_in so_far b).1 0 0 == 32) ≡ true
+    → counts_in left so_far b ≡ counts_in (left - 1) (count_in so_far b).0 (drop 1 (count_in so_far b).1)
 unfolding counts_in
 counts_next zero so_far b lt e = absurd (omega (arith, lt))
 counts_next (suc left) so_far b lt e =
@@ -120,7 +129,8 @@ more_long (k ∷ cs) y h =
     let m = length-append h.0 h.1 in
     omega (arith, ih, l, m)
 
-counts_read : (cs : List (List ℕ × ℕ)) (most : ℕ) (so_far : StatusItems) (k : List ℕ × ℕ) (x y b : List ℕ) → IsCount k x → IsMoreCounts cs y → length cs < most → b ≡ plain x ++ plain y → counts_in most so_far b ≡ told_counts so_far (k ∷ cs)
+counts_read : (cs : List (List ℕ × ℕ)) (most : ℕ) (so_far : StatusItems) (k : List ℕ × ℕ) (x y b : List ℕ) → IsCount k x → IsMoreCounts cs y → length cs < most
+    → b ≡ plain x ++ plain y → counts_in most so_far b ≡ told_counts so_far (k ∷ cs)
 unfolding counts_in
 counts_read cs zero so_far k x y b h m lt e = absurd (omega (arith, lt))
 counts_read [] (suc most) so_far k x y b h m lt e =
@@ -153,7 +163,8 @@ all_counts_read (k ∷ cs) t h =
     let n = ap length h.whole in
     let m = length-append h.front h.back in
     let p = plain_length t in
-    cond-false (get_or (plain t) 0 0 == 41) no_counts (counts_in (length (plain t)) no_counts (plain t)) (ap (λ (u : List ℕ). get_or (plain u) 0 0 == 41) h.whole ∙ first_word k h.front h.back h.first)
+    cond-false (get_or (plain t) 0 0 == 41) no_counts (counts_in (length (plain t)) no_counts (plain t))
+    (ap (λ (u : List ℕ). get_or (plain u) 0 0 == 41) h.whole ∙ first_word k h.front h.back h.first)
     ∙ counts_read cs (length (plain t)) no_counts k h.front h.back (plain t) h.first h.second (omega (arith, l, n, m, p)) (ap plain h.whole ∙ map-append plain_of h.front h.back)
 
 pub status_line_read : (name : List ℕ) (items : StatusItems) (t : List ℕ) → IsStatusLine name items t → status_in (plain t) ≡ response.StatusItems name items

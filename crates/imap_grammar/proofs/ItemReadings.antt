@@ -1,5 +1,6 @@
 -- The items of a FETCH are read back as what they tell.
-use Rattle.std.proofs.Common.{◌≡◌, ◌⊎◌, ℕ, zero, suc, ◌+◌, ◌-◌, ◌<◌, ◌≤◌, Bool, true, false, ◌||◌, List, [], ◌∷◌, ◌++◌, length, map, take, drop, get_or, cond, refl, sym, ap, ◌∙◌, append_assoc, arith, inl, inr, Some, ℤ}
+use Rattle.std.proofs.Common.{◌≡◌, ◌⊎◌, ℕ, zero, suc, ◌+◌, ◌-◌, ◌<◌, ◌≤◌, Bool, true, false, ◌||◌, List, [], ◌∷◌, ◌++◌, length, map, take, drop, get_or, cond, refl, sym, ap, ◌∙◌}
+use Rattle.std.proofs.Common.{append_assoc, arith, inl, inr, Some, ℤ}
 use Rattle.std.specs.Prelude.{◌==◌, nat_lt, codes, bytes_eq}
 use Rattle.std.proofs.lemmas.Bool.{cond-true, cond-false, or_cases, false_from_ne_true}
 use Rattle.std.proofs.lemmas.List.{length-append, map-append}
@@ -67,12 +68,14 @@ unfolding is_told is_header is_body
 body_told = (refl, refl)
 
 -- an item whose name is a key
-known_read : (i : Item) (so_far : FetchItems) (k : Key) (name value t back b : List ℕ) → map lower name ≡ key_text k → is_told (key_text k) ≡ true → value_in so_far (key_text k) (plain value ++ back) ≡ (told so_far i, back) → t ≡ name ++ 32 ∷ value → b ≡ plain t ++ back → item_in so_far b ≡ (told so_far i, back)
+known_read : (i : Item) (so_far : FetchItems) (k : Key) (name value t back b : List ℕ) → map lower name ≡ key_text k → is_told (key_text k) ≡ true
+    → value_in so_far (key_text k) (plain value ++ back) ≡ (told so_far i, back) → t ≡ name ++ 32 ∷ value → b ≡ plain t ++ back → item_in so_far b ≡ (told so_far i, back)
 unfolding item_in
 known_read i so_far k name value t back b is told_key read whole e =
     let atoms = named_atoms k name is in
     let s = each_to is_atom small name atom_small atoms in
-    let cut : b ≡ name ++ (32 ∷ (plain value ++ back)) = e ∙ ap (λ (u : List ℕ). u ++ back) (ap plain whole ∙ plain_join name (32 ∷ value) s) ∙ append_assoc name (32 ∷ plain value) back in
+    let cut : b ≡ name ++ (32 ∷ (plain value ++ back)) = e ∙ ap (λ (u : List ℕ). u ++ back) (ap plain whole ∙ plain_join name (32 ∷ value) s)
+    ∙ append_assoc name (32 ∷ plain value) back in
     let c = cut_at is_atom name (32 ∷ (plain value ++ back)) b cut atoms refl in
     let n = span is_atom b in
     let word : map lower (take n b) ≡ key_text k = ap (map lower) c.front ∙ is in
@@ -84,7 +87,8 @@ known_read i so_far k name value t back b is told_key read whole e =
 no_digit : (back : List ℕ) → stops (get_or back 0 0) ≡ true → is_digit (get_or back 0 0) ≡ false
 no_digit back e = stop_no_digit (get_or back 0 0) e
 
-uid_read : (n : ℕ) (so_far : FetchItems) (value back : List ℕ) → IsNonZero n value → stops (get_or back 0 0) ≡ true → value_in so_far (codes "uid") (plain value ++ back) ≡ (told so_far (Uid n), back)
+uid_read : (n : ℕ) (so_far : FetchItems) (value back : List ℕ) → IsNonZero n value → stops (get_or back 0 0) ≡ true
+    → value_in so_far (codes "uid") (plain value ++ back) ≡ (told so_far (Uid n), back)
 unfolding value_in
 uid_read n so_far value back h out =
     let b = plain value ++ back in
@@ -93,7 +97,8 @@ uid_read n so_far value back h out =
     let num : number_in (take (span is_digit b) b) ≡ n = ap number_in k.front ∙ number_is value (omega (arith, h.0.value, h.0.most)) ∙ sym h.0.value in
     ap (λ (m : ℕ). (told so_far (Uid m), drop (span is_digit b) b)) num ∙ ap (λ (u : List ℕ). (told so_far (Uid n), u)) k.back
 
-size_read : (n : ℕ) (so_far : FetchItems) (value back : List ℕ) → IsLong n value → stops (get_or back 0 0) ≡ true → value_in so_far (codes "rfc822.size") (plain value ++ back) ≡ (told so_far (Size n), back)
+size_read : (n : ℕ) (so_far : FetchItems) (value back : List ℕ) → IsLong n value → stops (get_or back 0 0) ≡ true
+    → value_in so_far (codes "rfc822.size") (plain value ++ back) ≡ (told so_far (Size n), back)
 unfolding value_in
 size_read n so_far value back h out =
     let b = plain value ++ back in
@@ -101,26 +106,32 @@ size_read n so_far value back h out =
     let k = cut_at is_digit value back b (ap (λ (u : List ℕ). u ++ back) v) h.digits (no_digit back out) in
     ap (λ (m : ℕ). (told so_far (Size m), drop (span is_digit b) b)) (ap long_in k.front ∙ long_read n value h) ∙ ap (λ (u : List ℕ). (told so_far (Size n), u)) k.back
 
-modseq_read : (n : ℕ) (so_far : FetchItems) (value back digits : List ℕ) → value ≡ 40 ∷ digits ++ 41 ∷ [] → IsLong n digits → value_in so_far (codes "modseq") (plain value ++ back) ≡ (told so_far (ModSeq n), back)
+modseq_read : (n : ℕ) (so_far : FetchItems) (value back digits : List ℕ) → value ≡ 40 ∷ digits ++ 41 ∷ [] → IsLong n digits
+    → value_in so_far (codes "modseq") (plain value ++ back) ≡ (told so_far (ModSeq n), back)
 unfolding value_in
 modseq_read n so_far value back digits e is =
     let d = drop 1 (plain value ++ back) in
-    let inner : plain value ≡ 40 ∷ digits ++ 41 ∷ [] = ap plain e ∙ plain_small (40 ∷ digits ++ 41 ∷ []) (refl, each_append small digits (41 ∷ []) (each_to is_digit small digits digit_small is.digits) (refl, tt)) in
+    let inner : plain value ≡ 40 ∷ digits ++ 41 ∷ [] = ap plain e
+    ∙ plain_small (40 ∷ digits ++ 41 ∷ []) (refl, each_append small digits (41 ∷ []) (each_to is_digit small digits digit_small is.digits) (refl, tt)) in
     let f : d ≡ digits ++ 41 ∷ back = ap (λ (u : List ℕ). drop 1 (u ++ back)) inner ∙ append_assoc digits (41 ∷ []) back in
     let k = cut_at is_digit digits (41 ∷ back) d f is.digits refl in
-    ap (λ (m : ℕ). (told so_far (ModSeq m), drop (span is_digit d + 1) d)) (ap long_in k.front ∙ long_read n digits is) ∙ ap (λ (u : List ℕ). (told so_far (ModSeq n), u)) (k.past 41 back refl)
+    ap (λ (m : ℕ). (told so_far (ModSeq m), drop (span is_digit d + 1) d)) (ap long_in k.front ∙ long_read n digits is)
+    ∙ ap (λ (u : List ℕ). (told so_far (ModSeq n), u)) (k.past 41 back refl)
 
-told_date : (seconds : ℤ) (so_far : FetchItems) (value back : List ℕ) → IsDateTime seconds value → value_in so_far (codes "internaldate") (plain value ++ back) ≡ (told so_far (Date seconds), back)
+told_date : (seconds : ℤ) (so_far : FetchItems) (value back : List ℕ) → IsDateTime seconds value
+    → value_in so_far (codes "internaldate") (plain value ++ back) ≡ (told so_far (Date seconds), back)
 unfolding value_in
 told_date seconds so_far value back h =
     let b = plain value ++ back in
     let r = date_read seconds value back b h refl in
     ap (λ (z : ℤ). (told so_far (Date z), drop 28 b)) r.0 ∙ ap (λ (u : List ℕ). (told so_far (Date seconds), u)) r.1
 
-told_flags : (ns : List (List ℕ)) (so_far : FetchItems) (value back : List ℕ) → IsNames ns value → value_in so_far (codes "flags") (plain value ++ back) ≡ (told so_far (Flags ns), back)
+told_flags : (ns : List (List ℕ)) (so_far : FetchItems) (value back : List ℕ) → IsNames ns value
+    → value_in so_far (codes "flags") (plain value ++ back) ≡ (told so_far (Flags ns), back)
 unfolding value_in text_in is_header is_body
 told_flags ns so_far value back h =
-    let inner : plain value ≡ 40 ∷ joined ns ++ 41 ∷ [] = ap plain h.1 ∙ plain_small (40 ∷ joined ns ++ 41 ∷ []) (refl, each_append small (joined ns) (41 ∷ []) (joined_small ns h.0) (refl, tt)) in
+    let inner : plain value ≡ 40 ∷ joined ns ++ 41 ∷ [] = ap plain h.1
+    ∙ plain_small (40 ∷ joined ns ++ 41 ∷ []) (refl, each_append small (joined ns) (41 ∷ []) (joined_small ns h.0) (refl, tt)) in
     let f : drop 1 (plain value ++ back) ≡ joined ns ++ 41 ∷ back = ap (λ (u : List ℕ). drop 1 (u ++ back)) inner ∙ append_assoc (joined ns) (41 ∷ []) back in
     ap (λ (r : List (List ℕ) × List ℕ). (record so_far { flags = Some r.0 }, r.1)) (flags_read ns back (drop 1 (plain value ++ back)) h.0 f)
 
@@ -145,7 +156,8 @@ nil_read (a ∷ b ∷ c ∷ []) y e =
     let first : lower a ≡ 110 = cons_head (lower a) 110 (lower b ∷ lower c ∷ []) (105 ∷ 108 ∷ []) e in
     let second : lower b ≡ 105 = cons_head (lower b) 105 (lower c ∷ []) (108 ∷ []) f in
     let third : lower c ≡ 108 = cons_head (lower c) 108 [] [] g in
-    let is : plain (a ∷ b ∷ c ∷ []) ≡ a ∷ b ∷ c ∷ [] = plain_small (a ∷ b ∷ c ∷ []) (nil_letter a 110 first refl, (nil_letter b 105 second refl, (nil_letter c 108 third refl, tt))) in
+    let is : plain (a ∷ b ∷ c ∷ []) ≡ a ∷ b ∷ c ∷ [] = plain_small (a ∷ b ∷ c ∷ [])
+    (nil_letter a 110 first refl, (nil_letter b 105 second refl, (nil_letter c 108 third refl, tt))) in
     ap (λ (u : List ℕ). nstring_in (u ++ y)) is
     ∙ cond-true (lower a == 110) ([], y) (astring_in (a ∷ b ∷ c ∷ y)) (ap (λ (n : ℕ). n == 110) first)
 nil_read _ y e = absurd (let l = ap length e in omega (arith, l))
@@ -158,12 +170,16 @@ string_read s x y (inr q) out =
     cond-false (lower (get_or b 0 0) == 110) ([], drop 3 b) (astring_in b) (string_first s x y q) ∙ astring_read s x y b (inr q) (stop_ends (get_or y 0 0) out) refl
 
 -- a header, under either name
-header_read : (s : List ℕ) (so_far : FetchItems) (value back : List ℕ) → IsNString s value → stops (get_or back 0 0) ≡ true → (value_in so_far (codes "body[header]") (plain value ++ back) ≡ (told so_far (Header s), back)) × (value_in so_far (codes "body[header]<0>") (plain value ++ back) ≡ (told so_far (Header s), back))
+header_read : (s : List ℕ) (so_far : FetchItems) (value back : List ℕ) → IsNString s value → stops (get_or back 0 0) ≡ true
+    → (value_in so_far (codes "body[header]") (plain value ++ back) ≡ (told so_far (Header s), back))
+    × (value_in so_far (codes "body[header]<0>") (plain value ++ back) ≡ (told so_far (Header s), back))
 unfolding value_in text_in is_header is_body
 header_read s so_far value back h out =
     let r = ap (λ (q : List ℕ × List ℕ). (record so_far { header = Some (take header_limit q.0) }, q.1)) (string_read s value back h out) in (r, r)
 
-body_read : (s : List ℕ) (so_far : FetchItems) (value back : List ℕ) → IsNString s value → stops (get_or back 0 0) ≡ true → (value_in so_far (codes "body[]") (plain value ++ back) ≡ (told so_far (Body s), back)) × (value_in so_far (codes "body[]<0>") (plain value ++ back) ≡ (told so_far (Body s), back))
+body_read : (s : List ℕ) (so_far : FetchItems) (value back : List ℕ) → IsNString s value → stops (get_or back 0 0) ≡ true
+    → (value_in so_far (codes "body[]") (plain value ++ back) ≡ (told so_far (Body s), back))
+    × (value_in so_far (codes "body[]<0>") (plain value ++ back) ≡ (told so_far (Body s), back))
 unfolding value_in text_in is_header is_body
 body_read s so_far value back h out =
     let r = ap (λ (q : List ℕ × List ℕ). (record so_far { body = Some (take body_limit q.0) }, q.1)) (string_read s value back h out) in (r, r)
@@ -208,7 +224,8 @@ other_read so_far t back b h out e =
     let cut : b ≡ o.word ++ (plain o.tail ++ back) = e ∙ ap (λ (u : List ℕ). u ++ back) (ap plain o.whole ∙ plain_join o.word o.tail s) ∙ append_assoc o.word (plain o.tail) back in
     let c = cut_at is_atom o.word (plain o.tail ++ back) b cut o.each (tail_head o.tail back o.small o.goes_on o.longest) in
     let n = span is_atom b in
-    let no : is_told (map lower (take n b)) ≡ false = false_from_ne_true (is_told (map lower (take n b))) (λ q. told_key (map lower (take n b)) q (λ k m w. o.no_key k m (sym (ap (map lower) c.front) ∙ w))) in
+    let no : is_told (map lower (take n b)) ≡ false = false_from_ne_true (is_told (map lower (take n b)))
+    (λ q. told_key (map lower (take n b)) q (λ k m w. o.no_key k m (sym (ap (map lower) c.front) ∙ w))) in
     let count : passed b (item_start ∷ []) ≡ length (plain t) = item_passed t back b (item_to Other t h) out e ∙ sym (plain_length t) in
     cond-false (is_told (map lower (take n b))) (value_in so_far (map lower (take n b)) (drop (n + 1) b)) (so_far, drop (passed b (item_start ∷ [])) b) no
     ∙ ap (λ (m : ℕ). (so_far, drop m b)) count ∙ ap (λ (u : List ℕ). (so_far, drop (length (plain t)) u)) e ∙ ap (λ (u : List ℕ). (so_far, u)) (drop-append_seam (plain t) back)
@@ -217,9 +234,12 @@ other_read so_far t back b h out e =
 
 item_read : (i : Item) (so_far : FetchItems) (t back b : List ℕ) → IsItem i t → stops (get_or back 0 0) ≡ true → b ≡ plain t ++ back → item_in so_far b ≡ (told so_far i, back)
 item_read (Uid n) so_far t back b h out e = known_read (Uid n) so_far key.Uid h.name h.value t back b h.item.0 uid_told (uid_read n so_far h.value back h.item.1 out) h.whole e
-item_read (Flags ns) so_far t back b h out e = known_read (Flags ns) so_far key.Flags h.name h.value t back b h.item.0 flags_told (told_flags ns so_far h.value back h.item.1) h.whole e
-item_read (ModSeq n) so_far t back b h out e = known_read (ModSeq n) so_far key.ModSeq h.name h.value t back b h.item.0 modseq_told (modseq_read n so_far h.value back h.item.1.0 h.item.1.1 h.item.1.2) h.whole e
-item_read (Date s) so_far t back b h out e = known_read (Date s) so_far key.InternalDate h.name h.value t back b h.item.0 date_told (told_date s so_far h.value back h.item.1) h.whole e
+item_read (Flags ns) so_far t back b h out e = known_read (Flags ns) so_far key.Flags h.name h.value t back b h.item.0 flags_told
+    (told_flags ns so_far h.value back h.item.1) h.whole e
+item_read (ModSeq n) so_far t back b h out e = known_read (ModSeq n) so_far key.ModSeq h.name h.value t back b h.item.0 modseq_told
+    (modseq_read n so_far h.value back h.item.1.0 h.item.1.1 h.item.1.2) h.whole e
+item_read (Date s) so_far t back b h out e = known_read (Date s) so_far key.InternalDate h.name h.value t back b h.item.0 date_told
+    (told_date s so_far h.value back h.item.1) h.whole e
 item_read (Size n) so_far t back b h out e = known_read (Size n) so_far key.Size h.name h.value t back b h.item.0 size_told (size_read n so_far h.value back h.item.1 out) h.whole e
 item_read (Header s) so_far t back b h out e =
     let r = header_read s so_far h.value back h.item.1 out in
@@ -237,7 +257,8 @@ item_read Other so_far t back b h out e = other_read so_far t back b h out e
 
 -- ---- one item more
 
-pub items_next : (left : ℕ) (so_far : FetchItems) (b : List ℕ) → 0 < left → (get_or (item_in so_far b).1 0 0 == 32) ≡ true → items_in left so_far b ≡ items_in (left - 1) (item_in so_far b).0 (drop 1 (item_in so_far b).1)
+pub items_next : (left : ℕ) (so_far : FetchItems) (b : List ℕ) → 0 < left → (get_or (item_in so_far b).1 0 0 == 32) ≡ true
+    → items_in left so_far b ≡ items_in (left - 1) (item_in so_far b).0 (drop 1 (item_in so_far b).1)
 unfolding items_in
 items_next zero so_far b lt e = absurd (omega (arith, lt))
 items_next (suc left) so_far b lt e =
@@ -261,8 +282,9 @@ more_long (i ∷ is) y h =
     let m = length-append h.0 h.1 in
     omega (arith, ih, l, m)
 
--- a space before each item, at most so many
-pub items_read : (is : List Item) (most : ℕ) (so_far : FetchItems) (i : Item) (x y b : List ℕ) → IsItem i x → IsMore is y → length is < most → b ≡ plain x ++ plain y → items_in most so_far b ≡ told_from so_far (i ∷ is)
+-- a space before each item, at most n
+pub items_read : (is : List Item) (most : ℕ) (so_far : FetchItems) (i : Item) (x y b : List ℕ) → IsItem i x → IsMore is y → length is < most → b ≡ plain x ++ plain y
+    → items_in most so_far b ≡ told_from so_far (i ∷ is)
 unfolding items_in
 items_read is zero so_far i x y b h m lt e = absurd (omega (arith, lt))
 items_read [] (suc most) so_far i x y b h m lt e =

@@ -1,5 +1,6 @@
 -- Names and numbers are read back as what they tell.
-use Rattle.std.proofs.Common.{◌≡◌, ℕ, zero, suc, ◌+◌, ◌<◌, Bool, true, false, List, [], ◌∷◌, ◌++◌, length, map, take, drop, get_or, refl, sym, ap, subst, ◌∙◌, append_assoc, arith, inl, inr}
+use Rattle.std.proofs.Common.{◌≡◌, ℕ, zero, suc, ◌+◌, ◌<◌, Bool, true, false, List, [], ◌∷◌, ◌++◌, length, map, take, drop, get_or, refl, sym, ap, subst, ◌∙◌, append_assoc, arith}
+use Rattle.std.proofs.Common.{inl, inr}
 use Rattle.std.specs.Prelude.{◌==◌}
 use Rattle.std.proofs.lemmas.Bool.{cond-true, cond-false}
 use Rattle.std.proofs.lemmas.List.{length-append}
@@ -31,18 +32,22 @@ pub joined_small : (ns : List (List ℕ)) → AllNames ns → Each small (joined
 joined_small [] h = tt
 joined_small (n ∷ ns) h = each_append small n (spaced ns) (name_class small n atom_small refl h.0) (names_small ns h.1)
 
-names_read : (ns : List (List ℕ)) (most : ℕ) (so_far : List (List ℕ)) (n rest b : List ℕ) → IsName n → AllNames ns → length ns < most → b ≡ n ++ (spaced ns ++ 41 ∷ rest) → names_in most so_far b ≡ (kept_from so_far (n ∷ ns), rest)
+names_read : (ns : List (List ℕ)) (most : ℕ) (so_far : List (List ℕ)) (n rest b : List ℕ) → IsName n → AllNames ns → length ns < most → b ≡ n ++ (spaced ns ++ 41 ∷ rest)
+    → names_in most so_far b ≡ (kept_from so_far (n ∷ ns), rest)
 unfolding names_in
 names_read ns zero so_far n rest b name all lt e = absurd (omega (arith, lt))
 names_read [] (suc most) so_far n rest b name all lt e =
     let k = cut_at in_name n (41 ∷ rest) b e (name_class in_name n atom_name refl name) refl in
-    cond-false (get_or b (span in_name b) 0 == 32) (names_in most (add_name so_far (map lower (take (span in_name b) b))) (drop (span in_name b + 1) b)) (add_name so_far (map lower (take (span in_name b) b)), drop (span in_name b + 1) b) (ap (λ (c : ℕ). c == 32) k.octet)
+    cond-false (get_or b (span in_name b) 0 == 32) (names_in most (add_name so_far (map lower (take (span in_name b) b))) (drop (span in_name b + 1) b))
+    (add_name so_far (map lower (take (span in_name b) b)), drop (span in_name b + 1) b) (ap (λ (c : ℕ). c == 32) k.octet)
     ∙ ap (λ (u : List ℕ). (add_name so_far (map lower u), drop (span in_name b + 1) b)) k.front ∙ ap (λ (u : List ℕ). (add_name so_far (map lower n), u)) (k.past 41 rest refl)
 names_read (m ∷ ns) (suc most) so_far n rest b name all lt e =
     let k = cut_at in_name n ((32 ∷ m ++ spaced ns) ++ 41 ∷ rest) b e (name_class in_name n atom_name refl name) refl in
-    cond-true (get_or b (span in_name b) 0 == 32) (names_in most (add_name so_far (map lower (take (span in_name b) b))) (drop (span in_name b + 1) b)) (add_name so_far (map lower (take (span in_name b) b)), drop (span in_name b + 1) b) (ap (λ (c : ℕ). c == 32) k.octet)
+    cond-true (get_or b (span in_name b) 0 == 32) (names_in most (add_name so_far (map lower (take (span in_name b) b))) (drop (span in_name b + 1) b))
+    (add_name so_far (map lower (take (span in_name b) b)), drop (span in_name b + 1) b) (ap (λ (c : ℕ). c == 32) k.octet)
     ∙ ap (λ (u : List ℕ). names_in most (add_name so_far (map lower u)) (drop (span in_name b + 1) b)) k.front
-    ∙ names_read ns most (add_name so_far (map lower n)) m rest (drop (span in_name b + 1) b) all.0 all.1 (omega (arith, lt)) (k.past 32 ((m ++ spaced ns) ++ 41 ∷ rest) refl ∙ append_assoc m (spaced ns) (41 ∷ rest))
+    ∙ names_read ns most (add_name so_far (map lower n)) m rest (drop (span in_name b + 1) b) all.0 all.1 (omega (arith, lt))
+    (k.past 32 ((m ++ spaced ns) ++ 41 ∷ rest) refl ∙ append_assoc m (spaced ns) (41 ∷ rest))
 
 name_first : (n rest : List ℕ) → IsName n → (get_or (n ++ rest) 0 0 == 41) ≡ false
 name_first [] rest (inl a) = absurd (omega (arith, a.1))

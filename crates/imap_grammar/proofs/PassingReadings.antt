@@ -1,5 +1,6 @@
 -- The symbols of a text take its octets and no more, where what follows ends it.
-use Rattle.std.proofs.Common.{◌≡◌, ℕ, zero, suc, ◌+◌, ◌-◌, ◌<◌, ◌≤◌, min, Bool, true, List, [], ◌∷◌, ◌++◌, length, drop, get_or, cond, Option, Some, None, refl, sym, ap, subst, ◌∙◌, arith}
+use Rattle.std.proofs.Common.{◌≡◌, ℕ, zero, suc, ◌+◌, ◌-◌, ◌<◌, ◌≤◌, min, Bool, true, List, [], ◌∷◌, ◌++◌, length, drop, get_or, cond, Option, Some, None, refl, sym, ap, subst}
+use Rattle.std.proofs.Common.{◌∙◌, arith}
 use Rattle.std.specs.Prelude.{nat_lt, nat_le}
 use Rattle.std.proofs.Math.Nat.{min-le_left, min-le_right}
 use Rattle.std.proofs.lemmas.Bool.{cond-false, and_parts, ltb-true}
@@ -24,7 +25,8 @@ use Rattle.imap_syntax.specs.Texts.{plain_of, plain}
 -- ---- octets of a literal at once
 
 -- octets of a literal that aren't its last
-passed_inside : (b : List ℕ) (n k : ℕ) (ss : List Sym) → ((i : ℕ) → get_or b i 0 < 256) → k ≤ length b → k < n → passed b (sym.Free (free.Octets n) ∷ ss) ≡ passed (drop k b) (sym.Free (free.Octets (n - k)) ∷ ss) + k
+passed_inside : (b : List ℕ) (n k : ℕ) (ss : List Sym) → ((i : ℕ) → get_or b i 0 < 256) → k ≤ length b → k < n
+    → passed b (sym.Free (free.Octets n) ∷ ss) ≡ passed (drop k b) (sym.Free (free.Octets (n - k)) ∷ ss) + k
 unfolding passed
 passed_inside b n zero ss h le lt =
     let same : n ≡ n - 0 = omega arith in
@@ -50,7 +52,8 @@ pub record PassedTo (b rest : List ℕ) (ss : List Sym) : Type 0 where
 within : (n k : ℕ) (ss : List Sym) → k < n → Good true (sym.Free (free.Octets n) ∷ ss) → Good true (sym.Free (free.Octets (n - k)) ∷ ss)
 within n k ss lt good = ((ready_fewer n k [] lt ((good.0, refl, tt), (omega arith, tt))).0.0, good.1, good.2)
 
-pub skip_to : (b rest octets : List ℕ) (ss left : List Sym) → PassedTo b rest ss → octets ≡ drop (inside_left ss - 1) rest → left ≡ skipped (min (inside_left ss - 1) (length rest)) ss → PassedTo b octets left
+pub skip_to : (b rest octets : List ℕ) (ss left : List Sym) → PassedTo b rest ss → octets ≡ drop (inside_left ss - 1) rest
+    → left ≡ skipped (min (inside_left ss - 1) (length rest)) ss → PassedTo b octets left
 skip_to b rest octets [] left at e f = subst (PassedTo b octets) (sym f) (subst (λ (u : List ℕ). PassedTo b u []) (sym e) at)
 skip_to b rest octets (sym.Free (free.Octets n) ∷ ss) left at e f =
     let k : ℕ = min (n - 1) (length rest) in
@@ -74,7 +77,8 @@ skip_to b rest octets (s ∷ ss) left at e f = subst (PassedTo b octets) (sym f)
 -- ---- an octet
 
 -- a step with the octet as it stands in a text
-pub marked_step : (ss : List Sym) (c : ℕ) (inside : Bool) (marked : ℕ) (took : Bool) (next : Option (List Sym)) → inside ≡ inside_top ss → marked ≡ cond inside (c + 256) c → step ss marked ≡ cond took next None → step ss (mark ss c) ≡ cond took next None
+pub marked_step : (ss : List Sym) (c : ℕ) (inside : Bool) (marked : ℕ) (took : Bool) (next : Option (List Sym)) → inside ≡ inside_top ss → marked ≡ cond inside (c + 256) c
+    → step ss marked ≡ cond took next None → step ss (mark ss c) ≡ cond took next None
 marked_step ss c inside marked took next e f g = ap (step ss) (ap (λ (b : Bool). cond b (c + 256) c) (sym e) ∙ sym f) ∙ g
 
 beyond_more : (left : List Sym) (more : List Sym → ℕ) → (left ≡ [] → ⊥) → beyond (Some left) more ≡ more left + 1
@@ -92,17 +96,20 @@ passed_all b [] ss at e = let none : passed [] ss ≡ 0 = refl in omega (arith, 
 passed_all b (c ∷ rest) ss at e = absurd (omega (arith, e))
 
 -- an octet that the item doesn't go on with
-pub passed_before : (b rest after : List ℕ) (c : ℕ) (ss : List Sym) → PassedTo b rest ss → rest ≡ c ∷ after → step ss (mark ss c) ≡ None → length b - length rest ≡ passed b (item_start ∷ [])
+pub passed_before : (b rest after : List ℕ) (c : ℕ) (ss : List Sym) → PassedTo b rest ss → rest ≡ c ∷ after → step ss (mark ss c) ≡ None
+    → length b - length rest ≡ passed b (item_start ∷ [])
 passed_before b rest after c ss at e f = let none = passed_at rest after c ss None e f in omega (arith, none, at.same)
 
 -- the item's last octet
-pub passed_with : (b rest after : List ℕ) (c : ℕ) (ss left : List Sym) → PassedTo b rest ss → rest ≡ c ∷ after → step ss (mark ss c) ≡ Some left → left ≡ [] → length b - length after ≡ passed b (item_start ∷ [])
+pub passed_with : (b rest after : List ℕ) (c : ℕ) (ss left : List Sym) → PassedTo b rest ss → rest ≡ c ∷ after → step ss (mark ss c) ≡ Some left → left ≡ []
+    → length b - length after ≡ passed b (item_start ∷ [])
 passed_with b rest after c ss left at e f none =
     let one = passed_at rest after c ss (Some []) e (f ∙ ap (λ (l : List Sym). Some l) none) in
     let long = ap (λ (u : List ℕ). length u) e in
     omega (arith, one, long, at.same)
 
-pub passed_on : (b rest after : List ℕ) (c : ℕ) (ss left : List Sym) → PassedTo b rest ss → rest ≡ c ∷ after → step ss (mark ss c) ≡ Some left → (left ≡ [] → ⊥) → PassedTo b after left
+pub passed_on : (b rest after : List ℕ) (c : ℕ) (ss left : List Sym) → PassedTo b rest ss → rest ≡ c ∷ after → step ss (mark ss c) ≡ Some left → (left ≡ [] → ⊥)
+    → PassedTo b after left
 passed_on b rest after c ss left at e f ne =
     let more = passed_at rest after c ss (Some left) e f ∙ beyond_more left (passed after) ne in
     let long = ap (λ (u : List ℕ). length u) e in
@@ -139,7 +146,8 @@ unfolding passed
 empty_passed s ss [] good h e = refl
 empty_passed s ss (c ∷ back) good h e = ap (λ (o : Option (List Sym)). beyond o (passed back)) (ends_at s ss c good h e)
 
-pub text_passed : (t : List ℕ) (s : Sym) (ss : List Sym) (back : List ℕ) → Good true (s ∷ ss) → Langs (s ∷ ss) t → stops (get_or back 0 0) ≡ true → passed (plain t ++ back) (s ∷ ss) ≡ length t
+pub text_passed : (t : List ℕ) (s : Sym) (ss : List Sym) (back : List ℕ) → Good true (s ∷ ss) → Langs (s ∷ ss) t → stops (get_or back 0 0) ≡ true
+    → passed (plain t ++ back) (s ∷ ss) ≡ length t
 unfolding passed
 text_passed [] s ss back good h e = empty_passed s ss back good h e
 text_passed (d ∷ u) s ss back good h e =
@@ -149,7 +157,8 @@ text_passed (d ∷ u) s ss back good h e =
     ap (λ (n : ℕ). beyond (step (s ∷ ss) n) (passed rest)) octet ∙ ap (λ (o : Option (List Sym)). beyond o (passed rest)) l.by
     ∙ on l.left (keeps true (s ∷ ss) d l.left good l.by) l.reads (λ q qs g k. text_passed u q qs back g k e)
   where
-    on : (left : List Sym) → Good true left → Langs left u → ((q : Sym) (qs : List Sym) → Good true (q ∷ qs) → Langs (q ∷ qs) u → passed (plain u ++ back) (q ∷ qs) ≡ length u) → beyond (Some left) (passed (plain u ++ back)) ≡ length (d ∷ u)
+    on : (left : List Sym) → Good true left → Langs left u → ((q : Sym) (qs : List Sym) → Good true (q ∷ qs) → Langs (q ∷ qs) u → passed (plain u ++ back) (q ∷ qs) ≡ length u)
+        → beyond (Some left) (passed (plain u ++ back)) ≡ length (d ∷ u)
     on [] g k ih = let n = ap length k in omega (arith, n)
     on (q ∷ qs) g k ih = let n = ih q qs g k in omega (arith, n)
 

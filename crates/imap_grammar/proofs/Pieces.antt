@@ -3,7 +3,8 @@ use Rattle.std.proofs.Common.{◌≡◌, ℕ, List, [], ◌∷◌, ◌++◌, cod
 use Rattle.std.specs.Prelude.{ℤ}
 use Rattle.std.proofs.lemmas.List.{append_assoc}
 use Rattle.imap_syntax.specs.declared.command.Command.{Command}
-use Rattle.imap_syntax.specs.declared.command.Command.TheVariants.{Capability, Login, Enable, List as ListFolders, Select, Unselect, FetchFlags, FetchSlice, FetchNew, FetchBody, Store, Move, Expunge, Append, Create, Delete, Rename, Subscribe}
+use Rattle.imap_syntax.specs.declared.command.Command.TheVariants.{Capability, Login, Enable, List as ListFolders, Select, Unselect, FetchFlags, FetchSlice, FetchNew, FetchBody}
+use Rattle.imap_syntax.specs.declared.command.Command.TheVariants.{Store, Move, Expunge, Append, Create, Delete, Rename, Subscribe}
 use Rattle.imap_syntax.specs.Commands.{Plain, Literal, tag_of, credential, put_before, pieces_of, parts_of, words_of, command_pieces}
 use Rattle.imap_syntax.specs.Texts.{crlf}
 use Rattle.imap_grammar.specs.reading.Written.{AddsPart}
@@ -13,7 +14,8 @@ put_twice s t [] = refl
 put_twice s t (p ∷ ps) = ap (λ q. q ∷ ps) (sym (append_assoc s t p))
 
 -- a command but LOGIN and APPEND has no literal
-has_words : (c : Command) → ((user password : List ℕ) → c ≡ Login user password → ⊥) → ((name : List ℕ) (flags : List (List ℕ)) (date : ℤ) (message : List ℕ) → c ≡ Append name flags date message → ⊥) → parts_of c ≡ Plain (words_of c) ∷ []
+has_words : (c : Command) → ((user password : List ℕ) → c ≡ Login user password → ⊥)
+    → ((name : List ℕ) (flags : List (List ℕ)) (date : ℤ) (message : List ℕ) → c ≡ Append name flags date message → ⊥) → parts_of c ≡ Plain (words_of c) ∷ []
 has_words Capability other another = refl
 has_words (Login user password) other another = absurd (other user password refl)
 has_words Enable other another = refl
@@ -34,7 +36,9 @@ has_words (Rename from to) other another = refl
 has_words (Subscribe name on) other another = refl
 
 -- its text is its only piece
-pub one_piece : (c : Command) (tag : ℕ) → ((user password : List ℕ) → c ≡ Login user password → ⊥) → ((name : List ℕ) (flags : List (List ℕ)) (date : ℤ) (message : List ℕ) → c ≡ Append name flags date message → ⊥) → (tag_of tag ++ 32 ∷ words_of c ++ crlf) ∷ [] ≡ command_pieces c tag
+pub one_piece : (c : Command) (tag : ℕ) → ((user password : List ℕ) → c ≡ Login user password → ⊥)
+    → ((name : List ℕ) (flags : List (List ℕ)) (date : ℤ) (message : List ℕ) → c ≡ Append name flags date message → ⊥)
+    → (tag_of tag ++ 32 ∷ words_of c ++ crlf) ∷ [] ≡ command_pieces c tag
 one_piece c tag other another =
     ap (λ text. text ∷ []) (append_assoc (tag_of tag) (32 ∷ words_of c) crlf ∙ sym (append_assoc (tag_of tag) (32 ∷ []) (words_of c ++ crlf)))
     ∙ ap (λ parts. put_before (tag_of tag ++ 32 ∷ []) (pieces_of parts)) (sym (has_words c other another))
@@ -51,7 +55,8 @@ append_pieces tag words message after begun with_message first adds =
 
 -- the pieces of a LOGIN
 pub login_pieces : (tag : ℕ) (user password : List ℕ) (after_user after_both : List (List ℕ)) (begun with_user with_both : List ℕ)
-    → begun ≡ tag_of tag ++ codes " LOGIN " → AddsPart (credential user) [] begun after_user with_user → AddsPart (credential password) after_user (with_user ++ 32 ∷ []) after_both with_both
+    → begun ≡ tag_of tag ++ codes " LOGIN " → AddsPart (credential user) [] begun after_user with_user
+    → AddsPart (credential password) after_user (with_user ++ 32 ∷ []) after_both with_both
     → after_both ++ (with_both ++ crlf) ∷ [] ≡ command_pieces (Login user password) tag
 login_pieces tag user password after_user after_both begun with_user with_both first adds_user adds_password =
     let last = pieces_of (credential password ∷ []) in

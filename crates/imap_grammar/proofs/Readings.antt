@@ -1,5 +1,6 @@
 -- A spelling is read back as its value.
-use Rattle.std.proofs.Common.{◌≡◌, ℕ, zero, suc, ◌+◌, ◌-◌, ◌<◌, true, false, ◌&&◌, List, [], ◌∷◌, ◌++◌, length, map, take, drop, get_or, cond, refl, sym, ap, subst, ◌∙◌, append_assoc, arith, inl, inr, Option, Some, None, Result, Ok, Err, IfOk}
+use Rattle.std.proofs.Common.{◌≡◌, ℕ, zero, suc, ◌+◌, ◌-◌, ◌<◌, true, false, ◌&&◌, List, [], ◌∷◌, ◌++◌, length, map, take, drop, get_or, cond, refl, sym, ap, subst, ◌∙◌}
+use Rattle.std.proofs.Common.{append_assoc, arith, inl, inr, Option, Some, None, Result, Ok, Err, IfOk}
 use Rattle.std.specs.Prelude.{◌==◌, nat_lt, nat_le, codes, bytes_eq, Contains, unwrap_or}
 use Rattle.std.proofs.lemmas.Bool.{cond-true, cond-false, and_parts, and_from, lt-ltb, le-leb, ltb-true, leb-true, eqb-true, false_from_ne_true}
 use Rattle.std.proofs.lemmas.List.{length-append}
@@ -7,7 +8,8 @@ use Rattle.imap_automaton.proofs.KeyLemmas.{is_key_octet, same_text, text_same}
 use Rattle.imap_automaton.proofs.LineWords.{word_of_key, rest_out}
 use Rattle.imap_automaton.proofs.Lists.{cons_head, cons_tail}
 use Rattle.imap_automaton.proofs.Tests.{both, digit_word}
-use Rattle.imap_grammar.specs.reading.Reading.{span, in_name, number_from, number_in, flags_in, words_in, vanished_in, items_in, status_named, word_in, all_digits, is_sequence, numbered_in, told_in, said_in, plain_in, untagged_in, tagged_in, response_in}
+use Rattle.imap_grammar.specs.reading.Reading.{span, in_name, number_from, number_in, flags_in, words_in, vanished_in, items_in, status_named, word_in, all_digits, is_sequence}
+use Rattle.imap_grammar.specs.reading.Reading.{numbered_in, told_in, said_in, plain_in, untagged_in, tagged_in, response_in}
 use Rattle.imap_grammar.proofs.Cuts.{small, plain_small, plain_join, CutAt, cut_at, number_from_is, number_is, capped_le, digit_small, word_small, text_small, within_cap}
 use Rattle.imap_grammar.proofs.ItemReadings.{joined_small, flags_read, all_items_read}
 use Rattle.imap_grammar.specs.reading.FolderReading.{list_in, status_in}
@@ -46,8 +48,10 @@ passes w k x y ne = cond-false (bytes_eq w k) x y (false_from_ne_true (bytes_eq 
 named_none : (w : List ℕ) → (w ≡ codes "ok" → ⊥) → (w ≡ codes "no" → ⊥) → (w ≡ codes "bad" → ⊥) → (w ≡ codes "preauth" → ⊥) → (w ≡ codes "bye" → ⊥) → status_named w ≡ None
 unfolding status_named
 named_none w ok no_ bad preauth bye =
-    passes w (codes "ok") (Some status.Ok) (cond (bytes_eq w (codes "no")) (Some status.No) (cond (bytes_eq w (codes "bad")) (Some status.Bad) (cond (bytes_eq w (codes "preauth")) (Some status.Preauth) (cond (bytes_eq w (codes "bye")) (Some status.Bye) None)))) ok
-    ∙ passes w (codes "no") (Some status.No) (cond (bytes_eq w (codes "bad")) (Some status.Bad) (cond (bytes_eq w (codes "preauth")) (Some status.Preauth) (cond (bytes_eq w (codes "bye")) (Some status.Bye) None))) no_
+    passes w (codes "ok") (Some status.Ok) (cond (bytes_eq w (codes "no")) (Some status.No)
+    (cond (bytes_eq w (codes "bad")) (Some status.Bad) (cond (bytes_eq w (codes "preauth")) (Some status.Preauth) (cond (bytes_eq w (codes "bye")) (Some status.Bye) None)))) ok
+    ∙ passes w (codes "no") (Some status.No) (cond (bytes_eq w (codes "bad")) (Some status.Bad)
+    (cond (bytes_eq w (codes "preauth")) (Some status.Preauth) (cond (bytes_eq w (codes "bye")) (Some status.Bye) None))) no_
     ∙ passes w (codes "bad") (Some status.Bad) (cond (bytes_eq w (codes "preauth")) (Some status.Preauth) (cond (bytes_eq w (codes "bye")) (Some status.Bye) None)) bad
     ∙ passes w (codes "preauth") (Some status.Preauth) (cond (bytes_eq w (codes "bye")) (Some status.Bye) None) preauth
     ∙ passes w (codes "bye") (Some status.Bye) None bye
@@ -56,13 +60,14 @@ named_none w ok no_ bad preauth bye =
 differ : (a b : List ℕ) → bytes_eq a b ≡ false → a ≡ b → ⊥
 differ a b f e = both (bytes_eq a b) (text_same a b e) f
 
-named_none_of : (k : List ℕ) → bytes_eq k (codes "ok") ≡ false → bytes_eq k (codes "no") ≡ false → bytes_eq k (codes "bad") ≡ false → bytes_eq k (codes "preauth") ≡ false → bytes_eq k (codes "bye") ≡ false → status_named k ≡ None
+named_none_of : (k : List ℕ) → bytes_eq k (codes "ok") ≡ false → bytes_eq k (codes "no") ≡ false → bytes_eq k (codes "bad") ≡ false → bytes_eq k (codes "preauth") ≡ false
+    → bytes_eq k (codes "bye") ≡ false → status_named k ≡ None
 named_none_of k a b c d e = named_none k (differ k (codes "ok") a) (differ k (codes "no") b) (differ k (codes "bad") c) (differ k (codes "preauth") d) (differ k (codes "bye") e)
 
 no_keyword : (n : Option ℕ) (w k : List ℕ) → (Contains (keywords n) w → ⊥) → Contains (keywords n) k → w ≡ k → ⊥
 no_keyword n w k ne m e = ne (subst (Contains (keywords n)) (sym e) m)
 
--- ---- the octet behind a word
+-- ---- the octet after a word
 
 no_cr : (c : ℕ) → is_word c ≡ true → c ≡ 13 → ⊥
 no_cr c e f = grind arith
@@ -105,11 +110,13 @@ plain_head [] e = refl
 plain_head (c ∷ t) e = cond-true (nat_lt c 256) c (c - 256) e
 
 -- the word of a line, cut from its octets
-word_cut : (number : Option ℕ) (v : Response) (t : List ℕ) → (h : IsWordLine number v t) → CutAt is_word h.word (plain h.tail) (plain t) × (get_or (plain h.tail) 0 0 ≡ get_or h.tail 0 0)
+word_cut : (number : Option ℕ) (v : Response) (t : List ℕ) → (h : IsWordLine number v t) → CutAt is_word h.word (plain h.tail) (plain t)
+    × (get_or (plain h.tail) 0 0 ≡ get_or h.tail 0 0)
 word_cut number v t h =
     let s = says_small number v h.word h.tail t h.whole h.word_is h.says in
     let head = plain_head h.tail s in (
-      cut_at is_word h.word (plain h.tail) (plain t) (ap plain h.whole ∙ plain_join h.word h.tail (each_to is_word small h.word word_small h.word_is)) h.word_is (ap is_word head ∙ h.longest),
+      cut_at is_word h.word (plain h.tail) (plain t) (ap plain h.whole ∙ plain_join h.word h.tail (each_to is_word small h.word word_small h.word_is)) h.word_is
+          (ap is_word head ∙ h.longest),
       head,
     )
 
@@ -117,7 +124,7 @@ word_read : (number : Option ℕ) (v : Response) (t : List ℕ) → (h : IsWordL
 unfolding word_in
 word_read number v t h = ap (map lower) (word_cut number v t h).0.front
 
--- ---- behind a number
+-- ---- after a number
 
 five_long : (w : List ℕ) → map lower w ≡ codes "fetch" → (rest : List ℕ) → drop 7 (w ++ 32 ∷ 40 ∷ rest) ≡ rest
 five_long (a ∷ b ∷ c ∷ d ∷ e ∷ []) h rest = refl
@@ -153,7 +160,8 @@ numbered_read n (response.Fetch seq items) t h =
     let l1 = ap length inner in
     let l2 = length-append h.word (32 ∷ 40 ∷ plain k.1) in
     let l3 = plain_length k.1 in
-    let read : items_in (length (plain t)) no_items (drop 7 (plain t)) ≡ items = ap (items_in (length (plain t)) no_items) rest ∙ all_items_read k.0 no_items k.1 (length (plain t)) k.3 (omega (arith, l1, l2, l3)) ∙ sym k.4 in
+    let read : items_in (length (plain t)) no_items (drop 7 (plain t)) ≡ items = ap (items_in (length (plain t)) no_items) rest
+    ∙ all_items_read k.0 no_items k.1 (length (plain t)) k.3 (omega (arith, l1, l2, l3)) ∙ sym k.4 in
     cond-true (bytes_eq (word_in (plain t)) (codes "fetch")) (fetch_of n (plain t)) (exists_or n (plain t)) (text_same (word_in (plain t)) (codes "fetch") (w ∙ says.1))
     ∙ ap (λ q. response.Fetch n q) read ∙ ap (λ (m : ℕ). response.Fetch m items) (sym says.0)
 numbered_read n (response.Exists count) t h =
@@ -165,7 +173,8 @@ numbered_read n (response.Expunge seq) t h =
     let b = plain t in
     let w : word_in b ≡ codes "expunge" = word_read (Some n) (response.Expunge seq) t h ∙ h.says.1 in
     passes (word_in b) (codes "fetch") (fetch_of n b) (exists_or n b) (apart_by (word_in b) (codes "expunge") w (codes "fetch") (differ (codes "expunge") (codes "fetch") refl))
-    ∙ passes (word_in b) (codes "exists") (response.Exists n) (expunge_or n b) (apart_by (word_in b) (codes "expunge") w (codes "exists") (differ (codes "expunge") (codes "exists") refl))
+    ∙ passes (word_in b) (codes "exists") (response.Exists n) (expunge_or n b)
+    (apart_by (word_in b) (codes "expunge") w (codes "exists") (differ (codes "expunge") (codes "exists") refl))
     ∙ cond-true (bytes_eq (word_in b) (codes "expunge")) (response.Expunge n) response.Other (text_same (word_in b) (codes "expunge") w) ∙ ap response.Expunge (sym h.says.0)
 numbered_read n response.Other t h =
     let b = plain t in
@@ -177,7 +186,7 @@ numbered_read n response.Other t h =
     ∙ passes (word_in b) (codes "expunge") (response.Expunge n) response.Other (ne (codes "expunge") (1, omega arith, refl))
 numbered_read n _ t h = absurd h.says
 
--- ---- behind `* `
+-- ---- after `* `
 
 pub digits_true : (t : List ℕ) → Each is_digit t → all_digits t ≡ true
 unfolding all_digits
@@ -191,7 +200,8 @@ true_digits (c ∷ t) e = let p = and_parts (is_digit c) (all_digits t) e in (p.
 
 pub sequence_true : (n : ℕ) (t : List ℕ) → IsNumber n t → is_sequence t ≡ true
 unfolding is_sequence
-sequence_true n t h = and_from _ _ (and_from _ _ (and_from _ _ (lt-ltb 0 (length t) h.some) (le-leb (length t) 10 h.few)) (digits_true t h.digits)) (le-leb (number_from 0 t) 4294967295 (let c = capped_le (value_from 0 t) (omega (arith, h.value, h.most)) in omega (arith, number_from_is t, c)))
+sequence_true n t h = and_from _ _ (and_from _ _ (and_from _ _ (lt-ltb 0 (length t) h.some) (le-leb (length t) 10 h.few)) (digits_true t h.digits))
+    (le-leb (number_from 0 t) 4294967295 (let c = capped_le (value_from 0 t) (omega (arith, h.value, h.most)) in omega (arith, number_from_is t, c)))
 
 pub true_sequence : (t : List ℕ) → is_sequence t ≡ true → IsNumber (value_from 0 t) t
 unfolding is_sequence
@@ -199,7 +209,13 @@ true_sequence t e =
     let a = and_parts (nat_lt 0 (length t) && nat_le (length t) 10 && all_digits t) (nat_le (number_from 0 t) 4294967295) e in
     let b = and_parts (nat_lt 0 (length t) && nat_le (length t) 10) (all_digits t) a.0 in
     let c = and_parts (nat_lt 0 (length t)) (nat_le (length t) 10) b.0 in
-    record { digits = true_digits t b.1; some = ltb-true 0 (length t) c.0; few = leb-true (length t) 10 c.1; value = refl; most = within_cap 4294967295 (value_from 0 t) (omega (arith, sym (number_from_is t), leb-true (number_from 0 t) 4294967295 a.1)) }
+    record {
+      digits = true_digits t b.1;
+      some = ltb-true 0 (length t) c.0;
+      few = leb-true (length t) 10 c.1;
+      value = refl;
+      most = within_cap 4294967295 (value_from 0 t) (omega (arith, sym (number_from_is t), leb-true (number_from 0 t) 4294967295 a.1));
+    }
 
 headed : (u : List ℕ) (c : ℕ) → get_or u 0 0 ≡ c → 0 < c → (z : List ℕ) × (u ≡ c ∷ z)
 headed [] c e lt = absurd (omega (arith, e, lt))
@@ -224,7 +240,8 @@ flags_line : (flags : List (List ℕ)) (t : List ℕ) → IsFlagsLine flags t �
 flags_line flags t h =
     let ns = h.0 in
     let all = h.3.0 in
-    let e : plain t ≡ 32 ∷ 40 ∷ joined ns ++ 41 ∷ crlf = ap plain (h.2 ∙ ap (λ (u : List ℕ). 32 ∷ u ++ crlf) h.3.1 ∙ ap (λ (u : List ℕ). 32 ∷ 40 ∷ u) (append_assoc (joined ns) (41 ∷ []) crlf))
+    let e : plain t ≡ 32 ∷ 40 ∷ joined ns ++ 41 ∷ crlf = ap plain
+    (h.2 ∙ ap (λ (u : List ℕ). 32 ∷ u ++ crlf) h.3.1 ∙ ap (λ (u : List ℕ). 32 ∷ 40 ∷ u) (append_assoc (joined ns) (41 ∷ []) crlf))
     ∙ plain_small (32 ∷ 40 ∷ joined ns ++ 41 ∷ crlf) (refl, (refl, each_append small (joined ns) (41 ∷ crlf) (joined_small ns all) (refl, (refl, (refl, tt))))) in
     ap (λ (r : List (List ℕ) × List ℕ). r.0) (flags_read ns crlf (drop 2 (plain t)) all (ap (drop 2) e)) ∙ sym h.4
 
@@ -247,46 +264,62 @@ told_said (response.Untagged s code) w tail t h =
     ∙ ap (λ (c : Code). response.Untagged s c) (code_read code tail h.1)
 told_said (response.Capability ws) w tail t h =
     ap (λ (o : Option Status). said_in o w (plain tail)) (ap status_named h.0 ∙ named_none_of (codes "capability") refl refl refl refl refl)
-    ∙ cond-true (bytes_eq w (codes "capability")) (response.Capability (words_in (length (plain tail)) (plain tail))) (enabled_or w (plain tail)) (text_same w (codes "capability") h.0)
+    ∙ cond-true (bytes_eq w (codes "capability")) (response.Capability (words_in (length (plain tail)) (plain tail))) (enabled_or w (plain tail))
+    (text_same w (codes "capability") h.0)
     ∙ ap response.Capability (words_read ws tail h.1)
 told_said (response.Enabled ws) w tail t h =
     ap (λ (o : Option Status). said_in o w (plain tail)) (ap status_named h.0 ∙ named_none_of (codes "enabled") refl refl refl refl refl)
-    ∙ passes w (codes "capability") (response.Capability (words_in (length (plain tail)) (plain tail))) (enabled_or w (plain tail)) (apart_by w (codes "enabled") h.0 (codes "capability") (differ (codes "enabled") (codes "capability") refl))
+    ∙ passes w (codes "capability") (response.Capability (words_in (length (plain tail)) (plain tail))) (enabled_or w (plain tail))
+    (apart_by w (codes "enabled") h.0 (codes "capability") (differ (codes "enabled") (codes "capability") refl))
     ∙ cond-true (bytes_eq w (codes "enabled")) (response.Enabled (words_in (length (plain tail)) (plain tail))) (flags_or w (plain tail)) (text_same w (codes "enabled") h.0)
     ∙ ap response.Enabled (words_read ws tail h.1)
 told_said (response.Flags flags) w tail t h =
     ap (λ (o : Option Status). said_in o w (plain tail)) (ap status_named h.0 ∙ named_none_of (codes "flags") refl refl refl refl refl)
-    ∙ passes w (codes "capability") (response.Capability (words_in (length (plain tail)) (plain tail))) (enabled_or w (plain tail)) (apart_by w (codes "flags") h.0 (codes "capability") (differ (codes "flags") (codes "capability") refl))
-    ∙ passes w (codes "enabled") (response.Enabled (words_in (length (plain tail)) (plain tail))) (flags_or w (plain tail)) (apart_by w (codes "flags") h.0 (codes "enabled") (differ (codes "flags") (codes "enabled") refl))
+    ∙ passes w (codes "capability") (response.Capability (words_in (length (plain tail)) (plain tail))) (enabled_or w (plain tail))
+    (apart_by w (codes "flags") h.0 (codes "capability") (differ (codes "flags") (codes "capability") refl))
+    ∙ passes w (codes "enabled") (response.Enabled (words_in (length (plain tail)) (plain tail))) (flags_or w (plain tail))
+    (apart_by w (codes "flags") h.0 (codes "enabled") (differ (codes "flags") (codes "enabled") refl))
     ∙ cond-true (bytes_eq w (codes "flags")) (response.Flags (flags_in (drop 2 (plain tail))).0) (vanished_or w (plain tail)) (text_same w (codes "flags") h.0)
     ∙ ap response.Flags (flags_line flags tail h.1)
 told_said (response.Vanished earlier uids) w tail t h =
     ap (λ (o : Option Status). said_in o w (plain tail)) (ap status_named h.0 ∙ named_none_of (codes "vanished") refl refl refl refl refl)
-    ∙ passes w (codes "capability") (response.Capability (words_in (length (plain tail)) (plain tail))) (enabled_or w (plain tail)) (apart_by w (codes "vanished") h.0 (codes "capability") (differ (codes "vanished") (codes "capability") refl))
-    ∙ passes w (codes "enabled") (response.Enabled (words_in (length (plain tail)) (plain tail))) (flags_or w (plain tail)) (apart_by w (codes "vanished") h.0 (codes "enabled") (differ (codes "vanished") (codes "enabled") refl))
-    ∙ passes w (codes "flags") (response.Flags (flags_in (drop 2 (plain tail))).0) (vanished_or w (plain tail)) (apart_by w (codes "vanished") h.0 (codes "flags") (differ (codes "vanished") (codes "flags") refl))
+    ∙ passes w (codes "capability") (response.Capability (words_in (length (plain tail)) (plain tail))) (enabled_or w (plain tail))
+    (apart_by w (codes "vanished") h.0 (codes "capability") (differ (codes "vanished") (codes "capability") refl))
+    ∙ passes w (codes "enabled") (response.Enabled (words_in (length (plain tail)) (plain tail))) (flags_or w (plain tail))
+    (apart_by w (codes "vanished") h.0 (codes "enabled") (differ (codes "vanished") (codes "enabled") refl))
+    ∙ passes w (codes "flags") (response.Flags (flags_in (drop 2 (plain tail))).0) (vanished_or w (plain tail))
+    (apart_by w (codes "vanished") h.0 (codes "flags") (differ (codes "vanished") (codes "flags") refl))
     ∙ cond-true (bytes_eq w (codes "vanished")) (vanished_in (drop 1 (plain tail))) (list_or w (plain tail)) (text_same w (codes "vanished") h.0)
     ∙ ap (λ (u : List ℕ). vanished_in (drop 1 (plain u))) h.1.1 ∙ vanished_read earlier uids.ranges h.1.0 h.1.2
 told_said (response.List attributes delimiter name) w tail t h =
     ap (λ (o : Option Status). said_in o w (plain tail)) (ap status_named h.0 ∙ named_none_of (codes "list") refl refl refl refl refl)
-    ∙ passes w (codes "capability") (response.Capability (words_in (length (plain tail)) (plain tail))) (enabled_or w (plain tail)) (apart_by w (codes "list") h.0 (codes "capability") (differ (codes "list") (codes "capability") refl))
-    ∙ passes w (codes "enabled") (response.Enabled (words_in (length (plain tail)) (plain tail))) (flags_or w (plain tail)) (apart_by w (codes "list") h.0 (codes "enabled") (differ (codes "list") (codes "enabled") refl))
-    ∙ passes w (codes "flags") (response.Flags (flags_in (drop 2 (plain tail))).0) (vanished_or w (plain tail)) (apart_by w (codes "list") h.0 (codes "flags") (differ (codes "list") (codes "flags") refl))
-    ∙ passes w (codes "vanished") (vanished_in (drop 1 (plain tail))) (list_or w (plain tail)) (apart_by w (codes "list") h.0 (codes "vanished") (differ (codes "list") (codes "vanished") refl))
+    ∙ passes w (codes "capability") (response.Capability (words_in (length (plain tail)) (plain tail))) (enabled_or w (plain tail))
+    (apart_by w (codes "list") h.0 (codes "capability") (differ (codes "list") (codes "capability") refl))
+    ∙ passes w (codes "enabled") (response.Enabled (words_in (length (plain tail)) (plain tail))) (flags_or w (plain tail))
+    (apart_by w (codes "list") h.0 (codes "enabled") (differ (codes "list") (codes "enabled") refl))
+    ∙ passes w (codes "flags") (response.Flags (flags_in (drop 2 (plain tail))).0) (vanished_or w (plain tail))
+    (apart_by w (codes "list") h.0 (codes "flags") (differ (codes "list") (codes "flags") refl))
+    ∙ passes w (codes "vanished") (vanished_in (drop 1 (plain tail))) (list_or w (plain tail))
+    (apart_by w (codes "list") h.0 (codes "vanished") (differ (codes "list") (codes "vanished") refl))
     ∙ cond-true (bytes_eq w (codes "list")) (list_in (plain tail)) (status_or w (plain tail)) (text_same w (codes "list") h.0)
     ∙ list_line_read attributes delimiter name tail h.1
 told_said (response.StatusItems name items) w tail t h =
     ap (λ (o : Option Status). said_in o w (plain tail)) (ap status_named h.0 ∙ named_none_of (codes "status") refl refl refl refl refl)
-    ∙ passes w (codes "capability") (response.Capability (words_in (length (plain tail)) (plain tail))) (enabled_or w (plain tail)) (apart_by w (codes "status") h.0 (codes "capability") (differ (codes "status") (codes "capability") refl))
-    ∙ passes w (codes "enabled") (response.Enabled (words_in (length (plain tail)) (plain tail))) (flags_or w (plain tail)) (apart_by w (codes "status") h.0 (codes "enabled") (differ (codes "status") (codes "enabled") refl))
-    ∙ passes w (codes "flags") (response.Flags (flags_in (drop 2 (plain tail))).0) (vanished_or w (plain tail)) (apart_by w (codes "status") h.0 (codes "flags") (differ (codes "status") (codes "flags") refl))
-    ∙ passes w (codes "vanished") (vanished_in (drop 1 (plain tail))) (list_or w (plain tail)) (apart_by w (codes "status") h.0 (codes "vanished") (differ (codes "status") (codes "vanished") refl))
+    ∙ passes w (codes "capability") (response.Capability (words_in (length (plain tail)) (plain tail))) (enabled_or w (plain tail))
+    (apart_by w (codes "status") h.0 (codes "capability") (differ (codes "status") (codes "capability") refl))
+    ∙ passes w (codes "enabled") (response.Enabled (words_in (length (plain tail)) (plain tail))) (flags_or w (plain tail))
+    (apart_by w (codes "status") h.0 (codes "enabled") (differ (codes "status") (codes "enabled") refl))
+    ∙ passes w (codes "flags") (response.Flags (flags_in (drop 2 (plain tail))).0) (vanished_or w (plain tail))
+    (apart_by w (codes "status") h.0 (codes "flags") (differ (codes "status") (codes "flags") refl))
+    ∙ passes w (codes "vanished") (vanished_in (drop 1 (plain tail))) (list_or w (plain tail))
+    (apart_by w (codes "status") h.0 (codes "vanished") (differ (codes "status") (codes "vanished") refl))
     ∙ passes w (codes "list") (list_in (plain tail)) (status_or w (plain tail)) (apart_by w (codes "status") h.0 (codes "list") (differ (codes "status") (codes "list") refl))
     ∙ cond-true (bytes_eq w (codes "status")) (status_in (plain tail)) response.Other (text_same w (codes "status") h.0)
     ∙ status_line_read name items tail h.1
 told_said response.Other w tail t h =
     let ne : (k : List ℕ) → Contains (keywords None) k → w ≡ k → ⊥ = λ k m e. no_keyword None w k h.0 m e in
-    ap (λ (o : Option Status). said_in o w (plain tail)) (named_none w (ne (codes "ok") (0, omega arith, refl)) (ne (codes "no") (1, omega arith, refl)) (ne (codes "bad") (2, omega arith, refl)) (ne (codes "preauth") (3, omega arith, refl)) (ne (codes "bye") (4, omega arith, refl)))
+    ap (λ (o : Option Status). said_in o w (plain tail)) (named_none w (ne (codes "ok") (0, omega arith, refl)) (ne (codes "no") (1, omega arith, refl))
+    (ne (codes "bad") (2, omega arith, refl)) (ne (codes "preauth") (3, omega arith, refl)) (ne (codes "bye") (4, omega arith, refl)))
     ∙ passes w (codes "capability") (response.Capability (words_in (length (plain tail)) (plain tail))) (enabled_or w (plain tail)) (ne (codes "capability") (5, omega arith, refl))
     ∙ passes w (codes "enabled") (response.Enabled (words_in (length (plain tail)) (plain tail))) (flags_or w (plain tail)) (ne (codes "enabled") (6, omega arith, refl))
     ∙ passes w (codes "flags") (response.Flags (flags_in (drop 2 (plain tail))).0) (vanished_or w (plain tail)) (ne (codes "flags") (7, omega arith, refl))
@@ -313,15 +346,18 @@ untagged_read v t (inl r) =
     let b = plain t in
     let cut : b ≡ digits ++ 32 ∷ plain r.1 = ap plain r.2.1 ∙ plain_join digits (32 ∷ r.1) (each_to is_digit small digits digit_small num.digits) in
     let k = cut_at is_word digits (32 ∷ plain r.1) b cut (each_to is_digit is_word digits digit_word num.digits) refl in
-    let test : (is_sequence (take (span is_word b) b) && get_or b (span is_word b) 0 == 32) ≡ true = and_from _ _ (ap is_sequence k.front ∙ sequence_true n digits num) (ap (λ (c : ℕ). c == 32) k.octet) in
+    let test : (is_sequence (take (span is_word b) b) && get_or b (span is_word b) 0 == 32) ≡ true =
+    and_from _ _ (ap is_sequence k.front ∙ sequence_true n digits num) (ap (λ (c : ℕ). c == 32) k.octet) in
     let value : number_in (take (span is_word b) b) ≡ n = ap number_in k.front ∙ number_is digits (omega (arith, num.value, num.most)) ∙ sym num.value in
-    cond-true (is_sequence (take (span is_word b) b) && get_or b (span is_word b) 0 == 32) (numbered_in (number_in (take (span is_word b) b)) (drop (span is_word b + 1) b)) (plain_in b) test
+    cond-true (is_sequence (take (span is_word b) b) && get_or b (span is_word b) 0 == 32) (numbered_in (number_in (take (span is_word b) b)) (drop (span is_word b + 1) b))
+    (plain_in b) test
     ∙ ap (λ (m : ℕ). numbered_in m (drop (span is_word b + 1) b)) value ∙ ap (numbered_in n) (k.past 32 (plain r.1) refl) ∙ numbered_read n v r.1 r.3
 untagged_read v t (inr r) =
     let b = plain t in
     let c = word_cut None v t r.0 in
     let k = c.0 in
-    cond-false (is_sequence (take (span is_word b) b) && get_or b (span is_word b) 0 == 32) (numbered_in (number_in (take (span is_word b) b)) (drop (span is_word b + 1) b)) (plain_in b)
+    cond-false (is_sequence (take (span is_word b) b) && get_or b (span is_word b) 0 == 32) (numbered_in (number_in (take (span is_word b) b)) (drop (span is_word b + 1) b))
+    (plain_in b)
     (false_from_ne_true (is_sequence (take (span is_word b) b) && get_or b (span is_word b) 0 == 32) (λ e.
     let p = and_parts (is_sequence (take (span is_word b) b)) (get_or b (span is_word b) 0 == 32) e in
     let num = true_sequence r.0.word (ap is_sequence (sym k.front) ∙ p.0) in
@@ -330,7 +366,7 @@ untagged_read v t (inr r) =
     r.1 (value_from 0 r.0.word) tail.0 (r.0.word, r.0.whole ∙ ap (λ (u : List ℕ). r.0.word ++ u) tail.1, num)))
     ∙ plain_read v t r.0
 
--- ---- behind a tag
+-- ---- after a tag
 
 alnum_name : (c : ℕ) → is_alnum c ≡ true → in_name c ≡ true
 alnum_name c e = grind arith
@@ -345,7 +381,7 @@ word_octets status.Bad = (refl, (refl, (refl, tt)))
 word_octets status.Preauth = (refl, (refl, (refl, (refl, (refl, (refl, (refl, tt)))))))
 word_octets status.Bye = (refl, (refl, (refl, tt)))
 
--- the status and the code behind a tag
+-- the status and the code after a tag
 record StatusRead (s : Status) (code : Code) (b : List ℕ) : Type 0 where
   named : status_named (word_in b) ≡ Some s
   told : code_in (drop (span is_word b) b) ≡ code
@@ -356,7 +392,8 @@ status_read s code t h =
     let rest = h.second.0 in
     let each = word_of_key h.front (word_of s) (word_octets s) h.first in
     let head = plain_head h.back (behind_rest h.back rest) in
-    let k = cut_at is_word h.front (plain h.back) (plain t) (ap plain h.whole ∙ plain_join h.front h.back (each_to is_word small h.front word_small each)) each (ap is_word head ∙ rest_out h.back rest) in
+    let k = cut_at is_word h.front (plain h.back) (plain t) (ap plain h.whole ∙ plain_join h.front h.back (each_to is_word small h.front word_small each)) each
+    (ap is_word head ∙ rest_out h.back rest) in
     record {
       named = ap (λ (u : List ℕ). status_named (map lower u)) k.front ∙ ap status_named h.first ∙ named_back s;
       told = ap code_in k.back ∙ code_read code h.back h.second;
@@ -369,7 +406,8 @@ tagged_read : (tag : List ℕ) (s : Status) (code : Code) (t : List ℕ) → IsT
 unfolding tagged_in
 tagged_read tag s code t h =
     let b = plain t in
-    let k = cut_at in_name tag (32 ∷ plain h.after) b (ap plain h.whole ∙ plain_join tag (32 ∷ h.after) (each_to is_alnum small tag alnum_small h.tag_is)) (each_to is_alnum in_name tag alnum_name h.tag_is) refl in
+    let k = cut_at in_name tag (32 ∷ plain h.after) b (ap plain h.whole ∙ plain_join tag (32 ∷ h.after) (each_to is_alnum small tag alnum_small h.tag_is))
+    (each_to is_alnum in_name tag alnum_name h.tag_is) refl in
     let read = status_read s code h.after h.line in
     ap (λ (u : List ℕ). tagged_line u (drop (span in_name b + 1) b)) k.front
     ∙ ap (tagged_line tag) (k.past 32 (plain h.after) refl)

@@ -1,5 +1,6 @@
 -- Runs of octets that a scanner takes at once.
-use Rattle.std.proofs.Common.{◌≡◌, ℕ, zero, suc, ◌+◌, ◌-◌, ◌*◌, ◌<◌, ◌≤◌, Bool, true, false, List, [], ◌∷◌, ◌++◌, length, take, drop, get_or, cond, Option, Some, refl, sym, ap, subst, ◌∙◌, append_assoc, length-append, arith}
+use Rattle.std.proofs.Common.{◌≡◌, ℕ, zero, suc, ◌+◌, ◌-◌, ◌*◌, ◌<◌, ◌≤◌, Bool, true, false, List, [], ◌∷◌, ◌++◌, length, take, drop, get_or, cond, Option, Some, refl, sym, ap}
+use Rattle.std.proofs.Common.{subst, ◌∙◌, append_assoc, length-append, arith}
 use Rattle.std.proofs.lemmas.Bool.{ltb-true, lt-ltb}
 use Rattle.std.proofs.lemmas.List.{append-nil, length-take-le, take-append-drop}
 use Rattle.std.proofs.lemmas.Option.{same_Some}
@@ -94,7 +95,7 @@ front_most zero l = omega arith
 front_most (suc n) [] = omega arith
 front_most (suc n) (c ∷ l) = let ih = front_most n l in omega (arith, ih)
 
--- so many octets of a front that is within the limit
+-- n octets of a front that is within the limit
 pub run_some : (s new : Scanner) (b octets front rest : List ℕ) (k : ℕ) → Fed s b → ((i : ℕ) → get_or octets i 0 < 256) → front ≡ take (limit - s.outside) octets
     → k ≤ length front → run (Some (symbols_of s.stack)) (take k front) ≡ Some (symbols_of new.stack)
     → (0 < length (symbols_of s.stack) → 0 < length (symbols_of new.stack)) → new.outside ≡ s.outside + k → new.taken ≡ s.taken + k → rest ≡ drop k octets
@@ -109,5 +110,6 @@ run_some s new b octets front rest k h each is le e stays out taken back =
     record {
       front = take k octets;
       whole = sym (take-append-drop k octets) ∙ ap (λ (u : List ℕ). take k octets ++ u) (sym back);
-      fed = run_fed s new b (take k octets) h (small_front k octets each) (ap (run (Some (symbols_of s.stack))) (sym same) ∙ e) stays (omega (arith, out, long)) (omega (arith, taken, long)) (omega (arith, long, within, h.stands.within));
+      fed = run_fed s new b (take k octets) h (small_front k octets each) (ap (run (Some (symbols_of s.stack))) (sym same) ∙ e) stays (omega (arith, out, long))
+          (omega (arith, taken, long)) (omega (arith, long, within, h.stands.within));
     }

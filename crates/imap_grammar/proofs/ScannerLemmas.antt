@@ -25,14 +25,16 @@ mark_is ss inside c m e f = f ∙ ap (λ (b : Bool). cond b (c + 256) c) e
 pub bad_by_limit : (ss : List Sym) (out : ℕ) (b : List ℕ) (c k : ℕ) → Stands ss out b → c < 256 → k ≡ cost ss → limit - out < k → IsPrefix (b ++ c ∷ []) → ⊥
 bad_by_limit ss out b c k h lt e over p = let g = prefix_goes ss out b c h lt p in omega (arith, g.within, e, over)
 
-pub bad_by_step : (ss left : List Sym) (out : ℕ) (b : List ℕ) (c m : ℕ) (went : Bool) → Stands ss out b → c < 256 → m ≡ mark ss c → step ss m ≡ cond went (Some left) None → went ≡ false → IsPrefix (b ++ c ∷ []) → ⊥
+pub bad_by_step : (ss left : List Sym) (out : ℕ) (b : List ℕ) (c m : ℕ) (went : Bool) → Stands ss out b → c < 256 → m ≡ mark ss c → step ss m ≡ cond went (Some left) None
+    → went ≡ false → IsPrefix (b ++ c ∷ []) → ⊥
 bad_by_step ss left out b c m went h lt e f n p =
     no_prefix_none ss out b c h lt (ap (step ss) (sym e) ∙ f ∙ cond-false went (Some left) None n) p
 
 pub went_is : (ss left : List Sym) (c m : ℕ) (went : Bool) → m ≡ mark ss c → step ss m ≡ cond went (Some left) None → went ≡ true → step ss (mark ss c) ≡ Some left
 went_is ss left c m went e f y = ap (step ss) (sym e) ∙ f ∙ cond-true went (Some left) None y
 
-pub goes_on : (ss left : List Sym) (out : ℕ) (b : List ℕ) (c k : ℕ) → Stands ss out b → c < 256 → k ≡ cost ss → k ≤ limit - out → step ss (mark ss c) ≡ Some left → Stands left (out + k) (b ++ c ∷ [])
+pub goes_on : (ss left : List Sym) (out : ℕ) (b : List ℕ) (c k : ℕ) → Stands ss out b → c < 256 → k ≡ cost ss → k ≤ limit - out → step ss (mark ss c) ≡ Some left
+    → Stands left (out + k) (b ++ c ∷ [])
 goes_on ss left out b c k h lt e le went =
     let w : out + cost ss ≤ limit = omega (arith, h.within, e, le) in
     subst (λ (n : ℕ). Stands left (out + n) (b ++ c ∷ [])) (sym e) (stands_step ss left out b c h lt went w)
@@ -58,7 +60,8 @@ front_taken : (x after whole : List ℕ) (n : ℕ) → whole ≡ x ++ after → 
 front_taken x after whole n e f = ap (λ (k : ℕ). take k whole) f ∙ ap (take (length x)) e ∙ take-append_seam x after
 
 -- what an octet of a piece is answered is what the whole is answered, unless more is needed
-pub answered : (b piece front after : List ℕ) (c : ℕ) (before new : Scanner) (told : Scan) → piece ≡ front ++ c ∷ after → Fed before (b ++ front) → Takes new (b ++ front) c told → (told ≡ scan.NeedMore → ⊥) → ScanOf (b ++ piece) told
+pub answered : (b piece front after : List ℕ) (c : ℕ) (before new : Scanner) (told : Scan) → piece ≡ front ++ c ∷ after → Fed before (b ++ front) → Takes new (b ++ front) c told
+    → (told ≡ scan.NeedMore → ⊥) → ScanOf (b ++ piece) told
 answered b piece front after c before new scan.NeedMore e fed took ne = absurd (ne refl)
 answered b piece front after c before new (scan.Whole n) e fed took ne =
     let x = (b ++ front) ++ c ∷ [] in
@@ -73,7 +76,8 @@ answered b piece front after c before new (scan.Bad at) e fed took ne =
     let long : at + 1 ≡ length x = omega (arith, took.0, length-append (b ++ front) (c ∷ [])) in (
       omega (arith, long, ap length whole, length-append x after),
       λ p. took.1 (subst IsPrefix (front_taken x after (b ++ piece) (at + 1) whole long) p),
-      subst IsProperPrefix (sym (front_taken (b ++ front) (c ∷ after) (b ++ piece) at (ap (λ (u : List ℕ). b ++ u) e ∙ sym (append_assoc b front (c ∷ after))) took.0)) (fed_proper before (b ++ front) fed),
+      subst IsProperPrefix (sym (front_taken (b ++ front) (c ∷ after) (b ++ piece) at (ap (λ (u : List ℕ). b ++ u) e ∙ sym (append_assoc b front (c ∷ after))) took.0))
+          (fed_proper before (b ++ front) fed),
     )
 
 -- from one place of a piece to a later one

@@ -1,5 +1,6 @@
 -- Words and sets of UIDs are read back as their values.
-use Rattle.std.proofs.Common.{◌≡◌, ℕ, zero, suc, ◌+◌, ◌-◌, ◌<◌, ◌≤◌, Bool, true, false, List, [], ◌∷◌, ◌++◌, length, map, take, drop, get_or, cond, refl, sym, ap, subst, ◌∙◌, append_assoc, arith, inl, inr}
+use Rattle.std.proofs.Common.{◌≡◌, ℕ, zero, suc, ◌+◌, ◌-◌, ◌<◌, ◌≤◌, Bool, true, false, List, [], ◌∷◌, ◌++◌, length, map, take, drop, get_or, cond, refl, sym, ap, subst, ◌∙◌}
+use Rattle.std.proofs.Common.{append_assoc, arith, inl, inr}
 use Rattle.std.specs.Prelude.{◌==◌, codes}
 use Rattle.std.proofs.lemmas.Bool.{cond-true, cond-false}
 use Rattle.std.proofs.lemmas.List.{length-append, append-nil}
@@ -18,7 +19,8 @@ use Rattle.imap_syntax.specs.UidSets.{range_of, IsRange, IsSet, IsSetLine, IsVan
 
 -- ---- one word more, one range more
 
-pub word_next : (left : ℕ) (so_far : List (List ℕ)) (b : List ℕ) → 0 < left → (get_or b 0 0 == 32) ≡ true → (so_far ++ take (span is_word (drop 1 b)) (drop 1 b) ∷ []) ++ words_in (left - 1) (drop (span is_word (drop 1 b)) (drop 1 b)) ≡ so_far ++ words_in left b
+pub word_next : (left : ℕ) (so_far : List (List ℕ)) (b : List ℕ) → 0 < left → (get_or b 0 0 == 32) ≡ true
+    → (so_far ++ take (span is_word (drop 1 b)) (drop 1 b) ∷ []) ++ words_in (left - 1) (drop (span is_word (drop 1 b)) (drop 1 b)) ≡ so_far ++ words_in left b
 unfolding words_in
 word_next zero so_far b lt e = absurd (omega (arith, lt))
 word_next (suc left) so_far b lt e =
@@ -38,7 +40,8 @@ pub word_end : (so_far : List (List ℕ)) (b : List ℕ) → so_far ++ words_in 
 unfolding words_in
 word_end so_far b = append-nil so_far
 
-pub range_next : (left : ℕ) (so_far : List UidRange) (b : List ℕ) → 0 < left → (get_or (range_in b).1 0 0 == 44) ≡ true → (so_far ++ (range_in b).0 ∷ []) ++ ranges_in (left - 1) (drop 1 (range_in b).1) ≡ so_far ++ ranges_in left b
+pub range_next : (left : ℕ) (so_far : List UidRange) (b : List ℕ) → 0 < left → (get_or (range_in b).1 0 0 == 44) ≡ true
+    → (so_far ++ (range_in b).0 ∷ []) ++ ranges_in (left - 1) (drop 1 (range_in b).1) ≡ so_far ++ ranges_in left b
 unfolding ranges_in
 range_next zero so_far b lt e = absurd (omega (arith, lt))
 range_next (suc left) so_far b lt e =
@@ -47,7 +50,8 @@ range_next (suc left) so_far b lt e =
     ∙ ap (λ (n : ℕ). so_far ++ r.0 ∷ ranges_in n (drop 1 r.1)) (sym (less_one left))
     ∙ ap (λ (u : List UidRange). so_far ++ r.0 ∷ u) (sym (cond-true (get_or r.1 0 0 == 44) (ranges_in left (drop 1 r.1)) [] e))
 
-pub range_last : (left : ℕ) (so_far : List UidRange) (b : List ℕ) → 0 < left → (get_or (range_in b).1 0 0 == 44) ≡ false → so_far ++ ranges_in left b ≡ so_far ++ (range_in b).0 ∷ []
+pub range_last : (left : ℕ) (so_far : List UidRange) (b : List ℕ) → 0 < left → (get_or (range_in b).1 0 0 == 44) ≡ false
+    → so_far ++ ranges_in left b ≡ so_far ++ (range_in b).0 ∷ []
 unfolding ranges_in
 range_last zero so_far b lt e = absurd (omega (arith, lt))
 range_last (suc left) so_far b lt e =
@@ -105,7 +109,8 @@ read_range r x y b (inl s) out no_colon e =
     let first = number_in (take n b) in
     let is : first ≡ s.0 = ap number_in k.front ∙ number_read s.0 x s.1 in
     let second = drop 1 (drop n b) in
-    cond-false (get_or (drop n b) 0 0 == 58) (range_of first (number_in (take (span is_digit second) second)), drop (span is_digit second) second) (range_of first first, drop n b) (ap (λ (u : List ℕ). get_or u 0 0 == 58) k.back ∙ no_colon)
+    cond-false (get_or (drop n b) 0 0 == 58) (range_of first (number_in (take (span is_digit second) second)), drop (span is_digit second) second) (range_of first first, drop n b)
+    (ap (λ (u : List ℕ). get_or u 0 0 == 58) k.back ∙ no_colon)
     ∙ ap (λ (m : ℕ). (range_of m m, drop n b)) is ∙ ap (λ (u : List ℕ). (range_of s.0 s.0, u)) k.back ∙ ap (λ (q : UidRange). (q, y)) (sym s.2)
 read_range r x y b (inr p) out no_colon e =
     let k = cut_at is_digit p.2 (58 ∷ p.3 ++ y) b (e ∙ ap (λ (u : List ℕ). u ++ y) p.4 ∙ append_assoc p.2 (58 ∷ p.3) y) p.5.0.digits refl in
@@ -115,7 +120,8 @@ read_range r x y b (inr p) out no_colon e =
     let second = drop 1 (drop n b) in
     let l = cut_at is_digit p.3 y second (ap (drop 1) k.back) p.6.0.digits out in
     let other : number_in (take (span is_digit second) second) ≡ p.1 = ap number_in l.front ∙ number_read p.1 p.3 p.6 in
-    cond-true (get_or (drop n b) 0 0 == 58) (range_of first (number_in (take (span is_digit second) second)), drop (span is_digit second) second) (range_of first first, drop n b) (ap (λ (u : List ℕ). get_or u 0 0 == 58) k.back)
+    cond-true (get_or (drop n b) 0 0 == 58) (range_of first (number_in (take (span is_digit second) second)), drop (span is_digit second) second) (range_of first first, drop n b)
+    (ap (λ (u : List ℕ). get_or u 0 0 == 58) k.back)
     ∙ ap (λ (m : ℕ). (range_of m (number_in (take (span is_digit second) second)), drop (span is_digit second) second)) is
     ∙ ap (λ (m : ℕ). (range_of p.0 m, drop (span is_digit second) second)) other
     ∙ ap (λ (u : List ℕ). (range_of p.0 p.1, u)) l.back ∙ ap (λ (q : UidRange). (q, y)) (sym p.7)
@@ -139,7 +145,8 @@ set_long (r ∷ q ∷ rs) t h =
     omega (arith, ih, l, m)
 
 -- the ranges of a set, before what follows it
-pub read_ranges : (rs : List UidRange) (most : ℕ) (x y b : List ℕ) → IsSet rs x → length rs ≤ most → is_digit (get_or y 0 0) ≡ false → (get_or y 0 0 == 58) ≡ false → (get_or y 0 0 == 44) ≡ false → b ≡ x ++ y → ranges_in most b ≡ rs
+pub read_ranges : (rs : List UidRange) (most : ℕ) (x y b : List ℕ) → IsSet rs x → length rs ≤ most → is_digit (get_or y 0 0) ≡ false → (get_or y 0 0 == 58) ≡ false
+    → (get_or y 0 0 == 44) ≡ false → b ≡ x ++ y → ranges_in most b ≡ rs
 unfolding ranges_in
 read_ranges [] most x y b h le out no_colon no_comma e = absurd h
 read_ranges (r ∷ rs) zero x y b h le out no_colon no_comma e = absurd (omega (arith, le))
@@ -174,12 +181,14 @@ first_digit rs t h = ap (λ (u : List ℕ). get_or (plain u) 0 0 == 40) h.whole 
 
     range_first : (r : UidRange) (t u : List ℕ) → IsRange r t → (get_or (plain (t ++ u)) 0 0 == 40) ≡ false
     range_first r t u (inl s) = number_first s.0 t u s.1
-    range_first r t u (inr p) = ap (λ (v : List ℕ). get_or (plain v) 0 0 == 40) (ap (λ (v : List ℕ). v ++ u) p.4 ∙ append_assoc p.2 (58 ∷ p.3) u) ∙ number_first p.0 p.2 (58 ∷ p.3 ++ u) p.5
+    range_first r t u (inr p) = ap (λ (v : List ℕ). get_or (plain v) 0 0 == 40) (ap (λ (v : List ℕ). v ++ u) p.4 ∙ append_assoc p.2 (58 ∷ p.3) u)
+        ∙ number_first p.0 p.2 (58 ∷ p.3 ++ u) p.5
 
     set_first : (rs : List UidRange) (t u : List ℕ) → IsSet rs t → (get_or (plain (t ++ u)) 0 0 == 40) ≡ false
     set_first [] t u h = absurd h
     set_first (r ∷ []) t u h = range_first r t u h
-    set_first (r ∷ q ∷ rs) t u h = ap (λ (v : List ℕ). get_or (plain v) 0 0 == 40) (ap (λ (v : List ℕ). v ++ u) h.2 ∙ append_assoc h.0 (44 ∷ h.1) u) ∙ range_first r h.0 (44 ∷ h.1 ++ u) h.3
+    set_first (r ∷ q ∷ rs) t u h = ap (λ (v : List ℕ). get_or (plain v) 0 0 == 40) (ap (λ (v : List ℕ). v ++ u) h.2 ∙ append_assoc h.0 (44 ∷ h.1) u)
+        ∙ range_first r h.0 (44 ∷ h.1 ++ u) h.3
 
 -- ten octets, whatever their case
 earlier_ten : (w : List ℕ) → IsWord (codes "(earlier) ") w → (u : List ℕ) → drop 10 (plain (w ++ u)) ≡ plain u
@@ -212,12 +221,14 @@ vanished_read true rs t h =
     let m = length-append h.front h.back in
     let rest : drop 10 b ≡ plain h.back = ap (λ (u : List ℕ). drop 10 (plain u)) h.whole ∙ earlier_ten h.front h.first h.back in
     let is : ranges_in (length b) (drop 10 b) ≡ rs = ap (ranges_in (length b)) rest ∙ line_ranges rs h.back (length b) h.second (omega (arith, n, l, m)) in
-    cond-true (get_or b 0 0 == 40) (response.Vanished true (record { ranges = ranges_in (length b) (drop 10 b) })) (response.Vanished false (record { ranges = ranges_in (length b) b })) (ap (λ (u : List ℕ). get_or (plain u) 0 0 == 40) h.whole ∙ earlier_first h.front h.back h.first)
+    cond-true (get_or b 0 0 == 40) (response.Vanished true (record { ranges = ranges_in (length b) (drop 10 b) }))
+    (response.Vanished false (record { ranges = ranges_in (length b) b })) (ap (λ (u : List ℕ). get_or (plain u) 0 0 == 40) h.whole ∙ earlier_first h.front h.back h.first)
     ∙ ap (λ (u : List UidRange). response.Vanished true (record { ranges = u })) is
 vanished_read false rs t h =
     let b = plain t in
     let n = plain_length t in
-    cond-false (get_or b 0 0 == 40) (response.Vanished true (record { ranges = ranges_in (length b) (drop 10 b) })) (response.Vanished false (record { ranges = ranges_in (length b) b })) (first_digit rs t h)
+    cond-false (get_or b 0 0 == 40) (response.Vanished true (record { ranges = ranges_in (length b) (drop 10 b) }))
+    (response.Vanished false (record { ranges = ranges_in (length b) b })) (first_digit rs t h)
     ∙ ap (λ (u : List UidRange). response.Vanished false (record { ranges = u })) (line_ranges rs t (length b) h (omega (arith, n)))
 
 pub ruleset words = (word_next, word_last, word_end)

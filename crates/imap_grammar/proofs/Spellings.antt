@@ -1,5 +1,6 @@
 -- Spellings at the front of octets.
-use Rattle.std.proofs.Common.{◌≡◌, ◌⊎◌, ℕ, zero, suc, ◌+◌, ◌<◌, ◌≤◌, List, [], ◌∷◌, ◌++◌, length, take, drop, Option, Some, refl, sym, ap, subst, ◌∙◌, append_assoc, arith, inl, inr}
+use Rattle.std.proofs.Common.{◌≡◌, ◌⊎◌, ℕ, zero, suc, ◌+◌, ◌<◌, ◌≤◌, List, [], ◌∷◌, ◌++◌, length, take, drop, Option, Some, refl, sym, ap, subst, ◌∙◌, append_assoc, arith, inl}
+use Rattle.std.proofs.Common.{inr}
 use Rattle.std.specs.Prelude.{◌≢◌}
 use Rattle.std.proofs.lemmas.Bool.{cases_lt, cases_order}
 use Rattle.std.proofs.lemmas.List.{append-nil, take_all, take-append-drop, length-take}
@@ -138,7 +139,8 @@ prefix_take b n m le h = prefix_front (take n b) (drop n (take m b)) (subst IsPr
 pub bad_none : (b : List ℕ) (at : ℕ) → ScanOf b (scan.Bad at) → (v : Response) (t x : List ℕ) → IsSpelling v t → b ≡ t ++ x → ⊥
 bad_none b at h v t x k e = elim (cases_lt at (length t)) [
   | inl lt ↦ h.1 (prefix_take b (at + 1) (length t) (omega (arith, lt)) (subst IsPrefix (sym (front_is t x b e)) (of_spelling v t k)))
-  | inr le ↦ proper_none (take at b) h.2 v t (drop (length t) (take at b)) k (take_take (length t) at b le ∙ ap (λ (u : List ℕ). u ++ drop (length t) (take at b)) (front_is t x b e))
+  | inr le ↦ proper_none (take at b) h.2 v t (drop (length t) (take at b)) k
+      (take_take (length t) at b le ∙ ap (λ (u : List ℕ). u ++ drop (length t) (take at b)) (front_is t x b e))
 ]
   where
     front_is : (t x b : List ℕ) → b ≡ t ++ x → take (length t) b ≡ t

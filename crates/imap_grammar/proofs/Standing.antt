@@ -43,7 +43,8 @@ mark_cost ss c lt = by (inside_top ss)
     by true = ap (λ (q : Bool). cond q 1 0 + 0) (le-ltb (c + 256) 256 (omega arith)) ∙ omega arith
     by false = ap (λ (q : Bool). cond q 1 0 + 0) (lt-ltb c 256 lt) ∙ omega arith
 
-pub stands_step : (ss left : List Sym) (out : ℕ) (b : List ℕ) (c : ℕ) → Stands ss out b → c < 256 → step ss (mark ss c) ≡ Some left → out + cost ss ≤ limit → Stands left (out + cost ss) (b ++ c ∷ [])
+pub stands_step : (ss left : List Sym) (out : ℕ) (b : List ℕ) (c : ℕ) → Stands ss out b → c < 256 → step ss (mark ss c) ≡ Some left → out + cost ss ≤ limit
+    → Stands left (out + cost ss) (b ++ c ∷ [])
 stands_step ss left out b c h lt e w = record {
   text = h.text ++ mark ss c ∷ [];
   octets = map-append plain_of h.text (mark ss c ∷ []) ∙ ap (λ (u : List ℕ). u ++ plain_of (mark ss c) ∷ []) h.octets ∙ ap (λ (n : ℕ). b ++ n ∷ []) (mark_plain ss c lt);
@@ -67,7 +68,14 @@ last_of (x ∷ []) [] c e = record { front = []; last = x; whole = refl; octets 
 last_of (x ∷ y ∷ t) [] c e = absurd cc
 last_of (x ∷ t) (d ∷ b) c e =
     let l = last_of t b c (cons_tail (plain_of x) d (plain t) (b ++ c ∷ []) e) in
-    record { front = x ∷ l.front; last = l.last; whole = ap (λ (u : List ℕ). x ∷ u) l.whole; octets = let q = l.octets in let h = cons_head (plain_of x) d (plain t) (b ++ c ∷ []) e in cc; octet = l.octet }
+    record {
+      front = x ∷ l.front;
+      last = l.last;
+      whole = ap (λ (u : List ℕ). x ∷ u) l.whole;
+      octets = let q = l.octets in
+          let h = cons_head (plain_of x) d (plain t) (b ++ c ∷ []) e in cc;
+      octet = l.octet;
+    }
 
 -- a text that begins a response leads on
 prefix_leads : (b : List ℕ) → (h : IsPrefix b) → Alive (run (Some start) h.text)
@@ -94,7 +102,16 @@ prefix_goes ss out b c h lt p =
     record {
       symbols = a.symbols;
       is = ap (step ss) (sym is) ∙ went;
-      within = omega (arith, p.within, ap outside l.whole, outside_append l.front (l.last ∷ []), ap outside same, h.counted, ap (λ (n : ℕ). outside (n ∷ [])) is, mark_cost ss c lt);
+      within = omega (
+        arith,
+        p.within,
+        ap outside l.whole,
+        outside_append l.front (l.last ∷ []),
+        ap outside same,
+        h.counted,
+        ap (λ (n : ℕ). outside (n ∷ [])) is,
+        mark_cost ss c lt,
+      );
     }
 
 pub no_prefix_none : (ss : List Sym) (out : ℕ) (b : List ℕ) (c : ℕ) → Stands ss out b → c < 256 → step ss (mark ss c) ≡ None → IsPrefix (b ++ c ∷ []) → ⊥

@@ -24,16 +24,20 @@ unquoted_one b i lt = ap (unquoted false) (drop_at b i lt)
 
 pub unquoted_close : (b : List ℕ) (i : ℕ) → i < length b → (get_or b i 0 == 34) ≡ true → unquoted false (drop i b) ≡ ([], drop (i + 1) b)
 unquoted_close b i lt e =
-    unquoted_one b i lt ∙ cond-true (get_or b i 0 == 34) ([], drop (i + 1) b) (cond (get_or b i 0 == 92) (unquoted true (drop (i + 1) b)) (with_octet (get_or b i 0) (unquoted false (drop (i + 1) b)))) e
+    unquoted_one b i lt ∙ cond-true (get_or b i 0 == 34) ([], drop (i + 1) b)
+    (cond (get_or b i 0 == 92) (unquoted true (drop (i + 1) b)) (with_octet (get_or b i 0) (unquoted false (drop (i + 1) b)))) e
 
 pub unquoted_slash : (b : List ℕ) (i : ℕ) → i < length b → (get_or b i 0 == 34) ≡ false → (get_or b i 0 == 92) ≡ true → unquoted false (drop i b) ≡ unquoted true (drop (i + 1) b)
 unquoted_slash b i lt e f =
-    unquoted_one b i lt ∙ cond-false (get_or b i 0 == 34) ([], drop (i + 1) b) (cond (get_or b i 0 == 92) (unquoted true (drop (i + 1) b)) (with_octet (get_or b i 0) (unquoted false (drop (i + 1) b)))) e
+    unquoted_one b i lt ∙ cond-false (get_or b i 0 == 34) ([], drop (i + 1) b)
+    (cond (get_or b i 0 == 92) (unquoted true (drop (i + 1) b)) (with_octet (get_or b i 0) (unquoted false (drop (i + 1) b)))) e
     ∙ cond-true (get_or b i 0 == 92) (unquoted true (drop (i + 1) b)) (with_octet (get_or b i 0) (unquoted false (drop (i + 1) b))) f
 
-pub unquoted_octet : (b : List ℕ) (i : ℕ) → i < length b → (get_or b i 0 == 34) ≡ false → (get_or b i 0 == 92) ≡ false → unquoted false (drop i b) ≡ (get_or b i 0 ∷ (unquoted false (drop (i + 1) b)).0, (unquoted false (drop (i + 1) b)).1)
+pub unquoted_octet : (b : List ℕ) (i : ℕ) → i < length b → (get_or b i 0 == 34) ≡ false → (get_or b i 0 == 92) ≡ false
+    → unquoted false (drop i b) ≡ (get_or b i 0 ∷ (unquoted false (drop (i + 1) b)).0, (unquoted false (drop (i + 1) b)).1)
 unquoted_octet b i lt e f =
-    unquoted_one b i lt ∙ cond-false (get_or b i 0 == 34) ([], drop (i + 1) b) (cond (get_or b i 0 == 92) (unquoted true (drop (i + 1) b)) (with_octet (get_or b i 0) (unquoted false (drop (i + 1) b)))) e
+    unquoted_one b i lt ∙ cond-false (get_or b i 0 == 34) ([], drop (i + 1) b)
+    (cond (get_or b i 0 == 92) (unquoted true (drop (i + 1) b)) (with_octet (get_or b i 0) (unquoted false (drop (i + 1) b)))) e
     ∙ cond-false (get_or b i 0 == 92) (unquoted true (drop (i + 1) b)) (with_octet (get_or b i 0) (unquoted false (drop (i + 1) b))) f
 
 pub unquoted_pair : (b : List ℕ) (i : ℕ) → i < length b → unquoted true (drop i b) ≡ (get_or b i 0 ∷ (unquoted false (drop (i + 1) b)).0, (unquoted false (drop (i + 1) b)).1)
@@ -51,7 +55,8 @@ end_of pair t b i le = ap (λ (u : List ℕ). (u, [])) (sym (append-nil t)) ∙ 
 pub close_of : (t b : List ℕ) (i : ℕ) → i < length b → (get_or b i 0 == 34) ≡ true → (t, drop (i + 1) b) ≡ so_far t (unquoted false (drop i b))
 close_of t b i lt e = ap (λ (u : List ℕ). (u, drop (i + 1) b)) (sym (append-nil t)) ∙ ap (so_far t) (sym (unquoted_close b i lt e))
 
-pub octet_of : (t b : List ℕ) (i : ℕ) → i < length b → (get_or b i 0 == 34) ≡ false → (get_or b i 0 == 92) ≡ false → so_far (t ++ get_or b i 0 ∷ []) (unquoted false (drop (i + 1) b)) ≡ so_far t (unquoted false (drop i b))
+pub octet_of : (t b : List ℕ) (i : ℕ) → i < length b → (get_or b i 0 == 34) ≡ false → (get_or b i 0 == 92) ≡ false
+    → so_far (t ++ get_or b i 0 ∷ []) (unquoted false (drop (i + 1) b)) ≡ so_far t (unquoted false (drop i b))
 octet_of t b i lt e f =
     let r = unquoted false (drop (i + 1) b) in
     ap (λ (u : List ℕ). (u, r.1)) (append_assoc t (get_or b i 0 ∷ []) r.0) ∙ ap (so_far t) (sym (unquoted_octet b i lt e f))

@@ -1,5 +1,6 @@
 -- Strings are read back as their values.
-use Rattle.std.proofs.Common.{◌≡◌, ℕ, Bool, true, false, ◌&&◌, ◌||◌, List, [], ◌∷◌, ◌++◌, length, take, drop, get_or, cond, refl, sym, ap, subst, ◌∙◌, append_assoc, arith, inl, inr}
+use Rattle.std.proofs.Common.{◌≡◌, ℕ, Bool, true, false, ◌&&◌, ◌||◌, List, [], ◌∷◌, ◌++◌, length, take, drop, get_or, cond, refl, sym, ap, subst, ◌∙◌, append_assoc, arith, inl}
+use Rattle.std.proofs.Common.{inr}
 use Rattle.std.specs.Prelude.{◌==◌}
 use Rattle.std.proofs.lemmas.Bool.{cond-true, cond-false}
 use Rattle.std.proofs.Math.Seq.{take-append_seam, drop-append_seam}
@@ -61,7 +62,8 @@ literal_read s x y b h e =
     let k = cut_at is_digit h.digits tail r (ap (drop 1) f) h.are_digits refl in
     let n = span is_digit r in
     let long = plain_length h.octets in
-    let count : number_in (take n r) ≡ length o = ap number_in k.front ∙ number_is h.digits (let c = h.counted in let m = h.most in omega (arith, c, m)) ∙ sym h.counted ∙ sym long in
+    let count : number_in (take n r) ≡ length o = ap number_in k.front ∙ number_is h.digits (let c = h.counted in let m = h.most in omega (arith, c, m)) ∙ sym h.counted
+    ∙ sym long in
     let octets : drop 3 (drop n r) ≡ o ++ y = ap (drop 3) k.back in (
       ap (λ (u : List ℕ). (take (number_in (take n r)) u, drop (number_in (take n r)) u)) octets
           ∙ ap (λ (m : ℕ). (take m (o ++ y), drop m (o ++ y))) count
@@ -71,7 +73,7 @@ literal_read s x y b h e =
 
 -- ---- strings
 
--- what may stand behind a string
+-- what may stand after a string
 abbrev pub Ends : List ℕ → Type 0
 Ends y = (is_atom (get_or y 0 0) ≡ false) × ((get_or y 0 0 == 123) ≡ false)
 
@@ -103,7 +105,8 @@ atom_read (c ∷ x) y b h out e =
 quoted_read : (s x y b : List ℕ) → IsQuoted s x → b ≡ plain x ++ y → astring_in b ≡ (s, y)
 unfolding astring_in
 quoted_read s x y b h e =
-    let f : b ≡ 34 ∷ (escaped s ++ 34 ∷ y) = e ∙ ap (λ (u : List ℕ). u ++ y) (ap plain h.1 ∙ plain_small (quoted s) (quoted_small s h.0)) ∙ ap (λ (u : List ℕ). 34 ∷ u) (append_assoc (escaped s) (34 ∷ []) y) in
+    let f : b ≡ 34 ∷ (escaped s ++ 34 ∷ y) = e ∙ ap (λ (u : List ℕ). u ++ y) (ap plain h.1 ∙ plain_small (quoted s) (quoted_small s h.0))
+    ∙ ap (λ (u : List ℕ). 34 ∷ u) (append_assoc (escaped s) (34 ∷ []) y) in
     cond-true (get_or b 0 0 == 34) (unquoted false (drop 1 b)) (count_or b) (ap (λ (u : List ℕ). get_or u 0 0 == 34) f)
     ∙ ap (λ (u : List ℕ). unquoted false (drop 1 u)) f ∙ unquoted_read s y
 

@@ -3,7 +3,7 @@
 /// What octets are, so far.
 #[derive(Clone, Copy, Debug, PartialEq, Eq, Drop)]
 pub enum Scan {
-    /// The first so many octets are a response.
+    /// The first n octets are a response.
     Whole(usize),
     /// They begin a response, and are none yet.
     NeedMore,

@@ -203,7 +203,7 @@ fn copy_in(alloc: Global, text: &[u8]) -> Result<Option<Code>, AllocError>
     Ok(copied(nonzero_in(validity), from, to))
 }
 
-/// A code that is a word and what follows it behind a space: ("UIDVALIDITY" / "UIDNEXT") SP nz,
+/// A code that is a word and what follows it after a space: ("UIDVALIDITY" / "UIDNEXT") SP nz,
 /// "HIGHESTMODSEQ" SP long, "APPENDUID" SP .. or "COPYUID" SP ...
 #[tactic(auto, unfolding(imap_syntax::specs::ReadCodes::code_with))]
 fn code_with(alloc: Global, word: &[u8], text: &[u8]) -> Result<Option<Code>, AllocError>

@@ -27,7 +27,7 @@ fn push_quoted(out: &mut Vec<u8>, text: &[u8]) -> Result<(), AllocError>
     Ok(())
 }
 
-/// The words, and the name in quotes behind them, as CREATE and DELETE have it (sections 6.3.4 and 6.3.5).
+/// The words, and the name in quotes after them, as CREATE and DELETE have it (sections 6.3.4 and 6.3.5).
 fn named(alloc: Global, words: &[u8], name: &[u8]) -> Result<Vec<u8>, AllocError>
     ensures { IfOk result (λ out. out.items ≡ words.now ++ texts.quoted name.now) }
 {

@@ -97,7 +97,7 @@ fn kept_within(on: u64, off: u64) -> i64
     seconds as i64 - SECONDS_TO_EPOCH
 }
 
-/// The seconds of a day of a month, a time of the day and a zone so many seconds east or west.
+/// The seconds of a day of a month, a time of the day and a zone n seconds east or west.
 fn seconds_of(year: u32, month: u8, day: u32, time: u32, east: bool, zone: u32) -> i64
     requires year { year ≤ 9999 }
     requires first { 1 ≤ month }

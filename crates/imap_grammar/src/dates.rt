@@ -31,7 +31,7 @@ fn seconds_from(date: i64) -> u64
     }
 }
 
-/// The days since 1970-01-01 of the day so many days behind the first of January of the year 0.
+/// The days since 1970-01-01 of the day n days after the first of January of the year 0.
 fn epoch_day_at(days: u64) -> i64
     requires { days ≤ 3652424 }
     ensures { result ≡ pos days -ℤ pos 719528 }
@@ -39,7 +39,7 @@ fn epoch_day_at(days: u64) -> i64
     days as i64 - DAYS_TO_EPOCH
 }
 
-/// The date so many days behind the first of January of the year 0.
+/// The date n days after the first of January of the year 0.
 fn date_at(days: u64) -> Date
     requires { days ≤ 3652424 }
     ensures year { result.year ≡ pos (dates.day_at days).year }

@@ -56,7 +56,7 @@ fn begins_with(bytes: &[u8], key: &[u8]) -> bool
     is_key(before(bytes, word_len(bytes)), key)
 }
 
-/// What stands behind `* `, a number and a space: ("EXISTS" / "EXPUNGE" / "FETCH" SP "(" items) CRLF.
+/// What stands after `* `, a number and a space: ("EXISTS" / "EXPUNGE" / "FETCH" SP "(" items) CRLF.
 #[tactic(auto, unfolding(crate::specs::reading::Reading::numbered_in))]
 fn numbered(alloc: Global, seq: u32, bytes: &[u8]) -> Result<Response, AllocError>
     ensures { IfOk result (λ v. v ≡ reading.numbered_in seq bytes.now) }
@@ -97,7 +97,7 @@ fn told(alloc: Global, word: &[u8], tail: &[u8]) -> Result<Response, AllocError>
     }
 }
 
-/// What stands behind `* ` where no number does: ("OK" / "NO" / "BAD" / "PREAUTH" / "BYE") [SP text] CRLF, or what `told`
+/// What stands after `* ` where no number does: ("OK" / "NO" / "BAD" / "PREAUTH" / "BYE") [SP text] CRLF, or what `told`
 /// reads.
 #[tactic(auto, unfolding(crate::specs::reading::Reading::plain_in, crate::specs::reading::Reading::said_in, crate::specs::reading::Reading::word_in))]
 fn plain(alloc: Global, bytes: &[u8]) -> Result<Response, AllocError>
@@ -114,7 +114,7 @@ fn plain(alloc: Global, bytes: &[u8]) -> Result<Response, AllocError>
     }
 }
 
-/// What stands behind `* `.
+/// What stands after `* `.
 #[tactic(auto, unfolding(crate::specs::reading::Reading::untagged_in))]
 fn untagged(alloc: Global, bytes: &[u8]) -> Result<Response, AllocError>
     ensures { IfOk result (λ v. v ≡ reading.untagged_in bytes.now) }
@@ -141,7 +141,7 @@ fn tagged(alloc: Global, bytes: &[u8]) -> Result<Response, AllocError>
     Ok(Response::Tagged { tag, status, code })
 }
 
-/// A response: an untagged one behind `* `, a continuation behind `+`, or a tagged line.
+/// A response: an untagged one after `* `, a continuation after `+`, or a tagged line.
 #[tactic(auto, unfolding(crate::specs::reading::Reading::response_in))]
 fn response(alloc: Global, bytes: &[u8]) -> Result<Response, AllocError>
     ensures { IfOk result (λ v. v ≡ reading.response_in bytes.now) }
@@ -155,7 +155,7 @@ fn response(alloc: Global, bytes: &[u8]) -> Result<Response, AllocError>
     }
 }
 
-/// The value of the octets, which are one whole response, as `Scan::Whole` counts them. It fails only for want of memory.
+/// The value of the octets, which are one whole response, as `Scan::Whole` counts them. It fails only for out of memory.
 pub fn decode(alloc: Global, bytes: &[u8]) -> Result<Response, AllocError>
     requires { (v : Response) × IsSpelling v bytes.now }
     ensures spelled { IfOk result (λ r. IsSpelling r bytes.now) }

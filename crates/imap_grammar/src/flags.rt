@@ -83,7 +83,7 @@ fn one_name(alloc: Global, name: &[u8]) -> Result<Names, AllocError>
     Ok(names)
 }
 
-/// The flags from behind the opening bracket on, and what follows the closing one. They are in lower case, in order, each
+/// The flags from after the opening bracket on, and what follows the closing one. They are in lower case, in order, each
 /// once, and without `\recent`.
 #[tactic(auto, unfolding(crate::specs::reading::Spans::flags_in))]
 pub fn flags_in(alloc: Global, bytes: &[u8]) -> Result<(Names, &[u8]), AllocError>

@@ -38,7 +38,7 @@ fn delimiter_in(bytes: &[u8]) -> (Option<u8>, &[u8])
     }
 }
 
-/// What a LIST says, from behind its word on: SP names SP (quoted / "NIL") SP astring [SP value] CRLF.
+/// What a LIST says, from after its word on: SP names SP (quoted / "NIL") SP astring [SP value] CRLF.
 #[tactic(auto, unfolding(crate::specs::reading::FolderReading::list_in))]
 pub fn list_in(alloc: Global, bytes: &[u8]) -> Result<Response, AllocError>
     ensures { IfOk result (λ v. v ≡ reading.list_in bytes.now) }
@@ -156,7 +156,7 @@ fn counts_in(bytes: &[u8]) -> StatusItems
     items
 }
 
-/// The counts from behind the opening bracket on: [count *(SP count)] ")".
+/// The counts from after the opening bracket on: [count *(SP count)] ")".
 #[tactic(auto, unfolding(crate::specs::reading::FolderReading::counts_of))]
 fn counts_of(bytes: &[u8]) -> StatusItems
     ensures { result ≡ reading.counts_of bytes.now }
@@ -168,7 +168,7 @@ fn counts_of(bytes: &[u8]) -> StatusItems
     }
 }
 
-/// What a STATUS says, from behind its word on: SP astring SP "(" [count *(SP count)] ")" CRLF.
+/// What a STATUS says, from after its word on: SP astring SP "(" [count *(SP count)] ")" CRLF.
 #[tactic(auto, unfolding(crate::specs::reading::FolderReading::status_in))]
 pub fn status_in(alloc: Global, bytes: &[u8]) -> Result<Response, AllocError>
     ensures { IfOk result (λ v. v ≡ reading.status_in bytes.now) }

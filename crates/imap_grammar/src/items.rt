@@ -89,7 +89,7 @@ fn with_body(items: FetchItems, body: Bytes) -> FetchItems
     }
 }
 
-/// The first so many octets of the string at the front, none for NIL, and what follows the string:
+/// The first n octets of the string at the front, none for NIL, and what follows the string:
 /// "NIL" / quoted / ["~"] literal.
 #[tactic(auto, unfolding(crate::specs::reading::ItemReading::nstring_in, crate::specs::reading::StringReading::astring_in))]
 fn nstring_in(alloc: Global, bytes: &[u8], most: usize) -> Result<(Bytes, &[u8]), AllocError>
@@ -279,7 +279,7 @@ fn item_in(
     }
 }
 
-/// What the items up to the closing bracket tell, at most so many: item *(SP item) ")". A later item takes the place
+/// What the items up to the closing bracket tell, at most n: item *(SP item) ")". A later item takes the place
 /// of an earlier one of its name.
 #[tactic(auto, unfolding(crate::specs::reading::ItemReading::items_in))]
 pub fn items_in(alloc: Global, bytes: &[u8], most: usize) -> Result<FetchItems, AllocError>

@@ -3,7 +3,7 @@ ghost use Rattle.std.specs.Prelude.{◌≡◌, take, drop, get_or, length, map, 
 ghost use Rattle.imap_syntax.specs.Octets as classes;
 ghost use Rattle.imap_grammar.specs.reading.Reading as reading;
 
-/// What stands behind the first so many octets.
+/// What stands after the first n octets.
 pub fn behind(bytes: &[u8], n: usize) -> &[u8]
     ensures { result.now ≡ drop n bytes.now }
 {
@@ -15,7 +15,7 @@ pub fn behind(bytes: &[u8], n: usize) -> &[u8]
     }
 }
 
-/// The first so many octets, or as many as there are.
+/// The first n octets, or as many as there are.
 pub fn before(bytes: &[u8], n: usize) -> &[u8]
     ensures { result.now ≡ take n bytes.now }
 {
@@ -176,7 +176,7 @@ fn is_few(word: &[u8], most: usize) -> bool
     0 < word.len() && word.len() <= most
 }
 
-/// Whether the word is of digits, at least one and at most so many.
+/// Whether the word is of digits, at least one and at most n.
 pub fn is_decimal(word: &[u8], most: usize) -> bool
     ensures { result ≡ (nat_lt 0 (length word.now) && nat_le (length word.now) most && reading.all_digits word.now) }
 {

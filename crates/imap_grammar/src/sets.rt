@@ -12,7 +12,7 @@ use std::alloc::{AllocError, Global};
 /// Octets of `(EARLIER) `.
 const EARLIER_OCTETS: usize = 10;
 
-/// The words, each behind a space: *(SP word).
+/// The words, each after a space: *(SP word).
 #[tactic(auto, using(crate::proofs::SetReadings::words))]
 pub fn words_in(alloc: Global, bytes: &[u8]) -> Result<Names, AllocError>
     ensures { IfOk result (λ names. names ≡ reading.words_in (length bytes.now) bytes.now) }
@@ -71,7 +71,7 @@ fn range_in(bytes: &[u8]) -> (UidRange, &[u8])
     }
 }
 
-/// At most so many ranges, each but the first behind a comma: range *("," range).
+/// At most n ranges, each but the first after a comma: range *("," range).
 #[tactic(auto, using(crate::proofs::SetReadings::ranges))]
 fn ranges_in(alloc: Global, bytes: &[u8], most: usize) -> Result<Vec<UidRange>, AllocError>
     ensures { IfOk result (λ ranges. ranges.items ≡ reading.ranges_in most bytes.now) }
@@ -102,7 +102,7 @@ fn vanished(earlier: bool, ranges: Vec<UidRange>) -> Response
     }
 }
 
-/// What stands behind the space after VANISHED: ["(EARLIER)" SP] set CRLF (RFC 7162 section 3.2.10).
+/// What stands after the space after VANISHED: ["(EARLIER)" SP] set CRLF (RFC 7162 section 3.2.10).
 #[tactic(auto, unfolding(crate::specs::reading::Reading::vanished_in))]
 pub fn vanished_in(alloc: Global, bytes: &[u8]) -> Result<Response, AllocError>
     ensures { IfOk result (λ v. v ≡ reading.vanished_in bytes.now) }

@@ -28,7 +28,7 @@ pub fn atom_len(bytes: &[u8]) -> usize
     bytes.len()
 }
 
-/// The text from behind the opening quote on, and what follows the closing one: *quoted-char DQUOTE.
+/// The text from after the opening quote on, and what follows the closing one: *quoted-char DQUOTE.
 pub fn unquoted(alloc: Global, bytes: &[u8]) -> Result<(Vec<u8>, &[u8]), AllocError>
     ensures text { IfOk result (λ r. r.0.items ≡ (reading.unquoted false bytes.now).0) }
     ensures rest { IfOk result (λ r. r.1.now ≡ (reading.unquoted false bytes.now).1) }
@@ -50,7 +50,7 @@ pub fn unquoted(alloc: Global, bytes: &[u8]) -> Result<(Vec<u8>, &[u8]), AllocEr
     Ok((text, &[]))
 }
 
-/// The octets of a literal from behind its opening brace on, and what follows them: 1*8digit "}" CRLF *octet.
+/// The octets of a literal from after its opening brace on, and what follows them: 1*8digit "}" CRLF *octet.
 #[tactic(auto, unfolding(crate::specs::reading::StringReading::literal_in))]
 pub fn literal_in(bytes: &[u8]) -> (&[u8], &[u8])
     ensures octets { result.0.now ≡ (reading.literal_in bytes.now).0 }

@@ -1,5 +1,6 @@
 -- The code that is read is the one that the line has, and the only one.
-use Rattle.std.proofs.Common.{◌≡◌, inl, inr, ℕ, zero, suc, ◌<◌, ◌≤◌, Bool, true, false, ◌&&◌, List, [], ◌∷◌, ◌++◌, length, map, drop, get_or, cond, refl, sym, ap, subst, ◌∙◌, arith, Option, Some, None}
+use Rattle.std.proofs.Common.{◌≡◌, inl, inr, ℕ, zero, suc, ◌<◌, ◌≤◌, Bool, true, false, ◌&&◌, List, [], ◌∷◌, ◌++◌, length, map, drop, get_or, cond, refl, sym, ap, subst, ◌∙◌}
+use Rattle.std.proofs.Common.{arith, Option, Some, None}
 use Rattle.std.specs.Prelude.{◌==◌, nat_lt, nat_le, codes, bytes_eq, unwrap_or}
 use Rattle.std.specs.List.{list_all}
 use Rattle.std.proofs.lemmas.Bool.{cond-true, and_parts, and_from, ltb-true, leb-true, lt-ltb, le-leb, eqb-true}
@@ -14,7 +15,8 @@ use Rattle.imap_syntax.specs.Texts.{Each, IsWord}
 use Rattle.imap_syntax.specs.Numbers.{value_from, IsNonZero, IsLong}
 use Rattle.imap_syntax.specs.UidSets.{range_of, IsRange, IsSet}
 use Rattle.imap_syntax.specs.Codes.{Parted, IsKnown, Bracketed, HasCode}
-use Rattle.imap_syntax.specs.ReadCodes.{cut, is_decimal, nonzero_in, long_in, one_range, two_range, range_by, range_in, one_in_set, more_in_set, ranges_in, set_in, bare_code, validity_of, next_of, modseq_of, appended, append_in, copied, sets_in, copy_in, code_with, known_by, known_in, code_by, code_in}
+use Rattle.imap_syntax.specs.ReadCodes.{cut, is_decimal, nonzero_in, long_in, one_range, two_range, range_by, range_in, one_in_set, more_in_set, ranges_in, set_in, bare_code}
+use Rattle.imap_syntax.specs.ReadCodes.{validity_of, next_of, modseq_of, appended, append_in, copied, sets_in, copy_in, code_with, known_by, known_in, code_by, code_in}
 use Rattle.imap_syntax.proofs.CutLemmas.{by_test, by_some, other, free_of, cut_some, cut_at, cut_free, cut_none}
 use Rattle.imap_syntax.proofs.EachLemmas.{each_to, each_append, each_all, all_each}
 
@@ -118,7 +120,8 @@ ranges_sound (suc most) t rs e = by (ranges_sound most) (cut 44 t) refl e
     joined r [] front back e h k = absurd k
     joined r (s ∷ rs) front back e h k = (front, back, e, h, k)
 
-    by : ((u : List ℕ) (more : List UidRange) → ranges_in most u ≡ Some more → IsSet more u) → (o : Option (List ℕ × List ℕ)) → cut 44 t ≡ o → elim o [ None ↦ one_in_set (range_in t) | Some r ↦ more_in_set (range_in r.0) (ranges_in most r.1) ] ≡ Some rs → IsSet rs t
+    by : ((u : List ℕ) (more : List UidRange) → ranges_in most u ≡ Some more → IsSet more u) → (o : Option (List ℕ × List ℕ)) → cut 44 t ≡ o
+        → elim o [ None ↦ one_in_set (range_in t) | Some r ↦ more_in_set (range_in r.0) (ranges_in most r.1) ] ≡ Some rs → IsSet rs t
     by ih None f g = by_some (range_in t) one_in_set rs (IsSet rs t) refl g (λ r k l. subst (λ (q : List UidRange). IsSet q t) (same_Some (r ∷ []) rs l) (range_sound t r k))
     by ih (Some q) f g =
         by_some (range_in q.0) (λ (m : Option UidRange). more_in_set m (ranges_in most q.1)) rs (IsSet rs t) refl g (λ r k l.
@@ -130,10 +133,12 @@ unfolding ranges_in
 ranges_complete most [] t le h = absurd h
 ranges_complete zero (r ∷ rs) t le h = absurd (omega arith)
 ranges_complete (suc most) (r ∷ []) t le h =
-    ap (λ (o : Option (List ℕ × List ℕ)). elim o [ None ↦ one_in_set (range_in t) | Some r ↦ more_in_set (range_in r.0) (ranges_in most r.1) ]) (cut_free 44 t (range_free 44 r t digit_not_comma refl h))
+    ap (λ (o : Option (List ℕ × List ℕ)). elim o [ None ↦ one_in_set (range_in t) | Some r ↦ more_in_set (range_in r.0) (ranges_in most r.1) ])
+    (cut_free 44 t (range_free 44 r t digit_not_comma refl h))
     ∙ ap one_in_set (range_complete r t h)
 ranges_complete (suc most) (r ∷ s ∷ rs) t le h =
-    ap (λ (o : Option (List ℕ × List ℕ)). elim o [ None ↦ one_in_set (range_in t) | Some r ↦ more_in_set (range_in r.0) (ranges_in most r.1) ]) (ap (cut 44) h.2 ∙ cut_at 44 h.0 h.1 (range_free 44 r h.0 digit_not_comma refl h.3))
+    ap (λ (o : Option (List ℕ × List ℕ)). elim o [ None ↦ one_in_set (range_in t) | Some r ↦ more_in_set (range_in r.0) (ranges_in most r.1) ])
+    (ap (cut 44) h.2 ∙ cut_at 44 h.0 h.1 (range_free 44 r h.0 digit_not_comma refl h.3))
     ∙ ap (λ (m : Option UidRange). more_in_set m (ranges_in most h.1)) (range_complete r h.0 h.3)
     ∙ ap (more_in_set (Some r)) (ranges_complete most (s ∷ rs) h.1 (omega arith) h.4)
 
@@ -181,7 +186,8 @@ parted A B t r e a b = record { front = r.0; back = r.1; whole = e; first = a; s
 pair_of : (A B : List ℕ → Type 0) (t : List ℕ) (r : List ℕ × List ℕ) → cut 32 t ≡ Some r → A r.0 → B r.1 → Parted A B t
 pair_of A B t r e a b = parted A B t r (cut_some 32 t r e).0 a b
 
-append_sound : (t : List ℕ) (c : Code) (P : Type 0) → append_in (cut 32 t) ≡ Some c → ((validity uid : ℕ) → Parted (IsNonZero validity) (IsNonZero uid) t → code.AppendUid validity uid ≡ c → P) → P
+append_sound : (t : List ℕ) (c : Code) (P : Type 0) → append_in (cut 32 t) ≡ Some c
+    → ((validity uid : ℕ) → Parted (IsNonZero validity) (IsNonZero uid) t → code.AppendUid validity uid ≡ c → P) → P
 append_sound t c P e g =
     by_some (cut 32 t) append_in c P refl e (λ r cut_is f.
     by_some (nonzero_in r.0) (λ (v : Option ℕ). appended v (nonzero_in r.1)) c P refl f (λ v is_v f.
@@ -191,7 +197,8 @@ append_sound t c P e g =
 abbrev copy_of : ℕ → List UidRange → List UidRange → Code
 copy_of validity from to = code.CopyUid validity (record { ranges = from }) (record { ranges = to })
 
-copy_sound : (t : List ℕ) (c : Code) (P : Type 0) → copy_in (cut 32 t) ≡ Some c → ((validity : ℕ) (from to : List UidRange) → Parted (IsNonZero validity) (Parted (IsSet from) (IsSet to)) t → copy_of validity from to ≡ c → P) → P
+copy_sound : (t : List ℕ) (c : Code) (P : Type 0) → copy_in (cut 32 t) ≡ Some c
+    → ((validity : ℕ) (from to : List UidRange) → Parted (IsNonZero validity) (Parted (IsSet from) (IsSet to)) t → copy_of validity from to ≡ c → P) → P
 copy_sound t c P e g =
     by_some (cut 32 t) copy_in c P refl e (λ r cut_is f.
     by_some (cut 32 r.1) (sets_in (nonzero_in r.0)) c P refl f (λ q inner_is f.
@@ -205,13 +212,16 @@ with_sound : (t : List ℕ) (r : List ℕ × List ℕ) (c : Code) → t ≡ r.0 
 unfolding code_with
 with_sound t r c e f = by_test (bytes_eq (map lower r.0) (codes "uidvalidity")) (validity_of (nonzero_in r.1)) _ (Some c) (IsKnown c t) f
     (λ b f. by_some (nonzero_in r.1) validity_of c (IsKnown c t) refl f (λ n is_n f.
-    subst (λ (k : Code). IsKnown k t) (same_Some (code.UidValidity n) c f) (parted (IsWord (codes "uidvalidity")) (IsNonZero n) t r e (same_word r.0 (codes "uidvalidity") b) (nonzero_sound r.1 n is_n))))
+    subst (λ (k : Code). IsKnown k t) (same_Some (code.UidValidity n) c f)
+    (parted (IsWord (codes "uidvalidity")) (IsNonZero n) t r e (same_word r.0 (codes "uidvalidity") b) (nonzero_sound r.1 n is_n))))
     (λ b f. by_test (bytes_eq (map lower r.0) (codes "uidnext")) (next_of (nonzero_in r.1)) _ (Some c) (IsKnown c t) f
     (λ b f. by_some (nonzero_in r.1) next_of c (IsKnown c t) refl f (λ n is_n f.
-    subst (λ (k : Code). IsKnown k t) (same_Some (code.UidNext n) c f) (parted (IsWord (codes "uidnext")) (IsNonZero n) t r e (same_word r.0 (codes "uidnext") b) (nonzero_sound r.1 n is_n))))
+    subst (λ (k : Code). IsKnown k t) (same_Some (code.UidNext n) c f)
+    (parted (IsWord (codes "uidnext")) (IsNonZero n) t r e (same_word r.0 (codes "uidnext") b) (nonzero_sound r.1 n is_n))))
     (λ b f. by_test (bytes_eq (map lower r.0) (codes "highestmodseq")) (modseq_of (long_in r.1)) _ (Some c) (IsKnown c t) f
     (λ b f. by_some (long_in r.1) modseq_of c (IsKnown c t) refl f (λ n is_n f.
-    subst (λ (k : Code). IsKnown k t) (same_Some (code.HighestModSeq n) c f) (parted (IsWord (codes "highestmodseq")) (IsLong n) t r e (same_word r.0 (codes "highestmodseq") b) (long_sound r.1 n is_n))))
+    subst (λ (k : Code). IsKnown k t) (same_Some (code.HighestModSeq n) c f)
+    (parted (IsWord (codes "highestmodseq")) (IsLong n) t r e (same_word r.0 (codes "highestmodseq") b) (long_sound r.1 n is_n))))
     (λ b f. by_test (bytes_eq (map lower r.0) (codes "appenduid")) (append_in (cut 32 r.1)) _ (Some c) (IsKnown c t) f
     (λ b f. append_sound r.1 c (IsKnown c t) f (λ v u h is.
     subst (λ (k : Code). IsKnown k t) is (parted (IsWord (codes "appenduid")) (Parted (IsNonZero v) (IsNonZero u)) t r e (same_word r.0 (codes "appenduid") b) h)))

@@ -9,7 +9,7 @@ pub each_to : (p q : ℕ → Bool) (t : List ℕ) → ((c : ℕ) → p c ≡ tru
 each_to p q [] f h = tt
 each_to p q (c ∷ t) f h = (f c h.0, each_to p q t f h.1)
 
--- two texts of a class, one behind the other
+-- two texts of a class, one after the other
 pub each_append : (p : ℕ → Bool) (x y : List ℕ) → Each p x → Each p y → Each p (x ++ y)
 each_append p [] y h k = k
 each_append p (c ∷ x) y h k = (h.0, each_append p x y h.1 k)

@@ -4,10 +4,11 @@
 --   "[" ("UIDVALIDITY" SP nz / "UIDNEXT" SP nz / "HIGHESTMODSEQ" SP long / "NOMODSEQ" / "CLOSED"
 --       / "APPENDUID" SP nz SP nz / "COPYUID" SP nz SP set SP set / "OVERQUOTA" / other) "]"
 --
--- A code stands directly behind the space after the status, and goes to the first `]`.
+-- A code stands directly after the space after the status, and goes to the first `]`.
 use Rattle.std.specs.Prelude.{◌≡◌, ℕ, Bool, not, ◌==◌, List, [], ◌∷◌, ◌++◌, codes}
 use Rattle.imap_syntax.specs.declared.code.Code.{Code}
-use Rattle.imap_syntax.specs.declared.code.Code.TheVariants.{Absent, UidValidity, UidNext, HighestModSeq, NoModSeq, Closed, AppendUid, CopyUid, OverQuota, Other}
+use Rattle.imap_syntax.specs.declared.code.Code.TheVariants.{Absent, UidValidity, UidNext, HighestModSeq, NoModSeq, Closed, AppendUid, CopyUid, OverQuota}
+use Rattle.imap_syntax.specs.declared.code.Code.TheVariants.{Other}
 use Rattle.imap_syntax.specs.Texts.{Each, IsWord}
 use Rattle.imap_syntax.specs.Numbers.{IsNonZero, IsLong}
 use Rattle.imap_syntax.specs.UidSets.{IsSet}

@@ -3,7 +3,8 @@ use Rattle.std.specs.Prelude.{ℕ, ℤ, Bool, ◌&&◌, nat_le, if◌then◌else
 use Rattle.std.specs.List.{list_all}
 use Rattle.std.specs.Fmt.{decimal}
 use Rattle.imap_syntax.specs.declared.command.Command.{Command}
-use Rattle.imap_syntax.specs.declared.command.Command.TheVariants.{Capability, Login, Enable, List as ListFolders, Select, Unselect, FetchFlags, FetchSlice, FetchNew, FetchBody, Store, Move, Expunge, Append, Create, Delete, Rename, Subscribe}
+use Rattle.imap_syntax.specs.declared.command.Command.TheVariants.{Capability, Login, Enable, List as ListFolders, Select, Unselect, FetchFlags, FetchSlice}
+use Rattle.imap_syntax.specs.declared.command.Command.TheVariants.{FetchNew, FetchBody, Store, Move, Expunge, Append, Create, Delete, Rename, Subscribe}
 use Rattle.imap_syntax.specs.Texts.{Each, crlf}
 pub use Rattle.imap_syntax.specs.Strings.{escaped, quoted}
 use Rattle.imap_syntax.specs.Dates.{date_text}
@@ -142,7 +143,7 @@ abbrev pub joined_pieces : List (List ℕ) → List ℕ
 joined_pieces [] = []
 joined_pieces (p ∷ ps) = p ++ joined_pieces ps
 
--- the whole text: the pieces, one behind another
+-- the whole text: the pieces, one after another
 abbrev pub command_text : Command → ℕ → List ℕ
 command_text command tag = joined_pieces (command_pieces command tag)
 

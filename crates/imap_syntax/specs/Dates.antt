@@ -15,7 +15,7 @@ next_day d =
     else if nat_lt d.month 12 then record { year = d.year; month = d.month + 1; day = 1 }
     else record { year = d.year + 1; month = 1; day = 1 }
 
--- so many days behind the first of January of the year 0
+-- n days after the first of January of the year 0
 unfoldable pub day_at : ℕ → Day
 day_at zero = record { year = 0; month = 1; day = 1 }
 day_at (suc n) = next_day (day_at n)

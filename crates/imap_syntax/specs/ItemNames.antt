@@ -22,7 +22,7 @@ is_inner c = (is_atom c && not (c == 93)) || c == 32 || c == 40 || c == 41
 abbrev pub IsUnit : List ℕ → Type 0
 IsUnit t = ((c : ℕ) × (t ≡ c ∷ []) × (is_inner c ≡ true)) ⊎ ((s : List ℕ) × IsQuoted s t)
 
--- one behind another
+-- one after another
 abbrev pub concat : List (List ℕ) → List ℕ
 concat [] = []
 concat (u ∷ us) = u ++ concat us

@@ -1,6 +1,7 @@
 -- How the code of a status line is read. That it is the code which the line has, and the only one, is a law of this
 -- crate.
-use Rattle.std.specs.Prelude.{ℕ, zero, suc, Bool, ◌&&◌, nat_lt, nat_le, ◌==◌, if◌then◌else◌, List, [], ◌∷◌, length, map, drop, get_or, codes, bytes_eq, Option, Some, None, unwrap_or}
+use Rattle.std.specs.Prelude.{ℕ, zero, suc, Bool, ◌&&◌, nat_lt, nat_le, ◌==◌, if◌then◌else◌, List, [], ◌∷◌, length, map, drop, get_or, codes, bytes_eq, Option}
+use Rattle.std.specs.Prelude.{Some, None, unwrap_or}
 use Rattle.std.specs.List.{list_all}
 use Rattle.imap_syntax.specs.declared.code.Code.{Code}
 use Rattle.imap_syntax.specs.declared.code.Code.TheVariants as code
@@ -54,7 +55,7 @@ abbrev pub more_in_set : Option UidRange → Option (List UidRange) → Option (
 more_in_set (Some r) (Some rs) = Some (r ∷ rs)
 more_in_set _ _ = None
 
--- at most so many ranges
+-- at most n ranges
 unfoldable pub ranges_in : ℕ → List ℕ → Option (List UidRange)
 ranges_in zero t = None
 ranges_in (suc most) t = elim (cut 44 t) [ None ↦ one_in_set (range_in t) | Some r ↦ more_in_set (range_in r.0) (ranges_in most r.1) ]
@@ -103,7 +104,7 @@ abbrev pub copy_in : Option (List ℕ × List ℕ) → Option Code
 copy_in None = None
 copy_in (Some r) = sets_in (nonzero_in r.0) (cut 32 r.1)
 
--- a code that is a word and what follows it behind a space
+-- a code that is a word and what follows it after a space
 unfoldable pub code_with : List ℕ → List ℕ → Option Code
 code_with w t =
     if bytes_eq w (codes "uidvalidity") then validity_of (nonzero_in t)

@@ -13,7 +13,8 @@
 --            / "*" SP other CRLF
 use Rattle.std.specs.Prelude.{◌≡◌, ◌≢◌, ◌⊎◌, ℕ, ◌≤◌, false, List, [], ◌∷◌, ◌++◌, map, get_or, codes, Contains, Option, Some, None}
 use Rattle.imap_syntax.specs.declared.response.Response.{Response}
-use Rattle.imap_syntax.specs.declared.response.Response.TheVariants.{Tagged, Untagged, Continue, Capability, Enabled, List as Listing, StatusItems as Counts, Flags, Exists, Expunge, Fetch, Vanished, Other}
+use Rattle.imap_syntax.specs.declared.response.Response.TheVariants.{Tagged, Untagged, Continue, Capability, Enabled, List as Listing, StatusItems as Counts}
+use Rattle.imap_syntax.specs.declared.response.Response.TheVariants.{Flags, Exists, Expunge, Fetch, Vanished, Other}
 use Rattle.imap_syntax.specs.Octets.{is_word, lower}
 use Rattle.imap_syntax.specs.declared.response.FetchItems.{FetchItems}
 use Rattle.imap_syntax.specs.Texts.{Each, plain, outside, limit, crlf, IsCrlf}
@@ -24,9 +25,11 @@ use Rattle.imap_syntax.specs.Items.{Item, IsNames, IsItems, kept, items_of}
 use Rattle.imap_syntax.specs.Folders.{IsListLine, IsStatusLine}
 use Rattle.imap_syntax.specs.Free.{IsFree}
 
--- the words with which no other response begins, behind the number or none
+-- the words with which no other response begins, after the number or none
 abbrev pub keywords : Option ℕ → List (List ℕ)
-keywords None = codes "ok" ∷ codes "no" ∷ codes "bad" ∷ codes "preauth" ∷ codes "bye" ∷ codes "capability" ∷ codes "enabled" ∷ codes "flags" ∷ codes "vanished" ∷ codes "list" ∷ codes "status" ∷ []
+keywords None =
+    codes "ok" ∷ codes "no" ∷ codes "bad" ∷ codes "preauth" ∷ codes "bye" ∷ codes "capability" ∷ codes "enabled" ∷ codes "flags" ∷ codes "vanished" ∷ codes
+    "list" ∷ codes "status" ∷ []
 keywords (Some n) = codes "exists" ∷ codes "expunge" ∷ codes "fetch" ∷ []
 
 -- SP names CRLF
@@ -37,7 +40,7 @@ IsFlagsLine flags t = (ns : List (List ℕ)) × (names : List ℕ) × (t ≡ 32 
 abbrev pub IsItemsLine : FetchItems → List ℕ → Type 0
 IsItemsLine items t = (is : List Item) × (rest : List ℕ) × (t ≡ 32 ∷ 40 ∷ rest) × IsItems is rest × (items ≡ items_of is)
 
--- what a line says, behind the number n or none, by its first word in lower case and what follows the word
+-- what a line says, after the number n or none, by its first word in lower case and what follows the word
 abbrev pub Says : Option ℕ → Response → List ℕ → List ℕ → List ℕ → Type 0
 Says None (Untagged status code) word tail line = (word ≡ word_of status) × IsCodedRest code tail
 Says None (Capability words) word tail line = (word ≡ codes "capability") × IsWords words tail
@@ -66,7 +69,7 @@ pub record IsWordLine (number : Option ℕ) (v : Response) (t : List ℕ) : Type
 abbrev pub Numbered : ℕ → List ℕ → List ℕ → Type 0
 Numbered n line t = (digits : List ℕ) × (t ≡ digits ++ 32 ∷ line) × IsNumber n digits
 
--- what stands behind `* `: behind a number and a space the first word is the one after them
+-- what stands after `* `: after a number and a space the first word is the one after them
 abbrev pub IsUntagged : Response → List ℕ → Type 0
 IsUntagged v t =
     ((n : ℕ) × (line : List ℕ) × Numbered n line t × IsWordLine (Some n) v line)

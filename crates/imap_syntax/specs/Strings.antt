@@ -28,7 +28,7 @@ IsQuoted s t = Each is_text s × (t ≡ quoted s)
 
 -- ---- literals
 
--- "{" 1*8digit "}" CRLF, and so many octets
+-- "{" 1*8digit "}" CRLF, and n octets
 pub record IsCounted (s t : List ℕ) : Type 0 where
   pub digits : List ℕ
   pub octets : List ℕ

@@ -1,4 +1,4 @@
--- How a LIST and a STATUS are read back, from behind the word on.
+-- How a LIST and a STATUS are read back, from after the word on.
 use Rattle.std.specs.Prelude.{ℕ, zero, suc, ◌+◌, ◌==◌, if◌then◌else◌, List, length, map, take, drop, get_or, Option, Some, None}
 use Rattle.imap_syntax.specs.declared.response.StatusItems.{StatusItems}
 use Rattle.imap_syntax.specs.declared.response.Response.{Response}
@@ -31,14 +31,14 @@ count_in so_far b =
     let d = drop (n + 1) b in
     (told_as so_far (map lower (take n b)) (long_in (take (span is_digit d) d)), drop (span is_digit d) d)
 
--- at most so many counts, each but the first behind a space
+-- at most n counts, each but the first after a space
 unfoldable pub counts_in : ℕ → StatusItems → List ℕ → StatusItems
 counts_in zero so_far b = so_far
 counts_in (suc most) so_far b =
     let r = count_in so_far b in
     if get_or r.1 0 0 == 32 then counts_in most r.0 (drop 1 r.1) else r.0
 
--- behind the opening bracket
+-- after the opening bracket
 unfoldable pub counts_of : List ℕ → StatusItems
 counts_of b = if get_or b 0 0 == 41 then no_counts else counts_in (length b) no_counts b
 

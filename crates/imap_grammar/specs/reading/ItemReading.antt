@@ -52,7 +52,7 @@ item_in so_far b =
     let name = map lower (take n b) in
     if is_told name then value_in so_far name (drop (n + 1) b) else (so_far, drop (passed b (item_start ∷ [])) b)
 
--- at most so many items, each but the first behind a space
+-- at most n items, each but the first after a space
 unfoldable pub items_in : ℕ → FetchItems → List ℕ → FetchItems
 items_in zero so_far b = so_far
 items_in (suc most) so_far b =

@@ -3,7 +3,7 @@ use Rattle.std.specs.Prelude.{ℕ, ◌+◌, List, [], ◌∷◌, Option, Some, N
 use Rattle.imap_automaton.specs.declared.sym.Sym.{Sym}
 use Rattle.imap_automaton.specs.Run.{step, mark}
 
--- behind an octet: none where the symbols ended before it, and one where they ended with it
+-- after an octet: none where the symbols ended before it, and one where they ended with it
 abbrev pub beyond : Option (List Sym) → (List Sym → ℕ) → ℕ
 beyond None more = 0
 beyond (Some []) more = 1

@@ -1,12 +1,14 @@
 -- How a spelling is read back: each function takes the octets from its place on. That it gives the spelled value is a
 -- law of this crate.
-use Rattle.std.specs.Prelude.{ℕ, zero, suc, ◌+◌, Bool, true, false, ◌&&◌, nat_lt, nat_le, ◌==◌, if◌then◌else◌, List, [], ◌∷◌, length, map, take, drop, get_or, codes, bytes_eq, Option, Some, None, unwrap_or}
+use Rattle.std.specs.Prelude.{ℕ, zero, suc, ◌+◌, Bool, true, false, ◌&&◌, nat_lt, nat_le, ◌==◌, if◌then◌else◌, List, [], ◌∷◌, length, map, take, drop, get_or}
+use Rattle.std.specs.Prelude.{codes, bytes_eq, Option, Some, None, unwrap_or}
 unfoldable pub use Rattle.imap_grammar.specs.reading.Spans.{span, in_name, cap, count_from, number_from, long_in, number_in, names_in, flags_in}
 use Rattle.imap_grammar.specs.reading.FolderReading.{list_in, status_in}
 use Rattle.imap_syntax.specs.declared.response.Status.{Status}
 use Rattle.imap_syntax.specs.declared.response.Status.TheVariants as status
 use Rattle.imap_syntax.specs.declared.response.Response.{Response}
-use Rattle.imap_syntax.specs.declared.response.Response.TheVariants.{Tagged, Untagged, Continue, Capability, Enabled, Flags, Exists, Expunge, Fetch, Vanished, Other}
+use Rattle.imap_syntax.specs.declared.response.Response.TheVariants.{Tagged, Untagged, Continue, Capability, Enabled, Flags, Exists, Expunge, Fetch, Vanished}
+use Rattle.imap_syntax.specs.declared.response.Response.TheVariants.{Other}
 use Rattle.imap_syntax.specs.declared.uid_set.UidRange.{UidRange}
 use Rattle.imap_syntax.specs.Octets.{is_digit, is_word, lower}
 use Rattle.imap_syntax.specs.UidSets.{range_of}
@@ -16,7 +18,7 @@ unfoldable pub use Rattle.imap_grammar.specs.reading.ItemReading.{value_in, item
 
 -- ---- words
 
--- at most so many words, each behind a space
+-- at most n words, each after a space
 unfoldable pub words_in : ℕ → List ℕ → List (List ℕ)
 words_in zero b = []
 words_in (suc most) b =
@@ -35,14 +37,14 @@ range_in b =
     then (let second = drop 1 after in (range_of first (number_in (take (span is_digit second) second)), drop (span is_digit second) second))
     else (range_of first first, after)
 
--- at most so many ranges, each but the first behind a comma
+-- at most n ranges, each but the first after a comma
 unfoldable pub ranges_in : ℕ → List ℕ → List UidRange
 ranges_in zero b = []
 ranges_in (suc most) b =
     let r = range_in b in
     r.0 ∷ (if get_or r.1 0 0 == 44 then ranges_in most (drop 1 r.1) else [])
 
--- behind the space after VANISHED
+-- after the space after VANISHED
 unfoldable pub vanished_in : List ℕ → Response
 vanished_in b =
     if get_or b 0 0 == 40
@@ -94,7 +96,7 @@ said_in (Some s) w tail = Untagged s (code_in tail)
 unfoldable pub plain_in : List ℕ → Response
 plain_in b = said_in (status_named (word_in b)) (word_in b) (drop (span is_word b) b)
 
--- from behind `* ` on
+-- from after `* ` on
 unfoldable pub untagged_in : List ℕ → Response
 untagged_in b =
     let n = span is_word b in

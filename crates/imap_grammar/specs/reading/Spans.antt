@@ -34,7 +34,7 @@ number_in t = if nat_le (number_from 0 t) 4294967295 then number_from 0 t else 4
 
 -- ---- flags
 
--- at most so many names, and what follows the closing bracket
+-- at most n names, and what follows the closing bracket
 unfoldable pub names_in : ℕ → List (List ℕ) → List ℕ → List (List ℕ) × List ℕ
 names_in zero so_far b = (so_far, b)
 names_in (suc most) so_far b =
@@ -42,6 +42,6 @@ names_in (suc most) so_far b =
     let next = add_name so_far (map lower (take n b)) in
     if get_or b n 0 == 32 then names_in most next (drop (n + 1) b) else (next, drop (n + 1) b)
 
--- from behind the opening bracket on
+-- from after the opening bracket on
 unfoldable pub flags_in : List ℕ → List (List ℕ) × List ℕ
 flags_in b = if get_or b 0 0 == 41 then ([], drop 1 b) else names_in (length b) [] b

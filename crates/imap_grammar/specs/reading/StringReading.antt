@@ -3,7 +3,7 @@ use Rattle.std.specs.Prelude.{ℕ, Bool, true, false, ◌&&◌, ◌==◌, if◌t
 use Rattle.imap_syntax.specs.Octets.{is_digit, is_atom}
 use Rattle.imap_grammar.specs.reading.Spans.{span, number_in}
 
--- within a quoted text, behind a `\` or not
+-- within a quoted text, after a `\` or not
 unfoldable pub unquoted : Bool → List ℕ → List ℕ × List ℕ
 unquoted pair [] = ([], [])
 unquoted true (c ∷ b) = (c ∷ (unquoted false b).0, (unquoted false b).1)
@@ -12,7 +12,7 @@ unquoted false (c ∷ b) =
     else if c == 92 then unquoted true b
     else (c ∷ (unquoted false b).0, (unquoted false b).1)
 
--- behind the opening brace of a literal
+-- after the opening brace of a literal
 unfoldable pub literal_in : List ℕ → List ℕ × List ℕ
 literal_in b =
     let n = span is_digit b in

@@ -10,7 +10,8 @@ pub advance_run-count-requires : goal.advance_run-count-requires
 advance_run-count-requires c = ready_can (symbols_of c.loop-count.stack) c.loop-count.invariant.ready
 
 pub advance_within-requires : goal.advance_within-requires
-advance_within-requires c = ready_run (take c.advance_run-count.result c.split_at.result.1.now) (symbols_of c.loop-count.stack) (symbols_of c.advance_run-count.new.stack) c.loop-count.invariant.ready c.advance_run-count.ensures.run
+advance_within-requires c = ready_run (take c.advance_run-count.result c.split_at.result.1.now) (symbols_of c.loop-count.stack)
+    (symbols_of c.advance_run-count.new.stack) c.loop-count.invariant.ready c.advance_run-count.ensures.run
 
 pub returns-then-octets-count-clause-run : goal.returns-then-octets-count-clause-run
 returns-then-octets-count-clause-run c =
@@ -20,7 +21,8 @@ returns-then-octets-count-clause-run c =
     let octets = c.args.octets.now in
     let count = c.loop-count.count in
     let more = c.advance_run-count.result in
-    let on = run_on first before after octets count more c.loop-count.invariant.run (ap (λ (u : List ℕ). run (Some before) (take more u)) (sym c.split_at.ensures.back) ∙ c.advance_run-count.ensures.run) in
+    let on = run_on first before after octets count more c.loop-count.invariant.run
+    (ap (λ (u : List ℕ). run (Some before) (take more u)) (sym c.split_at.ensures.back) ∙ c.advance_run-count.ensures.run) in
     on
 
 pub returns-then-not-advance_within-clause-run : goal.returns-then-not-advance_within-clause-run
@@ -31,7 +33,8 @@ returns-then-not-advance_within-clause-run c =
     let octets = c.args.octets.now in
     let count = c.loop-count.count in
     let more = c.advance_run-count.result in
-    let on = run_on first before after octets count more c.loop-count.invariant.run (ap (λ (u : List ℕ). run (Some before) (take more u)) (sym c.split_at.ensures.back) ∙ c.advance_run-count.ensures.run) in
+    let on = run_on first before after octets count more c.loop-count.invariant.run
+    (ap (λ (u : List ℕ). run (Some before) (take more u)) (sym c.split_at.ensures.back) ∙ c.advance_run-count.ensures.run) in
     on ∙ ap (λ (ss : List Sym). Some ss) (sym (c.advance_within.ensures.left c.if-not-advance_within.true))
 
 pub loop-count-preserved : goal.loop-count-preserved
@@ -42,7 +45,8 @@ loop-count-preserved c =
     let octets = c.args.octets.now in
     let count = c.loop-count.count in
     let more = c.advance_run-count.result in
-    let on = run_on first before after octets count more c.loop-count.invariant.run (ap (λ (u : List ℕ). run (Some before) (take more u)) (sym c.split_at.ensures.back) ∙ c.advance_run-count.ensures.run) in
+    let on = run_on first before after octets count more c.loop-count.invariant.run
+    (ap (λ (u : List ℕ). run (Some before) (take more u)) (sym c.split_at.ensures.back) ∙ c.advance_run-count.ensures.run) in
     let left = symbols_of c.advance_within.new.stack in
     let octet = get_or octets (count + more) 0 in
     let taken = c.advance_within.ensures.taken c.if-not-advance_within.false in

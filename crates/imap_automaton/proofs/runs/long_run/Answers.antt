@@ -14,7 +14,8 @@ loop-i-preserved c =
     let so_far = sym.Item (item.Long c.loop-i.so_far c.loop-i.length) in
     let next = sym.Item (item.Long c.in-One-Item-Long.v c.in-One-Item-Long.d) in
     let octet = get_or c.args.octets.now c.loop-i.i 0 in
-    let e : rule_of so_far octet ≡ move.One next = sym c.long_rule.ensures ∙ c.in-One-Item-Long.is ∙ ap (λ (s : Sym). move.One s) (c.in-One-Item-Long.field-0-is ∙ ap (λ (x : Item). sym.Item x) c.in-One-Item-Long.field-0-0-is) in
+    let e : rule_of so_far octet ≡ move.One next = sym c.long_rule.ensures ∙ c.in-One-Item-Long.is
+    ∙ ap (λ (s : Sym). move.One s) (c.in-One-Item-Long.field-0-is ∙ ap (λ (x : Item). sym.Item x) c.in-One-Item-Long.field-0-0-is) in
     record {
       fits = one_fits so_far next octet c.loop-i.invariant.fits e;
       run = runs_more first so_far next c.args.octets.now c.loop-i.i octet (omega arith) refl c.loop-i.invariant.run e;

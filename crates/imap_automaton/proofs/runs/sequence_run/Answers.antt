@@ -14,7 +14,8 @@ loop-i-preserved c =
     let so_far = sym.Line (line.Sequence c.loop-i.so_far c.loop-i.length) in
     let next = sym.Line (line.Sequence c.in-One-Line-Sequence.v c.in-One-Line-Sequence.d) in
     let octet = get_or c.args.octets.now c.loop-i.i 0 in
-    let e : rule_of so_far octet ≡ move.One next = sym c.sequence_rule.ensures ∙ c.in-One-Line-Sequence.is ∙ ap (λ (s : Sym). move.One s) (c.in-One-Line-Sequence.field-0-is ∙ ap (λ (x : Line). sym.Line x) c.in-One-Line-Sequence.field-0-0-is) in
+    let e : rule_of so_far octet ≡ move.One next = sym c.sequence_rule.ensures ∙ c.in-One-Line-Sequence.is
+    ∙ ap (λ (s : Sym). move.One s) (c.in-One-Line-Sequence.field-0-is ∙ ap (λ (x : Line). sym.Line x) c.in-One-Line-Sequence.field-0-0-is) in
     record {
       fits = one_fits so_far next octet c.loop-i.invariant.fits e;
       run = runs_more first so_far next c.args.octets.now c.loop-i.i octet (omega arith) refl c.loop-i.invariant.run e;

@@ -27,7 +27,8 @@ loop-count-preserved c =
     let p = and_parts (in_word c.args.place octet) (goes_on c.args.key at (lower octet) c.args.key) (sym c.takes.ensures ∙ c.if-takes.true) in
     let next = goes_to c.args.key c.args.key at (lower octet) p.1 in
     let same : at + 1 ≡ c.args.at + (count + 1) = omega arith in
-    let more = runs_more (word c.args.at) (word at) (word (at + 1)) c.args.octets.now count octet (omega arith) refl c.loop-count.invariant.run (word_stays c.args.place c.args.key at octet p.0 p.1) in
+    let more = runs_more (word c.args.at) (word at) (word (at + 1)) c.args.octets.now count octet (omega arith) refl c.loop-count.invariant.run
+    (word_stays c.args.place c.args.key at octet p.0 p.1) in
     record {
       within = omega arith;
       key = omega (arith, next.1);

@@ -19,7 +19,8 @@ returns-clause-value c =
     let first = first_day c.args.year c.args.month c.requires.year c.requires.first c.requires.last in
     let year : date.year ≡ pos c.args.year = told.year ∙ to_z_pos w16 c.args.year (omega (arith, c.requires.year)) in
     let day : date.day ≡ 1 = told.day ∙ first_is (days_in_month (to_z w16 c.args.year) c.args.month) (days_in_month_bounds (to_z w16 c.args.year) c.args.month).1 in
-    let value = c.to_unix_epoch_day.ensures.value ∙ ap (λ y. days_from_civil y date.month date.day) year ∙ ap (λ m. days_from_civil (pos c.args.year) m date.day) told.month ∙ ap (days_from_civil (pos c.args.year) c.args.month) day ∙ first.0 in
+    let value = c.to_unix_epoch_day.ensures.value ∙ ap (λ y. days_from_civil y date.month date.day) year ∙ ap (λ m. days_from_civil (pos c.args.year) m date.day) told.month
+    ∙ ap (days_from_civil (pos c.args.year) c.args.month) day ∙ first.0 in
     to_z-of_z w32 c.to_unix_epoch_day.result (day_fits c.to_unix_epoch_day.result _ first.1 value) ∙ value
 
 pub returns-clause-most : goal.returns-clause-most

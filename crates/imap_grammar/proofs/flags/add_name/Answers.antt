@@ -9,4 +9,6 @@ pub returns : goal.returns
 returns c =
     ap (map (λ (v : Vec ℕ Global). v.items)) c.in_ok-insert.ensures.keys
     ∙ insert_items c.args.set.now.keys c.args.name
-    ∙ sym (cond-false (bytes_eq c.args.name.items (codes "\\recent")) (map (λ (v : Vec ℕ Global). v.items) c.args.set.now.keys) (insert_key (slice_cmp nat_cmp) (map (λ (v : Vec ℕ Global). v.items) c.args.set.now.keys) c.args.name.items) (ap (λ (u : List ℕ). bytes_eq u (codes "\\recent")) (sym c.deref.ensures.value) ∙ sym c.is_recent.ensures ∙ c.if-is_recent.false))
+    ∙ sym (cond-false (bytes_eq c.args.name.items (codes "\\recent")) (map (λ (v : Vec ℕ Global). v.items) c.args.set.now.keys)
+    (insert_key (slice_cmp nat_cmp) (map (λ (v : Vec ℕ Global). v.items) c.args.set.now.keys) c.args.name.items)
+    (ap (λ (u : List ℕ). bytes_eq u (codes "\\recent")) (sym c.deref.ensures.value) ∙ sym c.is_recent.ensures ∙ c.if-is_recent.false))

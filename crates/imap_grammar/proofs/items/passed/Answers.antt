@@ -9,21 +9,25 @@ use Rattle.imap_grammar.proofs.items.passed.Goals as goal
 pub returns-in_default : goal.returns-in_default
 returns-in_default c =
     let ss = symbols_of c.skip_inside-octets.new.stack in
-    let at = skip_to c.args.bytes.now c.passing.rest.now c.skip_inside-octets.result.now (symbols_of c.passing.stack) ss c.passing.invariant c.skip_inside-octets.ensures.rest c.skip_inside-octets.ensures.symbols in
+    let at = skip_to c.args.bytes.now c.passing.rest.now c.skip_inside-octets.result.now
+    (symbols_of c.passing.stack) ss c.passing.invariant c.skip_inside-octets.ensures.rest c.skip_inside-octets.ensures.symbols in
     passed_all c.args.bytes.now c.skip_inside-octets.result.now ss at c.in_default.ensures.cases
 
 pub advance-requires : goal.advance-requires
 advance-requires c =
     let ss = symbols_of c.skip_inside-octets.new.stack in
-    let at = skip_to c.args.bytes.now c.passing.rest.now c.skip_inside-octets.result.now (symbols_of c.passing.stack) ss c.passing.invariant c.skip_inside-octets.ensures.rest c.skip_inside-octets.ensures.symbols in
+    let at = skip_to c.args.bytes.now c.passing.rest.now c.skip_inside-octets.result.now
+    (symbols_of c.passing.stack) ss c.passing.invariant c.skip_inside-octets.ensures.rest c.skip_inside-octets.ensures.symbols in
     (good_fits true ss at.good, at.room)
 
 pub returns-then-not-advance : goal.returns-then-not-advance
 returns-then-not-advance c =
     let ss = symbols_of c.skip_inside-octets.new.stack in
     let octet = c.in-Some.octet.now in
-    let at = skip_to c.args.bytes.now c.passing.rest.now c.skip_inside-octets.result.now (symbols_of c.passing.stack) ss c.passing.invariant c.skip_inside-octets.ensures.rest c.skip_inside-octets.ensures.symbols in
-    let e = marked_step ss octet c.is_inside.result c.marked_by-marked.result c.advance.result (Some (symbols_of c.advance.new.stack)) c.is_inside.ensures c.marked_by-marked.ensures c.advance.ensures in
+    let at = skip_to c.args.bytes.now c.passing.rest.now c.skip_inside-octets.result.now
+    (symbols_of c.passing.stack) ss c.passing.invariant c.skip_inside-octets.ensures.rest c.skip_inside-octets.ensures.symbols in
+    let e = marked_step ss octet c.is_inside.result c.marked_by-marked.result c.advance.result
+    (Some (symbols_of c.advance.new.stack)) c.is_inside.ensures c.marked_by-marked.ensures c.advance.ensures in
     let none : step ss (mark ss octet) ≡ None = e ∙ ap (λ (q : Bool). cond q (Some (symbols_of c.advance.new.stack)) None) c.if-not-advance.true in
     passed_before c.args.bytes.now c.skip_inside-octets.result.now c.in-Some.after.now octet ss at c.in-Some.ensures.cases.0 none
 
@@ -32,7 +36,8 @@ returns-then-is_empty c =
     let ss = symbols_of c.skip_inside-octets.new.stack in
     let left = symbols_of c.advance.new.stack in
     let octet = c.in-Some.octet.now in
-    let at = skip_to c.args.bytes.now c.passing.rest.now c.skip_inside-octets.result.now (symbols_of c.passing.stack) ss c.passing.invariant c.skip_inside-octets.ensures.rest c.skip_inside-octets.ensures.symbols in
+    let at = skip_to c.args.bytes.now c.passing.rest.now c.skip_inside-octets.result.now
+    (symbols_of c.passing.stack) ss c.passing.invariant c.skip_inside-octets.ensures.rest c.skip_inside-octets.ensures.symbols in
     let e = marked_step ss octet c.is_inside.result c.marked_by-marked.result c.advance.result (Some left) c.is_inside.ensures c.marked_by-marked.ensures c.advance.ensures in
     let some : step ss (mark ss octet) ≡ Some left = e ∙ ap (λ (q : Bool). cond q (Some left) None) c.if-not-advance.false in
     passed_with c.args.bytes.now c.skip_inside-octets.result.now c.in-Some.after.now octet ss left at c.in-Some.ensures.cases.0 some (c.is_empty.ensures.0 c.if-is_empty.true)
@@ -42,7 +47,9 @@ passing-preserved c =
     let ss = symbols_of c.skip_inside-octets.new.stack in
     let left = symbols_of c.advance.new.stack in
     let octet = c.in-Some.octet.now in
-    let at = skip_to c.args.bytes.now c.passing.rest.now c.skip_inside-octets.result.now (symbols_of c.passing.stack) ss c.passing.invariant c.skip_inside-octets.ensures.rest c.skip_inside-octets.ensures.symbols in
+    let at = skip_to c.args.bytes.now c.passing.rest.now c.skip_inside-octets.result.now
+    (symbols_of c.passing.stack) ss c.passing.invariant c.skip_inside-octets.ensures.rest c.skip_inside-octets.ensures.symbols in
     let e = marked_step ss octet c.is_inside.result c.marked_by-marked.result c.advance.result (Some left) c.is_inside.ensures c.marked_by-marked.ensures c.advance.ensures in
     let some : step ss (mark ss octet) ≡ Some left = e ∙ ap (λ (q : Bool). cond q (Some left) None) c.if-not-advance.false in
-    passed_on c.args.bytes.now c.skip_inside-octets.result.now c.in-Some.after.now octet ss left at c.in-Some.ensures.cases.0 some (λ n. both c.is_empty.result (c.is_empty.ensures.1 n) c.if-is_empty.false)
+    passed_on c.args.bytes.now c.skip_inside-octets.result.now c.in-Some.after.now octet ss left at c.in-Some.ensures.cases.0 some
+    (λ n. both c.is_empty.result (c.is_empty.ensures.1 n) c.if-is_empty.false)

@@ -41,10 +41,12 @@ returns-then-is_body-clause-rest c =
 
 pub returns-else-is_body-clause-items : goal.returns-else-is_body-clause-items
 returns-else-is_body-clause-items c =
-    let same = flags_text c.args.so_far (map lower c.args.name.now) c.args.value.now (sym c.is_header.ensures ∙ c.if-is_header.false) (sym c.is_body.ensures ∙ c.if-is_body.false) in
+    let same = flags_text c.args.so_far (map lower c.args.name.now) c.args.value.now (sym c.is_header.ensures ∙ c.if-is_header.false)
+    (sym c.is_body.ensures ∙ c.if-is_body.false) in
     subst (λ (q : FetchItems × List ℕ). IfOk c.told_flags.result (λ r. r.0 ≡ q.0)) (sym same) c.told_flags.ensures.items
 
 pub returns-else-is_body-clause-rest : goal.returns-else-is_body-clause-rest
 returns-else-is_body-clause-rest c =
-    let same = flags_text c.args.so_far (map lower c.args.name.now) c.args.value.now (sym c.is_header.ensures ∙ c.if-is_header.false) (sym c.is_body.ensures ∙ c.if-is_body.false) in
+    let same = flags_text c.args.so_far (map lower c.args.name.now) c.args.value.now (sym c.is_header.ensures ∙ c.if-is_header.false)
+    (sym c.is_body.ensures ∙ c.if-is_body.false) in
     subst (λ (q : FetchItems × List ℕ). IfOk c.told_flags.result (λ r. r.1.now ≡ q.1)) (sym same) c.told_flags.ensures.rest

@@ -6,16 +6,20 @@ pub returns-in_default-clause-scan : goal.returns-in_default-clause-scan
 returns-in_default-clause-scan c = λ b f.
     let here = c.feeding.invariant b f in
     let s = c.take_many-octets.new.self in
-    let skipped = up_to c.feeding.self c.skip-skipped.new.self b c.args.piece.now c.feeding.rest.now c.skip-skipped.result.now here (c.skip-skipped.ensures.fed (b ++ here.front) here.fed) in
-    let at = up_to c.skip-skipped.new.self s b c.args.piece.now c.skip-skipped.result.now c.take_many-octets.result.now skipped (c.take_many-octets.ensures.fed (b ++ skipped.front) skipped.fed) in
+    let skipped = up_to c.feeding.self c.skip-skipped.new.self b c.args.piece.now c.feeding.rest.now c.skip-skipped.result.now here
+    (c.skip-skipped.ensures.fed (b ++ here.front) here.fed) in
+    let at = up_to c.skip-skipped.new.self s b c.args.piece.now c.skip-skipped.result.now c.take_many-octets.result.now skipped
+    (c.take_many-octets.ensures.fed (b ++ skipped.front) skipped.fed) in
     fed_proper s (b ++ c.args.piece.now) (all_fed s b c.args.piece.now c.take_many-octets.result.now at c.in_default.ensures.cases)
 
 pub returns-in_default-clause-more : goal.returns-in_default-clause-more
 returns-in_default-clause-more c = λ b f e.
     let here = c.feeding.invariant b f in
     let s = c.take_many-octets.new.self in
-    let skipped = up_to c.feeding.self c.skip-skipped.new.self b c.args.piece.now c.feeding.rest.now c.skip-skipped.result.now here (c.skip-skipped.ensures.fed (b ++ here.front) here.fed) in
-    let at = up_to c.skip-skipped.new.self s b c.args.piece.now c.skip-skipped.result.now c.take_many-octets.result.now skipped (c.take_many-octets.ensures.fed (b ++ skipped.front) skipped.fed) in
+    let skipped = up_to c.feeding.self c.skip-skipped.new.self b c.args.piece.now c.feeding.rest.now c.skip-skipped.result.now here
+    (c.skip-skipped.ensures.fed (b ++ here.front) here.fed) in
+    let at = up_to c.skip-skipped.new.self s b c.args.piece.now c.skip-skipped.result.now c.take_many-octets.result.now skipped
+    (c.take_many-octets.ensures.fed (b ++ skipped.front) skipped.fed) in
     all_fed s b c.args.piece.now c.take_many-octets.result.now at c.in_default.ensures.cases
 
 pub returns-in_default-answer : goal.returns-in_default-answer
@@ -24,10 +28,13 @@ returns-in_default-answer c =
       scan = λ b f.
           let here = c.feeding.invariant b f in
           let s = c.take_many-octets.new.self in
-          let skipped = up_to c.feeding.self c.skip-skipped.new.self b c.args.piece.now c.feeding.rest.now c.skip-skipped.result.now here (c.skip-skipped.ensures.fed (b ++ here.front) here.fed) in
-          let at = up_to c.skip-skipped.new.self s b c.args.piece.now c.skip-skipped.result.now c.take_many-octets.result.now skipped (c.take_many-octets.ensures.fed (b ++ skipped.front) skipped.fed) in
+          let skipped = up_to c.feeding.self c.skip-skipped.new.self b c.args.piece.now c.feeding.rest.now c.skip-skipped.result.now here
+          (c.skip-skipped.ensures.fed (b ++ here.front) here.fed) in
+          let at = up_to c.skip-skipped.new.self s b c.args.piece.now c.skip-skipped.result.now c.take_many-octets.result.now skipped
+          (c.take_many-octets.ensures.fed (b ++ skipped.front) skipped.fed) in
           let piece = at.whole ∙ ap (λ (u : List ℕ). at.front ++ u) c.in-Some.ensures.cases.0 in
-          answered b c.args.piece.now at.front c.in-Some.after.now c.in-Some.octet.now s c.take-answer.new.self c.take-answer.result piece at.fed (c.take-answer.ensures (b ++ at.front) at.fed) c.in_default-answer.not-NeedMore;
+          answered b c.args.piece.now at.front c.in-Some.after.now c.in-Some.octet.now s c.take-answer.new.self c.take-answer.result piece at.fed
+          (c.take-answer.ensures (b ++ at.front) at.fed) c.in_default-answer.not-NeedMore;
       more = λ b f e. absurd (c.in_default-answer.not-NeedMore e);
     }
 
@@ -35,6 +42,10 @@ pub feeding-preserved : goal.feeding-preserved
 feeding-preserved c = λ b f.
     let here = c.feeding.invariant b f in
     let s = c.take_many-octets.new.self in
-    let skipped = up_to c.feeding.self c.skip-skipped.new.self b c.args.piece.now c.feeding.rest.now c.skip-skipped.result.now here (c.skip-skipped.ensures.fed (b ++ here.front) here.fed) in
-    let at = up_to c.skip-skipped.new.self s b c.args.piece.now c.skip-skipped.result.now c.take_many-octets.result.now skipped (c.take_many-octets.ensures.fed (b ++ skipped.front) skipped.fed) in
-    up_to s c.take-answer.new.self b c.args.piece.now c.take_many-octets.result.now c.in-Some.after.now at (next_fed c.take-answer.new.self b at.front c.take_many-octets.result.now c.in-Some.after.now c.in-Some.octet.now c.in-Some.ensures.cases.0 (c.in-NeedMore.ensures (b ++ at.front) at.fed))
+    let skipped = up_to c.feeding.self c.skip-skipped.new.self b c.args.piece.now c.feeding.rest.now c.skip-skipped.result.now here
+    (c.skip-skipped.ensures.fed (b ++ here.front) here.fed) in
+    let at = up_to c.skip-skipped.new.self s b c.args.piece.now c.skip-skipped.result.now c.take_many-octets.result.now skipped
+    (c.take_many-octets.ensures.fed (b ++ skipped.front) skipped.fed) in
+    up_to s c.take-answer.new.self b c.args.piece.now c.take_many-octets.result.now c.in-Some.after.now at
+    (next_fed c.take-answer.new.self b at.front c.take_many-octets.result.now c.in-Some.after.now c.in-Some.octet.now c.in-Some.ensures.cases.0
+    (c.in-NeedMore.ensures (b ++ at.front) at.fed))

@@ -7,4 +7,9 @@ advance_through-count-requires c = c.requires.1.ready
 
 pub returns-clause-fed : goal.returns-clause-fed
 returns-clause-fed c = λ b f.
-    run_some c.args.self.now _ b c.args.octets.now c.before-front.result.now c.behind.result.now c.advance_through-count.result f (λ i. omega (arith, c.type_inv.octets i)) c.before-front.ensures c.advance_through-count.ensures.within c.advance_through-count.ensures.run c.advance_through-count.ensures.some refl refl c.behind.ensures
+    run_some c.args.self.now _ b c.args.octets.now c.before-front.result.now c.behind.result.now c.advance_through-count.result f
+    (λ i. omega (
+      arith,
+      c.type_inv.octets i,
+    )) c.before-front.ensures c.advance_through-count.ensures.within c.advance_through-count.ensures.run c.advance_through-count.ensures.some refl refl
+    c.behind.ensures
