@@ -1,5 +1,5 @@
 -- Lines haven't ended before their last line end has come, and not before all of them have.
-use Rattle.std.proofs.Common.{◌≡◌, ◌≢◌, ◌<◌, ◌+◌, ◌==◌, ◌++◌, ℕ, Bool, true, false, cond, List, [], ◌∷◌, length, take, get_or, refl, sym, ap, ◌∙◌, subst, arith, append_assoc}
+use Rattle.std.proofs.Common.{◌≡◌, ◌≢◌, ◌<◌, ◌+◌, ◌==◌, ◌++◌, ℕ, zero, suc, Bool, true, false, cond, List, [], ◌∷◌, length, take, get_or, refl, sym, ap, ◌∙◌, subst, arith, append_assoc}
 use Rattle.std.proofs.Common.{length-append, ◌⊎◌, inl, inr, All, Option, Some, None}
 use Rattle.std.specs.List.{flat_map}
 use Rattle.std.proofs.lemmas.List.{append-nil, take_more}
@@ -31,6 +31,13 @@ run_more place octets i lt = ap (run place) (take_more octets i 0 lt) ∙ run-ap
 stays_ended : (octets : List ℕ) → run Ended octets ≡ Ended
 stays_ended [] = refl
 stays_ended (c ∷ octets) = stays_ended octets
+
+-- what comes after the line end that ends the lines changes nothing
+pub run_ended : (place : Place) (octets : List ℕ) (i : ℕ) → run place (take i octets) ≡ Ended → run place octets ≡ Ended
+run_ended place [] zero ended = ended
+run_ended place [] (suc i) ended = ended
+run_ended place (c ∷ octets) zero ended = ap (λ (p : Place). run p (c ∷ octets)) ended ∙ stays_ended (c ∷ octets)
+run_ended place (c ∷ octets) (suc i) ended = run_ended (step place c) octets i ended
 
 stays_blank : (ends : List LineEnd) (octets : List ℕ) → run Blank (print_blank ends ++ octets) ≡ run Blank octets
 stays_blank [] octets = refl

@@ -73,12 +73,15 @@ impl Place {
         }
     }
 
-    // The place after these octets.
+    // The place after these octets. None behind the line end is looked at: more may stand there than the lines have.
     fn run(self, octets: &[u8]) -> Place
         ensures { result ≡ run self octets.now }
     {
         let mut place = self;
         for octet in octets {
+            if place.is_ended() {
+                return place;
+            }
             place = place.step(*octet);
         }
         place

@@ -201,6 +201,27 @@ fn no_octet_is_asked_for_after_a_refusal(rt: HostRuntime) -> Result<(), Fail> {
     Ok(())
 }
 
+/// A chunked body of n chunks, each of one octet.
+fn in_single_octets(alloc: Global, chunks: usize) -> Result<Vec<u8>, Fail> {
+    let mut body = Vec::new(alloc);
+    for _ in 0..chunks {
+        body.extend_from_slice(b"1\r\nx\r\n")?;
+    }
+    body.extend_from_slice(b"0\r\n\r\n")?;
+    Ok(body)
+}
+
+#[test]
+fn chunks_of_one_octet_are_read_in_a_time_of_their_octets(rt: HostRuntime) -> Result<(), Fail> {
+    let alloc = rt.alloc();
+    let client = posted(alloc, CHUNKED, &in_single_octets(alloc, 50_000)?)?;
+    let mut world = world_of(alloc, &client, 100_000, 0)?;
+    let mut spare = Spare::new(alloc);
+    let seen = read_both(alloc, &mut world, &mut spare, 50_000)?;
+    assert_eq!(rt; seen.len(), 50_000);
+    Ok(())
+}
+
 /// Three requests, one after another.
 const THREE_REQUESTS: &[u8] =
     b"POST / HTTP/1.1\r\nContent-Length: 2\r\n\r\nabPOST / HTTP/1.1\r\nTransfer-Encoding: chunked\r\n\r\n1\r\nc\r\n0\r\n\r\nrest /x HTTP/1.1\r\n\r\n";

@@ -1,4 +1,4 @@
-use Rattle.std.proofs.Common.{◌≡◌, ◌≢◌, [], ◌∷◌, sym, ◌∙◌, subst, List, ℕ}
+use Rattle.std.proofs.Common.{sym, ◌∙◌, subst}
 use Rattle.httparse.specs.Grammar.{is_uri_byte}
 use Rattle.text_words.specs.Cuts.{Each}
 use Rattle.http_service.proofs.CutTargetLemmas.{in_target, target_parts, same_tail}
