@@ -63,6 +63,7 @@ impl<D: Dialer + Drop> TcpLink<D> {
         ensures err { OnErr result (self.new ≡ record self.old { stream = None; faults = one_more self.old.faults }) }
         ensures later { self.old.faults ≤ self.new.faults }
     {
+        self.stream = None;
         self.stream = connect(&self.dialer, self.store.as_str());
         if self.stream.is_none() {
             return Err(self.fail());

@@ -31,7 +31,7 @@ use Rattle.gateway.specs.Mail.{IsMail}
 use Rattle.gateway.specs.Machine.{Account, Machine, Follows, Moves, Stays, opened}
 use Rattle.gateway.specs.Front.{Asked}
 use Rattle.gateway.specs.Segment.{counts_line, first_told, no_memory_line, Replies, NoRequest, TooLarge, Answered, Unavailable, OutReading, OutRefusing, OutAsking, OutLiving}
-use Rattle.gateway.specs.Segment.{Segment, NoneComes, NotAccepted, Unasked, Served, front_faults}
+use Rattle.gateway.specs.Segment.{Segment, NoneComes, NotAccepted, Unasked, Served, blamed_front_faults}
 use Rattle.gateway.specs.Run.{Run, Refused, OutOfMemory, ServedOnce, ShownOne, account_of, EndsOnce}
 use Rattle.gateway.specs.Complete.{asked_for, IsTold, Completes}
 use Rattle.gateway.proofs.Quiet.{gives_took, gives_gave, asks_gave_store, asks_took_store, talk_gave_client, talk_took_client, heard_gave_client, heard_gave_store}
@@ -210,7 +210,7 @@ same_word a b x y is = cc
 
 -- a segment that is owed the counts
 segment_owed : {after : Machine} (place : Place) (password : List ℕ) (epoch : ℕ) (request : Request) (responses : List Response) (segment said events : List Event)
-    (served : Segment (account_of place password) (opened epoch) segment after) → front_faults served ≡ 0 → said ≡ [] → events ≡ Word epoch ∷ (segment ++ said)
+    (served : Segment (account_of place password) (opened epoch) segment after) → blamed_front_faults served ≡ 0 → said ≡ [] → events ≡ Word epoch ∷ (segment ++ said)
     → length (asked_for events) ≤ 10000000 → IsRequest (asked_for events) request
     → InboxFetched place.user password (flat_map store_gave_in events) (flat_map store_took_in events) responses → IsTold events place epoch request responses
 segment_owed place password epoch request responses segment said events (NoneComes is a) well none events_are within form fetched =
@@ -244,7 +244,7 @@ completes {events = events} (Refused none a b) well place epoch request response
 completes {events = events} (OutOfMemory a none) well place epoch request responses owes =
     absurd (never_fetched (flat_map store_gave_in events) (ap (λ (l : List Event). flat_map store_gave_in l) none) owes.fetched)
 completes {words} {password} {status} {events} (ServedOnce other drawn segment said after served is_task is ends) well place epoch request responses owes =
-    let quiet = ends_well (front_faults served) status said well ends in
+    let quiet = ends_well (blamed_front_faults served) status said well ends in
     let places : place ≡ other = same_place place other (same-task words (Once place) (Once other) owes.task is_task) in
     let epochs : epoch ≡ drawn = same_word epoch drawn owes.later (segment ++ said) (sym owes.drawn ∙ is) in
     subst (λ (e : ℕ). IsTold events place e request responses) (sym epochs)

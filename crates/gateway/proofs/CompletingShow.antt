@@ -11,7 +11,7 @@ use Rattle.gateway.specs.declared.front.FrontError.{FrontError}
 use Rattle.gateway.specs.declared.front.FrontError.TheVariants as error
 use Rattle.gateway.specs.declared.front.Input.{Input}
 use Rattle.gateway.specs.declared.front.Input.TheVariants.{Whole, Cut}
-use Rattle.gateway.specs.Front.{octets_of, Gives}
+use Rattle.gateway.specs.Front.{input_octets, GivesInput}
 use Rattle.gateway.specs.Show.{ShowsObject, Answers, Unread, Sent, Shows, NoneComes, NotAccepted, Came}
 use Rattle.gateway.specs.Run.{Run, Refused, OutOfMemory, ServedOnce, ShownOne, EndsShow}
 use Rattle.gateway.specs.Complete.{asked_for, IsGiven, TellsObject, CompletesShow}
@@ -30,8 +30,8 @@ octets_within f answered events accepted done is =
     ap (λ (l : List Event). flat_map f l) is ∙ ap (λ (l : List ℕ). l ++ flat_map f (answered ++ ClientDone ∷ [])) accepted ∙ before_one f answered ClientDone done
 
 -- the client's input is all that it gave
-is_given : (input : Input) (reads heard events : List Event) → Gives 50000000 (Ok input) reads → events ≡ Accepted ∷ ((reads ++ heard) ++ ClientDone ∷ [])
-    → asked_for events ≡ octets_of input → IsGiven events
+is_given : (input : Input) (reads heard events : List Event) → GivesInput 50000000 (Ok input) reads → events ≡ Accepted ∷ ((reads ++ heard) ++ ClientDone ∷ [])
+    → asked_for events ≡ input_octets input → IsGiven events
 is_given (Whole octets) reads heard events (asks, is, so, few) events_are gave =
     let parts_are : ((asks ++ ClientEnded ∷ []) ++ heard) ++ ClientDone ∷ [] ≡ asks ++ ClientEnded ∷ (heard ++ ClientDone ∷ []) =
     append_assoc (asks ++ ClientEnded ∷ []) heard (ClientDone ∷ []) ∙ append_assoc asks (ClientEnded ∷ []) (heard ++ ClientDone ∷ []) in
@@ -67,12 +67,12 @@ answers_told outcome status answered said shown events (Sent reads heard line (E
 answers_told outcome status answered said shown events (Sent reads heard line (Ok u) answered_is (input, gives, object) sends is) well ends events_are shown_is =
     let all = shown_events answered said shown events events_are (ends_shown outcome status said is ends) shown_is in
     let gave = octets_within client_gave_in answered events refl refl all
-    ∙ parts client_gave_in answered reads heard (octets_of input) [] answered_is (gives_gave 50000000 input reads gives) (heard_gave_client heard sends.kind)
-    ∙ append-nil (octets_of input) in
+    ∙ parts client_gave_in answered reads heard (input_octets input) [] answered_is (gives_gave 50000000 input reads gives) (heard_gave_client heard sends.kind)
+    ∙ append-nil (input_octets input) in
     let took = octets_within client_took_in answered events refl refl all
     ∙ parts client_took_in answered reads heard [] line answered_is (gives_took 50000000 (Ok input) reads gives) sends.took_is in
     let given = is_given input reads heard events gives (all ∙ ap (λ (l : List Event). Accepted ∷ (l ++ ClientDone ∷ [])) answered_is) gave in
-    inl (given, subst (λ (l : List ℕ). ShowsObject l (flat_map client_took_in events)) (sym gave) (subst (λ (l : List ℕ). ShowsObject (octets_of input) l) (sym took) object))
+    inl (given, subst (λ (l : List ℕ). ShowsObject l (flat_map client_took_in events)) (sym gave) (subst (λ (l : List ℕ). ShowsObject (input_octets input) l) (sym took) object))
 
 none_came : (behind said shown events : List Event) → events ≡ shown ++ said → shown ≡ NoMore ∷ [] → events ≡ Accepted ∷ behind → ⊥
 none_came behind said shown events is shown_is came =

@@ -10,7 +10,7 @@ use Rattle.gateway.specs.declared.front.FrontError.{FrontError}
 use Rattle.gateway.specs.declared.front.FrontError.TheVariants as error
 use Rattle.gateway.specs.declared.front.Input.{Input}
 use Rattle.gateway.specs.declared.front.Input.TheVariants.{Whole, Cut}
-use Rattle.gateway.specs.Front.{octets_of, Gives}
+use Rattle.gateway.specs.Front.{input_octets, GivesInput}
 use Rattle.gate_world.specs.Octets.{store_gave_in, store_took_in, client_gave_in, client_took_in, IsTalk, IsClientGave, IsClientTook}
 
 -- events that all have no octets of a kind
@@ -81,7 +81,7 @@ pub before_one : (f : Event → List ℕ) (es : List Event) (e : Event) → f e 
 before_one f es e none = flat_map-append f es (e ∷ []) ∙ ap (λ (l : List ℕ). flat_map f es ++ l) (ap (λ (l : List ℕ). l ++ []) none) ∙ append-nil (flat_map f es)
 
 -- what a client's input has of each kind of octets
-pub gives_took : (most : ℕ) (r : Result Input FrontError) (es : List Event) → Gives most r es → flat_map client_took_in es ≡ []
+pub gives_took : (most : ℕ) (r : Result Input FrontError) (es : List Event) → GivesInput most r es → flat_map client_took_in es ≡ []
 gives_took most (Ok (Whole octets)) es (asks, is, so, few) = ap (λ (l : List Event). flat_map client_took_in l) is ∙ before_one client_took_in asks ClientEnded refl
     ∙ asks_took_client asks so.kind
 gives_took most (Ok (Cut octets)) es (so, many) = asks_took_client es so.kind
@@ -91,7 +91,7 @@ gives_took most (Err error.Memory) es (asks, gave, so, few, inl is) = ap (λ (l 
 gives_took most (Err error.Memory) es (asks, gave, so, few, inr (is, short)) = ap (λ (l : List Event). flat_map client_took_in l) is
     ∙ before_one client_took_in asks ClientEnded refl ∙ asks_took_client asks so.kind
 
-pub gives_gave : (most : ℕ) (input : Input) (es : List Event) → Gives most (Ok input) es → flat_map client_gave_in es ≡ octets_of input
+pub gives_gave : (most : ℕ) (input : Input) (es : List Event) → GivesInput most (Ok input) es → flat_map client_gave_in es ≡ input_octets input
 gives_gave most (Whole octets) es (asks, is, so, few) = ap (λ (l : List Event). flat_map client_gave_in l) is ∙ before_one client_gave_in asks ClientEnded refl ∙ so.gave_is
 gives_gave most (Cut octets) es (so, many) = so.gave_is
 

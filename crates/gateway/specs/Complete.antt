@@ -12,7 +12,7 @@ use Rattle.imap_syntax.specs.declared.response.Response.{Response}
 use Rattle.imap_client.specs.LinkLife.{InboxFetched}
 use Rattle.jmap_core.specs.declared.request.Request.{Request}
 use Rattle.jmap_core.specs.Request.{IsRequest}
-use Rattle.gateway.specs.Front.{body_limit}
+use Rattle.gateway.specs.Front.{request_limit}
 use Rattle.gateway.specs.declared.mail.Marks.{Marks}
 use Rattle.gateway.specs.Mail.{IsMail}
 use Rattle.gateway.specs.Show.{message_limit, ShowsObject}
@@ -28,7 +28,7 @@ pub record Owes (words : List (List ℕ)) (password : List ℕ) (events : List E
   pub task : IsTask words (Once place)
   pub later : List Event
   pub drawn : events ≡ Word epoch ∷ later
-  pub within : length (asked_for events) ≤ body_limit
+  pub within : length (asked_for events) ≤ request_limit
   pub form : IsRequest (asked_for events) request
   pub fetched : InboxFetched place.user password (flat_map store_gave_in events) (flat_map store_took_in events) responses
 

@@ -50,8 +50,8 @@ pub record IsMail (responses : List Response) (messages : List (ℕ × Marks)) :
 abbrev pub is_counted : ℕ × Marks → Bool
 is_counted message = message.1.is_visible
 
-abbrev pub is_unread : ℕ × Marks → Bool
-is_unread message = message.1.is_visible && message.1.is_unread
+abbrev pub counts_as_unread : ℕ × Marks → Bool
+counts_as_unread message = message.1.is_visible && message.1.is_unread
 
 abbrev pub counts_of : List (ℕ × Marks) → Counts
-counts_of messages = record { total_emails = count_by is_counted messages; unread_emails = count_by is_unread messages }
+counts_of messages = record { total_emails = count_by is_counted messages; unread_emails = count_by counts_as_unread messages }

@@ -10,7 +10,7 @@ use Rattle.gate_words.specs.Task.{IsTask}
 use Rattle.gateway.specs.declared.front.FrontError.{FrontError}
 use Rattle.gateway.specs.declared.front.FrontError.TheVariants as front
 use Rattle.gateway.specs.Machine.{Account, Machine, opened}
-use Rattle.gateway.specs.Segment.{Segment, segment_faults, front_faults}
+use Rattle.gateway.specs.Segment.{Segment, segment_faults, blamed_front_faults}
 use Rattle.gateway.specs.Show.{Shows}
 
 -- a line on the console, or that it failed
@@ -44,7 +44,7 @@ pub data Run (words : List (List ℕ)) (password : List ℕ) (status : ℕ) (eve
   OutOfMemory : status ≡ 5 → events ≡ [] → Run words password status events
   ServedOnce : (place : Place) (epoch : ℕ) (segment said : List Event) (after : Machine)
       (served : Segment (account_of place password) (opened epoch) segment after) → IsTask words (Once place) → events ≡ Word epoch ∷ (segment ++ said)
-      → EndsOnce (front_faults served) status said → Run words password status events
+      → EndsOnce (blamed_front_faults served) status said → Run words password status events
   ShownOne : (shown said : List Event) (outcome : Result (Unit {0}) FrontError) → IsTask words Show → events ≡ shown ++ said → Shows outcome shown
       → EndsShow outcome status said → Run words password status events
 
@@ -63,7 +63,7 @@ IsRun words password was now status events = (run : Run words password status ev
 abbrev pub RunsOnce : Place → List ℕ → ℕ → ℕ → ℕ → List Event → Type 0
 RunsOnce place password was now status events =
     (epoch : ℕ) × (segment : List Event) × (said : List Event) × (after : Machine) × (served : Segment (account_of place password) (opened epoch) segment after)
-    × (events ≡ Word epoch ∷ (segment ++ said)) × EndsOnce (front_faults served) status said × RoseBy (segment_faults served) was now
+    × (events ≡ Word epoch ∷ (segment ++ said)) × EndsOnce (blamed_front_faults served) status said × RoseBy (segment_faults served) was now
 
 -- what showing one client its message adds
 abbrev pub RunsShow : ℕ → List Event → Type 0

@@ -100,11 +100,11 @@ abbrev pub unsent : Result (Unit {0}) Failed → ℕ
 unsent (Ok _) = 0
 unsent (Err _) = 1
 
-abbrev pub front_faults : {account : Account} {before : Machine} {events : List Event} {after : Machine} → Segment account before events after → ℕ
-front_faults (NoneComes a b) = 0
-front_faults (NotAccepted a b) = 1
-front_faults (Unasked asked a b c) = 1
-front_faults (Served request heard response sent a replies c) = unsent sent
+abbrev pub blamed_front_faults : {account : Account} {before : Machine} {events : List Event} {after : Machine} → Segment account before events after → ℕ
+blamed_front_faults (NoneComes a b) = 0
+blamed_front_faults (NotAccepted a b) = 1
+blamed_front_faults (Unasked asked a b c) = 1
+blamed_front_faults (Served request heard response sent a replies c) = unsent sent
 
 -- what a request adds before anything is sent: the response, or that the front failed
 abbrev pub Responds : Account → Machine → ℕ → ℕ → Reply → List Event → Type 0
@@ -143,9 +143,9 @@ SendsReply reply.NoMemory sent events = Sends no_memory_line sent events
 abbrev pub Serves : Account → Machine → ℕ → ℕ → Result (Unit {0}) Failed → List Event → Type 0
 Serves account before was now result events =
     (after : Machine) × (served : Segment account before (Accepted ∷ events) after) × RoseBy (segment_faults served) was now
-    × (front_faults served ≡ unsent result)
+    × (blamed_front_faults served ≡ unsent result)
 
 -- what is added where one client may come
 abbrev pub ServesOne : Account → Machine → ℕ → ℕ → Result (Unit {0}) Failed → List Event → Type 0
 ServesOne account before was now result events =
-    (after : Machine) × (served : Segment account before events after) × RoseBy (segment_faults served) was now × (front_faults served ≡ unsent result)
+    (after : Machine) × (served : Segment account before events after) × RoseBy (segment_faults served) was now × (blamed_front_faults served ≡ unsent result)

@@ -11,7 +11,7 @@ use Rattle.gateway.specs.declared.front.FrontError.{FrontError}
 use Rattle.gateway.specs.declared.front.FrontError.TheVariants as front
 use Rattle.gateway.specs.declared.front.Input.{Input}
 use Rattle.gate_world.specs.Sending.{Sends}
-use Rattle.gateway.specs.Front.{octets_of, Gives}
+use Rattle.gateway.specs.Front.{input_octets, GivesInput}
 use Rattle.gateway.specs.Segment.{line_end}
 
 -- the most octets of a message
@@ -29,9 +29,9 @@ ShowsObject octets line = (email : Data) × IsEmailObject octets email × (line 
 -- the message is read and its line made; or the front failed before its end; or memory ran out while it was read or
 -- after that
 abbrev pub Reads : Result (List ℕ) FrontError → List Event → Type 0
-Reads (Ok line) events = (input : Input) × Gives message_limit (Ok input) events × ShowsObject (octets_of input) line
-Reads (Err front.Failed) events = Gives message_limit (Err front.Failed) events
-Reads (Err front.Memory) events = (input : Result Input FrontError) × Gives message_limit input events × (input ≡ Err front.Failed → ⊥)
+Reads (Ok line) events = (input : Input) × GivesInput message_limit (Ok input) events × ShowsObject (input_octets input) line
+Reads (Err front.Failed) events = GivesInput message_limit (Err front.Failed) events
+Reads (Err front.Memory) events = (input : Result Input FrontError) × GivesInput message_limit input events × (input ≡ Err front.Failed → ⊥)
 
 -- what is left of a call of the front
 abbrev pub over_front : Result (Unit {0}) Failed → Result (Unit {0}) FrontError

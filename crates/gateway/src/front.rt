@@ -2,7 +2,7 @@
 ghost use Rattle.std.specs.Prelude.{◌≡◌, IsErrOf};
 ghost use Rattle.gate_world.specs.Causes.{Rose, FrontAlone};
 ghost use Rattle.gate_world.specs.Tape.{Adds};
-ghost use Rattle.gateway.specs.Front.{octets_of, Gives, Asked};
+ghost use Rattle.gateway.specs.Front.{input_octets, GivesInput, Asked};
 
 use gate_world::{Bytes, Failed, FillError, Front, Unread};
 use std::alloc::{AllocError, Global};
@@ -22,7 +22,7 @@ pub enum Input {
 impl Input {
     /// What was read, whole or cut.
     pub fn octets(&self) -> &[u8]
-        ensures { result.now ≡ octets_of self.now }
+        ensures { result.now ≡ input_octets self.now }
     {
         match self {
             Input::Whole(octets) | Input::Cut(octets) => octets.as_slice(),
@@ -88,7 +88,7 @@ pub enum AskError {
 
 /// The client's octets up to the end of its input, or the first of them, as many as are wanted at most.
 pub fn receive<F: Front>(alloc: Global, front: &mut F, most: usize) -> Result<Input, FrontError>
-    ensures tape { Adds (F.tape front.old) (F.tape front.new) (Gives most result) }
+    ensures tape { Adds (F.tape front.old) (F.tape front.new) (GivesInput most result) }
     ensures alone { FrontAlone (F.faults front.old) (F.faults front.new) }
     ensures cause { IsErrOf result FrontError.Failed → Rose (F.faults front.old).front (F.faults front.new).front }
     ensures hidden { F.hidden front.new ≡ F.hidden front.old }

@@ -10,6 +10,7 @@ pub fn with_line_end(text: Bytes) -> Result<Bytes, AllocError>
     ensures { IfOk result (λ line. line ≡ text ++ line_end) }
 {
     let mut line = text.into_vec()?;
+    line.reserve_exact(1)?;
     line.push(b'\n')?;
     Ok(Bytes::from_vec(line)?)
 }

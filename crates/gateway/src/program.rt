@@ -23,7 +23,7 @@ pub const STATUS_MEMORY: u8 = 5;
 /// The front failed.
 pub const STATUS_FRONT: u8 = 6;
 
-// IsSaid that the front failed.
+// Says on standard error that the front failed.
 fn end_failed<W: World>(world: &mut W) -> u8
     ensures said { Adds (W.tape world.old) (W.tape world.new) (IsSaid front_failed) }
     ensures status { result ≡ 6 }

@@ -46,7 +46,7 @@ pub record IsTarget (target path_text query_text : List ℕ) : Type 0 where
   pub query : query_text ≡ drop 1 (back is_path_octet both)
 
 -- what a head of this method, target, minor version and these fields says
-pub record IsRequest (method_word target : List ℕ) (minor : ℕ) (fields : List (List ℕ × List ℕ)) (head : Head) : Type 0 where
+pub record IsHeadOf (method_word target : List ℕ) (minor : ℕ) (fields : List (List ℕ × List ℕ)) (head : Head) : Type 0 where
   pub method : head.method ≡ method_word
   pub of_target : IsTarget target head.path head.query
   pub token : IsToken (values_of authorization fields) head.token
@@ -60,7 +60,7 @@ HasNoBody fields = (body : BodyKind) → IsBody (values_of content_length fields
 
 -- what the head says
 abbrev pub IsHead : RequestHead → Head → Type 0
-IsHead h head = IsRequest h.method h.target h.minor (map name_and_value h.fields) head
+IsHead h head = IsHeadOf h.method h.target h.minor (map name_and_value h.fields) head
 
 -- the text of a head, and what it says
 abbrev pub IsHeadText : List ℕ → Head → Type 0

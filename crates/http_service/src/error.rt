@@ -6,7 +6,8 @@ use thiserror::Error;
 /// Why a head or a body isn't read.
 #[derive(Clone, Copy, Debug, PartialEq, Eq, Error)]
 pub enum HttpError {
-    /// The octets begin no head, or no chunk where one is due; or the head's fields say no length of the body.
+    /// The octets begin no head, or no chunk where one is due; or the head's fields say no length
+    /// of the body; or a chunk's data or a trailer section ends otherwise than it must.
     #[error("malformed request")]
     BadHead,
     /// `MAX_HEAD_OCTETS` came that may begin a head, and it isn't whole.

@@ -27,7 +27,8 @@ pub enum BodyKind {
 #[derive(Debug, PartialEq, Drop)]
 pub struct Head {
     pub method: Bytes,
-    /// The target up to its first `?`.
+    /// The target up to its first `?`, without the scheme and authority of a target in absolute form (RFC 9112 section
+    /// 3.2.2).
     pub path: Bytes,
     /// The target after its first `?`.
     pub query: Bytes,

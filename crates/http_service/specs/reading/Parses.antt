@@ -7,11 +7,11 @@ use Rattle.httparse.specs.Grammar.{LineEnd, print_section, HasNoSection, NeverHa
 use Rattle.http_service.specs.declared.head.Head.{Head}
 use Rattle.http_service.specs.declared.error.HttpError.{HttpError}
 use Rattle.http_service.specs.declared.error.HttpError.TheVariants.{BadHead, Memory}
-use Rattle.http_service.specs.Heads.{IsRequest, HasNoBody, IsHeadText, IsMalformed, IsIncomplete}
+use Rattle.http_service.specs.Heads.{IsHeadOf, HasNoBody, IsHeadText, IsMalformed, IsIncomplete}
 
 -- what is made of a head with these parts
 abbrev pub MakesHead : List ℕ → List ℕ → ℕ → List (List ℕ × List ℕ) → Result Head HttpError → Type 0
-MakesHead method target minor fields (Ok head) = IsRequest method target minor fields head
+MakesHead method target minor fields (Ok head) = IsHeadOf method target minor fields head
 MakesHead method target minor fields (Err BadHead) = HasNoBody fields
 MakesHead method target minor fields (Err Memory) = ⊤
 MakesHead method target minor fields (Err _) = ⊥
