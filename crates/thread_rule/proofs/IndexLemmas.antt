@@ -1,111 +1,55 @@
--- What a change at one id, or at several, leaves of the index.
-use Rattle.std.proofs.Common.{◌≡◌, ◌≢◌, ℕ, ◌+◌, ◌<◌, Bool, true, false, ◌&&◌, ◌||◌, cond, eqb, eqb-true, List, [], ◌∷◌, ◌++◌, length, get_or, take, drop, refl, sym, ap, ◌∙◌, subst}
-use Rattle.std.proofs.Common.{Option, Some, None, map, Result, Ok, Err, arith}
-use Rattle.std.specs.Option.{option_map_or}
+-- What a change at one key, or at several, leaves of the index, and what is read of it at a key.
+use Rattle.std.proofs.Common.{◌≡◌, ℕ, ◌+◌, ◌<◌, Bool, true, false, ◌&&◌, ◌||◌, cond, eqb, eqb-true, List, [], ◌∷◌, ◌++◌, length, get_or, take, drop, refl, sym, ap, ◌∙◌, subst}
+use Rattle.std.proofs.Common.{map, Result, Ok, Err, arith}
 use Rattle.std.specs.Result.{OnErr}
-use Rattle.std.specs.Bool.{MatchBool}
-use Rattle.std.specs.List.{list_any}
-use Rattle.std.specs.Map.{KeepsOthers}
-use Rattle.std.specs.Ordering.{nat_cmp, is_eq}
-use Rattle.std.specs.BTreeMap as tree
-use Rattle.std.specs.BTreeMap.{BTreeMap, get_by, is_at}
+use Rattle.std.specs.List.{list_any, filter, AllByRecursion}
+use Rattle.std.specs.List.Sorted.{IsStrictlySortedBy}
+use Rattle.std.specs.declared.cmp.Ordering.{Ordering}
+use Rattle.std.specs.declared.cmp.Ordering.TheVariants.{Less, Equal, Greater}
+use Rattle.std.specs.declared.ops.Bound.TheVariants.{Included, Unbounded}
+use Rattle.std.specs.Ordering.{nat_cmp, is_eq, is_le, ordering_then, ordering_reverse}
+use Rattle.std.specs.BTreeMap.{is_at}
+use Rattle.std.specs.BTreeMap.Range.{range_contains}
 use Rattle.std.specs.BTreeSet as sorted
-use Rattle.std.specs.BTreeSet.{BTreeSet, contains}
 use Rattle.std.specs.Cmp.Lexicographic.{slice_cmp}
 use Rattle.std.specs.Str.{bytes_eq}
 use Rattle.std.proofs.lemmas.Bool.{cond-true, cond-false}
-use Rattle.std.proofs.lemmas.List.{take_more, take-append-drop}
+use Rattle.std.proofs.lemmas.Cmp.{nat_list_cmp_total, nat_list_eq_equiv, tied_itself}
+use Rattle.std.proofs.lemmas.List.{take_more, take-append-drop, length-map}
 use Rattle.std.proofs.lemmas.List.Folds.{list_any-append}
+use Rattle.std.proofs.lemmas.Map.Keys.{sorted_head, sorted_tail}
 use Rattle.std.proofs.lemmas.Map.Text.{is_eq-slice_cmp}
 use Rattle.std.proofs.lemmas.Slice.Eq.{bytes_eq-Decides}
 use Rattle.std.proofs.Math.ListN.{get_or-map}
-use Rattle.std.proofs.lemmas.List.{length-map}
 use Rattle.thread_rule.specs.Threads.{is_among}
 use Rattle.thread_rule.specs.reading.Keys.{key_after, keys_under}
-use Rattle.thread_rule.specs.reading.Index.{KeyIndex, has, SameIndex, SetsOne, SetsAll, SameApart, IsTight, IsTightApart}
+use Rattle.thread_rule.specs.reading.Index.{Entry, KeyIndex, entry_cmp, numbers_at, numbers_up_to_other, emails_at, has, SameIndex, SetsOne, SetsAll, SameApart}
 
 pub on_err : {T E P : Type 0} (r : Result T E) → P → OnErr r P
 on_err (Ok x) p = tt
 on_err (Err e) p = p
 
-pub same_octets : (s t : List ℕ) → bytes_eq s t ≡ true → s ≡ t
-same_octets s t e = (bytes_eq-Decides s t).0 e
-
-pub octets_same : (s t : List ℕ) → s ≡ t → bytes_eq s t ≡ true
-octets_same s t e = (bytes_eq-Decides s t).1 e
-
--- what compares equal to a key compares to others as it does
-same_key : (s x y : List ℕ) → is_eq (slice_cmp nat_cmp s x) ≡ true → is_eq (slice_cmp nat_cmp s y) ≡ is_eq (slice_cmp nat_cmp x y)
-same_key s x y e =
-    let same = same_octets s x (sym (is_eq-slice_cmp s x) ∙ e) in
-    ap (λ (u : List ℕ). is_eq (slice_cmp nat_cmp u y)) same
-
-apart_keys : (s t x : List ℕ) → bytes_eq t s ≡ false → is_eq (slice_cmp nat_cmp s x) ≡ true → is_eq (slice_cmp nat_cmp t x) ≡ false
-apart_keys s t x n e = by (bytes_eq t x) refl
-  where
-    same : s ≡ x
-    same = same_octets s x (sym (is_eq-slice_cmp s x) ∙ e)
-
-    by : (q : Bool) → bytes_eq t x ≡ q → is_eq (slice_cmp nat_cmp t x) ≡ false
-    by true k = let y = octets_same t s (same_octets t x k ∙ sym same) in absurd cc
-    by false k = is_eq-slice_cmp t x ∙ k
-
--- the look-up at any id, after a change at one
-pub looked_up : {X : Type 0} (at : List ℕ) (m n : BTreeMap (List ℕ) X) (w : Option X) → tree.UpdatesBy (λ x y. slice_cmp nat_cmp x y) (λ k. slice_cmp nat_cmp at k) m n w
-    → (id : List ℕ) → get_by (λ k. slice_cmp nat_cmp id k) n ≡ cond (bytes_eq id at) w (get_by (λ k. slice_cmp nat_cmp id k) m)
-unfolding KeepsOthers
-looked_up {X} at m n w h id = by (bytes_eq id at) refl
-  where
-    G : List ℕ → Type 0
-    G i = get_by (λ (k : List ℕ). slice_cmp nat_cmp i k) n ≡ w
-
-    by : (q : Bool) → bytes_eq id at ≡ q → get_by (λ (k : List ℕ). slice_cmp nat_cmp id k) n ≡ cond q w (get_by (λ (k : List ℕ). slice_cmp nat_cmp id k) m)
-    by true e = let P : List ℕ → Type 0 = λ i. get_by (λ (k : List ℕ). slice_cmp nat_cmp i k) n ≡ w in subst P (sym (same_octets id at e)) h.1
-    by false e = h.3 (is_at (λ (k : List ℕ). slice_cmp nat_cmp id k)) (λ x y. same_key id x y) (λ k. apart_keys at id k e)
-
--- a set of numbers after a change at one
 pub number_test : (a b : ℕ) → is_at (nat_cmp a) b ≡ eqb a b
 number_test a b = grind arith
 
-pub set_changed : (s t : BTreeSet ℕ) (email : ℕ) (b : Bool) → sorted.UpdatesBy nat_cmp (nat_cmp email) s t b → (e : ℕ)
-    → contains nat_cmp t e ≡ cond (eqb email e) b (contains nat_cmp s e)
-set_changed s t email b h e = h.0 e ∙ ap (λ (q : Bool). cond q b (contains nat_cmp s e)) (number_test email e)
+-- an entry is the one that is sought where its key and its number are
+then_equal : (o p : Ordering) → is_eq (ordering_then o p) ≡ is_eq o && is_eq p
+then_equal Less p = refl
+then_equal Equal p = refl
+then_equal Greater p = refl
 
-pub has_some : (m : KeyIndex) (at : List ℕ) (s : BTreeSet ℕ) → get_by (λ k. slice_cmp nat_cmp at k) m ≡ Some s → (e : ℕ) → contains nat_cmp s e ≡ has m at e
-has_some m at s h e = ap (λ (o : Option (BTreeSet ℕ)). option_map_or (λ x. contains nat_cmp x e) o false) (sym h)
+pub entry_test : (at : List ℕ) (email : ℕ) (e : Entry) → is_at (entry_cmp (at, email)) e ≡ bytes_eq e.0 at && is_at (nat_cmp email) e.1
+entry_test at email e =
+    then_equal (slice_cmp nat_cmp at e.0) (nat_cmp email e.1)
+    ∙ ap (λ (q : Bool). q && is_at (nat_cmp email) e.1) (is_eq-slice_cmp at e.0 ∙ nat_list_eq_equiv.symm at e.0)
 
-pub has_none : (m : KeyIndex) (at : List ℕ) → get_by (λ k. slice_cmp nat_cmp at k) m ≡ None → (e : ℕ) → false ≡ has m at e
-has_none m at h e = ap (λ (o : Option (BTreeSet ℕ)). option_map_or (λ x. contains nat_cmp x e) o false) (sym h)
+-- the index after a change at one entry
+pub sets_one : (m n : KeyIndex) (at : List ℕ) (email : ℕ) (b : Bool) → sorted.UpdatesBy entry_cmp (entry_cmp (at, email)) m n b → SetsOne m n at email b
+sets_one m n at email b h id e =
+    h.0 (id, e) ∙ ap (λ (q : Bool). cond q b (has m id e)) (entry_test at email (id, e) ∙ ap (λ (q : Bool). bytes_eq id at && q) (number_test email e))
 
--- the Emails at the changed id are these, and at other ids as they were
-pub sets_at : (m n : KeyIndex) (at : List ℕ) (email : ℕ) (b : Bool) (w : Option (BTreeSet ℕ))
-    → ((id : List ℕ) → get_by (λ k. slice_cmp nat_cmp id k) n ≡ cond (bytes_eq id at) w (get_by (λ k. slice_cmp nat_cmp id k) m))
-    → ((e : ℕ) → option_map_or (λ s. contains nat_cmp s e) w false ≡ cond (eqb email e) b (has m at e))
-    → SetsOne m n at email b
-sets_at m n at email b w g h id e = by (bytes_eq id at) refl
-  where
-    read : Option (BTreeSet ℕ) → Bool
-    read o = option_map_or (λ s. contains nat_cmp s e) o false
-
-    by : (q : Bool) → bytes_eq id at ≡ q → has n id e ≡ cond (q && eqb email e) b (has m id e)
-    by true k =
-        let P : List ℕ → Type 0 = λ i. option_map_or (λ s. contains nat_cmp s e) w false ≡ cond (eqb email e) b (has m i e) in
-        ap (λ (o : Option (BTreeSet ℕ)). option_map_or (λ s. contains nat_cmp s e) o false) (g id ∙ cond-true (bytes_eq id at) w _ k)
-        ∙ subst P (sym (same_octets id at k)) (h e)
-    by false k = ap (λ (o : Option (BTreeSet ℕ)). option_map_or (λ s. contains nat_cmp s e) o false) (g id ∙ cond-false (bytes_eq id at) w _ k)
-
-pub same_at : (m n : KeyIndex) (at : List ℕ) (w : Option (BTreeSet ℕ))
-    → ((id : List ℕ) → get_by (λ k. slice_cmp nat_cmp id k) n ≡ cond (bytes_eq id at) w (get_by (λ k. slice_cmp nat_cmp id k) m))
-    → ((e : ℕ) → option_map_or (λ s. contains nat_cmp s e) w false ≡ has m at e)
-    → SameIndex m n
-same_at m n at w g h id e = by (bytes_eq id at) refl
-  where
-    by : (q : Bool) → bytes_eq id at ≡ q → has n id e ≡ has m id e
-    by true k =
-        let P : List ℕ → Type 0 = λ i. option_map_or (λ s. contains nat_cmp s e) w false ≡ has m i e in
-        ap (λ (o : Option (BTreeSet ℕ)). option_map_or (λ s. contains nat_cmp s e) o false) (g id ∙ cond-true (bytes_eq id at) w _ k)
-        ∙ subst P (sym (same_octets id at k)) (h e)
-    by false k = ap (λ (o : Option (BTreeSet ℕ)). option_map_or (λ s. contains nat_cmp s e) o false) (g id ∙ cond-false (bytes_eq id at) w _ k)
+pub same_entries : (m n : KeyIndex) → sorted.IsUnchanged m n → SameIndex m n
+same_entries m n h id e = ap (list_any (is_at (entry_cmp (id, e)))) h
 
 both : (p r q v h : Bool) → cond (p && q) v (cond (r && q) v h) ≡ cond ((r || (p || false)) && q) v h
 both true true true v h = refl
@@ -170,46 +114,109 @@ undone k m n ids email a g h id e = by (is_among ids id) (eqb email e) refl refl
         let f : (is_among ids id && eqb email e) ≡ false = ap (λ (z : Bool). z && eqb email e) x in
         h id e ∙ cond-false (is_among ids id && eqb email e) false (has m id e) f ∙ g id e f
 
-pub sets_then_same : (k m n : KeyIndex) (at : List ℕ) (email : ℕ) (b : Bool) → SetsOne k m at email b → SameIndex m n → SetsOne k n at email b
-sets_then_same k m n at email b g h id e = h id e ∙ g id e
-
--- no id is left without Emails where one takes or has them
-pub tight_some : (m n : KeyIndex) (at : List ℕ) (t : BTreeSet ℕ)
-    → ((id : List ℕ) → get_by (λ k. slice_cmp nat_cmp id k) n ≡ cond (bytes_eq id at) (Some t) (get_by (λ k. slice_cmp nat_cmp id k) m))
-    → IsTightApart m at → t.keys ≢ [] → IsTight n
-tight_some m n at t g a h id s e = by (bytes_eq id at) refl
+-- the index has an Email at a key where its number is listed there
+listed_in : (id : List ℕ) (email : ℕ) (es : List Entry) → list_any (is_at (entry_cmp (id, email))) es ≡ list_any (is_at (nat_cmp email)) (numbers_at id es)
+listed_in id email [] = refl
+listed_in id email (e ∷ es) = by (bytes_eq e.0 id) refl (listed_in id email es)
   where
-    by : (q : Bool) → bytes_eq id at ≡ q → s.keys ≢ []
-    by true k =
-        let found = sym (g id ∙ cond-true (bytes_eq id at) (Some t) _ k) ∙ e in
-        let same : t ≡ s = cc in
-        let P : BTreeSet ℕ → Type 0 = λ u. u.keys ≢ [] in
-        subst P same h
-    by false k = a id s k (sym (g id ∙ cond-false (bytes_eq id at) (Some t) _ k) ∙ e)
+    rest : Bool
+    rest = list_any (is_at (entry_cmp (id, email))) es
 
-pub tight_none : (m n : KeyIndex) (at : List ℕ)
-    → ((id : List ℕ) → get_by (λ k. slice_cmp nat_cmp id k) n ≡ cond (bytes_eq id at) None (get_by (λ k. slice_cmp nat_cmp id k) m))
-    → IsTightApart m at → IsTight n
-tight_none m n at g a id s e = by (bytes_eq id at) refl
+    by : (q : Bool) → bytes_eq e.0 id ≡ q → rest ≡ list_any (is_at (nat_cmp email)) (numbers_at id es)
+        → is_at (entry_cmp (id, email)) e || rest ≡ list_any (is_at (nat_cmp email)) (numbers_at id (e ∷ es))
+    by true k more =
+        ap (λ (q : Bool). q || rest) (entry_test id email e ∙ ap (λ (q : Bool). q && is_at (nat_cmp email) e.1) k)
+        ∙ ap (λ (q : Bool). is_at (nat_cmp email) e.1 || q) more
+        ∙ sym (ap (list_any (is_at (nat_cmp email))) (cond-true (bytes_eq e.0 id) (e.1 ∷ numbers_at id es) (numbers_at id es) k))
+    by false k more =
+        ap (λ (q : Bool). q || rest) (entry_test id email e ∙ ap (λ (q : Bool). q && is_at (nat_cmp email) e.1) k)
+        ∙ more
+        ∙ sym (ap (list_any (is_at (nat_cmp email))) (cond-false (bytes_eq e.0 id) (e.1 ∷ numbers_at id es) (numbers_at id es) k))
+
+pub has_listed : (index : KeyIndex) (id : List ℕ) (email : ℕ) → has index id email ≡ list_any (is_at (nat_cmp email)) (emails_at index id)
+has_listed index id email = listed_in id email index.keys
+
+-- the numbers at one key ascend
+above_at : (key : List ℕ) (e : Entry) (es : List Entry) → bytes_eq e.0 key ≡ true → AllByRecursion (λ y. entry_cmp e y ≡ Less) es
+    → AllByRecursion (λ n. nat_cmp e.1 n ≡ Less) (numbers_at key es)
+above_at key e [] k a = tt
+above_at key e (y ∷ es) k a = by (bytes_eq y.0 key) refl (above_at key e es k a.1)
   where
-    by : (q : Bool) → bytes_eq id at ≡ q → s.keys ≢ []
-    by true k = let found = sym (g id ∙ cond-true (bytes_eq id at) None _ k) ∙ e in absurd cc
-    by false k = a id s k (sym (g id ∙ cond-false (bytes_eq id at) None _ k) ∙ e)
+    All : List ℕ → Type 0
+    All ns = AllByRecursion (λ n. nat_cmp e.1 n ≡ Less) ns
 
-pub tight_apart : (m n : KeyIndex) (at : List ℕ) (w : Option (BTreeSet ℕ))
-    → ((id : List ℕ) → get_by (λ k. slice_cmp nat_cmp id k) n ≡ cond (bytes_eq id at) w (get_by (λ k. slice_cmp nat_cmp id k) m))
-    → IsTight m → IsTightApart n at
-tight_apart m n at w g a id s k e = a id s (sym (g id ∙ cond-false (bytes_eq id at) w _ k) ∙ e)
+    less : y.0 ≡ key → nat_cmp e.1 y.1 ≡ Less
+    less same =
+        let tie : slice_cmp nat_cmp e.0 y.0 ≡ Equal = ap (slice_cmp nat_cmp e.0) (same ∙ sym ((bytes_eq-Decides e.0 key).0 k)) ∙ tied_itself nat_list_cmp_total e.0 in
+        sym (ap (λ (o : Ordering). ordering_then o (nat_cmp e.1 y.1)) tie) ∙ a.0
 
-pub tight_but : (m : KeyIndex) (at : List ℕ) → IsTight m → IsTightApart m at
-tight_but m at a id s k e = a id s e
+    by : (q : Bool) → bytes_eq y.0 key ≡ q → All (numbers_at key es) → All (numbers_at key (y ∷ es))
+    by true l more = subst All (sym (cond-true (bytes_eq y.0 key) (y.1 ∷ numbers_at key es) (numbers_at key es) l)) (less ((bytes_eq-Decides y.0 key).0 l), more)
+    by false l more = subst All (sym (cond-false (bytes_eq y.0 key) (y.1 ∷ numbers_at key es) (numbers_at key es) l)) more
 
-pub keys_some : (t : BTreeSet ℕ) (email : ℕ) → contains nat_cmp t email ≡ true → t.keys ≢ []
-keys_some t email h = λ e. let f = ap (list_any (is_at (nat_cmp email))) e in absurd cc
+pub numbers_ascend : (key : List ℕ) (es : List Entry) → IsStrictlySortedBy entry_cmp es → IsStrictlySortedBy nat_cmp (numbers_at key es)
+unfolding IsStrictlySortedBy
+numbers_ascend key [] s = tt
+numbers_ascend key (e ∷ es) s = by (bytes_eq e.0 key) refl (numbers_ascend key es s.1)
+  where
+    by : (q : Bool) → bytes_eq e.0 key ≡ q → IsStrictlySortedBy nat_cmp (numbers_at key es) → IsStrictlySortedBy nat_cmp (numbers_at key (e ∷ es))
+    by true k more =
+        subst (IsStrictlySortedBy nat_cmp) (sym (cond-true (bytes_eq e.0 key) (e.1 ∷ numbers_at key es) (numbers_at key es) k)) (above_at key e es k s.0, more)
+    by false k more = subst (IsStrictlySortedBy nat_cmp) (sym (cond-false (bytes_eq e.0 key) (e.1 ∷ numbers_at key es) (numbers_at key es) k)) more
 
-pub keys_stay : (s t : BTreeSet ℕ) → t.keys ≡ s.keys → s.keys ≢ [] → t.keys ≢ []
-keys_stay s t e h = λ f. h (sym e ∙ f)
+-- whether an entry is at the key's first place or after it
+abbrev pub is_from : List ℕ → Entry → Bool
+is_from key e = range_contains entry_cmp (Included (key, 0)) Unbounded e
 
-pub if_false : {P : Type 0} (r : Bool) → (r ≡ false → P) → MatchBool r (Unit {0}) P
-if_false true f = tt
-if_false false f = f refl
+from_at : (key : List ℕ) (e : Entry) → bytes_eq e.0 key ≡ true → is_from key e ≡ true
+from_at key e k =
+    let tie : slice_cmp nat_cmp key e.0 ≡ Equal = ap (slice_cmp nat_cmp key) ((bytes_eq-Decides e.0 key).0 k) ∙ tied_itself nat_list_cmp_total key in
+    ap (λ (o : Ordering). is_le (ordering_then o (nat_cmp 0 e.1)) && true) tie ∙ least e.1
+  where
+    least : (n : ℕ) → is_le (nat_cmp 0 n) && true ≡ true
+    least n = grind arith
+
+-- after an entry of a later key none is of this key
+reversed : (o p r : Ordering) → is_eq o ≡ false → is_le (ordering_then o p) && true ≡ true → ordering_then (ordering_reverse o) r ≡ Less → ⊥
+reversed Less p r e f g = cc
+reversed Equal p r e f g = cc
+reversed Greater p r e f g = cc
+
+later_key : (key : List ℕ) (e y : Entry) → bytes_eq e.0 key ≡ false → is_from key e ≡ true → entry_cmp e y ≡ Less → bytes_eq y.0 key ≡ false
+later_key key e y k f l = by (bytes_eq y.0 key) refl
+  where
+    by : (q : Bool) → bytes_eq y.0 key ≡ q → bytes_eq y.0 key ≡ false
+    by false h = h
+    by true h =
+        let turned : slice_cmp nat_cmp e.0 y.0 ≡ ordering_reverse (slice_cmp nat_cmp key e.0) =
+        ap (slice_cmp nat_cmp e.0) ((bytes_eq-Decides y.0 key).0 h) ∙ nat_list_cmp_total.antisymm e.0 key in
+        absurd (reversed (slice_cmp nat_cmp key e.0) (nat_cmp 0 e.1) (nat_cmp e.1 y.1) (is_eq-slice_cmp key e.0 ∙ nat_list_eq_equiv.symm key e.0 ∙ k) f
+        (sym (ap (λ (o : Ordering). ordering_then o (nat_cmp e.1 y.1)) turned) ∙ l))
+
+none_later : (key : List ℕ) (e : Entry) (es : List Entry) → bytes_eq e.0 key ≡ false → is_from key e ≡ true → AllByRecursion (λ y. entry_cmp e y ≡ Less) es → numbers_at key es ≡ []
+none_later key e [] k f a = refl
+none_later key e (y ∷ es) k f a =
+    cond-false (bytes_eq y.0 key) (y.1 ∷ numbers_at key es) (numbers_at key es) (later_key key e y k f a.0) ∙ none_later key e es k f a.1
+
+-- from the key's first place on, its entries come up to the first of another key
+pub numbers_from : (key : List ℕ) (es : List Entry) → IsStrictlySortedBy entry_cmp es → numbers_up_to_other key (filter (is_from key) es) ≡ numbers_at key es
+numbers_from key [] s = refl
+numbers_from key (e ∷ es) s = by (bytes_eq e.0 key) refl (is_from key e) refl (numbers_from key es (sorted_tail entry_cmp e es s))
+  where
+    more : List Entry
+    more = filter (is_from key) es
+
+    by : (q : Bool) → bytes_eq e.0 key ≡ q → (r : Bool) → is_from key e ≡ r → numbers_up_to_other key more ≡ numbers_at key es
+        → numbers_up_to_other key (filter (is_from key) (e ∷ es)) ≡ numbers_at key (e ∷ es)
+    by true k r f h =
+        ap (numbers_up_to_other key) (cond-true (is_from key e) (e ∷ more) more (from_at key e k))
+        ∙ cond-true (bytes_eq e.0 key) (e.1 ∷ numbers_up_to_other key more) [] k
+        ∙ ap (λ (ns : List ℕ). e.1 ∷ ns) h
+        ∙ sym (cond-true (bytes_eq e.0 key) (e.1 ∷ numbers_at key es) (numbers_at key es) k)
+    by false k true f h =
+        ap (numbers_up_to_other key) (cond-true (is_from key e) (e ∷ more) more f)
+        ∙ cond-false (bytes_eq e.0 key) (e.1 ∷ numbers_up_to_other key more) [] k
+        ∙ sym (cond-false (bytes_eq e.0 key) (e.1 ∷ numbers_at key es) (numbers_at key es) k ∙ none_later key e es k f (sorted_head entry_cmp e es s))
+    by false k false f h =
+        ap (numbers_up_to_other key) (cond-false (is_from key e) (e ∷ more) more f) ∙ h
+        ∙ sym (cond-false (bytes_eq e.0 key) (e.1 ∷ numbers_at key es) (numbers_at key es) k)

@@ -1,5 +1,5 @@
 -- What a header names is one.
-use Rattle.std.proofs.Common.{◌≡◌, ℕ, List, Option, Some, None, Bool, false, refl, sym, ap, ◌∙◌, ◌++◌, subst}
+use Rattle.std.proofs.Common.{◌≡◌, ℕ, List, Option, Some, None, false, sym, ap, ◌∙◌, ◌++◌, subst}
 use Rattle.header_words.specs.EncodedWords.{IsText}
 use Rattle.mail_header.specs.Bracketed.{HasPieces}
 use Rattle.mail_header.specs.Fields.{IsHeader, IsLastField, NameAndRaw, last_named}

@@ -1,14 +1,11 @@
 -- What the search by the index finds is the Thread among all Emails.
 use Rattle.std.proofs.Common.{◌≡◌, ℕ, ◌≤◌, ◌<◌, Bool, true, false, ◌||◌, ◌&&◌, map, cond, eqb-true, eq-eqb, ◌+◌, List, [], ◌∷◌, length, get_or, drop, refl, sym, ap, ◌∙◌, subst}
 use Rattle.std.proofs.Common.{Option, Some, None, arith}
-use Rattle.std.specs.Option.{option_map_or}
 use Rattle.std.specs.List.{list_any, AllByRecursion}
 use Rattle.std.specs.List.Sorted.{IsStrictlySortedBy}
 use Rattle.std.specs.Ordering.{nat_cmp}
 use Rattle.std.specs.declared.cmp.Ordering.TheVariants.{Less}
-use Rattle.std.specs.Cmp.Lexicographic.{slice_cmp}
-use Rattle.std.specs.BTreeMap.{is_at, get_by}
-use Rattle.std.specs.BTreeSet.{BTreeSet, contains}
+use Rattle.std.specs.BTreeMap.{is_at}
 use Rattle.std.proofs.lemmas.List.{drop_more, drop_all}
 use Rattle.std.proofs.lemmas.Map.Keys.{sorted_head, sorted_tail}
 use Rattle.std.proofs.lemmas.Slice.Eq.{bytes_eq-Decides}
@@ -18,8 +15,8 @@ use Rattle.std.specs.Str.{bytes_eq}
 use Rattle.sha2.specs.Sha256.{sha256}
 use Rattle.thread_rule.specs.reading.Keys.{base_digest, key_after}
 use Rattle.thread_rule.specs.Threads.{Members, member_at, is_among, Shares, IsThreadOf, Founds, Joins, Passes}
-use Rattle.thread_rule.specs.reading.Index.{KeyIndex, has, emails_at, keys_of, IsIndexOf, thread_if, first_thread}
-use Rattle.thread_rule.proofs.IndexLemmas.{number_test}
+use Rattle.thread_rule.specs.reading.Index.{KeyIndex, emails_at, keys_of, IsIndexOf, thread_if, first_thread}
+use Rattle.thread_rule.proofs.IndexLemmas.{number_test, has_listed}
 
 -- an Email of these names the id and has an equal base subject
 pub record SharesBase (members : Members) (base id : List ℕ) (emails : List ℕ) (email : ℕ) (member : Member) : Type 0 where
@@ -148,14 +145,6 @@ pub first_finds : (members : Members) (base id emails : List ℕ) → IsStrictly
 first_finds members base id [] s = λ other m h. let l = h.listed in absurd cc
 first_finds members base id (x ∷ es) s = first_finds_more members base id x es s (first_thread members base id es) (first_finds members base id es (sorted_tail nat_cmp x es s))
 
--- the index has an Email at an id where its number is listed there
-pub has_listed : (ids : KeyIndex) (id : List ℕ) (email : ℕ) → has ids id email ≡ list_any (is_at (nat_cmp email)) (emails_at ids id)
-has_listed ids id email = by (get_by (λ (k : List ℕ). slice_cmp nat_cmp id k) ids)
-  where
-    by : (o : Option (BTreeSet ℕ)) → option_map_or (λ s. contains nat_cmp s email) o false ≡ list_any (is_at (nat_cmp email)) (option_map_or (λ s. s.keys) o [])
-    by None = refl
-    by (Some s) = refl
-
 -- an image of what is among some is among their images
 among_map : (f : List ℕ → List ℕ) (xs : List (List ℕ)) (x : List ℕ) → is_among xs x ≡ true → is_among (map f xs) (f x) ≡ true
 among_map f [] x e = absurd (let g : false ≡ true = e in cc)
@@ -214,13 +203,6 @@ passes index members base number id more thread i s e t =
     let F : Option ℕ → Type 0 = λ o. Finds members base id at o in
     let l : LacksBase members base id at = subst F (sym e) (first_finds members base id at s) in
     Passes id more thread (λ other m h. l other m (shares_listed index members base id other m i h)) t
-
--- a key that the index lacks has no Emails
-pub none_sorted : (ids : KeyIndex) (id : List ℕ) → get_by (λ k. slice_cmp nat_cmp id k) ids ≡ None → IsStrictlySortedBy nat_cmp (emails_at ids id)
-unfolding IsStrictlySortedBy
-none_sorted ids id e =
-    let P : List ℕ → Type 0 = λ es. IsStrictlySortedBy nat_cmp es in
-    subst P (sym (ap (λ (o : Option (BTreeSet ℕ)). option_map_or (λ s. s.keys) o []) e)) tt
 
 -- one turn of the search: b is the base subject and y the id, as they were read, and k the key
 pub joins_here : (index : KeyIndex) (members : Members) (base : List ℕ) (number : ℕ) (named : List (List ℕ)) (i : ℕ) (x y b k : List ℕ) (thread : ℕ) → IsIndexOf index members

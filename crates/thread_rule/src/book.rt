@@ -10,13 +10,12 @@ use crate::index::KeyIndex;
 use crate::member::Named;
 use crate::search::{Members, thread_of};
 use std::alloc::{AllocError, Global};
-use std::collections::BTreeMap;
+use std::collections::{BTreeMap, BTreeSet};
 use std::marker::Model;
 
 /// The Emails that were put and not forgotten, each in its Thread. Contracts see the list of them, by ascending number.
 #[derive(Drop)]
 pub struct ThreadBook {
-    alloc: Global,
     members: Members,
     index: KeyIndex,
 }
@@ -24,13 +23,13 @@ pub struct ThreadBook {
 impl Model for ThreadBook {
     ghost use Rattle.std.specs.Prelude.{List, ℕ};
     ghost use Rattle.thread_rule.specs.declared.member.Member.{Member};
-    ghost use Rattle.thread_rule.specs.reading.Index.{IsIndexOf, IsTight};
+    ghost use Rattle.thread_rule.specs.reading.Index.{IsIndexOf};
 
     ghost Value = { List (ℕ × Member) };
 
     ghost view = { λ b. b.members.entries };
 
-    ghost invariant = { λ b. IsIndexOf b.index b.members.entries × IsTight b.index };
+    ghost invariant = { λ b. IsIndexOf b.index b.members.entries };
 }
 
 impl ThreadBook {
@@ -39,9 +38,8 @@ impl ThreadBook {
         ensures { result ≡ [] }
     {
         ThreadBook {
-            alloc,
             members: BTreeMap::new(alloc),
-            index: BTreeMap::new(alloc),
+            index: BTreeSet::new(alloc),
         }
     }
 
@@ -69,13 +67,7 @@ impl ThreadBook {
         ensures ok { OnOk result (self.new ≡ insert_entry nat_cmp self.old named.email (threads.member_of named thread)) }
         ensures err { OnErr result (self.new ≡ self.old) }
     {
-        put_in(
-            self.alloc,
-            &mut self.members,
-            &mut self.index,
-            named,
-            thread,
-        )
+        put_in(&mut self.members, &mut self.index, named, thread)
     }
 
     /// Takes an Email out of the book, if it is there. It takes no memory.

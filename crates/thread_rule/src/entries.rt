@@ -10,11 +10,10 @@ use crate::index::{KeyIndex, add_all, remove_all};
 use crate::key::base_digest;
 use crate::member::{Member, Named};
 use crate::search::Members;
-use std::alloc::{AllocError, Global};
+use std::alloc::AllocError;
 
 /// Puts an Email in that isn't there.
 pub fn put_in(
-    alloc: Global,
     members: &mut Members,
     index: &mut KeyIndex,
     named: Named,
@@ -23,7 +22,6 @@ pub fn put_in(
     requires index { indexed.IsIndexOf index.old members.old.entries }
     requires absent { threads.member_at members.old.entries named.email ≡ None }
     ensures index { indexed.IsIndexOf index.new members.new.entries }
-    ensures tight { indexed.IsTight index.old → indexed.IsTight index.new }
     ensures ok { OnOk result (members.new.entries ≡ insert_entry nat_cmp members.old.entries named.email (threads.member_of named thread)) }
     ensures err { OnErr result (members.new.entries ≡ members.old.entries) }
 {
@@ -33,7 +31,7 @@ pub fn put_in(
         base,
     } = named;
     let digest = base_digest(base.as_slice());
-    add_all(alloc, index, &digest, names.as_slice(), email)?;
+    add_all(index, &digest, names.as_slice(), email)?;
     keep(
         members,
         index,
@@ -59,7 +57,6 @@ fn keep(
     ensures same { OnOk result (indexed.SameIndex index.old index.new) }
     ensures err { OnErr result (members.new.entries ≡ members.old.entries) }
     ensures undone { OnErr result (indexed.SetsAll index.old index.new (indexed.keys_of (Some member)) email false) }
-    ensures tight { indexed.IsTight index.old → indexed.IsTight index.new }
 {
     match members.insert(email, member) {
         Ok(_) => Ok(()),
@@ -74,7 +71,6 @@ fn keep(
 /// Takes the Email away at each of its keys.
 fn remove_member(index: &mut KeyIndex, member: &Member, email: u64)
     ensures sets { indexed.SetsAll index.old index.new (indexed.keys_of (Some member.now)) email false }
-    ensures tight { indexed.IsTight index.old → indexed.IsTight index.new }
 {
     let digest = base_digest(member.base.as_slice());
     remove_all(index, &digest, member.ids.as_slice(), email);
@@ -84,7 +80,6 @@ fn remove_member(index: &mut KeyIndex, member: &Member, email: u64)
 pub fn take_out(members: &mut Members, index: &mut KeyIndex, email: u64)
     requires { indexed.IsIndexOf index.old members.old.entries }
     ensures index { indexed.IsIndexOf index.new members.new.entries }
-    ensures tight { indexed.IsTight index.old → indexed.IsTight index.new }
     ensures out { members.new.entries ≡ remove_entry (is_at (nat_cmp email)) members.old.entries }
 {
     match members.remove(&email) {

@@ -6,8 +6,15 @@ ghost use Rattle.thread_rule.specs.reading.Keys as keys;
 
 use sha2::{Digest, Sha256};
 
-/// The SHA-256 digest of a base subject without regard to case, or of an id after such a digest.
-pub type Key = [u8; 32];
+/// The SHA-256 digest of a base subject without regard to case.
+pub type BaseDigest = [u8; 32];
+
+/// How many octets of a digest are a key.
+const KEY_OCTETS: usize = 16;
+
+/// The first octets of the SHA-256 digest of an id after the digest of a base subject. What is found at a key is
+/// compared with the id and the base subject before it counts, so two ids with one key change no answer.
+pub type Key = [u8; KEY_OCTETS];
 
 // Feeds the text in lower case.
 fn feed_lower(hasher: &mut Sha256, text: &[u8])
@@ -19,7 +26,7 @@ fn feed_lower(hasher: &mut Sha256, text: &[u8])
 }
 
 /// The digest of a base subject, the same for all that differ in the case of their letters alone. It takes no memory.
-pub fn base_digest(base: &[u8]) -> Key
+pub fn base_digest(base: &[u8]) -> BaseDigest
     ensures { result ≡ keys.base_digest base.now }
 {
     let mut hasher = Sha256::new();
@@ -28,11 +35,15 @@ pub fn base_digest(base: &[u8]) -> Key
 }
 
 /// The key of an id under a base subject of this digest. It takes no memory.
-pub fn key_after(digest: &Key, id: &[u8]) -> Key
+pub fn key_after(digest: &BaseDigest, id: &[u8]) -> Key
     ensures { result ≡ keys.key_after digest.now id.now }
 {
     let mut hasher = Sha256::new();
     hasher.update(digest.as_slice());
     hasher.update(id);
-    hasher.finalize()
+    let whole = hasher.finalize();
+    match whole.first_chunk() {
+        None => unreachable!(),
+        Some(key) => *key,
+    }
 }

@@ -1,7 +1,6 @@
 // The Thread of a new Email, by the index.
 ghost use Rattle.std.specs.Prelude.{◌≡◌, ℕ, None, Some};
 ghost use Rattle.std.specs.Ordering.{nat_cmp};
-ghost use Rattle.std.specs.BTreeSet.{IsOrdered};
 ghost use Rattle.std.specs.List.Sorted.{IsStrictlySortedBy};
 ghost use Rattle.thread_rule.specs.Threads as threads;
 ghost use Rattle.thread_rule.specs.reading.Keys as keys;
@@ -10,7 +9,7 @@ ghost use Rattle.thread_rule.specs.reading.Index as indexed;
 use crate::index::KeyIndex;
 use crate::key::{Key, base_digest, key_after};
 use crate::member::{Member, Named};
-use std::collections::{BTreeMap, BTreeSet};
+use std::collections::BTreeMap;
 use text_words::same_text;
 
 /// The Emails that are there, by number.
@@ -38,19 +37,11 @@ pub fn shared(members: &Members, index: &KeyIndex, key: &Key, id: &[u8], base: &
     ensures first { result ≡ indexed.first_thread members.now.entries base.now id.now (indexed.emails_at index.now key.now) }
     ensures sorted { IsStrictlySortedBy nat_cmp (indexed.emails_at index.now key.now) }
 {
-    match index.get(key) {
-        None => None,
-        Some(emails) => first_in(members, emails, id, base),
-    }
-}
-
-/// The Thread of the first of these Emails that names the id and has an equal base subject.
-fn first_in(members: &Members, emails: &BTreeSet<u64>, id: &[u8], base: &[u8]) -> Option<u64>
-    ensures first { result ≡ indexed.first_thread members.now.entries base.now id.now emails.now.keys }
-    ensures sorted { IsOrdered nat_cmp emails.now }
-{
-    for email in emails.iter() {
-        if let Some(thread) = thread_if(members, *email, id, base) {
+    for entry in index.range((*key, 0)..) {
+        if entry.0 != *key {
+            return None;
+        }
+        if let Some(thread) = thread_if(members, entry.1, id, base) {
             return Some(thread);
         }
     }

@@ -1,8 +1,7 @@
 -- The index from the key of an id and a base subject to the numbers of the Emails that have both.
-use Rattle.std.specs.Prelude.{◌≡◌, ◌≢◌, ℕ, Bool, false, ◌&&◌, ◌==◌, if◌then◌else◌, List, [], ◌∷◌, Option, Some, None}
-use Rattle.std.specs.Option.{option_map_or}
-use Rattle.std.specs.Ordering.{nat_cmp}
-use Rattle.std.specs.BTreeMap.{BTreeMap, get_by}
+use Rattle.std.specs.Prelude.{◌≡◌, ℕ, Bool, false, ◌&&◌, ◌==◌, if◌then◌else◌, List, [], ◌∷◌, Option, Some, None}
+use Rattle.std.specs.declared.cmp.Ordering.{Ordering}
+use Rattle.std.specs.Ordering.{nat_cmp, ordering_then}
 use Rattle.std.specs.BTreeSet.{BTreeSet, contains}
 use Rattle.std.specs.Cmp.Lexicographic.{slice_cmp}
 use Rattle.std.specs.Str.{bytes_eq}
@@ -11,16 +10,33 @@ use Rattle.thread_rule.specs.declared.member.Member.{Member}
 use Rattle.thread_rule.specs.Threads.{Members, member_at, is_among}
 use Rattle.thread_rule.specs.reading.Keys.{base_digest, keys_under}
 
+abbrev pub Entry : Type 0
+Entry = List ℕ × ℕ
+
 abbrev pub KeyIndex : Type 0
-KeyIndex = BTreeMap (List ℕ) (BTreeSet ℕ)
+KeyIndex = BTreeSet Entry
+
+-- the order of the entries: by key, and by number at one key
+abbrev pub entry_cmp : Entry → Entry → Ordering
+entry_cmp x y = ordering_then (slice_cmp nat_cmp x.0 y.0) (nat_cmp x.1 y.1)
+
+-- the numbers of the entries at the key
+abbrev pub numbers_at : List ℕ → List Entry → List ℕ
+numbers_at key [] = []
+numbers_at key (e ∷ es) = if bytes_eq e.0 key then e.1 ∷ numbers_at key es else numbers_at key es
+
+-- the numbers of the entries at the key up to the first entry at another
+abbrev pub numbers_up_to_other : List ℕ → List Entry → List ℕ
+numbers_up_to_other key [] = []
+numbers_up_to_other key (e ∷ es) = if bytes_eq e.0 key then e.1 ∷ numbers_up_to_other key es else []
 
 -- the Emails of the index at the key, by ascending number
 abbrev pub emails_at : KeyIndex → List ℕ → List ℕ
-emails_at index id = option_map_or (λ emails. emails.keys) (get_by (λ k. slice_cmp nat_cmp id k) index) []
+emails_at index key = numbers_at key index.keys
 
--- whether the index has the Email at the id
+-- whether the index has the Email at the key
 abbrev pub has : KeyIndex → List ℕ → ℕ → Bool
-has index id email = option_map_or (λ emails. contains nat_cmp emails email) (get_by (λ k. slice_cmp nat_cmp id k) index) false
+has index key email = contains entry_cmp index (key, email)
 
 -- the keys of an Email's ids under its base subject
 abbrev pub keys_of : Option Member → List (List ℕ)
@@ -31,30 +47,21 @@ keys_of (Some member) = keys_under (base_digest member.base) member.ids
 abbrev pub IsIndexOf : KeyIndex → Members → Type 0
 IsIndexOf index members = (key : List ℕ) (email : ℕ) → has index key email ≡ is_among (keys_of (member_at members email)) key
 
--- no id is known that no Email names
-abbrev pub IsTight : KeyIndex → Type 0
-IsTight index = (id : List ℕ) (emails : BTreeSet ℕ) → get_by (λ k. slice_cmp nat_cmp id k) index ≡ Some emails → emails.keys ≢ []
-
--- but for one id
-abbrev pub IsTightApart : KeyIndex → List ℕ → Type 0
-IsTightApart index at = (id : List ℕ) (emails : BTreeSet ℕ) → bytes_eq id at ≡ false → get_by (λ k. slice_cmp nat_cmp id k) index ≡ Some emails
-    → emails.keys ≢ []
-
--- the index has the same Emails at each id
+-- the index has the same Emails at each key
 abbrev pub SameIndex : KeyIndex → KeyIndex → Type 0
-SameIndex old new = (id : List ℕ) (email : ℕ) → has new id email ≡ has old id email
+SameIndex old new = (key : List ℕ) (email : ℕ) → has new key email ≡ has old key email
 
--- the Email is in the index at this id, or isn't, and the rest is as it was
+-- the Email is in the index at this key, or isn't, and the rest is as it was
 abbrev pub SetsOne : KeyIndex → KeyIndex → List ℕ → ℕ → Bool → Type 0
-SetsOne old new at email there = (id : List ℕ) (e : ℕ) → has new id e ≡ (if bytes_eq id at && (email == e) then there else has old id e)
+SetsOne old new at email there = (key : List ℕ) (e : ℕ) → has new key e ≡ (if bytes_eq key at && (email == e) then there else has old key e)
 
--- the same at each of these ids
+-- the same at each of these keys
 abbrev pub SetsAll : KeyIndex → KeyIndex → List (List ℕ) → ℕ → Bool → Type 0
-SetsAll old new ids email there = (id : List ℕ) (e : ℕ) → has new id e ≡ (if is_among ids id && (email == e) then there else has old id e)
+SetsAll old new keys email there = (key : List ℕ) (e : ℕ) → has new key e ≡ (if is_among keys key && (email == e) then there else has old key e)
 
--- but for the Email at these ids, the rest is as it was
+-- but for the Email at these keys, the rest is as it was
 abbrev pub SameApart : KeyIndex → KeyIndex → List (List ℕ) → ℕ → Type 0
-SameApart old new ids email = (id : List ℕ) (e : ℕ) → (is_among ids id && (email == e)) ≡ false → has new id e ≡ has old id e
+SameApart old new keys email = (key : List ℕ) (e : ℕ) → (is_among keys key && (email == e)) ≡ false → has new key e ≡ has old key e
 
 -- the Thread of the first of these Emails that names the id and has an equal base subject
 abbrev pub thread_if : Option Member → List ℕ → List ℕ → Option ℕ → Option ℕ

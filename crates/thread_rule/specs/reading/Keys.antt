@@ -1,5 +1,5 @@
 -- The keys of the index: an id together with a base subject.
-use Rattle.std.specs.Prelude.{ℕ, List, ◌++◌, map}
+use Rattle.std.specs.Prelude.{ℕ, List, ◌++◌, map, take}
 use Rattle.std.specs.Char.{to_ascii_lowercase}
 use Rattle.sha2.specs.Sha256.{sha256}
 
@@ -7,9 +7,9 @@ use Rattle.sha2.specs.Sha256.{sha256}
 unfoldable pub base_digest : List ℕ → List ℕ
 base_digest base = sha256 (map to_ascii_lowercase base)
 
--- the key of an id after the digest of a base subject, which has 32 octets
+-- the key of an id after the digest of a base subject, which has 32 octets: the first 16 of the digest of both
 unfoldable pub key_after : List ℕ → List ℕ → List ℕ
-key_after digest id = sha256 (digest ++ id)
+key_after digest id = take 16 (sha256 (digest ++ id))
 
 -- the keys of an Email's ids under its base subject
 abbrev pub keys_under : List ℕ → List (List ℕ) → List (List ℕ)

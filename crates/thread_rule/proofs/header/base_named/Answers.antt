@@ -1,5 +1,4 @@
-use Rattle.std.proofs.Common.{◌≡◌, List, ℕ, subst, sym, refl}
-use Rattle.thread_rule.specs.BaseSubject.{IsBaseOf}
+use Rattle.std.proofs.Common.{List, ℕ, subst, sym, refl}
 use Rattle.thread_rule.specs.NamedOf.{IsSubjectText}
 use Rattle.thread_rule.proofs.header.base_named.Goals as goal
 

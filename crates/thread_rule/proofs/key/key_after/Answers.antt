@@ -1,4 +1,4 @@
-use Rattle.std.proofs.Common.{◌++◌, ◌∙◌, [], ap, List, ℕ}
+use Rattle.std.proofs.Common.{◌++◌, ◌∙◌, [], ap, take, List, ℕ}
 use Rattle.sha2.specs.Sha256.{sha256}
 use Rattle.thread_rule.specs.reading.Keys.{key_after}
 use Rattle.thread_rule.proofs.key.key_after.Goals as goal
@@ -6,5 +6,8 @@ use Rattle.thread_rule.proofs.key.key_after.Goals as goal
 pub returns : goal.returns
 unfolding key_after
 returns c =
-    c.finalize.ensures (([] ++ c.as_slice.result.now) ++ c.args.id.now) (c.update-2.ensures ([] ++ c.as_slice.result.now) (c.update.ensures [] c.new-hasher.ensures))
-    ∙ ap (λ (digest : List ℕ). sha256 (digest ++ c.args.id.now)) c.as_slice.ensures
+    let fed = ([] ++ c.as_slice.result.now) ++ c.args.id.now in
+    c.in-Some.ensures.cases.same
+    ∙ ap (take 16)
+    (c.finalize-whole.ensures fed (c.update-2.ensures ([] ++ c.as_slice.result.now) (c.update.ensures [] c.new-hasher.ensures))
+    ∙ ap (λ (digest : List ℕ). sha256 (digest ++ c.args.id.now)) c.as_slice.ensures)
