@@ -35,6 +35,8 @@ const SUBJECTS: [(&[u8], &[u8]); 32] = [
     (b" =?utf-8?Q?Re?= :Plan", b"Plan"),
     (b" Re:\r\n\t=?utf-8?Q?Plan?=\r\n B", b"Plan B"),
     (b" =?utf-8?Q?Plan=09=20__B?=", b"Plan B"),
+    // an encoded text may be empty
+    (b" =?utf-8?Q??= Plan", b"Plan"),
     // letters of charsets, and a language after a charset's name (RFC 2231 section 5)
     (b" Re: =?iso-8859-1?Q?caf=E9?=", b"caf\xC3\xA9"),
     (b" =?ISO-8859-1?Q?R=E9:_Plan?=", b"R\xC3\xA9: Plan"),
@@ -47,7 +49,6 @@ const SUBJECTS: [(&[u8], &[u8]); 32] = [
     (b" Re: =?utf-8?Q?=ZZ?=", b"=?utf-8?Q?=ZZ?="),
     (b" =?utf-8?X?Re=3A?= Plan", b"=?utf-8?X?Re=3A?= Plan"),
     (b" Re: =?utf-8?B?UGxhb?=", b"=?utf-8?B?UGxhb?="),
-    (b" =?utf-8?Q??= Plan", b"=?utf-8?Q??= Plan"),
     (b" Re:=?utf-8?Q?Plan?=", b"=?utf-8?Q?Plan?="),
     (b" =?utf-8?Q?Re?=: Plan", b"=?utf-8?Q?Re?=: Plan"),
     // a word is decoded once
