@@ -88,7 +88,7 @@ fn charsets_that_are_wrong_or_unknown_are_read(rt: HostRuntime) -> Result<(), Fa
         (b"=?utf-8?Q?=C0=80?=", "\u{fffd}\u{fffd}"),
         (b"=?utf-8?Q?=ED=A0=80?=", "\u{fffd}\u{fffd}\u{fffd}"),
         (b"=?iso-8859-1?Q?=C3=A9?=", "\u{c3}\u{a9}"),
-        (b"=?utf8?Q?=C3=A9?=", "\u{fffd}\u{fffd}"),
+        (b"=?utf8?Q?=C3=A9?=", "\u{e9}"),
         (b"=?UTF-8*en-GB?Q?=C3=A9?=", "\u{e9}"),
         (b"=?utf-8*?Q?=C3=A9?=", "\u{e9}"),
         (b"=?*en?Q?a=E9?=", "a\u{fffd}"),
