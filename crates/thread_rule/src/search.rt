@@ -1,7 +1,6 @@
 // The Thread of a new Email, by the index.
 ghost use Rattle.std.specs.Prelude.{◌≡◌, ℕ, None, Some};
-ghost use Rattle.std.specs.Ordering.{nat_cmp};
-ghost use Rattle.std.specs.List.Sorted.{IsStrictlySortedBy};
+ghost use Rattle.std.specs.BTreeSet.{IsOrdered};
 ghost use Rattle.thread_rule.specs.Threads as threads;
 ghost use Rattle.thread_rule.specs.reading.Keys as keys;
 ghost use Rattle.thread_rule.specs.reading.Index as indexed;
@@ -35,7 +34,7 @@ pub fn thread_of(members: &Members, index: &KeyIndex, named: &Named) -> u64
 /// The Thread of the lowest Email at the key that names the id and has an equal base subject.
 pub fn shared(members: &Members, index: &KeyIndex, key: &Key, id: &[u8], base: &[u8]) -> Option<u64>
     ensures first { result ≡ indexed.first_thread members.now.entries base.now id.now (indexed.emails_at index.now key.now) }
-    ensures sorted { IsStrictlySortedBy nat_cmp (indexed.emails_at index.now key.now) }
+    ensures ordered { IsOrdered indexed.entry_cmp index.now }
 {
     for entry in index.range((*key, 0)..) {
         if entry.0 != *key {

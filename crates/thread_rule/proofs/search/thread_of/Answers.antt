@@ -1,6 +1,7 @@
 use Rattle.std.proofs.Common.{◌≡◌, ◌∙◌, sym, ap, ℕ, List, subst}
 use Rattle.thread_rule.specs.Threads.{IsThreadOf}
 use Rattle.thread_rule.specs.reading.Keys.{base_digest, key_after}
+use Rattle.thread_rule.proofs.IndexLemmas.{numbers_ascend}
 use Rattle.thread_rule.proofs.SearchLemmas.{key_of, joins_here, passes_here, founds_at_end, one_thread}
 use Rattle.thread_rule.proofs.search.thread_of.Goals as goal
 
@@ -18,7 +19,8 @@ returns-in-Some-clause-is c =
     c.loop-id.invariant c.in-Some.thread
     (joins_here c.args.index.now c.args.members.now.entries c.args.named.now.base c.args.named.now.email c.as_slice-id-items.result.now c.loop-id.id-index
     c.id-item.result y b c.key_after-key.result c.in-Some.thread c.requires
-    c.loop-id-test.true c.id-item.is c.as_slice-id.ensures c.as_slice-in-loop-id.ensures key c.in-Some.ensures.sorted c.in-Some.ensures.first)
+    c.loop-id-test.true c.id-item.is c.as_slice-id.ensures c.as_slice-in-loop-id.ensures key
+    (numbers_ascend c.key_after-key.result c.args.index.now.keys c.in-Some.ensures.ordered) c.in-Some.ensures.first)
 
 pub loop-id-preserved : goal.loop-id-preserved
 loop-id-preserved c = λ thread t.
@@ -29,7 +31,8 @@ loop-id-preserved c = λ thread t.
     c.loop-id.invariant thread
     (passes_here c.args.index.now c.args.members.now.entries c.args.named.now.base c.args.named.now.email c.as_slice-id-items.result.now c.loop-id.id-index
     c.id-item.result y b c.key_after-key.result thread c.requires
-    c.loop-id-test.true c.id-item.is c.as_slice-id.ensures c.as_slice-in-loop-id.ensures key c.in_default.ensures.sorted c.in_default.ensures.first t)
+    c.loop-id-test.true c.id-item.is c.as_slice-id.ensures c.as_slice-in-loop-id.ensures key
+    (numbers_ascend c.key_after-key.result c.args.index.now.keys c.in_default.ensures.ordered) c.in_default.ensures.first t)
 
 pub returns-clause-is : goal.returns-clause-is
 returns-clause-is c =
