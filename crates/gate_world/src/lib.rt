@@ -4,6 +4,7 @@
 
 mod bytes;
 mod event;
+mod left;
 mod listed;
 mod names;
 mod outside;
@@ -14,6 +15,7 @@ mod sending;
 mod steady_world;
 mod tape;
 mod text;
+mod unread;
 mod watcher;
 
 pub use bytes::Bytes;
@@ -27,4 +29,5 @@ pub use sending::{send_all, write_all};
 pub use steady_world::SteadyWorld;
 pub use tape::Tape;
 pub use text::Text;
+pub use unread::{FillError, MAX_FILL_OCTETS, Unread};
 pub use watcher::Watcher;

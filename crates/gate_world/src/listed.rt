@@ -1,6 +1,7 @@
 // A `Vec` that contracts see as a list.
-ghost use Rattle.std.specs.Prelude.{◌≡◌, ◌↔◌, [], IsTrue, length};
+ghost use Rattle.std.specs.Prelude.{◌≡◌, ◌↔◌, [], ◌∷◌, ◌++◌, IsTrue, MatchOption, OnErr, OnOk, length};
 
+use std::alloc::{AllocError, Global};
 use std::fmt;
 use std::marker::Model;
 
@@ -34,18 +35,47 @@ impl<T> Listed<T> {
         items
     }
 
+    /// The elements, in order.
     pub fn as_slice(&self) -> &[T]
         ensures { result.now ≡ self.now }
     {
         &self.items
     }
 
+    /// Where its memory comes from.
+    pub fn allocator(&self) -> Global {
+        *self.items.allocator()
+    }
+
+    /// Adds an element at the end.
+    pub fn push(&mut self, item: T) -> Result<(), AllocError>
+    where
+        T: Drop,
+        ensures ok { OnOk result (self.new ≡ self.old ++ item ∷ []) }
+        ensures err { OnErr result (self.new ≡ self.old) }
+    {
+        self.items.push(item)?;
+        Ok(())
+    }
+
+    /// Takes the first element out. The others move, so that it takes as long as the list is.
+    pub fn pop_front(&mut self) -> Option<T>
+        ensures { MatchOption result ((self.old ≡ []) × (self.new ≡ [])) (λ first. self.old ≡ first ∷ self.new) }
+    {
+        if self.items.is_empty() {
+            return None;
+        }
+        Some(self.items.remove(0))
+    }
+
+    /// How many elements there are.
     pub fn len(&self) -> usize
         ensures { result ≡ length self.now }
     {
         self.items.len()
     }
 
+    /// Whether there is no element.
     pub fn is_empty(&self) -> bool
         ensures { IsTrue result ↔ (self.now ≡ []) }
     {

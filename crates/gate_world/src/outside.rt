@@ -6,26 +6,35 @@ ghost use Rattle.gate_world.specs.declared.event.Event.TheVariants.{Accepted, No
 ghost use Rattle.gate_world.specs.Tape.{AddsOne};
 ghost use Rattle.gate_world.specs.Read.{given};
 
+/// A call to the outside failed: the count of faults of its part rose.
 #[derive(Clone, Copy, Debug, PartialEq, Eq)]
 pub struct Failed;
 
+/// Why kept batches aren't given.
 #[derive(Clone, Copy, Debug, PartialEq, Eq)]
 pub enum KeepError {
+    /// The keeper failed: its count of faults rose.
     Failed,
+    /// Out of memory: the keeper's count stays, and nothing is told.
     Memory,
 }
 
-/// What stands behind all parts of the outside.
+/// What all parts of the outside have: a tape of events, counts of faults and secrets. Each is known to contracts alone.
 pub trait Taped {
-    /// The events so far, where they are told.
+    /// The events so far, oldest first, where they are told. Once they are not told they never are again.
     ghost tape: { Self → Option (List Event) };
 
+    /// How often each part has failed. No count falls; one that stands at 2^64 - 1 counts as one that rose.
     ghost faults: { Self → Faults };
 
+    /// The store's password and the client's token, which no call changes.
     ghost hidden: { Self → Hidden };
 }
 
+/// The link to the store: one link life after another, each from a dial to its end.
 pub trait Link: Taped {
+    /// Begins a link life, and ends the one that there may be. It fails where the store isn't reached; no link life is there
+    /// then.
     fn dial(&mut self) -> Result<(), Failed>
         ensures ok { OnOk result (AddsOne (Self.tape self.old) (Self.tape self.new) Dialed) }
         ensures err { OnErr result (AddsOne (Self.tape self.old) (Self.tape self.new) LinkEnded) }
@@ -33,6 +42,9 @@ pub trait Link: Taped {
         ensures cause { OnErr result (Rose (Self.faults self.old).link (Self.faults self.new).link) }
         ensures hidden { Self.hidden self.new ≡ Self.hidden self.old };
 
+    /// Waits for octets of the store, puts them at the front of `into`, and gives how many: at least 1, at most the length of
+    /// `into`. It fails where the store has closed the link, where the wait is too long and where there is no link life; the
+    /// link life has ended then.
     fn read(&mut self, into: &mut [u8]) -> Result<usize, Failed>
         requires { 0 < length into.old }
         ensures bound { IfOk result (λ n. (0 < n) × (n ≤ length into.new)) }
@@ -42,6 +54,8 @@ pub trait Link: Taped {
         ensures cause { OnErr result (Rose (Self.faults self.old).link (Self.faults self.new).link) }
         ensures hidden { Self.hidden self.new ≡ Self.hidden self.old };
 
+    /// Gives the store some of the octets, from their front, and says how many it took: at least 1. It fails where it took
+    /// none, as where there is no link life; the link life has ended then.
     fn write(&mut self, from: &[u8]) -> Result<usize, Failed>
         requires { 0 < length from.now }
         ensures bound { IfOk result (λ n. (0 < n) × (n ≤ length from.now)) }
@@ -51,13 +65,16 @@ pub trait Link: Taped {
         ensures cause { OnErr result (Rose (Self.faults self.old).link (Self.faults self.new).link) }
         ensures hidden { Self.hidden self.new ≡ Self.hidden self.old };
 
+    /// Ends the link life. It can't fail.
     fn hang_up(&mut self)
         ensures tape { AddsOne (Self.tape self.old) (Self.tape self.new) LinkEnded }
         ensures cause { NoFault (Self.faults self.old) (Self.faults self.new) }
         ensures hidden { Self.hidden self.new ≡ Self.hidden self.old };
 }
 
+/// The clients' side: one client after another, each from an accept to a finish.
 pub trait Front: Taped {
+    /// Waits for the next client. False where no client will come.
     fn accept(&mut self) -> Result<bool, Failed>
         ensures ok { IfOk result (λ more. AddsOne (Self.tape self.old) (Self.tape self.new) (if more then Accepted else NoMore)) }
         ensures err { OnErr result (AddsOne (Self.tape self.old) (Self.tape self.new) FrontFailed) }
@@ -65,6 +82,8 @@ pub trait Front: Taped {
         ensures cause { OnErr result (Rose (Self.faults self.old).front (Self.faults self.new).front) }
         ensures hidden { Self.hidden self.new ≡ Self.hidden self.old };
 
+    /// Waits for octets of the client, puts them at the front of `into`, and gives how many: at most the length of `into`, and
+    /// 0 exactly where the client ended its input.
     fn recv(&mut self, into: &mut [u8]) -> Result<usize, Failed>
         requires { 0 < length into.old }
         ensures bound { IfOk result (λ n. n ≤ length into.new) }
@@ -74,6 +93,8 @@ pub trait Front: Taped {
         ensures cause { OnErr result (Rose (Self.faults self.old).front (Self.faults self.new).front) }
         ensures hidden { Self.hidden self.new ≡ Self.hidden self.old };
 
+    /// Gives the client some of the octets, from their front, and says how many it took: at least 1. It fails where it took
+    /// none.
     fn send(&mut self, from: &[u8]) -> Result<usize, Failed>
         requires { 0 < length from.now }
         ensures bound { IfOk result (λ n. (0 < n) × (n ≤ length from.now)) }
@@ -83,20 +104,25 @@ pub trait Front: Taped {
         ensures cause { OnErr result (Rose (Self.faults self.old).front (Self.faults self.new).front) }
         ensures hidden { Self.hidden self.new ≡ Self.hidden self.old };
 
+    /// The answer to this client is whole, and nothing more is sent to it. It can't fail.
     fn finish(&mut self)
         ensures tape { AddsOne (Self.tape self.old) (Self.tape self.new) ClientDone }
         ensures cause { NoFault (Self.faults self.old) (Self.faults self.new) }
         ensures hidden { Self.hidden self.new ≡ Self.hidden self.old };
 }
 
+/// Random words.
 pub trait Chance: Taped {
+    /// A random word, each of the 2^64 as likely. It can't fail.
     fn word(&mut self) -> u64
         ensures tape { AddsOne (Self.tape self.old) (Self.tape self.new) (Word result) }
         ensures cause { NoFault (Self.faults self.old) (Self.faults self.new) }
         ensures hidden { Self.hidden self.new ≡ Self.hidden self.old };
 }
 
+/// Where whoever runs the program is told something.
 pub trait Console: Taped {
+    /// Says the whole text. Where it fails, some of it may have been said.
     fn say(&mut self, text: &[u8]) -> Result<(), Failed>
         ensures ok { OnOk result (AddsOne (Self.tape self.old) (Self.tape self.new) (Said text.now)) }
         ensures err { OnErr result (AddsOne (Self.tape self.old) (Self.tape self.new) SayFailed) }
@@ -105,10 +131,13 @@ pub trait Console: Taped {
         ensures hidden { Self.hidden self.new ≡ Self.hidden self.old };
 }
 
+/// What the program is told to keep to itself.
 pub trait Secrets: Taped {
+    /// The password of the store, the same at each call.
     fn password(&self) -> &[u8]
         ensures { result.now ≡ (Self.hidden self.now).password };
 
+    /// The token that a client must show, the same at each call.
     fn token(&self) -> &[u8]
         ensures { result.now ≡ (Self.hidden self.now).token };
 }

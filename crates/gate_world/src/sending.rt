@@ -6,7 +6,7 @@ ghost use Rattle.gate_world.specs.Tape.{Adds};
 
 use crate::{Failed, Front, Link};
 
-/// Sends the client all of it.
+/// Sends the client all of the octets, a piece at a time. It fails where a send fails, before the client took them all.
 pub fn send_all<F: Front>(front: &mut F, octets: &[u8]) -> Result<(), Failed>
     ensures tape { Adds (F.tape front.old) (F.tape front.new) (Sends octets.now result) }
     ensures alone { FrontAlone (F.faults front.old) (F.faults front.new) }
@@ -21,7 +21,7 @@ pub fn send_all<F: Front>(front: &mut F, octets: &[u8]) -> Result<(), Failed>
     Ok(())
 }
 
-/// Writes all of it to the store.
+/// Writes all of the octets to the store, a piece at a time. It fails where a write fails, before the store took them all.
 pub fn write_all<L: Link>(link: &mut L, octets: &[u8]) -> Result<(), Failed>
     ensures tape { Adds (L.tape link.old) (L.tape link.new) (Writes octets.now result) }
     ensures alone { LinkAlone (L.faults link.old) (L.faults link.new) }

@@ -13,6 +13,7 @@ pub trait Watcher: Drop {
     /// How often telling has failed.
     ghost failures: { Self → ℕ };
 
+    /// Tells the line, which is whole. It fails where it isn't told; the count of failures rises then.
     fn tell(&mut self, line: &[u8]) -> Result<(), Failed>
         ensures ok { OnOk result (HearsLines (heard self.old) (heard self.new) (line.now ∷ [])) }
         ensures kept { OnOk result (failures self.new ≡ failures self.old) }
@@ -30,6 +31,7 @@ impl Watcher for Box<dyn Watcher> {
 
     ghost failures = { λ b. (Watcher-box b).failures b.value };
 
+    /// Tells the line, which is whole. It fails where it isn't told; the count of failures rises then.
     fn tell(&mut self, line: &[u8]) -> Result<(), Failed> {
         (**self).tell(line)
     }
