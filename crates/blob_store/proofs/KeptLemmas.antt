@@ -1,5 +1,6 @@
 -- What a map and a queue of ids stand for after an upload has come or gone.
-use Rattle.std.proofs.Common.{◌≡◌, ◌≢◌, ℕ, ◌+◌, ◌*◌, Bool, true, false, cond, if◌then◌else◌, List, [], ◌∷◌, ◌++◌, length, Option, None, Some, option_to_list, refl, sym, ap, subst, ◌∙◌, true≢false, arith}
+use Rattle.std.proofs.Common.{◌≡◌, ◌≢◌, ℕ, ◌+◌, ◌*◌, Bool, true, false, cond, if◌then◌else◌, List, [], ◌∷◌, ◌++◌, length, Option, None, Some, option_to_list, refl, sym, ap, subst}
+use Rattle.std.proofs.Common.{◌∙◌, true≢false, arith}
 use Rattle.std.specs.Str.{bytes_eq}
 use Rattle.std.proofs.lemmas.Slice.Eq.{bytes_eq-Decides}
 use Rattle.std.specs.Cmp.Lexicographic.{unequal}
@@ -18,11 +19,13 @@ length-blob_id u = omega (arith, length-encode_with lower_digits (sha256 u), len
 
 -- texts that differ do so either way
 other_way : (a b : List ℕ) → bytes_eq a b ≡ false → bytes_eq b a ≡ false
-other_way a b differ = elim (bytes_eq b a) as (λ t. bytes_eq b a ≡ t → t ≡ false) [ true ↦ λ is. absurd (true≢false (sym ((bytes_eq-Decides a b).1 (sym ((bytes_eq-Decides b a).0 is))) ∙ differ)) | false ↦ λ _. refl ] refl
+other_way a b differ = elim (bytes_eq b a) as (λ t. bytes_eq b a ≡ t
+    → t ≡ false) [ true ↦ λ is. absurd (true≢false (sym ((bytes_eq-Decides a b).1 (sym ((bytes_eq-Decides b a).0 is))) ∙ differ)) | false ↦ λ _. refl ] refl
 
 -- where no upload has an id, the first has another, and none of the others has it
 missing : (id u : List ℕ) (us : List (List ℕ)) → upload_with id (u ∷ us) ≡ None → (bytes_eq id (blob_id u) ≡ false) × (upload_with id us ≡ None)
-missing id u us none = elim (bytes_eq id (blob_id u)) as (λ t. (if t then Some u else upload_with id us) ≡ None → (t ≡ false) × (upload_with id us ≡ None)) [ true ↦ λ e. absurd (cc) | false ↦ λ e. (refl, e) ] none
+missing id u us none = elim (bytes_eq id (blob_id u)) as (λ t. (if t then Some u else upload_with id us) ≡ None → (t ≡ false)
+    × (upload_with id us ≡ None)) [ true ↦ λ e. absurd (cc) | false ↦ λ e. (refl, e) ] none
 
 -- the first of two that is there
 abbrev else_this : Option (List ℕ) → Option (List ℕ) → Option (List ℕ)
@@ -32,7 +35,8 @@ else_this (Some u) o = Some u
 -- an upload at the end is found where no other has its id
 with_last : (id u : List ℕ) (us : List (List ℕ)) → upload_with id (us ++ u ∷ []) ≡ else_this (upload_with id us) (if bytes_eq id (blob_id u) then Some u else None)
 with_last id u [] = refl
-with_last id u (v ∷ us) = elim (bytes_eq id (blob_id v)) as (λ t. (if t then Some v else upload_with id (us ++ u ∷ [])) ≡ else_this (if t then Some v else upload_with id us) (if bytes_eq id (blob_id u) then Some u else None)) [ true ↦ refl | false ↦ with_last id u us ]
+with_last id u (v ∷ us) = elim (bytes_eq id (blob_id v)) as (λ t. (if t then Some v else upload_with id (us ++ u ∷ []))
+    ≡ else_this (if t then Some v else upload_with id us) (if bytes_eq id (blob_id u) then Some u else None)) [ true ↦ refl | false ↦ with_last id u us ]
 
 else_none : (o : Option (List ℕ)) → else_this o None ≡ o
 else_none None = refl
@@ -42,8 +46,11 @@ else_none (Some u) = refl
 distinct_with : (u : List ℕ) (us : List (List ℕ)) → AreDistinct us → upload_with (blob_id u) us ≡ None → AreDistinct (us ++ u ∷ [])
 distinct_with u [] _ _ = (refl, tt)
 distinct_with u (v ∷ us) d none =
-    let m = missing (blob_id u) v us none in
-    (with_last (blob_id v) u us ∙ ap (λ o. else_this o (if bytes_eq (blob_id v) (blob_id u) then Some u else None)) d.0 ∙ ap (λ t. if t then Some u else None) (other_way (blob_id u) (blob_id v) m.0), distinct_with u us d.1 m.1)
+    let m = missing (blob_id u) v us none in (
+      with_last (blob_id v) u us ∙ ap (λ o. else_this o (if bytes_eq (blob_id v) (blob_id u) then Some u else None)) d.0
+          ∙ ap (λ t. if t then Some u else None) (other_way (blob_id u) (blob_id v) m.0),
+      distinct_with u us d.1 m.1,
+    )
 
 -- the octets of uploads and one more
 pub octets_of-push : (us : List (List ℕ)) (u : List ℕ) → octets_of (us ++ u ∷ []) ≡ octets_of us + length u
@@ -88,8 +95,10 @@ module _ (before after : List ℕ → Option (List ℕ)) (key : List ℕ) where
           named = stay.0;
           distinct = subst AreDistinct (sym stay.1) distinct.1;
           found = λ id. elim (bytes_eq key id) as (λ t. bytes_eq key id ≡ t → after id ≡ upload_with id (gathered after ids)) [
-            | true ↦ λ is. gone id ∙ ap (λ t. cond t None (before id)) is ∙ sym none ∙ ap (λ x. upload_with x rest) ((bytes_eq-Decides key id).0 is) ∙ ap (upload_with id) (sym stay.1)
-            | false ↦ λ differ. other id differ ∙ kept.found id ∙ ap (upload_with id) all ∙ ap (λ t. if t then Some u else upload_with id rest) (ap (bytes_eq id) own ∙ other_way key id differ) ∙ ap (upload_with id) (sym stay.1)
+            | true ↦ λ is. gone id ∙ ap (λ t. cond t None (before id)) is ∙ sym none ∙ ap (λ x. upload_with x rest) ((bytes_eq-Decides key id).0 is)
+                ∙ ap (upload_with id) (sym stay.1)
+            | false ↦ λ differ. other id differ ∙ kept.found id ∙ ap (upload_with id) all
+                ∙ ap (λ t. if t then Some u else upload_with id rest) (ap (bytes_eq id) own ∙ other_way key id differ) ∙ ap (upload_with id) (sym stay.1)
           ] refl;
         };
       }

@@ -22,7 +22,7 @@ octets_of (octets ∷ rest) = length octets + octets_of rest
 abbrev pub HaveToGo : ℕ → List (List ℕ) → List (List ℕ) → Type 0
 HaveToGo most gone kept = (gone ≡ []) ⊎ ((earlier : List (List ℕ)) × (last : List ℕ) × (gone ≡ earlier ++ last ∷ []) × (most < octets_of (last ∷ kept)))
 
--- the newest uploads that have at most so many octets together: the oldest are gone
+-- the newest uploads that have at most n octets together: the oldest are gone
 pub record AreNewest (most : ℕ) (all kept : List (List ℕ)) : Type 0 where
   pub gone : List (List ℕ)
   pub whole : all ≡ gone ++ kept

@@ -1,3 +1,4 @@
+// Why an upload is refused.
 ghost use Rattle.std.specs.Prelude.{◌≡◌};
 ghost use Rattle.blob_store.specs.declared.error.BlobError.TheVariants.{Memory};
 

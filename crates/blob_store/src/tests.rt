@@ -1,3 +1,4 @@
+// Tests of what is kept and what is refused.
 use crate::{BlobError, BlobStore, MAX_UPLOAD_OCTETS};
 use gate_world::Bytes;
 use std::alloc::{AllocError, Global};
@@ -7,14 +8,14 @@ const ID_OF_HI: &[u8] = b"u8f434346648f6b96df89dda901c5176b10a6d83961dd3c1ac88b5
 
 const ID_OF_NOTHING: &[u8] = b"ue3b0c44298fc1c149afbf4c8996fb92427ae41e4649b934ca495991b7852b855";
 
-/// So many octets, all of this kind.
+/// This many octets, all of this kind.
 fn octets_of(alloc: Global, kind: u8, size: usize) -> Result<Vec<u8>, AllocError> {
     let mut octets = Vec::new(alloc);
     octets.resize(size, kind)?;
     Ok(octets)
 }
 
-/// Takes an upload of so many octets of this kind.
+/// Takes an upload of n octets of this kind.
 fn put(store: &mut BlobStore, alloc: Global, kind: u8, size: usize) -> Result<Bytes, BlobError> {
     let octets = octets_of(alloc, kind, size)?;
     store.put(&octets)

@@ -1,5 +1,6 @@
 -- A history, a place and a limit determine the answer, and answers come on.
-use Rattle.std.proofs.Common.{◌≡◌, ◌≢◌, ◌↔◌, ℕ, suc, ◌+◌, ◌<◌, ◌≤◌, List, [], ◌∷◌, Bool, true, false, cond, IsTrue, take, length, Option, Some, None, refl, sym, ap, subst, ◌∙◌, arith}
+use Rattle.std.proofs.Common.{◌≡◌, ◌≢◌, ◌↔◌, ℕ, suc, ◌+◌, ◌<◌, ◌≤◌, List, [], ◌∷◌, Bool, true, false, cond, IsTrue, take, length, Option, Some, None, refl, sym, ap, subst, ◌∙◌}
+use Rattle.std.proofs.Common.{arith}
 use Rattle.std.specs.Option.{ForSome}
 use Rattle.std.proofs.lemmas.List.{length-drop, length-take-le}
 use Rattle.change_list.specs.Touches.{between, touches, counts_alone}
@@ -51,6 +52,7 @@ pub answers_go_on : (h : List Entry) (s : ℕ) (max : Option ℕ) (c : Changes) 
 answers_go_on h s max c is some inside =
     let one : IsWithin max h s (s + 1) = elim max as (λ m. ForSome m (λ most. 0 < most) → IsWithin m h s (s + 1)) [
       | None ↦ λ f. tt
-      | Some most ↦ λ f. (let ids = ids_listed (between h s (s + 1)) in (ids.0, ids.1, omega (arith, f most refl, one_touched h s inside, count_listed (between h s (s + 1)) ids.0 ids.1)))
+      | Some most ↦ λ f. (let ids = ids_listed (between h s (s + 1)) in
+          (ids.0, ids.1, omega (arith, f most refl, one_touched h s inside, count_listed (between h s (s + 1)) ids.0 ids.1)))
     ] some in
     omega (arith, is.reaches.greatest (s + 1) (omega arith) one)

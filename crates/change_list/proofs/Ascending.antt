@@ -35,15 +35,16 @@ first_below x (y ∷ ys) up q =
 pub held_first : (x : ℕ) (xs : List ℕ) → holds_id (x ∷ xs) x ≡ true
 held_first x xs = ap (λ b. b || holds_id xs x) (eq-eqb x x refl)
 
--- a number of the list is the first, or one behind it
+-- a number of the list is the first, or one after it
 first_or_rest : (q y : ℕ) (ys : List ℕ) → holds_id (y ∷ ys) q ≡ true → (q ≡ y → ⊥) → holds_id ys q ≡ true
 first_or_rest q y ys h differ = elim (nat_eq q y) as (λ b. nat_eq q y ≡ b → b || holds_id ys q ≡ true → holds_id ys q ≡ true) [
   | true ↦ λ same h. absurd (differ (eqb-true q y same))
   | false ↦ λ other h. h
 ] refl h
 
--- where both lists begin with x, they have the same numbers behind it
-rest_held : (x : ℕ) (xs ys : List ℕ) → IsStrictlyIncreasing (x ∷ xs) → IsStrictlyIncreasing (x ∷ ys) → ((q : ℕ) → holds_id (x ∷ xs) q ≡ holds_id (x ∷ ys) q) → (q : ℕ) → holds_id xs q ≡ holds_id ys q
+-- where both lists begin with x, they have the same numbers after it
+rest_held : (x : ℕ) (xs ys : List ℕ) → IsStrictlyIncreasing (x ∷ xs) → IsStrictlyIncreasing (x ∷ ys) → ((q : ℕ) → holds_id (x ∷ xs) q ≡ holds_id (x ∷ ys) q) → (q : ℕ)
+    → holds_id xs q ≡ holds_id ys q
 rest_held x xs ys up vp same q = elim (nat_eq q x) as (λ b. nat_eq q x ≡ b → b || holds_id xs q ≡ b || holds_id ys q → holds_id xs q ≡ holds_id ys q) [
   | true ↦ λ is h.
       let none : (zs : List ℕ) → IsStrictlyIncreasing (x ∷ zs) → holds_id zs q ≡ false = λ zs wp. elim (holds_id zs q) as (λ b. holds_id zs q ≡ b → b ≡ false) [

@@ -1,5 +1,6 @@
 -- What keeps a client's copy right, and where it ends.
-use Rattle.std.proofs.Common.{◌≡◌, ◌≢◌, ℕ, ◌≤◌, List, [], ◌∷◌, ◌++◌, Bool, true, false, cond, nat_eq, take, drop, length, Option, Some, None, refl, sym, ap, subst, ◌∙◌, arith, ◌||◌, is_some, length-append}
+use Rattle.std.proofs.Common.{◌≡◌, ◌≢◌, ℕ, ◌≤◌, List, [], ◌∷◌, ◌++◌, Bool, true, false, cond, nat_eq, take, drop, length, Option, Some, None, refl, sym, ap, subst, ◌∙◌, arith}
+use Rattle.std.proofs.Common.{◌||◌, is_some, length-append}
 use Rattle.std.proofs.lemmas.Bool.{eqb-true}
 use Rattle.std.proofs.lemmas.List.{take-take, length-take-le, take-append-le}
 use Rattle.std.proofs.Math.Seq.{take-append_seam, take-length}
@@ -57,7 +58,8 @@ module _ {V : Type 0} where
       let at_k = λ (q : ℕ). there_at-take h m c.to q km in
       let early = λ (q : ℕ). ap (λ es. touches es q) (between-take h m s c.to km) in
       let n = length h in
-      let parts = λ (q : ℕ). ap (λ es. touches es q) (between-append (entries_of h) s c.to n sk (omega arith)) ∙ touches-append (between (entries_of h) s c.to) (between (entries_of h) c.to n) q in
+      let parts = λ (q : ℕ). ap (λ es. touches es q) (between-append (entries_of h) s c.to n sk (omega arith))
+      ∙ touches-append (between (entries_of h) s c.to) (between (entries_of h) c.to n) q in
       let created = λ (q : ℕ) (e : holds_id c.created q ≡ true). (is.created.members q).0 (Contains-holds_id c.created q e) in
       let updated = λ (q : ℕ) (e : holds_id c.updated q ≡ true). (is.updated.members q).0 (Contains-holds_id c.updated q e) in
       let destroyed = λ (q : ℕ) (e : holds_id c.destroyed q ≡ true). (is.destroyed.members q).0 (Contains-holds_id c.destroyed q e) in
@@ -137,7 +139,13 @@ module _ {V : Type 0} where
 
   -- a step comes no further than the history had when it ended
   step_comes_to : (h : List (Touch V)) (s now : ℕ) (r : ClientStep) → IsClientStep h s now r → r.changes.to ≤ r.fetched
-  step_comes_to h s now r is = omega (arith, is.changes.reaches.to_last, length-entries_from (λ _. None) (take r.answered h), length-take-le r.answered h (omega (arith, is.answer_first, is.by_now)), is.answer_first)
+  step_comes_to h s now r is = omega (
+    arith,
+    is.changes.reaches.to_last,
+    length-entries_from (λ _. None) (take r.answered h),
+    length-take-le r.answered h (omega (arith, is.answer_first, is.by_now)),
+    is.answer_first,
+  )
 
   -- one step keeps a copy
   step_keeps : (h : List (Touch V)) (s now : ℕ) (r : ClientStep) (copy : ℕ → Option V) → s ≤ now → IsCopy copy (take now h) s → IsClientStep h s now r
@@ -159,7 +167,8 @@ module _ {V : Type 0} where
       let P : List (Touch V) → Type 0 = λ ts. IsCopy copy ts s in
       subst P (take-length h) (copies_go_on h s now (length h) copy sn nh (omega arith) was)
   steps_keep h s now (r ∷ rs) copy sn nh was are =
-      steps_keep h r.changes.to r.fetched rs (applied r.changes (map_at h r.fetched) copy) (step_comes_to h s now r are.0) are.0.by_now (step_keeps h s now r copy sn was are.0) are.1
+      steps_keep h r.changes.to r.fetched rs (applied r.changes (map_at h r.fetched) copy) (step_comes_to h s now r are.0) are.0.by_now
+      (step_keeps h s now r copy sn was are.0) are.1
 
   -- where they come to the last place, the copy is the last map
   pub steps_end : (h : List (Touch V)) (s now : ℕ) (rs : List ClientStep) (copy : ℕ → Option V) → s ≤ now → now ≤ length h → IsCopy copy (take now h) s → AreClientSteps h s now rs

@@ -1,5 +1,6 @@
 -- How many ids are touched: as many as a list of them has.
-use Rattle.std.proofs.Common.{◌≡◌, ℕ, zero, suc, ◌+◌, ◌<◌, List, [], ◌∷◌, Bool, true, false, not, ◌&&◌, ◌||◌, cond, nat_eq, nat_lt, slice_index, filter, length, refl, sym, ap, subst, ◌∙◌, arith}
+use Rattle.std.proofs.Common.{◌≡◌, ℕ, zero, suc, ◌+◌, ◌<◌, List, [], ◌∷◌, Bool, true, false, not, ◌&&◌, ◌||◌, cond, nat_eq, nat_lt, slice_index, filter, length, refl, sym, ap}
+use Rattle.std.proofs.Common.{subst, ◌∙◌, arith}
 use Rattle.std.specs.List.Sorted.{IsStrictlyIncreasing}
 use Rattle.std.proofs.lemmas.Bool.{eqb-true, eq-eqb, ltb-true, ltb-false}
 use Rattle.std.proofs.Math.Bool.{and-false, and-true}
@@ -21,18 +22,19 @@ without_at x q a same = ap (λ b. a && not b) same ∙ and-false a
 
 holds_without : (x : ℕ) (xs : List ℕ) (q : ℕ) → holds_id (without x xs) q ≡ holds_id xs q && not (nat_eq x q)
 holds_without x [] q = refl
-holds_without x (y ∷ ys) q = elim (nat_eq x y) as (λ b. nat_eq x y ≡ b → holds_id (cond (not b) (y ∷ without x ys) (without x ys)) q ≡ (nat_eq q y || holds_id ys q) && not (nat_eq x q)) [
-  | true ↦ λ first. elim (nat_eq q y) as (λ c. nat_eq q y ≡ c → holds_id (without x ys) q ≡ (c || holds_id ys q) && not (nat_eq x q)) [
-    | true ↦ λ same.
-        let here : nat_eq x q ≡ true = ap (nat_eq x) (eqb-true q y same) ∙ first in
-        holds_without x ys q ∙ without_at x q (holds_id ys q) here ∙ sym (without_at x q true here)
-    | false ↦ λ other. holds_without x ys q
-  ] refl
-  | false ↦ λ first. elim (nat_eq q y) as (λ c. nat_eq q y ≡ c → c || holds_id (without x ys) q ≡ (c || holds_id ys q) && not (nat_eq x q)) [
-    | true ↦ λ same. sym (ap not (ap (nat_eq x) (eqb-true q y same) ∙ first))
-    | false ↦ λ other. holds_without x ys q
-  ] refl
-] refl
+holds_without x (y ∷ ys) q = elim (nat_eq x y) as (λ b. nat_eq x y ≡ b
+    → holds_id (cond (not b) (y ∷ without x ys) (without x ys)) q ≡ (nat_eq q y || holds_id ys q) && not (nat_eq x q)) [
+      | true ↦ λ first. elim (nat_eq q y) as (λ c. nat_eq q y ≡ c → holds_id (without x ys) q ≡ (c || holds_id ys q) && not (nat_eq x q)) [
+        | true ↦ λ same.
+            let here : nat_eq x q ≡ true = ap (nat_eq x) (eqb-true q y same) ∙ first in
+            holds_without x ys q ∙ without_at x q (holds_id ys q) here ∙ sym (without_at x q true here)
+        | false ↦ λ other. holds_without x ys q
+      ] refl
+      | false ↦ λ first. elim (nat_eq q y) as (λ c. nat_eq q y ≡ c → c || holds_id (without x ys) q ≡ (c || holds_id ys q) && not (nat_eq x q)) [
+        | true ↦ λ same. sym (ap not (ap (nat_eq x) (eqb-true q y same) ∙ first))
+        | false ↦ λ other. holds_without x ys q
+      ] refl
+    ] refl
 
 -- a list that doesn't hold the number is as it was
 without_absent : (x : ℕ) (xs : List ℕ) → holds_id xs x ≡ false → length (without x xs) ≡ length xs
@@ -42,7 +44,7 @@ without_absent x (y ∷ ys) e = elim (nat_eq x y) as (λ b. b || holds_id ys x �
   | false ↦ λ f. ap suc (without_absent x ys f)
 ] e
 
--- nothing behind the first number of an ascending list is as low
+-- nothing after the first number of an ascending list is as low
 absent_behind : (x : ℕ) (xs : List ℕ) → IsStrictlyIncreasing (x ∷ xs) → holds_id xs x ≡ false
 absent_behind x xs up = elim (holds_id xs x) as (λ b. holds_id xs x ≡ b → b ≡ false) [
   | true ↦ λ e. absurd (omega (arith, first_below x xs up x e))
@@ -52,45 +54,53 @@ absent_behind x xs up = elim (holds_id xs x) as (λ b. holds_id xs x ≡ b → b
 -- an ascending list holds a number once
 length_without : (x : ℕ) (xs : List ℕ) → IsStrictlyIncreasing xs → holds_id xs x ≡ true → length xs ≡ suc (length (without x xs))
 length_without x [] up e = absurd (let f : false ≡ true = e in cc)
-length_without x (y ∷ ys) up e = elim (nat_eq x y) as (λ b. nat_eq x y ≡ b → b || holds_id ys x ≡ true → suc (length ys) ≡ suc (length (cond (not b) (y ∷ without x ys) (without x ys)))) [
-  | true ↦ λ same f. ap suc (sym (without_absent x ys (ap (holds_id ys) (eqb-true x y same) ∙ absent_behind y ys up)))
-  | false ↦ λ other f. ap suc (length_without x ys (ascending_rest y ys up) f)
-] refl e
+length_without x (y ∷ ys) up e = elim (nat_eq x y) as (λ b. nat_eq x y ≡ b → b || holds_id ys x ≡ true
+    → suc (length ys) ≡ suc (length (cond (not b) (y ∷ without x ys) (without x ys)))) [
+      | true ↦ λ same f. ap suc (sym (without_absent x ys (ap (holds_id ys) (eqb-true x y same) ∙ absent_behind y ys up)))
+      | false ↦ λ other f. ap suc (length_without x ys (ascending_rest y ys up) f)
+    ] refl e
 
 empty_list : (xs : List ℕ) → ((q : ℕ) → holds_id xs q ≡ false) → 0 ≡ length xs
 empty_list [] none = refl
 empty_list (x ∷ xs) none = absurd (let f : true ≡ false = sym (held_first x xs) ∙ none x in cc)
 
 -- a touch of an id that was touched before adds none
-known_adds_none : (before es : List Entry) (e : Entry) (q : ℕ) → touches before e.id ≡ true → cond (nat_eq e.id q) true (touches es q) && not (touches before q) ≡ touches es q && not (touches before q)
-known_adds_none before es e q known = elim (nat_eq e.id q) as (λ b. nat_eq e.id q ≡ b → cond b true (touches es q) && not (touches before q) ≡ touches es q && not (touches before q)) [
-  | true ↦ λ same.
-      let here : touches before q ≡ true = ap (touches before) (sym (eqb-true e.id q same)) ∙ known in
-      ap not here ∙ sym (ap (λ b. touches es q && not b) here ∙ and-false (touches es q))
-  | false ↦ λ other. refl
-] refl
+known_adds_none : (before es : List Entry) (e : Entry) (q : ℕ) → touches before e.id ≡ true
+    → cond (nat_eq e.id q) true (touches es q) && not (touches before q) ≡ touches es q && not (touches before q)
+known_adds_none before es e q known = elim (nat_eq e.id q) as
+    (λ b. nat_eq e.id q ≡ b → cond b true (touches es q) && not (touches before q) ≡ touches es q && not (touches before q)) [
+      | true ↦ λ same.
+          let here : touches before q ≡ true = ap (touches before) (sym (eqb-true e.id q same)) ∙ known in
+          ap not here ∙ sym (ap (λ b. touches es q && not b) here ∙ and-false (touches es q))
+      | false ↦ λ other. refl
+    ] refl
 
 -- and of another one adds it
-fresh_adds_one : (before es : List Entry) (e : Entry) (q : ℕ) → (cond (nat_eq e.id q) true (touches es q) && not (touches before q)) && not (nat_eq e.id q) ≡ touches es q && not (cond (nat_eq e.id q) true (touches before q))
-fresh_adds_one before es e q = elim (nat_eq e.id q) as (λ b. (cond b true (touches es q) && not (touches before q)) && not b ≡ touches es q && not (cond b true (touches before q))) [
-  | true ↦ and-false (true && not (touches before q)) ∙ sym (and-false (touches es q))
-  | false ↦ elim (touches es q && not (touches before q)) as (λ c. c && true ≡ c) [ true ↦ refl | false ↦ refl ]
-]
+fresh_adds_one : (before es : List Entry) (e : Entry) (q : ℕ)
+    → (cond (nat_eq e.id q) true (touches es q) && not (touches before q)) && not (nat_eq e.id q) ≡ touches es q && not (cond (nat_eq e.id q) true (touches before q))
+fresh_adds_one before es e q = elim (nat_eq e.id q) as (λ b. (cond b true (touches es q) && not (touches before q)) && not b ≡ touches es q
+    && not (cond b true (touches before q))) [
+      | true ↦ and-false (true && not (touches before q)) ∙ sym (and-false (touches es q))
+      | false ↦ elim (touches es q && not (touches before q)) as (λ c. c && true ≡ c) [ true ↦ refl | false ↦ refl ]
+    ]
 
 -- the walk counts as many as a list has of the ids that are touched and weren't before
-fresh_listed : (before es : List Entry) (xs : List ℕ) → IsStrictlyIncreasing xs → ((q : ℕ) → holds_id xs q ≡ touches es q && not (touches before q)) → fresh_count before es ≡ length xs
+fresh_listed : (before es : List Entry) (xs : List ℕ) → IsStrictlyIncreasing xs → ((q : ℕ) → holds_id xs q ≡ touches es q && not (touches before q))
+    → fresh_count before es ≡ length xs
 fresh_listed before [] xs up same = empty_list xs same
-fresh_listed before (e ∷ es) xs up same = elim (touches before e.id) as (λ b. touches before e.id ≡ b → cond b (fresh_count before es) (suc (fresh_count (e ∷ before) es)) ≡ length xs) [
-  | true ↦ λ known. fresh_listed before es xs up (λ q. same q ∙ known_adds_none before es e q known)
-  | false ↦ λ fresh.
-      let held : holds_id xs e.id ≡ true = same e.id ∙ ap (λ b. cond b true (touches es e.id) && not (touches before e.id)) (eq-eqb e.id e.id refl) ∙ ap not fresh in
-      let rest = fresh_listed (e ∷ before) es (without e.id xs) (IsStrictlyIncreasing-filter (λ y. not (nat_eq e.id y)) xs up)
-      (λ q. holds_without e.id xs q ∙ ap (λ b. b && not (nat_eq e.id q)) (same q) ∙ fresh_adds_one before es e q) in
-      ap suc rest ∙ sym (length_without e.id xs up held)
-] refl
+fresh_listed before (e ∷ es) xs up same = elim (touches before e.id) as
+    (λ b. touches before e.id ≡ b → cond b (fresh_count before es) (suc (fresh_count (e ∷ before) es)) ≡ length xs) [
+      | true ↦ λ known. fresh_listed before es xs up (λ q. same q ∙ known_adds_none before es e q known)
+      | false ↦ λ fresh.
+          let held : holds_id xs e.id ≡ true = same e.id ∙ ap (λ b. cond b true (touches es e.id) && not (touches before e.id)) (eq-eqb e.id e.id refl) ∙ ap not fresh in
+          let rest = fresh_listed (e ∷ before) es (without e.id xs) (IsStrictlyIncreasing-filter (λ y. not (nat_eq e.id y)) xs up)
+          (λ q. holds_without e.id xs q ∙ ap (λ b. b && not (nat_eq e.id q)) (same q) ∙ fresh_adds_one before es e q) in
+          ap suc rest ∙ sym (length_without e.id xs up held)
+    ] refl
 
 pub count_listed : (es : List Entry) (xs : List ℕ) → Lists xs (λ q. touches es q ≡ true) → touched_count es ≡ length xs
-count_listed es xs l = fresh_listed [] es xs l.ascending (λ q. same_truth (holds_id xs q) (touches es q) (λ h. (l.members q).0 (Contains-holds_id xs q h)) (λ t. holds_id-Contains xs q ((l.members q).1 t)) ∙ sym (and-true (touches es q)))
+count_listed es xs l = fresh_listed [] es xs l.ascending (λ q. same_truth (holds_id xs q) (touches es q) (λ h. (l.members q).0 (Contains-holds_id xs q h))
+    (λ t. holds_id-Contains xs q ((l.members q).1 t)) ∙ sym (and-true (touches es q)))
 
 -- ---- there is such a list
 

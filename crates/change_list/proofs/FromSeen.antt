@@ -1,5 +1,6 @@
 -- What the walk has seen says what changed.
-use Rattle.std.proofs.Common.{◌≡◌, ◌≢◌, ℕ, ◌+◌, ◌-◌, ◌<◌, ◌≤◌, List, [], ◌∷◌, ◌++◌, Bool, true, false, not, ◌&&◌, cond, nat_eq, take, drop, length, Option, Some, None, refl, sym, ap, subst, ◌∙◌, arith, is_some, BTreeMap, nat_cmp, Contains, ◌↔◌, IsTrue}
+use Rattle.std.proofs.Common.{◌≡◌, ◌≢◌, ℕ, ◌+◌, ◌-◌, ◌<◌, ◌≤◌, List, [], ◌∷◌, ◌++◌, Bool, true, false, not, ◌&&◌, cond, nat_eq, take, drop, length, Option, Some, None, refl, sym}
+use Rattle.std.proofs.Common.{ap, subst, ◌∙◌, arith, is_some, BTreeMap, nat_cmp, Contains, ◌↔◌, IsTrue}
 use Rattle.std.proofs.lemmas.Bool.{eqb-true}
 use Rattle.std.proofs.Math.Bool.{and-true}
 use Rattle.std.proofs.lemmas.List.{drop-take, drop-drop, take-append-drop, length-drop}
@@ -80,7 +81,8 @@ alone-seen_after : (known : Option Seen) (es : List Entry) (q : ℕ) → alone_s
 alone-seen_after known [] q = sym (and-true (alone_so_far known))
 alone-seen_after known (e ∷ es) q =
     alone-seen_after (cond (nat_eq e.id q) (Some (seen_after_one known e)) known) es q
-    ∙ elim (nat_eq e.id q) as (λ y. alone_so_far (cond y (Some (seen_after_one known e)) known) && counts_alone es q ≡ alone_so_far known && cond y (cond e.counts_only (counts_alone es q) false) (counts_alone es q)) [
+    ∙ elim (nat_eq e.id q) as (λ y. alone_so_far (cond y (Some (seen_after_one known e)) known) && counts_alone es q ≡ alone_so_far known
+    && cond y (cond e.counts_only (counts_alone es q) false) (counts_alone es q)) [
       | true ↦ one_alone known e (counts_alone es q)
       | false ↦ refl
     ]
@@ -142,7 +144,8 @@ updated_at (Some x) t s k d e f = (
   (λ h. (x, refl, both _ _ (sym f ∙ h.1) (sym e ∙ h.2))),
 )
 
-mixed_at : (o : Option Seen) (t s k a : Bool) → t ≡ is_some o → k ≡ is_after o s → s ≡ was_before o s → a ≡ alone_so_far o → Picks (has_of Mixed) o ↔ ((t ≡ true) × (s ≡ true) × (k ≡ true)) × (a ≡ false)
+mixed_at : (o : Option Seen) (t s k a : Bool) → t ≡ is_some o → k ≡ is_after o s → s ≡ was_before o s → a ≡ alone_so_far o
+    → Picks (has_of Mixed) o ↔ ((t ≡ true) × (s ≡ true) × (k ≡ true)) × (a ≡ false)
 mixed_at None t s k a d e f g = ((λ h. absurd (let g : None ≡ Some h.0 = h.1 in cc)), (λ h. absurd (let g : t ≡ true = h.0.0 in let i : t ≡ false = d in cc)))
 mixed_at (Some x) t s k a d e f g = (
   (λ h. let same : x ≡ h.0 = (let g : Some x ≡ Some h.0 = h.1 in cc) in
@@ -255,7 +258,8 @@ changes_from h s max c a fits sn =
     let touched = touched_is h s t fits tn in
     let alone = alone_is h s t fits tn in
     let IsMixed : ℕ → Type 0 = λ q. IsUpdated h s (s + t) q × (counts_alone (between h s (s + t)) q ≡ false) in
-    let those_mixed : Lists a.mixed IsMixed = Lists_for _ _ _ (λ q. then_same (seen_as a.seen Mixed q _ (known q)) (mixed_at _ _ _ _ _ (touched q) (end q) (start q) (alone q))) a.those_mixed in
+    let those_mixed : Lists a.mixed IsMixed = Lists_for _ _ _
+    (λ q. then_same (seen_as a.seen Mixed q _ (known q)) (mixed_at _ _ _ _ _ (touched q) (end q) (start q) (alone q))) a.those_mixed in
     let none_mixed = none_listed a.mixed IsMixed those_mixed in
     let C : ℕ → Type 0 = λ k. Lists c.created (IsCreated h s k) in
     let U : ℕ → Type 0 = λ k. Lists c.updated (IsUpdated h s k) in
@@ -275,7 +279,8 @@ changes_from h s max c a fits sn =
     }
 
 -- so it is over the touches that a list keeps after s
-pub changes_of_kept : (k : Kept) (h : List Entry) (s start : ℕ) (max : Option ℕ) (c : Changes) → IsOf k h → AreTouches h → front_of k.place + start ≡ s → s ≤ k.place → Answers (drop start k.entries) s max c → IsChanges h s max c
+pub changes_of_kept : (k : Kept) (h : List Entry) (s start : ℕ) (max : Option ℕ) (c : Changes) → IsOf k h → AreTouches h → front_of k.place + start ≡ s → s ≤ k.place
+    → Answers (drop start k.entries) s max c → IsChanges h s max c
 changes_of_kept k h s start max c of fits is high a =
     let P : List Entry → Type 0 = λ rest. Answers rest s max c in
     let front = front_of (length h) in

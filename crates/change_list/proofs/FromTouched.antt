@@ -1,5 +1,6 @@
 -- What the walk has seen says which ids were touched.
-use Rattle.std.proofs.Common.{◌≡◌, ℕ, suc, ◌+◌, ◌≤◌, List, [], ◌∷◌, Bool, true, false, map, drop, length, Option, Some, None, refl, sym, ap, subst, ◌∙◌, arith, is_some, BTreeMap, nat_cmp, slice_get, nat_lt, All}
+use Rattle.std.proofs.Common.{◌≡◌, ℕ, suc, ◌+◌, ◌≤◌, List, [], ◌∷◌, Bool, true, false, map, drop, length, Option, Some, None, refl, sym, ap, subst, ◌∙◌, arith, is_some, BTreeMap}
+use Rattle.std.proofs.Common.{nat_cmp, slice_get, nat_lt, All}
 use Rattle.std.specs.BTreeMap.{get, IsOrdered}
 use Rattle.std.proofs.lemmas.List.{length-drop}
 use Rattle.std.proofs.lemmas.List.Elements.{All-nil, All-cons}
@@ -38,7 +39,8 @@ is_found None t e h = absurd (let f : true ≡ false = sym h ∙ e in cc)
 is_found (Some x) t e h = (x, refl, refl)
 
 -- a walk over all touches after s tells what was touched after s
-pub touched_from : (h : List Entry) (s t : ℕ) (m : BTreeMap ℕ Seen) → AreTouches h → s ≤ length h → IsOrdered nat_cmp m → Gathered (drop s h) None m t → AreTouched h s (with_presence m.entries)
+pub touched_from : (h : List Entry) (s t : ℕ) (m : BTreeMap ℕ Seen) → AreTouches h → s ≤ length h → IsOrdered nat_cmp m → Gathered (drop s h) None m t
+    → AreTouched h s (with_presence m.entries)
 touched_from h s t m fits sn ordered g =
     let all : length (drop s h) ≤ t = elim (nat_lt t (length (drop s h))) as (λ b. nat_lt t (length (drop s h)) ≡ b → length (drop s h) ≤ t) [
       | true ↦ λ e. absurd (let f = g.full (ltb-true t (length (drop s h)) e) in let n : None ≡ Some f.0 = f.1 in cc)
@@ -50,7 +52,8 @@ touched_from h s t m fits sn ordered g =
     let L : List ℕ → Type 0 = λ ks. Lists ks (λ q. (x : Seen) × (get nat_cmp m q ≡ Some x) × (true ≡ true)) in
     let there = λ (q : ℕ). touched_is h s t fits tn q ∙ ap is_some (sym (g.known q)) in
     record {
-      ids = subst T end (Lists_for _ _ _ (λ q. (found_is (get nat_cmp m q) _ (there q), is_found (get nat_cmp m q) _ (there q))) (subst L (keys_with_presence m.entries) (lists_picked (λ _. true) m ordered)));
+      ids = subst T end (Lists_for _ _ _ (λ q. (found_is (get nat_cmp m q) _ (there q), is_found (get nat_cmp m q) _ (there q)))
+          (subst L (keys_with_presence m.entries) (lists_picked (λ _. true) m ordered)));
       presence = all_shown (λ x. x.1 ≡ there_at h s x.0) m.entries (λ i e here.
           let v : get nat_cmp m e.0 ≡ Some e.1 = btree_map_get_place nat_cmp_total m i e.0 e.1 ordered here in
           sym (was_at_start h s t fits tn e.0 ∙ ap (λ (o : Option Seen). was_before o (there_at h s e.0)) (sym (g.known e.0) ∙ v)));

@@ -1,5 +1,6 @@
 -- What the walk over the touches keeps.
-use Rattle.std.proofs.Common.{◌≡◌, ℕ, zero, suc, ◌+◌, ◌<◌, ◌≤◌, List, [], ◌∷◌, ◌++◌, Bool, true, false, cond, nat_eq, take, drop, length, Option, Some, None, refl, sym, ap, ◌∙◌, arith, rules, ◌||◌, is_some, slice_get, zero-add, add-one, BTreeMap, nat_cmp}
+use Rattle.std.proofs.Common.{◌≡◌, ℕ, zero, suc, ◌+◌, ◌<◌, ◌≤◌, List, [], ◌∷◌, ◌++◌, Bool, true, false, cond, nat_eq, take, drop, length, Option, Some, None, refl, sym, ap, ◌∙◌}
+use Rattle.std.proofs.Common.{arith, rules, ◌||◌, is_some, slice_get, zero-add, add-one, BTreeMap, nat_cmp}
 use Rattle.std.proofs.lemmas.Bool.{eqb-true}
 use Rattle.std.specs.Option.{ForSome}
 use Rattle.std.specs.BTreeMap.{get, btree_map_len, is_at}
@@ -15,7 +16,8 @@ pub record SoFar (rest : List Entry) (max : Option ℕ) (m : BTreeMap ℕ Seen) 
   pub few : ForSome max (λ most. btree_map_len m ≤ most)
 
 -- one more touch
-pub seen_after-snoc : (known : Option Seen) (es : List Entry) (e : Entry) (q : ℕ) → seen_after known (es ++ e ∷ []) q ≡ cond (nat_eq e.id q) (Some (seen_after_one (seen_after known es q) e)) (seen_after known es q)
+pub seen_after-snoc : (known : Option Seen) (es : List Entry) (e : Entry) (q : ℕ)
+    → seen_after known (es ++ e ∷ []) q ≡ cond (nat_eq e.id q) (Some (seen_after_one (seen_after known es q) e)) (seen_after known es q)
 seen_after-snoc known [] e q = refl
 seen_after-snoc known (f ∷ es) e q = seen_after-snoc (cond (nat_eq f.id q) (Some (seen_after_one known f)) known) es e q
 
@@ -49,7 +51,8 @@ fresh_step false false true later x y a b s e f = ap suc f
 fresh_step false false false true x y a b s e f = ap suc f
 fresh_step false false false false x y a b s e f = ap suc f
 
-pub fresh_count-snoc : (before es : List Entry) (e : Entry) → fresh_count before (es ++ e ∷ []) ≡ cond (touches before e.id || touches es e.id) (fresh_count before es) (suc (fresh_count before es))
+pub fresh_count-snoc : (before es : List Entry) (e : Entry) → fresh_count before (es ++ e ∷ [])
+    ≡ cond (touches before e.id || touches es e.id) (fresh_count before es) (suc (fresh_count before es))
 fresh_count-snoc before [] e = fresh_end (touches before e.id) 0
 fresh_count-snoc before (f ∷ es) e =
     fresh_step (touches before f.id) (nat_eq f.id e.id) (touches before e.id) (touches es e.id) _ _ _ _
@@ -73,12 +76,14 @@ below-next (x ∷ rest) zero e h = omega arith
 below-next (x ∷ rest) (suc taken) e h = omega (arith, below-next rest taken e h)
 
 -- what the map knows, the limit, and the count, after one more touch
-known_next : (es : List Entry) (e : Entry) (known : Option Seen) (g : Option Seen) (q : ℕ) (b : Bool) → nat_eq e.id q ≡ b → known ≡ seen_after None es e.id → g ≡ seen_after None es q
+known_next : (es : List Entry) (e : Entry) (known : Option Seen) (g : Option Seen) (q : ℕ) (b : Bool) → nat_eq e.id q ≡ b → known ≡ seen_after None es e.id
+    → g ≡ seen_after None es q
     → cond b (Some (seen_after_one known e)) g ≡ cond b (Some (seen_after_one (seen_after None es q) e)) (seen_after None es q)
 known_next es e known g q true same k r = ap (λ o. Some (seen_after_one o e)) (k ∙ ap (seen_after None es) (eqb-true e.id q same))
 known_next es e known g q false same k r = r
 
-few_next : (known : Option Seen) (max : Option ℕ) (m n : ℕ) → n ≡ m + cond (is_some known) 0 1 → (known ≡ None → ForSome max (λ most. m < most)) → ForSome max (λ most. m ≤ most) → ForSome max (λ most. n ≤ most)
+few_next : (known : Option Seen) (max : Option ℕ) (m n : ℕ) → n ≡ m + cond (is_some known) 0 1 → (known ≡ None → ForSome max (λ most. m < most)) → ForSome max (λ most. m ≤ most)
+    → ForSome max (λ most. n ≤ most)
 few_next None max m n e room old most is = omega (arith, room refl most is)
 few_next (Some x) max m n e room old most is = omega (arith, old most is)
 
@@ -119,7 +124,8 @@ pub stopped : (rest : List Entry) (max : Option ℕ) (m : BTreeMap ℕ Seen) (ta
 stopped rest max m taken e most here absent is full old =
     let es = take taken rest in
     let fresh : touches es e.id ≡ false = sym (is_some-seen_after None es e.id) ∙ ap is_some (sym (old.known e.id) ∙ absent) in
-    let next : touched_count (take (taken + 1) rest) ≡ suc (touched_count es) = ap touched_count (take-next rest taken e here) ∙ fresh_count-snoc [] es e ∙ ap (λ b. cond b (touched_count es) (suc (touched_count es))) fresh in
+    let next : touched_count (take (taken + 1) rest) ≡ suc (touched_count es) = ap touched_count (take-next rest taken e here) ∙ fresh_count-snoc [] es e
+    ∙ ap (λ b. cond b (touched_count es) (suc (touched_count es))) fresh in
     record {
       within = old.within;
       known = old.known;
@@ -134,7 +140,8 @@ slice_get-drop [] (suc s) t = refl
 slice_get-drop (x ∷ xs) (suc s) t = slice_get-drop xs s t ∙ (let e : suc s + t ≡ suc (s + t) = omega arith in rw e refl)
 
 -- where the test of the next id failed, there is room for it
-pub room_for : (known : Option Seen) (max : Option ℕ) (count : ℕ) (r : Bool) → ((most : ℕ) × (known ≡ None) × (max ≡ Some most) × (most ≤ count) → r ≡ true) → r ≡ false → known ≡ None → ForSome max (λ most. count < most)
+pub room_for : (known : Option Seen) (max : Option ℕ) (count : ℕ) (r : Bool) → ((most : ℕ) × (known ≡ None) × (max ≡ Some most) × (most ≤ count) → r ≡ true) → r ≡ false
+    → known ≡ None → ForSome max (λ most. count < most)
 room_for known max count r f past k most e =
     let never : most ≤ count → ⊥ = λ h. let t : r ≡ true = f (most, k, e, h) in absurd (cc) in
     omega (arith, never)
@@ -146,7 +153,8 @@ entry_here xs s i t e is h = slice_get-drop xs s t ∙ ap (slice_get xs) (sym is
 -- more touches touch no fewer ids
 pub fresh_count_up : (before a b : List Entry) → fresh_count before a ≤ fresh_count before (a ++ b)
 fresh_count_up before [] b = omega arith
-fresh_count_up before (e ∷ a) b = elim (touches before e.id) as (λ y. cond y (fresh_count before a) (suc (fresh_count (e ∷ before) a)) ≤ cond y (fresh_count before (a ++ b)) (suc (fresh_count (e ∷ before) (a ++ b)))) [
-  | true ↦ fresh_count_up before a b
-  | false ↦ omega (arith, fresh_count_up (e ∷ before) a b)
-]
+fresh_count_up before (e ∷ a) b = elim (touches before e.id) as
+    (λ y. cond y (fresh_count before a) (suc (fresh_count (e ∷ before) a)) ≤ cond y (fresh_count before (a ++ b)) (suc (fresh_count (e ∷ before) (a ++ b)))) [
+      | true ↦ fresh_count_up before a b
+      | false ↦ omega (arith, fresh_count_up (e ∷ before) a b)
+    ]

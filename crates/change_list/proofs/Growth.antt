@@ -1,5 +1,6 @@
 -- How a history grows, and that a history and its maps are one.
-use Rattle.std.proofs.Common.{◌≡◌, ◌≢◌, ℕ, zero, suc, ◌+◌, ◌<◌, ◌≤◌, List, [], ◌∷◌, ◌++◌, Bool, true, false, cond, nat_eq, nat_lt, take, length, Option, Some, None, refl, sym, ap, subst, ◌∙◌, arith, length-append, append_assoc, append-nil}
+use Rattle.std.proofs.Common.{◌≡◌, ◌≢◌, ℕ, zero, suc, ◌+◌, ◌<◌, ◌≤◌, List, [], ◌∷◌, ◌++◌, Bool, true, false, cond, nat_eq, nat_lt, take, length, Option, Some, None, refl, sym, ap}
+use Rattle.std.proofs.Common.{subst, ◌∙◌, arith, length-append, append_assoc, append-nil}
 use Rattle.std.proofs.lemmas.Bool.{eqb-true, eq-eqb, ltb-true, ltb-false}
 use Rattle.std.proofs.lemmas.List.{take-append-le, take_all}
 use Rattle.std.proofs.Math.Seq.{take-length}
@@ -43,7 +44,8 @@ module _ {V : Type 0} where
         lost_for_good = λ i j k q ij jk was gone. elim (nat_lt n k) as (λ b. nat_lt n k ≡ b → map_at H k q ≡ None) [
           | false ↦ λ e.
               let kn : k ≤ n = ltb-false n k e in
-              map_at-early h (t ∷ []) k q kn ∙ is.lost_for_good i j k q ij jk (λ f. was (map_at-early h (t ∷ []) i q (omega arith) ∙ f)) (sym (map_at-early h (t ∷ []) j q (omega arith)) ∙ gone)
+              map_at-early h (t ∷ []) k q kn ∙ is.lost_for_good i j k q ij jk (λ f. was (map_at-early h (t ∷ []) i q (omega arith) ∙ f))
+              (sym (map_at-early h (t ∷ []) j q (omega arith)) ∙ gone)
           | true ↦ λ e. map_at-late h t k q (ltb-true n k e) ∙ elim (nat_lt n j) as (λ b. nat_lt n j ≡ b → cond (nat_eq t.id q) t.value (map_at h n q) ≡ None) [
             | true ↦ λ f. sym (map_at-late h t j q (ltb-true n j f)) ∙ gone
             | false ↦ λ f.
@@ -59,7 +61,8 @@ module _ {V : Type 0} where
       }
 
   -- where the touches differ from w, the maps before and after one differ at its id alone
-  neighbours_differ : (w : ℕ → Option V) (h : List (Touch V)) (i : ℕ) → DifferFrom w h → i < length h → DifferAtOne (λ q. value_after (w q) (take i h) q) (λ q. value_after (w q) (take (suc i) h) q)
+  neighbours_differ : (w : ℕ → Option V) (h : List (Touch V)) (i : ℕ) → DifferFrom w h → i < length h
+      → DifferAtOne (λ q. value_after (w q) (take i h) q) (λ q. value_after (w q) (take (suc i) h) q)
   neighbours_differ w [] i d inside = absurd (omega arith)
   neighbours_differ w (t ∷ h) zero d inside = record {
     id = t.id;
@@ -102,7 +105,8 @@ module _ {V : Type 0} where
             let at_i : map_at h i d.id ≡ M i d.id = has.maps i d.id below in
             at_i ∙ (elim (M i d.id) as (λ o. M i d.id ≡ o → o ≡ None) [
               | None ↦ λ f. refl
-              | Some v ↦ λ f. absurd (now (are.lost_for_good i n (suc n) d.id below (omega arith) (omega arith) (λ g. let c : Some v ≡ None = sym f ∙ g in cc) (sym (last d.id) ∙ before)))
+              | Some v ↦ λ f. absurd (now (are.lost_for_good i n (suc n) d.id below (omega arith) (omega arith) (λ g. let c : Some v ≡ None = sym f ∙ g in cc)
+                  (sym (last d.id) ∙ before)))
             ] refl)
       ] refl in (
         h ++ t ∷ [],
@@ -177,7 +181,8 @@ module _ {V : Type 0} where
   grows_by h (t ∷ more) is d once fresh =
       let n = length h in
       let g = h ++ t ∷ [] in
-      let head : value_after None (t ∷ more) t.id ≡ t.value = ap (λ b. value_after (cond b t.value None) more t.id) (eq-eqb t.id t.id refl) ∙ untouched_value t.value more t.id once.0 in
+      let head : value_after None (t ∷ more) t.id ≡ t.value = ap (λ b. value_after (cond b t.value None) more t.id) (eq-eqb t.id t.id refl)
+      ∙ untouched_value t.value more t.id once.0 in
       let first : IsHistory g = history_grows h t is d.0 (λ now before. fresh t.id before (λ e. now (sym head ∙ e))) in
       let late : (k q : ℕ) → n < k → map_at g k q ≡ cond (nat_eq t.id q) t.value (map_at h n q) = λ k q. map_at-late h t k q in
       let long : n < length g = omega (arith, length-append h (t ∷ [])) in

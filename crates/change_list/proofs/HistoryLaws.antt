@@ -1,5 +1,6 @@
 -- Which ids are there, by touches with kinds and by maps, and copies of a history.
-use Rattle.std.proofs.Common.{◌≡◌, ◌≢◌, ℕ, zero, suc, ◌+◌, ◌≤◌, List, [], ◌∷◌, ◌++◌, Bool, true, false, cond, nat_eq, nat_lt, subst, take, drop, length, Option, Some, None, refl, sym, ap, ◌∙◌, arith, ◌||◌, is_some}
+use Rattle.std.proofs.Common.{◌≡◌, ◌≢◌, ℕ, zero, suc, ◌+◌, ◌≤◌, List, [], ◌∷◌, ◌++◌, Bool, true, false, cond, nat_eq, nat_lt, subst, take, drop, length, Option, Some, None, refl}
+use Rattle.std.proofs.Common.{sym, ap, ◌∙◌, arith, ◌||◌, is_some}
 use Rattle.std.proofs.lemmas.List.{take-append-drop, take-take}
 use Rattle.std.proofs.lemmas.Bool.{eqb-true, ltb-true, ltb-false}
 use Rattle.std.proofs.Math.Bool.{or-true}
@@ -44,7 +45,8 @@ module _ {V : Type 0} where
   leaves-kind_of None (Some v) = refl
   leaves-kind_of (Some u) (Some v) = refl
 
-  there_after-entries_from : (was : ℕ → Option V) (ts : List (Touch V)) (q : ℕ) (b : Bool) → b ≡ is_some (was q) → there_after b (entries_from was ts) q ≡ is_some (value_after (was q) ts q)
+  there_after-entries_from : (was : ℕ → Option V) (ts : List (Touch V)) (q : ℕ) (b : Bool) → b ≡ is_some (was q)
+      → there_after b (entries_from was ts) q ≡ is_some (value_after (was q) ts q)
   there_after-entries_from was [] q b e = e
   there_after-entries_from was (t ∷ ts) q b e =
       there_after-entries_from (λ p. cond (nat_eq t.id p) t.value (was p)) ts q _ (
@@ -91,7 +93,8 @@ module _ {V : Type 0} where
       let w : ℕ → Option V = λ p. value_after None (take k (take n h)) p in
       let same : between (entries_of h) k n ≡ entries_from w (drop k (take n h)) = ap (drop k) (take-entries_from (λ _. None) n h) ∙ drop-entries_from (λ _. None) k (take n h) in
       let untouched : touches (entries_from w (drop k (take n h))) q ≡ false = sym (ap (λ es. touches es q) same) ∙ e in
-      sym (ap (λ ts. value_after None ts q) (take-parts h k n kn) ∙ value_after-append None (take k h) (drop k (take n h)) q ∙ value_after_untouched w (value_after None (take k h) q) (drop k (take n h)) q untouched)
+      sym (ap (λ ts. value_after None ts q) (take-parts h k n kn) ∙ value_after-append None (take k h) (drop k (take n h)) q
+      ∙ value_after_untouched w (value_after None (take k h) q) (drop k (take n h)) q untouched)
 
   -- an earlier history agrees with the whole one up to its last place
   pub there_at-take : (h : List (Touch V)) (m k q : ℕ) → k ≤ m → there_at (entries_of (take m h)) k q ≡ is_some (map_at h k q)
@@ -142,7 +145,8 @@ module _ {V : Type 0} where
   }
 
   -- where the touch of a place is of q, the maps before and after it differ at q
-  step_differs : (w : ℕ → Option V) (h : List (Touch V)) (k q : ℕ) → DifferFrom w h → touches (between (entries_from w h) k (suc k)) q ≡ true → value_after (w q) (take k h) q ≢ value_after (w q) (take (suc k) h) q
+  step_differs : (w : ℕ → Option V) (h : List (Touch V)) (k q : ℕ) → DifferFrom w h → touches (between (entries_from w h) k (suc k)) q ≡ true
+      → value_after (w q) (take k h) q ≢ value_after (w q) (take (suc k) h) q
   step_differs w [] zero q d here = absurd (let f : false ≡ true = here in cc)
   step_differs w [] (suc k) q d here = absurd (let f : false ≡ true = here in cc)
   step_differs w (t ∷ h) zero q d here = elim (nat_eq t.id q) as (λ b. nat_eq t.id q ≡ b → cond b true false ≡ true → w q ≢ cond b t.value (w q)) [

@@ -7,7 +7,8 @@ use Rattle.change_list.specs.History.{Touch, IsHistory, IsTouched, last_place, m
 use Rattle.change_list.specs.Copy.{TellsMaps, TouchedTellsMaps}
 use Rattle.change_list.specs.TouchedIds.{AreTouched}
 use Rattle.change_list.specs.declared.answer.Changes.{Changes}
-use Rattle.change_list.proofs.HistoryLaws.{length-entries_from, some_is_not_none, not_none_is_some, none_from, there_at-entries_of, touched_differs, differs_touched, map_at_untouched}
+use Rattle.change_list.proofs.HistoryLaws.{length-entries_from, some_is_not_none, not_none_is_some, none_from, there_at-entries_of, touched_differs, differs_touched}
+use Rattle.change_list.proofs.HistoryLaws.{map_at_untouched}
 
 -- what all elements are, by what each of them is
 all_so : {X : Type 0} (P Q : X → Type 0) (xs : List X) → ((x : X) → P x → Q x) → All P xs → All Q xs
@@ -72,6 +73,7 @@ module _ {V : Type 0} where
       λ q. subst (λ (k : ℕ). Contains listed q ↔ (touches (between (entries_of h) s k) q ≡ true)) (length-entries_from (λ _. None) h) (are.ids.members q) in
       record {
         listed = λ q. ((λ m. touched_differs h history s n q ((ids q).0 m)), (λ t. (ids q).1 (differs_touched h s n q t)));
-        presence = all_so (λ (x : ℕ × Bool). x.1 ≡ there_at (entries_of h) s x.0) (λ (x : ℕ × Bool). IsTrue x.1 ↔ (map_at h s x.0 ≢ None)) xs (λ x e. is_there (map_at h s x.0) x.1 (e ∙ there_at-entries_of h s x.0)) are.presence;
+        presence = all_so (λ (x : ℕ × Bool). x.1 ≡ there_at (entries_of h) s x.0) (λ (x : ℕ × Bool). IsTrue x.1 ↔ (map_at h s x.0 ≢ None)) xs
+            (λ x e. is_there (map_at h s x.0) x.1 (e ∙ there_at-entries_of h s x.0)) are.presence;
         as_it_was = λ q not_listed. sym (map_at_untouched h s n q within (false_unless _ (λ t. not_listed ((ids q).1 t))));
       }

@@ -45,14 +45,16 @@ module _ {V : Type 0} where
         elim (nat_eq e.0 q) as (λ b. nat_eq e.0 q ≡ b → P (map_then was (put e) q) v) [
           | true ↦ λ same. absurd (let f : Some v ≡ None = sym is ∙ ap (row_at es) (sym (eqb-true e.0 q same)) ∙ rows.0 in cc)
           | false ↦ λ other.
-              let to : was q ≡ map_then was (put e) q = sym (ap (λ (i : ℕ). cond (nat_eq i q) (put e).value (was q)) (ids e) ∙ ap (λ (b : Bool). cond b (put e).value (was q)) other) in
+              let to : was q ≡ map_then was (put e) q = sym (ap (λ (i : ℕ). cond (nat_eq i q) (put e).value (was q)) (ids e)
+              ∙ ap (λ (b : Bool). cond b (put e).value (was q)) other) in
               let R : Option V → Type 0 = λ o. P o v in
               subst R to (here q v (ap (λ (b : Bool). cond b (Some e.1) (row_at es q)) (key_is q e.0 ∙ other) ∙ is))
         ] refl) in
         record {
           differ = ((λ same. given.0 (sym at ∙ same)), rest.differ);
           entries =
-              ap (λ (o : Option V). record { id = (put e).id; kind = kind_of o (put e).value; counts_only = (put e).counts_only } ∷ entries_from (map_then was (put e)) (map put es)) at
+              ap (λ (o : Option V). record { id = (put e).id; kind = kind_of o (put e).value; counts_only = (put e).counts_only } ∷ entries_from (map_then was (put e))
+              (map put es)) at
               ∙ ap (λ (k : Kind). record { id = (put e).id; kind = k; counts_only = (put e).counts_only } ∷ entries_from (map_then was (put e)) (map put es)) given.1
               ∙ ap (λ (xs : List Entry). entry e ∷ xs) rest.entries;
         }
@@ -61,8 +63,10 @@ module _ {V : Type 0} where
   pub fits_same : (was then : ℕ → Option V) (ts : List (Touch V)) (es : List Entry) → ((q : ℕ) → was q ≡ then q) → Fits was ts es → Fits then ts es
   fits_same was then [] es same f = record { differ = tt; entries = f.entries }
   fits_same was then (t ∷ ts) es same f =
-      let rest = fits_same (map_then was t) (map_then then t) ts (entries_from (map_then was t) ts) (λ q. ap (λ (o : Option V). cond (nat_eq t.id q) t.value o) (same q)) (record { differ = f.differ.1; entries = refl }) in
+      let rest = fits_same (map_then was t) (map_then then t) ts (entries_from (map_then was t) ts) (λ q. ap (λ (o : Option V). cond (nat_eq t.id q) t.value o) (same q))
+      (record { differ = f.differ.1; entries = refl }) in
       record {
         differ = ((λ is. f.differ.0 (same t.id ∙ is)), rest.differ);
-        entries = ap (λ (o : Option V). entry_of o t ∷ entries_from (map_then then t) ts) (sym (same t.id)) ∙ ap (λ (xs : List Entry). entry_of (was t.id) t ∷ xs) rest.entries ∙ f.entries;
+        entries = ap (λ (o : Option V). entry_of o t ∷ entries_from (map_then then t) ts) (sym (same t.id)) ∙ ap (λ (xs : List Entry). entry_of (was t.id) t ∷ xs) rest.entries
+            ∙ f.entries;
       }

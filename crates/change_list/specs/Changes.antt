@@ -10,7 +10,7 @@ pub record Lists (xs : List ℕ) (P : ℕ → Type 0) : Type 0 where
   pub ascending : IsStrictlyIncreasing xs
   pub members : (q : ℕ) → Contains xs q ↔ P q
 
--- no more ids than the limit are touched after s up to k: a list of them has at most so many
+-- no more ids than the limit are touched after s up to k: a list of them has at most n
 abbrev pub IsWithin : Option ℕ → List Entry → ℕ → ℕ → Type 0
 IsWithin None h s k = Unit {0}
 IsWithin (Some most) h s k = (ids : List ℕ) × Lists ids (λ q. touches (between h s k) q ≡ true) × (length ids ≤ most)

@@ -1,3 +1,4 @@
+// The list of the last touches of a type.
 ghost use Rattle.std.specs.Prelude.{◌≡◌, ◌+◌, ◌-◌, ◌^◌, ◌<◌, ◌≤◌, ◌↔◌, [], ◌∷◌, ◌++◌, List, length, IsTrue, IfOk};
 ghost use Rattle.change_list.specs.Kept.{IsOf, IsKeptPlace, front_of, none_yet, with_touch};
 ghost use Rattle.change_list.specs.Touches.{AreTouches};

@@ -12,9 +12,11 @@ use Rattle.mail_header.specs.Fields.{NameAndRaw, last_named}
 use Rattle.mail_header.proofs.BracketLemmas.{one_names}
 use Rattle.mail_header.proofs.FormLemmas.{one_addresses}
 use Rattle.email_get.specs.Texts.{text_data, optional_text}
-use Rattle.email_get.specs.HeaderProperties.{HeaderData, IsHeaderData, IsProperty, IsAddressesData, IsMessageIdsData, IsTextData, IsDateData, IsMomentData, address_data, addresses_data, message_ids_data}
+use Rattle.email_get.specs.HeaderProperties.{HeaderData, IsHeaderData, IsProperty, IsAddressesData, IsMessageIdsData, IsTextData, IsDateData, IsMomentData, address_data}
+use Rattle.email_get.specs.HeaderProperties.{addresses_data, message_ids_data}
 use Rattle.email_get.specs.MomentText.{IsMomentText}
-use Rattle.email_get.proofs.MomentLemmas.{one_date, one_moment_text}
+use Rattle.mail_header.proofs.DateLemmas.{one_date}
+use Rattle.email_get.proofs.MomentLemmas.{one_moment_text}
 
 -- ---- no number has a fraction: there is none
 
@@ -41,7 +43,8 @@ moment_whole : (form : Option Moment) (d : Data) → IsMomentData form d → has
 moment_whole None d h = ap has_float h
 moment_whole (Some m) d h = ap has_float h.2
 
-property_whole : (IsData : List ℕ → Data → Type 0) (raw : Option (List ℕ)) (d : Data) → ((r : List ℕ) → IsData r d → has_float d ≡ false) → MatchOption raw (d ≡ null) (λ r. IsData r d) → has_float d ≡ false
+property_whole : (IsData : List ℕ → Data → Type 0) (raw : Option (List ℕ)) (d : Data) → ((r : List ℕ) → IsData r d → has_float d ≡ false)
+    → MatchOption raw (d ≡ null) (λ r. IsData r d) → has_float d ≡ false
 property_whole IsData None d h e = ap has_float e
 property_whole IsData (Some r) d h p = h r p
 
@@ -87,7 +90,8 @@ whole_header fields h p = record {
 
 -- ---- fields have each property once
 
-one_property : (IsData : List ℕ → Data → Type 0) (raw : Option (List ℕ)) (d e : Data) → ((r : List ℕ) → IsData r d → IsData r e → d ≡ e) → MatchOption raw (d ≡ null) (λ r. IsData r d) → MatchOption raw (e ≡ null) (λ r. IsData r e) → d ≡ e
+one_property : (IsData : List ℕ → Data → Type 0) (raw : Option (List ℕ)) (d e : Data) → ((r : List ℕ) → IsData r d → IsData r e → d ≡ e)
+    → MatchOption raw (d ≡ null) (λ r. IsData r d) → MatchOption raw (e ≡ null) (λ r. IsData r e) → d ≡ e
 one_property IsData None d e h p q = p ∙ sym q
 one_property IsData (Some r) d e h p q = h r p q
 
@@ -146,14 +150,25 @@ made bcc cc from_ in_reply_to message_id references reply_to sender sent_at subj
 
 pub one_header_data : (fields : List NameAndRaw) (g h : HeaderData) → IsHeaderData fields g → IsHeaderData fields h → g ≡ h
 one_header_data fields g h p q =
-    ap (λ (d : Data). made d g.cc g.from g.in_reply_to g.message_id g.references g.reply_to g.sender g.sent_at g.subject g.to) (same_addresses (codes "bcc") fields g.bcc h.bcc p.bcc q.bcc)
-    ∙ ap (λ (d : Data). made h.bcc d g.from g.in_reply_to g.message_id g.references g.reply_to g.sender g.sent_at g.subject g.to) (same_addresses (codes "cc") fields g.cc h.cc p.cc q.cc)
-    ∙ ap (λ (d : Data). made h.bcc h.cc d g.in_reply_to g.message_id g.references g.reply_to g.sender g.sent_at g.subject g.to) (same_addresses (codes "from") fields g.from h.from p.from q.from)
-    ∙ ap (λ (d : Data). made h.bcc h.cc h.from d g.message_id g.references g.reply_to g.sender g.sent_at g.subject g.to) (same_ids (codes "in-reply-to") fields g.in_reply_to h.in_reply_to p.in_reply_to q.in_reply_to)
-    ∙ ap (λ (d : Data). made h.bcc h.cc h.from h.in_reply_to d g.references g.reply_to g.sender g.sent_at g.subject g.to) (same_ids (codes "message-id") fields g.message_id h.message_id p.message_id q.message_id)
-    ∙ ap (λ (d : Data). made h.bcc h.cc h.from h.in_reply_to h.message_id d g.reply_to g.sender g.sent_at g.subject g.to) (same_ids (codes "references") fields g.references h.references p.references q.references)
-    ∙ ap (λ (d : Data). made h.bcc h.cc h.from h.in_reply_to h.message_id h.references d g.sender g.sent_at g.subject g.to) (same_addresses (codes "reply-to") fields g.reply_to h.reply_to p.reply_to q.reply_to)
-    ∙ ap (λ (d : Data). made h.bcc h.cc h.from h.in_reply_to h.message_id h.references h.reply_to d g.sent_at g.subject g.to) (same_addresses (codes "sender") fields g.sender h.sender p.sender q.sender)
-    ∙ ap (λ (d : Data). made h.bcc h.cc h.from h.in_reply_to h.message_id h.references h.reply_to h.sender d g.subject g.to) (same_date (codes "date") fields g.sent_at h.sent_at p.sent_at q.sent_at)
-    ∙ ap (λ (d : Data). made h.bcc h.cc h.from h.in_reply_to h.message_id h.references h.reply_to h.sender h.sent_at d g.to) (same_text (codes "subject") fields g.subject h.subject p.subject q.subject)
-    ∙ ap (λ (d : Data). made h.bcc h.cc h.from h.in_reply_to h.message_id h.references h.reply_to h.sender h.sent_at h.subject d) (same_addresses (codes "to") fields g.to h.to p.to q.to)
+    ap (λ (d : Data). made d g.cc g.from g.in_reply_to g.message_id g.references g.reply_to g.sender g.sent_at g.subject g.to)
+    (same_addresses (codes "bcc") fields g.bcc h.bcc p.bcc q.bcc)
+    ∙ ap (λ (d : Data). made h.bcc d g.from g.in_reply_to g.message_id g.references g.reply_to g.sender g.sent_at g.subject g.to)
+    (same_addresses (codes "cc") fields g.cc h.cc p.cc q.cc)
+    ∙ ap (λ (d : Data). made h.bcc h.cc d g.in_reply_to g.message_id g.references g.reply_to g.sender g.sent_at g.subject g.to)
+    (same_addresses (codes "from") fields g.from h.from p.from q.from)
+    ∙ ap (λ (d : Data). made h.bcc h.cc h.from d g.message_id g.references g.reply_to g.sender g.sent_at g.subject g.to)
+    (same_ids (codes "in-reply-to") fields g.in_reply_to h.in_reply_to p.in_reply_to q.in_reply_to)
+    ∙ ap (λ (d : Data). made h.bcc h.cc h.from h.in_reply_to d g.references g.reply_to g.sender g.sent_at g.subject g.to)
+    (same_ids (codes "message-id") fields g.message_id h.message_id p.message_id q.message_id)
+    ∙ ap (λ (d : Data). made h.bcc h.cc h.from h.in_reply_to h.message_id d g.reply_to g.sender g.sent_at g.subject g.to)
+    (same_ids (codes "references") fields g.references h.references p.references q.references)
+    ∙ ap (λ (d : Data). made h.bcc h.cc h.from h.in_reply_to h.message_id h.references d g.sender g.sent_at g.subject g.to)
+    (same_addresses (codes "reply-to") fields g.reply_to h.reply_to p.reply_to q.reply_to)
+    ∙ ap (λ (d : Data). made h.bcc h.cc h.from h.in_reply_to h.message_id h.references h.reply_to d g.sent_at g.subject g.to)
+    (same_addresses (codes "sender") fields g.sender h.sender p.sender q.sender)
+    ∙ ap (λ (d : Data). made h.bcc h.cc h.from h.in_reply_to h.message_id h.references h.reply_to h.sender d g.subject g.to)
+    (same_date (codes "date") fields g.sent_at h.sent_at p.sent_at q.sent_at)
+    ∙ ap (λ (d : Data). made h.bcc h.cc h.from h.in_reply_to h.message_id h.references h.reply_to h.sender h.sent_at d g.to)
+    (same_text (codes "subject") fields g.subject h.subject p.subject q.subject)
+    ∙ ap (λ (d : Data). made h.bcc h.cc h.from h.in_reply_to h.message_id h.references h.reply_to h.sender h.sent_at h.subject d)
+    (same_addresses (codes "to") fields g.to h.to p.to q.to)

@@ -24,7 +24,19 @@ pub record Kin (p q : Part) : Type 0 where
   pub end : (out-Part p).end ≡ (out-Part q).end
 
 kin_of : {S : Part → Part → Type 0} {p q : Part} → SamePart S p q → Kin p q
-kin_of s = record { number = s.number; media = s.media; charset = s.charset; disposition = s.disposition; name = s.name; cid = s.cid; language = s.language; location = s.location; encoding = s.encoding; start = s.start; end = s.end }
+kin_of s = record {
+  number = s.number;
+  media = s.media;
+  charset = s.charset;
+  disposition = s.disposition;
+  name = s.name;
+  cid = s.cid;
+  language = s.language;
+  location = s.location;
+  encoding = s.encoding;
+  start = s.start;
+  end = s.end;
+}
 
 kin : (more : ℕ) (p q : Part) → Same more p q → Kin p q
 unfolding Same
@@ -49,11 +61,14 @@ leaves_kin more _ (q ∷ qs) _ ms same (Leaf p ps behind leaf rest) other =
     by (inl w) k = subst (λ (u : List Part). AllSame Kin (p ∷ behind) u) (sym w.is) (kin more p q same.0, k w.behind w.are_behind)
     by (inr w) k = absurd (let e = sym leaf ∙ ap is_some (kin more p q same.0).number ∙ w.no_leaf in cc)
 leaves_kin more _ (q ∷ qs) _ ms same (Multi p ps inner behind no_leaf kids rest) other =
-    by (cases (q ∷ qs) ms other) (λ within k. leaves_kin (below more) (children p) (children q) inner within (same_below more p q same.0) kids k) (λ later k. leaves_kin more ps qs behind later same.1 rest k)
+    by (cases (q ∷ qs) ms other) (λ within k. leaves_kin (below more) (children p) (children q) inner within (same_below more p q same.0) kids k)
+    (λ later k. leaves_kin more ps qs behind later same.1 rest k)
   where
-    by : FirstLeaf q qs ms ⊎ FirstMulti q qs ms → ((within : List Part) → AreLeaves (children q) within → AllSame Kin inner within) → ((later : List Part) → AreLeaves qs later → AllSame Kin behind later) → AllSame Kin (inner ++ behind) ms
+    by : FirstLeaf q qs ms ⊎ FirstMulti q qs ms → ((within : List Part) → AreLeaves (children q) within → AllSame Kin inner within)
+        → ((later : List Part) → AreLeaves qs later → AllSame Kin behind later) → AllSame Kin (inner ++ behind) ms
     by (inl w) g k = absurd (let e = sym no_leaf ∙ ap is_some (kin more p q same.0).number ∙ w.leaf in cc)
-    by (inr w) g k = subst (λ (u : List Part). AllSame Kin (inner ++ behind) u) (sym w.is) (kin_both inner behind w.inner w.behind (g w.inner w.are_inner) (k w.behind w.are_behind))
+    by (inr w) g k = subst (λ (u : List Part). AllSame Kin (inner ++ behind) u) (sym w.is)
+        (kin_both inner behind w.inner w.behind (g w.inner w.are_inner) (k w.behind w.are_behind))
 
 -- ---- leaves of the same numbers
 
@@ -74,7 +89,8 @@ head_or : ℕ → List ℕ → ℕ
 head_or d [] = d
 head_or d (n ∷ ns) = n
 
-pub kin_lists : (ls ms : List Part) (m n : ℕ) → AllSame Kin ls ms → AreFrom 1 ls m → AreFrom 1 ms n → (ps qs : List Part) → map leaf_number ps ≡ map leaf_number qs → AllIn ps ls → AllIn qs ms → AllSame Kin ps qs
+pub kin_lists : (ls ms : List Part) (m n : ℕ) → AllSame Kin ls ms → AreFrom 1 ls m → AreFrom 1 ms n → (ps qs : List Part) → map leaf_number ps ≡ map leaf_number qs → AllIn ps ls
+    → AllIn qs ms → AllSame Kin ps qs
 unfolding tail_of head_or
 kin_lists ls ms m n same f g [] [] e i j = tt
 kin_lists ls ms m n same f g [] (q ∷ qs) e i j = absurd cc

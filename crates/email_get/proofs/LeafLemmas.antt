@@ -1,5 +1,6 @@
 -- The leaves of a message have their numbers as places, and the body lists have no other leaves.
-use Rattle.std.proofs.Common.{◌≡◌, ℕ, zero, suc, ◌+◌, ◌⊎◌, inl, inr, Bool, true, false, List, [], ◌∷◌, ◌++◌, refl, sym, ap, ◌∙◌, subst, arith, Option, Some, None, if◌then◌else◌, not}
+use Rattle.std.proofs.Common.{◌≡◌, ℕ, zero, suc, ◌+◌, ◌⊎◌, inl, inr, Bool, true, false, List, [], ◌∷◌, ◌++◌, refl, sym, ap, ◌∙◌, subst, arith, Option, Some, None, if◌then◌else◌}
+use Rattle.std.proofs.Common.{not}
 use Rattle.std.specs.Prelude.{slice_get, is_some, unwrap_or, ◌&&◌}
 use Rattle.std.proofs.lemmas.List.{append-nil}
 use Rattle.mime_tree.specs.declared.head.Head.{Head}
@@ -54,7 +55,8 @@ from_both f m n (p ∷ ps) qs g h = (g.0, from_both (f + 1) m n ps qs g.1 h)
 abbrev LeavesFrom : TreeWord → Type 0
 LeavesFrom T = (s e : ℕ) (d : List ℕ) (f : ℕ) (p : Part) (n : ℕ) → T s e d f p n → (ls : List Part) → AreLeaves (p ∷ []) ls → AreFrom f ls n
 
-trees_from : (T : TreeWord) → LeavesFrom T → (base : ℕ) (d : List ℕ) (qs : List Piece) (f : ℕ) (cs : List Part) (n : ℕ) → AreTrees T base d qs f cs n → (ls : List Part) → AreLeaves cs ls → AreFrom f ls n
+trees_from : (T : TreeWord) → LeavesFrom T → (base : ℕ) (d : List ℕ) (qs : List Piece) (f : ℕ) (cs : List Part) (n : ℕ) → AreTrees T base d qs f cs n → (ls : List Part)
+    → AreLeaves cs ls → AreFrom f ls n
 trees_from T each base d [] f [] n t ls a = subst (λ (u : List Part). AreFrom f u n) (sym (cases [] ls a)) t
 trees_from T each base d [] f (c ∷ cs) n t ls a = absurd t
 trees_from T each base d (q ∷ qs) f [] n t ls a = absurd t
@@ -64,10 +66,12 @@ trees_from T each base d (q ∷ qs) f (c ∷ cs) n t ls a = by (cases (c ∷ cs)
     one kids k = each (base + q.start) (base + q.end) d f c t.0 t.1 kids k
 
     by : FirstLeaf c cs ls ⊎ FirstMulti c cs ls → ((behind : List Part) → AreLeaves cs behind → AreFrom t.0 behind n) → AreFrom f ls n
-    by (inl w) more = subst (λ (u : List Part). AreFrom f u n) (sym w.is) (from_both f t.0 n (c ∷ []) w.behind (one (c ∷ []) (leaves.Leaf c [] [] w.leaf leaves.End)) (more w.behind w.are_behind))
+    by (inl w) more = subst (λ (u : List Part). AreFrom f u n) (sym w.is)
+        (from_both f t.0 n (c ∷ []) w.behind (one (c ∷ []) (leaves.Leaf c [] [] w.leaf leaves.End)) (more w.behind w.are_behind))
     by (inr w) more =
         let k = one (w.inner ++ []) (leaves.Multi c [] w.inner [] w.no_leaf w.are_inner leaves.End) in
-        subst (λ (u : List Part). AreFrom f u n) (sym w.is) (from_both f t.0 n w.inner w.behind (subst (λ (u : List Part). AreFrom f u t.0) (append-nil w.inner) k) (more w.behind w.are_behind))
+        subst (λ (u : List Part). AreFrom f u n) (sym w.is) (from_both f t.0 n w.inner w.behind (subst (λ (u : List Part). AreFrom f u t.0) (append-nil w.inner) k)
+        (more w.behind w.are_behind))
 
 leaf_from : (h : Head) (f : ℕ) (p : Part) (n : ℕ) → IsLeaf h f p n → (ls : List Part) → AreLeaves (p ∷ []) ls → AreFrom f ls n
 leaf_from h f p n l ls a = by (cases (p ∷ []) ls a)
@@ -76,7 +80,8 @@ leaf_from h f p n l ls a = by (cases (p ∷ []) ls a)
     by (inl w) = subst (λ (u : List Part). AreFrom f u n) (sym (w.is ∙ ap (λ (u : List Part). p ∷ u) (cases [] w.behind w.are_behind))) (l.number, l.next_is)
     by (inr w) = absurd (let e = sym w.no_leaf ∙ ap is_some l.number in cc)
 
-node_from : (more : ℕ) (b : List ℕ) → LeavesFrom (IsTree more b) → (h : Head) (qs : List Piece) (f : ℕ) (p : Part) (n : ℕ) → IsNode h p → AreTrees (IsTree more b) h.body (default_in h.media) qs f (children p) n → (ls : List Part) → AreLeaves (p ∷ []) ls → AreFrom f ls n
+node_from : (more : ℕ) (b : List ℕ) → LeavesFrom (IsTree more b) → (h : Head) (qs : List Piece) (f : ℕ) (p : Part) (n : ℕ) → IsNode h p
+    → AreTrees (IsTree more b) h.body (default_in h.media) qs f (children p) n → (ls : List Part) → AreLeaves (p ∷ []) ls → AreFrom f ls n
 node_from more b each h qs f p n i t ls a = by (cases (p ∷ []) ls a)
   where
     by : FirstLeaf p [] ls ⊎ FirstMulti p [] ls → AreFrom f ls n
@@ -85,7 +90,8 @@ node_from more b each h qs f p n i t ls a = by (cases (p ∷ []) ls a)
         let e = w.is ∙ ap (λ (u : List Part). w.inner ++ u) (cases [] w.behind w.are_behind) ∙ append-nil w.inner in
         subst (λ (u : List Part). AreFrom f u n) (sym e) (trees_from (IsTree more b) each h.body (default_in h.media) qs f (children p) n t w.inner w.are_inner)
 
-part_from : (more : ℕ) (b : List ℕ) → LeavesFrom (IsTree more b) → (h : Head) (qs : Option (List Piece)) (f : ℕ) (p : Part) (n : ℕ) → IsPartOf (IsTree more b) h qs f p n → (ls : List Part) → AreLeaves (p ∷ []) ls → AreFrom f ls n
+part_from : (more : ℕ) (b : List ℕ) → LeavesFrom (IsTree more b) → (h : Head) (qs : Option (List Piece)) (f : ℕ) (p : Part) (n : ℕ) → IsPartOf (IsTree more b) h qs f p n
+    → (ls : List Part) → AreLeaves (p ∷ []) ls → AreFrom f ls n
 part_from more b each h None f p n k ls a = leaf_from h f p n k ls a
 part_from more b each h (Some qs) f p n k ls a = node_from more b each h qs f p n k.0 k.1 ls a
 
@@ -167,7 +173,11 @@ inside_both x y a c g h = record {
 }
 
 inside_spread : (inner : Walk) (x : PartLists) (ls : List Part) → Inside x ls → Inside (spread inner x) ls
-inside_spread inner x ls g = inside_if _ (shared x) x ls (record { text = all_or_else x.text x.html ls g.text g.html; html = all_or_else x.html x.text ls g.html g.text; attachments = g.attachments }) g
+inside_spread inner x ls g = inside_if _ (shared x) x ls (record {
+  text = all_or_else x.text x.html ls g.text g.html;
+  html = all_or_else x.html x.text ls g.html g.text;
+  attachments = g.attachments;
+}) g
 
 inside_leaf : (walk : Walk) (inline : Bool) (p : Part) (ls : List Part) → IsIn p ls → Inside (body.lists_of walk inline p) ls
 inside_leaf walk inline p ls i =
@@ -185,12 +195,15 @@ walk_inside _ _ _ (End walk) ls h = record { text = tt; html = tt; attachments =
 walk_inside _ _ _ (Multi walk p ps inner behind no_leaf kids rest) ls h =
     by (cases (p ∷ ps) ls h) (λ below k. walk_inside (into walk p) (children p) inner kids below k) (λ later k. walk_inside _ ps behind rest later k)
   where
-    by : FirstLeaf p ps ls ⊎ FirstMulti p ps ls → ((below : List Part) → AreLeaves (children p) below → Inside inner below) → ((later : List Part) → AreLeaves ps later → Inside behind later) → Inside (body.both (spread (into walk p) inner) behind) ls
+    by : FirstLeaf p ps ls ⊎ FirstMulti p ps ls → ((below : List Part) → AreLeaves (children p) below → Inside inner below)
+        → ((later : List Part) → AreLeaves ps later → Inside behind later) → Inside (body.both (spread (into walk p) inner) behind) ls
     by (inl w) g k = absurd (let e = sym no_leaf ∙ w.leaf in cc)
-    by (inr w) g k = subst (λ (u : List Part). Inside (body.both (spread (into walk p) inner) behind) u) (sym w.is) (inside_both _ behind w.inner w.behind (inside_spread (into walk p) inner w.inner (g w.inner w.are_inner)) (k w.behind w.are_behind))
+    by (inr w) g k = subst (λ (u : List Part). Inside (body.both (spread (into walk p) inner) behind) u) (sym w.is)
+        (inside_both _ behind w.inner w.behind (inside_spread (into walk p) inner w.inner (g w.inner w.are_inner)) (k w.behind w.are_behind))
 walk_inside _ _ _ (Leaf walk p ps behind leaf rest) ls h =
     by (cases (p ∷ ps) ls h) (λ later k. walk_inside _ ps behind rest later k)
   where
     by : FirstLeaf p ps ls ⊎ FirstMulti p ps ls → ((later : List Part) → AreLeaves ps later → Inside behind later) → Inside (body.both (body.leaf_lists walk p) behind) ls
-    by (inl w) k = subst (λ (u : List Part). Inside (body.both (body.leaf_lists walk p) behind) u) (sym w.is) (inside_both _ behind (p ∷ []) w.behind (inside_leaf (meeting walk p) (is_inline walk p) p (p ∷ []) (inl refl)) (k w.behind w.are_behind))
+    by (inl w) k = subst (λ (u : List Part). Inside (body.both (body.leaf_lists walk p) behind) u) (sym w.is)
+        (inside_both _ behind (p ∷ []) w.behind (inside_leaf (meeting walk p) (is_inline walk p) p (p ∷ []) (inl refl)) (k w.behind w.are_behind))
     by (inr w) k = absurd (let e = sym w.no_leaf ∙ leaf in cc)

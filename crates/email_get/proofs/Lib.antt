@@ -1,9 +1,10 @@
 pub mod MomentLemmas
 pub mod HeaderLemmas
-pub mod TextLemmas
-pub mod GatherLemmas
+pub mod PlainLemmas
 pub mod LeafLemmas
-pub mod ShownLemmas
+pub mod ListLemmas
 pub mod WholeLemmas
 pub mod KinLemmas
 pub mod OneObject
+pub mod TextLemmas
+pub mod TagLemmas

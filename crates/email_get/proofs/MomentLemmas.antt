@@ -1,7 +1,7 @@
 -- Moments, their days and their times.
-use Rattle.std.proofs.Common.{◌≡◌, ◌∙◌, ℕ, zero, suc, ◌+◌, ◌*◌, ◌/◌, ◌%◌, ◌<◌, ◌≤◌, Bool, true, false, cond, ◌&&◌, ◌==◌, nat_le, refl, sym, ap, subst, arith, ℤ, pos, negsuc, ◌+ℤ◌, ◌-ℤ◌, ◌*ℤ◌, ◌≤ℤ◌, ◌<ℤ◌, List, [], ◌∷◌, Option, Some, None}
+use Rattle.std.proofs.Common.{◌≡◌, ◌∙◌, ℕ, zero, suc, ◌+◌, ◌*◌, ◌/◌, ◌%◌, ◌<◌, ◌≤◌, Bool, true, false, cond, ◌&&◌, ◌==◌, nat_le, refl, sym, ap, subst, arith, ℤ, pos, negsuc, ◌+ℤ◌}
+use Rattle.std.proofs.Common.{◌-ℤ◌, ◌*ℤ◌, ◌≤ℤ◌, ◌<ℤ◌, List, Option, Some, None}
 use Rattle.std.specs.Prelude.{IfSome, codes, unsigned_abs}
-use Rattle.std.specs.List.{list_all, filter}
 use Rattle.std.proofs.lemmas.Bool.{cond-true, leb-true, and_parts, and_from}
 use Rattle.jiff_core.specs.Calendar.{days_in_month, day_count}
 use Rattle.jiff_core.specs.Date.{epoch_day}
@@ -13,11 +13,9 @@ use Rattle.jiff_core.proofs.SignedLemmas.{signed_arith}
 use Rattle.mail_header.specs.declared.date.Clock.{Clock}
 use Rattle.mail_header.specs.declared.date.Day.{Day}
 use Rattle.mail_header.specs.declared.date.Moment.{Moment}
-use Rattle.text_words.specs.Octets.{is_between, is_alpha, is_same_text}
+use Rattle.text_words.specs.Octets.{is_between, is_same_text}
 use Rattle.mail_header.specs.Tokens.{Spelled}
-use Rattle.mail_header.specs.Lexemes.{is_lexeme}
 use Rattle.mail_header.specs.Dates as dates
-use Rattle.mail_header.proofs.AddresseeLemmas.{one_tokens}
 use Rattle.email_get.specs.MomentText.{IsMomentText, IsShown, local_text}
 
 year_zero : day_count (pos 0) 1 1 ≡ 3652425
@@ -35,11 +33,13 @@ pub from_year_zero : (date : Date) (n : ℕ) → epoch_day date +ℤ pos 719528 
 from_year_zero date n count = not_negative date n date.year refl count
 
 -- the moment of a day and a time in its zone
-pub is_moment : (d : Day) (c : Clock) (m : Moment) → dates.day_exists d ≡ true → dates.clock_exists c ≡ true → dates.day_number d *ℤ pos 86400 +ℤ pos (dates.seconds_of_day c) -ℤ (m.offset_minutes *ℤ pos 60) ≡ m.seconds → dates.moment_of d c m.offset_minutes ≡ Some m
+pub is_moment : (d : Day) (c : Clock) (m : Moment) → dates.day_exists d ≡ true → dates.clock_exists c ≡ true
+    → dates.day_number d *ℤ pos 86400 +ℤ pos (dates.seconds_of_day c) -ℤ (m.offset_minutes *ℤ pos 60) ≡ m.seconds → dates.moment_of d c m.offset_minutes ≡ Some m
 is_moment d c m day clock e =
     let made : ℤ → Option Moment = λ s. Some (record { seconds = s; offset_minutes = m.offset_minutes }) in
     let p = and_from (dates.day_exists d) (dates.clock_exists c) day clock in
-    cond-true (dates.day_exists d && dates.clock_exists c) (made (dates.day_number d *ℤ pos 86400 +ℤ pos (dates.seconds_of_day c) -ℤ (m.offset_minutes *ℤ pos 60))) None p ∙ ap made e
+    cond-true (dates.day_exists d && dates.clock_exists c) (made (dates.day_number d *ℤ pos 86400 +ℤ pos (dates.seconds_of_day c) -ℤ (m.offset_minutes *ℤ pos 60))) None p
+    ∙ ap made e
 
 -- ---- the moments of dates are shown
 
@@ -96,7 +96,8 @@ day_is_number d h =
     let of_year = day_count-day_of_year (pos d.year) d.month d.day h.first_day in
     record { low = omega (arith, signed_arith, count, of_year, later_year d.year, h.first_day); high = last_number d h }
 
-shown_local : (n zone : ℤ) (s : ℕ) (m : Moment) → IsDayNumber n → s < 86400 → m.seconds ≡ n *ℤ pos 86400 +ℤ pos s -ℤ (zone *ℤ pos 60) → m.offset_minutes ≡ zone → negsuc 1438 ≤ℤ zone → zone ≤ℤ pos 1439 → IsShown m
+shown_local : (n zone : ℤ) (s : ℕ) (m : Moment) → IsDayNumber n → s < 86400 → m.seconds ≡ n *ℤ pos 86400 +ℤ pos s -ℤ (zone *ℤ pos 60) → m.offset_minutes ≡ zone
+    → negsuc 1438 ≤ℤ zone → zone ≤ℤ pos 1439 → IsShown m
 shown_local n zone s m h lt e f west east = record {
   from_year_zero = omega (arith, signed_arith, h.low, e, f);
   to_year_9999 = omega (arith, signed_arith, h.high, lt, e, f);
@@ -154,63 +155,48 @@ either : (b : Bool) (x y : Option ℤ) → SomeInZone x → SomeInZone y → Som
 either true x y h k = h
 either false x y h k = k
 
-hours_west : (n : ℕ) → n ≤ 479 → SomeInZone (Some (negsuc n))
-hours_west n h = near (negsuc n) (omega (arith, signed_arith)) (omega (arith, signed_arith))
+hours_west : (n : ℕ) → n ≤ 479 → InZone (negsuc n)
+hours_west n h = record { west = omega (arith, signed_arith); east = omega (arith, signed_arith) }
 
-none_in_zone : SomeInZone None
-none_in_zone = record { holds = tt }
+either_zone : (b : Bool) (x y : ℤ) → InZone x → InZone y → InZone (cond b x y)
+either_zone true x y h k = h
+either_zone false x y h k = k
 
-named_small : (t : List ℕ) → SomeInZone (dates.named_zone t)
+named_small : (t : List ℕ) → InZone (dates.named_zone t)
 named_small t =
-    either (is_same_text t (codes "est")) _ _ (hours_west 299 (omega arith))
-    (either (is_same_text t (codes "edt")) _ _ (hours_west 239 (omega arith))
-    (either (is_same_text t (codes "cst")) _ _ (hours_west 359 (omega arith))
-    (either (is_same_text t (codes "cdt")) _ _ (hours_west 299 (omega arith))
-    (either (is_same_text t (codes "mst")) _ _ (hours_west 419 (omega arith))
-    (either (is_same_text t (codes "mdt")) _ _ (hours_west 359 (omega arith))
-    (either (is_same_text t (codes "pst")) _ _ (hours_west 479 (omega arith))
-    (either (is_same_text t (codes "pdt")) _ _ (hours_west 419 (omega arith))
-    (either (list_all is_alpha t) _ _ (near (pos 0) (omega (arith, signed_arith)) (omega (arith, signed_arith))) none_in_zone))))))))
+    either_zone (is_same_text t (codes "est")) _ _ (hours_west 299 (omega arith))
+    (either_zone (is_same_text t (codes "edt")) _ _ (hours_west 239 (omega arith))
+    (either_zone (is_same_text t (codes "cst")) _ _ (hours_west 359 (omega arith))
+    (either_zone (is_same_text t (codes "cdt")) _ _ (hours_west 299 (omega arith))
+    (either_zone (is_same_text t (codes "mst")) _ _ (hours_west 419 (omega arith))
+    (either_zone (is_same_text t (codes "mdt")) _ _ (hours_west 359 (omega arith))
+    (either_zone (is_same_text t (codes "pst")) _ _ (hours_west 479 (omega arith))
+    (either_zone (is_same_text t (codes "pdt")) _ _ (hours_west 419 (omega arith))
+    (record { west = omega (arith, signed_arith); east = omega (arith, signed_arith) }))))))))
 
-zone_small : (t : List ℕ) → SomeInZone (dates.zone_of t)
-zone_small [] = record { holds = tt }
-zone_small (c ∷ t) =
-    either (c == 43) _ _ (east_small (dates.hours_and_minutes (dates.number_of 4 4 t)) (minutes_small (dates.number_of 4 4 t)))
-    (either (c == 45) _ _ (west_small (dates.hours_and_minutes (dates.number_of 4 4 t)) (minutes_small (dates.number_of 4 4 t))) (named_small (c ∷ t)))
+offset_small : (sign : ℕ) (t : List ℕ) → SomeInZone (dates.offset_of sign t)
+offset_small sign t =
+    either (sign == 43) _ _ (east_small (dates.hours_and_minutes (dates.number_of 4 4 t)) (minutes_small (dates.number_of 4 4 t)))
+    (west_small (dates.hours_and_minutes (dates.number_of 4 4 t)) (minutes_small (dates.number_of 4 4 t)))
 
--- ---- reading on
+zone_small : (z : ℤ) (ps : List dates.Piece) → dates.IsZone z ps → InZone z
+zone_small _ _ (dates.Offset sign t z e) = subst (λ (o : Option ℤ). IfSome o InZone) e (offset_small sign t).holds
+zone_small _ _ (dates.Named t) = named_small t
 
-read_on : {A B : Type 0} (o : Option (A × List Spelled)) (f : A → List Spelled → Option B) (P : A → Type 0) (Q : B → Type 0) → IfSome o (λ p. P p.0) → ((a : A) (ls : List Spelled) → P a → IfSome (f a ls) Q) → IfSome (dates.then_read o f) Q
-read_on None f P Q h k = tt
-read_on (Some p) f P Q h k = k p.0 p.1 h
+-- ---- the moment of a date
 
-read_any : {A B : Type 0} (o : Option (A × List Spelled)) (f : A → List Spelled → Option B) (Q : B → Type 0) → ((a : A) (ls : List Spelled) → IfSome (f a ls) Q) → IfSome (dates.then_read o f) Q
-read_any None f Q k = tt
-read_any (Some p) f Q k = k p.0 p.1
+date_zone : (d : Day) (c : Clock) (z : ℤ) (ls : List Spelled) → dates.IsDate d c z ls → InZone z
+date_zone d c z _ (dates.Plain ls h) = zone_small z h.zone h.is_zone
+date_zone d c z _ (dates.OfWeek name comma ls a m h) = zone_small z h.zone h.is_zone
 
-with_rest_small : (o : Option ℤ) (ls : List Spelled) → IfSome o InZone → IfSome (dates.with_rest o ls) (λ p. InZone p.0)
-with_rest_small None ls h = tt
-with_rest_small (Some z) ls h = h
-
-zone_in_small : (ls : List Spelled) → IfSome (dates.zone_in ls) (λ p. InZone p.0)
-zone_in_small ls = read_any (dates.atom_in ls) (λ t rest. dates.with_rest (dates.zone_of t) rest) (λ p. InZone p.0) (λ t rest. with_rest_small (dates.zone_of t) rest (zone_small t).holds)
-
-at_end_shown : (ls : List Spelled) (o : Option Moment) → IfSome o IsShown → IfSome (dates.at_end ls o) IsShown
-at_end_shown [] o h = h
-at_end_shown (s ∷ ls) o h = tt
-
-behind_zone : (d : Day) (c : Clock) (z : ℤ) (ls : List Spelled) → InZone z → IfSome (dates.at_end ls (dates.moment_of d c z)) IsShown
-behind_zone d c z ls h = at_end_shown ls (dates.moment_of d c z) (made_shown (dates.day_exists d && dates.clock_exists c) d c z refl h)
-
-date_shown : (ls : List Spelled) → IfSome (dates.date_in ls) IsShown
-date_shown ls =
-    read_any (dates.day_in ls) _ IsShown (λ d r.
-    read_any (dates.clock_in r) _ IsShown (λ c r'.
-    read_on (dates.zone_in r') _ InZone IsShown (zone_in_small r') (λ z r'' h. behind_zone d c z r'' h)))
+moment_shown : (raw : List ℕ) (m : Moment) → dates.IsMoment raw m → IsShown m
+moment_shown raw m h =
+    subst (λ (o : Option Moment). IfSome o IsShown) h.moment_is
+    (made_shown (dates.day_exists h.day && dates.clock_exists h.clock) h.day h.clock h.zone refl (date_zone h.day h.clock h.zone h.lexemes h.is))
 
 form_shown : (raw : List ℕ) (r : Option Moment) → dates.IsDateForm raw r → IfSome r IsShown
-form_shown raw r (dates.NoTokens h) = tt
-form_shown raw r (dates.Read lexemes h) = date_shown lexemes
+form_shown raw None h = tt
+form_shown raw (Some m) h = moment_shown raw m h
 
 -- the moment of a date field is shown
 pub shown : (raw : List ℕ) (r : Option Moment) (m : Moment) → r ≡ Some m → dates.IsDateForm raw r → IsShown m
@@ -223,7 +209,8 @@ record IsMoment (d : Day) (c : Clock) (m : Moment) : Type 0 where
   clock : dates.clock_exists c ≡ true
   seconds : (made d c m.offset_minutes).seconds ≡ m.seconds
 
-made_is : (b : Bool) (d : Day) (c : Clock) (m : Moment) → b ≡ (dates.day_exists d && dates.clock_exists c) → cond b (Some (made d c m.offset_minutes)) None ≡ Some m → IsMoment d c m
+made_is : (b : Bool) (d : Day) (c : Clock) (m : Moment) → b ≡ (dates.day_exists d && dates.clock_exists c) → cond b (Some (made d c m.offset_minutes)) None ≡ Some m
+    → IsMoment d c m
 made_is false d c m e h = absurd (cc)
 made_is true d c m e h =
     let both = and_parts (dates.day_exists d) (dates.clock_exists c) (sym e) in
@@ -267,16 +254,10 @@ one_moment_text m s t p q =
     let f = moment_is p.day p.clock m p.is_moment in
     let g = moment_is q.day q.clock m q.is_moment in
     let w = m.offset_minutes *ℤ pos 60 in
-    let n = same_number (dates.day_number p.day) (dates.day_number q.day) w m.seconds (dates.seconds_of_day p.clock) (dates.seconds_of_day q.clock) (clock_small p.clock f.clock) (clock_small q.clock g.clock) f.seconds g.seconds in
-    let k = same_second (dates.day_number p.day) (dates.day_number q.day) w m.seconds (dates.seconds_of_day p.clock) (dates.seconds_of_day q.clock) (clock_small p.clock f.clock) (clock_small q.clock g.clock) f.seconds g.seconds in
+    let n = same_number (dates.day_number p.day) (dates.day_number q.day) w m.seconds (dates.seconds_of_day p.clock) (dates.seconds_of_day q.clock) (clock_small p.clock f.clock)
+    (clock_small q.clock g.clock) f.seconds g.seconds in
+    let k = same_second (dates.day_number p.day) (dates.day_number q.day) w m.seconds (dates.seconds_of_day p.clock) (dates.seconds_of_day q.clock) (clock_small p.clock f.clock)
+    (clock_small q.clock g.clock) f.seconds g.seconds in
     let day = same_day p.day q.day (exists p.day f.day) (exists q.day g.day) n in
     let clock = same_clock p.clock q.clock f.clock g.clock p.is_second q.is_second k in
     p.text_is ∙ ap (λ d. local_text d p.clock m.offset_minutes) day ∙ ap (λ c. local_text q.day c m.offset_minutes) clock ∙ sym q.text_is
-
--- ---- a raw value has one date
-
-pub one_date : (raw : List ℕ) (x y : Option Moment) → dates.IsDateForm raw x → dates.IsDateForm raw y → x ≡ y
-one_date raw x y (dates.NoTokens h) (dates.NoTokens k) = refl
-one_date raw x y (dates.NoTokens h) (dates.Read ls k) = absurd (h k.tokens k.are)
-one_date raw x y (dates.Read ls h) (dates.NoTokens k) = absurd (k h.tokens h.are)
-one_date raw x y (dates.Read ls h) (dates.Read ms k) = ap dates.date_in (h.lexemes_are ∙ ap (filter is_lexeme) (one_tokens _ h.tokens k.tokens _ h.are k.are) ∙ sym k.lexemes_are)

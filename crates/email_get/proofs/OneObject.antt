@@ -114,12 +114,14 @@ one_preview : (b : List ℕ) (ps qs : List Part) (u v : List ℕ) → AllSame Ki
 one_preview b [] [] u v same g h = g ∙ sym h
 one_preview b [] (q ∷ qs) u v same g h = absurd same
 one_preview b (p ∷ ps) [] u v same g h = absurd same
-one_preview b (p ∷ ps) (q ∷ qs) u v same g h = by (is_plain q) (subst (λ (t : Bool). MatchBool t (IsPreviewOf b p u) (IsPreview b ps u)) plain g) h (λ x y. one_preview b ps qs u v same.1 x y)
+one_preview b (p ∷ ps) (q ∷ qs) u v same g h = by (is_plain q) (subst (λ (t : Bool). MatchBool t (IsPreviewOf b p u) (IsPreview b ps u)) plain g) h
+    (λ x y. one_preview b ps qs u v same.1 x y)
   where
     plain : is_plain p ≡ is_plain q
     plain = ap (λ (m : List ℕ). is_same_text m (codes "text/plain")) same.0.media
 
-    by : (t : Bool) → MatchBool t (IsPreviewOf b p u) (IsPreview b ps u) → MatchBool t (IsPreviewOf b q v) (IsPreview b qs v) → (IsPreview b ps u → IsPreview b qs v → u ≡ v) → u ≡ v
+    by : (t : Bool) → MatchBool t (IsPreviewOf b p u) (IsPreview b ps u) → MatchBool t (IsPreviewOf b q v) (IsPreview b qs v) → (IsPreview b ps u → IsPreview b qs v → u ≡ v)
+        → u ≡ v
     by true x y more = x.is ∙ ap preview_of (one_text b p q x.text y.text x.problem y.problem same.0 x.has_text y.has_text).0 ∙ sym y.is
     by false x y more = more x y
 
@@ -129,7 +131,8 @@ one_put b p q before x y k g h =
     let text = same.0 in
     let problem = same.1 in
     let n = ap (λ (o : Option ℕ). unwrap_or o 0) k.number in
-    let puts : put (decimal (leaf_number p)) (value_data g.text g.problem) before ≡ put (decimal (leaf_number q)) (value_data h.text h.problem) before = λ i. put (decimal (n i)) (value_data (text i) (problem i)) before in
+    let puts : put (decimal (leaf_number p)) (value_data g.text g.problem) before ≡ put (decimal (leaf_number q)) (value_data h.text h.problem) before =
+    λ i. put (decimal (n i)) (value_data (text i) (problem i)) before in
     g.is ∙ puts ∙ sym h.is
 
 one_put_if : (t : Bool) (b : List ℕ) (p q : Part) (before x y : Members) → Kin p q → PutsIf t b p before x → PutsIf t b q before y → x ≡ y
@@ -157,9 +160,12 @@ one_body_data b p q x y m n g h =
     let from' = message_from b q n h.leaves h.are_leaves in
     let inside = walk_inside start (p ∷ []) g.are_lists.parts g.are_lists.walks g.leaves g.are_leaves in
     let inside' = walk_inside start (q ∷ []) h.are_lists.parts h.are_lists.walks h.leaves h.are_leaves in
-    let texts = kin_lists g.leaves h.leaves m.0 n.0 all from from' g.are_lists.parts.text h.are_lists.parts.text (sym g.are_lists.text ∙ ap (λ (l : BodyLists). l.text) lists ∙ h.are_lists.text) inside.text inside'.text in
-    let htmls = kin_lists g.leaves h.leaves m.0 n.0 all from from' g.are_lists.parts.html h.are_lists.parts.html (sym g.are_lists.html ∙ ap (λ (l : BodyLists). l.html) lists ∙ h.are_lists.html) inside.html inside'.html in
-    let attached = kin_lists g.leaves h.leaves m.0 n.0 all from from' g.are_lists.parts.attachments h.are_lists.parts.attachments (sym g.are_lists.attachments ∙ ap (λ (l : BodyLists). l.attachments) lists ∙ h.are_lists.attachments) inside.attachments inside'.attachments in
+    let texts = kin_lists g.leaves h.leaves m.0 n.0 all from from' g.are_lists.parts.text h.are_lists.parts.text
+    (sym g.are_lists.text ∙ ap (λ (l : BodyLists). l.text) lists ∙ h.are_lists.text) inside.text inside'.text in
+    let htmls = kin_lists g.leaves h.leaves m.0 n.0 all from from' g.are_lists.parts.html h.are_lists.parts.html
+    (sym g.are_lists.html ∙ ap (λ (l : BodyLists). l.html) lists ∙ h.are_lists.html) inside.html inside'.html in
+    let attached = kin_lists g.leaves h.leaves m.0 n.0 all from from' g.are_lists.parts.attachments h.are_lists.parts.attachments
+    (sym g.are_lists.attachments ∙ ap (λ (l : BodyLists). l.attachments) lists ∙ h.are_lists.attachments) inside.attachments inside'.attachments in
     let text = one_objects b _ _ x.text y.text texts g.text h.text in
     let html = one_objects b _ _ x.html y.html htmls g.html h.html in
     let attachments = one_objects b _ _ x.attachments y.attachments attached g.attachments h.attachments in

@@ -1,49 +1,47 @@
--- A plain text is a text, and has a preview.
-use Rattle.std.proofs.Common.{◌≡◌, ℕ, Bool, true, false, cond, List, [], ◌∷◌, map, refl, sym, ap, ◌∙◌, arith, Option, Some, None}
-use Rattle.std.specs.Prelude.{MatchOption, ◌||◌}
-use Rattle.std.specs.Prelude.{codes}
-use Rattle.std.specs.Char.{to_ascii_lowercase}
-use Rattle.std.proofs.lemmas.Bool.Decides.{nat_tests}
-use Rattle.std.proofs.lemmas.Slice.Eq.{bytes_eq-Decides}
-use Rattle.text_words.specs.Cuts.{front}
-use Rattle.text_words.specs.Octets.{is_same_text}
-use Rattle.header_words.specs.Charsets.{text_in, has_problem_in}
-use Rattle.mime_tree.specs.declared.part.Part.{Part}
-use Rattle.mime_tree.specs.Bodies.{HasOctets}
-use Rattle.mime_tree.specs.Heads.{is_no_slash, type_of, is_text}
-use Rattle.mime_tree.specs.Roles.{is_plain}
-use Rattle.email_get.specs.declared.values.PartText.{PartText}
-use Rattle.email_get.specs.Previews.{preview_of}
-use Rattle.email_get.specs.Shown.{IsLeafPreview}
-use Rattle.email_get.specs.Values.{with_lf, charset_in}
+-- Texts, up to a CR.
+use Rattle.std.proofs.Common.{◌≡◌, ◌≢◌, ℕ, zero, suc, ◌<◌, Bool, true, false, cond, List, [], ◌∷◌, ◌++◌, length, take, drop, get_or, refl, sym, ap, ◌∙◌, arith, eqb, Some}
+use Rattle.std.proofs.Common.{append_assoc}
+use Rattle.std.proofs.lemmas.Bool.{eqb-true}
+use Rattle.memchr.specs.Find.{Nowhere, Passes, is_byte, IsFirst}
+use Rattle.std.specs.Prelude.{◌&&◌}
+use Rattle.text_words.specs.LineEnds.{begins_with_lf}
+use Rattle.email_get.specs.Values.{kept_octet, with_lf}
 
-no_slash : (c : ℕ) → is_no_slash (to_ascii_lowercase c) ≡ is_no_slash c
-no_slash c = grind (arith, nat_tests)
-
-front_lower : (t : List ℕ) → map to_ascii_lowercase (front is_no_slash t) ≡ front is_no_slash (map to_ascii_lowercase t)
-unfolding front
-front_lower [] = refl
-front_lower (c ∷ t) = by (is_no_slash c) (no_slash c) (front_lower t)
+plain_octet : (c : ℕ) (t : List ℕ) → c ≢ 13 → kept_octet c t ≡ c ∷ []
+plain_octet c t h = by (eqb c 13) refl
   where
-    by : (q : Bool) → is_no_slash (to_ascii_lowercase c) ≡ q → map to_ascii_lowercase (front is_no_slash t) ≡ front is_no_slash (map to_ascii_lowercase t) → map to_ascii_lowercase (cond q (c ∷ front is_no_slash t) []) ≡ front is_no_slash (to_ascii_lowercase c ∷ map to_ascii_lowercase t)
-    by true e more = rw e (ap (λ (u : List ℕ). to_ascii_lowercase c ∷ u) more)
-    by false e more = rw e refl
+    by : (q : Bool) → eqb c 13 ≡ q → cond (q && begins_with_lf t) [] (c ∷ []) ≡ c ∷ []
+    by true e = absurd (h (eqb-true c 13 e))
+    by false e = refl
 
-text_of : (m : List ℕ) → map to_ascii_lowercase m ≡ map to_ascii_lowercase (codes "text/plain") → map to_ascii_lowercase (front is_no_slash m) ≡ map to_ascii_lowercase (codes "text")
-unfolding front
-text_of m e = front_lower m ∙ ap (λ (u : List ℕ). front is_no_slash u) e
+-- a text without a CR stays as it is
+pub no_cr : (t : List ℕ) → ((k : ℕ) → k < length t → get_or t k 0 ≢ 13) → with_lf t ≡ t
+unfolding with_lf
+no_cr [] h = refl
+no_cr (c ∷ t) h =
+    ap (λ (u : List ℕ). u ++ with_lf t) (plain_octet c t (h 0 (omega arith))) ∙ ap (λ (u : List ℕ). c ∷ u) (no_cr t (λ k lt. h (suc k) (omega arith)))
 
-pub plain_text : (m : List ℕ) → is_same_text m (codes "text/plain") ≡ true → is_text m ≡ true
-unfolding is_text
-plain_text m h =
-    (bytes_eq-Decides (map to_ascii_lowercase (type_of m)) (map to_ascii_lowercase (codes "text"))).1
-    (text_of m ((bytes_eq-Decides (map to_ascii_lowercase m) (map to_ascii_lowercase (codes "text/plain"))).0 h))
+-- up to the first CR a text stays as it is
+pub first_cr : (t : List ℕ) (n : ℕ) → n < length t → get_or t n 0 ≡ 13 → ((k : ℕ) → k < n → get_or t k 0 ≢ 13)
+    → with_lf t ≡ take n t ++ (kept_octet 13 (drop 1 (drop n t)) ++ with_lf (drop 1 (drop n t)))
+unfolding with_lf
+first_cr [] n lt e h = absurd (omega arith)
+first_cr (c ∷ t) zero lt e h = ap (λ (x : ℕ). kept_octet x t ++ with_lf t) e
+first_cr (c ∷ t) (suc n) lt e h =
+    ap (λ (u : List ℕ). u ++ with_lf t) (plain_octet c t (h 0 (omega arith))) ∙ ap (λ (u : List ℕ). c ∷ u) (first_cr t n (omega arith) e (λ k lt. h (suc k) (omega arith)))
 
-pub no_plain_text : (m : List ℕ) → is_text m ≡ false → is_same_text m (codes "text/plain") ≡ false
-no_plain_text m h = elim (is_same_text m (codes "text/plain")) as (λ t. is_same_text m (codes "text/plain") ≡ t → t ≡ false) [ true ↦ λ e. absurd (let f = sym (plain_text m e) ∙ h in cc) | false ↦ λ e. refl ] refl
+pub none_found : (t : List ℕ) → Nowhere (Passes (is_byte 13) t) 0 (length t) → with_lf t ≡ t
+none_found t h = no_cr t (λ k lt e. h k (omega arith) lt (ap (λ (x : ℕ). is_byte 13 x) e))
 
--- what a leaf's preview is, by its text
-pub leaf_preview_is : (p : Part) (b octets : List ℕ) (misspelled : Bool) (t : PartText) → t.text.items ≡ with_lf (text_in (charset_in p) octets) → t.problem ≡ (misspelled || has_problem_in (charset_in p) octets) → (o : Option (List ℕ)) → MatchOption o (is_plain p ≡ false) (λ x. (is_plain p ≡ true) × (x ≡ preview_of t.text.items)) → HasOctets p b octets misspelled → IsLeafPreview b p o
-leaf_preview_is p b octets misspelled t e f None h has = h
-leaf_preview_is p b octets misspelled t e f (Some x) h has =
-    (h.0, record { text = t.text.items; problem = t.problem; has_text = record { octets = octets; misspelled = misspelled; has_octets = has; text_is = e; problem_is = f }; is = h.1 })
+pub found : (t : List ℕ) (n : ℕ) → IsFirst (Passes (is_byte 13) t) 0 (length t) (Some n)
+    → with_lf t ≡ take n t ++ (kept_octet 13 (drop 1 (drop n t)) ++ with_lf (drop 1 (drop n t)))
+found t n h = first_cr t n h.0.high (eqb-true (get_or t n 0) 13 h.1) (λ k lt e. h.0.before k (omega arith) lt (ap (λ (x : ℕ). is_byte 13 x) e))
+
+-- one line more
+pub line_kept : (kept rest front after kept' text : List ℕ) (n : ℕ) → kept' ≡ (kept ++ front) ++ kept_octet 13 after → front ≡ take n rest → after ≡ drop 1 (drop n rest)
+    → with_lf rest ≡ take n rest ++ (kept_octet 13 (drop 1 (drop n rest)) ++ with_lf (drop 1 (drop n rest))) → kept ++ with_lf rest ≡ with_lf text
+    → kept' ++ with_lf after ≡ with_lf text
+line_kept kept rest front after kept' text n e f g h i =
+    let same = ap (λ (u : List ℕ). u ++ (kept_octet 13 after ++ with_lf after)) f ∙ ap (λ (u : List ℕ). take n rest ++ (kept_octet 13 u ++ with_lf u)) g ∙ sym h in
+    ap (λ (u : List ℕ). u ++ with_lf after) e ∙ append_assoc (kept ++ front) (kept_octet 13 after) (with_lf after) ∙ append_assoc kept front (kept_octet 13 after ++ with_lf after)
+    ∙ ap (λ (u : List ℕ). kept ++ u) same ∙ i

@@ -29,7 +29,8 @@ right_whole : (a c : Bool) → (a || c) ≡ false → c ≡ false
 right_whole true c h = absurd (let e = h in cc)
 right_whole false c h = h
 
-by_order : (o : Ordering) (x y z : Members) → members_have_float x ≡ false → members_have_float y ≡ false → members_have_float z ≡ false → members_have_float (match_ordering o x y z) ≡ false
+by_order : (o : Ordering) (x y z : Members) → members_have_float x ≡ false → members_have_float y ≡ false → members_have_float z ≡ false
+    → members_have_float (match_ordering o x y z) ≡ false
 by_order Less x y z f g h = f
 by_order Equal x y z f g h = g
 by_order Greater x y z f g h = h
@@ -59,7 +60,8 @@ language_whole (Some text) d h = ap has_float h.2 ∙ items_whole text_data (ato
 
 part_whole : (id : List ℕ) (p : Part) (l : Data) (n : ℕ) → has_float l ≡ false → has_float (part_data id p l n) ≡ false
 part_whole id p l n h =
-    rw (text_whole (out-Part p).charset) (rw (text_whole (out-Part p).cid) (rw (text_whole (out-Part p).disposition) (rw h (rw (text_whole (out-Part p).location) (rw (text_whole (out-Part p).name) refl)))))
+    rw (text_whole (out-Part p).charset) (rw (text_whole (out-Part p).cid)
+    (rw (text_whole (out-Part p).disposition) (rw h (rw (text_whole (out-Part p).location) (rw (text_whole (out-Part p).name) refl)))))
 
 object_whole : (id b : List ℕ) (p : Part) (d : Data) → IsPartObject id b p d → has_float d ≡ false
 object_whole id b p d h = ap has_float h.is ∙ part_whole id p h.language (length h.octets) (language_whole (out-Part p).language h.language h.is_language)
@@ -80,7 +82,8 @@ pub record IsWholeBody (d : BodyData) : Type 0 where
 
 email_whole : (h : HeaderData) (d : BodyData) → IsWholeHeader h → IsWholeBody d → has_float (email_data h d) ≡ false
 email_whole h d w v =
-    rw v.attachments (rw w.bcc (rw v.values (rw w.cc (rw w.from (rw v.html (rw w.in_reply_to (rw w.message_id (rw w.references (rw w.reply_to (rw w.sender (rw w.sent_at (rw w.subject (rw v.text (rw w.to refl))))))))))))))
+    rw v.attachments (rw w.bcc (rw v.values (rw w.cc (rw w.from
+    (rw v.html (rw w.in_reply_to (rw w.message_id (rw w.references (rw w.reply_to (rw w.sender (rw w.sent_at (rw w.subject (rw v.text (rw w.to refl))))))))))))))
 
 pub whole_object : (b : List ℕ) (d : Data) → IsEmailObject b d → has_float d ≡ false
 whole_object b d o =

@@ -8,4 +8,5 @@ use Rattle.mime_tree.specs.Roles.{is_leaf}
 pub data AreLeaves : List Part → List Part → Type 0 where
   End : AreLeaves [] []
   Leaf : (p : Part) (ps behind : List Part) → is_leaf p ≡ true → AreLeaves ps behind → AreLeaves (p ∷ ps) (p ∷ behind)
-  Multi : (p : Part) (ps inner behind : List Part) → is_leaf p ≡ false → AreLeaves (children p) inner → AreLeaves ps behind → AreLeaves (p ∷ ps) (inner ++ behind)
+  Multi : (p : Part) (ps inner behind : List Part) → is_leaf p ≡ false → AreLeaves (children p) inner → AreLeaves ps behind
+      → AreLeaves (p ∷ ps) (inner ++ behind)

@@ -4,9 +4,7 @@ pub mod Values
 pub mod Previews
 pub mod PartObjects
 pub mod BodyValues
-pub mod Shown
 pub mod HeaderProperties
 pub mod MomentText
 pub mod EmailObjects
-pub mod BodyViews
-pub mod EmailMembers
+pub mod reading

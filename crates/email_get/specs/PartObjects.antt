@@ -24,7 +24,7 @@ IsLanguage (Some text) d = (lexemes : List Spelled) × AreLeadingLexemes alphabe
 abbrev pub part_blob_id : List ℕ → ℕ → List ℕ
 part_blob_id id n = id ++ 45 ∷ decimal n
 
--- in the message with this blob id, a leaf that spells so many octets
+-- in the message with this blob id, a leaf that spells n octets
 abbrev pub part_data : List ℕ → Part → Data → ℕ → Data
 part_data id p language size =
     object

@@ -1,9 +1,9 @@
 // Email objects of octets (RFC 8621 section 4.9).
 ghost use Rattle.std.specs.Prelude.{◌≡◌, false, IfOk, OnOk};
 ghost use Rattle.serde_json.specs.View.{view, members_view};
-ghost use Rattle.email_get.specs.EmailMembers as email;
+ghost use Rattle.email_get.specs.reading.EmailMembers as email;
 ghost use Rattle.serde_json.specs.Written.{has_float};
-ghost use Rattle.email_get.specs.BodyViews.{body_view};
+ghost use Rattle.email_get.specs.reading.BodyViews.{body_view};
 ghost use Rattle.email_get.specs.EmailObjects.{IsEmailObject, email_data};
 ghost use Rattle.email_get.specs.HeaderProperties.{header_data};
 

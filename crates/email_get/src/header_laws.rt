@@ -1,3 +1,4 @@
+// The law of header properties.
 ghost use Rattle.std.specs.Prelude.{◌≡◌, List};
 ghost use Rattle.mail_header.specs.Fields.{NameAndRaw};
 ghost use Rattle.email_get.specs.HeaderProperties.{HeaderData, IsHeaderData};

@@ -1,6 +1,6 @@
 // The properties that the header of a message gives.
 ghost use Rattle.std.specs.Prelude.{◌≡◌, IfOk, map};
-ghost use Rattle.mail_header.specs.Fields.{fields_view};
+ghost use Rattle.mail_header.specs.Fields.{names_and_raws};
 ghost use Rattle.serde_json.specs.View.{view};
 ghost use Rattle.email_get.specs.Texts.{text_data};
 ghost use Rattle.email_get.specs.HeaderProperties as header;
@@ -83,8 +83,8 @@ fn date_value(alloc: Global, raw: &[u8]) -> Result<Value, AllocError>
     }
 }
 
-fn addresses_of(alloc: Global, fields: &Fields, name: &[u8]) -> Result<Value, AllocError>
-    ensures { IfOk result (λ value. header.IsProperty header.IsAddressesData name.now (fields_view fields.now.list) (view value)) }
+fn addresses_of(alloc: Global, fields: &Fields<'_>, name: &[u8]) -> Result<Value, AllocError>
+    ensures { IfOk result (λ value. header.IsProperty header.IsAddressesData name.now (names_and_raws fields.now) (view value)) }
 {
     match fields.last(name) {
         None => Ok(Value::Null),
@@ -92,8 +92,8 @@ fn addresses_of(alloc: Global, fields: &Fields, name: &[u8]) -> Result<Value, Al
     }
 }
 
-fn message_ids_of(alloc: Global, fields: &Fields, name: &[u8]) -> Result<Value, AllocError>
-    ensures { IfOk result (λ value. header.IsProperty header.IsMessageIdsData name.now (fields_view fields.now.list) (view value)) }
+fn message_ids_of(alloc: Global, fields: &Fields<'_>, name: &[u8]) -> Result<Value, AllocError>
+    ensures { IfOk result (λ value. header.IsProperty header.IsMessageIdsData name.now (names_and_raws fields.now) (view value)) }
 {
     match fields.last(name) {
         None => Ok(Value::Null),
@@ -101,8 +101,8 @@ fn message_ids_of(alloc: Global, fields: &Fields, name: &[u8]) -> Result<Value, 
     }
 }
 
-fn text_of(alloc: Global, fields: &Fields, name: &[u8]) -> Result<Value, AllocError>
-    ensures { IfOk result (λ value. header.IsProperty header.IsTextData name.now (fields_view fields.now.list) (view value)) }
+fn text_of(alloc: Global, fields: &Fields<'_>, name: &[u8]) -> Result<Value, AllocError>
+    ensures { IfOk result (λ value. header.IsProperty header.IsTextData name.now (names_and_raws fields.now) (view value)) }
 {
     match fields.last(name) {
         None => Ok(Value::Null),
@@ -110,8 +110,8 @@ fn text_of(alloc: Global, fields: &Fields, name: &[u8]) -> Result<Value, AllocEr
     }
 }
 
-fn date_of(alloc: Global, fields: &Fields, name: &[u8]) -> Result<Value, AllocError>
-    ensures { IfOk result (λ value. header.IsProperty header.IsDateData name.now (fields_view fields.now.list) (view value)) }
+fn date_of(alloc: Global, fields: &Fields<'_>, name: &[u8]) -> Result<Value, AllocError>
+    ensures { IfOk result (λ value. header.IsProperty header.IsDateData name.now (names_and_raws fields.now) (view value)) }
 {
     match fields.last(name) {
         None => Ok(Value::Null),
@@ -120,8 +120,8 @@ fn date_of(alloc: Global, fields: &Fields, name: &[u8]) -> Result<Value, AllocEr
 }
 
 /// The convenience properties of these fields. Where a field stands more than once, the last one counts.
-pub fn header_values(alloc: Global, fields: &Fields) -> Result<HeaderValues, AllocError>
-    ensures { IfOk result (λ values. header.IsHeaderData (fields_view fields.now.list) (header.header_data values)) }
+pub fn header_values(alloc: Global, fields: &Fields<'_>) -> Result<HeaderValues, AllocError>
+    ensures { IfOk result (λ values. header.IsHeaderData (names_and_raws fields.now) (header.header_data values)) }
 {
     Ok(HeaderValues {
         bcc: addresses_of(alloc, fields, b"bcc")?,

@@ -1,3 +1,4 @@
+// The law of Email objects.
 ghost use Rattle.std.specs.Prelude.{◌≡◌, ℕ, List};
 ghost use Rattle.serde_json.specs.Data.{Data};
 ghost use Rattle.email_get.specs.EmailObjects.{IsEmailObject};

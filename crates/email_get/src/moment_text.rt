@@ -26,7 +26,7 @@ fn local_seconds(moment: Moment) -> u64
     (moment.seconds + moment.offset_minutes as i64 * 60 + SECONDS_TO_EPOCH) as u64
 }
 
-/// The date so many days behind the first of January of the year 0.
+/// The date n days after the first of January of the year 0.
 fn date_at(days: u64) -> Date
     requires { days < 3652425 }
     ensures year { pos 0 ≤ℤ result.year }
@@ -46,7 +46,7 @@ fn year_of(date: Date) -> u32
     date.year as u32
 }
 
-/// The day of the calendar, so many days behind the first of January of the year 0.
+/// The day of the calendar, n days after the first of January of the year 0.
 fn day_at(days: u64) -> Day
     requires { days < 3652425 }
     ensures exists { dates.day_exists result ≡ true }
@@ -60,7 +60,7 @@ fn day_at(days: u64) -> Day
     }
 }
 
-/// The time of the day so many seconds after midnight.
+/// The time of the day n seconds after midnight.
 fn clock_at(seconds: u32) -> Clock
     requires { seconds < 86400 }
     ensures exists { dates.clock_exists result ≡ true }

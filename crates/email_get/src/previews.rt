@@ -1,5 +1,5 @@
 // Previews of texts (RFC 8621 section 4.1.4).
-ghost use Rattle.std.specs.Prelude.{◌≡◌, ◌++◌, ◌≤◌, IfOk, OnOk, length, take};
+ghost use Rattle.std.specs.Prelude.{◌≡◌, ◌++◌, ◌∷◌, ℕ, List, IfOk, MatchOption, option_to_list};
 ghost use Rattle.email_get.specs.Previews as previews;
 
 use gate_world::Bytes;
@@ -9,18 +9,17 @@ use text_words::{White, cut, is_white};
 /// How many characters a preview has at most.
 const MOST_CHARACTERS: usize = 256;
 
-/// Adds what an octet is, where `more` follows it: white space is a space where a word follows.
-fn push_spaced(text: &mut Vec<u8>, octet: u8, more: &[u8]) -> Result<(), AllocError>
-    ensures { OnOk result (text.new.items ≡ text.old.items ++ previews.spaced octet more.now) }
+/// What an octet is in a preview, where `more` follows it: white space is a space where a word follows.
+fn spaced(octet: u8, more: &[u8]) -> Option<u8>
+    ensures { option_to_list result ≡ previews.spaced octet more.now }
 {
     if !is_white(octet) {
-        text.push(octet)?;
-        return Ok(());
+        Some(octet)
+    } else if begins_word(more) {
+        Some(b' ')
+    } else {
+        None
     }
-    if begins_word(more) {
-        text.push(b' ')?;
-    }
-    Ok(())
 }
 
 /// Whether an octet follows that isn't white space.
@@ -33,50 +32,50 @@ fn begins_word(text: &[u8]) -> bool
     }
 }
 
-/// Each run of white space as one space, and none at the end.
-#[tactic(auto, unfolding(crate::specs::Previews::single_spaced))]
-fn single_spaced(alloc: Global, text: &[u8]) -> Result<Vec<u8>, AllocError>
-    ensures { IfOk result (λ v. v.items ≡ previews.single_spaced text.now) }
-{
-    let mut spaced = Vec::new(alloc);
-    let mut rest = text;
-    while let [first, more @ ..] = rest {
-        push_spaced(&mut spaced, *first, more)?;
-        rest = more;
-    }
-    Ok(spaced)
-}
-
-/// Whether the octet stands within a character in UTF-8, behind its first one.
+/// Whether the octet stands within a character in UTF-8, after its first one.
 fn is_inner(octet: u8) -> bool
     ensures { result ≡ previews.is_inner octet }
 {
     128 <= octet && octet <= 191
 }
 
-/// The first characters of a text in UTF-8, so many at most.
+/// Adds an octet to a preview to which n characters may still be added, and says how many may be added after it;
+/// none where the preview is full.
 #[tactic(auto, unfolding(crate::specs::Previews::first_characters))]
-fn first_characters(text: &[u8], most: usize) -> &[u8]
-    ensures { result.now ≡ previews.first_characters most text.now }
+fn push_octet(preview: &mut Vec<u8>, left: usize, octet: u8) -> Result<Option<usize>, AllocError>
+    ensures { IfOk result (λ o. (t : List ℕ) → MatchOption o
+        (preview.new.items ≡ preview.old.items ++ previews.first_characters left (octet ∷ t))
+        (λ n. preview.new.items ++ previews.first_characters n t ≡ preview.old.items ++ previews.first_characters left (octet ∷ t))) }
 {
-    let mut left = most;
-    for (i, octet) in text.iter().enumerate() {
-        if !is_inner(*octet) {
-            if left == 0 {
-                let (first, _) = text.split_at(i);
-                return first;
-            }
-            left -= 1;
-        }
+    if is_inner(octet) {
+        preview.push(octet)?;
+        return Ok(Some(left));
     }
-    text
+    if left == 0 {
+        return Ok(None);
+    }
+    preview.push(octet)?;
+    Ok(Some(left - 1))
 }
 
-/// The preview of a text: its words with one space between two, up to 256 characters.
+/// The preview of a text: its words with one space between two, up to 256 characters. No more of the text is read.
+#[tactic(auto, unfolding(crate::specs::Previews::single_spaced, crate::specs::Previews::first_characters))]
 pub(crate) fn preview_of(alloc: Global, text: &[u8]) -> Result<Bytes, AllocError>
     ensures { IfOk result (λ p. p ≡ previews.preview_of text.now) }
 {
     let (_, words) = cut(&White, text);
-    let spaced = single_spaced(alloc, words)?;
-    Bytes::copy_of(alloc, first_characters(spaced.as_slice(), MOST_CHARACTERS))
+    let mut preview = Vec::new(alloc);
+    let mut left = MOST_CHARACTERS;
+    let mut rest = words;
+    while let [first, more @ ..] = rest {
+        match spaced(*first, more) {
+            None => {}
+            Some(octet) => match push_octet(&mut preview, left, octet)? {
+                None => return Bytes::from_vec(preview),
+                Some(fewer) => left = fewer,
+            },
+        }
+        rest = more;
+    }
+    Bytes::from_vec(preview)
 }

@@ -14,6 +14,16 @@ pub(crate) fn text_value(alloc: Global, octets: &[u8]) -> Result<Value, AllocErr
     Ok(Value::String(String::from_utf8_lossy(alloc, octets)?))
 }
 
+/// The same of octets that aren't needed any more. They aren't copied where they are UTF-8.
+pub(crate) fn owned_text_value(alloc: Global, octets: Vec<u8>) -> Result<Value, AllocError>
+    ensures { IfOk result (λ v. view v ≡ text_data octets.items) }
+{
+    match String::from_utf8(octets) {
+        Ok(text) => Ok(Value::String(text)),
+        Err(error) => text_value(alloc, error.into_bytes().as_slice()),
+    }
+}
+
 /// The same, and null where there is none.
 pub(crate) fn optional_text_value(alloc: Global, text: &Option<Bytes>) -> Result<Value, AllocError>
     ensures { IfOk result (λ v. view v ≡ optional_text text.now) }

@@ -1,15 +1,24 @@
 // The texts of parts (RFC 8621 section 4.1.4, EmailBodyValue).
-ghost use Rattle.std.specs.Prelude.{◌≡◌, ◌||◌, ◌++◌, ℕ, Bool, List, IfOk, OnOk, unwrap_or};
-ghost use Rattle.serde_json.specs.View.{view};
-ghost use Rattle.header_words.specs.Charsets.{text_in, has_problem_in};
-ghost use Rattle.mime_tree.specs.Heads.{us_ascii};
+ghost use Rattle.std.specs.Prelude.{◌≡◌, ◌++◌, ℕ, List, IfOk, OnOk};
+ghost use Rattle.serde_json.specs.View.{view, members_view};
+ghost use Rattle.mime_tree.specs.Heads.{is_text as is_text_of};
+ghost use Rattle.mime_tree.specs.Parts.{IsWithin};
+ghost use Rattle.mime_tree.specs.Roles.{media};
 ghost use Rattle.email_get.specs.Values as values;
-ghost use Rattle.email_get.specs.BodyValues.{value_data};
+ghost use Rattle.email_get.specs.Values.{HasText};
+ghost use Rattle.email_get.specs.Previews.{IsPreviewOf};
+ghost use Rattle.email_get.specs.reading.Decoded.{HasDecoded};
+ghost use Rattle.email_get.specs.BodyValues.{value_data, PutsIf, PutsValue};
 
-use crate::texts::text_value;
+use crate::leaves::number_text;
+use crate::previews::preview_of;
+use crate::texts::owned_text_value;
+use gate_world::Bytes;
 use header_words::decode_charset;
-use mime_tree::Part;
-use serde_json::{Value, json};
+use memchr::memchr;
+use mime_tree::head::is_text;
+use mime_tree::{Part, part_bytes};
+use serde_json::{Map, Value, json, put};
 use std::alloc::{AllocError, Global};
 use text_words::begins_with_lf;
 
@@ -36,12 +45,16 @@ fn push_octet(kept: &mut Vec<u8>, octet: u8, more: &[u8]) -> Result<(), AllocErr
 fn with_lf(alloc: Global, text: &[u8]) -> Result<Vec<u8>, AllocError>
     ensures { IfOk result (λ v. v.items ≡ values.with_lf text.now) }
 {
-    let mut kept = Vec::new(alloc);
+    let mut kept = Vec::with_capacity(alloc, text.len())?;
     let mut rest = text;
-    while let [first, more @ ..] = rest {
-        push_octet(&mut kept, *first, more)?;
-        rest = more;
+    'lines: while let Some(at) = memchr(b'\r', rest) {
+        let (front, more) = rest.split_at(at);
+        let (_, after) = more.split_at(1);
+        kept.extend_from_slice(front)?;
+        push_octet(&mut kept, b'\r', after)?;
+        rest = after;
     }
+    kept.extend_from_slice(rest)?;
     Ok(kept)
 }
 
@@ -56,31 +69,90 @@ fn charset_of(part: &Part) -> &[u8]
     }
 }
 
-/// The text of a part that spells these octets, which are misspelled or not.
-pub(crate) fn text_of(
-    alloc: Global,
-    part: &Part,
-    octets: &[u8],
-    misspelled: bool,
-) -> Result<PartText, AllocError>
-    ensures text { IfOk result (λ t. t.text.items ≡ values.with_lf (text_in (values.charset_in part.now) octets.now)) }
-    ensures problem { IfOk result (λ t. t.problem ≡ (misspelled || has_problem_in (values.charset_in part.now) octets.now)) }
+/// The text of a part of these octets, with the ends of its lines as they stand.
+fn decoded(alloc: Global, bytes: &[u8], part: &Part) -> Result<PartText, AllocError>
+    requires { IsWithin part.now bytes.now }
+    ensures { IfOk result (λ t. HasDecoded part.now bytes.now t.text.items t.problem) }
 {
-    let (text, undecoded) = decode_charset(alloc, charset_of(part), octets)?;
+    let (octets, misspelled) = part_bytes(alloc, bytes, part)?;
+    let (text, undecoded) = decode_charset(alloc, charset_of(part), octets.as_slice())?;
     Ok(PartText {
-        text: with_lf(alloc, text.as_slice())?,
+        text,
         problem: misspelled || undecoded,
     })
 }
 
-/// The whole value of a text.
-pub(crate) fn value_of(alloc: Global, text: &PartText) -> Result<Value, AllocError>
-    ensures { IfOk result (λ v. view v ≡ value_data text.now.text.items text.now.problem) }
+/// The text of a part of these octets.
+pub(crate) fn text_of(alloc: Global, bytes: &[u8], part: &Part) -> Result<PartText, AllocError>
+    requires { IsWithin part.now bytes.now }
+    ensures { IfOk result (λ t. values.HasText part.now bytes.now t.text.items t.problem) }
 {
-    let value = text_value(alloc, text.text.as_slice())?;
+    let spelled = decoded(alloc, bytes, part)?;
+    let text = with_lf(alloc, spelled.text.as_slice())?;
+    Ok(PartText {
+        text,
+        problem: spelled.problem,
+    })
+}
+
+/// The whole value of a text.
+fn value_of(alloc: Global, text: PartText) -> Result<Value, AllocError>
+    ensures { IfOk result (λ v. view v ≡ value_data text.text.items text.problem) }
+{
+    let PartText { text, problem } = text;
+    let value = owned_text_value(alloc, text)?;
     json!(in alloc; {
-        "isEncodingProblem": text.problem,
+        "isEncodingProblem": problem,
         "isTruncated": false,
         "value": value,
     })
+}
+
+/// Puts a text of a part at its part id.
+fn put_text(
+    values: &mut Map<String, Value>,
+    alloc: Global,
+    part: &Part,
+    text: PartText,
+) -> Result<(), AllocError>
+    ensures { OnOk result ((b : List ℕ) → HasText part.now b text.text.items text.problem
+        → PutsValue b part.now (members_view values.old.entries) (members_view values.new.entries)) }
+{
+    let value = value_of(alloc, text)?;
+    let number = number_text(alloc, part)?;
+    put(values, alloc, number.as_str(), value)
+}
+
+/// Puts the value of a leaf of these octets at its part id, where it is a text.
+pub(crate) fn put_value(
+    values: &mut Map<String, Value>,
+    alloc: Global,
+    bytes: &[u8],
+    part: &Part,
+) -> Result<(), AllocError>
+    requires { IsWithin part.now bytes.now }
+    ensures { OnOk result (PutsIf (is_text_of (media part.now)) bytes.now part.now (members_view values.old.entries) (members_view values.new.entries)) }
+{
+    if !is_text(part.media.as_slice()) {
+        return Ok(());
+    }
+    let text = text_of(alloc, bytes, part)?;
+    put_text(values, alloc, part, text)
+}
+
+/// Puts the value of a plain text of these octets at its part id, and gives the text's preview.
+pub(crate) fn put_plain(
+    values: &mut Map<String, Value>,
+    alloc: Global,
+    bytes: &[u8],
+    part: &Part,
+) -> Result<Bytes, AllocError>
+    requires { IsWithin part.now bytes.now }
+    ensures value { OnOk result (PutsValue bytes.now part.now (members_view values.old.entries) (members_view values.new.entries)) }
+    ensures preview { IfOk result (λ p. IsPreviewOf bytes.now part.now p) }
+{
+    let text = text_of(alloc, bytes, part)?;
+    let preview = preview_of(alloc, text.text.as_slice())?;
+    put_text(values, alloc, part, text)?;
+    Ok(preview)
 }

@@ -1,2 +1,4 @@
+pub mod Chance
+pub mod Dialing
 pub mod Faults
 pub mod Streams

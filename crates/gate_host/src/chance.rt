@@ -1,18 +1,20 @@
 // Random words.
 ghost use Rattle.std.specs.Prelude.{◌≡◌, ◌+◌, ◌*◌, ◌%◌, ◌^◌};
 ghost use Rattle.std.specs.Duration.{as_nanos};
+ghost use Rattle.gate_host.specs.Chance.{IsDrawnWord};
 
-use std::random::RandomSource;
+use crate::Draws;
 use std::rt::Clock;
 use std::time::Duration;
 
 /// A word of the host's random octets. Where it gives none, the word is made of the time and the process's number,
 /// so that two runs of the program most likely differ in it.
-pub fn random_word<H: RandomSource + Clock>(host: &H, process: u32) -> u64 {
-    let mut octets = [0u8; 8];
-    match host.fill_bytes(&mut octets) {
-        Ok(()) => u64::from_be_bytes(octets),
-        Err(_) => word_of(since_1970(host), process),
+pub fn random_word<H: Draws + Clock>(host: &H, process: u32) -> u64
+    ensures { IsDrawnWord (H.draws host.now) result }
+{
+    match host.draw() {
+        Some(octets) => u64::from_be_bytes(octets),
+        None => word_of(since_1970(host), process),
     }
 }
 

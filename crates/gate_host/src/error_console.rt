@@ -10,11 +10,14 @@ use std::io::Write;
 /// A console over a stream.
 #[derive(Drop)]
 pub struct ErrorConsole<E: Write + Drop> {
+    /// Where the texts go.
     pub stream: E,
+    /// How often saying a text has failed; the last number stays.
     pub faults: u64,
 }
 
 impl<E: Write + Drop> ErrorConsole<E> {
+    /// A console that has said nothing.
     pub fn new(stream: E) -> ErrorConsole<E>
         ensures { result ≡ record { stream = stream; faults = 0 } }
     {

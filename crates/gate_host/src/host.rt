@@ -1,25 +1,58 @@
 // What the program's host gives.
+use crate::sockets::{addresses_over, dial_over, draw_over};
+use crate::{Dialer, Draws};
 use std::io::{Read, Stderr, Stdin, Stdout, Write};
-use std::net::Net;
+use std::net::{SocketAddr, TcpStream};
 use std::process;
-use std::random::RandomSource;
 use std::rt::Clock;
 
 /// A host: its network, its clock, its random octets, and the streams and the number of this process.
-pub trait Host: Net + Clock + RandomSource + Clone + Copy + Drop {
+pub trait Host: Dialer + Draws + Clock + Clone + Copy + Drop {
     type Input: Read + Drop;
 
     type Output: Write + Drop;
 
     type Errors: Write + Drop;
 
+    /// The standard input.
     fn input(&self) -> Self::Input;
 
+    /// The standard output.
     fn output(&self) -> Self::Output;
 
+    /// The standard error.
     fn errors(&self) -> Self::Errors;
 
+    /// The number of this process.
     fn process_number(&self) -> u32;
+}
+
+impl Dialer for HostRuntime {
+    ghost use Rattle.std.specs.Prelude.{⊤};
+
+    type Stream = TcpStream;
+
+    ghost looks_up = { λ _ _ _. ⊤ };
+
+    ghost dials = { λ _ _ _ _. ⊤ };
+
+    fn addresses(&self, store: &str, room: &mut [SocketAddr]) -> Option<usize> {
+        addresses_over(self, store, room)
+    }
+
+    fn dial(&self, address: SocketAddr, limit_seconds: u64) -> Option<TcpStream> {
+        dial_over(self, address, limit_seconds)
+    }
+}
+
+impl Draws for HostRuntime {
+    ghost use Rattle.std.specs.Prelude.{⊤};
+
+    ghost draws = { λ _ _. ⊤ };
+
+    fn draw(&self) -> Option<[u8; 8]> {
+        draw_over(self)
+    }
 }
 
 impl Host for HostRuntime {

@@ -1,6 +1,9 @@
 // The world of the gateway on a real host.
 ghost use Rattle.std.specs.Prelude.{◌≡◌, ◌<◌, ◌≤◌, not, true, false, length, take, None, IsSome, IsNone, IsErr, IsOk, IfOk, OnOk, OnErr};
 ghost use Rattle.std.specs.Io.KnownBytes.{Appends, Consumes, ReadConsumes, WriteAppends};
+ghost use Rattle.gate_host.specs.Chance.{IsDrawnWord};
+ghost use Rattle.gate_host.specs.declared.tcp_link.TheConstants.{PATIENCE_SECONDS};
+ghost use Rattle.gate_host.specs.Dialing.{Connects};
 ghost use Rattle.gate_host.specs.Faults.{one_more};
 ghost use Rattle.gate_host.specs.Streams.{known_of};
 
@@ -11,8 +14,11 @@ use gate_world::{Bytes, Chance, Console, Failed, Front, Link, Secrets, Taped, Te
 #[derive(Drop)]
 pub struct HostWorld<H: Host> {
     host: H,
+    /// The store.
     pub link: TcpLink<H>,
+    /// The client.
     pub front: StandardFront<H::Input, H::Output>,
+    /// Where whoever runs the program is told something.
     pub console: ErrorConsole<H::Errors>,
     password: Bytes,
     token: Bytes,
@@ -24,6 +30,8 @@ impl<H: Host> HostWorld<H> {
         ensures faults { ⟦<HostWorld<H> as Taped>⟧.faults result ≡ record { link = 0; keep = 0; front = 0; say = 0 } }
         ensures hidden { ⟦<HostWorld<H> as Taped>⟧.hidden result ≡ record { password = password; token = token } }
         ensures undialed { IsNone result.link.stream }
+        ensures dialer { result.link.dialer ≡ host }
+        ensures store { result.link.store ≡ store }
         ensures no_client { result.front.has_come ≡ false }
     {
         HostWorld {
@@ -48,6 +56,7 @@ impl<H: Host> Taped for HostWorld<H> {
 // Each call goes to its part, and leaves the others as they were.
 impl<H: Host> Link for HostWorld<H> {
     fn dial(&mut self) -> Result<(), Failed>
+        ensures connects { Connects (H.looks_up self.old.link.dialer) (H.dials self.old.link.dialer) PATIENCE_SECONDS self.old.link.store self.new.link.stream }
         ensures ok { OnOk result (IsSome self.new.link.stream) }
         ensures same { OnOk result (self.new ≡ record self.old { link = record self.old.link { stream = self.new.link.stream } }) }
         ensures err { OnErr result (self.new ≡ record self.old { link = record self.old.link { stream = None; faults = one_more self.old.link.faults } }) }
@@ -123,7 +132,8 @@ impl<H: Host> Front for HostWorld<H> {
 
 impl<H: Host> Chance for HostWorld<H> {
     fn word(&mut self) -> u64
-        ensures { self.new ≡ self.old }
+        ensures drawn { IsDrawnWord (H.draws self.old.host) result }
+        ensures same { self.new ≡ self.old }
     {
         random_word(&self.host, self.host.process_number())
     }

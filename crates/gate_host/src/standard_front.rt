@@ -11,9 +11,13 @@ use std::io::{Read, Write};
 /// A front with one client, who gives an input and takes an output.
 #[derive(Drop)]
 pub struct StandardFront<I: Read + Drop, O: Write + Drop> {
+    /// What the client gives.
     pub input: I,
+    /// What the client takes.
     pub output: O,
+    /// Whether the client has come.
     pub has_come: bool,
+    /// How often the input or the output has failed; the last number stays.
     pub faults: u64,
 }
 

@@ -1,20 +1,24 @@
 // A world over loopback and memory, and an input that fails.
-use crate::{Host, HostWorld, StandardFront};
+use crate::sockets::{addresses_over, dial_over, draw_over};
+use crate::tcp_link::PATIENCE_SECONDS;
+use crate::{Dialer, Draws, Host, HostWorld, StandardFront};
 use gate_world::{Bytes, Chance, Console, Failed, Front, Link, Secrets, Text};
 use std::alloc::Global;
 use std::io;
 use std::io::{ErrorKind, Read, Write};
-use std::net::{Net, SocketAddr, TcpListener, TcpStream};
+use std::net::{Ipv4Addr, Net, SocketAddr, SocketAddrV4, TcpListener, TcpStream};
 use std::random::RandomSource;
 use std::rt::Clock;
 use std::test::Fail;
 use std::time::Duration;
 
-/// A host with a network, streams in memory, a clock that stands still and no random octets.
+/// A host with a network in which each name has two addresses, streams in memory, a clock that stands still, and the
+/// random octets that it is given.
 #[derive(Clone, Copy)]
 struct Desk {
     rt: HostRuntime,
     alloc: Global,
+    random: Option<[u8; 8]>,
 }
 
 impl Net for Desk {
@@ -33,6 +37,42 @@ impl Net for Desk {
     fn connect_timeout(&self, addr: SocketAddr, timeout: Duration) -> io::Result<TcpStream> {
         self.rt.connect_timeout(addr, timeout)
     }
+
+    fn lookup_host(&self, _host: &str, port: u16, found: &mut [SocketAddr]) -> io::Result<usize> {
+        let last_octets = [2, 1];
+        for (place, last) in found.iter_mut().zip(last_octets) {
+            *place = SocketAddr::V4(SocketAddrV4::new(Ipv4Addr::new(127, 0, 0, last), port));
+        }
+        Ok(found.len().min(2))
+    }
+}
+
+impl Dialer for Desk {
+    ghost use Rattle.std.specs.Prelude.{⊤};
+
+    type Stream = TcpStream;
+
+    ghost looks_up = { λ _ _ _. ⊤ };
+
+    ghost dials = { λ _ _ _ _. ⊤ };
+
+    fn addresses(&self, store: &str, room: &mut [SocketAddr]) -> Option<usize> {
+        addresses_over(self, store, room)
+    }
+
+    fn dial(&self, address: SocketAddr, limit_seconds: u64) -> Option<TcpStream> {
+        dial_over(self, address, limit_seconds)
+    }
+}
+
+impl Draws for Desk {
+    ghost use Rattle.std.specs.Prelude.{⊤};
+
+    ghost draws = { λ _ _. ⊤ };
+
+    fn draw(&self) -> Option<[u8; 8]> {
+        draw_over(self)
+    }
 }
 
 impl Clock for Desk {
@@ -46,8 +86,14 @@ impl Clock for Desk {
 }
 
 impl RandomSource for Desk {
-    fn fill_bytes(&self, _buf: &mut [u8]) -> io::Result<()> {
-        Err(io::Error::from(ErrorKind::Unsupported))
+    fn fill_bytes(&self, buf: &mut [u8]) -> io::Result<()> {
+        let Some(octets) = self.random else {
+            return Err(io::Error::from(ErrorKind::Unsupported));
+        };
+        for (place, octet) in buf.iter_mut().zip(octets) {
+            *place = octet;
+        }
+        Ok(())
     }
 }
 
@@ -75,13 +121,22 @@ impl Host for Desk {
     }
 }
 
-fn world_at(rt: HostRuntime, listener: &TcpListener) -> Result<HostWorld<Desk>, Fail> {
+fn world_of(
+    rt: HostRuntime,
+    store: &str,
+    random: Option<[u8; 8]>,
+) -> Result<HostWorld<Desk>, Fail> {
     let alloc = rt.alloc();
-    let address = listener.local_addr()?;
-    let store = Text::from_string(format!(in alloc; "{address}")?);
+    let store = Text::copy_of(alloc, store)?;
     let password = Bytes::copy_of(alloc, b"pw")?;
     let token = Bytes::copy_of(alloc, b"word")?;
-    Ok(HostWorld::new(Desk { rt, alloc }, store, password, token))
+    Ok(HostWorld::new(Desk { rt, alloc, random }, store, password, token))
+}
+
+fn world_at(rt: HostRuntime, listener: &TcpListener) -> Result<HostWorld<Desk>, Fail> {
+    let address = listener.local_addr()?;
+    let store = format!(in rt.alloc(); "{address}")?;
+    world_of(rt, store.as_str(), None)
 }
 
 #[test]
@@ -109,6 +164,55 @@ fn the_link_carries_octets_both_ways_and_counts_its_faults(rt: HostRuntime) -> R
     drop(listener);
     assert!(rt; world.dial() == Err(Failed), "nobody listens");
     assert_eq!(rt; world.link.faults, 4);
+    Ok(())
+}
+
+#[test]
+fn a_second_dial_has_a_new_stream_and_the_first_is_closed(rt: HostRuntime) -> Result<(), Fail> {
+    let listener = TcpListener::bind(&rt, "127.0.0.1:0")?;
+    let mut world = world_at(rt, &listener)?;
+    let mut room = [0u8; 4];
+    assert!(rt; world.dial().is_ok());
+    let (mut first, _) = listener.accept()?;
+    assert!(rt; world.dial().is_ok());
+    let (mut second, _) = listener.accept()?;
+    assert!(rt; world.write(b"new") == Ok(3));
+    assert!(rt; second.read(&mut room)? == 3);
+    assert_eq!(rt; &room[..3], b"new".as_slice());
+    assert!(rt; first.read(&mut room)? == 0);
+    assert_eq!(rt; world.link.faults, 0);
+    Ok(())
+}
+
+#[test]
+fn an_address_that_refuses_is_passed_over_and_waits_are_bounded(
+    rt: HostRuntime,
+) -> Result<(), Fail> {
+    let listener = TcpListener::bind(&rt, "127.0.0.1:0")?;
+    let port = listener.local_addr()?.port();
+    let store = format!(in rt.alloc(); "store.example:{port}")?;
+    let mut world = world_of(rt, store.as_str(), None)?;
+    assert!(rt;
+        world.dial().is_ok(),
+        "127.0.0.2 refuses, and 127.0.0.1 answers"
+    );
+    let limit = Some(Duration::from_secs(PATIENCE_SECONDS));
+    let stream = world.link.stream.as_ref().ok_or("there is no stream")?;
+    assert!(rt; stream.peer_addr()? == listener.local_addr()?);
+    assert!(rt; stream.read_timeout()? == limit);
+    assert!(rt; stream.write_timeout()? == limit);
+    drop(listener);
+    assert!(rt; world.dial() == Err(Failed), "both refuse");
+    let mut unnamed = world_of(rt, "store.example", None)?;
+    assert!(rt; unnamed.dial() == Err(Failed), "there is no port");
+    Ok(())
+}
+
+#[test]
+fn a_word_is_the_octets_that_were_drawn(rt: HostRuntime) -> Result<(), Fail> {
+    let octets = [1, 2, 3, 4, 5, 6, 7, 255];
+    let mut world = world_of(rt, "store.example:1", Some(octets))?;
+    assert_eq!(rt; world.word(), 0x0102_0304_0506_07ff);
     Ok(())
 }
 

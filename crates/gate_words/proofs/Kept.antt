@@ -28,7 +28,9 @@ AddsAll settings before after = Adds (values_of Store settings) (values_of User 
 
 -- ---- what is kept was added
 
-adds-one : (name : Name) (value : List ℕ) (settings : List Setting) (before next after : Values) → keep name value before ≡ Some next → AddsAll settings next after → Adds (value_if Store name value (values_of Store settings)) (value_if User name value (values_of User settings)) (value_if Base name value (values_of Base settings)) before after
+adds-one : (name : Name) (value : List ℕ) (settings : List Setting) (before next after : Values) → keep name value before ≡ Some next → AddsAll settings next after
+    → Adds (value_if Store name value (values_of Store settings)) (value_if User name value (values_of User settings))
+    (value_if Base name value (values_of Base settings)) before after
 adds-one Store value settings before next after is rest =
     let found = free-some before.store (record before { store = Some value }) next is in
     let k = subst (λ (v : Values). AddsAll settings v after) (sym found.1) rest in
@@ -72,19 +74,33 @@ same-listed (Some a) (Some b) is = cc
 moved : (o after : Option (List ℕ)) (value : List ℕ) (more : List (List ℕ)) → o ≡ None → listed o ++ value ∷ more ≡ listed after → value ∷ more ≡ listed after
 moved o after value more free is = ap (λ (p : Option (List ℕ)). listed p ++ value ∷ more) (sym free) ∙ is
 
-keep-one : (name : Name) (value : List ℕ) (settings : List Setting) (before after : Values) → ((v : Values) → AddsAll settings v after → keeps settings v ≡ Some after) → Adds (value_if Store name value (values_of Store settings)) (value_if User name value (values_of User settings)) (value_if Base name value (values_of Base settings)) before after → option_and_then (keeps settings) (keep name value before) ≡ Some after
+keep-one : (name : Name) (value : List ℕ) (settings : List Setting) (before after : Values) → ((v : Values) → AddsAll settings v after → keeps settings v ≡ Some after)
+    → Adds (value_if Store name value (values_of Store settings)) (value_if User name value (values_of User settings))
+    (value_if Base name value (values_of Base settings)) before after → option_and_then (keeps settings) (keep name value before) ≡ Some after
 keep-one Store value settings before after rest adds =
     let free = was-free before.store after.store value (values_of Store settings) adds.store_is in
     ap (λ (o : Option (List ℕ)). option_and_then (keeps settings) (if is_some o then None else Some (record before { store = Some value }))) free
-    ∙ rest (record before { store = Some value }) (record { store_is = moved before.store after.store value (values_of Store settings) free adds.store_is; user_is = adds.user_is; base_is = adds.base_is })
+    ∙ rest (record before { store = Some value }) (record {
+      store_is = moved before.store after.store value (values_of Store settings) free adds.store_is;
+      user_is = adds.user_is;
+      base_is = adds.base_is;
+    })
 keep-one User value settings before after rest adds =
     let free = was-free before.user after.user value (values_of User settings) adds.user_is in
     ap (λ (o : Option (List ℕ)). option_and_then (keeps settings) (if is_some o then None else Some (record before { user = Some value }))) free
-    ∙ rest (record before { user = Some value }) (record { store_is = adds.store_is; user_is = moved before.user after.user value (values_of User settings) free adds.user_is; base_is = adds.base_is })
+    ∙ rest (record before { user = Some value }) (record {
+      store_is = adds.store_is;
+      user_is = moved before.user after.user value (values_of User settings) free adds.user_is;
+      base_is = adds.base_is;
+    })
 keep-one Base value settings before after rest adds =
     let free = was-free before.base after.base value (values_of Base settings) adds.base_is in
     ap (λ (o : Option (List ℕ)). option_and_then (keeps settings) (if is_some o then None else Some (record before { base = Some value }))) free
-    ∙ rest (record before { base = Some value }) (record { store_is = adds.store_is; user_is = adds.user_is; base_is = moved before.base after.base value (values_of Base settings) free adds.base_is })
+    ∙ rest (record before { base = Some value }) (record {
+      store_is = adds.store_is;
+      user_is = adds.user_is;
+      base_is = moved before.base after.base value (values_of Base settings) free adds.base_is;
+    })
 
 pub keeps-from : (settings : List Setting) (before after : Values) → AddsAll settings before after → keeps settings before ≡ Some after
 keeps-from [] before after adds =

@@ -10,7 +10,8 @@ use Rattle.gate_words.specs.declared.option.Name.TheVariants.{Store, User, Base}
 use Rattle.gate_words.proofs.Cut.{cut-is}
 use Rattle.gate_world.proofs.Steps.{and_then-some, map-some, is_or_not}
 
-name-from : (word : List ℕ) (name : Name) → (word ≡ codes "--store") ⊎ (bytes_eq word (codes "--store") ≡ false) → (word ≡ codes "--user") ⊎ (bytes_eq word (codes "--user") ≡ false) → (word ≡ codes "--base") ⊎ (bytes_eq word (codes "--base") ≡ false) → name_of word ≡ Some name → word ≡ name_text name
+name-from : (word : List ℕ) (name : Name) → (word ≡ codes "--store") ⊎ (bytes_eq word (codes "--store") ≡ false) → (word ≡ codes "--user")
+    ⊎ (bytes_eq word (codes "--user") ≡ false) → (word ≡ codes "--base") ⊎ (bytes_eq word (codes "--base") ≡ false) → name_of word ≡ Some name → word ≡ name_text name
 name-from word name (inl is) user base found = is ∙ ap name_text (same_Some Store name (ap name_of (sym is) ∙ found))
 name-from word name (inr no_store) (inl is) base found = is ∙ ap name_text (same_Some User name (ap name_of (sym is) ∙ found))
 name-from word name (inr no_store) (inr no_user) (inl is) found = is ∙ ap name_text (same_Some Base name (ap name_of (sym is) ∙ found))
@@ -53,4 +54,5 @@ no-dash (octet ∷ word) is dash =
 
 pub test-no-dash : (word : List ℕ) → (BeginsWithDash word → ⊥) → begins_with_dash word ≡ false
 test-no-dash [] none = refl
-test-no-dash (octet ∷ word) none = elim (octet == 45) as (λ t. (octet == 45) ≡ t → t ≡ false) [ true ↦ λ is. absurd (none (word, ap (λ (o : ℕ). o ∷ word) (eqb-true octet 45 is))) | false ↦ λ is. refl ] refl
+test-no-dash (octet ∷ word) none = elim (octet == 45) as (λ t. (octet == 45) ≡ t
+    → t ≡ false) [ true ↦ λ is. absurd (none (word, ap (λ (o : ℕ). o ∷ word) (eqb-true octet 45 is))) | false ↦ λ is. refl ] refl

@@ -1,4 +1,4 @@
--- Words are a task exactly where the options behind `once` name a place, or where they are `show` alone; and one at most.
+-- Words are a task exactly where the options after `once` name a place, or where they are `show` alone; and one at most.
 use Rattle.std.proofs.Common.{◌≡◌, ℕ, List, [], ◌∷◌, Bool, true, false, Some, None, codes, refl, sym, ap, ◌∙◌}
 use Rattle.std.specs.Str.{bytes_eq}
 use Rattle.std.proofs.lemmas.Option.{none-some, same_Some}

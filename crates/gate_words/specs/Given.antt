@@ -1,5 +1,6 @@
 -- Reading words one by one, for private clauses.
-use Rattle.std.specs.Prelude.{ℕ, List, [], ◌∷◌, Bool, false, ◌&&◌, ◌==◌, if◌then◌else◌, is_some, bytes_eq, codes, Option, Some, None, option_map, option_and_then}
+use Rattle.std.specs.Prelude.{ℕ, List, [], ◌∷◌, Bool, false, ◌&&◌, ◌==◌, if◌then◌else◌, is_some, bytes_eq, codes, Option, Some, None, option_map}
+use Rattle.std.specs.Prelude.{option_and_then}
 use Rattle.gate_words.specs.Options.{Setting}
 use Rattle.gate_words.specs.Rules.{is_user, is_base}
 use Rattle.gate_words.specs.declared.option.Name.{Name}
@@ -12,7 +13,8 @@ cut [] = None
 cut (octet ∷ octets) = if octet == 61 then Some ([], octets) else option_map (λ parts. (octet ∷ parts.0, parts.1)) (cut octets)
 
 abbrev pub name_of : List ℕ → Option Name
-name_of word = if bytes_eq word (codes "--store") then Some Store else (if bytes_eq word (codes "--user") then Some User else (if bytes_eq word (codes "--base") then Some Base else None))
+name_of word = if bytes_eq word (codes "--store") then Some Store else
+    (if bytes_eq word (codes "--user") then Some User else (if bytes_eq word (codes "--base") then Some Base else None))
 
 abbrev pub named : List ℕ × List ℕ → Option Setting
 named parts = option_map (λ name. record { name = name; value = parts.1 }) (name_of parts.0)

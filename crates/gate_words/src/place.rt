@@ -1,3 +1,4 @@
+// Where the store is, who asks, and under which URL.
 use gate_world::Text;
 
 /// Where the store is, whose mail it keeps, and where clients find the gateway.

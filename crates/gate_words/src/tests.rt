@@ -1,3 +1,4 @@
+// Tests of words.
 use crate::{Task, read_words};
 use std::alloc::{AllocError, Global};
 use std::test::Fail;

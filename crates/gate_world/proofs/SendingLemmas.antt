@@ -14,7 +14,8 @@ moves took rest all n m whole is =
     append_assoc took (take n rest) (take m (drop n rest)) ∙ ap (λ (l : List ℕ). took ++ (take n rest ++ l)) left ∙ ap (λ (l : List ℕ). took ++ l) (take-append-drop n rest) ∙ whole
 
 -- the first text was sent, and then the second, or not
-pub then_second : {xs : List Event} (ys : List Event) (first second : List ℕ) (r : Result (Unit {0}) Failed) → Hears first xs → Sends second r ys → Sends (first ++ second) r (xs ++ ys)
+pub then_second : {xs : List Event} (ys : List Event) (first second : List ℕ) (r : Result (Unit {0}) Failed) → Hears first xs → Sends second r ys
+    → Sends (first ++ second) r (xs ++ ys)
 then_second ys first second (Ok _) heard hears = Hears-append heard hears
 then_second {xs = xs} ys first second (Err _) heard (more, took, rest, is, hears, whole, left) = (
   xs ++ more,

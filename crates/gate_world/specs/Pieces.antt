@@ -11,7 +11,7 @@ abbrev pub without : ℕ → Option (List ℕ) → Option (List ℕ)
 without count None = None
 without count (Some octets) = Some (drop count octets)
 
--- So many octets of the text were put at the front of the room: all that there are, or a piece, or as many as the room has.
+-- This many octets of the text were put at the front of the room: all that there are, or a piece, or as many as the room has.
 pub record Gives (piece : ℕ) (text room : List ℕ) (count : ℕ) : Type 0 where
   pub count_is : count ≡ min (min (length text) (max piece 1)) (length room)
   pub octets : take count room ≡ take count text

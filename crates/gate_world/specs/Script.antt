@@ -1,5 +1,6 @@
 -- What each call plays of a script.
-use Rattle.std.specs.Prelude.{◌≡◌, ◌⊎◌, ◌+◌, ◌-◌, ◌^◌, ◌<◌, ◌==◌, ◌&&◌, ◌||◌, ℕ, Bool, true, false, List, [], ◌∷◌, length, take, drop, min, max, nat_lt, nat_le, Option, Some, None, IsSome, Result, Ok, Err, All}
+use Rattle.std.specs.Prelude.{◌≡◌, ◌⊎◌, ◌+◌, ◌-◌, ◌^◌, ◌<◌, ◌==◌, ◌&&◌, ◌||◌, ℕ, Bool, true, false, List, [], ◌∷◌, length, take, drop, min, max, nat_lt, nat_le}
+use Rattle.std.specs.Prelude.{Option, Some, None, IsSome, Result, Ok, Err, All}
 use Rattle.std.specs.List.{list_any}
 use Rattle.gate_world.specs.declared.left.Left.{Left}
 use Rattle.gate_world.specs.declared.outside.Failed.{Failed}

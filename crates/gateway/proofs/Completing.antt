@@ -30,10 +30,12 @@ use Rattle.gateway.specs.declared.mail.Marks.{Marks}
 use Rattle.gateway.specs.Mail.{IsMail}
 use Rattle.gateway.specs.Machine.{Account, Machine, Follows, Moves, Stays, opened}
 use Rattle.gateway.specs.Front.{Asked}
-use Rattle.gateway.specs.Segment.{counts_line, first_told, no_memory_line, Replies, NoRequest, TooLarge, Answered, Unavailable, Wanting as WantingReply, Segment, NoneComes, NotAccepted, Unasked, Served, front_faults}
-use Rattle.gateway.specs.Run.{Run, Refused, Wanting, ServedOnce, ShownOne, account_of, EndsOnce}
-use Rattle.gateway.specs.Complete.{asked_for, Tells, Completes}
-use Rattle.gateway.proofs.Quiet.{gives_took, gives_gave, asks_gave_store, asks_took_store, talk_gave_client, talk_took_client, heard_gave_client, heard_gave_store, heard_took_store, before_one, segment_octets, life_octets}
+use Rattle.gateway.specs.Segment.{counts_line, first_told, no_memory_line, Replies, NoRequest, TooLarge, Answered, Unavailable, OutReading, OutRefusing, OutAsking, OutLiving}
+use Rattle.gateway.specs.Segment.{Segment, NoneComes, NotAccepted, Unasked, Served, front_faults}
+use Rattle.gateway.specs.Run.{Run, Refused, OutOfMemory, ServedOnce, ShownOne, account_of, EndsOnce}
+use Rattle.gateway.specs.Complete.{asked_for, IsTold, Completes}
+use Rattle.gateway.proofs.Quiet.{gives_took, gives_gave, asks_gave_store, asks_took_store, talk_gave_client, talk_took_client, heard_gave_client, heard_gave_store}
+use Rattle.gateway.proofs.Quiet.{heard_took_store, before_one, segment_octets, life_octets}
 
 -- a body is one request
 one_reading : {body : List ℕ} {first second : Request} → IsRequest body first → IsRequest body second → first ≡ second
@@ -52,7 +54,8 @@ never_fetched gave none so =
     spelling_some _ front.0 front.2 (front_none front.0 front.1 (sym none ∙ front.3))
 
 -- octets complete one fetch
-pub one_fetch : {user password gave took : List ℕ} {first second : List Response} → InboxFetched user password gave took first → InboxFetched user password gave took second → first ≡ second
+pub one_fetch : {user password gave took : List ℕ} {first second : List Response} → InboxFetched user password gave took first → InboxFetched user password gave took second
+    → first ≡ second
 one_fetch {first = first} {second} a b =
     let ga = a.greeted in
     let gb = b.greeted in
@@ -79,34 +82,41 @@ asked_gave : (octets : List ℕ) (es : List Event) → Asked (Ok octets) es → 
 asked_gave octets es so = gives_gave 10000001 (Whole octets) es so
 
 asked_store_gave : (octets : List ℕ) (es : List Event) → Asked (Ok octets) es → flat_map store_gave_in es ≡ []
-asked_store_gave octets es (asks, is, said, few) = ap (λ (l : List Event). flat_map store_gave_in l) is ∙ before_one store_gave_in asks ClientEnded refl ∙ asks_gave_store asks said.kind
+asked_store_gave octets es (asks, is, said, few) = ap (λ (l : List Event). flat_map store_gave_in l) is ∙ before_one store_gave_in asks ClientEnded refl
+    ∙ asks_gave_store asks said.kind
 
 asked_store_took : (octets : List ℕ) (es : List Event) → Asked (Ok octets) es → flat_map store_took_in es ≡ []
-asked_store_took octets es (asks, is, said, few) = ap (λ (l : List Event). flat_map store_took_in l) is ∙ before_one store_took_in asks ClientEnded refl ∙ asks_took_store asks said.kind
+asked_store_took octets es (asks, is, said, few) = ap (λ (l : List Event). flat_map store_took_in l) is ∙ before_one store_took_in asks ClientEnded refl
+    ∙ asks_took_store asks said.kind
 
 life_took : {user password : List ℕ} {r : Result (List Response) LinkEnd} (es : List Event) → Life user password r es → flat_map client_took_in es ≡ []
 life_took es (Unsent is a b) = ap (λ (l : List Event). flat_map client_took_in l) is
 life_took es (NotBegun is a) = ap (λ (l : List Event). flat_map client_took_in l) is
 life_took es (Undialed is a) = ap (λ (l : List Event). flat_map client_took_in l) is
-life_took es (Lived talk gave took is said comes) = ap (λ (l : List Event). flat_map client_took_in l) is ∙ life_octets client_took_in talk refl refl ∙ talk_took_client talk said.kind
+life_took es (Lived talk gave took is said comes) = ap (λ (l : List Event). flat_map client_took_in l) is ∙ life_octets client_took_in talk refl refl
+    ∙ talk_took_client talk said.kind
 
 life_gave_client : {user password : List ℕ} {r : Result (List Response) LinkEnd} (es : List Event) → Life user password r es → flat_map client_gave_in es ≡ []
 life_gave_client es (Unsent is a b) = ap (λ (l : List Event). flat_map client_gave_in l) is
 life_gave_client es (NotBegun is a) = ap (λ (l : List Event). flat_map client_gave_in l) is
 life_gave_client es (Undialed is a) = ap (λ (l : List Event). flat_map client_gave_in l) is
-life_gave_client es (Lived talk gave took is said comes) = ap (λ (l : List Event). flat_map client_gave_in l) is ∙ life_octets client_gave_in talk refl refl ∙ talk_gave_client talk said.kind
+life_gave_client es (Lived talk gave took is said comes) = ap (λ (l : List Event). flat_map client_gave_in l) is ∙ life_octets client_gave_in talk refl refl
+    ∙ talk_gave_client talk said.kind
 
 -- what comes of a life in which the fetch was completed
-life_fetched : {user password : List ℕ} {responses told : List Response} (es : List Event) → Life user password (Ok told) es → InboxFetched user password (flat_map store_gave_in es) (flat_map store_took_in es) responses → told ≡ responses
+life_fetched : {user password : List ℕ} {responses told : List Response} (es : List Event) → Life user password (Ok told) es
+    → InboxFetched user password (flat_map store_gave_in es) (flat_map store_took_in es) responses → told ≡ responses
 life_fetched es (Unsent is never b) fetched = absurd (cc)
 life_fetched es (NotBegun is never) fetched = absurd (cc)
 life_fetched es (Undialed is never) fetched = absurd (cc)
 life_fetched {user} {password} {responses} es (Lived talk gave took is said comes) fetched =
     let g : flat_map store_gave_in es ≡ gave = ap (λ (l : List Event). flat_map store_gave_in l) is ∙ life_octets store_gave_in talk refl refl ∙ said.gave_is in
     let t : flat_map store_took_in es ≡ took = ap (λ (l : List Event). flat_map store_took_in l) is ∙ life_octets store_took_in talk refl refl ∙ said.took_is in
-    one_fetch comes (subst (λ (l : List ℕ). InboxFetched user password gave l responses) t (subst (λ (l : List ℕ). InboxFetched user password l (flat_map store_took_in es) responses) g fetched))
+    one_fetch comes (subst (λ (l : List ℕ). InboxFetched user password gave l responses) t
+    (subst (λ (l : List ℕ). InboxFetched user password l (flat_map store_took_in es) responses) g fetched))
 
-life_unfetched : {user password : List ℕ} {responses : List Response} (e : LinkEnd) (es : List Event) → Life user password (Err e) es → (e ≡ end.Memory → ⊥) → InboxFetched user password (flat_map store_gave_in es) (flat_map store_took_in es) responses → ⊥
+life_unfetched : {user password : List ℕ} {responses : List Response} (e : LinkEnd) (es : List Event) → Life user password (Err e) es → (e ≡ end.Memory → ⊥)
+    → InboxFetched user password (flat_map store_gave_in es) (flat_map store_took_in es) responses → ⊥
 life_unfetched e es (Unsent is a b) other fetched = never_fetched (flat_map store_gave_in es) (ap (λ (l : List Event). flat_map store_gave_in l) is) fetched
 life_unfetched e es (NotBegun is a) other fetched = never_fetched (flat_map store_gave_in es) (ap (λ (l : List Event). flat_map store_gave_in l) is) fetched
 life_unfetched e es (Undialed is a) other fetched = never_fetched (flat_map store_gave_in es) (ap (λ (l : List Event). flat_map store_gave_in l) is) fetched
@@ -114,7 +124,8 @@ life_unfetched {user} {password} {responses} e es (Lived talk gave took is said 
 life_unfetched {user} {password} {responses} e es (Lived talk gave took is said (inr (none, blames))) other fetched =
     let g : flat_map store_gave_in es ≡ gave = ap (λ (l : List Event). flat_map store_gave_in l) is ∙ life_octets store_gave_in talk refl refl ∙ said.gave_is in
     let t : flat_map store_took_in es ≡ took = ap (λ (l : List Event). flat_map store_took_in l) is ∙ life_octets store_took_in talk refl refl ∙ said.took_is in
-    none responses (subst (λ (l : List ℕ). InboxFetched user password gave l responses) t (subst (λ (l : List ℕ). InboxFetched user password l (flat_map store_took_in es) responses) g fetched))
+    none responses (subst (λ (l : List ℕ). InboxFetched user password gave l responses) t
+    (subst (λ (l : List ℕ). InboxFetched user password l (flat_map store_took_in es) responses) g fetched))
 
 -- nothing is sent while a request is read and asked for
 replies_took : {account : Account} {before after : Machine} {response : List ℕ} (es : List Event) → Replies account before es response after → flat_map client_took_in es ≡ []
@@ -124,10 +135,11 @@ replies_took es (Answered asked life octets request responses messages is so a l
     ap (λ (l : List Event). flat_map client_took_in l) is ∙ flat_map-append client_took_in asked life ∙ (λ i. asked_took (Ok octets) asked so i ++ life_took life lived i)
 replies_took es (Unavailable asked life octets request e is so a lived b c d) =
     ap (λ (l : List Event). flat_map client_took_in l) is ∙ flat_map-append client_took_in asked life ∙ (λ i. asked_took (Ok octets) asked so i ++ life_took life lived i)
-replies_took es (WantingReply asked life read lived is so (inl none) a b) =
-    ap (λ (l : List Event). flat_map client_took_in l) is ∙ flat_map-append client_took_in asked life ∙ (λ i. asked_took read asked so i ++ flat_map client_took_in (none i))
-replies_took es (WantingReply asked life read lived is so (inr here) a b) =
-    ap (λ (l : List Event). flat_map client_took_in l) is ∙ flat_map-append client_took_in asked life ∙ (λ i. asked_took read asked so i ++ life_took life here i)
+replies_took es (OutReading so a b) = asked_took (Err ask.Memory) es so
+replies_took es (OutRefusing so a b) = asked_took (Err ask.TooLarge) es so
+replies_took es (OutAsking octets so a b) = asked_took (Ok octets) es so
+replies_took es (OutLiving asked life octets request lived is so a here b c) =
+    ap (λ (l : List Event). flat_map client_took_in l) is ∙ flat_map-append client_took_in asked life ∙ (λ i. asked_took (Ok octets) asked so i ++ life_took life here i)
 
 -- the machine that told these messages first
 told_first : (epoch : ℕ) (messages : List (ℕ × Marks)) (after : Machine) → Follows (opened epoch) messages after → after ≡ first_told epoch messages
@@ -139,10 +151,13 @@ pub parts : (f : Event → List ℕ) (es asked life : List Event) (a l : List �
 parts f es asked life a l is first second = ap (λ (x : List Event). flat_map f x) is ∙ flat_map-append f asked life ∙ (λ i. first i ++ second i)
 
 abbrev Owed : Place → ℕ → Request → List Response → List ℕ → Type 0
-Owed place epoch request responses response = ((messages : List (ℕ × Marks)) × IsMail responses messages × (response ≡ counts_line place.user place.base request messages (first_told epoch messages))) ⊎ (response ≡ no_memory_line)
+Owed place epoch request responses response = ((messages : List (ℕ × Marks)) × IsMail responses messages
+    × (response ≡ counts_line place.user place.base request messages (first_told epoch messages))) ⊎ (response ≡ no_memory_line)
 
 -- a request that is owed the counts has them for its response
-owed : {after : Machine} (place : Place) (password : List ℕ) (epoch : ℕ) (request : Request) (responses : List Response) (response : List ℕ) (es : List Event) → Replies (account_of place password) (opened epoch) es response after → length (flat_map client_gave_in es) ≤ 10000000 → IsRequest (flat_map client_gave_in es) request → InboxFetched place.user password (flat_map store_gave_in es) (flat_map store_took_in es) responses → Owed place epoch request responses response
+owed : {after : Machine} (place : Place) (password : List ℕ) (epoch : ℕ) (request : Request) (responses : List Response) (response : List ℕ) (es : List Event)
+    → Replies (account_of place password) (opened epoch) es response after → length (flat_map client_gave_in es) ≤ 10000000 → IsRequest (flat_map client_gave_in es) request
+    → InboxFetched place.user password (flat_map store_gave_in es) (flat_map store_took_in es) responses → Owed place epoch request responses response
 owed place password epoch request responses response es (NoRequest octets asked none a b) within form fetched =
     absurd (none request (subst (λ (l : List ℕ). IsRequest l request) (asked_gave octets es asked) form))
 owed place password epoch request responses response es (TooLarge (gave, (said, much)) a b) within form fetched =
@@ -152,19 +167,32 @@ owed {after} place password epoch request responses response es (Answered asked 
     let same : other ≡ request = one_reading is_request (subst (λ (l : List ℕ). IsRequest l request) gave form) in
     let g = parts store_gave_in es asked life [] (flat_map store_gave_in life) is (asked_store_gave octets asked so) refl in
     let t = parts store_took_in es asked life [] (flat_map store_took_in life) is (asked_store_took octets asked so) refl in
-    let here = subst (λ (l : List ℕ). InboxFetched place.user password (flat_map store_gave_in life) l responses) t (subst (λ (l : List ℕ). InboxFetched place.user password l (flat_map store_took_in es) responses) g fetched) in
+    let here = subst (λ (l : List ℕ). InboxFetched place.user password (flat_map store_gave_in life) l responses) t
+    (subst (λ (l : List ℕ). InboxFetched place.user password l (flat_map store_took_in es) responses) g fetched) in
     let responses_are = life_fetched life lived here in
-    inl (messages, subst (λ (rs : List Response). IsMail rs messages) responses_are mail, text ∙ (λ i. counts_line place.user place.base (same i) messages (told_first epoch messages after follows i)))
+    inl (
+      messages,
+      subst (λ (rs : List Response). IsMail rs messages) responses_are mail,
+      text
+          ∙ (λ i. counts_line place.user place.base (same i) messages (told_first epoch messages after follows i)),
+    )
 owed place password epoch request responses response es (Unavailable asked life octets other e is so is_request lived not_memory text a) within form fetched =
     let g = parts store_gave_in es asked life [] (flat_map store_gave_in life) is (asked_store_gave octets asked so) refl in
     let t = parts store_took_in es asked life [] (flat_map store_took_in life) is (asked_store_took octets asked so) refl in
-    absurd (life_unfetched e life lived not_memory (subst (λ (l : List ℕ). InboxFetched place.user password (flat_map store_gave_in life) l responses) t (subst (λ (l : List ℕ). InboxFetched place.user password l (flat_map store_took_in es) responses) g fetched)))
-owed place password epoch request responses response es (WantingReply asked life read lived is so here text a) within form fetched = inr text
+    absurd (life_unfetched e life lived not_memory (subst (λ (l : List ℕ). InboxFetched place.user password (flat_map store_gave_in life) l responses) t
+    (subst (λ (l : List ℕ). InboxFetched place.user password l (flat_map store_took_in es) responses) g fetched)))
+owed place password epoch request responses response es (OutReading so text a) within form fetched = inr text
+owed place password epoch request responses response es (OutRefusing so text a) within form fetched = inr text
+owed place password epoch request responses response es (OutAsking octets so text a) within form fetched = inr text
+owed place password epoch request responses response es (OutLiving asked life octets other lived is so a here text b) within form fetched = inr text
 
 -- all events of a run that served one client whole
-whole : (f : Event → List ℕ) (epoch : ℕ) (request heard said segment events : List Event) → f (Word epoch) ≡ [] → f Accepted ≡ [] → f ClientDone ≡ [] → events ≡ Word epoch ∷ (segment ++ said) → said ≡ [] → segment ≡ Accepted ∷ ((request ++ heard) ++ ClientDone ∷ []) → flat_map f events ≡ flat_map f request ++ flat_map f heard
+whole : (f : Event → List ℕ) (epoch : ℕ) (request heard said segment events : List Event) → f (Word epoch) ≡ [] → f Accepted ≡ [] → f ClientDone ≡ []
+    → events ≡ Word epoch ∷ (segment ++ said) → said ≡ [] → segment ≡ Accepted ∷ ((request ++ heard) ++ ClientDone ∷ [])
+    → flat_map f events ≡ flat_map f request ++ flat_map f heard
 whole f epoch request heard said segment events word accepted done is none segment_is =
-    ap (λ (l : List Event). flat_map f l) (is ∙ ap (λ (l : List Event). Word epoch ∷ (segment ++ l)) none ∙ ap (λ (l : List Event). Word epoch ∷ l) (append-nil segment) ∙ ap (λ (l : List Event). Word epoch ∷ l) segment_is)
+    ap (λ (l : List Event). flat_map f l) (is ∙ ap (λ (l : List Event). Word epoch ∷ (segment ++ l)) none ∙ ap (λ (l : List Event). Word epoch ∷ l) (append-nil segment)
+    ∙ ap (λ (l : List Event). Word epoch ∷ l) segment_is)
     ∙ ap (λ (l : List ℕ). l ++ flat_map f (Accepted ∷ ((request ++ heard) ++ ClientDone ∷ []))) word ∙ segment_octets f request heard accepted done
 
 ends_well : (n status : ℕ) (said : List Event) → (status ≡ 6 → ⊥) → EndsOnce n status said → (n ≡ 0) × (said ≡ [])
@@ -181,36 +209,46 @@ same_word : (a b : ℕ) (x y : List Event) → Word a ∷ x ≡ Word b ∷ y →
 same_word a b x y is = cc
 
 -- a segment that is owed the counts
-segment_owed : {after : Machine} (place : Place) (password : List ℕ) (epoch : ℕ) (request : Request) (responses : List Response) (segment said events : List Event) (served : Segment (account_of place password) (opened epoch) segment after) → front_faults served ≡ 0 → said ≡ [] → events ≡ Word epoch ∷ (segment ++ said) → length (asked_for events) ≤ 10000000 → IsRequest (asked_for events) request → InboxFetched place.user password (flat_map store_gave_in events) (flat_map store_took_in events) responses → Tells events place epoch request responses
+segment_owed : {after : Machine} (place : Place) (password : List ℕ) (epoch : ℕ) (request : Request) (responses : List Response) (segment said events : List Event)
+    (served : Segment (account_of place password) (opened epoch) segment after) → front_faults served ≡ 0 → said ≡ [] → events ≡ Word epoch ∷ (segment ++ said)
+    → length (asked_for events) ≤ 10000000 → IsRequest (asked_for events) request
+    → InboxFetched place.user password (flat_map store_gave_in events) (flat_map store_took_in events) responses → IsTold events place epoch request responses
 segment_owed place password epoch request responses segment said events (NoneComes is a) well none events_are within form fetched =
     absurd (never_fetched (flat_map store_gave_in events) (ap (λ (l : List Event). flat_map store_gave_in l) (events_are ∙ (λ i. Word epoch ∷ (is i ++ none i)))) fetched)
 segment_owed place password epoch request responses segment said events (NotAccepted is a) well none events_are within form fetched = absurd (cc)
 segment_owed place password epoch request responses segment said events (Unasked asked is a b) well none events_are within form fetched = absurd (cc)
 segment_owed place password epoch request responses segment said events (Served req heard response (Err e) is replies sends) well none events_are within form fetched = absurd (cc)
 segment_owed place password epoch request responses segment said events (Served req heard response (Ok u) is replies sends) well none events_are within form fetched =
-    let cg = whole client_gave_in epoch req heard said segment events refl refl refl events_are none is ∙ ap (λ (l : List ℕ). flat_map client_gave_in req ++ l) (heard_gave_client heard sends.kind) ∙ append-nil (flat_map client_gave_in req) in
-    let sg = whole store_gave_in epoch req heard said segment events refl refl refl events_are none is ∙ ap (λ (l : List ℕ). flat_map store_gave_in req ++ l) (heard_gave_store heard sends.kind) ∙ append-nil (flat_map store_gave_in req) in
-    let st = whole store_took_in epoch req heard said segment events refl refl refl events_are none is ∙ ap (λ (l : List ℕ). flat_map store_took_in req ++ l) (heard_took_store heard sends.kind) ∙ append-nil (flat_map store_took_in req) in
-    let ct : flat_map client_took_in events ≡ response = whole client_took_in epoch req heard said segment events refl refl refl events_are none is ∙ (λ i. replies_took req replies i ++ sends.took_is i) in
-    let so = owed place password epoch request responses response req replies (subst (λ (l : List ℕ). length l ≤ 10000000) cg within) (subst (λ (l : List ℕ). IsRequest l request) cg form)
-    (subst (λ (l : List ℕ). InboxFetched place.user password (flat_map store_gave_in req) l responses) st (subst (λ (l : List ℕ). InboxFetched place.user password l (flat_map store_took_in events) responses) sg fetched)) in
+    let cg = whole client_gave_in epoch req heard said segment events refl refl refl events_are none is
+    ∙ ap (λ (l : List ℕ). flat_map client_gave_in req ++ l) (heard_gave_client heard sends.kind) ∙ append-nil (flat_map client_gave_in req) in
+    let sg = whole store_gave_in epoch req heard said segment events refl refl refl events_are none is
+    ∙ ap (λ (l : List ℕ). flat_map store_gave_in req ++ l) (heard_gave_store heard sends.kind) ∙ append-nil (flat_map store_gave_in req) in
+    let st = whole store_took_in epoch req heard said segment events refl refl refl events_are none is
+    ∙ ap (λ (l : List ℕ). flat_map store_took_in req ++ l) (heard_took_store heard sends.kind) ∙ append-nil (flat_map store_took_in req) in
+    let ct : flat_map client_took_in events ≡ response = whole client_took_in epoch req heard said segment events refl refl refl events_are none is
+    ∙ (λ i. replies_took req replies i ++ sends.took_is i) in
+    let so = owed place password epoch request responses response req replies (subst (λ (l : List ℕ). length l ≤ 10000000) cg within)
+    (subst (λ (l : List ℕ). IsRequest l request) cg form)
+    (subst (λ (l : List ℕ). InboxFetched place.user password (flat_map store_gave_in req) l responses) st
+    (subst (λ (l : List ℕ). InboxFetched place.user password l (flat_map store_took_in events) responses) sg fetched)) in
     told ct so
   where
-    told : {response : List ℕ} → flat_map client_took_in events ≡ response → Owed place epoch request responses response → Tells events place epoch request responses
+    told : {response : List ℕ} → flat_map client_took_in events ≡ response → Owed place epoch request responses response → IsTold events place epoch request responses
     told ct (inl (messages, mail, text)) = inl (messages, mail, ct ∙ text)
     told ct (inr text) = inr (ct ∙ text)
 
 -- a run in which the front did not fail tells what it owes
-pub completes : {words : List (List ℕ)} {password : List ℕ} {status : ℕ} {events : List Event} → Run words password status events → (status ≡ 6 → ⊥) → Completes words password events
+pub completes : {words : List (List ℕ)} {password : List ℕ} {status : ℕ} {events : List Event} → Run words password status events → (status ≡ 6 → ⊥)
+    → Completes words password events
 completes {events = events} (Refused none a b) well place epoch request responses owes = absurd (none (Once place) owes.task)
-completes {events = events} (Wanting a none) well place epoch request responses owes =
+completes {events = events} (OutOfMemory a none) well place epoch request responses owes =
     absurd (never_fetched (flat_map store_gave_in events) (ap (λ (l : List Event). flat_map store_gave_in l) none) owes.fetched)
 completes {words} {password} {status} {events} (ServedOnce other drawn segment said after served is_task is ends) well place epoch request responses owes =
     let quiet = ends_well (front_faults served) status said well ends in
     let places : place ≡ other = same_place place other (same-task words (Once place) (Once other) owes.task is_task) in
-    let epochs : epoch ≡ drawn = same_word epoch drawn owes.behind (segment ++ said) (sym owes.drawn ∙ is) in
-    subst (λ (e : ℕ). Tells events place e request responses) (sym epochs)
-    (subst (λ (p : Place). Tells events p drawn request responses) (sym places)
+    let epochs : epoch ≡ drawn = same_word epoch drawn owes.later (segment ++ said) (sym owes.drawn ∙ is) in
+    subst (λ (e : ℕ). IsTold events place e request responses) (sym epochs)
+    (subst (λ (p : Place). IsTold events p drawn request responses) (sym places)
     (segment_owed other password drawn request responses segment said events served quiet.0 quiet.1 is owes.within owes.form
     (subst (λ (p : Place). InboxFetched p.user password (flat_map store_gave_in events) (flat_map store_took_in events) responses) places owes.fetched)))
 completes {words} {password} {status} {events} (ShownOne shown said outcome is_task is shows ends) well place epoch request responses owes =

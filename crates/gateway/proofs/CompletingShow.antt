@@ -1,4 +1,4 @@
--- Whoever gives a message to be shown is told its Email object, or memory was wanting.
+-- Whoever gives a message to be shown is told its Email object, or memory ran out.
 use Rattle.std.proofs.Common.{◌≡◌, ◌⊎◌, ◌++◌, ℕ, List, [], ◌∷◌, length, refl, sym, ◌∙◌, ap, subst, append_assoc, inl, inr, Result, Ok, Err}
 use Rattle.std.specs.List.{flat_map}
 use Rattle.std.proofs.lemmas.List.{append-nil}
@@ -13,25 +13,34 @@ use Rattle.gateway.specs.declared.front.Input.{Input}
 use Rattle.gateway.specs.declared.front.Input.TheVariants.{Whole, Cut}
 use Rattle.gateway.specs.Front.{octets_of, Gives}
 use Rattle.gateway.specs.Show.{ShowsObject, Answers, Unread, Sent, Shows, NoneComes, NotAccepted, Came}
-use Rattle.gateway.specs.Run.{Run, Refused, Wanting, ServedOnce, ShownOne, EndsShow}
+use Rattle.gateway.specs.Run.{Run, Refused, OutOfMemory, ServedOnce, ShownOne, EndsShow}
 use Rattle.gateway.specs.Complete.{asked_for, IsGiven, TellsObject, CompletesShow}
 use Rattle.gateway.proofs.Completing.{parts, other_task}
 use Rattle.gateway.proofs.Quiet.{gives_took, gives_gave, heard_gave_client, before_one}
 
 -- all events of a run that showed one client its message
-shown_events : (answered said shown events : List Event) → events ≡ shown ++ said → said ≡ [] → shown ≡ Accepted ∷ (answered ++ ClientDone ∷ []) → events ≡ Accepted ∷ (answered ++ ClientDone ∷ [])
+shown_events : (answered said shown events : List Event) → events ≡ shown ++ said → said ≡ [] → shown ≡ Accepted ∷ (answered ++ ClientDone ∷ [])
+    → events ≡ Accepted ∷ (answered ++ ClientDone ∷ [])
 shown_events answered said shown events is none shown_is = is ∙ (λ i. shown_is i ++ none i) ∙ append-nil (Accepted ∷ (answered ++ ClientDone ∷ []))
 
 -- their octets of a kind
-octets_within : (f : Event → List ℕ) (answered events : List Event) → f Accepted ≡ [] → f ClientDone ≡ [] → events ≡ Accepted ∷ (answered ++ ClientDone ∷ []) → flat_map f events ≡ flat_map f answered
+octets_within : (f : Event → List ℕ) (answered events : List Event) → f Accepted ≡ [] → f ClientDone ≡ [] → events ≡ Accepted ∷ (answered ++ ClientDone ∷ [])
+    → flat_map f events ≡ flat_map f answered
 octets_within f answered events accepted done is =
     ap (λ (l : List Event). flat_map f l) is ∙ ap (λ (l : List ℕ). l ++ flat_map f (answered ++ ClientDone ∷ [])) accepted ∙ before_one f answered ClientDone done
 
 -- the client's input is all that it gave
-is_given : (input : Input) (reads heard events : List Event) → Gives 50000000 (Ok input) reads → events ≡ Accepted ∷ ((reads ++ heard) ++ ClientDone ∷ []) → asked_for events ≡ octets_of input → IsGiven events
+is_given : (input : Input) (reads heard events : List Event) → Gives 50000000 (Ok input) reads → events ≡ Accepted ∷ ((reads ++ heard) ++ ClientDone ∷ [])
+    → asked_for events ≡ octets_of input → IsGiven events
 is_given (Whole octets) reads heard events (asks, is, so, few) events_are gave =
-    let parts_are : ((asks ++ ClientEnded ∷ []) ++ heard) ++ ClientDone ∷ [] ≡ asks ++ ClientEnded ∷ (heard ++ ClientDone ∷ []) = append_assoc (asks ++ ClientEnded ∷ []) heard (ClientDone ∷ []) ∙ append_assoc asks (ClientEnded ∷ []) (heard ++ ClientDone ∷ []) in
-    inl (Accepted ∷ asks, heard ++ ClientDone ∷ [], events_are ∙ ap (λ (l : List Event). Accepted ∷ ((l ++ heard) ++ ClientDone ∷ [])) is ∙ ap (λ (l : List Event). Accepted ∷ l) parts_are)
+    let parts_are : ((asks ++ ClientEnded ∷ []) ++ heard) ++ ClientDone ∷ [] ≡ asks ++ ClientEnded ∷ (heard ++ ClientDone ∷ []) =
+    append_assoc (asks ++ ClientEnded ∷ []) heard (ClientDone ∷ []) ∙ append_assoc asks (ClientEnded ∷ []) (heard ++ ClientDone ∷ []) in
+    inl (
+      Accepted ∷ asks,
+      heard ++ ClientDone ∷ [],
+      events_are ∙ ap (λ (l : List Event). Accepted ∷ ((l ++ heard) ++ ClientDone ∷ [])) is
+          ∙ ap (λ (l : List Event). Accepted ∷ l) parts_are,
+    )
 is_given (Cut octets) reads heard events (so, many) events_are gave = inr (ap length gave ∙ many)
 
 ends_badly : (outcome : Result (Unit {0}) FrontError) (status : ℕ) (said : List Event) → outcome ≡ Err error.Failed → (status ≡ 6 → ⊥) → EndsShow outcome status said → ⊥
@@ -46,17 +55,22 @@ ends_shown outcome status said is ends = let e = subst (λ (r : Result (Unit {0}
 abbrev Told : ℕ → List Event → Type 0
 Told status events = TellsObject events ⊎ ((status ≡ 5) × (flat_map client_took_in events ≡ []))
 
-answers_told : (outcome : Result (Unit {0}) FrontError) (status : ℕ) (answered said shown events : List Event) → Answers outcome answered → (status ≡ 6 → ⊥) → EndsShow outcome status said → events ≡ shown ++ said → shown ≡ Accepted ∷ (answered ++ ClientDone ∷ []) → Told status events
+answers_told : (outcome : Result (Unit {0}) FrontError) (status : ℕ) (answered said shown events : List Event) → Answers outcome answered → (status ≡ 6 → ⊥)
+    → EndsShow outcome status said → events ≡ shown ++ said → shown ≡ Accepted ∷ (answered ++ ClientDone ∷ []) → Told status events
 answers_told outcome status answered said shown events (Unread error.Failed reads is) well ends events_are shown_is = absurd (ends_badly outcome status said is well ends)
 answers_told outcome status answered said shown events (Unread error.Memory (input, gives, other) is) well ends events_are shown_is =
     let wanting = ends_wanting outcome status said is ends in
     let all = shown_events answered said shown events events_are wanting.1 shown_is in
     inr (wanting.0, octets_within client_took_in answered events refl refl all ∙ gives_took 50000000 input answered gives)
-answers_told outcome status answered said shown events (Sent reads heard line (Err e) answered_is so sends is) well ends events_are shown_is = absurd (ends_badly outcome status said is well ends)
+answers_told outcome status answered said shown events (Sent reads heard line (Err e) answered_is so sends is) well ends events_are shown_is =
+    absurd (ends_badly outcome status said is well ends)
 answers_told outcome status answered said shown events (Sent reads heard line (Ok u) answered_is (input, gives, object) sends is) well ends events_are shown_is =
     let all = shown_events answered said shown events events_are (ends_shown outcome status said is ends) shown_is in
-    let gave = octets_within client_gave_in answered events refl refl all ∙ parts client_gave_in answered reads heard (octets_of input) [] answered_is (gives_gave 50000000 input reads gives) (heard_gave_client heard sends.kind) ∙ append-nil (octets_of input) in
-    let took = octets_within client_took_in answered events refl refl all ∙ parts client_took_in answered reads heard [] line answered_is (gives_took 50000000 (Ok input) reads gives) sends.took_is in
+    let gave = octets_within client_gave_in answered events refl refl all
+    ∙ parts client_gave_in answered reads heard (octets_of input) [] answered_is (gives_gave 50000000 input reads gives) (heard_gave_client heard sends.kind)
+    ∙ append-nil (octets_of input) in
+    let took = octets_within client_took_in answered events refl refl all
+    ∙ parts client_took_in answered reads heard [] line answered_is (gives_took 50000000 (Ok input) reads gives) sends.took_is in
     let given = is_given input reads heard events gives (all ∙ ap (λ (l : List Event). Accepted ∷ (l ++ ClientDone ∷ [])) answered_is) gave in
     inl (given, subst (λ (l : List ℕ). ShowsObject l (flat_map client_took_in events)) (sym gave) (subst (λ (l : List ℕ). ShowsObject (octets_of input) l) (sym took) object))
 
@@ -64,13 +78,18 @@ none_came : (behind said shown events : List Event) → events ≡ shown ++ said
 none_came behind said shown events is shown_is came =
     let both : NoMore ∷ said ≡ Accepted ∷ behind = sym (is ∙ ap (λ (l : List Event). l ++ said) shown_is) ∙ came in cc
 
-shows_told : (outcome : Result (Unit {0}) FrontError) (status : ℕ) (behind said shown events : List Event) → Shows outcome shown → (status ≡ 6 → ⊥) → EndsShow outcome status said → events ≡ shown ++ said → events ≡ Accepted ∷ behind → Told status events
+shows_told : (outcome : Result (Unit {0}) FrontError) (status : ℕ) (behind said shown events : List Event) → Shows outcome shown → (status ≡ 6 → ⊥) → EndsShow outcome status said
+    → events ≡ shown ++ said → events ≡ Accepted ∷ behind → Told status events
 shows_told outcome status behind said shown events (NoneComes shown_is is) well ends events_are came = absurd (none_came behind said shown events events_are shown_is came)
 shows_told outcome status behind said shown events (NotAccepted shown_is is) well ends events_are came = absurd (ends_badly outcome status said is well ends)
-shows_told outcome status behind said shown events (Came answered shown_is answers) well ends events_are came = answers_told outcome status answered said shown events answers well ends events_are shown_is
+shows_told outcome status behind said shown events (Came answered shown_is answers) well ends events_are came =
+    answers_told outcome status answered said shown events answers well ends events_are shown_is
 
-pub completes_show : {words : List (List ℕ)} {password : List ℕ} {status : ℕ} {events : List Event} → Run words password status events → (status ≡ 6 → ⊥) → CompletesShow words status events
+pub completes_show : {words : List (List ℕ)} {password : List ℕ} {status : ℕ} {events : List Event} → Run words password status events → (status ≡ 6 → ⊥)
+    → CompletesShow words status events
 completes_show {events = events} (Refused none a b) well task behind came = absurd (none Show task)
-completes_show {events = events} (Wanting is none) well task behind came = inr (is, ap (λ (l : List Event). flat_map client_took_in l) none)
-completes_show {words} (ServedOnce place drawn segment said after served is_task is ends) well task behind came = absurd (other_task place (same-task words (Once place) Show is_task task))
-completes_show {words} {password} {status} {events} (ShownOne shown said outcome is_task is shows ends) well task behind came = shows_told outcome status behind said shown events shows well ends is came
+completes_show {events = events} (OutOfMemory is none) well task behind came = inr (is, ap (λ (l : List Event). flat_map client_took_in l) none)
+completes_show {words} (ServedOnce place drawn segment said after served is_task is ends) well task behind came =
+    absurd (other_task place (same-task words (Once place) Show is_task task))
+completes_show {words} {password} {status} {events} (ShownOne shown said outcome is_task is shows ends) well task behind came =
+    shows_told outcome status behind said shown events shows well ends is came

@@ -3,3 +3,4 @@ mod Serving
 mod Showing
 mod Completing
 mod CompletingShow
+mod Receiving

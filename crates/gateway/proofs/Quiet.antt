@@ -1,5 +1,5 @@
 -- Which octets the events of each part of a run have.
-use Rattle.std.proofs.Common.{◌≡◌, ◌++◌, ℕ, List, [], ◌∷◌, refl, ◌∙◌, ap, All, Result, Ok, Err}
+use Rattle.std.proofs.Common.{◌≡◌, ◌++◌, ℕ, List, [], ◌∷◌, refl, ◌∙◌, ap, inl, inr, All, Result, Ok, Err}
 use Rattle.std.specs.List.{flat_map}
 use Rattle.std.proofs.lemmas.List.{append-nil}
 use Rattle.std.proofs.lemmas.List.Concat.{flat_map-append}
@@ -82,17 +82,22 @@ before_one f es e none = flat_map-append f es (e ∷ []) ∙ ap (λ (l : List �
 
 -- what a client's input has of each kind of octets
 pub gives_took : (most : ℕ) (r : Result Input FrontError) (es : List Event) → Gives most r es → flat_map client_took_in es ≡ []
-gives_took most (Ok (Whole octets)) es (asks, is, so, few) = ap (λ (l : List Event). flat_map client_took_in l) is ∙ before_one client_took_in asks ClientEnded refl ∙ asks_took_client asks so.kind
+gives_took most (Ok (Whole octets)) es (asks, is, so, few) = ap (λ (l : List Event). flat_map client_took_in l) is ∙ before_one client_took_in asks ClientEnded refl
+    ∙ asks_took_client asks so.kind
 gives_took most (Ok (Cut octets)) es (so, many) = asks_took_client es so.kind
-gives_took most (Err error.Failed) es (asks, gave, is, so, few) = ap (λ (l : List Event). flat_map client_took_in l) is ∙ before_one client_took_in asks FrontFailed refl ∙ asks_took_client asks so.kind
-gives_took most (Err error.Memory) es (gave, so, few) = asks_took_client es so.kind
+gives_took most (Err error.Failed) es (asks, gave, is, so, few) = ap (λ (l : List Event). flat_map client_took_in l) is ∙ before_one client_took_in asks FrontFailed refl
+    ∙ asks_took_client asks so.kind
+gives_took most (Err error.Memory) es (asks, gave, so, few, inl is) = ap (λ (l : List Event). flat_map client_took_in l) is ∙ asks_took_client asks so.kind
+gives_took most (Err error.Memory) es (asks, gave, so, few, inr (is, short)) = ap (λ (l : List Event). flat_map client_took_in l) is
+    ∙ before_one client_took_in asks ClientEnded refl ∙ asks_took_client asks so.kind
 
 pub gives_gave : (most : ℕ) (input : Input) (es : List Event) → Gives most (Ok input) es → flat_map client_gave_in es ≡ octets_of input
 gives_gave most (Whole octets) es (asks, is, so, few) = ap (λ (l : List Event). flat_map client_gave_in l) is ∙ before_one client_gave_in asks ClientEnded refl ∙ so.gave_is
 gives_gave most (Cut octets) es (so, many) = so.gave_is
 
 -- a whole segment
-pub segment_octets : (f : Event → List ℕ) (request heard : List Event) → f Accepted ≡ [] → f ClientDone ≡ [] → flat_map f (Accepted ∷ ((request ++ heard) ++ ClientDone ∷ [])) ≡ flat_map f request ++ flat_map f heard
+pub segment_octets : (f : Event → List ℕ) (request heard : List Event) → f Accepted ≡ [] → f ClientDone ≡ []
+    → flat_map f (Accepted ∷ ((request ++ heard) ++ ClientDone ∷ [])) ≡ flat_map f request ++ flat_map f heard
 segment_octets f request heard accepted done =
     ap (λ (l : List ℕ). l ++ flat_map f ((request ++ heard) ++ ClientDone ∷ [])) accepted ∙ before_one f (request ++ heard) ClientDone done ∙ flat_map-append f request heard
 

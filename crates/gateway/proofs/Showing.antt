@@ -14,10 +14,11 @@ use Rattle.gateway.specs.declared.front.FrontError.TheVariants as error
 use Rattle.gate_world.specs.Sending.{Sends}
 use Rattle.gateway.specs.Segment.{line_end}
 use Rattle.gateway.specs.Show.{object_line, ShowsObject, Reads, Answers, Sent, Shows, ShowsClient}
-use Rattle.gateway.specs.Run.{Says, front_failed, RunsShow}
+use Rattle.gateway.specs.Run.{IsSaid, front_failed, RunsShow}
 
 -- the text with its line end shows the object
-pub shows_object : (octets : List ℕ) (o : Data) (text : List ℕ) (line : Result (List ℕ) AllocError) → IsEmailObject octets o → text ≡ compact_text o → IfOk line (λ l. l ≡ text ++ line_end) → IfOk line (λ l. ShowsObject octets l)
+pub shows_object : (octets : List ℕ) (o : Data) (text : List ℕ) (line : Result (List ℕ) AllocError) → IsEmailObject octets o → text ≡ compact_text o
+    → IfOk line (λ l. l ≡ text ++ line_end) → IfOk line (λ l. ShowsObject octets l)
 unfolding object_line
 shows_object octets o text (Ok line) is text_is with_end = (o, is, with_end ∙ ap (λ (t : List ℕ). t ++ line_end) text_is)
 shows_object octets o text (Err e) is text_is with_end = tt
@@ -40,5 +41,5 @@ runs_well {es} shows = (es, [], Ok tt, sym (append-nil es), shows, (refl, refl))
 pub runs_out : {es : List Event} → Shows (Err error.Memory) es → RunsShow 5 es
 runs_out {es} shows = (es, [], Err error.Memory, sym (append-nil es), shows, (refl, refl))
 
-pub runs_badly : {es said : List Event} (status : ℕ) → status ≡ 6 → Shows (Err error.Failed) es → Says front_failed said → RunsShow status (es ++ said)
+pub runs_badly : {es said : List Event} (status : ℕ) → status ≡ 6 → Shows (Err error.Failed) es → IsSaid front_failed said → RunsShow status (es ++ said)
 runs_badly {es} {said} status is shows says = (es, said, Err error.Failed, refl, shows, (is, says))

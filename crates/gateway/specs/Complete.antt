@@ -1,5 +1,5 @@
 -- The answer that a client is owed: where it asks in the form, no part of the outside fails and all three exchanges are
--- answered OK, it is told the counts; or memory was wanting.
+-- answered OK, it is told the counts; or memory ran out.
 use Rattle.std.specs.Prelude.{◌≡◌, ◌⊎◌, ◌≤◌, ◌++◌, ℕ, List, [], ◌∷◌, length}
 use Rattle.std.specs.List.{flat_map}
 use Rattle.gate_world.specs.declared.event.Event.{Event}
@@ -23,31 +23,35 @@ abbrev pub asked_for : List Event → List ℕ
 asked_for events = flat_map client_gave_in events
 
 -- what the client is owed of these events
-pub record Owes (words : List (List ℕ)) (password : List ℕ) (events : List Event) (place : Place) (epoch : ℕ) (request : Request) (responses : List Response) : Type 0 where
+pub record Owes (words : List (List ℕ)) (password : List ℕ) (events : List Event) (place : Place) (epoch : ℕ) (request : Request)
+    (responses : List Response) : Type 0 where
   pub task : IsTask words (Once place)
-  pub behind : List Event
-  pub drawn : events ≡ Word epoch ∷ behind
+  pub later : List Event
+  pub drawn : events ≡ Word epoch ∷ later
   pub within : length (asked_for events) ≤ body_limit
   pub form : IsRequest (asked_for events) request
   pub fetched : InboxFetched place.user password (flat_map store_gave_in events) (flat_map store_took_in events) responses
 
-abbrev pub Tells : List Event → Place → ℕ → Request → List Response → Type 0
-Tells events place epoch request responses =
-    ((messages : List (ℕ × Marks)) × IsMail responses messages × (flat_map client_took_in events ≡ counts_line place.user place.base request messages (first_told epoch messages)))
+abbrev pub IsTold : List Event → Place → ℕ → Request → List Response → Type 0
+IsTold events place epoch request responses =
+    ((messages : List (ℕ × Marks)) × IsMail responses messages
+    × (flat_map client_took_in events ≡ counts_line place.user place.base request messages (first_told epoch messages)))
     ⊎ (flat_map client_took_in events ≡ no_memory_line)
 
 -- whoever is owed the counts is told them
 abbrev pub Completes : List (List ℕ) → List ℕ → List Event → Type 0
-Completes words password events = (place : Place) (epoch : ℕ) (request : Request) (responses : List Response) → Owes words password events place epoch request responses → Tells events place epoch request responses
+Completes words password events = (place : Place) (epoch : ℕ) (request : Request) (responses : List Response)
+    → Owes words password events place epoch request responses → IsTold events place epoch request responses
 
 -- The client's input is all octets that it gave: it ended, or gave as many as a message has at most.
 abbrev pub IsGiven : List Event → Type 0
-IsGiven events = ((before : List Event) × (behind : List Event) × (events ≡ before ++ ClientEnded ∷ behind)) ⊎ (length (asked_for events) ≡ message_limit)
+IsGiven events = ((before : List Event) × (after : List Event) × (events ≡ before ++ ClientEnded ∷ after)) ⊎ (length (asked_for events) ≡ message_limit)
 
 -- it took one line, which shows the Email object of what it gave
 abbrev pub TellsObject : List Event → Type 0
 TellsObject events = IsGiven events × ShowsObject (asked_for events) (flat_map client_took_in events)
 
--- whoever comes with a message to be shown is told its Email object; or memory was wanting, and nothing was sent
+-- whoever comes with a message to be shown is told its Email object; or memory ran out, and nothing was sent
 abbrev pub CompletesShow : List (List ℕ) → ℕ → List Event → Type 0
-CompletesShow words status events = IsTask words Show → (behind : List Event) → events ≡ Accepted ∷ behind → TellsObject events ⊎ ((status ≡ 5) × (flat_map client_took_in events ≡ []))
+CompletesShow words status events = IsTask words Show → (after : List Event) → events ≡ Accepted ∷ after → TellsObject events
+    ⊎ ((status ≡ 5) × (flat_map client_took_in events ≡ []))

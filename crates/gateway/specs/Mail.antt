@@ -16,7 +16,10 @@ has_flag flag flags = list_any (λ name. bytes_eq name flag) flags
 
 -- A message with \Deleted isn't visible. One with neither \Seen nor \Draft is unread (RFC 8621 section 2).
 abbrev pub marks_of : List (List ℕ) → Marks
-marks_of flags = record { is_visible = not (has_flag (codes "\\deleted") flags); is_unread = not (has_flag (codes "\\seen") flags) && not (has_flag (codes "\\draft") flags) }
+marks_of flags = record {
+  is_visible = not (has_flag (codes "\\deleted") flags);
+  is_unread = not (has_flag (codes "\\seen") flags) && not (has_flag (codes "\\draft") flags);
+}
 
 -- the flags that a response tells of a UID
 abbrev pub flags_for : ℕ → Option ℕ → Option (List (List ℕ)) → Option (List (List ℕ))

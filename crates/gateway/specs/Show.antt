@@ -6,6 +6,7 @@ use Rattle.gate_world.specs.declared.event.Event.{Event}
 use Rattle.gate_world.specs.declared.event.Event.TheVariants.{Accepted, NoMore, ClientDone, FrontFailed}
 use Rattle.gate_world.specs.declared.outside.Failed.{Failed}
 use Rattle.email_get.specs.EmailObjects.{IsEmailObject}
+use Rattle.gateway.specs.declared.show.TheConstants.{MAX_MESSAGE_OCTETS}
 use Rattle.gateway.specs.declared.front.FrontError.{FrontError}
 use Rattle.gateway.specs.declared.front.FrontError.TheVariants as front
 use Rattle.gateway.specs.declared.front.Input.{Input}
@@ -15,7 +16,7 @@ use Rattle.gateway.specs.Segment.{line_end}
 
 -- the most octets of a message
 abbrev pub message_limit : ℕ
-message_limit = 50000000
+message_limit = MAX_MESSAGE_OCTETS
 
 -- the object as compact JSON, and a line end
 unfoldable pub object_line : Data → List ℕ
@@ -25,8 +26,8 @@ object_line email = compact_text email ++ line_end
 abbrev pub ShowsObject : List ℕ → List ℕ → Type 0
 ShowsObject octets line = (email : Data) × IsEmailObject octets email × (line ≡ object_line email)
 
--- the message is read and its line made; or the front failed before its end; or memory was wanting while it was read or
--- behind that
+-- the message is read and its line made; or the front failed before its end; or memory ran out while it was read or
+-- after that
 abbrev pub Reads : Result (List ℕ) FrontError → List Event → Type 0
 Reads (Ok line) events = (input : Input) × Gives message_limit (Ok input) events × ShowsObject (octets_of input) line
 Reads (Err front.Failed) events = Gives message_limit (Err front.Failed) events
@@ -37,10 +38,11 @@ abbrev pub over_front : Result (Unit {0}) Failed → Result (Unit {0}) FrontErro
 over_front (Ok _) = Ok tt
 over_front (Err _) = Err front.Failed
 
--- What comes of a message. Where memory is wanting or the front fails before the message's end, nothing is sent.
+-- What comes of a message. Where memory runs out or the front fails before the message's end, nothing is sent.
 pub data Answers (outcome : Result (Unit {0}) FrontError) (events : List Event) : Type 0 where
   Unread : (e : FrontError) → Reads (Err e) events → outcome ≡ Err e → Answers outcome events
-  Sent : (reads heard : List Event) (line : List ℕ) (sent : Result (Unit {0}) Failed) → events ≡ reads ++ heard → Reads (Ok line) reads → Sends line sent heard → outcome ≡ over_front sent → Answers outcome events
+  Sent : (reads heard : List Event) (line : List ℕ) (sent : Result (Unit {0}) Failed) → events ≡ reads ++ heard → Reads (Ok line) reads → Sends line sent heard
+      → outcome ≡ over_front sent → Answers outcome events
 
 -- One client that gives a message, or that there is none.
 pub data Shows (outcome : Result (Unit {0}) FrontError) (events : List Event) : Type 0 where

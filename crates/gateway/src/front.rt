@@ -4,25 +4,23 @@ ghost use Rattle.gate_world.specs.Causes.{Rose, FrontAlone};
 ghost use Rattle.gate_world.specs.Tape.{Adds};
 ghost use Rattle.gateway.specs.Front.{octets_of, Gives, Asked};
 
-use gate_world::{Bytes, Failed, Front};
+use gate_world::{Bytes, Failed, FillError, Front, Unread};
 use std::alloc::{AllocError, Global};
 
 /// The most octets of a request's body.
 const MAX_BODY_OCTETS: usize = 10_000_000;
-
-/// The most octets that one call asks for.
-const PIECE: usize = 8192;
 
 /// What a client gives.
 #[derive(Debug, Drop)]
 pub enum Input {
     /// All of it, up to its end.
     Whole(Bytes),
-    /// As many octets as are wanted. What comes behind them is not read.
+    /// As many octets as are wanted. What comes after them is not read.
     Cut(Bytes),
 }
 
 impl Input {
+    /// What was read, whole or cut.
     pub fn octets(&self) -> &[u8]
         ensures { result.now ≡ octets_of self.now }
     {
@@ -35,7 +33,9 @@ impl Input {
 /// Why a client is given up.
 #[derive(Clone, Copy, Debug, PartialEq, Eq)]
 pub enum FrontError {
+    /// The front failed.
     Failed,
+    /// Out of memory.
     Memory,
 }
 
@@ -47,6 +47,20 @@ impl From<Failed> for FrontError {
 
     fn from(_: Failed) -> FrontError {
         FrontError::Failed
+    }
+}
+
+impl From<FillError> for FrontError {
+    ghost use Rattle.gateway.specs.Front.{of_fill};
+    ghost use Rattle.std.specs.Prelude.{◌≡◌};
+
+    ghost from_gives = { λ f e. e ≡ of_fill f };
+
+    fn from(error: FillError) -> FrontError {
+        match error {
+            FillError::Failed => FrontError::Failed,
+            FillError::Memory => FrontError::Memory,
+        }
     }
 }
 
@@ -64,9 +78,11 @@ impl From<AllocError> for FrontError {
 /// Why there is no request.
 #[derive(Clone, Copy, Debug, PartialEq, Eq)]
 pub enum AskError {
+    /// The front failed.
     Failed,
     /// More octets than a body has at most.
     TooLarge,
+    /// Out of memory.
     Memory,
 }
 
@@ -77,18 +93,14 @@ pub fn receive<F: Front>(alloc: Global, front: &mut F, most: usize) -> Result<In
     ensures cause { IsErrOf result FrontError.Failed → Rose (F.faults front.old).front (F.faults front.new).front }
     ensures hidden { F.hidden front.new ≡ F.hidden front.old }
 {
-    let mut octets = Vec::new(alloc);
-    let mut piece = [0u8; PIECE];
-    'receiving: while octets.len() < most {
-        let room = PIECE.min(most - octets.len());
-        let (part, _) = piece.split_at_mut(room);
-        let count = front.recv(part)?;
-        if count == 0 {
-            return Ok(Input::Whole(Bytes::from_vec(octets)?));
+    let mut octets = Unread::new(alloc);
+    'receiving: while octets.as_slice().len() < most {
+        let missing = most - octets.as_slice().len();
+        if !octets.fill_from_client(front, missing)? {
+            return Ok(Input::Whole(Bytes::from_vec(octets.into_vec())?));
         }
-        octets.extend_from_slice(&part[..count])?;
     }
-    Ok(Input::Cut(Bytes::from_vec(octets)?))
+    Ok(Input::Cut(Bytes::from_vec(octets.into_vec())?))
 }
 
 /// A request's body, which ends with the client's input. No more than one octet past the limit is read.

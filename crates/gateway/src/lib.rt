@@ -6,13 +6,8 @@ mod line;
 mod mail;
 mod program;
 mod request;
-#[cfg(test)]
-mod script_tests;
 mod segment;
 mod show;
-#[cfg(test)]
-mod show_tests;
-#[cfg(test)]
-mod tests;
 
+pub use gate_words::{Place, Task, WordsError, read_words};
 pub use program::run;

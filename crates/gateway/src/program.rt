@@ -5,7 +5,7 @@ ghost use Rattle.gate_world.specs.Tape.{Adds};
 ghost use Rattle.gate_words.specs.Task.{IsTask};
 ghost use Rattle.gate_words.specs.declared.task.Task.{Task};
 ghost use Rattle.gateway.specs.Complete.{Completes, CompletesShow};
-ghost use Rattle.gateway.specs.Run.{IsRun, Performs, RunsOnce, RunsShow, Says, front_failed};
+ghost use Rattle.gateway.specs.Run.{IsRun, Performs, RunsOnce, RunsShow, IsSaid, front_failed};
 
 use crate::front::FrontError;
 use crate::segment::serve_one;
@@ -18,14 +18,14 @@ use std::alloc::Global;
 pub const STATUS_DONE: u8 = 0;
 /// The words are refused.
 pub const STATUS_WORDS: u8 = 2;
-/// Memory was wanting: before a client came, or while its message was shown.
+/// Out of memory: before a client came, or while its message was shown.
 pub const STATUS_MEMORY: u8 = 5;
 /// The front failed.
 pub const STATUS_FRONT: u8 = 6;
 
-// Says that the front failed.
+// IsSaid that the front failed.
 fn end_failed<W: World>(world: &mut W) -> u8
-    ensures said { Adds (W.tape world.old) (W.tape world.new) (Says front_failed) }
+    ensures said { Adds (W.tape world.old) (W.tape world.new) (IsSaid front_failed) }
     ensures status { result ≡ 6 }
     ensures alone { SayAlone (W.faults world.old) (W.faults world.new) }
     ensures hidden { W.hidden world.new ≡ W.hidden world.old }
@@ -90,14 +90,14 @@ pub fn run<W: World>(words: &[String], world: &mut W, watchers: &mut Vec<Box<dyn
         (IsRun (map string_bytes words.now) (W.hidden world.old).password (W.faults world.old).link (W.faults world.new).link result) }
 
     // Whoever asks in the form, while the front does not fail and all exchanges are answered OK, is told the counts; or
-    // memory was wanting.
+    // memory ran out.
     ensures complete { (result ≡ 6 → ⊥) → Adds (W.tape world.old) (W.tape world.new) (Completes (map string_bytes words.now) (W.hidden world.old).password) }
 
     // Whoever gives a message to be shown, while the front does not fail, is sent its Email object and a line end; or memory
     // was wanting, and nothing was sent.
     ensures shown { (result ≡ 6 → ⊥) → Adds (W.tape world.old) (W.tape world.new) (CompletesShow (map string_bytes words.now) result) }
 
-    // When each status comes, in every world. Want of memory in the words comes before their refusal.
+    // When each status comes, in every world. Out of memory in the words comes before their refusal.
     ensures statuses { (result ≡ 0) ⊎ (result ≡ 2) ⊎ (result ≡ 5) ⊎ (result ≡ 6) }
     ensures words { result ≡ 2 → (task : Task) → IsTask (map string_bytes words.now) task → ⊥ }
     ensures refused { ((task : Task) → IsTask (map string_bytes words.now) task → ⊥) → (result ≡ 2) ⊎ (result ≡ 5) }

@@ -5,7 +5,7 @@ ghost use Rattle.gate_world.specs.Tape.{Adds};
 ghost use Rattle.imap_client.specs.declared.link_end.LinkEnd.TheVariants.{Memory};
 ghost use Rattle.gateway.specs.Machine.{opened};
 ghost use Rattle.gateway.specs.Run.{account_of};
-ghost use Rattle.gateway.specs.Segment.{not_request_line, unavailable_line, Tells, Responds, AnswersBody, AnswersRequest};
+ghost use Rattle.gateway.specs.Segment.{not_request_line, unavailable_line, TellsFirst, Responds, AnswersBody, AnswersRequest};
 
 use crate::front::{AskError, ask};
 use crate::line::with_line_end;
@@ -27,7 +27,7 @@ const FIRST_PLACE: u64 = 1;
 pub enum Reply {
     /// A response and its line end.
     Line(Bytes),
-    /// Want of memory: a line of no octet.
+    /// Out of memory: a line of no octet.
     NoMemory,
     /// The front failed before the request's end.
     Nothing,
@@ -54,7 +54,7 @@ fn counts_line(
     request: &Request,
     responses: &[Response],
 ) -> Result<Bytes, AllocError>
-    ensures { IfOk result (λ line. Tells place.now.user place.now.base epoch request.now responses.now line) }
+    ensures { IfOk result (λ line. TellsFirst place.now.user place.now.base epoch request.now responses.now line) }
 {
     let mail = mail_of(alloc, responses)?;
     let state = State {

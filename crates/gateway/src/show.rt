@@ -56,7 +56,7 @@ fn show_client<F: Front>(alloc: Global, front: &mut F) -> Result<(), FrontError>
     answered
 }
 
-/// Shows one client its message as an Email object, where one comes. Want of memory, or a front that fails before the
+/// Shows one client its message as an Email object, where one comes. Out of memory, or a front that fails before the
 /// message's end, sends nothing.
 pub fn show_one<F: Front>(alloc: Global, front: &mut F) -> Result<(), FrontError>
     ensures tape { Adds (F.tape front.old) (F.tape front.new) (Shows result) }

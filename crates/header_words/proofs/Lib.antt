@@ -7,3 +7,4 @@ pub mod PrintableLemmas
 pub mod WrittenBase64
 pub mod WordListLemmas
 pub mod WrittenWords
+pub mod TransferLens

@@ -1,5 +1,6 @@
 -- Pieces of quoted-printable are read as they are spelled.
-use Rattle.std.proofs.Common.{◌≡◌, ◌≢◌, ℕ, zero, suc, ◌+◌, ◌<◌, Bool, true, false, ◌||◌, List, [], ◌∷◌, ◌++◌, length, drop, cond, refl, sym, ap, ◌∙◌, subst, append_assoc, Option, Some, None, eqb, eqb-true, arith}
+use Rattle.std.proofs.Common.{◌≡◌, ◌≢◌, ℕ, zero, suc, ◌+◌, ◌<◌, ◌≤◌, Bool, true, false, ◌||◌, List, [], ◌∷◌, ◌++◌, length, drop, cond, refl, sym, ap, ◌∙◌, subst, append_assoc}
+use Rattle.std.proofs.Common.{Option, Some, None, eqb, eqb-true, arith}
 use Rattle.std.specs.List.{flat_map, list_any}
 use Rattle.std.proofs.lemmas.Bool.{cond-true, cond-false, eqb-false, ne_eqb}
 use Rattle.std.proofs.lemmas.Grind.{flat_map-append}
@@ -12,11 +13,12 @@ use Rattle.text_words.specs.Sequence.{UnitAt}
 use Rattle.text_words.proofs.CutLemmas.{front_back, front_each, back_stops, front_is, back_is, drop_front}
 use Rattle.text_words.proofs.LineEndLemmas.{end_len, end_some, end_found}
 use Rattle.text_words.proofs.SequenceLemmas.{IsReader, Behind, begins, unit_within, read_more, all_done, unit_same, one_reading, determined}
-use Rattle.header_words.specs.QuotedPrintable.{Piece, right, IsSoft, BeginsWithHex, BeginsWithSoft, ends_line, IsPiece, Hex, SoftBreak, WrongSign, Trailing, Blanks, Itself, IsPrintable}
+use Rattle.header_words.specs.QuotedPrintable.{Piece, right, IsSoft, BeginsWithHex, BeginsWithSoft, ends_line, IsPiece, Hex, SoftBreak, WrongSign, Trailing, Blanks, Itself}
+use Rattle.header_words.specs.QuotedPrintable.{IsPrintable}
 use Rattle.header_words.specs.Transfer.{IsBody}
 use Rattle.header_words.specs.declared.transfer.Encoding.{Encoding}
 use Rattle.header_words.specs.declared.transfer.Encoding.TheVariants as encoding
-use Rattle.header_words.specs.Reading.{hex_pair, hex_in, break_of, sign_of, blanks_of, piece_in, Pushes}
+use Rattle.header_words.specs.reading.Units.{hex_pair, hex_in, break_of, sign_of, blanks_of, piece_in, IsRead, HasPrintableLen}
 use Rattle.header_words.proofs.QuotedLemmas.{hex_sound, hex_complete}
 
 -- ---- ends of lines
@@ -120,7 +122,8 @@ sign_sound v n t e = by_hex (hex_in t) refl e
           unit = 61 ∷ [];
           rest = t;
           whole = refl;
-          is = WrongSign t (λ b. let f = ap hex_in b.whole ∙ hex_complete b.high b.low b.left b.right_digit b.rest b.high_is b.low_is in absurd cc) (λ b. no_soft b.break b.rest b.whole b.soft);
+          is = WrongSign t (λ b. let f = ap hex_in b.whole ∙ hex_complete b.high b.low b.left b.right_digit b.rest b.high_is b.low_is in absurd cc)
+              (λ b. no_soft b.break b.rest b.whole b.soft);
           counted = refl;
         })
       where
@@ -146,7 +149,13 @@ sign_sound v n t e = by_hex (hex_in t) refl e
     by_hex (Some c) h e =
         let x = hex_sound c t h in
         let P : ℕ → Type 0 = λ y. IsPiece (right (y ∷ [])) (61 ∷ x.high ∷ x.low ∷ []) x.rest in
-        unit_same IsPiece _ v 3 n (61 ∷ t) e (record { unit = 61 ∷ x.high ∷ x.low ∷ []; rest = x.rest; whole = ap (λ (u : List ℕ). 61 ∷ u) x.whole; is = subst P (sym x.value) (Hex x.high x.low x.left x.right x.rest x.high_is x.low_is); counted = refl })
+        unit_same IsPiece _ v 3 n (61 ∷ t) e (record {
+          unit = 61 ∷ x.high ∷ x.low ∷ [];
+          rest = x.rest;
+          whole = ap (λ (u : List ℕ). 61 ∷ u) x.whole;
+          is = subst P (sym x.value) (Hex x.high x.low x.left x.right x.rest x.high_is x.low_is);
+          counted = refl;
+        })
     by_hex None h e = by_break (line_end_len (back is_blank t)) h refl e
 
 blanks_sound : (v : Piece) (n c : ℕ) (t : List ℕ) → is_blank c ≡ true → blanks_of (front is_blank (c ∷ t)) (back is_blank (c ∷ t)) ≡ Some (v, n) → UnitAt IsPiece v n (c ∷ t)
@@ -156,16 +165,26 @@ blanks_sound v n c t b e = by (ends_line (back is_blank (c ∷ t))) refl e
     run : IsRun is_blank (front is_blank (c ∷ t))
     run = (front_each is_blank (c ∷ t), λ h. let k = cond-true (is_blank c) (c ∷ front is_blank t) [] b in absurd cc)
 
-    by : (q : Bool) → ends_line (back is_blank (c ∷ t)) ≡ q → cond {A = Option (Piece × ℕ)} q (Some (right [], length (front is_blank (c ∷ t)))) (Some (right (front is_blank (c ∷ t)), length (front is_blank (c ∷ t)))) ≡ Some (v, n) → UnitAt IsPiece v n (c ∷ t)
-    by true h e = unit_same IsPiece _ v _ n (c ∷ t) e (record { unit = front is_blank (c ∷ t); rest = back is_blank (c ∷ t); whole = front_back is_blank (c ∷ t); is = Trailing _ _ run h; counted = refl })
-    by false h e = unit_same IsPiece _ v _ n (c ∷ t) e (record { unit = front is_blank (c ∷ t); rest = back is_blank (c ∷ t); whole = front_back is_blank (c ∷ t); is = Blanks _ _ run (back_stops is_blank (c ∷ t)) h; counted = refl })
+    by : (q : Bool) → ends_line (back is_blank (c ∷ t)) ≡ q
+        → cond {A = Option (Piece × ℕ)} q (Some (right [], length (front is_blank (c ∷ t)))) (Some (right (front is_blank (c ∷ t)), length (front is_blank (c ∷ t)))) ≡ Some
+        (v, n) → UnitAt IsPiece v n (c ∷ t)
+    by true h e = unit_same IsPiece _ v _ n (c ∷ t) e
+        (record { unit = front is_blank (c ∷ t); rest = back is_blank (c ∷ t); whole = front_back is_blank (c ∷ t); is = Trailing _ _ run h; counted = refl })
+    by false h e = unit_same IsPiece _ v _ n (c ∷ t) e (record {
+      unit = front is_blank (c ∷ t);
+      rest = back is_blank (c ∷ t);
+      whole = front_back is_blank (c ∷ t);
+      is = Blanks _ _ run (back_stops is_blank (c ∷ t)) h;
+      counted = refl;
+    })
 
 sound : (v : Piece) (n : ℕ) (t : List ℕ) → piece_in t ≡ Some (v, n) → UnitAt IsPiece v n t
 unfolding piece_in
 sound v n [] e = absurd cc
 sound v n (c ∷ t) e = by (eqb c 61) (is_blank c) refl refl e
   where
-    by : (p q : Bool) → eqb c 61 ≡ p → is_blank c ≡ q → cond p (sign_of (hex_in t) t) (cond q (blanks_of (front is_blank (c ∷ t)) (back is_blank (c ∷ t))) (Some (right (c ∷ []), 1))) ≡ Some (v, n) → UnitAt IsPiece v n (c ∷ t)
+    by : (p q : Bool) → eqb c 61 ≡ p → is_blank c ≡ q
+        → cond p (sign_of (hex_in t) t) (cond q (blanks_of (front is_blank (c ∷ t)) (back is_blank (c ∷ t))) (Some (right (c ∷ []), 1))) ≡ Some (v, n) → UnitAt IsPiece v n (c ∷ t)
     by true q h k e = let P : ℕ → Type 0 = λ y. UnitAt IsPiece v n (y ∷ t) in subst P (sym (eqb-true c 61 h)) (sign_sound v n t e)
     by false true h k e = blanks_sound v n c t k e
     by false false h k e = unit_same IsPiece _ v 1 n (c ∷ t) e (record { unit = c ∷ []; rest = t; whole = refl; is = Itself c t (eqb-false c 61 h) k; counted = refl })
@@ -195,51 +214,56 @@ or_false : (p : Bool) → (p || false) ≡ p
 or_false true = refl
 or_false false = refl
 
-pub written_more : (octets octets' rest rest' t : List ℕ) (problem wrong problem' : Bool) → Written octets problem rest t → Pushes (piece_in rest) rest rest' octets octets' wrong → problem' ≡ (problem || wrong) → Written octets' problem' rest' t
-written_more octets octets' rest rest' t problem wrong problem' w p e =
-    let more = read_more piece_in piece_reader w.pieces p.piece p.len rest t w.behind p.read_is in
+pub written_more : (octets octets' more rest rest' t : List ℕ) (problem wrong problem' : Bool) → Written octets problem rest t → IsRead (piece_in rest) rest rest' more wrong
+    → octets' ≡ octets ++ more → problem' ≡ (problem || wrong) → Written octets' problem' rest' t
+written_more octets octets' more rest rest' t problem wrong problem' w p f e =
+    let next = read_more piece_in piece_reader w.pieces p.piece p.len rest t w.behind p.read_is in
     record {
       pieces = w.pieces ++ p.piece ∷ [];
-      behind = subst (λ (u : List ℕ). Behind IsPiece (w.pieces ++ p.piece ∷ []) u t) (sym p.rest_is) more;
-      spelled = p.pushed ∙ ap (λ (u : List ℕ). u ++ p.piece.octets) w.spelled ∙ ap (λ (u : List ℕ). flat_map octets_of w.pieces ++ u) (sym (append-nil p.piece.octets)) ∙ sym (flat_map-append octets_of w.pieces (p.piece ∷ []));
-      wrong = e ∙ ap (λ (q : Bool). q || wrong) w.wrong ∙ ap (λ (q : Bool). list_any is_wrong w.pieces || q) (p.wrong_is ∙ sym (or_false p.piece.wrong)) ∙ sym (list_any-append is_wrong w.pieces (p.piece ∷ []));
+      behind = subst (λ (u : List ℕ). Behind IsPiece (w.pieces ++ p.piece ∷ []) u t) (sym p.rest_is) next;
+      spelled = f ∙ ap (λ (u : List ℕ). octets ++ u) p.octets_are ∙ ap (λ (u : List ℕ). u ++ p.piece.octets) w.spelled
+          ∙ ap (λ (u : List ℕ). flat_map octets_of w.pieces ++ u) (sym (append-nil p.piece.octets)) ∙ sym (flat_map-append octets_of w.pieces (p.piece ∷ []));
+      wrong = e ∙ ap (λ (q : Bool). q || wrong) w.wrong ∙ ap (λ (q : Bool). list_any is_wrong w.pieces || q) (p.wrong_is ∙ sym (or_false p.piece.wrong))
+          ∙ sym (list_any-append is_wrong w.pieces (p.piece ∷ []));
     }
 
 pub written_all : (octets rest t : List ℕ) (problem : Bool) → Written octets problem rest t → rest ≡ [] → IsPrintable octets problem t
 written_all octets rest t problem w e = record { pieces = w.pieces; are = all_done w.pieces rest t w.behind e; spelled = w.spelled; wrong = w.wrong }
 
 -- what was read is some of the text
-pub shorter : (rest rest' old new : List ℕ) (wrong : Bool) → Pushes (piece_in rest) rest rest' old new wrong → length rest' < length rest
-shorter rest rest' old new wrong p =
+pub shorter : (rest rest' more : List ℕ) (wrong : Bool) → IsRead (piece_in rest) rest rest' more wrong → length rest' < length rest
+shorter rest rest' more wrong p =
     let w = unit_within piece_in piece_reader p.piece p.len rest p.read_is in
     omega (arith, w.some, w.within, ap length p.rest_is, length-drop p.len rest)
 
--- blanks were written, or dropped at the end of a line
-pub dropped_blanks : (t rest old : List ℕ) → rest ≡ back is_blank t → ends_line rest ≡ true → Pushes (blanks_of (front is_blank t) (back is_blank t)) t rest old old false
-dropped_blanks t rest old e h = record {
+-- blanks stand for themselves, or are dropped at the end of a line
+pub dropped_blanks : (t rest none : List ℕ) → rest ≡ back is_blank t → none ≡ [] → ends_line rest ≡ true → IsRead (blanks_of (front is_blank t) (back is_blank t)) t rest none false
+dropped_blanks t rest none e z h = record {
   piece = right [];
   len = length (front is_blank t);
   read_is = cond-true (ends_line (back is_blank t)) _ _ (sym (ap ends_line e) ∙ h);
   rest_is = e ∙ sym (drop_front is_blank t);
   wrong_is = refl;
-  pushed = sym (append-nil old);
+  octets_are = z;
 }
 
-pub kept_blanks : (t blanks rest old new : List ℕ) → blanks ≡ front is_blank t → rest ≡ back is_blank t → ends_line rest ≡ false → new ≡ old ++ blanks → Pushes (blanks_of (front is_blank t) (back is_blank t)) t rest old new false
-kept_blanks t blanks rest old new f e h p = record {
+pub kept_blanks : (t blanks rest : List ℕ) → blanks ≡ front is_blank t → rest ≡ back is_blank t → ends_line rest ≡ false
+    → IsRead (blanks_of (front is_blank t) (back is_blank t)) t rest blanks false
+kept_blanks t blanks rest f e h = record {
   piece = right (front is_blank t);
   len = length (front is_blank t);
   read_is = cond-false (ends_line (back is_blank t)) _ _ (sym (ap ends_line e) ∙ h);
   rest_is = e ∙ sym (drop_front is_blank t);
   wrong_is = refl;
-  pushed = p ∙ ap (λ (u : List ℕ). old ++ u) f;
+  octets_are = f;
 }
 
--- a soft break was dropped
-pub dropped_break : (t rest behind old : List ℕ) (n : ℕ) → rest ≡ back is_blank t → n ≡ line_end_len rest → n ≢ 0 → behind ≡ drop n rest → Pushes (break_of (length (front is_blank t)) (line_end_len (back is_blank t))) (61 ∷ t) behind old old false
-dropped_break t rest behind old n e l k b = by n refl
+-- a soft break stands for nothing
+pub dropped_break : (t rest behind none : List ℕ) (n : ℕ) → rest ≡ back is_blank t → none ≡ [] → n ≡ line_end_len rest → n ≢ 0 → behind ≡ drop n rest
+    → IsRead (break_of (length (front is_blank t)) (line_end_len (back is_blank t))) (61 ∷ t) behind none false
+dropped_break t rest behind none n e z l k b = by n refl
   where
-    by : (m : ℕ) → n ≡ m → Pushes (break_of (length (front is_blank t)) (line_end_len (back is_blank t))) (61 ∷ t) behind old old false
+    by : (m : ℕ) → n ≡ m → IsRead (break_of (length (front is_blank t)) (line_end_len (back is_blank t))) (61 ∷ t) behind none false
     by zero h = absurd (k h)
     by (suc m) h = record {
       piece = right [];
@@ -247,11 +271,60 @@ dropped_break t rest behind old n e l k b = by n refl
       read_is = ap (break_of (length (front is_blank t))) (sym (ap line_end_len e) ∙ sym l ∙ h);
       rest_is = b ∙ ap (drop n) (e ∙ sym (drop_front is_blank t)) ∙ drop-drop n (length (front is_blank t)) t ∙ ap (λ (i : ℕ). drop i (61 ∷ t)) same;
       wrong_is = refl;
-      pushed = sym (append-nil old);
+      octets_are = z;
     }
       where
         same : suc (length (front is_blank t) + n) ≡ 1 + length (front is_blank t) + suc m
         same = omega (arith, h)
+
+-- an "=" that begins nothing stands for itself
+pub kept_sign : (t rest behind sign : List ℕ) (n : ℕ) → rest ≡ back is_blank t → n ≡ line_end_len rest → n ≡ 0 → sign ≡ 61 ∷ [] → behind ≡ t
+    → IsRead (break_of (length (front is_blank t)) (line_end_len (back is_blank t))) (61 ∷ t) behind sign true
+kept_sign t rest behind sign n e l z s b = record {
+  piece = record { octets = 61 ∷ []; wrong = true };
+  len = 1;
+  read_is = ap (break_of (length (front is_blank t))) (sym (ap line_end_len e) ∙ sym l ∙ z);
+  rest_is = b;
+  wrong_is = refl;
+  octets_are = s;
+}
+
+-- a piece stands for no more octets than it has
+piece_fits : (v : Piece) (x s : List ℕ) → IsPiece v x s → length v.octets ≤ length x
+piece_fits _ _ _ (Hex h l a b s p q) = omega arith
+piece_fits _ _ _ (SoftBreak break s h) = omega arith
+piece_fits _ _ _ (WrongSign s n m) = omega arith
+piece_fits _ _ _ (Trailing b s r e) = omega arith
+piece_fits _ _ _ (Blanks b s r k e) = omega arith
+piece_fits _ _ _ (Itself c s n k) = omega arith
+
+pub read_fits : (rest rest' more : List ℕ) (wrong : Bool) → IsRead (piece_in rest) rest rest' more wrong → length more + length rest' ≤ length rest
+read_fits rest rest' more wrong p =
+    let u = sound p.piece p.len rest p.read_is in
+    let w = unit_within piece_in piece_reader p.piece p.len rest p.read_is in
+    omega (arith, piece_fits p.piece u.unit u.rest u.is, u.counted, w.within, ap length p.octets_are, ap length p.rest_is, length-drop p.len rest)
+
+-- n octets were read, and rest is left
+pub record Counted (n : ℕ) (rest t : List ℕ) : Type 0 where
+  pub octets : List ℕ
+  pub problem : Bool
+  pub written : Written octets problem rest t
+  pub counted : n ≡ length octets
+
+pub none_counted : (t : List ℕ) → Counted 0 t t
+none_counted t = record { octets = []; problem = false; written = nothing_written t; counted = refl }
+
+pub counted_more : (n k : ℕ) (more rest rest' t : List ℕ) (wrong : Bool) → Counted n rest t → IsRead (piece_in rest) rest rest' more wrong → k ≡ length more
+    → Counted (n + k) rest' t
+counted_more n k more rest rest' t wrong h p e = record {
+  octets = h.octets ++ more;
+  problem = h.problem || wrong;
+  written = written_more h.octets (h.octets ++ more) more rest rest' t h.problem wrong (h.problem || wrong) h.written p refl refl;
+  counted = omega (arith, h.counted, e, length-append h.octets more);
+}
+
+pub counted_all : (n : ℕ) (rest t : List ℕ) → Counted n rest t → rest ≡ [] → HasPrintableLen n t
+counted_all n rest t h e = record { octets = h.octets; problem = h.problem; is = written_all h.octets rest t h.problem h.written e; counted = h.counted }
 
 -- a text spells one list of octets
 pub one_printable : (s t b : List ℕ) (p q : Bool) → IsPrintable s p b → IsPrintable t q b → (s ≡ t) × (p ≡ q)

@@ -5,7 +5,7 @@ use Rattle.text_words.specs.Octets.{hex_value}
 use Rattle.text_words.specs.Sequence.{UnitAt}
 use Rattle.text_words.proofs.SequenceLemmas.{IsReader, same_pair}
 use Rattle.header_words.specs.QuotedText.{IsQUnit, Space, Hex, Itself}
-use Rattle.header_words.specs.Reading.{hex_pair, hex_in, escape_of, q_unit_in}
+use Rattle.header_words.specs.reading.Units.{hex_pair, hex_in, escape_of, q_unit_in}
 
 -- two digits at the front, and the octet that they spell
 pub record HexAt (c : ℕ) (t : List ℕ) : Type 0 where
@@ -60,7 +60,13 @@ escape_sound v n t e = by (hex_in t) refl e
         let h = hex_sound c t p in
         let P : ℕ → Type 0 = λ y. IsQUnit y (61 ∷ h.high ∷ h.low ∷ []) h.rest in
         unit_is c v 3 n (61 ∷ t) e
-        (record { unit = 61 ∷ h.high ∷ h.low ∷ []; rest = h.rest; whole = ap (λ (u : List ℕ). 61 ∷ u) h.whole; is = subst P (sym h.value) (Hex h.high h.low h.left h.right h.rest h.high_is h.low_is); counted = refl })
+        (record {
+          unit = 61 ∷ h.high ∷ h.low ∷ [];
+          rest = h.rest;
+          whole = ap (λ (u : List ℕ). 61 ∷ u) h.whole;
+          is = subst P (sym h.value) (Hex h.high h.low h.left h.right h.rest h.high_is h.low_is);
+          counted = refl;
+        })
 
 sound : (v n : ℕ) (t : List ℕ) → q_unit_in t ≡ Some (v, n) → UnitAt IsQUnit v n t
 unfolding q_unit_in

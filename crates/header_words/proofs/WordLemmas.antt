@@ -5,8 +5,9 @@ use Rattle.std.proofs.lemmas.Bool.{cases_lt}
 use Rattle.text_words.specs.Sequence.{UnitAt}
 use Rattle.text_words.proofs.SequenceLemmas.{determined, one_reading}
 use Rattle.header_words.specs.Charsets.{text_in, charset_of}
-use Rattle.header_words.specs.EncodedWords.{is_b, is_q, is_edge, Spells, InBase64, InQ, IsEncodedWord, ends_at_edge, NoneBefore, HasNone, IsFirst, kept, IsText, Plain, Worded, charset_name}
-use Rattle.header_words.specs.Reading.{q_unit_in, IsWordBefore, FoundAt}
+use Rattle.header_words.specs.EncodedWords.{is_b, is_q, is_edge, Spells, InBase64, InQ, IsEncodedWord, ends_at_edge, NoneBefore, HasNone, IsFirst, kept, IsText, Plain, Worded}
+use Rattle.header_words.specs.EncodedWords.{charset_name}
+use Rattle.header_words.specs.reading.Units.{q_unit_in, IsWordBefore, FoundAt}
 use Rattle.header_words.proofs.QuotedLemmas.{q_reader}
 use Rattle.header_words.proofs.Base64Lemmas.{one_base64}
 use Rattle.header_words.proofs.ShapeLemmas.{one_shape, shape_before}
@@ -35,12 +36,14 @@ one_word r s w v b c e i j =
     let spelled = subst (λ (u : List ℕ). Spells i.letter j.octets u) (sym o.text) (subst (λ (l : ℕ). Spells l j.octets j.text) (sym o.letter) j.spelled) in
     let octets = one_spelling i.letter i.octets j.octets i.text i.spelled spelled in
     record {
-      reading = i.said ∙ ap (λ (u : List ℕ). text_in (charset_of (charset_name i.charset)) u) octets ∙ ap (λ (u : List ℕ). text_in (charset_of (charset_name u)) j.octets) o.charset ∙ sym j.said;
+      reading = i.said ∙ ap (λ (u : List ℕ). text_in (charset_of (charset_name i.charset)) u) octets
+          ∙ ap (λ (u : List ℕ). text_in (charset_of (charset_name u)) j.octets) o.charset ∙ sym j.said;
       word = i.shape.whole ∙ same o.charset o.letter o.text ∙ sym j.shape.whole;
       behind = o.behind;
     }
   where
-    same : i.charset ≡ j.charset → i.letter ≡ j.letter → i.text ≡ j.text → 61 ∷ 63 ∷ (i.charset ++ 63 ∷ i.letter ∷ 63 ∷ (i.text ++ 63 ∷ 61 ∷ [])) ≡ 61 ∷ 63 ∷ (j.charset ++ 63 ∷ j.letter ∷ 63 ∷ (j.text ++ 63 ∷ 61 ∷ []))
+    same : i.charset ≡ j.charset → i.letter ≡ j.letter → i.text ≡ j.text
+        → 61 ∷ 63 ∷ (i.charset ++ 63 ∷ i.letter ∷ 63 ∷ (i.text ++ 63 ∷ 61 ∷ [])) ≡ 61 ∷ 63 ∷ (j.charset ++ 63 ∷ j.letter ∷ 63 ∷ (j.text ++ 63 ∷ 61 ∷ []))
     same p q r =
         ap (λ (u : List ℕ). 61 ∷ 63 ∷ (u ++ 63 ∷ i.letter ∷ 63 ∷ (i.text ++ 63 ∷ 61 ∷ []))) p
         ∙ ap (λ (u : ℕ). 61 ∷ 63 ∷ (j.charset ++ 63 ∷ u ∷ 63 ∷ (i.text ++ 63 ∷ 61 ∷ []))) q
@@ -59,10 +62,12 @@ pub same_length : (x y s t : List ℕ) → x ++ s ≡ y ++ t → length x ≡ le
 same_length x y s t e n = sym (take_at x s (length x) refl) ∙ ap (take (length x)) e ∙ take_at y t (length x) (sym n)
 
 -- where none stands at i either, none stands before i + 1
-pub none_more : (t : List ℕ) (i : ℕ) (edge : Bool) → i < length t → edge ≡ ends_at_edge true (take i t) → NoneBefore i t → ((reading word behind : List ℕ) → drop i t ≡ word ++ behind → edge ≡ true → IsWordBefore reading word behind → ⊥) → NoneBefore (i + 1) t
+pub none_more : (t : List ℕ) (i : ℕ) (edge : Bool) → i < length t → edge ≡ ends_at_edge true (take i t) → NoneBefore i t
+    → ((reading word behind : List ℕ) → drop i t ≡ word ++ behind → edge ≡ true → IsWordBefore reading word behind → ⊥) → NoneBefore (i + 1) t
 none_more t i edge lt g n here = λ reading before word behind e s. by reading word behind before e s.edge_before (s.word, s.edge_behind) (n reading before word behind e s)
   where
-    by : (reading word behind before : List ℕ) → t ≡ before ++ (word ++ behind) → ends_at_edge true before ≡ true → IsWordBefore reading word behind → i ≤ length before → i + 1 ≤ length before
+    by : (reading word behind before : List ℕ) → t ≡ before ++ (word ++ behind) → ends_at_edge true before ≡ true → IsWordBefore reading word behind → i ≤ length before
+        → i + 1 ≤ length before
     by reading word behind before e edge_is w le = elim (cases_lt i (length before)) [
       | inl h ↦ omega arith
       | inr h ↦
@@ -87,7 +92,8 @@ none_at_all t i le n = λ reading before word behind e s.
     omega (arith, ap length e, length-append before (word ++ behind), length-append word behind)
 
 -- the word that is read at i is the first
-pub found : (t reading : List ℕ) (i n : ℕ) (edge : Bool) → i < length t → edge ≡ ends_at_edge true (take i t) → NoneBefore i t → edge ≡ true → UnitAt IsWordBefore reading n (drop i t) → FoundAt reading i (i + n) t
+pub found : (t reading : List ℕ) (i n : ℕ) (edge : Bool) → i < length t → edge ≡ ends_at_edge true (take i t) → NoneBefore i t → edge ≡ true
+    → UnitAt IsWordBefore reading n (drop i t) → FoundAt reading i (i + n) t
 found t reading i n edge lt g none o u =
     let len : length (take i t) ≡ i = omega (arith, length-take i t) in
     record {
@@ -126,7 +132,7 @@ one_text after value _ _ (Worded _ r b w x u _ g h) (Worded _ s c v y z _ k l) =
     ∙ ap (λ (a : List ℕ). kept after c ++ (a ++ u)) q.1.reading
     ∙ ap (λ (a : List ℕ). kept after c ++ (s ++ a)) tail
 
--- what the rest reads as goes behind what was written
+-- what the rest reads as goes after what was written
 pub record Goes (behind_word : Bool) (rest done value : List ℕ) : Type 0 where
   pub goes : (t : List ℕ) → IsText behind_word rest t → IsText false value (done ++ t)
 
@@ -134,11 +140,13 @@ pub starts : (value : List ℕ) → Goes false value [] value
 starts value = record { goes = λ t h. h }
 
 -- one word more
-pub goes_on : (after : Bool) (rest done value reading : List ℕ) (start end : ℕ) (done' : List ℕ) → Goes after rest done value → FoundAt reading start end rest → done' ≡ (done ++ kept after (take start rest)) ++ reading → Goes true (drop end rest) done' value
+pub goes_on : (after : Bool) (rest done value reading : List ℕ) (start end : ℕ) (done' : List ℕ) → Goes after rest done value → FoundAt reading start end rest
+    → done' ≡ (done ++ kept after (take start rest)) ++ reading → Goes true (drop end rest) done' value
 goes_on after rest done value reading start end done' g f e = record {
   goes = λ t h.
       let front : take start rest ≡ f.before = ap (take start) f.first.whole ∙ take_at f.before (f.word ++ f.behind) start (sym f.start_is) in
-      let back : drop end rest ≡ f.behind = ap (drop end) (f.first.whole ∙ sym (append_assoc f.before f.word f.behind)) ∙ drop_at (f.before ++ f.word) f.behind end (omega (arith, f.end_is, length-append f.before f.word)) in
+      let back : drop end rest ≡ f.behind = ap (drop end) (f.first.whole ∙ sym (append_assoc f.before f.word f.behind))
+      ∙ drop_at (f.before ++ f.word) f.behind end (omega (arith, f.end_is, length-append f.before f.word)) in
       let inner = Worded after reading f.before f.word f.behind t rest f.first (subst (λ (u : List ℕ). IsText true u t) back h) in
       subst (λ (u : List ℕ). IsText false value u)
       (sym (ap (λ (u : List ℕ). u ++ t) (e ∙ ap (λ (u : List ℕ). (done ++ kept after u) ++ reading) front)

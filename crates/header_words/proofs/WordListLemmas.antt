@@ -1,5 +1,6 @@
 -- Where a text is cut into words, and what its words are.
-use Rattle.std.proofs.Common.{◌≡◌, ◌≢◌, ℕ, ◌+◌, ◌<◌, ◌≤◌, eqb, eqb-true, Bool, true, false, ◌&&◌, List, [], ◌∷◌, ◌++◌, length, take, drop, codes, IsUtf8, IsCharBoundary, replicate, refl, sym, ap, ◌∙◌, subst, arith, inl, inr, flat_map}
+use Rattle.std.proofs.Common.{◌≡◌, ◌≢◌, ℕ, ◌+◌, ◌<◌, ◌≤◌, eqb, eqb-true, Bool, true, false, ◌&&◌, List, [], ◌∷◌, ◌++◌, length, take, drop, codes, IsUtf8, IsCharBoundary, replicate}
+use Rattle.std.proofs.Common.{refl, sym, ap, ◌∙◌, subst, arith, inl, inr, flat_map}
 use Rattle.std.proofs.lemmas.List.{append_assoc, append-nil, append_cancel_left, nil_from_length, length-append, length-replicate, take-append-drop, length-drop}
 use Rattle.std.proofs.lemmas.List.Concat.{flat_map-append}
 use Rattle.std.proofs.lemmas.Bool.{cases_lt, and_parts}
@@ -15,7 +16,13 @@ use Rattle.header_words.proofs.WordLemmas.{same_length}
 -- base64 of n octets
 encoded_len : (m : List ℕ) → length (encode_of standard m) ≡ unpadded_len (length m) + padding_len (length m)
 encoded_len m =
-    omega (arith, length-append (encode_symbols standard.encode_table m) (replicate (padding_len (length m)) 61), length-encode_symbols standard.encode_table m, length-replicate {A = ℕ} (padding_len (length m)) 61)
+    omega (
+      arith,
+      length-append (encode_symbols standard.encode_table m)
+          (replicate (padding_len (length m)) 61),
+      length-encode_symbols standard.encode_table m,
+      length-replicate {A = ℕ} (padding_len (length m)) 61,
+    )
 
 word_len : (m : List ℕ) → length (utf8_word m) ≡ 12 + (unpadded_len (length m) + padding_len (length m))
 unfolding utf8_word
@@ -29,11 +36,18 @@ pub fit_few : (m : List ℕ) → length (utf8_word m) ≤ 75 → length m ≤ 45
 fit_few m le = let e = word_len m in omega arith
 
 -- the last place within 45 octets where the text may be cut ends the longest piece
-pub longest_here : (text : List ℕ) (n : ℕ) → IsUtf8 text → n ≤ 45 → IsCharBoundary text n → ((i : ℕ) → n < i → i ≤ 45 → IsCharBoundary text i → ⊥) → IsLongestPiece (take n text) (drop n text) text
+pub longest_here : (text : List ℕ) (n : ℕ) → IsUtf8 text → n ≤ 45 → IsCharBoundary text n → ((i : ℕ) → n < i → i ≤ 45 → IsCharBoundary text i → ⊥)
+    → IsLongestPiece (take n text) (drop n text) text
 longest_here text n u le at nearest =
     let len : length (take n text) ≡ n = omega (arith, at.0, ap length (take-append-drop n text), length-append (take n text) (drop n text), length-drop n text) in
     record {
-      is = record { whole = sym (take-append-drop n text); characters = IsUtf8-take text n u at; characters_behind = IsUtf8-drop text n u at; fits = few_fit (take n text) (omega arith) };
+      is = record {
+        whole = sym (take-append-drop n text);
+        characters = IsUtf8-take text n u at;
+        characters_behind = IsUtf8-drop text n u at;
+        fits = few_fit (take n text)
+            (omega arith);
+      };
       longest = λ other behind p. elim (cases_lt n (length other)) [
         | inl more ↦ absurd (nearest (length other) more (fit_few other p.fits) (IsCharBoundary-at_seam text other behind p.whole p.characters_behind))
         | inr no_more ↦ omega arith
@@ -55,7 +69,13 @@ begins text (c ∷ cs, u) n =
     record { char = c; rest = encodes cs; whole = sym u.1; characters = (c ∷ [], (ap (λ (b : Bool). b && true) p.0, append-nil (encode c))); characters_behind = (cs, (p.1, refl)) }
 
 first_piece : (text : List ℕ) → (b : BeginsWithChar text) → IsPiece (encode b.char) b.rest text
-first_piece text b = record { whole = b.whole; characters = b.characters; characters_behind = b.characters_behind; fits = few_fit (encode b.char) (omega (arith, length-encode b.char, (len_utf8_bounds b.char).1)) }
+first_piece text b = record {
+  whole = b.whole;
+  characters = b.characters;
+  characters_behind = b.characters_behind;
+  fits = few_fit (encode b.char)
+      (omega (arith, length-encode b.char, (len_utf8_bounds b.char).1));
+}
 
 -- so the longest piece isn't empty
 pub longest_some : (piece rest text : List ℕ) → IsUtf8 text → text ≢ [] → IsLongestPiece piece rest text → 0 < length piece
@@ -79,7 +99,8 @@ pub is_some : (t : List ℕ) → eqb (length t) 0 ≡ false → 0 < length t
 is_some [] e = absurd cc
 is_some (c ∷ t) e = omega arith
 
-pub pushed : (old begun encoded ended piece : List ℕ) → begun ≡ old ++ codes "=?utf-8?B?" → encoded ≡ begun ++ encode_of standard piece → ended ≡ encoded ++ codes "?=" → ended ≡ old ++ utf8_word piece
+pub pushed : (old begun encoded ended piece : List ℕ) → begun ≡ old ++ codes "=?utf-8?B?" → encoded ≡ begun ++ encode_of standard piece → ended ≡ encoded ++ codes "?="
+    → ended ≡ old ++ utf8_word piece
 unfolding utf8_word
 pushed old begun encoded ended piece e f g =
     g ∙ ap (λ (u : List ℕ). u ++ codes "?=") (f ∙ ap (λ (u : List ℕ). u ++ encode_of standard piece) e)
@@ -94,7 +115,7 @@ folded_more first words w =
     ap (λ (u : List ℕ). first ++ u) (flat_map-append fold_before words (w ∷ []) ∙ ap (λ (u : List ℕ). flat_map fold_before words ++ u) (append-nil (fold_before w)))
     ∙ sym (append_assoc first (flat_map fold_before words) (fold_before w))
 
--- words were written, and those of the rest go behind them
+-- words were written, and those of the rest go after them
 pub record Begun (value rest text : List ℕ) : Type 0 where
   pub first : List ℕ
   pub words : List (List ℕ)
@@ -109,11 +130,13 @@ begun piece rest text value some l e = record {
   goes = λ more a. Next piece rest text more (λ n. omega (arith, ap length n)) l a;
 }
 
-pub one_more : (piece behind value rest text new : List ℕ) → 0 < length rest → Begun value rest text → IsLongestPiece piece behind rest → new ≡ (value ++ (13 ∷ 10 ∷ 32 ∷ [])) ++ utf8_word piece → Begun new behind text
+pub one_more : (piece behind value rest text new : List ℕ) → 0 < length rest → Begun value rest text → IsLongestPiece piece behind rest
+    → new ≡ (value ++ (13 ∷ 10 ∷ 32 ∷ [])) ++ utf8_word piece → Begun new behind text
 one_more piece behind value rest text new some b l e = record {
   first = b.first;
   words = b.words ++ utf8_word piece ∷ [];
-  folds = e ∙ append_assoc value (13 ∷ 10 ∷ 32 ∷ []) (utf8_word piece) ∙ ap (λ (u : List ℕ). u ++ (13 ∷ 10 ∷ 32 ∷ utf8_word piece)) b.folds ∙ sym (folded_more b.first b.words (utf8_word piece));
+  folds = e ∙ append_assoc value (13 ∷ 10 ∷ 32 ∷ []) (utf8_word piece) ∙ ap (λ (u : List ℕ). u ++ (13 ∷ 10 ∷ 32 ∷ utf8_word piece)) b.folds
+      ∙ sym (folded_more b.first b.words (utf8_word piece));
   goes = λ more a.
       let w = b.goes (utf8_word piece ∷ more) (Next piece behind rest more (λ n. omega (arith, ap length n)) l a) in
       subst (λ (u : List (List ℕ)). AreWords (b.first ∷ u) text) (sym (append_assoc b.words (utf8_word piece ∷ []) more)) w;

@@ -1,5 +1,6 @@
 -- What is written in base64 is read back.
-use Rattle.std.proofs.Common.{◌≡◌, ◌≢◌, ℕ, zero, suc, ◌+◌, ◌*◌, ◌/◌, ◌%◌, ◌==◌, ◌<◌, nat_lt, Bool, true, ◌&&◌, List, [], ◌∷◌, length, replicate, slice_index, refl, ap, ◌∙◌, arith, eqb-true}
+use Rattle.std.proofs.Common.{◌≡◌, ◌≢◌, ℕ, zero, suc, ◌+◌, ◌*◌, ◌/◌, ◌%◌, ◌==◌, ◌<◌, nat_lt, Bool, true, ◌&&◌, List, [], ◌∷◌, length, replicate, slice_index, refl, ap, ◌∙◌, arith}
+use Rattle.std.proofs.Common.{eqb-true}
 use Rattle.std.proofs.lemmas.List.{length-replicate}
 use Rattle.std.proofs.lemmas.Bool.{and_parts, ltb-true}
 use Rattle.base64.specs.Rfc4648.{encode_symbols, padding_len}
@@ -41,7 +42,12 @@ two_octets : (a b x y z : ℕ) → a < 256 → b < 256 → Stands (a / 4) x → 
 two_octets a b x y z la lb p q r =
     let e : a ≡ symbol_value x * 4 + symbol_value y / 16 = omega (arith, p.value, q.value) in
     let f : b ≡ symbol_value y % 16 * 16 + symbol_value z / 4 = omega (arith, q.value, r.value) in
-    record { alphabet = (p.symbol, (q.symbol, (r.symbol, tt))); complete = λ n. omega arith; are = ap (λ (u : ℕ). u ∷ b ∷ []) e ∙ ap (λ (u : ℕ). (symbol_value x * 4 + symbol_value y / 16) ∷ u ∷ []) f }
+    record {
+      alphabet = (p.symbol, (q.symbol, (r.symbol, tt)));
+      complete = λ n. omega arith;
+      are = ap (λ (u : ℕ). u ∷ b ∷ []) e ∙ ap
+          (λ (u : ℕ). (symbol_value x * 4 + symbol_value y / 16) ∷ u ∷ []) f;
+    }
 
 three_octets : (a b c w x y z : ℕ) (octets symbols : List ℕ) → a < 256 → b < 256 → c < 256
     → Stands (a / 4) w → Stands (a % 4 * 16 + b / 16) x → Stands (b % 16 * 4 + c / 64) y → Stands (c % 64) z
@@ -56,7 +62,8 @@ three_octets a b c w x y z octets symbols la lb lc p q r s more =
       are = ap (λ (u : ℕ). u ∷ b ∷ c ∷ octets) e
           ∙ ap (λ (u : ℕ). (symbol_value w * 4 + symbol_value x / 16) ∷ u ∷ c ∷ octets) f
           ∙ ap (λ (u : ℕ). (symbol_value w * 4 + symbol_value x / 16) ∷ (symbol_value x % 16 * 16 + symbol_value y / 4) ∷ u ∷ octets) g
-          ∙ ap (λ (u : List ℕ). (symbol_value w * 4 + symbol_value x / 16) ∷ (symbol_value x % 16 * 16 + symbol_value y / 4) ∷ (symbol_value y % 4 * 64 + symbol_value z) ∷ u) more.are;
+          ∙ ap (λ (u : List ℕ). (symbol_value w * 4 + symbol_value x / 16) ∷ (symbol_value x % 16 * 16 + symbol_value y / 4) ∷
+          (symbol_value y % 4 * 64 + symbol_value z) ∷ u) more.are;
     }
 
 are_symbols : (table octets : List ℕ) → all_below (is_symbol_of table) 64 ≡ true → Each is_octet octets → AreSymbols octets (encode_symbols table octets)

@@ -1,5 +1,6 @@
 -- What a text is written as reads as the text.
-use Rattle.std.proofs.Common.{◌≡◌, ◌≢◌, ℕ, ◌+◌, ◌/◌, ◌%◌, ◌<◌, ◌≤◌, ltb, cond, not, ◌&&◌, Bool, true, false, List, [], ◌∷◌, ◌++◌, length, codes, IsUtf8, flat_map, refl, sym, ap, ◌∙◌, subst, arith, inl, inr}
+use Rattle.std.proofs.Common.{◌≡◌, ◌≢◌, ℕ, ◌+◌, ◌/◌, ◌%◌, ◌<◌, ◌≤◌, ltb, cond, not, ◌&&◌, Bool, true, false, List, [], ◌∷◌, ◌++◌, length, codes, IsUtf8, flat_map, refl, sym, ap}
+use Rattle.std.proofs.Common.{◌∙◌, subst, arith, inl, inr}
 use Rattle.std.proofs.lemmas.List.{append_assoc}
 use Rattle.std.proofs.lemmas.Bool.{and_parts, lt-ltb}
 use Rattle.std.proofs.lemmas.Str.{IsUtf8-append, utf8_lossy-IsUtf8}
@@ -13,7 +14,8 @@ use Rattle.header_words.specs.Base64.{is_symbol, is_equals_sign, IsBase64}
 use Rattle.header_words.specs.Charsets.{charset_of, text_in}
 use Rattle.header_words.specs.declared.charset.Charset.{Charset}
 use Rattle.header_words.specs.declared.charset.Charset.TheVariants as charset
-use Rattle.header_words.specs.EncodedWords.{is_encoded, InBase64, HasShape, charset_name, IsEncodedWord, is_edge, ends_at_edge, BeginsAtEdge, kept, NoneBefore, HasNone, IsFirst, IsText, Plain, Worded}
+use Rattle.header_words.specs.EncodedWords.{is_encoded, InBase64, HasShape, charset_name, IsEncodedWord, is_edge, ends_at_edge, BeginsAtEdge, kept, NoneBefore, HasNone, IsFirst}
+use Rattle.header_words.specs.EncodedWords.{IsText, Plain, Worded}
 use Rattle.header_words.specs.WordList.{utf8_word, IsPiece, IsLongestPiece, AreWords, NoneLeft, Next, joined, line_fold, IsWritten}
 use Rattle.header_words.proofs.WordLemmas.{none_yet}
 use Rattle.header_words.proofs.WordListLemmas.{longest_some}
@@ -28,7 +30,10 @@ char_octets : (c : ℕ) → c < 1114112 → Each is_octet (encode c)
 unfolding encode
 char_octets c lt = by (ltb c 128) (ltb c 2048) (ltb c 65536) refl refl refl
   where
-    by : (p q r : Bool) → ltb c 128 ≡ p → ltb c 2048 ≡ q → ltb c 65536 ≡ r → Each is_octet (cond p (c ∷ []) (cond q ((192 + c / 64) ∷ (128 + c % 64) ∷ []) (cond r ((224 + c / 4096) ∷ (128 + c / 64 % 64) ∷ (128 + c % 64) ∷ []) ((240 + c / 262144) ∷ (128 + c / 4096 % 64) ∷ (128 + c / 64 % 64) ∷ (128 + c % 64) ∷ []))))
+    by : (p q r : Bool) → ltb c 128 ≡ p → ltb c 2048 ≡ q → ltb c 65536 ≡ r
+        → Each is_octet (cond p (c ∷ [])
+        (cond q ((192 + c / 64) ∷ (128 + c % 64) ∷ [])
+        (cond r ((224 + c / 4096) ∷ (128 + c / 64 % 64) ∷ (128 + c % 64) ∷ []) ((240 + c / 262144) ∷ (128 + c / 4096 % 64) ∷ (128 + c / 64 % 64) ∷ (128 + c % 64) ∷ []))))
     by true q r e f g = (grind arith, tt)
     by false true r e f g = (small _ (grind arith), (small _ (omega arith), tt))
     by false false true e f g = (small _ (grind arith), (small _ (omega arith), (small _ (omega arith), tt)))
@@ -61,7 +66,8 @@ equals_printed c e = grind arith
 printed : (octets t : List ℕ) → IsBase64 octets t → Each is_encoded t
 printed octets t b =
     let P : List ℕ → Type 0 = λ x. Each is_encoded x in
-    subst P (sym b.whole) (each_append is_encoded b.symbols b.padding (each_widen is_symbol is_encoded b.symbols symbol_printed b.alphabet) (each_widen is_equals_sign is_encoded b.padding equals_printed b.equals))
+    subst P (sym b.whole) (each_append is_encoded b.symbols b.padding (each_widen is_symbol is_encoded b.symbols symbol_printed b.alphabet)
+    (each_widen is_equals_sign is_encoded b.padding equals_printed b.equals))
 
 some_spelled : (octets t : List ℕ) → IsBase64 octets t → 0 < length octets → t ≢ []
 some_spelled octets t b some e = none b.symbols b.padding (sym b.whole ∙ e) b.are
@@ -70,7 +76,7 @@ some_spelled octets t b some e = none b.symbols b.padding (sym b.whole ∙ e) b.
     none [] p f a = omega (arith, ap length a)
     none (c ∷ s) p f a = absurd cc
 
-word_shape : (piece text : List ℕ) → text ≡ encode_of standard piece → IsRun is_encoded text → HasShape (codes "utf-8") 66 text [] (utf8_word piece)
+word_shape : (piece text : List ℕ) → text ≡ encode_of standard piece → Each is_encoded text → HasShape (codes "utf-8") 66 text [] (utf8_word piece)
 unfolding utf8_word
 word_shape piece text e r = record {
   whole = ap (λ (u : List ℕ). codes "=?utf-8?B?" ++ (u ++ codes "?=")) (sym e);
@@ -91,7 +97,7 @@ word_is piece u some =
       letter = 66;
       text = encode_of standard piece;
       octets = piece;
-      shape = word_shape piece (encode_of standard piece) refl (printed piece (encode_of standard piece) b, some_spelled piece (encode_of standard piece) b some);
+      shape = word_shape piece (encode_of standard piece) refl (printed piece (encode_of standard piece) b);
       spelled = InBase64 refl b;
       said = sym (ap (λ (c : Charset). text_in c piece) utf8_name ∙ utf8_lossy-IsUtf8 piece u);
     }
@@ -141,7 +147,7 @@ none_in_empty = λ reading before word behind e s. by before word behind e s.wor
     by [] (d ∷ word) behind e f = absurd cc
     by (a ∷ before) word behind e f = absurd cc
 
--- the words behind the first
+-- the words after the first
 abbrev more_words : List ℕ → List (List ℕ) → List ℕ
 more_words between words = flat_map (λ (w : List ℕ). between ++ w) words
 

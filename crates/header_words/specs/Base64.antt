@@ -16,7 +16,7 @@ symbol_value c =
     else if c == 43 then 62
     else 63
 
--- The octets whose bits stand one behind another in these groups of six bits. Bits left over are dropped.
+-- The octets whose bits stand one after another in these groups of six bits. Bits left over are dropped.
 abbrev pub octets_of : List ℕ → List ℕ
 octets_of [] = []
 octets_of (a ∷ []) = []
@@ -31,7 +31,7 @@ spelled_octets symbols = octets_of (map symbol_value symbols)
 abbrev pub is_equals_sign : ℕ → Bool
 is_equals_sign c = c == 61
 
--- symbols, with up to two "=" behind them
+-- symbols, with up to two "=" after them
 pub record IsBase64 (octets t : List ℕ) : Type 0 where
   pub symbols : List ℕ
   pub padding : List ℕ

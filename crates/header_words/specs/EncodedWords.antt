@@ -1,7 +1,7 @@
 -- Encoded words (RFC 2047 section 2), and the text of a value that has some.
 use Rattle.std.specs.Prelude.{◌≡◌, ℕ, ◌≤◌, Bool, true, not, ◌&&◌, ◌||◌, ◌==◌, if◌then◌else◌, List, [], ◌∷◌, ◌++◌, length}
 use Rattle.std.specs.List.{list_all}
-use Rattle.text_words.specs.Cuts.{IsRun, Stops, front}
+use Rattle.text_words.specs.Cuts.{Each, IsRun, Stops, front}
 use Rattle.text_words.specs.Octets.{is_between, is_white}
 use Rattle.header_words.specs.Charsets.{charset_of, text_in}
 use Rattle.header_words.specs.Base64.{IsBase64}
@@ -32,13 +32,13 @@ pub data Spells (letter : ℕ) (octets text : List ℕ) : Type 0 where
   InBase64 : is_b letter ≡ true → IsBase64 octets text → Spells letter octets text
   InQ : is_q letter ≡ true → IsQText octets text → Spells letter octets text
 
--- "=?" charset "?" letter "?" encoded-text "?=", and what follows it
+-- "=?" charset "?" letter "?" encoded-text "?=", and what follows it. The encoded text may be empty.
 pub record HasShape (charset : List ℕ) (letter : ℕ) (text behind t : List ℕ) : Type 0 where
   pub whole : t ≡ 61 ∷ 63 ∷ (charset ++ 63 ∷ letter ∷ 63 ∷ (text ++ 63 ∷ 61 ∷ behind))
   pub token : IsRun is_token charset
-  pub printed : IsRun is_encoded text
+  pub printed : Each is_encoded text
 
--- a language may follow the charset's name behind a "*" (RFC 2231 section 5)
+-- a language may follow the charset's name after a "*" (RFC 2231 section 5)
 abbrev pub charset_name : List ℕ → List ℕ
 charset_name charset = front (λ c. not (c == 42)) charset
 
@@ -92,4 +92,5 @@ kept behind_word between = if behind_word && list_all is_white between then [] e
 -- directly before the value.
 pub data IsText : Bool → List ℕ → List ℕ → Type 0 where
   Plain : (behind_word : Bool) (value : List ℕ) → HasNone value → IsText behind_word value value
-  Worded : (behind_word : Bool) (reading before word behind text value : List ℕ) → IsFirst reading before word behind value → IsText true behind text → IsText behind_word value (kept behind_word before ++ (reading ++ text))
+  Worded : (behind_word : Bool) (reading before word behind text value : List ℕ) → IsFirst reading before word behind value → IsText true behind text
+      → IsText behind_word value (kept behind_word before ++ (reading ++ text))

@@ -5,4 +5,4 @@ pub mod QuotedPrintable
 pub mod Transfer
 pub mod EncodedWords
 pub mod WordList
-pub mod Reading
+pub mod reading

@@ -1,5 +1,5 @@
 -- Content-Transfer-Encodings (RFC 2045 section 6).
-use Rattle.std.specs.Prelude.{◌≡◌, ℕ, Bool, true, false, not, ◌||◌, ◌==◌, if◌then◌else◌, List, codes}
+use Rattle.std.specs.Prelude.{◌≡◌, ℕ, Bool, true, false, not, ◌||◌, ◌==◌, if◌then◌else◌, List, length, codes}
 use Rattle.std.specs.List.{filter, list_any}
 use Rattle.text_words.specs.Cuts.{front}
 use Rattle.text_words.specs.Octets.{is_white, is_same_text}
@@ -39,3 +39,10 @@ IsBody encoding.Identity octets problem b = (octets ≡ b) × (problem ≡ false
 IsBody encoding.QuotedPrintable octets problem b = IsPrintable octets problem b
 IsBody encoding.Base64 octets problem b = (octets ≡ base64_octets b) × (problem ≡ base64_problem b)
 IsBody encoding.Unknown octets problem b = (octets ≡ b) × (problem ≡ true)
+
+-- a body spells n octets in the encoding
+pub record HasBodyLen (e : Encoding) (n : ℕ) (b : List ℕ) : Type 0 where
+  pub octets : List ℕ
+  pub problem : Bool
+  pub is : IsBody e octets problem b
+  pub counted : n ≡ length octets

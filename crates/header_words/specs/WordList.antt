@@ -24,7 +24,8 @@ pub record IsLongestPiece (piece rest text : List ℕ) : Type 0 where
 -- The words of a text: each is the word of the longest piece of what is left. The empty text has none.
 pub data AreWords : List (List ℕ) → List ℕ → Type 0 where
   NoneLeft : AreWords [] []
-  Next : (piece rest text : List ℕ) (words : List (List ℕ)) → text ≢ [] → IsLongestPiece piece rest text → AreWords words rest → AreWords (utf8_word piece ∷ words) text
+  Next : (piece rest text : List ℕ) (words : List (List ℕ)) → text ≢ [] → IsLongestPiece piece rest text → AreWords words rest
+      → AreWords (utf8_word piece ∷ words) text
 
 -- the words, with the same text between each two
 abbrev pub joined : List ℕ → List (List ℕ) → List ℕ

@@ -1,3 +1,4 @@
+// Base64 (RFC 4648 section 4), read and written.
 ghost use Rattle.std.specs.Prelude.{◌≡◌, ◌<◌, ◌+◌, ◌*◌, ◌/◌, ◌%◌, ℕ, List, [], ◌∷◌, ◌++◌, length, IfOk, OnOk, IfSome, IfNone};
 ghost use Rattle.header_words.specs.Base64 as base64;
 
@@ -26,6 +27,7 @@ impl Class<u8> for EqualsSign {
     }
 }
 
+/// Whether the octet is of the alphabet (RFC 4648 section 4), the padding aside.
 pub fn is_symbol(octet: u8) -> bool
     ensures { result ≡ base64.is_symbol octet }
 {
@@ -46,7 +48,7 @@ fn symbol_value(symbol: u8) -> u8
     }
 }
 
-/// The octets that a text in base64 spells, where it is one: symbols, and up to two "=" behind them.
+/// The octets that a text in base64 spells, where it is one: symbols, and up to two "=" after them.
 pub fn decode_base64(alloc: Global, text: &[u8]) -> Result<Option<Vec<u8>>, AllocError>
     ensures some { IfOk result (λ r. IfSome r (λ v. base64.IsBase64 v.items text.now)) }
     ensures none { IfOk result (λ r. IfNone r ((octets : List ℕ) → base64.IsBase64 octets text.now → ⊥)) }
@@ -78,7 +80,15 @@ pub fn decode_symbols(alloc: Global, symbols: &[u8]) -> Result<Vec<u8>, AllocErr
     Ok(octets)
 }
 
-/// Adds the octets of the symbols behind the last whole group.
+/// How many octets n symbols spell: three for each group of four, and one less than the symbols of a last group.
+#[tactic(auto, using(crate::proofs::Base64Lemmas::spelled_length))]
+pub fn spelled_len(symbols: usize) -> usize
+    ensures { (s : List ℕ) → length s ≡ symbols → result ≡ length (base64.spelled_octets s) }
+{
+    symbols - symbols / 4 - (symbols % 4).min(1)
+}
+
+/// Adds the octets of the symbols after the last whole group.
 fn push_last(octets: &mut Vec<u8>, symbols: &[u8]) -> Result<(), AllocError>
     requires { length symbols.now < 4 }
     ensures { OnOk result (octets.new.items ≡ octets.old.items ++ base64.spelled_octets symbols.now) }

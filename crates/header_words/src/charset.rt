@@ -1,4 +1,6 @@
+// Charsets (RFC 2045 section 2.2), and texts read in them.
 ghost use Rattle.std.specs.Prelude.{◌≡◌, IfOk};
+ghost use Rattle.header_words.specs.Charsets as charsets;
 ghost use Rattle.header_words.specs.Charsets.{charset_of, text_in, has_problem_in};
 ghost use Rattle.header_words.specs.declared.charset.Charset.TheVariants as charset;
 
@@ -6,20 +8,22 @@ use std::alloc::{AllocError, Global};
 use std::str::from_utf8;
 use text_words::same_text;
 
-/// A charset that is read. Others are read as us-ascii.
+/// A charset that is read.
 #[derive(Clone, Copy, PartialEq, Eq, Debug)]
 pub enum Charset {
     Ascii,
     Utf8,
     Latin1,
+    /// Any other, which is read as us-ascii.
+    Unknown,
 }
 
 /// U+FFFD in UTF-8, which stands for what can't be read.
 pub const REPLACEMENT: [u8; 3] = [0xEF, 0xBF, 0xBD];
 
-/// The UTF-8 text that the octets spell in the charset of this name, and whether some of them spell none. Names
-/// compare without regard to case. In us-ascii and in an unknown charset an octet above 127 becomes U+FFFD, in utf-8
-/// each invalid sequence does.
+/// The UTF-8 text that the octets spell in the charset of this name, and whether there was a problem. Names and the
+/// aliases that IANA registers compare without regard to case. In us-ascii and in an unknown charset an octet above 127
+/// becomes U+FFFD, in utf-8 each invalid sequence does; that is a problem, and so is an unknown charset.
 pub fn decode_charset(
     alloc: Global,
     name: &[u8],
@@ -32,18 +36,51 @@ pub fn decode_charset(
         Charset::Ascii => ascii_text(alloc, bytes),
         Charset::Utf8 => utf8_text(alloc, bytes),
         Charset::Latin1 => latin1_text(alloc, bytes),
+        Charset::Unknown => {
+            let (text, _) = ascii_text(alloc, bytes)?;
+            Ok((text, true))
+        }
     }
+}
+
+fn is_ascii_name(name: &[u8]) -> bool
+    ensures { result ≡ charsets.is_ascii_name name.now }
+{
+    same_text(name, b"us-ascii")
+        || same_text(name, b"ascii")
+        || same_text(name, b"us")
+        || same_text(name, b"iso646-us")
+        || same_text(name, b"ansi_x3.4-1968")
+}
+
+fn is_utf8_name(name: &[u8]) -> bool
+    ensures { result ≡ charsets.is_utf8_name name.now }
+{
+    same_text(name, b"utf-8") || same_text(name, b"utf8")
+}
+
+fn is_latin1_name(name: &[u8]) -> bool
+    ensures { result ≡ charsets.is_latin1_name name.now }
+{
+    same_text(name, b"iso-8859-1")
+        || same_text(name, b"iso8859-1")
+        || same_text(name, b"iso_8859-1")
+        || same_text(name, b"latin1")
+        || same_text(name, b"l1")
+        || same_text(name, b"cp819")
 }
 
 fn charset_named(name: &[u8]) -> Charset
     ensures { result ≡ charset_of name.now }
 {
-    if same_text(name, b"utf-8") {
+    if is_utf8_name(name) {
         Charset::Utf8
-    } else if same_text(name, b"iso-8859-1") {
+    } else if is_latin1_name(name) {
         Charset::Latin1
-    } else {
+    } else if is_ascii_name(name) {
         Charset::Ascii
+    } else {
+        Charset::Unknown
     }
 }
 

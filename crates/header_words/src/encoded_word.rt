@@ -1,7 +1,9 @@
-ghost use Rattle.std.specs.Prelude.{◌≡◌, ◌↔◌, ◌==◌, not, ℕ, List, ◌++◌, IfOk, IfSome, IfNone, IsTrue};
+// One encoded word (RFC 2047 section 2).
+ghost use Rattle.std.specs.Prelude.{◌≡◌, ◌≢◌, ◌↔◌, ◌==◌, not, ℕ, List, ◌∷◌, ◌++◌, IfOk, IfSome, IfNone, MatchOption, IsTrue};
+ghost use Rattle.text_words.specs.Cuts.{Each};
 ghost use Rattle.text_words.specs.Sequence.{UnitAt};
 ghost use Rattle.header_words.specs.EncodedWords as words;
-ghost use Rattle.header_words.specs.Reading.{IsWordBefore};
+ghost use Rattle.header_words.specs.reading.Units.{IsWordBefore};
 
 use crate::base64_text::decode_base64;
 use crate::charset::decode_charset;
@@ -69,6 +71,19 @@ pub struct Word {
     pub len: usize,
 }
 
+/// The encoded text at the front, which may be empty, and what stands after the "?" that ends it.
+fn encoded_text(text: &[u8]) -> Option<(&[u8], &[u8])>
+    ensures { MatchOption result
+        ((x y : List ℕ) → Each words.is_encoded x → text.now ≢ x ++ 63 ∷ y)
+        (λ r. Each words.is_encoded r.0.now × (text.now ≡ r.0.now ++ 63 ∷ r.1.now)) }
+{
+    let (encoded, rest) = cut(&Encoded, text);
+    match behind(b'?', rest) {
+        None => None,
+        Some(rest) => Some((encoded, rest)),
+    }
+}
+
 /// The parts of the encoded word at the front, where the text begins with the shape of one (RFC 2047 section 2).
 fn shape_at(text: &[u8]) -> Option<Shape<'_>>
     ensures some { IfSome result (λ s. words.HasShape s.charset.now s.letter s.text.now s.behind.now text.now) }
@@ -79,7 +94,7 @@ fn shape_at(text: &[u8]) -> Option<Shape<'_>>
     let (charset, rest) = run_before(&Token, b'?', inner)?;
     let (letter, rest) = first(rest)?;
     let inner = behind(b'?', rest)?;
-    let (encoded, rest) = run_before(&Encoded, b'?', inner)?;
+    let (encoded, rest) = encoded_text(inner)?;
     let after = behind(b'=', rest)?;
     Some(Shape {
         charset,

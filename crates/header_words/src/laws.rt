@@ -1,3 +1,4 @@
+// Laws of encoded words and of bodies.
 ghost use Rattle.std.specs.Prelude.{◌≡◌, Bool, false, ℕ, List};
 ghost use Rattle.text_words.specs.Cuts.{IsRun};
 ghost use Rattle.text_words.specs.Octets.{is_white};

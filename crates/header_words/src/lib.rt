@@ -15,6 +15,6 @@ pub mod word_list;
 pub mod words;
 
 pub use charset::decode_charset;
-pub use transfer::decode_transfer;
+pub use transfer::{decode_transfer, transfer_len};
 pub use word_list::encode_words;
 pub use words::decode_words;

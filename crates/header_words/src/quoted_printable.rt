@@ -1,9 +1,10 @@
-ghost use Rattle.std.specs.Prelude.{◌≡◌, ◌<◌, ◌∷◌, length, IfOk};
+// The quoted-printable encoding (RFC 2045 section 6.7).
+ghost use Rattle.std.specs.Prelude.{◌≡◌, ◌<◌, ◌≤◌, [], ◌∷◌, ◌++◌, length, IfOk, OnOk};
 ghost use Rattle.text_words.specs.Cuts.{front, back};
 ghost use Rattle.text_words.specs.LineEnds as lines;
 ghost use Rattle.text_words.specs.Octets as classes;
 ghost use Rattle.header_words.specs.QuotedPrintable as printable;
-ghost use Rattle.header_words.specs.Reading as reading;
+ghost use Rattle.header_words.specs.reading.Units as reading;
 
 use crate::quoted_text::hex_octet;
 use std::alloc::{AllocError, Global};
@@ -18,76 +19,152 @@ pub fn decode_printable(alloc: Global, text: &[u8]) -> Result<(Vec<u8>, bool), A
     let mut problem = false;
     let mut rest = text;
     while !rest.is_empty() {
-        let (behind, wrong) = push_piece(&mut octets, rest)?;
-        rest = behind;
-        problem |= wrong;
+        let piece = piece_at(rest);
+        push_piece(&mut octets, piece)?;
+        rest = piece.rest;
+        problem |= piece.wrong;
     }
     Ok((octets, problem))
 }
 
-/// Adds what the piece at the front stands for. Gives what follows the piece, and whether it is a wrong "=".
-#[tactic(auto, unfolding(crate::specs::Reading::piece_in))]
-fn push_piece<'a>(octets: &mut Vec<u8>, text: &'a [u8]) -> Result<(&'a [u8], bool), AllocError>
+/// How many octets a text in quoted-printable spells.
+pub fn printable_len(text: &[u8]) -> usize
+    ensures { reading.HasPrintableLen result text.now }
+{
+    let mut len = 0;
+    let mut rest = text;
+    while !rest.is_empty() {
+        let piece = piece_at(rest);
+        len += piece_len(piece);
+        rest = piece.rest;
+    }
+    len
+}
+
+/// The piece at the front of a text: the octet that it spells in hexadecimal, the octets that stand for themselves,
+/// whether it is a wrong "=", and what follows it.
+#[derive(Clone, Copy)]
+struct PieceAt<'a> {
+    spelled: Option<u8>,
+    kept: &'a [u8],
+    wrong: bool,
+    rest: &'a [u8],
+}
+
+/// Adds the octets of a piece.
+fn push_piece(octets: &mut Vec<u8>, piece: PieceAt<'_>) -> Result<(), AllocError>
+    ensures { OnOk result (octets.new.items ≡ octets.old.items ++ reading.octets_read piece.entry) }
+{
+    if let Some(octet) = piece.spelled {
+        octets.push(octet)?;
+    }
+    octets.extend_from_slice(piece.kept)
+}
+
+fn piece_len(piece: PieceAt<'_>) -> usize
+    ensures { result ≡ length (reading.octets_read piece.entry) }
+{
+    match piece.spelled {
+        None => piece.kept.len(),
+        Some(_) => 1 + piece.kept.len(),
+    }
+}
+
+/// The piece at the front.
+#[tactic(auto, unfolding(crate::specs::reading::Units::piece_in))]
+fn piece_at(text: &[u8]) -> PieceAt<'_>
     requires { 0 < length text.now }
-    ensures { IfOk result (λ r. reading.Pushes (reading.piece_in text.now) text.now r.0.now octets.old.items octets.new.items r.1) }
+    ensures { reading.Reads (reading.piece_in text.now) text.now result }
 {
     match text {
         [] => unreachable!(),
         [first, rest @ ..] => {
             if *first == b'=' {
-                push_sign(octets, rest)
+                sign_at(text, rest)
             } else if is_blank(*first) {
-                push_blanks(octets, text)
+                blanks_at(text)
             } else {
-                octets.push(*first)?;
-                Ok((rest, false))
+                let (kept, rest) = text.split_at(1);
+                PieceAt {
+                    spelled: None,
+                    kept,
+                    wrong: false,
+                    rest,
+                }
+            }
+        }
+    }
+}
+/// What an "=" at the front of a text begins, where `behind` follows it.
+fn sign_at<'a>(text: &'a [u8], behind: &'a [u8]) -> PieceAt<'a>
+    requires { text.now ≡ 61 ∷ behind.now }
+    ensures { reading.Reads (reading.sign_of (reading.hex_in behind.now) behind.now) (61 ∷ behind.now) result }
+{
+    match hex_octet(behind) {
+        None => break_at(text, behind),
+        Some(octet) => {
+            let (digits, rest) = behind.split_at(2);
+            let (kept, _) = digits.split_at(0);
+            PieceAt {
+                spelled: Some(octet),
+                kept,
+                wrong: false,
+                rest,
             }
         }
     }
 }
 
-/// Adds what an "=" begins, where `text` stands behind it.
-fn push_sign<'a>(octets: &mut Vec<u8>, text: &'a [u8]) -> Result<(&'a [u8], bool), AllocError>
-    ensures { IfOk result (λ r. reading.Pushes (reading.sign_of (reading.hex_in text.now) text.now) (61 ∷ text.now) r.0.now octets.old.items octets.new.items r.1) }
+/// A soft break, or else the "=" at the front itself, where `behind` follows it.
+fn break_at<'a>(text: &'a [u8], behind: &'a [u8]) -> PieceAt<'a>
+    requires { text.now ≡ 61 ∷ behind.now }
+    ensures { reading.Reads
+        (reading.break_of (length (front classes.is_blank behind.now)) (lines.line_end_len (back classes.is_blank behind.now)))
+        (61 ∷ behind.now) result }
 {
-    match hex_octet(text) {
-        None => push_break(octets, text),
-        Some(octet) => {
-            octets.push(octet)?;
-            let (_, rest) = text.split_at(2);
-            Ok((rest, false))
-        }
-    }
-}
-
-/// Adds nothing for a soft break behind an "=", and else the "=".
-fn push_break<'a>(octets: &mut Vec<u8>, text: &'a [u8]) -> Result<(&'a [u8], bool), AllocError>
-    ensures { IfOk result (λ r. reading.Pushes
-        (reading.break_of (length (front classes.is_blank text.now)) (lines.line_end_len (back classes.is_blank text.now)))
-        (61 ∷ text.now) r.0.now octets.old.items octets.new.items r.1) }
-{
-    let (_, rest) = cut(&Blank, text);
+    let (_, rest) = cut(&Blank, behind);
     let len = line_end_len(rest);
     if len == 0 {
-        octets.push(b'=')?;
-        return Ok((text, true));
+        let (kept, rest) = text.split_at(1);
+        return PieceAt {
+            spelled: None,
+            kept,
+            wrong: true,
+            rest,
+        };
     }
-    let (_, behind) = rest.split_at(len);
-    Ok((behind, false))
+    let (kept, _) = text.split_at(0);
+    let (_, rest) = rest.split_at(len);
+    PieceAt {
+        spelled: None,
+        kept,
+        wrong: false,
+        rest,
+    }
 }
 
-/// Adds the blanks at the front, but not at the end of a line.
-fn push_blanks<'a>(octets: &mut Vec<u8>, text: &'a [u8]) -> Result<(&'a [u8], bool), AllocError>
-    ensures { IfOk result (λ r. reading.Pushes
+/// The blanks at the front, which are dropped at the end of a line.
+fn blanks_at(text: &[u8]) -> PieceAt<'_>
+    ensures { reading.Reads
         (reading.blanks_of (front classes.is_blank text.now) (back classes.is_blank text.now))
-        text.now r.0.now octets.old.items octets.new.items r.1) }
+        text.now result }
 {
     let (blanks, rest) = cut(&Blank, text);
     if ends_line(rest) {
-        return Ok((rest, false));
+        let (kept, _) = text.split_at(0);
+        return PieceAt {
+            spelled: None,
+            kept,
+            wrong: false,
+            rest,
+        };
     }
-    octets.extend_from_slice(blanks)?;
-    Ok((rest, false))
+    PieceAt {
+        spelled: None,
+        kept: blanks,
+        wrong: false,
+        rest,
+    }
 }
 
 /// Whether nothing follows in the line.

@@ -1,6 +1,7 @@
+// The "Q" encoding (RFC 2047 section 4.2).
 ghost use Rattle.std.specs.Prelude.{◌≡◌, ◌≤◌, ℕ, List, length, IfOk, IfSome, IfNone};
 ghost use Rattle.header_words.specs.QuotedText.{IsQText};
-ghost use Rattle.header_words.specs.Reading.{escape_of, hex_in, q_unit_in};
+ghost use Rattle.header_words.specs.reading.Units.{escape_of, hex_in, q_unit_in};
 
 use std::alloc::{AllocError, Global};
 use text_words::hex_value;
@@ -24,7 +25,7 @@ pub fn decode_quoted(alloc: Global, text: &[u8]) -> Result<Option<Vec<u8>>, Allo
 }
 
 /// The octet at the front of a text in "Q", and how long its spelling is.
-#[tactic(auto, unfolding(crate::specs::Reading::q_unit_in))]
+#[tactic(auto, unfolding(crate::specs::reading::Units::q_unit_in))]
 fn unit_at(text: &[u8]) -> Option<(u8, usize)>
     ensures { result ≡ q_unit_in text.now }
 {
@@ -42,7 +43,7 @@ fn unit_at(text: &[u8]) -> Option<(u8, usize)>
     }
 }
 
-/// The octet behind an "=", and how long its spelling is.
+/// The octet after an "=", and how long its spelling is.
 fn escaped(digits: &[u8]) -> Option<(u8, usize)>
     ensures { result ≡ escape_of (hex_in digits.now) }
 {

@@ -1,3 +1,4 @@
+// Tests of encoded words and bodies.
 mod bodies;
 mod reading;
 mod writing;

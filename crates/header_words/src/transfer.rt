@@ -1,10 +1,11 @@
-ghost use Rattle.std.specs.Prelude.{◌≡◌, IfOk};
+// Transfer encodings (RFC 2045 section 6).
+ghost use Rattle.std.specs.Prelude.{◌≡◌, ◌≤◌, length, IfOk};
 ghost use Rattle.std.specs.List.{filter, list_any};
 ghost use Rattle.header_words.specs.Base64 as base64;
 ghost use Rattle.header_words.specs.Transfer as transfer;
 
-use crate::base64_text::{decode_symbols, is_symbol};
-use crate::quoted_printable::decode_printable;
+use crate::base64_text::{decode_symbols, is_symbol, spelled_len};
+use crate::quoted_printable::{decode_printable, printable_len};
 use std::alloc::{AllocError, Global};
 use text_words::{Class, cut, is_white, same_text};
 
@@ -31,6 +32,18 @@ pub fn decode_transfer(
         Encoding::QuotedPrintable => decode_printable(alloc, bytes),
         Encoding::Base64 => decode_body(alloc, bytes),
         Encoding::Unknown => Ok((Vec::from_slice(alloc, bytes)?, true)),
+    }
+}
+
+/// How many octets a body spells in the encoding of this name: as many as `decode_transfer` gives.
+#[tactic(auto, using(crate::proofs::TransferLens::printable_body, crate::proofs::TransferLens::base64_body, crate::proofs::TransferLens::same_body))]
+pub fn transfer_len(encoding: &[u8], bytes: &[u8]) -> usize
+    ensures { transfer.HasBodyLen (transfer.encoding_of encoding.now) result bytes.now }
+{
+    match encoding_named(encoding) {
+        Encoding::Identity | Encoding::Unknown => bytes.len(),
+        Encoding::QuotedPrintable => printable_len(bytes),
+        Encoding::Base64 => body_len(bytes),
     }
 }
 
@@ -76,19 +89,40 @@ fn decode_body(alloc: Global, bytes: &[u8]) -> Result<(Vec<u8>, bool), AllocErro
     Ok((octets, has_stranger(data)))
 }
 
-fn symbols_of(alloc: Global, data: &[u8]) -> Result<Vec<u8>, AllocError>
-    ensures { IfOk result (λ v. v.items ≡ filter base64.is_symbol data.now) }
+/// How many octets a body in base64 spells.
+fn body_len(bytes: &[u8]) -> usize
+    ensures { result ≡ length (transfer.base64_octets bytes.now) }
 {
-    data.iter()
+    let (data, _) = cut(&BeforePadding, bytes);
+    spelled_len(symbol_count(data))
+}
+
+fn symbol_count(text: &[u8]) -> usize
+    ensures value { result ≡ length (filter base64.is_symbol text.now) }
+    ensures within { result ≤ length text.now }
+{
+    let mut count = 0;
+    for octet in text {
+        if is_symbol(*octet) {
+            count += 1;
+        }
+    }
+    count
+}
+
+fn symbols_of(alloc: Global, text: &[u8]) -> Result<Vec<u8>, AllocError>
+    ensures { IfOk result (λ v. v.items ≡ filter base64.is_symbol text.now) }
+{
+    text.iter()
         .copied()
         .filter(|octet| is_symbol(*octet))
         .collect(alloc)
 }
 
-fn has_stranger(data: &[u8]) -> bool
-    ensures { result ≡ list_any transfer.is_stranger data.now }
+fn has_stranger(text: &[u8]) -> bool
+    ensures { result ≡ list_any transfer.is_stranger text.now }
 {
-    for octet in data {
+    for octet in text {
         if is_stranger(*octet) {
             return true;
         }

@@ -1,3 +1,4 @@
+// Texts written as encoded words (RFC 2047 sections 2 and 5).
 ghost use Rattle.std.specs.Prelude.{◌≡◌, ◌<◌, ◌++◌, length, string_bytes, IfOk, OnOk};
 ghost use Rattle.header_words.specs.WordList.{utf8_word, IsLongestPiece, IsWritten};
 

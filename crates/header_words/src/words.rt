@@ -1,7 +1,8 @@
+// Values in which encoded words are decoded (RFC 2047 section 6).
 ghost use Rattle.std.specs.Prelude.{◌≡◌, ◌++◌, Bool, false, true, ℕ, List, IfOk, IfSome, IfNone, OnOk};
 ghost use Rattle.text_words.specs.Sequence.{UnitAt};
 ghost use Rattle.header_words.specs.EncodedWords as words;
-ghost use Rattle.header_words.specs.Reading.{IsWordBefore, FoundAt};
+ghost use Rattle.header_words.specs.reading.Units.{IsWordBefore, FoundAt};
 
 use crate::encoded_word::{Word, is_edge, word_at};
 use std::alloc::{AllocError, Global};

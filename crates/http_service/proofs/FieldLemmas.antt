@@ -1,5 +1,6 @@
 -- The values of the fields of one name, and what a value says.
-use Rattle.std.proofs.Common.{◌≡◌, ◌≢◌, ◌++◌, ◌+◌, ◌-◌, ◌*◌, ◌^◌, ◌<◌, ◌≤◌, ◌==◌, min, get_or, ℕ, zero, suc, Bool, true, false, List, [], ◌∷◌, length, take, drop, refl, sym, ap, ◌∙◌, subst, arith, Option, codes}
+use Rattle.std.proofs.Common.{◌≡◌, ◌≢◌, ◌++◌, ◌+◌, ◌-◌, ◌*◌, ◌^◌, ◌<◌, ◌≤◌, ◌==◌, min, get_or, ℕ, zero, suc, Bool, true, false, List, [], ◌∷◌, length, take, drop, refl, sym, ap}
+use Rattle.std.proofs.Common.{◌∙◌, subst, arith, Option, codes}
 use Rattle.std.specs.Char.{digit_value}
 use Rattle.std.specs.Str.Parse.{digits_value}
 use Rattle.std.proofs.lemmas.Int.Digits.{digits_value_more}
@@ -13,7 +14,7 @@ use Rattle.text_words.specs.Octets.{is_digit}
 use Rattle.text_words.specs.Cuts.{Each, front, back}
 use Rattle.text_words.proofs.CutLemmas.{front_back, front_each, back_stops, front_is}
 use Rattle.http_service.specs.Fields.{is_space, IsScheme, IsBearer, IsTokenOf, IsToken}
-use Rattle.http_service.specs.Values.{AreValues}
+use Rattle.http_service.specs.reading.Values.{AreValues}
 use Rattle.http_service.specs.declared.fields.Values.TheVariants.{Only}
 
 -- what `is_empty` says
@@ -67,7 +68,8 @@ pub digit_range : (c : ℕ) → is_digit c ≡ true → (48 ≤ c) × (c ≤ 57)
 digit_range c is = (grind arith, grind arith)
 
 -- a digit more, where numbers end at a largest one
-pub number_more : (digits : List ℕ) (i number : ℕ) → i < length digits → is_digit (get_or digits i 0) ≡ true → number ≡ min (digits_value 10 (take i digits)) (2 ^ 64 - 1) → min (min (number * 10) (2 ^ 64 - 1) + (get_or digits i 0 - 48)) (2 ^ 64 - 1) ≡ min (digits_value 10 (take (i + 1) digits)) (2 ^ 64 - 1)
+pub number_more : (digits : List ℕ) (i number : ℕ) → i < length digits → is_digit (get_or digits i 0) ≡ true → number ≡ min (digits_value 10 (take i digits)) (2 ^ 64 - 1)
+    → min (min (number * 10) (2 ^ 64 - 1) + (get_or digits i 0 - 48)) (2 ^ 64 - 1) ≡ min (digits_value 10 (take (i + 1) digits)) (2 ^ 64 - 1)
 number_more digits i number lt is so =
     let range = digit_range (get_or digits i 0) is in
     let digit = digit_value_digit (get_or digits i 0) range in
@@ -78,7 +80,8 @@ number_more digits i number lt is so =
     step v w n c d a b e = omega arith
 
 -- the token of the only value
-pub token_is : (octets : List ℕ) (values : List (List ℕ)) (span : Span) (value : List ℕ) (given : Option (List ℕ)) → AreValues octets values (Only span) → value ≡ span_bytes octets span → IsTokenOf value given → IsToken values given
+pub token_is : (octets : List ℕ) (values : List (List ℕ)) (span : Span) (value : List ℕ) (given : Option (List ℕ)) → AreValues octets values (Only span)
+    → value ≡ span_bytes octets span → IsTokenOf value given → IsToken values given
 token_is octets [] span value given are is so = absurd are
 token_is octets (v ∷ []) span value given are is so = subst (λ (l : List ℕ). IsTokenOf l given) (is ∙ are) so
 token_is octets (v ∷ w ∷ more) span value given are is so = absurd are

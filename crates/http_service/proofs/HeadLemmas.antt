@@ -7,11 +7,13 @@ use Rattle.httparse.specs.declared.spans.HeaderSpan.{HeaderSpan}
 use Rattle.httparse.specs.declared.spans.RequestSpans.{RequestSpans}
 use Rattle.httparse.specs.Ascii.{space, colon}
 use Rattle.httparse.specs.Grammar.{LineEnd, crlf, lf, print_end, Field, print_field, print_section, RequestHead, print_request, print_blank, print_version, NeverHasRequest}
-use Rattle.httparse.specs.Spans.{span_bytes, header_bytes, name_and_value, IsRequestAt, IsRequestOf, RequestExceeds}
+use Rattle.httparse.specs.Grammar.{NeverHasSection}
+use Rattle.httparse.specs.Spans.{span_bytes, header_bytes, name_and_value, IsRequestAt, IsRequestOf, RequestExceeds, SectionExceeds}
 use Rattle.http_service.specs.declared.head.Head.{Head}
 use Rattle.http_service.specs.declared.error.HttpError.{HttpError}
 use Rattle.http_service.specs.declared.error.HttpError.TheVariants as error
-use Rattle.http_service.specs.Heads.{Makes, Begins, BeginsBadly, Parses}
+use Rattle.http_service.specs.Heads.{IsHeadText}
+use Rattle.http_service.specs.reading.Parses.{MakesHead, IsAtFront, IsRefused, ParsesFields}
 
 end_long : (e : LineEnd) → 1 ≤ length (print_end e)
 end_long crlf = omega arith
@@ -36,10 +38,22 @@ request_long h =
 -- there is room for all fields
 not_too_many : (octets : List ℕ) (room : ℕ) → length octets ≤ 2 * room → RequestExceeds room octets → ⊥
 not_too_many octets room enough (front, rest, is, h, reads, more) =
-    omega (arith, enough, more, ap length is, length-append front rest, ap length reads.1, length-append front (print_end lf), length-append (print_request h) [], request_long h, section_long h.fields h.last)
+    omega (
+      arith,
+      enough,
+      more,
+      ap length is,
+      length-append front rest,
+      ap length reads.1,
+      length-append front (print_end lf),
+      length-append (print_request h) [],
+      request_long h,
+      section_long h.fields h.last,
+    )
 
 -- an error of the parser
-pub refused : (octets : List ℕ) (room : ℕ) (e : Error) → length octets ≤ 2 * room → (e ≢ TooManyHeaders → NeverHasRequest octets) → (◌≡◌ {A = Error} e TooManyHeaders → RequestExceeds room octets) → BeginsBadly octets
+pub refused : (octets : List ℕ) (room : ℕ) (e : Error) → length octets ≤ 2 * room → (e ≢ TooManyHeaders → NeverHasRequest octets)
+    → (◌≡◌ {A = Error} e TooManyHeaders → RequestExceeds room octets) → IsRefused octets
 refused octets room HeaderName enough never over = inl (never (λ is. cc))
 refused octets room HeaderValue enough never over = inl (never (λ is. cc))
 refused octets room NewLine enough never over = inl (never (λ is. cc))
@@ -49,22 +63,53 @@ refused octets room TooManyHeaders enough never over = absurd (not_too_many octe
 refused octets room Version enough never over = inl (never (λ is. cc))
 
 -- what is made of a head, where its parts stand in the octets
-pub made : (octets : List ℕ) (headers : List HeaderSpan) (spans : RequestSpans) (h : RequestHead) (r : Result Head HttpError) → IsRequestAt octets headers spans h → Makes (span_bytes octets spans.method) (span_bytes octets spans.path) spans.version (map (header_bytes octets) (take spans.headers headers)) r → Makes h.method h.target h.minor (map name_and_value h.fields) r
+pub made : (octets : List ℕ) (headers : List HeaderSpan) (spans : RequestSpans) (h : RequestHead) (r : Result Head HttpError) → IsRequestAt octets headers spans h
+    → MakesHead (span_bytes octets spans.method) (span_bytes octets spans.path) spans.version (map (header_bytes octets) (take spans.headers headers)) r
+    → MakesHead h.method h.target h.minor (map name_and_value h.fields) r
 made octets headers spans h r at makes =
-    subst (λ (l : List ℕ). Makes l h.target h.minor (map name_and_value h.fields) r) at.method
-    (subst (λ (l : List ℕ). Makes (span_bytes octets spans.method) l h.minor (map name_and_value h.fields) r) at.path
-    (subst (λ (n : ℕ). Makes (span_bytes octets spans.method) (span_bytes octets spans.path) n (map name_and_value h.fields) r) at.version
-    (subst (λ (l : List (List ℕ × List ℕ)). Makes (span_bytes octets spans.method) (span_bytes octets spans.path) spans.version l r) at.fields makes)))
+    subst (λ (l : List ℕ). MakesHead l h.target h.minor (map name_and_value h.fields) r) at.method
+    (subst (λ (l : List ℕ). MakesHead (span_bytes octets spans.method) l h.minor (map name_and_value h.fields) r) at.path
+    (subst (λ (n : ℕ). MakesHead (span_bytes octets spans.method) (span_bytes octets spans.path) n (map name_and_value h.fields) r) at.version
+    (subst (λ (l : List (List ℕ × List ℕ)). MakesHead (span_bytes octets spans.method) (span_bytes octets spans.path) spans.version l r) at.fields makes)))
 
 -- the head that was found
-pub found : (octets : List ℕ) (headers : List HeaderSpan) (spans : RequestSpans) (head : Head) → IsRequestOf octets headers spans → Makes (span_bytes octets spans.method) (span_bytes octets spans.path) spans.version (map (header_bytes octets) (take spans.headers headers)) (Ok head) → Begins octets spans.len head
-found octets headers spans head (h, at) makes = (h, at.reads, at.len, made octets headers spans h (Ok head) at makes)
+pub found : (octets : List ℕ) (headers : List HeaderSpan) (spans : RequestSpans) (head : Head) → IsRequestOf octets headers spans
+    → MakesHead (span_bytes octets spans.method) (span_bytes octets spans.path) spans.version (map (header_bytes octets) (take spans.headers headers)) (Ok head)
+    → IsAtFront (λ text. IsHeadText text head) octets spans.len
+found octets headers spans head (h, at) makes = (print_request h, (h, at.reads.0, refl, made octets headers spans h (Ok head) at makes), at.reads.1, at.len)
 
--- the head that was found says no body, or memory was wanting
-pub not_made : (octets : List ℕ) (headers : List HeaderSpan) (spans : RequestSpans) (e : HttpError) → IsRequestOf octets headers spans → Makes (span_bytes octets spans.method) (span_bytes octets spans.path) spans.version (map (header_bytes octets) (take spans.headers headers)) (Err e) → Parses octets (Err e)
+-- the head that was found says no body, or out of memory
+pub not_made : (octets : List ℕ) (headers : List HeaderSpan) (spans : RequestSpans) (e : HttpError) → IsRequestOf octets headers spans
+    → MakesHead (span_bytes octets spans.method) (span_bytes octets spans.path) spans.version (map (header_bytes octets) (take spans.headers headers)) (Err e)
+    → ParsesFields octets (Err e)
 not_made octets headers spans error.BadHead (h, at) makes = inr (h, _, at.reads, made octets headers spans h (Err error.BadHead) at makes)
 not_made octets headers spans error.HeadTooLarge so makes = absurd makes
 not_made octets headers spans (error.TooLarge limit) so makes = absurd makes
 not_made octets headers spans error.Short so makes = absurd makes
 not_made octets headers spans error.FrontFault so makes = absurd makes
 not_made octets headers spans error.Memory so makes = tt
+
+section_exceeds : (octets : List ℕ) (room : ℕ) → length octets ≤ 2 * room → SectionExceeds room octets → ⊥
+section_exceeds octets room enough (front, rest, is, fields, reads, more) =
+    omega (
+      arith,
+      enough,
+      more,
+      ap length is,
+      length-append front rest,
+      ap length reads.1,
+      length-append front (print_end lf),
+      length-append (print_section fields lf) [],
+      section_long fields lf,
+    )
+
+-- an error of the parser, where there is room for all fields of a trailer section
+pub trailer_refused : (octets : List ℕ) (room : ℕ) (e : Error) → length octets ≤ 2 * room → (e ≢ TooManyHeaders → NeverHasSection octets)
+    → (◌≡◌ {A = Error} e TooManyHeaders → SectionExceeds room octets) → NeverHasSection octets
+trailer_refused octets room HeaderName enough never over = never (λ is. cc)
+trailer_refused octets room HeaderValue enough never over = never (λ is. cc)
+trailer_refused octets room NewLine enough never over = never (λ is. cc)
+trailer_refused octets room Status enough never over = never (λ is. cc)
+trailer_refused octets room Token enough never over = never (λ is. cc)
+trailer_refused octets room TooManyHeaders enough never over = absurd (section_exceeds octets room enough (over refl))
+trailer_refused octets room Version enough never over = never (λ is. cc)

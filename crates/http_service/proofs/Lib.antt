@@ -1,8 +1,10 @@
+pub mod TakingLemmas
+pub mod LineEndLemmas
 pub mod FieldLemmas
 pub mod HeadLemmas
-pub mod HeadEndLemmas
-pub mod HeadReadingLemmas
-pub mod BodyLemmas
-pub mod PartLemmas
-pub mod PartReadingLemmas
+pub mod LineReadingLemmas
+pub mod TargetLemmas
 pub mod ChunkLemmas
+pub mod RefusalLemmas
+pub mod LawLemmas
+pub mod CutTargetLemmas

@@ -1,6 +1,7 @@
 -- The head of a response (RFC 9112 section 4, RFC 9110 section 15).
-use Rattle.std.specs.Prelude.{ℕ, ◌==◌, if◌then◌else◌, List, [], ◌∷◌, ◌++◌, unwrap_or, codes}
+use Rattle.std.specs.Prelude.{ℕ, ◌==◌, if◌then◌else◌, List, [], ◌∷◌, ◌++◌, unwrap_or, codes, Bool, ◌&&◌, nat_le}
 use Rattle.std.specs.Fmt.{decimal}
+use Rattle.text_words.specs.Cuts.{IsRun}
 use Rattle.http.specs.StatusCode.{reason_phrase}
 
 abbrev pub crlf : List ℕ
@@ -31,3 +32,10 @@ type_field length media = if length == 0 then [] else media_field media
 -- the head of a response with a body of this length and type, its empty line with it
 abbrev pub response_head : ℕ → ℕ → List ℕ → List ℕ
 response_head status length media = status_line status ++ fixed_fields ++ challenge status ++ length_field length ++ type_field length media ++ crlf
+
+-- an octet of a media type: none that ends it, or a line
+abbrev pub is_media_octet : ℕ → Bool
+is_media_octet c = nat_le 33 c && nat_le c 126
+
+abbrev pub IsMediaText : List ℕ → Type 0
+IsMediaText text = IsRun is_media_octet text

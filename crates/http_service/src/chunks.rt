@@ -1,24 +1,24 @@
 // A chunked body (RFC 9112 section 7.1).
-ghost use Rattle.std.specs.Prelude.{◌≡◌, ◌≤◌, ◌+◌, length, vec_len, OnOk, IsErrOf};
+ghost use Rattle.std.specs.Prelude.{◌≡◌, ◌+◌, length, vec_len, OnOk, IsErrOf};
 ghost use Rattle.gate_world.specs.Causes.{Rose, FrontAlone};
 ghost use Rattle.gate_world.specs.Tape.{Adds};
-ghost use Rattle.http_service.specs.ChunkedBody.{ReadsOctet, ReadsData, ReadsChunk, ReadsChunks};
+ghost use Rattle.http_service.specs.ReadChunked.{ReadsChunks};
+ghost use Rattle.http_service.specs.reading.Steps.{ReadsOctet, ReadsData, ReadsChunk};
 
 use crate::error::HttpError;
-use crate::part::Part;
-use crate::part_reading::read_part;
-use crate::spare::Spare;
-use gate_world::{Bytes, Front};
+use crate::filling::fill_to;
+use crate::line_reading::{read_line, read_trailer};
+use gate_world::{Bytes, Front, Unread};
 use std::alloc::Global;
 
 // Reads this octet.
-fn read_octet<F: Front>(front: &mut F, spare: &mut Spare, octet: u8) -> Result<(), HttpError>
+fn read_octet<F: Front>(front: &mut F, spare: &mut Unread, octet: u8) -> Result<(), HttpError>
     ensures tape { Adds (F.tape front.old) (F.tape front.new) (ReadsOctet octet spare.old spare.new result) }
     ensures alone { FrontAlone (F.faults front.old) (F.faults front.new) }
     ensures cause { IsErrOf result HttpError.FrontFault → Rose (F.faults front.old).front (F.faults front.new).front }
     ensures hidden { F.hidden front.new ≡ F.hidden front.old }
 {
-    spare.fill_to(front, 1)?;
+    fill_to(front, spare, 1)?;
     if spare.as_slice()[0] != octet {
         return Err(HttpError::BadHead);
     }
@@ -26,10 +26,10 @@ fn read_octet<F: Front>(front: &mut F, spare: &mut Spare, octet: u8) -> Result<(
     Ok(())
 }
 
-// Reads so many octets of data, and adds them to the body.
+// Reads n octets of data, and adds them to the body.
 fn read_data<F: Front>(
     front: &mut F,
-    spare: &mut Spare,
+    spare: &mut Unread,
     size: usize,
     body: &mut Vec<u8>,
 ) -> Result<(), HttpError>
@@ -39,17 +39,17 @@ fn read_data<F: Front>(
     ensures cause { IsErrOf result HttpError.FrontFault → Rose (F.faults front.old).front (F.faults front.new).front }
     ensures hidden { F.hidden front.new ≡ F.hidden front.old }
 {
-    spare.fill_to(front, size)?;
+    fill_to(front, spare, size)?;
     let (octets, _) = spare.as_slice().split_at(size);
     body.extend_from_slice(octets)?;
     spare.skip(size);
     Ok(())
 }
 
-// Reads a chunk's data and the line end behind it.
+// Reads a chunk's data and the line end after it.
 fn read_chunk<F: Front>(
     front: &mut F,
-    spare: &mut Spare,
+    spare: &mut Unread,
     size: usize,
     body: &mut Vec<u8>,
 ) -> Result<(), HttpError>
@@ -64,11 +64,11 @@ fn read_chunk<F: Front>(
     read_octet(front, spare, b'\n')
 }
 
-/// Reads a chunked body of at most so many octets.
+/// Reads a chunked body of at most n octets.
 pub(crate) fn read_chunks<F: Front>(
     alloc: Global,
     front: &mut F,
-    spare: &mut Spare,
+    spare: &mut Unread,
     limit: u64,
 ) -> Result<Bytes, HttpError>
     ensures tape { Adds (F.tape front.old) (F.tape front.new) (ReadsChunks limit spare.old spare.new result) }
@@ -78,9 +78,9 @@ pub(crate) fn read_chunks<F: Front>(
 {
     let mut body = Vec::new(alloc);
     'chunks: loop {
-        let size = read_part(alloc, front, spare, Part::Line)?;
+        let size = read_line(front, spare)?;
         if size == 0 {
-            read_part(alloc, front, spare, Part::Trailer)?;
+            read_trailer(alloc, front, spare)?;
             return Ok(Bytes::from_vec(body)?);
         }
         if limit - (body.len() as u64) < size {

@@ -1,5 +1,5 @@
 // Why a request isn't read.
-use gate_world::Failed;
+use gate_world::FillError;
 use std::alloc::AllocError;
 use thiserror::Error;
 
@@ -24,14 +24,17 @@ pub enum HttpError {
     Memory,
 }
 
-impl From<Failed> for HttpError {
-    ghost use Rattle.http_service.specs.declared.error.HttpError.TheVariants.{FrontFault};
+impl From<FillError> for HttpError {
+    ghost use Rattle.http_service.specs.reading.Errors.{of_fill};
     ghost use Rattle.std.specs.Prelude.{◌≡◌};
 
-    ghost from_gives = { λ _ e. e ≡ FrontFault };
+    ghost from_gives = { λ f e. e ≡ of_fill f };
 
-    fn from(_: Failed) -> HttpError {
-        HttpError::FrontFault
+    fn from(error: FillError) -> HttpError {
+        match error {
+            FillError::Failed => HttpError::FrontFault,
+            FillError::Memory => HttpError::Memory,
+        }
     }
 }
 

@@ -7,7 +7,7 @@ ghost use Rattle.text_words.specs.Cuts.{Each, IsRun};
 ghost use Rattle.http_service.specs.Fields.{values_of, first_value, IsTokenOf, IsToken, IsLengthValue, IsLength, IsChunkedCoding, IsBody, Expects, content_length, transfer_encoding, authorization, content_type, expect};
 ghost use Rattle.http_service.specs.declared.head.BodyKind.{BodyKind};
 ghost use Rattle.std.specs.Option.{option_copied};
-ghost use Rattle.http_service.specs.Values.{AreValues, AreWithin, with_value};
+ghost use Rattle.http_service.specs.reading.Values.{AreValues, AreWithin, with_value};
 
 use crate::head::BodyKind;
 use httparse::spans::{HeaderSpan, Span};

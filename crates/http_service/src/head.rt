@@ -1,25 +1,23 @@
 // A request's head.
-ghost use Rattle.std.specs.Prelude.{◌≡◌, ◌≤◌, ◌*◌, vec_len, List, ℕ, drop, length, map, take, All, IfOk};
+ghost use Rattle.std.specs.Prelude.{◌≡◌, ◌≤◌, ◌*◌, vec_len, length, map, take, All, IfOk};
 ghost use Rattle.std.specs.Option.{option_copied};
 ghost use Rattle.httparse.specs.Spans.{IsRequestWithin, IsHeaderWithin, IsWithin, header_bytes, span_bytes};
-ghost use Rattle.text_words.specs.Cuts.{front, back};
-ghost use Rattle.http_service.specs.Heads.{Makes, Parses, is_path_octet};
+ghost use Rattle.http_service.specs.Heads.{IsTarget};
+ghost use Rattle.http_service.specs.reading.Parses.{MakesHead, ParsesFields, ParsesHead};
 
+use crate::cut_target::ends_in_target;
 use crate::error::HttpError;
 use crate::fields::{body_in, content_type_in, is_expecting, token_in};
+use crate::target::split_target;
 use gate_world::Bytes;
 use httparse::Status;
 use httparse::spans::{EMPTY_HEADER_SPAN, HeaderSpan, RequestSpans, Span, parse_request};
 use std::alloc::{AllocError, Global};
-use text_words::{Class, cut};
-
-/// The most octets of a head, its empty line with it.
-pub const MAX_HEAD_OCTETS: usize = 16_384;
 
 /// How a body's end is known (RFC 9112 section 6.3).
 #[derive(Clone, Copy, Debug, PartialEq, Eq)]
 pub enum BodyKind {
-    /// So many octets.
+    /// This many octets.
     Length(u64),
     /// Chunks up to one of size 0.
     Chunked,
@@ -31,7 +29,7 @@ pub struct Head {
     pub method: Bytes,
     /// The target up to its first `?`.
     pub path: Bytes,
-    /// The target behind its first `?`.
+    /// The target after its first `?`.
     pub query: Bytes,
     /// The token of the only Authorization field, where that is of the Bearer scheme.
     pub token: Option<Bytes>,
@@ -40,29 +38,6 @@ pub struct Head {
     pub body: BodyKind,
     /// Whether the client waits for `100 Continue` before it sends the body.
     pub expects: bool,
-}
-
-/// The octets of a path: all but `?`.
-struct PathOctet;
-
-impl Class<u8> for PathOctet {
-    ghost test = { is_path_octet };
-
-    fn has(&self, item: &u8) -> bool {
-        *item != b'?'
-    }
-}
-
-// The parts of a target round its first `?`.
-fn split_target(target: &[u8]) -> (&[u8], &[u8])
-    ensures path { result.0.now ≡ front is_path_octet target.now }
-    ensures query { result.1.now ≡ drop 1 (back is_path_octet target.now) }
-{
-    let (path, rest) = cut(&PathOctet, target);
-    match rest {
-        [] => (path, rest),
-        [_, query @ ..] => (path, query),
-    }
 }
 
 fn copied(alloc: Global, octets: Option<&[u8]>) -> Result<Option<Bytes>, AllocError>
@@ -84,8 +59,7 @@ fn start_line(
     requires method { IsWithin (length octets.now) method }
     requires target { IsWithin (length octets.now) target }
     ensures method { IfOk result (λ line. line.0 ≡ span_bytes octets.now method) }
-    ensures path { IfOk result (λ line. line.1 ≡ front is_path_octet (span_bytes octets.now target)) }
-    ensures query { IfOk result (λ line. line.2 ≡ drop 1 (back is_path_octet (span_bytes octets.now target))) }
+    ensures target { IfOk result (λ line. IsTarget (span_bytes octets.now target) line.1 line.2) }
 {
     let (path, query) = split_target(target.of(octets));
     let method = Bytes::copy_of(alloc, method.of(octets))?;
@@ -104,7 +78,7 @@ fn head_of(
     requires method { IsWithin (length octets.now) spans.method }
     requires target { IsWithin (length octets.now) spans.path }
     requires fields { All (IsHeaderWithin (length octets.now)) fields.now }
-    ensures { Makes (span_bytes octets.now spans.method) (span_bytes octets.now spans.path) spans.version
+    ensures { MakesHead (span_bytes octets.now spans.method) (span_bytes octets.now spans.path) spans.version
         (map (header_bytes octets.now) fields.now) result }
 {
     let Some(body) = body_in(octets, fields) else {
@@ -125,7 +99,7 @@ fn head_of(
     })
 }
 
-// Room for the fields of a head of so many octets: each takes two at least.
+// Room for the fields of a head of n octets: each takes two at least.
 pub(crate) fn room(alloc: Global, octets: usize) -> Result<Vec<HeaderSpan>, AllocError>
     ensures { IfOk result (λ fields. octets ≤ 2 * vec_len fields) }
 {
@@ -139,7 +113,7 @@ fn parse_into(
     fields: &mut [HeaderSpan],
 ) -> Result<Option<(Head, usize)>, HttpError>
     requires { length octets.now ≤ 2 * length fields.old }
-    ensures { Parses octets.now result }
+    ensures { ParsesFields octets.now result }
 {
     match parse_request(octets, fields) {
         Ok(Status::Complete(spans)) => {
@@ -152,10 +126,27 @@ fn parse_into(
     }
 }
 
-/// The head at the front of the octets, and of how many octets it is. It may be that a head is still coming.
-pub(crate) fn parse(alloc: Global, octets: &[u8]) -> Result<Option<(Head, usize)>, HttpError>
-    ensures { Parses octets.now result }
+// The head at the front of the octets, and of how many octets it is.
+fn parse(alloc: Global, octets: &[u8]) -> Result<Option<(Head, usize)>, HttpError>
+    ensures { ParsesFields octets.now result }
 {
     let mut fields = room(alloc, octets.len())?;
     parse_into(alloc, octets, &mut fields)
+}
+
+/// The head at the front of the octets, and of how many octets it is. It may be that a head is still coming, which octets
+/// that are cut inside their target never rule out.
+pub(crate) fn parse_head(alloc: Global, octets: &[u8]) -> Result<Option<(Head, usize)>, HttpError>
+    ensures { ParsesHead octets.now result }
+{
+    match parse(alloc, octets) {
+        Err(HttpError::BadHead) => {
+            if ends_in_target(octets) {
+                Ok(None)
+            } else {
+                Err(HttpError::BadHead)
+            }
+        }
+        parsed => parsed,
+    }
 }

@@ -2,22 +2,29 @@
 #![tactic(auto)]
 
 mod body;
+mod chunk_lines;
 mod chunks;
+mod cut_target;
 mod error;
 mod fields;
+mod filling;
 mod head;
-mod head_end;
-mod head_reading;
-mod part;
-mod part_reading;
+pub mod laws;
+mod line_reading;
+mod lines;
+mod media;
+mod refusal;
 mod response;
 mod response_text;
-mod spare;
+mod target;
 
 pub use body::read_body;
 pub use error::HttpError;
-pub use head::{BodyKind, Head, MAX_HEAD_OCTETS};
-pub use head_reading::read_head;
+pub use gate_world::Unread as Spare;
+pub use head::{BodyKind, Head};
+pub use line_reading::read_head;
+pub use lines::MAX_HEAD_OCTETS;
+pub use media::MediaType;
+pub use refusal::{Refusal, refusal_head};
 pub use response::write_response;
 pub use response_text::response_head;
-pub use spare::Spare;

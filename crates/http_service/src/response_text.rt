@@ -3,6 +3,7 @@ ghost use Rattle.std.specs.Prelude.{◌≡◌, ◌++◌, [], IfOk, OnOk, unwrap_
 ghost use Rattle.http.specs.StatusCode.{reason_phrase};
 ghost use Rattle.http_service.specs.Responses as texts;
 
+use crate::media::MediaType;
 use gate_world::Bytes;
 use http::StatusCode;
 use std::alloc::{AllocError, Global};
@@ -76,13 +77,13 @@ fn push_length(alloc: Global, head: &mut Vec<u8>, length: u64) -> Result<(), All
     Ok(())
 }
 
-/// The head of a response with a body of so many octets and of this type, its empty line with it. An empty body has no
+/// The head of a response with a body of `length` octets and of this type, its empty line with it. An empty body has no
 /// type.
 pub fn response_head(
     alloc: Global,
     status: StatusCode,
     length: u64,
-    media: &[u8],
+    media: &MediaType,
 ) -> Result<Bytes, AllocError>
     ensures { IfOk result (λ head. head ≡ texts.response_head status length media.now) }
 {
@@ -91,7 +92,7 @@ pub fn response_head(
     push_fixed_fields(&mut head)?;
     head.extend_from_slice(challenge(status))?;
     push_length(alloc, &mut head, length)?;
-    push_type(&mut head, length, media)?;
+    push_type(&mut head, length, media.as_slice())?;
     head.extend_from_slice(b"\r\n")?;
     Ok(Bytes::from_vec(head)?)
 }

@@ -1,5 +1,6 @@
-use crate::client::{PIECES, given_and_taken, posted, read_both, world_of};
-use http_service::{Spare, read_head};
+// Bodies by length and by chunks.
+use crate::client::{PIECES, given_and_taken, joined, posted, read_both, world_of};
+use http_service::{MAX_HEAD_OCTETS, Spare, read_head};
 use std::alloc::Global;
 use std::process::Abort;
 use std::test::Fail;
@@ -11,7 +12,7 @@ const CHUNKED: &[u8] = b"Transfer-Encoding: chunked";
 /// What is said where a body has more than 10 octets.
 const TOO_LARGE: &[u8] = b"TooLarge { limit: 10 }";
 
-/// What came behind a head with a length of 3, and what is read of it.
+/// What came after a head with a length of 3, and what is read of it.
 const BODIES_OF_3: [(&[u8], &[u8]); 4] = [
     (b"abc", b"abc"),
     (b"abcdef", b"abc"),
@@ -19,7 +20,7 @@ const BODIES_OF_3: [(&[u8], &[u8]); 4] = [
     (b"", b"Short"),
 ];
 
-/// What came behind a head without a length or a coding, and what is read of it.
+/// What came after a head without a length or a coding, and what is read of it.
 const NO_BODIES: [(&[u8], &[u8]); 2] = [(b"", b""), (b"abc", b"")];
 
 /// Chunked bodies, and what is read of them.
@@ -55,7 +56,7 @@ const CHUNKED_BODIES: [(&[u8], &[u8]); 26] = [
     (b"3\r\nabc\r\n0\r\nA: b\r\n", b"Short"),
 ];
 
-/// Under a limit of 10 octets the body behind these fields is read so, in any pieces.
+/// Under a limit of 10 octets the body after these fields is read so, in any pieces.
 fn expect_body(
     rt: &impl Abort,
     alloc: Global,
@@ -96,7 +97,7 @@ fn bodies_in_chunks_are_read_in_any_pieces(rt: HostRuntime) -> Result<(), Fail> 
     expect_bodies(&rt, rt.alloc(), CHUNKED, &CHUNKED_BODIES)
 }
 
-/// Fields, the body behind them, and what is read of it.
+/// Fields, the body after them, and what is read of it.
 const BODIES_AT_THE_LIMIT: [(&[u8], &[u8], &[u8]); 4] = [
     (b"Content-Length: 10", b"abcdefghij", b"abcdefghij"),
     (b"Content-Length: 11", b"abcdefghijk", TOO_LARGE),
@@ -116,7 +117,91 @@ fn bodies_have_at_most_the_limit(rt: HostRuntime) -> Result<(), Fail> {
     Ok(())
 }
 
-/// Three requests, one behind another.
+/// What stands round the filler of a chunk's line of size 1, and of a trailer section.
+const LINE_FRONT: &[u8] = b"1;";
+
+const LINE_BACK: &[u8] = b"\r\n";
+
+const TRAILER_FRONT: &[u8] = b"A: ";
+
+const TRAILER_BACK: &[u8] = b"\r\n\r\n";
+
+/// A text of n octets, between these.
+fn filled(alloc: Global, front: &[u8], back: &[u8], size: usize) -> Result<Vec<u8>, Fail> {
+    let filler = vec![in alloc; b'x'; size.saturating_sub(front.len() + back.len())]?;
+    Ok(joined(alloc, &[front, filler.as_slice(), back])?)
+}
+
+/// A body of one octet whose chunk's line has n octets.
+fn with_line(alloc: Global, size: usize) -> Result<Vec<u8>, Fail> {
+    let line = filled(alloc, LINE_FRONT, LINE_BACK, size)?;
+    Ok(joined(alloc, &[&line, b"z\r\n0\r\n\r\n"])?)
+}
+
+/// An empty body whose trailer section has n octets.
+fn with_trailer(alloc: Global, size: usize) -> Result<Vec<u8>, Fail> {
+    let trailer = filled(alloc, TRAILER_FRONT, TRAILER_BACK, size)?;
+    Ok(joined(alloc, &[b"0\r\n", &trailer])?)
+}
+
+/// What is read of this chunked body, and how many of its octets were asked for at most.
+fn expect_asked(
+    rt: &impl Abort,
+    alloc: Global,
+    body: &[u8],
+    wanted: &[u8],
+    asked: usize,
+) -> Result<(), Fail> {
+    for piece in [1, 1000, 100_000] {
+        let client = posted(alloc, CHUNKED, body)?;
+        let mut world = world_of(alloc, &client, piece, 0)?;
+        let mut spare = Spare::new(alloc);
+        let seen = read_both(alloc, &mut world, &mut spare, 10)?;
+        let (given, _) = given_and_taken(alloc, &world)?;
+        assert_eq!(rt; seen.as_slice(), wanted);
+        let head = client.len().saturating_sub(body.len());
+        assert!(rt; given <= MAX_HEAD_OCTETS.max(head.saturating_add(asked)));
+    }
+    Ok(())
+}
+
+#[test]
+fn lines_and_trailers_have_at_most_their_octets(rt: HostRuntime) -> Result<(), Fail> {
+    let alloc = rt.alloc();
+    let most = MAX_HEAD_OCTETS;
+    let line = with_line(alloc, most)?;
+    expect_asked(&rt, alloc, &line, b"z", line.len())?;
+    let long = with_line(alloc, most + 1)?;
+    expect_asked(&rt, alloc, &long, b"BadHead", most)?;
+    let trailer = with_trailer(alloc, most)?;
+    expect_asked(&rt, alloc, &trailer, b"", trailer.len())?;
+    let long = with_trailer(alloc, most + 1)?;
+    expect_asked(&rt, alloc, &long, b"BadHead", most + 3)
+}
+
+/// Chunked bodies that are refused, and how many of their octets are asked for until then, one at a time.
+const ASKED_FOR: [(&[u8], usize); 6] = [
+    (b"b\r\nabcdefghijk\r\n0\r\n\r\n", 3),
+    (b"a\r\nabcdefghij\r\n1\r\nk\r\n0\r\n\r\n", 18),
+    (b"ffffffffffffffff\r\nabc", 18),
+    (b"zz\r\nabc", 4),
+    (b"3\r\nabcd\r\n0\r\n\r\n", 7),
+    (b"0\r\n: x\r\n\r\nabc", 10),
+];
+
+#[test]
+fn no_octet_is_asked_for_after_a_refusal(rt: HostRuntime) -> Result<(), Fail> {
+    let alloc = rt.alloc();
+    for row in ASKED_FOR.iter() {
+        let client = posted(alloc, CHUNKED, row.0)?;
+        let seen = read_slowly(alloc, &client, 10)?;
+        let head = client.len().saturating_sub(row.0.len());
+        assert_eq!(rt; seen.given, head.saturating_add(row.1));
+    }
+    Ok(())
+}
+
+/// Three requests, one after another.
 const THREE_REQUESTS: &[u8] =
     b"POST / HTTP/1.1\r\nContent-Length: 2\r\n\r\nabPOST / HTTP/1.1\r\nTransfer-Encoding: chunked\r\n\r\n1\r\nc\r\n0\r\n\r\nrest /x HTTP/1.1\r\n\r\n";
 
@@ -134,7 +219,7 @@ fn read_three(alloc: Global, client: &[u8]) -> Result<[Vec<u8>; 3], Fail> {
 }
 
 #[test]
-fn octets_behind_a_body_are_kept(rt: HostRuntime) -> Result<(), Fail> {
+fn octets_after_a_body_are_kept(rt: HostRuntime) -> Result<(), Fail> {
     let read = read_three(rt.alloc(), THREE_REQUESTS)?;
     for (octets, wanted) in read.iter().zip(READ_OF_THREE.iter()) {
         assert_eq!(rt; octets.as_slice(), *wanted);
@@ -151,7 +236,7 @@ struct Reading {
     took: Vec<u8>,
 }
 
-/// The reading of a client's body under this limit, behind its head.
+/// The reading of a client's body under this limit, after its head.
 fn read_slowly(alloc: Global, client: &[u8], limit: u64) -> Result<Reading, Fail> {
     let mut world = world_of(alloc, client, 1, 0)?;
     let mut spare = Spare::new(alloc);
@@ -214,7 +299,7 @@ fn body_with_fault(alloc: Global, client: &[u8], call: u64) -> Result<Vec<u8>, F
 fn a_front_that_fails_at_any_call_is_a_fault(rt: HostRuntime) -> Result<(), Fail> {
     let alloc = rt.alloc();
     let client = posted(alloc, WAITS_BY_CHUNKS, CHUNKS)?;
-    // behind `accept`, one recv an octet, and the send of `100 Continue`
+    // after `accept`, one recv an octet, and the send of `100 Continue`
     let last = (client.len() as u64).saturating_add(2);
     for call in 2..120 {
         let seen = body_with_fault(alloc, &client, call)?;

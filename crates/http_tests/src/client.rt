@@ -1,4 +1,5 @@
-use gate_world::{Bytes, Event, Fail as FailingCall, Front, Listed, Script, ScriptWorld};
+// One client that gives octets, and what is read of it.
+use gate_world::{Event, Front, Script, ScriptWorld};
 use http_service::{Spare, read_body, read_head};
 use std::alloc::{AllocError, Global};
 use std::test::Fail;
@@ -13,24 +14,16 @@ pub(crate) fn world_of(
     piece: usize,
     call: u64,
 ) -> Result<ScriptWorld, AllocError> {
-    let script = Script {
-        links: Listed::from_vec(Vec::new(alloc)),
-        clients: Listed::from_vec(vec![in alloc; Bytes::copy_of(alloc, client)?]?),
-        batches: Listed::from_vec(Vec::new(alloc)),
-        moments: Listed::from_vec(Vec::new(alloc)),
-        words: Listed::from_vec(Vec::new(alloc)),
-        fails: Listed::from_vec(vec![in alloc; FailingCall { call, kept: false }]?),
-        stop_at: 0,
-        piece,
-        password: Bytes::copy_of(alloc, b"")?,
-        token: Bytes::copy_of(alloc, b"")?,
-    };
+    let script = Script::new(alloc)?
+        .with_client(client)?
+        .in_pieces(piece)
+        .failing(call)?;
     let mut world = ScriptWorld::new(alloc, script);
     let _ = world.accept();
     Ok(world)
 }
 
-/// The pieces, one behind another.
+/// The pieces, one after another.
 pub(crate) fn joined(alloc: Global, pieces: &[&[u8]]) -> Result<Vec<u8>, AllocError> {
     let mut text = Vec::new(alloc);
     for piece in pieces {
@@ -44,7 +37,7 @@ pub(crate) fn posted(alloc: Global, fields: &[u8], body: &[u8]) -> Result<Vec<u8
     joined(alloc, &[b"POST / HTTP/1.1\r\n", fields, b"\r\n\r\n", body])
 }
 
-/// What is read of a client's body, behind its head; an error by its name.
+/// What is read of a client's body, after its head; an error by its name.
 pub(crate) fn read_both(
     alloc: Global,
     world: &mut ScriptWorld,

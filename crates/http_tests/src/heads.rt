@@ -1,4 +1,5 @@
-use crate::client::{PIECES, joined, world_of};
+// Heads of requests.
+use crate::client::{PIECES, given_and_taken, joined, world_of};
 use gate_world::Bytes;
 use http_service::{Head, MAX_HEAD_OCTETS, Spare, read_head};
 use std::alloc::{AllocError, Global};
@@ -48,7 +49,7 @@ fn read_one(alloc: Global, client: &[u8], piece: usize) -> Result<Vec<u8>, Fail>
 const PLAIN: &[u8] = b"GET|/||-|-|Length(0)|false";
 
 /// Heads that say something.
-const HEADS: [(&[u8], &[u8]); 12] = [
+const HEADS: [(&[u8], &[u8]); 20] = [
     (
         b"GET /a?b=c?d HTTP/1.1\r\n\r\n",
         b"GET|/a|b=c?d|-|-|Length(0)|false",
@@ -93,6 +94,38 @@ const HEADS: [(&[u8], &[u8]); 12] = [
     (
         b"GET / HTTP/1.1\r\nExpect: 100-Continue\r\n\r\n",
         b"GET|/||-|-|Length(0)|true",
+    ),
+    (
+        b"GET http://example.org/a/b?c HTTP/1.1\r\n\r\n",
+        b"GET|/a/b|c|-|-|Length(0)|false",
+    ),
+    (
+        b"GET HTTPS://u@example.org:8080/a://b HTTP/1.1\r\n\r\n",
+        b"GET|/a://b||-|-|Length(0)|false",
+    ),
+    (
+        b"GET x+1-.y://?c HTTP/1.1\r\n\r\n",
+        b"GET||c|-|-|Length(0)|false",
+    ),
+    (
+        b"GET http://example.org HTTP/1.1\r\n\r\n",
+        b"GET|||-|-|Length(0)|false",
+    ),
+    (
+        b"GET //example.org/a HTTP/1.1\r\n\r\n",
+        b"GET|//example.org/a||-|-|Length(0)|false",
+    ),
+    (
+        b"GET 1http://example.org/a HTTP/1.1\r\n\r\n",
+        b"GET|1http://example.org/a||-|-|Length(0)|false",
+    ),
+    (
+        b"GET http:/a HTTP/1.1\r\n\r\n",
+        b"GET|http:/a||-|-|Length(0)|false",
+    ),
+    (
+        b"GET /http://example.org/a HTTP/1.1\r\n\r\n",
+        b"GET|/http://example.org/a||-|-|Length(0)|false",
     ),
 ];
 
@@ -190,11 +223,38 @@ fn a_head_that_is_cut_anywhere_is_short(rt: HostRuntime) -> Result<(), Fail> {
     Ok(())
 }
 
+/// Heads that are cut inside their targets, which may still become UTF-8, or never.
+const CUT_IN_TARGET: [&[u8]; 4] = [b"GET /", b"GET /\xc3", b"GET /\xff", b"\r\nGET /\xff\xff?"];
+
+#[test]
+fn a_head_that_is_cut_in_its_target_is_short(rt: HostRuntime) -> Result<(), Fail> {
+    expect_all(&rt, rt.alloc(), &CUT_IN_TARGET, b"Short")
+}
+
+/// How many octets of a client are asked for until its head is read or refused, where it gives one at a time.
+fn given_for_head(alloc: Global, client: &[u8]) -> Result<usize, Fail> {
+    let mut world = world_of(alloc, client, 1, 0)?;
+    let mut spare = Spare::new(alloc);
+    let _ = read_head(alloc, &mut world, &mut spare);
+    let (given, _) = given_and_taken(alloc, &world)?;
+    Ok(given)
+}
+
+#[test]
+fn no_octet_is_asked_for_after_an_empty_line(rt: HostRuntime) -> Result<(), Fail> {
+    let alloc = rt.alloc();
+    for head in BAD_HEADS {
+        let client = joined(alloc, &[head, b"GET / HTTP/1.1\r\n\r\n"])?;
+        assert_eq!(rt; given_for_head(alloc, &client)?, head.len());
+    }
+    Ok(())
+}
+
 const LONG_FRONT: &[u8] = b"GET / HTTP/1.1\r\nX: ";
 
 const LONG_BACK: &[u8] = b"\r\n\r\n";
 
-/// A head of so many octets.
+/// A head of n octets.
 fn long_head(alloc: Global, size: usize) -> Result<Vec<u8>, AllocError> {
     let filled = size.saturating_sub(LONG_FRONT.len() + LONG_BACK.len());
     let filler = vec![in alloc; b'x'; filled]?;

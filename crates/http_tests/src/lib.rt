@@ -6,6 +6,8 @@ mod bodies;
 #[cfg(test)]
 mod client;
 #[cfg(test)]
+mod cut_requests;
+#[cfg(test)]
 mod heads;
 #[cfg(test)]
 mod responses;

@@ -1,6 +1,7 @@
+// Heads and bodies of responses.
 use crate::client::{given_and_taken, world_of};
 use http::StatusCode;
-use http_service::{response_head, write_response};
+use http_service::{MediaType, Refusal, refusal_head, response_head, write_response};
 use std::alloc::Global;
 use std::process::Abort;
 use std::test::Fail;
@@ -22,7 +23,7 @@ const HEADS: [(u16, u64, &[u8], &[u8]); 10] = [
     (
         401,
         0,
-        b"",
+        b"a/b",
         b"HTTP/1.1 401 Unauthorized\r\nConnection: close\r\nCache-Control: no-store\r\nWWW-Authenticate: Bearer\r\nContent-Length: 0\r\n\r\n",
     ),
     (
@@ -40,7 +41,7 @@ const HEADS: [(u16, u64, &[u8], &[u8]); 10] = [
     (
         405,
         0,
-        b"",
+        b"a/b",
         b"HTTP/1.1 405 Method Not Allowed\r\nConnection: close\r\nCache-Control: no-store\r\nContent-Length: 0\r\n\r\n",
     ),
     (
@@ -52,26 +53,27 @@ const HEADS: [(u16, u64, &[u8], &[u8]); 10] = [
     (
         431,
         0,
-        b"",
+        b"a/b",
         b"HTTP/1.1 431 Request Header Fields Too Large\r\nConnection: close\r\nCache-Control: no-store\r\nContent-Length: 0\r\n\r\n",
     ),
     (
         503,
         0,
-        b"",
+        b"a/b",
         b"HTTP/1.1 503 Service Unavailable\r\nConnection: close\r\nCache-Control: no-store\r\nContent-Length: 0\r\n\r\n",
     ),
     (
         599,
         0,
-        b"",
+        b"a/b",
         b"HTTP/1.1 599 \r\nConnection: close\r\nCache-Control: no-store\r\nContent-Length: 0\r\n\r\n",
     ),
 ];
 
 fn expect_head(rt: &impl Abort, alloc: Global, row: &(u16, u64, &[u8], &[u8])) -> Result<(), Fail> {
     let status = StatusCode::from_u16(row.0)?;
-    let head = response_head(alloc, status, row.1, row.2)?;
+    let media = MediaType::new(row.2).ok_or("no media type")?;
+    let head = response_head(alloc, status, row.1, &media)?;
     assert_eq!(rt; head.as_slice(), row.3);
     Ok(())
 }
@@ -90,6 +92,58 @@ fn expect_heads(
 #[test]
 fn responses_have_heads(rt: HostRuntime) -> Result<(), Fail> {
     expect_heads(&rt, rt.alloc(), &HEADS)
+}
+
+/// Refusals, and their statuses.
+const REFUSALS: [(Refusal, u16); 6] = [
+    (Refusal::BadRequest, 400),
+    (Refusal::Unauthorized, 401),
+    (Refusal::NotFound, 404),
+    (Refusal::MethodNotAllowed, 405),
+    (Refusal::HeadTooLarge, 431),
+    (Refusal::Unavailable, 503),
+];
+
+#[test]
+fn refusals_have_the_heads_of_their_statuses(rt: HostRuntime) -> Result<(), Fail> {
+    let media = MediaType::new(b"text/plain").ok_or("no media type")?;
+    for row in REFUSALS.iter() {
+        let status = StatusCode::from_u16(row.1)?;
+        let head = response_head(rt.alloc(), status, 0, &media)?;
+        assert_eq!(rt; refusal_head(row.0), head.as_slice());
+    }
+    Ok(())
+}
+
+/// Texts that are no media type: empty, or with a space, a control character or an octet above 126.
+const NO_MEDIA_TYPES: [&[u8]; 8] = [
+    b"",
+    b" ",
+    b"a/b c",
+    b"a/b\r\nX: y",
+    b"a\n",
+    b"a\0",
+    b"a\x7f",
+    b"\xc3\xa9/b",
+];
+
+const MEDIA_TYPES: [&[u8]; 4] = [
+    b"a",
+    b"application/json",
+    b"text/plain;charset=utf-8",
+    b"!~",
+];
+
+#[test]
+fn media_types_end_no_line(rt: HostRuntime) -> Result<(), Fail> {
+    for text in NO_MEDIA_TYPES {
+        assert!(rt; MediaType::new(text).is_none());
+    }
+    for text in MEDIA_TYPES {
+        let media = MediaType::new(text).ok_or("no media type")?;
+        assert_eq!(rt; media.as_slice(), text);
+    }
+    Ok(())
 }
 
 /// Whether all was sent, and what the client took.

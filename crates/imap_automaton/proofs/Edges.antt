@@ -44,7 +44,7 @@ word_among place key at fits = (and_parts (nat_le at (length (key_text key))) (i
 
 pub edge_back : (s : Sym) (c : ℕ) (t : List ℕ) → SymFits s ≡ true → After (rule_of s c) t → Lang s (c ∷ t)
 edge_back (sym.Line s) c t fits h = line_edge_back s c t fits h
-edge_back (sym.Word place key at) c t fits h = word_back place key at c t (word_le place key at fits) h
+edge_back (sym.Word place key at) c t fits h = word_back place key at c t (word_le place key at fits) (word_among place key at fits) h
 edge_back (sym.Free s) c t fits h = free_back s c t h
 edge_back (sym.Item s) c t fits h = item_back s c t h
 edge_back (sym.Names s) c t fits h = names_back s c t h
@@ -58,7 +58,7 @@ edge_back (sym.Folder s) c t fits h = folder_back s c t h
 
 pub edge_forth : (s : Sym) (c : ℕ) (t : List ℕ) → SymFits s ≡ true → Lang s (c ∷ t) → After (rule_of s c) t
 edge_forth (sym.Line s) c t fits h = line_edge_forth s c t fits h
-edge_forth (sym.Word place key at) c t fits h = word_forth place key at c t (word_le place key at fits) h
+edge_forth (sym.Word place key at) c t fits h = word_forth place key at c t (word_le place key at fits) (word_among place key at fits) h
 edge_forth (sym.Free s) c t fits h = free_forth s c t h
 edge_forth (sym.Item s) c t fits h = item_forth s c t h
 edge_forth (sym.Names s) c t fits h = names_forth s c t h

@@ -32,7 +32,7 @@ use Rattle.imap_automaton.specs.declared.sym.Sym.TheVariants as sym
 use Rattle.imap_automaton.specs.declared.sym.Move.{Move}
 use Rattle.imap_automaton.specs.declared.sym.Move.TheVariants as move
 use Rattle.imap_automaton.specs.Counts.{pend}
-use Rattle.imap_automaton.specs.Keys.{key_text, phrase_text, keys, first_key, in_word, goes_on, next_key, whole_key}
+use Rattle.imap_automaton.specs.Keys.{key_text, phrase_text, keys, first_key, in_word, goes_on, next_key, whole_key, is_among}
 use Rattle.imap_automaton.specs.FreeRules.{free_end, text_rule}
 use Rattle.imap_automaton.specs.WordRules.{rest_rule, spaced_rule, end_rule, behind_key, stray, word_goes, word_ends, word_rule}
 use Rattle.imap_automaton.specs.ItemRules.{number_rule, long_rule}
@@ -47,7 +47,7 @@ use Rattle.imap_automaton.specs.Fits.{PendFits, SymFits}
 use Rattle.imap_automaton.specs.Run.{is_octets}
 use Rattle.imap_automaton.specs.Flow.{ends_open, begins, may_yield, need, sym_left}
 use Rattle.imap_automaton.proofs.ItemNameEdges.{takes_small}
-use Rattle.imap_automaton.proofs.KeyLemmas.{find_some, goes_to, among_is}
+use Rattle.imap_automaton.proofs.KeyLemmas.{find_some, among_keys, goes_to, among_is}
 use Rattle.imap_syntax.specs.Octets.{is_digit, is_text, is_word, is_atom, lower}
 use Rattle.imap_syntax.specs.Texts.{Each}
 
@@ -252,21 +252,21 @@ same_word place.Month k q at n = (refl, refl)
 not_or_self : (a b : Bool) → a ≡ b → (not a || b) ≡ true
 not_or_self a b e = grind arith
 
-goes_fine : (p : Place) (k : Key) (at c : ℕ) (o : Option Key) → next_key p k at (lower c) ≡ o → in_word p c ≡ true → fine (ends_open (sym.Word p k at)) false (need (sym.Word p k at)) (nat_lt c 256) (word_goes p k at c o) ≡ true
-goes_fine p k at c (Some x) e i =
-    let f = find_some (goes_on k at (lower c)) (keys p) x e in
+goes_fine : (p : Place) (k : Key) (at c : ℕ) (o : Option Key) → is_among k (keys p) ≡ true → next_key p k at (lower c) ≡ o → in_word p c ≡ true → fine (ends_open (sym.Word p k at)) false (need (sym.Word p k at)) (nat_lt c 256) (word_goes p k at c o) ≡ true
+goes_fine p k at c (Some x) m e i =
+    let f = find_some (goes_on k at (lower c)) (k ∷ keys p) x e in
     let g = goes_to k x at (lower c) f.0 in
     let w = same_word p x k (at + 1) at in
-    and_from _ _ (and_from _ _ (and_from _ _ (and_from _ _ (in_word_small p c i) (and_from _ _ (le-leb _ _ g.1) (among_is x (keys p) f.1))) (not_or_self _ _ w.0)) (le-leb (need (sym.Word p x (at + 1))) (need (sym.Word p k at)) (omega (arith, w.1)))) refl
-goes_fine p k at c None e i = stray_fine p k at c
+    and_from _ _ (and_from _ _ (and_from _ _ (and_from _ _ (in_word_small p c i) (and_from _ _ (le-leb _ _ g.1) (among_is x (keys p) (among_keys p k x m f.1)))) (not_or_self _ _ w.0)) (le-leb (need (sym.Word p x (at + 1))) (need (sym.Word p k at)) (omega (arith, w.1)))) refl
+goes_fine p k at c None m e i = stray_fine p k at c
 
 ends_fine : (p : Place) (k : Key) (at c : ℕ) (o : Option Key) → fine (ends_open (sym.Word p k at)) false (need (sym.Word p k at)) (nat_lt c 256) (word_ends p k at c o) ≡ true
 ends_fine p k at c (Some x) = behind_fine p x k at c
 ends_fine p k at c None = stray_fine p k at c
 
-word_fine : (p : Place) (k : Key) (at c : ℕ) → fine (ends_open (sym.Word p k at)) false (need (sym.Word p k at)) (nat_lt c 256) (word_rule p k at c) ≡ true
-word_fine p k at c = fine_by (ends_open (sym.Word p k at)) false (need (sym.Word p k at)) (nat_lt c 256) (in_word p c) (word_goes p k at c (next_key p k at (lower c))) (cond (at == 0) move.Fail (word_ends p k at c (whole_key p k at)))
-    (λ i. goes_fine p k at c (next_key p k at (lower c)) refl i)
+word_fine : (p : Place) (k : Key) (at c : ℕ) → is_among k (keys p) ≡ true → fine (ends_open (sym.Word p k at)) false (need (sym.Word p k at)) (nat_lt c 256) (word_rule p k at c) ≡ true
+word_fine p k at c m = fine_by (ends_open (sym.Word p k at)) false (need (sym.Word p k at)) (nat_lt c 256) (in_word p c) (word_goes p k at c (next_key p k at (lower c))) (cond (at == 0) move.Fail (word_ends p k at c (whole_key p k at)))
+    (λ i. goes_fine p k at c (next_key p k at (lower c)) m refl i)
     (λ i. fine_by (ends_open (sym.Word p k at)) false (need (sym.Word p k at)) (nat_lt c 256) (at == 0) move.Fail (word_ends p k at c (whole_key p k at)) (λ z. refl) (λ z. ends_fine p k at c (whole_key p k at)))
 
 -- ---- lines
@@ -320,7 +320,7 @@ folded_fine p at c fits = fine_by false false 1 (nat_lt c 256) (nat_lt at (lengt
 line_fine : (s : Line) (c : ℕ) → SymFits (sym.Line s) ≡ true → fine (ends_open (sym.Line s)) false (need (sym.Line s)) (nat_lt c 256) (line_rule s c) ≡ true
 line_fine line.Start c fits = grind arith
 line_fine (line.Tag n) c fits = grind arith
-line_fine line.Untagged c fits = fine_by false false 4 (nat_lt c 256) (is_digit c) (move.One (sym.Line (line.Sequence (c - 48) 1))) (word_rule place.Plain (first_key place.Plain) 0 c) (λ d. digit_fine c d) (λ d. word_fine place.Plain key.Ok 0 c)
+line_fine line.Untagged c fits = fine_by false false 4 (nat_lt c 256) (is_digit c) (move.One (sym.Line (line.Sequence (c - 48) 1))) (word_rule place.Plain (first_key place.Plain) 0 c) (λ d. digit_fine c d) (λ d. word_fine place.Plain key.Ok 0 c refl)
   where
     digit_fine : (c : ℕ) → is_digit c ≡ true → fine false false 4 (nat_lt c 256) (move.One (sym.Line (line.Sequence (c - 48) 1))) ≡ true
     digit_fine c d = grind arith
@@ -500,7 +500,7 @@ folder_fine folder.MoreCounts c = grind arith
 
 pub move_fine : (s : Sym) (c : ℕ) → is_octets s ≡ false → SymFits s ≡ true → fine (ends_open s) (may_yield s) (need s) (nat_lt c 256) (rule_of s c) ≡ true
 move_fine (sym.Line s) c o fits = line_fine s c fits
-move_fine (sym.Word p k at) c o fits = word_fine p k at c
+move_fine (sym.Word p k at) c o fits = word_fine p k at c (and_parts (nat_le at (length (key_text k))) (is_among k (keys p)) fits).1
 move_fine (sym.Free (free.Text s)) c o fits = text_fine 2 s c (omega arith) fits
 move_fine (sym.Free (free.Break n)) c o fits = grind arith
 move_fine (sym.Free (free.Octets n)) c o fits = absurd cc

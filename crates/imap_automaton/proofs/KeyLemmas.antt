@@ -11,7 +11,7 @@ use Rattle.imap_automaton.specs.declared.sym.Key.{Key}
 use Rattle.imap_automaton.specs.declared.sym.Key.TheVariants as key
 use Rattle.imap_automaton.specs.declared.sym.Place.{Place}
 use Rattle.imap_automaton.specs.declared.sym.Place.TheVariants as place
-use Rattle.imap_automaton.specs.Keys.{key_text, goes_on, is_whole, is_among, in_word}
+use Rattle.imap_automaton.specs.Keys.{key_text, keys, goes_on, is_whole, is_among, in_word}
 use Rattle.imap_automaton.proofs.Langs.{Among}
 use Rattle.imap_automaton.proofs.Tests.{atom_apart}
 use Rattle.imap_syntax.specs.Octets.{is_word, is_atom, lower}
@@ -186,6 +186,12 @@ same_text a b e = (bytes_eq-Decides a b).0 e
 pub text_same : (a b : List ℕ) → a ≡ b → bytes_eq a b ≡ true
 text_same a b e = (bytes_eq-Decides a b).1 e
 
+-- a text is itself
+pub self_same : (t : List ℕ) → bytes_eq t t ≡ true
+self_same t = text_same t t refl
+
+pub ruleset selves = (self_same)
+
 pub find_some : (p : Key → Bool) (xs : List Key) (x : Key) → find p xs ≡ Some x → (p x ≡ true) × Among x xs
 find_some p [] x e = absurd cc
 find_some p (y ∷ xs) x e = by (p y) refl (find_some p xs x) e
@@ -210,6 +216,11 @@ among_is x (y ∷ xs) (inr h) = or_right (bytes_eq (key_text x) (key_text y)) (i
 pub is_among_is : (x : Key) (xs : List Key) → is_among x xs ≡ true → Among x xs
 is_among_is x [] e = absurd cc
 is_among_is x (y ∷ xs) e = elim (or_cases (bytes_eq (key_text x) (key_text y)) (is_among x xs) e) [ inl f ↦ inl (one_key x y (same_text (key_text x) (key_text y) f)) | inr f ↦ inr (is_among_is x xs f) ]
+
+-- a key of a place, searched before the others, is one of them
+pub among_keys : (p : Place) (k x : Key) → is_among k (keys p) ≡ true → Among x (k ∷ keys p) → Among x (keys p)
+among_keys p k x m (inl e) = subst (λ (y : Key). Among y (keys p)) (sym e) (is_among_is k (keys p) m)
+among_keys p k x m (inr h) = h
 
 -- ---- a key that goes on
 

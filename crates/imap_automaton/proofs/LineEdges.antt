@@ -310,7 +310,7 @@ untagged_back c t h = from_test (is_digit c) (move.One (sym.Line (line.Sequence 
       | inr r ↦ (response.Other, inr (digit_line c t d r.0, λ n l q. r.1 l (numbered_rest n c l t q.0 q.1 q.2).1))
     ])
     (λ d k.
-    let v = plain_from (c ∷ t) (word_back place.Plain (first_key place.Plain) 0 c t (omega arith) k) in
+    let v = plain_from (c ∷ t) (word_back place.Plain (first_key place.Plain) 0 c t (omega arith) refl k) in
     (v.0, inr (v.1, λ n l q. both (is_digit c) (numbered_rest n c l t q.0 q.1 q.2).0 d))) h
 
 untagged_at : (v : Response) (c : ℕ) (t : List ℕ) → IsUntagged v (c ∷ t) → After (line_rule line.Untagged c) t
@@ -322,7 +322,7 @@ untagged_at v c t (inr r) =
     let w = plain_to v (c ∷ t) r.0 in
     to_test (is_digit c) (move.One (sym.Line (line.Sequence (c - 48) 1))) (word_rule place.Plain (first_key place.Plain) 0 c) t
     (λ d. inr (text_goes c t (digit_text c d) (digit_no_brace c d) (line_digit c t w.word w.tail d w.whole w.longest w.says), λ l q. r.1 (value_from (c - 48) q.more) l (numbered_whole c l t d q)))
-    (λ d. word_forth place.Plain (first_key place.Plain) 0 c t (omega arith) w)
+    (λ d. word_forth place.Plain (first_key place.Plain) 0 c t (omega arith) refl w)
 
 -- ---- the first octet
 

@@ -37,7 +37,7 @@ use Rattle.imap_automaton.proofs.Tests.{from_test, at_true, at_false, crlf_of, c
 use Rattle.imap_automaton.proofs.DateEdges.{date_text, date_example, time_text, time_example, time_back, time_forth, time_none}
 use Rattle.imap_automaton.proofs.SetEdges.{words_more_back, words_more_forth, words_more_none}
 use Rattle.imap_automaton.proofs.FreeEdges.{text_back, text_forth, goes_back, goes_forth, free_empty}
-use Rattle.imap_automaton.proofs.KeyLemmas.{one_key, key_some, key_in_word, key_lower, no_bang, find_some, find_none, is_among_is, goes_to, goes_from, goes_octet, whole_to, whole_from}
+use Rattle.imap_automaton.proofs.KeyLemmas.{one_key, among_keys, key_some, key_in_word, key_lower, no_bang, find_some, find_none, is_among_is, goes_to, goes_from, goes_octet, whole_to, whole_from}
 use Rattle.imap_syntax.specs.Octets.{is_text, is_word, is_atom, lower}
 use Rattle.imap_syntax.specs.Texts.{Each, Then, crlf, IsCrlf}
 use Rattle.imap_syntax.specs.Lines.{IsLine, IsRest}
@@ -256,7 +256,7 @@ says_comes p begun c w tail t e f g (inr s) = inr (λ k m q. s.0 k m (append_ass
 -- the word's text is taken from the text of its front
 goes_forth_at : (p : Place) (k : Key) (at c : ℕ) (t w tail : List ℕ) (o : Option Key) → next_key p k at (lower c) ≡ o → at ≤ length (key_text k) → in_word p c ≡ true → t ≡ w ++ tail → Each (in_word p) w → in_word p (get_or tail 0 0) ≡ false → WordSays p (take at (key_text k)) (take at (key_text k) ++ map lower (c ∷ w)) tail (c ∷ t) → After (word_goes p k at c o) t
 goes_forth_at p k at c t w tail (Some x) e le i whole each longest says =
-    let f = find_some (goes_on k at (lower c)) (keys p) x e in
+    let f = find_some (goes_on k at (lower c)) (k ∷ keys p) x e in
     let g = goes_to k x at (lower c) f.0 in
     let s = says_goes p (take at (key_text k)) c w tail t i (goes_octet k x at c f.0) says in
     let n : length (take (at + 1) (key_text x)) ≡ at + 1 = length-take-le (at + 1) (key_text x) g.1 in
@@ -269,7 +269,7 @@ goes_forth_at p k at c t w tail (Some x) e le i whole each longest says =
       longest = longest;
       says = subst (λ (b : List ℕ). WordSays p b (b ++ map lower w) tail t) (sym g.0) s;
     }
-goes_forth_at p k at c t w tail None e le i whole each longest (inl x) = absurd (find_none (goes_on k at (lower c)) (keys p) x.0 e x.1 (goes_from k x.0 at (lower c) (map lower w) le x.2))
+goes_forth_at p k at c t w tail None e le i whole each longest (inl x) = absurd (find_none (goes_on k at (lower c)) (k ∷ keys p) x.0 e (inr x.1) (goes_from k x.0 at (lower c) (map lower w) le x.2))
 goes_forth_at p k at c t w tail None e le i whole each longest (inr s) = stray_forth p k at c t s.1
 
 goes_whole : (k x : Key) (at c : ℕ) → take (at + 1) (key_text x) ≡ take at (key_text k) ++ c ∷ [] → take at (key_text k) ++ c ∷ drop (at + 1) (key_text x) ≡ key_text x
@@ -277,7 +277,7 @@ goes_whole k x at c e = sym (append_assoc (take at (key_text k)) (c ∷ []) (dro
 
 goes_back_at : (p : Place) (k : Key) (at c : ℕ) (t : List ℕ) (o : Option Key) → next_key p k at (lower c) ≡ o → at ≤ length (key_text k) → in_word p c ≡ true → After (word_goes p k at c o) t → WordRest p (take at (key_text k)) (c ∷ t)
 goes_back_at p k at c t (Some x) e le i h =
-    let f = find_some (goes_on k at (lower c)) (keys p) x e in
+    let f = find_some (goes_on k at (lower c)) (k ∷ keys p) x e in
     let g = goes_to k x at (lower c) f.0 in
     record {
       word = c ∷ h.word;
@@ -297,33 +297,33 @@ goes_back_at p k at c t None e le i h =
       each = (i, r.each);
       some = omega arith;
       longest = r.longest;
-      says = inr (λ x m q. find_none (goes_on k at (lower c)) (keys p) x e m (goes_from k x at (lower c) (map lower r.front) le q), stray_back p k at c t h);
+      says = inr (λ x m q. find_none (goes_on k at (lower c)) (k ∷ keys p) x e (inr m) (goes_from k x at (lower c) (map lower r.front) le q), stray_back p k at c t h);
     }
 
 -- ---- an octet behind the word
 
-ends_forth : (p : Place) (k : Key) (at c : ℕ) (t : List ℕ) (o : Option Key) → whole_key p k at ≡ o → at ≤ length (key_text k) → WordSays p (take at (key_text k)) (take at (key_text k) ++ []) (c ∷ t) (c ∷ t) → After (word_ends p k at c o) t
-ends_forth p k at c t (Some x) e le (inl y) =
-    let f = find_some (is_whole k at) (keys p) x e in
+ends_forth : (p : Place) (k : Key) (at c : ℕ) (t : List ℕ) (o : Option Key) → whole_key p k at ≡ o → at ≤ length (key_text k) → is_among k (keys p) ≡ true → WordSays p (take at (key_text k)) (take at (key_text k) ++ []) (c ∷ t) (c ∷ t) → After (word_ends p k at c o) t
+ends_forth p k at c t (Some x) e le m (inl y) =
+    let f = find_some (is_whole k at) (k ∷ keys p) x e in
     let same : y.0 ≡ x = one_key y.0 x (sym y.2 ∙ append-nil (take at (key_text k)) ∙ whole_to k x at f.0) in
     behind_forth p x c t (subst (λ (q : Key). IsBehind p q (c ∷ t)) same y.3)
-ends_forth p k at c t (Some x) e le (inr s) =
-    let f = find_some (is_whole k at) (keys p) x e in
-    absurd (s.0 x f.1 (append-nil (take at (key_text k)) ∙ whole_to k x at f.0))
-ends_forth p k at c t None e le (inl y) = absurd (find_none (is_whole k at) (keys p) y.0 e y.1 (whole_from k y.0 at le (sym (append-nil (take at (key_text k))) ∙ y.2)))
-ends_forth p k at c t None e le (inr s) = stray_forth p k at c t s.1
+ends_forth p k at c t (Some x) e le m (inr s) =
+    let f = find_some (is_whole k at) (k ∷ keys p) x e in
+    absurd (s.0 x (among_keys p k x m f.1) (append-nil (take at (key_text k)) ∙ whole_to k x at f.0))
+ends_forth p k at c t None e le m (inl y) = absurd (find_none (is_whole k at) (k ∷ keys p) y.0 e (inr y.1) (whole_from k y.0 at le (sym (append-nil (take at (key_text k))) ∙ y.2)))
+ends_forth p k at c t None e le m (inr s) = stray_forth p k at c t s.1
 
-ends_back : (p : Place) (k : Key) (at c : ℕ) (t : List ℕ) (o : Option Key) → whole_key p k at ≡ o → at ≤ length (key_text k) → After (word_ends p k at c o) t → WordSays p (take at (key_text k)) (take at (key_text k) ++ []) (c ∷ t) (c ∷ t)
-ends_back p k at c t (Some x) e le h =
-    let f = find_some (is_whole k at) (keys p) x e in
-    inl (x, f.1, append-nil (take at (key_text k)) ∙ whole_to k x at f.0, behind_back p x c t h)
-ends_back p k at c t None e le h =
-    inr (λ x m q. find_none (is_whole k at) (keys p) x e m (whole_from k x at le (sym (append-nil (take at (key_text k))) ∙ q)), stray_back p k at c t h)
+ends_back : (p : Place) (k : Key) (at c : ℕ) (t : List ℕ) (o : Option Key) → whole_key p k at ≡ o → at ≤ length (key_text k) → is_among k (keys p) ≡ true → After (word_ends p k at c o) t → WordSays p (take at (key_text k)) (take at (key_text k) ++ []) (c ∷ t) (c ∷ t)
+ends_back p k at c t (Some x) e le m h =
+    let f = find_some (is_whole k at) (k ∷ keys p) x e in
+    inl (x, among_keys p k x m f.1, append-nil (take at (key_text k)) ∙ whole_to k x at f.0, behind_back p x c t h)
+ends_back p k at c t None e le m h =
+    inr (λ x n q. find_none (is_whole k at) (k ∷ keys p) x e (inr n) (whole_from k x at le (sym (append-nil (take at (key_text k))) ∙ q)), stray_back p k at c t h)
 
 -- ---- the group
 
-pub word_back : (p : Place) (k : Key) (at c : ℕ) (t : List ℕ) → at ≤ length (key_text k) → After (word_rule p k at c) t → WordRest p (take at (key_text k)) (c ∷ t)
-word_back p k at c t le h = from_test (in_word p c) (word_goes p k at c (next_key p k at (lower c))) (cond (at == 0) move.Fail (word_ends p k at c (whole_key p k at))) t (WordRest p (take at (key_text k)) (c ∷ t))
+pub word_back : (p : Place) (k : Key) (at c : ℕ) (t : List ℕ) → at ≤ length (key_text k) → is_among k (keys p) ≡ true → After (word_rule p k at c) t → WordRest p (take at (key_text k)) (c ∷ t)
+word_back p k at c t le m h = from_test (in_word p c) (word_goes p k at c (next_key p k at (lower c))) (cond (at == 0) move.Fail (word_ends p k at c (whole_key p k at))) t (WordRest p (take at (key_text k)) (c ∷ t))
     (λ i g. goes_back_at p k at c t (next_key p k at (lower c)) refl le i g)
     (λ i g. from_test (at == 0) move.Fail (word_ends p k at c (whole_key p k at)) t (WordRest p (take at (key_text k)) (c ∷ t))
     (λ z l. absurd l)
@@ -334,27 +334,27 @@ word_back p k at c t le h = from_test (in_word p c) (word_goes p k at c (next_ke
       each = tt;
       some = (let n : length (take at (key_text k)) ≡ at = length-take-le at (key_text k) le in let pos : at ≡ 0 → ⊥ = eqb-false at 0 z in omega (arith, n, pos));
       longest = i;
-      says = ends_back p k at c t (whole_key p k at) refl le l;
+      says = ends_back p k at c t (whole_key p k at) refl le m l;
     }) g) h
 
-word_at : (p : Place) (k : Key) (at c : ℕ) (t w tail : List ℕ) → at ≤ length (key_text k) → c ∷ t ≡ w ++ tail → Each (in_word p) w → 0 < length (take at (key_text k)) + length w → in_word p (get_or tail 0 0) ≡ false → WordSays p (take at (key_text k)) (take at (key_text k) ++ map lower w) tail (c ∷ t) → After (word_rule p k at c) t
-word_at p k at c t [] tail le e each some longest says =
+word_at : (p : Place) (k : Key) (at c : ℕ) (t w tail : List ℕ) → at ≤ length (key_text k) → is_among k (keys p) ≡ true → c ∷ t ≡ w ++ tail → Each (in_word p) w → 0 < length (take at (key_text k)) + length w → in_word p (get_or tail 0 0) ≡ false → WordSays p (take at (key_text k)) (take at (key_text k) ++ map lower w) tail (c ∷ t) → After (word_rule p k at c) t
+word_at p k at c t [] tail le m e each some longest says =
     let out : in_word p c ≡ false = ap (λ (u : List ℕ). in_word p (get_or u 0 0)) e ∙ longest in
     let n : length (take at (key_text k)) ≡ at = length-take-le at (key_text k) le in
     at_false (in_word p c) (word_goes p k at c (next_key p k at (lower c))) (cond (at == 0) move.Fail (word_ends p k at c (whole_key p k at))) t out
     (at_false (at == 0) move.Fail (word_ends p k at c (whole_key p k at)) t (not_zero at (omega (arith, some, n)))
-    (ends_forth p k at c t (whole_key p k at) refl le (subst (λ (u : List ℕ). WordSays p (take at (key_text k)) (take at (key_text k) ++ []) u (c ∷ t)) (sym e) says)))
+    (ends_forth p k at c t (whole_key p k at) refl le m (subst (λ (u : List ℕ). WordSays p (take at (key_text k)) (take at (key_text k) ++ []) u (c ∷ t)) (sym e) says)))
   where
     not_zero : (at : ℕ) → 0 < at → (at == 0) ≡ false
     not_zero at lt = grind arith
-word_at p k at c t (d ∷ w) tail le e each some longest says =
+word_at p k at c t (d ∷ w) tail le m e each some longest says =
     let same : d ≡ c = sym (cons_head c d t (w ++ tail) e) in
     let i : in_word p c ≡ true = ap (in_word p) (sym same) ∙ each.0 in
     at_true (in_word p c) (word_goes p k at c (next_key p k at (lower c))) (cond (at == 0) move.Fail (word_ends p k at c (whole_key p k at))) t i
     (goes_forth_at p k at c t w tail (next_key p k at (lower c)) refl le i (cons_tail c d t (w ++ tail) e) each.1 longest (subst (λ (q : ℕ). WordSays p (take at (key_text k)) (take at (key_text k) ++ map lower (q ∷ w)) tail (c ∷ t)) same says))
 
-pub word_forth : (p : Place) (k : Key) (at c : ℕ) (t : List ℕ) → at ≤ length (key_text k) → WordRest p (take at (key_text k)) (c ∷ t) → After (word_rule p k at c) t
-word_forth p k at c t le h = word_at p k at c t h.word h.tail le h.whole h.each h.some h.longest h.says
+pub word_forth : (p : Place) (k : Key) (at c : ℕ) (t : List ℕ) → at ≤ length (key_text k) → is_among k (keys p) ≡ true → WordRest p (take at (key_text k)) (c ∷ t) → After (word_rule p k at c) t
+word_forth p k at c t le m h = word_at p k at c t h.word h.tail le m h.whole h.each h.some h.longest h.says
 
 pub word_empty : (p : Place) (begun : List ℕ) → WordRest p begun [] → ⊥
 word_empty p begun h =

@@ -77,15 +77,17 @@ in_word _ c = is_word c
 abbrev pub goes_on : Key → ℕ → ℕ → Key → Bool
 goes_on key at c k = nat_lt at (length (key_text k)) && get_or (key_text k) at 0 == c && bytes_eq (take at (key_text k)) (take at (key_text key))
 
+-- the key itself, where it goes on
 abbrev pub next_key : Place → Key → ℕ → ℕ → Option Key
-next_key place key at c = find (goes_on key at c) (keys place)
+next_key place key at c = find (goes_on key at c) (key ∷ keys place)
 
 -- the key is the word so far
 abbrev pub is_whole : Key → ℕ → Key → Bool
 is_whole key at k = length (key_text k) == at && bytes_eq (take at (key_text k)) (take at (key_text key))
 
+-- the key itself, where it is whole
 abbrev pub whole_key : Place → Key → ℕ → Option Key
-whole_key place key at = find (is_whole key at) (keys place)
+whole_key place key at = find (is_whole key at) (key ∷ keys place)
 
 -- the key counts in the place
 abbrev pub is_among : Key → List Key → Bool

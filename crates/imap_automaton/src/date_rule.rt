@@ -64,6 +64,7 @@ pub fn time_rule(at: u8, c: u16) -> Move
     }
 }
 
+#[inline(never)]
 pub fn date_rule(date: Date, c: u16) -> Move
     ensures { result ≡ rules.date_rule date c }
 {

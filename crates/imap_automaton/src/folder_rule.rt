@@ -134,6 +134,7 @@ fn octet_rule(octet: u8, next: Folder, c: u16) -> Move
     }
 }
 
+#[inline(never)]
 pub fn folder_rule(folder: Folder, c: u16) -> Move
     ensures { result ≡ rules.folder_rule folder c }
 {

@@ -114,6 +114,7 @@ fn octets_rule(n: u32, c: u16) -> Move
     }
 }
 
+#[inline(never)]
 pub fn free_rule(free: Free, c: u16) -> Move
     requires { IsTrue (FreeFits free) }
     ensures { result ≡ rules.free_rule free c }

@@ -71,6 +71,7 @@ pub fn next_name(name: ItemName, c: u16) -> ItemName
     }
 }
 
+#[inline(never)]
 pub fn item_name_rule(name: ItemName, c: u16) -> Move
     ensures { result ≡ rules.item_name_rule name c }
 {

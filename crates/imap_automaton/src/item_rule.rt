@@ -67,6 +67,7 @@ fn long_open_rule(c: u16) -> Move
     }
 }
 
+#[inline(never)]
 pub fn item_rule(item: Item, c: u16) -> Move
     requires { IsTrue (ItemFits item) }
     ensures { result ≡ rules.item_rule item c }

@@ -132,6 +132,7 @@ fn folded_rule(phrase: Phrase, at: u8, c: u16) -> Move
     }
 }
 
+#[inline(never)]
 pub fn line_rule(line: Line, c: u16) -> Move
     requires { IsTrue (LineFits line) }
     ensures { result ≡ rules.line_rule line c }

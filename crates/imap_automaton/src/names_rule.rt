@@ -41,6 +41,7 @@ fn atom_rule(c: u16) -> Move
     }
 }
 
+#[inline(never)]
 pub fn names_rule(names: Names, c: u16) -> Move
     ensures { result ≡ rules.names_rule names c }
 {

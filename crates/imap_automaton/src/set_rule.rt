@@ -26,6 +26,7 @@ pub fn words_more(c: u16) -> Move
     }
 }
 
+#[inline(never)]
 pub fn words_rule(words: Words, c: u16) -> Move
     ensures { result ≡ rules.words_rule words c }
 {
@@ -84,6 +85,7 @@ fn set_number(value: u32, digits: u8, second: bool, c: u16) -> Move
     }
 }
 
+#[inline(never)]
 pub fn set_rule(set: Set, c: u16) -> Move
     requires { IsTrue (SetFits set) }
     ensures { result ≡ rules.set_rule set c }

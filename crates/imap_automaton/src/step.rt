@@ -20,7 +20,7 @@ use crate::sym::{Move, Sym};
 use crate::value_rule::value_rule;
 use crate::word_rule::word_rule;
 
-// Within the loop of `advance` all tests of the octet would be made before it, for every octet.
+// Where it and the groups' rules are inlined, the tests of the octet for all symbols are made for each.
 #[inline(never)]
 fn rule(sym: Sym, c: u16) -> Move
     requires { IsTrue (SymFits sym) }

@@ -136,6 +136,7 @@ fn brace_rule(n: u32, c: u16) -> Move
     }
 }
 
+#[inline(never)]
 pub fn string_rule(string: Str, c: u16) -> Move
     requires { IsTrue (StrFits string) }
     ensures { result ≡ rules.string_rule string c }

@@ -67,6 +67,7 @@ fn more_rule(within: u8, c: u16) -> Move
     }
 }
 
+#[inline(never)]
 pub fn value_rule(value: Value, c: u16) -> Move
     requires { IsTrue (ValueFits value) }
     ensures { result ≡ rules.value_rule value c }

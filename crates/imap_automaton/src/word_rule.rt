@@ -1,5 +1,5 @@
 // Words by which a reader decides.
-ghost use Rattle.std.specs.Prelude.{◌≡◌, ◌≤◌, ◌<◌, IsTrue, length, take, bytes_eq, nat_le};
+ghost use Rattle.std.specs.Prelude.{◌≡◌, ◌≤◌, ◌<◌, IsTrue, length, take, bytes_eq, find, nat_le};
 ghost use Rattle.imap_automaton.specs.Keys as keywords;
 ghost use Rattle.imap_automaton.specs.WordRules as rules;
 ghost use Rattle.imap_automaton.specs.ItemNameRules as names;
@@ -158,17 +158,39 @@ fn goes_on(key: Key, at: u8, c: u16, candidate: Key) -> bool
     }
 }
 
-/// The key that begins as this one does up to `at` and goes on with the octet.
-fn next_key(place: Place, key: Key, at: u8, c: u16) -> Option<Key>
-    requires { at ≤ length (keywords.key_text key) }
-    ensures { result ≡ keywords.next_key place key at c }
+/// Whether the key itself goes on with the octet.
+#[tactic(auto, using(crate::proofs::KeyLemmas::selves))]
+fn goes_on_itself(key: Key, at: u8, c: u16) -> bool
+    ensures { result ≡ keywords.goes_on key at c key }
 {
-    for candidate in keys(place) {
+    let text = key_text(key);
+    let at = at as usize;
+    at < text.len() && text[at] as u16 == c
+}
+
+/// The first of the keys that begins as this one does up to `at` and goes on with the octet.
+fn first_that_goes_on(candidates: &[Key], key: Key, at: u8, c: u16) -> Option<Key>
+    requires { at ≤ length (keywords.key_text key) }
+    ensures { result ≡ find (keywords.goes_on key at c) candidates.now }
+{
+    for candidate in candidates {
         if goes_on(key, at, c, *candidate) {
             return Some(*candidate);
         }
     }
     None
+}
+
+/// The key that begins as this one does up to `at` and goes on with the octet: this one, where it does.
+fn next_key(place: Place, key: Key, at: u8, c: u16) -> Option<Key>
+    requires { at ≤ length (keywords.key_text key) }
+    ensures { result ≡ keywords.next_key place key at c }
+{
+    if goes_on_itself(key, at, c) {
+        Some(key)
+    } else {
+        first_that_goes_on(keys(place), key, at, c)
+    }
 }
 
 fn is_whole(key: Key, at: u8, candidate: Key) -> bool
@@ -184,17 +206,37 @@ fn is_whole(key: Key, at: u8, candidate: Key) -> bool
     }
 }
 
-/// The key that is the word so far.
-fn whole_key(place: Place, key: Key, at: u8) -> Option<Key>
-    requires { at ≤ length (keywords.key_text key) }
-    ensures { result ≡ keywords.whole_key place key at }
+/// Whether the key itself is the word so far.
+#[tactic(auto, using(crate::proofs::KeyLemmas::selves))]
+fn is_whole_itself(key: Key, at: u8) -> bool
+    ensures { result ≡ keywords.is_whole key at key }
 {
-    for candidate in keys(place) {
+    key_text(key).len() == at as usize
+}
+
+/// The first of the keys that is the word so far.
+fn first_that_is_whole(candidates: &[Key], key: Key, at: u8) -> Option<Key>
+    requires { at ≤ length (keywords.key_text key) }
+    ensures { result ≡ find (keywords.is_whole key at) candidates.now }
+{
+    for candidate in candidates {
         if is_whole(key, at, *candidate) {
             return Some(*candidate);
         }
     }
     None
+}
+
+/// The key that is the word so far: this one, where it is.
+fn whole_key(place: Place, key: Key, at: u8) -> Option<Key>
+    requires { at ≤ length (keywords.key_text key) }
+    ensures { result ≡ keywords.whole_key place key at }
+{
+    if is_whole_itself(key, at) {
+        Some(key)
+    } else {
+        first_that_is_whole(keys(place), key, at)
+    }
 }
 
 fn rest_rule(c: u16) -> Move
@@ -345,6 +387,7 @@ fn word_ends(place: Place, key: Key, at: u8, c: u16, whole: Option<Key>) -> Move
     }
 }
 
+#[inline(never)]
 pub fn word_rule(place: Place, key: Key, at: u8, c: u16) -> Move
     requires { IsTrue (nat_le at (length (keywords.key_text key))) }
     ensures { result ≡ rules.word_rule place key at c }

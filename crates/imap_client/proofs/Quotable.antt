@@ -3,7 +3,8 @@ use Rattle.std.proofs.Common.{◌≡◌, ℕ, Bool, true, ◌&&◌, if◌then◌
 use Rattle.std.specs.List.{list_all}
 use Rattle.std.proofs.lemmas.List.{append-nil}
 use Rattle.imap_syntax.specs.declared.command.Command.{Command}
-use Rattle.imap_syntax.specs.declared.command.Command.TheVariants.{Capability, Login, Enable, List as ListFolders, Select, Unselect, FetchFlags, FetchSlice, FetchNew, FetchBody, Store, Move, Expunge, Append, Create, Delete, Rename, Subscribe}
+use Rattle.imap_syntax.specs.declared.command.Command.TheVariants.{Capability, Login, Enable, List as ListFolders, Select, Unselect, FetchFlags, FetchSlice, FetchNew, FetchBody}
+use Rattle.imap_syntax.specs.declared.command.Command.TheVariants.{Store, Move, Expunge, Append, Create, Delete, Rename, Subscribe}
 use Rattle.imap_syntax.specs.Commands.{Plain, Literal, is_printable, credential, quoted, tag_of, put_before, pieces_of, command_pieces, joined_pieces, command_text, IsQuotable}
 use Rattle.imap_syntax.specs.Texts.{Each}
 

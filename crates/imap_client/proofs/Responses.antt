@@ -26,7 +26,8 @@ Gains-append {a} {b} {c} {g} {h} first second =
     }
 
 -- a whole response stands at the front
-pub read_whole : {events : List Event} {response : Response} (before now after : Octets) (n : ℕ) → (gave : List ℕ) × Gains before now gave events → IsSpelling response (take n now.octets) → after.octets ≡ drop n now.octets → after.given ≡ now.given → Reads before after (Ok response) events
+pub read_whole : {events : List Event} {response : Response} (before now after : Octets) (n : ℕ) → (gave : List ℕ) × Gains before now gave events
+    → IsSpelling response (take n now.octets) → after.octets ≡ drop n now.octets → after.given ≡ now.given → Reads before after (Ok response) events
 read_whole before now after n (gave, gains) spells rest given = (
   gave,
   take n now.octets,
@@ -37,7 +38,8 @@ read_whole before now after n (gave, gains) spells rest given = (
 )
 
 -- octets stand there with which no response begins
-pub read_bad : {events : List Event} (before now : Octets) (offset at : ℕ) → (gave : List ℕ) × Gains before now gave events → ScanOf now.octets (Bad at) → offset + length now.octets ≡ now.given → Reads before now (Err (end.Bad offset)) events
+pub read_bad : {events : List Event} (before now : Octets) (offset at : ℕ) → (gave : List ℕ) × Gains before now gave events → ScanOf now.octets (Bad at)
+    → offset + length now.octets ≡ now.given → Reads before now (Err (end.Bad offset)) events
 read_bad before now offset at (gave, gains) so place =
     let there : ScanOf (before.octets ++ gave) (Bad at) = subst (λ (l : List ℕ). ScanOf l (Bad at)) gains.octets so in (
       gave,
@@ -48,11 +50,16 @@ read_bad before now offset at (gave, gains) so place =
     )
 
 -- no further octets come, where no whole response stands at the front
-pub fill_failed : {xs : List Event} (ys : List Event) (before now after : Octets) (e : LinkEnd) → ScanOf now.octets NeedMore → (gave : List ℕ) × Gains before now gave xs → Fills now after (Err e) ys → Reads before after (Err e) (xs ++ ys)
+pub fill_failed : {xs : List Event} (ys : List Event) (before now after : Octets) (e : LinkEnd) → ScanOf now.octets NeedMore → (gave : List ℕ) × Gains before now gave xs
+    → Fills now after (Err e) ys → Reads before after (Err e) (xs ++ ys)
 fill_failed {xs} ys before now after end.Lost more (gave, gains) fills =
     (xs, gave, ap (λ (l : List Event). xs ++ l) fills.0, gains.said, subst BeginsNone gains.octets (need_more_none _ more))
-fill_failed {xs} ys before now after end.TooMuch more (gave, gains) fills =
-    (gave, subst (λ (l : List Event). Talk gave [] l) (sym (append-nil xs) ∙ ap (λ (l : List Event). xs ++ l) (sym fills.0)) gains.said, subst BeginsNone gains.octets (need_more_none _ more), omega (arith, gains.given, fills.2))
+fill_failed {xs} ys before now after end.TooMuch more (gave, gains) fills = (
+  gave,
+  subst (λ (l : List Event). Talk gave [] l) (sym (append-nil xs) ∙ ap (λ (l : List Event). xs ++ l) (sym fills.0)) gains.said,
+  subst BeginsNone gains.octets (need_more_none _ more),
+  omega (arith, gains.given, fills.2),
+)
 fill_failed {xs} ys before now after end.Memory more (gave, gains) fills = (gave ++ fills.0, Talk-append gains.said fills.1)
 fill_failed ys before now after (end.Bad at) more so fills = absurd fills
 fill_failed ys before now after end.Stray more so fills = absurd fills
@@ -62,5 +69,8 @@ fill_failed ys before now after end.Unsendable more so fills = absurd fills
 
 -- octets that grew keep their front
 pub kept_front : (old new slice : List ℕ) → slice ≡ old → (gave : List ℕ) × (new ≡ old ++ gave) → (take (length slice) new ≡ old) × (length slice ≤ length new)
-kept_front old new slice is (gave, grew) =
-    (ap (λ (l : List ℕ). take (length l) new) is ∙ ap (λ (l : List ℕ). take (length old) l) grew ∙ take-append_seam old gave, omega (arith, ap length is, ap length grew, length-append old gave))
+kept_front old new slice is (gave, grew) = (
+  ap (λ (l : List ℕ). take (length l) new) is ∙ ap (λ (l : List ℕ). take (length old) l) grew
+      ∙ take-append_seam old gave,
+  omega (arith, ap length is, ap length grew, length-append old gave),
+)

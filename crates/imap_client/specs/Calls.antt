@@ -22,7 +22,7 @@ use Rattle.imap_client.specs.Reading.{Begins, BeginsNone}
 use Rattle.imap_client.specs.Exchanges.{IsOpen, IsAnswer}
 use Rattle.imap_client.specs.LinkLife.{BeginsNoPrefix, Stops}
 
--- by these events the store gave these octets, and they stand behind those that weren't read yet
+-- by these events the store gave these octets, and they stand after those that weren't read yet
 pub record Gains (before after : Octets) (gave : List ℕ) (events : List Event) : Type 0 where
   pub said : Talk gave [] events
   pub octets : after.octets ≡ before.octets ++ gave
@@ -36,24 +36,28 @@ Fills before after (Err end.TooMuch) events = (events ≡ []) × (after ≡ befo
 Fills before after (Err end.Memory) events = (gave : List ℕ) × Talk gave [] events
 Fills before after (Err _) events = ⊥
 
--- The store's octets begin with this response, and those behind it are unread; or no response came.
+-- The store's octets begin with this response, and those after it are unread; or no response came.
 abbrev pub Reads : Octets → Octets → Result Response LinkEnd → List Event → Type 0
 Reads before after (Ok response) events =
-    (gave : List ℕ) × (text : List ℕ) × Talk gave [] events × IsSpelling response text × (before.octets ++ gave ≡ text ++ after.octets) × (after.given ≡ before.given + length gave)
-Reads before after (Err end.Lost) events = (talk : List Event) × (gave : List ℕ) × (events ≡ talk ++ LinkEnded ∷ []) × Talk gave [] talk × BeginsNone (before.octets ++ gave)
-Reads before after (Err end.TooMuch) events = (gave : List ℕ) × Talk gave [] events × BeginsNone (before.octets ++ gave) × (MAX_LIFE_OCTETS < before.given + length gave)
+    (gave : List ℕ) × (text : List ℕ) × Talk gave [] events × IsSpelling response text × (before.octets ++ gave ≡ text ++ after.octets)
+    × (after.given ≡ before.given + length gave)
+Reads before after (Err end.Lost) events = (talk : List Event) × (gave : List ℕ) × (events ≡ talk ++ LinkEnded ∷ []) × Talk gave [] talk
+    × BeginsNone (before.octets ++ gave)
+Reads before after (Err end.TooMuch) events = (gave : List ℕ) × Talk gave [] events × BeginsNone (before.octets ++ gave)
+    × (MAX_LIFE_OCTETS < before.given + length gave)
 Reads before after (Err (end.Bad at)) events =
-    (gave : List ℕ) × Talk gave [] events × BeginsNone (before.octets ++ gave) × (at + length (before.octets ++ gave) ≡ before.given + length gave) × BeginsNoPrefix (before.octets ++ gave)
+    (gave : List ℕ) × Talk gave [] events × BeginsNone (before.octets ++ gave) × (at + length (before.octets ++ gave) ≡ before.given + length gave)
+    × BeginsNoPrefix (before.octets ++ gave)
 Reads before after (Err end.Memory) events = (gave : List ℕ) × Talk gave [] events
 Reads before after (Err _) events = ⊥
 
--- the life ended by itself behind the talk, or it goes on
+-- the life ended by itself after the talk, or it goes on
 abbrev pub Ended : LinkEnd → List Event → List Event → Type 0
 Ended end.Lost talk events = events ≡ talk ++ LinkEnded ∷ []
 Ended _ talk events = events ≡ talk
 
 -- The store gave and took octets, and then came this end. The octets that are held and given lack what was asked for, but
--- where memory was wanting; and they have to do with the end.
+-- where memory ran out; and they have to do with the end.
 pub record Fails (Lacks : List ℕ → List ℕ → Type 0) (n : ℕ) (before : Octets) (e : LinkEnd) (events : List Event) : Type 0 where
   pub talk : List Event
   pub gave : List ℕ
@@ -65,7 +69,8 @@ pub record Fails (Lacks : List ℕ → List ℕ → Type 0) (n : ℕ) (before : 
 
 -- no answer of number n comes to a command that was taken whole
 abbrev pub NoAnswer : ℕ → Command → List ℕ → List ℕ → Type 0
-NoAnswer n command gave took = (responses : List Response) (status : Status) (rest left : List ℕ) → IsAnswer n responses status rest gave → took ≡ command_text command n ++ left → ⊥
+NoAnswer n command gave took = (responses : List Response) (status : Status) (rest left : List ℕ) → IsAnswer n responses status rest gave
+    → took ≡ command_text command n ++ left → ⊥
 
 -- The command of number n was taken whole, and this is its answer.
 pub record Answers (n : ℕ) (command : Command) (before after : Octets) (responses : List Response) (status : Status) (events : List Event) : Type 0 where
@@ -86,7 +91,8 @@ Unanswered n gave took = (took ≡ []) × ((responses : List Response) (status :
 -- what the responses up to a tagged line add, once the command is sent
 abbrev pub Collects : ℕ → Octets → Octets → Result Answer LinkEnd → List Event → Type 0
 Collects n before after (Ok answer) events =
-    (gave : List ℕ) × Talk gave [] events × IsAnswer n answer.responses answer.status after.octets (before.octets ++ gave) × (after.given ≡ before.given + length gave)
+    (gave : List ℕ) × Talk gave [] events × IsAnswer n answer.responses answer.status after.octets (before.octets ++ gave)
+    × (after.given ≡ before.given + length gave)
 Collects n before after (Err e) events = Fails (Unanswered n) n before e events
 
 -- what a response does to an exchange whose tag is due

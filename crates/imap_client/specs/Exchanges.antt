@@ -23,14 +23,15 @@ IsOpen (Untagged status.Bye _) = ⊥
 IsOpen _ = Unit {0}
 
 -- The octets begin with these responses and the tagged line of number n and this status, whatever its code, and the rest
--- stands behind.
+-- stands after.
 pub record IsAnswer (n : ℕ) (responses : List Response) (status : Status) (rest octets : List ℕ) : Type 0 where
   pub code : Code
   pub open_until : All IsOpen responses
   pub spelled : Begins (responses ++ Tagged (tag_of n) status code ∷ []) rest octets
 
--- What the store gave begins with these completed exchanges, tagged from n on, and the rest stands behind them; it took
+-- What the store gave begins with these completed exchanges, tagged from n on, and the rest stands after them; it took
 -- their commands whole and nothing more.
 abbrev pub Completed : ℕ → List Exchange → List ℕ → List ℕ → List ℕ → Type 0
 Completed n [] rest gave took = (gave ≡ rest) × (took ≡ [])
-Completed n (x ∷ xs) rest gave took = (behind : List ℕ) × (left : List ℕ) × IsAnswer n x.responses x.status behind gave × (took ≡ command_text x.command n ++ left) × Completed (n + 1) xs rest behind left
+Completed n (x ∷ xs) rest gave took = (behind : List ℕ) × (left : List ℕ) × IsAnswer n x.responses x.status behind gave
+    × (took ≡ command_text x.command n ++ left) × Completed (n + 1) xs rest behind left

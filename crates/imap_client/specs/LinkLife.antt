@@ -37,7 +37,8 @@ pub record InboxFetched (user password gave took : List ℕ) (responses : List R
   pub logging_in : List Response
   pub selecting : List Response
   pub rest : List ℕ
-  pub completed : Completed 1 (answered_ok (Login user password) logging_in ∷ answered_ok (Select inbox None) selecting ∷ answered_ok FetchFlags responses ∷ []) rest behind took
+  pub completed : Completed 1 (answered_ok (Login user password) logging_in ∷ answered_ok
+      (Select inbox None) selecting ∷ answered_ok FetchFlags responses ∷ []) rest behind took
 
 abbrev pub is_tagged : Response → Bool
 is_tagged (Tagged _ _ _) = true
@@ -54,19 +55,23 @@ pub record BeginsNoPrefix (octets : List ℕ) : Type 0 where
   pub within : at < length octets
   pub none : IsPrefix (take (at + 1) octets) → ⊥
 
--- What the octets of a life have to do with its end, where the first of them are held and stand behind others that were
--- read, so many were given up to them, and commands are tagged from n on. Of a lost link and of want of memory nothing is
+-- What the octets of a life have to do with its end, where the first of them are held and stand after others that were
+-- read, so many were given up to them, and commands are tagged from n on. Of a lost link and of out of memory nothing is
 -- said here.
 abbrev pub Stops : ℕ → ℕ → List ℕ → List ℕ → LinkEnd → Type 0
 Stops n given held gave end.Lost = Unit {0}
 Stops n given held gave end.Memory = Unit {0}
 -- no spelling begins there
-Stops n given held gave (end.Bad at) = (known : List Response) × (rest : List ℕ) × Begins known rest (held ++ gave) × (at + length rest ≡ given + length gave) × BeginsNoPrefix rest
+Stops n given held gave (end.Bad at) = (known : List Response) × (rest : List ℕ) × Begins known rest (held ++ gave) × (at + length rest ≡ given + length gave)
+    × BeginsNoPrefix rest
 -- a tagged line whose tag is not the one that is due
-Stops n given held gave end.Stray = (known : List Response) × (tag : List ℕ) × (s : Status) × (code : Code) × (rest : List ℕ) × Begins (known ++ Tagged tag s code ∷ []) rest (held ++ gave) × (tag ≢ tag_of (count_by is_tagged known + n))
-Stops n given held gave end.Bye = (known : List Response) × (code : Code) × (rest : List ℕ) × Begins (known ++ Untagged status.Bye code ∷ []) rest (held ++ gave)
+Stops n given held gave end.Stray = (known : List Response) × (tag : List ℕ) × (s : Status) × (code : Code) × (rest : List ℕ)
+    × Begins (known ++ Tagged tag s code ∷ []) rest (held ++ gave) × (tag ≢ tag_of (count_by is_tagged known + n))
+Stops n given held gave end.Bye = (known : List Response) × (code : Code) × (rest : List ℕ)
+    × Begins (known ++ Untagged status.Bye code ∷ []) rest (held ++ gave)
 Stops n given held gave end.TooMuch = MAX_LIFE_OCTETS < given + length gave
-Stops n given held gave end.Refused = (known : List Response) × (last : Response) × (rest : List ℕ) × Begins (known ++ last ∷ []) rest (held ++ gave) × Refuses last
+Stops n given held gave end.Refused = (known : List Response) × (last : Response) × (rest : List ℕ) × Begins (known ++ last ∷ []) rest (held ++ gave)
+    × Refuses last
 Stops n given held gave end.Unsendable = ⊥
 
 -- a greeting other than OK
@@ -77,14 +82,15 @@ GreetsOtherwise gave = (greeting : Response) × (rest : List ℕ) × Begins (gre
 abbrev pub Blames : List ℕ → LinkEnd → Type 0
 Blames gave e = Stops 1 0 [] gave e ⊎ ((e ≡ end.Refused) × GreetsOtherwise gave)
 
--- What a life of these octets comes to. Of want of memory nothing is said.
+-- What a life of these octets comes to. Of out of memory nothing is said.
 abbrev pub Comes : List ℕ → List ℕ → List ℕ → List ℕ → Result (List Response) LinkEnd → Type 0
 Comes user password gave took (Ok responses) = InboxFetched user password gave took responses
 Comes user password gave took (Err e) = (e ≡ end.Memory) ⊎ (((responses : List Response) → InboxFetched user password gave took responses → ⊥) × Blames gave e)
 
--- A whole link life, or none where the user or the password can't be sent or memory was wanting.
+-- A whole link life, or none where the user or the password can't be sent or memory ran out.
 pub data Life (user password : List ℕ) (result : Result (List Response) LinkEnd) (events : List Event) : Type 0 where
   Unsent : events ≡ [] → result ≡ Err end.Unsendable → (IsQuotable (Login user password) → ⊥) → Life user password result events
   NotBegun : events ≡ [] → result ≡ Err end.Memory → Life user password result events
   Undialed : events ≡ LinkEnded ∷ [] → result ≡ Err end.Lost → Life user password result events
-  Lived : (talk : List Event) (gave took : List ℕ) → events ≡ Dialed ∷ (talk ++ LinkEnded ∷ []) → Talk gave took talk → Comes user password gave took result → Life user password result events
+  Lived : (talk : List Event) (gave took : List ℕ) → events ≡ Dialed ∷ (talk ++ LinkEnded ∷ []) → Talk gave took talk → Comes user password gave took result
+      → Life user password result events

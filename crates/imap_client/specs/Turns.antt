@@ -19,7 +19,8 @@ use Rattle.imap_client.specs.Calls.{Ended, Fails, Answers}
 
 -- the command of number n wasn't both taken whole and answered OK
 abbrev pub NotOk : ℕ → Command → List ℕ → List ℕ → Type 0
-NotOk n command gave took = (responses : List Response) (rest left : List ℕ) → IsAnswer n responses status.Ok rest gave → took ≡ command_text command n ++ left → ⊥
+NotOk n command gave took = (responses : List Response) (rest left : List ℕ) → IsAnswer n responses status.Ok rest gave → took ≡ command_text command n ++ left
+    → ⊥
 
 -- what an exchange that is to be answered OK adds
 abbrev pub Obeys : ℕ → Command → Octets → Octets → Result (List Response) LinkEnd → List Event → Type 0
@@ -31,12 +32,15 @@ abbrev pub AllOk : ℕ → List Command → List Response → List ℕ → List 
 AllOk n [] last rest gave took = ⊥
 AllOk n (c ∷ []) last rest gave took = IsAnswer n last status.Ok rest gave × (took ≡ command_text c n)
 AllOk n (c ∷ d ∷ cs) last rest gave took =
-    (responses : List Response) × (behind : List ℕ) × (left : List ℕ) × IsAnswer n responses status.Ok behind gave × (took ≡ command_text c n ++ left) × AllOk (n + 1) (d ∷ cs) last rest behind left
+    (responses : List Response) × (behind : List ℕ) × (left : List ℕ) × IsAnswer n responses status.Ok behind gave × (took ≡ command_text c n ++ left)
+    × AllOk (n + 1) (d ∷ cs) last rest behind left
 
 -- what all of them add
 abbrev pub ObeysAll : ℕ → List Command → Octets → Result (List Response) LinkEnd → List Event → Type 0
-ObeysAll n commands before (Ok last) events = (gave : List ℕ) × (took : List ℕ) × (rest : List ℕ) × Talk gave took events × AllOk n commands last rest (before.octets ++ gave) took
-ObeysAll n commands before (Err e) events = Fails (λ gave took. (last : List Response) (rest : List ℕ) → AllOk n commands last rest gave took → ⊥) n before e events
+ObeysAll n commands before (Ok last) events = (gave : List ℕ) × (took : List ℕ) × (rest : List ℕ) × Talk gave took events
+    × AllOk n commands last rest (before.octets ++ gave) took
+ObeysAll n commands before (Err e) events = Fails (λ gave took. (last : List Response) (rest : List ℕ) → AllOk n commands last rest gave took
+    → ⊥) n before e events
 
 -- OK alone is a welcome
 abbrev pub Welcomes : Response → Result (Unit {0}) LinkEnd → Type 0
@@ -45,7 +49,7 @@ Welcomes greeting (Err end.Bye) = (code : Code) × (greeting ≡ Untagged status
 Welcomes greeting (Err end.Refused) = (code : Code) → greeting ≡ Untagged status.Ok code → ⊥
 Welcomes greeting (Err _) = ⊥
 
--- The greeting came, and what stands behind it is unread; or there was none that was OK.
+-- The greeting came, and what stands after it is unread; or there was none that was OK.
 pub record Greeted (after : Octets) (events : List Event) : Type 0 where
   pub gave : List ℕ
   pub said : Talk gave [] events
@@ -87,4 +91,5 @@ ComesTo commands gave took (Err e) = ((e ≡ end.Memory) ⊎ ((last : List Respo
 -- a whole life over these commands, from the dial on
 pub data Lives (commands : List Command) (result : Result (List Response) LinkEnd) (events : List Event) : Type 0 where
   NeverDialed : events ≡ LinkEnded ∷ [] → result ≡ Err end.Lost → Lives commands result events
-  LivedFor : (talk : List Event) (gave took : List ℕ) → events ≡ Dialed ∷ (talk ++ LinkEnded ∷ []) → Talk gave took talk → ComesTo commands gave took result → Lives commands result events
+  LivedFor : (talk : List Event) (gave took : List ℕ) → events ≡ Dialed ∷ (talk ++ LinkEnded ∷ []) → Talk gave took talk → ComesTo commands gave took result
+      → Lives commands result events

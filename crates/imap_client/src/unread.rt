@@ -44,6 +44,7 @@ impl Unread {
         }
     }
 
+    /// The octets that aren't read yet.
     pub fn as_slice(&self) -> &[u8]
         ensures { result.now ≡ self.now.octets }
     {
@@ -57,7 +58,7 @@ impl Unread {
         self.given - (self.held.len() - self.from) as u64
     }
 
-    /// So many octets are read.
+    /// The first n octets are read.
     pub fn skip(&mut self, count: usize)
         requires { count ≤ length self.old.octets }
         ensures octets { self.new.octets ≡ drop count self.old.octets }

@@ -1,5 +1,6 @@
 -- Hexadecimal digits, one more at the end.
-use Rattle.std.proofs.Common.{◌≡◌, ℕ, zero, suc, ◌-◌, ◌/◌, ◌%◌, List, [], ◌∷◌, ◌++◌, Result, Ok, Err, is_ok, if◌then◌else◌, OnOk, refl, sym, ap, ◌∙◌, append_assoc, append-nil, arith}
+use Rattle.std.proofs.Common.{◌≡◌, ℕ, zero, suc, ◌-◌, ◌/◌, ◌%◌, List, [], ◌∷◌, ◌++◌, Result, Ok, Err, is_ok, if◌then◌else◌, OnOk, refl, sym, ap, ◌∙◌, append_assoc, append-nil}
+use Rattle.std.proofs.Common.{arith}
 use Rattle.std.specs.declared.alloc.AllocError.{AllocError}
 use Rattle.jmap_core.specs.State.{hex_digit, hex_text}
 
@@ -15,7 +16,8 @@ hex-none zero n text none = sym (append-nil text)
 hex-none (suc width) n text none = absurd (omega arith)
 
 -- what a push of the last digit gives
-pub pushed-digit : (r : Result (Unit {0}) AllocError) (before old new encoded : List ℕ) (width n digit : ℕ) → new ≡ (if is_ok r then old ++ encoded else old) → encoded ≡ digit ∷ [] → digit ≡ hex_digit (n % 16) → old ≡ before ++ hex_text (width - 1) (n / 16) → (width ≡ 0 → ⊥) → OnOk r (new ≡ before ++ hex_text width n)
+pub pushed-digit : (r : Result (Unit {0}) AllocError) (before old new encoded : List ℕ) (width n digit : ℕ) → new ≡ (if is_ok r then old ++ encoded else old) → encoded ≡ digit ∷ []
+    → digit ≡ hex_digit (n % 16) → old ≡ before ++ hex_text (width - 1) (n / 16) → (width ≡ 0 → ⊥) → OnOk r (new ≡ before ++ hex_text width n)
 pushed-digit (Err e) before old new encoded width n digit is one last front some = tt
 pushed-digit (Ok done) before old new encoded width n digit is one last front some =
     is

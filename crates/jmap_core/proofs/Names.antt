@@ -25,15 +25,19 @@ noted-texts note (item d ds) s t is =
 
 -- the properties that are wanted, with those of s
 abbrev wanted_with : List (List ℕ) → Properties → Option Properties
-wanted_with names s = if list_all is_property names then Some (record { total_emails = s.total_emails || is_among names (codes "totalEmails"); unread_emails = s.unread_emails || is_among names (codes "unreadEmails") }) else None
+wanted_with names s = if list_all is_property names then Some
+    (record { total_emails = s.total_emails || is_among names (codes "totalEmails"); unread_emails = s.unread_emails || is_among names (codes "unreadEmails") }) else None
 
 abbrev WantsAll : List (List ℕ) → Type 0
 WantsAll names = (s : Properties) → noted note_property (texts names) s ≡ wanted_with names s
 
-wants-one : (n : List ℕ) (names : List (List ℕ)) → WantsAll names → (n ≡ codes "id") ⊎ (bytes_eq n (codes "id") ≡ false) → (n ≡ codes "totalEmails") ⊎ (bytes_eq n (codes "totalEmails") ≡ false) → (n ≡ codes "unreadEmails") ⊎ (bytes_eq n (codes "unreadEmails") ≡ false) → WantsAll (n ∷ names)
+wants-one : (n : List ℕ) (names : List (List ℕ)) → WantsAll names → (n ≡ codes "id") ⊎ (bytes_eq n (codes "id") ≡ false) → (n ≡ codes "totalEmails")
+    ⊎ (bytes_eq n (codes "totalEmails") ≡ false) → (n ≡ codes "unreadEmails") ⊎ (bytes_eq n (codes "unreadEmails") ≡ false) → WantsAll (n ∷ names)
 wants-one n names rest (inl is) total unread = let P : List ℕ → Type 0 = λ m. WantsAll (m ∷ names) in subst P (sym is) (λ s. rest s)
-wants-one n names rest (inr no_id) (inl is) unread = let P : List ℕ → Type 0 = λ m. WantsAll (m ∷ names) in subst P (sym is) (λ s. rw (or-true s.total_emails) (rest (record s { total_emails = true })))
-wants-one n names rest (inr no_id) (inr no_total) (inl is) = let P : List ℕ → Type 0 = λ m. WantsAll (m ∷ names) in subst P (sym is) (λ s. rw (or-true s.unread_emails) (rest (record s { unread_emails = true })))
+wants-one n names rest (inr no_id) (inl is) unread = let P : List ℕ → Type 0 = λ m. WantsAll (m ∷ names) in
+    subst P (sym is) (λ s. rw (or-true s.total_emails) (rest (record s { total_emails = true })))
+wants-one n names rest (inr no_id) (inr no_total) (inl is) = let P : List ℕ → Type 0 = λ m. WantsAll (m ∷ names) in
+    subst P (sym is) (λ s. rw (or-true s.unread_emails) (rest (record s { unread_emails = true })))
 wants-one n names rest (inr no_id) (inr no_total) (inr no_unread) = λ s. rw (no_id, no_total, no_unread) refl
 
 pub noted-properties : (names : List (List ℕ)) → WantsAll names
@@ -42,12 +46,14 @@ noted-properties (n ∷ names) = wants-one n names (noted-properties names) (is_
 
 -- the capabilities that are used, with those of s
 abbrev used_with : List (List ℕ) → Using → Option Using
-used_with names s = if list_all is_capability names then Some (record { core = s.core || is_among names core_capability; mail = s.mail || is_among names mail_capability }) else None
+used_with names s = if list_all is_capability names then Some
+    (record { core = s.core || is_among names core_capability; mail = s.mail || is_among names mail_capability }) else None
 
 abbrev UsesAll : List (List ℕ) → Type 0
 UsesAll names = (s : Using) → noted note_capability (texts names) s ≡ used_with names s
 
-uses-one : (n : List ℕ) (names : List (List ℕ)) → UsesAll names → (n ≡ core_capability) ⊎ (bytes_eq n core_capability ≡ false) → (n ≡ mail_capability) ⊎ (bytes_eq n mail_capability ≡ false) → UsesAll (n ∷ names)
+uses-one : (n : List ℕ) (names : List (List ℕ)) → UsesAll names → (n ≡ core_capability) ⊎ (bytes_eq n core_capability ≡ false) → (n ≡ mail_capability)
+    ⊎ (bytes_eq n mail_capability ≡ false) → UsesAll (n ∷ names)
 uses-one n names rest (inl is) is_mail = let P : List ℕ → Type 0 = λ m. UsesAll (m ∷ names) in subst P (sym is) (λ s. rw (or-true s.core) (rest (record s { core = true })))
 uses-one n names rest (inr no_core) (inl is) = let P : List ℕ → Type 0 = λ m. UsesAll (m ∷ names) in subst P (sym is) (λ s. rw (or-true s.mail) (rest (record s { mail = true })))
 uses-one n names rest (inr no_core) (inr no_mail) = λ s. rw (no_core, no_mail) refl

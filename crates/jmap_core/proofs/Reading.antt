@@ -6,7 +6,8 @@ use Rattle.std.proofs.lemmas.Bool.{and_parts}
 use Rattle.gate_world.proofs.Steps.{and_then-some, map-some}
 use Rattle.serde_json.specs.Data.{Data, string, array, object, Items, no_items, item, no_members, member}
 use Rattle.serde_json.specs.Find.{as_str, as_array, as_object}
-use Rattle.jmap_core.specs.Form.{is_text, two_of, three_of, one_item, three_items, noted, note_capability, note_property, using_of, uses_both, properties_of, is_inbox, wanted_from, wanted_of, named_call, call_from, call_of, request_from, request_of}
+use Rattle.jmap_core.specs.Form.{is_text, two_of, three_of, one_item, three_items, noted, note_capability, note_property, using_of, uses_both, properties_of, is_inbox, wanted_from}
+use Rattle.jmap_core.specs.Form.{wanted_of, named_call, call_from, call_of, request_from, request_of}
 use Rattle.jmap_core.specs.Request.{texts, is_among, is_capability, is_property, core_capability, mail_capability, arguments_data, call_data, Asks}
 use Rattle.jmap_core.specs.declared.form.Using.{Using}
 use Rattle.jmap_core.specs.declared.request.Properties.{Properties}
@@ -101,7 +102,8 @@ arguments-from d p is =
       form = as_object-is d members.0 members.1 ∙ ap object (three_of-is _ _ _ members.0 three.0.0 three.0.1 three.0.2 members.2
           ∙ ap (λ (e : Data). member (codes "accountId") e (member (codes "ids") three.0.1 (member (codes "properties") three.0.2 no_members))) account
           ∙ ap (λ (e : Data). member (codes "accountId") (string (codes "a1")) (member (codes "ids") e (member (codes "properties") three.0.2 no_members))) ids
-          ∙ ap (λ (e : Data). member (codes "accountId") (string (codes "a1")) (member (codes "ids") (array (item (string (codes "m1")) no_items)) (member (codes "properties") e no_members))) properties);
+          ∙ ap (λ (e : Data). member (codes "accountId") (string (codes "a1"))
+          (member (codes "ids") (array (item (string (codes "m1")) no_items)) (member (codes "properties") e no_members))) properties);
       known = wants.known;
       total_emails = wants.total_emails;
       unread_emails = wants.unread_emails;
@@ -153,7 +155,8 @@ asks-from d r is =
       properties = call.names;
       form = as_object-is d members.0 members.1 ∙ ap object (two_of-is _ _ members.0 two.0.0 two.0.1 members.2
           ∙ ap (λ (e : Data). member (codes "methodCalls") e (member (codes "using") two.0.1 no_members)) calls
-          ∙ ap (λ (e : Data). member (codes "methodCalls") (array (item (call_data (codes "Mailbox/get") (arguments_data call.names) r.id) no_items)) (member (codes "using") e no_members)) capabilities);
+          ∙ ap (λ (e : Data). member (codes "methodCalls") (array (item (call_data (codes "Mailbox/get") (arguments_data call.names) r.id) no_items))
+          (member (codes "using") e no_members)) capabilities);
       uses_core = uses.core;
       uses_mail = uses.mail;
       uses_no_other = uses.no_other;

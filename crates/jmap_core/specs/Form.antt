@@ -26,7 +26,8 @@ abbrev pub three_of : List ℕ → List ℕ → List ℕ → Members → Option 
 three_of first second third no_members = None
 three_of first second third (member a x no_members) = None
 three_of first second third (member a x (member b y no_members)) = None
-three_of first second third (member a x (member b y (member c z no_members))) = if bytes_eq a first && bytes_eq b second && bytes_eq c third then Some (x, y, z) else None
+three_of first second third (member a x (member b y (member c z no_members))) = if bytes_eq a first && bytes_eq b second
+    && bytes_eq c third then Some (x, y, z) else None
 three_of first second third (member a x (member b y (member c z (member d w ms)))) = None
 
 abbrev pub one_item : Items → Option Data
@@ -49,10 +50,13 @@ noted note no_items s = Some s
 noted note (item d ds) s = option_and_then (noted note ds) (option_and_then (λ name. note name s) (as_str d))
 
 abbrev pub note_capability : List ℕ → Using → Option Using
-note_capability name uses = if bytes_eq name core_capability then Some (record uses { core = true }) else (if bytes_eq name mail_capability then Some (record uses { mail = true }) else None)
+note_capability name uses = if bytes_eq name core_capability then Some (record uses { core = true }) else
+    (if bytes_eq name mail_capability then Some (record uses { mail = true }) else None)
 
 abbrev pub note_property : List ℕ → Properties → Option Properties
-note_property name wanted = if bytes_eq name (codes "id") then Some wanted else (if bytes_eq name (codes "totalEmails") then Some (record wanted { total_emails = true }) else (if bytes_eq name (codes "unreadEmails") then Some (record wanted { unread_emails = true }) else None))
+note_property name wanted = if bytes_eq name (codes "id") then Some wanted else
+    (if bytes_eq name (codes "totalEmails") then Some (record wanted { total_emails = true }) else
+    (if bytes_eq name (codes "unreadEmails") then Some (record wanted { unread_emails = true }) else None))
 
 abbrev pub using_of : Data → Option Using
 using_of d = option_and_then (λ ds. noted note_capability ds (record { core = false; mail = false })) (as_array d)
@@ -78,7 +82,8 @@ wanted_of d = option_and_then wanted_from (option_and_then (three_of (codes "acc
 
 -- a call by this name, with these arguments and this id
 abbrev pub named_call : Data → Data → List ℕ → Option Request
-named_call name arguments id = if is_text (codes "Mailbox/get") (as_str name) then option_map (λ p. record { properties = p; id = id }) (wanted_of arguments) else None
+named_call name arguments id = if is_text (codes "Mailbox/get") (as_str name) then option_map (λ p. record { properties = p; id = id })
+    (wanted_of arguments) else None
 
 abbrev pub call_from : Data × Data × Data → Option Request
 call_from t = option_and_then (named_call t.0 t.1) (as_str t.2)

@@ -40,7 +40,8 @@ one_response_text name arguments request user base = compact_text (response_data
 
 -- the counts as they are at this state
 abbrev pub mailbox_response_text : Request → Counts → State → List ℕ → List ℕ → List ℕ
-mailbox_response_text request counts state user base = one_response_text (codes "Mailbox/get") (mailbox_arguments request.properties counts state) request user base
+mailbox_response_text request counts state user base =
+    one_response_text (codes "Mailbox/get") (mailbox_arguments request.properties counts state) request user base
 
 -- the store can't be asked
 abbrev pub unavailable_response_text : Request → List ℕ → List ℕ → List ℕ

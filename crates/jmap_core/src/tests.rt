@@ -1,3 +1,4 @@
+// Tests of requests and answers.
 use crate::{
     Counts, State, mailbox_response, not_request, read_request, session_state, state_text,
     unavailable_response,
@@ -267,7 +268,7 @@ const OTHERS: [&[u8]; 11] = [
     b"{\"using\":[\"urn:ietf:params:jmap:core\",\"urn:ietf:params:jmap:mail\"],\"methodCalls\":[[\"Mailbox/get\",{\"accountId\":\"a1\",\"ids\":[\"m1\"],\"properties\":[]},\"c1\"],[\"Mailbox/get\",{\"accountId\":\"a1\",\"ids\":[\"m1\"],\"properties\":[]},\"c1\"]]}",
 ];
 
-/// So many octets, and a text behind them.
+/// This many octets, and a text after them.
 fn padded(alloc: Global, octet: u8, count: usize, text: &str) -> Result<Vec<u8>, AllocError> {
     let mut body = vec![in alloc; octet; count]?;
     body.extend_from_slice(text.as_bytes())?;

@@ -34,7 +34,7 @@ fn run(rt: HostRuntime) -> Result<u8, AllocError> {
     Ok(gateway::run(&words, &mut world, &mut watchers))
 }
 
-/// The words behind the program's name. Where one of them is no UTF-8 there are none, which are refused as well.
+/// The words after the program's name. Where one of them is no UTF-8 there are none, which are refused as well.
 fn words_of(rt: &HostRuntime) -> Result<Vec<String>, AllocError> {
     let mut words = Vec::new(rt.alloc());
     match env::args(rt) {

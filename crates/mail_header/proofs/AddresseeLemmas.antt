@@ -7,11 +7,12 @@ use Rattle.text_words.proofs.SequenceLemmas.{one_reading, determined}
 use Rattle.mail_header.specs.declared.token.Alphabet.{Alphabet}
 use Rattle.mail_header.specs.declared.token.Alphabet.TheVariants as alphabet
 use Rattle.mail_header.specs.Tokens.{Spelled, AreTokens}
-use Rattle.mail_header.specs.TokenReading.{spelled_in}
+use Rattle.mail_header.specs.reading.TokenReading.{spelled_in}
 use Rattle.mail_header.specs.Mailboxes.{Mailbox}
-use Rattle.mail_header.specs.AddressLists.{Element, Empty, Head, End, Member, IsElement, Addressee, One, Group, AreMailboxes, NoMailboxes, EmptyPlace, NextMailbox, AreAddressees, NoAddressees, Passed, NextOne, NextGroup, IsAddressList, mailboxes_of, Grouped, run_of, groups_from}
-use Rattle.mail_header.specs.ElementReading.{element_in, are_nested, is_addressee, members_of, grouped_from}
-use Rattle.mail_header.specs.GroupBuilding.{are_list}
+use Rattle.mail_header.specs.AddressLists.{Element, Empty, Head, End, Member, IsElement, Addressee, One, Group, AreMailboxes, NoMailboxes, EmptyPlace, NextMailbox, AreAddressees}
+use Rattle.mail_header.specs.AddressLists.{NoAddressees, Passed, NextOne, NextGroup, IsAddressList, Grouped, run_of, groups_from}
+use Rattle.mail_header.specs.reading.ElementReading.{element_in, are_nested, is_addressee, grouped_from}
+use Rattle.mail_header.specs.reading.GroupBuilding.{are_list}
 use Rattle.mail_header.proofs.OneToken.{token_reader}
 use Rattle.mail_header.proofs.MailboxLemmas.{and_parts, both}
 use Rattle.mail_header.proofs.ElementLemmas.{element_reader}
@@ -38,21 +39,12 @@ has_one _ _ (NextGroup phrase ms inner who es i h) n = refl
 pub is_listed : (who : List Addressee) (es : List Element) → AreAddressees who es → who ≢ [] → are_list es ≡ true
 is_listed who es h n = both (are_nested false es) (list_any is_addressee es) (nested who es h) (has_one who es h n)
 
-inner_members : (ms : List Mailbox) (inner es : List Element) → AreMailboxes ms inner → ms ++ members_of es ≡ members_of (inner ++ End ∷ es)
-inner_members _ _ es NoMailboxes = refl
-inner_members _ _ es (EmptyPlace ms inner h) = inner_members ms inner es h
-inner_members _ _ es (NextMailbox m ms inner h) = ap (λ (u : List Mailbox). m ∷ u) (inner_members ms inner es h)
-
-pub members_are : (who : List Addressee) (es : List Element) → AreAddressees who es → mailboxes_of who ≡ members_of es
-members_are _ _ NoAddressees = refl
-members_are _ _ (Passed who es h) = members_are who es h
-members_are _ _ (NextOne m who es h) = ap (λ (u : List Mailbox). m ∷ u) (members_are who es h)
-members_are _ _ (NextGroup phrase ms inner who es i h) = ap (λ (u : List Mailbox). ms ++ u) (members_are who es h) ∙ inner_members ms inner es i
-
-inner_grouped : (phrase : List Spelled) (ms : List Mailbox) (inner es : List Element) → AreMailboxes ms inner → (so_far : List Mailbox) → (Some phrase, so_far ++ ms) ∷ grouped_from None [] es ≡ grouped_from (Some phrase) so_far (inner ++ End ∷ es)
+inner_grouped : (phrase : List Spelled) (ms : List Mailbox) (inner es : List Element) → AreMailboxes ms inner → (so_far : List Mailbox)
+    → (Some phrase, so_far ++ ms) ∷ grouped_from None [] es ≡ grouped_from (Some phrase) so_far (inner ++ End ∷ es)
 inner_grouped phrase _ _ es NoMailboxes so_far = ap (λ (u : List Mailbox). (Some phrase, u) ∷ grouped_from None [] es) (append-nil so_far)
 inner_grouped phrase _ _ es (EmptyPlace ms inner h) so_far = inner_grouped phrase ms inner es h so_far
-inner_grouped phrase _ _ es (NextMailbox m ms inner h) so_far = ap (λ (u : List Mailbox). (Some phrase, u) ∷ grouped_from None [] es) (sym (append_assoc so_far (m ∷ []) ms)) ∙ inner_grouped phrase ms inner es h (so_far ++ m ∷ [])
+inner_grouped phrase _ _ es (NextMailbox m ms inner h) so_far = ap (λ (u : List Mailbox). (Some phrase, u) ∷ grouped_from None [] es) (sym (append_assoc so_far (m ∷ []) ms))
+    ∙ inner_grouped phrase ms inner es h (so_far ++ m ∷ [])
 
 pub groups_are : (who : List Addressee) (es : List Element) → AreAddressees who es → (run : List Mailbox) → groups_from run who ≡ grouped_from None run es
 groups_are _ _ NoAddressees run = refl
@@ -88,10 +80,23 @@ reads true [] e = absurd cc
 reads false (Empty ∷ es) e = let r = reads false es e in record { who = r.who; addressees = Passed r.who es r.addressees }
 reads true (Empty ∷ es) e =
     let r = reads true es e in
-    record { ms = r.ms; inner = Empty ∷ r.inner; rest = r.rest; who = r.who; whole = ap (λ (u : List Element). Empty ∷ u) r.whole; mailboxes = EmptyPlace r.ms r.inner r.mailboxes; addressees = r.addressees }
+    record {
+      ms = r.ms;
+      inner = Empty ∷ r.inner;
+      rest = r.rest;
+      who = r.who;
+      whole = ap
+          (λ (u : List Element). Empty ∷ u) r.whole;
+      mailboxes = EmptyPlace r.ms r.inner r.mailboxes;
+      addressees = r.addressees;
+    }
 reads false (Head phrase ∷ es) e =
     let r = reads true es e in
-    record { who = Group phrase r.ms ∷ r.who; addressees = subst (λ (u : List Element). AreAddressees (Group phrase r.ms ∷ r.who) (Head phrase ∷ u)) (sym r.whole) (NextGroup phrase r.ms r.inner r.who r.rest r.mailboxes r.addressees) }
+    record {
+      who = Group phrase r.ms ∷ r.who;
+      addressees = subst (λ (u : List Element). AreAddressees (Group phrase r.ms ∷ r.who) (Head phrase ∷ u)) (sym r.whole)
+          (NextGroup phrase r.ms r.inner r.who r.rest r.mailboxes r.addressees);
+    }
 reads true (Head phrase ∷ es) e = absurd cc
 reads false (End ∷ es) e = absurd cc
 reads true (End ∷ es) e =
@@ -100,7 +105,16 @@ reads true (End ∷ es) e =
 reads false (Member m ∷ es) e = let r = reads false es e in record { who = One m ∷ r.who; addressees = NextOne m r.who es r.addressees }
 reads true (Member m ∷ es) e =
     let r = reads true es e in
-    record { ms = m ∷ r.ms; inner = Member m ∷ r.inner; rest = r.rest; who = r.who; whole = ap (λ (u : List Element). Member m ∷ u) r.whole; mailboxes = NextMailbox m r.ms r.inner r.mailboxes; addressees = r.addressees }
+    record {
+      ms = m ∷ r.ms;
+      inner = Member m ∷ r.inner;
+      rest = r.rest;
+      who = r.who;
+      whole = ap
+          (λ (u : List Element). Member m ∷ u) r.whole;
+      mailboxes = NextMailbox m r.ms r.inner r.mailboxes;
+      addressees = r.addressees;
+    }
 
 some_one : (who : List Addressee) (es : List Element) → AreAddressees who es → list_any is_addressee es ≡ true → who ≢ []
 some_one _ _ NoAddressees e = absurd cc
@@ -134,11 +148,13 @@ read_from phrase ms (End ∷ es) = ended phrase ms ++ read_from None [] es
 read_from None ms (Member m ∷ es) = One m ∷ read_from None [] es
 read_from (Some phrase) ms (Member m ∷ es) = read_from (Some phrase) (ms ++ m ∷ []) es
 
-inner_read : (phrase : List Spelled) (ms : List Mailbox) (inner es : List Element) → AreMailboxes ms inner → (so_far : List Mailbox) → Group phrase (so_far ++ ms) ∷ read_from None [] es ≡ read_from (Some phrase) so_far (inner ++ End ∷ es)
+inner_read : (phrase : List Spelled) (ms : List Mailbox) (inner es : List Element) → AreMailboxes ms inner → (so_far : List Mailbox)
+    → Group phrase (so_far ++ ms) ∷ read_from None [] es ≡ read_from (Some phrase) so_far (inner ++ End ∷ es)
 unfolding read_from ended
 inner_read phrase _ _ es NoMailboxes so_far = ap (λ (u : List Mailbox). Group phrase u ∷ read_from None [] es) (append-nil so_far)
 inner_read phrase _ _ es (EmptyPlace ms inner h) so_far = inner_read phrase ms inner es h so_far
-inner_read phrase _ _ es (NextMailbox m ms inner h) so_far = ap (λ (u : List Mailbox). Group phrase u ∷ read_from None [] es) (sym (append_assoc so_far (m ∷ []) ms)) ∙ inner_read phrase ms inner es h (so_far ++ m ∷ [])
+inner_read phrase _ _ es (NextMailbox m ms inner h) so_far = ap (λ (u : List Mailbox). Group phrase u ∷ read_from None [] es) (sym (append_assoc so_far (m ∷ []) ms))
+    ∙ inner_read phrase ms inner es h (so_far ++ m ∷ [])
 
 read_is : (who : List Addressee) (es : List Element) → AreAddressees who es → who ≡ read_from None [] es
 unfolding read_from ended

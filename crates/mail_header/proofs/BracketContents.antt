@@ -1,12 +1,13 @@
 -- Reading a bracket finds its contents, and contents are found.
-use Rattle.std.proofs.Common.{◌≡◌, ◌≢◌, ℕ, zero, suc, ◌+◌, ◌-◌, ◌≤◌, true, false, List, [], ◌∷◌, ◌++◌, ◌⊎◌, inl, inr, length, refl, sym, ap, subst, ◌∙◌, arith, append_assoc, Option, Some, None, eqb}
+use Rattle.std.proofs.Common.{◌≡◌, ◌≢◌, ℕ, zero, suc, ◌+◌, ◌-◌, ◌≤◌, true, false, List, [], ◌∷◌, ◌++◌, ◌⊎◌, inl, inr, length, refl, sym, ap, subst, ◌∙◌, arith, append_assoc}
+use Rattle.std.proofs.Common.{Option, Some, None, eqb}
 use Rattle.std.proofs.lemmas.List.{length-append}
 use Rattle.std.proofs.lemmas.Bool.Decides.{eqb_tells}
 use Rattle.mail_header.specs.Tokens.{Contents, Empty, Octet, Pair, Nested}
-use Rattle.mail_header.specs.TokenReading.{further, close_in}
+use Rattle.mail_header.specs.reading.TokenReading.{further, close_in}
 use Rattle.mail_header.proofs.BracketSteps.{further_more, close_escaped, close_slash, close_last, close_down, close_up, close_other, close_none}
 
--- what is read behind the closing octet, with so many open
+-- what is read after the closing octet, with so many open
 abbrev pub behind : ℕ → ℕ → ℕ → List ℕ → Option ℕ
 behind o c zero t = Some 0
 behind o c (suc d) t = close_in o c d false t
@@ -74,7 +75,7 @@ pub further_some : (m n : ℕ) (r : Option ℕ) → further m r ≡ Some n → (
 further_some m n None e = absurd cc
 further_some m n (Some k) e = (k, refl, cc)
 
--- what is behind an octet
+-- what is after an octet
 Ih : ℕ → ℕ → ℕ → Type 0
 Ih fuel o c = (d n : ℕ) (t : List ℕ) → length t ≤ fuel → close_in o c d false t ≡ Some n → Closed o c d n t
 
@@ -118,7 +119,8 @@ case_open fuel o c d n t a ih le e =
       rest = q.rest;
       whole = ap (λ (u : List ℕ). o ∷ u) (r.whole ∙ ap (λ (u : List ℕ). r.contents ++ c ∷ u) q.whole ∙ sym (append_assoc r.contents (c ∷ q.contents) (c ∷ q.rest)));
       inside = Nested r.contents q.contents r.inside q.inside;
-      counted = grow (length q.contents + 1) n g.0 _ (1 + (length r.contents + 1)) (behind o c d q.rest) q.counted (omega (arith, h.2, g.2)) (omega (arith, length-append r.contents (c ∷ q.contents)));
+      counted = grow (length q.contents + 1) n g.0 _ (1 + (length r.contents + 1)) (behind o c d q.rest) q.counted (omega (arith, h.2, g.2)) (omega
+          (arith, length-append r.contents (c ∷ q.contents)));
     }
 
 case_other : (fuel o c d n x : ℕ) (t : List ℕ) → Ih fuel o c → length t ≤ fuel → x ≢ 92 → x ≢ c → x ≢ o → close_in o c d false (x ∷ t) ≡ Some n → Closed o c d n (x ∷ t)
@@ -138,14 +140,18 @@ case_other fuel o c d n x t ih le k m l e =
 Tells : ℕ → ℕ → Type 0
 Tells x y = ((eqb x y ≡ true) × (x ≡ y)) ⊎ ((eqb x y ≡ false) × (x ≢ y))
 
-by_octet : (fuel o c d n x : ℕ) (t : List ℕ) → Apart o c → Ih fuel o c → length t ≤ fuel → close_in o c d false (x ∷ t) ≡ Some n → Tells x 92 → Tells x c → Tells x o → Closed o c d n (x ∷ t)
+by_octet : (fuel o c d n x : ℕ) (t : List ℕ) → Apart o c → Ih fuel o c → length t ≤ fuel → close_in o c d false (x ∷ t) ≡ Some n → Tells x 92 → Tells x c → Tells x o
+    → Closed o c d n (x ∷ t)
 unfolding Tells
-by_octet fuel o c d n x t a ih le e (inl p) q r = let P : ℕ → Type 0 = λ y. close_in o c d false (y ∷ t) ≡ Some n → Closed o c d n (y ∷ t) in subst P (sym p.1) (case_slash fuel o c d n t ih le) e
-by_octet fuel o c d n x t a ih le e (inr p) (inl q) r = let P : ℕ → Type 0 = λ y. close_in o c d false (y ∷ t) ≡ Some n → Closed o c d n (y ∷ t) in subst P (sym q.1) (case_close o c d n t a) e
-by_octet fuel o c d n x t a ih le e (inr p) (inr q) (inl r) = let P : ℕ → Type 0 = λ y. close_in o c d false (y ∷ t) ≡ Some n → Closed o c d n (y ∷ t) in subst P (sym r.1) (case_open fuel o c d n t a ih le) e
+by_octet fuel o c d n x t a ih le e (inl p) q r = let P : ℕ → Type 0 = λ y. close_in o c d false (y ∷ t) ≡ Some n → Closed o c d n (y ∷ t) in subst P (sym p.1)
+    (case_slash fuel o c d n t ih le) e
+by_octet fuel o c d n x t a ih le e (inr p) (inl q) r = let P : ℕ → Type 0 = λ y. close_in o c d false (y ∷ t) ≡ Some n → Closed o c d n (y ∷ t) in subst P (sym q.1)
+    (case_close o c d n t a) e
+by_octet fuel o c d n x t a ih le e (inr p) (inr q) (inl r) = let P : ℕ → Type 0 = λ y. close_in o c d false (y ∷ t) ≡ Some n → Closed o c d n (y ∷ t) in subst P (sym r.1)
+    (case_open fuel o c d n t a ih le) e
 by_octet fuel o c d n x t a ih le e (inr p) (inr q) (inr r) = case_other fuel o c d n x t ih le p.1 q.1 r.1 e
 
--- with at most so many octets
+-- with at most n octets
 pub closed_in : (fuel o c d n : ℕ) (t : List ℕ) → Apart o c → length t ≤ fuel → close_in o c d false t ≡ Some n → Closed o c d n t
 unfolding Ih Tells
 closed_in fuel o c d n [] a le e = absurd (let e' = close_none o c d false in cc)

@@ -9,11 +9,12 @@ use Rattle.text_words.proofs.CutLemmas.{one_run}
 use Rattle.text_words.proofs.SequenceLemmas.{Behind, begins, one_more, all_done, one_reading}
 use Rattle.mail_header.specs.Lines.{unfolded}
 use Rattle.mail_header.specs.Bracketed.{is_inner, IsPiece, InBrackets, Passed, HasPieces}
-use Rattle.mail_header.specs.Reading.{Takes, is_of_line_end, kept_octet}
+use Rattle.mail_header.specs.reading.HeaderLines.{Takes, is_of_line_end, kept_octet}
 
 -- an octet more is kept, or dropped with its line end
 pub kept_more : (c : ℕ) (t old new whole : List ℕ) → old ++ unfolded (c ∷ t) ≡ whole → new ≡ old ++ kept_octet c t → new ++ unfolded t ≡ whole
-kept_more c t old new whole h e = ap (λ (u : List ℕ). u ++ unfolded t) e ∙ append_assoc old (kept_octet c t) (unfolded t) ∙ ap (λ (u : List ℕ). old ++ u) (by (is_of_line_end c t)) ∙ h
+kept_more c t old new whole h e = ap (λ (u : List ℕ). u ++ unfolded t) e ∙ append_assoc old (kept_octet c t) (unfolded t)
+    ∙ ap (λ (u : List ℕ). old ++ u) (by (is_of_line_end c t)) ∙ h
   where
     by : (q : Bool) → cond q [] (c ∷ []) ++ unfolded t ≡ cond q (unfolded t) (c ∷ unfolded t)
     by true = refl
@@ -55,7 +56,9 @@ pub gathered_more : (old new : List (List ℕ)) (rest more b : List ℕ) → Gat
 gathered_more old new rest more b g t = record {
   pieces = g.pieces ++ t.value ∷ [];
   behind = one_more piece_determined g.pieces t.value t.unit more rest b g.behind t.whole t.is;
-  names_are = t.added ∙ ap (λ (u : List (List ℕ)). u ++ option_to_list t.value) g.names_are ∙ ap (λ (u : List (List ℕ)). flat_map option_to_list g.pieces ++ u) (sym (append-nil (option_to_list t.value))) ∙ sym (flat_map-append option_to_list g.pieces (t.value ∷ []));
+  names_are = t.added ∙ ap (λ (u : List (List ℕ)). u ++ option_to_list t.value) g.names_are
+      ∙ ap (λ (u : List (List ℕ)). flat_map option_to_list g.pieces ++ u) (sym (append-nil (option_to_list t.value)))
+      ∙ sym (flat_map-append option_to_list g.pieces (t.value ∷ []));
 }
 
 pub gathered_all : (names : List (List ℕ)) (rest b : List ℕ) → Gathered names rest b → rest ≡ [] → HasPieces names b

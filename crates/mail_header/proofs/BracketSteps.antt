@@ -1,8 +1,9 @@
 -- A bracket is read octet by octet.
-use Rattle.std.proofs.Common.{◌≡◌, ◌≢◌, ℕ, ◌+◌, ◌-◌, ◌<◌, ◌≤◌, Bool, true, false, List, [], ◌∷◌, length, drop, get_or, refl, ap, ◌∙◌, arith, add-one, drop-cons, Option, Some, None, eqb, eq-eqb}
+use Rattle.std.proofs.Common.{◌≡◌, ◌≢◌, ℕ, ◌+◌, ◌-◌, ◌<◌, ◌≤◌, Bool, true, false, List, [], ◌∷◌, length, drop, get_or, refl, ap, ◌∙◌, arith, add-one, drop-cons, Option, Some, None}
+use Rattle.std.proofs.Common.{eqb, eq-eqb}
 use Rattle.std.proofs.lemmas.Bool.{cond-true, cond-false, ne_eqb}
 use Rattle.std.proofs.lemmas.List.{drop_all}
-use Rattle.mail_header.specs.TokenReading.{further, close_in}
+use Rattle.mail_header.specs.reading.TokenReading.{further, close_in}
 
 pub drop_at : (b : List ℕ) (i : ℕ) → i < length b → drop i b ≡ get_or b i 0 ∷ drop (i + 1) b
 drop_at b i lt = rw add-one (drop-cons b i 0 lt)
@@ -40,21 +41,24 @@ pub close_none : (o c d : ℕ) (e : Bool) → close_in o c d e [] ≡ None
 unfolding close_in
 close_none o c d e = refl
 
--- the reading from i on, behind those i octets
+-- the reading from i on, after those i octets
 abbrev pub from : ℕ → ℕ → ℕ → Bool → List ℕ → ℕ → Option ℕ
 from o c d e b i = further i (close_in o c d e (drop i b))
 
-pub goes_on : (o c d d' : ℕ) (e e' : Bool) (b : List ℕ) (i : ℕ) → i < length b → close_in o c d e (get_or b i 0 ∷ drop (i + 1) b) ≡ further 1 (close_in o c d' e' (drop (i + 1) b)) → from o c d e b i ≡ from o c d' e' b (i + 1)
+pub goes_on : (o c d d' : ℕ) (e e' : Bool) (b : List ℕ) (i : ℕ) → i < length b
+    → close_in o c d e (get_or b i 0 ∷ drop (i + 1) b) ≡ further 1 (close_in o c d' e' (drop (i + 1) b)) → from o c d e b i ≡ from o c d' e' b (i + 1)
 goes_on o c d d' e e' b i lt h = rw (drop_at b i lt) (ap (λ (r : Option ℕ). further i r) h ∙ further_more i 1 (close_in o c d' e' (drop (i + 1) b)))
 
 -- after the step, the reading is still the whole's
-pub keeps : (o c d d' k : ℕ) (e e' f : Bool) (b : List ℕ) (i : ℕ) (whole : Option ℕ) → i < length b → from o c d e b i ≡ whole → k ≡ d' → f ≡ e' → close_in o c d e (get_or b i 0 ∷ drop (i + 1) b) ≡ further 1 (close_in o c d' e' (drop (i + 1) b)) → from o c k f b (i + 1) ≡ whole
+pub keeps : (o c d d' k : ℕ) (e e' f : Bool) (b : List ℕ) (i : ℕ) (whole : Option ℕ) → i < length b → from o c d e b i ≡ whole → k ≡ d' → f ≡ e'
+    → close_in o c d e (get_or b i 0 ∷ drop (i + 1) b) ≡ further 1 (close_in o c d' e' (drop (i + 1) b)) → from o c k f b (i + 1) ≡ whole
 keeps o c d d' k e e' f b i whole lt was dk ef h = let g = goes_on o c d d' e e' b i lt h in cc
 
 pub ends_here : (o c d : ℕ) (e : Bool) (b : List ℕ) (i : ℕ) (whole : Option ℕ) → length b ≤ i → from o c d e b i ≡ whole → None ≡ whole
 ends_here o c d e b i whole le was = let e1 = drop_all i b le in let e2 = close_none o c d e in cc
 
-pub found_here : (o c d : ℕ) (e : Bool) (b : List ℕ) (i : ℕ) (whole : Option ℕ) → i < length b → d ≡ 0 → e ≡ false → get_or b i 0 ≢ 92 → get_or b i 0 ≡ c → from o c d e b i ≡ whole → Some (i + 1) ≡ whole
+pub found_here : (o c d : ℕ) (e : Bool) (b : List ℕ) (i : ℕ) (whole : Option ℕ) → i < length b → d ≡ 0 → e ≡ false → get_or b i 0 ≢ 92 → get_or b i 0 ≡ c
+    → from o c d e b i ≡ whole → Some (i + 1) ≡ whole
 found_here o c d e b i whole lt d0 ef n h was =
     let e1 = drop_at b i lt in
     let e2 = close_last o c (get_or b i 0) (drop (i + 1) b) n h in

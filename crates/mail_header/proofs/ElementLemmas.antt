@@ -1,22 +1,26 @@
 -- The element at the front is read, and what is read is the element at the front.
-use Rattle.std.proofs.Common.{◌≡◌, ◌≢◌, ℕ, ◌+◌, ◌⊎◌, inl, inr, Bool, true, false, not, ◌&&◌, ◌||◌, List, [], ◌∷◌, ◌++◌, length, cond, refl, sym, ap, ◌∙◌, subst, arith, append_assoc, eqb, eqb-true, Option, Some, None}
-use Rattle.std.specs.List.{list_all}
+use Rattle.std.proofs.Common.{◌≡◌, ◌≢◌, ℕ, ◌+◌, ◌⊎◌, inl, inr, Bool, true, false, not, ◌&&◌, ◌||◌, List, [], ◌∷◌, ◌++◌, length, cond, refl, sym, ap, ◌∙◌, subst, arith}
+use Rattle.std.proofs.Common.{append_assoc, eqb, eqb-true, Option, Some, None}
+use Rattle.std.specs.List.{list_all, filter}
 use Rattle.std.proofs.lemmas.Bool.{cond-true, cond-false}
 use Rattle.std.proofs.lemmas.List.{length-append}
+use Rattle.std.proofs.lemmas.List.Elements.{filter-append}
 use Rattle.text_words.specs.Cuts.{Each, Stops, front, back}
 use Rattle.text_words.specs.Sequence.{UnitAt}
 use Rattle.text_words.proofs.CutLemmas.{front_back, front_each, back_stops, front_is, back_is, each_list_all, list_all_each}
-use Rattle.text_words.proofs.SequenceLemmas.{IsReader, unit_same}
+use Rattle.text_words.proofs.SequenceLemmas.{IsReader, Behind, begins, unit_same}
 use Rattle.mail_header.specs.Tokens.{Spelled}
 use Rattle.mail_header.specs.Mailboxes.{mark_of, has_mark, is_gap, is_phrase, is_display_name, is_addr_spec, is_inner}
-use Rattle.mail_header.specs.AddressLists.{Element, Empty, Head, End, Member, IsElement, Comma, Blank, Phrase, Closed, Bare, InAngle, EndsElement, EndsGroup, is_no_separator, is_no_comma}
-use Rattle.mail_header.specs.ElementReading.{is_plain, is_no_greater, stops, bare, in_angle, some_bare, bare_of, head_of, end_before, end_of, angle_before, angle_of, closed_of, opened_of, separator_of, is_empty, marked_of, element_of, element_in}
+use Rattle.mail_header.specs.AddressLists.{Element, Empty, Head, End, Member, IsElement, Comma, Blank, Phrase, Closed, Bare, InAngle, EndsElement, EndsGroup, is_no_separator}
+use Rattle.mail_header.specs.AddressLists.{is_no_comma}
+use Rattle.mail_header.specs.reading.ElementReading.{is_plain, is_no_greater, stops, bare, in_angle, some_bare, bare_of, head_of, end_before, end_of, angle_before, angle_of}
+use Rattle.mail_header.specs.reading.ElementReading.{closed_of, opened_of, separator_of, is_empty, marked_of, element_of, element_in, is_filled}
 use Rattle.mail_header.proofs.MailboxLemmas.{flip, picked, gap_mark, mark_is, gaps_each, phrase_each, name_each, spec_each, inner_each, spec_some}
 
 abbrev pub Read : Type 0
 Read = Option (Element × ℕ)
 
--- the same by the mark of the token behind
+-- the same by the mark of the token after
 separator_by : ℕ → List Spelled → Read
 separator_by m more = cond (eqb m 44) (Some (Empty, 1)) (cond (eqb m 59) (end_of more) None)
 
@@ -33,7 +37,8 @@ plain_mark m = not (eqb m 60 || eqb m 62 || eqb m 44 || eqb m 58 || eqb m 59)
 
 -- ---- what is spelled is read
 
-at_mark : (m : ℕ) (plain : List Spelled) (s : Spelled) (more : List Spelled) → Each is_plain plain → mark_of s ≡ m → plain_mark m ≡ false → element_in (plain ++ s ∷ more) ≡ marked_by m plain more
+at_mark : (m : ℕ) (plain : List Spelled) (s : Spelled) (more : List Spelled) → Each is_plain plain → mark_of s ≡ m → plain_mark m ≡ false
+    → element_in (plain ++ s ∷ more) ≡ marked_by m plain more
 unfolding element_in marked_by separator_by plain_mark
 at_mark m plain s more e h k =
     let no_plain : is_plain s ≡ false = ap plain_mark h ∙ k in
@@ -112,7 +117,8 @@ spec_again (p ∷ ps) rest e s =
     ∙ cond-false (list_all is_gap (p ∷ ps)) _ _ (spec_some (p ∷ ps) e)
     ∙ cond-true (is_addr_spec (p ∷ ps)) _ _ e
 
-head_again : (phrase rest : List Spelled) (colon : Spelled) → is_phrase phrase ≡ true → has_mark 58 colon ≡ true → element_in ((phrase ++ colon ∷ []) ++ rest) ≡ Some (Head phrase, length (phrase ++ colon ∷ []))
+head_again : (phrase rest : List Spelled) (colon : Spelled) → is_phrase phrase ≡ true → has_mark 58 colon ≡ true
+    → element_in ((phrase ++ colon ∷ []) ++ rest) ≡ Some (Head phrase, length (phrase ++ colon ∷ []))
 unfolding marked_by plain_mark
 head_again phrase rest colon e h =
     ap element_in (append_assoc phrase (colon ∷ []) rest)
@@ -132,11 +138,13 @@ end_again s gaps rest h e k =
 no_greater_mark : ℕ → Bool
 no_greater_mark m = not (eqb m 62)
 
-angle_again : (phrase inner gaps rest : List Spelled) → is_display_name phrase ≡ true → is_inner inner ≡ true → Each is_gap gaps → EndsElement rest → angle_of phrase inner (gaps ++ rest) ≡ Some (Member (in_angle phrase inner gaps), length phrase + 1 + length inner + 1 + length gaps)
+angle_again : (phrase inner gaps rest : List Spelled) → is_display_name phrase ≡ true → is_inner inner ≡ true → Each is_gap gaps → EndsElement rest
+    → angle_of phrase inner (gaps ++ rest) ≡ Some (Member (in_angle phrase inner gaps), length phrase + 1 + length inner + 1 + length gaps)
 angle_again phrase inner gaps rest p i e k =
     ap (λ (u : List Spelled). angle_before phrase inner u (back is_gap (gaps ++ rest))) (front_is is_gap gaps rest e (element_stops rest k))
     ∙ ap (λ (u : List Spelled). angle_before phrase inner gaps u) (back_is is_gap gaps rest e (element_stops rest k))
-    ∙ cond-true (is_display_name phrase && is_inner inner && stops is_no_separator rest) _ _ (three (is_display_name phrase) (is_inner inner) (stops is_no_separator rest) p i (stops_true is_no_separator rest k))
+    ∙ cond-true (is_display_name phrase && is_inner inner && stops is_no_separator rest) _ _ (three (is_display_name phrase) (is_inner inner) (stops is_no_separator rest) p i
+    (stops_true is_no_separator rest k))
   where
     three : (a b c : Bool) → a ≡ true → b ≡ true → c ≡ true → (a && b && c) ≡ true
     three true true true e f g = refl
@@ -144,7 +152,8 @@ angle_again phrase inner gaps rest p i e k =
     three true false c e f g = absurd cc
     three false b c e f g = absurd cc
 
-opened_again : (phrase inner gaps rest : List Spelled) (greater : Spelled) → has_mark 62 greater ≡ true → is_inner inner ≡ true → opened_of phrase (inner ++ greater ∷ (gaps ++ rest)) ≡ angle_of phrase inner (gaps ++ rest)
+opened_again : (phrase inner gaps rest : List Spelled) (greater : Spelled) → has_mark 62 greater ≡ true → is_inner inner ≡ true
+    → opened_of phrase (inner ++ greater ∷ (gaps ++ rest)) ≡ angle_of phrase inner (gaps ++ rest)
 unfolding no_greater_mark
 opened_again phrase inner gaps rest greater h i =
     let e : Each is_no_greater inner = inner_each no_greater_mark inner refl refl refl refl refl i in
@@ -153,7 +162,8 @@ opened_again phrase inner gaps rest greater h i =
     ∙ ap (λ (u : List Spelled). closed_of phrase inner u) (back_is is_no_greater inner (greater ∷ (gaps ++ rest)) e s)
 
 -- the tokens of a mailbox in brackets, and what follows
-spread : (phrase inner gaps rest : List Spelled) (less greater : Spelled) → (phrase ++ less ∷ (inner ++ greater ∷ gaps)) ++ rest ≡ phrase ++ less ∷ (inner ++ greater ∷ (gaps ++ rest))
+spread : (phrase inner gaps rest : List Spelled) (less greater : Spelled)
+    → (phrase ++ less ∷ (inner ++ greater ∷ gaps)) ++ rest ≡ phrase ++ less ∷ (inner ++ greater ∷ (gaps ++ rest))
 spread phrase inner gaps rest less greater =
     append_assoc phrase (less ∷ (inner ++ greater ∷ gaps)) rest
     ∙ ap (λ (u : List Spelled). phrase ++ less ∷ u) (append_assoc inner (greater ∷ gaps) rest)
@@ -161,7 +171,9 @@ spread phrase inner gaps rest less greater =
 counted : (phrase inner gaps : List Spelled) (less greater : Spelled) → length phrase + 1 + length inner + 1 + length gaps ≡ length (phrase ++ less ∷ (inner ++ greater ∷ gaps))
 counted phrase inner gaps less greater = omega (arith, length-append phrase (less ∷ (inner ++ greater ∷ gaps)), length-append inner (greater ∷ gaps))
 
-mailbox_again : (phrase inner gaps rest : List Spelled) (less greater : Spelled) → is_display_name phrase ≡ true → has_mark 60 less ≡ true → is_inner inner ≡ true → has_mark 62 greater ≡ true → Each is_gap gaps → EndsElement rest → element_in ((phrase ++ less ∷ (inner ++ greater ∷ gaps)) ++ rest) ≡ Some (Member (in_angle phrase inner gaps), length (phrase ++ less ∷ (inner ++ greater ∷ gaps)))
+mailbox_again : (phrase inner gaps rest : List Spelled) (less greater : Spelled) → is_display_name phrase ≡ true → has_mark 60 less ≡ true → is_inner inner ≡ true
+    → has_mark 62 greater ≡ true → Each is_gap gaps → EndsElement rest
+    → element_in ((phrase ++ less ∷ (inner ++ greater ∷ gaps)) ++ rest) ≡ Some (Member (in_angle phrase inner gaps), length (phrase ++ less ∷ (inner ++ greater ∷ gaps)))
 unfolding marked_by plain_mark
 mailbox_again phrase inner gaps rest less greater p l i g e k =
     ap element_in (spread phrase inner gaps rest less greater)
@@ -196,7 +208,8 @@ some _ _ _ (InAngle phrase inner gaps rest less greater p l i g e k) = ends_some
 abbrev pub Found : Element → ℕ → List Spelled → Type 0
 Found v n ts = UnitAt IsElement v n ts
 
-found : (v w : Element) (x rest : List Spelled) (n m : ℕ) (ts : List Spelled) → ts ≡ x ++ rest → m ≡ length x → IsElement w x rest → ◌≡◌ {A = Read} (Some (w, m)) (Some (v, n)) → Found v n ts
+found : (v w : Element) (x rest : List Spelled) (n m : ℕ) (ts : List Spelled) → ts ≡ x ++ rest → m ≡ length x → IsElement w x rest → ◌≡◌ {A = Read} (Some (w, m)) (Some (v, n))
+    → Found v n ts
 found v w x rest n m ts e c i h = unit_same IsElement w v m n ts h (record { unit = x; rest = rest; whole = e; is = i; counted = c })
 
 bare_found : (v : Element) (n : ℕ) (plain rest : List Spelled) → EndsElement rest → bare_of plain ≡ Some (v, n) → Found v n (plain ++ rest)
@@ -217,16 +230,19 @@ head_found v n plain s more h e = elim (picked (is_phrase plain) _ _ _ e) [
 
 end_found : (v : Element) (n : ℕ) (s : Spelled) (more : List Spelled) → has_mark 59 s ≡ true → end_of more ≡ Some (v, n) → Found v n (s ∷ more)
 end_found v n s more h e = elim (picked (stops is_no_comma (back is_gap more)) _ _ _ e) [
-  | inl i ↦ found v End (s ∷ front is_gap more) (back is_gap more) n _ _ (ap (λ (u : List Spelled). s ∷ u) (front_back is_gap more)) (omega arith) (Closed s (front is_gap more) (back is_gap more) h (front_each is_gap more) (true_stops is_no_comma (back is_gap more) i.0)) i.1
+  | inl i ↦ found v End (s ∷ front is_gap more) (back is_gap more) n _ _ (ap (λ (u : List Spelled). s ∷ u) (front_back is_gap more)) (omega arith) (Closed s (front is_gap more)
+      (back is_gap more) h (front_each is_gap more) (true_stops is_no_comma (back is_gap more) i.0)) i.1
   | inr i ↦ absurd (let f = i.1 in cc)
 ]
 
-angle_found : (v : Element) (n : ℕ) (phrase inner : List Spelled) (less greater : Spelled) (more ts : List Spelled) → ts ≡ phrase ++ less ∷ (inner ++ greater ∷ more) → has_mark 60 less ≡ true → has_mark 62 greater ≡ true → angle_of phrase inner more ≡ Some (v, n) → Found v n ts
+angle_found : (v : Element) (n : ℕ) (phrase inner : List Spelled) (less greater : Spelled) (more ts : List Spelled) → ts ≡ phrase ++ less ∷ (inner ++ greater ∷ more)
+    → has_mark 60 less ≡ true → has_mark 62 greater ≡ true → angle_of phrase inner more ≡ Some (v, n) → Found v n ts
 angle_found v n phrase inner less greater more ts w l g e = elim (picked (is_display_name phrase && is_inner inner && stops is_no_separator (back is_gap more)) _ _ _ e) [
   | inl i ↦
       let q = three (is_display_name phrase) (is_inner inner) (stops is_no_separator (back is_gap more)) i.0 in
       found v (Member (in_angle phrase inner (front is_gap more))) (phrase ++ less ∷ (inner ++ greater ∷ front is_gap more)) (back is_gap more) n _ ts
-      (w ∙ ap (λ (u : List Spelled). phrase ++ less ∷ (inner ++ greater ∷ u)) (front_back is_gap more) ∙ sym (spread phrase inner (front is_gap more) (back is_gap more) less greater))
+      (w ∙ ap (λ (u : List Spelled). phrase ++ less ∷ (inner ++ greater ∷ u)) (front_back is_gap more) ∙ sym
+      (spread phrase inner (front is_gap more) (back is_gap more) less greater))
       (counted phrase inner (front is_gap more) less greater)
       (InAngle phrase inner (front is_gap more) (back is_gap more) less greater q.0 l q.1 g (front_each is_gap more) (true_stops is_no_separator (back is_gap more) q.2)) i.1
   | inr i ↦ absurd (let f = i.1 in cc)
@@ -238,7 +254,8 @@ angle_found v n phrase inner less greater more ts w l g e = elim (picked (is_dis
     three true false c e = absurd cc
     three false b c e = absurd cc
 
-opened_found : (v : Element) (n : ℕ) (phrase : List Spelled) (less : Spelled) (more : List Spelled) → has_mark 60 less ≡ true → opened_of phrase more ≡ Some (v, n) → Found v n (phrase ++ less ∷ more)
+opened_found : (v : Element) (n : ℕ) (phrase : List Spelled) (less : Spelled) (more : List Spelled) → has_mark 60 less ≡ true → opened_of phrase more ≡ Some (v, n)
+    → Found v n (phrase ++ less ∷ more)
 opened_found v n phrase less more l e = by (front is_no_greater more) (back is_no_greater more) (front_back is_no_greater more) (back_stops is_no_greater more) e
   where
     by : (inner rest : List Spelled) → more ≡ inner ++ rest → Stops is_no_greater rest → closed_of phrase inner rest ≡ Some (v, n) → Found v n (phrase ++ less ∷ more)
@@ -263,11 +280,13 @@ left_over false true false d false h i j k = absurd cc
 left_over false false false true false h i j k = absurd cc
 left_over false false false false false h i j k = absurd cc
 
-unmarked_found : (v : Element) (n : ℕ) (plain : List Spelled) (s : Spelled) (more : List Spelled) → EndsElement (s ∷ more) → cond (is_empty plain) (separator_of s more) (bare_of plain) ≡ Some (v, n) → Found v n (plain ++ s ∷ more)
+unmarked_found : (v : Element) (n : ℕ) (plain : List Spelled) (s : Spelled) (more : List Spelled) → EndsElement (s ∷ more)
+    → cond (is_empty plain) (separator_of s more) (bare_of plain) ≡ Some (v, n) → Found v n (plain ++ s ∷ more)
 unmarked_found v n [] s more k e = separator_found v n s more e
 unmarked_found v n (p ∷ ps) s more k e = bare_found v n (p ∷ ps) (s ∷ more) k e
 
-marked_found : (v : Element) (n : ℕ) (plain : List Spelled) (s : Spelled) (more : List Spelled) → is_plain s ≡ false → marked_of plain s more ≡ Some (v, n) → Found v n (plain ++ s ∷ more)
+marked_found : (v : Element) (n : ℕ) (plain : List Spelled) (s : Spelled) (more : List Spelled) → is_plain s ≡ false → marked_of plain s more ≡ Some (v, n)
+    → Found v n (plain ++ s ∷ more)
 marked_found v n plain s more k e = elim (picked (has_mark 58 s) _ _ _ e) [
   | inl h ↦ head_found v n plain s more h.0 h.1
   | inr h ↦ elim (picked (has_mark 60 s) _ _ _ h.1) [
@@ -289,3 +308,17 @@ sound v n ts e = by (front is_plain ts) (back is_plain ts) (front_back is_plain 
 
 pub element_reader : IsReader IsElement element_in
 element_reader = record { sound = sound; complete = complete; some = some }
+
+-- ---- elements without the empty places
+
+-- the elements that were read are these, but for empty places, and rest is left
+pub record FilledBehind (kept : List Element) (rest b : List Spelled) : Type 0 where
+  pub all : List Element
+  pub read : Behind IsElement all rest b
+  pub kept_is : kept ≡ filter is_filled all
+
+pub none_filled : (b : List Spelled) → FilledBehind [] b b
+none_filled b = record { all = []; read = begins IsElement b; kept_is = refl }
+
+pub more_filled : (old new all : List Element) (v : Element) → old ≡ filter is_filled all → new ≡ old ++ cond (is_filled v) (v ∷ []) [] → new ≡ filter is_filled (all ++ v ∷ [])
+more_filled old new all v e p = p ∙ ap (λ (u : List Element). u ++ cond (is_filled v) (v ∷ []) []) e ∙ sym (filter-append is_filled all (v ∷ []))

@@ -1,9 +1,10 @@
 -- Blocks of lines, fields, and the walk over them.
-use Rattle.std.proofs.Common.{◌≡◌, ◌≢◌, ℕ, zero, suc, ◌+◌, ◌-◌, ◌<◌, ◌≤◌, Bool, true, false, ◌&&◌, inl, inr, List, [], ◌∷◌, ◌++◌, length, take, drop, get_or, cond, refl, sym, ap, ◌∙◌, subst, Option, Some, None, eqb, arith}
+use Rattle.std.proofs.Common.{◌≡◌, ◌≢◌, ℕ, zero, suc, ◌+◌, ◌-◌, ◌<◌, ◌≤◌, Bool, true, false, ◌&&◌, inl, inr, List, [], ◌∷◌, ◌++◌, length, take, drop, get_or, cond, refl, sym, ap}
+use Rattle.std.proofs.Common.{◌∙◌, subst, Option, Some, None, eqb, arith}
 use Rattle.std.specs.List.{flat_map}
 use Rattle.std.proofs.lemmas.Bool.{cond-true, cond-false}
 use Rattle.std.proofs.lemmas.Grind.{flat_map-append}
-use Rattle.std.proofs.lemmas.List.{append-nil, append_cancel_left, length-append, take_at, drop_at, drop_more, take-append-drop, map-append}
+use Rattle.std.proofs.lemmas.List.{append-nil, append_cancel_left, length-append, take_at, drop_at, drop_more, take-append-drop, map-append, get_or_default}
 use Rattle.text_words.specs.Cuts.{Each, IsRun, Stops, front, back}
 use Rattle.text_words.specs.LineEnds.{IsLineEnd, Lf, CrLf, begins_with_lf, line_end_len}
 use Rattle.text_words.specs.Octets.{is_blank, is_same_text}
@@ -12,9 +13,10 @@ use Rattle.text_words.proofs.CutLemmas.{front_is, back_is, front_back, front_eac
 use Rattle.text_words.proofs.LineEndLemmas.{end_len, end_some, end_found}
 use Rattle.text_words.proofs.SequenceLemmas.{Behind, begins, one_more, all_done, one_reading}
 use Rattle.mail_header.specs.Lines.{without_end}
-use Rattle.mail_header.specs.Fields.{is_name, IsField, ends_block, IsBlock, Part, AField, Other, Body, IsPart, ThisField, OtherLines, ThisBody, NameAndRaw, field_in, body_in, fields_view, IsHeader, later_or, last_named}
+use Rattle.mail_header.specs.Fields.{is_name, IsField, ends_block, IsBlock, Part, AField, Other, Body, IsPart, ThisField, OtherLines, ThisBody, NameAndRaw, field_in, body_in}
+use Rattle.mail_header.specs.Fields.{field_view, fields_view, IsHeader, later_or, last_named, IsLastField}
 use Rattle.mail_header.specs.declared.header.Field.{Field}
-use Rattle.mail_header.specs.Reading.{block_len, Adds, Added, Passed}
+use Rattle.mail_header.specs.reading.HeaderLines.{block_len, EndsHeader, IsBlockAt, Later, Adds, Added, Passed}
 
 -- ---- blocks
 
@@ -167,17 +169,20 @@ pub record Walked (fields : List NameAndRaw) (rest b : List ℕ) : Type 0 where
 pub nothing_walked : (b : List ℕ) → Walked [] b b
 nothing_walked b = record { parts = []; behind = begins IsPart b; fields_are = refl; no_body = refl; counted = omega arith }
 
-walked_part : (old new : List NameAndRaw) (p : Part) (x s rest b : List ℕ) → Walked old rest b → rest ≡ x ++ s → IsPart p x s → new ≡ old ++ field_in p → body_in p ≡ [] → Walked new s b
+walked_part : (old new : List NameAndRaw) (p : Part) (x s rest b : List ℕ) → Walked old rest b → rest ≡ x ++ s → IsPart p x s → new ≡ old ++ field_in p → body_in p ≡ []
+    → Walked new s b
 walked_part old new p x s rest b w e i f n = record {
   parts = w.parts ++ p ∷ [];
   behind = one_more part_determined w.parts p x s rest b w.behind e i;
-  fields_are = f ∙ ap (λ (u : List NameAndRaw). u ++ field_in p) w.fields_are ∙ ap (λ (u : List NameAndRaw). flat_map field_in w.parts ++ u) (sym (append-nil (field_in p))) ∙ sym (flat_map-append field_in w.parts (p ∷ []));
+  fields_are = f ∙ ap (λ (u : List NameAndRaw). u ++ field_in p) w.fields_are ∙ ap (λ (u : List NameAndRaw). flat_map field_in w.parts ++ u) (sym (append-nil (field_in p)))
+      ∙ sym (flat_map-append field_in w.parts (p ∷ []));
   no_body = flat_map-append body_in w.parts (p ∷ []) ∙ ap (λ (u : List ℕ). u ++ flat_map body_in (p ∷ [])) w.no_body ∙ append-nil (body_in p) ∙ n;
   counted = omega (arith, ap length e, length-append x s, w.counted);
 }
 
 -- a block more
-pub walked_block : (old new : List NameAndRaw) (rest b block more : List ℕ) → Walked old rest b → rest ≢ [] → line_end_len rest ≡ 0 → block ≡ take (block_len rest) rest → more ≡ drop (block_len rest) rest → Adds block old new → Walked new more b
+pub walked_block : (old new : List NameAndRaw) (rest b block more : List ℕ) → Walked old rest b → rest ≢ [] → line_end_len rest ≡ 0 → block ≡ take (block_len rest) rest
+    → more ≡ drop (block_len rest) rest → Adds block old new → Walked new more b
 walked_block old new [] b block more w k z e f a = absurd (k refl)
 walked_block old new (c ∷ t) b block more w k z e f a = by new a
   where
@@ -207,7 +212,8 @@ walked_end fields rest b (suc n) w e p =
     let f = end_found rest n e in
     let i = ThisBody f.end f.rest f.is_end in
     let m = one_more part_determined w.parts (Body f.rest) (f.end ++ f.rest) [] rest b w.behind (f.whole ∙ sym (append-nil (f.end ++ f.rest))) i in
-    let body : flat_map body_in (w.parts ++ Body f.rest ∷ []) ≡ f.rest = flat_map-append body_in w.parts (Body f.rest ∷ []) ∙ ap (λ (u : List ℕ). u ++ (f.rest ++ [])) w.no_body ∙ append-nil f.rest in
+    let body : flat_map body_in (w.parts ++ Body f.rest ∷ []) ≡ f.rest = flat_map-append body_in w.parts (Body f.rest ∷ []) ∙ ap (λ (u : List ℕ). u ++ (f.rest ++ [])) w.no_body
+    ∙ append-nil f.rest in
     record {
       parts = w.parts ++ Body f.rest ∷ [];
       are = all_done (w.parts ++ Body f.rest ∷ []) [] b m refl;
@@ -234,7 +240,8 @@ pub is_field : (b n r v w : List ℕ) → n ≡ front is_name b → r ≡ back i
 is_field b n r v w en er ev some ew = record {
   blanks = front is_blank r;
   value = w;
-  whole = front_back is_name b ∙ ap (λ (u : List ℕ). u ++ back is_name b) (sym en) ∙ ap (λ (u : List ℕ). n ++ u) (sym er ∙ front_back is_blank r ∙ ap (λ (u : List ℕ). front is_blank r ++ u) (sym ev ∙ ew));
+  whole = front_back is_name b ∙ ap (λ (u : List ℕ). u ++ back is_name b) (sym en)
+      ∙ ap (λ (u : List ℕ). n ++ u) (sym er ∙ front_back is_blank r ∙ ap (λ (u : List ℕ). front is_blank r ++ u) (sym ev ∙ ew));
   is_named = (subst (λ (u : List ℕ). Each is_name u) (sym en) (front_each is_name b), some);
   are_blank = front_each is_blank r;
   raw_is = refl;
@@ -242,19 +249,64 @@ is_field b n r v w en er ev some ew = record {
 
 -- ---- the last of a name
 
-pub last_found : (name : List ℕ) (fs : List NameAndRaw) (f : NameAndRaw) (gs : List NameAndRaw) → is_same_text f.0 name ≡ true → last_named name gs ≡ None → last_named name (fs ++ f ∷ gs) ≡ Some f.1
+pub last_found : (name : List ℕ) (fs : List NameAndRaw) (f : NameAndRaw) (gs : List NameAndRaw) → is_same_text f.0 name ≡ true → last_named name gs ≡ None
+    → last_named name (fs ++ f ∷ gs) ≡ Some f.1
 last_found name [] f gs e n = ap (λ (o : Option (List ℕ)). later_or o (is_same_text f.0 name) f.1) n ∙ cond-true (is_same_text f.0 name) _ _ e
 last_found name (g ∷ fs) f gs e n = ap (λ (o : Option (List ℕ)). later_or o (is_same_text g.0 name) g.1) (last_found name fs f gs e n)
 
-pub last_at : (name : List ℕ) (l : List Field) (i at : ℕ) (f : Field) → i < length l → at ≡ i + 1 → f ≡ get_or l i f → is_same_text f.name name ≡ true → last_named name (fields_view (drop at l)) ≡ None → last_named name (fields_view l) ≡ Some f.raw
+pub last_at : (name : List ℕ) (l : List Field) (i at : ℕ) (f : Field) → i < length l → at ≡ i + 1 → f ≡ get_or l i f → is_same_text f.name.now name ≡ true
+    → last_named name (fields_view (drop at l)) ≡ None → last_named name (fields_view l) ≡ Some f.raw.now
 last_at name l i at f lt n e h none =
-    let w : l ≡ take i l ++ f ∷ drop at l = sym (take-append-drop i l) ∙ ap (λ (u : List Field). take i l ++ u) (drop_more l i f lt) ∙ ap (λ (g : Field). take i l ++ g ∷ drop (i + 1) l) (sym e) ∙ ap (λ (k : ℕ). take i l ++ f ∷ drop k l) (sym n) in
+    let w : l ≡ take i l ++ f ∷ drop at l = sym (take-append-drop i l) ∙ ap (λ (u : List Field). take i l ++ u) (drop_more l i f lt)
+    ∙ ap (λ (g : Field). take i l ++ g ∷ drop (i + 1) l) (sym e) ∙ ap (λ (k : ℕ). take i l ++ f ∷ drop k l) (sym n) in
     ap (λ (u : List Field). last_named name (fields_view u)) w
-    ∙ ap (last_named name) (map-append (λ (g : Field). (g.name, g.raw)) (take i l) (f ∷ drop at l))
-    ∙ last_found name (fields_view (take i l)) (f.name, f.raw) (fields_view (drop at l)) h none
+    ∙ ap (last_named name) (map-append field_view (take i l) (f ∷ drop at l))
+    ∙ last_found name (fields_view (take i l)) (field_view f) (fields_view (drop at l)) h none
+
+pub last_read : (name : List ℕ) (l : List Field) (i at : ℕ) (d : Field) → i < length l → at ≡ i + 1 → is_same_text (get_or l i d).name.now name ≡ true
+    → last_named name (fields_view (drop at l)) ≡ None → last_named name (fields_view l) ≡ Some (get_or l i d).raw.now
+last_read name l i at d lt n e none = last_at name l i at (get_or l i d) lt n (get_or_default l i d (get_or l i d) lt) e none
+
+-- a field more after them
+pub last_other : (name : List ℕ) (fs : List NameAndRaw) (f : NameAndRaw) → is_same_text f.0 name ≡ false → last_named name (fs ++ f ∷ []) ≡ last_named name fs
+last_other name [] f e = cond-false (is_same_text f.0 name) _ _ e
+last_other name (g ∷ fs) f e = ap (λ (o : Option (List ℕ)). later_or o (is_same_text g.0 name) g.1) (last_other name fs f e)
 
 -- a field more
-pub pushed_view : (old new : List Field) (f : Field) (n r : List ℕ) → new ≡ old ++ f ∷ [] → f.name ≡ n → f.raw ≡ r → fields_view new ≡ fields_view old ++ (n, r) ∷ []
-pushed_view old new f n r e a b =
-    ap fields_view e ∙ map-append (λ (g : Field). (g.name, g.raw)) old (f ∷ [])
-    ∙ ap (λ (u : List ℕ). fields_view old ++ (u, f.raw) ∷ []) a ∙ ap (λ (u : List ℕ). fields_view old ++ (n, u) ∷ []) b
+pub pushed_view : (old new : List Field) (f : Field) → new ≡ old ++ f ∷ [] → fields_view new ≡ fields_view old ++ field_view f ∷ []
+pushed_view old new f e = ap fields_view e ∙ map-append field_view old (f ∷ [])
+
+-- ---- the last field while walking
+
+-- the last field of this name before the rest
+pub record LastWalked (name : List ℕ) (found : Option (List ℕ)) (rest b : List ℕ) : Type 0 where
+  pub fields : List NameAndRaw
+  pub walked : Walked fields rest b
+  pub found_is : found ≡ last_named name fields
+
+pub none_walked : (name b : List ℕ) → LastWalked name None b b
+none_walked name b = record { fields = []; walked = nothing_walked b; found_is = refl }
+
+pub block_walked : (old new : List NameAndRaw) (rest b block more : List ℕ) → Walked old rest b → IsBlockAt rest block more → Adds block old new → Walked new more b
+block_walked old new rest b block more w i a = walked_block old new rest b block more w i.some i.no_end i.block_is i.rest_is a
+
+pub last_walked : (name : List ℕ) (found new : Option (List ℕ)) (rest b block more : List ℕ) → LastWalked name found rest b → IsBlockAt rest block more
+    → Later name block found new → LastWalked name new more b
+last_walked name found new rest b block more w i l =
+    let k = l w.fields w.found_is in
+    record { fields = k.0; walked = block_walked w.fields k.0 rest b block more w.walked i k.1; found_is = k.2 }
+
+pub walked_done : (fields : List NameAndRaw) (rest b : List ℕ) (n : ℕ) → Walked fields rest b → EndsHeader rest → n ≡ line_end_len rest
+    → IsHeader fields (length b - length rest + n) b
+walked_done fields rest b n w (inl e) h =
+    subst (λ (k : ℕ). IsHeader fields k b) (omega (arith, ap length e, ap line_end_len e, h)) (walked_all fields rest b w e)
+walked_done fields rest b n w (inr e) h = walked_end fields rest b n w (sym h) (omega (arith, e, h))
+
+pub last_done : (name : List ℕ) (found : Option (List ℕ)) (rest b : List ℕ) → LastWalked name found rest b → EndsHeader rest → IsLastField name b found
+last_done name found rest b w e = record {
+  fields = w.fields;
+  end = length b - length rest + line_end_len rest;
+  is = walked_done w.fields rest b
+      (line_end_len rest) w.walked e refl;
+  raw_is = w.found_is;
+}

@@ -1,14 +1,15 @@
 -- A raw value has one reading as addresses, and one as groups.
-use Rattle.std.proofs.Common.{◌≡◌, ℕ, false, List, [], ◌∷◌, refl, sym, ap, ◌∙◌, subst, Option, Some}
-use Rattle.std.specs.List.{AllZip}
+use Rattle.std.proofs.Common.{◌≡◌, ℕ, false, List, [], ◌∷◌, refl, sym, ap, ◌∙◌, subst, Option, None, Some}
+use Rattle.std.specs.List.{AllZip, flat_map}
 use Rattle.header_words.proofs.WordLemmas as words
 use Rattle.mail_header.specs.declared.address.Address.{Address}
 use Rattle.mail_header.specs.declared.address.Group.{Group}
 use Rattle.mail_header.specs.RawForms.{raw_form}
 use Rattle.mail_header.specs.Tokens.{Spelled}
 use Rattle.mail_header.specs.Mailboxes.{Mailbox}
-use Rattle.mail_header.specs.AddressLists.{Grouped, mailboxes_of, groups_of}
-use Rattle.mail_header.specs.Names.{comment_text, phrase_text, some_text, IsCommentName, NoComment, OfComment, IsName, OfPhrase, NoPhrase, IsAddress, IsGroupName, NoName, Named, IsGroup, IsAddressesForm, NoAddresses, Addresses, IsGroupsForm, NoGroups, Groups}
+use Rattle.mail_header.specs.AddressLists.{Grouped, groups_of}
+use Rattle.mail_header.specs.Names.{comment_text, phrase_text, some_text, IsCommentName, NoComment, OfComment, IsName, OfPhrase, NoPhrase, IsAddress, IsGroupName, NoName, Named}
+use Rattle.mail_header.specs.Names.{IsGroup, members_in, IsAddressesForm, IsGroupsForm, NoGroups, Groups}
 use Rattle.mail_header.proofs.AddresseeLemmas.{one_list}
 
 zip_one : {A B : Type 0} (R : A → B → Type 0) → ((x : A) (y z : B) → R x y → R x z → y ≡ z) → (xs : List A) (ys zs : List B) → AllZip R xs ys → AllZip R xs zs → ys ≡ zs
@@ -43,16 +44,19 @@ one_group p a b g h =
     ap (λ (u : Option (List ℕ)). record { name = u; members = a.members }) (one_group_name p.0 a.name b.name g.name h.name)
     ∙ ap (λ (u : List Address). record { name = b.name; members = u }) (zip_one IsAddress one_address p.1 a.members b.members g.members h.members)
 
-pub one_addresses : (raw : List ℕ) (x y : Option (List Address)) → IsAddressesForm raw x → IsAddressesForm raw y → x ≡ y
-one_addresses raw _ _ (NoAddresses n) (NoAddresses k) = refl
-one_addresses raw _ _ (NoAddresses n) (Addresses who list l h) = absurd (n who l)
-one_addresses raw _ _ (Addresses who list l h) (NoAddresses n) = absurd (n who l)
-one_addresses raw _ _ (Addresses who list l h) (Addresses other rest k j) =
-    ap (λ (u : List Address). Some u) (zip_one IsAddress one_address (mailboxes_of other) list rest (subst (λ u. AllZip IsAddress (mailboxes_of u) list) (one_list who other (raw_form raw) l k) h) j)
-
 pub one_groups : (raw : List ℕ) (x y : Option (List Group)) → IsGroupsForm raw x → IsGroupsForm raw y → x ≡ y
 one_groups raw _ _ (NoGroups n) (NoGroups k) = refl
 one_groups raw _ _ (NoGroups n) (Groups who list l h) = absurd (n who l)
 one_groups raw _ _ (Groups who list l h) (NoGroups n) = absurd (n who l)
 one_groups raw _ _ (Groups who list l h) (Groups other rest k j) =
-    ap (λ (u : List Group). Some u) (zip_one IsGroup one_group (groups_of other) list rest (subst (λ u. AllZip IsGroup (groups_of u) list) (one_list who other (raw_form raw) l k) h) j)
+    ap (λ (u : List Group). Some u) (zip_one IsGroup one_group (groups_of other) list rest
+    (subst (λ u. AllZip IsGroup (groups_of u) list) (one_list who other (raw_form raw) l k) h) j)
+
+pub one_addresses : (raw : List ℕ) (x y : Option (List Address)) → IsAddressesForm raw x → IsAddressesForm raw y → x ≡ y
+one_addresses raw None None g h = refl
+one_addresses raw None (Some y) g h = let e = one_groups raw None (Some h.0) g h.1 in absurd cc
+one_addresses raw (Some x) None g h = let e = one_groups raw None (Some g.0) h g.1 in absurd cc
+one_addresses raw (Some x) (Some y) g h =
+    let e = one_groups raw (Some g.0) (Some h.0) g.1 h.1 in
+    let p : g.0 ≡ h.0 = cc in
+    ap (λ (u : List Address). Some u) (g.2 ∙ ap (flat_map members_in) p ∙ sym h.2)

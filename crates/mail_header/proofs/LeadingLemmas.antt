@@ -6,7 +6,7 @@ use Rattle.text_words.specs.Sequence.{IsDetermined}
 use Rattle.text_words.proofs.SequenceLemmas.{determined}
 use Rattle.mail_header.specs.declared.token.Alphabet.{Alphabet}
 use Rattle.mail_header.specs.Tokens.{Spelled, IsToken, AreTokens, BeginsNone, AreLeading}
-use Rattle.mail_header.specs.TokenReading.{spelled_in}
+use Rattle.mail_header.specs.reading.TokenReading.{spelled_in}
 use Rattle.mail_header.specs.Lexemes.{is_lexeme, AreLeadingLexemes}
 use Rattle.mail_header.proofs.OneToken.{token_reader}
 
@@ -18,7 +18,8 @@ pub leads_begin : (a : Alphabet) (t : List ℕ) → Leads a [] t t
 leads_begin a t = λ more end h. h
 
 -- the token that was read is the next
-pub leads_more : (a : Alphabet) (vs : List Spelled) (v : Spelled) (n : ℕ) (rest t : List ℕ) → Leads a vs rest t → spelled_in a rest ≡ Some (v, n) → Leads a (vs ++ v ∷ []) (drop n rest) t
+pub leads_more : (a : Alphabet) (vs : List Spelled) (v : Spelled) (n : ℕ) (rest t : List ℕ) → Leads a vs rest t → spelled_in a rest ≡ Some (v, n)
+    → Leads a (vs ++ v ∷ []) (drop n rest) t
 leads_more a vs v n rest t h e = λ more end g.
     let u = (token_reader a).sound v n rest e in
     let behind : drop n rest ≡ u.rest = ap (drop n) u.whole ∙ drop_at u.unit u.rest n (sym u.counted) in
@@ -66,6 +67,15 @@ one_leading a (v ∷ vs) (w ∷ ws) r q t h g =
     let P : List ℕ → Type 0 = λ x. AreLeading a ws q x in
     let tail = one_leading a vs ws r q h.rest h.more (subst P (sym s.rest) g.more) in
     ap (λ (x : Spelled). x ∷ vs) s.value ∙ ap (λ (xs : List Spelled). w ∷ xs) tail
+
+pub one_rest : (a : Alphabet) (vs ws : List Spelled) (r q t : List ℕ) → AreLeading a vs r t → AreLeading a ws q t → r ≡ q
+one_rest a [] [] r q t h g = sym h.0 ∙ g.0
+one_rest a [] (w ∷ ws) r q t h g = absurd (h.1 w g.unit g.rest g.whole g.is)
+one_rest a (v ∷ vs) [] r q t h g = absurd (g.1 v h.unit h.rest h.whole h.is)
+one_rest a (v ∷ vs) (w ∷ ws) r q t h g =
+    let s = (one_token a).one v w h.unit g.unit h.rest g.rest (sym h.whole ∙ g.whole) h.is g.is in
+    let P : List ℕ → Type 0 = λ x. AreLeading a ws q x in
+    one_rest a vs ws r q h.rest h.more (subst P (sym s.rest) g.more)
 
 pub one_leading_lexemes : (a : Alphabet) (x y : List Spelled) (t : List ℕ) → AreLeadingLexemes a x t → AreLeadingLexemes a y t → x ≡ y
 one_leading_lexemes a x y t h g =

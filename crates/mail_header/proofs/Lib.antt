@@ -12,3 +12,6 @@ pub mod AddresseeLemmas
 pub mod GroupLemmas
 pub mod TextLemmas
 pub mod FormLemmas
+pub mod LexemeLemmas
+pub mod PieceLemmas
+pub mod DateLemmas

@@ -8,9 +8,11 @@ use Rattle.mail_header.specs.declared.token.Kind.{Kind}
 use Rattle.mail_header.specs.declared.token.Kind.TheVariants as kind
 use Rattle.mail_header.specs.Tokens.{Spelled}
 use Rattle.mail_header.specs.Lexemes.{is_lexeme_kind}
-use Rattle.mail_header.specs.Mailboxes.{mark_in, mark_of, has_mark, is_gap, is_atom_kind, is_atom, is_word_kind, is_word, is_literal_kind, has_no_opener, behind_first, is_literal, is_phrase_part, begins_phrase, is_phrase, is_display_name, is_dotted, is_local_part, begins_literal, is_domain, is_no_at, spec_of, is_addr_spec, begins_hop, is_hop, are_hops, is_route, is_no_colon, inner_of, is_inner}
+use Rattle.mail_header.specs.Mailboxes.{mark_in, mark_of, has_mark, is_gap, is_atom_kind, is_atom, is_word_kind, is_word, is_literal_kind, has_no_opener, behind_first, is_literal}
+use Rattle.mail_header.specs.Mailboxes.{is_phrase_part, begins_phrase, is_phrase, is_display_name, is_dotted, is_local_part, begins_literal, is_domain, is_no_at, spec_of}
+use Rattle.mail_header.specs.Mailboxes.{is_addr_spec, begins_hop, is_hop, are_hops, is_route, is_no_colon, inner_of, is_inner}
 use Rattle.mail_header.specs.AddressLists.{is_no_comma}
-use Rattle.mail_header.specs.ElementReading.{are_hops_behind}
+use Rattle.mail_header.specs.reading.ElementReading.{are_hops_behind}
 
 -- ---- choices
 
@@ -107,7 +109,8 @@ pub gaps_each : (q : ℕ → Bool) (ts : List Spelled) → q 0 ≡ true → Each
 gaps_each q [] z e = tt
 gaps_each q (s ∷ ts) z e = (in_class q 0 s (gap_mark s e.0) z, gaps_each q ts z e.1)
 
-dotted_each : (q : ℕ → Bool) (word : Spelled → Bool) → ((s : Spelled) → word s ≡ true → mark_of s ≡ 0) → q 0 ≡ true → q 46 ≡ true → (due : Bool) (ts : List Spelled) → is_dotted word due ts ≡ true → Each (by_mark q) ts
+dotted_each : (q : ℕ → Bool) (word : Spelled → Bool) → ((s : Spelled) → word s ≡ true → mark_of s ≡ 0) → q 0 ≡ true → q 46 ≡ true → (due : Bool) (ts : List Spelled)
+    → is_dotted word due ts ≡ true → Each (by_mark q) ts
 dotted_each q word f z d due [] e = tt
 dotted_each q word f z d due (s ∷ ts) e = elim (picked (is_gap s) _ _ _ e) [
   | inl h ↦ (in_class q 0 s (gap_mark s h.0) z, dotted_each q word f z d due ts h.1)
@@ -189,7 +192,8 @@ hops_each q part (s ∷ ts) z d a c e = elim (picked (has_mark 44 s) _ _ _ e) [
 ]
 
 pub inner_each : (q : ℕ → Bool) (ts : List Spelled) → q 0 ≡ true → q 46 ≡ true → q 64 ≡ true → q 44 ≡ true → q 58 ≡ true → is_inner ts ≡ true → Each (by_mark q) ts
-inner_each q ts z d a c k e = joined q is_no_colon ts (route (front is_no_colon ts) (back is_no_colon ts) e) (spec (front is_no_colon ts) (back is_no_colon ts) (back_stops is_no_colon ts) e)
+inner_each q ts z d a c k e = joined q is_no_colon ts (route (front is_no_colon ts) (back is_no_colon ts) e) (spec (front is_no_colon ts) (back is_no_colon ts)
+    (back_stops is_no_colon ts) e)
   where
     route : (l r : List Spelled) → inner_of l r ≡ true → Each (by_mark q) l
     route l [] e = spec_each q l z d a e
@@ -214,7 +218,8 @@ spec_some ts e = by (list_all is_gap ts) refl
 
     by : (b : Bool) → list_all is_gap ts ≡ b → b ≡ false
     by false h = refl
-    by true h = absurd (none (front is_no_at ts) (back is_no_at ts) (each_left is_gap (front is_no_at ts) (back is_no_at ts) (subst (λ (u : List Spelled). Each is_gap u) (front_back is_no_at ts) (list_all_each is_gap ts h))) e)
+    by true h = absurd (none (front is_no_at ts) (back is_no_at ts)
+        (each_left is_gap (front is_no_at ts) (back is_no_at ts) (subst (λ (u : List Spelled). Each is_gap u) (front_back is_no_at ts) (list_all_each is_gap ts h))) e)
 
 -- ---- hops, cut at the first comma
 
@@ -223,12 +228,16 @@ unfolding front back
 hops_cut part [] = ap is_hop (sym (append-nil part)) ∙ and_true (is_hop (part ++ []))
 hops_cut part (s ∷ ts) = by (has_mark 44 s) (hops_cut (part ++ s ∷ []) ts)
   where
-    by : (b : Bool) → are_hops (part ++ s ∷ []) ts ≡ (is_hop ((part ++ s ∷ []) ++ front is_no_comma ts) && are_hops_behind (back is_no_comma ts)) → cond b (is_hop part && are_hops [] ts) (are_hops (part ++ s ∷ []) ts) ≡ (is_hop (part ++ cond (not b) (s ∷ front is_no_comma ts) []) && are_hops_behind (cond (not b) (back is_no_comma ts) (s ∷ ts)))
+    by : (b : Bool) → are_hops (part ++ s ∷ []) ts ≡ (is_hop ((part ++ s ∷ []) ++ front is_no_comma ts) && are_hops_behind (back is_no_comma ts))
+        → cond b (is_hop part && are_hops [] ts) (are_hops (part ++ s ∷ []) ts) ≡ (is_hop (part ++ cond (not b) (s ∷ front is_no_comma ts) []) && are_hops_behind
+        (cond (not b) (back is_no_comma ts) (s ∷ ts)))
     by true h = ap (λ (u : List Spelled). is_hop u && are_hops [] ts) (sym (append-nil part))
     by false h = h ∙ ap (λ (u : List Spelled). is_hop u && are_hops_behind (back is_no_comma ts)) (append_assoc part (s ∷ []) (front is_no_comma ts))
 
 pub no_hop : (more hop : List Spelled) → hop ≡ front is_no_comma more → is_hop hop ≡ false → are_hops [] more ≡ false
-no_hop more hop e h = hops_cut [] more ∙ ap (λ (u : List Spelled). is_hop u && are_hops_behind (back is_no_comma more)) (sym e) ∙ ap (λ (b : Bool). b && are_hops_behind (back is_no_comma more)) h
+no_hop more hop e h = hops_cut [] more ∙ ap (λ (u : List Spelled). is_hop u && are_hops_behind (back is_no_comma more)) (sym e)
+    ∙ ap (λ (b : Bool). b && are_hops_behind (back is_no_comma more)) h
 
 pub hop_passed : (more hop behind : List Spelled) → hop ≡ front is_no_comma more → behind ≡ back is_no_comma more → is_hop hop ≡ true → are_hops [] more ≡ are_hops_behind behind
-hop_passed more hop behind e f h = hops_cut [] more ∙ ap (λ (u : List Spelled). is_hop u && are_hops_behind (back is_no_comma more)) (sym e) ∙ ap (λ (b : Bool). b && are_hops_behind (back is_no_comma more)) h ∙ ap are_hops_behind (sym f)
+hop_passed more hop behind e f h = hops_cut [] more ∙ ap (λ (u : List Spelled). is_hop u && are_hops_behind (back is_no_comma more)) (sym e)
+    ∙ ap (λ (b : Bool). b && are_hops_behind (back is_no_comma more)) h ∙ ap are_hops_behind (sym f)

@@ -1,5 +1,6 @@
 -- The token at the front is read, and what is read is the token at the front.
-use Rattle.std.proofs.Common.{◌≡◌, ◌≢◌, ◌⊎◌, take, ℕ, ◌+◌, ◌<◌, Bool, true, false, List, [], ◌∷◌, ◌++◌, length, cond, refl, sym, ap, ◌∙◌, subst, inl, inr, arith, append_assoc, Option, Some, None, eqb}
+use Rattle.std.proofs.Common.{◌≡◌, ◌≢◌, ◌⊎◌, take, ℕ, ◌+◌, ◌<◌, Bool, true, false, List, [], ◌∷◌, ◌++◌, length, cond, refl, sym, ap, ◌∙◌, subst, inl, inr, arith, append_assoc}
+use Rattle.std.proofs.Common.{Option, Some, None, eqb}
 use Rattle.std.proofs.lemmas.Bool.{cond-true, cond-false, eqb-true, eqb-false}
 use Rattle.std.proofs.lemmas.List.{length-append, take_at}
 use Rattle.mail_header.specs.declared.token.Alphabet.{Alphabet}
@@ -13,7 +14,7 @@ use Rattle.text_words.specs.Cuts.{Each, IsRun, Stops, front, back}
 use Rattle.text_words.specs.Sequence.{UnitAt}
 use Rattle.text_words.proofs.CutLemmas.{front_back, front_each, back_stops, front_is}
 use Rattle.text_words.proofs.SequenceLemmas.{IsReader, unit_same}
-use Rattle.mail_header.specs.TokenReading.{span, further, close_in, token_of, token_in, spelled_of, spelled_in}
+use Rattle.mail_header.specs.reading.TokenReading.{span, further, close_in, token_of, token_in, spelled_of, spelled_in}
 use Rattle.mail_header.proofs.BracketContents.{Apart, closes_again, closed_in}
 
 -- ---- what is spelled is read
@@ -44,7 +45,8 @@ atom_again a (c ∷ x) y r s = cond-true (is_letter a c) _ _ r.0.0 ∙ ap (λ (n
 space_again : (a : Alphabet) (x y : List ℕ) → IsRun is_white x → Stops is_white y → Reads a kind.Space (length x) (x ++ y)
 unfolding token_in
 space_again a [] y r s = absurd (r.1 refl)
-space_again a (c ∷ x) y r s = cond-false (is_letter a c) _ _ (space_no_letter a c r.0.0) ∙ cond-true (is_white c) _ _ r.0.0 ∙ ap (λ (n : ℕ). Some (kind.Space, n)) (span_is is_white (c ∷ x) y r.0 s)
+space_again a (c ∷ x) y r s = cond-false (is_letter a c) _ _ (space_no_letter a c r.0.0) ∙ cond-true (is_white c) _ _ r.0.0
+    ∙ ap (λ (n : ℕ). Some (kind.Space, n)) (span_is is_white (c ∷ x) y r.0 s)
 
 mark_again : (a : Alphabet) (c : ℕ) (y : List ℕ) → is_mark a c ≡ true → Reads a kind.Mark 1 (c ∷ y)
 unfolding token_in
@@ -74,7 +76,8 @@ apart_literal = record { opener = eqb-false none 92 refl; closer = eqb-false 93 
 pub apart_comment : Apart 40 41
 apart_comment = record { opener = eqb-false 40 92 refl; closer = eqb-false 41 92 refl; two = eqb-false 40 41 refl }
 
-bracket_again : (a : Alphabet) (k : Kind) (first o c : ℕ) (x y : List ℕ) → Apart o c → ((t : List ℕ) → token_in a (first ∷ t) ≡ token_of k (further 1 (close_in o c 0 false t))) → IsBracketed first o c x → Reads a k (length x) (x ++ y)
+bracket_again : (a : Alphabet) (k : Kind) (first o c : ℕ) (x y : List ℕ) → Apart o c → ((t : List ℕ) → token_in a (first ∷ t) ≡ token_of k (further 1 (close_in o c 0 false t)))
+    → IsBracketed first o c x → Reads a k (length x) (x ++ y)
 bracket_again a k first o c x y p f b =
     let s = b.contents in
     let e1 : x ++ y ≡ first ∷ (s ++ c ∷ y) = ap (λ (u : List ℕ). u ++ y) b.whole ∙ ap (λ (u : List ℕ). first ∷ u) (append_assoc s (c ∷ []) y) in
@@ -102,14 +105,20 @@ pub record Takes (a : Alphabet) (k : Kind) (n : ℕ) (t : List ℕ) : Type 0 whe
   pub counted : n ≡ length front
   pub some : 0 < n
 
-run_takes : (a : Alphabet) (k : Kind) (p : ℕ → Bool) (c n : ℕ) (t : List ℕ) → ((x : List ℕ) → IsRun p x → IsKind a k x) → ((x : List ℕ) → Stops p x → EndsBefore a k x) → p c ≡ true → n ≡ span p (c ∷ t) → Takes a k n (c ∷ t)
+run_takes : (a : Alphabet) (k : Kind) (p : ℕ → Bool) (c n : ℕ) (t : List ℕ) → ((x : List ℕ) → IsRun p x → IsKind a k x) → ((x : List ℕ) → Stops p x → EndsBefore a k x)
+    → p c ≡ true → n ≡ span p (c ∷ t) → Takes a k n (c ∷ t)
 unfolding front
 run_takes a k p c n t f g e h =
     let some : front p (c ∷ t) ≡ c ∷ front p t = cond-true (p c) (c ∷ front p t) [] e in
     record {
       front = front p (c ∷ t);
       rest = back p (c ∷ t);
-      begins = record { whole = front_back p (c ∷ t); spelled = f (front p (c ∷ t)) (front_each p (c ∷ t), λ z. let q = sym some ∙ z in absurd cc); ends = g (back p (c ∷ t)) (back_stops p (c ∷ t)) };
+      begins = record {
+        whole = front_back p (c ∷ t);
+        spelled = f (front p (c ∷ t)) (front_each p (c ∷ t), λ z. let q = sym some ∙ z in absurd cc);
+        ends = g (back p (c ∷ t))
+            (back_stops p (c ∷ t));
+      };
       counted = h;
       some = omega (arith, h, ap length some);
     }
@@ -125,7 +134,8 @@ some_pair k l n m e = (ap kind_in e, ap count_in e)
     count_in None = n
     count_in (Some p) = p.1
 
-bracket_takes : (a : Alphabet) (k k' : Kind) (first o c n : ℕ) (t : List ℕ) → Apart o c → ((x : List ℕ) → IsBracketed first o c x → IsKind a k' x) → ((x : List ℕ) → EndsBefore a k' x) → token_of k' (further 1 (close_in o c 0 false t)) ≡ Some (k, n) → Takes a k n (first ∷ t)
+bracket_takes : (a : Alphabet) (k k' : Kind) (first o c n : ℕ) (t : List ℕ) → Apart o c → ((x : List ℕ) → IsBracketed first o c x → IsKind a k' x)
+    → ((x : List ℕ) → EndsBefore a k' x) → token_of k' (further 1 (close_in o c 0 false t)) ≡ Some (k, n) → Takes a k n (first ∷ t)
 bracket_takes a k k' first o c n t p f g e = by (close_in o c 0 false t) refl e
   where
     done : (m : ℕ) → close_in o c 0 false t ≡ Some m → Takes a k' (1 + m) (first ∷ t)
@@ -158,19 +168,24 @@ chosen false x y z e = inr (refl, e)
 at_first : (a : Alphabet) (k : Kind) (c first n : ℕ) (t : List ℕ) → c ≡ first → Takes a k n (first ∷ t) → Takes a k n (c ∷ t)
 at_first a k c first n t e h = let P : ℕ → Type 0 = λ c. Takes a k n (c ∷ t) in subst P (sym e) h
 
-comment_takes : (a : Alphabet) (k : Kind) (c n : ℕ) (t : List ℕ) → cond (eqb c 40) (token_of kind.Comment (further 1 (close_in 40 41 0 false t))) None ≡ Some (k, n) → Takes a k n (c ∷ t)
+comment_takes : (a : Alphabet) (k : Kind) (c n : ℕ) (t : List ℕ) → cond (eqb c 40) (token_of kind.Comment (further 1 (close_in 40 41 0 false t))) None ≡ Some (k, n)
+    → Takes a k n (c ∷ t)
 comment_takes a k c n t e = elim (chosen (eqb c 40) _ _ _ e) [
   | inl h ↦ at_first a k c 40 n t (eqb-true c 40 h.0) (bracket_takes a k kind.Comment 40 40 41 n t apart_comment (λ x b. b) (λ x. tt) h.1)
   | inr h ↦ absurd (let h' = h.1 in cc)
 ]
 
-literal_takes : (a : Alphabet) (k : Kind) (c n : ℕ) (t : List ℕ) → cond (eqb c 91) (token_of kind.Literal (further 1 (close_in none 93 0 false t))) (cond (eqb c 40) (token_of kind.Comment (further 1 (close_in 40 41 0 false t))) None) ≡ Some (k, n) → Takes a k n (c ∷ t)
+literal_takes : (a : Alphabet) (k : Kind) (c n : ℕ) (t : List ℕ)
+    → cond (eqb c 91) (token_of kind.Literal (further 1 (close_in none 93 0 false t))) (cond (eqb c 40)
+    (token_of kind.Comment (further 1 (close_in 40 41 0 false t))) None) ≡ Some (k, n) → Takes a k n (c ∷ t)
 literal_takes a k c n t e = elim (chosen (eqb c 91) _ _ _ e) [
   | inl h ↦ at_first a k c 91 n t (eqb-true c 91 h.0) (bracket_takes a k kind.Literal 91 none 93 n t apart_literal (λ x b. b) (λ x. tt) h.1)
   | inr h ↦ comment_takes a k c n t h.1
 ]
 
-quoted_takes : (a : Alphabet) (k : Kind) (c n : ℕ) (t : List ℕ) → cond (eqb c 34) (token_of kind.Quoted (further 1 (close_in none 34 0 false t))) (cond (eqb c 91) (token_of kind.Literal (further 1 (close_in none 93 0 false t))) (cond (eqb c 40) (token_of kind.Comment (further 1 (close_in 40 41 0 false t))) None)) ≡ Some (k, n) → Takes a k n (c ∷ t)
+quoted_takes : (a : Alphabet) (k : Kind) (c n : ℕ) (t : List ℕ)
+    → cond (eqb c 34) (token_of kind.Quoted (further 1 (close_in none 34 0 false t))) (cond (eqb c 91) (token_of kind.Literal (further 1 (close_in none 93 0 false t)))
+    (cond (eqb c 40) (token_of kind.Comment (further 1 (close_in 40 41 0 false t))) None)) ≡ Some (k, n) → Takes a k n (c ∷ t)
 quoted_takes a k c n t e = elim (chosen (eqb c 34) _ _ _ e) [
   | inl h ↦ at_first a k c 34 n t (eqb-true c 34 h.0) (bracket_takes a k kind.Quoted 34 none 34 n t apart_quoted (λ x b. b) (λ x. tt) h.1)
   | inr h ↦ literal_takes a k c n t h.1
@@ -190,7 +205,8 @@ token_takes a k n (c ∷ t) e = elim (chosen (is_letter a c) _ _ _ e) [
   | inr h ↦ elim (chosen (is_white c) _ _ _ h.1) [
     | inl i ↦ at_kind a k kind.Space n _ (c ∷ t) i.1 (λ m. run_takes a kind.Space is_white c n t (λ x r. r) (λ x s. s) i.0 (sym m))
     | inr i ↦ elim (chosen (is_mark a c) _ _ _ i.1) [
-      | inl j ↦ at_kind a k kind.Mark n 1 (c ∷ t) j.1 (λ m. record { front = c ∷ []; rest = t; begins = record { whole = refl; spelled = (c, refl, j.0); ends = tt }; counted = sym m; some = omega arith })
+      | inl j ↦ at_kind a k kind.Mark n 1 (c ∷ t) j.1
+          (λ m. record { front = c ∷ []; rest = t; begins = record { whole = refl; spelled = (c, refl, j.0); ends = tt }; counted = sym m; some = omega arith })
       | inr j ↦ quoted_takes a k c n t j.1
     ]
   ]

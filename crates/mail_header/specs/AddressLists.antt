@@ -1,4 +1,4 @@
--- Lists of addresses (RFC 5322 sections 3.4 and 4.4). A value is elements, one behind another, and they make
+-- Lists of addresses (RFC 5322 sections 3.4 and 4.4). A value is elements, one after another, and they make
 -- mailboxes and groups.
 use Rattle.std.specs.Prelude.{◌≡◌, ◌≢◌, ℕ, Bool, true, not, ◌||◌, List, [], ◌∷◌, ◌++◌, Option, Some, None}
 use Rattle.text_words.specs.Cuts.{Each, IsRun, Stops}
@@ -33,13 +33,18 @@ pub data IsElement : Element → List Spelled → List Spelled → Type 0 where
   Comma : (c : Spelled) (rest : List Spelled) → has_mark 44 c ≡ true → IsElement Empty (c ∷ []) rest
   Blank : (gaps rest : List Spelled) → IsRun is_gap gaps → EndsElement rest → IsElement Empty gaps rest
   -- phrase ":"
-  Phrase : (phrase rest : List Spelled) (colon : Spelled) → is_phrase phrase ≡ true → has_mark 58 colon ≡ true → IsElement (Head phrase) (phrase ++ colon ∷ []) rest
+  Phrase : (phrase rest : List Spelled) (colon : Spelled) → is_phrase phrase ≡ true → has_mark 58 colon ≡ true
+      → IsElement (Head phrase) (phrase ++ colon ∷ []) rest
   -- ";"
-  Closed : (semicolon : Spelled) (gaps rest : List Spelled) → has_mark 59 semicolon ≡ true → Each is_gap gaps → EndsGroup rest → IsElement End (semicolon ∷ gaps) rest
+  Closed : (semicolon : Spelled) (gaps rest : List Spelled) → has_mark 59 semicolon ≡ true → Each is_gap gaps → EndsGroup rest
+      → IsElement End (semicolon ∷ gaps) rest
   -- addr-spec
-  Bare : (spec rest : List Spelled) → is_addr_spec spec ≡ true → EndsElement rest → IsElement (Member (record { phrase = []; spec = spec; behind = spec })) spec rest
+  Bare : (spec rest : List Spelled) → is_addr_spec spec ≡ true → EndsElement rest
+      → IsElement (Member (record { phrase = []; spec = spec; behind = spec })) spec rest
   -- [phrase] "<" [obs-domain-list ":"] addr-spec ">"
-  InAngle : (phrase inner gaps rest : List Spelled) (less greater : Spelled) → is_display_name phrase ≡ true → has_mark 60 less ≡ true → is_inner inner ≡ true → has_mark 62 greater ≡ true → Each is_gap gaps → EndsElement rest → IsElement (Member (record { phrase = phrase; spec = behind_route inner; behind = gaps })) (phrase ++ less ∷ (inner ++ greater ∷ gaps)) rest
+  InAngle : (phrase inner gaps rest : List Spelled) (less greater : Spelled) → is_display_name phrase ≡ true → has_mark 60 less ≡ true → is_inner inner ≡ true
+      → has_mark 62 greater ≡ true → Each is_gap gaps → EndsElement rest
+      → IsElement (Member (record { phrase = phrase; spec = behind_route inner; behind = gaps })) (phrase ++ less ∷ (inner ++ greater ∷ gaps)) rest
 
 -- address = mailbox / group
 pub data Addressee : Type 0 where
@@ -57,7 +62,8 @@ pub data AreAddressees : List Addressee → List Element → Type 0 where
   NoAddressees : AreAddressees [] []
   Passed : (who : List Addressee) (es : List Element) → AreAddressees who es → AreAddressees who (Empty ∷ es)
   NextOne : (m : Mailbox) (who : List Addressee) (es : List Element) → AreAddressees who es → AreAddressees (One m ∷ who) (Member m ∷ es)
-  NextGroup : (phrase : List Spelled) (ms : List Mailbox) (inner : List Element) (who : List Addressee) (es : List Element) → AreMailboxes ms inner → AreAddressees who es → AreAddressees (Group phrase ms ∷ who) (Head phrase ∷ (inner ++ End ∷ es))
+  NextGroup : (phrase : List Spelled) (ms : List Mailbox) (inner : List Element) (who : List Addressee) (es : List Element) → AreMailboxes ms inner
+      → AreAddressees who es → AreAddressees (Group phrase ms ∷ who) (Head phrase ∷ (inner ++ End ∷ es))
 
 -- address-list: one or more mailboxes and groups
 pub record IsAddressList (who : List Addressee) (t : List ℕ) : Type 0 where
@@ -67,12 +73,6 @@ pub record IsAddressList (who : List Addressee) (t : List ℕ) : Type 0 where
   pub are_elements : Sequence IsElement elements tokens
   pub are_addressees : AreAddressees who elements
   pub some : who ≢ []
-
--- the mailboxes, those of groups too
-abbrev pub mailboxes_of : List Addressee → List Mailbox
-mailboxes_of [] = []
-mailboxes_of (One m ∷ who) = m ∷ mailboxes_of who
-mailboxes_of (Group phrase ms ∷ who) = ms ++ mailboxes_of who
 
 -- a group's phrase, and its mailboxes
 abbrev pub Grouped : Type 0

@@ -1,8 +1,6 @@
--- Dates (RFC 5322 sections 3.3 and 4.3). Each production reads what stands at the front of the lexemes, and gives
--- its value and what follows it.
-use Rattle.std.specs.Prelude.{ℕ, ℤ, pos, negsuc, ◌+◌, ◌-◌, ◌*◌, ◌/◌, ◌%◌, ◌+ℤ◌, ◌-ℤ◌, ◌*ℤ◌, min, Bool, true, false, ◌&&◌, ◌==◌, nat_le, nat_lt, if◌then◌else◌, List, [], ◌∷◌, length, Option, Some, None, codes}
-use Rattle.std.specs.List.{list_all}
-use Rattle.std.specs.Str.{bytes_eq}
+-- Dates (RFC 5322 sections 3.3 and 4.3), over the lexemes of a value. No white space is needed between a number and a word.
+use Rattle.std.specs.Prelude.{◌≡◌, ℕ, ℤ, pos, negsuc, ◌+◌, ◌-◌, ◌*◌, ◌/◌, ◌%◌, ◌+ℤ◌, ◌-ℤ◌, ◌*ℤ◌, min, Bool}
+use Rattle.std.specs.Prelude.{◌&&◌, ◌||◌, ◌==◌, true, nat_le, nat_lt, if◌then◌else◌, List, [], ◌∷◌, ◌++◌, length, Option, Some, None, codes}
 use Rattle.jiff_core.specs.Calendar.{days_in_month, days_from_civil}
 use Rattle.text_words.specs.Octets.{is_between, is_digit, is_alpha, is_same_text}
 use Rattle.mail_header.specs.declared.token.Kind.{Kind}
@@ -11,54 +9,66 @@ use Rattle.mail_header.specs.declared.date.Clock.{Clock}
 use Rattle.mail_header.specs.declared.date.Day.{Day}
 use Rattle.mail_header.specs.declared.date.Moment.{Moment}
 use Rattle.mail_header.specs.declared.token.Alphabet.TheVariants as alphabet
-use Rattle.mail_header.specs.Tokens.{Spelled, AreTokens}
+use Rattle.mail_header.specs.Tokens.{Spelled}
 use Rattle.mail_header.specs.Lexemes.{AreLexemes}
+use Rattle.mail_header.specs.Mailboxes.{has_mark, is_atom, first_octet}
 use Rattle.mail_header.specs.RawForms.{raw_form}
 
-abbrev pub then_read : {A B : Type 0} → Option (A × List Spelled) → (A → List Spelled → Option B) → Option B
-then_read None f = None
-then_read (Some p) f = f p.0 p.1
+-- ---- what dates are made of
 
-abbrev pub is_atom : Kind → Bool
-is_atom kind.Atom = true
-is_atom _ = false
+-- A run of digits, a run of letters, a sign with the digits directly after it, another octet, or what no date has.
+pub data Piece : Type 0 where
+  Digits : List ℕ → Piece
+  Letters : List ℕ → Piece
+  Signed : ℕ → List ℕ → Piece
+  Octet : ℕ → Piece
+  Other : Piece
 
-abbrev pub is_mark_kind : Kind → Bool
-is_mark_kind kind.Mark = true
-is_mark_kind _ = false
+-- "+" or "-"
+abbrev pub is_plus_or_minus : ℕ → Bool
+is_plus_or_minus c = c == 43 || c == 45
 
-abbrev pub is_sign : ℕ → Spelled → Bool
-is_sign c s = is_mark_kind s.kind && bytes_eq s.text (c ∷ [])
+abbrev pub alone : ℕ → Piece
+alone c =
+    if is_digit c then Digits (c ∷ [])
+    else if is_alpha c then Letters (c ∷ [])
+    else Octet c
 
-abbrev pub atom_in : List Spelled → Option (List ℕ × List Spelled)
-atom_in [] = None
-atom_in (s ∷ ls) = if is_atom s.kind then Some (s.text, ls) else None
+-- an octet, and the pieces after it
+unfoldable pub joined : ℕ → List Piece → List Piece
+joined c [] = alone c ∷ []
+joined c (Digits ds ∷ ps) =
+    if is_digit c then Digits (c ∷ ds) ∷ ps
+    else if is_plus_or_minus c then Signed c ds ∷ ps
+    else alone c ∷ Digits ds ∷ ps
+joined c (Letters ls ∷ ps) = if is_alpha c then Letters (c ∷ ls) ∷ ps else alone c ∷ Letters ls ∷ ps
+joined c (p ∷ ps) = alone c ∷ p ∷ ps
 
-abbrev pub colon_in : List Spelled → Option (List ℕ × List Spelled)
-colon_in [] = None
-colon_in (s ∷ ls) = if is_sign 58 s then Some (s.text, ls) else None
+-- the pieces of an atom
+unfoldable pub runs : List ℕ → List Piece
+runs [] = []
+runs (c ∷ t) = joined c (runs t)
 
--- day-of-week, whose name isn't checked, and the comma behind it
-abbrev pub behind_day_name : List Spelled → List Spelled
-behind_day_name [] = []
-behind_day_name (d ∷ []) = d ∷ []
-behind_day_name (d ∷ c ∷ ls) = if is_atom d.kind && is_sign 44 c then ls else d ∷ c ∷ ls
+abbrev pub pieces_in : Kind → List ℕ → List Piece
+pieces_in kind.Atom t = runs t
+pieces_in kind.Mark t = Octet (first_octet t) ∷ []
+pieces_in _ t = Other ∷ []
 
--- the number that decimal digits spell behind those of value
+-- the pieces of lexemes
+unfoldable pub pieces_of : List Spelled → List Piece
+pieces_of [] = []
+pieces_of (s ∷ ls) = pieces_in s.kind s.text ++ pieces_of ls
+
+-- ---- numbers and names
+
+-- the number that decimal digits spell after those of value
 abbrev pub value_from : ℕ → List ℕ → ℕ
 value_from value [] = value
 value_from value (c ∷ t) = value_from (10 * value + (c - 48)) t
 
--- a number of so many digits
+-- a number of n digits
 abbrev pub number_of : ℕ → ℕ → List ℕ → Option ℕ
-number_of low high t = if list_all is_digit t && nat_le low (length t) && nat_le (length t) high then Some (value_from 0 t) else None
-
-abbrev pub with_rest : {A : Type 0} → Option A → List Spelled → Option (A × List Spelled)
-with_rest None ls = None
-with_rest (Some x) ls = Some (x, ls)
-
-abbrev pub number_in : ℕ → ℕ → List Spelled → Option (ℕ × List Spelled)
-number_in low high ls = then_read (atom_in ls) (λ t rest. with_rest (number_of low high t) rest)
+number_of low high t = if nat_le low (length t) && nat_le (length t) high then Some (value_from 0 t) else None
 
 abbrev pub month_of : List ℕ → Option ℕ
 month_of t =
@@ -76,9 +86,6 @@ month_of t =
     else if is_same_text t (codes "dec") then Some 12
     else None
 
-abbrev pub month_in : List Spelled → Option (ℕ × List Spelled)
-month_in ls = then_read (atom_in ls) (λ t rest. with_rest (month_of t) rest)
-
 -- two digits up to 49 add 2000, two digits from 50 on and three digits add 1900
 abbrev pub whole_year : ℕ → ℕ → ℕ
 whole_year digits n =
@@ -87,19 +94,15 @@ whole_year digits n =
     else 1900 + n
 
 abbrev pub year_of : List ℕ → Option ℕ
-year_of t = if list_all is_digit t && nat_le 2 (length t) && nat_le (length t) 4 then Some (whole_year (length t) (value_from 0 t)) else None
+year_of t = if nat_le 2 (length t) && nat_le (length t) 4 then Some (whole_year (length t) (value_from 0 t)) else None
 
-abbrev pub year_in : List Spelled → Option (ℕ × List Spelled)
-year_in ls = then_read (atom_in ls) (λ t rest. with_rest (year_of t) rest)
-
--- seconds, which may be missing
-abbrev pub second_in : List Spelled → Option (ℕ × List Spelled)
-second_in [] = Some (0, [])
-second_in (s ∷ ls) = if is_sign 58 s then number_in 2 2 ls else Some (0, s ∷ ls)
-
--- "+" or "-" and hhmm, in minutes
+-- hhmm in minutes
 abbrev pub minutes_of : ℕ → Option ℕ
 minutes_of n = if nat_le (n % 100) 59 && nat_le (n / 100) 23 then Some (n / 100 * 60 + n % 100) else None
+
+abbrev pub hours_and_minutes : Option ℕ → Option ℕ
+hours_and_minutes None = None
+hours_and_minutes (Some n) = minutes_of n
 
 abbrev pub east_of : Option ℕ → Option ℤ
 east_of None = None
@@ -109,48 +112,58 @@ abbrev pub west_of : Option ℕ → Option ℤ
 west_of None = None
 west_of (Some m) = Some (pos 0 -ℤ pos m)
 
-abbrev pub hours_and_minutes : Option ℕ → Option ℕ
-hours_and_minutes None = None
-hours_and_minutes (Some n) = minutes_of n
+-- a sign and hhmm, in minutes
+abbrev pub offset_of : ℕ → List ℕ → Option ℤ
+offset_of sign t = if sign == 43 then east_of (hours_and_minutes (number_of 4 4 t)) else west_of (hours_and_minutes (number_of 4 4 t))
 
 -- the zones of North America by name; other letters are 0
-abbrev pub named_zone : List ℕ → Option ℤ
+abbrev pub named_zone : List ℕ → ℤ
 named_zone t =
-    if is_same_text t (codes "est") then Some (negsuc 299)
-    else if is_same_text t (codes "edt") then Some (negsuc 239)
-    else if is_same_text t (codes "cst") then Some (negsuc 359)
-    else if is_same_text t (codes "cdt") then Some (negsuc 299)
-    else if is_same_text t (codes "mst") then Some (negsuc 419)
-    else if is_same_text t (codes "mdt") then Some (negsuc 359)
-    else if is_same_text t (codes "pst") then Some (negsuc 479)
-    else if is_same_text t (codes "pdt") then Some (negsuc 419)
-    else if list_all is_alpha t then Some (pos 0)
-    else None
+    if is_same_text t (codes "est") then negsuc 299
+    else if is_same_text t (codes "edt") then negsuc 239
+    else if is_same_text t (codes "cst") then negsuc 359
+    else if is_same_text t (codes "cdt") then negsuc 299
+    else if is_same_text t (codes "mst") then negsuc 419
+    else if is_same_text t (codes "mdt") then negsuc 359
+    else if is_same_text t (codes "pst") then negsuc 479
+    else if is_same_text t (codes "pdt") then negsuc 419
+    else pos 0
 
-abbrev pub zone_of : List ℕ → Option ℤ
-zone_of [] = None
-zone_of (c ∷ t) =
-    if c == 43 then east_of (hours_and_minutes (number_of 4 4 t))
-    else if c == 45 then west_of (hours_and_minutes (number_of 4 4 t))
-    else named_zone (c ∷ t)
+-- ---- the productions
 
-abbrev pub zone_in : List Spelled → Option (ℤ × List Spelled)
-zone_in ls = then_read (atom_in ls) (λ t rest. with_rest (zone_of t) rest)
+-- date = day month year
+pub data IsDay : Day → List Piece → Type 0 where
+  DayMonthYear : (ds ms ys : List ℕ) (d m y : ℕ) → number_of 1 2 ds ≡ Some d → month_of ms ≡ Some m → year_of ys ≡ Some y
+      → IsDay (record { year = y; month = m; day = d }) (Digits ds ∷ Letters ms ∷ Digits ys ∷ [])
 
--- ---- the whole
+-- time-of-day = hour ":" minute [ ":" second ]
+pub data IsClock : Clock → List Piece → Type 0 where
+  HourMinute : (hs ms : List ℕ) (h m : ℕ) → number_of 2 2 hs ≡ Some h → number_of 2 2 ms ≡ Some m
+      → IsClock (record { hour = h; minute = m; second = 0 }) (Digits hs ∷ Octet 58 ∷ Digits ms ∷ [])
+  HourMinuteSecond : (hs ms ss : List ℕ) (h m s : ℕ) → number_of 2 2 hs ≡ Some h → number_of 2 2 ms ≡ Some m → number_of 2 2 ss ≡ Some s
+      → IsClock (record { hour = h; minute = m; second = s }) (Digits hs ∷ Octet 58 ∷ Digits ms ∷ Octet 58 ∷ Digits ss ∷ [])
 
-abbrev pub day_in : List Spelled → Option (Day × List Spelled)
-day_in ls =
-    then_read (number_in 1 2 (behind_day_name ls)) (λ d r.
-    then_read (month_in r) (λ m r'.
-    then_read (year_in r') (λ y r''. Some (record { year = y; month = m; day = d }, r''))))
+-- zone = ( "+" / "-" ) 4DIGIT / obs-zone
+pub data IsZone : ℤ → List Piece → Type 0 where
+  Offset : (sign : ℕ) (t : List ℕ) (z : ℤ) → offset_of sign t ≡ Some z → IsZone z (Signed sign t ∷ [])
+  Named : (t : List ℕ) → IsZone (named_zone t) (Letters t ∷ [])
 
-abbrev pub clock_in : List Spelled → Option (Clock × List Spelled)
-clock_in ls =
-    then_read (number_in 2 2 ls) (λ h r.
-    then_read (colon_in r) (λ c r'.
-    then_read (number_in 2 2 r') (λ m r''.
-    then_read (second_in r'') (λ s r'''. Some (record { hour = h; minute = m; second = s }, r''')))))
+-- date time
+pub record IsDateTime (d : Day) (c : Clock) (z : ℤ) (lexemes : List Spelled) : Type 0 where
+  pub day : List Piece
+  pub clock : List Piece
+  pub zone : List Piece
+  pub whole : pieces_of lexemes ≡ day ++ (clock ++ zone)
+  pub is_day : IsDay d day
+  pub is_clock : IsClock c clock
+  pub is_zone : IsZone z zone
+
+-- date-time = [ day-of-week "," ] date time; the day of the week is any atom
+pub data IsDate (d : Day) (c : Clock) (z : ℤ) : List Spelled → Type 0 where
+  Plain : (ls : List Spelled) → IsDateTime d c z ls → IsDate d c z ls
+  OfWeek : (name comma : Spelled) (ls : List Spelled) → is_atom name ≡ true → has_mark 44 comma ≡ true → IsDateTime d c z ls → IsDate d c z (name ∷ comma ∷ ls)
+
+-- ---- moments
 
 -- the Gregorian calendar, also before it was in use (ISO 8601)
 abbrev pub day_exists : Day → Bool
@@ -174,18 +187,17 @@ moment_of d c zone =
     then Some (record { seconds = day_number d *ℤ pos 86400 +ℤ pos (seconds_of_day c) -ℤ (zone *ℤ pos 60); offset_minutes = zone })
     else None
 
-abbrev pub at_end : List Spelled → Option Moment → Option Moment
-at_end [] m = m
-at_end (s ∷ ls) m = None
+-- the raw value is a date, of which comments and folding are passed over, and this is its moment
+pub record IsMoment (raw : List ℕ) (m : Moment) : Type 0 where
+  pub lexemes : List Spelled
+  pub are : AreLexemes alphabet.Mail lexemes (raw_form raw)
+  pub day : Day
+  pub clock : Clock
+  pub zone : ℤ
+  pub is : IsDate day clock zone lexemes
+  pub moment_is : moment_of day clock zone ≡ Some m
 
--- [day-name ","] day month year hour ":" minute [":" second] zone
-abbrev pub date_in : List Spelled → Option Moment
-date_in ls =
-    then_read (day_in ls) (λ d r.
-    then_read (clock_in r) (λ c r'.
-    then_read (zone_in r') (λ z r''. at_end r'' (moment_of d c z))))
-
--- the date of a raw value, of which comments and folding are passed over
-pub data IsDateForm (raw : List ℕ) : Option Moment → Type 0 where
-  NoTokens : ((ts : List Spelled) → AreTokens alphabet.Mail ts (raw_form raw) → ⊥) → IsDateForm raw None
-  Read : (lexemes : List Spelled) → AreLexemes alphabet.Mail lexemes (raw_form raw) → IsDateForm raw (date_in lexemes)
+-- the moment of a raw value, where it has one
+abbrev pub IsDateForm : List ℕ → Option Moment → Type 0
+IsDateForm raw None = (m : Moment) → IsMoment raw m → ⊥
+IsDateForm raw (Some m) = IsMoment raw m

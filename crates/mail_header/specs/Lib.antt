@@ -2,15 +2,11 @@ pub mod Lines
 pub mod Fields
 pub mod RawForms
 pub mod Bracketed
-pub mod Reading
 pub mod Tokens
-pub mod TokenReading
 pub mod TokenView
 pub mod Lexemes
 pub mod Dates
 pub mod Mailboxes
 pub mod AddressLists
 pub mod Names
-pub mod ElementReading
-pub mod ElementView
-pub mod GroupBuilding
+pub mod reading

@@ -51,7 +51,7 @@ is_literal_kind _ = false
 abbrev pub is_bare : ℕ → Bool → ℕ → Bool
 is_bare sign escaped c = not escaped && c == sign
 
--- no "[" stands in the text but behind a backslash
+-- no "[" stands in the text but after a backslash
 abbrev pub has_no_opener : Bool → List ℕ → Bool
 has_no_opener escaped [] = true
 has_no_opener escaped (c ∷ t) = not (is_bare 91 escaped c) && has_no_opener (is_bare 92 escaped c) t
@@ -123,7 +123,7 @@ begins_hop (at ∷ domain) = has_mark 64 at && is_domain domain
 abbrev pub is_hop : List Spelled → Bool
 is_hop ts = begins_hop (back is_gap ts)
 
--- hops with commas between, where `part` stands behind the last comma
+-- hops with commas between, where `part` stands after the last comma
 abbrev pub are_hops : List Spelled → List Spelled → Bool
 are_hops part [] = is_hop part
 are_hops part (s ∷ ts) = if has_mark 44 s then is_hop part && are_hops [] ts else are_hops (part ++ s ∷ []) ts

@@ -1,6 +1,6 @@
 -- What mailboxes and groups are called, and the addresses of mailboxes (RFC 5322 section 3.4).
 use Rattle.std.specs.Prelude.{◌≡◌, ℕ, ◌-◌, Bool, true, false, ◌==◌, if◌then◌else◌, List, [], ◌∷◌, ◌++◌, length, take, Option, Some, None}
-use Rattle.std.specs.List.{list_all, AllZip}
+use Rattle.std.specs.List.{list_all, flat_map, AllZip}
 use Rattle.text_words.specs.Cuts.{back}
 use Rattle.text_words.specs.Octets.{is_white}
 use Rattle.header_words.specs.EncodedWords.{IsText}
@@ -12,14 +12,14 @@ use Rattle.mail_header.specs.Lines.{unfolded}
 use Rattle.mail_header.specs.RawForms.{raw_form}
 use Rattle.mail_header.specs.Tokens.{Spelled}
 use Rattle.mail_header.specs.Mailboxes.{is_gap, is_phrase, Mailbox}
-use Rattle.mail_header.specs.AddressLists.{Addressee, Grouped, IsAddressList, mailboxes_of, groups_of}
+use Rattle.mail_header.specs.AddressLists.{Addressee, Grouped, IsAddressList, groups_of}
 
 -- what stands between the first octet and the last
 abbrev pub inside : List ℕ → List ℕ
 inside [] = []
 inside (c ∷ t) = take (length t - 1) t
 
--- a backslash gives way to the octet behind it; `escaped` says that one stands directly before
+-- a backslash gives way to the octet after it; `escaped` says that one stands directly before
 abbrev pub unescaped : Bool → List ℕ → List ℕ
 unescaped escaped [] = []
 unescaped true (c ∷ t) = c ∷ unescaped false t
@@ -65,7 +65,7 @@ comment_after found kind.Space t = found
 comment_after found kind.Comment t = first_of found t
 comment_after found _ t = None
 
--- the first comment behind the last lexeme
+-- the first comment after the last lexeme
 abbrev pub comment_behind : Option (List ℕ) → List Spelled → Option (List ℕ)
 comment_behind found [] = found
 comment_behind found (s ∷ ts) = comment_behind (comment_after found s.kind s.text) ts
@@ -81,7 +81,7 @@ pub data IsCommentName : Option (List ℕ) → Option (List ℕ) → Type 0 wher
   NoComment : IsCommentName None None
   OfComment : (comment name : List ℕ) → IsText false (comment_text comment) name → IsCommentName (Some comment) (some_text name)
 
--- the phrase's text, else that of the comment directly behind the address
+-- the phrase's text, else that of the comment directly after the address
 pub data IsName (m : Mailbox) : Option (List ℕ) → Type 0 where
   OfPhrase : (name : List ℕ) → is_phrase m.phrase ≡ true → IsText false (phrase_text m.phrase) name → IsName m (Some name)
   NoPhrase : (name : Option (List ℕ)) → is_phrase m.phrase ≡ false → IsCommentName (comment_behind None m.behind) name → IsName m name
@@ -116,12 +116,15 @@ pub record IsGroup (g : Grouped) (group : Group) : Type 0 where
 abbrev pub HasNone : List ℕ → Type 0
 HasNone raw = (who : List Addressee) → IsAddressList who (raw_form raw) → ⊥
 
--- the addresses, those of groups too
-pub data IsAddressesForm (raw : List ℕ) : Option (List Address) → Type 0 where
-  NoAddresses : HasNone raw → IsAddressesForm raw None
-  Addresses : (who : List Addressee) (list : List Address) → IsAddressList who (raw_form raw) → AllZip IsAddress (mailboxes_of who) list → IsAddressesForm raw (Some list)
-
 -- the groups
 pub data IsGroupsForm (raw : List ℕ) : Option (List Group) → Type 0 where
   NoGroups : HasNone raw → IsGroupsForm raw None
   Groups : (who : List Addressee) (list : List Group) → IsAddressList who (raw_form raw) → AllZip IsGroup (groups_of who) list → IsGroupsForm raw (Some list)
+
+abbrev pub members_in : Group → List Address
+members_in group = group.members
+
+-- the addresses are the members of the groups
+abbrev pub IsAddressesForm : List ℕ → Option (List Address) → Type 0
+IsAddressesForm raw None = IsGroupsForm raw None
+IsAddressesForm raw (Some list) = (groups : List Group) × IsGroupsForm raw (Some groups) × (list ≡ flat_map members_in groups)

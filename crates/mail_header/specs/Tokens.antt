@@ -16,7 +16,8 @@ is_mark alphabet.Mime c = c == 60 || c == 62 || c == 64 || c == 44 || c == 59 ||
 
 -- an octet of an atom: those above 127 are letters
 abbrev pub is_letter : Alphabet → ℕ → Bool
-is_letter a c = nat_lt 32 c && not (c == 127) && not (is_mark a c) && not (c == 34) && not (c == 40) && not (c == 41) && not (c == 91) && not (c == 93) && not (c == 92)
+is_letter a c = nat_lt 32 c && not (c == 127) && not (is_mark a c) && not (c == 34) && not (c == 40) && not (c == 41) && not (c == 91) && not (c == 93) && not
+    (c == 92)
 
 -- What stands between a bracket and the one that closes it: octets, pairs of a backslash and any octet, and
 -- the same again in brackets.

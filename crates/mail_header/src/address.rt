@@ -1,3 +1,4 @@
+// Addresses and groups.
 use gate_world::{Bytes, Listed};
 
 /// A mailbox: its name in UTF-8, where it has one, and its address as it is spelled.

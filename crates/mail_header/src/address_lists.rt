@@ -1,11 +1,12 @@
+// Lists of addresses and groups (RFC 5322 section 3.4).
 ghost use Rattle.std.specs.Prelude.{◌≡◌, ◌++◌, [], None, Some, false, true, List, MatchOption, IfOk, IfSome, IfNone, OnOk, option_to_list};
-ghost use Rattle.std.specs.List.{AllZip, list_any};
+ghost use Rattle.std.specs.List.{AllZip, flat_map, list_any};
 ghost use Rattle.text_words.specs.Sequence.{Sequence};
 ghost use Rattle.mail_header.specs.AddressLists as lists;
 ghost use Rattle.mail_header.specs.Names as names;
-ghost use Rattle.mail_header.specs.ElementReading as reading;
-ghost use Rattle.mail_header.specs.ElementView.{mailbox_view, element_view, elements_view};
-ghost use Rattle.mail_header.specs.GroupBuilding as building;
+ghost use Rattle.mail_header.specs.reading.ElementReading as reading;
+ghost use Rattle.mail_header.specs.reading.ElementView.{mailbox_view, element_view, elements_view};
+ghost use Rattle.mail_header.specs.reading.GroupBuilding as building;
 ghost use Rattle.mail_header.specs.TokenView.{tokens_view};
 
 use crate::address::{Address, Group};
@@ -60,31 +61,6 @@ fn has_addressee(elements: &[Element<'_, '_>]) -> bool
         }
     }
     false
-}
-
-/// The addresses of the mailboxes among the elements.
-fn members(alloc: Global, elements: &[Element<'_, '_>]) -> Result<Vec<Address>, AllocError>
-    ensures { IfOk result (λ v. AllZip names.IsAddress (reading.members_of (elements_view elements.now)) v.items) }
-{
-    let mut found = Vec::new(alloc);
-    for element in elements {
-        push_member(alloc, &mut found, element)?;
-    }
-    Ok(found)
-}
-
-fn push_member(
-    alloc: Global,
-    found: &mut Vec<Address>,
-    element: &Element<'_, '_>,
-) -> Result<(), AllocError>
-    ensures { OnOk result (building.Appends names.IsAddress (reading.member_of (element_view element.now)) found.old.items found.new.items) }
-{
-    match element {
-        Element::Empty | Element::Head(_) | Element::End => {}
-        Element::Member(mailbox) => found.push(address_of(alloc, mailbox)?)?,
-    }
-    Ok(())
 }
 
 /// The groups that are whole, and the name and the members of the one that isn't. A run of mailboxes outside a group
@@ -215,7 +191,7 @@ fn groups(alloc: Global, elements: &[Element<'_, '_>]) -> Result<Vec<Group>, All
     close(builder)
 }
 
-/// The elements, where they are a list of one or more addresses.
+/// The elements without the empty places, where they are a list of one or more addresses.
 fn list_of<'a, 'b>(
     alloc: Global,
     tokens: &'b [Token<'a>],
@@ -246,29 +222,54 @@ fn are_list(elements: &[Element<'_, '_>]) -> bool
     are_nested(elements) && has_addressee(elements)
 }
 
-/// The addresses of a raw value (RFC 5322 section 3.4, with the obsolete forms of section 4.4), those of groups too.
-/// There is no reading where the value isn't a list of one or more mailboxes and groups.
+/// The addresses of a raw value (RFC 5322 section 3.4, with the obsolete forms of section 4.4): the members of the groups
+/// that `as_groups` reads. There is no reading where the value isn't a list of one or more mailboxes and groups.
 pub fn as_addresses(alloc: Global, raw: &[u8]) -> Result<Option<Listed<Address>>, AllocError>
     ensures { IfOk result (λ r. names.IsAddressesForm raw.now r) }
 {
-    let raw = as_raw(alloc, raw)?;
-    match tokens(alloc, Alphabet::Mail, raw.as_slice())? {
+    match as_groups(alloc, raw)? {
         None => Ok(None),
-        Some(found) => addresses_in(alloc, found.as_slice()),
+        Some(groups) => Ok(Some(Listed::from_vec(flattened(alloc, groups.as_slice())?))),
     }
 }
 
-fn addresses_in(alloc: Global, tokens: &[Token<'_>]) -> Result<Option<Listed<Address>>, AllocError>
-    ensures { IfOk result (λ r. building.AddressesIn (tokens_view tokens.now) r) }
+/// The members of the groups, those of one after those of another.
+fn flattened(alloc: Global, groups: &[Group]) -> Result<Vec<Address>, AllocError>
+    ensures { IfOk result (λ v. v.items ≡ flat_map names.members_in groups.now) }
 {
-    match list_of(alloc, tokens)? {
-        None => Ok(None),
-        Some(elements) => { Ok(Some(Listed::from_vec(members(alloc, elements.as_slice())?))) }
+    let mut all = Vec::new(alloc);
+    for group in groups {
+        push_members(&mut all, group.members.as_slice())?;
     }
+    Ok(all)
 }
 
-/// The groups of a raw value, where each run of addresses outside a group is a group without a name. There is a
-/// reading where `as_addresses` has one.
+/// Adds the members, which share their octets.
+fn push_members(all: &mut Vec<Address>, members: &[Address]) -> Result<(), AllocError>
+    ensures { OnOk result (all.new.items ≡ all.old.items ++ members.now) }
+{
+    for address in members {
+        all.push(shared(address)?)?;
+    }
+    Ok(())
+}
+
+/// The address, with the same octets.
+fn shared(address: &Address) -> Result<Address, AllocError>
+    ensures { IfOk result (λ a. a ≡ address.now) }
+{
+    let name = match &address.name {
+        None => None,
+        Some(name) => Some(name.share()?),
+    };
+    Ok(Address {
+        name,
+        email: address.email.share()?,
+    })
+}
+
+/// The groups of a raw value, where each run of addresses outside a group is a group without a name. There is no reading
+/// where the value isn't a list of one or more mailboxes and groups.
 pub fn as_groups(alloc: Global, raw: &[u8]) -> Result<Option<Listed<Group>>, AllocError>
     ensures { IfOk result (λ r. names.IsGroupsForm raw.now r) }
 {

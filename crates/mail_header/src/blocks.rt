@@ -1,12 +1,13 @@
-ghost use Rattle.std.specs.Prelude.{◌≡◌, ◌≤◌, ℕ, List, length, IfOk, OnOk, MatchOption};
+// The blocks of lines of a header, and the fields that they are.
+ghost use Rattle.std.specs.Prelude.{◌≡◌, ◌≤◌, ℕ, List, length, None, Some, IfOk, OnOk, MatchOption};
+ghost use Rattle.std.specs.Option.{option_map};
 ghost use Rattle.mail_header.specs.Fields as fields;
-ghost use Rattle.mail_header.specs.Reading as reading;
+ghost use Rattle.mail_header.specs.reading.HeaderLines as reading;
 
 use crate::header::{Field, Fields};
 use crate::lines::without_end;
-use gate_world::{Bytes, Listed};
 use std::alloc::{AllocError, Global};
-use text_words::{Blank, Class, behind, cut, is_blank, line_end_len};
+use text_words::{Blank, Class, behind, cut, is_blank, line_end_len, same_text};
 
 /// The octets of a field's name.
 struct NameOctet;
@@ -20,43 +21,71 @@ impl Class<u8> for NameOctet {
 }
 
 /// The fields of the header at the front of the octets (RFC 5322 section 2.2), which may be any. The header ends at
-/// the first empty line or at the end. Lines that are no field's are passed over with those that continue them.
-pub fn fields(alloc: Global, bytes: &[u8]) -> Result<Fields, AllocError>
-    ensures { IfOk result (λ f. fields.IsHeader (fields.fields_view f.list) f.end bytes.now) }
+/// the first empty line or at the end. Lines that are no field's are passed over with those that continue them. It takes
+/// 32 octets of memory for each field.
+pub fn fields(alloc: Global, bytes: &[u8]) -> Result<Fields<'_>, AllocError>
+    ensures { IfOk result (λ f. fields.IsHeader (fields.names_and_raws f) f.end bytes.now) }
 {
     let mut list = Vec::new(alloc);
     let mut rest = bytes;
-    while !rest.is_empty() {
-        let end = line_end_len(rest);
-        if end > 0 {
-            return Ok(Fields {
-                list: Listed::from_vec(list),
-                end: bytes.len() - rest.len() + end,
-            });
-        }
-        let (block, more) = rest.split_at(block_len(rest));
-        push_field(alloc, &mut list, block)?;
+    while let Some((block, more)) = block_at(rest) {
+        push_field(&mut list, block)?;
         rest = more;
     }
-    Ok(Fields {
-        list: Listed::from_vec(list),
-        end: bytes.len(),
-    })
+    let end = bytes.len() - rest.len() + line_end_len(rest);
+    Ok(Fields { list, end })
+}
+
+/// The raw value of the last field of this name in the header at the front of the octets, without regard to case. It
+/// takes no memory.
+pub fn last_field<'a>(bytes: &'a [u8], name: &[u8]) -> Option<&'a [u8]>
+    ensures { MatchOption result (fields.IsLastField name.now bytes.now None) (λ r. fields.IsLastField name.now bytes.now (Some r.now)) }
+{
+    let mut found = None;
+    let mut rest = bytes;
+    while let Some((block, more)) = block_at(rest) {
+        found = later(found, name, block);
+        rest = more;
+    }
+    found
+}
+
+/// The raw value of the block, where it is a field of this name, and else what was found before it.
+fn later<'a>(found: Option<&'a [u8]>, name: &[u8], block: &'a [u8]) -> Option<&'a [u8]>
+    ensures { reading.Later name.now block.now (option_map (λ t. t.now) found.entry) (option_map (λ t. t.now) result) }
+{
+    match field_of(block) {
+        None => found,
+        Some((its_name, raw)) => {
+            if same_text(its_name, name) {
+                Some(raw)
+            } else {
+                found
+            }
+        }
+    }
+}
+
+/// The block of lines at the front, and what follows it. There is none at the end and at an empty line.
+fn block_at(text: &[u8]) -> Option<(&[u8], &[u8])>
+    ensures { MatchOption result (reading.EndsHeader text.now) (λ r. reading.IsBlockAt text.now r.0.now r.1.now) }
+{
+    if text.is_empty() {
+        return None;
+    }
+    if line_end_len(text) > 0 {
+        return None;
+    }
+    Some(text.split_at(block_len(text)))
 }
 
 /// Adds the block's field, where it is one.
-fn push_field(alloc: Global, list: &mut Vec<Field>, block: &[u8]) -> Result<(), AllocError>
+fn push_field<'a>(list: &mut Vec<Field<'a>>, block: &'a [u8]) -> Result<(), AllocError>
     ensures { OnOk result (reading.Adds block.now (fields.fields_view list.old.items) (fields.fields_view list.new.items)) }
 {
     match field_of(block) {
         None => Ok(()),
-        Some((name, raw)) => {
-            list.push(Field {
-                name: Bytes::copy_of(alloc, name)?,
-                raw: Bytes::copy_of(alloc, raw)?,
-            })?;
-            Ok(())
-        }
+        Some((name, raw)) => Ok(list.push(Field { name, raw })?),
     }
 }
 

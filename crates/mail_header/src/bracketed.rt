@@ -1,7 +1,8 @@
+// Pieces in angle brackets: message ids (RFC 5322 section 3.6.4) and URLs (RFC 2369).
 ghost use Rattle.std.specs.Prelude.{◌≡◌, ◌≢◌, ◌<◌, ℕ, List, [], ◌∷◌, ◌++◌, length, IfOk, MatchOption};
 ghost use Rattle.text_words.specs.Cuts.{IsRun};
 ghost use Rattle.mail_header.specs.Bracketed as brackets;
-ghost use Rattle.mail_header.specs.Reading as reading;
+ghost use Rattle.mail_header.specs.reading.HeaderLines as reading;
 
 use crate::raw_forms::as_raw;
 use gate_world::{Bytes, Names};

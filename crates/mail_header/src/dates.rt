@@ -1,76 +1,52 @@
-ghost use Rattle.std.specs.Prelude.{◌≡◌, ◌≢◌, ◌<◌, ◌≤◌, ℕ, pos, ◌-ℤ◌, ◌*ℤ◌, ◌≤ℤ◌, List, length, MatchOption, IfOk, IfSome, Some, None};
+// The day and the time of a date.
+ghost use Rattle.std.specs.Prelude.{◌≡◌, ◌<◌, ◌≤◌, length, MatchOption, IfSome, Some, None};
 ghost use Rattle.mail_header.specs.Dates as dates;
-ghost use Rattle.mail_header.specs.TokenView.{token_view, tokens_view};
+ghost use Rattle.mail_header.specs.declared.token.Alphabet.TheVariants as Alphabet;
+ghost use Rattle.mail_header.specs.reading.DateReading as reading;
+ghost use Rattle.mail_header.specs.reading.LexemeReading.{lexemes_in};
 
 use crate::date::{Clock, Day};
-use crate::token::{Kind, Token};
-use text_words::{Digit, are_all, same_text};
+use crate::lexemes::next_lexeme;
+use crate::pieces::{Place, digits, letters, octet};
+use crate::token::Alphabet;
+use crate::token_class::{has_mark, is_atom};
+use text_words::same_text;
 
-fn is_atom(kind: Kind) -> bool
-    ensures { result ≡ dates.is_atom kind }
+/// The colon at the place, and the place after it.
+fn colon(place: Place<'_>) -> Option<(u8, Place<'_>)>
+    ensures { MatchOption result (reading.colon_in (reading.pieces_at place.entry) ≡ None) (λ r. reading.colon_in (reading.pieces_at place.entry) ≡ Some (r.0, reading.pieces_at r.1)) }
 {
-    match kind {
-        Kind::Atom => true,
-        Kind::Space | Kind::Quoted | Kind::Literal | Kind::Comment | Kind::Mark => false,
+    let (octet, rest) = octet(place)?;
+    if octet == b':' {
+        Some((octet, rest))
+    } else {
+        None
     }
 }
 
-/// Whether the token is this mark.
-fn is_sign(sign: u8, token: &Token<'_>) -> bool
-    ensures { result ≡ dates.is_sign sign (token_view token.now) }
+/// What follows the day of the week and the comma after it, where they stand at the front.
+pub(crate) fn behind_day_name(text: &[u8]) -> &[u8]
+    ensures { lexemes_in Alphabet.Mail result.now ≡ reading.behind_day_name (lexemes_in Alphabet.Mail text.now) }
 {
-    match token.kind {
-        Kind::Mark => token.text == [sign].as_slice(),
-        Kind::Space | Kind::Quoted | Kind::Literal | Kind::Comment | Kind::Atom => false,
+    match day_name(text) {
+        None => text,
+        Some(rest) => rest,
     }
 }
 
-/// The atom at the front, and what follows it.
-pub(crate) fn atom<'a, 'b>(lexemes: &'b [Token<'a>]) -> Option<(&'a [u8], &'b [Token<'a>])>
-    ensures { MatchOption result (dates.atom_in (tokens_view lexemes.now) ≡ None) (λ r. dates.atom_in (tokens_view lexemes.now) ≡ Some (r.0.now, tokens_view r.1.now)) }
+/// What follows the day of the week and the comma at the front.
+fn day_name(text: &[u8]) -> Option<&[u8]>
+    ensures { MatchOption result (reading.behind_day_name (lexemes_in Alphabet.Mail text.now) ≡ lexemes_in Alphabet.Mail text.now) (λ r. reading.behind_day_name (lexemes_in Alphabet.Mail text.now) ≡ lexemes_in Alphabet.Mail r.now) }
 {
-    match lexemes {
-        [] => None,
-        [first, rest @ ..] => {
-            if is_atom(first.kind) {
-                Some((first.text, rest))
-            } else {
-                None
-            }
-        }
+    let (name, rest) = next_lexeme(Alphabet::Mail, text)?;
+    let (comma, rest) = next_lexeme(Alphabet::Mail, rest)?;
+    if !is_atom(&name) {
+        return None;
     }
-}
-
-/// The colon at the front, and what follows it.
-fn colon<'a, 'b>(lexemes: &'b [Token<'a>]) -> Option<(&'a [u8], &'b [Token<'a>])>
-    ensures { MatchOption result (dates.colon_in (tokens_view lexemes.now) ≡ None) (λ r. dates.colon_in (tokens_view lexemes.now) ≡ Some (r.0.now, tokens_view r.1.now)) }
-{
-    match lexemes {
-        [] => None,
-        [first, rest @ ..] => {
-            if is_sign(b':', first) {
-                Some((first.text, rest))
-            } else {
-                None
-            }
-        }
+    if !has_mark(b',', &comma) {
+        return None;
     }
-}
-
-/// What follows the day's name and the comma behind it, where they stand at the front.
-fn behind_day_name<'a, 'b>(lexemes: &'b [Token<'a>]) -> &'b [Token<'a>]
-    ensures { tokens_view result.now ≡ dates.behind_day_name (tokens_view lexemes.now) }
-{
-    match lexemes {
-        [] | [_] => lexemes,
-        [name, comma, rest @ ..] => {
-            if is_atom(name.kind) && is_sign(b',', comma) {
-                rest
-            } else {
-                lexemes
-            }
-        }
-    }
+    Some(rest)
 }
 
 /// The number that up to four digits spell.
@@ -86,15 +62,12 @@ fn value(digits: &[u8]) -> u32
     value
 }
 
-/// The number that a text of so many digits spells.
+/// The number that a text of n digits spells.
 pub(crate) fn number_of(low: usize, high: usize, text: &[u8]) -> Option<u32>
     requires { high ≤ 4 }
     ensures value { result ≡ dates.number_of low high text.now }
     ensures small { IfSome result (λ n. n < 300000) }
 {
-    if !are_all(&Digit, text) {
-        return None;
-    }
     if text.len() < low {
         return None;
     }
@@ -104,17 +77,13 @@ pub(crate) fn number_of(low: usize, high: usize, text: &[u8]) -> Option<u32>
     Some(value(text))
 }
 
-/// The number at the front, and what follows it.
-fn number<'a, 'b>(
-    low: usize,
-    high: usize,
-    lexemes: &'b [Token<'a>],
-) -> Option<(u32, &'b [Token<'a>])>
+/// The number at the place, and the place after it.
+fn number(low: usize, high: usize, place: Place<'_>) -> Option<(u32, Place<'_>)>
     requires { high ≤ 4 }
-    ensures value { MatchOption result (dates.number_in low high (tokens_view lexemes.now) ≡ None) (λ r. dates.number_in low high (tokens_view lexemes.now) ≡ Some (r.0, tokens_view r.1.now)) }
+    ensures value { MatchOption result (reading.number_in low high (reading.pieces_at place.entry) ≡ None) (λ r. reading.number_in low high (reading.pieces_at place.entry) ≡ Some (r.0, reading.pieces_at r.1)) }
     ensures small { IfSome result (λ r. r.0 < 300000) }
 {
-    match atom(lexemes) {
+    match digits(place) {
         None => None,
         Some((text, rest)) => match number_of(low, high, text) {
             None => None,
@@ -157,11 +126,11 @@ fn month_of(text: &[u8]) -> Option<u32>
     }
 }
 
-/// The month at the front, and what follows it.
-fn month<'a, 'b>(lexemes: &'b [Token<'a>]) -> Option<(u32, &'b [Token<'a>])>
-    ensures { MatchOption result (dates.month_in (tokens_view lexemes.now) ≡ None) (λ r. dates.month_in (tokens_view lexemes.now) ≡ Some (r.0, tokens_view r.1.now)) }
+/// The month at the place, and the place after it.
+fn month(place: Place<'_>) -> Option<(u32, Place<'_>)>
+    ensures { MatchOption result (reading.month_in (reading.pieces_at place.entry) ≡ None) (λ r. reading.month_in (reading.pieces_at place.entry) ≡ Some (r.0, reading.pieces_at r.1)) }
 {
-    match atom(lexemes) {
+    match letters(place) {
         None => None,
         Some((text, rest)) => match month_of(text) {
             None => None,
@@ -174,9 +143,6 @@ fn month<'a, 'b>(lexemes: &'b [Token<'a>]) -> Option<(u32, &'b [Token<'a>])>
 fn year_of(text: &[u8]) -> Option<u32>
     ensures { result ≡ dates.year_of text.now }
 {
-    if !are_all(&Digit, text) {
-        return None;
-    }
     if text.len() < 2 {
         return None;
     }
@@ -186,7 +152,7 @@ fn year_of(text: &[u8]) -> Option<u32>
     Some(whole_year(text.len(), value(text)))
 }
 
-/// The year that a number of so many digits means.
+/// The year that a number of n digits means.
 fn whole_year(digits: usize, number: u32) -> u32
     requires { number < 300000 }
     ensures { result ≡ dates.whole_year digits number }
@@ -200,11 +166,11 @@ fn whole_year(digits: usize, number: u32) -> u32
     }
 }
 
-/// The year at the front, and what follows it.
-fn year<'a, 'b>(lexemes: &'b [Token<'a>]) -> Option<(u32, &'b [Token<'a>])>
-    ensures { MatchOption result (dates.year_in (tokens_view lexemes.now) ≡ None) (λ r. dates.year_in (tokens_view lexemes.now) ≡ Some (r.0, tokens_view r.1.now)) }
+/// The year at the place, and the place after it.
+fn year(place: Place<'_>) -> Option<(u32, Place<'_>)>
+    ensures { MatchOption result (reading.year_in (reading.pieces_at place.entry) ≡ None) (λ r. reading.year_in (reading.pieces_at place.entry) ≡ Some (r.0, reading.pieces_at r.1)) }
 {
-    match atom(lexemes) {
+    match digits(place) {
         None => None,
         Some((text, rest)) => match year_of(text) {
             None => None,
@@ -213,37 +179,31 @@ fn year<'a, 'b>(lexemes: &'b [Token<'a>]) -> Option<(u32, &'b [Token<'a>])>
     }
 }
 
-/// The seconds at the front, which may be missing, and what follows them.
-fn second<'a, 'b>(lexemes: &'b [Token<'a>]) -> Option<(u32, &'b [Token<'a>])>
-    ensures { MatchOption result (dates.second_in (tokens_view lexemes.now) ≡ None) (λ r. dates.second_in (tokens_view lexemes.now) ≡ Some (r.0, tokens_view r.1.now)) }
+/// The seconds at the place, which may be missing, and the place after them.
+fn second(place: Place<'_>) -> Option<(u32, Place<'_>)>
+    ensures { MatchOption result (reading.second_in (reading.pieces_at place.entry) ≡ None) (λ r. reading.second_in (reading.pieces_at place.entry) ≡ Some (r.0, reading.pieces_at r.1)) }
 {
-    match lexemes {
-        [] => Some((0, lexemes)),
-        [first, rest @ ..] => {
-            if is_sign(b':', first) {
-                number(2, 2, rest)
-            } else {
-                Some((0, lexemes))
-            }
-        }
+    match colon(place) {
+        None => Some((0, place)),
+        Some((_, rest)) => number(2, 2, rest),
     }
 }
 
-/// The day at the front, and what follows it.
-pub(crate) fn day<'a, 'b>(lexemes: &'b [Token<'a>]) -> Option<(Day, &'b [Token<'a>])>
-    ensures { MatchOption result (dates.day_in (tokens_view lexemes.now) ≡ None) (λ r. dates.day_in (tokens_view lexemes.now) ≡ Some (r.0, tokens_view r.1.now)) }
+/// The day at the place, and the place after it.
+pub(crate) fn day(place: Place<'_>) -> Option<(Day, Place<'_>)>
+    ensures { MatchOption result (reading.day_in (reading.pieces_at place.entry) ≡ None) (λ r. reading.day_in (reading.pieces_at place.entry) ≡ Some (r.0, reading.pieces_at r.1)) }
 {
-    let (day, rest) = number(1, 2, behind_day_name(lexemes))?;
+    let (day, rest) = number(1, 2, place)?;
     let (month, rest) = month(rest)?;
     let (year, rest) = year(rest)?;
     Some((Day { year, month, day }, rest))
 }
 
-/// The time of the day at the front, and what follows it.
-pub(crate) fn clock<'a, 'b>(lexemes: &'b [Token<'a>]) -> Option<(Clock, &'b [Token<'a>])>
-    ensures { MatchOption result (dates.clock_in (tokens_view lexemes.now) ≡ None) (λ r. dates.clock_in (tokens_view lexemes.now) ≡ Some (r.0, tokens_view r.1.now)) }
+/// The time of the day at the place, and the place after it.
+pub(crate) fn clock(place: Place<'_>) -> Option<(Clock, Place<'_>)>
+    ensures { MatchOption result (reading.clock_in (reading.pieces_at place.entry) ≡ None) (λ r. reading.clock_in (reading.pieces_at place.entry) ≡ Some (r.0, reading.pieces_at r.1)) }
 {
-    let (hour, rest) = number(2, 2, lexemes)?;
+    let (hour, rest) = number(2, 2, place)?;
     let (_, rest) = colon(rest)?;
     let (minute, rest) = number(2, 2, rest)?;
     let (second, rest) = second(rest)?;

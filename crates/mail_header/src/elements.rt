@@ -1,8 +1,9 @@
+// The elements of an address list, cut at its commas.
 ghost use Rattle.std.specs.Prelude.{◌≡◌, ◌+◌, None, Some, List, length, MatchOption, IfOk, IfSome, IfNone};
 ghost use Rattle.text_words.specs.Sequence.{Sequence};
 ghost use Rattle.mail_header.specs.AddressLists as lists;
-ghost use Rattle.mail_header.specs.ElementReading as reading;
-ghost use Rattle.mail_header.specs.ElementView.{mailbox_view, element_view, elements_view};
+ghost use Rattle.mail_header.specs.reading.ElementReading as reading;
+ghost use Rattle.mail_header.specs.reading.ElementView.{mailbox_view, element_view, elements_view};
 ghost use Rattle.mail_header.specs.TokenView.{token_view, tokens_view};
 
 use crate::mailboxes::{behind_route, is_addr_spec, is_display_name, is_inner, is_phrase};
@@ -25,7 +26,7 @@ pub(crate) struct Mailbox<'a, 'b> {
 pub(crate) enum Element<'a, 'b> {
     /// A comma, or gaps alone.
     Empty,
-    /// A group's phrase, with the colon behind it.
+    /// A group's phrase, with the colon after it.
     Head(&'b [Token<'a>]),
     /// The semicolon that ends a group.
     End,
@@ -186,7 +187,17 @@ fn element_at<'a, 'b>(tokens: &'b [Token<'a>]) -> Option<(Element<'a, 'b>, usize
     }
 }
 
-/// Adds the element at the front, if there is one. Gives how many tokens it has.
+/// Whether the element is no empty place.
+fn is_filled(element: &Element<'_, '_>) -> bool
+    ensures { result ≡ reading.is_filled (element_view element.now) }
+{
+    match element {
+        Element::Empty => false,
+        Element::Head(_) | Element::End | Element::Member(_) => true,
+    }
+}
+
+/// Adds the element at the front, if there is one, unless it is an empty place. Gives how many tokens it has.
 fn push_element<'a, 'b>(
     found: &mut Vec<Element<'a, 'b>>,
     tokens: &'b [Token<'a>],
@@ -196,18 +207,20 @@ fn push_element<'a, 'b>(
     match element_at(tokens) {
         None => Ok(None),
         Some((element, len)) => {
-            found.push(element)?;
+            if is_filled(&element) {
+                found.push(element)?;
+            }
             Ok(Some(len))
         }
     }
 }
 
-/// The elements of a list of addresses, where the tokens are a row of elements.
+/// The elements of a list of addresses without the empty places, where the tokens are a row of elements.
 pub(crate) fn elements<'a, 'b>(
     alloc: Global,
     tokens: &'b [Token<'a>],
 ) -> Result<Option<Vec<Element<'a, 'b>>>, AllocError>
-    ensures some { IfOk result (λ r. IfSome r (λ v. Sequence lists.IsElement (elements_view v.items) (tokens_view tokens.now))) }
+    ensures some { IfOk result (λ r. IfSome r (λ v. reading.AreFilled (elements_view v.items) (tokens_view tokens.now))) }
     ensures none { IfOk result (λ r. IfNone r ((es : List lists.Element) → Sequence lists.IsElement es (tokens_view tokens.now) → ⊥)) }
 {
     let mut found = Vec::new(alloc);

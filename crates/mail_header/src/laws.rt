@@ -1,10 +1,13 @@
+// Laws of headers, tokens and forms.
 ghost use Rattle.std.specs.Prelude.{◌≡◌, ℕ, List, Option};
 ghost use Rattle.mail_header.specs.declared.token.Alphabet.{Alphabet};
 ghost use Rattle.mail_header.specs.declared.address.Address.{Address};
 ghost use Rattle.mail_header.specs.declared.address.Group.{Group};
+ghost use Rattle.mail_header.specs.declared.date.Moment.{Moment};
 ghost use Rattle.mail_header.specs.AddressLists.{Addressee, IsAddressList};
 ghost use Rattle.mail_header.specs.Names.{IsAddressesForm, IsGroupsForm};
 ghost use Rattle.mail_header.specs.Bracketed.{HasPieces};
+ghost use Rattle.mail_header.specs.Dates.{IsDateForm};
 ghost use Rattle.mail_header.specs.Fields.{IsHeader, NameAndRaw};
 ghost use Rattle.mail_header.specs.Lexemes.{AreLeadingLexemes};
 ghost use Rattle.mail_header.specs.Tokens.{Spelled, AreTokens};
@@ -35,4 +38,9 @@ pub fn one_address_list()
 pub fn one_reading_of_addresses()
     ensures addresses { (one other : Option (List Address)) (raw : List ℕ) → IsAddressesForm raw one → IsAddressesForm raw other → one ≡ other }
     ensures groups { (one other : Option (List Group)) (raw : List ℕ) → IsGroupsForm raw one → IsGroupsForm raw other → one ≡ other }
+{}
+
+/// No raw value has two dates.
+pub fn one_date()
+    ensures { (raw : List ℕ) (x y : Option Moment) → IsDateForm raw x → IsDateForm raw y → x ≡ y }
 {}

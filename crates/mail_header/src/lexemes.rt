@@ -1,50 +1,45 @@
-ghost use Rattle.std.specs.Prelude.{◌≡◌, List, IfOk, IfSome, IfNone};
+// Lexemes, read one after another: tokens without white space and comments.
+ghost use Rattle.std.specs.Prelude.{◌≡◌, ◌<◌, ◌≤◌, ◌==◌, [], length, IfSome, MatchOption};
 ghost use Rattle.mail_header.specs.Lexemes as lexemes;
-ghost use Rattle.mail_header.specs.Tokens.{Spelled, AreTokens};
-ghost use Rattle.mail_header.specs.TokenView.{tokens_view};
-ghost use Rattle.std.specs.List.{filter};
+ghost use Rattle.mail_header.specs.TokenView.{token_view};
+ghost use Rattle.mail_header.specs.reading.LexemeReading as reading;
 
 use crate::token::{Alphabet, Kind, Token};
-use crate::tokens::{leading_tokens, tokens};
-use std::alloc::{AllocError, Global};
+use crate::tokens::first_token;
 
-/// The tokens of a value without white space and comments, where the value is a row of tokens.
-pub fn lexemes(
-    alloc: Global,
-    alphabet: Alphabet,
-    text: &[u8],
-) -> Result<Option<Vec<Token<'_>>>, AllocError>
-    ensures some { IfOk result (λ r. IfSome r (λ v. lexemes.AreLexemes alphabet (tokens_view v.items) text.now)) }
-    ensures none { IfOk result (λ r. IfNone r ((ts : List Spelled) → AreTokens alphabet ts text.now → ⊥)) }
+/// The text after the white space and comments at its front.
+pub fn behind_gaps(alphabet: Alphabet, text: &[u8]) -> &[u8]
+    ensures is { reading.IsBehindGaps alphabet result.now text.now }
+    ensures within { length result.now ≤ length text.now }
 {
-    match tokens(alloc, alphabet, text)? {
-        None => Ok(None),
-        Some(found) => Ok(Some(without_gaps(alloc, found.as_slice())?)),
-    }
-}
-
-/// The tokens at the front of a value without white space and comments, up to what no token begins.
-pub fn leading_lexemes(
-    alloc: Global,
-    alphabet: Alphabet,
-    text: &[u8],
-) -> Result<Vec<Token<'_>>, AllocError>
-    ensures { IfOk result (λ v. lexemes.AreLeadingLexemes alphabet (tokens_view v.items) text.now) }
-{
-    let (found, _rest) = leading_tokens(alloc, alphabet, text)?;
-    without_gaps(alloc, found.as_slice())
-}
-
-fn without_gaps<'a>(alloc: Global, found: &[Token<'a>]) -> Result<Vec<Token<'a>>, AllocError>
-    ensures { IfOk result (λ v. tokens_view v.items ≡ filter lexemes.is_lexeme (tokens_view found.now)) }
-{
-    let mut kept = Vec::new(alloc);
-    for token in found {
+    let mut rest = text;
+    while let Some((token, behind)) = first_token(alphabet, rest) {
         if is_lexeme(token.kind) {
-            kept.push(*token)?;
+            return rest;
         }
+        rest = behind;
     }
-    Ok(kept)
+    rest
+}
+
+/// The first lexeme at the front of a value, and what follows it. There is none where no token begins after white space
+/// and comments.
+pub fn next_lexeme(alphabet: Alphabet, text: &[u8]) -> Option<(Token<'_>, &[u8])>
+    ensures value { MatchOption result (reading.lexemes_in alphabet text.now ≡ []) (λ r. reading.IsNextLexeme alphabet (token_view r.0) r.1.now text.now) }
+    ensures shorter { IfSome result (λ r. length r.1.now < length text.now) }
+{
+    first_token(alphabet, behind_gaps(alphabet, text))
+}
+
+/// Whether the text is a row of tokens.
+pub fn is_row(alphabet: Alphabet, text: &[u8]) -> bool
+    ensures { result ≡ (length (reading.rest_in alphabet text.now) == 0) }
+{
+    let mut rest = text;
+    while let Some((_, behind)) = first_token(alphabet, rest) {
+        rest = behind;
+    }
+    rest.is_empty()
 }
 
 fn is_lexeme(kind: Kind) -> bool

@@ -15,6 +15,7 @@ pub mod lines;
 pub(crate) mod mailboxes;
 pub mod moments;
 pub mod names;
+pub mod pieces;
 pub mod raw_forms;
 pub mod token;
 pub(crate) mod token_class;
@@ -23,7 +24,7 @@ pub mod zones;
 
 pub use address::{Address, Group};
 pub use address_lists::{as_addresses, as_groups};
-pub use blocks::fields;
+pub use blocks::{fields, last_field};
 pub use bracketed::{as_message_ids, as_urls};
 pub use date::Moment;
 pub use header::{Field, Fields};

@@ -1,3 +1,4 @@
+// Texts without their line ends.
 ghost use Rattle.std.specs.Prelude.{◌≡◌};
 ghost use Rattle.mail_header.specs.Lines as lines;
 

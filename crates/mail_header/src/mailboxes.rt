@@ -1,7 +1,8 @@
+// Mailboxes and their parts (RFC 5322 section 3.4).
 ghost use Rattle.std.specs.Prelude.{◌≡◌, true, []};
 ghost use Rattle.std.specs.List.{list_any};
 ghost use Rattle.mail_header.specs.Mailboxes as mailboxes;
-ghost use Rattle.mail_header.specs.ElementReading as reading;
+ghost use Rattle.mail_header.specs.reading.ElementReading as reading;
 ghost use Rattle.mail_header.specs.TokenView.{token_view, tokens_view};
 
 use crate::token::Token;
@@ -10,7 +11,7 @@ use crate::token_class::{
     has_mark, is_gap, is_literal, is_word,
 };
 
-/// word *(word / "." / CFWS), where each may stand behind gaps (RFC 5322 section 4.1).
+/// word *(word / "." / CFWS), where each may stand after gaps (RFC 5322 section 4.1).
 pub(crate) fn is_phrase(tokens: &[Token<'_>]) -> bool
     ensures { result ≡ mailboxes.is_phrase (tokens_view tokens.now) }
 {
@@ -34,7 +35,7 @@ pub(crate) fn is_display_name(tokens: &[Token<'_>]) -> bool
     are_tokens(&Gap, tokens) || is_phrase(tokens)
 }
 
-/// A word of the class, and more of them, each behind a dot.
+/// A word of the class, and more of them, each after a dot.
 fn is_dotted<C: TokenClass>(class: &C, tokens: &[Token<'_>]) -> bool
     ensures { result ≡ mailboxes.is_dotted C.test true (tokens_view tokens.now) }
 {
@@ -61,7 +62,7 @@ fn comes_in_turn<C: TokenClass>(class: &C, due: bool, token: &Token<'_>) -> bool
     }
 }
 
-/// A domain literal, with gaps behind it.
+/// A domain literal, with gaps after it.
 fn begins_literal(tokens: &[Token<'_>]) -> bool
     ensures { result ≡ mailboxes.begins_literal (tokens_view tokens.now) }
 {

@@ -1,13 +1,15 @@
+// The moments of dates.
 ghost use Rattle.std.specs.Prelude.{◌≡◌, ◌<◌, ◌≤◌, true, false, negsuc, pos, ◌+ℤ◌, ◌-ℤ◌, ◌*ℤ◌, ◌≤ℤ◌, IfOk, IfSome, MatchOption, Some, None};
 ghost use Rattle.jiff_core.specs.Calendar.{IsEpochDay};
 ghost use Rattle.mail_header.specs.Dates as dates;
-ghost use Rattle.mail_header.specs.TokenView.{tokens_view};
+ghost use Rattle.mail_header.specs.reading.DateReading as reading;
 
 use crate::date::{Clock, Day, Moment};
-use crate::dates::{clock, day};
-use crate::lexemes::lexemes;
+use crate::dates::{behind_day_name, clock, day};
+use crate::lexemes::is_row;
+use crate::pieces::{Place, next_piece};
 use crate::raw_forms::as_raw;
-use crate::token::{Alphabet, Token};
+use crate::token::Alphabet;
 use crate::zones::zone;
 use jiff_core::civil::Date;
 use std::alloc::{AllocError, Global};
@@ -77,34 +79,37 @@ fn moment_of(day: Day, clock: Clock, zone: i32) -> Option<Moment>
     }
 }
 
-/// The moment, where nothing follows it.
-fn at_end(rest: &[Token<'_>], moment: Option<Moment>) -> Option<Moment>
-    ensures { result ≡ dates.at_end (tokens_view rest.now) moment }
+/// The moment, where nothing is left at the place.
+fn at_end(place: Place<'_>, moment: Option<Moment>) -> Option<Moment>
+    ensures { result ≡ reading.at_end (reading.pieces_at place.entry) moment }
 {
-    match rest {
-        [] => moment,
-        [_, _behind @ ..] => None,
+    match next_piece(place) {
+        None => moment,
+        Some(_) => None,
     }
 }
 
-/// The date that the lexemes spell.
-fn date_of(lexemes: &[Token<'_>]) -> Option<Moment>
-    ensures { result ≡ dates.date_in (tokens_view lexemes.now) }
+/// The moment of the date at the place.
+fn date_at(place: Place<'_>) -> Option<Moment>
+    ensures { result ≡ reading.date_in (reading.pieces_at place.entry) }
 {
-    let (day, rest) = day(lexemes)?;
+    let (day, rest) = day(place)?;
     let (clock, rest) = clock(rest)?;
     let (zone, rest) = zone(rest)?;
     at_end(rest, moment_of(day, clock, zone))
 }
 
 /// The moment of a raw value that is a date (RFC 5322 sections 3.3 and 4.3), of which comments and folding are
-/// passed over. The day's name isn't checked. There is no reading where the date doesn't exist.
+/// passed over. The day of the week isn't checked, and no white space is needed between a number and a word. There is
+/// no reading where the date doesn't exist.
 pub fn as_date(alloc: Global, raw: &[u8]) -> Result<Option<Moment>, AllocError>
     ensures { IfOk result (λ m. dates.IsDateForm raw.now m) }
 {
-    let raw = as_raw(alloc, raw)?;
-    match lexemes(alloc, Alphabet::Mail, raw.as_slice())? {
-        None => Ok(None),
-        Some(found) => Ok(date_of(found.as_slice())),
+    let text = as_raw(alloc, raw)?;
+    let text = text.as_slice();
+    if !is_row(Alphabet::Mail, text) {
+        return Ok(None);
     }
+    let rest = behind_day_name(text);
+    Ok(date_at(Place { atom: &[], rest }))
 }

@@ -1,7 +1,8 @@
+// Names of mailboxes and groups, and addresses as they are spelled.
 ghost use Rattle.std.specs.Prelude.{◌≡◌, ◌++◌, None, Some, false, IfOk, OnOk, MatchOption};
 ghost use Rattle.std.specs.Option.{option_map};
 ghost use Rattle.mail_header.specs.Names as names;
-ghost use Rattle.mail_header.specs.ElementView.{mailbox_view};
+ghost use Rattle.mail_header.specs.reading.ElementView.{mailbox_view};
 ghost use Rattle.mail_header.specs.TokenView.{token_view, tokens_view};
 ghost use Rattle.header_words.specs.EncodedWords.{IsText};
 
@@ -26,7 +27,7 @@ fn inside(text: &[u8]) -> &[u8]
     }
 }
 
-/// The text with each backslash replaced by the octet behind it.
+/// The text with each backslash replaced by the octet after it.
 fn unescaped(alloc: Global, text: &[u8]) -> Result<Vec<u8>, AllocError>
     ensures { IfOk result (λ v. v.items ≡ names.unescaped false text.now) }
 {
@@ -70,9 +71,12 @@ fn push_word(alloc: Global, text: &mut Vec<u8>, word: &Token<'_>) -> Result<(), 
 pub fn word_text(alloc: Global, word: &Token<'_>) -> Result<Vec<u8>, AllocError>
     ensures { IfOk result (λ v. v.items ≡ names.word_text word.now.kind word.now.text.now) }
 {
-    let mut text = Vec::new(alloc);
-    push_word(alloc, &mut text, word)?;
-    Ok(text)
+    match word.kind {
+        Kind::Quoted => unquoted(alloc, word.text),
+        Kind::Atom | Kind::Space | Kind::Literal | Kind::Comment | Kind::Mark => {
+            Vec::from_slice(alloc, word.text)
+        }
+    }
 }
 
 fn push_space(text: &mut Vec<u8>, gap: bool) -> Result<(), AllocError>
@@ -112,7 +116,7 @@ pub(crate) fn phrase_name(alloc: Global, phrase: &[Token<'_>]) -> Result<Bytes, 
 }
 
 /// The text without the white space at its end.
-fn without_white_end(text: &[u8]) -> &[u8]
+pub fn without_white_end(text: &[u8]) -> &[u8]
     ensures { result.now ≡ names.without_white_end text.now }
 {
     let mut rest = text;
@@ -125,7 +129,7 @@ fn without_white_end(text: &[u8]) -> &[u8]
     rest
 }
 
-/// The first comment behind the last lexeme.
+/// The first comment after the last lexeme.
 fn comment_behind<'a>(tokens: &[Token<'a>]) -> Option<&'a [u8]>
     ensures { MatchOption result (names.comment_behind None (tokens_view tokens.now) ≡ None) (λ t. names.comment_behind None (tokens_view tokens.now) ≡ Some t.now) }
 {
@@ -170,7 +174,7 @@ fn some_text(text: Vec<u8>) -> Result<Option<Bytes>, AllocError>
     }
 }
 
-/// The name that a comment behind an address gives.
+/// The name that a comment after an address gives.
 fn comment_name(alloc: Global, tokens: &[Token<'_>]) -> Result<Option<Bytes>, AllocError>
     ensures { IfOk result (λ n. names.IsCommentName (names.comment_behind None (tokens_view tokens.now)) n) }
 {
@@ -180,7 +184,7 @@ fn comment_name(alloc: Global, tokens: &[Token<'_>]) -> Result<Option<Bytes>, Al
     }
 }
 
-/// The name of a mailbox: its phrase, else the comment behind its address.
+/// The name of a mailbox: its phrase, else the comment after its address.
 fn name_of(alloc: Global, mailbox: &Mailbox<'_, '_>) -> Result<Option<Bytes>, AllocError>
     ensures { IfOk result (λ n. names.IsName (mailbox_view mailbox.now) n) }
 {

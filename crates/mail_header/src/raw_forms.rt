@@ -1,8 +1,9 @@
+// The forms Raw and Text.
 ghost use Rattle.std.specs.Prelude.{◌≡◌, ◌++◌, IfOk, OnOk};
 ghost use Rattle.std.specs.List.{filter};
 ghost use Rattle.mail_header.specs.Lines as lines;
 ghost use Rattle.mail_header.specs.RawForms as forms;
-ghost use Rattle.mail_header.specs.Reading as reading;
+ghost use Rattle.mail_header.specs.reading.HeaderLines as reading;
 
 use gate_world::Bytes;
 use header_words::decode_words;

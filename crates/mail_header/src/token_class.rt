@@ -1,10 +1,11 @@
+// Classes of octets in tokens, and tests of tokens.
 ghost use Rattle.std.specs.Prelude.{◌≡◌, Bool, false};
 ghost use Rattle.std.specs.List.{list_all, list_any};
 ghost use Rattle.text_words.specs.Cuts.{front, back};
 ghost use Rattle.mail_header.specs.Tokens.{Spelled};
 ghost use Rattle.mail_header.specs.Mailboxes as mailboxes;
 ghost use Rattle.mail_header.specs.AddressLists as lists;
-ghost use Rattle.mail_header.specs.ElementReading as reading;
+ghost use Rattle.mail_header.specs.reading.ElementReading as reading;
 ghost use Rattle.mail_header.specs.TokenView.{token_view, tokens_view};
 
 use crate::token::{Kind, Token};
@@ -33,7 +34,7 @@ impl<'c, 'a, C: TokenClass> Class<Token<'a>> for Spelling<'c, C> {
     }
 }
 
-/// What stands before the first token outside the class, and that token with all behind it.
+/// What stands before the first token outside the class, and that token with all after it.
 pub(crate) fn cut_tokens<'a, 'b, C: TokenClass>(
     class: &C,
     tokens: &'b [Token<'a>],
@@ -175,7 +176,7 @@ fn mark_of(token: &Token<'_>) -> u8
     }
 }
 
-fn first_octet(text: &[u8]) -> u8
+pub(crate) fn first_octet(text: &[u8]) -> u8
     ensures { result ≡ mailboxes.first_octet text.now }
 {
     match text {
@@ -201,6 +202,7 @@ pub(crate) fn is_gap(token: &Token<'_>) -> bool
     }
 }
 
+/// Whether the token is an atom.
 pub fn is_atom(token: &Token<'_>) -> bool
     ensures { result ≡ mailboxes.is_atom (token_view token.now) }
 {
@@ -239,7 +241,7 @@ fn behind_first(text: &[u8]) -> &[u8]
     }
 }
 
-/// Whether no `[` stands in the text but behind a backslash.
+/// Whether no `[` stands in the text but after a backslash.
 fn has_no_opener(text: &[u8]) -> bool
     ensures { result ≡ mailboxes.has_no_opener false text.now }
 {

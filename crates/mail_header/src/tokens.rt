@@ -1,7 +1,8 @@
-ghost use Rattle.std.specs.Prelude.{false, ◌≡◌, ◌≤◌, ◌+◌, ℕ, List, IfOk, MatchOption, IfSome, IfNone, length};
+// The tokens of a raw value (RFC 5322 section 3.2).
+ghost use Rattle.std.specs.Prelude.{false, None, ◌≡◌, ◌<◌, ◌≤◌, ◌+◌, ℕ, List, IfOk, MatchOption, IfSome, IfNone, length};
 ghost use Rattle.mail_header.specs.Tokens as tokens;
-ghost use Rattle.mail_header.specs.TokenReading as reading;
-ghost use Rattle.mail_header.specs.TokenView.{tokens_view};
+ghost use Rattle.mail_header.specs.reading.TokenReading as reading;
+ghost use Rattle.mail_header.specs.TokenView.{token_view, tokens_view};
 
 use crate::token::{Alphabet, Kind, Token};
 use std::alloc::{AllocError, Global};
@@ -131,7 +132,7 @@ fn bracket(kind: Kind, text: &[u8], rest: &[u8], opener: u16, closer: u16) -> Op
 }
 
 /// The token at the front, and how many octets it has.
-#[tactic(auto, unfolding(crate::specs::TokenReading::token_in))]
+#[tactic(auto, unfolding(crate::specs::reading::TokenReading::token_in))]
 fn token_at(alphabet: Alphabet, text: &[u8]) -> Option<(Kind, usize)>
     ensures { result ≡ reading.token_in alphabet text.now }
 {
@@ -157,6 +158,20 @@ fn token_at(alphabet: Alphabet, text: &[u8]) -> Option<(Kind, usize)>
     }
 }
 
+/// The token at the front, and what follows it.
+pub(crate) fn first_token(alphabet: Alphabet, text: &[u8]) -> Option<(Token<'_>, &[u8])>
+    ensures value { MatchOption result (reading.spelled_in alphabet text.now ≡ None) (λ r. reading.IsFirstToken alphabet (token_view r.0) r.1.now text.now) }
+    ensures shorter { IfSome result (λ r. length r.1.now < length text.now) }
+{
+    match token_at(alphabet, text) {
+        None => None,
+        Some((kind, len)) => {
+            let (token, rest) = text.split_at(len);
+            Some((Token { kind, text: token }, rest))
+        }
+    }
+}
+
 /// The tokens at the front of a text, up to what no token begins.
 pub fn leading_tokens<'a>(
     alloc: Global,
@@ -167,9 +182,8 @@ pub fn leading_tokens<'a>(
 {
     let mut found = Vec::new(alloc);
     let mut rest = text;
-    while let Some((kind, len)) = token_at(alphabet, rest) {
-        let (token, behind) = rest.split_at(len);
-        found.push(Token { kind, text: token })?;
+    while let Some((token, behind)) = first_token(alphabet, rest) {
+        found.push(token)?;
         rest = behind;
     }
     Ok((found, rest))

@@ -1,10 +1,11 @@
+// The zone of a date.
 ghost use Rattle.std.specs.Prelude.{◌≡◌, ◌<◌, negsuc, pos, ◌≤ℤ◌, MatchOption, IfSome, Some, None};
 ghost use Rattle.mail_header.specs.Dates as dates;
-ghost use Rattle.mail_header.specs.TokenView.{tokens_view};
+ghost use Rattle.mail_header.specs.reading.DateReading as reading;
 
-use crate::dates::{atom, number_of};
-use crate::token::Token;
-use text_words::{Alpha, are_all, same_text};
+use crate::dates::number_of;
+use crate::pieces::{Piece, Place, next_piece};
+use text_words::same_text;
 
 /// Minutes of a number hhmm.
 fn minutes_of(number: u32) -> Option<u32>
@@ -54,63 +55,63 @@ fn west(text: &[u8]) -> Option<i32>
 }
 
 /// The zones of North America by name (RFC 5322 section 4.3); other letters are 0.
-fn named_zone(text: &[u8]) -> Option<i32>
+fn named_zone(text: &[u8]) -> i32
     ensures value { result ≡ dates.named_zone text.now }
-    ensures low { IfSome result (λ z. negsuc 1439 ≤ℤ z) }
-    ensures high { IfSome result (λ z. z ≤ℤ pos 1440) }
+    ensures low { negsuc 1439 ≤ℤ result }
+    ensures high { result ≤ℤ pos 1440 }
 {
     if same_text(text, b"est") {
-        Some(-300)
+        -300
     } else if same_text(text, b"edt") {
-        Some(-240)
+        -240
     } else if same_text(text, b"cst") {
-        Some(-360)
+        -360
     } else if same_text(text, b"cdt") {
-        Some(-300)
+        -300
     } else if same_text(text, b"mst") {
-        Some(-420)
+        -420
     } else if same_text(text, b"mdt") {
-        Some(-360)
+        -360
     } else if same_text(text, b"pst") {
-        Some(-480)
+        -480
     } else if same_text(text, b"pdt") {
-        Some(-420)
-    } else if are_all(&Alpha, text) {
-        Some(0)
+        -420
     } else {
-        None
+        0
     }
 }
 
-/// How far a zone is east of UTC, in minutes.
-fn zone_of(text: &[u8]) -> Option<i32>
-    ensures value { result ≡ dates.zone_of text.now }
+/// How far a zone is east of UTC, in minutes: a sign and hhmm.
+fn offset_of(sign: u8, text: &[u8]) -> Option<i32>
+    ensures value { result ≡ dates.offset_of sign text.now }
     ensures low { IfSome result (λ z. negsuc 1439 ≤ℤ z) }
     ensures high { IfSome result (λ z. z ≤ℤ pos 1440) }
 {
-    match text {
-        [] => None,
-        [first, rest @ ..] => {
-            if *first == b'+' {
-                east(rest)
-            } else if *first == b'-' {
-                west(rest)
-            } else {
-                named_zone(text)
-            }
-        }
+    if sign == b'+' { east(text) } else { west(text) }
+}
+
+/// How far the zone that a piece is lies east of UTC, in minutes.
+fn zone_of(piece: Piece<'_>) -> Option<i32>
+    ensures value { result ≡ reading.zone_of (reading.piece_view piece.entry) }
+    ensures low { IfSome result (λ z. negsuc 1439 ≤ℤ z) }
+    ensures high { IfSome result (λ z. z ≤ℤ pos 1440) }
+{
+    match piece {
+        Piece::Signed(sign, text) => offset_of(sign, text),
+        Piece::Letters(text) => Some(named_zone(text)),
+        Piece::Digits(_) | Piece::Octet(_) | Piece::Other => None,
     }
 }
 
-/// The zone at the front, and what follows it.
-pub(crate) fn zone<'a, 'b>(lexemes: &'b [Token<'a>]) -> Option<(i32, &'b [Token<'a>])>
-    ensures value { MatchOption result (dates.zone_in (tokens_view lexemes.now) ≡ None) (λ r. dates.zone_in (tokens_view lexemes.now) ≡ Some (r.0, tokens_view r.1.now)) }
+/// The zone at the place, and the place after it.
+pub(crate) fn zone(place: Place<'_>) -> Option<(i32, Place<'_>)>
+    ensures value { MatchOption result (reading.zone_in (reading.pieces_at place.entry) ≡ None) (λ r. reading.zone_in (reading.pieces_at place.entry) ≡ Some (r.0, reading.pieces_at r.1)) }
     ensures low { IfSome result (λ r. negsuc 1439 ≤ℤ r.0) }
     ensures high { IfSome result (λ r. r.0 ≤ℤ pos 1440) }
 {
-    match atom(lexemes) {
+    match next_piece(place) {
         None => None,
-        Some((text, rest)) => match zone_of(text) {
+        Some((piece, rest)) => match zone_of(piece) {
             None => None,
             Some(zone) => Some((zone, rest)),
         },

@@ -1,9 +1,10 @@
+// Addresses and groups.
 use mail_header::{Address, Group, as_addresses, as_groups};
 use std::alloc::{AllocError, Global};
 use std::process::Abort;
 use std::test::Fail;
 
-/// A reading written out: each address as `name<email>`, or `-<email>` without a name, with `|` behind it.
+/// A reading written out: each address as `name<email>`, or `-<email>` without a name, with `|` after it.
 fn push_address(text: &mut Vec<u8>, address: &Address) -> Result<(), AllocError> {
     match &address.name {
         None => text.push(b'-')?,

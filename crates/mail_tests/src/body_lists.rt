@@ -1,3 +1,4 @@
+// Text, HTML and attachments.
 use mime_tree::{Part, body_lists, parse};
 use std::alloc::{AllocError, Global};
 use std::process::Abort;
@@ -6,7 +7,7 @@ use std::test::Fail;
 /// Trees, and their body lists.
 ///
 /// A tree is spelled part by part. A leaf is `p` (text/plain), `h` (text/html), `i`, `s`, `v` (image, audio, video),
-/// `x` (application/pdf) or `e` (message/rfc822); behind it `!` is the disposition attachment, `~` inline, `'` a name
+/// `x` (application/pdf) or `e` (message/rfc822); after it `!` is the disposition attachment, `~` inline, `'` a name
 /// and `"` an empty name. `m`, `a`, `r` begin a multipart (mixed, alternative, related), and `)` ends it. Lists are of leaf numbers: text, HTML and
 /// attachments, and then whether there is an attachment.
 const TREES: [(&[u8], &[u8]); 41] = [
@@ -78,7 +79,7 @@ fn media_of(letter: u8) -> &'static [u8] {
     }
 }
 
-/// The delimiter line of the multipart at this depth; the root stands behind none.
+/// The delimiter line of the multipart at this depth; the root stands after none.
 fn put_delimiter(alloc: Global, mail: &mut Vec<u8>, depth: u32) -> Result<(), AllocError> {
     if depth == 0 {
         return Ok(());
@@ -104,7 +105,7 @@ fn put_end(alloc: Global, mail: &mut Vec<u8>, depth: u32) -> Result<(), AllocErr
     Ok(())
 }
 
-/// Adds what a letter spells, and gives the depth behind it.
+/// Adds what a letter spells, and gives the depth after it.
 fn put_spelled(
     alloc: Global,
     mail: &mut Vec<u8>,

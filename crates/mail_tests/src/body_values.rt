@@ -1,8 +1,9 @@
+// Texts of parts.
 use crate::members::{Row, go_over};
 use std::test::Fail;
 
 /// Values of texts, with their problems.
-const VALUES: [Row; 12] = [
+const VALUES: [Row; 15] = [
     (
         b"Content-Type: text/plain; charset=utf-8\nContent-Transfer-Encoding: base64\n\naG*k=",
         "/bodyValues/1",
@@ -56,7 +57,22 @@ const VALUES: [Row; 12] = [
     (
         b"Content-Type: text/plain; charset=x-none\n\na",
         "/bodyValues/1",
-        "{\"isEncodingProblem\":false,\"isTruncated\":false,\"value\":\"a\"}",
+        "{\"isEncodingProblem\":true,\"isTruncated\":false,\"value\":\"a\"}",
+    ),
+    (
+        b"Content-Type: text/plain; charset=x-none\n\n",
+        "/bodyValues/1",
+        "{\"isEncodingProblem\":true,\"isTruncated\":false,\"value\":\"\"}",
+    ),
+    (
+        b"Content-Type: text/plain; charset=UTF8\n\n\xC3\xA9",
+        "/bodyValues/1",
+        "{\"isEncodingProblem\":false,\"isTruncated\":false,\"value\":\"\u{E9}\"}",
+    ),
+    (
+        b"Content-Type: text/plain\nContent-Transfer-Encoding: (7bit)\n\na",
+        "/bodyValues/1",
+        "{\"isEncodingProblem\":true,\"isTruncated\":false,\"value\":\"a\"}",
     ),
     (
         b"\na\r\nb\rc\n\r\n",

@@ -1,3 +1,4 @@
+// Message ids and URLs.
 use mail_header::{as_message_ids, as_urls};
 use std::alloc::Global;
 use std::process::Abort;

@@ -1,3 +1,4 @@
+// Dates.
 use mail_header::{Moment, as_date};
 use std::alloc::Global;
 use std::process::Abort;
@@ -56,6 +57,28 @@ const DATES: [Row; 40] = [
     (b"", None),
 ];
 
+/// Numbers and words that touch, days of the week, and what no date has.
+const TOUCHING: [Row; 18] = [
+    (b"1Jan20 00:00Z", Some((1577836800, 0))),
+    (b"1 Jan 20 00:00:00+0100", Some((1577833200, 60))),
+    (b"1(c)Jan(d)20(e)00:00(f)+0100", Some((1577833200, 60))),
+    (b"x-1, 1Jan20 00:00Z", Some((1577836800, 0))),
+    (b"Wed,1Jan20 00:00Z", Some((1577836800, 0))),
+    (b"Wed 1 Jan 20 00:00Z", None),
+    (b"\"Wed\", 1 Jan 20 00:00Z", None),
+    (b", 1 Jan 20 00:00Z", None),
+    (b"Wed,, 1 Jan 20 00:00Z", None),
+    (b"1Jan2000:00Z", None),
+    (b"1 Jan 20 00:00 + 0100", None),
+    (b"1 Jan 20 00:00 +01 00", None),
+    (b"1 Jan 20 00:00 +0100Z", None),
+    (b"1 Jan 20 00:00 GMT+1", None),
+    (b"1 Jan 20 00 : 00 : 00 GMT", Some((1577836800, 0))),
+    (b"1-Jan-20 00:00Z", None),
+    (b"1 Jan 20 00:00Z (c", None),
+    (b"1 Jan 20 00:00Z )", None),
+];
+
 fn moment_of(date: Option<(i64, i32)>) -> Option<Moment> {
     match date {
         None => None,
@@ -76,7 +99,8 @@ fn expect_moments(rt: &impl Abort, alloc: Global, rows: &[Row]) -> Result<(), Fa
 
 #[test]
 fn values_are_dates(rt: HostRuntime) -> Result<(), Fail> {
-    expect_moments(&rt, rt.alloc(), &DATES)
+    expect_moments(&rt, rt.alloc(), &DATES)?;
+    expect_moments(&rt, rt.alloc(), &TOUCHING)
 }
 
 /// The last second of each month of a year, and of the last year; leap years; leap seconds; years of three digits.
@@ -100,7 +124,7 @@ const SECONDS: [(&[u8], i64); 17] = [
     (b"31 Dec 2016 23:59:60 GMT", 1483228799),
 ];
 
-/// The day behind each of those, and days and years that are none.
+/// The day after each of those, and days and years that are none.
 const NO_DATES: [&[u8]; 18] = [
     b"32 Jan 2023 00:00 GMT",
     b"29 Feb 2023 00:00 GMT",

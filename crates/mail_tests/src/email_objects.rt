@@ -1,3 +1,4 @@
+// Whole Email objects.
 use crate::messages::{CRLF_MESSAGE, MESSAGE};
 use email_get::email_object;
 use std::alloc::{AllocError, Global};
@@ -37,7 +38,7 @@ fn messages_are_whole_objects(rt: HostRuntime) -> Result<(), Fail> {
     go_over(&rt, rt.alloc(), WHOLE.as_slice())
 }
 
-/// The message behind fourteen long fields, which no property is of.
+/// The message after fourteen long fields, which no property is of.
 fn signed(alloc: Global) -> Result<Vec<u8>, AllocError> {
     let mut bytes = Vec::new(alloc);
     for _ in 0..14 {

@@ -1,4 +1,5 @@
-use mail_header::fields;
+// Fields of headers.
+use mail_header::{fields, last_field};
 use std::alloc::Global;
 use std::process::Abort;
 use std::test::Fail;
@@ -27,6 +28,10 @@ fn headers_have_fields(rt: HostRuntime) -> Result<(), Fail> {
     assert!(rt; is_text(header.last(b"SUBJECT"), b"last\r"));
     assert!(rt; header.last(b"Body").is_none());
     assert!(rt; header.last(b"Bad Name").is_none());
+    assert!(rt; is_text(last_field(mail, b"SUBJECT"), b"last\r"));
+    assert!(rt; is_text(last_field(mail, b"x"), b""));
+    assert!(rt; last_field(mail, b"Body").is_none());
+    assert!(rt; last_field(b"", b"Body").is_none());
     assert_eq!(rt; header.end(), mail.len() - 11);
     Ok(())
 }

@@ -1,3 +1,4 @@
+// Properties that the header gives.
 use email_get::{HeaderValues, header_values};
 use mail_header::fields;
 use serde_json::Value;

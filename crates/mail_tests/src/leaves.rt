@@ -1,3 +1,4 @@
+// Leaves by their numbers.
 use crate::messages::{CRLF_MESSAGE, MESSAGE};
 use gate_world::Bytes;
 use mime_tree::{body_lists, parse, part_bytes};

@@ -21,6 +21,12 @@ mod header_properties;
 #[cfg(test)]
 mod leaves;
 #[cfg(test)]
+mod long_forms;
+#[cfg(test)]
+mod long_headers;
+#[cfg(test)]
+mod long_texts;
+#[cfg(test)]
 mod long_values;
 #[cfg(test)]
 mod members;

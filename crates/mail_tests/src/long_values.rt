@@ -1,9 +1,10 @@
+// Long values of fields.
 use mail_header::{as_addresses, as_date, as_groups, as_message_ids, as_text, fields};
 use std::alloc::{AllocError, Global};
 use std::process::Abort;
 use std::test::Fail;
 
-/// So many of the piece, one behind another.
+/// This many of the piece, one after another.
 fn many(alloc: Global, piece: &[u8], count: usize) -> Result<Vec<u8>, AllocError> {
     let mut text = Vec::new(alloc);
     for _ in 0..count {

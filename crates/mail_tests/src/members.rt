@@ -1,3 +1,4 @@
+// Members of Email objects.
 use email_get::email_object;
 use serde_json::Value;
 use std::alloc::{AllocError, Global};

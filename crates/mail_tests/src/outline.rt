@@ -1,3 +1,4 @@
+// A tree of parts as a text.
 use mime_tree::{Part, parse};
 use std::alloc::{AllocError, Global};
 use std::process::Abort;

@@ -1,3 +1,4 @@
+// Objects of parts.
 use crate::members::{Row, go_over};
 use std::test::Fail;
 

@@ -1,3 +1,4 @@
+// Previews.
 use crate::members::{Row, go_over};
 use std::test::Fail;
 

@@ -1,3 +1,4 @@
+// Raw and Text forms.
 use mail_header::{as_raw, as_text};
 use std::alloc::Global;
 use std::process::Abort;

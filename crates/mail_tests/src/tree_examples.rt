@@ -1,3 +1,4 @@
+// Trees of the standards' examples.
 use crate::outline::go_over;
 use std::test::Fail;
 

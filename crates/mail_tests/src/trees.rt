@@ -1,3 +1,4 @@
+// Trees of parts.
 use crate::outline::go_over;
 use mime_tree::{Part, parse};
 use std::alloc::{AllocError, Global};
@@ -70,7 +71,7 @@ const MULTIPARTS: [(&[u8], &[u8]); 18] = [
         b"Content-Type: multipart/mixed; boundary=a\n\n--a\n\nx\r--a\n--a--",
         b"- multipart/mixed(1 text/plain;us-ascii[x\r--a])",
     ),
-    // white space behind the boundary, a CR among it
+    // white space after the boundary, a CR among it
     (
         b"Content-Type: multipart/mixed; boundary=a\n\n--a \t\r\r\n\nx\n--a-- \t\r\r\nz",
         b"- multipart/mixed(1 text/plain;us-ascii[x])",
@@ -80,7 +81,7 @@ const MULTIPARTS: [(&[u8], &[u8]); 18] = [
         b"Content-Type: multipart/mixed; boundary=a\n\n--a\n\nx\n--a b\n--a --\n--a---\n--ab\n--A\n--a--",
         b"- multipart/mixed(1 text/plain;us-ascii[x\n--a b\n--a --\n--a---\n--ab\n--A])",
     ),
-    // what stands before the first delimiter line and behind the closing one
+    // what stands before the first delimiter line and after the closing one
     (
         b"Content-Type: multipart/mixed; boundary=a\n\nbefore\n\n--a\n\nx\n--a--\nbehind\n--a\n\ny\n--a--\n",
         b"- multipart/mixed(1 text/plain;us-ascii[x])",
@@ -176,7 +177,7 @@ const NESTED: [(&[u8], &[u8]); 8] = [
         b"Content-Type: multipart/mixed; boundary=a\n\n--a\nContent-Type: multipart/mixed; boundary=a\n\n--a\n\nx\n--a--\n--a--\n",
         b"- multipart/mixed(1 text/plain;us-ascii[]2 text/plain;us-ascii[x])",
     ),
-    // numbers go on behind the inner multipart, also one with no parts
+    // numbers go on after the inner multipart, also one with no parts
     (
         b"Content-Type: multipart/mixed; boundary=a\n\n--a\n\nw\n--a\nContent-Type: multipart/related; boundary=b\n\n--b--\n--a\nContent-Type: multipart/alternative; boundary=c\n\n--c\n\nx\n--c\n\ny\n--c--\n--a\n\nz\n--a--\n",
         b"- multipart/mixed(1 text/plain;us-ascii[w]- multipart/related()- multipart/alternative(2 text/plain;us-ascii[x]3 text/plain;us-ascii[y])4 text/plain;us-ascii[z])",
@@ -204,7 +205,7 @@ fn push_pair(text: &mut Vec<u8>, level: u8) -> Result<(), AllocError> {
     Ok(())
 }
 
-/// A multipart in each of so many others, each with a boundary of its own.
+/// A multipart in each of n others, each with a boundary of its own.
 fn nested(alloc: Global, levels: u8) -> Result<Vec<u8>, AllocError> {
     let mut text = Vec::new(alloc);
     for level in 0..levels {
@@ -218,7 +219,7 @@ fn nested(alloc: Global, levels: u8) -> Result<Vec<u8>, AllocError> {
     Ok(text)
 }
 
-/// The part under so many others, each the first in the one above.
+/// The part under n others, each the first in the one above.
 fn part_below(part: &Part, levels: u8) -> &Part {
     let mut below = part;
     for _ in 0..levels {

@@ -1,1 +1,2 @@
 pub mod OneHeader
+pub mod MadeHeader

@@ -1,38 +1,63 @@
 -- Fields are one header of a part.
-use Rattle.std.proofs.Common.{◌≡◌, ℕ, false, List, [], sym, ap, ◌∙◌, subst, Option, Some, None, unwrap_or, slice_get}
+use Rattle.std.proofs.Common.{◌≡◌, ℕ, false, List, [], ◌∷◌, ◌++◌, sym, ap, ◌∙◌, subst, Option, Some, None}
 use Rattle.std.specs.Prelude.{codes}
+use Rattle.std.specs.List.{filter}
+use Rattle.std.specs.Option.{option_map}
+use Rattle.std.proofs.lemmas.List.{append_cancel_right}
 use Rattle.header_words.proofs.WordLemmas.{one_text}
 use Rattle.mail_header.specs.declared.token.Alphabet.TheVariants as alphabet
 use Rattle.mail_header.specs.Fields.{NameAndRaw, last_named}
+use Rattle.mail_header.specs.Lines.{unfolded}
+use Rattle.mail_header.specs.Names.{spelling, some_text}
 use Rattle.mail_header.specs.RawForms.{raw_form}
 use Rattle.mail_header.specs.Tokens.{Spelled}
-use Rattle.mail_header.proofs.BracketLemmas.{one_names}
-use Rattle.mail_header.proofs.LeadingLemmas.{one_leading_lexemes}
+use Rattle.mail_header.proofs.LeadingLemmas.{one_leading, one_rest, one_leading_lexemes}
 use Rattle.mime_fields.specs.declared.header.PartHeader.{PartHeader}
+use Rattle.mime_fields.specs.ContentIds.{is_visible, IsWithoutGaps, IsWithoutAngles, InAngles, Bare}
 use Rattle.mime_fields.specs.ContentTypes.{media_in, behind_media}
 use Rattle.mime_fields.specs.Dispositions.{token_in, IsName}
 use Rattle.mime_fields.specs.Parameters.{parameter}
-use Rattle.mime_fields.specs.PartHeaders.{HasLexemes, extended_name, written_name, IsTextOf, IsFirstId, IsPartHeader}
+use Rattle.mime_fields.specs.PartHeaders.{octets_of, HasLexemes, extended_name, written_name, IsTextOf, trimmed, IsTrimmedTextOf, IsIdOf, mechanism, IsPartHeader}
 
 one_lexemes : (f : List NameAndRaw) (name : List ℕ) (x y : List Spelled) → HasLexemes f name x → HasLexemes f name y → x ≡ y
-one_lexemes f name x y g h = one_leading_lexemes alphabet.Mime x y (raw_form (unwrap_or (last_named name f) [])) g h
+one_lexemes f name x y g h = one_leading_lexemes alphabet.Mime x y (octets_of f name) g h
 
 one_name : (extended written x y : Option (List ℕ)) → IsName extended written x → IsName extended written y → x ≡ y
 one_name (Some e) w x y g h = g ∙ sym h
 one_name None None x y g h = g ∙ sym h
-one_name None (Some w) x y g h = g.2 ∙ ap (λ (u : List ℕ). Some u) (one_text false w g.0 h.0 g.1 h.1) ∙ sym h.2
+one_name None (Some w) x y g h = g.2 ∙ ap (λ (u : List ℕ). Some u) (one_text false (raw_form w) g.0 h.0 g.1 h.1) ∙ sym h.2
 
 one_text_form : (raw x y : Option (List ℕ)) → IsTextOf raw x → IsTextOf raw y → x ≡ y
 one_text_form None x y g h = g ∙ sym h
 one_text_form (Some r) x y g h = g.2 ∙ ap (λ (u : List ℕ). Some u) (one_text false _ g.0 h.0 g.1 h.1) ∙ sym h.2
 
-one_id : (raw x y : Option (List ℕ)) → IsFirstId raw x → IsFirstId raw y → x ≡ y
-one_id None x y g h = g ∙ sym h
-one_id (Some r) x y g h = g.2 ∙ ap (λ (ids : List (List ℕ)). slice_get ids 0) (one_names g.0 h.0 (raw_form r) g.1 h.1) ∙ sym h.2
+one_trimmed : (raw x y : Option (List ℕ)) → IsTrimmedTextOf raw x → IsTrimmedTextOf raw y → x ≡ y
+one_trimmed None x y g h = g ∙ sym h
+one_trimmed (Some r) x y g h = g.2 ∙ ap (λ (u : List ℕ). Some (trimmed u)) (one_text false _ g.0 h.0 g.1 h.1) ∙ sym h.2
 
-record_same : (m b c d n i l p : Option (List ℕ)) (e : List ℕ) (m' b' c' d' n' i' l' p' : Option (List ℕ)) (e' : List ℕ)
+one_inner : (x y t u : List ℕ) → t ≡ u → IsWithoutAngles x t → IsWithoutAngles y u → x ≡ y
+one_inner _ _ _ _ e (InAngles x) (InAngles y) = let p : x ++ 62 ∷ [] ≡ y ++ 62 ∷ [] = cc in append_cancel_right x y (62 ∷ []) p
+one_inner _ _ _ _ e (InAngles x) (Bare u n) = absurd (n x (sym e))
+one_inner _ _ _ _ e (Bare t n) (InAngles y) = absurd (n y e)
+one_inner _ _ _ _ e (Bare t n) (Bare u m) = e
+
+one_kept : (x y t : List ℕ) → IsWithoutGaps x t → IsWithoutGaps y t → x ≡ y
+one_kept x y t g h =
+    let e = one_leading alphabet.Mail g.tokens h.tokens g.rest h.rest t g.are h.are in
+    let r = one_rest alphabet.Mail g.tokens h.tokens g.rest h.rest t g.are h.are in
+    g.kept_is ∙ ap (λ (u : List Spelled). unfolded (spelling u ++ filter is_visible g.rest)) e ∙ ap (λ (u : List ℕ). unfolded (spelling h.tokens ++ filter is_visible u)) r
+    ∙ sym h.kept_is
+
+one_id : (raw x y : Option (List ℕ)) → IsIdOf raw x → IsIdOf raw y → x ≡ y
+one_id None x y g h = g ∙ sym h
+one_id (Some r) x y g h =
+    let k = one_kept g.kept h.kept (raw_form r) g.without_gaps h.without_gaps in
+    g.id_is ∙ ap some_text (one_inner g.inner h.inner g.kept h.kept k g.without_angles h.without_angles) ∙ sym h.id_is
+
+record_same : (m b c d n i l p e m' b' c' d' n' i' l' p' e' : Option (List ℕ))
     → m ≡ m' → b ≡ b' → c ≡ c' → d ≡ d' → n ≡ n' → i ≡ i' → l ≡ l' → p ≡ p' → e ≡ e'
-    → ◌≡◌ {A = PartHeader} (record { media = m; boundary = b; charset = c; disposition = d; name = n; cid = i; language = l; location = p; encoding = e }) (record { media = m'; boundary = b'; charset = c'; disposition = d'; name = n'; cid = i'; language = l'; location = p'; encoding = e' })
+    → ◌≡◌ {A = PartHeader} (record { media = m; boundary = b; charset = c; disposition = d; name = n; cid = i; language = l; location = p; encoding = e })
+    (record { media = m'; boundary = b'; charset = c'; disposition = d'; name = n'; cid = i'; language = l'; location = p'; encoding = e' })
 record_same m b c d n i l p e m' b' c' d' n' i' l' p' e' q1 q2 q3 q4 q5 q6 q7 q8 q9 = cc
 
 pub one_part_header : (f : List NameAndRaw) (g h : PartHeader) → IsPartHeader f g → IsPartHeader f h → g ≡ h
@@ -45,10 +70,10 @@ one_part_header f g h i j =
     record_same _ _ _ _ _ _ _ _ _ _ _ _ _ _ _ _ _ _
     (i.media ∙ ap media_in t ∙ sym j.media)
     (i.boundary ∙ ap (λ u. parameter (codes "boundary") (behind_media u)) t ∙ sym j.boundary)
-    (i.charset ∙ ap (λ u. parameter (codes "charset") (behind_media u)) t ∙ sym j.charset)
+    (i.charset ∙ ap (λ u. option_map raw_form (parameter (codes "charset") (behind_media u))) t ∙ sym j.charset)
     (i.disposition ∙ ap token_in d ∙ sym j.disposition)
     (one_name _ _ g.name h.name m j.name)
     (one_id _ g.cid h.cid i.cid j.cid)
     (one_text_form _ g.language h.language i.language j.language)
-    (one_text_form _ g.location h.location i.location j.location)
-    (i.encoding ∙ ap (λ u. unwrap_or (token_in u) (codes "7bit")) e ∙ sym j.encoding)
+    (one_trimmed _ g.location h.location i.location j.location)
+    (i.encoding ∙ ap (mechanism (last_named (codes "content-transfer-encoding") f)) e ∙ sym j.encoding)

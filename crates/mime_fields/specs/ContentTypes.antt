@@ -1,9 +1,11 @@
 -- Content-Type (RFC 2045 section 5.1), over the lexemes of its value.
 use Rattle.std.specs.Prelude.{◌≡◌, ℕ, Bool, ◌&&◌, if◌then◌else◌, List, [], ◌∷◌, ◌++◌, map, Option, Some, None, codes}
 use Rattle.std.specs.Char.{to_ascii_lowercase}
+use Rattle.std.specs.Option.{option_map}
+use Rattle.mail_header.specs.RawForms.{raw_form}
 use Rattle.mail_header.specs.Tokens.{Spelled}
-use Rattle.mail_header.specs.Mailboxes.{has_mark, is_atom}
-use Rattle.mime_fields.specs.Parameters.{parameter}
+use Rattle.mail_header.specs.Mailboxes.{has_mark}
+use Rattle.mime_fields.specs.Parameters.{is_token, parameter}
 use Rattle.mime_fields.specs.declared.content_type.ContentType.{ContentType}
 
 -- A to Z as a to z
@@ -12,7 +14,7 @@ lower t = map to_ascii_lowercase t
 
 -- type "/" subtype
 abbrev pub is_media : Spelled → Spelled → Spelled → Bool
-is_media type slash subtype = is_atom type && has_mark 47 slash && is_atom subtype
+is_media type slash subtype = is_token type && has_mark 47 slash && is_token subtype
 
 -- the media type at the front
 abbrev pub media_in : List Spelled → Option (List ℕ)
@@ -28,8 +30,9 @@ behind_media (t ∷ []) = []
 behind_media (t ∷ m ∷ []) = []
 behind_media (t ∷ m ∷ s ∷ ls) = if is_media t m s then ls else []
 
+-- The boundary is the octets that delimiter lines have, the charset a text.
 pub record IsContentType (lexemes : List Spelled) (content : ContentType) : Type 0 where
   pub media : content.media ≡ media_in lexemes
   pub boundary : content.boundary ≡ parameter (codes "boundary") (behind_media lexemes)
-  pub charset : content.charset ≡ parameter (codes "charset") (behind_media lexemes)
+  pub charset : content.charset ≡ option_map raw_form (parameter (codes "charset") (behind_media lexemes))
   pub name : content.name ≡ parameter (codes "name") (behind_media lexemes)

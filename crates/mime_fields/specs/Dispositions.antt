@@ -2,22 +2,22 @@
 use Rattle.std.specs.Prelude.{◌≡◌, ℕ, false, if◌then◌else◌, List, [], ◌∷◌, Option, Some, None, codes}
 use Rattle.std.specs.Option.{option_and_then}
 use Rattle.header_words.specs.EncodedWords.{IsText}
+use Rattle.mail_header.specs.RawForms.{raw_form}
 use Rattle.mail_header.specs.Tokens.{Spelled}
-use Rattle.mail_header.specs.Mailboxes.{is_atom}
 use Rattle.mime_fields.specs.ContentTypes.{lower}
 use Rattle.mime_fields.specs.ExtendedValues.{extended_text}
-use Rattle.mime_fields.specs.Parameters.{parameter}
+use Rattle.mime_fields.specs.Parameters.{is_token, parameter}
 use Rattle.mime_fields.specs.declared.disposition.Disposition.{Disposition}
 
 -- the token at the front, in lower case
 abbrev pub token_in : List Spelled → Option (List ℕ)
 token_in [] = None
-token_in (s ∷ ls) = if is_atom s then Some (lower s.text) else None
+token_in (s ∷ ls) = if is_token s then Some (lower s.text) else None
 
 -- what follows it
 abbrev pub behind_token : List Spelled → List Spelled
 behind_token [] = []
-behind_token (s ∷ ls) = if is_atom s then ls else []
+behind_token (s ∷ ls) = if is_token s then ls else []
 
 pub record IsDisposition (lexemes : List Spelled) (d : Disposition) : Type 0 where
   pub kind : d.kind ≡ token_in lexemes
@@ -26,8 +26,8 @@ pub record IsDisposition (lexemes : List Spelled) (d : Disposition) : Type 0 whe
 
 -- ---- names
 
--- the name in an extended value, else the one as it is written, in which encoded words are decoded
+-- the name in an extended value, else the one as it is written, as a text in which encoded words are decoded
 abbrev pub IsName : Option (List ℕ) → Option (List ℕ) → Option (List ℕ) → Type 0
 IsName (Some extended) written name = name ≡ Some extended
 IsName None None name = name ≡ None
-IsName None (Some written) name = (text : List ℕ) × IsText false written text × (name ≡ Some text)
+IsName None (Some written) name = (text : List ℕ) × IsText false (raw_form written) text × (name ≡ Some text)

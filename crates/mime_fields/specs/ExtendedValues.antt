@@ -1,5 +1,5 @@
 -- Extended values of parameters (RFC 8187 section 3.2): a charset, an apostrophe, a language, an apostrophe, and
--- octets with percent escapes.
+-- octets with percent escapes. The value is octets as the field has them.
 use Rattle.std.specs.Prelude.{ℕ, Bool, not, ◌==◌, List, [], ◌∷◌, Option, Some, None}
 use Rattle.std.specs.Option.{option_map, option_and_then}
 use Rattle.text_words.specs.Cuts.{front, back}
@@ -17,7 +17,7 @@ behind_first (c ∷ t) = Some t
 abbrev pub behind_apostrophe : List ℕ → Option (List ℕ)
 behind_apostrophe t = behind_first (back is_no_apostrophe t)
 
--- the text of the octets behind the second apostrophe, in the charset before the first
+-- the text of the octets after the second apostrophe, in the charset before the first
 abbrev pub extended_text : List ℕ → Option (List ℕ)
 extended_text t =
     option_map (λ (escaped : List ℕ). text_in (charset_of (front is_no_apostrophe t)) (percent_decode escaped))

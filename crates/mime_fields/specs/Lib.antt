@@ -2,4 +2,6 @@ pub mod Parameters
 pub mod ContentTypes
 pub mod ExtendedValues
 pub mod Dispositions
+pub mod ContentIds
 pub mod PartHeaders
+pub mod reading

@@ -1,16 +1,17 @@
-ghost use Rattle.std.specs.Prelude.{◌≡◌, ◌++◌, ◌∷◌, List, None, IfOk, codes};
-ghost use Rattle.mail_header.specs.Fields.{fields_view};
-ghost use Rattle.mail_header.specs.Tokens.{Spelled};
-ghost use Rattle.mail_header.specs.TokenView.{token_view, tokens_view};
+// Content-Type.
+ghost use Rattle.std.specs.Prelude.{◌≡◌, [], ◌++◌, ◌∷◌, None, Some, IfOk, MatchOption, codes};
+ghost use Rattle.std.specs.Option.{option_map};
+ghost use Rattle.mail_header.specs.RawForms.{raw_form};
+ghost use Rattle.mail_header.specs.TokenView.{token_view};
 ghost use Rattle.mime_fields.specs.ContentTypes as types;
-ghost use Rattle.mime_fields.specs.PartHeaders.{HasLexemes};
+ghost use Rattle.mime_fields.specs.Parameters as parameters;
+ghost use Rattle.mime_fields.specs.reading.MimeLexemes.{mime_lexemes};
 
-use crate::field_text::field_text;
-use crate::parameters::parameter;
+use crate::parameters::{is_token, parameter};
 use gate_world::Bytes;
-use mail_header::lexemes::leading_lexemes;
+use mail_header::lexemes::next_lexeme;
 use mail_header::token::{Alphabet, Token};
-use mail_header::{Fields, has_mark, is_atom};
+use mail_header::{as_raw, has_mark};
 use std::alloc::{AllocError, Global};
 
 /// What Content-Type says.
@@ -19,13 +20,14 @@ pub(crate) struct ContentType {
     pub media: Option<Bytes>,
     pub boundary: Option<Bytes>,
     pub charset: Option<Bytes>,
+    /// The octets of the parameter `name`.
     pub name: Option<Bytes>,
 }
 
 fn is_media(kind: &Token<'_>, slash: &Token<'_>, subtype: &Token<'_>) -> bool
     ensures { result ≡ types.is_media (token_view kind.now) (token_view slash.now) (token_view subtype.now) }
 {
-    is_atom(kind) && has_mark(b'/', slash) && is_atom(subtype)
+    is_token(kind) && has_mark(b'/', slash) && is_token(subtype)
 }
 
 /// A type and a subtype, in lower case.
@@ -39,24 +41,32 @@ fn media_text(alloc: Global, kind: &[u8], subtype: &[u8]) -> Result<Bytes, Alloc
     Ok(Bytes::from_vec(text)?)
 }
 
-/// What the lexemes of a Content-Type say.
-fn content_type_of(alloc: Global, lexemes: &[Token<'_>]) -> Result<ContentType, AllocError>
-    ensures { IfOk result (λ c. types.IsContentType (tokens_view lexemes.now) c) }
+/// A type and a subtype, and what follows them.
+#[derive(Clone, Copy)]
+struct MediaAt<'a> {
+    kind: &'a [u8],
+    subtype: &'a [u8],
+    rest: &'a [u8],
+}
+
+/// The type and the subtype at the front.
+fn media_at(text: &[u8]) -> Option<MediaAt<'_>>
+    ensures media { MatchOption result (types.media_in (mime_lexemes text.now) ≡ None)
+        (λ m. types.media_in (mime_lexemes text.now) ≡ Some (types.lower m.kind.now ++ 47 ∷ types.lower m.subtype.now)) }
+    ensures behind { MatchOption result (types.behind_media (mime_lexemes text.now) ≡ [])
+        (λ m. types.behind_media (mime_lexemes text.now) ≡ mime_lexemes m.rest.now) }
 {
-    match lexemes {
-        [] | [_] | [_, _] => Ok(unreadable()),
-        [kind, slash, subtype, rest @ ..] => {
-            if !is_media(kind, slash, subtype) {
-                return Ok(unreadable());
-            }
-            Ok(ContentType {
-                media: Some(media_text(alloc, kind.text, subtype.text)?),
-                boundary: parameter(alloc, b"boundary", rest)?,
-                charset: parameter(alloc, b"charset", rest)?,
-                name: parameter(alloc, b"name", rest)?,
-            })
-        }
+    let (kind, rest) = next_lexeme(Alphabet::Mime, text)?;
+    let (slash, rest) = next_lexeme(Alphabet::Mime, rest)?;
+    let (subtype, rest) = next_lexeme(Alphabet::Mime, rest)?;
+    if !is_media(&kind, &slash, &subtype) {
+        return None;
     }
+    Some(MediaAt {
+        kind: kind.text,
+        subtype: subtype.text,
+        rest,
+    })
 }
 
 fn unreadable() -> ContentType
@@ -73,11 +83,27 @@ fn unreadable() -> ContentType
     }
 }
 
-/// What the Content-Type of a header says.
-pub(crate) fn content_type(alloc: Global, fields: &Fields) -> Result<ContentType, AllocError>
-    ensures { IfOk result (λ c. (ls : List Spelled) × HasLexemes (fields_view fields.now.list) (codes "content-type") ls × types.IsContentType ls c) }
+/// The parameter `charset` as a text.
+fn charset_in(alloc: Global, text: &[u8]) -> Result<Option<Bytes>, AllocError>
+    ensures { IfOk result (λ c. c ≡ option_map raw_form (parameters.parameter (codes "charset") (mime_lexemes text.now))) }
 {
-    let text = field_text(alloc, fields, b"content-type")?;
-    let lexemes = leading_lexemes(alloc, Alphabet::Mime, text.as_slice())?;
-    content_type_of(alloc, lexemes.as_slice())
+    match parameter(alloc, b"charset", text)? {
+        None => Ok(None),
+        Some(charset) => Ok(Some(as_raw(alloc, charset.as_slice())?)),
+    }
+}
+
+/// What the octets of a Content-Type say.
+pub(crate) fn read_type(alloc: Global, text: &[u8]) -> Result<ContentType, AllocError>
+    ensures { IfOk result (λ c. types.IsContentType (mime_lexemes text.now) c) }
+{
+    match media_at(text) {
+        None => Ok(unreadable()),
+        Some(media) => Ok(ContentType {
+            media: Some(media_text(alloc, media.kind, media.subtype)?),
+            boundary: parameter(alloc, b"boundary", media.rest)?,
+            charset: charset_in(alloc, media.rest)?,
+            name: parameter(alloc, b"name", media.rest)?,
+        }),
+    }
 }

@@ -1,21 +1,19 @@
-ghost use Rattle.std.specs.Prelude.{◌≡◌, None, List, IfOk, codes};
-ghost use Rattle.mail_header.specs.Fields.{fields_view};
-ghost use Rattle.mail_header.specs.Tokens.{Spelled};
-ghost use Rattle.mail_header.specs.TokenView.{tokens_view};
+// Content-Disposition, and the names of parts.
+ghost use Rattle.std.specs.Prelude.{◌≡◌, None, Some, [], IfOk, MatchOption};
+ghost use Rattle.mime_fields.specs.ContentTypes.{lower};
 ghost use Rattle.mime_fields.specs.Dispositions as dispositions;
-ghost use Rattle.mime_fields.specs.PartHeaders.{HasLexemes};
+ghost use Rattle.mime_fields.specs.reading.MimeLexemes.{mime_lexemes};
 
 use crate::extended_value::extended;
-use crate::field_text::field_text;
-use crate::parameters::parameter;
+use crate::parameters::{is_token, parameter};
 use gate_world::Bytes;
 use header_words::decode_words;
-use mail_header::lexemes::leading_lexemes;
-use mail_header::token::{Alphabet, Token};
-use mail_header::{Fields, is_atom};
+use mail_header::as_raw;
+use mail_header::lexemes::next_lexeme;
+use mail_header::token::Alphabet;
 use std::alloc::{AllocError, Global};
 
-/// What Content-Disposition says: its kind, the name in an extended value, and the name as it is written.
+/// What Content-Disposition says: its kind, the name in an extended value, and the octets of the name as it is written.
 #[derive(Drop)]
 pub(crate) struct Disposition {
     pub kind: Option<Bytes>,
@@ -23,56 +21,56 @@ pub(crate) struct Disposition {
     pub file: Option<Bytes>,
 }
 
-/// The token at the front, in lower case.
-pub(crate) fn token_at(alloc: Global, lexemes: &[Token<'_>]) -> Result<Option<Bytes>, AllocError>
-    ensures { IfOk result (λ t. t ≡ dispositions.token_in (tokens_view lexemes.now)) }
+/// The token at the front, and what follows it.
+fn token_at(text: &[u8]) -> Option<(&[u8], &[u8])>
+    ensures token { MatchOption result (dispositions.token_in (mime_lexemes text.now) ≡ None) (λ r. dispositions.token_in (mime_lexemes text.now) ≡ Some (lower r.0.now)) }
+    ensures behind { MatchOption result (dispositions.behind_token (mime_lexemes text.now) ≡ []) (λ r. dispositions.behind_token (mime_lexemes text.now) ≡ mime_lexemes r.1.now) }
 {
-    match lexemes {
-        [] => Ok(None),
-        [first, _rest @ ..] => {
-            if !is_atom(first) {
-                return Ok(None);
-            }
-            Ok(Some(Bytes::from_vec(first.text.to_ascii_lowercase(alloc)?)?))
-        }
+    let (token, rest) = next_lexeme(Alphabet::Mime, text)?;
+    if is_token(&token) {
+        Some((token.text, rest))
+    } else {
+        None
     }
 }
 
-/// What follows the token at the front.
-fn behind_token<'a, 'b>(lexemes: &'b [Token<'a>]) -> &'b [Token<'a>]
-    ensures { tokens_view result.now ≡ dispositions.behind_token (tokens_view lexemes.now) }
+/// The token at the front in lower case.
+pub(crate) fn first_token(alloc: Global, text: &[u8]) -> Result<Option<Bytes>, AllocError>
+    ensures { IfOk result (λ t. t ≡ dispositions.token_in (mime_lexemes text.now)) }
 {
-    match lexemes {
-        [] => lexemes,
-        [first, rest @ ..] => { if is_atom(first) { rest } else { &[] } }
+    match token_at(text) {
+        None => Ok(None),
+        Some((token, _)) => Ok(Some(Bytes::from_vec(token.to_ascii_lowercase(alloc)?)?)),
     }
 }
 
-/// What the lexemes of a Content-Disposition say.
-fn disposition_of(alloc: Global, lexemes: &[Token<'_>]) -> Result<Disposition, AllocError>
-    ensures { IfOk result (λ d. dispositions.IsDisposition (tokens_view lexemes.now) d) }
+fn no_disposition() -> Disposition
+    ensures kind { result.kind ≡ None }
+    ensures extended { result.extended ≡ None }
+    ensures file { result.file ≡ None }
 {
-    let rest = behind_token(lexemes);
-    let kind = token_at(alloc, lexemes)?;
-    let extended = extended(alloc, parameter(alloc, b"filename*", rest)?)?;
-    let file = parameter(alloc, b"filename", rest)?;
-    Ok(Disposition {
-        kind,
-        extended,
-        file,
-    })
+    Disposition {
+        kind: None,
+        extended: None,
+        file: None,
+    }
 }
 
-/// What the Content-Disposition of a header says.
-pub(crate) fn content_disposition(alloc: Global, fields: &Fields) -> Result<Disposition, AllocError>
-    ensures { IfOk result (λ d. (ls : List Spelled) × HasLexemes (fields_view fields.now.list) (codes "content-disposition") ls × dispositions.IsDisposition ls d) }
+/// What the octets of a Content-Disposition say.
+pub(crate) fn read_disposition(alloc: Global, text: &[u8]) -> Result<Disposition, AllocError>
+    ensures { IfOk result (λ d. dispositions.IsDisposition (mime_lexemes text.now) d) }
 {
-    let text = field_text(alloc, fields, b"content-disposition")?;
-    let lexemes = leading_lexemes(alloc, Alphabet::Mime, text.as_slice())?;
-    disposition_of(alloc, lexemes.as_slice())
+    match token_at(text) {
+        None => Ok(no_disposition()),
+        Some((kind, rest)) => Ok(Disposition {
+            kind: Some(Bytes::from_vec(kind.to_ascii_lowercase(alloc)?)?),
+            extended: extended(alloc, parameter(alloc, b"filename*", rest)?)?,
+            file: parameter(alloc, b"filename", rest)?,
+        }),
+    }
 }
 
-/// The name in an extended value, else the one as it is written, with encoded words decoded.
+/// The name in an extended value, else the one as it is written, as a text with encoded words decoded.
 pub(crate) fn name_of(
     alloc: Global,
     extended: Option<Bytes>,
@@ -91,6 +89,9 @@ fn decoded(alloc: Global, written: Option<Bytes>) -> Result<Option<Bytes>, Alloc
 {
     match written {
         None => Ok(None),
-        Some(value) => Ok(Some(Bytes::from_vec(decode_words(alloc, value.as_slice())?)?)),
+        Some(value) => {
+            let text = as_raw(alloc, value.as_slice())?;
+            Ok(Some(Bytes::from_vec(decode_words(alloc, text.as_slice())?)?))
+        }
     }
 }

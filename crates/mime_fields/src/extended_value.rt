@@ -1,3 +1,4 @@
+// Extended values of parameters (RFC 8187).
 ghost use Rattle.std.specs.Prelude.{◌≡◌, None, Some, IfOk, MatchOption};
 ghost use Rattle.std.specs.Option.{option_and_then};
 ghost use Rattle.percent_encoding.specs.Percent as percent;

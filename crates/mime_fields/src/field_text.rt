@@ -1,14 +1,17 @@
-ghost use Rattle.std.specs.Prelude.{◌≡◌, [], unwrap_or, IfOk};
-ghost use Rattle.mail_header.specs.Fields.{fields_view, last_named};
-ghost use Rattle.mail_header.specs.RawForms.{raw_form};
+// The octets and texts of fields.
+ghost use Rattle.std.specs.Prelude.{◌≡◌, IfOk};
+ghost use Rattle.mail_header.specs.Fields.{names_and_raws, last_named};
+ghost use Rattle.mime_fields.specs.PartHeaders as headers;
 
 use gate_world::Bytes;
-use mail_header::{Fields, as_raw};
+use mail_header::names::without_white_end;
+use mail_header::{Fields, as_text};
 use std::alloc::{AllocError, Global};
+use text_words::{White, cut};
 
-/// The raw value of the last field of this name, empty where there is none.
-fn last_or_empty<'a>(fields: &'a Fields, name: &[u8]) -> &'a [u8]
-    ensures { result.now ≡ unwrap_or (last_named name.now (fields_view fields.now.list)) [] }
+/// The octets of the last field of this name, none where there is no such field.
+pub(crate) fn octets_of<'a>(fields: &Fields<'a>, name: &[u8]) -> &'a [u8]
+    ensures { result.now ≡ headers.octets_of (names_and_raws fields.now) name.now }
 {
     match fields.last(name) {
         None => &[],
@@ -16,9 +19,41 @@ fn last_or_empty<'a>(fields: &'a Fields, name: &[u8]) -> &'a [u8]
     }
 }
 
-/// The octets of which the lexemes of that field are read.
-pub(crate) fn field_text(alloc: Global, fields: &Fields, name: &[u8]) -> Result<Bytes, AllocError>
-    ensures { IfOk result (λ b. b ≡ raw_form (unwrap_or (last_named name.now (fields_view fields.now.list)) [])) }
+/// The last field of this name as a text.
+pub(crate) fn text_of(
+    alloc: Global,
+    fields: &Fields<'_>,
+    name: &[u8],
+) -> Result<Option<Bytes>, AllocError>
+    ensures { IfOk result (λ t. headers.IsTextOf (last_named name.now (names_and_raws fields.now)) t) }
 {
-    as_raw(alloc, last_or_empty(fields, name))
+    match fields.last(name) {
+        None => Ok(None),
+        Some(raw) => Ok(Some(as_text(alloc, raw)?)),
+    }
+}
+
+/// The last field of this name as a text without white space at its ends.
+pub(crate) fn trimmed_text_of(
+    alloc: Global,
+    fields: &Fields<'_>,
+    name: &[u8],
+) -> Result<Option<Bytes>, AllocError>
+    ensures { IfOk result (λ t. headers.IsTrimmedTextOf (last_named name.now (names_and_raws fields.now)) t) }
+{
+    match fields.last(name) {
+        None => Ok(None),
+        Some(raw) => {
+            let text = as_text(alloc, raw)?;
+            Ok(Some(Bytes::copy_of(alloc, trimmed(text.as_slice()))?))
+        }
+    }
+}
+
+/// The text without white space at its ends.
+fn trimmed(text: &[u8]) -> &[u8]
+    ensures { result.now ≡ headers.trimmed text.now }
+{
+    let (_, text) = cut(&White, text);
+    without_white_end(text)
 }

@@ -1,16 +1,16 @@
-ghost use Rattle.std.specs.Prelude.{◌≡◌, List, Some, IfOk, unwrap_or, slice_get, codes};
-ghost use Rattle.mail_header.specs.Fields.{fields_view, last_named};
-ghost use Rattle.mail_header.specs.Tokens.{Spelled};
+// What the header of a body part says.
+ghost use Rattle.std.specs.Prelude.{◌≡◌, [], unwrap_or, IfOk, codes};
+ghost use Rattle.mail_header.specs.Fields.{names_and_raws, last_named};
 ghost use Rattle.mime_fields.specs.Dispositions.{token_in};
 ghost use Rattle.mime_fields.specs.PartHeaders as headers;
+ghost use Rattle.mime_fields.specs.reading.MimeLexemes.{mime_lexemes};
 
-use crate::content_type::content_type;
-use crate::disposition::{content_disposition, name_of, token_at};
-use crate::field_text::field_text;
-use gate_world::{Bytes, Names};
-use mail_header::lexemes::leading_lexemes;
-use mail_header::token::Alphabet;
-use mail_header::{Fields, as_message_ids, as_text};
+use crate::content_id::content_id;
+use crate::content_type::read_type;
+use crate::disposition::{first_token, name_of, read_disposition};
+use crate::field_text::{octets_of, text_of, trimmed_text_of};
+use gate_world::Bytes;
+use mail_header::Fields;
 use std::alloc::{AllocError, Global};
 
 /// What the header of a body part says.
@@ -18,7 +18,7 @@ use std::alloc::{AllocError, Global};
 pub struct PartHeader {
     /// The media type as `type/subtype`, in lower case, where there is one that can be read.
     pub media: Option<Bytes>,
-    /// The parameter `boundary` of Content-Type.
+    /// The octets of the parameter `boundary` of Content-Type.
     pub boundary: Option<Bytes>,
     /// The parameter `charset` of Content-Type.
     pub charset: Option<Bytes>,
@@ -26,81 +26,55 @@ pub struct PartHeader {
     pub disposition: Option<Bytes>,
     /// The name of the part's file.
     pub name: Option<Bytes>,
-    /// The message id in Content-ID, without its angle brackets.
+    /// Content-ID without comments and white space, and without one pair of angle brackets.
     pub cid: Option<Bytes>,
     /// Content-Language as a text.
     pub language: Option<Bytes>,
-    /// Content-Location as a text.
+    /// Content-Location as a text without white space at its ends.
     pub location: Option<Bytes>,
-    /// The mechanism of Content-Transfer-Encoding, in lower case, `7bit` where there is none.
-    pub encoding: Bytes,
+    /// The mechanism of Content-Transfer-Encoding, in lower case, where there is the field; the empty text, which names no
+    /// encoding, where it has no token. A part without the field is in `7bit`.
+    pub encoding: Option<Bytes>,
 }
 
-/// The first of some names.
-fn first_name(alloc: Global, names: &Names) -> Result<Option<Bytes>, AllocError>
-    ensures { IfOk result (λ n. n ≡ slice_get names.now 0) }
-{
-    match names.at(0) {
-        None => Ok(None),
-        Some(name) => Ok(Some(Bytes::copy_of(alloc, name)?)),
-    }
-}
-
-/// The first message id of a value.
-fn first_id_of(alloc: Global, raw: &[u8]) -> Result<Option<Bytes>, AllocError>
-    ensures { IfOk result (λ id. headers.IsFirstId (Some raw.now) id) }
-{
-    match as_message_ids(alloc, raw)? {
-        None => Ok(None),
-        Some(ids) => first_name(alloc, &ids),
-    }
-}
-
-/// The first message id of Content-ID.
-fn content_id(alloc: Global, fields: &Fields) -> Result<Option<Bytes>, AllocError>
-    ensures { IfOk result (λ id. headers.IsFirstId (last_named (codes "content-id") (fields_view fields.now.list)) id) }
+/// The id of Content-ID.
+fn id_of(alloc: Global, fields: &Fields<'_>) -> Result<Option<Bytes>, AllocError>
+    ensures { IfOk result (λ id. headers.IsIdOf (last_named (codes "content-id") (names_and_raws fields.now)) id) }
 {
     match fields.last(b"content-id") {
         None => Ok(None),
-        Some(raw) => first_id_of(alloc, raw),
+        Some(raw) => content_id(alloc, raw),
     }
 }
 
-/// The last field of this name as a text.
-fn text_named(alloc: Global, fields: &Fields, name: &[u8]) -> Result<Option<Bytes>, AllocError>
-    ensures { IfOk result (λ t. headers.IsTextOf (last_named name.now (fields_view fields.now.list)) t) }
+/// The mechanism of Content-Transfer-Encoding, where there is the field.
+fn transfer_encoding(alloc: Global, fields: &Fields<'_>) -> Result<Option<Bytes>, AllocError>
+    ensures { IfOk result (λ e. e ≡ headers.mechanism (last_named (codes "content-transfer-encoding") (names_and_raws fields.now)) (mime_lexemes (headers.octets_of (names_and_raws fields.now) (codes "content-transfer-encoding")))) }
 {
-    match fields.last(name) {
+    match fields.last(b"content-transfer-encoding") {
         None => Ok(None),
-        Some(raw) => Ok(Some(as_text(alloc, raw)?)),
+        Some(raw) => Ok(Some(token_or_none(alloc, raw)?)),
     }
 }
 
-/// The mechanism of Content-Transfer-Encoding, or `7bit`.
-fn transfer_encoding(alloc: Global, fields: &Fields) -> Result<Bytes, AllocError>
-    ensures { IfOk result (λ e. (ls : List Spelled) × headers.HasLexemes (fields_view fields.now.list) (codes "content-transfer-encoding") ls × (e ≡ unwrap_or (token_in ls) (codes "7bit"))) }
+/// The token at the front in lower case, or the empty text.
+fn token_or_none(alloc: Global, text: &[u8]) -> Result<Bytes, AllocError>
+    ensures { IfOk result (λ t. t ≡ unwrap_or (token_in (mime_lexemes text.now)) []) }
 {
-    let text = field_text(alloc, fields, b"content-transfer-encoding")?;
-    let lexemes = leading_lexemes(alloc, Alphabet::Mime, text.as_slice())?;
-    encoding_of(alloc, token_at(alloc, lexemes.as_slice())?)
-}
-
-fn encoding_of(alloc: Global, mechanism: Option<Bytes>) -> Result<Bytes, AllocError>
-    ensures { IfOk result (λ e. e ≡ unwrap_or mechanism (codes "7bit")) }
-{
-    match mechanism {
-        None => Bytes::copy_of(alloc, b"7bit"),
-        Some(mechanism) => Ok(mechanism),
+    match first_token(alloc, text)? {
+        None => Bytes::copy_of(alloc, b""),
+        Some(token) => Ok(token),
     }
 }
 
 /// What the header of a body part says, where of several fields of a name the last counts (RFC 8621 section 4.1.4).
-/// What can't be read is passed over: a parameter that is none ends the parameters.
-pub fn part_header(alloc: Global, fields: &Fields) -> Result<PartHeader, AllocError>
-    ensures { IfOk result (λ h. headers.IsPartHeader (fields_view fields.now.list) h) }
+/// What can't be read is passed over: a parameter that is none ends the parameters. A field that is missing takes no
+/// memory.
+pub fn part_header(alloc: Global, fields: &Fields<'_>) -> Result<PartHeader, AllocError>
+    ensures { IfOk result (λ h. headers.IsPartHeader (names_and_raws fields.now) h) }
 {
-    let content = content_type(alloc, fields)?;
-    let disposition = content_disposition(alloc, fields)?;
+    let content = read_type(alloc, octets_of(fields, b"content-type"))?;
+    let disposition = read_disposition(alloc, octets_of(fields, b"content-disposition"))?;
     let name = name_of(
         alloc,
         disposition.extended,
@@ -112,9 +86,9 @@ pub fn part_header(alloc: Global, fields: &Fields) -> Result<PartHeader, AllocEr
         charset: content.charset,
         disposition: disposition.kind,
         name,
-        cid: content_id(alloc, fields)?,
-        language: text_named(alloc, fields, b"content-language")?,
-        location: text_named(alloc, fields, b"content-location")?,
+        cid: id_of(alloc, fields)?,
+        language: text_of(alloc, fields, b"content-language")?,
+        location: trimmed_text_of(alloc, fields, b"content-location")?,
         encoding: transfer_encoding(alloc, fields)?,
     })
 }

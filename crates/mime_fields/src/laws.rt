@@ -1,3 +1,4 @@
+// The law of part headers.
 ghost use Rattle.std.specs.Prelude.{◌≡◌, List};
 ghost use Rattle.mail_header.specs.Fields.{NameAndRaw};
 ghost use Rattle.mime_fields.specs.declared.header.PartHeader.{PartHeader};

@@ -1,6 +1,7 @@
 //! What the header of a body part says: its media type, its name, its ids and its encoding (RFC 2045, RFC 2183).
 #![tactic(auto)]
 
+mod content_id;
 mod content_type;
 mod disposition;
 mod extended_value;

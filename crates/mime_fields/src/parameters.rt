@@ -1,13 +1,35 @@
-ghost use Rattle.std.specs.Prelude.{◌≡◌, None, Some, IfOk, MatchOption};
-ghost use Rattle.mail_header.specs.TokenView.{token_view, tokens_view};
+// Tokens and parameters, read one after another.
+ghost use Rattle.std.specs.Prelude.{◌≡◌, ◌<◌, [], ◌∷◌, None, Some, length, IfOk, IfSome, MatchOption};
+ghost use Rattle.header_words.specs.Charsets.{is_ascii};
+ghost use Rattle.mail_header.specs.TokenView.{token_view};
 ghost use Rattle.mime_fields.specs.Parameters as parameters;
+ghost use Rattle.mime_fields.specs.reading.MimeLexemes.{mime_lexemes};
 
 use gate_world::Bytes;
+use mail_header::lexemes::next_lexeme;
 use mail_header::names::word_text;
-use mail_header::token::Token;
+use mail_header::token::{Alphabet, Token};
 use mail_header::{has_mark, is_atom, is_word};
 use std::alloc::{AllocError, Global};
-use text_words::same_text;
+use text_words::{Class, are_all, same_text};
+
+/// The octets of US-ASCII.
+struct Ascii;
+
+impl Class<u8> for Ascii {
+    ghost test = { is_ascii };
+
+    fn has(&self, item: &u8) -> bool {
+        *item < 128
+    }
+}
+
+/// A token: an atom in US-ASCII.
+pub(crate) fn is_token(lexeme: &Token<'_>) -> bool
+    ensures { result ≡ parameters.is_token (token_view lexeme.now) }
+{
+    is_atom(lexeme) && are_all(&Ascii, lexeme.text)
+}
 
 fn is_parameter(
     semicolon: &Token<'_>,
@@ -20,33 +42,58 @@ fn is_parameter(
     has_mark(b';', semicolon) && is_atom(attribute) && has_mark(b'=', equals) && is_word(value)
 }
 
-/// The value of the first parameter of this name.
-fn value_named<'a>(name: &[u8], lexemes: &[Token<'a>]) -> Option<Token<'a>>
-    ensures { MatchOption result (parameters.value_named name.now (tokens_view lexemes.now) ≡ None)
-        (λ t. parameters.value_named name.now (tokens_view lexemes.now) ≡ Some (token_view t)) }
+/// A parameter, and what follows it.
+#[derive(Clone, Copy)]
+struct ParameterAt<'a> {
+    attribute: &'a [u8],
+    value: Token<'a>,
+    rest: &'a [u8],
+}
+
+/// The parameter at the front.
+fn parameter_at(text: &[u8]) -> Option<ParameterAt<'_>>
+    ensures value { MatchOption result (parameters.parameters (mime_lexemes text.now) ≡ [])
+        (λ p. parameters.parameters (mime_lexemes text.now) ≡ record { name = p.attribute.now; value = token_view p.value } ∷ parameters.parameters (mime_lexemes p.rest.now)) }
+    ensures shorter { IfSome result (λ p. length p.rest.now < length text.now) }
 {
-    let mut rest = lexemes;
-    while let [semicolon, attribute, equals, value, more @ ..] = rest {
-        if !is_parameter(semicolon, attribute, equals, value) {
-            return None;
+    let (semicolon, rest) = next_lexeme(Alphabet::Mime, text)?;
+    let (attribute, rest) = next_lexeme(Alphabet::Mime, rest)?;
+    let (equals, rest) = next_lexeme(Alphabet::Mime, rest)?;
+    let (value, rest) = next_lexeme(Alphabet::Mime, rest)?;
+    if !is_parameter(&semicolon, &attribute, &equals, &value) {
+        return None;
+    }
+    Some(ParameterAt {
+        attribute: attribute.text,
+        value,
+        rest,
+    })
+}
+
+/// The value of the first parameter of this name.
+fn value_named<'a>(name: &[u8], text: &'a [u8]) -> Option<Token<'a>>
+    ensures { MatchOption result (parameters.value_named name.now (mime_lexemes text.now) ≡ None)
+        (λ t. parameters.value_named name.now (mime_lexemes text.now) ≡ Some (token_view t)) }
+{
+    let mut rest = text;
+    while let Some(parameter) = parameter_at(rest) {
+        if same_text(parameter.attribute, name) {
+            return Some(parameter.value);
         }
-        if same_text(attribute.text, name) {
-            return Some(*value);
-        }
-        rest = more;
+        rest = parameter.rest;
     }
     None
 }
 
-/// The value of the first parameter of this name, unquoted.
+/// The octets of the first parameter of this name, unquoted.
 pub(crate) fn parameter(
     alloc: Global,
     name: &[u8],
-    lexemes: &[Token<'_>],
+    text: &[u8],
 ) -> Result<Option<Bytes>, AllocError>
-    ensures { IfOk result (λ v. v ≡ parameters.parameter name.now (tokens_view lexemes.now)) }
+    ensures { IfOk result (λ v. v ≡ parameters.parameter name.now (mime_lexemes text.now)) }
 {
-    match value_named(name, lexemes) {
+    match value_named(name, text) {
         None => Ok(None),
         Some(value) => Ok(Some(Bytes::from_vec(word_text(alloc, &value)?)?)),
     }

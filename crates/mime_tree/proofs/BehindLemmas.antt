@@ -1,4 +1,4 @@
--- Parts lie behind one another.
+-- Parts lie after one another.
 use Rattle.std.proofs.Common.{◌≡◌, ℕ, suc, ◌+◌, ◌<◌, ◌≤◌, Bool, true, false, List, [], ◌∷◌, ◌++◌, length, cond, refl, ap, ◌∙◌, arith, eqb, Some}
 use Rattle.std.specs.Prelude.{slice_range}
 use Rattle.mime_tree.specs.declared.split.Piece.{Piece}
@@ -48,7 +48,8 @@ parts_behind b y [] at n t h le = omega arith
 parts_behind b y (p ∷ ps) at n t h le =
     let e = end_within b (at + length h.line) (at + length h.line + size h.part.inner) h.part.rest (omega arith) in
     let s = opens_some y h.line h.delimiter in
-    let total : size t ≡ length h.line + (size h.part.inner + size h.part.rest) = ap size h.whole ∙ ap (λ (u : List (List ℕ)). length h.line + size u) h.part.whole ∙ ap (λ (k : ℕ). length h.line + k) (size-append h.part.inner h.part.rest) in
+    let total : size t ≡ length h.line + (size h.part.inner + size h.part.rest) = ap size h.whole ∙ ap (λ (u : List (List ℕ)). length h.line + size u) h.part.whole
+    ∙ ap (λ (k : ℕ). length h.line + k) (size-append h.part.inner h.part.rest) in
     let start_is = h.part.start_is in
     let end_is = h.part.end_is in
     let tail = parts_behind b y ps (at + length h.line + size h.part.inner) n h.part.rest h.part.behind (omega arith) in
@@ -58,4 +59,5 @@ pub split_behind : (b y : List ℕ) (ps : List Piece) → IsSplit b y (Some ps) 
 split_behind b y [] h = omega arith
 split_behind b y (p ∷ ps) h =
     let total : size (lines b) ≡ size h.preamble + size h.rest = ap size h.whole ∙ size-append h.preamble h.rest in
-    behind_lower 0 (0 + size h.preamble) (p ∷ ps) (length b) (omega arith) (parts_behind b y (p ∷ ps) (0 + size h.preamble) (length b) h.rest h.follows (omega (arith, total, size-lines b)))
+    behind_lower 0 (0 + size h.preamble) (p ∷ ps) (length b) (omega arith)
+    (parts_behind b y (p ∷ ps) (0 + size h.preamble) (length b) h.rest h.follows (omega (arith, total, size-lines b)))

@@ -37,7 +37,8 @@ node_is h body qs p a i = inr (record { number = i.number; media = ap is_multipa
 abbrev AllEither : ℕ → List ℕ → Type 0
 AllEither more b = (s e : ℕ) (d : List ℕ) (f : ℕ) (p : Part) (n : ℕ) → IsTree more b s e d f p n → (q : Part) → IsUnder q p → IsEither q
 
-trees_either : (more : ℕ) (b : List ℕ) → AllEither more b → (base : ℕ) (d : List ℕ) (qs : List Piece) (f : ℕ) (cs : List Part) (n : ℕ) → AreTrees (IsTree more b) base d qs f cs n → (q : Part) → UnderOne q cs → IsEither q
+trees_either : (more : ℕ) (b : List ℕ) → AllEither more b → (base : ℕ) (d : List ℕ) (qs : List Piece) (f : ℕ) (cs : List Part) (n : ℕ) → AreTrees (IsTree more b) base d qs f cs n
+    → (q : Part) → UnderOne q cs → IsEither q
 trees_either more b all base d [] f [] n t q u = absurd (none_under q u)
 trees_either more b all base d [] f (c ∷ cs) n t q u = absurd t
 trees_either more b all base d (x ∷ qs) f [] n t q u = absurd t
@@ -50,7 +51,8 @@ trees_either more b all base d (x ∷ qs) f (c ∷ cs) n t q u = by (under_first
 leaf_either : (h : Head) (f : ℕ) (p : Part) (n : ℕ) → IsLeaf h f p n → (q : Part) → IsUnder q p → IsEither q
 leaf_either h f p n l q u = let P : Part → Type 0 = λ x. IsEither x in subst P (sym (under_leaf q p l.children u)) (leaf_is h f p n l)
 
-part_either : (more : ℕ) (b : List ℕ) → AllEither more b → (h : Head) (qs : Option (List Piece)) (f : ℕ) (p : Part) (n : ℕ) → ArePieces (boundary_of h) (slice_range b h.body h.end) qs → IsPartOf (IsTree more b) h qs f p n → (q : Part) → IsUnder q p → IsEither q
+part_either : (more : ℕ) (b : List ℕ) → AllEither more b → (h : Head) (qs : Option (List Piece)) (f : ℕ) (p : Part) (n : ℕ)
+    → ArePieces (boundary_of h) (slice_range b h.body h.end) qs → IsPartOf (IsTree more b) h qs f p n → (q : Part) → IsUnder q p → IsEither q
 part_either more b all h None f p n a k q u = leaf_either h f p n k q u
 part_either more b all h (Some qs) f p n a k q u = by (itself_or_below q p u)
   where

@@ -1,29 +1,42 @@
 -- Lines, octet by octet.
-use Rattle.std.proofs.Common.{◌≡◌, ◌≢◌, ℕ, suc, ◌+◌, ◌-◌, ◌<◌, ◌≤◌, Bool, true, false, List, [], ◌∷◌, length, take, drop, cond, refl, sym, ap, ◌∙◌, arith, eqb}
-use Rattle.std.specs.Prelude.{not}
+use Rattle.std.proofs.Common.{◌≡◌, ◌≢◌, ℕ, zero, suc, get_or, Some, ◌+◌, ◌<◌, ◌≤◌, Bool, true, false, List, [], ◌∷◌, length, take, drop, cond, refl, sym, ap, ◌∙◌, arith, eqb}
 use Rattle.std.proofs.lemmas.Bool.{eqb-true}
-use Rattle.std.proofs.lemmas.List.{drop-drop, length-append, length-drop, length-take-le}
-use Rattle.text_words.specs.Cuts.{front, back}
-use Rattle.text_words.proofs.CutLemmas.{front_back}
+use Rattle.std.proofs.lemmas.List.{drop-drop, length-drop, length-take-le}
+use Rattle.memchr.specs.Find.{Nowhere, Passes, is_byte, IsFirst}
 use Rattle.mail_header.specs.Lines.{without_end, is_line_end}
 use Rattle.mime_tree.specs.Delimiters.{onto, lines}
-use Rattle.mime_tree.specs.LineReading.{line_len, is_in_line}
+use Rattle.mime_tree.specs.reading.LineReading.{line_len}
 
--- the first line is a cut at the first LF, and the LF
-line_cut : (t : List ℕ) → line_len t ≡ length (front is_in_line t) + (length (back is_in_line t) - (length (back is_in_line t) - 1))
-unfolding line_len front back
-line_cut [] = omega arith
-line_cut (c ∷ t) = by (eqb c 10) (line_cut t)
+-- without a LF the line is the whole text
+len_whole : (t : List ℕ) → ((k : ℕ) → k < length t → get_or t k 0 ≢ 10) → line_len t ≡ length t
+unfolding line_len
+len_whole [] h = refl
+len_whole (c ∷ t) h = by (eqb c 10) refl (len_whole t (λ k lt. h (suc k) (omega arith)))
   where
-    by : (q : Bool) → line_len t ≡ length (front is_in_line t) + (length (back is_in_line t) - (length (back is_in_line t) - 1)) → cond q 1 (suc (line_len t)) ≡ length (cond (not q) (c ∷ front is_in_line t) []) + (length (cond (not q) (back is_in_line t) (c ∷ t)) - (length (cond (not q) (back is_in_line t) (c ∷ t)) - 1))
-    by true h = omega arith
-    by false h = omega (arith, h)
+    by : (q : Bool) → eqb c 10 ≡ q → line_len t ≡ length t → cond q 1 (suc (line_len t)) ≡ suc (length t)
+    by true e more = absurd (h 0 (omega arith) (eqb-true c 10 e))
+    by false e more = ap suc more
 
-pub len_open : (t : List ℕ) → length (back is_in_line t) ≡ 0 → line_len t ≡ length (front is_in_line t)
-len_open t e = omega (arith, line_cut t)
+-- the line goes up to the first LF
+len_first : (t : List ℕ) (n : ℕ) → n < length t → get_or t n 0 ≡ 10 → ((k : ℕ) → k < n → get_or t k 0 ≢ 10) → line_len t ≡ n + 1
+unfolding line_len
+len_first [] n lt e h = absurd (omega arith)
+len_first (c ∷ t) zero lt e h = by (eqb c 10) refl
+  where
+    by : (q : Bool) → eqb c 10 ≡ q → cond q 1 (suc (line_len t)) ≡ 1
+    by true f = refl
+    by false f = absurd (let g : eqb c 10 ≡ true = ap (λ (x : ℕ). eqb x 10) e in cc)
+len_first (c ∷ t) (suc n) lt e h = by (eqb c 10) refl (len_first t n (omega arith) e (λ k lt. h (suc k) (omega arith)))
+  where
+    by : (q : Bool) → eqb c 10 ≡ q → line_len t ≡ n + 1 → cond q 1 (suc (line_len t)) ≡ suc n + 1
+    by true f more = absurd (h 0 (omega arith) (eqb-true c 10 f))
+    by false f more = omega (arith, more)
 
-pub len_ended : (t : List ℕ) → length (back is_in_line t) ≢ 0 → line_len t ≡ length (front is_in_line t) + 1
-len_ended t e = omega (arith, line_cut t)
+pub len_none : (t : List ℕ) → Nowhere (Passes (is_byte 10) t) 0 (length t) → line_len t ≡ length t
+len_none t h = len_whole t (λ k lt e. h k (omega arith) lt (ap (λ (x : ℕ). is_byte 10 x) e))
+
+pub len_found : (t : List ℕ) (n : ℕ) → IsFirst (Passes (is_byte 10) t) 0 (length t) (Some n) → line_len t ≡ n + 1
+len_found t n h = len_first t n h.0.high (eqb-true (get_or t n 0) 10 h.1) (λ k lt e. h.0.before k (omega arith) lt (ap (λ (x : ℕ). is_byte 10 x) e))
 
 pub len_within : (t : List ℕ) → line_len t ≤ length t
 unfolding line_len
@@ -33,12 +46,6 @@ len_within (c ∷ t) = by (eqb c 10) (len_within t)
     by : (q : Bool) → line_len t ≤ length t → cond q 1 (suc (line_len t)) ≤ length (c ∷ t)
     by true h = omega arith
     by false h = omega arith
-
--- a cut loses nothing
-pub cut_total : (t : List ℕ) → length (front is_in_line t) + length (back is_in_line t) ≡ length t
-cut_total t = omega (arith, ap length (front_back is_in_line t), length-append (front is_in_line t) (back is_in_line t))
-
-pub ruleset line_counts = (len_open, len_ended, cut_total)
 
 -- a text loses no more than it has
 pub without_end_within : (t : List ℕ) → length (without_end t) ≤ length t
@@ -57,7 +64,8 @@ by_end : (c : ℕ) (t : List ℕ) → onto c (lines t) ≡ (c ∷ take (line_len
 unfolding lines line_len
 by_end c t h = by (eqb c 10) refl
   where
-    by : (q : Bool) → eqb c 10 ≡ q → cond q ((10 ∷ []) ∷ lines t) (onto c (lines t)) ≡ take (cond q 1 (suc (line_len t))) (c ∷ t) ∷ lines (drop (cond q 1 (suc (line_len t))) (c ∷ t))
+    by : (q : Bool) → eqb c 10 ≡ q → cond q ((10 ∷ []) ∷ lines t) (onto c (lines t))
+        ≡ take (cond q 1 (suc (line_len t))) (c ∷ t) ∷ lines (drop (cond q 1 (suc (line_len t))) (c ∷ t))
     by true e = ap (λ (x : ℕ). (x ∷ []) ∷ lines t) (sym (eqb-true c 10 e))
     by false e = h
 
@@ -91,7 +99,8 @@ here b at rest line n lt r e l = by rest r e l
         let w : n ≤ length (c ∷ t) = omega (arith, len_within (c ∷ t)) in
         let d : drop n (c ∷ t) ≡ drop (at + n) b = ap (drop n) r ∙ drop-drop n at b in
         record {
-          first = ap lines (sym r) ∙ f ∙ ap (λ (m : ℕ). take m (c ∷ t) ∷ lines (drop m (c ∷ t))) (sym e) ∙ ap (λ (u : List ℕ). u ∷ lines (drop n (c ∷ t))) (sym l) ∙ ap (λ (u : List ℕ). line ∷ lines u) d;
+          first = ap lines (sym r) ∙ f ∙ ap (λ (m : ℕ). take m (c ∷ t) ∷ lines (drop m (c ∷ t))) (sym e) ∙ ap (λ (u : List ℕ). u ∷ lines (drop n (c ∷ t))) (sym l)
+              ∙ ap (λ (u : List ℕ). line ∷ lines u) d;
           counted = sym (length-take-le n (c ∷ t) w) ∙ ap length (sym l);
           some = omega (arith, len_some c t);
           within = omega (arith, ap length r, length-drop at b);

@@ -8,7 +8,7 @@ use Rattle.mime_tree.specs.declared.lists.BodyLists.{BodyLists}
 use Rattle.mime_tree.specs.Parts.{children}
 use Rattle.mime_tree.specs.Roles.{is_leaf, leaf_number, is_downloadable, is_inline}
 use Rattle.mime_tree.specs.BodyLists.{PartLists, nothing, both, at_leaf, lists_of, meeting, leaf_lists, into, next, spread, Walks, End, Multi, Leaf}
-use Rattle.mime_tree.specs.ListBuilding.{Gains, GainsBy, GainsBelow}
+use Rattle.mime_tree.specs.reading.ListBuilding.{Gains, GainsBy, GainsBelow}
 
 map_both : (a b : List Part) → map leaf_number (a ++ b) ≡ map leaf_number a ++ map leaf_number b
 map_both [] b = refl
@@ -31,7 +31,8 @@ grows : (old mid new : List ℕ) (a b : List Part) → mid ≡ old ++ map leaf_n
 grows old mid new a b first second =
     second ∙ ap (λ (l : List ℕ). l ++ map leaf_number b) first ∙ append_assoc old (map leaf_number a) (map leaf_number b) ∙ ap (λ (l : List ℕ). old ++ l) (sym (map_both a b))
 
-attaches : (old mid new : Bool) (a b : List Part) → mid ≡ (old || list_any is_downloadable a) → new ≡ (mid || list_any is_downloadable b) → new ≡ (old || list_any is_downloadable (a ++ b))
+attaches : (old mid new : Bool) (a b : List Part) → mid ≡ (old || list_any is_downloadable a) → new ≡ (mid || list_any is_downloadable b)
+    → new ≡ (old || list_any is_downloadable (a ++ b))
 attaches old mid new a b first second =
     second ∙ ap (λ (t : Bool). t || list_any is_downloadable b) first
     ∙ sym (or_assoc old (list_any is_downloadable a) (list_any is_downloadable b)) ∙ ap (λ (t : Bool). old || t) (sym (any_both a b))
@@ -54,14 +55,15 @@ gains_nothing old =
       has_attachment = or_false old.has_attachment;
     }
 
--- what is walked behind these parts makes the whole walk
+-- what is walked after these parts makes the whole walk
 pub record SoFar (whole walk : Walk) (all left : List Part) (old now : BodyLists) : Type 0 where
   pub forth : (new : BodyLists) → GainsBy walk left now new → GainsBy whole all old new
 
 pub so_far_begun : (walk : Walk) (all : List Part) (old : BodyLists) → SoFar walk walk all all old old
 so_far_begun walk all old = record { forth = λ new w. w }
 
-pub so_far_multi : {whole walk : Walk} {all left : List Part} {old now : BodyLists} (p : Part) (ps : List Part) (mid : BodyLists) → left ≡ p ∷ ps → SoFar whole walk all left old now → is_leaf p ≡ false → GainsBelow walk p now mid → SoFar whole (next walk) all ps old mid
+pub so_far_multi : {whole walk : Walk} {all left : List Part} {old now : BodyLists} (p : Part) (ps : List Part) (mid : BodyLists) → left ≡ p ∷ ps
+    → SoFar whole walk all left old now → is_leaf p ≡ false → GainsBelow walk p now mid → SoFar whole (next walk) all ps old mid
 so_far_multi {walk = walk} {now = now} p ps mid is so_far no_leaf below =
     record {
       forth = λ new behind.
@@ -73,7 +75,8 @@ so_far_multi {walk = walk} {now = now} p ps mid is so_far no_leaf below =
           }));
     }
 
-pub so_far_leaf : {whole walk : Walk} {all left : List Part} {old now : BodyLists} (p : Part) (ps : List Part) (mid : BodyLists) → left ≡ p ∷ ps → SoFar whole walk all left old now → is_leaf p ≡ true → Gains now mid (leaf_lists walk p) → SoFar whole (next (meeting walk p)) all ps old mid
+pub so_far_leaf : {whole walk : Walk} {all left : List Part} {old now : BodyLists} (p : Part) (ps : List Part) (mid : BodyLists) → left ≡ p ∷ ps → SoFar whole walk all left old now
+    → is_leaf p ≡ true → Gains now mid (leaf_lists walk p) → SoFar whole (next (meeting walk p)) all ps old mid
 so_far_leaf {walk = walk} {now = now} p ps mid is so_far leaf gains =
     record {
       forth = λ new behind.
@@ -85,7 +88,9 @@ so_far_leaf {walk = walk} {now = now} p ps mid is so_far leaf gains =
           }));
     }
 
-pub so_far_met : {whole walk : Walk} {all left : List Part} {old now : BodyLists} (met : Walk) (inline : Bool) (p : Part) (ps : List Part) (mid : BodyLists) → left ≡ p ∷ ps → SoFar whole walk all left old now → is_leaf p ≡ true → inline ≡ is_inline walk p → met ≡ at_leaf walk inline p → Gains now mid (lists_of met inline p) → SoFar whole (next met) all ps old mid
+pub so_far_met : {whole walk : Walk} {all left : List Part} {old now : BodyLists} (met : Walk) (inline : Bool) (p : Part) (ps : List Part) (mid : BodyLists) → left ≡ p ∷ ps
+    → SoFar whole walk all left old now → is_leaf p ≡ true → inline ≡ is_inline walk p → met ≡ at_leaf walk inline p → Gains now mid (lists_of met inline p)
+    → SoFar whole (next met) all ps old mid
 so_far_met {whole} {walk} {all} {left} {old} {now} met inline p ps mid is so_far leaf is_so meets gains =
     let so : met ≡ meeting walk p = meets ∙ ap (λ (t : Bool). at_leaf walk t p) is_so in
     let P : Walk → Type 0 = λ w. SoFar whole (next w) all ps old mid in
@@ -93,7 +98,8 @@ so_far_met {whole} {walk} {all} {left} {old} {now} met inline p ps mid is so_far
     let R : Walk → Type 0 = λ w. Gains now mid (lists_of w (is_inline walk p) p) in
     subst P (sym so) (so_far_leaf p ps mid is so_far leaf (subst R so (subst Q is_so gains)))
 
-pub so_far_same : {whole walk : Walk} {all left : List Part} {old now : BodyLists} (walk' : Walk) (now' : BodyLists) → walk' ≡ walk → now' ≡ now → SoFar whole walk all left old now → SoFar whole walk' all left old now'
+pub so_far_same : {whole walk : Walk} {all left : List Part} {old now : BodyLists} (walk' : Walk) (now' : BodyLists) → walk' ≡ walk → now' ≡ now → SoFar whole walk all left old now
+    → SoFar whole walk' all left old now'
 so_far_same {whole} {walk} {all} {left} {old} {now} walk' now' same_walk same_lists so_far =
     let P : Walk → Type 0 = λ w. SoFar whole w all left old now in
     let Q : BodyLists → Type 0 = λ l. SoFar whole walk' all left old l in
@@ -104,7 +110,9 @@ so_far_done {walk = walk} {now = now} is so_far =
     let P : List Part → Type 0 = λ l. GainsBy walk l now now in
     so_far.forth now (subst P (sym is) (record { parts = nothing; walks = End walk; gains = gains_nothing now }))
 
-pub below_of : (walk inner : Walk) (p : Part) (kids : List Part) (old mid new : BodyLists) (text html : ℕ) → kids ≡ children p → inner ≡ into walk p → GainsBy inner kids old mid → length old.text ≡ text → length old.html ≡ html → ((old : BodyLists) (a : PartLists) → length old.text ≡ text → length old.html ≡ html → Gains old mid a → Gains old new (spread inner a)) → GainsBelow walk p old new
+pub below_of : (walk inner : Walk) (p : Part) (kids : List Part) (old mid new : BodyLists) (text html : ℕ) → kids ≡ children p → inner ≡ into walk p → GainsBy inner kids old mid
+    → length old.text ≡ text → length old.html ≡ html → ((old : BodyLists) (a : PartLists) → length old.text ≡ text → length old.html ≡ html → Gains old mid a
+    → Gains old new (spread inner a)) → GainsBelow walk p old new
 below_of walk inner p kids old mid new text html same is by long_text long_html spreads =
     let P : Walk → Type 0 = λ w. Walks w (children p) by.parts in
     let Q : List Part → Type 0 = λ l. Walks inner l by.parts in

@@ -10,9 +10,9 @@ use Rattle.text_words.proofs.CutLemmas.{each_list_all, list_all_each}
 use Rattle.mime_tree.specs.declared.split.Mark.{Mark}
 use Rattle.mime_tree.specs.declared.split.Mark.TheVariants as mark
 use Rattle.mime_tree.specs.Delimiters.{IsDelimiter, IsClosing, IsMarked}
-use Rattle.mime_tree.specs.LineReading.{behind, behind_dashes, closes, rest_mark, mark_of}
+use Rattle.mime_tree.specs.reading.LineReading.{behind, behind_dashes, closes, rest_mark, mark_of}
 
--- the text begins with the prefix, or with no text behind it
+-- the text begins with the prefix, or with no text after it
 data Behind (p t : List ℕ) : Option (List ℕ) → Type 0 where
   Begins : (r : List ℕ) → t ≡ p ++ r → Behind p t (Some r)
   BeginsNot : ((r : List ℕ) → t ≢ p ++ r) → Behind p t None
@@ -30,7 +30,7 @@ dashes = 45 ∷ 45 ∷ []
 whites_same : (u w : List ℕ) → Each is_white w → list_all is_white u ≡ false → u ≢ w
 whites_same u w e f g = let t = each_list_all is_white w e in let h = ap (list_all is_white) g in absurd cc
 
--- by what stands behind the boundary
+-- by what stands after the boundary
 rest_marked : (y l u : List ℕ) → l ≡ 45 ∷ 45 ∷ (y ++ u) → IsMarked y l (rest_mark (Some u))
 rest_marked y l u e = opens (list_all is_white u) refl
   where

@@ -6,7 +6,7 @@ use Rattle.mime_tree.specs.declared.split.Mark.{Mark}
 use Rattle.mime_tree.specs.declared.split.Mark.TheVariants as mark
 use Rattle.mime_tree.specs.declared.split.Piece.{Piece}
 use Rattle.mime_tree.specs.Delimiters.{size}
-use Rattle.mime_tree.specs.LineReading.{mark_of}
+use Rattle.mime_tree.specs.reading.LineReading.{mark_of}
 use Rattle.mime_tree.specs.Splits.{piece, ArePlain, end_of, IsEnd, IsClosed, AreParts, Follows, IsSplit}
 use Rattle.mime_tree.proofs.MarkLemmas.{is_mark, opens_closes}
 
@@ -32,7 +32,8 @@ closed_stops y (l ∷ ls) h = not_plain y l mark.Closes refl (is_mark y l mark.C
 parts_stop : (b y : List ℕ) (ps : List Piece) (at : ℕ) (t : List (List ℕ)) → AreParts b y ps at t → Stops (is_plain y) t
 parts_stop b y [] at [] h = tt
 parts_stop b y [] at (l ∷ ls) h = closed_stops y (l ∷ ls) h
-parts_stop b y (p ∷ ps) at t h = let P : List (List ℕ) → Type 0 = λ u. Stops (is_plain y) u in subst P (sym h.whole) (not_plain y h.line mark.Opens refl (is_mark y h.line mark.Opens h.delimiter))
+parts_stop b y (p ∷ ps) at t h = let P : List (List ℕ) → Type 0 = λ u. Stops (is_plain y) u in
+    subst P (sym h.whole) (not_plain y h.line mark.Opens refl (is_mark y h.line mark.Opens h.delimiter))
 
 follows_stop : (b y : List ℕ) (r : Option (List Piece)) (at : ℕ) (t : List (List ℕ)) → Follows b y r at t → Stops (is_plain y) t
 follows_stop b y None at t h = let P : List (List ℕ) → Type 0 = λ u. Stops (is_plain y) u in subst P (sym h) tt
@@ -60,7 +61,8 @@ one_parts b y (p ∷ ps) (q ∷ qs) at t g h =
     let w = sym g.whole ∙ h.whole in
     let l : g.line ≡ h.line = cc in
     let ls : g.lines ≡ h.lines = cc in
-    let c = one_cut (is_plain y) g.part.inner h.part.inner g.part.rest h.part.rest (sym g.part.whole ∙ ls ∙ h.part.whole) (each_plain y g.part.inner g.part.plain) (parts_stop b y ps _ g.part.rest g.part.behind) (each_plain y h.part.inner h.part.plain) (parts_stop b y qs _ h.part.rest h.part.behind) in
+    let c = one_cut (is_plain y) g.part.inner h.part.inner g.part.rest h.part.rest (sym g.part.whole ∙ ls ∙ h.part.whole) (each_plain y g.part.inner g.part.plain)
+    (parts_stop b y ps _ g.part.rest g.part.behind) (each_plain y h.part.inner h.part.plain) (parts_stop b y qs _ h.part.rest h.part.behind) in
     let n : at + length h.line + size h.part.inner ≡ at + length g.line + size g.part.inner = omega (arith, ap length l, ap size c.front) in
     let P : ℕ → Type 0 = λ n. AreParts b y qs n h.part.rest in
     let Q : List (List ℕ) → Type 0 = λ u. AreParts b y qs (at + length g.line + size g.part.inner) u in
@@ -83,7 +85,8 @@ one_following b y (Some (p ∷ ps)) (Some (q ∷ qs)) at t g h = ap (λ (u : Lis
 
 pub one_split : (b y : List ℕ) (r s : Option (List Piece)) → IsSplit b y r → IsSplit b y s → r ≡ s
 one_split b y r s g h =
-    let c = one_cut (is_plain y) g.preamble h.preamble g.rest h.rest (sym g.whole ∙ h.whole) (each_plain y g.preamble g.plain) (follows_stop b y r _ g.rest g.follows) (each_plain y h.preamble h.plain) (follows_stop b y s _ h.rest h.follows) in
+    let c = one_cut (is_plain y) g.preamble h.preamble g.rest h.rest (sym g.whole ∙ h.whole) (each_plain y g.preamble g.plain) (follows_stop b y r _ g.rest g.follows)
+    (each_plain y h.preamble h.plain) (follows_stop b y s _ h.rest h.follows) in
     let P : List (List ℕ) → Type 0 = λ u. Follows b y s (0 + size u) h.rest in
     let Q : List (List ℕ) → Type 0 = λ u. Follows b y s (0 + size g.preamble) u in
     one_following b y r s (0 + size g.preamble) g.rest g.follows (subst Q (sym c.back) (subst P (sym c.front) h.follows))

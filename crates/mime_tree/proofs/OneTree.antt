@@ -41,7 +41,8 @@ one_head b s e d g h i j =
 
 -- ---- one part with a head
 
-same_part : (S : Part → Part → Type 0) (h : Head) (p q : Part) → HasHead h p → HasHead h q → (out-Part p).number ≡ (out-Part q).number → (out-Part p).media ≡ (out-Part q).media → (out-Part p).charset ≡ (out-Part q).charset → AllSame S (children p) (children q) → SamePart S p q
+same_part : (S : Part → Part → Type 0) (h : Head) (p q : Part) → HasHead h p → HasHead h q → (out-Part p).number ≡ (out-Part q).number → (out-Part p).media ≡ (out-Part q).media
+    → (out-Part p).charset ≡ (out-Part q).charset → AllSame S (children p) (children q) → SamePart S p q
 same_part S h p q i j number media charset below = record {
   number = number;
   media = media;
@@ -72,7 +73,8 @@ one_leaf S h f p q m n i j =
 One : TreeWord → (Part → Part → Type 0) → Type 0
 One T S = (s e : ℕ) (d : List ℕ) (f : ℕ) (p q : Part) (m n : ℕ) → T s e d f p m → T s e d f q n → (m ≡ n) × S p q
 
-one_trees : (T : TreeWord) (S : Part → Part → Type 0) → One T S → (base : ℕ) (d : List ℕ) (ps : List Piece) (f : ℕ) (cs ds : List Part) (m n : ℕ) → AreTrees T base d ps f cs m → AreTrees T base d ps f ds n → (m ≡ n) × AllSame S cs ds
+one_trees : (T : TreeWord) (S : Part → Part → Type 0) → One T S → (base : ℕ) (d : List ℕ) (ps : List Piece) (f : ℕ) (cs ds : List Part) (m n : ℕ) → AreTrees T base d ps f cs m
+    → AreTrees T base d ps f ds n → (m ≡ n) × AllSame S cs ds
 unfolding One
 one_trees T S o base d [] f [] [] m n g h = (g ∙ sym h, tt)
 one_trees T S o base d [] f [] (x ∷ ds) m n g h = absurd h
@@ -85,7 +87,8 @@ one_trees T S o base d (p ∷ ps) f (c ∷ cs) (x ∷ ds) m n g h =
     let b = one_trees T S o base d ps g.0 cs ds m n g.2 (subst P (sym a.0) h.2) in
     (b.0, (a.1, b.1))
 
-one_part : (T : TreeWord) (S : Part → Part → Type 0) → One T S → (h : Head) (qs : Option (List Piece)) (f : ℕ) (p q : Part) (m n : ℕ) → IsPartOf T h qs f p m → IsPartOf T h qs f q n → (m ≡ n) × SamePart S p q
+one_part : (T : TreeWord) (S : Part → Part → Type 0) → One T S → (h : Head) (qs : Option (List Piece)) (f : ℕ) (p q : Part) (m n : ℕ) → IsPartOf T h qs f p m
+    → IsPartOf T h qs f q n → (m ≡ n) × SamePart S p q
 one_part T S o h None f p q m n i j = one_leaf S h f p q m n i j
 one_part T S o h (Some qs) f p q m n i j =
     let a = one_trees T S o h.body (default_in h.media) qs f (children p) (children q) m n i.1 j.1 in

@@ -5,7 +5,7 @@ use Rattle.std.proofs.lemmas.List.{drop_all}
 use Rattle.mime_tree.specs.declared.split.Mark.TheVariants as mark
 use Rattle.mime_tree.specs.declared.split.Piece.{Piece}
 use Rattle.mime_tree.specs.Delimiters.{size, lines}
-use Rattle.mime_tree.specs.LineReading.{mark_of}
+use Rattle.mime_tree.specs.reading.LineReading.{mark_of}
 use Rattle.mime_tree.specs.Splits.{piece, ending, before, end_of, InPart, AreParts, Follows, HasParts, IsSplit}
 use Rattle.mime_tree.proofs.LineLemmas.{Here}
 use Rattle.mime_tree.proofs.MarkLemmas.{mark_is}
@@ -19,7 +19,7 @@ onto_onto : (ps qs : List Piece) (r : Option (List Piece)) → onto ps (onto qs 
 onto_onto ps qs None = refl
 onto_onto ps qs (Some rs) = ap (λ (u : List Piece). Some u) (sym (append_assoc ps qs rs))
 
--- what is left to read: a preamble and parts, or lines of a part that has begun and the parts behind it
+-- what is left to read: a preamble and parts, or lines of a part that has begun and the parts after it
 abbrev pub Left : Option ℕ → List ℕ → List ℕ → Option (List Piece) → ℕ → List (List ℕ) → Type 0
 Left None b y r at t = HasParts b y r at t
 Left (Some start) b y None at t = ⊥
@@ -27,7 +27,8 @@ Left (Some start) b y (Some []) at t = ⊥
 Left (Some start) b y (Some (p ∷ ps)) at t = InPart (AreParts b y ps) b y start at p t
 
 -- a line that is no delimiter is the preamble's, or the part's
-plain_more : (begun : Option ℕ) (b y : List ℕ) (at : ℕ) (l : List ℕ) (t : List (List ℕ)) (r : Option (List Piece)) → mark_of y l ≡ mark.Plain → Left begun b y r (at + length l) t → Left begun b y r at (l ∷ t)
+plain_more : (begun : Option ℕ) (b y : List ℕ) (at : ℕ) (l : List ℕ) (t : List (List ℕ)) (r : Option (List Piece)) → mark_of y l ≡ mark.Plain → Left begun b y r (at + length l) t
+    → Left begun b y r at (l ∷ t)
 plain_more None b y at l t r e h = record {
   preamble = l ∷ h.preamble;
   rest = h.rest;
@@ -50,7 +51,8 @@ plain_more (Some start) b y at l t (Some (p ∷ ps)) e h =
     }
 
 -- the part before a line at which parts go on or end
-ended : (b y : List ℕ) (start at : ℕ) (l : List ℕ) (t : List (List ℕ)) (ps : List Piece) → AreParts b y ps at (l ∷ t) → Left (Some start) b y (Some (piece start (before b start at) ∷ ps)) at (l ∷ t)
+ended : (b y : List ℕ) (start at : ℕ) (l : List ℕ) (t : List (List ℕ)) (ps : List Piece) → AreParts b y ps at (l ∷ t)
+    → Left (Some start) b y (Some (piece start (before b start at) ∷ ps)) at (l ∷ t)
 ended b y start at l t ps h = record {
   inner = [];
   rest = l ∷ t;
@@ -65,11 +67,14 @@ ended b y start at l t ps h = record {
 begins : (b y : List ℕ) (at : ℕ) (t : List (List ℕ)) (r : Option (List Piece)) → Follows b y r at t → HasParts b y r at t
 begins b y at t r h = record { preamble = []; rest = t; whole = refl; plain = tt; follows = let P : ℕ → Type 0 = λ n. Follows b y r n t in subst P (omega arith) h }
 
-opens_more : (begun : Option ℕ) (b y : List ℕ) (at : ℕ) (l : List ℕ) (t : List (List ℕ)) (r : Option (List Piece)) → mark_of y l ≡ mark.Opens → Left (Some (at + length l)) b y r (at + length l) t → Left begun b y (onto (ending begun b at) r) at (l ∷ t)
+opens_more : (begun : Option ℕ) (b y : List ℕ) (at : ℕ) (l : List ℕ) (t : List (List ℕ)) (r : Option (List Piece)) → mark_of y l ≡ mark.Opens
+    → Left (Some (at + length l)) b y r (at + length l) t → Left begun b y (onto (ending begun b at) r) at (l ∷ t)
 opens_more begun b y at l t None e h = absurd h
 opens_more begun b y at l t (Some []) e h = absurd h
-opens_more None b y at l t (Some (p ∷ ps)) e h = begins b y at (l ∷ t) (Some (p ∷ ps)) (record { line = l; lines = t; whole = refl; delimiter = mark_is y l mark.Opens e; part = h })
-opens_more (Some start) b y at l t (Some (p ∷ ps)) e h = ended b y start at l t (p ∷ ps) (record { line = l; lines = t; whole = refl; delimiter = mark_is y l mark.Opens e; part = h })
+opens_more None b y at l t (Some (p ∷ ps)) e h = begins b y at (l ∷ t) (Some (p ∷ ps))
+    (record { line = l; lines = t; whole = refl; delimiter = mark_is y l mark.Opens e; part = h })
+opens_more (Some start) b y at l t (Some (p ∷ ps)) e h = ended b y start at l t (p ∷ ps)
+    (record { line = l; lines = t; whole = refl; delimiter = mark_is y l mark.Opens e; part = h })
 
 closes_here : (begun : Option ℕ) (b y : List ℕ) (at : ℕ) (l : List ℕ) (t : List (List ℕ)) → mark_of y l ≡ mark.Closes → Left begun b y (Some (ending begun b at)) at (l ∷ t)
 closes_here None b y at l t e = begins b y at (l ∷ t) (Some []) (mark_is y l mark.Closes e)
@@ -82,10 +87,12 @@ ends_inside b y start at = record { inner = []; rest = []; whole = refl; plain =
 pub record SoFar (begun : Option ℕ) (b y : List ℕ) (ps : List Piece) (at : ℕ) (t all : List (List ℕ)) : Type 0 where
   pub forth : (r : Option (List Piece)) → Left begun b y r at t → HasParts b y (onto ps r) 0 all
 
-so_far_plain : (begun : Option ℕ) (b y : List ℕ) (ps : List Piece) (at : ℕ) (l : List ℕ) (t all : List (List ℕ)) → SoFar begun b y ps at (l ∷ t) all → mark_of y l ≡ mark.Plain → SoFar begun b y ps (at + length l) t all
+so_far_plain : (begun : Option ℕ) (b y : List ℕ) (ps : List Piece) (at : ℕ) (l : List ℕ) (t all : List (List ℕ)) → SoFar begun b y ps at (l ∷ t) all → mark_of y l ≡ mark.Plain
+    → SoFar begun b y ps (at + length l) t all
 so_far_plain begun b y ps at l t all h e = record { forth = λ r q. h.forth r (plain_more begun b y at l t r e q) }
 
-so_far_opens : (begun : Option ℕ) (b y : List ℕ) (ps : List Piece) (at : ℕ) (l : List ℕ) (t all : List (List ℕ)) → SoFar begun b y ps at (l ∷ t) all → mark_of y l ≡ mark.Opens → SoFar (Some (at + length l)) b y (ps ++ ending begun b at) (at + length l) t all
+so_far_opens : (begun : Option ℕ) (b y : List ℕ) (ps : List Piece) (at : ℕ) (l : List ℕ) (t all : List (List ℕ)) → SoFar begun b y ps at (l ∷ t) all → mark_of y l ≡ mark.Opens
+    → SoFar (Some (at + length l)) b y (ps ++ ending begun b at) (at + length l) t all
 so_far_opens begun b y ps at l t all h e = record {
   forth = λ r q.
       let P : Option (List Piece) → Type 0 = λ u. HasParts b y u 0 all in
@@ -105,10 +112,12 @@ split_begins b y = record { so_far = record { forth = λ r q. first r q }; order
     first None q = q
     first (Some qs) q = q
 
-line_here : (begun : Option ℕ) (b y : List ℕ) (ps : List Piece) (at n : ℕ) (line : List ℕ) → Here b at line n → Split begun b y ps at → SoFar begun b y ps at (line ∷ lines (drop (at + n) b)) (lines b)
+line_here : (begun : Option ℕ) (b y : List ℕ) (ps : List Piece) (at n : ℕ) (line : List ℕ) → Here b at line n → Split begun b y ps at
+    → SoFar begun b y ps at (line ∷ lines (drop (at + n) b)) (lines b)
 line_here begun b y ps at n line h s = let P : List (List ℕ) → Type 0 = λ t. SoFar begun b y ps at t (lines b) in subst P h.first s.so_far
 
-pub at_plain : (begun begun' : Option ℕ) (b y : List ℕ) (ps ps' : List Piece) (at n : ℕ) (line : List ℕ) → Here b at line n → mark_of y line ≡ mark.Plain → Split begun b y ps at → begun' ≡ begun → ps' ≡ ps → Split begun' b y ps' (at + n)
+pub at_plain : (begun begun' : Option ℕ) (b y : List ℕ) (ps ps' : List Piece) (at n : ℕ) (line : List ℕ) → Here b at line n → mark_of y line ≡ mark.Plain → Split begun b y ps at
+    → begun' ≡ begun → ps' ≡ ps → Split begun' b y ps' (at + n)
 at_plain begun begun' b y ps ps' at n line h e s p q =
     let m = so_far_plain begun b y ps at line (lines (drop (at + n) b)) (lines b) (line_here begun b y ps at n line h s) e in
     let P : ℕ → Type 0 = λ k. SoFar begun b y ps (at + k) (lines (drop (at + n) b)) (lines b) in
@@ -120,7 +129,8 @@ at_plain begun begun' b y ps ps' at n line h e s p q =
     later None l = tt
     later (Some start) l = omega (arith, l)
 
-pub at_opens : (begun begun' : Option ℕ) (b y : List ℕ) (ps ps' : List Piece) (at n : ℕ) (line : List ℕ) → Here b at line n → mark_of y line ≡ mark.Opens → Split begun b y ps at → begun' ≡ Some (at + n) → ps' ≡ ps ++ ending begun b at → Split begun' b y ps' (at + n)
+pub at_opens : (begun begun' : Option ℕ) (b y : List ℕ) (ps ps' : List Piece) (at n : ℕ) (line : List ℕ) → Here b at line n → mark_of y line ≡ mark.Opens → Split begun b y ps at
+    → begun' ≡ Some (at + n) → ps' ≡ ps ++ ending begun b at → Split begun' b y ps' (at + n)
 at_opens begun begun' b y ps ps' at n line h e s p q =
     let m = so_far_opens begun b y ps at line (lines (drop (at + n) b)) (lines b) (line_here begun b y ps at n line h s) e in
     let P : ℕ → Type 0 = λ k. SoFar (Some (at + k)) b y (ps ++ ending begun b at) (at + k) (lines (drop (at + n) b)) (lines b) in
@@ -128,7 +138,8 @@ at_opens begun begun' b y ps ps' at n line h e s p q =
     let B : List Piece → Type 0 = λ u. Split begun' b y u (at + n) in
     subst B (sym q) (subst A (sym p) (record { so_far = subst P (sym h.counted) m; ordered = omega arith }))
 
-pub at_closes : (begun : Option ℕ) (b y : List ℕ) (ps ps' : List Piece) (at n : ℕ) (line : List ℕ) → Here b at line n → mark_of y line ≡ mark.Closes → Split begun b y ps at → ps' ≡ ps ++ ending begun b at → IsSplit b y (Some ps')
+pub at_closes : (begun : Option ℕ) (b y : List ℕ) (ps ps' : List Piece) (at n : ℕ) (line : List ℕ) → Here b at line n → mark_of y line ≡ mark.Closes → Split begun b y ps at
+    → ps' ≡ ps ++ ending begun b at → IsSplit b y (Some ps')
 at_closes begun b y ps ps' at n line h e s q =
     let P : List Piece → Type 0 = λ u. IsSplit b y (Some u) in
     let m = line_here begun b y ps at n line h s in
@@ -138,7 +149,8 @@ nothing_left : (b : List ℕ) (at : ℕ) → length b ≤ at → lines (drop at 
 unfolding lines
 nothing_left b at le = ap lines (drop_all at b le)
 
-pub at_end_inside : (begun : Option ℕ) (b y : List ℕ) (start : ℕ) (ps ps' : List Piece) (at : ℕ) → length b ≤ at → Split begun b y ps at → begun ≡ Some start → ps' ≡ ps ++ piece start at ∷ [] → IsSplit b y (Some ps')
+pub at_end_inside : (begun : Option ℕ) (b y : List ℕ) (start : ℕ) (ps ps' : List Piece) (at : ℕ) → length b ≤ at → Split begun b y ps at → begun ≡ Some start
+    → ps' ≡ ps ++ piece start at ∷ [] → IsSplit b y (Some ps')
 at_end_inside begun b y start ps ps' at le s e q =
     let P : List Piece → Type 0 = λ u. IsSplit b y (Some u) in
     let L : List (List ℕ) → Type 0 = λ t. Left (Some start) b y (Some (piece start at ∷ [])) at t in

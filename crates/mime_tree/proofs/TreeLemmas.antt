@@ -11,7 +11,7 @@ use Rattle.mime_tree.specs.Heads.{IsHead, boundary_of, default_in}
 use Rattle.mime_tree.specs.Trees.{IsLeaf, IsNode, AreTrees, ArePieces, IsPartOf, IsTree}
 use Rattle.mime_tree.proofs.HeadLemmas.{range_len, header_within}
 
--- a body begins behind its part's front and ends with the part
+-- a body begins after its part's front and ends with the part
 pub record BodyWithin (s e : ℕ) (h : Head) : Type 0 where
   pub from : s ≤ h.body
   pub ordered : h.body ≤ h.end
@@ -32,25 +32,31 @@ pub record ChildrenSo (more : ℕ) (b : List ℕ) (base : ℕ) (d : List ℕ) (p
 pub children_begin : (more : ℕ) (b : List ℕ) (base : ℕ) (d : List ℕ) (ps : List Piece) (first : ℕ) → ChildrenSo more b base d ps ps first [] first
 children_begin more b base d ps first = record { forth = λ ds end h. h }
 
-children_more : (more : ℕ) (b : List ℕ) (base : ℕ) (d : List ℕ) (ps : List Piece) (q : Piece) (left : List Piece) (first : ℕ) (cs : List Part) (next : ℕ) (c : Part) (mid : ℕ) → ChildrenSo more b base d ps (q ∷ left) first cs next → IsTree more b (base + q.start) (base + q.end) d next c mid → ChildrenSo more b base d ps left first (cs ++ c ∷ []) mid
+children_more : (more : ℕ) (b : List ℕ) (base : ℕ) (d : List ℕ) (ps : List Piece) (q : Piece) (left : List Piece) (first : ℕ) (cs : List Part) (next : ℕ) (c : Part) (mid : ℕ)
+    → ChildrenSo more b base d ps (q ∷ left) first cs next → IsTree more b (base + q.start) (base + q.end) d next c mid → ChildrenSo more b base d ps left first (cs ++ c ∷ []) mid
 children_more more b base d ps q left first cs next c mid h t = record {
   forth = λ ds end g.
       let P : List Part → Type 0 = λ u. AreTrees (IsTree more b) base d ps first u end in
       subst P (sym (append_assoc cs (c ∷ []) ds)) (h.forth (c ∷ ds) end (mid, t, g));
 }
 
-pub children_step : (more : ℕ) (b : List ℕ) (base : ℕ) (d d' : List ℕ) (ps : List Piece) (q : Piece) (left all : List Piece) (first : ℕ) (cs ds : List Part) (next : ℕ) (c : Part) (mid : ℕ) → all ≡ q ∷ left → d' ≡ d → ChildrenSo more b base d ps all first cs next → IsTree more b (base + q.start) (base + q.end) d' next c mid → ds ≡ cs ++ c ∷ [] → ChildrenSo more b base d ps left first ds mid
+pub children_step : (more : ℕ) (b : List ℕ) (base : ℕ) (d d' : List ℕ) (ps : List Piece) (q : Piece) (left all : List Piece) (first : ℕ) (cs ds : List Part) (next : ℕ) (c : Part)
+    (mid : ℕ) → all ≡ q ∷ left → d' ≡ d → ChildrenSo more b base d ps all first cs next → IsTree more b (base + q.start) (base + q.end) d' next c mid → ds ≡ cs ++ c ∷ []
+    → ChildrenSo more b base d ps left first ds mid
 children_step more b base d d' ps q left all first cs ds next c mid e k h t n =
     let P : List Piece → Type 0 = λ u. ChildrenSo more b base d ps u first cs next in
     let Q : List Part → Type 0 = λ u. ChildrenSo more b base d ps left first u mid in
     let T : List ℕ → Type 0 = λ u. IsTree more b (base + q.start) (base + q.end) u next c mid in
     subst Q (sym n) (children_more more b base d ps q left first cs next c mid (subst P e h) (subst T k t))
 
-children_all : (more : ℕ) (b : List ℕ) (base : ℕ) (d : List ℕ) (ps : List Piece) (first : ℕ) (cs : List Part) (next : ℕ) → ChildrenSo more b base d ps [] first cs next → AreTrees (IsTree more b) base d ps first cs next
+children_all : (more : ℕ) (b : List ℕ) (base : ℕ) (d : List ℕ) (ps : List Piece) (first : ℕ) (cs : List Part) (next : ℕ) → ChildrenSo more b base d ps [] first cs next
+    → AreTrees (IsTree more b) base d ps first cs next
 children_all more b base d ps first cs next h = let P : List Part → Type 0 = λ u. AreTrees (IsTree more b) base d ps first u next in subst P (append-nil cs) (h.forth [] next refl)
 
-pub children_end : (more : ℕ) (b : List ℕ) (base : ℕ) (d : List ℕ) (ps left : List Piece) (first : ℕ) (cs : List Part) (next : ℕ) → left ≡ [] → ChildrenSo more b base d ps left first cs next → AreTrees (IsTree more b) base d ps first cs next
-children_end more b base d ps left first cs next e h = let P : List Piece → Type 0 = λ u. ChildrenSo more b base d ps u first cs next in children_all more b base d ps first cs next (subst P e h)
+pub children_end : (more : ℕ) (b : List ℕ) (base : ℕ) (d : List ℕ) (ps left : List Piece) (first : ℕ) (cs : List Part) (next : ℕ) → left ≡ []
+    → ChildrenSo more b base d ps left first cs next → AreTrees (IsTree more b) base d ps first cs next
+children_end more b base d ps left first cs next e h = let P : List Piece → Type 0 = λ u. ChildrenSo more b base d ps u first cs next in
+    children_all more b base d ps first cs next (subst P e h)
 
 -- ---- places and numbers of what is left
 
@@ -78,7 +84,8 @@ placed_head first next size q left all e h =
     let w = behind_end q.end size left b.2 in
     record { ordered = b.1; within = w; room = omega (arith, b.0, b.1, h.few) }
 
-pub placed_next : (first next mid size : ℕ) (q : Piece) (left all : List Piece) → all ≡ q ∷ left → Placed first next size all → mid ≤ next + (q.end - q.start) + 1 → Placed first mid size left
+pub placed_next : (first next mid size : ℕ) (q : Piece) (left all : List Piece) → all ≡ q ∷ left → Placed first next size all → mid ≤ next + (q.end - q.start) + 1
+    → Placed first mid size left
 placed_next first next mid size q left all e h m =
     let P : List Piece → Type 0 = λ u. AreBehind h.at u size in
     let b = subst P e h.behind in
@@ -89,12 +96,14 @@ placed_end first next size left h = let e = behind_end h.at size left h.behind i
 
 -- ---- a part by its head
 
-pub tree_zero : (more : ℕ) (b : List ℕ) (s e : ℕ) (d : List ℕ) (first : ℕ) (p : Part) (next : ℕ) (h : Head) → more ≡ 0 → IsHead b s e d h → IsLeaf h first p next → IsTree more b s e d first p next
+pub tree_zero : (more : ℕ) (b : List ℕ) (s e : ℕ) (d : List ℕ) (first : ℕ) (p : Part) (next : ℕ) (h : Head) → more ≡ 0 → IsHead b s e d h → IsLeaf h first p next
+    → IsTree more b s e d first p next
 unfolding IsTree
 tree_zero zero b s e d first p next h m i l = (h, i, l)
 tree_zero (suc more) b s e d first p next h m i l = absurd (omega arith)
 
-tree_suc : (more : ℕ) (b : List ℕ) (s e : ℕ) (d : List ℕ) (first : ℕ) (p : Part) (next : ℕ) (h : Head) (qs : Option (List Piece)) → more ≢ 0 → IsHead b s e d h → ArePieces (boundary_of h) (slice_range b h.body h.end) qs → IsPartOf (IsTree (more - 1) b) h qs first p next → IsTree more b s e d first p next
+tree_suc : (more : ℕ) (b : List ℕ) (s e : ℕ) (d : List ℕ) (first : ℕ) (p : Part) (next : ℕ) (h : Head) (qs : Option (List Piece)) → more ≢ 0 → IsHead b s e d h
+    → ArePieces (boundary_of h) (slice_range b h.body h.end) qs → IsPartOf (IsTree (more - 1) b) h qs first p next → IsTree more b s e d first p next
 unfolding IsTree
 tree_suc zero b s e d first p next h qs m i j k = absurd (m refl)
 tree_suc (suc more) b s e d first p next h qs m i j k =
@@ -102,8 +111,11 @@ tree_suc (suc more) b s e d first p next h qs m i j k =
     let P : ℕ → Type 0 = λ n. IsPartOf (IsTree n b) h qs first p next in
     (h, i, qs, j, subst P less k)
 
-pub tree_leaf : (more : ℕ) (b : List ℕ) (s e : ℕ) (d : List ℕ) (first : ℕ) (p : Part) (next : ℕ) (h : Head) → more ≢ 0 → IsHead b s e d h → ArePieces (boundary_of h) (slice_range b h.body h.end) None → IsLeaf h first p next → IsTree more b s e d first p next
+pub tree_leaf : (more : ℕ) (b : List ℕ) (s e : ℕ) (d : List ℕ) (first : ℕ) (p : Part) (next : ℕ) (h : Head) → more ≢ 0 → IsHead b s e d h
+    → ArePieces (boundary_of h) (slice_range b h.body h.end) None → IsLeaf h first p next → IsTree more b s e d first p next
 tree_leaf more b s e d first p next h m i j l = tree_suc more b s e d first p next h None m i j l
 
-pub tree_node : (more : ℕ) (b : List ℕ) (s e : ℕ) (d : List ℕ) (first : ℕ) (p : Part) (next : ℕ) (h : Head) (qs : List Piece) → more ≢ 0 → IsHead b s e d h → ArePieces (boundary_of h) (slice_range b h.body h.end) (Some qs) → IsNode h p → AreTrees (IsTree (more - 1) b) h.body (default_in h.media) qs first (children p) next → IsTree more b s e d first p next
+pub tree_node : (more : ℕ) (b : List ℕ) (s e : ℕ) (d : List ℕ) (first : ℕ) (p : Part) (next : ℕ) (h : Head) (qs : List Piece) → more ≢ 0 → IsHead b s e d h
+    → ArePieces (boundary_of h) (slice_range b h.body h.end) (Some qs) → IsNode h p → AreTrees (IsTree (more - 1) b) h.body (default_in h.media) qs first (children p) next
+    → IsTree more b s e d first p next
 tree_node more b s e d first p next h qs m i j k t = tree_suc more b s e d first p next h (Some qs) m i j (k, t)

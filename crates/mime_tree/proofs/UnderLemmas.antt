@@ -78,7 +78,8 @@ within_by b s e d h p le n i j =
 abbrev AllWithinBy : ℕ → List ℕ → Type 0
 AllWithinBy more b = (s e : ℕ) (d : List ℕ) (f : ℕ) (p : Part) (n : ℕ) → s ≤ e → e ≤ length b → IsTree more b s e d f p n → (q : Part) → IsUnder q p → IsWithin q b
 
-trees_within : (more : ℕ) (b : List ℕ) → AllWithinBy more b → (base : ℕ) (d : List ℕ) (qs : List Piece) (f : ℕ) (cs : List Part) (n at size : ℕ) → AreTrees (IsTree more b) base d qs f cs n → AreBehind at qs size → base + size ≤ length b → (q : Part) → UnderOne q cs → IsWithin q b
+trees_within : (more : ℕ) (b : List ℕ) → AllWithinBy more b → (base : ℕ) (d : List ℕ) (qs : List Piece) (f : ℕ) (cs : List Part) (n at size : ℕ)
+    → AreTrees (IsTree more b) base d qs f cs n → AreBehind at qs size → base + size ≤ length b → (q : Part) → UnderOne q cs → IsWithin q b
 trees_within more b all base d [] f [] n at size t h le q u = absurd (none_under q u)
 trees_within more b all base d [] f (c ∷ cs) n at size t h le q u = absurd t
 trees_within more b all base d (x ∷ qs) f [] n at size t h le q u = absurd t
@@ -88,7 +89,8 @@ trees_within more b all base d (x ∷ qs) f (c ∷ cs) n at size t h le q u = by
     by (inl i) more_within = let w = behind_end x.end size qs h.2 in all (base + x.start) (base + x.end) d f c t.0 (omega (arith, h.1)) (omega (arith, w)) t.1 q i
     by (inr i) more_within = more_within i
 
-part_within : (more : ℕ) (b : List ℕ) → AllWithinBy more b → (s e : ℕ) (d : List ℕ) (h : Head) (qs : Option (List Piece)) (f : ℕ) (p : Part) (n : ℕ) → s ≤ e → e ≤ length b → IsHead b s e d h → ArePieces (boundary_of h) (slice_range b h.body h.end) qs → IsPartOf (IsTree more b) h qs f p n → (q : Part) → IsUnder q p → IsWithin q b
+part_within : (more : ℕ) (b : List ℕ) → AllWithinBy more b → (s e : ℕ) (d : List ℕ) (h : Head) (qs : Option (List Piece)) (f : ℕ) (p : Part) (n : ℕ) → s ≤ e → e ≤ length b
+    → IsHead b s e d h → ArePieces (boundary_of h) (slice_range b h.body h.end) qs → IsPartOf (IsTree more b) h qs f p n → (q : Part) → IsUnder q p → IsWithin q b
 part_within more b all s e d h None f p n le w i j k q u =
     let P : Part → Type 0 = λ x. IsWithin x b in
     subst P (sym (under_leaf q p k.children u)) (within_by b s e d h p le w i k.head)
@@ -103,7 +105,8 @@ part_within more b all s e d h (Some qs) f p n le w i j k q u = by (itself_or_be
     by (inr x) =
         let v = body_within b s e d h le i in
         let r = range_len b h.body h.end in
-        trees_within more b all h.body (default_in h.media) qs f (children p) n 0 (length (slice_range b h.body h.end)) k.1 (behind (boundary_of h) j) (omega (arith, v.ordered, v.end)) q x
+        trees_within more b all h.body (default_in h.media) qs f (children p) n 0 (length (slice_range b h.body h.end)) k.1 (behind (boundary_of h) j)
+        (omega (arith, v.ordered, v.end)) q x
 
 pub tree_within : (more : ℕ) (b : List ℕ) → AllWithinBy more b
 unfolding IsTree
@@ -158,11 +161,13 @@ more_numbered c cs f m n g h = record {
     all k a b (inl l) = let w = g.all k a l in (w.0, record { child = c; is_there = here c cs; under = w.1 }, w.2)
     all k a b (inr l) = let w = h.all k l b in (w.0, record { child = w.1.child; is_there = later c cs w.1.child w.1.is_there; under = w.1.under }, w.2)
 
-trees_numbered : (more : ℕ) (b : List ℕ) → IsNumbered more b → (base : ℕ) (d : List ℕ) (qs : List Piece) (f : ℕ) (cs : List Part) (n : ℕ) → AreTrees (IsTree more b) base d qs f cs n → Numbered (λ q. UnderOne q cs) f n
+trees_numbered : (more : ℕ) (b : List ℕ) → IsNumbered more b → (base : ℕ) (d : List ℕ) (qs : List Piece) (f : ℕ) (cs : List Part) (n : ℕ)
+    → AreTrees (IsTree more b) base d qs f cs n → Numbered (λ q. UnderOne q cs) f n
 trees_numbered more b each base d [] f [] n t = none_numbered f n t
 trees_numbered more b each base d [] f (c ∷ cs) n t = absurd t
 trees_numbered more b each base d (x ∷ qs) f [] n t = absurd t
-trees_numbered more b each base d (x ∷ qs) f (c ∷ cs) n t = more_numbered c cs f t.0 n (each (base + x.start) (base + x.end) d f c t.0 t.1) (trees_numbered more b each base d qs t.0 cs n t.2)
+trees_numbered more b each base d (x ∷ qs) f (c ∷ cs) n t = more_numbered c cs f t.0 n (each (base + x.start) (base + x.end) d f c t.0 t.1)
+    (trees_numbered more b each base d qs t.0 cs n t.2)
 
 leaf_numbered : (h : Head) (f : ℕ) (p : Part) (n : ℕ) → IsLeaf h f p n → Numbered (λ q. IsUnder q p) f n
 leaf_numbered h f p n l = record {
@@ -183,7 +188,8 @@ node_numbered h f p n i g = record {
   all = λ k a b. let w = g.all k a b in (w.0, Below p w.1.child w.1.is_there w.1.under, w.2);
 }
 
-part_numbered : (more : ℕ) (b : List ℕ) → IsNumbered more b → (h : Head) (qs : Option (List Piece)) (f : ℕ) (p : Part) (n : ℕ) → IsPartOf (IsTree more b) h qs f p n → Numbered (λ q. IsUnder q p) f n
+part_numbered : (more : ℕ) (b : List ℕ) → IsNumbered more b → (h : Head) (qs : Option (List Piece)) (f : ℕ) (p : Part) (n : ℕ) → IsPartOf (IsTree more b) h qs f p n
+    → Numbered (λ q. IsUnder q p) f n
 part_numbered more b each h None f p n k = leaf_numbered h f p n k
 part_numbered more b each h (Some qs) f p n k = node_numbered h f p n k.0 (trees_numbered more b each h.body (default_in h.media) qs f (children p) n k.1)
 

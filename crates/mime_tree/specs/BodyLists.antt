@@ -17,7 +17,7 @@ pub record PartLists : Type 0 where
 abbrev pub nothing : PartLists
 nothing = record { text = []; html = []; attachments = [] }
 
--- what stands in a, and behind it what stands in b
+-- what stands in a, and after it what stands in b
 abbrev pub both : PartLists → PartLists → PartLists
 both a b = record { text = a.text ++ b.text; html = a.html ++ b.html; attachments = a.attachments ++ b.attachments }
 
@@ -81,7 +81,7 @@ leaf_lists walk p = lists_of (meeting walk p) (is_inline walk p) p
 
 -- ---- a multipart
 
--- the walk behind a part
+-- the walk after a part
 abbrev pub next : Walk → Walk
 next walk = record walk { first = false }
 
@@ -100,17 +100,19 @@ or_else (p ∷ ps) other = p ∷ ps
 abbrev pub shared : PartLists → PartLists
 shared a = record { text = or_else a.text a.html; html = or_else a.html a.text; attachments = a.attachments }
 
--- behind an alternative with both lists open
+-- after an alternative with both lists open
 abbrev pub spread : Walk → PartLists → PartLists
 spread inner a = if is_alternative inner.multipart && (inner.text && inner.html) then shared a else a
 
 -- ---- the walk
 
--- What a walk over parts adds. What is closed in a multipart is open again behind it.
+-- What a walk over parts adds. What is closed in a multipart is open again after it.
 pub data Walks : Walk → List Part → PartLists → Type 0 where
   End : (walk : Walk) → Walks walk [] nothing
-  Multi : (walk : Walk) (p : Part) (ps : List Part) (inner behind : PartLists) → is_leaf p ≡ false → Walks (into walk p) (children p) inner → Walks (next walk) ps behind → Walks walk (p ∷ ps) (both (spread (into walk p) inner) behind)
-  Leaf : (walk : Walk) (p : Part) (ps : List Part) (behind : PartLists) → is_leaf p ≡ true → Walks (next (meeting walk p)) ps behind → Walks walk (p ∷ ps) (both (leaf_lists walk p) behind)
+  Multi : (walk : Walk) (p : Part) (ps : List Part) (inner behind : PartLists) → is_leaf p ≡ false → Walks (into walk p) (children p) inner
+      → Walks (next walk) ps behind → Walks walk (p ∷ ps) (both (spread (into walk p) inner) behind)
+  Leaf : (walk : Walk) (p : Part) (ps : List Part) (behind : PartLists) → is_leaf p ≡ true → Walks (next (meeting walk p)) ps behind
+      → Walks walk (p ∷ ps) (both (leaf_lists walk p) behind)
 
 -- the walk begins with the root alone, and both lists open
 abbrev pub start : Walk

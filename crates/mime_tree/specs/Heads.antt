@@ -15,6 +15,10 @@ message_rfc822 = codes "message/rfc822"
 unfoldable pub us_ascii : List ℕ
 us_ascii = codes "us-ascii"
 
+-- the transfer encoding of a part whose header has none (RFC 2045 section 6.1)
+unfoldable pub seven_bit : List ℕ
+seven_bit = codes "7bit"
+
 -- The octets of b from s to e have this head: a header, and what it reads as. Without a media type that can be read,
 -- the part has the default one.
 pub record IsHead (b : List ℕ) (s e : ℕ) (default : List ℕ) (h : Head) : Type 0 where

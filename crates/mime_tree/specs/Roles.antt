@@ -72,7 +72,7 @@ is_unnamed (Some (c ∷ t)) = false
 abbrev pub is_no_file : Part → Bool
 is_no_file p = is_media p || is_unnamed (out-Part p).name
 
--- It is the first part of its multipart. Behind that no part of a related multipart is inline, and no file.
+-- It is the first part of its multipart. After that no part of a related multipart is inline, and no file.
 abbrev pub has_place : Walk → Part → Bool
 has_place walk p = walk.first || (not (is_related walk.multipart) && is_no_file p)
 

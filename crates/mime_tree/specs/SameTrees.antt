@@ -28,7 +28,7 @@ pub record SamePart (S : Part → Part → Type 0) (p q : Part) : Type 0 where
 abbrev pub NoPart : Part → Part → Type 0
 NoPart p q = ⊥
 
--- the same, with at most so many levels below
+-- the same, with at most n levels below
 unfoldable pub Same : ℕ → Part → Part → Type 0
 Same zero p q = SamePart NoPart p q
 Same (suc more) p q = SamePart (Same more) p q

@@ -1,5 +1,5 @@
 -- The parts of a multipart's body (RFC 2046 section 5.1.1): the lines of a preamble, then delimiter lines with a part
--- behind each, up to a closing line or to the end. What stands behind the closing line is no part's.
+-- after each, up to a closing line or to the end. What stands after the closing line is no part's.
 use Rattle.std.specs.Prelude.{◌≡◌, ℕ, ◌+◌, ◌<◌, ◌≤◌, List, [], ◌∷◌, ◌++◌, length, slice_range, Option, Some, None}
 use Rattle.mail_header.specs.Lines.{without_end}
 use Rattle.mime_tree.specs.declared.split.Mark.TheVariants as mark
@@ -21,7 +21,7 @@ abbrev pub end_of : List ℕ → ℕ → ℕ → List (List ℕ) → ℕ
 end_of b start e [] = e
 end_of b start e (l ∷ ls) = before b start e
 
--- The lines t, from offset at on, are lines of the part p, which begins at start, and then what Behind says.
+-- The lines t, from offset at on, are lines of the part p, which begins at start, and then what After says.
 pub record InPart (Behind : ℕ → List (List ℕ) → Type 0) (b boundary : List ℕ) (start at : ℕ) (p : Piece) (t : List (List ℕ)) : Type 0 where
   pub inner : List (List ℕ)
   pub rest : List (List ℕ)
@@ -31,7 +31,7 @@ pub record InPart (Behind : ℕ → List (List ℕ) → Type 0) (b boundary : Li
   pub end_is : p.end ≡ end_of b start (at + size inner) rest
   pub behind : Behind (at + size inner) rest
 
--- a delimiter line, and the part behind it
+-- a delimiter line, and the part after it
 pub record IsPart (Behind : ℕ → List (List ℕ) → Type 0) (b boundary : List ℕ) (at : ℕ) (p : Piece) (t : List (List ℕ)) : Type 0 where
   pub line : List ℕ
   pub lines : List (List ℕ)
@@ -72,7 +72,7 @@ pub record HasParts (b boundary : List ℕ) (parts : Option (List Piece)) (at : 
 abbrev pub IsSplit : List ℕ → List ℕ → Option (List Piece) → Type 0
 IsSplit b boundary parts = HasParts b boundary parts 0 (lines b)
 
--- pieces that lie behind one another, each behind a delimiter line, up to n
+-- pieces that lie after one another, each after a delimiter line, up to n
 abbrev pub AreBehind : ℕ → List Piece → ℕ → Type 0
 AreBehind at [] n = at ≤ n
 AreBehind at (p ∷ ps) n = (at < p.start) × (p.start ≤ p.end) × AreBehind p.end ps n

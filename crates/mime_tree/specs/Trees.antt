@@ -1,11 +1,11 @@
 -- The tree of parts that octets are (RFC 2046 section 5.1).
-use Rattle.std.specs.Prelude.{◌≡◌, ℕ, zero, suc, ◌+◌, true, false, List, [], ◌∷◌, length, slice_range, Option, Some, None}
+use Rattle.std.specs.Prelude.{◌≡◌, ℕ, zero, suc, ◌+◌, true, false, List, [], ◌∷◌, length, slice_range, Option, Some, None, unwrap_or}
 use Rattle.mime_tree.specs.declared.head.Head.{Head}
 use Rattle.mime_tree.specs.declared.split.Piece.{Piece}
 use Rattle.mime_tree.specs.declared.part.Part.{Part, out-Part}
 use Rattle.mime_tree.specs.Parts.{children}
 use Rattle.mime_tree.specs.Splits.{IsSplit}
-use Rattle.mime_tree.specs.Heads.{IsHead, boundary_of, default_in, leaf_media, leaf_charset, is_multipart, text_plain}
+use Rattle.mime_tree.specs.Heads.{IsHead, boundary_of, default_in, leaf_media, leaf_charset, is_multipart, text_plain, seven_bit}
 
 -- the part stands where its head says, and has what its header says
 pub record HasHead (h : Head) (p : Part) : Type 0 where
@@ -18,7 +18,7 @@ pub record HasHead (h : Head) (p : Part) : Type 0 where
   pub cid : (out-Part p).cid ≡ h.header.cid
   pub language : (out-Part p).language ≡ h.header.language
   pub location : (out-Part p).location ≡ h.header.location
-  pub encoding : (out-Part p).encoding ≡ h.header.encoding
+  pub encoding : (out-Part p).encoding ≡ unwrap_or h.header.encoding seven_bit
 
 -- a part with no parts in it, whose number is first
 pub record IsLeaf (h : Head) (first : ℕ) (p : Part) (next : ℕ) : Type 0 where
@@ -36,7 +36,7 @@ pub record IsNode (h : Head) (p : Part) : Type 0 where
   pub media : (out-Part p).media ≡ h.media
   pub charset : (out-Part p).charset ≡ h.header.charset
 
--- from where to where, default media type, first number, part, number behind its leaves'
+-- from where to where, default media type, first number, part, number after its leaves'
 abbrev pub TreeWord : Type 1
 TreeWord = ℕ → ℕ → List ℕ → ℕ → Part → ℕ → Type 0
 
@@ -58,12 +58,13 @@ abbrev pub IsPartOf : TreeWord → Head → Option (List Piece) → ℕ → Part
 IsPartOf One h None first p next = IsLeaf h first p next
 IsPartOf One h (Some qs) first p next = IsNode h p × AreTrees One h.body (default_in h.media) qs first (children p) next
 
--- The part p is the octets of b from s to e, with at most so many levels below it. Its leaves are numbered from first
+-- The part p is the octets of b from s to e, with at most n levels below it. Its leaves are numbered from first
 -- to before next, in the order of the octets.
 unfoldable pub IsTree : ℕ → List ℕ → TreeWord
 IsTree zero b s e default first p next = (h : Head) × IsHead b s e default h × IsLeaf h first p next
 IsTree (suc more) b s e default first p next =
-    (h : Head) × IsHead b s e default h × (qs : Option (List Piece)) × ArePieces (boundary_of h) (slice_range b h.body h.end) qs × IsPartOf (IsTree more b) h qs first p next
+    (h : Head) × IsHead b s e default h × (qs : Option (List Piece)) × ArePieces (boundary_of h) (slice_range b h.body h.end) qs
+    × IsPartOf (IsTree more b) h qs first p next
 
 -- the part is the message b, of which a part at depth 64 is a leaf
 abbrev pub IsMessage : List ℕ → Part → Type 0

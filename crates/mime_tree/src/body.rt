@@ -1,9 +1,10 @@
+// The octets that a part spells.
 ghost use Rattle.std.specs.Prelude.{IfOk};
-ghost use Rattle.mime_tree.specs.Bodies.{HasOctets};
+ghost use Rattle.mime_tree.specs.Bodies.{HasLen, HasOctets};
 ghost use Rattle.mime_tree.specs.Parts.{IsWithin};
 
 use crate::part::Part;
-use header_words::decode_transfer;
+use header_words::{decode_transfer, transfer_len};
 use std::alloc::{AllocError, Global};
 
 /// The octets that a part's body spells in its transfer encoding, and whether that has a problem, as `decode_transfer`
@@ -16,5 +17,17 @@ pub fn part_bytes(alloc: Global, bytes: &[u8], part: &Part) -> Result<(Vec<u8>, 
     match part.number {
         None => Ok((Vec::from_slice(alloc, body)?, false)),
         Some(_) => decode_transfer(alloc, part.encoding.as_slice(), body),
+    }
+}
+
+/// How many octets `part_bytes` gives of a part. It takes no memory.
+pub fn part_len(bytes: &[u8], part: &Part) -> usize
+    requires { IsWithin part.now bytes.now }
+    ensures { HasLen part.now bytes.now result }
+{
+    let body = &bytes[part.start..part.end];
+    match part.number {
+        None => body.len(),
+        Some(_) => transfer_len(part.encoding.as_slice(), body),
     }
 }

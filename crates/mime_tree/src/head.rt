@@ -1,7 +1,10 @@
+// The head of a part, and its defaults.
 ghost use Rattle.std.specs.Prelude.{◌≡◌, ◌≤◌, IfOk, MatchOption, None, Some, length, unwrap_or};
 ghost use Rattle.mime_tree.specs.Heads as heads;
 ghost use Rattle.mime_tree.specs.Heads.{IsHead};
+ghost use Rattle.mime_tree.specs.reading.Shared.{AreShared};
 
+use crate::shared::SharedTexts;
 use crate::split::Piece;
 use gate_world::Bytes;
 use mail_header::fields;
@@ -16,7 +19,7 @@ pub struct Head {
     /// The media type that the header names, or else the default one.
     pub media: Bytes,
     pub start: usize,
-    /// The place behind the header, where the body begins.
+    /// The place after the header, where the body begins.
     pub body: usize,
     pub end: usize,
 }
@@ -27,7 +30,7 @@ pub fn head_at(
     alloc: Global,
     bytes: &[u8],
     place: Piece,
-    default: &[u8],
+    default: &Bytes,
 ) -> Result<Head, AllocError>
     requires ordered { place.start ≤ place.end }
     requires within { place.end ≤ length bytes.now }
@@ -36,7 +39,7 @@ pub fn head_at(
     let text = &bytes[place.start..place.end];
     let list = fields(alloc, text)?;
     let header = part_header(alloc, &list)?;
-    let media = media_or(alloc, &header, default)?;
+    let media = media_or(&header, default)?;
     Ok(Head {
         header,
         media,
@@ -46,12 +49,13 @@ pub fn head_at(
     })
 }
 
-fn media_or(alloc: Global, header: &PartHeader, default: &[u8]) -> Result<Bytes, AllocError>
+/// The media type that the header names, or else the default one, with no copy.
+fn media_or(header: &PartHeader, default: &Bytes) -> Result<Bytes, AllocError>
     ensures { IfOk result (λ m. m ≡ unwrap_or header.now.media default.now) }
 {
     match &header.media {
-        None => Bytes::copy_of(alloc, default),
-        Some(media) => Bytes::copy_of(alloc, media.as_slice()),
+        None => default.share(),
+        Some(media) => media.share(),
     }
 }
 
@@ -76,6 +80,7 @@ fn is_multipart(media: &[u8]) -> bool
     same_text(kind, b"multipart")
 }
 
+/// Whether the media type is a text.
 #[tactic(auto, unfolding(crate::specs::Heads::is_text))]
 pub fn is_text(media: &[u8]) -> bool
     ensures { result ≡ heads.is_text media.now }
@@ -92,44 +97,58 @@ fn is_digest(media: &[u8]) -> bool
 }
 
 /// The media type of a leaf, which is no multipart.
-#[tactic(auto, unfolding(crate::specs::Heads::text_plain))]
-pub fn leaf_media(alloc: Global, media: Bytes) -> Result<Bytes, AllocError>
+pub(crate) fn leaf_media(shared: &SharedTexts, media: Bytes) -> Result<Bytes, AllocError>
+    requires { AreShared shared.now }
     ensures { IfOk result (λ m. m ≡ heads.leaf_media media) }
 {
     if is_multipart(media.as_slice()) {
-        Bytes::copy_of(alloc, b"text/plain")
+        shared.text_plain.share()
     } else {
         Ok(media)
     }
 }
 
 /// The charset of a leaf of this media type.
-#[tactic(auto, unfolding(crate::specs::Heads::us_ascii))]
-pub fn leaf_charset(
-    alloc: Global,
+pub(crate) fn leaf_charset(
+    shared: &SharedTexts,
     media: &[u8],
     charset: Option<Bytes>,
 ) -> Result<Option<Bytes>, AllocError>
+    requires { AreShared shared.now }
     ensures { IfOk result (λ c. c ≡ heads.leaf_charset media.now charset) }
 {
     if !is_text(media) {
         return Ok(charset);
     }
     match charset {
-        None => Ok(Some(Bytes::copy_of(alloc, b"us-ascii")?)),
+        None => Ok(Some(shared.us_ascii.share()?)),
         Some(given) => Ok(Some(given)),
     }
 }
 
+/// The transfer encoding that the header names, or else 7bit.
+pub(crate) fn encoding_or(
+    shared: &SharedTexts,
+    encoding: Option<Bytes>,
+) -> Result<Bytes, AllocError>
+    requires { AreShared shared.now }
+    ensures { IfOk result (λ e. e ≡ unwrap_or encoding heads.seven_bit) }
+{
+    match encoding {
+        None => shared.seven_bit.share(),
+        Some(given) => Ok(given),
+    }
+}
+
 /// The default media type in a multipart of this one.
-#[tactic(auto, unfolding(crate::specs::Heads::text_plain, crate::specs::Heads::message_rfc822))]
-pub fn default_in(media: &[u8]) -> &'static [u8]
+pub(crate) fn default_in<'a>(shared: &'a SharedTexts, media: &[u8]) -> &'a Bytes
+    requires { AreShared shared.now }
     ensures { result.now ≡ heads.default_in media.now }
 {
     if is_digest(media) {
-        b"message/rfc822"
+        &shared.message_rfc822
     } else {
-        b"text/plain"
+        &shared.text_plain
     }
 }
 

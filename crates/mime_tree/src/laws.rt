@@ -1,3 +1,4 @@
+// Laws of trees, leaves and body lists.
 ghost use Rattle.std.specs.Prelude.{◌≡◌, ◌≤◌, ◌⊎◌, ℕ, Bool, List, Option, Some};
 ghost use Rattle.mime_tree.specs.declared.lists.BodyLists.{BodyLists};
 ghost use Rattle.mime_tree.specs.declared.part.Part.{Part};

@@ -8,10 +8,11 @@ mod list_walk;
 mod lists;
 pub mod part;
 mod roles;
+mod shared;
 pub mod split;
 pub mod tree;
 
-pub use body::part_bytes;
+pub use body::{part_bytes, part_len};
 pub use lists::{BodyLists, body_lists};
 pub use part::Part;
 pub use roles::is_plain;

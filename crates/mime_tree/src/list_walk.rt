@@ -3,7 +3,7 @@ ghost use Rattle.std.specs.Prelude.{◌≡◌, ◌≤◌, ◌++◌, ◌||◌, �
 ghost use Rattle.mime_tree.specs.BodyLists as body;
 ghost use Rattle.mime_tree.specs.Roles as roles;
 ghost use Rattle.mime_tree.specs.BodyLists.{PartLists};
-ghost use Rattle.mime_tree.specs.ListBuilding.{grown, attached, Gains, GainsBy, GainsBelow, Shares, Spreads};
+ghost use Rattle.mime_tree.specs.reading.ListBuilding.{grown, attached, Gains, GainsBy, GainsBelow, Shares, Spreads};
 
 use crate::part::Part;
 use crate::roles::{
@@ -165,7 +165,7 @@ fn into(walk: Walk, part: &Part) -> Walk
     }
 }
 
-/// Puts what stands in the one list from a place on behind the other.
+/// Puts what stands in the one list from a place on after the other.
 fn copy_from(from: &Vec<u64>, place: usize, to: &mut Vec<u64>) -> Result<(), AllocError>
     requires { place ≤ length from.now.items }
     ensures { OnOk result (to.new.items ≡ to.old.items ++ drop place from.now.items) }

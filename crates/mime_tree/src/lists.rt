@@ -1,7 +1,7 @@
 // Body lists (RFC 8621 section 4.1.4).
 ghost use Rattle.std.specs.Prelude.{◌≡◌, IfOk};
 ghost use Rattle.mime_tree.specs.BodyLists as body;
-ghost use Rattle.mime_tree.specs.ListBuilding.{grown, none};
+ghost use Rattle.mime_tree.specs.reading.ListBuilding.{grown, none};
 
 use crate::list_walk::{Growing, walk_parts};
 use crate::part::Part;

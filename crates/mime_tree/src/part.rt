@@ -1,3 +1,4 @@
+// Parts, and leaves by their numbers.
 ghost use Rattle.std.specs.Prelude.{◌≡◌, ◌≢◌, ◌↔◌, IsTrue, MatchOption, Some};
 ghost use Rattle.mime_tree.specs.Parts.{IsUnder, number_of};
 
@@ -16,14 +17,14 @@ pub struct Part {
     pub cid: Option<Bytes>,
     pub language: Option<Bytes>,
     pub location: Option<Bytes>,
-    /// The transfer encoding that the header names.
+    /// The transfer encoding that the header names, `7bit` where it has none, and the empty text where it can't be read.
     pub encoding: Bytes,
     /// Where the body begins, as it stands, with its transfer encoding.
     pub start: usize,
-    /// The place behind the body.
+    /// The place after the body.
     pub end: usize,
     pub head_start: usize,
-    /// The place behind the header and the empty line that ends it.
+    /// The place after the header and the empty line that ends it.
     pub head_end: usize,
     pub children: Vec<Part>,
 }

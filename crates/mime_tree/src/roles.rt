@@ -61,6 +61,7 @@ fn is_related(multipart: Multipart) -> bool
     }
 }
 
+/// Whether the part is text/plain.
 pub fn is_plain(part: &Part) -> bool
     ensures { result ≡ roles.is_plain part.now }
 {

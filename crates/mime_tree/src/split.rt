@@ -1,20 +1,22 @@
+// The parts of a multipart's body (RFC 2046 section 5.1.1).
 ghost use Rattle.std.specs.Prelude.{◌≡◌, ◌≤◌, ◌<◌, ◌+◌, IfOk, OnOk, IfSome, MatchOption, None, Some, ◌++◌, length, ℕ, List};
-ghost use Rattle.mime_tree.specs.LineReading as reading;
+ghost use Rattle.mime_tree.specs.reading.LineReading as reading;
 ghost use Rattle.mime_tree.specs.Splits as splits;
 ghost use Rattle.mime_tree.specs.Splits.{IsSplit, AreBehind, ending};
 
 use gate_world::Listed;
 use mail_header::lines::without_end;
+use memchr::memchr;
 use std::alloc::{AllocError, Global};
-use text_words::{Class, White, are_all, cut};
+use text_words::{White, are_all};
 
 /// What a line is to a multipart.
 #[derive(Clone, Copy, PartialEq, Eq, Debug)]
 pub enum Mark {
     Plain,
-    /// A delimiter line, behind which a part begins.
+    /// A delimiter line, after which a part begins.
     Opens,
-    /// A closing line, behind which no part stands.
+    /// A closing line, after which no part stands.
     Closes,
 }
 
@@ -25,34 +27,18 @@ pub struct Piece {
     pub end: usize,
 }
 
-/// The octets that end no line.
-struct InLine;
-
-impl Class<u8> for InLine {
-    ghost use Rattle.mime_tree.specs.LineReading as reading;
-
-    ghost test = { reading.is_in_line };
-
-    fn has(&self, item: &u8) -> bool {
-        *item != b'\n'
-    }
-}
-
 /// How many octets the first line has, with its end.
-#[tactic(auto, using(crate::proofs::LineLemmas::line_counts))]
 fn line_len(bytes: &[u8]) -> usize
     ensures value { result ≡ reading.line_len bytes.now }
     ensures within { result ≤ length bytes.now }
 {
-    let (line, rest) = cut(&InLine, bytes);
-    if rest.is_empty() {
-        line.len()
-    } else {
-        line.len() + 1
+    match memchr(b'\n', bytes) {
+        None => bytes.len(),
+        Some(at) => at + 1,
     }
 }
 
-/// What the line is, by what stands behind the boundary.
+/// What the line is, by what stands after the boundary.
 fn rest_mark(rest: &[u8]) -> Mark
     ensures { result ≡ reading.rest_mark (Some rest.now) }
 {
@@ -72,7 +58,7 @@ fn rest_mark(rest: &[u8]) -> Mark
 }
 
 /// What the line is to a multipart with this boundary.
-#[tactic(auto, unfolding(crate::specs::LineReading::mark_of))]
+#[tactic(auto, unfolding(crate::specs::reading::LineReading::mark_of))]
 fn mark_of(line: &[u8], boundary: &[u8]) -> Mark
     ensures { result ≡ reading.mark_of boundary.now line.now }
 {

@@ -1,42 +1,48 @@
+// The tree of a message's parts.
 ghost use Rattle.std.specs.Prelude.{◌≡◌, ◌≤◌, ◌<◌, ◌+◌, ◌-◌, ◌^◌, ℕ, IfOk, IfSome, None, Some, length, slice_range};
 ghost use Rattle.mime_tree.specs.declared.part.Part.{Part, out-Part};
 ghost use Rattle.mime_tree.specs.Heads as heads;
 ghost use Rattle.mime_tree.specs.Parts.{IsUnder, IsWithin};
 ghost use Rattle.mime_tree.specs.Splits.{AreBehind};
+ghost use Rattle.mime_tree.specs.reading.Shared.{AreShared};
 ghost use Rattle.mime_tree.specs.Trees.{ArePieces, IsLeaf, IsNode, IsTree, IsMessage};
 
-use crate::head::{Head, boundary_of, default_in, head_at, leaf_charset, leaf_media};
+use crate::head::{Head, boundary_of, default_in, encoding_or, head_at, leaf_charset, leaf_media};
 use crate::part::Part;
+use crate::shared::{SharedTexts, shared_texts};
 use crate::split::{Piece, split};
-use gate_world::Listed;
+use gate_world::{Bytes, Listed};
 use std::alloc::{AllocError, Global};
 
 /// The depth at which each part is a leaf. The root is at depth 0.
 const MAX_DEPTH: usize = 64;
 
-/// The tree of the octets of a message, which may be any.
-#[tactic(auto, unfolding(crate::specs::Heads::text_plain))]
+/// The tree of the octets of a message, which may be any. A part without a header takes no memory but its own place.
 pub fn parse(alloc: Global, bytes: &[u8]) -> Result<Part, AllocError>
     ensures message { IfOk result (λ p. IsMessage bytes.now p) }
     ensures within { IfOk result (λ p. (q : Part) → IsUnder q p → IsWithin q bytes.now) }
 {
+    let shared = shared_texts(alloc)?;
     let place = Piece {
         start: 0,
         end: bytes.len(),
     };
-    let (part, _) = part_at(alloc, bytes, place, b"text/plain", MAX_DEPTH, 1)?;
+    let default = &shared.text_plain;
+    let (part, _) = part_at(alloc, &shared, bytes, place, default, MAX_DEPTH, 1)?;
     Ok(part)
 }
 
-/// The part that stands there, and the number behind its leaves'.
+/// The part that stands there, and the number after its leaves'.
 fn part_at(
     alloc: Global,
+    shared: &SharedTexts,
     bytes: &[u8],
     place: Piece,
-    default: &[u8],
+    default: &Bytes,
     more: usize,
     first: u64,
 ) -> Result<(Part, u64), AllocError>
+    requires shared { AreShared shared.now }
     requires ordered { place.start ≤ place.end }
     requires within { place.end ≤ length bytes.now }
     requires room { first + (place.end - place.start) ≤ 2 ^ 63 }
@@ -45,24 +51,24 @@ fn part_at(
 {
     let head = head_at(alloc, bytes, place, default)?;
     if more == 0 {
-        return Ok((leaf(alloc, head, first)?, first + 1));
+        return Ok((leaf(alloc, shared, head, first)?, first + 1));
     }
     match pieces_of(alloc, bytes, &head)? {
-        None => Ok((leaf(alloc, head, first)?, first + 1)),
+        None => Ok((leaf(alloc, shared, head, first)?, first + 1)),
         Some(pieces) => {
-            let mut children = Vec::new(alloc);
+            let mut children = Vec::with_capacity(alloc, pieces.len())?;
             let mut next = first;
             for piece in pieces.as_slice() {
                 let place = Piece {
                     start: head.body + piece.start,
                     end: head.body + piece.end,
                 };
-                let default = default_in(head.media.as_slice());
-                let (child, after) = part_at(alloc, bytes, place, default, more - 1, next)?;
+                let default = default_in(shared, head.media.as_slice());
+                let (child, after) = part_at(alloc, shared, bytes, place, default, more - 1, next)?;
                 children.push(child)?;
                 next = after;
             }
-            Ok((node(head, children), next))
+            Ok((node(shared, head, children)?, next))
         }
     }
 }
@@ -84,7 +90,8 @@ fn pieces_of(alloc: Global, bytes: &[u8], head: &Head) -> Result<Option<Listed<P
 }
 
 /// A part with no parts in it.
-fn leaf(alloc: Global, head: Head, number: u64) -> Result<Part, AllocError>
+fn leaf(alloc: Global, shared: &SharedTexts, head: Head, number: u64) -> Result<Part, AllocError>
+    requires { AreShared shared.now }
     ensures { IfOk result (λ p. IsLeaf head number p (number + 1)) }
 {
     let Head {
@@ -94,8 +101,9 @@ fn leaf(alloc: Global, head: Head, number: u64) -> Result<Part, AllocError>
         body,
         end,
     } = head;
-    let media = leaf_media(alloc, media)?;
-    let charset = leaf_charset(alloc, media.as_slice(), header.charset)?;
+    let media = leaf_media(shared, media)?;
+    let charset = leaf_charset(shared, media.as_slice(), header.charset)?;
+    let encoding = encoding_or(shared, header.encoding)?;
     Ok(Part {
         number: Some(number),
         media,
@@ -105,7 +113,7 @@ fn leaf(alloc: Global, head: Head, number: u64) -> Result<Part, AllocError>
         cid: header.cid,
         language: header.language,
         location: header.location,
-        encoding: header.encoding,
+        encoding,
         start: body,
         end,
         head_start: start,
@@ -115,9 +123,10 @@ fn leaf(alloc: Global, head: Head, number: u64) -> Result<Part, AllocError>
 }
 
 /// A multipart.
-fn node(head: Head, children: Vec<Part>) -> Part
-    ensures node { IsNode head result }
-    ensures children { (out-Part result).children.items ≡ children.items }
+fn node(shared: &SharedTexts, head: Head, children: Vec<Part>) -> Result<Part, AllocError>
+    requires { AreShared shared.now }
+    ensures node { IfOk result (λ p. IsNode head p) }
+    ensures children { IfOk result (λ p. (out-Part p).children.items ≡ children.items) }
 {
     let Head {
         header,
@@ -126,7 +135,8 @@ fn node(head: Head, children: Vec<Part>) -> Part
         body,
         end,
     } = head;
-    Part {
+    let encoding = encoding_or(shared, header.encoding)?;
+    Ok(Part {
         number: None,
         media,
         charset: header.charset,
@@ -135,11 +145,11 @@ fn node(head: Head, children: Vec<Part>) -> Part
         cid: header.cid,
         language: header.language,
         location: header.location,
-        encoding: header.encoding,
+        encoding,
         start: body,
         end,
         head_start: start,
         head_end: body,
         children,
-    }
+    })
 }

@@ -26,7 +26,9 @@ const LINES: usize = 100_000;
 fn flag_lines(alloc: Global) -> Result<Vec<u8>, AllocError> {
     let mut out = Vec::new(alloc);
     for uid in 1..LINES + 1 {
-        let line = format!(in alloc; "* {uid} FETCH (UID {uid} FLAGS (\\Seen) MODSEQ ({uid}))\r\n")?;
+        let line = format!(in alloc;
+            "* {uid} FETCH (UID {uid} FLAGS (\\Seen) MODSEQ ({uid}))\r\n"
+        )?;
         out.extend_from_slice(line.as_bytes())?;
     }
     Ok(out)

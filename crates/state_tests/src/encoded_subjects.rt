@@ -35,7 +35,7 @@ const SUBJECTS: [(&[u8], &[u8]); 32] = [
     (b" =?utf-8?Q?Re?= :Plan", b"Plan"),
     (b" Re:\r\n\t=?utf-8?Q?Plan?=\r\n B", b"Plan B"),
     (b" =?utf-8?Q?Plan=09=20__B?=", b"Plan B"),
-    // letters of charsets, and a language behind a charset's name (RFC 2231 section 5)
+    // letters of charsets, and a language after a charset's name (RFC 2231 section 5)
     (b" Re: =?iso-8859-1?Q?caf=E9?=", b"caf\xC3\xA9"),
     (b" =?ISO-8859-1?Q?R=E9:_Plan?=", b"R\xC3\xA9: Plan"),
     (b" =?us-ascii*en?Q?Re:_Plan?=", b"Plan"),

@@ -74,7 +74,8 @@ each_more {A} p b i x lt e r h =
     subst P (sym (take_more b i x lt)) (each_append p (take i b) (get_or b i x ∷ []) e (ap p (sym r) ∙ h, tt))
 
 -- a walk that stopped at i has cut there
-pub cut_here : {A : Type 0} (p : A → Bool) (b : List A) (i : ℕ) (x : A) → i < length b → Each p (take i b) → x ≡ get_or b i x → p x ≡ false → SameCut (take i b) (front p b) (drop i b) (back p b)
+pub cut_here : {A : Type 0} (p : A → Bool) (b : List A) (i : ℕ) (x : A) → i < length b → Each p (take i b) → x ≡ get_or b i x → p x ≡ false
+    → SameCut (take i b) (front p b) (drop i b) (back p b)
 cut_here {A} p b i x lt e r h =
     let S : List A → Type 0 = λ u. Stops p u in
     one_cut p (take i b) (front p b) (drop i b) (back p b)
@@ -127,6 +128,6 @@ all_is {A} p t b f g = by b (list_all p t) refl refl
     by false true h k = g (list_all_each p t k) ∙ sym k
     by false false h k = h ∙ sym k
 
--- what is cut off stands behind the front
+-- what is cut off stands after the front
 pub drop_front : {A : Type 0} (p : A → Bool) (t : List A) → drop (length (front p t)) t ≡ back p t
 drop_front p t = ap (drop (length (front p t))) (front_back p t) ∙ drop_at (front p t) (back p t) (length (front p t)) refl

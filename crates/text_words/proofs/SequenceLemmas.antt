@@ -1,4 +1,4 @@
--- Units one behind another: one reading, and a walk over them.
+-- Units one after another: one reading, and a walk over them.
 use Rattle.std.proofs.Common.{◌≡◌, ◌≢◌, ℕ, ◌<◌, ◌≤◌, List, [], ◌∷◌, ◌++◌, length, take, drop, refl, sym, ap, ◌∙◌, subst, arith, append_assoc, Option, Some, None}
 use Rattle.std.proofs.lemmas.List.{append-nil, append_cancel_left, length-append, take_at, drop_at}
 use Rattle.text_words.specs.Sequence.{Sequence, SameStart, IsDetermined, UnitAt}
@@ -28,7 +28,8 @@ pub begins : {V A : Type 0} (Is : V → List A → List A → Type 0) (b : List 
 begins Is b = record { forth = λ more h. h; back = λ all h. (all, refl, h) }
 
 -- the unit that was read is the next
-pub one_more : {V A : Type 0} {Is : V → List A → List A → Type 0} → IsDetermined Is → (vs : List V) (v : V) (x more rest b : List A) → Behind Is vs rest b → rest ≡ x ++ more → Is v x more → Behind Is (vs ++ v ∷ []) more b
+pub one_more : {V A : Type 0} {Is : V → List A → List A → Type 0} → IsDetermined Is → (vs : List V) (v : V) (x more rest b : List A) → Behind Is vs rest b → rest ≡ x ++ more
+    → Is v x more → Behind Is (vs ++ v ∷ []) more b
 one_more {V} {A} {Is} d vs v x more rest b h e i = record { forth = forth; back = λ all s. let q = h.back all s in back all q.0 q.1 q.2 }
   where
     forth : (ws : List V) → Sequence Is ws more → Sequence Is ((vs ++ v ∷ []) ++ ws) b
@@ -48,7 +49,8 @@ pub all_done : {V A : Type 0} {Is : V → List A → List A → Type 0} (vs : Li
 all_done {V} {A} {Is} vs rest b h e = let P : List V → Type 0 = λ u. Sequence Is u b in subst P (append-nil vs) (h.forth [] e)
 
 -- where no unit follows, the whole is no sequence
-pub no_more : {V A : Type 0} {Is : V → List A → List A → Type 0} (vs : List V) (rest b : List A) → Behind Is vs rest b → rest ≢ [] → ((v : V) (x more : List A) → rest ≡ x ++ more → Is v x more → ⊥) → (all : List V) → Sequence Is all b → ⊥
+pub no_more : {V A : Type 0} {Is : V → List A → List A → Type 0} (vs : List V) (rest b : List A) → Behind Is vs rest b → rest ≢ []
+    → ((v : V) (x more : List A) → rest ≡ x ++ more → Is v x more → ⊥) → (all : List V) → Sequence Is all b → ⊥
 no_more {V} {A} {Is} vs rest b h n none all s = by (h.back all s).0 (h.back all s).2
   where
     by : (more : List V) → Sequence Is more rest → ⊥
@@ -84,7 +86,8 @@ pub record Within (n m : ℕ) : Type 0 where
   pub within : n ≤ m
 
 -- what is read is some of the text
-pub unit_within : {V A : Type 0} {Is : V → List A → List A → Type 0} (read : List A → Option (V × ℕ)) → IsReader Is read → (v : V) (n : ℕ) (t : List A) → read t ≡ Some (v, n) → Within n (length t)
+pub unit_within : {V A : Type 0} {Is : V → List A → List A → Type 0} (read : List A → Option (V × ℕ)) → IsReader Is read → (v : V) (n : ℕ) (t : List A) → read t ≡ Some (v, n)
+    → Within n (length t)
 unit_within {V} {A} {Is} read r v n t e =
     let u = r.sound v n t e in
     record { some = positive u.unit (r.some v u.unit u.rest u.is) u.counted; within = omega (arith, u.counted, ap length u.whole, length-append u.unit u.rest) }
@@ -94,7 +97,8 @@ unit_within {V} {A} {Is} read r v n t e =
     positive (c ∷ x) k h = omega (arith, h)
 
 -- the unit that is read is the next
-pub read_more : {V A : Type 0} {Is : V → List A → List A → Type 0} (read : List A → Option (V × ℕ)) → IsReader Is read → (vs : List V) (v : V) (n : ℕ) (rest b : List A) → Behind Is vs rest b → read rest ≡ Some (v, n) → Behind Is (vs ++ v ∷ []) (drop n rest) b
+pub read_more : {V A : Type 0} {Is : V → List A → List A → Type 0} (read : List A → Option (V × ℕ)) → IsReader Is read → (vs : List V) (v : V) (n : ℕ) (rest b : List A)
+    → Behind Is vs rest b → read rest ≡ Some (v, n) → Behind Is (vs ++ v ∷ []) (drop n rest) b
 read_more {V} {A} {Is} read r vs v n rest b h e =
     let u = r.sound v n rest e in
     let behind : drop n rest ≡ u.rest = ap (drop n) u.whole ∙ drop_at u.unit u.rest n (sym u.counted) in
@@ -102,10 +106,12 @@ read_more {V} {A} {Is} read r vs v n rest b h e =
     subst P (sym behind) (one_more (determined read r) vs v u.unit u.rest rest b h u.whole u.is)
 
 -- where nothing is read, the whole is no sequence
-pub read_no_more : {V A : Type 0} {Is : V → List A → List A → Type 0} (read : List A → Option (V × ℕ)) → IsReader Is read → (vs : List V) (rest b : List A) → Behind Is vs rest b → rest ≢ [] → read rest ≡ None → (all : List V) → Sequence Is all b → ⊥
+pub read_no_more : {V A : Type 0} {Is : V → List A → List A → Type 0} (read : List A → Option (V × ℕ)) → IsReader Is read → (vs : List V) (rest b : List A) → Behind Is vs rest b
+    → rest ≢ [] → read rest ≡ None → (all : List V) → Sequence Is all b → ⊥
 read_no_more {V} {A} {Is} read r vs rest b h k e = no_more vs rest b h k (λ v x more w i. let q = r.complete v x more i in let p = ap read w in absurd cc)
 
-pub unit_same : {V A : Type 0} (Is : V → List A → List A → Type 0) (v w : V) (m n : ℕ) (t : List A) → ◌≡◌ {A = Option (V × ℕ)} (Some (v, m)) (Some (w, n)) → UnitAt Is v m t → UnitAt Is w n t
+pub unit_same : {V A : Type 0} (Is : V → List A → List A → Type 0) (v w : V) (m n : ℕ) (t : List A) → ◌≡◌ {A = Option (V × ℕ)} (Some (v, m)) (Some (w, n)) → UnitAt Is v m t
+    → UnitAt Is w n t
 unit_same {V} {A} Is v w m n t e u =
     let p = same_pair v w m n e in
     let P : V → Type 0 = λ y. UnitAt Is y n t in

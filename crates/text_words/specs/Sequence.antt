@@ -1,4 +1,4 @@
--- Texts that are units, one behind another.
+-- Texts that are units, one after another.
 use Rattle.std.specs.Prelude.{◌≡◌, ◌≢◌, ℕ, List, [], ◌∷◌, ◌++◌, length}
 
 -- The text begins with a unit, and what follows it is a text of the kind More. Is v x rest says that x, where

@@ -1,3 +1,4 @@
+// Classes of units, and cuts by them.
 ghost use Rattle.std.specs.Prelude.{◌≡◌, ◌↔◌, Bool, IsTrue};
 ghost use Rattle.std.specs.List.{list_all};
 ghost use Rattle.text_words.specs.Cuts.{Each, front, back};
@@ -11,7 +12,7 @@ pub trait Class<T> {
         ensures { result ≡ test item.now };
 }
 
-/// What stands before the first element outside the class, and that element with all behind it.
+/// What stands before the first element outside the class, and that element with all after it.
 pub fn cut<'a, T, C: Class<T>>(class: &C, items: &'a [T]) -> (&'a [T], &'a [T])
     ensures front { result.0.now ≡ front C.test items.now }
     ensures back { result.1.now ≡ back C.test items.now }

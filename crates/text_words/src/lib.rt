@@ -1,4 +1,4 @@
-//! General words on lists of octets: cuts at the first element that fails a test, texts that are units one behind
+//! General words on lists of octets: cuts at the first element that fails a test, texts that are units one after
 //! another, classes of octets and ends of lines. Grammars over octets are stated in them.
 #![tactic(auto)]
 

@@ -1,3 +1,4 @@
+// Ends of lines (RFC 5322 section 2.1).
 ghost use Rattle.std.specs.Prelude.{◌≡◌, ◌≤◌, length};
 ghost use Rattle.text_words.specs.LineEnds as lines;
 
@@ -20,6 +21,7 @@ pub fn line_end_len(text: &[u8]) -> usize
     }
 }
 
+/// Whether an LF stands at the front.
 pub fn begins_with_lf(text: &[u8]) -> bool
     ensures { result ≡ lines.begins_with_lf text.now }
 {

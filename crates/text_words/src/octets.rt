@@ -1,3 +1,4 @@
+// Classes of octets, and texts that are equal but for the case of letters.
 ghost use Rattle.std.specs.Prelude.{◌≡◌, ◌<◌, ◌↔◌, IsTrue, IfSome};
 ghost use Rattle.text_words.specs.Octets as octets;
 
@@ -47,12 +48,14 @@ impl Class<u8> for White {
     }
 }
 
+/// Whether the octet is a space or a tab.
 pub fn is_blank(octet: u8) -> bool
     ensures { result ≡ octets.is_blank octet }
 {
     octet == b'\t' || octet == b' '
 }
 
+/// Whether the octet is a space, a tab, a CR or an LF.
 pub fn is_white(octet: u8) -> bool
     ensures { result ≡ octets.is_white octet }
 {
@@ -72,6 +75,7 @@ pub fn hex_value(octet: u8) -> Option<u8>
     }
 }
 
+/// Whether the octet is a decimal digit.
 pub fn is_digit(octet: u8) -> bool
     ensures { result ≡ octets.is_digit octet }
 {

@@ -1,9 +1,10 @@
+// The first units of a list, and what follows them.
 ghost use Rattle.std.specs.Prelude.{◌≡◌, ◌≢◌, ℕ, false, List, [], ◌∷◌, ◌++◌, MatchOption};
 ghost use Rattle.text_words.specs.Cuts.{IsRun};
 
 use crate::class::{Class, cut};
 
-/// What stands behind the octet, where the text begins with it.
+/// What stands after the octet, where the text begins with it.
 pub fn behind(octet: u8, text: &[u8]) -> Option<&[u8]>
     ensures { MatchOption result ((t : List ℕ) → text.now ≢ octet ∷ t) (λ r. text.now ≡ octet ∷ r.now) }
 {
@@ -13,8 +14,8 @@ pub fn behind(octet: u8, text: &[u8]) -> Option<&[u8]>
     }
 }
 
-/// A run of one or more octets of the class at the front and what stands behind the octet `stop`, where `stop`
-/// comes directly behind the run.
+/// A run of one or more octets of the class at the front and what stands after the octet `stop`, where `stop`
+/// comes directly after the run.
 pub fn run_before<'a, C: Class<u8>>(
     class: &C,
     stop: u8,
@@ -35,7 +36,7 @@ pub fn run_before<'a, C: Class<u8>>(
     }
 }
 
-/// The first octet and those behind it.
+/// The first octet and those after it.
 pub fn first(text: &[u8]) -> Option<(u8, &[u8])>
     ensures { MatchOption result (text.now ≡ []) (λ r. text.now ≡ r.0 ∷ r.1.now) }
 {

@@ -1,3 +1,4 @@
+// Tests of cuts, classes and line ends.
 use crate::class::{are_all, cut};
 use crate::line_ends::line_end_len;
 use crate::octets::{Alpha, Blank, Digit, White, hex_value, is_alpha, same_text};

@@ -98,7 +98,13 @@ fwd_letters (a ∷ b ∷ c ∷ []) e =
     let p : to_ascii_lowercase a ≡ 102 = cc in
     let q : to_ascii_lowercase b ≡ 119 = cc in
     let r : to_ascii_lowercase c ≡ 100 = cc in
-    record { first = a; more = b ∷ c ∷ []; whole = refl; letter = letter_of a 102 p refl; letters = (letter_of a 102 p refl, (letter_of b 119 q refl, (letter_of c 100 r refl, tt))) }
+    record {
+      first = a;
+      more = b ∷ c ∷ [];
+      whole = refl;
+      letter = letter_of a 102 p refl;
+      letters = (letter_of a 102 p refl, (letter_of b 119 q refl, (letter_of c 100 r refl, tt)));
+    }
 fwd_letters (a ∷ b ∷ c ∷ d ∷ t) e = absurd cc
 
 pub word_letters : (w : List ℕ) → IsReplyWord w → IsLetters w
@@ -157,7 +163,7 @@ one_passed s t u (Dropped d) (Absent l e) = absurd (l t d)
 one_passed s t u (Absent l d) (Dropped e) = absurd (l u e)
 one_passed s t u (Absent l d) (Absent k e) = d ∙ sym e
 
--- behind the word, its white space and a blob comes the colon
+-- after the word, its white space and a blob comes the colon
 pub mark_passed : (s t r : List ℕ) → Drops IsReplyMark s t → PassesBlob (back is_blank (back is_alpha s)) r → r ≡ 58 ∷ t
 mark_passed s t r d p =
     let m = mark_read s t d in
@@ -182,7 +188,8 @@ mark_here s r t w p e =
     record {
       piece = word ++ (gap ++ (k.blob ++ 58 ∷ []));
       whole = front_back is_alpha s
-          ∙ ap (λ (u : List ℕ). word ++ u) (front_back is_blank rest ∙ ap (λ (u : List ℕ). gap ++ u) (k.whole ∙ ap (λ (u : List ℕ). k.blob ++ u) e ∙ sym (append_assoc k.blob (58 ∷ []) t)) ∙ sym (append_assoc gap (k.blob ++ 58 ∷ []) t))
+          ∙ ap (λ (u : List ℕ). word ++ u) (front_back is_blank rest
+          ∙ ap (λ (u : List ℕ). gap ++ u) (k.whole ∙ ap (λ (u : List ℕ). k.blob ++ u) e ∙ sym (append_assoc k.blob (58 ∷ []) t)) ∙ sym (append_assoc gap (k.blob ++ 58 ∷ []) t))
           ∙ sym (append_assoc word (gap ++ (k.blob ++ 58 ∷ [])) t);
       is = record { word = word; gap = gap; blob = k.blob; whole = refl; reply = w; blank = front_each is_blank rest; optional = k.optional };
     }

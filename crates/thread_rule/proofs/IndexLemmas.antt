@@ -1,5 +1,6 @@
 -- What a change at one id, or at several, leaves of the index.
-use Rattle.std.proofs.Common.{◌≡◌, ◌≢◌, ℕ, ◌+◌, ◌<◌, Bool, true, false, ◌&&◌, ◌||◌, cond, eqb, eqb-true, List, [], ◌∷◌, ◌++◌, length, get_or, take, drop, refl, sym, ap, ◌∙◌, subst, Option, Some, None, map, Result, Ok, Err, arith}
+use Rattle.std.proofs.Common.{◌≡◌, ◌≢◌, ℕ, ◌+◌, ◌<◌, Bool, true, false, ◌&&◌, ◌||◌, cond, eqb, eqb-true, List, [], ◌∷◌, ◌++◌, length, get_or, take, drop, refl, sym, ap, ◌∙◌, subst}
+use Rattle.std.proofs.Common.{Option, Some, None, map, Result, Ok, Err, arith}
 use Rattle.std.specs.Option.{option_map_or}
 use Rattle.std.specs.Result.{OnErr}
 use Rattle.std.specs.Bool.{MatchBool}
@@ -66,7 +67,8 @@ looked_up {X} at m n w h id = by (bytes_eq id at) refl
 pub number_test : (a b : ℕ) → is_at (nat_cmp a) b ≡ eqb a b
 number_test a b = grind arith
 
-pub set_changed : (s t : BTreeSet ℕ) (email : ℕ) (b : Bool) → sorted.UpdatesBy nat_cmp (nat_cmp email) s t b → (e : ℕ) → contains nat_cmp t e ≡ cond (eqb email e) b (contains nat_cmp s e)
+pub set_changed : (s t : BTreeSet ℕ) (email : ℕ) (b : Bool) → sorted.UpdatesBy nat_cmp (nat_cmp email) s t b → (e : ℕ)
+    → contains nat_cmp t e ≡ cond (eqb email e) b (contains nat_cmp s e)
 set_changed s t email b h e = h.0 e ∙ ap (λ (q : Bool). cond q b (contains nat_cmp s e)) (number_test email e)
 
 pub has_some : (m : KeyIndex) (at : List ℕ) (s : BTreeSet ℕ) → get_by (λ k. slice_cmp nat_cmp at k) m ≡ Some s → (e : ℕ) → contains nat_cmp s e ≡ has m at e
@@ -129,13 +131,15 @@ sets_more k m n xs x email b g h id e =
     ∙ ap (λ (y : Bool). cond (y && eqb email e) b (has k id e)) (sym (list_any-append (bytes_eq id) xs (x ∷ [])))
 
 -- one turn of a loop over ids
-pub sets_turn : (k m n : KeyIndex) (ids : List (List ℕ)) (i : ℕ) (x : List ℕ) (email : ℕ) (b : Bool) → i < length ids → x ≡ get_or ids i x → SetsAll k m (take i ids) email b → SetsOne m n x email b → SetsAll k n (take (i + 1) ids) email b
+pub sets_turn : (k m n : KeyIndex) (ids : List (List ℕ)) (i : ℕ) (x : List ℕ) (email : ℕ) (b : Bool) → i < length ids → x ≡ get_or ids i x → SetsAll k m (take i ids) email b
+    → SetsOne m n x email b → SetsAll k n (take (i + 1) ids) email b
 sets_turn k m n ids i x email b l e g h =
     let P : List (List ℕ) → Type 0 = λ xs. SetsAll k n xs email b in
     subst P (ap (λ (y : List ℕ). take i ids ++ y ∷ []) e ∙ sym (take_more ids i x l)) (sets_more k m n (take i ids) x email b g h)
 
 -- one turn of a loop over ids, at the key of each
-pub keys_turn : (k m n : KeyIndex) (digest : List ℕ) (ids : List (List ℕ)) (i : ℕ) (x y : List ℕ) (email : ℕ) (b : Bool) → i < length ids → x ≡ get_or ids i x → y ≡ key_after digest x
+pub keys_turn : (k m n : KeyIndex) (digest : List ℕ) (ids : List (List ℕ)) (i : ℕ) (x y : List ℕ) (email : ℕ) (b : Bool) → i < length ids → x ≡ get_or ids i x
+    → y ≡ key_after digest x
     → SetsAll k m (take i (keys_under digest ids)) email b → SetsOne m n y email b → SetsAll k n (take (i + 1) (keys_under digest ids)) email b
 keys_turn k m n digest ids i x y email b l e is g h =
     let f : List ℕ → List ℕ = key_after digest in

@@ -25,7 +25,7 @@ marked_stops _ t (BehindBlob b x i k) =
 pub blob_before : (s b x t : List ℕ) → s ≡ (b ++ x) ++ t → IsBlob b → IsMarkBehindBlobs x → DropsBlob s (x ++ t)
 blob_before s b x t e i k = record { drops = record { piece = b; whole = e ∙ append_assoc b x t; is = i }; stops = marked_stops x t k }
 
--- a blob at the front changes nothing of the mark behind it
+-- a blob at the front changes nothing of the mark after it
 pub marked_behind : (s u t : List ℕ) → DropsBlob s u → Drops IsMarkBehindBlobs u t → Drops IsMarkBehindBlobs s t
 marked_behind s u t d e = record {
   piece = d.drops.piece ++ e.piece;
@@ -114,7 +114,7 @@ leader_some m (BlankAtFront w) = omega (arith, ap length w.whole)
 pub leader_shorter : (s t : List ℕ) → Drops IsLeader s t → length t < length s
 leader_shorter s t d = omega (arith, ap length d.whole, length-append d.piece t, leader_some d.piece d.is)
 
--- a text without leader has none behind a blob
+-- a text without leader has none after a blob
 pub lacks_leader_behind : (s t : List ℕ) → DropsBlob s t → Lacks (Drops IsLeader) s → Lacks (Drops IsLeader) t
 lacks_leader_behind s t d l u e = by e.is
   where

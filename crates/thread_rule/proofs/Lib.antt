@@ -4,3 +4,4 @@ pub mod LeaderLemmas
 pub mod NormalForms
 pub mod IndexLemmas
 pub mod SearchLemmas
+pub mod NamedLaws

@@ -54,7 +54,8 @@ is_the_form s r a b t = (
 )
 
 -- the same of a copy of it
-pub copied_form : {E : Type 0} (r : Result (List ℕ) E) (s u form : List ℕ) → s ≡ u → ((t : List ℕ) → IsNormalFormOf s t ↔ (t ≡ form)) → IfOk r (λ b. b ≡ form) → IfOk r (λ b. (t : List ℕ) → IsNormalFormOf u t ↔ (t ≡ b))
+pub copied_form : {E : Type 0} (r : Result (List ℕ) E) (s u form : List ℕ) → s ≡ u → ((t : List ℕ) → IsNormalFormOf s t ↔ (t ≡ form)) → IfOk r (λ b. b ≡ form)
+    → IfOk r (λ b. (t : List ℕ) → IsNormalFormOf u t ↔ (t ≡ b))
 copied_form (Ok b) s u form e n h =
     let P : List ℕ → Type 0 = λ x. (t : List ℕ) → IsNormalFormOf x t ↔ (t ≡ form) in
     let Q : List ℕ → Type 0 = λ y. (t : List ℕ) → IsNormalFormOf u t ↔ (t ≡ y) in

@@ -94,7 +94,7 @@ no_trailer s a b t d = by d.is
 pub forwarded_trailer : (s t : List ℕ) → DropsEnd (λ p. SameText p (codes "(fwd)")) s t → DropsEnd IsTrailer s t
 forwarded_trailer s t d = record { piece = d.piece; whole = d.whole; is = Forwarded d.is }
 
--- what has no trailer has none behind a piece
+-- what has no trailer has none after a piece
 pub lacks_trailer_behind : (s p t : List ℕ) → s ≡ p ++ t → Lacks (DropsEnd IsTrailer) s → Lacks (DropsEnd IsTrailer) t
 lacks_trailer_behind s p t e l u d =
     l (p ++ u) (record { piece = d.piece; whole = e ∙ ap (λ (x : List ℕ). p ++ x) d.whole ∙ sym (append_assoc p u d.piece); is = d.is })

@@ -1,5 +1,6 @@
 -- What the search by the index finds is the Thread among all Emails.
-use Rattle.std.proofs.Common.{◌≡◌, ℕ, ◌≤◌, ◌<◌, Bool, true, false, ◌||◌, ◌&&◌, map, cond, eqb-true, eq-eqb, ◌+◌, List, [], ◌∷◌, length, get_or, drop, refl, sym, ap, ◌∙◌, subst, Option, Some, None, arith}
+use Rattle.std.proofs.Common.{◌≡◌, ℕ, ◌≤◌, ◌<◌, Bool, true, false, ◌||◌, ◌&&◌, map, cond, eqb-true, eq-eqb, ◌+◌, List, [], ◌∷◌, length, get_or, drop, refl, sym, ap, ◌∙◌, subst}
+use Rattle.std.proofs.Common.{Option, Some, None, arith}
 use Rattle.std.specs.Option.{option_map_or}
 use Rattle.std.specs.List.{list_any, AllByRecursion}
 use Rattle.std.specs.List.Sorted.{IsStrictlySortedBy}
@@ -42,7 +43,7 @@ abbrev pub Finds : Members → List ℕ → List ℕ → List ℕ → Option ℕ
 Finds members base id emails None = LacksBase members base id emails
 Finds members base id emails (Some thread) = IsLowest members base id emails thread
 
--- a number is listed at the front, or behind it
+-- a number is listed at the front, or after it
 pub listed_first : (x : ℕ) (es : List ℕ) → list_any (is_at (nat_cmp x)) (x ∷ es) ≡ true
 listed_first x es = ap (λ (q : Bool). q || list_any (is_at (nat_cmp x)) es) (number_test x x ∙ eq-eqb x x refl)
 
@@ -53,7 +54,7 @@ or_right false q e = e
 pub listed_behind : (x y : ℕ) (es : List ℕ) → list_any (is_at (nat_cmp x)) es ≡ true → list_any (is_at (nat_cmp x)) (y ∷ es) ≡ true
 listed_behind x y es e = or_right (is_at (nat_cmp x) y) (list_any (is_at (nat_cmp x)) es) e
 
--- a listed number is the first, or listed behind it
+-- a listed number is the first, or listed after it
 pub data Listed (x y : ℕ) (es : List ℕ) : Type 0 where
   First : x ≡ y → Listed x y es
   Behind : list_any (is_at (nat_cmp x)) es ≡ true → Listed x y es
@@ -68,7 +69,7 @@ listed_where x y es e = by (is_at (nat_cmp x) y) refl e
 pub less_is : (a b : ℕ) → nat_cmp a b ≡ Less → a < b
 less_is a b e = grind arith
 
--- what is listed behind the first is above it
+-- what is listed after the first is above it
 pub above_first : (y : ℕ) (es : List ℕ) → AllByRecursion (λ z. nat_cmp y z ≡ Less) es → (x : ℕ) → list_any (is_at (nat_cmp x)) es ≡ true → y ≤ x
 above_first y [] a x e = absurd cc
 above_first y (z ∷ es) a x e = by (listed_where x z es e) (above_first y es a.1 x)
@@ -84,7 +85,8 @@ pub same_test : (s t : List ℕ) → SameText s t → is_same_text s t ≡ true
 same_test s t e = (bytes_eq-Decides _ _).1 e
 
 -- the first Email doesn't count
-pub skipped : (members : Members) (base id : List ℕ) (x : ℕ) (es : List ℕ) (r : Option ℕ) → ((m : Member) → member_at members x ≡ Some m → is_among m.ids id ≡ true → SameText m.base base → ⊥) → Finds members base id es r → Finds members base id (x ∷ es) r
+pub skipped : (members : Members) (base id : List ℕ) (x : ℕ) (es : List ℕ) (r : Option ℕ)
+    → ((m : Member) → member_at members x ≡ Some m → is_among m.ids id ≡ true → SameText m.base base → ⊥) → Finds members base id es r → Finds members base id (x ∷ es) r
 skipped members base id x es None n f = λ other m h. behind other m h (listed_where other x es h.listed)
   where
     behind : (other : ℕ) (m : Member) → SharesBase members base id (x ∷ es) other m → Listed other x es → ⊥
@@ -103,7 +105,8 @@ skipped members base id x es (Some t) n f = record {
     behind other m h (Behind l) = f.lowest other m (record { listed = l; there = h.there; named = h.named; same = h.same })
 
 -- the first Email counts
-pub counted : (members : Members) (base id : List ℕ) (x : ℕ) (es : List ℕ) (member : Member) → IsStrictlySortedBy nat_cmp (x ∷ es) → member_at members x ≡ Some member → is_among member.ids id ≡ true → SameText member.base base → IsLowest members base id (x ∷ es) member.thread
+pub counted : (members : Members) (base id : List ℕ) (x : ℕ) (es : List ℕ) (member : Member) → IsStrictlySortedBy nat_cmp (x ∷ es) → member_at members x ≡ Some member
+    → is_among member.ids id ≡ true → SameText member.base base → IsLowest members base id (x ∷ es) member.thread
 counted members base id x es member s e a k = record {
   email = x;
   member = member;
@@ -124,11 +127,14 @@ both_pass false q = λ e. absurd (let f : false ≡ true = e in cc)
 pass_both : (p q : Bool) → p ≡ true → q ≡ true → p && q ≡ true
 pass_both p q e f = ap (λ (x : Bool). x && q) e ∙ f
 
-pub first_finds_more : (members : Members) (base id : List ℕ) (x : ℕ) (es : List ℕ) → IsStrictlySortedBy nat_cmp (x ∷ es) → (r : Option ℕ) → Finds members base id es r → Finds members base id (x ∷ es) (thread_if (member_at members x) base id r)
+pub first_finds_more : (members : Members) (base id : List ℕ) (x : ℕ) (es : List ℕ) → IsStrictlySortedBy nat_cmp (x ∷ es) → (r : Option ℕ) → Finds members base id es r
+    → Finds members base id (x ∷ es) (thread_if (member_at members x) base id r)
 first_finds_more members base id x es s r more = by (member_at members x) refl
   where
-    tested : (member : Member) → member_at members x ≡ Some member → (q : Bool) → is_among member.ids id && is_same_text member.base base ≡ q → Finds members base id (x ∷ es) (cond q (Some member.thread) r)
-    tested member e true k = let parts = both_pass (is_among member.ids id) (is_same_text member.base base) k in counted members base id x es member s e parts.0 (same_is member.base base parts.1)
+    tested : (member : Member) → member_at members x ≡ Some member → (q : Bool) → is_among member.ids id && is_same_text member.base base ≡ q
+        → Finds members base id (x ∷ es) (cond q (Some member.thread) r)
+    tested member e true k = let parts = both_pass (is_among member.ids id) (is_same_text member.base base) k in
+        counted members base id x es member s e parts.0 (same_is member.base base parts.1)
     tested member e false k = skipped members base id x es r (λ m f a h.
         let p : m ≡ member = cc in
         let P : Member → Type 0 = λ n. is_among n.ids id && is_same_text n.base base ≡ true in
@@ -155,12 +161,14 @@ among_map : (f : List ℕ → List ℕ) (xs : List (List ℕ)) (x : List ℕ) �
 among_map f [] x e = absurd (let g : false ≡ true = e in cc)
 among_map f (y ∷ xs) x e = by (bytes_eq x y) refl e (among_map f xs x)
   where
-    by : (q : Bool) → bytes_eq x y ≡ q → q || is_among xs x ≡ true → (is_among xs x ≡ true → is_among (map f xs) (f x) ≡ true) → bytes_eq (f x) (f y) || is_among (map f xs) (f x) ≡ true
+    by : (q : Bool) → bytes_eq x y ≡ q → q || is_among xs x ≡ true → (is_among xs x ≡ true → is_among (map f xs) (f x) ≡ true)
+        → bytes_eq (f x) (f y) || is_among (map f xs) (f x) ≡ true
     by true k h more = ap (λ (z : Bool). z || is_among (map f xs) (f x)) ((bytes_eq-Decides (f x) (f y)).1 (ap f ((bytes_eq-Decides x y).0 k)))
     by false k h more = or_right (bytes_eq (f x) (f y)) (is_among (map f xs) (f x)) (more h)
 
 -- an id that an Email names gives one of its keys, by any base subject equal to its own
-key_there : (member : Member) (base id : List ℕ) → is_among member.ids id ≡ true → SameText member.base base → is_among (keys_of (Some member)) (key_after (base_digest base) id) ≡ true
+key_there : (member : Member) (base id : List ℕ) → is_among member.ids id ≡ true → SameText member.base base
+    → is_among (keys_of (Some member)) (key_after (base_digest base) id) ≡ true
 unfolding base_digest
 key_there member base id named same =
     let digest : base_digest member.base ≡ base_digest base = ap sha256 same in
@@ -174,17 +182,20 @@ key_of base id = key_after (base_digest base) id
 pub shares_listed : (index : KeyIndex) (members : Members) (base id : List ℕ) (email : ℕ) (member : Member) → IsIndexOf index members → Shares members base id email member
     → SharesBase members base id (emails_at index (key_of base id)) email member
 shares_listed index members base id email member i s = record {
-  listed = sym (has_listed index (key_of base id) email) ∙ i (key_of base id) email ∙ ap (λ (o : Option Member). is_among (keys_of o) (key_of base id)) s.there ∙ key_there member base id s.named s.same;
+  listed = sym (has_listed index (key_of base id) email) ∙ i (key_of base id) email ∙ ap (λ (o : Option Member). is_among (keys_of o) (key_of base id)) s.there
+      ∙ key_there member base id s.named s.same;
   there = s.there;
   named = s.named;
   same = s.same;
 }
 
-pub listed_shares : (index : KeyIndex) (members : Members) (base id : List ℕ) (email : ℕ) (member : Member) → SharesBase members base id (emails_at index (key_of base id)) email member → Shares members base id email member
+pub listed_shares : (index : KeyIndex) (members : Members) (base id : List ℕ) (email : ℕ) (member : Member)
+    → SharesBase members base id (emails_at index (key_of base id)) email member → Shares members base id email member
 listed_shares index members base id email member s = record { there = s.there; named = s.named; same = s.same }
 
 -- the first id decides
-pub joins : (index : KeyIndex) (members : Members) (base : List ℕ) (number : ℕ) (id : List ℕ) (more : List (List ℕ)) (thread : ℕ) → IsIndexOf index members → IsStrictlySortedBy nat_cmp (emails_at index (key_of base id))
+pub joins : (index : KeyIndex) (members : Members) (base : List ℕ) (number : ℕ) (id : List ℕ) (more : List (List ℕ)) (thread : ℕ) → IsIndexOf index members
+    → IsStrictlySortedBy nat_cmp (emails_at index (key_of base id))
     → Some thread ≡ first_thread members base id (emails_at index (key_of base id)) → IsThreadOf members base number (id ∷ more) thread
 joins index members base number id more thread i s e =
     let at = emails_at index (key_of base id) in
@@ -195,7 +206,8 @@ joins index members base number id more thread i s e =
     (λ other m h. l.lowest other m (shares_listed index members base id other m i h)))
 
 -- the first id decides nothing
-pub passes : (index : KeyIndex) (members : Members) (base : List ℕ) (number : ℕ) (id : List ℕ) (more : List (List ℕ)) (thread : ℕ) → IsIndexOf index members → IsStrictlySortedBy nat_cmp (emails_at index (key_of base id))
+pub passes : (index : KeyIndex) (members : Members) (base : List ℕ) (number : ℕ) (id : List ℕ) (more : List (List ℕ)) (thread : ℕ) → IsIndexOf index members
+    → IsStrictlySortedBy nat_cmp (emails_at index (key_of base id))
     → None ≡ first_thread members base id (emails_at index (key_of base id)) → IsThreadOf members base number more thread → IsThreadOf members base number (id ∷ more) thread
 passes index members base number id more thread i s e t =
     let at = emails_at index (key_of base id) in
@@ -212,7 +224,8 @@ none_sorted ids id e =
 
 -- one turn of the search: b is the base subject and y the id, as they were read, and k the key
 pub joins_here : (index : KeyIndex) (members : Members) (base : List ℕ) (number : ℕ) (named : List (List ℕ)) (i : ℕ) (x y b k : List ℕ) (thread : ℕ) → IsIndexOf index members
-    → i < length named → x ≡ get_or named i x → y ≡ x → b ≡ base → k ≡ key_of b y → IsStrictlySortedBy nat_cmp (emails_at index k) → Some thread ≡ first_thread members b y (emails_at index k) → IsThreadOf members base number (drop i named) thread
+    → i < length named → x ≡ get_or named i x → y ≡ x → b ≡ base → k ≡ key_of b y → IsStrictlySortedBy nat_cmp (emails_at index k)
+    → Some thread ≡ first_thread members b y (emails_at index k) → IsThreadOf members base number (drop i named) thread
 joins_here index members base number named i x y b k thread o l e f g is s h =
     let P : List (List ℕ) → Type 0 = λ xs. IsThreadOf members base number xs thread in
     let Q : List ℕ → Type 0 = λ z. IsThreadOf members z number (y ∷ drop (i + 1) named) thread in
@@ -222,7 +235,8 @@ joins_here index members base number named i x y b k thread o l e f g is s h =
     (subst Q g (joins index members b number y (drop (i + 1) named) thread o (subst S is s) (subst T is h)))
 
 pub passes_here : (index : KeyIndex) (members : Members) (base : List ℕ) (number : ℕ) (named : List (List ℕ)) (i : ℕ) (x y b k : List ℕ) (thread : ℕ) → IsIndexOf index members
-    → i < length named → x ≡ get_or named i x → y ≡ x → b ≡ base → k ≡ key_of b y → IsStrictlySortedBy nat_cmp (emails_at index k) → None ≡ first_thread members b y (emails_at index k)
+    → i < length named → x ≡ get_or named i x → y ≡ x → b ≡ base → k ≡ key_of b y → IsStrictlySortedBy nat_cmp (emails_at index k)
+    → None ≡ first_thread members b y (emails_at index k)
     → IsThreadOf members base number (drop (i + 1) named) thread → IsThreadOf members base number (drop i named) thread
 passes_here index members base number named i x y b k thread o l e f g is s h t =
     let P : List (List ℕ) → Type 0 = λ xs. IsThreadOf members base number xs thread in
@@ -239,7 +253,8 @@ founds_at_end members base number named i l =
     subst P (sym (drop_all i named l)) Founds
 
 -- an Email has one Thread
-pub one_thread : (members : Members) (base : List ℕ) (number : ℕ) (ids : List (List ℕ)) (t u : ℕ) → IsThreadOf members base number ids t → IsThreadOf members base number ids u → t ≡ u
+pub one_thread : (members : Members) (base : List ℕ) (number : ℕ) (ids : List (List ℕ)) (t u : ℕ) → IsThreadOf members base number ids t → IsThreadOf members base number ids u
+    → t ≡ u
 one_thread members base number _ _ _ Founds Founds = refl
 one_thread members base number _ _ _ (Joins id ids x m s l) (Joins _ _ y n r k) =
     let same : x ≡ y = let a = l y n r in let b = k x m s in omega arith in

@@ -18,19 +18,19 @@ abbrev pub spaced : List ℕ → List ℕ
 spaced [] = []
 spaced (c ∷ t) = spaced_octet c t ++ spaced t
 
--- s is a piece of the kind Is, and t behind it
+-- s is a piece of the kind Is, and t after it
 pub record Drops (Is : List ℕ → Type 0) (s t : List ℕ) : Type 0 where
   pub piece : List ℕ
   pub whole : s ≡ piece ++ t
   pub is : Is piece
 
--- s is t, and a piece of the kind Is behind it
+-- s is t, and a piece of the kind Is after it
 pub record DropsEnd (Is : List ℕ → Type 0) (s t : List ℕ) : Type 0 where
   pub piece : List ℕ
   pub whole : s ≡ t ++ piece
   pub is : Is piece
 
--- a blob is dropped with all white space behind it
+-- a blob is dropped with all white space after it
 pub record DropsBlob (s t : List ℕ) : Type 0 where
   pub drops : Drops IsBlob s t
   pub stops : Stops is_blank t

@@ -1,4 +1,5 @@
 pub mod Subject
 pub mod BaseSubject
 pub mod Threads
+pub mod NamedOf
 pub mod reading

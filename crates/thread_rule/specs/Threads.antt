@@ -35,5 +35,7 @@ pub record Shares (members : Members) (base id : List ℕ) (email : ℕ) (member
 -- Without such an id the Email founds the Thread of its own number.
 pub data IsThreadOf (members : Members) (base : List ℕ) (number : ℕ) : List (List ℕ) → ℕ → Type 0 where
   Founds : IsThreadOf members base number [] number
-  Joins : (id : List ℕ) (ids : List (List ℕ)) (email : ℕ) (member : Member) → Shares members base id email member → ((other : ℕ) (m : Member) → Shares members base id other m → email ≤ other) → IsThreadOf members base number (id ∷ ids) member.thread
-  Passes : (id : List ℕ) (ids : List (List ℕ)) (thread : ℕ) → ((other : ℕ) (m : Member) → Shares members base id other m → ⊥) → IsThreadOf members base number ids thread → IsThreadOf members base number (id ∷ ids) thread
+  Joins : (id : List ℕ) (ids : List (List ℕ)) (email : ℕ) (member : Member) → Shares members base id email member
+      → ((other : ℕ) (m : Member) → Shares members base id other m → email ≤ other) → IsThreadOf members base number (id ∷ ids) member.thread
+  Passes : (id : List ℕ) (ids : List (List ℕ)) (thread : ℕ) → ((other : ℕ) (m : Member) → Shares members base id other m → ⊥)
+      → IsThreadOf members base number ids thread → IsThreadOf members base number (id ∷ ids) thread

@@ -4,6 +4,7 @@
 mod base;
 mod book;
 mod entries;
+mod header;
 mod index;
 mod key;
 mod member;
@@ -12,4 +13,5 @@ mod subject;
 
 pub use base::{base_of, base_subject};
 pub use book::ThreadBook;
+pub use header::{named_of, one_named};
 pub use member::{Member, Named};

@@ -18,7 +18,7 @@ impl Class<u8> for BlobChar {
     }
 }
 
-/// What stands behind the word, where the text begins with it in either case.
+/// What stands after the word, where the text begins with it in either case.
 fn behind_word<'a>(word: &[u8], text: &'a [u8]) -> Option<&'a [u8]>
     ensures { MatchOption result
         (Lacks (Drops (λ p. SameText p word.now)) text.now)
@@ -52,7 +52,7 @@ fn before_word<'a>(word: &[u8], text: &'a [u8]) -> Option<&'a [u8]>
     }
 }
 
-/// What stands behind white space of one octet at the front.
+/// What stands after white space of one octet at the front.
 fn behind_blank(text: &[u8]) -> Option<&[u8]>
     ensures { MatchOption result
         (Lacks (Drops subject.IsWsp) text.now)
@@ -85,7 +85,7 @@ pub fn before_trailer(text: &[u8]) -> Option<&[u8]>
     }
 }
 
-/// What stands behind a blob at the front and all white space that follows it.
+/// What stands after a blob at the front and all white space that follows it.
 fn behind_blob(text: &[u8]) -> Option<&[u8]>
     ensures { MatchOption result (Lacks DropsBlob text.now) (λ r. DropsBlob text.now r.now) }
 {
@@ -96,7 +96,7 @@ fn behind_blob(text: &[u8]) -> Option<&[u8]>
     Some(rest)
 }
 
-/// What stands behind a blob at the front, or the text where it begins with none.
+/// What stands after a blob at the front, or the text where it begins with none.
 fn past_blob(text: &[u8]) -> &[u8]
     ensures { PassesBlob text.now result.now }
 {
@@ -106,7 +106,7 @@ fn past_blob(text: &[u8]) -> &[u8]
     }
 }
 
-/// What stands behind a blob at the front that isn't the whole text.
+/// What stands after a blob at the front that isn't the whole text.
 pub fn behind_blob_before_text(text: &[u8]) -> Option<&[u8]>
     ensures blob { MatchOption result
         (Lacks DropsBlobBeforeText text.now)
@@ -129,7 +129,7 @@ fn is_reply_word(word: &[u8]) -> bool
     same_text(word, b"fwd")
 }
 
-/// What stands behind a reply mark at the front.
+/// What stands after a reply mark at the front.
 fn behind_mark(text: &[u8]) -> Option<&[u8]>
     ensures { MatchOption result
         (Lacks (Drops subject.IsReplyMark) text.now)
@@ -143,7 +143,7 @@ fn behind_mark(text: &[u8]) -> Option<&[u8]>
     behind(b':', past_blob(rest))
 }
 
-/// What stands behind blobs at the front and a reply mark behind them.
+/// What stands after blobs at the front and a reply mark after them.
 fn behind_marked(text: &[u8]) -> Option<&[u8]>
     ensures { MatchOption result
         (Lacks (Drops subject.IsMarkBehindBlobs) text.now)
@@ -156,7 +156,7 @@ fn behind_marked(text: &[u8]) -> Option<&[u8]>
     behind_mark(rest)
 }
 
-/// What stands behind a leader at the front.
+/// What stands after a leader at the front.
 pub fn behind_leader(text: &[u8]) -> Option<&[u8]>
     ensures leader { MatchOption result
         (Lacks (Drops subject.IsLeader) text.now)

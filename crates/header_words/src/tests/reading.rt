@@ -1,10 +1,11 @@
+// Values with encoded words.
 use crate::words::decode_words;
 use std::test::Fail;
 
 /// The examples of RFC 2047 section 8, and values that stay as they are.
 #[test]
 fn values_are_decoded(rt: HostRuntime) -> Result<(), Fail> {
-    let rows: [(&[u8], &[u8]); 33] = [
+    let rows: [(&[u8], &[u8]); 34] = [
         (b"(=?ISO-8859-1?Q?a?=)", b"(a)"),
         (b"(=?ISO-8859-1?Q?a?= b)", b"(a b)"),
         (b"(=?ISO-8859-1?Q?a?= =?ISO-8859-1?Q?b?=)", b"(ab)"),
@@ -50,7 +51,8 @@ fn values_are_decoded(rt: HostRuntime) -> Result<(), Fail> {
         (b"=?utf-8?B?w6===?=", b"=?utf-8?B?w6===?="),
         (b"=?utf-8?X?b?=", b"=?utf-8?X?b?="),
         (b"=??Q?b?=", b"=??Q?b?="),
-        (b"=?utf-8?Q??=", b"=?utf-8?Q??="),
+        (b"=?utf-8?Q??=", b""),
+        (b"a =?utf-8?B??= =?utf-8?Q?b?=", b"a b"),
         (b"=?utf-8?Q?a b?=", b"=?utf-8?Q?a b?="),
         (b"", b""),
     ];

@@ -1,3 +1,4 @@
+// Texts written as encoded words.
 use crate::word_list::encode_words;
 use crate::words::decode_words;
 use std::alloc::{AllocError, Global};
@@ -46,7 +47,7 @@ fn texts_are_written_as_words(rt: HostRuntime) -> Result<(), Fail> {
     Ok(())
 }
 
-/// Characters of one to four octets, so that the cut falls before, within and behind one.
+/// Characters of one to four octets, so that the cut falls before, within and after one.
 #[test]
 fn words_are_short_and_read_back(rt: HostRuntime) -> Result<(), Fail> {
     for character in ['a', 'é', '€', '😀'] {
@@ -63,7 +64,7 @@ fn words_are_short_and_read_back(rt: HostRuntime) -> Result<(), Fail> {
     Ok(())
 }
 
-/// Whether each line is one encoded word of at most 75 octets, behind a space where it isn't the first.
+/// Whether each line is one encoded word of at most 75 octets, after a space where it isn't the first.
 fn are_short(value: &[u8]) -> bool {
     let Ok(text) = str::from_utf8(value) else {
         return false;

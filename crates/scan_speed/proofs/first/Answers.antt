@@ -18,7 +18,8 @@ returns-in-Whole-clause-whole c =
     let so = c.loop-rest.invariant in
     let told = c.in-Whole.ensures.scan so.0 so.2 in
     let front = so.0 ++ c.split_at.result.0.now in
-    let whole = joined c.args.bytes.now so.0 c.loop-rest.rest.now c.split_at.result.0.now c.split_at.result.1.now c.min.result so.1 c.split_at.ensures.front c.split_at.ensures.back in
+    let whole =
+    joined c.args.bytes.now so.0 c.loop-rest.rest.now c.split_at.result.0.now c.split_at.result.1.now c.min.result so.1 c.split_at.ensures.front c.split_at.ensures.back in
     subst (λ (u : List ℕ). (v : Response) × IsSpelling v u) (taken c.in-Whole.n c.args.bytes.now front c.split_at.result.1.now whole told.0) told.1
 
 pub loop-rest-preserved : goal.loop-rest-preserved

@@ -37,7 +37,8 @@ IsTight index = (id : List ℕ) (emails : BTreeSet ℕ) → get_by (λ k. slice_
 
 -- but for one id
 abbrev pub IsTightApart : KeyIndex → List ℕ → Type 0
-IsTightApart index at = (id : List ℕ) (emails : BTreeSet ℕ) → bytes_eq id at ≡ false → get_by (λ k. slice_cmp nat_cmp id k) index ≡ Some emails → emails.keys ≢ []
+IsTightApart index at = (id : List ℕ) (emails : BTreeSet ℕ) → bytes_eq id at ≡ false → get_by (λ k. slice_cmp nat_cmp id k) index ≡ Some emails
+    → emails.keys ≢ []
 
 -- the index has the same Emails at each id
 abbrev pub SameIndex : KeyIndex → KeyIndex → Type 0

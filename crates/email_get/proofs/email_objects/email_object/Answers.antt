@@ -1,13 +1,13 @@
 use Rattle.std.proofs.lemmas.Result.{IfOk-weaker}
-use Rattle.mail_header.specs.Fields.{fields_view}
-use Rattle.email_get.specs.BodyViews.{body_view}
+use Rattle.mail_header.specs.Fields.{names_and_raws}
+use Rattle.email_get.specs.reading.BodyViews.{body_view}
 use Rattle.email_get.specs.HeaderProperties.{header_data}
 use Rattle.email_get.proofs.WholeLemmas.{whole_object}
 use Rattle.email_get.proofs.email_objects.email_object.Goals as goal
 
 pub returns-clause-object : goal.returns-clause-object
 returns-clause-object c = IfOk-weaker c.email_value.result _ _ (λ v e. record {
-  fields = fields_view c.in_ok-fields.fields.list;
+  fields = names_and_raws c.in_ok-fields.fields;
   header_end = c.in_ok-fields.fields.end;
   is_header = c.in_ok-fields.ensures;
   header = header_data c.in_ok-header.header;
@@ -21,7 +21,7 @@ returns-clause-object c = IfOk-weaker c.email_value.result _ _ (λ v e. record {
 
 pub returns-clause-whole : goal.returns-clause-whole
 returns-clause-whole c = IfOk-weaker c.email_value.result _ _ (λ v e. whole_object c.args.bytes.now _ (record {
-  fields = fields_view c.in_ok-fields.fields.list;
+  fields = names_and_raws c.in_ok-fields.fields;
   header_end = c.in_ok-fields.fields.end;
   is_header = c.in_ok-fields.ensures;
   header = header_data c.in_ok-header.header;

@@ -3,8 +3,8 @@ use Rattle.serde_json.specs.Data.{Members, object, no_members}
 use Rattle.serde_json.specs.View.{members_view}
 use Rattle.serde_json.proofs.OnLiterals.{serde_json_on_literals}
 use Rattle.serde_json.proofs.Views.{Entry, view-Object}
-use Rattle.email_get.specs.BodyViews.{body_view}
-use Rattle.email_get.specs.EmailMembers.{with_body, with_header}
+use Rattle.email_get.specs.reading.BodyViews.{body_view}
+use Rattle.email_get.specs.reading.EmailMembers.{with_body, with_header}
 use Rattle.email_get.specs.EmailObjects.{BodyData, email_data}
 use Rattle.email_get.specs.HeaderProperties.{HeaderData, header_data}
 use Rattle.email_get.proofs.email_objects.email_value.Goals as goal

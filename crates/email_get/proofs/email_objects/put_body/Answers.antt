@@ -4,7 +4,7 @@ use Rattle.serde_json.specs.Data.{Data, boolean, array, object, Members, put}
 use Rattle.serde_json.specs.View.{view, items_view, members_view}
 use Rattle.serde_json.specs.declared.value.Value.{Array, Object, Bool as Truth, the_lemmas}
 use Rattle.serde_json.proofs.Views.{view-Array, view-Object}
-use Rattle.email_get.specs.EmailMembers.{with_body}
+use Rattle.email_get.specs.reading.EmailMembers.{with_body}
 use Rattle.email_get.specs.Texts.{text_data}
 use Rattle.email_get.proofs.email_objects.put_body.Goals as goal
 
@@ -30,5 +30,6 @@ returns c =
     let e2 = c.in_ok-put-2.ensures.ok ∙ ap (λ (ms : Members). put (codes "bodyValues") (view (Object b.values)) ms) e1 ∙ ap with2 (view-Object b.values) in
     let e3 = c.in_ok-put-3.ensures.ok ∙ ap (λ (ms : Members). put (codes "hasAttachment") (view (Truth b.has_attachment)) ms) e2 ∙ ap with3 (view-Bool b.has_attachment) in
     let e4 = c.in_ok-put-4.ensures.ok ∙ ap (λ (ms : Members). put (codes "htmlBody") (view (Array b.html)) ms) e3 ∙ ap with4 (view-Array b.html) in
-    let e5 = c.in_ok-put-5.ensures.ok ∙ ap (λ (ms : Members). put (codes "preview") (view c.in_ok-preview.preview) ms) e4 ∙ ap (λ (d : Data). put (codes "preview") d m4) (c.in_ok-preview.ensures ∙ ap (λ (t : List ℕ). text_data t) c.as_slice.ensures) in
+    let e5 = c.in_ok-put-5.ensures.ok ∙ ap (λ (ms : Members). put (codes "preview") (view c.in_ok-preview.preview) ms) e4
+    ∙ ap (λ (d : Data). put (codes "preview") d m4) (c.in_ok-preview.ensures ∙ ap (λ (t : List ℕ). text_data t) c.as_slice.ensures) in
     c.in_ok-put-6.ensures.ok ∙ ap (λ (ms : Members). put (codes "textBody") (view (Array b.text)) ms) e5 ∙ ap with6 (view-Array b.text)

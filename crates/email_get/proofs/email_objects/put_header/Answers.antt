@@ -2,7 +2,7 @@ use Rattle.std.proofs.Common.{ap, ◌∙◌}
 use Rattle.std.specs.Prelude.{codes}
 use Rattle.serde_json.specs.Data.{Members, put}
 use Rattle.serde_json.specs.View.{view}
-use Rattle.email_get.specs.EmailMembers.{with_header}
+use Rattle.email_get.specs.reading.EmailMembers.{with_header}
 use Rattle.email_get.proofs.email_objects.put_header.Goals as goal
 
 pub returns : goal.returns

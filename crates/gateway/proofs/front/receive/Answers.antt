@@ -1,23 +1,16 @@
-use Rattle.std.proofs.Common.{rules, take, ◌++◌, ◌<◌, ◌≤◌, length, arith, length-append, length-take, refl}
-use Rattle.std.proofs.lemmas.Result.{err_from_is_err_and}
-use Rattle.gate_world.proofs.Joins.{then_one, Asks-given}
+use Rattle.std.proofs.Common.{◌<◌, length, ap, arith, rules}
+use Rattle.gate_world.proofs.Joins.{join}
+use Rattle.gateway.proofs.Receiving.{piece_asked, piece_within}
 use Rattle.gateway.proofs.front.receive.Goals as goal
 
 pub receiving-preserved : goal.receiving-preserved
 receiving-preserved g c =
-    let piece = take c.in_ok-count.count c.recv.new.into in
-    let some : 0 < length piece = omega (arith, length-take c.in_ok-count.count c.recv.new.into, c.in_ok-count.ensures.bound) in
+    let short : length c.receiving.octets < c.args.most = omega (arith, c.receiving-test.true, ap length c.as_slice.ensures) in
     record {
-      tape = then_one _ c.receiving.invariant.tape c.in_ok-count.ensures.ok (λ x so. Asks-given _ piece so some c.in_ok-extend_from_slice.ensures.items);
-      within = search rules;
+      tape = join _ c.receiving.invariant.tape c.in_ok-fill_from_client.ensures.tape
+          (λ x y asks tells. piece_asked y c.fill_from_client.new.self c.in_ok-fill_from_client.field-0 c.if-not-branch.false asks tells);
+      within = piece_within c.receiving.octets c.fill_from_client.new.self c.as_slice-in-receiving.result.now c.args.most _ c.in_ok-fill_from_client.field-0 c.if-not-branch.false
+          c.as_slice-in-receiving.ensures short c.in_ok-fill_from_client.ensures.octets;
       alone = search rules;
       hidden = search rules;
     }
-
-pub returns-in_err-extend_from_slice-clause-tape : goal.returns-in_err-extend_from_slice-clause-tape
-returns-in_err-extend_from_slice-clause-tape g c =
-    let piece = take c.in_ok-count.count c.recv.new.into in
-    let some : 0 < length piece = omega (arith, length-take c.in_ok-count.count c.recv.new.into, c.in_ok-count.ensures.bound) in
-    let within : length (c.receiving.octets.items ++ piece) ≤ c.args.most = omega (arith, length-append c.receiving.octets.items piece, length-take c.in_ok-count.count c.recv.new.into, c.in_ok-count.ensures.bound, c.min-room.ensures, c.split_at_mut-part.ensures.front_len, c.recv.auto.into, c.receiving-test.true, c.len.ensures, c.len-in-receiving.ensures) in
-    let is = err_from_is_err_and c.from_residual-in_err-extend_from_slice.result c.from_residual-in_err-extend_from_slice.ensures.1 in
-    rw (is.1, is.2) (then_one _ c.receiving.invariant.tape c.in_ok-count.ensures.ok (λ x so. (c.receiving.octets.items ++ piece, Asks-given _ piece so some refl, within)))

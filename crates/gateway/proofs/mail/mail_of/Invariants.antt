@@ -9,5 +9,6 @@ abbrev pub invariant-loop-response : goal.invariant-loop-response
 invariant-loop-response l =
     record {
       ordered : IsOrdered nat_cmp l.mail;
-      told : (uid : ℕ) → later_of (option_map marks_of (last_told uid (drop l.response-index l.responses))) (get nat_cmp l.mail uid) ≡ option_map marks_of (last_told uid l.responses);
+      told : (uid : ℕ) → later_of (option_map marks_of (last_told uid (drop l.response-index l.responses))) (get nat_cmp l.mail uid)
+          ≡ option_map marks_of (last_told uid l.responses);
     }

@@ -22,10 +22,14 @@ returns-in-Err-clause-run g c =
     let was : ℕ = (g.W.Taped.faults c.word-epoch.new.self).link in
     let now : ℕ = (g.W.Taped.faults c.serve_one.new.world).link in
     let password : List ℕ = (g.W.Taped.hidden c.word-epoch.new.self).password in
-    let served = join (λ es. (x : List Event) × (y : List Event) × (es ≡ x ++ y) × (x ≡ Word c.word-epoch.result ∷ []) × ServesOne (account_of c.args.place.now password) (opened c.word-epoch.result) was now (Err c.in-Err.field-0) y) c.word-epoch.ensures.tape c.in-Err.ensures.run (λ x y is so. (x, y, refl, is, so)) in
+    let served = join (λ es. (x : List Event) × (y : List Event) × (es ≡ x ++ y) × (x ≡ Word c.word-epoch.result ∷ [])
+    × ServesOne (account_of c.args.place.now password) (opened c.word-epoch.result) was now
+    (Err c.in-Err.field-0) y) c.word-epoch.ensures.tape c.in-Err.ensures.run (λ x y is so. (x, y, refl, is, so)) in
     join _ served c.end_failed.ensures.said (λ xy z so says.
-    subst (λ (k : ℕ). RunsOnce c.args.place.now (g.W.Taped.hidden c.args.world.now).password (g.W.Taped.faults c.args.world.now).link k c.end_failed.result (xy ++ z)) (sym c.end_failed.ensures.alone.link)
-    (subst (λ (n : ℕ). RunsOnce c.args.place.now (g.W.Taped.hidden c.args.world.now).password (g.W.Taped.faults c.args.world.now).link now n (xy ++ z)) (sym c.end_failed.ensures.status)
+    subst (λ (k : ℕ). RunsOnce c.args.place.now (g.W.Taped.hidden c.args.world.now).password (g.W.Taped.faults c.args.world.now).link k c.end_failed.result (xy ++ z))
+    (sym c.end_failed.ensures.alone.link)
+    (subst (λ (n : ℕ). RunsOnce c.args.place.now (g.W.Taped.hidden c.args.world.now).password (g.W.Taped.faults c.args.world.now).link now n (xy ++ z))
+    (sym c.end_failed.ensures.status)
     (subst (λ (h : Hidden). RunsOnce c.args.place.now h.password (g.W.Taped.faults c.args.world.now).link now 6 (xy ++ z)) c.word-epoch.ensures.hidden
     (subst (λ (f : Faults). RunsOnce c.args.place.now password f.link now 6 (xy ++ z)) c.word-epoch.ensures.cause
     (subst (λ (l : List Event). RunsOnce c.args.place.now password was now 6 (l ++ z)) (sym so.2)

@@ -14,5 +14,6 @@ returns-clause-run g c =
     let was : ℕ = (g.W.Taped.faults c.args.world.now).link in
     let now : ℕ = (g.W.Taped.faults c.respond-reply.new.world).link in
     let finished : now ≡ (g.W.Taped.faults c.finish.new.self).link = sym (ap (λ (f : Faults). f.link) c.finish.ensures.cause ∙ c.send_reply-sent.ensures.alone.link) in
-    let sent = join (λ es. Serves account (opened c.args.epoch) was now c.send_reply-sent.result (es ++ ClientDone ∷ [])) c.respond-reply.ensures.run c.send_reply-sent.ensures.tape (λ x y so sends. served x y account (opened c.args.epoch) was now c.respond-reply.result c.send_reply-sent.result c.respond-reply.ensures.later.link so sends) in
+    let sent = join (λ es. Serves account (opened c.args.epoch) was now c.send_reply-sent.result (es ++ ClientDone ∷ [])) c.respond-reply.ensures.run c.send_reply-sent.ensures.tape
+    (λ x y so sends. served x y account (opened c.args.epoch) was now c.respond-reply.result c.send_reply-sent.result c.respond-reply.ensures.later.link so sends) in
     then_one _ sent c.finish.ensures.tape (λ x so. subst (λ (k : ℕ). Serves account (opened c.args.epoch) was k c.send_reply-sent.result (x ++ ClientDone ∷ [])) finished so)

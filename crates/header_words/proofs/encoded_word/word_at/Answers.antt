@@ -39,7 +39,8 @@ returns-clause-some c =
           octets = c.in-Some-2.octets.items;
           shape = shape_word s.charset.now s.letter s.text.now s.behind.now c.args.text.now h;
           spelled = take_some (λ (v : Vec ℕ Global). Spells s.letter v.items s.text.now) c.in_ok-octets.field-0 c.in-Some-2.octets c.in-Some-2.is c.in_ok-octets.ensures.some;
-          said = c.in_ok-reading.ensures.text ∙ ap (λ (n : List ℕ). text_in (charset_of n) c.as_slice.result.now) c.cut.ensures.front ∙ ap (text_in (charset_of (charset_name s.charset.now))) c.as_slice.ensures.value;
+          said = c.in_ok-reading.ensures.text ∙ ap (λ (n : List ℕ). text_in (charset_of n) c.as_slice.result.now) c.cut.ensures.front
+              ∙ ap (text_in (charset_of (charset_name s.charset.now))) c.as_slice.ensures.value;
         },
         c.begins_at_edge.ensures.0 (let f = c.if-not-begins_at_edge.false in cc),
       );

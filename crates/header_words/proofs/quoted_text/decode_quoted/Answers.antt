@@ -2,7 +2,7 @@ use Rattle.std.proofs.Common.{◌≡◌, ◌≢◌, ℕ, List, [], ◌∷◌, �
 use Rattle.std.proofs.lemmas.List.{nil_from_length}
 use Rattle.text_words.proofs.SequenceLemmas.{Behind, unit_within, read_more, read_no_more, all_done}
 use Rattle.header_words.specs.QuotedText.{IsQUnit}
-use Rattle.header_words.specs.Reading.{q_unit_in}
+use Rattle.header_words.specs.reading.Units.{q_unit_in}
 use Rattle.header_words.proofs.QuotedLemmas.{q_reader}
 use Rattle.header_words.proofs.quoted_text.decode_quoted.Goals as goal
 
@@ -12,7 +12,8 @@ some_left t e n = let k = ap length n in let q : eqb (length t) 0 ≡ true = eq-
 pub returns-in_default-clause-none : goal.returns-in_default-clause-none
 returns-in_default-clause-none c = λ octets s.
     let e : q_unit_in c.loop-rest.rest.now ≡ None = cc in
-    read_no_more q_unit_in q_reader c.loop-rest.octets.items c.loop-rest.rest.now c.args.text.now c.loop-rest.invariant (some_left c.loop-rest.rest.now (let e : eqb (length c.loop-rest.rest.now) 0 ≡ false = cc in e)) e octets s
+    read_no_more q_unit_in q_reader c.loop-rest.octets.items c.loop-rest.rest.now c.args.text.now c.loop-rest.invariant (some_left c.loop-rest.rest.now
+    (let e : eqb (length c.loop-rest.rest.now) 0 ≡ false = cc in e)) e octets s
 
 pub split_at-requires : goal.split_at-requires
 split_at-requires c =
@@ -34,4 +35,5 @@ loop-rest-preserved c =
     subst P (sym c.in_ok-push.ensures.items) (subst Q (sym c.split_at.ensures.back) m)
 
 pub returns-clause-some : goal.returns-clause-some
-returns-clause-some c = all_done c.loop-rest.octets.items c.loop-rest.rest.now c.args.text.now c.loop-rest.invariant (nil_from_length c.loop-rest.rest.now (let e : eqb (length c.loop-rest.rest.now) 0 ≡ true = cc in eqb-true (length c.loop-rest.rest.now) 0 e))
+returns-clause-some c = all_done c.loop-rest.octets.items c.loop-rest.rest.now c.args.text.now c.loop-rest.invariant (nil_from_length c.loop-rest.rest.now
+    (let e : eqb (length c.loop-rest.rest.now) 0 ≡ true = cc in eqb-true (length c.loop-rest.rest.now) 0 e))

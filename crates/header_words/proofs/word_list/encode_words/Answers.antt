@@ -29,4 +29,5 @@ pub returns : goal.returns
 returns c =
     let v : c.into_bytes-2.result.items ≡ string_bytes c.loop-rest.words = ap (λ (v : _). v.items) c.into_bytes-2.ensures.value in
     let P : List ℕ → Type 0 = λ u. IsWritten c.args.text.now u in
-    subst P (sym v) (all_written (string_bytes c.loop-rest.words) c.loop-rest.rest.now c.args.text.now (is_empty c.loop-rest.rest.now (let e : eqb (length c.loop-rest.rest.now) 0 ≡ true = cc in e)) c.loop-rest.invariant.1)
+    subst P (sym v) (all_written (string_bytes c.loop-rest.words) c.loop-rest.rest.now c.args.text.now
+    (is_empty c.loop-rest.rest.now (let e : eqb (length c.loop-rest.rest.now) 0 ≡ true = cc in e)) c.loop-rest.invariant.1)

@@ -5,7 +5,8 @@ use Rattle.header_words.proofs.WordListLemmas.{pushed}
 use Rattle.header_words.proofs.word_list.push_word.Goals as goal
 
 pub returns : goal.returns
-returns c = pushed (string_bytes c.args.words.now) (string_bytes c.push_str.new.self) (string_bytes c.encode_string.new.output) (string_bytes c.push_str-2.new.self) c.args.piece.now
+returns c = pushed (string_bytes c.args.words.now) (string_bytes c.push_str.new.self) (string_bytes c.encode_string.new.output)
+    (string_bytes c.push_str-2.new.self) c.args.piece.now
     c.in_ok-push_str.ensures.bytes
     (c.in_ok-encode_string.ensures.ok ∙ ap (λ (u : List ℕ). string_bytes c.push_str.new.self ++ encode_of standard u) c.as_bytes.ensures.value)
     c.in_ok-push_str-2.ensures.bytes

@@ -1,6 +1,6 @@
 use Rattle.std.proofs.Common.{◌++◌, ℕ, List, true, sym, ap, ◌∙◌, subst, take}
 use Rattle.header_words.specs.EncodedWords.{HasNone, kept}
-use Rattle.header_words.specs.Reading.{FoundAt}
+use Rattle.header_words.specs.reading.Units.{FoundAt}
 use Rattle.header_words.specs.declared.words.Found.{Found}
 use Rattle.header_words.proofs.ShapeLemmas.{take_none, take_some}
 use Rattle.header_words.proofs.WordLemmas.{Goes, goes_on, ends}

@@ -1,6 +1,6 @@
 use Rattle.std.proofs.Common.{◌≡◌, ◌++◌, ℕ, List, true, refl, get_or, ◌∙◌, subst}
 use Rattle.text_words.specs.Sequence.{UnitAt}
-use Rattle.header_words.specs.Reading.{IsWordBefore}
+use Rattle.header_words.specs.reading.Units.{IsWordBefore}
 use Rattle.header_words.specs.declared.encoded_word.Word.{Word}
 use Rattle.header_words.proofs.ShapeLemmas.{take_none, take_some}
 use Rattle.header_words.proofs.WordLemmas.{none_more, edge_more, none_at_all, found}
@@ -23,7 +23,8 @@ loop-at-preserved c =
     let n = take_none {P = N} c.in_ok-word_behind.field-0 c.in-None.is c.in_ok-word_behind.ensures.none in
     record {
       edge_is = c.is_edge-edge.ensures ∙ edge_more b c.loop-at.at (get_or b c.loop-at.at 0) c.loop-at-test.true refl;
-      none = none_more b c.loop-at.at c.loop-at.edge c.loop-at-test.true c.loop-at.invariant.edge_is c.loop-at.invariant.none (λ reading word rest e o w. n reading word rest (c.split_at.ensures.back ∙ e) o w);
+      none = none_more b c.loop-at.at c.loop-at.edge c.loop-at-test.true c.loop-at.invariant.edge_is c.loop-at.invariant.none (λ reading word rest e o w. n reading word rest
+          (c.split_at.ensures.back ∙ e) o w);
     }
 
 pub returns-clause-none : goal.returns-clause-none

@@ -1,7 +1,7 @@
 use Rattle.std.proofs.Common.{map, take, length}
 use Rattle.httparse.specs.Spans.{header_bytes}
 use Rattle.http_service.specs.Fields.{values_of}
-use Rattle.http_service.specs.Values.{AreValues, AreWithin}
+use Rattle.http_service.specs.reading.Values.{AreValues, AreWithin}
 use Rattle.http_service.proofs.fields.values_of.Given as goal
 
 abbrev pub invariant-loop-field : goal.invariant-loop-field

@@ -26,12 +26,14 @@ collecting-preserved g c =
 pub returns-in_err-keep-in-Open-clause-tape : goal.returns-in_err-keep-in-Open-clause-tape
 returns-in_err-keep-in-Open-clause-tape g c =
     let is = err_from_is_err_and c.from_residual-in_err-keep-in-Open.result c.from_residual-in_err-keep-in-Open.ensures.1 in
-    rw (is.1, is.2) (join _ c.collecting.invariant.tape c.in_ok-response.ensures.tape (λ x y so reads. wanting c.args.number c.args.unread.now (gather_more _ so reads c.in-Open.ensures).said))
+    rw (is.1, is.2) (join _ c.collecting.invariant.tape c.in_ok-response.ensures.tape
+    (λ x y so reads. wanting c.args.number c.args.unread.now (gather_more _ so reads c.in-Open.ensures).said))
 
 pub returns-in-Done-clause-tape : goal.returns-in-Done-clause-tape
 returns-in-Done-clause-tape g c =
     let due : c.as_bytes.result.now ≡ tag_of c.args.number = c.as_bytes.ensures.value ∙ c.in_ok-due.ensures in
-    rw c.from_vec.ensures (join _ c.collecting.invariant.tape c.in_ok-response.ensures.tape (λ x y so reads. answered c.args.number _ c.as_bytes.result.now c.in-Done.status so reads c.in-Done.ensures due))
+    rw c.from_vec.ensures (join _ c.collecting.invariant.tape c.in_ok-response.ensures.tape
+    (λ x y so reads. answered c.args.number _ c.as_bytes.result.now c.in-Done.status so reads c.in-Done.ensures due))
 
 pub returns-in-Ends-clause-tape : goal.returns-in-Ends-clause-tape
 returns-in-Ends-clause-tape g c =

@@ -13,4 +13,5 @@ returns-in_err-text-clause-tape g c =
 pub returns-in-Ok-clause-tape : goal.returns-in-Ok-clause-tape
 returns-in-Ok-clause-tape g c =
     let text = c.as_slice.ensures ∙ c.in_ok-text.ensures in
-    join _ c.in-Ok.ensures.tape c.collect.ensures.tape (λ x y wrote collects. sent y c.args.unread.now c.collect.new.unread c.args.number c.args.command.now c.collect.result (subst (λ (l : List ℕ). Talk [] l x) text wrote) collects)
+    join _ c.in-Ok.ensures.tape c.collect.ensures.tape (λ x y wrote collects. sent y c.args.unread.now c.collect.new.unread c.args.number c.args.command.now c.collect.result
+    (subst (λ (l : List ℕ). Talk [] l x) text wrote) collects)

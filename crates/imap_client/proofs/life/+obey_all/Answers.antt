@@ -11,8 +11,12 @@ returns-in_err-last-clause-tape g t c =
 
 pub returns-then-is_none-clause-tape : goal.returns-then-is_none-clause-tape
 returns-then-is_none-clause-tape g t c =
-    widen _ c.in_ok-last.ensures.tape (λ x answers. obeyed_last c.args.unread.now c.obey.new.unread c.args.number _ _ c.args.commands.now c.in_ok-last.last c.first_and_rest.ensures.parts (c.if-is_none.ensures.none.0 refl) answers)
+    widen _ c.in_ok-last.ensures.tape
+    (λ x answers. obeyed_last c.args.unread.now c.obey.new.unread c.args.number _ _ c.args.commands.now c.in_ok-last.last c.first_and_rest.ensures.parts
+    (c.if-is_none.ensures.none.0 refl) answers)
 
 pub returns-else-is_none-clause-tape : goal.returns-else-is_none-clause-tape
 returns-else-is_none-clause-tape g t c =
-    join _ c.in_ok-last.ensures.tape c.obey_all.ensures.tape (λ x y answers others. obeyed_more y c.args.unread.now c.obey.new.unread c.args.number _ _ c.args.commands.now c.in_ok-last.last c.obey_all.result c.first_and_rest.ensures.parts (λ is. cc (c.is_none.ensures.none.1 is)) answers others)
+    join _ c.in_ok-last.ensures.tape c.obey_all.ensures.tape
+    (λ x y answers others. obeyed_more y c.args.unread.now c.obey.new.unread c.args.number _ _ c.args.commands.now c.in_ok-last.last c.obey_all.result
+    c.first_and_rest.ensures.parts (λ is. cc (c.is_none.ensures.none.1 is)) answers others)

@@ -9,7 +9,9 @@ use Rattle.imap_client.proofs.response.next_response.Goals as goal
 
 pub returns-in-Whole-clause-tape : goal.returns-in-Whole-clause-tape
 returns-in-Whole-clause-tape g c =
-    widen _ c.reading.invariant.tape (λ es so. read_whole c.args.unread.now c.reading.unread c.take_response.new.unread c.in-Whole.length so c.in_ok-take_response-in-Whole.ensures.response c.in_ok-take_response-in-Whole.ensures.rest c.take_response.ensures.given)
+    widen _ c.reading.invariant.tape
+    (λ es so. read_whole c.args.unread.now c.reading.unread c.take_response.new.unread c.in-Whole.length so c.in_ok-take_response-in-Whole.ensures.response
+    c.in_ok-take_response-in-Whole.ensures.rest c.take_response.ensures.given)
 
 pub returns-in-Bad-clause-tape : goal.returns-in-Bad-clause-tape
 returns-in-Bad-clause-tape g c =
@@ -33,4 +35,5 @@ pub returns-in_err-fill-clause-tape : goal.returns-in_err-fill-clause-tape
 returns-in_err-fill-clause-tape g c =
     let is = err_from_is_err_and c.from_residual-in_err-fill.result c.from_residual-in_err-fill.ensures.1 in
     let scanned = subst (λ (l : List ℕ). ScanOf l NeedMore) c.as_slice.ensures c.in-NeedMore.ensures.scan in
-    rw (is.1, is.2) (join _ c.reading.invariant.tape c.in_err-fill.ensures.tape (λ x y so fills. fill_failed y c.args.unread.now c.reading.unread c.fill.new.self _ scanned so fills))
+    rw (is.1, is.2) (join _ c.reading.invariant.tape c.in_err-fill.ensures.tape
+    (λ x y so fills. fill_failed y c.args.unread.now c.reading.unread c.fill.new.self _ scanned so fills))

@@ -1,6 +1,6 @@
 use Rattle.std.proofs.Common.{◌≡◌, drop, false}
-use Rattle.mail_header.specs.ElementReading.{are_nested}
-use Rattle.mail_header.specs.ElementView.{elements_view}
+use Rattle.mail_header.specs.reading.ElementReading.{are_nested}
+use Rattle.mail_header.specs.reading.ElementView.{elements_view}
 use Rattle.mail_header.proofs.address_lists.are_nested.Given as goal
 
 abbrev pub invariant-loop-element : goal.invariant-loop-element

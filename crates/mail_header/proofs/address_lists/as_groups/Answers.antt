@@ -5,7 +5,7 @@ use Rattle.mail_header.specs.declared.token.Token.{Token}
 use Rattle.mail_header.specs.declared.token.Alphabet.TheVariants as alphabet
 use Rattle.mail_header.specs.Tokens.{Spelled, AreTokens}
 use Rattle.mail_header.specs.Names.{NoGroups}
-use Rattle.mail_header.specs.GroupBuilding.{GroupsIn}
+use Rattle.mail_header.specs.reading.GroupBuilding.{GroupsIn}
 use Rattle.mail_header.specs.TokenView.{tokens_view}
 use Rattle.mail_header.proofs.GroupLemmas.{no_tokens, groups_form}
 use Rattle.mail_header.proofs.address_lists.as_groups.Goals as goal
@@ -19,6 +19,8 @@ returns-in-None c =
 pub returns : goal.returns
 returns c =
     let f = c.in-Some.found in
-    let t = take_some (λ (v : Vec Token Global). AreTokens alphabet.Mail (tokens_view v.items) c.as_slice.result.now) c.in_ok-tokens.field-0 f c.in-Some.is c.in_ok-tokens.ensures.some in
+    let t = take_some (λ (v : Vec Token Global). AreTokens alphabet.Mail
+    (tokens_view v.items) c.as_slice.result.now) c.in_ok-tokens.field-0 f c.in-Some.is c.in_ok-tokens.ensures.some in
     let a = subst (λ (u : List ℕ). AreTokens alphabet.Mail (tokens_view f.items) u) (c.as_slice.ensures ∙ c.in_ok-raw.ensures) t in
-    IfOk-weaker c.groups_in.result _ _ (λ r h. groups_form c.args.raw.now (tokens_view f.items) r a (subst (λ (u : List Token). GroupsIn (tokens_view u) r) c.as_slice-in-Some.ensures.value h)) c.groups_in.ensures
+    IfOk-weaker c.groups_in.result _ _ (λ r h. groups_form c.args.raw.now (tokens_view f.items) r a
+    (subst (λ (u : List Token). GroupsIn (tokens_view u) r) c.as_slice-in-Some.ensures.value h)) c.groups_in.ensures

@@ -1,6 +1,6 @@
 use Rattle.std.proofs.Common.{Some, [], ◌++◌, append_assoc, ◌∙◌}
 use Rattle.mail_header.specs.Names.{Named}
-use Rattle.mail_header.specs.ElementReading.{closed, grouped_from}
+use Rattle.mail_header.specs.reading.ElementReading.{closed, grouped_from}
 use Rattle.mail_header.specs.TokenView.{tokens_view}
 use Rattle.mail_header.proofs.GroupLemmas.{closes, no_members}
 use Rattle.mail_header.proofs.address_lists.begin.Goals as goal
@@ -10,6 +10,11 @@ returns c = λ es all b. record {
   done = b.done ++ closed b.phrase b.ms;
   phrase = Some (tokens_view c.args.phrase.now);
   ms = [];
-  has = record { groups = closes c.args.builder b.done b.phrase b.ms c.in_ok-groups.groups.items b.has c.in_ok-groups.ensures; name = Named (tokens_view c.args.phrase.now) c.in_ok-name.name c.in_ok-name.ensures; members = no_members c.new.result.items c.new.ensures.items };
+  has = record {
+    groups = closes c.args.builder b.done b.phrase b.ms c.in_ok-groups.groups.items b.has c.in_ok-groups.ensures;
+    name = Named
+        (tokens_view c.args.phrase.now) c.in_ok-name.name c.in_ok-name.ensures;
+    members = no_members c.new.result.items c.new.ensures.items;
+  };
   all_is = append_assoc b.done (closed b.phrase b.ms) (grouped_from (Some (tokens_view c.args.phrase.now)) [] es) ∙ b.all_is;
 }

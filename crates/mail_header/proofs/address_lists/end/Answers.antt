@@ -1,6 +1,6 @@
 use Rattle.std.proofs.Common.{None, [], ◌++◌, append_assoc, ◌∙◌}
 use Rattle.mail_header.specs.Names.{NoName}
-use Rattle.mail_header.specs.ElementReading.{closed, grouped_from}
+use Rattle.mail_header.specs.reading.ElementReading.{closed, grouped_from}
 use Rattle.mail_header.proofs.GroupLemmas.{closes, no_members}
 use Rattle.mail_header.proofs.address_lists.end.Goals as goal
 
@@ -9,6 +9,10 @@ returns c = λ es all b. record {
   done = b.done ++ closed b.phrase b.ms;
   phrase = None;
   ms = [];
-  has = record { groups = closes c.args.builder b.done b.phrase b.ms c.in_ok-groups.groups.items b.has c.in_ok-groups.ensures; name = NoName; members = no_members c.new.result.items c.new.ensures.items };
+  has = record {
+    groups = closes c.args.builder b.done b.phrase b.ms c.in_ok-groups.groups.items b.has c.in_ok-groups.ensures;
+    name = NoName;
+    members = no_members c.new.result.items c.new.ensures.items;
+  };
   all_is = append_assoc b.done (closed b.phrase b.ms) (grouped_from None [] es) ∙ b.all_is;
 }

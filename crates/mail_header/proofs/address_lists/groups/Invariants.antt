@@ -1,7 +1,7 @@
 use Rattle.std.proofs.Common.{drop, None, []}
-use Rattle.mail_header.specs.ElementReading.{grouped_from}
-use Rattle.mail_header.specs.GroupBuilding.{Builds}
-use Rattle.mail_header.specs.ElementView.{elements_view}
+use Rattle.mail_header.specs.reading.ElementReading.{grouped_from}
+use Rattle.mail_header.specs.reading.GroupBuilding.{Builds}
+use Rattle.mail_header.specs.reading.ElementView.{elements_view}
 use Rattle.mail_header.proofs.address_lists.groups.Given as goal
 
 abbrev pub invariant-loop-element : goal.invariant-loop-element

@@ -4,9 +4,9 @@ use Rattle.mail_header.specs.declared.address.Group.{Group}
 use Rattle.mail_header.specs.declared.elements.Element.{Element as Code}
 use Rattle.std.specs.List.{AllZip}
 use Rattle.mail_header.specs.Names.{IsGroup}
-use Rattle.mail_header.specs.ElementReading.{grouped_from}
-use Rattle.mail_header.specs.ElementView.{elements_view}
-use Rattle.mail_header.specs.GroupBuilding.{IsList, IsNoList, GroupsIn, NoGroups, Groups}
+use Rattle.mail_header.specs.reading.ElementReading.{grouped_from}
+use Rattle.mail_header.specs.reading.ElementView.{elements_view}
+use Rattle.mail_header.specs.reading.GroupBuilding.{IsList, IsNoList, GroupsIn, NoGroups, Groups}
 use Rattle.mail_header.specs.TokenView.{tokens_view}
 use Rattle.mail_header.proofs.address_lists.groups_in.Goals as goal
 
@@ -18,4 +18,7 @@ returns-in_ok-groups-in-Some c =
     let ts = tokens_view c.args.tokens.now in
     let es = c.in-Some.elements in
     let l = take_some (λ (v : Vec Code Global). IsList (elements_view v.items) ts) c.in_ok-list_of.field-0 es c.in-Some.is c.in_ok-list_of.ensures.some in
-    subst (λ (u : List Group). GroupsIn ts (Some u)) (sym c.from_vec.ensures) (Groups (elements_view es.items) c.in_ok-groups-in-Some.field-0.items l (subst (λ (u : List Code). AllZip IsGroup (grouped_from None [] (elements_view u)) c.in_ok-groups-in-Some.field-0.items) c.as_slice.ensures.value c.in_ok-groups-in-Some.ensures))
+    subst (λ (u : List Group). GroupsIn ts (Some u)) (sym c.from_vec.ensures)
+    (Groups (elements_view es.items) c.in_ok-groups-in-Some.field-0.items l
+    (subst (λ (u : List Code). AllZip IsGroup (grouped_from None []
+    (elements_view u)) c.in_ok-groups-in-Some.field-0.items) c.as_slice.ensures.value c.in_ok-groups-in-Some.ensures))

@@ -1,7 +1,7 @@
 use Rattle.std.proofs.Common.{◌≡◌, drop}
 use Rattle.std.specs.List.{list_any}
-use Rattle.mail_header.specs.ElementReading.{is_addressee}
-use Rattle.mail_header.specs.ElementView.{elements_view}
+use Rattle.mail_header.specs.reading.ElementReading.{is_addressee}
+use Rattle.mail_header.specs.reading.ElementView.{elements_view}
 use Rattle.mail_header.proofs.address_lists.has_addressee.Given as goal
 
 abbrev pub invariant-loop-element : goal.invariant-loop-element

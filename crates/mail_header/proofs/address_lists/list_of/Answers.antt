@@ -1,9 +1,8 @@
 use Rattle.std.proofs.Common.{Vec, Global}
 use Rattle.header_words.proofs.ShapeLemmas.{take_some}
-use Rattle.text_words.specs.Sequence.{Sequence}
 use Rattle.mail_header.specs.declared.elements.Element.{Element as Code}
-use Rattle.mail_header.specs.AddressLists.{IsElement}
-use Rattle.mail_header.specs.ElementView.{elements_view}
+use Rattle.mail_header.specs.reading.ElementReading.{AreFilled}
+use Rattle.mail_header.specs.reading.ElementView.{elements_view}
 use Rattle.mail_header.specs.TokenView.{tokens_view}
 use Rattle.mail_header.proofs.GroupLemmas.{none_checked}
 use Rattle.mail_header.proofs.address_lists.list_of.Goals as goal
@@ -11,5 +10,5 @@ use Rattle.mail_header.proofs.address_lists.list_of.Goals as goal
 pub returns-in-Some-clause-none : goal.returns-in-Some-clause-none
 returns-in-Some-clause-none c =
     let ts = tokens_view c.args.tokens.now in
-    let s = take_some (λ (v : Vec Code Global). Sequence IsElement (elements_view v.items) ts) c.in_ok-elements.field-0 c.in-Some.found c.in-Some.is c.in_ok-elements.ensures.some in
+    let s = take_some (λ (v : Vec Code Global). AreFilled (elements_view v.items) ts) c.in_ok-elements.field-0 c.in-Some.found c.in-Some.is c.in_ok-elements.ensures.some in
     none_checked c.checked.result _ (elements_view c.in-Some.found.items) ts s c.checked.ensures

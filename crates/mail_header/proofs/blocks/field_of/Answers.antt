@@ -21,4 +21,5 @@ returns-in-Some c =
     let w = c.in-Some.value.now in
     let q : eqb (length n) 0 ≡ false = cc in
     subst (λ (u : List ℕ). IsField n u c.args.block.now) (sym c.without_end.ensures)
-    (is_field c.args.block.now n c.cut.result.1.now c.cut-2.result.1.now w c.cut.ensures.front c.cut.ensures.back c.cut-2.ensures.back (λ e. let z = eq-eqb (length n) 0 (ap length e) in absurd cc) c.in-Some.ensures)
+    (is_field c.args.block.now n c.cut.result.1.now c.cut-2.result.1.now w c.cut.ensures.front c.cut.ensures.back c.cut-2.ensures.back
+    (λ e. let z = eq-eqb (length n) 0 (ap length e) in absurd cc) c.in-Some.ensures)

@@ -7,4 +7,5 @@ pub loop-rest-preserved : goal.loop-rest-preserved
 loop-rest-preserved c = gathered_more _ _ c.loop-rest.rest.now c.in_ok-rest.rest.now c.args.text.now c.loop-rest.invariant c.in_ok-rest.ensures
 
 pub returns : goal.returns
-returns c = gathered_all c.loop-rest.names c.loop-rest.rest.now c.args.text.now c.loop-rest.invariant (nil_from_length c.loop-rest.rest.now (let e : eqb (length c.loop-rest.rest.now) 0 ≡ true = cc in eqb-true (length c.loop-rest.rest.now) 0 e))
+returns c = gathered_all c.loop-rest.names c.loop-rest.rest.now c.args.text.now c.loop-rest.invariant (nil_from_length c.loop-rest.rest.now
+    (let e : eqb (length c.loop-rest.rest.now) 0 ≡ true = cc in eqb-true (length c.loop-rest.rest.now) 0 e))

@@ -4,8 +4,8 @@ use Rattle.text_words.specs.Cuts.{front, back}
 use Rattle.mail_header.specs.declared.token.Token.{Token}
 use Rattle.mail_header.specs.Tokens.{Spelled}
 use Rattle.mail_header.specs.AddressLists.{Element}
-use Rattle.mail_header.specs.ElementReading.{is_plain, bare_of, marked_of, element_of, element_in}
-use Rattle.mail_header.specs.ElementView.{element_view}
+use Rattle.mail_header.specs.reading.ElementReading.{is_plain, bare_of, marked_of, element_of, element_in}
+use Rattle.mail_header.specs.reading.ElementView.{element_view}
 use Rattle.mail_header.specs.TokenView.{token_view, tokens_view}
 use Rattle.mail_header.proofs.elements.element_at.Goals as goal
 
@@ -17,16 +17,19 @@ at_end : (r : List Token) (plain : List Spelled) → length r < 1 → element_of
 at_end [] plain e = refl
 at_end (x ∷ r) plain e = absurd (omega arith)
 
-at_mark : (r : List Token) (d : Token) (plain : List Spelled) → 1 ≤ length r → element_of plain (tokens_view r) ≡ marked_of plain (token_view (get_or r 0 d)) (tokens_view (take (length r - 1) (drop 1 r)))
+at_mark : (r : List Token) (d : Token) (plain : List Spelled) → 1 ≤ length r
+    → element_of plain (tokens_view r) ≡ marked_of plain (token_view (get_or r 0 d)) (tokens_view (take (length r - 1) (drop 1 r)))
 at_mark [] d plain e = absurd (omega arith)
 at_mark (x ∷ r) d plain e = ap (λ (u : List Token). marked_of plain (token_view x) (tokens_view u)) (sym (take_all (length (x ∷ r) - 1) r (omega arith)))
 
 pub returns-in-empty : goal.returns-in-empty
 returns-in-empty c =
-    let e = cut_here (tokens_view c.args.tokens.now) _ _ c.cut_tokens.ensures.front c.cut_tokens.ensures.back ∙ at_end c.cut_tokens.result.1.now (tokens_view c.cut_tokens.result.0.now) c.in-empty.len_below in
+    let e = cut_here (tokens_view c.args.tokens.now) _ _ c.cut_tokens.ensures.front c.cut_tokens.ensures.back
+    ∙ at_end c.cut_tokens.result.1.now (tokens_view c.cut_tokens.result.0.now) c.in-empty.len_below in
     subst (λ (u : Option (Element × ℕ)). MatchOption c.bare.result (u ≡ None) (λ r. u ≡ Some (element_view r.0, r.1))) (sym e) c.bare.ensures
 
 pub returns-in-len1-up : goal.returns-in-len1-up
 returns-in-len1-up c =
-    let e = cut_here (tokens_view c.args.tokens.now) _ _ c.cut_tokens.ensures.front c.cut_tokens.ensures.back ∙ at_mark c.cut_tokens.result.1.now _ (tokens_view c.cut_tokens.result.0.now) c.in-len1-up.len_at_least in
+    let e = cut_here (tokens_view c.args.tokens.now) _ _ c.cut_tokens.ensures.front c.cut_tokens.ensures.back
+    ∙ at_mark c.cut_tokens.result.1.now _ (tokens_view c.cut_tokens.result.0.now) c.in-len1-up.len_at_least in
     subst (λ (u : Option (Element × ℕ)). MatchOption c.marked.result (u ≡ None) (λ r. u ≡ Some (element_view r.0, r.1))) (sym e) c.marked.ensures

@@ -3,7 +3,7 @@ use Rattle.std.proofs.lemmas.List.{take_all}
 use Rattle.mail_header.specs.declared.token.Token.{Token}
 use Rattle.mail_header.specs.Mailboxes.{are_hops}
 use Rattle.mail_header.specs.AddressLists.{is_no_comma}
-use Rattle.mail_header.specs.ElementReading.{are_hops_behind}
+use Rattle.mail_header.specs.reading.ElementReading.{are_hops_behind}
 use Rattle.mail_header.specs.TokenView.{token_view, tokens_view}
 use Rattle.mail_header.proofs.ClassLemmas.{viewed_shorter}
 use Rattle.mail_header.proofs.MailboxLemmas.{no_hop, hop_passed}
@@ -37,7 +37,8 @@ returns-then-not-is_hop-2 c =
 pub loop-rest-preserved : goal.loop-rest-preserved
 loop-rest-preserved c =
     let r = c.loop-rest.rest.now in
-    sym (hop_passed (tokens_view (more r)) _ _ c.cut_tokens-in-len1-up.ensures.front c.cut_tokens-in-len1-up.ensures.back (sym c.is_hop-in-len1-up.ensures ∙ c.if-not-is_hop-2.false))
+    sym (hop_passed (tokens_view (more r)) _ _ c.cut_tokens-in-len1-up.ensures.front c.cut_tokens-in-len1-up.ensures.back
+    (sym c.is_hop-in-len1-up.ensures ∙ c.if-not-is_hop-2.false))
     ∙ sym (behind_comma r c.in-len1-up.len_at_least)
     ∙ c.loop-rest.invariant
 

@@ -1,6 +1,6 @@
 use Rattle.std.proofs.Common.{◌≡◌, [], length}
 use Rattle.mail_header.specs.Mailboxes.{are_hops}
-use Rattle.mail_header.specs.ElementReading.{are_hops_behind}
+use Rattle.mail_header.specs.reading.ElementReading.{are_hops_behind}
 use Rattle.mail_header.specs.TokenView.{tokens_view}
 use Rattle.mail_header.proofs.mailboxes.are_hops.Given as goal
 

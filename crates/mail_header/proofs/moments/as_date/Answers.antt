@@ -1,23 +1,21 @@
-use Rattle.std.proofs.Common.{ℕ, List, Option, Vec, Global, sym, ap, ◌∙◌, subst}
-use Rattle.header_words.proofs.ShapeLemmas.{take_none, take_some}
-use Rattle.mail_header.specs.declared.date.Moment.{Moment}
-use Rattle.mail_header.specs.declared.token.Token.{Token}
+use Rattle.std.proofs.Common.{sym, ap, ◌∙◌}
 use Rattle.mail_header.specs.declared.token.Alphabet.TheVariants as alphabet
-use Rattle.mail_header.specs.Tokens.{Spelled, AreTokens}
-use Rattle.mail_header.specs.Lexemes.{AreLexemes}
-use Rattle.mail_header.specs.Dates.{date_in, IsDateForm, NoTokens, Read}
-use Rattle.mail_header.specs.TokenView.{tokens_view}
+use Rattle.mail_header.specs.Dates.{pieces_of}
+use Rattle.mail_header.specs.reading.DateReading.{date_in}
+use Rattle.mail_header.specs.reading.LexemeReading.{rest_in}
+use Rattle.mail_header.proofs.DateLemmas.{form_read, no_form}
+use Rattle.mail_header.proofs.PieceLemmas.{nothing_cut, something_cut, start_behind}
 use Rattle.mail_header.proofs.moments.as_date.Goals as goal
 
-pub returns-in-None : goal.returns-in-None
-returns-in-None c =
-    let N : Type 0 = (ts : List Spelled) → AreTokens alphabet.Mail ts c.as_slice.result.now → ⊥ in
-    let n = take_none {P = N} c.in_ok-lexemes.field-0 c.in-None.is c.in_ok-lexemes.ensures.none in
-    NoTokens (subst (λ (u : List ℕ). (ts : List Spelled) → AreTokens alphabet.Mail ts u → ⊥) (c.as_slice.ensures ∙ c.in_ok-raw.ensures) n)
+pub returns-then-not-is_row : goal.returns-then-not-is_row
+returns-then-not-is_row c =
+    let t = c.as_slice-text.result.now in
+    no_form c.args.raw.now t (c.as_slice-text.ensures ∙ c.in_ok-text.ensures) (something_cut (rest_in alphabet.Mail t) (sym c.is_row.ensures ∙ c.if-not-is_row.true))
 
 pub returns : goal.returns
 returns c =
-    let f = c.in-Some.found in
-    let l = take_some (λ (v : Vec Token Global). AreLexemes alphabet.Mail (tokens_view v.items) c.as_slice.result.now) c.in_ok-lexemes.field-0 f c.in-Some.is c.in_ok-lexemes.ensures.some in
-    let m = subst (λ (u : List ℕ). AreLexemes alphabet.Mail (tokens_view f.items) u) (c.as_slice.ensures ∙ c.in_ok-raw.ensures) l in
-    subst (λ (o : Option Moment). IsDateForm c.args.raw.now o) (sym (c.date_of.ensures ∙ ap (λ (u : List Token). date_in (tokens_view u)) c.as_slice-in-Some.ensures.value)) (Read (tokens_view f.items) m)
+    let t = c.as_slice-text.result.now in
+    let r = c.behind_day_name-rest.result.now in
+    form_read c.args.raw.now t c.date_at.result (c.as_slice-text.ensures ∙ c.in_ok-text.ensures) (nothing_cut (rest_in alphabet.Mail t)
+    (sym c.is_row.ensures ∙ c.if-not-is_row.false))
+    (c.date_at.ensures ∙ ap date_in (start_behind r ∙ ap pieces_of c.behind_day_name-rest.ensures))

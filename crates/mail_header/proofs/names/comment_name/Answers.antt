@@ -6,8 +6,8 @@ use Rattle.mail_header.proofs.names.comment_name.Goals as goal
 pub returns-in-None : goal.returns-in-None
 returns-in-None c = subst (λ (u : Option (List ℕ)). IsCommentName u None) (sym c.in-None.ensures) NoComment
 
-pub returns-in_ok-comment_text-in-Some : goal.returns-in_ok-comment_text-in-Some
-returns-in_ok-comment_text-in-Some c =
+pub returns-in_ok-some_text-in-Some : goal.returns-in_ok-some_text-in-Some
+returns-in_ok-some_text-in-Some c =
     let name = c.in_ok-comment_text-in-Some.field-0.items in
-    subst (λ (u : Option (List ℕ)). IsCommentName (comment_behind None (tokens_view c.args.tokens.now)) u) (sym c.some_text.ensures)
+    subst (λ (u : Option (List ℕ)). IsCommentName (comment_behind None (tokens_view c.args.tokens.now)) u) (sym c.in_ok-some_text-in-Some.ensures)
     (subst (λ (u : Option (List ℕ)). IsCommentName u (some_text name)) (sym c.in-Some.ensures) (OfComment c.in-Some.comment.now name c.in_ok-comment_text-in-Some.ensures))

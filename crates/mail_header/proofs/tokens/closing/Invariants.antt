@@ -1,5 +1,5 @@
 use Rattle.std.proofs.Common.{◌≡◌, ◌≤◌, false}
-use Rattle.mail_header.specs.TokenReading.{close_in}
+use Rattle.mail_header.specs.reading.TokenReading.{close_in}
 use Rattle.mail_header.proofs.BracketSteps.{from}
 use Rattle.mail_header.proofs.tokens.closing.Given as goal
 

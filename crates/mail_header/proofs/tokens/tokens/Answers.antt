@@ -10,7 +10,8 @@ some_left t e n = let q : eqb (length t) 0 ≡ true = eq-eqb (length t) 0 (ap le
 pub returns-then-is_empty-clause-some : goal.returns-then-is_empty-clause-some
 returns-then-is_empty-clause-some c =
     let rest = c.in_ok-found.rest.now in
-    all_read c.args.alphabet (tokens_view c.in_ok-found.found.items) rest c.args.text.now c.in_ok-found.ensures (nil_from_length rest (let e : eqb (length rest) 0 ≡ true = cc in eqb-true (length rest) 0 e))
+    all_read c.args.alphabet (tokens_view c.in_ok-found.found.items) rest c.args.text.now c.in_ok-found.ensures (nil_from_length rest
+    (let e : eqb (length rest) 0 ≡ true = cc in eqb-true (length rest) 0 e))
 
 pub returns-clause-none : goal.returns-clause-none
 returns-clause-none c =

@@ -1,4 +1,4 @@
-use Rattle.mime_tree.specs.LineReading.{mark_of}
+use Rattle.mime_tree.specs.reading.LineReading.{mark_of}
 use Rattle.mime_tree.proofs.MarkLemmas as lemmas
 use Rattle.mime_tree.proofs.laws.one_mark.Goals as goal
 

@@ -1,5 +1,5 @@
 use Rattle.std.proofs.Common.{drop}
-use Rattle.mime_tree.specs.ListBuilding.{grown}
+use Rattle.mime_tree.specs.reading.ListBuilding.{grown}
 use Rattle.mime_tree.proofs.ListWalkLemmas.{SoFar}
 use Rattle.mime_tree.proofs.list_walk.+walk.Given as goal
 

@@ -26,8 +26,16 @@ part_at-requires t c =
     let w = body_within _ _ _ _ c.in_ok-head.head c.requires.ordered c.in_ok-head.ensures in
     let ps = c.as_slice-piece-items.result.now in
     let d = piece_at ps c.loop-piece.piece-index (record { start = 0; end = 0 }) c.loop-piece-test.true in
-    let f = placed_head c.args.first c.loop-piece.next (c.in_ok-head.head.end - c.in_ok-head.head.body) _ _ _ d c.loop-piece.invariant.placed in
-    (omega (arith, c.decreases), (omega (arith, f.ordered), (omega (arith, f.within, f.ordered, w.ordered, w.end, c.requires.within), omega (arith, f.room, f.ordered, w.from, w.ordered, w.end, c.requires.room))))
+    let f = placed_head c.args.first c.loop-piece.next (c.in_ok-head.head.end - c.in_ok-head.head.body) _ _ _ d c.loop-piece.invariant.placed in (
+      omega (arith, c.decreases),
+      (
+        c.requires.shared,
+        (
+          omega (arith, f.ordered),
+          (omega (arith, f.within, f.ordered, w.ordered, w.end, c.requires.within), omega (arith, f.room, f.ordered, w.from, w.ordered, w.end, c.requires.room)),
+        ),
+      ),
+    )
 
 pub loop-piece-preserved : goal.loop-piece-preserved
 loop-piece-preserved t c =
@@ -35,20 +43,25 @@ loop-piece-preserved t c =
     let d = piece_at ps c.loop-piece.piece-index (record { start = 0; end = 0 }) c.loop-piece-test.true in
     let f = placed_head c.args.first c.loop-piece.next (c.in_ok-head.head.end - c.in_ok-head.head.body) _ _ _ d c.loop-piece.invariant.placed in
     record {
-      so_far = children_step (c.args.more - 1) c.args.bytes.now c.in_ok-head.head.body _ _ ps _ _ _ c.args.first c.loop-piece.children.items _ c.loop-piece.next _ _ d (c.default_in-default.ensures ∙ ap default_of c.as_slice.ensures) c.loop-piece.invariant.so_far c.in_ok-child-in-Some.ensures.tree c.in_ok-push-in-Some.ensures.items;
-      placed = placed_next c.args.first c.loop-piece.next _ (c.in_ok-head.head.end - c.in_ok-head.head.body) _ _ _ d c.loop-piece.invariant.placed (omega (arith, c.in_ok-child-in-Some.ensures.numbers, f.ordered));
+      so_far = children_step (c.args.more - 1) c.args.bytes.now c.in_ok-head.head.body _ _ ps _ _ _ c.args.first c.loop-piece.children.items _ c.loop-piece.next _ _ d
+          (c.default_in-default.ensures ∙ ap default_of c.as_slice.ensures) c.loop-piece.invariant.so_far c.in_ok-child-in-Some.ensures.tree c.in_ok-push-in-Some.ensures.items;
+      placed = placed_next c.args.first c.loop-piece.next _ (c.in_ok-head.head.end - c.in_ok-head.head.body) _ _ _ d c.loop-piece.invariant.placed
+          (omega (arith, c.in_ok-child-in-Some.ensures.numbers, f.ordered));
     }
   where
     default_of : List ℕ → List ℕ
     default_of m = heads.default_in m
 
-pub returns-after-loop-piece-clause-tree : goal.returns-after-loop-piece-clause-tree
-returns-after-loop-piece-clause-tree t c =
+pub returns-in_ok-node-in-Some-clause-tree : goal.returns-in_ok-node-in-Some-clause-tree
+returns-in_ok-node-in-Some-clause-tree t c =
     let h = c.in_ok-head.head in
     let A : Option (List Piece) → Type 0 = λ r. ArePieces (boundary_of h) (slice_range c.args.bytes.now h.body h.end) r in
-    tree_node c.args.more _ _ _ _ _ _ _ h c.in-Some.pieces c.if-more-eq0.false c.in_ok-head.ensures (subst A c.in-Some.is c.in_ok-pieces_of.ensures.pieces) c.node.ensures.node (children_of _ _ _ _ _ _ _ _ _ _ _ c.loop-piece-test.false c.as_slice-piece-items.ensures c.node.ensures.children c.loop-piece.invariant.so_far)
+    tree_node c.args.more _ _ _ _ _ _ _ h c.in-Some.pieces c.if-more-eq0.false c.in_ok-head.ensures
+    (subst A c.in-Some.is c.in_ok-pieces_of.ensures.pieces) c.in_ok-node-in-Some.ensures.node
+    (children_of _ _ _ _ _ _ _ _ _ _ _ c.loop-piece-test.false c.as_slice-piece-items.ensures c.in_ok-node-in-Some.ensures.children c.loop-piece.invariant.so_far)
   where
-    children_of : (more : ℕ) (b : List ℕ) (base : ℕ) (d : List ℕ) (ps qs : List Piece) (i first : ℕ) (cs ds : List Part) (next : ℕ) → length ps ≤ i → ps ≡ qs → ds ≡ cs → ChildrenSo more b base d ps (drop i ps) first cs next → AreTrees (IsTree more b) base d qs first ds next
+    children_of : (more : ℕ) (b : List ℕ) (base : ℕ) (d : List ℕ) (ps qs : List Piece) (i first : ℕ) (cs ds : List Part) (next : ℕ) → length ps ≤ i → ps ≡ qs → ds ≡ cs
+        → ChildrenSo more b base d ps (drop i ps) first cs next → AreTrees (IsTree more b) base d qs first ds next
     children_of more b base d ps qs i first cs ds next le e f h =
         let P : List Piece → Type 0 = λ u. AreTrees (IsTree more b) base d u first ds next in
         let Q : List Part → Type 0 = λ u. AreTrees (IsTree more b) base d ps first u next in

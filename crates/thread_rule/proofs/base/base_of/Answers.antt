@@ -9,7 +9,8 @@ loop-inner-preserved c =
     let i = c.loop-inner.invariant in
     let b = c.stripped-rest-in-Some.ensures in
     record {
-      reached = reaches_on c.args.text.now t c.stripped-rest-in-Some.result.now (reaches_more c.args.text.now s t i.reached (Step6 i.trailer i.leader i.blob c.in-Some.ensures.inner)) b.reached;
+      reached = reaches_on c.args.text.now t c.stripped-rest-in-Some.result.now
+          (reaches_more c.args.text.now s t i.reached (Step6 i.trailer i.leader i.blob c.in-Some.ensures.inner)) b.reached;
       trailer = b.trailer;
       leader = b.leader;
       blob = b.blob;

@@ -9,7 +9,8 @@ returns c =
     let u = c.without_leaders.result.now in
     let b = c.without_blobs.ensures in
     record {
-      reached = reaches_on s t c.without_blobs.result.now c.without_trailers.ensures.reached (reaches_on t u c.without_blobs.result.now c.without_leaders.ensures.reached b.reached);
+      reached = reaches_on s t c.without_blobs.result.now c.without_trailers.ensures.reached
+          (reaches_on t u c.without_blobs.result.now c.without_leaders.ensures.reached b.reached);
       trailer = b.trailer;
       leader = b.leader;
       blob = b.blob;

@@ -19,7 +19,8 @@ loop-id-preserved c =
 pub returns-in_err-add-clause-err : goal.returns-in_err-add-clause-err
 returns-in_err-add-clause-err c =
     on_err c.from_residual.result
-    (apart_of c.args.index.now c.loop-id.index c.add.new.index (keys_under c.args.digest.now c.args.named.now) c.loop-id.id-index c.args.email true c.loop-id.invariant.sets c.in_err-add.ensures.err)
+    (apart_of c.args.index.now c.loop-id.index c.add.new.index
+    (keys_under c.args.digest.now c.args.named.now) c.loop-id.id-index c.args.email true c.loop-id.invariant.sets c.in_err-add.ensures.err)
 
 pub returns-clause-ok : goal.returns-clause-ok
 returns-clause-ok c =

@@ -11,7 +11,8 @@ loop-id-init c = record { sets = sets_none c.args.index.now c.args.email false; 
 pub loop-id-preserved : goal.loop-id-preserved
 loop-id-preserved c =
     record {
-      sets = keys_turn c.args.index.now c.loop-id.index c.remove.new.index c.args.digest.now c.args.named.now c.loop-id.id-index c.id-item.result c.key_after.result c.args.email false
+      sets = keys_turn c.args.index.now c.loop-id.index c.remove.new.index c.args.digest.now c.args.named.now c.loop-id.id-index c.id-item.result c.key_after.result c.args.email
+          false
           c.loop-id-test.true c.id-item.is (c.key_after.ensures ∙ ap (key_after c.args.digest.now) c.as_slice.ensures) c.loop-id.invariant.sets c.remove.ensures.sets;
       tight = λ t. c.remove.ensures.tight (c.loop-id.invariant.tight t);
     }

@@ -13,7 +13,8 @@ pub returns-in-Some-clause-is : goal.returns-in-Some-clause-is
 returns-in-Some-clause-is c =
     let y = c.as_slice-id.result.now in
     let b = c.as_slice-in-loop-id.result.now in
-    let key : c.key_after-key.result ≡ key_of b y = c.key_after-key.ensures ∙ ap (λ (d : List ℕ). key_after d y) (c.base_digest-digest.ensures ∙ ap base_digest (c.as_slice.ensures ∙ sym c.as_slice-in-loop-id.ensures)) in
+    let key : c.key_after-key.result ≡ key_of b y = c.key_after-key.ensures
+    ∙ ap (λ (d : List ℕ). key_after d y) (c.base_digest-digest.ensures ∙ ap base_digest (c.as_slice.ensures ∙ sym c.as_slice-in-loop-id.ensures)) in
     c.loop-id.invariant c.in-Some.thread
     (joins_here c.args.index.now c.args.members.now.entries c.args.named.now.base c.args.named.now.email c.as_slice-id-items.result.now c.loop-id.id-index
     c.id-item.result y b c.key_after-key.result c.in-Some.thread c.requires
@@ -23,7 +24,8 @@ pub loop-id-preserved : goal.loop-id-preserved
 loop-id-preserved c = λ thread t.
     let y = c.as_slice-id.result.now in
     let b = c.as_slice-in-loop-id.result.now in
-    let key : c.key_after-key.result ≡ key_of b y = c.key_after-key.ensures ∙ ap (λ (d : List ℕ). key_after d y) (c.base_digest-digest.ensures ∙ ap base_digest (c.as_slice.ensures ∙ sym c.as_slice-in-loop-id.ensures)) in
+    let key : c.key_after-key.result ≡ key_of b y = c.key_after-key.ensures
+    ∙ ap (λ (d : List ℕ). key_after d y) (c.base_digest-digest.ensures ∙ ap base_digest (c.as_slice.ensures ∙ sym c.as_slice-in-loop-id.ensures)) in
     c.loop-id.invariant thread
     (passes_here c.args.index.now c.args.members.now.entries c.args.named.now.base c.args.named.now.email c.as_slice-id-items.result.now c.loop-id.id-index
     c.id-item.result y b c.key_after-key.result thread c.requires

@@ -5,4 +5,5 @@ use Rattle.thread_rule.proofs.search.thread_of.Given as goal
 -- what the ids that are left come to is the Thread
 abbrev pub invariant-loop-id : goal.invariant-loop-id
 invariant-loop-id l =
-    (thread : ℕ) → IsThreadOf l.members.entries l.named.base l.named.email (drop l.id-index l.id-items) thread → IsThreadOf l.members.entries l.named.base l.named.email l.named.ids thread
+    (thread : ℕ) → IsThreadOf l.members.entries l.named.base l.named.email (drop l.id-index l.id-items) thread
+    → IsThreadOf l.members.entries l.named.base l.named.email l.named.ids thread

@@ -3,7 +3,7 @@ use Rattle.thread_rule.specs.Subject.{IsMarkBehindBlobs}
 use Rattle.thread_rule.specs.BaseSubject.{Drops}
 use Rattle.thread_rule.proofs.subject.behind_marked.Given as goal
 
--- a mark stands behind blobs of the text exactly where it does of the rest
+-- a mark stands after blobs of the text exactly where it does of the rest
 abbrev pub invariant-loop-behind : goal.invariant-loop-behind
 invariant-loop-behind l = record {
   text_of_rest : (t : List ℕ) → Drops IsMarkBehindBlobs l.rest t → Drops IsMarkBehindBlobs l.text t;

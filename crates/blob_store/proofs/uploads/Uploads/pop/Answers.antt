@@ -7,15 +7,26 @@ use Rattle.blob_store.proofs.KeptLemmas.{Without, popped}
 use Rattle.blob_store.proofs.uploads.Uploads.pop.Goals as goal
 
 -- what is left where the oldest id is gone from the queue and from the map
-left : (c : goal.After-drop-octets-inside) → Without (get (pointwise ◌==◌) c.self.inside.octets) (get (pointwise ◌==◌) c.swap_remove.new.self) c.in-Some.id c.pop_front.new.self.items
-left c = popped _ _ c.in-Some.id c.pop_front.new.self.items (subst (AreKept (get (pointwise ◌==◌) c.self.inside.octets)) c.in-Some.ensures.items c.self.invariant.0) c.swap_remove.ensures.updates.0
+left : (c : goal.After-drop-octets-inside) → Without (get (pointwise ◌==◌) c.self.inside.octets)
+    (get (pointwise ◌==◌) c.swap_remove.new.self) c.in-Some.id c.pop_front.new.self.items
+left c = popped _ _ c.in-Some.id c.pop_front.new.self.items (subst
+    (AreKept (get (pointwise ◌==◌) c.self.inside.octets)) c.in-Some.ensures.items c.self.invariant.0) c.swap_remove.ensures.updates.0
 
 pub invariant_of-self-in-Some-swap_remove : goal.invariant_of-self-in-Some-swap_remove
 invariant_of-self-in-Some-swap_remove c =
     let w = left c in
     let had : Some c.in-Some-swap_remove.octets ≡ Some w.oldest = sym c.in-Some-swap_remove.is ∙ c.swap_remove.ensures.value ∙ w.had in
-    let same : c.in-Some-swap_remove.octets ≡ w.oldest = cc had in
-    (w.kept, omega (arith, c.self.invariant.1, ap (λ ids. octets_of (gathered (get (pointwise ◌==◌) c.self.inside.octets) ids)) c.in-Some.ensures.items, ap octets_of w.all, ap length same, ap length c.as_slice.ensures))
+    let same : c.in-Some-swap_remove.octets ≡ w.oldest = cc had in (
+      w.kept,
+      omega (
+        arith,
+        c.self.invariant.1,
+        ap (λ ids. octets_of (gathered (get (pointwise ◌==◌) c.self.inside.octets) ids)) c.in-Some.ensures.items,
+        ap octets_of w.all,
+        ap length same,
+        ap length c.as_slice.ensures,
+      ),
+    )
 
 pub returns-in-Some-swap_remove-clause-oldest : goal.returns-in-Some-swap_remove-clause-oldest
 returns-in-Some-swap_remove-clause-oldest c octets rest is =

@@ -17,4 +17,5 @@ returns-clause-ids c h of fits =
     let G : List Entry → Type 0 = λ es. Gathered es None c.in_ok-seen.seen c.in_ok-seen._taken in
     let A : List (ℕ × Bool) → Type 0 = AreTouched h c.args.place in
     subst A (sym (c.from_vec.ensures ∙ c.in_ok-ids.ensures.items))
-    (touched_from h c.args.place c.in_ok-seen._taken c.in_ok-seen.seen fits (omega (arith, of.place, c.in_ok-start.ensures.refused.to_last)) c.in_ok-ids.ensures.ordered (subst G rest c.in_ok-seen.ensures))
+    (touched_from h c.args.place c.in_ok-seen._taken c.in_ok-seen.seen fits (omega (arith, of.place, c.in_ok-start.ensures.refused.to_last)) c.in_ok-ids.ensures.ordered
+    (subst G rest c.in_ok-seen.ensures))

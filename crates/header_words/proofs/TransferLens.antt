@@ -1,0 +1,18 @@
+-- How many octets a body spells.
+use Rattle.std.proofs.Common.{◌≡◌, ℕ, List, length, true, false, refl}
+use Rattle.header_words.specs.Transfer.{base64_octets, base64_problem, HasBodyLen}
+use Rattle.header_words.specs.reading.Units.{HasPrintableLen}
+use Rattle.header_words.specs.declared.transfer.Encoding.TheVariants as encoding
+
+pub printable_body : (n : ℕ) (b : List ℕ) → HasPrintableLen n b → HasBodyLen encoding.QuotedPrintable n b
+printable_body n b h = record { octets = h.octets; problem = h.problem; is = h.is; counted = h.counted }
+
+pub base64_body : (n : ℕ) (b : List ℕ) → n ≡ length (base64_octets b) → HasBodyLen encoding.Base64 n b
+base64_body n b h = record { octets = base64_octets b; problem = base64_problem b; is = (refl, refl); counted = h }
+
+-- the identity, and an unknown encoding
+pub same_body : (b : List ℕ) → HasBodyLen encoding.Identity (length b) b × HasBodyLen encoding.Unknown (length b) b
+same_body b = (
+  record { octets = b; problem = false; is = (refl, refl); counted = refl },
+  record { octets = b; problem = true; is = (refl, refl); counted = refl },
+)

@@ -1,0 +1,92 @@
+-- What stands at the front of a text, as functions on lists: how the code reads it.
+use Rattle.std.specs.Prelude.{◌≡◌, ℕ, zero, suc, ◌+◌, ◌*◌, Bool, true, ◌==◌, if◌then◌else◌, List, [], ◌∷◌, ◌++◌, length, drop, Option, Some, None}
+use Rattle.std.specs.Prelude.{option_to_list}
+use Rattle.text_words.specs.Cuts.{front, back}
+use Rattle.text_words.specs.LineEnds.{line_end_len}
+use Rattle.text_words.specs.Octets.{is_blank, hex_value}
+use Rattle.header_words.specs.EncodedWords.{IsEncodedWord, BeginsAtEdge, IsFirst}
+use Rattle.header_words.specs.QuotedPrintable.{Piece, right, ends_line, IsPrintable}
+use Rattle.header_words.specs.declared.quoted_printable.PieceAt.{PieceAt}
+
+-- the octet of two hexadecimal digits
+abbrev pub hex_pair : Option ℕ → Option ℕ → Option ℕ
+hex_pair None y = None
+hex_pair (Some a) None = None
+hex_pair (Some a) (Some b) = Some (16 * a + b)
+
+-- the octet that two hexadecimal digits at the front spell
+abbrev pub hex_in : List ℕ → Option ℕ
+hex_in [] = None
+hex_in (h ∷ []) = None
+hex_in (h ∷ l ∷ t) = hex_pair (hex_value h) (hex_value l)
+
+abbrev pub escape_of : Option ℕ → Option (ℕ × ℕ)
+escape_of None = None
+escape_of (Some c) = Some (c, 3)
+
+-- an octet in "Q", and how long its spelling is
+unfoldable pub q_unit_in : List ℕ → Option (ℕ × ℕ)
+q_unit_in [] = None
+q_unit_in (c ∷ t) =
+    if c == 95 then Some (32, 1)
+    else if c == 61 then escape_of (hex_in t)
+    else Some (c, 1)
+
+-- an encoded word, before an edge
+abbrev pub IsWordBefore : List ℕ → List ℕ → List ℕ → Type 0
+IsWordBefore reading word behind = IsEncodedWord reading word × BeginsAtEdge behind
+
+-- the first encoded word of a text, and where it stands
+pub record FoundAt (reading : List ℕ) (start end : ℕ) (t : List ℕ) : Type 0 where
+  pub before : List ℕ
+  pub word : List ℕ
+  pub behind : List ℕ
+  pub first : IsFirst reading before word behind t
+  pub start_is : start ≡ length before
+  pub end_is : end ≡ length before + length word
+
+-- after an "=" without hexadecimal digits, so many blanks, and an end of the line of n octets
+abbrev pub break_of : ℕ → ℕ → Option (Piece × ℕ)
+break_of n zero = Some (record { octets = 61 ∷ []; wrong = true }, 1)
+break_of n (suc k) = Some (right [], 1 + n + suc k)
+
+-- what an "=" begins
+abbrev pub sign_of : Option ℕ → List ℕ → Option (Piece × ℕ)
+sign_of (Some c) t = Some (right (c ∷ []), 3)
+sign_of None t = break_of (length (front is_blank t)) (line_end_len (back is_blank t))
+
+-- blanks at the front, and what follows them
+abbrev pub blanks_of : List ℕ → List ℕ → Option (Piece × ℕ)
+blanks_of blanks rest = if ends_line rest then Some (right [], length blanks) else Some (right blanks, length blanks)
+
+-- the piece at the front of a text in quoted-printable, and how many octets it has
+unfoldable pub piece_in : List ℕ → Option (Piece × ℕ)
+piece_in [] = None
+piece_in (c ∷ t) =
+    if c == 61 then sign_of (hex_in t) t
+    else if is_blank c then blanks_of (front is_blank (c ∷ t)) (back is_blank (c ∷ t))
+    else Some (right (c ∷ []), 1)
+
+-- the octets of a piece that the code read
+abbrev pub octets_read : PieceAt → List ℕ
+octets_read p = option_to_list p.spelled ++ p.kept.now
+
+-- what was read at the front of a text stands for these octets, and rest follows it
+pub record IsRead (read : Option (Piece × ℕ)) (text rest octets : List ℕ) (wrong : Bool) : Type 0 where
+  pub piece : Piece
+  pub len : ℕ
+  pub read_is : read ≡ Some (piece, len)
+  pub rest_is : rest ≡ drop len text
+  pub wrong_is : wrong ≡ piece.wrong
+  pub octets_are : octets ≡ piece.octets
+
+-- the code read this at the front of a text
+abbrev pub Reads : Option (Piece × ℕ) → List ℕ → PieceAt → Type 0
+Reads read text p = IsRead read text p.rest.now (octets_read p) p.wrong
+
+-- the text spells n octets in quoted-printable
+pub record HasPrintableLen (n : ℕ) (t : List ℕ) : Type 0 where
+  pub octets : List ℕ
+  pub problem : Bool
+  pub is : IsPrintable octets problem t
+  pub counted : n ≡ length octets

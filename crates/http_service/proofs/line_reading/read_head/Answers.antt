@@ -1,0 +1,62 @@
+use Rattle.std.proofs.Common.{ap, sym, subst, ◌∙◌, List, ℕ, Option, Ok, Err, Some, None, ◌++◌}
+use Rattle.std.proofs.lemmas.Result.{err_from_is_err_and}
+use Rattle.gate_world.proofs.Joins.{widen}
+use Rattle.http_service.specs.declared.lines.Lines.TheVariants as lines
+use Rattle.http_service.specs.declared.line_reading.Stop.{Stop}
+use Rattle.http_service.specs.declared.head.Head.{Head}
+use Rattle.http_service.specs.Taking.{window}
+use Rattle.http_service.specs.reading.Parses.{ParsesHead}
+use Rattle.http_service.specs.reading.Steps.{IsStopped, ReadsLines}
+use Rattle.http_service.proofs.LineEndLemmas.{head_open}
+use Rattle.http_service.proofs.LineReadingLemmas.{lines_read, head_found, head_outside, head_refused, head_full, head_short}
+use Rattle.http_service.proofs.line_reading.read_head.Goals as goal
+
+pub returns-in_err-stop-clause-tape : goal.returns-in_err-stop-clause-tape
+returns-in_err-stop-clause-tape g c =
+    let is = err_from_is_err_and c.from_residual.result c.from_residual.ensures.1 in
+    rw (is.1, is.2) (widen _ c.in_err-stop.ensures.tape (λ es reads. head_outside es c.in_err-stop.field-0.0 reads))
+
+pub returns-in_err-head-clause-tape : goal.returns-in_err-head-clause-tape
+returns-in_err-head-clause-tape g c =
+    let is = err_from_is_err_and c.from_residual-in_err-head.result c.from_residual-in_err-head.ensures.1 in
+    let here = c.window.ensures ∙ ap window c.as_slice.ensures in
+    let parses = subst (λ (l : List ℕ). ParsesHead l (Err c.in_err-head.field-0.0)) here c.in_err-head.ensures in
+    rw (is.1, is.2) (widen _ c.in_ok-stop.ensures.tape (λ es reads. head_refused es c.in_ok-stop.stop c.in_err-head.field-0.0 reads parses))
+
+pub skip-requires : goal.skip-requires
+skip-requires g c =
+    let here = c.window.ensures ∙ ap window c.as_slice.ensures in
+    let parses = subst (λ (l : List ℕ). ParsesHead l (Ok (Some (c.in-Some.head, c.in-Some.size)))) here
+    (subst (λ (r : Option (Head × ℕ)). ParsesHead c.window.result.now (Ok r)) c.in-Some.is c.in_ok-head.ensures) in
+    (head_found c.read_lines.new.spare c.in-Some.size c.in-Some.head parses).3
+
+pub unreachable-requires : goal.unreachable-requires
+unreachable-requires g c =
+    let here = c.window.ensures ∙ ap window c.as_slice.ensures in
+    let none = subst (λ (l : List ℕ). ParsesHead l (Ok None)) here (subst (λ (r : Option (Head × ℕ)). ParsesHead c.window.result.now (Ok r)) c.in-None.is c.in_ok-head.ensures) in
+    let ended = subst (λ (s : Stop). IsStopped lines.Head s c.read_lines.new.spare) c.in-Ended.is c.in_ok-stop.ensures.stop in
+    head_open (window c.read_lines.new.spare) none.0 none.1 ended
+
+pub returns-in-Some-clause-tape : goal.returns-in-Some-clause-tape
+returns-in-Some-clause-tape g c =
+    let here = c.window.ensures ∙ ap window c.as_slice.ensures in
+    let parses = subst (λ (l : List ℕ). ParsesHead l (Ok (Some (c.in-Some.head, c.in-Some.size)))) here
+    (subst (λ (r : Option (Head × ℕ)). ParsesHead c.window.result.now (Ok r)) c.in-Some.is c.in_ok-head.ensures) in
+    let found = head_found c.read_lines.new.spare c.in-Some.size c.in-Some.head parses in
+    let whole = found.1 ∙ ap (λ (l : List ℕ). found.0 ++ l) (sym c.skip.ensures) in
+    widen _ c.in_ok-stop.ensures.tape (λ es reads. (found.0, lines_read lines.Head c.in_ok-stop.stop found.0 c.skip.new.self reads whole found.4, found.2, found.5))
+
+pub returns-in-Full-clause-tape : goal.returns-in-Full-clause-tape
+returns-in-Full-clause-tape g c =
+    let here = c.window.ensures ∙ ap window c.as_slice.ensures in
+    let none = subst (λ (l : List ℕ). ParsesHead l (Ok None)) here (subst (λ (r : Option (Head × ℕ)). ParsesHead c.window.result.now (Ok r)) c.in-None.is c.in_ok-head.ensures) in
+    let full = subst (λ (s : Stop). IsStopped lines.Head s c.read_lines.new.spare) c.in-Full.is c.in_ok-stop.ensures.stop in
+    widen _ c.in_ok-stop.ensures.tape (λ es reads. head_full (subst
+    (λ (s : Stop). ReadsLines lines.Head c.args.spare.now c.read_lines.new.spare (Ok s) es) c.in-Full.is reads) none full.1)
+
+pub returns-in-Closed-clause-tape : goal.returns-in-Closed-clause-tape
+returns-in-Closed-clause-tape g c =
+    let here = c.window.ensures ∙ ap window c.as_slice.ensures in
+    let none = subst (λ (l : List ℕ). ParsesHead l (Ok None)) here (subst (λ (r : Option (Head × ℕ)). ParsesHead c.window.result.now (Ok r)) c.in-None.is c.in_ok-head.ensures) in
+    widen _ c.in_ok-stop.ensures.tape (λ es reads. head_short
+    (subst (λ (s : Stop). ReadsLines lines.Head c.args.spare.now c.read_lines.new.spare (Ok s) es) c.in-Closed.is reads) none)

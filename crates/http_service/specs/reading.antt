@@ -1,0 +1,7 @@
+-- What only private clauses and proofs need.
+pub mod Values
+pub mod LineEnds
+pub mod Parses
+pub mod Steps
+pub mod Errors
+pub mod Targets

@@ -1,0 +1,13 @@
+use Rattle.std.proofs.Common.{◌≡◌, ◌≤◌, length}
+use Rattle.mail_header.specs.reading.LexemeReading.{lexemes_in, rest_in}
+use Rattle.mail_header.proofs.lexemes.behind_gaps.Given as goal
+
+abbrev pub invariant-loop-token : goal.invariant-loop-token
+invariant-loop-token l = record {
+  lexemes : lexemes_in l.fn.alphabet l.rest ≡ lexemes_in l.fn.alphabet l.text;
+  rest : rest_in l.fn.alphabet l.rest ≡ rest_in l.fn.alphabet l.text;
+  within : length l.rest ≤ length l.text;
+}
+
+abbrev pub decreases-loop-token : goal.decreases-loop-token
+decreases-loop-token l = length l.rest

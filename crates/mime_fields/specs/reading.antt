@@ -1,0 +1,2 @@
+-- How the code reads: what proofs and private clauses use, and no public clause needs.
+pub mod MimeLexemes

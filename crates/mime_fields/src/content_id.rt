@@ -1,0 +1,86 @@
+// Content-ID.
+ghost use Rattle.std.specs.Prelude.{◌≡◌, ◌≢◌, ℕ, List, [], ◌∷◌, ◌++◌, IfOk, OnOk, MatchOption};
+ghost use Rattle.std.specs.List.{filter};
+ghost use Rattle.mail_header.specs.Names.{some_text};
+ghost use Rattle.mime_fields.specs.ContentIds as ids;
+
+use gate_world::Bytes;
+use mail_header::as_raw;
+use mail_header::lexemes::{behind_gaps, next_lexeme};
+use mail_header::raw_forms::unfold;
+use mail_header::token::Alphabet;
+use std::alloc::{AllocError, Global};
+use text_words::{behind, is_white};
+
+/// The id of a raw value without comments and white space, and without one pair of angle brackets around it. There is none
+/// where nothing is left.
+pub(crate) fn content_id(alloc: Global, raw: &[u8]) -> Result<Option<Bytes>, AllocError>
+    ensures { IfOk result (λ id. ids.IsContentId raw.now id) }
+{
+    let text = as_raw(alloc, raw)?;
+    let kept = without_gaps(alloc, text.as_slice())?;
+    some_id(alloc, without_angles(kept.as_slice()))
+}
+
+/// The text without comments and white space.
+fn without_gaps(alloc: Global, text: &[u8]) -> Result<Vec<u8>, AllocError>
+    ensures { IfOk result (λ v. ids.IsWithoutGaps v.items text.now) }
+{
+    let mut kept = Vec::new(alloc);
+    let mut rest = text;
+    while let Some((lexeme, more)) = next_lexeme(Alphabet::Mail, rest) {
+        kept.extend_from_slice(lexeme.text)?;
+        rest = more;
+    }
+    push_visible(&mut kept, behind_gaps(Alphabet::Mail, rest))?;
+    Ok(unfold(alloc, kept.as_slice())?)
+}
+
+/// Adds the octets that are no white space.
+fn push_visible(kept: &mut Vec<u8>, text: &[u8]) -> Result<(), AllocError>
+    ensures { OnOk result (kept.new.items ≡ kept.old.items ++ filter ids.is_visible text.now) }
+{
+    for octet in text {
+        if !is_white(*octet) {
+            kept.push(*octet)?;
+        }
+    }
+    Ok(())
+}
+
+/// The text without one pair of angle brackets around it.
+fn without_angles(text: &[u8]) -> &[u8]
+    ensures { ids.IsWithoutAngles result.now text.now }
+{
+    match behind(b'<', text) {
+        None => text,
+        Some(rest) => match before(b'>', rest) {
+            None => text,
+            Some(inner) => inner,
+        },
+    }
+}
+
+/// What stands before the octet, where the text ends with it.
+fn before(octet: u8, text: &[u8]) -> Option<&[u8]>
+    ensures { MatchOption result ((t : List ℕ) → text.now ≢ t ++ octet ∷ []) (λ r. text.now ≡ r.now ++ octet ∷ []) }
+{
+    if text.is_empty() {
+        return None;
+    }
+    let (front, last) = text.split_at(text.len() - 1);
+    match behind(octet, last) {
+        None => None,
+        Some(_) => Some(front),
+    }
+}
+
+/// A copy of the text, unless it is empty.
+fn some_id(alloc: Global, text: &[u8]) -> Result<Option<Bytes>, AllocError>
+    ensures { IfOk result (λ id. id ≡ some_text text.now) }
+{
+    match text {
+        [] => Ok(None),
+        [_, ..] => Ok(Some(Bytes::copy_of(alloc, text)?)),
+    }
+}

@@ -1,0 +1,7 @@
+//! Tests of whole runs of the program over a world that follows a script.
+#![tactic(auto)]
+
+#[cfg(test)]
+mod shown_messages;
+#[cfg(test)]
+mod whole_runs;
