@@ -1,0 +1,3 @@
+pub mod Index
+pub mod Open
+pub mod Ranges
