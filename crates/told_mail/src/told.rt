@@ -8,20 +8,10 @@ ghost use Rattle.told_mail.specs.reading.Open.{held_of, Steps, Tells};
 
 use crate::Folder;
 use crate::fetched::tell_end;
-use crate::select::{after_closed, tell_select};
+use crate::select::tell_select;
 use crate::telling::{Work, tell_responses};
 use imap_syntax::{Command, Response};
 use std::alloc::{AllocError, Global};
-
-/// The responses that are of the folder of the command.
-pub fn responses_of<'a>(command: &Command, responses: &'a [Response]) -> &'a [Response]
-    ensures { result.now ≡ exchanges.responses_of command.now responses.now }
-{
-    match command {
-        Command::Select { .. } => after_closed(responses),
-        _ => responses,
-    }
-}
 
 /// Whether a message of a UID that isn't held is new.
 fn is_adding(command: &Command) -> bool
