@@ -1,4 +1,4 @@
-use Rattle.std.proofs.Common.{◌≡◌, ◌<◌, List, length, suc}
+use Rattle.std.proofs.Common.{◌<◌, List, length, suc}
 use Rattle.told_mail.specs.declared.message.Held.{Held}
 use Rattle.told_mail.proofs.ToldLemmas.{indexed_end, below_take, below_drop, below_append}
 use Rattle.told_mail.proofs.mirror.Mirror.cut_at_place.Goals as goal

@@ -1,6 +1,6 @@
-use Rattle.std.proofs.Common.{◌≡◌, ℕ, List, None, ap, sym, ◌∙◌, refl, length, ◌<◌}
+use Rattle.std.proofs.Common.{List, ap, sym, ◌∙◌, refl}
 use Rattle.told_mail.specs.Keyed.{IsHeldAt, IsFreeAt}
-use Rattle.told_mail.specs.Mail.{number_of, held_in, folder_in}
+use Rattle.told_mail.specs.Mail.{number_of}
 use Rattle.std.specs.Option.{option_map}
 use Rattle.told_mail.specs.declared.message.Held.{Held}
 use Rattle.told_mail.proofs.KeyedLemmas.{held_found, free_found, item_at, some_is_not_none}

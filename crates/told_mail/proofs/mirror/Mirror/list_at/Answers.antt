@@ -1,4 +1,4 @@
-use Rattle.std.proofs.Common.{◌≡◌, ◌∙◌, List, ℕ, ap}
+use Rattle.std.proofs.Common.{◌∙◌, List, ℕ, ap}
 use Rattle.told_mail.specs.Mail.{Mail}
 use Rattle.told_mail.specs.Exchanges as exchanges
 use Rattle.told_mail.specs.reading.Lines.{value_of}
