@@ -1,5 +1,6 @@
 -- What holds of the whole lines of octets.
-use Rattle.std.proofs.Common.{◌≡◌, ℕ, ◌+◌, ◌-◌, ◌<◌, ◌≤◌, zero, suc, Bool, true, false, ◌||◌, List, [], ◌∷◌, ◌++◌, length, get_or, take, refl, sym, ap, ◌∙◌, arith, eqb, if◌then◌else◌}
+use Rattle.std.proofs.Common.{◌≡◌, ℕ, ◌+◌, ◌-◌, ◌<◌, ◌≤◌, zero, suc, Bool, true, false, ◌||◌, List, [], ◌∷◌, ◌++◌, length, get_or, take, refl, sym, ap, ◌∙◌, arith, eqb}
+use Rattle.std.proofs.Common.{if◌then◌else◌}
 use Rattle.std.specs.List.{list_any}
 use Rattle.std.proofs.lemmas.List.{take_more}
 use Rattle.std.proofs.lemmas.List.Folds.{list_any-append}
@@ -46,10 +47,12 @@ pub lines_passed : (bs : List ℕ) (n : ℕ) → 0 < n → n ≤ length bs → e
 lines_passed bs zero h w e = absurd (omega arith)
 lines_passed bs (suc i) h w e =
     let at : eqb (get_or bs i 0) 10 ≡ false = ap (λ j. eqb (get_or bs j 0) 10) (sym (less_one i)) ∙ e in
-    ap whole_lines (take_one bs i) ∙ ap whole_lines (take_more bs i 0 (omega arith)) ∙ lines_more (take i bs) (get_or bs i 0) at ∙ ap (λ j. whole_lines (take j bs)) (sym (less_one i))
+    ap whole_lines (take_one bs i) ∙ ap whole_lines (take_more bs i 0 (omega arith)) ∙ lines_more (take i bs) (get_or bs i 0) at
+    ∙ ap (λ j. whole_lines (take j bs)) (sym (less_one i))
 
 pub lines_end : (bs : List ℕ) (n : ℕ) → 0 < n → n ≤ length bs → eqb (get_or bs (n - 1) 0) 10 ≡ true → whole_lines (take n bs) ≡ take n bs
 lines_end bs zero h w e = absurd (omega arith)
 lines_end bs (suc i) h w e =
     let at : eqb (get_or bs i 0) 10 ≡ true = ap (λ j. eqb (get_or bs j 0) 10) (sym (less_one i)) ∙ e in
-    ap whole_lines (take_one bs i) ∙ ap whole_lines (take_more bs i 0 (omega arith)) ∙ lines_last (take i bs) (get_or bs i 0) at ∙ sym (take_more bs i 0 (omega arith)) ∙ sym (take_one bs i)
+    ap whole_lines (take_one bs i) ∙ ap whole_lines (take_more bs i 0 (omega arith)) ∙ lines_last (take i bs) (get_or bs i 0) at ∙ sym (take_more bs i 0 (omega arith))
+    ∙ sym (take_one bs i)

@@ -1,5 +1,6 @@
 -- What holds as responses are read in order, and as a folder comes to what was told of it.
-use Rattle.std.proofs.Common.{◌≡◌, ◌≢◌, ℕ, ◌+◌, ◌-◌, ◌^◌, ◌<◌, ◌≤◌, zero, suc, Bool, true, false, not, List, [], ◌∷◌, ◌++◌, Option, Some, None, Result, Ok, Err, OnOk, length, length-append, get_or, set, take, drop, max, min, refl, sym, ap, ◌∙◌, subst, arith, eqb, unwrap_or, is_some, if◌then◌else◌, nat_cmp}
+use Rattle.std.proofs.Common.{◌≡◌, ◌≢◌, ℕ, ◌+◌, ◌-◌, ◌^◌, ◌<◌, ◌≤◌, zero, suc, Bool, true, false, not, List, [], ◌∷◌, ◌++◌, Option, Some, None, Result, Ok, Err, OnOk, length}
+use Rattle.std.proofs.Common.{length-append, get_or, set, take, drop, max, min, refl, sym, ap, ◌∙◌, subst, arith, eqb, unwrap_or, is_some, if◌then◌else◌, nat_cmp}
 use Rattle.std.specs.BTreeSet.{BTreeSet, contains}
 use Rattle.std.specs.declared.alloc.AllocError.{AllocError}
 use Rattle.imap_syntax.specs.declared.response.Response.{Response}
@@ -11,7 +12,8 @@ use Rattle.told_mail.proofs.ToldLemmas.{known_at, listed_some, listed_none, list
 use Rattle.told_mail.specs.Told.{Told, Counts}
 use Rattle.told_mail.specs.Exchanges as exchanges
 use Rattle.told_mail.specs.Tell.{Telling, without, tell_responses, AllKnown}
-use Rattle.told_mail.specs.Exchanges.{is_closed, closed, last_told, past, past_told, uid_told, is_told, under, begun, adds, ended, telling_in, telling_by, told_by, listed, listed_at, line_for, with_line, put_listed, tell_held, KnownOf, TellsKnownOf}
+use Rattle.told_mail.specs.Exchanges.{is_closed, closed, last_told, past, past_told, uid_told, is_told, under, begun, adds, ended, telling_in, telling_by, told_by, listed}
+use Rattle.told_mail.specs.Exchanges.{listed_at, line_for, with_line, put_listed, tell_held, KnownOf, TellsKnownOf}
 use Rattle.imap_syntax.specs.declared.command.Command.{Command}
 use Rattle.imap_syntax.specs.declared.command.Command.TheVariants as command
 use Rattle.told_mail.proofs.OpenLemmas.{telling_same, on_ok_map, goes_on_to, known_stays}
@@ -74,10 +76,13 @@ validity_of : Held → ℕ
 validity_of h = h.folder.validity
 
 -- another validity
-pub renewed : (old mid : Work) (f : Folder) (v changes : ℕ) → v ≢ f.validity → Goes old mid (record { messages = without (λ u. true) old.messages.items; next_mark = old.next_mark }) → changes ≡ min (mid.changes + 1) (2 ^ 64 - 1) → mid.changes < 2 ^ 64 → Steps old (record mid { changes = changes }) f (record f { validity = v; next = 1 }) (under v (held_of old f))
+pub renewed : (old mid : Work) (f : Folder) (v changes : ℕ) → v ≢ f.validity
+    → Goes old mid (record { messages = without (λ u. true) old.messages.items; next_mark = old.next_mark }) → changes ≡ min (mid.changes + 1) (2 ^ 64 - 1) → mid.changes < 2 ^ 64
+    → Steps old (record mid { changes = changes }) f (record f { validity = v; next = 1 }) (under v (held_of old f))
 renewed old mid f v changes apart goes more fits =
     let messages : mid.messages.items ≡ [] = ap (λ (t : Telling). t.messages) goes.told ∙ without_all old.messages.items in
-    let to : under v (held_of old f) ≡ held_of (record mid { changes = changes }) (record f { validity = v; next = 1 }) = under_other v (held_of old f) apart ∙ held_same _ _ _ _ refl (sym messages) in
+    let to : under v (held_of old f) ≡ held_of (record mid { changes = changes }) (record f { validity = v; next = 1 }) = under_other v (held_of old f) apart
+    ∙ held_same _ _ _ _ refl (sym messages) in
     let rises : old.changes ≤ mid.changes = goes.on.rises in
     record {
       keeps = record { same = refl; stands = λ e l. absurd (omega (arith, e, l, more, rises)) };
@@ -108,7 +113,9 @@ messages_same : (h k : Held) → h ≡ k → h.messages ≡ k.messages
 messages_same h k e = ap (λ (z : Held). z.messages) e
 
 -- FETCH of the flags of all
-pub kept_told : (old new : Work) (f : Folder) (c : Command) (rs : List Response) (told : BTreeSet ℕ) → c ≡ command.FetchFlags → ((u : ℕ) → contains nat_cmp told u ≡ is_told rs u) → Goes old new (record { messages = without (λ u. not (contains nat_cmp told u)) old.messages.items; next_mark = old.next_mark }) → Steps old new f f (ended c rs f old.messages.items)
+pub kept_told : (old new : Work) (f : Folder) (c : Command) (rs : List Response) (told : BTreeSet ℕ) → c ≡ command.FetchFlags → ((u : ℕ) → contains nat_cmp told u ≡ is_told rs u)
+    → Goes old new (record { messages = without (λ u. not (contains nat_cmp told u)) old.messages.items; next_mark = old.next_mark })
+    → Steps old new f f (ended c rs f old.messages.items)
 kept_told old new f c rs told is same goes =
     let xs : List Message = old.messages.items in
     let kept : without (λ u. not (contains nat_cmp told u)) xs ≡ without (λ u. not (is_told rs u)) xs = without_same _ _ (λ u. ap not (same u)) xs in
@@ -134,14 +141,17 @@ keeps_on a b c f g k on next p q = record {
       q.stands second l ∙ p.stands first (omega (arith, second, l));
 }
 
-pub told_whole : (old a b d : Work) (f f1 g : Folder) (c : Command) (rs : List Response) (adding : Bool) (result : Result (Unit {0}) AllocError) → Steps old a f f1 (begun c rs (held_of old f)) → adding ≡ adds c → GoesWith (AllKnown adding (telling_of a) rs) a b (tell_responses adding (telling_of a) rs) (Ok tt) → StepsOk b d f1 g (ended c rs f1 b.messages.items) result → Tells old d f g c rs result
+pub told_whole : (old a b d : Work) (f f1 g : Folder) (c : Command) (rs : List Response) (adding : Bool) (result : Result (Unit {0}) AllocError)
+    → Steps old a f f1 (begun c rs (held_of old f)) → adding ≡ adds c → GoesWith (AllKnown adding (telling_of a) rs) a b (tell_responses adding (telling_of a) rs) (Ok tt)
+    → StepsOk b d f1 g (ended c rs f1 b.messages.items) result → Tells old d f g c rs result
 told_whole old a b d f f1 g c rs adding result start is mid end =
     let h : Held = held_of old f in
     let begin : Held = begun c rs h in
     let folder : f1 ≡ begin.folder = folder_same _ _ start.told in
     let messages : a.messages.items ≡ begin.messages = messages_same _ _ start.told in
     let from : telling_of a ≡ telling_in old.next_mark begin = telling_same _ _ _ _ messages start.next_mark in
-    let to : telling_of b ≡ telling_by c rs old.next_mark h = mid.told ∙ ap (λ v. tell_responses v (telling_of a) rs) is ∙ ap (λ (t : Telling). tell_responses (adds c) t rs) from in
+    let to : telling_of b ≡ telling_by c rs old.next_mark h = mid.told ∙ ap (λ v. tell_responses v (telling_of a) rs) is
+    ∙ ap (λ (t : Telling). tell_responses (adds c) t rs) from in
     let now : b.messages.items ≡ (telling_by c rs old.next_mark h).messages = ap (λ (t : Telling). t.messages) to in
     let on_ab = goes_on_to old a b start.on mid.on in
     record {
@@ -155,17 +165,20 @@ told_whole old a b d f f1 g c rs adding result start is mid end =
           let first : a.changes ≡ old.changes = start.known k.before in
           let here : begin ≡ h = k.before in
           let from_h : telling_of a ≡ telling_in old.next_mark h = from ∙ ap (λ (z : Held). telling_in old.next_mark z) here in
-          let all : AllKnown adding (telling_of a) rs = subst (λ v. AllKnown v (telling_of a) rs) (sym is) (subst (λ (t : Telling). AllKnown (adds c) t rs) (sym from_h) k.responses) in
+          let all : AllKnown adding (telling_of a) rs = subst (λ v. AllKnown v (telling_of a) rs) (sym is)
+          (subst (λ (t : Telling). AllKnown (adds c) t rs) (sym from_h) k.responses) in
           let second : b.changes ≡ a.changes = mid.known all in
           let stays : telling_of b ≡ telling_in old.next_mark h = mid.told ∙ known_stays adding (telling_of a) rs all ∙ from_h in
           let folder_h : f1 ≡ f = folder ∙ folder_same _ _ here in
           let messages_h : b.messages.items ≡ old.messages.items = ap (λ (t : Telling). t.messages) stays in
-          let over : ended c rs f1 b.messages.items ≡ held_of b f1 = ap (λ (z : Folder). ended c rs z b.messages.items) folder_h ∙ ap (λ (zs : List Message). ended c rs f zs) messages_h ∙ k.after ∙ held_same _ _ _ _ (sym folder_h) (sym messages_h) in
+          let over : ended c rs f1 b.messages.items ≡ held_of b f1 = ap (λ (z : Folder). ended c rs z b.messages.items) folder_h
+          ∙ ap (λ (zs : List Message). ended c rs f zs) messages_h ∙ k.after ∙ held_same _ _ _ _ (sym folder_h) (sym messages_h) in
           on_ok_map result (λ e. e ∙ second ∙ first) (end.known over);
     }
 
 -- memory lacked within the responses
-pub told_part : (old a b : Work) (f f1 : Folder) (c : Command) (rs : List Response) (Known : Type 0) (t : Telling) (h : Held) (e : AllocError) → Steps old a f f1 h → GoesWith Known a b t (Err e) → Tells old b f f1 c rs (Err e)
+pub told_part : (old a b : Work) (f f1 : Folder) (c : Command) (rs : List Response) (Known : Type 0) (t : Telling) (h : Held) (e : AllocError) → Steps old a f f1 h
+    → GoesWith Known a b t (Err e) → Tells old b f f1 c rs (Err e)
 told_part old a b f f1 c rs Known t h e start mid = record {
   keeps = keeps_on old a b f f1 f1 start.on mid.on start.keeps (record { same = refl; stands = λ x l. refl });
   on = goes_on_to old a b start.on mid.on;
@@ -178,13 +191,15 @@ told_part old a b f f1 c rs Known t h e start mid = record {
 
 -- ---- the folder of a name
 
-pub named_here : (hs : List Held) (at : ℕ) (x h : Held) (name : List ℕ) → at < length hs → x ≡ get_or hs at x → h ≡ get_or hs at h → pointwise eqb x.folder.name name ≡ true → named (drop at hs) name ≡ Some h
+pub named_here : (hs : List Held) (at : ℕ) (x h : Held) (name : List ℕ) → at < length hs → x ≡ get_or hs at x → h ≡ get_or hs at h → pointwise eqb x.folder.name name ≡ true
+    → named (drop at hs) name ≡ Some h
 named_here hs at x h name within is is_h same =
     ap (λ (zs : List Held). named zs name) (left hs at x within is)
     ∙ ap (λ b. if b then Some x else named (drop (at + 1) hs) name) same
     ∙ ap (λ z. Some z) (known_at hs at x h within is is_h)
 
-pub named_on : (hs : List Held) (at : ℕ) (x : Held) (name : List ℕ) → at < length hs → x ≡ get_or hs at x → pointwise eqb x.folder.name name ≡ false → named (drop at hs) name ≡ named (drop (at + 1) hs) name
+pub named_on : (hs : List Held) (at : ℕ) (x : Held) (name : List ℕ) → at < length hs → x ≡ get_or hs at x → pointwise eqb x.folder.name name ≡ false
+    → named (drop at hs) name ≡ named (drop (at + 1) hs) name
 named_on hs at x name within is apart =
     ap (λ (zs : List Held). named zs name) (left hs at x within is)
     ∙ ap (λ b. if b then Some x else named (drop (at + 1) hs) name) apart
@@ -193,12 +208,14 @@ pub on_ok_both : {T E : Type 0} (r : Result T E) {P Q R : Type 0} → (P → Q �
 on_ok_both (Ok x) f p q = f p q
 on_ok_both (Err e) f p q = tt
 
-pub named_told : (m n : Mail) (c : Command) (rs : List Response) (name : List ℕ) (at : ℕ) (result : Result (Unit {0}) AllocError) → IsNamedAt m.folders name at → OnOk result ((h : Held) → h ≡ get_or m.folders at h → n ≡ tell_held m c rs (Some h)) → OnOk result (n ≡ tell_held m c rs (named m.folders name))
+pub named_told : (m n : Mail) (c : Command) (rs : List Response) (name : List ℕ) (at : ℕ) (result : Result (Unit {0}) AllocError) → IsNamedAt m.folders name at
+    → OnOk result ((h : Held) → h ≡ get_or m.folders at h → n ≡ tell_held m c rs (Some h)) → OnOk result (n ≡ tell_held m c rs (named m.folders name))
 named_told m n c rs name at result is told =
     let item = item_at number_of m.folders at is.within in
     on_ok_map result (λ f. f item.0 item.1 ∙ ap (λ (o : Option Held). tell_held m c rs o) (sym (is.found item.0 item.1))) told
 
-pub named_known : (m : Mail) (c : Command) (rs : List Response) (name : List ℕ) (at : ℕ) (P : Type 0) (result : Result (Unit {0}) AllocError) → IsNamedAt m.folders name at → ((h : Held) → h ≡ get_or m.folders at h → TellsKnownOf c rs m.next_mark h → OnOk result P) → KnownOf c rs m.next_mark (named m.folders name) → OnOk result P
+pub named_known : (m : Mail) (c : Command) (rs : List Response) (name : List ℕ) (at : ℕ) (P : Type 0) (result : Result (Unit {0}) AllocError) → IsNamedAt m.folders name at
+    → ((h : Held) → h ≡ get_or m.folders at h → TellsKnownOf c rs m.next_mark h → OnOk result P) → KnownOf c rs m.next_mark (named m.folders name) → OnOk result P
 named_known m c rs name at P result is known k =
     let item = item_at number_of m.folders at is.within in
     known item.0 item.1 (subst (λ (o : Option Held). KnownOf c rs m.next_mark o) (is.found item.0 item.1) k)
@@ -208,19 +225,26 @@ named_some hs name at is = let item = item_at number_of hs at is.within in ap is
 
 -- ---- folders of a LIST
 
-pub list_some_ok : (m n : Mail) (rs : List Response) (at : ℕ) (h : Held) (l : exchanges.Line) (result : Result (Unit {0}) AllocError) → at < length m.folders → h ≡ get_or m.folders at h → Some l ≡ line_for h.folder.name rs → OnOk result ((k : Held) → k ≡ get_or m.folders at k → n ≡ record m { folders = set m.folders at (with_line l k) }) → OnOk result (n ≡ listed_at rs at m)
-list_some_ok m n rs at h l result within is line told = on_ok_map result (λ f. f h is ∙ ap (λ (hs : List Held). record m { folders = hs }) (sym (listed_some rs m.folders at h l within is (sym line)))) told
+pub list_some_ok : (m n : Mail) (rs : List Response) (at : ℕ) (h : Held) (l : exchanges.Line) (result : Result (Unit {0}) AllocError) → at < length m.folders
+    → h ≡ get_or m.folders at h → Some l ≡ line_for h.folder.name rs
+    → OnOk result ((k : Held) → k ≡ get_or m.folders at k → n ≡ record m { folders = set m.folders at (with_line l k) }) → OnOk result (n ≡ listed_at rs at m)
+list_some_ok m n rs at h l result within is line told = on_ok_map result
+    (λ f. f h is ∙ ap (λ (hs : List Held). record m { folders = hs }) (sym (listed_some rs m.folders at h l within is (sym line)))) told
 
-pub list_some_known : (m : Mail) (rs : List Response) (at : ℕ) (h : Held) (l : exchanges.Line) (P : Type 0) → at < length m.folders → h ≡ get_or m.folders at h → Some l ≡ line_for h.folder.name rs → ((k : Held) → k ≡ get_or m.folders at k → with_line l k ≡ k → P) → listed_at rs at m ≡ m → P
+pub list_some_known : (m : Mail) (rs : List Response) (at : ℕ) (h : Held) (l : exchanges.Line) (P : Type 0) → at < length m.folders → h ≡ get_or m.folders at h
+    → Some l ≡ line_for h.folder.name rs → ((k : Held) → k ≡ get_or m.folders at k → with_line l k ≡ k → P) → listed_at rs at m ≡ m → P
 list_some_known m rs at h l P within is line known e =
     known h is (set_at m.folders at h (with_line l h) within is (sym (listed_some rs m.folders at h l within is (sym line)) ∙ ap (λ (k : Mail). k.folders) e))
 
-pub list_none_ok : (m n : Mail) (rs : List Response) (at : ℕ) (h : Held) → at < length m.folders → h ≡ get_or m.folders at h → None ≡ line_for h.folder.name rs → n ≡ record m { folders = take at m.folders ++ drop (at + 1) m.folders } → n ≡ listed_at rs at m
+pub list_none_ok : (m n : Mail) (rs : List Response) (at : ℕ) (h : Held) → at < length m.folders → h ≡ get_or m.folders at h → None ≡ line_for h.folder.name rs
+    → n ≡ record m { folders = take at m.folders ++ drop (at + 1) m.folders } → n ≡ listed_at rs at m
 list_none_ok m n rs at h within is line cut =
     let more : at + 1 ≡ suc at = omega arith in
-    cut ∙ ap (λ j. record m { folders = take at m.folders ++ drop j m.folders }) more ∙ ap (λ (hs : List Held). record m { folders = hs }) (sym (listed_none rs m.folders at h within is (sym line)))
+    cut ∙ ap (λ j. record m { folders = take at m.folders ++ drop j m.folders }) more
+    ∙ ap (λ (hs : List Held). record m { folders = hs }) (sym (listed_none rs m.folders at h within is (sym line)))
 
-pub list_none_known : (m : Mail) (rs : List Response) (at : ℕ) (h : Held) (P : Type 0) → at < length m.folders → h ≡ get_or m.folders at h → None ≡ line_for h.folder.name rs → listed_at rs at m ≡ m → P
+pub list_none_known : (m : Mail) (rs : List Response) (at : ℕ) (h : Held) (P : Type 0) → at < length m.folders → h ≡ get_or m.folders at h → None ≡ line_for h.folder.name rs
+    → listed_at rs at m ≡ m → P
 list_none_known m rs at h P within is line e = absurd (cut_short m.folders at within (sym (listed_none rs m.folders at h within is (sym line)) ∙ ap (λ (k : Mail). k.folders) e))
 
 pub counts_on : (a b c : Told) → Counts a b → Counts b c → Counts a c
@@ -260,13 +284,18 @@ listed_rest rs hs zero e = e
 listed_rest rs [] (suc at) e = refl
 listed_rest rs (h ∷ hs) (suc at) e = ap (λ zs. h ∷ zs) (listed_rest rs hs at (rest_same rs h hs e))
 
-pub listed_more : (rs : List Response) (m now new : Mail) (at : ℕ) → at < length m.folders → now ≡ record m { folders = take (at + 1) m.folders ++ listed rs (drop (at + 1) m.folders) } → new ≡ listed_at rs at now → new ≡ record m { folders = take at m.folders ++ listed rs (drop at m.folders) }
-listed_more rs m now new at h e f = f ∙ ap (listed_at rs at) e ∙ ap (λ (hs : List Held). record m { folders = hs }) (listed_step rs m.folders (take (at + 1) m.folders ++ listed rs (drop (at + 1) m.folders)) at h refl)
+pub listed_more : (rs : List Response) (m now new : Mail) (at : ℕ) → at < length m.folders
+    → now ≡ record m { folders = take (at + 1) m.folders ++ listed rs (drop (at + 1) m.folders) } → new ≡ listed_at rs at now
+    → new ≡ record m { folders = take at m.folders ++ listed rs (drop at m.folders) }
+listed_more rs m now new at h e f = f ∙ ap (listed_at rs at) e
+    ∙ ap (λ (hs : List Held). record m { folders = hs }) (listed_step rs m.folders (take (at + 1) m.folders ++ listed rs (drop (at + 1) m.folders)) at h refl)
 
-pub listed_within : (rs : List Response) (m now : Mail) (at : ℕ) → at < length m.folders → now ≡ record m { folders = take (at + 1) m.folders ++ listed rs (drop (at + 1) m.folders) } → at < length now.folders
+pub listed_within : (rs : List Response) (m now : Mail) (at : ℕ) → at < length m.folders
+    → now ≡ record m { folders = take (at + 1) m.folders ++ listed rs (drop (at + 1) m.folders) } → at < length now.folders
 listed_within rs m now at h e =
     let front : length (take (at + 1) m.folders) ≡ at + 1 = taken m.folders (at + 1) (omega arith) in
-    let all : length now.folders ≡ length (take (at + 1) m.folders) + length (listed rs (drop (at + 1) m.folders)) = ap (λ (k : Mail). length k.folders) e ∙ length-append (take (at + 1) m.folders) (listed rs (drop (at + 1) m.folders)) in
+    let all : length now.folders ≡ length (take (at + 1) m.folders) + length (listed rs (drop (at + 1) m.folders)) = ap (λ (k : Mail). length k.folders) e
+    ∙ length-append (take (at + 1) m.folders) (listed rs (drop (at + 1) m.folders)) in
     omega (arith, front, all) where
       taken : (hs : List Held) (n : ℕ) → n ≤ length hs → length (take n hs) ≡ n
       taken [] zero l = refl
@@ -274,7 +303,8 @@ listed_within rs m now at h e =
       taken (x ∷ hs) zero l = refl
       taken (x ∷ hs) (suc n) l = omega (arith, taken hs n (omega arith))
 
-pub listed_known : (rs : List Response) (m now : Mail) (at : ℕ) → at < length m.folders → listed rs m.folders ≡ m.folders → now ≡ record m { folders = take (at + 1) m.folders ++ listed rs (drop (at + 1) m.folders) } → listed_at rs at now ≡ now
+pub listed_known : (rs : List Response) (m now : Mail) (at : ℕ) → at < length m.folders → listed rs m.folders ≡ m.folders
+    → now ≡ record m { folders = take (at + 1) m.folders ++ listed rs (drop (at + 1) m.folders) } → listed_at rs at now ≡ now
 listed_known rs m now at h same e =
     let here : now ≡ m = e ∙ ap (λ (hs : List Held). record m { folders = hs }) (listed_rest rs m.folders (at + 1) same) in
     listed_more rs m now (listed_at rs at now) at h e refl ∙ ap (λ (hs : List Held). record m { folders = hs }) (listed_rest rs m.folders at same) ∙ sym here

@@ -19,7 +19,8 @@ returns-in-Ok-clause-none c =
     let hs : List Held = c.self.inside.folders.items in
     let held : IsHeldAt number_of c.args.number hs c.in-Ok.at = rw c.as_slice.ensures.value at c.in-Ok.ensures in
     let item = item_at number_of hs c.in-Ok.at held.within in
-    rw (← c.self.view_is) (λ e. absurd (some_is_not_none _ (ap (option_map (λ (h : Held). h.folder)) (held_found number_of c.args.number hs c.self.invariant.index.numbers c.in-Ok.at held item.0 item.1) ∙ e)))
+    rw (← c.self.view_is) (λ e. absurd (some_is_not_none _ (ap (option_map (λ (h : Held). h.folder))
+    (held_found number_of c.args.number hs c.self.invariant.index.numbers c.in-Ok.at held item.0 item.1) ∙ e)))
 
 pub returns-in-Err-clause-mail : goal.returns-in-Err-clause-mail
 returns-in-Err-clause-mail c =

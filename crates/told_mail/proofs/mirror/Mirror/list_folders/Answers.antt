@@ -10,7 +10,8 @@ list_at-requires c =
     let rs = c.args.responses.now in
     let at : ℕ = c.loop-at.at - 1 in
     let was : c.loop-at.at ≡ at + 1 = omega arith in
-    listed_within rs m c.loop-at.self.mail at (omega (arith, c.loop-at.invariant.within)) (c.loop-at.invariant.mail ∙ ap (λ j. record m { folders = take j m.folders ++ listed rs (drop j m.folders) }) was)
+    listed_within rs m c.loop-at.self.mail at (omega (arith, c.loop-at.invariant.within))
+    (c.loop-at.invariant.mail ∙ ap (λ j. record m { folders = take j m.folders ++ listed rs (drop j m.folders) }) was)
 
 pub loop-at-preserved : goal.loop-at-preserved
 loop-at-preserved c =
@@ -19,7 +20,8 @@ loop-at-preserved c =
     let at : ℕ = c.loop-at.at - 1 in
     let was : c.loop-at.at ≡ at + 1 = omega arith in
     let within : at < length m.folders = omega (arith, c.loop-at.invariant.within) in
-    let before : c.loop-at.self.mail ≡ record m { folders = take (at + 1) m.folders ++ listed rs (drop (at + 1) m.folders) } = c.loop-at.invariant.mail ∙ ap (λ j. record m { folders = take j m.folders ++ listed rs (drop j m.folders) }) was in
+    let before : c.loop-at.self.mail ≡ record m { folders = take (at + 1) m.folders ++ listed rs (drop (at + 1) m.folders) } = c.loop-at.invariant.mail
+    ∙ ap (λ j. record m { folders = take j m.folders ++ listed rs (drop j m.folders) }) was in
     record {
       within = omega (arith, within);
       mail = listed_more rs m c.loop-at.self.mail c.list_at.new.self.mail at within before c.in_ok-list_at.ensures.ok;
