@@ -1,0 +1,11 @@
+//! Tests of what exchanges with a store tell, made from the octets that a store sends.
+#![tactic(auto)]
+
+#[cfg(test)]
+mod dialogues;
+#[cfg(test)]
+mod showing;
+#[cfg(test)]
+mod told_exchanges;
+#[cfg(test)]
+mod whole_folders;

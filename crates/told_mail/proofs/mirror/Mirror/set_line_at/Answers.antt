@@ -1,0 +1,11 @@
+use Rattle.std.proofs.Common.{◌<◌, List, length}
+use Rattle.told_mail.specs.declared.message.Held.{Held}
+use Rattle.told_mail.proofs.ToldLemmas.{lined_at}
+use Rattle.told_mail.proofs.mirror.Mirror.set_line_at.Goals as goal
+
+pub invariant_of-self-then-branch : goal.invariant_of-self-then-branch
+invariant_of-self-then-branch c =
+    let hs : List Held = c.self.inside.folders.items in
+    let within : c.args.at < length hs = rw (← c.self.view_is) at c.requires in
+    lined_at hs c.args.at c.index_mut-held.result.now _ c.args.line.delimiter c.args.line.attributes.now _ _ _ within c.index_mut-held.ensures.value c.in_ok-set_line.ensures.ok
+    c.self.invariant

@@ -1,0 +1,4 @@
+pub mod Index
+pub mod Lines
+pub mod Open
+pub mod Ranges
