@@ -3,7 +3,7 @@ use Rattle.std.proofs.Math.Bridge.{le_prop}
 use Rattle.std.specs.Prelude.{◌≡◌, Bool, true, ℕ, ◌<◌, ◌≤◌, List, [], ◌∷◌}
 use Rattle.imap_syntax.specs.declared.uid_set.UidRange.{UidRange}
 
--- each holds a UID, and begins behind the one before it, the first one behind k
+-- each holds a UID, and begins after the one before it, the first one after k
 abbrev pub AreOrdered : ℕ → List UidRange → Type 0
 AreOrdered k [] = Unit {0}
 AreOrdered k (r ∷ rs) = (k < r.first) × (r.first ≤ r.last) × AreOrdered r.last rs
