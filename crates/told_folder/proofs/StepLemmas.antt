@@ -11,7 +11,7 @@ use Rattle.told_folder.specs.Keyed.{last_of}
 use Rattle.told_folder.specs.Select.{is_closed, after_closed, last_told, under}
 use Rattle.told_folder.specs.Tell.{Telling, without, tell_responses, AllKnown}
 use Rattle.told_folder.specs.ToldBy.{past, past_told, uid_told, is_told, begun, adds, ended, telling_in, telling_by, told_by}
-use Rattle.told_folder.specs.Work.{telling_of, held_of, GoesOn, Goes, GoesWith, Keeps, StepsOk, Steps, Tells}
+use Rattle.told_folder.specs.Work.{telling_of, held_of, GoesOn, Goes, GoesOk, GoesWith, Keeps, StepsOk, Steps, Tells}
 use Rattle.told_folder.specs.reading.Loops.{closed}
 use Rattle.told_folder.specs.declared.message.Folder.{Folder}
 use Rattle.told_folder.specs.declared.message.Held.{Held}
@@ -128,6 +128,14 @@ without_same p q same [] = refl
 without_same p q same (x ∷ xs) =
     ap (λ b. if not b then x ∷ without p xs else without p xs) (same x.uid)
     ∙ ap (λ (zs : List Message). if not (q x.uid) then x ∷ zs else zs) (without_same p q same xs)
+
+-- the same messages go by a set of the same UIDs
+pub vanished_as : (old new : Work) (p q : ℕ → Bool) → ((u : ℕ) → p u ≡ q u) → Goes old new (record { messages = without p old.messages.items; next_mark = old.next_mark })
+    → GoesOk old new (record { messages = without q old.messages.items; next_mark = old.next_mark }) (Ok tt)
+vanished_as old new p q same g =
+    let to : ◌≡◌ {A = Telling} (record { messages = without p old.messages.items; next_mark = old.next_mark })
+    (record { messages = without q old.messages.items; next_mark = old.next_mark }) = telling_same _ _ _ _ (without_same p q same old.messages.items) refl in
+    record { on = g.on; ascends = g.ascends; told = g.told ∙ to; index = g.index; known = λ k. g.known (to ∙ k) }
 
 folder_same : (h k : Held) → h ≡ k → h.folder ≡ k.folder
 folder_same h k e = ap (λ (z : Held). z.folder) e

@@ -10,6 +10,7 @@ mod headers;
 pub mod puts;
 pub mod telling;
 pub mod select;
+mod vanished;
 mod fetched;
 mod told;
 

@@ -13,8 +13,8 @@ use crate::Message;
 use crate::headers::kept_header;
 use crate::keyed::index_of;
 use crate::puts::one_more;
-use crate::ranges::Ranges;
 use crate::uids::Uids;
+use crate::vanished::tell_vanished;
 use gate_world::Names;
 use imap_syntax::{FetchItems, Response};
 use std::alloc::{AllocError, Global};
@@ -218,10 +218,7 @@ fn tell_response(
 {
     match response {
         Response::Fetch { items, .. } => tell_fetch(alloc, work, adds, items),
-        Response::Vanished { uids, .. } => {
-            tell_gone(work, &Ranges::new(uids.ranges.as_slice()));
-            Ok(())
-        }
+        Response::Vanished { uids, .. } => tell_vanished(alloc, work, uids.ranges.as_slice()),
         _ => Ok(()),
     }
 }

@@ -4,8 +4,8 @@ use Rattle.std.proofs.Common.{eqb, is_some, unwrap_or, if◌then◌else◌, nat_
 use Rattle.std.proofs.lemmas.List.{take_more}
 use Rattle.std.proofs.lemmas.Map.Text.{is_eq-slice_cmp}
 use Rattle.std.proofs.lemmas.Slice.Eq.{bytes_eq-Decides}
-use Rattle.std.specs.BTreeMap.{insert_entry, is_at}
-use Rattle.std.specs.BTreeSet.{insert_key}
+use Rattle.std.specs.BTreeMap.{BTreeMap, insert_entry, is_at}
+use Rattle.std.specs.BTreeSet.{BTreeSet, insert_key}
 use Rattle.std.specs.List.{list_any, filter_map, cons_option}
 use Rattle.std.specs.Map.{lookup, keys_of}
 use Rattle.std.specs.Ordering.{is_eq, match_ordering}
@@ -20,7 +20,7 @@ use Rattle.told_folder.specs.Keyed.{last_of}
 use Rattle.told_folder.specs.declared.message.Held.{Held}
 use Rattle.told_mail.specs.Lists.{line_of, line_for, names_told, in_order, is_inbox, inbox_first}
 use Rattle.told_mail.specs.Mail.{is_same, named}
-use Rattle.told_mail.specs.reading.Lines.{StandsAt}
+use Rattle.told_mail.specs.reading.Lines.{StandsAt, AreLinesFrom, names_in, place_in, has_name, is_picked}
 
 -- one line more at the front
 pub line_first : (q : List ℕ) (r : Response) (rs : List Response) (l : lists.Line) → line_of r ≡ Some l
@@ -45,14 +45,24 @@ pub stands_first : (rs : List Response) (o : Option lists.Line) (w : Option ℕ)
 stands_first rs o None at l s e = (l, ap (λ (p : Option lists.Line). Some (unwrap_or p l)) s, e)
 stands_first rs o (Some j) at l s e = (s.0, ap (λ (p : Option lists.Line). Some (unwrap_or p l)) s.1, s.2)
 
+more : (i : ℕ) → suc (i + 1) ≡ suc i + 1
+more i = omega arith
+
 -- the response at a place, and those from it on
 pub from_place : (rs : List Response) (at : ℕ) (l : lists.Line) → option_and_then line_of (slice_get rs at) ≡ Some l → (r : Response) × (drop at rs ≡ r ∷ drop (at + 1) rs) × (line_of r ≡ Some l)
 from_place [] at l e = absurd (cc)
 from_place (r ∷ rs) zero l e = (r, refl, e)
-from_place (r ∷ rs) (suc at) l e =
-    let rest = from_place rs at l e in
-    let more : at + 2 ≡ suc (at + 1) = omega arith in
-    (rest.0, rest.1 ∙ ap (λ j. rest.0 ∷ drop j (r ∷ rs)) (omega arith), rest.2)
+from_place (r ∷ rs) (suc at) l e = let rest = from_place rs at l e in (rest.0, rest.1 ∙ ap (λ (j : ℕ). rest.0 ∷ drop j (r ∷ rs)) (more at), rest.2)
+
+-- what no response but a line changes
+pub passed : {X : Type 0} (f : List Response → X) → ((r : Response) (rs : List Response) → line_of r ≡ None → f (r ∷ rs) ≡ f rs) → (rs : List Response) (at : ℕ)
+    → option_and_then line_of (slice_get rs at) ≡ None → f (drop at rs) ≡ f (drop (at + 1) rs)
+passed f step [] at e = ap f (drop_empty at ∙ sym (drop_empty (at + 1))) where
+  drop_empty : (i : ℕ) → ◌≡◌ {A = List Response} (drop i []) []
+  drop_empty zero = refl
+  drop_empty (suc i) = refl
+passed f step (r ∷ rs) zero e = step r rs e
+passed f step (r ∷ rs) (suc at) e = passed f step rs at e ∙ ap (λ (j : ℕ). f (drop j (r ∷ rs))) (more at)
 
 -- ---- what is found after one name more
 
@@ -185,3 +195,64 @@ place_kept P name q last at is =
       | true ↦ λ e. ap (λ (n : ℕ). Some n) (is ∙ ap (λ (u : List ℕ). unwrap_or (P u) at) (same_list name q e))
       | false ↦ λ e. refl
     ] refl
+
+-- ---- the lines from a place on
+
+pub lines_more : (rs : List Response) (at : ℕ) (lines new : BTreeMap (Vec ℕ Global) ℕ) (l : lists.Line) (name : List ℕ) → name ≡ l.name
+    → option_and_then line_of (slice_get rs at) ≡ Some l → AreLinesFrom rs (at + 1) lines → names_in new ≡ insert_key (slice_cmp nat_cmp) (names_in lines) name
+    → ((q : List ℕ) → place_in new q ≡ (if is_same name q then Some (unwrap_or (place_in lines q) at) else place_in lines q)) → AreLinesFrom rs at new
+lines_more rs at lines new l name same e o names places =
+    let f = from_place rs at l e in
+    let rest : List Response = drop (at + 1) rs in
+    record {
+      names = names ∙ ap (λ (ns : List (List ℕ)). insert_key (slice_cmp nat_cmp) ns name) o.names ∙ ap (λ (n : List ℕ). insert_key (slice_cmp nat_cmp) (names_told rest) n) same
+          ∙ sym (names_first f.0 rest l f.2) ∙ ap (λ (qs : List Response). names_told qs) (sym f.1);
+      places = λ q.
+          let line : line_for q (drop at rs) ≡ (if is_same l.name q then Some (unwrap_or (line_for q rest) l) else line_for q rest) = ap (λ (qs : List Response). line_for q qs) f.1
+          ∙ line_first q f.0 rest l f.2 in
+          let place : place_in new q ≡ (if is_same l.name q then Some (unwrap_or (place_in lines q) at) else place_in lines q) = places q
+          ∙ ap (λ (n : List ℕ). if is_same n q then Some (unwrap_or (place_in lines q) at) else place_in lines q) same in
+          subst (λ (o : Option lists.Line). StandsAt rs o (place_in new q)) (sym line)
+          (subst (λ (w : Option ℕ). StandsAt rs (if is_same l.name q then Some (unwrap_or (line_for q rest) l) else line_for q rest) w) (sym place)
+          (elim (is_same l.name q) as (λ b. StandsAt rs (if b then Some (unwrap_or (line_for q rest) l) else line_for q rest)
+          (if b then Some (unwrap_or (place_in lines q) at) else place_in lines q)) [
+            | true ↦ stands_first rs (line_for q rest) (place_in lines q) at l (o.places q) e
+            | false ↦ o.places q
+          ]));
+    }
+
+pub lines_passed : (rs : List Response) (at : ℕ) (lines : BTreeMap (Vec ℕ Global) ℕ) → option_and_then line_of (slice_get rs at) ≡ None → AreLinesFrom rs (at + 1) lines
+    → AreLinesFrom rs at lines
+lines_passed rs at lines e o = record {
+  names = o.names ∙ sym (passed (λ (qs : List Response). names_told qs) names_passed rs at e);
+  places = λ q. subst (λ (l : Option lists.Line). StandsAt rs l (place_in lines q)) (sym (passed (λ (qs : List Response). line_for q qs) (line_passed q) rs at e)) (o.places q);
+}
+
+drop_none : {X : Type 0} (xs : List X) → drop 0 xs ≡ xs
+drop_none [] = refl
+drop_none (x ∷ xs) = refl
+
+pub found_line : (rs : List Response) (q : List ℕ) (at : ℕ) (w : Option ℕ) → StandsAt rs (line_for q (drop 0 rs)) w → Some at ≡ w
+    → option_and_then line_of (slice_get rs at) ≡ line_for q rs
+found_line rs q at w s e =
+    let t : StandsAt rs (line_for q (drop 0 rs)) (Some at) = subst (λ (o : Option ℕ). StandsAt rs (line_for q (drop 0 rs)) o) (sym e) s in
+    t.2 ∙ sym t.1 ∙ ap (λ (qs : List Response). line_for q qs) (drop_none rs)
+
+pub no_line : (rs : List Response) (q : List ℕ) (w : Option ℕ) → StandsAt rs (line_for q (drop 0 rs)) w → None ≡ w → None ≡ line_for q rs
+no_line rs q w s e =
+    let t : line_for q (drop 0 rs) ≡ None = subst (λ (o : Option ℕ). StandsAt rs (line_for q (drop 0 rs)) o) (sym e) s in
+    sym t ∙ ap (λ (qs : List Response). line_for q qs) (drop_none rs)
+
+pub names_whole : (rs : List Response) → names_told (drop 0 rs) ≡ names_told rs
+names_whole rs = ap (λ (qs : List Response). names_told qs) (drop_none rs)
+
+-- INBOX, and then the other names
+pub picked : (hs : List Held) (held : BTreeSet (Vec ℕ Global)) (ns : List (List ℕ)) → ((q : List ℕ) → has_name held q ≡ is_some (named hs q))
+    → filter (is_picked held true) ns ++ filter (is_picked held false) ns ≡ inbox_first (filter (λ name. not (is_some (named hs name))) ns)
+picked hs held ns h =
+    let p : List ℕ → Bool = λ name. not (is_some (named hs name)) in
+    let one : filter (is_picked held true) ns ≡ filter is_inbox (filter p ns) =
+    filter_same (is_picked held true) (λ x. is_inbox x && p x) (λ x. ap (λ b. is_inbox x && not b) (h x)) ns ∙ sym (filter_both is_inbox p ns) in
+    let two : filter (is_picked held false) ns ≡ filter (λ name. not (is_inbox name)) (filter p ns) =
+    filter_same (is_picked held false) (λ x. not (is_inbox x) && p x) (λ x. ap (λ b. not (is_inbox x) && not b) (h x)) ns ∙ sym (filter_both (λ name. not (is_inbox name)) p ns) in
+    ap (λ (zs : List (List ℕ)). zs ++ filter (is_picked held false) ns) one ∙ ap (λ (zs : List (List ℕ)). filter is_inbox (filter p ns) ++ zs) two

@@ -1,16 +1,18 @@
--- Ranges that ascend.
+-- Ranges in which a UID is found by halving.
 use Rattle.std.proofs.Math.Bridge.{le_prop}
-use Rattle.std.specs.Prelude.{◌≡◌, Bool, true, ℕ, ◌<◌, ◌≤◌, List, [], ◌∷◌}
+use Rattle.std.specs.Prelude.{◌≡◌, ℕ, ◌≤◌, List, [], ◌∷◌, max}
 use Rattle.imap_syntax.specs.declared.uid_set.UidRange.{UidRange}
 
--- each holds a UID, and begins after the one before it, the first one after k
-abbrev pub AreOrdered : ℕ → List UidRange → Type 0
-AreOrdered k [] = Unit {0}
-AreOrdered k (r ∷ rs) = (k < r.first) × (r.first ≤ r.last) × AreOrdered r.last rs
+-- each begins and ends no sooner than the one before it, the first one no sooner than these
+abbrev pub AreRising : ℕ → ℕ → List UidRange → Type 0
+AreRising first last [] = Unit {0}
+AreRising first last (r ∷ rs) = (first ≤ r.first) × (last ≤ r.last) × AreRising r.first r.last rs
 
-pub ordered_prop : (k : ℕ) (rs : List UidRange) → IsProp (AreOrdered k rs)
-ordered_prop k [] = hlevel
-ordered_prop k (r ∷ rs) = let rest : IsProp (AreOrdered r.last rs) = ordered_prop r.last rs in hlevel (rest, le_prop)
+pub rising_prop : (first last : ℕ) (rs : List UidRange) → IsProp (AreRising first last rs)
+rising_prop first last [] = hlevel
+rising_prop first last (r ∷ rs) = let rest : IsProp (AreRising r.first r.last rs) = rising_prop r.first r.last rs in hlevel (rest, le_prop)
 
-pub ordered_fits : (b : Bool) (rs : List UidRange) → IsProp (b ≡ true → AreOrdered 0 rs)
-ordered_fits b rs = let rest : IsProp (AreOrdered 0 rs) = ordered_prop 0 rs in hlevel rest
+-- the same, of which each ends no sooner than those before it and than this
+abbrev pub raised : ℕ → List UidRange → List UidRange
+raised last [] = []
+raised last (r ∷ rs) = record { first = r.first; last = max last r.last } ∷ raised (max last r.last) rs
