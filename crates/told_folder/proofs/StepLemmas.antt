@@ -10,7 +10,7 @@ use Rattle.imap_syntax.specs.declared.response.Response.{Response}
 use Rattle.told_folder.specs.Keyed.{last_of}
 use Rattle.told_folder.specs.Select.{is_closed, after_closed, last_told, under}
 use Rattle.told_folder.specs.Tell.{Telling, without, tell_responses, AllKnown}
-use Rattle.told_folder.specs.ToldBy.{past, past_told, uid_told, is_told, begun, adds, ended, telling_in, telling_by, told_by}
+use Rattle.told_folder.specs.ToldBy.{past, past_told, uid_told, is_told, begun, adds, ended, telling_in, telling_by}
 use Rattle.told_folder.specs.Work.{telling_of, held_of, GoesOn, Goes, GoesOk, GoesWith, Keeps, StepsOk, Steps, Tells}
 use Rattle.told_folder.specs.reading.Loops.{closed}
 use Rattle.told_folder.specs.declared.message.Folder.{Folder}

@@ -2,17 +2,17 @@
 #![tactic(auto)]
 
 mod exchange;
-mod message;
-pub mod keyed;
-pub mod uids;
-mod ranges;
-mod headers;
-pub mod puts;
-pub mod telling;
-pub mod select;
-mod vanished;
 mod fetched;
+mod headers;
+pub mod keyed;
+mod message;
+pub mod puts;
+mod ranges;
+pub mod select;
+pub mod telling;
 mod told;
+pub mod uids;
+mod vanished;
 
 pub use exchange::{Exchange, ToldError};
 pub use message::{Folder, Held, Message, share_folders};

@@ -49,11 +49,7 @@ fn tell_rising(work: &mut Work, ranges: &[UidRange])
 }
 
 /// Messages that are gone, in whatever order their UIDs are told.
-pub fn tell_vanished(
-    alloc: Global,
-    work: &mut Work,
-    ranges: &[UidRange],
-) -> Result<(), AllocError>
+pub fn tell_vanished(alloc: Global, work: &mut Work, ranges: &[UidRange]) -> Result<(), AllocError>
     requires { Ascends uid_of work.old.messages.items }
     ensures { GoesOk work.old work.new (record (telling_of work.old) { messages = without (covers ranges.now) work.old.messages.items }) result }
 {

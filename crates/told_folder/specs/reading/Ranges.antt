@@ -1,6 +1,6 @@
 -- Ranges in which a UID is found by halving.
 use Rattle.std.proofs.Math.Bridge.{le_prop}
-use Rattle.std.specs.Prelude.{◌≡◌, ℕ, ◌≤◌, List, [], ◌∷◌, max}
+use Rattle.std.specs.Prelude.{ℕ, ◌≤◌, List, [], ◌∷◌, max}
 use Rattle.imap_syntax.specs.declared.uid_set.UidRange.{UidRange}
 
 -- each begins and ends no sooner than the one before it, the first one no sooner than these

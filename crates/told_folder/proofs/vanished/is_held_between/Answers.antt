@@ -1,4 +1,4 @@
-use Rattle.std.proofs.Common.{◌≡◌, ◌&&◌, ◌∙◌, List, [], ℤ, pos, get_or, length, ltb, leb, lt-ltb, le-ltb, sym, ap}
+use Rattle.std.proofs.Common.{◌≡◌, ◌&&◌, ◌∙◌, List, [], pos, get_or, length, ltb, leb, lt-ltb, le-ltb, sym, ap}
 use Rattle.std.specs.List.{list_any}
 use Rattle.told_folder.specs.Folders.{uid_of}
 use Rattle.told_folder.specs.Places.{IsPlace}

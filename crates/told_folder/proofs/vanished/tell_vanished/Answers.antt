@@ -1,4 +1,4 @@
-use Rattle.std.proofs.Common.{◌∙◌, List, ap, sym}
+use Rattle.std.proofs.Common.{◌∙◌, List, ap}
 use Rattle.imap_syntax.specs.declared.uid_set.UidRange.{UidRange}
 use Rattle.told_folder.specs.Tell.{covers}
 use Rattle.told_folder.proofs.StepLemmas.{vanished_as}
