@@ -4,6 +4,12 @@
 #[cfg(test)]
 mod dialogues;
 #[cfg(test)]
+mod playing;
+#[cfg(test)]
+mod rounds;
+#[cfg(test)]
+mod session;
+#[cfg(test)]
 mod showing;
 #[cfg(test)]
 mod told_exchanges;

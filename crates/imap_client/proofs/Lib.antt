@@ -1,5 +1,0 @@
-mod Fronts
-mod Responses
-mod Answering
-pub mod Turning
-pub mod Quotable

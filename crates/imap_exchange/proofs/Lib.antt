@@ -1,0 +1,6 @@
+mod Fronts
+mod Responses
+mod Verdicts
+mod Pacing
+mod Conversing
+mod Refutations
