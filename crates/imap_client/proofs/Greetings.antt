@@ -1,5 +1,5 @@
 -- How a link life begins.
-use Rattle.std.proofs.Common.{◌+◌, ◌≡◌, ◌++◌, ℕ, Bool, true, false, List, [], ◌∷◌, Result, Ok, Err, length, refl, sym, ◌∙◌, ap, subst, arith, inl, inr}
+use Rattle.std.proofs.Common.{Option, Some, None, ◌+◌, ◌≡◌, ◌++◌, ℕ, Bool, true, false, List, [], ◌∷◌, Result, Ok, Err, length, refl, sym, ◌∙◌, ap, subst, arith, inl, inr}
 use Rattle.std.proofs.lemmas.List.{append-nil}
 use Rattle.gate_world.specs.declared.event.Event.{Event}
 use Rattle.gate_world.specs.declared.event.Event.TheVariants.{Dialed, LinkEnded}
@@ -17,7 +17,6 @@ use Rattle.imap_exchange.specs.Responses.{Reads, IsOver}
 use Rattle.imap_exchange.specs.Answering.{IsTooMuch, HangsUp}
 use Rattle.told_mail.specs.declared.exchange.Exchange.{Exchange}
 use Rattle.imap_client.specs.Plans.{Follows}
-use Rattle.imap_client.proofs.PlanSteps.{less_told}
 use Rattle.imap_client.specs.Connecting.{Greets, GreetsBy, greeting_says, planned_from, Lives, Unwelcome, Welcome, Connects, Lived}
 
 -- no greeting came
@@ -34,6 +33,7 @@ ungreeted after up end.Stray r = absurd r.reads
 ungreeted after up end.Bye r = absurd r.reads
 ungreeted after up end.Refused r = absurd r.reads
 ungreeted after up end.NoQresync r = absurd r.reads
+ungreeted after up end.Lacks r = absurd r.reads
 
 -- a greeting came
 only_bye : (w : Response) (e : LinkEnd) → greeting_says w ≡ Err e → e ≡ end.Bye
@@ -53,6 +53,7 @@ greeted after up w (Err end.Memory) is r = let never = only_bye w end.Memory is 
 greeted after up w (Err end.Stray) is r = let never = only_bye w end.Stray is in absurd (cc never)
 greeted after up w (Err end.Refused) is r = let never = only_bye w end.Refused is in absurd (cc never)
 greeted after up w (Err end.NoQresync) is r = let never = only_bye w end.NoQresync is in absurd (cc never)
+greeted after up w (Err end.Lacks) is r = let never = only_bye w end.Lacks is in absurd (cc never)
 
 -- why there is no greeting doesn't depend on what is unread
 unwelcome_alone : (gave : List ℕ) (after : Octets) (e : LinkEnd) → GreetsBy gave after (Err e) → GreetsBy gave begun (Err e)
@@ -64,20 +65,28 @@ unwelcome_alone gave after end.Stray so = so
 unwelcome_alone gave after end.Bye so = so
 unwelcome_alone gave after end.Refused so = so
 unwelcome_alone gave after end.NoQresync so = so
+unwelcome_alone gave after end.Lacks so = so
 
 ended_by : (up : Bool) (xs ys talk : List Event) → xs ≡ talk ++ end_unless up → HangsUp up ys → xs ++ ys ≡ talk ++ LinkEnded ∷ []
 ended_by true xs ys talk is hung = (λ i. (is ∙ append-nil talk) i ++ hung i)
 ended_by false xs ys talk is none = ap (λ (l : List Event). xs ++ l) none ∙ append-nil xs ∙ is
 
-pub unwelcome : {xs : List Event} (ys : List Event) (user password : List ℕ) (after : Octets) (up : Bool) (e : LinkEnd) (client : ClientState) → client ≡ fresh → Greets after up (Err e) xs → HangsUp up ys → Lives user password client (Err e) (xs ++ ys)
-unwelcome {xs} ys user password after up e client is g hangs = Unwelcome e g.talk g.gave (ended_by up xs ys g.talk g.ended hangs) g.said (unwelcome_alone g.gave after e g.greets) refl is
+pub unwelcome : {xs : List Event} (ys : List Event) (user password : List ℕ) (after : Octets) (up : Bool) (e : LinkEnd) (client : ClientState) → Greets after up (Err e) xs → HangsUp up ys
+    → (left : Option LinkLife) × Lives user password left client (Err e) (xs ++ ys)
+unwelcome {xs} ys user password after up e client g hangs = (None, Unwelcome e g.talk g.gave (ended_by up xs ys g.talk g.ended hangs) g.said (unwelcome_alone g.gave after e g.greets) refl refl)
 
-pub lived : {Told : List Exchange → Type 0} {xs : List Event} (ys : List Event) (user password : List ℕ) (after : Octets) (up preauth : Bool) (at : Stage) (before client : ClientState) (result : Result (Unit {0}) LinkEnd) → before ≡ begun_with after → up ≡ true → at ≡ stage.Asking → Greets after up (Ok preauth) xs → ((life : LinkLife) → Stands before life → Follows (planned_from preauth user password at) Told life client result ys) → Lives user password client result (xs ++ ys)
+pub lived : {xs : List Event} (ys : List Event) (user password : List ℕ) (after : Octets) (up preauth : Bool) (at : Stage) (before client : ClientState) (result : Result (Unit {0}) LinkEnd) → before ≡ begun_with after → up ≡ true → at ≡ stage.Asking → Greets after up (Ok preauth) xs
+    → ((life : LinkLife) → Stands before life → (left : LinkLife) × (exchanges : List Exchange) × Follows (planned_from preauth user password at) life left exchanges client result ys)
+    → (left : Option LinkLife) × Lives user password left client result (xs ++ ys)
 lived {xs} ys user password after up preauth at before client result before_is up_is at_is g follows =
-    Welcome life preauth g.talk ys (ap (λ (l : List Event). l ++ ys) events_are) g.said (record { greeted = g.greets.2; untaken = refl; unasked = refl; alive = refl }) g.greets.1 (subst (λ (s : Stage). Follows (planned_from preauth user password s) (λ _. Unit {0}) life client result ys) at_is (less_told (λ xs told. tt) (follows life (subst (λ (p : ClientState). Stands p life) (sym before_is) stands))))
+    let so = follows life (subst (λ (p : ClientState). Stands p life) (sym before_is) stands) in
+    (
+      Some so.0,
+      Welcome life so.0 preauth so.1 g.talk ys (ap (λ (l : List Event). l ++ ys) events_are) g.said (record { greeted = g.greets.2; unasked = refl; untaken = refl; whole = refl; alive = refl }) g.greets.1 (subst (λ (s : Stage). Follows (planned_from preauth user password s) life so.0 so.1 client result ys) at_is so.2) refl,
+    )
   where
     life : LinkLife
-    life = record { gave = g.gave; took = []; greeting = g.greets.0; exchanges = []; rest = after.octets; goes_on = true }
+    life = record { gave = g.gave; greeting = g.greets.0; exchanges = []; took = []; rest = after.octets; part = []; goes_on = true }
 
     events_are : xs ≡ g.talk
     events_are = g.ended ∙ ap (λ (b : Bool). g.talk ++ end_unless b) up_is ∙ append-nil g.talk
@@ -88,9 +97,10 @@ lived {xs} ys user password after up preauth at before client result before_is u
       selected_is = refl;
       unread_is = λ _. (λ i. record { octets = after.octets; given = g.greets.3 i });
       number_is = λ _. refl;
-      spelled = λ _. record { remaining = after.octets; greeted = g.greets.2; completed = (refl, refl) };
+      spelled = record { remaining = after.octets; greeted = g.greets.2; completed = (refl, refl); whole = λ _. refl };
     }
 
-pub connected : {xs : List Event} (ys : List Event) (user password user' password' : List ℕ) (client : ClientState) (result : Result (Unit {0}) LinkEnd) → xs ≡ Dialed ∷ [] → user' ≡ user → password' ≡ password → Lives user' password' client result ys → Connects user password client result (xs ++ ys)
-connected ys user password user' password' client result is same same' lives =
-    Lived ys (ap (λ (l : List Event). l ++ ys) is) (subst (λ (p : List ℕ). Lives user p client result ys) same' (subst (λ (u : List ℕ). Lives u password' client result ys) same lives))
+pub connected : {xs : List Event} (ys : List Event) (user password user' password' : List ℕ) (client : ClientState) (result : Result (Unit {0}) LinkEnd) → xs ≡ Dialed ∷ [] → user' ≡ user → password' ≡ password → (left : Option LinkLife) × Lives user' password' left client result ys
+    → (left : Option LinkLife) × Connects user password left client result (xs ++ ys)
+connected ys user password user' password' client result is same same' (left, lives) =
+    (left, Lived ys (ap (λ (l : List Event). l ++ ys) is) (subst (λ (p : List ℕ). Lives user p left client result ys) same' (subst (λ (u : List ℕ). Lives u password' left client result ys) same lives)))

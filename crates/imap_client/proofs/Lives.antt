@@ -14,14 +14,14 @@ use Rattle.imap_exchange.specs.declared.link_end.LinkEnd.{LinkEnd}
 use Rattle.told_mail.specs.declared.exchange.Exchange.{Exchange}
 use Rattle.imap_exchange.specs.Received.{Octets}
 use Rattle.imap_exchange.specs.Exchanges.{Done, IsVerdict, VerdictOf, IsTaken}
-use Rattle.imap_client.specs.LinkLife.{with_part, hung_up, LinkLife, IsLife, IsExchange, Completed, ClientState, Stands, fresh, next_number, selected, selected_after, unread, with_exchange, with_end}
+use Rattle.imap_client.specs.LinkLife.{with_part, hung_up, LinkLife, IsLife, IsExchange, Completed, ClientState, Stands, fresh, next_number, selected, selected_after, unread, with_exchange}
 use Rattle.imap_exchange.specs.Answering.{selected_by, end_unless}
 use Rattle.imap_exchange.specs.Answering.{Converses, answer_of, IsOf, HangsUp}
 use Rattle.imap_client.specs.Calls.{IsExchanged}
 use Rattle.imap_exchange.proofs.Verdicts.{Begins-more, Passes-more}
 
 -- further octets after a tagged line
-verdict_more : {tag : List ℕ} {pieces : List (List ℕ)} {octets rest : List ℕ} {responses : List Response} {s : Status} {code : Code} (g : List ℕ) → IsVerdict tag pieces octets (Done responses s code rest) → IsVerdict tag pieces (octets ++ g) (Done responses s code (rest ++ g))
+pub verdict_more : {tag : List ℕ} {pieces : List (List ℕ)} {octets rest : List ℕ} {responses : List Response} {s : Status} {code : Code} (g : List ℕ) → IsVerdict tag pieces octets (Done responses s code rest) → IsVerdict tag pieces (octets ++ g) (Done responses s code (rest ++ g))
 verdict_more {tag} {pieces} {octets} {rest} {responses} {s} {code} g v =
     record { responses = v.responses; remaining = v.remaining ++ g; passed = Passes-more g v.passed; decided = (v.decided.0, Begins-more (Tagged tag s code ∷ []) rest v.remaining g v.decided.1, v.decided.2) }
 
@@ -81,12 +81,12 @@ stands_ended life is spelled =
       spelled = spelled;
     }
 
-selected_of : (life : LinkLife) → life.goes_on ≡ true → selected life ≡ fold selected_after None life.exchanges
+pub selected_of : (life : LinkLife) → life.goes_on ≡ true → selected life ≡ fold selected_after None life.exchanges
 selected_of life is = rw is refl
 
 -- the exchange by the life's own words
-goes_ok : {es : List Event} (life : LinkLife) (command : Command) (x : Exchange) (n : ℕ) (before after : Octets) (up : Bool) (client : ClientState) (folder : Option (List ℕ)) → n ≡ next_number life → before ≡ unread life → folder ≡ selected life → x.command ≡ command → x.selected ≡ folder → Converses (tag_of n) (command_pieces command n) before after up (Ok (record { responses = x.responses; status = x.status; code = x.code })) es → ((gave took : List ℕ) → IsExchange (next_number life) x after.octets (life.rest ++ gave) took → after.given ≡ length life.gave + length gave → Stands client (with_exchange life gave took x after.octets up)) → (left : LinkLife) × IsExchanged life command left client (Ok x) es
-goes_ok {es} life command x n before after up client folder n_is before_is folder_is command_is selected_is so stands =
+goes_ok : {es : List Event} (life : LinkLife) → life.goes_on ≡ true → (command : Command) (x : Exchange) (n : ℕ) (before after : Octets) (up : Bool) (client : ClientState) (folder : Option (List ℕ)) → n ≡ next_number life → before ≡ unread life → folder ≡ selected life → x.command ≡ command → x.selected ≡ folder → Converses (tag_of n) (command_pieces command n) before after up (Ok (record { responses = x.responses; status = x.status; code = x.code })) es → ((gave took : List ℕ) → IsExchange (next_number life) x after.octets (life.rest ++ gave) took → after.given ≡ length life.gave + length gave → Stands client (with_exchange life gave took x after.octets up)) → (left : LinkLife) × IsExchanged life command left client (Ok x) es
+goes_ok {es} life on command x n before after up client folder n_is before_is folder_is command_is selected_is so stands =
     let there : Converses (tag_of (next_number life)) (command_pieces command (next_number life)) (unread life) after up (Ok (record { responses = x.responses; status = x.status; code = x.code })) es =
     subst (λ (u : Octets). Converses (tag_of (next_number life)) (command_pieces command (next_number life)) u after up (Ok (record { responses = x.responses; status = x.status; code = x.code })) es) before_is (subst (λ (k : ℕ). Converses (tag_of k) (command_pieces command k) before after up (Ok (record { responses = x.responses; status = x.status; code = x.code })) es) n_is so) in
     let verdict : VerdictOf (next_number life) x.command (life.rest ++ there.speaks.gave) (Done x.responses x.status x.code after.octets) =
@@ -96,6 +96,7 @@ goes_ok {es} life command x n before after up client folder n_is before_is folde
       with_exchange life there.speaks.gave there.speaks.took x after.octets up,
       record {
         ends = record {
+        on = on;
         speaks = there.speaks;
         rest = after.octets;
         after_is = refl;
@@ -114,7 +115,7 @@ goes_ok {es} life command x n before after up client folder n_is before_is folde
 pub goes_on : {es : List Event} (life : LinkLife) (command : Command) (x : Exchange) (now folder : Option (List ℕ)) (n : ℕ) (alive up : Bool) (before after : Octets) → alive ≡ true → up ≡ true → Stands (place_of alive before n folder) life → IsOf command folder x now → Converses (tag_of n) (command_pieces command n) before after up (answer_of (Ok (x, now))) es → (left : LinkLife) × IsExchanged life command left (place_of alive after (n + 1) now) (Ok x) es
 goes_on life command x now folder n alive up before after is_alive is_up stands of so =
     let on : life.goes_on ≡ true = sym stands.alive ∙ is_alive in
-    goes_ok life command x n before after up (place_of alive after (n + 1) now) folder (stands.number_is on) (stands.unread_is on) stands.selected_is of.command_is of.selected_is so (λ gave took here given.
+    goes_ok life on command x n before after up (place_of alive after (n + 1) now) folder (stands.number_is on) (stands.unread_is on) stands.selected_is of.command_is of.selected_is so (λ gave took here given.
     let next = with_exchange life gave took x after.octets up in
     record {
       alive = is_alive ∙ sym is_up;
@@ -131,7 +132,7 @@ goes_on life command x now folder n alive up before after is_alive is_up stands 
 pub goes_down : {es : List Event} (life : LinkLife) (command : Command) (x : Exchange) (now folder : Option (List ℕ)) (n : ℕ) (alive up : Bool) (before after : Octets) → alive ≡ true → up ≡ false → Stands (place_of alive before n folder) life → IsOf command folder x now → Converses (tag_of n) (command_pieces command n) before after up (answer_of (Ok (x, now))) es → (left : LinkLife) × IsExchanged life command left fresh (Ok x) es
 goes_down life command x now folder n alive up before after is_alive is_down stands of so =
     let on : life.goes_on ≡ true = sym stands.alive ∙ is_alive in
-    goes_ok life command x n before after up fresh folder (stands.number_is on) (stands.unread_is on) stands.selected_is of.command_is of.selected_is so (λ gave took here given. stands_ended (with_exchange life gave took x after.octets up) is_down (life_more life gave took after.octets x up on stands.spelled here))
+    goes_ok life on command x n before after up fresh folder (stands.number_is on) (stands.unread_is on) stands.selected_is of.command_is of.selected_is so (λ gave took here given. stands_ended (with_exchange life gave took x after.octets up) is_down (life_more life gave took after.octets x up on stands.spelled here))
 
 -- the exchange isn't completed
 pub goes_not : {xs : List Event} (ys : List Event) (life : LinkLife) (command : Command) (e : LinkEnd) (folder : Option (List ℕ)) (n : ℕ) (alive up : Bool) (before after : Octets) → alive ≡ true → Stands (place_of alive before n folder) life → Converses (tag_of n) (command_pieces command n) before after up (Err e) xs → HangsUp up ys → (left : LinkLife) × IsExchanged life command left fresh (Err e) (xs ++ ys)
@@ -142,6 +143,7 @@ goes_not {xs} ys life command e folder n alive up before after is_alive stands s
       with_part life there.speaks.gave there.speaks.took,
       record {
         ends = record {
+        on = on;
         speaks = record { talk = there.speaks.talk; gave = there.speaks.gave; took = there.speaks.took; ended = ended_by up there.speaks.talk there.speaks.ended hangs; said = there.speaks.said; paced = there.speaks.paced };
         after_is = refl;
         cause = there.comes;

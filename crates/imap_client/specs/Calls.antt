@@ -10,9 +10,10 @@ use Rattle.imap_exchange.specs.Exchanges.{Done, VerdictOf, IsTaken, pieces_due}
 use Rattle.imap_exchange.specs.Answering.{Speaks, IsCause}
 use Rattle.imap_client.specs.LinkLife.{LinkLife, ClientState, Stands, next_number, selected, unread, with_exchange, with_part}
 
--- The exchange of the life's next number is completed, and after it the life is this one. Where the link failed meanwhile
+-- The life went on, the exchange of its next number is completed, and after it the life is this one. Where the link failed meanwhile
 -- the life has ended, and the answer was no OK.
 pub record Completes (life : LinkLife) (command : Command) (x : Exchange) (after : LinkLife) (events : List Event) : Type 0 where
+  pub on : life.goes_on ≡ true
   pub speaks : Speaks (command_pieces command (next_number life)) life.rest after.goes_on events
   pub rest : List ℕ
   pub after_is : after ≡ with_exchange life speaks.gave speaks.took x rest after.goes_on
@@ -24,8 +25,9 @@ pub record Completes (life : LinkLife) (command : Command) (x : Exchange) (after
   -- where the life goes on, all that was due was taken
   pub all_taken : after.goes_on ≡ true → speaks.took ≡ joined_pieces (pieces_due (command_pieces command (next_number life)) x.responses)
 
--- It isn't completed, and the life has ended.
+-- The life went on, the exchange isn't completed, and the life has ended.
 pub record Breaks (life : LinkLife) (command : Command) (e : LinkEnd) (after : LinkLife) (events : List Event) : Type 0 where
+  pub on : life.goes_on ≡ true
   pub speaks : Speaks (command_pieces command (next_number life)) life.rest false events
   pub after_is : after ≡ with_part life speaks.gave speaks.took
   pub cause : IsCause (tag_of (next_number life)) (command_pieces command (next_number life)) (unread life) speaks.gave speaks.took e

@@ -1,6 +1,6 @@
 -- A round: LIST, and then for each folder that can be selected, by number, SELECT and what is fetched (RFC 9051
 -- sections 6.3.2, 6.3.9 and 6.4.5, RFC 7162 section 3.2.5).
-use Rattle.std.specs.Prelude.{◌≡◌, ◌≢◌, ◌+◌, ◌-◌, ◌==◌, ◌&&◌, ◌||◌, ℕ, Bool, true, false, not, nat_lt, min, List, [], ◌∷◌, codes, bytes_eq, drop, fold, if◌then◌else◌, is_some, slice_get, Option, Some, None, Result, Err}
+use Rattle.std.specs.Prelude.{◌≡◌, ◌≢◌, ◌<◌, ◌≤◌, ◌^◌, ◌+◌, ◌-◌, ◌==◌, ◌&&◌, ◌||◌, ℕ, Bool, true, false, not, nat_lt, min, List, [], ◌∷◌, codes, bytes_eq, drop, fold, if◌then◌else◌, is_some, slice_get, Option, Some, None, Result, Err}
 use Rattle.std.specs.List.{list_any}
 use Rattle.gate_world.specs.declared.event.Event.{Event}
 use Rattle.imap_syntax.specs.declared.code.Code.TheVariants as code
@@ -12,7 +12,8 @@ use Rattle.imap_syntax.specs.declared.response.Status.TheVariants as status
 use Rattle.told_mail.specs.declared.exchange.Exchange.{Exchange}
 use Rattle.told_mail.specs.declared.message.Folder.{Folder}
 use Rattle.told_mail.specs.declared.message.Held.{Held}
-use Rattle.told_mail.specs.Mail.{Mail}
+use Rattle.told_mail.specs.Mail.{Mail, SameMail}
+use Rattle.told_mail.specs.Told.{Told}
 use Rattle.told_mail.specs.Exchanges.{after_closed, last_told, tell, validity_in}
 use Rattle.imap_exchange.specs.declared.link_end.LinkEnd.{LinkEnd}
 use Rattle.imap_exchange.specs.declared.link_end.LinkEnd.TheVariants as end
@@ -25,6 +26,13 @@ use Rattle.imap_client.specs.declared.round.TheConstants.{SLICE_UIDS}
 use Rattle.imap_client.specs.Connecting.{is_ok}
 use Rattle.imap_client.specs.LinkLife.{LinkLife, ClientState}
 use Rattle.imap_client.specs.Plans.{Planned, Follows}
+
+-- ---- the count of changes
+
+-- the count never fell, and where it stands, short of its last value, the mail is the same
+pub record CountsOn (old new : Told) : Type 0 where
+  pub rises : old.changes ≤ new.changes
+  pub stands : old.changes ≡ new.changes → new.changes < 2 ^ 64 - 1 → SameMail old.mail new.mail
 
 -- ---- folders
 

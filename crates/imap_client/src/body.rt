@@ -5,10 +5,10 @@ ghost use Rattle.gate_world.specs.Causes.{Rose, LinkAlone};
 ghost use Rattle.gate_world.specs.Tape.{Adds};
 ghost use Rattle.told_mail.specs.Exchanges as telling;
 ghost use Rattle.told_mail.specs.Mail.{folder_in};
-ghost use Rattle.told_mail.specs.Told.{Counts};
 ghost use Rattle.imap_client.specs.LinkLife.{LinkLife, Stands, fresh};
 ghost use Rattle.imap_client.specs.Bodies as bodies;
 ghost use Rattle.imap_client.specs.Bodies.{FetchesBody};
+ghost use Rattle.imap_client.specs.Rounds.{CountsOn};
 
 use crate::client::Client;
 use crate::connection::is_ok;
@@ -174,7 +174,7 @@ impl Plan for BodyFetch {
 
     ghost hears = { λ f x g. (g.folder ≡ f.folder) × (g.uid ≡ f.uid) × (record { stage = g.stage; mail = g.mirror.mail } ≡ bodies.body_step f.folder f.uid (record { stage = f.stage; mail = f.mirror.mail }) x) };
 
-    ghost keeps = { λ f g. Counts f.mirror g.mirror };
+    ghost keeps = { λ f g. CountsOn f.mirror g.mirror };
 
     fn due(&self, _alloc: Global) -> Result<Due, AllocError> {
         match &self.stage {
@@ -223,7 +223,7 @@ impl Client {
         ensures tape { Adds (L.tape link.old) (L.tape link.new) (λ es. (life : LinkLife) → Stands self.old life → (left : LinkLife) × FetchesBody folder uid mirror.old.mail mirror.new.mail life left self.new result es) }
         ensures alive { OnOk result (self.new.alive ≡ true) }
         ensures ended { OnErr result (self.new ≡ fresh) }
-        ensures counts { Counts mirror.old mirror.new }
+        ensures counts { CountsOn mirror.old mirror.new }
         ensures alone { LinkAlone (L.faults link.old) (L.faults link.new) }
         ensures cause { IsErrOf result LinkEnd.Lost → Rose (L.faults link.old).link (L.faults link.new).link }
         ensures hidden { L.hidden link.new ≡ L.hidden link.old }

@@ -17,7 +17,8 @@ pub fn follow<L: Link, P: Plan>(
     link: &mut L,
     plan: &mut P,
 ) -> Result<(), LinkEnd>
-    requires { client.old.alive ≡ true }
+    requires alive { client.old.alive ≡ true }
+    requires kept { P.keeps plan.old plan.old }
     ensures tape { Adds (L.tape link.old) (L.tape link.new) (λ es. (life : LinkLife) → Stands client.old life → (left : LinkLife) × FollowsTo P.plan P.hears plan.old plan.new life left client.new result es) }
     ensures done { OnOk result (P.plan plan.new [] ≡ dues.Done) }
     ensures alive { OnOk result (StopsAtRefusal (P.plan plan.old) → client.new.alive ≡ true) }

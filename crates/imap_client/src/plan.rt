@@ -48,8 +48,7 @@ pub trait Plan {
     ghost keeps: { Self → Self → Type 0 };
 
     fn due(&self, alloc: Global) -> Result<Due, AllocError>
-        ensures due { IfOk result (λ now. now ≡ Self.plan self.now []) }
-        ensures kept { Self.keeps self.now self.now };
+        ensures { IfOk result (λ now. now ≡ Self.plan self.now []) };
 
     /// The exchange that was due is completed.
     fn hear(&mut self, alloc: Global, x: Exchange) -> Result<(), AllocError>

@@ -6,10 +6,9 @@ ghost use Rattle.std.specs.Option.{option_copied};
 ghost use Rattle.gate_world.specs.Causes.{Rose, LinkAlone};
 ghost use Rattle.gate_world.specs.Tape.{Adds};
 ghost use Rattle.told_mail.specs.Exchanges as telling;
-ghost use Rattle.told_mail.specs.Told.{Counts};
 ghost use Rattle.imap_client.specs.LinkLife.{LinkLife, Stands, fresh};
 ghost use Rattle.imap_client.specs.Rounds as rounds;
-ghost use Rattle.imap_client.specs.Rounds.{Rounds};
+ghost use Rattle.imap_client.specs.Rounds.{CountsOn, Rounds};
 
 use crate::client::Client;
 use crate::connection::is_ok;
@@ -309,7 +308,7 @@ impl Plan for Round {
 
     ghost hears = { λ r x s. record { stage = s.stage; mail = s.mirror.mail } ≡ rounds.round_step (record { stage = r.stage; mail = r.mirror.mail }) x };
 
-    ghost keeps = { λ r s. Counts r.mirror s.mirror };
+    ghost keeps = { λ r s. CountsOn r.mirror s.mirror };
 
     fn due(&self, _alloc: Global) -> Result<Due, AllocError> {
         match self.stage {
@@ -344,7 +343,7 @@ impl Client {
         ensures tape { Adds (L.tape link.old) (L.tape link.new) (λ es. (life : LinkLife) → Stands self.old life → (left : LinkLife) × Rounds mirror.old.mail mirror.new.mail life left self.new result es) }
         ensures alive { OnOk result (self.new.alive ≡ true) }
         ensures ended { OnErr result (self.new ≡ fresh) }
-        ensures counts { Counts mirror.old mirror.new }
+        ensures counts { CountsOn mirror.old mirror.new }
         ensures alone { LinkAlone (L.faults link.old) (L.faults link.new) }
         ensures cause { IsErrOf result LinkEnd.Lost → Rose (L.faults link.old).link (L.faults link.new).link }
         ensures hidden { L.hidden link.new ≡ L.hidden link.old }

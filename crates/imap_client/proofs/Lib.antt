@@ -1,0 +1,7 @@
+mod Lives
+mod PlanSteps
+mod Connections
+mod Greetings
+mod RoundSteps
+mod Refutations
+mod Obedience
