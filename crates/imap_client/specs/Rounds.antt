@@ -1,6 +1,6 @@
 -- A round: LIST, and then for each folder that can be selected, by number, SELECT and what is fetched (RFC 9051
 -- sections 6.3.2, 6.3.9 and 6.4.5, RFC 7162 section 3.2.5).
-use Rattle.std.specs.Prelude.{◌≡◌, ◌≢◌, ◌<◌, ◌≤◌, ◌^◌, ◌+◌, ◌-◌, ◌==◌, ◌&&◌, ◌||◌, ℕ, Bool, true, false, not, nat_lt, min, List, [], ◌∷◌, codes, bytes_eq, drop, fold, if◌then◌else◌, is_some, slice_get, Option, Some, None, Result, Err}
+use Rattle.std.specs.Prelude.{◌≡◌, ◌≢◌, ◌<◌, ◌≤◌, ◌^◌, ◌+◌, ◌-◌, ◌==◌, ◌&&◌, ◌||◌, ℕ, Bool, true, false, not, nat_lt, min, List, [], ◌∷◌, codes, bytes_eq, drop, fold, if◌then◌else◌, is_some, slice_get, unwrap_or, Option, Some, None, Result, Err}
 use Rattle.std.specs.List.{list_any}
 use Rattle.gate_world.specs.declared.event.Event.{Event}
 use Rattle.imap_syntax.specs.declared.code.Code.TheVariants as code
@@ -14,7 +14,7 @@ use Rattle.told_mail.specs.declared.message.Folder.{Folder}
 use Rattle.told_mail.specs.declared.message.Held.{Held}
 use Rattle.told_mail.specs.Mail.{Mail, SameMail}
 use Rattle.told_mail.specs.Told.{Told}
-use Rattle.told_mail.specs.Exchanges.{after_closed, last_told, tell, validity_in}
+use Rattle.told_mail.specs.Exchanges.{after_closed, tell, validity_in}
 use Rattle.imap_exchange.specs.declared.link_end.LinkEnd.{LinkEnd}
 use Rattle.imap_exchange.specs.declared.link_end.LinkEnd.TheVariants as end
 use Rattle.imap_client.specs.declared.plan.Due.{Due}
@@ -95,9 +95,14 @@ abbrev pub uid_next_in : Response → Option ℕ
 uid_next_in (response.Untagged status.Ok (code.UidNext n)) = Some n
 uid_next_in _ = None
 
+-- the last UIDNEXT that is told, else this number
+abbrev pub last_uid_next : ℕ → List Response → ℕ
+last_uid_next was [] = was
+last_uid_next was (r ∷ rs) = last_uid_next (unwrap_or (uid_next_in r) was) rs
+
 -- the UIDNEXT that a SELECT tells of its folder; 0 where it tells none
 abbrev pub uid_next_told : List Response → ℕ
-uid_next_told rs = last_told uid_next_in 0 (after_closed rs)
+uid_next_told rs = last_uid_next 0 (after_closed rs)
 
 abbrev pub tells_validity : List Response → Bool
 tells_validity rs = list_any (λ r. is_some (validity_in r)) (after_closed rs)

@@ -198,12 +198,12 @@ impl Plan for BodyFetch {
 }
 
 /// The body that a fetch ends with.
-fn body_at(stage: BodyStage) -> Result<Bytes, LinkEnd>
+fn body_at(stage: BodyStage) -> Bytes
     requires { bodies.HasBody stage }
-    ensures { IfOk result (λ body. stage ≡ BodyStage.Fetched body) }
+    ensures { stage ≡ BodyStage.Fetched result }
 {
     match stage {
-        BodyStage::Fetched(body) => Ok(body),
+        BodyStage::Fetched(body) => body,
         _ => unreachable!(),
     }
 }
@@ -244,7 +244,7 @@ impl Client {
         } = plan;
         *mirror = told;
         match result {
-            Ok(()) => body_at(stage),
+            Ok(()) => Ok(body_at(stage)),
             Err(end) => Err(end),
         }
     }

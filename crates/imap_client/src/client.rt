@@ -1,5 +1,6 @@
 // The client's side of one link life after another.
-ghost use Rattle.std.specs.Prelude.{◌≡◌, ℕ, Option, None, Some, true, false, ◌<◌, ◌≤◌, IsErrOf, IfOk, OnOk, OnErr, MatchOption};
+ghost use Rattle.std.specs.Prelude.{◌≡◌, true, false, ◌<◌, ◌≤◌, IsErrOf, IfOk, OnOk, OnErr};
+ghost use Rattle.std.specs.Option.{option_copied};
 ghost use Rattle.gate_world.specs.Causes.{Rose, LinkAlone, NoFault};
 ghost use Rattle.gate_world.specs.Tape.{Adds};
 ghost use Rattle.imap_syntax.specs.declared.response.Status.TheVariants as statuses;
@@ -60,7 +61,7 @@ impl Client {
 
     /// The selected folder; none where the client isn't alive.
     pub fn selected(&self) -> Option<&[u8]>
-        ensures { MatchOption result (self.now.selected ≡ None) (λ name. self.now.selected ≡ Some name.now) }
+        ensures { option_copied result ≡ self.now.selected }
     {
         match &self.selected {
             None => None,

@@ -162,7 +162,7 @@ fn uid_next_in(response: &Response) -> Option<u32>
 
 /// The UIDNEXT that these responses tell last, else 0.
 fn last_uid_next(responses: &[Response]) -> u32
-    ensures { result ≡ telling.last_told rounds.uid_next_in 0 responses.now }
+    ensures { result ≡ rounds.last_uid_next 0 responses.now }
 {
     let mut last = 0;
     for response in responses {

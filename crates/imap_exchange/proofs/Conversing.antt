@@ -179,9 +179,9 @@ unheard tag begun after up end.Lacks from c r = absurd r.reads
 
 -- one open response more
 pub opened : {r : Response} {es : List Event} {pieces : List (List ℕ)} {before after : Octets} {responses : List Response} {at : ℕ} {up : Bool} (w : Response) → r ≡ w → IsOpen w → Heard pieces before after responses w at up es → Course pieces before after (responses ++ r ∷ []) at up es
-opened {pieces = pieces} {before} {after} {responses} {at} {up} w is here h =
-    let so : Course pieces before after (responses ++ w ∷ []) at up _ = record { speaks = h.speaks; passed = Passes-push w h.passed here h.begins; given = h.given; left = h.left; taken = h.taken; all_taken = h.all_taken; some_left = h.some_left } in
-    subst (λ (v : Response). Course pieces before after (responses ++ v ∷ []) at up _) (sym is) so
+opened {r} {es} {pieces} {before} {after} {responses} {at} {up} w is here h =
+    let so : Course pieces before after (responses ++ w ∷ []) at up es = record { speaks = h.speaks; passed = Passes-push w h.passed here h.begins; given = h.given; left = h.left; taken = h.taken; all_taken = h.all_taken; some_left = h.some_left } in
+    subst (λ (v : Response). Course pieces before after (responses ++ v ∷ []) at up es) (sym is) so
 
 -- how many continuations came, with one response more
 pub one_not_continue : (responses : List Response) (w : Response) → is_continue w ≡ false → continuations (responses ++ w ∷ []) ≡ continuations responses
@@ -213,7 +213,7 @@ left_more false now left piece o all some =
     }
 
 -- a continuation came, and the next piece was offered
-pub continued : {xs zs : List Event} {pieces : List (List ℕ)} {before after : Octets} {responses : List Response} {at : ℕ} {up : Bool} (w : Response) (place : ℕ) (now : Bool) → w ≡ Continue → at ≡ min (continuations responses + 1) (length pieces) → place ≡ min (at + 1) (length pieces) → Heard pieces before after responses w at up xs → Offers up now (piece_at pieces at) zs → Course pieces before after (responses ++ w ∷ []) place now (xs ++ zs)
+pub continued : {xs zs : List Event} {pieces : List (List ℕ)} {before after : Octets} {responses : List Response} {at : ℕ} {up : Bool} (w : Response) (place : ℕ) (now : Bool) → w ≡ Continue → at ≡ min (continuations responses + 1) (length pieces) → place ≡ min (at + 1) (length pieces) → Heard pieces before after responses w at up xs → Offers up now (piece_at pieces at) zs → Course pieces before after (responses ++ Continue ∷ []) place now (xs ++ zs)
 continued {xs} {zs} {pieces} {before} {after} {responses} {at} {up} w place now is here there h o =
     let left = left_more up now h.left (piece_at pieces at) o h.all_taken h.some_left in
     let is_open : IsOpen w = subst IsOpen (sym is) tt in
@@ -224,7 +224,7 @@ continued {xs} {zs} {pieces} {before} {after} {responses} {at} {up} w place now 
     let to_place : take (at + 1) pieces ≡ take place pieces = take_min pieces (at + 1) place there in
     let due : pieces_due pieces (responses ++ w ∷ []) ≡ take place pieces = take_min pieces (continuations (responses ++ w ∷ []) + 1) place (omega (arith, here, there, counted)) in
     let within : h.speaks.took ++ (o.took ++ (h.left ++ o.left)) ≡ joined_pieces (pieces_due pieces (responses ++ w ∷ [])) = whole ∙ ap joined_pieces (to_place ∙ sym due) in
-    record {
+    let so : Course pieces before after (responses ++ w ∷ []) place now (xs ++ zs) = record {
       speaks = record {
         talk = h.speaks.talk ++ o.talk;
         gave = h.speaks.gave;
@@ -239,7 +239,8 @@ continued {xs} {zs} {pieces} {before} {after} {responses} {at} {up} w place now 
       taken = append_assoc h.speaks.took o.took (h.left ++ o.left) ∙ whole ∙ ap joined_pieces to_place;
       all_taken = left.all_taken;
       some_left = left.some_left;
-    }
+    } in
+    subst (λ (r : Response). Course pieces before after (responses ++ r ∷ []) place now (xs ++ zs)) is so
 
 -- a fault that came before or now
 pub rose_later : (up : Bool) (a b c : ℕ) → (up ≡ false → Rose a b) → (up ≡ true → Rose b c) → a ≤ b → b ≤ c → Rose a c
