@@ -15,7 +15,7 @@ use Rattle.imap_client.specs.LinkLife.{LinkLife, ClientState, Stands, fresh, beg
 use Rattle.imap_exchange.specs.Answering.{end_unless}
 use Rattle.imap_exchange.specs.Responses.{Reads, IsOver}
 use Rattle.imap_exchange.specs.Answering.{IsTooMuch, HangsUp}
-use Rattle.told_mail.specs.declared.exchange.Exchange.{Exchange}
+use Rattle.told_folder.specs.declared.exchange.Exchange.{Exchange}
 use Rattle.imap_client.specs.Plans.{Follows}
 use Rattle.imap_client.specs.Connecting.{Greets, GreetsBy, greeting_says, planned_from, Lives, Unwelcome, Welcome, Connects, Lived}
 

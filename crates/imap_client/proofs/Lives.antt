@@ -11,7 +11,7 @@ use Rattle.imap_syntax.specs.declared.response.Response.TheVariants.{Tagged}
 use Rattle.imap_syntax.specs.declared.response.Status.{Status}
 use Rattle.imap_syntax.specs.Commands.{command_pieces, tag_of}
 use Rattle.imap_exchange.specs.declared.link_end.LinkEnd.{LinkEnd}
-use Rattle.told_mail.specs.declared.exchange.Exchange.{Exchange}
+use Rattle.told_folder.specs.declared.exchange.Exchange.{Exchange}
 use Rattle.imap_exchange.specs.Received.{Octets}
 use Rattle.imap_exchange.specs.Exchanges.{Done, IsVerdict, VerdictOf, IsTaken}
 use Rattle.imap_client.specs.LinkLife.{with_part, hung_up, LinkLife, IsLife, IsExchange, Completed, ClientState, Stands, fresh, next_number, selected, selected_after, unread, with_exchange}

@@ -1,9 +1,9 @@
 -- Rounds and the fetch of a body, exchange by exchange.
 use Rattle.std.proofs.Common.{◌≡◌, ◌≢◌, ◌≤◌, ◌<◌, ◌++◌, ◌^◌, ◌-◌, ℕ, false, List, [], ◌∷◌, Option, Some, None, Result, Ok, Err, fold, refl, sym, ◌∙◌, ap, subst, arith}
 use Rattle.std.proofs.lemmas.List.Sums.{fold-append}
-use Rattle.told_mail.specs.declared.exchange.Exchange.{Exchange}
+use Rattle.told_folder.specs.declared.exchange.Exchange.{Exchange}
 use Rattle.told_mail.specs.Mail.{Mail, SameMail, folder_in}
-use Rattle.told_mail.specs.declared.message.Folder.{Folder}
+use Rattle.told_folder.specs.declared.message.Folder.{Folder}
 use Rattle.told_mail.specs.Told.{Told, Counts}
 use Rattle.told_mail.specs.Exchanges.{tell}
 use Rattle.gate_world.specs.declared.event.Event.{Event}

@@ -5,8 +5,8 @@ use Rattle.imap_syntax.specs.declared.command.Command.TheVariants as command
 use Rattle.imap_syntax.specs.declared.response.FetchItems.{FetchItems}
 use Rattle.imap_syntax.specs.declared.response.Response.{Response}
 use Rattle.imap_syntax.specs.declared.response.Response.TheVariants as response
-use Rattle.told_mail.specs.declared.exchange.Exchange.{Exchange}
-use Rattle.told_mail.specs.declared.message.Folder.{Folder}
+use Rattle.told_folder.specs.declared.exchange.Exchange.{Exchange}
+use Rattle.told_folder.specs.declared.message.Folder.{Folder}
 use Rattle.told_mail.specs.Mail.{Mail, folder_in}
 use Rattle.told_mail.specs.Exchanges.{is_uid, tell}
 use Rattle.imap_exchange.specs.declared.link_end.LinkEnd.{LinkEnd}

@@ -4,7 +4,7 @@ use Rattle.gate_world.specs.declared.event.Event.{Event}
 use Rattle.imap_syntax.specs.declared.response.Status.TheVariants as status
 use Rattle.imap_syntax.specs.declared.command.Command.{Command}
 use Rattle.imap_syntax.specs.Commands.{command_pieces, joined_pieces, tag_of}
-use Rattle.told_mail.specs.declared.exchange.Exchange.{Exchange}
+use Rattle.told_folder.specs.declared.exchange.Exchange.{Exchange}
 use Rattle.imap_exchange.specs.declared.link_end.LinkEnd.{LinkEnd}
 use Rattle.imap_exchange.specs.Exchanges.{Done, VerdictOf, IsTaken, pieces_due}
 use Rattle.imap_exchange.specs.Answering.{Speaks, IsCause}

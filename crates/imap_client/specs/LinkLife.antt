@@ -2,7 +2,7 @@
 use Rattle.std.specs.Prelude.{◌≡◌, ◌++◌, ◌+◌, ℕ, Bool, true, false, List, [], ◌∷◌, length, fold, Option, Some, None, IsTrue, if◌then◌else◌}
 use Rattle.imap_syntax.specs.declared.response.Response.{Response}
 use Rattle.imap_syntax.specs.Commands.{command_pieces}
-use Rattle.told_mail.specs.declared.exchange.Exchange.{Exchange}
+use Rattle.told_folder.specs.declared.exchange.Exchange.{Exchange}
 use Rattle.imap_exchange.specs.Received.{Octets, begun, room_left}
 use Rattle.imap_exchange.specs.Begins.{Begins}
 use Rattle.imap_exchange.specs.Exchanges.{Done, VerdictOf, IsTaken}

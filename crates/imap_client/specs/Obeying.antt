@@ -1,6 +1,6 @@
 -- Octets that obey a plan.
 use Rattle.std.specs.Prelude.{◌≡◌, ◌++◌, ◌+◌, ℕ, List, [], ◌∷◌, Option}
-use Rattle.told_mail.specs.declared.exchange.Exchange.{Exchange}
+use Rattle.told_folder.specs.declared.exchange.Exchange.{Exchange}
 use Rattle.imap_exchange.specs.Exchanges.{Done, VerdictOf}
 use Rattle.imap_exchange.specs.Answering.{selected_by}
 use Rattle.imap_client.specs.declared.plan.Due.TheVariants as due

@@ -9,9 +9,9 @@ use Rattle.imap_syntax.specs.declared.command.Command.TheVariants as command
 use Rattle.imap_syntax.specs.declared.response.Response.{Response}
 use Rattle.imap_syntax.specs.declared.response.Response.TheVariants as response
 use Rattle.imap_syntax.specs.declared.response.Status.TheVariants as status
-use Rattle.told_mail.specs.declared.exchange.Exchange.{Exchange}
-use Rattle.told_mail.specs.declared.message.Folder.{Folder}
-use Rattle.told_mail.specs.declared.message.Held.{Held}
+use Rattle.told_folder.specs.declared.exchange.Exchange.{Exchange}
+use Rattle.told_folder.specs.declared.message.Folder.{Folder}
+use Rattle.told_folder.specs.declared.message.Held.{Held}
 use Rattle.told_mail.specs.Mail.{Mail, SameMail}
 use Rattle.told_mail.specs.Told.{Told}
 use Rattle.told_mail.specs.Exchanges.{after_closed, tell, validity_in}

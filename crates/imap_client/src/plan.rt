@@ -1,6 +1,6 @@
 // What is asked of a store in order.
 ghost use Rattle.std.specs.Prelude.{◌≡◌, ◌∷◌, [], List, IfOk, OnOk};
-ghost use Rattle.told_mail.specs.declared.exchange.Exchange.{Exchange as exchange_type};
+ghost use Rattle.told_folder.specs.declared.exchange.Exchange.{Exchange as exchange_type};
 ghost use Rattle.imap_client.specs.Refusals.{refusal_end};
 ghost use Rattle.imap_client.specs.declared.plan.Due.{Due as due_type};
 

@@ -10,7 +10,7 @@ use Rattle.imap_syntax.specs.declared.response.Status.TheVariants as status
 use Rattle.imap_syntax.specs.declared.command.Command.{Command}
 use Rattle.imap_syntax.specs.declared.command.Command.TheVariants.{Select, Unselect}
 use Rattle.imap_syntax.specs.Commands.{joined_pieces}
-use Rattle.told_mail.specs.declared.exchange.Exchange.{Exchange}
+use Rattle.told_folder.specs.declared.exchange.Exchange.{Exchange}
 use Rattle.imap_exchange.specs.declared.link_end.LinkEnd.{LinkEnd}
 use Rattle.imap_exchange.specs.declared.link_end.LinkEnd.TheVariants as end
 use Rattle.imap_exchange.specs.declared.link_end.TheConstants.{MAX_EXCHANGE_OCTETS, MAX_LIFE_OCTETS}

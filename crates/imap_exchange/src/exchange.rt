@@ -19,7 +19,7 @@ use gate_world::{Bytes, Link, Listed};
 use imap_grammar::write_command;
 use imap_syntax::{Code, Command, Response, Status};
 use std::alloc::{AllocError, Global};
-use told_mail::Exchange;
+use told_folder::Exchange;
 
 /// What the store answered.
 #[derive(Debug, Drop)]
