@@ -2,7 +2,7 @@
 use Rattle.std.proofs.Common.{◌≡◌, ◌≢◌, ◌≤◌, ◌<◌, ◌++◌, ◌^◌, ◌-◌, ℕ, false, List, [], ◌∷◌, Option, Some, None, Result, Ok, Err, fold, refl, sym, ◌∙◌, ap, subst, arith}
 use Rattle.std.proofs.lemmas.List.Sums.{fold-append}
 use Rattle.told_folder.specs.declared.exchange.Exchange.{Exchange}
-use Rattle.told_mail.specs.Mail.{Mail, SameMail, folder_in}
+use Rattle.told_mail.specs.Mail.{Mail, folder_in}
 use Rattle.told_folder.specs.declared.message.Folder.{Folder}
 use Rattle.told_mail.specs.Told.{Told, Counts}
 use Rattle.told_mail.specs.Exchanges.{tell}
@@ -78,11 +78,11 @@ pub counts_more : (a b c : Told) → CountsOn a b → Counts b c → CountsOn a 
 counts_more a b c first next =
     record {
       rises = omega (arith, first.rises, next.rises);
-      stands = λ same below. 
-          let b_is : a.changes ≡ b.changes = omega (arith, first.rises, next.rises, same) in
-          let b_below : b.changes < 2 ^ 64 - 1 = omega (arith, b_is, same, below) in
-          let c_is : b.changes ≡ c.changes = omega (arith, b_is, same) in
-          first.stands b_is b_below ∙ next.stands c_is below;
+      stands = λ same below.
+          let b_is : b.changes ≡ a.changes = omega (arith, first.rises, next.rises, same) in
+          let c_is : c.changes ≡ b.changes = omega (arith, b_is, same) in
+          let b_below : b.changes < 2 ^ 64 - 1 = omega (arith, c_is, below) in
+          next.stands c_is below ∙ first.stands b_is b_below;
     }
 
 -- ---- what was followed
@@ -135,8 +135,8 @@ Bodied folder uid before after life client result es = (left : LinkLife) × Fetc
 abbrev pub FollowsBody : BodyFetch → BodyFetch → LinkLife → LinkLife → ClientState → Result (Unit {0}) LinkEnd → List Event → Type 0
 FollowsBody first last life left client result es = FollowsTo (λ (f : BodyFetch). body_from f.folder f.uid (body_view f)) BodyHears first last life left client result es
 
-body_starts : {selected : Option (List ℕ)} (folder uid : ℕ) (before : Mail) (first : BodyFetch) → first.stage ≡ body_begun selected (folder_in before.folders folder) → first.mirror.mail ≡ before → body_view first ≡ body_start selected before folder
-body_starts folder uid before first stage_is mail_is = (λ i. record { stage = stage_is i; mail = mail_is i })
+body_starts : (selected : Option (List ℕ)) (folder uid : ℕ) (before : Mail) (first : BodyFetch) → first.stage ≡ body_begun selected (folder_in before.folders folder) → first.mirror.mail ≡ before → body_view first ≡ body_start selected before folder
+body_starts selected folder uid before first stage_is mail_is = (λ i. record { stage = stage_is i; mail = mail_is i })
 
 body_told : (folder uid : ℕ) (before after : Mail) (first last : BodyFetch) {xs : List Exchange} → first.folder ≡ folder → first.uid ≡ uid → first.mirror.mail ≡ before → last.mirror.mail ≡ after → HearsAll BodyHears first xs last → after ≡ fold tell before xs
 body_told folder uid before after first last {xs} folder_is uid_is mail_is after_is heard =
@@ -147,25 +147,29 @@ follows_body : {life left : LinkLife} {client : ClientState} {result : Result (U
 follows_body {life} {left} {client} {result} {es} {xs} folder uid before first folder_is uid_is start_is f =
     subst (λ (s : BodyState). Follows (body_from folder uid s) life left xs client result es) start_is (subst (λ (u : ℕ). Follows (body_from folder u (body_view first)) life left xs client result es) uid_is (subst (λ (n : ℕ). Follows (body_from n first.uid (body_view first)) life left xs client result es) folder_is f))
 
+-- the end of a fetch, as it is followed
+abbrev pub unit_end : LinkEnd → Result (Unit {0}) LinkEnd
+unit_end e = Err e
+
+same_end : (e f : LinkEnd) → unit_end e ≡ unit_end f → e ≡ f
+same_end e f is = cc
+
 -- the fetch of a body that was followed up to its end
 pub body_ended : {life left : LinkLife} {client : ClientState} {es : List Event} (e : LinkEnd) (folder uid : ℕ) (before after : Mail) (first last : BodyFetch) → first.folder ≡ folder → first.uid ≡ uid → first.stage ≡ body_begun (selected life) (folder_in before.folders folder) → first.mirror.mail ≡ before
     → last.mirror.mail ≡ after → FollowsBody first last life left client (Err e) es → FetchesBody folder uid before after life left client (Err e) es
 body_ended e folder uid before after first last folder_is uid_is stage_is mail_is after_is f =
     record {
       exchanges = f.exchanges;
-      follows = follows_body folder uid before first folder_is uid_is (body_starts folder uid before first stage_is mail_is) f.follows;
-      told = λ other. body_told folder uid before after first last folder_is uid_is mail_is after_is (f.heard (λ is. other (err_same e is)));
+      follows = follows_body folder uid before first folder_is uid_is (body_starts _ folder uid before first stage_is mail_is) f.follows;
+      told = λ other. body_told folder uid before after first last folder_is uid_is mail_is after_is (f.heard (λ is. other (ap Err (same_end e end.Memory is))));
       body = λ octets is. absurd (cc is);
     }
-  where
-    err_same : (e : LinkEnd) → Err {A = Unit {0}} e ≡ Err end.Memory → Err {A = List ℕ} e ≡ Err end.Memory
-    err_same e is = let same : e ≡ end.Memory = cc in ap Err same
 
 pub body_fetched : {life left : LinkLife} {client : ClientState} {es : List Event} (body : List ℕ) (folder uid : ℕ) (before after : Mail) (first last : BodyFetch) → first.folder ≡ folder → first.uid ≡ uid → first.stage ≡ body_begun (selected life) (folder_in before.folders folder) → first.mirror.mail ≡ before
     → last.mirror.mail ≡ after → last.stage ≡ bstage.Fetched body → FollowsBody first last life left client (Ok tt) es → FetchesBody folder uid before after life left client (Ok body) es
 body_fetched {life = life} body folder uid before after first last folder_is uid_is stage_is mail_is after_is body_is f =
     let heard = f.heard (λ is. cc) in
-    let start_is = body_starts folder uid before first stage_is mail_is in
+    let start_is = body_starts (selected life) folder uid before first stage_is mail_is in
     record {
       exchanges = f.exchanges;
       follows = follows_body folder uid before first folder_is uid_is start_is f.follows;

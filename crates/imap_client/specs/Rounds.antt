@@ -12,7 +12,7 @@ use Rattle.imap_syntax.specs.declared.response.Status.TheVariants as status
 use Rattle.told_folder.specs.declared.exchange.Exchange.{Exchange}
 use Rattle.told_folder.specs.declared.message.Folder.{Folder}
 use Rattle.told_folder.specs.declared.message.Held.{Held}
-use Rattle.told_mail.specs.Mail.{Mail, SameMail}
+use Rattle.told_mail.specs.Mail.{Mail}
 use Rattle.told_mail.specs.Told.{Told}
 use Rattle.told_mail.specs.Exchanges.{after_closed, tell, validity_in}
 use Rattle.imap_exchange.specs.declared.link_end.LinkEnd.{LinkEnd}
@@ -32,7 +32,7 @@ use Rattle.imap_client.specs.Plans.{Planned, Follows}
 -- the count never fell, and where it stands, short of its last value, the mail is the same
 pub record CountsOn (old new : Told) : Type 0 where
   pub rises : old.changes ≤ new.changes
-  pub stands : old.changes ≡ new.changes → new.changes < 2 ^ 64 - 1 → SameMail old.mail new.mail
+  pub stands : new.changes ≡ old.changes → new.changes < 2 ^ 64 - 1 → new.mail ≡ old.mail
 
 -- ---- folders
 

@@ -1,6 +1,6 @@
 // A round: LIST, and then for each folder that can be selected SELECT and what is fetched (RFC 9051 sections 6.3.2, 6.3.9
 // and 6.4.5, RFC 7162 section 3.2.5).
-ghost use Rattle.std.specs.Prelude.{◌≡◌, ◌≤◌, ◌<◌, Option, IfOk, OnOk, OnErr, IsErrOf, drop, is_some, slice_get, true};
+ghost use Rattle.std.specs.Prelude.{◌≡◌, ◌+◌, Option, IfOk, OnOk, OnErr, IsErrOf, drop, is_some, slice_get, true};
 ghost use Rattle.std.specs.List.{list_any};
 ghost use Rattle.std.specs.Option.{option_copied};
 ghost use Rattle.gate_world.specs.Causes.{Rose, LinkAlone};
@@ -56,15 +56,18 @@ fn bars_selection(attribute: &[u8]) -> bool
     attribute == b"\\noselect".as_slice() || attribute == b"\\nonexistent".as_slice()
 }
 
+fn is_barred(attributes: &[Bytes]) -> bool
+    ensures { result ≡ list_any rounds.bars_selection attributes.now }
+{
+    attributes
+        .iter()
+        .any(|attribute| bars_selection(attribute.as_slice()))
+}
+
 fn is_selectable(held: &Held) -> bool
     ensures { result ≡ rounds.is_selectable held.now }
 {
-    !held
-        .folder
-        .attributes
-        .as_slice()
-        .iter()
-        .any(|attribute| bars_selection(attribute.as_slice()))
+    !is_barred(held.folder.attributes.as_slice())
 }
 
 /// The next folder from this place on.

@@ -1,6 +1,6 @@
 mod Fronts
 mod Responses
-mod Verdicts
+pub mod Verdicts
 mod Pacing
 mod Conversing
 mod Refutations

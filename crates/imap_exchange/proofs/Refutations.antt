@@ -1,5 +1,5 @@
 -- What the definitions rule out.
-use Rattle.std.proofs.Common.{◌≡◌, ◌≢◌, ◌⊎◌, ◌++◌, ◌+◌, ◌≤◌, ℕ, zero, suc, Bool, List, [], ◌∷◌, Ok, Err, take, refl, sym, ◌∙◌, ap, subst, append_assoc, arith, inl, inr, All}
+use Rattle.std.proofs.Common.{◌≡◌, ◌≢◌, ◌⊎◌, ◌++◌, ◌+◌, ◌≤◌, ℕ, zero, suc, List, [], ◌∷◌, take, refl, sym, ◌∙◌, ap, subst, append_assoc, arith, inl, inr, All}
 use Rattle.std.proofs.lemmas.List.Sums.{sum_by-append}
 use Rattle.std.proofs.lemmas.List.Elements.{All-head, All-tail}
 use Rattle.imap_syntax.specs.Commands.{joined_pieces}
@@ -16,7 +16,7 @@ use Rattle.imap_exchange.specs.Begins.{Begins}
 use Rattle.imap_exchange.specs.Exchanges.{IsOpen, continuations, pieces_due, IsPart, Verdict, Done, Stray, Bye, BadAt, Open, IsVerdict}
 use Rattle.imap_exchange.specs.Answering.{IsCause}
 use Rattle.imap_exchange.proofs.Fronts.{same_front}
-use Rattle.imap_exchange.proofs.Verdicts.{NoneOpen, none_open, one_verdict, first_same}
+use Rattle.imap_exchange.proofs.Verdicts.{NoneOpen, none_open, one_verdict}
 
 -- open responses at the front are a front of all of them
 front_of : (vs ws : List Response) (r s b : List ℕ) → All IsOpen vs → All IsOpen ws → Begins vs r b → Begins ws s b → NoneOpen s → (more : List Response) × (ws ≡ vs ++ more)
@@ -74,7 +74,6 @@ no_end_after_an_answer tag pieces before gave took responses s code rest end.Mem
 no_end_after_an_answer tag pieces before gave took responses s code rest end.Refused v so b = absurd b
 no_end_after_an_answer tag pieces before gave took responses s code rest end.NoQresync v so b = absurd b
 no_end_after_an_answer tag pieces before gave took responses s code rest end.Lacks v so b = absurd b
-
 
 -- no tagged line says PREAUTH or BYE
 said_by : (tag : List ℕ) (s : Status) (code : Code) (text : List ℕ) → IsSpelling (Tagged tag s code) text → (s ≡ status.Ok) ⊎ (s ≡ status.No) ⊎ (s ≡ status.Bad)

@@ -12,9 +12,9 @@ ghost use Rattle.imap_exchange.specs.Answering.{selected_by, Converses, answer_o
 ghost use Rattle.imap_exchange.specs.reading.Turns.{Judges, is_settled_by};
 
 use crate::link_end::LinkEnd;
+use crate::received::Received;
 use crate::response::next_response;
 use crate::sending::send_piece;
-use crate::received::Received;
 use gate_world::{Bytes, Link, Listed};
 use imap_grammar::write_command;
 use imap_syntax::{Code, Command, Response, Status};
@@ -70,7 +70,13 @@ fn turn_of(response: Response, due: &[u8], all_due: bool) -> Turn
     ensures { Judges response due.now all_due result }
 {
     match response {
-        Response::Tagged { tag, status, code } => tagged(tag.as_slice(), status, code, due, all_due),
+        Response::Tagged { tag, status, code } => tagged(
+            tag.as_slice(),
+            status,
+            code,
+            due,
+            all_due,
+        ),
         Response::Untagged {
             status: Status::Bye,
             ..

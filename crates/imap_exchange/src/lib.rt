@@ -2,15 +2,12 @@
 //! continuation, and what the octets say of the exchange.
 #![tactic(auto)]
 
+mod exchange;
+mod laws;
 mod link_end;
 mod received;
-
 mod response;
 mod sending;
-
-mod exchange;
-
-mod laws;
 
 pub use exchange::complete;
 pub use laws::{each_piece_is_due, no_end_after_an_answer, one_verdict, statuses_of_answers};

@@ -30,7 +30,7 @@ pub struct Received {
 
 impl Model for Received {
     ghost use Rattle.std.specs.Prelude.{◌≤◌, length};
-ghost use Rattle.imap_exchange.specs.Received.{Octets, most_given};
+    ghost use Rattle.imap_exchange.specs.Received.{Octets, most_given};
 
     ghost Value = { Octets };
 

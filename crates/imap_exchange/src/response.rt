@@ -19,7 +19,11 @@ use imap_syntax::Response;
 use std::alloc::{AllocError, Global};
 
 // Takes the response off the front.
-fn take_response(alloc: Global, received: &mut Received, length: usize) -> Result<Response, AllocError>
+fn take_response(
+    alloc: Global,
+    received: &mut Received,
+    length: usize,
+) -> Result<Response, AllocError>
     requires { ScanOf received.old.octets (Whole length) }
     ensures response { IfOk result (λ v. IsSpelling v (take length received.old.octets)) }
     ensures rest { IfOk result (λ _. received.new.octets ≡ drop length received.old.octets) }

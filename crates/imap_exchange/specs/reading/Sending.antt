@@ -1,5 +1,5 @@
 -- What sending one piece adds.
-use Rattle.std.specs.Prelude.{◌≡◌, ◌<◌, ◌++◌, ◌+◌, ℕ, Bool, true, false, List, [], length, get_or}
+use Rattle.std.specs.Prelude.{◌≡◌, ◌<◌, ◌++◌, ℕ, Bool, true, false, List, [], length, get_or}
 use Rattle.gate_world.specs.declared.event.Event.{Event}
 use Rattle.gate_world.specs.Octets.{Talk}
 use Rattle.imap_exchange.specs.Responses.{Ends}

@@ -1,9 +1,8 @@
-use Rattle.std.proofs.Common.{◌++◌, ◌∷◌, [], ◌+◌, rules, arith, ◌∙◌, ◌≡◌, sym, subst, Bool, ap}
+use Rattle.std.proofs.Common.{rules, arith, ◌∙◌, sym, subst, Bool, ap}
 use Rattle.std.proofs.lemmas.Result.{err_from_is_err_and}
 use Rattle.gate_world.proofs.Joins.{join, widen}
-use Rattle.imap_exchange.specs.Exchanges.{continuations, is_continue}
+use Rattle.imap_exchange.specs.Exchanges.{is_continue}
 use Rattle.imap_exchange.specs.reading.Sending.{Offers, piece_at}
-use Rattle.imap_syntax.specs.declared.response.Response.{Response}
 use Rattle.imap_exchange.proofs.Conversing.{first_piece, heard, unheard, wanting, opened, one_not_continue, one_continue, continued, rose_later, done, not_whole, ends}
 use Rattle.imap_exchange.proofs.exchange.converse.Goals as goal
 

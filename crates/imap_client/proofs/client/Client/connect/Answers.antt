@@ -1,7 +1,7 @@
 use Rattle.std.proofs.Common.{◌∙◌}
 use Rattle.gate_world.proofs.Joins.{join}
 use Rattle.imap_client.proofs.Greetings.{connected}
-use Rattle.imap_client.proofs.dialing.Client.connect.Goals as goal
+use Rattle.imap_client.proofs.client.Client.connect.Goals as goal
 
 pub returns-in-Ok-clause-tape : goal.returns-in-Ok-clause-tape
 returns-in-Ok-clause-tape g c =

@@ -1,6 +1,6 @@
 use Rattle.gate_world.proofs.Joins.{join}
 use Rattle.imap_client.proofs.Greetings.{lived, unwelcome}
-use Rattle.imap_client.proofs.dialing.Client.live.Goals as goal
+use Rattle.imap_client.proofs.client.Client.live.Goals as goal
 
 pub returns-in-Ok-clause-tape : goal.returns-in-Ok-clause-tape
 returns-in-Ok-clause-tape g c =
