@@ -1,0 +1,3 @@
+-- Parts of requests and references as the code has them: private clauses and proofs alone speak of it.
+pub mod Forms
+pub mod Referring
