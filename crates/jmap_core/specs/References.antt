@@ -9,10 +9,15 @@ use Rattle.jmap_core.specs.declared.method_error.MethodError.TheVariants.{Invali
 
 -- ---- paths
 
+-- the text after this first octet
+abbrev pub after_first : ℕ → List ℕ → Option (List ℕ)
+after_first octet [] = None
+after_first octet (first ∷ rest) = if first == octet then Some rest else None
+
 -- the segments of a JSON Pointer (RFC 6901 section 3), each a `/` and a token
 abbrev pub segments_of : List ℕ → Option (List (List ℕ))
 segments_of [] = Some []
-segments_of (first ∷ rest) = if first == 47 then Some (map (λ token. 47 ∷ token) (slice_split (λ b. b == 47) rest)) else None
+segments_of (first ∷ rest) = option_map (λ tokens. map (λ token. 47 ∷ token) (slice_split (λ b. b == 47) tokens)) (after_first 47 (first ∷ rest))
 
 abbrev pub items_append : Items → Items → Items
 items_append no_items es = es
@@ -78,8 +83,7 @@ value_of earlier reference = option_and_then (λ call. at_path reference.path ca
 
 -- the name after a `#`
 abbrev pub referring : List ℕ → Option (List ℕ)
-referring [] = None
-referring (first ∷ name) = if first == 35 then Some name else None
+referring key = after_first 35 key
 
 -- a member by reference has the form of one, and its name isn't there besides
 abbrev pub is_proper : Data → Option (List ℕ) → Data → Bool

@@ -45,10 +45,10 @@ texts_in (item d ds) = option_and_then (λ text. option_map (λ texts. text ∷ 
 
 -- a call is a text, an object and a text
 abbrev pub call_from : Option (List ℕ) → Data → Option Members → Option (List ℕ) → Option CallData
-call_from (Some name) arguments (Some members) (Some id) = Some (record { name = name; arguments = arguments; id = id })
-call_from (Some name) arguments (Some members) None = None
+call_from (Some name) arguments (Some found) (Some id) = Some (record { name = name; arguments = arguments; id = id })
+call_from (Some name) arguments (Some found) None = None
 call_from (Some name) arguments None id = None
-call_from None arguments members id = None
+call_from None arguments found id = None
 
 abbrev pub call_of_items : Items → Option CallData
 call_of_items no_items = None

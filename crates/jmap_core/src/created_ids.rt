@@ -1,8 +1,9 @@
 // The ids of what was created, by creation id.
 ghost use Rattle.std.specs.Prelude.{◌≡◌, [], length, option_map, IfOk, OnOk, OnErr};
 ghost use Rattle.serde_json.specs.Data.{object};
-ghost use Rattle.serde_json.specs.View.{view};
-ghost use Rattle.jmap_core.specs.CreatedIds.{put_id, id_of, pair_at, id_members};
+ghost use Rattle.serde_json.specs.View.{view, members_view};
+ghost use Rattle.jmap_core.specs.CreatedIds.{put_id, id_of, id_members};
+ghost use Rattle.jmap_core.specs.reading.Pairs.{pairs};
 
 use gate_world::Text;
 use serde_json::{Map, Value, put};
@@ -22,6 +23,17 @@ impl Model for CreatedIds {
     ghost Value = { List (List ℕ × List ℕ) };
 
     ghost view = { λ c. map (λ e. (string_bytes e.0, e.1)) c.ids.entries };
+}
+
+fn members_of(alloc: Global, ids: &BTreeMap<String, Text>) -> Result<Map<String, Value>, AllocError>
+    ensures { IfOk result (λ members. members_view members.entries ≡ id_members (pairs ids.now.entries)) }
+{
+    let mut members = Map::new(alloc);
+    for (creation, id) in ids.iter() {
+        let id = Value::try_from_str(alloc, id.as_str())?;
+        put(&mut members, alloc, creation.as_str(), id)?;
+    }
+    Ok(members)
 }
 
 impl CreatedIds {
@@ -51,17 +63,6 @@ impl CreatedIds {
         self.ids.len()
     }
 
-    /// The creation id and the id at the place, in the byte order of creation ids. Takes no memory, and as many steps
-    /// as the place.
-    pub fn at(&self, at: usize) -> Option<(&str, &str)>
-        ensures { option_map (λ p. (p.0.now, p.1.now)) result ≡ pair_at at self.now }
-    {
-        match self.ids.iter().nth(at) {
-            None => None,
-            Some((creation, id)) => Some((creation.as_str(), id.as_str())),
-        }
-    }
-
     /// Gives the creation id this id, also where it had another.
     pub fn put(&mut self, alloc: Global, creation: &str, id: &str) -> Result<(), AllocError>
         ensures put { OnOk result (self.new ≡ put_id creation.now id.now self.old) }
@@ -77,10 +78,7 @@ impl CreatedIds {
     pub(crate) fn to_value(&self, alloc: Global) -> Result<Value, AllocError>
         ensures { IfOk result (λ value. view value ≡ object (id_members self.now)) }
     {
-        let mut members = Map::new(alloc);
-        for (creation, id) in self.ids.iter() {
-            put(&mut members, alloc, creation.as_str(), Value::try_from_str(alloc, id.as_str())?)?;
-        }
+        let members = members_of(alloc, &self.ids)?;
         Ok(Value::Object(members))
     }
 }

@@ -1,7 +1,8 @@
 // Paths of result references: JSON Pointers (RFC 6901) in which `*` maps over an array.
-ghost use Rattle.std.specs.Prelude.{◌≡◌, ◌∷◌, ◌==◌, IfOk, OnOk, map, option_map, string_bytes};
+ghost use Rattle.std.specs.Prelude.{◌≡◌, ◌∷◌, ◌==◌, Some, None, IfOk, IfErr, OnOk, map, option_map, string_bytes};
 ghost use Rattle.std.specs.List.{slice_split};
-ghost use Rattle.serde_json.specs.Data.{array, no_items};
+ghost use Rattle.serde_json.specs.Data.{array, item, no_items};
+ghost use Rattle.serde_json.specs.Find.{as_array};
 ghost use Rattle.serde_json.specs.View.{view, items_view};
 ghost use Rattle.jmap_core.specs.References.{items_append, joined, mapped};
 ghost use Rattle.jmap_core.specs.References as spec;
@@ -29,6 +30,13 @@ fn segments_after(alloc: Global, rest: &str) -> Result<Vec<String>, AllocError>
     Ok(segments)
 }
 
+/// The text after its first slash.
+fn after_slash(text: &str) -> Option<&str>
+    ensures { option_map (λ t. t.now) result ≡ spec.after_first 47 text.now }
+{
+    text.strip_prefix('/')
+}
+
 /// The segments of a pointer, or none where the path is no pointer.
 fn segments_of(alloc: Global, path: &str) -> Result<Option<Vec<String>>, AllocError>
     ensures { IfOk result (λ o. option_map (λ v. map string_bytes v.items) o
@@ -37,9 +45,20 @@ fn segments_of(alloc: Global, path: &str) -> Result<Option<Vec<String>>, AllocEr
     if path.is_empty() {
         return Ok(Some(Vec::new(alloc)));
     }
-    match path.strip_prefix('/') {
+    match after_slash(path) {
         None => Ok(None),
         Some(rest) => Ok(Some(segments_after(alloc, rest)?)),
+    }
+}
+
+/// The items of an array, or the value itself.
+fn items_of(value: Value) -> Result<Vec<Value>, Value>
+    ensures array { IfOk result (λ v. as_array (view value) ≡ Some (items_view v.items)) }
+    ensures other { IfErr result (λ other. (as_array (view other) ≡ None) × (view other ≡ view value)) }
+{
+    match value {
+        Value::Array(items) => Ok(items),
+        other => Err(other),
     }
 }
 
@@ -48,20 +67,25 @@ fn join(found: &mut Vec<Value>, value: Value) -> Result<(), AllocError>
     ensures { OnOk result (items_view found.new.items
         ≡ items_append (items_view found.old.items) (joined (view value) no_items)) }
 {
-    match value {
-        Value::Array(items) => append(found, items),
-        other => Ok(found.push(other)?),
+    match items_of(value) {
+        Ok(items) => append(found, items),
+        Err(other) => push_value(found, other),
     }
 }
 
-fn append(found: &mut Vec<Value>, items: Vec<Value>) -> Result<(), AllocError>
+fn push_value(found: &mut Vec<Value>, value: Value) -> Result<(), AllocError>
+    ensures { OnOk result (items_view found.new.items
+        ≡ items_append (items_view found.old.items) (item (view value) no_items)) }
+{
+    found.push(value)?;
+    Ok(())
+}
+
+fn append(found: &mut Vec<Value>, mut items: Vec<Value>) -> Result<(), AllocError>
     ensures { OnOk result (items_view found.new.items
         ≡ items_append (items_view found.old.items) (items_view items.items)) }
 {
-    for item in items {
-        found.push(item)?;
-    }
-    Ok(())
+    found.append(&mut items)
 }
 
 /// The array of what stands at the segments in each item, joined by one level.

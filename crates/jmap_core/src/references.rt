@@ -62,7 +62,7 @@ fn call_with<'a>(earlier: &'a [Call], id: &str) -> Option<&'a Call>
 /// The first response with the reference's call id, if it has its name.
 fn response_to<'a>(reference: Reference<'_>, earlier: &'a [Call]) -> Option<&'a Call>
     ensures { option_map (λ c. call_data c.now) result
-        ≡ spec.response_to (reference_data reference) (map call_data earlier.now) }
+        ≡ spec.response_to (reference_data reference.entry) (map call_data earlier.now) }
 {
     let call = call_with(earlier, reference.result_of)?;
     if call.name.as_str() == reference.name {
@@ -79,7 +79,7 @@ fn value_of(
     reference: Reference<'_>,
 ) -> Result<Option<Value>, AllocError>
     ensures { IfOk result (λ o. option_map view o
-        ≡ spec.value_of (map call_data earlier.now) (reference_data reference)) }
+        ≡ spec.value_of (map call_data earlier.now) (reference_data reference.entry)) }
 {
     match response_to(reference, earlier) {
         None => Ok(None),

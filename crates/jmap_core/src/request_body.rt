@@ -26,8 +26,13 @@ fn json_of(alloc: Global, body: &[u8]) -> Result<Value, RequestError>
 {
     match Value::from_slice(alloc, body) {
         Ok(value) => Ok(value),
-        Err(error) if error.is_memory() => Err(RequestError::Memory),
-        Err(_) => Err(RequestError::NotJson),
+        Err(error) => {
+            if error.is_memory() {
+                Err(RequestError::Memory)
+            } else {
+                Err(RequestError::NotJson)
+            }
+        }
     }
 }
 
@@ -170,8 +175,8 @@ fn with_capability(uses: Using, name: &str) -> Option<Using>
 }
 
 /// The capabilities that names use, if they name no other.
-fn using_of(names: &[&str]) -> Option<Using>
-    ensures { result ≡ known_capabilities (map (λ t. t.now) names.now) }
+fn using_of(names: &Vec<&str>) -> Option<Using>
+    ensures { result ≡ known_capabilities (map (λ t. t.now) names.now.items) }
 {
     let mut uses = Using {
         core: false,
@@ -187,7 +192,9 @@ fn using_of(names: &[&str]) -> Option<Using>
 fn admitted(form: Form<'_>) -> Result<Request, RequestError>
     ensures { Agrees Memory request_data result (spec.admitted (form_data form.entry)) }
 {
-    let using = using_of(form.names.as_slice()).ok_or(RequestError::UnknownCapability)?;
+    let Some(using) = using_of(&form.names) else {
+        return Err(RequestError::UnknownCapability);
+    };
     if form.calls.len() > MAX_CALLS_IN_REQUEST {
         return Err(RequestError::Limit {
             name: LimitName::MaxCallsInRequest,
