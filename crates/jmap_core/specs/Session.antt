@@ -47,19 +47,41 @@ account_data user = object
     (member (codes "name") (string user)
     no_members))))
 
+abbrev pub accounts_data : List ℕ → Data
+accounts_data user = object (member (codes "a1") (account_data user) no_members)
+
+abbrev pub capabilities_data : Data
+capabilities_data = object
+    (member (codes "urn:ietf:params:jmap:core") core_limits
+    (member (codes "urn:ietf:params:jmap:mail") (object no_members)
+    no_members))
+
+abbrev pub primary_accounts_data : Data
+primary_accounts_data = object (member (codes "urn:ietf:params:jmap:mail") (string (codes "a1")) no_members)
+
+-- the paths under the base URL
+abbrev pub api_path : List ℕ
+api_path = codes "/jmap/api"
+
+abbrev pub download_path : List ℕ
+download_path = codes "/jmap/download/{accountId}/{blobId}/{name}?accept={type}"
+
+abbrev pub events_path : List ℕ
+events_path = codes "/jmap/eventsource?types={types}&closeafter={closeafter}&ping={ping}"
+
+abbrev pub upload_path : List ℕ
+upload_path = codes "/jmap/upload/{accountId}"
+
 -- the Session of this user under this base URL
 abbrev pub session_data : List ℕ → List ℕ → Data
 session_data user base = object
-    (member (codes "accounts") (object (member (codes "a1") (account_data user) no_members))
-    (member (codes "apiUrl") (string (base ++ codes "/jmap/api"))
-    (member (codes "capabilities") (object
-        (member (codes "urn:ietf:params:jmap:core") core_limits
-        (member (codes "urn:ietf:params:jmap:mail") (object no_members)
-        no_members)))
-    (member (codes "downloadUrl") (string (base ++ codes "/jmap/download/{accountId}/{blobId}/{name}?accept={type}"))
-    (member (codes "eventSourceUrl") (string (base ++ codes "/jmap/eventsource?types={types}&closeafter={closeafter}&ping={ping}"))
-    (member (codes "primaryAccounts") (object (member (codes "urn:ietf:params:jmap:mail") (string (codes "a1")) no_members))
+    (member (codes "accounts") (accounts_data user)
+    (member (codes "apiUrl") (string (base ++ api_path))
+    (member (codes "capabilities") capabilities_data
+    (member (codes "downloadUrl") (string (base ++ download_path))
+    (member (codes "eventSourceUrl") (string (base ++ events_path))
+    (member (codes "primaryAccounts") primary_accounts_data
     (member (codes "state") (string (session_state_text user base))
-    (member (codes "uploadUrl") (string (base ++ codes "/jmap/upload/{accountId}"))
+    (member (codes "uploadUrl") (string (base ++ upload_path))
     (member (codes "username") (string user)
     no_members)))))))))

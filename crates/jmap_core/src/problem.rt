@@ -1,7 +1,8 @@
 // The answers to bodies that are no request, which are constant.
 ghost use Rattle.std.specs.Prelude.{◌≡◌};
 ghost use Rattle.jmap_core.specs.Problem.{status_of, text_of_problem};
-ghost use Rattle.jmap_core.specs.declared.request.RequestError.TheVariants.{Limit};
+ghost use Rattle.jmap_core.specs.declared.request.RequestError.TheVariants.{NotJson, NotRequest, UnknownCapability, Limit};
+ghost use Rattle.jmap_core.specs.declared.request.LimitName.TheVariants.{MaxSizeRequest, MaxCallsInRequest, MaxSizeUpload};
 
 use crate::request::{LimitName, RequestError};
 
@@ -20,6 +21,42 @@ const MAX_CALLS_IN_REQUEST: &[u8] =
 
 const MAX_SIZE_UPLOAD: &[u8] =
     b"{\"limit\":\"maxSizeUpload\",\"status\":413,\"type\":\"urn:ietf:params:jmap:error:limit\"}";
+
+fn not_json() -> &'static [u8]
+    ensures { result.now ≡ text_of_problem NotJson }
+{
+    NOT_JSON
+}
+
+fn not_request() -> &'static [u8]
+    ensures { result.now ≡ text_of_problem NotRequest }
+{
+    NOT_REQUEST
+}
+
+fn unknown_capability() -> &'static [u8]
+    ensures { result.now ≡ text_of_problem UnknownCapability }
+{
+    UNKNOWN_CAPABILITY
+}
+
+fn request_too_large() -> &'static [u8]
+    ensures { result.now ≡ text_of_problem (Limit MaxSizeRequest) }
+{
+    MAX_SIZE_REQUEST
+}
+
+fn too_many_calls() -> &'static [u8]
+    ensures { result.now ≡ text_of_problem (Limit MaxCallsInRequest) }
+{
+    MAX_CALLS_IN_REQUEST
+}
+
+fn upload_too_large() -> &'static [u8]
+    ensures { result.now ≡ text_of_problem (Limit MaxSizeUpload) }
+{
+    MAX_SIZE_UPLOAD
+}
 
 /// The HTTP status of the answer: 413 for a size that is too large, 503 out of memory, else 400.
 pub fn problem_status(error: RequestError) -> u16
@@ -40,9 +77,9 @@ pub fn problem_text(error: RequestError) -> &'static [u8]
     ensures { result.now ≡ text_of_problem error }
 {
     match error {
-        RequestError::NotJson => NOT_JSON,
-        RequestError::NotRequest => NOT_REQUEST,
-        RequestError::UnknownCapability => UNKNOWN_CAPABILITY,
+        RequestError::NotJson => not_json(),
+        RequestError::NotRequest => not_request(),
+        RequestError::UnknownCapability => unknown_capability(),
         RequestError::Limit { name } => limit_text(name),
         RequestError::Memory => b"",
     }
@@ -52,8 +89,8 @@ fn limit_text(name: LimitName) -> &'static [u8]
     ensures { result.now ≡ text_of_problem (Limit name) }
 {
     match name {
-        LimitName::MaxSizeRequest => MAX_SIZE_REQUEST,
-        LimitName::MaxCallsInRequest => MAX_CALLS_IN_REQUEST,
-        LimitName::MaxSizeUpload => MAX_SIZE_UPLOAD,
+        LimitName::MaxSizeRequest => request_too_large(),
+        LimitName::MaxCallsInRequest => too_many_calls(),
+        LimitName::MaxSizeUpload => upload_too_large(),
     }
 }

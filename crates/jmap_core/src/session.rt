@@ -1,10 +1,21 @@
 // The Session and its state.
-ghost use Rattle.std.specs.Prelude.{◌≡◌, ◌++◌, IfOk, string_bytes};
-ghost use Rattle.serde_json.specs.View.{view};
-ghost use Rattle.jmap_core.specs.Session.{session_state_text, core_limits, mail_limits, account_data, session_data};
+ghost use Rattle.std.specs.Prelude.{◌≡◌, ◌++◌, map, IfOk, string_bytes};
+ghost use Rattle.serde_json.specs.Data.{array, string};
+ghost use Rattle.serde_json.specs.View.{view, items_of};
+ghost use Rattle.jmap_core.specs.Session.{session_state_text, core_limits, email_orders, mail_limits, account_data, accounts_data, capabilities_data, primary_accounts_data, session_data};
+ghost use Rattle.jmap_core.specs.Session.{api_path, download_path, events_path, upload_path};
 
-use serde_json::{Value, json};
+use serde_json::{Map, Value, json, put};
 use std::alloc::{AllocError, Global};
+
+const API_PATH: &str = "/jmap/api";
+
+const DOWNLOAD_PATH: &str = "/jmap/download/{accountId}/{blobId}/{name}?accept={type}";
+
+const EVENTS_PATH: &str =
+    "/jmap/eventsource?types={types}&closeafter={closeafter}&ping={ping}";
+
+const UPLOAD_PATH: &str = "/jmap/upload/{accountId}";
 
 /// The Session's state for this user and base URL (RFC 8620 section 2): `1;`, the user's length in octets, `;`,
 /// the user, `;`, the base.
@@ -29,14 +40,21 @@ fn core_limits(alloc: Global) -> Result<Value, AllocError>
     })
 }
 
+fn email_orders(alloc: Global) -> Result<Value, AllocError>
+    ensures { IfOk result (λ value. view value ≡ array (items_of (map string email_orders))) }
+{
+    json!(in alloc; [
+        "receivedAt", "size", "from", "to", "subject", "sentAt", "hasKeyword",
+        "allInThreadHaveKeyword", "someInThreadHaveKeyword",
+    ])
+}
+
 fn mail_limits(alloc: Global) -> Result<Value, AllocError>
     ensures { IfOk result (λ value. view value ≡ mail_limits) }
 {
+    let orders = email_orders(alloc)?;
     json!(in alloc; {
-        "emailQuerySortOptions": [
-            "receivedAt", "size", "from", "to", "subject", "sentAt", "hasKeyword",
-            "allInThreadHaveKeyword", "someInThreadHaveKeyword",
-        ],
+        "emailQuerySortOptions": orders,
         "maxMailboxDepth": null,
         "maxMailboxesPerEmail": 1,
         "maxSizeAttachmentsPerEmail": 50_000_000,
@@ -63,37 +81,70 @@ fn url(alloc: Global, base: &str, path: &str) -> Result<String, AllocError>
     format!(in alloc; "{base}{path}")
 }
 
+fn accounts(alloc: Global, user: &str) -> Result<Value, AllocError>
+    ensures { IfOk result (λ value. view value ≡ accounts_data user.now) }
+{
+    let account = account_value(alloc, user)?;
+    json!(in alloc; {"a1": account})
+}
+
+fn capabilities(alloc: Global) -> Result<Value, AllocError>
+    ensures { IfOk result (λ value. view value ≡ capabilities_data) }
+{
+    let limits = core_limits(alloc)?;
+    json!(in alloc; {
+        "urn:ietf:params:jmap:core": limits,
+        "urn:ietf:params:jmap:mail": {},
+    })
+}
+
+fn primary_accounts(alloc: Global) -> Result<Value, AllocError>
+    ensures { IfOk result (λ value. view value ≡ primary_accounts_data) }
+{
+    json!(in alloc; {"urn:ietf:params:jmap:mail": "a1"})
+}
+
+/// The URLs under a base URL.
+#[derive(Drop)]
+struct Urls {
+    api: String,
+    download: String,
+    events: String,
+    upload: String,
+}
+
+fn urls_under(alloc: Global, base: &str) -> Result<Urls, AllocError>
+    ensures api { IfOk result (λ urls. string_bytes urls.api ≡ base.now ++ api_path) }
+    ensures download { IfOk result (λ urls. string_bytes urls.download ≡ base.now ++ download_path) }
+    ensures events { IfOk result (λ urls. string_bytes urls.events ≡ base.now ++ events_path) }
+    ensures upload { IfOk result (λ urls. string_bytes urls.upload ≡ base.now ++ upload_path) }
+{
+    Ok(Urls {
+        api: url(alloc, base, API_PATH)?,
+        download: url(alloc, base, DOWNLOAD_PATH)?,
+        events: url(alloc, base, EVENTS_PATH)?,
+        upload: url(alloc, base, UPLOAD_PATH)?,
+    })
+}
+
 /// The Session of this user under this base URL (RFC 8620 section 2).
 pub fn session_object(alloc: Global, user: &str, base: &str) -> Result<Value, AllocError>
     ensures { IfOk result (λ value. view value ≡ session_data user.now base.now) }
 {
-    let account = account_value(alloc, user)?;
-    let limits = core_limits(alloc)?;
-    let api = url(alloc, base, "/jmap/api")?;
-    let download = url(
-        alloc,
-        base,
-        "/jmap/download/{accountId}/{blobId}/{name}?accept={type}",
-    )?;
-    let events = url(
-        alloc,
-        base,
-        "/jmap/eventsource?types={types}&closeafter={closeafter}&ping={ping}",
-    )?;
-    let upload = url(alloc, base, "/jmap/upload/{accountId}")?;
+    let accounts = accounts(alloc, user)?;
+    let capabilities = capabilities(alloc)?;
+    let primary = primary_accounts(alloc)?;
+    let urls = urls_under(alloc, base)?;
     let state = session_state(alloc, user, base)?;
-    json!(in alloc; {
-        "accounts": {"a1": account},
-        "apiUrl": api,
-        "capabilities": {
-            "urn:ietf:params:jmap:core": limits,
-            "urn:ietf:params:jmap:mail": {},
-        },
-        "downloadUrl": download,
-        "eventSourceUrl": events,
-        "primaryAccounts": {"urn:ietf:params:jmap:mail": "a1"},
-        "state": state,
-        "uploadUrl": upload,
-        "username": user,
-    })
+    let mut session = Map::new(alloc);
+    put(&mut session, alloc, "accounts", accounts)?;
+    put(&mut session, alloc, "apiUrl", Value::String(urls.api))?;
+    put(&mut session, alloc, "capabilities", capabilities)?;
+    put(&mut session, alloc, "downloadUrl", Value::String(urls.download))?;
+    put(&mut session, alloc, "eventSourceUrl", Value::String(urls.events))?;
+    put(&mut session, alloc, "primaryAccounts", primary)?;
+    put(&mut session, alloc, "state", Value::String(state))?;
+    put(&mut session, alloc, "uploadUrl", Value::String(urls.upload))?;
+    put(&mut session, alloc, "username", Value::try_from_str(alloc, user)?)?;
+    Ok(Value::Object(session))
 }
