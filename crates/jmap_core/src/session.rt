@@ -75,10 +75,16 @@ fn account_value(alloc: Global, user: &str) -> Result<Value, AllocError>
     })
 }
 
-fn url(alloc: Global, base: &str, path: &str) -> Result<String, AllocError>
-    ensures { IfOk result (λ text. string_bytes text ≡ base.now ++ path.now) }
+fn url(alloc: Global, base: &str, path: &str) -> Result<Value, AllocError>
+    ensures { IfOk result (λ value. view value ≡ string (base.now ++ path.now)) }
 {
-    format!(in alloc; "{base}{path}")
+    Ok(Value::String(format!(in alloc; "{base}{path}")?))
+}
+
+fn state_value(alloc: Global, user: &str, base: &str) -> Result<Value, AllocError>
+    ensures { IfOk result (λ value. view value ≡ string (session_state_text user.now base.now)) }
+{
+    Ok(Value::String(session_state(alloc, user, base)?))
 }
 
 fn accounts(alloc: Global, user: &str) -> Result<Value, AllocError>
@@ -107,17 +113,17 @@ fn primary_accounts(alloc: Global) -> Result<Value, AllocError>
 /// The URLs under a base URL.
 #[derive(Drop)]
 struct Urls {
-    api: String,
-    download: String,
-    events: String,
-    upload: String,
+    api: Value,
+    download: Value,
+    events: Value,
+    upload: Value,
 }
 
 fn urls_under(alloc: Global, base: &str) -> Result<Urls, AllocError>
-    ensures api { IfOk result (λ urls. string_bytes urls.api ≡ base.now ++ api_path) }
-    ensures download { IfOk result (λ urls. string_bytes urls.download ≡ base.now ++ download_path) }
-    ensures events { IfOk result (λ urls. string_bytes urls.events ≡ base.now ++ events_path) }
-    ensures upload { IfOk result (λ urls. string_bytes urls.upload ≡ base.now ++ upload_path) }
+    ensures api { IfOk result (λ urls. view urls.api ≡ string (base.now ++ api_path)) }
+    ensures download { IfOk result (λ urls. view urls.download ≡ string (base.now ++ download_path)) }
+    ensures events { IfOk result (λ urls. view urls.events ≡ string (base.now ++ events_path)) }
+    ensures upload { IfOk result (λ urls. view urls.upload ≡ string (base.now ++ upload_path)) }
 {
     Ok(Urls {
         api: url(alloc, base, API_PATH)?,
@@ -135,16 +141,17 @@ pub fn session_object(alloc: Global, user: &str, base: &str) -> Result<Value, Al
     let capabilities = capabilities(alloc)?;
     let primary = primary_accounts(alloc)?;
     let urls = urls_under(alloc, base)?;
-    let state = session_state(alloc, user, base)?;
+    let state = state_value(alloc, user, base)?;
+    let name = Value::try_from_str(alloc, user)?;
     let mut session = Map::new(alloc);
     put(&mut session, alloc, "accounts", accounts)?;
-    put(&mut session, alloc, "apiUrl", Value::String(urls.api))?;
+    put(&mut session, alloc, "apiUrl", urls.api)?;
     put(&mut session, alloc, "capabilities", capabilities)?;
-    put(&mut session, alloc, "downloadUrl", Value::String(urls.download))?;
-    put(&mut session, alloc, "eventSourceUrl", Value::String(urls.events))?;
+    put(&mut session, alloc, "downloadUrl", urls.download)?;
+    put(&mut session, alloc, "eventSourceUrl", urls.events)?;
     put(&mut session, alloc, "primaryAccounts", primary)?;
-    put(&mut session, alloc, "state", Value::String(state))?;
-    put(&mut session, alloc, "uploadUrl", Value::String(urls.upload))?;
-    put(&mut session, alloc, "username", Value::try_from_str(alloc, user)?)?;
+    put(&mut session, alloc, "state", state)?;
+    put(&mut session, alloc, "uploadUrl", urls.upload)?;
+    put(&mut session, alloc, "username", name)?;
     Ok(Value::Object(session))
 }
