@@ -106,7 +106,7 @@ using_of names = record { core = is_among core_capability names; mail = is_among
 abbrev pub admitted : Form → Result RequestData RequestError
 admitted form = if list_all is_capability form.uses
     then (if nat_lt 16 (length form.calls) then Err (Limit MaxCallsInRequest)
-        else Ok (record { uses = using_of form.uses; calls = form.calls; created = form.created }))
+    else Ok (record { uses = using_of form.uses; calls = form.calls; created = form.created }))
     else Err UnknownCapability
 
 abbrev pub admitted_form : Option Form → Result RequestData RequestError

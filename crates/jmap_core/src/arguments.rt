@@ -50,7 +50,10 @@ pub fn check_count(count: usize) -> Result<(), MethodError>
 }
 
 /// The texts of a list, or none where an item is no text.
-pub(crate) fn texts_in<'a>(alloc: Global, items: &'a Vec<Value>) -> Result<Option<Vec<&'a str>>, AllocError>
+pub(crate) fn texts_in<'a>(
+    alloc: Global,
+    items: &'a Vec<Value>,
+) -> Result<Option<Vec<&'a str>>, AllocError>
     ensures { IfOk result (λ texts. option_map (λ v. map (λ t. t.now) v.items) texts
         ≡ texts_in (items_view items.now.items)) }
 {

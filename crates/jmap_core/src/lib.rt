@@ -21,14 +21,14 @@ pub use arguments::{
     whole_or_null,
 };
 pub use call::Call;
-pub use created_ids::CreatedIds;
 pub use core_echo::echo;
+pub use created_ids::CreatedIds;
 pub use method::{Method, method_named, needs_mail};
 pub use method_error::{MethodError, error_arguments};
 pub use problem::{problem_status, problem_text};
-pub use request_body::{MAX_CALLS_IN_REQUEST, read_request};
 pub use references::resolve;
 pub use request::{LimitName, Request, RequestError, Using};
+pub use request_body::{MAX_CALLS_IN_REQUEST, read_request};
 pub use response::{response_text, response_value};
 pub use session::{session_object, session_state};
 pub use state::{State, state_text};

@@ -95,7 +95,10 @@ fn ids_given(alloc: Global, members: &Map<String, Value>) -> Result<Option<Creat
 }
 
 /// What stands at `createdIds`: nothing or null, or an object of texts.
-fn created_in(alloc: Global, value: Option<&Value>) -> Result<Option<Option<CreatedIds>>, AllocError>
+fn created_in(
+    alloc: Global,
+    value: Option<&Value>,
+) -> Result<Option<Option<CreatedIds>>, AllocError>
     ensures { IfOk result (λ o. o ≡ spec.created_in (option_map view (option_copied value.entry))) }
 {
     match value {

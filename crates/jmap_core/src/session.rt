@@ -12,8 +12,7 @@ const API_PATH: &str = "/jmap/api";
 
 const DOWNLOAD_PATH: &str = "/jmap/download/{accountId}/{blobId}/{name}?accept={type}";
 
-const EVENTS_PATH: &str =
-    "/jmap/eventsource?types={types}&closeafter={closeafter}&ping={ping}";
+const EVENTS_PATH: &str = "/jmap/eventsource?types={types}&closeafter={closeafter}&ping={ping}";
 
 const UPLOAD_PATH: &str = "/jmap/upload/{accountId}";
 
