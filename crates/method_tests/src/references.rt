@@ -21,6 +21,11 @@ const EMAILS: &str = "{\"list\":[{\"id\":\"msg1023\",\"threadId\":\"trd194\"},{\
 
 const THREADS: &str = "{\"list\":[{\"id\":\"trd194\",\"emailIds\":[\"msg1020\",\"msg1021\",\"msg1023\"]},{\"id\":\"trd114\",\"emailIds\":[\"msg201\",\"msg223\"]}],\"a/b~c\":{\"*\":[[1],2]}}";
 
+fn push(calls: &mut Vec<Call>, call: Call) -> Result<(), AllocError> {
+    calls.push(call)?;
+    Ok(())
+}
+
 /// The responses that references speak of. The second `t0` is never found: the first error in order.
 fn earlier(alloc: Global) -> Result<Vec<Call>, Error> {
     let mut calls = Vec::new(alloc);
@@ -31,7 +36,7 @@ fn earlier(alloc: Global) -> Result<Vec<Call>, Error> {
         ("Email/get", EMAILS, "t2"),
         ("Thread/get", THREADS, "t3"),
     ] {
-        calls.push(call(alloc, name, arguments, id)?)?;
+        push(&mut calls, call(alloc, name, arguments, id)?)?;
     }
     Ok(calls)
 }
