@@ -102,8 +102,8 @@ fn count_of_ids(ids: &Option<Vec<&str>>) -> usize
 /// The checks in order: the arguments' kinds, the account, the count of ids.
 fn asked_of<'a>(alloc: Global, arguments: &'a Value) -> Result<Asked<'a>, MethodError>
     ensures { Agrees Memory (λ a. record {
-        ids = option_map (λ v. map (λ t. t.now) v.items) a.ids;
-        properties = a.properties;
+      ids = option_map (λ v. map (λ t. t.now) v.items) a.ids;
+      properties = a.properties;
     }) result (spec.asked_of (view arguments.now)) }
 {
     let account = text_at(arguments, "accountId")?;
@@ -146,8 +146,20 @@ fn mailbox_value(
     let id = Value::String(id_text(alloc, mailbox.number)?);
     let mut members = Map::new(alloc);
     put(&mut members, alloc, "id", id)?;
-    put_if(&mut members, alloc, wanted.total_emails, "totalEmails", mailbox.total_emails)?;
-    put_if(&mut members, alloc, wanted.unread_emails, "unreadEmails", mailbox.unread_emails)?;
+    put_if(
+        &mut members,
+        alloc,
+        wanted.total_emails,
+        "totalEmails",
+        mailbox.total_emails,
+    )?;
+    put_if(
+        &mut members,
+        alloc,
+        wanted.unread_emails,
+        "unreadEmails",
+        mailbox.unread_emails,
+    )?;
     Ok(Value::Object(members))
 }
 
