@@ -157,10 +157,10 @@ same_end e f is = cc
 -- the fetch of a body that was followed up to its end
 pub body_ended : {life left : LinkLife} {client : ClientState} {es : List Event} (e : LinkEnd) (folder uid : ℕ) (before after : Mail) (first last : BodyFetch) → first.folder ≡ folder → first.uid ≡ uid → first.stage ≡ body_begun (selected life) (folder_in before.folders folder) → first.mirror.mail ≡ before
     → last.mirror.mail ≡ after → FollowsBody first last life left client (Err e) es → FetchesBody folder uid before after life left client (Err e) es
-body_ended e folder uid before after first last folder_is uid_is stage_is mail_is after_is f =
+body_ended {life = life} e folder uid before after first last folder_is uid_is stage_is mail_is after_is f =
     record {
       exchanges = f.exchanges;
-      follows = follows_body folder uid before first folder_is uid_is (body_starts _ folder uid before first stage_is mail_is) f.follows;
+      follows = follows_body folder uid before first folder_is uid_is (body_starts (selected life) folder uid before first stage_is mail_is) f.follows;
       told = λ other. body_told folder uid before after first last folder_is uid_is mail_is after_is (f.heard (λ is. other (ap Err (same_end e end.Memory is))));
       body = λ octets is. absurd (cc is);
     }

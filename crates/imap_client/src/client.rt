@@ -145,7 +145,10 @@ impl Client {
             }
             Err(end) => {
                 hang_up_where(link, up);
-                self.end();
+                self.alive = false;
+                self.unread = Received::new(self.alloc);
+                self.number = 1;
+                self.selected = None;
                 Err(end)
             }
         }
