@@ -111,8 +111,7 @@ body_folded : {first last : BodyFetch} {xs : List Exchange} → HearsAll BodyHea
 body_folded HeardNone = (refl, refl, refl)
 body_folded {first} (HeardMore {xs} {mid} {after} x so (folder_is, uid_is, is)) =
     let before = body_folded so in
-    let here : body_view after ≡ body_step first.folder first.uid (body_view mid) x = is ∙ (λ i. body_step (before.0 i) (before.1 i) (body_view mid) x) in
-    (
+    let here : body_view after ≡ body_step first.folder first.uid (body_view mid) x = is ∙ (λ i. body_step (before.0 i) (before.1 i) (body_view mid) x) in (
       folder_is ∙ before.0,
       uid_is ∙ before.1,
       here ∙ ap (λ (s : BodyState). body_step first.folder first.uid s x) before.2 ∙ sym (fold-append (body_step first.folder first.uid) (body_view first) xs (x ∷ [])),
