@@ -8,14 +8,54 @@ type Row = (&'static [u8], &'static [u8], &'static str, &'static [u8]);
 
 const STARTS: [Row; 22] = [
     (b"* BYE no\r\n", b"alice", "Bye ", b"|"),
-    (b"* OK hi\r\na1 NO no\r\n* BYE\r\n", b"alice", "Refused ", b"a1 CAPABILITY\r\n|"),
-    (b"* OK hi\r\na1 BAD no\r\n", b"alice", "Refused ", b"a1 CAPABILITY\r\n|"),
-    (b"* OK hi\r\n* BYE\r\na1 NO no\r\n", b"alice", "Bye ", b"a1 CAPABILITY\r\n|"),
-    (b"* OK hi\r\na2 OK no\r\n", b"alice", "Stray ", b"a1 CAPABILITY\r\n|"),
-    (b"* OK hi\r\na1 NO no\r\na2 OK no\r\n", b"alice", "Refused ", b"a1 CAPABILITY\r\n|"),
-    (b"* OK hi\r\n*\r\n", b"alice", "Bad { at: 9 } ", b"a1 CAPABILITY\r\n|"),
-    (b"* OK hi\r\na1 NO no\r\n*\r\n", b"alice", "Refused ", b"a1 CAPABILITY\r\n|"),
-    (b"* OK hi\r\na1 OK x\r\n", b"alice", "Lost ", b"a1 CAPABILITY\r\na2 LOGIN \"alice\" \"pw\"\r\n|"),
+    (
+        b"* OK hi\r\na1 NO no\r\n* BYE\r\n",
+        b"alice",
+        "Refused ",
+        b"a1 CAPABILITY\r\n|",
+    ),
+    (
+        b"* OK hi\r\na1 BAD no\r\n",
+        b"alice",
+        "Refused ",
+        b"a1 CAPABILITY\r\n|",
+    ),
+    (
+        b"* OK hi\r\n* BYE\r\na1 NO no\r\n",
+        b"alice",
+        "Bye ",
+        b"a1 CAPABILITY\r\n|",
+    ),
+    (
+        b"* OK hi\r\na2 OK no\r\n",
+        b"alice",
+        "Stray ",
+        b"a1 CAPABILITY\r\n|",
+    ),
+    (
+        b"* OK hi\r\na1 NO no\r\na2 OK no\r\n",
+        b"alice",
+        "Refused ",
+        b"a1 CAPABILITY\r\n|",
+    ),
+    (
+        b"* OK hi\r\n*\r\n",
+        b"alice",
+        "Bad { at: 9 } ",
+        b"a1 CAPABILITY\r\n|",
+    ),
+    (
+        b"* OK hi\r\na1 NO no\r\n*\r\n",
+        b"alice",
+        "Refused ",
+        b"a1 CAPABILITY\r\n|",
+    ),
+    (
+        b"* OK hi\r\na1 OK x\r\n",
+        b"alice",
+        "Lost ",
+        b"a1 CAPABILITY\r\na2 LOGIN \"alice\" \"pw\"\r\n|",
+    ),
     // an answer that came before it was asked
     (
         b"* OK hi\r\n+ go\r\na1 OK x\r\na2 NO no\r\n",
@@ -68,9 +108,24 @@ const STARTS: [Row; 22] = [
         b"a1 CAPABILITY\r\na2 LOGIN \"alice\" \"pw\"\r\na3 CAPABILITY\r\n|",
     ),
     // a literal waits for its continuation
-    (b"* OK hi\r\na1 OK x\r\n", b"al\x80ce", "Lost ", b"a1 CAPABILITY\r\na2 LOGIN {5}\r\n|"),
-    (b"* OK hi\r\na1 OK x\r\na2 OK early\r\n", b"al\x80ce", "Stray ", b"a1 CAPABILITY\r\na2 LOGIN {5}\r\n|"),
-    (b"* OK hi\r\na1 OK x\r\na2 NO no\r\n", b"al\x80ce", "Refused ", b"a1 CAPABILITY\r\na2 LOGIN {5}\r\n|"),
+    (
+        b"* OK hi\r\na1 OK x\r\n",
+        b"al\x80ce",
+        "Lost ",
+        b"a1 CAPABILITY\r\na2 LOGIN {5}\r\n|",
+    ),
+    (
+        b"* OK hi\r\na1 OK x\r\na2 OK early\r\n",
+        b"al\x80ce",
+        "Stray ",
+        b"a1 CAPABILITY\r\na2 LOGIN {5}\r\n|",
+    ),
+    (
+        b"* OK hi\r\na1 OK x\r\na2 NO no\r\n",
+        b"al\x80ce",
+        "Refused ",
+        b"a1 CAPABILITY\r\na2 LOGIN {5}\r\n|",
+    ),
     (
         b"* OK hi\r\na1 OK x\r\n+ go\r\na2 BAD no\r\n",
         b"al\x80ce",
