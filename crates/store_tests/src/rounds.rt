@@ -1,5 +1,5 @@
 // Rounds over one mirror, life after life.
-use crate::playing::{PIECES, plain, play};
+use crate::playing::{Lives, PIECES, plain, play};
 use std::alloc::{AllocError, Global};
 use std::process::Abort;
 use std::test::Fail;
@@ -30,7 +30,7 @@ const ROUNDS: [Row; 16] = [
         (1, 0),
         "ok ok ",
         b"a5 LIST \"\" \"*\" RETURN (SUBSCRIBED)\r\na6 SELECT \"INBOX\"\r\na7 UID FETCH 1:* (UID FLAGS MODSEQ INTERNALDATE RFC822.SIZE BODY.PEEK[HEADER]<0.32768>)\r\n|",
-        b"1 INBOX 7 1 1:;",
+        b"1 INBOX\\subscribed 7 1 1:;",
     ),
     // without mod-sequences all flags are asked
     (
@@ -40,7 +40,7 @@ const ROUNDS: [Row; 16] = [
         (1, 0),
         "ok ok ",
         b"a5 LIST \"\" \"*\" RETURN (SUBSCRIBED)\r\na6 SELECT \"INBOX\"\r\na7 UID FETCH 1:* (UID FLAGS)\r\na8 UID FETCH 1:* (UID FLAGS INTERNALDATE RFC822.SIZE BODY.PEEK[HEADER]<0.32768>)\r\n|",
-        b"1 INBOX 7 0 1:;",
+        b"1 INBOX\\hasnochildren\\subscribed 7 0 1:;",
     ),
     // slices
     (
@@ -111,7 +111,7 @@ const ROUNDS: [Row; 16] = [
         (1, 4),
         "ok ok 3 octets ",
         b"a5 LIST \"\" \"*\" RETURN (SUBSCRIBED)\r\na6 SELECT \"INBOX\"\r\na7 UID FETCH 1:* (UID FLAGS MODSEQ INTERNALDATE RFC822.SIZE BODY.PEEK[HEADER]<0.32768>)\r\na8 SELECT \"b\"\r\na9 UID FETCH 1:* (UID FLAGS MODSEQ INTERNALDATE RFC822.SIZE BODY.PEEK[HEADER]<0.32768>)\r\na10 SELECT \"INBOX\" (QRESYNC (7 4))\r\na11 UID FETCH 4 (UID BODY.PEEK[]<0.50000000>)\r\n|",
-        b"1 INBOX 7 4 1:;2 a 0 0 1:;3 b 8 5 1:;4 c 0 0 1:;",
+        b"1 INBOX 7 4 1:;2 a\\noselect 0 0 1:;3 b 8 5 1:;4 c\\nonexistent 0 0 1:;",
     ),
     // the folder of the body is another now
     (
@@ -178,27 +178,42 @@ fn joined(alloc: Global, first: &[u8], rest: &[u8]) -> Result<Vec<u8>, AllocErro
     Ok(octets)
 }
 
+/// These lives have these answers and leave this mail, and this is the last that the store takes.
+fn expect_lives(
+    rt: &impl Abort,
+    alloc: Global,
+    lives: &Lives<'_>,
+    row: &Row,
+    last: &[u8],
+) -> Result<(), Fail> {
+    let played = play(alloc, lives)?;
+    assert_eq!(rt; played.answers.as_str(), row.2);
+    assert_eq!(rt; played.mail.as_slice(), row.4, "{}", row.2);
+    assert!(rt; played.took.ends_with(last), "{}", row.2);
+    Ok(())
+}
+
+fn expect_round(rt: &impl Abort, alloc: Global, row: &Row, piece: usize) -> Result<(), Fail> {
+    let mut texts = Vec::new(alloc);
+    for life in row.0 {
+        texts.push(joined(alloc, CONNECTED, life)?)?;
+    }
+    let mut links = Vec::new(alloc);
+    for text in &texts {
+        links.push(text.as_slice())?;
+    }
+    let last = joined(alloc, CONNECTING, row.3)?;
+    let mut lives = plain(&links);
+    lives.piece = piece;
+    lives.body = row.1;
+    expect_lives(rt, alloc, &lives, row, &last)
+}
+
 #[test]
 fn rounds_in_any_pieces(rt: HostRuntime) -> Result<(), Fail> {
-    let alloc = rt.alloc();
-    for (lives, body, answers, took, mail) in ROUNDS {
-        let mut texts = Vec::new(alloc);
-        for life in lives {
-            texts.push(joined(alloc, CONNECTED, life)?)?;
-        }
-        let mut links = Vec::new(alloc);
-        for text in &texts {
-            links.push(text.as_slice())?;
-        }
-        let last = joined(alloc, CONNECTING, took)?;
+    for row in ROUNDS.iter() {
         for piece in PIECES {
-            let mut row = plain(&links);
-            row.piece = piece;
-            row.body = body;
-            let played = play(alloc, &row)?;
-            assert_eq!(rt; played.answers.as_str(), answers, "{piece}");
-            assert_eq!(rt; played.mail.as_slice(), mail, "{answers} {piece}");
-            assert!(rt; played.took.ends_with(&last), "{answers} {piece}");
+            expect_round(&rt, rt.alloc(), row, piece)?;
         }
     }
     Ok(())
@@ -242,18 +257,31 @@ fn whole_life(alloc: Global) -> Result<Vec<u8>, AllocError> {
     Ok(whole)
 }
 
+/// The mail that these lives leave.
+fn expect_mail(
+    rt: &impl Abort,
+    alloc: Global,
+    links: &[&[u8]],
+    mail: &[u8],
+    count: usize,
+) -> Result<(), Fail> {
+    let played = play(alloc, &plain(links))?;
+    assert_eq!(rt; played.mail.as_slice(), mail, "{count}");
+    Ok(())
+}
+
+/// A life that is cut after `count` octets leaves what its exchanges told, and one after it the same mail as a fresh one.
+fn expect_cut(rt: &impl Abort, alloc: Global, whole: &[u8], count: usize) -> Result<(), Fail> {
+    let (cut, _) = whole.split_at(count);
+    expect_mail(rt, alloc, &[cut], told_after(count), count)?;
+    expect_mail(rt, alloc, &[cut, whole], FRESH, count)
+}
+
 #[test]
 fn a_life_cut_at_each_octet(rt: HostRuntime) -> Result<(), Fail> {
-    let alloc = rt.alloc();
-    let whole = whole_life(alloc)?;
+    let whole = whole_life(rt.alloc())?;
     for count in 0..whole.len() {
-        let (cut, _) = whole.split_at(count);
-        let first = [cut];
-        let played = play(alloc, &plain(&first))?;
-        assert_eq!(rt; played.mail.as_slice(), told_after(count), "{count}");
-        let both = [cut, whole.as_slice()];
-        let played = play(alloc, &plain(&both))?;
-        assert_eq!(rt; played.mail.as_slice(), FRESH, "{count}");
+        expect_cut(&rt, rt.alloc(), &whole, count)?;
     }
     Ok(())
 }
@@ -261,22 +289,33 @@ fn a_life_cut_at_each_octet(rt: HostRuntime) -> Result<(), Fail> {
 /// No more calls of the outside than two lives have.
 const CALLS: u64 = 18;
 
+/// Of three lives the last ends well, whichever call fails before.
+fn expect_failing(
+    rt: &impl Abort,
+    alloc: Global,
+    whole: &[u8],
+    failing: u64,
+    piece: usize,
+) -> Result<(), Fail> {
+    let links = [whole, whole, whole];
+    let mut lives = plain(&links);
+    lives.failing = failing;
+    lives.piece = piece;
+    let played = play(alloc, &lives)?;
+    assert_eq!(rt; played.mail.as_slice(), FRESH, "{piece} {failing}");
+    assert!(rt;
+        played.answers.as_str().ends_with("ok ok "),
+        "{piece} {failing}"
+    );
+    Ok(())
+}
+
 #[test]
 fn each_call_of_the_outside_failing(rt: HostRuntime) -> Result<(), Fail> {
-    let alloc = rt.alloc();
-    let whole = whole_life(alloc)?;
-    let thrice = [whole.as_slice(), whole.as_slice(), whole.as_slice()];
+    let whole = whole_life(rt.alloc())?;
     for piece in [100, 100_000] {
         for failing in 1..=CALLS {
-            let mut row = plain(&thrice);
-            row.failing = failing;
-            row.piece = piece;
-            let played = play(alloc, &row)?;
-            assert_eq!(rt; played.mail.as_slice(), FRESH, "{piece} {failing}");
-            assert!(rt;
-                played.answers.as_str().ends_with("ok ok "),
-                "{piece} {failing}"
-            );
+            expect_failing(&rt, rt.alloc(), &whole, failing, piece)?;
         }
     }
     Ok(())

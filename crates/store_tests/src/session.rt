@@ -1,5 +1,6 @@
 // How a session begins, and how it ends.
-use crate::playing::{PIECES, plain, play};
+use crate::playing::{Lives, PIECES, plain, play};
+use std::alloc::Global;
 use std::process::Abort;
 use std::test::Fail;
 
@@ -140,17 +141,33 @@ const STARTS: [Row; 22] = [
     ),
 ];
 
+/// These lives have these answers, and the store takes these octets.
+fn expect_lives(
+    rt: &impl Abort,
+    alloc: Global,
+    lives: &Lives<'_>,
+    answers: &str,
+    took: &[u8],
+) -> Result<(), Fail> {
+    let played = play(alloc, lives)?;
+    assert_eq!(rt; played.answers.as_str(), answers);
+    assert_eq!(rt; played.took.as_slice(), took, "{answers}");
+    Ok(())
+}
+
+fn expect_start(rt: &impl Abort, alloc: Global, row: &Row, piece: usize) -> Result<(), Fail> {
+    let links = [row.0];
+    let mut lives = plain(&links);
+    lives.user = row.1;
+    lives.piece = piece;
+    expect_lives(rt, alloc, &lives, row.2, row.3)
+}
+
 #[test]
 fn the_first_in_the_octets_decides(rt: HostRuntime) -> Result<(), Fail> {
-    for (link, user, answers, took) in STARTS {
+    for row in STARTS.iter() {
         for piece in PIECES {
-            let links = [link];
-            let mut row = plain(&links);
-            row.user = user;
-            row.piece = piece;
-            let played = play(rt.alloc(), &row)?;
-            assert_eq!(rt; played.answers.as_str(), answers, "{link:?} {piece}");
-            assert_eq!(rt; played.took.as_slice(), took, "{link:?} {piece}");
+            expect_start(&rt, rt.alloc(), row, piece)?;
         }
     }
     Ok(())
@@ -166,15 +183,21 @@ const HELD: [(&[u8], u64, &str); 6] = [
     (b"* OK hi\r\n", 3, "Lost "),
 ];
 
+fn expect_held(
+    rt: &impl Abort,
+    alloc: Global,
+    row: &(&'static [u8], u64, &'static str),
+) -> Result<(), Fail> {
+    let links = [row.0];
+    let mut lives = plain(&links);
+    lives.failing = row.1;
+    expect_lives(rt, alloc, &lives, row.2, b"|")
+}
+
 #[test]
 fn what_is_held_decides_where_a_write_fails(rt: HostRuntime) -> Result<(), Fail> {
-    for (link, failing, answers) in HELD {
-        let links = [link];
-        let mut row = plain(&links);
-        row.failing = failing;
-        let played = play(rt.alloc(), &row)?;
-        assert_eq!(rt; played.answers.as_str(), answers, "{link:?}");
-        assert_eq!(rt; played.took.as_slice(), b"|".as_slice(), "{link:?}");
+    for row in HELD.iter() {
+        expect_held(&rt, rt.alloc(), row)?;
     }
     Ok(())
 }
