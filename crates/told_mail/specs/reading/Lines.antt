@@ -1,5 +1,6 @@
 -- Lines of a LIST as the code reads them, and how far a loop over folders has come.
-use Rattle.std.specs.Prelude.{◌≡◌, ◌≢◌, ◌&&◌, if◌then◌else◌, not, Vec, ℕ, Bool, true, false, List, [], ◌∷◌, ◌++◌, Option, Some, None, map, take, drop, slice_get, Result, OnOk, OnErr, IfOk}
+use Rattle.std.specs.Prelude.{◌≡◌, ◌≢◌, ◌&&◌, if◌then◌else◌, not, Vec, ℕ, Bool, true, false, List, []}
+use Rattle.std.specs.Prelude.{◌∷◌, ◌++◌, Option, Some, None, map, take, drop, slice_get, Result, OnOk, OnErr, IfOk}
 use Rattle.std.specs.BTreeMap.{BTreeMap, get_by, keys}
 use Rattle.std.specs.BTreeSet.{BTreeSet, contains_by}
 use Rattle.std.specs.Cmp.Lexicographic.{slice_cmp}
