@@ -1,5 +1,7 @@
 // Requests: each refusal, beside the next one in their order, and limits at the edge.
-use jmap_core::{Request, problem_status, problem_text, read_request, session_object};
+use jmap_core::{
+    Request, problem_status, problem_text, read_request, response_text, session_object,
+};
 use std::alloc::{AllocError, Global};
 use std::process::Abort;
 use std::test::Fail;
@@ -171,5 +173,20 @@ fn session(rt: HostRuntime) -> Result<(), Fail> {
     let alloc = rt.alloc();
     let session = session_object(alloc, "alice", "http://h")?;
     assert_eq!(rt; session.to_string(alloc)?.as_str(), SESSION);
+    Ok(())
+}
+
+const CREATED: &str =
+    "{\"using\":[],\"methodCalls\":[],\"createdIds\":{\"b\":\"m1\",\"a\":\"\\u00e9\"}}";
+
+const CREATED_RESPONSE: &str =
+    "{\"createdIds\":{\"a\":\"\u{e9}\",\"b\":\"m1\"},\"methodResponses\":[],\"sessionState\":\"s\"}";
+
+#[test]
+fn created_ids(rt: HostRuntime) -> Result<(), Fail> {
+    let alloc = rt.alloc();
+    let request = read_request(alloc, CREATED.as_bytes())?;
+    let text = response_text(alloc, &[], request.created.as_ref(), "s")?;
+    assert_eq!(rt; text.as_str(), CREATED_RESPONSE);
     Ok(())
 }
