@@ -1,0 +1,4 @@
+pub mod History
+pub mod Machine
+pub mod Progress
+pub mod Beginning
