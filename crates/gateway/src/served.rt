@@ -1,0 +1,33 @@
+// How a client was served, and why a gate can't be opened.
+ghost use Rattle.std.specs.Prelude.{◌≡◌};
+ghost use Rattle.gateway.specs.declared.served.OpenError.TheVariants.{Memory};
+
+use std::alloc::AllocError;
+
+/// How one client was served.
+#[derive(Clone, Copy, Debug, PartialEq, Eq)]
+pub enum Served {
+    /// The response was sent whole.
+    Whole,
+    /// It wasn't, or there was no request.
+    Part,
+    /// No client will come.
+    NoMore,
+    /// Accepting failed.
+    AcceptFault,
+}
+
+/// Why a gate can't be opened.
+#[derive(Clone, Copy, Debug, PartialEq, Eq)]
+pub enum OpenError {
+    /// Out of memory.
+    Memory,
+}
+
+impl From<AllocError> for OpenError {
+    ghost from_gives = { λ _ e. e ≡ Memory };
+
+    fn from(_: AllocError) -> OpenError {
+        OpenError::Memory
+    }
+}
