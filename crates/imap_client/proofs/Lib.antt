@@ -1,5 +1,7 @@
-mod Fronts
-mod Responses
-mod Answering
-pub mod Turning
-pub mod Quotable
+mod Lives
+mod PlanSteps
+mod Connections
+mod Greetings
+mod RoundSteps
+mod Refutations
+mod Obedience

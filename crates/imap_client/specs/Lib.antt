@@ -1,6 +1,8 @@
-pub mod Unread
-pub mod Reading
-pub mod Exchanges
 pub mod LinkLife
 pub mod Calls
-pub mod Turns
+pub mod Refusals
+pub mod Plans
+pub mod Obeying
+pub mod Connecting
+pub mod Rounds
+pub mod Bodies

@@ -1,96 +1,120 @@
--- One link life: a greeting, LOGIN, SELECT of INBOX and the fetch of all flags (RFC 9051 sections 6 and 7.1).
-use Rattle.std.specs.Prelude.{◌≡◌, ◌≢◌, ◌⊎◌, ◌<◌, ◌+◌, ◌++◌, ℕ, Bool, true, false, List, [], ◌∷◌, length, count_by, take, None, Result, Ok, Err, codes}
-use Rattle.gate_world.specs.declared.event.Event.{Event}
-use Rattle.gate_world.specs.declared.event.Event.TheVariants.{Dialed, LinkEnded}
-use Rattle.gate_world.specs.Octets.{Talk}
-use Rattle.imap_syntax.specs.declared.code.Code.{Code}
+-- One link life: a greeting, and exchanges one after another (RFC 9051 sections 2.2 and 7.1).
+use Rattle.std.specs.Prelude.{◌≡◌, ◌++◌, ◌+◌, ℕ, Bool, true, false, List, [], ◌∷◌, length, fold, Option, Some, None, IsTrue, if◌then◌else◌}
 use Rattle.imap_syntax.specs.declared.response.Response.{Response}
-use Rattle.imap_syntax.specs.declared.response.Response.TheVariants.{Tagged, Untagged}
-use Rattle.imap_syntax.specs.declared.response.Status.{Status}
-use Rattle.imap_syntax.specs.declared.response.Status.TheVariants as status
-use Rattle.imap_syntax.specs.declared.command.Command.{Command}
-use Rattle.imap_syntax.specs.declared.command.Command.TheVariants.{Login, Select, FetchFlags}
-use Rattle.imap_syntax.specs.Commands.{tag_of, IsQuotable}
-use Rattle.imap_grammar.specs.Scan.{IsPrefix}
-use Rattle.imap_client.specs.declared.link_end.LinkEnd.{LinkEnd}
-use Rattle.imap_client.specs.declared.link_end.LinkEnd.TheVariants as end
-use Rattle.imap_client.specs.declared.link_end.TheConstants.{MAX_LIFE_OCTETS}
-use Rattle.imap_client.specs.Reading.{Begins}
-use Rattle.imap_client.specs.Exchanges.{Exchange, Completed}
+use Rattle.imap_syntax.specs.Commands.{command_pieces}
+use Rattle.told_folder.specs.declared.exchange.Exchange.{Exchange}
+use Rattle.imap_exchange.specs.Received.{Octets, begun, room_left}
+use Rattle.imap_exchange.specs.Begins.{Begins}
+use Rattle.imap_exchange.specs.Exchanges.{Done, VerdictOf, IsTaken}
+use Rattle.imap_exchange.specs.Answering.{selected_by}
 
--- an exchange that was answered OK
-abbrev pub answered_ok : Command → List Response → Exchange
-answered_ok command responses = record { command = command; responses = responses; status = status.Ok }
-
-abbrev pub inbox : List ℕ
-inbox = codes "INBOX"
-
--- the commands of the life
-abbrev pub inbox_fetch : List ℕ → List ℕ → List Command
-inbox_fetch user password = Login user password ∷ Select inbox None ∷ FetchFlags ∷ []
-
--- The store greeted with OK, three exchanges were completed with OK, and these are the responses of the last.
-pub record InboxFetched (user password gave took : List ℕ) (responses : List Response) : Type 0 where
-  pub code : Code
-  pub behind : List ℕ
-  pub greeted : Begins (Untagged status.Ok code ∷ []) behind gave
-  pub logging_in : List Response
-  pub selecting : List Response
+-- A link life so far: what the store gave, its greeting, the exchanges that are completed, what the store took of their
+-- commands, what it gave after the last of them, what it took of a command that isn't completed, and whether the life goes on.
+pub record LinkLife : Type 0 where
+  pub gave : List ℕ
+  pub greeting : Response
+  pub exchanges : List Exchange
+  pub took : List ℕ
   pub rest : List ℕ
-  pub completed : Completed 1 (answered_ok (Login user password) logging_in ∷ answered_ok
-      (Select inbox None) selecting ∷ answered_ok FetchFlags responses ∷ []) rest behind took
+  pub part : List ℕ
+  pub goes_on : Bool
 
-abbrev pub is_tagged : Response → Bool
-is_tagged (Tagged _ _ _) = true
-is_tagged _ = false
+-- the number of the next command
+abbrev pub next_number : LinkLife → ℕ
+next_number life = length life.exchanges + 1
 
--- a tagged line that refuses its command
-abbrev pub Refuses : Response → Type 0
-Refuses (Tagged _ s _) = s ≢ status.Ok
-Refuses _ = ⊥
+abbrev pub selected_after : Option (List ℕ) → Exchange → Option (List ℕ)
+selected_after before x = selected_by x.command x.status before
 
--- no front of a response stands there
-pub record BeginsNoPrefix (octets : List ℕ) : Type 0 where
-  pub at : ℕ
-  pub within : at < length octets
-  pub none : IsPrefix (take (at + 1) octets) → ⊥
+-- the selected folder
+abbrev pub selected : LinkLife → Option (List ℕ)
+selected life = if life.goes_on then fold selected_after None life.exchanges else None
 
--- What the octets of a life have to do with its end, where the first of them are held and stand after others that were
--- read, so many were given up to them, and commands are tagged from n on. Of a lost link and of out of memory nothing is
--- said here.
-abbrev pub Stops : ℕ → ℕ → List ℕ → List ℕ → LinkEnd → Type 0
-Stops n given held gave end.Lost = Unit {0}
-Stops n given held gave end.Memory = Unit {0}
--- no spelling begins there
-Stops n given held gave (end.Bad at) = (known : List Response) × (rest : List ℕ) × Begins known rest (held ++ gave) × (at + length rest ≡ given + length gave)
-    × BeginsNoPrefix rest
--- a tagged line whose tag is not the one that is due
-Stops n given held gave end.Stray = (known : List Response) × (tag : List ℕ) × (s : Status) × (code : Code) × (rest : List ℕ)
-    × Begins (known ++ Tagged tag s code ∷ []) rest (held ++ gave) × (tag ≢ tag_of (count_by is_tagged known + n))
-Stops n given held gave end.Bye = (known : List Response) × (code : Code) × (rest : List ℕ)
-    × Begins (known ++ Untagged status.Bye code ∷ []) rest (held ++ gave)
-Stops n given held gave end.TooMuch = MAX_LIFE_OCTETS < given + length gave
-Stops n given held gave end.Refused = (known : List Response) × (last : Response) × (rest : List ℕ) × Begins (known ++ last ∷ []) rest (held ++ gave)
-    × Refuses last
-Stops n given held gave end.Unsendable = ⊥
+-- the octets that no completed exchange has, and how many the life gave in all
+abbrev pub unread : LinkLife → Octets
+unread life = record { octets = life.rest; given = length life.gave }
 
--- a greeting other than OK
-abbrev pub GreetsOtherwise : List ℕ → Type 0
-GreetsOtherwise gave = (greeting : Response) × (rest : List ℕ) × Begins (greeting ∷ []) rest gave × ((code : Code) → greeting ≢ Untagged status.Ok code)
+-- Exchange number n stands at the front of these octets, and this was taken of its command.
+pub record IsExchange (n : ℕ) (x : Exchange) (rest gave took : List ℕ) : Type 0 where
+  pub verdict : VerdictOf n x.command gave (Done x.responses x.status x.code rest)
+  pub taken : IsTaken (command_pieces x.command n) x.responses x.status took
 
--- what the octets of a whole life have to do with its end
-abbrev pub Blames : List ℕ → LinkEnd → Type 0
-Blames gave e = Stops 1 0 [] gave e ⊎ ((e ≡ end.Refused) × GreetsOtherwise gave)
+-- What the store gave begins with these exchanges, numbered from n on, and the rest stands after them; it took their
+-- commands in order and nothing more.
+abbrev pub Completed : ℕ → List Exchange → List ℕ → List ℕ → List ℕ → Type 0
+Completed n [] rest gave took = (gave ≡ rest) × (took ≡ [])
+Completed n (x ∷ xs) rest gave took =
+    (remaining : List ℕ) × (first : List ℕ) × (others : List ℕ) × IsExchange n x remaining gave first × (took ≡ first ++ others) × Completed (n + 1) xs rest remaining others
 
--- What a life of these octets comes to. Of out of memory nothing is said.
-abbrev pub Comes : List ℕ → List ℕ → List ℕ → List ℕ → Result (List Response) LinkEnd → Type 0
-Comes user password gave took (Ok responses) = InboxFetched user password gave took responses
-Comes user password gave took (Err e) = (e ≡ end.Memory) ⊎ (((responses : List Response) → InboxFetched user password gave took responses → ⊥) × Blames gave e)
+-- The octets of the life are a greeting (section 7.1), the completed exchanges, and the rest. While it goes on no command
+-- is taken in part.
+pub record IsLife (life : LinkLife) : Type 0 where
+  pub remaining : List ℕ
+  pub greeted : Begins (life.greeting ∷ []) remaining life.gave
+  pub completed : Completed 1 life.exchanges life.rest remaining life.took
+  pub whole : life.goes_on ≡ true → life.part ≡ []
 
--- A whole link life, or none where the user or the password can't be sent or memory ran out.
-pub data Life (user password : List ℕ) (result : Result (List Response) LinkEnd) (events : List Event) : Type 0 where
-  Unsent : events ≡ [] → result ≡ Err end.Unsendable → (IsQuotable (Login user password) → ⊥) → Life user password result events
-  NotBegun : events ≡ [] → result ≡ Err end.Memory → Life user password result events
-  Undialed : events ≡ LinkEnded ∷ [] → result ≡ Err end.Lost → Life user password result events
-  Lived : (talk : List Event) (gave took : List ℕ) → events ≡ Dialed ∷ (talk ++ LinkEnded ∷ []) → Talk gave took talk → Comes user password gave took result
-      → Life user password result events
+-- the life goes on with one exchange more, after which the rest stands; or it ends with it
+abbrev pub with_exchange : LinkLife → List ℕ → List ℕ → Exchange → List ℕ → Bool → LinkLife
+with_exchange life gave took x rest goes_on = record {
+  gave = life.gave ++ gave;
+  greeting = life.greeting;
+  exchanges = life.exchanges ++ x ∷ [];
+  took = life.took ++ took;
+  rest = rest;
+  part = life.part;
+  goes_on = goes_on;
+}
+
+-- the life has ended, while this was taken of a command
+abbrev pub with_part : LinkLife → List ℕ → List ℕ → LinkLife
+with_part life gave took = record {
+  gave = life.gave ++ gave;
+  greeting = life.greeting;
+  exchanges = life.exchanges;
+  took = life.took;
+  rest = life.rest ++ gave;
+  part = took;
+  goes_on = false;
+}
+
+-- the life has ended
+abbrev pub hung_up : LinkLife → LinkLife
+hung_up life = record {
+  gave = life.gave;
+  greeting = life.greeting;
+  exchanges = life.exchanges;
+  took = life.took;
+  rest = life.rest;
+  part = life.part;
+  goes_on = false;
+}
+
+-- ---- what a client knows
+
+-- whether its life goes on, what isn't read, the next command's number and the selected folder
+pub record ClientState : Type 0 where
+  pub alive : Bool
+  pub unread : Octets
+  pub number : ℕ
+  pub selected : Option (List ℕ)
+
+-- a client that isn't alive
+abbrev pub fresh : ClientState
+fresh = record { alive = false; unread = begun; number = 1; selected = None }
+
+-- a client of which the greeting was read
+abbrev pub begun_with : Octets → ClientState
+begun_with received = record { alive = true; unread = received; number = 1; selected = None }
+
+-- how much can still come in the life of a client
+abbrev pub life_left : ClientState → ℕ
+life_left client = if client.alive then room_left client.unread + 1 else 0
+
+-- The client stands in this life. What is completed of the life stays spelled after its end.
+pub record Stands (client : ClientState) (life : LinkLife) : Type 0 where
+  pub alive : client.alive ≡ life.goes_on
+  pub selected_is : client.selected ≡ selected life
+  pub unread_is : IsTrue life.goes_on → client.unread ≡ unread life
+  pub number_is : IsTrue life.goes_on → client.number ≡ next_number life
+  pub spelled : IsLife life

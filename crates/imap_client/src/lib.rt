@@ -1,12 +1,22 @@
-//! The client's side of an IMAP link life (RFC 9051): responses in any pieces, exchanges, and a life as a whole.
+//! The client of an IMAP store (RFC 9051): one link life after another, exchanges, and what is asked in order: to connect,
+//! a round over all folders, the body of a message.
 #![tactic(auto)]
 
-mod exchange;
-mod life;
-mod link_end;
-mod response;
-mod unread;
+mod plan;
 
-pub use exchange::Answer;
-pub use life::fetch_inbox;
-pub use link_end::{LinkEnd, MAX_LIFE_OCTETS};
+mod client;
+mod following;
+
+mod connection;
+mod dialing;
+
+mod body;
+mod round;
+
+mod laws;
+
+pub use client::Client;
+pub use following::follow;
+pub use imap_exchange::{LinkEnd, MAX_EXCHANGE_OCTETS, MAX_LIFE_OCTETS};
+pub use laws::{no_bye_is_welcome, obeyed_plans_end_ok};
+pub use plan::{Due, Plan, Refusal};

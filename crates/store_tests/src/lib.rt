@@ -6,6 +6,12 @@ mod dialogues;
 #[cfg(test)]
 mod mirror_calls;
 #[cfg(test)]
+mod playing;
+#[cfg(test)]
+mod rounds;
+#[cfg(test)]
+mod session;
+#[cfg(test)]
 mod showing;
 #[cfg(test)]
 mod told_exchanges;

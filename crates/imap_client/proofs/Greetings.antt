@@ -1,0 +1,106 @@
+-- How a link life begins.
+use Rattle.std.proofs.Common.{Option, Some, None, ◌+◌, ◌≡◌, ◌++◌, ℕ, Bool, true, false, List, [], ◌∷◌, Result, Ok, Err, length, refl, sym, ◌∙◌, ap, subst, arith, inl, inr}
+use Rattle.std.proofs.lemmas.List.{append-nil}
+use Rattle.gate_world.specs.declared.event.Event.{Event}
+use Rattle.gate_world.specs.declared.event.Event.TheVariants.{Dialed, LinkEnded}
+use Rattle.imap_syntax.specs.declared.response.Response.{Response}
+use Rattle.imap_syntax.specs.declared.response.Response.TheVariants.{Untagged}
+use Rattle.imap_syntax.specs.declared.response.Status.TheVariants as status
+use Rattle.imap_exchange.specs.declared.link_end.LinkEnd.{LinkEnd}
+use Rattle.imap_exchange.specs.declared.link_end.LinkEnd.TheVariants as end
+use Rattle.imap_client.specs.declared.connection.Stage.{Stage}
+use Rattle.imap_client.specs.declared.connection.Stage.TheVariants as stage
+use Rattle.imap_exchange.specs.Received.{Octets, begun}
+use Rattle.imap_client.specs.LinkLife.{LinkLife, ClientState, Stands, fresh, begun_with}
+use Rattle.imap_exchange.specs.Answering.{end_unless}
+use Rattle.imap_exchange.specs.Responses.{Reads, IsOver}
+use Rattle.imap_exchange.specs.Answering.{IsTooMuch, HangsUp}
+use Rattle.told_folder.specs.declared.exchange.Exchange.{Exchange}
+use Rattle.imap_client.specs.Plans.{Follows}
+use Rattle.imap_client.specs.Connecting.{Greets, GreetsBy, greeting_says, planned_from, Lives, Unwelcome, Welcome, Connects, Lived}
+
+-- no greeting came
+pub ungreeted : {es : List Event} (after : Octets) (up : Bool) (e : LinkEnd) → Reads 0 true up begun after (Err e) es → Greets after up (Err e) es
+ungreeted after up end.Lost r = record { talk = r.talk; gave = r.gave; ended = r.ended; said = r.said; greets = r.reads }
+ungreeted after up end.TooMuch r = record { talk = r.talk; gave = r.gave; ended = r.ended; said = r.said; greets = (r.reads.0, too_much r.gave r.reads.1) }
+  where
+    too_much : (gave : List ℕ) → IsOver 0 (0 + length gave) → IsTooMuch begun gave
+    too_much gave (inl over) = inl (omega (arith, over))
+    too_much gave (inr over) = inr over
+ungreeted after up (end.Bad at) r = record { talk = r.talk; gave = r.gave; ended = r.ended; said = r.said; greets = (r.reads.0, r.reads.1, omega (arith, r.reads.2)) }
+ungreeted after up end.Memory r = record { talk = r.talk; gave = r.gave; ended = r.ended; said = r.said; greets = tt }
+ungreeted after up end.Stray r = absurd r.reads
+ungreeted after up end.Bye r = absurd r.reads
+ungreeted after up end.Refused r = absurd r.reads
+ungreeted after up end.NoQresync r = absurd r.reads
+ungreeted after up end.Lacks r = absurd r.reads
+
+-- a greeting came
+only_bye : (w : Response) (e : LinkEnd) → greeting_says w ≡ Err e → e ≡ end.Bye
+only_bye (Untagged status.Bye k) e is = cc
+only_bye (Untagged status.Preauth k) e is = absurd (cc is)
+only_bye _ e is = absurd (cc is)
+
+pub greeted : {es : List Event} (after : Octets) (up : Bool) (w : Response) (says : Result Bool LinkEnd) → greeting_says w ≡ says → Reads 0 true up begun after (Ok w) es → Greets after up says es
+greeted after up w (Ok preauth) is r =
+    record { talk = r.talk; gave = r.gave; ended = r.ended; said = r.said; greets = (w, is, (r.reads.0, after.octets, r.reads.1, r.reads.2, refl), omega (arith, r.reads.3)) }
+greeted after up w (Err end.Bye) is r =
+    record { talk = r.talk; gave = r.gave; ended = r.ended; said = r.said; greets = (w, after.octets, is, (r.reads.0, after.octets, r.reads.1, r.reads.2, refl)) }
+greeted after up w (Err end.Lost) is r = let never = only_bye w end.Lost is in absurd (cc never)
+greeted after up w (Err end.TooMuch) is r = let never = only_bye w end.TooMuch is in absurd (cc never)
+greeted after up w (Err (end.Bad at)) is r = let never = only_bye w (end.Bad at) is in absurd (cc never)
+greeted after up w (Err end.Memory) is r = let never = only_bye w end.Memory is in absurd (cc never)
+greeted after up w (Err end.Stray) is r = let never = only_bye w end.Stray is in absurd (cc never)
+greeted after up w (Err end.Refused) is r = let never = only_bye w end.Refused is in absurd (cc never)
+greeted after up w (Err end.NoQresync) is r = let never = only_bye w end.NoQresync is in absurd (cc never)
+greeted after up w (Err end.Lacks) is r = let never = only_bye w end.Lacks is in absurd (cc never)
+
+-- why there is no greeting doesn't depend on what is unread
+unwelcome_alone : (gave : List ℕ) (after : Octets) (e : LinkEnd) → GreetsBy gave after (Err e) → GreetsBy gave begun (Err e)
+unwelcome_alone gave after end.Lost so = so
+unwelcome_alone gave after end.TooMuch so = so
+unwelcome_alone gave after (end.Bad at) so = so
+unwelcome_alone gave after end.Memory so = so
+unwelcome_alone gave after end.Stray so = so
+unwelcome_alone gave after end.Bye so = so
+unwelcome_alone gave after end.Refused so = so
+unwelcome_alone gave after end.NoQresync so = so
+unwelcome_alone gave after end.Lacks so = so
+
+ended_by : (up : Bool) (xs ys talk : List Event) → xs ≡ talk ++ end_unless up → HangsUp up ys → xs ++ ys ≡ talk ++ LinkEnded ∷ []
+ended_by true xs ys talk is hung = (λ i. (is ∙ append-nil talk) i ++ hung i)
+ended_by false xs ys talk is none = ap (λ (l : List Event). xs ++ l) none ∙ append-nil xs ∙ is
+
+pub unwelcome : {xs : List Event} (ys : List Event) (user password : List ℕ) (after : Octets) (up : Bool) (e : LinkEnd) (client : ClientState) → Greets after up (Err e) xs → HangsUp up ys
+    → (left : Option LinkLife) × Lives user password left client (Err e) (xs ++ ys)
+unwelcome {xs} ys user password after up e client g hangs = (None, Unwelcome e g.talk g.gave (ended_by up xs ys g.talk g.ended hangs) g.said (unwelcome_alone g.gave after e g.greets) refl refl)
+
+pub lived : {xs : List Event} (ys : List Event) (user password : List ℕ) (after : Octets) (up preauth : Bool) (at : Stage) (before client : ClientState) (result : Result (Unit {0}) LinkEnd) → before ≡ begun_with after → up ≡ true → at ≡ stage.Asking → Greets after up (Ok preauth) xs
+    → ((life : LinkLife) → Stands before life → (left : LinkLife) × (exchanges : List Exchange) × Follows (planned_from preauth user password at) life left exchanges client result ys)
+    → (left : Option LinkLife) × Lives user password left client result (xs ++ ys)
+lived {xs} ys user password after up preauth at before client result before_is up_is at_is g follows =
+    let so = follows life (subst (λ (p : ClientState). Stands p life) (sym before_is) stands) in
+    (
+      Some so.0,
+      Welcome life so.0 preauth so.1 g.talk ys (ap (λ (l : List Event). l ++ ys) events_are) g.said (record { greeted = g.greets.2; unasked = refl; untaken = refl; whole = refl; alive = refl }) g.greets.1 (subst (λ (s : Stage). Follows (planned_from preauth user password s) life so.0 so.1 client result ys) at_is so.2) refl,
+    )
+  where
+    life : LinkLife
+    life = record { gave = g.gave; greeting = g.greets.0; exchanges = []; took = []; rest = after.octets; part = []; goes_on = true }
+
+    events_are : xs ≡ g.talk
+    events_are = g.ended ∙ ap (λ (b : Bool). g.talk ++ end_unless b) up_is ∙ append-nil g.talk
+
+    stands : Stands (begun_with after) life
+    stands = record {
+      alive = refl;
+      selected_is = refl;
+      unread_is = λ _. (λ i. record { octets = after.octets; given = g.greets.3 i });
+      number_is = λ _. refl;
+      spelled = record { remaining = after.octets; greeted = g.greets.2; completed = (refl, refl); whole = λ _. refl };
+    }
+
+pub connected : {xs : List Event} (ys : List Event) (user password user' password' : List ℕ) (client : ClientState) (result : Result (Unit {0}) LinkEnd) → xs ≡ Dialed ∷ [] → user' ≡ user → password' ≡ password → (left : Option LinkLife) × Lives user' password' left client result ys
+    → (left : Option LinkLife) × Connects user password left client result (xs ++ ys)
+connected ys user password user' password' client result is same same' (left, lives) =
+    (left, Lived ys (ap (λ (l : List Event). l ++ ys) is) (subst (λ (p : List ℕ). Lives user p left client result ys) same' (subst (λ (u : List ℕ). Lives u password' left client result ys) same lives)))

@@ -1,0 +1,172 @@
+-- A round: LIST, and then for each folder that can be selected, by number, SELECT and what is fetched (RFC 9051
+-- sections 6.3.2, 6.3.9 and 6.4.5, RFC 7162 section 3.2.5).
+use Rattle.std.specs.Prelude.{◌≡◌, ◌≢◌, ◌<◌, ◌≤◌, ◌^◌, ◌+◌, ◌-◌, ◌==◌, ◌&&◌, ◌||◌, ℕ, Bool, true, false, not, nat_lt, min, List, [], ◌∷◌, codes, bytes_eq, drop, fold, if◌then◌else◌, is_some, slice_get, unwrap_or, Option, Some, None, Result, Err}
+use Rattle.std.specs.List.{list_any}
+use Rattle.gate_world.specs.declared.event.Event.{Event}
+use Rattle.imap_syntax.specs.declared.code.Code.TheVariants as code
+use Rattle.imap_syntax.specs.declared.command.Command.{Command}
+use Rattle.imap_syntax.specs.declared.command.Command.TheVariants as command
+use Rattle.imap_syntax.specs.declared.response.Response.{Response}
+use Rattle.imap_syntax.specs.declared.response.Response.TheVariants as response
+use Rattle.imap_syntax.specs.declared.response.Status.TheVariants as status
+use Rattle.told_folder.specs.declared.exchange.Exchange.{Exchange}
+use Rattle.told_folder.specs.declared.message.Folder.{Folder}
+use Rattle.told_folder.specs.declared.message.Held.{Held}
+use Rattle.told_mail.specs.Mail.{Mail}
+use Rattle.told_mail.specs.Told.{Told}
+use Rattle.told_mail.specs.Exchanges.{after_closed, tell, validity_in}
+use Rattle.imap_exchange.specs.declared.link_end.LinkEnd.{LinkEnd}
+use Rattle.imap_exchange.specs.declared.link_end.LinkEnd.TheVariants as end
+use Rattle.imap_client.specs.declared.plan.Due.{Due}
+use Rattle.imap_client.specs.declared.plan.Due.TheVariants as due
+use Rattle.imap_client.specs.declared.plan.Refusal.TheVariants as refusal
+use Rattle.imap_client.specs.declared.round.RoundStage.{RoundStage}
+use Rattle.imap_client.specs.declared.round.RoundStage.TheVariants as stage
+use Rattle.imap_client.specs.declared.round.TheConstants.{SLICE_UIDS}
+use Rattle.imap_client.specs.Connecting.{is_ok}
+use Rattle.imap_client.specs.LinkLife.{LinkLife, ClientState}
+use Rattle.imap_client.specs.Plans.{Planned, Follows}
+
+-- ---- the count of changes
+
+-- the count never fell, and where it stands, short of its last value, the mail is the same
+pub record CountsOn (old new : Told) : Type 0 where
+  pub rises : old.changes ≤ new.changes
+  pub stands : new.changes ≡ old.changes → new.changes < 2 ^ 64 - 1 → new.mail ≡ old.mail
+
+-- ---- folders
+
+-- an attribute of a folder that can't be selected (RFC 9051 section 7.3.1)
+abbrev pub bars_selection : List ℕ → Bool
+bars_selection attribute = bytes_eq attribute (codes "\\noselect") || bytes_eq attribute (codes "\\nonexistent")
+
+abbrev pub is_selectable : Held → Bool
+is_selectable h = not (list_any bars_selection h.folder.attributes)
+
+-- the place of the first folder that can be selected, where these are the folders from this place on
+abbrev pub selectable_from : ℕ → List Held → Option ℕ
+selectable_from at [] = None
+selectable_from at (h ∷ hs) = if is_selectable h then Some at else selectable_from (at + 1) hs
+
+-- ---- commands
+
+-- the validity and the mod-sequence up to which a folder is known
+abbrev pub known_of : Folder → Option (ℕ × ℕ)
+known_of f = if f.validity == 0 || f.modseq == 0 then None else Some (f.validity, f.modseq)
+
+abbrev pub has_modseqs : Folder → Bool
+has_modseqs f = not (f.modseq == 0)
+
+-- more UIDs may be new than one slice has
+abbrev pub is_sliced : ℕ → Folder → Bool
+is_sliced uid_next f = nat_lt (f.next + SLICE_UIDS) uid_next
+
+abbrev pub select_of : Folder → Due
+select_of f = due.Send (command.Select f.name (known_of f))
+
+-- a slice of the headers that are new
+abbrev pub slice_of : Folder → Command
+slice_of f = command.FetchSlice f.next (f.next + (SLICE_UIDS - 1)) (has_modseqs f)
+
+-- all headers that are new
+abbrev pub new_of : Folder → Command
+new_of f = command.FetchNew (min f.next 4294967295) (has_modseqs f)
+
+-- the next slice, and the rest once that has no more UIDs than a slice
+abbrev pub headers_of : ℕ → Folder → Due
+headers_of uid_next f = if is_sliced uid_next f then due.Send (slice_of f) else due.Send (new_of f)
+
+-- what is due of a folder; there is always one where a round asks for it
+abbrev pub of_folder : (Folder → Due) → Option Held → Due
+of_folder asked (Some h) = asked h.folder
+of_folder asked None = due.Fails refusal.Lacks
+
+abbrev pub round_due : RoundStage → Mail → Due
+round_due stage.Listing m = due.Send command.List
+round_due (stage.Selecting at) m = of_folder select_of (slice_get m.folders at)
+round_due (stage.FetchingFlags at uid_next) m = due.Send command.FetchFlags
+round_due (stage.FetchingHeaders at uid_next) m = of_folder (headers_of uid_next) (slice_get m.folders at)
+round_due stage.Finished m = due.Done
+round_due (stage.Failing why) m = due.Fails why
+
+-- ---- what is told
+
+abbrev pub uid_next_in : Response → Option ℕ
+uid_next_in (response.Untagged status.Ok (code.UidNext n)) = Some n
+uid_next_in _ = None
+
+-- the last UIDNEXT that is told, else this number
+abbrev pub last_uid_next : ℕ → List Response → ℕ
+last_uid_next was [] = was
+last_uid_next was (r ∷ rs) = last_uid_next (unwrap_or (uid_next_in r) was) rs
+
+-- the UIDNEXT that a SELECT tells of its folder; 0 where it tells none
+abbrev pub uid_next_told : List Response → ℕ
+uid_next_told rs = last_uid_next 0 (after_closed rs)
+
+abbrev pub tells_validity : List Response → Bool
+tells_validity rs = list_any (λ r. is_some (validity_in r)) (after_closed rs)
+
+-- ---- stages
+
+abbrev pub selecting : Option ℕ → RoundStage
+selecting (Some at) = stage.Selecting at
+selecting None = stage.Finished
+
+-- the next folder from this place on
+abbrev pub next_stage : ℕ → Mail → RoundStage
+next_stage at m = selecting (selectable_from at (drop at m.folders))
+
+-- all flags are asked where the folder has no mod-sequences
+abbrev pub fetching : ℕ → ℕ → Option Held → RoundStage
+fetching at uid_next (Some h) = if h.folder.modseq == 0 then stage.FetchingFlags at uid_next else stage.FetchingHeaders at uid_next
+fetching at uid_next None = stage.Failing refusal.Lacks
+
+abbrev pub is_sliced_in : ℕ → Option Held → Bool
+is_sliced_in uid_next (Some h) = is_sliced uid_next h.folder
+is_sliced_in uid_next None = false
+
+-- a slice is due
+abbrev pub is_slicing : RoundStage → Mail → Bool
+is_slicing (stage.FetchingHeaders at uid_next) m = is_sliced_in uid_next (slice_get m.folders at)
+is_slicing _ m = false
+
+abbrev pub selected_stage : ℕ → List Response → Mail → RoundStage
+selected_stage at rs told = if tells_validity rs then fetching at (uid_next_told rs) (slice_get told.folders at) else stage.Failing refusal.Lacks
+
+abbrev pub fetched_stage : Bool → ℕ → ℕ → Mail → RoundStage
+fetched_stage sliced at uid_next told = if sliced then stage.FetchingHeaders at uid_next else next_stage (at + 1) told
+
+-- The stage once an exchange is answered OK: whether a slice was due, its responses, and the mail that is told then.
+abbrev pub obeyed : RoundStage → Bool → List Response → Mail → RoundStage
+obeyed stage.Listing sliced rs told = next_stage 0 told
+obeyed (stage.Selecting at) sliced rs told = selected_stage at rs told
+obeyed (stage.FetchingFlags at uid_next) sliced rs told = stage.FetchingHeaders at uid_next
+obeyed (stage.FetchingHeaders at uid_next) sliced rs told = fetched_stage sliced at uid_next told
+obeyed stage.Finished sliced rs told = stage.Finished
+obeyed (stage.Failing why) sliced rs told = stage.Failing why
+
+abbrev pub round_after : RoundStage → Bool → Exchange → Mail → RoundStage
+round_after s sliced x told = if is_ok x.status then obeyed s sliced x.responses told else stage.Failing refusal.Refused
+
+-- a round so far: how far it is, and the mail that is told
+pub record RoundState : Type 0 where
+  pub stage : RoundStage
+  pub mail : Mail
+
+abbrev pub round_step : RoundState → Exchange → RoundState
+round_step s x = record { stage = round_after s.stage (is_slicing s.stage s.mail) x (tell s.mail x); mail = tell s.mail x }
+
+-- what a round asks next from here, once these exchanges are completed
+abbrev pub round_from : RoundState → Planned
+round_from s xs = let now = fold round_step s xs in round_due now.stage now.mail
+
+-- what a round asks, where this mail was told before
+abbrev pub round_plan : Mail → Planned
+round_plan m = round_from (record { stage = stage.Listing; mail = m })
+
+-- A round in a life, and the life that is left: the mail is what completed exchanges told, in order, unless memory ran out.
+pub record Rounds (before after : Mail) (life left : LinkLife) (client : ClientState) (result : Result (Unit {0}) LinkEnd) (events : List Event) : Type 0 where
+  pub exchanges : List Exchange
+  pub follows : Follows (round_plan before) life left exchanges client result events
+  pub told : result ≢ Err end.Memory → after ≡ fold tell before exchanges

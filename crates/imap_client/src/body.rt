@@ -1,0 +1,251 @@
+// The body of a message (RFC 9051 sections 6.3.2 and 6.4.5).
+ghost use Rattle.std.specs.Prelude.{◌≡◌, Option, None, IfOk, OnOk, OnErr, IsErrOf, true};
+ghost use Rattle.std.specs.Option.{option_copied};
+ghost use Rattle.gate_world.specs.Causes.{Rose, LinkAlone};
+ghost use Rattle.gate_world.specs.Tape.{Adds};
+ghost use Rattle.told_mail.specs.Exchanges as telling;
+ghost use Rattle.told_mail.specs.Mail.{folder_in};
+ghost use Rattle.imap_client.specs.LinkLife.{LinkLife, Stands, fresh};
+ghost use Rattle.imap_client.specs.Bodies as bodies;
+ghost use Rattle.imap_client.specs.Bodies.{FetchesBody};
+ghost use Rattle.imap_client.specs.Rounds.{CountsOn};
+
+use crate::client::Client;
+use crate::connection::is_ok;
+use crate::following::follow;
+use crate::plan::{Due, Plan, Refusal};
+use crate::round::select_of;
+use gate_world::{Bytes, Link};
+use imap_exchange::LinkEnd;
+use imap_syntax::{Command, FetchItems, Response};
+use std::alloc::{AllocError, Global};
+use std::mem;
+use told_mail::{Exchange, Folder, Mirror};
+
+/// How far the fetch of a body is.
+#[derive(Debug, Drop)]
+pub enum BodyStage {
+    Selecting,
+    Fetching,
+    Fetched(Bytes),
+    Failing(Refusal),
+}
+
+/// The fetch of the body of a message that a mirror has.
+#[derive(Drop)]
+pub struct BodyFetch {
+    stage: BodyStage,
+    mirror: Mirror,
+    folder: u64,
+    uid: u32,
+}
+
+fn is_uid(uid: u32, told: Option<u32>) -> bool
+    ensures { result ≡ telling.is_uid uid told }
+{
+    match told {
+        Some(told) => told == uid,
+        None => false,
+    }
+}
+
+/// The body that the items tell for the UID.
+fn body_of_items(uid: u32, items: &FetchItems) -> Option<&Bytes>
+    ensures { option_copied result ≡ bodies.body_of_items uid items.now }
+{
+    if is_uid(uid, items.uid) {
+        items.body.as_ref()
+    } else {
+        None
+    }
+}
+
+fn body_in(uid: u32, response: &Response) -> Option<&Bytes>
+    ensures { option_copied result ≡ bodies.body_in uid response.now }
+{
+    match response {
+        Response::Fetch { items, .. } => body_of_items(uid, items),
+        _ => None,
+    }
+}
+
+/// The last body that is told for the UID.
+fn last_body(uid: u32, responses: &[Response]) -> Option<&Bytes>
+    ensures { option_copied result ≡ bodies.last_body uid None responses.now }
+{
+    let mut last = None;
+    for response in responses {
+        if let Some(body) = body_in(uid, response) {
+            last = Some(body);
+        }
+    }
+    last
+}
+
+/// The stage once the body was asked.
+fn fetched(body: Option<&Bytes>) -> Result<BodyStage, AllocError>
+    ensures { IfOk result (λ stage. stage ≡ bodies.fetched (option_copied body.entry)) }
+{
+    match body {
+        Some(body) => Ok(BodyStage::Fetched(body.share()?)),
+        None => Ok(BodyStage::Failing(Refusal::Lacks)),
+    }
+}
+
+fn validity_of(folder: Option<&Folder>) -> u32
+    ensures { result ≡ bodies.validity_of (option_copied folder.entry) }
+{
+    match folder {
+        Some(folder) => folder.validity,
+        None => 0,
+    }
+}
+
+/// The stage once the folder is selected, which had this validity before.
+fn selected(validity: u32, told: u32) -> BodyStage
+    ensures { result ≡ bodies.selected_stage validity told }
+{
+    if told == validity {
+        BodyStage::Fetching
+    } else {
+        BodyStage::Failing(Refusal::Lacks)
+    }
+}
+
+fn is_selected(selected: Option<&[u8]>, name: &[u8]) -> bool
+    ensures { result ≡ bodies.is_selected (option_copied selected.entry) name.now }
+{
+    match selected {
+        Some(selected) => selected == name,
+        None => false,
+    }
+}
+
+/// Where the fetch begins.
+fn begun(selected: Option<&[u8]>, folder: Option<&Folder>) -> BodyStage
+    ensures { result ≡ bodies.body_begun (option_copied selected.entry) (option_copied folder.entry) }
+{
+    match folder {
+        Some(folder) => {
+            if is_selected(selected, folder.name.as_slice()) {
+                BodyStage::Fetching
+            } else {
+                BodyStage::Selecting
+            }
+        }
+        None => BodyStage::Failing(Refusal::Lacks),
+    }
+}
+
+fn select_due(folder: Option<&Folder>) -> Result<Due, AllocError>
+    ensures { IfOk result (λ due. due ≡ bodies.select_due (option_copied folder.entry)) }
+{
+    match folder {
+        Some(folder) => select_of(folder),
+        None => Ok(Due::Fails(Refusal::Lacks)),
+    }
+}
+
+impl BodyFetch {
+    fn validity(&self) -> u32
+        ensures { result ≡ bodies.validity_of (folder_in self.now.mirror.mail.folders self.now.folder) }
+    {
+        validity_of(self.mirror.folder(self.folder))
+    }
+
+    /// The stage once an exchange is completed, before which the folder had this validity.
+    fn stage_after(&self, validity: u32, x: &Exchange) -> Result<BodyStage, AllocError>
+        ensures { IfOk result (λ stage. stage ≡ bodies.body_after self.now.folder self.now.uid self.now.stage validity x.now self.now.mirror.mail) }
+    {
+        if !is_ok(x.status) {
+            return Ok(BodyStage::Failing(Refusal::Refused));
+        }
+        match &self.stage {
+            BodyStage::Selecting => Ok(selected(validity, self.validity())),
+            BodyStage::Fetching => fetched(last_body(self.uid, x.responses.as_slice())),
+            BodyStage::Fetched(body) => Ok(BodyStage::Fetched(body.share()?)),
+            BodyStage::Failing(why) => Ok(BodyStage::Failing(*why)),
+        }
+    }
+}
+
+impl Plan for BodyFetch {
+    ghost plan = { λ f. bodies.body_from f.folder f.uid (record { stage = f.stage; mail = f.mirror.mail }) };
+
+    ghost hears = { λ f x g. (g.folder ≡ f.folder) × (g.uid ≡ f.uid) × (record { stage = g.stage; mail = g.mirror.mail } ≡ bodies.body_step f.folder f.uid (record { stage = f.stage; mail = f.mirror.mail }) x) };
+
+    ghost keeps = { λ f g. CountsOn f.mirror g.mirror };
+
+    fn due(&self, _alloc: Global) -> Result<Due, AllocError> {
+        match &self.stage {
+            BodyStage::Selecting => select_due(self.mirror.folder(self.folder)),
+            BodyStage::Fetching => Ok(Due::Send(Command::FetchBody { uid: self.uid })),
+            BodyStage::Fetched(_) => Ok(Due::Done),
+            BodyStage::Failing(why) => Ok(Due::Fails(*why)),
+        }
+    }
+
+    fn hear(&mut self, _alloc: Global, x: Exchange) -> Result<(), AllocError> {
+        let validity = self.validity();
+        match self.mirror.tell(&x) {
+            Ok(()) => {
+                self.stage = self.stage_after(validity, &x)?;
+                Ok(())
+            }
+            Err(_) => Err(AllocError),
+        }
+    }
+}
+
+/// The body that a fetch ends with.
+fn body_at(stage: BodyStage) -> Bytes
+    requires { bodies.HasBody stage }
+    ensures { stage ≡ BodyStage.Fetched result }
+{
+    match stage {
+        BodyStage::Fetched(body) => body,
+        _ => unreachable!(),
+    }
+}
+
+impl Client {
+    /// Fetches the body of a message of the mirror, whose folder is selected before where it isn't, and tells the mirror what
+    /// comes with it. After an Err the life has ended; the mirror holds what completed exchanges told, and is to be dropped
+    /// after want of memory.
+    pub fn fetch_body<L: Link>(
+        &mut self,
+        link: &mut L,
+        mirror: &mut Mirror,
+        folder: u64,
+        uid: u32,
+    ) -> Result<Bytes, LinkEnd>
+        requires { self.old.alive ≡ true }
+        ensures tape { Adds (L.tape link.old) (L.tape link.new) (λ es. (life : LinkLife) → Stands self.old life → (left : LinkLife) × FetchesBody folder uid mirror.old.mail mirror.new.mail life left self.new result es) }
+        ensures alive { OnOk result (self.new.alive ≡ true) }
+        ensures ended { OnErr result (self.new ≡ fresh) }
+        ensures counts { CountsOn mirror.old mirror.new }
+        ensures alone { LinkAlone (L.faults link.old) (L.faults link.new) }
+        ensures cause { IsErrOf result LinkEnd.Lost → Rose (L.faults link.old).link (L.faults link.new).link }
+        ensures hidden { L.hidden link.new ≡ L.hidden link.old }
+    {
+        let empty = Mirror::new(self.allocator());
+        let stage = begun(self.selected(), mirror.folder(folder));
+        let mut plan = BodyFetch {
+            stage,
+            mirror: mem::replace(mirror, empty),
+            folder,
+            uid,
+        };
+        let result = follow(self, link, &mut plan);
+        let BodyFetch {
+            stage,
+            mirror: told,
+            ..
+        } = plan;
+        *mirror = told;
+        match result {
+            Ok(()) => Ok(body_at(stage)),
+            Err(end) => Err(end),
+        }
+    }
+}

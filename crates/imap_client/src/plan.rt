@@ -1,0 +1,58 @@
+// What is asked of a store in order.
+ghost use Rattle.std.specs.Prelude.{◌≡◌, ◌∷◌, [], List, IfOk, OnOk};
+ghost use Rattle.told_folder.specs.declared.exchange.Exchange.{Exchange as exchange_type};
+ghost use Rattle.imap_client.specs.Refusals.{refusal_end};
+ghost use Rattle.imap_client.specs.declared.plan.Due.{Due as due_type};
+
+use imap_exchange::LinkEnd;
+use imap_syntax::Command;
+use std::alloc::{AllocError, Global};
+use told_mail::Exchange;
+
+/// Why a plan fails by what the store answered. No other end is a plan's to say.
+#[derive(Clone, Copy, Debug, PartialEq, Eq, Drop)]
+pub enum Refusal {
+    Refused,
+    NoQresync,
+    Lacks,
+}
+
+/// The end that a refusal is answered with.
+pub fn end_of(refusal: Refusal) -> LinkEnd
+    ensures { result ≡ refusal_end refusal }
+{
+    match refusal {
+        Refusal::Refused => LinkEnd::Refused,
+        Refusal::NoQresync => LinkEnd::NoQresync,
+        Refusal::Lacks => LinkEnd::Lacks,
+    }
+}
+
+/// What is due next.
+#[derive(Debug, Drop)]
+pub enum Due {
+    Send(Command),
+    Done,
+    Fails(Refusal),
+}
+
+/// What is asked of a store in order, by what it answered so far.
+pub trait Plan {
+    /// What is due once further exchanges are completed.
+    ghost plan: { Self → List exchange_type → due_type };
+
+    /// Where the plan's own state is once an exchange is completed.
+    ghost hears: { Self → exchange_type → Self → Type 0 };
+
+    /// What holds between the plan's own state and a later one, also where memory ran out.
+    ghost keeps: { Self → Self → Type 0 };
+
+    fn due(&self, alloc: Global) -> Result<Due, AllocError>
+        ensures { IfOk result (λ now. now ≡ Self.plan self.now []) };
+
+    /// The exchange that was due is completed.
+    fn hear(&mut self, alloc: Global, x: Exchange) -> Result<(), AllocError>
+        ensures rest { OnOk result ((xs : List exchange_type) → Self.plan self.new xs ≡ Self.plan self.old (x ∷ xs)) }
+        ensures heard { OnOk result (Self.hears self.old x self.new) }
+        ensures kept { (first : Self) → Self.keeps first self.old → Self.keeps first self.new };
+}

@@ -1,0 +1,6 @@
+mod Fronts
+mod Responses
+pub mod Verdicts
+mod Pacing
+mod Conversing
+mod Refutations

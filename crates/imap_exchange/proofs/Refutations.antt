@@ -1,0 +1,87 @@
+-- What the definitions rule out.
+use Rattle.std.proofs.Common.{◌≡◌, ◌≢◌, ◌⊎◌, ◌++◌, ◌+◌, ◌≤◌, ℕ, zero, suc, List, [], ◌∷◌, take, refl, sym, ◌∙◌, ap, subst, append_assoc, arith, inl, inr, All}
+use Rattle.std.proofs.lemmas.List.Sums.{sum_by-append}
+use Rattle.std.proofs.lemmas.List.Elements.{All-head, All-tail}
+use Rattle.imap_syntax.specs.Commands.{joined_pieces}
+use Rattle.imap_syntax.specs.declared.code.Code.{Code}
+use Rattle.imap_syntax.specs.declared.response.Response.{Response}
+use Rattle.imap_syntax.specs.declared.response.Response.TheVariants.{Tagged}
+use Rattle.imap_syntax.specs.Spells.{IsSpelling}
+use Rattle.imap_syntax.specs.declared.response.Status.{Status}
+use Rattle.imap_syntax.specs.declared.response.Status.TheVariants as status
+use Rattle.imap_exchange.specs.declared.link_end.LinkEnd.{LinkEnd}
+use Rattle.imap_exchange.specs.declared.link_end.LinkEnd.TheVariants as end
+use Rattle.imap_exchange.specs.Received.{Octets}
+use Rattle.imap_exchange.specs.Begins.{Begins}
+use Rattle.imap_exchange.specs.Exchanges.{IsOpen, continuations, pieces_due, IsPart, Verdict, Done, Stray, Bye, BadAt, Open, IsVerdict}
+use Rattle.imap_exchange.specs.Answering.{IsCause}
+use Rattle.imap_exchange.proofs.Fronts.{same_front}
+use Rattle.imap_exchange.proofs.Verdicts.{NoneOpen, none_open, one_verdict}
+
+-- open responses at the front are a front of all of them
+front_of : (vs ws : List Response) (r s b : List ℕ) → All IsOpen vs → All IsOpen ws → Begins vs r b → Begins ws s b → NoneOpen s → (more : List Response) × (ws ≡ vs ++ more)
+front_of [] ws r s b open_v open_w first second none = (ws, refl)
+front_of (v ∷ vs) [] r s b open_v open_w (text, more, spells, is, remaining) is' none =
+    absurd (none v text more spells (sym is' ∙ is) (All-head IsOpen v vs open_v))
+front_of (v ∷ vs) (w ∷ ws) r s b open_v open_w (text, more, spells, is, remaining) (text', more', spells', is', remaining') none =
+    let front = same_front spells' spells (sym is' ∙ is) in
+    let rest = front_of vs ws r s more (All-tail IsOpen v vs open_v) (All-tail IsOpen w ws open_w) remaining (subst (λ (l : List ℕ). Begins ws s l) front.2 remaining') none in
+    (rest.0, (λ i. front.0 i ∷ rest.1 i))
+
+-- fewer pieces are a front of more
+fewer : (pieces : List (List ℕ)) (m n : ℕ) → m ≤ n → (left : List ℕ) × (joined_pieces (take m pieces) ++ left ≡ joined_pieces (take n pieces))
+fewer pieces zero n le = (joined_pieces (take n pieces), refl)
+fewer pieces (suc m) zero le = absurd (omega arith)
+fewer [] (suc m) (suc n) le = ([], refl)
+fewer (p ∷ ps) (suc m) (suc n) le =
+    let rest = fewer ps m n (omega arith) in
+    (rest.0, append_assoc p (joined_pieces (take m ps)) rest.0 ∙ ap (λ (l : List ℕ). p ++ l) rest.1)
+
+pub each_piece_is_due : (tag : List ℕ) (pieces : List (List ℕ)) (octets took : List ℕ) (verdict : Verdict) (v : IsVerdict tag pieces octets verdict) → IsPart pieces octets took → (left : List ℕ) × (took ++ left ≡ joined_pieces (pieces_due pieces v.responses))
+each_piece_is_due tag pieces octets took verdict v part =
+    let front = front_of part.responses v.responses part.remaining v.remaining octets part.passed.all_open v.passed.all_open part.passed.spelled v.passed.spelled (none_open tag pieces octets v.responses v.remaining verdict v.decided) in
+    let same : continuations v.responses ≡ continuations (part.responses ++ front.0) = ap continuations front.1 in
+    let sums : continuations (part.responses ++ front.0) ≡ continuations part.responses + continuations front.0 = sum_by-append _ part.responses front.0 in
+    let counted : continuations part.responses + 1 ≤ continuations v.responses + 1 = omega (arith, same, sums) in
+    let rest = fewer pieces (continuations part.responses + 1) (continuations v.responses + 1) counted in
+    (part.left ++ rest.0, sym (append_assoc took part.left rest.0) ∙ ap (λ (l : List ℕ). l ++ rest.0) part.within ∙ rest.1)
+
+done_not_open : (rs : List Response) (s : Status) (k : Code) (t : List ℕ) → Done rs s k t ≡ Open → ⊥
+done_not_open rs s k t is = cc
+
+done_not_stray : (rs : List Response) (s : Status) (k : Code) (t : List ℕ) → Done rs s k t ≡ Stray → ⊥
+done_not_stray rs s k t is = cc
+
+done_not_bye : (rs : List Response) (s : Status) (k : Code) (t : List ℕ) → Done rs s k t ≡ Bye → ⊥
+done_not_bye rs s k t is = cc
+
+done_not_bad : (rs : List Response) (s : Status) (k : Code) (t : List ℕ) (at : ℕ) → Done rs s k t ≡ BadAt at → ⊥
+done_not_bad rs s k t at is = cc
+
+done_status : (rs rs' : List Response) (s s' : Status) (k k' : Code) (t t' : List ℕ) → Done rs s k t ≡ Done rs' s' k' t' → s ≡ s'
+done_status rs rs' s s' k k' t t' is = cc
+
+pub no_end_after_an_answer : (tag : List ℕ) (pieces : List (List ℕ)) (before : Octets) (gave took : List ℕ) (responses : List Response) (s : Status) (code : Code) (rest : List ℕ) (e : LinkEnd) → IsVerdict tag pieces (before.octets ++ gave) (Done responses s code rest) → (s ≢ status.Ok) ⊎ (took ≡ joined_pieces pieces) → IsCause tag pieces before gave took e → e ≡ end.Memory
+no_end_after_an_answer tag pieces before gave took responses s code rest end.Lost v (inl other) (inl still) = absurd (done_not_open _ _ _ _ (one_verdict tag pieces _ _ _ v still))
+no_end_after_an_answer tag pieces before gave took responses s code rest end.Lost v (inr whole) (inl still) = absurd (done_not_open _ _ _ _ (one_verdict tag pieces _ _ _ v still))
+no_end_after_an_answer tag pieces before gave took responses s code rest end.Lost v (inl other) (inr (rs, k, t, w, part)) = absurd (other (done_status _ _ _ _ _ _ _ _ (one_verdict tag pieces _ _ _ v w)))
+no_end_after_an_answer tag pieces before gave took responses s code rest end.Lost v (inr whole) (inr (rs, k, t, w, part)) = absurd (part whole)
+no_end_after_an_answer tag pieces before gave took responses s code rest (end.Bad at) v so (place, w, there) = absurd (done_not_bad _ _ _ _ _ (one_verdict tag pieces _ _ _ v w))
+no_end_after_an_answer tag pieces before gave took responses s code rest end.Stray v so w = absurd (done_not_stray _ _ _ _ (one_verdict tag pieces _ _ _ v w))
+no_end_after_an_answer tag pieces before gave took responses s code rest end.Bye v so w = absurd (done_not_bye _ _ _ _ (one_verdict tag pieces _ _ _ v w))
+no_end_after_an_answer tag pieces before gave took responses s code rest end.TooMuch v so (w, over) = absurd (done_not_open _ _ _ _ (one_verdict tag pieces _ _ _ v w))
+no_end_after_an_answer tag pieces before gave took responses s code rest end.Memory v so b = refl
+no_end_after_an_answer tag pieces before gave took responses s code rest end.Refused v so b = absurd b
+no_end_after_an_answer tag pieces before gave took responses s code rest end.NoQresync v so b = absurd b
+no_end_after_an_answer tag pieces before gave took responses s code rest end.Lacks v so b = absurd b
+
+-- no tagged line says PREAUTH or BYE
+said_by : (tag : List ℕ) (s : Status) (code : Code) (text : List ℕ) → IsSpelling (Tagged tag s code) text → (s ≡ status.Ok) ⊎ (s ≡ status.No) ⊎ (s ≡ status.Bad)
+said_by tag status.Ok code text spells = inl refl
+said_by tag status.No code text spells = inr (inl refl)
+said_by tag status.Bad code text spells = inr (inr refl)
+said_by tag status.Preauth code text spells = absurd spells.spells.completes
+said_by tag status.Bye code text spells = absurd spells.spells.completes
+
+pub statuses_of_answers : (tag : List ℕ) (pieces : List (List ℕ)) (octets rest : List ℕ) (responses : List Response) (s : Status) (code : Code) → IsVerdict tag pieces octets (Done responses s code rest) → (s ≡ status.Ok) ⊎ (s ≡ status.No) ⊎ (s ≡ status.Bad)
+statuses_of_answers tag pieces octets rest responses s code v = let line = v.decided.1 in said_by tag s code line.0 line.2

@@ -1,0 +1,19 @@
+-- What a store gave in one link life.
+use Rattle.std.specs.Prelude.{ℕ, ◌+◌, ◌-◌, List, [], length}
+
+-- the octets that aren't read yet, and how many were given in all
+pub record Octets : Type 0 where
+  pub octets : List ℕ
+  pub given : ℕ
+
+-- nothing is given yet
+abbrev pub begun : Octets
+begun = record { octets = []; given = 0 }
+
+-- 2^62 and the octets of one fill: the last fill may go past the limit of a life
+abbrev pub most_given : ℕ
+most_given = 4611686018427453440
+
+-- how many octets of the life can still be read
+abbrev pub room_left : Octets → ℕ
+room_left u = (most_given - u.given) + length u.octets

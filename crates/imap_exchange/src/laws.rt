@@ -1,0 +1,36 @@
+// What the definitions rule out.
+ghost use Rattle.std.specs.Prelude.{◌≡◌, ◌≢◌, ◌⊎◌, ◌++◌, List, ℕ};
+ghost use Rattle.imap_syntax.specs.Commands.{joined_pieces};
+ghost use Rattle.imap_syntax.specs.declared.code.Code.{Code};
+ghost use Rattle.imap_syntax.specs.declared.response.Response.{Response};
+ghost use Rattle.imap_syntax.specs.declared.response.Status.{Status};
+ghost use Rattle.imap_syntax.specs.declared.response.Status.TheVariants as statuses;
+ghost use Rattle.imap_exchange.specs.declared.link_end.LinkEnd.{LinkEnd};
+ghost use Rattle.imap_exchange.specs.declared.link_end.LinkEnd.TheVariants as ends;
+ghost use Rattle.imap_exchange.specs.Received.{Octets};
+ghost use Rattle.imap_exchange.specs.Exchanges.{Verdict, Done, IsVerdict, IsPart, pieces_due};
+ghost use Rattle.imap_exchange.specs.Answering.{IsCause};
+
+/// Octets have one verdict on an exchange, so each comes exactly where it is right.
+pub fn one_verdict()
+    ensures { (tag : List ℕ) (pieces : List (List ℕ)) (octets : List ℕ) (v w : Verdict) → IsVerdict tag pieces octets v → IsVerdict tag pieces octets w → v ≡ w }
+{}
+
+/// No more of a command is taken than the pieces that are due by the responses before the verdict: none after a tagged
+/// line, and no literal before its continuation.
+pub fn each_piece_is_due()
+    ensures { (tag : List ℕ) (pieces : List (List ℕ)) (octets took : List ℕ) (verdict : Verdict) (v : IsVerdict tag pieces octets verdict) → IsPart pieces octets took → (left : List ℕ) × (took ++ left ≡ joined_pieces (pieces_due pieces v.responses)) }
+{}
+
+/// Once the tagged line came, no other end is answered than want of memory: where it isn't OK, or the command was taken whole.
+pub fn no_end_after_an_answer()
+    ensures { (tag : List ℕ) (pieces : List (List ℕ)) (before : Octets) (gave took : List ℕ) (responses : List Response) (s : Status) (code : Code) (rest : List ℕ) (e : LinkEnd)
+        → IsVerdict tag pieces (before.octets ++ gave) (Done responses s code rest) → (s ≢ statuses.Ok) ⊎ (took ≡ joined_pieces pieces)
+        → IsCause tag pieces before gave took e → e ≡ ends.Memory }
+{}
+
+/// A tagged line says OK, NO or BAD.
+pub fn statuses_of_answers()
+    ensures { (tag : List ℕ) (pieces : List (List ℕ)) (octets rest : List ℕ) (responses : List Response) (s : Status) (code : Code)
+        → IsVerdict tag pieces octets (Done responses s code rest) → (s ≡ statuses.Ok) ⊎ (s ≡ statuses.No) ⊎ (s ≡ statuses.Bad) }
+{}

@@ -1,0 +1,17 @@
+//! One exchange with an IMAP store (RFC 9051 section 2.2): responses in any pieces, a command's pieces each after its
+//! continuation, and what the octets say of the exchange.
+#![tactic(auto)]
+
+mod exchange;
+mod laws;
+mod link_end;
+mod received;
+mod response;
+mod sending;
+
+pub use exchange::complete;
+pub use laws::{each_piece_is_due, no_end_after_an_answer, one_verdict, statuses_of_answers};
+pub use link_end::{LinkEnd, MAX_EXCHANGE_OCTETS, MAX_LIFE_OCTETS};
+pub use received::Received;
+pub use response::next_response;
+pub use sending::hang_up_where;
