@@ -1,6 +1,6 @@
+pub mod Bodies
+pub mod Capabilities
 pub mod HexText
-pub mod Lists
-pub mod Names
-pub mod Parts
-pub mod Reading
+pub mod Ids
+pub mod Paths
 pub mod Whole

@@ -1,7 +1,12 @@
-pub mod Form
-pub mod MailboxGet
+pub mod Arguments
+pub mod CreatedIds
+pub mod Echo
+pub mod Method
+pub mod Outcome
 pub mod Problem
+pub mod References
 pub mod Request
 pub mod Response
 pub mod Session
 pub mod State
+pub mod reading

@@ -1,19 +1,92 @@
--- The bodies that are requests (RFC 8620 section 3.3): a Mailbox/get of the INBOX, in one form.
-use Rattle.std.specs.Prelude.{◌≡◌, ℕ, List, Bool, ◌||◌, Some, IsTrue, IsUtf8, bytes_eq, codes, map}
+-- The request that a body is, or the first reason why it is none (RFC 8620 sections 3.3 and 3.6.1).
+use Rattle.std.specs.Prelude.{ℕ, List, [], ◌∷◌, Bool, ◌||◌, if◌then◌else◌, bytes_eq, codes, nat_lt, length, map, Option, Some, None, option_map, option_and_then, Result, Ok, Err}
 use Rattle.std.specs.List.{list_any, list_all}
-use Rattle.serde_json.specs.Data.{Data, string, array, object, Items, no_items, item, no_members, member}
+use Rattle.std.specs.Str.{is_utf8}
+use Rattle.serde_json.specs.Data.{Data, null, boolean, number, string, array, object, Items, no_items, item, Members}
+use Rattle.serde_json.specs.Find.{get, as_str, as_array, as_object}
 use Rattle.serde_json.specs.Read.{read}
-use Rattle.serde_json.specs.View.{items_of}
+use Rattle.serde_json.specs.View.{view}
+use Rattle.jmap_core.specs.CreatedIds.{Ids, given_to}
+use Rattle.jmap_core.specs.declared.call.Call.{Call}
 use Rattle.jmap_core.specs.declared.request.Request.{Request}
+use Rattle.jmap_core.specs.declared.request.Using.{Using}
+use Rattle.jmap_core.specs.declared.request.LimitName.TheVariants.{MaxCallsInRequest}
+use Rattle.jmap_core.specs.declared.request.RequestError.{RequestError}
+use Rattle.jmap_core.specs.declared.request.RequestError.TheVariants.{NotJson, NotRequest, UnknownCapability, Limit}
 
--- a list of texts
-abbrev pub texts : List (List ℕ) → Items
-texts names = items_of (map string names)
+-- a method call, or the response to one (RFC 8620 section 3.2)
+pub record CallData : Type 0 where
+  pub name : List ℕ
+  pub arguments : Data
+  pub id : List ℕ
 
-abbrev pub is_among : List (List ℕ) → List ℕ → Bool
-is_among names name = list_any (λ n. bytes_eq n name) names
+abbrev pub call_data : Call → CallData
+call_data call = record { name = call.name; arguments = view call.arguments; id = call.id }
 
--- the two capabilities
+-- a request: which capabilities it uses, its calls, and the ids created earlier where it has them
+pub record RequestData : Type 0 where
+  pub uses : Using
+  pub calls : List CallData
+  pub created : Option Ids
+
+abbrev pub request_data : Request → RequestData
+request_data request = record { uses = request.using; calls = map call_data request.calls.items; created = request.created }
+
+-- ---- the form of a request: `using`, a list of texts; `methodCalls`, a list of calls; `createdIds`, where it isn't absent or null an object of texts
+
+pub record Form : Type 0 where
+  pub uses : List (List ℕ)
+  pub calls : List CallData
+  pub created : Option Ids
+
+abbrev pub texts_in : Items → Option (List (List ℕ))
+texts_in no_items = Some []
+texts_in (item d ds) = option_and_then (λ text. option_map (λ texts. text ∷ texts) (texts_in ds)) (as_str d)
+
+-- a call is a text, an object and a text
+abbrev pub call_from : Option (List ℕ) → Data → Option Members → Option (List ℕ) → Option CallData
+call_from (Some name) arguments (Some found) (Some id) = Some (record { name = name; arguments = arguments; id = id })
+call_from (Some name) arguments (Some found) None = None
+call_from (Some name) arguments None id = None
+call_from None arguments found id = None
+
+abbrev pub call_of_items : Items → Option CallData
+call_of_items no_items = None
+call_of_items (item a no_items) = None
+call_of_items (item a (item b no_items)) = None
+call_of_items (item a (item b (item c no_items))) = call_from (as_str a) b (as_object b) (as_str c)
+call_of_items (item a (item b (item c (item d ds)))) = None
+
+abbrev pub call_in : Data → Option CallData
+call_in d = option_and_then call_of_items (as_array d)
+
+abbrev pub calls_in : Items → Option (List CallData)
+calls_in no_items = Some []
+calls_in (item d ds) = option_and_then (λ call. option_map (λ calls. call ∷ calls) (calls_in ds)) (call_in d)
+
+abbrev pub created_in : Option Data → Option (Option Ids)
+created_in None = Some None
+created_in (Some null) = Some None
+created_in (Some (boolean b)) = None
+created_in (Some (number n)) = None
+created_in (Some (string s)) = None
+created_in (Some (array ds)) = None
+created_in (Some (object ms)) = option_map Some (given_to [] ms)
+
+abbrev pub form_from : Option (List (List ℕ)) → Option (List CallData) → Option (Option Ids) → Option Form
+form_from (Some uses) (Some calls) (Some created) = Some (record { uses = uses; calls = calls; created = created })
+form_from (Some uses) (Some calls) None = None
+form_from (Some uses) None created = None
+form_from None calls created = None
+
+abbrev pub form_of : Data → Option Form
+form_of d = form_from
+    (option_and_then texts_in (option_and_then as_array (get (codes "using") d)))
+    (option_and_then calls_in (option_and_then as_array (get (codes "methodCalls") d)))
+    (created_in (get (codes "createdIds") d))
+
+-- ---- the checks in order
+
 abbrev pub core_capability : List ℕ
 core_capability = codes "urn:ietf:params:jmap:core"
 
@@ -23,43 +96,31 @@ mail_capability = codes "urn:ietf:params:jmap:mail"
 abbrev pub is_capability : List ℕ → Bool
 is_capability name = bytes_eq name core_capability || bytes_eq name mail_capability
 
-abbrev pub is_property : List ℕ → Bool
-is_property name = bytes_eq name (codes "id") || bytes_eq name (codes "totalEmails") || bytes_eq name (codes "unreadEmails")
+abbrev pub is_among : List ℕ → List (List ℕ) → Bool
+is_among name names = list_any (λ n. bytes_eq n name) names
 
--- the arguments of a Mailbox/get that wants these properties of the INBOX
-abbrev pub arguments_data : List (List ℕ) → Data
-arguments_data properties = object
-    (member (codes "accountId") (string (codes "a1"))
-    (member (codes "ids") (array (item (string (codes "m1")) no_items))
-    (member (codes "properties") (array (texts properties))
-    no_members)))
+abbrev pub using_of : List (List ℕ) → Using
+using_of names = record { core = is_among core_capability names; mail = is_among mail_capability names }
 
--- a call: its name, its arguments and its id
-abbrev pub call_data : List ℕ → Data → List ℕ → Data
-call_data name arguments id = array (item (string name) (item arguments (item (string id) no_items)))
+-- the form names no other capability, and has at most 16 calls
+abbrev pub admitted : Form → Result RequestData RequestError
+admitted form = if list_all is_capability form.uses
+    then (if nat_lt 16 (length form.calls) then Err (Limit MaxCallsInRequest)
+    else Ok (record { uses = using_of form.uses; calls = form.calls; created = form.created }))
+    else Err UnknownCapability
 
--- a request that uses these capabilities, and makes this one call
-abbrev pub request_data : List (List ℕ) → Data → Data
-request_data capabilities call = object
-    (member (codes "methodCalls") (array (item call no_items))
-    (member (codes "using") (array (texts capabilities))
-    no_members))
+abbrev pub admitted_form : Option Form → Result RequestData RequestError
+admitted_form None = Err NotRequest
+admitted_form (Some form) = admitted form
 
--- The data is a request with both capabilities and no other, for known properties.
-pub record Asks (d : Data) (request : Request) : Type 0 where
-  pub capabilities : List (List ℕ)
-  pub properties : List (List ℕ)
-  pub form : d ≡ request_data capabilities (call_data (codes "Mailbox/get") (arguments_data properties) request.id)
-  pub uses_core : IsTrue (is_among capabilities core_capability)
-  pub uses_mail : IsTrue (is_among capabilities mail_capability)
-  pub uses_no_other : IsTrue (list_all is_capability capabilities)
-  pub knows_properties : IsTrue (list_all is_property properties)
-  pub total_emails : request.properties.total_emails ≡ is_among properties (codes "totalEmails")
-  pub unread_emails : request.properties.unread_emails ≡ is_among properties (codes "unreadEmails")
+-- a body is JSON where it is UTF-8 and reads as a value
+abbrev pub json_in : List ℕ → Option Data
+json_in body = if is_utf8 body then read body else None
 
--- the body is a text that reads as such data
-pub record IsRequest (body : List ℕ) (request : Request) : Type 0 where
-  pub is_text : IsUtf8 body
-  pub value : Data
-  pub reads : read body ≡ Some value
-  pub asks : Asks value request
+abbrev pub request_of : Option Data → Result RequestData RequestError
+request_of None = Err NotJson
+request_of (Some d) = admitted_form (form_of d)
+
+-- what a body asks, or the first refusal
+abbrev pub requested : List ℕ → Result RequestData RequestError
+requested body = request_of (json_in body)

@@ -1,22 +1,34 @@
-//! What a JMAP request asks, and the texts of the answers to it.
+//! JMAP requests and responses (RFC 8620): what a body asks, result references, the Session, and the texts of answers.
 #![tactic(auto)]
 
-mod counts;
-mod form;
-mod mailbox_get;
+mod arguments;
+mod call;
+mod core_echo;
+mod created_ids;
+mod method;
+mod method_error;
+mod pointer;
 mod problem;
+mod references;
 mod request;
+mod request_body;
 mod response;
 mod session;
 mod state;
-#[cfg(test)]
-mod tests;
 
-pub use counts::Counts;
-pub use form::{one_request, read_request};
-pub use mailbox_get::{mailbox_response, unavailable_response};
-pub use problem::not_request;
-pub use request::{Properties, Request, RequestError};
-pub use response::{Call, response_text};
-pub use session::session_state;
+pub use arguments::{
+    MAX_OBJECTS_IN_GET, MAX_WHOLE_NUMBER, check_account, check_count, text_at, texts_or_null,
+    whole_or_null,
+};
+pub use call::Call;
+pub use core_echo::echo;
+pub use created_ids::CreatedIds;
+pub use method::{Method, method_named, needs_mail};
+pub use method_error::{MethodError, error_arguments};
+pub use problem::{problem_status, problem_text};
+pub use references::resolve;
+pub use request::{LimitName, Request, RequestError, Using};
+pub use request_body::{MAX_CALLS_IN_REQUEST, read_request};
+pub use response::{response_text, response_value};
+pub use session::{session_object, session_state};
 pub use state::{State, state_text};

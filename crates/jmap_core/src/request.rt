@@ -2,29 +2,48 @@
 ghost use Rattle.std.specs.Prelude.{◌≡◌};
 ghost use Rattle.jmap_core.specs.declared.request.RequestError.TheVariants.{Memory};
 
-use gate_world::Text;
+use crate::call::Call;
+use crate::created_ids::CreatedIds;
 use std::alloc::AllocError;
 use thiserror::Error;
 
-/// Which counts of a Mailbox are wanted. Its id always is.
+/// Which capabilities a request uses (RFC 8620 section 3.3).
 #[derive(Clone, Copy, Debug, PartialEq, Eq)]
-pub struct Properties {
-    pub total_emails: bool,
-    pub unread_emails: bool,
+pub struct Using {
+    /// `urn:ietf:params:jmap:core`
+    pub core: bool,
+    /// `urn:ietf:params:jmap:mail`
+    pub mail: bool,
 }
 
-/// A request for the INBOX: the properties that are wanted of it, and the call's id.
-#[derive(Debug, Drop)]
+/// A request (RFC 8620 section 3.3).
+#[derive(Drop)]
 pub struct Request {
-    pub properties: Properties,
-    pub id: Text,
+    pub using: Using,
+    pub calls: Vec<Call>,
+    /// The ids created earlier, where the request has `createdIds`.
+    pub created: Option<CreatedIds>,
 }
 
-/// Why a body is answered by no method response.
+/// A limit of the Session (RFC 8620 section 2).
+#[derive(Clone, Copy, Debug, PartialEq, Eq)]
+pub enum LimitName {
+    MaxSizeRequest,
+    MaxCallsInRequest,
+    MaxSizeUpload,
+}
+
+/// Why a body is answered by no method response (RFC 8620 section 3.6.1).
 #[derive(Clone, Copy, Debug, PartialEq, Eq, Error)]
 pub enum RequestError {
-    #[error("no request")]
+    #[error("not JSON")]
+    NotJson,
+    #[error("not a request")]
     NotRequest,
+    #[error("unknown capability")]
+    UnknownCapability,
+    #[error("past a limit")]
+    Limit { name: LimitName },
     #[error("out of memory")]
     Memory,
 }

@@ -1,0 +1,7 @@
+-- References and values on the way, for private clauses.
+use Rattle.std.specs.Prelude.{ℕ, List, Option, Some, None, option_map}
+use Rattle.jmap_core.specs.References.{Reference as ReferenceData}
+use Rattle.jmap_core.specs.declared.references.Reference.{Reference}
+
+abbrev pub reference_data : Reference → ReferenceData
+reference_data reference = record { result_of = reference.result_of.now; name = reference.name.now; path = reference.path.now }

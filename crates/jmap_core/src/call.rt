@@ -1,0 +1,12 @@
+// A method call, and the response to one.
+use gate_world::Text;
+use serde_json::Value;
+
+/// A method call (RFC 8620 section 3.2): the method's name, its arguments and the id of the call. The response to one
+/// has the same three.
+#[derive(Drop)]
+pub struct Call {
+    pub name: Text,
+    pub arguments: Value,
+    pub id: Text,
+}

@@ -1,0 +1,9 @@
+//! Tests of JMAP requests, references and methods: tables of bodies and what is answered to them.
+#![tactic(auto)]
+
+#[cfg(test)]
+mod methods;
+#[cfg(test)]
+mod references;
+#[cfg(test)]
+mod requests;
