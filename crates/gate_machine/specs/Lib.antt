@@ -2,3 +2,4 @@ pub mod History
 pub mod Machine
 pub mod Progress
 pub mod Beginning
+pub mod Obeying

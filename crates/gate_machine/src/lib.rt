@@ -5,8 +5,10 @@ mod standing;
 mod known;
 mod machine;
 mod beginning;
+mod laws;
 
 pub use beginning::{begin, visit};
 pub use known::Known;
+pub use laws::obeyed_rounds_stand;
 pub use machine::Machine;
 pub use standing::{CommitEnd, Fall, Standing};

@@ -6,3 +6,4 @@ mod Showing
 mod Calling
 mod CompletingShow
 mod Performing
+mod Needs

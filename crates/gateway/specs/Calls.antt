@@ -11,7 +11,7 @@ use Rattle.jmap_core.specs.declared.method.Method.TheVariants.{CoreEcho, Mailbox
 use Rattle.jmap_core.specs.declared.method_error.MethodError.{MethodError}
 use Rattle.jmap_core.specs.declared.request.Using.{Using}
 use Rattle.jmap_core.specs.State.{state_text}
-use Rattle.read_methods.specs.MailboxGet.{mailboxes_answer}
+use Rattle.read_methods.specs.Mailboxes.{mailboxes_answer}
 use Rattle.gateway.specs.declared.served_mail.ServedMail.{ServedMail}
 
 -- The mail over which calls are answered; or the error of each call that needs the mail and isn't refused by its name or

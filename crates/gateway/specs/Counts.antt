@@ -3,8 +3,8 @@
 use Rattle.std.specs.Prelude.{◌&&◌, ℕ, Bool, not, List, map, count_by, bytes_eq, codes}
 use Rattle.std.specs.List.{list_any}
 use Rattle.told_mail.specs.Mail.{Mail}
-use Rattle.told_mail.specs.declared.message.Held.{Held}
-use Rattle.told_mail.specs.declared.message.Message.{Message}
+use Rattle.told_folder.specs.declared.message.Held.{Held}
+use Rattle.told_folder.specs.declared.message.Message.{Message}
 use Rattle.gate_machine.specs.History.{History}
 use Rattle.gateway.specs.declared.served_mail.ServedMail.{ServedMail}
 use Rattle.read_methods.specs.declared.mailbox_counts.MailboxCounts.{MailboxCounts}

@@ -7,7 +7,7 @@ ghost use Rattle.jmap_core.specs.Request.{call_data};
 ghost use Rattle.jmap_core.specs.Response.{IsWhole};
 ghost use Rattle.jmap_core.specs.declared.method_error.MethodError.TheVariants.{Memory};
 ghost use Rattle.jmap_core.specs.State.{state_text};
-ghost use Rattle.read_methods.specs.MailboxGet.{mailboxes_answer};
+ghost use Rattle.read_methods.specs.Mailboxes.{mailboxes_answer};
 ghost use Rattle.gateway.specs.Calls as spec;
 ghost use Rattle.gateway.specs.Calls.{response_to, responses_after};
 

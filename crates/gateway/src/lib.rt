@@ -11,6 +11,7 @@ mod calls;
 mod requests;
 mod bare_gate;
 mod serving;
+mod laws;
 
 mod show;
 mod program;
@@ -18,6 +19,7 @@ mod program;
 pub use bare_gate::BareGate;
 pub use gate::Gate;
 pub use gate_words::{Place, Task, WordsError, read_words};
+pub use laws::{no_fault_no_blame, no_life_without_need, obeyed_requests_answered};
 pub use program::run;
 pub use served::{OpenError, Served};
 pub use serving::serve;
