@@ -1,5 +1,5 @@
 -- The plan by which a client connects.
-use Rattle.std.proofs.Common.{◌≡◌, ◌≢◌, ◌++◌, ℕ, Bool, false, List, [], ◌∷◌, refl, sym, ◌∙◌, ap}
+use Rattle.std.proofs.Common.{Result, Ok, Err, OnOk, ◌≡◌, ◌≢◌, ◌++◌, ℕ, Bool, false, List, [], ◌∷◌, refl, sym, ◌∙◌, ap}
 use Rattle.imap_syntax.specs.declared.command.Command.{Command}
 use Rattle.imap_syntax.specs.declared.response.Status.{Status}
 use Rattle.imap_syntax.specs.declared.response.Status.TheVariants as status
@@ -39,3 +39,8 @@ stops_by preauth user password at (y ∷ ys) command x is bad = stops_by preauth
 
 pub connecting_stops : (preauth : Bool) (user password : List ℕ) (at : Stage) → StopsAtRefusal (planned_from preauth user password at)
 connecting_stops preauth user password at = record { stops = λ xs command x is other. stops_by preauth user password at xs command x is (not_ok x.status other) }
+
+-- what follows where a call was Ok
+pub on_ok : {A E P Q : Type 0} (r : Result A E) → (P → Q) → OnOk r P → OnOk r Q
+on_ok (Ok x) step so = step so
+on_ok (Err e) step so = tt

@@ -79,8 +79,7 @@ pub lived : {xs : List Event} (ys : List Event) (user password : List ℕ) (afte
     → ((life : LinkLife) → Stands before life → (left : LinkLife) × (exchanges : List Exchange) × Follows (planned_from preauth user password at) life left exchanges client result ys)
     → (left : Option LinkLife) × Lives user password left client result (xs ++ ys)
 lived {xs} ys user password after up preauth at before client result before_is up_is at_is g follows =
-    let so = follows life (subst (λ (p : ClientState). Stands p life) (sym before_is) stands) in
-    (
+    let so = follows life (subst (λ (p : ClientState). Stands p life) (sym before_is) stands) in (
       Some so.0,
       Welcome life so.0 preauth so.1 g.talk ys (ap (λ (l : List Event). l ++ ys) events_are) g.said (record { greeted = g.greets.2; unasked = refl; untaken = refl; whole = refl; alive = refl }) g.greets.1 (subst (λ (s : Stage). Follows (planned_from preauth user password s) life so.0 so.1 client result ys) at_is so.2) refl,
     )

@@ -96,16 +96,16 @@ goes_ok {es} life on command x n before after up client folder n_is before_is fo
       with_exchange life there.speaks.gave there.speaks.took x after.octets up,
       record {
         ends = record {
-        on = on;
-        speaks = there.speaks;
-        rest = after.octets;
-        after_is = refl;
-        command_is = command_is;
-        selected_is = selected_is ∙ folder_is;
-        verdict = there.comes.0;
-        taken = there.comes.1;
-        refused = there.comes.3;
-        all_taken = there.comes.4;
+          on = on;
+          speaks = there.speaks;
+          rest = after.octets;
+          after_is = refl;
+          command_is = command_is;
+          selected_is = selected_is ∙ folder_is;
+          verdict = there.comes.0;
+          taken = there.comes.1;
+          refused = there.comes.3;
+          all_taken = there.comes.4;
         };
         stands = stands there.speaks.gave there.speaks.took (record { verdict = verdict; taken = taken }) there.comes.2;
       },
@@ -143,10 +143,10 @@ goes_not {xs} ys life command e folder n alive up before after is_alive stands s
       with_part life there.speaks.gave there.speaks.took,
       record {
         ends = record {
-        on = on;
-        speaks = record { talk = there.speaks.talk; gave = there.speaks.gave; took = there.speaks.took; ended = ended_by up there.speaks.talk there.speaks.ended hangs; said = there.speaks.said; paced = there.speaks.paced };
-        after_is = refl;
-        cause = there.comes;
+          on = on;
+          speaks = record { talk = there.speaks.talk; gave = there.speaks.gave; took = there.speaks.took; ended = ended_by up there.speaks.talk there.speaks.ended hangs; said = there.speaks.said; paced = there.speaks.paced };
+          after_is = refl;
+          cause = there.comes;
         };
         stands = stands_ended (with_part life there.speaks.gave there.speaks.took) refl (life_part life there.speaks.gave there.speaks.took stands.spelled);
       },

@@ -99,8 +99,7 @@ wanting {xs = xs} ys next none so hangs =
 pub gone : {plan : Planned} {life : LinkLife} {heard : List Exchange} {client : ClientState} {xs : List Event} (ys : List Event) (command : Command) (next : ClientState) → plan heard ≡ due.Send command → next ≡ fresh → client.alive ≡ false → Going plan life heard client xs
     → HangsUp client.alive ys → Left plan life heard next (Err end.Lost) (xs ++ ys)
 gone {xs = xs} ys command next is none dead so hangs =
-    let over = sym so.stands.alive ∙ dead in
-    (
+    let over = sym so.stands.alive ∙ dead in (
       so.after,
       record {
         after = so.after;

@@ -111,8 +111,7 @@ body_folded : {first last : BodyFetch} {xs : List Exchange} → HearsAll BodyHea
 body_folded HeardNone = (refl, refl, refl)
 body_folded {first} (HeardMore {xs} {mid} {after} x so (folder_is, uid_is, is)) =
     let before = body_folded so in
-    let here : body_view after ≡ body_step first.folder first.uid (body_view mid) x = is ∙ (λ i. body_step (before.0 i) (before.1 i) (body_view mid) x) in
-    (
+    let here : body_view after ≡ body_step first.folder first.uid (body_view mid) x = is ∙ (λ i. body_step (before.0 i) (before.1 i) (body_view mid) x) in (
       folder_is ∙ before.0,
       uid_is ∙ before.1,
       here ∙ ap (λ (s : BodyState). body_step first.folder first.uid s x) before.2 ∙ sym (fold-append (body_step first.folder first.uid) (body_view first) xs (x ∷ [])),
@@ -157,10 +156,10 @@ same_end e f is = cc
 -- the fetch of a body that was followed up to its end
 pub body_ended : {life left : LinkLife} {client : ClientState} {es : List Event} (e : LinkEnd) (folder uid : ℕ) (before after : Mail) (first last : BodyFetch) → first.folder ≡ folder → first.uid ≡ uid → first.stage ≡ body_begun (selected life) (folder_in before.folders folder) → first.mirror.mail ≡ before
     → last.mirror.mail ≡ after → FollowsBody first last life left client (Err e) es → FetchesBody folder uid before after life left client (Err e) es
-body_ended e folder uid before after first last folder_is uid_is stage_is mail_is after_is f =
+body_ended {life = life} e folder uid before after first last folder_is uid_is stage_is mail_is after_is f =
     record {
       exchanges = f.exchanges;
-      follows = follows_body folder uid before first folder_is uid_is (body_starts _ folder uid before first stage_is mail_is) f.follows;
+      follows = follows_body folder uid before first folder_is uid_is (body_starts (selected life) folder uid before first stage_is mail_is) f.follows;
       told = λ other. body_told folder uid before after first last folder_is uid_is mail_is after_is (f.heard (λ is. other (ap Err (same_end e end.Memory is))));
       body = λ octets is. absurd (cc is);
     }

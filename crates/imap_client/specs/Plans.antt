@@ -26,7 +26,7 @@ pub record StopsAtRefusal (plan : Planned) : Type 0 where
 pub data Ran (plan : Planned) (life : LinkLife) : List Exchange → LinkLife → List Event → Type 0 where
   Begun : Ran plan life [] life []
   Then : {xs : List Exchange} {mid after : LinkLife} {es fs : List Event} (command : Command) (x : Exchange) → Ran plan life xs mid es → plan xs ≡ due.Send command
-    → Completes mid command x after fs → Ran plan life (xs ++ x ∷ []) after (es ++ fs)
+      → Completes mid command x after fs → Ran plan life (xs ++ x ∷ []) after (es ++ fs)
 
 -- The exchanges that a plan heard, from one state of its own to another.
 pub data HearsAll {S : Type 0} (hears : S → Exchange → S → Type 0) (before : S) : List Exchange → S → Type 0 where

@@ -28,8 +28,8 @@ pub struct Client {
 
 impl Model for Client {
     ghost use Rattle.std.specs.Prelude.{◌≤◌, ◌+◌};
-ghost use Rattle.imap_exchange.specs.Received.{most_given, room_left};
-ghost use Rattle.imap_client.specs.LinkLife.{ClientState};
+    ghost use Rattle.imap_exchange.specs.Received.{most_given, room_left};
+    ghost use Rattle.imap_client.specs.LinkLife.{ClientState};
 
     ghost Value = { ClientState };
 
@@ -109,11 +109,7 @@ impl Client {
     /// Sends the command and reads what the store answers, up to the tagged line: also NO and BAD are completed exchanges.
     /// After an Err the link life has ended, and after an Ok too where the client isn't alive: then the store refused the
     /// command while the link failed.
-    pub fn exchange<L: Link>(
-        &mut self,
-        link: &mut L,
-        command: Command,
-    ) -> Result<Exchange, LinkEnd>
+    pub fn exchange<L: Link>(&mut self, link: &mut L, command: Command) -> Result<Exchange, LinkEnd>
         requires { self.old.alive ≡ true }
         ensures tape { Adds (L.tape link.old) (L.tape link.new) (λ es. (life : LinkLife) → Stands self.old life → (left : LinkLife) × IsExchanged life command left self.new result es) }
         ensures alive { IfOk result (λ x. x.status ≡ statuses.Ok → self.new.alive ≡ true) }
@@ -145,7 +141,10 @@ impl Client {
             }
             Err(end) => {
                 hang_up_where(link, up);
-                self.end();
+                self.alive = false;
+                self.unread = Received::new(self.alloc);
+                self.number = 1;
+                self.selected = None;
                 Err(end)
             }
         }

@@ -43,7 +43,9 @@ pub fn is_ok(status: Status) -> bool
 fn has_word(words: &[Bytes], word: &[u8]) -> bool
     ensures { result ≡ list_any (str_eq_ignore_ascii_case word.now) words.now }
 {
-    words.iter().any(|told| word.eq_ignore_ascii_case(told.as_slice()))
+    words
+        .iter()
+        .any(|told| word.eq_ignore_ascii_case(told.as_slice()))
 }
 
 fn has_capability(response: &Response, word: &[u8]) -> bool

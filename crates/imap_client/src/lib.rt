@@ -2,18 +2,14 @@
 //! a round over all folders, the body of a message.
 #![tactic(auto)]
 
-mod plan;
-
+mod body;
 mod client;
-mod following;
-
 mod connection;
 mod dialing;
-
-mod body;
-mod round;
-
+mod following;
 mod laws;
+mod plan;
+mod round;
 
 pub use client::Client;
 pub use following::follow;

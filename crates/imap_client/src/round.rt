@@ -30,14 +30,8 @@ pub enum RoundStage {
     Listing,
     Selecting(usize),
     /// The UIDNEXT is the one that the folder's SELECT told; 0 where it told none.
-    FetchingFlags {
-        at: usize,
-        uid_next: u32,
-    },
-    FetchingHeaders {
-        at: usize,
-        uid_next: u32,
-    },
+    FetchingFlags { at: usize, uid_next: u32 },
+    FetchingHeaders { at: usize, uid_next: u32 },
     Finished,
     Failing(Refusal),
 }

@@ -49,3 +49,13 @@ returns-in-Ok-Fails-clause-tape g c =
 
 pub returns-in-Err-clause-tape : goal.returns-in-Err-clause-tape
 returns-in-Err-clause-tape g c = course_wants c.following.plan c.leave-in-Err.new.self c.leave-in-Err.ensures.left c.following.invariant.course c.leave-in-Err.ensures.tape
+
+pub returns-in-Ok-Done-clause-tape : goal.returns-in-Ok-Done-clause-tape
+returns-in-Ok-Done-clause-tape g c =
+    let is = rw c.in-Ok-Done.field-0-is at c.in-Ok-Done.ensures in
+    course_done is c.following.invariant.course
+
+pub returns-in-Ok-Done-clause-alive : goal.returns-in-Ok-Done-clause-alive
+returns-in-Ok-Done-clause-alive g c =
+    let is = rw c.in-Ok-Done.field-0-is at c.in-Ok-Done.ensures in
+    course_alive is c.following.invariant.course

@@ -17,4 +17,4 @@ returns-then-not-up-clause-tape g c =
 pub returns-in-Err-clause-tape : goal.returns-in-Err-clause-tape
 returns-in-Err-clause-tape g c =
     let alive : c.self.inside.alive ≡ true = (λ i. (c.self.view_is i).alive) ∙ c.requires in
-    rw c.end-in-Err.ensures (join _ c.in-Err.ensures.tape c.hang_up_where.ensures.tape (λ x y so hangs life stands. goes_not y life c.args.command c.in-Err.end c.self.inside.selected c.self.inside.number c.self.inside.alive c.complete.new.up c.self.inside.unread c.complete.new.received alive (subst (λ (p : ClientState). Stands p life) (sym c.self.view_is) stands) so hangs))
+    rw c.new.ensures (join _ c.in-Err.ensures.tape c.hang_up_where.ensures.tape (λ x y so hangs life stands. goes_not y life c.args.command c.in-Err.end c.self.inside.selected c.self.inside.number c.self.inside.alive c.complete.new.up c.self.inside.unread c.complete.new.received alive (subst (λ (p : ClientState). Stands p life) (sym c.self.view_is) stands) so hangs))

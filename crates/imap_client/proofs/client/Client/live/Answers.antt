@@ -1,4 +1,5 @@
 use Rattle.gate_world.proofs.Joins.{join}
+use Rattle.imap_client.proofs.Connections.{connecting_stops, on_ok}
 use Rattle.imap_client.proofs.Greetings.{lived, unwelcome}
 use Rattle.imap_client.proofs.client.Client.live.Goals as goal
 
@@ -9,3 +10,6 @@ returns-in-Ok-clause-tape g c =
 pub returns-in-Err-clause-tape : goal.returns-in-Err-clause-tape
 returns-in-Err-clause-tape g c =
     join _ c.in-Err.ensures.tape c.hang_up_where.ensures.tape (λ x y greets hangs. unwelcome y c.args.connection.user c.args.connection.password c.greet.new.unread c.greet.new.up c.in-Err.end c.args.self.now greets hangs)
+
+pub returns-in-Ok-clause-alive : goal.returns-in-Ok-clause-alive
+returns-in-Ok-clause-alive g c = on_ok c.follow.result (λ alive. alive (connecting_stops _ _ _ _)) c.follow.ensures.alive

@@ -1,7 +1,21 @@
-use Rattle.std.proofs.Common.{◌≡◌, ◌∙◌, sym, ap, subst}
+use Rattle.std.proofs.Common.{refl, ap, subst}
 use Rattle.gate_world.proofs.Joins.{widen}
-use Rattle.imap_client.proofs.RoundSteps.{rounded, counts_none}
+use Rattle.told_mail.specs.Told.{Told}
+use Rattle.imap_client.specs.declared.round.RoundStage.TheVariants as stage
+use Rattle.imap_client.specs.Rounds.{CountsOn}
+use Rattle.imap_client.proofs.Connections.{on_ok}
+use Rattle.imap_client.proofs.RoundSteps.{rounded, round_stops, counts_none}
 use Rattle.imap_client.proofs.client.Client.round.Goals as goal
 
 pub returns-clause-tape : goal.returns-clause-tape
-returns-clause-tape g c = ?
+returns-clause-tape g c =
+    widen _ c.follow-result.ensures.tape (λ x so life stands. let f = so life stands in (f.0, rounded c.args.mirror.now.mail c.follow-result.new.plan.mirror.mail (record { stage = stage.Listing; mirror = c.replace.result }) c.follow-result.new.plan refl (ap (λ (t : Told). t.mail) c.replace.ensures.value) refl f.1))
+
+pub returns-clause-alive : goal.returns-clause-alive
+returns-clause-alive g c = on_ok c.follow-result.result (λ alive. alive (round_stops _)) c.follow-result.ensures.alive
+
+pub returns-clause-counts : goal.returns-clause-counts
+returns-clause-counts g c = subst (λ (t : Told). CountsOn t c.follow-result.new.plan.mirror) c.replace.ensures.value c.follow-result.ensures.kept
+
+pub follow-result-requires-clause-kept : goal.follow-result-requires-clause-kept
+follow-result-requires-clause-kept g c = counts_none _
