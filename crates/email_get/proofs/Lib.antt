@@ -1,1 +1,10 @@
-
+pub mod MomentLemmas
+pub mod HeaderLemmas
+pub mod PlainLemmas
+pub mod LeafLemmas
+pub mod ListLemmas
+pub mod WholeLemmas
+pub mod KinLemmas
+pub mod OneObject
+pub mod TextLemmas
+pub mod TagLemmas

@@ -1,1 +1,10 @@
+pub mod Texts
+pub mod Leaves
+pub mod Values
+pub mod Previews
+pub mod PartObjects
+pub mod BodyValues
+pub mod HeaderProperties
+pub mod MomentText
 pub mod EmailObjects
+pub mod reading

@@ -1,17 +1,17 @@
-//! Stand-in for email_get.
+//! What the octets of a message are as an Email object (RFC 8621).
 #![tactic(auto)]
 
-ghost use Rattle.std.specs.Prelude.{◌≡◌, IfOk, false};
-ghost use Rattle.serde_json.specs.View.{view};
-ghost use Rattle.serde_json.specs.Written.{has_float};
-ghost use Rattle.email_get.specs.EmailObjects.{IsEmailObject};
+mod bodies;
+mod email_objects;
+pub mod header_laws;
+pub mod header_properties;
+pub mod laws;
+mod leaves;
+mod moment_text;
+mod part_objects;
+mod previews;
+mod texts;
+mod values;
 
-use serde_json::Value;
-use std::alloc::{AllocError, Global};
-
-pub fn email_object(alloc: Global, bytes: &[u8]) -> Result<Value, AllocError>
-    ensures object { IfOk result (λ v. IsEmailObject bytes.now (view v)) }
-    ensures whole { IfOk result (λ v. has_float (view v) ≡ false) }
-{
-    Err(AllocError)
-}
+pub use email_objects::email_object;
+pub use header_properties::{HeaderValues, header_values};

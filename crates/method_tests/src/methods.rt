@@ -58,7 +58,11 @@ const SECOND: &str = "{\"id\":\"m12\",\"totalEmails\":0,\"unreadEmails\":1844674
 /// The arguments beside the account, the list and the ids not found.
 const ANSWERS: [(&str, &[&str], &str); 7] = [
     ("", &[FIRST, SECOND], ""),
-    (",\"ids\":null,\"properties\":null,\"x\":1.5", &[FIRST, SECOND], ""),
+    (
+        ",\"ids\":null,\"properties\":null,\"x\":1.5",
+        &[FIRST, SECOND],
+        "",
+    ),
     (",\"ids\":[]", &[], ""),
     (",\"ids\":[\"m12\",\"m1\",\"m12\"]", &[SECOND, FIRST], ""),
     (
@@ -66,7 +70,11 @@ const ANSWERS: [(&str, &[&str], &str); 7] = [
         &[FIRST],
         "\"m2\",\"m01\",\"\"",
     ),
-    (",\"ids\":[\"m1\"],\"properties\":[]", &["{\"id\":\"m1\"}"], ""),
+    (
+        ",\"ids\":[\"m1\"],\"properties\":[]",
+        &["{\"id\":\"m1\"}"],
+        "",
+    ),
     (
         ",\"ids\":[\"m1\"],\"properties\":[\"unreadEmails\",\"id\",\"unreadEmails\"]",
         &["{\"id\":\"m1\",\"unreadEmails\":2}"],
@@ -103,8 +111,14 @@ const REFUSED: [(&str, &str); 8] = [
     ("{\"accountId\":1}", "invalid arguments"),
     ("{\"accountId\":\"a2\",\"ids\":[1]}", "invalid arguments"),
     ("{\"accountId\":\"a2\",\"ids\":\"m1\"}", "invalid arguments"),
-    ("{\"accountId\":\"a2\",\"properties\":[\"name\"]}", "invalid arguments"),
-    ("{\"accountId\":\"a2\",\"properties\":[null]}", "invalid arguments"),
+    (
+        "{\"accountId\":\"a2\",\"properties\":[\"name\"]}",
+        "invalid arguments",
+    ),
+    (
+        "{\"accountId\":\"a2\",\"properties\":[null]}",
+        "invalid arguments",
+    ),
     ("{\"accountId\":\"a2\"}", "account not found"),
     ("{\"accountId\":\"\",\"ids\":[]}", "account not found"),
 ];

@@ -13,13 +13,22 @@ fn call(alloc: Global, name: &str, arguments: &str, id: &str) -> Result<Call, Er
     })
 }
 
-const CHANGES: &str = "{\"accountId\":\"A1\",\"oldState\":\"abcdef\",\"newState\":\"123456\",\"hasMoreChanges\":false,\"created\":[\"f1\",\"f4\"],\"updated\":[],\"destroyed\":[]}";
+const CHANGES: &str =
+    "{\"accountId\":\"A1\",\"oldState\":\"abcdef\",\"newState\":\"123456\",\"hasMoreChanges\":false,\"created\":[\"f1\",\"f4\"],\"updated\":[],\"destroyed\":[]}";
 
-const QUERY: &str = "{\"accountId\":\"A1\",\"queryState\":\"abcdefg\",\"canCalculateChanges\":true,\"position\":0,\"total\":101,\"ids\":[\"msg1023\",\"msg223\",\"msg110\",\"msg93\",\"msg91\",\"msg38\",\"msg36\",\"msg33\",\"msg11\",\"msg1\"]}";
+const QUERY: &str =
+    "{\"accountId\":\"A1\",\"queryState\":\"abcdefg\",\"canCalculateChanges\":true,\"position\":0,\"total\":101,\"ids\":[\"msg1023\",\"msg223\",\"msg110\",\"msg93\",\"msg91\",\"msg38\",\"msg36\",\"msg33\",\"msg11\",\"msg1\"]}";
 
-const EMAILS: &str = "{\"list\":[{\"id\":\"msg1023\",\"threadId\":\"trd194\"},{\"id\":\"msg223\",\"threadId\":\"trd114\"}],\"notFound\":[]}";
+const EMAILS: &str =
+    "{\"list\":[{\"id\":\"msg1023\",\"threadId\":\"trd194\"},{\"id\":\"msg223\",\"threadId\":\"trd114\"}],\"notFound\":[]}";
 
-const THREADS: &str = "{\"list\":[{\"id\":\"trd194\",\"emailIds\":[\"msg1020\",\"msg1021\",\"msg1023\"]},{\"id\":\"trd114\",\"emailIds\":[\"msg201\",\"msg223\"]}],\"a/b~c\":{\"*\":[[1],2]}}";
+const THREADS: &str =
+    "{\"list\":[{\"id\":\"trd194\",\"emailIds\":[\"msg1020\",\"msg1021\",\"msg1023\"]},{\"id\":\"trd114\",\"emailIds\":[\"msg201\",\"msg223\"]}],\"a/b~c\":{\"*\":[[1],2]}}";
+
+fn push(calls: &mut Vec<Call>, call: Call) -> Result<(), AllocError> {
+    calls.push(call)?;
+    Ok(())
+}
 
 /// The responses that references speak of. The second `t0` is never found: the first error in order.
 fn earlier(alloc: Global) -> Result<Vec<Call>, Error> {
@@ -31,7 +40,7 @@ fn earlier(alloc: Global) -> Result<Vec<Call>, Error> {
         ("Email/get", EMAILS, "t2"),
         ("Thread/get", THREADS, "t3"),
     ] {
-        calls.push(call(alloc, name, arguments, id)?)?;
+        push(&mut calls, call(alloc, name, arguments, id)?)?;
     }
     Ok(calls)
 }
@@ -52,15 +61,30 @@ const WRONG: &str = "invalid arguments";
 /// A reference's call id, name and path, and what `#ids` becomes.
 const PATHS: [(&str, &str, &str, &str); 20] = [
     ("t0", "Foo/changes", "/created", "[\"f1\",\"f4\"]"),
-    ("t2", "Email/get", "/list/*/threadId", "[\"trd194\",\"trd114\"]"),
+    (
+        "t2",
+        "Email/get",
+        "/list/*/threadId",
+        "[\"trd194\",\"trd114\"]",
+    ),
     (
         "t3",
         "Thread/get",
         "/list/*/emailIds",
         "[\"msg1020\",\"msg1021\",\"msg1023\",\"msg201\",\"msg223\"]",
     ),
-    ("t3", "Thread/get", "/list/*/emailIds/0", "[\"msg1020\",\"msg201\"]"),
-    ("t3", "Thread/get", "/list/*/emailIds/*", "[\"msg1020\",\"msg1021\",\"msg1023\",\"msg201\",\"msg223\"]"),
+    (
+        "t3",
+        "Thread/get",
+        "/list/*/emailIds/0",
+        "[\"msg1020\",\"msg201\"]",
+    ),
+    (
+        "t3",
+        "Thread/get",
+        "/list/*/emailIds/*",
+        "[\"msg1020\",\"msg1021\",\"msg1023\",\"msg201\",\"msg223\"]",
+    ),
     ("t1", "Email/query", "/ids/9", "\"msg1\""),
     ("t1", "Email/query", "/ids/10", NONE),
     ("t1", "Email/query", "/ids/09", NONE),
@@ -100,11 +124,26 @@ fn paths(rt: HostRuntime) -> Result<(), Fail> {
 const ARGUMENTS: [(&str, &str); 9] = [
     ("{\"b\":1,\"a\":{\"#c\":2}}", "{\"a\":{\"#c\":2},\"b\":1}"),
     ("{\"#a\":1}", WRONG),
-    ("{\"#a\":{\"resultOf\":\"t0\",\"name\":\"Foo/changes\"}}", WRONG),
-    ("{\"#a\":{\"resultOf\":\"t0\",\"name\":\"Foo/changes\",\"path\":1}}", WRONG),
-    ("{\"#a\":{\"resultOf\":\"t0\",\"name\":\"Foo/changes\",\"path\":\"/created\"},\"a\":null}", WRONG),
-    ("{\"#a\":{\"resultOf\":\"no\",\"name\":\"x\",\"path\":\"\"},\"#b\":1}", WRONG),
-    ("{\"#a\":{\"resultOf\":\"no\",\"name\":\"x\",\"path\":\"\"},\"b\":1}", NONE),
+    (
+        "{\"#a\":{\"resultOf\":\"t0\",\"name\":\"Foo/changes\"}}",
+        WRONG,
+    ),
+    (
+        "{\"#a\":{\"resultOf\":\"t0\",\"name\":\"Foo/changes\",\"path\":1}}",
+        WRONG,
+    ),
+    (
+        "{\"#a\":{\"resultOf\":\"t0\",\"name\":\"Foo/changes\",\"path\":\"/created\"},\"a\":null}",
+        WRONG,
+    ),
+    (
+        "{\"#a\":{\"resultOf\":\"no\",\"name\":\"x\",\"path\":\"\"},\"#b\":1}",
+        WRONG,
+    ),
+    (
+        "{\"#a\":{\"resultOf\":\"no\",\"name\":\"x\",\"path\":\"\"},\"b\":1}",
+        NONE,
+    ),
     (
         "{\"#\":{\"resultOf\":\"t0\",\"name\":\"Foo/changes\",\"path\":\"/updated\",\"x\":1}}",
         "{\"\":[]}",
@@ -136,7 +175,10 @@ fn echoes(rt: HostRuntime) -> Result<(), Fail> {
     let alloc = rt.alloc();
     for (arguments, wanted) in [
         ("{\"b\":[1,-2],\"a\":{}}", "{\"a\":{},\"b\":[1,-2]}"),
-        ("{\"a\":18446744073709551615}", "{\"a\":18446744073709551615}"),
+        (
+            "{\"a\":18446744073709551615}",
+            "{\"a\":18446744073709551615}",
+        ),
         ("{\"a\":18446744073709551616}", WRONG),
         ("{\"a\":[{\"b\":1.0}]}", WRONG),
         ("{\"a\":-0}", WRONG),
@@ -152,6 +194,9 @@ fn responses(rt: HostRuntime) -> Result<(), Fail> {
     let alloc = rt.alloc();
     let answer = call(alloc, "Core/echo", "{\"a\":\"\\u00e9\"}", "c\\\"1")?;
     let text = response_text(alloc, &[answer], None, "1;5;alice;http://h")?;
-    assert_eq!(rt; text.as_str(), "{\"methodResponses\":[[\"Core/echo\",{\"a\":\"\u{e9}\"},\"c\\\\\\\"1\"]],\"sessionState\":\"1;5;alice;http://h\"}");
+    assert_eq!(rt;
+        text.as_str(),
+        "{\"methodResponses\":[[\"Core/echo\",{\"a\":\"\u{e9}\"},\"c\\\\\\\"1\"]],\"sessionState\":\"1;5;alice;http://h\"}"
+    );
     Ok(())
 }

@@ -1,8 +1,9 @@
 // Mailbox/get.
-ghost use Rattle.std.specs.Prelude.{◌≡◌, ◌++◌, IfOk, OnOk, map, option_map, is_none, string_bytes, codes, ok_or};
+ghost use Rattle.std.specs.Prelude.{◌≡◌, ◌++◌, false, Some, IfOk, OnOk, map, option_map, is_none, string_bytes, codes, ok_or};
 ghost use Rattle.std.specs.List.{filter, filter_map};
 ghost use Rattle.serde_json.specs.Data.{number, unsigned, string};
 ghost use Rattle.serde_json.specs.View.{view, members_view};
+ghost use Rattle.serde_json.specs.Written.{has_float};
 ghost use Rattle.jmap_core.specs.Arguments.{texts_at};
 ghost use Rattle.jmap_core.specs.Outcome.{Agrees};
 ghost use Rattle.jmap_core.specs.Request.{is_among};
@@ -68,6 +69,16 @@ fn known_properties(names: &Vec<&str>) -> Option<Properties>
     Some(wanted)
 }
 
+/// The properties that names want, or the refusal of an unknown one.
+fn wanted_of(names: &Vec<&str>) -> Result<Properties, MethodError>
+    ensures { result ≡ spec.properties_of (Some (map (λ t. t.now) names.now.items)) }
+{
+    match known_properties(names) {
+        None => Err(MethodError::InvalidArguments),
+        Some(wanted) => Ok(wanted),
+    }
+}
+
 /// The properties that are wanted: all, where none are named.
 fn properties_at(alloc: Global, arguments: &Value) -> Result<Properties, MethodError>
     ensures { Agrees Memory (λ p. p) result
@@ -75,10 +86,7 @@ fn properties_at(alloc: Global, arguments: &Value) -> Result<Properties, MethodE
 {
     match texts_or_null(alloc, arguments, "properties")? {
         None => Ok(ALL_PROPERTIES),
-        Some(names) => match known_properties(&names) {
-            None => Err(MethodError::InvalidArguments),
-            Some(wanted) => Ok(wanted),
-        },
+        Some(names) => Ok(wanted_of(&names)?),
     }
 }
 
@@ -94,8 +102,8 @@ fn count_of_ids(ids: &Option<Vec<&str>>) -> usize
 /// The checks in order: the arguments' kinds, the account, the count of ids.
 fn asked_of<'a>(alloc: Global, arguments: &'a Value) -> Result<Asked<'a>, MethodError>
     ensures { Agrees Memory (λ a. record {
-        ids = option_map (λ v. map (λ t. t.now) v.items) a.ids;
-        properties = a.properties;
+      ids = option_map (λ v. map (λ t. t.now) v.items) a.ids;
+      properties = a.properties;
     }) result (spec.asked_of (view arguments.now)) }
 {
     let account = text_at(arguments, "accountId")?;
@@ -138,8 +146,20 @@ fn mailbox_value(
     let id = Value::String(id_text(alloc, mailbox.number)?);
     let mut members = Map::new(alloc);
     put(&mut members, alloc, "id", id)?;
-    put_if(&mut members, alloc, wanted.total_emails, "totalEmails", mailbox.total_emails)?;
-    put_if(&mut members, alloc, wanted.unread_emails, "unreadEmails", mailbox.unread_emails)?;
+    put_if(
+        &mut members,
+        alloc,
+        wanted.total_emails,
+        "totalEmails",
+        mailbox.total_emails,
+    )?;
+    put_if(
+        &mut members,
+        alloc,
+        wanted.unread_emails,
+        "unreadEmails",
+        mailbox.unread_emails,
+    )?;
     Ok(Value::Object(members))
 }
 
@@ -251,6 +271,18 @@ fn get_value(
 /// `InvalidArguments`, `AccountNotFound` and `RequestTooLarge` come in this order, the last for more than 500 ids, and
 /// for `ids` null where there are more than 500 Mailboxes.
 pub fn mailbox_get(
+    alloc: Global,
+    state: &str,
+    mailboxes: &[MailboxCounts],
+    arguments: &Value,
+) -> Result<Value, MethodError>
+    ensures exact { Agrees Memory view result (mailboxes_answer state.now mailboxes.now (view arguments.now)) }
+    ensures whole { IfOk result (λ value. has_float (view value) ≡ false) }
+{
+    answer(alloc, state, mailboxes, arguments)
+}
+
+fn answer(
     alloc: Global,
     state: &str,
     mailboxes: &[MailboxCounts],

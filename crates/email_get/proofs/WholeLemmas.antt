@@ -1,0 +1,97 @@
+-- No number of an Email object has a fraction.
+use Rattle.std.proofs.Common.{◌≡◌, ℕ, Bool, true, false, ◌||◌, List, [], ◌∷◌, refl, ap, ◌∙◌, Option, Some, None, Ordering, Less, Equal, Greater, nat_cmp, length}
+use Rattle.std.specs.Ordering.{match_ordering}
+use Rattle.std.specs.Cmp.Lexicographic.{slice_cmp}
+use Rattle.blob_store.specs.Uploads.{blob_id}
+use Rattle.serde_json.specs.Data.{Data, Members, no_members, member, put}
+use Rattle.serde_json.specs.View.{items_of}
+use Rattle.serde_json.specs.Written.{has_float, items_have_float, members_have_float}
+use Rattle.mime_tree.specs.declared.part.Part.{Part, out-Part}
+use Rattle.mime_tree.specs.Heads.{is_text}
+use Rattle.mime_tree.specs.Roles.{media}
+use Rattle.email_get.specs.BodyValues.{PutsIf, AddsValues}
+use Rattle.email_get.specs.EmailObjects.{AreObjects, BodyData, email_data, IsEmailObject}
+use Rattle.email_get.specs.HeaderProperties.{HeaderData}
+use Rattle.email_get.specs.PartObjects.{IsLanguage, part_data, IsPartObject, atoms}
+use Rattle.email_get.specs.Texts.{text_data}
+use Rattle.email_get.proofs.HeaderLemmas.{items_whole, text_whole, IsWholeHeader, whole_header}
+
+-- ---- members
+
+member_whole : (d : Data) (ms : Members) → has_float d ≡ false → members_have_float ms ≡ false → (has_float d || members_have_float ms) ≡ false
+member_whole d ms h k = ap (λ (t : Bool). t || members_have_float ms) h ∙ k
+
+left_whole : (a c : Bool) → (a || c) ≡ false → a ≡ false
+left_whole true c h = h
+left_whole false c h = refl
+
+right_whole : (a c : Bool) → (a || c) ≡ false → c ≡ false
+right_whole true c h = absurd (let e = h in cc)
+right_whole false c h = h
+
+by_order : (o : Ordering) (x y z : Members) → members_have_float x ≡ false → members_have_float y ≡ false → members_have_float z ≡ false
+    → members_have_float (match_ordering o x y z) ≡ false
+by_order Less x y z f g h = f
+by_order Equal x y z f g h = g
+by_order Greater x y z f g h = h
+
+put_whole : (k : List ℕ) (d : Data) (ms : Members) → has_float d ≡ false → members_have_float ms ≡ false → members_have_float (put k d ms) ≡ false
+put_whole k d no_members h g = member_whole d no_members h refl
+put_whole k d (member l e ms) h g =
+    let one = left_whole (has_float e) (members_have_float ms) g in
+    let rest = right_whole (has_float e) (members_have_float ms) g in
+    by_order (slice_cmp nat_cmp k l) _ _ _ (member_whole d (member l e ms) h g) (member_whole d ms h rest) (member_whole e (put k d ms) one (put_whole k d ms h rest))
+
+-- ---- values of texts
+
+puts_whole : (t : Bool) (b : List ℕ) (p : Part) (before after : Members) → PutsIf t b p before after → members_have_float before ≡ false → members_have_float after ≡ false
+puts_whole true b p before after h g = ap members_have_float h.is ∙ put_whole _ _ before refl g
+puts_whole false b p before after h g = ap members_have_float h ∙ g
+
+values_whole : (b : List ℕ) (ps : List Part) (before after : Members) → AddsValues b ps before after → members_have_float before ≡ false → members_have_float after ≡ false
+values_whole b [] before after h g = ap members_have_float h ∙ g
+values_whole b (p ∷ ps) before after h g = values_whole b ps h.0 after h.2 (puts_whole (is_text (media p)) b p before h.0 h.1 g)
+
+-- ---- objects of leaves
+
+language_whole : (o : Option (List ℕ)) (d : Data) → IsLanguage o d → has_float d ≡ false
+language_whole None d h = ap has_float h
+language_whole (Some text) d h = ap has_float h.2 ∙ items_whole text_data (atoms h.0) (λ t. refl)
+
+part_whole : (id : List ℕ) (p : Part) (l : Data) (n : ℕ) → has_float l ≡ false → has_float (part_data id p l n) ≡ false
+part_whole id p l n h =
+    rw (text_whole (out-Part p).charset) (rw (text_whole (out-Part p).cid)
+    (rw (text_whole (out-Part p).disposition) (rw h (rw (text_whole (out-Part p).location) (rw (text_whole (out-Part p).name) refl)))))
+
+object_whole : (id b : List ℕ) (p : Part) (d : Data) → IsPartObject id b p d → has_float d ≡ false
+object_whole id b p d h = ap has_float h.is ∙ part_whole id p h.language (length h.octets) (language_whole (out-Part p).language h.language h.is_language)
+
+objects_whole : (b : List ℕ) (ps : List Part) (ds : List Data) → AreObjects b ps ds → items_have_float (items_of ds) ≡ false
+objects_whole b [] [] h = refl
+objects_whole b [] (d ∷ ds) h = absurd h
+objects_whole b (p ∷ ps) [] h = absurd h
+objects_whole b (p ∷ ps) (d ∷ ds) h = ap (λ (t : Bool). t || items_have_float (items_of ds)) (object_whole (blob_id b) b p d h.0) ∙ objects_whole b ps ds h.1
+
+-- ---- the object
+
+pub record IsWholeBody (d : BodyData) : Type 0 where
+  pub attachments : items_have_float (items_of d.attachments) ≡ false
+  pub html : items_have_float (items_of d.html) ≡ false
+  pub text : items_have_float (items_of d.text) ≡ false
+  pub values : members_have_float d.values ≡ false
+
+email_whole : (h : HeaderData) (d : BodyData) → IsWholeHeader h → IsWholeBody d → has_float (email_data h d) ≡ false
+email_whole h d w v =
+    rw v.attachments (rw w.bcc (rw v.values (rw w.cc (rw w.from
+    (rw v.html (rw w.in_reply_to (rw w.message_id (rw w.references (rw w.reply_to (rw w.sender (rw w.sent_at (rw w.subject (rw v.text (rw w.to refl))))))))))))))
+
+pub whole_object : (b : List ℕ) (d : Data) → IsEmailObject b d → has_float d ≡ false
+whole_object b d o =
+    let body = o.is_body in
+    let whole : IsWholeBody o.body = record {
+      attachments = objects_whole b body.are_lists.parts.attachments o.body.attachments body.attachments;
+      html = objects_whole b body.are_lists.parts.html o.body.html body.html;
+      text = objects_whole b body.are_lists.parts.text o.body.text body.text;
+      values = values_whole b body.leaves _ o.body.values body.values refl;
+    } in
+    ap has_float o.is ∙ email_whole o.header o.body (whole_header o.fields o.header o.header_is) whole

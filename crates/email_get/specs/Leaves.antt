@@ -1,0 +1,12 @@
+-- The leaves of a tree of parts, in the order of the octets.
+use Rattle.std.specs.Prelude.{◌≡◌, true, false, List, [], ◌∷◌, ◌++◌}
+use Rattle.mime_tree.specs.declared.part.Part.{Part}
+use Rattle.mime_tree.specs.Parts.{children}
+use Rattle.mime_tree.specs.Roles.{is_leaf}
+
+-- these are the leaves of the parts
+pub data AreLeaves : List Part → List Part → Type 0 where
+  End : AreLeaves [] []
+  Leaf : (p : Part) (ps behind : List Part) → is_leaf p ≡ true → AreLeaves ps behind → AreLeaves (p ∷ ps) (p ∷ behind)
+  Multi : (p : Part) (ps inner behind : List Part) → is_leaf p ≡ false → AreLeaves (children p) inner → AreLeaves ps behind
+      → AreLeaves (p ∷ ps) (inner ++ behind)

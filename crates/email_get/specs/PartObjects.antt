@@ -1,0 +1,50 @@
+-- The object of a leaf (RFC 8621 section 4.1.4, EmailBodyPart), with the default properties of section 4.2.
+use Rattle.std.specs.Prelude.{◌≡◌, ℕ, Bool, List, ◌∷◌, ◌++◌, length, map, codes, decimal, Option, Some, None}
+use Rattle.std.specs.List.{filter}
+use Rattle.serde_json.specs.Data.{unsigned, Data, null, number, string, object, no_members, member}
+use Rattle.mail_header.specs.declared.token.Alphabet.TheVariants as alphabet
+use Rattle.mail_header.specs.Lexemes.{AreLeadingLexemes}
+use Rattle.mail_header.specs.Mailboxes.{is_atom}
+use Rattle.mail_header.specs.Tokens.{Spelled}
+use Rattle.mime_tree.specs.declared.part.Part.{Part, out-Part}
+use Rattle.mime_tree.specs.Bodies.{HasOctets}
+use Rattle.mime_tree.specs.Roles.{leaf_number, media}
+use Rattle.email_get.specs.Texts.{text_data, optional_text, text_list}
+
+-- the texts of the atoms among the lexemes
+abbrev pub atoms : List Spelled → List (List ℕ)
+atoms lexemes = map (λ (s : Spelled). s.text) (filter is_atom lexemes)
+
+-- the language tags in a Content-Language (RFC 3282): the atoms between its commas, without comments
+abbrev pub IsLanguage : Option (List ℕ) → Data → Type 0
+IsLanguage None d = d ≡ null
+IsLanguage (Some text) d = (lexemes : List Spelled) × AreLeadingLexemes alphabet.Mime lexemes text × (d ≡ text_list (atoms lexemes))
+
+-- the id of a leaf's octets: that of the message's, "-", and the leaf's number
+abbrev pub part_blob_id : List ℕ → ℕ → List ℕ
+part_blob_id id n = id ++ 45 ∷ decimal n
+
+-- in the message with this blob id, a leaf that spells n octets
+abbrev pub part_data : List ℕ → Part → Data → ℕ → Data
+part_data id p language size =
+    object
+    (member (codes "blobId") (text_data (part_blob_id id (leaf_number p)))
+    (member (codes "charset") (optional_text (out-Part p).charset)
+    (member (codes "cid") (optional_text (out-Part p).cid)
+    (member (codes "disposition") (optional_text (out-Part p).disposition)
+    (member (codes "language") language
+    (member (codes "location") (optional_text (out-Part p).location)
+    (member (codes "name") (optional_text (out-Part p).name)
+    (member (codes "partId") (string (decimal (leaf_number p)))
+    (member (codes "size") (number (unsigned size))
+    (member (codes "type") (text_data (media p))
+    no_members))))))))))
+
+-- this is the object of a leaf of the octets b, which have the blob id
+pub record IsPartObject (id b : List ℕ) (p : Part) (d : Data) : Type 0 where
+  pub octets : List ℕ
+  pub problem : Bool
+  pub has_octets : HasOctets p b octets problem
+  pub language : Data
+  pub is_language : IsLanguage (out-Part p).language language
+  pub is : d ≡ part_data id p language (length octets)

@@ -1,0 +1,44 @@
+-- Previews of texts (RFC 8621 section 4.1.4).
+use Rattle.std.specs.Prelude.{◌≡◌, ℕ, zero, suc, Bool, false, not, if◌then◌else◌, List, [], ◌∷◌, ◌++◌}
+use Rattle.text_words.specs.Cuts.{back}
+use Rattle.text_words.specs.Octets.{is_white, is_between}
+use Rattle.mime_tree.specs.declared.part.Part.{Part}
+use Rattle.email_get.specs.Values.{HasText}
+
+-- how many characters a preview has at most
+abbrev pub most_characters : ℕ
+most_characters = 256
+
+abbrev pub begins_word : List ℕ → Bool
+begins_word [] = false
+begins_word (c ∷ t) = not (is_white c)
+
+-- an octet before a text: of a run of white space the last is a space, where a word follows
+abbrev pub spaced : ℕ → List ℕ → List ℕ
+spaced c t = if is_white c then (if begins_word t then 32 ∷ [] else []) else c ∷ []
+
+-- each run of white space as one space, and none at the end
+unfoldable pub single_spaced : List ℕ → List ℕ
+single_spaced [] = []
+single_spaced (c ∷ t) = spaced c t ++ single_spaced t
+
+-- an octet within a character, after its first one (RFC 3629 section 3)
+abbrev pub is_inner : ℕ → Bool
+is_inner c = is_between 128 191 c
+
+-- the first n characters of a text in UTF-8
+unfoldable pub first_characters : ℕ → List ℕ → List ℕ
+first_characters n [] = []
+first_characters zero (c ∷ t) = if is_inner c then c ∷ first_characters zero t else []
+first_characters (suc n) (c ∷ t) = if is_inner c then c ∷ first_characters (suc n) t else c ∷ first_characters n t
+
+-- the words of a text with one space between two, up to n characters
+abbrev pub preview_of : List ℕ → List ℕ
+preview_of text = first_characters most_characters (single_spaced (back is_white text))
+
+-- the preview of a part of the octets b
+pub record IsPreviewOf (b : List ℕ) (p : Part) (preview : List ℕ) : Type 0 where
+  pub text : List ℕ
+  pub problem : Bool
+  pub has_text : HasText p b text problem
+  pub is : preview ≡ preview_of text
