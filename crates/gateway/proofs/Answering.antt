@@ -291,3 +291,7 @@ pub steps_client : {account : Account} {before : Machine} {mid now : Faults} {xs
 steps_client {account} {before} {mid} {now} {xs} {ys} after was how is alone serves =
     let here = serves.of (xs ++ ys) (λ i. is i ++ ys) in
     record { after = after; segment = here.0; stands = refl; bears = bears_earlier (blamed here.0) was mid now (later_front was mid alone) here.1 }
+
+-- the count was lower before
+pub rose_earlier : (was mid now : ℕ) → was ≤ mid → Rose mid now → Rose was now
+rose_earlier was mid now later rose = omega arith

@@ -238,6 +238,16 @@ fn served_by(sent: Result<(), Failed>) -> Served
     }
 }
 
+// The user and the base.
+fn texts_of(alloc: Global, place: &Place) -> Result<(Text, Text), AllocError>
+    ensures user { IfOk result (λ texts. texts.0 ≡ place.now.user) }
+    ensures base { IfOk result (λ texts. texts.1 ≡ place.now.base) }
+{
+    let user = Text::copy_of(alloc, place.user.as_str())?;
+    let base = Text::copy_of(alloc, place.base.as_str())?;
+    Ok((user, base))
+}
+
 impl Gate for BareGate {
     ghost door = { Bare };
 
@@ -246,14 +256,17 @@ impl Gate for BareGate {
     ghost stands = { λ gate m. gate.machine ≡ m };
 
     fn open<W: World>(alloc: Global, world: &mut W, place: &Place) -> Result<BareGate, OpenError> {
-        let user = Text::copy_of(alloc, place.user.as_str())?;
-        let base = Text::copy_of(alloc, place.base.as_str())?;
-        let epoch = world.word();
-        Ok(BareGate {
-            user,
-            base,
-            machine: Machine::opened(alloc, epoch),
-        })
+        match texts_of(alloc, place) {
+            Ok((user, base)) => {
+                let epoch = world.word();
+                Ok(BareGate {
+                    user,
+                    base,
+                    machine: Machine::opened(alloc, epoch),
+                })
+            }
+            Err(_) => Err(OpenError::Memory),
+        }
     }
 
     fn answer_one<W: World>(&mut self, alloc: Global, world: &mut W) -> Served {

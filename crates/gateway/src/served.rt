@@ -1,8 +1,4 @@
 // How a client was served, and why a gate can't be opened.
-ghost use Rattle.std.specs.Prelude.{◌≡◌};
-ghost use Rattle.gateway.specs.declared.served.OpenError.TheVariants.{Memory};
-
-use std::alloc::AllocError;
 
 /// How one client was served.
 #[derive(Clone, Copy, Debug, PartialEq, Eq)]
@@ -22,12 +18,4 @@ pub enum Served {
 pub enum OpenError {
     /// Out of memory.
     Memory,
-}
-
-impl From<AllocError> for OpenError {
-    ghost from_gives = { λ _ e. e ≡ Memory };
-
-    fn from(_: AllocError) -> OpenError {
-        OpenError::Memory
-    }
 }
