@@ -13,6 +13,7 @@ use Rattle.gateway.specs.declared.front.FrontError.{FrontError}
 use Rattle.gateway.specs.declared.front.FrontError.TheVariants as front
 use Rattle.gateway.specs.declared.served.Served.{Served}
 use Rattle.gateway.specs.declared.served.Served.TheVariants as served
+use Rattle.gateway.specs.declared.served.OpenError.{OpenError}
 use Rattle.gateway.specs.declared.served.OpenError.TheVariants as opening
 use Rattle.gateway.specs.Requests.{Account, Bare}
 use Rattle.gateway.specs.Segment.{Segment, blamed, blame_front}
@@ -57,9 +58,9 @@ performs_once {place} {was = was} {mid = mid} {now = now} {how = how} ys a alone
       bears = bears_later (blamed a.served) was mid now a.bears (later_say mid now alone);
     }
 
-pub performs_unopened : {password : List ℕ} {was now : Faults} {events : List Event} (place : Place) (m : Machine) → NoFault was now → Opens events (Err opening.Memory) m
+pub performs_unopened : {password : List ℕ} {was now : Faults} {events : List Event} (place : Place) (e : OpenError) (m : Machine) → NoFault was now → Opens events (Err e) m
     → Performs (Once place) password was now 5 events
-performs_unopened {was = was} {now = now} place m same opens =
+performs_unopened {was = was} {now = now} place opening.Memory m same opens =
     record { blames = no_faults; ran = Unopened place m refl opens refl refl; bears = bears_none was now (later_same was now same) }
 
 bears_shown : (outcome : Result (Unit {0}) FrontError) (status : ℕ) (said : List Event) (was now : Faults) → Later was now → (status ≡ 6 → Rose was.front now.front) → EndsShow outcome status said

@@ -5,7 +5,7 @@ ghost use Rattle.gate_world.specs.Tape.{Adds};
 ghost use Rattle.gate_words.specs.Task.{IsTask};
 ghost use Rattle.gate_words.specs.declared.task.Task.{Task};
 ghost use Rattle.gateway.specs.Complete.{CompletesShow};
-ghost use Rattle.gateway.specs.Run.{IsWholeRun, Performs, RunsShow, IsSaid, EndsOnce, front_failed};
+ghost use Rattle.gateway.specs.Run.{IsWholeRun, Performs, RunsShow, IsSaid, EndsOnce, front_failed, words_refused};
 
 use crate::bare_gate::BareGate;
 use crate::front::FrontError;
@@ -34,6 +34,17 @@ fn end_failed<W: World>(world: &mut W) -> u8
 {
     let _ = world.say(b"jmapgate: front failed\n");
     STATUS_FRONT
+}
+
+// Says on standard error that the words are refused.
+fn end_refused<W: World>(world: &mut W) -> u8
+    ensures said { Adds (W.tape world.old) (W.tape world.new) (IsSaid words_refused) }
+    ensures status { result ≡ 2 }
+    ensures alone { SayAlone (W.faults world.old) (W.faults world.new) }
+    ensures hidden { W.hidden world.new ≡ W.hidden world.old }
+{
+    let _ = world.say(b"jmapgate: words refused\n");
+    STATUS_WORDS
 }
 
 // Ends the serving of one client on standard input.
@@ -128,10 +139,7 @@ pub fn run<W: World>(words: &[String], world: &mut W, watchers: &mut Vec<Box<dyn
     let alloc: Global = *watchers.allocator();
     match read_words(alloc, words) {
         Ok(task) => perform(alloc, world, &task),
-        Err(WordsError::Refused) => {
-            let _ = world.say(b"jmapgate: words refused\n");
-            STATUS_WORDS
-        }
+        Err(WordsError::Refused) => end_refused(world),
         Err(WordsError::Memory) => STATUS_MEMORY,
     }
 }

@@ -1,5 +1,6 @@
 // The lines that clients are sent.
 ghost use Rattle.std.specs.Prelude.{◌≡◌, ◌++◌, IfOk, map};
+ghost use Rattle.std.specs.List.{list_any};
 ghost use Rattle.jmap_core.specs.Method.{needs_mail_by};
 ghost use Rattle.jmap_core.specs.Problem.{text_of_problem};
 ghost use Rattle.jmap_core.specs.Request.{call_data, request_data};
@@ -12,17 +13,19 @@ use gate_world::{Bytes, Text};
 use jmap_core::{Call, Request, RequestError, problem_text, response_text, session_state};
 use std::alloc::{AllocError, Global};
 
-fn call_needs_mail(call: &Call) -> bool
-    ensures { result ≡ needs_mail_by call.now.name }
+fn any_needs_mail(calls: &[Call]) -> bool
+    ensures { result ≡ list_any (λ call. needs_mail_by call.name) calls.now }
 {
-    jmap_core::needs_mail(call.name.as_str())
+    calls
+        .iter()
+        .any(|call| jmap_core::needs_mail(call.name.as_str()))
 }
 
 /// Whether one of the calls needs the mail.
 pub fn needs_mail(calls: &[Call]) -> bool
     ensures { result ≡ needs_mail (map call_data calls.now) }
 {
-    calls.iter().any(call_needs_mail)
+    any_needs_mail(calls)
 }
 
 /// The line that says why there is no request.

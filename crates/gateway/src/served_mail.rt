@@ -72,8 +72,9 @@ fn counts_in(held: &Held) -> MailboxCounts
 fn counts_of(alloc: Global, mirror: &Mirror) -> Result<Vec<MailboxCounts>, AllocError>
     ensures { IfOk result (λ counts. counts.items ≡ counts_of mirror.now.mail) }
 {
-    let mut counts = Vec::with_capacity(alloc, mirror.folders().len())?;
-    for held in mirror.folders() {
+    let folders = mirror.folders();
+    let mut counts = Vec::with_capacity(alloc, folders.len())?;
+    for held in folders {
         counts.push(counts_in(held))?;
     }
     Ok(counts)
