@@ -2,6 +2,7 @@
 use Rattle.std.proofs.Common.{◌≡◌, ◌⊎◌, ◌++◌, ℕ, List, [], ◌∷◌, length, refl, sym, ◌∙◌, ap, subst, append_assoc, inl, inr, Result, Ok, Err}
 use Rattle.std.specs.List.{flat_map}
 use Rattle.std.proofs.lemmas.List.{append-nil}
+use Rattle.std.proofs.lemmas.List.Concat.{flat_map-append}
 use Rattle.gate_world.specs.declared.event.Event.{Event}
 use Rattle.gate_world.specs.declared.event.Event.TheVariants.{Accepted, NoMore, ClientEnded, ClientDone}
 use Rattle.gate_world.specs.Octets.{client_gave_in, client_took_in}
@@ -13,9 +14,11 @@ use Rattle.gateway.specs.declared.front.Input.{Input}
 use Rattle.gateway.specs.declared.front.Input.TheVariants.{Whole, Cut}
 use Rattle.gateway.specs.Front.{input_octets, GivesInput}
 use Rattle.gateway.specs.Show.{ShowsObject, Answers, Unread, Sent, Shows, NoneComes, NotAccepted, Came}
-use Rattle.gateway.specs.Run.{Run, Refused, OutOfMemory, ServedOnce, ShownOne, EndsShow}
+use Rattle.gate_words.specs.declared.task.Task.{Task}
+use Rattle.gate_words.specs.declared.place.Place.{Place}
+use Rattle.gate_world.specs.Causes.{Faults}
+use Rattle.gateway.specs.Run.{Runs, Refused, OutOfMemory, Done, Ran, Unopened, ServedOnce, ShownOne, EndsShow}
 use Rattle.gateway.specs.Complete.{asked_for, IsGiven, TellsObject, CompletesShow}
-use Rattle.gateway.proofs.Completing.{parts, other_task}
 use Rattle.gateway.proofs.Quiet.{gives_took, gives_gave, heard_gave_client, before_one}
 
 -- all events of a run that showed one client its message
@@ -28,6 +31,10 @@ octets_within : (f : Event → List ℕ) (answered events : List Event) → f Ac
     → flat_map f events ≡ flat_map f answered
 octets_within f answered events accepted done is =
     ap (λ (l : List Event). flat_map f l) is ∙ ap (λ (l : List ℕ). l ++ flat_map f (answered ++ ClientDone ∷ [])) accepted ∙ before_one f answered ClientDone done
+
+-- the parts of a request's events, one kind at a time
+parts : (f : Event → List ℕ) (es asked life : List Event) (a l : List ℕ) → es ≡ asked ++ life → flat_map f asked ≡ a → flat_map f life ≡ l → flat_map f es ≡ a ++ l
+parts f es asked life a l is first second = ap (λ (x : List Event). flat_map f x) is ∙ flat_map-append f asked life ∙ (λ i. first i ++ second i)
 
 -- the client's input is all that it gave
 is_given : (input : Input) (reads heard events : List Event) → GivesInput 50000000 (Ok input) reads → events ≡ Accepted ∷ ((reads ++ heard) ++ ClientDone ∷ [])
@@ -85,11 +92,17 @@ shows_told outcome status behind said shown events (NotAccepted shown_is is) wel
 shows_told outcome status behind said shown events (Came answered shown_is answers) well ends events_are came =
     answers_told outcome status answered said shown events answers well ends events_are shown_is
 
-pub completes_show : {words : List (List ℕ)} {password : List ℕ} {status : ℕ} {events : List Event} → Run words password status events → (status ≡ 6 → ⊥)
+other_task : (place : Place) → Once place ≡ Show → ⊥
+other_task place is = cc
+
+ran_told : {task : Task} {password : List ℕ} {status : ℕ} {blames : Faults} (behind events : List Event) → Ran task password status blames events → task ≡ Show → (status ≡ 6 → ⊥)
+    → events ≡ Accepted ∷ behind → Told status events
+ran_told behind events (Unopened place m is opens a b) shows well came = absurd (other_task place (sym is ∙ shows))
+ran_told behind events (ServedOnce place opened segment said m after how served is a b c d) shows well came = absurd (other_task place (sym is ∙ shows))
+ran_told {status = status} behind events (ShownOne shown said outcome is events_are so ends a) shows well came = shows_told outcome status behind said shown events so well ends events_are came
+
+pub completes_show : {words : List (List ℕ)} {password : List ℕ} {status : ℕ} {blames : Faults} {events : List Event} → Runs words password status blames events → (status ≡ 6 → ⊥)
     → CompletesShow words status events
-completes_show {events = events} (Refused none a b) well task behind came = absurd (none Show task)
-completes_show {events = events} (OutOfMemory is none) well task behind came = inr (is, ap (λ (l : List Event). flat_map client_took_in l) none)
-completes_show {words} (ServedOnce place drawn segment said after served is_task is ends) well task behind came =
-    absurd (other_task place (same-task words (Once place) Show is_task task))
-completes_show {words} {password} {status} {events} (ShownOne shown said outcome is_task is shows ends) well task behind came =
-    shows_told outcome status behind said shown events shows well ends is came
+completes_show {events = events} (Refused none a b c) well task behind came = absurd (none Show task)
+completes_show {events = events} (OutOfMemory is none a) well task behind came = inr (is, ap (λ (l : List Event). flat_map client_took_in l) none)
+completes_show {words} {events = events} (Done other is_task ran) well task behind came = ran_told behind events ran (same-task words other Show is_task task) well came

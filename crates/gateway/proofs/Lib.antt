@@ -1,6 +1,9 @@
 mod Quiet
-mod Serving
-mod Showing
-mod Completing
-mod CompletingShow
 mod Receiving
+mod Answering
+mod Running
+mod Showing
+mod Calling
+mod CompletingShow
+mod Performing
+mod Needs

@@ -12,7 +12,7 @@ use Rattle.email_get.specs.EmailObjects.{IsEmailObject}
 use Rattle.gateway.specs.declared.front.FrontError.{FrontError}
 use Rattle.gateway.specs.declared.front.FrontError.TheVariants as error
 use Rattle.gate_world.specs.Sending.{Sends}
-use Rattle.gateway.specs.Segment.{line_end}
+use Rattle.gateway.specs.Requests.{line_end}
 use Rattle.gateway.specs.Show.{object_line, ShowsObject, Reads, Answers, Sent, Shows, ShowsClient}
 use Rattle.gateway.specs.Run.{IsSaid, front_failed, RunsShow}
 

@@ -1,8 +1,10 @@
-pub mod Complete
 pub mod Front
-pub mod Machine
-pub mod Mail
-pub mod Run
+pub mod Counts
+pub mod Calls
+pub mod Requests
+pub mod Work
 pub mod Segment
 pub mod Show
-pub mod Wants
+pub mod Run
+pub mod Complete
+pub mod reading

@@ -1,17 +1,105 @@
--- A run of the program over its words and the outside, and its status.
-use Rattle.std.specs.Prelude.{◌≡◌, ◌⊎◌, ◌++◌, ℕ, zero, suc, List, [], ◌∷◌, Result, Ok, Err, codes}
-use Rattle.gate_world.specs.Causes.{RoseBy}
+-- Segments one after another, and a run of the program over its words and the outside.
+use Rattle.std.specs.Prelude.{◌≡◌, ◌≢◌, ◌⊎◌, ◌<◌, ◌+◌, ◌-◌, ◌^◌, ◌++◌, ℕ, List, [], ◌∷◌, length, All, Result, Ok, Err, codes}
+use Rattle.gate_world.specs.Causes.{Faults, no_faults}
 use Rattle.gate_world.specs.declared.event.Event.{Event}
 use Rattle.gate_world.specs.declared.event.Event.TheVariants.{Word, Said, SayFailed}
 use Rattle.gate_words.specs.declared.place.Place.{Place}
 use Rattle.gate_words.specs.declared.task.Task.{Task}
 use Rattle.gate_words.specs.declared.task.Task.TheVariants.{Once, Show}
 use Rattle.gate_words.specs.Task.{IsTask}
+use Rattle.gate_machine.specs.Machine.{opened}
+use Rattle.gate_machine.specs.Progress.{Bears}
+use Rattle.gate_machine.specs.declared.machine.Machine.{Machine}
 use Rattle.gateway.specs.declared.front.FrontError.{FrontError}
 use Rattle.gateway.specs.declared.front.FrontError.TheVariants as front
-use Rattle.gateway.specs.Machine.{Account, Machine, opened}
-use Rattle.gateway.specs.Segment.{Segment, segment_faults, blamed_front_faults}
+use Rattle.gateway.specs.declared.served.Served.{Served}
+use Rattle.gateway.specs.declared.served.Served.TheVariants as served
+use Rattle.gateway.specs.declared.served.OpenError.{OpenError}
+use Rattle.gateway.specs.declared.served.OpenError.TheVariants as opening
+use Rattle.gateway.specs.Requests.{Account, Door, Bare}
+use Rattle.gateway.specs.Segment.{Segment, blamed, blame_front}
 use Rattle.gateway.specs.Show.{Shows}
+
+-- ---- counts
+
+abbrev pub both : Faults → Faults → Faults
+both f g = record { link = f.link + g.link; keep = f.keep + g.keep; front = f.front + g.front; say = f.say + g.say }
+
+-- no count rose, and none stands at its end
+pub record Stood (was now : Faults) : Type 0 where
+  pub same : now ≡ was
+  pub link : was.link < 2 ^ 64 - 1
+  pub keep : was.keep < 2 ^ 64 - 1
+  pub front : was.front < 2 ^ 64 - 1
+  pub say : was.say < 2 ^ 64 - 1
+
+-- ---- runs
+
+-- Segments one after another, and how each client was served.
+pub data Run (door : Door) (account : Account) (before : Machine) : List Event → List Served → Machine → Type 0 where
+  Begun : Run door account before [] [] before
+  Then : {es fs : List Event} {went : List Served} {s : Served} {mid after : Machine} → Run door account before es went mid → Segment door account mid fs s after
+      → Run door account before (es ++ fs) (went ++ s ∷ []) after
+
+abbrev pub run_blamed : {door : Door} {account : Account} {before after : Machine} {events : List Event} {went : List Served}
+    → Run door account before events went after → Faults
+run_blamed Begun = no_faults
+run_blamed (Then run segment) = both (run_blamed run) (blamed segment)
+
+-- a client came, and the program goes on
+abbrev pub IsClient : Served → Type 0
+IsClient served.Whole = Unit {0}
+IsClient served.Part = Unit {0}
+IsClient _ = ⊥
+
+-- How a run of at most so many clients ends: after the last of them, after the last that came, or where accepting failed.
+pub data Ends (most : ℕ) (went : List Served) (status : ℕ) : Type 0 where
+  AllServed : All IsClient went → length went ≡ most → status ≡ 0 → Ends most went status
+  NoneLeft : (clients : List Served) → went ≡ clients ++ served.NoMore ∷ [] → All IsClient clients → length clients < most → status ≡ 0 → Ends most went status
+  NotAccepted : (clients : List Served) → went ≡ clients ++ served.AcceptFault ∷ [] → All IsClient clients → length clients < most → status ≡ 6
+      → Ends most went status
+
+-- ---- what calls add
+
+-- One segment from a machine to one that a gate stands for; the counts bear its blames.
+pub record StepsTo (door : Door) (account : Account) (before : Machine) (Stands : Machine → Type 0) (was now : Faults) (how : Served) (events : List Event) : Type 0 where
+  pub after : Machine
+  pub segment : Segment door account before events how after
+  pub stands : Stands after
+  pub bears : Bears (blamed segment) was now
+
+-- The same of a run that goes on after so many clients.
+pub record RunsTo (door : Door) (account : Account) (before : Machine) (Stands : Machine → Type 0) (clients : ℕ) (was now : Faults) (events : List Event) : Type 0 where
+  pub after : Machine
+  pub went : List Served
+  pub run : Run door account before events went after
+  pub came : All IsClient went
+  pub counted : length went ≡ clients
+  pub stands : Stands after
+  pub bears : Bears (run_blamed run) was now
+
+-- A whole run from a machine.
+pub record IsRun (door : Door) (account : Account) (before : Machine) (most : ℕ) (was now : Faults) (status : ℕ) (events : List Event) : Type 0 where
+  pub after : Machine
+  pub went : List Served
+  pub run : Run door account before events went after
+  pub ends : Ends most went status
+  pub bears : Bears (run_blamed run) was now
+
+-- What opening adds, and the machine that it gives: an epoch is drawn.
+pub data Opens (events : List Event) (result : Result (Unit {0}) OpenError) (after : Machine) : Type 0 where
+  Draw : (epoch : ℕ) → events ≡ Word epoch ∷ [] → result ≡ Ok tt → after ≡ opened epoch → Opens events result after
+  Lack : events ≡ [] → result ≡ Err opening.Memory → Opens events result after
+
+-- The same by what it gives: a gate that stands for the machine, or why there is none.
+abbrev pub OpensTo : {G : Type 0} → (G → Machine → Type 0) → Result G OpenError → List Event → Type 0
+OpensTo Stands (Ok gate) events = (m : Machine) × Opens events (Ok tt) m × Stands gate m
+OpensTo Stands (Err e) events = (m : Machine) × Opens events (Err e) m
+
+-- ---- the program
+
+abbrev pub account_of : Place → List ℕ → Account
+account_of place password = record { user = place.user; password = password; base = place.base }
 
 -- a line on the console, or that it failed
 abbrev pub IsSaid : List ℕ → List Event → Type 0
@@ -23,54 +111,53 @@ words_refused = codes "jmapgate: words refused\n"
 abbrev pub front_failed : List ℕ
 front_failed = codes "jmapgate: front failed\n"
 
--- the status at the end of the one segment, by the faults of the front in it, and what is said
-abbrev pub EndsOnce : ℕ → ℕ → List Event → Type 0
-EndsOnce zero status said = (status ≡ 0) × (said ≡ [])
-EndsOnce (suc _) status said = (status ≡ 6) × IsSaid front_failed said
+-- The status after one client on standard input, and what is said: whatever of the front fails ends in status 6.
+abbrev pub EndsOnce : Served → ℕ → List Event → Type 0
+EndsOnce served.Whole status said = (status ≡ 0) × (said ≡ [])
+EndsOnce served.NoMore status said = (status ≡ 0) × (said ≡ [])
+EndsOnce served.Part status said = (status ≡ 6) × IsSaid front_failed said
+EndsOnce served.AcceptFault status said = (status ≡ 6) × IsSaid front_failed said
 
--- the status after one client that gives a message, and what is said
+-- the same after one that gives a message
 abbrev pub EndsShow : Result (Unit {0}) FrontError → ℕ → List Event → Type 0
 EndsShow (Ok _) status said = (status ≡ 0) × (said ≡ [])
 EndsShow (Err front.Memory) status said = (status ≡ 5) × (said ≡ [])
 EndsShow (Err front.Failed) status said = (status ≡ 6) × IsSaid front_failed said
 
-abbrev pub account_of : Place → List ℕ → Account
-account_of place password = record { user = place.user; password = password; base = place.base }
+abbrev pub show_blamed : Result (Unit {0}) FrontError → Faults
+show_blamed (Err front.Failed) = blame_front 1 no_faults
+show_blamed _ = no_faults
 
--- The words are refused; or memory runs out before anything is asked of the outside; or an epoch is drawn and one client is
--- served; or one client is shown its message.
-pub data Run (words : List (List ℕ)) (password : List ℕ) (status : ℕ) (events : List Event) : Type 0 where
-  Refused : ((task : Task) → IsTask words task → ⊥) → status ≡ 2 → IsSaid words_refused events → Run words password status events
-  OutOfMemory : status ≡ 5 → events ≡ [] → Run words password status events
-  ServedOnce : (place : Place) (epoch : ℕ) (segment said : List Event) (after : Machine)
-      (served : Segment (account_of place password) (opened epoch) segment after) → IsTask words (Once place) → events ≡ Word epoch ∷ (segment ++ said)
-      → EndsOnce (blamed_front_faults served) status said → Run words password status events
-  ShownOne : (shown said : List Event) (outcome : Result (Unit {0}) FrontError) → IsTask words Show → events ≡ shown ++ said → Shows outcome shown
-      → EndsShow outcome status said → Run words password status events
+-- What a task adds, with its status and the faults that are blamed.
+pub data Ran (task : Task) (password : List ℕ) (status : ℕ) (blames : Faults) (events : List Event) : Type 0 where
+  -- opening came to nothing
+  Unopened : (place : Place) (m : Machine) → task ≡ Once place → Opens events (Err opening.Memory) m → status ≡ 5 → blames ≡ no_faults → Ran task password status blames events
+  ServedOnce : (place : Place) (opened segment said : List Event) (m after : Machine) (how : Served)
+      (served : Segment Bare (account_of place password) m segment how after) → task ≡ Once place → Opens opened (Ok tt) m → EndsOnce how status said
+      → blames ≡ blamed served → events ≡ (opened ++ segment) ++ said → Ran task password status blames events
+  ShownOne : (shown said : List Event) (outcome : Result (Unit {0}) FrontError) → task ≡ Show → events ≡ shown ++ said → Shows outcome shown → EndsShow outcome status said
+      → blames ≡ show_blamed outcome → Ran task password status blames events
 
--- how many faults of the link the run is blamed on
-abbrev pub run_faults : {words : List (List ℕ)} {password : List ℕ} {status : ℕ} {events : List Event} → Run words password status events → ℕ
-run_faults (Refused a b c) = 0
-run_faults (OutOfMemory a b) = 0
-run_faults (ServedOnce place epoch segment said after served a b c) = segment_faults served
-run_faults (ShownOne shown said outcome a b c d) = 0
-
--- a run whose blames are borne out by the counts of faults
-abbrev pub IsRun : List (List ℕ) → List ℕ → ℕ → ℕ → ℕ → List Event → Type 0
-IsRun words password was now status events = (run : Run words password status events) × RoseBy (run_faults run) was now
-
--- what serving once at this place adds
-abbrev pub RunsOnce : Place → List ℕ → ℕ → ℕ → ℕ → List Event → Type 0
-RunsOnce place password was now status events =
-    (epoch : ℕ) × (segment : List Event) × (said : List Event) × (after : Machine) × (served : Segment (account_of place password) (opened epoch) segment after)
-    × (events ≡ Word epoch ∷ (segment ++ said)) × EndsOnce (blamed_front_faults served) status said × RoseBy (segment_faults served) was now
+-- The run of the program over its words: they are refused, memory runs out before anything is asked of the outside, or what
+-- their task adds.
+pub data Runs (words : List (List ℕ)) (password : List ℕ) (status : ℕ) (blames : Faults) (events : List Event) : Type 0 where
+  Refused : ((task : Task) → IsTask words task → ⊥) → status ≡ 2 → IsSaid words_refused events → blames ≡ no_faults → Runs words password status blames events
+  OutOfMemory : status ≡ 5 → events ≡ [] → blames ≡ no_faults → Runs words password status blames events
+  Done : (task : Task) → IsTask words task → Ran task password status blames events → Runs words password status blames events
 
 -- what showing one client its message adds
 abbrev pub RunsShow : ℕ → List Event → Type 0
 RunsShow status events = (shown : List Event) × (said : List Event) × (outcome : Result (Unit {0}) FrontError) × (events ≡ shown ++ said) × Shows outcome shown
     × EndsShow outcome status said
 
--- what a task adds
-abbrev pub Performs : Task → List ℕ → ℕ → ℕ → ℕ → List Event → Type 0
-Performs (Once place) password was now status events = RunsOnce place password was now status events
-Performs Show password was now status events = RunsShow status events × RoseBy 0 was now
+-- what a task adds, the counts bearing its blames
+pub record Performs (task : Task) (password : List ℕ) (was now : Faults) (status : ℕ) (events : List Event) : Type 0 where
+  pub blames : Faults
+  pub ran : Ran task password status blames events
+  pub bears : Bears blames was now
+
+-- the same of the whole run
+pub record IsWholeRun (words : List (List ℕ)) (password : List ℕ) (was now : Faults) (status : ℕ) (events : List Event) : Type 0 where
+  pub blames : Faults
+  pub runs : Runs words password status blames events
+  pub bears : Bears blames was now

@@ -12,7 +12,7 @@ use Rattle.gateway.specs.declared.front.FrontError.TheVariants as front
 use Rattle.gateway.specs.declared.front.Input.{Input}
 use Rattle.gate_world.specs.Sending.{Sends}
 use Rattle.gateway.specs.Front.{input_octets, GivesInput}
-use Rattle.gateway.specs.Segment.{line_end}
+use Rattle.gateway.specs.Requests.{line_end}
 
 -- the most octets of a message
 abbrev pub message_limit : ℕ

@@ -4,11 +4,13 @@ ghost use Rattle.gate_world.specs.Causes.{Rose, Later, SayAlone};
 ghost use Rattle.gate_world.specs.Tape.{Adds};
 ghost use Rattle.gate_words.specs.Task.{IsTask};
 ghost use Rattle.gate_words.specs.declared.task.Task.{Task};
-ghost use Rattle.gateway.specs.Complete.{Completes, CompletesShow};
-ghost use Rattle.gateway.specs.Run.{IsRun, Performs, RunsOnce, RunsShow, IsSaid, front_failed};
+ghost use Rattle.gateway.specs.Complete.{CompletesShow};
+ghost use Rattle.gateway.specs.Run.{IsWholeRun, Performs, RunsShow, IsSaid, EndsOnce, front_failed, words_refused};
 
+use crate::bare_gate::BareGate;
 use crate::front::FrontError;
-use crate::segment::serve_one;
+use crate::gate::Gate;
+use crate::served::{OpenError, Served};
 use crate::show::show_one;
 use gate_words::{Place, Task, WordsError, read_words};
 use gate_world::{Watcher, World};
@@ -34,19 +36,48 @@ fn end_failed<W: World>(world: &mut W) -> u8
     STATUS_FRONT
 }
 
-// Draws an epoch and serves one client.
+// Says on standard error that the words are refused.
+fn end_refused<W: World>(world: &mut W) -> u8
+    ensures said { Adds (W.tape world.old) (W.tape world.new) (IsSaid words_refused) }
+    ensures status { result ≡ 2 }
+    ensures alone { SayAlone (W.faults world.old) (W.faults world.new) }
+    ensures hidden { W.hidden world.new ≡ W.hidden world.old }
+{
+    let _ = world.say(b"jmapgate: words refused\n");
+    STATUS_WORDS
+}
+
+// Ends the serving of one client on standard input.
+fn end_once<W: World>(world: &mut W, served: Served) -> u8
+    ensures said { Adds (W.tape world.old) (W.tape world.new) (EndsOnce served result) }
+    ensures statuses { (result ≡ 0) ⊎ (result ≡ 6) }
+    ensures failed { result ≡ 6 → (served ≡ Served.Part) ⊎ (served ≡ Served.AcceptFault) }
+    ensures alone { SayAlone (W.faults world.old) (W.faults world.new) }
+    ensures hidden { W.hidden world.new ≡ W.hidden world.old }
+{
+    match served {
+        Served::Whole => STATUS_DONE,
+        Served::NoMore => STATUS_DONE,
+        Served::Part => end_failed(world),
+        Served::AcceptFault => end_failed(world),
+    }
+}
+
+// Opens a gate and answers one client.
 fn once<W: World>(alloc: Global, world: &mut W, place: &Place) -> u8
     ensures run { Adds (W.tape world.old) (W.tape world.new)
-        (RunsOnce place.now (W.hidden world.old).password (W.faults world.old).link (W.faults world.new).link result) }
-    ensures statuses { (result ≡ 0) ⊎ (result ≡ 6) }
+        (Performs (Task.Once place.now) (W.hidden world.old).password (W.faults world.old) (W.faults world.new) result) }
+    ensures statuses { (result ≡ 0) ⊎ (result ≡ 5) ⊎ (result ≡ 6) }
     ensures front { result ≡ 6 → Rose (W.faults world.old).front (W.faults world.new).front }
     ensures later { Later (W.faults world.old) (W.faults world.new) }
     ensures hidden { W.hidden world.new ≡ W.hidden world.old }
 {
-    let epoch = world.word();
-    match serve_one(alloc, world, place, epoch) {
-        Ok(()) => STATUS_DONE,
-        Err(_) => end_failed(world),
+    match BareGate::open(alloc, world, place) {
+        Err(OpenError::Memory) => STATUS_MEMORY,
+        Ok(mut gate) => {
+            let served = gate.answer_one(alloc, world);
+            end_once(world, served)
+        }
     }
 }
 
@@ -69,7 +100,7 @@ fn show<W: World>(alloc: Global, world: &mut W) -> u8
 // Does what the task asks.
 fn perform<W: World>(alloc: Global, world: &mut W, task: &Task) -> u8
     ensures run { Adds (W.tape world.old) (W.tape world.new)
-        (Performs task.now (W.hidden world.old).password (W.faults world.old).link (W.faults world.new).link result) }
+        (Performs task.now (W.hidden world.old).password (W.faults world.old) (W.faults world.new) result) }
     ensures statuses { (result ≡ 0) ⊎ (result ≡ 5) ⊎ (result ≡ 6) }
     ensures front { result ≡ 6 → Rose (W.faults world.old).front (W.faults world.new).front }
     ensures later { Later (W.faults world.old) (W.faults world.new) }
@@ -85,13 +116,9 @@ fn perform<W: World>(alloc: Global, world: &mut W, task: &Task) -> u8
 /// Does what the words ask, the program's own name left out, over the outside; the status that the program ends with.
 /// No watcher is told anything yet.
 pub fn run<W: World>(words: &[String], world: &mut W, watchers: &mut Vec<Box<dyn Watcher>>) -> u8
-    // Where the tape is told, it has grown by a run over these words.
+    // Where the tape is told, it has grown by a run over these words, and the counts of faults bear what the run blames.
     ensures run { Adds (W.tape world.old) (W.tape world.new)
-        (IsRun (map string_bytes words.now) (W.hidden world.old).password (W.faults world.old).link (W.faults world.new).link result) }
-
-    // Whoever asks in the form, while the front does not fail and all exchanges are answered OK, is told the counts; or
-    // memory ran out.
-    ensures complete { (result ≡ 6 → ⊥) → Adds (W.tape world.old) (W.tape world.new) (Completes (map string_bytes words.now) (W.hidden world.old).password) }
+        (IsWholeRun (map string_bytes words.now) (W.hidden world.old).password (W.faults world.old) (W.faults world.new) result) }
 
     // Whoever gives a message to be shown, while the front does not fail, is sent its Email object and a line end; or memory
     // was wanting, and nothing was sent.
@@ -112,10 +139,7 @@ pub fn run<W: World>(words: &[String], world: &mut W, watchers: &mut Vec<Box<dyn
     let alloc: Global = *watchers.allocator();
     match read_words(alloc, words) {
         Ok(task) => perform(alloc, world, &task),
-        Err(WordsError::Refused) => {
-            let _ = world.say(b"jmapgate: words refused\n");
-            STATUS_WORDS
-        }
+        Err(WordsError::Refused) => end_refused(world),
         Err(WordsError::Memory) => STATUS_MEMORY,
     }
 }

@@ -1,6 +1,6 @@
 // Whole runs over a world that follows a script.
-use gate_world::{Bytes, Event, Script, ScriptWorld, Watcher};
-use gateway::run;
+use gate_world::{Bytes, Event, Script, ScriptWorld, Text, Watcher};
+use gateway::{BareGate, Gate, Place, Served, run};
 use std::alloc::{AllocError, Global};
 use std::process::Abort;
 use std::test::Fail;
@@ -24,25 +24,36 @@ const TOLD_END: &[u8] =
 
 const THREE_AND_TWO: &[u8] = b",\"totalEmails\":3,\"unreadEmails\":2";
 
+const NONE: &[u8] = b",\"totalEmails\":0,\"unreadEmails\":0";
+
 const UNAVAILABLE: &[u8] =
     b"{\"methodResponses\":[[\"error\",{\"type\":\"serverUnavailable\"},\"c1\"]],\"sessionState\":\"1;5;alice;http://127.0.0.1:8080\"}\n";
 
-const UNAVAILABLE_TO_OTHER: &[u8] =
-    b"{\"methodResponses\":[[\"error\",{\"type\":\"serverUnavailable\"},\"c1\"]],\"sessionState\":\"1;2;\xc3\xa9;http://127.0.0.1:8080\"}\n";
+/// What connecting sends, the round's LIST, and then INBOX as it is first asked.
+const CONNECTS: &[u8] =
+    b"a1 CAPABILITY\r\na2 LOGIN \"alice\" \"pw\"\r\na3 CAPABILITY\r\na4 ENABLE QRESYNC IMAP4rev2\r\na5 LIST \"\" \"*\" RETURN (SUBSCRIBED)\r\n";
 
-const NOT_REQUEST: &[u8] = b"{\"status\":400,\"type\":\"urn:ietf:params:jmap:error:notRequest\"}\n";
+const SELECTS: &[u8] = b"a6 SELECT \"INBOX\"\r\n";
 
-const COMMANDS: &[u8] =
-    b"a1 LOGIN \"alice\" \"pw\"\r\na2 SELECT \"INBOX\"\r\na3 UID FETCH 1:* (UID FLAGS)\r\n";
+const SELECTS_AGAIN: &[u8] = b"a6 SELECT \"INBOX\" (QRESYNC (7 1))\r\n";
 
-/// What a store gives before the flags, and after them.
+const FETCHES: &[u8] =
+    b"a7 UID FETCH 1:* (UID FLAGS MODSEQ INTERNALDATE RFC822.SIZE BODY.PEEK[HEADER]<0.32768>)\r\n";
+
+/// What a store gives up to the fetch, the messages, and its end.
+const CONNECTED: &[u8] =
+    b"* OK hi\r\n* CAPABILITY IMAP4rev2 QRESYNC\r\na1 OK done\r\na2 OK in\r\n* CAPABILITY IMAP4rev2 QRESYNC\r\na3 OK done\r\n";
+
+const LISTED: &[u8] =
+    b"* ENABLED QRESYNC\r\na4 OK on\r\n* LIST (\\Subscribed) \"/\" INBOX\r\na5 OK listed\r\n";
+
 const SELECTED: &[u8] =
-    b"* OK hi\r\na1 OK in\r\n* 3 EXISTS\r\n* OK [UIDVALIDITY 7] v\r\na2 OK sel\r\n";
+    b"* 0 EXISTS\r\n* OK [UIDVALIDITY 7] x\r\n* OK [UIDNEXT 1] x\r\n* OK [HIGHESTMODSEQ 1] x\r\na6 OK [READ-WRITE] x\r\n";
 
-const DONE: &[u8] = b"a3 OK done\r\n";
+const DONE: &[u8] = b"a7 OK done\r\n";
 
 const THREE: &[u8] =
-    b"* 1 FETCH (UID 1 FLAGS (\\Seen))\r\n* 2 FETCH (UID 2 FLAGS ())\r\n* 3 FETCH (UID 4 FLAGS ())\r\n";
+    b"* 1 FETCH (UID 1 FLAGS (\\Seen) MODSEQ (3) INTERNALDATE \"01-Jan-2024 00:00:00 +0000\" RFC822.SIZE 40 BODY[HEADER]<0> {2}\r\n\r\n)\r\n* 2 FETCH (UID 2 FLAGS () MODSEQ (3) INTERNALDATE \"01-Jan-2024 00:00:00 +0000\" RFC822.SIZE 40 BODY[HEADER]<0> {2}\r\n\r\n)\r\n* 3 FETCH (UID 4 FLAGS () MODSEQ (3) INTERNALDATE \"01-Jan-2024 00:00:00 +0000\" RFC822.SIZE 40 BODY[HEADER]<0> {2}\r\n\r\n)\r\n";
 
 /// The most octets that one read gives.
 pub(crate) const PIECES: [usize; 4] = [1, 2, 3, 100_000];
@@ -79,6 +90,15 @@ impl Seen {
             front_failed: false,
             say_failed: false,
         }
+    }
+
+    fn note(&mut self, events: &[Event]) -> Result<(), AllocError> {
+        for event in events {
+            self.note_client(event)?;
+            self.note_store(event)?;
+            self.note_console(event)?;
+        }
+        Ok(())
     }
 
     fn note_client(&mut self, event: &Event) -> Result<(), AllocError> {
@@ -164,223 +184,174 @@ pub(crate) fn follow(alloc: Global, words: &str, script: Script) -> Result<Seen,
     let mut watchers: Vec<Box<dyn Watcher>> = Vec::new(alloc);
     let mut world = ScriptWorld::new(alloc, script);
     let mut seen = Seen::new(alloc, run(&words, &mut world, &mut watchers));
-    for event in world.events().ok_or("the tape is not told")? {
-        seen.note_client(event)?;
-        seen.note_store(event)?;
-        seen.note_console(event)?;
-    }
+    seen.note(world.events().ok_or("the tape is not told")?)?;
     Ok(seen)
 }
 
-/// Flags that are told, the properties that are asked for, and the counts.
-const COUNTS: [(&[u8], &[u8], &[u8]); 9] = [
-    (THREE, BOTH, THREE_AND_TWO),
-    (b"", BOTH, b",\"totalEmails\":0,\"unreadEmails\":0"),
-    (THREE, b"[\"unreadEmails\"]", b",\"unreadEmails\":2"),
-    (THREE, b"[\"totalEmails\",\"id\"]", b",\"totalEmails\":3"),
+/// Parts of what a store gives after it connected, what the store takes after LIST, and what the client is told.
+const DIALOGUES: [(&[&[u8]], &[&[u8]], &[u8]); 3] = [
+    (&[LISTED, SELECTED, THREE, DONE], &[SELECTS, FETCHES], THREE_AND_TWO),
+    (&[LISTED, SELECTED, DONE], &[SELECTS, FETCHES], NONE),
     (
-        b"* 1 FETCH (UID 1 FLAGS (\\Deleted))\r\n* 2 FETCH (UID 2 FLAGS (\\Seen \\dELETED))\r\n* 3 FETCH (UID 3 FLAGS (Deleted))\r\n",
-        BOTH,
-        b",\"totalEmails\":1,\"unreadEmails\":1",
-    ),
-    (
-        b"* 1 FETCH (UID 1 FLAGS ())\r\n* 2 FETCH (FLAGS (\\Deleted) UID 2)\r\n* 9 FETCH (UID 1 FLAGS (\\Seen))\r\n* 2 FETCH (UID 2 FLAGS ())\r\n",
-        BOTH,
-        b",\"totalEmails\":2,\"unreadEmails\":1",
-    ),
-    (
-        b"* 1 FETCH (UID 1 FLAGS (\\Draft))\r\n* 2 FETCH (UID 2 FLAGS (\\Flagged $x))\r\n",
-        BOTH,
-        b",\"totalEmails\":2,\"unreadEmails\":1",
-    ),
-    (
-        b"* 1 FETCH (FLAGS ())\r\n* 2 FETCH (UID 2)\r\n* 5 EXISTS\r\n",
-        BOTH,
-        b",\"totalEmails\":0,\"unreadEmails\":0",
-    ),
-    (
-        b"* 1 FETCH (UID 7 FLAGS ())\r\n* X {11}\r\na3 BAD no\r\n\r\n* NO x\r\n",
-        BOTH,
-        b",\"totalEmails\":1,\"unreadEmails\":1",
+        &[
+            b"* ENABLED X-OTHER qresync\r\na4 OK on\r\n* LIST (\\HasNoChildren \\Subscribed) \"/\" \"INBOX\" (\"CHILDINFO\" (\"SUBSCRIBED\"))\r\na5 OK listed\r\n",
+            b"* 0 EXISTS\r\n* OK [UIDVALIDITY 7] x\r\n* OK [UIDNEXT 1] x\r\na6 OK [READ-WRITE] x\r\na7 OK done\r\na8 OK done\r\n",
+        ],
+        &[
+            SELECTS,
+            b"a7 UID FETCH 1:* (UID FLAGS)\r\na8 UID FETCH 1:* (UID FLAGS INTERNALDATE RFC822.SIZE BODY.PEEK[HEADER]<0.32768>)\r\n",
+        ],
+        NONE,
     ),
 ];
 
 fn expect_counts(
     rt: &impl Abort,
     alloc: Global,
-    flags: &[u8],
-    properties: &[u8],
+    gives: &[&[u8]],
+    takes: &[&[u8]],
     counts: &[u8],
 ) -> Result<(), Fail> {
     let line = joined(alloc, &[TOLD, counts, TOLD_END])?;
+    let given = joined(alloc, gives)?;
+    let taken = joined(alloc, takes)?;
+    let commands = joined(alloc, &[CONNECTS, taken.as_slice()])?;
     for piece in PIECES {
-        let link = joined(alloc, &[SELECTED, flags, DONE])?;
-        let client = joined(alloc, &[ASK, properties, ASK_END])?;
-        let mut script = script_of(alloc, link, client)?;
+        let mut script = asking(alloc, &[CONNECTED, given.as_slice()])?;
         script.piece = piece;
         let seen = follow(alloc, USUAL, script)?;
         assert_eq!(rt; seen.client_took.as_slice(), line.as_slice(), "{piece}");
-        assert_eq!(rt; seen.store_took.as_slice(), COMMANDS, "{piece}");
+        assert_eq!(rt; seen.store_took.as_slice(), commands.as_slice(), "{piece}");
         assert!(rt;
             seen.status == 0 && seen.dials == 1 && !seen.was_early,
             "{piece}"
         );
-    }
-    Ok(())
-}
-
-/// What stores give that do not tell all flags.
-const ENDS: [&[u8]; 16] = [
-    b"",
-    b"* OK hi\r\na1 OK in\r\na2 OK sel\r\n* 1 FETCH (UID 1 FLAGS ())\r\na3 OK done\r",
-    b"* OK hi\r\na1 OK in\r\na2 OK sel\r\n* 1 FETCH (UID 1 FLAGS ())\r\n",
-    b"* BYE no\r\na1 OK in\r\na2 OK sel\r\na3 OK done\r\n",
-    b"* PREAUTH hi\r\na1 OK in\r\na2 OK sel\r\na3 OK done\r\n",
-    b"* 1 EXISTS\r\n* OK hi\r\na1 OK in\r\na2 OK sel\r\na3 OK done\r\n",
-    b"a1 OK hi\r\na1 OK in\r\na2 OK sel\r\na3 OK done\r\n",
-    b"* OK hi\r\na1 NO bad password\r\na2 OK sel\r\na3 OK done\r\n",
-    b"* OK hi\r\na1 OK in\r\na2 BAD no INBOX\r\na3 OK done\r\n",
-    b"* OK hi\r\na1 OK in\r\na2 OK sel\r\na3 NO done\r\n",
-    b"* OK hi\r\na1 OK in\r\n* BYE now\r\na2 OK sel\r\na3 OK done\r\n",
-    b"* OK hi\r\na1 OK in\r\na2 OK sel\r\n* 1 FETCH (UID 1 FLAGS ())\r\n* BYE now\r\na3 OK done\r\n",
-    b"* OK hi\r\na1 OK in\r\nb9 OK x\r\na2 OK sel\r\na3 OK done\r\n",
-    b"* OK hi\r\na1 OK in\r\na3 OK done\r\na2 OK sel\r\na3 OK done\r\n",
-    b"* OK hi\r\na1 OK in\r\n\x00\r\na2 OK sel\r\na3 OK done\r\n",
-    b"* OK hi\r\na1 OK in\r\na2 OK sel\r\n* 1 FETCH (UID 0 FLAGS ())\r\na3 OK done\r\n",
-];
-
-fn expect_unavailable(rt: &impl Abort, alloc: Global, link: &[u8]) -> Result<(), Fail> {
-    for piece in PIECES {
-        let mut script = asking(alloc, &[link])?;
-        script.piece = piece;
-        let seen = follow(alloc, USUAL, script)?;
-        assert_eq!(rt; seen.client_took.as_slice(), UNAVAILABLE, "{piece}");
-        assert!(rt; COMMANDS.starts_with(seen.store_took.as_slice()), "{piece}");
-        assert!(rt;
-            seen.status == 0 && seen.dials == 1 && !seen.was_early,
-            "{piece}"
-        );
-    }
-    Ok(())
-}
-
-/// What clients give that is no request.
-const BODIES: [&[u8]; 4] = [b"{}", b"", b"\xff", b"{\"using\":["];
-
-fn expect_not_request(rt: &impl Abort, alloc: Global, body: &[u8]) -> Result<(), Fail> {
-    for piece in PIECES {
-        let link = joined(alloc, &[SELECTED, THREE, DONE])?;
-        let mut script = script_of(alloc, link, Bytes::copy_of(alloc, body)?)?;
-        script.piece = piece;
-        let seen = follow(alloc, USUAL, script)?;
-        assert_eq!(rt; seen.client_took.as_slice(), NOT_REQUEST, "{piece}");
-        assert!(rt; seen.status == 0 && seen.dials == 0, "{piece}");
     }
     Ok(())
 }
 
 #[test]
 fn counts_of_inbox_in_any_pieces(rt: HostRuntime) -> Result<(), Fail> {
-    for (flags, properties, counts) in COUNTS.iter() {
-        expect_counts(&rt, rt.alloc(), flags, properties, counts)?;
-    }
-    for link in ENDS.iter() {
-        expect_unavailable(&rt, rt.alloc(), link)?;
-    }
-    for body in BODIES.iter() {
-        expect_not_request(&rt, rt.alloc(), body)?;
+    for (gives, takes, counts) in DIALOGUES.iter() {
+        expect_counts(&rt, rt.alloc(), gives, takes, counts)?;
     }
     Ok(())
 }
 
-const LIFE_OCTETS: usize = 8_388_608;
+/// What clients give that dials nobody, and what they are told.
+const UNDIALED: [(&[u8], &[u8]); 4] = [
+    (
+        b"{}",
+        b"{\"status\":400,\"type\":\"urn:ietf:params:jmap:error:notRequest\"}\n",
+    ),
+    (
+        b"{",
+        b"{\"status\":400,\"type\":\"urn:ietf:params:jmap:error:notJSON\"}\n",
+    ),
+    (
+        b"{\"using\":[\"urn:x\"],\"methodCalls\":[]}",
+        b"{\"status\":400,\"type\":\"urn:ietf:params:jmap:error:unknownCapability\"}\n",
+    ),
+    (
+        b"{\"using\":[\"urn:ietf:params:jmap:core\"],\"methodCalls\":[[\"Core/echo\",{\"a\":1},\"c1\"],[\"Core/echo\",{\"#b\":{\"resultOf\":\"c1\",\"name\":\"Core/echo\",\"path\":\"/a\"}},\"c2\"]]}",
+        b"{\"methodResponses\":[[\"Core/echo\",{\"a\":1},\"c1\"],[\"Core/echo\",{\"b\":1},\"c2\"]],\"sessionState\":\"1;5;alice;http://127.0.0.1:8080\"}\n",
+    ),
+];
+
+#[test]
+fn no_link_life_without_need(rt: HostRuntime) -> Result<(), Fail> {
+    let alloc = rt.alloc();
+    for (body, line) in UNDIALED.iter() {
+        let link = joined(alloc, &[CONNECTED, LISTED, SELECTED, DONE])?;
+        let script = script_of(alloc, link, Bytes::copy_of(alloc, body)?)?;
+        let seen = follow(alloc, USUAL, script)?;
+        assert_eq!(&rt; seen.client_took.as_slice(), *line);
+        assert!(&rt; seen.status == 0 && seen.dials == 0);
+    }
+    Ok(())
+}
+
+fn place(alloc: Global) -> Result<Place, AllocError> {
+    Ok(Place {
+        store: Text::copy_of(alloc, "127.0.0.1:1")?,
+        user: Text::copy_of(alloc, "alice")?,
+        base: Text::copy_of(alloc, "http://127.0.0.1:8080")?,
+    })
+}
+
+/// A second request whose link ends in a fetch is answered serverUnavailable; a third finds the mail as the first left it.
+#[test]
+fn a_lost_link_spoils_one_request(rt: HostRuntime) -> Result<(), Fail> {
+    let alloc = rt.alloc();
+    let client = joined(alloc, &[ASK, BOTH, ASK_END])?;
+    let first = joined(alloc, &[CONNECTED, LISTED, SELECTED, DONE])?;
+    let second = joined(alloc, &[CONNECTED, LISTED, SELECTED, b"* 1 FETCH (UID"])?;
+    let script = Script::new(alloc)?
+        .with_link(first.as_slice())?
+        .with_link(second.as_slice())?
+        .with_link(first.as_slice())?
+        .with_client(client.as_slice())?
+        .with_client(client.as_slice())?
+        .with_client(client.as_slice())?
+        .with_word(31)?
+        .with_secrets(b"pw", b"")?;
+    let mut world = ScriptWorld::new(alloc, script);
+    let place = place(alloc)?;
+    let Ok(mut gate) = BareGate::open(alloc, &mut world, &place) else {
+        return Err(Fail::from("no gate"));
+    };
+    for _ in 0..3 {
+        assert_eq!(&rt; gate.answer_one(alloc, &mut world), Served::Whole);
+    }
+    assert_eq!(&rt; gate.answer_one(alloc, &mut world), Served::NoMore);
+    let mut seen = Seen::new(alloc, 0);
+    seen.note(world.events().ok_or("the tape is not told")?)?;
+    let line = joined(alloc, &[TOLD, NONE, TOLD_END])?;
+    let lines = joined(alloc, &[line.as_slice(), UNAVAILABLE, line.as_slice()])?;
+    assert_eq!(&rt; seen.client_took.as_slice(), lines.as_slice());
+    let one = joined(alloc, &[CONNECTS, SELECTS, FETCHES])?;
+    let more = joined(alloc, &[CONNECTS, SELECTS_AGAIN, FETCHES])?;
+    let commands = joined(alloc, &[one.as_slice(), more.as_slice(), more.as_slice()])?;
+    assert_eq!(&rt; seen.store_took.as_slice(), commands.as_slice());
+    Ok(())
+}
 
 const BODY_OCTETS: usize = 10_000_000;
-/// The most octets that one read asks for.
-const READ_OCTETS: usize = 8192;
-
-const SHORT: &[u8] = b"* 123456 EXISTS\r\n";
-
-/// This many short responses.
-fn short_ones(alloc: Global, count: usize) -> Result<Vec<u8>, AllocError> {
-    let mut octets = Vec::new(alloc);
-    for _ in 0..count {
-        octets.extend_from_slice(SHORT)?;
-    }
-    Ok(octets)
-}
-
-/// A life of the most octets is taken, and a longer one is given up at the first read that is past the limit.
-fn expect_life_limit(rt: &impl Abort, alloc: Global) -> Result<(), Fail> {
-    let most = short_ones(alloc, 493_000)?;
-    let known = SELECTED.len() + most.len() + 5 + THREE.len() + DONE.len();
-    let dots = vec![in alloc; b'.'; LIFE_OCTETS.saturating_sub(known)]?;
-    let script = asking(
-        alloc,
-        &[SELECTED, &most, b"* X", &dots, b"\r\n", THREE, DONE],
-    )?;
-    let whole = follow(alloc, USUAL, script)?;
-    assert_eq!(rt; whole.store_gave, LIFE_OCTETS);
-    let line = joined(alloc, &[TOLD, THREE_AND_TWO, TOLD_END])?;
-    assert_eq!(rt; whole.client_took.as_slice(), line.as_slice());
-
-    let more = short_ones(alloc, 500_000)?;
-    let long = follow(alloc, USUAL, asking(alloc, &[SELECTED, &more, DONE])?)?;
-    assert_eq!(rt; long.store_gave, LIFE_OCTETS + READ_OCTETS);
-    assert_eq!(rt; long.client_took.as_slice(), UNAVAILABLE);
-    assert!(rt; whole.status == 0 && long.status == 0 && !long.was_early);
-    Ok(())
-}
 
 /// A request of n octets, most of them spaces after it.
 fn long_request(alloc: Global, count: usize) -> Result<Script, AllocError> {
     let known = ASK.len() + BOTH.len() + ASK_END.len();
     let spaces = vec![in alloc; b' '; count.saturating_sub(known)]?;
     let client = joined(alloc, &[ASK, BOTH, ASK_END, &spaces])?;
-    let link = joined(alloc, &[SELECTED, THREE, DONE])?;
+    let link = joined(alloc, &[CONNECTED, LISTED, SELECTED, DONE])?;
     script_of(alloc, link, client)
 }
 
 /// A body of the most octets is taken, and of a longer one no more than one octet past them is read.
-fn expect_body_limit(rt: &impl Abort, alloc: Global) -> Result<(), Fail> {
-    let whole = follow(alloc, USUAL, long_request(alloc, BODY_OCTETS)?)?;
-    assert!(rt; whole.client_gave == BODY_OCTETS && whole.dials == 1);
-    let line = joined(alloc, &[TOLD, THREE_AND_TWO, TOLD_END])?;
-    assert_eq!(rt; whole.client_took.as_slice(), line.as_slice());
-
-    let long = follow(alloc, USUAL, long_request(alloc, BODY_OCTETS + 9)?)?;
-    assert!(rt; long.client_gave == BODY_OCTETS + 1 && long.dials == 0);
-    assert_eq!(rt; long.client_took.as_slice(), NOT_REQUEST);
-    assert!(rt; whole.status == 0 && long.status == 0);
-    Ok(())
-}
-
-/// A user that cannot be sent in quotes: nothing is dialed.
-fn expect_unsendable(rt: &impl Abort, alloc: Global) -> Result<(), Fail> {
-    let words = "once|--store|127.0.0.1:1|--user=\u{e9}|--base|http://127.0.0.1:8080";
-    let seen = follow(alloc, words, asking(alloc, &[SELECTED, THREE, DONE])?)?;
-    assert_eq!(rt; seen.client_took.as_slice(), UNAVAILABLE_TO_OTHER);
-    assert!(rt; seen.status == 0 && seen.dials == 0);
-    Ok(())
-}
-
 #[test]
 fn limits(rt: HostRuntime) -> Result<(), Fail> {
-    expect_life_limit(&rt, rt.alloc())?;
-    expect_body_limit(&rt, rt.alloc())?;
-    expect_unsendable(&rt, rt.alloc())?;
+    let alloc = rt.alloc();
+    let whole = follow(alloc, USUAL, long_request(alloc, BODY_OCTETS)?)?;
+    assert!(&rt; whole.client_gave == BODY_OCTETS && whole.dials == 1);
+    let line = joined(alloc, &[TOLD, NONE, TOLD_END])?;
+    assert_eq!(&rt; whole.client_took.as_slice(), line.as_slice());
+
+    let long = follow(alloc, USUAL, long_request(alloc, BODY_OCTETS + 9)?)?;
+    assert!(&rt; long.client_gave == BODY_OCTETS + 1 && long.dials == 0);
+    assert_eq!(&rt; long.client_took.as_slice(), b"{\"limit\":\"maxSizeRequest\",\"status\":413,\"type\":\"urn:ietf:params:jmap:error:limit\"}\n");
+    assert!(&rt; whole.status == 0 && long.status == 0);
     Ok(())
 }
 
 /// How many calls that can fail the run of the next test has.
-const CALLS: u64 = 30;
+const CALLS: u64 = 60;
 
 /// The usual run in pieces of 16, where this call fails, or where every call from this one on fails.
 fn failing(alloc: Global, fails_at: Option<u64>, stop_at: u64) -> Result<Seen, Fail> {
-    let script = asking(alloc, &[SELECTED, THREE, DONE])?;
+    let script = asking(alloc, &[CONNECTED, LISTED, SELECTED, THREE, DONE])?;
     let script = script
         .failing(fails_at.unwrap_or(0))?
-        .in_pieces(16)
+        .in_pieces(64)
         .stopping_at(stop_at);
     follow(alloc, USUAL, script)
 }

@@ -1,16 +1,17 @@
-use Rattle.gate_world.proofs.Joins.{widen}
-use Rattle.gateway.proofs.Completing.{completes}
+use Rattle.gate_world.proofs.Joins.{none, widen}
 use Rattle.gateway.proofs.CompletingShow.{completes_show}
-use Rattle.gateway.proofs.Serving.{run_of}
+use Rattle.gateway.proofs.Performing.{runs_task, runs_refused, runs_lacking}
 use Rattle.gateway.proofs.program.run.Goals as goal
 
 pub returns-in-Ok-clause-run : goal.returns-in-Ok-clause-run
-returns-in-Ok-clause-run g c = widen _ c.perform.ensures.run (λ x so. run_of _ c.in-Ok.task _ _ _ c.perform.result c.in-Ok.ensures.ok so)
-
-pub returns-in-Ok-clause-complete : goal.returns-in-Ok-clause-complete
-returns-in-Ok-clause-complete g c =
-    λ well. widen _ c.perform.ensures.run (λ x so. completes (run_of _ c.in-Ok.task _ _ _ c.perform.result c.in-Ok.ensures.ok so).0 well)
+returns-in-Ok-clause-run g c = widen _ c.perform.ensures.run (λ x so. runs_task c.in-Ok.ensures.ok so)
 
 pub returns-in-Ok-clause-shown : goal.returns-in-Ok-clause-shown
-returns-in-Ok-clause-shown g c =
-    λ well. widen _ c.perform.ensures.run (λ x so. completes_show (run_of _ c.in-Ok.task _ _ _ c.perform.result c.in-Ok.ensures.ok so).0 well)
+returns-in-Ok-clause-shown g c = λ well. widen _ c.perform.ensures.run (λ x so. completes_show (runs_task c.in-Ok.ensures.ok so).runs well)
+
+pub returns-in-Err-Refused-clause-run : goal.returns-in-Err-Refused-clause-run
+returns-in-Err-Refused-clause-run g c =
+    rw (c.end_refused.ensures.status) (widen _ c.end_refused.ensures.said (λ x said. runs_refused (c.in-Err-Refused.ensures.refused c.in-Err-Refused.field-0-is) c.end_refused.ensures.alone said))
+
+pub returns-in-Err-Memory-clause-run : goal.returns-in-Err-Memory-clause-run
+returns-in-Err-Memory-clause-run g c = none _ _ (runs_lacking _)

@@ -1,0 +1,2 @@
+mod Stages
+mod Owed

@@ -1,0 +1,115 @@
+-- From a request that needs the mail to the mail that is served: the machine is ready, the request's one link life begins,
+-- the round asks for all mail, and what it told is served from then on.
+use Rattle.std.specs.Prelude.{◌≡◌, ◌≢◌, ◌⊎◌, ◌++◌, ℕ, true, List, [], ◌∷◌, Option, Some, None, Result}
+use Rattle.gate_world.specs.Causes.{Faults}
+use Rattle.gate_world.specs.declared.event.Event.{Event}
+use Rattle.gate_world.specs.declared.event.Event.TheVariants.{Word}
+use Rattle.told_mail.specs.Mail.{Mail, SameMail}
+use Rattle.imap_exchange.specs.Answering.{HangsUp}
+use Rattle.imap_exchange.specs.declared.link_end.LinkEnd.{LinkEnd}
+use Rattle.imap_client.specs.Connecting.{Connects}
+use Rattle.imap_client.specs.LinkLife.{LinkLife, ClientState}
+use Rattle.imap_client.specs.Rounds.{Rounds}
+use Rattle.gate_machine.specs.History.{KnownMail, IsNew, advance, IsSpent}
+use Rattle.gate_machine.specs.Machine.{hearing, restarted, committed, forgotten}
+use Rattle.gate_machine.specs.Progress.{Progress, CameTo, Bears, idle, ended, out_of_memory, is_up}
+use Rattle.gate_machine.specs.declared.machine.Machine.{Machine}
+use Rattle.gate_machine.specs.declared.standing.Fall.TheVariants.{Spent}
+use Rattle.gate_machine.specs.declared.standing.Standing.{Standing}
+use Rattle.gate_machine.specs.declared.standing.Standing.TheVariants.{Stands, Fell}
+
+-- A machine that isn't ready draws another epoch, and begins with no mail.
+pub data Readies (before : Machine) (events : List Event) (after : Machine) : Type 0 where
+  Ready : (k : KnownMail) → before.known ≡ Some k → events ≡ [] → after ≡ before → Readies before events after
+  Restart : (epoch : ℕ) → before.known ≡ None → events ≡ Word epoch ∷ [] → after ≡ restarted before epoch → Readies before events after
+
+-- a step that is passed over, as what was begun doesn't stand
+abbrev pub Skips : Progress → List Event → Progress → Type 0
+Skips before events after = (before.standing ≢ Stands) × (events ≡ []) × (after ≡ before)
+
+-- the request's one link life begins
+pub record Dials (user password : List ℕ) (before : Progress) (events : List Event) (after : Progress) : Type 0 where
+  pub client : ClientState
+  pub left : Option LinkLife
+  pub result : Result (Unit {0}) LinkEnd
+  pub stands : before.standing ≡ Stands
+  pub connects : Connects user password left client result events
+  pub after_is : after ≡ ended result (record before { left = left })
+
+-- The round asks for all mail in that life. The machine is told each exchange that is completed.
+pub record Asks (before : Progress) (events : List Event) (after : Progress) : Type 0 where
+  pub known : KnownMail
+  pub told : Mail
+  pub life : LinkLife
+  pub left : LinkLife
+  pub client : ClientState
+  pub result : Result (Unit {0}) LinkEnd
+  pub stands : before.standing ≡ Stands
+  pub ready : before.machine.known ≡ Some known
+  pub in_life : before.left ≡ Some life
+  pub goes_on : life.goes_on ≡ true
+  pub rounds : Rounds known.told told life left client result events
+  pub after_is : after ≡ ended result (record before { machine = hearing before.machine known told; left = Some left })
+
+-- The told mail is served, at a further place where it is new. Where no place is left, or there is no memory for it, the
+-- machine isn't ready.
+pub data Settles (before : Progress) (events : List Event) (after : Progress) : Type 0 where
+  Same : (k : KnownMail) → before.standing ≡ Stands → before.machine.known ≡ Some k → SameMail k.history.mail k.told → events ≡ [] → after ≡ before
+      → Settles before events after
+  Moves : (k : KnownMail) → before.standing ≡ Stands → before.machine.known ≡ Some k → IsNew k → (IsSpent k.history → ⊥) → events ≡ []
+      → after ≡ record before { machine = committed before.machine (advance k.history k.told) } → Settles before events after
+  Spends : (k : KnownMail) → before.standing ≡ Stands → before.machine.known ≡ Some k → IsNew k → IsSpent k.history → events ≡ []
+      → after ≡ record before { machine = forgotten before.machine; standing = Fell Spent } → Settles before events after
+  Lacks : before.standing ≡ Stands → events ≡ [] → after ≡ out_of_memory before → Settles before events after
+
+-- the round, and what it told is served where it stands
+pub record AsksThen (before : Progress) (events : List Event) (after : Progress) : Type 0 where
+  pub told : Progress
+  pub asking : List Event
+  pub settling : List Event
+  pub asks : Skips before asking told ⊎ Asks before asking told
+  pub settles : Skips told settling after ⊎ Settles told settling after
+  pub whole : events ≡ asking ++ settling
+
+-- Ready, dial, round, and the told mail is served, each only after one that stands.
+pub record Begins (user password : List ℕ) (before : Machine) (events : List Event) (after : Progress) : Type 0 where
+  pub ready : Machine
+  pub connected : Progress
+  pub readying : List Event
+  pub connecting : List Event
+  pub asking : List Event
+  pub readies : Readies before readying ready
+  pub dials : Dials user password (idle ready) connecting connected
+  pub asks : AsksThen connected asking after
+  pub whole : events ≡ readying ++ (connecting ++ asking)
+
+-- ---- what calls add
+
+-- from a machine that is ready
+pub record DialsTo (user password : List ℕ) (before machine : Machine) (client : ClientState) (how : Standing) (was now : Faults) (events : List Event) : Type 0 where
+  pub connected : Progress
+  pub after : Progress
+  pub connecting : List Event
+  pub asking : List Event
+  pub dials : Dials user password (idle before) connecting connected
+  pub asks : AsksThen connected asking after
+  pub whole : events ≡ connecting ++ asking
+  pub came : CameTo machine client how was now after
+
+-- the whole way
+pub record BeginsTo (user password : List ℕ) (before machine : Machine) (client : ClientState) (how : Standing) (was now : Faults) (events : List Event) : Type 0 where
+  pub after : Progress
+  pub begins : Begins user password before events after
+  pub came : CameTo machine client how was now after
+
+-- The whole way, and the link is hung up where it is up after it.
+pub record Visits (user password : List ℕ) (before machine : Machine) (how : Standing) (was now : Faults) (events : List Event) : Type 0 where
+  pub after : Progress
+  pub beginning : List Event
+  pub ending : List Event
+  pub begins : Begins user password before beginning after
+  pub hangs : HangsUp (is_up after.left) ending
+  pub whole : events ≡ beginning ++ ending
+  pub machine_is : after.machine ≡ machine
+  pub standing_is : after.standing ≡ how
+  pub bears : Bears after.blamed was now

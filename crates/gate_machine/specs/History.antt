@@ -1,0 +1,50 @@
+-- How often the mail changed in an epoch, the mail that it came to, and what was told since.
+use Rattle.std.specs.Prelude.{◌≡◌, ◌⊎◌, ◌<◌, ◌+◌, ◌-◌, ◌^◌, ℕ, List, []}
+use Rattle.told_mail.specs.Mail.{Mail, SameMail}
+
+abbrev pub no_mail : Mail
+no_mail = record { folders = []; next_mark = 1; next_folder = 1 }
+
+-- The epoch, a random number; the place, which is how many requests of the epoch found other mail than there was before
+-- them; and the mail as the last of them found it.
+pub record History : Type 0 where
+  pub epoch : ℕ
+  pub place : ℕ
+  pub mail : Mail
+
+-- an epoch begins
+abbrev pub begun : ℕ → History
+begun epoch = record { epoch = epoch; place = 0; mail = no_mail }
+
+-- it goes on by other mail
+abbrev pub advance : History → Mail → History
+advance h mail = record h { place = h.place + 1; mail = mail }
+
+-- the greatest number that JSON's readers keep exactly (RFC 8620 section 1.3)
+abbrev pub last_place : ℕ
+last_place = 2 ^ 53 - 1
+
+-- a further place would pass the last one
+abbrev pub IsSpent : History → Type 0
+IsSpent h = last_place < h.place + 1
+
+-- ---- what is known
+
+-- the history that is served, and the mail told since
+pub record KnownMail : Type 0 where
+  pub history : History
+  pub told : Mail
+
+-- nothing was told since
+abbrev pub known_of : History → KnownMail
+known_of h = record { history = h; told = h.mail }
+
+-- the told mail is other than the mail that is served
+abbrev pub IsNew : KnownMail → Type 0
+IsNew k = SameMail k.history.mail k.told → ⊥
+
+-- The told mail is served from then on, at a further place where it is new.
+abbrev pub Commits : KnownMail → KnownMail → Type 0
+Commits before after =
+    (SameMail before.history.mail before.told × (after ≡ before))
+    ⊎ (IsNew before × (IsSpent before.history → ⊥) × (after ≡ known_of (advance before.history before.told)))

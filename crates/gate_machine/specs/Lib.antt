@@ -1,0 +1,5 @@
+pub mod History
+pub mod Machine
+pub mod Progress
+pub mod Beginning
+pub mod Obeying

@@ -1,0 +1,158 @@
+// A request's way to the mail: the machine is ready, the link life begins, the round asks for all mail, and what it told is
+// served.
+ghost use Rattle.std.specs.Prelude.{◌≡◌, [], true, false, IsSome};
+ghost use Rattle.gate_world.specs.Causes.{Faults, LinkAlone};
+ghost use Rattle.gate_world.specs.Tape.{Adds};
+ghost use Rattle.imap_client.specs.LinkLife.{ClientState};
+ghost use Rattle.gate_machine.specs.Progress.{Progress, CameTo, idle};
+ghost use Rattle.gate_machine.specs.Beginning.{Dials, Asks, Settles, AsksThen, DialsTo, BeginsTo, Visits};
+
+use crate::machine::Machine;
+use crate::standing::{CommitEnd, Fall, Standing};
+use gate_world::{Chance, Link, Secrets};
+use imap_client::Client;
+use std::alloc::Global;
+
+// The link life begins.
+fn dial<W: Link + Secrets>(
+    machine: &mut Machine,
+    client: &mut Client,
+    world: &mut W,
+    user: &[u8],
+) -> Standing
+    requires { client.old.alive ≡ false }
+    ensures run { Adds (W.tape world.old) (W.tape world.new) (λ es. (after : Progress)
+        × Dials user.now (W.hidden world.old).password (idle machine.old) es after
+        × CameTo machine.new client.new result (W.faults world.old) (W.faults world.new) after) }
+    ensures alive { result ≡ Standing.Stands → client.new.alive ≡ true }
+    ensures machine { result ≡ Standing.Stands → machine.new ≡ machine.old }
+    ensures alone { LinkAlone (W.faults world.old) (W.faults world.new) }
+    ensures hidden { W.hidden world.new ≡ W.hidden world.old }
+{
+    let connected = client.connect(world, user);
+    machine.end(connected)
+}
+
+// The round.
+fn ask<L: Link>(
+    machine: &mut Machine,
+    client: &mut Client,
+    link: &mut L,
+) -> Standing
+    requires alive { client.old.alive ≡ true }
+    requires ready { IsSome machine.old.known }
+    ensures run { Adds (L.tape link.old) (L.tape link.new) (λ es. (before : Progress) (was : Faults)
+        → CameTo machine.old client.old Standing.Stands was (L.faults link.old) before
+        → (after : Progress) × Asks before es after × CameTo machine.new client.new result was (L.faults link.new) after) }
+    ensures ready { result ≡ Standing.Stands → IsSome machine.new.known }
+    ensures alone { LinkAlone (L.faults link.old) (L.faults link.new) }
+    ensures hidden { L.hidden link.new ≡ L.hidden link.old }
+{
+    let Some(known) = &mut machine.known else {
+        unreachable!()
+    };
+    let asked = known.ask(client, link);
+    machine.end(asked)
+}
+
+// What the round told is served.
+fn settle(machine: &mut Machine) -> Standing
+    requires { IsSome machine.old.known }
+    ensures { (before : Progress) (client : ClientState) (was now : Faults) → CameTo machine.old client Standing.Stands was now before
+        → (after : Progress) × Settles before [] after × CameTo machine.new client result was now after }
+{
+    let Some(known) = &mut machine.known else {
+        unreachable!()
+    };
+    match known.commit() {
+        Ok(()) => Standing::Stands,
+        Err(CommitEnd::Spent) => {
+            machine.forget();
+            Standing::Fell(Fall::Spent)
+        }
+        Err(CommitEnd::Memory) => {
+            machine.forget();
+            Standing::OutOfMemory
+        }
+    }
+}
+
+// The round, and what it told is served.
+fn ask_and_settle<L: Link>(
+    machine: &mut Machine,
+    client: &mut Client,
+    link: &mut L,
+) -> Standing
+    requires alive { client.old.alive ≡ true }
+    requires ready { IsSome machine.old.known }
+    ensures run { Adds (L.tape link.old) (L.tape link.new) (λ es. (before : Progress) (was : Faults)
+        → CameTo machine.old client.old Standing.Stands was (L.faults link.old) before
+        → (after : Progress) × AsksThen before es after × CameTo machine.new client.new result was (L.faults link.new) after) }
+    ensures alone { LinkAlone (L.faults link.old) (L.faults link.new) }
+    ensures hidden { L.hidden link.new ≡ L.hidden link.old }
+{
+    match ask(machine, client, link) {
+        Standing::Stands => settle(machine),
+        Standing::Fell(why) => Standing::Fell(why),
+        Standing::OutOfMemory => Standing::OutOfMemory,
+    }
+}
+
+// The link life, once the machine is ready.
+fn live<W: Link + Secrets>(
+    machine: &mut Machine,
+    client: &mut Client,
+    world: &mut W,
+    user: &[u8],
+) -> Standing
+    requires dead { client.old.alive ≡ false }
+    requires ready { IsSome machine.old.known }
+    ensures run { Adds (W.tape world.old) (W.tape world.new)
+        (DialsTo user.now (W.hidden world.old).password machine.old machine.new client.new result (W.faults world.old) (W.faults world.new)) }
+    ensures alone { LinkAlone (W.faults world.old) (W.faults world.new) }
+    ensures hidden { W.hidden world.new ≡ W.hidden world.old }
+{
+    match dial(machine, client, world, user) {
+        Standing::Stands => ask_and_settle(machine, client, world),
+        Standing::Fell(why) => Standing::Fell(why),
+        Standing::OutOfMemory => Standing::OutOfMemory,
+    }
+}
+
+/// Makes the machine ready, connects, asks for all mail, and serves what is told, each after the one before stands. The
+/// client's link life goes on after it where it stands, and may where what was told isn't served.
+pub fn begin<W: Link + Chance + Secrets>(
+    alloc: Global,
+    machine: &mut Machine,
+    client: &mut Client,
+    world: &mut W,
+    user: &[u8],
+) -> Standing
+    requires { client.old.alive ≡ false }
+    ensures run { Adds (W.tape world.old) (W.tape world.new)
+        (BeginsTo user.now (W.hidden world.old).password machine.old machine.new client.new result (W.faults world.old) (W.faults world.new)) }
+    ensures alone { LinkAlone (W.faults world.old) (W.faults world.new) }
+    ensures hidden { W.hidden world.new ≡ W.hidden world.old }
+{
+    machine.make_ready(alloc, world);
+    live(machine, client, world, user)
+}
+
+/// The link life of a request: it begins, and is over after it. Where the result stands, the mail that is known then is what
+/// the store told in it.
+pub fn visit<W: Link + Chance + Secrets>(
+    alloc: Global,
+    machine: &mut Machine,
+    world: &mut W,
+    user: &[u8],
+) -> Standing
+    ensures run { Adds (W.tape world.old) (W.tape world.new)
+        (Visits user.now (W.hidden world.old).password machine.old machine.new result (W.faults world.old) (W.faults world.new)) }
+    ensures alone { LinkAlone (W.faults world.old) (W.faults world.new) }
+    ensures hidden { W.hidden world.new ≡ W.hidden world.old }
+{
+    let mut client = Client::new(alloc);
+    let standing = begin(alloc, machine, &mut client, world, user);
+    client.leave(world);
+    standing
+}

@@ -1,0 +1,28 @@
+// Whether the mail of a request can be told, and why not.
+use imap_client::LinkEnd;
+
+/// Why the mail of a request can't be told.
+#[derive(Clone, Copy, Debug, PartialEq, Drop)]
+pub enum Fall {
+    /// Connecting, or the round, came to this end, which is not out of memory.
+    Linked(LinkEnd),
+    /// The mail is new, and the place of the history would pass the last one.
+    Spent,
+}
+
+/// Whether what was begun for a request stands.
+#[derive(Clone, Copy, Debug, PartialEq, Drop)]
+pub enum Standing {
+    /// All of it does, the round too once it was made.
+    Stands,
+    Fell(Fall),
+    OutOfMemory,
+}
+
+/// Why told mail isn't served.
+#[derive(Clone, Copy, Debug, PartialEq, Drop)]
+pub enum CommitEnd {
+    /// A place would pass the last one.
+    Spent,
+    Memory,
+}
