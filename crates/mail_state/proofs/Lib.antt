@@ -1,0 +1,16 @@
+pub mod Rows
+pub mod OneTake
+pub mod Readings
+pub mod Going
+pub mod ThreadLaw
+pub mod Exact
+pub mod Fresh
+pub mod StandsAfter
+pub mod ImmutableOnce
+pub mod NewRows
+pub mod WholeOn
+pub mod NextBound
+pub mod Begins
+pub mod Marks
+pub mod Whole
+pub mod Apart
