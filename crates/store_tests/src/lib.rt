@@ -4,6 +4,8 @@
 #[cfg(test)]
 mod dialogues;
 #[cfg(test)]
+mod mirror_calls;
+#[cfg(test)]
 mod showing;
 #[cfg(test)]
 mod told_exchanges;

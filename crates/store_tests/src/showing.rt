@@ -23,6 +23,9 @@ fn put_folder(alloc: Global, out: &mut Vec<u8>, held: &Held) -> Result<(), Alloc
     put_number(alloc, out, held.folder.number)?;
     out.push(b' ')?;
     out.extend_from_slice(held.folder.name.as_slice())?;
+    for attribute in held.folder.attributes.as_slice() {
+        out.extend_from_slice(attribute.as_slice())?;
+    }
     for number in [
         u64::from(held.folder.validity),
         held.folder.modseq,
@@ -39,7 +42,7 @@ fn put_folder(alloc: Global, out: &mut Vec<u8>, held: &Held) -> Result<(), Alloc
     Ok(())
 }
 
-/// Each folder as its number, name, validity, modseq and next, and of each message the UID, mark and flags.
+/// Each folder as its number, name and attributes, validity, modseq and next, and of each message the UID, mark and flags.
 pub(crate) fn shown(alloc: Global, mirror: &Mirror) -> Result<Vec<u8>, AllocError> {
     let mut out = Vec::new(alloc);
     for held in mirror.folders() {

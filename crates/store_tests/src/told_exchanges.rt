@@ -192,21 +192,21 @@ const FOLDERS: [Row; 9] = [
     (
         Asked::List,
         b"* LIST () \"/\" b\r\n* LIST () \"/\" INBOX\r\n* LIST () \"/\" a\r\n* LIST (\\Noselect) \"/\" b\r\na1 OK done\r\n",
-        b"1 INBOX 0 0 1:;2 a 0 0 1:;3 b 3 0 1:;",
+        b"1 INBOX 0 0 1:;2 a 0 0 1:;3 b\\noselect 3 0 1:;",
         true,
     ),
     // an octet that no name has
     (
         Asked::List,
         b"* LIST () \"/\" INBOX\r\n* LIST () \"/\" a\r\n* LIST (\\Noselect) \"/\" b\r\n* LIST () \"/\" {3}\r\nx\ny\r\na1 OK done\r\n",
-        b"1 INBOX 0 0 1:;2 a 0 0 1:;3 b 3 0 1:;",
+        b"1 INBOX 0 0 1:;2 a 0 0 1:;3 b\\noselect 3 0 1:;",
         false,
     ),
     // a renamed folder ends and another comes, whose number is new
     (
         Asked::List,
         b"* LIST () \"/\" INBOX\r\n* LIST () \"/\" a\r\n* LIST (\\Noselect) \"/\" c\r\na1 OK done\r\n",
-        b"1 INBOX 0 0 1:;2 a 0 0 1:;4 c 0 0 1:;",
+        b"1 INBOX 0 0 1:;2 a 0 0 1:;4 c\\noselect 0 0 1:;",
         true,
     ),
     (
@@ -217,6 +217,107 @@ const FOLDERS: [Row; 9] = [
     ),
     (Asked::List, b"a1 BAD what\r\n", b"5 b 0 0 1:;", false),
     (Asked::List, b"a1 OK done\r\n", b"", true),
+];
+
+/// What a LIST tells beside its lines, sets of UIDs in any order, and codes that count.
+const MORE: [Row; 15] = [
+    (
+        Asked::List,
+        b"* LIST () \"/\" INBOX\r\n* LIST () \"/\" a\r\na1 OK done\r\n",
+        b"1 INBOX 0 0 1:;2 a 0 0 1:;",
+        true,
+    ),
+    (
+        Asked::New(1),
+        b"* 1 FETCH (UID 3 FLAGS () INTERNALDATE \"02-Jan-2024 09:00:00 +0000\" RFC822.SIZE 9 BODY[HEADER]<0> \"\")\r\n* 1 FETCH (UID 5 FLAGS () INTERNALDATE \"02-Jan-2024 09:00:00 +0000\" RFC822.SIZE 9 BODY[HEADER]<0> \"\")\r\n* 1 FETCH (UID 8 FLAGS () INTERNALDATE \"02-Jan-2024 09:00:00 +0000\" RFC822.SIZE 9 BODY[HEADER]<0> \"\")\r\na1 OK done\r\n",
+        b"1 INBOX 0 0 9: 3#1 5#2 8#3;2 a 0 0 1:;",
+        true,
+    ),
+    // a LIST tells messages of the selected folder too, but none that is new
+    (
+        Asked::List,
+        b"* VANISHED 3\r\n* 1 FETCH (UID 5 FLAGS (\\Seen))\r\n* LIST () \"/\" INBOX\r\n* LIST () \"/\" a\r\n* 1 FETCH (UID 9 FLAGS () INTERNALDATE \"02-Jan-2024 09:00:00 +0000\" RFC822.SIZE 9 BODY[HEADER]<0> \"\")\r\na1 OK done\r\n",
+        b"1 INBOX 0 0 9: 5#2\\seen 8#3;2 a 0 0 1:;",
+        true,
+    ),
+    (
+        Asked::List,
+        b"* LIST () \"/\" INBOX\r\n* VANISHED 3\r\n* 1 FETCH (UID 5 FLAGS (\\Seen))\r\n* LIST () \"/\" a\r\na1 OK done\r\n",
+        b"1 INBOX 0 0 9: 5#2\\seen 8#3;2 a 0 0 1:;",
+        false,
+    ),
+    // UIDs in any order, and ranges that meet
+    (
+        Asked::Unselect,
+        b"* VANISHED 9,8,7,6\r\na1 OK done\r\n",
+        b"1 INBOX 0 0 9: 5#2\\seen;2 a 0 0 1:;",
+        true,
+    ),
+    (
+        Asked::Unselect,
+        b"* VANISHED 9,8,7,6\r\n* VANISHED 1:4,4:3\r\na1 OK done\r\n",
+        b"1 INBOX 0 0 9: 5#2\\seen;2 a 0 0 1:;",
+        false,
+    ),
+    (
+        Asked::Unselect,
+        b"* VANISHED 7:8,1:5,5:6\r\na1 OK done\r\n",
+        b"1 INBOX 0 0 9:;2 a 0 0 1:;",
+        true,
+    ),
+    // flags of a held message raise next
+    (
+        Asked::Slice(9, 10),
+        b"* 1 FETCH (UID 30 FLAGS () INTERNALDATE \"02-Jan-2024 09:00:00 +0000\" RFC822.SIZE 9 BODY[HEADER]<0> \"\")\r\na1 OK done\r\n",
+        b"1 INBOX 0 0 11: 30#4;2 a 0 0 1:;",
+        true,
+    ),
+    (
+        Asked::New(11),
+        b"* 1 FETCH (UID 30 FLAGS ())\r\na1 OK done\r\n",
+        b"1 INBOX 0 0 31: 30#4;2 a 0 0 1:;",
+        true,
+    ),
+    // a new UID below next
+    (
+        Asked::New(31),
+        b"* 1 FETCH (UID 2 FLAGS () INTERNALDATE \"02-Jan-2024 09:00:00 +0000\" RFC822.SIZE 9 BODY[HEADER]<0> \"\")\r\na1 OK done\r\n",
+        b"1 INBOX 0 0 31: 2#5 30#4;2 a 0 0 1:;",
+        true,
+    ),
+    // the last UIDVALIDITY counts, and none that a NO tells
+    (
+        Asked::Select(b"INBOX"),
+        b"* OK [UIDVALIDITY 8] x\r\n* OK [UIDVALIDITY 7] x\r\na1 OK done\r\n",
+        b"1 INBOX 7 0 1:;2 a 0 0 1:;",
+        true,
+    ),
+    (
+        Asked::Select(b"INBOX"),
+        b"* OK [UIDVALIDITY 8] x\r\n* OK [UIDVALIDITY 7] x\r\n* NO [UIDVALIDITY 9] x\r\na1 OK done\r\n",
+        b"1 INBOX 7 0 1:;2 a 0 0 1:;",
+        false,
+    ),
+    // only what follows the last CLOSED
+    (
+        Asked::Select(b"INBOX"),
+        b"* OK [CLOSED] x\r\n* OK [UIDVALIDITY 9] x\r\n* OK [HIGHESTMODSEQ 3] x\r\n* OK [CLOSED] x\r\na1 OK done\r\n",
+        b"1 INBOX 7 0 1:;2 a 0 0 1:;",
+        false,
+    ),
+    (
+        Asked::New(1),
+        b"* 1 FETCH (UID 3 FLAGS () INTERNALDATE \"02-Jan-2024 09:00:00 +0000\" RFC822.SIZE 9 BODY[HEADER]<0> \"\")\r\na1 OK done\r\n",
+        b"1 INBOX 7 0 4: 3#6;2 a 0 0 1:;",
+        true,
+    ),
+    // the LIST that ends the selected folder
+    (
+        Asked::List,
+        b"* VANISHED 3\r\n* LIST () \"/\" a\r\na1 OK done\r\n",
+        b"2 a 0 0 1:;",
+        true,
+    ),
 ];
 
 fn expect_rows(rt: &impl Abort, alloc: Global, rows: &[Row]) -> Result<(), Fail> {
@@ -242,4 +343,9 @@ fn a_folder_is_told(rt: HostRuntime) -> Result<(), Fail> {
 #[test]
 fn folders_come_and_go(rt: HostRuntime) -> Result<(), Fail> {
     expect_rows(&rt, rt.alloc(), &FOLDERS)
+}
+
+#[test]
+fn a_list_tells_messages_too(rt: HostRuntime) -> Result<(), Fail> {
+    expect_rows(&rt, rt.alloc(), &MORE)
 }

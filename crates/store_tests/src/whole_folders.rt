@@ -9,6 +9,8 @@ const MESSAGES: u32 = 20_000;
 
 const SLICE: u32 = 10_000;
 
+const FOLDERS: u32 = 2_000;
+
 /// One message of a FETCH.
 fn put_fetch(alloc: Global, out: &mut Vec<u8>, uid: u32) -> Result<(), AllocError> {
     let text = format!(in alloc;
@@ -47,6 +49,46 @@ fn slice(alloc: Global, from: u32, down: bool) -> Result<Vec<u8>, AllocError> {
     Ok(out)
 }
 
+/// A VANISHED of the odd UIDs, the greatest first.
+fn odd_vanished(alloc: Global) -> Result<Vec<u8>, AllocError> {
+    let mut out = Vec::new(alloc);
+    out.extend_from_slice(b"* VANISHED ")?;
+    for step in 0..SLICE {
+        let uid = MESSAGES.saturating_sub(1).saturating_sub(step.saturating_mul(2));
+        let text = format!(in alloc; "{uid},")?;
+        out.extend_from_slice(text.as_bytes())?;
+    }
+    out.extend_from_slice(b"1\r\na1 OK done\r\n")?;
+    Ok(out)
+}
+
+/// A LIST of many folders, the last by name first.
+fn many_listed(alloc: Global) -> Result<Vec<u8>, AllocError> {
+    let mut out = Vec::new(alloc);
+    for step in 0..FOLDERS {
+        let number = 9_999_u32.saturating_sub(step);
+        let text = format!(in alloc; "* LIST () \"/\" f{number}\r\n")?;
+        out.extend_from_slice(text.as_bytes())?;
+    }
+    out.extend_from_slice(b"a1 OK done\r\n")?;
+    Ok(out)
+}
+
+#[test]
+fn many_folders_are_listed(rt: HostRuntime) -> Result<(), Fail> {
+    let alloc = rt.alloc();
+    let mut mirror = Mirror::new(alloc);
+    let octets = many_listed(alloc)?;
+    for changes in [1, 1] {
+        told(&rt, alloc, &mut mirror, Asked::List, &octets)?;
+        assert_eq!(rt; mirror.folders().len(), 2_000);
+        assert_eq!(rt; mirror.named(b"f8000").map(|folder| folder.number), Some(1));
+        assert_eq!(rt; mirror.named(b"f9999").map(|folder| folder.number), Some(2_000));
+        assert_eq!(rt; mirror.changes(), changes);
+    }
+    Ok(())
+}
+
 #[test]
 fn a_large_folder_is_told_by_slices(rt: HostRuntime) -> Result<(), Fail> {
     let alloc = rt.alloc();
@@ -72,6 +114,10 @@ fn a_large_folder_is_told_by_slices(rt: HostRuntime) -> Result<(), Fail> {
         assert_eq!(rt; mirror.messages(1).len(), 20_000);
         assert_eq!(rt; mirror.message(1, MESSAGES).is_some(), true);
         assert_eq!(rt; mirror.folder(1).map(|folder| folder.next), Some(20_001));
+        let odd = odd_vanished(alloc)?;
+        told(&rt, alloc, &mut mirror, Asked::Unselect, &odd)?;
+        assert_eq!(rt; mirror.messages(1).len(), 10_000);
+        assert_eq!(rt; mirror.message(1, 1).is_some(), false);
         told(
             &rt,
             alloc,

@@ -1,4 +1,3 @@
 pub mod Index
 pub mod Lines
-pub mod Open
-pub mod Ranges
+pub mod Rises

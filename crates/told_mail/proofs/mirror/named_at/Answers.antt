@@ -1,5 +1,5 @@
 use Rattle.std.proofs.Common.{◌<◌, sym, ◌∙◌, length, arith}
-use Rattle.told_mail.proofs.StepLemmas.{named_here, named_on}
+use Rattle.told_mail.proofs.ListLemmas.{named_here, named_on}
 use Rattle.told_mail.proofs.mirror.named_at.Goals as goal
 
 pub returns-then-eq : goal.returns-then-eq

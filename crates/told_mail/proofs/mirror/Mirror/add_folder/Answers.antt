@@ -1,5 +1,5 @@
 use Rattle.std.proofs.Common.{◌∙◌, ap}
-use Rattle.told_mail.specs.declared.message.Folder.{Folder}
+use Rattle.told_folder.specs.declared.message.Folder.{Folder}
 use Rattle.told_mail.proofs.ToldLemmas.{pushed}
 use Rattle.told_mail.proofs.mirror.Mirror.add_folder.Goals as goal
 

@@ -1,5 +1,5 @@
 use Rattle.std.proofs.Common.{◌<◌, List, length, suc}
-use Rattle.told_mail.specs.declared.message.Held.{Held}
+use Rattle.told_folder.specs.declared.message.Held.{Held}
 use Rattle.told_mail.proofs.ToldLemmas.{indexed_end, below_take, below_drop, below_append}
 use Rattle.told_mail.proofs.mirror.Mirror.cut_at_place.Goals as goal
 
@@ -8,7 +8,7 @@ invariant_of-self c =
     let hs : List Held = c.self.inside.folders.items in
     let within : c.args.at < length hs = rw (← c.self.view_is) at c.requires in
     rw c.remove-held.ensures.items (record {
-      index = indexed_end hs c.args.at c.remove-held.result c.self.inside.marks c.clear_marks.new.marks c.self.inside.next_mark c.self.inside.next_folder within
+      index = indexed_end hs c.args.at c.remove-held.result c.self.inside.marks c.clear_marks.new.marks c.self.inside.next_mark within
           c.remove-held.ensures.value (rw c.as_slice.ensures at c.clear_marks.ensures) c.self.invariant.index;
       folders = below_append _ _ _ (below_take hs _ c.args.at c.self.invariant.folders) (below_drop hs _ (suc c.args.at) c.self.invariant.folders);
     })

@@ -1,11 +1,11 @@
 use Rattle.std.proofs.Common.{List, ap, sym, ◌∙◌, refl}
-use Rattle.told_mail.specs.Keyed.{IsHeldAt, IsFreeAt}
-use Rattle.told_mail.specs.Mail.{number_of}
+use Rattle.told_folder.specs.Places.{IsHeldAt, IsFreeAt}
+use Rattle.told_folder.specs.Folders.{number_of}
 use Rattle.std.specs.Option.{option_map}
-use Rattle.told_mail.specs.declared.message.Held.{Held}
-use Rattle.told_mail.proofs.KeyedLemmas.{held_found, free_found, item_at, some_is_not_none}
-use Rattle.told_mail.proofs.MailLemmas.{mail_same}
-use Rattle.told_mail.proofs.ToldLemmas.{cut_place, cut_none}
+use Rattle.told_folder.specs.declared.message.Held.{Held}
+use Rattle.told_folder.proofs.KeyedLemmas.{held_found, free_found, item_at, some_is_not_none}
+use Rattle.told_mail.proofs.ToldLemmas.{mail_same}
+use Rattle.told_mail.proofs.ToldLemmas.{cut_place, cut_none, no_folder}
 use Rattle.told_mail.proofs.mirror.Mirror.cut_folder.Goals as goal
 
 pub returns-in-Ok-clause-mail : goal.returns-in-Ok-clause-mail
@@ -27,3 +27,9 @@ returns-in-Err-clause-mail c =
     let hs : List Held = c.self.inside.folders.items in
     let free : IsFreeAt number_of c.args.number hs c.in-Err.field-0 = rw c.as_slice.ensures.value at c.in-Err.ensures in
     rw (← c.self.view_is) (mail_same _ _ _ _ _ _ (cut_none c.args.number hs (sym (free_found number_of c.args.number hs c.self.invariant.index.numbers _ free))) refl refl)
+
+pub returns-in-Err-clause-counted : goal.returns-in-Err-clause-counted
+returns-in-Err-clause-counted c =
+    let hs : List Held = c.self.inside.folders.items in
+    let free : IsFreeAt number_of c.args.number hs c.in-Err.field-0 = rw c.as_slice.ensures.value at c.in-Err.ensures in
+    rw (← c.self.view_is) (λ e. absurd (no_folder hs c.args.number (sym (free_found number_of c.args.number hs c.self.invariant.index.numbers _ free)) e))

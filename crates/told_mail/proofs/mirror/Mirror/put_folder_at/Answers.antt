@@ -1,11 +1,13 @@
 use Rattle.std.proofs.Common.{arith, ◌≡◌, List, [], None, ap, sym, ◌∙◌, subst, refl}
-use Rattle.told_mail.specs.Keyed.{IsFreeAt, put_keyed}
-use Rattle.told_mail.specs.Mail.{number_of, held_in, messages_of}
-use Rattle.told_mail.specs.reading.Index.{IsIndexed, AllBelow}
-use Rattle.told_mail.specs.declared.message.Held.{Held}
-use Rattle.told_mail.specs.declared.message.Message.{Message}
-use Rattle.told_mail.proofs.KeyedLemmas.{free_found}
-use Rattle.told_mail.proofs.MailLemmas.{mail_same}
+use Rattle.told_folder.specs.Places.{IsFreeAt}
+use Rattle.told_folder.specs.Keyed.{put_keyed}
+use Rattle.told_folder.specs.Folders.{number_of, held_in, messages_of}
+use Rattle.told_folder.specs.Index.{IsIndexed}
+use Rattle.told_mail.specs.Mail.{AllBelow}
+use Rattle.told_folder.specs.declared.message.Held.{Held}
+use Rattle.told_folder.specs.declared.message.Message.{Message}
+use Rattle.told_folder.proofs.KeyedLemmas.{free_found}
+use Rattle.told_mail.proofs.ToldLemmas.{mail_same}
 use Rattle.told_mail.proofs.ToldLemmas.{folder_put, indexed_folder, below_put, below_more}
 use Rattle.told_mail.proofs.mirror.Mirror.put_folder_at.Goals as goal
 use Rattle.told_mail.proofs.mirror.Mirror.put_folder_at.Goals.{in-Ok, in-Err}
@@ -18,8 +20,8 @@ invariant_of-self c =
     let put : c.insert.new.self.items ≡ put_keyed number_of (record { folder = c.args.folder; messages = [] }) hs =
     folder_put hs _ c.args.folder _ c.args.place free.place new (c.from_vec-messages.ensures ∙ c.new.ensures.items) c.in-Ok.ensures.items in
     record {
-      index = subst (λ (ks : List Held). IsIndexed ks c.self.inside.marks c.self.inside.next_mark c.max-self-inside.result) (sym put)
-          (indexed_folder hs c.self.inside.marks c.self.inside.next_mark c.self.inside.next_folder _ c.args.folder new c.self.invariant.index);
+      index = subst (λ (ks : List Held). IsIndexed ks c.self.inside.marks c.self.inside.next_mark) (sym put)
+          (indexed_folder hs c.self.inside.marks c.self.inside.next_mark c.args.folder new c.self.invariant.index);
       folders = subst (λ (ks : List Held). AllBelow c.max-self-inside.result ks) (sym put)
           (below_put _ hs _ (omega (arith, c.max-self-inside.ensures)) (below_more hs _ _ (omega (arith, c.max-self-inside.ensures)) c.self.invariant.folders));
     }

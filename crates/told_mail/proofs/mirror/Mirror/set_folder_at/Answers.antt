@@ -1,10 +1,11 @@
 use Rattle.std.proofs.Common.{◌≡◌, ◌<◌, ◌+◌, ◌∙◌, ℕ, List, ap, sym, refl, arith, set, max}
-use Rattle.told_mail.specs.Keyed.{IsHeldAt, put_keyed}
-use Rattle.told_mail.specs.Mail.{number_of, held_in, messages_of}
-use Rattle.told_mail.specs.declared.message.Held.{Held}
-use Rattle.told_mail.specs.declared.message.Message.{Message}
-use Rattle.told_mail.proofs.KeyedLemmas.{held_found, put_held}
-use Rattle.told_mail.proofs.MailLemmas.{mail_same}
+use Rattle.told_folder.specs.Places.{IsHeldAt}
+use Rattle.told_folder.specs.Keyed.{put_keyed}
+use Rattle.told_folder.specs.Folders.{number_of, held_in, messages_of}
+use Rattle.told_folder.specs.declared.message.Held.{Held}
+use Rattle.told_folder.specs.declared.message.Message.{Message}
+use Rattle.told_folder.proofs.KeyedLemmas.{held_found, put_held}
+use Rattle.told_mail.proofs.ToldLemmas.{mail_same}
 use Rattle.told_mail.proofs.ToldLemmas.{renamed_at, below_get}
 use Rattle.told_mail.proofs.mirror.Mirror.set_folder_at.Goals as goal
 

@@ -1,5 +1,5 @@
 use Rattle.std.proofs.Common.{◌<◌, List, length}
-use Rattle.told_mail.specs.declared.message.Held.{Held}
+use Rattle.told_folder.specs.declared.message.Held.{Held}
 use Rattle.told_mail.proofs.ToldLemmas.{lined_at}
 use Rattle.told_mail.proofs.mirror.Mirror.set_line_at.Goals as goal
 

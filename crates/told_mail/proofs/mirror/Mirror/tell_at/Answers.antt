@@ -1,8 +1,8 @@
 use Rattle.std.proofs.Common.{◌∙◌, sym, ap, subst, ◌<◌, List, refl, length}
-use Rattle.told_mail.specs.declared.message.Held.{Held}
-use Rattle.told_mail.specs.declared.message.Folder.{Folder}
-use Rattle.told_mail.proofs.MailLemmas.{ascend_in, held_same}
-use Rattle.told_mail.proofs.StepLemmas.{on_ok_both}
+use Rattle.told_folder.specs.declared.message.Held.{Held}
+use Rattle.told_folder.specs.declared.message.Folder.{Folder}
+use Rattle.told_folder.proofs.FolderLemmas.{ascend_in, held_same}
+use Rattle.told_mail.proofs.ListLemmas.{on_ok_both}
 use Rattle.told_mail.proofs.ToldLemmas.{here_at_place, indexed_told, told_at, below_set, below_get, number_kept}
 use Rattle.told_mail.proofs.mirror.Mirror.tell_at.Goals as goal
 
@@ -20,7 +20,7 @@ invariant_of-self c =
     record {
       index = (
           indexed_told hs c.args.at c.index_mut-held.result.now _ c.take_messages-messages.new.held.folder c.tell_exchange-done.new.folder c.self.inside.marks
-          c.self.inside.next_mark c.self.inside.next_folder
+          c.self.inside.next_mark
           (record {
             folder = c.take_messages-messages.new.held.folder.number;
             messages = c.take_messages-messages.result;

@@ -1,6 +1,6 @@
 use Rattle.std.proofs.Common.{◌≡◌}
 use Rattle.told_mail.specs.Mail.{Mail}
-use Rattle.told_mail.proofs.StepLemmas.{named_told, named_known}
+use Rattle.told_mail.proofs.ListLemmas.{named_told, named_known}
 use Rattle.told_mail.proofs.mirror.Mirror.tell_named.Goals as goal
 
 pub returns-in-Some-clause-ok : goal.returns-in-Some-clause-ok

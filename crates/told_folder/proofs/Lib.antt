@@ -1,0 +1,9 @@
+pub mod KeyedLemmas
+pub mod FolderLemmas
+pub mod IndexLemmas
+pub mod OpenLemmas
+pub mod VanishLemmas
+pub mod SameLemmas
+pub mod RangeLemmas
+pub mod HeaderLemmas
+pub mod StepLemmas

@@ -1,0 +1,276 @@
+-- What holds of the index while one folder's messages change.
+use Rattle.std.proofs.Common.{◌≡◌, ◌≢◌, ℕ, ◌+◌, ◌<◌, ◌≤◌, Bool, true, false, List, [], ◌∷◌, ◌++◌, Option, Some, None, length, get_or, set, take, drop, refl, sym, ap, ◌∙◌, subst}
+use Rattle.std.proofs.Common.{arith, eqb, inl, inr, cond, if◌then◌else◌, nat_cmp, is_some}
+use Rattle.std.specs.BTreeMap.{BTreeMap, get, is_at}
+use Rattle.std.specs.Option.{option_map}
+use Rattle.std.specs.Bool.{OnTrue, Decides}
+use Rattle.told_folder.specs.Keyed.{Ascends, with_key, put_keyed}
+use Rattle.told_folder.specs.Places.{IsHeldAt, IsFreeAt}
+use Rattle.told_folder.specs.Folders.{uid_of, held_in, messages_of, message_in, mark_in, with_messages}
+use Rattle.told_folder.specs.Index.{IsIndexed}
+use Rattle.told_folder.specs.declared.message.Message.{Message}
+use Rattle.told_folder.specs.declared.message.Held.{Held}
+use Rattle.std.proofs.Common.{Result, Ok, Err, OnOk, OnErr}
+use Rattle.std.specs.declared.alloc.AllocError.{AllocError}
+use Rattle.imap_syntax.specs.declared.response.FetchItems.{FetchItems}
+use Rattle.told_folder.specs.declared.telling.Work.{Work}
+use Rattle.told_folder.specs.Tell.{Telling, with_flags, with_new, new_message, tell_uid, tell_fetch, tell_response, tell_responses, AllKnown}
+use Rattle.imap_syntax.specs.declared.response.Response.{Response}
+use Rattle.std.proofs.lemmas.List.{take_more}
+use Rattle.told_folder.specs.Work.{telling_of, IsIndexOf, GoesOn, GoesOk, IsFlagged}
+use Rattle.told_folder.proofs.KeyedLemmas.{found_put, ascends_put, item_at, held_found, set_stays, put_held, put_free, free_found}
+use Rattle.told_folder.proofs.FolderLemmas.{set_here, with_twice, held_with, messages_other, numbers_with, uids_with}
+use Rattle.told_folder.proofs.IndexLemmas.{mark_of, mark_same, mark_was, same_or_not, inverts_same, eqb_same, eqb_apart, indexed_put, indexed_again}
+
+pub on_true : (r : Bool) (P : Type 0) → Decides r P → OnTrue r P
+on_true true P d = d.0 refl
+on_true false P d = tt
+
+-- the marks of every place stay, where they stay at each UID of the open folder
+pub marks_stay : (hs : List Held) (n : ℕ) (h : Held) (ys : List Message) → held_in hs n ≡ Some h
+    → ((u : ℕ) → option_map mark_of (with_key uid_of u ys) ≡ option_map mark_of (with_key uid_of u h.messages)) → (q : ℕ × ℕ) → mark_in (with_messages hs n ys) q ≡ mark_in hs q
+marks_stay hs n h ys found stay q =
+    elim (same_or_not q.0 n) [
+      | inl same ↦ ap (λ m. mark_in (with_messages hs n ys) (m, q.1)) same ∙ mark_same hs n q.1 ys h found ∙ stay q.1 ∙ sym (mark_was hs n q.1 h found)
+          ∙ ap (λ m. mark_in hs (m, q.1)) (sym same)
+      | inr apart ↦ ap (λ (zs : List Message). option_map mark_of (with_key uid_of q.1 zs)) (messages_other hs n ys q.0 apart)
+    ]
+
+pub index_same : (hs : List Held) (n : ℕ) (xs ys : List Message) (marks : BTreeMap ℕ (ℕ × ℕ)) (a : ℕ) → is_some (held_in hs n) ≡ true → Ascends uid_of ys
+    → ((u : ℕ) → option_map mark_of (with_key uid_of u ys) ≡ option_map mark_of (with_key uid_of u xs)) → IsIndexed (with_messages hs n xs) marks a
+    → IsIndexed (with_messages hs n ys) marks a
+index_same hs n xs ys marks a there up stay i =
+    let r = held_with hs n xs there in
+    let ks = with_messages hs n xs in
+    let stay_h : (u : ℕ) → option_map mark_of (with_key uid_of u ys) ≡ option_map mark_of (with_key uid_of u r.0.messages) = λ u. stay u
+    ∙ ap (λ (zs : List Message). option_map mark_of (with_key uid_of u zs)) (sym r.1.messages) in
+    let P : List Held → Type 0 = λ zs. IsIndexed zs marks a in
+    subst P (with_twice hs n xs ys) (record {
+      numbers = numbers_with ks n ys i.numbers;
+      uids = uids_with ks n ys up i.uids;
+      inverse = inverts_same (get nat_cmp marks) (get nat_cmp marks) (mark_in ks) (mark_in (with_messages ks n ys)) i.inverse (λ j. refl) (marks_stay ks n r.0 ys r.1.found stay_h);
+      below = λ p q e. i.below p q (sym (marks_stay ks n r.0 ys r.1.found stay_h p) ∙ e);
+    })
+
+-- a put of a message of the same UID and mark leaves the marks
+pub put_marks : (x y : Message) (xs : List Message) → Ascends uid_of xs → Some y ≡ with_key uid_of x.uid xs → x.mark ≡ y.mark → (u : ℕ)
+    → option_map mark_of (with_key uid_of u (put_keyed uid_of x xs)) ≡ option_map mark_of (with_key uid_of u xs)
+put_marks x y xs up held same u =
+    ap (option_map mark_of) (found_put uid_of u x xs up) ∙
+    elim (same_or_not u x.uid) [
+      | inl here ↦ ap (λ v. option_map mark_of (if eqb x.uid v then Some x else with_key uid_of v xs)) here
+          ∙ ap (λ b. option_map mark_of (if b then Some x else with_key uid_of x.uid xs)) (eqb_same x.uid) ∙ ap (λ m. Some m) same ∙ ap (option_map mark_of) held
+          ∙ ap (λ v. option_map mark_of (with_key uid_of v xs)) (sym here)
+      | inr apart ↦ ap (λ b. option_map mark_of (if b then Some x else with_key uid_of u xs)) (eqb_apart x.uid u apart)
+    ]
+
+pub on_ok_map : {T E : Type 0} (r : Result T E) {P Q : Type 0} → (P → Q) → OnOk r P → OnOk r Q
+on_ok_map (Ok x) f p = f p
+on_ok_map (Err e) f p = tt
+
+pub telling_same : (xs ys : List Message) (a b : ℕ) → xs ≡ ys → a ≡ b → ◌≡◌ {A = Telling} (record { messages = xs; next_mark = a }) (record { messages = ys; next_mark = b })
+telling_same xs ys a b e f = cc
+
+-- the index goes on where folder and marks stay
+pub index_on : (hs : List Held) (old new : Work) → new.folder ≡ old.folder → new.marks ≡ old.marks → new.next_mark ≡ old.next_mark → is_some (held_in hs old.folder) ≡ true
+    → IsIndexed (with_messages hs old.folder new.messages.items) old.marks old.next_mark → IsIndexOf hs new
+index_on hs old new folder marks next there i = record {
+  there = subst (λ n. is_some (held_in hs n) ≡ true) (sym folder) there;
+  indexed =
+      subst (λ n. IsIndexed (with_messages hs n new.messages.items) new.marks new.next_mark) (sym folder)
+      (subst (λ (m : BTreeMap ℕ (ℕ × ℕ)). IsIndexed (with_messages hs old.folder new.messages.items) m new.next_mark) (sym marks)
+      (subst (λ n. IsIndexed (with_messages hs old.folder new.messages.items) old.marks n) (sym next) i));
+}
+
+pub held_goes : (old new : Work) (at uid : ℕ) (items : FetchItems) (flags : List (List ℕ)) (result : Result (Unit {0}) AllocError) (adds : Bool) → Ascends uid_of old.messages.items
+    → IsHeldAt uid_of uid old.messages.items at → items.flags ≡ Some flags → IsFlagged old new at flags result
+    → GoesOk old new (tell_uid adds (telling_of old) uid items (with_key uid_of uid old.messages.items)) result
+held_goes old new at uid items flags result adds up held is f =
+    let xs : List Message = old.messages.items in
+    let item = item_at uid_of xs at held.within in
+    let x : Message = item.0 in
+    let y : Message = record x { flags = flags } in
+    let uid_is : x.uid ≡ uid = ap uid_of item.1 ∙ held.same x in
+    let found : Some x ≡ with_key uid_of uid xs = held_found uid_of uid xs up at held x item.1 in
+    let put : put_keyed uid_of y xs ≡ set xs at y = put_held uid_of uid y xs at held uid_is in
+    let at_x : Some x ≡ with_key uid_of x.uid xs = found ∙ ap (λ u. with_key uid_of u xs) (sym uid_is) in
+    let told_is : ◌≡◌ {A = Telling} (record { messages = put_keyed uid_of y xs; next_mark = old.next_mark }) (tell_uid adds (telling_of old) uid items (with_key uid_of uid xs)) =
+    ap (λ (fs : Option (List (List ℕ))). record { messages = put_keyed uid_of (with_flags x fs) xs; next_mark = old.next_mark }) (sym is)
+    ∙ ap (λ (o : Option Message). tell_uid adds (telling_of old) uid items o) found in
+    record {
+      on = f.on;
+      known = λ e. f.known x item.1 (sym (ap (λ (z : Message). z.flags) (set_stays xs at x y held.within item.1 (sym put ∙ ap (λ (t : Telling). t.messages) (told_is ∙ e)))));
+      ascends = λ a. elim result as (λ r. OnOk r ((z : Message) → z ≡ get_or xs at z → new.messages.items ≡ set xs at (record z { flags = flags }))
+          → OnErr r (new.messages.items ≡ xs) → Ascends uid_of new.messages.items) [
+            | Ok v ↦ λ e d. subst (λ (zs : List Message). Ascends uid_of zs) (sym (e x item.1 ∙ sym put)) (ascends_put uid_of y xs a)
+            | Err v ↦ λ e d. subst (λ (zs : List Message). Ascends uid_of zs) (sym d) a
+          ] f.told f.err;
+      told = on_ok_map result (λ e.
+          telling_same _ _ _ _ (e x item.1 ∙ sym put) f.next_mark
+          ∙ ap (λ (fs : Option (List (List ℕ))). record { messages = put_keyed uid_of (with_flags x fs) xs; next_mark = old.next_mark }) (sym is)
+          ∙ ap (λ (o : Option Message). tell_uid adds (telling_of old) uid items o) found) f.told;
+      index = λ hs i. index_on hs old new f.on.folder f.marks f.next_mark i.there
+          (elim result as (λ r. OnOk r ((z : Message) → z ≡ get_or xs at z → new.messages.items ≡ set xs at (record z { flags = flags })) → OnErr r (new.messages.items ≡ xs)
+          → IsIndexed (with_messages hs old.folder new.messages.items) old.marks old.next_mark) [
+            | Ok v ↦ λ e d. subst (λ (zs : List Message). IsIndexed (with_messages hs old.folder zs) old.marks old.next_mark) (sym (e x item.1 ∙ sym put))
+                (index_same hs old.folder xs (put_keyed uid_of y xs) old.marks old.next_mark i.there (ascends_put uid_of y xs up) (put_marks y x xs up at_x refl) i.indexed)
+            | Err v ↦ λ e d. subst (λ (zs : List Message). IsIndexed (with_messages hs old.folder zs) old.marks old.next_mark) (sym d) i.indexed
+          ] f.told f.err);
+    }
+
+-- a message that is held, of which no flags are told
+pub held_stays : (old : Work) (at uid : ℕ) (items : FetchItems) (adds : Bool) → Ascends uid_of old.messages.items → IsHeldAt uid_of uid old.messages.items at → items.flags ≡ None
+    → GoesOk old old (tell_uid adds (telling_of old) uid items (with_key uid_of uid old.messages.items)) (Ok tt)
+held_stays old at uid items adds up held is =
+    let xs : List Message = old.messages.items in
+    let item = item_at uid_of xs at held.within in
+    let x : Message = item.0 in
+    let uid_is : x.uid ≡ uid = ap uid_of item.1 ∙ held.same x in
+    let found : Some x ≡ with_key uid_of uid xs = held_found uid_of uid xs up at held x item.1 in
+    let put : put_keyed uid_of x xs ≡ xs = put_held uid_of uid x xs at held uid_is ∙ set_here xs at x held.within item.1 in
+    record {
+      on = record { folder = refl; rises = omega arith; stands = λ e l. refl; draws = λ e l. refl };
+      ascends = λ a. a;
+      known = λ e. refl;
+      told = telling_same _ _ _ _ (sym put) refl
+          ∙ ap (λ (fs : Option (List (List ℕ))). record { messages = put_keyed uid_of (with_flags x fs) xs; next_mark = old.next_mark }) (sym is)
+          ∙ ap (λ (o : Option Message). tell_uid adds (telling_of old) uid items o) found;
+      index = λ hs i. i;
+    }
+
+-- ---- a new message
+
+pub index_put : (hs : List Held) (n : ℕ) (xs : List Message) (marks marks' : BTreeMap ℕ (ℕ × ℕ)) (nm nm' : ℕ) (x : Message) → is_some (held_in hs n) ≡ true → nm ≤ nm'
+    → x.mark < nm' → nm ≤ x.mark → with_key uid_of x.uid xs ≡ None → ((q : ℕ) → get nat_cmp marks' q ≡ cond (is_at (nat_cmp x.mark) q) (Some (n, x.uid)) (get nat_cmp marks q))
+    → IsIndexed (with_messages hs n xs) marks nm → IsIndexed (with_messages hs n (put_keyed uid_of x xs)) marks' nm'
+index_put hs n xs marks marks' nm nm' x there grows fits fresh free upd i =
+    let r = held_with hs n xs there in
+    let ks = with_messages hs n xs in
+    let P : List Held → Type 0 = λ zs. IsIndexed zs marks' nm' in
+    let free_ks : message_in ks n x.uid ≡ None = ap (λ (o : Option Held). with_key uid_of x.uid (messages_of o)) r.1.found
+    ∙ ap (λ (zs : List Message). with_key uid_of x.uid zs) r.1.messages ∙ free in
+    let new : (p : ℕ × ℕ) → mark_in ks p ≢ Some x.mark = λ p e. omega (arith, i.below p x.mark e, fresh) in
+    subst P (ap (λ (zs : List Message). with_messages ks n (put_keyed uid_of x zs)) r.1.messages ∙ with_twice hs n xs (put_keyed uid_of x xs))
+    (indexed_put ks marks marks' nm nm' n r.0 x grows fits i r.1.found free_ks new upd)
+
+pub put_goes : (old new : Work) (at : ℕ) (x : Message) → Ascends uid_of old.messages.items → IsFreeAt uid_of x.uid old.messages.items at → x.mark ≡ old.next_mark → GoesOn old new
+    → new.messages.items ≡ take at old.messages.items ++ x ∷ drop at old.messages.items → new.next_mark ≡ old.next_mark + 1
+    → ((q : ℕ) → get nat_cmp new.marks q ≡ cond (is_at (nat_cmp x.mark) q) (Some (old.folder, x.uid)) (get nat_cmp old.marks q))
+    → GoesOk old new (with_new (telling_of old) (Some x)) (Ok tt)
+put_goes old new at x up free mark on messages next upd =
+    let xs : List Message = old.messages.items in
+    let put : new.messages.items ≡ put_keyed uid_of x xs = messages ∙ sym (put_free uid_of x xs at free.place.within free.place.before free.above) in
+    record {
+      on = on;
+      known = λ e. let next_is : old.next_mark + 1 ≡ old.next_mark = ap (λ (t : Telling). t.next_mark) e in absurd (omega (arith, next_is));
+      ascends = λ a. subst (λ (zs : List Message). Ascends uid_of zs) (sym put) (ascends_put uid_of x xs a);
+      told = telling_same _ _ _ _ put next;
+      index = λ hs i. record {
+        there = subst (λ n. is_some (held_in hs n) ≡ true) (sym on.folder) i.there;
+        indexed =
+            subst (λ n. IsIndexed (with_messages hs n new.messages.items) new.marks new.next_mark) (sym on.folder)
+            (subst (λ (zs : List Message). IsIndexed (with_messages hs old.folder zs) new.marks new.next_mark) (sym put)
+            (index_put hs old.folder xs old.marks new.marks old.next_mark new.next_mark x i.there (omega (arith, next)) (omega (arith, next, mark)) (omega (arith, mark))
+            (sym (free_found uid_of x.uid xs up at free)) upd i.indexed));
+      };
+    }
+
+-- nothing is told
+pub stays : (old : Work) (t : Telling) → telling_of old ≡ t → GoesOk old old t (Ok tt)
+stays old t e = record { known = λ k. refl; on = record { folder = refl; rises = omega arith; stands = λ f l. refl; draws = λ f l. refl }; ascends = λ a. a; told = e; index = λ hs i. i }
+
+-- memory lacked, and the mark that was put was cut again
+pub put_fails : (old new : Work) (t : Telling) (k : ℕ) (p : ℕ × ℕ) (marks : BTreeMap ℕ (ℕ × ℕ)) (e : AllocError) → old.next_mark ≤ k → new.folder ≡ old.folder
+    → new.messages.items ≡ old.messages.items → new.next_mark ≡ old.next_mark → new.changes ≡ old.changes
+    → ((q : ℕ) → get nat_cmp marks q ≡ cond (is_at (nat_cmp k) q) (Some p) (get nat_cmp old.marks q))
+    → ((q : ℕ) → get nat_cmp new.marks q ≡ cond (is_at (nat_cmp k) q) None (get nat_cmp marks q)) → GoesOk old new t (Err e)
+put_fails old new t k p marks e fresh folder messages next changes upd upd' = record {
+  known = λ e. tt;
+  on = record { folder = folder; rises = omega (arith, changes); stands = λ f l. messages; draws = λ f l. next };
+  ascends = λ a. subst (λ (zs : List Message). Ascends uid_of zs) (sym messages) a;
+  told = tt;
+  index = λ hs i. record {
+    there = subst (λ n. is_some (held_in hs n) ≡ true) (sym folder) i.there;
+    indexed =
+        subst (λ n. IsIndexed (with_messages hs n new.messages.items) new.marks new.next_mark) (sym folder)
+        (subst (λ (zs : List Message). IsIndexed (with_messages hs old.folder zs) new.marks new.next_mark) (sym messages)
+        (subst (λ n. IsIndexed (with_messages hs old.folder old.messages.items) new.marks n) (sym next)
+        (indexed_again (with_messages hs old.folder old.messages.items) old.marks marks new.marks old.next_mark k p i.indexed
+        (λ q f. omega (arith, i.indexed.below q k f, fresh)) upd upd')));
+  };
+}
+
+-- memory lacked, and nothing was changed
+pub fails : (old : Work) (t : Telling) (e : AllocError) → GoesOk old old t (Err e)
+fails old t e = record { known = λ k. tt; on = record { folder = refl; rises = omega arith; stands = λ f l. refl; draws = λ f l. refl }; ascends = λ a. a; told = tt; index = λ hs i. i }
+
+-- ---- what a FETCH comes to
+
+pub goes_to : (old new : Work) (t u : Telling) (result : Result (Unit {0}) AllocError) → t ≡ u → GoesOk old new t result → GoesOk old new u result
+goes_to old new t u result e g = subst (λ (z : Telling). GoesOk old new z result) e g
+
+pub fetched : (old new : Work) (adds : Bool) (o : Option ℕ) (uid : ℕ) (items : FetchItems) (result : Result (Unit {0}) AllocError) → o ≡ Some uid
+    → GoesOk old new (tell_uid adds (telling_of old) uid items (with_key uid_of uid old.messages.items)) result → GoesOk old new (tell_fetch adds (telling_of old) o items) result
+fetched old new adds o uid items result e g = subst (λ (z : Option ℕ). GoesOk old new (tell_fetch adds (telling_of old) z items) result) (sym e) g
+
+-- of a UID that isn't held
+pub added : (old new : Work) (adds : Bool) (uid at : ℕ) (items : FetchItems) (result : Result (Unit {0}) AllocError) → Ascends uid_of old.messages.items
+    → IsFreeAt uid_of uid old.messages.items at → adds ≡ true
+    → GoesOk old new (with_new (telling_of old) (new_message old.next_mark uid items.flags items.date items.size items.header)) result
+    → GoesOk old new (tell_uid adds (telling_of old) uid items (with_key uid_of uid old.messages.items)) result
+added old new adds uid at items result up free on g =
+    goes_to old new _ _ result (sym (ap (λ b. tell_uid b (telling_of old) uid items (with_key uid_of uid old.messages.items)) on
+    ∙ ap (λ (o : Option Message). tell_uid true (telling_of old) uid items o) (sym (free_found uid_of uid old.messages.items up at free)))) g
+
+pub passed_over : (old : Work) (adds : Bool) (uid at : ℕ) (items : FetchItems) → Ascends uid_of old.messages.items → IsFreeAt uid_of uid old.messages.items at → adds ≡ false
+    → GoesOk old old (tell_uid adds (telling_of old) uid items (with_key uid_of uid old.messages.items)) (Ok tt)
+passed_over old adds uid at items up free off =
+    stays old _ (sym (ap (λ b. tell_uid b (telling_of old) uid items (with_key uid_of uid old.messages.items)) off
+    ∙ ap (λ (o : Option Message). tell_uid false (telling_of old) uid items o) (sym (free_found uid_of uid old.messages.items up at free))))
+
+-- ---- one response more
+
+pub goes_on_to : (a b c : Work) → GoesOn a b → GoesOn b c → GoesOn a c
+goes_on_to a b c f g = record {
+  folder = g.folder ∙ f.folder;
+  rises = omega (arith, f.rises, g.rises);
+  stands = λ e l.
+      let first : a.changes ≡ b.changes = omega (arith, e, f.rises, g.rises) in
+      let second : b.changes ≡ c.changes = sym first ∙ e in
+      g.stands second l ∙ f.stands first (omega (arith, second, l));
+  draws = λ e l.
+      let first : a.changes ≡ b.changes = omega (arith, e, f.rises, g.rises) in
+      let second : b.changes ≡ c.changes = sym first ∙ e in
+      g.draws second l ∙ f.draws first (omega (arith, second, l));
+}
+
+pub tell_more : (adds : Bool) (t : Telling) (rs : List Response) (r : Response) → tell_responses adds t (rs ++ r ∷ []) ≡ tell_response adds (tell_responses adds t rs) r
+tell_more adds t [] r = refl
+tell_more adds t (q ∷ qs) r = tell_more adds (tell_response adds t q) qs r
+
+pub tell_step : (adds : Bool) (was : Telling) (rs : List Response) (i : ℕ) (r : Response) (mid new : Telling) → i < length rs → r ≡ get_or rs i r
+    → mid ≡ tell_responses adds was (take i rs) → new ≡ tell_response adds mid r → new ≡ tell_responses adds was (take (i + 1) rs)
+tell_step adds was rs i r mid new h is m n =
+    n ∙ ap (λ (t : Telling). tell_response adds t r) m ∙ sym (tell_more adds was (take i rs) r) ∙ ap (λ (x : Response). tell_responses adds was (take i rs ++ x ∷ [])) is
+    ∙ sym (ap (λ (xs : List Response). tell_responses adds was xs) (take_more rs i r h))
+
+-- ---- what is known
+
+pub known_more : (adds : Bool) (t : Telling) (rs : List Response) (r : Response) → AllKnown adds t (rs ++ r ∷ []) → AllKnown adds t rs × (tell_response adds t r ≡ t)
+known_more adds t [] r k = (tt, k.0)
+known_more adds t (q ∷ qs) r k = let rest = known_more adds t qs r k.1 in ((k.0, rest.0), rest.1)
+
+pub known_stays : (adds : Bool) (t : Telling) (rs : List Response) → AllKnown adds t rs → tell_responses adds t rs ≡ t
+known_stays adds t [] k = refl
+known_stays adds t (r ∷ rs) k = ap (λ (s : Telling). tell_responses adds s rs) k.0 ∙ known_stays adds t rs k.1
+
+-- the count stands after one response more that tells what is known
+pub known_step : (adds : Bool) (was mid : Work) (rs : List Response) (i : ℕ) (r : Response) (changes : ℕ) → i < length rs → r ≡ get_or rs i r
+    → telling_of mid ≡ tell_responses adds (telling_of was) (take i rs) → (AllKnown adds (telling_of was) (take i rs) → mid.changes ≡ was.changes)
+    → (tell_response adds (telling_of mid) r ≡ telling_of mid → changes ≡ mid.changes) → AllKnown adds (telling_of was) (take (i + 1) rs) → changes ≡ was.changes
+known_step adds was mid rs i r changes h is told before step k =
+    let more = known_more adds (telling_of was) (take i rs) (get_or rs i r) (subst (λ (xs : List Response). AllKnown adds (telling_of was) xs) (take_more rs i r h) k) in
+    let same : telling_of mid ≡ telling_of was = told ∙ known_stays adds (telling_of was) (take i rs) more.0 in
+    let now : tell_response adds (telling_of mid) r ≡ telling_of mid = ap (λ (t : Telling). tell_response adds t r) same
+    ∙ ap (λ (x : Response). tell_response adds (telling_of was) x) is ∙ more.1 ∙ sym same in
+    step now ∙ before more.0

@@ -1,0 +1,9 @@
+pub mod Keyed
+pub mod Places
+pub mod Folders
+pub mod Select
+pub mod Tell
+pub mod ToldBy
+pub mod Index
+pub mod Work
+pub mod reading

@@ -1,0 +1,240 @@
+// Responses told to the messages of one folder.
+ghost use Rattle.std.specs.Prelude.{◌≡◌, ◌≤◌, ◌+◌, ◌-◌, ◌^◌, ◌<◌, ℕ, ◌∷◌, ◌++◌, length, List, OnOk, IfOk, not, slice_get, Some, None, IsTrue, ◌↔◌, Bool, true};
+ghost use Rattle.told_folder.specs.Keyed.{Ascends, with_key, put_keyed};
+ghost use Rattle.told_folder.specs.Places.{IsHeldAt, IsFreeAt};
+ghost use Rattle.told_folder.specs.Folders.{uid_of, with_messages};
+ghost use Rattle.told_folder.specs.Tell as told;
+ghost use Rattle.told_folder.specs.Tell.{without, with_flags, with_new, new_message, tell_uid};
+ghost use Rattle.told_folder.specs.Work.{telling_of, Goes, GoesOk, GoesWith, IsFlagged, cleared};
+ghost use Rattle.std.specs.BTreeMap.{get};
+ghost use Rattle.std.specs.Ordering.{nat_cmp};
+
+use crate::Message;
+use crate::headers::kept_header;
+use crate::keyed::index_of;
+use crate::puts::one_more;
+use crate::uids::Uids;
+use crate::vanished::tell_vanished;
+use gate_world::Names;
+use imap_syntax::{FetchItems, Response};
+use std::alloc::{AllocError, Global};
+use std::collections::BTreeMap;
+
+/// Marks are below this number.
+const MARKS: u64 = 1 << 53;
+
+/// A folder's messages while responses are told to it, and what changes with them.
+#[derive(Drop)]
+pub struct Work {
+    pub folder: u64,
+    pub messages: Vec<Message>,
+    pub marks: BTreeMap<u64, (u64, u32)>,
+    pub next_mark: u64,
+    pub changes: u64,
+}
+
+/// Whether they are the same names.
+pub fn are_same(one: &Names, other: &Names) -> bool
+    ensures { IsTrue result ↔ (one.now ≡ other.now) }
+{
+    one == other
+}
+
+/// Gives the message at a place these flags.
+fn set_flags(alloc: Global, work: &mut Work, at: usize, flags: &Names) -> Result<(), AllocError>
+    requires { at < length work.old.messages.items }
+    ensures { IsFlagged work.old work.new at flags.now result }
+{
+    let message = &mut work.messages[at];
+    if are_same(&message.flags, flags) {
+        return Ok(());
+    }
+    let flags = flags.share(alloc)?;
+    message.flags = flags;
+    work.changes = one_more(work.changes);
+    Ok(())
+}
+
+/// A FETCH of a message that is held.
+fn tell_held(
+    alloc: Global,
+    work: &mut Work,
+    at: usize,
+    uid: u32,
+    items: &FetchItems,
+) -> Result<(), AllocError>
+    requires ascends { Ascends uid_of work.old.messages.items }
+    requires held { IsHeldAt uid_of uid work.old.messages.items at }
+    ensures { (adds : Bool) → GoesOk work.old work.new (tell_uid adds (telling_of work.old) uid items.now (with_key uid_of uid work.old.messages.items)) result }
+{
+    match &items.flags {
+        Some(flags) => set_flags(alloc, work, at, flags),
+        None => Ok(()),
+    }
+}
+
+/// Adds a message of a UID that isn't held.
+fn put_new(work: &mut Work, place: usize, message: Message) -> Result<(), AllocError>
+    requires ascends { Ascends uid_of work.old.messages.items }
+    requires free { IsFreeAt uid_of message.uid work.old.messages.items place }
+    requires mark { message.mark ≡ work.old.next_mark }
+    requires fits { work.old.next_mark < 2 ^ 53 }
+    ensures { GoesOk work.old work.new (with_new (telling_of work.old) (Some message)) result }
+{
+    let mark = message.mark;
+    work.marks.insert(mark, (work.folder, message.uid))?;
+    match work.messages.insert(place, message) {
+        Ok(()) => {
+            work.next_mark += 1;
+            work.changes = one_more(work.changes);
+            Ok(())
+        }
+        Err(_) => {
+            work.marks.remove(&mark);
+            Err(AllocError)
+        }
+    }
+}
+
+/// The message that a FETCH tells, where it tells all of it and a mark is left.
+fn message_of(
+    alloc: Global,
+    mark: u64,
+    uid: u32,
+    items: &FetchItems,
+) -> Result<Option<Message>, AllocError>
+    ensures { IfOk result (λ m. m ≡ new_message mark uid items.now.flags items.now.date items.now.size items.now.header) }
+{
+    let Some(flags) = &items.flags else {
+        return Ok(None);
+    };
+    let Some(date) = items.date else {
+        return Ok(None);
+    };
+    let Some(size) = items.size else {
+        return Ok(None);
+    };
+    let Some(header) = &items.header else {
+        return Ok(None);
+    };
+    if mark >= MARKS {
+        return Ok(None);
+    }
+    let flags = flags.share(alloc)?;
+    let header = kept_header(alloc, header)?;
+    Ok(Some(Message {
+        uid,
+        mark,
+        flags,
+        date,
+        size,
+        header,
+    }))
+}
+
+/// A FETCH of a message that isn't held.
+fn tell_new(
+    alloc: Global,
+    work: &mut Work,
+    place: usize,
+    uid: u32,
+    items: &FetchItems,
+) -> Result<(), AllocError>
+    requires ascends { Ascends uid_of work.old.messages.items }
+    requires free { IsFreeAt uid_of uid work.old.messages.items place }
+    ensures { GoesOk work.old work.new (with_new (telling_of work.old) (new_message work.old.next_mark uid items.now.flags items.now.date items.now.size items.now.header)) result }
+{
+    match message_of(alloc, work.next_mark, uid, items)? {
+        Some(message) => put_new(work, place, message),
+        None => Ok(()),
+    }
+}
+
+/// A FETCH.
+fn tell_fetch(
+    alloc: Global,
+    work: &mut Work,
+    adds: bool,
+    items: &FetchItems,
+) -> Result<(), AllocError>
+    requires { Ascends uid_of work.old.messages.items }
+    ensures { GoesOk work.old work.new (told.tell_fetch adds (telling_of work.old) items.now.uid items.now) result }
+{
+    let Some(uid) = items.uid else {
+        return Ok(());
+    };
+    match index_of(work.messages.as_slice(), u64::from(uid)) {
+        Ok(at) => tell_held(alloc, work, at, uid, items),
+        Err(place) => {
+            if adds {
+                tell_new(alloc, work, place, uid, items)
+            } else {
+                Ok(())
+            }
+        }
+    }
+}
+
+/// Takes out the marks of those messages whose UIDs are in the set.
+pub fn clear_marks<U: Uids>(messages: &[Message], gone: &U, marks: &mut BTreeMap<u64, (u64, u32)>)
+    ensures { (q : ℕ) → get nat_cmp marks.new q ≡ cleared (U.has gone.now) messages.now q (get nat_cmp marks.old q) }
+{
+    for message in messages {
+        if gone.contains(message.uid) {
+            marks.remove(&message.mark);
+        }
+    }
+}
+
+/// Takes out the messages whose UIDs are in the set.
+fn clear_messages<U: Uids>(messages: &mut Vec<Message>, gone: &U)
+    ensures { messages.new.items ≡ without (U.has gone.now) messages.old.items }
+{
+    messages.retain(|message| !gone.contains(message.uid));
+}
+
+/// Messages that are gone.
+pub fn tell_gone<U: Uids>(work: &mut Work, gone: &U)
+    requires { Ascends uid_of work.old.messages.items }
+    ensures { Goes work.old work.new (record { messages = without (U.has gone.now) work.old.messages.items; next_mark = work.old.next_mark }) }
+{
+    let before = work.messages.len();
+    clear_marks(work.messages.as_slice(), gone, &mut work.marks);
+    clear_messages(&mut work.messages, gone);
+    if work.messages.len() != before {
+        work.changes = one_more(work.changes);
+    }
+}
+
+/// A response.
+fn tell_response(
+    alloc: Global,
+    work: &mut Work,
+    adds: bool,
+    response: &Response,
+) -> Result<(), AllocError>
+    requires { Ascends uid_of work.old.messages.items }
+    ensures { GoesOk work.old work.new (told.tell_response adds (telling_of work.old) response.now) result }
+{
+    match response {
+        Response::Fetch { items, .. } => tell_fetch(alloc, work, adds, items),
+        Response::Vanished { uids, .. } => tell_vanished(alloc, work, uids.ranges.as_slice()),
+        _ => Ok(()),
+    }
+}
+
+/// Responses in order.
+pub fn tell_responses(
+    alloc: Global,
+    work: &mut Work,
+    adds: bool,
+    responses: &[Response],
+) -> Result<(), AllocError>
+    requires { Ascends uid_of work.old.messages.items }
+    ensures { GoesWith (told.AllKnown adds (telling_of work.old) responses.now) work.old work.new (told.tell_responses adds (telling_of work.old) responses.now) result }
+{
+    for response in responses {
+        tell_response(alloc, work, adds, response)?;
+    }
+    Ok(())
+}
