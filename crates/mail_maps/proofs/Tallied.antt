@@ -44,7 +44,7 @@ module _ (all : Rows) (f : ℕ) where
       ∙ elim (nat_eq e.1.folder f) as (λ b. sorted_into nat_cmp (cond b (tally_one (in_unread_thread all e) c e.1) c).unread_threads (map (λ e. e.1.thread) rest)
       ≡ sorted_into nat_cmp c.unread_threads (map (λ e. e.1.thread) (cond (b && in_unread_thread all e) (e ∷ rest) rest))) [
         | true ↦ elim (in_unread_thread all e) as (λ u. sorted_into nat_cmp (tally_one u c e.1).unread_threads (map (λ e. e.1.thread) rest)
-        ≡ sorted_into nat_cmp c.unread_threads (map (λ e. e.1.thread) (cond u (e ∷ rest) rest))) [ true ↦ refl | false ↦ refl ]
+            ≡ sorted_into nat_cmp c.unread_threads (map (λ e. e.1.thread) (cond u (e ∷ rest) rest))) [ true ↦ refl | false ↦ refl ]
         | false ↦ refl
       ]
 

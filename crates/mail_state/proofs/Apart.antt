@@ -127,6 +127,10 @@ in_order (h ∷ hs) a u =
     (order_filter is_visible (placed_in h) (placed_order h.folder.number h.messages u.0))
     (in_order hs a.1 u.1)
 
+abbrev Has : List Placed → Placed → Type 0
+Has [] w = ⊥
+Has (p ∷ ps) w = (p ≡ w) ⊎ Has ps w
+
 -- ---- so their marks are apart
 
 module _ (m : Mail) (is : IsMail m) where
@@ -179,20 +183,16 @@ module _ (m : Mail) (is : IsMail m) where
       let message : q.message ≡ p.message = cc in
       ap (λ (n : ℕ). record { folder = n; message = q.message }) (sym k.0) ∙ ap (λ (x : Message). record { folder = p.folder; message = x }) message
 
-  abbrev Has : List Placed → Placed → Type 0
-  Has [] w = ⊥
-  Has (p ∷ ps) w = (p ≡ w) ⊎ Has ps w
-
   one_found : (w : Placed) (ps : List Placed) → StandsIn m.folders w → Each (StandsIn m.folders) ps → Has ps w → with_mark w.message.mark ps ≡ Some w
   one_found w [] s t h = absurd h
   one_found w (p ∷ ps) s t h = elim (nat_eq p.message.mark w.message.mark) as (λ (b : Bool). nat_eq p.message.mark w.message.mark ≡ b → cond b (Some p) (with_mark w.message.mark ps) ≡ Some w) [
     | true ↦ λ same. ap (λ (x : Placed). Some x) (one_placed w p s t.0 (eqb-true p.message.mark w.message.mark same))
-    | false ↦ λ differ. by differ h
+    | false ↦ λ differ. by differ h (λ k. one_found w ps s t.1 k)
   ] refl
     where
-      by : nat_eq p.message.mark w.message.mark ≡ false → (p ≡ w) ⊎ Has ps w → with_mark w.message.mark ps ≡ Some w
-      by differ (inl e) = absurd (let f : false ≡ true = sym differ ∙ eq-eqb p.message.mark w.message.mark (ap (λ (x : Placed). x.message.mark) e) in cc)
-      by differ (inr k) = one_found w ps s t.1 k
+      by : nat_eq p.message.mark w.message.mark ≡ false → (p ≡ w) ⊎ Has ps w → (Has ps w → with_mark w.message.mark ps ≡ Some w) → with_mark w.message.mark ps ≡ Some w
+      by differ (inl e) later = absurd (let f : false ≡ true = sym differ ∙ eq-eqb p.message.mark w.message.mark (ap (λ (x : Placed). x.message.mark) e) in cc)
+      by differ (inr k) later = later k
 
   hidden_found : (w : Placed) (ps : List Placed) → StandsIn m.folders w → is_served w.message ≡ false → Each (StandsIn m.folders) ps → Each (λ (p : Placed). is_visible p ≡ true) ps → with_mark w.message.mark ps ≡ None
   hidden_found w [] s hide t v = refl
@@ -238,9 +238,20 @@ has_visible (h ∷ hs) n u x served e = elim (nat_eq (number_of h) n) as (λ (b 
   | false ↦ λ differ f. has_right (filter is_visible (placed_in h)) (visible hs) (place n x) (has_visible hs n u x served f)
 ] refl e
 
-pub one_shown : (m : Mail) → IsMail m → (n : ℕ) (x : Message) → message_in m.folders n x.uid ≡ Some x
+found_uid : (u : ℕ) (xs : List Message) (x : Message) → with_key uid_of u xs ≡ Some x → x.uid ≡ u
+found_uid u [] x e = absurd (let f : None ≡ Some x = e in cc)
+found_uid u (y ∷ ys) x e = elim (nat_eq y.uid u) as (λ (b : Bool). nat_eq y.uid u ≡ b → cond b (Some y) (with_key uid_of u ys) ≡ Some x → x.uid ≡ u) [
+  | true ↦ λ same f. let g : y ≡ x = cc in ap (λ (z : Message). z.uid) (sym g) ∙ eqb-true y.uid u same
+  | false ↦ λ differ f. found_uid u ys x f
+] refl e
+
+-- the message of a mark is shown where it is served
+pub one_shown : (m : Mail) → IsMail m → (n u : ℕ) (x : Message) → message_in m.folders n u ≡ Some x
     → shown m.folders x.mark ≡ cond (is_served x) (Some (record { folder = n; message = x })) None
-one_shown m is n x at = elim (is_served x) as (λ (b : Bool). is_served x ≡ b → shown m.folders x.mark ≡ cond b (Some (place n x)) None) [
+one_shown m is n u x found = elim (is_served x) as (λ (b : Bool). is_served x ≡ b → shown m.folders x.mark ≡ cond b (Some (place n x)) None) [
   | true ↦ λ served. one_found m is (place n x) (visible m.folders) at (all_stand m.folders is.numbers is.uids) (has_visible m.folders n x.uid x served at)
   | false ↦ λ hide. hidden_found m is (place n x) (visible m.folders) at hide (all_stand m.folders is.numbers is.uids) (all_visible m.folders)
 ] refl
+  where
+    at : message_in m.folders n x.uid ≡ Some x
+    at = ap (λ (k : ℕ). with_key uid_of k (messages_of (held_in m.folders n))) (found_uid u (messages_of (held_in m.folders n)) x found) ∙ found

@@ -8,6 +8,7 @@ use Rattle.std.specs.Str.{bytes_eq}
 use Rattle.std.proofs.lemmas.Slice.Eq.{slice_eq-Decides, bytes_eq-Decides}
 use Rattle.std.proofs.lemmas.Bool.Decides.{Decides-eqb, Decides-int_eq, Decides-and, Decides-like}
 
+use Rattle.change_list.specs.Advance.{IsExact}
 use Rattle.mail_maps.specs.declared.envelope.Envelope.{Envelope}
 use Rattle.mail_maps.specs.declared.envelope.Party.{Party}
 use Rattle.mail_maps.specs.declared.row.Role.{Role}

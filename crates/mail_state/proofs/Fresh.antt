@@ -5,6 +5,8 @@ use Rattle.std.specs.declared.cmp.Ordering.TheVariants.{Less, Equal, Greater}
 use Rattle.std.specs.Ordering.{nat_cmp, match_ordering}
 use Rattle.std.specs.BTreeSet.{insert_key}
 use Rattle.std.specs.Option.{option_map}
+use Rattle.std.specs.BTreeMap.{is_at}
+use Rattle.change_list.proofs.Phases.{key_is}
 use Rattle.change_list.specs.Advance.{row_at}
 use Rattle.thread_rule.specs.Threads.{Members}
 use Rattle.told_mail.specs.Mail.{Mail, folder_in, held_in}
@@ -65,11 +67,12 @@ sorted_has before (x ∷ xs) q =
 
 row_has : {V : Type 0} (f : ℕ → V) (xs : List ℕ) (q : ℕ) → is_some (row_at (map {B = ℕ × V} (λ t. (t, f t)) xs) q) ≡ has xs q
 row_has f [] q = refl
-row_has {V} f (x ∷ xs) q = elim (nat_eq x q) as (λ (b : Bool). is_some (cond b (Some (f x)) (row_at (map {B = ℕ × V} (λ t. (t, f t)) xs) q)) ≡ cond b true (has xs q)) [ true ↦ refl | false ↦ row_has f xs q ]
+row_has {V} f (x ∷ xs) q = ap (λ (b : Bool). is_some (cond b (Some (f x)) (row_at (map {B = ℕ × V} (λ t. (t, f t)) xs) q))) (key_is q x)
+    ∙ elim (nat_eq x q) as (λ (b : Bool). is_some (cond b (Some (f x)) (row_at (map {B = ℕ × V} (λ t. (t, f t)) xs) q)) ≡ cond b true (has xs q)) [ true ↦ refl | false ↦ row_has f xs q ]
 
 served_has : {R V : Type 0} (s : R → V) (rows : List (ℕ × R)) (q : ℕ) → is_some (row_at (served s rows) q) ≡ is_some (row_at rows q)
 served_has s [] q = refl
-served_has s (e ∷ es) q = elim (nat_eq e.0 q) as (λ b. is_some (cond b (Some (s e.1)) (row_at (served s es) q)) ≡ is_some (cond b (Some e.1) (row_at es q))) [ true ↦ refl | false ↦ served_has s es q ]
+served_has s (e ∷ es) q = elim (is_at (nat_cmp q) e.0) as (λ b. is_some (cond b (Some (s e.1)) (row_at (served s es) q)) ≡ is_some (cond b (Some e.1) (row_at es q))) [ true ↦ refl | false ↦ served_has s es q ]
 
 abbrev pub has_thread : Rows → ℕ → Bool
 has_thread [] q = false
@@ -153,7 +156,9 @@ threads_are_fresh h hs n whole takes q place gone comes =
 pub folders_have : (fs : List Folder) (rows : Rows) (hs : List Held) (q : ℕ)
     → is_some (row_at (served mailbox_of (map {B = ℕ × MailboxRow} (λ (f : Folder). (f.number, mailbox_row fs rows f)) (folders_of hs))) q) ≡ is_some (folder_in hs q)
 folders_have fs rows [] q = refl
-folders_have fs rows (h ∷ hs) q = by (nat_eq h.folder.number q) (folders_have fs rows hs q)
+folders_have fs rows (h ∷ hs) q =
+    ap (λ (b : Bool). is_some (cond b (Some (mailbox_of (mailbox_row fs rows h.folder))) (row_at (served mailbox_of (map {B = ℕ × MailboxRow} (λ (f : Folder). (f.number, mailbox_row fs rows f)) (folders_of hs))) q)))
+    (key_is q h.folder.number) ∙ by (nat_eq h.folder.number q) (folders_have fs rows hs q)
   where
     by : (b : Bool) → is_some (row_at (served mailbox_of (map {B = ℕ × MailboxRow} (λ (f : Folder). (f.number, mailbox_row fs rows f)) (folders_of hs))) q) ≡ is_some (folder_in hs q)
         → is_some (cond b (Some (mailbox_of (mailbox_row fs rows h.folder))) (row_at (served mailbox_of (map {B = ℕ × MailboxRow} (λ (f : Folder). (f.number, mailbox_row fs rows f)) (folders_of hs))) q))

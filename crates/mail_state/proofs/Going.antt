@@ -2,6 +2,9 @@
 use Rattle.std.proofs.Common.{◌≡◌, ◌≢◌, ℕ, ◌+◌, ◌<◌, ◌≤◌, List, [], ◌∷◌, ◌++◌, Bool, true, false, cond, nat_eq, map, refl, sym, ap, ◌∙◌, subst, arith, Option, Some, None}
 use Rattle.std.proofs.lemmas.Bool.{eqb-true}
 use Rattle.std.specs.Option.{option_map}
+use Rattle.std.specs.BTreeMap.{is_at}
+use Rattle.std.specs.Ordering.{nat_cmp}
+use Rattle.change_list.proofs.Phases.{key_is}
 use Rattle.change_list.specs.Advance.{row_at, AreRows, advance, Tests}
 use Rattle.change_list.specs.Copy.{IsCopy}
 use Rattle.change_list.proofs.CopyLaws.{copies_stay}
@@ -19,7 +22,7 @@ use Rattle.mail_maps.specs.declared.envelope.Envelope.{Envelope}
 -- ---- copies
 
 stays : {V : Type 0} (tests : Tests V) (p : Past V) (new : List (ℕ × V)) → CopiesStay p (gone_on tests p new)
-stays tests p new place copy within is = copies_stay p.touches (advance tests.same tests.counts p.now new) place copy within is
+stays tests p new place copy within is = copies_stay p.touches (advance tests p.now new) place copy within is
 
 pub copies_stay_right : CopiesStayRight
 copies_stay_right h after m a =
@@ -43,9 +46,9 @@ put_comes : (number : ℕ) (row : EmailRow) (to : Option EmailRow) (more rest : 
     → (row_at (served_emails more) q ≢ None → row_at (served_emails rest) q ≡ None → ⊥)
     → row_at (served_emails (put_kept number to more)) q ≢ None → row_at (served_emails ((number, row) ∷ rest)) q ≡ None → ⊥
 put_comes number row None more rest q f n e =
-    f n (elim (nat_eq number q) as (λ (b : Bool). cond b (Some (email_of row)) (row_at (served_emails rest) q) ≡ None → row_at (served_emails rest) q ≡ None) [ true ↦ λ g. absurd (let k : Some (email_of row) ≡ None = g in cc) | false ↦ λ g. g ] e)
+    f n (elim (is_at (nat_cmp q) number) as (λ (b : Bool). cond b (Some (email_of row)) (row_at (served_emails rest) q) ≡ None → row_at (served_emails rest) q ≡ None) [ true ↦ λ g. absurd (let k : Some (email_of row) ≡ None = g in cc) | false ↦ λ g. g ] e)
 put_comes number row (Some w) more rest q f n e =
-    elim (nat_eq number q) as (λ (b : Bool). cond b (Some (email_of w)) (row_at (served_emails more) q) ≢ None → cond b (Some (email_of row)) (row_at (served_emails rest) q) ≡ None → ⊥) [
+    elim (is_at (nat_cmp q) number) as (λ (b : Bool). cond b (Some (email_of w)) (row_at (served_emails more) q) ≢ None → cond b (Some (email_of row)) (row_at (served_emails rest) q) ≡ None → ⊥) [
       | true ↦ λ m g. let k : Some (email_of row) ≡ None = g in cc
       | false ↦ λ m g. f m g
     ] n e
@@ -57,12 +60,12 @@ kept_comes hs (r ∷ rows) q n e = put_comes r.0 r.1 (kept_row hs r.1) (kept hs 
 -- one row more at the end
 pub appended : (rows : List (ℕ × EmailRow)) (number : ℕ) (row : EmailRow) (q : ℕ) → row_at (served_emails (rows ++ (number, row) ∷ [])) q ≢ None → row_at (served_emails rows) q ≡ None → number ≡ q
 appended [] number row q n e =
-    elim (nat_eq number q) as (λ (b : Bool). nat_eq number q ≡ b → cond b (Some (email_of row)) None ≢ None → number ≡ q) [
-      | true ↦ λ same m. eqb-true number q same
+    elim (is_at (nat_cmp q) number) as (λ (b : Bool). is_at (nat_cmp q) number ≡ b → cond b (Some (email_of row)) None ≢ None → number ≡ q) [
+      | true ↦ λ same m. eqb-true number q (sym (key_is q number) ∙ same)
       | false ↦ λ other m. absurd (m refl)
     ] refl n
 appended (r ∷ rows) number row q n e =
-    elim (nat_eq r.0 q) as (λ (b : Bool). cond b (Some (email_of r.1)) (row_at (served_emails (rows ++ (number, row) ∷ [])) q) ≢ None → cond b (Some (email_of r.1)) (row_at (served_emails rows) q) ≡ None → number ≡ q) [
+    elim (is_at (nat_cmp q) r.0) as (λ (b : Bool). cond b (Some (email_of r.1)) (row_at (served_emails (rows ++ (number, row) ∷ [])) q) ≢ None → cond b (Some (email_of r.1)) (row_at (served_emails rows) q) ≡ None → number ≡ q) [
       | true ↦ λ m g. absurd (let k : Some (email_of r.1) ≡ None = g in cc)
       | false ↦ λ m g. appended rows number row q m g
     ] n e

@@ -1,6 +1,9 @@
 -- A number names one Email for good, as the history goes on.
 use Rattle.std.proofs.Common.{◌≡◌, ◌≢◌, ℕ, ◌+◌, ◌<◌, ◌≤◌, List, [], ◌∷◌, ◌++◌, Bool, true, false, cond, nat_eq, map, refl, sym, ap, ◌∙◌, subst, arith, Option, Some, None, eqb-true}
 use Rattle.std.specs.Option.{option_map}
+use Rattle.std.specs.BTreeMap.{is_at}
+use Rattle.std.specs.Ordering.{nat_cmp}
+use Rattle.change_list.proofs.Phases.{key_is}
 use Rattle.change_list.specs.Advance.{row_at, AreRows}
 use Rattle.told_mail.specs.Mail.{Mail}
 use Rattle.told_folder.specs.declared.message.Held.{Held}
@@ -31,16 +34,16 @@ record Kept (rows : Rows) (q : ℕ) (v : Email) : Type 0 where
   pub there : row_at (served_emails rows) q ≡ Some was
   pub same : was.immutable ≡ v.immutable
 
-put_keeps : (number : ℕ) (row : EmailRow) (to : Option Placed) (more rest : Rows) (q : ℕ) (v : Email) → (nat_eq number q ≡ true → row_at (served_emails rest) q ≡ None)
+put_keeps : (number : ℕ) (row : EmailRow) (to : Option Placed) (more rest : Rows) (q : ℕ) (v : Email) → (is_at (nat_cmp q) number ≡ true → row_at (served_emails rest) q ≡ None)
     → (row_at (served_emails more) q ≡ Some v → Kept rest q v) → row_at (served_emails (put_kept number (option_map (updated row) to) more)) q ≡ Some v → Kept ((number, row) ∷ rest) q v
 put_keeps number row None more rest q v once f e =
     let k = f e in
-    elim (nat_eq number q) as (λ (b : Bool). nat_eq number q ≡ b → Kept ((number, row) ∷ rest) q v) [
+    elim (is_at (nat_cmp q) number) as (λ (b : Bool). is_at (nat_cmp q) number ≡ b → Kept ((number, row) ∷ rest) q v) [
       | true ↦ λ is. absurd (let g : None ≡ Some k.was = sym (once is) ∙ k.there in cc)
       | false ↦ λ is. record { was = k.was; there = ap (λ (b : Bool). cond b (Some (email_of row)) (row_at (served_emails rest) q)) is ∙ k.there; same = k.same }
     ] refl
 put_keeps number row (Some p) more rest q v once f e =
-    elim (nat_eq number q) as (λ (b : Bool). nat_eq number q ≡ b → cond b (Some (email_of (updated row p))) (row_at (served_emails more) q) ≡ Some v → Kept ((number, row) ∷ rest) q v) [
+    elim (is_at (nat_cmp q) number) as (λ (b : Bool). is_at (nat_cmp q) number ≡ b → cond b (Some (email_of (updated row p))) (row_at (served_emails more) q) ≡ Some v → Kept ((number, row) ∷ rest) q v) [
       | true ↦ λ is g. record {
         was = email_of row;
         there = ap (λ (b : Bool). cond b (Some (email_of row)) (row_at (served_emails rest) q)) is;
@@ -52,12 +55,12 @@ put_keeps number row (Some p) more rest q v once f e =
 kept_keeps : (hs : List Held) (rows : Rows) → AreRows (served_emails rows) → (q : ℕ) (v : Email) → row_at (served_emails (kept hs rows)) q ≡ Some v → Kept rows q v
 kept_keeps hs [] are q v e = absurd (let f : None ≡ Some v = e in cc)
 kept_keeps hs (r ∷ rows) are q v e =
-    put_keeps r.0 r.1 (shown hs r.1.mark) (kept hs rows) rows q v (λ is. ap (row_at (served_emails rows)) (sym (eqb-true r.0 q is)) ∙ are.0) (kept_keeps hs rows are.1 q v) e
+    put_keeps r.0 r.1 (shown hs r.1.mark) (kept hs rows) rows q v (λ is. ap (row_at (served_emails rows)) (sym (eqb-true r.0 q (sym (key_is q r.0) ∙ is))) ∙ are.0) (kept_keeps hs rows are.1 q v) e
 
 -- one row more at the end changes no other
 pub other_rows : (rows : Rows) (number : ℕ) (row : EmailRow) (q : ℕ) → nat_eq number q ≡ false → row_at (served_emails (rows ++ (number, row) ∷ [])) q ≡ row_at (served_emails rows) q
-other_rows [] number row q e = ap (λ (b : Bool). cond b (Some (email_of row)) None) e
-other_rows (r ∷ rows) number row q e = ap (λ (o : Option Email). cond (nat_eq r.0 q) (Some (email_of r.1)) o) (other_rows rows number row q e)
+other_rows [] number row q e = ap (λ (b : Bool). cond b (Some (email_of row)) None) (key_is q number ∙ e)
+other_rows (r ∷ rows) number row q e = ap (λ (o : Option Email). cond (is_at (nat_cmp q) r.0) (Some (email_of r.1)) o) (other_rows rows number row q e)
 
 pub not_equal : (a b : ℕ) → b < a → nat_eq a b ≡ false
 not_equal a b l = grind arith

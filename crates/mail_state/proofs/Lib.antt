@@ -1,6 +1,5 @@
 pub mod Rows
 pub mod OneTake
-pub mod Readings
 pub mod Going
 pub mod ThreadLaw
 pub mod Exact
@@ -14,3 +13,5 @@ pub mod Begins
 pub mod Marks
 pub mod Whole
 pub mod Apart
+pub mod KeptRows
+pub mod NewMessages

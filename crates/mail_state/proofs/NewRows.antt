@@ -4,6 +4,8 @@ use Rattle.std.specs.declared.cmp.Ordering.{Ordering}
 use Rattle.std.specs.declared.cmp.Ordering.TheVariants.{Less, Equal, Greater}
 use Rattle.std.specs.Ordering.{nat_cmp, match_ordering}
 use Rattle.std.specs.BTreeSet.{insert_key}
+use Rattle.std.specs.BTreeMap.{is_at}
+use Rattle.change_list.proofs.Phases.{key_is}
 use Rattle.change_list.specs.Advance.{row_at, AreRows}
 use Rattle.told_folder.specs.Keyed.{Ascends, AllAbove}
 use Rattle.told_mail.specs.Mail.{Mail, number_of}
@@ -48,10 +50,10 @@ kept_below : (hs : List Held) (rows : Rows) (next : ℕ) → Below next rows →
 kept_below hs rows next below q some = below q (λ e. some (no_row hs rows q e))
 
 tail_below : (r : ℕ × EmailRow) (rows : Rows) (next : ℕ) → Below next (r ∷ rows) → Below next rows
-tail_below r rows next below q some = below q (elim (nat_eq r.0 q) as (λ (b : Bool). cond b (Some (email_of r.1)) (row_at (served_emails rows) q) ≢ None) [ true ↦ λ e. (let f : Some (email_of r.1) ≡ None = e in cc) | false ↦ some ])
+tail_below r rows next below q some = below q (elim (is_at (nat_cmp q) r.0) as (λ (b : Bool). cond b (Some (email_of r.1)) (row_at (served_emails rows) q) ≢ None) [ true ↦ λ e. (let f : Some (email_of r.1) ≡ None = e in cc) | false ↦ some ])
 
 head_below : (r : ℕ × EmailRow) (rows : Rows) (next : ℕ) → Below next (r ∷ rows) → r.0 < next
-head_below r rows next below = below r.0 (λ e. let f : Some (email_of r.1) ≡ None = sym (ap (λ (b : Bool). cond b (Some (email_of r.1)) (row_at (served_emails rows) r.0)) (eq-eqb r.0 r.0 refl)) ∙ e in cc)
+head_below r rows next below = below r.0 (λ e. let f : Some (email_of r.1) ≡ None = sym (ap (λ (b : Bool). cond b (Some (email_of r.1)) (row_at (served_emails rows) r.0)) (key_is r.0 r.0 ∙ eq-eqb r.0 r.0 refl)) ∙ e in cc)
 
 more_rows : (rows : Rows) (next : ℕ) (row : EmailRow) → AreRows (served_emails rows) → Below next rows → AreRows (served_emails (rows ++ (next, row) ∷ []))
 more_rows [] next row are below = (refl, tt)
@@ -123,7 +125,7 @@ module _ {V : Type 0} (f : ℕ → V) where
 
   none_above : (k : ℕ) (xs : List ℕ) → Above k xs → row_at (rows_by xs) k ≡ None
   none_above k [] a = refl
-  none_above k (x ∷ xs) a = ap (λ (b : Bool). cond b (Some (f x)) (row_at (rows_by xs) k)) (not_equal x k a.0) ∙ none_above k xs a.1
+  none_above k (x ∷ xs) a = ap (λ (b : Bool). cond b (Some (f x)) (row_at (rows_by xs) k)) (key_is k x ∙ not_equal x k a.0) ∙ none_above k xs a.1
 
   ascending_rows : (xs : List ℕ) → Ascending xs → AreRows (rows_by xs)
   ascending_rows [] a = tt
@@ -140,7 +142,7 @@ module _ (fs : List Folder) (rows : Rows) where
 
   no_box : (k : ℕ) (hs : List Held) → AllAbove number_of k hs → row_at (served mailbox_of (boxes hs)) k ≡ None
   no_box k [] a = refl
-  no_box k (h ∷ hs) a = ap (λ (b : Bool). cond b (Some (mailbox_of (mailbox_row fs rows h.folder))) (row_at (served mailbox_of (boxes hs)) k)) (not_equal h.folder.number k a.0) ∙ no_box k hs a.1
+  no_box k (h ∷ hs) a = ap (λ (b : Bool). cond b (Some (mailbox_of (mailbox_row fs rows h.folder))) (row_at (served mailbox_of (boxes hs)) k)) (key_is k h.folder.number ∙ not_equal h.folder.number k a.0) ∙ no_box k hs a.1
 
   box_rows : (hs : List Held) → Ascends number_of hs → AreRows (served mailbox_of (boxes hs))
   box_rows [] a = tt

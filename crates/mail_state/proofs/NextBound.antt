@@ -39,7 +39,7 @@ all_count old n (p ∷ ps) (e ∷ es) fresh =
     omega (arith, k, one)
 
 module _ {V : Type 0} where
-  longer : (tests : Tests V) (old new : List (ℕ × V)) → length (filter (is_gone old) new) ≤ length (advance tests.same tests.counts old new)
+  longer : (tests : Tests V) (old new : List (ℕ × V)) → length (filter (is_gone old) new) ≤ length (advance tests old new)
   longer tests old new =
       let A : List (Touch V) = map removal (filter (is_gone new) old) in
       let B : List (Touch V) = map (change tests.counts old) (filter (is_changed tests.same old) new) in
@@ -59,7 +59,7 @@ next_bound h m n whole takes =
     let T : Numbered = taken h.numbered m.folders takes.envelopes in
     let count : T.next + new_count h.emails.now (left h.numbered m.folders).rows ≤ h.numbered.next + new_count h.emails.now T.rows =
     all_count h.emails.now (left h.numbered m.folders) (arrivals h.numbered m.folders) takes.envelopes (none_over h whole) in
-    let more : new_count h.emails.now T.rows ≤ length (advance email_tests.same email_tests.counts h.emails.now (served_emails T.rows)) = longer email_tests h.emails.now (served_emails T.rows) in
-    let all : last_place (advanced h m T).emails ≡ last_place h.emails + length (advance email_tests.same email_tests.counts h.emails.now (served_emails T.rows)) = length-append h.emails.touches (advance email_tests.same email_tests.counts h.emails.now (served_emails T.rows)) in
+    let more : new_count h.emails.now T.rows ≤ length (advance email_tests h.emails.now (served_emails T.rows)) = longer email_tests h.emails.now (served_emails T.rows) in
+    let all : last_place (advanced h m T).emails ≡ last_place h.emails + length (advance email_tests h.emails.now (served_emails T.rows)) = length-append h.emails.touches (advance email_tests h.emails.now (served_emails T.rows)) in
     let P : Numbered → Type 0 = λ x. x.next ≤ last_place (advanced h m x).emails + 1 in
     subst P (sym takes.after_is) (omega (arith, count, more, all, whole.next))

@@ -10,15 +10,13 @@ use Rattle.mail_header.specs.RawForms.{raw_form}
 use Rattle.mail_header.specs.Tokens.{Spelled, AreTokens}
 use Rattle.mail_header.specs.Lexemes.{AreLexemes, is_lexeme}
 use Rattle.mail_header.specs.Bracketed.{IsNamesForm}
-use Rattle.mail_header.specs.Dates.{IsDateForm, NoTokens, Read, date_in}
 use Rattle.mail_header.specs.Fields.{NameAndRaw, last_named}
-use Rattle.mail_header.specs.declared.token.Alphabet.TheVariants as alphabet
 use Rattle.mail_header.specs.declared.date.Moment.{Moment}
 use Rattle.mail_header.specs.declared.address.Address.{Address}
 use Rattle.mail_header.proofs.FormLemmas.{one_addresses}
 use Rattle.mail_header.proofs.FieldLemmas.{one_header}
 use Rattle.mail_header.proofs.BracketLemmas.{one_names}
-use Rattle.mail_header.proofs.AddresseeLemmas.{one_tokens}
+use Rattle.mail_header.proofs.DateLemmas.{one_date}
 use Rattle.thread_rule.specs.BaseSubject.{IsBaseOf, spaced}
 use Rattle.thread_rule.proofs.NormalForms.{one_normal}
 use Rattle.mail_maps.specs.declared.envelope.Envelope.{Envelope}
@@ -42,13 +40,6 @@ one_party : (raw : Option (List ℕ)) (p q : Party) → IsPartyOf raw p → IsPa
 one_party raw p q g h =
     ap (λ (u : Option (List ℕ)). record { text = u; first = p.first }) (one_text raw p.text q.text g.text h.text)
     ∙ ap (λ (u : Option (List ℕ)). record { text = q.text; first = u }) (one_first raw p.first q.first g.first h.first)
-
-pub one_date : (raw : List ℕ) (x y : Option Moment) → IsDateForm raw x → IsDateForm raw y → x ≡ y
-one_date raw _ _ (NoTokens n) (NoTokens k) = refl
-one_date raw _ _ (NoTokens n) (Read l g) = absurd (n g.tokens g.are)
-one_date raw _ _ (Read l g) (NoTokens n) = absurd (n g.tokens g.are)
-one_date raw _ _ (Read l g) (Read m h) =
-    ap date_in (g.lexemes_are ∙ ap (filter is_lexeme) (one_tokens alphabet.Mail g.tokens h.tokens (raw_form raw) g.are h.are) ∙ sym h.lexemes_are)
 
 one_time : (raw : Option (List ℕ)) (x y : Option ℤ) → IsTimeOf raw x → IsTimeOf raw y → x ≡ y
 one_time _ _ _ NoDate NoDate = refl

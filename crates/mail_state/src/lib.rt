@@ -3,6 +3,9 @@
 
 mod kinds;
 mod lists;
+mod placed;
+mod keeping;
+mod arrivals;
 
 pub use kinds::{Advance, MailType, StateError};
 pub use lists::ChangeLists;

@@ -1,7 +1,7 @@
 // The change lists of the three types.
-ghost use Rattle.std.specs.Prelude.{◌≡◌, ◌+◌, ◌-◌, ◌^◌, ◌<◌, IfOk, length, nat_lt, if◌then◌else◌, Some, None};
+ghost use Rattle.std.specs.Prelude.{◌≡◌, ◌+◌, ◌-◌, ◌^◌, ◌<◌, IfOk, length, nat_lt};
 ghost use Rattle.change_list.specs.Kept.{none_yet};
-ghost use Rattle.mail_state.specs.Stands.{last, passes_end, first_spent};
+ghost use Rattle.mail_state.specs.Stands.{last, first_spent};
 ghost use Rattle.mail_state.specs.reading.Noting.{RefusesBy, AllNoted};
 
 use crate::StateError;
@@ -37,19 +37,6 @@ fn is_full(list: &ChangeList, more: usize) -> bool
     list.place() + more as u64 > LAST_PLACE
 }
 
-/// Refuses where a list has no room for its touches.
-fn check_room(list: &ChangeList, more: usize) -> Result<(), StateError>
-    requires { more < 2 ^ 63 }
-    ensures { RefusesBy result (if nat_lt last (list.now.place + more) then Some list.now.place else None) }
-{
-    if is_full(list, more) {
-        return Err(StateError::Spent {
-            place: list.place(),
-        });
-    }
-    Ok(())
-}
-
 impl ChangeLists {
     pub fn new(alloc: Global) -> Result<ChangeLists, AllocError>
         ensures { IfOk result (λ l. l ≡ record { mailbox = none_yet; email = none_yet; thread = none_yet }) }
@@ -75,9 +62,21 @@ impl ChangeLists {
         requires few_threads { length thread.now < 2 ^ 63 }
         ensures { RefusesBy result (first_spent self.now mailbox.now email.now thread.now) }
     {
-        check_room(&self.mailbox, mailbox.len())?;
-        check_room(&self.email, email.len())?;
-        check_room(&self.thread, thread.len())?;
+        if is_full(&self.mailbox, mailbox.len()) {
+            return Err(StateError::Spent {
+                place: self.mailbox.place(),
+            });
+        }
+        if is_full(&self.email, email.len()) {
+            return Err(StateError::Spent {
+                place: self.email.place(),
+            });
+        }
+        if is_full(&self.thread, thread.len()) {
+            return Err(StateError::Spent {
+                place: self.thread.place(),
+            });
+        }
         Ok(())
     }
 
