@@ -3,3 +3,4 @@ pub mod Noting
 pub mod Views
 pub mod Keeping
 pub mod Arrivals
+pub mod Indexes

@@ -6,6 +6,7 @@ mod lists;
 mod placed;
 mod keeping;
 mod arrivals;
+mod emails;
 
 pub use kinds::{Advance, MailType, StateError};
 pub use lists::ChangeLists;

@@ -1,0 +1,93 @@
+// The Emails by number, with what finds them by mark and by what they name.
+ghost use Rattle.std.specs.Prelude.{◌≡◌, ◌+◌, ◌-◌, ◌^◌, ◌<◌, ◌≤◌, ◌++◌, [], ◌∷◌, ℕ, length, IfOk, OnOk};
+ghost use Rattle.std.specs.BTreeMap.{get};
+ghost use Rattle.std.specs.Ordering.{nat_cmp};
+ghost use Rattle.mail_maps.specs.Envelope.{IsEnvelopeOf};
+ghost use Rattle.mail_maps.specs.declared.envelope.Envelope.{Envelope};
+ghost use Rattle.mail_state.specs.Take as take;
+ghost use Rattle.mail_state.specs.reading.Indexes.{first_number, number_of};
+ghost use Rattle.mail_state.specs.reading.Views.{placed_of};
+
+use crate::placed::PlacedMessage;
+use mail_maps::keywords::keywords_of;
+use mail_maps::{EmailRow, Envelope, read_envelope};
+use std::alloc::{AllocError, Global};
+use std::collections::BTreeMap;
+use std::marker::Model;
+use thread_rule::{Named, ThreadBook};
+
+/// The Emails by number, the next number, and their indexes by mark and by what they name.
+#[derive(Drop)]
+pub struct Emails {
+    rows: BTreeMap<u64, EmailRow>,
+    next: u64,
+    marks: BTreeMap<u64, u64>,
+    book: ThreadBook,
+}
+
+impl Model for Emails {
+    ghost use Rattle.mail_state.specs.Take.{Numbered};
+    ghost use Rattle.mail_state.specs.reading.Indexes.{AreIndexed};
+
+    ghost Value = { Numbered };
+
+    ghost view = { λ a. record { rows = a.rows.entries; next = a.next } };
+
+    ghost invariant = { λ a. AreIndexed a.rows.entries a.next a.marks a.book };
+}
+
+/// What an Email is put into the book of Threads by.
+fn named_by(alloc: Global, number: u64, envelope: &Envelope) -> Result<Named, AllocError>
+    ensures { IfOk result (λ named. named ≡ record { email = number; ids = envelope.now.ids; base = envelope.now.base }) }
+{
+    let ids = envelope.ids.share(alloc)?;
+    let base = envelope.base.share()?;
+    Ok(Named {
+        email: number,
+        ids,
+        base,
+    })
+}
+
+/// Notes the number of a mark that has none yet.
+fn note_mark(marks: &mut BTreeMap<u64, u64>, mark: u64, number: u64) -> Result<(), AllocError>
+    ensures { OnOk result ((q : ℕ) → get nat_cmp marks.new q ≡ first_number (get nat_cmp marks.old q) mark number q) }
+{
+    if !marks.contains_key(&mark) {
+        marks.insert(mark, number)?;
+    }
+    Ok(())
+}
+
+/// The number of each mark.
+pub fn numbers_by_mark(
+    alloc: Global,
+    rows: &BTreeMap<u64, EmailRow>,
+) -> Result<BTreeMap<u64, u64>, AllocError>
+    ensures { IfOk result (λ marks. (q : ℕ) → get nat_cmp marks q ≡ number_of rows.now.entries q) }
+{
+    let mut marks = BTreeMap::new(alloc);
+    for (number, row) in rows {
+        note_mark(&mut marks, row.mark, *number)?;
+    }
+    Ok(marks)
+}
+
+impl Emails {
+    pub fn new(alloc: Global) -> Emails
+        ensures { result ≡ record { rows = []; next = 1 } }
+    {
+        Emails {
+            rows: BTreeMap::new(alloc),
+            next: 1,
+            marks: BTreeMap::new(alloc),
+            book: ThreadBook::new(alloc),
+        }
+    }
+
+    pub fn rows(&self) -> &BTreeMap<u64, EmailRow>
+        ensures { result.now.entries ≡ self.now.rows }
+    {
+        &self.rows
+    }
+}
