@@ -15,3 +15,4 @@ pub mod Whole
 pub mod Apart
 pub mod KeptRows
 pub mod NewMessages
+pub mod Indexed

@@ -82,19 +82,23 @@ MarksApart (e ∷ es) = (knows es e.1.mark ≡ false) × MarksApart es
 abbrev pub new_messages : List Held → List (ℕ × EmailRow) → List Placed
 new_messages hs rows = filter (λ p. not (knows rows p.message.mark)) (visible hs)
 
-abbrev pub new_row : Numbered → Placed → Envelope → EmailRow
-new_row n p e = record {
-  number = n.next;
+-- the row of a new message, in this Thread
+abbrev pub row_under : ℕ → Placed → ℕ → Envelope → EmailRow
+row_under number p thread e = record {
+  number = number;
   mark = p.message.mark;
   folder = p.folder;
   uid = p.message.uid;
   keywords = keywords_of p.message.flags;
   received = p.message.date;
   size = p.message.size;
-  thread = thread_of n e;
+  thread = thread;
   header = p.message.header;
   envelope = e;
 }
+
+abbrev pub new_row : Numbered → Placed → Envelope → EmailRow
+new_row n p e = row_under n.next p (thread_of n e) e
 
 abbrev pub with_new : Numbered → Placed → Envelope → Numbered
 with_new n p e = record { rows = n.rows ++ (n.next, new_row n p e) ∷ []; next = n.next + 1 }

@@ -1,12 +1,13 @@
 // The Emails by number, with what finds them by mark and by what they name.
-ghost use Rattle.std.specs.Prelude.{◌≡◌, ◌+◌, ◌-◌, ◌^◌, ◌<◌, ◌≤◌, ◌++◌, [], ◌∷◌, ℕ, length, IfOk, OnOk};
+ghost use Rattle.std.specs.Prelude.{◌≡◌, ◌+◌, ◌-◌, ◌^◌, ◌<◌, ◌≤◌, ◌++◌, [], ◌∷◌, ℕ, List, length, IfOk, OnOk};
 ghost use Rattle.std.specs.BTreeMap.{get};
 ghost use Rattle.std.specs.Ordering.{nat_cmp};
+ghost use Rattle.mail_maps.specs.Envelope.{IsEnvelopeOf};
 ghost use Rattle.mail_maps.specs.Envelope.{IsEnvelopeOf};
 ghost use Rattle.mail_maps.specs.declared.envelope.Envelope.{Envelope};
 ghost use Rattle.mail_state.specs.Take as take;
 ghost use Rattle.mail_state.specs.reading.Indexes.{first_number, number_of};
-ghost use Rattle.mail_state.specs.reading.Views.{placed_of};
+ghost use Rattle.mail_state.specs.reading.Views.{placed_of, all_placed};
 
 use crate::placed::PlacedMessage;
 use mail_maps::keywords::keywords_of;
@@ -73,6 +74,33 @@ pub fn numbers_by_mark(
     Ok(marks)
 }
 
+/// The row of a new message.
+fn new_row(
+    alloc: Global,
+    number: u64,
+    placed: PlacedMessage<'_>,
+    thread: u64,
+    envelope: Envelope,
+) -> Result<EmailRow, AllocError>
+    ensures { IfOk result (λ row. row ≡ take.row_under number (placed_of placed.entry) thread envelope) }
+{
+    let message = placed.message;
+    let keywords = keywords_of(alloc, &message.flags)?;
+    let header = message.header.share()?;
+    Ok(EmailRow {
+        number,
+        mark: message.mark,
+        folder: placed.folder,
+        uid: message.uid,
+        keywords,
+        received: message.date,
+        size: message.size,
+        thread,
+        header,
+        envelope,
+    })
+}
+
 impl Emails {
     pub fn new(alloc: Global) -> Emails
         ensures { result ≡ record { rows = []; next = 1 } }
@@ -89,5 +117,67 @@ impl Emails {
         ensures { result.now.entries ≡ self.now.rows }
     {
         &self.rows
+    }
+
+    /// The Thread of a new Email.
+    fn thread_for(&self, named: &Named) -> u64
+        requires { named.now.email ≡ self.now.next }
+        ensures { result ≡ take.thread_in (take.members_of self.now.rows) named.now.base self.now.next named.now.ids }
+    {
+        let _count = self.rows.len();
+        self.book.find(named)
+    }
+
+    /// With a row at the end, under the next number.
+    fn with_row(self, row: EmailRow, named: Named) -> Result<Emails, AllocError>
+        requires room { self.next < 2 ^ 64 - 1 }
+        requires email { named.email ≡ self.next }
+        requires ids { named.ids ≡ row.envelope.ids }
+        requires base { named.base ≡ row.envelope.base }
+        ensures { IfOk result (λ e. e ≡ record { rows = self.rows ++ (self.next, row) ∷ []; next = self.next + 1 }) }
+    {
+        let Emails {
+            mut rows,
+            next,
+            mut marks,
+            mut book,
+        } = self;
+        book.put(named, row.thread)?;
+        note_mark(&mut marks, row.mark, next)?;
+        rows.insert(next, row)?;
+        Ok(Emails {
+            rows,
+            next: next + 1,
+            marks,
+            book,
+        })
+    }
+
+    /// With a new message, whose header is read.
+    fn with_new(self, alloc: Global, placed: PlacedMessage<'_>) -> Result<Emails, AllocError>
+        requires { self.next < 2 ^ 64 - 1 }
+        ensures { IfOk result (λ e. (v : Envelope) × IsEnvelopeOf placed.entry.message.now.header v × (e ≡ take.with_new self (placed_of placed.entry) v)) }
+    {
+        let envelope = read_envelope(alloc, placed.message.header.as_slice())?;
+        let named = named_by(alloc, self.next, &envelope)?;
+        let thread = self.thread_for(&named);
+        let row = new_row(alloc, self.next, placed, thread, envelope)?;
+        self.with_row(row, named)
+    }
+
+    /// With new messages, in order.
+    pub fn with_all(
+        self,
+        alloc: Global,
+        arrivals: &[PlacedMessage<'_>],
+    ) -> Result<Emails, AllocError>
+        requires { self.next + length arrivals.now < 2 ^ 64 - 1 }
+        ensures { IfOk result (λ e. (es : List Envelope) × take.AreRead (all_placed arrivals.now) es × (e ≡ take.with_all self (all_placed arrivals.now) es)) }
+    {
+        let mut emails = self;
+        for placed in arrivals {
+            emails = emails.with_new(alloc, *placed)?;
+        }
+        Ok(emails)
     }
 }
