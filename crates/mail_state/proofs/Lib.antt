@@ -16,3 +16,4 @@ pub mod Apart
 pub mod KeptRows
 pub mod NewMessages
 pub mod Indexed
+pub mod Forgotten

@@ -162,7 +162,8 @@ impl Emails {
         let named = named_by(alloc, self.next, &envelope)?;
         let thread = self.thread_for(&named);
         let row = new_row(alloc, self.next, placed, thread, envelope)?;
-        self.with_row(row, named)
+        let emails = self.with_row(row, named)?;
+        Ok(emails)
     }
 
     /// With new messages, in order.

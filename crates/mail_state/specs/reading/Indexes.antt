@@ -1,7 +1,9 @@
 -- What is kept beside the rows of Emails: an index from marks, and the book of Threads.
 use Rattle.std.specs.Prelude.{◌≡◌, ℕ, ◌<◌, ◌==◌, List, [], ◌∷◌, Option, None, Some, if◌then◌else◌}
-use Rattle.std.specs.BTreeMap.{BTreeMap, get}
+use Rattle.std.specs.BTreeMap.{BTreeMap, get, is_at}
+use Rattle.std.specs.Map.{remove_entry}
 use Rattle.std.specs.Ordering.{nat_cmp}
+use Rattle.change_list.specs.declared.entries.Entry.{Entry}
 use Rattle.thread_rule.specs.Threads.{Members}
 use Rattle.mail_maps.specs.Rows.{Rows}
 use Rattle.mail_state.specs.Take.{members_of}
@@ -29,3 +31,8 @@ pub record AreIndexed (rows : Rows) (next : ℕ) (marks : BTreeMap ℕ ℕ) (boo
   pub below : AreBelow next rows
   pub marks_are : (q : ℕ) → get nat_cmp marks q ≡ number_of rows q
   pub book_is : book ≡ members_of rows
+
+-- the book without these Emails
+abbrev pub forgotten : List Entry → Members → Members
+forgotten [] book = book
+forgotten (e ∷ es) book = forgotten es (remove_entry (is_at (nat_cmp e.id)) book)
