@@ -6,16 +6,19 @@ ghost use Rattle.mail_maps.specs.Envelope.{IsEnvelopeOf};
 ghost use Rattle.mail_maps.specs.Envelope.{IsEnvelopeOf};
 ghost use Rattle.mail_maps.specs.declared.envelope.Envelope.{Envelope};
 ghost use Rattle.mail_state.specs.Take as take;
-ghost use Rattle.mail_state.specs.reading.Indexes.{first_number, number_of};
+ghost use Rattle.mail_state.specs.reading.Indexes.{AreBelow, first_number, number_of, forgotten};
 ghost use Rattle.mail_state.specs.reading.Views.{placed_of, all_placed};
 
+use crate::arrivals::arrivals;
 use crate::placed::PlacedMessage;
+use change_list::Entry;
 use mail_maps::keywords::keywords_of;
 use mail_maps::{EmailRow, Envelope, read_envelope};
 use std::alloc::{AllocError, Global};
 use std::collections::BTreeMap;
 use std::marker::Model;
 use thread_rule::{Named, ThreadBook};
+use told_folder::Held;
 
 /// The Emails by number, the next number, and their indexes by mark and by what they name.
 #[derive(Drop)]
@@ -101,6 +104,15 @@ fn new_row(
     })
 }
 
+/// Takes the Emails that are gone out of the book.
+fn forget_all(book: &mut ThreadBook, removed: &[Entry])
+    ensures { book.new ≡ forgotten removed.now book.old }
+{
+    for entry in removed {
+        book.forget(entry.id);
+    }
+}
+
 impl Emails {
     pub fn new(alloc: Global) -> Emails
         ensures { result ≡ record { rows = []; next = 1 } }
@@ -180,5 +192,37 @@ impl Emails {
             emails = emails.with_new(alloc, *placed)?;
         }
         Ok(emails)
+    }
+
+    /// The Emails of which these rows are left.
+    fn of_rows(
+        alloc: Global,
+        rows: BTreeMap<u64, EmailRow>,
+        next: u64,
+        book: ThreadBook,
+    ) -> Result<Emails, AllocError>
+        requires below { AreBelow next rows.entries }
+        requires book { book ≡ take.members_of rows.entries }
+        ensures { IfOk result (λ e. e ≡ record { rows = rows.entries; next = next }) }
+    {
+        let marks = numbers_by_mark(alloc, &rows)?;
+        Ok(Emails {
+            rows,
+            next,
+            marks,
+            book,
+        })
+    }
+
+    /// The new messages: the visible ones whose marks have no row.
+    fn arrivals_in<'a>(
+        &self,
+        alloc: Global,
+        folders: &'a [Held],
+    ) -> Result<Vec<PlacedMessage<'a>>, AllocError>
+        ensures { IfOk result (λ v. all_placed v.items ≡ take.new_messages folders.now self.now.rows) }
+    {
+        let new = arrivals(alloc, folders, &self.marks)?;
+        Ok(new)
     }
 }
