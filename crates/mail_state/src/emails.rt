@@ -1,5 +1,5 @@
 // The Emails by number, with what finds them by mark and by what they name.
-ghost use Rattle.std.specs.Prelude.{◌≡◌, ◌+◌, ◌-◌, ◌^◌, ◌<◌, ◌≤◌, ◌++◌, [], ◌∷◌, ℕ, List, length, IfOk, OnOk};
+ghost use Rattle.std.specs.Prelude.{◌≡◌, ◌+◌, ◌-◌, ◌^◌, ◌<◌, ◌≤◌, ◌++◌, [], ◌∷◌, ℕ, List, length, map, filter, IfOk, OnOk};
 ghost use Rattle.std.specs.BTreeMap.{get};
 ghost use Rattle.std.specs.Ordering.{nat_cmp};
 ghost use Rattle.mail_maps.specs.Envelope.{IsEnvelopeOf};
@@ -7,9 +7,12 @@ ghost use Rattle.mail_maps.specs.Envelope.{IsEnvelopeOf};
 ghost use Rattle.mail_maps.specs.declared.envelope.Envelope.{Envelope};
 ghost use Rattle.mail_state.specs.Take as take;
 ghost use Rattle.mail_state.specs.reading.Indexes.{AreBelow, first_number, number_of, forgotten};
+ghost use Rattle.served_maps.specs.Steps.{removed};
+ghost use Rattle.mail_state.specs.reading.Keeping.{is_hidden, is_moved, moved_entry};
 ghost use Rattle.mail_state.specs.reading.Views.{placed_of, all_placed};
 
 use crate::arrivals::arrivals;
+use crate::keeping::keep;
 use crate::placed::PlacedMessage;
 use change_list::Entry;
 use mail_maps::keywords::keywords_of;
@@ -19,6 +22,7 @@ use std::collections::BTreeMap;
 use std::marker::Model;
 use thread_rule::{Named, ThreadBook};
 use told_folder::Held;
+use told_mail::Mirror;
 
 /// The Emails by number, the next number, and their indexes by mark and by what they name.
 #[derive(Drop)]
@@ -224,5 +228,46 @@ impl Emails {
     {
         let new = arrivals(alloc, folders, &self.marks)?;
         Ok(new)
+    }
+
+    /// The Emails that are left, as the mirror has them, with the touches to those before: removals and changes.
+    fn left(
+        self,
+        alloc: Global,
+        mirror: &Mirror,
+    ) -> Result<(Emails, Vec<Entry>, Vec<Entry>), AllocError>
+        ensures emails { IfOk result (λ r. r.0 ≡ take.left self mirror.now.mail.folders) }
+        ensures removed { IfOk result (λ r. r.1.items ≡ map removed (filter (is_hidden mirror.now.mail.folders) self.rows)) }
+        ensures changed { IfOk result (λ r. r.2.items ≡ map moved_entry (filter (is_moved mirror.now.mail.folders) self.rows)) }
+    {
+        let Emails {
+            rows,
+            next,
+            marks: _,
+            mut book,
+        } = self;
+        let _count = rows.len();
+        let keeping = keep(alloc, rows, mirror)?;
+        forget_all(&mut book, keeping.removed.as_slice());
+        let emails = Emails::of_rows(alloc, keeping.rows, next, book)?;
+        Ok((emails, keeping.removed, keeping.changed))
+    }
+
+    /// The Emails as the mirror has them, with the touches to those before: removals and changes. Only the headers of
+    /// new messages are read.
+    pub fn follow(
+        self,
+        alloc: Global,
+        mirror: &Mirror,
+    ) -> Result<(Emails, Vec<Entry>, Vec<Entry>), AllocError>
+        requires { self.next ≤ 2 ^ 53 }
+        ensures takes { IfOk result (λ r. take.Takes self mirror.now.mail.folders r.0) }
+        ensures removed { IfOk result (λ r. r.1.items ≡ map removed (filter (is_hidden mirror.now.mail.folders) self.rows)) }
+        ensures changed { IfOk result (λ r. r.2.items ≡ map moved_entry (filter (is_moved mirror.now.mail.folders) self.rows)) }
+    {
+        let (left, removed, changed) = self.left(alloc, mirror)?;
+        let new = left.arrivals_in(alloc, mirror.folders())?;
+        let emails = left.with_all(alloc, new.as_slice())?;
+        Ok((emails, removed, changed))
     }
 }
