@@ -10,8 +10,8 @@ use Rattle.mail_state.proofs.Indexed.{below_kept}
 use Rattle.mail_state.proofs.Forgotten.{book_kept}
 use Rattle.mail_state.proofs.emails.Emails.left.Goals as goal
 
-pub of_rows-emails-requires : goal.of_rows-emails-requires
-of_rows-emails-requires c =
+pub of_rows-requires : goal.of_rows-requires
+of_rows-requires c =
     let hs = c.args.mirror.now.mail.folders in
     let rows : Rows = c.self.inside.rows.entries in
     let k = c.self.inside.next in
