@@ -1,6 +1,6 @@
 // Result references (RFC 8620 section 3.7): the examples of the RFC, and each refusal.
 use gate_world::Text;
-use jmap_core::{Call, echo, resolve, response_text};
+use jmap_core::{Call, echo, resolve, response_value};
 use serde_json::{Error, Value};
 use std::alloc::{AllocError, Global};
 use std::test::Fail;
@@ -102,6 +102,14 @@ const PATHS: [(&str, &str, &str, &str); 20] = [
     ("t0", "Foo/changes", "/hasMoreChanges", "false"),
 ];
 
+/// The whole of the arguments, where the reference isn't refused.
+fn whole(alloc: Global, wanted: &str) -> Result<String, AllocError> {
+    if wanted == NONE {
+        return String::from_str(alloc, NONE);
+    }
+    format!(in alloc; "{{\"ids\":{wanted},\"z\":1}}")
+}
+
 #[test]
 fn paths(rt: HostRuntime) -> Result<(), Fail> {
     let alloc = rt.alloc();
@@ -110,12 +118,7 @@ fn paths(rt: HostRuntime) -> Result<(), Fail> {
             "{{\"#ids\":{{\"resultOf\":\"{id}\",\"name\":\"{name}\",\"path\":\"{path}\"}},\"z\":1}}"
         )?;
         let found = resolved(alloc, arguments.as_str())?;
-        if wanted == NONE {
-            assert_eq!(rt; found.as_str(), NONE);
-        } else {
-            let whole = format!(in alloc; "{{\"ids\":{wanted},\"z\":1}}")?;
-            assert_eq!(rt; found.as_str(), whole.as_str());
-        }
+        assert_eq!(rt; found.as_str(), whole(alloc, wanted)?.as_str());
     }
     Ok(())
 }
@@ -193,7 +196,8 @@ fn echoes(rt: HostRuntime) -> Result<(), Fail> {
 fn responses(rt: HostRuntime) -> Result<(), Fail> {
     let alloc = rt.alloc();
     let answer = call(alloc, "Core/echo", "{\"a\":\"\\u00e9\"}", "c\\\"1")?;
-    let text = response_text(alloc, &[answer], None, "1;5;alice;http://h")?;
+    let response = response_value(alloc, &[answer], None, "1;5;alice;http://h")?;
+    let text = response.to_string(alloc)?;
     assert_eq!(rt;
         text.as_str(),
         "{\"methodResponses\":[[\"Core/echo\",{\"a\":\"\u{e9}\"},\"c\\\\\\\"1\"]],\"sessionState\":\"1;5;alice;http://h\"}"

@@ -92,21 +92,33 @@ fn taken(alloc: Global, world: &ScriptWorld) -> Result<Vec<u8>, Fail> {
     Ok(took)
 }
 
-/// Connects, does a round, fetches the body where one is asked, and leaves: for each life.
+/// Connects, does a round, fetches the body where one is asked, and leaves.
+fn live(
+    alloc: Global,
+    world: &mut ScriptWorld,
+    mirror: &mut Mirror,
+    lives: &Lives<'_>,
+    answers: &mut String,
+) -> Result<(), Fail> {
+    let mut client = Client::new(alloc);
+    if put_end(alloc, answers, client.connect(world, lives.user))?
+        && put_end(alloc, answers, client.round(world, mirror))?
+        && lives.body.1 != 0
+    {
+        let body = client.fetch_body(world, mirror, lives.body.0, lives.body.1);
+        put_body(alloc, answers, body)?;
+    }
+    client.leave(world);
+    Ok(())
+}
+
+/// One life after another over one mirror.
 pub(crate) fn play(alloc: Global, lives: &Lives<'_>) -> Result<Played, Fail> {
     let mut world = world_of(alloc, lives)?;
-    let mut client = Client::new(alloc);
     let mut mirror = Mirror::new(alloc);
     let mut answers = String::new(alloc);
     for _ in 0..lives.links.len() {
-        if put_end(alloc, &mut answers, client.connect(&mut world, lives.user))?
-            && put_end(alloc, &mut answers, client.round(&mut world, &mut mirror))?
-            && lives.body.1 != 0
-        {
-            let body = client.fetch_body(&mut world, &mut mirror, lives.body.0, lives.body.1);
-            put_body(alloc, &mut answers, body)?;
-        }
-        client.leave(&mut world);
+        live(alloc, &mut world, &mut mirror, lives, &mut answers)?;
     }
     let mail = shown(alloc, &mirror)?;
     let took = taken(alloc, &world)?;

@@ -157,9 +157,14 @@ fn expect_lives(
 
 fn expect_start(rt: &impl Abort, alloc: Global, row: &Row, piece: usize) -> Result<(), Fail> {
     let links = [row.0];
-    let mut lives = plain(&links);
-    lives.user = row.1;
-    lives.piece = piece;
+    let lives = Lives {
+        links: &links,
+        user: row.1,
+        password: b"pw",
+        piece,
+        failing: 0,
+        body: (1, 0),
+    };
     expect_lives(rt, alloc, &lives, row.2, row.3)
 }
 
