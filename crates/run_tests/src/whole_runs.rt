@@ -190,7 +190,11 @@ pub(crate) fn follow(alloc: Global, words: &str, script: Script) -> Result<Seen,
 
 /// Parts of what a store gives after it connected, what the store takes after LIST, and what the client is told.
 const DIALOGUES: [(&[&[u8]], &[&[u8]], &[u8]); 3] = [
-    (&[LISTED, SELECTED, THREE, DONE], &[SELECTS, FETCHES], THREE_AND_TWO),
+    (
+        &[LISTED, SELECTED, THREE, DONE],
+        &[SELECTS, FETCHES],
+        THREE_AND_TWO,
+    ),
     (&[LISTED, SELECTED, DONE], &[SELECTS, FETCHES], NONE),
     (
         &[
@@ -338,7 +342,10 @@ fn limits(rt: HostRuntime) -> Result<(), Fail> {
 
     let long = follow(alloc, USUAL, long_request(alloc, BODY_OCTETS + 9)?)?;
     assert!(&rt; long.client_gave == BODY_OCTETS + 1 && long.dials == 0);
-    assert_eq!(&rt; long.client_took.as_slice(), b"{\"limit\":\"maxSizeRequest\",\"status\":413,\"type\":\"urn:ietf:params:jmap:error:limit\"}\n");
+    assert_eq!(&rt;
+        long.client_took.as_slice(),
+        b"{\"limit\":\"maxSizeRequest\",\"status\":413,\"type\":\"urn:ietf:params:jmap:error:limit\"}\n"
+    );
     assert!(&rt; whole.status == 0 && long.status == 0);
     Ok(())
 }
