@@ -11,7 +11,7 @@ use Rattle.imap_exchange.specs.declared.link_end.LinkEnd.TheVariants as end
 use Rattle.imap_client.specs.declared.connection.Stage.{Stage}
 use Rattle.imap_client.specs.declared.connection.Stage.TheVariants as stage
 use Rattle.imap_exchange.specs.Received.{Octets, begun}
-use Rattle.imap_client.specs.LinkLife.{LinkLife, ClientState, Stands, fresh, begun_with}
+use Rattle.imap_client.specs.LinkLife.{LinkLife, ClientState, Stands, begun_with}
 use Rattle.imap_exchange.specs.Answering.{end_unless}
 use Rattle.imap_exchange.specs.Responses.{Reads, IsOver}
 use Rattle.imap_exchange.specs.Answering.{IsTooMuch, HangsUp}

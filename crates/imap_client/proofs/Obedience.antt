@@ -1,5 +1,5 @@
 -- Octets that obey a plan whole let it end well.
-use Rattle.std.proofs.Common.{◌≡◌, ◌⊎◌, ◌++◌, ◌+◌, ℕ, Bool, true, false, List, [], ◌∷◌, Option, None, Result, Ok, Err, length, fold, refl, sym, ◌∙◌, ap, subst, append_assoc, length-append, arith, inl, inr}
+use Rattle.std.proofs.Common.{◌≡◌, ◌⊎◌, ◌++◌, ◌+◌, ℕ, Bool, true, false, List, [], ◌∷◌, Option, None, Result, Ok, Err, refl, sym, ◌∙◌, ap, subst, append_assoc, length-append, inl, inr}
 use Rattle.std.specs.List.{flat_map}
 use Rattle.std.proofs.lemmas.List.{append-nil}
 use Rattle.std.proofs.lemmas.List.Concat.{flat_map-append}
@@ -14,10 +14,9 @@ use Rattle.imap_syntax.specs.Commands.{command_pieces, tag_of}
 use Rattle.told_folder.specs.declared.exchange.Exchange.{Exchange}
 use Rattle.imap_exchange.specs.declared.link_end.LinkEnd.{LinkEnd}
 use Rattle.imap_exchange.specs.declared.link_end.LinkEnd.TheVariants as end
-use Rattle.imap_exchange.specs.Exchanges.{Verdict, Done, Stray, Bye, BadAt, Open, IsVerdict, VerdictOf}
+use Rattle.imap_exchange.specs.Exchanges.{Done, Stray, Bye, BadAt, Open, VerdictOf}
 use Rattle.imap_exchange.specs.Answering.{Speaks, IsCause, end_unless, selected_by}
 use Rattle.imap_exchange.proofs.Verdicts.{one_verdict}
-use Rattle.imap_client.specs.declared.plan.Due.{Due}
 use Rattle.imap_client.specs.declared.plan.Due.TheVariants as due
 use Rattle.imap_client.specs.declared.plan.Refusal.{Refusal}
 use Rattle.imap_client.specs.LinkLife.{LinkLife, ClientState, next_number, selected, selected_after, with_exchange, unread}

@@ -1,5 +1,5 @@
 -- Rounds and the fetch of a body, exchange by exchange.
-use Rattle.std.proofs.Common.{◌≡◌, ◌≢◌, ◌≤◌, ◌<◌, ◌++◌, ◌^◌, ◌-◌, ℕ, false, List, [], ◌∷◌, Option, Some, None, Result, Ok, Err, fold, refl, sym, ◌∙◌, ap, subst, arith}
+use Rattle.std.proofs.Common.{◌≡◌, ◌<◌, ◌++◌, ◌^◌, ◌-◌, ℕ, false, List, [], ◌∷◌, Option, Some, None, Result, Ok, Err, fold, refl, sym, ◌∙◌, ap, subst, arith}
 use Rattle.std.proofs.lemmas.List.Sums.{fold-append}
 use Rattle.told_folder.specs.declared.exchange.Exchange.{Exchange}
 use Rattle.told_mail.specs.Mail.{Mail, folder_in}
@@ -20,7 +20,7 @@ use Rattle.imap_client.specs.declared.plan.Refusal.TheVariants as refusal
 use Rattle.imap_client.specs.Connecting.{is_ok}
 use Rattle.imap_client.specs.Plans.{StopsAtRefusal, HearsAll, HeardNone, HeardMore, Follows, FollowsTo}
 use Rattle.imap_client.specs.LinkLife.{LinkLife, ClientState, selected}
-use Rattle.imap_client.specs.Rounds.{CountsOn, Rounds, RoundState, round_after, round_due, round_step, round_from, is_slicing}
+use Rattle.imap_client.specs.Rounds.{CountsOn, Rounds, RoundState, round_due, round_step, round_from}
 use Rattle.imap_client.specs.Bodies.{BodyState, body_step, body_from, body_due, body_begun, body_start, select_due, HasBody, FetchesBody}
 use Rattle.imap_client.proofs.Connections.{not_ok}
 

@@ -1,6 +1,6 @@
 -- The greeting, and what is asked of a store until its mail may be read (RFC 9051 sections 6.1.1, 6.2.3, 6.3.1 and 7.1,
 -- RFC 7162 section 3.2.3).
-use Rattle.std.specs.Prelude.{◌≡◌, ◌++◌, ◌+◌, ◌&&◌, ℕ, Bool, true, false, List, [], ◌∷◌, length, codes, if◌then◌else◌, Option, Some, None, Result, Ok, Err}
+use Rattle.std.specs.Prelude.{◌≡◌, ◌++◌, ◌&&◌, ℕ, Bool, true, false, List, [], ◌∷◌, length, codes, if◌then◌else◌, Option, Some, None, Result, Ok, Err}
 use Rattle.std.specs.List.{list_any}
 use Rattle.std.specs.Str.{str_eq_ignore_ascii_case}
 use Rattle.gate_world.specs.declared.event.Event.{Event}

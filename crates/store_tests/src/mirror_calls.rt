@@ -45,7 +45,10 @@ fn a_folder_and_a_message_are_put(rt: HostRuntime) -> Result<(), Fail> {
     let mut mirror = Mirror::new(alloc);
     mirror.put_folder(folder(alloc, 3, None)?)?;
     mirror.put_message(3, message(alloc, 5, 9)?)?;
-    assert_eq!(rt; shown(alloc, &mirror)?.as_slice(), b"3 INBOX 7 0 1: 5#9;".as_slice());
+    assert_eq!(rt;
+        shown(alloc, &mirror)?.as_slice(),
+        b"3 INBOX 7 0 1: 5#9;".as_slice()
+    );
     for row in [(9, Some((3, 5))), (8, None), (0, None)] {
         assert_eq!(rt; mirror.place_of(row.0), row.1);
     }
@@ -53,7 +56,10 @@ fn a_folder_and_a_message_are_put(rt: HostRuntime) -> Result<(), Fail> {
     assert_eq!(rt; mirror.named(b"inbox").is_some(), false);
     assert_eq!(rt; mirror.folder_at(0).map(|folder| folder.number), Some(3));
     assert_eq!(rt; mirror.folder_at(1).is_some(), false);
-    assert_eq!(rt; mirror.message_at(3, 0).map(|message| message.mark), Some(9));
+    assert_eq!(rt;
+        mirror.message_at(3, 0).map(|message| message.mark),
+        Some(9)
+    );
     assert_eq!(rt; mirror.message_at(3, 1).is_some(), false);
     let mut copy = mirror.copy()?;
     assert_eq!(rt; copy.same_mail(&mirror), true);
@@ -65,6 +71,9 @@ fn a_folder_and_a_message_are_put(rt: HostRuntime) -> Result<(), Fail> {
     copy.cut_folder(3);
     assert_eq!(rt; shown(alloc, &copy)?.as_slice(), b"".as_slice());
     assert_eq!(rt; copy.changes(), 4);
-    assert_eq!(rt; shown(alloc, &mirror)?.as_slice(), b"3 INBOX 7 0 1: 5#9;".as_slice());
+    assert_eq!(rt;
+        shown(alloc, &mirror)?.as_slice(),
+        b"3 INBOX 7 0 1: 5#9;".as_slice()
+    );
     Ok(())
 }

@@ -66,11 +66,7 @@ fn put_end(alloc: Global, answers: &mut String, done: Result<(), LinkEnd>) -> Re
     }
 }
 
-fn put_body(
-    alloc: Global,
-    answers: &mut String,
-    done: Result<Bytes, LinkEnd>,
-) -> Result<(), Fail> {
+fn put_body(alloc: Global, answers: &mut String, done: Result<Bytes, LinkEnd>) -> Result<(), Fail> {
     match done {
         Ok(body) => {
             let text = format!(in alloc; "{} octets ", body.as_slice().len())?;

@@ -1,45 +1,61 @@
 // Rounds over one mirror, life after life.
-use crate::playing::{PIECES, plain, play};
+use crate::playing::{Lives, PIECES, plain, play};
 use std::alloc::{AllocError, Global};
 use std::process::Abort;
 use std::test::Fail;
 
 /// What a store gives up to the end of `connect`.
-const CONNECTED: &[u8] = b"* OK hi\r\n* CAPABILITY IMAP4rev2 QRESYNC\r\na1 OK done\r\na2 OK in\r\n* CAPABILITY IMAP4rev2 QRESYNC\r\na3 OK done\r\n* ENABLED X-OTHER qresync\r\na4 OK on\r\n";
+const CONNECTED: &[u8] =
+    b"* OK hi\r\n* CAPABILITY IMAP4rev2 QRESYNC\r\na1 OK done\r\na2 OK in\r\n* CAPABILITY IMAP4rev2 QRESYNC\r\na3 OK done\r\n* ENABLED X-OTHER qresync\r\na4 OK on\r\n";
 
-const CONNECTING: &[u8] = b"a1 CAPABILITY\r\na2 LOGIN \"alice\" \"pw\"\r\na3 CAPABILITY\r\na4 ENABLE QRESYNC IMAP4rev2\r\n";
+const CONNECTING: &[u8] =
+    b"a1 CAPABILITY\r\na2 LOGIN \"alice\" \"pw\"\r\na3 CAPABILITY\r\na4 ENABLE QRESYNC IMAP4rev2\r\n";
 
 /// What a store gives after `connect`, a text for each life; the answers, what it took after ENABLE in the last life, and
 /// the mail.
-type Row = (&'static [&'static [u8]], (u64, u32), &'static str, &'static [u8], &'static [u8]);
+type Row = (
+    &'static [&'static [u8]],
+    (u64, u32),
+    &'static str,
+    &'static [u8],
+    &'static [u8],
+);
 
 const ROUNDS: [Row; 16] = [
     // an empty folder
     (
-        &[b"* LIST (\\Subscribed) \"/\" INBOX\r\na5 OK listed\r\n* 0 EXISTS\r\n* OK [UIDVALIDITY 7] x\r\n* OK [UIDNEXT 1] x\r\n* OK [HIGHESTMODSEQ 1] x\r\na6 OK [READ-WRITE] x\r\na7 OK done\r\n"],
+        &[
+            b"* LIST (\\Subscribed) \"/\" INBOX\r\na5 OK listed\r\n* 0 EXISTS\r\n* OK [UIDVALIDITY 7] x\r\n* OK [UIDNEXT 1] x\r\n* OK [HIGHESTMODSEQ 1] x\r\na6 OK [READ-WRITE] x\r\na7 OK done\r\n",
+        ],
         (1, 0),
         "ok ok ",
         b"a5 LIST \"\" \"*\" RETURN (SUBSCRIBED)\r\na6 SELECT \"INBOX\"\r\na7 UID FETCH 1:* (UID FLAGS MODSEQ INTERNALDATE RFC822.SIZE BODY.PEEK[HEADER]<0.32768>)\r\n|",
-        b"1 INBOX 7 1 1:;",
+        b"1 INBOX\\subscribed 7 1 1:;",
     ),
     // without mod-sequences all flags are asked
     (
-        &[b"* LIST (\\HasNoChildren \\Subscribed) \"/\" \"INBOX\" (\"CHILDINFO\" (\"SUBSCRIBED\"))\r\na5 OK listed\r\n* OK [UIDVALIDITY 7] x\r\n* OK [NOMODSEQ] x\r\na6 OK x\r\na7 OK x\r\na8 OK x\r\n"],
+        &[
+            b"* LIST (\\HasNoChildren \\Subscribed) \"/\" \"INBOX\" (\"CHILDINFO\" (\"SUBSCRIBED\"))\r\na5 OK listed\r\n* OK [UIDVALIDITY 7] x\r\n* OK [NOMODSEQ] x\r\na6 OK x\r\na7 OK x\r\na8 OK x\r\n",
+        ],
         (1, 0),
         "ok ok ",
         b"a5 LIST \"\" \"*\" RETURN (SUBSCRIBED)\r\na6 SELECT \"INBOX\"\r\na7 UID FETCH 1:* (UID FLAGS)\r\na8 UID FETCH 1:* (UID FLAGS INTERNALDATE RFC822.SIZE BODY.PEEK[HEADER]<0.32768>)\r\n|",
-        b"1 INBOX 7 0 1:;",
+        b"1 INBOX\\hasnochildren\\subscribed 7 0 1:;",
     ),
     // slices
     (
-        &[b"* LIST () \"/\" INBOX\r\na5 OK x\r\n* OK [UIDVALIDITY 7] x\r\n* OK [UIDNEXT 20002] x\r\n* OK [HIGHESTMODSEQ 9] x\r\na6 OK x\r\na7 OK x\r\na8 OK x\r\na9 OK x\r\n"],
+        &[
+            b"* LIST () \"/\" INBOX\r\na5 OK x\r\n* OK [UIDVALIDITY 7] x\r\n* OK [UIDNEXT 20002] x\r\n* OK [HIGHESTMODSEQ 9] x\r\na6 OK x\r\na7 OK x\r\na8 OK x\r\na9 OK x\r\n",
+        ],
         (1, 0),
         "ok ok ",
         b"a5 LIST \"\" \"*\" RETURN (SUBSCRIBED)\r\na6 SELECT \"INBOX\"\r\na7 UID FETCH 1:10000 (UID FLAGS MODSEQ INTERNALDATE RFC822.SIZE BODY.PEEK[HEADER]<0.32768>)\r\na8 UID FETCH 10001:20000 (UID FLAGS MODSEQ INTERNALDATE RFC822.SIZE BODY.PEEK[HEADER]<0.32768>)\r\na9 UID FETCH 20001:* (UID FLAGS MODSEQ INTERNALDATE RFC822.SIZE BODY.PEEK[HEADER]<0.32768>)\r\n|",
         b"1 INBOX 7 9 20001:;",
     ),
     (
-        &[b"* LIST () \"/\" INBOX\r\na5 OK x\r\n* OK [UIDVALIDITY 7] x\r\n* OK [UIDNEXT 20001] x\r\n* OK [NOMODSEQ] x\r\na6 OK x\r\na7 OK x\r\na8 OK x\r\na9 OK x\r\n"],
+        &[
+            b"* LIST () \"/\" INBOX\r\na5 OK x\r\n* OK [UIDVALIDITY 7] x\r\n* OK [UIDNEXT 20001] x\r\n* OK [NOMODSEQ] x\r\na6 OK x\r\na7 OK x\r\na8 OK x\r\na9 OK x\r\n",
+        ],
         (1, 0),
         "ok ok ",
         b"a5 LIST \"\" \"*\" RETURN (SUBSCRIBED)\r\na6 SELECT \"INBOX\"\r\na7 UID FETCH 1:* (UID FLAGS)\r\na8 UID FETCH 1:10000 (UID FLAGS INTERNALDATE RFC822.SIZE BODY.PEEK[HEADER]<0.32768>)\r\na9 UID FETCH 10001:* (UID FLAGS INTERNALDATE RFC822.SIZE BODY.PEEK[HEADER]<0.32768>)\r\n|",
@@ -59,7 +75,9 @@ const ROUNDS: [Row; 16] = [
     ),
     // messages, and a body of the selected folder
     (
-        &[b"* LIST () \"/\" INBOX\r\na5 OK x\r\n* OK [UIDVALIDITY 7] x\r\n* OK [UIDNEXT 5] x\r\n* OK [HIGHESTMODSEQ 4] x\r\na6 OK x\r\n* 1 FETCH (UID 1 FLAGS (\\Seen) MODSEQ (1) INTERNALDATE \"02-Jan-2024 09:00:00 +0000\" RFC822.SIZE 9 BODY[HEADER]<0> {2}\r\na\n)\r\n* 2 FETCH (UID 4 FLAGS () MODSEQ (1) INTERNALDATE \"02-Jan-2024 09:00:00 +0000\" RFC822.SIZE 9 BODY[HEADER]<0> \"\")\r\na7 OK x\r\n* 2 FETCH (UID 4 BODY[]<0> {14}\r\na8 NO x\r\n* BYE)\r\na8 OK x\r\n"],
+        &[
+            b"* LIST () \"/\" INBOX\r\na5 OK x\r\n* OK [UIDVALIDITY 7] x\r\n* OK [UIDNEXT 5] x\r\n* OK [HIGHESTMODSEQ 4] x\r\na6 OK x\r\n* 1 FETCH (UID 1 FLAGS (\\Seen) MODSEQ (1) INTERNALDATE \"02-Jan-2024 09:00:00 +0000\" RFC822.SIZE 9 BODY[HEADER]<0> {2}\r\na\n)\r\n* 2 FETCH (UID 4 FLAGS () MODSEQ (1) INTERNALDATE \"02-Jan-2024 09:00:00 +0000\" RFC822.SIZE 9 BODY[HEADER]<0> \"\")\r\na7 OK x\r\n* 2 FETCH (UID 4 BODY[]<0> {14}\r\na8 NO x\r\n* BYE)\r\na8 OK x\r\n",
+        ],
         (1, 4),
         "ok ok 14 octets ",
         b"a5 LIST \"\" \"*\" RETURN (SUBSCRIBED)\r\na6 SELECT \"INBOX\"\r\na7 UID FETCH 1:* (UID FLAGS MODSEQ INTERNALDATE RFC822.SIZE BODY.PEEK[HEADER]<0.32768>)\r\na8 UID FETCH 4 (UID BODY.PEEK[]<0.50000000>)\r\n|",
@@ -67,7 +85,9 @@ const ROUNDS: [Row; 16] = [
     ),
     // an OK without the body of that UID
     (
-        &[b"* LIST () \"/\" INBOX\r\na5 OK x\r\n* OK [UIDVALIDITY 7] x\r\n* OK [HIGHESTMODSEQ 4] x\r\na6 OK x\r\na7 OK x\r\n* 2 FETCH (UID 5 BODY[]<0> \"a\")\r\na8 OK x\r\n"],
+        &[
+            b"* LIST () \"/\" INBOX\r\na5 OK x\r\n* OK [UIDVALIDITY 7] x\r\n* OK [HIGHESTMODSEQ 4] x\r\na6 OK x\r\na7 OK x\r\n* 2 FETCH (UID 5 BODY[]<0> \"a\")\r\na8 OK x\r\n",
+        ],
         (1, 4),
         "ok ok Lacks ",
         b"a5 LIST \"\" \"*\" RETURN (SUBSCRIBED)\r\na6 SELECT \"INBOX\"\r\na7 UID FETCH 1:* (UID FLAGS MODSEQ INTERNALDATE RFC822.SIZE BODY.PEEK[HEADER]<0.32768>)\r\na8 UID FETCH 4 (UID BODY.PEEK[]<0.50000000>)\r\n|",
@@ -75,7 +95,9 @@ const ROUNDS: [Row; 16] = [
     ),
     // no such folder
     (
-        &[b"* LIST () \"/\" INBOX\r\na5 OK x\r\n* OK [UIDVALIDITY 7] x\r\n* OK [HIGHESTMODSEQ 4] x\r\na6 OK x\r\na7 OK x\r\n"],
+        &[
+            b"* LIST () \"/\" INBOX\r\na5 OK x\r\n* OK [UIDVALIDITY 7] x\r\n* OK [HIGHESTMODSEQ 4] x\r\na6 OK x\r\na7 OK x\r\n",
+        ],
         (2, 4),
         "ok ok Lacks ",
         b"a5 LIST \"\" \"*\" RETURN (SUBSCRIBED)\r\na6 SELECT \"INBOX\"\r\na7 UID FETCH 1:* (UID FLAGS MODSEQ INTERNALDATE RFC822.SIZE BODY.PEEK[HEADER]<0.32768>)\r\n|",
@@ -83,15 +105,19 @@ const ROUNDS: [Row; 16] = [
     ),
     // folders that can't be selected are passed over, and a body of another folder selects it
     (
-        &[b"* LIST (\\Noselect) \"/\" a\r\n* LIST () \"/\" b\r\n* LIST (\\NonExistent) \"/\" c\r\n* LIST () \"/\" INBOX\r\na5 OK x\r\n* OK [UIDVALIDITY 7] x\r\n* OK [HIGHESTMODSEQ 4] x\r\na6 OK x\r\na7 OK x\r\n* OK [CLOSED] x\r\n* OK [UIDVALIDITY 8] x\r\n* OK [HIGHESTMODSEQ 5] x\r\na8 OK x\r\na9 OK x\r\n* OK [CLOSED] x\r\n* OK [UIDVALIDITY 7] x\r\n* OK [HIGHESTMODSEQ 4] x\r\na10 OK x\r\n* 1 FETCH (UID 4 BODY[] \"abc\")\r\na11 OK x\r\n"],
+        &[
+            b"* LIST (\\Noselect) \"/\" a\r\n* LIST () \"/\" b\r\n* LIST (\\NonExistent) \"/\" c\r\n* LIST () \"/\" INBOX\r\na5 OK x\r\n* OK [UIDVALIDITY 7] x\r\n* OK [HIGHESTMODSEQ 4] x\r\na6 OK x\r\na7 OK x\r\n* OK [CLOSED] x\r\n* OK [UIDVALIDITY 8] x\r\n* OK [HIGHESTMODSEQ 5] x\r\na8 OK x\r\na9 OK x\r\n* OK [CLOSED] x\r\n* OK [UIDVALIDITY 7] x\r\n* OK [HIGHESTMODSEQ 4] x\r\na10 OK x\r\n* 1 FETCH (UID 4 BODY[] \"abc\")\r\na11 OK x\r\n",
+        ],
         (1, 4),
         "ok ok 3 octets ",
         b"a5 LIST \"\" \"*\" RETURN (SUBSCRIBED)\r\na6 SELECT \"INBOX\"\r\na7 UID FETCH 1:* (UID FLAGS MODSEQ INTERNALDATE RFC822.SIZE BODY.PEEK[HEADER]<0.32768>)\r\na8 SELECT \"b\"\r\na9 UID FETCH 1:* (UID FLAGS MODSEQ INTERNALDATE RFC822.SIZE BODY.PEEK[HEADER]<0.32768>)\r\na10 SELECT \"INBOX\" (QRESYNC (7 4))\r\na11 UID FETCH 4 (UID BODY.PEEK[]<0.50000000>)\r\n|",
-        b"1 INBOX 7 4 1:;2 a 0 0 1:;3 b 8 5 1:;4 c 0 0 1:;",
+        b"1 INBOX 7 4 1:;2 a\\noselect 0 0 1:;3 b 8 5 1:;4 c\\nonexistent 0 0 1:;",
     ),
     // the folder of the body is another now
     (
-        &[b"* LIST () \"/\" b\r\n* LIST () \"/\" INBOX\r\na5 OK x\r\n* OK [UIDVALIDITY 7] x\r\na6 OK x\r\na7 OK x\r\na8 OK x\r\n* OK [UIDVALIDITY 8] x\r\na9 OK x\r\na10 OK x\r\na11 OK x\r\n* OK [UIDVALIDITY 9] x\r\na12 OK x\r\n"],
+        &[
+            b"* LIST () \"/\" b\r\n* LIST () \"/\" INBOX\r\na5 OK x\r\n* OK [UIDVALIDITY 7] x\r\na6 OK x\r\na7 OK x\r\na8 OK x\r\n* OK [UIDVALIDITY 8] x\r\na9 OK x\r\na10 OK x\r\na11 OK x\r\n* OK [UIDVALIDITY 9] x\r\na12 OK x\r\n",
+        ],
         (1, 4),
         "ok ok Lacks ",
         b"a5 LIST \"\" \"*\" RETURN (SUBSCRIBED)\r\na6 SELECT \"INBOX\"\r\na7 UID FETCH 1:* (UID FLAGS)\r\na8 UID FETCH 1:* (UID FLAGS INTERNALDATE RFC822.SIZE BODY.PEEK[HEADER]<0.32768>)\r\na9 SELECT \"b\"\r\na10 UID FETCH 1:* (UID FLAGS)\r\na11 UID FETCH 1:* (UID FLAGS INTERNALDATE RFC822.SIZE BODY.PEEK[HEADER]<0.32768>)\r\na12 SELECT \"INBOX\"\r\n|",
@@ -106,14 +132,22 @@ const ROUNDS: [Row; 16] = [
         b"1 INBOX 0 5 1:;",
     ),
     (
-        &[b"* LIST () \"/\" INBOX\r\na5 OK x\r\n* OK [UIDVALIDITY 5] x\r\n* OK [CLOSED] x\r\na6 OK x\r\n"],
+        &[
+            b"* LIST () \"/\" INBOX\r\na5 OK x\r\n* OK [UIDVALIDITY 5] x\r\n* OK [CLOSED] x\r\na6 OK x\r\n",
+        ],
         (1, 0),
         "ok Lacks ",
         b"a5 LIST \"\" \"*\" RETURN (SUBSCRIBED)\r\na6 SELECT \"INBOX\"\r\n|",
         b"1 INBOX 0 0 1:;",
     ),
     // a refusal of each command
-    (&[b"a5 NO x\r\n"], (1, 0), "ok Refused ", b"a5 LIST \"\" \"*\" RETURN (SUBSCRIBED)\r\n|", b""),
+    (
+        &[b"a5 NO x\r\n"],
+        (1, 0),
+        "ok Refused ",
+        b"a5 LIST \"\" \"*\" RETURN (SUBSCRIBED)\r\n|",
+        b"",
+    ),
     (
         &[b"* LIST () \"/\" INBOX\r\na5 OK x\r\n* OK [UIDVALIDITY 5] x\r\na6 NO x\r\n"],
         (1, 0),
@@ -129,7 +163,13 @@ const ROUNDS: [Row; 16] = [
         b"1 INBOX 5 0 1:;",
     ),
     // no folder
-    (&[b"a5 OK x\r\n"], (1, 0), "ok ok ", b"a5 LIST \"\" \"*\" RETURN (SUBSCRIBED)\r\n|", b""),
+    (
+        &[b"a5 OK x\r\n"],
+        (1, 0),
+        "ok ok ",
+        b"a5 LIST \"\" \"*\" RETURN (SUBSCRIBED)\r\n|",
+        b"",
+    ),
 ];
 
 fn joined(alloc: Global, first: &[u8], rest: &[u8]) -> Result<Vec<u8>, AllocError> {
@@ -138,27 +178,42 @@ fn joined(alloc: Global, first: &[u8], rest: &[u8]) -> Result<Vec<u8>, AllocErro
     Ok(octets)
 }
 
+/// These lives have these answers and leave this mail, and this is the last that the store takes.
+fn expect_lives(
+    rt: &impl Abort,
+    alloc: Global,
+    lives: &Lives<'_>,
+    row: &Row,
+    last: &[u8],
+) -> Result<(), Fail> {
+    let played = play(alloc, lives)?;
+    assert_eq!(rt; played.answers.as_str(), row.2);
+    assert_eq!(rt; played.mail.as_slice(), row.4, "{}", row.2);
+    assert!(rt; played.took.ends_with(last), "{}", row.2);
+    Ok(())
+}
+
+fn expect_round(rt: &impl Abort, alloc: Global, row: &Row, piece: usize) -> Result<(), Fail> {
+    let mut texts = Vec::new(alloc);
+    for life in row.0 {
+        texts.push(joined(alloc, CONNECTED, life)?)?;
+    }
+    let mut links = Vec::new(alloc);
+    for text in &texts {
+        links.push(text.as_slice())?;
+    }
+    let last = joined(alloc, CONNECTING, row.3)?;
+    let mut lives = plain(&links);
+    lives.piece = piece;
+    lives.body = row.1;
+    expect_lives(rt, alloc, &lives, row, &last)
+}
+
 #[test]
 fn rounds_in_any_pieces(rt: HostRuntime) -> Result<(), Fail> {
-    let alloc = rt.alloc();
-    for (lives, body, answers, took, mail) in ROUNDS {
-        let mut texts = Vec::new(alloc);
-        for life in lives {
-            texts.push(joined(alloc, CONNECTED, life)?)?;
-        }
-        let mut links = Vec::new(alloc);
-        for text in &texts {
-            links.push(text.as_slice())?;
-        }
-        let last = joined(alloc, CONNECTING, took)?;
+    for row in ROUNDS.iter() {
         for piece in PIECES {
-            let mut row = plain(&links);
-            row.piece = piece;
-            row.body = body;
-            let played = play(alloc, &row)?;
-            assert_eq!(rt; played.answers.as_str(), answers, "{piece}");
-            assert_eq!(rt; played.mail.as_slice(), mail, "{answers} {piece}");
-            assert!(rt; played.took.ends_with(&last), "{answers} {piece}");
+            expect_round(&rt, rt.alloc(), row, piece)?;
         }
     }
     Ok(())
@@ -202,18 +257,31 @@ fn whole_life(alloc: Global) -> Result<Vec<u8>, AllocError> {
     Ok(whole)
 }
 
+/// The mail that these lives leave.
+fn expect_mail(
+    rt: &impl Abort,
+    alloc: Global,
+    links: &[&[u8]],
+    mail: &[u8],
+    count: usize,
+) -> Result<(), Fail> {
+    let played = play(alloc, &plain(links))?;
+    assert_eq!(rt; played.mail.as_slice(), mail, "{count}");
+    Ok(())
+}
+
+/// A life that is cut after `count` octets leaves what its exchanges told, and one after it the same mail as a fresh one.
+fn expect_cut(rt: &impl Abort, alloc: Global, whole: &[u8], count: usize) -> Result<(), Fail> {
+    let (cut, _) = whole.split_at(count);
+    expect_mail(rt, alloc, &[cut], told_after(count), count)?;
+    expect_mail(rt, alloc, &[cut, whole], FRESH, count)
+}
+
 #[test]
 fn a_life_cut_at_each_octet(rt: HostRuntime) -> Result<(), Fail> {
-    let alloc = rt.alloc();
-    let whole = whole_life(alloc)?;
+    let whole = whole_life(rt.alloc())?;
     for count in 0..whole.len() {
-        let (cut, _) = whole.split_at(count);
-        let first = [cut];
-        let played = play(alloc, &plain(&first))?;
-        assert_eq!(rt; played.mail.as_slice(), told_after(count), "{count}");
-        let both = [cut, whole.as_slice()];
-        let played = play(alloc, &plain(&both))?;
-        assert_eq!(rt; played.mail.as_slice(), FRESH, "{count}");
+        expect_cut(&rt, rt.alloc(), &whole, count)?;
     }
     Ok(())
 }
@@ -221,19 +289,33 @@ fn a_life_cut_at_each_octet(rt: HostRuntime) -> Result<(), Fail> {
 /// No more calls of the outside than two lives have.
 const CALLS: u64 = 18;
 
+/// Of three lives the last ends well, whichever call fails before.
+fn expect_failing(
+    rt: &impl Abort,
+    alloc: Global,
+    whole: &[u8],
+    failing: u64,
+    piece: usize,
+) -> Result<(), Fail> {
+    let links = [whole, whole, whole];
+    let mut lives = plain(&links);
+    lives.failing = failing;
+    lives.piece = piece;
+    let played = play(alloc, &lives)?;
+    assert_eq!(rt; played.mail.as_slice(), FRESH, "{piece} {failing}");
+    assert!(rt;
+        played.answers.as_str().ends_with("ok ok "),
+        "{piece} {failing}"
+    );
+    Ok(())
+}
+
 #[test]
 fn each_call_of_the_outside_failing(rt: HostRuntime) -> Result<(), Fail> {
-    let alloc = rt.alloc();
-    let whole = whole_life(alloc)?;
-    let thrice = [whole.as_slice(), whole.as_slice(), whole.as_slice()];
+    let whole = whole_life(rt.alloc())?;
     for piece in [100, 100_000] {
         for failing in 1..=CALLS {
-            let mut row = plain(&thrice);
-            row.failing = failing;
-            row.piece = piece;
-            let played = play(alloc, &row)?;
-            assert_eq!(rt; played.mail.as_slice(), FRESH, "{piece} {failing}");
-            assert!(rt; played.answers.as_str().ends_with("ok ok "), "{piece} {failing}");
+            expect_failing(&rt, rt.alloc(), &whole, failing, piece)?;
         }
     }
     Ok(())

@@ -54,7 +54,9 @@ fn odd_vanished(alloc: Global) -> Result<Vec<u8>, AllocError> {
     let mut out = Vec::new(alloc);
     out.extend_from_slice(b"* VANISHED ")?;
     for step in 0..SLICE {
-        let uid = MESSAGES.saturating_sub(1).saturating_sub(step.saturating_mul(2));
+        let uid = MESSAGES
+            .saturating_sub(1)
+            .saturating_sub(step.saturating_mul(2));
         let text = format!(in alloc; "{uid},")?;
         out.extend_from_slice(text.as_bytes())?;
     }
@@ -83,7 +85,10 @@ fn many_folders_are_listed(rt: HostRuntime) -> Result<(), Fail> {
         told(&rt, alloc, &mut mirror, Asked::List, &octets)?;
         assert_eq!(rt; mirror.folders().len(), 2_000);
         assert_eq!(rt; mirror.named(b"f8000").map(|folder| folder.number), Some(1));
-        assert_eq!(rt; mirror.named(b"f9999").map(|folder| folder.number), Some(2_000));
+        assert_eq!(rt;
+            mirror.named(b"f9999").map(|folder| folder.number),
+            Some(2_000)
+        );
         assert_eq!(rt; mirror.changes(), changes);
     }
     Ok(())

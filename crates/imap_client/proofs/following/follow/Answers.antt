@@ -1,6 +1,5 @@
 use Rattle.std.proofs.Common.{rules, arith, ◌≡◌, ◌∙◌, sym, false}
 use Rattle.std.proofs.lemmas.Result.{err_from_is_err_and}
-use Rattle.imap_client.specs.declared.plan.Due.TheVariants as due
 use Rattle.imap_client.proofs.PlanSteps.{course_none, course_more, course_broken, course_gone, course_fails, course_wants, course_wants_more, course_done, course_alive}
 use Rattle.imap_client.proofs.following.follow.Goals as goal
 

@@ -1,9 +1,8 @@
-use Rattle.std.proofs.Common.{refl, ap, subst, ◌∙◌, ◌≡◌}
+use Rattle.std.proofs.Common.{refl, ap, ◌∙◌}
 use Rattle.gate_world.proofs.Joins.{widen}
 use Rattle.told_mail.specs.Told.{Told}
 use Rattle.imap_client.specs.Bodies.{body_begun}
-use Rattle.imap_client.specs.Rounds.{CountsOn}
-use Rattle.imap_client.proofs.RoundSteps.{body_ended, body_fetched, body_stops, done_has_body, counts_none}
+use Rattle.imap_client.proofs.RoundSteps.{body_ended, body_fetched, body_stops, done_has_body}
 use Rattle.imap_client.proofs.client.Client.fetch_body.Goals as goal
 
 pub returns-in-Err-clause-tape : goal.returns-in-Err-clause-tape

@@ -1,0 +1,4 @@
+pub mod InOrder
+pub mod Tallied
+pub mod Ordered
+pub mod KeySets

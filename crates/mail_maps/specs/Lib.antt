@@ -1,0 +1,12 @@
+pub mod Envelope
+pub mod Keywords
+pub mod Visible
+pub mod Rows
+pub mod Threads
+pub mod Hierarchy
+pub mod Roles
+pub mod Rights
+pub mod Counts
+pub mod Mailboxes
+pub mod Serve
+pub mod reading

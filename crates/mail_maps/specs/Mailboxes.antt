@@ -1,0 +1,46 @@
+-- Mailboxes (RFC 8621 section 2): one for each folder.
+use Rattle.std.specs.Prelude.{ℕ, List, map, codes}
+use Rattle.std.specs.Option.{option_map}
+use Rattle.told_folder.specs.declared.message.Folder.{Folder}
+use Rattle.told_folder.specs.declared.message.Held.{Held}
+use Rattle.mail_maps.specs.declared.row.MailboxRow.{MailboxRow}
+use Rattle.mail_maps.specs.declared.tally.FolderCounts.{FolderCounts}
+use Rattle.mail_maps.specs.Rows.{Rows}
+use Rattle.mail_maps.specs.Hierarchy.{parent_in, own_name}
+use Rattle.mail_maps.specs.Roles.{has, role_in}
+use Rattle.mail_maps.specs.Rights.{rights_of}
+use Rattle.mail_maps.specs.Counts.{total_emails, unread_emails, total_threads, unread_threads}
+
+abbrev pub folders_of : List Held → List Folder
+folders_of hs = map (λ (h : Held). h.folder) hs
+
+-- the Mailbox of a folder among these, with its counts
+abbrev pub row_with : List Folder → Folder → FolderCounts → MailboxRow
+row_with fs f counts = record {
+  number = f.number;
+  name = own_name fs f;
+  full_name = f.name;
+  parent = option_map (λ (g : Folder). g.number) (parent_in fs f);
+  role = role_in fs f;
+  subscribed = has (codes "\\subscribed") f;
+  rights = rights_of f;
+  total_emails = counts.total_emails;
+  unread_emails = counts.unread_emails;
+  total_threads = counts.total_threads;
+  unread_threads = counts.unread_threads;
+}
+
+abbrev pub counts_in : Rows → ℕ → FolderCounts
+counts_in rows folder = record {
+  total_emails = total_emails rows folder;
+  unread_emails = unread_emails rows folder;
+  total_threads = total_threads rows folder;
+  unread_threads = unread_threads rows folder;
+}
+
+abbrev pub mailbox_row : List Folder → Rows → Folder → MailboxRow
+mailbox_row fs rows f = row_with fs f (counts_in rows f.number)
+
+-- each folder as a Mailbox, ascending
+abbrev pub mailboxes_of : List Held → Rows → List (ℕ × MailboxRow)
+mailboxes_of hs rows = map {B = ℕ × MailboxRow} (λ (f : Folder). (f.number, mailbox_row (folders_of hs) rows f)) (folders_of hs)

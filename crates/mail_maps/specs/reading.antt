@@ -1,0 +1,4 @@
+-- What the code gathers on its way: private clauses and proofs alone speak of it.
+pub mod Groups
+pub mod Tallies
+pub mod Sets

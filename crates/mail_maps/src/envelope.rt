@@ -1,0 +1,28 @@
+// The fields of a header by which Emails are threaded, filtered and ordered.
+
+use gate_world::{Bytes, Names};
+
+/// An address field: its text form, and its first mailbox, by its name or else its address.
+#[derive(Debug, PartialEq, Drop)]
+pub struct Party {
+    /// None where the header has no such field.
+    pub text: Option<Bytes>,
+    pub first: Option<Bytes>,
+}
+
+/// The fields of a header by which Emails are threaded, filtered and ordered, in the forms that this takes.
+#[derive(Debug, PartialEq, Drop)]
+pub struct Envelope {
+    /// The text forms of the last fields of these names; None where there is no such field.
+    pub subject: Option<Bytes>,
+    pub cc: Option<Bytes>,
+    pub bcc: Option<Bytes>,
+    pub from: Party,
+    pub to: Party,
+    /// The base subject.
+    pub base: Bytes,
+    /// The date, in seconds since 1970-01-01T00:00:00Z.
+    pub sent_at: Option<i64>,
+    /// The ids of References, In-Reply-To and Message-ID, in this order.
+    pub ids: Names,
+}

@@ -1,0 +1,107 @@
+// Roles of folders.
+ghost use Rattle.std.specs.Prelude.{◌≡◌};
+ghost use Rattle.std.specs.Option.{option_map};
+ghost use Rattle.mail_maps.specs.Roles as roles;
+ghost use Rattle.mail_maps.specs.Mailboxes.{folders_of};
+
+use crate::Role;
+use crate::keywords::has_name;
+use told_folder::{Folder, Held};
+
+pub fn has(attribute: &[u8], folder: &Folder) -> bool
+    ensures { result ≡ roles.has attribute.now folder.now }
+{
+    has_name(attribute, &folder.attributes)
+}
+
+pub fn is_inbox(folder: &Folder) -> bool
+    ensures { result ≡ roles.is_inbox folder.now }
+{
+    folder.name.as_slice() == b"INBOX".as_slice()
+}
+
+/// The first of the roles that a folder has (RFC 6154).
+fn role_told(folder: &Folder) -> Option<Role>
+    ensures { result ≡ roles.role_told folder.now }
+{
+    if is_inbox(folder) {
+        return Some(Role::Inbox);
+    }
+    if has(b"\\all", folder) {
+        return Some(Role::All);
+    }
+    if has(b"\\archive", folder) {
+        return Some(Role::Archive);
+    }
+    if has(b"\\drafts", folder) {
+        return Some(Role::Drafts);
+    }
+    if has(b"\\flagged", folder) {
+        return Some(Role::Flagged);
+    }
+    if has(b"\\junk", folder) {
+        return Some(Role::Junk);
+    }
+    if has(b"\\sent", folder) {
+        return Some(Role::Sent);
+    }
+    if has(b"\\trash", folder) {
+        return Some(Role::Trash);
+    }
+    None
+}
+
+fn number_of(role: Role) -> u8
+    ensures { result ≡ roles.role_number role }
+{
+    match role {
+        Role::Inbox => 0,
+        Role::All => 1,
+        Role::Archive => 2,
+        Role::Drafts => 3,
+        Role::Flagged => 4,
+        Role::Junk => 5,
+        Role::Sent => 6,
+        Role::Trash => 7,
+    }
+}
+
+fn number_in(role: Option<Role>) -> Option<u8>
+    ensures { result ≡ option_map roles.role_number role }
+{
+    match role {
+        Some(role) => Some(number_of(role)),
+        None => None,
+    }
+}
+
+pub fn same_role(one: Option<Role>, other: Option<Role>) -> bool
+    ensures { result ≡ roles.same_role one other }
+{
+    number_in(one) == number_in(other)
+}
+
+/// Whether a folder of a lower number has the role.
+fn is_taken(folders: &[Held], folder: &Folder, role: Option<Role>) -> bool
+    requires { role ≡ roles.role_told folder.now }
+    ensures { result ≡ roles.is_taken (folders_of folders.now) folder.now }
+{
+    let number = folder.number;
+    for held in folders {
+        if held.folder.number < number && same_role(role_told(&held.folder), role) {
+            return true;
+        }
+    }
+    false
+}
+
+/// The role of a folder: each role once.
+pub fn role_in(folders: &[Held], folder: &Folder) -> Option<Role>
+    ensures { result ≡ roles.role_in (folders_of folders.now) folder.now }
+{
+    let role = role_told(folder);
+    if role.is_none() || is_taken(folders, folder, role) {
+        return None;
+    }
+    role
+}
