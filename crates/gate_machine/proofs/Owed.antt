@@ -84,8 +84,9 @@ rounds_end : {before after : Progress} {events : List Event} → Law → (a : As
     → IsServed after ⊎ (after.standing ≡ OutOfMemory)
 rounds_end law a obeyed room stands none =
     elim a.asks [
-    inl skips ↦ absurd (skips.0 stands)
-    | inr asks ↦ by_round a asks (law _ asks.life asks.left asks.rounds.exchanges asks.client asks.result a.asking asks.rounds.follows (obeyed asks)) room none ]
+      | inl skips ↦ absurd (skips.0 stands)
+      | inr asks ↦ by_round a asks (law _ asks.life asks.left asks.rounds.exchanges asks.client asks.result a.asking asks.rounds.follows (obeyed asks)) room none
+    ]
 
 -- ---- the whole way
 

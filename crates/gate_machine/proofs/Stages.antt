@@ -81,17 +81,16 @@ pub dialed : {user password : List ℕ} {left : Option LinkLife} {client : Clien
     → Connects user password left client result events → OnErr result (client ≡ fresh) → LinkAlone was now → (IsErrOf result end.Lost → Rose was.link now.link)
     → how ≡ standing_by result → machine ≡ machine_by result before
     → (after : Progress) × Dials user password (idle before) events after × CameTo machine client how was now after
-dialed {left = left} {client = client} {result = result} before machine how was now connects over alone cause standing_is machine_is =
-    (
-      ended result (record (idle before) { left = left }),
-      record { client = client; left = left; result = result; stands = refl; connects = connects; after_is = refl },
-      record {
-        machine_is = sym machine_is;
-        standing_is = sym standing_is;
-        holds = holds_connected connects over;
-        bears = bears_end result no_faults was was now (bears_none was) alone cause;
-      },
-    )
+dialed {left = left} {client = client} {result = result} before machine how was now connects over alone cause standing_is machine_is = (
+  ended result (record (idle before) { left = left }),
+  record { client = client; left = left; result = result; stands = refl; connects = connects; after_is = refl },
+  record {
+    machine_is = sym machine_is;
+    standing_is = sym standing_is;
+    holds = holds_connected connects over;
+    bears = bears_end result no_faults was was now (bears_none was) alone cause;
+  },
+)
 
 -- ---- the round
 
@@ -108,8 +107,7 @@ pub asked : {client next : ClientState} {result : Result (Unit {0}) LinkEnd} {ev
     → (p : Progress) × Asks before events p × CameTo after next how was now p
 asked {client} {next} {result} before machine after how was then now k told came known alive rounds alone cause standing_is after_is =
     let here = in_life before.left client came.holds alive in
-    let went = rounds here.0 here.2 in
-    (
+    let went = rounds here.0 here.2 in (
       ended result (record before { machine = hearing before.machine k told; left = Some went.0 }),
       record {
         known = k;
@@ -139,43 +137,39 @@ pub settled : (before : Progress) (client : ClientState) (was now : Faults) (mac
     → CameTo machine client standing.Stands was now before → machine.known ≡ Some k → Commits k next → after ≡ record machine { known = Some next }
     → (p : Progress) × Settles before [] p × CameTo after client standing.Stands was now p
 settled before client was now machine after k next came known (inl same) after_is =
-    let is : after ≡ machine = after_is ∙ (λ i. record machine { known = (ap (λ (x : KnownMail). Some x) same.1 ∙ sym known) i }) in
-    (
+    let is : after ≡ machine = after_is ∙ (λ i. record machine { known = (ap (λ (x : KnownMail). Some x) same.1 ∙ sym known) i }) in (
       before,
       Same k came.standing_is (ap (λ (m : Machine). m.known) came.machine_is ∙ known) same.0 refl refl,
       record { machine_is = came.machine_is ∙ sym is; standing_is = came.standing_is; holds = came.holds; bears = came.bears },
     )
-settled before client was now machine after k next came known (inr moved) after_is =
-    (
-      record before { machine = committed before.machine (advance k.history k.told) },
-      Moves k came.standing_is (ap (λ (m : Machine). m.known) came.machine_is ∙ known) moved.0 moved.1 refl refl,
-      record {
-        machine_is = (λ i. record (came.machine_is i) { known = Some (sym moved.2 i) }) ∙ sym after_is;
-        standing_is = came.standing_is;
-        holds = came.holds;
-        bears = came.bears;
-      },
-    )
+settled before client was now machine after k next came known (inr moved) after_is = (
+  record before { machine = committed before.machine (advance k.history k.told) },
+  Moves k came.standing_is (ap (λ (m : Machine). m.known) came.machine_is ∙ known) moved.0 moved.1 refl refl,
+  record {
+    machine_is = (λ i. record (came.machine_is i) { known = Some (sym moved.2 i) }) ∙ sym after_is;
+    standing_is = came.standing_is;
+    holds = came.holds;
+    bears = came.bears;
+  },
+)
 
 pub spent : (before : Progress) (client : ClientState) (was now : Faults) (machine after : Machine) (k : KnownMail)
     → CameTo machine client standing.Stands was now before → machine.known ≡ Some k → IsNew k → IsSpent k.history → after ≡ forgotten machine
     → (p : Progress) × Settles before [] p × CameTo after client (standing.Fell Spent) was now p
-spent before client was now machine after k came known new spends after_is =
-    (
-      record before { machine = forgotten before.machine; standing = standing.Fell Spent },
-      Spends k came.standing_is (ap (λ (m : Machine). m.known) came.machine_is ∙ known) new spends refl refl,
-      record { machine_is = ap forgotten came.machine_is ∙ sym after_is; standing_is = refl; holds = came.holds; bears = came.bears },
-    )
+spent before client was now machine after k came known new spends after_is = (
+  record before { machine = forgotten before.machine; standing = standing.Fell Spent },
+  Spends k came.standing_is (ap (λ (m : Machine). m.known) came.machine_is ∙ known) new spends refl refl,
+  record { machine_is = ap forgotten came.machine_is ∙ sym after_is; standing_is = refl; holds = came.holds; bears = came.bears },
+)
 
 pub lacked : (before : Progress) (client : ClientState) (was now : Faults) (machine after : Machine)
     → CameTo machine client standing.Stands was now before → after ≡ forgotten machine
     → (p : Progress) × Settles before [] p × CameTo after client standing.OutOfMemory was now p
-lacked before client was now machine after came after_is =
-    (
-      out_of_memory before,
-      Lacks came.standing_is refl refl,
-      record { machine_is = ap forgotten came.machine_is ∙ sym after_is; standing_is = refl; holds = came.holds; bears = came.bears },
-    )
+lacked before client was now machine after came after_is = (
+  out_of_memory before,
+  Lacks came.standing_is refl refl,
+  record { machine_is = ap forgotten came.machine_is ∙ sym after_is; standing_is = refl; holds = came.holds; bears = came.bears },
+)
 
 -- ---- one after another
 
@@ -195,19 +189,18 @@ fell_is_not p how is other stands = other (sym is ∙ stands)
 pub asked_only : {before : Progress} {events : List Event} {client : ClientState} {machine : Machine} {how : Standing} {was now : Faults}
     → (how ≡ standing.Stands → ⊥) → (p : Progress) × Asks before events p × CameTo machine client how was now p
     → (q : Progress) × AsksThen before events q × CameTo machine client how was now q
-asked_only {events = events} {how = how} other asks =
-    (
-      asks.0,
-      record {
-        told = asks.0;
-        asking = events;
-        settling = [];
-        asks = inr asks.1;
-        settles = inl (fell_is_not asks.0 how asks.2.standing_is other, refl, refl);
-        whole = sym (append-nil events);
-      },
-      asks.2,
-    )
+asked_only {events = events} {how = how} other asks = (
+  asks.0,
+  record {
+    told = asks.0;
+    asking = events;
+    settling = [];
+    asks = inr asks.1;
+    settles = inl (fell_is_not asks.0 how asks.2.standing_is other, refl, refl);
+    whole = sym (append-nil events);
+  },
+  asks.2,
+)
 
 -- the dial, and then the round
 pub dialed_then : {user password : List ℕ} {before mid machine : Machine} {client next : ClientState} {how : Standing} {was then now : Faults} {xs ys : List Event}

@@ -86,7 +86,8 @@ pub record Begins (user password : List ℕ) (before : Machine) (events : List E
 -- ---- what calls add
 
 -- from a machine that is ready
-pub record DialsTo (user password : List ℕ) (before machine : Machine) (client : ClientState) (how : Standing) (was now : Faults) (events : List Event) : Type 0 where
+pub record DialsTo (user password : List ℕ) (before machine : Machine) (client : ClientState) (how : Standing) (was now : Faults)
+    (events : List Event) : Type 0 where
   pub connected : Progress
   pub after : Progress
   pub connecting : List Event
@@ -97,7 +98,8 @@ pub record DialsTo (user password : List ℕ) (before machine : Machine) (client
   pub came : CameTo machine client how was now after
 
 -- the whole way
-pub record BeginsTo (user password : List ℕ) (before machine : Machine) (client : ClientState) (how : Standing) (was now : Faults) (events : List Event) : Type 0 where
+pub record BeginsTo (user password : List ℕ) (before machine : Machine) (client : ClientState) (how : Standing) (was now : Faults)
+    (events : List Event) : Type 0 where
   pub after : Progress
   pub begins : Begins user password before events after
   pub came : CameTo machine client how was now after

@@ -36,7 +36,8 @@ abbrev pub IsRoundObeyed : {before : Progress} {events : List Event} {after : Pr
 IsRoundObeyed {events = events} asks = ObeysIn (round_plan asks.known.told) asks.life events
 
 -- The store obeyed, and a place was left for what it told.
-pub record IsObeyed {user password : List ℕ} {before : Machine} {events : List Event} {after : Progress} (begins : Begins user password before events after) : Type 0 where
+pub record IsObeyed {user password : List ℕ} {before : Machine} {events : List Event} {after : Progress}
+    (begins : Begins user password before events after) : Type 0 where
   pub welcomed : IsWelcomed begins.dials.connects
   pub round : (asks : Asks begins.connected begins.asks.asking begins.asks.told) → IsRoundObeyed asks
   pub room : (k : KnownMail) → begins.asks.told.machine.known ≡ Some k → IsSpent k.history → ⊥

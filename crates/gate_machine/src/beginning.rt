@@ -34,11 +34,7 @@ fn dial<W: Link + Secrets>(
 }
 
 // The round.
-fn ask<L: Link>(
-    machine: &mut Machine,
-    client: &mut Client,
-    link: &mut L,
-) -> Standing
+fn ask<L: Link>(machine: &mut Machine, client: &mut Client, link: &mut L) -> Standing
     requires alive { client.old.alive ≡ true }
     requires ready { IsSome machine.old.known }
     ensures run { Adds (L.tape link.old) (L.tape link.new) (λ es. (before : Progress) (was : Faults)
@@ -78,11 +74,7 @@ fn settle(machine: &mut Machine) -> Standing
 }
 
 // The round, and what it told is served.
-fn ask_and_settle<L: Link>(
-    machine: &mut Machine,
-    client: &mut Client,
-    link: &mut L,
-) -> Standing
+fn ask_and_settle<L: Link>(machine: &mut Machine, client: &mut Client, link: &mut L) -> Standing
     requires alive { client.old.alive ≡ true }
     requires ready { IsSome machine.old.known }
     ensures run { Adds (L.tape link.old) (L.tape link.new) (λ es. (before : Progress) (was : Faults)

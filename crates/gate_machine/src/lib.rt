@@ -1,11 +1,11 @@
 //! What the gateway holds between requests, and a request's way to the mail: over the link alone.
 #![tactic(auto)]
 
-mod standing;
-mod known;
-mod machine;
 mod beginning;
+mod known;
 mod laws;
+mod machine;
+mod standing;
 
 pub use beginning::{begin, visit};
 pub use known::Known;

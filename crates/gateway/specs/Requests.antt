@@ -52,7 +52,8 @@ line_end = 10 ∷ []
 
 -- the responses to a request's calls, with the Session's state of this user and base
 unfoldable pub calls_text : List ℕ → List ℕ → Mailing → RequestData → List ℕ
-calls_text user base mail request = compact_text (response_data (responses_after mail request.uses [] request.calls) request.created (session_state_text user base))
+calls_text user base mail request =
+    compact_text (response_data (responses_after mail request.uses [] request.calls) request.created (session_state_text user base))
 
 abbrev pub response_of : Door → Account → Mailing → Asking → List ℕ
 response_of Bare account mail (Ok request) = calls_text account.user account.base mail request ++ line_end

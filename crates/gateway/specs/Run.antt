@@ -38,7 +38,8 @@ pub record Stood (was now : Faults) : Type 0 where
 -- Segments one after another, and how each client was served.
 pub data Run (door : Door) (account : Account) (before : Machine) : List Event → List Served → Machine → Type 0 where
   Begun : Run door account before [] [] before
-  Then : {es fs : List Event} {went : List Served} {s : Served} {mid after : Machine} → Run door account before es went mid → Segment door account mid fs s after
+  Then : {es fs : List Event} {went : List Served} {s : Served} {mid after : Machine} → Run door account before es went mid
+      → Segment door account mid fs s after
       → Run door account before (es ++ fs) (went ++ s ∷ []) after
 
 abbrev pub run_blamed : {door : Door} {account : Account} {before after : Machine} {events : List Event} {went : List Served}
@@ -62,14 +63,16 @@ pub data Ends (most : ℕ) (went : List Served) (status : ℕ) : Type 0 where
 -- ---- what calls add
 
 -- One segment from a machine to one that a gate stands for; the counts bear its blames.
-pub record StepsTo (door : Door) (account : Account) (before : Machine) (Stands : Machine → Type 0) (was now : Faults) (how : Served) (events : List Event) : Type 0 where
+pub record StepsTo (door : Door) (account : Account) (before : Machine) (Stands : Machine → Type 0) (was now : Faults) (how : Served)
+    (events : List Event) : Type 0 where
   pub after : Machine
   pub segment : Segment door account before events how after
   pub stands : Stands after
   pub bears : Bears (blamed segment) was now
 
 -- The same of a run that goes on after so many clients.
-pub record RunsTo (door : Door) (account : Account) (before : Machine) (Stands : Machine → Type 0) (clients : ℕ) (was now : Faults) (events : List Event) : Type 0 where
+pub record RunsTo (door : Door) (account : Account) (before : Machine) (Stands : Machine → Type 0) (clients : ℕ) (was now : Faults)
+    (events : List Event) : Type 0 where
   pub after : Machine
   pub went : List Served
   pub run : Run door account before events went after
@@ -131,11 +134,13 @@ show_blamed _ = no_faults
 -- What a task adds, with its status and the faults that are blamed.
 pub data Ran (task : Task) (password : List ℕ) (status : ℕ) (blames : Faults) (events : List Event) : Type 0 where
   -- opening came to nothing
-  Unopened : (place : Place) (m : Machine) → task ≡ Once place → Opens events (Err opening.Memory) m → status ≡ 5 → blames ≡ no_faults → Ran task password status blames events
+  Unopened : (place : Place) (m : Machine) → task ≡ Once place → Opens events (Err opening.Memory) m → status ≡ 5 → blames ≡ no_faults
+      → Ran task password status blames events
   ServedOnce : (place : Place) (opened segment said : List Event) (m after : Machine) (how : Served)
       (served : Segment Bare (account_of place password) m segment how after) → task ≡ Once place → Opens opened (Ok tt) m → EndsOnce how status said
       → blames ≡ blamed served → events ≡ (opened ++ segment) ++ said → Ran task password status blames events
-  ShownOne : (shown said : List Event) (outcome : Result (Unit {0}) FrontError) → task ≡ Show → events ≡ shown ++ said → Shows outcome shown → EndsShow outcome status said
+  ShownOne : (shown said : List Event) (outcome : Result (Unit {0}) FrontError) → task ≡ Show → events ≡ shown ++ said → Shows outcome shown
+      → EndsShow outcome status said
       → blames ≡ show_blamed outcome → Ran task password status blames events
 
 -- The run of the program over its words: they are refused, memory runs out before anything is asked of the outside, or what

@@ -36,5 +36,6 @@ mailing_by standing.OutOfMemory known = Err ServerUnavailable
 pub data Work (account : Account) (before : Machine) (asking : Asking) (events : List Event) (mail : Mailing) (after : Progress) : Type 0 where
   NoMail : asks_for_mail asking ≡ false → events ≡ [] → mail ≡ Err ServerUnavailable → after ≡ idle before → Work account before asking events mail after
   WithMail : (begun : Progress) (beginning ending : List Event) → asks_for_mail asking ≡ true → Begins account.user account.password before beginning begun
-      → HangsUp (is_up begun.left) ending → events ≡ beginning ++ ending → mail ≡ mailing_by begun.standing begun.machine.known → after ≡ record begun { left = None }
+      → HangsUp (is_up begun.left) ending → events ≡ beginning ++ ending → mail ≡ mailing_by begun.standing begun.machine.known
+      → after ≡ record begun { left = None }
       → Work account before asking events mail after

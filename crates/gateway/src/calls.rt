@@ -13,7 +13,9 @@ ghost use Rattle.gateway.specs.Calls.{response_to, responses_after};
 
 use crate::served_mail::ServedMail;
 use gate_world::Text;
-use jmap_core::{Call, Method, MethodError, Using, echo, error_arguments, method_named, resolve, state_text};
+use jmap_core::{
+    Call, Method, MethodError, Using, echo, error_arguments, method_named, resolve, state_text,
+};
 use read_methods::mailbox_get;
 use serde_json::Value;
 use std::alloc::{AllocError, Global};

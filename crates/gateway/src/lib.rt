@@ -1,20 +1,18 @@
 //! The gateway: what answers clients one after another over the store's mail, a message that is shown, and the top call.
 #![tactic(auto)]
 
-mod served;
-mod gate;
-
-mod front;
-mod line;
-mod served_mail;
-mod calls;
-mod requests;
 mod bare_gate;
-mod serving;
+mod calls;
+mod front;
+mod gate;
 mod laws;
-
-mod show;
+mod line;
 mod program;
+mod requests;
+mod served;
+mod served_mail;
+mod serving;
+mod show;
 
 pub use bare_gate::BareGate;
 pub use gate::Gate;

@@ -20,7 +20,11 @@ pub struct ServedMail {
 fn has_flag(message: &Message, flag: &[u8]) -> bool
     ensures { result ≡ has_flag flag.now message.now }
 {
-    message.flags.as_slice().iter().any(|name| name.as_slice() == flag)
+    message
+        .flags
+        .as_slice()
+        .iter()
+        .any(|name| name.as_slice() == flag)
 }
 
 fn is_visible(message: &Message) -> bool

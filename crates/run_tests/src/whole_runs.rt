@@ -190,7 +190,11 @@ pub(crate) fn follow(alloc: Global, words: &str, script: Script) -> Result<Seen,
 
 /// Parts of what a store gives after it connected, what the store takes after LIST, and what the client is told.
 const DIALOGUES: [(&[&[u8]], &[&[u8]], &[u8]); 3] = [
-    (&[LISTED, SELECTED, THREE, DONE], &[SELECTS, FETCHES], THREE_AND_TWO),
+    (
+        &[LISTED, SELECTED, THREE, DONE],
+        &[SELECTS, FETCHES],
+        THREE_AND_TWO,
+    ),
     (&[LISTED, SELECTED, DONE], &[SELECTS, FETCHES], NONE),
     (
         &[
@@ -318,6 +322,9 @@ fn a_lost_link_spoils_one_request(rt: HostRuntime) -> Result<(), Fail> {
 
 const BODY_OCTETS: usize = 10_000_000;
 
+const TOO_LARGE: &[u8] =
+    b"{\"limit\":\"maxSizeRequest\",\"status\":413,\"type\":\"urn:ietf:params:jmap:error:limit\"}\n";
+
 /// A request of n octets, most of them spaces after it.
 fn long_request(alloc: Global, count: usize) -> Result<Script, AllocError> {
     let known = ASK.len() + BOTH.len() + ASK_END.len();
@@ -338,13 +345,13 @@ fn limits(rt: HostRuntime) -> Result<(), Fail> {
 
     let long = follow(alloc, USUAL, long_request(alloc, BODY_OCTETS + 9)?)?;
     assert!(&rt; long.client_gave == BODY_OCTETS + 1 && long.dials == 0);
-    assert_eq!(&rt; long.client_took.as_slice(), b"{\"limit\":\"maxSizeRequest\",\"status\":413,\"type\":\"urn:ietf:params:jmap:error:limit\"}\n");
+    assert_eq!(&rt; long.client_took.as_slice(), TOO_LARGE);
     assert!(&rt; whole.status == 0 && long.status == 0);
     Ok(())
 }
 
 /// How many calls that can fail the run of the next test has.
-const CALLS: u64 = 60;
+const CALLS: u64 = 25;
 
 /// The usual run in pieces of 16, where this call fails, or where every call from this one on fails.
 fn failing(alloc: Global, fails_at: Option<u64>, stop_at: u64) -> Result<Seen, Fail> {

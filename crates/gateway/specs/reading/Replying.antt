@@ -31,10 +31,12 @@ IsWorked (Ok given) mail done = (given ≡ mail) × (done.standing ≢ OutOfMemo
 IsWorked (Err _) mail done = Unit {0}
 
 -- the work on what needs the mail or doesn't
-pub record WorksTo (user password : List ℕ) (asks : Bool) (before machine : Machine) (was now : Faults) (result : Result Mailing AllocError) (events : List Event) : Type 0 where
+pub record WorksTo (user password : List ℕ) (asks : Bool) (before machine : Machine) (was now : Faults) (result : Result Mailing AllocError)
+    (events : List Event) : Type 0 where
   pub mail : Mailing
   pub done : Progress
-  pub work : (base : List ℕ) (asking : Asking) → asks_for_mail asking ≡ asks → Work (record { user = user; password = password; base = base }) before asking events mail done
+  pub work : (base : List ℕ) (asking : Asking) → asks_for_mail asking ≡ asks
+      → Work (record { user = user; password = password; base = base }) before asking events mail done
   pub machine_is : done.machine ≡ machine
   pub bears : Bears done.blamed was now
   pub worked : IsWorked result mail done
@@ -44,7 +46,8 @@ abbrev pub IsLined : Result (List ℕ) AllocError → List ℕ → List ℕ → 
 IsLined (Ok line) user base request mail done = (line ≡ calls_text user base mail request ++ line_end) × (done.standing ≢ OutOfMemory)
 IsLined (Err _) user base request mail done = Unit {0}
 
-pub record LinesTo (user password base : List ℕ) (request : RequestData) (before machine : Machine) (was now : Faults) (result : Result (List ℕ) AllocError) (events : List Event) : Type 0 where
+pub record LinesTo (user password base : List ℕ) (request : RequestData) (before machine : Machine) (was now : Faults)
+    (result : Result (List ℕ) AllocError) (events : List Event) : Type 0 where
   pub mail : Mailing
   pub done : Progress
   pub work : Work (record { user = user; password = password; base = base }) before (Ok request) events mail done
@@ -61,12 +64,14 @@ text_in reply.Nothing = []
 -- the reply to a request that was read, or that the front failed before
 abbrev pub RepliesBy : Account → Machine → Machine → Faults → Faults → Reply → List Event → Type 0
 RepliesBy account before after was now reply.Nothing events = Reads Bare (Err FrontLost) events × (after ≡ before)
-RepliesBy account before after was now (reply.Line text) events = (replies : Replies Bare account before events text after) × Bears (reply_blamed replies) was now
+RepliesBy account before after was now (reply.Line text) events =
+    (replies : Replies Bare account before events text after) × Bears (reply_blamed replies) was now
 RepliesBy account before after was now reply.NoMemory events =
     (replies : Replies Bare account before events (no_memory_text Bare) after) × Bears (reply_blamed replies) was now
 
 -- the reply to a request, after the events by which it was read
-pub record RepliesToRequest (user password base : List ℕ) (request : RequestData) (before after : Machine) (was now : Faults) (reply : Reply) (events : List Event) : Type 0 where
+pub record RepliesToRequest (user password base : List ℕ) (request : RequestData) (before after : Machine) (was now : Faults) (reply : Reply)
+    (events : List Event) : Type 0 where
   pub of : (asked : List Event) → Reads Bare (Ok (Ok request)) asked
       → RepliesBy (record { user = user; password = password; base = base }) before after was now reply (asked ++ events)
 

@@ -25,6 +25,6 @@ unfolding calls_text
 returns c =
     let text_is = c.in_ok-from_vec.ensures ∙ ap (λ (v : Vec ℕ Global). v.items) c.into_bytes.ensures.value ∙ c.in_ok-text.ensures in
     let answers_is = ap (λ (cs : List Call). map call_data cs) c.as_slice-2.ensures.value ∙ c.in_ok-responses.ensures.meant
-        ∙ ap (λ (cs : List Call). responses_after c.args.mail.now c.args.request.now.using [] (map call_data cs)) c.as_slice.ensures.value in
+    ∙ ap (λ (cs : List Call). responses_after c.args.mail.now c.args.request.now.using [] (map call_data cs)) c.as_slice.ensures.value in
     let session_is = c.as_str-3.ensures.value ∙ c.in_ok-session.ensures ∙ (λ i. session_state_text (c.as_str.ensures i) (c.as_str-2.ensures i)) in
     lined c.with_line_end.result c.in_ok-from_vec.field-0 _ (text_is ∙ text_of answers_is c.as_ref.ensures.value session_is) c.with_line_end.ensures
