@@ -92,15 +92,16 @@ fn taken(alloc: Global, world: &ScriptWorld) -> Result<Vec<u8>, Fail> {
     Ok(took)
 }
 
-/// Connects, does a round, fetches the body where one is asked, and leaves.
+/// Leaves the life that there is, connects, does a round, and fetches the body where one is asked.
 fn live(
     alloc: Global,
     world: &mut ScriptWorld,
+    client: &mut Client,
     mirror: &mut Mirror,
     lives: &Lives<'_>,
     answers: &mut String,
 ) -> Result<(), Fail> {
-    let mut client = Client::new(alloc);
+    client.leave(world);
     if put_end(alloc, answers, client.connect(world, lives.user))?
         && put_end(alloc, answers, client.round(world, mirror))?
         && lives.body.1 != 0
@@ -108,18 +109,26 @@ fn live(
         let body = client.fetch_body(world, mirror, lives.body.0, lives.body.1);
         put_body(alloc, answers, body)?;
     }
-    client.leave(world);
     Ok(())
 }
 
 /// One life after another over one mirror.
 pub(crate) fn play(alloc: Global, lives: &Lives<'_>) -> Result<Played, Fail> {
     let mut world = world_of(alloc, lives)?;
+    let mut client = Client::new(alloc);
     let mut mirror = Mirror::new(alloc);
     let mut answers = String::new(alloc);
     for _ in 0..lives.links.len() {
-        live(alloc, &mut world, &mut mirror, lives, &mut answers)?;
+        live(
+            alloc,
+            &mut world,
+            &mut client,
+            &mut mirror,
+            lives,
+            &mut answers,
+        )?;
     }
+    client.leave(&mut world);
     let mail = shown(alloc, &mirror)?;
     let took = taken(alloc, &world)?;
     Ok(Played {
