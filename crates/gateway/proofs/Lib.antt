@@ -7,3 +7,4 @@ mod Calling
 mod CompletingShow
 mod Performing
 mod Needs
+mod Told

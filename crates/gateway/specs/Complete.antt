@@ -1,5 +1,7 @@
 -- What a client is owed.
 use Rattle.std.specs.Prelude.{◌≡◌, ◌⊎◌, ◌++◌, ℕ, false, List, [], ◌∷◌, length, Some, Ok}
+use Rattle.gate_world.specs.declared.event.Event.TheVariants.{NoMore, ClientDone}
+use Rattle.gate_world.specs.Octets.{Hears}
 use Rattle.std.specs.List.{flat_map}
 use Rattle.gate_world.specs.declared.event.Event.{Event}
 use Rattle.gate_world.specs.declared.event.Event.TheVariants.{Accepted, ClientEnded}
@@ -12,9 +14,12 @@ use Rattle.gate_machine.specs.Progress.{Progress}
 use Rattle.gate_machine.specs.declared.machine.Machine.{Machine}
 use Rattle.gateway.specs.Calls.{Mailing}
 use Rattle.gateway.specs.Counts.{served_mail}
-use Rattle.gateway.specs.Requests.{Account, Asking, asks_for_mail}
+use Rattle.gateway.specs.Requests.{Account, Door, Asking, Reads, asks_for_mail, response_of, no_memory_text}
+use Rattle.gateway.specs.Segment.{Replies, Answered, LacksReading, LacksAnswering, Segment, NoneComes, NotAccepted, Unasked, Replied}
 use Rattle.gateway.specs.Show.{message_limit, ShowsObject}
 use Rattle.gateway.specs.Work.{Work, NoMail, WithMail}
+use Rattle.gateway.specs.declared.served.Served.{Served}
+use Rattle.gateway.specs.declared.served.Served.TheVariants as served
 
 -- all octets that the client gave
 abbrev pub asked_for : List Event → List ℕ
@@ -45,3 +50,29 @@ IsWorkObeyed (WithMail begun beginning ending a begins b c d e) = IsObeyed begin
 abbrev pub IsAnsweredFrom : Asking → Mailing → Progress → Type 0
 IsAnsweredFrom asking mail after =
     (asks_for_mail asking ≡ false) ⊎ ((k : KnownMail) × (after.machine.known ≡ Some k) × (mail ≡ Ok (served_mail k.history)))
+
+-- ---- a client
+
+-- The store obeyed all that the client's request asks of it.
+abbrev pub IsReplyObeyed : {door : Door} {account : Account} {before : Machine} {events : List Event} {text : List ℕ} {after : Machine}
+    → Replies door account before events text after → Type 0
+IsReplyObeyed (Answered asked worked asking mail done a b work c d e) = IsWorkObeyed work
+IsReplyObeyed (LacksReading a b c) = Unit {0}
+IsReplyObeyed (LacksAnswering asked worked asking mail done a b c d e) = Unit {0}
+
+abbrev pub IsSegmentObeyed : {door : Door} {account : Account} {before : Machine} {events : List Event} {how : Served} {after : Machine}
+    → Segment door account before events how after → Type 0
+IsSegmentObeyed (NoneComes a b c) = Unit {0}
+IsSegmentObeyed (NotAccepted a b c) = Unit {0}
+IsSegmentObeyed (Unasked asked a b c d) = Unit {0}
+IsSegmentObeyed (Replied replied heard text sent a replies c d) = IsReplyObeyed replies
+
+-- What comes of a client of whom nothing fails: it takes the whole response to what it asked, whose calls are answered over
+-- the mail that is served from then on; or memory ran out, and it takes the text of that; or no client comes.
+pub data IsTold (door : Door) (account : Account) (events : List Event) (how : Served) (after : Machine) : Type 0 where
+  NobodyComes : events ≡ NoMore ∷ [] → how ≡ served.NoMore → IsTold door account events how after
+  TakesResponse : (asked worked heard : List Event) (asking : Asking) (mail : Mailing) (done : Progress)
+      → events ≡ Accepted ∷ (((asked ++ worked) ++ heard) ++ ClientDone ∷ []) → Reads door (Ok asking) asked → IsAnsweredFrom asking mail done
+      → after ≡ done.machine → Hears (response_of door account mail asking) heard → how ≡ served.Whole → IsTold door account events how after
+  LacksMemory : (replied heard : List Event) → events ≡ Accepted ∷ ((replied ++ heard) ++ ClientDone ∷ []) → Hears (no_memory_text door) heard
+      → how ≡ served.Whole → IsTold door account events how after

@@ -6,10 +6,12 @@ ghost use Rattle.gate_machine.specs.Progress.{Bears, Progress};
 ghost use Rattle.gate_machine.specs.declared.machine.Machine.{Machine};
 ghost use Rattle.gate_machine.specs.declared.standing.Standing.TheVariants.{OutOfMemory};
 ghost use Rattle.gateway.specs.Calls.{Mailing};
-ghost use Rattle.gateway.specs.Complete.{IsAnsweredFrom, IsWorkObeyed};
-ghost use Rattle.gateway.specs.Requests.{Account, Asking, asks_for_mail};
+ghost use Rattle.gateway.specs.Complete.{IsAnsweredFrom, IsSegmentObeyed, IsTold, IsWorkObeyed};
+ghost use Rattle.gateway.specs.Requests.{Account, Asking, Door, asks_for_mail};
 ghost use Rattle.gateway.specs.Run.{Stood};
+ghost use Rattle.gateway.specs.Segment.{Segment, blamed};
 ghost use Rattle.gateway.specs.Work.{Work};
+ghost use Rattle.gateway.specs.declared.served.Served.{Served};
 
 use gate_machine::obeyed_rounds_stand;
 
@@ -30,6 +32,16 @@ pub fn obeyed_requests_answered()
     ensures { (account : Account) (before : Machine) (asking : Asking) (events : List Event) (mail : Mailing) (after : Progress)
         (work : Work account before asking events mail after) → IsWorkObeyed work → after.blamed ≡ no_faults
         → IsAnsweredFrom asking mail after ⊎ (after.standing ≡ OutOfMemory) }
+{
+    obeyed_rounds_stand();
+}
+
+/// Where the store obeys, a place is left and no fault is blamed, whoever comes takes the whole response that is due over
+/// the mail that is served then; or memory ran out.
+pub fn obeyed_clients_are_told()
+    ensures { (door : Door) (account : Account) (before : Machine) (events : List Event) (how : Served) (after : Machine)
+        (segment : Segment door account before events how after) → IsSegmentObeyed segment → blamed segment ≡ no_faults
+        → IsTold door account events how after }
 {
     obeyed_rounds_stand();
 }

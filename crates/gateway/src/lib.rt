@@ -17,7 +17,9 @@ mod show;
 pub use bare_gate::BareGate;
 pub use gate::Gate;
 pub use gate_words::{Place, Task, WordsError, read_words};
-pub use laws::{no_fault_no_blame, no_life_without_need, obeyed_requests_answered};
+pub use laws::{
+    no_fault_no_blame, no_life_without_need, obeyed_clients_are_told, obeyed_requests_answered,
+};
 pub use program::run;
 pub use served::{OpenError, Served};
 pub use serving::serve;
