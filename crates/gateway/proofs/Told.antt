@@ -1,5 +1,4 @@
 -- What comes of a client of whom nothing fails.
-use Rattle.std.specs.Prelude.{Unit, tt}
 use Rattle.std.proofs.Common.{arith, ◌≡◌, ◌≢◌, ◌+◌, ◌++◌, ◌∷◌, ℕ, List, [], Result, Ok, Err, ◌⊎◌, inl, inr, ◌∙◌, ap, subst}
 use Rattle.gate_world.specs.Causes.{Faults, no_faults}
 use Rattle.gate_world.specs.Octets.{Hears}
