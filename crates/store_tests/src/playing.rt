@@ -52,18 +52,15 @@ fn world_of(alloc: Global, lives: &Lives<'_>) -> Result<ScriptWorld, Fail> {
     Ok(ScriptWorld::new(alloc, script))
 }
 
-fn put_end(alloc: Global, answers: &mut String, done: Result<(), LinkEnd>) -> Result<bool, Fail> {
+fn put_end(alloc: Global, answers: &mut String, done: Result<(), LinkEnd>) -> Result<(), Fail> {
     match done {
-        Ok(()) => {
-            answers.push_str("ok ")?;
-            Ok(true)
-        }
+        Ok(()) => answers.push_str("ok ")?,
         Err(end) => {
             let text = format!(in alloc; "{end:?} ")?;
             answers.push_str(&text)?;
-            Ok(false)
         }
     }
+    Ok(())
 }
 
 fn put_body(alloc: Global, answers: &mut String, done: Result<Bytes, LinkEnd>) -> Result<(), Fail> {
@@ -102,14 +99,21 @@ fn live(
     answers: &mut String,
 ) -> Result<(), Fail> {
     client.leave(world);
-    if put_end(alloc, answers, client.connect(world, lives.user))?
-        && put_end(alloc, answers, client.round(world, mirror))?
-        && lives.body.1 != 0
-    {
-        let body = client.fetch_body(world, mirror, lives.body.0, lives.body.1);
-        put_body(alloc, answers, body)?;
+    let connected = client.connect(world, lives.user);
+    put_end(alloc, answers, connected)?;
+    if !client.alive() {
+        return Ok(());
     }
-    Ok(())
+    let done = client.round(world, mirror);
+    put_end(alloc, answers, done)?;
+    if lives.body.1 == 0 {
+        return Ok(());
+    }
+    if !client.alive() {
+        return Ok(());
+    }
+    let body = client.fetch_body(world, mirror, lives.body.0, lives.body.1);
+    put_body(alloc, answers, body)
 }
 
 /// One life after another over one mirror.
