@@ -30,7 +30,8 @@ IfServed P None = ⊥
 IfServed P (Some serving) = P serving
 
 -- The request was not late when its next octets were waited for, no longer than until they were due; and they are noted.
-pub record ReceivesInTime {S : Type 0} (receives : S → ℕ → Option ℕ → Type 0) (reads : Option ℕ → Type 0) (count : ℕ) (octets : List ℕ) (old new : Serving S) : Type 0 where
+pub record ReceivesInTime {S : Type 0} (receives : S → ℕ → Option ℕ → Type 0) (reads : Option ℕ → Type 0) (count : ℕ) (octets : List ℕ)
+    (old new : Serving S) : Type 0 where
   pub now : ℕ
   pub is_now : reads (Some now)
   pub limit : ℕ

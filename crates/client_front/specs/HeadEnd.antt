@@ -17,7 +17,8 @@ is_body _ = false
 
 -- A request after an octet that has come by now: in the body there is one octet more, and where the octet ends the head the body's time begins.
 abbrev pub led_to : ℕ → Progress → Stage → Progress
-led_to now progress Body = if is_body progress.stage then record { stage = Body; pace = with_octets 1 progress.pace } else record { stage = Body; pace = record { since = now; octets = 0 } }
+led_to now progress Body = if is_body progress.stage then record { stage = Body; pace = with_octets 1 progress.pace } else
+    record { stage = Body; pace = record { since = now; octets = 0 } }
 led_to now progress stage = record { stage = stage; pace = progress.pace }
 
 abbrev pub after_octet : ℕ → Progress → ℕ → Progress
@@ -29,4 +30,5 @@ after_octets now (octet ∷ octets) progress = after_octets now octets (after_oc
 
 -- a request after octets that have come by now
 abbrev pub noted : List ℕ → ℕ → Progress → Progress
-noted octets now progress = if is_body progress.stage then record progress { pace = with_octets (length octets) progress.pace } else after_octets now octets progress
+noted octets now progress = if is_body progress.stage then record progress { pace = with_octets (length octets) progress.pace } else
+    after_octets now octets progress

@@ -15,7 +15,7 @@ use Rattle.email_get.specs.Texts.{text_data, optional_text, text_list}
 abbrev pub atoms : List Spelled → List (List ℕ)
 atoms lexemes = map (λ (s : Spelled). s.text) (filter is_atom lexemes)
 
--- the language tags in a Content-Language (RFC 3282): the atoms between its commas, without comments
+-- the language tags in a Content-Language (RFC 3282): its atoms, without commas and comments
 abbrev pub IsLanguage : Option (List ℕ) → Data → Type 0
 IsLanguage None d = d ≡ null
 IsLanguage (Some text) d = (lexemes : List Spelled) × AreLeadingLexemes alphabet.Mime lexemes text × (d ≡ text_list (atoms lexemes))

@@ -28,7 +28,8 @@ Law = (plan : Planned) (life left : LinkLife) (exchanges : List Exchange) (clien
 lives_end : {user password : List ℕ} {left : Option LinkLife} {client : ClientState} {result : Result (Unit {0}) LinkEnd} {events : List Event} → Law
     → (lives : Lives user password left client result events) → Welcomes lives → EndsWell result
 lives_end law (Unwelcome e talk gave a b c d f) welcomed = absurd welcomed
-lives_end {client = client} {result = result} law (Welcome life after preauth exchanges talk last a b c d follows e) welcomed = law _ life after exchanges client result last follows welcomed
+lives_end {client = client} {result = result} law (Welcome life after preauth exchanges talk last a b c d follows e) welcomed =
+    law _ life after exchanges client result last follows welcomed
 
 connects_end : {user password : List ℕ} {left : Option LinkLife} {client : ClientState} {result : Result (Unit {0}) LinkEnd} {events : List Event} → Law
     → (connects : Connects user password left client result events) → IsWelcomed connects → EndsWell result
@@ -73,7 +74,8 @@ by_round {before} {after} a asks (inl ok) room none =
     elim a.settles [ inl skips ↦ absurd (skips.0 stands) | inr settles ↦ settled_ends settles room ]
 by_round {before} {after} a asks (inr (inl lost)) room none =
     let fell : a.told.standing ≡ Fell (Linked end.Lost) = ap (λ (p : Progress). p.standing) asks.after_is ∙ ap standing_by lost in
-    let blames : a.told.blamed ≡ blame_link 1 before.blamed = ap (λ (p : Progress). p.blamed) asks.after_is ∙ ap (λ (r : Result (Unit {0}) LinkEnd). blame_link (lost_by r) before.blamed) lost in
+    let blames : a.told.blamed ≡ blame_link 1 before.blamed = ap (λ (p : Progress). p.blamed) asks.after_is ∙ ap
+        (λ (r : Result (Unit {0}) LinkEnd). blame_link (lost_by r) before.blamed) lost in
     absurd (blamed_once before.blamed after a.told blames (settles_nothing a (λ is. cc)) none)
 by_round {before} {after} a asks (inr (inr memory)) room none =
     let out : a.told.standing ≡ OutOfMemory = ap (λ (p : Progress). p.standing) asks.after_is ∙ ap standing_by memory in
@@ -90,17 +92,20 @@ rounds_end law a obeyed room stands none =
 
 -- ---- the whole way
 
-by_dial : {user password : List ℕ} {before : Machine} {events : List Event} {after : Progress} → Law → (b : Begins user password before events after) → IsObeyed b → EndsWell b.dials.result → after.blamed ≡ no_faults
+by_dial : {user password : List ℕ} {before : Machine} {events : List Event} {after : Progress} → Law → (b : Begins user password before events after) → IsObeyed b
+    → EndsWell b.dials.result → after.blamed ≡ no_faults
     → IsServed after ⊎ (after.standing ≡ OutOfMemory)
 by_dial law b obeyed (inl ok) none = rounds_end law b.asks obeyed.round obeyed.room (ap (λ (p : Progress). p.standing) b.dials.after_is ∙ ap standing_by ok) none
 by_dial {after = after} law b obeyed (inr (inl lost)) none =
     let fell : b.connected.standing ≡ Fell (Linked end.Lost) = ap (λ (p : Progress). p.standing) b.dials.after_is ∙ ap standing_by lost in
-    let blames : b.connected.blamed ≡ blame_link 1 no_faults = ap (λ (p : Progress). p.blamed) b.dials.after_is ∙ ap (λ (r : Result (Unit {0}) LinkEnd). blame_link (lost_by r) no_faults) lost in
+    let blames : b.connected.blamed ≡ blame_link 1 no_faults = ap (λ (p : Progress). p.blamed) b.dials.after_is ∙ ap
+        (λ (r : Result (Unit {0}) LinkEnd). blame_link (lost_by r) no_faults) lost in
     absurd (blamed_once no_faults after b.connected blames (asks_nothing b.asks (λ is. cc)) none)
 by_dial law b obeyed (inr (inr memory)) none =
     let out : b.connected.standing ≡ OutOfMemory = ap (λ (p : Progress). p.standing) b.dials.after_is ∙ ap standing_by memory in
     inr (ap (λ (p : Progress). p.standing) (asks_nothing b.asks (λ is. cc)) ∙ out)
 
-pub obeyed_stands : Law → (user password : List ℕ) (before : Machine) (events : List Event) (after : Progress) (begins : Begins user password before events after) → IsObeyed begins → after.blamed ≡ no_faults
+pub obeyed_stands : Law → (user password : List ℕ) (before : Machine) (events : List Event) (after : Progress) (begins : Begins user password before events after) → IsObeyed begins
+    → after.blamed ≡ no_faults
     → IsServed after ⊎ (after.standing ≡ OutOfMemory)
 obeyed_stands law user password before events after b obeyed none = by_dial law b obeyed (connects_end law b.dials.connects obeyed.welcomed) none

@@ -1,5 +1,6 @@
 -- A request's way to the mail, stage by stage.
-use Rattle.std.proofs.Common.{arith, ◌≡◌, ◌≢◌, ◌⊎◌, ◌++◌, ◌≤◌, ◌+◌, ℕ, Bool, true, false, List, [], Option, Some, None, Result, Ok, Err, refl, sym, ◌∙◌, ap, subst, inl, inr, append_assoc}
+use Rattle.std.proofs.Common.{arith, ◌≡◌, ◌≢◌, ◌⊎◌, ◌++◌, ◌≤◌, ◌+◌, ℕ, Bool, true, false, List, [], Option, Some, None, Result, Ok, Err, refl, sym, ◌∙◌, ap, subst, inl, inr,
+    append_assoc}
 use Rattle.std.specs.Prelude.{IsErrOf, OnErr, IsSome}
 use Rattle.std.proofs.lemmas.List.{append-nil}
 use Rattle.gate_world.specs.Causes.{Faults, RoseBy, Rose, LinkAlone, NoFault, no_faults}
@@ -60,7 +61,8 @@ bears_none f = record { link = rose_none f.link; keep = rose_none f.keep; front 
 -- ---- the dial
 
 -- no life is left to a client that isn't alive
-holds_none : (result : Result (Unit {0}) LinkEnd) (e : LinkEnd) (left : Option LinkLife) (client : ClientState) → result ≡ Err e → left ≡ None → OnErr result (client ≡ fresh) → Holds left client
+holds_none : (result : Result (Unit {0}) LinkEnd) (e : LinkEnd) (left : Option LinkLife) (client : ClientState) → result ≡ Err e → left ≡ None → OnErr result (client ≡ fresh)
+    → Holds left client
 holds_none result e left client is none ended =
     let dead : client ≡ fresh = subst (λ (r : Result (Unit {0}) LinkEnd). OnErr r (client ≡ fresh)) is ended in
     subst (λ (l : Option LinkLife). Holds l client) (sym none) (ap (λ (c : ClientState). c.alive) dead)
@@ -68,7 +70,8 @@ holds_none result e left client is none ended =
 holds_lived : {user password : List ℕ} {left : Option LinkLife} {client : ClientState} {result : Result (Unit {0}) LinkEnd} {events : List Event}
     → Lives user password left client result events → OnErr result (client ≡ fresh) → Holds left client
 holds_lived {left = left} {client = client} {result = result} (Unwelcome e talk gave a b c is none) ended = holds_none result e left client is none ended
-holds_lived {client = client} (Welcome life after preauth exchanges talk last a b c d follows some) ended = subst (λ (l : Option LinkLife). Holds l client) (sym some) follows.stands
+holds_lived {client = client} (Welcome life after preauth exchanges talk last a b c d follows some) ended = subst (λ (l : Option LinkLife). Holds l client)
+    (sym some) follows.stands
 
 holds_connected : {user password : List ℕ} {left : Option LinkLife} {client : ClientState} {result : Result (Unit {0}) LinkEnd} {events : List Event}
     → Connects user password left client result events → OnErr result (client ≡ fresh) → Holds left client
@@ -77,7 +80,8 @@ holds_connected {left = left} {client = client} {result = result} (Undialed a is
 holds_connected (Lived life a lives) ended = holds_lived lives ended
 
 -- the life begins
-pub dialed : {user password : List ℕ} {left : Option LinkLife} {client : ClientState} {result : Result (Unit {0}) LinkEnd} {events : List Event} (before machine : Machine) (how : Standing) (was now : Faults)
+pub dialed : {user password : List ℕ} {left : Option LinkLife} {client : ClientState} {result : Result (Unit {0}) LinkEnd} {events : List Event} (before machine : Machine)
+    (how : Standing) (was now : Faults)
     → Connects user password left client result events → OnErr result (client ≡ fresh) → LinkAlone was now → (IsErrOf result end.Lost → Rose was.link now.link)
     → how ≡ standing_by result → machine ≡ machine_by result before
     → (after : Progress) × Dials user password (idle before) events after × CameTo machine client how was now after
@@ -99,7 +103,8 @@ in_life : (left : Option LinkLife) (client : ClientState) → Holds left client 
 in_life None client dead alive = absurd (cc (dead, alive))
 in_life (Some life) client stands alive = (life, refl, stands)
 
-pub asked : {client next : ClientState} {result : Result (Unit {0}) LinkEnd} {events : List Event} (before : Progress) (machine after : Machine) (how : Standing) (was then now : Faults) (k : KnownMail) (told : Mail)
+pub asked : {client next : ClientState} {result : Result (Unit {0}) LinkEnd} {events : List Event} (before : Progress) (machine after : Machine) (how : Standing)
+    (was then now : Faults) (k : KnownMail) (told : Mail)
     → CameTo machine client standing.Stands was then before → machine.known ≡ Some k → client.alive ≡ true
     → ((life : LinkLife) → Stands client life → (left : LinkLife) × Rounds k.told told life left next result events)
     → LinkAlone then now → (IsErrOf result end.Lost → Rose then.link now.link)

@@ -33,8 +33,8 @@ pub trait Taped {
 
 /// The link to the store: one link life after another, each from a dial to its end.
 pub trait Link: Taped {
-    /// Begins a link life, and ends the one that there may be. It fails where the store isn't reached; no link life is there
-    /// then.
+    /// Begins a link life in place of the one that there may be, whose end the tape doesn't tell. It fails where the store isn't
+    /// reached; no link life is there then.
     fn dial(&mut self) -> Result<(), Failed>
         ensures ok { OnOk result (AddsOne (Self.tape self.old) (Self.tape self.new) Dialed) }
         ensures err { OnErr result (AddsOne (Self.tape self.old) (Self.tape self.new) LinkEnded) }
@@ -113,7 +113,8 @@ pub trait Front: Taped {
 
 /// Random words.
 pub trait Chance: Taped {
-    /// A random word, each of the 2^64 as likely. It can't fail.
+    /// A word, which the built program draws from the host. No clause says that it is random: a world in memory gives the words
+    /// of its script. It can't fail.
     fn word(&mut self) -> u64
         ensures tape { AddsOne (Self.tape self.old) (Self.tape self.new) (Word result) }
         ensures cause { NoFault (Self.faults self.old) (Self.faults self.new) }

@@ -1,5 +1,6 @@
 -- One client is answered, part by part.
-use Rattle.std.proofs.Common.{arith, ◌≡◌, ◌≢◌, ◌⊎◌, ◌++◌, ◌∷◌, ◌≤◌, ◌+◌, ℕ, Bool, true, false, List, [], Option, Some, None, Result, Ok, Err, refl, sym, ◌∙◌, ap, subst, inl, inr, append_assoc}
+use Rattle.std.proofs.Common.{arith, ◌≡◌, ◌≢◌, ◌⊎◌, ◌++◌, ◌∷◌, ◌≤◌, ◌+◌, ℕ, Bool, true, false, List, [], Option, Some, None, Result, Ok, Err, refl, sym, ◌∙◌, ap, subst, inl, inr,
+    append_assoc}
 use Rattle.std.specs.Prelude.{IfOk, OnErr}
 use Rattle.std.specs.declared.alloc.AllocError.{AllocError}
 use Rattle.std.proofs.lemmas.List.{append-nil}
@@ -29,7 +30,8 @@ use Rattle.gateway.specs.declared.served.Served.TheVariants as served
 use Rattle.gateway.specs.Calls.{Mailing, needs_mail}
 use Rattle.gateway.specs.Front.{Asked}
 use Rattle.gateway.specs.Requests.{Account, Bare, Asking, FrontLost, NoMemory, Reads, asks_for_mail, calls_text, line_end, no_memory_text}
-use Rattle.gateway.specs.Segment.{Replies, Answered, LacksReading, LacksAnswering, Segment, NoneComes, NotAccepted, Unasked, Replied, reply_blamed, blamed, went, unsent, blame_front}
+use Rattle.gateway.specs.Segment.{Replies, Answered, LacksReading, LacksAnswering, Segment, NoneComes, NotAccepted, Unasked, Replied, reply_blamed, blamed, went, unsent,
+    blame_front}
 use Rattle.gateway.specs.Run.{StepsTo}
 use Rattle.gateway.specs.Work.{Work, NoMail, WithMail, mailing_by}
 use Rattle.gateway.specs.reading.Replying.{IsWorked, WorksTo, IsLined, LinesTo, text_in, RepliesBy, RepliesToRequest, RepliesToBody, Refuses, Fails, SendsReply, Serves}
@@ -47,7 +49,8 @@ rose_none was now later = omega arith
 
 pub bears_none : (was now : Faults) → Later was now → Bears no_faults was now
 bears_none was now later =
-    record { link = rose_none was.link now.link later.link; keep = rose_none was.keep now.keep later.keep; front = rose_none was.front now.front later.front; say = rose_none was.say now.say later.say }
+    record { link = rose_none was.link now.link later.link; keep = rose_none was.keep now.keep later.keep; front = rose_none was.front now.front later.front; say =
+        rose_none was.say now.say later.say }
 
 pub bears_later : (b was mid now : Faults) → Bears b was mid → Later mid now → Bears b was now
 bears_later b was mid now bears later =
@@ -84,7 +87,8 @@ later_front was now alone = record { link = omega (arith, alone.link); keep = om
 
 pub later_both : (was mid now : Faults) → Later was mid → Later mid now → Later was now
 later_both was mid now one two =
-    record { link = omega (arith, one.link, two.link); keep = omega (arith, one.keep, two.keep); front = omega (arith, one.front, two.front); say = omega (arith, one.say, two.say) }
+    record { link = omega (arith, one.link, two.link); keep = omega (arith, one.keep, two.keep); front = omega (arith, one.front, two.front); say = omega
+        (arith, one.say, two.say) }
 
 -- ---- the work
 
@@ -128,7 +132,8 @@ is_lined : (line : Result (List ℕ) AllocError) (given mail : Mailing) (user ba
 is_lined (Ok line) given mail user base asked done same stands is = (is ∙ (λ i. calls_text user base (same i) asked ++ line_end), stands)
 is_lined (Err e) given mail user base asked done same stands is = tt
 
-pub lines_worked : {user password : List ℕ} {before machine : Machine} {was now : Faults} {events : List Event} (asks : Bool) (base : List ℕ) (asked : RequestData) (given : Mailing) (line : Result (List ℕ) AllocError)
+pub lines_worked : {user password : List ℕ} {before machine : Machine} {was now : Faults} {events : List Event} (asks : Bool) (base : List ℕ) (asked : RequestData)
+    (given : Mailing) (line : Result (List ℕ) AllocError)
     → needs_mail asked.calls ≡ asks → WorksTo user password asks before machine was now (Ok given) events
     → IfOk line (λ l. l ≡ calls_text user base given asked ++ line_end)
     → LinesTo user password base asked before machine was now line events
@@ -142,7 +147,8 @@ lines_worked {user} asks base asked given line asks_is w is =
       lined = is_lined line given w.mail user base asked w.done w.worked.0 w.worked.1 is;
     }
 
-pub lines_lacking : {user password : List ℕ} {before machine : Machine} {was now : Faults} {events : List Event} (asks : Bool) (base : List ℕ) (asked : RequestData) (e : AllocError) (result : Result Mailing AllocError)
+pub lines_lacking : {user password : List ℕ} {before machine : Machine} {was now : Faults} {events : List Event} (asks : Bool) (base : List ℕ) (asked : RequestData)
+    (e : AllocError) (result : Result Mailing AllocError)
     → needs_mail asked.calls ≡ asks → WorksTo user password asks before machine was now result events
     → LinesTo user password base asked before machine was now (Err e) events
 lines_lacking asks base asked e result asks_is w =
@@ -183,14 +189,16 @@ body_fails view user password base body before after f error (reply.Line text) s
     record {
       of = λ asked reads.
           let is : requested body ≡ Err error = elim agrees [ inl memory ↦ absurd (fails.0 memory) | inr is ↦ is ] in
-          (Answered asked [] (Err error) (Err ServerUnavailable) (idle before) refl (inl (body, reads, sym is)) (NoMail refl refl refl refl) (λ out. cc) fails.1 fails.2, bears_none f f same);
+          (Answered asked [] (Err error) (Err ServerUnavailable) (idle before) refl (inl (body, reads, sym is)) (NoMail refl refl refl refl) (λ out. cc) fails.1 fails.2,
+              bears_none f f same);
     }
 body_fails view user password base body before after f error reply.NoMemory same agrees fails =
     record { of = λ asked reads. (LacksReading (inr (body, subst (λ (l : List Event). Asked (Ok body) l) (sym (append-nil asked)) reads)) refl fails, bears_none f f same) }
 body_fails view user password base body before after f error reply.Nothing same agrees fails = absurd fails
 
 -- a request
-pub body_asks : {X : Type 0} {user password base : List ℕ} {before after : Machine} {was now : Faults} {r : Reply} {events : List Event} (view : X → RequestData) (body : List ℕ) (x : X)
+pub body_asks : {X : Type 0} {user password base : List ℕ} {before after : Machine} {was now : Faults} {r : Reply} {events : List Event} (view : X → RequestData) (body : List ℕ)
+    (x : X)
     → Agrees request.Memory view (Ok x) (requested body) → RepliesToRequest user password base (view x) before after was now r events
     → RepliesToBody user password base body before after was now r events
 body_asks view body x agrees replies = record { of = λ asked reads. replies.of asked (inl (body, reads, sym agrees)) }
@@ -204,7 +212,8 @@ earlier_reply account before after was mid now (reply.Line text) events later re
 earlier_reply account before after was mid now reply.NoMemory events later replies = (replies.0, bears_earlier (reply_blamed replies.0) was mid now later replies.1)
 earlier_reply account before after was mid now reply.Nothing events later replies = replies
 
-pub read_body : {user password base body : List ℕ} {before after : Machine} {mid now : Faults} {r : Reply} {ys : List Event} (xs : List Event) (was : Faults) → Later was mid → Asked (Ok body) xs
+pub read_body : {user password base body : List ℕ} {before after : Machine} {mid now : Faults} {r : Reply} {ys : List Event} (xs : List Event) (was : Faults) → Later was mid
+    → Asked (Ok body) xs
     → RepliesToBody user password base body before after mid now r ys → RepliesBy (record { user = user; password = password; base = base }) before after was now r (xs ++ ys)
 read_body {user} {password} {base} {body} {before} {after} {mid} {now} {r} {ys} xs was later asked replies =
     earlier_reply (record { user = user; password = password; base = base }) before after was mid now r (xs ++ ys) later (replies.of xs asked)
@@ -212,9 +221,11 @@ read_body {user} {password} {base} {body} {before} {after} {mid} {now} {r} {ys} 
 pub read_large : {events : List Event} (account : Account) (before after : Machine) (was now : Faults) (r : Reply) → Later was now → Asked (Err ask.TooLarge) events
     → Refuses (request.Limit MaxSizeRequest) before after r → RepliesBy account before after was now r events
 read_large {events} account before after was now (reply.Line text) later asked refuses =
-    (Answered events [] (Err (request.Limit MaxSizeRequest)) (Err ServerUnavailable) (idle before) (sym (append-nil events)) (inr (asked, refl)) (NoMail refl refl refl refl) (λ out. cc) refuses.0 refuses.1, bears_none was now later)
+    (Answered events [] (Err (request.Limit MaxSizeRequest)) (Err ServerUnavailable) (idle before) (sym (append-nil events)) (inr (asked, refl)) (NoMail refl refl refl refl)
+        (λ out. cc) refuses.0 refuses.1, bears_none was now later)
 read_large {events} account before after was now reply.NoMemory later asked refuses =
-    (LacksAnswering events [] (Err (request.Limit MaxSizeRequest)) (Err ServerUnavailable) (idle before) (sym (append-nil events)) (inr (asked, refl)) (NoMail refl refl refl refl) refl refuses, bears_none was now later)
+    (LacksAnswering events [] (Err (request.Limit MaxSizeRequest)) (Err ServerUnavailable) (idle before) (sym (append-nil events)) (inr (asked, refl))
+        (NoMail refl refl refl refl) refl refuses, bears_none was now later)
 read_large account before after was now reply.Nothing later asked refuses = absurd refuses
 
 pub read_lacking : {events : List Event} (account : Account) (before after : Machine) (was now : Faults) → Later was now → Asked (Err ask.Memory) events → after ≡ forgotten before
@@ -241,8 +252,10 @@ bears_front n b was mid now bears alone rose =
     }
 
 -- a client was sent its reply, and is done with
-sent_client : {account : Account} {before after : Machine} {was mid now : Faults} {xs : List Event} (ys : List Event) (text : List ℕ) (sent : Result (Unit {0}) Failed) (how : Served)
-    → (replies : Replies Bare account before xs text after) → Bears (reply_blamed replies) was mid → FrontAlone mid now → (how ≢ served.Whole → Rose mid.front now.front) → Sends text sent ys → how ≡ went sent
+sent_client : {account : Account} {before after : Machine} {was mid now : Faults} {xs : List Event} (ys : List Event) (text : List ℕ) (sent : Result (Unit {0}) Failed)
+    (how : Served)
+    → (replies : Replies Bare account before xs text after) → Bears (reply_blamed replies) was mid → FrontAlone mid now → (how ≢ served.Whole → Rose mid.front now.front)
+    → Sends text sent ys → how ≡ went sent
     → Serves account before after was now how ((xs ++ ys) ++ ClientDone ∷ [])
 sent_client {was = was} {mid = mid} {now = now} {xs = xs} ys text sent how replies bears alone cause sends is =
     record {
@@ -280,13 +293,15 @@ serves_reply account before after was mid now xs ys reply.Nothing how later alon
 pub steps_fault : {account : Account} {events : List Event} (machine : Machine) (was now : Faults) → events ≡ FrontFailed ∷ [] → FrontAlone was now → Rose was.front now.front
     → StepsTo Bare account machine (λ m. machine ≡ m) was now served.AcceptFault events
 steps_fault machine was now is alone rose =
-    record { after = machine; segment = NotAccepted is refl refl; stands = refl; bears = bears_front 1 no_faults was was now (bears_none was was (later_same was was refl)) alone rose }
+    record { after = machine; segment = NotAccepted is refl refl; stands = refl; bears = bears_front 1 no_faults was was now
+        (bears_none was was (later_same was was refl)) alone rose }
 
 pub steps_none : {account : Account} {events : List Event} (machine : Machine) (was now : Faults) → events ≡ NoMore ∷ [] → FrontAlone was now
     → StepsTo Bare account machine (λ m. machine ≡ m) was now served.NoMore events
 steps_none machine was now is alone = record { after = machine; segment = NoneComes is refl refl; stands = refl; bears = bears_none was now (later_front was now alone) }
 
-pub steps_client : {account : Account} {before : Machine} {mid now : Faults} {xs ys : List Event} (after : Machine) (was : Faults) (how : Served) → xs ≡ Accepted ∷ [] → FrontAlone was mid
+pub steps_client : {account : Account} {before : Machine} {mid now : Faults} {xs ys : List Event} (after : Machine) (was : Faults) (how : Served) → xs ≡ Accepted ∷ []
+    → FrontAlone was mid
     → Serves account before after mid now how ys → StepsTo Bare account before (λ m. after ≡ m) was now how (xs ++ ys)
 steps_client {account} {before} {mid} {now} {xs} {ys} after was how is alone serves =
     let here = serves.of (xs ++ ys) (λ i. is i ++ ys) in

@@ -99,7 +99,8 @@ ran_told : {task : Task} {password : List ℕ} {status : ℕ} {blames : Faults} 
     → events ≡ Accepted ∷ behind → Told status events
 ran_told behind events (Unopened place m is opens a b) shows well came = absurd (other_task place (sym is ∙ shows))
 ran_told behind events (ServedOnce place opened segment said m after how served is a b c d) shows well came = absurd (other_task place (sym is ∙ shows))
-ran_told {status = status} behind events (ShownOne shown said outcome is events_are so ends a) shows well came = shows_told outcome status behind said shown events so well ends events_are came
+ran_told {status = status} behind events (ShownOne shown said outcome is events_are so ends a) shows well came =
+    shows_told outcome status behind said shown events so well ends events_are came
 
 pub completes_show : {words : List (List ℕ)} {password : List ℕ} {status : ℕ} {blames : Faults} {events : List Event} → Runs words password status blames events → (status ≡ 6 → ⊥)
     → CompletesShow words status events

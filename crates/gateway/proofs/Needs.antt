@@ -34,7 +34,8 @@ no_life account before asking events mail after (WithMail begun beginning ending
 -- ---- a store that obeys
 
 abbrev pub Law : Type 0
-Law = (user password : List ℕ) (before : Machine) (events : List Event) (after : Progress) (begins : Begins user password before events after) → IsObeyed begins → after.blamed ≡ no_faults
+Law = (user password : List ℕ) (before : Machine) (events : List Event) (after : Progress) (begins : Begins user password before events after) → IsObeyed begins
+    → after.blamed ≡ no_faults
     → IsServed after ⊎ (after.standing ≡ OutOfMemory)
 
 served_from : (asking : Asking) (mail : Mailing) (begun after : Progress) → mail ≡ mailing_by begun.standing begun.machine.known → after ≡ record begun { left = None }

@@ -17,7 +17,8 @@ use Rattle.gateway.specs.declared.served.OpenError.{OpenError}
 use Rattle.gateway.specs.declared.served.OpenError.TheVariants as opening
 use Rattle.gateway.specs.Requests.{Account, Bare}
 use Rattle.gateway.specs.Segment.{Segment, blamed, blame_front}
-use Rattle.gateway.specs.Run.{Opens, StepsTo, EndsOnce, EndsShow, IsSaid, front_failed, account_of, show_blamed, words_refused, Ran, Unopened, ServedOnce, ShownOne, Runs, Refused, OutOfMemory, Done, RunsShow, Performs, IsWholeRun}
+use Rattle.gateway.specs.Run.{Opens, StepsTo, EndsOnce, EndsShow, IsSaid, front_failed, account_of, show_blamed, words_refused, Ran, Unopened, ServedOnce, ShownOne, Runs, Refused,
+    OutOfMemory, Done, RunsShow, Performs, IsWholeRun}
 use Rattle.gateway.proofs.Answering.{bears_none, bears_later, bears_earlier, later_same, bears_failed}
 
 later_say : (was now : Faults) → SayAlone was now → Later was now
@@ -63,7 +64,8 @@ pub performs_unopened : {password : List ℕ} {was now : Faults} {events : List 
 performs_unopened {was = was} {now = now} place opening.Memory m same opens =
     record { blames = no_faults; ran = Unopened place m refl opens refl refl; bears = bears_none was now (later_same was now same) }
 
-bears_shown : (outcome : Result (Unit {0}) FrontError) (status : ℕ) (said : List Event) (was now : Faults) → Later was now → (status ≡ 6 → Rose was.front now.front) → EndsShow outcome status said
+bears_shown : (outcome : Result (Unit {0}) FrontError) (status : ℕ) (said : List Event) (was now : Faults) → Later was now → (status ≡ 6 → Rose was.front now.front)
+    → EndsShow outcome status said
     → Bears (show_blamed outcome) was now
 bears_shown (Ok u) status said was now later failed ends = bears_none was now later
 bears_shown (Err front.Memory) status said was now later failed ends = bears_none was now later
@@ -74,11 +76,13 @@ pub performs_show : {password : List ℕ} {was now : Faults} {status : ℕ} {eve
 performs_show {was = was} {now = now} {status = status} later failed (shown, said, outcome, is, shows, ends) =
     record { blames = show_blamed outcome; ran = ShownOne shown said outcome refl is shows ends refl; bears = bears_shown outcome status said was now later failed ends }
 
-pub runs_task : {words : List (List ℕ)} {task : Task} {password : List ℕ} {was now : Faults} {status : ℕ} {events : List Event} → IsTask words task → Performs task password was now status events
+pub runs_task : {words : List (List ℕ)} {task : Task} {password : List ℕ} {was now : Faults} {status : ℕ} {events : List Event} → IsTask words task
+    → Performs task password was now status events
     → IsWholeRun words password was now status events
 runs_task {task = task} is p = record { blames = p.blames; runs = Done task is p.ran; bears = p.bears }
 
-pub runs_refused : {words : List (List ℕ)} {password : List ℕ} {was now : Faults} {events : List Event} → ((task : Task) → IsTask words task → ⊥) → SayAlone was now → IsSaid words_refused events
+pub runs_refused : {words : List (List ℕ)} {password : List ℕ} {was now : Faults} {events : List Event} → ((task : Task) → IsTask words task → ⊥) → SayAlone was now
+    → IsSaid words_refused events
     → IsWholeRun words password was now 2 events
 runs_refused {was = was} {now = now} none alone said = record { blames = no_faults; runs = Refused none refl said refl; bears = bears_none was now (later_say was now alone) }
 

@@ -55,7 +55,8 @@ then_client {door} {account} {T = T} {was = was} {mid = mid} {now = now} {s = s}
     }
 
 -- the last
-pub then_last : {door : Door} {account : Account} {m : Machine} {S T : Machine → Type 0} {n : ℕ} {was mid now : Faults} {s : Served} {xs ys : List Event} {b : Account} (most status : ℕ)
+pub then_last : {door : Door} {account : Account} {m : Machine} {S T : Machine → Type 0} {n : ℕ} {was mid now : Faults} {s : Served} {xs ys : List Event} {b : Account}
+    (most status : ℕ)
     → b ≡ account → ((went : List Served) → All IsClient went → length went ≡ n → Ends most (went ++ s ∷ []) status) → RunsTo door account m S n was mid xs
     → ((k : Machine) → S k → StepsTo door b k T mid now s ys) → IsRun door account m most was now status (xs ++ ys)
 then_last {door} {account} {T = T} {was = was} {mid = mid} {now = now} {s = s} {ys = ys} most status same ends r steps =
@@ -75,5 +76,6 @@ pub not_accepted : (n most : ℕ) → n < most → (went : List Served) → All 
 not_accepted n most less went came counted = NotAccepted went refl came (omega (arith, counted)) refl
 
 -- as many as may come
-pub all_served : {door : Door} {account : Account} {m : Machine} {S : Machine → Type 0} {n : ℕ} {was now : Faults} {xs : List Event} (most : ℕ) → n ≡ most → RunsTo door account m S n was now xs → IsRun door account m most was now 0 xs
+pub all_served : {door : Door} {account : Account} {m : Machine} {S : Machine → Type 0} {n : ℕ} {was now : Faults} {xs : List Event} (most : ℕ) → n ≡ most
+    → RunsTo door account m S n was now xs → IsRun door account m most was now 0 xs
 all_served most is r = record { after = r.after; went = r.went; run = r.run; ends = AllServed r.came (r.counted ∙ is) refl; bears = r.bears }

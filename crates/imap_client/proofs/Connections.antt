@@ -20,7 +20,8 @@ not_ok status.Preauth other = refl
 not_ok status.Bye other = refl
 
 -- a stage at which a command is due fails where that is refused
-fails_next : (preauth : Bool) (user password : List ℕ) (at : Stage) (command : Command) (x : Exchange) → due_at user password at ≡ due.Send command → is_ok x.status ≡ false → (why : Refusal) × (stage_after preauth at x ≡ stage.Failing why)
+fails_next : (preauth : Bool) (user password : List ℕ) (at : Stage) (command : Command) (x : Exchange) → due_at user password at ≡ due.Send command → is_ok x.status ≡ false
+    → (why : Refusal) × (stage_after preauth at x ≡ stage.Failing why)
 fails_next preauth user password stage.Asking command x is bad = (refusal.Refused, rw bad refl)
 fails_next preauth user password stage.LoggingIn command x is bad = (refusal.Refused, rw bad refl)
 fails_next preauth user password stage.AskingAgain command x is bad = (refusal.Refused, rw bad refl)
@@ -31,7 +32,8 @@ fails_next preauth user password (stage.Failing why) command x is bad = absurd (
 fails_not_done : (why : Refusal) → due.Fails why ≡ due.Done → ⊥
 fails_not_done why is = cc
 
-stops_by : (preauth : Bool) (user password : List ℕ) (at : Stage) (xs : List Exchange) (command : Command) (x : Exchange) → planned_from preauth user password at xs ≡ due.Send command → is_ok x.status ≡ false → planned_from preauth user password at (xs ++ x ∷ []) ≢ due.Done
+stops_by : (preauth : Bool) (user password : List ℕ) (at : Stage) (xs : List Exchange) (command : Command) (x : Exchange)
+    → planned_from preauth user password at xs ≡ due.Send command → is_ok x.status ≡ false → planned_from preauth user password at (xs ++ x ∷ []) ≢ due.Done
 stops_by preauth user password at [] command x is bad =
     let next = fails_next preauth user password at command x is bad in
     λ done. fails_not_done next.0 (sym (ap (due_at user password) next.1) ∙ done)

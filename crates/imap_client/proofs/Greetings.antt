@@ -41,7 +41,8 @@ only_bye (Untagged status.Bye k) e is = cc
 only_bye (Untagged status.Preauth k) e is = absurd (cc is)
 only_bye _ e is = absurd (cc is)
 
-pub greeted : {es : List Event} (after : Octets) (up : Bool) (w : Response) (says : Result Bool LinkEnd) → greeting_says w ≡ says → Reads 0 true up begun after (Ok w) es → Greets after up says es
+pub greeted : {es : List Event} (after : Octets) (up : Bool) (w : Response) (says : Result Bool LinkEnd) → greeting_says w ≡ says → Reads 0 true up begun after (Ok w) es
+    → Greets after up says es
 greeted after up w (Ok preauth) is r =
     record { talk = r.talk; gave = r.gave; ended = r.ended; said = r.said; greets = (w, is, (r.reads.0, after.octets, r.reads.1, r.reads.2, refl), omega (arith, r.reads.3)) }
 greeted after up w (Err end.Bye) is r =
@@ -71,17 +72,23 @@ ended_by : (up : Bool) (xs ys talk : List Event) → xs ≡ talk ++ end_unless u
 ended_by true xs ys talk is hung = (λ i. (is ∙ append-nil talk) i ++ hung i)
 ended_by false xs ys talk is none = ap (λ (l : List Event). xs ++ l) none ∙ append-nil xs ∙ is
 
-pub unwelcome : {xs : List Event} (ys : List Event) (user password : List ℕ) (after : Octets) (up : Bool) (e : LinkEnd) (client : ClientState) → Greets after up (Err e) xs → HangsUp up ys
+pub unwelcome : {xs : List Event} (ys : List Event) (user password : List ℕ) (after : Octets) (up : Bool) (e : LinkEnd) (client : ClientState) → Greets after up (Err e) xs
+    → HangsUp up ys
     → (left : Option LinkLife) × Lives user password left client (Err e) (xs ++ ys)
-unwelcome {xs} ys user password after up e client g hangs = (None, Unwelcome e g.talk g.gave (ended_by up xs ys g.talk g.ended hangs) g.said (unwelcome_alone g.gave after e g.greets) refl refl)
+unwelcome {xs} ys user password after up e client g hangs =
+    (None, Unwelcome e g.talk g.gave (ended_by up xs ys g.talk g.ended hangs) g.said (unwelcome_alone g.gave after e g.greets) refl refl)
 
-pub lived : {xs : List Event} (ys : List Event) (user password : List ℕ) (after : Octets) (up preauth : Bool) (at : Stage) (before client : ClientState) (result : Result (Unit {0}) LinkEnd) → before ≡ begun_with after → up ≡ true → at ≡ stage.Asking → Greets after up (Ok preauth) xs
-    → ((life : LinkLife) → Stands before life → (left : LinkLife) × (exchanges : List Exchange) × Follows (planned_from preauth user password at) life left exchanges client result ys)
+pub lived : {xs : List Event} (ys : List Event) (user password : List ℕ) (after : Octets) (up preauth : Bool) (at : Stage) (before client : ClientState)
+    (result : Result (Unit {0}) LinkEnd) → before ≡ begun_with after → up ≡ true → at ≡ stage.Asking → Greets after up (Ok preauth) xs
+    → ((life : LinkLife) → Stands before life → (left : LinkLife) × (exchanges : List Exchange) × Follows
+    (planned_from preauth user password at) life left exchanges client result ys)
     → (left : Option LinkLife) × Lives user password left client result (xs ++ ys)
 lived {xs} ys user password after up preauth at before client result before_is up_is at_is g follows =
     let so = follows life (subst (λ (p : ClientState). Stands p life) (sym before_is) stands) in (
       Some so.0,
-      Welcome life so.0 preauth so.1 g.talk ys (ap (λ (l : List Event). l ++ ys) events_are) g.said (record { greeted = g.greets.2; unasked = refl; untaken = refl; whole = refl; alive = refl }) g.greets.1 (subst (λ (s : Stage). Follows (planned_from preauth user password s) life so.0 so.1 client result ys) at_is so.2) refl,
+      Welcome life so.0 preauth so.1 g.talk ys (ap (λ (l : List Event). l ++ ys) events_are) g.said
+          (record { greeted = g.greets.2; unasked = refl; untaken = refl; whole = refl; alive = refl }) g.greets.1
+          (subst (λ (s : Stage). Follows (planned_from preauth user password s) life so.0 so.1 client result ys) at_is so.2) refl,
     )
   where
     life : LinkLife
@@ -99,7 +106,9 @@ lived {xs} ys user password after up preauth at before client result before_is u
       spelled = record { remaining = after.octets; greeted = g.greets.2; completed = (refl, refl); whole = λ _. refl };
     }
 
-pub connected : {xs : List Event} (ys : List Event) (user password user' password' : List ℕ) (client : ClientState) (result : Result (Unit {0}) LinkEnd) → xs ≡ Dialed ∷ [] → user' ≡ user → password' ≡ password → (left : Option LinkLife) × Lives user' password' left client result ys
+pub connected : {xs : List Event} (ys : List Event) (user password user' password' : List ℕ) (client : ClientState) (result : Result (Unit {0}) LinkEnd) → xs ≡ Dialed ∷ []
+    → user' ≡ user → password' ≡ password → (left : Option LinkLife) × Lives user' password' left client result ys
     → (left : Option LinkLife) × Connects user password left client result (xs ++ ys)
 connected ys user password user' password' client result is same same' (left, lives) =
-    (left, Lived ys (ap (λ (l : List Event). l ++ ys) is) (subst (λ (p : List ℕ). Lives user p left client result ys) same' (subst (λ (u : List ℕ). Lives u password' left client result ys) same lives)))
+    (left, Lived ys (ap (λ (l : List Event). l ++ ys) is)
+        (subst (λ (p : List ℕ). Lives user p left client result ys) same' (subst (λ (u : List ℕ). Lives u password' left client result ys) same lives)))

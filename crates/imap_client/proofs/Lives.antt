@@ -1,5 +1,6 @@
 -- A link life, exchange by exchange.
-use Rattle.std.proofs.Common.{◌≡◌, ◌++◌, ◌+◌, ℕ, Bool, true, false, List, [], ◌∷◌, Option, None, Ok, Err, length, fold, refl, sym, ◌∙◌, ap, subst, append_assoc, length-append, arith}
+use Rattle.std.proofs.Common.{◌≡◌, ◌++◌, ◌+◌, ℕ, Bool, true, false, List, [], ◌∷◌, Option, None, Ok, Err, length, fold, refl, sym, ◌∙◌, ap, subst, append_assoc, length-append,
+    arith}
 use Rattle.std.proofs.lemmas.List.{append-nil}
 use Rattle.std.proofs.lemmas.List.Sums.{fold-append}
 use Rattle.gate_world.specs.declared.event.Event.{Event}
@@ -14,28 +15,33 @@ use Rattle.imap_exchange.specs.declared.link_end.LinkEnd.{LinkEnd}
 use Rattle.told_folder.specs.declared.exchange.Exchange.{Exchange}
 use Rattle.imap_exchange.specs.Received.{Octets}
 use Rattle.imap_exchange.specs.Exchanges.{Done, IsVerdict, VerdictOf, IsTaken}
-use Rattle.imap_client.specs.LinkLife.{with_part, hung_up, LinkLife, IsLife, IsExchange, Completed, ClientState, Stands, fresh, next_number, selected, selected_after, unread, with_exchange}
+use Rattle.imap_client.specs.LinkLife.{with_part, hung_up, LinkLife, IsLife, IsExchange, Completed, ClientState, Stands, fresh, next_number, selected, selected_after, unread,
+    with_exchange}
 use Rattle.imap_exchange.specs.Answering.{selected_by, end_unless}
 use Rattle.imap_exchange.specs.Answering.{Converses, answer_of, IsOf, HangsUp}
 use Rattle.imap_client.specs.Calls.{IsExchanged}
 use Rattle.imap_exchange.proofs.Verdicts.{Begins-more, Passes-more}
 
 -- further octets after a tagged line
-pub verdict_more : {tag : List ℕ} {pieces : List (List ℕ)} {octets rest : List ℕ} {responses : List Response} {s : Status} {code : Code} (g : List ℕ) → IsVerdict tag pieces octets (Done responses s code rest) → IsVerdict tag pieces (octets ++ g) (Done responses s code (rest ++ g))
+pub verdict_more : {tag : List ℕ} {pieces : List (List ℕ)} {octets rest : List ℕ} {responses : List Response} {s : Status} {code : Code} (g : List ℕ) → IsVerdict tag pieces octets
+    (Done responses s code rest) → IsVerdict tag pieces (octets ++ g) (Done responses s code (rest ++ g))
 verdict_more {tag} {pieces} {octets} {rest} {responses} {s} {code} g v =
-    record { responses = v.responses; remaining = v.remaining ++ g; passed = Passes-more g v.passed; decided = (v.decided.0, Begins-more (Tagged tag s code ∷ []) rest v.remaining g v.decided.1, v.decided.2) }
+    record { responses = v.responses; remaining = v.remaining ++ g; passed = Passes-more g v.passed; decided =
+        (v.decided.0, Begins-more (Tagged tag s code ∷ []) rest v.remaining g v.decided.1, v.decided.2) }
 
 exchange_more : {n : ℕ} {x : Exchange} {rest gave took : List ℕ} (g : List ℕ) → IsExchange n x rest gave took → IsExchange n x (rest ++ g) (gave ++ g) took
 exchange_more g so = record { verdict = verdict_more g so.verdict; taken = so.taken }
 
 -- one exchange more
-completed_more : (n : ℕ) (xs : List Exchange) (x : Exchange) (rest gave took g rest' t : List ℕ) → Completed n xs rest gave took → IsExchange (n + length xs) x rest' (rest ++ g) t → Completed n (xs ++ x ∷ []) rest' (gave ++ g) (took ++ t)
+completed_more : (n : ℕ) (xs : List Exchange) (x : Exchange) (rest gave took g rest' t : List ℕ) → Completed n xs rest gave took → IsExchange (n + length xs) x rest' (rest ++ g) t
+    → Completed n (xs ++ x ∷ []) rest' (gave ++ g) (took ++ t)
 completed_more n [] x rest gave took g rest' t (gave_is, took_is) so =
     let here = subst (λ (k : ℕ). IsExchange k x rest' (rest ++ g) t) (omega arith) so in
     (rest', t, [], subst (λ (l : List ℕ). IsExchange n x rest' (l ++ g) t) (sym gave_is) here, ap (λ (l : List ℕ). l ++ t) took_is ∙ sym (append-nil t), (refl, refl))
 completed_more n (y ∷ xs) x rest gave took g rest' t (remaining, first, others, here, took_is, more) so =
     let next : IsExchange (n + 1 + length xs) x rest' (rest ++ g) t = subst (λ (k : ℕ). IsExchange k x rest' (rest ++ g) t) (omega arith) so in
-    (remaining ++ g, first, others ++ t, exchange_more g here, ap (λ (l : List ℕ). l ++ t) took_is ∙ append_assoc first others t, completed_more (n + 1) xs x rest remaining others g rest' t more next)
+    (remaining ++ g, first, others ++ t, exchange_more g here, ap (λ (l : List ℕ). l ++ t) took_is ∙ append_assoc first others t, completed_more
+        (n + 1) xs x rest remaining others g rest' t more next)
 
 -- further octets after the last exchange
 completed_rest : (n : ℕ) (xs : List Exchange) (rest gave took g : List ℕ) → Completed n xs rest gave took → Completed n xs (rest ++ g) (gave ++ g) took
@@ -43,13 +49,15 @@ completed_rest n [] rest gave took g (gave_is, took_is) = (ap (λ (l : List ℕ)
 completed_rest n (x ∷ xs) rest gave took g (remaining, first, others, here, took_is, more) =
     (remaining ++ g, first, others, exchange_more g here, took_is, completed_rest (n + 1) xs rest remaining others g more)
 
-life_more : (life : LinkLife) (gave took rest : List ℕ) (x : Exchange) (up : Bool) → life.goes_on ≡ true → IsLife life → IsExchange (next_number life) x rest (life.rest ++ gave) took
+life_more : (life : LinkLife) (gave took rest : List ℕ) (x : Exchange) (up : Bool) → life.goes_on ≡ true → IsLife life → IsExchange (next_number life) x rest
+    (life.rest ++ gave) took
     → IsLife (with_exchange life gave took x rest up)
 life_more life gave took rest x up on so here =
     record {
       remaining = so.remaining ++ gave;
       greeted = Begins-more (life.greeting ∷ []) so.remaining life.gave gave so.greeted;
-      completed = completed_more 1 life.exchanges x life.rest so.remaining life.took gave rest took so.completed (subst (λ (k : ℕ). IsExchange k x rest (life.rest ++ gave) took) (omega arith) here);
+      completed = completed_more 1 life.exchanges x life.rest so.remaining life.took gave rest took so.completed
+          (subst (λ (k : ℕ). IsExchange k x rest (life.rest ++ gave) took) (omega arith) here);
       whole = λ _. so.whole on;
     }
 
@@ -85,10 +93,18 @@ pub selected_of : (life : LinkLife) → life.goes_on ≡ true → selected life 
 selected_of life is = rw is refl
 
 -- the exchange by the life's own words
-goes_ok : {es : List Event} (life : LinkLife) → life.goes_on ≡ true → (command : Command) (x : Exchange) (n : ℕ) (before after : Octets) (up : Bool) (client : ClientState) (folder : Option (List ℕ)) → n ≡ next_number life → before ≡ unread life → folder ≡ selected life → x.command ≡ command → x.selected ≡ folder → Converses (tag_of n) (command_pieces command n) before after up (Ok (record { responses = x.responses; status = x.status; code = x.code })) es → ((gave took : List ℕ) → IsExchange (next_number life) x after.octets (life.rest ++ gave) took → after.given ≡ length life.gave + length gave → Stands client (with_exchange life gave took x after.octets up)) → (left : LinkLife) × IsExchanged life command left client (Ok x) es
+goes_ok : {es : List Event} (life : LinkLife) → life.goes_on ≡ true → (command : Command) (x : Exchange) (n : ℕ) (before after : Octets) (up : Bool) (client : ClientState)
+    (folder : Option (List ℕ)) → n ≡ next_number life → before ≡ unread life → folder ≡ selected life → x.command ≡ command → x.selected ≡ folder → Converses (tag_of n)
+    (command_pieces command n) before after up (Ok (record { responses = x.responses; status = x.status; code = x.code })) es
+    → ((gave took : List ℕ) → IsExchange (next_number life) x after.octets (life.rest ++ gave) took → after.given ≡ length life.gave + length gave → Stands client
+    (with_exchange life gave took x after.octets up)) → (left : LinkLife) × IsExchanged life command left client (Ok x) es
 goes_ok {es} life on command x n before after up client folder n_is before_is folder_is command_is selected_is so stands =
-    let there : Converses (tag_of (next_number life)) (command_pieces command (next_number life)) (unread life) after up (Ok (record { responses = x.responses; status = x.status; code = x.code })) es =
-    subst (λ (u : Octets). Converses (tag_of (next_number life)) (command_pieces command (next_number life)) u after up (Ok (record { responses = x.responses; status = x.status; code = x.code })) es) before_is (subst (λ (k : ℕ). Converses (tag_of k) (command_pieces command k) before after up (Ok (record { responses = x.responses; status = x.status; code = x.code })) es) n_is so) in
+    let there : Converses (tag_of (next_number life)) (command_pieces command (next_number life)) (unread life) after up
+        (Ok (record { responses = x.responses; status = x.status; code = x.code })) es =
+    subst (λ (u : Octets). Converses (tag_of (next_number life)) (command_pieces command (next_number life)) u after up
+        (Ok (record { responses = x.responses; status = x.status; code = x.code })) es) before_is
+        (subst (λ (k : ℕ). Converses (tag_of k) (command_pieces command k) before after up (Ok (record { responses = x.responses; status = x.status; code = x.code })) es) n_is
+        so) in
     let verdict : VerdictOf (next_number life) x.command (life.rest ++ there.speaks.gave) (Done x.responses x.status x.code after.octets) =
     subst (λ (c : Command). VerdictOf (next_number life) c (life.rest ++ there.speaks.gave) (Done x.responses x.status x.code after.octets)) (sym command_is) there.comes.0 in
     let taken : IsTaken (command_pieces x.command (next_number life)) x.responses x.status there.speaks.took =
@@ -112,14 +128,18 @@ goes_ok {es} life on command x n before after up client folder n_is before_is fo
     )
 
 -- the life goes on
-pub goes_on : {es : List Event} (life : LinkLife) (command : Command) (x : Exchange) (now folder : Option (List ℕ)) (n : ℕ) (alive up : Bool) (before after : Octets) → alive ≡ true → up ≡ true → Stands (place_of alive before n folder) life → IsOf command folder x now → Converses (tag_of n) (command_pieces command n) before after up (answer_of (Ok (x, now))) es → (left : LinkLife) × IsExchanged life command left (place_of alive after (n + 1) now) (Ok x) es
+pub goes_on : {es : List Event} (life : LinkLife) (command : Command) (x : Exchange) (now folder : Option (List ℕ)) (n : ℕ) (alive up : Bool) (before after : Octets) → alive ≡ true
+    → up ≡ true → Stands (place_of alive before n folder) life → IsOf command folder x now → Converses (tag_of n) (command_pieces command n) before after up
+    (answer_of (Ok (x, now))) es → (left : LinkLife) × IsExchanged life command left (place_of alive after (n + 1) now) (Ok x) es
 goes_on life command x now folder n alive up before after is_alive is_up stands of so =
     let on : life.goes_on ≡ true = sym stands.alive ∙ is_alive in
-    goes_ok life on command x n before after up (place_of alive after (n + 1) now) folder (stands.number_is on) (stands.unread_is on) stands.selected_is of.command_is of.selected_is so (λ gave took here given.
+    goes_ok life on command x n before after up (place_of alive after (n + 1) now) folder (stands.number_is on)
+        (stands.unread_is on) stands.selected_is of.command_is of.selected_is so (λ gave took here given.
     let next = with_exchange life gave took x after.octets up in
     record {
       alive = is_alive ∙ sym is_up;
-      selected_is = of.now_is ∙ (λ i. selected_after_by (of.command_is) (stands.selected_is ∙ selected_of life on) i) ∙ sym (fold-append selected_after None life.exchanges (x ∷ [])) ∙ sym (selected_of next is_up);
+      selected_is = of.now_is ∙ (λ i. selected_after_by (of.command_is) (stands.selected_is ∙ selected_of life on) i) ∙ sym
+          (fold-append selected_after None life.exchanges (x ∷ [])) ∙ sym (selected_of next is_up);
       unread_is = λ _. (λ i. record { octets = after.octets; given = (given ∙ sym (length-append life.gave gave)) i });
       number_is = λ _. ap (λ (k : ℕ). k + 1) (stands.number_is on ∙ sym (length-append life.exchanges (x ∷ [])));
       spelled = life_more life gave took after.octets x up on stands.spelled here;
@@ -129,22 +149,29 @@ goes_on life command x now folder n alive up before after is_alive is_up stands 
     selected_after_by same same' = (λ i. selected_by (sym same i) x.status (same' i))
 
 -- the store refused while the link failed
-pub goes_down : {es : List Event} (life : LinkLife) (command : Command) (x : Exchange) (now folder : Option (List ℕ)) (n : ℕ) (alive up : Bool) (before after : Octets) → alive ≡ true → up ≡ false → Stands (place_of alive before n folder) life → IsOf command folder x now → Converses (tag_of n) (command_pieces command n) before after up (answer_of (Ok (x, now))) es → (left : LinkLife) × IsExchanged life command left fresh (Ok x) es
+pub goes_down : {es : List Event} (life : LinkLife) (command : Command) (x : Exchange) (now folder : Option (List ℕ)) (n : ℕ) (alive up : Bool) (before after : Octets)
+    → alive ≡ true → up ≡ false → Stands (place_of alive before n folder) life → IsOf command folder x now → Converses (tag_of n) (command_pieces command n) before after up
+    (answer_of (Ok (x, now))) es → (left : LinkLife) × IsExchanged life command left fresh (Ok x) es
 goes_down life command x now folder n alive up before after is_alive is_down stands of so =
     let on : life.goes_on ≡ true = sym stands.alive ∙ is_alive in
-    goes_ok life on command x n before after up fresh folder (stands.number_is on) (stands.unread_is on) stands.selected_is of.command_is of.selected_is so (λ gave took here given. stands_ended (with_exchange life gave took x after.octets up) is_down (life_more life gave took after.octets x up on stands.spelled here))
+    goes_ok life on command x n before after up fresh folder (stands.number_is on) (stands.unread_is on) stands.selected_is of.command_is of.selected_is so
+        (λ gave took here given. stands_ended (with_exchange life gave took x after.octets up) is_down (life_more life gave took after.octets x up on stands.spelled here))
 
 -- the exchange isn't completed
-pub goes_not : {xs : List Event} (ys : List Event) (life : LinkLife) (command : Command) (e : LinkEnd) (folder : Option (List ℕ)) (n : ℕ) (alive up : Bool) (before after : Octets) → alive ≡ true → Stands (place_of alive before n folder) life → Converses (tag_of n) (command_pieces command n) before after up (Err e) xs → HangsUp up ys → (left : LinkLife) × IsExchanged life command left fresh (Err e) (xs ++ ys)
+pub goes_not : {xs : List Event} (ys : List Event) (life : LinkLife) (command : Command) (e : LinkEnd) (folder : Option (List ℕ)) (n : ℕ) (alive up : Bool) (before after : Octets)
+    → alive ≡ true → Stands (place_of alive before n folder) life → Converses (tag_of n) (command_pieces command n) before after up (Err e) xs → HangsUp up ys → (left : LinkLife)
+    × IsExchanged life command left fresh (Err e) (xs ++ ys)
 goes_not {xs} ys life command e folder n alive up before after is_alive stands so hangs =
     let on : life.goes_on ≡ true = sym stands.alive ∙ is_alive in
     let there : Converses (tag_of (next_number life)) (command_pieces command (next_number life)) (unread life) after up (Err e) xs =
-    subst (λ (u : Octets). Converses (tag_of (next_number life)) (command_pieces command (next_number life)) u after up (Err e) xs) (stands.unread_is on) (subst (λ (k : ℕ). Converses (tag_of k) (command_pieces command k) before after up (Err e) xs) (stands.number_is on) so) in (
+    subst (λ (u : Octets). Converses (tag_of (next_number life)) (command_pieces command (next_number life)) u after up (Err e) xs) (stands.unread_is on)
+        (subst (λ (k : ℕ). Converses (tag_of k) (command_pieces command k) before after up (Err e) xs) (stands.number_is on) so) in (
       with_part life there.speaks.gave there.speaks.took,
       record {
         ends = record {
           on = on;
-          speaks = record { talk = there.speaks.talk; gave = there.speaks.gave; took = there.speaks.took; ended = ended_by up there.speaks.talk there.speaks.ended hangs; said = there.speaks.said; paced = there.speaks.paced };
+          speaks = record { talk = there.speaks.talk; gave = there.speaks.gave; took = there.speaks.took; ended = ended_by up there.speaks.talk there.speaks.ended hangs; said =
+              there.speaks.said; paced = there.speaks.paced };
           after_is = refl;
           cause = there.comes;
         };

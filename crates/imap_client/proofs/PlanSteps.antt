@@ -26,7 +26,8 @@ pub record IsAfter (plan : Planned) (heard : List Exchange) (now : Planned) : Ty
 pub after_none : (plan : Planned) → IsAfter plan [] plan
 after_none plan = record { same = λ more. refl }
 
-pub after_more : {plan now next : Planned} {heard : List Exchange} (x : Exchange) → IsAfter plan heard now → ((more : List Exchange) → next more ≡ now (x ∷ more)) → IsAfter plan (heard ++ x ∷ []) next
+pub after_more : {plan now next : Planned} {heard : List Exchange} (x : Exchange) → IsAfter plan heard now → ((more : List Exchange) → next more ≡ now (x ∷ more)) → IsAfter plan
+    (heard ++ x ∷ []) next
 after_more {plan} {now} {next} {heard} x so step = record { same = λ more. step more ∙ so.same (x ∷ more) ∙ ap plan (sym (append_assoc heard (x ∷ []) more)) }
 
 pub due_after : {plan now : Planned} {heard : List Exchange} → IsAfter plan heard now → now [] ≡ plan heard
@@ -42,7 +43,8 @@ pub going_none : (plan : Planned) (life : LinkLife) (client : ClientState) → S
 going_none plan life client stands = record { after = life; ran = Begun; stands = stands }
 
 -- one exchange more
-pub going_more : {plan : Planned} {life : LinkLife} {heard : List Exchange} {client : ClientState} {xs : List Event} (ys : List Event) (command : Command) (x : Exchange) (next : ClientState) → plan heard ≡ due.Send command → Going plan life heard client xs
+pub going_more : {plan : Planned} {life : LinkLife} {heard : List Exchange} {client : ClientState} {xs : List Event} (ys : List Event) (command : Command) (x : Exchange)
+    (next : ClientState) → plan heard ≡ due.Send command → Going plan life heard client xs
     → ((mid : LinkLife) → Stands client mid → (left : LinkLife) × IsExchanged mid command left next (Ok x) ys) → Going plan life (heard ++ x ∷ []) next (xs ++ ys)
 going_more ys command x next is so goes =
     let went = goes so.after so.stands in
@@ -81,22 +83,28 @@ hung ys stands hangs = subst (λ (b : Bool). HangsUp b ys) stands.alive hangs
 stands_hung : {client : ClientState} {life : LinkLife} (next : ClientState) → next ≡ fresh → Stands client life → Stands next (hung_up life)
 stands_hung {client} {life} next none stands = subst (λ (c : ClientState). Stands c (hung_up life)) (sym none) (stands_ended (hung_up life) refl (life_hung life stands.spelled))
 
-pub broken : {plan : Planned} {life : LinkLife} {heard : List Exchange} {client : ClientState} {xs : List Event} (ys : List Event) (command : Command) (e : LinkEnd) (next : ClientState) → plan heard ≡ due.Send command → Going plan life heard client xs
+pub broken : {plan : Planned} {life : LinkLife} {heard : List Exchange} {client : ClientState} {xs : List Event} (ys : List Event) (command : Command) (e : LinkEnd)
+    (next : ClientState) → plan heard ≡ due.Send command → Going plan life heard client xs
     → ((mid : LinkLife) → Stands client mid → (left : LinkLife) × IsExchanged mid command left next (Err e) ys) → Left plan life heard next (Err e) (xs ++ ys)
 broken {xs = xs} ys command e next is so goes =
     let went = goes so.after so.stands in
     (went.0, record { after = so.after; so_far = xs; last = ys; ran = so.ran; ends = Broken command e is refl went.1.ends; whole = refl; stands = went.1.stands })
 
-pub refused : {plan : Planned} {life : LinkLife} {heard : List Exchange} {client : ClientState} {xs : List Event} (ys : List Event) (why : Refusal) (next : ClientState) → plan heard ≡ due.Fails why → next ≡ fresh → Going plan life heard client xs
+pub refused : {plan : Planned} {life : LinkLife} {heard : List Exchange} {client : ClientState} {xs : List Event} (ys : List Event) (why : Refusal) (next : ClientState)
+    → plan heard ≡ due.Fails why → next ≡ fresh → Going plan life heard client xs
     → HangsUp client.alive ys → Left plan life heard next (Err (refusal_end why)) (xs ++ ys)
 refused {xs = xs} ys why next is none so hangs =
-    (hung_up so.after, record { after = so.after; so_far = xs; last = ys; ran = so.ran; ends = Failed why is refl (hung ys so.stands hangs) refl; whole = refl; stands = stands_hung next none so.stands })
+    (hung_up so.after, record { after = so.after; so_far = xs; last = ys; ran = so.ran; ends = Failed why is refl (hung ys so.stands hangs) refl; whole = refl; stands =
+        stands_hung next none so.stands })
 
-pub wanting : {plan : Planned} {life : LinkLife} {heard : List Exchange} {client : ClientState} {xs : List Event} (ys : List Event) (next : ClientState) → next ≡ fresh → Going plan life heard client xs → HangsUp client.alive ys → Left plan life heard next (Err end.Memory) (xs ++ ys)
+pub wanting : {plan : Planned} {life : LinkLife} {heard : List Exchange} {client : ClientState} {xs : List Event} (ys : List Event) (next : ClientState) → next ≡ fresh
+    → Going plan life heard client xs → HangsUp client.alive ys → Left plan life heard next (Err end.Memory) (xs ++ ys)
 wanting {xs = xs} ys next none so hangs =
-    (hung_up so.after, record { after = so.after; so_far = xs; last = ys; ran = so.ran; ends = Wanting refl (hung ys so.stands hangs) refl; whole = refl; stands = stands_hung next none so.stands })
+    (hung_up so.after, record { after = so.after; so_far = xs; last = ys; ran = so.ran; ends = Wanting refl (hung ys so.stands hangs) refl; whole = refl; stands =
+        stands_hung next none so.stands })
 
-pub gone : {plan : Planned} {life : LinkLife} {heard : List Exchange} {client : ClientState} {xs : List Event} (ys : List Event) (command : Command) (next : ClientState) → plan heard ≡ due.Send command → next ≡ fresh → client.alive ≡ false → Going plan life heard client xs
+pub gone : {plan : Planned} {life : LinkLife} {heard : List Exchange} {client : ClientState} {xs : List Event} (ys : List Event) (command : Command) (next : ClientState)
+    → plan heard ≡ due.Send command → next ≡ fresh → client.alive ≡ false → Going plan life heard client xs
     → HangsUp client.alive ys → Left plan life heard next (Err end.Lost) (xs ++ ys)
 gone {xs = xs} ys command next is none dead so hangs =
     let over = sym so.stands.alive ∙ dead in (
@@ -112,19 +120,23 @@ gone {xs = xs} ys command next is none dead so hangs =
       },
     )
 
-pub finished : {plan : Planned} {life : LinkLife} {heard : List Exchange} {client : ClientState} {xs : List Event} → plan heard ≡ due.Done → Going plan life heard client xs → Left plan life heard client (Ok tt) xs
+pub finished : {plan : Planned} {life : LinkLife} {heard : List Exchange} {client : ClientState} {xs : List Event} → plan heard ≡ due.Done → Going plan life heard client xs
+    → Left plan life heard client (Ok tt) xs
 finished {xs = xs} is so =
     (so.after, record { after = so.after; so_far = xs; last = []; ran = so.ran; ends = Finished is refl refl refl; whole = sym (append-nil xs); stands = so.stands })
 
 -- with the plan's own state
-pub told_to : {S : Type 0} {plan : S → Planned} {hears : S → Exchange → S → Type 0} {before after : S} {life : LinkLife} {heard : List Exchange} {client : ClientState} {result : Result (Unit {0}) LinkEnd} {es : List Event}
-    → (result ≢ Err end.Memory → HearsAll hears before heard after) → Left (plan before) life heard client result es → (left : LinkLife) × FollowsTo plan hears before after life left client result es
+pub told_to : {S : Type 0} {plan : S → Planned} {hears : S → Exchange → S → Type 0} {before after : S} {life : LinkLife} {heard : List Exchange} {client : ClientState}
+    {result : Result (Unit {0}) LinkEnd} {es : List Event}
+    → (result ≢ Err end.Memory → HearsAll hears before heard after) → Left (plan before) life heard client result es → (left : LinkLife)
+    × FollowsTo plan hears before after life left client result es
 told_to {heard = heard} told (left, follows) = (left, record { exchanges = heard; follows = follows; heard = told })
 
 -- ---- a plan that is followed
 
 -- these exchanges were heard so far
-pub record Course {S : Type 0} (plan : S → Planned) (hears : S → Exchange → S → Type 0) (first now : S) (begun client : ClientState) (before after : Option (List Event)) : Type 0 where
+pub record Course {S : Type 0} (plan : S → Planned) (hears : S → Exchange → S → Type 0) (first now : S) (begun client : ClientState)
+    (before after : Option (List Event)) : Type 0 where
   pub heard : List Exchange
   pub after_is : IsAfter (plan first) heard (plan now)
   pub told : HearsAll hears first heard now
@@ -135,7 +147,8 @@ pub record Course {S : Type 0} (plan : S → Planned) (hears : S → Exchange �
 abbrev pub EndsTo : {S : Type 0} → (S → Planned) → (S → Exchange → S → Type 0) → S → S → ClientState → ClientState → Result (Unit {0}) LinkEnd → List Event → Type 0
 EndsTo plan hears first last begun client result es = (life : LinkLife) → Stands begun life → (left : LinkLife) × FollowsTo plan hears first last life left client result es
 
-pub course_none : {S : Type 0} (plan : S → Planned) (hears : S → Exchange → S → Type 0) (first : S) (client : ClientState) (at : Option (List Event)) → client.alive ≡ true → Course plan hears first first client client at at
+pub course_none : {S : Type 0} (plan : S → Planned) (hears : S → Exchange → S → Type 0) (first : S) (client : ClientState) (at : Option (List Event)) → client.alive ≡ true
+    → Course plan hears first first client client at at
 course_none plan hears first client at alive =
     record {
       heard = [];
@@ -146,13 +159,17 @@ course_none plan hears first client at alive =
     }
 
 -- the command that is due, once this is due now
-due_of : {S : Type 0} {plan : S → Planned} {hears : S → Exchange → S → Type 0} {first now : S} {begun client : ClientState} {before after : Option (List Event)} (now_due : Due) (c : Course plan hears first now begun client before after) → now_due ≡ plan now [] → plan first c.heard ≡ now_due
+due_of : {S : Type 0} {plan : S → Planned} {hears : S → Exchange → S → Type 0} {first now : S} {begun client : ClientState} {before after : Option (List Event)} (now_due : Due)
+    (c : Course plan hears first now begun client before after) → now_due ≡ plan now [] → plan first c.heard ≡ now_due
 due_of now_due c is = sym (is ∙ due_after c.after_is)
 
 -- one exchange more
-pub course_more : {S : Type 0} {plan : S → Planned} {hears : S → Exchange → S → Type 0} {first now : S} {begun client : ClientState} {before after last : Option (List Event)} (next : S) (command : Command) (x : Exchange) (later_client : ClientState) → due.Send command ≡ plan now []
-    → Course plan hears first now begun client before after → Adds after last (λ es. (life : LinkLife) → Stands client life → (left : LinkLife) × IsExchanged life command left later_client (Ok x) es)
-    → (x.status ≡ status.Ok → later_client.alive ≡ true) → ((xs : List Exchange) → plan next xs ≡ plan now (x ∷ xs)) → hears now x next → Course plan hears first next begun later_client before last
+pub course_more : {S : Type 0} {plan : S → Planned} {hears : S → Exchange → S → Type 0} {first now : S} {begun client : ClientState} {before after last : Option (List Event)}
+    (next : S) (command : Command) (x : Exchange) (later_client : ClientState) → due.Send command ≡ plan now []
+    → Course plan hears first now begun client before after → Adds after last
+    (λ es. (life : LinkLife) → Stands client life → (left : LinkLife) × IsExchanged life command left later_client (Ok x) es)
+    → (x.status ≡ status.Ok → later_client.alive ≡ true) → ((xs : List Exchange) → plan next xs ≡ plan now (x ∷ xs)) → hears now x next
+    → Course plan hears first next begun later_client before last
 course_more {plan = plan} {first = first} {client = client} next command x later_client is c adds alive steps hear =
     let due_is = due_of (due.Send command) c is in
     record {
@@ -164,43 +181,57 @@ course_more {plan = plan} {first = first} {client = client} next command x later
     }
 
 -- the command isn't completed
-pub course_broken : {S : Type 0} {plan : S → Planned} {hears : S → Exchange → S → Type 0} {first now : S} {begun client : ClientState} {before after last : Option (List Event)} (command : Command) (e : LinkEnd) (later_client : ClientState) → due.Send command ≡ plan now []
-    → Course plan hears first now begun client before after → Adds after last (λ es. (life : LinkLife) → Stands client life → (left : LinkLife) × IsExchanged life command left later_client (Err e) es)
+pub course_broken : {S : Type 0} {plan : S → Planned} {hears : S → Exchange → S → Type 0} {first now : S} {begun client : ClientState} {before after last : Option (List Event)}
+    (command : Command) (e : LinkEnd) (later_client : ClientState) → due.Send command ≡ plan now []
+    → Course plan hears first now begun client before after → Adds after last
+    (λ es. (life : LinkLife) → Stands client life → (left : LinkLife) × IsExchanged life command left later_client (Err e) es)
     → Adds before last (EndsTo plan hears first now begun later_client (Err e))
 course_broken command e later_client is c adds =
     join _ c.tape adds (λ xs ys so goes life stands. told_to (λ _. c.told) (broken ys command e later_client (due_of (due.Send command) c is) (so life stands) goes))
 
 -- the life ended before
-pub course_gone : {S : Type 0} {plan : S → Planned} {hears : S → Exchange → S → Type 0} {first now : S} {begun client : ClientState} {before after last : Option (List Event)} (command : Command) (later_client : ClientState) → due.Send command ≡ plan now [] → later_client ≡ fresh
-    → client.alive ≡ false → Course plan hears first now begun client before after → Adds after last (HangsUp client.alive) → Adds before last (EndsTo plan hears first now begun later_client (Err end.Lost))
+pub course_gone : {S : Type 0} {plan : S → Planned} {hears : S → Exchange → S → Type 0} {first now : S} {begun client : ClientState} {before after last : Option (List Event)}
+    (command : Command) (later_client : ClientState) → due.Send command ≡ plan now [] → later_client ≡ fresh
+    → client.alive ≡ false → Course plan hears first now begun client before after → Adds after last (HangsUp client.alive) → Adds before last
+    (EndsTo plan hears first now begun later_client (Err end.Lost))
 course_gone command later_client is ended dead c adds =
     join _ c.tape adds (λ xs ys so hangs life stands. told_to (λ _. c.told) (gone ys command later_client (due_of (due.Send command) c is) ended dead (so life stands) hangs))
 
 -- the plan fails
-pub course_fails : {S : Type 0} {plan : S → Planned} {hears : S → Exchange → S → Type 0} {first now : S} {begun client : ClientState} {before after last : Option (List Event)} (why : Refusal) (later_client : ClientState) → due.Fails why ≡ plan now [] → later_client ≡ fresh
-    → Course plan hears first now begun client before after → Adds after last (HangsUp client.alive) → Adds before last (EndsTo plan hears first now begun later_client (Err (refusal_end why)))
+pub course_fails : {S : Type 0} {plan : S → Planned} {hears : S → Exchange → S → Type 0} {first now : S} {begun client : ClientState} {before after last : Option (List Event)}
+    (why : Refusal) (later_client : ClientState) → due.Fails why ≡ plan now [] → later_client ≡ fresh
+    → Course plan hears first now begun client before after → Adds after last (HangsUp client.alive) → Adds before last
+    (EndsTo plan hears first now begun later_client (Err (refusal_end why)))
 course_fails why later_client is ended c adds =
     join _ c.tape adds (λ xs ys so hangs life stands. told_to (λ _. c.told) (refused ys why later_client (due_of (due.Fails why) c is) ended (so life stands) hangs))
 
 -- out of memory, whatever the plan's state is later_client
-pub course_wants : {S : Type 0} {plan : S → Planned} {hears : S → Exchange → S → Type 0} {first now : S} {begun client : ClientState} {before after last : Option (List Event)} (state : S) (later_client : ClientState) → later_client ≡ fresh
-    → Course plan hears first now begun client before after → Adds after last (HangsUp client.alive) → Adds before last (EndsTo plan hears first state begun later_client (Err end.Memory))
+pub course_wants : {S : Type 0} {plan : S → Planned} {hears : S → Exchange → S → Type 0} {first now : S} {begun client : ClientState} {before after last : Option (List Event)}
+    (state : S) (later_client : ClientState) → later_client ≡ fresh
+    → Course plan hears first now begun client before after → Adds after last (HangsUp client.alive) → Adds before last
+    (EndsTo plan hears first state begun later_client (Err end.Memory))
 course_wants state later_client ended c adds =
     join _ c.tape adds (λ xs ys so hangs life stands. told_to (λ other. absurd (other refl)) (wanting ys later_client ended (so life stands) hangs))
 
 -- out of memory once an exchange was completed
-pub course_wants_more : {S : Type 0} {plan : S → Planned} {hears : S → Exchange → S → Type 0} {first now : S} {begun client mid : ClientState} {before after later last : Option (List Event)} (state : S) (command : Command) (x : Exchange) (later_client : ClientState) → due.Send command ≡ plan now [] → later_client ≡ fresh
-    → Course plan hears first now begun client before after → Adds after later (λ es. (life : LinkLife) → Stands client life → (left : LinkLife) × IsExchanged life command left mid (Ok x) es) → Adds later last (HangsUp mid.alive)
+pub course_wants_more : {S : Type 0} {plan : S → Planned} {hears : S → Exchange → S → Type 0} {first now : S} {begun client mid : ClientState}
+    {before after later last : Option (List Event)} (state : S) (command : Command) (x : Exchange) (later_client : ClientState) → due.Send command ≡ plan now []
+    → later_client ≡ fresh
+    → Course plan hears first now begun client before after → Adds after later
+    (λ es. (life : LinkLife) → Stands client life → (left : LinkLife) × IsExchanged life command left mid (Ok x) es) → Adds later last (HangsUp mid.alive)
     → Adds before last (EndsTo plan hears first state begun later_client (Err end.Memory))
 course_wants_more {plan = plan} {first = first} {begun = begun} {mid = mid} state command x later_client is ended c adds hangs =
-    let gone_on = join (λ es. (life : LinkLife) → Stands begun life → Going (plan first) life (c.heard ++ x ∷ []) mid es) c.tape adds (λ xs ys so goes life stands. going_more ys command x mid (due_of (due.Send command) c is) (so life stands) goes) in
+    let gone_on = join (λ es. (life : LinkLife) → Stands begun life → Going (plan first) life (c.heard ++ x ∷ []) mid es) c.tape adds
+        (λ xs ys so goes life stands. going_more ys command x mid (due_of (due.Send command) c is) (so life stands) goes) in
     join _ gone_on hangs (λ xs ys so hung life stands. told_to (λ other. absurd (other refl)) (wanting ys later_client ended (so life stands) hung))
 
 -- all is done
-pub course_done : {S : Type 0} {plan : S → Planned} {hears : S → Exchange → S → Type 0} {first now : S} {begun client : ClientState} {before after : Option (List Event)} → due.Done ≡ plan now []
+pub course_done : {S : Type 0} {plan : S → Planned} {hears : S → Exchange → S → Type 0} {first now : S} {begun client : ClientState} {before after : Option (List Event)}
+    → due.Done ≡ plan now []
     → Course plan hears first now begun client before after → Adds before after (EndsTo plan hears first now begun client (Ok tt))
 course_done is c = widen _ c.tape (λ xs so life stands. told_to (λ _. c.told) (finished (due_of due.Done c is) (so life stands)))
 
-pub course_alive : {S : Type 0} {plan : S → Planned} {hears : S → Exchange → S → Type 0} {first now : S} {begun client : ClientState} {before after : Option (List Event)} → due.Done ≡ plan now []
+pub course_alive : {S : Type 0} {plan : S → Planned} {hears : S → Exchange → S → Type 0} {first now : S} {begun client : ClientState} {before after : Option (List Event)}
+    → due.Done ≡ plan now []
     → Course plan hears first now begun client before after → StopsAtRefusal (plan first) → client.alive ≡ true
 course_alive is c stops = done_alive stops (due_of due.Done c is) c.refused

@@ -25,7 +25,8 @@ use Rattle.imap_client.specs.Bodies.{BodyState, body_step, body_from, body_due, 
 use Rattle.imap_client.proofs.Connections.{not_ok}
 
 -- a plan's state goes by its steps
-pub folded : {S V : Type 0} (view : S → V) (step : V → Exchange → V) {before after : S} {xs : List Exchange} → HearsAll (λ s x d. view d ≡ step (view s) x) before xs after → view after ≡ fold step (view before) xs
+pub folded : {S V : Type 0} (view : S → V) (step : V → Exchange → V) {before after : S} {xs : List Exchange} → HearsAll (λ s x d. view d ≡ step (view s) x) before xs after
+    → view after ≡ fold step (view before) xs
 folded view step HeardNone = refl
 folded view step {before} (HeardMore {xs} {mid} {after} x so is) =
     is ∙ ap (λ (v : _). step v x) (folded view step so) ∙ sym (fold-append step (view before) xs (x ∷ []))
@@ -64,8 +65,10 @@ pub body_stops : (folder uid : ℕ) (s : BodyState) → StopsAtRefusal (body_fro
 body_stops folder uid s =
     record {
       stops = λ xs command x is other done.
-          let step_is : fold (body_step folder uid) s (xs ++ x ∷ []) ≡ body_step folder uid (fold (body_step folder uid) s xs) x = fold-append (body_step folder uid) s xs (x ∷ []) in
-          let same : body_from folder uid s (xs ++ x ∷ []) ≡ body_from folder uid (fold (body_step folder uid) s xs) (x ∷ []) = ap (λ (now : BodyState). body_from folder uid now []) step_is in
+          let step_is : fold (body_step folder uid) s (xs ++ x ∷ []) ≡ body_step folder uid (fold (body_step folder uid) s xs) x = fold-append (body_step folder uid) s xs
+              (x ∷ []) in
+          let same : body_from folder uid s (xs ++ x ∷ []) ≡ body_from folder uid (fold (body_step folder uid) s xs) (x ∷ []) = ap
+              (λ (now : BodyState). body_from folder uid now []) step_is in
           fails_not_done refusal.Refused (sym (body_refused folder uid (fold (body_step folder uid) s xs) x (not_ok x.status other)) ∙ sym same ∙ done);
     }
 
@@ -91,14 +94,17 @@ abbrev pub round_view : Round → RoundState
 round_view r = record { stage = r.stage; mail = r.mirror.mail }
 
 -- a round that was followed
-pub rounded : {life left : LinkLife} {client : ClientState} {result : Result (Unit {0}) LinkEnd} {es : List Event} (before after : Mail) (first last : Round) → first.stage ≡ stage.Listing → first.mirror.mail ≡ before → last.mirror.mail ≡ after
-    → FollowsTo (λ (r : Round). round_from (round_view r)) (λ (r : Round) (x : Exchange) (s : Round). round_view s ≡ round_step (round_view r) x) first last life left client result es → Rounds before after life left client result es
+pub rounded : {life left : LinkLife} {client : ClientState} {result : Result (Unit {0}) LinkEnd} {es : List Event} (before after : Mail) (first last : Round)
+    → first.stage ≡ stage.Listing → first.mirror.mail ≡ before → last.mirror.mail ≡ after
+    → FollowsTo (λ (r : Round). round_from (round_view r))
+    (λ (r : Round) (x : Exchange) (s : Round). round_view s ≡ round_step (round_view r) x) first last life left client result es → Rounds before after life left client result es
 rounded {life} {left} {client} {result} {es} before after first last stage_is mail_is after_is f =
     let begins : round_view first ≡ record { stage = stage.Listing; mail = before } = (λ i. record { stage = stage_is i; mail = mail_is i }) in
     record {
       exchanges = f.exchanges;
       follows = subst (λ (s : RoundState). Follows (round_from s) life left f.exchanges client result es) begins f.follows;
-      told = λ other. sym after_is ∙ ap (λ (s : RoundState). s.mail) (folded round_view round_step (f.heard other)) ∙ round_mail (round_view first) f.exchanges ∙ ap (λ (m : Mail). fold tell m f.exchanges) mail_is;
+      told = λ other. sym after_is ∙ ap (λ (s : RoundState). s.mail) (folded round_view round_step (f.heard other)) ∙ round_mail (round_view first) f.exchanges ∙ ap
+          (λ (m : Mail). fold tell m f.exchanges) mail_is;
     }
 
 abbrev pub body_view : BodyFetch → BodyState
@@ -107,7 +113,8 @@ body_view f = record { stage = f.stage; mail = f.mirror.mail }
 abbrev pub BodyHears : BodyFetch → Exchange → BodyFetch → Type 0
 BodyHears f x g = (g.folder ≡ f.folder) × (g.uid ≡ f.uid) × (body_view g ≡ body_step f.folder f.uid (body_view f) x)
 
-body_folded : {first last : BodyFetch} {xs : List Exchange} → HearsAll BodyHears first xs last → (last.folder ≡ first.folder) × (last.uid ≡ first.uid) × (body_view last ≡ fold (body_step first.folder first.uid) (body_view first) xs)
+body_folded : {first last : BodyFetch} {xs : List Exchange} → HearsAll BodyHears first xs last → (last.folder ≡ first.folder) × (last.uid ≡ first.uid)
+    × (body_view last ≡ fold (body_step first.folder first.uid) (body_view first) xs)
 body_folded HeardNone = (refl, refl, refl)
 body_folded {first} (HeardMore {xs} {mid} {after} x so (folder_is, uid_is, is)) =
     let before = body_folded so in
@@ -134,17 +141,23 @@ Bodied folder uid before after life client result es = (left : LinkLife) × Fetc
 abbrev pub FollowsBody : BodyFetch → BodyFetch → LinkLife → LinkLife → ClientState → Result (Unit {0}) LinkEnd → List Event → Type 0
 FollowsBody first last life left client result es = FollowsTo (λ (f : BodyFetch). body_from f.folder f.uid (body_view f)) BodyHears first last life left client result es
 
-body_starts : (selected : Option (List ℕ)) (folder uid : ℕ) (before : Mail) (first : BodyFetch) → first.stage ≡ body_begun selected (folder_in before.folders folder) → first.mirror.mail ≡ before → body_view first ≡ body_start selected before folder
+body_starts : (selected : Option (List ℕ)) (folder uid : ℕ) (before : Mail) (first : BodyFetch) → first.stage ≡ body_begun selected (folder_in before.folders folder)
+    → first.mirror.mail ≡ before → body_view first ≡ body_start selected before folder
 body_starts selected folder uid before first stage_is mail_is = (λ i. record { stage = stage_is i; mail = mail_is i })
 
-body_told : (folder uid : ℕ) (before after : Mail) (first last : BodyFetch) {xs : List Exchange} → first.folder ≡ folder → first.uid ≡ uid → first.mirror.mail ≡ before → last.mirror.mail ≡ after → HearsAll BodyHears first xs last → after ≡ fold tell before xs
+body_told : (folder uid : ℕ) (before after : Mail) (first last : BodyFetch) {xs : List Exchange} → first.folder ≡ folder → first.uid ≡ uid → first.mirror.mail ≡ before
+    → last.mirror.mail ≡ after → HearsAll BodyHears first xs last → after ≡ fold tell before xs
 body_told folder uid before after first last {xs} folder_is uid_is mail_is after_is heard =
     sym after_is ∙ ap (λ (s : BodyState). s.mail) (body_folded heard).2 ∙ body_mail first.folder first.uid (body_view first) xs ∙ ap (λ (m : Mail). fold tell m xs) mail_is
 
-follows_body : {life left : LinkLife} {client : ClientState} {result : Result (Unit {0}) LinkEnd} {es : List Event} {xs : List Exchange} (folder uid : ℕ) (before : Mail) (first : BodyFetch) → first.folder ≡ folder → first.uid ≡ uid → body_view first ≡ body_start (selected life) before folder
-    → Follows (body_from first.folder first.uid (body_view first)) life left xs client result es → Follows (body_from folder uid (body_start (selected life) before folder)) life left xs client result es
+follows_body : {life left : LinkLife} {client : ClientState} {result : Result (Unit {0}) LinkEnd} {es : List Event} {xs : List Exchange} (folder uid : ℕ) (before : Mail)
+    (first : BodyFetch) → first.folder ≡ folder → first.uid ≡ uid → body_view first ≡ body_start (selected life) before folder
+    → Follows (body_from first.folder first.uid (body_view first)) life left xs client result es → Follows
+    (body_from folder uid (body_start (selected life) before folder)) life left xs client result es
 follows_body {life} {left} {client} {result} {es} {xs} folder uid before first folder_is uid_is start_is f =
-    subst (λ (s : BodyState). Follows (body_from folder uid s) life left xs client result es) start_is (subst (λ (u : ℕ). Follows (body_from folder u (body_view first)) life left xs client result es) uid_is (subst (λ (n : ℕ). Follows (body_from n first.uid (body_view first)) life left xs client result es) folder_is f))
+    subst (λ (s : BodyState). Follows (body_from folder uid s) life left xs client result es) start_is
+        (subst (λ (u : ℕ). Follows (body_from folder u (body_view first)) life left xs client result es) uid_is
+        (subst (λ (n : ℕ). Follows (body_from n first.uid (body_view first)) life left xs client result es) folder_is f))
 
 -- the end of a fetch, as it is followed
 abbrev pub unit_end : LinkEnd → Result (Unit {0}) LinkEnd
@@ -154,7 +167,8 @@ same_end : (e f : LinkEnd) → unit_end e ≡ unit_end f → e ≡ f
 same_end e f is = cc
 
 -- the fetch of a body that was followed up to its end
-pub body_ended : {life left : LinkLife} {client : ClientState} {es : List Event} (e : LinkEnd) (folder uid : ℕ) (before after : Mail) (first last : BodyFetch) → first.folder ≡ folder → first.uid ≡ uid → first.stage ≡ body_begun (selected life) (folder_in before.folders folder) → first.mirror.mail ≡ before
+pub body_ended : {life left : LinkLife} {client : ClientState} {es : List Event} (e : LinkEnd) (folder uid : ℕ) (before after : Mail) (first last : BodyFetch)
+    → first.folder ≡ folder → first.uid ≡ uid → first.stage ≡ body_begun (selected life) (folder_in before.folders folder) → first.mirror.mail ≡ before
     → last.mirror.mail ≡ after → FollowsBody first last life left client (Err e) es → FetchesBody folder uid before after life left client (Err e) es
 body_ended {life = life} e folder uid before after first last folder_is uid_is stage_is mail_is after_is f =
     record {
@@ -164,8 +178,10 @@ body_ended {life = life} e folder uid before after first last folder_is uid_is s
       body = λ octets is. absurd (cc is);
     }
 
-pub body_fetched : {life left : LinkLife} {client : ClientState} {es : List Event} (body : List ℕ) (folder uid : ℕ) (before after : Mail) (first last : BodyFetch) → first.folder ≡ folder → first.uid ≡ uid → first.stage ≡ body_begun (selected life) (folder_in before.folders folder) → first.mirror.mail ≡ before
-    → last.mirror.mail ≡ after → last.stage ≡ bstage.Fetched body → FollowsBody first last life left client (Ok tt) es → FetchesBody folder uid before after life left client (Ok body) es
+pub body_fetched : {life left : LinkLife} {client : ClientState} {es : List Event} (body : List ℕ) (folder uid : ℕ) (before after : Mail) (first last : BodyFetch)
+    → first.folder ≡ folder → first.uid ≡ uid → first.stage ≡ body_begun (selected life) (folder_in before.folders folder) → first.mirror.mail ≡ before
+    → last.mirror.mail ≡ after → last.stage ≡ bstage.Fetched body → FollowsBody first last life left client (Ok tt) es → FetchesBody folder uid before after life left client
+    (Ok body) es
 body_fetched {life = life} body folder uid before after first last folder_is uid_is stage_is mail_is after_is body_is f =
     let heard = f.heard (λ is. cc) in
     let start_is = body_starts (selected life) folder uid before first stage_is mail_is in
@@ -175,6 +191,7 @@ body_fetched {life = life} body folder uid before after first last folder_is uid
       told = λ other. body_told folder uid before after first last folder_is uid_is mail_is after_is heard;
       body = λ octets is.
           let same : body ≡ octets = cc in
-          let ends : body_view last ≡ fold (body_step folder uid) (body_start (selected life) before folder) f.exchanges = (body_folded heard).2 ∙ (λ i. fold (body_step (folder_is i) (uid_is i)) (start_is i) f.exchanges) in
+          let ends : body_view last ≡ fold (body_step folder uid) (body_start (selected life) before folder) f.exchanges = (body_folded heard).2
+              ∙ (λ i. fold (body_step (folder_is i) (uid_is i)) (start_is i) f.exchanges) in
           sym (ap (λ (s : BodyState). s.stage) ends) ∙ body_is ∙ ap bstage.Fetched same;
     }

@@ -92,7 +92,8 @@ pub record BodyState : Type 0 where
   pub mail : Mail
 
 abbrev pub body_step : ℕ → ℕ → BodyState → Exchange → BodyState
-body_step folder uid s x = record { stage = body_after folder uid s.stage (validity_of (folder_in s.mail.folders folder)) x (tell s.mail x); mail = tell s.mail x }
+body_step folder uid s x = record { stage = body_after folder uid s.stage (validity_of (folder_in s.mail.folders folder)) x (tell s.mail x); mail =
+    tell s.mail x }
 
 -- what is asked next from here, once these exchanges are completed
 abbrev pub body_from : ℕ → ℕ → BodyState → Planned
@@ -108,8 +109,10 @@ without_body (Err e) = Err e
 
 -- The fetch of a body in a life, and the life that is left: the mail is what completed exchanges told, in order, unless
 -- memory ran out, and the body is the one that the fetch ends with.
-pub record FetchesBody (folder uid : ℕ) (before after : Mail) (life left : LinkLife) (client : ClientState) (result : Result (List ℕ) LinkEnd) (events : List Event) : Type 0 where
+pub record FetchesBody (folder uid : ℕ) (before after : Mail) (life left : LinkLife) (client : ClientState) (result : Result (List ℕ) LinkEnd)
+    (events : List Event) : Type 0 where
   pub exchanges : List Exchange
   pub follows : Follows (body_from folder uid (body_start (selected life) before folder)) life left exchanges client (without_body result) events
   pub told : result ≢ Err end.Memory → after ≡ fold tell before exchanges
-  pub body : (octets : List ℕ) → result ≡ Ok octets → (fold (body_step folder uid) (body_start (selected life) before folder) exchanges).stage ≡ stage.Fetched octets
+  pub body : (octets : List ℕ) → result ≡ Ok octets → (fold (body_step folder uid) (body_start (selected life) before folder) exchanges).stage ≡ stage.Fetched
+      octets

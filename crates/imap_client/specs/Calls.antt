@@ -38,6 +38,7 @@ ExchangeEnds life command left (Err e) events = Breaks life command e left event
 
 -- What an exchange adds, and the life that is left. In every outcome it is said what was taken, each piece after its
 -- continuation.
-pub record IsExchanged (life : LinkLife) (command : Command) (left : LinkLife) (client : ClientState) (result : Result Exchange LinkEnd) (events : List Event) : Type 0 where
+pub record IsExchanged (life : LinkLife) (command : Command) (left : LinkLife) (client : ClientState) (result : Result Exchange LinkEnd)
+    (events : List Event) : Type 0 where
   pub ends : ExchangeEnds life command left result events
   pub stands : Stands client left

@@ -115,15 +115,19 @@ connect_plan preauth user password = planned_from preauth user password stage.As
 
 -- What a life adds from its dial on, until all is asked, and the life that is left; none where no greeting came. After each
 -- error it has ended.
-pub data Lives (user password : List ℕ) (left : Option LinkLife) (client : ClientState) (result : Result (Unit {0}) LinkEnd) (events : List Event) : Type 0 where
-  Unwelcome : (e : LinkEnd) (talk : List Event) (gave : List ℕ) → events ≡ talk ++ LinkEnded ∷ [] → Talk gave [] talk → GreetsBy gave begun (Err e) → result ≡ Err e → left ≡ None
+pub data Lives (user password : List ℕ) (left : Option LinkLife) (client : ClientState) (result : Result (Unit {0}) LinkEnd)
+    (events : List Event) : Type 0 where
+  Unwelcome : (e : LinkEnd) (talk : List Event) (gave : List ℕ) → events ≡ talk ++ LinkEnded ∷ [] → Talk gave [] talk → GreetsBy gave begun (Err e)
+      → result ≡ Err e → left ≡ None
       → Lives user password left client result events
-  Welcome : (life after : LinkLife) (preauth : Bool) (exchanges : List Exchange) (talk last : List Event) → events ≡ talk ++ last → Talk life.gave [] talk → IsNew life
+  Welcome : (life after : LinkLife) (preauth : Bool) (exchanges : List Exchange) (talk last : List Event) → events ≡ talk ++ last → Talk life.gave [] talk
+      → IsNew life
       → greeting_says life.greeting ≡ Ok preauth → Follows (connect_plan preauth user password) life after exchanges client result last → left ≡ Some after
       → Lives user password left client result events
 
 -- What connecting adds, and the life that is left.
-pub data Connects (user password : List ℕ) (left : Option LinkLife) (client : ClientState) (result : Result (Unit {0}) LinkEnd) (events : List Event) : Type 0 where
+pub data Connects (user password : List ℕ) (left : Option LinkLife) (client : ClientState) (result : Result (Unit {0}) LinkEnd)
+    (events : List Event) : Type 0 where
   -- out of memory before the dial
   Unready : events ≡ [] → result ≡ Err end.Memory → left ≡ None → Connects user password left client result events
   Undialed : events ≡ LinkEnded ∷ [] → result ≡ Err end.Lost → left ≡ None → Connects user password left client result events

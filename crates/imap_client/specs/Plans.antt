@@ -25,30 +25,35 @@ pub record StopsAtRefusal (plan : Planned) : Type 0 where
 -- From one life to another by completed exchanges, each of the command that was due.
 pub data Ran (plan : Planned) (life : LinkLife) : List Exchange → LinkLife → List Event → Type 0 where
   Begun : Ran plan life [] life []
-  Then : {xs : List Exchange} {mid after : LinkLife} {es fs : List Event} (command : Command) (x : Exchange) → Ran plan life xs mid es → plan xs ≡ due.Send command
+  Then : {xs : List Exchange} {mid after : LinkLife} {es fs : List Event} (command : Command) (x : Exchange) → Ran plan life xs mid es
+      → plan xs ≡ due.Send command
       → Completes mid command x after fs → Ran plan life (xs ++ x ∷ []) after (es ++ fs)
 
 -- The exchanges that a plan heard, from one state of its own to another.
 pub data HearsAll {S : Type 0} (hears : S → Exchange → S → Type 0) (before : S) : List Exchange → S → Type 0 where
   HeardNone : HearsAll hears before [] before
-  HeardMore : {xs : List Exchange} {mid after : S} (x : Exchange) → HearsAll hears before xs mid → hears mid x after → HearsAll hears before (xs ++ x ∷ []) after
+  HeardMore : {xs : List Exchange} {mid after : S} (x : Exchange) → HearsAll hears before xs mid → hears mid x after → HearsAll hears before
+      (xs ++ x ∷ []) after
 
 -- How it ends in a life, where this is due, and the life that is left. After each error that life has ended.
 pub data IsEnd (now : Due) (life left : LinkLife) (result : Result (Unit {0}) LinkEnd) (events : List Event) : Type 0 where
   -- all is done
   Finished : now ≡ due.Done → result ≡ Ok tt → events ≡ [] → left ≡ life → IsEnd now life left result events
   -- the plan fails by what the store answered
-  Failed : (why : Refusal) → now ≡ due.Fails why → result ≡ Err (refusal_end why) → HangsUp life.goes_on events → left ≡ hung_up life → IsEnd now life left result events
+  Failed : (why : Refusal) → now ≡ due.Fails why → result ≡ Err (refusal_end why) → HangsUp life.goes_on events → left ≡ hung_up life
+      → IsEnd now life left result events
   -- the command that is due isn't completed
   Broken : (command : Command) (e : LinkEnd) → now ≡ due.Send command → result ≡ Err e → Breaks life command e left events → IsEnd now life left result events
   -- a command is due, and the life ended with the exchange before
-  Gone : (command : Command) → now ≡ due.Send command → life.goes_on ≡ false → result ≡ Err end.Lost → events ≡ [] → left ≡ life → IsEnd now life left result events
+  Gone : (command : Command) → now ≡ due.Send command → life.goes_on ≡ false → result ≡ Err end.Lost → events ≡ [] → left ≡ life
+      → IsEnd now life left result events
   -- out of memory
   Wanting : result ≡ Err end.Memory → HangsUp life.goes_on events → left ≡ hung_up life → IsEnd now life left result events
 
 -- The plan was followed in this life: what was taken are the commands of these completed exchanges, and of the one that was
 -- due then at most a part.
-pub record Follows (plan : Planned) (life left : LinkLife) (exchanges : List Exchange) (client : ClientState) (result : Result (Unit {0}) LinkEnd) (events : List Event) : Type 0 where
+pub record Follows (plan : Planned) (life left : LinkLife) (exchanges : List Exchange) (client : ClientState) (result : Result (Unit {0}) LinkEnd)
+    (events : List Event) : Type 0 where
   pub after : LinkLife
   pub so_far : List Event
   pub last : List Event
@@ -58,7 +63,8 @@ pub record Follows (plan : Planned) (life left : LinkLife) (exchanges : List Exc
   pub stands : Stands client left
 
 -- The same, with the plan's own state: it heard these exchanges, unless memory ran out.
-pub record FollowsTo {S : Type 0} (plan : S → Planned) (hears : S → Exchange → S → Type 0) (before after : S) (life left : LinkLife) (client : ClientState) (result : Result (Unit {0}) LinkEnd) (events : List Event) : Type 0 where
+pub record FollowsTo {S : Type 0} (plan : S → Planned) (hears : S → Exchange → S → Type 0) (before after : S) (life left : LinkLife) (client : ClientState)
+    (result : Result (Unit {0}) LinkEnd) (events : List Event) : Type 0 where
   pub exchanges : List Exchange
   pub follows : Follows (plan before) life left exchanges client result events
   pub heard : result ≢ Err end.Memory → HearsAll hears before exchanges after

@@ -1,5 +1,6 @@
 -- An exchange, piece by piece and response by response.
-use Rattle.std.proofs.Common.{◌-◌, ◌≡◌, ◌≢◌, ◌⊎◌, ◌<◌, ◌≤◌, ◌++◌, ◌+◌, ℕ, zero, suc, Bool, true, false, List, [], ◌∷◌, Ok, Err, length, take, min, refl, sym, ◌∙◌, ap, subst, append_assoc, length-append, arith, inl, inr, nat_eq}
+use Rattle.std.proofs.Common.{◌-◌, ◌≡◌, ◌≢◌, ◌⊎◌, ◌<◌, ◌≤◌, ◌++◌, ◌+◌, ℕ, zero, suc, Bool, true, false, List, [], ◌∷◌, Ok, Err, length, take, min, refl, sym, ◌∙◌, ap, subst,
+    append_assoc, length-append, arith, inl, inr, nat_eq}
 use Rattle.std.proofs.lemmas.List.{append-nil, take_all}
 use Rattle.std.proofs.lemmas.List.Sums.{sum_by-append}
 use Rattle.std.proofs.lemmas.List.Elements.{All-nil}
@@ -36,7 +37,9 @@ use Rattle.imap_exchange.proofs.Pacing.{paced_none, paced_reading, paced_writing
 -- there is no piece at this place
 pub offers_none : (up : Bool) (pieces : List (List ℕ)) (at : ℕ) → up ≡ true → length pieces ≤ at → Offers up true (piece_at pieces at) []
 offers_none up pieces at is past =
-    subst (λ (b : Bool). Offers b true (piece_at pieces at) []) (sym is) (record { talk = []; took = []; left = []; ended = refl; said = Talk-none; whole = sym (none_past pieces at past); all_taken = λ _. refl; some_left = λ _ never. absurd (cc (never)) })
+    subst (λ (b : Bool). Offers b true (piece_at pieces at) []) (sym is)
+        (record { talk = []; took = []; left = []; ended = refl; said = Talk-none; whole = sym (none_past pieces at past); all_taken = λ _. refl; some_left = λ _ never. absurd
+        (cc (never)) })
   where
     none_past : (pieces : List (List ℕ)) (at : ℕ) → length pieces ≤ at → piece_at pieces at ≡ []
     none_past [] at past = refl
@@ -85,12 +88,14 @@ pub record Heard (pieces : List (List ℕ)) (before after : Octets) (responses :
   pub some_left : up ≡ false → 0 < length left
 
 -- the first piece was sent
-pub first_piece : {events : List Event} (pieces : List (List ℕ)) (before : Octets) (up : Bool) → Offers true up (piece_at pieces 0) events → Course pieces before before [] 1 up events
+pub first_piece : {events : List Event} (pieces : List (List ℕ)) (before : Octets) (up : Bool) → Offers true up (piece_at pieces 0) events
+    → Course pieces before before [] 1 up events
 first_piece {events} pieces before up o =
     let passed : Passes [] (before.octets ++ []) (before.octets ++ []) = record { all_open = All-nil IsOpen; spelled = refl } in
     let within : [] ++ (o.took ++ o.left) ≡ joined_pieces (pieces_due pieces []) = o.whole ∙ sym (joined_more pieces 0) in
     record {
-      speaks = record { talk = o.talk; gave = []; took = o.took; ended = o.ended; said = o.said; paced = paced_writing o.took o.left o.talk Talk-none (paced_none pieces before.octets) o.said passed within };
+      speaks = record { talk = o.talk; gave = []; took = o.took; ended = o.ended; said = o.said; paced = paced_writing o.took o.left o.talk Talk-none
+          (paced_none pieces before.octets) o.said passed within };
       passed = record { all_open = All-nil IsOpen; spelled = append-nil before.octets };
       given = omega arith;
       left = o.left;
@@ -100,7 +105,8 @@ first_piece {events} pieces before up o =
     }
 
 -- what was spoken, and then octets came
-abbrev pub spoken_more : {xs : List Event} (ys : List Event) (pieces : List (List ℕ)) (held : List ℕ) (was up : Bool) (more : List Event) (g : List ℕ) → Speaks pieces held was xs → Ends was up more ys → Talk g [] more → Speaks pieces held up (xs ++ ys)
+abbrev pub spoken_more : {xs : List Event} (ys : List Event) (pieces : List (List ℕ)) (held : List ℕ) (was up : Bool) (more : List Event) (g : List ℕ) → Speaks pieces held was xs
+    → Ends was up more ys → Talk g [] more → Speaks pieces held up (xs ++ ys)
 spoken_more {xs} ys pieces held was up more g s ends said =
     record {
       talk = s.talk ++ more;
@@ -111,11 +117,13 @@ spoken_more {xs} ys pieces held was up more g s ends said =
       paced = paced_reading g more s.said s.paced said;
     }
 
-passed_more : {responses : List Response} (before mid : Octets) (gave g : List ℕ) → Passes responses mid.octets (before.octets ++ gave) → Passes responses (mid.octets ++ g) (before.octets ++ (gave ++ g))
+passed_more : {responses : List Response} (before mid : Octets) (gave g : List ℕ) → Passes responses mid.octets (before.octets ++ gave) → Passes responses (mid.octets ++ g)
+    (before.octets ++ (gave ++ g))
 passed_more {responses} before mid gave g passed = subst (λ (l : List ℕ). Passes responses (mid.octets ++ g) l) (append_assoc before.octets gave g) (Passes-more g passed)
 
 -- a response came
-pub heard : {xs ys : List Event} {pieces : List (List ℕ)} {before mid after : Octets} {responses : List Response} {at : ℕ} {was : Bool} (begun : ℕ) (up : Bool) (w : Response) → up ≡ was → Course pieces before mid responses at was xs → Reads begun was up mid after (Ok w) ys → Heard pieces before after responses w at up (xs ++ ys)
+pub heard : {xs ys : List Event} {pieces : List (List ℕ)} {before mid after : Octets} {responses : List Response} {at : ℕ} {was : Bool} (begun : ℕ) (up : Bool) (w : Response)
+    → up ≡ was → Course pieces before mid responses at was xs → Reads begun was up mid after (Ok w) ys → Heard pieces before after responses w at up (xs ++ ys)
 heard {xs} {ys} {pieces} {before} {mid} {after} {responses} {at} {was} begun up w same c r =
     record {
       speaks = spoken_more ys pieces before.octets was up r.talk r.gave c.speaks r.ended r.said;
@@ -130,11 +138,14 @@ heard {xs} {ys} {pieces} {before} {mid} {after} {responses} {at} {was} begun up 
     }
 
 -- want of memory
-pub wanting : {xs : List Event} {pieces : List (List ℕ)} {before : Octets} {up : Bool} (tag : List ℕ) (after : Octets) → Speaks pieces before.octets up xs → Converses tag pieces before after up (Err end.Memory) xs
+pub wanting : {xs : List Event} {pieces : List (List ℕ)} {before : Octets} {up : Bool} (tag : List ℕ) (after : Octets) → Speaks pieces before.octets up xs
+    → Converses tag pieces before after up (Err end.Memory) xs
 wanting tag after s = record { speaks = s; comes = tt }
 
 -- no response came
-pub unheard : {xs ys : List Event} {pieces : List (List ℕ)} {before mid : Octets} {responses : List Response} {at : ℕ} {was : Bool} (tag : List ℕ) (begun : ℕ) (after : Octets) (up : Bool) (e : LinkEnd) → begun + length before.octets ≡ before.given → Course pieces before mid responses at was xs → Reads begun was up mid after (Err e) ys → Converses tag pieces before after up (Err e) (xs ++ ys)
+pub unheard : {xs ys : List Event} {pieces : List (List ℕ)} {before mid : Octets} {responses : List Response} {at : ℕ} {was : Bool} (tag : List ℕ) (begun : ℕ) (after : Octets)
+    (up : Bool) (e : LinkEnd) → begun + length before.octets ≡ before.given → Course pieces before mid responses at was xs → Reads begun was up mid after (Err e) ys
+    → Converses tag pieces before after up (Err e) (xs ++ ys)
 unheard {xs} {ys} {pieces} {before} {mid} {responses} {at} {was} tag begun after up end.Lost from c r =
     record {
       speaks = spoken_more ys pieces before.octets was up r.talk r.gave c.speaks r.ended r.said;
@@ -178,9 +189,12 @@ unheard tag begun after up end.NoQresync from c r = absurd r.reads
 unheard tag begun after up end.Lacks from c r = absurd r.reads
 
 -- one open response more
-pub opened : {r : Response} {es : List Event} {pieces : List (List ℕ)} {before after : Octets} {responses : List Response} {at : ℕ} {up : Bool} (w : Response) → r ≡ w → IsOpen w → Heard pieces before after responses w at up es → Course pieces before after (responses ++ r ∷ []) at up es
+pub opened : {r : Response} {es : List Event} {pieces : List (List ℕ)} {before after : Octets} {responses : List Response} {at : ℕ} {up : Bool} (w : Response) → r ≡ w → IsOpen w
+    → Heard pieces before after responses w at up es → Course pieces before after (responses ++ r ∷ []) at up es
 opened {r} {es} {pieces} {before} {after} {responses} {at} {up} w is here h =
-    let so : Course pieces before after (responses ++ w ∷ []) at up es = record { speaks = h.speaks; passed = Passes-push w h.passed here h.begins; given = h.given; left = h.left; taken = h.taken; all_taken = h.all_taken; some_left = h.some_left } in
+    let so : Course pieces before after (responses ++ w ∷ []) at up es =
+        record { speaks = h.speaks; passed = Passes-push w h.passed here h.begins; given = h.given; left = h.left; taken = h.taken; all_taken = h.all_taken; some_left =
+        h.some_left } in
     subst (λ (v : Response). Course pieces before after (responses ++ v ∷ []) at up es) (sym is) so
 
 -- how many continuations came, with one response more
@@ -196,7 +210,8 @@ record Left (up now : Bool) (left took after piece : List ℕ) : Type 0 where
   all_taken : now ≡ true → left ++ after ≡ []
   some_left : now ≡ false → 0 < length (left ++ after)
 
-left_more : {zs : List Event} (up now : Bool) (left piece : List ℕ) (o : Offers up now piece zs) → (up ≡ true → left ≡ []) → (up ≡ false → 0 < length left) → Left up now left o.took o.left piece
+left_more : {zs : List Event} (up now : Bool) (left piece : List ℕ) (o : Offers up now piece zs) → (up ≡ true → left ≡ []) → (up ≡ false → 0 < length left)
+    → Left up now left o.took o.left piece
 left_more true now left piece o all some =
     let none : left ≡ [] = all refl in
     record {
@@ -213,14 +228,17 @@ left_more false now left piece o all some =
     }
 
 -- a continuation came, and the next piece was offered
-pub continued : {xs zs : List Event} {pieces : List (List ℕ)} {before after : Octets} {responses : List Response} {at : ℕ} {up : Bool} (w : Response) (place : ℕ) (now : Bool) → w ≡ Continue → at ≡ min (continuations responses + 1) (length pieces) → place ≡ min (at + 1) (length pieces) → Heard pieces before after responses w at up xs → Offers up now (piece_at pieces at) zs → Course pieces before after (responses ++ Continue ∷ []) place now (xs ++ zs)
+pub continued : {xs zs : List Event} {pieces : List (List ℕ)} {before after : Octets} {responses : List Response} {at : ℕ} {up : Bool} (w : Response) (place : ℕ) (now : Bool)
+    → w ≡ Continue → at ≡ min (continuations responses + 1) (length pieces) → place ≡ min (at + 1) (length pieces) → Heard pieces before after responses w at up xs → Offers up now
+    (piece_at pieces at) zs → Course pieces before after (responses ++ Continue ∷ []) place now (xs ++ zs)
 continued {xs} {zs} {pieces} {before} {after} {responses} {at} {up} w place now is here there h o =
     let left = left_more up now h.left (piece_at pieces at) o h.all_taken h.some_left in
     let is_open : IsOpen w = subst IsOpen (sym is) tt in
     let passed = Passes-push w h.passed is_open h.begins in
     let counted : continuations (responses ++ w ∷ []) ≡ continuations responses + 1 = ap (λ (r : Response). continuations (responses ++ r ∷ [])) is ∙ one_continue responses in
     let whole : h.speaks.took ++ (o.took ++ (h.left ++ o.left)) ≡ joined_pieces (take (at + 1) pieces) =
-    ap (λ (l : List ℕ). h.speaks.took ++ l) left.joined ∙ sym (append_assoc h.speaks.took h.left (piece_at pieces at)) ∙ ap (λ (l : List ℕ). l ++ piece_at pieces at) h.taken ∙ sym (joined_more pieces at) in
+    ap (λ (l : List ℕ). h.speaks.took ++ l) left.joined ∙ sym (append_assoc h.speaks.took h.left (piece_at pieces at)) ∙ ap (λ (l : List ℕ). l ++ piece_at pieces at) h.taken ∙ sym
+        (joined_more pieces at) in
     let to_place : take (at + 1) pieces ≡ take place pieces = take_min pieces (at + 1) place there in
     let due : pieces_due pieces (responses ++ w ∷ []) ≡ take place pieces = take_min pieces (continuations (responses ++ w ∷ []) + 1) place (omega (arith, here, there, counted)) in
     let within : h.speaks.took ++ (o.took ++ (h.left ++ o.left)) ≡ joined_pieces (pieces_due pieces (responses ++ w ∷ [])) = whole ∙ ap joined_pieces (to_place ∙ sym due) in
@@ -250,7 +268,8 @@ rose_later false a b c before now first second = omega (arith, before refl, seco
 -- ---- its end
 
 -- a status that settles the exchange as the code tests it
-settles_of : (pieces : List (List ℕ)) (responses : List Response) (all_due : Bool) (s : Status) → (all_due ≡ true → AreAllDue pieces responses) → SettlesNow all_due s → Settles pieces responses s
+settles_of : (pieces : List (List ℕ)) (responses : List Response) (all_due : Bool) (s : Status) → (all_due ≡ true → AreAllDue pieces responses) → SettlesNow all_due s
+    → Settles pieces responses s
 settles_of pieces responses all_due status.Ok due settles = due settles
 settles_of pieces responses all_due status.No due settles = tt
 settles_of pieces responses all_due status.Bad due settles = tt
@@ -265,25 +284,33 @@ not_end : (at n : ℕ) → nat_eq at n ≡ false → at ≢ n
 not_end at n is = grind (arith, nat_tests)
 
 -- all pieces are due at the last place
-pub due_at_end : (pieces : List (List ℕ)) (responses : List Response) (at : ℕ) → at ≡ min (continuations responses + 1) (length pieces) → at ≡ length pieces → AreAllDue pieces responses
+pub due_at_end : (pieces : List (List ℕ)) (responses : List Response) (at : ℕ) → at ≡ min (continuations responses + 1) (length pieces) → at ≡ length pieces
+    → AreAllDue pieces responses
 due_at_end pieces responses at place end = omega (arith, place, end)
 
 -- the verdict of a tagged line
-done_verdict : {es : List Event} {pieces : List (List ℕ)} {before after : Octets} {responses : List Response} {at : ℕ} {up : Bool} (tag : List ℕ) (w : Response) (s : Status) (code : Code) (h : Heard pieces before after responses w at up es) → w ≡ Tagged tag s code → Settles pieces responses s → IsVerdict tag pieces (before.octets ++ h.speaks.gave) (Done responses s code after.octets)
+done_verdict : {es : List Event} {pieces : List (List ℕ)} {before after : Octets} {responses : List Response} {at : ℕ} {up : Bool} (tag : List ℕ) (w : Response) (s : Status)
+    (code : Code) (h : Heard pieces before after responses w at up es) → w ≡ Tagged tag s code → Settles pieces responses s → IsVerdict tag pieces (before.octets ++ h.speaks.gave)
+    (Done responses s code after.octets)
 done_verdict {after = after} {responses} tag w s code h is settles =
-    record { responses = responses; remaining = h.remaining; passed = h.passed; decided = (refl, subst (λ (r : Response). Begins (r ∷ []) after.octets h.remaining) is h.begins, settles) }
+    record { responses = responses; remaining = h.remaining; passed = h.passed; decided =
+        (refl, subst (λ (r : Response). Begins (r ∷ []) after.octets h.remaining) is h.begins, settles) }
 
 -- what was taken of a command that is answered
-taken_of : (pieces : List (List ℕ)) (responses : List Response) (at : ℕ) (up : Bool) (s : Status) (took left : List ℕ) → at ≡ min (continuations responses + 1) (length pieces) → took ++ left ≡ joined_pieces (take at pieces) → (up ≡ true → left ≡ []) → is_settled_by up s ≡ true → Settles pieces responses s → IsTaken pieces responses s took
+taken_of : (pieces : List (List ℕ)) (responses : List Response) (at : ℕ) (up : Bool) (s : Status) (took left : List ℕ) → at ≡ min (continuations responses + 1) (length pieces)
+    → took ++ left ≡ joined_pieces (take at pieces) → (up ≡ true → left ≡ []) → is_settled_by up s ≡ true → Settles pieces responses s → IsTaken pieces responses s took
 taken_of pieces responses at up status.Ok took left place taken all settled due =
     sym (append-nil took) ∙ ap (λ (l : List ℕ). took ++ l) (sym (all settled)) ∙ taken ∙ ap joined_pieces (take_all at pieces (omega (arith, place, due)))
 taken_of pieces responses at up status.No took left place taken all settled due = (left, taken ∙ ap joined_pieces (sym (take_min pieces (continuations responses + 1) at place)))
 taken_of pieces responses at up status.Bad took left place taken all settled due = (left, taken ∙ ap joined_pieces (sym (take_min pieces (continuations responses + 1) at place)))
-taken_of pieces responses at up status.Preauth took left place taken all settled due = (left, taken ∙ ap joined_pieces (sym (take_min pieces (continuations responses + 1) at place)))
+taken_of pieces responses at up status.Preauth took left place taken all settled due =
+    (left, taken ∙ ap joined_pieces (sym (take_min pieces (continuations responses + 1) at place)))
 taken_of pieces responses at up status.Bye took left place taken all settled due = (left, taken ∙ ap joined_pieces (sym (take_min pieces (continuations responses + 1) at place)))
 
 -- the tagged line answers the command
-pub done : {es : List Event} {pieces : List (List ℕ)} {before after : Octets} {responses : List Response} {at : ℕ} {up : Bool} (tag : List ℕ) (w : Response) (s : Status) (code : Code) → at ≡ min (continuations responses + 1) (length pieces) → w ≡ Tagged tag s code → SettlesNow (nat_eq at (length pieces)) s → is_settled_by up s ≡ true → Heard pieces before after responses w at up es → Converses tag pieces before after up (Ok (record { responses = responses; status = s; code = code })) es
+pub done : {es : List Event} {pieces : List (List ℕ)} {before after : Octets} {responses : List Response} {at : ℕ} {up : Bool} (tag : List ℕ) (w : Response) (s : Status)
+    (code : Code) → at ≡ min (continuations responses + 1) (length pieces) → w ≡ Tagged tag s code → SettlesNow (nat_eq at (length pieces)) s → is_settled_by up s ≡ true
+    → Heard pieces before after responses w at up es → Converses tag pieces before after up (Ok (record { responses = responses; status = s; code = code })) es
 done {pieces = pieces} {before} {after} {responses} {at} {up} tag w s code place is now settled h =
     let settles = settles_of pieces responses (nat_eq at (length pieces)) s (λ all. due_at_end pieces responses at place (at_end at (length pieces) all)) now in
     record {
@@ -293,7 +320,8 @@ done {pieces = pieces} {before} {after} {responses} {at} {up} tag w s code place
         taken_of pieces responses at up s h.speaks.took h.left place h.taken h.all_taken settled settles,
         h.given,
         refused up s settled,
-        λ is. sym (append-nil h.speaks.took) ∙ ap (λ (l : List ℕ). h.speaks.took ++ l) (sym (h.all_taken is)) ∙ h.taken ∙ ap joined_pieces (sym (take_min pieces (continuations responses + 1) at place)),
+        λ is. sym (append-nil h.speaks.took) ∙ ap (λ (l : List ℕ). h.speaks.took ++ l) (sym (h.all_taken is)) ∙ h.taken ∙ ap joined_pieces
+            (sym (take_min pieces (continuations responses + 1) at place)),
       );
     }
   where
@@ -305,13 +333,16 @@ done {pieces = pieces} {before} {after} {responses} {at} {up} tag w s code place
     refused up status.Bye settled down = λ is. cc
 
 -- an OK to a command that wasn't taken whole
-pub not_whole : {es : List Event} {pieces : List (List ℕ)} {before after : Octets} {responses : List Response} {at : ℕ} {up : Bool} (tag : List ℕ) (w : Response) (s : Status) (code : Code) → at ≡ min (continuations responses + 1) (length pieces) → w ≡ Tagged tag s code → SettlesNow (nat_eq at (length pieces)) s → is_settled_by up s ≡ false → Heard pieces before after responses w at up es → Converses tag pieces before after up (Err end.Lost) es
+pub not_whole : {es : List Event} {pieces : List (List ℕ)} {before after : Octets} {responses : List Response} {at : ℕ} {up : Bool} (tag : List ℕ) (w : Response) (s : Status)
+    (code : Code) → at ≡ min (continuations responses + 1) (length pieces) → w ≡ Tagged tag s code → SettlesNow (nat_eq at (length pieces)) s → is_settled_by up s ≡ false
+    → Heard pieces before after responses w at up es → Converses tag pieces before after up (Err end.Lost) es
 not_whole {pieces = pieces} {before} {after} {responses} {at} {up} tag w status.Ok code place is now settled h =
     let due = due_at_end pieces responses at place (at_end at (length pieces) now) in
     let whole : joined_pieces (take at pieces) ≡ joined_pieces pieces = ap joined_pieces (take_all at pieces (omega (arith, place, due))) in
     record {
       speaks = h.speaks;
-      comes = inr (responses, code, after.octets, done_verdict tag w status.Ok code h is due, λ same. lacking h.speaks.took h.left (joined_pieces pieces) (h.some_left settled) (h.taken ∙ whole) same);
+      comes = inr (responses, code, after.octets, done_verdict tag w status.Ok code h is due, λ same. lacking h.speaks.took h.left (joined_pieces pieces) (h.some_left settled)
+          (h.taken ∙ whole) same);
     }
   where
     lacking : (took left all : List ℕ) → 0 < length left → took ++ left ≡ all → took ≡ all → ⊥
@@ -322,7 +353,9 @@ not_whole tag w status.Preauth code place is now settled h = absurd (cc settled)
 not_whole tag w status.Bye code place is now settled h = absurd (cc settled)
 
 -- a response that ends the life
-pub ends : {es : List Event} {pieces : List (List ℕ)} {before after : Octets} {responses : List Response} {at : ℕ} {up : Bool} (tag : List ℕ) (w : Response) (e : LinkEnd) → at ≡ min (continuations responses + 1) (length pieces) → Judges w tag (nat_eq at (length pieces)) (turn.Ends e) → Heard pieces before after responses w at up es → Converses tag pieces before after up (Err e) es
+pub ends : {es : List Event} {pieces : List (List ℕ)} {before after : Octets} {responses : List Response} {at : ℕ} {up : Bool} (tag : List ℕ) (w : Response) (e : LinkEnd)
+    → at ≡ min (continuations responses + 1) (length pieces) → Judges w tag (nat_eq at (length pieces)) (turn.Ends e) → Heard pieces before after responses w at up es
+    → Converses tag pieces before after up (Err e) es
 ends {pieces = pieces} {before} {after} {responses} {at} {up} tag w end.Stray place (other, s, code, is, why) h =
     record {
       speaks = h.speaks;
@@ -340,7 +373,8 @@ ends {pieces = pieces} {before} {after} {responses} {at} {up} tag w end.Stray pl
 ends {pieces = pieces} {before} {after} {responses} {at} {up} tag w end.Bye place (code, is) h =
     record {
       speaks = h.speaks;
-      comes = record { responses = responses; remaining = h.remaining; passed = h.passed; decided = (code, after.octets, subst (λ (r : Response). Begins (r ∷ []) after.octets h.remaining) is h.begins) };
+      comes = record { responses = responses; remaining = h.remaining; passed = h.passed; decided =
+          (code, after.octets, subst (λ (r : Response). Begins (r ∷ []) after.octets h.remaining) is h.begins) };
     }
 ends tag w end.Lost place never h = absurd never
 ends tag w (end.Bad at) place never h = absurd never

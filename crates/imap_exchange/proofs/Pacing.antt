@@ -43,10 +43,12 @@ IsPart-more g so = record { responses = so.responses; remaining = so.remaining +
 -- at the end of the events
 pub paced_whole : {pieces : List (List ℕ)} {held gave took : List ℕ} {talk : List Event} → Talk gave took talk → IsPaced pieces held talk → IsPart pieces (held ++ gave) took
 paced_whole {pieces} {held} {gave} {took} {talk} said paced =
-    subst (λ (g : List ℕ). IsPart pieces (held ++ g) took) said.gave_is (subst (λ (t : List ℕ). IsPart pieces (held ++ flat_map store_gave_in talk) t) said.took_is (paced.at_each talk [] (sym (append-nil talk))))
+    subst (λ (g : List ℕ). IsPart pieces (held ++ g) took) said.gave_is
+        (subst (λ (t : List ℕ). IsPart pieces (held ++ flat_map store_gave_in talk) t) said.took_is (paced.at_each talk [] (sym (append-nil talk))))
 
 -- further events
-pub paced_more : {pieces : List (List ℕ)} {held gave took : List ℕ} {talk : List Event} (ys : List Event) → Talk gave took talk → IsPaced pieces held talk → ((zs ws : List Event) → ys ≡ zs ++ ws → IsPart pieces (held ++ (gave ++ flat_map store_gave_in zs)) (took ++ flat_map store_took_in zs)) → IsPaced pieces held (talk ++ ys)
+pub paced_more : {pieces : List (List ℕ)} {held gave took : List ℕ} {talk : List Event} (ys : List Event) → Talk gave took talk → IsPaced pieces held talk
+    → ((zs ws : List Event) → ys ≡ zs ++ ws → IsPart pieces (held ++ (gave ++ flat_map store_gave_in zs)) (took ++ flat_map store_took_in zs)) → IsPaced pieces held (talk ++ ys)
 paced_more {pieces} {held} {gave} {took} {talk} ys said paced then_so = record { at_each = at_each }
   where
     at_each : (so_far later : List Event) → talk ++ ys ≡ so_far ++ later → IsPart pieces (held ++ flat_map store_gave_in so_far) (flat_map store_took_in so_far)
@@ -54,32 +56,44 @@ paced_more {pieces} {held} {gave} {took} {talk} ys said paced then_so = record {
         elim (cut_of so_far later talk ys is) as (λ c. IsPart pieces (held ++ flat_map store_gave_in so_far) (flat_map store_took_in so_far)) [
           | inl so ↦ paced.at_each so_far so.0 so.1
           | inr so ↦
-              let gave_is : flat_map store_gave_in so_far ≡ gave ++ flat_map store_gave_in so.0 = ap (λ (l : List Event). flat_map store_gave_in l) so.1 ∙ flat_map-append store_gave_in talk so.0 ∙ ap (λ (l : List ℕ). l ++ flat_map store_gave_in so.0) said.gave_is in
-              let took_is : flat_map store_took_in so_far ≡ took ++ flat_map store_took_in so.0 = ap (λ (l : List Event). flat_map store_took_in l) so.1 ∙ flat_map-append store_took_in talk so.0 ∙ ap (λ (l : List ℕ). l ++ flat_map store_took_in so.0) said.took_is in
-              subst (λ (g : List ℕ). IsPart pieces (held ++ g) (flat_map store_took_in so_far)) (sym gave_is) (subst (λ (t : List ℕ). IsPart pieces (held ++ (gave ++ flat_map store_gave_in so.0)) t) (sym took_is) (then_so so.0 later so.2))
+              let gave_is : flat_map store_gave_in so_far ≡ gave ++ flat_map store_gave_in so.0 = ap (λ (l : List Event). flat_map store_gave_in l) so.1
+                  ∙ flat_map-append store_gave_in talk so.0 ∙ ap (λ (l : List ℕ). l ++ flat_map store_gave_in so.0) said.gave_is in
+              let took_is : flat_map store_took_in so_far ≡ took ++ flat_map store_took_in so.0 = ap (λ (l : List Event). flat_map store_took_in l) so.1
+                  ∙ flat_map-append store_took_in talk so.0 ∙ ap (λ (l : List ℕ). l ++ flat_map store_took_in so.0) said.took_is in
+              subst (λ (g : List ℕ). IsPart pieces (held ++ g) (flat_map store_took_in so_far)) (sym gave_is)
+                  (subst (λ (t : List ℕ). IsPart pieces (held ++ (gave ++ flat_map store_gave_in so.0)) t) (sym took_is) (then_so so.0 later so.2))
         ]
 
 -- octets come
-pub paced_reading : {pieces : List (List ℕ)} {held gave took : List ℕ} {talk : List Event} (g : List ℕ) (ys : List Event) → Talk gave took talk → IsPaced pieces held talk → Talk g [] ys → IsPaced pieces held (talk ++ ys)
+pub paced_reading : {pieces : List (List ℕ)} {held gave took : List ℕ} {talk : List Event} (g : List ℕ) (ys : List Event) → Talk gave took talk → IsPaced pieces held talk
+    → Talk g [] ys → IsPaced pieces held (talk ++ ys)
 paced_reading {pieces} {held} {gave} {took} {talk} g ys said paced reads =
     paced_more ys said paced (λ zs ws is.
-    let took_none : flat_map store_took_in zs ≡ [] = nil_left (flat_map store_took_in zs) (flat_map store_took_in ws) (sym (flat_map-append store_took_in zs ws) ∙ ap (λ (l : List Event). flat_map store_took_in l) (sym is) ∙ reads.took_is) in
+    let took_none : flat_map store_took_in zs ≡ [] = nil_left (flat_map store_took_in zs) (flat_map store_took_in ws)
+        (sym (flat_map-append store_took_in zs ws) ∙ ap (λ (l : List Event). flat_map store_took_in l) (sym is) ∙ reads.took_is) in
     let part = IsPart-more (flat_map store_gave_in zs) (paced_whole said paced) in
-    subst (λ (o : List ℕ). IsPart pieces o (took ++ flat_map store_took_in zs)) (append_assoc held gave (flat_map store_gave_in zs)) (subst (λ (t : List ℕ). IsPart pieces ((held ++ gave) ++ flat_map store_gave_in zs) t) (sym (append-nil took) ∙ ap (λ (l : List ℕ). took ++ l) (sym took_none)) part))
+    subst (λ (o : List ℕ). IsPart pieces o (took ++ flat_map store_took_in zs)) (append_assoc held gave (flat_map store_gave_in zs))
+        (subst (λ (t : List ℕ). IsPart pieces ((held ++ gave) ++ flat_map store_gave_in zs) t) (sym (append-nil took) ∙ ap (λ (l : List ℕ). took ++ l) (sym took_none)) part))
 
 -- octets are taken that are due by these responses
-pub paced_writing : {pieces : List (List ℕ)} {held gave took remaining : List ℕ} {talk : List Event} {responses : List Response} (t left : List ℕ) (ys : List Event) → Talk gave took talk → IsPaced pieces held talk → Talk [] t ys → Passes responses remaining (held ++ gave) → took ++ (t ++ left) ≡ joined_pieces (pieces_due pieces responses) → IsPaced pieces held (talk ++ ys)
+pub paced_writing : {pieces : List (List ℕ)} {held gave took remaining : List ℕ} {talk : List Event} {responses : List Response} (t left : List ℕ) (ys : List Event)
+    → Talk gave took talk → IsPaced pieces held talk → Talk [] t ys → Passes responses remaining (held ++ gave) → took ++ (t ++ left) ≡ joined_pieces (pieces_due pieces responses)
+    → IsPaced pieces held (talk ++ ys)
 paced_writing {pieces} {held} {gave} {took} {remaining} {talk} {responses} t left ys said paced writes passed within =
     paced_more ys said paced (λ zs ws is.
-    let gave_none : flat_map store_gave_in zs ≡ [] = nil_left (flat_map store_gave_in zs) (flat_map store_gave_in ws) (sym (flat_map-append store_gave_in zs ws) ∙ ap (λ (l : List Event). flat_map store_gave_in l) (sym is) ∙ writes.gave_is) in
-    let parts : flat_map store_took_in zs ++ flat_map store_took_in ws ≡ t = sym (flat_map-append store_took_in zs ws) ∙ ap (λ (l : List Event). flat_map store_took_in l) (sym is) ∙ writes.took_is in
-    let octets_are : held ++ gave ≡ held ++ (gave ++ flat_map store_gave_in zs) = ap (λ (l : List ℕ). held ++ l) (sym (append-nil gave) ∙ ap (λ (l : List ℕ). gave ++ l) (sym gave_none)) in
+    let gave_none : flat_map store_gave_in zs ≡ [] = nil_left (flat_map store_gave_in zs) (flat_map store_gave_in ws)
+        (sym (flat_map-append store_gave_in zs ws) ∙ ap (λ (l : List Event). flat_map store_gave_in l) (sym is) ∙ writes.gave_is) in
+    let parts : flat_map store_took_in zs ++ flat_map store_took_in ws ≡ t = sym (flat_map-append store_took_in zs ws) ∙ ap (λ (l : List Event). flat_map store_took_in l) (sym is)
+        ∙ writes.took_is in
+    let octets_are : held ++ gave ≡ held ++ (gave ++ flat_map store_gave_in zs) = ap (λ (l : List ℕ). held ++ l)
+        (sym (append-nil gave) ∙ ap (λ (l : List ℕ). gave ++ l) (sym gave_none)) in
     record {
       responses = responses;
       remaining = remaining;
       passed = subst (λ (o : List ℕ). Passes responses remaining o) octets_are passed;
       left = flat_map store_took_in ws ++ left;
-      within = append_assoc took (flat_map store_took_in zs) (flat_map store_took_in ws ++ left) ∙ ap (λ (l : List ℕ). took ++ l) (sym (append_assoc (flat_map store_took_in zs) (flat_map store_took_in ws) left) ∙ ap (λ (l : List ℕ). l ++ left) parts) ∙ within;
+      within = append_assoc took (flat_map store_took_in zs) (flat_map store_took_in ws ++ left) ∙ ap (λ (l : List ℕ). took ++ l)
+          (sym (append_assoc (flat_map store_took_in zs) (flat_map store_took_in ws) left) ∙ ap (λ (l : List ℕ). l ++ left) parts) ∙ within;
     })
 
 -- no events yet

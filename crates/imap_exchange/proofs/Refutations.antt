@@ -37,9 +37,11 @@ fewer (p ∷ ps) (suc m) (suc n) le =
     let rest = fewer ps m n (omega arith) in
     (rest.0, append_assoc p (joined_pieces (take m ps)) rest.0 ∙ ap (λ (l : List ℕ). p ++ l) rest.1)
 
-pub each_piece_is_due : (tag : List ℕ) (pieces : List (List ℕ)) (octets took : List ℕ) (verdict : Verdict) (v : IsVerdict tag pieces octets verdict) → IsPart pieces octets took → (left : List ℕ) × (took ++ left ≡ joined_pieces (pieces_due pieces v.responses))
+pub each_piece_is_due : (tag : List ℕ) (pieces : List (List ℕ)) (octets took : List ℕ) (verdict : Verdict) (v : IsVerdict tag pieces octets verdict) → IsPart pieces octets took
+    → (left : List ℕ) × (took ++ left ≡ joined_pieces (pieces_due pieces v.responses))
 each_piece_is_due tag pieces octets took verdict v part =
-    let front = front_of part.responses v.responses part.remaining v.remaining octets part.passed.all_open v.passed.all_open part.passed.spelled v.passed.spelled (none_open tag pieces octets v.responses v.remaining verdict v.decided) in
+    let front = front_of part.responses v.responses part.remaining v.remaining octets part.passed.all_open v.passed.all_open part.passed.spelled v.passed.spelled
+        (none_open tag pieces octets v.responses v.remaining verdict v.decided) in
     let same : continuations v.responses ≡ continuations (part.responses ++ front.0) = ap continuations front.1 in
     let sums : continuations (part.responses ++ front.0) ≡ continuations part.responses + continuations front.0 = sum_by-append _ part.responses front.0 in
     let counted : continuations part.responses + 1 ≤ continuations v.responses + 1 = omega (arith, same, sums) in
@@ -61,10 +63,13 @@ done_not_bad rs s k t at is = cc
 done_status : (rs rs' : List Response) (s s' : Status) (k k' : Code) (t t' : List ℕ) → Done rs s k t ≡ Done rs' s' k' t' → s ≡ s'
 done_status rs rs' s s' k k' t t' is = cc
 
-pub no_end_after_an_answer : (tag : List ℕ) (pieces : List (List ℕ)) (before : Octets) (gave took : List ℕ) (responses : List Response) (s : Status) (code : Code) (rest : List ℕ) (e : LinkEnd) → IsVerdict tag pieces (before.octets ++ gave) (Done responses s code rest) → (s ≢ status.Ok) ⊎ (took ≡ joined_pieces pieces) → IsCause tag pieces before gave took e → e ≡ end.Memory
+pub no_end_after_an_answer : (tag : List ℕ) (pieces : List (List ℕ)) (before : Octets) (gave took : List ℕ) (responses : List Response) (s : Status) (code : Code) (rest : List ℕ)
+    (e : LinkEnd) → IsVerdict tag pieces (before.octets ++ gave) (Done responses s code rest) → (s ≢ status.Ok) ⊎ (took ≡ joined_pieces pieces)
+    → IsCause tag pieces before gave took e → e ≡ end.Memory
 no_end_after_an_answer tag pieces before gave took responses s code rest end.Lost v (inl other) (inl still) = absurd (done_not_open _ _ _ _ (one_verdict tag pieces _ _ _ v still))
 no_end_after_an_answer tag pieces before gave took responses s code rest end.Lost v (inr whole) (inl still) = absurd (done_not_open _ _ _ _ (one_verdict tag pieces _ _ _ v still))
-no_end_after_an_answer tag pieces before gave took responses s code rest end.Lost v (inl other) (inr (rs, k, t, w, part)) = absurd (other (done_status _ _ _ _ _ _ _ _ (one_verdict tag pieces _ _ _ v w)))
+no_end_after_an_answer tag pieces before gave took responses s code rest end.Lost v (inl other) (inr (rs, k, t, w, part)) = absurd
+    (other (done_status _ _ _ _ _ _ _ _ (one_verdict tag pieces _ _ _ v w)))
 no_end_after_an_answer tag pieces before gave took responses s code rest end.Lost v (inr whole) (inr (rs, k, t, w, part)) = absurd (part whole)
 no_end_after_an_answer tag pieces before gave took responses s code rest (end.Bad at) v so (place, w, there) = absurd (done_not_bad _ _ _ _ _ (one_verdict tag pieces _ _ _ v w))
 no_end_after_an_answer tag pieces before gave took responses s code rest end.Stray v so w = absurd (done_not_stray _ _ _ _ (one_verdict tag pieces _ _ _ v w))
@@ -83,5 +88,6 @@ said_by tag status.Bad code text spells = inr (inr refl)
 said_by tag status.Preauth code text spells = absurd spells.spells.completes
 said_by tag status.Bye code text spells = absurd spells.spells.completes
 
-pub statuses_of_answers : (tag : List ℕ) (pieces : List (List ℕ)) (octets rest : List ℕ) (responses : List Response) (s : Status) (code : Code) → IsVerdict tag pieces octets (Done responses s code rest) → (s ≡ status.Ok) ⊎ (s ≡ status.No) ⊎ (s ≡ status.Bad)
+pub statuses_of_answers : (tag : List ℕ) (pieces : List (List ℕ)) (octets rest : List ℕ) (responses : List Response) (s : Status) (code : Code) → IsVerdict tag pieces octets
+    (Done responses s code rest) → (s ≡ status.Ok) ⊎ (s ≡ status.No) ⊎ (s ≡ status.Bad)
 statuses_of_answers tag pieces octets rest responses s code v = let line = v.decided.1 in said_by tag s code line.0 line.2

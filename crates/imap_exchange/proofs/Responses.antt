@@ -29,7 +29,8 @@ Gains-append {a} {b} {c} {g} {h} first second =
     }
 
 -- a whole response stands at the front
-pub read_whole : {events : List Event} {response : Response} (begun : ℕ) (before now after : Octets) (n : ℕ) → (gave : List ℕ) × Gains before now gave events → IsSpelling response (take n now.octets) → after.octets ≡ drop n now.octets → after.given ≡ now.given → Reads begun true true before after (Ok response) events
+pub read_whole : {events : List Event} {response : Response} (begun : ℕ) (before now after : Octets) (n : ℕ) → (gave : List ℕ) × Gains before now gave events → IsSpelling response
+    (take n now.octets) → after.octets ≡ drop n now.octets → after.given ≡ now.given → Reads begun true true before after (Ok response) events
 read_whole {events} begun before now after n (gave, gains) spells rest given =
     record {
       talk = events;
@@ -45,7 +46,8 @@ read_whole {events} begun before now after n (gave, gains) spells rest given =
     }
 
 -- octets stand there with which no response begins
-pub read_bad : {events : List Event} (begun : ℕ) (before now : Octets) (offset at : ℕ) → (gave : List ℕ) × Gains before now gave events → ScanOf now.octets (Bad at) → offset + length now.octets ≡ now.given → Reads begun true true before now (Err (end.Bad offset)) events
+pub read_bad : {events : List Event} (begun : ℕ) (before now : Octets) (offset at : ℕ) → (gave : List ℕ) × Gains before now gave events → ScanOf now.octets (Bad at)
+    → offset + length now.octets ≡ now.given → Reads begun true true before now (Err (end.Bad offset)) events
 read_bad {events} begun before now offset at (gave, gains) so place =
     record {
       talk = events;
@@ -60,11 +62,13 @@ read_bad {events} begun before now offset at (gave, gains) so place =
     }
 
 -- want of memory
-pub read_wanting : {events : List Event} (begun : ℕ) (before now after : Octets) → (gave : List ℕ) × Gains before now gave events → Reads begun true true before after (Err end.Memory) events
+pub read_wanting : {events : List Event} (begun : ℕ) (before now after : Octets) → (gave : List ℕ) × Gains before now gave events → Reads begun true true before after
+    (Err end.Memory) events
 read_wanting {events} begun before now after (gave, gains) = record { talk = events; gave = gave; ended = sym (append-nil events); said = gains.said; reads = tt }
 
 -- no further octets come, where no whole response stands at the front
-pub fill_failed : {xs : List Event} (ys : List Event) (begun : ℕ) (before now after : Octets) (e : LinkEnd) → ScanOf now.octets NeedMore → (gave : List ℕ) × Gains before now gave xs → Fills begun now after (Err e) ys → Reads begun true (is_up_at e) before after (Err e) (xs ++ ys)
+pub fill_failed : {xs : List Event} (ys : List Event) (begun : ℕ) (before now after : Octets) (e : LinkEnd) → ScanOf now.octets NeedMore → (gave : List ℕ)
+    × Gains before now gave xs → Fills begun now after (Err e) ys → Reads begun true (is_up_at e) before after (Err e) (xs ++ ys)
 fill_failed {xs} ys begun before now after end.Lost more (gave, gains) fills =
     record { talk = xs; gave = gave; ended = ap (λ (l : List Event). xs ++ l) fills.0; said = gains.said; reads = subst (λ (l : List ℕ). ScanOf l NeedMore) gains.octets more }
 fill_failed {xs} ys begun before now after end.TooMuch more (gave, gains) fills =
@@ -87,8 +91,10 @@ fill_failed ys begun before now after end.Lacks more so fills = absurd fills
 -- octets that grew keep their front
 pub kept_front : (old new slice : List ℕ) → slice ≡ old → (gave : List ℕ) × (new ≡ old ++ gave) → (take (length slice) new ≡ old) × (length slice ≤ length new)
 kept_front old new slice is (gave, grew) =
-    (ap (λ (l : List ℕ). take (length l) new) is ∙ ap (λ (l : List ℕ). take (length old) l) grew ∙ take-append_seam old gave, omega (arith, ap length is, ap length grew, length-append old gave))
+    (ap (λ (l : List ℕ). take (length l) new) is ∙ ap (λ (l : List ℕ). take (length old) l) grew ∙ take-append_seam old gave, omega
+        (arith, ap length is, ap length grew, length-append old gave))
 
 -- what is held is read, where nothing is said
-pub held_bad : (before : Octets) (offset at : ℕ) → ScanOf before.octets (Bad at) → offset + length before.octets ≡ before.given → (place : ℕ) × ScanOf (before.octets ++ []) (Bad place) × (offset + length (before.octets ++ []) ≡ before.given + length {A = ℕ} [])
+pub held_bad : (before : Octets) (offset at : ℕ) → ScanOf before.octets (Bad at) → offset + length before.octets ≡ before.given → (place : ℕ) × ScanOf (before.octets ++ [])
+    (Bad place) × (offset + length (before.octets ++ []) ≡ before.given + length {A = ℕ} [])
 held_bad before offset at so place = (at, subst (λ (l : List ℕ). ScanOf l (Bad at)) (sym (append-nil before.octets)) so, omega (arith, place, ap length (append-nil before.octets)))

@@ -63,7 +63,8 @@ same_pass (v ∷ vs) [] r s b open_v open_w (text, more, spells, is, remaining) 
     absurd (none' v text more spells (sym is' ∙ is) (All-head IsOpen v vs open_v))
 same_pass (v ∷ vs) (w ∷ ws) r s b open_v open_w (text, more, spells, is, remaining) (text', more', spells', is', remaining') none none' =
     let front = same_front spells spells' (sym is ∙ is') in
-    let rest = same_pass vs ws r s more (All-tail IsOpen v vs open_v) (All-tail IsOpen w ws open_w) remaining (subst (λ (l : List ℕ). Begins ws s l) (sym front.2) remaining') none none' in
+    let rest = same_pass vs ws r s more (All-tail IsOpen v vs open_v) (All-tail IsOpen w ws open_w) remaining
+        (subst (λ (l : List ℕ). Begins ws s l) (sym front.2) remaining') none none' in
     ((λ i. front.0 i ∷ rest.0 i), rest.1)
 
 -- where a response begins that isn't open, no open one does
@@ -100,7 +101,9 @@ bad_not_more : (r : List ℕ) (place : ℕ) → ScanOf r (scan.Bad place) → Sc
 bad_not_more r place bad more = let same : scan.Bad place ≡ scan.NeedMore = one_answer r (scan.Bad place) scan.NeedMore bad more in cc
 
 -- the tagged line that is due is no stray one
-done_not_stray : (tag : List ℕ) (pieces : List (List ℕ)) (vs : List Response) (r rest rest' other : List ℕ) (s s' : Status) (code code' : Code) → Begins (Tagged tag s code ∷ []) rest r → Settles pieces vs s → Begins (Tagged other s' code' ∷ []) rest' r → (other ≢ tag) ⊎ ((s' ≡ status.Ok) × (continuations vs + 1 < length pieces)) → ⊥
+done_not_stray : (tag : List ℕ) (pieces : List (List ℕ)) (vs : List Response) (r rest rest' other : List ℕ) (s s' : Status) (code code' : Code) → Begins
+    (Tagged tag s code ∷ []) rest r → Settles pieces vs s → Begins (Tagged other s' code' ∷ []) rest' r → (other ≢ tag) ⊎
+    ((s' ≡ status.Ok) × (continuations vs + 1 < length pieces)) → ⊥
 done_not_stray tag pieces vs r rest rest' other s s' code code' begins settles begins' (inl differs) =
     differs (sym (tagged_same tag other s s' code code' (first_same _ _ rest rest' r begins begins').0).0)
 done_not_stray tag pieces vs r rest rest' other s s' code code' begins settles begins' (inr (ok, early)) =
@@ -108,7 +111,8 @@ done_not_stray tag pieces vs r rest rest' other s s' code code' begins settles b
     let due : AreAllDue pieces vs = subst (λ (x : Status). Settles pieces vs x) (same.1 ∙ ok) settles in
     omega (arith, due, early)
 
-done_same : (tag : List ℕ) (vs before before' : List Response) (r rest rest' : List ℕ) (s s' : Status) (code code' : Code) → before ≡ vs → before' ≡ vs → Begins (Tagged tag s code ∷ []) rest r → Begins (Tagged tag s' code' ∷ []) rest' r → Done before s code rest ≡ Done before' s' code' rest'
+done_same : (tag : List ℕ) (vs before before' : List Response) (r rest rest' : List ℕ) (s s' : Status) (code code' : Code) → before ≡ vs → before' ≡ vs → Begins
+    (Tagged tag s code ∷ []) rest r → Begins (Tagged tag s' code' ∷ []) rest' r → Done before s code rest ≡ Done before' s' code' rest'
 done_same tag vs before before' r rest rest' s s' code code' is is' begins begins' =
     let first = first_same _ _ rest rest' r begins begins' in
     let same = tagged_same tag tag s s' code code' first.0 in
@@ -117,13 +121,16 @@ done_same tag vs before before' r rest rest' s s' code code' is is' begins begin
 tagged_not_bye : (a : List ℕ) (s : Status) (k l : Code) → Tagged a s k ≡ Untagged status.Bye l → ⊥
 tagged_not_bye a s k l is = cc
 
-decides_one : (tag : List ℕ) (pieces : List (List ℕ)) (octets : List ℕ) (vs : List Response) (r : List ℕ) (v w : Verdict) → Decides tag pieces octets vs r v → Decides tag pieces octets vs r w → v ≡ w
+decides_one : (tag : List ℕ) (pieces : List (List ℕ)) (octets : List ℕ) (vs : List Response) (r : List ℕ) (v w : Verdict) → Decides tag pieces octets vs r v
+    → Decides tag pieces octets vs r w → v ≡ w
 decides_one tag pieces octets vs r (Done b s k t) (Done b' s' k' t') (is, begins, settles) (is', begins', settles') = done_same tag vs b b' r t t' s s' k k' is is' begins begins'
-decides_one tag pieces octets vs r (Done b s k t) Stray (is, begins, settles) (o, s', k', t', begins', why) = absurd (done_not_stray tag pieces vs r t t' o s s' k k' begins settles begins' why)
+decides_one tag pieces octets vs r (Done b s k t) Stray (is, begins, settles) (o, s', k', t', begins', why) = absurd
+    (done_not_stray tag pieces vs r t t' o s s' k k' begins settles begins' why)
 decides_one tag pieces octets vs r (Done b s k t) Bye (is, begins, settles) (k', t', begins') = absurd (tagged_not_bye _ _ _ _ (first_same _ _ t t' r begins begins').0)
 decides_one tag pieces octets vs r (Done b s k t) (BadAt at) (is, begins, settles) (place, so, there) = absurd (begun_not_bad _ t r place begins so)
 decides_one tag pieces octets vs r (Done b s k t) Open (is, begins, settles) so = absurd (begun_not_more _ t r begins so)
-decides_one tag pieces octets vs r Stray (Done b s k t) (o, s', k', t', begins', why) (is, begins, settles) = absurd (done_not_stray tag pieces vs r t t' o s s' k k' begins settles begins' why)
+decides_one tag pieces octets vs r Stray (Done b s k t) (o, s', k', t', begins', why) (is, begins, settles) = absurd
+    (done_not_stray tag pieces vs r t t' o s s' k k' begins settles begins' why)
 decides_one tag pieces octets vs r Stray Stray first second = refl
 decides_one tag pieces octets vs r Stray Bye (o, s, k, t, begins, why) (k', t', begins') = absurd (tagged_not_bye _ _ _ _ (first_same _ _ t t' r begins begins').0)
 decides_one tag pieces octets vs r Stray (BadAt at) (o, s, k, t, begins, why) (place, so, there) = absurd (begun_not_bad _ t r place begins so)
@@ -146,6 +153,8 @@ decides_one tag pieces octets vs r Open Open first second = refl
 
 pub one_verdict : (tag : List ℕ) (pieces : List (List ℕ)) (octets : List ℕ) (v w : Verdict) → IsVerdict tag pieces octets v → IsVerdict tag pieces octets w → v ≡ w
 one_verdict tag pieces octets v w first second =
-    let same = same_pass first.responses second.responses first.remaining second.remaining octets first.passed.all_open second.passed.all_open first.passed.spelled second.passed.spelled (none_open tag pieces octets _ _ v first.decided) (none_open tag pieces octets _ _ w second.decided) in
-    let moved : Decides tag pieces octets first.responses second.remaining w = subst (λ (vs : List Response). Decides tag pieces octets vs second.remaining w) (sym same.0) second.decided in
+    let same = same_pass first.responses second.responses first.remaining second.remaining octets first.passed.all_open second.passed.all_open first.passed.spelled
+        second.passed.spelled (none_open tag pieces octets _ _ v first.decided) (none_open tag pieces octets _ _ w second.decided) in
+    let moved : Decides tag pieces octets first.responses second.remaining w = subst (λ (vs : List Response). Decides tag pieces octets vs second.remaining w)
+        (sym same.0) second.decided in
     decides_one tag pieces octets first.responses first.remaining v w first.decided (subst (λ (r : List ℕ). Decides tag pieces octets first.responses r w) (sym same.1) moved)

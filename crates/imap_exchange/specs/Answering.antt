@@ -50,8 +50,10 @@ abbrev pub IsCause : List ℕ → List (List ℕ) → Octets → List ℕ → Li
 -- no tagged line came, or an OK to a command that wasn't taken whole
 IsCause tag pieces before gave took end.Lost =
     IsVerdict tag pieces (before.octets ++ gave) Open
-    ⊎ ((responses : List Response) × (code : Code) × (rest : List ℕ) × IsVerdict tag pieces (before.octets ++ gave) (Done responses status.Ok code rest) × (took ≢ joined_pieces pieces))
-IsCause tag pieces before gave took (end.Bad at) = (place : ℕ) × IsVerdict tag pieces (before.octets ++ gave) (BadAt place) × (at + length before.octets ≡ before.given + place)
+    ⊎ ((responses : List Response) × (code : Code) × (rest : List ℕ) × IsVerdict tag pieces (before.octets ++ gave) (Done responses status.Ok code rest)
+        × (took ≢ joined_pieces pieces))
+IsCause tag pieces before gave took (end.Bad at) = (place : ℕ) × IsVerdict tag pieces (before.octets ++ gave) (BadAt place)
+    × (at + length before.octets ≡ before.given + place)
 IsCause tag pieces before gave took end.Stray = IsVerdict tag pieces (before.octets ++ gave) Stray
 IsCause tag pieces before gave took end.Bye = IsVerdict tag pieces (before.octets ++ gave) Bye
 IsCause tag pieces before gave took end.TooMuch = IsVerdict tag pieces (before.octets ++ gave) Open × IsTooMuch before gave
@@ -88,6 +90,7 @@ pub record IsOf (command : Command) (before : Option (List ℕ)) (x : Exchange) 
   pub now_is : now ≡ selected_by command x.status before
 
 -- what an exchange adds
-pub record Converses (tag : List ℕ) (pieces : List (List ℕ)) (before after : Octets) (up : Bool) (result : Result Answer LinkEnd) (events : List Event) : Type 0 where
+pub record Converses (tag : List ℕ) (pieces : List (List ℕ)) (before after : Octets) (up : Bool) (result : Result Answer LinkEnd)
+    (events : List Event) : Type 0 where
   pub speaks : Speaks pieces before.octets up events
   pub comes : ComesTo tag pieces before speaks.gave speaks.took after up result

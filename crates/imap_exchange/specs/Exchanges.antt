@@ -80,7 +80,8 @@ Settles pieces responses _ = Unit {0}
 
 -- what stands after the open responses at the front of the octets decides
 abbrev pub Decides : List ℕ → List (List ℕ) → List ℕ → List Response → List ℕ → Verdict → Type 0
-Decides tag pieces octets responses remaining (Done before s code rest) = (before ≡ responses) × Begins (Tagged tag s code ∷ []) rest remaining × Settles pieces responses s
+Decides tag pieces octets responses remaining (Done before s code rest) = (before ≡ responses) × Begins (Tagged tag s code ∷ []) rest remaining
+    × Settles pieces responses s
 Decides tag pieces octets responses remaining Stray =
     (other : List ℕ) × (s : Status) × (code : Code) × (rest : List ℕ) × Begins (Tagged other s code ∷ []) rest remaining
     × ((other ≢ tag) ⊎ ((s ≡ status.Ok) × (continuations responses + 1 < length pieces)))

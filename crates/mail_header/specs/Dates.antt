@@ -66,7 +66,7 @@ abbrev pub value_from : ℕ → List ℕ → ℕ
 value_from value [] = value
 value_from value (c ∷ t) = value_from (10 * value + (c - 48)) t
 
--- a number of n digits
+-- the number of a text of low to high digits
 abbrev pub number_of : ℕ → ℕ → List ℕ → Option ℕ
 number_of low high t = if nat_le low (length t) && nat_le (length t) high then Some (value_from 0 t) else None
 

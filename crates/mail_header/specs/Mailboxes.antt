@@ -82,7 +82,7 @@ is_display_name ts = list_all is_gap ts || is_phrase ts
 
 -- ---- addr-spec = local-part "@" domain. An address without "@" is taken too.
 
--- word *("." word) with gaps between, where `due` says that a word is due
+-- word *("." word) with gaps anywhere, where `due` says that a word is due
 abbrev pub is_dotted : (Spelled → Bool) → Bool → List Spelled → Bool
 is_dotted word due [] = not due
 is_dotted word due (s ∷ ts) =

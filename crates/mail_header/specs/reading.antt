@@ -1,4 +1,4 @@
--- How the code reads: what proofs and private clauses use, and no public clause needs.
+-- How the code reads: what proofs, private clauses and the clauses of single steps use.
 pub mod HeaderLines
 pub mod TokenReading
 pub mod LexemeReading

@@ -1,5 +1,6 @@
 -- Mailbox/get (RFC 8620 section 5.1, RFC 8621 section 2.1).
-use Rattle.std.specs.Prelude.{ℕ, List, [], ◌∷◌, ◌++◌, Bool, true, ◌||◌, nat_lt, if◌then◌else◌, bytes_eq, codes, decimal, length, map, is_none, Option, Some, None, option_map, Result, Ok, Err}
+use Rattle.std.specs.Prelude.{ℕ, List, [], ◌∷◌, ◌++◌, Bool, true, ◌||◌, nat_lt, if◌then◌else◌, bytes_eq, codes, decimal, length, map, is_none, Option, Some,
+    None, option_map, Result, Ok, Err}
 use Rattle.std.specs.List.{list_all, find, filter, filter_map}
 use Rattle.serde_json.specs.Data.{unsigned, Data, number, string, array, object, Members, no_members, member, put}
 use Rattle.serde_json.specs.View.{items_of}
@@ -58,7 +59,8 @@ checked (Ok account) (Err e) asked = Err e
 checked (Err e) count asked = Err e
 
 abbrev pub asked_from : Result (List ℕ) MethodError → Result (Option (List (List ℕ))) MethodError → Result Properties MethodError → Result Asked MethodError
-asked_from (Ok account) (Ok ids) (Ok properties) = checked (account_check account) (count_check (count_of_ids ids)) (record { ids = ids; properties = properties })
+asked_from (Ok account) (Ok ids) (Ok properties) = checked (account_check account) (count_check (count_of_ids ids))
+    (record { ids = ids; properties = properties })
 asked_from (Ok account) (Ok ids) (Err e) = Err e
 asked_from (Ok account) (Err e) properties = Err e
 asked_from (Err e) ids properties = Err e
@@ -96,7 +98,8 @@ get_data state list missing = object
 
 -- Asked by ids, those that are there, in the order asked; asked by null, all, where they are no more than 500.
 abbrev pub answer_to : List ℕ → List MailboxCounts → Properties → Option (List (List ℕ)) → Result Data MethodError
-answer_to state mailboxes wanted (Some ids) = Ok (get_data state (filter_map (shown wanted mailboxes) (distinct ids)) (map string (filter (is_missing mailboxes) (distinct ids))))
+answer_to state mailboxes wanted (Some ids) = Ok (get_data state (filter_map (shown wanted mailboxes) (distinct ids))
+    (map string (filter (is_missing mailboxes) (distinct ids))))
 answer_to state mailboxes wanted None = if nat_lt 500 (length mailboxes) then Err RequestTooLarge
     else Ok (get_data state (map (mailbox_data wanted) mailboxes) [])
 

@@ -1,5 +1,6 @@
 -- What an id has while a past goes on: what it had before, nothing, or what it has then.
-use Rattle.std.proofs.Common.{◌≡◌, ◌≢◌, ℕ, ◌<◌, ◌≤◌, List, [], ◌∷◌, ◌++◌, Bool, true, false, cond, nat_eq, map, filter, take, length, refl, sym, ap, ◌∙◌, subst, arith, Option, Some, None, zero, suc}
+use Rattle.std.proofs.Common.{◌≡◌, ◌≢◌, ℕ, ◌<◌, ◌≤◌, List, [], ◌∷◌, ◌++◌, Bool, true, false, cond, nat_eq, map, filter, take, length, refl, sym, ap, ◌∙◌, subst, arith, Option,
+    Some, None, zero, suc}
 use Rattle.std.proofs.lemmas.Bool.{eqb-true, eq-eqb}
 use Rattle.std.proofs.Math.Seq.{take-length}
 use Rattle.std.specs.BTreeMap.{is_at}
@@ -45,9 +46,11 @@ module _ {V : Type 0} where
 
   filtered : (new : List (ℕ × V)) (p : ℕ × V → Bool) (xs : List (ℕ × V)) → AllFound new xs → AllFound new (filter p xs)
   filtered new p [] found = tt
-  filtered new p (x ∷ xs) found = elim (p x) as (λ (b : Bool). AllFound new (cond b (x ∷ filter p xs) (filter p xs))) [ true ↦ (found.0, filtered new p xs found.1) | false ↦ filtered new p xs found.1 ]
+  filtered new p (x ∷ xs) found = elim (p x) as (λ (b : Bool). AllFound new (cond b (x ∷ filter p xs) (filter p xs)))
+      [ true ↦ (found.0, filtered new p xs found.1) | false ↦ filtered new p xs found.1 ]
 
-  put : (new : List (ℕ × V)) (to : ℕ × V → Touch V) → ((e : ℕ × V) → (to e).id ≡ e.0) → ((e : ℕ × V) → (to e).value ≡ Some e.1) → (xs : List (ℕ × V)) → AllFound new xs → AllGive new (map to xs)
+  put : (new : List (ℕ × V)) (to : ℕ × V → Touch V) → ((e : ℕ × V) → (to e).id ≡ e.0) → ((e : ℕ × V) → (to e).value ≡ Some e.1) → (xs : List (ℕ × V)) → AllFound new xs
+      → AllGive new (map to xs)
   put new to ids values [] found = tt
   put new to ids values (x ∷ xs) found = (Puts (values x ∙ sym found.0 ∙ ap (row_at new) (sym (ids x))), put new to ids values xs found.1)
 
@@ -66,7 +69,8 @@ module _ {V : Type 0} where
       (put new (change tests.counts old) (λ e. refl) (λ e. refl) (filter (is_changed tests.same old) new) (filtered new (is_changed tests.same old) new (all_found new rows)))
       (put new addition (λ e. refl) (λ e. refl) (filter (is_gone old) new) (filtered new (is_gone old) new (all_found new rows))))
 
-  after_one : (new : List (ℕ × V)) (was : Option V) (t : Touch V) (q : ℕ) (o : Option V) → Gives new t → Among (cond (nat_eq t.id q) t.value was) (row_at new q) o → Among was (row_at new q) o
+  after_one : (new : List (ℕ × V)) (was : Option V) (t : Touch V) (q : ℕ) (o : Option V) → Gives new t → Among (cond (nat_eq t.id q) t.value was) (row_at new q) o → Among was
+      (row_at new q) o
   after_one new was t q o g (Gone e) = Gone e
   after_one new was t q o g (Is e) = Is e
   after_one new was t q o (Takes n) (Was e) =
@@ -114,7 +118,8 @@ module _ {V : Type 0} where
           Later (subst P (sym e) (subst Q at (between new (advance tests p.now new) (advance_gives tests p.now new rows) (value_after None p.touches q) k q)))
 
   -- so all ids stay below a number
-  pub ever_below : (tests : Tests V) (p : Past V) (new : List (ℕ × V)) (next now : ℕ) → AreRows new → IsEverBelow p next → next ≤ now → ((q : ℕ) → row_at new q ≢ None → q < now) → IsEverBelow (gone_on tests p new) now
+  pub ever_below : (tests : Tests V) (p : Past V) (new : List (ℕ × V)) (next now : ℕ) → AreRows new → IsEverBelow p next → next ≤ now → ((q : ℕ) → row_at new q ≢ None → q < now)
+      → IsEverBelow (gone_on tests p new) now
   ever_below tests p new next now rows below rise these place q some = by (had tests p new place q rows)
     where
       earlier : (i : ℕ) → had_at p i q ≢ None → q < now

@@ -1,5 +1,6 @@
 -- What holds of lines that are found by their names.
-use Rattle.std.proofs.Common.{◌≡◌, ◌≢◌, ℕ, ◌+◌, ◌<◌, ◌≤◌, ◌&&◌, ◌||◌, zero, suc, cond, take, get_or, Bool, true, false, not, List, [], ◌∷◌, ◌++◌, Option, Some, None, Vec, Global, length, map, drop, filter, refl, sym, ap, ◌∙◌, subst, arith}
+use Rattle.std.proofs.Common.{◌≡◌, ◌≢◌, ℕ, ◌+◌, ◌<◌, ◌≤◌, ◌&&◌, ◌||◌, zero, suc, cond, take, get_or, Bool, true, false, not, List, [], ◌∷◌, ◌++◌, Option, Some, None, Vec, Global,
+    length, map, drop, filter, refl, sym, ap, ◌∙◌, subst, arith}
 use Rattle.std.proofs.Common.{eqb, is_some, unwrap_or, if◌then◌else◌, nat_cmp, bytes_eq}
 use Rattle.std.proofs.lemmas.List.{take_more}
 use Rattle.std.proofs.lemmas.Map.Text.{is_eq-slice_cmp}
@@ -49,7 +50,8 @@ more : (i : ℕ) → suc (i + 1) ≡ suc i + 1
 more i = omega arith
 
 -- the response at a place, and those from it on
-pub from_place : (rs : List Response) (at : ℕ) (l : lists.Line) → option_and_then line_of (slice_get rs at) ≡ Some l → (r : Response) × (drop at rs ≡ r ∷ drop (at + 1) rs) × (line_of r ≡ Some l)
+pub from_place : (rs : List Response) (at : ℕ) (l : lists.Line) → option_and_then line_of (slice_get rs at) ≡ Some l → (r : Response) × (drop at rs ≡ r ∷ drop (at + 1) rs)
+    × (line_of r ≡ Some l)
 from_place [] at l e = absurd (cc)
 from_place (r ∷ rs) zero l e = (r, refl, e)
 from_place (r ∷ rs) (suc at) l e = let rest = from_place rs at l e in (rest.0, rest.1 ∙ ap (λ (j : ℕ). rest.0 ∷ drop j (r ∷ rs)) (more at), rest.2)

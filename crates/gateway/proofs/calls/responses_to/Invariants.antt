@@ -7,6 +7,7 @@ use Rattle.gateway.proofs.calls.responses_to.Given as goal
 abbrev pub invariant-loop-call : goal.invariant-loop-call
 invariant-loop-call l =
     record {
-      meant : responses_after l.mail l.uses [] (map call_data l.calls) ≡ responses_after l.mail l.uses (map call_data l.responses.items) (map call_data (drop l.call-index l.calls));
+      meant : responses_after l.mail l.uses [] (map call_data l.calls) ≡ responses_after l.mail l.uses (map call_data l.responses.items)
+          (map call_data (drop l.call-index l.calls));
       whole : All IsWhole l.responses.items;
     }

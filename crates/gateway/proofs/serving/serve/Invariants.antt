@@ -8,7 +8,9 @@ use Rattle.gateway.proofs.serving.serve.Given as goal
 abbrev pub invariant-serving : goal.invariant-serving
 invariant-serving g l =
     record {
-      run : Adds (g.W.Taped.tape l.fn.world) (g.W.Taped.tape l.world) (λ es. (m : Machine) → g.G.Gate.stands l.fn.gate m → RunsTo g.G.Gate.door (g.G.Gate.account l.fn.gate (g.W.Taped.hidden l.fn.world)) m (g.G.Gate.stands l.gate) l.count (g.W.Taped.faults l.fn.world) (g.W.Taped.faults l.world) es);
+      run : Adds (g.W.Taped.tape l.fn.world) (g.W.Taped.tape l.world)
+          (λ es. (m : Machine) → g.G.Gate.stands l.fn.gate m → RunsTo g.G.Gate.door (g.G.Gate.account l.fn.gate (g.W.Taped.hidden l.fn.world)) m (g.G.Gate.stands l.gate) l.count
+          (g.W.Taped.faults l.fn.world) (g.W.Taped.faults l.world) es);
       within : l.count ≤ l.fn.most;
       account : g.G.Gate.account l.gate ≡ g.G.Gate.account l.fn.gate;
       later : Later (g.W.Taped.faults l.fn.world) (g.W.Taped.faults l.world);
