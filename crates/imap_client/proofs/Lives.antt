@@ -171,7 +171,7 @@ goes_not {xs} ys life command e folder n alive up before after is_alive stands s
         ends = record {
           on = on;
           speaks = record { talk = there.speaks.talk; gave = there.speaks.gave; took = there.speaks.took; ended = ended_by up there.speaks.talk there.speaks.ended hangs; said =
-              there.speaks.said; paced = there.speaks.paced };
+              there.speaks.said; paced = there.speaks.paced; needed = there.speaks.needed };
           after_is = refl;
           cause = there.comes;
         };
