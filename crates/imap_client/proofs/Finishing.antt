@@ -1,6 +1,39 @@
 -- A round that is done is a whole round.
-use Rattle.std.proofs.Common.{◌≡◌, ◌⊎◌, ◌++◌, ◌+◌, ◌==◌, ℕ, Bool, true, false, not, List, [], ◌∷◌, length, drop, slice_get, fold, if◌then◌else◌, Option, Some, None, Ok, Err, refl, sym,
-    ◌∙◌, ap, subst, append_assoc, length-append, arith, inl, inr}
+use Rattle.std.proofs.Common.{
+  ◌≡◌,
+  ◌⊎◌,
+  ◌++◌,
+  ◌+◌,
+  ◌==◌,
+  ℕ,
+  Bool,
+  true,
+  false,
+  not,
+  List,
+  [],
+  ◌∷◌,
+  length,
+  drop,
+  slice_get,
+  fold,
+  if◌then◌else◌,
+  Option,
+  Some,
+  None,
+  Ok,
+  Err,
+  refl,
+  sym,
+  ◌∙◌,
+  ap,
+  subst,
+  append_assoc,
+  length-append,
+  arith,
+  inl,
+  inr,
+}
 use Rattle.std.specs.List.{flat_map}
 use Rattle.std.proofs.lemmas.List.{append-nil}
 use Rattle.std.proofs.lemmas.List.Concat.{flat_map-append}
@@ -26,10 +59,50 @@ use Rattle.imap_client.specs.declared.round.RoundStage.TheVariants as stage
 use Rattle.imap_client.specs.Connecting.{is_ok}
 use Rattle.imap_client.specs.LinkLife.{LinkLife, ClientState, next_number}
 use Rattle.imap_client.specs.Plans.{Planned, Ran, Begun, Then, IsEnd, Finished, Failed, Broken, Gone, Wanting}
-use Rattle.imap_client.specs.Rounds.{Rounds, RoundState, round_due, round_step, round_from, of_folder, select_of, headers_of, known_of, has_modseqs, is_sliced, slice_of, new_of,
-    uid_next_told, tells_validity, selectable_from, selecting, next_stage, fetching, fetched_stage, selected_stage, is_sliced_in, is_slicing, obeyed, round_after}
-use Rattle.imap_client.specs.WholeRounds.{IsObeyed, FetchesHeaders, Slice, Rest, FetchesFolder, WithModseqs, WithoutModseqs, AsksFolder, Asked, VisitsFrom, NoMore, Visits,
-    IsWholeRound, texts_from, IsFinishedRound}
+use Rattle.imap_client.specs.Rounds.{
+  Rounds,
+  RoundState,
+  round_due,
+  round_step,
+  round_from,
+  of_folder,
+  select_of,
+  headers_of,
+  known_of,
+  has_modseqs,
+  is_sliced,
+  slice_of,
+  new_of,
+  uid_next_told,
+  tells_validity,
+  selectable_from,
+  selecting,
+  next_stage,
+  fetching,
+  fetched_stage,
+  selected_stage,
+  is_sliced_in,
+  is_slicing,
+  obeyed,
+  round_after,
+}
+use Rattle.imap_client.specs.WholeRounds.{
+  IsObeyed,
+  FetchesHeaders,
+  Slice,
+  Rest,
+  FetchesFolder,
+  WithModseqs,
+  WithoutModseqs,
+  AsksFolder,
+  Asked,
+  VisitsFrom,
+  NoMore,
+  Visits,
+  IsWholeRound,
+  texts_from,
+  IsFinishedRound,
+}
 use Rattle.imap_client.proofs.Connections.{not_ok}
 
 -- ---- what was asked
@@ -233,7 +306,7 @@ texts_more : (n : ℕ) (xs : List Exchange) (x : Exchange) → texts_from n (xs 
 texts_more n [] x = append-nil (command_text x.command n) ∙ ap (λ (k : ℕ). command_text x.command k) (omega arith)
 texts_more n (y ∷ ys) x =
     ap (λ (l : List ℕ). command_text y.command n ++ l) (texts_more (n + 1) ys x ∙ ap (λ (k : ℕ). texts_from (n + 1) ys ++ command_text x.command k) (omega arith)) ∙ sym
-        (append_assoc (command_text y.command n) (texts_from (n + 1) ys) (command_text x.command (n + length (y ∷ ys))))
+    (append_assoc (command_text y.command n) (texts_from (n + 1) ys) (command_text x.command (n + length (y ∷ ys))))
 
 ok_front : (xs : List Exchange) (x : Exchange) → AllOk (xs ++ x ∷ []) → AllOk xs × (x.status ≡ status.Ok)
 ok_front [] x (ok, rest) = (tt, ok)
@@ -253,7 +326,7 @@ ran_sends {life = life} (Then {xs} {mid} {after} {es} {fs} command x ran is c) o
     let taken : c.speaks.took ≡ command_text command (next_number mid) = taken_of x.status oks.1 c.taken in
     let number_is : next_number mid ≡ next_number life + length xs = omega (arith, ap length (ran_exchanges ran), length-append life.exchanges xs) in
     flat_map-append store_took_in es fs ∙ (λ i. ran_sends ran oks.0 i ++ (spoken_takes c.speaks ∙ taken) i)
-        ∙ (λ i. texts_from (next_number life) xs ++ command_text (sym c.command_is i) (number_is i)) ∙ sym (texts_more (next_number life) xs x)
+    ∙ (λ i. texts_from (next_number life) xs ++ command_text (sym c.command_is i) (number_is i)) ∙ sym (texts_more (next_number life) xs x)
   where
     taken_of : (s : Status) → s ≡ status.Ok → IsTaken (command_pieces command (next_number mid)) x.responses s c.speaks.took
         → c.speaks.took ≡ command_text command (next_number mid)

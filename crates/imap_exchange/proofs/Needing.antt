@@ -61,7 +61,7 @@ reads_append P {held} {gave} {took} {es} fs said first second = record { at_each
           | inl so ↦ first.at_each so_far so.0 octet octets so.1
           | inr so ↦
               let gave_is : flat_map store_gave_in so_far ≡ gave ++ flat_map store_gave_in so.0 = ap (λ (l : List Event). flat_map store_gave_in l) so.1
-                  ∙ flat_map-append store_gave_in es so.0 ∙ ap (λ (l : List ℕ). l ++ flat_map store_gave_in so.0) said.gave_is in
+              ∙ flat_map-append store_gave_in es so.0 ∙ ap (λ (l : List ℕ). l ++ flat_map store_gave_in so.0) said.gave_is in
               subst P (append_assoc held gave (flat_map store_gave_in so.0) ∙ ap (λ (l : List ℕ). held ++ l) (sym gave_is)) (second.at_each so.0 later octet octets so.2)
         ]
 
@@ -72,7 +72,7 @@ reads_taking P held {took} {events} said = record { at_each = λ so_far later oc
     none_given : (so_far later : List Event) (octet : ℕ) (octets : List ℕ) → events ≡ so_far ++ StoreGave (octet ∷ octets) ∷ later → ⊥
     none_given so_far later octet octets is =
         nil_not_more (flat_map store_gave_in so_far) (octets ++ flat_map store_gave_in later) octet
-            (sym said.gave_is ∙ ap (λ (l : List Event). flat_map store_gave_in l) is ∙ flat_map-append store_gave_in so_far (StoreGave (octet ∷ octets) ∷ later))
+        (sym said.gave_is ∙ ap (λ (l : List Event). flat_map store_gave_in l) is ∙ flat_map-append store_gave_in so_far (StoreGave (octet ∷ octets) ∷ later))
 
 -- open responses, and the beginning of one more
 pub undecided : {responses : List Response} {remaining octets : List ℕ} → Passes responses remaining octets → NeedsMore remaining → IsUndecided octets

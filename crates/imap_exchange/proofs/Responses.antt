@@ -90,8 +90,15 @@ read_wanting {events} begun before now after (gave, gains) = record { talk = eve
 pub fill_failed : {xs : List Event} (ys : List Event) (begun : ℕ) (before now after : Octets) (e : LinkEnd) → NeedsMore now.octets → (gave : List ℕ)
     × Gains before now gave xs → Fills begun now after (Err e) ys → Reads begun true (is_up_at e) before after (Err e) (xs ++ ys)
 fill_failed {xs} ys begun before now after end.Lost more (gave, gains) fills =
-    record { talk = xs; gave = gave; ended = ap (λ (l : List Event). xs ++ l) fills.0; said = gains.said; needed = gains.needed; reads =
-        subst NeedsMore gains.grows.octets more }
+    record {
+      talk = xs;
+      gave = gave;
+      ended = ap (λ (l : List Event). xs ++ l) fills.0;
+      said = gains.said;
+      needed = gains.needed;
+      reads =
+          subst NeedsMore gains.grows.octets more;
+    }
 fill_failed {xs} ys begun before now after end.TooMuch more (gave, gains) fills =
     record {
       talk = xs;
@@ -112,9 +119,11 @@ fill_failed ys begun before now after end.Lacks more so fills = absurd fills
 
 -- octets that grew keep their front
 pub kept_front : (old new slice : List ℕ) → slice ≡ old → (gave : List ℕ) × (new ≡ old ++ gave) → (take (length slice) new ≡ old) × (length slice ≤ length new)
-kept_front old new slice is (gave, grew) =
-    (ap (λ (l : List ℕ). take (length l) new) is ∙ ap (λ (l : List ℕ). take (length old) l) grew ∙ take-append_seam old gave, omega
-        (arith, ap length is, ap length grew, length-append old gave))
+kept_front old new slice is (gave, grew) = (
+  ap (λ (l : List ℕ). take (length l) new) is ∙ ap (λ (l : List ℕ). take (length old) l) grew ∙ take-append_seam old gave,
+  omega
+      (arith, ap length is, ap length grew, length-append old gave),
+)
 
 -- what is held is read, where nothing is said
 pub held_bad : (before : Octets) (offset at : ℕ) → ScanOf before.octets (Bad at) → offset + length before.octets ≡ before.given → (place : ℕ) × ScanOf (before.octets ++ [])
