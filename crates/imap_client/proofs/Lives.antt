@@ -1,30 +1,6 @@
 -- A link life, exchange by exchange.
-use Rattle.std.proofs.Common.{
-  ◌≡◌,
-  ◌++◌,
-  ◌+◌,
-  ℕ,
-  Bool,
-  true,
-  false,
-  List,
-  [],
-  ◌∷◌,
-  Option,
-  None,
-  Ok,
-  Err,
-  length,
-  fold,
-  refl,
-  sym,
-  ◌∙◌,
-  ap,
-  subst,
-  append_assoc,
-  length-append,
-  arith,
-}
+use Rattle.std.proofs.Common.{◌≡◌, ◌++◌, ◌+◌, ℕ, Bool, true, false, List, [], ◌∷◌, Option, None, Ok, Err, length, fold, refl, sym, ◌∙◌, ap, subst, append_assoc, length-append}
+use Rattle.std.proofs.Common.{arith}
 use Rattle.std.proofs.lemmas.List.{append-nil}
 use Rattle.std.proofs.lemmas.List.Sums.{fold-append}
 use Rattle.gate_world.specs.declared.event.Event.{Event}
@@ -39,22 +15,8 @@ use Rattle.imap_exchange.specs.declared.link_end.LinkEnd.{LinkEnd}
 use Rattle.told_folder.specs.declared.exchange.Exchange.{Exchange}
 use Rattle.imap_exchange.specs.Received.{Octets}
 use Rattle.imap_exchange.specs.Exchanges.{Done, IsVerdict, VerdictOf, IsTaken}
-use Rattle.imap_client.specs.LinkLife.{
-  with_part,
-  hung_up,
-  LinkLife,
-  IsLife,
-  IsExchange,
-  Completed,
-  ClientState,
-  Stands,
-  fresh,
-  next_number,
-  selected,
-  selected_after,
-  unread,
-  with_exchange,
-}
+use Rattle.imap_client.specs.LinkLife.{with_part, hung_up, LinkLife, IsLife, IsExchange, Completed, ClientState, Stands, fresh, next_number, selected, selected_after, unread}
+use Rattle.imap_client.specs.LinkLife.{with_exchange}
 use Rattle.imap_exchange.specs.Answering.{selected_by, end_unless}
 use Rattle.imap_exchange.specs.Answering.{Converses, answer_of, IsOf, HangsUp}
 use Rattle.imap_client.specs.Calls.{IsExchanged}
@@ -68,8 +30,7 @@ verdict_more {tag} {pieces} {octets} {rest} {responses} {s} {code} g v =
       responses = v.responses;
       remaining = v.remaining ++ g;
       passed = Passes-more g v.passed;
-      decided =
-          (v.decided.0, Begins-more (Tagged tag s code ∷ []) rest v.remaining g v.decided.1, v.decided.2);
+      decided = (v.decided.0, Begins-more (Tagged tag s code ∷ []) rest v.remaining g v.decided.1, v.decided.2);
     }
 
 exchange_more : {n : ℕ} {x : Exchange} {rest gave took : List ℕ} (g : List ℕ) → IsExchange n x rest gave took → IsExchange n x (rest ++ g) (gave ++ g) took
@@ -224,8 +185,7 @@ goes_not {xs} ys life command e folder n alive up before after is_alive stands s
             gave = there.speaks.gave;
             took = there.speaks.took;
             ended = ended_by up there.speaks.talk there.speaks.ended hangs;
-            said =
-                there.speaks.said;
+            said = there.speaks.said;
             paced = there.speaks.paced;
             needed = there.speaks.needed;
           };

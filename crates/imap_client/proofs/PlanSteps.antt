@@ -102,8 +102,7 @@ refused {xs = xs} ys why next is none so hangs = (
     ran = so.ran;
     ends = Failed why is refl (hung ys so.stands hangs) refl;
     whole = refl;
-    stands =
-        stands_hung next none so.stands;
+    stands = stands_hung next none so.stands;
   },
 )
 
@@ -118,8 +117,7 @@ wanting {xs = xs} ys next none so hangs = (
     ran = so.ran;
     ends = Wanting refl (hung ys so.stands hangs) refl;
     whole = refl;
-    stands =
-        stands_hung next none so.stands;
+    stands = stands_hung next none so.stands;
   },
 )
 

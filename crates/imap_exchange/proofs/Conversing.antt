@@ -1,39 +1,6 @@
 -- An exchange, piece by piece and response by response.
-use Rattle.std.proofs.Common.{
-  ◌-◌,
-  ◌≡◌,
-  ◌≢◌,
-  ◌⊎◌,
-  ◌<◌,
-  ◌≤◌,
-  ◌++◌,
-  ◌+◌,
-  ℕ,
-  zero,
-  suc,
-  Bool,
-  true,
-  false,
-  List,
-  [],
-  ◌∷◌,
-  Ok,
-  Err,
-  length,
-  take,
-  min,
-  refl,
-  sym,
-  ◌∙◌,
-  ap,
-  subst,
-  append_assoc,
-  length-append,
-  arith,
-  inl,
-  inr,
-  nat_eq,
-}
+use Rattle.std.proofs.Common.{◌-◌, ◌≡◌, ◌≢◌, ◌⊎◌, ◌<◌, ◌≤◌, ◌++◌, ◌+◌, ℕ, zero, suc, Bool, true, false, List, [], ◌∷◌, Ok, Err, length, take, min, refl, sym, ◌∙◌, ap, subst}
+use Rattle.std.proofs.Common.{append_assoc, length-append, arith, inl, inr, nat_eq}
 use Rattle.std.proofs.lemmas.List.{append-nil, take_all}
 use Rattle.std.proofs.lemmas.List.Sums.{sum_by-append}
 use Rattle.std.proofs.lemmas.List.Elements.{All-nil}
@@ -253,8 +220,7 @@ opened {r} {es} {pieces} {before} {after} {responses} {at} {up} w is here h =
       left = h.left;
       taken = h.taken;
       all_taken = h.all_taken;
-      some_left =
-          h.some_left;
+      some_left = h.some_left;
     } in
     subst (λ (v : Response). Course pieces before after (responses ++ v ∷ []) at up es) (sym is) so
 
@@ -359,8 +325,7 @@ done_verdict {after = after} {responses} tag w s code h is settles =
       responses = responses;
       remaining = h.remaining;
       passed = h.passed;
-      decided =
-          (refl, subst (λ (r : Response). Begins (r ∷ []) after.octets h.remaining) is h.begins, settles);
+      decided = (refl, subst (λ (r : Response). Begins (r ∷ []) after.octets h.remaining) is h.begins, settles);
     }
 
 -- what was taken of a command that is answered
@@ -450,8 +415,7 @@ ends {pieces = pieces} {before} {after} {responses} {at} {up} tag w end.Bye plac
         responses = responses;
         remaining = h.remaining;
         passed = h.passed;
-        decided =
-            (code, after.octets, subst (λ (r : Response). Begins (r ∷ []) after.octets h.remaining) is h.begins);
+        decided = (code, after.octets, subst (λ (r : Response). Begins (r ∷ []) after.octets h.remaining) is h.begins);
       };
     }
 ends tag w end.Lost place never h = absurd never
