@@ -113,12 +113,12 @@ nothing_is_read_once_decided tag pieces held so_far (e ∷ later) verdict needed
     elim (gives e) as (λ c. store_gave_in e ++ flat_map store_gave_in later ≡ []) [
       | inl none ↦
           let same : flat_map store_gave_in (so_far ++ e ∷ []) ≡ flat_map store_gave_in so_far = flat_map-append store_gave_in so_far (e ∷ [])
-              ∙ ap (λ (l : List ℕ). flat_map store_gave_in so_far ++ (l ++ [])) none ∙ append-nil (flat_map store_gave_in so_far) in
+          ∙ ap (λ (l : List ℕ). flat_map store_gave_in so_far ++ (l ++ [])) none ∙ append-nil (flat_map store_gave_in so_far) in
           let rest = nothing_is_read_once_decided tag pieces held (so_far ++ e ∷ []) later verdict
-              (subst (λ (l : List Event). ReadsWhile IsUndecided held l) (sym (append_assoc so_far (e ∷ []) later)) needed)
-              (subst (λ (l : List ℕ). IsVerdict tag pieces (held ++ l) verdict) (sym same) v) closed in
+          (subst (λ (l : List Event). ReadsWhile IsUndecided held l) (sym (append_assoc so_far (e ∷ []) later)) needed)
+          (subst (λ (l : List ℕ). IsVerdict tag pieces (held ++ l) verdict) (sym same) v) closed in
           ap (λ (l : List ℕ). l ++ flat_map store_gave_in later) none ∙ rest
       | inr some ↦
-          let open = needed.at_each so_far later some.0 some.1 (ap (λ (x : Event). so_far ++ x ∷ later) some.2) tag pieces in
-          absurd (closed (one_verdict tag pieces (held ++ flat_map store_gave_in so_far) verdict Open v open))
+          let still_open = needed.at_each so_far later some.0 some.1 (ap (λ (x : Event). so_far ++ x ∷ later) some.2) tag pieces in
+          absurd (closed (one_verdict tag pieces (held ++ flat_map store_gave_in so_far) verdict Open v still_open))
     ]
