@@ -47,9 +47,9 @@ asks_more : (s : RoundState) (xs : List Exchange) (x : Exchange) → Asks s xs �
 asks_more s [] x so is = (is, tt)
 asks_more s (y ∷ ys) x (here, rest) is = (here, asks_more (round_step s y) ys x rest is)
 
-ran_asks : {s : RoundState} {life : LinkLife} {xs : List Exchange} {after : LinkLife} {es : List Event} → Ran (round_from s) life xs after es → Asks s xs
-ran_asks Begun = tt
-ran_asks {s} (Then {xs} {mid} {after} {es} {fs} command x ran is c) = asks_more s xs x (ran_asks ran) (is ∙ ap due.Send (sym c.command_is))
+ran_asks : (s : RoundState) {life : LinkLife} {xs : List Exchange} {after : LinkLife} {es : List Event} → Ran (round_from s) life xs after es → Asks s xs
+ran_asks s Begun = tt
+ran_asks s (Then {xs} {mid} {after} {es} {fs} asked x ran is c) = asks_more s xs x (ran_asks s ran) (is ∙ ap due.Send (sym c.command_is))
 
 send_same : (c d : Command) → due.Send c ≡ due.Send d → d ≡ c
 send_same c d is = cc
@@ -243,21 +243,21 @@ ok_front (y ∷ ys) x (ok, rest) = let so = ok_front ys x rest in ((ok, so.0), s
 pub ran_exchanges : {plan : Planned} {life : LinkLife} {xs : List Exchange} {after : LinkLife} {es : List Event} → Ran plan life xs after es
     → after.exchanges ≡ life.exchanges ++ xs
 ran_exchanges {life = life} Begun = sym (append-nil life.exchanges)
-ran_exchanges {life = life} (Then {xs} {mid} {after} {es} {fs} command x ran is c) =
+ran_exchanges {life = life} (Then {xs} {mid} {after} {es} {fs} asked x ran is c) =
     ap (λ (l : LinkLife). l.exchanges) c.after_is ∙ ap (λ (l : List Exchange). l ++ x ∷ []) (ran_exchanges ran) ∙ append_assoc life.exchanges xs (x ∷ [])
 
 ran_sends : {plan : Planned} {life : LinkLife} {xs : List Exchange} {after : LinkLife} {es : List Event} → Ran plan life xs after es → AllOk xs
     → flat_map store_took_in es ≡ texts_from (next_number life) xs
 ran_sends Begun ok = refl
-ran_sends {life = life} (Then {xs} {mid} {after} {es} {fs} command x ran is c) ok =
+ran_sends {life = life} (Then {xs} {mid} {after} {es} {fs} asked x ran is c) ok =
     let oks = ok_front xs x ok in
-    let taken : c.speaks.took ≡ command_text command (next_number mid) = taken_of x.status oks.1 c.taken in
+    let taken : c.speaks.took ≡ command_text asked (next_number mid) = taken_of x.status oks.1 c.taken in
     let number_is : next_number mid ≡ next_number life + length xs = omega (arith, ap length (ran_exchanges ran), length-append life.exchanges xs) in
     flat_map-append store_took_in es fs ∙ (λ i. ran_sends ran oks.0 i ++ (spoken_takes c.speaks ∙ taken) i)
     ∙ (λ i. texts_from (next_number life) xs ++ command_text (sym c.command_is i) (number_is i)) ∙ sym (texts_more (next_number life) xs x)
   where
-    taken_of : (s : Status) → s ≡ status.Ok → IsTaken (command_pieces command (next_number mid)) x.responses s c.speaks.took
-        → c.speaks.took ≡ command_text command (next_number mid)
+    taken_of : (s : Status) → s ≡ status.Ok → IsTaken (command_pieces asked (next_number mid)) x.responses s c.speaks.took
+        → c.speaks.took ≡ command_text asked (next_number mid)
     taken_of status.Ok is' taken = taken
     taken_of status.No is' taken = absurd (cc is')
     taken_of status.Bad is' taken = absurd (cc is')
@@ -269,15 +269,15 @@ ran_sends {life = life} (Then {xs} {mid} {after} {es} {fs} command x ran is c) o
 end_done : {now : Due} {life left : LinkLife} {events : List Event} → IsEnd now life left (Ok tt) events → (now ≡ due.Done) × (events ≡ []) × (left ≡ life)
 end_done (Finished is ok none same) = (is, none, same)
 end_done (Failed why is bad hangs same) = absurd (cc bad)
-end_done (Broken command e is bad b) = absurd (cc bad)
-end_done (Gone command is over bad none same) = absurd (cc bad)
+end_done (Broken asked e is bad b) = absurd (cc bad)
+end_done (Gone asked is over bad none same) = absurd (cc bad)
 end_done (Wanting bad hangs same) = absurd (cc bad)
 
 pub finished_rounds_are_whole : (before after : Mail) (life left : LinkLife) (client : ClientState) (events : List Event) → Rounds before after life left client (Ok tt) events
     → IsFinishedRound before after life left events
 finished_rounds_are_whole before after life left client events r =
     let ends = end_done r.follows.ends in
-    let asks = ran_asks r.follows.ran in
+    let asks = ran_asks (state stage.Listing before) r.follows.ran in
     let told : after ≡ fold tell before r.exchanges = r.told (λ is. cc) in
     let events_are : events ≡ r.follows.so_far = r.follows.whole ∙ ap (λ (l : List Event). r.follows.so_far ++ l) ends.1 ∙ append-nil r.follows.so_far in
     record {

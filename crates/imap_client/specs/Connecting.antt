@@ -18,8 +18,7 @@ use Rattle.imap_exchange.specs.declared.link_end.LinkEnd.{LinkEnd}
 use Rattle.imap_exchange.specs.declared.link_end.LinkEnd.TheVariants as end
 use Rattle.imap_exchange.specs.Received.{Octets, begun}
 use Rattle.imap_exchange.specs.Begins.{Begins}
-use Rattle.imap_exchange.specs.Needed.{ReadsWhile}
-use Rattle.imap_exchange.specs.Responses.{NeedsMore}
+use Rattle.imap_exchange.specs.Needed.{ReadsWhile, NeedsMore}
 use Rattle.imap_exchange.specs.Answering.{IsTooMuch, end_unless}
 use Rattle.imap_client.specs.declared.plan.Due.{Due}
 use Rattle.imap_client.specs.declared.plan.Due.TheVariants as due

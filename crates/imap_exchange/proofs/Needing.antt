@@ -7,8 +7,7 @@ use Rattle.gate_world.specs.declared.event.Event.{Event}
 use Rattle.gate_world.specs.declared.event.Event.TheVariants.{StoreGave}
 use Rattle.gate_world.specs.Octets.{store_gave_in, Talk}
 use Rattle.imap_syntax.specs.declared.response.Response.{Response}
-use Rattle.imap_exchange.specs.Needed.{ReadsWhile}
-use Rattle.imap_exchange.specs.Responses.{NeedsMore}
+use Rattle.imap_exchange.specs.Needed.{ReadsWhile, NeedsMore}
 use Rattle.imap_exchange.specs.Exchanges.{Passes, IsUndecided}
 use Rattle.imap_exchange.proofs.Verdicts.{Passes-more}
 

@@ -13,8 +13,8 @@ use Rattle.imap_grammar.specs.declared.answer.Scan.TheVariants.{NeedMore, Bad}
 use Rattle.imap_grammar.specs.Scan.{ScanOf}
 use Rattle.imap_exchange.specs.Received.{Octets}
 use Rattle.imap_exchange.specs.reading.Filling.{Gains, Fills, is_up_at}
-use Rattle.imap_exchange.specs.Needed.{ReadsWhile}
-use Rattle.imap_exchange.specs.Responses.{IsOver, NeedsMore, Reads}
+use Rattle.imap_exchange.specs.Needed.{ReadsWhile, NeedsMore}
+use Rattle.imap_exchange.specs.Responses.{IsOver, Reads}
 use Rattle.imap_exchange.proofs.Needing.{reads_none, reads_one, reads_append}
 
 -- no events

@@ -10,12 +10,8 @@ use Rattle.imap_exchange.specs.declared.link_end.LinkEnd.{LinkEnd}
 use Rattle.imap_exchange.specs.declared.link_end.LinkEnd.TheVariants as end
 use Rattle.imap_exchange.specs.declared.link_end.TheConstants.{MAX_EXCHANGE_OCTETS, MAX_LIFE_OCTETS}
 use Rattle.imap_exchange.specs.Received.{Octets}
-use Rattle.imap_exchange.specs.Needed.{ReadsWhile}
+use Rattle.imap_exchange.specs.Needed.{ReadsWhile, NeedsMore}
 use Rattle.imap_exchange.specs.Answering.{end_unless}
-
--- no whole response stands at the front of the octets yet
-abbrev pub NeedsMore : List ℕ → Type 0
-NeedsMore octets = ScanOf octets scan.NeedMore
 
 -- too much stands there, of an exchange that began with so many octets given
 abbrev pub IsOver : ℕ → ℕ → Type 0

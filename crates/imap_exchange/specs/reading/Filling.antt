@@ -7,8 +7,8 @@ use Rattle.imap_syntax.specs.declared.response.Response.{Response}
 use Rattle.imap_exchange.specs.declared.link_end.LinkEnd.{LinkEnd}
 use Rattle.imap_exchange.specs.declared.link_end.LinkEnd.TheVariants as end
 use Rattle.imap_exchange.specs.Received.{Octets}
-use Rattle.imap_exchange.specs.Needed.{ReadsWhile}
-use Rattle.imap_exchange.specs.Responses.{IsOver, NeedsMore}
+use Rattle.imap_exchange.specs.Needed.{ReadsWhile, NeedsMore}
+use Rattle.imap_exchange.specs.Responses.{IsOver}
 
 -- these octets stand after those that weren't read yet
 pub record Grows (before after : Octets) (gave : List ℕ) : Type 0 where
