@@ -18,6 +18,7 @@ use Rattle.imap_exchange.specs.declared.link_end.LinkEnd.{LinkEnd}
 use Rattle.imap_exchange.specs.declared.link_end.LinkEnd.TheVariants as end
 use Rattle.imap_exchange.specs.Received.{Octets, begun}
 use Rattle.imap_exchange.specs.Begins.{Begins}
+use Rattle.imap_exchange.specs.Needed.{ReadsWhile, NeedsMore}
 use Rattle.imap_exchange.specs.Answering.{IsTooMuch, end_unless}
 use Rattle.imap_client.specs.declared.plan.Due.{Due}
 use Rattle.imap_client.specs.declared.plan.Due.TheVariants as due
@@ -46,11 +47,16 @@ GreetsBy gave after (Err end.TooMuch) = ScanOf gave scan.NeedMore × IsTooMuch b
 GreetsBy gave after (Err end.Memory) = Unit {0}
 GreetsBy gave after (Err _) = ⊥
 
+-- the store gave these octets, and none once a greeting was whole
+pub record GivesFirst (gave : List ℕ) (events : List Event) : Type 0 where
+  pub said : Talk gave [] events
+  pub needed : ReadsWhile NeedsMore [] events
+
 pub record Greets (after : Octets) (up : Bool) (result : Result Bool LinkEnd) (events : List Event) : Type 0 where
   pub talk : List Event
   pub gave : List ℕ
   pub ended : events ≡ talk ++ end_unless up
-  pub said : Talk gave [] talk
+  pub first : GivesFirst gave talk
   pub greets : GreetsBy gave after result
 
 -- a life of which the greeting alone came
@@ -117,10 +123,10 @@ connect_plan preauth user password = planned_from preauth user password stage.As
 -- error it has ended.
 pub data Lives (user password : List ℕ) (left : Option LinkLife) (client : ClientState) (result : Result (Unit {0}) LinkEnd)
     (events : List Event) : Type 0 where
-  Unwelcome : (e : LinkEnd) (talk : List Event) (gave : List ℕ) → events ≡ talk ++ LinkEnded ∷ [] → Talk gave [] talk → GreetsBy gave begun (Err e)
+  Unwelcome : (e : LinkEnd) (talk : List Event) (gave : List ℕ) → events ≡ talk ++ LinkEnded ∷ [] → GivesFirst gave talk → GreetsBy gave begun (Err e)
       → result ≡ Err e → left ≡ None
       → Lives user password left client result events
-  Welcome : (life after : LinkLife) (preauth : Bool) (exchanges : List Exchange) (talk last : List Event) → events ≡ talk ++ last → Talk life.gave [] talk
+  Welcome : (life after : LinkLife) (preauth : Bool) (exchanges : List Exchange) (talk last : List Event) → events ≡ talk ++ last → GivesFirst life.gave talk
       → IsNew life
       → greeting_says life.greeting ≡ Ok preauth → Follows (connect_plan preauth user password) life after exchanges client result last → left ≡ Some after
       → Lives user password left client result events

@@ -22,12 +22,14 @@ use Rattle.imap_exchange.specs.declared.link_end.LinkEnd.TheVariants as end
 use Rattle.imap_exchange.specs.declared.exchange.Turn.TheVariants as turn
 use Rattle.imap_exchange.specs.Received.{Octets}
 use Rattle.imap_exchange.specs.Begins.{Begins}
-use Rattle.imap_exchange.specs.Exchanges.{IsOpen, Passes, is_continue, continuations, pieces_due, AreAllDue, Done, Settles, IsVerdict, IsTaken}
+use Rattle.imap_exchange.specs.Needed.{ReadsWhile}
+use Rattle.imap_exchange.specs.Exchanges.{IsOpen, Passes, is_continue, continuations, pieces_due, AreAllDue, Done, Settles, IsVerdict, IsUndecided, IsTaken}
 use Rattle.imap_exchange.specs.Answering.{end_unless}
 use Rattle.imap_exchange.specs.Answering.{Speaks, IsTooMuch, Converses}
 use Rattle.imap_exchange.specs.Responses.{IsOver, Ends, Reads}
 use Rattle.imap_exchange.specs.reading.Sending.{Offers, piece_at}
 use Rattle.imap_exchange.specs.reading.Turns.{SettlesNow, is_settled_by, Judges}
+use Rattle.imap_exchange.proofs.Needing.{reads_none, reads_append, reads_taking, reads_open}
 use Rattle.imap_exchange.proofs.Responses.{Talk-none}
 use Rattle.imap_exchange.proofs.Verdicts.{Begins-length, Passes-more, Passes-push}
 use Rattle.imap_exchange.proofs.Pacing.{paced_none, paced_reading, paced_writing, joined_more, take_min}
@@ -111,6 +113,7 @@ first_piece {events} pieces before up o =
         said = o.said;
         paced = paced_writing o.took o.left o.talk Talk-none
             (paced_none pieces before.octets) o.said passed within;
+        needed = reads_taking IsUndecided before.octets o.said;
       };
       passed = record { all_open = All-nil IsOpen; spelled = append-nil before.octets };
       given = omega arith;
@@ -121,9 +124,9 @@ first_piece {events} pieces before up o =
     }
 
 -- what was spoken, and then octets came
-abbrev pub spoken_more : {xs : List Event} (ys : List Event) (pieces : List (List ℕ)) (held : List ℕ) (was up : Bool) (more : List Event) (g : List ℕ) → Speaks pieces held was xs
-    → Ends was up more ys → Talk g [] more → Speaks pieces held up (xs ++ ys)
-spoken_more {xs} ys pieces held was up more g s ends said =
+abbrev pub spoken_more : {xs : List Event} (ys : List Event) (pieces : List (List ℕ)) (held : List ℕ) (was up : Bool) (more : List Event) (g : List ℕ)
+    (s : Speaks pieces held was xs) → Ends was up more ys → Talk g [] more → ReadsWhile IsUndecided (held ++ s.gave) more → Speaks pieces held up (xs ++ ys)
+spoken_more {xs} ys pieces held was up more g s ends said needed =
     record {
       talk = s.talk ++ more;
       gave = s.gave ++ g;
@@ -131,6 +134,7 @@ spoken_more {xs} ys pieces held was up more g s ends said =
       ended = ends_append was up xs s.talk ys more s.ended ends;
       said = subst (λ (t : List ℕ). Talk (s.gave ++ g) t (s.talk ++ more)) (append-nil s.took) (Talk-append s.said said);
       paced = paced_reading g more s.said s.paced said;
+      needed = reads_append IsUndecided more s.said s.needed needed;
     }
 
 passed_more : {responses : List Response} (before mid : Octets) (gave g : List ℕ) → Passes responses mid.octets (before.octets ++ gave) → Passes responses (mid.octets ++ g)
@@ -142,7 +146,7 @@ pub heard : {xs ys : List Event} {pieces : List (List ℕ)} {before mid after : 
     → up ≡ was → Course pieces before mid responses at was xs → Reads begun was up mid after (Ok w) ys → Heard pieces before after responses w at up (xs ++ ys)
 heard {xs} {ys} {pieces} {before} {mid} {after} {responses} {at} {was} begun up w same c r =
     record {
-      speaks = spoken_more ys pieces before.octets was up r.talk r.gave c.speaks r.ended r.said;
+      speaks = spoken_more ys pieces before.octets was up r.talk r.gave c.speaks r.ended r.said (reads_open c.passed r.needed);
       remaining = mid.octets ++ r.gave;
       passed = passed_more before mid c.speaks.gave r.gave c.passed;
       begins = (r.reads.0, after.octets, r.reads.1, r.reads.2, refl);
@@ -164,12 +168,12 @@ pub unheard : {xs ys : List Event} {pieces : List (List ℕ)} {before mid : Octe
     → Converses tag pieces before after up (Err e) (xs ++ ys)
 unheard {xs} {ys} {pieces} {before} {mid} {responses} {at} {was} tag begun after up end.Lost from c r =
     record {
-      speaks = spoken_more ys pieces before.octets was up r.talk r.gave c.speaks r.ended r.said;
+      speaks = spoken_more ys pieces before.octets was up r.talk r.gave c.speaks r.ended r.said (reads_open c.passed r.needed);
       comes = inl (record { responses = responses; remaining = mid.octets ++ r.gave; passed = passed_more before mid c.speaks.gave r.gave c.passed; decided = r.reads });
     }
 unheard {xs} {ys} {pieces} {before} {mid} {responses} {at} {was} tag begun after up end.TooMuch from c r =
     record {
-      speaks = spoken_more ys pieces before.octets was up r.talk r.gave c.speaks r.ended r.said;
+      speaks = spoken_more ys pieces before.octets was up r.talk r.gave c.speaks r.ended r.said (reads_open c.passed r.needed);
       comes = (
         record { responses = responses; remaining = mid.octets ++ r.gave; passed = passed_more before mid c.speaks.gave r.gave c.passed; decided = r.reads.0 },
         too_much r.reads.1,
@@ -181,7 +185,7 @@ unheard {xs} {ys} {pieces} {before} {mid} {responses} {at} {was} tag begun after
     too_much (inr over) = inr (omega (arith, over, c.given, length-append c.speaks.gave r.gave))
 unheard {xs} {ys} {pieces} {before} {mid} {responses} {at} {was} tag begun after up (end.Bad offset) from c r =
     record {
-      speaks = spoken_more ys pieces before.octets was up r.talk r.gave c.speaks r.ended r.said;
+      speaks = spoken_more ys pieces before.octets was up r.talk r.gave c.speaks r.ended r.said (reads_open c.passed r.needed);
       comes = (
         length (before.octets ++ (c.speaks.gave ++ r.gave)) - length (mid.octets ++ r.gave),
         record {
@@ -197,7 +201,7 @@ unheard {xs} {ys} {pieces} {before} {mid} {responses} {at} {was} tag begun after
     within : length (mid.octets ++ r.gave) ≤ length (before.octets ++ (c.speaks.gave ++ r.gave))
     within = let passed = passed_more before mid c.speaks.gave r.gave c.passed in Begins-length responses _ _ passed.spelled
 unheard {xs} {ys} {pieces} {before} {mid} {responses} {at} {was} tag begun after up end.Memory from c r =
-    wanting tag after (spoken_more ys pieces before.octets was up r.talk r.gave c.speaks r.ended r.said)
+    wanting tag after (spoken_more ys pieces before.octets was up r.talk r.gave c.speaks r.ended r.said (reads_open c.passed r.needed))
 unheard tag begun after up end.Stray from c r = absurd r.reads
 unheard tag begun after up end.Bye from c r = absurd r.reads
 unheard tag begun after up end.Refused from c r = absurd r.reads
@@ -273,6 +277,7 @@ continued {xs} {zs} {pieces} {before} {after} {responses} {at} {up} w place now 
         ended = ends_append up now xs h.speaks.talk zs o.talk h.speaks.ended o.ended;
         said = subst (λ (g : List ℕ). Talk g (h.speaks.took ++ o.took) (h.speaks.talk ++ o.talk)) (append-nil h.speaks.gave) (Talk-append h.speaks.said o.said);
         paced = paced_writing o.took (h.left ++ o.left) o.talk h.speaks.said h.speaks.paced o.said passed within;
+        needed = reads_append IsUndecided o.talk h.speaks.said h.speaks.needed (reads_taking IsUndecided (before.octets ++ h.speaks.gave) o.said);
       };
       passed = passed;
       given = h.given;
@@ -423,4 +428,16 @@ ends tag w end.Memory place never h = absurd never
 
 -- nothing was said
 pub silent : (tag : List ℕ) (pieces : List (List ℕ)) (before after : Octets) → Converses tag pieces before after true (Err end.Memory) []
-silent tag pieces before after = record { speaks = record { talk = []; gave = []; took = []; ended = refl; said = Talk-none; paced = paced_none pieces before.octets }; comes = tt }
+silent tag pieces before after = record {
+  speaks = record {
+    talk = [];
+    gave = [];
+    took = [];
+    ended = refl;
+    said = Talk-none;
+    paced = paced_none pieces before.octets;
+    needed =
+        reads_none IsUndecided before.octets;
+  };
+  comes = tt;
+}

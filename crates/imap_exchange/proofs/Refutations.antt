@@ -1,7 +1,13 @@
 -- What the definitions rule out.
 use Rattle.std.proofs.Common.{◌≡◌, ◌≢◌, ◌⊎◌, ◌++◌, ◌+◌, ◌≤◌, ℕ, zero, suc, List, [], ◌∷◌, take, refl, sym, ◌∙◌, ap, subst, append_assoc, arith, inl, inr, All}
+use Rattle.std.specs.List.{flat_map}
+use Rattle.std.proofs.lemmas.List.{append-nil}
+use Rattle.std.proofs.lemmas.List.Concat.{flat_map-append}
 use Rattle.std.proofs.lemmas.List.Sums.{sum_by-append}
 use Rattle.std.proofs.lemmas.List.Elements.{All-head, All-tail}
+use Rattle.gate_world.specs.declared.event.Event.{Event}
+use Rattle.gate_world.specs.declared.event.Event.TheVariants.{StoreGave}
+use Rattle.gate_world.specs.Octets.{store_gave_in}
 use Rattle.imap_syntax.specs.Commands.{joined_pieces}
 use Rattle.imap_syntax.specs.declared.code.Code.{Code}
 use Rattle.imap_syntax.specs.declared.response.Response.{Response}
@@ -13,7 +19,8 @@ use Rattle.imap_exchange.specs.declared.link_end.LinkEnd.{LinkEnd}
 use Rattle.imap_exchange.specs.declared.link_end.LinkEnd.TheVariants as end
 use Rattle.imap_exchange.specs.Received.{Octets}
 use Rattle.imap_exchange.specs.Begins.{Begins}
-use Rattle.imap_exchange.specs.Exchanges.{IsOpen, continuations, pieces_due, IsPart, Verdict, Done, Stray, Bye, BadAt, Open, IsVerdict}
+use Rattle.imap_exchange.specs.Needed.{ReadsWhile}
+use Rattle.imap_exchange.specs.Exchanges.{IsOpen, continuations, pieces_due, IsPart, Verdict, Done, Stray, Bye, BadAt, Open, IsVerdict, IsUndecided}
 use Rattle.imap_exchange.specs.Answering.{IsCause}
 use Rattle.imap_exchange.proofs.Fronts.{same_front}
 use Rattle.imap_exchange.proofs.Verdicts.{NoneOpen, none_open, one_verdict}
@@ -91,3 +98,27 @@ said_by tag status.Bye code text spells = absurd spells.spells.completes
 pub statuses_of_answers : (tag : List ℕ) (pieces : List (List ℕ)) (octets rest : List ℕ) (responses : List Response) (s : Status) (code : Code) → IsVerdict tag pieces octets
     (Done responses s code rest) → (s ≡ status.Ok) ⊎ (s ≡ status.No) ⊎ (s ≡ status.Bad)
 statuses_of_answers tag pieces octets rest responses s code v = let line = v.decided.1 in said_by tag s code line.0 line.2
+
+-- what an event gives
+gives : (e : Event) → (store_gave_in e ≡ []) ⊎ ((octet : ℕ) × (octets : List ℕ) × (e ≡ StoreGave (octet ∷ octets)))
+gives (StoreGave []) = inl refl
+gives (StoreGave (octet ∷ octets)) = inr (octet, octets, refl)
+gives _ = inl refl
+
+pub nothing_is_read_once_decided : (tag : List ℕ) (pieces : List (List ℕ)) (held : List ℕ) (so_far later : List Event) (verdict : Verdict)
+    → ReadsWhile IsUndecided held (so_far ++ later) → IsVerdict tag pieces (held ++ flat_map store_gave_in so_far) verdict → verdict ≢ Open
+    → flat_map store_gave_in later ≡ []
+nothing_is_read_once_decided tag pieces held so_far [] verdict needed v closed = refl
+nothing_is_read_once_decided tag pieces held so_far (e ∷ later) verdict needed v closed =
+    elim (gives e) as (λ c. store_gave_in e ++ flat_map store_gave_in later ≡ []) [
+      | inl none ↦
+          let same : flat_map store_gave_in (so_far ++ e ∷ []) ≡ flat_map store_gave_in so_far = flat_map-append store_gave_in so_far (e ∷ [])
+          ∙ ap (λ (l : List ℕ). flat_map store_gave_in so_far ++ (l ++ [])) none ∙ append-nil (flat_map store_gave_in so_far) in
+          let rest = nothing_is_read_once_decided tag pieces held (so_far ++ e ∷ []) later verdict
+          (subst (λ (l : List Event). ReadsWhile IsUndecided held l) (sym (append_assoc so_far (e ∷ []) later)) needed)
+          (subst (λ (l : List ℕ). IsVerdict tag pieces (held ++ l) verdict) (sym same) v) closed in
+          ap (λ (l : List ℕ). l ++ flat_map store_gave_in later) none ∙ rest
+      | inr some ↦
+          let still_open = needed.at_each so_far later some.0 some.1 (ap (λ (x : Event). so_far ++ x ∷ later) some.2) tag pieces in
+          absurd (closed (one_verdict tag pieces (held ++ flat_map store_gave_in so_far) verdict Open v still_open))
+    ]

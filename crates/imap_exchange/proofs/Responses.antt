@@ -13,7 +13,9 @@ use Rattle.imap_grammar.specs.declared.answer.Scan.TheVariants.{NeedMore, Bad}
 use Rattle.imap_grammar.specs.Scan.{ScanOf}
 use Rattle.imap_exchange.specs.Received.{Octets}
 use Rattle.imap_exchange.specs.reading.Filling.{Gains, Fills, is_up_at}
+use Rattle.imap_exchange.specs.Needed.{ReadsWhile, NeedsMore}
 use Rattle.imap_exchange.specs.Responses.{IsOver, Reads}
+use Rattle.imap_exchange.proofs.Needing.{reads_none, reads_one, reads_append}
 
 -- no events
 pub Talk-none : Talk [] [] []
@@ -24,8 +26,24 @@ pub Gains-append : {a b c : Octets} {g h : List ℕ} {es fs : List Event} → Ga
 Gains-append {a} {b} {c} {g} {h} first second =
     record {
       said = Talk-append first.said second.said;
-      octets = second.octets ∙ ap (λ (l : List ℕ). l ++ h) first.octets ∙ append_assoc a.octets g h;
-      given = omega (arith, first.given, second.given, length-append g h);
+      needed = reads_append NeedsMore fs first.said first.needed (subst (λ (l : List ℕ). ReadsWhile NeedsMore l fs) first.grows.octets second.needed);
+      grows = record {
+        octets = second.grows.octets ∙ ap (λ (l : List ℕ). l ++ h) first.grows.octets ∙ append_assoc a.octets g h;
+        given = omega (arith, first.grows.given, second.grows.given, length-append g h);
+      };
+    }
+
+-- none yet
+pub Gains-none : (a : Octets) → Gains a a [] []
+Gains-none a = record { said = Talk-none; needed = reads_none NeedsMore a.octets; grows = record { octets = sym (append-nil a.octets); given = omega arith } }
+
+-- once more
+pub gained : {es : List Event} (begun : ℕ) (now after : Octets) → NeedsMore now.octets → (fills : Fills begun now after (Ok tt) es) → Gains now after fills.0 es
+gained begun now after more (gave, is, grows) =
+    record {
+      said = subst (λ (l : List Event). Talk gave [] l) (sym is) (record { kind = search rules; gave_is = append-nil gave; took_is = refl });
+      needed = subst (λ (l : List Event). ReadsWhile NeedsMore now.octets l) (sym is) (reads_one NeedsMore now.octets gave more);
+      grows = grows;
     }
 
 -- a whole response stands at the front
@@ -37,11 +55,12 @@ read_whole {events} begun before now after n (gave, gains) spells rest given =
       gave = gave;
       ended = sym (append-nil events);
       said = gains.said;
+      needed = gains.needed;
       reads = (
         take n now.octets,
         spells,
-        sym gains.octets ∙ sym (take-append-drop n now.octets) ∙ ap (λ (l : List ℕ). take n now.octets ++ l) (sym rest),
-        given ∙ gains.given,
+        sym gains.grows.octets ∙ sym (take-append-drop n now.octets) ∙ ap (λ (l : List ℕ). take n now.octets ++ l) (sym rest),
+        given ∙ gains.grows.given,
       );
     }
 
@@ -54,33 +73,43 @@ read_bad {events} begun before now offset at (gave, gains) so place =
       gave = gave;
       ended = sym (append-nil events);
       said = gains.said;
+      needed = gains.needed;
       reads = (
         at,
-        subst (λ (l : List ℕ). ScanOf l (Bad at)) gains.octets so,
-        ap (λ (l : List ℕ). offset + length l) (sym gains.octets) ∙ place ∙ gains.given,
+        subst (λ (l : List ℕ). ScanOf l (Bad at)) gains.grows.octets so,
+        ap (λ (l : List ℕ). offset + length l) (sym gains.grows.octets) ∙ place ∙ gains.grows.given,
       );
     }
 
 -- want of memory
 pub read_wanting : {events : List Event} (begun : ℕ) (before now after : Octets) → (gave : List ℕ) × Gains before now gave events → Reads begun true true before after
     (Err end.Memory) events
-read_wanting {events} begun before now after (gave, gains) = record { talk = events; gave = gave; ended = sym (append-nil events); said = gains.said; reads = tt }
+read_wanting {events} begun before now after (gave, gains) = record { talk = events; gave = gave; ended = sym (append-nil events); said = gains.said; needed = gains.needed; reads = tt }
 
 -- no further octets come, where no whole response stands at the front
-pub fill_failed : {xs : List Event} (ys : List Event) (begun : ℕ) (before now after : Octets) (e : LinkEnd) → ScanOf now.octets NeedMore → (gave : List ℕ)
+pub fill_failed : {xs : List Event} (ys : List Event) (begun : ℕ) (before now after : Octets) (e : LinkEnd) → NeedsMore now.octets → (gave : List ℕ)
     × Gains before now gave xs → Fills begun now after (Err e) ys → Reads begun true (is_up_at e) before after (Err e) (xs ++ ys)
 fill_failed {xs} ys begun before now after end.Lost more (gave, gains) fills =
-    record { talk = xs; gave = gave; ended = ap (λ (l : List Event). xs ++ l) fills.0; said = gains.said; reads = subst (λ (l : List ℕ). ScanOf l NeedMore) gains.octets more }
+    record {
+      talk = xs;
+      gave = gave;
+      ended = ap (λ (l : List Event). xs ++ l) fills.0;
+      said = gains.said;
+      needed = gains.needed;
+      reads =
+          subst NeedsMore gains.grows.octets more;
+    }
 fill_failed {xs} ys begun before now after end.TooMuch more (gave, gains) fills =
     record {
       talk = xs;
       gave = gave;
       ended = ap (λ (l : List Event). xs ++ l) fills.0;
       said = gains.said;
-      reads = (subst (λ (l : List ℕ). ScanOf l NeedMore) gains.octets more, subst (λ (n : ℕ). IsOver begun n) gains.given fills.2);
+      needed = gains.needed;
+      reads = (subst NeedsMore gains.grows.octets more, subst (λ (n : ℕ). IsOver begun n) gains.grows.given fills.2);
     }
 fill_failed {xs} ys begun before now after end.Memory more (gave, gains) fills =
-    record { talk = xs ++ ys; gave = gave ++ fills.0; ended = sym (append-nil (xs ++ ys)); said = Talk-append gains.said fills.1; reads = tt }
+    record { talk = xs; gave = gave; ended = ap (λ (l : List Event). xs ++ l) fills.0; said = gains.said; needed = gains.needed; reads = tt }
 fill_failed ys begun before now after (end.Bad at) more so fills = absurd fills
 fill_failed ys begun before now after end.Stray more so fills = absurd fills
 fill_failed ys begun before now after end.Bye more so fills = absurd fills

@@ -16,7 +16,8 @@ use Rattle.imap_exchange.specs.declared.link_end.LinkEnd.TheVariants as end
 use Rattle.imap_exchange.specs.declared.link_end.TheConstants.{MAX_EXCHANGE_OCTETS, MAX_LIFE_OCTETS}
 use Rattle.imap_exchange.specs.declared.exchange.Answer.{Answer}
 use Rattle.imap_exchange.specs.Received.{Octets}
-use Rattle.imap_exchange.specs.Exchanges.{Done, Stray, Bye, BadAt, Open, IsVerdict, IsTaken, IsPaced, pieces_due}
+use Rattle.imap_exchange.specs.Needed.{ReadsWhile}
+use Rattle.imap_exchange.specs.Exchanges.{Done, Stray, Bye, BadAt, Open, IsVerdict, IsUndecided, IsTaken, IsPaced, pieces_due}
 
 -- ---- the link's end
 
@@ -32,7 +33,8 @@ HangsUp false events = events ≡ []
 
 -- ---- an exchange
 
--- The store gave and took octets, each piece after its continuation; the link ended after them, where it isn't up.
+-- The store gave and took octets, each piece after its continuation; nothing was read once all was decided; the link ended after
+-- them, where it isn't up.
 pub record Speaks (pieces : List (List ℕ)) (held : List ℕ) (up : Bool) (events : List Event) : Type 0 where
   pub talk : List Event
   pub gave : List ℕ
@@ -40,6 +42,7 @@ pub record Speaks (pieces : List (List ℕ)) (held : List ℕ) (up : Bool) (even
   pub ended : events ≡ talk ++ end_unless up
   pub said : Talk gave took talk
   pub paced : IsPaced pieces held talk
+  pub needed : ReadsWhile IsUndecided held talk
 
 -- the store gave more than an exchange or a life may have
 abbrev pub IsTooMuch : Octets → List ℕ → Type 0

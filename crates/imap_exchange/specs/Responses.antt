@@ -10,6 +10,7 @@ use Rattle.imap_exchange.specs.declared.link_end.LinkEnd.{LinkEnd}
 use Rattle.imap_exchange.specs.declared.link_end.LinkEnd.TheVariants as end
 use Rattle.imap_exchange.specs.declared.link_end.TheConstants.{MAX_EXCHANGE_OCTETS, MAX_LIFE_OCTETS}
 use Rattle.imap_exchange.specs.Received.{Octets}
+use Rattle.imap_exchange.specs.Needed.{ReadsWhile, NeedsMore}
 use Rattle.imap_exchange.specs.Answering.{end_unless}
 
 -- too much stands there, of an exchange that began with so many octets given
@@ -32,10 +33,11 @@ abbrev pub Ends : Bool → Bool → List Event → List Event → Type 0
 Ends true up talk events = events ≡ talk ++ end_unless up
 Ends false up talk events = (events ≡ []) × (talk ≡ []) × (up ≡ false)
 
--- The next response: of the link where it was up, else of what is held alone.
+-- The next response: of the link where it was up, else of what is held alone. Nothing is read once a response is whole.
 pub record Reads (begun : ℕ) (was up : Bool) (before after : Octets) (result : Result Response LinkEnd) (events : List Event) : Type 0 where
   pub talk : List Event
   pub gave : List ℕ
   pub ended : Ends was up talk events
   pub said : Talk gave [] talk
+  pub needed : ReadsWhile NeedsMore before.octets talk
   pub reads : ReadsOf begun before gave after result

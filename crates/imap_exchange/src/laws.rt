@@ -1,5 +1,8 @@
 // What the definitions rule out.
-ghost use Rattle.std.specs.Prelude.{◌≡◌, ◌≢◌, ◌⊎◌, ◌++◌, List, ℕ};
+ghost use Rattle.std.specs.Prelude.{◌≡◌, ◌≢◌, ◌⊎◌, ◌++◌, List, ℕ, []};
+ghost use Rattle.std.specs.List.{flat_map};
+ghost use Rattle.gate_world.specs.declared.event.Event.{Event};
+ghost use Rattle.gate_world.specs.Octets.{store_gave_in};
 ghost use Rattle.imap_syntax.specs.Commands.{joined_pieces};
 ghost use Rattle.imap_syntax.specs.declared.code.Code.{Code};
 ghost use Rattle.imap_syntax.specs.declared.response.Response.{Response};
@@ -8,7 +11,8 @@ ghost use Rattle.imap_syntax.specs.declared.response.Status.TheVariants as statu
 ghost use Rattle.imap_exchange.specs.declared.link_end.LinkEnd.{LinkEnd};
 ghost use Rattle.imap_exchange.specs.declared.link_end.LinkEnd.TheVariants as ends;
 ghost use Rattle.imap_exchange.specs.Received.{Octets};
-ghost use Rattle.imap_exchange.specs.Exchanges.{Verdict, Done, IsVerdict, IsPart, pieces_due};
+ghost use Rattle.imap_exchange.specs.Needed.{ReadsWhile};
+ghost use Rattle.imap_exchange.specs.Exchanges.{Verdict, Done, Open, IsVerdict, IsUndecided, IsPart, pieces_due};
 ghost use Rattle.imap_exchange.specs.Answering.{IsCause};
 
 /// Octets have one verdict on an exchange, so each comes exactly where it is right.
@@ -20,6 +24,12 @@ pub fn one_verdict()
 /// line, and no literal before its continuation.
 pub fn each_piece_is_due()
     ensures { (tag : List ℕ) (pieces : List (List ℕ)) (octets took : List ℕ) (verdict : Verdict) (v : IsVerdict tag pieces octets verdict) → IsPart pieces octets took → (left : List ℕ) × (took ++ left ≡ joined_pieces (pieces_due pieces v.responses)) }
+{}
+
+/// Once the octets have a verdict, no more of them are read: neither after a tagged line nor after a BYE.
+pub fn nothing_is_read_once_decided()
+    ensures { (tag : List ℕ) (pieces : List (List ℕ)) (held : List ℕ) (so_far later : List Event) (verdict : Verdict) → ReadsWhile IsUndecided held (so_far ++ later)
+        → IsVerdict tag pieces (held ++ flat_map store_gave_in so_far) verdict → verdict ≢ Open → flat_map store_gave_in later ≡ [] }
 {}
 
 /// Once the tagged line came, no other end is answered than want of memory: where it isn't OK, or the command was taken whole.
