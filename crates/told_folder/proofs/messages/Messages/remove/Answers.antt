@@ -1,0 +1,23 @@
+use Rattle.std.proofs.Common.{rules, ◌≡◌, ◌-◌, None, Some, IfOk, OnOk, OnErr, is_some, find, nat_le, take, vec_len, ℕ, ◌+◌, ◌*◌, ◌<◌, ◌≤◌, length, ◌/◌, ◌%◌, Bool, true, false, nat_eq, nat_lt, List, [], ◌∷◌, ◌++◌, slice_index_or, slice_set, bit_and, bit_or, Fits, w8, w32, w64, Bor, MutBor}
+use Rattle.std.specs.BTreeMap.{values}
+use Rattle.std.specs.Option.{option_map, option_copied}
+use Rattle.told_folder.specs.Folders.{uid_of}
+use Rattle.told_folder.specs.Keyed.{Ascends, with_key, put_keyed, cut_keyed}
+use Rattle.told_folder.specs.reading.Parts.{all_of, AllKeyed, AllUnder, IsParted}
+use Rattle.told_folder.proofs.messages.Messages.remove.Goals as goal
+
+-- src/messages.rt:198:13
+pub place_of-at-requires : goal.place_of-at-requires
+place_of-at-requires c = ?
+
+-- src/messages.rt:193:5
+pub invariant_of-self-2 : goal.invariant_of-self-2
+invariant_of-self-2 c = ?
+
+-- src/messages.rt:193:5
+pub returns-clause-ok : goal.returns-clause-ok
+returns-clause-ok c = ?
+
+-- src/messages.rt:193:5
+pub returns-clause-message : goal.returns-clause-message
+returns-clause-message c = ?
