@@ -5,5 +5,6 @@ pub mod OpenLemmas
 pub mod VanishLemmas
 pub mod SameLemmas
 pub mod PartLemmas
+pub mod LostLemmas
 pub mod HeaderLemmas
 pub mod StepLemmas

@@ -2,7 +2,7 @@
 use Rattle.std.proofs.Common.{◌≡◌, ◌≢◌, ℕ, ◌+◌, ◌<◌, ◌≤◌, zero, suc, Bool, true, false, not, List, [], ◌∷◌, ◌++◌, Option, Some, None, length, get_or, set, take, filter, find, refl}
 use Rattle.std.proofs.Common.{sym, ap, ◌∙◌, subst, arith, inl, inr, cond, if◌then◌else◌, leb, le-leb, ◌&&◌, eq-eqb, ne_eqb, nat_cmp, ltb, lt-ltb, le-ltb, eqb, is_some}
 use Rattle.std.proofs.lemmas.Bool.{lt-leb}
-use Rattle.std.proofs.lemmas.List.{append_assoc}
+use Rattle.std.proofs.lemmas.List.{append_assoc, append-nil}
 use Rattle.std.proofs.lemmas.List.Folds.{find-append}
 use Rattle.std.proofs.lemmas.List.Elements.{filter-append}
 use Rattle.std.specs.BTreeMap.{is_at, insert_entry}
@@ -268,7 +268,7 @@ pub under_found : (u : ℕ) (xs ys : List Message) (x : Message) → Ascends uid
 under_found u [] ys x a e = tt
 under_found u (y ∷ xs) ys x a e = (found_above y.uid u ys x (above_right y.uid xs ys a.0) e, under_found u xs ys x a.1 e)
 
-found_key : (u : ℕ) (xs : List Message) (x : Message) → with_key uid_of u xs ≡ Some x → x.uid ≡ u
+pub found_key : (u : ℕ) (xs : List Message) (x : Message) → with_key uid_of u xs ≡ Some x → x.uid ≡ u
 found_key u [] x e = absurd (cc)
 found_key u (y ∷ ys) x e =
     elim (same_or_not y.uid u) [
@@ -343,3 +343,52 @@ short_take zero [] = omega arith
 short_take (suc n) [] = omega arith
 short_take zero (x ∷ xs) = omega arith
 short_take (suc n) (x ∷ xs) = omega (arith, short_take n xs)
+
+pub nothing_there : (es : List (ℕ × Message)) → length es ≡ 0 → values_of es ≡ []
+nothing_there [] h = refl
+nothing_there (e ∷ es) h = absurd (omega (arith, h))
+
+pub pushed_same : (x : Message) (was xs xs' ys : List Message) → xs ≡ was → xs' ≡ xs ++ x ∷ [] → ys ≡ [] → AllUnder x.uid was → xs' ++ ys ≡ put_keyed uid_of x (was ++ ys)
+pushed_same x was xs xs' ys same is none under =
+    ap (λ (zs : List Message). xs' ++ zs) none ∙ append-nil xs' ∙ is ∙ ap (λ (zs : List Message). zs ++ x ∷ []) same
+    ∙ sym (put_under x was ys under ∙ ap (λ (zs : List Message). was ++ put_keyed uid_of x zs) none)
+
+pub behind_same : (x : Message) (was xs : List Message) (es fs : List (ℕ × Message)) → AllKeyed es → xs ≡ was → fs ≡ insert_entry nat_cmp es x.uid x → AllUnder x.uid was
+    → xs ++ values_of fs ≡ put_keyed uid_of x (was ++ values_of es)
+behind_same x was xs es fs keyed same is under =
+    ap (λ (zs : List Message). zs ++ values_of fs) same ∙ ap (λ (zs : List (ℕ × Message)). was ++ values_of zs) is
+    ∙ ap (λ (zs : List Message). was ++ zs) (put_entries x es keyed) ∙ sym (put_under x was (values_of es) under)
+
+pub removed_same : (u : ℕ) (xs : List Message) (es fs : List (ℕ × Message)) → AllKeyed es → Ascends uid_of (xs ++ values_of es) → AllUnder u xs
+    → fs ≡ remove_entry (is_at (nat_cmp u)) es → xs ++ values_of fs ≡ cut_keyed uid_of u (xs ++ values_of es)
+removed_same u xs es fs keyed up under is =
+    ap (λ (zs : List (ℕ × Message)). xs ++ values_of zs) is
+    ∙ ap (λ (zs : List Message). xs ++ zs) (cut_entries u es keyed (ascends_right xs (values_of es) up)) ∙ sym (cut_both u xs (values_of es) under)
+
+-- ---- what is found and put again
+
+pub some_there : {X : Type 0} (o : Option X) → is_some o ≡ true → (x : X) × (o ≡ Some x)
+some_there None h = let wrong : ◌≡◌ {A = Bool} false true = h in absurd (cc)
+some_there (Some x) h = (x, refl)
+
+pub none_there : {X : Type 0} (o : Option X) → is_some o ≡ false → o ≡ None
+none_there None h = refl
+none_there (Some x) h = let wrong : ◌≡◌ {A = Bool} true false = h in absurd (cc)
+
+-- a message that is held, put again, changes nothing
+pub put_found : (u : ℕ) (x : Message) (xs : List Message) → Ascends uid_of xs → with_key uid_of u xs ≡ Some x → put_keyed uid_of x xs ≡ xs
+put_found u x [] up e = absurd (cc)
+put_found u x (y ∷ ys) up e =
+    let key : x.uid ≡ u = found_key u (y ∷ ys) x e in
+    elim (same_or_not y.uid u) [
+      | inl same ↦
+          let here : y ≡ x = some_same _ _ (sym (ap (λ b. if b then Some y else with_key uid_of u ys) (eq-eqb _ _ same)) ∙ e) in
+          ap (λ b. if b then x ∷ (y ∷ ys) else (if eqb x.uid y.uid then x ∷ ys else y ∷ put_keyed uid_of x ys)) (le-ltb _ _ (omega (arith, key, same)))
+          ∙ ap (λ b. if b then x ∷ ys else y ∷ put_keyed uid_of x ys) (eq-eqb _ _ (key ∙ sym same)) ∙ ap (λ (z : Message). z ∷ ys) (sym here)
+      | inr apart ↦
+          let rest : with_key uid_of u ys ≡ Some x = sym (ap (λ b. if b then Some y else with_key uid_of u ys) (ne_eqb _ _ apart)) ∙ e in
+          let less : y.uid < u = found_above y.uid u ys x up.0 rest in
+          ap (λ b. if b then x ∷ (y ∷ ys) else (if eqb x.uid y.uid then x ∷ ys else y ∷ put_keyed uid_of x ys)) (le-ltb _ _ (omega (arith, key, less)))
+          ∙ ap (λ b. if b then x ∷ ys else y ∷ put_keyed uid_of x ys) (ne_eqb _ _ (λ f. omega (arith, key, less, f)))
+          ∙ ap (λ zs. y ∷ zs) (put_found u x ys up.1 rest)
+    ]

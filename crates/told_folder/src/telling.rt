@@ -1,5 +1,5 @@
 // Responses told to the messages of one folder.
-ghost use Rattle.std.specs.Prelude.{◌≡◌, ◌≤◌, ◌+◌, ◌-◌, ◌^◌, ◌<◌, ℕ, ◌∷◌, ◌++◌, length, List, OnOk, IfOk, not, slice_get, Some, None, IsTrue, ◌↔◌, Bool, true};
+ghost use Rattle.std.specs.Prelude.{◌≡◌, ◌≤◌, ◌+◌, ◌-◌, ◌^◌, ◌<◌, ℕ, ◌∷◌, ◌++◌, length, List, OnOk, IfOk, IsSome, not, slice_get, Some, None, IsTrue, ◌↔◌, Bool, true};
 ghost use Rattle.told_folder.specs.Keyed.{Ascends, with_key, put_keyed};
 ghost use Rattle.told_folder.specs.Folders.{uid_of, with_messages};
 ghost use Rattle.told_folder.specs.Tell as told;
@@ -52,6 +52,7 @@ fn is_flagged(messages: &Messages, uid: u32, flags: &Names) -> bool
 
 /// Gives a message that is held these flags.
 fn set_flags(alloc: Global, work: &mut Work, uid: u32, flags: &Names) -> Result<(), AllocError>
+    requires { Ascends uid_of work.old.messages }
     ensures { (x : Message) → with_key uid_of uid work.old.messages ≡ Some x → IsFlagged work.old work.new x flags.now result }
 {
     if is_flagged(&work.messages, uid, flags) {
@@ -206,10 +207,11 @@ pub fn tell_gone<U: Uids>(alloc: Global, work: &mut Work, gone: &U)
     let before = messages.len();
     clear_marks(messages.as_slice(), gone, &mut work.marks);
     clear_messages(&mut messages, gone);
-    if messages.len() != before {
+    let left = messages.len();
+    work.messages = Messages::new(alloc, messages);
+    if left != before {
         work.changes = one_more(work.changes);
     }
-    work.messages = Messages::new(alloc, messages);
 }
 
 /// A response.

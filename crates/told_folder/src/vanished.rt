@@ -35,10 +35,11 @@ fn tell_lost(work: &mut Work, uid: u32) -> Result<(), AllocError>
     requires held { IsSome (with_key uid_of uid work.old.messages) }
     ensures { GoesOk work.old work.new (record (telling_of work.old) { messages = cut_keyed uid_of uid work.old.messages }) result }
 {
-    if let Some(message) = work.messages.remove(uid)? {
-        work.marks.remove(&message.mark);
-        work.changes = one_more(work.changes);
-    }
+    let Some(message) = work.messages.remove(uid)? else {
+        return Ok(());
+    };
+    work.marks.remove(&message.mark);
+    work.changes = one_more(work.changes);
     Ok(())
 }
 

@@ -1,15 +1,13 @@
-use Rattle.std.proofs.Common.{rules, ◌≡◌, ◌-◌, None, Some, IfOk, OnOk, OnErr, is_some, find, nat_le, take, vec_len, ℕ, ◌+◌, ◌*◌, ◌<◌, ◌≤◌, length, ◌/◌, ◌%◌, Bool, true, false, nat_eq, nat_lt, List, [], ◌∷◌, ◌++◌, slice_index_or, slice_set, bit_and, bit_or, Fits, w8, w32, w64, Bor, MutBor}
 use Rattle.std.specs.BTreeMap.{values}
-use Rattle.std.specs.Option.{option_map, option_copied}
 use Rattle.told_folder.specs.Folders.{uid_of}
-use Rattle.told_folder.specs.Keyed.{Ascends, with_key, put_keyed, cut_keyed}
-use Rattle.told_folder.specs.reading.Parts.{all_of, AllKeyed, AllUnder, IsParted}
+use Rattle.told_folder.specs.Places.{IsPlace}
+use Rattle.told_folder.proofs.PartLemmas.{ascends_left, under_moved}
 use Rattle.told_folder.proofs.messages.Messages.insert.Goals as goal
 
--- src/messages.rt:187:13
 pub place_of-at-requires : goal.place_of-at-requires
-place_of-at-requires c = ?
+place_of-at-requires c = rw c.as_slice.ensures.value (ascends_left c.self.inside.before.items (values c.self.inside.after) c.self.invariant.ascends)
 
--- src/messages.rt:189:9
 pub put_behind-requires-clause-under : goal.put_behind-requires-clause-under
-put_behind-requires-clause-under c = ?
+put_behind-requires-clause-under c =
+    let place : IsPlace uid_of c.args.message.uid c.self.inside.before.items c.place_of-at.result = rw (c.as_slice.ensures.value, c.from.ensures) at c.place_of-at.ensures in
+    under_moved c.args.message.uid c.self.inside.before.items c.move_from.new.before.items c.place_of-at.result place c.in_ok-move_from.ensures.moved
