@@ -65,12 +65,7 @@ fn set_flags(alloc: Global, work: &mut Work, uid: u32, flags: &Names) -> Result<
 }
 
 /// A FETCH of a message that is held.
-fn tell_held(
-    alloc: Global,
-    work: &mut Work,
-    uid: u32,
-    items: &FetchItems,
-) -> Result<(), AllocError>
+fn tell_held(alloc: Global, work: &mut Work, uid: u32, items: &FetchItems) -> Result<(), AllocError>
     requires ascends { Ascends uid_of work.old.messages }
     requires held { IsSome (with_key uid_of uid work.old.messages) }
     ensures { (adds : Bool) → GoesOk work.old work.new (tell_uid adds (telling_of work.old) uid items.now (with_key uid_of uid work.old.messages)) result }
@@ -141,12 +136,7 @@ fn message_of(
 }
 
 /// A FETCH of a message that isn't held.
-fn tell_new(
-    alloc: Global,
-    work: &mut Work,
-    uid: u32,
-    items: &FetchItems,
-) -> Result<(), AllocError>
+fn tell_new(alloc: Global, work: &mut Work, uid: u32, items: &FetchItems) -> Result<(), AllocError>
     requires ascends { Ascends uid_of work.old.messages }
     requires free { with_key uid_of uid work.old.messages ≡ None }
     ensures { GoesOk work.old work.new (with_new (telling_of work.old) (new_message work.old.next_mark uid items.now.flags items.now.date items.now.size items.now.header)) result }

@@ -18,13 +18,7 @@ fn first_in(messages: &Messages, range: &UidRange) -> Option<u32>
     ensures { result ≡ option_map uid_of (find (λ x. is_in range.now x.uid) messages.now) }
 {
     match messages.first_from(range.first) {
-        Some(uid) => {
-            if uid <= range.last {
-                Some(uid)
-            } else {
-                None
-            }
-        }
+        Some(uid) => { if uid <= range.last { Some(uid) } else { None } }
         None => None,
     }
 }
