@@ -1,5 +1,5 @@
 -- Reading one response.
-use Rattle.std.proofs.Common.{◌≡◌, ◌≤◌, ◌++◌, ◌+◌, ℕ, true, List, [], length, take, drop, refl, sym, ◌∙◌, ap, subst, append_assoc, length-append, arith, Ok, Err, rules}
+use Rattle.std.proofs.Common.{◌≡◌, ◌≤◌, ◌++◌, ◌+◌, ℕ, true, List, [], length, take, drop, refl, sym, ◌∙◌, ap, subst, append_assoc, length-append, arith, Ok, Err, rules, Bool, false, Result}
 use Rattle.std.proofs.Math.Seq.{take-append_seam}
 use Rattle.std.proofs.lemmas.List.{append-nil, take-append-drop}
 use Rattle.gate_world.specs.declared.event.Event.{Event}
@@ -14,7 +14,7 @@ use Rattle.imap_grammar.specs.Scan.{ScanOf}
 use Rattle.imap_exchange.specs.Received.{Octets}
 use Rattle.imap_exchange.specs.reading.Filling.{Gains, Fills, is_up_at}
 use Rattle.imap_exchange.specs.Needed.{ReadsWhile, NeedsMore}
-use Rattle.imap_exchange.specs.Responses.{IsOver, Reads}
+use Rattle.imap_exchange.specs.Responses.{IsOver, ReadsOf, Reads}
 use Rattle.imap_exchange.proofs.Needing.{reads_none, reads_one, reads_append}
 
 -- no events
@@ -23,7 +23,7 @@ Talk-none = record { kind = search rules; gave_is = refl; took_is = refl }
 
 -- twice
 pub Gains-append : {a b c : Octets} {g h : List ℕ} {es fs : List Event} → Gains a b g es → Gains b c h fs → Gains a c (g ++ h) (es ++ fs)
-Gains-append {a} {b} {c} {g} {h} first second =
+Gains-append {a} {b} {c} {g} {h} {es} {fs} first second =
     record {
       said = Talk-append first.said second.said;
       needed = reads_append NeedsMore fs first.said first.needed (subst (λ (l : List ℕ). ReadsWhile NeedsMore l fs) first.grows.octets second.needed);
@@ -124,6 +124,13 @@ kept_front old new slice is (gave, grew) = (
   omega
       (arith, ap length is, ap length grew, length-append old gave),
 )
+
+-- a response of what is held alone
+pub read_held : (begun : ℕ) (up : Bool) (before after : Octets) (result : Result Response LinkEnd) → up ≡ false → ReadsOf begun before [] after result
+    → Reads begun up up before after result []
+read_held begun up before after result down reads =
+    subst (λ (b : Bool). Reads begun b b before after result []) (sym down)
+    (record { talk = []; gave = []; ended = (refl, refl, refl); said = Talk-none; needed = reads_none NeedsMore before.octets; reads = reads })
 
 -- what is held is read, where nothing is said
 pub held_bad : (before : Octets) (offset at : ℕ) → ScanOf before.octets (Bad at) → offset + length before.octets ≡ before.given → (place : ℕ) × ScanOf (before.octets ++ [])

@@ -1,11 +1,23 @@
-use Rattle.std.proofs.Common.{rules, arith, sym, subst, ◌++◌, ◌∙◌, ◌≡◌, List, ℕ}
+use Rattle.std.proofs.Common.{rules, arith, sym, subst, ◌++◌, ◌∙◌, ◌≡◌, List, ℕ, [], refl}
 use Rattle.std.proofs.lemmas.Result.{err_from_is_err_and}
-use Rattle.gate_world.proofs.Joins.{join, widen}
+use Rattle.gate_world.proofs.Joins.{join, none, widen}
 use Rattle.imap_grammar.specs.Fed.{Fed}
 use Rattle.imap_grammar.specs.Scan.{ScanOf}
 use Rattle.imap_grammar.specs.declared.answer.Scan.TheVariants.{NeedMore, Bad}
-use Rattle.imap_exchange.proofs.Responses.{Gains-append, gained, read_whole, read_bad, read_wanting, fill_failed, kept_front}
+use Rattle.imap_exchange.proofs.Responses.{Gains-append, Gains-none, gained, read_whole, read_bad, read_wanting, fill_failed, kept_front}
 use Rattle.imap_exchange.proofs.response.read_response.Goals as goal
+
+pub reading-init : goal.reading-init
+reading-init g c =
+    record {
+      tape = none _ _ ([], Gains-none c.args.received.now);
+      fed = c.new-scanner.ensures;
+      within = omega arith;
+      room = refl;
+      given = omega arith;
+      alone = search rules;
+      hidden = refl;
+    }
 
 pub returns-in-Whole-clause-tape : goal.returns-in-Whole-clause-tape
 returns-in-Whole-clause-tape g c =
