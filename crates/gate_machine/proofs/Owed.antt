@@ -84,9 +84,9 @@ obeyed_behind user password life preauth talk last events is said new says w =
     let kind : w.preauth ≡ preauth = ok_same w.preauth preauth (sym w.says ∙ ap greeting_says same.0 ∙ says) in
     let number : 1 ≡ next_number life = ap (λ (xs : List Exchange). length xs + 1) (sym new.unasked) in
     subst (λ (l : List ℕ). Obeys (connect_plan preauth user password) [] (next_number life) (selected life) l) same.1
-        (subst (λ (f : Option (List ℕ)). Obeys (connect_plan preauth user password) [] (next_number life) f w.rest) (sym (none_selected life new))
-        (subst (λ (n : ℕ). Obeys (connect_plan preauth user password) [] n None w.rest) number
-        (subst (λ (p : Bool). Obeys (connect_plan p user password) [] 1 None w.rest) kind w.obeys)))
+    (subst (λ (f : Option (List ℕ)). Obeys (connect_plan preauth user password) [] (next_number life) f w.rest) (sym (none_selected life new))
+    (subst (λ (n : ℕ). Obeys (connect_plan preauth user password) [] n None w.rest) number
+    (subst (λ (p : Bool). Obeys (connect_plan p user password) [] 1 None w.rest) kind w.obeys)))
 
 lives_end : {user password : List ℕ} {left : Option LinkLife} {client : ClientState} {result : Result (Unit {0}) LinkEnd} {events : List Event} → Law
     → Lives user password left client result events → Welcomes user password (given_by events) → EndsWell result
