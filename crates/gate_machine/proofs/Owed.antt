@@ -1,16 +1,27 @@
 -- A store that obeys, and what comes of it.
-use Rattle.std.proofs.Common.{arith, ◌≡◌, ◌≢◌, ◌⊎◌, ◌+◌, ℕ, List, [], Option, Some, Result, Ok, Err, refl, sym, ◌∙◌, ap, subst, inl, inr}
+use Rattle.std.proofs.Common.{arith, ◌≡◌, ◌≢◌, ◌⊎◌, ◌+◌, ◌++◌, ℕ, Bool, List, [], ◌∷◌, length, fold, if◌then◌else◌, Option, Some, None, Result, Ok, Err, refl, sym, ◌∙◌, ap, subst, inl, inr}
+use Rattle.std.specs.List.{flat_map}
+use Rattle.std.proofs.lemmas.List.{append-nil}
+use Rattle.std.proofs.lemmas.List.Concat.{flat_map-append}
 use Rattle.gate_world.specs.Causes.{Faults, no_faults}
+use Rattle.gate_world.specs.Octets.{store_gave_in, Talk}
 use Rattle.gate_world.specs.declared.event.Event.{Event}
+use Rattle.gate_world.specs.declared.event.Event.TheVariants.{LinkEnded}
+use Rattle.imap_syntax.specs.declared.response.Response.{Response}
+use Rattle.imap_grammar.proofs.Spellings.{need_more_none, bad_none}
 use Rattle.told_folder.specs.declared.exchange.Exchange.{Exchange}
 use Rattle.imap_exchange.specs.declared.link_end.LinkEnd.{LinkEnd}
 use Rattle.imap_exchange.specs.declared.link_end.LinkEnd.TheVariants as end
-use Rattle.imap_client.specs.Connecting.{Connects, Lives, Unready, Undialed, Lived, Unwelcome, Welcome}
-use Rattle.imap_client.specs.LinkLife.{LinkLife, ClientState}
+use Rattle.imap_exchange.specs.Begins.{Begins as begins_with}
+use Rattle.imap_exchange.specs.Received.{begun}
+use Rattle.imap_exchange.proofs.Verdicts.{Begins-more, first_same}
+use Rattle.imap_client.specs.Connecting.{GreetsBy, greeting_says, IsNew, connect_plan, Connects, Lives, Unready, Undialed, Lived, Unwelcome, Welcome}
+use Rattle.imap_client.specs.LinkLife.{LinkLife, ClientState, next_number, selected, selected_after}
+use Rattle.imap_client.specs.Obeying.{Obeys}
 use Rattle.imap_client.specs.Plans.{Planned, Follows}
 use Rattle.gate_machine.specs.Beginning.{Asks, Settles, Same, Moves, Spends, Lacks, AsksThen, Begins}
 use Rattle.gate_machine.specs.History.{KnownMail, IsSpent, advance, known_of}
-use Rattle.gate_machine.specs.Obeying.{ObeysIn, Welcomes, IsWelcomed, IsRoundObeyed, IsObeyed, IsServed}
+use Rattle.gate_machine.specs.Obeying.{given_by, ObeysIn, Welcomes, IsRoundObeyed, IsObeyed, IsServed}
 use Rattle.gate_machine.specs.Progress.{Progress, ended, idle, standing_by, lost_by, blame_link}
 use Rattle.gate_machine.specs.declared.machine.Machine.{Machine}
 use Rattle.gate_machine.specs.declared.standing.Fall.TheVariants.{Linked}
@@ -25,17 +36,71 @@ abbrev pub Law : Type 0
 Law = (plan : Planned) (life left : LinkLife) (exchanges : List Exchange) (client : ClientState) (result : Result (Unit {0}) LinkEnd) (events : List Event)
     → Follows plan life left exchanges client result events → ObeysIn plan life events → EndsWell result
 
+-- ---- the greeting
+
+ok_not_err : (b : Bool) (e : LinkEnd) → Ok b ≡ Err e → ⊥
+ok_not_err b e is = cc
+
+ok_same : (r : Result Bool LinkEnd) (b c : Bool) → r ≡ Ok b → r ≡ Ok c → b ≡ c
+ok_same r b c one two = cc
+
+ended_by : {result : Result (Unit {0}) LinkEnd} (e : LinkEnd) → result ≡ Err e → (e ≡ end.Lost) ⊎ (e ≡ end.Memory) → EndsWell result
+ended_by e is (inl lost) = inr (inl (is ∙ ap Err lost))
+ended_by e is (inr out) = inr (inr (is ∙ ap Err out))
+
+-- a life's end gives nothing
+before_end : (talk : List Event) → given_by (talk ++ LinkEnded ∷ []) ≡ flat_map store_gave_in talk
+before_end talk = flat_map-append store_gave_in talk (LinkEnded ∷ []) ∙ append-nil (flat_map store_gave_in talk)
+
+-- a greeting that lets the client in is no other reason not to go on than a lost link or want of memory
+greeting_ends : (gave rest : List ℕ) (greeting : Response) (preauth : Bool) (e : LinkEnd) → begins_with (greeting ∷ []) rest gave → greeting_says greeting ≡ Ok preauth
+    → GreetsBy gave begun (Err e) → (e ≡ end.Lost) ⊎ (e ≡ end.Memory)
+greeting_ends gave rest greeting preauth end.Lost greets says so = inl refl
+greeting_ends gave rest greeting preauth (end.Bad at) (text, more, spells, is, none) says (place, so, here) = absurd (bad_none gave place so greeting text more spells is)
+greeting_ends gave rest greeting preauth end.Stray greets says never = absurd never
+greeting_ends gave rest greeting preauth end.Bye greets says (other, left, bye, greets') =
+    let same = first_same greeting other rest left gave greets greets' in
+    let both : Ok preauth ≡ Err end.Bye = sym says ∙ ap greeting_says same.0 ∙ bye in
+    absurd (ok_not_err preauth end.Bye both)
+greeting_ends gave rest greeting preauth end.TooMuch (text, more, spells, is, none) says (so, over) = absurd (need_more_none gave so greeting text more spells is)
+greeting_ends gave rest greeting preauth end.Refused greets says never = absurd never
+greeting_ends gave rest greeting preauth end.NoQresync greets says never = absurd never
+greeting_ends gave rest greeting preauth end.Lacks greets says never = absurd never
+greeting_ends gave rest greeting preauth end.Memory greets says so = inr refl
+
+-- nothing is selected before the first command
+none_selected : (life : LinkLife) → IsNew life → selected life ≡ None
+none_selected life new = (λ i. if new.alive i then fold selected_after None (new.unasked i) else None)
+
+-- what stands behind the greeting obeys in the life that begins with it
+obeyed_behind : (user password : List ℕ) (life : LinkLife) (preauth : Bool) (talk last events : List Event) → events ≡ talk ++ last → Talk life.gave [] talk → IsNew life
+    → greeting_says life.greeting ≡ Ok preauth → Welcomes user password (given_by events) → ObeysIn (connect_plan preauth user password) life last
+obeyed_behind user password life preauth talk last events is said new says w =
+    let gave_is : given_by events ≡ life.gave ++ given_by last =
+    ap given_by is ∙ flat_map-append store_gave_in talk last ∙ ap (λ (l : List ℕ). l ++ given_by last) said.gave_is in
+    let there : begins_with (w.greeting ∷ []) w.rest (life.gave ++ given_by last) = subst (λ (l : List ℕ). begins_with (w.greeting ∷ []) w.rest l) gave_is w.greets in
+    let same = first_same w.greeting life.greeting w.rest (life.rest ++ given_by last) (life.gave ++ given_by last) there
+    (Begins-more (life.greeting ∷ []) life.rest life.gave (given_by last) new.greeted) in
+    let kind : w.preauth ≡ preauth = ok_same (greeting_says life.greeting) w.preauth preauth (sym (ap greeting_says same.0) ∙ w.says) says in
+    let number : 1 ≡ next_number life = ap (λ (xs : List Exchange). length xs + 1) (sym new.unasked) in
+    subst (λ (l : List ℕ). Obeys (connect_plan preauth user password) [] (next_number life) (selected life) l) same.1
+    (subst (λ (f : Option (List ℕ)). Obeys (connect_plan preauth user password) [] (next_number life) f w.rest) (sym (none_selected life new))
+    (subst (λ (n : ℕ). Obeys (connect_plan preauth user password) [] n None w.rest) number
+    (subst (λ (p : Bool). Obeys (connect_plan p user password) [] 1 None w.rest) kind w.obeys)))
+
 lives_end : {user password : List ℕ} {left : Option LinkLife} {client : ClientState} {result : Result (Unit {0}) LinkEnd} {events : List Event} → Law
-    → (lives : Lives user password left client result events) → Welcomes lives → EndsWell result
-lives_end law (Unwelcome e talk gave a b c d f) welcomed = absurd welcomed
-lives_end {client = client} {result = result} law (Welcome life after preauth exchanges talk last a b c d follows e) welcomed =
-    law _ life after exchanges client result last follows welcomed
+    → Lives user password left client result events → Welcomes user password (given_by events) → EndsWell result
+lives_end {events = events} law (Unwelcome e talk gave is said greets ends none) w =
+    let gave_is : given_by events ≡ gave = ap given_by is ∙ before_end talk ∙ said.gave_is in
+    ended_by e ends (greeting_ends gave w.rest w.greeting w.preauth e (subst (λ (l : List ℕ). begins_with (w.greeting ∷ []) w.rest l) gave_is w.greets) w.says greets)
+lives_end {user} {password} {client = client} {result = result} {events = events} law (Welcome life after preauth exchanges talk last is said new says follows left_is) w =
+    law _ life after exchanges client result last follows (obeyed_behind user password life preauth talk last events is said new says w)
 
 connects_end : {user password : List ℕ} {left : Option LinkLife} {client : ClientState} {result : Result (Unit {0}) LinkEnd} {events : List Event} → Law
-    → (connects : Connects user password left client result events) → IsWelcomed connects → EndsWell result
-connects_end law (Unready a b c) welcomed = absurd welcomed
-connects_end law (Undialed a b c) welcomed = absurd welcomed
-connects_end law (Lived life a lives) welcomed = lives_end law lives welcomed
+    → Connects user password left client result events → Welcomes user password (given_by events) → EndsWell result
+connects_end law (Unready none out a) w = inr (inr out)
+connects_end law (Undialed is lost a) w = inr (inl lost)
+connects_end {user} {password} law (Lived life is lives) w = lives_end law lives (subst (λ (l : List Event). Welcomes user password (given_by l)) is w)
 
 -- ---- settling
 
@@ -108,4 +173,4 @@ by_dial law b obeyed (inr (inr memory)) none =
 pub obeyed_stands : Law → (user password : List ℕ) (before : Machine) (events : List Event) (after : Progress) (begins : Begins user password before events after) → IsObeyed begins
     → after.blamed ≡ no_faults
     → IsServed after ⊎ (after.standing ≡ OutOfMemory)
-obeyed_stands law user password before events after b obeyed none = by_dial law b obeyed (connects_end law b.dials.connects obeyed.welcomed) none
+obeyed_stands law user password before events after b obeyed none = by_dial law b obeyed (connects_end law b.dials.connects obeyed.welcomes) none

@@ -1,11 +1,12 @@
 -- Octets by which the store obeys all that a request asks of it.
-use Rattle.std.specs.Prelude.{◌≡◌, ◌++◌, ℕ, List, [], Option, Some, Result}
+use Rattle.std.specs.Prelude.{◌≡◌, ◌++◌, ℕ, Bool, List, [], ◌∷◌, Some, None, Ok}
 use Rattle.std.specs.List.{flat_map}
 use Rattle.gate_world.specs.Octets.{store_gave_in}
 use Rattle.gate_world.specs.declared.event.Event.{Event}
-use Rattle.imap_exchange.specs.declared.link_end.LinkEnd.{LinkEnd}
-use Rattle.imap_client.specs.Connecting.{Connects, Lives, Unready, Undialed, Lived, Unwelcome, Welcome, connect_plan}
-use Rattle.imap_client.specs.LinkLife.{LinkLife, ClientState, next_number, selected}
+use Rattle.imap_syntax.specs.declared.response.Response.{Response}
+use Rattle.imap_exchange.specs.Begins.{Begins as begins_with}
+use Rattle.imap_client.specs.Connecting.{greeting_says, connect_plan}
+use Rattle.imap_client.specs.LinkLife.{LinkLife, next_number, selected}
 use Rattle.imap_client.specs.Obeying.{Obeys}
 use Rattle.imap_client.specs.Plans.{Planned}
 use Rattle.imap_client.specs.Rounds.{round_plan}
@@ -15,21 +16,22 @@ use Rattle.gate_machine.specs.Progress.{Progress}
 use Rattle.gate_machine.specs.declared.machine.Machine.{Machine}
 use Rattle.gate_machine.specs.declared.standing.Standing.TheVariants.{Stands}
 
+-- what these events give of the store's octets
+abbrev pub given_by : List Event → List ℕ
+given_by events = flat_map store_gave_in events
+
+-- The octets of a new life greet with OK or PREAUTH, and obey what connecting asks then.
+pub record Welcomes (user password octets : List ℕ) : Type 0 where
+  pub greeting : Response
+  pub preauth : Bool
+  pub rest : List ℕ
+  pub greets : begins_with (greeting ∷ []) rest octets
+  pub says : greeting_says greeting ≡ Ok preauth
+  pub obeys : Obeys (connect_plan preauth user password) [] 1 None rest
+
 -- what the store gave in the life from here on obeys the plan
 abbrev pub ObeysIn : Planned → LinkLife → List Event → Type 0
-ObeysIn plan life events = Obeys plan [] (next_number life) (selected life) (life.rest ++ flat_map store_gave_in events)
-
--- the store greeted, and obeyed what connecting asks
-abbrev pub Welcomes : {user password : List ℕ} {left : Option LinkLife} {client : ClientState} {result : Result (Unit {0}) LinkEnd} {events : List Event}
-    → Lives user password left client result events → Type 0
-Welcomes (Unwelcome e talk gave a b c d f) = ⊥
-Welcomes {user} {password} (Welcome life after preauth exchanges talk last a b c d follows e) = ObeysIn (connect_plan preauth user password) life last
-
-abbrev pub IsWelcomed : {user password : List ℕ} {left : Option LinkLife} {client : ClientState} {result : Result (Unit {0}) LinkEnd} {events : List Event}
-    → Connects user password left client result events → Type 0
-IsWelcomed (Unready a b c) = ⊥
-IsWelcomed (Undialed a b c) = ⊥
-IsWelcomed (Lived life a lives) = Welcomes lives
+ObeysIn plan life events = Obeys plan [] (next_number life) (selected life) (life.rest ++ given_by events)
 
 -- the store obeyed what the round asks
 abbrev pub IsRoundObeyed : {before : Progress} {events : List Event} {after : Progress} → Asks before events after → Type 0
@@ -38,7 +40,7 @@ IsRoundObeyed {events = events} asks = ObeysIn (round_plan asks.known.told) asks
 -- The store obeyed, and a place was left for what it told.
 pub record IsObeyed {user password : List ℕ} {before : Machine} {events : List Event} {after : Progress}
     (begins : Begins user password before events after) : Type 0 where
-  pub welcomed : IsWelcomed begins.dials.connects
+  pub welcomes : Welcomes user password (given_by begins.connecting)
   pub round : (asks : Asks begins.connected begins.asks.asking begins.asks.told) → IsRoundObeyed asks
   pub room : (k : KnownMail) → begins.asks.told.machine.known ≡ Some k → IsSpent k.history → ⊥
 

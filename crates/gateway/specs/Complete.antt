@@ -1,11 +1,11 @@
 -- What a client is owed.
 use Rattle.std.specs.Prelude.{◌≡◌, ◌⊎◌, ◌++◌, ℕ, false, List, [], ◌∷◌, length, Some, Ok}
-use Rattle.gate_world.specs.declared.event.Event.TheVariants.{NoMore, ClientDone}
-use Rattle.gate_world.specs.Octets.{Hears}
 use Rattle.std.specs.List.{flat_map}
+use Rattle.gate_world.specs.Causes.{Faults, no_faults}
+use Rattle.gate_world.specs.Octets.{Hears, client_gave_in, client_took_in}
 use Rattle.gate_world.specs.declared.event.Event.{Event}
-use Rattle.gate_world.specs.declared.event.Event.TheVariants.{Accepted, ClientEnded}
-use Rattle.gate_world.specs.Octets.{client_gave_in, client_took_in}
+use Rattle.gate_world.specs.declared.event.Event.TheVariants.{Accepted, NoMore, ClientEnded, ClientDone}
+use Rattle.gate_words.specs.declared.task.Task.{Task}
 use Rattle.gate_words.specs.declared.task.Task.TheVariants.{Show}
 use Rattle.gate_words.specs.Task.{IsTask}
 use Rattle.gate_machine.specs.History.{KnownMail}
@@ -14,7 +14,8 @@ use Rattle.gate_machine.specs.Progress.{Progress}
 use Rattle.gate_machine.specs.declared.machine.Machine.{Machine}
 use Rattle.gateway.specs.Calls.{Mailing}
 use Rattle.gateway.specs.Counts.{served_mail}
-use Rattle.gateway.specs.Requests.{Account, Door, Asking, Reads, asks_for_mail, response_of, no_memory_text}
+use Rattle.gateway.specs.Requests.{Account, Door, Bare, Asking, Reads, asks_for_mail, response_of, no_memory_text}
+use Rattle.gateway.specs.Run.{Run, Begun, Then, run_blamed, account_of, Ran, Unopened, ServedOnce, ShownOne, Runs, Refused, OutOfMemory, Done}
 use Rattle.gateway.specs.Segment.{Replies, Answered, LacksReading, LacksAnswering, Segment, NoneComes, NotAccepted, Unasked, Replied}
 use Rattle.gateway.specs.Show.{message_limit, ShowsObject}
 use Rattle.gateway.specs.Work.{Work, NoMail, WithMail}
@@ -76,3 +77,55 @@ pub data IsTold (door : Door) (account : Account) (events : List Event) (how : S
       → after ≡ done.machine → Hears (response_of door account mail asking) heard → how ≡ served.Whole → IsTold door account events how after
   LacksMemory : (replied heard : List Event) → events ≡ Accepted ∷ ((replied ++ heard) ++ ClientDone ∷ []) → Hears (no_memory_text door) heard
       → how ≡ served.Whole → IsTold door account events how after
+
+-- ---- a run
+
+-- The store obeyed every request of the run.
+abbrev pub IsRunObeyed : {door : Door} {account : Account} {before after : Machine} {events : List Event} {went : List Served}
+    → Run door account before events went after → Type 0
+IsRunObeyed Begun = Unit {0}
+IsRunObeyed (Then run segment) = IsRunObeyed run × IsSegmentObeyed segment
+
+-- What comes of each client of a run of which nothing fails.
+abbrev pub IsRunTold : {door : Door} {account : Account} {before after : Machine} {events : List Event} {went : List Served}
+    → Run door account before events went after → Type 0
+IsRunTold Begun = Unit {0}
+IsRunTold {door} {account} (Then {fs = fs} {s = s} {after = after} run segment) = IsRunTold run × IsTold door account fs s after
+
+-- Where nothing is blamed in a run of these events and the store obeyed every request of it, each client of it is told.
+abbrev pub CompletesRun : Door → Account → List Event → Type 0
+CompletesRun door account events = (before after : Machine) (went : List Served) (run : Run door account before events went after)
+    → run_blamed run ≡ no_faults → IsRunObeyed run → IsRunTold run
+
+-- ---- the program
+
+-- The store obeyed every request of what the task did.
+abbrev pub IsTaskObeyed : {task : Task} {password : List ℕ} {status : ℕ} {blames : Faults} {events : List Event}
+    → Ran task password status blames events → Type 0
+IsTaskObeyed (Unopened place m a b c d) = Unit {0}
+IsTaskObeyed (ServedOnce place opened segment said m after how served a b c d e) = IsSegmentObeyed served
+IsTaskObeyed (ShownOne shown said outcome a b c d e) = Unit {0}
+
+abbrev pub IsTaskTold : {task : Task} {password : List ℕ} {status : ℕ} {blames : Faults} {events : List Event}
+    → Ran task password status blames events → Type 0
+IsTaskTold (Unopened place m a b c d) = Unit {0}
+IsTaskTold {password = password} (ServedOnce place opened segment said m after how served a b c d e) =
+    IsTold Bare (account_of place password) segment how after
+IsTaskTold (ShownOne shown said outcome a b c d e) = Unit {0}
+
+abbrev pub AreObeyed : {words : List (List ℕ)} {password : List ℕ} {status : ℕ} {blames : Faults} {events : List Event}
+    → Runs words password status blames events → Type 0
+AreObeyed (Refused a b c d) = Unit {0}
+AreObeyed (OutOfMemory a b c) = Unit {0}
+AreObeyed (Done task a ran) = IsTaskObeyed ran
+
+abbrev pub AreTold : {words : List (List ℕ)} {password : List ℕ} {status : ℕ} {blames : Faults} {events : List Event}
+    → Runs words password status blames events → Type 0
+AreTold (Refused a b c d) = Unit {0}
+AreTold (OutOfMemory a b c) = Unit {0}
+AreTold (Done task a ran) = IsTaskTold ran
+
+-- Where nothing is blamed in a run of the program over these events and the store obeyed every request of it, each client
+-- that came with a request is told.
+abbrev pub Completes : List (List ℕ) → List ℕ → ℕ → List Event → Type 0
+Completes words password status events = (blames : Faults) (runs : Runs words password status blames events) → blames ≡ no_faults → AreObeyed runs → AreTold runs

@@ -1,12 +1,12 @@
 // What the definitions rule out.
-ghost use Rattle.std.specs.Prelude.{◌≡◌, ◌⊎◌, List, [], false};
+ghost use Rattle.std.specs.Prelude.{◌≡◌, ◌⊎◌, List, ℕ, [], false};
 ghost use Rattle.gate_world.specs.Causes.{Faults, no_faults};
 ghost use Rattle.gate_world.specs.declared.event.Event.{Event};
 ghost use Rattle.gate_machine.specs.Progress.{Bears, Progress};
 ghost use Rattle.gate_machine.specs.declared.machine.Machine.{Machine};
 ghost use Rattle.gate_machine.specs.declared.standing.Standing.TheVariants.{OutOfMemory};
 ghost use Rattle.gateway.specs.Calls.{Mailing};
-ghost use Rattle.gateway.specs.Complete.{IsAnsweredFrom, IsSegmentObeyed, IsTold, IsWorkObeyed};
+ghost use Rattle.gateway.specs.Complete.{Completes, CompletesRun, IsAnsweredFrom, IsSegmentObeyed, IsTold, IsWorkObeyed};
 ghost use Rattle.gateway.specs.Requests.{Account, Asking, Door, asks_for_mail};
 ghost use Rattle.gateway.specs.Run.{Stood};
 ghost use Rattle.gateway.specs.Segment.{Segment, blamed};
@@ -44,4 +44,18 @@ pub fn obeyed_clients_are_told()
         → IsTold door account events how after }
 {
     obeyed_rounds_stand();
+}
+
+/// Each client of a run is told, where nothing is blamed in it and the store obeyed every request of it.
+pub fn obeyed_runs_are_told()
+    ensures { (door : Door) (account : Account) (events : List Event) → CompletesRun door account events }
+{
+    obeyed_clients_are_told();
+}
+
+/// The same of a run of the program.
+pub fn obeyed_programs_tell()
+    ensures { (words : List (List ℕ)) (password : List ℕ) (status : ℕ) (events : List Event) → Completes words password status events }
+{
+    obeyed_clients_are_told();
 }

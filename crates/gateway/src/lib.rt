@@ -18,7 +18,8 @@ pub use bare_gate::BareGate;
 pub use gate::Gate;
 pub use gate_words::{Place, Task, WordsError, read_words};
 pub use laws::{
-    no_fault_no_blame, no_life_without_need, obeyed_clients_are_told, obeyed_requests_answered,
+    no_fault_no_blame, no_life_without_need, obeyed_clients_are_told, obeyed_programs_tell,
+    obeyed_requests_answered, obeyed_runs_are_told,
 };
 pub use program::run;
 pub use served::{OpenError, Served};

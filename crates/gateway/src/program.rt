@@ -4,12 +4,13 @@ ghost use Rattle.gate_world.specs.Causes.{Rose, Later, SayAlone};
 ghost use Rattle.gate_world.specs.Tape.{Adds};
 ghost use Rattle.gate_words.specs.Task.{IsTask};
 ghost use Rattle.gate_words.specs.declared.task.Task.{Task};
-ghost use Rattle.gateway.specs.Complete.{CompletesShow};
+ghost use Rattle.gateway.specs.Complete.{Completes, CompletesShow};
 ghost use Rattle.gateway.specs.Run.{IsWholeRun, Performs, RunsShow, IsSaid, EndsOnce, front_failed, words_refused};
 
 use crate::bare_gate::BareGate;
 use crate::front::FrontError;
 use crate::gate::Gate;
+use crate::laws::obeyed_programs_tell;
 use crate::served::{OpenError, Served};
 use crate::show::show_one;
 use gate_words::{Place, Task, WordsError, read_words};
@@ -120,6 +121,10 @@ pub fn run<W: World>(words: &[String], world: &mut W, watchers: &mut Vec<Box<dyn
     ensures run { Adds (W.tape world.old) (W.tape world.new)
         (IsWholeRun (map string_bytes words.now) (W.hidden world.old).password (W.faults world.old) (W.faults world.new) result) }
 
+    // Where nothing is blamed and the store obeyed every request, whoever came takes the whole response over the mail that is
+    // served then; or memory ran out, and they take the text of that.
+    ensures complete { Adds (W.tape world.old) (W.tape world.new) (Completes (map string_bytes words.now) (W.hidden world.old).password result) }
+
     // Whoever gives a message to be shown, while the front does not fail, is sent its Email object and a line end; or memory
     // was wanting, and nothing was sent.
     ensures shown { (result ≡ 6 → ⊥) → Adds (W.tape world.old) (W.tape world.new) (CompletesShow (map string_bytes words.now) result) }
@@ -136,6 +141,7 @@ pub fn run<W: World>(words: &[String], world: &mut W, watchers: &mut Vec<Box<dyn
     ensures hidden { W.hidden world.new ≡ W.hidden world.old }
     ensures watchers { watchers.new ≡ watchers.old }
 {
+    obeyed_programs_tell();
     let alloc: Global = *watchers.allocator();
     match read_words(alloc, words) {
         Ok(task) => perform(alloc, world, &task),

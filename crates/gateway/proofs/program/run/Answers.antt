@@ -16,3 +16,12 @@ returns-in-Err-Refused-clause-run g c =
 
 pub returns-in-Err-Memory-clause-run : goal.returns-in-Err-Memory-clause-run
 returns-in-Err-Memory-clause-run g c = none _ _ (runs_lacking _)
+
+pub returns-in-Ok-clause-complete : goal.returns-in-Ok-clause-complete
+returns-in-Ok-clause-complete g c = widen _ c.perform.ensures.run (λ x so. c.obeyed_programs_tell.ensures _ _ _ x)
+
+pub returns-in-Err-Refused-clause-complete : goal.returns-in-Err-Refused-clause-complete
+returns-in-Err-Refused-clause-complete g c = widen _ c.end_refused.ensures.said (λ x said. c.obeyed_programs_tell.ensures _ _ _ x)
+
+pub returns-in-Err-Memory-clause-complete : goal.returns-in-Err-Memory-clause-complete
+returns-in-Err-Memory-clause-complete g c = none _ _ (c.obeyed_programs_tell.ensures _ _ _ _)

@@ -1,5 +1,5 @@
-use Rattle.std.proofs.Common.{arith, rules, sym, subst, ◌∙◌}
-use Rattle.gate_world.proofs.Joins.{join, none}
+use Rattle.std.proofs.Common.{arith, rules, sym, subst, ◌∙◌, ◌++◌}
+use Rattle.gate_world.proofs.Joins.{join, none, widen}
 use Rattle.gateway.specs.Run.{IsClient}
 use Rattle.gateway.proofs.Running.{begun, then_client, then_last, none_left, not_accepted}
 use Rattle.gateway.proofs.serving.serve.Goals.{in-Whole, in-Part}
@@ -39,3 +39,10 @@ serving-preserved g c =
       later = search rules;
       hidden = c.answer_one.ensures.hidden ∙ c.serving.invariant.hidden;
     }
+
+pub returns-in-AcceptFault-clause-complete : goal.returns-in-AcceptFault-clause-complete
+returns-in-AcceptFault-clause-complete g c =
+    join _ c.serving.invariant.run c.in-AcceptFault.ensures.run (λ x y so steps. c.obeyed_runs_are_told.ensures _ _ (x ++ y))
+
+pub returns-in-NoMore-clause-complete : goal.returns-in-NoMore-clause-complete
+returns-in-NoMore-clause-complete g c = join _ c.serving.invariant.run c.in-NoMore.ensures.run (λ x y so steps. c.obeyed_runs_are_told.ensures _ _ (x ++ y))
