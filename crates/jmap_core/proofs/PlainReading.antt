@@ -1,5 +1,5 @@
 -- Decimal digits and the numbers that they write.
-use Rattle.std.proofs.Common.{arith, inl, inr, not, ◌==◌, ◌||◌, ◌&&◌, nat_le, ◌≡◌, ◌≢◌, ◌<◌, ◌≤◌, ◌^◌, ℕ, zero, suc, List, [], ◌∷◌, Bool, true, false, length, get_or, decimal, Result, Ok, Err, refl, sym, ap, ◌∙◌, subst}
+use Rattle.std.proofs.Common.{arith, inl, inr, not, ◌==◌, ◌||◌, nat_le, ◌≡◌, ◌<◌, ◌≤◌, ◌^◌, ℕ, zero, suc, List, true, length, get_or, decimal, Result, Ok, Err, sym, ap, ◌∙◌, subst}
 use Rattle.std.proofs.lemmas.Bool.{leb-true, and_parts, and_from, or_left, or_right, or_cases}
 use Rattle.std.proofs.lemmas.Bool.Decides.{eqb_tells}
 use Rattle.std.proofs.lemmas.Fmt.{digits_decimal, decimal-digits_value, parse-decimal, first_decimal, decimal_digit}

@@ -1,13 +1,12 @@
 -- The epoch and the place in a state's text.
 use Rattle.std.proofs.Common.{arith, ◌≡◌, ◌≢◌, ◌<◌, ◌≤◌, ◌+◌, ◌-◌, ◌/◌, ◌%◌, ℕ, zero, suc, List, [], ◌∷◌, ◌++◌, Bool, true, false, nat_lt, if◌then◌else◌, length, get_or, decimal, refl, sym, ap, ◌∙◌}
-use Rattle.std.proofs.Common.{inl, inr, ◌⊎◌, Option, Some, None, Bor, MatchOption}
+use Rattle.std.proofs.Common.{inl, inr}
 use Rattle.std.proofs.Math.ListN.{get_or-append}
 use Rattle.std.proofs.Math.Seq.{get_or-append_seam}
 use Rattle.std.proofs.lemmas.Bool.Decides.{leb_tells}
 use Rattle.std.proofs.lemmas.List.{length-append, get_or-append_right}
 use Rattle.jmap_core.specs.State.{hex_digit, hex_text, state_text}
 use Rattle.jmap_core.specs.declared.state.State.{State}
-use Rattle.jmap_core.proofs.HexReading.{length-hex}
 
 -- no `-` stands in the text
 abbrev pub HasNoDash : List ℕ → Type 0

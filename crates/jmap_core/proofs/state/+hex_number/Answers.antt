@@ -1,4 +1,4 @@
-use Rattle.std.proofs.Common.{arith, ◌≡◌, ◌<◌, ◌≤◌, ◌*◌, ◌+◌, ◌-◌, ◌^◌, ◌/◌, ◌%◌, ℕ, suc, length, subst, sym}
+use Rattle.std.proofs.Common.{arith, ◌≡◌, ◌<◌, ◌*◌, ◌+◌, ◌^◌, ◌/◌, ◌%◌, ℕ, suc, length, subst}
 use Rattle.jmap_core.proofs.HexReading.{hex_none, hex_front, hex_back, hex_joined, hex_below, hex_fits, some_by, none_by}
 use Rattle.jmap_core.proofs.state.+hex_number.Goals as goal
 

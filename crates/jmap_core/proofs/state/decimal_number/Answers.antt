@@ -1,4 +1,4 @@
-use Rattle.std.proofs.Common.{◌≡◌, ◌∙◌, ap, sym}
+use Rattle.std.proofs.Common.{◌∙◌, ap, sym}
 use Rattle.jmap_core.specs.reading.PlainDigits.{is_plain}
 use Rattle.jmap_core.proofs.PlainReading.{plain-decimal, plain_read, plain_unread}
 use Rattle.jmap_core.proofs.state.decimal_number.Goals as goal

@@ -1,8 +1,6 @@
-use Rattle.std.proofs.Common.{arith, ◌≡◌, ◌<◌, ◌++◌, ◌∷◌, ℕ, List, length, decimal, Some, None, sym, ap, ◌∙◌, subst}
+use Rattle.std.proofs.Common.{arith, ◌≡◌, ◌++◌, ◌∷◌, ℕ, List, length, Some, None, sym, ap, ◌∙◌}
 use Rattle.std.proofs.lemmas.Str.Pattern.{split_parts}
-use Rattle.jmap_core.specs.declared.state.State.{State as state}
 use Rattle.jmap_core.specs.State.{hex_text}
-use Rattle.jmap_core.specs.State as spec
 use Rattle.jmap_core.proofs.HexReading.{length-hex}
 use Rattle.jmap_core.proofs.StateParts.{has_dash, parts_of}
 use Rattle.jmap_core.proofs.state.read_state.Goals as goal
