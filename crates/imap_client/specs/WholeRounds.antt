@@ -43,9 +43,9 @@ pub data AsksFolder (at : ℕ) : Mail → List Exchange → Mail → Type 0 wher
       → FetchesFolder at (uid_next_told x.responses) mid xs after → AsksFolder at before (x ∷ xs) after
 
 -- Each folder that can be selected from this place on, by number.
-pub data VisitsFrom (from : ℕ) : Mail → List Exchange → Mail → Type 0 where
-  NoMore : {before : Mail} → selectable_from from (drop from before.folders) ≡ None → VisitsFrom from before [] before
-  Visits : {before mid after : Mail} {xs ys : List Exchange} (at : ℕ) → selectable_from from (drop from before.folders) ≡ Some at → AsksFolder at before xs mid
+pub data VisitsFrom : ℕ → Mail → List Exchange → Mail → Type 0 where
+  NoMore : {from : ℕ} {before : Mail} → selectable_from from (drop from before.folders) ≡ None → VisitsFrom from before [] before
+  Visits : {from : ℕ} {before mid after : Mail} {xs ys : List Exchange} (at : ℕ) → selectable_from from (drop from before.folders) ≡ Some at → AsksFolder at before xs mid
       → VisitsFrom (at + 1) mid ys after → VisitsFrom from before (xs ++ ys) after
 
 -- A whole round: LIST, and then each folder that can be selected of those that are told then.

@@ -7,7 +7,7 @@ mod made;
 mod store_octets;
 
 use gate_host::HostWorld;
-use gate_world::{Bytes, Link, Secrets, Text};
+use gate_world::{Bytes, Link, Secrets, Text, Unread};
 use imap_client::Client;
 use made::MadeLink;
 use std::alloc::{AllocError, Global};
@@ -16,9 +16,6 @@ use std::time::Instant;
 use std::{env, fs};
 use store_octets::two_rounds;
 use told_mail::Mirror;
-
-/// How much one read of the plain reader asks for.
-const PIECE: usize = 65_536;
 
 /// What the line of this name says in a text of the system; empty where there is none.
 fn field<'a>(text: &'a str, name: &str) -> &'a str {
@@ -109,19 +106,23 @@ fn rounds<W: Link + Secrets>(
 }
 
 /// Reads this many octets, and looks at none of them.
-fn read_plainly<L: Link>(alloc: Global, link: &mut L, count: usize) -> Result<usize, AllocError> {
-    let mut room = vec![in alloc; 0_u8; PIECE]?;
+fn read_plainly<L: Link>(alloc: Global, link: &mut L, count: usize) -> usize {
+    let mut room = Unread::new(alloc);
     let mut read: usize = 0;
     for _ in 0..count {
         if count <= read {
-            return Ok(read);
+            return read;
         }
-        match link.read(&mut room) {
-            Ok(more) => read = read.saturating_add(more),
-            Err(_) => return Ok(read),
+        match room.fill_from_link(link) {
+            Ok(()) => {
+                let more = room.as_slice().len();
+                room.skip(more);
+                read = read.saturating_add(more);
+            }
+            Err(_) => return read,
         }
     }
-    Ok(read)
+    read
 }
 
 fn in_memory(rt: &HostRuntime, messages: u32) -> Result<(), anyhow::Error> {
@@ -129,7 +130,7 @@ fn in_memory(rt: &HostRuntime, messages: u32) -> Result<(), anyhow::Error> {
     let count = octets.len();
     let mut link = MadeLink::new(octets);
     let watch = Watch::start(rt)?;
-    let read = read_plainly(rt.alloc(), &mut link, count)?;
+    let read = read_plainly(rt.alloc(), &mut link, count);
     watch.say(rt, "plain reader")?;
     println!(rt; "{read} octets")?;
     link.rewind();
