@@ -1,5 +1,5 @@
 -- What comes of a client of whom nothing fails.
-use Rattle.std.proofs.Common.{arith, ◌≡◌, ◌≢◌, ◌+◌, ◌++◌, ◌∷◌, ℕ, List, [], Result, Ok, Err, ◌⊎◌, inl, inr, ◌∙◌, ap, subst}
+use Rattle.std.proofs.Common.{arith, ◌≡◌, ◌≢◌, ◌+◌, ◌++◌, ◌∷◌, ℕ, List, [], Result, Ok, Err, ◌⊎◌, inl, inr, sym, ◌∙◌, ap, subst}
 use Rattle.gate_world.specs.Causes.{Faults, no_faults}
 use Rattle.gate_world.specs.Octets.{Hears}
 use Rattle.gate_world.specs.declared.event.Event.{Event}
