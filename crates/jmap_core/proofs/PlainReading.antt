@@ -20,16 +20,16 @@ zero_alone (suc n) fits is = absurd (omega (arith, is, first_decimal (suc n) (om
 -- a number's first digit isn't 0, or is its only one
 not_led : (ds : List ℕ) → (get_or ds 0 0 ≡ 48 → length ds ≡ 1) → (nat_le (length ds) 1 || not (get_or ds 0 0 == 48)) ≡ true
 not_led ds led = elim (eqb_tells (get_or ds 0 0) 48) [
-    inl is ↦ or_left _ _ (ap (λ (k : ℕ). nat_le k 1) (led is.1))
+  | inl is ↦ or_left _ _ (ap (λ (k : ℕ). nat_le k 1) (led is.1))
   | inr is ↦ or_right _ _ (ap not is.0)
-  ]
+]
 
 -- the same the other way
 led_by : (ds : List ℕ) → 0 < length ds → (nat_le (length ds) 1 || not (get_or ds 0 0 == 48)) ≡ true → get_or ds 0 0 ≡ 48 → length ds ≡ 1
 led_by ds some so is = elim (or_cases _ _ so) [
-    inl few ↦ (let most : length ds ≤ 1 = leb-true (length ds) 1 few in omega (arith, some, most))
+  | inl few ↦ (let most : length ds ≤ 1 = leb-true (length ds) 1 few in omega (arith, some, most))
   | inr other ↦ absurd (cc (sym other ∙ ap (λ (c : ℕ). not (c == 48)) is))
-  ]
+]
 
 -- numbers are written so
 pub plain-decimal : (n : ℕ) → n < 2 ^ 64 → is_plain (decimal n) ≡ true
@@ -40,7 +40,7 @@ pub plain_read : {E : Type 0} (ds : List ℕ) (r : Result ℕ E) (n : ℕ) → i
 plain_read {E} ds r n plain parsed is =
     let parts = and_parts _ _ plain in
     let read : OkIff {E = E} (Ok n) ((0 < length ds) × (digits_value 10 ds < 2 ^ 64)) (digits_value 10 ds) =
-        subst (λ (r : Result ℕ E). OkIff r ((0 < length ds) × (digits_value 10 ds < 2 ^ 64)) (digits_value 10 ds)) is (parse_digits own 64 ds r parsed parts.0) in
+    subst (λ (r : Result ℕ E). OkIff r ((0 < length ds) × (digits_value 10 ds < 2 ^ 64)) (digits_value 10 ds)) is (parse_digits own 64 ds r parsed parts.0) in
     sym (decimal-digits_value own ds parts.0 read.0.0 (led_by ds read.0.0 parts.1) read.0.1) ∙ ap decimal (sym read.1)
 
 -- no number is written by digits of which none was read

@@ -24,15 +24,15 @@ hex_has_no_dash (suc width) n = λ i below is.
     let front = hex_text width (n / 16) in
     let last = hex_digit (n % 16) in
     elim (leb_tells (length front) i) [
-        inr inside ↦
+      | inr inside ↦
           let in_front : i < length front = omega (arith, inside.1) in
           hex_has_no_dash width (n / 16) i in_front (sym (get_or-append front (last ∷ []) 0 i in_front) ∙ is)
       | inl past ↦
           let behind : length front ≤ i = past.1 in
           let none_left : i - length front ≡ 0 = omega (arith, below, behind, length-append front (last ∷ [])) in
           digit_by (n % 16) (nat_lt (n % 16) 10)
-            (sym (get_or-append_right front (last ∷ []) (length front) i 0 refl behind ∙ ap (λ (k : ℕ). get_or (last ∷ []) k 0) none_left) ∙ is)
-      ]
+          (sym (get_or-append_right front (last ∷ []) (length front) i 0 refl behind ∙ ap (λ (k : ℕ). get_or (last ∷ []) k 0) none_left) ∙ is)
+    ]
 
 abbrev head_of : List ℕ → ℕ
 head_of [] = 0

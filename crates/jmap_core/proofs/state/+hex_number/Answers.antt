@@ -36,6 +36,6 @@ returns-clause-some t c =
     let long : suc (length c.split_at.result.0.now) ≡ length c.args.digits.now = omega (arith, some, c.split_at.ensures.front_len) in (
       subst (λ (k : ℕ). c.in_ok-number.number * 16 + c.in_ok-digit.digit < 16 ^ k) long below,
       hex_joined c.args.digits.now c.split_at.result.0.now c.split_at.result.1.now c.in_ok-number.number c.in_ok-digit.digit some c.split_at.ensures.front
-        c.split_at.ensures.back (omega (arith, long)) (omega (arith, some, c.split_at.ensures.back_len)) c.in_ok-number.ensures.some.1 c.in_ok-digit.ensures.some.1
-        c.in_ok-digit.ensures.some.0,
+          c.split_at.ensures.back (omega (arith, long)) (omega (arith, some, c.split_at.ensures.back_len)) c.in_ok-number.ensures.some.1 c.in_ok-digit.ensures.some.1
+          c.in_ok-digit.ensures.some.0,
     )

@@ -34,6 +34,6 @@ returns-clause-some c =
     let cut = split_parts 45 c.args.text.now (Some (c.in_ok-epoch.epoch, c.in_ok-epoch.place)) c.in_ok-epoch.ensures.cases (omega arith) in
     let long : length c.as_bytes.result.now ≡ 16 = ap (λ (l : List ℕ). length l) c.as_bytes.ensures.value ∙ c.if-epoch.false in
     let epoch_is : c.in_ok-epoch.epoch.now ≡ hex_text 16 c.in_ok-hex_number.field-0 =
-        sym c.as_bytes.ensures.value ∙ c.in_ok-hex_number.ensures.some.1 ∙ ap (λ (k : ℕ). hex_text k c.in_ok-hex_number.field-0) long in
+    sym c.as_bytes.ensures.value ∙ c.in_ok-hex_number.ensures.some.1 ∙ ap (λ (k : ℕ). hex_text k c.in_ok-hex_number.field-0) long in
     cut.0 ∙ ap (λ (e : List ℕ). e ++ 45 ∷ c.in_ok-epoch.place.now) epoch_is
     ∙ ap (λ (p : List ℕ). hex_text 16 c.in_ok-hex_number.field-0 ++ 45 ∷ p) c.in_ok-decimal_number.ensures.some
