@@ -32,6 +32,7 @@ fn advance_within<S: Symbol>(stack: &mut Stack<S>, c: u16) -> bool
     ensures left { result ≡ false → symbols_of stack.new ≡ symbols_of stack.old }
     ensures some { 0 < length (symbols_of stack.old) → 0 < length (symbols_of stack.new) }
 {
+    S::lawful();
     let Some(symbol) = stack.first() else {
         return false;
     };
@@ -57,6 +58,7 @@ pub fn advance_through<S: Symbol>(stack: &mut Stack<S>, octets: &[u8]) -> usize
     ensures run { run S.automaton (Some (symbols_of stack.old)) (take result octets.now) ≡ Some (symbols_of stack.new) }
     ensures some { 0 < length (symbols_of stack.old) → 0 < length (symbols_of stack.new) }
 {
+    S::lawful();
     let mut count: usize = 0;
     while count < octets.len() {
         let (_, rest) = octets.split_at(count);

@@ -40,6 +40,7 @@ pub fn skip_inside<'a, S: Symbol>(stack: &mut Stack<S>, octets: &'a [u8]) -> &'a
     ensures rest { result.now ≡ drop (inside_left S.automaton (symbols_of stack.old) - 1) octets.now }
     ensures symbols { symbols_of stack.new ≡ skipped S.automaton (min (inside_left S.automaton (symbols_of stack.old) - 1) (length octets.now)) (symbols_of stack.old) }
 {
+    S::lawful();
     let left = stack.inside_left();
     if left <= 1 {
         return octets;
@@ -60,6 +61,7 @@ impl<S: Symbol> Scanner<S> {
     pub fn new() -> Scanner<S>
         ensures { Fed S.automaton result [] }
     {
+        S::lawful();
         Scanner {
             stack: Stack::of(S::start()),
             outside: 0,
@@ -72,6 +74,7 @@ impl<S: Symbol> Scanner<S> {
         requires { (b : List ℕ) × Fed S.automaton self.old b }
         ensures { (b : List ℕ) → Fed S.automaton self.old b → Takes S.automaton self.new b octet result }
     {
+        S::lawful();
         let inside = self.stack.is_inside();
         let cost = cost_of(inside);
         let limit = S::limit();
@@ -97,6 +100,7 @@ impl<S: Symbol> Scanner<S> {
         ensures fed { (b : List ℕ) → Fed S.automaton self.old b → FedUpTo S.automaton self.new b octets.now result.now }
         ensures rest { result.now ≡ drop (inside_left S.automaton (symbols_of self.old.stack) - 1) octets.now }
     {
+        S::lawful();
         let rest = skip_inside(&mut self.stack, octets);
         self.taken += octets.len() - rest.len();
         rest
@@ -108,6 +112,7 @@ impl<S: Symbol> Scanner<S> {
         ensures fed { (b : List ℕ) → Fed S.automaton self.old b → FedUpTo S.automaton self.new b octets.now result.now }
         ensures most { length result.now ≤ length octets.now }
     {
+        S::lawful();
         let limit = S::limit();
         let most = ((limit - self.outside) as usize).min(octets.len());
         let (front, _) = octets.split_at(most);
@@ -125,6 +130,7 @@ impl<S: Symbol> Scanner<S> {
         ensures answer { (b : List ℕ) → Fed S.automaton self.old b → AnswerOf S.automaton (b ++ piece.now) result }
         ensures more { (b : List ℕ) → Fed S.automaton self.old b → result ≡ NeedMore → Fed S.automaton self.new (b ++ piece.now) }
     {
+        S::lawful();
         let mut rest = piece;
         'feeding: loop {
             let skipped = self.skip(rest);
@@ -149,4 +155,6 @@ ghost use Rattle.pushdown.specs.declared.answer.Answer.{Answer};
 /// No octets have two answers, so each of them comes exactly where it is right.
 pub fn one_answer<S: Symbol>()
     ensures { (b : List ℕ) (p q : Answer) → answers.AnswerOf S.automaton b p → answers.AnswerOf S.automaton b q → p ≡ q }
-{}
+{
+    S::lawful();
+}

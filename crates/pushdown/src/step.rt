@@ -14,6 +14,7 @@ pub fn advance<S: Symbol>(stack: &mut Stack<S>, c: u16) -> bool
     requires { CanStep S.automaton (symbols_of stack.old) }
     ensures { step S.automaton (symbols_of stack.old) c ≡ (if result then Some (symbols_of stack.new) else None) }
 {
+    S::lawful();
     while let Some(symbol) = stack.pop() {
         match symbol.rule(c) {
             Move::Fail => return false,

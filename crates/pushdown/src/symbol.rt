@@ -38,6 +38,7 @@ pub trait Symbol: Copy {
         ensures within { result.1 ≤ length octets.now }
         ensures run { RunsTo automaton self.now (take result.1 octets.now) result.0 };
 
-    /// The rules are those of the language.
-    ghost lawful: { IsLawful automaton };
+    /// The rules are those of the language. It does nothing: callers have the laws of it.
+    fn lawful()
+        ensures { IsLawful automaton };
 }

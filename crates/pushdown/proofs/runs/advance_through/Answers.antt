@@ -9,20 +9,20 @@ use Rattle.pushdown.proofs.runs.advance_through.Goals as goal
 pub advance_run-count-requires : goal.advance_run-count-requires
 advance_run-count-requires g c =
     let machine = g.S.Symbol.automaton in
-    let laws = g.met.S.Symbol.lawful in
+    let laws = c.loop-count.invariant.laws in
     ready_can machine laws (symbols_of c.loop-count.stack) c.loop-count.invariant.ready
 
 pub advance_within-requires : goal.advance_within-requires
 advance_within-requires g c =
     let machine = g.S.Symbol.automaton in
-    let laws = g.met.S.Symbol.lawful in
+    let laws = c.loop-count.invariant.laws in
     ready_run machine laws (take c.advance_run-count.result c.split_at.result.1.now) (symbols_of c.loop-count.stack)
     (symbols_of c.advance_run-count.new.stack) c.loop-count.invariant.ready c.advance_run-count.ensures.run
 
 pub returns-then-octets-count-clause-run : goal.returns-then-octets-count-clause-run
 returns-then-octets-count-clause-run g c =
     let machine = g.S.Symbol.automaton in
-    let laws = g.met.S.Symbol.lawful in
+    let laws = c.loop-count.invariant.laws in
     let first = symbols_of c.args.stack.now in
     let before = symbols_of c.loop-count.stack in
     let after = symbols_of c.advance_run-count.new.stack in
@@ -36,7 +36,7 @@ returns-then-octets-count-clause-run g c =
 pub returns-then-not-advance_within-clause-run : goal.returns-then-not-advance_within-clause-run
 returns-then-not-advance_within-clause-run g c =
     let machine = g.S.Symbol.automaton in
-    let laws = g.met.S.Symbol.lawful in
+    let laws = c.loop-count.invariant.laws in
     let first = symbols_of c.args.stack.now in
     let before = symbols_of c.loop-count.stack in
     let after = symbols_of c.advance_run-count.new.stack in
@@ -50,7 +50,7 @@ returns-then-not-advance_within-clause-run g c =
 pub loop-count-preserved : goal.loop-count-preserved
 loop-count-preserved g c =
     let machine = g.S.Symbol.automaton in
-    let laws = g.met.S.Symbol.lawful in
+    let laws = c.loop-count.invariant.laws in
     let first = symbols_of c.args.stack.now in
     let before = symbols_of c.loop-count.stack in
     let after = symbols_of c.advance_run-count.new.stack in
@@ -64,6 +64,7 @@ loop-count-preserved g c =
     let taken = c.advance_within.ensures.taken c.if-not-advance_within.false in
     let ready = ready_run machine laws (take more c.split_at.result.1.now) before after c.loop-count.invariant.ready c.advance_run-count.ensures.run in
     record {
+      laws = laws;
       within = omega arith;
       run = run_more machine first after left octets (count + more) octet (omega arith) refl on taken;
       ready = ready_keeps machine laws after octet left ready taken;

@@ -5,9 +5,9 @@ use Rattle.pushdown.proofs.scanner.Scanner.feed.Goals as goal
 pub returns-in_default-clause-answer : goal.returns-in_default-clause-answer
 returns-in_default-clause-answer g c =
     let machine = g.S.Symbol.automaton in
-    let laws = g.met.S.Symbol.lawful in
+    let laws = c.feeding.invariant.laws in
     λ b f.
-    let here = c.feeding.invariant b f in
+    let here = c.feeding.invariant.fed b f in
     let s = c.take_many-octets.new.self in
     let skipped = up_to machine laws c.feeding.self c.skip-skipped.new.self b c.args.piece.now c.feeding.rest.now c.skip-skipped.result.now here
     (c.skip-skipped.ensures.fed (b ++ here.front) here.fed) in
@@ -18,9 +18,9 @@ returns-in_default-clause-answer g c =
 pub returns-in_default-clause-more : goal.returns-in_default-clause-more
 returns-in_default-clause-more g c =
     let machine = g.S.Symbol.automaton in
-    let laws = g.met.S.Symbol.lawful in
+    let laws = c.feeding.invariant.laws in
     λ b f e.
-    let here = c.feeding.invariant b f in
+    let here = c.feeding.invariant.fed b f in
     let s = c.take_many-octets.new.self in
     let skipped = up_to machine laws c.feeding.self c.skip-skipped.new.self b c.args.piece.now c.feeding.rest.now c.skip-skipped.result.now here
     (c.skip-skipped.ensures.fed (b ++ here.front) here.fed) in
@@ -31,10 +31,10 @@ returns-in_default-clause-more g c =
 pub returns-in_default-answer : goal.returns-in_default-answer
 returns-in_default-answer g c =
     let machine = g.S.Symbol.automaton in
-    let laws = g.met.S.Symbol.lawful in
+    let laws = c.feeding.invariant.laws in
     record {
       answer = λ b f.
-          let here = c.feeding.invariant b f in
+          let here = c.feeding.invariant.fed b f in
           let s = c.take_many-octets.new.self in
           let skipped = up_to machine laws c.feeding.self c.skip-skipped.new.self b c.args.piece.now c.feeding.rest.now c.skip-skipped.result.now here
           (c.skip-skipped.ensures.fed (b ++ here.front) here.fed) in
@@ -49,9 +49,11 @@ returns-in_default-answer g c =
 pub feeding-preserved : goal.feeding-preserved
 feeding-preserved g c =
     let machine = g.S.Symbol.automaton in
-    let laws = g.met.S.Symbol.lawful in
-    λ b f.
-    let here = c.feeding.invariant b f in
+    let laws = c.feeding.invariant.laws in
+    record {
+      laws = laws;
+      fed = λ b f.
+    let here = c.feeding.invariant.fed b f in
     let s = c.take_many-octets.new.self in
     let skipped = up_to machine laws c.feeding.self c.skip-skipped.new.self b c.args.piece.now c.feeding.rest.now c.skip-skipped.result.now here
     (c.skip-skipped.ensures.fed (b ++ here.front) here.fed) in
@@ -59,4 +61,5 @@ feeding-preserved g c =
     (c.take_many-octets.ensures.fed (b ++ skipped.front) skipped.fed) in
     up_to machine laws s c.take-answer.new.self b c.args.piece.now c.take_many-octets.result.now c.in-Some.after.now at
     (next_fed machine laws c.take-answer.new.self b at.front c.take_many-octets.result.now c.in-Some.after.now c.in-Some.octet.now c.in-Some.ensures.cases.0
-    (c.in-NeedMore.ensures (b ++ at.front) at.fed))
+    (c.in-NeedMore.ensures (b ++ at.front) at.fed));
+    }

@@ -7,7 +7,7 @@ use Rattle.pushdown.proofs.scanner.Scanner.new.Goals as goal
 pub returns : goal.returns
 returns g c =
     let machine = g.S.Symbol.automaton in
-    let laws = g.met.S.Symbol.lawful in
+    let laws = c.lawful.ensures in
     let is = c.of.ensures ∙ ap (λ (s : g.row.S.Denot). s ∷ []) c.start.ensures in
     record {
       ready = subst (Ready machine) (sym is) (start_good machine laws, (omega (arith, laws.start_room), tt));

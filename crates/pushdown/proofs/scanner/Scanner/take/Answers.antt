@@ -11,7 +11,7 @@ use Rattle.pushdown.proofs.scanner.Scanner.take.Goals as goal
 pub returns-then-limit-self : goal.returns-then-limit-self
 returns-then-limit-self g c =
     let machine = g.S.Symbol.automaton in
-    let laws = g.met.S.Symbol.lawful in
+    let laws = c.lawful.ensures in
     λ b fed.
     let s = c.args.self.now in
     let ss = symbols_of s.stack in (
@@ -23,7 +23,7 @@ returns-then-limit-self g c =
 pub returns-then-not-advance : goal.returns-then-not-advance
 returns-then-not-advance g c =
     let machine = g.S.Symbol.automaton in
-    let laws = g.met.S.Symbol.lawful in
+    let laws = c.lawful.ensures in
     λ b fed.
     let s = c.args.self.now in
     let ss = symbols_of s.stack in (
@@ -36,7 +36,7 @@ returns-then-not-advance g c =
 pub returns-then-is_empty : goal.returns-then-is_empty
 returns-then-is_empty g c =
     let machine = g.S.Symbol.automaton in
-    let laws = g.met.S.Symbol.lawful in
+    let laws = c.lawful.ensures in
     λ b fed.
     let s = c.args.self.now in
     let ss = symbols_of s.stack in
@@ -51,7 +51,7 @@ returns-then-is_empty g c =
 pub returns-else-is_empty : goal.returns-else-is_empty
 returns-else-is_empty g c =
     let machine = g.S.Symbol.automaton in
-    let laws = g.met.S.Symbol.lawful in
+    let laws = c.lawful.ensures in
     λ b fed.
     let s = c.args.self.now in
     let ss = symbols_of s.stack in
@@ -73,5 +73,5 @@ returns-else-is_empty g c =
 pub advance-requires : goal.advance-requires
 advance-requires g c =
     let machine = g.S.Symbol.automaton in
-    let laws = g.met.S.Symbol.lawful in
+    let laws = c.lawful.ensures in
     ready_can machine laws (symbols_of c.args.self.now.stack) c.requires.1.ready

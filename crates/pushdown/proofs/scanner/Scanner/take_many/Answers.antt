@@ -14,6 +14,6 @@ returns-clause-fed g c =
     let most = c.min-most.ensures ∙ ap (λ (n : ℕ). min (n - s.outside) (length octets)) c.limit-limit.ensures in
     let front = c.split_at.ensures.front ∙ ap (λ (n : ℕ). take n octets) most ∙ take_min (machine.limit - s.outside) octets in
     λ b f.
-    run_some machine g.met.S.Symbol.lawful s _ b octets c.split_at.result.0.now c.split_at-2.result.1.now c.advance_through-count.result f
+    run_some machine c.lawful.ensures s _ b octets c.split_at.result.0.now c.split_at-2.result.1.now c.advance_through-count.result f
     (λ i. omega (arith, c.type_inv.octets i)) front c.advance_through-count.ensures.within c.advance_through-count.ensures.run c.advance_through-count.ensures.some refl refl
     c.split_at-2.ensures.back
