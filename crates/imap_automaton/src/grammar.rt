@@ -1,10 +1,8 @@
-// One octet at a stack of symbols.
-ghost use Rattle.std.specs.Prelude.{◌≡◌, IsTrue, if◌then◌else◌};
+// The symbols as a grammar that the automaton reads.
+ghost use Rattle.std.specs.Prelude.{◌≡◌, IsTrue};
 ghost use Rattle.imap_automaton.specs.Rules as rules;
 ghost use Rattle.imap_automaton.specs.Fits.{SymFits};
-ghost use Rattle.imap_automaton.specs.Run.{step};
-ghost use Rattle.imap_automaton.specs.Flow.{CanStep};
-ghost use Rattle.imap_automaton.specs.Symbols.{symbols_of};
+ghost use Rattle.imap_automaton.specs.Responses.{responses};
 
 use crate::date_rule::date_rule;
 use crate::folder_rule::folder_rule;
@@ -13,16 +11,20 @@ use crate::item_name_rule::item_name_rule;
 use crate::item_rule::item_rule;
 use crate::line_rule::line_rule;
 use crate::names_rule::names_rule;
+use crate::runs::run_of;
 use crate::set_rule::{set_rule, words_rule};
-use crate::stack::Stack;
 use crate::string_rule::string_rule;
-use crate::sym::{Move, Sym};
+use crate::sym::{Line, Sym, octets_left, with_left};
 use crate::value_rule::value_rule;
 use crate::word_rule::word_rule;
+use pushdown::{Move, Symbol};
+
+/// Octets that may stand outside literals in one response.
+pub const LIMIT: u32 = 8_388_608;
 
 // Where it and the groups' rules are inlined, the tests of the octet for all symbols are made for each.
 #[inline(never)]
-pub fn rule(sym: &Sym, c: u16) -> Move
+fn rule(sym: &Sym, c: u16) -> Move<Sym>
     requires { IsTrue (SymFits sym.now) }
     ensures { result ≡ rules.rule_of sym.now c }
 {
@@ -42,27 +44,32 @@ pub fn rule(sym: &Sym, c: u16) -> Move
     }
 }
 
-/// Takes an octet, 256 above itself within a literal. The symbols are then those that read what follows it; where the
-/// answer is false, no text goes on so and the stack is of no further use.
-pub fn advance(stack: &mut Stack, c: u16) -> bool
-    requires { CanStep (symbols_of stack.old) }
-    ensures { step (symbols_of stack.old) c ≡ (if result then Some (symbols_of stack.new) else None) }
-{
-    while let Some(symbol) = stack.pop() {
-        match rule(&symbol, c) {
-            Move::Fail => return false,
-            Move::Yield => {}
-            Move::End => return true,
-            Move::One(a) => {
-                stack.push(a);
-                return true;
-            }
-            Move::Two(a, b) => {
-                stack.push(b);
-                stack.push(a);
-                return true;
-            }
-        }
+impl Symbol for Sym {
+    ghost automaton = { responses };
+
+    fn start() -> Sym {
+        Sym::Line(Line::Start)
     }
-    false
+
+    fn limit() -> u32 {
+        LIMIT
+    }
+
+    fn rule(&self, c: u16) -> Move<Sym> {
+        rule(self, c)
+    }
+
+    fn octets_left(&self) -> u32 {
+        octets_left(*self)
+    }
+
+    fn with_octets_left(&self, n: u32) -> Sym {
+        with_left(*self, n)
+    }
+
+    fn run_of(&self, octets: &[u8]) -> (Sym, usize) {
+        run_of(*self, octets)
+    }
+
+    fn lawful() {}
 }

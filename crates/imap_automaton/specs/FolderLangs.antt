@@ -1,9 +1,9 @@
 -- What each symbol of a LIST or a STATUS still reads, in the words of the grammar.
-use Rattle.std.proofs.Common.{◌≡◌, ℕ, ◌<◌, true, ◌||◌, List, [], ◌∷◌, ◌++◌, length, Option}
+use Rattle.std.specs.Prelude.{◌≡◌, ℕ, ◌<◌, true, ◌||◌, List, [], ◌∷◌, ◌++◌, length, Option}
 use Rattle.std.specs.Prelude.{◌==◌}
 use Rattle.imap_automaton.specs.declared.sym.Folder.{Folder}
 use Rattle.imap_automaton.specs.declared.sym.Folder.TheVariants as folder
-use Rattle.imap_automaton.proofs.Rests.{LongRest, IsSpaced}
+use Rattle.imap_automaton.specs.Rests.{LongRest, IsSpaced}
 use Rattle.imap_syntax.specs.Octets.{is_text, is_status_word}
 use Rattle.imap_syntax.specs.Texts.{Each, Then}
 use Rattle.imap_syntax.specs.Strings.{escaped}

@@ -1,11 +1,11 @@
 -- What each symbol of a string or a value still reads, in the words of the grammar.
-use Rattle.std.proofs.Common.{◌≡◌, ◌⊎◌, ℕ, zero, suc, ◌+◌, ◌-◌, ◌<◌, ◌≤◌, true, ◌||◌, List, [], ◌∷◌, ◌++◌, length}
+use Rattle.std.specs.Prelude.{◌≡◌, ◌⊎◌, ℕ, zero, suc, ◌+◌, ◌-◌, ◌<◌, ◌≤◌, true, ◌||◌, List, [], ◌∷◌, ◌++◌, length}
 use Rattle.std.specs.Prelude.{◌==◌}
 use Rattle.imap_automaton.specs.declared.sym.Str.{Str}
 use Rattle.imap_automaton.specs.declared.sym.Str.TheVariants as str
 use Rattle.imap_automaton.specs.declared.sym.Value.{Value}
 use Rattle.imap_automaton.specs.declared.sym.Value.TheVariants as value
-use Rattle.imap_automaton.proofs.Rests.{OctetsRest}
+use Rattle.imap_automaton.specs.Rests.{OctetsRest}
 use Rattle.imap_syntax.specs.Octets.{is_digit, is_text, is_atom, is_inside}
 use Rattle.imap_syntax.specs.Texts.{Each, Then}
 use Rattle.imap_syntax.specs.Numbers.{value_from}

@@ -1,5 +1,5 @@
 -- What each symbol of another item's name still reads, in the words of the grammar.
-use Rattle.std.proofs.Common.{◌≡◌, ◌⊎◌, ℕ, ◌<◌, List, [], ◌∷◌, ◌++◌, length}
+use Rattle.std.specs.Prelude.{◌≡◌, ◌⊎◌, ℕ, ◌<◌, List, [], ◌∷◌, ◌++◌, length}
 use Rattle.imap_automaton.specs.declared.sym.ItemName.{ItemName}
 use Rattle.imap_automaton.specs.declared.sym.ItemName.TheVariants as name
 use Rattle.imap_syntax.specs.Octets.{is_digit}

@@ -1,5 +1,5 @@
 -- What each symbol of the automaton still reads, in the words of the grammar.
-use Rattle.std.proofs.Common.{◌≡◌, ◌⊎◌, ℕ, zero, suc, ◌+◌, ◌<◌, ◌≤◌, Bool, true, false, List, [], ◌∷◌, ◌++◌, length, map, take, drop, get_or, ℤ}
+use Rattle.std.specs.Prelude.{◌≡◌, ◌⊎◌, ℕ, zero, suc, ◌+◌, ◌<◌, ◌≤◌, Bool, true, false, List, [], ◌∷◌, ◌++◌, length, map, take, drop, get_or, ℤ}
 use Rattle.imap_automaton.specs.declared.sym.Key.{Key}
 use Rattle.imap_automaton.specs.declared.sym.Key.TheVariants as key
 use Rattle.imap_automaton.specs.declared.sym.Place.{Place}
@@ -25,16 +25,16 @@ use Rattle.imap_automaton.specs.declared.sym.Str.TheVariants as str
 use Rattle.imap_automaton.specs.declared.sym.Folder.TheVariants as folder
 use Rattle.imap_automaton.specs.declared.sym.Sym.{Sym}
 use Rattle.imap_automaton.specs.declared.sym.Sym.TheVariants as sym
-use Rattle.imap_automaton.specs.declared.sym.Move.{Move}
-use Rattle.imap_automaton.specs.declared.sym.Move.TheVariants as move
+use Rattle.pushdown.specs.declared.moves.Move.{Move}
+use Rattle.pushdown.specs.Automaton as machine
 use Rattle.imap_automaton.specs.Counts.{pends}
 use Rattle.imap_automaton.specs.DateRules.{day_octet, time_octet}
 use Rattle.imap_automaton.specs.ItemNameRules.{name_from}
-use Rattle.imap_automaton.proofs.ItemNameLangs.{NameRest}
+use Rattle.imap_automaton.specs.ItemNameLangs.{NameRest}
 use Rattle.imap_automaton.specs.Keys.{key_text, phrase_text, keys, in_word}
-pub use Rattle.imap_automaton.proofs.Rests.{OctetsRest, NumberRest, LongRest, IsSpaced}
-use Rattle.imap_automaton.proofs.StringLangs.{StrLang, ValueLang}
-use Rattle.imap_automaton.proofs.FolderLangs.{FolderLang}
+pub use Rattle.imap_automaton.specs.Rests.{OctetsRest, NumberRest, LongRest, IsSpaced}
+use Rattle.imap_automaton.specs.StringLangs.{StrLang, ValueLang}
+use Rattle.imap_automaton.specs.FolderLangs.{FolderLang}
 use Rattle.imap_syntax.specs.declared.response.Response.{Response}
 use Rattle.imap_syntax.specs.Octets.{is_digit, is_alnum, is_text, is_word, is_atom, is_inside, lower}
 use Rattle.imap_syntax.specs.Texts.{Each, Then, crlf, IsCrlf}
@@ -269,13 +269,8 @@ Lang (sym.Folder s) t = FolderLang s t
 
 -- the symbols in turn
 abbrev pub Langs : List Sym → List ℕ → Type 0
-Langs [] t = t ≡ []
-Langs (s ∷ ss) t = Then (Lang s) (Langs ss) t
+Langs ss t = machine.Langs Lang ss t
 
 -- what is still read after a move
-abbrev pub After : Move → List ℕ → Type 0
-After move.Fail t = ⊥
-After move.Yield t = ⊥
-After move.End t = t ≡ []
-After (move.One a) t = Lang a t
-After (move.Two a b) t = Then (Lang a) (Lang b) t
+abbrev pub After : Move Sym → List ℕ → Type 0
+After m t = machine.After Lang m t
