@@ -1,5 +1,5 @@
 -- Runs of octets that one symbol takes.
-use Rattle.std.proofs.Common.{◌≡◌, ℕ, ◌+◌, ◌≤◌, true, length, arith}
+use Rattle.std.proofs.Common.{◌≡◌, ℕ, ◌+◌, ◌≤◌, true, length, refl, arith}
 use Rattle.imap_automaton.specs.declared.sym.Key.{Key}
 use Rattle.imap_automaton.specs.declared.sym.Key.TheVariants as key
 use Rattle.imap_automaton.specs.declared.sym.Place.{Place}
