@@ -60,10 +60,13 @@ module _ {S : Type 0} (machine : Automaton S) (laws : IsLawful machine) where
   -- nothing follows a whole text
   after_end : (t u : List ℕ) (left : List S) → run machine (Some (start machine)) t ≡ Some [] → run machine (Some (start machine)) (t ++ u) ≡ Some left → u ≡ []
   after_end t [] left e f = refl
-  after_end t (c ∷ u) left e f = absurd (no_symbols left (sym (none_stays machine u) ∙ ap (λ (o : Option (List S)). run machine o (c ∷ u)) (sym e) ∙ sym (run_append machine t (c ∷ u) (Some (start machine))) ∙ f))
+  after_end t (c ∷ u) left e f =
+      absurd (no_symbols left (sym (none_stays machine u) ∙ ap (λ (o : Option (List S)). run machine o (c ∷ u)) (sym e)
+      ∙ sym (run_append machine t (c ∷ u) (Some (start machine))) ∙ f))
 
   -- a text that is one of the language's, at the front of one that leads on, is the whole of it
-  whole_of : (t u more : List ℕ) (left : List S) → run machine (Some (start machine)) t ≡ Some [] → run machine (Some (start machine)) (u ++ more) ≡ Some left → plain t ≡ plain u → (t ≡ u) × (more ≡ [])
+  whole_of : (t u more : List ℕ) (left : List S) → run machine (Some (start machine)) t ≡ Some [] → run machine (Some (start machine)) (u ++ more) ≡ Some left
+      → plain t ≡ plain u → (t ≡ u) × (more ≡ [])
   whole_of t u more left e f p =
       let led = alive machine (run machine (Some (start machine)) u) more left (sym (run_append machine u more (Some (start machine))) ∙ f) in
       let same = start_same machine laws t u [] led.symbols e led.is p in
@@ -94,7 +97,9 @@ module _ {S : Type 0} (machine : Automaton S) (laws : IsLawful machine) where
       let f = front_of t x h.text (h.octets ∙ e) in
       let all = read_whole machine laws (h.text ++ h.more) h.reads in
       let cut : h.text ++ h.more ≡ f.front ++ (f.back ++ h.more) = ap (λ (u : List ℕ). u ++ h.more) f.whole ∙ append_assoc f.front f.back h.more in
-      let q = whole_of k.text f.front (f.back ++ h.more) [] (read_whole machine laws k.text k.reads) (ap (run machine (Some (start machine))) (sym cut) ∙ all) (k.octets ∙ sym f.first) in
+      let q =
+      whole_of k.text f.front (f.back ++ h.more) [] (read_whole machine laws k.text k.reads) (ap (run machine (Some (start machine))) (sym cut) ∙ all) (k.octets
+      ∙ sym f.first) in
       h.proper (no_append f.back h.more (sym q.1)).1
 
   -- ---- fronts of prefixes

@@ -12,7 +12,8 @@ no_symbols x e = cc
 pub take_next : (t : List ℕ) (i c : ℕ) → i < length t → get_or t i 0 ≡ c → take (i + 1) t ≡ take i t ++ c ∷ []
 take_next [] i c lt e = absurd (omega (arith, lt))
 take_next (d ∷ t) zero c lt e = ap (λ (n : ℕ). n ∷ []) e
-take_next (d ∷ t) (suc i) c lt e = let n : suc i + 1 ≡ suc (i + 1) = omega arith in ap (λ (m : ℕ). take m (d ∷ t)) n ∙ ap (λ (u : List ℕ). d ∷ u) (take_next t i c (omega (arith, lt)) e)
+take_next (d ∷ t) (suc i) c lt e =
+    let n : suc i + 1 ≡ suc (i + 1) = omega arith in ap (λ (m : ℕ). take m (d ∷ t)) n ∙ ap (λ (u : List ℕ). d ∷ u) (take_next t i c (omega (arith, lt)) e)
 
 none_taken : (k : ℕ) → take {A = ℕ} k [] ≡ []
 none_taken zero = refl
@@ -55,7 +56,8 @@ module _ {S : Type 0} (machine : Automaton S) where
       ∙ ap (λ (m : Move S). moved m ss (step machine ss c)) e
 
   -- octets, and then one more or some more
-  pub run_more : (ss left next : List S) (t : List ℕ) (i c : ℕ) → i < length t → get_or t i 0 ≡ c → run machine (Some ss) (take i t) ≡ Some left → step machine left c ≡ Some next
+  pub run_more : (ss left next : List S) (t : List ℕ) (i c : ℕ) → i < length t → get_or t i 0 ≡ c → run machine (Some ss) (take i t) ≡ Some left
+      → step machine left c ≡ Some next
       → run machine (Some ss) (take (i + 1) t) ≡ Some next
   run_more ss left next t i c lt at h e =
       ap (run machine (Some ss)) (take_next t i c lt at)

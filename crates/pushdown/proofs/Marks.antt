@@ -28,7 +28,8 @@ both false e f = absurd cc
 -- the bound on what was taken
 pub bound_keeps : (most : ℕ) (inside : Bool) (taken out k old new : ℕ) → k ≡ cond inside 0 1 → Leaves most inside old new → taken + old ≤ (most + 1) * out
     → (taken + 1) + new ≤ (most + 1) * (out + k)
-bound_keeps most true taken out k old new e h b = let same : out + k ≡ out = omega (arith, e) in subst (λ (n : ℕ). (taken + 1) + new ≤ (most + 1) * n) (sym same) (omega (arith, h, b))
+bound_keeps most true taken out k old new e h b =
+    let same : out + k ≡ out = omega (arith, e) in subst (λ (n : ℕ). (taken + 1) + new ≤ (most + 1) * n) (sym same) (omega (arith, h, b))
 bound_keeps most false taken out k old new e h b =
     let same : out + k ≡ out + 1 = omega (arith, e) in
     let next : out + 1 ≡ suc out = omega arith in
@@ -45,7 +46,8 @@ module _ {S : Type 0} (machine : Automaton S) (laws : IsLawful machine) where
   small_at (move.One a) s rest left c r o fits e f h = both (is_go (machine.rule_of s c)) (ap is_go r) (laws.unmarked s c o fits e)
   small_at (move.Two a b) s rest left c r o fits e f h = both (is_go (machine.rule_of s c)) (ap is_go r) (laws.unmarked s c o fits e)
 
-  small_step : (last : Bool) (s : S) (rest left : List S) (c : ℕ) → Good machine last (s ∷ rest) → inside machine s ≡ false → nat_lt c 256 ≡ false → step machine (s ∷ rest) c ≡ Some left → ⊥
+  small_step : (last : Bool) (s : S) (rest left : List S) (c : ℕ) → Good machine last (s ∷ rest) → inside machine s ≡ false → nat_lt c 256 ≡ false
+      → step machine (s ∷ rest) c ≡ Some left → ⊥
   small_step last s [] left c good o e h = small_at (machine.rule_of s c) s [] left c refl o good.0 e (λ y q. cc) h
   small_step last s (q ∷ rest) left c good o e h = small_at (machine.rule_of s c) s (q ∷ rest) left c refl o good.0 e
       (λ y k. small_step last q rest left c good.2
@@ -91,7 +93,8 @@ module _ {S : Type 0} (machine : Automaton S) (laws : IsLawful machine) where
   head_is ss c t left good e = let a = alive machine (step machine ss c) t left e in forced false ss a.symbols c good a.is
 
   -- a text of those octets that leads on is one alone
-  same_text : (t u : List ℕ) (o : Option (List S)) (left other : List S) → ((ss : List S) → o ≡ Some ss → Good machine false ss) → run machine o t ≡ Some left → run machine o u ≡ Some other
+  same_text : (t u : List ℕ) (o : Option (List S)) (left other : List S) → ((ss : List S) → o ≡ Some ss → Good machine false ss) → run machine o t ≡ Some left
+      → run machine o u ≡ Some other
       → plain t ≡ plain u → t ≡ u
   same_text [] [] o left other good e f p = refl
   same_text [] (d ∷ u) o left other good e f p = absurd cc
@@ -100,11 +103,13 @@ module _ {S : Type 0} (machine : Automaton S) (laws : IsLawful machine) where
   same_text (c ∷ t) (d ∷ u) (Some ss) left other good e f p =
       let g = good ss refl in
       let same : c ≡ d = head_is ss c t left g e ∙ ap (mark machine ss) (cons_head (plain_of c) (plain_of d) (plain t) (plain u) p) ∙ sym (head_is ss d u other g f) in
-      let rest : t ≡ u = same_text t u (step machine ss c) left other (λ next h. keeps machine laws false ss c next g h) e (ap (λ (n : ℕ). run machine (step machine ss n) u) same ∙ f)
+      let rest : t ≡ u =
+      same_text t u (step machine ss c) left other (λ next h. keeps machine laws false ss c next g h) e (ap (λ (n : ℕ). run machine (step machine ss n) u) same ∙ f)
       (cons_tail (plain_of c) (plain_of d) (plain t) (plain u) p) in
       cc
 
-  pub start_same : (t u : List ℕ) (left other : List S) → run machine (Some (start machine)) t ≡ Some left → run machine (Some (start machine)) u ≡ Some other → plain t ≡ plain u → t ≡ u
+  pub start_same : (t u : List ℕ) (left other : List S) → run machine (Some (start machine)) t ≡ Some left → run machine (Some (start machine)) u ≡ Some other
+      → plain t ≡ plain u → t ≡ u
   start_same t u left other e f p = same_text t u (Some (start machine)) left other (λ ss h. subst (Good machine false) (same_Some (start machine) ss h) start_good) e f p
 
   -- ---- what is left of literals
@@ -114,9 +119,11 @@ module _ {S : Type 0} (machine : Automaton S) (laws : IsLawful machine) where
       → Leaves machine.most (inside machine s) (left_of machine (s ∷ rest)) (left_of machine left)
   left_move move.Fail s rest left other g ih e = absurd cc
   left_move move.Yield s rest left other g ih e = ih refl e
-  left_move move.End s rest left other g ih e = subst (λ (q : List S). Leaves machine.most (inside machine s) (left_of machine (s ∷ rest)) (left_of machine q)) (same_Some rest left e)
+  left_move move.End s rest left other g ih e =
+      subst (λ (q : List S). Leaves machine.most (inside machine s) (left_of machine (s ∷ rest)) (left_of machine q)) (same_Some rest left e)
       (omega (arith, g))
-  left_move (move.One a) s rest left other g ih e = subst (λ (q : List S). Leaves machine.most (inside machine s) (left_of machine (s ∷ rest)) (left_of machine q)) (same_Some (a ∷ rest) left e)
+  left_move (move.One a) s rest left other g ih e =
+      subst (λ (q : List S). Leaves machine.most (inside machine s) (left_of machine (s ∷ rest)) (left_of machine q)) (same_Some (a ∷ rest) left e)
       (omega (arith, g))
   left_move (move.Two a b) s rest left other g ih e =
       subst (λ (q : List S). Leaves machine.most (inside machine s) (left_of machine (s ∷ rest)) (left_of machine q)) (same_Some (a ∷ b ∷ rest) left e) (omega (arith, g))
@@ -134,5 +141,6 @@ module _ {S : Type 0} (machine : Automaton S) (laws : IsLawful machine) where
       let n : inside machine s ≡ false = laws.open_outside s o in
       let t : inside_top machine rest ≡ false = top_begins rest (open_begins (machine.ends_open s) (first_begins machine false rest) good.1 o) in
       let h = step_left rest c left good.2 f in
-      let k : Leaves machine.most false (left_of machine rest) (left_of machine left) = subst (λ (b : Bool). Leaves machine.most b (left_of machine rest) (left_of machine left)) t h in
+      let k : Leaves machine.most false (left_of machine rest) (left_of machine left) =
+      subst (λ (b : Bool). Leaves machine.most b (left_of machine rest) (left_of machine left)) t h in
       subst (λ (b : Bool). Leaves machine.most b (left_of machine (s ∷ rest)) (left_of machine left)) (sym n) (omega (arith, k))) e

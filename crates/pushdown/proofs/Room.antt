@@ -13,7 +13,7 @@ module _ {S : Type 0} (machine : Automaton S) (laws : IsLawful machine) where
   pub two_room : (s : S) (c : ℕ) (a b : S) → machine.fits s ≡ true → machine.rule_of s c ≡ move.Two a b → 2 ≤ machine.need s
   two_room s c a b fits e =
       let p = and_parts (nat_le (machine.need a + 1) (machine.need s)) (nat_le (machine.need b) (machine.need s))
-          (subst (λ (m : Move S). move_needs machine (machine.need s) m ≡ true) e (laws.needs s c fits)) in
+      (subst (λ (m : Move S). move_needs machine (machine.need s) m ≡ true) e (laws.needs s c fits)) in
       let n = laws.needs_some a in
       omega (arith, leb-true _ _ p.0, n)
 

@@ -29,18 +29,22 @@ module _ {S : Type 0} (machine : Automaton S) (laws : IsLawful machine) where
   pub mark_is : (ss : List S) (inside : Bool) (c m : ℕ) → inside ≡ inside_top machine ss → m ≡ cond inside (c + 256) c → m ≡ mark machine ss c
   mark_is ss inside c m e f = f ∙ ap (λ (b : Bool). cond b (c + 256) c) e
 
-  pub bad_by_limit : (ss : List S) (out : ℕ) (b : List ℕ) (c k : ℕ) → Stands machine ss out b → c < 256 → k ≡ cost machine ss → machine.limit - out < k → IsPrefix machine (b ++ c ∷ []) → ⊥
+  pub bad_by_limit : (ss : List S) (out : ℕ) (b : List ℕ) (c k : ℕ) → Stands machine ss out b → c < 256 → k ≡ cost machine ss → machine.limit - out < k
+      → IsPrefix machine (b ++ c ∷ []) → ⊥
   bad_by_limit ss out b c k h lt e over p = let g = prefix_goes machine laws ss out b c h lt p in omega (arith, g.within, e, over)
 
-  pub bad_by_step : (ss left : List S) (out : ℕ) (b : List ℕ) (c m : ℕ) (went : Bool) → Stands machine ss out b → c < 256 → m ≡ mark machine ss c → step machine ss m ≡ cond went (Some left) None
+  pub bad_by_step : (ss left : List S) (out : ℕ) (b : List ℕ) (c m : ℕ) (went : Bool) → Stands machine ss out b → c < 256 → m ≡ mark machine ss c
+      → step machine ss m ≡ cond went (Some left) None
       → went ≡ false → IsPrefix machine (b ++ c ∷ []) → ⊥
   bad_by_step ss left out b c m went h lt e f n p =
       no_prefix_none machine laws ss out b c h lt (ap (step machine ss) (sym e) ∙ f ∙ cond-false went (Some left) None n) p
 
-  pub went_is : (ss left : List S) (c m : ℕ) (went : Bool) → m ≡ mark machine ss c → step machine ss m ≡ cond went (Some left) None → went ≡ true → step machine ss (mark machine ss c) ≡ Some left
+  pub went_is : (ss left : List S) (c m : ℕ) (went : Bool) → m ≡ mark machine ss c → step machine ss m ≡ cond went (Some left) None → went ≡ true
+      → step machine ss (mark machine ss c) ≡ Some left
   went_is ss left c m went e f y = ap (step machine ss) (sym e) ∙ f ∙ cond-true went (Some left) None y
 
-  pub goes_on : (ss left : List S) (out : ℕ) (b : List ℕ) (c k : ℕ) → Stands machine ss out b → c < 256 → k ≡ cost machine ss → k ≤ machine.limit - out → step machine ss (mark machine ss c) ≡ Some left
+  pub goes_on : (ss left : List S) (out : ℕ) (b : List ℕ) (c k : ℕ) → Stands machine ss out b → c < 256 → k ≡ cost machine ss → k ≤ machine.limit - out
+      → step machine ss (mark machine ss c) ≡ Some left
       → Stands machine left (out + k) (b ++ c ∷ [])
   goes_on ss left out b c k h lt e le went =
       let w : out + cost machine ss ≤ machine.limit = omega (arith, h.within, e, le) in
@@ -59,7 +63,8 @@ module _ {S : Type 0} (machine : Automaton S) (laws : IsLawful machine) where
   -- ---- a piece
 
   -- what an octet of a piece is answered is what the whole is answered, unless more is needed
-  pub answered : (b piece front after : List ℕ) (c : ℕ) (before new : Scanner S) (told : Answer) → piece ≡ front ++ c ∷ after → Fed machine before (b ++ front) → Takes machine new (b ++ front) c told
+  pub answered : (b piece front after : List ℕ) (c : ℕ) (before new : Scanner S) (told : Answer) → piece ≡ front ++ c ∷ after → Fed machine before (b ++ front)
+      → Takes machine new (b ++ front) c told
       → (told ≡ answer.NeedMore → ⊥) → AnswerOf machine (b ++ piece) told
   answered b piece front after c before new answer.NeedMore e fed took ne = absurd (ne refl)
   answered b piece front after c before new (answer.Whole n) e fed took ne =
@@ -75,12 +80,14 @@ module _ {S : Type 0} (machine : Automaton S) (laws : IsLawful machine) where
       let long : at + 1 ≡ length x = omega (arith, took.0, length-append (b ++ front) (c ∷ [])) in (
         omega (arith, long, ap length whole, length-append x after),
         λ p. took.1 (subst (IsPrefix machine) (front_taken x after (b ++ piece) (at + 1) whole long) p),
-        subst (IsProperPrefix machine) (sym (front_taken (b ++ front) (c ∷ after) (b ++ piece) at (ap (λ (u : List ℕ). b ++ u) e ∙ sym (append_assoc b front (c ∷ after))) took.0))
+        subst (IsProperPrefix machine) (sym (front_taken (b ++ front) (c ∷ after) (b ++ piece) at (ap (λ (u : List ℕ). b ++ u) e
+            ∙ sym (append_assoc b front (c ∷ after))) took.0))
             (fed_proper before (b ++ front) fed),
       )
 
   -- from one place of a piece to a later one
-  pub up_to : (s new : Scanner S) (b piece rest left : List ℕ) → (h : FedUpTo machine s b piece rest) → FedUpTo machine new (b ++ h.front) rest left → FedUpTo machine new b piece left
+  pub up_to : (s new : Scanner S) (b piece rest left : List ℕ) → (h : FedUpTo machine s b piece rest) → FedUpTo machine new (b ++ h.front) rest left
+      → FedUpTo machine new b piece left
   up_to s new b piece rest left h k = record {
     front = h.front ++ k.front;
     whole = h.whole ∙ ap (λ (u : List ℕ). h.front ++ u) k.whole ∙ sym (append_assoc h.front k.front left);
@@ -93,5 +100,6 @@ module _ {S : Type 0} (machine : Automaton S) (laws : IsLawful machine) where
   all_fed s b piece (c ∷ rest) h e = absurd (omega (arith, e))
 
   -- an octet more
-  pub next_fed : (new : Scanner S) (b front rest after : List ℕ) (c : ℕ) → rest ≡ c ∷ after → Fed machine new ((b ++ front) ++ c ∷ []) → FedUpTo machine new (b ++ front) rest after
+  pub next_fed : (new : Scanner S) (b front rest after : List ℕ) (c : ℕ) → rest ≡ c ∷ after → Fed machine new ((b ++ front) ++ c ∷ [])
+      → FedUpTo machine new (b ++ front) rest after
   next_fed new b front rest after c e h = record { front = c ∷ []; whole = e; fed = h }

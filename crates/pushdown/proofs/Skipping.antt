@@ -1,5 +1,6 @@
 -- Octets of a literal that are taken at once.
-use Rattle.std.proofs.Common.{◌≡◌, ◌≢◌, ℕ, zero, suc, ◌+◌, ◌-◌, ◌<◌, ◌≤◌, ◌*◌, true, false, min, List, [], ◌∷◌, ◌++◌, length, take, drop, get_or, Some, inl, inr, refl, sym, ap, subst, ◌∙◌}
+use Rattle.std.proofs.Common.{◌≡◌, ◌≢◌, ℕ, zero, suc, ◌+◌, ◌-◌, ◌<◌, ◌≤◌, ◌*◌, true, false, min, List, [], ◌∷◌, ◌++◌, length, take, drop, get_or}
+use Rattle.std.proofs.Common.{Some, inl, inr, refl, sym, ap, subst, ◌∙◌}
 use Rattle.std.proofs.Common.{append_assoc, length-append, arith}
 use Rattle.std.specs.Prelude.{Bool, nat_lt, not, ◌||◌}
 use Rattle.std.proofs.Math.Nat.{min-le_left, min-le_right}
@@ -59,7 +60,7 @@ module _ {S : Type 0} (machine : Automaton S) (laws : IsLawful machine) where
       let on = stands_skip cs next ss out (n - 1) (b ++ c ∷ []) each.1 (omega (arith, lt)) left (subst (λ (m : ℕ). Stands machine (next ∷ ss) m (b ++ c ∷ [])) same here) in
       let count : n - 1 - length cs ≡ n - suc (length cs) = omega arith in
       let is : machine.with_left next (n - 1 - length cs) ≡ machine.with_left s (n - suc (length cs)) =
-          laws.with_with s (machine.left s - 1) (n - 1 - length cs) ∙ ap (machine.with_left s) count in
+      laws.with_with s (machine.left s - 1) (n - 1 - length cs) ∙ ap (machine.with_left s) count in
       subst (λ (u : List ℕ). Stands machine (machine.with_left s (n - suc (length cs)) ∷ ss) out u) (append_assoc b (c ∷ []) cs)
       (subst (λ (q : S). Stands machine (q ∷ ss) out ((b ++ c ∷ []) ++ cs)) is on)
 
@@ -68,9 +69,10 @@ module _ {S : Type 0} (machine : Automaton S) (laws : IsLawful machine) where
   ready_fewer s k ss lt h =
       let fits = laws.with_fits s (machine.left s - k) h.0.0 (omega (arith, lt)) (omega arith) in
       let open_same = laws.with_open s (machine.left s - k) in
-      let need_same = laws.with_need s (machine.left s - k) in
-      ((fits, subst (λ (o : Bool). (not o || first_begins machine false ss) ≡ true) (sym open_same) h.0.1, h.0.2),
-      (subst (λ (n : ℕ). n + length ss ≤ room) (sym need_same) h.1.0, h.1.1))
+      let need_same = laws.with_need s (machine.left s - k) in (
+        (fits, subst (λ (o : Bool). (not o || first_begins machine false ss) ≡ true) (sym open_same) h.0.1, h.0.2),
+        (subst (λ (n : ℕ). n + length ss ≤ room) (sym need_same) h.1.0, h.1.1),
+      )
 
   skips : (ss : List S) (out : ℕ) (b cs : List ℕ) → Each small cs → length cs < inside_left machine ss → Ready machine ss → Stands machine ss out b → Skips machine ss out b cs
   skips [] out b cs each lt ready h = absurd (omega (arith, lt))
@@ -95,14 +97,17 @@ module _ {S : Type 0} (machine : Automaton S) (laws : IsLawful machine) where
       }
 
   -- n octets of the literal at hand are taken
-  skip_some : (s new : Scanner S) (b octets rest : List ℕ) (k : ℕ) → Fed machine s b → ((i : ℕ) → get_or octets i 0 < 256) → k ≤ length octets → k < inside_left machine (symbols_of s.stack)
-      → symbols_of new.stack ≡ skipped machine k (symbols_of s.stack) → new.outside ≡ s.outside → new.taken ≡ s.taken + k → rest ≡ drop k octets → FedUpTo machine new b octets rest
+  skip_some : (s new : Scanner S) (b octets rest : List ℕ) (k : ℕ) → Fed machine s b → ((i : ℕ) → get_or octets i 0 < 256) → k ≤ length octets
+      → k < inside_left machine (symbols_of s.stack)
+      → symbols_of new.stack ≡ skipped machine k (symbols_of s.stack) → new.outside ≡ s.outside → new.taken ≡ s.taken + k → rest ≡ drop k octets
+      → FedUpTo machine new b octets rest
   skip_some s new b octets rest k h each le lt is out taken back =
       let long : length (take k octets) ≡ k = length-take-le k octets le in
       record {
         front = take k octets;
         whole = sym (take-append-drop k octets) ∙ ap (λ (u : List ℕ). take k octets ++ u) (sym back);
-        fed = skip_fed s new b (take k octets) h (small_front k octets each) (omega (arith, long, lt)) (is ∙ ap (λ (n : ℕ). skipped machine n (symbols_of s.stack)) (sym long)) out
+        fed =
+            skip_fed s new b (take k octets) h (small_front k octets each) (omega (arith, long, lt)) (is ∙ ap (λ (n : ℕ). skipped machine n (symbols_of s.stack)) (sym long)) out
             (omega (arith, taken, long));
       }
 
@@ -111,7 +116,8 @@ module _ {S : Type 0} (machine : Automaton S) (laws : IsLawful machine) where
   skipped_zero (s ∷ ss) = let e : machine.left s - 0 ≡ machine.left s = omega arith in ap (λ (q : S). q ∷ ss) (ap (machine.with_left s) e ∙ laws.with_same s)
 
   -- none are taken
-  skip_none : (s new : Scanner S) (b octets rest : List ℕ) → Fed machine s b → symbols_of new.stack ≡ symbols_of s.stack → new.outside ≡ s.outside → new.taken ≡ s.taken → rest ≡ octets
+  skip_none : (s new : Scanner S) (b octets rest : List ℕ) → Fed machine s b → symbols_of new.stack ≡ symbols_of s.stack → new.outside ≡ s.outside
+      → new.taken ≡ s.taken → rest ≡ octets
       → FedUpTo machine new b octets rest
   skip_none s new b octets rest h is out taken same =
       record {
@@ -127,7 +133,8 @@ module _ {S : Type 0} (machine : Automaton S) (laws : IsLawful machine) where
       }
 
   -- as many as there are, but for the last of the literal
-  pub skip_all : (s new : Scanner S) (b octets rest : List ℕ) → Fed machine s b → ((i : ℕ) → get_or octets i 0 < 256) → rest ≡ drop (inside_left machine (symbols_of s.stack) - 1) octets
+  pub skip_all : (s new : Scanner S) (b octets rest : List ℕ) → Fed machine s b → ((i : ℕ) → get_or octets i 0 < 256)
+      → rest ≡ drop (inside_left machine (symbols_of s.stack) - 1) octets
       → symbols_of new.stack ≡ skipped machine (min (inside_left machine (symbols_of s.stack) - 1) (length octets)) (symbols_of s.stack) → new.outside ≡ s.outside
       → new.taken ≡ s.taken + (length octets - length rest) → FedUpTo machine new b octets rest
   skip_all s new b octets rest h each back is out taken =
@@ -142,6 +149,7 @@ module _ {S : Type 0} (machine : Automaton S) (laws : IsLawful machine) where
         | inl some ↦ skip_some s new b octets rest k h each le (omega (arith, some, least)) is out count from
         | inr none ↦
             let zero_k : k ≡ 0 = omega (arith, none, least) in
-            skip_none s new b octets rest h (is ∙ ap (λ (n : ℕ). skipped machine n (symbols_of s.stack)) zero_k ∙ skipped_zero (symbols_of s.stack)) out (omega (arith, count, zero_k))
+            skip_none s new b octets rest h (is ∙ ap (λ (n : ℕ). skipped machine n (symbols_of s.stack)) zero_k
+            ∙ skipped_zero (symbols_of s.stack)) out (omega (arith, count, zero_k))
             (from ∙ ap (λ (n : ℕ). drop n octets) zero_k)
       ]

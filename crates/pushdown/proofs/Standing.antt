@@ -71,11 +71,14 @@ module _ {S : Type 0} (machine : Automaton S) (laws : IsLawful machine) where
       by true = ap (λ (q : Bool). cond q 1 0 + 0) (le-ltb (c + 256) 256 (omega arith)) ∙ omega arith
       by false = ap (λ (q : Bool). cond q 1 0 + 0) (lt-ltb c 256 lt) ∙ omega arith
 
-  pub stands_step : (ss left : List S) (out : ℕ) (b : List ℕ) (c : ℕ) → Stands machine ss out b → c < 256 → step machine ss (mark machine ss c) ≡ Some left → out + cost machine ss ≤ machine.limit
+  pub stands_step : (ss left : List S) (out : ℕ) (b : List ℕ) (c : ℕ) → Stands machine ss out b → c < 256 → step machine ss (mark machine ss c) ≡ Some left
+      → out + cost machine ss ≤ machine.limit
       → Stands machine left (out + cost machine ss) (b ++ c ∷ [])
   stands_step ss left out b c h lt e w = record {
     text = h.text ++ mark machine ss c ∷ [];
-    octets = map-append plain_of h.text (mark machine ss c ∷ []) ∙ ap (λ (u : List ℕ). u ++ plain_of (mark machine ss c) ∷ []) h.octets ∙ ap (λ (n : ℕ). b ++ n ∷ []) (mark_plain ss c lt);
+    octets =
+        map-append plain_of h.text (mark machine ss c ∷ []) ∙ ap (λ (u : List ℕ). u ++ plain_of (mark machine ss c) ∷ []) h.octets
+        ∙ ap (λ (n : ℕ). b ++ n ∷ []) (mark_plain ss c lt);
     leads = run_append machine h.text (mark machine ss c ∷ []) (Some (start machine)) ∙ ap (λ (o : Option (List S)). stepped machine o (mark machine ss c)) h.leads ∙ e;
     counted = omega (arith, h.counted, outside_append h.text (mark machine ss c ∷ []), mark_cost ss c lt);
     within = w;
@@ -91,7 +94,8 @@ module _ {S : Type 0} (machine : Automaton S) (laws : IsLawful machine) where
   prefix_goes ss out b c h lt p =
       let a = prefix_leads (b ++ c ∷ []) p in
       let l = last_of p.text b c p.octets in
-      let led : run machine (run machine (Some (start machine)) l.front) (l.last ∷ []) ≡ Some a.symbols = sym (run_append machine l.front (l.last ∷ []) (Some (start machine))) ∙ ap (run machine (Some (start machine))) (sym l.whole) ∙ a.is in
+      let led : run machine (run machine (Some (start machine)) l.front) (l.last ∷ []) ≡ Some a.symbols =
+      sym (run_append machine l.front (l.last ∷ []) (Some (start machine))) ∙ ap (run machine (Some (start machine))) (sym l.whole) ∙ a.is in
       let before = alive machine (run machine (Some (start machine)) l.front) (l.last ∷ []) a.symbols led in
       let same : l.front ≡ h.text = start_same machine laws l.front h.text before.symbols ss before.is h.leads (l.octets ∙ sym h.octets) in
       let at : run machine (Some (start machine)) l.front ≡ Some ss = ap (run machine (Some (start machine))) same ∙ h.leads in
@@ -112,7 +116,8 @@ module _ {S : Type 0} (machine : Automaton S) (laws : IsLawful machine) where
         );
       }
 
-  pub no_prefix_none : (ss : List S) (out : ℕ) (b : List ℕ) (c : ℕ) → Stands machine ss out b → c < 256 → step machine ss (mark machine ss c) ≡ None → IsPrefix machine (b ++ c ∷ []) → ⊥
+  pub no_prefix_none : (ss : List S) (out : ℕ) (b : List ℕ) (c : ℕ) → Stands machine ss out b → c < 256 → step machine ss (mark machine ss c) ≡ None
+      → IsPrefix machine (b ++ c ∷ []) → ⊥
   no_prefix_none ss out b c h lt e p = let g = prefix_goes ss out b c h lt p in no_symbols g.symbols (sym e ∙ g.is)
 
   langs_start : (t : List ℕ) → Langs machine.language (start machine) t → machine.language machine.start t
@@ -135,7 +140,7 @@ module _ {S : Type 0} (machine : Automaton S) (laws : IsLawful machine) where
       let m = reads_some machine laws false (s ∷ ss) good in
       let on : run machine (Some (s ∷ ss)) m.0 ≡ Some [] = reads_forth machine laws m.0 (s ∷ ss) good m.1 in
       let all : run machine (Some (start machine)) (h.text ++ m.0) ≡ Some [] =
-          run_append machine h.text m.0 (Some (start machine)) ∙ ap (λ (o : Option (List S)). run machine o m.0) h.leads ∙ on in
+      run_append machine h.text m.0 (Some (start machine)) ∙ ap (λ (o : Option (List S)). run machine o m.0) h.leads ∙ on in
       record {
         text = h.text;
         more = m.0;

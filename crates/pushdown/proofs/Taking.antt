@@ -63,11 +63,16 @@ module _ {S : Type 0} (machine : Automaton S) (laws : IsLawful machine) where
       let one : cost machine ss ≡ 1 = cost_one ss c is in
       record {
         ready = ready_keeps machine laws ss c left h.ready e;
-        stands = subst (λ (n : ℕ). Stands machine left (out + n) (b ++ c ∷ [])) one (stands_step machine laws ss left out b c h.stands lt (ap (step machine ss) (sym is) ∙ e) (omega (arith, one, w)));
-        bound = bound_keeps machine.most (inside_top machine ss) taken out 1 (left_of machine ss) (left_of machine left) (sym one) (step_left machine laws ss c left h.ready.0 e) h.bound;
+        stands =
+            subst (λ (n : ℕ). Stands machine left (out + n) (b ++ c ∷ [])) one (stands_step machine laws ss left out b c h.stands lt (ap (step machine ss) (sym is)
+            ∙ e) (omega (arith, one, w)));
+        bound =
+            bound_keeps machine.most (inside_top machine ss) taken out 1 (left_of machine ss) (left_of machine left) (sym one)
+            (step_left machine laws ss c left h.ready.0 e) h.bound;
       }
 
-  led_run : (cs : List ℕ) (ss left : List S) (out taken : ℕ) (b : List ℕ) → Each small cs → Led machine ss out taken b → run machine (Some ss) cs ≡ Some left → out + length cs ≤ machine.limit
+  led_run : (cs : List ℕ) (ss left : List S) (out taken : ℕ) (b : List ℕ) → Each small cs → Led machine ss out taken b → run machine (Some ss) cs ≡ Some left
+      → out + length cs ≤ machine.limit
       → Led machine left (out + length cs) (taken + length cs) (b ++ cs)
   led_run [] ss left out taken b each h e w =
       let same : ss ≡ left = same_Some ss left e in
@@ -105,7 +110,8 @@ module _ {S : Type 0} (machine : Automaton S) (laws : IsLawful machine) where
       }
 
   -- n octets of a front that is within the limit
-  pub run_some : (s new : Scanner S) (b octets front rest : List ℕ) (k : ℕ) → Fed machine s b → ((i : ℕ) → get_or octets i 0 < 256) → front ≡ take (machine.limit - s.outside) octets
+  pub run_some : (s new : Scanner S) (b octets front rest : List ℕ) (k : ℕ) → Fed machine s b → ((i : ℕ) → get_or octets i 0 < 256)
+      → front ≡ take (machine.limit - s.outside) octets
       → k ≤ length front → run machine (Some (symbols_of s.stack)) (take k front) ≡ Some (symbols_of new.stack)
       → (0 < length (symbols_of s.stack) → 0 < length (symbols_of new.stack)) → new.outside ≡ s.outside + k → new.taken ≡ s.taken + k → rest ≡ drop k octets
       → FedUpTo machine new b octets rest

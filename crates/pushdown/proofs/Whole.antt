@@ -32,7 +32,8 @@ record MoveLeads {S : Type 0} (a : Automaton S) (m : Move S) (rest : List S) (ot
 module _ {S : Type 0} (machine : Automaton S) (laws : IsLawful machine) where
   -- ---- from a text read after an octet to a text read with it
 
-  unmoved : (s : S) (rest : List S) (c : ℕ) (left : List S) (t : List ℕ) (m : Move S) → machine.rule_of s c ≡ m → machine.fits s ≡ true → (step machine rest c ≡ Some left → Langs machine.language rest (c ∷ t))
+  unmoved : (s : S) (rest : List S) (c : ℕ) (left : List S) (t : List ℕ) (m : Move S) → machine.rule_of s c ≡ m → machine.fits s ≡ true
+      → (step machine rest c ≡ Some left → Langs machine.language rest (c ∷ t))
       → moved m rest (step machine rest c) ≡ Some left → Langs machine.language left t → Langs machine.language (s ∷ rest) (c ∷ t)
   unmoved s rest c left t move.Fail r fits ih e h = absurd cc
   unmoved s rest c left t move.Yield r fits ih e h = record { front = []; back = c ∷ t; whole = refl; first = (laws.yields s c fits r).1; second = ih e }
@@ -53,7 +54,9 @@ module _ {S : Type 0} (machine : Automaton S) (laws : IsLawful machine) where
         second = k.second;
       }
   unmoved s rest c left t (move.Two a b) r fits ih e h =
-      let k = regroup (machine.language a) (machine.language b) (Langs machine.language rest) t (subst (λ (ss : List S). Langs machine.language ss t) (sym (same_Some (a ∷ b ∷ rest) left e)) h) in
+      let k =
+      regroup (machine.language a) (machine.language b) (Langs machine.language rest) t (subst (λ (ss : List S). Langs machine.language ss t) (sym (same_Some
+      (a ∷ b ∷ rest) left e)) h) in
       record {
         front = c ∷ k.front;
         back = k.back;
@@ -62,7 +65,8 @@ module _ {S : Type 0} (machine : Automaton S) (laws : IsLawful machine) where
         second = k.second;
       }
 
-  pub unstep : (last : Bool) (ss : List S) (c : ℕ) (left : List S) (t : List ℕ) → Good machine last ss → step machine ss c ≡ Some left → Langs machine.language left t → Langs machine.language ss (c ∷ t)
+  pub unstep : (last : Bool) (ss : List S) (c : ℕ) (left : List S) (t : List ℕ) → Good machine last ss → step machine ss c ≡ Some left → Langs machine.language left t
+      → Langs machine.language ss (c ∷ t)
   unstep last [] c left t good e h = absurd cc
   unstep last (s ∷ rest) c left t good e h = unmoved s rest c left t (machine.rule_of s c) refl good.0 (λ e'. unstep last rest c left t good.2 e' h) e h
 
@@ -75,14 +79,17 @@ module _ {S : Type 0} (machine : Automaton S) (laws : IsLawful machine) where
   stop_at s c t [] y b fits e h = absurd (begin_some s b fits h)
   stop_at s c t (d ∷ x) y b fits e h = laws.begins_stop s c x b (subst (λ (n : ℕ). machine.language s (n ∷ x)) (sym (cons_head c d t (x ++ y) e)) h)
 
-  stop_of : (last : Bool) (ss : List S) (c : ℕ) (t : List ℕ) → first_begins machine last ss ≡ true → Good machine last ss → Langs machine.language ss (c ∷ t) → machine.stops c ≡ true
+  stop_of : (last : Bool) (ss : List S) (c : ℕ) (t : List ℕ) → first_begins machine last ss ≡ true → Good machine last ss → Langs machine.language ss (c ∷ t)
+      → machine.stops c ≡ true
   stop_of last [] c t b good h = absurd cc
   stop_of last (s ∷ ss) c t b good h = stop_at s c t h.front h.back b good.0 h.whole h.first
 
-  removed : (m : Move S) (rest : List S) (other : Option (List S)) (t x y : List ℕ) → t ≡ x ++ y → After machine.language m x → Langs machine.language rest y → MoveLeads machine m rest other t
+  removed : (m : Move S) (rest : List S) (other : Option (List S)) (t x y : List ℕ) → t ≡ x ++ y → After machine.language m x → Langs machine.language rest y
+      → MoveLeads machine m rest other t
   removed move.Fail rest other t x y e a h = absurd a
   removed move.Yield rest other t x y e a h = absurd a
-  removed move.End rest other t x y e a h = record { left = rest; by = refl; reads = subst (λ (u : List ℕ). Langs machine.language rest u) (sym (e ∙ ap (λ (u : List ℕ). u ++ y) a)) h }
+  removed move.End rest other t x y e a h =
+      record { left = rest; by = refl; reads = subst (λ (u : List ℕ). Langs machine.language rest u) (sym (e ∙ ap (λ (u : List ℕ). u ++ y) a)) h }
   removed (move.One p) rest other t x y e a h = record { left = p ∷ rest; by = refl; reads = record { front = x; back = y; whole = e; first = a; second = h } }
   removed (move.Two p q) rest other t x y e a h = record {
     left = p ∷ q ∷ rest;
@@ -90,7 +97,8 @@ module _ {S : Type 0} (machine : Automaton S) (laws : IsLawful machine) where
     reads = ungroup (machine.language p) (machine.language q) (Langs machine.language rest) t (record { front = x; back = y; whole = e; first = a; second = h });
   }
 
-  forth_at : (last : Bool) (s : S) (rest : List S) (c : ℕ) (t x y : List ℕ) → Good machine last (s ∷ rest) → c ∷ t ≡ x ++ y → machine.language s x → Langs machine.language rest y
+  forth_at : (last : Bool) (s : S) (rest : List S) (c : ℕ) (t x y : List ℕ) → Good machine last (s ∷ rest) → c ∷ t ≡ x ++ y → machine.language s x
+      → Langs machine.language rest y
       → ((u : List ℕ) → Langs machine.language rest (c ∷ u) → Leads machine rest c u) → Leads machine (s ∷ rest) c t
   forth_at last s rest c t [] y good e f h ih =
       let k : Langs machine.language rest (c ∷ t) = subst (λ (u : List ℕ). Langs machine.language rest u) (sym e) h in
@@ -110,7 +118,8 @@ module _ {S : Type 0} (machine : Automaton S) (laws : IsLawful machine) where
 
   -- ---- a step keeps the symbols good, and room for those to come
 
-  keeps_move : (last : Bool) (m : Move S) (s : S) (rest left : List S) (other : Option (List S)) → move_good machine (machine.ends_open s) m ≡ true → Good machine last (s ∷ rest)
+  keeps_move : (last : Bool) (m : Move S) (s : S) (rest left : List S) (other : Option (List S)) → move_good machine (machine.ends_open s) m ≡ true
+      → Good machine last (s ∷ rest)
       → (other ≡ Some left → Good machine last left) → moved m rest other ≡ Some left → Good machine last left
   keeps_move last move.Fail s rest left other g good ih e = absurd cc
   keeps_move last move.Yield s rest left other g good ih e = ih e
@@ -122,13 +131,24 @@ module _ {S : Type 0} (machine : Automaton S) (laws : IsLawful machine) where
       let p = and_parts (machine.fits a && machine.fits b && (not (machine.ends_open a) || machine.begins b)) (not (machine.ends_open b) || machine.ends_open s) g in
       let q = and_parts (machine.fits a && machine.fits b) (not (machine.ends_open a) || machine.begins b) p.0 in
       let r = and_parts (machine.fits a) (machine.fits b) q.0 in
-      subst (Good machine last) (same_Some (a ∷ b ∷ rest) left e) (r.0, q.1, (r.1, chain (machine.ends_open b) (machine.ends_open s) (first_begins machine last rest) p.1 good.1, good.2))
+      subst (Good machine last) (same_Some (a ∷ b ∷ rest) left e) (
+        r.0,
+        q.1,
+        (
+          r.1,
+          chain (machine.ends_open b) (machine.ends_open s)
+              (first_begins machine last rest) p.1 good.1,
+          good.2,
+        ),
+      )
 
   pub keeps : (last : Bool) (ss : List S) (c : ℕ) (left : List S) → Good machine last ss → step machine ss c ≡ Some left → Good machine last left
   keeps last [] c left good e = absurd cc
-  keeps last (s ∷ rest) c left good e = keeps_move last (machine.rule_of s c) s rest left (step machine rest c) (laws.good s c good.0) good (λ e'. keeps last rest c left good.2 e') e
+  keeps last (s ∷ rest) c left good e =
+      keeps_move last (machine.rule_of s c) s rest left (step machine rest c) (laws.good s c good.0) good (λ e'. keeps last rest c left good.2 e') e
 
-  room_move : (m : Move S) (s : S) (rest left : List S) (other : Option (List S)) → move_needs machine (machine.need s) m ≡ true → Room machine (s ∷ rest) → (other ≡ Some left → Room machine left)
+  room_move : (m : Move S) (s : S) (rest left : List S) (other : Option (List S)) → move_needs machine (machine.need s) m ≡ true → Room machine (s ∷ rest)
+      → (other ≡ Some left → Room machine left)
       → moved m rest other ≡ Some left → Room machine left
   room_move move.Fail s rest left other g room ih e = absurd cc
   room_move move.Yield s rest left other g room ih e = ih e
@@ -141,7 +161,8 @@ module _ {S : Type 0} (machine : Automaton S) (laws : IsLawful machine) where
 
   pub room_keeps : (ss : List S) (c : ℕ) (left : List S) → AllFit machine ss → Room machine ss → step machine ss c ≡ Some left → Room machine left
   room_keeps [] c left fits room e = absurd cc
-  room_keeps (s ∷ rest) c left fits room e = room_move (machine.rule_of s c) s rest left (step machine rest c) (laws.needs s c fits.0) room (λ e'. room_keeps rest c left fits.1 room.1 e') e
+  room_keeps (s ∷ rest) c left fits room e =
+      room_move (machine.rule_of s c) s rest left (step machine rest c) (laws.needs s c fits.0) room (λ e'. room_keeps rest c left fits.1 room.1 e') e
 
   pub good_fits : (last : Bool) (ss : List S) → Good machine last ss → AllFit machine ss
   good_fits last [] g = tt
@@ -155,7 +176,8 @@ module _ {S : Type 0} (machine : Automaton S) (laws : IsLawful machine) where
 
   -- ---- whole texts
 
-  back_at : (o : Option (List S)) (ss : List S) (c : ℕ) (t : List ℕ) → Good machine false ss → ((left : List S) → Good machine false left → run machine (Some left) t ≡ Some [] → Langs machine.language left t)
+  back_at : (o : Option (List S)) (ss : List S) (c : ℕ) (t : List ℕ) → Good machine false ss → ((left : List S) → Good machine false left
+      → run machine (Some left) t ≡ Some [] → Langs machine.language left t)
       → run machine (Some ss) (c ∷ t) ≡ Some [] → step machine ss c ≡ o → Langs machine.language ss (c ∷ t)
   back_at None ss c t good ih e s = absurd (no_symbols [] (sym (none_stays machine t) ∙ ap (λ (o : Option (List S)). run machine o t) (sym s) ∙ e))
   back_at (Some left) ss c t good ih e s = unstep false ss c left t good s (ih left (keeps false ss c left good s) (ap (λ (o : Option (List S)). run machine o t) (sym s) ∙ e))
@@ -175,7 +197,8 @@ module _ {S : Type 0} (machine : Automaton S) (laws : IsLawful machine) where
   empty_only (s ∷ rest) good h =
       let n = no_append h.front h.back h.whole in
       let o = laws.yields_open s (laws.empty s good.0 (subst (λ (u : List ℕ). machine.language s u) n.0 h.first)) in
-      absurd (begun rest (open_begins (machine.ends_open s) (first_begins machine false rest) good.1 o) good.2 (subst (λ (u : List ℕ). Langs machine.language rest u) n.1 h.second))
+      absurd (begun rest (open_begins (machine.ends_open s) (first_begins machine false rest) good.1 o) good.2 (subst (λ
+      (u : List ℕ). Langs machine.language rest u) n.1 h.second))
 
   pub reads_forth : (t : List ℕ) (ss : List S) → Good machine false ss → Langs machine.language ss t → run machine (Some ss) t ≡ Some []
   reads_forth [] ss good h = ap (λ (u : List S). Some u) (empty_only ss good h)

@@ -53,13 +53,13 @@ feeding-preserved g c =
     record {
       laws = laws;
       fed = λ b f.
-    let here = c.feeding.invariant.fed b f in
-    let s = c.take_many-octets.new.self in
-    let skipped = up_to machine laws c.feeding.self c.skip-skipped.new.self b c.args.piece.now c.feeding.rest.now c.skip-skipped.result.now here
-    (c.skip-skipped.ensures.fed (b ++ here.front) here.fed) in
-    let at = up_to machine laws c.skip-skipped.new.self s b c.args.piece.now c.skip-skipped.result.now c.take_many-octets.result.now skipped
-    (c.take_many-octets.ensures.fed (b ++ skipped.front) skipped.fed) in
-    up_to machine laws s c.take-answer.new.self b c.args.piece.now c.take_many-octets.result.now c.in-Some.after.now at
-    (next_fed machine laws c.take-answer.new.self b at.front c.take_many-octets.result.now c.in-Some.after.now c.in-Some.octet.now c.in-Some.ensures.cases.0
-    (c.in-NeedMore.ensures (b ++ at.front) at.fed));
+          let here = c.feeding.invariant.fed b f in
+          let s = c.take_many-octets.new.self in
+          let skipped = up_to machine laws c.feeding.self c.skip-skipped.new.self b c.args.piece.now c.feeding.rest.now c.skip-skipped.result.now here
+          (c.skip-skipped.ensures.fed (b ++ here.front) here.fed) in
+          let at = up_to machine laws c.skip-skipped.new.self s b c.args.piece.now c.skip-skipped.result.now c.take_many-octets.result.now skipped
+          (c.take_many-octets.ensures.fed (b ++ skipped.front) skipped.fed) in
+          up_to machine laws s c.take-answer.new.self b c.args.piece.now c.take_many-octets.result.now c.in-Some.after.now at
+          (next_fed machine laws c.take-answer.new.self b at.front c.take_many-octets.result.now c.in-Some.after.now c.in-Some.octet.now c.in-Some.ensures.cases.0
+          (c.in-NeedMore.ensures (b ++ at.front) at.fed));
     }

@@ -12,62 +12,72 @@ pub returns-then-limit-self : goal.returns-then-limit-self
 returns-then-limit-self g c =
     let machine = g.S.Symbol.automaton in
     let laws = c.lawful.ensures in
+    let inside = c.is_inside-inside in
+    let cost = c.cost_of-cost in
     λ b fed.
     let s = c.args.self.now in
     let ss = symbols_of s.stack in (
       fed.taken,
-      bad_by_limit machine laws ss s.outside b c.args.octet c.cost_of-cost.result fed.stands (omega (arith, c.ranges.octet.fits))
-          (cost_is machine laws ss c.is_inside-inside.result c.cost_of-cost.result c.is_inside-inside.ensures c.cost_of-cost.ensures) (omega (arith, c.if-limit-self.true, c.limit-limit.ensures)),
+      bad_by_limit machine laws ss s.outside b c.args.octet cost.result fed.stands (omega (arith, c.ranges.octet.fits))
+          (cost_is machine laws ss inside.result cost.result inside.ensures cost.ensures) (omega (arith, c.if-limit-self.true, c.limit-limit.ensures)),
     )
 
 pub returns-then-not-advance : goal.returns-then-not-advance
 returns-then-not-advance g c =
     let machine = g.S.Symbol.automaton in
     let laws = c.lawful.ensures in
+    let inside = c.is_inside-inside in
+    let marked = c.marked_by-marked in
     λ b fed.
     let s = c.args.self.now in
     let ss = symbols_of s.stack in (
       fed.taken,
-      bad_by_step machine laws ss (symbols_of c.advance.new.stack) s.outside b c.args.octet c.marked_by-marked.result c.advance.result fed.stands (omega (arith, c.ranges.octet.fits))
-          (mark_is machine laws ss c.is_inside-inside.result c.args.octet c.marked_by-marked.result c.is_inside-inside.ensures c.marked_by-marked.ensures) c.advance.ensures
-              c.if-not-advance.true,
+      bad_by_step machine laws ss (symbols_of c.advance.new.stack) s.outside b c.args.octet marked.result c.advance.result fed.stands (omega (arith, c.ranges.octet.fits))
+          (mark_is machine laws ss inside.result c.args.octet marked.result inside.ensures marked.ensures) c.advance.ensures
+          c.if-not-advance.true,
     )
 
 pub returns-then-is_empty : goal.returns-then-is_empty
 returns-then-is_empty g c =
     let machine = g.S.Symbol.automaton in
     let laws = c.lawful.ensures in
+    let inside = c.is_inside-inside in
+    let cost = c.cost_of-cost in
+    let marked = c.marked_by-marked in
     λ b fed.
     let s = c.args.self.now in
     let ss = symbols_of s.stack in
     let left = symbols_of c.advance.new.stack in
-    let step = went_is machine laws ss left c.args.octet c.marked_by-marked.result c.advance.result
-    (mark_is machine laws ss c.is_inside-inside.result c.args.octet c.marked_by-marked.result c.is_inside-inside.ensures c.marked_by-marked.ensures) c.advance.ensures c.if-not-advance.false
+    let step = went_is machine laws ss left c.args.octet marked.result c.advance.result
+    (mark_is machine laws ss inside.result c.args.octet marked.result inside.ensures marked.ensures) c.advance.ensures c.if-not-advance.false
     in
-    let on = goes_on machine laws ss left s.outside b c.args.octet c.cost_of-cost.result fed.stands (omega (arith, c.ranges.octet.fits))
-    (cost_is machine laws ss c.is_inside-inside.result c.cost_of-cost.result c.is_inside-inside.ensures c.cost_of-cost.ensures) (omega (arith, c.if-limit-self.false, c.limit-limit.ensures)) step in
-    (omega (arith, fed.taken), nothing_left machine laws left (s.outside + c.cost_of-cost.result) (b ++ c.args.octet ∷ []) (c.is_empty.ensures.0 c.if-is_empty.true) on)
+    let on = goes_on machine laws ss left s.outside b c.args.octet cost.result fed.stands (omega (arith, c.ranges.octet.fits))
+    (cost_is machine laws ss inside.result cost.result inside.ensures cost.ensures) (omega (arith, c.if-limit-self.false, c.limit-limit.ensures)) step in
+    (omega (arith, fed.taken), nothing_left machine laws left (s.outside + cost.result) (b ++ c.args.octet ∷ []) (c.is_empty.ensures.0 c.if-is_empty.true) on)
 
 pub returns-else-is_empty : goal.returns-else-is_empty
 returns-else-is_empty g c =
     let machine = g.S.Symbol.automaton in
     let laws = c.lawful.ensures in
+    let inside = c.is_inside-inside in
+    let cost = c.cost_of-cost in
+    let marked = c.marked_by-marked in
     λ b fed.
     let s = c.args.self.now in
     let ss = symbols_of s.stack in
     let left = symbols_of c.advance.new.stack in
-    let step = went_is machine laws ss left c.args.octet c.marked_by-marked.result c.advance.result
-    (mark_is machine laws ss c.is_inside-inside.result c.args.octet c.marked_by-marked.result c.is_inside-inside.ensures c.marked_by-marked.ensures) c.advance.ensures c.if-not-advance.false
+    let step = went_is machine laws ss left c.args.octet marked.result c.advance.result
+    (mark_is machine laws ss inside.result c.args.octet marked.result inside.ensures marked.ensures) c.advance.ensures c.if-not-advance.false
     in
-    let on = goes_on machine laws ss left s.outside b c.args.octet c.cost_of-cost.result fed.stands (omega (arith, c.ranges.octet.fits))
-    (cost_is machine laws ss c.is_inside-inside.result c.cost_of-cost.result c.is_inside-inside.ensures c.cost_of-cost.ensures) (omega (arith, c.if-limit-self.false, c.limit-limit.ensures)) step in
+    let on = goes_on machine laws ss left s.outside b c.args.octet cost.result fed.stands (omega (arith, c.ranges.octet.fits))
+    (cost_is machine laws ss inside.result cost.result inside.ensures cost.ensures) (omega (arith, c.if-limit-self.false, c.limit-limit.ensures)) step in
     record {
       ready = ready_keeps machine laws ss _ left fed.ready step;
       more = λ e. both _ (c.is_empty.ensures.1 e) c.if-is_empty.false;
       stands = on;
       taken = omega (arith, fed.taken, length-append b (c.args.octet ∷ []));
-      bound = bound_keeps machine.most (inside_top machine ss) s.taken s.outside c.cost_of-cost.result (left_of machine ss) (left_of machine left)
-          (cost_is machine laws ss c.is_inside-inside.result c.cost_of-cost.result c.is_inside-inside.ensures c.cost_of-cost.ensures) (step_left machine laws ss _ left fed.ready.0 step) fed.bound;
+      bound = bound_keeps machine.most (inside_top machine ss) s.taken s.outside cost.result (left_of machine ss) (left_of machine left)
+          (cost_is machine laws ss inside.result cost.result inside.ensures cost.ensures) (step_left machine laws ss _ left fed.ready.0 step) fed.bound;
     }
 
 pub advance-requires : goal.advance-requires
