@@ -65,6 +65,7 @@ answered b (scan.Bad at) h = (h.0, λ p. h.1 (to_prefix (take (at + 1) b) p), pr
 
 -- two spellings at the front of the same octets are one
 pub spelling_front : (v w : Response) (t u x y : List ℕ) → IsSpelling v t → IsSpelling w u → t ++ x ≡ u ++ y → (v ≡ w) × (t ≡ u) × (x ≡ y)
+unfolding whole_of
 spelling_front v w t u x y h k e =
     let q = alone.whole_front responses responses_lawful t u x y (whole_of v t h) (whole_of w u k) e in
     (one_text_value v w h.text h.spells (subst (Spells w) q.0 k.spells), q.1, q.2)
