@@ -10,7 +10,7 @@ use mail_header::as_raw;
 use mail_header::raw_forms::unfold;
 use mail_header::tokens::{comment_at, quoted_at};
 use std::alloc::{AllocError, Global};
-use text_words::{behind, is_white};
+use text_words::{behind, first, is_white};
 
 /// The id of a raw value without comments and white space, and without one pair of angle brackets around it. There is none
 /// where nothing is left.
@@ -39,13 +39,13 @@ fn push_unit<'a>(kept: &mut Vec<u8>, text: &'a [u8]) -> Result<&'a [u8], AllocEr
     requires { 0 < length text.now }
     ensures { IfOk result (λ r. reading.Takes text.now r.now kept.old.items kept.new.items) }
 {
-    match text {
-        [] => unreachable!(),
-        [first, rest @ ..] => {
-            if is_opener(*first) {
+    match first(text) {
+        None => unreachable!(),
+        Some((octet, rest)) => {
+            if is_opener(octet) {
                 return push_bracket(kept, text);
             }
-            push_octet(kept, *first)?;
+            push_octet(kept, octet)?;
             Ok(rest)
         }
     }

@@ -1,7 +1,7 @@
 use Rattle.std.proofs.Common.{◌≡◌, length, eqb, eqb-true, true, ap, ◌∙◌}
 use Rattle.std.proofs.lemmas.List.{nil_from_length}
 use Rattle.mail_header.specs.Lines.{unfolded}
-use Rattle.mime_fields.proofs.IdLemmas.{nothing_gathered, gathered_more, gathered_all, takes_some}
+use Rattle.mime_fields.proofs.IdLemmas.{gathered_more, gathered_all}
 use Rattle.mime_fields.proofs.content_id.without_gaps.Goals as goal
 
 pub loop-rest-preserved : goal.loop-rest-preserved
