@@ -12,7 +12,7 @@ bracket_read first o c n text rest x a e f g =
     let k = further_some (length r.contents + 1) n (Some 0) r.counted in
     let z : k.0 ≡ 0 = let q = k.1 in cc in
     let whole : text ≡ (first ∷ (r.contents ++ c ∷ [])) ++ r.rest =
-        e ∙ ap (λ (u : List ℕ). first ∷ u) (r.whole ∙ sym (append_assoc r.contents (c ∷ []) r.rest)) in
+    e ∙ ap (λ (u : List ℕ). first ∷ u) (r.whole ∙ sym (append_assoc r.contents (c ∷ []) r.rest)) in
     record {
       contents = r.contents;
       whole = g ∙ ap (take (n + 1)) whole ∙ take_at (first ∷ (r.contents ++ c ∷ [])) r.rest (n + 1) (omega (arith, k.2, z, length-append r.contents (c ∷ [])));

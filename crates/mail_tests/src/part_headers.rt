@@ -200,10 +200,7 @@ const IDS_AND_PLACES: [(&[u8], &[u8]); 25] = [
     (b"Content-ID: <>\n", b"-|-|-|-|-|-|-|-|-|"),
     (b"Content-ID: (only) \n", b"-|-|-|-|-|-|-|-|-|"),
     (b"Content-ID: <\xE9>\n", b"-|-|-|-|-|\xEF\xBF\xBD|-|-|-|"),
-    (
-        b"Content-ID: <a\\b@c> (note)\n",
-        b"-|-|-|-|-|a\\b@c|-|-|-|",
-    ),
+    (b"Content-ID: <a\\b@c> (note)\n", b"-|-|-|-|-|a\\b@c|-|-|-|"),
     (
         b"Content-ID: <a) \x01b@c> (d\\)e)\n",
         b"-|-|-|-|-|a)\x01b@c|-|-|-|",
