@@ -1,11 +1,10 @@
 use Rattle.std.proofs.Common.{◌≡◌, ◌≤◌, length}
-use Rattle.mail_header.specs.reading.LexemeReading.{lexemes_in, rest_in}
-use Rattle.mail_header.proofs.lexemes.behind_gaps.Given as goal
+use Rattle.mail_header.specs.reading.LexemeReading.{lexemes_in}
+use Rattle.mail_header.proofs.lexemes.lexeme_at.Given as goal
 
 abbrev pub invariant-loop-token : goal.invariant-loop-token
 invariant-loop-token l = record {
   lexemes : lexemes_in l.fn.alphabet l.rest ≡ lexemes_in l.fn.alphabet l.text;
-  rest : rest_in l.fn.alphabet l.rest ≡ rest_in l.fn.alphabet l.text;
   within : length l.rest ≤ length l.text;
 }
 
