@@ -107,7 +107,7 @@ gives (StoreGave (octet ∷ octets)) = inr (octet, octets, refl)
 gives _ = inl refl
 
 -- octets that are awaited are open
-still_open : (tag : List ℕ) {pieces : List (List ℕ)} {before : Octets} {gave took : List ℕ} → Awaits pieces before gave took
+abbrev pub still_open : (tag : List ℕ) {pieces : List (List ℕ)} {before : Octets} {gave took : List ℕ} → Awaits pieces before gave took
     → IsVerdict tag pieces (before.octets ++ gave) Open
 still_open tag so = record { responses = so.responses; remaining = so.remaining; passed = so.passed; decided = so.more }
 
@@ -157,7 +157,7 @@ bad_not_yet at is = cc
 pub too_much_ends_so : (tag : List ℕ) (pieces : List (List ℕ)) (before after : Octets) (gave took : List ℕ) (up : Bool) (result : Result Answer LinkEnd)
     (still : IsVerdict tag pieces (before.octets ++ gave) Open) → IsTooMuch before gave → AllDueTaken pieces still.responses took
     → ComesTo tag pieces before gave took after up result → (result ≡ Err end.TooMuch) ⊎ (result ≡ Err end.Memory)
-too_much_ends_so tag pieces before after gave took up (Ok a) still over sent (v, rest) = absurd (done_not_yet _ _ _ _ (one_verdict tag pieces _ _ _ still v))
+too_much_ends_so tag pieces before after gave took up (Ok a) still over sent (v, taken, given, refused, all) = absurd (done_not_yet _ _ _ _ (one_verdict tag pieces _ _ _ still v))
 too_much_ends_so tag pieces before after gave took up (Err end.Lost) still over sent (inl (w, short)) =
     absurd (short over (subst (λ (rs : List Response). AllDueTaken pieces rs took) (same_open tag pieces (before.octets ++ gave) still w) sent))
 too_much_ends_so tag pieces before after gave took up (Err end.Lost) still over sent (inr (rs, k, t, w, part)) = absurd (done_not_yet _ _ _ _ (one_verdict tag pieces _ _ _ still w))
