@@ -16,6 +16,7 @@ use Rattle.told_folder.specs.declared.message.Held.{Held}
 use Rattle.told_mail.specs.Mail.{Mail}
 use Rattle.told_mail.specs.Exchanges.{tell}
 use Rattle.imap_exchange.specs.Exchanges.{IsTaken}
+use Rattle.imap_exchange.specs.Received.{Octets}
 use Rattle.imap_exchange.specs.Answering.{Speaks, end_unless}
 use Rattle.imap_client.specs.declared.plan.Due.{Due}
 use Rattle.imap_client.specs.declared.plan.Due.TheVariants as due
@@ -226,7 +227,7 @@ end_takes : (up : Bool) → flat_map store_took_in (end_unless up) ≡ []
 end_takes true = refl
 end_takes false = refl
 
-spoken_takes : {pieces : List (List ℕ)} {held : List ℕ} {up : Bool} {events : List Event} (s : Speaks pieces held up events) → flat_map store_took_in events ≡ s.took
+spoken_takes : {pieces : List (List ℕ)} {before : Octets} {up : Bool} {events : List Event} (s : Speaks pieces before up events) → flat_map store_took_in events ≡ s.took
 spoken_takes {up = up} s =
     ap (λ (l : List Event). flat_map store_took_in l) s.ended ∙ flat_map-append store_took_in s.talk (end_unless up) ∙ (λ i. s.said.took_is i ++ end_takes up i) ∙ append-nil s.took
 

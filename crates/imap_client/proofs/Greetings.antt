@@ -21,7 +21,11 @@ use Rattle.imap_client.specs.Connecting.{Greets, GreetsBy, greeting_says, planne
 
 -- no greeting came
 pub ungreeted : {es : List Event} (after : Octets) (up : Bool) (e : LinkEnd) → Reads 0 true up begun after (Err e) es → Greets after up (Err e) es
-ungreeted after up end.Lost r = record { talk = r.talk; gave = r.gave; ended = r.ended; first = record { said = r.said; needed = r.needed }; greets = r.reads }
+ungreeted after up end.Lost r = record { talk = r.talk; gave = r.gave; ended = r.ended; first = record { said = r.said; needed = r.needed }; greets = (r.reads.0, room r.gave r.reads.1) }
+  where
+    room : (gave : List ℕ) → (IsOver 0 (0 + length gave) → ⊥) → IsTooMuch begun gave → ⊥
+    room gave none (inl over) = none (inl (omega (arith, over)))
+    room gave none (inr over) = none (inr over)
 ungreeted after up end.TooMuch r = record { talk = r.talk; gave = r.gave; ended = r.ended; first = record { said = r.said; needed = r.needed }; greets = (r.reads.0, too_much r.gave r.reads.1) }
   where
     too_much : (gave : List ℕ) → IsOver 0 (0 + length gave) → IsTooMuch begun gave

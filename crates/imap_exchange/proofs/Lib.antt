@@ -1,7 +1,7 @@
 mod Fronts
 mod Responses
 pub mod Verdicts
-mod Needing
 mod Pacing
+mod Needing
 mod Conversing
 mod Refutations

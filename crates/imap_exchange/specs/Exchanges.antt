@@ -96,10 +96,6 @@ pub record IsVerdict (tag : List ℕ) (pieces : List (List ℕ)) (octets : List 
   pub passed : Passes responses remaining octets
   pub decided : Decides tag pieces octets responses remaining verdict
 
--- Octets that decide nothing yet, whatever the command.
-abbrev pub IsUndecided : List ℕ → Type 0
-IsUndecided octets = (tag : List ℕ) (pieces : List (List ℕ)) → IsVerdict tag pieces octets Open
-
 -- The same of a command and its number.
 abbrev pub VerdictOf : ℕ → Command → List ℕ → Verdict → Type 0
 VerdictOf n command octets verdict = IsVerdict (tag_of n) (command_pieces command n) octets verdict

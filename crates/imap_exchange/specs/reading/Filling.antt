@@ -7,24 +7,24 @@ use Rattle.imap_syntax.specs.declared.response.Response.{Response}
 use Rattle.imap_exchange.specs.declared.link_end.LinkEnd.{LinkEnd}
 use Rattle.imap_exchange.specs.declared.link_end.LinkEnd.TheVariants as end
 use Rattle.imap_exchange.specs.Received.{Octets}
-use Rattle.imap_exchange.specs.Needed.{ReadsWhile, NeedsMore}
-use Rattle.imap_exchange.specs.Responses.{IsOver}
+use Rattle.imap_exchange.specs.Needed.{ReadsWhile}
+use Rattle.imap_exchange.specs.Responses.{IsOver, AwaitsResponse}
 
 -- these octets stand after those that weren't read yet
 pub record Grows (before after : Octets) (gave : List ℕ) : Type 0 where
   pub octets : after.octets ≡ before.octets ++ gave
   pub given : after.given ≡ before.given + length gave
 
--- By these events the store gave these octets, each time while no whole response stood at the front.
-pub record Gains (before after : Octets) (gave : List ℕ) (events : List Event) : Type 0 where
+-- By these events the store gave these octets, each time while further ones were awaited.
+pub record Gains (begun : ℕ) (before after : Octets) (gave : List ℕ) (events : List Event) : Type 0 where
   pub said : Talk gave [] events
-  pub needed : ReadsWhile NeedsMore before.octets events
+  pub needed : ReadsWhile (AwaitsResponse begun before) events
   pub grows : Grows before after gave
 
 -- the store gave octets; or the link ended; or too much was given; or nothing was asked
 abbrev pub Fills : ℕ → Octets → Octets → Result (Unit {0}) LinkEnd → List Event → Type 0
-Fills begun before after (Ok _) events = (gave : List ℕ) × (events ≡ StoreGave gave ∷ []) × Grows before after gave
-Fills begun before after (Err end.Lost) events = (events ≡ LinkEnded ∷ []) × (after ≡ before)
+Fills begun before after (Ok _) events = (gave : List ℕ) × (events ≡ StoreGave gave ∷ []) × Grows before after gave × (IsOver begun before.given → ⊥)
+Fills begun before after (Err end.Lost) events = (events ≡ LinkEnded ∷ []) × (after ≡ before) × (IsOver begun before.given → ⊥)
 Fills begun before after (Err end.TooMuch) events = (events ≡ []) × (after ≡ before) × IsOver begun before.given
 Fills begun before after (Err end.Memory) events = (events ≡ []) × (after ≡ before)
 Fills begun before after (Err _) events = ⊥

@@ -10,7 +10,7 @@ use Rattle.imap_exchange.proofs.response.read_response.Goals as goal
 pub reading-init : goal.reading-init
 reading-init g c =
     record {
-      tape = none _ _ ([], Gains-none c.args.received.now);
+      tape = none _ _ ([], Gains-none c.args.begun c.args.received.now);
       fed = c.new-scanner.ensures;
       within = omega arith;
       room = refl;
