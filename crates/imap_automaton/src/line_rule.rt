@@ -8,8 +8,8 @@ use crate::class::{CR, is_alnum, is_digit, is_text, lower};
 use crate::free_rule::text_rule;
 use crate::item_rule::NUMBER_DIGITS;
 use crate::sym::{Line, Pending, Phrase, Place, Sym};
-use pushdown::Move;
 use crate::word_rule::{first_key, word_rule};
+use pushdown::Move;
 
 /// Octets of a tag.
 const TAG_LIMIT: u8 = 32;

@@ -9,7 +9,9 @@ use crate::date_rule::time_rule;
 use crate::free_rule::text_rule;
 use crate::item_name_rule::{item_name_rule, next_name};
 use crate::set_rule::words_more;
-use crate::sym::{Date, Folder, Item, ItemName, Key, Line, Names, Pending, Phrase, Place, Set, Str, Sym};
+use crate::sym::{
+    Date, Folder, Item, ItemName, Key, Line, Names, Pending, Phrase, Place, Set, Str, Sym,
+};
 use pushdown::Move;
 
 /// The word in lower case.
