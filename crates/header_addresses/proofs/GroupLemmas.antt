@@ -9,7 +9,7 @@ use Rattle.header_tokens.specs.declared.token.Alphabet.TheVariants as alphabet
 use Rattle.header_tokens.specs.Tokens.{Spelled, AreTokens}
 use Rattle.header_addresses.specs.Mailboxes.{Mailbox}
 use Rattle.header_addresses.specs.AddressLists.{Element, Empty, Head, End, Member, Grouped, groups_from}
-use Rattle.header_addresses.specs.Names.{IsAddress, IsGroupName, NoName, Named, IsGroup, phrase_text, HasNoAddressList, IsGroupsForm}
+use Rattle.header_addresses.specs.Names.{IsAddress, IsGroupName, NoName, Named, IsGroup, HasNoAddressList, IsGroupsForm}
 use Rattle.header_addresses.specs.Names as names
 use Rattle.header_addresses.specs.reading.ElementReading.{group_closed, are_nested, is_addressee, is_filled, grouped_from, AreFilled}
 use Rattle.header_addresses.specs.reading.GroupBuilding.{Has, group_from, are_list, IsList, IsNoList, GroupsIn, NoGroups, Groups}

@@ -1,7 +1,6 @@
 // Lists of addresses and groups (RFC 5322 section 3.4).
-ghost use Rattle.std.specs.Prelude.{◌≡◌, ◌++◌, [], None, Some, false, true, List, MatchOption, IfOk, IfSome, IfNone, OnOk, option_to_list};
+ghost use Rattle.std.specs.Prelude.{◌≡◌, ◌++◌, [], None, Some, false, true, MatchOption, IfOk, IfSome, IfNone, OnOk, option_to_list};
 ghost use Rattle.std.specs.List.{AllZip, flat_map, list_any};
-ghost use Rattle.text_words.specs.Sequence.{Sequence};
 ghost use Rattle.header_addresses.specs.AddressLists as lists;
 ghost use Rattle.header_addresses.specs.Names as names;
 ghost use Rattle.header_addresses.specs.reading.ElementReading as reading;
@@ -12,10 +11,10 @@ ghost use Rattle.header_tokens.specs.TokenView.{tokens_view};
 use crate::address::{Address, Group};
 use crate::elements::{Element, Mailbox, elements};
 use crate::names::{address_of, phrase_name};
-use mail_header::raw_forms::as_raw;
-use header_tokens::token::{Alphabet, Token};
-use header_tokens::tokens::tokens;
 use gate_world::{Bytes, Listed};
+use header_tokens::tokens::tokens;
+use header_tokens::{Alphabet, Token};
+use mail_header::as_raw;
 use std::alloc::{AllocError, Global};
 
 /// Whether each group is closed, and none stands in another.

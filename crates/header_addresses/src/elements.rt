@@ -1,5 +1,5 @@
 // The elements of an address list, cut at its commas.
-ghost use Rattle.std.specs.Prelude.{◌≡◌, ◌+◌, None, Some, List, length, MatchOption, IfOk, IfSome, IfNone};
+ghost use Rattle.std.specs.Prelude.{◌≡◌, ◌+◌, None, Some, List, MatchOption, IfOk, IfSome, IfNone};
 ghost use Rattle.text_words.specs.Sequence.{Sequence};
 ghost use Rattle.header_addresses.specs.AddressLists as lists;
 ghost use Rattle.header_addresses.specs.reading.ElementReading as reading;
@@ -7,9 +7,10 @@ ghost use Rattle.header_addresses.specs.reading.ElementView.{mailbox_view, eleme
 ghost use Rattle.header_tokens.specs.TokenView.{token_view, tokens_view};
 
 use crate::mailboxes::{behind_route, is_addr_spec, is_display_name, is_inner, is_phrase};
-use crate::token_class::{Gap, NoComma, NoGreater, NoSeparator, Plain, TokenClass, are_tokens, cut_tokens};
-use header_tokens::has_mark;
-use header_tokens::token::Token;
+use crate::token_class::{
+    Gap, NoComma, NoGreater, NoSeparator, Plain, TokenClass, are_tokens, cut_tokens,
+};
+use header_tokens::{Token, has_mark};
 use std::alloc::{AllocError, Global};
 
 /// A mailbox: its phrase, which may be empty, its addr-spec, and what a comment's name is taken of.

@@ -6,9 +6,11 @@ ghost use Rattle.header_addresses.specs.Mailboxes as mailboxes;
 ghost use Rattle.header_addresses.specs.reading.ElementReading as reading;
 ghost use Rattle.header_tokens.specs.TokenView.{token_view, tokens_view};
 
-use crate::token_class::{Atom, Gap, NoAt, NoColon, NoComma, PhrasePart, TokenClass, Word, are_tokens, cut_tokens, is_literal};
-use header_tokens::token::Token;
-use header_tokens::{has_mark, is_gap, is_word};
+use crate::token_class::{
+    Atom, Gap, NoAt, NoColon, NoComma, PhrasePart, TokenClass, Word, are_tokens, cut_tokens,
+    is_literal,
+};
+use header_tokens::{Token, has_mark, is_gap, is_word};
 
 /// word *(word / "." / CFWS), where each may stand after gaps (RFC 5322 section 4.1).
 pub(crate) fn is_phrase(tokens: &[Token<'_>]) -> bool

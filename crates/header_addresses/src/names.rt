@@ -5,7 +5,7 @@ ghost use Rattle.header_tokens.specs.Words as words;
 ghost use Rattle.mail_header.specs.WhiteEnd as white_end;
 ghost use Rattle.header_addresses.specs.Names as names;
 ghost use Rattle.header_addresses.specs.reading.ElementView.{mailbox_view};
-ghost use Rattle.header_tokens.specs.TokenView.{token_view, tokens_view};
+ghost use Rattle.header_tokens.specs.TokenView.{tokens_view};
 ghost use Rattle.header_words.specs.EncodedWords.{IsText};
 
 use crate::address::Address;
@@ -13,12 +13,12 @@ use crate::elements::Mailbox;
 use crate::mailboxes::is_phrase;
 use crate::token_class::{Gap, cut_tokens};
 use gate_world::Bytes;
-use header_tokens::is_gap;
-use header_tokens::token::{Kind, Token};
+use header_tokens::{Kind, Token, is_gap, unquoted};
 use header_words::decode_words;
 use mail_header::raw_forms::unfold;
+use mail_header::white_end::without_white_end;
 use std::alloc::{AllocError, Global};
-use text_words::{White, cut, is_white};
+use text_words::{White, cut};
 
 /// Adds a word, unquoted.
 fn push_word(alloc: Global, text: &mut Vec<u8>, word: &Token<'_>) -> Result<(), AllocError>

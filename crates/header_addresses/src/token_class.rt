@@ -1,6 +1,6 @@
-// Classes of octets in tokens, and tests of tokens.
+// The classes of tokens by which a list of addresses is cut.
 ghost use Rattle.std.specs.Prelude.{◌≡◌, Bool, false};
-ghost use Rattle.std.specs.List.{list_all, list_any};
+ghost use Rattle.std.specs.List.{list_all};
 ghost use Rattle.text_words.specs.Cuts.{front, back};
 ghost use Rattle.header_tokens.specs.Tokens.{Spelled};
 ghost use Rattle.header_tokens.specs.Kinds as kinds;
@@ -9,7 +9,7 @@ ghost use Rattle.header_addresses.specs.AddressLists as lists;
 ghost use Rattle.header_addresses.specs.reading.ElementReading as reading;
 ghost use Rattle.header_tokens.specs.TokenView.{token_view, tokens_view};
 
-use header_tokens::token::{Kind, Token};
+use header_tokens::{Kind, Token, has_mark, is_atom, is_gap, is_word};
 use text_words::{Class, are_all, cut};
 
 /// A class of tokens.

@@ -1,5 +1,5 @@
 -- Dates are read as they are spelled, and a raw value has one.
-use Rattle.std.proofs.Common.{◌≡◌, ◌≢◌, ℕ, ℤ, Bool, true, false, not, ◌&&◌, List, [], ◌∷◌, ◌++◌, cond, refl, sym, ap, ◌∙◌, subst, Option, Some, None, eqb, eqb-true}
+use Rattle.std.proofs.Common.{◌≡◌, ℕ, ℤ, Bool, true, false, not, ◌&&◌, List, [], ◌∷◌, ◌++◌, cond, refl, sym, ap, ◌∙◌, subst, Option, Some, None, eqb, eqb-true}
 use Rattle.std.specs.List.{filter, list_all}
 use Rattle.std.proofs.lemmas.Bool.{cond-true}
 use Rattle.std.proofs.lemmas.List.{append-nil}
@@ -18,9 +18,9 @@ use Rattle.header_dates.specs.Dates.{DayMonthYear}
 use Rattle.header_dates.specs.Dates.{IsClock, HourMinute, HourMinuteSecond, IsZone, Offset, Named, IsDateTime, IsDate, Plain, OfWeek, moment_of, IsMoment, IsDateForm}
 use Rattle.header_dates.specs.reading.DateReading.{then_read, with_rest, behind_day_name, digits_in, letters_in, octet_in, number_in, month_in, year_in, colon_in, second_behind}
 use Rattle.header_dates.specs.reading.DateReading.{second_in, zone_in, day_in, clock_in, at_end, date_in}
-use Rattle.header_tokens.specs.reading.LexemeReading.{rest_in, lexemes_in}
+use Rattle.header_tokens.specs.reading.LexemeReading.{lexemes_in}
 use Rattle.header_tokens.proofs.LeadingLemmas.{one_tokens}
-use Rattle.header_tokens.proofs.LexemeLemmas.{row_read, no_row}
+use Rattle.header_tokens.proofs.LexemeLemmas.{row_lexemes}
 
 -- ---- what is spelled is read
 
@@ -375,12 +375,12 @@ moment_read raw m ls h a =
     ap (λ (u : List Spelled). date_in (pieces_of (behind_day_name u))) (one_lexemes ls h.lexemes (raw_form raw) a h.are)
     ∙ complete h.day h.clock h.zone h.lexemes h.is ∙ h.moment_is
 
-pub form_read : (raw t : List ℕ) (o : Option Moment) → t ≡ raw_form raw → rest_in alphabet.Mail t ≡ [] → o ≡ date_in (pieces_of (behind_day_name (lexemes_in alphabet.Mail t)))
+pub form_read : (raw t : List ℕ) (o : Option Moment) → t ≡ raw_form raw → (ts : List Spelled) × AreTokens alphabet.Mail ts t → o ≡ date_in (pieces_of (behind_day_name (lexemes_in alphabet.Mail t)))
     → IsDateForm raw o
 form_read raw t o e r d = by o d
   where
     are : AreLexemes alphabet.Mail (lexemes_in alphabet.Mail t) (raw_form raw)
-    are = subst (λ (u : List ℕ). AreLexemes alphabet.Mail (lexemes_in alphabet.Mail t) u) e (row_read alphabet.Mail t r)
+    are = subst (λ (u : List ℕ). AreLexemes alphabet.Mail (lexemes_in alphabet.Mail t) u) e (row_lexemes alphabet.Mail t r.0 r.1)
 
     by : (o : Option Moment) → o ≡ date_in (pieces_of (behind_day_name (lexemes_in alphabet.Mail t))) → IsDateForm raw o
     by None f = λ m h. let g = moment_read raw m (lexemes_in alphabet.Mail t) h are in absurd cc
@@ -388,8 +388,8 @@ form_read raw t o e r d = by o d
         let s = sound (lexemes_in alphabet.Mail t) m (sym f) in
         record { lexemes = lexemes_in alphabet.Mail t; are = are; day = s.day; clock = s.clock; zone = s.zone; is = s.is; moment_is = s.moment_is }
 
-pub no_form : (raw t : List ℕ) → t ≡ raw_form raw → rest_in alphabet.Mail t ≢ [] → IsDateForm raw None
-no_form raw t e n = λ m h. no_row alphabet.Mail t n h.are.tokens (subst (λ (u : List ℕ). Rattle.header_tokens.specs.Tokens.AreTokens alphabet.Mail h.are.tokens u) (sym e) h.are.are)
+pub no_form : (raw t : List ℕ) → t ≡ raw_form raw → ((ts : List Spelled) → AreTokens alphabet.Mail ts t → ⊥) → IsDateForm raw None
+no_form raw t e n = λ m h. n h.are.tokens (subst (λ (u : List ℕ). AreTokens alphabet.Mail h.are.tokens u) (sym e) h.are.are)
 
 -- no raw value has two dates
 pub one_date : (raw : List ℕ) (x y : Option Moment) → IsDateForm raw x → IsDateForm raw y → x ≡ y

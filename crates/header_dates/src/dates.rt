@@ -6,9 +6,7 @@ ghost use Rattle.header_dates.specs.reading.DateReading as reading;
 ghost use Rattle.header_tokens.specs.reading.LexemeReading.{lexemes_in};
 
 use crate::date::{Clock, Day};
-use crate::pieces::{Place, digits, letters, octet};
-use header_tokens::lexemes::lexeme_at;
-use header_tokens::token::Alphabet;
+use crate::pieces::{Place, digits, letters, mail_lexeme, octet};
 use header_tokens::{has_mark, is_atom};
 use text_words::same_text;
 
@@ -38,8 +36,8 @@ pub(crate) fn behind_day_name(text: &[u8]) -> &[u8]
 fn day_name(text: &[u8]) -> Option<&[u8]>
     ensures { MatchOption result (reading.behind_day_name (lexemes_in Alphabet.Mail text.now) ≡ lexemes_in Alphabet.Mail text.now) (λ r. reading.behind_day_name (lexemes_in Alphabet.Mail text.now) ≡ lexemes_in Alphabet.Mail r.now) }
 {
-    let (name, rest) = lexeme_at(Alphabet::Mail, text)?;
-    let (comma, rest) = lexeme_at(Alphabet::Mail, rest)?;
+    let (name, rest) = mail_lexeme(text)?;
+    let (comma, rest) = mail_lexeme(rest)?;
     if !is_atom(&name) {
         return None;
     }

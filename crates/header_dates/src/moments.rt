@@ -6,12 +6,11 @@ ghost use Rattle.header_dates.specs.reading.DateReading as reading;
 
 use crate::date::{Clock, Day, Moment};
 use crate::dates::{behind_day_name, clock, day};
-use header_tokens::lexemes::is_row;
 use crate::pieces::{Place, next_piece};
-use mail_header::raw_forms::as_raw;
-use header_tokens::token::Alphabet;
 use crate::zones::zone;
+use header_tokens::{Alphabet, is_row};
 use jiff_core::civil::Date;
+use mail_header::as_raw;
 use std::alloc::{AllocError, Global};
 
 fn clock_exists(clock: Clock) -> bool

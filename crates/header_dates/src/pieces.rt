@@ -1,12 +1,13 @@
 // The pieces of a date, read one after another.
 ghost use Rattle.std.specs.Prelude.{◌≡◌, ◌≢◌, ◌++◌, [], ◌∷◌, false, None, Some, MatchOption};
 ghost use Rattle.text_words.specs.Octets as octets;
+ghost use Rattle.header_tokens.specs.TokenView.{token_view};
+ghost use Rattle.header_tokens.specs.declared.token.Alphabet.TheVariants as Alphabet;
+ghost use Rattle.header_tokens.specs.reading.LexemeReading.{lexemes_in, ReadsLexeme};
 ghost use Rattle.header_dates.specs.Dates as dates;
 ghost use Rattle.header_dates.specs.reading.DateReading as reading;
 
-use header_tokens::first_octet;
-use header_tokens::lexemes::lexeme_at;
-use header_tokens::token::{Alphabet, Kind, Token};
+use header_tokens::{Alphabet, Kind, Token, first_octet, next_lexeme};
 use text_words::{Alpha, Digit, cut};
 
 /// A piece of a date.
@@ -42,11 +43,18 @@ pub(crate) fn next_piece(place: Place<'_>) -> Option<(Piece<'_>, Place<'_>)>
     }
 }
 
+/// The first lexeme of a text, and what follows it.
+pub(crate) fn mail_lexeme(text: &[u8]) -> Option<(Token<'_>, &[u8])>
+    ensures { MatchOption result (lexemes_in Alphabet.Mail text.now ≡ []) (λ r. ReadsLexeme Alphabet.Mail (token_view r.0) r.1.now text.now) }
+{
+    next_lexeme(Alphabet::Mail, text)
+}
+
 /// The piece at the front of the first lexeme.
 fn lexeme_piece(text: &[u8]) -> Option<(Piece<'_>, Place<'_>)>
     ensures { MatchOption result (reading.pieces_behind [] text.now ≡ []) (λ r. reading.pieces_behind [] text.now ≡ reading.piece_view r.0 ∷ reading.pieces_at r.1) }
 {
-    match lexeme_at(Alphabet::Mail, text) {
+    match mail_lexeme(text) {
         None => None,
         Some((lexeme, rest)) => Some(piece_of(lexeme, rest)),
     }

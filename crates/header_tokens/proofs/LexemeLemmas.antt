@@ -1,5 +1,5 @@
 -- The lexemes at the front of a text, read one after another.
-use Rattle.std.proofs.Common.{◌≡◌, ◌≢◌, ℕ, zero, suc, ◌<◌, ◌≤◌, true, false, List, [], ◌∷◌, length, drop, refl, sym, ap, ◌∙◌, subst, Option, Some, None}
+use Rattle.std.proofs.Common.{◌≡◌, ◌≢◌, ℕ, zero, suc, ◌<◌, ◌≤◌, Bool, true, false, MatchBool, eqb, eqb-true, eq-eqb, List, [], ◌∷◌, length, drop, refl, sym, ap, ◌∙◌, subst, Option, Some, None}
 use Rattle.std.proofs.Common.{arith}
 use Rattle.std.specs.List.{filter}
 use Rattle.std.specs.Option.{MatchOption}
@@ -135,6 +135,20 @@ row_read a t e = record { tokens = tokens_in a t; are = all_read a (tokens_in a 
 pub no_row : (a : Alphabet) (t : List ℕ) → rest_in a t ≢ [] → (ts : List Spelled) → AreTokens a ts t → ⊥
 no_row a t n ts h = not_all a (tokens_in a t) (rest_in a t) t (leads a t) n ts h
 
+-- whether nothing is left tells whether the text is a row of tokens
+pub row_told : (a : Alphabet) (t rest : List ℕ) (b : Bool) → rest ≡ rest_in a t → b ≡ eqb (length rest) 0
+    → MatchBool b ((ts : List Spelled) × AreTokens a ts t) ((ts : List Spelled) → AreTokens a ts t → ⊥)
+row_told a t rest true r e = let w = row_read a t (sym r ∙ nil_from_length rest (eqb-true (length rest) 0 (sym e))) in (w.tokens, w.are)
+row_told a t rest false r e = no_row a t (λ z. let f = eq-eqb (length rest) 0 (ap length (r ∙ z)) in absurd cc)
+
+-- of a row of tokens, the lexemes that are read are the lexemes
+pub row_lexemes : (a : Alphabet) (t : List ℕ) (ts : List Spelled) → AreTokens a ts t → AreLexemes a (lexemes_in a t) t
+row_lexemes a t ts h = by (rest_in a t) refl
+  where
+    by : (u : List ℕ) → rest_in a t ≡ u → AreLexemes a (lexemes_in a t) t
+    by [] e = row_read a t e
+    by (c ∷ u) e = absurd (no_row a t (λ z. let y = sym e ∙ z in absurd cc) ts h)
+
 -- ---- lexemes one after another
 
 pub gap_passed : (a : Alphabet) (v : Spelled) (n : ℕ) (t : List ℕ) → spelled_in a t ≡ Some (v, n) → is_lexeme v ≡ false → lexemes_in a t ≡ lexemes_in a (drop n t)
@@ -171,6 +185,9 @@ none_is a t e = let P : List Spelled → Type 0 = λ u. AreLeadingLexemes a u t 
 -- as a function on lists
 pub next_in : (a : Alphabet) (v : Spelled) (more t : List ℕ) → IsNextLexeme a v more t → lexemes_in a t ≡ v ∷ lexemes_in a more
 next_in a v more t n = one_leading_lexemes a (lexemes_in a t) (v ∷ lexemes_in a more) t (lexemes_are a t) (n.lexemes (lexemes_in a more) (lexemes_are a more))
+
+pub reads_next : (a : Alphabet) (v : Spelled) (more t : List ℕ) → IsNextLexeme a v more t → ReadsLexeme a v more t
+reads_next a v more t n = record { lexemes = next_in a v more t n; some = n.some }
 
 pub none_in : (a : Alphabet) (t : List ℕ) → AreLeadingLexemes a [] t → lexemes_in a t ≡ []
 none_in a t h = one_leading_lexemes a (lexemes_in a t) [] t (lexemes_are a t) h

@@ -4,7 +4,7 @@ use Rattle.header_dates.proofs.PieceLemmas.{none_behind, lexeme_behind}
 use Rattle.header_dates.proofs.pieces.lexeme_piece.Goals as goal
 
 pub returns-in-None : goal.returns-in-None
-returns-in-None c = none_behind c.args.text.now c.in-None.ensures.value
+returns-in-None c = none_behind c.args.text.now c.in-None.ensures
 
 pub returns-in-Some : goal.returns-in-Some
-returns-in-Some c = lexeme_behind (token_view c.in-Some.lexeme) c.in-Some.rest.now c.args.text.now c.in-Some.ensures.value.lexemes ∙ c.piece_of.ensures
+returns-in-Some c = lexeme_behind (token_view c.in-Some.lexeme) c.in-Some.rest.now c.args.text.now c.in-Some.ensures.lexemes ∙ c.piece_of.ensures

@@ -1,17 +1,5 @@
-use Rattle.std.proofs.Common.{ℕ, List, length, eqb, sym, ap, ◌∙◌}
-use Rattle.header_tokens.specs.TokenView.{token_view}
-use Rattle.header_tokens.specs.reading.LexemeReading.{rest_in}
-use Rattle.header_tokens.proofs.LexemeLemmas.{rest_step, rest_none}
+use Rattle.header_tokens.proofs.LexemeLemmas.{row_told}
 use Rattle.header_tokens.proofs.lexemes.is_row.Goals as goal
 
-pub loop-behind-preserved : goal.loop-behind-preserved
-loop-behind-preserved c =
-    let a = c.args.alphabet in
-    let f = c.in-Some.ensures.value in
-    ap (rest_in a) f.rest_is ∙ sym (rest_step a (token_view c.in-Some.field-0-0) f.len c.loop-behind.rest.now f.read) ∙ c.loop-behind.invariant
-
 pub returns : goal.returns
-returns c =
-    let a = c.args.alphabet in
-    let rest = c.loop-behind.rest.now in
-    c.is_empty.ensures ∙ ap (λ (u : List ℕ). eqb (length u) 0) (sym (rest_none a rest c.in_default.ensures.value) ∙ c.loop-behind.invariant)
+returns c = row_told c.args.alphabet c.args.text.now c.behind_tokens.result.now c.is_empty.result c.behind_tokens.ensures c.is_empty.ensures
