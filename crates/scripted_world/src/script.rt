@@ -1,8 +1,8 @@
 // What a world in memory does, written down beforehand.
 ghost use Rattle.std.specs.Prelude.{◌≡◌, ◌++◌, [], ◌∷◌, IfOk, false};
-ghost use Rattle.gate_world.specs.Script.{plain};
+ghost use Rattle.scripted_world.specs.Script.{plain};
 
-use crate::{Bytes, Listed};
+use gate_world::{Bytes, Listed};
 use std::alloc::{AllocError, Global};
 
 /// A call to the outside that fails. Calls that can fail are numbered from 1.

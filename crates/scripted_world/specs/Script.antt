@@ -2,10 +2,10 @@
 use Rattle.std.specs.Prelude.{◌≡◌, ◌⊎◌, ◌+◌, ◌-◌, ◌^◌, ◌<◌, ◌==◌, ◌&&◌, ◌||◌, ℕ, Bool, true, false, List, [], ◌∷◌, length, take, drop, min, max, nat_lt, nat_le}
 use Rattle.std.specs.Prelude.{Option, Some, None, IsSome, Result, Ok, Err, All}
 use Rattle.std.specs.List.{list_any}
-use Rattle.gate_world.specs.declared.left.Left.{Left}
+use Rattle.scripted_world.specs.declared.left.Left.{Left}
 use Rattle.gate_world.specs.declared.outside.Failed.{Failed}
-use Rattle.gate_world.specs.declared.script.Fail.{Fail}
-use Rattle.gate_world.specs.declared.script.Script.{Script}
+use Rattle.scripted_world.specs.declared.script.Fail.{Fail}
+use Rattle.scripted_world.specs.declared.script.Script.{Script}
 use Rattle.gate_world.specs.Causes.{Faults, Hidden, no_faults}
 use Rattle.gate_world.specs.declared.event.Event.{Event}
 use Rattle.gate_world.specs.Pieces.{Gives, octets_of, without}

@@ -2,9 +2,10 @@
 ghost use Rattle.std.specs.Prelude.{◌≡◌, ◌+◌, ◌-◌, ◌<◌, ◌≤◌, ◌↔◌, [], IsSome, IsTrue, MatchBool, drop, length, max, min, nat_le, nat_lt, take, ◌==◌, ◌&&◌};
 ghost use Rattle.std.specs.List.{list_any};
 ghost use Rattle.gate_world.specs.Pieces.{Gives, octets_of, without};
-ghost use Rattle.gate_world.specs.Script.{accepted, counted, dialed, drawn, ended, is_next_to_fail, next_word, read_on, received_on, unplayed};
+ghost use Rattle.scripted_world.specs.Script.{accepted, counted, dialed, drawn, ended, is_next_to_fail, next_word, read_on, received_on, unplayed};
 
-use crate::{Bytes, Fail, Script};
+use crate::{Fail, Script};
+use gate_world::Bytes;
 use std::marker::Model;
 
 /// What is left of a text.

@@ -3,11 +3,12 @@ ghost use Rattle.std.specs.Prelude.{◌≡◌, ◌<◌, ◌≤◌, [], MatchBool
 ghost use Rattle.gate_world.specs.declared.event.Event.TheVariants.{Accepted, ClientDone, ClientTook, Dialed, LinkEnded, NoMore, Said, StoreGave, StoreTook, Word};
 ghost use Rattle.gate_world.specs.Pieces.{Gives, octets_of};
 ghost use Rattle.gate_world.specs.Read.{given};
-ghost use Rattle.gate_world.specs.Script.{accepted, dialed, drawn, ended, next_word, received_on, unplayed};
+ghost use Rattle.scripted_world.specs.Script.{accepted, dialed, drawn, ended, next_word, received_on, unplayed};
 ghost use Rattle.gate_world.specs.Tape.{AddsOne};
 
+use crate::Script;
 use crate::left::Left;
-use crate::{Bytes, Event, Script, Tape};
+use gate_world::{Bytes, Event, Tape};
 use std::alloc::Global;
 
 /// What is left of a script, and what was told of it.

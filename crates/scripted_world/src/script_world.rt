@@ -3,11 +3,12 @@ ghost use Rattle.std.specs.Prelude.{◌≡◌, ◌<◌, ◌≤◌, [], Some, Non
 ghost use Rattle.gate_world.specs.Causes.{FrontAlone, LinkAlone, NoFault, Rose, SayAlone};
 ghost use Rattle.gate_world.specs.declared.event.Event.TheVariants.{Accepted, ClientDone, ClientTook, Dialed, FrontFailed, LinkEnded, NoMore, Said, SayFailed, StoreGave, StoreTook, Word};
 ghost use Rattle.gate_world.specs.Read.{given};
-ghost use Rattle.gate_world.specs.Script.{AcceptPlays, DialPlays, ReadPlays, RecvPlays, SayPlays, SendPlays, WritePlays, begun, counted, drawn, ended, next_word};
+ghost use Rattle.scripted_world.specs.Script.{AcceptPlays, DialPlays, ReadPlays, RecvPlays, SayPlays, SendPlays, WritePlays, begun, counted, drawn, ended, next_word};
 ghost use Rattle.gate_world.specs.Tape.{AddsOne};
 
+use crate::Script;
 use crate::playback::Playback;
-use crate::{Chance, Console, Event, Failed, Front, Link, Script, Secrets, Taped, World};
+use gate_world::{Chance, Console, Event, Failed, Front, Link, Secrets, Taped, World};
 use std::alloc::Global;
 use std::marker::Model;
 
@@ -21,7 +22,7 @@ pub struct ScriptWorld {
 }
 
 impl Model for ScriptWorld {
-    ghost use Rattle.gate_world.specs.Script.{Scripted, secrets};
+    ghost use Rattle.scripted_world.specs.Script.{Scripted, secrets};
 
     ghost Value = { Scripted };
 

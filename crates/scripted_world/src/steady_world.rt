@@ -4,11 +4,12 @@ ghost use Rattle.gate_world.specs.Causes.{FrontAlone, LinkAlone, NoFault, Rose, 
 ghost use Rattle.gate_world.specs.declared.event.Event.TheVariants.{Accepted, ClientDone, ClientTook, Dialed, FrontFailed, LinkEnded, NoMore, Said, SayFailed, StoreGave, StoreTook, Word};
 ghost use Rattle.gate_world.specs.Pieces.{Gives, octets_of};
 ghost use Rattle.gate_world.specs.Read.{given};
-ghost use Rattle.gate_world.specs.Script.{SteadyAcceptPlays, SteadyReadPlays, begun, dialed, drawn, ended, next_word, received_on};
+ghost use Rattle.scripted_world.specs.Script.{SteadyAcceptPlays, SteadyReadPlays, begun, dialed, drawn, ended, next_word, received_on};
 ghost use Rattle.gate_world.specs.Tape.{AddsOne};
 
+use crate::Script;
 use crate::playback::Playback;
-use crate::{Chance, Console, Event, Failed, Front, Link, Script, Secrets, Taped, World};
+use gate_world::{Chance, Console, Event, Failed, Front, Link, Secrets, Taped, World};
 use std::alloc::Global;
 use std::marker::Model;
 
@@ -21,7 +22,7 @@ pub struct SteadyWorld {
 
 impl Model for SteadyWorld {
     ghost use Rattle.gate_world.specs.Causes.{no_faults};
-    ghost use Rattle.gate_world.specs.Script.{Scripted, secrets};
+    ghost use Rattle.scripted_world.specs.Script.{Scripted, secrets};
 
     ghost Value = { Scripted };
 
