@@ -1,0 +1,5 @@
+use Rattle.told_mail.proofs.NameLemmas.{apart_sorted}
+use Rattle.told_mail.proofs.new_names.add_names.Goals as goal
+
+pub returns-clause-apart : goal.returns-clause-apart
+returns-clause-apart c = apart_sorted c.args.lines.now.keys c.keys.ensures.ordered
