@@ -144,12 +144,12 @@ module _ (look : List ℕ → Option ℕ) (hs : List Held) (i : Inverts look (na
   unnamed q e =
       elim (look q) as (λ o. look q ≡ o → o ≡ None) [
         | None ↦ λ f. refl
-        | Some n ↦ λ f. absurd (no_holder (held_in hs n) refl (i.to q n f))
+        | Some n ↦ λ f. absurd (no_holder n (held_in hs n) refl (i.to q n f))
       ] refl
     where
-      no_holder : {n : ℕ} (o : Option Held) → held_in hs n ≡ o → option_map (λ (z : Held). z.folder.name) (held_in hs n) ≡ Some q → ⊥
-      no_holder {n} None f g = some_is_not_none _ (sym g ∙ ap (option_map (λ (z : Held). z.folder.name)) f)
-      no_holder {n} (Some h) f g =
+      no_holder : (n : ℕ) (o : Option Held) → held_in hs n ≡ o → option_map (λ (z : Held). z.folder.name) (held_in hs n) ≡ Some q → ⊥
+      no_holder n None f g = some_is_not_none _ (sym g ∙ ap (option_map (λ (z : Held). z.folder.name)) f)
+      no_holder n (Some h) f g =
           let name : h.folder.name ≡ q = some_same _ _ (sym (ap (option_map (λ (z : Held). z.folder.name)) f) ∙ g) in
           named_there hs n h f (ap (named hs) name ∙ e)
 
@@ -360,3 +360,16 @@ numbers_changed look look' hs at h k up i held is only upd =
       | false ↦ λ e. sym (ap (option_map (λ (z : Held). z.folder.name)) (found_put number_of m k rest (ascends_cut number_of n hs up) ∙ ap (λ b. if b then Some k else held_in rest m) e
           ∙ found_cut number_of m n hs ∙ ap (λ b. if b then None else held_in hs m) e))
     ] refl)
+
+pub changed_place : (old new q : List ℕ) (n : ℕ) (was now : Option ℕ) → is_same old new ≡ false → now ≡ (if is_same new q then Some n else was)
+    → (if is_same old q then None else now) ≡ (if is_same new q then Some n else (if is_same old q then None else was))
+changed_place old new q n was now apart is =
+    elim (is_same new q) as (λ b. is_same new q ≡ b → now ≡ (if b then Some n else was)
+    → (if is_same old q then None else now) ≡ (if b then Some n else (if is_same old q then None else was))) [
+      | true ↦ λ e f. ap (λ b. if b then None else now) (ap (is_same old) (sym (same_name new q e)) ∙ apart) ∙ f
+      | false ↦ λ e f. ap (λ (o : Option ℕ). if is_same old q then None else o) f
+    ] refl is
+
+pub not_true : (b : Bool) → not b ≡ true → b ≡ false
+not_true true e = let wrong : ◌≡◌ {A = Bool} false true = e in absurd (cc)
+not_true false e = refl
