@@ -207,6 +207,24 @@ no_line rs q w s e =
     let t : line_for q (drop 0 rs) ≡ None = subst (λ (o : Option ℕ). StandsAt rs (line_for q (drop 0 rs)) o) (sym e) s in
     sym t ∙ ap (λ (qs : List Response). line_for q qs) (drop_none rs)
 
+last_same : (name : List ℕ) (ls : List lists.Line) (l : lists.Line) → last_of (filter (λ k. is_same k.name name) ls) ≡ Some l → l.name ≡ name
+last_same name [] l e = absurd (cc)
+last_same name (k ∷ ks) l e =
+    let rest : List lists.Line = filter (λ z. is_same z.name name) ks in
+    elim (is_same k.name name) as (λ b. is_same k.name name ≡ b → last_of (if b then k ∷ rest else rest) ≡ Some l → l.name ≡ name) [
+      | true ↦ λ t f. elim (last_of rest) as (λ o. last_of rest ≡ o → Some (unwrap_or o k) ≡ Some l → l.name ≡ name) [
+        | None ↦ λ g h. ap (λ (z : lists.Line). z.name) (sym (one_line k l h)) ∙ same_list k.name name t
+        | Some z ↦ λ g h. last_same name ks l (g ∙ h)
+      ] refl f
+      | false ↦ λ t f. last_same name ks l f
+    ] refl e where
+      one_line : (a b : lists.Line) → Some a ≡ Some b → a ≡ b
+      one_line a b h = cc
+
+-- the line of a name has it
+pub line_name : (name : List ℕ) (rs : List Response) (l : lists.Line) → line_for name rs ≡ Some l → l.name ≡ name
+line_name name rs l e = last_same name (filter_map line_of rs) l e
+
 has_place : (rs : List Response) (o : Option lists.Line) (w : Option ℕ) → StandsAt rs o w → is_some w ≡ is_some o
 has_place rs o None s = sym (ap is_some s)
 has_place rs o (Some at) s = sym (ap is_some s.1)

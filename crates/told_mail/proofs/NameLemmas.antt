@@ -4,7 +4,12 @@ use Rattle.std.proofs.Common.{refl, sym, ap, ◌∙◌, subst, arith, inl, inr, 
 use Rattle.std.proofs.lemmas.Map.Keys.{sorted_head, sorted_tail}
 use Rattle.std.proofs.lemmas.Map.Text.{is_eq-slice_cmp}
 use Rattle.std.proofs.lemmas.Slice.Eq.{bytes_eq-Decides}
-use Rattle.std.specs.BTreeMap.{BTreeMap}
+use Rattle.std.proofs.Common.{Result, Ok, Err, IfOk, MatchResult, nat_cmp}
+use Rattle.std.proofs.lemmas.Map.Entries.{lookup_clone}
+use Rattle.std.specs.Cmp.Lexicographic.{slice_cmp}
+use Rattle.std.specs.Prelude.{MatchOption, IsSomeAnd}
+use Rattle.std.specs.declared.alloc.AllocError.{AllocError}
+use Rattle.std.specs.BTreeMap.{BTreeMap, IsClone}
 use Rattle.std.specs.Map.{lookup, remove_entry}
 use Rattle.std.specs.List.{AllByRecursion}
 use Rattle.std.specs.List.Sorted.{IsStrictlySortedBy}
@@ -19,11 +24,14 @@ use Rattle.told_folder.specs.Keyed.{AllAbove, Ascends, put_keyed, cut_keyed}
 use Rattle.told_folder.specs.declared.message.Held.{Held}
 use Rattle.told_folder.proofs.IndexLemmas.{same_or_not, inverts_put, inverts_cut, inverts_same, eqb_same, eqb_apart}
 use Rattle.told_folder.proofs.KeyedLemmas.{some_same, some_is_not_none, found_put, found_cut, ascends_cut, held_found, put_held}
-use Rattle.told_mail.specs.Mail.{is_same, named}
+use Rattle.told_mail.specs.Lists as lists
+use Rattle.told_mail.specs.Mail.{Mail, is_same, named}
 use Rattle.told_mail.specs.reading.Index.{name_in, AreNumbers}
 use Rattle.told_mail.specs.reading.Names.{place_in, AllOther, AreApart, AllFree}
-use Rattle.told_mail.specs.Lists.{is_inbox, inbox_first, listed, put_listed, line_for, with_line, names_told, new_names}
-use Rattle.told_mail.proofs.LineLemmas.{at, at_is, by_items, filter_same}
+use Rattle.told_mail.specs.Lists.{is_inbox, inbox_first, listed, put_listed, line_for, with_line, names_told, new_names, new_folder, with_new_folder}
+use Rattle.told_mail.proofs.LineLemmas.{at, at_is, by_items, filter_same, line_name}
+use Rattle.told_folder.proofs.StepLemmas.{left}
+use Rattle.std.proofs.Common.{◌+◌, ◌^◌, ltb}
 
 pub is_self : (a : List ℕ) → is_same a a ≡ true
 is_self a = (bytes_eq-Decides a a).1 refl
@@ -124,6 +132,13 @@ module _ (look : List ℕ → Option ℕ) (hs : List Held) (i : Inverts look (na
             sym held ∙ ap (held_in hs) (sym same) ∙ e
       ] refl
 
+  -- names differ
+  pub names_differ : (m n : ℕ) (h k : Held) → held_in hs m ≡ Some h → held_in hs n ≡ Some k → h.folder.name ≡ k.folder.name → m ≡ n
+  names_differ m n h k e f same =
+      let one : look h.folder.name ≡ Some m = i.from h.folder.name m (ap (option_map (λ (z : Held). z.folder.name)) e) in
+      let two : look h.folder.name ≡ Some n = i.from h.folder.name n (ap (option_map (λ (z : Held). z.folder.name)) f ∙ ap (λ (q : List ℕ). Some q) (sym same)) in
+      some_same _ _ (sym one ∙ two)
+
   pub placed : (q : List ℕ) (n : ℕ) (h : Held) → look q ≡ Some n → held_in hs n ≡ Some h → named hs q ≡ Some h
   placed q n h e held =
       let name : h.folder.name ≡ q = some_same _ _ (sym (ap (option_map (λ (z : Held). z.folder.name)) held) ∙ i.to q n e) in
@@ -217,6 +232,38 @@ free_more hs h (q ∷ qs) f o = (named_last hs f.0, free_more hs h qs f.1 o.1) w
         | true ↦ λ g. g
         | false ↦ λ g. named_last zs g
       ] e
+
+free_added : (m : Mail) (o : Option lists.Line) (name : List ℕ) (qs : List (List ℕ)) → ((l : lists.Line) → o ≡ Some l → l.name ≡ name) → AllFree m.folders qs → AllOther name qs
+    → AllFree (with_new_folder m o).folders qs
+free_added m None name qs named f o = f
+free_added m (Some l) name qs named f o =
+    elim (ltb m.next_folder (2 ^ 53)) as (λ b. AllFree (if b then record {
+      folders = m.folders ++ new_folder m.next_folder l ∷ [];
+      next_mark = m.next_mark;
+      next_folder = m.next_folder + 1;
+    } else m).folders qs) [
+      | true ↦ free_more m.folders (new_folder m.next_folder l) qs f (subst (λ (q : List ℕ). AllOther q qs) (sym (named l refl)) o)
+      | false ↦ f
+    ]
+
+apart_from : (names : List (List ℕ)) (i : ℕ) (name : List ℕ) → i < length names → name ≡ get_or names i name → AreApart names → AllOther name (drop (i + 1) names)
+apart_from [] i name w is a = absurd (omega arith)
+apart_from (q ∷ qs) zero name w is a = subst (λ (z : List ℕ). AllOther z (drop (0 + 1) (q ∷ qs))) (sym is) a.0
+apart_from (q ∷ qs) (suc i) name w is a =
+    let shift : suc i + 1 ≡ suc (i + 1) = omega arith in
+    subst (λ j. AllOther name (drop j (q ∷ qs))) (sym shift) (apart_from qs i name (omega arith) is a.1)
+
+-- the names after one that was added are free
+pub free_rest : (rs : List Response) (m new : Mail) (names : List (List ℕ)) (i : ℕ) (name : List ℕ) → i < length names → name ≡ get_or names i name → AreApart names
+    → AllFree m.folders (drop i names) → new ≡ with_new_folder m (line_for name rs) → AllFree new.folders (drop (i + 1) names)
+free_rest rs m new names i name w is apart f e =
+    let here : AllFree m.folders (name ∷ drop (i + 1) names) = subst (λ (qs : List (List ℕ)). AllFree m.folders qs) (left names i name w is) f in
+    subst (λ (k : Mail). AllFree k.folders (drop (i + 1) names)) (sym e)
+    (free_added m (line_for name rs) name (drop (i + 1) names) (line_name name rs) here.1 (apart_from names i name w is apart))
+
+-- the name of the first is free
+pub free_first : (hs : List Held) (names : List (List ℕ)) (i : ℕ) (name : List ℕ) → i < length names → name ≡ get_or names i name → AllFree hs (drop i names) → named hs name ≡ None
+free_first hs names i name w is f = (subst (λ (qs : List (List ℕ)). AllFree hs qs) (left names i name w is) f).0
 
 -- the keys of a map ascend, so that each name is another
 pub apart_sorted : (ks : List (Vec ℕ Global)) → IsStrictlySortedBy by_items ks → AreApart (map (λ (v : Vec ℕ Global). v.items) ks)
@@ -315,6 +362,11 @@ names_new look hs i up ns = filter_same _ _ (λ q. ap not (same q)) ns where
             ∙ ap (λ (r : List ℕ). Some r) (named_name hs q h e)))
       ] refl
 
+pub new_names_are : (look : List ℕ → Option ℕ) (hs : List Held) (rs : List Response) (ns names : List (List ℕ)) → Inverts look (name_in hs) → Ascends folder_number hs → ns ≡ names_told rs
+    → names ≡ inbox_first (filter (λ name. not (is_some (look name))) ns) → names ≡ new_names hs rs
+new_names_are look hs rs ns names i up told is = is ∙ ap inbox_first (names_new look hs i up ns)
+    ∙ ap (λ (qs : List (List ℕ)). inbox_first (filter (λ name. not (is_some (named hs name))) qs)) told
+
 -- ---- a folder's name changes
 
 -- no folder but the one of the number has the name
@@ -373,3 +425,18 @@ changed_place old new q n was now apart is =
 pub not_true : (b : Bool) → not b ≡ true → b ≡ false
 not_true true e = let wrong : ◌≡◌ {A = Bool} false true = e in absurd (cc)
 not_true false e = refl
+
+-- ---- copies
+
+module _ (C : Vec ℕ Global → Vec ℕ Global → Type 0) (D : ℕ → ℕ → Type 0) (same : (x y : Vec ℕ Global) → C x y → y.items ≡ x.items) (equal : (v w : ℕ) → D v w → w ≡ v) where
+  from_clone : (o p : Option ℕ) → MatchOption o (p ≡ None) (λ v. IsSomeAnd p (D v)) → p ≡ o
+  from_clone None p m = m
+  from_clone (Some v) None m = absurd m
+  from_clone (Some v) (Some w) m = ap (λ (n : ℕ). Some n) (equal v w m)
+
+  -- a copy has the same numbers
+  pub copied : (numbers : BTreeMap (Vec ℕ Global) ℕ) (r : Result (BTreeMap (Vec ℕ Global) ℕ) AllocError) (Q : AllocError → Type 0)
+      → MatchResult r (λ n. IsClone C D numbers n) Q → IfOk r (λ copy. (q : List ℕ) → place_in copy q ≡ place_in numbers q)
+  copied numbers (Ok copy) Q m = λ q. from_clone (place_in numbers q) (place_in copy q)
+      (lookup_clone C D (at q) (λ x y k. ap (λ (t : List ℕ). is_eq (slice_cmp nat_cmp q t)) (same x y k)) numbers.entries copy.entries m)
+  copied numbers (Err e) Q m = tt

@@ -49,3 +49,10 @@ pub fn clear_ended(
         }
     }
 }
+
+/// Takes out the folders that no line tells.
+pub fn keep_told(folders: &mut Vec<Held>, lines: &BTreeMap<Vec<u8>, usize>)
+    ensures { folders.new.items ≡ filter (is_told lines.now) folders.old.items }
+{
+    folders.retain(|held| has_line(lines, held.folder.name.as_slice()));
+}

@@ -1,5 +1,5 @@
 // Numbers of folders, found by the folders' names.
-ghost use Rattle.std.specs.Prelude.{◌≡◌, ℕ, List, Some, None, OnOk, OnErr, if◌then◌else◌};
+ghost use Rattle.std.specs.Prelude.{◌≡◌, ℕ, List, Some, None, OnOk, OnErr, IfOk, if◌then◌else◌};
 ghost use Rattle.told_mail.specs.Mail.{is_same};
 ghost use Rattle.told_mail.specs.reading.Names.{place_in};
 
@@ -43,4 +43,11 @@ pub fn change_name(
         cut_name(numbers, old);
     }
     Ok(())
+}
+
+/// The same numbers, under copies of the names.
+pub fn copy_numbers(numbers: &BTreeMap<Vec<u8>, u64>) -> Result<BTreeMap<Vec<u8>, u64>, AllocError>
+    ensures { IfOk result (λ copy. (q : List ℕ) → place_in copy q ≡ place_in numbers.now q) }
+{
+    numbers.clone()
 }

@@ -2,7 +2,6 @@
 ghost use Rattle.std.specs.Prelude.{◌≡◌, ◌++◌, IfOk, OnOk, not, filter, is_some};
 ghost use Rattle.told_mail.specs.Lists as lists;
 ghost use Rattle.told_mail.specs.reading.Lines as reading;
-ghost use Rattle.told_mail.specs.reading.Lines.{is_picked};
 ghost use Rattle.told_mail.specs.reading.Names.{names_in, place_in, AreApart};
 
 use gate_world::Bytes;
@@ -26,6 +25,13 @@ fn is_of(inbox: bool, name: &[u8]) -> bool
     }
 }
 
+/// Whether the name has no number, and is INBOX or isn't.
+fn is_picked(numbers: &BTreeMap<Vec<u8>, u64>, inbox: bool, name: &[u8]) -> bool
+    ensures { result ≡ reading.is_picked numbers.now inbox name.now }
+{
+    is_of(inbox, name) && !numbers.contains_key(name)
+}
+
 /// Adds the names that have no number, and of these INBOX alone or all but INBOX.
 fn add_names(
     alloc: Global,
@@ -34,11 +40,11 @@ fn add_names(
     numbers: &BTreeMap<Vec<u8>, u64>,
     inbox: bool,
 ) -> Result<(), AllocError>
-    ensures names { OnOk result (names.new.items ≡ names.old.items ++ filter (is_picked numbers.now inbox) (names_in lines.now)) }
+    ensures names { OnOk result (names.new.items ≡ names.old.items ++ filter (reading.is_picked numbers.now inbox) (names_in lines.now)) }
     ensures apart { OnOk result (AreApart (names_in lines.now)) }
 {
     for name in lines.keys() {
-        if is_of(inbox, name.as_slice()) && !numbers.contains_key(name.as_slice()) {
+        if is_picked(numbers, inbox, name.as_slice()) {
             names.push(Bytes::copy_of(alloc, name.as_slice())?)?;
         }
     }

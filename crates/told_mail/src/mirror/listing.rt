@@ -9,7 +9,7 @@ ghost use Rattle.told_mail.specs.reading.Names.{AllFree, AreApart};
 ghost use Rattle.told_mail.specs.reading.Rises.{Rises};
 
 use super::Mirror;
-use crate::ended::{clear_ended, has_line};
+use crate::ended::{clear_ended, keep_told};
 use crate::lines::{line_for, lines_of};
 use crate::list::{Line, new_folder, set_line};
 use crate::names::put_name;
@@ -88,8 +88,7 @@ impl Mirror {
             &mut self.marks,
             &mut self.numbers,
         );
-        self.folders
-            .retain(|held| has_line(lines, held.folder.name.as_slice()));
+        keep_told(&mut self.folders, lines);
         if self.folders.len() != before {
             self.changes = one_more(self.changes);
         }

@@ -14,7 +14,8 @@ invariant_of-self-2 c =
     let hs : List Held = c.self.inside.folders.items in
     let held : IsHeldAt folder_number c.args.folder.number hs c.args.at = rw (← c.self.view_is) at c.requires.held in
     renamed_at hs c.args.at c.index_mut-held.result.now c.args.folder c.self.inside.marks c.self.inside.numbers c.change_name.new.numbers c.self.inside.next_mark c.self.inside.next_folder held
-    c.index_mut-held.ensures.value (rw (← c.self.view_is) at c.requires.name) ? c.self.invariant
+    c.index_mut-held.ensures.value (rw (← c.self.view_is) at c.requires.name)
+    (rw (c.as_slice.ensures, c.as_slice-2.ensures) at c.in_ok-change_name.ensures.ok) c.self.invariant
 
 pub returns-clause-ok : goal.returns-clause-ok
 returns-clause-ok c =
