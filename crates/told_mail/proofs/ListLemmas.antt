@@ -150,7 +150,8 @@ lined_known rs m now at h same e =
 
 pub lined_end : (rs : List Response) (m now : Mail) (at : ℕ) → at ≡ length m.folders → now ≡ record m { folders = map (lined rs) (take at m.folders) ++ drop at m.folders }
     → now ≡ record m { folders = map (lined rs) m.folders }
-lined_end rs m now at h e = e ∙ ap (λ j. record m { folders = map (lined rs) (take j m.folders) ++ drop j m.folders }) h ∙ ap (λ (hs : List Held). record m { folders = hs }) (lined_all rs m.folders)
+lined_end rs m now at h e = e ∙ ap (λ j. record m { folders = map (lined rs) (take j m.folders) ++ drop j m.folders }) h ∙ ap (λ (hs : List Held). record m { folders = hs })
+    (lined_all rs m.folders)
 
 -- ---- folders that no line tells
 
@@ -161,7 +162,8 @@ listed_as rs lines [] a = refl
 listed_as rs lines (h ∷ hs) a =
     let rest : filter (is_told lines) (map (lined rs) hs) ≡ listed rs hs = listed_as rs lines hs a in
     elim (line_for h.folder.name rs) as (λ o. line_for h.folder.name rs ≡ o
-    → (if is_told lines (lined_by o h) then lined_by o h ∷ filter (is_told lines) (map (lined rs) hs) else filter (is_told lines) (map (lined rs) hs)) ≡ put_listed o h (listed rs hs)) [
+    → (if is_told lines (lined_by o h) then lined_by o h ∷ filter (is_told lines) (map (lined rs) hs) else filter (is_told lines) (map (lined rs) hs)) ≡ put_listed o h
+    (listed rs hs)) [
       | None ↦ λ e. ap (λ b. if b then h ∷ filter (is_told lines) (map (lined rs) hs) else filter (is_told lines) (map (lined rs) hs))
           (has_line_is rs lines h.folder.name a ∙ ap is_some e) ∙ rest
       | Some l ↦ λ e. ap (λ b. if b then with_line l h ∷ filter (is_told lines) (map (lined rs) hs) else filter (is_told lines) (map (lined rs) hs))
@@ -222,7 +224,8 @@ pub told_more : (p : Held → Bool) (hs : List Held) (i : ℕ) (h : Held) → i 
 told_more p hs i h within is t =
     ap (λ (zs : List Held). filter p (take i hs) ++ zs) (left hs i h within is) ∙ sym (append_assoc (filter p (take i hs)) (h ∷ []) (drop (i + 1) hs))
     ∙ ap (λ (zs : List Held). filter p (take i hs) ++ zs ++ drop (i + 1) hs) (sym (ap (λ b. if b then h ∷ [] else []) t))
-    ∙ ap (λ (zs : List Held). zs ++ drop (i + 1) hs) (sym (filter-append p (take i hs) (h ∷ [])) ∙ ap (λ (zs : List Held). filter p zs) (sym (take_more hs i h within ∙ ap (λ (z : Held). take i hs ++ z ∷ []) (sym is))))
+    ∙ ap (λ (zs : List Held). zs ++ drop (i + 1) hs) (sym (filter-append p (take i hs) (h ∷ [])) ∙ ap (λ (zs : List Held). filter p zs)
+    (sym (take_more hs i h within ∙ ap (λ (z : Held). take i hs ++ z ∷ []) (sym is))))
 
 pub ended_before : (p : Held → Bool) (hs : List Held) (i : ℕ) (h : Held) → i < length hs → h ≡ get_or hs i h
     → filter p (take i hs) ++ drop i hs ≡ filter p (take i hs) ++ h ∷ drop (i + 1) hs
@@ -236,7 +239,8 @@ ended_after p hs i h within is t =
     ∙ sym (filter-append p (take i hs) (h ∷ [])) ∙ ap (λ (zs : List Held). filter p zs) (sym (take_more hs i h within ∙ ap (λ (z : Held). take i hs ++ z ∷ []) (sym is))))
 
 pub told_end : (p : Held → Bool) (hs : List Held) (i : ℕ) → length hs ≤ i → filter p (take i hs) ++ drop i hs ≡ filter p hs
-told_end p hs i h = ap (λ (zs : List Held). zs ++ drop i hs) (ap (λ (zs : List Held). filter p zs) (whole hs i h)) ∙ ap (λ (zs : List Held). filter p hs ++ zs) (gone hs i h) ∙ append-nil (filter p hs)
+told_end p hs i h = ap (λ (zs : List Held). zs ++ drop i hs) (ap (λ (zs : List Held). filter p zs) (whole hs i h)) ∙ ap (λ (zs : List Held). filter p hs ++ zs) (gone hs i h)
+    ∙ append-nil (filter p hs)
   where
     whole : (zs : List Held) (j : ℕ) → length zs ≤ j → take j zs ≡ zs
     whole [] zero l = refl

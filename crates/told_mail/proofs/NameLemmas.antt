@@ -1,5 +1,33 @@
 -- What holds of folders' names, and of the index from names to numbers.
-use Rattle.std.proofs.Common.{◌≡◌, ◌≢◌, ◌⊎◌, ℕ, ◌<◌, Bool, true, false, not, List, [], ◌∷◌, ◌++◌, Option, Some, None, Vec, Global, length, get_or, set, take, drop, filter, map, zero, suc}
+use Rattle.std.proofs.Common.{
+  ◌≡◌,
+  ◌≢◌,
+  ◌⊎◌,
+  ℕ,
+  ◌<◌,
+  Bool,
+  true,
+  false,
+  not,
+  List,
+  [],
+  ◌∷◌,
+  ◌++◌,
+  Option,
+  Some,
+  None,
+  Vec,
+  Global,
+  length,
+  get_or,
+  set,
+  take,
+  drop,
+  filter,
+  map,
+  zero,
+  suc,
+}
 use Rattle.std.proofs.Common.{refl, sym, ap, ◌∙◌, subst, arith, inl, inr, cond, if◌then◌else◌, eqb, eqb-true, eq-eqb, ne_eqb, is_some, ◌&&◌}
 use Rattle.std.proofs.lemmas.Map.Keys.{sorted_head, sorted_tail}
 use Rattle.std.proofs.lemmas.Map.Text.{is_eq-slice_cmp}
@@ -175,12 +203,14 @@ pub name_set : (hs : List Held) (at : ℕ) (h k : Held) → at < length hs → h
 name_set [] at h k w is number name n = absurd (omega arith)
 name_set (x ∷ hs) zero h k w is number name n =
     ap (λ m. option_map (λ (z : Held). z.folder.name) (if eqb m n then Some k else held_in hs n)) (number ∙ ap folder_number is)
-    ∙ elim (eqb (folder_number x) n) as (λ b. option_map (λ (z : Held). z.folder.name) (if b then Some k else held_in hs n) ≡ option_map (λ (z : Held). z.folder.name) (if b then Some x else held_in hs n)) [
+    ∙ elim (eqb (folder_number x) n) as (λ b. option_map (λ (z : Held). z.folder.name) (if b then Some k else held_in hs n) ≡ option_map (λ (z : Held). z.folder.name)
+    (if b then Some x else held_in hs n)) [
       | true ↦ ap (λ (q : List ℕ). Some q) (name ∙ ap (λ (z : Held). z.folder.name) is)
       | false ↦ refl
     ]
 name_set (x ∷ hs) (suc at) h k w is number name n =
-    elim (eqb (folder_number x) n) as (λ b. option_map (λ (z : Held). z.folder.name) (if b then Some x else held_in (set hs at k) n) ≡ option_map (λ (z : Held). z.folder.name) (if b then Some x else held_in hs n)) [
+    elim (eqb (folder_number x) n) as (λ b. option_map (λ (z : Held). z.folder.name) (if b then Some x else held_in (set hs at k) n) ≡ option_map (λ (z : Held). z.folder.name)
+    (if b then Some x else held_in hs n)) [
       | true ↦ refl
       | false ↦ name_set hs at h k (omega arith) is number name n
     ]
@@ -276,7 +306,8 @@ apart_sorted (k ∷ ks) s = (others ks (sorted_head by_items k ks s), apart_sort
 module _ (p : List ℕ → Bool) where
   other_filter : (name : List ℕ) (qs : List (List ℕ)) → AllOther name qs → AllOther name (filter p qs)
   other_filter name [] a = tt
-  other_filter name (q ∷ qs) a = elim (p q) as (λ b. AllOther name (if b then q ∷ filter p qs else filter p qs)) [ true ↦ (a.0, other_filter name qs a.1) | false ↦ other_filter name qs a.1 ]
+  other_filter name (q ∷ qs) a = elim (p q) as (λ b. AllOther name (if b then q ∷ filter p qs else filter p qs))
+      [ true ↦ (a.0, other_filter name qs a.1) | false ↦ other_filter name qs a.1 ]
 
   apart_filter : (qs : List (List ℕ)) → AreApart qs → AreApart (filter p qs)
   apart_filter [] a = tt
@@ -315,7 +346,8 @@ apart_new p qs a = apart_parts is_inbox (filter p qs) (apart_filter p qs a)
 free_filter : (hs : List Held) (qs : List (List ℕ)) → AllFree hs (filter (λ name. not (is_some (named hs name))) qs)
 free_filter hs [] = tt
 free_filter hs (q ∷ qs) =
-    elim (named hs q) as (λ o. named hs q ≡ o → AllFree hs (if not (is_some o) then q ∷ filter (λ name. not (is_some (named hs name))) qs else filter (λ name. not (is_some (named hs name))) qs)) [
+    elim (named hs q) as (λ o. named hs q ≡ o → AllFree hs
+    (if not (is_some o) then q ∷ filter (λ name. not (is_some (named hs name))) qs else filter (λ name. not (is_some (named hs name))) qs)) [
       | None ↦ λ e. (e, free_filter hs qs)
       | Some h ↦ λ e. free_filter hs qs
     ] refl
@@ -331,7 +363,8 @@ free_append hs (q ∷ qs) rs a b = (a.0, free_append hs qs rs a.1 b)
 listed_free : (rs : List Response) (hs : List Held) (q : List ℕ) → named hs q ≡ None → named (listed rs hs) q ≡ None
 listed_free rs [] q e = refl
 listed_free rs (h ∷ hs) q e =
-    elim (is_same h.folder.name q) as (λ b. is_same h.folder.name q ≡ b → (if b then Some h else named hs q) ≡ None → named (put_listed (line_for h.folder.name rs) h (listed rs hs)) q ≡ None) [
+    elim (is_same h.folder.name q) as (λ b. is_same h.folder.name q ≡ b → (if b then Some h else named hs q) ≡ None → named
+    (put_listed (line_for h.folder.name rs) h (listed rs hs)) q ≡ None) [
       | true ↦ λ t f. absurd (some_is_not_none _ f)
       | false ↦ λ t f. elim (line_for h.folder.name rs) as (λ o. named (put_listed o h (listed rs hs)) q ≡ None) [
         | None ↦ listed_free rs hs q f
@@ -362,7 +395,8 @@ names_new look hs i up ns = filter_same _ _ (λ q. ap not (same q)) ns where
             ∙ ap (λ (r : List ℕ). Some r) (named_name hs q h e)))
       ] refl
 
-pub new_names_are : (look : List ℕ → Option ℕ) (hs : List Held) (rs : List Response) (ns names : List (List ℕ)) → Inverts look (name_in hs) → Ascends folder_number hs → ns ≡ names_told rs
+pub new_names_are : (look : List ℕ → Option ℕ) (hs : List Held) (rs : List Response) (ns names : List (List ℕ)) → Inverts look (name_in hs) → Ascends folder_number hs
+    → ns ≡ names_told rs
     → names ≡ inbox_first (filter (λ name. not (is_some (look name))) ns) → names ≡ new_names hs rs
 new_names_are look hs rs ns names i up told is = is ∙ ap inbox_first (names_new look hs i up ns)
     ∙ ap (λ (qs : List (List ℕ)). inbox_first (filter (λ name. not (is_some (named hs name))) qs)) told
@@ -390,7 +424,8 @@ cut_only hs name n only m h held is =
       | inr apart ↦ only m h (sym (found_cut folder_number m n hs ∙ ap (λ b. if b then None else held_in hs m) (eqb_apart n m apart)) ∙ held) is
     ]
 
-pub numbers_changed : (look look' : List ℕ → Option ℕ) (hs : List Held) (at : ℕ) (h k : Held) → Ascends folder_number hs → Inverts look (name_in hs) → IsHeldAt folder_number (folder_number k) hs at
+pub numbers_changed : (look look' : List ℕ → Option ℕ) (hs : List Held) (at : ℕ) (h k : Held) → Ascends folder_number hs → Inverts look (name_in hs) → IsHeldAt folder_number
+    (folder_number k) hs at
     → h ≡ get_or hs at h → IsOnly hs k.folder.name (folder_number k)
     → ((q : List ℕ) → look' q ≡ (if is_same k.folder.name q then Some (folder_number k) else (if is_same h.folder.name q then None else look q)))
     → Inverts look' (name_in (set hs at k))
@@ -404,12 +439,16 @@ numbers_changed look look' hs at h k up i held is only upd =
     subst (λ m. Inverts look1 (name_in (cut_keyed folder_number m hs))) number (numbers_cut look look1 hs h i (ap (held_in hs) number ∙ there) (λ q. refl)) in
     let gone : held_in rest n ≡ None = found_cut folder_number n n hs ∙ ap (λ b. if b then None else held_in hs n) (eqb_same n) in
     let put : Inverts look' (name_in (put_keyed folder_number k rest)) =
-    numbers_put look1 look' rest k (ascends_cut folder_number n hs up) cut gone (unused_name rest k.folder.name n (ascends_cut folder_number n hs up) gone (cut_only hs k.folder.name n only)) upd in
+    numbers_put look1 look' rest k (ascends_cut folder_number n hs up) cut gone
+    (unused_name rest k.folder.name n (ascends_cut folder_number n hs up) gone (cut_only hs k.folder.name n only)) upd in
     inverts_same look' look' (name_in (put_keyed folder_number k rest)) (name_in (set hs at k)) put (λ q. refl)
-    (λ m. ap (λ (zs : List Held). name_in zs m) (sym (put_held folder_number n k hs at held refl)) ∙ ap (option_map (λ (z : Held). z.folder.name)) (found_put folder_number m k hs up)
+    (λ m. ap (λ (zs : List Held). name_in zs m) (sym (put_held folder_number n k hs at held refl)) ∙ ap (option_map (λ (z : Held). z.folder.name))
+    (found_put folder_number m k hs up)
     ∙ elim (eqb n m) as (λ b. eqb n m ≡ b → option_map (λ (z : Held). z.folder.name) (if b then Some k else held_in hs m) ≡ name_in (put_keyed folder_number k rest) m) [
-      | true ↦ λ e. sym (ap (option_map (λ (z : Held). z.folder.name)) (found_put folder_number m k rest (ascends_cut folder_number n hs up) ∙ ap (λ b. if b then Some k else held_in rest m) e))
-      | false ↦ λ e. sym (ap (option_map (λ (z : Held). z.folder.name)) (found_put folder_number m k rest (ascends_cut folder_number n hs up) ∙ ap (λ b. if b then Some k else held_in rest m) e
+      | true ↦ λ e. sym (ap (option_map (λ (z : Held). z.folder.name))
+          (found_put folder_number m k rest (ascends_cut folder_number n hs up) ∙ ap (λ b. if b then Some k else held_in rest m) e))
+      | false ↦ λ e. sym (ap (option_map (λ (z : Held). z.folder.name))
+          (found_put folder_number m k rest (ascends_cut folder_number n hs up) ∙ ap (λ b. if b then Some k else held_in rest m) e
           ∙ found_cut folder_number m n hs ∙ ap (λ b. if b then None else held_in hs m) e))
     ] refl)
 

@@ -20,8 +20,10 @@ loop-held-preserved c =
           let ends : p h ≡ false = sym test ∙ w.if-not-has_line.true in
           let was : IsMirror (filter p (take i hs) ++ h ∷ drop (i + 1) hs) c.loop-held.marks c.loop-held.numbers n m =
           subst (λ (zs : List Held). IsMirror zs c.loop-held.marks c.loop-held.numbers n m) (ended_before p hs i h within c.held-item.is) (c.loop-held.invariant n m start) in
-          rw (w.marks-is, w.numbers-is) (subst (λ (zs : List Held). IsMirror zs w.clear_folder.new.marks w.clear_folder.new.numbers n m) (ended_after p hs i h within c.held-item.is ends)
-          (one_ended (filter p (take i hs)) (drop (i + 1) hs) h c.loop-held.marks w.clear_folder.new.marks c.loop-held.numbers w.clear_folder.new.numbers n m w.clear_folder.ensures.marks
+          rw (w.marks-is, w.numbers-is) (subst (λ (zs : List Held). IsMirror zs w.clear_folder.new.marks w.clear_folder.new.numbers n m)
+          (ended_after p hs i h within c.held-item.is ends)
+          (one_ended (filter p (take i hs)) (drop (i + 1) hs) h c.loop-held.marks w.clear_folder.new.marks c.loop-held.numbers w.clear_folder.new.numbers n m
+          w.clear_folder.ensures.marks
           w.clear_folder.ensures.names was))
       | else-not-has_line w ↦ λ n m start.
           let stays : p h ≡ true = sym test ∙ w.if-not-has_line.false in
@@ -32,5 +34,6 @@ loop-held-preserved c =
 pub returns : goal.returns
 returns c = λ n m start.
     let hs : List Held = c.args.folders.now in
-    subst (λ (zs : List Held). IsMirror zs c.loop-held.marks c.loop-held.numbers n m) (told_end (is_told c.args.lines.now) hs c.loop-held.held-index (omega (arith, c.loop-held-test.false)))
+    subst (λ (zs : List Held). IsMirror zs c.loop-held.marks c.loop-held.numbers n m)
+    (told_end (is_told c.args.lines.now) hs c.loop-held.held-index (omega (arith, c.loop-held-test.false)))
     (c.loop-held.invariant n m start)

@@ -13,7 +13,8 @@ pub invariant_of-self-2 : goal.invariant_of-self-2
 invariant_of-self-2 c =
     let hs : List Held = c.self.inside.folders.items in
     let held : IsHeldAt folder_number c.args.folder.number hs c.args.at = rw (← c.self.view_is) at c.requires.held in
-    renamed_at hs c.args.at c.index_mut-held.result.now c.args.folder c.self.inside.marks c.self.inside.numbers c.change_name.new.numbers c.self.inside.next_mark c.self.inside.next_folder held
+    renamed_at hs c.args.at c.index_mut-held.result.now c.args.folder c.self.inside.marks c.self.inside.numbers c.change_name.new.numbers c.self.inside.next_mark
+    c.self.inside.next_folder held
     c.index_mut-held.ensures.value (rw (← c.self.view_is) at c.requires.name)
     (rw (c.as_slice.ensures, c.as_slice-2.ensures) at c.in_ok-change_name.ensures.ok) c.self.invariant
 
@@ -27,7 +28,8 @@ returns-clause-ok c =
     (sym (held_found folder_number n hs c.self.invariant.index.numbers c.args.at held h c.index_mut-held.ensures.value)) in
     let put : put_keyed folder_number (record { folder = c.args.folder; messages = h.messages }) hs ≡ set hs c.args.at (record { folder = c.args.folder; messages = h.messages }) =
     put_held folder_number n (record { folder = c.args.folder; messages = h.messages }) hs c.args.at held refl in
-    let below : folder_number h < c.self.inside.next_folder = below_get hs c.self.inside.next_folder c.args.at h c.self.invariant.folders held.within c.index_mut-held.ensures.value in
+    let below : folder_number h < c.self.inside.next_folder =
+    below_get hs c.self.inside.next_folder c.args.at h c.self.invariant.folders held.within c.index_mut-held.ensures.value in
     let number : folder_number h ≡ n = ap folder_number c.index_mut-held.ensures.value ∙ held.same h in
     let next : c.self.inside.next_folder ≡ max c.self.inside.next_folder (n + 1) = omega (arith, below, number) in
     rw (← c.self.view_is) (mail_same _ _ _ _ _ _ (sym put ∙ ap (λ (xs : List Message). put_keyed folder_number (record { folder = c.args.folder; messages = xs }) hs)
