@@ -2,8 +2,16 @@
 use Rattle.std.specs.Prelude.{ℕ, ◌==◌, if◌then◌else◌, List, [], ◌∷◌}
 use Rattle.http_service.specs.declared.lines.Lines.{Lines}
 use Rattle.http_service.specs.declared.lines.Lines.TheVariants.{Head, ChunkLine, Trailer}
+use Rattle.http_service.specs.Taking.{HeadLines, ChunkLine as LineOfChunk, TrailerLines}
+use Rattle.http_service.specs.Taking as taking
 use Rattle.http_service.specs.declared.lines.Place.{Place}
 use Rattle.http_service.specs.declared.lines.Place.TheVariants.{Blank, Inside, Begun, Returned, Only, Ended}
+
+-- which lines these are
+abbrev pub lines_of : Lines → taking.Lines
+lines_of Head = HeadLines
+lines_of ChunkLine = LineOfChunk
+lines_of Trailer = TrailerLines
 
 -- the place of the first octet
 abbrev pub start : Lines → Place
