@@ -1,7 +1,7 @@
 -- Words are taken one by one exactly where they spell settings.
 use Rattle.std.proofs.Common.{◌≡◌, inl, inr, ℕ, List, [], ◌∷◌, ◌++◌, Option, Some, None, option_map, option_and_then, refl, ap, ◌∙◌}
 use Rattle.std.proofs.lemmas.Option.{none-some, same_Some}
-use Rattle.gate_words.specs.Options.{name_text, Setting, joined_text, BeginsWithDash, Spells, SpellsAll}
+use Rattle.gate_words.specs.Options.{name_text, Setting, joined_text, BeginsWithDash, SpellsWord, SpellsAll}
 use Rattle.gate_words.specs.Given.{name_of, joined, begins_with_dash, Values, keep, keep_joined, with_first, with_word, taken}
 use Rattle.gate_words.specs.declared.option.Name.{Name}
 use Rattle.gate_words.proofs.Kept.{keeps}
@@ -68,7 +68,7 @@ spelled-from (word ∷ words) (Some name) before after is =
 
 -- ---- words that spell settings are taken
 
-take-one : (setting : Setting) (here rest : List (List ℕ)) (before next : Values) → Spells setting here → keep setting.name setting.value before ≡ Some next
+take-one : (setting : Setting) (here rest : List (List ℕ)) (before next : Values) → SpellsWord setting here → keep setting.name setting.value before ≡ Some next
     → taken (here ++ rest) None before ≡ taken rest None next
 take-one setting here rest before next (inl apart) kept =
     ap (λ (ws : List (List ℕ)). taken (ws ++ rest) None before) apart.0

@@ -28,13 +28,13 @@ use Rattle.gateway.specs.declared.front.AskError.TheVariants as ask
 use Rattle.gateway.specs.declared.served.Served.{Served}
 use Rattle.gateway.specs.declared.served.Served.TheVariants as served
 use Rattle.gateway.specs.Calls.{Mailing, needs_mail}
-use Rattle.gateway.specs.Front.{Asked}
-use Rattle.gateway.specs.Requests.{Account, Bare, Asking, FrontLost, NoMemory, Reads, asks_for_mail, calls_text, line_end, no_memory_text}
+use Rattle.gateway.specs.Front.{GivesRequest}
+use Rattle.gateway.specs.Requests.{Account, Bare, Asking, FrontLost, NoMemory, ReadsAsking, asks_for_mail, calls_text, line_end, no_memory_text}
 use Rattle.gateway.specs.Segment.{Replies, Answered, LacksReading, LacksAnswering, Segment, NoneComes, NotAccepted, Unasked, Replied, reply_blamed, blamed, went, unsent}
 use Rattle.gateway.specs.Segment.{blame_front}
 use Rattle.gateway.specs.Run.{StepsTo}
 use Rattle.gateway.specs.Work.{Work, NoMail, WithMail, mailing_by}
-use Rattle.gateway.specs.reading.Replying.{IsWorked, WorksTo, IsLined, LinesTo, text_in, RepliesBy, RepliesToRequest, RepliesToBody, Refuses, Fails, SendsReply, Serves}
+use Rattle.gateway.specs.reading.Replying.{IsWorked, WorksTo, IsLinedReply, LinesTo, reply_text, RepliesBy, RepliesToRequest, RepliesToBody, Refuses, Fails, SendsReply, Serves}
 
 -- ---- counts
 
@@ -136,7 +136,7 @@ works_visited {machine = machine} {how = how} asks result asks_is v meant memory
 -- ---- the line
 
 is_lined : (line : Result (List ℕ) AllocError) (given mail : Mailing) (user base : List ℕ) (asked : RequestData) (done : Progress) → given ≡ mail → done.standing ≢ OutOfMemory
-    → IfOk line (λ l. l ≡ calls_text user base given asked ++ line_end) → IsLined line user base asked mail done
+    → IfOk line (λ l. l ≡ calls_text user base given asked ++ line_end) → IsLinedReply line user base asked mail done
 is_lined (Ok line) given mail user base asked done same stands is = (is ∙ (λ i. calls_text user base (same i) asked ++ line_end), stands)
 is_lined (Err e) given mail user base asked done same stands is = tt
 
@@ -202,7 +202,7 @@ body_fails view user password base body before after f error (reply.Line text) s
           );
     }
 body_fails view user password base body before after f error reply.NoMemory same agrees fails =
-    record { of = λ asked reads. (LacksReading (inr (body, subst (λ (l : List Event). Asked (Ok body) l) (sym (append-nil asked)) reads)) refl fails, bears_none f f same) }
+    record { of = λ asked reads. (LacksReading (inr (body, subst (λ (l : List Event). GivesRequest (Ok body) l) (sym (append-nil asked)) reads)) refl fails, bears_none f f same) }
 body_fails view user password base body before after f error reply.Nothing same agrees fails = absurd fails
 
 -- a request
@@ -222,12 +222,12 @@ earlier_reply account before after was mid now reply.NoMemory events later repli
 earlier_reply account before after was mid now reply.Nothing events later replies = replies
 
 pub read_body : {user password base body : List ℕ} {before after : Machine} {mid now : Faults} {r : Reply} {ys : List Event} (xs : List Event) (was : Faults) → Later was mid
-    → Asked (Ok body) xs
+    → GivesRequest (Ok body) xs
     → RepliesToBody user password base body before after mid now r ys → RepliesBy (record { user = user; password = password; base = base }) before after was now r (xs ++ ys)
 read_body {user} {password} {base} {body} {before} {after} {mid} {now} {r} {ys} xs was later asked replies =
     earlier_reply (record { user = user; password = password; base = base }) before after was mid now r (xs ++ ys) later (replies.of xs asked)
 
-pub read_large : {events : List Event} (account : Account) (before after : Machine) (was now : Faults) (r : Reply) → Later was now → Asked (Err ask.TooLarge) events
+pub read_large : {events : List Event} (account : Account) (before after : Machine) (was now : Faults) (r : Reply) → Later was now → GivesRequest (Err ask.TooLarge) events
     → Refuses (request.Limit MaxSizeRequest) before after r → RepliesBy account before after was now r events
 read_large {events} account before after was now (reply.Line text) later asked refuses = (
   Answered events [] (Err (request.Limit MaxSizeRequest)) (Err ServerUnavailable) (idle before) (sym (append-nil events)) (inr (asked, refl)) (NoMail refl refl refl refl)
@@ -241,7 +241,8 @@ read_large {events} account before after was now reply.NoMemory later asked refu
 )
 read_large account before after was now reply.Nothing later asked refuses = absurd refuses
 
-pub read_lacking : {events : List Event} (account : Account) (before after : Machine) (was now : Faults) → Later was now → Asked (Err ask.Memory) events → after ≡ forgotten before
+pub read_lacking : {events : List Event} (account : Account) (before after : Machine) (was now : Faults) → Later was now → GivesRequest (Err ask.Memory) events
+    → after ≡ forgotten before
     → RepliesBy account before after was now reply.NoMemory events
 read_lacking account before after was now later asked is = (LacksReading (inl asked) refl is, bears_none was now later)
 

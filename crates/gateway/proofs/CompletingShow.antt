@@ -17,7 +17,7 @@ use Rattle.gateway.specs.Show.{ShowsObject, Answers, Unread, Sent, Shows, NoneCo
 use Rattle.gate_words.specs.declared.task.Task.{Task}
 use Rattle.gate_words.specs.declared.place.Place.{Place}
 use Rattle.gate_world.specs.Causes.{Faults}
-use Rattle.gateway.specs.Run.{Runs, Refused, OutOfMemory, Done, Ran, Unopened, ServedOnce, ShownOne, EndsShow}
+use Rattle.gateway.specs.Run.{Runs, Refused, OutOfMemory, Done, Performed, Unopened, ServedOnce, ShownOne, EndsShow}
 use Rattle.gateway.specs.Complete.{asked_for, IsGiven, TellsObject, CompletesShow}
 use Rattle.gateway.proofs.Quiet.{gives_took, gives_gave, heard_gave_client, before_one}
 
@@ -95,7 +95,8 @@ shows_told outcome status behind said shown events (Came answered shown_is answe
 other_task : (place : Place) → Once place ≡ Show → ⊥
 other_task place is = cc
 
-ran_told : {task : Task} {password : List ℕ} {status : ℕ} {blames : Faults} (behind events : List Event) → Ran task password status blames events → task ≡ Show → (status ≡ 6 → ⊥)
+ran_told : {task : Task} {password : List ℕ} {status : ℕ} {blames : Faults} (behind events : List Event) → Performed task password status blames events → task ≡ Show
+    → (status ≡ 6 → ⊥)
     → events ≡ Accepted ∷ behind → Told status events
 ran_told behind events (Unopened place m is opens a b) shows well came = absurd (other_task place (sym is ∙ shows))
 ran_told behind events (ServedOnce place opened segment said m after how served is a b c d) shows well came = absurd (other_task place (sym is ∙ shows))

@@ -9,7 +9,7 @@ use Rattle.gate_machine.specs.declared.machine.Machine.{Machine}
 use Rattle.gateway.specs.declared.served.Served.{Served}
 use Rattle.gateway.specs.declared.served.Served.TheVariants as served
 use Rattle.gateway.specs.Requests.{Account, Door}
-use Rattle.gateway.specs.Run.{Begun, Then, both, IsClient, Ends, AllServed, NoneLeft, NotAccepted, StepsTo, RunsTo, IsRun}
+use Rattle.gateway.specs.Run.{Begun, Then, sum_of_faults, IsClient, Ends, AllServed, NoneLeft, NotAccepted, StepsTo, RunsTo, IsServingRun}
 
 rose_more : (j k was mid now : ℕ) → RoseBy j was mid → RoseBy k mid now → RoseBy (j + k) was now
 rose_more j k was mid now a b = omega arith
@@ -20,7 +20,7 @@ rose_none was = omega arith
 bears_none : (f : Faults) → Bears no_faults f f
 bears_none f = record { link = rose_none f.link; keep = rose_none f.keep; front = rose_none f.front; say = rose_none f.say }
 
-bears_both : (f g was mid now : Faults) → Bears f was mid → Bears g mid now → Bears (both f g) was now
+bears_both : (f g was mid now : Faults) → Bears f was mid → Bears g mid now → Bears (sum_of_faults f g) was now
 bears_both f g was mid now a b =
     record {
       link = rose_more f.link g.link was.link mid.link now.link a.link b.link;
@@ -58,7 +58,7 @@ then_client {door} {account} {T = T} {was = was} {mid = mid} {now = now} {s = s}
 pub then_last : {door : Door} {account : Account} {m : Machine} {S T : Machine → Type 0} {n : ℕ} {was mid now : Faults} {s : Served} {xs ys : List Event} {b : Account}
     (most status : ℕ)
     → b ≡ account → ((went : List Served) → All IsClient went → length went ≡ n → Ends most (went ++ s ∷ []) status) → RunsTo door account m S n was mid xs
-    → ((k : Machine) → S k → StepsTo door b k T mid now s ys) → IsRun door account m most was now status (xs ++ ys)
+    → ((k : Machine) → S k → StepsTo door b k T mid now s ys) → IsServingRun door account m most was now status (xs ++ ys)
 then_last {door} {account} {T = T} {was = was} {mid = mid} {now = now} {s = s} {ys = ys} most status same ends r steps =
     let step : StepsTo door account r.after T mid now s ys = subst (λ (a : Account). StepsTo door a r.after T mid now s ys) same (steps r.after r.stands) in
     record {
@@ -77,5 +77,5 @@ not_accepted n most less went came counted = NotAccepted went refl came (omega (
 
 -- as many as may come
 pub all_served : {door : Door} {account : Account} {m : Machine} {S : Machine → Type 0} {n : ℕ} {was now : Faults} {xs : List Event} (most : ℕ) → n ≡ most
-    → RunsTo door account m S n was now xs → IsRun door account m most was now 0 xs
+    → RunsTo door account m S n was now xs → IsServingRun door account m most was now 0 xs
 all_served most is r = record { after = r.after; went = r.went; run = r.run; ends = AllServed r.came (r.counted ∙ is) refl; bears = r.bears }

@@ -10,22 +10,10 @@ use Rattle.gate_machine.specs.declared.machine.Machine.{Machine}
 use Rattle.gate_machine.specs.declared.standing.Standing.TheVariants as standing
 use Rattle.gateway.proofs.Needs.{Law, answered_from}
 use Rattle.gateway.specs.Calls.{Mailing}
-use Rattle.gateway.specs.Complete.{
-  IsAnsweredFrom,
-  IsReplyObeyed,
-  IsSegmentObeyed,
-  IsTold,
-  NobodyComes,
-  TakesResponse,
-  LacksMemory,
-  IsRunObeyed,
-  IsRunTold,
-  IsTaskObeyed,
-  IsTaskTold,
-  Completes,
-}
-use Rattle.gateway.specs.Requests.{Account, Asking, Door, Bare, Reads, response_of}
-use Rattle.gateway.specs.Run.{both, Run, Begun, Then, run_blamed, account_of, Ran, Unopened, ServedOnce, ShownOne, Runs, Refused, OutOfMemory, Done}
+use Rattle.gateway.specs.Complete.{IsAnsweredFrom, IsReplyObeyed, IsSegmentObeyed, IsTold, NobodyComes, TakesResponse, LacksMemory, IsRunObeyed, IsRunTold, IsTaskObeyed}
+use Rattle.gateway.specs.Complete.{IsTaskTold, CompletesServing}
+use Rattle.gateway.specs.Requests.{Account, Asking, Door, Bare, ReadsAsking, response_of}
+use Rattle.gateway.specs.Run.{sum_of_faults, Run, Begun, Then, run_blamed, account_of, Performed, Unopened, ServedOnce, ShownOne, Runs, Refused, OutOfMemory, Done}
 use Rattle.gateway.specs.Segment.{Replies, Answered, LacksReading, LacksAnswering, Segment, NoneComes, NotAccepted, Unasked, Replied, blame_front, blamed, reply_blamed}
 use Rattle.gateway.specs.declared.served.Served.{Served}
 use Rattle.gateway.specs.declared.served.Served.TheVariants as served
@@ -50,7 +38,8 @@ blamed_once : (f : Faults) → blame_front 1 f ≡ no_faults → ⊥
 blamed_once f is = never f.front (ap (λ (g : Faults). g.front) is)
 
 takes : (door : Door) (account : Account) (events asked worked replied heard : List Event) (text : List ℕ) (how : Served) (after : Machine) (asking : Asking) (mail : Mailing)
-    (done : Progress) → events ≡ Accepted ∷ ((replied ++ heard) ++ ClientDone ∷ []) → replied ≡ asked ++ worked → Reads door (Ok asking) asked → done.standing ≢ standing.OutOfMemory
+    (done : Progress) → events ≡ Accepted ∷ ((replied ++ heard) ++ ClientDone ∷ []) → replied ≡ asked ++ worked → ReadsAsking door (Ok asking) asked
+    → done.standing ≢ standing.OutOfMemory
     → text ≡ response_of door account mail asking → after ≡ done.machine → Hears text heard → how ≡ served.Whole
     → IsAnsweredFrom asking mail done ⊎ (done.standing ≡ standing.OutOfMemory) → IsTold door account events how after
 takes door account events asked worked replied heard text how after asking mail done is split reads stands text_is after_is hears whole (inl from) =
@@ -83,7 +72,7 @@ told law door account before events how after (Replied replied heard text (Err e
 sum_none : (a b : ℕ) → a + b ≡ 0 → (a ≡ 0) × (b ≡ 0)
 sum_none a b is = (omega (arith, is), omega (arith, is))
 
-both_none : (f g : Faults) → both f g ≡ no_faults → (f ≡ no_faults) × (g ≡ no_faults)
+both_none : (f g : Faults) → sum_of_faults f g ≡ no_faults → (f ≡ no_faults) × (g ≡ no_faults)
 both_none f g is =
     let link = sum_none f.link g.link (ap (λ (h : Faults). h.link) is) in
     let keep = sum_none f.keep g.keep (ap (λ (h : Faults). h.keep) is) in
@@ -107,14 +96,15 @@ run_told law {door} {account} (Then {fs = fs} {s = s} {mid = mid} {after = after
 
 -- ---- the program
 
-task_told : ToldLaw → {task : Task} {password : List ℕ} {status : ℕ} {blames : Faults} {events : List Event} (ran : Ran task password status blames events) → blames ≡ no_faults
+task_told : ToldLaw → {task : Task} {password : List ℕ} {status : ℕ} {blames : Faults} {events : List Event} (ran : Performed task password status blames events)
+    → blames ≡ no_faults
     → IsTaskObeyed ran → IsTaskTold ran
 task_told law (Unopened place m a b c d) none obeyed = tt
 task_told law {password = password} (ServedOnce place opened segment said m after how served is opens ends blames_is events_are) none obeyed =
     law Bare (account_of place password) m segment how after served obeyed (sym blames_is ∙ none)
 task_told law (ShownOne shown said outcome a b c d e) none obeyed = tt
 
-pub program_told : ToldLaw → (words : List (List ℕ)) (password : List ℕ) (status : ℕ) (events : List Event) → Completes words password status events
+pub program_told : ToldLaw → (words : List (List ℕ)) (password : List ℕ) (status : ℕ) (events : List Event) → CompletesServing words password status events
 program_told law words password status events blames (Refused a b c d) none obeyed = tt
 program_told law words password status events blames (OutOfMemory a b c) none obeyed = tt
 program_told law words password status events blames (Done task is ran) none obeyed = task_told law ran none obeyed

@@ -9,13 +9,13 @@ use Rattle.gate_words.specs.declared.task.Task.{Task}
 use Rattle.gate_words.specs.declared.task.Task.TheVariants.{Show}
 use Rattle.gate_words.specs.Task.{IsTask}
 use Rattle.gate_machine.specs.History.{KnownMail}
-use Rattle.gate_machine.specs.Obeying.{IsObeyed}
+use Rattle.gate_machine.specs.Obeying.{IsObeyedBeginning}
 use Rattle.gate_machine.specs.Progress.{Progress}
 use Rattle.gate_machine.specs.declared.machine.Machine.{Machine}
 use Rattle.gateway.specs.Calls.{Mailing}
 use Rattle.gateway.specs.Counts.{served_mail}
-use Rattle.gateway.specs.Requests.{Account, Door, Bare, Asking, Reads, asks_for_mail, response_of, no_memory_text}
-use Rattle.gateway.specs.Run.{Run, Begun, Then, run_blamed, account_of, Ran, Unopened, ServedOnce, ShownOne, Runs, Refused, OutOfMemory, Done}
+use Rattle.gateway.specs.Requests.{Account, Door, Bare, Asking, ReadsAsking, asks_for_mail, response_of, no_memory_text}
+use Rattle.gateway.specs.Run.{Run, Begun, Then, run_blamed, account_of, Performed, Unopened, ServedOnce, ShownOne, Runs, Refused, OutOfMemory, Done}
 use Rattle.gateway.specs.Segment.{Replies, Answered, LacksReading, LacksAnswering, Segment, NoneComes, NotAccepted, Unasked, Replied}
 use Rattle.gateway.specs.Show.{message_limit, ShowsObject}
 use Rattle.gateway.specs.Work.{Work, NoMail, WithMail}
@@ -45,7 +45,7 @@ CompletesShow words status events = IsTask words Show → (after : List Event) �
 abbrev pub IsWorkObeyed : {account : Account} {before : Machine} {asking : Asking} {events : List Event} {mail : Mailing} {after : Progress}
     → Work account before asking events mail after → Type 0
 IsWorkObeyed (NoMail a b c d) = Unit {0}
-IsWorkObeyed (WithMail begun beginning ending a begins b c d e) = IsObeyed begins
+IsWorkObeyed (WithMail begun beginning ending a begins b c d e) = IsObeyedBeginning begins
 
 -- The calls are answered over the mail that is served then; or none of them needs it.
 abbrev pub IsAnsweredFrom : Asking → Mailing → Progress → Type 0
@@ -73,7 +73,7 @@ IsSegmentObeyed (Replied replied heard text sent a replies c d) = IsReplyObeyed 
 pub data IsTold (door : Door) (account : Account) (events : List Event) (how : Served) (after : Machine) : Type 0 where
   NobodyComes : events ≡ NoMore ∷ [] → how ≡ served.NoMore → IsTold door account events how after
   TakesResponse : (asked worked heard : List Event) (asking : Asking) (mail : Mailing) (done : Progress)
-      → events ≡ Accepted ∷ (((asked ++ worked) ++ heard) ++ ClientDone ∷ []) → Reads door (Ok asking) asked → IsAnsweredFrom asking mail done
+      → events ≡ Accepted ∷ (((asked ++ worked) ++ heard) ++ ClientDone ∷ []) → ReadsAsking door (Ok asking) asked → IsAnsweredFrom asking mail done
       → after ≡ done.machine → Hears (response_of door account mail asking) heard → how ≡ served.Whole → IsTold door account events how after
   LacksMemory : (replied heard : List Event) → events ≡ Accepted ∷ ((replied ++ heard) ++ ClientDone ∷ []) → Hears (no_memory_text door) heard
       → how ≡ served.Whole → IsTold door account events how after
@@ -101,13 +101,13 @@ CompletesRun door account events = (before after : Machine) (went : List Served)
 
 -- The store obeyed every request of what the task did.
 abbrev pub IsTaskObeyed : {task : Task} {password : List ℕ} {status : ℕ} {blames : Faults} {events : List Event}
-    → Ran task password status blames events → Type 0
+    → Performed task password status blames events → Type 0
 IsTaskObeyed (Unopened place m a b c d) = Unit {0}
 IsTaskObeyed (ServedOnce place opened segment said m after how served a b c d e) = IsSegmentObeyed served
 IsTaskObeyed (ShownOne shown said outcome a b c d e) = Unit {0}
 
 abbrev pub IsTaskTold : {task : Task} {password : List ℕ} {status : ℕ} {blames : Faults} {events : List Event}
-    → Ran task password status blames events → Type 0
+    → Performed task password status blames events → Type 0
 IsTaskTold (Unopened place m a b c d) = Unit {0}
 IsTaskTold {password = password} (ServedOnce place opened segment said m after how served a b c d e) =
     IsTold Bare (account_of place password) segment how after
@@ -127,5 +127,6 @@ AreTold (Done task a ran) = IsTaskTold ran
 
 -- Where nothing is blamed in a run of the program over these events and the store obeyed every request of it, each client
 -- that came with a request is told.
-abbrev pub Completes : List (List ℕ) → List ℕ → ℕ → List Event → Type 0
-Completes words password status events = (blames : Faults) (runs : Runs words password status blames events) → blames ≡ no_faults → AreObeyed runs → AreTold runs
+abbrev pub CompletesServing : List (List ℕ) → List ℕ → ℕ → List Event → Type 0
+CompletesServing words password status events = (blames : Faults) (runs : Runs words password status blames events) → blames ≡ no_faults → AreObeyed runs
+    → AreTold runs

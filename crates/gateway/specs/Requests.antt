@@ -11,7 +11,7 @@ use Rattle.jmap_core.specs.declared.request.RequestError.TheVariants.{Limit}
 use Rattle.jmap_core.specs.declared.request.LimitName.TheVariants.{MaxSizeRequest}
 use Rattle.gateway.specs.declared.front.AskError.TheVariants.{Failed, TooLarge, Memory}
 use Rattle.gateway.specs.Calls.{Mailing, responses_after, needs_mail}
-use Rattle.gateway.specs.Front.{Asked}
+use Rattle.gateway.specs.Front.{GivesRequest}
 
 -- Who is served: the store's user and password, and the URL that clients come by.
 pub record Account : Type 0 where
@@ -40,11 +40,12 @@ pub data Unread : Type 0 where
 
 -- What reading a request adds. At the bare door it is all that the client gives; no more than one octet past the limit is
 -- read.
-abbrev pub Reads : Door → Result Asking Unread → List Event → Type 0
-Reads Bare (Ok asking) events =
-    ((octets : List ℕ) × Asked (Ok octets) events × (asking ≡ requested octets)) ⊎ (Asked (Err TooLarge) events × (asking ≡ Err (Limit MaxSizeRequest)))
-Reads Bare (Err FrontLost) events = Asked (Err Failed) events
-Reads Bare (Err NoMemory) events = Asked (Err Memory) events ⊎ ((octets : List ℕ) × Asked (Ok octets) events)
+abbrev pub ReadsAsking : Door → Result Asking Unread → List Event → Type 0
+ReadsAsking Bare (Ok asking) events =
+    ((octets : List ℕ) × GivesRequest (Ok octets) events × (asking ≡ requested octets)) ⊎
+    (GivesRequest (Err TooLarge) events × (asking ≡ Err (Limit MaxSizeRequest)))
+ReadsAsking Bare (Err FrontLost) events = GivesRequest (Err Failed) events
+ReadsAsking Bare (Err NoMemory) events = GivesRequest (Err Memory) events ⊎ ((octets : List ℕ) × GivesRequest (Ok octets) events)
 
 -- each text ends its line
 abbrev pub line_end : List ℕ

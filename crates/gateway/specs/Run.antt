@@ -22,8 +22,8 @@ use Rattle.gateway.specs.Show.{Shows}
 
 -- ---- counts
 
-abbrev pub both : Faults → Faults → Faults
-both f g = record { link = f.link + g.link; keep = f.keep + g.keep; front = f.front + g.front; say = f.say + g.say }
+abbrev pub sum_of_faults : Faults → Faults → Faults
+sum_of_faults f g = record { link = f.link + g.link; keep = f.keep + g.keep; front = f.front + g.front; say = f.say + g.say }
 
 -- no count rose, and none stands at its end
 pub record Stood (was now : Faults) : Type 0 where
@@ -45,7 +45,7 @@ pub data Run (door : Door) (account : Account) (before : Machine) : List Event �
 abbrev pub run_blamed : {door : Door} {account : Account} {before after : Machine} {events : List Event} {went : List Served}
     → Run door account before events went after → Faults
 run_blamed Begun = no_faults
-run_blamed (Then run segment) = both (run_blamed run) (blamed segment)
+run_blamed (Then run segment) = sum_of_faults (run_blamed run) (blamed segment)
 
 -- a client came, and the program goes on
 abbrev pub IsClient : Served → Type 0
@@ -82,7 +82,7 @@ pub record RunsTo (door : Door) (account : Account) (before : Machine) (Stands :
   pub bears : Bears (run_blamed run) was now
 
 -- A whole run from a machine.
-pub record IsRun (door : Door) (account : Account) (before : Machine) (most : ℕ) (was now : Faults) (status : ℕ) (events : List Event) : Type 0 where
+pub record IsServingRun (door : Door) (account : Account) (before : Machine) (most : ℕ) (was now : Faults) (status : ℕ) (events : List Event) : Type 0 where
   pub after : Machine
   pub went : List Served
   pub run : Run door account before events went after
@@ -132,23 +132,23 @@ show_blamed (Err front.Failed) = blame_front 1 no_faults
 show_blamed _ = no_faults
 
 -- What a task adds, with its status and the faults that are blamed.
-pub data Ran (task : Task) (password : List ℕ) (status : ℕ) (blames : Faults) (events : List Event) : Type 0 where
+pub data Performed (task : Task) (password : List ℕ) (status : ℕ) (blames : Faults) (events : List Event) : Type 0 where
   -- opening came to nothing
   Unopened : (place : Place) (m : Machine) → task ≡ Once place → Opens events (Err opening.Memory) m → status ≡ 5 → blames ≡ no_faults
-      → Ran task password status blames events
+      → Performed task password status blames events
   ServedOnce : (place : Place) (opened segment said : List Event) (m after : Machine) (how : Served)
       (served : Segment Bare (account_of place password) m segment how after) → task ≡ Once place → Opens opened (Ok tt) m → EndsOnce how status said
-      → blames ≡ blamed served → events ≡ (opened ++ segment) ++ said → Ran task password status blames events
+      → blames ≡ blamed served → events ≡ (opened ++ segment) ++ said → Performed task password status blames events
   ShownOne : (shown said : List Event) (outcome : Result (Unit {0}) FrontError) → task ≡ Show → events ≡ shown ++ said → Shows outcome shown
       → EndsShow outcome status said
-      → blames ≡ show_blamed outcome → Ran task password status blames events
+      → blames ≡ show_blamed outcome → Performed task password status blames events
 
 -- The run of the program over its words: they are refused, memory runs out before anything is asked of the outside, or what
 -- their task adds.
 pub data Runs (words : List (List ℕ)) (password : List ℕ) (status : ℕ) (blames : Faults) (events : List Event) : Type 0 where
   Refused : ((task : Task) → IsTask words task → ⊥) → status ≡ 2 → IsSaid words_refused events → blames ≡ no_faults → Runs words password status blames events
   OutOfMemory : status ≡ 5 → events ≡ [] → blames ≡ no_faults → Runs words password status blames events
-  Done : (task : Task) → IsTask words task → Ran task password status blames events → Runs words password status blames events
+  Done : (task : Task) → IsTask words task → Performed task password status blames events → Runs words password status blames events
 
 -- what showing one client its message adds
 abbrev pub RunsShow : ℕ → List Event → Type 0
@@ -158,7 +158,7 @@ RunsShow status events = (shown : List Event) × (said : List Event) × (outcome
 -- what a task adds, the counts bearing its blames
 pub record Performs (task : Task) (password : List ℕ) (was now : Faults) (status : ℕ) (events : List Event) : Type 0 where
   pub blames : Faults
-  pub ran : Ran task password status blames events
+  pub ran : Performed task password status blames events
   pub bears : Bears blames was now
 
 -- the same of the whole run

@@ -12,7 +12,7 @@ use Rattle.gate_machine.specs.declared.standing.Standing.TheVariants.{OutOfMemor
 use Rattle.gateway.specs.declared.served.Served.{Served}
 use Rattle.gateway.specs.declared.served.Served.TheVariants as served
 use Rattle.gateway.specs.Calls.{Mailing}
-use Rattle.gateway.specs.Requests.{Account, Door, Asking, FrontLost, NoMemory, Reads, response_of, no_memory_text}
+use Rattle.gateway.specs.Requests.{Account, Door, Asking, FrontLost, NoMemory, ReadsAsking, response_of, no_memory_text}
 use Rattle.gateway.specs.Work.{Work}
 
 -- how a client was served whose response was sent so
@@ -22,13 +22,14 @@ went (Err _) = served.Part
 
 -- The text that a client is sent once its request was read, and the machine after it.
 pub data Replies (door : Door) (account : Account) (before : Machine) (events : List Event) (text : List ℕ) (after : Machine) : Type 0 where
-  Answered : (asked worked : List Event) (asking : Asking) (mail : Mailing) (done : Progress) → events ≡ asked ++ worked → Reads door (Ok asking) asked
+  Answered : (asked worked : List Event) (asking : Asking) (mail : Mailing) (done : Progress) → events ≡ asked ++ worked → ReadsAsking door (Ok asking) asked
       → Work account before asking worked mail done → done.standing ≢ OutOfMemory → text ≡ response_of door account mail asking → after ≡ done.machine
       → Replies door account before events text after
   -- Out of memory, while the request was read;
-  LacksReading : Reads door (Err NoMemory) events → text ≡ no_memory_text door → after ≡ forgotten before → Replies door account before events text after
+  LacksReading : ReadsAsking door (Err NoMemory) events → text ≡ no_memory_text door → after ≡ forgotten before → Replies door account before events text after
   -- or in the link life, while what it told was to be served, or while the response was made.
-  LacksAnswering : (asked worked : List Event) (asking : Asking) (mail : Mailing) (done : Progress) → events ≡ asked ++ worked → Reads door (Ok asking) asked
+  LacksAnswering : (asked worked : List Event) (asking : Asking) (mail : Mailing) (done : Progress) → events ≡ asked ++ worked → ReadsAsking door
+      (Ok asking) asked
       → Work account before asking worked mail done → text ≡ no_memory_text door → after ≡ forgotten done.machine
       → Replies door account before events text after
 
@@ -37,7 +38,7 @@ pub data Segment (door : Door) (account : Account) (before : Machine) (events : 
   NoneComes : events ≡ NoMore ∷ [] → how ≡ served.NoMore → after ≡ before → Segment door account before events how after
   NotAccepted : events ≡ FrontFailed ∷ [] → how ≡ served.AcceptFault → after ≡ before → Segment door account before events how after
   -- the front failed before the request's end: no response is sent
-  Unasked : (asked : List Event) → events ≡ Accepted ∷ (asked ++ ClientDone ∷ []) → Reads door (Err FrontLost) asked → how ≡ served.Part → after ≡ before
+  Unasked : (asked : List Event) → events ≡ Accepted ∷ (asked ++ ClientDone ∷ []) → ReadsAsking door (Err FrontLost) asked → how ≡ served.Part → after ≡ before
       → Segment door account before events how after
   Replied : (replied heard : List Event) (text : List ℕ) (sent : Result (Unit {0}) Failed) → events ≡ Accepted ∷ ((replied ++ heard) ++ ClientDone ∷ [])
       → Replies door account before replied text after → Sends text sent heard → how ≡ went sent → Segment door account before events how after

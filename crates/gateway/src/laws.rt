@@ -6,7 +6,7 @@ ghost use Rattle.gate_machine.specs.Progress.{Bears, Progress};
 ghost use Rattle.gate_machine.specs.declared.machine.Machine.{Machine};
 ghost use Rattle.gate_machine.specs.declared.standing.Standing.TheVariants.{OutOfMemory};
 ghost use Rattle.gateway.specs.Calls.{Mailing};
-ghost use Rattle.gateway.specs.Complete.{Completes, CompletesRun, IsAnsweredFrom, IsSegmentObeyed, IsTold, IsWorkObeyed};
+ghost use Rattle.gateway.specs.Complete.{CompletesServing, CompletesRun, IsAnsweredFrom, IsSegmentObeyed, IsTold, IsWorkObeyed};
 ghost use Rattle.gateway.specs.Requests.{Account, Asking, Door, asks_for_mail};
 ghost use Rattle.gateway.specs.Run.{Stood};
 ghost use Rattle.gateway.specs.Segment.{Segment, blamed};
@@ -55,7 +55,7 @@ pub fn obeyed_runs_are_told()
 
 /// The same of a run of the program.
 pub fn obeyed_programs_tell()
-    ensures { (words : List (List ℕ)) (password : List ℕ) (status : ℕ) (events : List Event) → Completes words password status events }
+    ensures { (words : List (List ℕ)) (password : List ℕ) (status : ℕ) (events : List Event) → CompletesServing words password status events }
 {
     obeyed_clients_are_told();
 }

@@ -4,7 +4,7 @@ ghost use Rattle.gate_world.specs.Causes.{Later, Rose};
 ghost use Rattle.gate_world.specs.Tape.{Adds};
 ghost use Rattle.gate_machine.specs.declared.machine.Machine.{Machine};
 ghost use Rattle.gateway.specs.Complete.{CompletesRun};
-ghost use Rattle.gateway.specs.Run.{IsRun};
+ghost use Rattle.gateway.specs.Run.{IsServingRun};
 
 use crate::gate::Gate;
 use crate::laws::obeyed_runs_are_told;
@@ -16,7 +16,7 @@ use std::alloc::Global;
 pub fn serve<G: Gate, W: World>(alloc: Global, gate: &mut G, world: &mut W, most: u64) -> u8
     ensures run { Adds (W.tape world.old) (W.tape world.new)
         (λ es. (m : Machine) → G.stands gate.old m →
-        IsRun G.door (G.account gate.old (W.hidden world.old)) m most (W.faults world.old) (W.faults world.new) result es) }
+        IsServingRun G.door (G.account gate.old (W.hidden world.old)) m most (W.faults world.old) (W.faults world.new) result es) }
     // Where nothing is blamed and the store obeyed every request, whoever came takes the whole response that is due.
     ensures complete { Adds (W.tape world.old) (W.tape world.new) (CompletesRun G.door (G.account gate.old (W.hidden world.old))) }
     ensures statuses { (result ≡ 0) ⊎ (result ≡ 6) }

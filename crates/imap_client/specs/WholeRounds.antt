@@ -13,7 +13,7 @@ use Rattle.told_folder.specs.declared.message.Held.{Held}
 use Rattle.told_mail.specs.Mail.{Mail}
 use Rattle.told_mail.specs.Exchanges.{tell}
 use Rattle.imap_client.specs.LinkLife.{LinkLife, next_number}
-use Rattle.imap_client.specs.Rounds.{selectable_from, known_of, has_modseqs, is_sliced, slice_of, new_of, uid_next_told, tells_validity}
+use Rattle.imap_client.specs.Rounds.{selectable_from, known_folder, has_modseqs, is_sliced, slice_of, new_of, uid_next_told, tells_validity}
 
 -- the exchange is of the command and was answered OK, and the mail after it is what it told
 pub record IsObeyed (asked : Command) (before : Mail) (x : Exchange) (after : Mail) : Type 0 where
@@ -33,19 +33,21 @@ pub data FetchesHeaders (at uid_next : ℕ) : Mail → List Exchange → Mail �
 pub data FetchesFolder (at uid_next : ℕ) : Mail → List Exchange → Mail → Type 0 where
   WithModseqs : {before after : Mail} {xs : List Exchange} (h : Held) → slice_get before.folders at ≡ Some h → has_modseqs h.folder ≡ true
       → FetchesHeaders at uid_next before xs after → FetchesFolder at uid_next before xs after
-  WithoutModseqs : {before mid after : Mail} {xs : List Exchange} (h : Held) (x : Exchange) → slice_get before.folders at ≡ Some h → has_modseqs h.folder ≡ false
+  WithoutModseqs : {before mid after : Mail} {xs : List Exchange} (h : Held) (x : Exchange) → slice_get before.folders at ≡ Some h
+      → has_modseqs h.folder ≡ false
       → IsObeyed command.FetchFlags before x mid → FetchesHeaders at uid_next mid xs after → FetchesFolder at uid_next before (x ∷ xs) after
 
 -- The folder at this place: its SELECT, which tells a UIDVALIDITY, and then what is fetched.
 pub data AsksFolder (at : ℕ) : Mail → List Exchange → Mail → Type 0 where
   Asked : {before mid after : Mail} {xs : List Exchange} (h : Held) (x : Exchange) → slice_get before.folders at ≡ Some h
-      → IsObeyed (command.Select h.folder.name (known_of h.folder)) before x mid → tells_validity x.responses ≡ true
+      → IsObeyed (command.Select h.folder.name (known_folder h.folder)) before x mid → tells_validity x.responses ≡ true
       → FetchesFolder at (uid_next_told x.responses) mid xs after → AsksFolder at before (x ∷ xs) after
 
 -- Each folder that can be selected from this place on, by number.
 pub data VisitsFrom : ℕ → Mail → List Exchange → Mail → Type 0 where
   NoMore : {from : ℕ} {before : Mail} → selectable_from from (drop from before.folders) ≡ None → VisitsFrom from before [] before
-  Visits : {from : ℕ} {before mid after : Mail} {xs ys : List Exchange} (at : ℕ) → selectable_from from (drop from before.folders) ≡ Some at → AsksFolder at before xs mid
+  Visits : {from : ℕ} {before mid after : Mail} {xs ys : List Exchange} (at : ℕ) → selectable_from from (drop from before.folders) ≡ Some at
+      → AsksFolder at before xs mid
       → VisitsFrom (at + 1) mid ys after → VisitsFrom from before (xs ++ ys) after
 
 -- A whole round: LIST, and then each folder that can be selected of those that are told then.

@@ -3,7 +3,7 @@ ghost use Rattle.std.specs.Prelude.{◌≡◌, ◌<◌, ◌≤◌, ◌+◌, ◌+
 ghost use Rattle.std.specs.Bool.{OnTrue, OnFalse};
 ghost use Rattle.gate_world.specs.Causes.{Rose, LinkAlone};
 ghost use Rattle.gate_world.specs.Tape.{Adds};
-ghost use Rattle.imap_exchange.specs.Received.{Octets, begun, most_given, room_left};
+ghost use Rattle.imap_exchange.specs.Received.{Octets, nothing_given, most_given, room_left};
 ghost use Rattle.imap_exchange.specs.Responses.{IsOver};
 ghost use Rattle.imap_exchange.specs.reading.Filling.{Fills};
 
@@ -43,7 +43,7 @@ impl Model for Received {
 impl Received {
     /// Nothing is given yet. It takes no memory.
     pub fn new(alloc: Global) -> Received
-        ensures { result ≡ begun }
+        ensures { result ≡ nothing_given }
     {
         Received {
             unread: Unread::new(alloc),

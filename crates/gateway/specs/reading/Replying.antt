@@ -20,8 +20,8 @@ use Rattle.gateway.specs.declared.front.AskError.TheVariants as ask
 use Rattle.gateway.specs.declared.served.Served.{Served}
 use Rattle.gateway.specs.declared.served.Served.TheVariants as served
 use Rattle.gateway.specs.Calls.{Mailing, needs_mail}
-use Rattle.gateway.specs.Front.{Asked}
-use Rattle.gateway.specs.Requests.{Account, Door, Bare, Asking, FrontLost, Reads, asks_for_mail, calls_text, line_end, no_memory_text}
+use Rattle.gateway.specs.Front.{GivesRequest}
+use Rattle.gateway.specs.Requests.{Account, Door, Bare, Asking, FrontLost, ReadsAsking, asks_for_mail, calls_text, line_end, no_memory_text}
 use Rattle.gateway.specs.Segment.{Replies, Segment, reply_blamed, blamed, went}
 use Rattle.gateway.specs.Work.{Work}
 
@@ -42,9 +42,9 @@ pub record WorksTo (user password : List ℕ) (asks : Bool) (before machine : Ma
   pub worked : IsWorked result mail done
 
 -- the line that answers a request; or memory ran out in its work, or as the line was made
-abbrev pub IsLined : Result (List ℕ) AllocError → List ℕ → List ℕ → RequestData → Mailing → Progress → Type 0
-IsLined (Ok line) user base request mail done = (line ≡ calls_text user base mail request ++ line_end) × (done.standing ≢ OutOfMemory)
-IsLined (Err _) user base request mail done = Unit {0}
+abbrev pub IsLinedReply : Result (List ℕ) AllocError → List ℕ → List ℕ → RequestData → Mailing → Progress → Type 0
+IsLinedReply (Ok line) user base request mail done = (line ≡ calls_text user base mail request ++ line_end) × (done.standing ≢ OutOfMemory)
+IsLinedReply (Err _) user base request mail done = Unit {0}
 
 pub record LinesTo (user password base : List ℕ) (request : RequestData) (before machine : Machine) (was now : Faults)
     (result : Result (List ℕ) AllocError) (events : List Event) : Type 0 where
@@ -53,17 +53,17 @@ pub record LinesTo (user password base : List ℕ) (request : RequestData) (befo
   pub work : Work (record { user = user; password = password; base = base }) before (Ok request) events mail done
   pub machine_is : done.machine ≡ machine
   pub bears : Bears done.blamed was now
-  pub lined : IsLined result user base request mail done
+  pub lined : IsLinedReply result user base request mail done
 
 -- the text that a reply is, where there is one
-abbrev pub text_in : Reply → List ℕ
-text_in (reply.Line text) = text
-text_in reply.NoMemory = no_memory_text Bare
-text_in reply.Nothing = []
+abbrev pub reply_text : Reply → List ℕ
+reply_text (reply.Line text) = text
+reply_text reply.NoMemory = no_memory_text Bare
+reply_text reply.Nothing = []
 
 -- the reply to a request that was read, or that the front failed before
 abbrev pub RepliesBy : Account → Machine → Machine → Faults → Faults → Reply → List Event → Type 0
-RepliesBy account before after was now reply.Nothing events = Reads Bare (Err FrontLost) events × (after ≡ before)
+RepliesBy account before after was now reply.Nothing events = ReadsAsking Bare (Err FrontLost) events × (after ≡ before)
 RepliesBy account before after was now (reply.Line text) events =
     (replies : Replies Bare account before events text after) × Bears (reply_blamed replies) was now
 RepliesBy account before after was now reply.NoMemory events =
@@ -72,12 +72,12 @@ RepliesBy account before after was now reply.NoMemory events =
 -- the reply to a request, after the events by which it was read
 pub record RepliesToRequest (user password base : List ℕ) (request : RequestData) (before after : Machine) (was now : Faults) (reply : Reply)
     (events : List Event) : Type 0 where
-  pub of : (asked : List Event) → Reads Bare (Ok (Ok request)) asked
+  pub of : (asked : List Event) → ReadsAsking Bare (Ok (Ok request)) asked
       → RepliesBy (record { user = user; password = password; base = base }) before after was now reply (asked ++ events)
 
 -- the reply to a body, after the events by which it was given
 pub record RepliesToBody (user password base body : List ℕ) (before after : Machine) (was now : Faults) (reply : Reply) (events : List Event) : Type 0 where
-  pub of : (asked : List Event) → Asked (Ok body) asked
+  pub of : (asked : List Event) → GivesRequest (Ok body) asked
       → RepliesBy (record { user = user; password = password; base = base }) before after was now reply (asked ++ events)
 
 -- the reply to what is no request

@@ -1,7 +1,7 @@
 use Rattle.std.proofs.Common.{◌++◌, refl, sym, subst, List, ℕ, Ok}
 use Rattle.gate_world.specs.Causes.{Hidden}
 use Rattle.gate_world.proofs.Joins.{join, widen}
-use Rattle.gateway.specs.Front.{Asked}
+use Rattle.gateway.specs.Front.{GivesRequest}
 use Rattle.gateway.specs.reading.Replying.{RepliesBy}
 use Rattle.gateway.proofs.Answering.{read_body, read_large, read_lacking, later_front}
 use Rattle.gateway.proofs.bare_gate.BareGate.respond.Goals as goal
@@ -11,7 +11,7 @@ returns-in-Ok-clause-run g c =
     join _ c.in-Ok.ensures.tape c.reply_to_body.ensures.run (λ x y asked replies.
     subst (λ (h : Hidden). RepliesBy (record { user = c.args.self.now.user; password = h.password; base = c.args.self.now.base }) c.args.self.now.machine
     c.reply_to_body.new.self.machine (g.W.Taped.faults c.args.world.now) (g.W.Taped.faults c.reply_to_body.new.world) c.reply_to_body.result (x ++ y)) c.ask.ensures.hidden
-    (read_body x (g.W.Taped.faults c.args.world.now) (later_front _ _ c.ask.ensures.alone) (subst (λ (l : List ℕ). Asked (Ok l) x) (sym c.as_slice.ensures) asked) replies))
+    (read_body x (g.W.Taped.faults c.args.world.now) (later_front _ _ c.ask.ensures.alone) (subst (λ (l : List ℕ). GivesRequest (Ok l) x) (sym c.as_slice.ensures) asked) replies))
 
 pub returns-in-Err-TooLarge-clause-run : goal.returns-in-Err-TooLarge-clause-run
 returns-in-Err-TooLarge-clause-run g c =
