@@ -4,7 +4,7 @@ use Rattle.std.specs.List.{flat_map}
 use Rattle.std.proofs.lemmas.List.{append-nil}
 use Rattle.std.proofs.lemmas.List.Concat.{flat_map-append}
 use Rattle.std.proofs.lemmas.List.Elements.{All-head, All-tail}
-use Rattle.std.proofs.lemmas.List.Sums.{sum_by-append}
+use Rattle.std.proofs.lemmas.List.Sums.{sum_by-append, sum_by-cons}
 use Rattle.gate_world.specs.Octets.{Asks, client_gave_in}
 use Rattle.gate_world.specs.declared.event.Event.{Event}
 use Rattle.gate_world.specs.declared.event.Event.TheVariants.{ClientEnded, FrontFailed}
@@ -88,9 +88,9 @@ chunk_stands octets rest started after size due e events earlier long whole ends
 chunk_stands octets rest started after size due e events earlier long whole ends (AtReturn read stops) =
     let same = same_front started octets after (13 ∷ 10 ∷ rest) (read ∙ sym long) whole in
     octet_stands 13 (10 ∷ rest) after due e events earlier same.1 ends stops
-chunk_stands octets rest started after size due e events earlier long whole ends (AtFeed data is read stops) =
-    let parts : data ++ (13 ∷ after) ≡ octets ++ (13 ∷ 10 ∷ rest) = sym (append_assoc data (13 ∷ []) after) ∙ ap (λ (l : List ℕ). l ++ after) (sym is) ∙ whole in
-    let same = same_front data octets (13 ∷ after) (13 ∷ 10 ∷ rest) (read ∙ sym long) parts in
+chunk_stands octets rest started after size due e events earlier long whole ends (AtFeed front is read stops) =
+    let parts : front ++ (13 ∷ after) ≡ octets ++ (13 ∷ 10 ∷ rest) = sym (append_assoc front (13 ∷ []) after) ∙ ap (λ (l : List ℕ). l ++ after) (sym is) ∙ whole in
+    let same = same_front front octets (13 ∷ after) (13 ∷ 10 ∷ rest) (read ∙ sym long) parts in
     let left : after ≡ 10 ∷ rest = cc (same.1) in
     octet_stands 10 rest after due e events earlier left ends stops
 
@@ -141,31 +141,31 @@ line_there line rest other more size count is is_other whole = (one_line line ot
 body_stands : (limit : ℕ) (cs more : List Chunk) (due : Due) (started after last trailer rest : List ℕ) (e : HttpError) (events earlier : List Event)
     → All IsChunk more → IsLine last 0 → IsTrailer trailer → length (content cs) + length (content more) ≤ limit → excess_of cs + excess_of more ≤ MAX_EXCESS_OCTETS
     → started ++ after ≡ body_text more last trailer ++ rest → EndsBy e due after events earlier → BodyStops limit cs due started after e → IsOfOutside e
-body_stands limit cs [] due started after last trailer rest e events earlier all is_last is_trailer data few whole ends (AtLine none stops) =
+body_stands limit cs [] due started after last trailer rest e events earlier all is_last is_trailer within few whole ends (AtLine none stops) =
     line_stands last (trailer ++ rest) after 0 due e is_last (ap (λ (l : List ℕ). l ++ after) (sym none) ∙ whole ∙ append_assoc last trailer rest) stops
-body_stands limit cs (m ∷ ms) due started after last trailer rest e events earlier all is_last is_trailer data few whole ends (AtLine none stops) =
+body_stands limit cs (m ∷ ms) due started after last trailer rest e events earlier all is_last is_trailer within few whole ends (AtLine none stops) =
     line_stands m.line ((m.data_octets ++ 13 ∷ 10 ∷ []) ++ (body_text ms last trailer ++ rest)) after (length m.data_octets) due e (All-head IsChunk m ms all).line
     (ap (λ (l : List ℕ). l ++ after) (sym none) ∙ whole ∙ regroup m.line (m.data_octets ++ 13 ∷ 10 ∷ []) (texts_of ms) (last ++ trailer) rest) stops
-body_stands limit cs [] due started after last trailer rest e events earlier all is_last is_trailer data few whole ends (AtExcess size is some over dues bad) =
+body_stands limit cs [] due started after last trailer rest e events earlier all is_last is_trailer within few whole ends (AtExcess size is some over dues bad) =
     let same = line_there started after last (trailer ++ rest) size 0 is is_last (whole ∙ append_assoc last trailer rest) in
     absurd (omega (arith, same, some))
-body_stands limit cs (m ∷ ms) due started after last trailer rest e events earlier all is_last is_trailer data few whole ends (AtExcess size is some over dues bad) =
+body_stands limit cs (m ∷ ms) due started after last trailer rest e events earlier all is_last is_trailer within few whole ends (AtExcess size is some over dues bad) =
     let same = one_line started m.line after ((m.data_octets ++ 13 ∷ 10 ∷ []) ++ (body_text ms last trailer ++ rest)) size (length m.data_octets) is
     (All-head IsChunk m ms all).line (whole ∙ regroup m.line (m.data_octets ++ 13 ∷ 10 ∷ []) (texts_of ms) (last ++ trailer) rest) in
-    let sum : excess_of (m ∷ ms) ≡ excess m.line + excess_of ms = sum_by-append (λ (k : Chunk). excess k.line) (m ∷ []) ms in
+    let sum : excess_of (m ∷ ms) ≡ excess m.line + excess_of ms = sum_by-cons (λ (k : Chunk). excess k.line) m ms in
     absurd (omega (arith, over, few, sum, ap excess same.0))
-body_stands limit cs [] due started after last trailer rest e events earlier all is_last is_trailer data few whole ends (AtLimit size is keeps over dues large) =
+body_stands limit cs [] due started after last trailer rest e events earlier all is_last is_trailer within few whole ends (AtLimit size is keeps over dues large) =
     let same = line_there started after last (trailer ++ rest) size 0 is is_last (whole ∙ append_assoc last trailer rest) in
-    absurd (omega (arith, same, over, data))
-body_stands limit cs (m ∷ ms) due started after last trailer rest e events earlier all is_last is_trailer data few whole ends (AtLimit size is keeps over dues large) =
+    absurd (omega (arith, same, over, within))
+body_stands limit cs (m ∷ ms) due started after last trailer rest e events earlier all is_last is_trailer within few whole ends (AtLimit size is keeps over dues large) =
     let same = one_line started m.line after ((m.data_octets ++ 13 ∷ 10 ∷ []) ++ (body_text ms last trailer ++ rest)) size (length m.data_octets) is
     (All-head IsChunk m ms all).line (whole ∙ regroup m.line (m.data_octets ++ 13 ∷ 10 ∷ []) (texts_of ms) (last ++ trailer) rest) in
-    absurd (omega (arith, over, data, same.1, length-append m.data_octets (content ms)))
-body_stands limit cs [] due started after last trailer rest e events earlier all is_last is_trailer data few whole ends (InChunk line read size is said some keeps fits stops) =
+    absurd (omega (arith, over, within, same.1, length-append m.data_octets (content ms)))
+body_stands limit cs [] due started after last trailer rest e events earlier all is_last is_trailer within few whole ends (InChunk line read size is said some keeps fits stops) =
     let same = line_there line (read ++ after) last (trailer ++ rest) size 0 said is_last
     (sym (append_assoc line read after) ∙ ap (λ (l : List ℕ). l ++ after) (sym is) ∙ whole ∙ append_assoc last trailer rest) in
     absurd (omega (arith, same, some))
-body_stands limit cs (m ∷ ms) due started after last trailer rest e events earlier all is_last is_trailer data few whole ends
+body_stands limit cs (m ∷ ms) due started after last trailer rest e events earlier all is_last is_trailer within few whole ends
     (InChunk line read size is said some keeps fits stops) =
     let same = one_line line m.line (read ++ after) ((m.data_octets ++ 13 ∷ 10 ∷ []) ++ (body_text ms last trailer ++ rest)) size (length m.data_octets) said
     (All-head IsChunk m ms all).line
@@ -173,15 +173,15 @@ body_stands limit cs (m ∷ ms) due started after last trailer rest e events ear
     ∙ regroup m.line (m.data_octets ++ 13 ∷ 10 ∷ []) (texts_of ms) (last ++ trailer) rest) in
     chunk_stands m.data_octets (body_text ms last trailer ++ rest) read after size due e events earlier (sym same.1)
     (same.2 ∙ append_assoc m.data_octets (13 ∷ 10 ∷ []) (body_text ms last trailer ++ rest)) ends stops
-body_stands limit cs [] due started after last trailer rest e events earlier all is_last is_trailer data few whole ends (AtTrailer is stops) =
+body_stands limit cs [] due started after last trailer rest e events earlier all is_last is_trailer within few whole ends (AtTrailer is stops) =
     let same = one_line started last after (trailer ++ rest) 0 0 is is_last (whole ∙ append_assoc last trailer rest) in
     trailer_stands trailer rest after due e is_trailer same.2 stops
-body_stands limit cs (m ∷ ms) due started after last trailer rest e events earlier all is_last is_trailer data few whole ends (AtTrailer is stops) =
+body_stands limit cs (m ∷ ms) due started after last trailer rest e events earlier all is_last is_trailer within few whole ends (AtTrailer is stops) =
     let is_chunk = All-head IsChunk m ms all in
     let same = line_there started after m.line ((m.data_octets ++ 13 ∷ 10 ∷ []) ++ (body_text ms last trailer ++ rest)) 0 (length m.data_octets) is is_chunk.line
     (whole ∙ regroup m.line (m.data_octets ++ 13 ∷ 10 ∷ []) (texts_of ms) (last ++ trailer) rest) in
     absurd (omega (arith, same, is_chunk.some))
-body_stands limit cs more due started after last trailer rest e events earlier all is_last is_trailer data few whole ends (AtEnd line section is said is_section dues memory) =
+body_stands limit cs more due started after last trailer rest e events earlier all is_last is_trailer within few whole ends (AtEnd line section is said is_section dues memory) =
     inr memory
 
 -- an event that gives none
@@ -213,8 +213,8 @@ no_body_refusal limit body text rest before after e events is within whole
     sym (append_assoc (texts_of chunks) started after) ∙ ap (λ (l : List ℕ). l ++ after) (sym parts) ∙ sym takes.octets ∙ ap (λ (l : List ℕ). before ++ l) (sym gave) ∙ whole
     ∙ ap (λ (l : List ℕ). l ++ rest) is.whole in
     let left = chunks_left chunks is.chunks started after is.last is.trailer rest all is.are_chunks is.is_last octets in
-    let data : content is.chunks ≡ content chunks ++ content left.more = ap content left.whole ∙ flat_map-append data_of chunks left.more in
+    let all_content : content is.chunks ≡ content chunks ++ content left.more = ap content left.whole ∙ flat_map-append data_of chunks left.more in
     let lines : excess_of is.chunks ≡ excess_of chunks + excess_of left.more = ap excess_of left.whole ∙ sum_by-append (λ (k : Chunk). excess k.line) chunks left.more in
     body_stands limit chunks left.more due started after is.last is.trailer rest e events earlier left.all is.is_last is.is_trailer
-    (omega (arith, within, ap length is.body_is, ap length data, length-append (content chunks) (content left.more)))
+    (omega (arith, within, ap length is.body_is, ap length all_content, length-append (content chunks) (content left.more)))
     (omega (arith, is.few, lines)) left.octets ends stops

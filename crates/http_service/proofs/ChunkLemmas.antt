@@ -110,7 +110,7 @@ LineRead before after body over count size events = (chunks : List Chunk) × (li
 
 -- what was read keeps to its limits
 pub record Keeps (limit : ℕ) (body : List ℕ) (over : ℕ) : Type 0 where
-  pub data : length body ≤ limit
+  pub octets : length body ≤ limit
   pub lines : over ≤ MAX_EXCESS_OCTETS
 
 pub after_line : {a b : List ℕ} {xs : List Event} (body : List ℕ) (over : ℕ) (c : List ℕ) (count size : ℕ) (ys : List Event) → Gathered a b body over xs
@@ -125,7 +125,7 @@ line_stops {a} {b} limit body over c e ys keeps (chunks, all, takes, is, so) rea
       text,
       all,
       refl,
-      subst (λ (l : List ℕ). length l ≤ limit) is keeps.data,
+      subst (λ (l : List ℕ). length l ≤ limit) is keeps.octets,
       subst (λ (n : ℕ). n ≤ MAX_EXCESS_OCTETS) so keeps.lines,
       AtLine stops.0 stops.1,
     ))
@@ -143,7 +143,7 @@ excess_stops {xs = xs} limit body over count size keeps some passes (chunks, lin
     line,
     all,
     refl,
-    subst (λ (l : List ℕ). length l ≤ limit) is keeps.data,
+    subst (λ (l : List ℕ). length l ≤ limit) is keeps.octets,
     subst (λ (n : ℕ). n ≤ MAX_EXCESS_OCTETS) so keeps.lines,
     AtExcess size said (omega (arith, some)) (subst (λ (n : ℕ). MAX_EXCESS_OCTETS < excess_of chunks + (n - FREE_LINE_OCTETS)) long
         (subst (λ (n : ℕ). MAX_EXCESS_OCTETS < n + (count - FREE_LINE_OCTETS)) so passes)) refl refl,
@@ -170,7 +170,7 @@ limit_stops {xs = xs} limit body over count size keeps few passes (chunks, line,
     line,
     all,
     refl,
-    subst (λ (l : List ℕ). length l ≤ limit) is keeps.data,
+    subst (λ (l : List ℕ). length l ≤ limit) is keeps.octets,
     subst (λ (n : ℕ). n ≤ MAX_EXCESS_OCTETS) so keeps.lines,
     AtLimit size said (lines_kept chunks line over count so long few) (subst (λ (l : List ℕ). limit < length l + size) is passes) refl refl,
   ),
@@ -185,7 +185,7 @@ trailer_stops {a} {b} limit body over count c e ys keeps (chunks, line, all, tak
       line ++ text,
       all,
       append_assoc (texts_of chunks) line text,
-      subst (λ (l : List ℕ). length l ≤ limit) is keeps.data,
+      subst (λ (l : List ℕ). length l ≤ limit) is keeps.octets,
       subst (λ (n : ℕ). n ≤ MAX_EXCESS_OCTETS) so keeps.lines,
       AtTrailer (subst (λ (l : List ℕ). IsLine l 0) (sym none) said) stops.1,
     ))
@@ -242,7 +242,7 @@ body_read limit body over count c ys keeps (chunks, line, all, takes, is, so, sa
     whole = append_assoc (texts_of chunks) line trailer;
     body_is = is;
   },
-  keeps.data,
+  keeps.octets,
 )
 
 -- the whole body, and then memory ran out
@@ -259,7 +259,7 @@ body_memory {xs = xs} limit body over count c ys keeps (chunks, line, all, takes
     line ++ trailer,
     all,
     append_assoc (texts_of chunks) line trailer,
-    subst (λ (l : List ℕ). length l ≤ limit) is keeps.data,
+    subst (λ (l : List ℕ). length l ≤ limit) is keeps.octets,
     subst (λ (n : ℕ). n ≤ MAX_EXCESS_OCTETS) so keeps.lines,
     AtEnd line trailer refl said is_trailer refl refl,
   ),

@@ -448,12 +448,16 @@ section_init fields lf all =
     let at : run Begun (flat_map print_field fields) ≡ Begun = ap (run Begun) (sym (append-nil (flat_map print_field fields))) ∙ fields_more fields [] all in
     (flat_map print_field fields, refl, λ ended. absurd (let k = sym at ∙ ended in cc))
 
+-- a trailer section hasn't ended before its last octet
+pub section_open : (octets more : List ℕ) (fields : List Field) (last : LineEnd) → ReadsSection (octets ++ more) fields last [] → more ≢ [] → run Begun octets ≢ Ended
+section_open octets more fields last (all, whole) some =
+    let init = section_init fields last all in
+    cut_before Begun octets more init.0 10 (whole ∙ append-nil (print_section fields last) ∙ init.1) some init.2
+
 -- a trailer section that may go on
 pub trailer_open : (octets : List ℕ) → HasNoSection octets → MayBecomeSection octets → run Begun octets ≢ Ended
-trailer_open octets none (more, fields, last, (all, whole)) =
-    let init = section_init fields last all in
-    cut_before Begun octets more init.0 10 (whole ∙ append-nil (print_section fields last) ∙ init.1)
-    (goes_on octets more (λ text. ReadsSection text fields last []) (none fields last []) (all, whole)) init.2
+trailer_open octets none (more, fields, last, reads) =
+    section_open octets more fields last reads (goes_on octets more (λ text. ReadsSection text fields last []) (none fields last []) reads)
 
 version_more : (minor : ℕ) (rest : List ℕ) → run Inside (print_version minor ++ rest) ≡ run Inside rest
 version_more minor rest =
@@ -485,11 +489,10 @@ pub no_head_in_target : (octets : List ℕ) (h : RequestHead) (rest : List ℕ) 
 no_head_in_target octets h rest cut (is, whole) =
     no_end Head octets (λ ended. absurd (let k = sym (inside_target octets cut) ∙ ended in cc)) (subst (HaveEnd HeadLines) (sym whole) (head_end h rest is))
 
--- a head that may go on
-pub head_open : (octets : List ℕ) → HasNoRequest octets → MayBecomeRequest octets → run Blank octets ≢ Ended
-head_open octets none (inl (more, h, (is, whole))) =
-    cut_before Blank octets more (lead init.0) 10 text (goes_on octets more (λ t. ReadsRequest t h []) (none h []) (is, whole))
-    (λ ended. init.2 (sym (request_more h init.0 is) ∙ ended))
+-- a head hasn't ended before its last octet
+pub request_open : (octets more : List ℕ) (h : RequestHead) → ReadsRequest (octets ++ more) h [] → more ≢ [] → run Blank octets ≢ Ended
+request_open octets more h (is, whole) some =
+    cut_before Blank octets more (lead init.0) 10 text some (λ ended. init.2 (sym (request_more h init.0 is) ∙ ended))
   where
     lead : List ℕ → List ℕ
     lead rest = print_blank h.blank ++ (h.method ++ 32 ∷ (h.target ++ 32 ∷ (print_version h.minor ++ (print_end h.line_end ++ rest))))
@@ -506,4 +509,9 @@ head_open octets none (inl (more, h, (is, whole))) =
         ∙ print_request-append h []
         ∙ ap lead (append-nil (print_section h.fields h.last) ∙ init.1)
         ∙ regroup (print_blank h.blank) h.method h.target (print_version h.minor) (print_end h.line_end) init.0 (10 ∷ [])
+
+-- a head that may go on
+pub head_open : (octets : List ℕ) → HasNoRequest octets → MayBecomeRequest octets → run Blank octets ≢ Ended
+head_open octets none (inl (more, h, reads)) =
+    request_open octets more h reads (goes_on octets more (λ t. ReadsRequest t h []) (none h []) reads)
 head_open octets none (inr cut) = λ ended. absurd (let k = sym (inside_target octets cut) ∙ ended in cc)

@@ -1,5 +1,5 @@
 -- Where lines stand, as far as it takes to see that the line end that ends them hasn't come.
-use Rattle.std.specs.Prelude.{ℕ, ◌==◌, if◌then◌else◌, List, [], ◌∷◌}
+use Rattle.std.specs.Prelude.{◌≡◌, ◌⊎◌, ℕ, ◌==◌, if◌then◌else◌, List, [], ◌∷◌, length, take}
 use Rattle.http_service.specs.declared.lines.Lines.{Lines}
 use Rattle.http_service.specs.declared.lines.Lines.TheVariants.{Head, ChunkLine, Trailer}
 use Rattle.http_service.specs.Taking.{HeadLines, ChunkLine as LineOfChunk, TrailerLines}
@@ -32,3 +32,7 @@ step Ended c = Ended
 abbrev pub run : Place → List ℕ → Place
 run place [] = place
 run place (c ∷ octets) = run (step place c) octets
+
+-- such lines are the first n octets, or all of them where the line end that ends them isn't there
+abbrev pub EndAt : Lines → List ℕ → ℕ → Type 0
+EndAt lines octets n = (run (start lines) (take n octets) ≡ Ended) ⊎ (n ≡ length octets)

@@ -1,4 +1,4 @@
-use Rattle.std.proofs.Common.{ap, sym, subst, ◌∙◌, List, ℕ, Option, Ok, Err, Some, None, ◌++◌}
+use Rattle.std.proofs.Common.{ap, sym, subst, arith, ◌∙◌, List, ℕ, Option, Ok, Err, Some, None, ◌++◌}
 use Rattle.std.proofs.lemmas.Result.{err_from_is_err_and}
 use Rattle.gate_world.proofs.Joins.{widen}
 use Rattle.http_service.specs.declared.lines.Lines.TheVariants as lines
@@ -44,6 +44,14 @@ returns-in-Some-clause-tape g c =
     let found = line_found c.read_lines.new.spare c.in-Some.length c.in-Some.size parses in
     let whole = found.1 ∙ ap (λ (l : List ℕ). found.0 ++ l) (sym c.skip.ensures) in
     widen _ c.in_ok-stop.ensures.tape (λ es reads. (found.0, lines_read lines.ChunkLine c.in_ok-stop.stop found.0 c.skip.new.self reads whole found.4, found.2, found.5))
+
+pub returns-in-Some-clause-short : goal.returns-in-Some-clause-short
+returns-in-Some-clause-short g c =
+    let here = c.window.ensures ∙ ap window c.as_slice.ensures in
+    let parses = subst (λ (l : List ℕ). ParsesLine l (Ok (Some (c.in-Some.length, c.in-Some.size)))) here
+    (subst (λ (r : Option (ℕ × ℕ)). ParsesLine c.window.result.now (Ok r)) c.in-Some.is c.in_ok-length.ensures) in
+    let found = line_found c.read_lines.new.spare c.in-Some.length c.in-Some.size parses in
+    omega (arith, found.5, found.2.4)
 
 pub returns-in-Full-clause-tape : goal.returns-in-Full-clause-tape
 returns-in-Full-clause-tape g c =
