@@ -70,7 +70,11 @@ const HEADS: [(u16, usize, &[u8], &[u8]); 10] = [
     ),
 ];
 
-fn expect_head(rt: &impl Abort, alloc: Global, row: &(u16, usize, &[u8], &[u8])) -> Result<(), Fail> {
+fn expect_head(
+    rt: &impl Abort,
+    alloc: Global,
+    row: &(u16, usize, &[u8], &[u8]),
+) -> Result<(), Fail> {
     let status = StatusCode::from_u16(row.0)?;
     let media = MediaType::new(row.2).ok_or("no media type")?;
     let body = vec![in alloc; b'x'; row.1]?;
