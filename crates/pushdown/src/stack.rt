@@ -74,6 +74,23 @@ impl<S: Copy> Stack<S> {
         Some(symbol)
     }
 
+    /// Takes the first symbol off, where another stands after it: whether one does.
+    pub fn end_first(&mut self) -> bool
+        ensures ended { result ≡ true → symbols_of self.new ≡ drop 1 (symbols_of self.old) }
+        ensures some { result ≡ true → 0 < length (symbols_of self.new) }
+        ensures left { result ≡ false → symbols_of self.new ≡ symbols_of self.old }
+    {
+        if self.count < 2 {
+            return false;
+        }
+        self.first = self.second;
+        self.second = self.third;
+        self.third = self.fourth;
+        self.fourth = self.fifth;
+        self.count -= 1;
+        true
+    }
+
     /// The symbol that is read first.
     pub fn first(&self) -> Option<S>
         ensures { MatchOption result (symbols_of self.now ≡ []) (λ s. symbols_of self.now ≡ s ∷ drop 1 (symbols_of self.now)) }

@@ -3,7 +3,7 @@ use Rattle.pushdown.specs.Flow.{CanStep}
 use Rattle.pushdown.specs.Symbols.{symbols_of}
 use Rattle.pushdown.proofs.Room.{two_room}
 use Rattle.pushdown.proofs.Whole.{ready_can}
-use Rattle.pushdown.proofs.runs.advance_within.Goals as goal
+use Rattle.pushdown.proofs.runs.+advance_within.Goals as goal
 
 pub push-requires : goal.push-requires
 push-requires g c =
