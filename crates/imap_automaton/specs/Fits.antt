@@ -1,7 +1,6 @@
 -- What the registers of a symbol keep.
 use Rattle.std.specs.Prelude.{Bool, true, not, ◌&&◌, ◌||◌, nat_lt, nat_le, ◌==◌, length}
-use Rattle.imap_keywords.specs.declared.count.Pending.{Pending}
-use Rattle.imap_keywords.specs.declared.count.Pending.TheVariants as pending
+use Rattle.imap_keywords.specs.Counts.{PendFits}
 use Rattle.imap_automaton.specs.declared.sym.Line.{Line}
 use Rattle.imap_automaton.specs.declared.sym.Line.TheVariants as line
 use Rattle.imap_automaton.specs.declared.sym.Free.{Free}
