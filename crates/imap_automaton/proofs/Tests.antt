@@ -6,7 +6,6 @@ use Rattle.imap_automaton.specs.declared.sym.Sym.{Sym}
 use Rattle.pushdown.specs.declared.moves.Move.{Move}
 use Rattle.imap_syntax.specs.Texts.{crlf}
 use Rattle.imap_automaton.specs.Langs.{AfterMove}
-
 use Rattle.pushdown.proofs.Lists.{cons_head}
 
 -- what is still read after the move that a test chose
