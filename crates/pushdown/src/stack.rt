@@ -28,7 +28,7 @@ impl<S: Copy> Clone for Stack<S> {
 impl<S: Copy> Copy for Stack<S> {}
 
 impl<S: Copy> Stack<S> {
-    ghost use Rattle.std.specs.Prelude.{◌≡◌, ◌<◌, drop, List, [], ◌∷◌, length, MatchOption, IsTrue, ◌↔◌};
+    ghost use Rattle.std.specs.Prelude.{◌≡◌, ◌<◌, true, false, drop, List, [], ◌∷◌, length, MatchOption, IsTrue, ◌↔◌};
     ghost use Rattle.pushdown.specs.Symbols.{symbols_of};
 
     /// A stack of one symbol.
