@@ -6,6 +6,7 @@ use Rattle.std.proofs.lemmas.Slice.Eq.{bytes_eq-Decides}
 use Rattle.imap_values.specs.reading.Spans.{span, cap, count_from, all_digits}
 use Rattle.imap_syntax.specs.Octets.{is_digit, lower}
 use Rattle.imap_keywords.proofs.Texts.{drop_at}
+use Rattle.imap_keywords.proofs.Texts.{drop_at}
 
 pub span_more : (p : ℕ → Bool) (b : List ℕ) (i : ℕ) → i < length b → p (get_or b i 0) ≡ true → span p (drop i b) ≡ 1 + span p (drop (i + 1) b)
 unfolding span
