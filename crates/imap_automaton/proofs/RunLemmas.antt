@@ -8,12 +8,15 @@ use Rattle.imap_automaton.specs.declared.sym.Sym.TheVariants as sym
 use Rattle.imap_automaton.specs.declared.sym.Names.TheVariants as names
 use Rattle.imap_keywords.specs.Keys.{key_text, in_word, goes_on}
 use Rattle.imap_automaton.specs.WordRules.{word_rule}
+use Rattle.imap_automaton.specs.declared.sym.Line.TheVariants as line
+use Rattle.imap_automaton.specs.LineRules.{line_rule}
 use Rattle.imap_automaton.specs.NamesRules.{names_rule}
+use Rattle.imap_keywords.proofs.Classes.{text_not_cr}
 use Rattle.imap_automaton.specs.Rules.{rule_of}
 use Rattle.imap_automaton.specs.Fits.{SymFits}
 use Rattle.imap_automaton.specs.Responses.{responses}
 use Rattle.imap_automaton.proofs.Lawful.{responses_lawful}
-use Rattle.imap_syntax.specs.Octets.{is_atom, lower}
+use Rattle.imap_syntax.specs.Octets.{is_text, is_atom, lower}
 use Rattle.pushdown.specs.declared.moves.Move.TheVariants as move
 use Rattle.pushdown.proofs.Room as room
 
@@ -28,3 +31,7 @@ word_stays p k at c i g = rw (i, g) refl
 -- an atom that goes on
 pub atom_stays : (c : ℕ) → is_atom c ≡ true → names_rule names.AtomRest c ≡ move.One (sym.Names names.AtomRest)
 atom_stays c e = rw e refl
+
+-- a line's text that goes on
+pub text_stays : (c : ℕ) → is_text c ≡ true → line_rule line.Text c ≡ move.One (sym.Line line.Text)
+text_stays c e = rw (text_not_cr c e, e) refl
