@@ -1,12 +1,14 @@
 -- Runs of octets that one symbol takes.
-use Rattle.std.proofs.Common.{◌≡◌, ℕ, ◌+◌, ◌≤◌, true, length, refl, arith}
+use Rattle.std.proofs.Common.{◌≡◌, ◌∙◌, cond, ℕ, ◌+◌, true, refl}
+use Rattle.std.specs.Prelude.{◌==◌}
+use Rattle.std.proofs.lemmas.Bool.{cond-true, cond-false}
 use Rattle.imap_keywords.specs.declared.key.Key.{Key}
-use Rattle.imap_keywords.specs.declared.key.Key.TheVariants as key
+use Rattle.imap_keywords.specs.declared.phrase.Phrase.TheVariants as phrase
 use Rattle.imap_keywords.specs.declared.key.Place.{Place}
 use Rattle.imap_automaton.specs.declared.sym.Sym.{Sym}
 use Rattle.imap_automaton.specs.declared.sym.Sym.TheVariants as sym
 use Rattle.imap_automaton.specs.declared.sym.Names.TheVariants as names
-use Rattle.imap_keywords.specs.Keys.{key_text, in_word, goes_on}
+use Rattle.imap_keywords.specs.Keys.{in_word, goes_on}
 use Rattle.imap_automaton.specs.WordRules.{word_rule}
 use Rattle.imap_automaton.specs.declared.sym.Line.TheVariants as line
 use Rattle.imap_automaton.specs.LineRules.{line_rule}
@@ -34,4 +36,6 @@ atom_stays c e = rw e refl
 
 -- a line's text that goes on
 pub text_stays : (c : ℕ) → is_text c ≡ true → line_rule line.Text c ≡ move.One (sym.Line line.Text)
-text_stays c e = rw (text_not_cr c e, e) refl
+text_stays c e =
+    cond-false (c == 13) (move.One (sym.Line (line.Fixed phrase.Crlf 1))) (cond (is_text c) (move.One (sym.Line line.Text)) move.Fail) (text_not_cr c e)
+    ∙ cond-true (is_text c) (move.One (sym.Line line.Text)) move.Fail e
