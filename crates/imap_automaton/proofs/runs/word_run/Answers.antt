@@ -29,7 +29,7 @@ loop-count-preserved c =
     let word = sym.Word c.args.place c.args.key in
     let key = key_text c.args.key in
     let text : (nat_lt at (length key) && get_or key at 0 == lower octet) ≡ true =
-    ap (λ (t : List ℕ). nat_lt at (length t) && get_or t at 0 == lower octet) (sym c.key_text.ensures) ∙ sym c.goes_with.ensures ∙ c.if-goes_with.true in
+    ap (λ (t : List ℕ). nat_lt at (length t) && get_or t at 0 == lower octet) (sym c.key_text-text.ensures) ∙ sym c.goes_with.ensures ∙ c.if-goes_with.true in
     let on : goes_on c.args.key at (lower octet) c.args.key ≡ true = and_from _ _ text (self_same (take at key)) in
     let next = goes_to c.args.key c.args.key at (lower octet) on in
     let same : at + 1 ≡ c.args.at + (count + 1) = omega arith in
