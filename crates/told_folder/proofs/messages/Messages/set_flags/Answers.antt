@@ -1,4 +1,4 @@
-use Rattle.std.proofs.Common.{◌≡◌, ◌∙◌, ℕ, List, Some, None, ap, sym, subst, set, arith, nat_cmp, length}
+use Rattle.std.proofs.Common.{◌≡◌, ◌∙◌, List, Some, None, ap, sym, subst, arith, nat_cmp}
 use Rattle.std.specs.BTreeMap.{values, is_at}
 use Rattle.std.specs.Map.{lookup, values_of}
 use Rattle.told_folder.specs.Folders.{uid_of}
