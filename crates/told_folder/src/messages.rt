@@ -208,9 +208,10 @@ impl Messages {
         }
     }
 
-    /// Gives the message of the UID these flags.
+    /// Gives the message of the UID these flags, where it is held.
     pub fn set_flags(&mut self, uid: u32, flags: Names)
-        ensures { (x : Message) → with_key uid_of uid self.old ≡ Some x → self.new ≡ put_keyed uid_of (record x { flags = flags }) self.old }
+        ensures held { (x : Message) → with_key uid_of uid self.old ≡ Some x → self.new ≡ put_keyed uid_of (record x { flags = flags }) self.old }
+        ensures none { with_key uid_of uid self.old ≡ None → self.new ≡ self.old }
     {
         match index_of(self.before.as_slice(), u64::from(uid)) {
             Ok(at) => {
