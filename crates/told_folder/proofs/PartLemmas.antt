@@ -1,5 +1,33 @@
 -- What holds of messages of which some stand in a vector, and those after them in a map.
-use Rattle.std.proofs.Common.{◌≡◌, ◌≢◌, ℕ, ◌+◌, ◌<◌, ◌≤◌, zero, suc, Bool, true, false, not, List, [], ◌∷◌, ◌++◌, Option, Some, None, length, get_or, set, take, drop, filter, find, refl}
+use Rattle.std.proofs.Common.{
+  ◌≡◌,
+  ◌≢◌,
+  ℕ,
+  ◌+◌,
+  ◌<◌,
+  ◌≤◌,
+  zero,
+  suc,
+  Bool,
+  true,
+  false,
+  not,
+  List,
+  [],
+  ◌∷◌,
+  ◌++◌,
+  Option,
+  Some,
+  None,
+  length,
+  get_or,
+  set,
+  take,
+  drop,
+  filter,
+  find,
+  refl,
+}
 use Rattle.std.proofs.Common.{sym, ap, ◌∙◌, subst, arith, inl, inr, cond, if◌then◌else◌, leb, le-leb, ◌&&◌, eq-eqb, ne_eqb, nat_cmp, lt-ltb, le-ltb, eqb, eqb-true, is_some}
 use Rattle.std.proofs.lemmas.Bool.{lt-leb}
 use Rattle.std.proofs.lemmas.List.{append_assoc, append-nil}
@@ -428,7 +456,8 @@ above_all k (z ∷ xs) ys x up e =
     ] refl e
 
 -- a message that the first part holds is taken out
-pub cut_inside : (k : ℕ) (xs ys : List Message) (at : ℕ) → IsHeldAt uid_of k xs at → Ascends uid_of (xs ++ ys) → cut_keyed uid_of k (xs ++ ys) ≡ (take at xs ++ drop (suc at) xs) ++ ys
+pub cut_inside : (k : ℕ) (xs ys : List Message) (at : ℕ) → IsHeldAt uid_of k xs at → Ascends uid_of (xs ++ ys) → cut_keyed uid_of k (xs ++ ys) ≡ (take at xs ++ drop (suc at) xs)
+    ++ ys
 cut_inside k xs ys at held up =
     let item = item_at uid_of xs at held.within in
     let found : with_key uid_of k xs ≡ Some item.0 = sym (held_found uid_of k xs (ascends_left xs ys up) at held item.0 item.1) in

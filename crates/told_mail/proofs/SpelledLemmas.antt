@@ -46,7 +46,8 @@ fetch_fine seq items b s = elim s.spells.2 [ inl w ↦ fine_line items w.3.tail 
 
 not_zero : (d : Option ℕ) (t : List ℕ) → IsDelimiter d t → d ≢ Some 0
 not_zero None t i = λ e. absurd (some_is_not_none 0 (sym e))
-not_zero (Some c) t i = λ e. let none : is_text 0 ≡ true = subst (λ (k : ℕ). is_text k ≡ true) (some_same c 0 e) i.0.0 in let wrong : ◌≡◌ {A = Bool} false true = none in absurd (cc)
+not_zero (Some c) t i = λ e. let none : is_text 0 ≡ true = subst (λ (k : ℕ). is_text k ≡ true) (some_same c 0 e) i.0.0 in let wrong : ◌≡◌ {A = Bool} false true = none in absurd
+    (cc)
 
 fine_list : (attributes : List (List ℕ)) (delimiter : Option ℕ) (name t : List ℕ) → IsListLine attributes delimiter name t → (kept attributes ≡ attributes) × (delimiter ≢ Some 0)
 fine_list attributes delimiter name t l =

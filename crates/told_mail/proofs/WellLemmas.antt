@@ -9,8 +9,8 @@ use Rattle.imap_syntax.specs.declared.response.FetchItems.{FetchItems}
 use Rattle.imap_syntax.specs.declared.response.Response.{Response}
 use Rattle.imap_syntax.specs.declared.response.Response.TheVariants as response
 use Rattle.imap_syntax.specs.Items.{kept}
-use Rattle.told_folder.specs.Folders.{folder_number, uid_of}
-use Rattle.told_folder.specs.Keyed.{with_key, put_keyed, last_of}
+use Rattle.told_folder.specs.Folders.{folder_number, uid_of, held_in, messages_of, messages_in, with_messages}
+use Rattle.told_folder.specs.Keyed.{with_key, put_keyed, cut_keyed, last_of}
 use Rattle.told_folder.specs.Select.{after_closed, is_closed, modseq_told, last_told, validity_in, under, with_modseq}
 use Rattle.told_folder.specs.Tell.{Telling, tell_uid, tell_fetch, tell_response, tell_responses, with_flags, with_new, new_message, kept_header, covers}
 use Rattle.told_folder.specs.ToldBy.{adds, selected_first, ended_command, next_after, kept_after, past, past_told, telling_in, telling_by, told_by, uid_told, is_told}
@@ -25,19 +25,19 @@ use Rattle.told_mail.specs.Exchanges.{with_held, tell_held, tell_named, tell_ok,
 use Rattle.told_mail.specs.Spelled.{FitsSlice, AllSpelled, IsSpelled}
 use Rattle.told_mail.specs.Lists as lists
 use Rattle.told_mail.specs.Lists.{is_name, line_of, line_for, with_line, put_listed, listed, new_folder, new_names, with_new_folder, with_new_folders, tell_list}
-use Rattle.told_mail.specs.Mail.{Mail, named, is_same, IsWellFormedFolder, IsWellFormedMessage, IsWellFormedHeld, IsWellFormed}
+use Rattle.told_mail.specs.Mail.{Mail, named, is_same, IsWellFormedFolder, IsWellFormedMessage, IsWellFormedHeld, IsWellFormed, with_folder, with_message, without_folder, without_message}
 use Rattle.told_mail.proofs.SpelledLemmas.{AreFine, fetch_fine, list_fine}
 
 -- ---- lists of which each element has a property
 
-all_put : (P : Message → Type 0) (x : Message) (xs : List Message) → P x → AllByRecursion P xs → AllByRecursion P (put_keyed uid_of x xs)
-all_put P x [] p a = (p, tt)
-all_put P x (y ∷ ys) p a =
-    elim (ltb x.uid y.uid) as (λ b. AllByRecursion P (if b then x ∷ (y ∷ ys) else (if eqb x.uid y.uid then x ∷ ys else y ∷ put_keyed uid_of x ys))) [
+all_put : {X : Type 0} (key : X → ℕ) (P : X → Type 0) (x : X) (xs : List X) → P x → AllByRecursion P xs → AllByRecursion P (put_keyed key x xs)
+all_put key P x [] p a = (p, tt)
+all_put key P x (y ∷ ys) p a =
+    elim (ltb (key x) (key y)) as (λ b. AllByRecursion P (if b then x ∷ (y ∷ ys) else (if eqb (key x) (key y) then x ∷ ys else y ∷ put_keyed key x ys))) [
       | true ↦ (p, a)
-      | false ↦ elim (eqb x.uid y.uid) as (λ b. AllByRecursion P (if b then x ∷ ys else y ∷ put_keyed uid_of x ys)) [
+      | false ↦ elim (eqb (key x) (key y)) as (λ b. AllByRecursion P (if b then x ∷ ys else y ∷ put_keyed key x ys)) [
         | true ↦ (p, a.1)
-        | false ↦ (a.0, all_put P x ys p a.1)
+        | false ↦ (a.0, all_put key P x ys p a.1)
       ]
     ]
 
@@ -100,16 +100,16 @@ well_new t uid (Some fl) (Some d) (Some z) (Some h) f s =
     elim (ltb t.next_mark (2 ^ 53)) as (λ b. ltb t.next_mark (2 ^ 53) ≡ b → IsWellTold (with_new t (if b then Some x else None))) [
       | true ↦ λ e.
           let less : t.next_mark < 2 ^ 53 = ltb-true _ _ e in
-          (all_put IsWellFormedMessage x t.messages (record { marked = s.1; mark = less; flags = f fl refl }) s.0, omega arith, omega (arith, less))
+          (all_put uid_of IsWellFormedMessage x t.messages (record { marked = s.1; mark = less; flags = f fl refl }) s.0, omega arith, omega (arith, less))
       | false ↦ λ e. s
     ] refl
 
 well_uid : (a : Bool) (t : Telling) (uid : ℕ) (items : FetchItems) (o : Option Message) → AreFine items → IsWellTold t → with_key uid_of uid t.messages ≡ o
     → IsWellTold (tell_uid a t uid items o)
 well_uid true t uid items (Some x) f s e =
-    (all_put IsWellFormedMessage (with_flags x items.flags) t.messages (well_flags x items.flags f.flags (all_found IsWellFormedMessage uid t.messages x s.0 e)) s.0, s.1, s.2)
+    (all_put uid_of IsWellFormedMessage (with_flags x items.flags) t.messages (well_flags x items.flags f.flags (all_found IsWellFormedMessage uid t.messages x s.0 e)) s.0, s.1, s.2)
 well_uid false t uid items (Some x) f s e =
-    (all_put IsWellFormedMessage (with_flags x items.flags) t.messages (well_flags x items.flags f.flags (all_found IsWellFormedMessage uid t.messages x s.0 e)) s.0, s.1, s.2)
+    (all_put uid_of IsWellFormedMessage (with_flags x items.flags) t.messages (well_flags x items.flags f.flags (all_found IsWellFormedMessage uid t.messages x s.0 e)) s.0, s.1, s.2)
 well_uid true t uid items None f s e = well_new t uid items.flags items.date items.size items.header f.flags s
 well_uid false t uid items None f s e = s
 
@@ -307,3 +307,61 @@ well_formed m x fits sp w = by x.status
     by status.Ok = (let k = well_ok m x.command x.responses x.selected fits sp (w.folders, w.marked, w.marks, w.numbered, w.numbers) in
         record { folders = k.0; marked = k.1; marks = k.2; numbered = k.3; numbers = k.4 })
     by _ = w
+
+-- ---- what is put and cut
+
+all_messages : (hs : List Held) (n : ℕ) → AllByRecursion IsWellFormedHeld hs → AllByRecursion IsWellFormedMessage (messages_in hs n)
+all_messages [] n a = tt
+all_messages (h ∷ hs) n a =
+    elim (eqb (folder_number h) n) as (λ b. AllByRecursion IsWellFormedMessage (messages_of (if b then Some h else held_in hs n))) [
+      | true ↦ a.0.messages
+      | false ↦ all_messages hs n a.1
+    ]
+
+all_with_messages : (hs : List Held) (n : ℕ) (xs : List Message) → AllByRecursion IsWellFormedHeld hs → AllByRecursion IsWellFormedMessage xs
+    → AllByRecursion IsWellFormedHeld (with_messages hs n xs)
+all_with_messages [] n xs a m = tt
+all_with_messages (h ∷ hs) n xs a m =
+    elim (eqb (folder_number h) n) as (λ b. AllByRecursion IsWellFormedHeld (if b then record h { messages = xs } ∷ hs else h ∷ with_messages hs n xs)) [
+      | true ↦ (record { folder = a.0.folder; messages = m }, a.1)
+      | false ↦ (a.0, all_with_messages hs n xs a.1 m)
+    ]
+
+pub well_with_folder : (m : Mail) (f : Folder) → IsWellFormedFolder f → IsWellFormed m → IsWellFormed (with_folder m f)
+well_with_folder m f p w = record {
+  folders = all_put folder_number IsWellFormedHeld (record { folder = f; messages = messages_in m.folders f.number }) m.folders
+      (record { folder = p; messages = all_messages m.folders f.number w.folders }) w.folders;
+  marked = w.marked;
+  marks = w.marks;
+  numbered = omega (arith, w.numbered);
+  numbers = omega (arith, w.numbers, p.number);
+}
+
+pub well_with_message : (m : Mail) (n : ℕ) (x : Message) → IsWellFormedMessage x → IsWellFormed m → IsWellFormed (with_message m n x)
+well_with_message m n x p w = record {
+  folders = all_with_messages m.folders n (put_keyed uid_of x (messages_in m.folders n)) w.folders
+      (all_put uid_of IsWellFormedMessage x (messages_in m.folders n) p (all_messages m.folders n w.folders));
+  marked = omega (arith, w.marked);
+  marks = omega (arith, w.marks, p.mark);
+  numbered = w.numbered;
+  numbers = w.numbers;
+}
+
+pub well_without_folder : (m : Mail) (n : ℕ) → IsWellFormed m → IsWellFormed (without_folder m n)
+well_without_folder m n w = record {
+  folders = all_filter IsWellFormedHeld (λ (h : Held). not (eqb (folder_number h) n)) m.folders w.folders;
+  marked = w.marked;
+  marks = w.marks;
+  numbered = w.numbered;
+  numbers = w.numbers;
+}
+
+pub well_without_message : (m : Mail) (p : ℕ × ℕ) → IsWellFormed m → IsWellFormed (without_message m p)
+well_without_message m p w = record {
+  folders = all_with_messages m.folders p.0 (cut_keyed uid_of p.1 (messages_in m.folders p.0)) w.folders
+      (all_filter IsWellFormedMessage (λ (x : Message). not (eqb x.uid p.1)) (messages_in m.folders p.0) (all_messages m.folders p.0 w.folders));
+  marked = w.marked;
+  marks = w.marks;
+  numbered = w.numbered;
+  numbers = w.numbers;
+}
