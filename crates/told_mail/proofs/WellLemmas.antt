@@ -1,7 +1,6 @@
 -- What telling keeps of well-formed mail.
-use Rattle.std.proofs.Common.{◌≡◌, ◌≢◌, ℕ, ℤ, ◌+◌, ◌≤◌, ◌<◌, ◌^◌, Bool, true, false, not, List, [], ◌∷◌, ◌++◌, Option, Some, None, refl, sym, ap, ◌∙◌, subst, arith, max, filter}
+use Rattle.std.proofs.Common.{◌≡◌, ◌≢◌, ℕ, ℤ, ◌+◌, ◌≤◌, ◌<◌, ◌^◌, Bool, true, false, not, List, [], ◌∷◌, ◌++◌, Option, Some, None, refl, ◌∙◌, subst, arith, filter}
 use Rattle.std.proofs.Common.{ltb, ltb-true, eqb, is_some, unwrap_or, if◌then◌else◌}
-use Rattle.std.specs.Cmp.Lexicographic.{pointwise}
 use Rattle.std.specs.List.{AllByRecursion, filter_map, cons_option, list_any}
 use Rattle.imap_syntax.specs.declared.command.Command.{Command}
 use Rattle.imap_syntax.specs.declared.command.Command.TheVariants as command
@@ -13,19 +12,31 @@ use Rattle.told_folder.specs.Folders.{folder_number, uid_of, held_in, messages_o
 use Rattle.told_folder.specs.Keyed.{with_key, put_keyed, cut_keyed, last_of}
 use Rattle.told_folder.specs.Select.{after_closed, is_closed, modseq_told, last_told, validity_in, under, with_modseq}
 use Rattle.told_folder.specs.Tell.{Telling, tell_uid, tell_fetch, tell_response, tell_responses, with_flags, with_new, new_message, kept_header, covers}
-use Rattle.told_folder.specs.ToldBy.{adds, selected_first, ended_command, next_after, kept_after, past, past_told, telling_in, telling_by, told_by, uid_told, is_told}
+use Rattle.told_folder.specs.ToldBy.{adds, selected_first, next_after, kept_after, past, past_told, telling_in, telling_by, told_by, uid_told, is_told}
 use Rattle.told_folder.specs.declared.message.Folder.{Folder}
 use Rattle.told_folder.specs.declared.message.Held.{Held}
 use Rattle.told_folder.specs.declared.message.Message.{Message}
-use Rattle.told_folder.proofs.KeyedLemmas.{some_same, some_is_not_none}
+use Rattle.told_folder.proofs.KeyedLemmas.{some_same}
 use Rattle.imap_syntax.specs.declared.response.Status.{Status}
 use Rattle.imap_syntax.specs.declared.response.Status.TheVariants as status
 use Rattle.told_folder.specs.declared.exchange.Exchange.{Exchange}
 use Rattle.told_mail.specs.Exchanges.{with_held, tell_held, tell_named, tell_ok, tell_as, tell, responses_of, target}
 use Rattle.told_mail.specs.Spelled.{FitsSlice, AllSpelled, IsSpelled}
 use Rattle.told_mail.specs.Lists as lists
-use Rattle.told_mail.specs.Lists.{is_name, line_of, line_for, with_line, put_listed, listed, new_folder, new_names, with_new_folder, with_new_folders, tell_list}
-use Rattle.told_mail.specs.Mail.{Mail, named, is_same, IsWellFormedFolder, IsWellFormedMessage, IsWellFormedHeld, IsWellFormed, with_folder, with_message, without_folder, without_message}
+use Rattle.told_mail.specs.Lists.{is_name, line_of, line_for, put_listed, listed, new_folder, new_names, with_new_folder, with_new_folders, tell_list}
+use Rattle.told_mail.specs.Mail.{
+  Mail,
+  named,
+  is_same,
+  IsWellFormedFolder,
+  IsWellFormedMessage,
+  IsWellFormedHeld,
+  IsWellFormed,
+  with_folder,
+  with_message,
+  without_folder,
+  without_message,
+}
 use Rattle.told_mail.proofs.SpelledLemmas.{AreFine, fetch_fine, list_fine}
 
 -- ---- lists of which each element has a property
@@ -106,10 +117,16 @@ well_new t uid (Some fl) (Some d) (Some z) (Some h) f s =
 
 well_uid : (a : Bool) (t : Telling) (uid : ℕ) (items : FetchItems) (o : Option Message) → AreFine items → IsWellTold t → with_key uid_of uid t.messages ≡ o
     → IsWellTold (tell_uid a t uid items o)
-well_uid true t uid items (Some x) f s e =
-    (all_put uid_of IsWellFormedMessage (with_flags x items.flags) t.messages (well_flags x items.flags f.flags (all_found IsWellFormedMessage uid t.messages x s.0 e)) s.0, s.1, s.2)
-well_uid false t uid items (Some x) f s e =
-    (all_put uid_of IsWellFormedMessage (with_flags x items.flags) t.messages (well_flags x items.flags f.flags (all_found IsWellFormedMessage uid t.messages x s.0 e)) s.0, s.1, s.2)
+well_uid true t uid items (Some x) f s e = (
+  all_put uid_of IsWellFormedMessage (with_flags x items.flags) t.messages (well_flags x items.flags f.flags (all_found IsWellFormedMessage uid t.messages x s.0 e)) s.0,
+  s.1,
+  s.2,
+)
+well_uid false t uid items (Some x) f s e = (
+  all_put uid_of IsWellFormedMessage (with_flags x items.flags) t.messages (well_flags x items.flags f.flags (all_found IsWellFormedMessage uid t.messages x s.0 e)) s.0,
+  s.1,
+  s.2,
+)
 well_uid true t uid items None f s e = well_new t uid items.flags items.date items.size items.header f.flags s
 well_uid false t uid items None f s e = s
 

@@ -1,7 +1,7 @@
 use Rattle.std.proofs.Common.{◌≡◌, ◌<◌, ◌∙◌, ◌++◌, ◌∷◌, List, ap, sym, subst, arith, take, drop, length}
 use Rattle.std.specs.BTreeMap.{values}
 use Rattle.told_folder.specs.Folders.{uid_of}
-use Rattle.told_folder.specs.Keyed.{Ascends, put_keyed}
+use Rattle.told_folder.specs.Keyed.{Ascends}
 use Rattle.told_folder.specs.reading.Parts.{all_of}
 use Rattle.told_folder.specs.declared.message.Message.{Message}
 use Rattle.told_folder.proofs.KeyedLemmas.{ascends_put}
