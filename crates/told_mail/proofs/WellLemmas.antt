@@ -24,19 +24,8 @@ use Rattle.told_mail.specs.Exchanges.{with_held, tell_held, tell_named, tell_ok,
 use Rattle.told_mail.specs.Spelled.{FitsSlice, AllSpelled, IsSpelled}
 use Rattle.told_mail.specs.Lists as lists
 use Rattle.told_mail.specs.Lists.{is_name, line_of, line_for, put_listed, listed, new_folder, new_names, with_new_folder, with_new_folders, tell_list}
-use Rattle.told_mail.specs.Mail.{
-  Mail,
-  named,
-  is_same,
-  IsWellFormedFolder,
-  IsWellFormedMessage,
-  IsWellFormedHeld,
-  IsWellFormed,
-  with_folder,
-  with_message,
-  without_folder,
-  without_message,
-}
+use Rattle.told_mail.specs.Mail.{Mail, named, is_same, IsWellFormedFolder, IsWellFormedMessage, IsWellFormedHeld, IsWellFormed, with_folder, with_message, without_folder}
+use Rattle.told_mail.specs.Mail.{without_message}
 use Rattle.told_mail.proofs.SpelledLemmas.{AreFine, fetch_fine, list_fine}
 
 -- ---- lists of which each element has a property
