@@ -21,7 +21,7 @@ use Rattle.imap_client.specs.LinkLife.{LinkLife, ClientState, next_number, selec
 use Rattle.imap_client.specs.Obeying.{Obeys}
 use Rattle.imap_client.specs.Plans.{Planned, Follows}
 use Rattle.gate_machine.specs.Beginning.{RunsRound, Settles, Same, Moves, Spends, Lacks, AsksThen, PreparesMail}
-use Rattle.gate_machine.specs.History.{KnownMail, IsSpent, advance, known_mail}
+use Rattle.gate_machine.specs.History.{KnownMail, IsSpent, served_anew}
 use Rattle.gate_machine.specs.Obeying.{given_by, ObeysIn, Welcomes, IsRoundObeyed, IsObeyedBeginning, IsServed}
 use Rattle.gate_machine.specs.Progress.{Progress, ended_after, idle, standing_by, lost_by, blame_link}
 use Rattle.gate_machine.specs.declared.machine.Machine.{Machine}
@@ -114,7 +114,7 @@ settles_from (Lacks is a b) = is
 settled_ends : {before after : Progress} {events : List Event} → Settles before events after → ((k : KnownMail) → before.machine.known ≡ Some k → IsSpent k.history → ⊥)
     → IsServed after ⊎ (after.standing ≡ OutOfMemory)
 settled_ends (Same k is known a b c) room = inl (k, ap (λ (p : Progress). p.standing) c ∙ is, ap (λ (p : Progress). p.machine.known) c ∙ known)
-settled_ends (Moves k is a b c d e) room = inl (known_mail (advance k.history k.told), ap (λ (p : Progress). p.standing) e ∙ is, ap (λ (p : Progress). p.machine.known) e)
+settled_ends (Moves k is a b c d e) room = inl (served_anew k, ap (λ (p : Progress). p.standing) e ∙ is, ap (λ (p : Progress). p.machine.known) e)
 settled_ends (Spends k is known new spent a b) room = absurd (room k known spent)
 settled_ends (Lacks is a b) room = inr (ap (λ (p : Progress). p.standing) b)
 
