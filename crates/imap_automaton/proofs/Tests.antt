@@ -1,14 +1,11 @@
--- Moves by tests, and what the tests say of an octet.
-use Rattle.std.proofs.Common.{◌≡◌, ℕ, ◌+◌, ◌<◌, ◌≤◌, Bool, true, false, List, [], ◌∷◌, ◌++◌, length, drop, get_or, cond, refl, ap, ◌∙◌, arith}
+-- Moves by tests.
+use Rattle.std.proofs.Common.{◌≡◌, ℕ, ◌+◌, Bool, true, false, List, [], ◌∷◌, ◌++◌, cond, refl, ap, ◌∙◌}
 use Rattle.std.specs.Prelude.{◌==◌}
 use Rattle.std.proofs.lemmas.Bool.{eqb-false}
 use Rattle.imap_automaton.specs.declared.sym.Sym.{Sym}
 use Rattle.pushdown.specs.declared.moves.Move.{Move}
-use Rattle.imap_syntax.specs.Octets.{is_digit, is_alnum, is_text, is_word, is_atom}
 use Rattle.imap_syntax.specs.Texts.{crlf}
 use Rattle.imap_automaton.specs.Langs.{AfterMove}
-use Rattle.std.proofs.Math.Seq.{drop-cons}
-use Rattle.std.proofs.Common.{add-one}
 use Rattle.pushdown.proofs.Lists.{cons_head}
 
 -- what is still read after the move that a test chose
@@ -35,37 +32,7 @@ both false e f = absurd cc
 pub is_true_at : (p : ℕ → Bool) (c d : ℕ) → c ≡ d → p d ≡ true → p c ≡ true
 is_true_at p c d e h = ap p e ∙ h
 
--- ---- what a class says of an octet
-
--- the octets of digits
-pub digit_range : (c : ℕ) → is_digit c ≡ true → (48 ≤ c) × (c ≤ 57)
-digit_range c e = grind arith
-
--- a digit stands in words
-pub digit_word : (c : ℕ) → is_digit c ≡ true → is_word c ≡ true
-digit_word c e = grind arith
-
--- no digit opens a literal
-pub digit_no_brace : (c : ℕ) → is_digit c ≡ true → (c == 123) ≡ false
-digit_no_brace c e = grind arith
-
--- no letter and no digit is a space
-pub alnum_not_space : (c : ℕ) → is_alnum c ≡ true → (c == 32) ≡ false
-alnum_not_space c e = grind arith
-
--- no line ends within text
-pub text_not_cr : (c : ℕ) → is_text c ≡ true → (c == 13) ≡ false
-text_not_cr c e = grind arith
-
--- no octet of an atom opens a quoted text or a literal
-pub atom_apart : (c : ℕ) → is_atom c ≡ true → ((c == 34) ≡ false) × ((c == 123) ≡ false)
-atom_apart c e = (grind arith, grind arith)
-
 -- ---- texts
-
--- a text with its first octet
-pub drop_at : (l : List ℕ) (n : ℕ) → n < length l → drop n l ≡ get_or l n 0 ∷ drop (n + 1) l
-drop_at l n h = rw add-one (drop-cons l n 0 h)
 
 -- texts that begin differently
 pub apart : (c d : ℕ) (x y : List ℕ) → (c == d) ≡ false → c ∷ x ≡ d ∷ y → ⊥

@@ -2,14 +2,13 @@
 ghost use Rattle.std.specs.Prelude.{◌≡◌, ◌≤◌, IfOk, length, map};
 ghost use Rattle.imap_syntax.specs.Octets as classes;
 ghost use Rattle.imap_syntax.specs.Folders as folders;
-ghost use Rattle.imap_grammar.specs.reading.Spans as spans;
+ghost use Rattle.imap_values.specs.reading.Spans as spans;
 ghost use Rattle.imap_grammar.specs.reading.FolderReading as reading;
 
-use crate::flags::flags_in;
-use crate::octets::{before, behind, digits_len, is_key, long_of, octet_at};
-use crate::strings::astring_in;
 use gate_world::Bytes;
+use imap_keywords::is_status_word;
 use imap_syntax::{Response, StatusItems};
+use imap_values::{astring_in, before, behind, digits_len, flags_in, is_key, long_of, octet_at};
 use std::alloc::{AllocError, Global};
 
 /// INBOX whatever the case of its letters, or the name as it is.
@@ -54,20 +53,14 @@ pub fn list_in(alloc: Global, bytes: &[u8]) -> Result<Response, AllocError>
     })
 }
 
-fn is_status_word(c: u8) -> bool
-    ensures { result ≡ classes.is_status_word c }
-{
-    33 <= c && c <= 126 && c != b'(' && c != b')'
-}
-
 /// How many octets of a word of a STATUS stand at the front.
-#[tactic(auto, using(crate::proofs::SpanLemmas::spans))]
+#[tactic(auto, using(imap_values::proofs::SpanLemmas::spans))]
 fn status_word_len(bytes: &[u8]) -> usize
     ensures count { result ≡ spans.span classes.is_status_word bytes.now }
     ensures most { result ≤ length bytes.now }
 {
     for (i, c) in bytes.iter().enumerate() {
-        if !is_status_word(*c) {
+        if !is_status_word(*c as u16) {
             return i;
         }
     }
