@@ -1,7 +1,6 @@
 -- A request's way to the mail, stage by stage.
-use Rattle.std.proofs.Common.{arith, ◌≡◌, ◌≢◌, ◌⊎◌, ◌++◌, ◌≤◌, ◌+◌, ℕ, Bool, true, false, List, [], Option, Some, None, Result, Ok, Err, refl, sym, ◌∙◌, ap, subst, inl, inr}
-use Rattle.std.proofs.Common.{append_assoc}
-use Rattle.std.specs.Prelude.{IsErrOf, OnErr, IsSome}
+use Rattle.std.proofs.Common.{arith, ◌≡◌, ◌≢◌, ◌++◌, ◌≤◌, ◌+◌, ℕ, Bool, true, List, [], Option, Some, None, Result, Ok, Err, refl, sym, ◌∙◌, ap, subst, inl, inr}
+use Rattle.std.specs.Prelude.{IsErrOf, OnErr}
 use Rattle.std.proofs.lemmas.List.{append-nil}
 use Rattle.gate_world.specs.Causes.{Faults, RoseBy, Rose, LinkAlone, NoFault, no_faults}
 use Rattle.gate_world.specs.declared.event.Event.{Event}
@@ -15,7 +14,7 @@ use Rattle.imap_client.specs.Rounds.{KeepsCount, Rounds}
 use Rattle.gate_machine.specs.History.{KnownMail, Commits, IsNewMail, IsSpent, served_anew}
 use Rattle.gate_machine.specs.Machine.{hearing, committed, forgotten}
 use Rattle.gate_machine.specs.Progress.{Progress, CameTo, Bears, StandsInLife, idle, ended_after, out_of_memory, is_up, standing_by, machine_by, lost_by, blame_link}
-use Rattle.gate_machine.specs.Beginning.{Readies, Skips, Dials, RunsRound, Settles, Same, Moves, Spends, Lacks, AsksThen, PreparesMail, DialsTo, BeginsTo, Visits}
+use Rattle.gate_machine.specs.Beginning.{Readies, Dials, RunsRound, Settles, Same, Moves, Spends, Lacks, AsksThen, DialsTo, BeginsTo, Visits}
 use Rattle.gate_machine.specs.declared.machine.Machine.{Machine}
 use Rattle.gate_machine.specs.declared.standing.Fall.TheVariants.{Spent}
 use Rattle.gate_machine.specs.declared.standing.Standing.{Standing}
@@ -69,9 +68,8 @@ holds_none result e left client is none ended_after =
 
 holds_lived : {user password : List ℕ} {left : Option LinkLife} {client : ClientState} {result : Result (Unit {0}) LinkEnd} {events : List Event}
     → Lives user password left client result events → OnErr result (client ≡ fresh) → StandsInLife left client
-holds_lived {left = left} {client = client} {result = result} (Unwelcome e talk gave a b c is none) ended_after = holds_none result e left client is none ended_after
-holds_lived {client = client} (Welcome life after preauth exchanges talk last a b c d follows some) ended_after = subst (λ (l : Option LinkLife). StandsInLife l client)
-    (sym some) follows.stands
+holds_lived {left = left} {client = client} {result = result} (Unwelcome e u is none) ended_after = holds_none result e left client is none ended_after
+holds_lived {client = client} (Welcome life after u some) ended_after = subst (λ (l : Option LinkLife). StandsInLife l client) (sym some) u.follows.stands
 
 holds_connected : {user password : List ℕ} {left : Option LinkLife} {client : ClientState} {result : Result (Unit {0}) LinkEnd} {events : List Event}
     → Connects user password left client result events → OnErr result (client ≡ fresh) → StandsInLife left client

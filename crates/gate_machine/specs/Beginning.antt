@@ -19,7 +19,7 @@ use Rattle.gate_machine.specs.declared.standing.Fall.TheVariants.{Spent}
 use Rattle.gate_machine.specs.declared.standing.Standing.{Standing}
 use Rattle.gate_machine.specs.declared.standing.Standing.TheVariants.{Stands, Fell}
 
--- A machine that isn't ready draws another epoch, and begins with no mail.
+-- A machine that isn't ready draws an epoch, and begins with no mail.
 pub data Readies (before : Machine) (events : List Event) (after : Machine) : Type 0 where
   Ready : (k : KnownMail) → before.known ≡ Some k → events ≡ [] → after ≡ before → Readies before events after
   Restart : (epoch : ℕ) → before.known ≡ None → events ≡ Word epoch ∷ [] → after ≡ restarted before epoch → Readies before events after

@@ -1,5 +1,5 @@
 -- How often the mail changed in an epoch, the mail that it came to, and what was told since.
-use Rattle.std.specs.Prelude.{◌≡◌, ◌⊎◌, ◌<◌, ◌+◌, ◌-◌, ◌^◌, ℕ, List, []}
+use Rattle.std.specs.Prelude.{◌≡◌, ◌⊎◌, ◌<◌, ◌+◌, ◌-◌, ◌^◌, ℕ, []}
 use Rattle.told_mail.specs.Mail.{Mail, SameMail}
 use Rattle.told_mail.specs.Told.{Told}
 

@@ -8,7 +8,7 @@ use Rattle.gate_machine.specs.declared.machine.Machine.{Machine}
 abbrev pub opened : ℕ → Machine
 opened epoch = record { known = Some (known_mail (begun_epoch epoch)) }
 
--- it is ready again, and begins anew in another epoch
+-- it is ready again, and begins anew in this epoch
 abbrev pub restarted : Machine → ℕ → Machine
 restarted m epoch = record m { known = Some (known_mail (begun_epoch epoch)) }
 

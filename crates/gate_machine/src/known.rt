@@ -114,8 +114,7 @@ impl Known {
         }
     }
 
-    /// Asks for all mail, and is told what completed exchanges tell. Out of memory leaves the told mail undetermined. Where each
-    /// exchange told what was known already, the next `commit` compares nothing.
+    /// Asks for all mail, and is told what completed exchanges tell. Out of memory leaves the told mail undetermined.
     pub fn ask<L: Link>(&mut self, client: &mut Client, link: &mut L) -> Result<(), LinkEnd>
         requires { client.old.alive ≡ true }
         ensures tape { Adds (L.tape link.old) (L.tape link.new) (λ es. (life : LinkLife) → Stands client.old life → (left : LinkLife)

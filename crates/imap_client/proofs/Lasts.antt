@@ -1,5 +1,5 @@
 -- The last of the values that responses tell.
-use Rattle.std.proofs.Common.{◌≡◌, Option, Some, None, List, [], ◌∷◌, refl, unwrap_or}
+use Rattle.std.proofs.Common.{◌≡◌, Option, Some, None, List, ◌∷◌, refl, unwrap_or}
 use Rattle.std.specs.List.{filter_map, cons_option}
 use Rattle.told_folder.specs.Keyed.{last_of}
 
