@@ -114,13 +114,12 @@ ended_by false xs ys talk is none = ap (λ (l : List Event). xs ++ l) none ∙ a
 pub unwelcome : {xs : List Event} (ys : List Event) (user password : List ℕ) (after : Octets) (up : Bool) (e : LinkEnd) (client : ClientState) → Greets after up (Err e) xs
     → HangsUp up ys
     → (left : Option LinkLife) × Lives user password left client (Err e) (xs ++ ys)
-unwelcome {xs} ys user password after up e client g hangs =
-    (
-      None,
-      Unwelcome e
-          (record { talk = g.talk; gave = g.gave; whole = ended_by up xs ys g.talk g.ended hangs; first = g.first; greets = unwelcome_alone g.gave after e g.greets })
-          refl refl,
-    )
+unwelcome {xs} ys user password after up e client g hangs = (
+  None,
+  Unwelcome e
+      (record { talk = g.talk; gave = g.gave; whole = ended_by up xs ys g.talk g.ended hangs; first = g.first; greets = unwelcome_alone g.gave after e g.greets })
+      refl refl,
+)
 
 pub lived : {xs : List Event} (ys : List Event) (user password : List ℕ) (after : Octets) (up preauth : Bool) (at : Stage) (before client : ClientState)
     (result : Result (Unit {0}) LinkEnd) → before ≡ begun_with after → up ≡ true → at ≡ stage.Asking → Greets after up (Ok preauth) xs
