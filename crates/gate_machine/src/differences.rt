@@ -1,13 +1,25 @@
 // Mail that differs in more than headers, told without reading one.
 ghost use Rattle.std.specs.Prelude.{◌≡◌, ◌≢◌, true};
 
-use told_mail::{Folder, Held, Message};
+use told_mail::{Held, Message};
 
 // Whether the messages differ in anything but their headers.
 fn message_differs(a: &Message, b: &Message) -> bool
     ensures { result ≡ true → a.now ≢ b.now }
 {
-    a.uid != b.uid || a.mark != b.mark || a.size != b.size || a.date != b.date || a.flags != b.flags
+    if a.uid != b.uid {
+        return true;
+    }
+    if a.mark != b.mark {
+        return true;
+    }
+    if a.size != b.size {
+        return true;
+    }
+    if a.date != b.date {
+        return true;
+    }
+    a.flags != b.flags
 }
 
 fn messages_differ(a: &[Message], b: &[Message]) -> bool
@@ -24,18 +36,13 @@ fn messages_differ(a: &[Message], b: &[Message]) -> bool
     false
 }
 
-// What changes most comes first.
-fn folder_differs(a: &Folder, b: &Folder) -> bool
-    ensures { result ≡ true → a.now ≢ b.now }
-{
-    a.modseq != b.modseq || a.next != b.next || a != b
-}
-
 fn held_differs(a: &Held, b: &Held) -> bool
     ensures { result ≡ true → a.now ≢ b.now }
 {
-    folder_differs(&a.folder, &b.folder)
-        || messages_differ(a.messages.as_slice(), b.messages.as_slice())
+    if a.folder != b.folder {
+        return true;
+    }
+    messages_differ(a.messages.as_slice(), b.messages.as_slice())
 }
 
 /// Whether the folders differ, or their messages in anything but headers: true only where they do.
