@@ -1,6 +1,7 @@
 // Whole runs over a world that follows a script.
-use gate_world::{Bytes, Event, Script, ScriptWorld, Text, Watcher};
+use gate_world::{Bytes, Event, Text, Watcher};
 use gateway::{BareGate, Gate, Place, Served, run};
+use scripted_world::{Script, ScriptWorld};
 use std::alloc::{AllocError, Global};
 use std::process::Abort;
 use std::test::Fail;
