@@ -51,7 +51,7 @@ pub trait ClientListener {
     /// The next client that has come, watched from now on under the key. None where none has come. It does not wait.
     fn next_client(&mut self, key: u64) -> Option<Self::Stream>;
 
-    /// Waits until a client comes, or one that is watched has sent something or ended, at most so many milliseconds. It
+    /// Waits until a client comes, or one that is watched has sent something or ended, at most that many milliseconds. It
     /// puts the keys of the latter at the front of the room: how many. None where the listener failed.
     fn wait(&mut self, limit: u64, room: &mut [u64]) -> Option<usize>
         ensures bound { IfSome result (λ n. n ≤ length room.new) };

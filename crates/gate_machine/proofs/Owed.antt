@@ -72,7 +72,7 @@ greeting_ends gave rest greeting preauth end.Memory greets says so = inr refl
 none_selected : (life : LinkLife) → IsNew life → selected life ≡ None
 none_selected life new = (λ i. if new.alive i then fold selected_after None (new.unasked i) else None)
 
--- what stands behind the greeting obeys in the life that begins with it
+-- what stands after the greeting obeys in the life that begins with it
 obeyed_behind : (user password : List ℕ) (life : LinkLife) (preauth : Bool) (talk last events : List Event) → events ≡ talk ++ last → Talk life.gave [] talk → IsNew life
     → greeting_says life.greeting ≡ Ok preauth → Welcomes user password (given_by events) → ObeysIn (connect_plan preauth user password) life last
 obeyed_behind user password life preauth talk last events is said new says w =

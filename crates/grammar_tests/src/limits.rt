@@ -36,7 +36,7 @@ const OUTSIDE: [(&[u8], &[u8], Scan); 3] = [
     (b"+aaa", b"", Scan::NeedMore),
 ];
 
-/// A front, to be followed by 50,000,000 octets, what follows these, and the answer: so many may stand in a literal.
+/// A front, to be followed by 50,000,000 octets, what follows these, and the answer: 50,000,000 may stand in a literal.
 const LITERAL: [(&[u8], &[u8], Scan); 5] = [
     (b"* X {50000000}\r\n", b"", Scan::NeedMore),
     (b"* X {50000000}\r\n", b"\r\n", Scan::Whole(50_000_018)),

@@ -7,7 +7,7 @@ use Rattle.header_tokens.specs.Tokens.{Contents, Empty, Octet, Pair, Nested}
 use Rattle.header_tokens.specs.reading.TokenReading.{further, close_in}
 use Rattle.header_tokens.proofs.BracketSteps.{further_more, close_escaped, close_slash, close_last, close_down, close_up, close_other, close_none}
 
--- what is read after the closing octet, with so many open
+-- what is read after the closing octet, with n open
 abbrev pub behind : ℕ → ℕ → ℕ → List ℕ → Option ℕ
 behind o c zero t = Some 0
 behind o c (suc d) t = close_in o c d false t

@@ -8,8 +8,6 @@ pub mod encoded_word;
 pub mod laws;
 pub mod quoted_printable;
 pub mod quoted_text;
-#[cfg(test)]
-mod tests;
 pub mod transfer;
 pub mod word_list;
 pub mod words;

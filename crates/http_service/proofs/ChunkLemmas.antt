@@ -98,12 +98,12 @@ chunk_end {a} {c} kept keeps d zs size (Err e) (octets, both, long, adds) feed =
     then_breaks zs (NoOctet 10) (ChunkStops size) both feed (λ due text so. AtFeed octets
     (ap (λ (l : List ℕ). (octets ++ 13 ∷ []) ++ l) so.0 ∙ append-nil (octets ++ 13 ∷ [])) long so.1)
 
--- whole chunks were read, with this content, and their lines have so many octets beyond what is free
+-- whole chunks were read, with this content, and their lines have n octets beyond what is free
 abbrev pub Gathered : List ℕ → List ℕ → List ℕ → ℕ → List Event → Type 0
 Gathered before after body over events = (chunks : List Chunk) × All IsChunk chunks × Takes Nothing (texts_of chunks) before after events × (body ≡ content chunks)
     × (over ≡ excess_of chunks)
 
--- and then a chunk's line of so many octets that says this size
+-- and then a chunk's line of n octets that says this size
 abbrev pub LineRead : List ℕ → List ℕ → List ℕ → ℕ → ℕ → ℕ → List Event → Type 0
 LineRead before after body over count size events = (chunks : List Chunk) × (line : List ℕ) × All IsChunk chunks
     × Takes Nothing (texts_of chunks ++ line) before after events × (body ≡ content chunks) × (over ≡ excess_of chunks) × IsLine line size × (count ≡ length line)

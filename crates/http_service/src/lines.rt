@@ -87,7 +87,7 @@ impl Place {
         }
     }
 
-    // The place after these octets. None behind the line end is looked at: more may stand there than the lines have.
+    // The place after these octets. None after the line end is looked at: more may stand there than the lines have.
     fn run(self, octets: &[u8]) -> Place
         ensures { result ≡ run self octets.now }
     {

@@ -244,7 +244,7 @@ fn no_octet_is_asked_for_after_a_refusal(rt: HostRuntime) -> Result<(), Fail> {
     Ok(())
 }
 
-/// A chunked body of n chunks, each of one octet behind a line of 16 octets.
+/// A chunked body of n chunks, each of one octet after a line of 16 octets.
 fn in_single_octets(alloc: Global, chunks: usize) -> Result<Vec<u8>, Fail> {
     let mut body = Vec::new(alloc);
     for _ in 0..chunks {

@@ -262,7 +262,7 @@ opened_stops w c t h = by h.first.0 (h.whole ∙ ap (λ (u : List ℕ). u ++ h.b
     by [] e = is_true_at stops c 41 (cons_head c 41 t h.back e) refl
     by (v ∷ vs) e = is_true_at stops c 32 (cons_head c 32 t (((v ++ spaced vs) ++ 41 ∷ []) ++ h.back) e) refl
 
--- so many closing brackets
+-- n closing brackets
 closing : (w : ℕ) → (t : List ℕ) × Opened w t
 closing zero = ([], refl)
 closing (suc w) = let k = closing w in (41 ∷ k.0, record { front = 41 ∷ []; back = k.0; whole = refl; first = ([], tt, refl); second = k.1 })

@@ -71,7 +71,7 @@ pub record FreeLiteral (Rest : List ℕ → Type 0) (s : Pending) (t : List ℕ)
   pub inside : Each is_inside octets
   pub goes_on : Rest rest
 
--- with so many literals, after a text that ends so
+-- with n literals, after a text that ends so
 abbrev pub IsFreeFrom : ℕ → Pending → List ℕ → Type 0
 IsFreeFrom zero s t = FreeEnd s t
 IsFreeFrom (suc literals) s t = FreeLiteral (IsFreeFrom literals pending.Nothing) s t

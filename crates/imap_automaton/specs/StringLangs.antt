@@ -59,7 +59,7 @@ ValuesFirst depth t = (vs : List (List ℕ)) × AllOf (IsValue depth) vs × (t �
 abbrev pub ValuesMore : ℕ → List ℕ → Type 0
 ValuesMore depth t = (vs : List (List ℕ)) × AllOf (IsValue depth) vs × (t ≡ spaced vs ++ 41 ∷ [])
 
--- after a value, the rest of so many brackets
+-- after a value, the rest of n brackets
 abbrev pub Opened : ℕ → List ℕ → Type 0
 Opened zero t = t ≡ []
 Opened (suc within) t = Then (ValuesMore (63 - within)) (Opened within) t

@@ -13,7 +13,7 @@ use Rattle.imap_exchange.specs.Received.{Octets}
 use Rattle.imap_exchange.specs.Needed.{ReadsWhile, NeedsMore}
 use Rattle.imap_exchange.specs.Answering.{end_unless}
 
--- too much stands there, of an exchange that began with so many octets given
+-- too much stands there, of an exchange that began once n octets were given
 abbrev pub IsOver : ℕ → ℕ → Type 0
 IsOver begun given = (MAX_EXCHANGE_OCTETS + begun < given) ⊎ (MAX_LIFE_OCTETS < given)
 

@@ -12,7 +12,7 @@ use Rattle.imap_syntax.specs.Dates.{month_name}
 abbrev pub days_to : ℕ → ℕ → ℕ
 days_to year month = day_count (pos year) month 1 - day_count (pos 0) 1 1
 
--- n seconds from the year 0 on, less so many, kept within the years 0 to 9999 and counted from 1970 on
+-- n seconds from the year 0 on, less m of them, kept within the years 0 to 9999 and counted from 1970 on
 abbrev pub kept_within : ℕ → ℕ → ℤ
 kept_within on off = pos (min (on - off) 315569519999) -ℤ pos 62167219200
 

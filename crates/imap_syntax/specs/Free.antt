@@ -32,7 +32,7 @@ pub record IsLiteralLine (Rest : List ℕ → Type 0) (t : List ℕ) : Type 0 wh
   pub inside : Each is_inside octets
   pub goes_on : Rest rest
 
--- with so many literals
+-- with n literals
 abbrev pub IsFree : ℕ → List ℕ → Type 0
 IsFree zero t = IsLastLine t
 IsFree (suc literals) t = IsLiteralLine (IsFree literals) t

@@ -13,7 +13,7 @@ use Rattle.jiff_core.proofs.SignedLemmas.{signed_arith}
 use Rattle.imap_syntax.specs.Dates.{Day, next_day, day_at}
 use Rattle.imap_syntax.specs.DateTimes.{days_to}
 
--- the calendar has the day, and counts so many before it
+-- the calendar has the day, and counts the days before it
 record Counted (n : ℕ) (d : Day) : Type 0 where
   first_month : 1 ≤ d.month
   last_month : d.month ≤ 12

@@ -90,7 +90,7 @@ fn days_to(year: u32, month: u8) -> u64
     (first_of(year, month) as i64 + DAYS_TO_EPOCH) as u64
 }
 
-/// Seconds from the year 0 on, less so many, kept within the years 0 to 9999 and counted from 1970 on.
+/// Seconds from the year 0 on, less `off` of them, kept within the years 0 to 9999 and counted from 1970 on.
 fn kept_within(on: u64, off: u64) -> i64
     ensures { result ≡ dates.kept_within on off }
 {

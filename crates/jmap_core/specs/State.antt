@@ -6,7 +6,7 @@ use Rattle.jmap_core.specs.declared.state.State.{State}
 abbrev pub hex_digit : ℕ → ℕ
 hex_digit n = if nat_lt n 10 then 48 + n else 87 + n
 
--- a number's last digits, so many
+-- a number's last digits, n of them
 unfoldable pub hex_text : ℕ → ℕ → List ℕ
 hex_text zero n = []
 hex_text (suc width) n = hex_text width (n / 16) ++ hex_digit (n % 16) ∷ []

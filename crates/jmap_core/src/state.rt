@@ -28,7 +28,7 @@ fn hex_digit(number: u64) -> char
     }
 }
 
-/// Adds the number's last digits, so many.
+/// Adds the number's last digits, `width` of them.
 fn push_hex(text: &mut String, width: u32, number: u64) -> Result<(), AllocError>
     ensures { OnOk result (string_bytes text.new
         ≡ string_bytes text.old ++ spec.hex_text width number) }

@@ -1,5 +1,5 @@
-//! Tests of the fields of headers, of the trees of parts and of Email objects, over the public calls of the crates that
-//! read them.
+//! Tests of encoded words, of the fields of headers, of the trees of parts and of Email objects, over the public calls of
+//! the crates that read them.
 #![tactic(auto)]
 
 #[cfg(test)]
@@ -14,6 +14,10 @@ mod bracketed;
 mod dates;
 #[cfg(test)]
 mod email_objects;
+#[cfg(test)]
+mod encoded_words;
+#[cfg(test)]
+mod encodings;
 #[cfg(test)]
 mod fields;
 #[cfg(test)]
@@ -46,3 +50,5 @@ mod texts;
 mod tree_examples;
 #[cfg(test)]
 mod trees;
+#[cfg(test)]
+mod written_words;

@@ -5,7 +5,7 @@ use std::alloc::Global;
 use std::process::Abort;
 use std::test::Fail;
 
-/// A header of ten million octets, the piece again and again after the front, has so many fields, and ends at its end.
+/// A header of ten million octets, the piece again and again after the front, has the fields that are counted, and ends at its end.
 fn expect_fields(
     rt: &impl Abort,
     alloc: Global,

@@ -271,7 +271,7 @@ fn parts_have_headers(rt: HostRuntime) -> Result<(), Fail> {
     Ok(())
 }
 
-/// A type, so many of the piece, and a charset.
+/// A type, the piece n times, and a charset.
 fn long_type(alloc: Global, piece: &[u8]) -> Result<Vec<u8>, AllocError> {
     let mut text = Vec::new(alloc);
     text.extend_from_slice(b"Content-Type: a/b")?;
@@ -282,7 +282,7 @@ fn long_type(alloc: Global, piece: &[u8]) -> Result<Vec<u8>, AllocError> {
     Ok(text)
 }
 
-/// An id of so many of the piece.
+/// An id of the piece, n times.
 fn long_id(alloc: Global, piece: &[u8]) -> Result<Vec<u8>, AllocError> {
     let mut text = Vec::new(alloc);
     text.extend_from_slice(b"Content-ID: ")?;

@@ -72,7 +72,7 @@ fn subjects_have_bases(rt: HostRuntime) -> Result<(), Fail> {
     Ok(())
 }
 
-/// `front` so many times, and then `back` so many times.
+/// `front` n times, and then `back` n times.
 fn nested(alloc: Global, front: &[u8], back: &[u8], times: u32) -> Result<Vec<u8>, AllocError> {
     let mut text = Vec::new(alloc);
     for _ in 0..times {

@@ -271,7 +271,7 @@ const HELD: [HeldRow; 10] = [
     (b"* OK hi\r\na9 NO no\r\n", 3, "Stray ", b"|"),
     (b"* OK hi\r\n*\r\na1 NO no\r\n", 3, "Bad { at: 9 } ", b"|"),
     (b"* OK hi\r\n", 3, "Lost ", b"|"),
-    // behind a NO nothing decides
+    // after a NO nothing decides
     (b"* OK hi\r\na1 NO no\r\n* BYE x\r\n", 3, "Refused ", b"|"),
     (
         b"* OK hi\r\na1 BAD no\r\na9 OK x\r\n*\r\n",

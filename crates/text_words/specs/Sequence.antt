@@ -26,7 +26,7 @@ pub record IsDetermined {V A : Type 0} (Is : V → List A → List A → Type 0)
   pub one : (v w : V) (x y s t : List A) → x ++ s ≡ y ++ t → Is v x s → Is w y t → SameStart v w x y s t
   pub some : (v : V) (x s : List A) → Is v x s → x ≢ []
 
--- the text begins with a unit of so many elements
+-- the text begins with a unit of n elements
 pub record UnitAt {V A : Type 0} (Is : V → List A → List A → Type 0) (v : V) (n : ℕ) (t : List A) : Type 0 where
   pub unit : List A
   pub rest : List A

@@ -123,7 +123,7 @@ fn cut_within(
     before.remove(at)
 }
 
-/// Puts a message behind those of the vector.
+/// Puts a message after those of the vector.
 fn put_behind(
     before: &mut Vec<Message>,
     after: &mut BTreeMap<u32, Message>,

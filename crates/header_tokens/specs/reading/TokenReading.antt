@@ -15,7 +15,7 @@ abbrev pub further : ℕ → Option ℕ → Option ℕ
 further n None = None
 further n (Some m) = Some (n + m)
 
--- how many octets go up to the end of the bracket, with so many more open in it, and after a backslash or not
+-- how many octets go up to the end of the bracket, with n more open in it, and after a backslash or not
 unfoldable pub close_in : ℕ → ℕ → ℕ → Bool → List ℕ → Option ℕ
 close_in opener closer depth escaped [] = None
 close_in opener closer depth true (c ∷ t) = further 1 (close_in opener closer depth false t)

@@ -41,7 +41,7 @@ pub record FoundAt (reading : List ℕ) (start end : ℕ) (t : List ℕ) : Type 
   pub start_is : start ≡ length before
   pub end_is : end ≡ length before + length word
 
--- after an "=" without hexadecimal digits, so many blanks, and an end of the line of n octets
+-- after an "=" without hexadecimal digits, k blanks, and an end of the line of n octets
 abbrev pub break_of : ℕ → ℕ → Option (Piece × ℕ)
 break_of n zero = Some (record { octets = 61 ∷ []; wrong = true }, 1)
 break_of n (suc k) = Some (right [], 1 + n + suc k)

@@ -43,7 +43,7 @@ lined_here rs (h ∷ hs) = lined rs h ∷ hs
 abbrev pub lined_at : List Response → ℕ → Mail → Mail
 lined_at rs at m = record m { folders = take at m.folders ++ lined_here rs (drop at m.folders) }
 
--- with a folder behind the others, which takes the next number
+-- with a folder after the others, which takes the next number
 abbrev pub with_pushed : Mail → Folder → Mail
 with_pushed m f = record {
   folders = m.folders ++ record { folder = f; messages = [] } ∷ [];

@@ -110,7 +110,7 @@ impl Mirror {
         Ok(())
     }
 
-    /// Puts a folder of the next number behind the others, without messages.
+    /// Puts a folder of the next number after the others, without messages.
     fn push_folder(&mut self, folder: Folder) -> Result<(), AllocError>
         requires next { folder.number ≡ self.old.mail.next_folder }
         requires number { folder.number < 2 ^ 53 }

@@ -1,5 +1,5 @@
 // Values with encoded words.
-use crate::words::decode_words;
+use header_words::decode_words;
 use std::test::Fail;
 
 /// The examples of RFC 2047 section 8, and values that stay as they are.

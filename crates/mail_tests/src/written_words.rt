@@ -1,6 +1,5 @@
 // Texts written as encoded words.
-use crate::word_list::encode_words;
-use crate::words::decode_words;
+use header_words::{decode_words, encode_words};
 use std::alloc::{AllocError, Global};
 use std::test::Fail;
 

@@ -1,6 +1,5 @@
 // Bodies in their transfer encodings.
-use crate::charset::decode_charset;
-use crate::transfer::{decode_transfer, transfer_len};
+use header_words::{decode_charset, decode_transfer, transfer_len};
 use std::test::Fail;
 
 #[test]

@@ -1,4 +1,0 @@
-// Tests of encoded words and bodies.
-mod bodies;
-mod reading;
-mod writing;
