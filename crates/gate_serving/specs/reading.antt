@@ -1,0 +1,2 @@
+-- What the parts of answering a client add: private clauses and proofs alone speak of it.
+pub mod Replying
