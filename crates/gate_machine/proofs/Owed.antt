@@ -84,9 +84,9 @@ obeyed_behind user password life preauth talk last events is said new says w =
     let kind : w.preauth ≡ preauth = ok_same w.preauth preauth (sym w.says ∙ ap greeting_says same.0 ∙ says) in
     let number : 1 ≡ next_number life = ap (λ (xs : List Exchange). length xs + 1) (sym new.unasked) in
     subst (λ (l : List ℕ). Obeys (connect_plan preauth user password) [] (next_number life) (selected life) l) same.1
-        (subst (λ (f : Option (List ℕ)). Obeys (connect_plan preauth user password) [] (next_number life) f w.rest) (sym (none_selected life new))
-        (subst (λ (n : ℕ). Obeys (connect_plan preauth user password) [] n None w.rest) number
-        (subst (λ (p : Bool). Obeys (connect_plan p user password) [] 1 None w.rest) kind w.obeys)))
+    (subst (λ (f : Option (List ℕ)). Obeys (connect_plan preauth user password) [] (next_number life) f w.rest) (sym (none_selected life new))
+    (subst (λ (n : ℕ). Obeys (connect_plan preauth user password) [] n None w.rest) number
+    (subst (λ (p : Bool). Obeys (connect_plan p user password) [] 1 None w.rest) kind w.obeys)))
 
 lives_end : {user password : List ℕ} {left : Option LinkLife} {client : ClientState} {result : Result (Unit {0}) LinkEnd} {events : List Event} → Law
     → Lives user password left client result events → Welcomes user password (given_by events) → EndsWell result
@@ -140,7 +140,7 @@ by_round {before} {after} a asks (inl ok) room none =
 by_round {before} {after} a asks (inr (inl lost)) room none =
     let fell : a.told.standing ≡ Fell (Linked end.Lost) = ap (λ (p : Progress). p.standing) asks.after_is ∙ ap standing_by lost in
     let blames : a.told.blamed ≡ blame_link 1 before.blamed = ap (λ (p : Progress). p.blamed) asks.after_is ∙ ap
-        (λ (r : Result (Unit {0}) LinkEnd). blame_link (lost_by r) before.blamed) lost in
+    (λ (r : Result (Unit {0}) LinkEnd). blame_link (lost_by r) before.blamed) lost in
     absurd (blamed_once before.blamed after a.told blames (settles_nothing a (λ is. cc)) none)
 by_round {before} {after} a asks (inr (inr memory)) room none =
     let out : a.told.standing ≡ OutOfMemory = ap (λ (p : Progress). p.standing) asks.after_is ∙ ap standing_by memory in
@@ -164,7 +164,7 @@ by_dial law b obeyed (inl ok) none = rounds_end law b.asks obeyed.round obeyed.r
 by_dial {after = after} law b obeyed (inr (inl lost)) none =
     let fell : b.connected.standing ≡ Fell (Linked end.Lost) = ap (λ (p : Progress). p.standing) b.dials.after_is ∙ ap standing_by lost in
     let blames : b.connected.blamed ≡ blame_link 1 no_faults = ap (λ (p : Progress). p.blamed) b.dials.after_is ∙ ap
-        (λ (r : Result (Unit {0}) LinkEnd). blame_link (lost_by r) no_faults) lost in
+    (λ (r : Result (Unit {0}) LinkEnd). blame_link (lost_by r) no_faults) lost in
     absurd (blamed_once no_faults after b.connected blames (asks_nothing b.asks (λ is. cc)) none)
 by_dial law b obeyed (inr (inr memory)) none =
     let out : b.connected.standing ≡ OutOfMemory = ap (λ (p : Progress). p.standing) b.dials.after_is ∙ ap standing_by memory in
