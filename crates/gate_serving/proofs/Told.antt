@@ -10,8 +10,20 @@ use Rattle.gate_machine.specs.declared.machine.Machine.{Machine}
 use Rattle.gate_machine.specs.declared.standing.Standing.TheVariants as standing
 use Rattle.gateway.proofs.Needs.{Law, answered_from}
 use Rattle.gateway.specs.Calls.{Mailing}
-use Rattle.gateway.specs.Complete.{IsAnsweredFrom, IsReplyObeyed, IsSegmentObeyed, IsTold, NobodyComes, TakesResponse, LacksMemory, IsRunObeyed, IsRunTold, IsTaskObeyed,
-    IsTaskTold, Completes}
+use Rattle.gateway.specs.Complete.{
+  IsAnsweredFrom,
+  IsReplyObeyed,
+  IsSegmentObeyed,
+  IsTold,
+  NobodyComes,
+  TakesResponse,
+  LacksMemory,
+  IsRunObeyed,
+  IsRunTold,
+  IsTaskObeyed,
+  IsTaskTold,
+  Completes,
+}
 use Rattle.gateway.specs.Requests.{Account, Asking, Door, Bare, Reads, response_of}
 use Rattle.gateway.specs.Run.{both, Run, Begun, Then, run_blamed, account_of, Ran, Unopened, ServedOnce, ShownOne, Runs, Refused, OutOfMemory, Done}
 use Rattle.gateway.specs.Segment.{Replies, Answered, LacksReading, LacksAnswering, Segment, NoneComes, NotAccepted, Unasked, Replied, blame_front, blamed, reply_blamed}
@@ -76,8 +88,7 @@ both_none f g is =
     let link = sum_none f.link g.link (ap (λ (h : Faults). h.link) is) in
     let keep = sum_none f.keep g.keep (ap (λ (h : Faults). h.keep) is) in
     let front = sum_none f.front g.front (ap (λ (h : Faults). h.front) is) in
-    let say = sum_none f.say g.say (ap (λ (h : Faults). h.say) is) in
-    (
+    let say = sum_none f.say g.say (ap (λ (h : Faults). h.say) is) in (
       (λ i. record { link = link.0 i; keep = keep.0 i; front = front.0 i; say = say.0 i }),
       (λ i. record { link = link.1 i; keep = keep.1 i; front = front.1 i; say = say.1 i }),
     )
