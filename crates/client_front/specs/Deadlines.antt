@@ -1,0 +1,33 @@
+-- When what a client owes is due, in milliseconds of the monotonic clock; a sum ends at 2^64 - 1.
+use Rattle.std.specs.Prelude.{◌+◌, ◌-◌, ◌/◌, ◌^◌, ℕ, min, Option, None, Some}
+use Rattle.client_front.specs.declared.pace.Pace.{Pace}
+use Rattle.client_front.specs.declared.progress.Stage.{Stage}
+use Rattle.client_front.specs.declared.progress.Stage.TheVariants.{Blank, Body}
+use Rattle.client_front.specs.declared.progress.Progress.{Progress}
+
+abbrev pub capped : ℕ → ℕ
+capped n = min n (2 ^ 64 - 1)
+
+-- 60 seconds, and 1 second for each 10,000 octets that have come
+abbrev pub pace_due : Pace → ℕ
+pace_due pace = capped (capped (pace.since + 60000) + pace.octets / 10)
+
+abbrev pub with_octets : ℕ → Pace → Pace
+with_octets count pace = record pace { octets = capped (pace.octets + count) }
+
+-- a head is due 10 seconds after its client is handed on, and a body by its octets' pace from the head's end
+abbrev pub due_at : Stage → Pace → ℕ
+due_at Body pace = pace_due pace
+due_at _ pace = capped (pace.since + 10000)
+
+abbrev pub due : Progress → ℕ
+due progress = due_at progress.stage progress.pace
+
+-- a request whose client is handed on now
+abbrev pub begun : ℕ → Progress
+begun now = record { stage = Blank; pace = record { since = now; octets = 0 } }
+
+-- the pace of a response, which begins with its first octet
+abbrev pub pace_at : ℕ → Option Pace → Pace
+pace_at now None = record { since = now; octets = 0 }
+pace_at now (Some pace) = pace

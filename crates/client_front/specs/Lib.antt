@@ -1,0 +1,5 @@
+pub mod Deadlines
+pub mod FirstOctet
+pub mod Handing
+pub mod HeadEnd
+pub mod Waiting

@@ -1,0 +1,24 @@
+//! Clients that come over TCP, one handed on at a time: those that have not sent anything yet are held and block nobody,
+//! and a request has a deadline.
+#![tactic(auto)]
+
+mod clock;
+mod first_octet;
+mod front;
+mod pace;
+mod progress;
+mod serving;
+mod sockets;
+#[cfg(test)]
+mod tests;
+mod toolchain;
+mod waiting;
+
+pub use clock::Ticks;
+pub use front::ClientFront;
+pub use pace::{MIN_OCTETS_PER_MILLISECOND, PATIENCE_MILLISECONDS};
+pub use progress::HEAD_MILLISECONDS;
+pub use serving::{DRAIN_MILLISECONDS, MAX_DRAIN_OCTETS};
+pub use sockets::{ClientListener, ClientStream, First};
+pub use toolchain::{TcpClient, TcpClients};
+pub use waiting::{IDLE_MILLISECONDS, MAX_HELD_CLIENTS};

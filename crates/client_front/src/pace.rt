@@ -1,0 +1,45 @@
+// How long octets may take that come, or are taken, one after another.
+ghost use Rattle.std.specs.Prelude.{◌≡◌, ◌<◌, ◌≤◌, ◌+◌, ◌-◌, IfSome, IfNone};
+ghost use Rattle.client_front.specs.Deadlines as spec;
+
+/// How many milliseconds octets may take, beside those that their number gives.
+pub const PATIENCE_MILLISECONDS: u64 = 60_000;
+
+/// How many octets a millisecond adds at least: 10,000 a second.
+pub const MIN_OCTETS_PER_MILLISECOND: u64 = 10;
+
+/// Octets since a moment.
+#[derive(Clone, Copy, Debug, PartialEq, Eq)]
+pub(crate) struct Pace {
+    /// The moment, in milliseconds of the monotonic clock.
+    pub(crate) since: u64,
+    /// How many octets have come since.
+    pub(crate) octets: u64,
+}
+
+impl Pace {
+    /// When the next octet is due, in milliseconds of the monotonic clock.
+    pub(crate) fn due(&self) -> u64
+        ensures { result ≡ spec.pace_due self.now }
+    {
+        let earned = self.octets / MIN_OCTETS_PER_MILLISECOND;
+        self.since
+            .saturating_add(PATIENCE_MILLISECONDS)
+            .saturating_add(earned)
+    }
+
+    /// Octets more.
+    pub(crate) fn add(&mut self, count: usize)
+        ensures { self.new ≡ spec.with_octets count self.old }
+    {
+        self.octets = self.octets.saturating_add(count as u64);
+    }
+}
+
+/// How many milliseconds are left until then; none where the moment has come.
+pub(crate) fn left(due: u64, now: u64) -> Option<u64>
+    ensures some { IfSome result (λ limit. (0 < limit) × (now + limit ≡ due)) }
+    ensures none { IfNone result (due ≤ now) }
+{
+    if now < due { Some(due - now) } else { None }
+}

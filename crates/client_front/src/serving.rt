@@ -1,0 +1,108 @@
+// The client that is served.
+ghost use Rattle.std.specs.Prelude.{◌≡◌, ◌<◌, ◌≤◌, length, take, None, IfSome};
+ghost use Rattle.client_front.specs.Deadlines as spec;
+ghost use Rattle.client_front.specs.Deadlines.{begun};
+ghost use Rattle.client_front.specs.Handing.{ReceivesInTime, SendsInTime};
+
+use crate::clock::Ticks;
+use crate::pace::{Pace, left};
+use crate::progress::Progress;
+use crate::sockets::ClientStream;
+
+/// How many octets are read and dropped at most after the last of the response.
+pub const MAX_DRAIN_OCTETS: usize = 1_048_576;
+
+/// How many milliseconds that takes at most.
+pub const DRAIN_MILLISECONDS: u64 = 2_000;
+
+/// How many octets one read of that asks for.
+const DRAIN_PIECE_OCTETS: usize = 8_192;
+
+/// A client that is served: its stream, how far its request has come, and how its response goes.
+#[derive(Drop)]
+pub(crate) struct Serving<S: ClientStream> {
+    pub(crate) stream: S,
+    pub(crate) progress: Progress,
+    pub(crate) sent: Option<Pace>,
+}
+
+impl<S: ClientStream> Serving<S> {
+    /// A client that is handed on now.
+    pub(crate) fn new(stream: S, now: u64) -> Serving<S>
+        ensures { result ≡ record { stream = stream; progress = begun now; sent = None } }
+    {
+        Serving {
+            stream,
+            progress: Progress::new(now),
+            sent: None,
+        }
+    }
+
+    /// Octets of the request, while it is not late.
+    pub(crate) fn receive<C: Ticks>(&mut self, clock: &C, into: &mut [u8]) -> Option<usize>
+        ensures bound { IfSome result (λ n. n ≤ length into.new) }
+        ensures in_time { IfSome result (λ n. ReceivesInTime S.receives (C.reads clock.now) n (take n into.new) self.old self.new) }
+    {
+        let limit = left(self.progress.due(), clock.milliseconds()?)?;
+        let count = self.stream.receive(into, limit)?;
+        let (octets, _) = into.split_at(count);
+        self.progress.note(octets, clock.milliseconds()?);
+        Some(count)
+    }
+
+    /// Gives the client octets of the response, while it is not late in taking them.
+    pub(crate) fn send<C: Ticks>(&mut self, clock: &C, from: &[u8]) -> Option<usize>
+        ensures bound { IfSome result (λ n. (0 < n) × (n ≤ length from.now)) }
+        ensures in_time { IfSome result (λ n. SendsInTime S.sends (C.reads clock.now) n self.old self.new) }
+    {
+        let now = clock.milliseconds()?;
+        let mut pace = pace_at(self.sent, now);
+        let limit = left(pace.due(), now)?;
+        let count = self.stream.send(from, limit)?;
+        pace.add(count);
+        self.sent = Some(pace);
+        Some(count)
+    }
+
+    /// Ends the response, and drops what still comes, so that the client reads it to its end.
+    pub(crate) fn finish<C: Ticks>(mut self, clock: &C) {
+        self.stream.end_writing();
+        let _ = drain(&mut self.stream, clock);
+    }
+}
+
+/// The pace of a response, which begins with its first octet.
+fn pace_at(sent: Option<Pace>, now: u64) -> Pace
+    ensures { result ≡ spec.pace_at now sent }
+{
+    match sent {
+        Some(pace) => pace,
+        None => Pace {
+            since: now,
+            octets: 0,
+        },
+    }
+}
+
+/// Reads and drops what comes, for a short time: how many octets.
+fn drain<S: ClientStream, C: Ticks>(stream: &mut S, clock: &C) -> Option<usize> {
+    let due = clock.milliseconds()?.saturating_add(DRAIN_MILLISECONDS);
+    let mut dropped = 0usize;
+    for _ in 0..MAX_DRAIN_OCTETS {
+        if dropped >= MAX_DRAIN_OCTETS {
+            break;
+        }
+        let count = drain_piece(stream, left(due, clock.milliseconds()?)?)?;
+        dropped = dropped.saturating_add(count);
+    }
+    Some(dropped)
+}
+
+/// Reads and drops one piece; none where nothing more comes.
+fn drain_piece<S: ClientStream>(stream: &mut S, limit: u64) -> Option<usize> {
+    let mut room = [0u8; DRAIN_PIECE_OCTETS];
+    match stream.receive(&mut room, limit) {
+        Some(0) | None => None,
+        Some(count) => Some(count),
+    }
+}

@@ -1,0 +1,57 @@
+// What the front asks of a host's listener and of a client's stream.
+ghost use Rattle.std.specs.Prelude.{ℕ, ◌<◌, ◌≤◌, Option, length, IfSome};
+ghost use Rattle.client_front.specs.Handing.{IfOctet};
+
+/// What a client that may have sent something has sent first.
+#[derive(Clone, Copy, Debug, PartialEq, Eq)]
+pub enum First {
+    /// This octet, which the next read gives.
+    Octet(u8),
+    /// Nothing, and it ended its input or failed.
+    Ended,
+    /// Nothing yet.
+    Nothing,
+}
+
+/// A client's stream. Times are milliseconds.
+pub trait ClientStream: Drop {
+    /// The first octet that the client may have sent. A caller knows nothing else of it.
+    ghost shows: { Self → ℕ → Type 0 };
+
+    /// What a wait of at most so long for octets may come to, and one for room. A caller knows nothing else of them.
+    ghost receives: { Self → ℕ → Option ℕ → Type 0 };
+
+    ghost sends: { Self → ℕ → Option ℕ → Type 0 };
+
+    /// What the client has sent first. It does not wait.
+    fn first(&self) -> First
+        ensures { IfOctet (shows self.now) result };
+
+    /// Waits for octets of the client, at most so long, and puts them at the front of `into`: how many, and 0 where the
+    /// client ended its input. None where none came in time or the stream failed.
+    fn receive(&mut self, into: &mut [u8], limit: u64) -> Option<usize>
+        ensures bound { IfSome result (λ n. n ≤ length into.new) }
+        ensures received { receives self.old limit result };
+
+    /// Gives the client some of the octets, from their front, and waits for it at most so long: how many it took, at least
+    /// 1. None where it took none in time or the stream failed.
+    fn send(&mut self, from: &[u8], limit: u64) -> Option<usize>
+        ensures bound { IfSome result (λ n. (0 < n) × (n ≤ length from.now)) }
+        ensures taken { sends self.old limit result };
+
+    /// Tells the client that nothing more is sent.
+    fn end_writing(&mut self);
+}
+
+/// A listener, which watches the clients that it has accepted.
+pub trait ClientListener {
+    type Stream: ClientStream;
+
+    /// The next client that has come, watched from now on under the key. None where none has come. It does not wait.
+    fn next_client(&mut self, key: u64) -> Option<Self::Stream>;
+
+    /// Waits until a client comes, or one that is watched has sent something or ended, at most so many milliseconds. It
+    /// puts the keys of the latter at the front of the room: how many. None where the listener failed.
+    fn wait(&mut self, limit: u64, room: &mut [u64]) -> Option<usize>
+        ensures bound { IfSome result (λ n. n ≤ length room.new) };
+}

@@ -1,0 +1,152 @@
+// The toolchain's sockets, and readiness over them.
+ghost use Rattle.std.specs.Prelude.{◌<◌, ◌≤◌, length, IfSome};
+
+use crate::sockets::{ClientListener, ClientStream, First};
+use mio::unix::SourceFd;
+use mio::{Events, Interest, Poll, Token};
+use std::alloc::Global;
+use std::io::{ErrorKind, Read, Write};
+use std::net::{Net, Shutdown, TcpListener, TcpStream};
+use std::os::fd::AsRawFd;
+use std::time::Duration;
+
+/// How many events one wait gives at most.
+const MAX_EVENTS: usize = 64;
+
+/// What the listener itself is watched under.
+const LISTENER: usize = usize::MAX;
+
+/// A client's stream over TCP.
+#[derive(Drop)]
+pub struct TcpClient {
+    stream: TcpStream,
+}
+
+impl TcpClient {
+    fn read_once(&mut self, into: &mut [u8], limit: u64) -> Option<usize>
+        ensures { IfSome result (λ n. n ≤ length into.new) }
+    {
+        self.stream
+            .set_read_timeout(Some(Duration::from_millis(limit)))
+            .ok()?;
+        self.stream.read(into).ok()
+    }
+}
+
+impl ClientStream for TcpClient {
+    ghost use Rattle.std.specs.Prelude.{⊤};
+
+    ghost shows = { λ _ _. ⊤ };
+
+    ghost receives = { λ _ _ _. ⊤ };
+
+    ghost sends = { λ _ _ _. ⊤ };
+
+    fn first(&self) -> First {
+        let mut room = [0u8; 1];
+        match self.stream.peek(&mut room) {
+            Ok(1) => First::Octet(room[0]),
+            Err(error) if error.kind() == ErrorKind::WouldBlock => First::Nothing,
+            _ => First::Ended,
+        }
+    }
+
+    fn receive(&mut self, into: &mut [u8], limit: u64) -> Option<usize> {
+        self.stream.set_nonblocking(false).ok()?;
+        self.read_once(into, limit)
+    }
+
+    fn send(&mut self, from: &[u8], limit: u64) -> Option<usize> {
+        self.stream.set_nonblocking(false).ok()?;
+        self.stream
+            .set_write_timeout(Some(Duration::from_millis(limit)))
+            .ok()?;
+        match self.stream.write(from) {
+            Ok(0) | Err(_) => None,
+            Ok(count) => Some(count),
+        }
+    }
+
+    fn end_writing(&mut self) {
+        let _ = self.stream.shutdown(Shutdown::Write);
+    }
+}
+
+/// A listener over TCP that watches the clients it has accepted.
+#[derive(Drop)]
+pub struct TcpClients {
+    listener: TcpListener,
+    poll: Poll,
+    events: Events,
+}
+
+impl TcpClients {
+    /// A listener at an address, `host:port`. None where none can be had.
+    pub fn bind<N: Net<Listener = TcpListener, Stream = TcpStream>>(
+        alloc: Global,
+        net: &N,
+        address: &str,
+    ) -> Option<TcpClients> {
+        let listener = TcpListener::bind(net, address).ok()?;
+        listener.set_nonblocking(true).ok()?;
+        let poll = Poll::new(net).ok()?;
+        poll.registry()
+            .register(
+                &mut SourceFd(&listener.as_raw_fd()),
+                Token(LISTENER),
+                Interest::READABLE,
+            )
+            .ok()?;
+        let events = Events::with_capacity(alloc, MAX_EVENTS).ok()?;
+        Some(TcpClients {
+            listener,
+            poll,
+            events,
+        })
+    }
+
+    /// The port that it listens at.
+    pub fn port(&self) -> Option<u16> {
+        Some(self.listener.local_addr().ok()?.port())
+    }
+}
+
+impl ClientListener for TcpClients {
+    type Stream = TcpClient;
+
+    fn next_client(&mut self, key: u64) -> Option<TcpClient> {
+        let (stream, _) = self.listener.accept().ok()?;
+        stream.set_nonblocking(true).ok()?;
+        self.poll
+            .registry()
+            .register(
+                &mut SourceFd(&stream.as_raw_fd()),
+                Token(key as usize),
+                Interest::READABLE,
+            )
+            .ok()?;
+        Some(TcpClient { stream })
+    }
+
+    fn wait(&mut self, limit: u64, room: &mut [u64]) -> Option<usize> {
+        if let Err(error) = self
+            .poll
+            .poll(&mut self.events, Some(Duration::from_millis(limit)))
+        {
+            return if error.kind() == ErrorKind::Interrupted {
+                Some(0)
+            } else {
+                None
+            };
+        }
+        let mut count = 0;
+        for event in self.events.iter() {
+            let Token(key) = event.token();
+            if key != LISTENER && count < room.len() {
+                room[count] = key as u64;
+                count += 1;
+            }
+        }
+        Some(count)
+    }
+}
