@@ -18,21 +18,24 @@ pub trait Clients: Drop {
     /// Waits for the next client. False where no client will come.
     fn accept(&mut self) -> Result<bool, Failed>
         ensures ok { OnOk result (client_faults self.new ≡ client_faults self.old) }
-        ensures err { OnErr result (client_faults self.new ≡ one_more (client_faults self.old)) };
+        ensures err { OnErr result (client_faults self.new ≡ one_more (client_faults self.old)) }
+        ensures later { client_faults self.old ≤ client_faults self.new };
 
     /// What the client gives next. It is 0 where its input ended.
     fn recv(&mut self, into: &mut [u8]) -> Result<usize, Failed>
         ensures bound { IfOk result (λ n. n ≤ length into.new) }
         ensures octets { ReadConsumes (gives self.old) (gives self.new) result into.new }
         ensures ok { OnOk result (client_faults self.new ≡ client_faults self.old) }
-        ensures err { OnErr result (client_faults self.new ≡ one_more (client_faults self.old)) };
+        ensures err { OnErr result (client_faults self.new ≡ one_more (client_faults self.old)) }
+        ensures later { client_faults self.old ≤ client_faults self.new };
 
     /// Gives the client some of the octets, from their front. Where it fails, none of them.
     fn send(&mut self, from: &[u8]) -> Result<usize, Failed>
         ensures bound { IfOk result (λ n. (0 < n) × (n ≤ length from.now)) }
         ensures octets { WriteAppends (takes self.old) (takes self.new) result from.now }
         ensures ok { OnOk result (client_faults self.new ≡ client_faults self.old) }
-        ensures err { OnErr result (client_faults self.new ≡ one_more (client_faults self.old)) };
+        ensures err { OnErr result (client_faults self.new ≡ one_more (client_faults self.old)) }
+        ensures later { client_faults self.old ≤ client_faults self.new };
 
     /// The answer to this client is whole.
     fn finish(&mut self)

@@ -98,9 +98,11 @@ impl<H: Host, C: Clients> Link for HostWorld<H, C> {
 
 impl<H: Host, C: Clients> Front for HostWorld<H, C> {
     fn accept(&mut self) -> Result<bool, Failed>
-        ensures same { self.new ≡ record self.old { front = self.new.front } }
+        ensures elsewhere { (self.new.link ≡ self.old.link) × (self.new.console ≡ self.old.console) × (self.new.host ≡ self.old.host) }
+        ensures secrets { (self.new.password ≡ self.old.password) × (self.new.token ≡ self.old.token) }
         ensures ok { OnOk result (C.client_faults self.new.front ≡ C.client_faults self.old.front) }
         ensures err { OnErr result (C.client_faults self.new.front ≡ one_more (C.client_faults self.old.front)) }
+        ensures later { C.client_faults self.old.front ≤ C.client_faults self.new.front }
     {
         self.front.accept()
     }
@@ -108,9 +110,11 @@ impl<H: Host, C: Clients> Front for HostWorld<H, C> {
     fn recv(&mut self, into: &mut [u8]) -> Result<usize, Failed>
         ensures bound { IfOk result (λ n. n ≤ length into.new) }
         ensures octets { ReadConsumes (C.gives self.old.front) (C.gives self.new.front) result into.new }
-        ensures same { self.new ≡ record self.old { front = self.new.front } }
+        ensures elsewhere { (self.new.link ≡ self.old.link) × (self.new.console ≡ self.old.console) × (self.new.host ≡ self.old.host) }
+        ensures secrets { (self.new.password ≡ self.old.password) × (self.new.token ≡ self.old.token) }
         ensures ok { OnOk result (C.client_faults self.new.front ≡ C.client_faults self.old.front) }
         ensures err { OnErr result (C.client_faults self.new.front ≡ one_more (C.client_faults self.old.front)) }
+        ensures later { C.client_faults self.old.front ≤ C.client_faults self.new.front }
     {
         self.front.recv(into)
     }
@@ -118,15 +122,18 @@ impl<H: Host, C: Clients> Front for HostWorld<H, C> {
     fn send(&mut self, from: &[u8]) -> Result<usize, Failed>
         ensures bound { IfOk result (λ n. (0 < n) × (n ≤ length from.now)) }
         ensures octets { WriteAppends (C.takes self.old.front) (C.takes self.new.front) result from.now }
-        ensures same { self.new ≡ record self.old { front = self.new.front } }
+        ensures elsewhere { (self.new.link ≡ self.old.link) × (self.new.console ≡ self.old.console) × (self.new.host ≡ self.old.host) }
+        ensures secrets { (self.new.password ≡ self.old.password) × (self.new.token ≡ self.old.token) }
         ensures ok { OnOk result (C.client_faults self.new.front ≡ C.client_faults self.old.front) }
         ensures err { OnErr result (C.client_faults self.new.front ≡ one_more (C.client_faults self.old.front)) }
+        ensures later { C.client_faults self.old.front ≤ C.client_faults self.new.front }
     {
         self.front.send(from)
     }
 
     fn finish(&mut self)
-        ensures same { self.new ≡ record self.old { front = self.new.front } }
+        ensures elsewhere { (self.new.link ≡ self.old.link) × (self.new.console ≡ self.old.console) × (self.new.host ≡ self.old.host) }
+        ensures secrets { (self.new.password ≡ self.old.password) × (self.new.token ≡ self.old.token) }
         ensures faults { C.client_faults self.new.front ≡ C.client_faults self.old.front }
     {
         self.front.finish();

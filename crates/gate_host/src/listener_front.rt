@@ -31,7 +31,8 @@ impl<L: ClientListener + Drop, C: Ticks + Drop> ListenerFront<L, C> {
     }
 
     fn fail(&mut self) -> Failed
-        ensures { self.new ≡ record self.old { faults = one_more self.old.faults } }
+        ensures same { self.new ≡ record self.old { faults = one_more self.old.faults } }
+        ensures later { self.old.faults ≤ self.new.faults }
     {
         self.faults = raised(self.faults);
         Failed
