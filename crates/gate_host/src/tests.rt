@@ -98,15 +98,27 @@ impl RandomSource for Desk {
     }
 }
 
+/// An input of these octets.
+#[derive(Drop)]
+struct Given {
+    octets: &'static [u8],
+}
+
+impl Read for Given {
+    fn read(&mut self, buf: &mut [u8]) -> io::Result<usize> {
+        self.octets.read(buf)
+    }
+}
+
 impl Host for Desk {
-    type Input = &'static [u8];
+    type Input = Given;
 
     type Output = Vec<u8>;
 
     type Errors = Vec<u8>;
 
-    fn input(&self) -> &'static [u8] {
-        b"ask"
+    fn input(&self) -> Given {
+        Given { octets: b"ask" }
     }
 
     fn output(&self) -> Vec<u8> {
@@ -122,7 +134,7 @@ impl Host for Desk {
     }
 }
 
-type DeskWorld = HostWorld<Desk, StandardFront<&'static [u8], Vec<u8>>>;
+type DeskWorld = HostWorld<Desk, StandardFront<Given, Vec<u8>>>;
 
 fn world_of(rt: HostRuntime, store: &str, random: Option<[u8; 8]>) -> Result<DeskWorld, Fail> {
     let alloc = rt.alloc();
