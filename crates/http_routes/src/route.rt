@@ -29,11 +29,17 @@ pub enum Route {
     MethodNotAllowed,
 }
 
+fn is_method(method: &[u8], wanted: &[u8]) -> bool
+    ensures { result ≡ bytes_eq method.now wanted.now }
+{
+    method == wanted
+}
+
 /// The route, where the method is the one that the path takes.
 fn of_method(method: &[u8], wanted: &[u8], route: Route) -> Route
     ensures { result ≡ spec.of_method method.now wanted.now route }
 {
-    if method == wanted {
+    if is_method(method, wanted) {
         route
     } else {
         Route::MethodNotAllowed
@@ -74,7 +80,7 @@ fn download_of(alloc: Global, account: &[u8], request: Request<'_>) -> Result<Ro
     if !is_of_account(alloc, account, request.path)? {
         return Ok(Route::NotFound);
     }
-    if request.method != b"GET".as_slice() {
+    if !is_method(request.method, b"GET") {
         return Ok(Route::MethodNotAllowed);
     }
     download(alloc, request)
