@@ -75,7 +75,7 @@ by_round {before} {after} a asks (inl ok) room none =
 by_round {before} {after} a asks (inr (inl lost)) room none =
     let fell : a.told.standing ≡ Fell (Linked end.Lost) = ap (λ (p : Progress). p.standing) asks.after_is ∙ ap standing_by lost in
     let blames : a.told.blamed ≡ blame_link 1 before.blamed = ap (λ (p : Progress). p.blamed) asks.after_is ∙ ap
-        (λ (r : Result (Unit {0}) LinkEnd). blame_link (lost_by r) before.blamed) lost in
+    (λ (r : Result (Unit {0}) LinkEnd). blame_link (lost_by r) before.blamed) lost in
     absurd (blamed_once before.blamed after a.told blames (settles_nothing a (λ is. cc)) none)
 by_round {before} {after} a asks (inr (inr memory)) room none =
     let out : a.told.standing ≡ OutOfMemory = ap (λ (p : Progress). p.standing) asks.after_is ∙ ap standing_by memory in
@@ -99,7 +99,7 @@ by_dial law b obeyed (inl ok) none = rounds_end law b.asks obeyed.round obeyed.r
 by_dial {after = after} law b obeyed (inr (inl lost)) none =
     let fell : b.connected.standing ≡ Fell (Linked end.Lost) = ap (λ (p : Progress). p.standing) b.dials.after_is ∙ ap standing_by lost in
     let blames : b.connected.blamed ≡ blame_link 1 no_faults = ap (λ (p : Progress). p.blamed) b.dials.after_is ∙ ap
-        (λ (r : Result (Unit {0}) LinkEnd). blame_link (lost_by r) no_faults) lost in
+    (λ (r : Result (Unit {0}) LinkEnd). blame_link (lost_by r) no_faults) lost in
     absurd (blamed_once no_faults after b.connected blames (asks_nothing b.asks (λ is. cc)) none)
 by_dial law b obeyed (inr (inr memory)) none =
     let out : b.connected.standing ≡ OutOfMemory = ap (λ (p : Progress). p.standing) b.dials.after_is ∙ ap standing_by memory in

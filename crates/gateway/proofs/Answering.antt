@@ -1,6 +1,6 @@
 -- One client is answered, part by part.
-use Rattle.std.proofs.Common.{arith, ◌≡◌, ◌≢◌, ◌⊎◌, ◌++◌, ◌∷◌, ◌≤◌, ◌+◌, ℕ, Bool, true, false, List, [], Option, Some, None, Result, Ok, Err, refl, sym, ◌∙◌, ap, subst, inl, inr,
-    append_assoc}
+use Rattle.std.proofs.Common.{arith, ◌≡◌, ◌≢◌, ◌⊎◌, ◌++◌, ◌∷◌, ◌≤◌, ◌+◌, ℕ, Bool, true, false, List, [], Option, Some, None, Result, Ok, Err, refl, sym, ◌∙◌, ap, subst, inl, inr}
+use Rattle.std.proofs.Common.{append_assoc}
 use Rattle.std.specs.Prelude.{IfOk, OnErr}
 use Rattle.std.specs.declared.alloc.AllocError.{AllocError}
 use Rattle.std.proofs.lemmas.List.{append-nil}
@@ -30,8 +30,8 @@ use Rattle.gateway.specs.declared.served.Served.TheVariants as served
 use Rattle.gateway.specs.Calls.{Mailing, needs_mail}
 use Rattle.gateway.specs.Front.{Asked}
 use Rattle.gateway.specs.Requests.{Account, Bare, Asking, FrontLost, NoMemory, Reads, asks_for_mail, calls_text, line_end, no_memory_text}
-use Rattle.gateway.specs.Segment.{Replies, Answered, LacksReading, LacksAnswering, Segment, NoneComes, NotAccepted, Unasked, Replied, reply_blamed, blamed, went, unsent,
-    blame_front}
+use Rattle.gateway.specs.Segment.{Replies, Answered, LacksReading, LacksAnswering, Segment, NoneComes, NotAccepted, Unasked, Replied, reply_blamed, blamed, went, unsent}
+use Rattle.gateway.specs.Segment.{blame_front}
 use Rattle.gateway.specs.Run.{StepsTo}
 use Rattle.gateway.specs.Work.{Work, NoMail, WithMail, mailing_by}
 use Rattle.gateway.specs.reading.Replying.{IsWorked, WorksTo, IsLined, LinesTo, text_in, RepliesBy, RepliesToRequest, RepliesToBody, Refuses, Fails, SendsReply, Serves}
@@ -49,8 +49,12 @@ rose_none was now later = omega arith
 
 pub bears_none : (was now : Faults) → Later was now → Bears no_faults was now
 bears_none was now later =
-    record { link = rose_none was.link now.link later.link; keep = rose_none was.keep now.keep later.keep; front = rose_none was.front now.front later.front; say =
-        rose_none was.say now.say later.say }
+    record {
+      link = rose_none was.link now.link later.link;
+      keep = rose_none was.keep now.keep later.keep;
+      front = rose_none was.front now.front later.front;
+      say = rose_none was.say now.say later.say;
+    }
 
 pub bears_later : (b was mid now : Faults) → Bears b was mid → Later mid now → Bears b was now
 bears_later b was mid now bears later =
@@ -87,8 +91,12 @@ later_front was now alone = record { link = omega (arith, alone.link); keep = om
 
 pub later_both : (was mid now : Faults) → Later was mid → Later mid now → Later was now
 later_both was mid now one two =
-    record { link = omega (arith, one.link, two.link); keep = omega (arith, one.keep, two.keep); front = omega (arith, one.front, two.front); say = omega
-        (arith, one.say, two.say) }
+    record {
+      link = omega (arith, one.link, two.link);
+      keep = omega (arith, one.keep, two.keep);
+      front = omega (arith, one.front, two.front);
+      say = omega (arith, one.say, two.say);
+    }
 
 -- ---- the work
 
@@ -188,9 +196,10 @@ pub body_fails : {X : Type 0} (view : X → RequestData) (user password base bod
 body_fails view user password base body before after f error (reply.Line text) same agrees fails =
     record {
       of = λ asked reads.
-          let is : requested body ≡ Err error = elim agrees [ inl memory ↦ absurd (fails.0 memory) | inr is ↦ is ] in
-          (Answered asked [] (Err error) (Err ServerUnavailable) (idle before) refl (inl (body, reads, sym is)) (NoMail refl refl refl refl) (λ out. cc) fails.1 fails.2,
-              bears_none f f same);
+          let is : requested body ≡ Err error = elim agrees [ inl memory ↦ absurd (fails.0 memory) | inr is ↦ is ] in (
+            Answered asked [] (Err error) (Err ServerUnavailable) (idle before) refl (inl (body, reads, sym is)) (NoMail refl refl refl refl) (λ out. cc) fails.1 fails.2,
+            bears_none f f same,
+          );
     }
 body_fails view user password base body before after f error reply.NoMemory same agrees fails =
     record { of = λ asked reads. (LacksReading (inr (body, subst (λ (l : List Event). Asked (Ok body) l) (sym (append-nil asked)) reads)) refl fails, bears_none f f same) }
@@ -220,12 +229,16 @@ read_body {user} {password} {base} {body} {before} {after} {mid} {now} {r} {ys} 
 
 pub read_large : {events : List Event} (account : Account) (before after : Machine) (was now : Faults) (r : Reply) → Later was now → Asked (Err ask.TooLarge) events
     → Refuses (request.Limit MaxSizeRequest) before after r → RepliesBy account before after was now r events
-read_large {events} account before after was now (reply.Line text) later asked refuses =
-    (Answered events [] (Err (request.Limit MaxSizeRequest)) (Err ServerUnavailable) (idle before) (sym (append-nil events)) (inr (asked, refl)) (NoMail refl refl refl refl)
-        (λ out. cc) refuses.0 refuses.1, bears_none was now later)
-read_large {events} account before after was now reply.NoMemory later asked refuses =
-    (LacksAnswering events [] (Err (request.Limit MaxSizeRequest)) (Err ServerUnavailable) (idle before) (sym (append-nil events)) (inr (asked, refl))
-        (NoMail refl refl refl refl) refl refuses, bears_none was now later)
+read_large {events} account before after was now (reply.Line text) later asked refuses = (
+  Answered events [] (Err (request.Limit MaxSizeRequest)) (Err ServerUnavailable) (idle before) (sym (append-nil events)) (inr (asked, refl)) (NoMail refl refl refl refl)
+      (λ out. cc) refuses.0 refuses.1,
+  bears_none was now later,
+)
+read_large {events} account before after was now reply.NoMemory later asked refuses = (
+  LacksAnswering events [] (Err (request.Limit MaxSizeRequest)) (Err ServerUnavailable) (idle before) (sym (append-nil events)) (inr (asked, refl))
+      (NoMail refl refl refl refl) refl refuses,
+  bears_none was now later,
+)
 read_large account before after was now reply.Nothing later asked refuses = absurd refuses
 
 pub read_lacking : {events : List Event} (account : Account) (before after : Machine) (was now : Faults) → Later was now → Asked (Err ask.Memory) events → after ≡ forgotten before
@@ -293,8 +306,13 @@ serves_reply account before after was mid now xs ys reply.Nothing how later alon
 pub steps_fault : {account : Account} {events : List Event} (machine : Machine) (was now : Faults) → events ≡ FrontFailed ∷ [] → FrontAlone was now → Rose was.front now.front
     → StepsTo Bare account machine (λ m. machine ≡ m) was now served.AcceptFault events
 steps_fault machine was now is alone rose =
-    record { after = machine; segment = NotAccepted is refl refl; stands = refl; bears = bears_front 1 no_faults was was now
-        (bears_none was was (later_same was was refl)) alone rose }
+    record {
+      after = machine;
+      segment = NotAccepted is refl refl;
+      stands = refl;
+      bears = bears_front 1 no_faults was was now
+          (bears_none was was (later_same was was refl)) alone rose;
+    }
 
 pub steps_none : {account : Account} {events : List Event} (machine : Machine) (was now : Faults) → events ≡ NoMore ∷ [] → FrontAlone was now
     → StepsTo Bare account machine (λ m. machine ≡ m) was now served.NoMore events

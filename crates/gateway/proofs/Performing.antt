@@ -17,8 +17,8 @@ use Rattle.gateway.specs.declared.served.OpenError.{OpenError}
 use Rattle.gateway.specs.declared.served.OpenError.TheVariants as opening
 use Rattle.gateway.specs.Requests.{Account, Bare}
 use Rattle.gateway.specs.Segment.{Segment, blamed, blame_front}
-use Rattle.gateway.specs.Run.{Opens, StepsTo, EndsOnce, EndsShow, IsSaid, front_failed, account_of, show_blamed, words_refused, Ran, Unopened, ServedOnce, ShownOne, Runs, Refused,
-    OutOfMemory, Done, RunsShow, Performs, IsWholeRun}
+use Rattle.gateway.specs.Run.{Opens, StepsTo, EndsOnce, EndsShow, IsSaid, front_failed, account_of, show_blamed, words_refused, Ran, Unopened, ServedOnce, ShownOne, Runs, Refused}
+use Rattle.gateway.specs.Run.{OutOfMemory, Done, RunsShow, Performs, IsWholeRun}
 use Rattle.gateway.proofs.Answering.{bears_none, bears_later, bears_earlier, later_same, bears_failed}
 
 later_say : (was now : Faults) → SayAlone was now → Later was now

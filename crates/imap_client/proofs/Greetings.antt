@@ -109,6 +109,8 @@ lived {xs} ys user password after up preauth at before client result before_is u
 pub connected : {xs : List Event} (ys : List Event) (user password user' password' : List ℕ) (client : ClientState) (result : Result (Unit {0}) LinkEnd) → xs ≡ Dialed ∷ []
     → user' ≡ user → password' ≡ password → (left : Option LinkLife) × Lives user' password' left client result ys
     → (left : Option LinkLife) × Connects user password left client result (xs ++ ys)
-connected ys user password user' password' client result is same same' (left, lives) =
-    (left, Lived ys (ap (λ (l : List Event). l ++ ys) is)
-        (subst (λ (p : List ℕ). Lives user p left client result ys) same' (subst (λ (u : List ℕ). Lives u password' left client result ys) same lives)))
+connected ys user password user' password' client result is same same' (left, lives) = (
+  left,
+  Lived ys (ap (λ (l : List Event). l ++ ys) is)
+      (subst (λ (p : List ℕ). Lives user p left client result ys) same' (subst (λ (u : List ℕ). Lives u password' left client result ys) same lives)),
+)

@@ -1,6 +1,6 @@
 -- A link life, exchange by exchange.
-use Rattle.std.proofs.Common.{◌≡◌, ◌++◌, ◌+◌, ℕ, Bool, true, false, List, [], ◌∷◌, Option, None, Ok, Err, length, fold, refl, sym, ◌∙◌, ap, subst, append_assoc, length-append,
-    arith}
+use Rattle.std.proofs.Common.{◌≡◌, ◌++◌, ◌+◌, ℕ, Bool, true, false, List, [], ◌∷◌, Option, None, Ok, Err, length, fold, refl, sym, ◌∙◌, ap, subst, append_assoc, length-append}
+use Rattle.std.proofs.Common.{arith}
 use Rattle.std.proofs.lemmas.List.{append-nil}
 use Rattle.std.proofs.lemmas.List.Sums.{fold-append}
 use Rattle.gate_world.specs.declared.event.Event.{Event}
@@ -15,8 +15,8 @@ use Rattle.imap_exchange.specs.declared.link_end.LinkEnd.{LinkEnd}
 use Rattle.told_folder.specs.declared.exchange.Exchange.{Exchange}
 use Rattle.imap_exchange.specs.Received.{Octets}
 use Rattle.imap_exchange.specs.Exchanges.{Done, IsVerdict, VerdictOf, IsTaken}
-use Rattle.imap_client.specs.LinkLife.{with_part, hung_up, LinkLife, IsLife, IsExchange, Completed, ClientState, Stands, fresh, next_number, selected, selected_after, unread,
-    with_exchange}
+use Rattle.imap_client.specs.LinkLife.{with_part, hung_up, LinkLife, IsLife, IsExchange, Completed, ClientState, Stands, fresh, next_number, selected, selected_after, unread}
+use Rattle.imap_client.specs.LinkLife.{with_exchange}
 use Rattle.imap_exchange.specs.Answering.{selected_by, end_unless}
 use Rattle.imap_exchange.specs.Answering.{Converses, answer_of, IsOf, HangsUp}
 use Rattle.imap_client.specs.Calls.{IsExchanged}
@@ -26,8 +26,12 @@ use Rattle.imap_exchange.proofs.Verdicts.{Begins-more, Passes-more}
 pub verdict_more : {tag : List ℕ} {pieces : List (List ℕ)} {octets rest : List ℕ} {responses : List Response} {s : Status} {code : Code} (g : List ℕ) → IsVerdict tag pieces octets
     (Done responses s code rest) → IsVerdict tag pieces (octets ++ g) (Done responses s code (rest ++ g))
 verdict_more {tag} {pieces} {octets} {rest} {responses} {s} {code} g v =
-    record { responses = v.responses; remaining = v.remaining ++ g; passed = Passes-more g v.passed; decided =
-        (v.decided.0, Begins-more (Tagged tag s code ∷ []) rest v.remaining g v.decided.1, v.decided.2) }
+    record {
+      responses = v.responses;
+      remaining = v.remaining ++ g;
+      passed = Passes-more g v.passed;
+      decided = (v.decided.0, Begins-more (Tagged tag s code ∷ []) rest v.remaining g v.decided.1, v.decided.2);
+    }
 
 exchange_more : {n : ℕ} {x : Exchange} {rest gave took : List ℕ} (g : List ℕ) → IsExchange n x rest gave took → IsExchange n x (rest ++ g) (gave ++ g) took
 exchange_more g so = record { verdict = verdict_more g so.verdict; taken = so.taken }
@@ -39,9 +43,15 @@ completed_more n [] x rest gave took g rest' t (gave_is, took_is) so =
     let here = subst (λ (k : ℕ). IsExchange k x rest' (rest ++ g) t) (omega arith) so in
     (rest', t, [], subst (λ (l : List ℕ). IsExchange n x rest' (l ++ g) t) (sym gave_is) here, ap (λ (l : List ℕ). l ++ t) took_is ∙ sym (append-nil t), (refl, refl))
 completed_more n (y ∷ xs) x rest gave took g rest' t (remaining, first, others, here, took_is, more) so =
-    let next : IsExchange (n + 1 + length xs) x rest' (rest ++ g) t = subst (λ (k : ℕ). IsExchange k x rest' (rest ++ g) t) (omega arith) so in
-    (remaining ++ g, first, others ++ t, exchange_more g here, ap (λ (l : List ℕ). l ++ t) took_is ∙ append_assoc first others t, completed_more
-        (n + 1) xs x rest remaining others g rest' t more next)
+    let next : IsExchange (n + 1 + length xs) x rest' (rest ++ g) t = subst (λ (k : ℕ). IsExchange k x rest' (rest ++ g) t) (omega arith) so in (
+      remaining ++ g,
+      first,
+      others ++ t,
+      exchange_more g here,
+      ap (λ (l : List ℕ). l ++ t) took_is ∙ append_assoc first others t,
+      completed_more
+          (n + 1) xs x rest remaining others g rest' t more next,
+    )
 
 -- further octets after the last exchange
 completed_rest : (n : ℕ) (xs : List Exchange) (rest gave took g : List ℕ) → Completed n xs rest gave took → Completed n xs (rest ++ g) (gave ++ g) took
@@ -100,11 +110,11 @@ goes_ok : {es : List Event} (life : LinkLife) → life.goes_on ≡ true → (com
     (with_exchange life gave took x after.octets up)) → (left : LinkLife) × IsExchanged life command left client (Ok x) es
 goes_ok {es} life on command x n before after up client folder n_is before_is folder_is command_is selected_is so stands =
     let there : Converses (tag_of (next_number life)) (command_pieces command (next_number life)) (unread life) after up
-        (Ok (record { responses = x.responses; status = x.status; code = x.code })) es =
+    (Ok (record { responses = x.responses; status = x.status; code = x.code })) es =
     subst (λ (u : Octets). Converses (tag_of (next_number life)) (command_pieces command (next_number life)) u after up
-        (Ok (record { responses = x.responses; status = x.status; code = x.code })) es) before_is
-        (subst (λ (k : ℕ). Converses (tag_of k) (command_pieces command k) before after up (Ok (record { responses = x.responses; status = x.status; code = x.code })) es) n_is
-        so) in
+    (Ok (record { responses = x.responses; status = x.status; code = x.code })) es) before_is
+    (subst (λ (k : ℕ). Converses (tag_of k) (command_pieces command k) before after up (Ok (record { responses = x.responses; status = x.status; code = x.code })) es) n_is
+    so) in
     let verdict : VerdictOf (next_number life) x.command (life.rest ++ there.speaks.gave) (Done x.responses x.status x.code after.octets) =
     subst (λ (c : Command). VerdictOf (next_number life) c (life.rest ++ there.speaks.gave) (Done x.responses x.status x.code after.octets)) (sym command_is) there.comes.0 in
     let taken : IsTaken (command_pieces x.command (next_number life)) x.responses x.status there.speaks.took =
@@ -134,7 +144,7 @@ pub goes_on : {es : List Event} (life : LinkLife) (command : Command) (x : Excha
 goes_on life command x now folder n alive up before after is_alive is_up stands of so =
     let on : life.goes_on ≡ true = sym stands.alive ∙ is_alive in
     goes_ok life on command x n before after up (place_of alive after (n + 1) now) folder (stands.number_is on)
-        (stands.unread_is on) stands.selected_is of.command_is of.selected_is so (λ gave took here given.
+    (stands.unread_is on) stands.selected_is of.command_is of.selected_is so (λ gave took here given.
     let next = with_exchange life gave took x after.octets up in
     record {
       alive = is_alive ∙ sym is_up;
@@ -155,7 +165,7 @@ pub goes_down : {es : List Event} (life : LinkLife) (command : Command) (x : Exc
 goes_down life command x now folder n alive up before after is_alive is_down stands of so =
     let on : life.goes_on ≡ true = sym stands.alive ∙ is_alive in
     goes_ok life on command x n before after up fresh folder (stands.number_is on) (stands.unread_is on) stands.selected_is of.command_is of.selected_is so
-        (λ gave took here given. stands_ended (with_exchange life gave took x after.octets up) is_down (life_more life gave took after.octets x up on stands.spelled here))
+    (λ gave took here given. stands_ended (with_exchange life gave took x after.octets up) is_down (life_more life gave took after.octets x up on stands.spelled here))
 
 -- the exchange isn't completed
 pub goes_not : {xs : List Event} (ys : List Event) (life : LinkLife) (command : Command) (e : LinkEnd) (folder : Option (List ℕ)) (n : ℕ) (alive up : Bool) (before after : Octets)
@@ -165,13 +175,19 @@ goes_not {xs} ys life command e folder n alive up before after is_alive stands s
     let on : life.goes_on ≡ true = sym stands.alive ∙ is_alive in
     let there : Converses (tag_of (next_number life)) (command_pieces command (next_number life)) (unread life) after up (Err e) xs =
     subst (λ (u : Octets). Converses (tag_of (next_number life)) (command_pieces command (next_number life)) u after up (Err e) xs) (stands.unread_is on)
-        (subst (λ (k : ℕ). Converses (tag_of k) (command_pieces command k) before after up (Err e) xs) (stands.number_is on) so) in (
+    (subst (λ (k : ℕ). Converses (tag_of k) (command_pieces command k) before after up (Err e) xs) (stands.number_is on) so) in (
       with_part life there.speaks.gave there.speaks.took,
       record {
         ends = record {
           on = on;
-          speaks = record { talk = there.speaks.talk; gave = there.speaks.gave; took = there.speaks.took; ended = ended_by up there.speaks.talk there.speaks.ended hangs; said =
-              there.speaks.said; paced = there.speaks.paced };
+          speaks = record {
+            talk = there.speaks.talk;
+            gave = there.speaks.gave;
+            took = there.speaks.took;
+            ended = ended_by up there.speaks.talk there.speaks.ended hangs;
+            said = there.speaks.said;
+            paced = there.speaks.paced;
+          };
           after_is = refl;
           cause = there.comes;
         };

@@ -1,6 +1,6 @@
 -- Octets that obey a plan whole let it end well.
-use Rattle.std.proofs.Common.{◌≡◌, ◌⊎◌, ◌++◌, ◌+◌, ℕ, Bool, true, false, List, [], ◌∷◌, Option, None, Result, Ok, Err, refl, sym, ◌∙◌, ap, subst, append_assoc, length-append, inl,
-    inr}
+use Rattle.std.proofs.Common.{◌≡◌, ◌⊎◌, ◌++◌, ◌+◌, ℕ, Bool, true, false, List, [], ◌∷◌, Option, None, Result, Ok, Err, refl, sym, ◌∙◌, ap, subst, append_assoc, length-append, inl}
+use Rattle.std.proofs.Common.{inr}
 use Rattle.std.specs.List.{flat_map}
 use Rattle.std.proofs.lemmas.List.{append-nil}
 use Rattle.std.proofs.lemmas.List.Concat.{flat_map-append}
@@ -64,7 +64,7 @@ selected_next : (mid after : LinkLife) (gave took rest : List ℕ) (x : Exchange
 selected_next mid after gave took rest x on is on' =
     let next = with_exchange mid gave took x rest after.goes_on in
     ap (λ (f : Option (List ℕ)). selected_by x.command x.status f) (selected_of mid on) ∙ sym (fold-append selected_after None mid.exchanges (x ∷ [])) ∙ sym (selected_of next on')
-        ∙ ap selected (sym is)
+    ∙ ap selected (sym is)
 
 -- the next exchange is the one that obeys
 obeyed_next : {plan : Planned} {heard : List Exchange} {mid after : LinkLife} {events : List Event} (octets : List ℕ) (command : Command) (x : Exchange)
@@ -74,12 +74,12 @@ obeyed_next octets command x is c (AllDone over) = absurd (send_not_done command
 obeyed_next {plan} {heard} {mid} {after} octets command x is c (Answered y rest asked folder_is verdict more) =
     let command_is : y.command ≡ command = send_same y.command command (sym asked ∙ is) in
     let there : VerdictOf (next_number mid) command (mid.rest ++ (c.speaks.gave ++ octets)) (Done y.responses y.status y.code rest) = subst
-        (λ (d : Command). VerdictOf (next_number mid) d (mid.rest ++ (c.speaks.gave ++ octets)) (Done y.responses y.status y.code rest)) command_is verdict in
+    (λ (d : Command). VerdictOf (next_number mid) d (mid.rest ++ (c.speaks.gave ++ octets)) (Done y.responses y.status y.code rest)) command_is verdict in
     let here : VerdictOf (next_number mid) command (mid.rest ++ (c.speaks.gave ++ octets)) (Done x.responses x.status x.code (c.rest ++ octets)) =
     subst (λ (o : List ℕ). VerdictOf (next_number mid) command o (Done x.responses x.status x.code (c.rest ++ octets))) (append_assoc mid.rest c.speaks.gave octets)
-        (verdict_more octets c.verdict) in
+    (verdict_more octets c.verdict) in
     let parts = done_same _ _ _ _ _ _ _ _ (one_verdict (tag_of (next_number mid)) (command_pieces command (next_number mid))
-        (mid.rest ++ (c.speaks.gave ++ octets)) _ _ there here) in
+    (mid.rest ++ (c.speaks.gave ++ octets)) _ _ there here) in
     let same : y ≡ x = same_exchange y x (command_is ∙ sym c.command_is) (folder_is ∙ sym c.selected_is) parts.0 parts.1 parts.2 in
     record {
       number = next_number mid + 1;
@@ -99,12 +99,12 @@ obeyed_so_far {life = life} octets Begun o = record { number = next_number life;
 obeyed_so_far {plan} {life} octets (Then {xs} {mid} {after} {es} {fs} command x ran is c) o =
     let gave_is : flat_map store_gave_in (es ++ fs) ++ octets ≡ flat_map store_gave_in es ++ (c.speaks.gave ++ octets) =
     ap (λ (l : List ℕ). l ++ octets) (flat_map-append store_gave_in es fs) ∙ append_assoc (flat_map store_gave_in es) (flat_map store_gave_in fs) octets ∙ ap
-        (λ (l : List ℕ). flat_map store_gave_in es ++ (l ++ octets)) (spoken_gives c.speaks) in
+    (λ (l : List ℕ). flat_map store_gave_in es ++ (l ++ octets)) (spoken_gives c.speaks) in
     let so = obeyed_so_far (c.speaks.gave ++ octets) ran (subst (λ (l : List ℕ). Obeys plan [] (next_number life) (selected life) (life.rest ++ l)) gave_is o) in
     let at = so.here c.on in
     let there : Obeys plan xs (next_number mid) (selected mid) (mid.rest ++ (c.speaks.gave ++ octets)) =
     subst (λ (l : List ℕ). Obeys plan xs (next_number mid) (selected mid) l) at.2
-        (subst (λ (f : Option (List ℕ)). Obeys plan xs (next_number mid) f so.left) at.1 (subst (λ (n : ℕ). Obeys plan xs n so.folder so.left) at.0 so.obeys)) in
+    (subst (λ (f : Option (List ℕ)). Obeys plan xs (next_number mid) f so.left) at.1 (subst (λ (n : ℕ). Obeys plan xs n so.folder so.left) at.0 so.obeys)) in
     obeyed_next octets command x is c there
 
 -- ---- its end
@@ -151,7 +151,7 @@ broken_end command e is b (AllDone over) = absurd (send_not_done command (sym ov
 broken_end {after = after} command e is b (Answered y rest asked folder_is verdict more) =
     let command_is : y.command ≡ command = send_same y.command command (sym asked ∙ is) in
     answered_cause after command b.speaks.gave b.speaks.took rest y.responses y.status y.code e
-        (subst (λ (d : Command). VerdictOf (next_number after) d (after.rest ++ b.speaks.gave) (Done y.responses y.status y.code rest)) command_is verdict) b.cause
+    (subst (λ (d : Command). VerdictOf (next_number after) d (after.rest ++ b.speaks.gave) (Done y.responses y.status y.code rest)) command_is verdict) b.cause
 
 either_well : (e : LinkEnd) (result : Result (Unit {0}) LinkEnd) → result ≡ Err e → (e ≡ end.Lost) ⊎ (e ≡ end.Memory) → EndsWell result
 either_well e result is (inl lost) = inr (inl (is ∙ ap Err lost))
@@ -165,7 +165,7 @@ ends_well {plan} {heard} {after} {result = result} (Broken command e is failed b
     let at = so.here b.on in
     let there : Obeys plan heard (next_number after) (selected after) (after.rest ++ b.speaks.gave) =
     subst (λ (l : List ℕ). Obeys plan heard (next_number after) (selected after) l) (at.2 ∙ ap (λ (l : List ℕ). after.rest ++ l) (spoken_gives b.speaks))
-        (subst (λ (f : Option (List ℕ)). Obeys plan heard (next_number after) f so.left) at.1 (subst (λ (n : ℕ). Obeys plan heard n so.folder so.left) at.0 so.obeys)) in
+    (subst (λ (f : Option (List ℕ)). Obeys plan heard (next_number after) f so.left) at.1 (subst (λ (n : ℕ). Obeys plan heard n so.folder so.left) at.0 so.obeys)) in
     either_well e result failed (broken_end command e is b there)
 ends_well (Gone command is over lost none same) so = inr (inl lost)
 ends_well (Wanting memory hangs same) so = inr (inr memory)
@@ -175,5 +175,5 @@ pub obeyed_plans_end_ok : (plan : Planned) (life left : LinkLife) (exchanges : L
     → Obeys plan [] (next_number life) (selected life) (life.rest ++ flat_map store_gave_in events) → EndsWell result
 obeyed_plans_end_ok plan life left exchanges client result events f o =
     let gave_is : flat_map store_gave_in events ≡ flat_map store_gave_in f.so_far ++ flat_map store_gave_in f.last = ap (λ (l : List Event). flat_map store_gave_in l) f.whole
-        ∙ flat_map-append store_gave_in f.so_far f.last in
+    ∙ flat_map-append store_gave_in f.so_far f.last in
     ends_well f.ends (obeyed_so_far (flat_map store_gave_in f.last) f.ran (subst (λ (l : List ℕ). Obeys plan [] (next_number life) (selected life) (life.rest ++ l)) gave_is o))

@@ -93,15 +93,33 @@ broken {xs = xs} ys command e next is so goes =
 pub refused : {plan : Planned} {life : LinkLife} {heard : List Exchange} {client : ClientState} {xs : List Event} (ys : List Event) (why : Refusal) (next : ClientState)
     → plan heard ≡ due.Fails why → next ≡ fresh → Going plan life heard client xs
     → HangsUp client.alive ys → Left plan life heard next (Err (refusal_end why)) (xs ++ ys)
-refused {xs = xs} ys why next is none so hangs =
-    (hung_up so.after, record { after = so.after; so_far = xs; last = ys; ran = so.ran; ends = Failed why is refl (hung ys so.stands hangs) refl; whole = refl; stands =
-        stands_hung next none so.stands })
+refused {xs = xs} ys why next is none so hangs = (
+  hung_up so.after,
+  record {
+    after = so.after;
+    so_far = xs;
+    last = ys;
+    ran = so.ran;
+    ends = Failed why is refl (hung ys so.stands hangs) refl;
+    whole = refl;
+    stands = stands_hung next none so.stands;
+  },
+)
 
 pub wanting : {plan : Planned} {life : LinkLife} {heard : List Exchange} {client : ClientState} {xs : List Event} (ys : List Event) (next : ClientState) → next ≡ fresh
     → Going plan life heard client xs → HangsUp client.alive ys → Left plan life heard next (Err end.Memory) (xs ++ ys)
-wanting {xs = xs} ys next none so hangs =
-    (hung_up so.after, record { after = so.after; so_far = xs; last = ys; ran = so.ran; ends = Wanting refl (hung ys so.stands hangs) refl; whole = refl; stands =
-        stands_hung next none so.stands })
+wanting {xs = xs} ys next none so hangs = (
+  hung_up so.after,
+  record {
+    after = so.after;
+    so_far = xs;
+    last = ys;
+    ran = so.ran;
+    ends = Wanting refl (hung ys so.stands hangs) refl;
+    whole = refl;
+    stands = stands_hung next none so.stands;
+  },
+)
 
 pub gone : {plan : Planned} {life : LinkLife} {heard : List Exchange} {client : ClientState} {xs : List Event} (ys : List Event) (command : Command) (next : ClientState)
     → plan heard ≡ due.Send command → next ≡ fresh → client.alive ≡ false → Going plan life heard client xs
@@ -222,7 +240,7 @@ pub course_wants_more : {S : Type 0} {plan : S → Planned} {hears : S → Excha
     → Adds before last (EndsTo plan hears first state begun later_client (Err end.Memory))
 course_wants_more {plan = plan} {first = first} {begun = begun} {mid = mid} state command x later_client is ended c adds hangs =
     let gone_on = join (λ es. (life : LinkLife) → Stands begun life → Going (plan first) life (c.heard ++ x ∷ []) mid es) c.tape adds
-        (λ xs ys so goes life stands. going_more ys command x mid (due_of (due.Send command) c is) (so life stands) goes) in
+    (λ xs ys so goes life stands. going_more ys command x mid (due_of (due.Send command) c is) (so life stands) goes) in
     join _ gone_on hangs (λ xs ys so hung life stands. told_to (λ other. absurd (other refl)) (wanting ys later_client ended (so life stands) hung))
 
 -- all is done

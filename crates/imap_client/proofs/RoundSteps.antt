@@ -66,9 +66,9 @@ body_stops folder uid s =
     record {
       stops = λ xs command x is other done.
           let step_is : fold (body_step folder uid) s (xs ++ x ∷ []) ≡ body_step folder uid (fold (body_step folder uid) s xs) x = fold-append (body_step folder uid) s xs
-              (x ∷ []) in
+          (x ∷ []) in
           let same : body_from folder uid s (xs ++ x ∷ []) ≡ body_from folder uid (fold (body_step folder uid) s xs) (x ∷ []) = ap
-              (λ (now : BodyState). body_from folder uid now []) step_is in
+          (λ (now : BodyState). body_from folder uid now []) step_is in
           fails_not_done refusal.Refused (sym (body_refused folder uid (fold (body_step folder uid) s xs) x (not_ok x.status other)) ∙ sym same ∙ done);
     }
 
@@ -156,8 +156,8 @@ follows_body : {life left : LinkLife} {client : ClientState} {result : Result (U
     (body_from folder uid (body_start (selected life) before folder)) life left xs client result es
 follows_body {life} {left} {client} {result} {es} {xs} folder uid before first folder_is uid_is start_is f =
     subst (λ (s : BodyState). Follows (body_from folder uid s) life left xs client result es) start_is
-        (subst (λ (u : ℕ). Follows (body_from folder u (body_view first)) life left xs client result es) uid_is
-        (subst (λ (n : ℕ). Follows (body_from n first.uid (body_view first)) life left xs client result es) folder_is f))
+    (subst (λ (u : ℕ). Follows (body_from folder u (body_view first)) life left xs client result es) uid_is
+    (subst (λ (n : ℕ). Follows (body_from n first.uid (body_view first)) life left xs client result es) folder_is f))
 
 -- the end of a fetch, as it is followed
 abbrev pub unit_end : LinkEnd → Result (Unit {0}) LinkEnd
@@ -192,6 +192,6 @@ body_fetched {life = life} body folder uid before after first last folder_is uid
       body = λ octets is.
           let same : body ≡ octets = cc in
           let ends : body_view last ≡ fold (body_step folder uid) (body_start (selected life) before folder) f.exchanges = (body_folded heard).2
-              ∙ (λ i. fold (body_step (folder_is i) (uid_is i)) (start_is i) f.exchanges) in
+          ∙ (λ i. fold (body_step (folder_is i) (uid_is i)) (start_is i) f.exchanges) in
           sym (ap (λ (s : BodyState). s.stage) ends) ∙ body_is ∙ ap bstage.Fetched same;
     }

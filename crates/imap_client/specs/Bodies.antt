@@ -92,8 +92,11 @@ pub record BodyState : Type 0 where
   pub mail : Mail
 
 abbrev pub body_step : ℕ → ℕ → BodyState → Exchange → BodyState
-body_step folder uid s x = record { stage = body_after folder uid s.stage (validity_of (folder_in s.mail.folders folder)) x (tell s.mail x); mail =
-    tell s.mail x }
+body_step folder uid s x = record {
+  stage = body_after folder uid s.stage (validity_of (folder_in s.mail.folders folder)) x (tell s.mail x);
+  mail =
+      tell s.mail x;
+}
 
 -- what is asked next from here, once these exchanges are completed
 abbrev pub body_from : ℕ → ℕ → BodyState → Planned

@@ -45,7 +45,7 @@ abbrev pub Completed : ℕ → List Exchange → List ℕ → List ℕ → List 
 Completed n [] rest gave took = (gave ≡ rest) × (took ≡ [])
 Completed n (x ∷ xs) rest gave took =
     (remaining : List ℕ) × (first : List ℕ) × (others : List ℕ) × IsExchange n x remaining gave first × (took ≡ first ++ others) × Completed
-        (n + 1) xs rest remaining others
+    (n + 1) xs rest remaining others
 
 -- The octets of the life are a greeting (section 7.1), the completed exchanges, and the rest. While it goes on no command
 -- is taken in part.

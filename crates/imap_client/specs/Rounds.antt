@@ -1,7 +1,7 @@
 -- A round: LIST, and then for each folder that can be selected, by number, SELECT and what is fetched (RFC 9051
 -- sections 6.3.2, 6.3.9 and 6.4.5, RFC 7162 section 3.2.5).
-use Rattle.std.specs.Prelude.{◌≡◌, ◌≢◌, ◌<◌, ◌≤◌, ◌^◌, ◌+◌, ◌-◌, ◌==◌, ◌||◌, ℕ, Bool, false, not, nat_lt, min, List, [], ◌∷◌, codes, bytes_eq, drop, fold,
-    if◌then◌else◌, is_some, slice_get, unwrap_or, Option, Some, None, Result, Err}
+use Rattle.std.specs.Prelude.{◌≡◌, ◌≢◌, ◌<◌, ◌≤◌, ◌^◌, ◌+◌, ◌-◌, ◌==◌, ◌||◌, ℕ, Bool, false, not, nat_lt, min, List, [], ◌∷◌, codes, bytes_eq, drop, fold}
+use Rattle.std.specs.Prelude.{if◌then◌else◌, is_some, slice_get, unwrap_or, Option, Some, None, Result, Err}
 use Rattle.std.specs.List.{list_any}
 use Rattle.gate_world.specs.declared.event.Event.{Event}
 use Rattle.imap_syntax.specs.declared.code.Code.TheVariants as code

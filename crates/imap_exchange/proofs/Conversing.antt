@@ -1,6 +1,6 @@
 -- An exchange, piece by piece and response by response.
-use Rattle.std.proofs.Common.{◌-◌, ◌≡◌, ◌≢◌, ◌⊎◌, ◌<◌, ◌≤◌, ◌++◌, ◌+◌, ℕ, zero, suc, Bool, true, false, List, [], ◌∷◌, Ok, Err, length, take, min, refl, sym, ◌∙◌, ap, subst,
-    append_assoc, length-append, arith, inl, inr, nat_eq}
+use Rattle.std.proofs.Common.{◌-◌, ◌≡◌, ◌≢◌, ◌⊎◌, ◌<◌, ◌≤◌, ◌++◌, ◌+◌, ℕ, zero, suc, Bool, true, false, List, [], ◌∷◌, Ok, Err, length, take, min, refl, sym, ◌∙◌, ap, subst}
+use Rattle.std.proofs.Common.{append_assoc, length-append, arith, inl, inr, nat_eq}
 use Rattle.std.proofs.lemmas.List.{append-nil, take_all}
 use Rattle.std.proofs.lemmas.List.Sums.{sum_by-append}
 use Rattle.std.proofs.lemmas.List.Elements.{All-nil}
@@ -38,8 +38,17 @@ use Rattle.imap_exchange.proofs.Pacing.{paced_none, paced_reading, paced_writing
 pub offers_none : (up : Bool) (pieces : List (List ℕ)) (at : ℕ) → up ≡ true → length pieces ≤ at → Offers up true (piece_at pieces at) []
 offers_none up pieces at is past =
     subst (λ (b : Bool). Offers b true (piece_at pieces at) []) (sym is)
-        (record { talk = []; took = []; left = []; ended = refl; said = Talk-none; whole = sym (none_past pieces at past); all_taken = λ _. refl; some_left = λ _ never. absurd
-        (cc (never)) })
+    (record {
+      talk = [];
+      took = [];
+      left = [];
+      ended = refl;
+      said = Talk-none;
+      whole = sym (none_past pieces at past);
+      all_taken = λ _. refl;
+      some_left = λ _ never. absurd
+          (cc (never));
+    })
   where
     none_past : (pieces : List (List ℕ)) (at : ℕ) → length pieces ≤ at → piece_at pieces at ≡ []
     none_past [] at past = refl
@@ -94,8 +103,15 @@ first_piece {events} pieces before up o =
     let passed : Passes [] (before.octets ++ []) (before.octets ++ []) = record { all_open = All-nil IsOpen; spelled = refl } in
     let within : [] ++ (o.took ++ o.left) ≡ joined_pieces (pieces_due pieces []) = o.whole ∙ sym (joined_more pieces 0) in
     record {
-      speaks = record { talk = o.talk; gave = []; took = o.took; ended = o.ended; said = o.said; paced = paced_writing o.took o.left o.talk Talk-none
-          (paced_none pieces before.octets) o.said passed within };
+      speaks = record {
+        talk = o.talk;
+        gave = [];
+        took = o.took;
+        ended = o.ended;
+        said = o.said;
+        paced = paced_writing o.took o.left o.talk Talk-none
+            (paced_none pieces before.octets) o.said passed within;
+      };
       passed = record { all_open = All-nil IsOpen; spelled = append-nil before.octets };
       given = omega arith;
       left = o.left;
@@ -193,8 +209,15 @@ pub opened : {r : Response} {es : List Event} {pieces : List (List ℕ)} {before
     → Heard pieces before after responses w at up es → Course pieces before after (responses ++ r ∷ []) at up es
 opened {r} {es} {pieces} {before} {after} {responses} {at} {up} w is here h =
     let so : Course pieces before after (responses ++ w ∷ []) at up es =
-        record { speaks = h.speaks; passed = Passes-push w h.passed here h.begins; given = h.given; left = h.left; taken = h.taken; all_taken = h.all_taken; some_left =
-        h.some_left } in
+    record {
+      speaks = h.speaks;
+      passed = Passes-push w h.passed here h.begins;
+      given = h.given;
+      left = h.left;
+      taken = h.taken;
+      all_taken = h.all_taken;
+      some_left = h.some_left;
+    } in
     subst (λ (v : Response). Course pieces before after (responses ++ v ∷ []) at up es) (sym is) so
 
 -- how many continuations came, with one response more
@@ -238,7 +261,7 @@ continued {xs} {zs} {pieces} {before} {after} {responses} {at} {up} w place now 
     let counted : continuations (responses ++ w ∷ []) ≡ continuations responses + 1 = ap (λ (r : Response). continuations (responses ++ r ∷ [])) is ∙ one_continue responses in
     let whole : h.speaks.took ++ (o.took ++ (h.left ++ o.left)) ≡ joined_pieces (take (at + 1) pieces) =
     ap (λ (l : List ℕ). h.speaks.took ++ l) left.joined ∙ sym (append_assoc h.speaks.took h.left (piece_at pieces at)) ∙ ap (λ (l : List ℕ). l ++ piece_at pieces at) h.taken ∙ sym
-        (joined_more pieces at) in
+    (joined_more pieces at) in
     let to_place : take (at + 1) pieces ≡ take place pieces = take_min pieces (at + 1) place there in
     let due : pieces_due pieces (responses ++ w ∷ []) ≡ take place pieces = take_min pieces (continuations (responses ++ w ∷ []) + 1) place (omega (arith, here, there, counted)) in
     let within : h.speaks.took ++ (o.took ++ (h.left ++ o.left)) ≡ joined_pieces (pieces_due pieces (responses ++ w ∷ [])) = whole ∙ ap joined_pieces (to_place ∙ sym due) in
@@ -293,8 +316,12 @@ done_verdict : {es : List Event} {pieces : List (List ℕ)} {before after : Octe
     (code : Code) (h : Heard pieces before after responses w at up es) → w ≡ Tagged tag s code → Settles pieces responses s → IsVerdict tag pieces (before.octets ++ h.speaks.gave)
     (Done responses s code after.octets)
 done_verdict {after = after} {responses} tag w s code h is settles =
-    record { responses = responses; remaining = h.remaining; passed = h.passed; decided =
-        (refl, subst (λ (r : Response). Begins (r ∷ []) after.octets h.remaining) is h.begins, settles) }
+    record {
+      responses = responses;
+      remaining = h.remaining;
+      passed = h.passed;
+      decided = (refl, subst (λ (r : Response). Begins (r ∷ []) after.octets h.remaining) is h.begins, settles);
+    }
 
 -- what was taken of a command that is answered
 taken_of : (pieces : List (List ℕ)) (responses : List Response) (at : ℕ) (up : Bool) (s : Status) (took left : List ℕ) → at ≡ min (continuations responses + 1) (length pieces)
@@ -341,8 +368,14 @@ not_whole {pieces = pieces} {before} {after} {responses} {at} {up} tag w status.
     let whole : joined_pieces (take at pieces) ≡ joined_pieces pieces = ap joined_pieces (take_all at pieces (omega (arith, place, due))) in
     record {
       speaks = h.speaks;
-      comes = inr (responses, code, after.octets, done_verdict tag w status.Ok code h is due, λ same. lacking h.speaks.took h.left (joined_pieces pieces) (h.some_left settled)
-          (h.taken ∙ whole) same);
+      comes = inr (
+        responses,
+        code,
+        after.octets,
+        done_verdict tag w status.Ok code h is due,
+        λ same. lacking h.speaks.took h.left (joined_pieces pieces) (h.some_left settled)
+            (h.taken ∙ whole) same,
+      );
     }
   where
     lacking : (took left all : List ℕ) → 0 < length left → took ++ left ≡ all → took ≡ all → ⊥
@@ -373,8 +406,12 @@ ends {pieces = pieces} {before} {after} {responses} {at} {up} tag w end.Stray pl
 ends {pieces = pieces} {before} {after} {responses} {at} {up} tag w end.Bye place (code, is) h =
     record {
       speaks = h.speaks;
-      comes = record { responses = responses; remaining = h.remaining; passed = h.passed; decided =
-          (code, after.octets, subst (λ (r : Response). Begins (r ∷ []) after.octets h.remaining) is h.begins) };
+      comes = record {
+        responses = responses;
+        remaining = h.remaining;
+        passed = h.passed;
+        decided = (code, after.octets, subst (λ (r : Response). Begins (r ∷ []) after.octets h.remaining) is h.begins);
+      };
     }
 ends tag w end.Lost place never h = absurd never
 ends tag w (end.Bad at) place never h = absurd never

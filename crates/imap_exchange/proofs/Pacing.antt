@@ -44,7 +44,7 @@ IsPart-more g so = record { responses = so.responses; remaining = so.remaining +
 pub paced_whole : {pieces : List (List ℕ)} {held gave took : List ℕ} {talk : List Event} → Talk gave took talk → IsPaced pieces held talk → IsPart pieces (held ++ gave) took
 paced_whole {pieces} {held} {gave} {took} {talk} said paced =
     subst (λ (g : List ℕ). IsPart pieces (held ++ g) took) said.gave_is
-        (subst (λ (t : List ℕ). IsPart pieces (held ++ flat_map store_gave_in talk) t) said.took_is (paced.at_each talk [] (sym (append-nil talk))))
+    (subst (λ (t : List ℕ). IsPart pieces (held ++ flat_map store_gave_in talk) t) said.took_is (paced.at_each talk [] (sym (append-nil talk))))
 
 -- further events
 pub paced_more : {pieces : List (List ℕ)} {held gave took : List ℕ} {talk : List Event} (ys : List Event) → Talk gave took talk → IsPaced pieces held talk
@@ -57,11 +57,11 @@ paced_more {pieces} {held} {gave} {took} {talk} ys said paced then_so = record {
           | inl so ↦ paced.at_each so_far so.0 so.1
           | inr so ↦
               let gave_is : flat_map store_gave_in so_far ≡ gave ++ flat_map store_gave_in so.0 = ap (λ (l : List Event). flat_map store_gave_in l) so.1
-                  ∙ flat_map-append store_gave_in talk so.0 ∙ ap (λ (l : List ℕ). l ++ flat_map store_gave_in so.0) said.gave_is in
+              ∙ flat_map-append store_gave_in talk so.0 ∙ ap (λ (l : List ℕ). l ++ flat_map store_gave_in so.0) said.gave_is in
               let took_is : flat_map store_took_in so_far ≡ took ++ flat_map store_took_in so.0 = ap (λ (l : List Event). flat_map store_took_in l) so.1
-                  ∙ flat_map-append store_took_in talk so.0 ∙ ap (λ (l : List ℕ). l ++ flat_map store_took_in so.0) said.took_is in
+              ∙ flat_map-append store_took_in talk so.0 ∙ ap (λ (l : List ℕ). l ++ flat_map store_took_in so.0) said.took_is in
               subst (λ (g : List ℕ). IsPart pieces (held ++ g) (flat_map store_took_in so_far)) (sym gave_is)
-                  (subst (λ (t : List ℕ). IsPart pieces (held ++ (gave ++ flat_map store_gave_in so.0)) t) (sym took_is) (then_so so.0 later so.2))
+              (subst (λ (t : List ℕ). IsPart pieces (held ++ (gave ++ flat_map store_gave_in so.0)) t) (sym took_is) (then_so so.0 later so.2))
         ]
 
 -- octets come
@@ -70,10 +70,10 @@ pub paced_reading : {pieces : List (List ℕ)} {held gave took : List ℕ} {talk
 paced_reading {pieces} {held} {gave} {took} {talk} g ys said paced reads =
     paced_more ys said paced (λ zs ws is.
     let took_none : flat_map store_took_in zs ≡ [] = nil_left (flat_map store_took_in zs) (flat_map store_took_in ws)
-        (sym (flat_map-append store_took_in zs ws) ∙ ap (λ (l : List Event). flat_map store_took_in l) (sym is) ∙ reads.took_is) in
+    (sym (flat_map-append store_took_in zs ws) ∙ ap (λ (l : List Event). flat_map store_took_in l) (sym is) ∙ reads.took_is) in
     let part = IsPart-more (flat_map store_gave_in zs) (paced_whole said paced) in
     subst (λ (o : List ℕ). IsPart pieces o (took ++ flat_map store_took_in zs)) (append_assoc held gave (flat_map store_gave_in zs))
-        (subst (λ (t : List ℕ). IsPart pieces ((held ++ gave) ++ flat_map store_gave_in zs) t) (sym (append-nil took) ∙ ap (λ (l : List ℕ). took ++ l) (sym took_none)) part))
+    (subst (λ (t : List ℕ). IsPart pieces ((held ++ gave) ++ flat_map store_gave_in zs) t) (sym (append-nil took) ∙ ap (λ (l : List ℕ). took ++ l) (sym took_none)) part))
 
 -- octets are taken that are due by these responses
 pub paced_writing : {pieces : List (List ℕ)} {held gave took remaining : List ℕ} {talk : List Event} {responses : List Response} (t left : List ℕ) (ys : List Event)
@@ -82,11 +82,11 @@ pub paced_writing : {pieces : List (List ℕ)} {held gave took remaining : List 
 paced_writing {pieces} {held} {gave} {took} {remaining} {talk} {responses} t left ys said paced writes passed within =
     paced_more ys said paced (λ zs ws is.
     let gave_none : flat_map store_gave_in zs ≡ [] = nil_left (flat_map store_gave_in zs) (flat_map store_gave_in ws)
-        (sym (flat_map-append store_gave_in zs ws) ∙ ap (λ (l : List Event). flat_map store_gave_in l) (sym is) ∙ writes.gave_is) in
+    (sym (flat_map-append store_gave_in zs ws) ∙ ap (λ (l : List Event). flat_map store_gave_in l) (sym is) ∙ writes.gave_is) in
     let parts : flat_map store_took_in zs ++ flat_map store_took_in ws ≡ t = sym (flat_map-append store_took_in zs ws) ∙ ap (λ (l : List Event). flat_map store_took_in l) (sym is)
-        ∙ writes.took_is in
+    ∙ writes.took_is in
     let octets_are : held ++ gave ≡ held ++ (gave ++ flat_map store_gave_in zs) = ap (λ (l : List ℕ). held ++ l)
-        (sym (append-nil gave) ∙ ap (λ (l : List ℕ). gave ++ l) (sym gave_none)) in
+    (sym (append-nil gave) ∙ ap (λ (l : List ℕ). gave ++ l) (sym gave_none)) in
     record {
       responses = responses;
       remaining = remaining;

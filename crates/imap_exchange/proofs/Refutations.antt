@@ -41,7 +41,7 @@ pub each_piece_is_due : (tag : List ℕ) (pieces : List (List ℕ)) (octets took
     → (left : List ℕ) × (took ++ left ≡ joined_pieces (pieces_due pieces v.responses))
 each_piece_is_due tag pieces octets took verdict v part =
     let front = front_of part.responses v.responses part.remaining v.remaining octets part.passed.all_open v.passed.all_open part.passed.spelled v.passed.spelled
-        (none_open tag pieces octets v.responses v.remaining verdict v.decided) in
+    (none_open tag pieces octets v.responses v.remaining verdict v.decided) in
     let same : continuations v.responses ≡ continuations (part.responses ++ front.0) = ap continuations front.1 in
     let sums : continuations (part.responses ++ front.0) ≡ continuations part.responses + continuations front.0 = sum_by-append _ part.responses front.0 in
     let counted : continuations part.responses + 1 ≤ continuations v.responses + 1 = omega (arith, same, sums) in

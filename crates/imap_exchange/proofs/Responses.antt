@@ -90,9 +90,11 @@ fill_failed ys begun before now after end.Lacks more so fills = absurd fills
 
 -- octets that grew keep their front
 pub kept_front : (old new slice : List ℕ) → slice ≡ old → (gave : List ℕ) × (new ≡ old ++ gave) → (take (length slice) new ≡ old) × (length slice ≤ length new)
-kept_front old new slice is (gave, grew) =
-    (ap (λ (l : List ℕ). take (length l) new) is ∙ ap (λ (l : List ℕ). take (length old) l) grew ∙ take-append_seam old gave, omega
-        (arith, ap length is, ap length grew, length-append old gave))
+kept_front old new slice is (gave, grew) = (
+  ap (λ (l : List ℕ). take (length l) new) is ∙ ap (λ (l : List ℕ). take (length old) l) grew ∙ take-append_seam old gave,
+  omega
+      (arith, ap length is, ap length grew, length-append old gave),
+)
 
 -- what is held is read, where nothing is said
 pub held_bad : (before : Octets) (offset at : ℕ) → ScanOf before.octets (Bad at) → offset + length before.octets ≡ before.given → (place : ℕ) × ScanOf (before.octets ++ [])

@@ -64,7 +64,7 @@ same_pass (v ∷ vs) [] r s b open_v open_w (text, more, spells, is, remaining) 
 same_pass (v ∷ vs) (w ∷ ws) r s b open_v open_w (text, more, spells, is, remaining) (text', more', spells', is', remaining') none none' =
     let front = same_front spells spells' (sym is ∙ is') in
     let rest = same_pass vs ws r s more (All-tail IsOpen v vs open_v) (All-tail IsOpen w ws open_w) remaining
-        (subst (λ (l : List ℕ). Begins ws s l) (sym front.2) remaining') none none' in
+    (subst (λ (l : List ℕ). Begins ws s l) (sym front.2) remaining') none none' in
     ((λ i. front.0 i ∷ rest.0 i), rest.1)
 
 -- where a response begins that isn't open, no open one does
@@ -154,7 +154,7 @@ decides_one tag pieces octets vs r Open Open first second = refl
 pub one_verdict : (tag : List ℕ) (pieces : List (List ℕ)) (octets : List ℕ) (v w : Verdict) → IsVerdict tag pieces octets v → IsVerdict tag pieces octets w → v ≡ w
 one_verdict tag pieces octets v w first second =
     let same = same_pass first.responses second.responses first.remaining second.remaining octets first.passed.all_open second.passed.all_open first.passed.spelled
-        second.passed.spelled (none_open tag pieces octets _ _ v first.decided) (none_open tag pieces octets _ _ w second.decided) in
+    second.passed.spelled (none_open tag pieces octets _ _ v first.decided) (none_open tag pieces octets _ _ w second.decided) in
     let moved : Decides tag pieces octets first.responses second.remaining w = subst (λ (vs : List Response). Decides tag pieces octets vs second.remaining w)
-        (sym same.0) second.decided in
+    (sym same.0) second.decided in
     decides_one tag pieces octets first.responses first.remaining v w first.decided (subst (λ (r : List ℕ). Decides tag pieces octets first.responses r w) (sym same.1) moved)

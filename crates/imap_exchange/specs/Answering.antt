@@ -51,7 +51,7 @@ abbrev pub IsCause : List ℕ → List (List ℕ) → Octets → List ℕ → Li
 IsCause tag pieces before gave took end.Lost =
     IsVerdict tag pieces (before.octets ++ gave) Open
     ⊎ ((responses : List Response) × (code : Code) × (rest : List ℕ) × IsVerdict tag pieces (before.octets ++ gave) (Done responses status.Ok code rest)
-        × (took ≢ joined_pieces pieces))
+    × (took ≢ joined_pieces pieces))
 IsCause tag pieces before gave took (end.Bad at) = (place : ℕ) × IsVerdict tag pieces (before.octets ++ gave) (BadAt place)
     × (at + length before.octets ≡ before.given + place)
 IsCause tag pieces before gave took end.Stray = IsVerdict tag pieces (before.octets ++ gave) Stray

@@ -1,6 +1,6 @@
 -- What is noted of names is which capabilities stand among them.
-use Rattle.std.proofs.Common.{◌≡◌, ◌⊎◌, inl, inr, ℕ, List, [], ◌∷◌, Bool, true, false, ◌||◌, if◌then◌else◌, Option, Some, None, refl, sym, ap, ◌∙◌, subst, length, nat_lt, Result,
-    Ok, Err, ◌<◌, ◌≤◌}
+use Rattle.std.proofs.Common.{◌≡◌, ◌⊎◌, inl, inr, ℕ, List, [], ◌∷◌, Bool, true, false, ◌||◌, if◌then◌else◌, Option, Some, None, refl, sym, ap, ◌∙◌, subst, length, nat_lt, Result}
+use Rattle.std.proofs.Common.{Ok, Err, ◌<◌, ◌≤◌}
 use Rattle.std.specs.List.{list_all}
 use Rattle.std.specs.Str.{bytes_eq}
 use Rattle.std.proofs.Math.Bool.{or-true, or-false}
@@ -56,7 +56,7 @@ fit_if : (form : Form) (b : Bool) (u : Using) → known_if form b ≡ Some u →
     → admitted_if form b ≡ Ok (record { uses = u; calls = form.calls; created = form.created })
 fit_if form true u is fit = rw (le-ltb 16 (length form.calls) fit)
     (ap (λ (v : Using). let r : RequestData = record { uses = v; calls = form.calls; created = form.created } in let o : Result RequestData RequestError = Ok r in o)
-        (same_Some _ _ is))
+    (same_Some _ _ is))
 fit_if form false u is fit = absurd (none-some u is)
 
 pub admitted-unknown : (form : Form) → None ≡ known_capabilities form.uses → admitted form ≡ Err UnknownCapability

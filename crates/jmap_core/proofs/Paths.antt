@@ -1,6 +1,6 @@
 -- Texts after their first octet, and items of arrays joined.
-use Rattle.std.proofs.Common.{◌≡◌, ◌≢◌, ℕ, List, [], ◌∷◌, ◌++◌, Bool, true, false, ◌==◌, if◌then◌else◌, map, Option, Some, None, option_map, ◌<◌, ◌≤◌, ◌+◌, zero, suc, length,
-    get_or, drop, is_ok, Result, Ok, Err, OnOk, refl, sym, ap, ◌∙◌, arith, add-one, drop-cons}
+use Rattle.std.proofs.Common.{◌≡◌, ◌≢◌, ℕ, List, [], ◌∷◌, ◌++◌, Bool, true, false, ◌==◌, if◌then◌else◌, map, Option, Some, None, option_map, ◌<◌, ◌≤◌, ◌+◌, zero, suc, length}
+use Rattle.std.proofs.Common.{get_or, drop, is_ok, Result, Ok, Err, OnOk, refl, sym, ap, ◌∙◌, arith, add-one, drop-cons}
 use Rattle.std.proofs.lemmas.Bool.{eqb-true}
 use Rattle.std.proofs.lemmas.Bool.Decides.{nat_tests}
 use Rattle.std.specs.List.{slice_split}

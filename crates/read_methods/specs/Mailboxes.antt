@@ -1,6 +1,6 @@
 -- Mailbox/get (RFC 8620 section 5.1, RFC 8621 section 2.1).
-use Rattle.std.specs.Prelude.{ℕ, List, [], ◌∷◌, ◌++◌, Bool, true, ◌||◌, nat_lt, if◌then◌else◌, bytes_eq, codes, decimal, length, map, is_none, Option, Some,
-    None, option_map, Result, Ok, Err}
+use Rattle.std.specs.Prelude.{ℕ, List, [], ◌∷◌, ◌++◌, Bool, true, ◌||◌, nat_lt, if◌then◌else◌, bytes_eq, codes, decimal, length, map, is_none, Option, Some}
+use Rattle.std.specs.Prelude.{None, option_map, Result, Ok, Err}
 use Rattle.std.specs.List.{list_all, find, filter, filter_map}
 use Rattle.serde_json.specs.Data.{unsigned, Data, number, string, array, object, Members, no_members, member, put}
 use Rattle.serde_json.specs.View.{items_of}

@@ -1,6 +1,6 @@
 -- Rows and a list that stand for a past stand for what it becomes, once the steps are noted.
-use Rattle.std.proofs.Common.{◌≡◌, ◌+◌, ◌≤◌, ℕ, List, [], ◌∷◌, ◌++◌, Bool, true, false, not, cond, map, filter, Option, Some, None, refl, sym, ap, ◌∙◌, is_some, subst, length,
-    length-append}
+use Rattle.std.proofs.Common.{◌≡◌, ◌+◌, ◌≤◌, ℕ, List, [], ◌∷◌, ◌++◌, Bool, true, false, not, cond, map, filter, Option, Some, None, refl, sym, ap, ◌∙◌, is_some, subst, length}
+use Rattle.std.proofs.Common.{length-append}
 use Rattle.std.specs.Option.{option_map}
 use Rattle.std.specs.BTreeMap.{is_at}
 use Rattle.std.specs.Ordering.{nat_cmp}
@@ -31,7 +31,7 @@ module _ {R V : Type 0} (serve : R → V) where
   row_at-served (e ∷ es) q =
       ap (cond (is_at (nat_cmp q) e.0) (Some (serve e.1))) (row_at-served es q)
       ∙ elim (is_at (nat_cmp q) e.0) as (λ b. cond b (Some (serve e.1)) (option_map serve (row_at es q)) ≡ option_map serve (cond b (Some e.1) (row_at es q)))
-          [ true ↦ refl | false ↦ refl ]
+      [ true ↦ refl | false ↦ refl ]
 
   some_served : (o : Option R) → is_some (option_map serve o) ≡ is_some o
   some_served None = refl

@@ -177,8 +177,13 @@ put_goes old new at x up free mark on messages next upd =
 
 -- nothing is told
 pub stays : (old : Work) (t : Telling) → telling_of old ≡ t → GoesOk old old t (Ok tt)
-stays old t e = record { known = λ k. refl; on = record { folder = refl; rises = omega arith; stands = λ f l. refl; draws = λ f l. refl }; ascends = λ a. a; told = e; index =
-    λ hs i. i }
+stays old t e = record {
+  known = λ k. refl;
+  on = record { folder = refl; rises = omega arith; stands = λ f l. refl; draws = λ f l. refl };
+  ascends = λ a. a;
+  told = e;
+  index = λ hs i. i;
+}
 
 -- memory lacked, and the mark that was put was cut again
 pub put_fails : (old new : Work) (t : Telling) (k : ℕ) (p : ℕ × ℕ) (marks : BTreeMap ℕ (ℕ × ℕ)) (e : AllocError) → old.next_mark ≤ k → new.folder ≡ old.folder
@@ -203,8 +208,13 @@ put_fails old new t k p marks e fresh folder messages next changes upd upd' = re
 
 -- memory lacked, and nothing was changed
 pub fails : (old : Work) (t : Telling) (e : AllocError) → GoesOk old old t (Err e)
-fails old t e = record { known = λ k. tt; on = record { folder = refl; rises = omega arith; stands = λ f l. refl; draws = λ f l. refl }; ascends = λ a. a; told = tt; index =
-    λ hs i. i }
+fails old t e = record {
+  known = λ k. tt;
+  on = record { folder = refl; rises = omega arith; stands = λ f l. refl; draws = λ f l. refl };
+  ascends = λ a. a;
+  told = tt;
+  index = λ hs i. i;
+}
 
 -- ---- what a FETCH comes to
 

@@ -38,7 +38,7 @@ none_left (x ∷ xs) (suc i) h = none_left xs i (omega arith)
 last_first : (value : Response → Option ℕ) (was : ℕ) (r : Response) (rs : List Response) → last_told value was (r ∷ rs) ≡ last_told value (unwrap_or (value r) was) rs
 last_first value was r rs =
     elim (value r) as (λ o. unwrap_or (last_of (cons_option o (filter_map value rs))) was ≡ unwrap_or (last_of (filter_map value rs)) (unwrap_or o was))
-        [ None ↦ refl | Some v ↦ refl ]
+    [ None ↦ refl | Some v ↦ refl ]
 
 -- what the loop has found is what stands after the last CLOSED
 pub closed_is : (after rs : List Response) → closed after rs ≡ (if list_any is_closed rs then after_closed rs else after)
@@ -111,8 +111,13 @@ renewed old mid f v changes apart goes more fits =
     let rises : old.changes ≤ mid.changes = goes.on.rises in
     record {
       keeps = record { same = refl; stands = λ e l. absurd (omega (arith, e, l, more, rises)) };
-      on = record { folder = goes.on.folder; rises = omega (arith, more, rises, fits); stands = λ e l. absurd (omega (arith, e, l, more, rises)); draws = λ e l. ap
-          (λ (t : Telling). t.next_mark) goes.told };
+      on = record {
+        folder = goes.on.folder;
+        rises = omega (arith, more, rises, fits);
+        stands = λ e l. absurd (omega (arith, e, l, more, rises));
+        draws = λ e l. ap
+            (λ (t : Telling). t.next_mark) goes.told;
+      };
       ascends = goes.ascends;
       index = λ hs i. let k = goes.index hs i in record { there = k.there; indexed = k.indexed };
       next_mark = ap (λ (t : Telling). t.next_mark) goes.told;

@@ -12,5 +12,5 @@ returns-clause-run g c =
     let user = c.as_bytes.ensures.value ∙ c.as_str.ensures in
     widen _ c.visit-standing.ensures.run (λ es visits. works_visited c.args.asks c.mailing.result c.if-not-asks.false
     (subst (λ (l : List ℕ). Visits l (g.W.Taped.hidden c.args.world.now).password c.args.machine.now c.visit-standing.new.machine c.visit-standing.result
-        (g.W.Taped.faults c.args.world.now) (g.W.Taped.faults c.visit-standing.new.world) es) user visits)
+    (g.W.Taped.faults c.args.world.now) (g.W.Taped.faults c.visit-standing.new.world) es) user visits)
     c.mailing.ensures.meant c.mailing.ensures.memory)

@@ -13,9 +13,9 @@ pub returns-in-Ok-clause-run : goal.returns-in-Ok-clause-run
 returns-in-Ok-clause-run g c =
     join _
     (join (Attends c.args.place.now (g.W.Taped.hidden c.args.world.now).password (g.W.Taped.faults c.args.world.now)
-        (g.W.Taped.faults c.answer_one-served.new.world) c.answer_one-served.result)
+    (g.W.Taped.faults c.answer_one-served.new.world) c.answer_one-served.result)
     c.in-Ok.ensures.run c.answer_one-served.ensures.run (λ x y opens runs.
     attends x y c.args.place.now (g.W.Taped.hidden c.args.world.now).password (g.W.Taped.faults c.args.world.now)
     (c.in-Ok.ensures.account (g.W.Taped.hidden c.open.new.world) ∙ ap (λ (h : Hidden). account_of c.args.place.now h.password) c.in-Ok.ensures.hidden) c.in-Ok.ensures.cause opens.1
-        (runs opens.0 opens.2)))
+    (runs opens.0 opens.2)))
     c.end_once.ensures.said (λ x y attended ends. performs_once y attended c.end_once.ensures.alone ends)

@@ -12,7 +12,7 @@ returns-in-Ok-clause-shown g c = λ well. widen _ c.perform.ensures.run (λ x so
 pub returns-in-Err-Refused-clause-run : goal.returns-in-Err-Refused-clause-run
 returns-in-Err-Refused-clause-run g c =
     rw (c.end_refused.ensures.status) (widen _ c.end_refused.ensures.said
-        (λ x said. runs_refused (c.in-Err-Refused.ensures.refused c.in-Err-Refused.field-0-is) c.end_refused.ensures.alone said))
+    (λ x said. runs_refused (c.in-Err-Refused.ensures.refused c.in-Err-Refused.field-0-is) c.end_refused.ensures.alone said))
 
 pub returns-in-Err-Memory-clause-run : goal.returns-in-Err-Memory-clause-run
 returns-in-Err-Memory-clause-run g c = none _ _ (runs_lacking _)

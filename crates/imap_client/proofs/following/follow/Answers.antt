@@ -41,13 +41,13 @@ pub returns-in-Err-hear-clause-tape : goal.returns-in-Err-hear-clause-tape
 returns-in-Err-hear-clause-tape g c =
     let is = rw c.in-Ok-Send.field-0-is at c.in-Ok-Send.ensures in
     course_wants_more c.hear.new.self c.in-Ok-Send.command c.in_ok-x-in-Ok-Send.x c.leave-in-Err-hear.new.self is c.leave-in-Err-hear.ensures.left c.following.invariant.course
-        c.in_ok-x-in-Ok-Send.ensures.tape c.leave-in-Err-hear.ensures.tape
+    c.in_ok-x-in-Ok-Send.ensures.tape c.leave-in-Err-hear.ensures.tape
 
 pub returns-in-Ok-Fails-clause-tape : goal.returns-in-Ok-Fails-clause-tape
 returns-in-Ok-Fails-clause-tape g c =
     let is = rw c.in-Ok-Fails.field-0-is at c.in-Ok-Fails.ensures in
     rw c.end_of.ensures (course_fails c.in-Ok-Fails.why c.leave-in-Ok-Fails.new.self is c.leave-in-Ok-Fails.ensures.left c.following.invariant.course
-        c.leave-in-Ok-Fails.ensures.tape)
+    c.leave-in-Ok-Fails.ensures.tape)
 
 pub returns-in-Err-clause-tape : goal.returns-in-Err-clause-tape
 returns-in-Err-clause-tape g c = course_wants c.following.plan c.leave-in-Err.new.self c.leave-in-Err.ensures.left c.following.invariant.course c.leave-in-Err.ensures.tape

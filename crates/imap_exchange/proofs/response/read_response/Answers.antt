@@ -10,7 +10,7 @@ use Rattle.imap_exchange.proofs.response.read_response.Goals as goal
 pub returns-in-Whole-clause-tape : goal.returns-in-Whole-clause-tape
 returns-in-Whole-clause-tape g c =
     widen _ c.reading.invariant.tape (λ es so. read_whole c.args.begun c.args.received.now c.reading.received c.take_response.new.received c.in-Whole.length so
-        c.in_ok-take_response-in-Whole.ensures.response c.in_ok-take_response-in-Whole.ensures.rest c.take_response.ensures.given)
+    c.in_ok-take_response-in-Whole.ensures.response c.in_ok-take_response-in-Whole.ensures.rest c.take_response.ensures.given)
 
 pub returns-in-Bad-clause-tape : goal.returns-in-Bad-clause-tape
 returns-in-Bad-clause-tape g c =
@@ -41,4 +41,4 @@ returns-in_err-fill-clause-tape g c =
     let is = err_from_is_err_and c.from_residual-in_err-fill.result c.from_residual-in_err-fill.ensures.1 in
     let scanned = subst (λ (l : List ℕ). ScanOf l NeedMore) c.as_slice.ensures c.in-NeedMore.ensures.scan in
     rw (is.1, is.2) (join _ c.reading.invariant.tape c.in_err-fill.ensures.tape
-        (λ x y so fills. fill_failed y c.args.begun c.args.received.now c.reading.received c.fill.new.self _ scanned so fills))
+    (λ x y so fills. fill_failed y c.args.begun c.args.received.now c.reading.received c.fill.new.self _ scanned so fills))

@@ -12,10 +12,10 @@ returns-clause-run g c =
     let account : Account = record { user = c.args.self.now.user; password = (g.W.Taped.hidden c.args.world.now).password; base = c.args.self.now.base } in
     let was : Faults = g.W.Taped.faults c.args.world.now in
     let sent = join (λ es. Serves account c.args.self.now.machine c.respond-reply.new.self.machine was (g.W.Taped.faults c.send_reply-served.new.front) c.send_reply-served.result
-        (es ++ ClientDone ∷ []))
+    (es ++ ClientDone ∷ []))
     c.respond-reply.ensures.run c.send_reply-served.ensures.tape
     (λ x y so sends. serves_reply account _ _ was _ _ x y c.respond-reply.result c.send_reply-served.result c.respond-reply.ensures.later c.send_reply-served.ensures.alone
-        c.respond-reply.ensures.front c.send_reply-served.ensures.cause so sends) in
+    c.respond-reply.ensures.front c.send_reply-served.ensures.cause so sends) in
     then_one _ sent c.finish.ensures.tape (λ x so. subst
-        (λ (f : Faults). Serves account c.args.self.now.machine c.respond-reply.new.self.machine was f c.send_reply-served.result (x ++ ClientDone ∷ []))
-        (sym c.finish.ensures.cause) so)
+    (λ (f : Faults). Serves account c.args.self.now.machine c.respond-reply.new.self.machine was f c.send_reply-served.result (x ++ ClientDone ∷ []))
+    (sym c.finish.ensures.cause) so)

@@ -8,20 +8,24 @@ use Rattle.imap_client.proofs.client.Client.fetch_body.Goals as goal
 pub returns-in-Err-clause-tape : goal.returns-in-Err-clause-tape
 returns-in-Err-clause-tape g c =
     widen _ c.in-Err.ensures.tape (λ x so life stands.
-    let f = so life stands in
-    (f.0, body_ended c.in-Err.end c.args.folder c.args.uid c.args.mirror.now.mail c.follow-result.new.plan.mirror.mail
-        (record { stage = c.begun-stage.result; mirror = c.replace.result; folder = c.args.folder; uid = c.args.uid }) c.follow-result.new.plan refl refl
-        (c.begun-stage.ensures ∙ (λ i. body_begun ((c.selected.ensures ∙ stands.selected_is) i) (c.folder.ensures i)))
-        (ap (λ (t : Told). t.mail) c.replace.ensures.value) refl f.1))
+    let f = so life stands in (
+      f.0,
+      body_ended c.in-Err.end c.args.folder c.args.uid c.args.mirror.now.mail c.follow-result.new.plan.mirror.mail
+          (record { stage = c.begun-stage.result; mirror = c.replace.result; folder = c.args.folder; uid = c.args.uid }) c.follow-result.new.plan refl refl
+          (c.begun-stage.ensures ∙ (λ i. body_begun ((c.selected.ensures ∙ stands.selected_is) i) (c.folder.ensures i)))
+          (ap (λ (t : Told). t.mail) c.replace.ensures.value) refl f.1,
+    ))
 
 pub returns-in-Ok-clause-tape : goal.returns-in-Ok-clause-tape
 returns-in-Ok-clause-tape g c =
     widen _ c.in-Ok.ensures.tape (λ x so life stands.
-    let f = so life stands in
-    (f.0, body_fetched c.body_at.result c.args.folder c.args.uid c.args.mirror.now.mail c.follow-result.new.plan.mirror.mail
-        (record { stage = c.begun-stage.result; mirror = c.replace.result; folder = c.args.folder; uid = c.args.uid }) c.follow-result.new.plan refl refl
-        (c.begun-stage.ensures ∙ (λ i. body_begun ((c.selected.ensures ∙ stands.selected_is) i) (c.folder.ensures i)))
-        (ap (λ (t : Told). t.mail) c.replace.ensures.value) refl c.body_at.ensures f.1))
+    let f = so life stands in (
+      f.0,
+      body_fetched c.body_at.result c.args.folder c.args.uid c.args.mirror.now.mail c.follow-result.new.plan.mirror.mail
+          (record { stage = c.begun-stage.result; mirror = c.replace.result; folder = c.args.folder; uid = c.args.uid }) c.follow-result.new.plan refl refl
+          (c.begun-stage.ensures ∙ (λ i. body_begun ((c.selected.ensures ∙ stands.selected_is) i) (c.folder.ensures i)))
+          (ap (λ (t : Told). t.mail) c.replace.ensures.value) refl c.body_at.ensures f.1,
+    ))
 
 pub returns-in-Ok-clause-alive : goal.returns-in-Ok-clause-alive
 returns-in-Ok-clause-alive g c = c.in-Ok.ensures.alive (body_stops _ _ _)

@@ -24,7 +24,7 @@ returns-then-not-advance c = λ b fed.
       fed.taken,
       bad_by_step ss (symbols_of c.advance.new.stack) s.outside b c.args.octet c.marked_by-marked.result c.advance.result fed.stands (omega (arith, c.ranges.octet.fits))
           (mark_is ss c.is_inside-inside.result c.args.octet c.marked_by-marked.result c.is_inside-inside.ensures c.marked_by-marked.ensures) c.advance.ensures
-              c.if-not-advance.true,
+          c.if-not-advance.true,
     )
 
 pub returns-then-is_empty : goal.returns-then-is_empty
