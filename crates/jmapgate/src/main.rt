@@ -4,7 +4,7 @@
 ghost use Rattle.std.specs.Prelude.{◌≡◌, [], map, string_bytes, IfOk};
 ghost use Rattle.jmapgate.specs.Store.{NamesStore};
 
-use gate_host::HostWorld;
+use gate_host::{Host, HostWorld, StandardFront};
 use gate_words::{Task, WordsError, read_words};
 use gate_world::{Bytes, Text, Watcher};
 use std::alloc::{AllocError, Global};
@@ -29,7 +29,8 @@ fn run(rt: HostRuntime) -> Result<u8, AllocError> {
     let store = store_of(rt.alloc(), &words)?;
     let password = variable(&rt, "JMAPGATE_PASSWORD")?;
     let token = variable(&rt, "JMAPGATE_TOKEN")?;
-    let mut world = HostWorld::new(rt, store, password, token);
+    let front = StandardFront::new(rt.input(), rt.output());
+    let mut world = HostWorld::new(rt, store, front, password, token);
     let mut watchers: Vec<Box<dyn Watcher>> = Vec::new(rt.alloc());
     Ok(gateway::run(&words, &mut world, &mut watchers))
 }

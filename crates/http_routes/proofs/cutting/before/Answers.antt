@@ -1,0 +1,8 @@
+use Rattle.http_routes.proofs.Cuts.{cut-some, cut-none}
+use Rattle.http_routes.proofs.cutting.before.Goals as goal
+
+pub returns-in-Some : goal.returns-in-Some
+returns-in-Some c = (cut-some c.args.mark c.args.text.now (c.in-Some.before, c.in-Some.field-0-1) c.in-Some.ensures.cases c.requires).0
+
+pub returns-in-None : goal.returns-in-None
+returns-in-None c = (cut-none c.args.mark c.args.text.now c.in-None.ensures.cases c.requires).0

@@ -1,0 +1,4 @@
+pub mod Accept
+pub mod Parts
+pub mod Paths
+pub mod Routing
