@@ -1,7 +1,6 @@
 -- One client is answered, part by part.
 use Rattle.std.proofs.Common.{arith, ◌≡◌, ◌≢◌, ◌⊎◌, ◌++◌, ◌∷◌, ◌≤◌, ◌+◌, ℕ, Bool, true, false, List, [], Option, Some, None, Result, Ok, Err, refl, sym, ◌∙◌, ap, subst, inl, inr}
-use Rattle.std.proofs.Common.{append_assoc}
-use Rattle.std.specs.Prelude.{IfOk, OnErr}
+use Rattle.std.specs.Prelude.{IfOk}
 use Rattle.std.specs.declared.alloc.AllocError.{AllocError}
 use Rattle.std.proofs.lemmas.List.{append-nil}
 use Rattle.gate_world.specs.Causes.{Faults, RoseBy, Rose, LinkAlone, FrontAlone, NoFault, Later, no_faults}
@@ -9,32 +8,28 @@ use Rattle.gate_world.specs.Sending.{Sends}
 use Rattle.gate_world.specs.declared.event.Event.{Event}
 use Rattle.gate_world.specs.declared.event.Event.TheVariants.{Accepted, NoMore, ClientDone, FrontFailed}
 use Rattle.gate_world.specs.declared.outside.Failed.{Failed}
-use Rattle.jmap_core.specs.Outcome.{Agrees}
-use Rattle.jmap_core.specs.Problem.{text_of_problem}
-use Rattle.jmap_core.specs.Request.{RequestData, requested}
+use Rattle.http_door.specs.declared.asking.AskError.TheVariants as unread
 use Rattle.jmap_core.specs.declared.method_error.MethodError.TheVariants.{ServerUnavailable}
-use Rattle.jmap_core.specs.declared.request.RequestError.{RequestError}
-use Rattle.jmap_core.specs.declared.request.RequestError.TheVariants as request
-use Rattle.jmap_core.specs.declared.request.LimitName.TheVariants.{MaxSizeRequest}
-use Rattle.gate_machine.specs.Machine.{forgotten}
 use Rattle.gate_machine.specs.Progress.{Progress, Bears, idle}
 use Rattle.gate_machine.specs.Beginning.{Visits}
 use Rattle.gate_machine.specs.declared.machine.Machine.{Machine}
 use Rattle.gate_machine.specs.declared.standing.Standing.{Standing}
 use Rattle.gate_machine.specs.declared.standing.Standing.TheVariants.{OutOfMemory}
-use Rattle.gateway.specs.declared.bare_gate.Reply.{Reply}
-use Rattle.gateway.specs.declared.bare_gate.Reply.TheVariants as reply
-use Rattle.gateway.specs.declared.front.AskError.TheVariants as ask
-use Rattle.gateway.specs.declared.served.Served.{Served}
-use Rattle.gateway.specs.declared.served.Served.TheVariants as served
-use Rattle.gateway.specs.Calls.{Mailing, needs_mail}
-use Rattle.gateway.specs.Front.{Asked}
-use Rattle.gateway.specs.Requests.{Account, Bare, Asking, FrontLost, NoMemory, Reads, asks_for_mail, calls_text, line_end, no_memory_text}
-use Rattle.gateway.specs.Segment.{Replies, Answered, LacksReading, LacksAnswering, Segment, NoneComes, NotAccepted, Unasked, Replied, reply_blamed, blamed, went, unsent}
-use Rattle.gateway.specs.Segment.{blame_front}
-use Rattle.gateway.specs.Run.{StepsTo}
-use Rattle.gateway.specs.Work.{Work, NoMail, WithMail, mailing_by}
-use Rattle.gateway.specs.reading.Replying.{IsWorked, WorksTo, IsLined, LinesTo, text_in, RepliesBy, RepliesToRequest, RepliesToBody, Refuses, Fails, SendsReply, Serves}
+use Rattle.gate_serving.specs.declared.door.Door.{Door}
+use Rattle.gate_serving.specs.declared.door.Door.TheVariants.{Bare}
+use Rattle.gate_serving.specs.declared.response.Response.{Response}
+use Rattle.gate_serving.specs.declared.served.Served.{Served}
+use Rattle.gate_serving.specs.declared.served.Served.TheVariants as served
+use Rattle.gate_serving.specs.Answers.{Keeps, MayKeep, response_of, no_memory_text}
+use Rattle.gate_serving.specs.Calls.{Mailing}
+use Rattle.gate_serving.specs.GateState.{GateState, forgotten}
+use Rattle.gate_serving.specs.Requests.{Account, Asking, Reads, asks_for_mail}
+use Rattle.gate_serving.specs.Segment.{Replies, Answered, LacksReading, LacksAnswering, Segment, NoneComes, NotAccepted, Left, Unasked, Replied, reply_blamed, blamed, went, unsent,
+    blame_front}
+use Rattle.gate_serving.specs.Run.{StepsTo}
+use Rattle.gate_serving.specs.Work.{Work, NoMail, WithMail, mailing_by}
+use Rattle.gate_serving.specs.reading.Replying.{IsWorked, WorksTo, IsMade, AnswersTo, RepliesToAsking, IsUnread, RepliesBy, SendsReply, Serves}
+use Rattle.gate_serving.specs.reading.Texts.{text_of}
 
 -- ---- counts
 
@@ -106,7 +101,7 @@ works_without user password asks machine f same asks_is =
     record {
       mail = Err ServerUnavailable;
       done = idle machine;
-      work = λ base asking is. NoMail (is ∙ asks_is) refl refl refl;
+      work = λ token base asking is. NoMail (is ∙ asks_is) refl refl refl;
       machine_is = refl;
       bears = bears_none f f same;
       worked = (refl, (λ is. cc));
@@ -127,123 +122,74 @@ works_visited {machine = machine} {how = how} asks result asks_is v meant memory
     record {
       mail = mailing_by v.after.standing v.after.machine.known;
       done = record v.after { left = None };
-      work = λ base asking is. WithMail v.after v.beginning v.ending (is ∙ asks_is) v.begins v.hangs v.whole refl refl;
+      work = λ token base asking is. WithMail v.after v.beginning v.ending (is ∙ asks_is) v.begins v.hangs v.whole refl refl;
       machine_is = v.machine_is;
       bears = v.bears;
       worked = is_worked result how machine v.after v.machine_is v.standing_is meant memory;
     }
 
--- ---- the line
+-- ---- the answer
 
-is_lined : (line : Result (List ℕ) AllocError) (given mail : Mailing) (user base : List ℕ) (asked : RequestData) (done : Progress) → given ≡ mail → done.standing ≢ OutOfMemory
-    → IfOk line (λ l. l ≡ calls_text user base given asked ++ line_end) → IsLined line user base asked mail done
-is_lined (Ok line) given mail user base asked done same stands is = (is ∙ (λ i. calls_text user base (same i) asked ++ line_end), stands)
-is_lined (Err e) given mail user base asked done same stands is = tt
+is_made : (door : Door) (account : Account) (given mail : Mailing) (asking : Asking) (before after : GateState) (done : Progress) (result : Result Response AllocError)
+    → given ≡ mail → done.standing ≢ OutOfMemory → Keeps asking before.uploads after.uploads
+    → IfOk result (λ r. text_of r ≡ response_of door account given after.uploads asking) → IsMade door account mail asking before after done result
+is_made door account given mail asking before after done (Ok response) same stands kept is =
+    (is ∙ ap (λ (m : Mailing). response_of door account m after.uploads asking) same, stands, kept)
+is_made door account given mail asking before after done (Err e) same stands kept is = tt
 
-pub lines_worked : {user password : List ℕ} {before machine : Machine} {was now : Faults} {events : List Event} (asks : Bool) (base : List ℕ) (asked : RequestData)
-    (given : Mailing) (line : Result (List ℕ) AllocError)
-    → needs_mail asked.calls ≡ asks → WorksTo user password asks before machine was now (Ok given) events
-    → IfOk line (λ l. l ≡ calls_text user base given asked ++ line_end)
-    → LinesTo user password base asked before machine was now line events
-lines_worked {user} asks base asked given line asks_is w is =
+pub answers_worked : {user password : List ℕ} {before after : GateState} {was now : Faults} {events : List Event} (token base : List ℕ) (door : Door) (asks : Bool) (asking : Asking)
+    (given : Mailing) (result : Result Response AllocError)
+    → asks_for_mail asking ≡ asks → WorksTo user password asks before.machine after.machine was now (Ok given) events → Keeps asking before.uploads after.uploads
+    → IfOk result (λ r. text_of r ≡ response_of door (record { user = user; password = password; token = token; base = base }) given after.uploads asking)
+    → AnswersTo door (record { user = user; password = password; token = token; base = base }) asking before after was now result events
+answers_worked {user} {password} {before} {after} token base door asks asking given result asks_is w kept is =
     record {
       mail = w.mail;
       done = w.done;
-      work = w.work base (Ok asked) asks_is;
-      machine_is = w.machine_is;
+      work = w.work token base asking asks_is;
+      machine_is = sym w.machine_is;
       bears = w.bears;
-      lined = is_lined line given w.mail user base asked w.done w.worked.0 w.worked.1 is;
+      may = inr kept;
+      made = is_made door (record { user = user; password = password; token = token; base = base }) given w.mail asking before after w.done result w.worked.0 w.worked.1 kept is;
     }
 
-pub lines_lacking : {user password : List ℕ} {before machine : Machine} {was now : Faults} {events : List Event} (asks : Bool) (base : List ℕ) (asked : RequestData)
+pub answers_lacking : {user password : List ℕ} {before after : GateState} {was now : Faults} {events : List Event} (token base : List ℕ) (door : Door) (asks : Bool) (asking : Asking)
     (e : AllocError) (result : Result Mailing AllocError)
-    → needs_mail asked.calls ≡ asks → WorksTo user password asks before machine was now result events
-    → LinesTo user password base asked before machine was now (Err e) events
-lines_lacking asks base asked e result asks_is w =
-    record { mail = w.mail; done = w.done; work = w.work base (Ok asked) asks_is; machine_is = w.machine_is; bears = w.bears; lined = tt }
+    → asks_for_mail asking ≡ asks → WorksTo user password asks before.machine after.machine was now result events → after.uploads ≡ before.uploads
+    → AnswersTo door (record { user = user; password = password; token = token; base = base }) asking before after was now (Err e) events
+answers_lacking token base door asks asking e result asks_is w same =
+    record { mail = w.mail; done = w.done; work = w.work token base asking asks_is; machine_is = sym w.machine_is; bears = w.bears; may = inl same; made = tt }
 
--- ---- the reply to a request
+-- ---- the reply to what is asked
 
-pub replied_line : {user password base : List ℕ} {asked : RequestData} {before machine : Machine} {was now : Faults} {events : List Event} (line : List ℕ)
-    → LinesTo user password base asked before machine was now (Ok line) events
-    → RepliesToRequest user password base asked before machine was now (reply.Line line) events
-replied_line {asked = request_asked} {events = events} line l =
-    record { of = λ reading reads. (Answered reading events (Ok request_asked) l.mail l.done refl reads l.work l.lined.1 l.lined.0 (sym l.machine_is), l.bears) }
+pub replied : {door : Door} {account : Account} {asking : Asking} {before after : GateState} {was now : Faults} {events : List Event} (response : Response)
+    → AnswersTo door account asking before after was now (Ok response) events → RepliesToAsking door account asking before after was now (text_of response) events
+replied {asking = asking} {events = events} response a =
+    record { of = λ read reads. (Answered read events asking a.mail a.done refl reads a.work a.made.1 a.machine_is a.made.2 a.made.0, a.bears) }
 
-pub replied_lacking : {user password base : List ℕ} {asked : RequestData} {before machine after : Machine} {was now : Faults} {events : List Event} (e : AllocError)
-    → after ≡ forgotten machine → LinesTo user password base asked before machine was now (Err e) events
-    → RepliesToRequest user password base asked before after was now reply.NoMemory events
-replied_lacking {asked = request_asked} {events = events} e after_is l =
-    record { of = λ reading reads. (LacksAnswering reading events (Ok request_asked) l.mail l.done refl reads l.work refl (after_is ∙ ap forgotten (sym l.machine_is)), l.bears) }
-
--- ---- the reply to what is no request
-
-pub fails_memory : (error : RequestError) (before after : Machine) → after ≡ forgotten before → Fails error before after reply.NoMemory
-fails_memory error before after is = is
-
-pub fails_refused : (error : RequestError) (before after : Machine) (r : Reply) → error ≢ request.Memory → Refuses error before after r → Fails error before after r
-fails_refused error before after (reply.Line text) other refuses = (other, refuses.0, refuses.1)
-fails_refused error before after reply.NoMemory other refuses = refuses
-fails_refused error before after reply.Nothing other refuses = refuses
-
-pub refuses_line : (error : RequestError) (before : Machine) (line : List ℕ) → line ≡ text_of_problem error ++ line_end → Refuses error before before (reply.Line line)
-refuses_line error before line is = (is, refl)
-
--- a body that isn't a request, or for which memory ran out
-pub body_fails : {X : Type 0} (view : X → RequestData) (user password base body : List ℕ) (before after : Machine) (f : Faults) (error : RequestError) (r : Reply)
-    → Later f f → Agrees request.Memory view (Err error) (requested body) → Fails error before after r
-    → RepliesToBody user password base body before after f f r []
-body_fails view user password base body before after f error (reply.Line text) same agrees fails =
+pub replied_lacking : {door : Door} {account : Account} {asking : Asking} {before mid after : GateState} {was now : Faults} {events : List Event} (e : AllocError) (text : List ℕ)
+    → text ≡ no_memory_text door → after ≡ forgotten mid → AnswersTo door account asking before mid was now (Err e) events
+    → RepliesToAsking door account asking before after was now text events
+replied_lacking {door} {account} {asking} {before} {mid} {after} {was} {now} {events} e text text_is after_is a =
+    subst (λ (s : GateState). RepliesToAsking door account asking before s was now text events) (sym after_is)
     record {
-      of = λ asked reads.
-          let is : requested body ≡ Err error = elim agrees [ inl memory ↦ absurd (fails.0 memory) | inr is ↦ is ] in (
-            Answered asked [] (Err error) (Err ServerUnavailable) (idle before) refl (inl (body, reads, sym is)) (NoMail refl refl refl refl) (λ out. cc) fails.1 fails.2,
-            bears_none f f same,
-          );
+      of = λ read reads. (LacksAnswering read events asking a.mail a.done refl reads a.work text_is (ap (λ (m : Machine). (forgotten (record { machine = m; uploads = [] })).machine)
+          a.machine_is) a.may, a.bears);
     }
-body_fails view user password base body before after f error reply.NoMemory same agrees fails =
-    record { of = λ asked reads. (LacksReading (inr (body, subst (λ (l : List Event). Asked (Ok body) l) (sym (append-nil asked)) reads)) refl fails, bears_none f f same) }
-body_fails view user password base body before after f error reply.Nothing same agrees fails = absurd fails
-
--- a request
-pub body_asks : {X : Type 0} {user password base : List ℕ} {before after : Machine} {was now : Faults} {r : Reply} {events : List Event} (view : X → RequestData) (body : List ℕ)
-    (x : X)
-    → Agrees request.Memory view (Ok x) (requested body) → RepliesToRequest user password base (view x) before after was now r events
-    → RepliesToBody user password base body before after was now r events
-body_asks view body x agrees replies = record { of = λ asked reads. replies.of asked (inl (body, reads, sym agrees)) }
 
 -- ---- reading
 
--- the counts that a reply bears were lower before
-earlier_reply : (account : Account) (before after : Machine) (was mid now : Faults) (r : Reply) (events : List Event) → Later was mid
-    → RepliesBy account before after mid now r events → RepliesBy account before after was now r events
-earlier_reply account before after was mid now (reply.Line text) events later replies = (replies.0, bears_earlier (reply_blamed replies.0) was mid now later replies.1)
-earlier_reply account before after was mid now reply.NoMemory events later replies = (replies.0, bears_earlier (reply_blamed replies.0) was mid now later replies.1)
-earlier_reply account before after was mid now reply.Nothing events later replies = replies
+pub read_asked : {door : Door} {account : Account} {asking : Asking} {before after : GateState} {mid now : Faults} {ys : List Event} (xs : List Event) (was : Faults)
+    (response : Response)
+    → Later was mid → Reads door account.token (Ok asking) xs → RepliesToAsking door account asking before after mid now (text_of response) ys
+    → RepliesBy door account before after was now (Some response) (xs ++ ys)
+read_asked {mid = mid} {now = now} xs was response later reads replies =
+    let r = replies.of xs reads in (r.0, bears_earlier (reply_blamed r.0) was mid now later r.1)
 
-pub read_body : {user password base body : List ℕ} {before after : Machine} {mid now : Faults} {r : Reply} {ys : List Event} (xs : List Event) (was : Faults) → Later was mid
-    → Asked (Ok body) xs
-    → RepliesToBody user password base body before after mid now r ys → RepliesBy (record { user = user; password = password; base = base }) before after was now r (xs ++ ys)
-read_body {user} {password} {base} {body} {before} {after} {mid} {now} {r} {ys} xs was later asked replies =
-    earlier_reply (record { user = user; password = password; base = base }) before after was mid now r (xs ++ ys) later (replies.of xs asked)
-
-pub read_large : {events : List Event} (account : Account) (before after : Machine) (was now : Faults) (r : Reply) → Later was now → Asked (Err ask.TooLarge) events
-    → Refuses (request.Limit MaxSizeRequest) before after r → RepliesBy account before after was now r events
-read_large {events} account before after was now (reply.Line text) later asked refuses = (
-  Answered events [] (Err (request.Limit MaxSizeRequest)) (Err ServerUnavailable) (idle before) (sym (append-nil events)) (inr (asked, refl)) (NoMail refl refl refl refl)
-      (λ out. cc) refuses.0 refuses.1,
-  bears_none was now later,
-)
-read_large {events} account before after was now reply.NoMemory later asked refuses = (
-  LacksAnswering events [] (Err (request.Limit MaxSizeRequest)) (Err ServerUnavailable) (idle before) (sym (append-nil events)) (inr (asked, refl))
-      (NoMail refl refl refl refl) refl refuses,
-  bears_none was now later,
-)
-read_large account before after was now reply.Nothing later asked refuses = absurd refuses
-
-pub read_lacking : {events : List Event} (account : Account) (before after : Machine) (was now : Faults) → Later was now → Asked (Err ask.Memory) events → after ≡ forgotten before
-    → RepliesBy account before after was now reply.NoMemory events
-read_lacking account before after was now later asked is = (LacksReading (inl asked) refl is, bears_none was now later)
+pub read_lacking : {door : Door} {account : Account} {events : List Event} (before after : GateState) (was now : Faults) (response : Response) → Later was now
+    → Reads door account.token (Err unread.Memory) events → text_of response ≡ no_memory_text door → after ≡ forgotten before
+    → RepliesBy door account before after was now (Some response) events
+read_lacking before after was now response later reads text_is after_is = (LacksReading reads text_is after_is, bears_none was now later)
 
 -- ---- sending
 
@@ -265,11 +211,11 @@ bears_front n b was mid now bears alone rose =
     }
 
 -- a client was sent its reply, and is done with
-sent_client : {account : Account} {before after : Machine} {was mid now : Faults} {xs : List Event} (ys : List Event) (text : List ℕ) (sent : Result (Unit {0}) Failed)
-    (how : Served)
-    → (replies : Replies Bare account before xs text after) → Bears (reply_blamed replies) was mid → FrontAlone mid now → (how ≢ served.Whole → Rose mid.front now.front)
+sent_client : {door : Door} {account : Account} {before after : GateState} {was mid now : Faults} {xs : List Event} (ys : List Event) (text : List ℕ)
+    (sent : Result (Unit {0}) Failed) (how : Served)
+    → (replies : Replies door account before xs text after) → Bears (reply_blamed replies) was mid → FrontAlone mid now → (how ≢ served.Whole → Rose mid.front now.front)
     → Sends text sent ys → how ≡ went sent
-    → Serves account before after was now how ((xs ++ ys) ++ ClientDone ∷ [])
+    → Serves door account before after was now how ((xs ++ ys) ++ ClientDone ∷ [])
 sent_client {was = was} {mid = mid} {now = now} {xs = xs} ys text sent how replies bears alone cause sends is =
     record {
       of = λ all all_is. (
@@ -283,47 +229,51 @@ pub bears_failed : (was mid : Faults) → Later was mid → Rose was.front mid.f
 bears_failed was mid later rose =
     record { link = rose_none was.link mid.link later.link; keep = rose_none was.keep mid.keep later.keep; front = rose; say = rose_none was.say mid.say later.say }
 
-no_reply : (r : Reply) (how : Served) (mid now : ℕ) → (how ≢ served.Whole → (r ≡ reply.Nothing) ⊎ Rose mid now) → r ≢ reply.Nothing → how ≢ served.Whole → Rose mid now
-no_reply r how mid now cause some part = elim (cause part) [ inl none ↦ absurd (some none) | inr rose ↦ rose ]
+not_none : (response : Response) (how : Served) (mid now : ℕ) → (how ≢ served.Whole → (Some response ≡ None) ⊎ Rose mid now) → how ≢ served.Whole → Rose mid now
+not_none response how mid now cause part = elim (cause part) [ inl none ↦ absurd (cc none) | inr rose ↦ rose ]
+
+-- all events of a client that isn't sent anything
+unsent_events : (all xs ys : List Event) → all ≡ Accepted ∷ ((xs ++ ys) ++ ClientDone ∷ []) → ys ≡ [] → all ≡ Accepted ∷ (xs ++ ClientDone ∷ [])
+unsent_events all xs ys is none = is ∙ (λ i. Accepted ∷ ((ap (λ (l : List Event). xs ++ l) none ∙ append-nil xs) i ++ ClientDone ∷ []))
+
+unread_client : (door : Door) (account : Account) (before after : GateState) (was mid now : Faults) (xs ys all : List Event) (how : Served) → Later was mid → FrontAlone mid now
+    → IsUnread door account.token was mid xs → after ≡ before → how ≡ served.Part → all ≡ Accepted ∷ (xs ++ ClientDone ∷ [])
+    → (segment : Segment door account before all how after) × Bears (blamed segment) was now
+unread_client door account before after was mid now xs ys all how later alone (inl ended) same is all_is = (
+  Left xs all_is ended is same,
+  bears_later no_faults was mid now (bears_none was mid later) (later_front mid now alone),
+)
+unread_client door account before after was mid now xs ys all how later alone (inr (failed, rose)) same is all_is = (
+  Unasked xs all_is failed is same,
+  bears_later (blame_front 1 no_faults) was mid now (bears_failed was mid later rose) (later_front mid now alone),
+)
 
 -- a client that came is answered
-pub serves_reply : (account : Account) (before after : Machine) (was mid now : Faults) (xs ys : List Event) (r : Reply) (how : Served)
-    → Later was mid → FrontAlone mid now → (r ≡ reply.Nothing → Rose was.front mid.front) → (how ≢ served.Whole → (r ≡ reply.Nothing) ⊎ Rose mid.front now.front)
-    → RepliesBy account before after was mid r xs → SendsReply r how ys → Serves account before after was now how ((xs ++ ys) ++ ClientDone ∷ [])
-serves_reply account before after was mid now xs ys (reply.Line text) how later alone failed cause replies sends =
-    sent_client ys text sends.0 how replies.0 replies.1 alone (no_reply (reply.Line text) how mid.front now.front cause (λ is. cc)) sends.1 sends.2
-serves_reply account before after was mid now xs ys reply.NoMemory how later alone failed cause replies sends =
-    sent_client ys (no_memory_text Bare) sends.0 how replies.0 replies.1 alone (no_reply reply.NoMemory how mid.front now.front cause (λ is. cc)) sends.1 sends.2
-serves_reply account before after was mid now xs ys reply.Nothing how later alone failed cause replies sends =
-    record {
-      of = λ all all_is. (
-        Unasked xs (all_is ∙ (λ i. Accepted ∷ ((ap (λ (l : List Event). xs ++ l) sends.1 ∙ append-nil xs) i ++ ClientDone ∷ []))) replies.0 sends.0 replies.1,
-        bears_later (blame_front 1 no_faults) was mid now (bears_failed was mid later (failed refl)) (later_front mid now alone),
-      );
-    }
+pub serves_reply : (door : Door) (account : Account) (before after : GateState) (was mid now : Faults) (xs ys : List Event) (r : Option Response) (how : Served)
+    → Later was mid → FrontAlone mid now → (how ≢ served.Whole → (r ≡ None) ⊎ Rose mid.front now.front)
+    → RepliesBy door account before after was mid r xs → SendsReply r how ys → Serves door account before after was now how ((xs ++ ys) ++ ClientDone ∷ [])
+serves_reply door account before after was mid now xs ys (Some response) how later alone cause replies sends =
+    sent_client ys (text_of response) sends.0 how replies.0 replies.1 alone (not_none response how mid.front now.front cause) sends.1 sends.2
+serves_reply door account before after was mid now xs ys None how later alone cause replies sends =
+    record { of = λ all all_is. unread_client door account before after was mid now xs ys all how later alone replies.0 replies.1 sends.0 (unsent_events all xs ys all_is sends.1) }
 
 -- one client, or none
-pub steps_fault : {account : Account} {events : List Event} (machine : Machine) (was now : Faults) → events ≡ FrontFailed ∷ [] → FrontAlone was now → Rose was.front now.front
-    → StepsTo Bare account machine (λ m. machine ≡ m) was now served.AcceptFault events
-steps_fault machine was now is alone rose =
-    record {
-      after = machine;
-      segment = NotAccepted is refl refl;
-      stands = refl;
-      bears = bears_front 1 no_faults was was now
-          (bears_none was was (later_same was was refl)) alone rose;
-    }
+pub steps_fault : {door : Door} {account : Account} {events : List Event} (s : GateState) (was now : Faults) → events ≡ FrontFailed ∷ [] → FrontAlone was now
+    → Rose was.front now.front
+    → StepsTo door account s s was now served.AcceptFault events
+steps_fault s was now is alone rose =
+    record { segment = NotAccepted is refl refl; bears = bears_front 1 no_faults was was now (bears_none was was (later_same was was refl)) alone rose }
 
-pub steps_none : {account : Account} {events : List Event} (machine : Machine) (was now : Faults) → events ≡ NoMore ∷ [] → FrontAlone was now
-    → StepsTo Bare account machine (λ m. machine ≡ m) was now served.NoMore events
-steps_none machine was now is alone = record { after = machine; segment = NoneComes is refl refl; stands = refl; bears = bears_none was now (later_front was now alone) }
+pub steps_none : {door : Door} {account : Account} {events : List Event} (s : GateState) (was now : Faults) → events ≡ NoMore ∷ [] → FrontAlone was now
+    → StepsTo door account s s was now served.NoMore events
+steps_none s was now is alone = record { segment = NoneComes is refl refl; bears = bears_none was now (later_front was now alone) }
 
-pub steps_client : {account : Account} {before : Machine} {mid now : Faults} {xs ys : List Event} (after : Machine) (was : Faults) (how : Served) → xs ≡ Accepted ∷ []
+pub steps_client : {door : Door} {account : Account} {before after : GateState} {mid now : Faults} {xs ys : List Event} (was : Faults) (how : Served) → xs ≡ Accepted ∷ []
     → FrontAlone was mid
-    → Serves account before after mid now how ys → StepsTo Bare account before (λ m. after ≡ m) was now how (xs ++ ys)
-steps_client {account} {before} {mid} {now} {xs} {ys} after was how is alone serves =
+    → Serves door account before after mid now how ys → StepsTo door account before after was now how (xs ++ ys)
+steps_client {mid = mid} {now = now} {xs = xs} {ys = ys} was how is alone serves =
     let here = serves.of (xs ++ ys) (λ i. is i ++ ys) in
-    record { after = after; segment = here.0; stands = refl; bears = bears_earlier (blamed here.0) was mid now (later_front was mid alone) here.1 }
+    record { segment = here.0; bears = bears_earlier (blamed here.0) was mid now (later_front was mid alone) here.1 }
 
 -- the count was lower before
 pub rose_earlier : (was mid now : ℕ) → was ≤ mid → Rose mid now → Rose was now

@@ -4,7 +4,7 @@ use Rattle.std.specs.List.{list_any}
 use Rattle.jmap_core.specs.Request.{CallData, call_data}
 use Rattle.jmap_core.specs.declared.call.Call.{Call}
 use Rattle.jmap_core.specs.declared.request.Using.{Using}
-use Rattle.gateway.specs.Calls.{Mailing, call_result, response_to, responses_after}
+use Rattle.gate_serving.specs.Calls.{Mailing, call_result, response_to, responses_after}
 
 -- a test of what is made of each element
 pub any_map : {X Y : Type 0} (f : X → Y) (test : Y → Bool) (xs : List X) → list_any test (map f xs) ≡ list_any (λ x. test (f x)) xs

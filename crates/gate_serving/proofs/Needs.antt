@@ -8,11 +8,11 @@ use Rattle.gate_machine.specs.Beginning.{Begins}
 use Rattle.gate_machine.specs.History.{KnownMail}
 use Rattle.gate_machine.specs.Obeying.{IsObeyed, IsServed}
 use Rattle.gate_machine.specs.declared.standing.Standing.TheVariants.{OutOfMemory}
-use Rattle.gateway.specs.Calls.{Mailing}
-use Rattle.gateway.specs.Complete.{IsWorkObeyed, IsAnsweredFrom}
-use Rattle.gateway.specs.Requests.{Account, Asking, asks_for_mail}
-use Rattle.gateway.specs.Run.{Stood}
-use Rattle.gateway.specs.Work.{Work, NoMail, WithMail, mailing_by}
+use Rattle.gate_serving.specs.Calls.{Mailing}
+use Rattle.gate_serving.specs.Complete.{IsWorkObeyed, IsAnsweredFrom}
+use Rattle.gate_serving.specs.Requests.{Account, Asking, asks_for_mail}
+use Rattle.gate_serving.specs.Run.{Stood}
+use Rattle.gate_serving.specs.Work.{Work, NoMail, WithMail, mailing_by}
 
 none_of : (b was now : ℕ) → RoseBy b was now → now ≡ was → was < 2 ^ 64 - 1 → b ≡ 0
 none_of b was now rose is less = omega (arith, is)

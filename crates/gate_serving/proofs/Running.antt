@@ -5,11 +5,12 @@ use Rattle.std.proofs.lemmas.Grind.{common_steps}
 use Rattle.gate_world.specs.Causes.{Faults, RoseBy, no_faults}
 use Rattle.gate_world.specs.declared.event.Event.{Event}
 use Rattle.gate_machine.specs.Progress.{Bears}
-use Rattle.gate_machine.specs.declared.machine.Machine.{Machine}
-use Rattle.gateway.specs.declared.served.Served.{Served}
-use Rattle.gateway.specs.declared.served.Served.TheVariants as served
-use Rattle.gateway.specs.Requests.{Account, Door}
-use Rattle.gateway.specs.Run.{Begun, Then, both, IsClient, Ends, AllServed, NoneLeft, NotAccepted, StepsTo, RunsTo, IsRun}
+use Rattle.gate_serving.specs.declared.served.Served.{Served}
+use Rattle.gate_serving.specs.declared.served.Served.TheVariants as served
+use Rattle.gate_serving.specs.declared.door.Door.{Door}
+use Rattle.gate_serving.specs.GateState.{GateState}
+use Rattle.gate_serving.specs.Requests.{Account}
+use Rattle.gate_serving.specs.Run.{Begun, Then, both, IsClient, Ends, AllServed, NoneLeft, NotAccepted, StepsTo, RunsTo, IsRun}
 
 rose_more : (j k was mid now : ℕ) → RoseBy j was mid → RoseBy k mid now → RoseBy (j + k) was now
 rose_more j k was mid now a b = omega arith
@@ -36,34 +37,32 @@ all_one : (s : Served) → IsClient s → All IsClient (s ∷ [])
 all_one s here = search rules
 
 -- none yet
-pub begun : (door : Door) (account : Account) (m : Machine) (Stands : Machine → Type 0) (f : Faults) → Stands m → RunsTo door account m Stands 0 f f []
-begun door account m Stands f stands = record { after = m; went = []; run = Begun; came = search rules; counted = refl; stands = stands; bears = bears_none f }
+pub begun : (door : Door) (account : Account) (s : GateState) (f : Faults) → RunsTo door account s s 0 f f []
+begun door account s f = record { went = []; run = Begun; came = search rules; counted = refl; bears = bears_none f }
 
 -- one more that came
-pub then_client : {door : Door} {account : Account} {m : Machine} {S T : Machine → Type 0} {n : ℕ} {was mid now : Faults} {s : Served} {xs ys : List Event} {b : Account}
-    → b ≡ account → IsClient s → RunsTo door account m S n was mid xs → ((k : Machine) → S k → StepsTo door b k T mid now s ys) → RunsTo door account m T (n + 1) was now (xs ++ ys)
-then_client {door} {account} {T = T} {was = was} {mid = mid} {now = now} {s = s} {ys = ys} same client r steps =
-    let step : StepsTo door account r.after T mid now s ys = subst (λ (a : Account). StepsTo door a r.after T mid now s ys) same (steps r.after r.stands) in
+pub then_client : {door : Door} {account : Account} {s t u : GateState} {n : ℕ} {was mid now : Faults} {how : Served} {xs ys : List Event} {d : Door} {b : Account}
+    → d ≡ door → b ≡ account → IsClient how → RunsTo door account s t n was mid xs → StepsTo d b t u mid now how ys → RunsTo door account s u (n + 1) was now (xs ++ ys)
+then_client {door} {account} {s} {t} {u} {was = was} {mid = mid} {now = now} {how = how} {ys = ys} {b = b} here same client r steps =
+    let step : StepsTo door account t u mid now how ys = subst (λ (a : Account). StepsTo door a t u mid now how ys) same
+        (subst (λ (e : Door). StepsTo e b t u mid now how ys) here steps) in
     record {
-      after = step.after;
-      went = r.went ++ s ∷ [];
+      went = r.went ++ how ∷ [];
       run = Then r.run step.segment;
-      came = All-append IsClient r.went (s ∷ []) r.came (all_one s client);
-      counted = one_more r.went s ∙ ap (λ (k : ℕ). k + 1) r.counted;
-      stands = step.stands;
+      came = All-append IsClient r.went (how ∷ []) r.came (all_one how client);
+      counted = one_more r.went how ∙ ap (λ (k : ℕ). k + 1) r.counted;
       bears = bears_both _ _ was mid now r.bears step.bears;
     }
 
 -- the last
-pub then_last : {door : Door} {account : Account} {m : Machine} {S T : Machine → Type 0} {n : ℕ} {was mid now : Faults} {s : Served} {xs ys : List Event} {b : Account}
-    (most status : ℕ)
-    → b ≡ account → ((went : List Served) → All IsClient went → length went ≡ n → Ends most (went ++ s ∷ []) status) → RunsTo door account m S n was mid xs
-    → ((k : Machine) → S k → StepsTo door b k T mid now s ys) → IsRun door account m most was now status (xs ++ ys)
-then_last {door} {account} {T = T} {was = was} {mid = mid} {now = now} {s = s} {ys = ys} most status same ends r steps =
-    let step : StepsTo door account r.after T mid now s ys = subst (λ (a : Account). StepsTo door a r.after T mid now s ys) same (steps r.after r.stands) in
+pub then_last : {door : Door} {account : Account} {s t u : GateState} {n : ℕ} {was mid now : Faults} {how : Served} {xs ys : List Event} {d : Door} {b : Account} (most status : ℕ)
+    → d ≡ door → b ≡ account → ((went : List Served) → All IsClient went → length went ≡ n → Ends most (went ++ how ∷ []) status) → RunsTo door account s t n was mid xs
+    → StepsTo d b t u mid now how ys → IsRun door account s u most was now status (xs ++ ys)
+then_last {door} {account} {s} {t} {u} {was = was} {mid = mid} {now = now} {how = how} {ys = ys} {b = b} most status here same ends r steps =
+    let step : StepsTo door account t u mid now how ys = subst (λ (a : Account). StepsTo door a t u mid now how ys) same
+        (subst (λ (e : Door). StepsTo e b t u mid now how ys) here steps) in
     record {
-      after = step.after;
-      went = r.went ++ s ∷ [];
+      went = r.went ++ how ∷ [];
       run = Then r.run step.segment;
       ends = ends r.went r.came r.counted;
       bears = bears_both _ _ was mid now r.bears step.bears;
@@ -76,6 +75,6 @@ pub not_accepted : (n most : ℕ) → n < most → (went : List Served) → All 
 not_accepted n most less went came counted = NotAccepted went refl came (omega (arith, counted)) refl
 
 -- as many as may come
-pub all_served : {door : Door} {account : Account} {m : Machine} {S : Machine → Type 0} {n : ℕ} {was now : Faults} {xs : List Event} (most : ℕ) → n ≡ most
-    → RunsTo door account m S n was now xs → IsRun door account m most was now 0 xs
-all_served most is r = record { after = r.after; went = r.went; run = r.run; ends = AllServed r.came (r.counted ∙ is) refl; bears = r.bears }
+pub all_served : {door : Door} {account : Account} {s t : GateState} {n : ℕ} {was now : Faults} {xs : List Event} (most : ℕ) → n ≡ most
+    → RunsTo door account s t n was now xs → IsRun door account s t most was now 0 xs
+all_served most is r = record { went = r.went; run = r.run; ends = AllServed r.came (r.counted ∙ is) refl; bears = r.bears }

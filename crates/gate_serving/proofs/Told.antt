@@ -4,31 +4,19 @@ use Rattle.gate_world.specs.Causes.{Faults, no_faults}
 use Rattle.gate_world.specs.Octets.{Hears}
 use Rattle.gate_world.specs.declared.event.Event.{Event}
 use Rattle.gate_world.specs.declared.event.Event.TheVariants.{Accepted, ClientDone}
-use Rattle.gate_words.specs.declared.task.Task.{Task}
 use Rattle.gate_machine.specs.Progress.{Progress}
-use Rattle.gate_machine.specs.declared.machine.Machine.{Machine}
-use Rattle.gate_machine.specs.declared.standing.Standing.TheVariants as standing
-use Rattle.gateway.proofs.Needs.{Law, answered_from}
-use Rattle.gateway.specs.Calls.{Mailing}
-use Rattle.gateway.specs.Complete.{
-  IsAnsweredFrom,
-  IsReplyObeyed,
-  IsSegmentObeyed,
-  IsTold,
-  NobodyComes,
-  TakesResponse,
-  LacksMemory,
-  IsRunObeyed,
-  IsRunTold,
-  IsTaskObeyed,
-  IsTaskTold,
-  Completes,
-}
-use Rattle.gateway.specs.Requests.{Account, Asking, Door, Bare, Reads, response_of}
-use Rattle.gateway.specs.Run.{both, Run, Begun, Then, run_blamed, account_of, Ran, Unopened, ServedOnce, ShownOne, Runs, Refused, OutOfMemory, Done}
-use Rattle.gateway.specs.Segment.{Replies, Answered, LacksReading, LacksAnswering, Segment, NoneComes, NotAccepted, Unasked, Replied, blame_front, blamed, reply_blamed}
-use Rattle.gateway.specs.declared.served.Served.{Served}
-use Rattle.gateway.specs.declared.served.Served.TheVariants as served
+use Rattle.gate_machine.specs.declared.standing.Standing.TheVariants.{OutOfMemory}
+use Rattle.gate_serving.specs.declared.door.Door.{Door}
+use Rattle.gate_serving.specs.declared.served.Served.{Served}
+use Rattle.gate_serving.specs.declared.served.Served.TheVariants as served
+use Rattle.gate_serving.specs.Answers.{response_of}
+use Rattle.gate_serving.specs.Calls.{Mailing}
+use Rattle.gate_serving.specs.Complete.{IsAnsweredFrom, IsReplyObeyed, IsSegmentObeyed, IsTold, NobodyComes, EndsEarly, TakesResponse, LacksMemory, IsRunObeyed, IsRunTold}
+use Rattle.gate_serving.specs.GateState.{GateState}
+use Rattle.gate_serving.specs.Requests.{Account, Asking, Reads}
+use Rattle.gate_serving.specs.Run.{both, Run, Begun, Then, run_blamed}
+use Rattle.gate_serving.specs.Segment.{Replies, Answered, LacksReading, LacksAnswering, Segment, NoneComes, NotAccepted, Left, Unasked, Replied, blame_front, blamed, reply_blamed}
+use Rattle.gate_serving.proofs.Needs.{Law, answered_from}
 
 -- one more is never none
 never : (n : ℕ) → n + 1 ≡ 0 → ⊥
@@ -49,30 +37,32 @@ blameless f is = λ i. record {
 blamed_once : (f : Faults) → blame_front 1 f ≡ no_faults → ⊥
 blamed_once f is = never f.front (ap (λ (g : Faults). g.front) is)
 
-takes : (door : Door) (account : Account) (events asked worked replied heard : List Event) (text : List ℕ) (how : Served) (after : Machine) (asking : Asking) (mail : Mailing)
-    (done : Progress) → events ≡ Accepted ∷ ((replied ++ heard) ++ ClientDone ∷ []) → replied ≡ asked ++ worked → Reads door (Ok asking) asked → done.standing ≢ standing.OutOfMemory
-    → text ≡ response_of door account mail asking → after ≡ done.machine → Hears text heard → how ≡ served.Whole
-    → IsAnsweredFrom asking mail done ⊎ (done.standing ≡ standing.OutOfMemory) → IsTold door account events how after
+takes : (door : Door) (account : Account) (events asked worked replied heard : List Event) (text : List ℕ) (how : Served) (after : GateState) (asking : Asking) (mail : Mailing)
+    (done : Progress) → events ≡ Accepted ∷ ((replied ++ heard) ++ ClientDone ∷ []) → replied ≡ asked ++ worked → Reads door account.token (Ok asking) asked
+    → done.standing ≢ OutOfMemory
+    → text ≡ response_of door account mail after.uploads asking → after.machine ≡ done.machine → Hears text heard → how ≡ served.Whole
+    → IsAnsweredFrom asking mail done ⊎ (done.standing ≡ OutOfMemory) → IsTold door account events how after
 takes door account events asked worked replied heard text how after asking mail done is split reads stands text_is after_is hears whole (inl from) =
     TakesResponse asked worked heard asking mail done (is ∙ (λ i. Accepted ∷ ((split i ++ heard) ++ ClientDone ∷ []))) reads from after_is
     (subst (λ (t : List ℕ). Hears t heard) text_is hears) whole
 takes door account events asked worked replied heard text how after asking mail done is split reads stands text_is after_is hears whole (inr out) = absurd (stands out)
 
-told_by : Law → (door : Door) (account : Account) (before : Machine) (events replied heard : List Event) (text : List ℕ) (how : Served) (after : Machine)
+told_by : Law → (door : Door) (account : Account) (before : GateState) (events replied heard : List Event) (text : List ℕ) (how : Served) (after : GateState)
     → events ≡ Accepted ∷ ((replied ++ heard) ++ ClientDone ∷ []) → (replies : Replies door account before replied text after) → Hears text heard → how ≡ served.Whole
     → IsReplyObeyed replies → reply_blamed replies ≡ no_faults → IsTold door account events how after
-told_by law door account before events replied heard text how after is (Answered asked worked asking mail done split reads work stands text_is after_is) hears whole obeyed none =
+told_by law door account before events replied heard text how after is (Answered asked worked asking mail done split reads work stands after_is kept text_is) hears whole obeyed none =
     takes door account events asked worked replied heard text how after asking mail done is split reads stands text_is after_is hears whole
-    (answered_from law account before asking worked mail done work obeyed none)
+    (answered_from law account before.machine asking worked mail done work obeyed none)
 told_by law door account before events replied heard text how after is (LacksReading reads text_is after_is) hears whole obeyed none =
     LacksMemory replied heard is (subst (λ (t : List ℕ). Hears t heard) text_is hears) whole
-told_by law door account before events replied heard text how after is (LacksAnswering asked worked asking mail done split reads work text_is after_is) hears whole obeyed none =
+told_by law door account before events replied heard text how after is (LacksAnswering asked worked asking mail done split reads work text_is after_is kept) hears whole obeyed none =
     LacksMemory replied heard is (subst (λ (t : List ℕ). Hears t heard) text_is hears) whole
 
-pub told : Law → (door : Door) (account : Account) (before : Machine) (events : List Event) (how : Served) (after : Machine)
+pub told : Law → (door : Door) (account : Account) (before : GateState) (events : List Event) (how : Served) (after : GateState)
     (segment : Segment door account before events how after) → IsSegmentObeyed segment → blamed segment ≡ no_faults → IsTold door account events how after
 told law door account before events how after (NoneComes is how_is same) obeyed none = NobodyComes is how_is
 told law door account before events how after (NotAccepted is how_is same) obeyed none = absurd (blamed_once no_faults none)
+told law door account before events how after (Left asked is reads how_is same) obeyed none = EndsEarly asked is reads how_is
 told law door account before events how after (Unasked asked is reads how_is same) obeyed none = absurd (blamed_once no_faults none)
 told law door account before events how after (Replied replied heard text (Ok u) is replies sends how_is) obeyed none =
     told_by law door account before events replied heard text how after is replies sends how_is obeyed (blameless (reply_blamed replies) none)
@@ -95,26 +85,12 @@ both_none f g is =
 
 -- what is proved of each client
 abbrev pub ToldLaw : Type 0
-ToldLaw = (door : Door) (account : Account) (before : Machine) (events : List Event) (how : Served) (after : Machine)
+ToldLaw = (door : Door) (account : Account) (before : GateState) (events : List Event) (how : Served) (after : GateState)
     (segment : Segment door account before events how after) → IsSegmentObeyed segment → blamed segment ≡ no_faults → IsTold door account events how after
 
-pub run_told : ToldLaw → {door : Door} {account : Account} {before after : Machine} {events : List Event} {went : List Served} (run : Run door account before events went after)
+pub run_told : ToldLaw → {door : Door} {account : Account} {before after : GateState} {events : List Event} {went : List Served} (run : Run door account before events went after)
     → run_blamed run ≡ no_faults → IsRunObeyed run → IsRunTold run
 run_told law Begun none obeyed = tt
 run_told law {door} {account} (Then {fs = fs} {s = s} {mid = mid} {after = after} run segment) none obeyed =
     let parts = both_none (run_blamed run) (blamed segment) none in
     (run_told law run parts.0 obeyed.0, law door account mid fs s after segment obeyed.1 parts.1)
-
--- ---- the program
-
-task_told : ToldLaw → {task : Task} {password : List ℕ} {status : ℕ} {blames : Faults} {events : List Event} (ran : Ran task password status blames events) → blames ≡ no_faults
-    → IsTaskObeyed ran → IsTaskTold ran
-task_told law (Unopened place m a b c d) none obeyed = tt
-task_told law {password = password} (ServedOnce place opened segment said m after how served is opens ends blames_is events_are) none obeyed =
-    law Bare (account_of place password) m segment how after served obeyed (sym blames_is ∙ none)
-task_told law (ShownOne shown said outcome a b c d e) none obeyed = tt
-
-pub program_told : ToldLaw → (words : List (List ℕ)) (password : List ℕ) (status : ℕ) (events : List Event) → Completes words password status events
-program_told law words password status events blames (Refused a b c d) none obeyed = tt
-program_told law words password status events blames (OutOfMemory a b c) none obeyed = tt
-program_told law words password status events blames (Done task is ran) none obeyed = task_told law ran none obeyed

@@ -12,7 +12,7 @@ use Rattle.jmap_core.specs.declared.method_error.MethodError.{MethodError}
 use Rattle.jmap_core.specs.declared.request.Using.{Using}
 use Rattle.jmap_core.specs.State.{state_text}
 use Rattle.read_methods.specs.Mailboxes.{mailboxes_answer}
-use Rattle.gateway.specs.declared.served_mail.ServedMail.{ServedMail}
+use Rattle.gate_serving.specs.declared.served_mail.ServedMail.{ServedMail}
 
 -- The mail over which calls are answered; or the error of each call that needs the mail and isn't refused by its name or
 -- its arguments.

@@ -6,7 +6,7 @@ use Rattle.told_mail.specs.Mail.{Mail}
 use Rattle.told_folder.specs.declared.message.Held.{Held}
 use Rattle.told_folder.specs.declared.message.Message.{Message}
 use Rattle.gate_machine.specs.History.{History}
-use Rattle.gateway.specs.declared.served_mail.ServedMail.{ServedMail}
+use Rattle.gate_serving.specs.declared.served_mail.ServedMail.{ServedMail}
 use Rattle.read_methods.specs.declared.mailbox_counts.MailboxCounts.{MailboxCounts}
 
 abbrev pub has_flag : List ℕ → Message → Bool

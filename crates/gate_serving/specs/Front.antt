@@ -5,13 +5,13 @@ use Rattle.gate_world.specs.declared.event.Event.TheVariants.{ClientEnded, Front
 use Rattle.gate_world.specs.declared.unread.FillError.{FillError}
 use Rattle.gate_world.specs.declared.unread.FillError.TheVariants as fill
 use Rattle.gate_world.specs.Octets.{Asks}
-use Rattle.gateway.specs.declared.front.TheConstants.{MAX_BODY_OCTETS}
-use Rattle.gateway.specs.declared.front.AskError.{AskError}
-use Rattle.gateway.specs.declared.front.AskError.TheVariants as ask
-use Rattle.gateway.specs.declared.front.FrontError.{FrontError}
-use Rattle.gateway.specs.declared.front.FrontError.TheVariants as front
-use Rattle.gateway.specs.declared.front.Input.{Input}
-use Rattle.gateway.specs.declared.front.Input.TheVariants.{Whole, Cut}
+use Rattle.gate_serving.specs.declared.front.TheConstants.{MAX_BODY_OCTETS}
+use Rattle.gate_serving.specs.declared.front.AskError.{AskError}
+use Rattle.gate_serving.specs.declared.front.AskError.TheVariants as ask
+use Rattle.gate_serving.specs.declared.front.FrontError.{FrontError}
+use Rattle.gate_serving.specs.declared.front.FrontError.TheVariants as front
+use Rattle.gate_serving.specs.declared.front.Input.{Input}
+use Rattle.gate_serving.specs.declared.front.Input.TheVariants.{Whole, Cut}
 
 -- why the client is given up, where no octets came
 abbrev pub of_fill : FillError → FrontError

@@ -1,64 +1,86 @@
--- What a client asks, and the text that it is sent (RFC 8620 sections 3.3 to 3.6).
-use Rattle.std.specs.Prelude.{◌≡◌, ◌⊎◌, ◌++◌, ℕ, Bool, false, List, [], ◌∷◌, Result, Ok, Err}
+-- What clients ask (RFC 8620 sections 2, 3.3, 6.1 and 6.2), and how it is read.
+use Rattle.std.specs.Prelude.{◌≡◌, ◌⊎◌, ℕ, Bool, true, false, nat_le, List, length, if◌then◌else◌, Option, Result, Ok, Err, codes}
 use Rattle.gate_world.specs.declared.event.Event.{Event}
-use Rattle.serde_json.specs.Written.{compact_text}
-use Rattle.jmap_core.specs.Problem.{text_of_problem}
+use Rattle.blob_store.specs.declared.store.TheConstants.{MAX_UPLOAD_OCTETS}
+use Rattle.http_door.specs.Asking.{AsksOverHttp}
+use Rattle.http_door.specs.declared.asking.AskError.{AskError}
+use Rattle.http_door.specs.declared.asking.AskError.TheVariants as unread
+use Rattle.http_door.specs.declared.asking.HttpAsking.{HttpAsking}
+use Rattle.http_door.specs.declared.asking.HttpAsking.TheVariants as http
+use Rattle.http_service.specs.declared.refusal.Refusal.{Refusal}
 use Rattle.jmap_core.specs.Request.{RequestData, requested}
-use Rattle.jmap_core.specs.Response.{response_data}
-use Rattle.jmap_core.specs.Session.{session_state_text}
 use Rattle.jmap_core.specs.declared.request.RequestError.{RequestError}
 use Rattle.jmap_core.specs.declared.request.RequestError.TheVariants.{Limit}
-use Rattle.jmap_core.specs.declared.request.LimitName.TheVariants.{MaxSizeRequest}
-use Rattle.gateway.specs.declared.front.AskError.TheVariants.{Failed, TooLarge, Memory}
-use Rattle.gateway.specs.Calls.{Mailing, responses_after, needs_mail}
-use Rattle.gateway.specs.Front.{Asked}
+use Rattle.jmap_core.specs.declared.request.LimitName.TheVariants.{MaxSizeRequest, MaxSizeUpload}
+use Rattle.gate_serving.specs.declared.door.Door.{Door}
+use Rattle.gate_serving.specs.declared.door.Door.TheVariants.{Bare, Http}
+use Rattle.gate_serving.specs.declared.front.AskError.TheVariants.{Failed, TooLarge, Memory}
+use Rattle.gate_serving.specs.Calls.{needs_mail}
+use Rattle.gate_serving.specs.Front.{Asked}
 
--- Who is served: the store's user and password, and the URL that clients come by.
+-- Who is served: the store's user and password, the token that clients show, and the URL that they come by.
 pub record Account : Type 0 where
   pub user : List ℕ
   pub password : List ℕ
+  pub token : List ℕ
   pub base : List ℕ
 
--- How requests come, and their answers are spelled: here one on standard input, as a line on standard output.
-pub data Door : Type 0 where
-  Bare : Door
+-- what a client asks
+pub data Asking : Type 0 where
+  -- method calls
+  Calls : RequestData → Asking
+  -- no request, and why
+  Problem : RequestError → Asking
+  -- the Session
+  Session : Asking
+  -- these octets are to be kept, as this type
+  Upload : (media octets : List ℕ) → Asking
+  -- the octets of a blob, as this type where one is named
+  Download : (blob : List ℕ) (media : Option (List ℕ)) → Asking
+  -- what HTTP has no answer to
+  Refused : Refusal → Asking
 
--- a request, or why there is none
-abbrev pub Asking : Type 0
-Asking = Result RequestData RequestError
-
+-- A download needs the mail whatever its blob, as method calls do that may be answered from mail.
 abbrev pub asks_for_mail : Asking → Bool
-asks_for_mail (Ok request) = needs_mail request.calls
-asks_for_mail (Err e) = false
+asks_for_mail (Calls request) = needs_mail request.calls
+asks_for_mail (Download blob media) = true
+asks_for_mail _ = false
 
--- why a client isn't answered what it asked
-pub data Unread : Type 0 where
-  -- the front failed before the request's end
-  FrontLost : Unread
-  -- out of memory, on the way or at its end
-  NoMemory : Unread
+-- ---- what is read
 
--- What reading a request adds. At the bare door it is all that the client gives; no more than one octet past the limit is
--- read.
-abbrev pub Reads : Door → Result Asking Unread → List Event → Type 0
-Reads Bare (Ok asking) events =
-    ((octets : List ℕ) × Asked (Ok octets) events × (asking ≡ requested octets)) ⊎ (Asked (Err TooLarge) events × (asking ≡ Err (Limit MaxSizeRequest)))
-Reads Bare (Err FrontLost) events = Asked (Err Failed) events
-Reads Bare (Err NoMemory) events = Asked (Err Memory) events ⊎ ((octets : List ℕ) × Asked (Ok octets) events)
+abbrev pub asked_by : Result RequestData RequestError → Asking
+asked_by (Ok request) = Calls request
+asked_by (Err e) = Problem e
 
--- each text ends its line
-abbrev pub line_end : List ℕ
-line_end = 10 ∷ []
+-- an upload, where it isn't too large
+abbrev pub upload_asked : List ℕ → List ℕ → Asking
+upload_asked media octets = if nat_le (length octets) MAX_UPLOAD_OCTETS then Upload media octets else Problem (Limit MaxSizeUpload)
 
--- the responses to a request's calls, with the Session's state of this user and base
-unfoldable pub calls_text : List ℕ → List ℕ → Mailing → RequestData → List ℕ
-calls_text user base mail request =
-    compact_text (response_data (responses_after mail request.uses [] request.calls) request.created (session_state_text user base))
+-- what is asked over HTTP
+abbrev pub asked_over_http : HttpAsking → Asking
+asked_over_http http.Session = Session
+asked_over_http (http.Calls body) = asked_by (requested body)
+asked_over_http (http.Upload media octets) = upload_asked media octets
+asked_over_http (http.Download blob name media) = Download blob media
+asked_over_http (http.Refused refusal) = Refused refusal
+asked_over_http http.CallsTooLarge = Problem (Limit MaxSizeRequest)
+asked_over_http http.UploadTooLarge = Problem (Limit MaxSizeUpload)
 
-abbrev pub response_of : Door → Account → Mailing → Asking → List ℕ
-response_of Bare account mail (Ok request) = calls_text account.user account.base mail request ++ line_end
-response_of Bare account mail (Err e) = text_of_problem e ++ line_end
+-- the one account
+abbrev pub account_id : List ℕ
+account_id = codes "a1"
 
--- out of memory: no text (RFC 9110 section 15.6.4)
-abbrev pub no_memory_text : Door → List ℕ
-no_memory_text Bare = line_end
+-- What reading a client's request adds, by the token that clients must show; or why it isn't read: the client ended its input
+-- inside it, the front failed before its end, or memory ran out on the way or at its end. At the bare door a request is all that
+-- the client gives; no more than one octet past the limit is read.
+abbrev pub Reads : Door → List ℕ → Result Asking AskError → List Event → Type 0
+Reads Bare token (Ok asking) events =
+    ((octets : List ℕ) × Asked (Ok octets) events × (asking ≡ asked_by (requested octets)))
+    ⊎ (Asked (Err TooLarge) events × (asking ≡ Problem (Limit MaxSizeRequest)))
+Reads Bare token (Err unread.Ended) events = ⊥
+Reads Bare token (Err unread.Failed) events = Asked (Err Failed) events
+Reads Bare token (Err unread.Memory) events = Asked (Err Memory) events ⊎ ((octets : List ℕ) × Asked (Ok octets) events)
+Reads Http token (Ok asking) events = (asked : HttpAsking) × AsksOverHttp token account_id (Ok asked) events × (asking ≡ asked_over_http asked)
+Reads Http token (Err unread.Memory) events =
+    AsksOverHttp token account_id (Err unread.Memory) events ⊎ ((body : List ℕ) × AsksOverHttp token account_id (Ok (http.Calls body)) events)
+Reads Http token (Err e) events = AsksOverHttp token account_id (Err e) events

@@ -1,24 +1,18 @@
--- Segments one after another, and a run of the program over its words and the outside.
-use Rattle.std.specs.Prelude.{◌≡◌, ◌≢◌, ◌⊎◌, ◌<◌, ◌+◌, ◌-◌, ◌^◌, ◌++◌, ℕ, List, [], ◌∷◌, length, All, Result, Ok, Err, codes}
-use Rattle.gate_world.specs.Causes.{Faults, no_faults}
+-- Clients one after another.
+use Rattle.std.specs.Prelude.{◌≡◌, ◌<◌, ◌+◌, ◌-◌, ◌^◌, ◌++◌, ℕ, List, [], ◌∷◌, length, All, Result, Ok, Err}
+use Rattle.gate_world.specs.Causes.{Faults, Hidden, no_faults}
 use Rattle.gate_world.specs.declared.event.Event.{Event}
-use Rattle.gate_world.specs.declared.event.Event.TheVariants.{Word, Said, SayFailed}
+use Rattle.gate_world.specs.declared.event.Event.TheVariants.{Word}
 use Rattle.gate_words.specs.declared.place.Place.{Place}
-use Rattle.gate_words.specs.declared.task.Task.{Task}
-use Rattle.gate_words.specs.declared.task.Task.TheVariants.{Once, Show}
-use Rattle.gate_words.specs.Task.{IsTask}
-use Rattle.gate_machine.specs.Machine.{opened}
 use Rattle.gate_machine.specs.Progress.{Bears}
-use Rattle.gate_machine.specs.declared.machine.Machine.{Machine}
-use Rattle.gateway.specs.declared.front.FrontError.{FrontError}
-use Rattle.gateway.specs.declared.front.FrontError.TheVariants as front
-use Rattle.gateway.specs.declared.served.Served.{Served}
-use Rattle.gateway.specs.declared.served.Served.TheVariants as served
-use Rattle.gateway.specs.declared.served.OpenError.{OpenError}
-use Rattle.gateway.specs.declared.served.OpenError.TheVariants as opening
-use Rattle.gateway.specs.Requests.{Account, Door, Bare}
-use Rattle.gateway.specs.Segment.{Segment, blamed, blame_front}
-use Rattle.gateway.specs.Show.{Shows}
+use Rattle.gate_serving.specs.declared.door.Door.{Door}
+use Rattle.gate_serving.specs.declared.served.Served.{Served}
+use Rattle.gate_serving.specs.declared.served.Served.TheVariants as served
+use Rattle.gate_serving.specs.declared.served.OpenError.{OpenError}
+use Rattle.gate_serving.specs.declared.served.OpenError.TheVariants as opening
+use Rattle.gate_serving.specs.GateState.{GateState, opened}
+use Rattle.gate_serving.specs.Requests.{Account}
+use Rattle.gate_serving.specs.Segment.{Segment, blamed}
 
 -- ---- counts
 
@@ -36,13 +30,13 @@ pub record Stood (was now : Faults) : Type 0 where
 -- ---- runs
 
 -- Segments one after another, and how each client was served.
-pub data Run (door : Door) (account : Account) (before : Machine) : List Event → List Served → Machine → Type 0 where
+pub data Run (door : Door) (account : Account) (before : GateState) : List Event → List Served → GateState → Type 0 where
   Begun : Run door account before [] [] before
-  Then : {es fs : List Event} {went : List Served} {s : Served} {mid after : Machine} → Run door account before es went mid
+  Then : {es fs : List Event} {went : List Served} {s : Served} {mid after : GateState} → Run door account before es went mid
       → Segment door account mid fs s after
       → Run door account before (es ++ fs) (went ++ s ∷ []) after
 
-abbrev pub run_blamed : {door : Door} {account : Account} {before after : Machine} {events : List Event} {went : List Served}
+abbrev pub run_blamed : {door : Door} {account : Account} {before after : GateState} {events : List Event} {went : List Served}
     → Run door account before events went after → Faults
 run_blamed Begun = no_faults
 run_blamed (Then run segment) = both (run_blamed run) (blamed segment)
@@ -62,39 +56,31 @@ pub data Ends (most : ℕ) (went : List Served) (status : ℕ) : Type 0 where
 
 -- ---- what calls add
 
--- One segment from a machine to one that a gate stands for; the counts bear its blames.
-pub record StepsTo (door : Door) (account : Account) (before : Machine) (Stands : Machine → Type 0) (was now : Faults) (how : Served)
-    (events : List Event) : Type 0 where
-  pub after : Machine
+-- One segment; the counts bear its blames.
+pub record StepsTo (door : Door) (account : Account) (before after : GateState) (was now : Faults) (how : Served) (events : List Event) : Type 0 where
   pub segment : Segment door account before events how after
-  pub stands : Stands after
   pub bears : Bears (blamed segment) was now
 
--- The same of a run that goes on after so many clients.
-pub record RunsTo (door : Door) (account : Account) (before : Machine) (Stands : Machine → Type 0) (clients : ℕ) (was now : Faults)
-    (events : List Event) : Type 0 where
-  pub after : Machine
+-- A run that goes on after so many clients.
+pub record RunsTo (door : Door) (account : Account) (before after : GateState) (clients : ℕ) (was now : Faults) (events : List Event) : Type 0 where
   pub went : List Served
   pub run : Run door account before events went after
   pub came : All IsClient went
   pub counted : length went ≡ clients
-  pub stands : Stands after
   pub bears : Bears (run_blamed run) was now
 
--- A whole run from a machine.
-pub record IsRun (door : Door) (account : Account) (before : Machine) (most : ℕ) (was now : Faults) (status : ℕ) (events : List Event) : Type 0 where
-  pub after : Machine
+-- A whole run.
+pub record IsRun (door : Door) (account : Account) (before after : GateState) (most : ℕ) (was now : Faults) (status : ℕ) (events : List Event) : Type 0 where
   pub went : List Served
   pub run : Run door account before events went after
   pub ends : Ends most went status
   pub bears : Bears (run_blamed run) was now
 
--- What opening adds, and the machine that it gives: an epoch is drawn.
-pub data Opens (events : List Event) (result : Result (Unit {0}) OpenError) (after : Machine) : Type 0 where
-  Draw : (epoch : ℕ) → events ≡ Word epoch ∷ [] → result ≡ Ok tt → after ≡ opened epoch → Opens events result after
-  Lack : events ≡ [] → result ≡ Err opening.Memory → Opens events result after
+-- who is served at this place
+abbrev pub account_of : Place → Hidden → Account
+account_of place secrets = record { user = place.user; password = secrets.password; token = secrets.token; base = place.base }
 
--- The same by what it gives: a gate that stands for the machine, or why there is none.
-abbrev pub OpensTo : {G : Type 0} → (G → Machine → Type 0) → Result G OpenError → List Event → Type 0
-OpensTo Stands (Ok gate) events = (m : Machine) × Opens events (Ok tt) m × Stands gate m
-OpensTo Stands (Err e) events = (m : Machine) × Opens events (Err e) m
+-- What opening a gate adds, and what the gate holds: an epoch is drawn; or there is no memory for it.
+abbrev pub Opens : Result GateState OpenError → List Event → Type 0
+Opens (Ok s) events = (epoch : ℕ) × (events ≡ Word epoch ∷ []) × (s ≡ opened epoch)
+Opens (Err opening.Memory) events = events ≡ []

@@ -12,9 +12,9 @@ use Rattle.gate_machine.specs.declared.standing.Fall.{Fall}
 use Rattle.gate_machine.specs.declared.standing.Fall.TheVariants.{Linked, Spent}
 use Rattle.gate_machine.specs.declared.standing.Standing.{Standing}
 use Rattle.gate_machine.specs.declared.standing.Standing.TheVariants as standing
-use Rattle.gateway.specs.Calls.{Mailing}
-use Rattle.gateway.specs.Counts.{served_mail}
-use Rattle.gateway.specs.Requests.{Account, Asking, asks_for_mail}
+use Rattle.gate_serving.specs.Calls.{Mailing}
+use Rattle.gate_serving.specs.Counts.{served_mail}
+use Rattle.gate_serving.specs.Requests.{Account, Asking, asks_for_mail}
 
 -- the error of a call that needs the mail, where that can't be told (RFC 8620 section 3.6.2)
 abbrev pub error_of : Fall → MethodError

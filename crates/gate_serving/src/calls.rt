@@ -8,8 +8,8 @@ ghost use Rattle.jmap_core.specs.Response.{IsWhole};
 ghost use Rattle.jmap_core.specs.declared.method_error.MethodError.TheVariants.{Memory};
 ghost use Rattle.jmap_core.specs.State.{state_text};
 ghost use Rattle.read_methods.specs.Mailboxes.{mailboxes_answer};
-ghost use Rattle.gateway.specs.Calls as spec;
-ghost use Rattle.gateway.specs.Calls.{response_to, responses_after};
+ghost use Rattle.gate_serving.specs.Calls as spec;
+ghost use Rattle.gate_serving.specs.Calls.{response_to, responses_after};
 
 use crate::served_mail::ServedMail;
 use gate_world::Text;

@@ -2,7 +2,7 @@
 ghost use Rattle.std.specs.Prelude.{◌≡◌, IsErrOf};
 ghost use Rattle.gate_world.specs.Causes.{Rose, FrontAlone};
 ghost use Rattle.gate_world.specs.Tape.{Adds};
-ghost use Rattle.gateway.specs.Front.{input_octets, GivesInput, Asked};
+ghost use Rattle.gate_serving.specs.Front.{input_octets, GivesInput, Asked};
 
 use gate_world::{Bytes, Failed, FillError, Front, Unread};
 use std::alloc::{AllocError, Global};
@@ -40,7 +40,7 @@ pub enum FrontError {
 }
 
 impl From<Failed> for FrontError {
-    ghost use Rattle.gateway.specs.declared.front.FrontError.TheVariants.{Failed};
+    ghost use Rattle.gate_serving.specs.declared.front.FrontError.TheVariants.{Failed};
     ghost use Rattle.std.specs.Prelude.{◌≡◌};
 
     ghost from_gives = { λ _ e. e ≡ Failed };
@@ -51,7 +51,7 @@ impl From<Failed> for FrontError {
 }
 
 impl From<FillError> for FrontError {
-    ghost use Rattle.gateway.specs.Front.{of_fill};
+    ghost use Rattle.gate_serving.specs.Front.{of_fill};
     ghost use Rattle.std.specs.Prelude.{◌≡◌};
 
     ghost from_gives = { λ f e. e ≡ of_fill f };
@@ -65,7 +65,7 @@ impl From<FillError> for FrontError {
 }
 
 impl From<AllocError> for FrontError {
-    ghost use Rattle.gateway.specs.declared.front.FrontError.TheVariants.{Memory};
+    ghost use Rattle.gate_serving.specs.declared.front.FrontError.TheVariants.{Memory};
     ghost use Rattle.std.specs.Prelude.{◌≡◌};
 
     ghost from_gives = { λ _ e. e ≡ Memory };

@@ -1,17 +1,19 @@
 // What the definitions rule out.
-ghost use Rattle.std.specs.Prelude.{◌≡◌, ◌⊎◌, List, ℕ, [], false};
+ghost use Rattle.std.specs.Prelude.{◌≡◌, ◌⊎◌, List, [], false};
 ghost use Rattle.gate_world.specs.Causes.{Faults, no_faults};
 ghost use Rattle.gate_world.specs.declared.event.Event.{Event};
 ghost use Rattle.gate_machine.specs.Progress.{Bears, Progress};
 ghost use Rattle.gate_machine.specs.declared.machine.Machine.{Machine};
 ghost use Rattle.gate_machine.specs.declared.standing.Standing.TheVariants.{OutOfMemory};
-ghost use Rattle.gateway.specs.Calls.{Mailing};
-ghost use Rattle.gateway.specs.Complete.{Completes, CompletesRun, IsAnsweredFrom, IsSegmentObeyed, IsTold, IsWorkObeyed};
-ghost use Rattle.gateway.specs.Requests.{Account, Asking, Door, asks_for_mail};
-ghost use Rattle.gateway.specs.Run.{Stood};
-ghost use Rattle.gateway.specs.Segment.{Segment, blamed};
-ghost use Rattle.gateway.specs.Work.{Work};
-ghost use Rattle.gateway.specs.declared.served.Served.{Served};
+ghost use Rattle.gate_serving.specs.Calls.{Mailing};
+ghost use Rattle.gate_serving.specs.Complete.{CompletesRun, IsAnsweredFrom, IsSegmentObeyed, IsTold, IsWorkObeyed};
+ghost use Rattle.gate_serving.specs.declared.door.Door.{Door};
+ghost use Rattle.gate_serving.specs.GateState.{GateState};
+ghost use Rattle.gate_serving.specs.Requests.{Account, Asking, asks_for_mail};
+ghost use Rattle.gate_serving.specs.Run.{Stood};
+ghost use Rattle.gate_serving.specs.Segment.{Segment, blamed};
+ghost use Rattle.gate_serving.specs.Work.{Work};
+ghost use Rattle.gate_serving.specs.declared.served.Served.{Served};
 
 use gate_machine::obeyed_rounds_stand;
 
@@ -39,7 +41,7 @@ pub fn obeyed_requests_answered()
 /// Where the store obeys, a place is left and no fault is blamed, whoever comes takes the whole response that is due over
 /// the mail that is served then; or memory ran out.
 pub fn obeyed_clients_are_told()
-    ensures { (door : Door) (account : Account) (before : Machine) (events : List Event) (how : Served) (after : Machine)
+    ensures { (door : Door) (account : Account) (before : GateState) (events : List Event) (how : Served) (after : GateState)
         (segment : Segment door account before events how after) → IsSegmentObeyed segment → blamed segment ≡ no_faults
         → IsTold door account events how after }
 {
@@ -49,13 +51,6 @@ pub fn obeyed_clients_are_told()
 /// Each client of a run is told, where nothing is blamed in it and the store obeyed every request of it.
 pub fn obeyed_runs_are_told()
     ensures { (door : Door) (account : Account) (events : List Event) → CompletesRun door account events }
-{
-    obeyed_clients_are_told();
-}
-
-/// The same of a run of the program.
-pub fn obeyed_programs_tell()
-    ensures { (words : List (List ℕ)) (password : List ℕ) (status : ℕ) (events : List Event) → Completes words password status events }
 {
     obeyed_clients_are_told();
 }

@@ -1,6 +1,6 @@
 // Lines that a client is sent.
 ghost use Rattle.std.specs.Prelude.{◌≡◌, ◌++◌, IfOk};
-ghost use Rattle.gateway.specs.Requests.{line_end};
+ghost use Rattle.gate_serving.specs.Answers.{line_end};
 
 use gate_world::Bytes;
 use std::alloc::AllocError;

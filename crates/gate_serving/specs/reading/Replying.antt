@@ -1,29 +1,26 @@
--- What the parts of answering a client at the bare door add.
-use Rattle.std.specs.Prelude.{◌≡◌, ◌≢◌, ◌⊎◌, ◌++◌, ℕ, Bool, List, [], ◌∷◌, Result, Ok, Err}
-use Rattle.gate_world.specs.Causes.{Faults}
+-- What the parts of answering a client add.
+use Rattle.std.specs.Prelude.{◌≡◌, ◌≢◌, ◌⊎◌, ◌++◌, ℕ, Bool, List, [], ◌∷◌, Option, Some, None, Result, Ok, Err}
+use Rattle.std.specs.declared.alloc.AllocError.{AllocError}
+use Rattle.gate_world.specs.Causes.{Faults, Rose}
 use Rattle.gate_world.specs.Sending.{Sends}
 use Rattle.gate_world.specs.declared.event.Event.{Event}
-use Rattle.gate_world.specs.declared.event.Event.TheVariants.{Accepted, ClientDone}
+use Rattle.gate_world.specs.declared.event.Event.TheVariants.{Accepted}
 use Rattle.gate_world.specs.declared.outside.Failed.{Failed}
-use Rattle.std.specs.declared.alloc.AllocError.{AllocError}
-use Rattle.jmap_core.specs.Problem.{text_of_problem}
-use Rattle.jmap_core.specs.Request.{RequestData}
-use Rattle.jmap_core.specs.declared.request.RequestError.{RequestError}
-use Rattle.jmap_core.specs.declared.request.RequestError.TheVariants as request
-use Rattle.gate_machine.specs.Machine.{forgotten}
+use Rattle.http_door.specs.declared.asking.AskError.TheVariants as unread
 use Rattle.gate_machine.specs.Progress.{Progress, Bears}
 use Rattle.gate_machine.specs.declared.machine.Machine.{Machine}
 use Rattle.gate_machine.specs.declared.standing.Standing.TheVariants.{OutOfMemory}
-use Rattle.gateway.specs.declared.bare_gate.Reply.{Reply}
-use Rattle.gateway.specs.declared.bare_gate.Reply.TheVariants as reply
-use Rattle.gateway.specs.declared.front.AskError.TheVariants as ask
-use Rattle.gateway.specs.declared.served.Served.{Served}
-use Rattle.gateway.specs.declared.served.Served.TheVariants as served
-use Rattle.gateway.specs.Calls.{Mailing, needs_mail}
-use Rattle.gateway.specs.Front.{Asked}
-use Rattle.gateway.specs.Requests.{Account, Door, Bare, Asking, FrontLost, Reads, asks_for_mail, calls_text, line_end, no_memory_text}
-use Rattle.gateway.specs.Segment.{Replies, Segment, reply_blamed, blamed, went}
-use Rattle.gateway.specs.Work.{Work}
+use Rattle.gate_serving.specs.declared.door.Door.{Door}
+use Rattle.gate_serving.specs.declared.response.Response.{Response}
+use Rattle.gate_serving.specs.declared.served.Served.{Served}
+use Rattle.gate_serving.specs.declared.served.Served.TheVariants as served
+use Rattle.gate_serving.specs.Answers.{Keeps, MayKeep, response_of}
+use Rattle.gate_serving.specs.Calls.{Mailing}
+use Rattle.gate_serving.specs.GateState.{GateState}
+use Rattle.gate_serving.specs.Requests.{Account, Asking, Reads, asks_for_mail}
+use Rattle.gate_serving.specs.Segment.{Replies, Segment, reply_blamed, blamed, went}
+use Rattle.gate_serving.specs.Work.{Work}
+use Rattle.gate_serving.specs.reading.Texts.{text_of}
 
 -- the mail that the work gave; or memory ran out in it or after it
 abbrev pub IsWorked : Result Mailing AllocError → Mailing → Progress → Type 0
@@ -35,69 +32,50 @@ pub record WorksTo (user password : List ℕ) (asks : Bool) (before machine : Ma
     (events : List Event) : Type 0 where
   pub mail : Mailing
   pub done : Progress
-  pub work : (base : List ℕ) (asking : Asking) → asks_for_mail asking ≡ asks
-      → Work (record { user = user; password = password; base = base }) before asking events mail done
+  pub work : (token base : List ℕ) (asking : Asking) → asks_for_mail asking ≡ asks
+      → Work (record { user = user; password = password; token = token; base = base }) before asking events mail done
   pub machine_is : done.machine ≡ machine
   pub bears : Bears done.blamed was now
   pub worked : IsWorked result mail done
 
--- the line that answers a request; or memory ran out in its work, or as the line was made
-abbrev pub IsLined : Result (List ℕ) AllocError → List ℕ → List ℕ → RequestData → Mailing → Progress → Type 0
-IsLined (Ok line) user base request mail done = (line ≡ calls_text user base mail request ++ line_end) × (done.standing ≢ OutOfMemory)
-IsLined (Err _) user base request mail done = Unit {0}
+-- the response, where there was memory for it
+abbrev pub IsMade : Door → Account → Mailing → Asking → GateState → GateState → Progress → Result Response AllocError → Type 0
+IsMade door account mail asking before after done (Ok response) = (text_of response ≡ response_of door account mail after.uploads asking)
+    × (done.standing ≢ OutOfMemory) × Keeps asking before.uploads after.uploads
+IsMade door account mail asking before after done (Err _) = Unit {0}
 
-pub record LinesTo (user password base : List ℕ) (request : RequestData) (before machine : Machine) (was now : Faults)
-    (result : Result (List ℕ) AllocError) (events : List Event) : Type 0 where
+pub record AnswersTo (door : Door) (account : Account) (asking : Asking) (before after : GateState) (was now : Faults) (result : Result Response AllocError)
+    (events : List Event) : Type 0 where
   pub mail : Mailing
   pub done : Progress
-  pub work : Work (record { user = user; password = password; base = base }) before (Ok request) events mail done
-  pub machine_is : done.machine ≡ machine
+  pub work : Work account before.machine asking events mail done
+  pub machine_is : after.machine ≡ done.machine
   pub bears : Bears done.blamed was now
-  pub lined : IsLined result user base request mail done
+  pub may : MayKeep asking before.uploads after.uploads
+  pub made : IsMade door account mail asking before after done result
 
--- the text that a reply is, where there is one
-abbrev pub text_in : Reply → List ℕ
-text_in (reply.Line text) = text
-text_in reply.NoMemory = no_memory_text Bare
-text_in reply.Nothing = []
-
--- the reply to a request that was read, or that the front failed before
-abbrev pub RepliesBy : Account → Machine → Machine → Faults → Faults → Reply → List Event → Type 0
-RepliesBy account before after was now reply.Nothing events = Reads Bare (Err FrontLost) events × (after ≡ before)
-RepliesBy account before after was now (reply.Line text) events =
-    (replies : Replies Bare account before events text after) × Bears (reply_blamed replies) was now
-RepliesBy account before after was now reply.NoMemory events =
-    (replies : Replies Bare account before events (no_memory_text Bare) after) × Bears (reply_blamed replies) was now
-
--- the reply to a request, after the events by which it was read
-pub record RepliesToRequest (user password base : List ℕ) (request : RequestData) (before after : Machine) (was now : Faults) (reply : Reply)
+-- the reply to what is asked, after the events by which it was read
+pub record RepliesToAsking (door : Door) (account : Account) (asking : Asking) (before after : GateState) (was now : Faults) (text : List ℕ)
     (events : List Event) : Type 0 where
-  pub of : (asked : List Event) → Reads Bare (Ok (Ok request)) asked
-      → RepliesBy (record { user = user; password = password; base = base }) before after was now reply (asked ++ events)
+  pub of : (read : List Event) → Reads door account.token (Ok asking) read
+      → (replies : Replies door account before (read ++ events) text after) × Bears (reply_blamed replies) was now
 
--- the reply to a body, after the events by which it was given
-pub record RepliesToBody (user password base body : List ℕ) (before after : Machine) (was now : Faults) (reply : Reply) (events : List Event) : Type 0 where
-  pub of : (asked : List Event) → Asked (Ok body) asked
-      → RepliesBy (record { user = user; password = password; base = base }) before after was now reply (asked ++ events)
+-- why there is no reply
+abbrev pub IsUnread : Door → List ℕ → Faults → Faults → List Event → Type 0
+IsUnread door token was now events =
+    Reads door token (Err unread.Ended) events ⊎ (Reads door token (Err unread.Failed) events × Rose was.front now.front)
 
--- the reply to what is no request
-abbrev pub Refuses : RequestError → Machine → Machine → Reply → Type 0
-Refuses error before after (reply.Line text) = (text ≡ text_of_problem error ++ line_end) × (after ≡ before)
-Refuses error before after reply.NoMemory = after ≡ forgotten before
-Refuses error before after reply.Nothing = ⊥
-
--- the same of an error of reading a body, which may be that memory ran out
-abbrev pub Fails : RequestError → Machine → Machine → Reply → Type 0
-Fails error before after (reply.Line text) = (error ≢ request.Memory) × (text ≡ text_of_problem error ++ line_end) × (after ≡ before)
-Fails error before after reply.NoMemory = after ≡ forgotten before
-Fails error before after reply.Nothing = ⊥
+-- the reply to what was read, where there is one
+abbrev pub RepliesBy : Door → Account → GateState → GateState → Faults → Faults → Option Response → List Event → Type 0
+RepliesBy door account before after was now (Some response) events =
+    (replies : Replies door account before events (text_of response) after) × Bears (reply_blamed replies) was now
+RepliesBy door account before after was now None events = IsUnread door account.token was now events × (after ≡ before)
 
 -- the reply is sent, where there is one
-abbrev pub SendsReply : Reply → Served → List Event → Type 0
-SendsReply reply.Nothing how events = (how ≡ served.Part) × (events ≡ [])
-SendsReply (reply.Line text) how events = (sent : Result (Unit {0}) Failed) × Sends text sent events × (how ≡ went sent)
-SendsReply reply.NoMemory how events = (sent : Result (Unit {0}) Failed) × Sends (no_memory_text Bare) sent events × (how ≡ went sent)
+abbrev pub SendsReply : Option Response → Served → List Event → Type 0
+SendsReply (Some response) how events = (sent : Result (Unit {0}) Failed) × Sends (text_of response) sent events × (how ≡ went sent)
+SendsReply None how events = (how ≡ served.Part) × (events ≡ [])
 
 -- what a client that was accepted adds after its coming
-pub record Serves (account : Account) (before after : Machine) (was now : Faults) (how : Served) (events : List Event) : Type 0 where
-  pub of : (all : List Event) → all ≡ Accepted ∷ events → (segment : Segment Bare account before all how after) × Bears (blamed segment) was now
+pub record Serves (door : Door) (account : Account) (before after : GateState) (was now : Faults) (how : Served) (events : List Event) : Type 0 where
+  pub of : (all : List Event) → all ≡ Accepted ∷ events → (segment : Segment door account before all how after) × Bears (blamed segment) was now

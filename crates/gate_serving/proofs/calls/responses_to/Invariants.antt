@@ -1,8 +1,8 @@
 use Rattle.std.proofs.Common.{◌≡◌, [], All, drop, map}
 use Rattle.jmap_core.specs.Request.{call_data}
 use Rattle.jmap_core.specs.Response.{IsWhole}
-use Rattle.gateway.specs.Calls.{responses_after}
-use Rattle.gateway.proofs.calls.responses_to.Given as goal
+use Rattle.gate_serving.specs.Calls.{responses_after}
+use Rattle.gate_serving.proofs.calls.responses_to.Given as goal
 
 abbrev pub invariant-loop-call : goal.invariant-loop-call
 invariant-loop-call l =

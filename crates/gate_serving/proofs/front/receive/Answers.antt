@@ -1,7 +1,7 @@
 use Rattle.std.proofs.Common.{◌<◌, length, ap, arith, rules}
 use Rattle.gate_world.proofs.Joins.{join}
-use Rattle.gateway.proofs.Receiving.{piece_asked, piece_within}
-use Rattle.gateway.proofs.front.receive.Goals as goal
+use Rattle.gate_serving.proofs.Receiving.{piece_asked, piece_within}
+use Rattle.gate_serving.proofs.front.receive.Goals as goal
 
 pub receiving-preserved : goal.receiving-preserved
 receiving-preserved g c =

@@ -2,7 +2,7 @@ use Rattle.std.proofs.Common.{◌≡◌, ◌≤◌, ◌-◌, length}
 use Rattle.gate_world.specs.Causes.{FrontAlone}
 use Rattle.gate_world.specs.Octets.{Asks}
 use Rattle.gate_world.specs.Tape.{Adds}
-use Rattle.gateway.proofs.front.receive.Given as goal
+use Rattle.gate_serving.proofs.front.receive.Given as goal
 
 abbrev pub invariant-receiving : goal.invariant-receiving
 invariant-receiving g l =

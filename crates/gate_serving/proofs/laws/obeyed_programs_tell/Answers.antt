@@ -1,5 +1,0 @@
-use Rattle.gateway.proofs.Told.{program_told}
-use Rattle.gateway.proofs.laws.obeyed_programs_tell.Goals as goal
-
-pub returns : goal.returns
-returns c = program_told c.obeyed_clients_are_told.ensures

@@ -1,0 +1,85 @@
+-- What a client is owed of whom nothing fails.
+use Rattle.std.specs.Prelude.{◌≡◌, ◌⊎◌, ◌++◌, ℕ, false, List, [], ◌∷◌, Some, Ok, Err}
+use Rattle.gate_world.specs.Causes.{no_faults}
+use Rattle.gate_world.specs.Octets.{Hears}
+use Rattle.gate_world.specs.declared.event.Event.{Event}
+use Rattle.gate_world.specs.declared.event.Event.TheVariants.{Accepted, NoMore, ClientDone}
+use Rattle.http_door.specs.declared.asking.AskError.TheVariants as unread
+use Rattle.gate_machine.specs.History.{KnownMail}
+use Rattle.gate_machine.specs.Obeying.{IsObeyed}
+use Rattle.gate_machine.specs.Progress.{Progress}
+use Rattle.gate_machine.specs.declared.machine.Machine.{Machine}
+use Rattle.gate_serving.specs.declared.door.Door.{Door}
+use Rattle.gate_serving.specs.declared.served.Served.{Served}
+use Rattle.gate_serving.specs.declared.served.Served.TheVariants as served
+use Rattle.gate_serving.specs.Answers.{response_of, no_memory_text}
+use Rattle.gate_serving.specs.Calls.{Mailing}
+use Rattle.gate_serving.specs.Counts.{served_mail}
+use Rattle.gate_serving.specs.GateState.{GateState}
+use Rattle.gate_serving.specs.Requests.{Account, Asking, Reads, asks_for_mail}
+use Rattle.gate_serving.specs.Run.{Run, Begun, Then, run_blamed}
+use Rattle.gate_serving.specs.Segment.{Replies, Answered, LacksReading, LacksAnswering, Segment, NoneComes, NotAccepted, Left, Unasked, Replied}
+use Rattle.gate_serving.specs.Work.{Work, NoMail, WithMail}
+
+-- ---- a request
+
+-- The store obeyed all that a request asks of it, where it asks anything.
+abbrev pub IsWorkObeyed : {account : Account} {before : Machine} {asking : Asking} {events : List Event} {mail : Mailing} {after : Progress}
+    → Work account before asking events mail after → Type 0
+IsWorkObeyed (NoMail a b c d) = Unit {0}
+IsWorkObeyed (WithMail begun beginning ending a begins b c d e) = IsObeyed begins
+
+-- The calls are answered over the mail that is served then; or none of them needs it.
+abbrev pub IsAnsweredFrom : Asking → Mailing → Progress → Type 0
+IsAnsweredFrom asking mail after =
+    (asks_for_mail asking ≡ false) ⊎ ((k : KnownMail) × (after.machine.known ≡ Some k) × (mail ≡ Ok (served_mail k.history)))
+
+-- ---- a client
+
+-- The store obeyed all that the client's request asks of it.
+abbrev pub IsReplyObeyed : {door : Door} {account : Account} {before : GateState} {events : List Event} {text : List ℕ} {after : GateState}
+    → Replies door account before events text after → Type 0
+IsReplyObeyed (Answered asked worked asking mail done a b work c d e f) = IsWorkObeyed work
+IsReplyObeyed (LacksReading a b c) = Unit {0}
+IsReplyObeyed (LacksAnswering asked worked asking mail done a b c d e f) = Unit {0}
+
+abbrev pub IsSegmentObeyed : {door : Door} {account : Account} {before : GateState} {events : List Event} {how : Served} {after : GateState}
+    → Segment door account before events how after → Type 0
+IsSegmentObeyed (NoneComes a b c) = Unit {0}
+IsSegmentObeyed (NotAccepted a b c) = Unit {0}
+IsSegmentObeyed (Left asked a b c d) = Unit {0}
+IsSegmentObeyed (Unasked asked a b c d) = Unit {0}
+IsSegmentObeyed (Replied replied heard text sent a replies c d) = IsReplyObeyed replies
+
+-- What comes of a client of whom nothing fails: it takes the whole response to what it asked, whose calls are answered over
+-- the mail that is served from then on; or memory ran out, and it takes the text of that; or it ended its input inside its
+-- request; or no client comes.
+pub data IsTold (door : Door) (account : Account) (events : List Event) (how : Served) (after : GateState) : Type 0 where
+  NobodyComes : events ≡ NoMore ∷ [] → how ≡ served.NoMore → IsTold door account events how after
+  EndsEarly : (asked : List Event) → events ≡ Accepted ∷ (asked ++ ClientDone ∷ []) → Reads door account.token (Err unread.Ended) asked → how ≡ served.Part
+      → IsTold door account events how after
+  TakesResponse : (asked worked heard : List Event) (asking : Asking) (mail : Mailing) (done : Progress)
+      → events ≡ Accepted ∷ (((asked ++ worked) ++ heard) ++ ClientDone ∷ []) → Reads door account.token (Ok asking) asked → IsAnsweredFrom asking mail done
+      → after.machine ≡ done.machine → Hears (response_of door account mail after.uploads asking) heard → how ≡ served.Whole
+      → IsTold door account events how after
+  LacksMemory : (replied heard : List Event) → events ≡ Accepted ∷ ((replied ++ heard) ++ ClientDone ∷ []) → Hears (no_memory_text door) heard
+      → how ≡ served.Whole → IsTold door account events how after
+
+-- ---- a run
+
+-- The store obeyed every request of the run.
+abbrev pub IsRunObeyed : {door : Door} {account : Account} {before after : GateState} {events : List Event} {went : List Served}
+    → Run door account before events went after → Type 0
+IsRunObeyed Begun = Unit {0}
+IsRunObeyed (Then run segment) = IsRunObeyed run × IsSegmentObeyed segment
+
+-- What comes of each client of a run of which nothing fails.
+abbrev pub IsRunTold : {door : Door} {account : Account} {before after : GateState} {events : List Event} {went : List Served}
+    → Run door account before events went after → Type 0
+IsRunTold Begun = Unit {0}
+IsRunTold {door} {account} (Then {fs = fs} {s = s} {after = after} run segment) = IsRunTold run × IsTold door account fs s after
+
+-- Where nothing is blamed in a run of these events and the store obeyed every request of it, each client of it is told.
+abbrev pub CompletesRun : Door → Account → List Event → Type 0
+CompletesRun door account events = (before after : GateState) (went : List Served) (run : Run door account before events went after)
+    → run_blamed run ≡ no_faults → IsRunObeyed run → IsRunTold run
