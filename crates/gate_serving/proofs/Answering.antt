@@ -278,3 +278,8 @@ steps_client {mid = mid} {now = now} {xs = xs} {ys = ys} was how is alone serves
 -- the count was lower before
 pub rose_earlier : (was mid now : ℕ) → was ≤ mid → Rose mid now → Rose was now
 rose_earlier was mid now later rose = omega arith
+
+-- a client that came isn't one that couldn't be accepted
+pub not_refused : (how : Served) → (how ≡ served.Whole) ⊎ (how ≡ served.Part) → how ≡ served.AcceptFault → ⊥
+not_refused how (inl whole) fault = let both : served.Whole ≡ served.AcceptFault = sym whole ∙ fault in cc
+not_refused how (inr part) fault = let both : served.Part ≡ served.AcceptFault = sym part ∙ fault in cc

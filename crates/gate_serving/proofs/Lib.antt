@@ -1,6 +1,7 @@
 mod Receiving
 pub mod Answering
 mod Gates
+mod Ids
 mod Running
 mod Calling
 mod Needs

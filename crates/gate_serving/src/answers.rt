@@ -150,11 +150,19 @@ pub fn upload_response(
     json_response(alloc, door, StatusCode::CREATED, text)
 }
 
+const UNTOLD: &[u8] = b"{\"status\":404,\"type\":\"about:blank\"}";
+
+fn untold_text() -> &'static [u8]
+    ensures { result.now ≡ compact_text untold_problem }
+{
+    UNTOLD
+}
+
 // A blob that can't be told.
 fn untold_response(alloc: Global, door: Door) -> Result<Response, AllocError>
     ensures { IfOk result (λ r. text_of r ≡ spelled door (problem_answer 404 (compact_text untold_problem))) }
 {
-    let body = Bytes::copy_of(alloc, b"{\"status\":404,\"type\":\"about:blank\"}")?;
+    let body = Bytes::copy_of(alloc, untold_text())?;
     Response::new(alloc, door, StatusCode::NOT_FOUND, &problem_media(), body)
 }
 

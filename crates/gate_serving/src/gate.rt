@@ -22,7 +22,7 @@ use crate::door::Door;
 use crate::reading::read_asking;
 use crate::response::Response;
 use crate::served::{OpenError, Served};
-use crate::work::work;
+use crate::mailing::work;
 use blob_store::BlobStore;
 use gate_machine::Machine;
 use gate_words::Place;

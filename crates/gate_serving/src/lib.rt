@@ -10,13 +10,13 @@ mod front;
 mod gate;
 mod laws;
 mod line;
+mod mailing;
 mod reading;
 mod requests;
 mod response;
 mod served;
 mod served_mail;
 mod serving;
-mod work;
 
 pub use door::Door;
 pub use front::{FrontError, Input, receive};

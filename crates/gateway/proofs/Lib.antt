@@ -1,10 +1,5 @@
 mod Quiet
-mod Receiving
-mod Answering
-mod Running
 mod Showing
-mod Calling
 mod CompletingShow
 mod Performing
-mod Needs
 mod Told

@@ -9,12 +9,12 @@ use Rattle.gate_world.specs.declared.event.Event.{Event}
 use Rattle.gate_world.specs.declared.event.Event.TheVariants.{Accepted}
 use Rattle.gate_world.specs.declared.outside.Failed.{Failed}
 use Rattle.email_get.specs.EmailObjects.{IsEmailObject}
-use Rattle.gateway.specs.declared.front.FrontError.{FrontError}
-use Rattle.gateway.specs.declared.front.FrontError.TheVariants as error
+use Rattle.gate_serving.specs.declared.front.FrontError.{FrontError}
+use Rattle.gate_serving.specs.declared.front.FrontError.TheVariants as error
 use Rattle.gate_world.specs.Sending.{Sends}
-use Rattle.gateway.specs.Requests.{line_end}
+use Rattle.gate_serving.specs.Answers.{line_end}
 use Rattle.gateway.specs.Show.{object_line, ShowsObject, Reads, Answers, Sent, Shows, ShowsClient}
-use Rattle.gateway.specs.Run.{IsSaid, front_failed, RunsShow}
+use Rattle.gateway.specs.Program.{IsSaid, front_failed, RunsShow}
 
 -- the text with its line end shows the object
 pub shows_object : (octets : List ℕ) (o : Data) (text : List ℕ) (line : Result (List ℕ) AllocError) → IsEmailObject octets o → text ≡ compact_text o

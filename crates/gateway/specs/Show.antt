@@ -7,12 +7,12 @@ use Rattle.gate_world.specs.declared.event.Event.TheVariants.{Accepted, NoMore, 
 use Rattle.gate_world.specs.declared.outside.Failed.{Failed}
 use Rattle.email_get.specs.EmailObjects.{IsEmailObject}
 use Rattle.gateway.specs.declared.show.TheConstants.{MAX_MESSAGE_OCTETS}
-use Rattle.gateway.specs.declared.front.FrontError.{FrontError}
-use Rattle.gateway.specs.declared.front.FrontError.TheVariants as front
-use Rattle.gateway.specs.declared.front.Input.{Input}
+use Rattle.gate_serving.specs.declared.front.FrontError.{FrontError}
+use Rattle.gate_serving.specs.declared.front.FrontError.TheVariants as front
+use Rattle.gate_serving.specs.declared.front.Input.{Input}
 use Rattle.gate_world.specs.Sending.{Sends}
-use Rattle.gateway.specs.Front.{input_octets, GivesInput}
-use Rattle.gateway.specs.Requests.{line_end}
+use Rattle.gate_serving.specs.Front.{input_octets, GivesInput}
+use Rattle.gate_serving.specs.Answers.{line_end}
 
 -- the most octets of a message
 abbrev pub message_limit : ℕ
