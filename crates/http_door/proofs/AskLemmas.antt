@@ -1,5 +1,5 @@
 -- Requests that are read part after part.
-use Rattle.std.proofs.Common.{◌≡◌, ◌++◌, ℕ, List, [], Result, refl, sym}
+use Rattle.std.proofs.Common.{◌++◌, ℕ, List, [], Result, refl, sym}
 use Rattle.std.proofs.lemmas.List.{append-nil}
 use Rattle.gate_world.specs.declared.event.Event.{Event}
 use Rattle.http_service.specs.ReadHead.{ReadsHead}

@@ -1,4 +1,4 @@
-use Rattle.std.proofs.Common.{subst, List, ℕ, sym}
+use Rattle.std.proofs.Common.{subst, sym}
 use Rattle.std.specs.Option.{option_copied}
 use Rattle.http_service.specs.Responses.{IsMediaText}
 use Rattle.http_door.proofs.MediaLemmas.{download_is_text}
