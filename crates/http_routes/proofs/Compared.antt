@@ -1,5 +1,5 @@
 -- Texts that are compared octet by octet.
-use Rattle.std.proofs.Common.{◌≡◌, ◌<◌, ◌≤◌, ◌+◌, ◌*◌, ◌++◌, ℕ, List, [], ◌∷◌, length, take, get_or, bit_and, bit_or, bit_xor, refl, sym, ap, ◌∙◌, arith}
+use Rattle.std.proofs.Common.{◌≡◌, ◌<◌, ◌≤◌, ◌+◌, ◌*◌, ◌++◌, ℕ, List, [], ◌∷◌, length, take, get_or, bit_and, bit_or, bit_xor, sym, ap, ◌∙◌, arith}
 use Rattle.std.specs.Int.Bits.{xor_add_and, xor_self, or_zero_l}
 use Rattle.std.proofs.lemmas.Nat.{and_le_l, and_le_r, le_or_l, le_or_r}
 use Rattle.std.proofs.lemmas.List.{take_more, get_or-take, take-take}

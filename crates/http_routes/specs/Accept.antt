@@ -1,6 +1,6 @@
 -- The type that a download asks for: the value of `accept`, which the query begins with.
-use Rattle.std.specs.Prelude.{ℕ, List, [], Bool, Option, None, Some, length, not, ◌==◌, ◌&&◌, nat_le, nat_lt, bytes_eq, codes, if◌then◌else◌}
-use Rattle.std.specs.List.{before_first, after_first, list_all, list_any}
+use Rattle.std.specs.Prelude.{ℕ, List, [], Bool, Option, None, Some, length, ◌==◌, ◌&&◌, nat_le, nat_lt, bytes_eq, codes, if◌then◌else◌}
+use Rattle.std.specs.List.{before_first, after_first, list_all}
 use Rattle.percent_encoding.specs.Percent.{percent_decode}
 
 abbrev pub before_and : List ℕ → List ℕ

@@ -7,8 +7,6 @@ mod parts;
 mod request;
 mod route;
 mod router;
-#[cfg(test)]
-mod tests;
 mod token;
 
 pub use request::Request;

@@ -2,6 +2,8 @@
 #![tactic(auto)]
 
 #[cfg(test)]
+mod asking;
+#[cfg(test)]
 mod bodies;
 #[cfg(test)]
 mod client;
@@ -11,3 +13,5 @@ mod cut_requests;
 mod heads;
 #[cfg(test)]
 mod responses;
+#[cfg(test)]
+mod routes;

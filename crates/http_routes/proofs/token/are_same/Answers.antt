@@ -1,4 +1,4 @@
-use Rattle.std.proofs.Common.{◌≡◌, ◌<◌, length, arith}
+use Rattle.std.proofs.Common.{arith}
 use Rattle.http_routes.proofs.Compared.{compared-more}
 use Rattle.http_routes.proofs.token.are_same.Goals as goal
 

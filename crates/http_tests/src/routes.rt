@@ -1,5 +1,5 @@
 // Routes of targets.
-use crate::{Request, Route, Routes, is_token};
+use http_routes::{Request, Route, Routes, is_token};
 use std::alloc::Global;
 use std::test::Fail;
 

@@ -1,0 +1,2 @@
+pub mod MediaLemmas
+pub mod AskLemmas

@@ -1,0 +1,28 @@
+-- The texts of responses (RFC 9112 section 4).
+use Rattle.std.specs.Prelude.{◌++◌, ℕ, List, [], length, Option, Some, None, if◌then◌else◌, codes}
+use Rattle.http_routes.specs.Accept.{is_media}
+use Rattle.http_service.specs.Refusals.{status_of}
+use Rattle.http_service.specs.Responses.{response_head}
+use Rattle.http_service.specs.declared.refusal.Refusal.{Refusal}
+use Rattle.http_door.specs.Asking.{octet_stream}
+
+-- a response whose body is of this type
+abbrev pub http_response : ℕ → List ℕ → List ℕ → List ℕ
+http_response status media body = response_head status (length body) media ++ body
+
+-- a refusal without a body
+abbrev pub refusal_text : Refusal → List ℕ
+refusal_text refusal = response_head (status_of refusal) 0 []
+
+-- (RFC 8259 section 11)
+abbrev pub json_media : List ℕ
+json_media = codes "application/json"
+
+-- (RFC 7807 section 3)
+abbrev pub problem_media : List ℕ
+problem_media = codes "application/problem+json"
+
+-- the type of what is downloaded: the one that is asked for, where it may stand in a head
+abbrev pub download_media : Option (List ℕ) → List ℕ
+download_media None = octet_stream
+download_media (Some media) = if is_media media then media else octet_stream
