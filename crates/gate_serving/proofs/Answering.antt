@@ -24,8 +24,23 @@ use Rattle.gate_serving.specs.Answers.{Keeps, MayKeep, response_of, no_memory_te
 use Rattle.gate_serving.specs.Calls.{Mailing}
 use Rattle.gate_serving.specs.GateState.{GateState, forgotten}
 use Rattle.gate_serving.specs.Requests.{Account, Asking, Reads, asks_for_mail}
-use Rattle.gate_serving.specs.Segment.{Replies, Answered, LacksReading, LacksAnswering, Segment, NoneComes, NotAccepted, Left, Unasked, Replied, reply_blamed, blamed, went, unsent,
-    blame_front}
+use Rattle.gate_serving.specs.Segment.{
+  Replies,
+  Answered,
+  LacksReading,
+  LacksAnswering,
+  Segment,
+  NoneComes,
+  NotAccepted,
+  Left,
+  Unasked,
+  Replied,
+  reply_blamed,
+  blamed,
+  went,
+  unsent,
+  blame_front,
+}
 use Rattle.gate_serving.specs.Run.{StepsTo}
 use Rattle.gate_serving.specs.Work.{Work, NoMail, WithMail, mailing_by}
 use Rattle.gate_serving.specs.reading.Replying.{IsWorked, WorksTo, IsMade, AnswersTo, RepliesToAsking, IsUnread, RepliesBy, SendsReply, Serves}
@@ -173,8 +188,11 @@ pub replied_lacking : {door : Door} {account : Account} {asking : Asking} {befor
 replied_lacking {door} {account} {asking} {before} {mid} {after} {was} {now} {events} e text text_is after_is a =
     subst (λ (s : GateState). RepliesToAsking door account asking before s was now text events) (sym after_is)
     record {
-      of = λ read reads. (LacksAnswering read events asking a.mail a.done refl reads a.work text_is (ap (λ (m : Machine). (forgotten (record { machine = m; uploads = [] })).machine)
-          a.machine_is) a.may, a.bears);
+      of = λ read reads. (
+        LacksAnswering read events asking a.mail a.done refl reads a.work text_is (ap (λ (m : Machine). (forgotten (record { machine = m; uploads = [] })).machine)
+            a.machine_is) a.may,
+        a.bears,
+      );
     }
 
 -- ---- reading

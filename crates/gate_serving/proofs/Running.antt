@@ -45,7 +45,7 @@ pub then_client : {door : Door} {account : Account} {s t u : GateState} {n : ℕ
     → d ≡ door → b ≡ account → IsClient how → RunsTo door account s t n was mid xs → StepsTo d b t u mid now how ys → RunsTo door account s u (n + 1) was now (xs ++ ys)
 then_client {door} {account} {s} {t} {u} {was = was} {mid = mid} {now = now} {how = how} {ys = ys} {b = b} here same client r steps =
     let step : StepsTo door account t u mid now how ys = subst (λ (a : Account). StepsTo door a t u mid now how ys) same
-        (subst (λ (e : Door). StepsTo e b t u mid now how ys) here steps) in
+    (subst (λ (e : Door). StepsTo e b t u mid now how ys) here steps) in
     record {
       went = r.went ++ how ∷ [];
       run = Then r.run step.segment;
@@ -60,7 +60,7 @@ pub then_last : {door : Door} {account : Account} {s t u : GateState} {n : ℕ} 
     → StepsTo d b t u mid now how ys → IsRun door account s u most was now status (xs ++ ys)
 then_last {door} {account} {s} {t} {u} {was = was} {mid = mid} {now = now} {how = how} {ys = ys} {b = b} most status here same ends r steps =
     let step : StepsTo door account t u mid now how ys = subst (λ (a : Account). StepsTo door a t u mid now how ys) same
-        (subst (λ (e : Door). StepsTo e b t u mid now how ys) here steps) in
+    (subst (λ (e : Door). StepsTo e b t u mid now how ys) here steps) in
     record {
       went = r.went ++ how ∷ [];
       run = Then r.run step.segment;

@@ -139,11 +139,7 @@ fn upload_value(alloc: Global, upload: &Upload) -> Result<Value, AllocError>
 }
 
 /// What is told of an upload that is kept.
-pub fn upload_response(
-    alloc: Global,
-    door: Door,
-    upload: &Upload,
-) -> Result<Response, AllocError>
+pub fn upload_response(alloc: Global, door: Door, upload: &Upload) -> Result<Response, AllocError>
     ensures { IfOk result (λ r. text_of r ≡ spelled door (json_answer 201 (compact_text (upload_data upload.now.media upload.now.octets)))) }
 {
     let text = upload_value(alloc, upload)?.to_string(alloc)?;

@@ -19,10 +19,10 @@ use crate::answers::{
 use crate::asking::Asking;
 use crate::calls::Mailing;
 use crate::door::Door;
+use crate::mailing::work;
 use crate::reading::read_asking;
 use crate::response::Response;
 use crate::served::{OpenError, Served};
-use crate::mailing::work;
 use blob_store::BlobStore;
 use gate_machine::Machine;
 use gate_words::Place;

@@ -68,7 +68,11 @@ fn asking_of(alloc: Global, asked: HttpAsking) -> Result<Asking, AskError>
         HttpAsking::Session => Ok(Asking::Session),
         HttpAsking::Calls { body } => asking_in_body(alloc, body.as_slice()),
         HttpAsking::Upload { media, octets } => Ok(asking_of_upload(media, octets)),
-        HttpAsking::Download { blob, name: _, media } => Ok(Asking::Download { blob, media }),
+        HttpAsking::Download {
+            blob,
+            name: _,
+            media,
+        } => Ok(Asking::Download { blob, media }),
         HttpAsking::Refused { refusal } => Ok(Asking::Refused(refusal)),
         HttpAsking::CallsTooLarge => Ok(too_large(LimitName::MaxSizeRequest)),
         HttpAsking::UploadTooLarge => Ok(too_large(LimitName::MaxSizeUpload)),

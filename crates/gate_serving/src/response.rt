@@ -38,9 +38,7 @@ impl Response {
     {
         match door {
             Door::Bare => Ok(Response::Line(with_line_end(body)?)),
-            Door::Http => Ok(Response::Http(HttpResponse::new(
-                alloc, status, media, body,
-            )?)),
+            Door::Http => Ok(Response::Http(HttpResponse::new(alloc, status, media, body)?)),
         }
     }
 

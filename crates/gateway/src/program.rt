@@ -157,7 +157,9 @@ fn perform<W: World>(alloc: Global, world: &mut W, task: &Task) -> u8
 {
     match task {
         Task::Serve {
-            place, connections, ..
+            place,
+            connections,
+            ..
         } => serve_clients(alloc, world, place, *connections),
         Task::Once { place } => once(alloc, world, place),
         Task::Show => show(alloc, world),

@@ -20,18 +20,18 @@ pub returns-in-AcceptFault-clause-run : goal.returns-in-AcceptFault-clause-run
 returns-in-AcceptFault-clause-run g c =
     join _ c.serving.invariant.run c.in-AcceptFault.ensures.run (λ x y so steps.
     then_last c.args.most 6 c.serving.invariant.rest.door (same_account c.serving.invariant.rest c.serving.invariant.hidden)
-        (not_accepted c.serving.count c.args.most c.serving-test.true) so steps)
+    (not_accepted c.serving.count c.args.most c.serving-test.true) so steps)
 
 pub returns-in-NoMore-clause-run : goal.returns-in-NoMore-clause-run
 returns-in-NoMore-clause-run g c =
     join _ c.serving.invariant.run c.in-NoMore.ensures.run (λ x y so steps.
     then_last c.args.most 0 c.serving.invariant.rest.door (same_account c.serving.invariant.rest c.serving.invariant.hidden)
-        (none_left c.serving.count c.args.most c.serving-test.true) so steps)
+    (none_left c.serving.count c.args.most c.serving-test.true) so steps)
 
 pub serving-preserved : goal.serving-preserved
 serving-preserved g c =
     let came : IsClient c.answer_one.result = elim c.match-answer_one.branch
-        [ in-Whole w ↦ subst IsClient (sym w.in-Whole.is) tt | in-Part w ↦ subst IsClient (sym w.in-Part.is) tt ] in
+    [ in-Whole w ↦ subst IsClient (sym w.in-Whole.is) tt | in-Part w ↦ subst IsClient (sym w.in-Part.is) tt ] in
     record {
       run = join _ c.serving.invariant.run c.answer_one.ensures.run (λ x y so steps.
           then_client c.serving.invariant.rest.door (same_account c.serving.invariant.rest c.serving.invariant.hidden) came so steps);

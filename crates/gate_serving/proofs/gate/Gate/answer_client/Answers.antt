@@ -17,5 +17,5 @@ returns-clause-run g c =
     c.send_reply-served.ensures.cause so sends) in
     then_one _ sent c.finish.ensures.tape (λ x so. subst
     (λ (f : Faults). Serves c.args.self.now.door (account_by c.args.self.now (g.W.Taped.hidden c.args.world.now)) (state_of c.args.self.now) (state_of c.reply.new.self) was f
-        c.send_reply-served.result (x ++ ClientDone ∷ []))
+    c.send_reply-served.result (x ++ ClientDone ∷ []))
     (sym c.finish.ensures.cause) so)

@@ -16,7 +16,7 @@ pub returns-in-Ok-true-clause-run : goal.returns-in-Ok-true-clause-run
 returns-in-Ok-true-clause-run g c =
     join _ (rw c.in-Ok-true.field-0-test at c.in-Ok-true.ensures.ok) c.answer_client.ensures.run (λ x y is serves.
     subst (λ (h : Hidden). StepsTo c.args.self.now.door (account_by c.args.self.now h) (state_of c.args.self.now) (state_of c.answer_client.new.self)
-        (g.W.Taped.faults c.args.world.now) (g.W.Taped.faults c.answer_client.new.world) c.answer_client.result (x ++ y)) c.accept.ensures.hidden
+    (g.W.Taped.faults c.args.world.now) (g.W.Taped.faults c.answer_client.new.world) c.answer_client.result (x ++ y)) c.accept.ensures.hidden
     (steps_client (g.W.Taped.faults c.args.world.now) c.answer_client.result is c.accept.ensures.alone serves))
 
 pub returns-in-Ok-true-clause-accepting : goal.returns-in-Ok-true-clause-accepting

@@ -8,8 +8,12 @@ returns-in-Ok-clause-run g c =
 
 pub returns-in-Ok-clause-account : goal.returns-in-Ok-clause-account
 returns-in-Ok-clause-account g c =
-    (λ i. record { user = c.in-Ok.ensures.user i; password = (g.W.Taped.hidden c.args.world.now).password; token = (g.W.Taped.hidden c.args.world.now).token;
-      base = c.in-Ok.ensures.base i })
+    (λ i. record {
+      user = c.in-Ok.ensures.user i;
+      password = (g.W.Taped.hidden c.args.world.now).password;
+      token = (g.W.Taped.hidden c.args.world.now).token;
+      base = c.in-Ok.ensures.base i;
+    })
 
 pub returns-in-Err-clause-run : goal.returns-in-Err-clause-run
 returns-in-Err-clause-run g c = none _ _ refl

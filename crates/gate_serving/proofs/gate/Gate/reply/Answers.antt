@@ -10,7 +10,7 @@ pub returns-in-Ok-clause-run : goal.returns-in-Ok-clause-run
 returns-in-Ok-clause-run g c =
     join _ c.in-Ok.ensures.tape c.answer.ensures.run (λ x y asked replies.
     subst (λ (h : Hidden). RepliesBy c.args.self.now.door (account_by c.args.self.now h) (state_of c.args.self.now) (state_of c.answer.new.self)
-        (g.W.Taped.faults c.args.world.now) (g.W.Taped.faults c.answer.new.world) (Some c.answer.result) (x ++ y)) c.read_asking.ensures.hidden
+    (g.W.Taped.faults c.args.world.now) (g.W.Taped.faults c.answer.new.world) (Some c.answer.result) (x ++ y)) c.read_asking.ensures.hidden
     (read_asked x (g.W.Taped.faults c.args.world.now) c.answer.result (later_front _ _ c.read_asking.ensures.alone) asked replies))
 
 pub returns-in-Err-Memory-clause-run : goal.returns-in-Err-Memory-clause-run
