@@ -41,8 +41,8 @@ Law = (plan : Planned) (life left : LinkLife) (exchanges : List Exchange) (clien
 ok_not_err : (b : Bool) (e : LinkEnd) → Ok b ≡ Err e → ⊥
 ok_not_err b e is = cc
 
-ok_same : (b c : Bool) → Ok {E = LinkEnd} b ≡ Ok c → b ≡ c
-ok_same b c is = cc
+ok_same : (r : Result Bool LinkEnd) (b c : Bool) → r ≡ Ok b → r ≡ Ok c → b ≡ c
+ok_same r b c one two = cc
 
 ended_by : {result : Result (Unit {0}) LinkEnd} (e : LinkEnd) → result ≡ Err e → (e ≡ end.Lost) ⊎ (e ≡ end.Memory) → EndsWell result
 ended_by e is (inl lost) = inr (inl (is ∙ ap Err lost))
@@ -81,7 +81,7 @@ obeyed_behind user password life preauth talk last events is said new says w =
     let there : begins_with (w.greeting ∷ []) w.rest (life.gave ++ given_by last) = subst (λ (l : List ℕ). begins_with (w.greeting ∷ []) w.rest l) gave_is w.greets in
     let same = first_same w.greeting life.greeting w.rest (life.rest ++ given_by last) (life.gave ++ given_by last) there
     (Begins-more (life.greeting ∷ []) life.rest life.gave (given_by last) new.greeted) in
-    let kind : w.preauth ≡ preauth = ok_same w.preauth preauth (sym w.says ∙ ap greeting_says same.0 ∙ says) in
+    let kind : w.preauth ≡ preauth = ok_same (greeting_says life.greeting) w.preauth preauth (sym (ap greeting_says same.0) ∙ w.says) says in
     let number : 1 ≡ next_number life = ap (λ (xs : List Exchange). length xs + 1) (sym new.unasked) in
     subst (λ (l : List ℕ). Obeys (connect_plan preauth user password) [] (next_number life) (selected life) l) same.1
     (subst (λ (f : Option (List ℕ)). Obeys (connect_plan preauth user password) [] (next_number life) f w.rest) (sym (none_selected life new))
