@@ -10,10 +10,10 @@ ghost use Rattle.jmap_core.specs.Session.{session_data};
 ghost use Rattle.gate_serving.specs.Answers.{blob_answer, calls_text as text_of_calls, json_answer, problem_answer, spelled, untold_problem, upload_data};
 ghost use Rattle.gate_serving.specs.reading.Texts.{text_of};
 
-use crate::asking::Upload;
 use crate::calls::{Mailing, responses_to};
 use crate::door::Door;
 use crate::response::Response;
+use crate::upload::Upload;
 use blob_store::blob_id::blob_id;
 use gate_world::{Bytes, Text};
 use http::StatusCode;

@@ -17,6 +17,7 @@ mod response;
 mod served;
 mod served_mail;
 mod serving;
+mod upload;
 
 pub use door::Door;
 pub use front::{FrontError, Input, receive};

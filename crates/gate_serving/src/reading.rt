@@ -7,9 +7,10 @@ ghost use Rattle.gate_serving.specs.Requests.{Problem, upload_asked};
 ghost use Rattle.gate_serving.specs.declared.door.Door.TheVariants.{Bare, Http};
 ghost use Rattle.gate_serving.specs.reading.Askings.{AsksInBody, AsksOf, ReadsAsking, asking_data};
 
-use crate::asking::{Asking, Upload};
+use crate::asking::Asking;
 use crate::door::Door;
 use crate::front::{AskError as FrontError, ask};
+use crate::upload::Upload;
 use gate_world::{Bytes, Front, Secrets, Text};
 use http_door::{AskError, HttpAsking, ask_over_http};
 use http_routes::Routes;
