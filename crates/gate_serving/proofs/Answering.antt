@@ -301,3 +301,14 @@ rose_earlier was mid now later rose = omega arith
 pub not_refused : (how : Served) → (how ≡ served.Whole) ⊎ (how ≡ served.Part) → how ≡ served.AcceptFault → ⊥
 not_refused how (inl whole) fault = let both : served.Whole ≡ served.AcceptFault = sym whole ∙ fault in cc
 not_refused how (inr part) fault = let both : served.Part ≡ served.AcceptFault = sym part ∙ fault in cc
+
+part_not_whole : (how : Served) → how ≡ served.Part → how ≡ served.Whole → ⊥
+part_not_whole how part whole = let both : served.Part ≡ served.Whole = sym part ∙ whole in cc
+
+-- the front failed where a client that came at the bare door isn't served whole
+pub part_rose : (r : Option Response) (how : Served) (was mid now : Faults) → Later was mid → FrontAlone mid now → (r ≡ None → Rose was.front mid.front)
+    → (how ≢ served.Whole → (r ≡ None) ⊎ Rose mid.front now.front) → how ≡ served.Part → Rose was.front now.front
+part_rose r how was mid now later alone failed cause part = elim (cause (part_not_whole how part)) [
+  | inl none ↦ later_rose 1 was.front mid.front now.front (failed none) alone.front
+  | inr rose ↦ rose_earlier was.front mid.front now.front later.front rose
+]

@@ -119,6 +119,7 @@ pub fn session_response(
     json_response(alloc, door, StatusCode::OK, text)
 }
 
+#[tactic(auto, using(crate::proofs::Ids::id_is_text))]
 fn blob_id_text(alloc: Global, octets: &[u8]) -> Result<String, AllocError>
     ensures { IfOk result (λ text. string_bytes text ≡ id_of octets.now) }
 {

@@ -1,5 +1,5 @@
 use Rattle.std.proofs.Common.{◌++◌, ◌∷◌, [], sym, subst, refl, ◌∙◌}
-use Rattle.gate_world.specs.Causes.{Faults}
+use Rattle.gate_world.specs.Causes.{Faults, Rose}
 use Rattle.gate_world.specs.declared.event.Event.TheVariants.{ClientDone}
 use Rattle.gate_world.proofs.Joins.{join, then_one}
 use Rattle.gate_serving.specs.reading.Gates.{account_by, state_of}
@@ -19,3 +19,9 @@ returns-clause-run g c =
     (λ (f : Faults). Serves c.args.self.now.door (account_by c.args.self.now (g.W.Taped.hidden c.args.world.now)) (state_of c.args.self.now) (state_of c.reply.new.self) was f
     c.send_reply-served.result (x ++ ClientDone ∷ []))
     (sym c.finish.ensures.cause) so)
+
+pub returns-clause-part : goal.returns-clause-part
+returns-clause-part g c = λ door how.
+    subst (λ (f : Faults). Rose (g.W.Taped.faults c.args.world.now).front f.front) (sym c.finish.ensures.cause)
+    (part_rose c.reply.result c.send_reply-served.result _ _ _ c.reply.ensures.later c.send_reply-served.ensures.alone (c.reply.ensures.none door)
+    c.send_reply-served.ensures.cause how)
