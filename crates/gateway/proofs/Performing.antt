@@ -1,5 +1,5 @@
 -- What a task comes to.
-use Rattle.std.proofs.Common.{arith, ◌≡◌, ◌⊎◌, ◌++◌, ℕ, List, [], Result, Ok, Err, refl, sym, ap, inl, inr}
+use Rattle.std.proofs.Common.{arith, ◌≡◌, ◌⊎◌, ◌++◌, ℕ, List, [], Result, Ok, Err, refl, ap, subst}
 use Rattle.gate_world.specs.Causes.{Faults, Hidden, NoFault, Later, SayAlone, Rose, no_faults}
 use Rattle.gate_world.specs.declared.event.Event.{Event}
 use Rattle.gate_words.specs.Pages.{page_text}
@@ -9,6 +9,7 @@ use Rattle.gate_words.specs.declared.place.Place.{Place}
 use Rattle.gate_words.specs.declared.task.Task.{Task}
 use Rattle.gate_words.specs.declared.task.Task.TheVariants.{Serve, Once, Show, Explain}
 use Rattle.gate_machine.specs.Progress.{Bears}
+use Rattle.gate_serving.specs.declared.door.Door.{Door}
 use Rattle.gate_serving.specs.declared.door.Door.TheVariants.{Bare, Http}
 use Rattle.gate_serving.specs.declared.front.FrontError.{FrontError}
 use Rattle.gate_serving.specs.declared.front.FrontError.TheVariants as front
@@ -16,6 +17,7 @@ use Rattle.gate_serving.specs.declared.served.Served.{Served}
 use Rattle.gate_serving.specs.declared.served.OpenError.{OpenError}
 use Rattle.gate_serving.specs.declared.served.OpenError.TheVariants as opening
 use Rattle.gate_serving.specs.GateState.{GateState}
+use Rattle.gate_serving.specs.Requests.{Account}
 use Rattle.gate_serving.specs.Run.{Opens, StepsTo, IsRun, account_of, run_blamed}
 use Rattle.gate_serving.specs.Segment.{blamed}
 use Rattle.gate_serving.proofs.Answering.{bears_none, bears_later, bears_earlier, later_same, bears_failed}
@@ -57,6 +59,22 @@ pub record Attends (place : Place) (secrets : Hidden) (was now : Faults) (how : 
   pub step : StepsTo Bare (account_of place secrets) before after was now how segment
   pub whole : events ≡ opened ++ segment
 
+pub attends : {place : Place} {secrets now_secrets : Hidden} {door : Door} {account : Account} {before after : GateState} {was mid now : Faults} {how : Served} (xs ys : List Event)
+    → door ≡ Bare → account ≡ account_of place secrets → now_secrets ≡ secrets → NoFault was mid → Opens (Ok before) xs → StepsTo door account before after mid now how ys
+    → Attends place secrets was now how (xs ++ ys)
+attends {place} {secrets} {door = door} {account = account} {before = before} {after = after} {was = was} {mid = mid} {now = now} {how = how} xs ys here same kept none opens step =
+    let there : StepsTo Bare (account_of place secrets) before after mid now how ys = subst (λ (a : Account). StepsTo Bare a before after mid now how ys) same
+    (subst (λ (d : Door). StepsTo d account before after mid now how ys) here step) in
+    record {
+      opened = xs;
+      segment = ys;
+      before = before;
+      after = after;
+      opens = opens;
+      step = record { segment = there.segment; bears = bears_earlier (blamed there.segment) was mid now (later_same was mid none) there.bears };
+      whole = refl;
+    }
+
 pub performs_once : {place : Place} {secrets : Hidden} {was mid now : Faults} {how : Served} {status : ℕ} {xs : List Event} (ys : List Event)
     → Attends place secrets was mid how xs → SayAlone mid now → EndsOnce how status ys → Performs (Once place) secrets was now status (xs ++ ys)
 performs_once {place} {was = was} {mid = mid} {now = now} {how = how} ys a alone ends =
@@ -75,6 +93,25 @@ pub record AttendsAll (place : Place) (secrets : Hidden) (most : ℕ) (was now :
   pub opens : Opens (Ok before) opened
   pub run : IsRun Http (account_of place secrets) before after most was now status served
   pub whole : events ≡ opened ++ served
+
+pub attends_all : {place : Place} {secrets now_secrets : Hidden} {door : Door} {account : Account} {before after : GateState} {was mid now : Faults} {most status : ℕ}
+    (xs ys : List Event)
+    → door ≡ Http → account ≡ account_of place secrets → now_secrets ≡ secrets → NoFault was mid → Opens (Ok before) xs
+    → IsRun door account before after most mid now status ys
+    → AttendsAll place secrets most was now status (xs ++ ys)
+attends_all {place} {secrets} {door = door} {account = account} {before = before} {after = after} {was = was} {mid = mid} {now = now} {most = most} {status = status} xs ys here same
+    kept none opens run =
+    let there : IsRun Http (account_of place secrets) before after most mid now status ys = subst (λ (a : Account). IsRun Http a before after most mid now status ys) same
+    (subst (λ (d : Door). IsRun d account before after most mid now status ys) here run) in
+    record {
+      opened = xs;
+      served = ys;
+      before = before;
+      after = after;
+      opens = opens;
+      run = record { went = there.went; run = there.run; ends = there.ends; bears = bears_earlier (run_blamed there.run) was mid now (later_same was mid none) there.bears };
+      whole = refl;
+    }
 
 pub performs_serve : {place : Place} {secrets : Hidden} {was mid now : Faults} {status : ℕ} {xs : List Event} (most : ℕ) (ys : List Event) (listen : List ℕ)
     → AttendsAll place secrets most was mid status xs → SayAlone mid now → EndsDone status ys ⊎ EndsFailed status ys
