@@ -26,7 +26,7 @@ use Rattle.mime_tree.proofs.SameWalks.{same_lists}
 use Rattle.email_get.specs.BodyValues.{value_data, PutsValue, PutsIf, AddsValues}
 use Rattle.email_get.specs.EmailObjects.{AreObjects, IsPreview, BodyData, IsBody as IsBodyOf, email_data, IsEmailObject}
 use Rattle.email_get.specs.HeaderProperties.{IsHeaderData}
-use Rattle.email_get.specs.PartObjects.{IsLanguage, atoms, part_blob_id, part_data, IsPartObject}
+use Rattle.email_get.specs.PartObjects.{IsLanguage, tags, part_blob_id, part_data, IsPartObject}
 use Rattle.email_get.specs.Previews.{preview_of, IsPreviewOf}
 use Rattle.email_get.specs.Texts.{text_data, optional_text, text_list}
 use Rattle.email_get.specs.Values.{with_lf, charset_in, HasText}
@@ -64,7 +64,7 @@ one_language o u d e same g h = by u (subst (λ (t : Option (List ℕ)). IsLangu
   where
     by : (u : Option (List ℕ)) → IsLanguage u d → IsLanguage u e → d ≡ e
     by None g h = g ∙ sym h
-    by (Some t) g h = g.2 ∙ ap (λ (ls : List Spelled). text_list (atoms ls)) (one_leading_lexemes alphabet.Mime g.0 h.0 t g.1 h.1) ∙ sym h.2
+    by (Some t) g h = g.2 ∙ ap (λ (ls : List Spelled). text_list (tags ls)) (one_leading_lexemes alphabet.Mime g.0 h.0 t g.1 h.1) ∙ sym h.2
 
 one_part_data : (id : List ℕ) (p q : Part) (l m : Data) (s t : ℕ) → Kin p q → l ≡ m → s ≡ t → part_data id p l s ≡ part_data id q m t
 one_part_data id p q l m s t k e f =

@@ -12,7 +12,7 @@ use Rattle.mime_tree.specs.Roles.{media}
 use Rattle.email_get.specs.BodyValues.{PutsIf, AddsValues}
 use Rattle.email_get.specs.EmailObjects.{AreObjects, BodyData, email_data, IsEmailObject}
 use Rattle.email_get.specs.HeaderProperties.{HeaderData}
-use Rattle.email_get.specs.PartObjects.{IsLanguage, part_data, IsPartObject, atoms}
+use Rattle.email_get.specs.PartObjects.{IsLanguage, part_data, IsPartObject, tags}
 use Rattle.email_get.specs.Texts.{text_data}
 use Rattle.email_get.proofs.HeaderLemmas.{items_whole, text_whole, IsWholeHeader, whole_header}
 
@@ -56,7 +56,7 @@ values_whole b (p ∷ ps) before after h g = values_whole b ps h.0 after h.2 (pu
 
 language_whole : (o : Option (List ℕ)) (d : Data) → IsLanguage o d → has_float d ≡ false
 language_whole None d h = ap has_float h
-language_whole (Some text) d h = ap has_float h.2 ∙ items_whole text_data (atoms h.0) (λ t. refl)
+language_whole (Some text) d h = ap has_float h.2 ∙ items_whole text_data (tags h.0) (λ t. refl)
 
 part_whole : (id : List ℕ) (p : Part) (l : Data) (n : ℕ) → has_float l ≡ false → has_float (part_data id p l n) ≡ false
 part_whole id p l n h =

@@ -4,21 +4,21 @@ use Rattle.std.specs.List.{filter}
 use Rattle.serde_json.specs.Data.{unsigned, Data, null, number, string, object, no_members, member}
 use Rattle.mail_header.specs.declared.token.Alphabet.TheVariants as alphabet
 use Rattle.mail_header.specs.Lexemes.{AreLeadingLexemes}
-use Rattle.mail_header.specs.Mailboxes.{is_atom}
 use Rattle.mail_header.specs.Tokens.{Spelled}
+use Rattle.mime_fields.specs.Parameters.{is_token}
 use Rattle.mime_tree.specs.declared.part.Part.{Part, out-Part}
 use Rattle.mime_tree.specs.Bodies.{HasOctets}
 use Rattle.mime_tree.specs.Roles.{leaf_number, media}
 use Rattle.email_get.specs.Texts.{text_data, optional_text, text_list}
 
--- the texts of the atoms among the lexemes
-abbrev pub atoms : List Spelled → List (List ℕ)
-atoms lexemes = map (λ (s : Spelled). s.text) (filter is_atom lexemes)
+-- the texts of the tokens among the lexemes
+abbrev pub tags : List Spelled → List (List ℕ)
+tags lexemes = map (λ (s : Spelled). s.text) (filter is_token lexemes)
 
--- the language tags in a Content-Language (RFC 3282): its atoms, without commas and comments
+-- the language tags in a Content-Language (RFC 3282): its tokens outside comments and quoted texts, up to where none begins
 abbrev pub IsLanguage : Option (List ℕ) → Data → Type 0
 IsLanguage None d = d ≡ null
-IsLanguage (Some text) d = (lexemes : List Spelled) × AreLeadingLexemes alphabet.Mime lexemes text × (d ≡ text_list (atoms lexemes))
+IsLanguage (Some text) d = (lexemes : List Spelled) × AreLeadingLexemes alphabet.Mime lexemes text × (d ≡ text_list (tags lexemes))
 
 -- the id of a leaf's octets: that of the message's, "-", and the leaf's number
 abbrev pub part_blob_id : List ℕ → ℕ → List ℕ

@@ -2,6 +2,7 @@
 ghost use Rattle.std.specs.Prelude.{◌≡◌, false, IfOk, OnOk};
 ghost use Rattle.serde_json.specs.View.{view, members_view};
 ghost use Rattle.email_get.specs.reading.EmailMembers as email;
+ghost use Rattle.email_get.specs.reading.HeaderViews.{IsHeaderOf};
 ghost use Rattle.serde_json.specs.Written.{has_float};
 ghost use Rattle.email_get.specs.reading.BodyViews.{body_view};
 ghost use Rattle.email_get.specs.EmailObjects.{IsEmailObject, email_data};
@@ -72,14 +73,21 @@ fn email_value(alloc: Global, header: HeaderValues, body: BodyShown) -> Result<V
     Ok(Value::Object(members))
 }
 
+/// The properties of a message's header. The list of its fields is given back, as the tree makes one of its own.
+fn header_of(alloc: Global, bytes: &[u8]) -> Result<HeaderValues, AllocError>
+    ensures { IfOk result (λ h. IsHeaderOf bytes.now (header_data h)) }
+{
+    let fields = fields(alloc, bytes)?;
+    header_values(alloc, &fields)
+}
+
 /// What the octets of a message are as an Email object, which Email/parse answers (RFC 8621 section 4.9): its default
 /// properties with all body values, none of them cut. Any octets are a message.
 pub fn email_object(alloc: Global, bytes: &[u8]) -> Result<Value, AllocError>
     ensures object { IfOk result (λ v. IsEmailObject bytes.now (view v)) }
     ensures whole { IfOk result (λ v. has_float (view v) ≡ false) }
 {
-    let fields = fields(alloc, bytes)?;
-    let header = header_values(alloc, &fields)?;
+    let header = header_of(alloc, bytes)?;
     let root = parse(alloc, bytes)?;
     let body = body_of(alloc, bytes, &root)?;
     email_value(alloc, header, body)

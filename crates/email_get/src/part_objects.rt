@@ -13,18 +13,18 @@ ghost use Rattle.mail_header.specs.reading.LexemeReading.{lexemes_in};
 use crate::leaves::number_text;
 use crate::texts::{optional_text_value, owned_text_value, text_value};
 use gate_world::Bytes;
-use mail_header::is_atom;
 use mail_header::lexemes::next_lexeme;
 use mail_header::token::{Alphabet, Token};
+use mime_fields::is_token;
 use mime_tree::{Part, part_len};
 use serde_json::{Value, json};
 use std::alloc::{AllocError, Global};
 
 /// Adds a language tag, where the lexeme is one.
 fn push_tag(values: &mut Vec<Value>, alloc: Global, lexeme: &Token<'_>) -> Result<(), AllocError>
-    ensures { OnOk result (map view values.new.items ≡ map view values.old.items ++ map text_data (objects.atoms (token_view lexeme.now ∷ []))) }
+    ensures { OnOk result (map view values.new.items ≡ map view values.old.items ++ map text_data (objects.tags (token_view lexeme.now ∷ []))) }
 {
-    if is_atom(lexeme) {
+    if is_token(lexeme) {
         values.push(text_value(alloc, lexeme.text)?)?;
     }
     Ok(())
@@ -32,7 +32,7 @@ fn push_tag(values: &mut Vec<Value>, alloc: Global, lexeme: &Token<'_>) -> Resul
 
 /// The language tags in a Content-Language.
 fn tag_values(alloc: Global, text: &[u8]) -> Result<Vec<Value>, AllocError>
-    ensures { IfOk result (λ v. map view v.items ≡ map text_data (objects.atoms (lexemes_in alphabet.Mime text.now))) }
+    ensures { IfOk result (λ v. map view v.items ≡ map text_data (objects.tags (lexemes_in alphabet.Mime text.now))) }
 {
     let mut values = Vec::new(alloc);
     let mut rest = text;

@@ -91,10 +91,10 @@ obeyed_behind user password life preauth talk last events is said new says w =
 lives_end : {user password : List ℕ} {left : Option LinkLife} {client : ClientState} {result : Result (Unit {0}) LinkEnd} {events : List Event} → Law
     → Lives user password left client result events → Welcomes user password (given_by events) → EndsWell result
 lives_end {events = events} law (Unwelcome e talk gave is said greets ends none) w =
-    let gave_is : given_by events ≡ gave = ap given_by is ∙ before_end talk ∙ said.gave_is in
+    let gave_is : given_by events ≡ gave = ap given_by is ∙ before_end talk ∙ said.said.gave_is in
     ended_by e ends (greeting_ends gave w.rest w.greeting w.preauth e (subst (λ (l : List ℕ). begins_with (w.greeting ∷ []) w.rest l) gave_is w.greets) w.says greets)
 lives_end {user} {password} {client = client} {result = result} {events = events} law (Welcome life after preauth exchanges talk last is said new says follows left_is) w =
-    law _ life after exchanges client result last follows (obeyed_behind user password life preauth talk last events is said new says w)
+    law _ life after exchanges client result last follows (obeyed_behind user password life preauth talk last events is said.said new says w)
 
 connects_end : {user password : List ℕ} {left : Option LinkLife} {client : ClientState} {result : Result (Unit {0}) LinkEnd} {events : List Event} → Law
     → Connects user password left client result events → Welcomes user password (given_by events) → EndsWell result

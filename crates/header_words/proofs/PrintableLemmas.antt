@@ -14,11 +14,11 @@ use Rattle.text_words.proofs.CutLemmas.{front_back, front_each, back_stops, fron
 use Rattle.text_words.proofs.LineEndLemmas.{end_len, end_some, end_found}
 use Rattle.text_words.proofs.SequenceLemmas.{IsReader, Behind, begins, unit_within, read_more, all_done, unit_same, one_reading, determined}
 use Rattle.header_words.specs.QuotedPrintable.{Piece, right, IsSoft, BeginsWithHex, BeginsWithSoft, ends_line, IsPiece, Hex, SoftBreak, WrongSign, Trailing, Blanks, Itself}
-use Rattle.header_words.specs.QuotedPrintable.{IsPrintable}
+use Rattle.header_words.specs.QuotedPrintable.{IsPrintable, HasPrintableLen}
 use Rattle.header_words.specs.Transfer.{IsBody}
 use Rattle.header_words.specs.declared.transfer.Encoding.{Encoding}
 use Rattle.header_words.specs.declared.transfer.Encoding.TheVariants as encoding
-use Rattle.header_words.specs.reading.Units.{hex_pair, hex_in, break_of, sign_of, blanks_of, piece_in, IsRead, HasPrintableLen}
+use Rattle.header_words.specs.reading.Units.{hex_pair, hex_in, break_of, sign_of, blanks_of, piece_in, IsRead}
 use Rattle.header_words.proofs.QuotedLemmas.{hex_sound, hex_complete}
 
 -- ---- ends of lines

@@ -1,7 +1,7 @@
 -- How many octets a body spells.
 use Rattle.std.proofs.Common.{◌≡◌, ℕ, List, length, true, false, refl}
 use Rattle.header_words.specs.Transfer.{base64_octets, base64_problem, HasBodyLen}
-use Rattle.header_words.specs.reading.Units.{HasPrintableLen}
+use Rattle.header_words.specs.QuotedPrintable.{HasPrintableLen}
 use Rattle.header_words.specs.declared.transfer.Encoding.TheVariants as encoding
 
 pub printable_body : (n : ℕ) (b : List ℕ) → HasPrintableLen n b → HasBodyLen encoding.QuotedPrintable n b

@@ -6,8 +6,8 @@ use Rattle.text_words.specs.Sequence.{UnitAt}
 use Rattle.text_words.proofs.SequenceLemmas.{determined, one_reading}
 use Rattle.header_words.specs.Charsets.{text_in, charset_of}
 use Rattle.header_words.specs.EncodedWords.{is_b, is_q, is_edge, Spells, InBase64, InQ, IsEncodedWord, ends_at_edge, NoneBefore, HasNone, IsFirst, kept, IsText, Plain, Worded}
-use Rattle.header_words.specs.EncodedWords.{charset_name}
-use Rattle.header_words.specs.reading.Units.{q_unit_in, IsWordBefore, FoundAt}
+use Rattle.header_words.specs.EncodedWords.{charset_name, IsWordBefore}
+use Rattle.header_words.specs.reading.Units.{q_unit_in, FoundAt}
 use Rattle.header_words.proofs.QuotedLemmas.{q_reader}
 use Rattle.header_words.proofs.Base64Lemmas.{one_base64}
 use Rattle.header_words.proofs.ShapeLemmas.{one_shape, shape_before}

@@ -88,6 +88,10 @@ utf8_name : charset_of (charset_name (codes "utf-8")) ≡ charset.Utf8
 unfolding front
 utf8_name = refl
 
+utf8_named : charset_name (codes "utf-8") ≢ []
+unfolding front
+utf8_named = λ e. absurd cc
+
 -- the word of a piece stands for the piece
 word_is : (piece : List ℕ) → IsUtf8 piece → 0 < length piece → IsEncodedWord piece (utf8_word piece)
 word_is piece u some =
@@ -98,6 +102,7 @@ word_is piece u some =
       text = encode_of standard piece;
       octets = piece;
       shape = word_shape piece (encode_of standard piece) refl (printed piece (encode_of standard piece) b);
+      named = utf8_named;
       spelled = InBase64 refl b;
       said = sym (ap (λ (c : Charset). text_in c piece) utf8_name ∙ utf8_lossy-IsUtf8 piece u);
     }

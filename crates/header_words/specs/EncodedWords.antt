@@ -1,5 +1,5 @@
 -- Encoded words (RFC 2047 section 2), and the text of a value that has some.
-use Rattle.std.specs.Prelude.{◌≡◌, ℕ, ◌≤◌, Bool, true, not, ◌&&◌, ◌||◌, ◌==◌, if◌then◌else◌, List, [], ◌∷◌, ◌++◌, length}
+use Rattle.std.specs.Prelude.{◌≡◌, ◌≢◌, ℕ, ◌≤◌, Bool, true, not, ◌&&◌, ◌||◌, ◌==◌, if◌then◌else◌, List, [], ◌∷◌, ◌++◌, length}
 use Rattle.std.specs.List.{list_all}
 use Rattle.text_words.specs.Cuts.{Each, IsRun, Stops, front}
 use Rattle.text_words.specs.Octets.{is_between, is_white}
@@ -42,13 +42,14 @@ pub record HasShape (charset : List ℕ) (letter : ℕ) (text behind t : List �
 abbrev pub charset_name : List ℕ → List ℕ
 charset_name charset = front (λ c. not (c == 42)) charset
 
--- an encoded word, and the text that it stands for
+-- An encoded word, and the text that it stands for. The charset's name has one octet at least.
 pub record IsEncodedWord (reading word : List ℕ) : Type 0 where
   pub charset : List ℕ
   pub letter : ℕ
   pub text : List ℕ
   pub octets : List ℕ
   pub shape : HasShape charset letter text [] word
+  pub named : charset_name charset ≢ []
   pub spelled : Spells letter octets text
   pub said : reading ≡ text_in (charset_of (charset_name charset)) octets
 
@@ -64,6 +65,10 @@ BeginsAtEdge t = Stops (λ c. not (is_edge c)) t
 abbrev pub ends_at_edge : Bool → List ℕ → Bool
 ends_at_edge edge [] = edge
 ends_at_edge edge (c ∷ t) = ends_at_edge (is_edge c) t
+
+-- an encoded word, before an edge
+abbrev pub IsWordBefore : List ℕ → List ℕ → List ℕ → Type 0
+IsWordBefore reading word behind = IsEncodedWord reading word × BeginsAtEdge behind
 
 -- an encoded word stands between these texts: at edges, or at the ends of the value
 pub record Stands (reading before encoded behind : List ℕ) : Type 0 where

@@ -1,5 +1,5 @@
 -- The quoted-printable encoding (RFC 2045 section 6.7).
-use Rattle.std.specs.Prelude.{◌≡◌, ◌≢◌, ℕ, ◌+◌, ◌*◌, Bool, true, false, ◌&&◌, ◌||◌, ◌==◌, List, [], ◌∷◌, ◌++◌, Some}
+use Rattle.std.specs.Prelude.{◌≡◌, ◌≢◌, ℕ, ◌+◌, ◌*◌, Bool, true, false, ◌&&◌, ◌||◌, ◌==◌, List, [], ◌∷◌, ◌++◌, length, Some}
 use Rattle.std.specs.List.{flat_map, list_any}
 use Rattle.text_words.specs.Cuts.{Each, IsRun, Stops}
 use Rattle.text_words.specs.LineEnds.{IsLineEnd, begins_with_lf}
@@ -60,3 +60,10 @@ pub record IsPrintable (octets : List ℕ) (problem : Bool) (t : List ℕ) : Typ
   pub are : Sequence IsPiece pieces t
   pub spelled : octets ≡ flat_map (λ (p : Piece). p.octets) pieces
   pub wrong : problem ≡ list_any (λ (p : Piece). p.wrong) pieces
+
+-- the text spells n octets
+pub record HasPrintableLen (n : ℕ) (t : List ℕ) : Type 0 where
+  pub octets : List ℕ
+  pub problem : Bool
+  pub is : IsPrintable octets problem t
+  pub counted : n ≡ length octets

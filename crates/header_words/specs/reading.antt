@@ -1,2 +1,2 @@
--- How the code reads: what proofs, private clauses and the clauses of single steps use.
+-- How the code reads: what proofs and private clauses use, and no public clause needs.
 pub mod Units

@@ -3,7 +3,6 @@ ghost use Rattle.std.specs.Prelude.{◌≡◌, ◌≢◌, ◌↔◌, ◌==◌, n
 ghost use Rattle.text_words.specs.Cuts.{Each};
 ghost use Rattle.text_words.specs.Sequence.{UnitAt};
 ghost use Rattle.header_words.specs.EncodedWords as words;
-ghost use Rattle.header_words.specs.reading.Units.{IsWordBefore};
 
 use crate::base64_text::decode_base64;
 use crate::charset::decode_charset;
@@ -127,8 +126,8 @@ fn begins_at_edge(text: &[u8]) -> bool
 
 /// The encoded word at the front of the text, where one stands there before an edge.
 pub fn word_at(alloc: Global, text: &[u8]) -> Result<Option<Word>, AllocError>
-    ensures some { IfOk result (λ r. IfSome r (λ w. UnitAt IsWordBefore w.text.items w.len text.now)) }
-    ensures none { IfOk result (λ r. IfNone r ((reading word rest : List ℕ) → text.now ≡ word ++ rest → IsWordBefore reading word rest → ⊥)) }
+    ensures some { IfOk result (λ r. IfSome r (λ w. UnitAt words.IsWordBefore w.text.items w.len text.now)) }
+    ensures none { IfOk result (λ r. IfNone r ((reading word rest : List ℕ) → text.now ≡ word ++ rest → words.IsWordBefore reading word rest → ⊥)) }
 {
     let Some(shape) = shape_at(text) else {
         return Ok(None);
@@ -136,10 +135,13 @@ pub fn word_at(alloc: Global, text: &[u8]) -> Result<Option<Word>, AllocError>
     if !begins_at_edge(shape.behind) {
         return Ok(None);
     }
+    let (name, _) = cut(&BeforeStar, shape.charset);
+    if name.is_empty() {
+        return Ok(None);
+    }
     let Some(octets) = decode_letter(alloc, shape.letter, shape.text)? else {
         return Ok(None);
     };
-    let (name, _) = cut(&BeforeStar, shape.charset);
     let (reading, _) = decode_charset(alloc, name, octets.as_slice())?;
     Ok(Some(Word {
         text: reading,

@@ -29,7 +29,7 @@ pub fn decode_printable(alloc: Global, text: &[u8]) -> Result<(Vec<u8>, bool), A
 
 /// How many octets a text in quoted-printable spells.
 pub fn printable_len(text: &[u8]) -> usize
-    ensures { reading.HasPrintableLen result text.now }
+    ensures { printable.HasPrintableLen result text.now }
 {
     let mut len = 0;
     let mut rest = text;

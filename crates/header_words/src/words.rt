@@ -2,7 +2,7 @@
 ghost use Rattle.std.specs.Prelude.{◌≡◌, ◌++◌, Bool, false, true, ℕ, List, IfOk, IfSome, IfNone, OnOk};
 ghost use Rattle.text_words.specs.Sequence.{UnitAt};
 ghost use Rattle.header_words.specs.EncodedWords as words;
-ghost use Rattle.header_words.specs.reading.Units.{IsWordBefore, FoundAt};
+ghost use Rattle.header_words.specs.reading.Units.{FoundAt};
 
 use crate::encoded_word::{Word, is_edge, word_at};
 use std::alloc::{AllocError, Global};
@@ -60,9 +60,9 @@ fn first_word(alloc: Global, value: &[u8]) -> Result<Option<Found>, AllocError>
 
 /// The encoded word at the front of the text, where an edge stands before it.
 fn word_behind(alloc: Global, edge: bool, text: &[u8]) -> Result<Option<Word>, AllocError>
-    ensures some { IfOk result (λ r. IfSome r (λ w. UnitAt IsWordBefore w.text.items w.len text.now)) }
+    ensures some { IfOk result (λ r. IfSome r (λ w. UnitAt words.IsWordBefore w.text.items w.len text.now)) }
     ensures edge { IfOk result (λ r. IfSome r (λ w. edge ≡ true)) }
-    ensures none { IfOk result (λ r. IfNone r ((reading word rest : List ℕ) → text.now ≡ word ++ rest → edge ≡ true → IsWordBefore reading word rest → ⊥)) }
+    ensures none { IfOk result (λ r. IfNone r ((reading word rest : List ℕ) → text.now ≡ word ++ rest → edge ≡ true → words.IsWordBefore reading word rest → ⊥)) }
 {
     if edge { word_at(alloc, text) } else { Ok(None) }
 }

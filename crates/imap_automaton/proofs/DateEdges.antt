@@ -10,12 +10,12 @@ use Rattle.imap_automaton.specs.declared.sym.Place.TheVariants as place
 use Rattle.imap_automaton.specs.declared.sym.Date.{Date}
 use Rattle.imap_automaton.specs.declared.sym.Date.TheVariants as date
 use Rattle.imap_automaton.specs.declared.sym.Sym.TheVariants as sym
-use Rattle.imap_automaton.specs.declared.sym.Move.TheVariants as move
+use Rattle.pushdown.specs.declared.moves.Move.TheVariants as move
 use Rattle.imap_automaton.specs.Keys.{key_text, keys, in_word}
 use Rattle.imap_automaton.specs.DateRules.{month_start, day_octet, time_octet, day_rule, time_rule, date_rule}
 use Rattle.imap_automaton.specs.Fits.{DateFits}
-use Rattle.imap_automaton.proofs.Langs.{Places, TimeRest, Among, WordSays, WordRest, DayRest, DateLang, After}
-use Rattle.imap_automaton.proofs.Lists.{cons_head, cons_tail, no_append}
+use Rattle.imap_automaton.specs.Langs.{Places, TimeRest, Among, WordSays, WordRest, DayRest, DateLang, After}
+use Rattle.pushdown.proofs.Lists.{cons_head, cons_tail, no_append}
 use Rattle.imap_automaton.proofs.Tests.{from_test, to_test, at_true}
 use Rattle.imap_automaton.proofs.KeyLemmas.{is_key_octet, key_octets, key_octet_month, key_some}
 use Rattle.imap_automaton.proofs.DateForms.{starts_day, is_sign, two, four, time_of, zone_of, octets_of, of_octets}

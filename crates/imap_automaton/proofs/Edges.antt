@@ -15,17 +15,17 @@ use Rattle.imap_automaton.specs.declared.sym.Value.TheVariants as value
 use Rattle.imap_automaton.specs.declared.sym.Folder.TheVariants as folder
 use Rattle.imap_automaton.specs.declared.sym.Sym.{Sym}
 use Rattle.imap_automaton.specs.declared.sym.Sym.TheVariants as sym
-use Rattle.imap_automaton.specs.declared.sym.Move.TheVariants as move
+use Rattle.pushdown.specs.declared.moves.Move.TheVariants as move
 use Rattle.imap_automaton.specs.Keys.{key_text, keys, is_among}
 use Rattle.imap_automaton.specs.Rules.{rule_of}
 use Rattle.imap_automaton.specs.Fits.{SymFits}
 use Rattle.imap_automaton.specs.Flow.{begins, stops, may_yield}
-use Rattle.imap_automaton.proofs.Langs.{Lang, After}
+use Rattle.imap_automaton.specs.Langs.{Lang, After}
 use Rattle.imap_automaton.proofs.FreeEdges.{free_back, free_forth, free_empty, free_example}
 use Rattle.imap_automaton.proofs.NamesEdges.{names_back, names_forth, names_empty, more_stops, names_example}
 use Rattle.imap_automaton.proofs.ItemEdges.{item_back, item_forth, open_none, more_empty, items_stop, number_ends, number_yields, long_open_none, long_ends, long_yields}
 use Rattle.imap_automaton.proofs.ItemEdges.{item_example}
-use Rattle.imap_automaton.proofs.Lists.{cons_head}
+use Rattle.pushdown.proofs.Lists.{cons_head}
 use Rattle.imap_automaton.proofs.Tests.{is_true_at}
 use Rattle.imap_automaton.proofs.ItemNameEdges.{item_name_back, item_name_forth, item_name_empty, item_name_example}
 use Rattle.imap_automaton.proofs.DateEdges.{date_back, date_forth, date_empty, date_lang_example}

@@ -29,8 +29,8 @@ use Rattle.imap_automaton.specs.declared.sym.Folder.{Folder}
 use Rattle.imap_automaton.specs.declared.sym.Folder.TheVariants as folder
 use Rattle.imap_automaton.specs.declared.sym.Sym.{Sym}
 use Rattle.imap_automaton.specs.declared.sym.Sym.TheVariants as sym
-use Rattle.imap_automaton.specs.declared.sym.Move.{Move}
-use Rattle.imap_automaton.specs.declared.sym.Move.TheVariants as move
+use Rattle.pushdown.specs.declared.moves.Move.{Move}
+use Rattle.pushdown.specs.declared.moves.Move.TheVariants as move
 use Rattle.imap_automaton.specs.Counts.{pend}
 use Rattle.imap_automaton.specs.Keys.{key_text, phrase_text, keys, first_key, in_word, goes_on, next_key, whole_key, is_among}
 use Rattle.imap_automaton.specs.FreeRules.{free_end, text_rule}
@@ -44,8 +44,7 @@ use Rattle.imap_automaton.specs.ValueRules.{inner_rule, closes, value_rule}
 use Rattle.imap_automaton.specs.FolderRules.{folder_rule}
 use Rattle.imap_automaton.specs.Rules.{rule_of}
 use Rattle.imap_automaton.specs.Fits.{PendFits, SymFits}
-use Rattle.imap_automaton.specs.Run.{is_octets}
-use Rattle.imap_automaton.specs.Flow.{ends_open, begins, may_yield, need, sym_left}
+use Rattle.imap_automaton.specs.Flow.{ends_open, begins, may_yield, need, sym_left, is_octets}
 use Rattle.imap_automaton.proofs.ItemNameEdges.{takes_small}
 use Rattle.imap_automaton.proofs.KeyLemmas.{find_some, among_keys, goes_to, among_is}
 use Rattle.imap_syntax.specs.Octets.{is_digit, is_text, is_word, is_atom, lower}
@@ -53,7 +52,7 @@ use Rattle.imap_syntax.specs.Texts.{Each}
 
 -- what a move may be of a symbol that ends open or not, may yield or not, has this room, at an octet outside a literal
 -- or not
-abbrev pub fine : Bool → Bool → ℕ → Bool → Move → Bool
+abbrev pub fine : Bool → Bool → ℕ → Bool → Move Sym → Bool
 fine ends yields room small move.Fail = true
 fine ends yields room small move.Yield = yields
 fine ends yields room small move.End = small
@@ -62,7 +61,7 @@ fine ends yields room small (move.Two a b) =
     small && SymFits a && SymFits b && (not (ends_open a) || begins b) && (not (ends_open b) || ends) && nat_le (need a + 1) room && nat_le (need b) room
     && nat_le (sym_left a + sym_left b) 50000000
 
-pub fine_by : (o y : Bool) (r : ℕ) (s b : Bool) (m n : Move) → (b ≡ true → fine o y r s m ≡ true) → (b ≡ false → fine o y r s n ≡ true) → fine o y r s (cond b m n) ≡ true
+pub fine_by : (o y : Bool) (r : ℕ) (s b : Bool) (m n : Move Sym) → (b ≡ true → fine o y r s m ≡ true) → (b ≡ false → fine o y r s n ≡ true) → fine o y r s (cond b m n) ≡ true
 fine_by o y r s true m n f g = f refl
 fine_by o y r s false m n f g = g refl
 

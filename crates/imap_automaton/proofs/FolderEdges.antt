@@ -10,14 +10,15 @@ use Rattle.imap_automaton.specs.declared.sym.Value.TheVariants as value
 use Rattle.imap_automaton.specs.declared.sym.Folder.{Folder}
 use Rattle.imap_automaton.specs.declared.sym.Folder.TheVariants as folder
 use Rattle.imap_automaton.specs.declared.sym.Sym.TheVariants as sym
-use Rattle.imap_automaton.specs.declared.sym.Move.TheVariants as move
+use Rattle.pushdown.specs.declared.moves.Move.TheVariants as move
 use Rattle.imap_automaton.specs.FolderRules.{octet_rule, folder_rule}
 use Rattle.imap_automaton.specs.Flow.{stops}
-use Rattle.imap_automaton.proofs.Rests.{LongRest, IsSpaced, long_from, long_to}
-use Rattle.imap_automaton.proofs.FolderLangs.{AnyDelimiter, DelimiterRest, DelimiterPair, NameLine, DelimiterLine, AnyCounts, MoreCounts, IsStatusWord, WordCount, CountsLine}
-use Rattle.imap_automaton.proofs.FolderLangs.{FolderLang}
-use Rattle.imap_automaton.proofs.Langs.{After}
-use Rattle.imap_automaton.proofs.Lists.{cons_head, cons_tail}
+use Rattle.imap_automaton.specs.Rests.{LongRest, IsSpaced}
+use Rattle.imap_automaton.proofs.Rests.{long_from, long_to}
+use Rattle.imap_automaton.specs.FolderLangs.{AnyDelimiter, DelimiterRest, DelimiterPair, NameLine, DelimiterLine, AnyCounts, MoreCounts, IsStatusWord, WordCount, CountsLine}
+use Rattle.imap_automaton.specs.FolderLangs.{FolderLang}
+use Rattle.imap_automaton.specs.Langs.{After}
+use Rattle.pushdown.proofs.Lists.{cons_head, cons_tail}
 use Rattle.imap_automaton.proofs.Tests.{from_test, at_true, at_false, is_true_at, crlf_of, crlf_parts, mid}
 use Rattle.imap_automaton.proofs.StringEdges.{special_text, no_special, from_parts, escaped_pair, escaped_self, flat_some}
 use Rattle.imap_syntax.specs.Octets.{is_text, is_status_word, lower}

@@ -8,12 +8,12 @@ use Rattle.imap_automaton.specs.declared.sym.Pending.TheVariants as pending
 use Rattle.imap_automaton.specs.declared.sym.Free.{Free}
 use Rattle.imap_automaton.specs.declared.sym.Free.TheVariants as free
 use Rattle.imap_automaton.specs.declared.sym.Sym.TheVariants as sym
-use Rattle.imap_automaton.specs.declared.sym.Move.TheVariants as move
+use Rattle.pushdown.specs.declared.moves.Move.TheVariants as move
 use Rattle.imap_automaton.specs.Counts.{pend, pends}
 use Rattle.imap_automaton.specs.FreeRules.{free_end, text_rule, free_rule}
 use Rattle.imap_automaton.specs.Fits.{FreeFits}
-use Rattle.imap_automaton.proofs.Langs.{NoCount, IsFreeFrom, OctetsRest, FreeLang, After}
-use Rattle.imap_automaton.proofs.Lists.{cons_head, cons_tail, no_append}
+use Rattle.imap_automaton.specs.Langs.{NoCount, IsFreeFrom, OctetsRest, FreeLang, After}
+use Rattle.pushdown.proofs.Lists.{cons_head, cons_tail, no_append}
 use Rattle.imap_automaton.proofs.Tests.{from_test, to_test, at_true, at_false, is_true_at, text_not_cr, crlf_of, crlf_parts, mid}
 use Rattle.imap_syntax.specs.Octets.{is_text, is_inside}
 use Rattle.imap_syntax.specs.Texts.{Each, crlf}

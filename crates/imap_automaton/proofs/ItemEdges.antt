@@ -13,15 +13,15 @@ use Rattle.imap_automaton.specs.declared.sym.Item.{Item}
 use Rattle.imap_automaton.specs.declared.sym.Item.TheVariants as item
 use Rattle.imap_automaton.specs.declared.sym.Sym.{Sym}
 use Rattle.imap_automaton.specs.declared.sym.Sym.TheVariants as sym
-use Rattle.imap_automaton.specs.declared.sym.Move.TheVariants as move
+use Rattle.pushdown.specs.declared.moves.Move.TheVariants as move
 use Rattle.imap_automaton.specs.Keys.{key_text, keys}
 use Rattle.imap_automaton.specs.ItemRules.{item_start, number_rule, long_rule, item_rule}
 use Rattle.imap_automaton.specs.Fits.{ItemFits}
 use Rattle.imap_automaton.specs.Flow.{stops}
 use Rattle.imap_automaton.proofs.KeyLemmas.{key_some}
 use Rattle.imap_automaton.proofs.OtherItems.{named_atoms, other_from, other_to}
-use Rattle.imap_automaton.proofs.Langs.{NumberRest, LongRest, ItemLang, Among, IsBehind, WordSays, WordRest, Lang, After}
-use Rattle.imap_automaton.proofs.Lists.{cons_head, cons_tail}
+use Rattle.imap_automaton.specs.Langs.{NumberRest, LongRest, ItemLang, Among, IsBehind, WordSays, WordRest, Lang, After}
+use Rattle.pushdown.proofs.Lists.{cons_head, cons_tail}
 use Rattle.imap_automaton.proofs.Tests.{from_test, at_true, at_false, is_true_at}
 use Rattle.imap_automaton.proofs.Rests.{value_mono, number_from, number_to, long_from, long_to}
 use Rattle.imap_syntax.specs.Octets.{is_digit, lower}

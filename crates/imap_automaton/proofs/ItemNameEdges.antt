@@ -8,12 +8,12 @@ use Rattle.imap_automaton.specs.declared.sym.Value.TheVariants as value
 use Rattle.imap_automaton.specs.declared.sym.ItemName.{ItemName}
 use Rattle.imap_automaton.specs.declared.sym.ItemName.TheVariants as name
 use Rattle.imap_automaton.specs.declared.sym.Sym.TheVariants as sym
-use Rattle.imap_automaton.specs.declared.sym.Move.TheVariants as move
+use Rattle.pushdown.specs.declared.moves.Move.TheVariants as move
 use Rattle.imap_automaton.specs.ItemNameRules.{may_end, in_section, takes, next_name, name_from, item_name_rule}
-use Rattle.imap_automaton.proofs.StringLangs.{QuotedRest}
-use Rattle.imap_automaton.proofs.ItemNameLangs.{SectionRest, NameForm, NameRest}
-use Rattle.imap_automaton.proofs.Langs.{After}
-use Rattle.imap_automaton.proofs.Lists.{cons_head, cons_tail}
+use Rattle.imap_automaton.specs.StringLangs.{QuotedRest}
+use Rattle.imap_automaton.specs.ItemNameLangs.{SectionRest, NameForm, NameRest}
+use Rattle.imap_automaton.specs.Langs.{After}
+use Rattle.pushdown.proofs.Lists.{cons_head, cons_tail}
 use Rattle.imap_automaton.proofs.Tests.{from_test, at_true, at_false, both, mid}
 use Rattle.imap_syntax.specs.Octets.{is_digit, is_atom, lower}
 use Rattle.imap_syntax.specs.Texts.{Each, Then}

@@ -12,26 +12,19 @@ use Rattle.imap_automaton.specs.declared.sym.Str.TheVariants as str
 use Rattle.imap_automaton.specs.declared.sym.Folder.TheVariants as folder
 use Rattle.imap_automaton.specs.declared.sym.Sym.{Sym}
 use Rattle.imap_automaton.specs.declared.sym.Sym.TheVariants as sym
-use Rattle.imap_automaton.specs.declared.sym.Move.{Move}
-use Rattle.imap_automaton.specs.declared.sym.Move.TheVariants as move
+use Rattle.pushdown.specs.declared.moves.Move.{Move}
+use Rattle.pushdown.specs.declared.moves.Move.TheVariants as move
 use Rattle.imap_automaton.specs.Rules.{rule_of}
 use Rattle.imap_automaton.specs.FreeRules.{free_rule}
 use Rattle.imap_automaton.specs.Fits.{SymFits}
-use Rattle.imap_automaton.specs.Run.{is_octets}
-use Rattle.imap_automaton.specs.Flow.{ends_open, begins, move_good, may_yield, need, move_needs, sym_left}
-use Rattle.imap_automaton.proofs.Langs.{Lang}
+use Rattle.imap_automaton.specs.Flow.{ends_open, begins, may_yield, need, sym_left, is_octets}
+use Rattle.imap_automaton.specs.Responses.{responses}
+use Rattle.imap_automaton.specs.Langs.{Lang}
 use Rattle.imap_automaton.proofs.Edges.{yield_empty}
 use Rattle.imap_automaton.proofs.Fine.{fine, move_fine}
-
-abbrev pub is_go : Move → Bool
-is_go move.Fail = false
-is_go move.Yield = false
-is_go _ = true
-
-abbrev pub pushed_left : Move → ℕ
-pushed_left (move.One a) = sym_left a
-pushed_left (move.Two a b) = sym_left a + sym_left b
-pushed_left _ = 0
+use Rattle.imap_syntax.specs.Texts.{literal_limit}
+use Rattle.pushdown.specs.Run.{inside}
+use Rattle.pushdown.specs.Flow.{move_good, move_needs, is_go, pushed_left, Leaves}
 
 -- ---- parts of a conjunction
 
@@ -44,7 +37,7 @@ one_parts a b c d e h =
 two_parts : (a b c d e f g h : Bool) → (a && b && c && d && e && f && g && h) ≡ true → (a ≡ true) × ((b && c && d && e) ≡ true) × ((f && g) ≡ true) × (h ≡ true)
 two_parts a b c d e f g h q = (grind arith, grind arith, grind arith, grind arith)
 
-fine_good : (o y : Bool) (r : ℕ) (s : Bool) (m : Move) → (y ≡ true → o ≡ true) → fine o y r s m ≡ true → move_good o m ≡ true
+fine_good : (o y : Bool) (r : ℕ) (s : Bool) (m : Move Sym) → (y ≡ true → o ≡ true) → fine o y r s m ≡ true → move_good responses o m ≡ true
 fine_good o y r s move.Fail f e = refl
 fine_good o y r s move.Yield f e = f e
 fine_good o y r s move.End f e = refl
@@ -52,7 +45,7 @@ fine_good o y r s (move.One a) f e = (one_parts s (SymFits a) (not (ends_open a)
 fine_good o y r s (move.Two a b) f e = (two_parts s (SymFits a) (SymFits b) (not (ends_open a) || begins b) (not (ends_open b) || o) (nat_le (need a + 1) r) (nat_le (need b) r)
     (nat_le (sym_left a + sym_left b) 50000000) e).1
 
-fine_room : (o y : Bool) (r : ℕ) (s : Bool) (m : Move) → fine o y r s m ≡ true → move_needs r m ≡ true
+fine_room : (o y : Bool) (r : ℕ) (s : Bool) (m : Move Sym) → fine o y r s m ≡ true → move_needs responses r m ≡ true
 fine_room o y r s move.Fail e = refl
 fine_room o y r s move.Yield e = refl
 fine_room o y r s move.End e = refl
@@ -60,7 +53,7 @@ fine_room o y r s (move.One a) e = (one_parts s (SymFits a) (not (ends_open a) |
 fine_room o y r s (move.Two a b) e = (two_parts s (SymFits a) (SymFits b) (not (ends_open a) || begins b) (not (ends_open b) || o) (nat_le (need a + 1) r) (nat_le (need b) r)
     (nat_le (sym_left a + sym_left b) 50000000) e).2
 
-fine_small : (o y : Bool) (r : ℕ) (s : Bool) (m : Move) → s ≡ false → fine o y r s m ≡ true → is_go m ≡ false
+fine_small : (o y : Bool) (r : ℕ) (s : Bool) (m : Move Sym) → s ≡ false → fine o y r s m ≡ true → is_go m ≡ false
 fine_small o y r s move.Fail f e = refl
 fine_small o y r s move.Yield f e = refl
 fine_small o y r s move.End f e = absurd cc
@@ -68,7 +61,7 @@ fine_small o y r s (move.One a) f e = let p = (one_parts s (SymFits a) (not (end
 fine_small o y r s (move.Two a b) f e = let p = (two_parts s (SymFits a) (SymFits b) (not (ends_open a) || begins b) (not (ends_open b) || o) (nat_le (need a + 1) r)
     (nat_le (need b) r) (nat_le (sym_left a + sym_left b) 50000000) e).0 in absurd cc
 
-fine_left : (o y : Bool) (r : ℕ) (s : Bool) (m : Move) → fine o y r s m ≡ true → pushed_left m ≤ 50000000
+fine_left : (o y : Bool) (r : ℕ) (s : Bool) (m : Move Sym) → fine o y r s m ≡ true → pushed_left responses m ≤ 50000000
 fine_left o y r s move.Fail e = omega arith
 fine_left o y r s move.Yield e = omega arith
 fine_left o y r s move.End e = omega arith
@@ -76,7 +69,7 @@ fine_left o y r s (move.One a) e = leb-true _ _ (one_parts s (SymFits a) (not (e
 fine_left o y r s (move.Two a b) e = leb-true _ _ (two_parts s (SymFits a) (SymFits b) (not (ends_open a) || begins b) (not (ends_open b) || o) (nat_le (need a + 1) r)
     (nat_le (need b) r) (nat_le (sym_left a + sym_left b) 50000000) e).3
 
-fine_yield : (o y : Bool) (r : ℕ) (s : Bool) (m : Move) → m ≡ move.Yield → fine o y r s m ≡ true → y ≡ true
+fine_yield : (o y : Bool) (r : ℕ) (s : Bool) (m : Move Sym) → m ≡ move.Yield → fine o y r s m ≡ true → y ≡ true
 fine_yield o y r s m e f = sym (ap (fine o y r s) e) ∙ f
 
 -- ---- symbols
@@ -88,10 +81,10 @@ yield_open (sym.Names names.AtomRest) e = refl
 yield_open (sym.Str str.AtomTilde) e = refl
 yield_open _ e = absurd cc
 
-octets_good : (n c : ℕ) → SymFits (sym.Free (free.Octets n)) ≡ true → move_good false (free_rule (free.Octets n) c) ≡ true
+octets_good : (n c : ℕ) → SymFits (sym.Free (free.Octets n)) ≡ true → move_good responses false (free_rule (free.Octets n) c) ≡ true
 octets_good n c fits = grind arith
 
-octets_room : (n c : ℕ) → move_needs 1 (free_rule (free.Octets n) c) ≡ true
+octets_room : (n c : ℕ) → move_needs responses 1 (free_rule (free.Octets n) c) ≡ true
 octets_room n c = grind arith
 
 octets_no_yield : (n c : ℕ) → free_rule (free.Octets n) c ≡ move.Yield → ⊥
@@ -102,11 +95,11 @@ octets_no_yield n c e = by (nat_le 256 c && nat_lt c 512 && nat_lt 0 n) (n == 1)
     by true false e = cc
     by false q e = cc
 
-octets_left : (n c : ℕ) → SymFits (sym.Free (free.Octets n)) ≡ true → pushed_left (free_rule (free.Octets n) c) + 1 ≤ n
+octets_left : (n c : ℕ) → SymFits (sym.Free (free.Octets n)) ≡ true → pushed_left responses (free_rule (free.Octets n) c) + 1 ≤ n
 octets_left n c fits = grind arith
 
 -- a fact of each symbol, by whether it is within a literal
-by_octets : (P : Sym → Type 0) (s : Sym) → ((n : ℕ) → P (sym.Free (free.Octets n))) → (is_octets s ≡ false → P s) → P s
+pub by_octets : (P : Sym → Type 0) (s : Sym) → ((n : ℕ) → P (sym.Free (free.Octets n))) → (is_octets s ≡ false → P s) → P s
 by_octets P (sym.Free (free.Octets n)) f g = f n
 by_octets P (sym.Free (free.Text q)) f g = g refl
 by_octets P (sym.Free (free.Break n)) f g = g refl
@@ -122,12 +115,12 @@ by_octets P (sym.Str q) f g = g refl
 by_octets P (sym.Value q) f g = g refl
 by_octets P (sym.Folder q) f g = g refl
 
-pub moves_good : (s : Sym) (c : ℕ) → SymFits s ≡ true → move_good (ends_open s) (rule_of s c) ≡ true
-moves_good s c = by_octets (λ s. SymFits s ≡ true → move_good (ends_open s) (rule_of s c) ≡ true) s (λ n fits. octets_good n c fits)
+pub moves_good : (s : Sym) (c : ℕ) → SymFits s ≡ true → move_good responses (ends_open s) (rule_of s c) ≡ true
+moves_good s c = by_octets (λ s. SymFits s ≡ true → move_good responses (ends_open s) (rule_of s c) ≡ true) s (λ n fits. octets_good n c fits)
     (λ o fits. fine_good (ends_open s) (may_yield s) (need s) (nat_lt c 256) (rule_of s c) (yield_open s) (move_fine s c o fits))
 
-pub moves_room : (s : Sym) (c : ℕ) → SymFits s ≡ true → move_needs (need s) (rule_of s c) ≡ true
-moves_room s c = by_octets (λ s. SymFits s ≡ true → move_needs (need s) (rule_of s c) ≡ true) s (λ n fits. octets_room n c)
+pub moves_room : (s : Sym) (c : ℕ) → SymFits s ≡ true → move_needs responses (need s) (rule_of s c) ≡ true
+moves_room s c = by_octets (λ s. SymFits s ≡ true → move_needs responses (need s) (rule_of s c) ≡ true) s (λ n fits. octets_room n c)
     (λ o fits. fine_room (ends_open s) (may_yield s) (need s) (nat_lt c 256) (rule_of s c) (move_fine s c o fits))
 
 pub moves_yield : (s : Sym) (c : ℕ) → SymFits s ≡ true → rule_of s c ≡ move.Yield → may_yield s ≡ true
@@ -138,20 +131,27 @@ moves_yield s c = by_octets (λ s. SymFits s ≡ true → rule_of s c ≡ move.Y
 pub large : (s : Sym) (c : ℕ) → is_octets s ≡ false → SymFits s ≡ true → nat_lt c 256 ≡ false → is_go (rule_of s c) ≡ false
 large s c o fits e = fine_small (ends_open s) (may_yield s) (need s) (nat_lt c 256) (rule_of s c) e (move_fine s c o fits)
 
--- at a literal's octet one less is left, at another at most a literal more
-abbrev pub Leaves : Bool → ℕ → ℕ → Type 0
-Leaves inside old new = new + cond inside 1 0 ≤ old + cond inside 0 50000000
+pub first_left : (n : ℕ) → SymFits (sym.Free (free.Octets n)) ≡ true → nat_lt 0 n ≡ true
+first_left n fits = (and_parts (nat_lt 0 n) (nat_le n 50000000) fits).0
 
-pub moves_left : (s : Sym) (c : ℕ) → SymFits s ≡ true → Leaves (is_octets s) (sym_left s) (pushed_left (rule_of s c))
-moves_left s c = by_octets (λ s. SymFits s ≡ true → Leaves (is_octets s) (sym_left s) (pushed_left (rule_of s c))) s
-    (λ n fits. let l = octets_left n c fits in omega (arith, l))
+pub outside_left : (s : Sym) → is_octets s ≡ false → sym_left s ≡ 0
+outside_left (sym.Free (free.Octets n)) e = absurd cc
+outside_left _ e = refl
+
+pub outside_is : (s : Sym) → is_octets s ≡ false → inside responses s ≡ false
+outside_is s e = ap (nat_lt 0) (outside_left s e)
+
+pub moves_left : (s : Sym) (c : ℕ) → SymFits s ≡ true → Leaves literal_limit (inside responses s) (sym_left s) (pushed_left responses (rule_of s c))
+moves_left s c = by_octets (λ s. SymFits s ≡ true → Leaves literal_limit (inside responses s) (sym_left s) (pushed_left responses (rule_of s c))) s
+    (λ n fits. let l = octets_left n c fits in
+    subst (λ (b : Bool). Leaves literal_limit b n (pushed_left responses (free_rule (free.Octets n) c))) (sym (first_left n fits)) (omega (arith, l)))
     (λ o fits. let l = fine_left (ends_open s) (may_yield s) (need s) (nat_lt c 256) (rule_of s c) (move_fine s c o fits) in
-    subst (λ (b : Bool). Leaves b (sym_left s) (pushed_left (rule_of s c))) (sym o) (omega (arith, l)))
+    subst (λ (b : Bool). Leaves literal_limit b (sym_left s) (pushed_left responses (rule_of s c))) (sym (outside_is s o)) (omega (arith, l)))
 
 pub yields : (s : Sym) (c : ℕ) → SymFits s ≡ true → rule_of s c ≡ move.Yield → Lang s []
 yields s c fits e = yield_empty s c (moves_yield s c fits e) fits e
 
-need_some : (s : Sym) → 1 ≤ need s
+pub need_some : (s : Sym) → 1 ≤ need s
 need_some (sym.Line line.Start) = omega arith
 need_some (sym.Word place.Item k at) = omega arith
 need_some (sym.Free (free.Text q)) = omega arith
@@ -160,10 +160,3 @@ need_some (sym.Names names.Open) = omega arith
 need_some (sym.Set set.Open) = omega arith
 need_some (sym.Folder folder.Attributes) = omega arith
 need_some _ = omega arith
-
--- a symbol that is followed by two has room for them
-pub two_room : (s : Sym) (c : ℕ) (a b : Sym) → SymFits s ≡ true → rule_of s c ≡ move.Two a b → 2 ≤ need s
-two_room s c a b fits e =
-    let p = and_parts (nat_le (need a + 1) (need s)) (nat_le (need b) (need s)) (subst (λ (m : Move). move_needs (need s) m ≡ true) e (moves_room s c fits)) in
-    let n = need_some a in
-    omega (arith, leb-true _ _ p.0, n)

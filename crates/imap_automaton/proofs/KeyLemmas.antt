@@ -13,7 +13,7 @@ use Rattle.imap_automaton.specs.declared.sym.Key.TheVariants as key
 use Rattle.imap_automaton.specs.declared.sym.Place.{Place}
 use Rattle.imap_automaton.specs.declared.sym.Place.TheVariants as place
 use Rattle.imap_automaton.specs.Keys.{key_text, keys, goes_on, is_whole, is_among, in_word}
-use Rattle.imap_automaton.proofs.Langs.{Among}
+use Rattle.imap_automaton.specs.Langs.{Among}
 use Rattle.imap_automaton.proofs.Tests.{atom_apart}
 use Rattle.imap_syntax.specs.Octets.{is_word, is_atom, lower}
 use Rattle.imap_syntax.specs.Texts.{Each}

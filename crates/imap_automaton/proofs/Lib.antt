@@ -1,9 +1,4 @@
-pub mod Lists
-pub mod ItemNameLangs
 pub mod Rests
-pub mod StringLangs
-pub mod FolderLangs
-pub mod Langs
 pub mod Tests
 pub mod FreeEdges
 pub mod NamesEdges
@@ -25,7 +20,5 @@ pub mod LineEdges
 pub mod Edges
 pub mod Fine
 pub mod Kept
-pub mod Whole
-pub mod Marks
-pub mod Skips
+pub mod Lawful
 pub mod RunLemmas

@@ -14,15 +14,16 @@ use Rattle.imap_automaton.specs.declared.sym.Free.TheVariants as free
 use Rattle.imap_automaton.specs.declared.sym.Line.{Line}
 use Rattle.imap_automaton.specs.declared.sym.Line.TheVariants as line
 use Rattle.imap_automaton.specs.declared.sym.Sym.TheVariants as sym
-use Rattle.imap_automaton.specs.declared.sym.Move.{Move}
-use Rattle.imap_automaton.specs.declared.sym.Move.TheVariants as move
+use Rattle.imap_automaton.specs.declared.sym.Sym.{Sym}
+use Rattle.pushdown.specs.declared.moves.Move.{Move}
+use Rattle.pushdown.specs.declared.moves.Move.TheVariants as move
 use Rattle.imap_automaton.specs.Keys.{key_text, phrase_text, first_key}
 use Rattle.imap_automaton.specs.FreeRules.{text_rule}
 use Rattle.imap_automaton.specs.WordRules.{word_rule}
 use Rattle.imap_automaton.specs.LineRules.{word_start, sequence_rule, fixed_rule, folded_rule, line_rule}
 use Rattle.imap_automaton.specs.Fits.{LineFits}
-use Rattle.imap_automaton.proofs.Langs.{FreeLang, WordSays, WordRest, TagRest, NumberedRest, SequenceRest, LineLang, After}
-use Rattle.imap_automaton.proofs.Lists.{cons_head, cons_tail}
+use Rattle.imap_automaton.specs.Langs.{FreeLang, WordSays, WordRest, TagRest, NumberedRest, SequenceRest, LineLang, After}
+use Rattle.pushdown.proofs.Lists.{cons_head, cons_tail}
 use Rattle.imap_automaton.proofs.Tests.{from_test, to_test, at_true, at_false, is_true_at, both, alnum_not_space, text_not_cr, drop_at, crlf_of, crlf_parts, mid, digit_word}
 use Rattle.imap_automaton.proofs.Tests.{digit_no_brace}
 use Rattle.imap_automaton.proofs.FreeEdges.{text_back, text_forth, free_empty}
@@ -392,10 +393,10 @@ star_from (response.Fetch seq items) t h = (t, refl, h)
 star_from (response.Vanished earlier uids) t h = (t, refl, h)
 star_from response.Other t h = (t, refl, h)
 
-abbrev tag_or_none : ℕ → Move
+abbrev tag_or_none : ℕ → Move Sym
 tag_or_none c = cond (is_alnum c) (move.One (sym.Line (line.Tag 1))) move.Fail
 
-abbrev plus_or_tag : ℕ → Move
+abbrev plus_or_tag : ℕ → Move Sym
 plus_or_tag c = cond (c == 43) (move.One (sym.Line line.Text)) (tag_or_none c)
 
 start_back : (c : ℕ) (t : List ℕ) → After (line_rule line.Start c) t → LineLang line.Start (c ∷ t)

@@ -6,9 +6,9 @@ use Rattle.imap_automaton.specs.declared.sym.Key.{Key}
 use Rattle.imap_automaton.specs.declared.sym.Key.TheVariants as key
 use Rattle.imap_automaton.specs.declared.sym.Place.TheVariants as place
 use Rattle.imap_automaton.specs.Keys.{key_text, keys}
-use Rattle.imap_automaton.proofs.Langs.{Among, IsBehind, WordSays, WordRest}
-use Rattle.imap_automaton.proofs.FolderLangs.{NameLine, DelimiterLine}
-use Rattle.imap_automaton.proofs.Lists.{cons_head, cons_tail}
+use Rattle.imap_automaton.specs.Langs.{Among, IsBehind, WordSays, WordRest}
+use Rattle.imap_automaton.specs.FolderLangs.{NameLine, DelimiterLine}
+use Rattle.pushdown.proofs.Lists.{cons_head, cons_tail}
 use Rattle.imap_automaton.proofs.KeyLemmas.{is_key_octet, key_octets, key_some, among_is}
 use Rattle.imap_automaton.proofs.CountLemmas.{free_to, free_from}
 use Rattle.imap_syntax.specs.declared.response.Status.{Status}

@@ -5,11 +5,11 @@ use Rattle.std.proofs.lemmas.Bool.{eqb-true, eq-eqb}
 use Rattle.imap_automaton.specs.declared.sym.Names.{Names}
 use Rattle.imap_automaton.specs.declared.sym.Names.TheVariants as names
 use Rattle.imap_automaton.specs.declared.sym.Sym.TheVariants as sym
-use Rattle.imap_automaton.specs.declared.sym.Move.TheVariants as move
+use Rattle.pushdown.specs.declared.moves.Move.TheVariants as move
 use Rattle.imap_automaton.specs.NamesRules.{names_rule}
 use Rattle.imap_automaton.specs.Flow.{stops}
-use Rattle.imap_automaton.proofs.Langs.{NamesLang, After}
-use Rattle.imap_automaton.proofs.Lists.{cons_head, cons_tail}
+use Rattle.imap_automaton.specs.Langs.{NamesLang, After}
+use Rattle.pushdown.proofs.Lists.{cons_head, cons_tail}
 use Rattle.imap_automaton.proofs.Tests.{from_test, at_true, at_false, is_true_at, mid}
 use Rattle.imap_syntax.specs.Octets.{is_atom}
 use Rattle.imap_syntax.specs.Texts.{Each}

@@ -10,10 +10,10 @@ use Rattle.imap_automaton.specs.declared.sym.ItemName.{ItemName}
 use Rattle.imap_automaton.specs.declared.sym.ItemName.TheVariants as name
 use Rattle.imap_automaton.specs.Keys.{key_text, keys}
 use Rattle.imap_automaton.specs.ItemNameRules.{may_end, name_from}
-use Rattle.imap_automaton.proofs.ItemNameLangs.{NameForm, NameRest}
+use Rattle.imap_automaton.specs.ItemNameLangs.{NameForm, NameRest}
 use Rattle.imap_automaton.proofs.ItemNameEdges.{form_forth, takes_small, walk, goes_atom}
-use Rattle.imap_automaton.proofs.Langs.{Among, WordRest}
-use Rattle.imap_automaton.proofs.Lists.{cons_head, cons_tail, Cut, cut, one_cut}
+use Rattle.imap_automaton.specs.Langs.{Among, WordRest}
+use Rattle.pushdown.proofs.Lists.{cons_head, cons_tail, Cut, cut, one_cut}
 use Rattle.imap_automaton.proofs.Tests.{both}
 use Rattle.imap_automaton.proofs.KeyLemmas.{is_key_octet, key_octets, key_octet_parts}
 use Rattle.imap_syntax.specs.Octets.{is_atom, lower}

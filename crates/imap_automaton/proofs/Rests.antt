@@ -1,27 +1,7 @@
--- What is left of numbers, and of the octets of a literal.
-use Rattle.std.proofs.Common.{◌≡◌, ℕ, ◌+◌, ◌-◌, ◌*◌, ◌<◌, ◌≤◌, List, [], ◌∷◌, length, refl, arith}
-use Rattle.imap_syntax.specs.Octets.{is_digit, is_inside}
-use Rattle.imap_syntax.specs.Texts.{Each}
+-- The rests of numbers after no digit are the numbers.
+use Rattle.std.proofs.Common.{◌≡◌, ℕ, ◌+◌, ◌-◌, ◌*◌, ◌≤◌, List, [], ◌∷◌, refl, arith}
+use Rattle.imap_automaton.specs.Rests.{NumberRest, LongRest}
 use Rattle.imap_syntax.specs.Numbers.{value_from, IsNonZero, IsLong}
-
-pub record OctetsRest (n : ℕ) (t : List ℕ) : Type 0 where
-  pub counted : length t ≡ n
-  pub inside : Each is_inside t
-
--- the rest of a number that isn't 0, of which `digits` digits made `value`
-pub record NumberRest (value digits : ℕ) (t : List ℕ) : Type 0 where
-  pub each : Each is_digit t
-  pub some : 0 < digits + length t
-  pub few : digits + length t ≤ 10
-  pub most : value_from value t ≤ 4294967295
-  pub not_zero : 0 < value_from value t
-
--- the rest of a long number, of which `digits` digits made `value`
-pub record LongRest (value digits : ℕ) (t : List ℕ) : Type 0 where
-  pub each : Each is_digit t
-  pub some : 0 < digits + length t
-  pub few : digits + length t ≤ 19
-  pub most : value_from value t ≤ 9223372036854775807
 
 -- further digits make a number no less
 pub value_mono : (v : ℕ) (t : List ℕ) → v ≤ value_from v t
@@ -49,6 +29,3 @@ long_from n t h = record { each = h.digits; some = omega (arith, h.some); few = 
 -- and the rest after no digit is such a number
 pub long_to : (t : List ℕ) → LongRest 0 0 t → IsLong (value_from 0 t) t
 long_to t h = record { digits = h.each; some = omega (arith, h.some); few = omega (arith, h.few); value = refl; most = h.most }
-
-abbrev pub IsSpaced : (List ℕ → Type 0) → List ℕ → Type 0
-IsSpaced L t = (rest : List ℕ) × (t ≡ 32 ∷ rest) × L rest

@@ -10,11 +10,11 @@ use Rattle.imap_automaton.specs.declared.sym.Words.TheVariants as words
 use Rattle.imap_automaton.specs.declared.sym.Set.{Set}
 use Rattle.imap_automaton.specs.declared.sym.Set.TheVariants as set
 use Rattle.imap_automaton.specs.declared.sym.Sym.TheVariants as sym
-use Rattle.imap_automaton.specs.declared.sym.Move.TheVariants as move
+use Rattle.pushdown.specs.declared.moves.Move.TheVariants as move
 use Rattle.imap_automaton.specs.SetRules.{words_more, words_rule, set_ends, set_number, set_rule}
 use Rattle.imap_automaton.specs.Fits.{ItemFits, SetFits}
-use Rattle.imap_automaton.proofs.Langs.{FirstWord, WordsLang, NumberRest, SetLine, RangeEnds, NumberEnds, SetLang, After}
-use Rattle.imap_automaton.proofs.Lists.{cons_head, cons_tail}
+use Rattle.imap_automaton.specs.Langs.{FirstWord, WordsLang, NumberRest, SetLine, RangeEnds, NumberEnds, SetLang, After}
+use Rattle.pushdown.proofs.Lists.{cons_head, cons_tail}
 use Rattle.imap_automaton.proofs.Tests.{from_test, to_test, at_true, at_false, is_true_at, both, crlf_of, crlf_parts, mid}
 use Rattle.imap_automaton.proofs.ItemEdges.{number_more, number_goes, number_none, number_some, next_fits}
 use Rattle.imap_automaton.proofs.Rests.{number_from, number_to}

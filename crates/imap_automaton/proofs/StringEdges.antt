@@ -11,14 +11,15 @@ use Rattle.imap_automaton.specs.declared.sym.Str.{Str}
 use Rattle.imap_automaton.specs.declared.sym.Str.TheVariants as str
 use Rattle.imap_automaton.specs.declared.sym.Sym.{Sym}
 use Rattle.imap_automaton.specs.declared.sym.Sym.TheVariants as sym
-use Rattle.imap_automaton.specs.declared.sym.Move.{Move}
-use Rattle.imap_automaton.specs.declared.sym.Move.TheVariants as move
+use Rattle.pushdown.specs.declared.moves.Move.{Move}
+use Rattle.pushdown.specs.declared.moves.Move.TheVariants as move
 use Rattle.imap_automaton.specs.StringRules.{flat_start, alone, before, nstring_rule, count_rule, string_rule}
 use Rattle.imap_automaton.specs.Fits.{StrFits}
-use Rattle.imap_automaton.proofs.Rests.{OctetsRest, value_mono}
-use Rattle.imap_automaton.proofs.StringLangs.{QuotedRest, EscapedRest, AnyCounted, CountRest, BraceRest, StrLang}
-use Rattle.imap_automaton.proofs.Langs.{Lang, After}
-use Rattle.imap_automaton.proofs.Lists.{cons_head, cons_tail}
+use Rattle.imap_automaton.specs.Rests.{OctetsRest}
+use Rattle.imap_automaton.proofs.Rests.{value_mono}
+use Rattle.imap_automaton.specs.StringLangs.{QuotedRest, EscapedRest, AnyCounted, CountRest, BraceRest, StrLang}
+use Rattle.imap_automaton.specs.Langs.{Lang, After}
+use Rattle.pushdown.proofs.Lists.{cons_head, cons_tail}
 use Rattle.imap_automaton.proofs.Tests.{from_test, at_true, at_false, is_true_at, mid, atom_apart}
 use Rattle.imap_automaton.proofs.FreeEdges.{octets_some}
 use Rattle.imap_syntax.specs.Octets.{is_digit, is_text, is_atom, lower}
@@ -350,13 +351,13 @@ no_flat h = by h.0 h.1
 
 -- ---- NIL, a quoted text or a literal
 
-abbrev nil_move : ℕ → Move
+abbrev nil_move : ℕ → Move Sym
 nil_move c = cond (lower c == 110) (move.One (sym.Line (line.Folded phrase.Nil 1))) move.Fail
 
-abbrev tilde_move : ℕ → Move
+abbrev tilde_move : ℕ → Move Sym
 tilde_move c = cond (c == 126) (move.One (sym.Str str.Tilde)) (nil_move c)
 
-abbrev count_move : ℕ → Move
+abbrev count_move : ℕ → Move Sym
 count_move c = cond (c == 123) (move.One (sym.Str (str.Count 0 0))) (tilde_move c)
 
 nstring_back : (c : ℕ) (t : List ℕ) → After (nstring_rule c) t → StrLang str.NString (c ∷ t)

@@ -5,13 +5,13 @@ use Rattle.std.proofs.lemmas.Bool.{eqb-true, eqb-false, ltb-true, lt-ltb, eq-eqb
 use Rattle.imap_automaton.specs.declared.sym.Value.{Value}
 use Rattle.imap_automaton.specs.declared.sym.Value.TheVariants as value
 use Rattle.imap_automaton.specs.declared.sym.Sym.TheVariants as sym
-use Rattle.imap_automaton.specs.declared.sym.Move.TheVariants as move
+use Rattle.pushdown.specs.declared.moves.Move.TheVariants as move
 use Rattle.imap_automaton.specs.StringRules.{flat_start, alone, before}
 use Rattle.imap_automaton.specs.ValueRules.{inner_rule, closes, value_rule}
 use Rattle.imap_automaton.specs.Flow.{stops}
-use Rattle.imap_automaton.proofs.StringLangs.{ValuesFirst, ValuesMore, Opened, ValueLang}
-use Rattle.imap_automaton.proofs.Langs.{After}
-use Rattle.imap_automaton.proofs.Lists.{cons_head, cons_tail, regroup, ungroup}
+use Rattle.imap_automaton.specs.StringLangs.{ValuesFirst, ValuesMore, Opened, ValueLang}
+use Rattle.imap_automaton.specs.Langs.{After}
+use Rattle.pushdown.proofs.Lists.{cons_head, cons_tail, regroup, ungroup}
 use Rattle.imap_automaton.proofs.Tests.{from_test, at_true, at_false, is_true_at, mid}
 use Rattle.imap_automaton.proofs.StringEdges.{Starts, after_alone, alone_after, after_before, before_after, flat_back, flat_forth, no_flat, flat_some}
 use Rattle.imap_syntax.specs.Octets.{is_atom}

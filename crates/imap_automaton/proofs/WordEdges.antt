@@ -20,16 +20,16 @@ use Rattle.imap_automaton.specs.declared.sym.Str.TheVariants as str
 use Rattle.imap_automaton.specs.declared.sym.Folder.TheVariants as folder
 use Rattle.imap_automaton.specs.declared.sym.Sym.{Sym}
 use Rattle.imap_automaton.specs.declared.sym.Sym.TheVariants as sym
-use Rattle.imap_automaton.specs.declared.sym.Move.{Move}
-use Rattle.imap_automaton.specs.declared.sym.Move.TheVariants as move
+use Rattle.pushdown.specs.declared.moves.Move.{Move}
+use Rattle.pushdown.specs.declared.moves.Move.TheVariants as move
 use Rattle.imap_automaton.specs.Counts.{pend}
 use Rattle.imap_automaton.specs.Keys.{key_text, keys, is_among, in_word, goes_on, next_key, is_whole, whole_key}
 use Rattle.imap_automaton.specs.WordRules.{rest_rule, spaced_rule, end_rule, behind_key, stray, word_goes, word_ends, word_rule}
-use Rattle.imap_automaton.proofs.Langs.{FreeLang, ItemLang, NamesLang, SetLang, IsSpaced, Among, IsBehind, IsStray, WordSays, WordRest, Lang, After}
-use Rattle.imap_automaton.proofs.StringLangs.{StrLang}
-use Rattle.imap_automaton.proofs.FolderLangs.{FolderLang}
-pub use Rattle.imap_automaton.proofs.Lists.{Cut, cut}
-use Rattle.imap_automaton.proofs.Lists.{cons_head, cons_tail, no_append}
+use Rattle.imap_automaton.specs.Langs.{FreeLang, ItemLang, NamesLang, SetLang, IsSpaced, Among, IsBehind, IsStray, WordSays, WordRest, Lang, After}
+use Rattle.imap_automaton.specs.StringLangs.{StrLang}
+use Rattle.imap_automaton.specs.FolderLangs.{FolderLang}
+pub use Rattle.pushdown.proofs.Lists.{Cut, cut}
+use Rattle.pushdown.proofs.Lists.{cons_head, cons_tail, no_append}
 use Rattle.imap_automaton.proofs.ItemNameEdges.{name_goes, name_comes, item_name_back, item_name_forth, item_name_empty}
 use Rattle.imap_automaton.proofs.KeyNames.{key_takes}
 use Rattle.imap_automaton.specs.ItemNameRules.{name_from}
@@ -68,10 +68,10 @@ end_forth : (c : ℕ) (t : List ℕ) → IsCrlf (c ∷ t) → After (end_rule c)
 end_forth c t e = let k = crlf_parts c t e in at_true (c == 13) (move.One (sym.Line (line.Fixed phrase.Crlf 1))) move.Fail t (eq-eqb c 13 k.0) k.1
 
 -- a space, and what a move reads
-spaced_move_back : (m : Move) (c : ℕ) (t : List ℕ) → After (spaced_rule m c) t → IsSpaced (After m) (c ∷ t)
+spaced_move_back : (m : Move Sym) (c : ℕ) (t : List ℕ) → After (spaced_rule m c) t → IsSpaced (After m) (c ∷ t)
 spaced_move_back m c t h = from_test (c == 32) m move.Fail t (IsSpaced (After m) (c ∷ t)) (λ e k. (t, ap (λ (n : ℕ). n ∷ t) (eqb-true c 32 e), k)) (λ e k. absurd k) h
 
-spaced_move_forth : (m : Move) (c : ℕ) (t : List ℕ) → IsSpaced (After m) (c ∷ t) → After (spaced_rule m c) t
+spaced_move_forth : (m : Move Sym) (c : ℕ) (t : List ℕ) → IsSpaced (After m) (c ∷ t) → After (spaced_rule m c) t
 spaced_move_forth m c t h = at_true (c == 32) m move.Fail t (eq-eqb c 32 (cons_head c 32 t h.0 h.1)) (subst (After m) (sym (cons_tail c 32 t h.0 h.1)) h.2)
 
 spaced_back : (s : Sym) (c : ℕ) (t : List ℕ) → After (spaced_rule (move.One s) c) t → IsSpaced (Lang s) (c ∷ t)

@@ -5,8 +5,8 @@ use Rattle.imap_automaton.specs.declared.sym.Date.{Date}
 use Rattle.imap_automaton.specs.declared.sym.Date.TheVariants as date
 use Rattle.imap_automaton.specs.declared.sym.Sym.{Sym}
 use Rattle.imap_automaton.specs.declared.sym.Sym.TheVariants as sym
-use Rattle.imap_automaton.specs.declared.sym.Move.{Move}
-use Rattle.imap_automaton.specs.declared.sym.Move.TheVariants as move
+use Rattle.pushdown.specs.declared.moves.Move.{Move}
+use Rattle.pushdown.specs.declared.moves.Move.TheVariants as move
 use Rattle.imap_automaton.specs.Keys.{first_key}
 use Rattle.imap_syntax.specs.Octets.{is_digit}
 
@@ -27,17 +27,17 @@ time_octet at c =
     else if at == 20 then c == 34
     else is_digit c
 
-abbrev pub day_rule : ℕ → ℕ → Move
+abbrev pub day_rule : ℕ → ℕ → Move Sym
 day_rule at c =
     if nat_lt at 3 && day_octet at c
     then (if at + 1 == 3 then move.One month_start else move.One (sym.Date (date.Day (at + 1)))) else move.Fail
 
-abbrev pub time_rule : ℕ → ℕ → Move
+abbrev pub time_rule : ℕ → ℕ → Move Sym
 time_rule at c =
     if nat_lt at 21 && time_octet at c
     then (if at + 1 == 21 then move.End else move.One (sym.Date (date.Time (at + 1)))) else move.Fail
 
-abbrev pub date_rule : Date → ℕ → Move
+abbrev pub date_rule : Date → ℕ → Move Sym
 date_rule date.Open c = if c == 34 then move.One (sym.Date (date.Day 0)) else move.Fail
 date_rule (date.Day at) c = day_rule at c
 date_rule (date.Time at) c = time_rule at c

@@ -1,5 +1,6 @@
--- Which symbol may end before an octet, which begins with one that ends those, and how many may stand on a stack.
-use Rattle.std.specs.Prelude.{◌≡◌, ℕ, zero, ◌+◌, ◌≤◌, nat_le, Bool, true, false, not, ◌&&◌, ◌||◌, ◌==◌, List, [], ◌∷◌, length}
+-- Which symbol may end before an octet, which begins with one that ends those, how many may stand on a stack, and what is
+-- left of literals.
+use Rattle.std.specs.Prelude.{ℕ, zero, Bool, true, false, ◌||◌, ◌==◌}
 use Rattle.imap_automaton.specs.declared.sym.Place.TheVariants as place
 use Rattle.imap_automaton.specs.declared.sym.Phrase.TheVariants as phrase
 use Rattle.imap_automaton.specs.declared.sym.Line.TheVariants as line
@@ -12,9 +13,6 @@ use Rattle.imap_automaton.specs.declared.sym.Value.TheVariants as value
 use Rattle.imap_automaton.specs.declared.sym.Folder.TheVariants as folder
 use Rattle.imap_automaton.specs.declared.sym.Sym.{Sym}
 use Rattle.imap_automaton.specs.declared.sym.Sym.TheVariants as sym
-use Rattle.imap_automaton.specs.declared.sym.Move.{Move}
-use Rattle.imap_automaton.specs.declared.sym.Move.TheVariants as move
-use Rattle.imap_automaton.specs.Fits.{SymFits}
 
 -- the last octets may be followed by nothing but a space, a closing bracket or a line's end
 abbrev pub ends_open : Sym → Bool
@@ -44,24 +42,6 @@ begins _ = false
 
 abbrev pub stops : ℕ → Bool
 stops c = c == 32 || c == 41 || c == 13
-
--- what follows the symbols begins so, `last` for the end
-abbrev pub first_begins : Bool → List Sym → Bool
-first_begins last [] = last
-first_begins last (s ∷ ss) = begins s
-
--- symbols that can stand, `last` for whether the last of them may end open
-abbrev pub Good : Bool → List Sym → Type 0
-Good last [] = Unit {0}
-Good last (s ∷ ss) = (SymFits s ≡ true) × ((not (ends_open s) || first_begins last ss) ≡ true) × Good last ss
-
--- a move of a symbol that ends open or doesn't keeps the symbols good
-abbrev pub move_good : Bool → Move → Bool
-move_good ends move.Fail = true
-move_good ends move.Yield = ends
-move_good ends move.End = true
-move_good ends (move.One a) = SymFits a && (not (ends_open a) || ends)
-move_good ends (move.Two a b) = SymFits a && SymFits b && (not (ends_open a) || begins b) && (not (ends_open b) || ends)
 
 -- how many symbols there may be while a symbol is read, itself among them
 abbrev pub need : Sym → ℕ
@@ -93,35 +73,10 @@ need (sym.Folder folder.CountWord) = 2
 need (sym.Folder folder.MoreCounts) = 2
 need _ = 1
 
-abbrev pub move_needs : ℕ → Move → Bool
-move_needs n (move.One a) = nat_le (need a) n
-move_needs n (move.Two a b) = nat_le (need a + 1) n && nat_le (need b) n
-move_needs n _ = true
-
--- the stack has room for the symbols to come
-abbrev pub Room : List Sym → Type 0
-Room [] = Unit {0}
-Room (s ∷ ss) = (need s + length ss ≤ 5) × Room ss
-
-abbrev pub AllFit : List Sym → Type 0
-AllFit [] = Unit {0}
-AllFit (s ∷ ss) = (SymFits s ≡ true) × AllFit ss
-
-abbrev pub Ready : List Sym → Type 0
-Ready ss = Good false ss × Room ss
-
--- a step may be made
-abbrev pub CanStep : List Sym → Type 0
-CanStep ss = AllFit ss × Room ss
-
--- how many octets of literals are still to come
+-- how many octets of its literal a symbol still reads
 abbrev pub sym_left : Sym → ℕ
 sym_left (sym.Free (free.Octets n)) = n
 sym_left _ = 0
-
-abbrev pub left_of : List Sym → ℕ
-left_of [] = 0
-left_of (s ∷ ss) = sym_left s + left_of ss
 
 -- may end before an octet
 abbrev pub may_yield : Sym → Bool
@@ -130,3 +85,13 @@ may_yield (sym.Item (item.Long value digits)) = true
 may_yield (sym.Names names.AtomRest) = true
 may_yield (sym.Str str.AtomTilde) = true
 may_yield _ = false
+
+-- the symbol is within a literal
+abbrev pub is_octets : Sym → Bool
+is_octets (sym.Free (free.Octets n)) = true
+is_octets _ = false
+
+-- within a literal, with as many octets still to be read
+abbrev pub with_left : Sym → ℕ → Sym
+with_left (sym.Free (free.Octets n)) k = sym.Free (free.Octets k)
+with_left s k = s

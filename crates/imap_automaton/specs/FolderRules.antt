@@ -8,15 +8,16 @@ use Rattle.imap_automaton.specs.declared.sym.Value.TheVariants as value
 use Rattle.imap_automaton.specs.declared.sym.Folder.{Folder}
 use Rattle.imap_automaton.specs.declared.sym.Folder.TheVariants as folder
 use Rattle.imap_automaton.specs.declared.sym.Sym.TheVariants as sym
-use Rattle.imap_automaton.specs.declared.sym.Move.{Move}
-use Rattle.imap_automaton.specs.declared.sym.Move.TheVariants as move
+use Rattle.imap_automaton.specs.declared.sym.Sym.{Sym}
+use Rattle.pushdown.specs.declared.moves.Move.{Move}
+use Rattle.pushdown.specs.declared.moves.Move.TheVariants as move
 use Rattle.imap_syntax.specs.Octets.{is_text, is_status_word, lower}
 
 -- one octet, and then a symbol
-abbrev pub octet_rule : ℕ → Folder → ℕ → Move
+abbrev pub octet_rule : ℕ → Folder → ℕ → Move Sym
 octet_rule octet next c = if c == octet then move.One (sym.Folder next) else move.Fail
 
-abbrev pub folder_rule : Folder → ℕ → Move
+abbrev pub folder_rule : Folder → ℕ → Move Sym
 folder_rule folder.Attributes c = if c == 32 then move.Two (sym.Folder folder.Delimiter) (sym.Folder folder.Name) else move.Fail
 folder_rule folder.Delimiter c =
     if c == 34 then move.One (sym.Folder folder.DelimiterOctet)

@@ -5,8 +5,9 @@ use Rattle.imap_automaton.specs.declared.sym.Value.TheVariants as value
 use Rattle.imap_automaton.specs.declared.sym.ItemName.{ItemName}
 use Rattle.imap_automaton.specs.declared.sym.ItemName.TheVariants as name
 use Rattle.imap_automaton.specs.declared.sym.Sym.TheVariants as sym
-use Rattle.imap_automaton.specs.declared.sym.Move.{Move}
-use Rattle.imap_automaton.specs.declared.sym.Move.TheVariants as move
+use Rattle.imap_automaton.specs.declared.sym.Sym.{Sym}
+use Rattle.pushdown.specs.declared.moves.Move.{Move}
+use Rattle.pushdown.specs.declared.moves.Move.TheVariants as move
 use Rattle.imap_syntax.specs.Octets.{is_digit, is_atom}
 use Rattle.imap_syntax.specs.ItemNames.{is_inner}
 
@@ -43,7 +44,7 @@ abbrev pub name_from : ItemName → List ℕ → ItemName
 name_from s [] = s
 name_from s (c ∷ t) = name_from (next_name s c) t
 
-abbrev pub item_name_rule : ItemName → ℕ → Move
+abbrev pub item_name_rule : ItemName → ℕ → Move Sym
 item_name_rule s c =
     if c == 32 && may_end s then move.One (sym.Value value.Start)
     else if c == 34 && in_section s then move.Two (sym.Str str.Quoted) (sym.ItemName name.Section)

@@ -1,5 +1,4 @@
 -- All of it is of the automaton itself: who believes what scanning means (imap_syntax's Spells, imap_grammar's Scan) may skip it.
-pub mod Symbols
 pub mod Counts
 pub mod Keys
 pub mod LineRules
@@ -15,5 +14,10 @@ pub mod ValueRules
 pub mod FolderRules
 pub mod Rules
 pub mod Fits
-pub mod Run
 pub mod Flow
+pub mod Rests
+pub mod ItemNameLangs
+pub mod StringLangs
+pub mod FolderLangs
+pub mod Langs
+pub mod Responses

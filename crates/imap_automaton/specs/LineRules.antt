@@ -9,8 +9,8 @@ use Rattle.imap_automaton.specs.declared.sym.Line.{Line}
 use Rattle.imap_automaton.specs.declared.sym.Line.TheVariants as line
 use Rattle.imap_automaton.specs.declared.sym.Sym.{Sym}
 use Rattle.imap_automaton.specs.declared.sym.Sym.TheVariants as sym
-use Rattle.imap_automaton.specs.declared.sym.Move.{Move}
-use Rattle.imap_automaton.specs.declared.sym.Move.TheVariants as move
+use Rattle.pushdown.specs.declared.moves.Move.{Move}
+use Rattle.pushdown.specs.declared.moves.Move.TheVariants as move
 use Rattle.imap_automaton.specs.Keys.{first_key, phrase_text}
 use Rattle.imap_automaton.specs.FreeRules.{text_rule}
 use Rattle.imap_automaton.specs.WordRules.{word_rule}
@@ -20,23 +20,23 @@ abbrev pub word_start : Place → Sym
 word_start p = sym.Word p (first_key p) 0
 
 -- a number goes on as one, up to ten digits and 2^32 - 1, or else is a word
-abbrev pub sequence_rule : ℕ → ℕ → ℕ → Move
+abbrev pub sequence_rule : ℕ → ℕ → ℕ → Move Sym
 sequence_rule value digits c =
     if is_digit c && nat_lt digits 10 && nat_le (10 * value + (c - 48)) 4294967295 then move.One (sym.Line (line.Sequence (10 * value + (c - 48)) (digits + 1)))
     else if c == 32 then move.One (word_start place.Numbered)
     else text_rule pending.Nothing c
 
-abbrev pub fixed_rule : Phrase → ℕ → ℕ → Move
+abbrev pub fixed_rule : Phrase → ℕ → ℕ → Move Sym
 fixed_rule p at c =
     if nat_lt at (length (phrase_text p)) && c == get_or (phrase_text p) at 0
     then (if at + 1 == length (phrase_text p) then move.End else move.One (sym.Line (line.Fixed p (at + 1)))) else move.Fail
 
-abbrev pub folded_rule : Phrase → ℕ → ℕ → Move
+abbrev pub folded_rule : Phrase → ℕ → ℕ → Move Sym
 folded_rule p at c =
     if nat_lt at (length (phrase_text p)) && lower c == get_or (phrase_text p) at 0
     then (if at + 1 == length (phrase_text p) then move.End else move.One (sym.Line (line.Folded p (at + 1)))) else move.Fail
 
-abbrev pub line_rule : Line → ℕ → Move
+abbrev pub line_rule : Line → ℕ → Move Sym
 line_rule line.Start c =
     if c == 42 then move.Two (sym.Line (line.Fixed phrase.Space 0)) (sym.Line line.Untagged)
     else if c == 43 then move.One (sym.Line line.Text)

@@ -3,11 +3,12 @@ use Rattle.std.specs.Prelude.{ℕ, ◌==◌, if◌then◌else◌}
 use Rattle.imap_automaton.specs.declared.sym.Names.{Names}
 use Rattle.imap_automaton.specs.declared.sym.Names.TheVariants as names
 use Rattle.imap_automaton.specs.declared.sym.Sym.TheVariants as sym
-use Rattle.imap_automaton.specs.declared.sym.Move.{Move}
-use Rattle.imap_automaton.specs.declared.sym.Move.TheVariants as move
+use Rattle.imap_automaton.specs.declared.sym.Sym.{Sym}
+use Rattle.pushdown.specs.declared.moves.Move.{Move}
+use Rattle.pushdown.specs.declared.moves.Move.TheVariants as move
 use Rattle.imap_syntax.specs.Octets.{is_atom}
 
-abbrev pub names_rule : Names → ℕ → Move
+abbrev pub names_rule : Names → ℕ → Move Sym
 names_rule names.Open c = if c == 40 then move.One (sym.Names names.First) else move.Fail
 names_rule names.First c =
     if c == 41 then move.End

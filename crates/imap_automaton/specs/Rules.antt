@@ -2,7 +2,7 @@
 use Rattle.std.specs.Prelude.{ℕ}
 use Rattle.imap_automaton.specs.declared.sym.Sym.{Sym}
 use Rattle.imap_automaton.specs.declared.sym.Sym.TheVariants as sym
-use Rattle.imap_automaton.specs.declared.sym.Move.{Move}
+use Rattle.pushdown.specs.declared.moves.Move.{Move}
 use Rattle.imap_automaton.specs.LineRules.{line_rule}
 use Rattle.imap_automaton.specs.WordRules.{word_rule}
 use Rattle.imap_automaton.specs.FreeRules.{free_rule}
@@ -15,7 +15,7 @@ use Rattle.imap_automaton.specs.StringRules.{string_rule}
 use Rattle.imap_automaton.specs.ValueRules.{value_rule}
 use Rattle.imap_automaton.specs.FolderRules.{folder_rule}
 
-abbrev pub rule_of : Sym → ℕ → Move
+abbrev pub rule_of : Sym → ℕ → Move Sym
 rule_of (sym.Line s) c = line_rule s c
 rule_of (sym.Word place key at) c = word_rule place key at c
 rule_of (sym.Free s) c = free_rule s c

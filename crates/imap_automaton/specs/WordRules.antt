@@ -15,8 +15,9 @@ use Rattle.imap_automaton.specs.declared.sym.Set.TheVariants as set
 use Rattle.imap_automaton.specs.declared.sym.Str.TheVariants as str
 use Rattle.imap_automaton.specs.declared.sym.Folder.TheVariants as folder
 use Rattle.imap_automaton.specs.declared.sym.Sym.TheVariants as sym
-use Rattle.imap_automaton.specs.declared.sym.Move.{Move}
-use Rattle.imap_automaton.specs.declared.sym.Move.TheVariants as move
+use Rattle.imap_automaton.specs.declared.sym.Sym.{Sym}
+use Rattle.pushdown.specs.declared.moves.Move.{Move}
+use Rattle.pushdown.specs.declared.moves.Move.TheVariants as move
 use Rattle.imap_automaton.specs.Keys.{key_text, in_word, next_key, whole_key}
 use Rattle.imap_automaton.specs.FreeRules.{text_rule}
 use Rattle.imap_automaton.specs.SetRules.{words_more}
@@ -25,21 +26,21 @@ use Rattle.imap_automaton.specs.ItemNameRules.{name_from, item_name_rule}
 use Rattle.imap_syntax.specs.Octets.{lower}
 
 -- rest = empty / SP *text
-abbrev pub rest_rule : ℕ → Move
+abbrev pub rest_rule : ℕ → Move Sym
 rest_rule c =
     if c == 32 then move.One (sym.Line line.Text)
     else if c == 13 then move.One (sym.Line (line.Fixed phrase.Crlf 1)) else move.Fail
 
 -- a space, and then the rest of the line
-abbrev pub spaced_rule : Move → ℕ → Move
+abbrev pub spaced_rule : Move Sym → ℕ → Move Sym
 spaced_rule m c = if c == 32 then m else move.Fail
 
 -- the end of the line
-abbrev pub end_rule : ℕ → Move
+abbrev pub end_rule : ℕ → Move Sym
 end_rule c = if c == 13 then move.One (sym.Line (line.Fixed phrase.Crlf 1)) else move.Fail
 
 -- after a word that is a key
-abbrev pub behind_key : Place → Key → ℕ → Move
+abbrev pub behind_key : Place → Key → ℕ → Move Sym
 behind_key place.Tagged key.Ok c = rest_rule c
 behind_key place.Tagged key.No c = rest_rule c
 behind_key place.Tagged key.Bad c = rest_rule c
@@ -70,21 +71,21 @@ behind_key place.Month k c = time_rule 0 c
 behind_key _ _ c = move.Fail
 
 -- at a word that is none
-abbrev pub stray : Place → Key → ℕ → ℕ → Move
+abbrev pub stray : Place → Key → ℕ → ℕ → Move Sym
 stray place.Plain key at c = text_rule pending.Nothing c
 stray place.Numbered key at c = text_rule pending.Nothing c
 stray place.Item key at c = item_name_rule (name_from name.Plain (take at (key_text key))) c
 stray _ key at c = move.Fail
 
-abbrev pub word_goes : Place → Key → ℕ → ℕ → Option Key → Move
+abbrev pub word_goes : Place → Key → ℕ → ℕ → Option Key → Move Sym
 word_goes place key at c (Some k) = move.One (sym.Word place k (at + 1))
 word_goes place key at c None = stray place key at c
 
-abbrev pub word_ends : Place → Key → ℕ → ℕ → Option Key → Move
+abbrev pub word_ends : Place → Key → ℕ → ℕ → Option Key → Move Sym
 word_ends place key at c (Some k) = behind_key place k c
 word_ends place key at c None = stray place key at c
 
-abbrev pub word_rule : Place → Key → ℕ → ℕ → Move
+abbrev pub word_rule : Place → Key → ℕ → ℕ → Move Sym
 word_rule place key at c =
     if in_word place c then word_goes place key at c (next_key place key at (lower c))
     else if at == 0 then move.Fail

@@ -3,7 +3,8 @@ ghost use Rattle.std.specs.Prelude.{◌≡◌};
 ghost use Rattle.imap_automaton.specs.DateRules as rules;
 
 use crate::class::is_digit;
-use crate::sym::{Date, Key, Move, Place, Sym};
+use crate::sym::{Date, Key, Place, Sym};
+use pushdown::Move;
 
 /// The octets between the quote and the month.
 const DAY_LEN: u8 = 3;
@@ -36,7 +37,7 @@ fn time_octet(at: u8, c: u16) -> bool
     }
 }
 
-fn day_rule(at: u8, c: u16) -> Move
+fn day_rule(at: u8, c: u16) -> Move<Sym>
     ensures { result ≡ rules.day_rule at c }
 {
     if at < DAY_LEN && day_octet(at, c) {
@@ -50,7 +51,7 @@ fn day_rule(at: u8, c: u16) -> Move
     }
 }
 
-pub fn time_rule(at: u8, c: u16) -> Move
+pub fn time_rule(at: u8, c: u16) -> Move<Sym>
     ensures { result ≡ rules.time_rule at c }
 {
     if at < TIME_LEN && time_octet(at, c) {
@@ -66,7 +67,7 @@ pub fn time_rule(at: u8, c: u16) -> Move
 
 /// Dates: what an octet does.
 #[inline(never)]
-pub fn date_rule(date: &Date, c: u16) -> Move
+pub fn date_rule(date: &Date, c: u16) -> Move<Sym>
     ensures { result ≡ rules.date_rule date.now c }
 {
     match date {

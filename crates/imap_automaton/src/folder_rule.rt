@@ -3,7 +3,8 @@ ghost use Rattle.std.specs.Prelude.{◌≡◌};
 ghost use Rattle.imap_automaton.specs.FolderRules as rules;
 
 use crate::class::{CR, is_status_word, is_text, lower};
-use crate::sym::{Folder, Item, Line, Move, Phrase, Str, Sym, Value};
+use crate::sym::{Folder, Item, Line, Phrase, Str, Sym, Value};
+use pushdown::Move;
 
 /// The line's end, from its CR on.
 const LINE_END: Sym = Sym::Line(Line::Fixed(Phrase::Crlf, 0));
@@ -11,7 +12,7 @@ const LINE_END: Sym = Sym::Line(Line::Fixed(Phrase::Crlf, 0));
 /// The quote that ends a delimiter.
 const QUOTE: Sym = Sym::Line(Line::Fixed(Phrase::Quote, 0));
 
-fn attributes_rule(c: u16) -> Move
+fn attributes_rule(c: u16) -> Move<Sym>
     ensures { result ≡ rules.folder_rule Folder.Attributes c }
 {
     if c == b' ' as u16 {
@@ -21,7 +22,7 @@ fn attributes_rule(c: u16) -> Move
     }
 }
 
-fn delimiter_rule(c: u16) -> Move
+fn delimiter_rule(c: u16) -> Move<Sym>
     ensures { result ≡ rules.folder_rule Folder.Delimiter c }
 {
     if c == b'"' as u16 {
@@ -33,7 +34,7 @@ fn delimiter_rule(c: u16) -> Move
     }
 }
 
-fn delimiter_octet_rule(c: u16) -> Move
+fn delimiter_octet_rule(c: u16) -> Move<Sym>
     ensures { result ≡ rules.folder_rule Folder.DelimiterOctet c }
 {
     if c == b'"' as u16 {
@@ -47,7 +48,7 @@ fn delimiter_octet_rule(c: u16) -> Move
     }
 }
 
-fn delimiter_escaped_rule(c: u16) -> Move
+fn delimiter_escaped_rule(c: u16) -> Move<Sym>
     ensures { result ≡ rules.folder_rule Folder.DelimiterEscaped c }
 {
     if c == b'"' as u16 || c == b'\\' as u16 {
@@ -57,7 +58,7 @@ fn delimiter_escaped_rule(c: u16) -> Move
     }
 }
 
-fn name_rule(c: u16) -> Move
+fn name_rule(c: u16) -> Move<Sym>
     ensures { result ≡ rules.folder_rule Folder.Name c }
 {
     if c == b' ' as u16 {
@@ -67,7 +68,7 @@ fn name_rule(c: u16) -> Move
     }
 }
 
-fn list_end_rule(c: u16) -> Move
+fn list_end_rule(c: u16) -> Move<Sym>
     ensures { result ≡ rules.folder_rule Folder.ListEnd c }
 {
     if c == b' ' as u16 {
@@ -79,7 +80,7 @@ fn list_end_rule(c: u16) -> Move
     }
 }
 
-fn first_count_rule(c: u16) -> Move
+fn first_count_rule(c: u16) -> Move<Sym>
     ensures { result ≡ rules.folder_rule Folder.FirstCount c }
 {
     if c == b')' as u16 {
@@ -89,7 +90,7 @@ fn first_count_rule(c: u16) -> Move
     }
 }
 
-fn count_rule(c: u16) -> Move
+fn count_rule(c: u16) -> Move<Sym>
     ensures { result ≡ rules.folder_rule Folder.Count c }
 {
     if is_status_word(c) {
@@ -99,7 +100,7 @@ fn count_rule(c: u16) -> Move
     }
 }
 
-fn count_word_rule(c: u16) -> Move
+fn count_word_rule(c: u16) -> Move<Sym>
     ensures { result ≡ rules.folder_rule Folder.CountWord c }
 {
     if is_status_word(c) {
@@ -111,7 +112,7 @@ fn count_word_rule(c: u16) -> Move
     }
 }
 
-fn more_counts_rule(c: u16) -> Move
+fn more_counts_rule(c: u16) -> Move<Sym>
     ensures { result ≡ rules.folder_rule Folder.MoreCounts c }
 {
     if c == b' ' as u16 {
@@ -124,7 +125,7 @@ fn more_counts_rule(c: u16) -> Move
 }
 
 /// One octet, and then a symbol.
-fn octet_rule(octet: u8, next: Folder, c: u16) -> Move
+fn octet_rule(octet: u8, next: Folder, c: u16) -> Move<Sym>
     ensures { result ≡ rules.octet_rule octet next c }
 {
     if c == octet as u16 {
@@ -136,7 +137,7 @@ fn octet_rule(octet: u8, next: Folder, c: u16) -> Move
 
 /// LIST and STATUS: what an octet does.
 #[inline(never)]
-pub fn folder_rule(folder: &Folder, c: u16) -> Move
+pub fn folder_rule(folder: &Folder, c: u16) -> Move<Sym>
     ensures { result ≡ rules.folder_rule folder.now c }
 {
     match folder {

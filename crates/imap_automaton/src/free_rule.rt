@@ -5,7 +5,8 @@ ghost use Rattle.imap_automaton.specs.FreeRules as rules;
 ghost use Rattle.imap_automaton.specs.Fits.{PendFits, FreeFits};
 
 use crate::class::{CR, LF, is_digit, is_text};
-use crate::sym::{Free, Line, Move, Pending, Phrase, Sym};
+use crate::sym::{Free, Line, Pending, Phrase, Sym};
+use pushdown::Move;
 
 /// Octets of a literal.
 pub const LITERAL_LIMIT: u32 = 50_000_000;
@@ -57,7 +58,7 @@ fn pend(pending: Pending, c: u16) -> Pending
     }
 }
 
-fn free_end(pending: Pending) -> Move
+fn free_end(pending: Pending) -> Move<Sym>
     ensures { result ≡ rules.free_end pending }
 {
     match pending {
@@ -75,7 +76,7 @@ fn free_end(pending: Pending) -> Move
     }
 }
 
-pub fn text_rule(pending: Pending, c: u16) -> Move
+pub fn text_rule(pending: Pending, c: u16) -> Move<Sym>
     requires { IsTrue (PendFits pending) }
     ensures { result ≡ rules.text_rule pending c }
 {
@@ -88,7 +89,7 @@ pub fn text_rule(pending: Pending, c: u16) -> Move
     }
 }
 
-fn break_rule(n: u32, c: u16) -> Move
+fn break_rule(n: u32, c: u16) -> Move<Sym>
     ensures { result ≡ rules.free_rule (Free.Break n) c }
 {
     if c != LF {
@@ -100,7 +101,7 @@ fn break_rule(n: u32, c: u16) -> Move
     }
 }
 
-fn octets_rule(n: u32, c: u16) -> Move
+fn octets_rule(n: u32, c: u16) -> Move<Sym>
     ensures { result ≡ rules.free_rule (Free.Octets n) c }
 {
     if 256 <= c && c < 512 && 0 < n {
@@ -116,7 +117,7 @@ fn octets_rule(n: u32, c: u16) -> Move
 
 /// Text with literals: what an octet does.
 #[inline(never)]
-pub fn free_rule(free: &Free, c: u16) -> Move
+pub fn free_rule(free: &Free, c: u16) -> Move<Sym>
     requires { IsTrue (FreeFits free.now) }
     ensures { result ≡ rules.free_rule free.now c }
 {

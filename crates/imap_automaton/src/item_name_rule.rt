@@ -4,7 +4,8 @@ ghost use Rattle.imap_automaton.specs.ItemNameRules as rules;
 ghost use Rattle.imap_syntax.specs.ItemNames as names;
 
 use crate::class::{is_atom, is_digit};
-use crate::sym::{ItemName, Move, Str, Sym, Value};
+use crate::sym::{ItemName, Str, Sym, Value};
+use pushdown::Move;
 
 /// Whether the octet may stand in a section outside quoted texts.
 fn is_inner(c: u16) -> bool
@@ -73,7 +74,7 @@ pub fn next_name(name: ItemName, c: u16) -> ItemName
 
 /// Names of other items: what an octet does.
 #[inline(never)]
-pub fn item_name_rule(name: ItemName, c: u16) -> Move
+pub fn item_name_rule(name: ItemName, c: u16) -> Move<Sym>
     ensures { result ≡ rules.item_name_rule name c }
 {
     if c == b' ' as u16 && may_end(name) {

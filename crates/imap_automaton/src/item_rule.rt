@@ -4,7 +4,8 @@ ghost use Rattle.imap_automaton.specs.ItemRules as rules;
 ghost use Rattle.imap_automaton.specs.Fits.{ItemFits};
 
 use crate::class::is_digit;
-use crate::sym::{Item, Key, Line, Move, Phrase, Place, Sym};
+use crate::sym::{Item, Key, Line, Phrase, Place, Sym};
+use pushdown::Move;
 
 /// Digits of a number.
 pub const NUMBER_DIGITS: u8 = 10;
@@ -12,7 +13,7 @@ pub const NUMBER_DIGITS: u8 = 10;
 /// A word of an item, from its first octet on.
 const ITEM_START: Sym = Sym::Word(Place::Item, Key::Uid, 0);
 
-pub fn number_rule(value: u32, digits: u8, c: u16) -> Move
+pub fn number_rule(value: u32, digits: u8, c: u16) -> Move<Sym>
     requires { IsTrue (ItemFits (Item.Number value digits)) }
     ensures { result ≡ rules.number_rule value digits c }
 {
@@ -36,7 +37,7 @@ pub fn number_rule(value: u32, digits: u8, c: u16) -> Move
 /// Digits of a long number.
 const LONG_DIGITS: u8 = 19;
 
-pub fn long_rule(value: u64, digits: u8, c: u16) -> Move
+pub fn long_rule(value: u64, digits: u8, c: u16) -> Move<Sym>
     requires { IsTrue (ItemFits (Item.Long value digits)) }
     ensures { result ≡ rules.long_rule value digits c }
 {
@@ -54,7 +55,7 @@ pub fn long_rule(value: u64, digits: u8, c: u16) -> Move
     }
 }
 
-fn long_open_rule(c: u16) -> Move
+fn long_open_rule(c: u16) -> Move<Sym>
     ensures { result ≡ rules.item_rule Item.LongOpen c }
 {
     if c == b'(' as u16 {
@@ -69,7 +70,7 @@ fn long_open_rule(c: u16) -> Move
 
 /// The items of a FETCH: what an octet does.
 #[inline(never)]
-pub fn item_rule(item: &Item, c: u16) -> Move
+pub fn item_rule(item: &Item, c: u16) -> Move<Sym>
     requires { IsTrue (ItemFits item.now) }
     ensures { result ≡ rules.item_rule item.now c }
 {

@@ -5,23 +5,20 @@ mod class;
 mod date_rule;
 mod folder_rule;
 mod free_rule;
+mod grammar;
 mod item_name_rule;
 mod item_rule;
 mod line_rule;
 mod names_rule;
 mod runs;
 mod set_rule;
-mod stack;
-mod step;
 mod string_rule;
 mod sym;
 mod value_rule;
 mod word_rule;
 
-pub use runs::advance_through;
-pub use stack::Stack;
-pub use step::advance;
+pub use grammar::LIMIT;
 pub use sym::{
-    Date, Folder, Free, Item, ItemName, Key, Line, Move, Names, Pending, Phrase, Place, Set, Str,
-    Sym, Value, Words,
+    Date, Folder, Free, Item, ItemName, Key, Line, Names, Pending, Phrase, Place, Set, Str, Sym,
+    Value, Words,
 };

@@ -7,8 +7,9 @@ ghost use Rattle.imap_automaton.specs.Fits.{LineFits};
 use crate::class::{CR, is_alnum, is_digit, is_text, lower};
 use crate::free_rule::text_rule;
 use crate::item_rule::NUMBER_DIGITS;
-use crate::sym::{Line, Move, Pending, Phrase, Place, Sym};
+use crate::sym::{Line, Pending, Phrase, Place, Sym};
 use crate::word_rule::{first_key, word_rule};
+use pushdown::Move;
 
 /// Octets of a tag.
 const TAG_LIMIT: u8 = 32;
@@ -32,7 +33,7 @@ fn word_start(place: Place) -> Sym
     Sym::Word(place, first_key(place), 0)
 }
 
-fn start_rule(c: u16) -> Move
+fn start_rule(c: u16) -> Move<Sym>
     ensures { result ≡ rules.line_rule Line.Start c }
 {
     if c == b'*' as u16 {
@@ -49,7 +50,7 @@ fn start_rule(c: u16) -> Move
     }
 }
 
-fn tag_rule(n: u8, c: u16) -> Move
+fn tag_rule(n: u8, c: u16) -> Move<Sym>
     ensures { result ≡ rules.line_rule (Line.Tag n) c }
 {
     if c == b' ' as u16 {
@@ -61,7 +62,7 @@ fn tag_rule(n: u8, c: u16) -> Move
     }
 }
 
-fn untagged_rule(c: u16) -> Move
+fn untagged_rule(c: u16) -> Move<Sym>
     ensures { result ≡ rules.line_rule Line.Untagged c }
 {
     if is_digit(c) {
@@ -71,7 +72,7 @@ fn untagged_rule(c: u16) -> Move
     }
 }
 
-pub fn sequence_rule(value: u32, digits: u8, c: u16) -> Move
+pub fn sequence_rule(value: u32, digits: u8, c: u16) -> Move<Sym>
     ensures { result ≡ rules.sequence_rule value digits c }
 {
     if is_digit(c)
@@ -86,7 +87,7 @@ pub fn sequence_rule(value: u32, digits: u8, c: u16) -> Move
     }
 }
 
-fn text_line_rule(c: u16) -> Move
+fn text_line_rule(c: u16) -> Move<Sym>
     ensures { result ≡ rules.line_rule Line.Text c }
 {
     if c == CR {
@@ -98,7 +99,7 @@ fn text_line_rule(c: u16) -> Move
     }
 }
 
-fn fixed_rule(phrase: Phrase, at: u8, c: u16) -> Move
+fn fixed_rule(phrase: Phrase, at: u8, c: u16) -> Move<Sym>
     requires { IsTrue (LineFits (Line.Fixed phrase at)) }
     ensures { result ≡ rules.fixed_rule phrase at c }
 {
@@ -115,7 +116,7 @@ fn fixed_rule(phrase: Phrase, at: u8, c: u16) -> Move
     }
 }
 
-fn folded_rule(phrase: Phrase, at: u8, c: u16) -> Move
+fn folded_rule(phrase: Phrase, at: u8, c: u16) -> Move<Sym>
     requires { IsTrue (LineFits (Line.Folded phrase at)) }
     ensures { result ≡ rules.folded_rule phrase at c }
 {
@@ -134,7 +135,7 @@ fn folded_rule(phrase: Phrase, at: u8, c: u16) -> Move
 
 /// Lines: what an octet does.
 #[inline(never)]
-pub fn line_rule(line: &Line, c: u16) -> Move
+pub fn line_rule(line: &Line, c: u16) -> Move<Sym>
     requires { IsTrue (LineFits line.now) }
     ensures { result ≡ rules.line_rule line.now c }
 {

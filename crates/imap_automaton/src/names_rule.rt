@@ -3,9 +3,10 @@ ghost use Rattle.std.specs.Prelude.{◌≡◌};
 ghost use Rattle.imap_automaton.specs.NamesRules as rules;
 
 use crate::class::is_atom;
-use crate::sym::{Move, Names, Sym};
+use crate::sym::{Names, Sym};
+use pushdown::Move;
 
-fn first_rule(c: u16) -> Move
+fn first_rule(c: u16) -> Move<Sym>
     ensures { result ≡ rules.names_rule Names.First c }
 {
     if c == b')' as u16 {
@@ -19,7 +20,7 @@ fn first_rule(c: u16) -> Move
     }
 }
 
-fn more_rule(c: u16) -> Move
+fn more_rule(c: u16) -> Move<Sym>
     ensures { result ≡ rules.names_rule Names.More c }
 {
     if c == b' ' as u16 {
@@ -31,7 +32,7 @@ fn more_rule(c: u16) -> Move
     }
 }
 
-fn atom_rule(c: u16) -> Move
+fn atom_rule(c: u16) -> Move<Sym>
     ensures { result ≡ rules.names_rule Names.Atom c }
 {
     if is_atom(c) {
@@ -43,7 +44,7 @@ fn atom_rule(c: u16) -> Move
 
 /// Names in brackets: what an octet does.
 #[inline(never)]
-pub fn names_rule(names: &Names, c: u16) -> Move
+pub fn names_rule(names: &Names, c: u16) -> Move<Sym>
     ensures { result ≡ rules.names_rule names.now c }
 {
     match names {

@@ -1,19 +1,17 @@
 // Runs of octets that one symbol takes: those of a word, of a number, of an atom.
-ghost use Rattle.std.specs.Prelude.{◌≡◌, ◌+◌, ◌≤◌, ◌<◌, true, false, ◌&&◌, ◌∷◌, IsTrue, List, Some, length, take};
+ghost use Rattle.std.specs.Prelude.{◌≡◌, ◌+◌, ◌≤◌, ◌&&◌, IsTrue, length, take};
 ghost use Rattle.imap_automaton.specs.Keys as keywords;
 ghost use Rattle.imap_syntax.specs.Octets as classes;
 ghost use Rattle.imap_automaton.specs.Fits.{SymFits, ItemFits, LineFits};
-ghost use Rattle.imap_automaton.specs.Flow.{CanStep, Ready};
-ghost use Rattle.imap_automaton.specs.Run.{step, run, RunsTo};
-ghost use Rattle.imap_automaton.specs.Symbols.{symbols_of};
+ghost use Rattle.imap_automaton.specs.Responses.{responses};
+ghost use Rattle.pushdown.specs.Run.{RunsTo};
 
 use crate::class::{is_atom, lower};
 use crate::item_rule::{long_rule, number_rule};
 use crate::line_rule::sequence_rule;
-use crate::stack::Stack;
-use crate::step::rule;
-use crate::sym::{Item, Key, Line, Move, Names, Place, Sym};
+use crate::sym::{Item, Key, Line, Names, Place, Sym};
 use crate::word_rule::{goes_on_itself, in_word};
+use pushdown::Move;
 
 /// Whether a word that is the key's first octets up to `at` goes on with the key.
 fn takes(place: Place, key: Key, at: usize, c: u16) -> bool
@@ -28,7 +26,7 @@ fn word_run(place: Place, key: Key, at: u8, octets: &[u8]) -> usize
     requires { at ≤ length (keywords.key_text key) }
     ensures within { result ≤ length octets.now }
     ensures key { at + result ≤ length (keywords.key_text key) }
-    ensures run { RunsTo (Sym.Word place key at) (take result octets.now) (Sym.Word place key (at + result)) }
+    ensures run { RunsTo responses (Sym.Word place key at) (take result octets.now) (Sym.Word place key (at + result)) }
 {
     let mut count: usize = 0;
     while count < octets.len() && takes(place, key, at as usize + count, octets[count] as u16) {
@@ -41,7 +39,7 @@ fn word_run(place: Place, key: Key, at: u8, octets: &[u8]) -> usize
 fn number_run(value: u32, digits: u8, octets: &[u8]) -> (Item, usize)
     requires { IsTrue (ItemFits (Item.Number value digits)) }
     ensures within { result.1 ≤ length octets.now }
-    ensures run { RunsTo (Sym.Item (Item.Number value digits)) (take result.1 octets.now) (Sym.Item result.0) }
+    ensures run { RunsTo responses (Sym.Item (Item.Number value digits)) (take result.1 octets.now) (Sym.Item result.0) }
 {
     let mut so_far = value;
     let mut length = digits;
@@ -59,7 +57,7 @@ fn number_run(value: u32, digits: u8, octets: &[u8]) -> (Item, usize)
 fn long_run(value: u64, digits: u8, octets: &[u8]) -> (Item, usize)
     requires { IsTrue (ItemFits (Item.Long value digits)) }
     ensures within { result.1 ≤ length octets.now }
-    ensures run { RunsTo (Sym.Item (Item.Long value digits)) (take result.1 octets.now) (Sym.Item result.0) }
+    ensures run { RunsTo responses (Sym.Item (Item.Long value digits)) (take result.1 octets.now) (Sym.Item result.0) }
 {
     let mut so_far = value;
     let mut length = digits;
@@ -77,7 +75,7 @@ fn long_run(value: u64, digits: u8, octets: &[u8]) -> (Item, usize)
 fn sequence_run(value: u32, digits: u8, octets: &[u8]) -> (Line, usize)
     requires { IsTrue (LineFits (Line.Sequence value digits)) }
     ensures within { result.1 ≤ length octets.now }
-    ensures run { RunsTo (Sym.Line (Line.Sequence value digits)) (take result.1 octets.now) (Sym.Line result.0) }
+    ensures run { RunsTo responses (Sym.Line (Line.Sequence value digits)) (take result.1 octets.now) (Sym.Line result.0) }
 {
     let mut so_far = value;
     let mut length = digits;
@@ -95,7 +93,7 @@ fn sequence_run(value: u32, digits: u8, octets: &[u8]) -> (Line, usize)
 /// How many octets at the front go on with an atom.
 fn atom_run(octets: &[u8]) -> usize
     ensures within { result ≤ length octets.now }
-    ensures run { RunsTo (Sym.Names Names.AtomRest) (take result octets.now) (Sym.Names Names.AtomRest) }
+    ensures run { RunsTo responses (Sym.Names Names.AtomRest) (take result octets.now) (Sym.Names Names.AtomRest) }
 {
     for (i, c) in octets.iter().enumerate() {
         if !is_atom(*c as u16) {
@@ -107,10 +105,10 @@ fn atom_run(octets: &[u8]) -> usize
 
 /// A run of octets at the front that the symbol takes: what the symbol is then, and how many they are.
 #[tactic(auto, using(crate::proofs::RunLemmas::keys_short))]
-fn run_of(symbol: Sym, octets: &[u8]) -> (Sym, usize)
+pub fn run_of(symbol: Sym, octets: &[u8]) -> (Sym, usize)
     requires { IsTrue (SymFits symbol) }
     ensures within { result.1 ≤ length octets.now }
-    ensures run { RunsTo symbol (take result.1 octets.now) result.0 }
+    ensures run { RunsTo responses symbol (take result.1 octets.now) result.0 }
 {
     match symbol {
         Sym::Word(place, key, at) => {
@@ -132,68 +130,4 @@ fn run_of(symbol: Sym, octets: &[u8]) -> (Sym, usize)
         Sym::Names(Names::AtomRest) => (symbol, atom_run(octets)),
         _ => (symbol, 0),
     }
-}
-
-/// Takes a run of octets at the front that the first symbol takes by itself: how many they are.
-fn advance_run(stack: &mut Stack, octets: &[u8]) -> usize
-    requires { CanStep (symbols_of stack.old) }
-    ensures within { result ≤ length octets.now }
-    ensures run { run (Some (symbols_of stack.old)) (take result octets.now) ≡ Some (symbols_of stack.new) }
-    ensures number { length (symbols_of stack.new) ≡ length (symbols_of stack.old) }
-{
-    let Some(symbol) = stack.first() else {
-        return 0;
-    };
-    let (next, count) = run_of(symbol, octets);
-    if 0 < count {
-        stack.put(next);
-    }
-    count
-}
-
-/// Takes an octet where it turns the first symbol into one or two. Where it does something else, nothing is changed.
-fn advance_within(stack: &mut Stack, c: u16) -> bool
-    requires { Ready (symbols_of stack.old) }
-    ensures taken { result ≡ true → step (symbols_of stack.old) c ≡ Some (symbols_of stack.new) }
-    ensures left { result ≡ false → symbols_of stack.new ≡ symbols_of stack.old }
-    ensures some { 0 < length (symbols_of stack.old) → 0 < length (symbols_of stack.new) }
-{
-    let Some(symbol) = stack.first() else {
-        return false;
-    };
-    match rule(&symbol, c) {
-        Move::One(a) => {
-            stack.put(a);
-            true
-        }
-        Move::Two(a, b) => {
-            stack.put(b);
-            stack.push(a);
-            true
-        }
-        _ => false,
-    }
-}
-
-/// Takes octets at the front, all outside literals, up to one that ends a symbol or that no text has there: how many they
-/// are. What they leave is for `advance`.
-pub fn advance_through(stack: &mut Stack, octets: &[u8]) -> usize
-    requires { Ready (symbols_of stack.old) }
-    ensures within { result ≤ length octets.now }
-    ensures run { run (Some (symbols_of stack.old)) (take result octets.now) ≡ Some (symbols_of stack.new) }
-    ensures some { 0 < length (symbols_of stack.old) → 0 < length (symbols_of stack.new) }
-{
-    let mut count: usize = 0;
-    while count < octets.len() {
-        let (_, rest) = octets.split_at(count);
-        count += advance_run(stack, rest);
-        if octets.len() <= count {
-            return count;
-        }
-        if !advance_within(stack, octets[count] as u16) {
-            return count;
-        }
-        count += 1;
-    }
-    count
 }

@@ -5,7 +5,8 @@ ghost use Rattle.imap_automaton.specs.Fits.{SetFits};
 
 use crate::class::{CR, is_digit, is_word};
 use crate::item_rule::NUMBER_DIGITS;
-use crate::sym::{Line, Move, Phrase, Set, Sym, Words};
+use crate::sym::{Line, Phrase, Set, Sym, Words};
+use pushdown::Move;
 
 /// A number of a set, from its first digit on.
 const FIRST_NUMBER: Sym = Sym::Set(Set::Number(0, 0, false));
@@ -14,7 +15,7 @@ const FIRST_NUMBER: Sym = Sym::Set(Set::Number(0, 0, false));
 const SECOND_NUMBER: Sym = Sym::Set(Set::Number(0, 0, true));
 
 /// After a word.
-pub fn words_more(c: u16) -> Move
+pub fn words_more(c: u16) -> Move<Sym>
     ensures { result ≡ rules.words_more c }
 {
     if c == b' ' as u16 {
@@ -27,7 +28,7 @@ pub fn words_more(c: u16) -> Move
 }
 
 #[inline(never)]
-pub fn words_rule(words: &Words, c: u16) -> Move
+pub fn words_rule(words: &Words, c: u16) -> Move<Sym>
     ensures { result ≡ rules.words_rule words.now c }
 {
     match words {
@@ -50,7 +51,7 @@ pub fn words_rule(words: &Words, c: u16) -> Move
 }
 
 /// After a number.
-fn set_ends(second: bool, c: u16) -> Move
+fn set_ends(second: bool, c: u16) -> Move<Sym>
     ensures { result ≡ rules.set_ends second c }
 {
     if c == CR {
@@ -64,7 +65,7 @@ fn set_ends(second: bool, c: u16) -> Move
     }
 }
 
-fn set_number(value: u32, digits: u8, second: bool, c: u16) -> Move
+fn set_number(value: u32, digits: u8, second: bool, c: u16) -> Move<Sym>
     requires { IsTrue (SetFits (Set.Number value digits second)) }
     ensures { result ≡ rules.set_number value digits second c }
 {
@@ -86,7 +87,7 @@ fn set_number(value: u32, digits: u8, second: bool, c: u16) -> Move
 }
 
 #[inline(never)]
-pub fn set_rule(set: &Set, c: u16) -> Move
+pub fn set_rule(set: &Set, c: u16) -> Move<Sym>
     requires { IsTrue (SetFits set.now) }
     ensures { result ≡ rules.set_rule set.now c }
 {

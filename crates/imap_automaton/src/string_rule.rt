@@ -5,7 +5,8 @@ ghost use Rattle.imap_automaton.specs.Fits.{StrFits};
 
 use crate::class::{CR, is_atom, is_digit, is_text, lower};
 use crate::free_rule::{COUNT_DIGITS, LITERAL_LIMIT};
-use crate::sym::{Free, Line, Move, Names, Phrase, Str, Sym};
+use crate::sym::{Free, Line, Names, Phrase, Str, Sym};
+use pushdown::Move;
 
 /// A literal's count, from its first digit on.
 const COUNT_START: Sym = Sym::Str(Str::Count(0, 0));
@@ -27,7 +28,7 @@ pub fn flat_start(c: u16) -> Option<Sym>
     }
 }
 
-pub fn alone(first: Option<Sym>) -> Move
+pub fn alone(first: Option<Sym>) -> Move<Sym>
     ensures { result ≡ rules.alone first }
 {
     match first {
@@ -37,7 +38,7 @@ pub fn alone(first: Option<Sym>) -> Move
 }
 
 /// The symbol, and then another.
-pub fn before(later: Sym, first: Option<Sym>) -> Move
+pub fn before(later: Sym, first: Option<Sym>) -> Move<Sym>
     ensures { result ≡ rules.before later first }
 {
     match first {
@@ -46,7 +47,7 @@ pub fn before(later: Sym, first: Option<Sym>) -> Move
     }
 }
 
-fn nstring_rule(c: u16) -> Move
+fn nstring_rule(c: u16) -> Move<Sym>
     ensures { result ≡ rules.nstring_rule c }
 {
     if c == b'"' as u16 {
@@ -62,7 +63,7 @@ fn nstring_rule(c: u16) -> Move
     }
 }
 
-fn quoted_rule(c: u16) -> Move
+fn quoted_rule(c: u16) -> Move<Sym>
     ensures { result ≡ rules.string_rule Str.Quoted c }
 {
     if c == b'"' as u16 {
@@ -76,7 +77,7 @@ fn quoted_rule(c: u16) -> Move
     }
 }
 
-fn escaped_rule(c: u16) -> Move
+fn escaped_rule(c: u16) -> Move<Sym>
     ensures { result ≡ rules.string_rule Str.Escaped c }
 {
     if c == b'"' as u16 || c == b'\\' as u16 {
@@ -86,7 +87,7 @@ fn escaped_rule(c: u16) -> Move
     }
 }
 
-fn tilde_rule(c: u16) -> Move
+fn tilde_rule(c: u16) -> Move<Sym>
     ensures { result ≡ rules.string_rule Str.Tilde c }
 {
     if c == b'{' as u16 {
@@ -96,7 +97,7 @@ fn tilde_rule(c: u16) -> Move
     }
 }
 
-fn atom_tilde_rule(c: u16) -> Move
+fn atom_tilde_rule(c: u16) -> Move<Sym>
     ensures { result ≡ rules.string_rule Str.AtomTilde c }
 {
     if c == b'{' as u16 {
@@ -108,7 +109,7 @@ fn atom_tilde_rule(c: u16) -> Move
     }
 }
 
-fn count_rule(value: u32, digits: u8, c: u16) -> Move
+fn count_rule(value: u32, digits: u8, c: u16) -> Move<Sym>
     requires { IsTrue (StrFits (Str.Count value digits)) }
     ensures { result ≡ rules.count_rule value digits c }
 {
@@ -126,7 +127,7 @@ fn count_rule(value: u32, digits: u8, c: u16) -> Move
     }
 }
 
-fn brace_rule(n: u32, c: u16) -> Move
+fn brace_rule(n: u32, c: u16) -> Move<Sym>
     ensures { result ≡ rules.string_rule (Str.Brace n) c }
 {
     if c == CR {
@@ -138,7 +139,7 @@ fn brace_rule(n: u32, c: u16) -> Move
 
 /// Strings: what an octet does.
 #[inline(never)]
-pub fn string_rule(string: &Str, c: u16) -> Move
+pub fn string_rule(string: &Str, c: u16) -> Move<Sym>
     requires { IsTrue (StrFits string.now) }
     ensures { result ≡ rules.string_rule string.now c }
 {

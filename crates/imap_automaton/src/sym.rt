@@ -253,35 +253,12 @@ pub enum Sym {
     Folder(Folder),
 }
 
-/// What an octet does to the first symbol.
-#[derive(Clone, Copy)]
-pub enum Move {
-    /// No text goes on so.
-    Fail,
-    /// The symbol ends before the octet.
-    Yield,
-    /// The octet ends the symbol.
-    End,
-    One(Sym),
-    Two(Sym, Sym),
-}
-
-ghost use Rattle.std.specs.Prelude.{◌≡◌, [], ◌∷◌};
-ghost use Rattle.imap_automaton.specs.Run as runs;
-
-/// Whether the symbol is within a literal.
-pub fn is_octets(sym: Sym) -> bool
-    ensures { result ≡ runs.is_octets sym }
-{
-    match sym {
-        Sym::Free(free) => is_literal(free),
-        _ => false,
-    }
-}
+ghost use Rattle.std.specs.Prelude.{◌≡◌};
+ghost use Rattle.imap_automaton.specs.Flow as flow;
 
 /// How many octets of its literal a symbol still reads; 0 outside literals.
 pub fn octets_left(sym: Sym) -> u32
-    ensures { result ≡ runs.inside_left (sym ∷ []) }
+    ensures { result ≡ flow.sym_left sym }
 {
     match sym {
         Sym::Free(free) => literal_left(free),
@@ -290,7 +267,7 @@ pub fn octets_left(sym: Sym) -> u32
 }
 
 fn literal_left(free: Free) -> u32
-    ensures { result ≡ runs.inside_left (Sym.Free free ∷ []) }
+    ensures { result ≡ flow.sym_left (Sym.Free free) }
 {
     match free {
         Free::Octets(n) => n,
@@ -298,8 +275,21 @@ fn literal_left(free: Free) -> u32
     }
 }
 
-fn is_literal(free: Free) -> bool
-    ensures { result ≡ runs.is_octets (Sym.Free free) }
+/// The symbol within its literal, with as many octets still to be read.
+pub fn with_left(sym: Sym, n: u32) -> Sym
+    ensures { result ≡ flow.with_left sym n }
 {
-    matches!(free, Free::Octets(_))
+    match sym {
+        Sym::Free(free) => literal_with_left(free, n),
+        _ => sym,
+    }
+}
+
+fn literal_with_left(free: Free, n: u32) -> Sym
+    ensures { result ≡ flow.with_left (Sym.Free free) n }
+{
+    match free {
+        Free::Octets(_) => Sym::Free(Free::Octets(n)),
+        _ => Sym::Free(free),
+    }
 }

@@ -4,13 +4,14 @@ ghost use Rattle.imap_automaton.specs.ValueRules as rules;
 ghost use Rattle.imap_automaton.specs.Fits.{ValueFits};
 
 use crate::string_rule::{alone, before, flat_start};
-use crate::sym::{Move, Sym, Value};
+use crate::sym::{Sym, Value};
+use pushdown::Move;
 
 /// Brackets round the innermost one.
 const NESTING: u8 = 63;
 
 /// A value in a bracket.
-fn inner_rule(within: u8, c: u16) -> Move
+fn inner_rule(within: u8, c: u16) -> Move<Sym>
     requires { IsTrue (ValueFits (Value.Next within)) }
     ensures { result ≡ rules.inner_rule within c }
 {
@@ -24,7 +25,7 @@ fn inner_rule(within: u8, c: u16) -> Move
 }
 
 /// After the closing bracket.
-fn closes(within: u8) -> Move
+fn closes(within: u8) -> Move<Sym>
     ensures { result ≡ rules.closes within }
 {
     if within == 0 {
@@ -34,7 +35,7 @@ fn closes(within: u8) -> Move
     }
 }
 
-fn start_rule(c: u16) -> Move
+fn start_rule(c: u16) -> Move<Sym>
     ensures { result ≡ rules.value_rule Value.Start c }
 {
     if c == b'(' as u16 {
@@ -44,7 +45,7 @@ fn start_rule(c: u16) -> Move
     }
 }
 
-fn first_rule(within: u8, c: u16) -> Move
+fn first_rule(within: u8, c: u16) -> Move<Sym>
     requires { IsTrue (ValueFits (Value.First within)) }
     ensures { result ≡ rules.value_rule (Value.First within) c }
 {
@@ -55,7 +56,7 @@ fn first_rule(within: u8, c: u16) -> Move
     }
 }
 
-fn more_rule(within: u8, c: u16) -> Move
+fn more_rule(within: u8, c: u16) -> Move<Sym>
     ensures { result ≡ rules.value_rule (Value.More within) c }
 {
     if c == b' ' as u16 {
@@ -69,7 +70,7 @@ fn more_rule(within: u8, c: u16) -> Move
 
 /// Values of any form: what an octet does.
 #[inline(never)]
-pub fn value_rule(value: &Value, c: u16) -> Move
+pub fn value_rule(value: &Value, c: u16) -> Move<Sym>
     requires { IsTrue (ValueFits value.now) }
     ensures { result ≡ rules.value_rule value.now c }
 {

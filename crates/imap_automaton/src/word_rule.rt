@@ -10,8 +10,9 @@ use crate::free_rule::text_rule;
 use crate::item_name_rule::{item_name_rule, next_name};
 use crate::set_rule::words_more;
 use crate::sym::{
-    Date, Folder, Item, ItemName, Key, Line, Move, Names, Pending, Phrase, Place, Set, Str, Sym,
+    Date, Folder, Item, ItemName, Key, Line, Names, Pending, Phrase, Place, Set, Str, Sym,
 };
+use pushdown::Move;
 
 /// The word in lower case.
 fn key_text(key: Key) -> &'static [u8]
@@ -238,7 +239,7 @@ fn whole_key(place: Place, key: Key, at: u8) -> Option<Key>
     }
 }
 
-fn rest_rule(c: u16) -> Move
+fn rest_rule(c: u16) -> Move<Sym>
     ensures { result ≡ rules.rest_rule c }
 {
     if c == b' ' as u16 {
@@ -250,7 +251,7 @@ fn rest_rule(c: u16) -> Move
     }
 }
 
-fn spaced_rule(next: Sym, c: u16) -> Move
+fn spaced_rule(next: Sym, c: u16) -> Move<Sym>
     ensures { result ≡ rules.spaced_rule (Move.One next) c }
 {
     if c == b' ' as u16 {
@@ -261,7 +262,7 @@ fn spaced_rule(next: Sym, c: u16) -> Move
 }
 
 /// A space, and then two symbols.
-fn spaced_pair_rule(next: Sym, later: Sym, c: u16) -> Move
+fn spaced_pair_rule(next: Sym, later: Sym, c: u16) -> Move<Sym>
     ensures { result ≡ rules.spaced_rule (Move.Two next later) c }
 {
     if c == b' ' as u16 {
@@ -271,7 +272,7 @@ fn spaced_pair_rule(next: Sym, later: Sym, c: u16) -> Move
     }
 }
 
-fn end_rule(c: u16) -> Move
+fn end_rule(c: u16) -> Move<Sym>
     ensures { result ≡ rules.end_rule c }
 {
     if c == CR {
@@ -281,7 +282,7 @@ fn end_rule(c: u16) -> Move
     }
 }
 
-fn flags_rule(c: u16) -> Move
+fn flags_rule(c: u16) -> Move<Sym>
     ensures { result ≡ rules.behind_key Place.Plain Key.Flags c }
 {
     spaced_pair_rule(
@@ -291,20 +292,20 @@ fn flags_rule(c: u16) -> Move
     )
 }
 
-fn list_rule(c: u16) -> Move
+fn list_rule(c: u16) -> Move<Sym>
     ensures { result ≡ rules.behind_key Place.Plain Key.List c }
 {
     spaced_pair_rule(Sym::Names(Names::Open), Sym::Folder(Folder::Attributes), c)
 }
 
-fn status_rule(c: u16) -> Move
+fn status_rule(c: u16) -> Move<Sym>
     ensures { result ≡ rules.behind_key Place.Plain Key.Status c }
 {
     spaced_pair_rule(Sym::Str(Str::AString), Sym::Folder(Folder::Counts), c)
 }
 
 /// After a word that is a key.
-fn behind_key(place: Place, key: Key, c: u16) -> Move
+fn behind_key(place: Place, key: Key, c: u16) -> Move<Sym>
     ensures { result ≡ rules.behind_key place key c }
 {
     match (place, key) {
@@ -344,7 +345,7 @@ fn name_of(key: Key, at: u8) -> ItemName
 }
 
 /// At a word that is no key, after octets that are the first n of the key's.
-fn stray(place: Place, key: Key, at: u8, c: u16) -> Move
+fn stray(place: Place, key: Key, at: u8, c: u16) -> Move<Sym>
     requires { at ≤ length (keywords.key_text key) }
     ensures { result ≡ rules.stray place key at c }
 {
@@ -356,7 +357,7 @@ fn stray(place: Place, key: Key, at: u8, c: u16) -> Move
     }
 }
 
-fn word_goes(place: Place, key: Key, at: u8, c: u16, next: Option<Key>) -> Move
+fn word_goes(place: Place, key: Key, at: u8, c: u16, next: Option<Key>) -> Move<Sym>
     requires within { at ≤ length (keywords.key_text key) }
     requires most { at < 255 }
     ensures { result ≡ rules.word_goes place key at c next }
@@ -367,7 +368,7 @@ fn word_goes(place: Place, key: Key, at: u8, c: u16, next: Option<Key>) -> Move
     }
 }
 
-fn word_ends(place: Place, key: Key, at: u8, c: u16, whole: Option<Key>) -> Move
+fn word_ends(place: Place, key: Key, at: u8, c: u16, whole: Option<Key>) -> Move<Sym>
     requires { at ≤ length (keywords.key_text key) }
     ensures { result ≡ rules.word_ends place key at c whole }
 {
@@ -379,7 +380,7 @@ fn word_ends(place: Place, key: Key, at: u8, c: u16, whole: Option<Key>) -> Move
 
 /// Words by which a reader decides: what an octet does.
 #[inline(never)]
-pub fn word_rule(place: Place, key: Key, at: u8, c: u16) -> Move
+pub fn word_rule(place: Place, key: Key, at: u8, c: u16) -> Move<Sym>
     requires { IsTrue (nat_le at (length (keywords.key_text key))) }
     ensures { result ≡ rules.word_rule place key at c }
 {

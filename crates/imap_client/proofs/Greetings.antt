@@ -21,14 +21,18 @@ use Rattle.imap_client.specs.Connecting.{Greets, GreetsBy, greeting_says, planne
 
 -- no greeting came
 pub ungreeted : {es : List Event} (after : Octets) (up : Bool) (e : LinkEnd) → Reads 0 true up begun after (Err e) es → Greets after up (Err e) es
-ungreeted after up end.Lost r = record { talk = r.talk; gave = r.gave; ended = r.ended; said = r.said; greets = r.reads }
-ungreeted after up end.TooMuch r = record { talk = r.talk; gave = r.gave; ended = r.ended; said = r.said; greets = (r.reads.0, too_much r.gave r.reads.1) }
+ungreeted after up end.Lost r = record { talk = r.talk; gave = r.gave; ended = r.ended; first = record { said = r.said; needed = r.needed }; greets = (r.reads.0, room r.gave r.reads.1) }
+  where
+    room : (gave : List ℕ) → (IsOver 0 (0 + length gave) → ⊥) → IsTooMuch begun gave → ⊥
+    room gave none (inl over) = none (inl (omega (arith, over)))
+    room gave none (inr over) = none (inr over)
+ungreeted after up end.TooMuch r = record { talk = r.talk; gave = r.gave; ended = r.ended; first = record { said = r.said; needed = r.needed }; greets = (r.reads.0, too_much r.gave r.reads.1) }
   where
     too_much : (gave : List ℕ) → IsOver 0 (0 + length gave) → IsTooMuch begun gave
     too_much gave (inl over) = inl (omega (arith, over))
     too_much gave (inr over) = inr over
-ungreeted after up (end.Bad at) r = record { talk = r.talk; gave = r.gave; ended = r.ended; said = r.said; greets = (r.reads.0, r.reads.1, omega (arith, r.reads.2)) }
-ungreeted after up end.Memory r = record { talk = r.talk; gave = r.gave; ended = r.ended; said = r.said; greets = tt }
+ungreeted after up (end.Bad at) r = record { talk = r.talk; gave = r.gave; ended = r.ended; first = record { said = r.said; needed = r.needed }; greets = (r.reads.0, r.reads.1, omega (arith, r.reads.2)) }
+ungreeted after up end.Memory r = record { talk = r.talk; gave = r.gave; ended = r.ended; first = record { said = r.said; needed = r.needed }; greets = tt }
 ungreeted after up end.Stray r = absurd r.reads
 ungreeted after up end.Bye r = absurd r.reads
 ungreeted after up end.Refused r = absurd r.reads
@@ -44,9 +48,9 @@ only_bye _ e is = absurd (cc is)
 pub greeted : {es : List Event} (after : Octets) (up : Bool) (w : Response) (says : Result Bool LinkEnd) → greeting_says w ≡ says → Reads 0 true up begun after (Ok w) es
     → Greets after up says es
 greeted after up w (Ok preauth) is r =
-    record { talk = r.talk; gave = r.gave; ended = r.ended; said = r.said; greets = (w, is, (r.reads.0, after.octets, r.reads.1, r.reads.2, refl), omega (arith, r.reads.3)) }
+    record { talk = r.talk; gave = r.gave; ended = r.ended; first = record { said = r.said; needed = r.needed }; greets = (w, is, (r.reads.0, after.octets, r.reads.1, r.reads.2, refl), omega (arith, r.reads.3)) }
 greeted after up w (Err end.Bye) is r =
-    record { talk = r.talk; gave = r.gave; ended = r.ended; said = r.said; greets = (w, after.octets, is, (r.reads.0, after.octets, r.reads.1, r.reads.2, refl)) }
+    record { talk = r.talk; gave = r.gave; ended = r.ended; first = record { said = r.said; needed = r.needed }; greets = (w, after.octets, is, (r.reads.0, after.octets, r.reads.1, r.reads.2, refl)) }
 greeted after up w (Err end.Lost) is r = let never = only_bye w end.Lost is in absurd (cc never)
 greeted after up w (Err end.TooMuch) is r = let never = only_bye w end.TooMuch is in absurd (cc never)
 greeted after up w (Err (end.Bad at)) is r = let never = only_bye w (end.Bad at) is in absurd (cc never)
@@ -76,7 +80,7 @@ pub unwelcome : {xs : List Event} (ys : List Event) (user password : List ℕ) (
     → HangsUp up ys
     → (left : Option LinkLife) × Lives user password left client (Err e) (xs ++ ys)
 unwelcome {xs} ys user password after up e client g hangs =
-    (None, Unwelcome e g.talk g.gave (ended_by up xs ys g.talk g.ended hangs) g.said (unwelcome_alone g.gave after e g.greets) refl refl)
+    (None, Unwelcome e g.talk g.gave (ended_by up xs ys g.talk g.ended hangs) g.first (unwelcome_alone g.gave after e g.greets) refl refl)
 
 pub lived : {xs : List Event} (ys : List Event) (user password : List ℕ) (after : Octets) (up preauth : Bool) (at : Stage) (before client : ClientState)
     (result : Result (Unit {0}) LinkEnd) → before ≡ begun_with after → up ≡ true → at ≡ stage.Asking → Greets after up (Ok preauth) xs
@@ -86,7 +90,7 @@ pub lived : {xs : List Event} (ys : List Event) (user password : List ℕ) (afte
 lived {xs} ys user password after up preauth at before client result before_is up_is at_is g follows =
     let so = follows life (subst (λ (p : ClientState). Stands p life) (sym before_is) stands) in (
       Some so.0,
-      Welcome life so.0 preauth so.1 g.talk ys (ap (λ (l : List Event). l ++ ys) events_are) g.said
+      Welcome life so.0 preauth so.1 g.talk ys (ap (λ (l : List Event). l ++ ys) events_are) g.first
           (record { greeted = g.greets.2; unasked = refl; untaken = refl; whole = refl; alive = refl }) g.greets.1
           (subst (λ (s : Stage). Follows (planned_from preauth user password s) life so.0 so.1 client result ys) at_is so.2) refl,
     )

@@ -4,4 +4,5 @@ mod Connections
 mod Greetings
 mod RoundSteps
 mod Refutations
+mod Finishing
 mod Obedience

@@ -187,6 +187,7 @@ goes_not {xs} ys life command e folder n alive up before after is_alive stands s
             ended = ended_by up there.speaks.talk there.speaks.ended hangs;
             said = there.speaks.said;
             paced = there.speaks.paced;
+            needed = there.speaks.needed;
           };
           after_is = refl;
           cause = there.comes;

@@ -16,6 +16,7 @@ use Rattle.told_folder.specs.declared.exchange.Exchange.{Exchange}
 use Rattle.imap_exchange.specs.declared.link_end.LinkEnd.{LinkEnd}
 use Rattle.imap_exchange.specs.declared.link_end.LinkEnd.TheVariants as end
 use Rattle.imap_exchange.specs.Exchanges.{Done, Stray, Bye, BadAt, Open, VerdictOf}
+use Rattle.imap_exchange.specs.Received.{Octets}
 use Rattle.imap_exchange.specs.Answering.{Speaks, IsCause, end_unless, selected_by}
 use Rattle.imap_exchange.proofs.Verdicts.{one_verdict}
 use Rattle.imap_client.specs.declared.plan.Due.TheVariants as due
@@ -32,7 +33,7 @@ end_gives : (up : Bool) → flat_map store_gave_in (end_unless up) ≡ []
 end_gives true = refl
 end_gives false = refl
 
-spoken_gives : {pieces : List (List ℕ)} {held : List ℕ} {up : Bool} {events : List Event} (s : Speaks pieces held up events) → flat_map store_gave_in events ≡ s.gave
+spoken_gives : {pieces : List (List ℕ)} {before : Octets} {up : Bool} {events : List Event} (s : Speaks pieces before up events) → flat_map store_gave_in events ≡ s.gave
 spoken_gives {up = up} s =
     ap (λ (l : List Event). flat_map store_gave_in l) s.ended ∙ flat_map-append store_gave_in s.talk (end_unless up) ∙ (λ i. s.said.gave_is i ++ end_gives up i) ∙ append-nil s.gave
 
@@ -138,7 +139,7 @@ answered_cause life command gave took rest rs s k end.Lost v so = inl refl
 answered_cause life command gave took rest rs s k (end.Bad at) v (place, w, there) = absurd (done_not_bad _ _ _ _ _ (one_verdict _ _ _ _ _ v w))
 answered_cause life command gave took rest rs s k end.Stray v w = absurd (done_not_stray _ _ _ _ (one_verdict _ _ _ _ _ v w))
 answered_cause life command gave took rest rs s k end.Bye v w = absurd (done_not_bye _ _ _ _ (one_verdict _ _ _ _ _ v w))
-answered_cause life command gave took rest rs s k end.TooMuch v (w, over) = absurd (done_not_open _ _ _ _ (one_verdict _ _ _ _ _ v w))
+answered_cause life command gave took rest rs s k end.TooMuch v (w, over, sent) = absurd (done_not_open _ _ _ _ (one_verdict _ _ _ _ _ v w))
 answered_cause life command gave took rest rs s k end.Refused v never = absurd never
 answered_cause life command gave took rest rs s k end.NoQresync v never = absurd never
 answered_cause life command gave took rest rs s k end.Lacks v never = absurd never

@@ -14,7 +14,7 @@ use Rattle.imap_client.specs.LinkLife.{LinkLife, ClientState, Stands, next_numbe
 -- the life has ended, and the answer was no OK.
 pub record Completes (life : LinkLife) (command : Command) (x : Exchange) (after : LinkLife) (events : List Event) : Type 0 where
   pub on : life.goes_on ≡ true
-  pub speaks : Speaks (command_pieces command (next_number life)) life.rest after.goes_on events
+  pub speaks : Speaks (command_pieces command (next_number life)) (unread life) after.goes_on events
   pub rest : List ℕ
   pub after_is : after ≡ with_exchange life speaks.gave speaks.took x rest after.goes_on
   pub command_is : x.command ≡ command
@@ -28,7 +28,7 @@ pub record Completes (life : LinkLife) (command : Command) (x : Exchange) (after
 -- The life went on, the exchange isn't completed, and the life has ended.
 pub record Breaks (life : LinkLife) (command : Command) (e : LinkEnd) (after : LinkLife) (events : List Event) : Type 0 where
   pub on : life.goes_on ≡ true
-  pub speaks : Speaks (command_pieces command (next_number life)) life.rest false events
+  pub speaks : Speaks (command_pieces command (next_number life)) (unread life) false events
   pub after_is : after ≡ with_part life speaks.gave speaks.took
   pub cause : IsCause (tag_of (next_number life)) (command_pieces command (next_number life)) (unread life) speaks.gave speaks.took e
 

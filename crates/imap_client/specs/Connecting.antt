@@ -18,6 +18,8 @@ use Rattle.imap_exchange.specs.declared.link_end.LinkEnd.{LinkEnd}
 use Rattle.imap_exchange.specs.declared.link_end.LinkEnd.TheVariants as end
 use Rattle.imap_exchange.specs.Received.{Octets, begun}
 use Rattle.imap_exchange.specs.Begins.{Begins}
+use Rattle.imap_exchange.specs.Needed.{ReadsWhile}
+use Rattle.imap_exchange.specs.Responses.{AwaitsResponse}
 use Rattle.imap_exchange.specs.Answering.{IsTooMuch, end_unless}
 use Rattle.imap_client.specs.declared.plan.Due.{Due}
 use Rattle.imap_client.specs.declared.plan.Due.TheVariants as due
@@ -40,17 +42,22 @@ abbrev pub GreetsBy : List ℕ → Octets → Result Bool LinkEnd → Type 0
 GreetsBy gave after (Ok preauth) =
     (greeting : Response) × (greeting_says greeting ≡ Ok preauth) × Begins (greeting ∷ []) after.octets gave × (after.given ≡ length gave)
 GreetsBy gave after (Err end.Bye) = (greeting : Response) × (rest : List ℕ) × (greeting_says greeting ≡ Err end.Bye) × Begins (greeting ∷ []) rest gave
-GreetsBy gave after (Err end.Lost) = ScanOf gave scan.NeedMore
+GreetsBy gave after (Err end.Lost) = ScanOf gave scan.NeedMore × (IsTooMuch begun gave → ⊥)
 GreetsBy gave after (Err (end.Bad at)) = (place : ℕ) × ScanOf gave (scan.Bad place) × (at ≡ 0)
 GreetsBy gave after (Err end.TooMuch) = ScanOf gave scan.NeedMore × IsTooMuch begun gave
 GreetsBy gave after (Err end.Memory) = Unit {0}
 GreetsBy gave after (Err _) = ⊥
 
+-- the store gave these octets, and none once a greeting was whole or too much stood there
+pub record GivesFirst (gave : List ℕ) (events : List Event) : Type 0 where
+  pub said : Talk gave [] events
+  pub needed : ReadsWhile (AwaitsResponse 0 begun) events
+
 pub record Greets (after : Octets) (up : Bool) (result : Result Bool LinkEnd) (events : List Event) : Type 0 where
   pub talk : List Event
   pub gave : List ℕ
   pub ended : events ≡ talk ++ end_unless up
-  pub said : Talk gave [] talk
+  pub first : GivesFirst gave talk
   pub greets : GreetsBy gave after result
 
 -- a life of which the greeting alone came
@@ -117,10 +124,10 @@ connect_plan preauth user password = planned_from preauth user password stage.As
 -- error it has ended.
 pub data Lives (user password : List ℕ) (left : Option LinkLife) (client : ClientState) (result : Result (Unit {0}) LinkEnd)
     (events : List Event) : Type 0 where
-  Unwelcome : (e : LinkEnd) (talk : List Event) (gave : List ℕ) → events ≡ talk ++ LinkEnded ∷ [] → Talk gave [] talk → GreetsBy gave begun (Err e)
+  Unwelcome : (e : LinkEnd) (talk : List Event) (gave : List ℕ) → events ≡ talk ++ LinkEnded ∷ [] → GivesFirst gave talk → GreetsBy gave begun (Err e)
       → result ≡ Err e → left ≡ None
       → Lives user password left client result events
-  Welcome : (life after : LinkLife) (preauth : Bool) (exchanges : List Exchange) (talk last : List Event) → events ≡ talk ++ last → Talk life.gave [] talk
+  Welcome : (life after : LinkLife) (preauth : Bool) (exchanges : List Exchange) (talk last : List Event) → events ≡ talk ++ last → GivesFirst life.gave talk
       → IsNew life
       → greeting_says life.greeting ≡ Ok preauth → Follows (connect_plan preauth user password) life after exchanges client result last → left ≡ Some after
       → Lives user password left client result events

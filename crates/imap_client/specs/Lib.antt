@@ -5,4 +5,5 @@ pub mod Plans
 pub mod Obeying
 pub mod Connecting
 pub mod Rounds
+pub mod WholeRounds
 pub mod Bodies

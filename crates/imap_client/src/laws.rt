@@ -13,11 +13,20 @@ ghost use Rattle.imap_client.specs.Connecting.{GreetsBy, greeting_says};
 ghost use Rattle.imap_client.specs.LinkLife.{LinkLife, ClientState, next_number, selected};
 ghost use Rattle.imap_client.specs.Plans.{Planned, Follows};
 ghost use Rattle.imap_client.specs.Obeying.{Obeys};
+ghost use Rattle.imap_client.specs.Rounds.{Rounds};
+ghost use Rattle.imap_client.specs.WholeRounds.{IsFinishedRound};
+ghost use Rattle.told_mail.specs.Mail.{Mail};
 
 /// A BYE is no welcome.
 pub fn no_bye_is_welcome()
     ensures { (gave rest : List ℕ) (greeting : Response) (after : Octets) (preauth : Bool)
         → Begins (greeting ∷ []) rest gave → greeting_says greeting ≡ Err ends.Bye → GreetsBy gave after (Ok preauth) → ⊥ }
+{}
+
+/// A round that ended in Ok sent exactly the commands of a whole round, in order, and the mail is what these told.
+pub fn finished_rounds_are_whole()
+    ensures { (before after : Mail) (life left : LinkLife) (client : ClientState) (events : List Event) → Rounds before after life left client (Ok tt) events
+        → IsFinishedRound before after life left events }
 {}
 
 /// Octets that obey a plan whole let it end in nothing but Ok, a link that was lost, or want of memory.

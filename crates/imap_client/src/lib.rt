@@ -14,5 +14,5 @@ mod round;
 pub use client::Client;
 pub use following::follow;
 pub use imap_exchange::{LinkEnd, MAX_EXCHANGE_OCTETS, MAX_LIFE_OCTETS};
-pub use laws::{no_bye_is_welcome, obeyed_plans_end_ok};
+pub use laws::{finished_rounds_are_whole, no_bye_is_welcome, obeyed_plans_end_ok};
 pub use plan::{Due, Plan, Refusal};

@@ -22,12 +22,14 @@ use Rattle.imap_exchange.specs.declared.link_end.LinkEnd.TheVariants as end
 use Rattle.imap_exchange.specs.declared.exchange.Turn.TheVariants as turn
 use Rattle.imap_exchange.specs.Received.{Octets}
 use Rattle.imap_exchange.specs.Begins.{Begins}
+use Rattle.imap_exchange.specs.Needed.{ReadsWhile}
 use Rattle.imap_exchange.specs.Exchanges.{IsOpen, Passes, is_continue, continuations, pieces_due, AreAllDue, Done, Settles, IsVerdict, IsTaken}
 use Rattle.imap_exchange.specs.Answering.{end_unless}
-use Rattle.imap_exchange.specs.Answering.{Speaks, IsTooMuch, Converses}
-use Rattle.imap_exchange.specs.Responses.{IsOver, Ends, Reads}
+use Rattle.imap_exchange.specs.Answering.{Speaks, Awaits, AllDueTaken, IsTooMuch, Converses}
+use Rattle.imap_exchange.specs.Responses.{IsOver, HasRoom, AwaitsResponse, Ends, Reads}
 use Rattle.imap_exchange.specs.reading.Sending.{Offers, piece_at}
 use Rattle.imap_exchange.specs.reading.Turns.{SettlesNow, is_settled_by, Judges}
+use Rattle.imap_exchange.proofs.Needing.{reads_none, reads_append, reads_taking, reads_widen}
 use Rattle.imap_exchange.proofs.Responses.{Talk-none}
 use Rattle.imap_exchange.proofs.Verdicts.{Begins-length, Passes-more, Passes-push}
 use Rattle.imap_exchange.proofs.Pacing.{paced_none, paced_reading, paced_writing, joined_more, take_min}
@@ -76,7 +78,7 @@ ends_append false up xs talk ys more is (none, no_talk, down) =
 
 -- The responses up to here are open, and of the pieces up to this place all were taken, or the link is down.
 pub record Course (pieces : List (List ℕ)) (before after : Octets) (responses : List Response) (at : ℕ) (up : Bool) (events : List Event) : Type 0 where
-  pub speaks : Speaks pieces before.octets up events
+  pub speaks : Speaks pieces before up events
   pub passed : Passes responses after.octets (before.octets ++ speaks.gave)
   pub given : after.given ≡ before.given + length speaks.gave
   pub left : List ℕ
@@ -86,7 +88,7 @@ pub record Course (pieces : List (List ℕ)) (before after : Octets) (responses 
 
 -- the same, and then came one response more
 pub record Heard (pieces : List (List ℕ)) (before after : Octets) (responses : List Response) (next : Response) (at : ℕ) (up : Bool) (events : List Event) : Type 0 where
-  pub speaks : Speaks pieces before.octets up events
+  pub speaks : Speaks pieces before up events
   pub remaining : List ℕ
   pub passed : Passes responses remaining (before.octets ++ speaks.gave)
   pub begins : Begins (next ∷ []) after.octets remaining
@@ -111,6 +113,7 @@ first_piece {events} pieces before up o =
         said = o.said;
         paced = paced_writing o.took o.left o.talk Talk-none
             (paced_none pieces before.octets) o.said passed within;
+        needed = reads_taking (Awaits pieces before) o.said;
       };
       passed = record { all_open = All-nil IsOpen; spelled = append-nil before.octets };
       given = omega arith;
@@ -121,9 +124,10 @@ first_piece {events} pieces before up o =
     }
 
 -- what was spoken, and then octets came
-abbrev pub spoken_more : {xs : List Event} (ys : List Event) (pieces : List (List ℕ)) (held : List ℕ) (was up : Bool) (more : List Event) (g : List ℕ) → Speaks pieces held was xs
-    → Ends was up more ys → Talk g [] more → Speaks pieces held up (xs ++ ys)
-spoken_more {xs} ys pieces held was up more g s ends said =
+abbrev pub spoken_more : {xs : List Event} (ys : List Event) (pieces : List (List ℕ)) (before : Octets) (was up : Bool) (more : List Event) (g : List ℕ)
+    (s : Speaks pieces before was xs) → Ends was up more ys → Talk g [] more → ReadsWhile (λ x t. Awaits pieces before (s.gave ++ x) (s.took ++ t)) more
+    → Speaks pieces before up (xs ++ ys)
+spoken_more {xs} ys pieces before was up more g s ends said needed =
     record {
       talk = s.talk ++ more;
       gave = s.gave ++ g;
@@ -131,18 +135,72 @@ spoken_more {xs} ys pieces held was up more g s ends said =
       ended = ends_append was up xs s.talk ys more s.ended ends;
       said = subst (λ (t : List ℕ). Talk (s.gave ++ g) t (s.talk ++ more)) (append-nil s.took) (Talk-append s.said said);
       paced = paced_reading g more s.said s.paced said;
+      needed = reads_append (Awaits pieces before) more s.said s.needed needed;
     }
 
 passed_more : {responses : List Response} (before mid : Octets) (gave g : List ℕ) → Passes responses mid.octets (before.octets ++ gave) → Passes responses (mid.octets ++ g)
     (before.octets ++ (gave ++ g))
 passed_more {responses} before mid gave g passed = subst (λ (l : List ℕ). Passes responses (mid.octets ++ g) l) (append_assoc before.octets gave g) (Passes-more g passed)
 
+-- ---- what is awaited
+
+-- all that is due by the responses was taken, where nothing is left up to the place
+due_taken : (pieces : List (List ℕ)) (responses : List Response) (at : ℕ) (took left : List ℕ) → at ≡ min (continuations responses + 1) (length pieces)
+    → took ++ left ≡ joined_pieces (take at pieces) → left ≡ [] → AllDueTaken pieces responses took
+due_taken pieces responses at took left place taken none =
+    sym (append-nil took) ∙ ap (λ (l : List ℕ). took ++ l) (sym none) ∙ taken ∙ ap joined_pieces (sym (take_min pieces (continuations responses + 1) at place))
+
+-- something is lacking of the pieces
+lacking : (took left all : List ℕ) → 0 < length left → took ++ left ≡ all → took ≡ all → ⊥
+lacking took left all some parts same = omega (arith, some, ap length parts, ap length same, length-append took left)
+
+-- too much for the exchange that began so is too much to read on
+over_of : (begun : ℕ) (before mid : Octets) (gave x : List ℕ) → begun + length before.octets ≡ before.given → mid.given ≡ before.given + length gave
+    → IsTooMuch before (gave ++ x) → IsOver begun (mid.given + length x)
+over_of begun before mid gave x from given (inl over) = inl (omega (arith, over, from, given, length-append gave x, length-append before.octets (gave ++ x)))
+over_of begun before mid gave x from given (inr over) = inr (omega (arith, over, given, length-append gave x))
+
+too_much_of : (begun : ℕ) (before mid : Octets) (gave x : List ℕ) → begun + length before.octets ≡ before.given → mid.given ≡ before.given + length gave
+    → IsOver begun (mid.given + length x) → IsTooMuch before (gave ++ x)
+too_much_of begun before mid gave x from given (inl over) = inl (omega (arith, over, from, given, length-append gave x, length-append before.octets (gave ++ x)))
+too_much_of begun before mid gave x from given (inr over) = inr (omega (arith, over, given, length-append gave x))
+
+-- octets of a response are octets of the exchange, where the link is up; where it is down none come
+awaited : {xs ys talk : List Event} {pieces : List (List ℕ)} {before mid : Octets} {responses : List Response} {at : ℕ} {g : List ℕ} (begun : ℕ) (was up : Bool)
+    → begun + length before.octets ≡ before.given → at ≡ min (continuations responses + 1) (length pieces) → (c : Course pieces before mid responses at was xs)
+    → Ends was up talk ys → Talk g [] talk → ReadsWhile (AwaitsResponse begun mid) talk
+    → ReadsWhile (λ x t. Awaits pieces before (c.speaks.gave ++ x) (c.speaks.took ++ t)) talk
+awaited {pieces = pieces} {before} {mid} {responses} {at} begun true up from place c ends said needed =
+    reads_widen (AwaitsResponse begun mid) (λ x t. Awaits pieces before (c.speaks.gave ++ x) (c.speaks.took ++ t)) wider said needed
+  where
+    wider : (x : List ℕ) → AwaitsResponse begun mid x [] → Awaits pieces before (c.speaks.gave ++ x) (c.speaks.took ++ [])
+    wider x so =
+        record {
+          responses = responses;
+          remaining = mid.octets ++ x;
+          passed = passed_more before mid c.speaks.gave x c.passed;
+          more = so.more;
+          sent = append-nil c.speaks.took ∙ due_taken pieces responses at c.speaks.took c.left place c.taken (c.all_taken refl);
+          room = λ over. so.room (over_of begun before mid c.speaks.gave x from c.given over);
+        }
+awaited {pieces = pieces} {before} begun false up from place c ends said needed =
+    let P : List ℕ → List ℕ → Type 0 = λ x t. Awaits pieces before (c.speaks.gave ++ x) (c.speaks.took ++ t) in
+    subst (λ (l : List Event). ReadsWhile P l) (sym ends.1) (reads_none P)
+
+-- where no more came, too much stands there only if something that is due wasn't taken
+not_all_taken : (was : Bool) (pieces : List (List ℕ)) (responses : List Response) (at begun given : ℕ) (took left : List ℕ)
+    → at ≡ min (continuations responses + 1) (length pieces) → took ++ left ≡ joined_pieces (take at pieces) → (was ≡ false → 0 < length left) → HasRoom was begun given
+    → IsOver begun given → AllDueTaken pieces responses took → ⊥
+not_all_taken true pieces responses at begun given took left place taken some room over same = room over
+not_all_taken false pieces responses at begun given took left place taken some room over same =
+    lacking took left (joined_pieces (take at pieces)) (some refl) taken (same ∙ ap joined_pieces (take_min pieces (continuations responses + 1) at place))
+
 -- a response came
 pub heard : {xs ys : List Event} {pieces : List (List ℕ)} {before mid after : Octets} {responses : List Response} {at : ℕ} {was : Bool} (begun : ℕ) (up : Bool) (w : Response)
-    → up ≡ was → Course pieces before mid responses at was xs → Reads begun was up mid after (Ok w) ys → Heard pieces before after responses w at up (xs ++ ys)
-heard {xs} {ys} {pieces} {before} {mid} {after} {responses} {at} {was} begun up w same c r =
+    → begun + length before.octets ≡ before.given → at ≡ min (continuations responses + 1) (length pieces) → up ≡ was → Course pieces before mid responses at was xs → Reads begun was up mid after (Ok w) ys → Heard pieces before after responses w at up (xs ++ ys)
+heard {xs} {ys} {pieces} {before} {mid} {after} {responses} {at} {was} begun up w from place same c r =
     record {
-      speaks = spoken_more ys pieces before.octets was up r.talk r.gave c.speaks r.ended r.said;
+      speaks = spoken_more ys pieces before was up r.talk r.gave c.speaks r.ended r.said (awaited begun was up from place c r.ended r.said r.needed);
       remaining = mid.octets ++ r.gave;
       passed = passed_more before mid c.speaks.gave r.gave c.passed;
       begins = (r.reads.0, after.octets, r.reads.1, r.reads.2, refl);
@@ -154,34 +212,35 @@ heard {xs} {ys} {pieces} {before} {mid} {after} {responses} {at} {was} begun up 
     }
 
 -- want of memory
-pub wanting : {xs : List Event} {pieces : List (List ℕ)} {before : Octets} {up : Bool} (tag : List ℕ) (after : Octets) → Speaks pieces before.octets up xs
+pub wanting : {xs : List Event} {pieces : List (List ℕ)} {before : Octets} {up : Bool} (tag : List ℕ) (after : Octets) → Speaks pieces before up xs
     → Converses tag pieces before after up (Err end.Memory) xs
 wanting tag after s = record { speaks = s; comes = tt }
 
 -- no response came
 pub unheard : {xs ys : List Event} {pieces : List (List ℕ)} {before mid : Octets} {responses : List Response} {at : ℕ} {was : Bool} (tag : List ℕ) (begun : ℕ) (after : Octets)
-    (up : Bool) (e : LinkEnd) → begun + length before.octets ≡ before.given → Course pieces before mid responses at was xs → Reads begun was up mid after (Err e) ys
+    (up : Bool) (e : LinkEnd) → begun + length before.octets ≡ before.given → at ≡ min (continuations responses + 1) (length pieces) → Course pieces before mid responses at was xs → Reads begun was up mid after (Err e) ys
     → Converses tag pieces before after up (Err e) (xs ++ ys)
-unheard {xs} {ys} {pieces} {before} {mid} {responses} {at} {was} tag begun after up end.Lost from c r =
+unheard {xs} {ys} {pieces} {before} {mid} {responses} {at} {was} tag begun after up end.Lost from place c r =
     record {
-      speaks = spoken_more ys pieces before.octets was up r.talk r.gave c.speaks r.ended r.said;
-      comes = inl (record { responses = responses; remaining = mid.octets ++ r.gave; passed = passed_more before mid c.speaks.gave r.gave c.passed; decided = r.reads });
-    }
-unheard {xs} {ys} {pieces} {before} {mid} {responses} {at} {was} tag begun after up end.TooMuch from c r =
-    record {
-      speaks = spoken_more ys pieces before.octets was up r.talk r.gave c.speaks r.ended r.said;
-      comes = (
+      speaks = spoken_more ys pieces before was up r.talk r.gave c.speaks r.ended r.said (awaited begun was up from place c r.ended r.said r.needed);
+      comes = inl (
         record { responses = responses; remaining = mid.octets ++ r.gave; passed = passed_more before mid c.speaks.gave r.gave c.passed; decided = r.reads.0 },
-        too_much r.reads.1,
+        λ over. not_all_taken was pieces responses at begun (mid.given + length r.gave) c.speaks.took c.left place c.taken c.some_left r.reads.1
+            (over_of begun before mid c.speaks.gave r.gave from c.given over),
       );
     }
-  where
-    too_much : IsOver begun (mid.given + length r.gave) → IsTooMuch before (c.speaks.gave ++ r.gave)
-    too_much (inl over) = inl (omega (arith, over, from, c.given, length-append c.speaks.gave r.gave, length-append before.octets (c.speaks.gave ++ r.gave)))
-    too_much (inr over) = inr (omega (arith, over, c.given, length-append c.speaks.gave r.gave))
-unheard {xs} {ys} {pieces} {before} {mid} {responses} {at} {was} tag begun after up (end.Bad offset) from c r =
+unheard {xs} {ys} {pieces} {before} {mid} {responses} {at} {was} tag begun after up end.TooMuch from place c r =
     record {
-      speaks = spoken_more ys pieces before.octets was up r.talk r.gave c.speaks r.ended r.said;
+      speaks = spoken_more ys pieces before was up r.talk r.gave c.speaks r.ended r.said (awaited begun was up from place c r.ended r.said r.needed);
+      comes = (
+        record { responses = responses; remaining = mid.octets ++ r.gave; passed = passed_more before mid c.speaks.gave r.gave c.passed; decided = r.reads.0 },
+        too_much_of begun before mid c.speaks.gave r.gave from c.given r.reads.1,
+        due_taken pieces responses at c.speaks.took c.left place c.taken (c.all_taken r.reads.2),
+      );
+    }
+unheard {xs} {ys} {pieces} {before} {mid} {responses} {at} {was} tag begun after up (end.Bad offset) from place c r =
+    record {
+      speaks = spoken_more ys pieces before was up r.talk r.gave c.speaks r.ended r.said (awaited begun was up from place c r.ended r.said r.needed);
       comes = (
         length (before.octets ++ (c.speaks.gave ++ r.gave)) - length (mid.octets ++ r.gave),
         record {
@@ -196,13 +255,13 @@ unheard {xs} {ys} {pieces} {before} {mid} {responses} {at} {was} tag begun after
   where
     within : length (mid.octets ++ r.gave) ≤ length (before.octets ++ (c.speaks.gave ++ r.gave))
     within = let passed = passed_more before mid c.speaks.gave r.gave c.passed in Begins-length responses _ _ passed.spelled
-unheard {xs} {ys} {pieces} {before} {mid} {responses} {at} {was} tag begun after up end.Memory from c r =
-    wanting tag after (spoken_more ys pieces before.octets was up r.talk r.gave c.speaks r.ended r.said)
-unheard tag begun after up end.Stray from c r = absurd r.reads
-unheard tag begun after up end.Bye from c r = absurd r.reads
-unheard tag begun after up end.Refused from c r = absurd r.reads
-unheard tag begun after up end.NoQresync from c r = absurd r.reads
-unheard tag begun after up end.Lacks from c r = absurd r.reads
+unheard {xs} {ys} {pieces} {before} {mid} {responses} {at} {was} tag begun after up end.Memory from place c r =
+    wanting tag after (spoken_more ys pieces before was up r.talk r.gave c.speaks r.ended r.said (awaited begun was up from place c r.ended r.said r.needed))
+unheard tag begun after up end.Stray from place c r = absurd r.reads
+unheard tag begun after up end.Bye from place c r = absurd r.reads
+unheard tag begun after up end.Refused from place c r = absurd r.reads
+unheard tag begun after up end.NoQresync from place c r = absurd r.reads
+unheard tag begun after up end.Lacks from place c r = absurd r.reads
 
 -- one open response more
 pub opened : {r : Response} {es : List Event} {pieces : List (List ℕ)} {before after : Octets} {responses : List Response} {at : ℕ} {up : Bool} (w : Response) → r ≡ w → IsOpen w
@@ -273,6 +332,8 @@ continued {xs} {zs} {pieces} {before} {after} {responses} {at} {up} w place now 
         ended = ends_append up now xs h.speaks.talk zs o.talk h.speaks.ended o.ended;
         said = subst (λ (g : List ℕ). Talk g (h.speaks.took ++ o.took) (h.speaks.talk ++ o.talk)) (append-nil h.speaks.gave) (Talk-append h.speaks.said o.said);
         paced = paced_writing o.took (h.left ++ o.left) o.talk h.speaks.said h.speaks.paced o.said passed within;
+        needed = reads_append (Awaits pieces before) o.talk h.speaks.said h.speaks.needed
+            (reads_taking (λ x t. Awaits pieces before (h.speaks.gave ++ x) (h.speaks.took ++ t)) o.said);
       };
       passed = passed;
       given = h.given;
@@ -377,9 +438,6 @@ not_whole {pieces = pieces} {before} {after} {responses} {at} {up} tag w status.
             (h.taken ∙ whole) same,
       );
     }
-  where
-    lacking : (took left all : List ℕ) → 0 < length left → took ++ left ≡ all → took ≡ all → ⊥
-    lacking took left all some parts same = omega (arith, some, ap length parts, ap length same, length-append took left)
 not_whole tag w status.No code place is now settled h = absurd (cc settled)
 not_whole tag w status.Bad code place is now settled h = absurd (cc settled)
 not_whole tag w status.Preauth code place is now settled h = absurd (cc settled)
@@ -423,4 +481,15 @@ ends tag w end.Memory place never h = absurd never
 
 -- nothing was said
 pub silent : (tag : List ℕ) (pieces : List (List ℕ)) (before after : Octets) → Converses tag pieces before after true (Err end.Memory) []
-silent tag pieces before after = record { speaks = record { talk = []; gave = []; took = []; ended = refl; said = Talk-none; paced = paced_none pieces before.octets }; comes = tt }
+silent tag pieces before after = record {
+  speaks = record {
+    talk = [];
+    gave = [];
+    took = [];
+    ended = refl;
+    said = Talk-none;
+    paced = paced_none pieces before.octets;
+    needed = reads_none (Awaits pieces before);
+  };
+  comes = tt;
+}

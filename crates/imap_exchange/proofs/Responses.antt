@@ -1,5 +1,5 @@
 -- Reading one response.
-use Rattle.std.proofs.Common.{◌≡◌, ◌≤◌, ◌++◌, ◌+◌, ℕ, true, List, [], length, take, drop, refl, sym, ◌∙◌, ap, subst, append_assoc, length-append, arith, Ok, Err, rules}
+use Rattle.std.proofs.Common.{◌≡◌, ◌≤◌, ◌++◌, ◌+◌, ℕ, true, List, [], length, take, drop, refl, sym, ◌∙◌, ap, subst, append_assoc, length-append, arith, Ok, Err, rules, Bool, false, Result}
 use Rattle.std.proofs.Math.Seq.{take-append_seam}
 use Rattle.std.proofs.lemmas.List.{append-nil, take-append-drop}
 use Rattle.gate_world.specs.declared.event.Event.{Event}
@@ -12,24 +12,54 @@ use Rattle.imap_exchange.specs.declared.link_end.LinkEnd.TheVariants as end
 use Rattle.imap_grammar.specs.declared.answer.Scan.TheVariants.{NeedMore, Bad}
 use Rattle.imap_grammar.specs.Scan.{ScanOf}
 use Rattle.imap_exchange.specs.Received.{Octets}
-use Rattle.imap_exchange.specs.reading.Filling.{Gains, Fills, is_up_at}
-use Rattle.imap_exchange.specs.Responses.{IsOver, Reads}
+use Rattle.imap_exchange.specs.reading.Filling.{Grows, Gains, Fills, is_up_at}
+use Rattle.imap_exchange.specs.Needed.{ReadsWhile, NeedsMore}
+use Rattle.imap_exchange.specs.Responses.{IsOver, AwaitsResponse, ReadsOf, Reads}
+use Rattle.imap_exchange.proofs.Needing.{reads_none, reads_one, reads_append, reads_widen}
 
 -- no events
 pub Talk-none : Talk [] [] []
 Talk-none = record { kind = search rules; gave_is = refl; took_is = refl }
 
--- twice
-pub Gains-append : {a b c : Octets} {g h : List ℕ} {es fs : List Event} → Gains a b g es → Gains b c h fs → Gains a c (g ++ h) (es ++ fs)
-Gains-append {a} {b} {c} {g} {h} first second =
+-- what is awaited after some octets
+awaited_later : {begun : ℕ} {a b : Octets} {g : List ℕ} → Grows a b g → (x : List ℕ) → AwaitsResponse begun b x [] → AwaitsResponse begun a (g ++ x) []
+awaited_later {begun} {a} {b} {g} grows x so =
     record {
-      said = Talk-append first.said second.said;
-      octets = second.octets ∙ ap (λ (l : List ℕ). l ++ h) first.octets ∙ append_assoc a.octets g h;
-      given = omega (arith, first.given, second.given, length-append g h);
+      more = subst NeedsMore (ap (λ (l : List ℕ). l ++ x) grows.octets ∙ append_assoc a.octets g x) so.more;
+      room = λ over. so.room (subst (λ (n : ℕ). IsOver begun n) (omega (arith, grows.given, length-append g x)) over);
     }
 
+-- twice
+pub Gains-append : {begun : ℕ} {a b c : Octets} {g h : List ℕ} {es fs : List Event} → Gains begun a b g es → Gains begun b c h fs → Gains begun a c (g ++ h) (es ++ fs)
+Gains-append {begun} {a} {b} {c} {g} {h} {es} {fs} first second =
+    record {
+      said = Talk-append first.said second.said;
+      needed = reads_append (AwaitsResponse begun a) fs first.said first.needed
+          (reads_widen (AwaitsResponse begun b) (λ x t. AwaitsResponse begun a (g ++ x) ([] ++ t)) (awaited_later first.grows) second.said second.needed);
+      grows = record {
+        octets = second.grows.octets ∙ ap (λ (l : List ℕ). l ++ h) first.grows.octets ∙ append_assoc a.octets g h;
+        given = omega (arith, first.grows.given, second.grows.given, length-append g h);
+      };
+    }
+
+-- none yet
+pub Gains-none : (begun : ℕ) (a : Octets) → Gains begun a a [] []
+Gains-none begun a = record { said = Talk-none; needed = reads_none (AwaitsResponse begun a); grows = record { octets = sym (append-nil a.octets); given = omega arith } }
+
+-- once more
+pub gained : {es : List Event} (begun : ℕ) (now after : Octets) → NeedsMore now.octets → (fills : Fills begun now after (Ok tt) es) → Gains begun now after fills.0 es
+gained begun now after more (gave, is, grows, room) =
+    record {
+      said = subst (λ (l : List Event). Talk gave [] l) (sym is) (record { kind = search rules; gave_is = append-nil gave; took_is = refl });
+      needed = subst (λ (l : List Event). ReadsWhile (AwaitsResponse begun now) l) (sym is) (reads_one (AwaitsResponse begun now) gave here);
+      grows = grows;
+    }
+  where
+    here : AwaitsResponse begun now [] []
+    here = record { more = subst NeedsMore (sym (append-nil now.octets)) more; room = λ over. room (subst (λ (n : ℕ). IsOver begun n) (omega arith) over) }
+
 -- a whole response stands at the front
-pub read_whole : {events : List Event} {response : Response} (begun : ℕ) (before now after : Octets) (n : ℕ) → (gave : List ℕ) × Gains before now gave events → IsSpelling response
+pub read_whole : {events : List Event} {response : Response} (begun : ℕ) (before now after : Octets) (n : ℕ) → (gave : List ℕ) × Gains begun before now gave events → IsSpelling response
     (take n now.octets) → after.octets ≡ drop n now.octets → after.given ≡ now.given → Reads begun true true before after (Ok response) events
 read_whole {events} begun before now after n (gave, gains) spells rest given =
     record {
@@ -37,16 +67,17 @@ read_whole {events} begun before now after n (gave, gains) spells rest given =
       gave = gave;
       ended = sym (append-nil events);
       said = gains.said;
+      needed = gains.needed;
       reads = (
         take n now.octets,
         spells,
-        sym gains.octets ∙ sym (take-append-drop n now.octets) ∙ ap (λ (l : List ℕ). take n now.octets ++ l) (sym rest),
-        given ∙ gains.given,
+        sym gains.grows.octets ∙ sym (take-append-drop n now.octets) ∙ ap (λ (l : List ℕ). take n now.octets ++ l) (sym rest),
+        given ∙ gains.grows.given,
       );
     }
 
 -- octets stand there with which no response begins
-pub read_bad : {events : List Event} (begun : ℕ) (before now : Octets) (offset at : ℕ) → (gave : List ℕ) × Gains before now gave events → ScanOf now.octets (Bad at)
+pub read_bad : {events : List Event} (begun : ℕ) (before now : Octets) (offset at : ℕ) → (gave : List ℕ) × Gains begun before now gave events → ScanOf now.octets (Bad at)
     → offset + length now.octets ≡ now.given → Reads begun true true before now (Err (end.Bad offset)) events
 read_bad {events} begun before now offset at (gave, gains) so place =
     record {
@@ -54,33 +85,42 @@ read_bad {events} begun before now offset at (gave, gains) so place =
       gave = gave;
       ended = sym (append-nil events);
       said = gains.said;
+      needed = gains.needed;
       reads = (
         at,
-        subst (λ (l : List ℕ). ScanOf l (Bad at)) gains.octets so,
-        ap (λ (l : List ℕ). offset + length l) (sym gains.octets) ∙ place ∙ gains.given,
+        subst (λ (l : List ℕ). ScanOf l (Bad at)) gains.grows.octets so,
+        ap (λ (l : List ℕ). offset + length l) (sym gains.grows.octets) ∙ place ∙ gains.grows.given,
       );
     }
 
 -- want of memory
-pub read_wanting : {events : List Event} (begun : ℕ) (before now after : Octets) → (gave : List ℕ) × Gains before now gave events → Reads begun true true before after
+pub read_wanting : {events : List Event} (begun : ℕ) (before now after : Octets) → (gave : List ℕ) × Gains begun before now gave events → Reads begun true true before after
     (Err end.Memory) events
-read_wanting {events} begun before now after (gave, gains) = record { talk = events; gave = gave; ended = sym (append-nil events); said = gains.said; reads = tt }
+read_wanting {events} begun before now after (gave, gains) = record { talk = events; gave = gave; ended = sym (append-nil events); said = gains.said; needed = gains.needed; reads = tt }
 
 -- no further octets come, where no whole response stands at the front
-pub fill_failed : {xs : List Event} (ys : List Event) (begun : ℕ) (before now after : Octets) (e : LinkEnd) → ScanOf now.octets NeedMore → (gave : List ℕ)
-    × Gains before now gave xs → Fills begun now after (Err e) ys → Reads begun true (is_up_at e) before after (Err e) (xs ++ ys)
+pub fill_failed : {xs : List Event} (ys : List Event) (begun : ℕ) (before now after : Octets) (e : LinkEnd) → NeedsMore now.octets → (gave : List ℕ)
+    × Gains begun before now gave xs → Fills begun now after (Err e) ys → Reads begun true (is_up_at e) before after (Err e) (xs ++ ys)
 fill_failed {xs} ys begun before now after end.Lost more (gave, gains) fills =
-    record { talk = xs; gave = gave; ended = ap (λ (l : List Event). xs ++ l) fills.0; said = gains.said; reads = subst (λ (l : List ℕ). ScanOf l NeedMore) gains.octets more }
+    record {
+      talk = xs;
+      gave = gave;
+      ended = ap (λ (l : List Event). xs ++ l) fills.0;
+      said = gains.said;
+      needed = gains.needed;
+      reads = (subst NeedsMore gains.grows.octets more, λ over. fills.2 (subst (λ (n : ℕ). IsOver begun n) (sym gains.grows.given) over));
+    }
 fill_failed {xs} ys begun before now after end.TooMuch more (gave, gains) fills =
     record {
       talk = xs;
       gave = gave;
       ended = ap (λ (l : List Event). xs ++ l) fills.0;
       said = gains.said;
-      reads = (subst (λ (l : List ℕ). ScanOf l NeedMore) gains.octets more, subst (λ (n : ℕ). IsOver begun n) gains.given fills.2);
+      needed = gains.needed;
+      reads = (subst NeedsMore gains.grows.octets more, subst (λ (n : ℕ). IsOver begun n) gains.grows.given fills.2, refl);
     }
 fill_failed {xs} ys begun before now after end.Memory more (gave, gains) fills =
-    record { talk = xs ++ ys; gave = gave ++ fills.0; ended = sym (append-nil (xs ++ ys)); said = Talk-append gains.said fills.1; reads = tt }
+    record { talk = xs; gave = gave; ended = ap (λ (l : List Event). xs ++ l) fills.0; said = gains.said; needed = gains.needed; reads = tt }
 fill_failed ys begun before now after (end.Bad at) more so fills = absurd fills
 fill_failed ys begun before now after end.Stray more so fills = absurd fills
 fill_failed ys begun before now after end.Bye more so fills = absurd fills
@@ -95,6 +135,13 @@ kept_front old new slice is (gave, grew) = (
   omega
       (arith, ap length is, ap length grew, length-append old gave),
 )
+
+-- a response of what is held alone
+pub read_held : (begun : ℕ) (up : Bool) (before after : Octets) (result : Result Response LinkEnd) → up ≡ false → ReadsOf begun false before [] after result
+    → Reads begun up up before after result []
+read_held begun up before after result down reads =
+    subst (λ (b : Bool). Reads begun b b before after result []) (sym down)
+    (record { talk = []; gave = []; ended = (refl, refl, refl); said = Talk-none; needed = reads_none (AwaitsResponse begun before); reads = reads })
 
 -- what is held is read, where nothing is said
 pub held_bad : (before : Octets) (offset at : ℕ) → ScanOf before.octets (Bad at) → offset + length before.octets ≡ before.given → (place : ℕ) × ScanOf (before.octets ++ [])

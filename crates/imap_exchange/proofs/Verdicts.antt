@@ -55,7 +55,7 @@ abbrev pub NoneOpen : List ℕ → Type 0
 NoneOpen octets = (v : Response) (text more : List ℕ) → IsSpelling v text → octets ≡ text ++ more → IsOpen v → ⊥
 
 -- the open responses at the front, up to where none begins
-same_pass : (vs ws : List Response) (r s b : List ℕ) → All IsOpen vs → All IsOpen ws → Begins vs r b → Begins ws s b → NoneOpen r → NoneOpen s → (vs ≡ ws) × (r ≡ s)
+pub same_pass : (vs ws : List Response) (r s b : List ℕ) → All IsOpen vs → All IsOpen ws → Begins vs r b → Begins ws s b → NoneOpen r → NoneOpen s → (vs ≡ ws) × (r ≡ s)
 same_pass [] [] r s b open_v open_w is is' none none' = (refl, sym is ∙ is')
 same_pass [] (w ∷ ws) r s b open_v open_w is (text, more, spells, is', remaining) none none' =
     absurd (none w text more spells (sym is ∙ is') (All-head IsOpen w ws open_w))

@@ -16,7 +16,8 @@ use Rattle.imap_exchange.specs.declared.link_end.LinkEnd.TheVariants as end
 use Rattle.imap_exchange.specs.declared.link_end.TheConstants.{MAX_EXCHANGE_OCTETS, MAX_LIFE_OCTETS}
 use Rattle.imap_exchange.specs.declared.exchange.Answer.{Answer}
 use Rattle.imap_exchange.specs.Received.{Octets}
-use Rattle.imap_exchange.specs.Exchanges.{Done, Stray, Bye, BadAt, Open, IsVerdict, IsTaken, IsPaced, pieces_due}
+use Rattle.imap_exchange.specs.Needed.{ReadsWhile, NeedsMore}
+use Rattle.imap_exchange.specs.Exchanges.{Passes, Done, Stray, Bye, BadAt, Open, IsVerdict, IsTaken, IsPaced, pieces_due}
 
 -- ---- the link's end
 
@@ -32,31 +33,49 @@ HangsUp false events = events ≡ []
 
 -- ---- an exchange
 
--- The store gave and took octets, each piece after its continuation; the link ended after them, where it isn't up.
-pub record Speaks (pieces : List (List ℕ)) (held : List ℕ) (up : Bool) (events : List Event) : Type 0 where
+-- the store gave more than an exchange or a life may have
+abbrev pub IsTooMuch : Octets → List ℕ → Type 0
+IsTooMuch before gave = (MAX_EXCHANGE_OCTETS < length (before.octets ++ gave)) ⊎ (MAX_LIFE_OCTETS < before.given + length gave)
+
+-- all that is due by these responses was taken
+abbrev pub AllDueTaken : List (List ℕ) → List Response → List ℕ → Type 0
+AllDueTaken pieces responses took = took ≡ joined_pieces (pieces_due pieces responses)
+
+-- Further octets are awaited: those that came decide nothing, all that is due by them was taken, and they aren't too much.
+pub record Awaits (pieces : List (List ℕ)) (before : Octets) (gave took : List ℕ) : Type 0 where
+  pub responses : List Response
+  pub remaining : List ℕ
+  pub passed : Passes responses remaining (before.octets ++ gave)
+  pub more : NeedsMore remaining
+  pub sent : AllDueTaken pieces responses took
+  pub room : IsTooMuch before gave → ⊥
+
+-- The store gave and took octets, each piece after its continuation; octets were read only while further ones were awaited; the link
+-- ended after them, where it isn't up.
+pub record Speaks (pieces : List (List ℕ)) (before : Octets) (up : Bool) (events : List Event) : Type 0 where
   pub talk : List Event
   pub gave : List ℕ
   pub took : List ℕ
   pub ended : events ≡ talk ++ end_unless up
   pub said : Talk gave took talk
-  pub paced : IsPaced pieces held talk
-
--- the store gave more than an exchange or a life may have
-abbrev pub IsTooMuch : Octets → List ℕ → Type 0
-IsTooMuch before gave = (MAX_EXCHANGE_OCTETS < length (before.octets ++ gave)) ⊎ (MAX_LIFE_OCTETS < before.given + length gave)
+  pub paced : IsPaced pieces before.octets talk
+  pub needed : ReadsWhile (Awaits pieces before) talk
 
 -- Why an exchange isn't completed, by the octets held and given and those taken. Of want of memory nothing is said.
 abbrev pub IsCause : List ℕ → List (List ℕ) → Octets → List ℕ → List ℕ → LinkEnd → Type 0
--- no tagged line came, or an OK to a command that wasn't taken whole
+-- No tagged line came, where not too much stands there or the store didn't take all that was due; or an OK to a command that
+-- wasn't taken whole.
 IsCause tag pieces before gave took end.Lost =
-    IsVerdict tag pieces (before.octets ++ gave) Open
+    ((still : IsVerdict tag pieces (before.octets ++ gave) Open) × (IsTooMuch before gave → AllDueTaken pieces still.responses took → ⊥))
     ⊎ ((responses : List Response) × (code : Code) × (rest : List ℕ) × IsVerdict tag pieces (before.octets ++ gave) (Done responses status.Ok code rest)
     × (took ≢ joined_pieces pieces))
 IsCause tag pieces before gave took (end.Bad at) = (place : ℕ) × IsVerdict tag pieces (before.octets ++ gave) (BadAt place)
     × (at + length before.octets ≡ before.given + place)
 IsCause tag pieces before gave took end.Stray = IsVerdict tag pieces (before.octets ++ gave) Stray
 IsCause tag pieces before gave took end.Bye = IsVerdict tag pieces (before.octets ++ gave) Bye
-IsCause tag pieces before gave took end.TooMuch = IsVerdict tag pieces (before.octets ++ gave) Open × IsTooMuch before gave
+-- too much, of which nothing decides, where the store took all that was due
+IsCause tag pieces before gave took end.TooMuch =
+    (still : IsVerdict tag pieces (before.octets ++ gave) Open) × IsTooMuch before gave × AllDueTaken pieces still.responses took
 IsCause tag pieces before gave took end.Memory = Unit {0}
 IsCause tag pieces before gave took _ = ⊥
 
@@ -75,7 +94,7 @@ ComesTo tag pieces before gave took after up (Ok a) =
     × IsTaken pieces a.responses a.status took
     × (after.given ≡ before.given + length gave)
     × (up ≡ false → a.status ≢ status.Ok)
-    × (up ≡ true → took ≡ joined_pieces (pieces_due pieces a.responses))
+    × (up ≡ true → AllDueTaken pieces a.responses took)
 ComesTo tag pieces before gave took after up (Err e) = IsCause tag pieces before gave took e
 
 -- the answer of an exchange
@@ -92,5 +111,5 @@ pub record IsOf (command : Command) (before : Option (List ℕ)) (x : Exchange) 
 -- what an exchange adds
 pub record Converses (tag : List ℕ) (pieces : List (List ℕ)) (before after : Octets) (up : Bool) (result : Result Answer LinkEnd)
     (events : List Event) : Type 0 where
-  pub speaks : Speaks pieces before.octets up events
+  pub speaks : Speaks pieces before up events
   pub comes : ComesTo tag pieces before speaks.gave speaks.took after up result

@@ -1,5 +1,6 @@
 pub mod Begins
 pub mod Received
+pub mod Needed
 pub mod Exchanges
 pub mod Answering
 pub mod Responses

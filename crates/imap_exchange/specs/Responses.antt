@@ -10,32 +10,45 @@ use Rattle.imap_exchange.specs.declared.link_end.LinkEnd.{LinkEnd}
 use Rattle.imap_exchange.specs.declared.link_end.LinkEnd.TheVariants as end
 use Rattle.imap_exchange.specs.declared.link_end.TheConstants.{MAX_EXCHANGE_OCTETS, MAX_LIFE_OCTETS}
 use Rattle.imap_exchange.specs.Received.{Octets}
+use Rattle.imap_exchange.specs.Needed.{ReadsWhile, NeedsMore}
 use Rattle.imap_exchange.specs.Answering.{end_unless}
 
 -- too much stands there, of an exchange that began with so many octets given
 abbrev pub IsOver : ℕ → ℕ → Type 0
 IsOver begun given = (MAX_EXCHANGE_OCTETS + begun < given) ⊎ (MAX_LIFE_OCTETS < given)
 
--- what was read of these octets
-abbrev pub ReadsOf : ℕ → Octets → List ℕ → Octets → Result Response LinkEnd → Type 0
-ReadsOf begun before gave after (Ok response) =
+-- there is room for more, where the link was up
+abbrev pub HasRoom : Bool → ℕ → ℕ → Type 0
+HasRoom true begun given = IsOver begun given → ⊥
+HasRoom false begun given = Unit {0}
+
+-- Further octets of a response are awaited: none is whole yet, and there is room for more.
+pub record AwaitsResponse (begun : ℕ) (before : Octets) (gave took : List ℕ) : Type 0 where
+  pub more : NeedsMore (before.octets ++ gave)
+  pub room : IsOver begun (before.given + length gave) → ⊥
+
+-- what was read of these octets, over a link that was up or not
+abbrev pub ReadsOf : ℕ → Bool → Octets → List ℕ → Octets → Result Response LinkEnd → Type 0
+ReadsOf begun was before gave after (Ok response) =
     (text : List ℕ) × IsSpelling response text × (before.octets ++ gave ≡ text ++ after.octets) × (after.given ≡ before.given + length gave)
-ReadsOf begun before gave after (Err end.Lost) = ScanOf (before.octets ++ gave) scan.NeedMore
-ReadsOf begun before gave after (Err end.TooMuch) = ScanOf (before.octets ++ gave) scan.NeedMore × IsOver begun (before.given + length gave)
-ReadsOf begun before gave after (Err (end.Bad at)) =
+ReadsOf begun was before gave after (Err end.Lost) = ScanOf (before.octets ++ gave) scan.NeedMore × HasRoom was begun (before.given + length gave)
+ReadsOf begun was before gave after (Err end.TooMuch) = ScanOf (before.octets ++ gave) scan.NeedMore × IsOver begun (before.given + length gave) × (was ≡ true)
+ReadsOf begun was before gave after (Err (end.Bad at)) =
     (place : ℕ) × ScanOf (before.octets ++ gave) (scan.Bad place) × (at + length (before.octets ++ gave) ≡ before.given + length gave)
-ReadsOf begun before gave after (Err end.Memory) = Unit {0}
-ReadsOf begun before gave after (Err _) = ⊥
+ReadsOf begun was before gave after (Err end.Memory) = Unit {0}
+ReadsOf begun was before gave after (Err _) = ⊥
 
 -- how the link's end stands after a talk: nothing is said over a link that was down
 abbrev pub Ends : Bool → Bool → List Event → List Event → Type 0
 Ends true up talk events = events ≡ talk ++ end_unless up
 Ends false up talk events = (events ≡ []) × (talk ≡ []) × (up ≡ false)
 
--- The next response: of the link where it was up, else of what is held alone.
+-- The next response: of the link where it was up, else of what is held alone. Nothing is read once a response is whole or too much
+-- stands there.
 pub record Reads (begun : ℕ) (was up : Bool) (before after : Octets) (result : Result Response LinkEnd) (events : List Event) : Type 0 where
   pub talk : List Event
   pub gave : List ℕ
   pub ended : Ends was up talk events
   pub said : Talk gave [] talk
-  pub reads : ReadsOf begun before gave after result
+  pub needed : ReadsWhile (AwaitsResponse begun before) talk
+  pub reads : ReadsOf begun was before gave after result

@@ -1,5 +1,9 @@
 // What the definitions rule out.
-ghost use Rattle.std.specs.Prelude.{◌≡◌, ◌≢◌, ◌⊎◌, ◌++◌, List, ℕ};
+ghost use Rattle.std.specs.Prelude.{◌≡◌, ◌≢◌, ◌⊎◌, ◌++◌, List, ℕ, [], ◌∷◌, Bool, Result, Err};
+ghost use Rattle.std.specs.List.{flat_map};
+ghost use Rattle.gate_world.specs.declared.event.Event.{Event};
+ghost use Rattle.gate_world.specs.declared.event.Event.TheVariants.{StoreGave};
+ghost use Rattle.gate_world.specs.Octets.{store_gave_in, store_took_in};
 ghost use Rattle.imap_syntax.specs.Commands.{joined_pieces};
 ghost use Rattle.imap_syntax.specs.declared.code.Code.{Code};
 ghost use Rattle.imap_syntax.specs.declared.response.Response.{Response};
@@ -8,8 +12,10 @@ ghost use Rattle.imap_syntax.specs.declared.response.Status.TheVariants as statu
 ghost use Rattle.imap_exchange.specs.declared.link_end.LinkEnd.{LinkEnd};
 ghost use Rattle.imap_exchange.specs.declared.link_end.LinkEnd.TheVariants as ends;
 ghost use Rattle.imap_exchange.specs.Received.{Octets};
-ghost use Rattle.imap_exchange.specs.Exchanges.{Verdict, Done, IsVerdict, IsPart, pieces_due};
-ghost use Rattle.imap_exchange.specs.Answering.{IsCause};
+ghost use Rattle.imap_exchange.specs.declared.exchange.Answer.{Answer};
+ghost use Rattle.imap_exchange.specs.Needed.{ReadsWhile};
+ghost use Rattle.imap_exchange.specs.Exchanges.{Verdict, Done, Open, IsVerdict, IsPart, pieces_due};
+ghost use Rattle.imap_exchange.specs.Answering.{IsCause, Awaits, AllDueTaken, IsTooMuch, ComesTo};
 
 /// Octets have one verdict on an exchange, so each comes exactly where it is right.
 pub fn one_verdict()
@@ -20,6 +26,27 @@ pub fn one_verdict()
 /// line, and no literal before its continuation.
 pub fn each_piece_is_due()
     ensures { (tag : List ℕ) (pieces : List (List ℕ)) (octets took : List ℕ) (verdict : Verdict) (v : IsVerdict tag pieces octets verdict) → IsPart pieces octets took → (left : List ℕ) × (took ++ left ≡ joined_pieces (pieces_due pieces v.responses)) }
+{}
+
+/// Once the octets have a verdict, no more of them are read: neither after a tagged line nor after a BYE.
+pub fn nothing_is_read_once_decided()
+    ensures { (tag : List ℕ) (pieces : List (List ℕ)) (before : Octets) (so_far later : List Event) (verdict : Verdict) → ReadsWhile (Awaits pieces before) (so_far ++ later)
+        → IsVerdict tag pieces (before.octets ++ flat_map store_gave_in so_far) verdict → verdict ≢ Open → flat_map store_gave_in later ≡ [] }
+{}
+
+/// Where octets are read, nothing is decided, the store took all that was due by then, and it didn't give too much.
+pub fn all_due_is_taken_before_reading()
+    ensures { (tag : List ℕ) (pieces : List (List ℕ)) (before : Octets) (so_far later : List Event) (octet : ℕ) (octets : List ℕ)
+        → ReadsWhile (Awaits pieces before) (so_far ++ StoreGave (octet ∷ octets) ∷ later)
+        → (still : IsVerdict tag pieces (before.octets ++ flat_map store_gave_in so_far) Open)
+        × AllDueTaken pieces still.responses (flat_map store_took_in so_far) × (IsTooMuch before (flat_map store_gave_in so_far) → ⊥) }
+{}
+
+/// Too many octets, by which nothing is decided though all that was due was taken, end in nothing but this or want of memory.
+pub fn too_much_ends_so()
+    ensures { (tag : List ℕ) (pieces : List (List ℕ)) (before after : Octets) (gave took : List ℕ) (up : Bool) (result : Result Answer LinkEnd)
+        (still : IsVerdict tag pieces (before.octets ++ gave) Open) → IsTooMuch before gave → AllDueTaken pieces still.responses took
+        → ComesTo tag pieces before gave took after up result → (result ≡ Err ends.TooMuch) ⊎ (result ≡ Err ends.Memory) }
 {}
 
 /// Once the tagged line came, no other end is answered than want of memory: where it isn't OK, or the command was taken whole.

@@ -10,7 +10,10 @@ mod response;
 mod sending;
 
 pub use exchange::complete;
-pub use laws::{each_piece_is_due, no_end_after_an_answer, one_verdict, statuses_of_answers};
+pub use laws::{
+    all_due_is_taken_before_reading, each_piece_is_due, no_end_after_an_answer,
+    nothing_is_read_once_decided, one_verdict, statuses_of_answers, too_much_ends_so,
+};
 pub use link_end::{LinkEnd, MAX_EXCHANGE_OCTETS, MAX_LIFE_OCTETS};
 pub use received::Received;
 pub use response::next_response;

@@ -16,6 +16,7 @@ use std::marker::Model;
 fn is_over(begun: u64, given: u64) -> bool
     requires { begun ≤ given }
     ensures over { OnTrue result (IsOver begun given) }
+    ensures under { OnFalse result (IsOver begun given → ⊥) }
     ensures within { OnFalse result (given ≤ MAX_LIFE_OCTETS) }
 {
     MAX_EXCHANGE_OCTETS < given - begun || MAX_LIFE_OCTETS < given

@@ -78,7 +78,7 @@ fn read_response<L: Link>(
 
 // The next response of what is held, where no more can come.
 fn held_response(alloc: Global, received: &mut Received, begun: u64) -> Result<Response, LinkEnd>
-    ensures reads { ReadsOf begun received.old [] received.new result }
+    ensures reads { ReadsOf begun false received.old [] received.new result }
     ensures given { OnOk result (received.old.given ≤ received.new.given) }
     ensures progress { OnOk result (room_left received.new < room_left received.old) }
 {

@@ -5,7 +5,7 @@ use Rattle.std.specs.Prelude.{◌==◌, codes}
 use Rattle.std.proofs.lemmas.Bool.{cond-true, cond-false}
 use Rattle.std.proofs.lemmas.List.{length-append, map-append}
 use Rattle.imap_syntax.proofs.EachLemmas.{each_to, each_append}
-use Rattle.imap_automaton.proofs.Lists.{cons_head}
+use Rattle.pushdown.proofs.Lists.{cons_head}
 use Rattle.imap_automaton.proofs.StringEdges.{no_special}
 use Rattle.imap_grammar.specs.reading.Spans.{span, long_in, flags_in}
 use Rattle.imap_grammar.specs.reading.StringReading.{astring_in}

@@ -12,9 +12,9 @@ use Rattle.imap_automaton.specs.Keys.{key_text, keys}
 use Rattle.imap_automaton.specs.declared.sym.Key.{Key}
 use Rattle.imap_automaton.specs.declared.sym.Key.TheVariants as key
 use Rattle.imap_automaton.specs.declared.sym.Place.TheVariants as place
-use Rattle.imap_automaton.proofs.Langs.{Among}
+use Rattle.imap_automaton.specs.Langs.{Among}
 use Rattle.imap_automaton.proofs.KeyLemmas.{same_text}
-use Rattle.imap_automaton.proofs.Lists.{cons_head, cons_tail}
+use Rattle.pushdown.proofs.Lists.{cons_head, cons_tail}
 use Rattle.imap_automaton.proofs.ItemEdges.{stop_no_digit, item_to}
 use Rattle.imap_automaton.proofs.OtherItems.{named_atoms, other_word}
 use Rattle.imap_grammar.specs.reading.Spans.{span, number_in, long_in}

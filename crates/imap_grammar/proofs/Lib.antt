@@ -1,6 +1,4 @@
 pub mod Lengths
-pub mod Standing
-pub mod ScannerLemmas
 pub mod SpanLemmas
 pub mod FlagLemmas
 pub mod StringLemmas
@@ -17,5 +15,3 @@ pub mod Spellings
 pub mod Pieces
 pub mod DateLemmas
 pub mod CodeReadings
-pub mod Skipping
-pub mod RunLemmas

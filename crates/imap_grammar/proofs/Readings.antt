@@ -6,7 +6,7 @@ use Rattle.std.proofs.lemmas.Bool.{cond-true, cond-false, and_parts, and_from, l
 use Rattle.std.proofs.lemmas.List.{length-append}
 use Rattle.imap_automaton.proofs.KeyLemmas.{is_key_octet, same_text, text_same}
 use Rattle.imap_automaton.proofs.LineWords.{word_of_key, rest_out}
-use Rattle.imap_automaton.proofs.Lists.{cons_head, cons_tail}
+use Rattle.pushdown.proofs.Lists.{cons_head, cons_tail}
 use Rattle.imap_automaton.proofs.Tests.{both, digit_word}
 use Rattle.imap_grammar.specs.reading.Reading.{span, in_name, number_from, number_in, flags_in, words_in, vanished_in, items_in, status_named, word_in, all_digits, is_sequence}
 use Rattle.imap_grammar.specs.reading.Reading.{numbered_in, told_in, said_in, plain_in, untagged_in, tagged_in, response_in}

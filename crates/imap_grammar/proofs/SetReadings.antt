@@ -8,7 +8,7 @@ use Rattle.imap_syntax.proofs.EachLemmas.{each_to, each_append}
 use Rattle.imap_grammar.specs.reading.Reading.{span, number_in, words_in, range_in, ranges_in, vanished_in}
 use Rattle.imap_grammar.proofs.Cuts.{small, plain_small, plain_join, cut_at, number_is, digit_small, word_small}
 use Rattle.imap_grammar.proofs.Lengths.{less_one, plain_length, spaced_long}
-use Rattle.imap_automaton.proofs.Lists.{cons_head}
+use Rattle.pushdown.proofs.Lists.{cons_head}
 use Rattle.imap_syntax.specs.declared.response.Response.TheVariants as response
 use Rattle.imap_syntax.specs.declared.uid_set.UidRange.{UidRange}
 use Rattle.imap_syntax.specs.Octets.{is_digit, is_word, lower}

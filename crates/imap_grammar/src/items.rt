@@ -10,11 +10,11 @@ ghost use Rattle.imap_grammar.specs.reading.Passing as passing;
 use crate::date_times::date_in;
 use crate::flags::flags_in;
 use crate::octets::{before, behind, digits_len, is_key, long_of, lower, number_of, octet_at};
-use crate::scanner::{marked_by, skip_inside};
 use crate::strings::{atom_in, atom_len, literal_in, unquoted};
 use gate_world::{Bytes, Names};
-use imap_automaton::{Key, Place, Stack, Sym, advance};
+use imap_automaton::{Key, Place, Sym};
 use imap_syntax::FetchItems;
+use pushdown::{Stack, advance, marked_by, skip_inside};
 use std::alloc::{AllocError, Global};
 
 /// Octets of a date with its quotes.

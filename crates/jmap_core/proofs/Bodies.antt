@@ -1,5 +1,5 @@
 -- Bodies as JSON, and lists that aren't triples.
-use Rattle.std.proofs.Common.{◌≡◌, ℕ, List, [], ◌∷◌, length, Bool, true, false, if◌then◌else◌, Option, Some, None, Result, Ok, Err, refl, ap, ◌∙◌}
+use Rattle.std.proofs.Common.{◌≡◌, ℕ, List, [], ◌∷◌, length, Bool, true, false, if◌then◌else◌, Option, Some, None, Ok, Err, refl, ap, ◌∙◌}
 use Rattle.std.specs.Option.{ok_or}
 use Rattle.std.specs.Str.{IsUtf8, is_utf8}
 use Rattle.std.proofs.lemmas.Str.{IsUtf8-from_is_utf8, is_utf8-from_IsUtf8}
@@ -8,7 +8,6 @@ use Rattle.serde_json.specs.Read.{read}
 use Rattle.serde_json.specs.View.{items_view}
 use Rattle.serde_json.specs.declared.value.Value.{Value}
 use Rattle.jmap_core.specs.Request.{json_in, call_of_items}
-use Rattle.jmap_core.specs.declared.request.RequestError.{RequestError}
 use Rattle.jmap_core.specs.declared.request.RequestError.TheVariants.{NotJson}
 
 pub is_json : (body : List ℕ) (d : Data) → IsUtf8 body → read body ≡ Some d → ok_or (json_in body) NotJson ≡ Ok d

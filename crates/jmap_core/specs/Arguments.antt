@@ -1,5 +1,5 @@
 -- The arguments that methods share, each with the refusal of a wrong one (RFC 8620 sections 3.6.2 and 5.1).
-use Rattle.std.specs.Prelude.{ℕ, ◌^◌, ◌-◌, ◌∷◌, [], List, Bool, ◌&&◌, ℤ, pos, negsuc, nat_lt, if◌then◌else◌, bytes_eq, codes, Option, Some, None, option_map}
+use Rattle.std.specs.Prelude.{ℕ, ◌^◌, ◌-◌, List, ℤ, pos, negsuc, nat_lt, if◌then◌else◌, bytes_eq, codes, Option, Some, None, option_map}
 use Rattle.std.specs.Prelude.{option_and_then, Result, Ok, Err, ok_or}
 use Rattle.serde_json.specs.Data.{Num, unsigned, negative, float, Data, null, boolean, number, string, array, object}
 use Rattle.serde_json.specs.Find.{get, as_str}

@@ -1,5 +1,5 @@
 -- Arguments in which references to earlier responses stand for values (RFC 8620 section 3.7).
-use Rattle.std.specs.Prelude.{ℕ, List, [], ◌∷◌, map, Bool, true, false, ◌==◌, ◌&&◌, if◌then◌else◌, bytes_eq, codes, is_some, is_none, Option, Some, None}
+use Rattle.std.specs.Prelude.{ℕ, List, [], ◌∷◌, map, Bool, true, ◌==◌, ◌&&◌, if◌then◌else◌, bytes_eq, codes, is_some, is_none, Option, Some, None}
 use Rattle.std.specs.Prelude.{option_map, option_and_then, Result, Ok, Err}
 use Rattle.std.specs.List.{find, slice_split}
 use Rattle.serde_json.specs.Data.{Data, null, boolean, number, string, array, object, Items, no_items, item, Members, no_members, member, put}

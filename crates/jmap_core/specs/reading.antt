@@ -2,3 +2,4 @@
 pub mod Forms
 pub mod Pairs
 pub mod Referring
+pub mod PlainDigits

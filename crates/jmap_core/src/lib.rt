@@ -31,4 +31,4 @@ pub use request::{LimitName, Request, RequestError, Using};
 pub use request_body::{MAX_CALLS_IN_REQUEST, read_request};
 pub use response::{response_text, response_value};
 pub use session::{session_object, session_state};
-pub use state::{State, state_text};
+pub use state::{State, read_state, state_text};

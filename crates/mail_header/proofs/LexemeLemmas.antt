@@ -1,20 +1,18 @@
 -- The lexemes at the front of a text, read one after another.
-use Rattle.std.proofs.Common.{◌≡◌, ◌≢◌, ℕ, zero, suc, ◌<◌, ◌≤◌, Bool, true, false, not, List, [], ◌∷◌, ◌++◌, length, drop, cond, refl, sym, ap, ◌∙◌, subst, Option, Some, None}
+use Rattle.std.proofs.Common.{◌≡◌, ◌≢◌, ℕ, zero, suc, ◌<◌, ◌≤◌, true, false, List, [], ◌∷◌, length, drop, refl, sym, ap, ◌∙◌, subst, Option, Some, None}
 use Rattle.std.proofs.Common.{arith}
 use Rattle.std.specs.List.{filter}
-use Rattle.std.specs.Option.{MatchOption, IfSome}
+use Rattle.std.specs.Option.{MatchOption}
 use Rattle.std.proofs.lemmas.Bool.{cond-true, cond-false}
 use Rattle.std.proofs.lemmas.List.{length-drop, drop_at, nil_from_length}
-use Rattle.text_words.proofs.SequenceLemmas.{Within, unit_within, same_pair}
+use Rattle.text_words.proofs.SequenceLemmas.{Within, unit_within}
 use Rattle.mail_header.specs.declared.token.Alphabet.{Alphabet}
 use Rattle.mail_header.specs.Tokens.{Spelled, AreTokens, AreLeading}
 use Rattle.mail_header.specs.reading.TokenReading.{spelled_in, IsFirstToken}
-use Rattle.mail_header.specs.Lexemes.{is_lexeme, AreLexemes, AreLeadingLexemes}
-use Rattle.mail_header.specs.reading.LexemeReading.{tokens_then, tokens_within, rest_then, rest_within, tokens_in, rest_in, lexemes_in, texts_of, IsBehindGaps, IsNextLexeme}
-use Rattle.mail_header.specs.reading.LexemeReading.{BeginsNoGap}
-use Rattle.mail_header.specs.Names.{lexeme_text, spelling}
+use Rattle.mail_header.specs.Lexemes.{is_lexeme, AreLexemes, AreLeadingLexemes, IsNextLexeme}
+use Rattle.mail_header.specs.reading.LexemeReading.{tokens_then, tokens_within, rest_then, rest_within, tokens_in, rest_in, lexemes_in, ReadsLexeme}
 use Rattle.mail_header.proofs.OneToken.{token_reader}
-use Rattle.mail_header.proofs.LeadingLemmas.{none_begins, all_read, not_all}
+use Rattle.mail_header.proofs.LeadingLemmas.{none_begins, all_read, not_all, one_leading_lexemes}
 
 -- a token that was read is some of the text
 pub read_within : (a : Alphabet) (v : Spelled) (n : ℕ) (t : List ℕ) → spelled_in a t ≡ Some (v, n) → Within n (length t)
@@ -151,55 +149,34 @@ pub none_left : (a : Alphabet) (t : List ℕ) → spelled_in a t ≡ None → le
 unfolding lexemes_in
 none_left a t e = ap (filter is_lexeme) (tokens_none a t e)
 
-pub begins_lexeme : (a : Alphabet) (v : Spelled) (n : ℕ) (t : List ℕ) → spelled_in a t ≡ Some (v, n) → is_lexeme v ≡ true → BeginsNoGap a t
-begins_lexeme a v n t e g = λ w m f. let p = same_pair w v m n (sym f ∙ e) in ap is_lexeme p.value ∙ g
-
-pub begins_nothing : (a : Alphabet) (t : List ℕ) → spelled_in a t ≡ None → BeginsNoGap a t
-begins_nothing a t e = λ w m f. absurd cc
-
--- the token at the front of what stands after the gaps is the next lexeme
-pub next_read : (a : Alphabet) (v : Spelled) (more s t : List ℕ) → IsBehindGaps a s t → IsFirstToken a v more s → IsNextLexeme a v more t
-next_read a v more s t b f = record {
-  lexemes = sym b.lexemes ∙ lexeme_read a v f.len s f.read (b.begins v f.len f.read) ∙ ap (λ (u : List ℕ). v ∷ lexemes_in a u) (sym f.rest_is);
-  rest = sym b.rest ∙ rest_step a v f.len s f.read ∙ ap (rest_in a) (sym f.rest_is);
-  some = λ e. let u = (token_reader a).sound v f.len s f.read in (token_reader a).some v u.unit u.rest u.is (sym u.is.text_is ∙ e);
+-- the token that was read after gaps is the next lexeme
+pub next_read : (a : Alphabet) (v : Spelled) (more rest t : List ℕ) → lexemes_in a rest ≡ lexemes_in a t → IsFirstToken a v more rest → is_lexeme v ≡ true → ReadsLexeme a v more t
+next_read a v more rest t g f l = record {
+  lexemes = sym g ∙ lexeme_read a v f.len rest f.read l ∙ ap (λ (u : List ℕ). v ∷ lexemes_in a u) (sym f.rest_is);
+  some = λ e. let u = (token_reader a).sound v f.len rest f.read in (token_reader a).some v u.unit u.rest u.is (sym u.is.text_is ∙ e);
 }
 
-pub nothing_read : (a : Alphabet) (s t : List ℕ) → IsBehindGaps a s t → spelled_in a s ≡ None → lexemes_in a t ≡ []
-nothing_read a s t b e = sym b.lexemes ∙ none_left a s e
+-- what was read is the next lexeme
+pub next_is : (a : Alphabet) (v : Spelled) (more t : List ℕ) → ReadsLexeme a v more t → IsNextLexeme a v more t
+next_is a v more t r = record {
+  lexemes = λ ls h.
+      let P : List Spelled → Type 0 = λ u. AreLeadingLexemes a u t in
+      subst P (r.lexemes ∙ ap (λ (u : List Spelled). v ∷ u) (one_leading_lexemes a (lexemes_in a more) ls more (lexemes_are a more) h)) (lexemes_are a t);
+  some = r.some;
+}
 
--- where no lexeme is left after the gaps, no token begins there
-pub nothing_begins : (a : Alphabet) (t : List ℕ) → BeginsNoGap a t → lexemes_in a t ≡ [] → spelled_in a t ≡ None
-nothing_begins a t b e = by (spelled_in a t) refl
-  where
-    by : (o : Option (Spelled × ℕ)) → spelled_in a t ≡ o → spelled_in a t ≡ None
-    by None f = f
-    by (Some p) f = let l = lexeme_read a p.0 p.1 t f (b p.0 p.1 f) in absurd cc
+pub none_is : (a : Alphabet) (t : List ℕ) → lexemes_in a t ≡ [] → AreLeadingLexemes a [] t
+none_is a t e = let P : List Spelled → Type 0 = λ u. AreLeadingLexemes a u t in subst P e (lexemes_are a t)
 
--- then what follows the tokens stands there
-pub rest_found : (a : Alphabet) (s t : List ℕ) → IsBehindGaps a s t → lexemes_in a t ≡ [] → s ≡ rest_in a t
-rest_found a s t b e = sym (rest_none a s (nothing_begins a s b.begins (b.lexemes ∙ e))) ∙ b.rest
+-- as a function on lists
+pub next_in : (a : Alphabet) (v : Spelled) (more t : List ℕ) → IsNextLexeme a v more t → lexemes_in a t ≡ v ∷ lexemes_in a more
+next_in a v more t n = one_leading_lexemes a (lexemes_in a t) (v ∷ lexemes_in a more) t (lexemes_are a t) (n.lexemes (lexemes_in a more) (lexemes_are a more))
 
--- the lexemes' texts are the spelling of the tokens
-pub texts_spelling : (ts : List Spelled) → texts_of (filter is_lexeme ts) ≡ spelling ts
-texts_spelling [] = refl
-texts_spelling (s ∷ ts) = by (is_lexeme s) refl (texts_spelling ts)
-  where
-    by : (q : Bool) → is_lexeme s ≡ q → texts_of (filter is_lexeme ts) ≡ spelling ts
-        → texts_of (cond q (s ∷ filter is_lexeme ts) (filter is_lexeme ts)) ≡ lexeme_text s ++ spelling ts
-    by true e h = ap (λ (u : List ℕ). s.text ++ u) h ∙ ap (λ (u : List ℕ). u ++ spelling ts) (sym (cond-false (not (is_lexeme s)) [] s.text (ap not e)))
-    by false e h = h ∙ ap (λ (u : List ℕ). u ++ spelling ts) (sym (cond-true (not (is_lexeme s)) [] s.text (ap not e)))
-
-pub texts_are : (a : Alphabet) (t : List ℕ) → texts_of (lexemes_in a t) ≡ spelling (tokens_in a t)
-unfolding lexemes_in
-texts_are a t = texts_spelling (tokens_in a t)
+pub none_in : (a : Alphabet) (t : List ℕ) → AreLeadingLexemes a [] t → lexemes_in a t ≡ []
+none_in a t h = one_leading_lexemes a (lexemes_in a t) [] t (lexemes_are a t) h
 
 -- ---- what is said of a result is widened
 
 pub match_map : {X P P' : Type 0} {Q Q' : X → Type 0} (o : Option X) → (P → P') → ((x : X) → Q x → Q' x) → MatchOption o P Q → MatchOption o P' Q'
 match_map None f g h = f h
 match_map (Some x) f g h = g x h
-
-pub some_map : {X : Type 0} {Q Q' : X → Type 0} (o : Option X) → ((x : X) → Q x → Q' x) → IfSome o Q → IfSome o Q'
-some_map None g h = tt
-some_map (Some x) g h = g x h

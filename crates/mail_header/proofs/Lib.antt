@@ -3,6 +3,7 @@ pub mod FieldLemmas
 pub mod BracketLemmas
 pub mod BracketSteps
 pub mod BracketContents
+pub mod BracketReading
 pub mod OneToken
 pub mod LeadingLemmas
 pub mod ClassLemmas

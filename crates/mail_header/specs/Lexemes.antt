@@ -1,5 +1,5 @@
 -- Lexemes: the tokens of a value without white space and comments.
-use Rattle.std.specs.Prelude.{◌≡◌, Bool, true, false, List, ℕ}
+use Rattle.std.specs.Prelude.{◌≡◌, ◌≢◌, Bool, true, false, List, [], ◌∷◌, ℕ}
 use Rattle.std.specs.List.{filter}
 use Rattle.mail_header.specs.declared.token.Alphabet.{Alphabet}
 use Rattle.mail_header.specs.declared.token.Kind.{Kind}
@@ -26,3 +26,8 @@ pub record AreLeadingLexemes (a : Alphabet) (lexemes : List Spelled) (t : List �
   pub rest : List ℕ
   pub are : AreLeading a tokens rest t
   pub lexemes_are : lexemes ≡ filter is_lexeme tokens
+
+-- the lexemes of a text are v, which has an octet, and those of what follows it
+pub record IsNextLexeme (a : Alphabet) (v : Spelled) (more t : List ℕ) : Type 0 where
+  pub lexemes : (ls : List Spelled) → AreLeadingLexemes a ls more → AreLeadingLexemes a (v ∷ ls) t
+  pub some : v.text ≢ []

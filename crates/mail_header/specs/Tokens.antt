@@ -37,12 +37,20 @@ pub record IsBracketed (first inner closer : ℕ) (t : List ℕ) : Type 0 where
 abbrev pub none : ℕ
 none = 256
 
+-- with its quotes
+abbrev pub IsQuoted : List ℕ → Type 0
+IsQuoted t = IsBracketed 34 none 34 t
+
+-- with its parentheses
+abbrev pub IsComment : List ℕ → Type 0
+IsComment t = IsBracketed 40 40 41 t
+
 abbrev pub IsKind : Alphabet → Kind → List ℕ → Type 0
 IsKind a kind.Atom t = IsRun (is_letter a) t
 IsKind a kind.Space t = IsRun is_white t
-IsKind a kind.Quoted t = IsBracketed 34 none 34 t
+IsKind a kind.Quoted t = IsQuoted t
 IsKind a kind.Literal t = IsBracketed 91 none 93 t
-IsKind a kind.Comment t = IsBracketed 40 40 41 t
+IsKind a kind.Comment t = IsComment t
 IsKind a kind.Mark t = (c : ℕ) × (t ≡ c ∷ []) × (is_mark a c ≡ true)
 
 -- atoms and spaces are as long as they can be

@@ -6,7 +6,7 @@ ghost use Rattle.mail_header.specs.reading.DateReading as reading;
 ghost use Rattle.mail_header.specs.reading.LexemeReading.{lexemes_in};
 
 use crate::date::{Clock, Day};
-use crate::lexemes::next_lexeme;
+use crate::lexemes::lexeme_at;
 use crate::pieces::{Place, digits, letters, octet};
 use crate::token::Alphabet;
 use crate::token_class::{has_mark, is_atom};
@@ -38,8 +38,8 @@ pub(crate) fn behind_day_name(text: &[u8]) -> &[u8]
 fn day_name(text: &[u8]) -> Option<&[u8]>
     ensures { MatchOption result (reading.behind_day_name (lexemes_in Alphabet.Mail text.now) ≡ lexemes_in Alphabet.Mail text.now) (λ r. reading.behind_day_name (lexemes_in Alphabet.Mail text.now) ≡ lexemes_in Alphabet.Mail r.now) }
 {
-    let (name, rest) = next_lexeme(Alphabet::Mail, text)?;
-    let (comma, rest) = next_lexeme(Alphabet::Mail, rest)?;
+    let (name, rest) = lexeme_at(Alphabet::Mail, text)?;
+    let (comma, rest) = lexeme_at(Alphabet::Mail, rest)?;
     if !is_atom(&name) {
         return None;
     }

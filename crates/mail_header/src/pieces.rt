@@ -4,7 +4,7 @@ ghost use Rattle.text_words.specs.Octets as octets;
 ghost use Rattle.mail_header.specs.Dates as dates;
 ghost use Rattle.mail_header.specs.reading.DateReading as reading;
 
-use crate::lexemes::next_lexeme;
+use crate::lexemes::lexeme_at;
 use crate::token::{Alphabet, Kind, Token};
 use crate::token_class::first_octet;
 use text_words::{Alpha, Digit, cut};
@@ -46,7 +46,7 @@ pub(crate) fn next_piece(place: Place<'_>) -> Option<(Piece<'_>, Place<'_>)>
 fn lexeme_piece(text: &[u8]) -> Option<(Piece<'_>, Place<'_>)>
     ensures { MatchOption result (reading.pieces_behind [] text.now ≡ []) (λ r. reading.pieces_behind [] text.now ≡ reading.piece_view r.0 ∷ reading.pieces_at r.1) }
 {
-    match next_lexeme(Alphabet::Mail, text) {
+    match lexeme_at(Alphabet::Mail, text) {
         None => None,
         Some((lexeme, rest)) => Some(piece_of(lexeme, rest)),
     }

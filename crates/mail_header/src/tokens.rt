@@ -1,12 +1,12 @@
 // The tokens of a raw value (RFC 5322 section 3.2).
-ghost use Rattle.std.specs.Prelude.{false, None, ◌≡◌, ◌<◌, ◌≤◌, ◌+◌, ℕ, List, IfOk, MatchOption, IfSome, IfNone, length};
+ghost use Rattle.std.specs.Prelude.{false, None, ◌≡◌, ◌≢◌, ◌<◌, ◌≤◌, ◌+◌, ◌++◌, ℕ, List, IfOk, MatchOption, IfSome, IfNone, length};
 ghost use Rattle.mail_header.specs.Tokens as tokens;
 ghost use Rattle.mail_header.specs.reading.TokenReading as reading;
 ghost use Rattle.mail_header.specs.TokenView.{token_view, tokens_view};
 
 use crate::token::{Alphabet, Kind, Token};
 use std::alloc::{AllocError, Global};
-use text_words::{Class, White, cut, is_white};
+use text_words::{Class, White, behind, cut, is_white};
 
 /// No octet opens a bracket in a quoted text or a literal.
 const NONE: u16 = 256;
@@ -129,6 +129,38 @@ fn bracket(kind: Kind, text: &[u8], rest: &[u8], opener: u16, closer: u16) -> Op
         None => None,
         Some(len) => Some((kind, text.len() - (rest.len() - len))),
     }
+}
+
+/// The bracket at the front that this octet opens, and what follows it, where the bracket is closed.
+fn bracketed_at(text: &[u8], first: u8, opener: u16, closer: u8) -> Option<(&[u8], &[u8])>
+    requires opener { opener ≢ 92 }
+    requires closer { closer ≢ 92 }
+    requires two { opener ≢ closer }
+    ensures { MatchOption result
+        ((x y : List ℕ) → tokens.IsBracketed first opener closer x → text.now ≢ x ++ y)
+        (λ r. tokens.IsBracketed first opener closer r.0.now × (text.now ≡ r.0.now ++ r.1.now)) }
+{
+    let Some(rest) = behind(first, text) else {
+        return None;
+    };
+    match closing(rest, opener, closer as u16) {
+        None => None,
+        Some(len) => Some(text.split_at(len + 1)),
+    }
+}
+
+/// The comment at the front, and what follows it, where the text begins with one that is closed.
+pub fn comment_at(text: &[u8]) -> Option<(&[u8], &[u8])>
+    ensures { MatchOption result ((x y : List ℕ) → tokens.IsComment x → text.now ≢ x ++ y) (λ r. tokens.IsComment r.0.now × (text.now ≡ r.0.now ++ r.1.now)) }
+{
+    bracketed_at(text, b'(', b'(' as u16, b')')
+}
+
+/// The quoted text at the front, and what follows it, where the text begins with one that is closed.
+pub fn quoted_at(text: &[u8]) -> Option<(&[u8], &[u8])>
+    ensures { MatchOption result ((x y : List ℕ) → tokens.IsQuoted x → text.now ≢ x ++ y) (λ r. tokens.IsQuoted r.0.now × (text.now ≡ r.0.now ++ r.1.now)) }
+{
+    bracketed_at(text, b'"', NONE, b'"')
 }
 
 /// The token at the front, and how many octets it has.

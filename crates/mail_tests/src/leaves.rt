@@ -97,7 +97,7 @@ fn a_multipart_that_is_a_leaf_keeps_its_header(rt: HostRuntime) -> Result<(), Fa
     assert!(rt; is_text(&root.disposition, b"attachment"));
     assert!(rt; is_text(&root.name, b"n"));
     assert!(rt; is_text(&root.cid, b"i"));
-    assert!(rt; is_text(&root.language, b"de"));
+    assert!(rt; is_text(&root.language, b" de"));
     assert!(rt; is_text(&root.location, b"http://x/"));
     if let Some(part) = root.leaf(1) {
         let (octets, problem) = part_bytes(rt.alloc(), HELD, part)?;

@@ -83,7 +83,7 @@ const EXAMPLES: [(&[u8], &[u8]); 14] = [
     ),
     (
         b"Content-Language: mi, en\r\nContent-Location: http://www.ietf.cnri.reston.va.us/images/foo1.jpg\r\n",
-        b"-|-|-|-|-|-|mi, en|http://www.ietf.cnri.reston.va.us/images/foo1.jpg|-|",
+        b"-|-|-|-|-|-| mi, en|http://www.ietf.cnri.reston.va.us/images/foo1.jpg|-|",
     ),
 ];
 
@@ -174,7 +174,7 @@ const READINGS: [(&[u8], &[u8]); 26] = [
     ),
     (
         b"Content-ID: one@two\nContent-Language: =?utf-8?Q?de?=\n",
-        b"-|-|-|-|-|one@two|de|-|-|",
+        b"-|-|-|-|-|one@two| =?utf-8?Q?de?=|-|-|",
     ),
     (
         b"Content-ID: (c) <a@b> <c@d>\nContent-Location:\n",
@@ -187,7 +187,7 @@ const READINGS: [(&[u8], &[u8]); 26] = [
 ];
 
 /// Ids without comments and white space, trimmed places, and what isn't in US-ASCII.
-const IDS_AND_PLACES: [(&[u8], &[u8]); 18] = [
+const IDS_AND_PLACES: [(&[u8], &[u8]); 25] = [
     (b"Content-ID: <i1>\n", b"-|-|-|-|-|i1|-|-|-|"),
     (
         b"Content-ID: (a) < one (b) @\r\n two > (c)\n",
@@ -200,6 +200,28 @@ const IDS_AND_PLACES: [(&[u8], &[u8]); 18] = [
     (b"Content-ID: <>\n", b"-|-|-|-|-|-|-|-|-|"),
     (b"Content-ID: (only) \n", b"-|-|-|-|-|-|-|-|-|"),
     (b"Content-ID: <\xE9>\n", b"-|-|-|-|-|\xEF\xBF\xBD|-|-|-|"),
+    (b"Content-ID: <a\\b@c> (note)\n", b"-|-|-|-|-|a\\b@c|-|-|-|"),
+    (
+        b"Content-ID: <a) \x01b@c> (d\\)e)\n",
+        b"-|-|-|-|-|a)\x01b@c|-|-|-|",
+    ),
+    (b"Content-ID: <a@[1 2]>\n", b"-|-|-|-|-|a@[12]|-|-|-|"),
+    (
+        b"Content-ID: <a(b(c)d)@\"e (f)\"> (\"g)\n",
+        b"-|-|-|-|-|a@\"e (f)\"|-|-|-|",
+    ),
+    (
+        b"Content-ID: <] \"a\r\n b\"@c>\n",
+        b"-|-|-|-|-|]\"a b\"@c|-|-|-|",
+    ),
+    (
+        b"Content-ID: <a\" b@c> (d)\n",
+        b"-|-|-|-|-|<a\"b@c>(d)|-|-|-|",
+    ),
+    (
+        b"Content-ID: a (b (c) \"d\"\n",
+        b"-|-|-|-|-|a(b(c)\"d\"|-|-|-|",
+    ),
     (b"Content-Location:  a/b \t\r\n", b"-|-|-|-|-|-|-|a/b|-|"),
     (
         b"Content-Type: text/pl\xC3\xA4in; charset=a\n",
@@ -260,6 +282,17 @@ fn long_type(alloc: Global, piece: &[u8]) -> Result<Vec<u8>, AllocError> {
     Ok(text)
 }
 
+/// An id of so many of the piece.
+fn long_id(alloc: Global, piece: &[u8]) -> Result<Vec<u8>, AllocError> {
+    let mut text = Vec::new(alloc);
+    text.extend_from_slice(b"Content-ID: ")?;
+    for _ in 0..20_000 {
+        text.extend_from_slice(piece)?;
+    }
+    text.push(b'\n')?;
+    Ok(text)
+}
+
 /// Twenty thousand parameters, blanks and openers are read.
 #[test]
 fn long_values_are_read(rt: HostRuntime) -> Result<(), Fail> {
@@ -273,6 +306,10 @@ fn long_values_are_read(rt: HostRuntime) -> Result<(), Fail> {
         let header = part_header(alloc, &fields(alloc, long_type(alloc, piece)?.as_slice())?)?;
         let text = written(alloc, &header)?;
         assert_eq!(rt; text.as_slice(), b"a/b|-|-|-|-|-|-|-|-|".as_slice());
+    }
+    for piece in [b"(a", b"\"\\", b"a)"] {
+        let header = part_header(alloc, &fields(alloc, long_id(alloc, piece)?.as_slice())?)?;
+        assert_eq!(rt; header.cid.map(|id| id.as_slice().len()), Some(40_000));
     }
     Ok(())
 }

@@ -3,7 +3,7 @@ use crate::members::{Row, go_over};
 use std::test::Fail;
 
 /// Members of the objects of leaves.
-const PARTS: [Row; 20] = [
+const PARTS: [Row; 22] = [
     (
         b"Content-Type: text/html\n\n<p>a</p>",
         "/htmlBody/0/name",
@@ -61,6 +61,16 @@ const PARTS: [Row; 20] = [
         "[\"de\",\"en\",\"fr-CH\"]",
     ),
     (b"Content-Language: \n\na", "/textBody/0/language", "[]"),
+    (
+        b"Content-Language: en (=?us-ascii?Q?x=29,_de?=)\n\na",
+        "/textBody/0/language",
+        "[\"en\"]",
+    ),
+    (
+        b"Content-Language: \"de\" d\xC3\xA9, en\r\n fr ] de\n\na",
+        "/textBody/0/language",
+        "[\"en\",\"fr\"]",
+    ),
     (b"\na", "/textBody/0/language", "null"),
     (
         b"Content-Location: http://x/\nContent-ID: <i@x>\n\na",

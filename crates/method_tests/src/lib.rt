@@ -7,3 +7,5 @@ mod methods;
 mod references;
 #[cfg(test)]
 mod requests;
+#[cfg(test)]
+mod states;

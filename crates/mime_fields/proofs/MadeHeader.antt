@@ -1,17 +1,18 @@
 -- What was read of the fields is the header of a part.
 use Rattle.std.proofs.Common.{◌≡◌, ℕ, List, Option, ap, ◌∙◌, subst}
 use Rattle.std.specs.Prelude.{codes}
-use Rattle.std.specs.Option.{option_or}
+use Rattle.std.specs.Option.{option_map, option_or}
 use Rattle.mail_header.specs.declared.token.Alphabet.TheVariants as alphabet
 use Rattle.mail_header.specs.Fields.{NameAndRaw, last_named}
 use Rattle.mail_header.specs.Lexemes.{AreLeadingLexemes}
+use Rattle.mail_header.specs.RawForms.{raw_form}
 use Rattle.mail_header.proofs.LexemeLemmas.{lexemes_are}
 use Rattle.mime_fields.specs.declared.content_type.ContentType.{ContentType}
 use Rattle.mime_fields.specs.declared.disposition.Disposition.{Disposition}
 use Rattle.mime_fields.specs.ContentTypes.{IsContentType}
 use Rattle.mime_fields.specs.Dispositions.{IsDisposition, IsName, behind_token}
 use Rattle.mime_fields.specs.Parameters.{parameter}
-use Rattle.mime_fields.specs.PartHeaders.{octets_of, HasLexemes, written_name, IsTextOf, IsTrimmedTextOf, IsIdOf, mechanism, IsPartHeader}
+use Rattle.mime_fields.specs.PartHeaders.{octets_of, HasLexemes, written_name, IsTrimmedTextOf, IsIdOf, mechanism, IsPartHeader}
 use Rattle.mime_fields.specs.reading.MimeLexemes.{mime_lexemes}
 
 has_lexemes : (f : List NameAndRaw) (name t : List ℕ) → t ≡ octets_of f name → HasLexemes f name (mime_lexemes t)
@@ -20,7 +21,7 @@ has_lexemes f name t e = subst (λ (u : List ℕ). AreLeadingLexemes alphabet.Mi
 pub made : (f : List NameAndRaw) (ct cd : List ℕ) (content : ContentType) (d : Disposition) (written name cid language location encoding : Option (List ℕ))
     → ct ≡ octets_of f (codes "content-type") → cd ≡ octets_of f (codes "content-disposition")
     → IsContentType (mime_lexemes ct) content → IsDisposition (mime_lexemes cd) d → written ≡ option_or d.file content.name → IsName d.extended written name
-    → IsIdOf (last_named (codes "content-id") f) cid → IsTextOf (last_named (codes "content-language") f) language
+    → IsIdOf (last_named (codes "content-id") f) cid → language ≡ option_map raw_form (last_named (codes "content-language") f)
     → IsTrimmedTextOf (last_named (codes "content-location") f) location
     → encoding ≡ mechanism (last_named (codes "content-transfer-encoding") f) (mime_lexemes (octets_of f (codes "content-transfer-encoding")))
     → IsPartHeader f (record {

@@ -1,23 +1,22 @@
 -- Fields are one header of a part.
 use Rattle.std.proofs.Common.{◌≡◌, ℕ, false, List, [], ◌∷◌, ◌++◌, sym, ap, ◌∙◌, subst, Option, Some, None}
 use Rattle.std.specs.Prelude.{codes}
-use Rattle.std.specs.List.{filter}
 use Rattle.std.specs.Option.{option_map}
 use Rattle.std.proofs.lemmas.List.{append_cancel_right}
 use Rattle.header_words.proofs.WordLemmas.{one_text}
 use Rattle.mail_header.specs.declared.token.Alphabet.TheVariants as alphabet
 use Rattle.mail_header.specs.Fields.{NameAndRaw, last_named}
-use Rattle.mail_header.specs.Lines.{unfolded}
-use Rattle.mail_header.specs.Names.{spelling, some_text}
+use Rattle.mail_header.specs.Names.{some_text}
 use Rattle.mail_header.specs.RawForms.{raw_form}
 use Rattle.mail_header.specs.Tokens.{Spelled}
-use Rattle.mail_header.proofs.LeadingLemmas.{one_leading, one_rest, one_leading_lexemes}
+use Rattle.mail_header.proofs.LeadingLemmas.{one_leading_lexemes}
 use Rattle.mime_fields.specs.declared.header.PartHeader.{PartHeader}
-use Rattle.mime_fields.specs.ContentIds.{is_visible, IsWithoutGaps, IsWithoutAngles, InAngles, Bare}
+use Rattle.mime_fields.proofs.IdLemmas.{one_kept}
+use Rattle.mime_fields.specs.ContentIds.{IsWithoutAngles, InAngles, Bare}
 use Rattle.mime_fields.specs.ContentTypes.{media_in, behind_media}
 use Rattle.mime_fields.specs.Dispositions.{token_in, IsName}
 use Rattle.mime_fields.specs.Parameters.{parameter}
-use Rattle.mime_fields.specs.PartHeaders.{octets_of, HasLexemes, extended_name, written_name, IsTextOf, trimmed, IsTrimmedTextOf, IsIdOf, mechanism, IsPartHeader}
+use Rattle.mime_fields.specs.PartHeaders.{octets_of, HasLexemes, extended_name, written_name, trimmed, IsTrimmedTextOf, IsIdOf, mechanism, IsPartHeader}
 
 one_lexemes : (f : List NameAndRaw) (name : List ℕ) (x y : List Spelled) → HasLexemes f name x → HasLexemes f name y → x ≡ y
 one_lexemes f name x y g h = one_leading_lexemes alphabet.Mime x y (octets_of f name) g h
@@ -26,10 +25,6 @@ one_name : (extended written x y : Option (List ℕ)) → IsName extended writte
 one_name (Some e) w x y g h = g ∙ sym h
 one_name None None x y g h = g ∙ sym h
 one_name None (Some w) x y g h = g.2 ∙ ap (λ (u : List ℕ). Some u) (one_text false (raw_form w) g.0 h.0 g.1 h.1) ∙ sym h.2
-
-one_text_form : (raw x y : Option (List ℕ)) → IsTextOf raw x → IsTextOf raw y → x ≡ y
-one_text_form None x y g h = g ∙ sym h
-one_text_form (Some r) x y g h = g.2 ∙ ap (λ (u : List ℕ). Some u) (one_text false _ g.0 h.0 g.1 h.1) ∙ sym h.2
 
 one_trimmed : (raw x y : Option (List ℕ)) → IsTrimmedTextOf raw x → IsTrimmedTextOf raw y → x ≡ y
 one_trimmed None x y g h = g ∙ sym h
@@ -40,13 +35,6 @@ one_inner _ _ _ _ e (InAngles x) (InAngles y) = let p : x ++ 62 ∷ [] ≡ y ++ 
 one_inner _ _ _ _ e (InAngles x) (Bare u n) = absurd (n x (sym e))
 one_inner _ _ _ _ e (Bare t n) (InAngles y) = absurd (n y e)
 one_inner _ _ _ _ e (Bare t n) (Bare u m) = e
-
-one_kept : (x y t : List ℕ) → IsWithoutGaps x t → IsWithoutGaps y t → x ≡ y
-one_kept x y t g h =
-    let e = one_leading alphabet.Mail g.tokens h.tokens g.rest h.rest t g.are h.are in
-    let r = one_rest alphabet.Mail g.tokens h.tokens g.rest h.rest t g.are h.are in
-    g.kept_is ∙ ap (λ (u : List Spelled). unfolded (spelling u ++ filter is_visible g.rest)) e ∙ ap (λ (u : List ℕ). unfolded (spelling h.tokens ++ filter is_visible u)) r
-    ∙ sym h.kept_is
 
 one_id : (raw x y : Option (List ℕ)) → IsIdOf raw x → IsIdOf raw y → x ≡ y
 one_id None x y g h = g ∙ sym h
@@ -74,6 +62,6 @@ one_part_header f g h i j =
     (i.disposition ∙ ap token_in d ∙ sym j.disposition)
     (one_name _ _ g.name h.name m j.name)
     (one_id _ g.cid h.cid i.cid j.cid)
-    (one_text_form _ g.language h.language i.language j.language)
+    (i.language ∙ sym j.language)
     (one_trimmed _ g.location h.location i.location j.location)
     (i.encoding ∙ ap (mechanism (last_named (codes "content-transfer-encoding") f)) e ∙ sym j.encoding)

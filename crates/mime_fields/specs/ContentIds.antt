@@ -1,23 +1,38 @@
 -- Content-ID without comments and white space, and without one pair of angle brackets (RFC 8621 section 4.1.4).
-use Rattle.std.specs.Prelude.{◌≡◌, ◌≢◌, ℕ, Bool, not, List, [], ◌∷◌, ◌++◌, Option}
-use Rattle.std.specs.List.{filter}
+use Rattle.std.specs.Prelude.{◌≡◌, ◌≢◌, ℕ, Bool, true, false, not, ◌==◌, ◌||◌, List, [], ◌∷◌, ◌++◌, Option}
+use Rattle.std.specs.List.{filter, flat_map}
 use Rattle.text_words.specs.Octets.{is_white}
-use Rattle.mail_header.specs.declared.token.Alphabet.TheVariants as alphabet
+use Rattle.text_words.specs.Sequence.{Sequence}
 use Rattle.mail_header.specs.Lines.{unfolded}
-use Rattle.mail_header.specs.Names.{spelling, some_text}
+use Rattle.mail_header.specs.Names.{some_text}
 use Rattle.mail_header.specs.RawForms.{raw_form}
-use Rattle.mail_header.specs.Tokens.{Spelled, AreLeading}
+use Rattle.mail_header.specs.Tokens.{IsComment, IsQuoted}
 
 abbrev pub is_visible : ℕ → Bool
 is_visible c = not (is_white c)
 
--- The tokens at the front as they are spelled, without comments and white space, and what no token begins, without white
--- space. White space in quoted texts stays, but ends of lines don't.
+-- a parenthesis or a quote
+abbrev pub is_opener : ℕ → Bool
+is_opener c = c == 40 || c == 34
+
+-- no comment and no quoted text begins the text
+pub record IsUnclosed (t : List ℕ) : Type 0 where
+  pub comment : (x y : List ℕ) → IsComment x → t ≢ x ++ y
+  pub quoted : (x y : List ℕ) → IsQuoted x → t ≢ x ++ y
+
+-- A unit of a value, and what is kept of it. What follows a parenthesis or a quote that isn't closed is one unit with it.
+pub data IsUnit : List ℕ → List ℕ → List ℕ → Type 0 where
+  White : (c : ℕ) (rest : List ℕ) → is_white c ≡ true → IsUnit [] (c ∷ []) rest
+  Comment : (x rest : List ℕ) → IsComment x → IsUnit [] x rest
+  Quoted : (x rest : List ℕ) → IsQuoted x → IsUnit x x rest
+  Octet : (c : ℕ) (rest : List ℕ) → is_white c ≡ false → is_opener c ≡ false → IsUnit (c ∷ []) (c ∷ []) rest
+  Unclosed : (c : ℕ) (t : List ℕ) → is_opener c ≡ true → IsUnclosed (c ∷ t) → IsUnit (filter is_visible (c ∷ t)) (c ∷ t) []
+
+-- what is kept of a text: white space in quoted texts stays, but ends of lines don't
 pub record IsWithoutGaps (kept t : List ℕ) : Type 0 where
-  pub tokens : List Spelled
-  pub rest : List ℕ
-  pub are : AreLeading alphabet.Mail tokens rest t
-  pub kept_is : kept ≡ unfolded (spelling tokens ++ filter is_visible rest)
+  pub units : List (List ℕ)
+  pub are : Sequence IsUnit units t
+  pub kept_is : kept ≡ unfolded (flat_map (λ (unit : List ℕ). unit) units)
 
 -- one pair of angle brackets is taken off
 pub data IsWithoutAngles : List ℕ → List ℕ → Type 0 where

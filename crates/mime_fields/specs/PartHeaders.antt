@@ -24,15 +24,11 @@ octets_of fields name = unwrap_or (last_named name fields) []
 abbrev pub HasLexemes : List NameAndRaw → List ℕ → List Spelled → Type 0
 HasLexemes fields name lexemes = AreLeadingLexemes alphabet.Mime lexemes (octets_of fields name)
 
--- the field's value as a text
-abbrev pub IsTextOf : Option (List ℕ) → Option (List ℕ) → Type 0
-IsTextOf None text = text ≡ None
-IsTextOf (Some raw) text = (t : List ℕ) × IsTextForm t raw × (text ≡ Some t)
-
--- without white space at its ends
+-- the text without white space at its ends
 abbrev pub trimmed : List ℕ → List ℕ
 trimmed t = without_white_end (back is_white t)
 
+-- the field's value as a text, so trimmed
 abbrev pub IsTrimmedTextOf : Option (List ℕ) → Option (List ℕ) → Type 0
 IsTrimmedTextOf None text = text ≡ None
 IsTrimmedTextOf (Some raw) text = (t : List ℕ) × IsTextForm t raw × (text ≡ Some (trimmed t))
@@ -68,6 +64,6 @@ pub record IsPartHeader (fields : List NameAndRaw) (h : PartHeader) : Type 0 whe
   pub disposition : h.disposition ≡ token_in content_disposition
   pub name : IsName (extended_name content_disposition) (written_name content_disposition content_type) h.name
   pub cid : IsIdOf (last_named (codes "content-id") fields) h.cid
-  pub language : IsTextOf (last_named (codes "content-language") fields) h.language
+  pub language : h.language ≡ option_map raw_form (last_named (codes "content-language") fields)
   pub location : IsTrimmedTextOf (last_named (codes "content-location") fields) h.location
   pub encoding : h.encoding ≡ mechanism (last_named (codes "content-transfer-encoding") fields) transfer_encoding

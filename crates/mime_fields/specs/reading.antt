@@ -1,2 +1,3 @@
 -- How the code reads: what proofs and private clauses use, and no public clause needs.
 pub mod MimeLexemes
+pub mod IdUnits

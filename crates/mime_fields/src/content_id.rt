@@ -1,16 +1,16 @@
 // Content-ID.
-ghost use Rattle.std.specs.Prelude.{◌≡◌, ◌≢◌, ℕ, List, [], ◌∷◌, ◌++◌, IfOk, OnOk, MatchOption};
+ghost use Rattle.std.specs.Prelude.{◌≡◌, ◌≢◌, ◌<◌, ℕ, length, List, [], ◌∷◌, ◌++◌, IfOk, OnOk, MatchOption};
 ghost use Rattle.std.specs.List.{filter};
 ghost use Rattle.mail_header.specs.Names.{some_text};
 ghost use Rattle.mime_fields.specs.ContentIds as ids;
+ghost use Rattle.mime_fields.specs.reading.IdUnits as reading;
 
 use gate_world::Bytes;
 use mail_header::as_raw;
-use mail_header::lexemes::{behind_gaps, next_lexeme};
 use mail_header::raw_forms::unfold;
-use mail_header::token::Alphabet;
+use mail_header::tokens::{comment_at, quoted_at};
 use std::alloc::{AllocError, Global};
-use text_words::{behind, is_white};
+use text_words::{behind, first, is_white};
 
 /// The id of a raw value without comments and white space, and without one pair of angle brackets around it. There is none
 /// where nothing is left.
@@ -28,12 +28,61 @@ fn without_gaps(alloc: Global, text: &[u8]) -> Result<Vec<u8>, AllocError>
 {
     let mut kept = Vec::new(alloc);
     let mut rest = text;
-    while let Some((lexeme, more)) = next_lexeme(Alphabet::Mail, rest) {
-        kept.extend_from_slice(lexeme.text)?;
-        rest = more;
+    while !rest.is_empty() {
+        rest = push_unit(&mut kept, rest)?;
     }
-    push_visible(&mut kept, behind_gaps(Alphabet::Mail, rest))?;
     Ok(unfold(alloc, kept.as_slice())?)
+}
+
+/// Adds what is kept of the unit at the front. Gives what follows it.
+fn push_unit<'a>(kept: &mut Vec<u8>, text: &'a [u8]) -> Result<&'a [u8], AllocError>
+    requires { 0 < length text.now }
+    ensures { IfOk result (λ r. reading.Takes text.now r.now kept.old.items kept.new.items) }
+{
+    match first(text) {
+        None => unreachable!(),
+        Some((octet, rest)) => {
+            if is_opener(octet) {
+                return push_bracket(kept, text);
+            }
+            push_octet(kept, octet)?;
+            Ok(rest)
+        }
+    }
+}
+
+/// Adds the quoted text at the front, or passes over the comment there. Where neither is closed, adds all octets that
+/// are no white space: so each octet is looked at once. Gives what follows.
+fn push_bracket<'a>(kept: &mut Vec<u8>, text: &'a [u8]) -> Result<&'a [u8], AllocError>
+    requires { reading.BeginsWithOpener text.now }
+    ensures { IfOk result (λ r. reading.Takes text.now r.now kept.old.items kept.new.items) }
+{
+    if let Some((_, rest)) = comment_at(text) {
+        return Ok(rest);
+    }
+    if let Some((quoted, rest)) = quoted_at(text) {
+        kept.extend_from_slice(quoted)?;
+        return Ok(rest);
+    }
+    push_visible(kept, text)?;
+    Ok(&[])
+}
+
+/// A parenthesis or a quote.
+fn is_opener(octet: u8) -> bool
+    ensures { result ≡ ids.is_opener octet }
+{
+    octet == b'(' || octet == b'"'
+}
+
+/// Adds the octet, unless it is white space.
+fn push_octet(kept: &mut Vec<u8>, octet: u8) -> Result<(), AllocError>
+    ensures { OnOk result (kept.new.items ≡ kept.old.items ++ filter ids.is_visible (octet ∷ [])) }
+{
+    if !is_white(octet) {
+        kept.push(octet)?;
+    }
+    Ok(())
 }
 
 /// Adds the octets that are no white space.
@@ -41,9 +90,7 @@ fn push_visible(kept: &mut Vec<u8>, text: &[u8]) -> Result<(), AllocError>
     ensures { OnOk result (kept.new.items ≡ kept.old.items ++ filter ids.is_visible text.now) }
 {
     for octet in text {
-        if !is_white(*octet) {
-            kept.push(*octet)?;
-        }
+        push_octet(kept, *octet)?;
     }
     Ok(())
 }

@@ -7,10 +7,9 @@ ghost use Rattle.mime_fields.specs.ContentTypes as types;
 ghost use Rattle.mime_fields.specs.Parameters as parameters;
 ghost use Rattle.mime_fields.specs.reading.MimeLexemes.{mime_lexemes};
 
-use crate::parameters::{is_token, parameter};
+use crate::parameters::{is_token, mime_lexeme, parameter};
 use gate_world::Bytes;
-use mail_header::lexemes::next_lexeme;
-use mail_header::token::{Alphabet, Token};
+use mail_header::token::Token;
 use mail_header::{as_raw, has_mark};
 use std::alloc::{AllocError, Global};
 
@@ -56,9 +55,9 @@ fn media_at(text: &[u8]) -> Option<MediaAt<'_>>
     ensures behind { MatchOption result (types.behind_media (mime_lexemes text.now) ≡ [])
         (λ m. types.behind_media (mime_lexemes text.now) ≡ mime_lexemes m.rest.now) }
 {
-    let (kind, rest) = next_lexeme(Alphabet::Mime, text)?;
-    let (slash, rest) = next_lexeme(Alphabet::Mime, rest)?;
-    let (subtype, rest) = next_lexeme(Alphabet::Mime, rest)?;
+    let (kind, rest) = mime_lexeme(text)?;
+    let (slash, rest) = mime_lexeme(rest)?;
+    let (subtype, rest) = mime_lexeme(rest)?;
     if !is_media(&kind, &slash, &subtype) {
         return None;
     }

@@ -5,12 +5,10 @@ ghost use Rattle.mime_fields.specs.Dispositions as dispositions;
 ghost use Rattle.mime_fields.specs.reading.MimeLexemes.{mime_lexemes};
 
 use crate::extended_value::extended;
-use crate::parameters::{is_token, parameter};
+use crate::parameters::{is_token, mime_lexeme, parameter};
 use gate_world::Bytes;
 use header_words::decode_words;
 use mail_header::as_raw;
-use mail_header::lexemes::next_lexeme;
-use mail_header::token::Alphabet;
 use std::alloc::{AllocError, Global};
 
 /// What Content-Disposition says: its kind, the name in an extended value, and the octets of the name as it is written.
@@ -26,7 +24,7 @@ fn token_at(text: &[u8]) -> Option<(&[u8], &[u8])>
     ensures token { MatchOption result (dispositions.token_in (mime_lexemes text.now) ≡ None) (λ r. dispositions.token_in (mime_lexemes text.now) ≡ Some (lower r.0.now)) }
     ensures behind { MatchOption result (dispositions.behind_token (mime_lexemes text.now) ≡ []) (λ r. dispositions.behind_token (mime_lexemes text.now) ≡ mime_lexemes r.1.now) }
 {
-    let (token, rest) = next_lexeme(Alphabet::Mime, text)?;
+    let (token, rest) = mime_lexeme(text)?;
     if is_token(&token) {
         Some((token.text, rest))
     } else {

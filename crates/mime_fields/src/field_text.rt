@@ -1,11 +1,13 @@
 // The octets and texts of fields.
 ghost use Rattle.std.specs.Prelude.{◌≡◌, IfOk};
+ghost use Rattle.std.specs.Option.{option_map};
 ghost use Rattle.mail_header.specs.Fields.{names_and_raws, last_named};
+ghost use Rattle.mail_header.specs.RawForms.{raw_form};
 ghost use Rattle.mime_fields.specs.PartHeaders as headers;
 
 use gate_world::Bytes;
 use mail_header::names::without_white_end;
-use mail_header::{Fields, as_text};
+use mail_header::{Fields, as_raw, as_text};
 use std::alloc::{AllocError, Global};
 use text_words::{White, cut};
 
@@ -19,17 +21,17 @@ pub(crate) fn octets_of<'a>(fields: &Fields<'a>, name: &[u8]) -> &'a [u8]
     }
 }
 
-/// The last field of this name as a text.
-pub(crate) fn text_of(
+/// The last field of this name as it is written.
+pub(crate) fn raw_of(
     alloc: Global,
     fields: &Fields<'_>,
     name: &[u8],
 ) -> Result<Option<Bytes>, AllocError>
-    ensures { IfOk result (λ t. headers.IsTextOf (last_named name.now (names_and_raws fields.now)) t) }
+    ensures { IfOk result (λ t. t ≡ option_map raw_form (last_named name.now (names_and_raws fields.now))) }
 {
     match fields.last(name) {
         None => Ok(None),
-        Some(raw) => Ok(Some(as_text(alloc, raw)?)),
+        Some(raw) => Ok(Some(as_raw(alloc, raw)?)),
     }
 }
 

@@ -8,7 +8,7 @@ ghost use Rattle.mime_fields.specs.reading.MimeLexemes.{mime_lexemes};
 use crate::content_id::content_id;
 use crate::content_type::read_type;
 use crate::disposition::{first_token, name_of, read_disposition};
-use crate::field_text::{octets_of, text_of, trimmed_text_of};
+use crate::field_text::{octets_of, raw_of, trimmed_text_of};
 use gate_world::Bytes;
 use mail_header::Fields;
 use std::alloc::{AllocError, Global};
@@ -28,7 +28,7 @@ pub struct PartHeader {
     pub name: Option<Bytes>,
     /// Content-ID without comments and white space, and without one pair of angle brackets.
     pub cid: Option<Bytes>,
-    /// Content-Language as a text.
+    /// Content-Language as it is written.
     pub language: Option<Bytes>,
     /// Content-Location as a text without white space at its ends.
     pub location: Option<Bytes>,
@@ -87,7 +87,7 @@ pub fn part_header(alloc: Global, fields: &Fields<'_>) -> Result<PartHeader, All
         disposition: disposition.kind,
         name,
         cid: id_of(alloc, fields)?,
-        language: text_of(alloc, fields, b"content-language")?,
+        language: raw_of(alloc, fields, b"content-language")?,
         location: trimmed_text_of(alloc, fields, b"content-location")?,
         encoding: transfer_encoding(alloc, fields)?,
     })

@@ -11,3 +11,4 @@ pub mod laws;
 mod parameters;
 
 pub use header::{PartHeader, part_header};
+pub use parameters::is_token;

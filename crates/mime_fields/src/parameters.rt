@@ -24,8 +24,16 @@ impl Class<u8> for Ascii {
     }
 }
 
+/// The first lexeme of a field of MIME, and what follows it.
+pub(crate) fn mime_lexeme(text: &[u8]) -> Option<(Token<'_>, &[u8])>
+    ensures value { MatchOption result (mime_lexemes text.now ≡ []) (λ r. mime_lexemes text.now ≡ token_view r.0 ∷ mime_lexemes r.1.now) }
+    ensures shorter { IfSome result (λ r. length r.1.now < length text.now) }
+{
+    next_lexeme(Alphabet::Mime, text)
+}
+
 /// A token: an atom in US-ASCII.
-pub(crate) fn is_token(lexeme: &Token<'_>) -> bool
+pub fn is_token(lexeme: &Token<'_>) -> bool
     ensures { result ≡ parameters.is_token (token_view lexeme.now) }
 {
     is_atom(lexeme) && are_all(&Ascii, lexeme.text)
@@ -56,10 +64,10 @@ fn parameter_at(text: &[u8]) -> Option<ParameterAt<'_>>
         (λ p. parameters.parameters (mime_lexemes text.now) ≡ record { name = p.attribute.now; value = token_view p.value } ∷ parameters.parameters (mime_lexemes p.rest.now)) }
     ensures shorter { IfSome result (λ p. length p.rest.now < length text.now) }
 {
-    let (semicolon, rest) = next_lexeme(Alphabet::Mime, text)?;
-    let (attribute, rest) = next_lexeme(Alphabet::Mime, rest)?;
-    let (equals, rest) = next_lexeme(Alphabet::Mime, rest)?;
-    let (value, rest) = next_lexeme(Alphabet::Mime, rest)?;
+    let (semicolon, rest) = mime_lexeme(text)?;
+    let (attribute, rest) = mime_lexeme(rest)?;
+    let (equals, rest) = mime_lexeme(rest)?;
+    let (value, rest) = mime_lexeme(rest)?;
     if !is_parameter(&semicolon, &attribute, &equals, &value) {
         return None;
     }

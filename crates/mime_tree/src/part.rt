@@ -39,7 +39,8 @@ fn is_number(of: Option<u64>, number: u64) -> bool
 }
 
 impl Part {
-    /// The leaf of this number, which may be the part itself.
+    /// The leaf of this number, which may be the part itself. Walks all parts before it, so it isn't for a loop over
+    /// numbers: each leaf in turn costs as many steps as there are parts, squared in all.
     pub fn leaf(&self, number: u64) -> Option<&Part>
         ensures { MatchOption result
             ((q : Part) → IsUnder q self.now → number_of q ≢ Some number)

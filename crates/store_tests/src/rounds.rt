@@ -21,7 +21,7 @@ type Row = (
     &'static [u8],
 );
 
-const ROUNDS: [Row; 16] = [
+const ROUNDS: [Row; 21] = [
     // an empty folder
     (
         &[
@@ -170,6 +170,60 @@ const ROUNDS: [Row; 16] = [
         b"a5 LIST \"\" \"*\" RETURN (SUBSCRIBED)\r\n|",
         b"",
     ),
+    // another validity, a folder that is gone, and one that is new, listed twice and has no mod-sequences
+    (
+        &[
+            b"* LIST () \"/\" INBOX\r\n* LIST () \"/\" b\r\na5 OK x\r\n* OK [UIDVALIDITY 7] x\r\n* OK [UIDNEXT 3] x\r\n* OK [HIGHESTMODSEQ 4] x\r\na6 OK x\r\n* 1 FETCH (UID 1 FLAGS () MODSEQ (1) INTERNALDATE \"02-Jan-2024 09:00:00 +0000\" RFC822.SIZE 9 BODY[HEADER]<0> \"\")\r\n* 2 FETCH (UID 2 FLAGS () MODSEQ (4) INTERNALDATE \"02-Jan-2024 09:00:00 +0000\" RFC822.SIZE 9 BODY[HEADER]<0> \"\")\r\na7 OK x\r\n* OK [CLOSED] x\r\n* OK [UIDVALIDITY 3] x\r\n* OK [HIGHESTMODSEQ 9] x\r\na8 OK x\r\n* 1 FETCH (UID 5 FLAGS () MODSEQ (9) INTERNALDATE \"02-Jan-2024 09:00:00 +0000\" RFC822.SIZE 9 BODY[HEADER]<0> \"\")\r\na9 OK x\r\n",
+            b"* LIST () \"/\" INBOX\r\n* LIST () \"/\" c\r\n* LIST (\\HasNoChildren) \"/\" c\r\na5 OK x\r\n* VANISHED (EARLIER) 2\r\n* OK [UIDVALIDITY 8] x\r\n* OK [HIGHESTMODSEQ 2] x\r\na6 OK x\r\n* 1 FETCH (UID 1 FLAGS () MODSEQ (1) INTERNALDATE \"02-Jan-2024 09:00:00 +0000\" RFC822.SIZE 9 BODY[HEADER]<0> \"\")\r\na7 OK x\r\n* VANISHED 1\r\n* OK [UIDVALIDITY 66] x\r\n* OK [CLOSED] x\r\n* OK [UIDVALIDITY 5] x\r\n* OK [NOMODSEQ] x\r\na8 OK x\r\n* 1 FETCH (UID 2 FLAGS ())\r\na9 OK x\r\n* 1 FETCH (UID 2 FLAGS (\\Flagged) INTERNALDATE \"02-Jan-2024 09:00:00 +0000\" RFC822.SIZE 9 BODY[HEADER]<0> \"\")\r\na10 OK x\r\n",
+        ],
+        (1, 0),
+        "ok ok ok ok ",
+        b"a5 LIST \"\" \"*\" RETURN (SUBSCRIBED)\r\na6 SELECT \"INBOX\" (QRESYNC (7 4))\r\na7 UID FETCH 1:* (UID FLAGS MODSEQ INTERNALDATE RFC822.SIZE BODY.PEEK[HEADER]<0.32768>)\r\na8 SELECT \"c\"\r\na9 UID FETCH 1:* (UID FLAGS)\r\na10 UID FETCH 1:* (UID FLAGS INTERNALDATE RFC822.SIZE BODY.PEEK[HEADER]<0.32768>)\r\n|",
+        b"1 INBOX 8 2 2: 1#4;3 c\\hasnochildren 5 0 3: 2#5\\flagged;",
+    ),
+    // a renamed folder is another, and keeps nothing
+    (
+        &[
+            b"* LIST () \"/\" INBOX\r\n* LIST () \"/\" b\r\na5 OK x\r\n* OK [UIDVALIDITY 7] x\r\n* OK [UIDNEXT 3] x\r\n* OK [HIGHESTMODSEQ 4] x\r\na6 OK x\r\n* 1 FETCH (UID 1 FLAGS () MODSEQ (1) INTERNALDATE \"02-Jan-2024 09:00:00 +0000\" RFC822.SIZE 9 BODY[HEADER]<0> \"\")\r\n* 2 FETCH (UID 2 FLAGS () MODSEQ (4) INTERNALDATE \"02-Jan-2024 09:00:00 +0000\" RFC822.SIZE 9 BODY[HEADER]<0> \"\")\r\na7 OK x\r\n* OK [CLOSED] x\r\n* OK [UIDVALIDITY 3] x\r\n* OK [HIGHESTMODSEQ 9] x\r\na8 OK x\r\n* 1 FETCH (UID 5 FLAGS () MODSEQ (9) INTERNALDATE \"02-Jan-2024 09:00:00 +0000\" RFC822.SIZE 9 BODY[HEADER]<0> \"\")\r\na9 OK x\r\n",
+            b"* LIST () \"/\" INBOX\r\n* LIST () \"/\" bb\r\na5 OK x\r\n* OK [UIDVALIDITY 7] x\r\n* OK [HIGHESTMODSEQ 4] x\r\na6 OK x\r\na7 OK x\r\n* OK [CLOSED] x\r\n* OK [UIDVALIDITY 3] x\r\n* OK [HIGHESTMODSEQ 9] x\r\na8 OK x\r\n* 1 FETCH (UID 5 FLAGS () MODSEQ (9) INTERNALDATE \"02-Jan-2024 09:00:00 +0000\" RFC822.SIZE 9 BODY[HEADER]<0> \"\")\r\na9 OK x\r\n",
+        ],
+        (1, 0),
+        "ok ok ok ok ",
+        b"a5 LIST \"\" \"*\" RETURN (SUBSCRIBED)\r\na6 SELECT \"INBOX\" (QRESYNC (7 4))\r\na7 UID FETCH 3:* (UID FLAGS MODSEQ INTERNALDATE RFC822.SIZE BODY.PEEK[HEADER]<0.32768>)\r\na8 SELECT \"bb\"\r\na9 UID FETCH 1:* (UID FLAGS MODSEQ INTERNALDATE RFC822.SIZE BODY.PEEK[HEADER]<0.32768>)\r\n|",
+        b"1 INBOX 7 4 3: 1#1 2#2;3 bb 3 9 6: 5#4;",
+    ),
+    // what QRESYNC tells: flags that changed and messages that are gone
+    (
+        &[
+            b"* LIST () \"/\" INBOX\r\na5 OK x\r\n* OK [UIDVALIDITY 7] x\r\n* OK [UIDNEXT 3] x\r\n* OK [HIGHESTMODSEQ 4] x\r\na6 OK x\r\n* 1 FETCH (UID 1 FLAGS () MODSEQ (1) INTERNALDATE \"02-Jan-2024 09:00:00 +0000\" RFC822.SIZE 9 BODY[HEADER]<0> \"\")\r\n* 2 FETCH (UID 2 FLAGS () MODSEQ (4) INTERNALDATE \"02-Jan-2024 09:00:00 +0000\" RFC822.SIZE 9 BODY[HEADER]<0> \"\")\r\na7 OK x\r\n",
+            b"* LIST () \"/\" INBOX\r\na5 OK x\r\n* OK [UIDVALIDITY 7] x\r\n* OK [HIGHESTMODSEQ 6] x\r\n* VANISHED (EARLIER) 1,3:4294967295\r\n* 1 FETCH (UID 2 FLAGS (\\Seen) MODSEQ (6))\r\na6 OK x\r\na7 OK x\r\n",
+        ],
+        (1, 0),
+        "ok ok ok ok ",
+        b"a5 LIST \"\" \"*\" RETURN (SUBSCRIBED)\r\na6 SELECT \"INBOX\" (QRESYNC (7 4))\r\na7 UID FETCH 3:* (UID FLAGS MODSEQ INTERNALDATE RFC822.SIZE BODY.PEEK[HEADER]<0.32768>)\r\n|",
+        b"1 INBOX 7 6 3: 2#2\\seen;",
+    ),
+    (
+        &[
+            b"* LIST () \"/\" INBOX\r\na5 OK x\r\n* OK [UIDVALIDITY 7] x\r\n* OK [UIDNEXT 3] x\r\n* OK [HIGHESTMODSEQ 4] x\r\na6 OK x\r\n* 1 FETCH (UID 1 FLAGS () MODSEQ (1) INTERNALDATE \"02-Jan-2024 09:00:00 +0000\" RFC822.SIZE 9 BODY[HEADER]<0> \"\")\r\n* 2 FETCH (UID 2 FLAGS () MODSEQ (4) INTERNALDATE \"02-Jan-2024 09:00:00 +0000\" RFC822.SIZE 9 BODY[HEADER]<0> \"\")\r\na7 OK x\r\n",
+            b"* LIST () \"/\" INBOX\r\na5 OK x\r\n* OK [UIDVALIDITY 7] x\r\n* OK [HIGHESTMODSEQ 6] x\r\n* VANISHED (EARLIER) 1:4294967295\r\na6 OK x\r\na7 OK x\r\n",
+        ],
+        (1, 0),
+        "ok ok ok ok ",
+        b"a5 LIST \"\" \"*\" RETURN (SUBSCRIBED)\r\na6 SELECT \"INBOX\" (QRESYNC (7 4))\r\na7 UID FETCH 3:* (UID FLAGS MODSEQ INTERNALDATE RFC822.SIZE BODY.PEEK[HEADER]<0.32768>)\r\n|",
+        b"1 INBOX 7 6 3:;",
+    ),
+    // mod-sequences that are gone, and a message that is gone with them
+    (
+        &[
+            b"* LIST () \"/\" INBOX\r\na5 OK x\r\n* OK [UIDVALIDITY 7] x\r\n* OK [UIDNEXT 3] x\r\n* OK [HIGHESTMODSEQ 4] x\r\na6 OK x\r\n* 1 FETCH (UID 1 FLAGS () MODSEQ (1) INTERNALDATE \"02-Jan-2024 09:00:00 +0000\" RFC822.SIZE 9 BODY[HEADER]<0> \"\")\r\n* 2 FETCH (UID 2 FLAGS () MODSEQ (4) INTERNALDATE \"02-Jan-2024 09:00:00 +0000\" RFC822.SIZE 9 BODY[HEADER]<0> \"\")\r\na7 OK x\r\n",
+            b"* LIST () \"/\" INBOX\r\na5 OK x\r\n* OK [UIDVALIDITY 7] x\r\n* OK [NOMODSEQ] x\r\na6 OK x\r\n* 1 FETCH (UID 2 FLAGS ())\r\na7 OK x\r\na8 OK x\r\n",
+        ],
+        (1, 0),
+        "ok ok ok ok ",
+        b"a5 LIST \"\" \"*\" RETURN (SUBSCRIBED)\r\na6 SELECT \"INBOX\" (QRESYNC (7 4))\r\na7 UID FETCH 1:* (UID FLAGS)\r\na8 UID FETCH 3:* (UID FLAGS INTERNALDATE RFC822.SIZE BODY.PEEK[HEADER]<0.32768>)\r\n|",
+        b"1 INBOX 7 0 3: 2#2;",
+    ),
 ];
 
 fn joined(alloc: Global, first: &[u8], rest: &[u8]) -> Result<Vec<u8>, AllocError> {
@@ -219,22 +273,37 @@ fn rounds_in_any_pieces(rt: HostRuntime) -> Result<(), Fail> {
     Ok(())
 }
 
-/// One life, exchange by exchange, with the mail that is told after each.
-const LIFE: [(&[u8], &[u8]); 5] = [
+/// One life over two folders, exchange by exchange, with the mail that is told after each.
+const LIFE: [(&[u8], &[u8]); 8] = [
     (CONNECTED, b""),
-    (b"* LIST () \"/\" INBOX\r\na5 OK x\r\n", b"1 INBOX 0 0 1:;"),
+    (
+        b"* LIST () \"/\" b\r\n* LIST (\\Subscribed) NIL {5}\r\nINBOX\r\na5 OK x\r\n",
+        b"1 INBOX\\subscribed 0 0 1:;2 b 0 0 1:;",
+    ),
     (
         b"* OK [UIDVALIDITY 7] x\r\n* OK [UIDNEXT 5] x\r\n* OK [HIGHESTMODSEQ 4] x\r\n* VANISHED (EARLIER) 2:3\r\na6 OK x\r\n",
-        b"1 INBOX 7 4 1:;",
+        b"1 INBOX\\subscribed 7 4 1:;2 b 0 0 1:;",
     ),
     (
         b"* 1 FETCH (UID 1 FLAGS (\\Seen) MODSEQ (1) INTERNALDATE \"02-Jan-2024 09:00:00 +0000\" RFC822.SIZE 9 BODY[HEADER]<0> {2}\r\na\n)\r\n* 2 FETCH (UID 4 FLAGS () MODSEQ (1) INTERNALDATE \"02-Jan-2024 09:00:00 +0000\" RFC822.SIZE 9 BODY[HEADER]<0> \"\")\r\na7 OK x\r\n",
-        b"1 INBOX 7 4 5: 1#1\\seen 4#2;",
+        b"1 INBOX\\subscribed 7 4 5: 1#1\\seen 4#2;2 b 0 0 1:;",
     ),
-    (b"* 9 EXISTS\r\n", b"1 INBOX 7 4 5: 1#1\\seen 4#2;"),
+    (
+        b"* VANISHED 1\r\n* OK [CLOSED] x\r\n* OK [UIDVALIDITY 9] x\r\n* OK [NOMODSEQ] x\r\na8 OK x\r\n",
+        b"1 INBOX\\subscribed 7 4 5: 1#1\\seen 4#2;2 b 9 0 1:;",
+    ),
+    (
+        b"* 1 FETCH (UID 7 FLAGS ())\r\na9 OK x\r\n",
+        b"1 INBOX\\subscribed 7 4 5: 1#1\\seen 4#2;2 b 9 0 1:;",
+    ),
+    (
+        b"* 1 FETCH (UID 7 FLAGS (\\Draft) INTERNALDATE \"02-Jan-2024 09:00:00 +0000\" RFC822.SIZE 9 BODY[HEADER]<0> {1}\r\n\n)\r\na10 OK x\r\n",
+        FRESH,
+    ),
+    (b"* 9 EXISTS\r\n", FRESH),
 ];
 
-const FRESH: &[u8] = b"1 INBOX 7 4 5: 1#1\\seen 4#2;";
+const FRESH: &[u8] = b"1 INBOX\\subscribed 7 4 5: 1#1\\seen 4#2;2 b 9 0 8: 7#3\\draft;";
 
 /// The mail that is told once this many octets of the life came.
 fn told_after(count: usize) -> &'static [u8] {
@@ -289,8 +358,9 @@ fn a_life_cut_at_each_octet(rt: HostRuntime) -> Result<(), Fail> {
     Ok(())
 }
 
-/// No more calls of the outside than two lives have.
-const CALLS: u64 = 18;
+/// The most octets that a read gives, and a number of calls of the outside that is greater than those of one life and less
+/// than those of two.
+const CALLS: [(usize, u64); 2] = [(100, 32), (100_000, 18)];
 
 /// Of three lives the last ends well, whichever call fails before.
 fn expect_failing(
@@ -316,8 +386,8 @@ fn expect_failing(
 #[test]
 fn each_call_of_the_outside_failing(rt: HostRuntime) -> Result<(), Fail> {
     let whole = whole_life(rt.alloc())?;
-    for piece in [100, 100_000] {
-        for failing in 1..=CALLS {
+    for (piece, calls) in CALLS {
+        for failing in 1..calls {
             expect_failing(&rt, rt.alloc(), &whole, failing, piece)?;
         }
     }

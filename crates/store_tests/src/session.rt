@@ -4,140 +4,223 @@ use std::alloc::Global;
 use std::process::Abort;
 use std::test::Fail;
 
-/// What the store gives, the user, the answers, and what the store took, with `|` at each end of a life.
-type Row = (&'static [u8], &'static [u8], &'static str, &'static [u8]);
+/// A user and a password.
+type Secrets = (&'static [u8], &'static [u8]);
 
-const STARTS: [Row; 22] = [
-    (b"* BYE no\r\n", b"alice", "Bye ", b"|"),
+const ALICE: Secrets = (b"alice", b"pw");
+
+/// What the store gives, the user and the password, the answers, and what the store took, with `|` at each end of a life.
+type Row = (&'static [u8], Secrets, &'static str, &'static [u8]);
+
+const STARTS: [Row; 34] = [
+    (b"* BYE no\r\n", ALICE, "Bye ", b"|"),
     (
         b"* OK hi\r\na1 NO no\r\n* BYE\r\n",
-        b"alice",
+        ALICE,
         "Refused ",
         b"a1 CAPABILITY\r\n|",
     ),
     (
         b"* OK hi\r\na1 BAD no\r\n",
-        b"alice",
+        ALICE,
         "Refused ",
         b"a1 CAPABILITY\r\n|",
     ),
     (
         b"* OK hi\r\n* BYE\r\na1 NO no\r\n",
-        b"alice",
+        ALICE,
         "Bye ",
         b"a1 CAPABILITY\r\n|",
     ),
     (
         b"* OK hi\r\na2 OK no\r\n",
-        b"alice",
+        ALICE,
         "Stray ",
         b"a1 CAPABILITY\r\n|",
     ),
     (
         b"* OK hi\r\na1 NO no\r\na2 OK no\r\n",
-        b"alice",
+        ALICE,
         "Refused ",
         b"a1 CAPABILITY\r\n|",
     ),
     (
         b"* OK hi\r\n*\r\n",
-        b"alice",
+        ALICE,
         "Bad { at: 9 } ",
         b"a1 CAPABILITY\r\n|",
     ),
     (
         b"* OK hi\r\na1 NO no\r\n*\r\n",
-        b"alice",
+        ALICE,
         "Refused ",
         b"a1 CAPABILITY\r\n|",
     ),
     (
         b"* OK hi\r\na1 OK x\r\n",
-        b"alice",
+        ALICE,
         "Lost ",
         b"a1 CAPABILITY\r\na2 LOGIN \"alice\" \"pw\"\r\n|",
     ),
     // an answer that came before it was asked
     (
         b"* OK hi\r\n+ go\r\na1 OK x\r\na2 NO no\r\n",
-        b"alice",
+        ALICE,
         "Refused ",
         b"a1 CAPABILITY\r\na2 LOGIN \"alice\" \"pw\"\r\n|",
     ),
     (
         b"* OK hi\r\n* CAPABILITY IMAP4rev2 logindisabled\r\na1 OK x\r\n",
-        b"alice",
+        ALICE,
         "Refused ",
         b"a1 CAPABILITY\r\n|",
     ),
     // after LOGIN it means nothing
     (
         b"* OK hi\r\na1 OK x\r\na2 OK x\r\n* CAPABILITY LOGINDISABLED imap4rev2 qresync\r\na3 OK x\r\n* ENABLED QRESYNC\r\na4 OK x\r\na5 NO no\r\n",
-        b"alice",
+        ALICE,
         "ok Refused ",
         b"a1 CAPABILITY\r\na2 LOGIN \"alice\" \"pw\"\r\na3 CAPABILITY\r\na4 ENABLE QRESYNC IMAP4rev2\r\na5 LIST \"\" \"*\" RETURN (SUBSCRIBED)\r\n|",
     ),
     // the same where LOGIN is left out
     (
         b"* PREAUTH hi\r\n* CAPABILITY LOGINDISABLED\r\na1 OK x\r\n* CAPABILITY QRESYNC\r\na2 OK x\r\n",
-        b"alice",
+        ALICE,
         "NoQresync ",
         b"a1 CAPABILITY\r\na2 CAPABILITY\r\n|",
     ),
     (
         b"* OK hi\r\na1 OK x\r\na2 OK x\r\n* CAPABILITY IMAP4rev2\r\na3 OK x\r\n",
-        b"alice",
+        ALICE,
         "NoQresync ",
         b"a1 CAPABILITY\r\na2 LOGIN \"alice\" \"pw\"\r\na3 CAPABILITY\r\n|",
     ),
     (
         b"* OK hi\r\na1 OK x\r\na2 OK x\r\n* CAPABILITY IMAP4rev2 QRESYNC\r\na3 OK x\r\n* ENABLED IMAP4rev2\r\na4 OK x\r\n",
-        b"alice",
+        ALICE,
         "NoQresync ",
         b"a1 CAPABILITY\r\na2 LOGIN \"alice\" \"pw\"\r\na3 CAPABILITY\r\na4 ENABLE QRESYNC IMAP4rev2\r\n|",
     ),
     (
         b"* OK hi\r\na1 OK x\r\na2 OK x\r\n* CAPABILITY IMAP4rev2 QRESYNC\r\na3 OK x\r\n* ENABLED QRESYNC\r\na4 NO x\r\n",
-        b"alice",
+        ALICE,
         "NoQresync ",
         b"a1 CAPABILITY\r\na2 LOGIN \"alice\" \"pw\"\r\na3 CAPABILITY\r\na4 ENABLE QRESYNC IMAP4rev2\r\n|",
     ),
     (
         b"* OK hi\r\na1 OK x\r\na2 OK x\r\na3 NO x\r\n",
-        b"alice",
+        ALICE,
         "Refused ",
         b"a1 CAPABILITY\r\na2 LOGIN \"alice\" \"pw\"\r\na3 CAPABILITY\r\n|",
     ),
     // a literal waits for its continuation
     (
         b"* OK hi\r\na1 OK x\r\n",
-        b"al\x80ce",
+        (b"al\x80ce", b"pw"),
         "Lost ",
         b"a1 CAPABILITY\r\na2 LOGIN {5}\r\n|",
     ),
     (
         b"* OK hi\r\na1 OK x\r\na2 OK early\r\n",
-        b"al\x80ce",
+        (b"al\x80ce", b"pw"),
         "Stray ",
         b"a1 CAPABILITY\r\na2 LOGIN {5}\r\n|",
     ),
     (
         b"* OK hi\r\na1 OK x\r\na2 NO no\r\n",
-        b"al\x80ce",
+        (b"al\x80ce", b"pw"),
         "Refused ",
         b"a1 CAPABILITY\r\na2 LOGIN {5}\r\n|",
     ),
     (
         b"* OK hi\r\na1 OK x\r\n+ go\r\na2 BAD no\r\n",
-        b"al\x80ce",
+        (b"al\x80ce", b"pw"),
         "Refused ",
         b"a1 CAPABILITY\r\na2 LOGIN {5}\r\nal\x80ce \"pw\"\r\n|",
     ),
     (
         b"* OK hi\r\na1 OK x\r\n+ go\r\n* BYE\r\na2 OK no\r\n",
-        b"al\x80ce",
+        (b"al\x80ce", b"pw"),
         "Bye ",
         b"a1 CAPABILITY\r\na2 LOGIN {5}\r\nal\x80ce \"pw\"\r\n|",
+    ),
+    // the first that decides is in the octets before a NO
+    (
+        b"* OK hi\r\na9 OK no\r\na1 NO no\r\n",
+        ALICE,
+        "Stray ",
+        b"a1 CAPABILITY\r\n|",
+    ),
+    (
+        b"* OK hi\r\n*\r\na1 NO no\r\n",
+        ALICE,
+        "Bad { at: 9 } ",
+        b"a1 CAPABILITY\r\n|",
+    ),
+    // a continuation that came before LOGIN was sent is of the command before it
+    (
+        b"* OK hi\r\n+ go\r\na1 OK x\r\na2 OK early\r\n",
+        (b"al\x80ce", b"pw"),
+        "Stray ",
+        b"a1 CAPABILITY\r\na2 LOGIN {5}\r\n|",
+    ),
+    // a password that can't be quoted
+    (
+        b"* OK hi\r\na1 OK x\r\n",
+        (b"alice", b"p\x80w"),
+        "Lost ",
+        b"a1 CAPABILITY\r\na2 LOGIN \"alice\" {3}\r\n|",
+    ),
+    (
+        b"* OK hi\r\na1 OK x\r\n+ go\r\na2 NO no\r\n",
+        (b"alice", b"p\x80w"),
+        "Refused ",
+        b"a1 CAPABILITY\r\na2 LOGIN \"alice\" {3}\r\np\x80w\r\n|",
+    ),
+    (
+        b"* OK hi\r\na1 OK x\r\n+ go\r\na2 OK in\r\na3 NO no\r\n",
+        (b"alice", b"p\x1fw"),
+        "Refused ",
+        b"a1 CAPABILITY\r\na2 LOGIN \"alice\" {3}\r\np\x1fw\r\na3 CAPABILITY\r\n|",
+    ),
+    // two literals, each after a continuation of its own
+    (
+        b"* OK hi\r\na1 OK x\r\n+ go\r\n+ go\r\na2 OK in\r\na3 NO no\r\n",
+        (b"al\x80ce", b"p\x7fw"),
+        "Refused ",
+        b"a1 CAPABILITY\r\na2 LOGIN {5}\r\nal\x80ce {3}\r\np\x7fw\r\na3 CAPABILITY\r\n|",
+    ),
+    (
+        b"* OK hi\r\na1 OK x\r\n+ go\r\na2 OK early\r\n",
+        (b"al\x80ce", b"p\x7fw"),
+        "Stray ",
+        b"a1 CAPABILITY\r\na2 LOGIN {5}\r\nal\x80ce {3}\r\n|",
+    ),
+    (
+        b"* OK hi\r\na1 OK x\r\n+ go\r\na2 NO no\r\n",
+        (b"al\x80ce", b"p\x7fw"),
+        "Refused ",
+        b"a1 CAPABILITY\r\na2 LOGIN {5}\r\nal\x80ce {3}\r\n|",
+    ),
+    // what is quoted: from a space to a tilde, and none
+    (
+        b"* OK hi\r\na1 OK x\r\na2 NO no\r\n",
+        (b" ~", b""),
+        "Refused ",
+        b"a1 CAPABILITY\r\na2 LOGIN \" ~\" \"\"\r\n|",
+    ),
+    (
+        b"* OK hi\r\na1 OK x\r\na2 NO no\r\n",
+        (b"a\"b", b"c\\d"),
+        "Refused ",
+        b"a1 CAPABILITY\r\na2 LOGIN \"a\\\"b\" \"c\\\\d\"\r\n|",
+    ),
+    // PREAUTH sends no password, whatever its octets are
+    (
+        b"* PREAUTH hi\r\na1 OK x\r\na2 NO no\r\n",
+        (b"al\x80ce", b"p\x80w"),
+        "Refused ",
+        b"a1 CAPABILITY\r\na2 CAPABILITY\r\n|",
     ),
 ];
 
@@ -159,8 +242,8 @@ fn expect_start(rt: &impl Abort, alloc: Global, row: &Row, piece: usize) -> Resu
     let links = [row.0];
     let lives = Lives {
         links: &links,
-        user: row.1,
-        password: b"pw",
+        user: row.1.0,
+        password: row.1.1,
         piece,
         failing: 0,
         body: (1, 0),
@@ -178,25 +261,44 @@ fn the_first_in_the_octets_decides(rt: HostRuntime) -> Result<(), Fail> {
     Ok(())
 }
 
-/// What the store gives, the call that fails, and the answers: what is held decides.
-const HELD: [(&[u8], u64, &str); 6] = [
-    (b"* OK hi\r\na1 NO no\r\n", 3, "Refused "),
-    (b"* OK hi\r\na1 OK no\r\n", 3, "Lost "),
-    (b"* OK hi\r\n* BYE x\r\na1 NO no\r\n", 3, "Bye "),
-    (b"* OK hi\r\na9 NO no\r\n", 3, "Stray "),
-    (b"* OK hi\r\n*\r\na1 NO no\r\n", 3, "Bad { at: 9 } "),
-    (b"* OK hi\r\n", 3, "Lost "),
+/// What the store gives, the call that fails, the answers, and what the store took: what is held decides.
+type HeldRow = (&'static [u8], u64, &'static str, &'static [u8]);
+
+const HELD: [HeldRow; 10] = [
+    (b"* OK hi\r\na1 NO no\r\n", 3, "Refused ", b"|"),
+    (b"* OK hi\r\na1 OK no\r\n", 3, "Lost ", b"|"),
+    (b"* OK hi\r\n* BYE x\r\na1 NO no\r\n", 3, "Bye ", b"|"),
+    (b"* OK hi\r\na9 NO no\r\n", 3, "Stray ", b"|"),
+    (b"* OK hi\r\n*\r\na1 NO no\r\n", 3, "Bad { at: 9 } ", b"|"),
+    (b"* OK hi\r\n", 3, "Lost ", b"|"),
+    // behind a NO nothing decides
+    (b"* OK hi\r\na1 NO no\r\n* BYE x\r\n", 3, "Refused ", b"|"),
+    (
+        b"* OK hi\r\na1 BAD no\r\na9 OK x\r\n*\r\n",
+        3,
+        "Refused ",
+        b"|",
+    ),
+    // the write of the second command fails
+    (
+        b"* OK hi\r\na1 OK x\r\na2 NO no\r\n",
+        4,
+        "Refused ",
+        b"a1 CAPABILITY\r\n|",
+    ),
+    (
+        b"* OK hi\r\na1 OK x\r\na2 OK no\r\n",
+        4,
+        "Lost ",
+        b"a1 CAPABILITY\r\n|",
+    ),
 ];
 
-fn expect_held(
-    rt: &impl Abort,
-    alloc: Global,
-    row: &(&'static [u8], u64, &'static str),
-) -> Result<(), Fail> {
+fn expect_held(rt: &impl Abort, alloc: Global, row: &HeldRow) -> Result<(), Fail> {
     let links = [row.0];
     let mut lives = plain(&links);
     lives.failing = row.1;
-    expect_lives(rt, alloc, &lives, row.2, b"|")
+    expect_lives(rt, alloc, &lives, row.2, row.3)
 }
 
 #[test]

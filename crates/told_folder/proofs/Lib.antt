@@ -4,6 +4,7 @@ pub mod IndexLemmas
 pub mod OpenLemmas
 pub mod VanishLemmas
 pub mod SameLemmas
-pub mod RangeLemmas
+pub mod PartLemmas
+pub mod LostLemmas
 pub mod HeaderLemmas
 pub mod StepLemmas

@@ -5,7 +5,6 @@ use Rattle.std.specs.BTreeMap.{BTreeMap, get, is_at}
 use Rattle.std.specs.Option.{option_map}
 use Rattle.std.specs.Bool.{OnTrue, Decides}
 use Rattle.told_folder.specs.Keyed.{Ascends, with_key, put_keyed}
-use Rattle.told_folder.specs.Places.{IsHeldAt, IsFreeAt}
 use Rattle.told_folder.specs.Folders.{uid_of, held_in, messages_of, message_in, mark_in, with_messages}
 use Rattle.told_folder.specs.Index.{IsIndexed}
 use Rattle.told_folder.specs.declared.message.Message.{Message}
@@ -18,8 +17,9 @@ use Rattle.told_folder.specs.Tell.{Telling, with_flags, with_new, new_message, t
 use Rattle.imap_syntax.specs.declared.response.Response.{Response}
 use Rattle.std.proofs.lemmas.List.{take_more}
 use Rattle.told_folder.specs.Work.{telling_of, IsIndexOf, GoesOn, GoesOk, IsFlagged}
-use Rattle.told_folder.proofs.KeyedLemmas.{found_put, ascends_put, item_at, held_found, set_stays, put_held, put_free, free_found}
-use Rattle.told_folder.proofs.FolderLemmas.{set_here, with_twice, held_with, messages_other, numbers_with, uids_with}
+use Rattle.told_folder.proofs.KeyedLemmas.{found_put, ascends_put, some_same}
+use Rattle.told_folder.proofs.PartLemmas.{some_there, found_key, put_found}
+use Rattle.told_folder.proofs.FolderLemmas.{with_twice, held_with, messages_other, numbers_with, uids_with}
 use Rattle.told_folder.proofs.IndexLemmas.{mark_of, mark_same, mark_was, same_or_not, inverts_same, eqb_same, eqb_apart, indexed_put, indexed_again}
 
 pub on_true : (r : Bool) (P : Type 0) → Decides r P → OnTrue r P
@@ -73,68 +73,79 @@ telling_same xs ys a b e f = cc
 
 -- the index goes on where folder and marks stay
 pub index_on : (hs : List Held) (old new : Work) → new.folder ≡ old.folder → new.marks ≡ old.marks → new.next_mark ≡ old.next_mark → is_some (held_in hs old.folder) ≡ true
-    → IsIndexed (with_messages hs old.folder new.messages.items) old.marks old.next_mark → IsIndexOf hs new
+    → IsIndexed (with_messages hs old.folder new.messages) old.marks old.next_mark → IsIndexOf hs new
 index_on hs old new folder marks next there i = record {
   there = subst (λ n. is_some (held_in hs n) ≡ true) (sym folder) there;
   indexed =
-      subst (λ n. IsIndexed (with_messages hs n new.messages.items) new.marks new.next_mark) (sym folder)
-      (subst (λ (m : BTreeMap ℕ (ℕ × ℕ)). IsIndexed (with_messages hs old.folder new.messages.items) m new.next_mark) (sym marks)
-      (subst (λ n. IsIndexed (with_messages hs old.folder new.messages.items) old.marks n) (sym next) i));
+      subst (λ n. IsIndexed (with_messages hs n new.messages) new.marks new.next_mark) (sym folder)
+      (subst (λ (m : BTreeMap ℕ (ℕ × ℕ)). IsIndexed (with_messages hs old.folder new.messages) m new.next_mark) (sym marks)
+      (subst (λ n. IsIndexed (with_messages hs old.folder new.messages) old.marks n) (sym next) i));
 }
 
-pub held_goes : (old new : Work) (at uid : ℕ) (items : FetchItems) (flags : List (List ℕ)) (result : Result (Unit {0}) AllocError) (adds : Bool) → Ascends uid_of old.messages.items
-    → IsHeldAt uid_of uid old.messages.items at → items.flags ≡ Some flags → IsFlagged old new at flags result
-    → GoesOk old new (tell_uid adds (telling_of old) uid items (with_key uid_of uid old.messages.items)) result
-held_goes old new at uid items flags result adds up held is f =
-    let xs : List Message = old.messages.items in
-    let item = item_at uid_of xs at held.within in
+pub held_goes : (old new : Work) (uid : ℕ) (items : FetchItems) (flags : List (List ℕ)) (result : Result (Unit {0}) AllocError) (adds : Bool) → Ascends uid_of old.messages
+    → is_some (with_key uid_of uid old.messages) ≡ true → items.flags ≡ Some flags
+    → ((x : Message) → with_key uid_of uid old.messages ≡ Some x → IsFlagged old new x flags result)
+    → GoesOk old new (tell_uid adds (telling_of old) uid items (with_key uid_of uid old.messages)) result
+held_goes old new uid items flags result adds up held is flagged =
+    let xs : List Message = old.messages in
+    let item = some_there (with_key uid_of uid xs) held in
     let x : Message = item.0 in
+    let found : with_key uid_of uid xs ≡ Some x = item.1 in
+    let f : IsFlagged old new x flags result = flagged x found in
     let y : Message = record x { flags = flags } in
-    let uid_is : x.uid ≡ uid = ap uid_of item.1 ∙ held.same x in
-    let found : Some x ≡ with_key uid_of uid xs = held_found uid_of uid xs up at held x item.1 in
-    let put : put_keyed uid_of y xs ≡ set xs at y = put_held uid_of uid y xs at held uid_is in
-    let at_x : Some x ≡ with_key uid_of x.uid xs = found ∙ ap (λ u. with_key uid_of u xs) (sym uid_is) in
+    let uid_is : x.uid ≡ uid = found_key uid xs x found in
+    let at_x : with_key uid_of x.uid xs ≡ Some x = ap (λ u. with_key uid_of u xs) uid_is ∙ found in
     let told_is : ◌≡◌ {A = Telling} (record { messages = put_keyed uid_of y xs; next_mark = old.next_mark }) (tell_uid adds (telling_of old) uid items (with_key uid_of uid xs)) =
     ap (λ (fs : Option (List (List ℕ))). record { messages = put_keyed uid_of (with_flags x fs) xs; next_mark = old.next_mark }) (sym is)
-    ∙ ap (λ (o : Option Message). tell_uid adds (telling_of old) uid items o) found in
+    ∙ ap (λ (o : Option Message). tell_uid adds (telling_of old) uid items o) (sym found) in
+    let put_y : with_key uid_of x.uid (put_keyed uid_of y xs) ≡ Some y = found_put uid_of x.uid y xs up
+    ∙ ap (λ b. if b then Some y else with_key uid_of x.uid xs) (eqb_same x.uid) in
     record {
       on = f.on;
-      known = λ e. f.known x item.1 (sym (ap (λ (z : Message). z.flags) (set_stays xs at x y held.within item.1 (sym put ∙ ap (λ (t : Telling). t.messages) (told_is ∙ e)))));
-      ascends = λ a. elim result as (λ r. OnOk r ((z : Message) → z ≡ get_or xs at z → new.messages.items ≡ set xs at (record z { flags = flags }))
-          → OnErr r (new.messages.items ≡ xs) → Ascends uid_of new.messages.items) [
-            | Ok v ↦ λ e d. subst (λ (zs : List Message). Ascends uid_of zs) (sym (e x item.1 ∙ sym put)) (ascends_put uid_of y xs a)
-            | Err v ↦ λ e d. subst (λ (zs : List Message). Ascends uid_of zs) (sym d) a
-          ] f.told f.err;
-      told = on_ok_map result (λ e.
-          telling_same _ _ _ _ (e x item.1 ∙ sym put) f.next_mark
-          ∙ ap (λ (fs : Option (List (List ℕ))). record { messages = put_keyed uid_of (with_flags x fs) xs; next_mark = old.next_mark }) (sym is)
-          ∙ ap (λ (o : Option Message). tell_uid adds (telling_of old) uid items o) found) f.told;
+      known = λ e.
+          let same : put_keyed uid_of y xs ≡ xs = ap (λ (t : Telling). t.messages) (told_is ∙ e) in
+          let one : x ≡ y = some_same _ _ (sym at_x ∙ ap (λ (zs : List Message). with_key uid_of x.uid zs) (sym same) ∙ put_y) in
+          f.known (ap (λ (z : Message). z.flags) one);
+      ascends = λ a. elim result as (λ r. OnOk r (new.messages ≡ put_keyed uid_of y xs) → OnErr r (new.messages ≡ xs) → Ascends uid_of new.messages) [
+        | Ok v ↦ λ e d. subst (λ (zs : List Message). Ascends uid_of zs) (sym e) (ascends_put uid_of y xs a)
+        | Err v ↦ λ e d. subst (λ (zs : List Message). Ascends uid_of zs) (sym d) a
+      ] f.told f.err;
+      told = on_ok_map result (λ e. telling_same _ _ _ _ e f.next_mark ∙ told_is) f.told;
       index = λ hs i. index_on hs old new f.on.folder f.marks f.next_mark i.there
-          (elim result as (λ r. OnOk r ((z : Message) → z ≡ get_or xs at z → new.messages.items ≡ set xs at (record z { flags = flags })) → OnErr r (new.messages.items ≡ xs)
-          → IsIndexed (with_messages hs old.folder new.messages.items) old.marks old.next_mark) [
-            | Ok v ↦ λ e d. subst (λ (zs : List Message). IsIndexed (with_messages hs old.folder zs) old.marks old.next_mark) (sym (e x item.1 ∙ sym put))
-                (index_same hs old.folder xs (put_keyed uid_of y xs) old.marks old.next_mark i.there (ascends_put uid_of y xs up) (put_marks y x xs up at_x refl) i.indexed)
+          (elim result as (λ r. OnOk r (new.messages ≡ put_keyed uid_of y xs) → OnErr r (new.messages ≡ xs)
+          → IsIndexed (with_messages hs old.folder new.messages) old.marks old.next_mark) [
+            | Ok v ↦ λ e d. subst (λ (zs : List Message). IsIndexed (with_messages hs old.folder zs) old.marks old.next_mark) (sym e)
+                (index_same hs old.folder xs (put_keyed uid_of y xs) old.marks old.next_mark i.there (ascends_put uid_of y xs up) (put_marks y x xs up (sym at_x) refl) i.indexed)
             | Err v ↦ λ e d. subst (λ (zs : List Message). IsIndexed (with_messages hs old.folder zs) old.marks old.next_mark) (sym d) i.indexed
           ] f.told f.err);
     }
 
+-- memory lacked for the flags
+pub stays_flagged : (old : Work) (x : Message) (flags : List (List ℕ)) (e : AllocError) → IsFlagged old old x flags (Err e)
+stays_flagged old x flags e = record {
+  on = record { folder = refl; rises = omega arith; stands = λ f l. refl; draws = λ f l. refl };
+  marks = refl;
+  next_mark = refl;
+  told = tt;
+  err = refl;
+  known = λ k. tt;
+}
+
 -- a message that is held, of which no flags are told
-pub held_stays : (old : Work) (at uid : ℕ) (items : FetchItems) (adds : Bool) → Ascends uid_of old.messages.items → IsHeldAt uid_of uid old.messages.items at → items.flags ≡ None
-    → GoesOk old old (tell_uid adds (telling_of old) uid items (with_key uid_of uid old.messages.items)) (Ok tt)
-held_stays old at uid items adds up held is =
-    let xs : List Message = old.messages.items in
-    let item = item_at uid_of xs at held.within in
+pub held_stays : (old : Work) (uid : ℕ) (items : FetchItems) (adds : Bool) → Ascends uid_of old.messages → is_some (with_key uid_of uid old.messages) ≡ true → items.flags ≡ None
+    → GoesOk old old (tell_uid adds (telling_of old) uid items (with_key uid_of uid old.messages)) (Ok tt)
+held_stays old uid items adds up held is =
+    let xs : List Message = old.messages in
+    let item = some_there (with_key uid_of uid xs) held in
     let x : Message = item.0 in
-    let uid_is : x.uid ≡ uid = ap uid_of item.1 ∙ held.same x in
-    let found : Some x ≡ with_key uid_of uid xs = held_found uid_of uid xs up at held x item.1 in
-    let put : put_keyed uid_of x xs ≡ xs = put_held uid_of uid x xs at held uid_is ∙ set_here xs at x held.within item.1 in
+    let put : put_keyed uid_of x xs ≡ xs = put_found uid x xs up item.1 in
     record {
       on = record { folder = refl; rises = omega arith; stands = λ e l. refl; draws = λ e l. refl };
       ascends = λ a. a;
       known = λ e. refl;
       told = telling_same _ _ _ _ (sym put) refl
           ∙ ap (λ (fs : Option (List (List ℕ))). record { messages = put_keyed uid_of (with_flags x fs) xs; next_mark = old.next_mark }) (sym is)
-          ∙ ap (λ (o : Option Message). tell_uid adds (telling_of old) uid items o) found;
+          ∙ ap (λ (o : Option Message). tell_uid adds (telling_of old) uid items o) (sym item.1);
       index = λ hs i. i;
     }
 
@@ -153,13 +164,12 @@ index_put hs n xs marks marks' nm nm' x there grows fits fresh free upd i =
     subst P (ap (λ (zs : List Message). with_messages ks n (put_keyed uid_of x zs)) r.1.messages ∙ with_twice hs n xs (put_keyed uid_of x xs))
     (indexed_put ks marks marks' nm nm' n r.0 x grows fits i r.1.found free_ks new upd)
 
-pub put_goes : (old new : Work) (at : ℕ) (x : Message) → Ascends uid_of old.messages.items → IsFreeAt uid_of x.uid old.messages.items at → x.mark ≡ old.next_mark → GoesOn old new
-    → new.messages.items ≡ take at old.messages.items ++ x ∷ drop at old.messages.items → new.next_mark ≡ old.next_mark + 1
+pub put_goes : (old new : Work) (x : Message) → Ascends uid_of old.messages → with_key uid_of x.uid old.messages ≡ None → x.mark ≡ old.next_mark → GoesOn old new
+    → new.messages ≡ put_keyed uid_of x old.messages → new.next_mark ≡ old.next_mark + 1
     → ((q : ℕ) → get nat_cmp new.marks q ≡ cond (is_at (nat_cmp x.mark) q) (Some (old.folder, x.uid)) (get nat_cmp old.marks q))
     → GoesOk old new (with_new (telling_of old) (Some x)) (Ok tt)
-put_goes old new at x up free mark on messages next upd =
-    let xs : List Message = old.messages.items in
-    let put : new.messages.items ≡ put_keyed uid_of x xs = messages ∙ sym (put_free uid_of x xs at free.place.within free.place.before free.above) in
+put_goes old new x up free mark on put next upd =
+    let xs : List Message = old.messages in
     record {
       on = on;
       known = λ e. let next_is : old.next_mark + 1 ≡ old.next_mark = ap (λ (t : Telling). t.next_mark) e in absurd (omega (arith, next_is));
@@ -168,10 +178,10 @@ put_goes old new at x up free mark on messages next upd =
       index = λ hs i. record {
         there = subst (λ n. is_some (held_in hs n) ≡ true) (sym on.folder) i.there;
         indexed =
-            subst (λ n. IsIndexed (with_messages hs n new.messages.items) new.marks new.next_mark) (sym on.folder)
+            subst (λ n. IsIndexed (with_messages hs n new.messages) new.marks new.next_mark) (sym on.folder)
             (subst (λ (zs : List Message). IsIndexed (with_messages hs old.folder zs) new.marks new.next_mark) (sym put)
             (index_put hs old.folder xs old.marks new.marks old.next_mark new.next_mark x i.there (omega (arith, next)) (omega (arith, next, mark)) (omega (arith, mark))
-            (sym (free_found uid_of x.uid xs up at free)) upd i.indexed));
+            free upd i.indexed));
       };
     }
 
@@ -187,7 +197,7 @@ stays old t e = record {
 
 -- memory lacked, and the mark that was put was cut again
 pub put_fails : (old new : Work) (t : Telling) (k : ℕ) (p : ℕ × ℕ) (marks : BTreeMap ℕ (ℕ × ℕ)) (e : AllocError) → old.next_mark ≤ k → new.folder ≡ old.folder
-    → new.messages.items ≡ old.messages.items → new.next_mark ≡ old.next_mark → new.changes ≡ old.changes
+    → new.messages ≡ old.messages → new.next_mark ≡ old.next_mark → new.changes ≡ old.changes
     → ((q : ℕ) → get nat_cmp marks q ≡ cond (is_at (nat_cmp k) q) (Some p) (get nat_cmp old.marks q))
     → ((q : ℕ) → get nat_cmp new.marks q ≡ cond (is_at (nat_cmp k) q) None (get nat_cmp marks q)) → GoesOk old new t (Err e)
 put_fails old new t k p marks e fresh folder messages next changes upd upd' = record {
@@ -198,10 +208,10 @@ put_fails old new t k p marks e fresh folder messages next changes upd upd' = re
   index = λ hs i. record {
     there = subst (λ n. is_some (held_in hs n) ≡ true) (sym folder) i.there;
     indexed =
-        subst (λ n. IsIndexed (with_messages hs n new.messages.items) new.marks new.next_mark) (sym folder)
+        subst (λ n. IsIndexed (with_messages hs n new.messages) new.marks new.next_mark) (sym folder)
         (subst (λ (zs : List Message). IsIndexed (with_messages hs old.folder zs) new.marks new.next_mark) (sym messages)
-        (subst (λ n. IsIndexed (with_messages hs old.folder old.messages.items) new.marks n) (sym next)
-        (indexed_again (with_messages hs old.folder old.messages.items) old.marks marks new.marks old.next_mark k p i.indexed
+        (subst (λ n. IsIndexed (with_messages hs old.folder old.messages) new.marks n) (sym next)
+        (indexed_again (with_messages hs old.folder old.messages) old.marks marks new.marks old.next_mark k p i.indexed
         (λ q f. omega (arith, i.indexed.below q k f, fresh)) upd upd')));
   };
 }
@@ -222,23 +232,22 @@ pub goes_to : (old new : Work) (t u : Telling) (result : Result (Unit {0}) Alloc
 goes_to old new t u result e g = subst (λ (z : Telling). GoesOk old new z result) e g
 
 pub fetched : (old new : Work) (adds : Bool) (o : Option ℕ) (uid : ℕ) (items : FetchItems) (result : Result (Unit {0}) AllocError) → o ≡ Some uid
-    → GoesOk old new (tell_uid adds (telling_of old) uid items (with_key uid_of uid old.messages.items)) result → GoesOk old new (tell_fetch adds (telling_of old) o items) result
+    → GoesOk old new (tell_uid adds (telling_of old) uid items (with_key uid_of uid old.messages)) result → GoesOk old new (tell_fetch adds (telling_of old) o items) result
 fetched old new adds o uid items result e g = subst (λ (z : Option ℕ). GoesOk old new (tell_fetch adds (telling_of old) z items) result) (sym e) g
 
 -- of a UID that isn't held
-pub added : (old new : Work) (adds : Bool) (uid at : ℕ) (items : FetchItems) (result : Result (Unit {0}) AllocError) → Ascends uid_of old.messages.items
-    → IsFreeAt uid_of uid old.messages.items at → adds ≡ true
+pub added : (old new : Work) (adds : Bool) (uid : ℕ) (items : FetchItems) (result : Result (Unit {0}) AllocError) → with_key uid_of uid old.messages ≡ None → adds ≡ true
     → GoesOk old new (with_new (telling_of old) (new_message old.next_mark uid items.flags items.date items.size items.header)) result
-    → GoesOk old new (tell_uid adds (telling_of old) uid items (with_key uid_of uid old.messages.items)) result
-added old new adds uid at items result up free on g =
-    goes_to old new _ _ result (sym (ap (λ b. tell_uid b (telling_of old) uid items (with_key uid_of uid old.messages.items)) on
-    ∙ ap (λ (o : Option Message). tell_uid true (telling_of old) uid items o) (sym (free_found uid_of uid old.messages.items up at free)))) g
+    → GoesOk old new (tell_uid adds (telling_of old) uid items (with_key uid_of uid old.messages)) result
+added old new adds uid items result free on g =
+    goes_to old new _ _ result (sym (ap (λ b. tell_uid b (telling_of old) uid items (with_key uid_of uid old.messages)) on
+    ∙ ap (λ (o : Option Message). tell_uid true (telling_of old) uid items o) free)) g
 
-pub passed_over : (old : Work) (adds : Bool) (uid at : ℕ) (items : FetchItems) → Ascends uid_of old.messages.items → IsFreeAt uid_of uid old.messages.items at → adds ≡ false
-    → GoesOk old old (tell_uid adds (telling_of old) uid items (with_key uid_of uid old.messages.items)) (Ok tt)
-passed_over old adds uid at items up free off =
-    stays old _ (sym (ap (λ b. tell_uid b (telling_of old) uid items (with_key uid_of uid old.messages.items)) off
-    ∙ ap (λ (o : Option Message). tell_uid false (telling_of old) uid items o) (sym (free_found uid_of uid old.messages.items up at free))))
+pub passed_over : (old : Work) (adds : Bool) (uid : ℕ) (items : FetchItems) → with_key uid_of uid old.messages ≡ None → adds ≡ false
+    → GoesOk old old (tell_uid adds (telling_of old) uid items (with_key uid_of uid old.messages)) (Ok tt)
+passed_over old adds uid items free off =
+    stays old _ (sym (ap (λ b. tell_uid b (telling_of old) uid items (with_key uid_of uid old.messages)) off
+    ∙ ap (λ (o : Option Message). tell_uid false (telling_of old) uid items o) free))
 
 -- ---- one response more
 

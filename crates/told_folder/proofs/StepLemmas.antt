@@ -102,10 +102,10 @@ validity_of h = h.folder.validity
 
 -- another validity
 pub renewed : (old mid : Work) (f : Folder) (v changes : ℕ) → v ≢ f.validity
-    → Goes old mid (record { messages = without (λ u. true) old.messages.items; next_mark = old.next_mark }) → changes ≡ min (mid.changes + 1) (2 ^ 64 - 1) → mid.changes < 2 ^ 64
+    → Goes old mid (record { messages = without (λ u. true) old.messages; next_mark = old.next_mark }) → changes ≡ min (mid.changes + 1) (2 ^ 64 - 1) → mid.changes < 2 ^ 64
     → Steps old (record mid { changes = changes }) f (record f { validity = v; next = 1 }) (under v (held_of old f))
 renewed old mid f v changes apart goes more fits =
-    let messages : mid.messages.items ≡ [] = ap (λ (t : Telling). t.messages) goes.told ∙ without_all old.messages.items in
+    let messages : mid.messages ≡ [] = ap (λ (t : Telling). t.messages) goes.told ∙ without_all old.messages in
     let to : under v (held_of old f) ≡ held_of (record mid { changes = changes }) (record f { validity = v; next = 1 }) = under_other v (held_of old f) apart
     ∙ held_same _ _ _ _ refl (sym messages) in
     let rises : old.changes ≤ mid.changes = goes.on.rises in
@@ -137,14 +137,6 @@ without_same p q same (x ∷ xs) =
     ap (λ b. if not b then x ∷ without p xs else without p xs) (same x.uid)
     ∙ ap (λ (zs : List Message). if not (q x.uid) then x ∷ zs else zs) (without_same p q same xs)
 
--- the same messages go by a set of the same UIDs
-pub vanished_as : (old new : Work) (p q : ℕ → Bool) → ((u : ℕ) → p u ≡ q u) → Goes old new (record { messages = without p old.messages.items; next_mark = old.next_mark })
-    → GoesOk old new (record { messages = without q old.messages.items; next_mark = old.next_mark }) (Ok tt)
-vanished_as old new p q same g =
-    let to : ◌≡◌ {A = Telling} (record { messages = without p old.messages.items; next_mark = old.next_mark })
-    (record { messages = without q old.messages.items; next_mark = old.next_mark }) = telling_same _ _ _ _ (without_same p q same old.messages.items) refl in
-    record { on = g.on; ascends = g.ascends; told = g.told ∙ to; index = g.index; known = λ k. g.known (to ∙ k) }
-
 folder_same : (h k : Held) → h ≡ k → h.folder ≡ k.folder
 folder_same h k e = ap (λ (z : Held). z.folder) e
 
@@ -153,10 +145,10 @@ messages_same h k e = ap (λ (z : Held). z.messages) e
 
 -- FETCH of the flags of all
 pub kept_told : (old new : Work) (f : Folder) (c : Command) (rs : List Response) (told : BTreeSet ℕ) → c ≡ command.FetchFlags → ((u : ℕ) → contains nat_cmp told u ≡ is_told rs u)
-    → Goes old new (record { messages = without (λ u. not (contains nat_cmp told u)) old.messages.items; next_mark = old.next_mark })
-    → Steps old new f f (ended c rs f old.messages.items)
+    → Goes old new (record { messages = without (λ u. not (contains nat_cmp told u)) old.messages; next_mark = old.next_mark })
+    → Steps old new f f (ended c rs f old.messages)
 kept_told old new f c rs told is same goes =
-    let xs : List Message = old.messages.items in
+    let xs : List Message = old.messages in
     let kept : without (λ u. not (contains nat_cmp told u)) xs ≡ without (λ u. not (is_told rs u)) xs = without_same _ _ (λ u. ap not (same u)) xs in
     let to : ended c rs f xs ≡ record { folder = f; messages = without (λ u. not (is_told rs u)) xs } = ap (λ (d : Command). ended d rs f xs) is in
     record {
@@ -182,23 +174,23 @@ keeps_on a b c f g k on next p q = record {
 
 pub told_whole : (old a b d : Work) (f f1 g : Folder) (c : Command) (rs : List Response) (adding : Bool) (result : Result (Unit {0}) AllocError)
     → Steps old a f f1 (begun c rs (held_of old f)) → adding ≡ adds c → GoesWith (AllKnown adding (telling_of a) rs) a b (tell_responses adding (telling_of a) rs) (Ok tt)
-    → StepsOk b d f1 g (ended c rs f1 b.messages.items) result → Tells old d f g c rs result
+    → StepsOk b d f1 g (ended c rs f1 b.messages) result → Tells old d f g c rs result
 told_whole old a b d f f1 g c rs adding result start is mid end =
     let h : Held = held_of old f in
     let begin : Held = begun c rs h in
     let folder : f1 ≡ begin.folder = folder_same _ _ start.told in
-    let messages : a.messages.items ≡ begin.messages = messages_same _ _ start.told in
+    let messages : a.messages ≡ begin.messages = messages_same _ _ start.told in
     let from : telling_of a ≡ telling_in old.next_mark begin = telling_same _ _ _ _ messages start.next_mark in
     let to : telling_of b ≡ telling_by c rs old.next_mark h = mid.told ∙ ap (λ v. tell_responses v (telling_of a) rs) is
     ∙ ap (λ (t : Telling). tell_responses (adds c) t rs) from in
-    let now : b.messages.items ≡ (telling_by c rs old.next_mark h).messages = ap (λ (t : Telling). t.messages) to in
+    let now : b.messages ≡ (telling_by c rs old.next_mark h).messages = ap (λ (t : Telling). t.messages) to in
     let on_ab = goes_on_to old a b start.on mid.on in
     record {
       keeps = keeps_on old b d f f1 g on_ab end.on (keeps_on old a b f f1 f1 start.on mid.on start.keeps (record { same = refl; stands = λ e l. refl })) end.keeps;
       on = goes_on_to old b d on_ab end.on;
       ascends = λ u. end.ascends (mid.ascends (start.ascends u));
       index = λ hs i. end.index hs (mid.index hs (start.index hs i));
-      told = on_ok_map result (λ e. e ∙ ap (λ (z : Folder). ended c rs z b.messages.items) folder ∙ ap (λ (zs : List Message). ended c rs begin.folder zs) now) end.told;
+      told = on_ok_map result (λ e. e ∙ ap (λ (z : Folder). ended c rs z b.messages) folder ∙ ap (λ (zs : List Message). ended c rs begin.folder zs) now) end.told;
       next_mark = on_ok_always result (end.next_mark ∙ ap (λ (t : Telling). t.next_mark) to);
       known = λ k.
           let first : a.changes ≡ old.changes = start.known k.before in
@@ -209,8 +201,8 @@ told_whole old a b d f f1 g c rs adding result start is mid end =
           let second : b.changes ≡ a.changes = mid.known all in
           let stays : telling_of b ≡ telling_in old.next_mark h = mid.told ∙ known_stays adding (telling_of a) rs all ∙ from_h in
           let folder_h : f1 ≡ f = folder ∙ folder_same _ _ here in
-          let messages_h : b.messages.items ≡ old.messages.items = ap (λ (t : Telling). t.messages) stays in
-          let over : ended c rs f1 b.messages.items ≡ held_of b f1 = ap (λ (z : Folder). ended c rs z b.messages.items) folder_h
+          let messages_h : b.messages ≡ old.messages = ap (λ (t : Telling). t.messages) stays in
+          let over : ended c rs f1 b.messages ≡ held_of b f1 = ap (λ (z : Folder). ended c rs z b.messages) folder_h
           ∙ ap (λ (zs : List Message). ended c rs f zs) messages_h ∙ k.after ∙ held_same _ _ _ _ (sym folder_h) (sym messages_h) in
           on_ok_map result (λ e. e ∙ second ∙ first) (end.known over);
     }

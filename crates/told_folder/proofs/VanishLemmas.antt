@@ -203,22 +203,22 @@ filter_whole p (x ∷ xs) e =
       | false ↦ λ f. let short : length (filter p xs) ≤ length xs = filter_short p xs in absurd (omega (arith, f, short))
     ] e
 
-pub vanish_goes : (old new : Work) (gone : ℕ → Bool) → Ascends uid_of old.messages.items → GoesOn old new
-    → (without gone old.messages.items ≡ old.messages.items → new.changes ≡ old.changes) → new.messages.items ≡ without gone old.messages.items → new.next_mark ≡ old.next_mark
-    → ((q : ℕ) → get nat_cmp new.marks q ≡ cleared gone old.messages.items q (get nat_cmp old.marks q))
-    → Goes old new (record { messages = without gone old.messages.items; next_mark = old.next_mark })
+pub vanish_goes : (old new : Work) (gone : ℕ → Bool) → Ascends uid_of old.messages → GoesOn old new
+    → (without gone old.messages ≡ old.messages → new.changes ≡ old.changes) → new.messages ≡ without gone old.messages → new.next_mark ≡ old.next_mark
+    → ((q : ℕ) → get nat_cmp new.marks q ≡ cleared gone old.messages q (get nat_cmp old.marks q))
+    → Goes old new (record { messages = without gone old.messages; next_mark = old.next_mark })
 vanish_goes old new gone up on known kept next clear = record {
   on = on;
   known = λ e. known (ap (λ (t : Telling). t.messages) e);
-  ascends = λ a. subst (λ (zs : List Message). Ascends uid_of zs) (sym kept) (ascends_without gone old.messages.items a);
+  ascends = λ a. subst (λ (zs : List Message). Ascends uid_of zs) (sym kept) (ascends_without gone old.messages a);
   told = telling_same _ _ _ _ kept next;
   index = λ hs i. record {
     there = subst (λ n. is_some (held_in hs n) ≡ true) (sym on.folder) i.there;
     indexed =
-        subst (λ n. IsIndexed (with_messages hs n new.messages.items) new.marks new.next_mark) (sym on.folder)
+        subst (λ n. IsIndexed (with_messages hs n new.messages) new.marks new.next_mark) (sym on.folder)
         (subst (λ (zs : List Message). IsIndexed (with_messages hs old.folder zs) new.marks new.next_mark) (sym kept)
-        (subst (λ n. IsIndexed (with_messages hs old.folder (without gone old.messages.items)) new.marks n) (sym next)
-        (index_without gone hs old.folder old.messages.items old.marks new.marks old.next_mark i.there up clear i.indexed)));
+        (subst (λ n. IsIndexed (with_messages hs old.folder (without gone old.messages)) new.marks n) (sym next)
+        (index_without gone hs old.folder old.messages old.marks new.marks old.next_mark i.there up clear i.indexed)));
   };
 }
 

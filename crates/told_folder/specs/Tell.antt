@@ -17,8 +17,11 @@ pub record Telling : Type 0 where
 
 -- ---- VANISHED (RFC 7162 section 3.2.10)
 
+abbrev pub is_in : UidRange → ℕ → Bool
+is_in r u = nat_le r.first u && nat_le u r.last
+
 abbrev pub covers : List UidRange → ℕ → Bool
-covers rs u = list_any (λ r. nat_le r.first u && nat_le u r.last) rs
+covers rs u = list_any (λ r. is_in r u) rs
 
 abbrev pub without : (ℕ → Bool) → List Message → List Message
 without gone xs = filter (λ x. not (gone x.uid)) xs

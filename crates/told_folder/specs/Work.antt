@@ -1,7 +1,7 @@
 -- A folder while responses are told to it, beside the index of all folders.
-use Rattle.std.specs.Prelude.{◌≡◌, ℕ, ◌-◌, ◌^◌, ◌<◌, ◌≤◌, List, [], ◌∷◌, Option, None, ◌&&◌, ◌==◌, if◌then◌else◌, Result, Ok, OnOk, OnErr, slice_index_or}
-use Rattle.std.specs.Prelude.{slice_set, Bool, true, is_some}
-use Rattle.told_folder.specs.Keyed.{Ascends}
+use Rattle.std.specs.Prelude.{◌≡◌, ℕ, ◌-◌, ◌^◌, ◌<◌, ◌≤◌, List, [], ◌∷◌, Option, None, ◌&&◌, ◌==◌, if◌then◌else◌, Result, Ok, OnOk, OnErr}
+use Rattle.std.specs.Prelude.{Bool, true, is_some}
+use Rattle.told_folder.specs.Keyed.{Ascends, put_keyed}
 use Rattle.told_folder.specs.Folders.{uid_of, held_in, with_messages}
 use Rattle.told_folder.specs.Index.{IsIndexed}
 use Rattle.told_folder.specs.Tell.{Telling}
@@ -15,42 +15,41 @@ use Rattle.told_folder.specs.declared.telling.Work.{Work}
 use Rattle.std.specs.declared.alloc.AllocError.{AllocError}
 
 abbrev pub telling_of : Work → Telling
-telling_of o = record { messages = o.messages.items; next_mark = o.next_mark }
+telling_of o = record { messages = o.messages; next_mark = o.next_mark }
 
 -- the index of these folders, of which the open one has other messages now
 pub record IsIndexOf (hs : List Held) (w : Work) : Type 0 where
   pub there : is_some (held_in hs w.folder) ≡ true
-  pub indexed : IsIndexed (with_messages hs w.folder w.messages.items) w.marks w.next_mark
+  pub indexed : IsIndexed (with_messages hs w.folder w.messages) w.marks w.next_mark
 
 -- the count never falls, and where it stands, short of its last value, nothing has changed
 pub record GoesOn (old new : Work) : Type 0 where
   pub folder : new.folder ≡ old.folder
   pub rises : old.changes ≤ new.changes
-  pub stands : old.changes ≡ new.changes → new.changes < 2 ^ 64 - 1 → new.messages.items ≡ old.messages.items
+  pub stands : old.changes ≡ new.changes → new.changes < 2 ^ 64 - 1 → new.messages ≡ old.messages
   pub draws : old.changes ≡ new.changes → new.changes < 2 ^ 64 - 1 → new.next_mark ≡ old.next_mark
 
 -- the open folder comes to what was to be told
 pub record Goes (old new : Work) (t : Telling) : Type 0 where
   pub known : t ≡ telling_of old → new.changes ≡ old.changes
   pub on : GoesOn old new
-  pub ascends : Ascends uid_of old.messages.items → Ascends uid_of new.messages.items
+  pub ascends : Ascends uid_of old.messages → Ascends uid_of new.messages
   pub told : telling_of new ≡ t
   pub index : (hs : List Held) → IsIndexOf hs old → IsIndexOf hs new
 
--- the message at a place has these flags
-pub record IsFlagged (old new : Work) (at : ℕ) (flags : List (List ℕ)) (result : Result (Unit {0}) AllocError) : Type 0 where
+-- the message, which is held, has these flags
+pub record IsFlagged (old new : Work) (x : Message) (flags : List (List ℕ)) (result : Result (Unit {0}) AllocError) : Type 0 where
   pub on : GoesOn old new
   pub marks : new.marks ≡ old.marks
   pub next_mark : new.next_mark ≡ old.next_mark
-  pub told : OnOk result ((x : Message) → x ≡ slice_index_or old.messages.items at x
-      → new.messages.items ≡ slice_set old.messages.items at (record x { flags = flags }))
-  pub err : OnErr result (new.messages.items ≡ old.messages.items)
-  pub known : (x : Message) → x ≡ slice_index_or old.messages.items at x → x.flags ≡ flags → OnOk result (new.changes ≡ old.changes)
+  pub told : OnOk result (new.messages ≡ put_keyed uid_of (record x { flags = flags }) old.messages)
+  pub err : OnErr result (new.messages ≡ old.messages)
+  pub known : x.flags ≡ flags → OnOk result (new.changes ≡ old.changes)
 
 -- the same at Ok; where memory lacked the index and the count are right all the same. Where nothing new is told the count stands
 pub record GoesWith (Known : Type 0) (old new : Work) (t : Telling) (result : Result (Unit {0}) AllocError) : Type 0 where
   pub on : GoesOn old new
-  pub ascends : Ascends uid_of old.messages.items → Ascends uid_of new.messages.items
+  pub ascends : Ascends uid_of old.messages → Ascends uid_of new.messages
   pub told : OnOk result (telling_of new ≡ t)
   pub index : (hs : List Held) → IsIndexOf hs old → IsIndexOf hs new
   pub known : Known → OnOk result (new.changes ≡ old.changes)
@@ -66,7 +65,7 @@ cleared gone (x ∷ xs) q o = cleared gone xs q (if gone x.uid && x.mark == q th
 -- ---- the folder with its messages
 
 abbrev pub held_of : Work → Folder → Held
-held_of w f = record { folder = f; messages = w.messages.items }
+held_of w f = record { folder = f; messages = w.messages }
 
 -- the fields of the folder that no exchange of its own tells stay, and where the count stands all of them do
 pub record Keeps (old new : Work) (f g : Folder) : Type 0 where
@@ -77,7 +76,7 @@ pub record Keeps (old new : Work) (f g : Folder) : Type 0 where
 pub record StepsOk (old new : Work) (f g : Folder) (h : Held) (result : Result (Unit {0}) AllocError) : Type 0 where
   pub keeps : Keeps old new f g
   pub on : GoesOn old new
-  pub ascends : Ascends uid_of old.messages.items → Ascends uid_of new.messages.items
+  pub ascends : Ascends uid_of old.messages → Ascends uid_of new.messages
   pub index : (hs : List Held) → IsIndexOf hs old → IsIndexOf hs new
   pub next_mark : new.next_mark ≡ old.next_mark
   pub told : OnOk result (held_of new g ≡ h)
@@ -90,7 +89,7 @@ Steps old new f g h = StepsOk old new f g h (Ok tt)
 pub record Tells (old new : Work) (f g : Folder) (c : Command) (rs : List Response) (result : Result (Unit {0}) AllocError) : Type 0 where
   pub keeps : Keeps old new f g
   pub on : GoesOn old new
-  pub ascends : Ascends uid_of old.messages.items → Ascends uid_of new.messages.items
+  pub ascends : Ascends uid_of old.messages → Ascends uid_of new.messages
   pub index : (hs : List Held) → IsIndexOf hs old → IsIndexOf hs new
   pub told : OnOk result (held_of new g ≡ told_by c rs old.next_mark (held_of old f))
   pub next_mark : OnOk result (new.next_mark ≡ (telling_by c rs old.next_mark (held_of old f)).next_mark)

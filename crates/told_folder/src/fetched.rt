@@ -8,11 +8,11 @@ ghost use Rattle.told_folder.specs.Keyed.{Ascends};
 ghost use Rattle.told_folder.specs.Folders.{uid_of};
 ghost use Rattle.told_folder.specs.Work.{held_of, Steps, StepsOk};
 
-use crate::keyed::find;
+use crate::Folder;
+use crate::messages::Messages;
 use crate::puts::one_more;
 use crate::telling::{Work, tell_gone};
 use crate::uids::Uids;
-use crate::{Folder, Message};
 use imap_syntax::{Command, Response};
 use std::alloc::{AllocError, Global};
 use std::collections::BTreeSet;
@@ -28,22 +28,21 @@ fn uid_told(response: &Response) -> Option<u32>
 }
 
 /// One past the UID, where it is held; else 0.
-fn past(messages: &[Message], uid: Option<u32>) -> u64
-    requires { Ascends uid_of messages.now }
+fn past(messages: &Messages, uid: Option<u32>) -> u64
     ensures { result ≡ told.past messages.now uid }
 {
     let Some(uid) = uid else {
         return 0;
     };
-    match find(messages, u64::from(uid)) {
-        Some(_) => u64::from(uid) + 1,
-        None => 0,
+    if messages.holds(uid) {
+        u64::from(uid) + 1
+    } else {
+        0
     }
 }
 
 /// The greater of this number and one past the greatest UID that is told and held.
-fn next_told(messages: &[Message], responses: &[Response], next: u64) -> u64
-    requires { Ascends uid_of messages.now }
+fn next_told(messages: &Messages, responses: &[Response], next: u64) -> u64
     ensures { result ≡ max next (past_told messages.now responses.now) }
 {
     let mut last = next;
@@ -97,12 +96,12 @@ pub fn tell_end(
     command: &Command,
     responses: &[Response],
 ) -> Result<(), AllocError>
-    requires { Ascends uid_of work.old.messages.items }
-    ensures { StepsOk work.old work.new folder.old folder.new (ended command.now responses.now folder.old work.old.messages.items) result }
+    requires { Ascends uid_of work.old.messages }
+    ensures { StepsOk work.old work.new folder.old folder.new (ended command.now responses.now folder.old work.old.messages) result }
 {
     match command {
         Command::FetchNew { .. } => {
-            let next = next_told(work.messages.as_slice(), responses, folder.next);
+            let next = next_told(&work.messages, responses, folder.next);
             set_next(work, folder, next);
             Ok(())
         }
@@ -112,7 +111,7 @@ pub fn tell_end(
             Ok(())
         }
         Command::FetchFlags => {
-            tell_gone(work, &untold_by(alloc, responses)?);
+            tell_gone(alloc, work, &untold_by(alloc, responses)?);
             Ok(())
         }
         _ => Ok(()),

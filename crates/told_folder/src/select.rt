@@ -12,6 +12,7 @@ use crate::puts::one_more;
 use crate::telling::{Work, tell_gone};
 use crate::uids::AllUids;
 use imap_syntax::{Code, Response, Status};
+use std::alloc::Global;
 
 fn is_closed(response: &Response) -> bool
     ensures { result ≡ told.is_closed response.now }
@@ -118,14 +119,14 @@ fn modseq_told(responses: &[Response]) -> u64
 }
 
 /// Under another validity the folder is another, of which nothing is known.
-fn set_validity(work: &mut Work, folder: &mut Folder, validity: u32)
-    requires { Ascends uid_of work.old.messages.items }
+fn set_validity(alloc: Global, work: &mut Work, folder: &mut Folder, validity: u32)
+    requires { Ascends uid_of work.old.messages }
     ensures { Steps work.old work.new folder.old folder.new (told.under validity (held_of work.old folder.old)) }
 {
     if validity != folder.validity {
         folder.validity = validity;
         folder.next = 1;
-        tell_gone(work, &AllUids);
+        tell_gone(alloc, work, &AllUids);
         work.changes = one_more(work.changes);
     }
 }
@@ -140,11 +141,11 @@ fn set_modseq(work: &mut Work, folder: &mut Folder, modseq: u64)
 }
 
 /// The codes of a SELECT.
-pub fn tell_select(work: &mut Work, folder: &mut Folder, responses: &[Response])
-    requires { Ascends uid_of work.old.messages.items }
+pub fn tell_select(alloc: Global, work: &mut Work, folder: &mut Folder, responses: &[Response])
+    requires { Ascends uid_of work.old.messages }
     ensures { Steps work.old work.new folder.old folder.new (selected_as responses.now (held_of work.old folder.old)) }
 {
     let validity = validity_told(folder.validity, responses);
-    set_validity(work, folder, validity);
+    set_validity(alloc, work, folder, validity);
     set_modseq(work, folder, modseq_told(responses));
 }

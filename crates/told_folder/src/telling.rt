@@ -1,7 +1,6 @@
 // Responses told to the messages of one folder.
-ghost use Rattle.std.specs.Prelude.{◌≡◌, ◌≤◌, ◌+◌, ◌-◌, ◌^◌, ◌<◌, ℕ, ◌∷◌, ◌++◌, length, List, OnOk, IfOk, not, slice_get, Some, None, IsTrue, ◌↔◌, Bool, true};
+ghost use Rattle.std.specs.Prelude.{◌≡◌, ◌≤◌, ◌+◌, ◌-◌, ◌^◌, ◌<◌, ℕ, ◌∷◌, ◌++◌, length, List, OnOk, IfOk, IsSome, not, slice_get, Some, None, IsTrue, ◌↔◌, Bool, true};
 ghost use Rattle.told_folder.specs.Keyed.{Ascends, with_key, put_keyed};
-ghost use Rattle.told_folder.specs.Places.{IsHeldAt, IsFreeAt};
 ghost use Rattle.told_folder.specs.Folders.{uid_of, with_messages};
 ghost use Rattle.told_folder.specs.Tell as told;
 ghost use Rattle.told_folder.specs.Tell.{without, with_flags, with_new, new_message, tell_uid};
@@ -11,7 +10,7 @@ ghost use Rattle.std.specs.Ordering.{nat_cmp};
 
 use crate::Message;
 use crate::headers::kept_header;
-use crate::keyed::index_of;
+use crate::messages::Messages;
 use crate::puts::one_more;
 use crate::uids::Uids;
 use crate::vanished::tell_vanished;
@@ -19,6 +18,7 @@ use gate_world::Names;
 use imap_syntax::{FetchItems, Response};
 use std::alloc::{AllocError, Global};
 use std::collections::BTreeMap;
+use std::mem;
 
 /// Marks are below this number.
 const MARKS: u64 = 1 << 53;
@@ -27,7 +27,7 @@ const MARKS: u64 = 1 << 53;
 #[derive(Drop)]
 pub struct Work {
     pub folder: u64,
-    pub messages: Vec<Message>,
+    pub messages: Messages,
     pub marks: BTreeMap<u64, (u64, u32)>,
     pub next_mark: u64,
     pub changes: u64,
@@ -40,58 +40,61 @@ pub fn are_same(one: &Names, other: &Names) -> bool
     one == other
 }
 
-/// Gives the message at a place these flags.
-fn set_flags(alloc: Global, work: &mut Work, at: usize, flags: &Names) -> Result<(), AllocError>
-    requires { at < length work.old.messages.items }
-    ensures { IsFlagged work.old work.new at flags.now result }
+/// Whether the message of the UID is held and has these flags.
+fn is_flagged(messages: &Messages, uid: u32, flags: &Names) -> bool
+    ensures { (x : Message) → with_key uid_of uid messages.now ≡ Some x → IsTrue result ↔ (x.flags ≡ flags.now) }
 {
-    let message = &mut work.messages[at];
-    if are_same(&message.flags, flags) {
+    match messages.get(uid) {
+        Some(message) => are_same(&message.flags, flags),
+        None => false,
+    }
+}
+
+/// Gives a message that is held these flags.
+fn set_flags(alloc: Global, work: &mut Work, uid: u32, flags: &Names) -> Result<(), AllocError>
+    requires { Ascends uid_of work.old.messages }
+    ensures { (x : Message) → with_key uid_of uid work.old.messages ≡ Some x → IsFlagged work.old work.new x flags.now result }
+{
+    if is_flagged(&work.messages, uid, flags) {
         return Ok(());
     }
     let flags = flags.share(alloc)?;
-    message.flags = flags;
+    work.messages.set_flags(uid, flags);
     work.changes = one_more(work.changes);
     Ok(())
 }
 
 /// A FETCH of a message that is held.
-fn tell_held(
-    alloc: Global,
-    work: &mut Work,
-    at: usize,
-    uid: u32,
-    items: &FetchItems,
-) -> Result<(), AllocError>
-    requires ascends { Ascends uid_of work.old.messages.items }
-    requires held { IsHeldAt uid_of uid work.old.messages.items at }
-    ensures { (adds : Bool) → GoesOk work.old work.new (tell_uid adds (telling_of work.old) uid items.now (with_key uid_of uid work.old.messages.items)) result }
+fn tell_held(alloc: Global, work: &mut Work, uid: u32, items: &FetchItems) -> Result<(), AllocError>
+    requires ascends { Ascends uid_of work.old.messages }
+    requires held { IsSome (with_key uid_of uid work.old.messages) }
+    ensures { (adds : Bool) → GoesOk work.old work.new (tell_uid adds (telling_of work.old) uid items.now (with_key uid_of uid work.old.messages)) result }
 {
     match &items.flags {
-        Some(flags) => set_flags(alloc, work, at, flags),
+        Some(flags) => set_flags(alloc, work, uid, flags),
         None => Ok(()),
     }
 }
 
 /// Adds a message of a UID that isn't held.
-fn put_new(work: &mut Work, place: usize, message: Message) -> Result<(), AllocError>
-    requires ascends { Ascends uid_of work.old.messages.items }
-    requires free { IsFreeAt uid_of message.uid work.old.messages.items place }
+fn put_new(work: &mut Work, message: Message) -> Result<(), AllocError>
+    requires ascends { Ascends uid_of work.old.messages }
+    requires free { with_key uid_of message.uid work.old.messages ≡ None }
     requires mark { message.mark ≡ work.old.next_mark }
     requires fits { work.old.next_mark < 2 ^ 53 }
     ensures { GoesOk work.old work.new (with_new (telling_of work.old) (Some message)) result }
 {
     let mark = message.mark;
     work.marks.insert(mark, (work.folder, message.uid))?;
-    match work.messages.insert(place, message) {
+    match work.messages.insert(message) {
         Ok(()) => {
             work.next_mark += 1;
             work.changes = one_more(work.changes);
             Ok(())
         }
-        Err(_) => {
+        Err(e) => {
             work.marks.remove(&mark);
-            Err(AllocError)
+            Err(e)
         }
     }
 }
@@ -133,19 +136,13 @@ fn message_of(
 }
 
 /// A FETCH of a message that isn't held.
-fn tell_new(
-    alloc: Global,
-    work: &mut Work,
-    place: usize,
-    uid: u32,
-    items: &FetchItems,
-) -> Result<(), AllocError>
-    requires ascends { Ascends uid_of work.old.messages.items }
-    requires free { IsFreeAt uid_of uid work.old.messages.items place }
+fn tell_new(alloc: Global, work: &mut Work, uid: u32, items: &FetchItems) -> Result<(), AllocError>
+    requires ascends { Ascends uid_of work.old.messages }
+    requires free { with_key uid_of uid work.old.messages ≡ None }
     ensures { GoesOk work.old work.new (with_new (telling_of work.old) (new_message work.old.next_mark uid items.now.flags items.now.date items.now.size items.now.header)) result }
 {
     match message_of(alloc, work.next_mark, uid, items)? {
-        Some(message) => put_new(work, place, message),
+        Some(message) => put_new(work, message),
         None => Ok(()),
     }
 }
@@ -157,21 +154,18 @@ fn tell_fetch(
     adds: bool,
     items: &FetchItems,
 ) -> Result<(), AllocError>
-    requires { Ascends uid_of work.old.messages.items }
+    requires { Ascends uid_of work.old.messages }
     ensures { GoesOk work.old work.new (told.tell_fetch adds (telling_of work.old) items.now.uid items.now) result }
 {
     let Some(uid) = items.uid else {
         return Ok(());
     };
-    match index_of(work.messages.as_slice(), u64::from(uid)) {
-        Ok(at) => tell_held(alloc, work, at, uid, items),
-        Err(place) => {
-            if adds {
-                tell_new(alloc, work, place, uid, items)
-            } else {
-                Ok(())
-            }
-        }
+    if work.messages.holds(uid) {
+        tell_held(alloc, work, uid, items)
+    } else if adds {
+        tell_new(alloc, work, uid, items)
+    } else {
+        Ok(())
     }
 }
 
@@ -193,15 +187,19 @@ fn clear_messages<U: Uids>(messages: &mut Vec<Message>, gone: &U)
     messages.retain(|message| !gone.contains(message.uid));
 }
 
-/// Messages that are gone.
-pub fn tell_gone<U: Uids>(work: &mut Work, gone: &U)
-    requires { Ascends uid_of work.old.messages.items }
-    ensures { Goes work.old work.new (record { messages = without (U.has gone.now) work.old.messages.items; next_mark = work.old.next_mark }) }
+/// Messages that are gone. It goes through all of them.
+pub fn tell_gone<U: Uids>(alloc: Global, work: &mut Work, gone: &U)
+    requires { Ascends uid_of work.old.messages }
+    ensures { Goes work.old work.new (record { messages = without (U.has gone.now) work.old.messages; next_mark = work.old.next_mark }) }
 {
-    let before = work.messages.len();
-    clear_marks(work.messages.as_slice(), gone, &mut work.marks);
-    clear_messages(&mut work.messages, gone);
-    if work.messages.len() != before {
+    let none = Messages::new(alloc, Vec::new(alloc));
+    let mut messages = mem::replace(&mut work.messages, none).into_vec();
+    let before = messages.len();
+    clear_marks(messages.as_slice(), gone, &mut work.marks);
+    clear_messages(&mut messages, gone);
+    let left = messages.len();
+    work.messages = Messages::new(alloc, messages);
+    if left != before {
         work.changes = one_more(work.changes);
     }
 }
@@ -213,12 +211,12 @@ fn tell_response(
     adds: bool,
     response: &Response,
 ) -> Result<(), AllocError>
-    requires { Ascends uid_of work.old.messages.items }
+    requires { Ascends uid_of work.old.messages }
     ensures { GoesOk work.old work.new (told.tell_response adds (telling_of work.old) response.now) result }
 {
     match response {
         Response::Fetch { items, .. } => tell_fetch(alloc, work, adds, items),
-        Response::Vanished { uids, .. } => tell_vanished(alloc, work, uids.ranges.as_slice()),
+        Response::Vanished { uids, .. } => tell_vanished(work, uids.ranges.as_slice()),
         _ => Ok(()),
     }
 }
@@ -230,7 +228,7 @@ pub fn tell_responses(
     adds: bool,
     responses: &[Response],
 ) -> Result<(), AllocError>
-    requires { Ascends uid_of work.old.messages.items }
+    requires { Ascends uid_of work.old.messages }
     ensures { GoesWith (told.AllKnown adds (telling_of work.old) responses.now) work.old work.new (told.tell_responses adds (telling_of work.old) responses.now) result }
 {
     for response in responses {

@@ -24,12 +24,18 @@ fn is_adding(command: &Command) -> bool
 }
 
 /// What comes before the responses.
-fn tell_start(work: &mut Work, folder: &mut Folder, command: &Command, responses: &[Response])
-    requires { Ascends uid_of work.old.messages.items }
+fn tell_start(
+    alloc: Global,
+    work: &mut Work,
+    folder: &mut Folder,
+    command: &Command,
+    responses: &[Response],
+)
+    requires { Ascends uid_of work.old.messages }
     ensures { Steps work.old work.new folder.old folder.new (begun command.now responses.now (held_of work.old folder.old)) }
 {
     match command {
-        Command::Select { .. } => tell_select(work, folder, responses),
+        Command::Select { .. } => tell_select(alloc, work, folder, responses),
         _ => {}
     }
 }
@@ -42,10 +48,10 @@ pub fn tell_exchange(
     command: &Command,
     responses: &[Response],
 ) -> Result<(), AllocError>
-    requires { Ascends uid_of work.old.messages.items }
+    requires { Ascends uid_of work.old.messages }
     ensures { Tells work.old work.new folder.old folder.new command.now responses.now result }
 {
-    tell_start(work, folder, command, responses);
+    tell_start(alloc, work, folder, command, responses);
     tell_responses(alloc, work, is_adding(command), responses)?;
     tell_end(alloc, work, folder, command, responses)
 }

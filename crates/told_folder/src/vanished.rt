@@ -1,63 +1,60 @@
 // Messages that a VANISHED tells (RFC 7162 section 3.2.10).
-ghost use Rattle.std.specs.Bool.{OnFalse};
-ghost use Rattle.std.specs.List.{list_any};
-ghost use Rattle.std.specs.Prelude.{◌≡◌, ◌&&◌, nat_le};
+ghost use Rattle.std.specs.Option.{option_map};
+ghost use Rattle.std.specs.Prelude.{◌≡◌, Some, IsSome, find};
 ghost use Rattle.told_folder.specs.Folders.{uid_of};
-ghost use Rattle.told_folder.specs.Keyed.{Ascends};
-ghost use Rattle.told_folder.specs.Tell.{covers, without};
-ghost use Rattle.told_folder.specs.Work.{telling_of, Goes, GoesOk};
-ghost use Rattle.told_folder.specs.reading.Ranges.{AreRising};
+ghost use Rattle.told_folder.specs.Keyed.{Ascends, with_key, cut_keyed};
+ghost use Rattle.told_folder.specs.Tell.{is_in, covers, without};
+ghost use Rattle.told_folder.specs.Work.{telling_of, GoesOk};
 
-use crate::Message;
-use crate::keyed::place_of;
-use crate::ranges::{Ranges, are_rising, rising_of};
-use crate::telling::{Work, tell_gone};
+use crate::messages::Messages;
+use crate::puts::one_more;
+use crate::telling::Work;
 use imap_syntax::UidRange;
-use std::alloc::{AllocError, Global};
+use std::alloc::AllocError;
 
-/// Whether a message is held from one UID to another, by halving.
-fn is_held_between(messages: &[Message], first: u32, last: u32) -> bool
+/// The first UID of the range that is held.
+fn first_in(messages: &Messages, range: &UidRange) -> Option<u32>
     requires { Ascends uid_of messages.now }
-    ensures { result ≡ list_any (λ x. nat_le first x.uid && nat_le x.uid last) messages.now }
+    ensures { result ≡ option_map uid_of (find (λ x. is_in range.now x.uid) messages.now) }
 {
-    let at = place_of(messages, u64::from(first));
-    at < messages.len() && messages[at].uid <= last
+    match messages.first_from(range.first) {
+        Some(uid) => { if uid <= range.last { Some(uid) } else { None } }
+        None => None,
+    }
 }
 
-/// Whether a message of the ranges is held. It takes n log m steps for n ranges and m messages.
-fn is_any_held(messages: &[Message], ranges: &[UidRange]) -> bool
-    requires { Ascends uid_of messages.now }
-    ensures { OnFalse result (without (covers ranges.now) messages.now ≡ messages.now) }
+/// A message that is gone.
+fn tell_lost(work: &mut Work, uid: u32) -> Result<(), AllocError>
+    requires ascends { Ascends uid_of work.old.messages }
+    requires held { IsSome (with_key uid_of uid work.old.messages) }
+    ensures { GoesOk work.old work.new (record (telling_of work.old) { messages = cut_keyed uid_of uid work.old.messages }) result }
 {
-    for range in ranges {
-        if is_held_between(messages, range.first, range.last) {
-            return true;
-        }
-    }
-    false
+    let Some(message) = work.messages.remove(uid)? else {
+        return Ok(());
+    };
+    work.marks.remove(&message.mark);
+    work.changes = one_more(work.changes);
+    Ok(())
 }
 
-/// Messages of ranges that rise. It goes through the folder only where one is held.
-fn tell_rising(work: &mut Work, ranges: &[UidRange])
-    requires ascends { Ascends uid_of work.old.messages.items }
-    requires rising { AreRising 0 0 ranges.now }
-    ensures { Goes work.old work.new (record { messages = without (covers ranges.now) work.old.messages.items; next_mark = work.old.next_mark }) }
+/// Messages of a range that are gone. It takes a logarithm, and as much for each of them.
+fn tell_range(work: &mut Work, range: &UidRange) -> Result<(), AllocError>
+    requires { Ascends uid_of work.old.messages }
+    ensures { GoesOk work.old work.new (record (telling_of work.old) { messages = without (is_in range.now) work.old.messages }) result }
 {
-    if is_any_held(work.messages.as_slice(), ranges) {
-        tell_gone(work, &Ranges::new(ranges));
+    while let Some(uid) = first_in(&work.messages, range) {
+        tell_lost(work, uid)?;
     }
+    Ok(())
 }
 
 /// Messages that are gone, in whatever order their UIDs are told.
-pub fn tell_vanished(alloc: Global, work: &mut Work, ranges: &[UidRange]) -> Result<(), AllocError>
-    requires { Ascends uid_of work.old.messages.items }
-    ensures { GoesOk work.old work.new (record (telling_of work.old) { messages = without (covers ranges.now) work.old.messages.items }) result }
+pub fn tell_vanished(work: &mut Work, ranges: &[UidRange]) -> Result<(), AllocError>
+    requires { Ascends uid_of work.old.messages }
+    ensures { GoesOk work.old work.new (record (telling_of work.old) { messages = without (covers ranges.now) work.old.messages }) result }
 {
-    if are_rising(ranges) {
-        tell_rising(work, ranges);
-        return Ok(());
+    for range in ranges {
+        tell_range(work, range)?;
     }
-    let rising = rising_of(alloc, ranges)?;
-    tell_rising(work, rising.as_slice());
     Ok(())
 }

@@ -4,8 +4,8 @@ use Rattle.std.specs.Prelude.{option_to_list}
 use Rattle.text_words.specs.Cuts.{front, back}
 use Rattle.text_words.specs.LineEnds.{line_end_len}
 use Rattle.text_words.specs.Octets.{is_blank, hex_value}
-use Rattle.header_words.specs.EncodedWords.{IsEncodedWord, BeginsAtEdge, IsFirst}
-use Rattle.header_words.specs.QuotedPrintable.{Piece, right, ends_line, IsPrintable}
+use Rattle.header_words.specs.EncodedWords.{IsFirst}
+use Rattle.header_words.specs.QuotedPrintable.{Piece, right, ends_line}
 use Rattle.header_words.specs.declared.quoted_printable.PieceAt.{PieceAt}
 
 -- the octet of two hexadecimal digits
@@ -31,10 +31,6 @@ q_unit_in (c ∷ t) =
     if c == 95 then Some (32, 1)
     else if c == 61 then escape_of (hex_in t)
     else Some (c, 1)
-
--- an encoded word, before an edge
-abbrev pub IsWordBefore : List ℕ → List ℕ → List ℕ → Type 0
-IsWordBefore reading word behind = IsEncodedWord reading word × BeginsAtEdge behind
 
 -- the first encoded word of a text, and where it stands
 pub record FoundAt (reading : List ℕ) (start end : ℕ) (t : List ℕ) : Type 0 where
@@ -83,10 +79,3 @@ pub record IsRead (read : Option (Piece × ℕ)) (text rest octets : List ℕ) (
 -- the code read this at the front of a text
 abbrev pub Reads : Option (Piece × ℕ) → List ℕ → PieceAt → Type 0
 Reads read text p = IsRead read text p.rest.now (octets_read p) p.wrong
-
--- the text spells n octets in quoted-printable
-pub record HasPrintableLen (n : ℕ) (t : List ℕ) : Type 0 where
-  pub octets : List ℕ
-  pub problem : Bool
-  pub is : IsPrintable octets problem t
-  pub counted : n ≡ length octets

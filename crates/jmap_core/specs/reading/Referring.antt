@@ -1,5 +1,4 @@
 -- References and values on the way, for private clauses.
-use Rattle.std.specs.Prelude.{ℕ, List, Option, Some, None, option_map}
 use Rattle.jmap_core.specs.References.{Reference as ReferenceData}
 use Rattle.jmap_core.specs.declared.references.Reference.{Reference}
 

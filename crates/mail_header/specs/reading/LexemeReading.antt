@@ -1,5 +1,5 @@
 -- The tokens and the lexemes at the front of a text, as functions on lists.
-use Rattle.std.specs.Prelude.{◌≡◌, ◌≢◌, ℕ, zero, suc, true, List, [], ◌∷◌, ◌++◌, length, drop, Option, Some, None}
+use Rattle.std.specs.Prelude.{◌≡◌, ◌≢◌, ℕ, zero, suc, List, [], ◌∷◌, length, drop, Option, Some, None}
 use Rattle.std.specs.List.{filter}
 use Rattle.mail_header.specs.declared.token.Alphabet.{Alphabet}
 use Rattle.mail_header.specs.Tokens.{Spelled}
@@ -36,23 +36,7 @@ rest_in a t = rest_within a (length t) t
 unfoldable pub lexemes_in : Alphabet → List ℕ → List Spelled
 lexemes_in a t = filter is_lexeme (tokens_in a t)
 
--- the texts of lexemes, one after another
-abbrev pub texts_of : List Spelled → List ℕ
-texts_of [] = []
-texts_of (s ∷ ts) = s.text ++ texts_of ts
-
--- no white space and no comment begins the text
-abbrev pub BeginsNoGap : Alphabet → List ℕ → Type 0
-BeginsNoGap a t = (v : Spelled) (n : ℕ) → spelled_in a t ≡ Some (v, n) → is_lexeme v ≡ true
-
--- s is t after white space and comments
-pub record IsBehindGaps (a : Alphabet) (s t : List ℕ) : Type 0 where
-  pub lexemes : lexemes_in a s ≡ lexemes_in a t
-  pub rest : rest_in a s ≡ rest_in a t
-  pub begins : BeginsNoGap a s
-
 -- v is the first lexeme of the text, and more follows it
-pub record IsNextLexeme (a : Alphabet) (v : Spelled) (more t : List ℕ) : Type 0 where
+pub record ReadsLexeme (a : Alphabet) (v : Spelled) (more t : List ℕ) : Type 0 where
   pub lexemes : lexemes_in a t ≡ v ∷ lexemes_in a more
-  pub rest : rest_in a t ≡ rest_in a more
   pub some : v.text ≢ []

@@ -4,7 +4,8 @@ use Rattle.mail_header.specs.declared.token.Alphabet.TheVariants as alphabet
 use Rattle.mail_header.specs.TokenView.{token_view}
 use Rattle.mail_header.specs.Tokens.{Spelled}
 use Rattle.mail_header.specs.reading.LexemeReading.{lexemes_in}
-use Rattle.email_get.specs.PartObjects.{atoms}
+use Rattle.mail_header.proofs.LexemeLemmas.{next_in, none_in}
+use Rattle.email_get.specs.PartObjects.{tags}
 use Rattle.email_get.specs.Texts.{text_data}
 use Rattle.email_get.proofs.TagLemmas.{tag_more}
 use Rattle.email_get.proofs.part_objects.tag_values.Goals as goal
@@ -13,9 +14,10 @@ pub tags-preserved : goal.tags-preserved
 tags-preserved c =
     tag_more (map view c.tags.values.items) (map view c.push_tag.new.values.items) (token_view c.in-Some.lexeme) (lexemes_in alphabet.Mime c.tags.rest.now)
     (lexemes_in alphabet.Mime c.in-Some.more.now)
-    (map text_data (atoms (lexemes_in alphabet.Mime c.args.text.now))) c.in-Some.ensures.value.lexemes c.in_ok-push_tag.ensures c.tags.invariant
+    (map text_data (tags (lexemes_in alphabet.Mime c.args.text.now)))
+    (next_in alphabet.Mime (token_view c.in-Some.lexeme) c.in-Some.more.now c.tags.rest.now c.in-Some.ensures.value) c.in_ok-push_tag.ensures c.tags.invariant
 
 pub returns : goal.returns
 returns c =
-    let tags = map view c.tags.values.items in
-    sym (append-nil tags) ∙ ap (λ (ls : List Spelled). tags ++ map text_data (atoms ls)) (sym c.in_default.ensures.value) ∙ c.tags.invariant
+    let done = map view c.tags.values.items in
+    sym (append-nil done) ∙ ap (λ (ls : List Spelled). done ++ map text_data (tags ls)) (sym (none_in alphabet.Mime c.tags.rest.now c.in_default.ensures.value)) ∙ c.tags.invariant

@@ -2,12 +2,12 @@ use Rattle.std.proofs.Common.{◌≡◌, ◌++◌, length, map}
 use Rattle.serde_json.specs.View.{view}
 use Rattle.mail_header.specs.declared.token.Alphabet.TheVariants as alphabet
 use Rattle.mail_header.specs.reading.LexemeReading.{lexemes_in}
-use Rattle.email_get.specs.PartObjects.{atoms}
+use Rattle.email_get.specs.PartObjects.{tags}
 use Rattle.email_get.specs.Texts.{text_data}
 use Rattle.email_get.proofs.part_objects.tag_values.Given as goal
 
 abbrev pub invariant-tags : goal.invariant-tags
-invariant-tags l = map view l.values.items ++ map text_data (atoms (lexemes_in alphabet.Mime l.rest)) ≡ map text_data (atoms (lexemes_in alphabet.Mime l.text))
+invariant-tags l = map view l.values.items ++ map text_data (tags (lexemes_in alphabet.Mime l.rest)) ≡ map text_data (tags (lexemes_in alphabet.Mime l.text))
 
 abbrev pub decreases-tags : goal.decreases-tags
 decreases-tags l = length l.rest

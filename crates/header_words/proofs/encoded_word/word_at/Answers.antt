@@ -1,4 +1,5 @@
-use Rattle.std.proofs.Common.{ℕ, List, sym, ap, ◌∙◌, subst, Vec, Global}
+use Rattle.std.proofs.Common.{◌≡◌, ℕ, List, [], length, eqb, eqb-true, eq-eqb, false, sym, ap, ◌∙◌, subst, Vec, Global}
+use Rattle.std.proofs.lemmas.List.{nil_from_length}
 use Rattle.header_words.specs.Charsets.{text_in, charset_of}
 use Rattle.header_words.specs.EncodedWords.{BeginsAtEdge, Spells, charset_name}
 use Rattle.header_words.proofs.ShapeLemmas.{one_shape, shape_before, shape_word, whole_word, word_len, word_of, take_none, take_some}
@@ -13,6 +14,15 @@ returns-then-not-begins_at_edge-clause-none c = λ reading word rest e w.
     let t = c.begins_at_edge.ensures.1 (subst P (sym o.behind) w.1) in
     let f = c.if-not-begins_at_edge.true in
     absurd cc
+
+pub returns-then-is_empty-clause-none : goal.returns-then-is_empty-clause-none
+returns-then-is_empty-clause-none c = λ reading word rest e w.
+    let s = c.in-Some.shape in
+    let k = shape_before w.0.charset w.0.letter w.0.text word rest c.args.text.now w.0.shape e in
+    let o = one_shape _ _ _ _ _ _ _ _ c.args.text.now c.in-Some.ensures.some k in
+    let n = c.cut.result.0.now in
+    let z : n ≡ [] = nil_from_length n (eqb-true (length n) 0 cc) in
+    w.0.named (sym (ap charset_name o.charset) ∙ sym c.cut.ensures.front ∙ z)
 
 pub returns-in_default-2-clause-none : goal.returns-in_default-2-clause-none
 returns-in_default-2-clause-none c = λ reading word rest e w.
@@ -38,6 +48,11 @@ returns-clause-some c =
           text = s.text.now;
           octets = c.in-Some-2.octets.items;
           shape = shape_word s.charset.now s.letter s.text.now s.behind.now c.args.text.now h;
+          named = λ e.
+              let n = c.cut.result.0.now in
+              let f : eqb (length n) 0 ≡ false = cc in
+              let t = eq-eqb (length n) 0 (ap length (c.cut.ensures.front ∙ e)) in
+              absurd cc;
           spelled = take_some (λ (v : Vec ℕ Global). Spells s.letter v.items s.text.now) c.in_ok-octets.field-0 c.in-Some-2.octets c.in-Some-2.is c.in_ok-octets.ensures.some;
           said = c.in_ok-reading.ensures.text ∙ ap (λ (n : List ℕ). text_in (charset_of n) c.as_slice.result.now) c.cut.ensures.front
               ∙ ap (text_in (charset_of (charset_name s.charset.now))) c.as_slice.ensures.value;

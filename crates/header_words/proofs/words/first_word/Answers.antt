@@ -1,6 +1,6 @@
 use Rattle.std.proofs.Common.{◌≡◌, ◌++◌, ℕ, List, true, refl, get_or, ◌∙◌, subst}
 use Rattle.text_words.specs.Sequence.{UnitAt}
-use Rattle.header_words.specs.reading.Units.{IsWordBefore}
+use Rattle.header_words.specs.EncodedWords.{IsWordBefore}
 use Rattle.header_words.specs.declared.encoded_word.Word.{Word}
 use Rattle.header_words.proofs.ShapeLemmas.{take_none, take_some}
 use Rattle.header_words.proofs.WordLemmas.{none_more, edge_more, none_at_all, found}

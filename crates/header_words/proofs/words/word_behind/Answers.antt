@@ -1,5 +1,5 @@
 use Rattle.std.proofs.Common.{◌≡◌, ◌++◌, ℕ, List, true}
-use Rattle.header_words.specs.reading.Units.{IsWordBefore}
+use Rattle.header_words.specs.EncodedWords.{IsWordBefore}
 use Rattle.header_words.proofs.ShapeLemmas.{none_map}
 use Rattle.header_words.proofs.words.word_behind.Goals as goal
 

@@ -1,11 +1,13 @@
+use Rattle.imap_automaton.specs.Responses.{responses}
 use Rattle.std.proofs.Common.{◌≡◌, get_or, refl, sym, ap, ◌∙◌, arith}
 use Rattle.imap_automaton.specs.declared.sym.Line.TheVariants as line
 use Rattle.imap_automaton.specs.declared.sym.Line.{Line}
 use Rattle.imap_automaton.specs.declared.sym.Sym.{Sym}
 use Rattle.imap_automaton.specs.declared.sym.Sym.TheVariants as sym
-use Rattle.imap_automaton.specs.declared.sym.Move.TheVariants as move
+use Rattle.pushdown.specs.declared.moves.Move.TheVariants as move
 use Rattle.imap_automaton.specs.Rules.{rule_of}
-use Rattle.imap_automaton.proofs.RunLemmas.{runs_more, one_fits}
+use Rattle.pushdown.proofs.Leading.{runs_more}
+use Rattle.imap_automaton.proofs.RunLemmas.{one_fits}
 use Rattle.imap_automaton.proofs.runs.sequence_run.Goals as goal
 
 pub loop-i-preserved : goal.loop-i-preserved
@@ -18,5 +20,5 @@ loop-i-preserved c =
     ∙ ap (λ (s : Sym). move.One s) (c.in-One-Line-Sequence.field-0-is ∙ ap (λ (x : Line). sym.Line x) c.in-One-Line-Sequence.field-0-0-is) in
     record {
       fits = one_fits so_far next octet c.loop-i.invariant.fits e;
-      run = runs_more first so_far next c.args.octets.now c.loop-i.i octet (omega arith) refl c.loop-i.invariant.run e;
+      run = runs_more responses first so_far next c.args.octets.now c.loop-i.i octet (omega arith) refl c.loop-i.invariant.run e;
     }

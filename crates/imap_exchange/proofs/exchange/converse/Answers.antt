@@ -24,8 +24,8 @@ pub returns-in_err-response-clause-tape : goal.returns-in_err-response-clause-ta
 returns-in_err-response-clause-tape g c =
     let is = err_from_is_err_and c.from_residual.result c.from_residual.ensures.1 in
     rw (is.1, is.2) (join _ c.conversing.invariant.tape c.in_err-response.ensures.tape
-    (λ x y so reads. unheard c.args.due.now c.offset-begun.result c.next_response.new.received c.next_response.new.up c.in_err-response.field-0.0 c.offset-begun.ensures so
-    reads))
+    (λ x y so reads. unheard c.args.due.now c.offset-begun.result c.next_response.new.received c.next_response.new.up c.in_err-response.field-0.0 c.offset-begun.ensures
+    c.conversing.invariant.place so reads))
 
 -- an open response
 pub conversing-preserved-in-Continue-branch-2 : goal.conversing-preserved-in-Continue-branch-2
@@ -33,7 +33,7 @@ conversing-preserved-in-Continue-branch-2 g c =
     record {
       tape = rw c.in_ok-keep-in-Open.ensures (join _ c.conversing.invariant.tape c.in_ok-response.ensures.tape
           (λ x y so reads. opened c.in_ok-response.response c.in-Open.ensures.0 c.in-Open.ensures.1
-          (heard c.offset-begun.result c.next_response.new.up c.in_ok-response.response c.in_ok-response.ensures.stays so reads)));
+          (heard c.offset-begun.result c.next_response.new.up c.in_ok-response.response c.offset-begun.ensures c.conversing.invariant.place c.in_ok-response.ensures.stays so reads)));
       place = rw c.in_ok-keep-in-Open.ensures (omega (
         arith,
         c.conversing.invariant.place,
@@ -51,14 +51,14 @@ pub returns-in_err-keep-in-Open-clause-tape : goal.returns-in_err-keep-in-Open-c
 returns-in_err-keep-in-Open-clause-tape g c =
     let is = err_from_is_err_and c.from_residual-in_err-keep-in-Open.result c.from_residual-in_err-keep-in-Open.ensures.1 in
     rw (is.1, is.2) (join _ c.conversing.invariant.tape c.in_ok-response.ensures.tape
-    (λ x y so reads. let h = heard c.offset-begun.result c.next_response.new.up c.in_ok-response.response c.in_ok-response.ensures.stays so reads in
+    (λ x y so reads. let h = heard c.offset-begun.result c.next_response.new.up c.in_ok-response.response c.offset-begun.ensures c.conversing.invariant.place c.in_ok-response.ensures.stays so reads in
     wanting c.args.due.now c.next_response.new.received h.speaks))
 
 pub returns-in_err-keep-in-Continue-clause-tape : goal.returns-in_err-keep-in-Continue-clause-tape
 returns-in_err-keep-in-Continue-clause-tape g c =
     let is = err_from_is_err_and c.from_residual-in_err-keep-in-Continue.result c.from_residual-in_err-keep-in-Continue.ensures.1 in
     rw (is.1, is.2) (join _ c.conversing.invariant.tape c.in_ok-response.ensures.tape
-    (λ x y so reads. let h = heard c.offset-begun.result c.next_response.new.up c.in_ok-response.response c.in_ok-response.ensures.stays so reads in
+    (λ x y so reads. let h = heard c.offset-begun.result c.next_response.new.up c.in_ok-response.response c.offset-begun.ensures c.conversing.invariant.place c.in_ok-response.ensures.stays so reads in
     wanting c.args.due.now c.next_response.new.received h.speaks))
 
 -- a continuation
@@ -69,7 +69,7 @@ conversing-preserved g c =
     record {
       tape = rw c.in_ok-keep-in-Continue.ensures (join _
           (join _ c.conversing.invariant.tape c.in_ok-response.ensures.tape
-          (λ x y so reads. heard c.offset-begun.result c.next_response.new.up c.in_ok-response.response c.in_ok-response.ensures.stays so reads))
+          (λ x y so reads. heard c.offset-begun.result c.next_response.new.up c.in_ok-response.response c.offset-begun.ensures c.conversing.invariant.place c.in_ok-response.ensures.stays so reads))
           c.send_piece-in-Continue.ensures.tape (λ x z h offers. continued c.in_ok-response.response c.next_place-at.result c.send_piece-in-Continue.result here
           c.conversing.invariant.place c.next_place-at.ensures h offers));
       place = rw c.in_ok-keep-in-Continue.ensures (omega (arith, c.conversing.invariant.place, c.next_place-at.ensures, counted));
@@ -88,17 +88,17 @@ returns-then-not-is_settled-clause-tape g c =
     join _ c.conversing.invariant.tape c.in_ok-response.ensures.tape
     (λ x y so reads. not_whole c.args.due.now c.in_ok-response.response c.in-Done.status c.in-Done.code c.conversing.invariant.place c.in-Done.ensures.0 c.in-Done.ensures.1
     (sym c.is_settled.ensures ∙ c.if-not-is_settled.true)
-    (heard c.offset-begun.result c.next_response.new.up c.in_ok-response.response c.in_ok-response.ensures.stays so reads))
+    (heard c.offset-begun.result c.next_response.new.up c.in_ok-response.response c.offset-begun.ensures c.conversing.invariant.place c.in_ok-response.ensures.stays so reads))
 
 pub returns-in-Done-clause-tape : goal.returns-in-Done-clause-tape
 returns-in-Done-clause-tape g c =
     rw c.from_vec.ensures (join _ c.conversing.invariant.tape c.in_ok-response.ensures.tape
     (λ x y so reads. done c.args.due.now c.in_ok-response.response c.in-Done.status c.in-Done.code c.conversing.invariant.place c.in-Done.ensures.0 c.in-Done.ensures.1
     (sym c.is_settled.ensures ∙ c.if-not-is_settled.false)
-    (heard c.offset-begun.result c.next_response.new.up c.in_ok-response.response c.in_ok-response.ensures.stays so reads)))
+    (heard c.offset-begun.result c.next_response.new.up c.in_ok-response.response c.offset-begun.ensures c.conversing.invariant.place c.in_ok-response.ensures.stays so reads)))
 
 pub returns-in-Ends-clause-tape : goal.returns-in-Ends-clause-tape
 returns-in-Ends-clause-tape g c =
     join _ c.conversing.invariant.tape c.in_ok-response.ensures.tape
     (λ x y so reads. ends c.args.due.now c.in_ok-response.response c.in-Ends.end c.conversing.invariant.place c.in-Ends.ensures
-    (heard c.offset-begun.result c.next_response.new.up c.in_ok-response.response c.in_ok-response.ensures.stays so reads))
+    (heard c.offset-begun.result c.next_response.new.up c.in_ok-response.response c.offset-begun.ensures c.conversing.invariant.place c.in_ok-response.ensures.stays so reads))

@@ -1,11 +1,23 @@
-use Rattle.std.proofs.Common.{rules, arith, sym, subst, ◌++◌, ◌∙◌, ◌≡◌, List, ℕ}
+use Rattle.std.proofs.Common.{rules, arith, sym, subst, ◌++◌, ◌∙◌, ◌≡◌, List, ℕ, [], refl}
 use Rattle.std.proofs.lemmas.Result.{err_from_is_err_and}
-use Rattle.gate_world.proofs.Joins.{join, widen}
+use Rattle.gate_world.proofs.Joins.{join, none, widen}
 use Rattle.imap_grammar.specs.Fed.{Fed}
 use Rattle.imap_grammar.specs.Scan.{ScanOf}
 use Rattle.imap_grammar.specs.declared.answer.Scan.TheVariants.{NeedMore, Bad}
-use Rattle.imap_exchange.proofs.Responses.{Gains-append, read_whole, read_bad, read_wanting, fill_failed, kept_front}
+use Rattle.imap_exchange.proofs.Responses.{Gains-append, Gains-none, gained, read_whole, read_bad, read_wanting, fill_failed, kept_front}
 use Rattle.imap_exchange.proofs.response.read_response.Goals as goal
+
+pub reading-init : goal.reading-init
+reading-init g c =
+    record {
+      tape = none _ _ ([], Gains-none c.args.begun c.args.received.now);
+      fed = c.new-scanner.ensures;
+      within = omega arith;
+      room = refl;
+      given = omega arith;
+      alone = search rules;
+      hidden = refl;
+    }
 
 pub returns-in-Whole-clause-tape : goal.returns-in-Whole-clause-tape
 returns-in-Whole-clause-tape g c =
@@ -25,9 +37,11 @@ returns-in_err-take_response-in-Whole-clause-tape g c =
 pub reading-preserved : goal.reading-preserved
 reading-preserved g c =
     let held : c.as_slice-fed.result.now ≡ c.reading.received.octets = c.as_slice-fed.ensures in
+    let scanned = subst (λ (l : List ℕ). ScanOf l NeedMore) c.as_slice.ensures c.in-NeedMore.ensures.scan in
     let front = kept_front c.reading.received.octets c.fill.new.self.octets c.as_slice-fed.result.now held c.in_ok-fill.ensures.kept in
     record {
-      tape = join _ c.reading.invariant.tape c.in_ok-fill.ensures.tape (λ x y so fills. (so.0 ++ fills.0, Gains-append so.1 fills.1));
+      tape = join _ c.reading.invariant.tape c.in_ok-fill.ensures.tape
+          (λ x y so fills. (so.0 ++ fills.0, Gains-append so.1 (gained c.args.begun c.reading.received c.fill.new.self scanned fills)));
       fed = subst (λ (l : List ℕ). Fed c.scan_on.new.scanner l) (c.as_slice.ensures ∙ sym front.0) (c.scan_on.ensures.more c.in-NeedMore.is);
       within = front.1;
       room = search rules;

@@ -1,5 +1,5 @@
 use Rattle.std.proofs.Common.{length}
-use Rattle.imap_automaton.specs.Symbols.{symbols_of}
+use Rattle.pushdown.specs.Symbols.{symbols_of}
 use Rattle.imap_grammar.proofs.PassingReadings.{PassedTo}
 use Rattle.imap_grammar.proofs.items.passed.Given as goal
 

@@ -1,5 +1,5 @@
 use Rattle.std.proofs.Common.{ap, sym, ◌∙◌, ◌≡◌}
-use Rattle.serde_json.specs.Data.{Data, Items, item, no_items}
+use Rattle.serde_json.specs.Data.{Data, item, no_items}
 use Rattle.serde_json.specs.View.{view, items_view}
 use Rattle.jmap_core.specs.References.{joined}
 use Rattle.jmap_core.proofs.Paths.{items_append-none, joined-array, joined-one}

@@ -1,6 +1,5 @@
-use Rattle.std.proofs.Common.{inr, ap, ◌∙◌, sym, map, length, arith}
+use Rattle.std.proofs.Common.{inr, arith}
 use Rattle.std.proofs.lemmas.List.{length-map}
-use Rattle.jmap_core.specs.Request.{call_data}
 use Rattle.jmap_core.specs.reading.Forms.{form_data}
 use Rattle.jmap_core.proofs.Capabilities.{admitted-unknown, admitted-many, admitted-fit}
 use Rattle.jmap_core.proofs.request_body.admitted.Goals as goal

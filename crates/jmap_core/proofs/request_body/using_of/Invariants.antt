@@ -1,4 +1,4 @@
-use Rattle.std.proofs.Common.{◌≡◌, drop, map, false}
+use Rattle.std.proofs.Common.{◌≡◌, drop, map}
 use Rattle.jmap_core.specs.reading.Forms.{noted, known_capabilities}
 use Rattle.jmap_core.proofs.request_body.using_of.Given as goal
 

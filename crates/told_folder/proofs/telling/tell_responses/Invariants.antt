@@ -9,7 +9,7 @@ use Rattle.told_folder.proofs.telling.tell_responses.Given as goal
 abbrev pub invariant-loop-response : goal.invariant-loop-response
 invariant-loop-response l = record {
   on : GoesOn l.initial.work l.work;
-  ascends : Ascends uid_of l.work.messages.items;
+  ascends : Ascends uid_of l.work.messages;
   told : telling_of l.work ≡ telling.tell_responses l.adds (telling_of l.initial.work) (take l.response-index l.responses);
   known : telling.AllKnown l.adds (telling_of l.initial.work) (take l.response-index l.responses) → l.work.changes ≡ l.initial.work.changes;
   index : (hs : List Held) → IsIndexOf hs l.initial.work → IsIndexOf hs l.work;

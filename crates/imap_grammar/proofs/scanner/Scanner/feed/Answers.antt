@@ -1,51 +1,12 @@
-use Rattle.std.proofs.Common.{List, ℕ, ◌++◌, ap, ◌∙◌}
-use Rattle.imap_grammar.proofs.ScannerLemmas.{answered, up_to, all_fed, next_fed, fed_proper}
+use Rattle.std.proofs.Common.{ℕ, List, ◌++◌, sym, subst, ◌∙◌}
+use Rattle.imap_grammar.specs.declared.answer.Scan.{Scan}
+use Rattle.imap_grammar.specs.Scan.{ScanOf}
+use Rattle.imap_grammar.proofs.Spellings.{scanned, more_of}
 use Rattle.imap_grammar.proofs.scanner.Scanner.feed.Goals as goal
 
-pub returns-in_default-clause-scan : goal.returns-in_default-clause-scan
-returns-in_default-clause-scan c = λ b f.
-    let here = c.feeding.invariant b f in
-    let s = c.take_many-octets.new.self in
-    let skipped = up_to c.feeding.self c.skip-skipped.new.self b c.args.piece.now c.feeding.rest.now c.skip-skipped.result.now here
-    (c.skip-skipped.ensures.fed (b ++ here.front) here.fed) in
-    let at = up_to c.skip-skipped.new.self s b c.args.piece.now c.skip-skipped.result.now c.take_many-octets.result.now skipped
-    (c.take_many-octets.ensures.fed (b ++ skipped.front) skipped.fed) in
-    fed_proper s (b ++ c.args.piece.now) (all_fed s b c.args.piece.now c.take_many-octets.result.now at c.in_default.ensures.cases)
+pub returns-clause-scan : goal.returns-clause-scan
+returns-clause-scan c = λ b f.
+    subst (λ (p : Scan). ScanOf (b ++ c.args.piece.now) p) (sym c.scan_of.ensures) (scanned (b ++ c.args.piece.now) c.feed.result (c.feed.ensures.answer b f))
 
-pub returns-in_default-clause-more : goal.returns-in_default-clause-more
-returns-in_default-clause-more c = λ b f e.
-    let here = c.feeding.invariant b f in
-    let s = c.take_many-octets.new.self in
-    let skipped = up_to c.feeding.self c.skip-skipped.new.self b c.args.piece.now c.feeding.rest.now c.skip-skipped.result.now here
-    (c.skip-skipped.ensures.fed (b ++ here.front) here.fed) in
-    let at = up_to c.skip-skipped.new.self s b c.args.piece.now c.skip-skipped.result.now c.take_many-octets.result.now skipped
-    (c.take_many-octets.ensures.fed (b ++ skipped.front) skipped.fed) in
-    all_fed s b c.args.piece.now c.take_many-octets.result.now at c.in_default.ensures.cases
-
-pub returns-in_default-answer : goal.returns-in_default-answer
-returns-in_default-answer c =
-    record {
-      scan = λ b f.
-          let here = c.feeding.invariant b f in
-          let s = c.take_many-octets.new.self in
-          let skipped = up_to c.feeding.self c.skip-skipped.new.self b c.args.piece.now c.feeding.rest.now c.skip-skipped.result.now here
-          (c.skip-skipped.ensures.fed (b ++ here.front) here.fed) in
-          let at = up_to c.skip-skipped.new.self s b c.args.piece.now c.skip-skipped.result.now c.take_many-octets.result.now skipped
-          (c.take_many-octets.ensures.fed (b ++ skipped.front) skipped.fed) in
-          let piece = at.whole ∙ ap (λ (u : List ℕ). at.front ++ u) c.in-Some.ensures.cases.0 in
-          answered b c.args.piece.now at.front c.in-Some.after.now c.in-Some.octet.now s c.take-answer.new.self c.take-answer.result piece at.fed
-          (c.take-answer.ensures (b ++ at.front) at.fed) c.in_default-answer.not-NeedMore;
-      more = λ b f e. absurd (c.in_default-answer.not-NeedMore e);
-    }
-
-pub feeding-preserved : goal.feeding-preserved
-feeding-preserved c = λ b f.
-    let here = c.feeding.invariant b f in
-    let s = c.take_many-octets.new.self in
-    let skipped = up_to c.feeding.self c.skip-skipped.new.self b c.args.piece.now c.feeding.rest.now c.skip-skipped.result.now here
-    (c.skip-skipped.ensures.fed (b ++ here.front) here.fed) in
-    let at = up_to c.skip-skipped.new.self s b c.args.piece.now c.skip-skipped.result.now c.take_many-octets.result.now skipped
-    (c.take_many-octets.ensures.fed (b ++ skipped.front) skipped.fed) in
-    up_to s c.take-answer.new.self b c.args.piece.now c.take_many-octets.result.now c.in-Some.after.now at
-    (next_fed c.take-answer.new.self b at.front c.take_many-octets.result.now c.in-Some.after.now c.in-Some.octet.now c.in-Some.ensures.cases.0
-    (c.in-NeedMore.ensures (b ++ at.front) at.fed))
+pub returns-clause-more : goal.returns-clause-more
+returns-clause-more c = λ b f e. c.feed.ensures.more b f (more_of c.feed.result (sym c.scan_of.ensures ∙ e))

@@ -1,5 +1,4 @@
 use Rattle.std.proofs.Common.{ap, ◌∙◌}
-use Rattle.jmap_core.specs.CreatedIds.{put_id}
 use Rattle.jmap_core.specs.reading.Pairs.{pairs}
 use Rattle.jmap_core.proofs.Ids.{pairs-insert_entry}
 use Rattle.jmap_core.proofs.created_ids.CreatedIds.put.Goals as goal

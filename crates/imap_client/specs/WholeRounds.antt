@@ -1,0 +1,70 @@
+-- A round that is done: which commands were sent in it, and what they told (RFC 9051 sections 6.3.2, 6.3.9 and 6.4.5, RFC 7162
+-- section 3.2.5).
+use Rattle.std.specs.Prelude.{◌≡◌, ◌++◌, ◌+◌, ℕ, true, false, List, [], ◌∷◌, drop, slice_get, Option, Some, None}
+use Rattle.std.specs.List.{flat_map}
+use Rattle.gate_world.specs.declared.event.Event.{Event}
+use Rattle.gate_world.specs.Octets.{store_took_in}
+use Rattle.imap_syntax.specs.Commands.{command_text}
+use Rattle.imap_syntax.specs.declared.command.Command.{Command}
+use Rattle.imap_syntax.specs.declared.command.Command.TheVariants as command
+use Rattle.imap_syntax.specs.declared.response.Status.TheVariants as status
+use Rattle.told_folder.specs.declared.exchange.Exchange.{Exchange}
+use Rattle.told_folder.specs.declared.message.Held.{Held}
+use Rattle.told_mail.specs.Mail.{Mail}
+use Rattle.told_mail.specs.Exchanges.{tell}
+use Rattle.imap_client.specs.LinkLife.{LinkLife, next_number}
+use Rattle.imap_client.specs.Rounds.{selectable_from, known_of, has_modseqs, is_sliced, slice_of, new_of, uid_next_told, tells_validity}
+
+-- the exchange is of the command and was answered OK, and the mail after it is what it told
+pub record IsObeyed (asked : Command) (before : Mail) (x : Exchange) (after : Mail) : Type 0 where
+  pub command_is : x.command ≡ asked
+  pub ok : x.status ≡ status.Ok
+  pub told : after ≡ tell before x
+
+-- The headers that are new in the folder at this place: slices while the UIDNEXT that its SELECT told is further away than a
+-- slice, and then the rest.
+pub data FetchesHeaders (at uid_next : ℕ) : Mail → List Exchange → Mail → Type 0 where
+  Slice : {before mid after : Mail} {xs : List Exchange} (h : Held) (x : Exchange) → slice_get before.folders at ≡ Some h → is_sliced uid_next h.folder ≡ true
+      → IsObeyed (slice_of h.folder) before x mid → FetchesHeaders at uid_next mid xs after → FetchesHeaders at uid_next before (x ∷ xs) after
+  Rest : {before after : Mail} (h : Held) (x : Exchange) → slice_get before.folders at ≡ Some h → is_sliced uid_next h.folder ≡ false
+      → IsObeyed (new_of h.folder) before x after → FetchesHeaders at uid_next before (x ∷ []) after
+
+-- What is fetched of the folder at this place: all flags first, where it has no mod-sequences.
+pub data FetchesFolder (at uid_next : ℕ) : Mail → List Exchange → Mail → Type 0 where
+  WithModseqs : {before after : Mail} {xs : List Exchange} (h : Held) → slice_get before.folders at ≡ Some h → has_modseqs h.folder ≡ true
+      → FetchesHeaders at uid_next before xs after → FetchesFolder at uid_next before xs after
+  WithoutModseqs : {before mid after : Mail} {xs : List Exchange} (h : Held) (x : Exchange) → slice_get before.folders at ≡ Some h → has_modseqs h.folder ≡ false
+      → IsObeyed command.FetchFlags before x mid → FetchesHeaders at uid_next mid xs after → FetchesFolder at uid_next before (x ∷ xs) after
+
+-- The folder at this place: its SELECT, which tells a UIDVALIDITY, and then what is fetched.
+pub data AsksFolder (at : ℕ) : Mail → List Exchange → Mail → Type 0 where
+  Asked : {before mid after : Mail} {xs : List Exchange} (h : Held) (x : Exchange) → slice_get before.folders at ≡ Some h
+      → IsObeyed (command.Select h.folder.name (known_of h.folder)) before x mid → tells_validity x.responses ≡ true
+      → FetchesFolder at (uid_next_told x.responses) mid xs after → AsksFolder at before (x ∷ xs) after
+
+-- Each folder that can be selected from this place on, by number.
+pub data VisitsFrom : ℕ → Mail → List Exchange → Mail → Type 0 where
+  NoMore : {from : ℕ} {before : Mail} → selectable_from from (drop from before.folders) ≡ None → VisitsFrom from before [] before
+  Visits : {from : ℕ} {before mid after : Mail} {xs ys : List Exchange} (at : ℕ) → selectable_from from (drop from before.folders) ≡ Some at → AsksFolder at before xs mid
+      → VisitsFrom (at + 1) mid ys after → VisitsFrom from before (xs ++ ys) after
+
+-- A whole round: LIST, and then each folder that can be selected of those that are told then.
+pub record IsWholeRound (before : Mail) (exchanges : List Exchange) (after : Mail) : Type 0 where
+  pub listing : Exchange
+  pub others : List Exchange
+  pub listed : Mail
+  pub parts : exchanges ≡ listing ∷ others
+  pub list_is : IsObeyed command.List before listing listed
+  pub visits : VisitsFrom 0 listed others after
+
+-- the texts of these exchanges' commands, numbered from n on
+abbrev pub texts_from : ℕ → List Exchange → List ℕ
+texts_from n [] = []
+texts_from n (x ∷ xs) = command_text x.command n ++ texts_from (n + 1) xs
+
+-- The round is done: the store took exactly the commands of a whole round, and the mail is what these told.
+pub record IsFinishedRound (before after : Mail) (life left : LinkLife) (events : List Event) : Type 0 where
+  pub exchanges : List Exchange
+  pub whole : IsWholeRound before exchanges after
+  pub completed : left.exchanges ≡ life.exchanges ++ exchanges
+  pub sent : flat_map store_took_in events ≡ texts_from (next_number life) exchanges

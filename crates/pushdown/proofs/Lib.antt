@@ -1,0 +1,11 @@
+pub mod Lists
+pub mod StackLemmas
+pub mod Leading
+pub mod Whole
+pub mod Marks
+pub mod Room
+pub mod Standing
+pub mod Skipping
+pub mod Taking
+pub mod ScannerLemmas
+pub mod Alone
