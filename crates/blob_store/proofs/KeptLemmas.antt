@@ -9,7 +9,7 @@ use Rattle.sha2.specs.Sha256.{sha256}
 use Rattle.sha2.proofs.Facts256.{length-sha256}
 use Rattle.hex.specs.Hex.{lower_digits}
 use Rattle.hex.proofs.HexLemmas.{length-encode_with}
-use Rattle.blob_store.specs.Uploads.{blob_id, upload_with, octets_of}
+use Rattle.blob_store.specs.Uploads.{blob_id, upload_with, octets_in_all}
 use Rattle.blob_store.specs.Kept.{gathered, AreNamed, AreDistinct, AreKept}
 
 -- an id has 65 octets
@@ -53,7 +53,7 @@ distinct_with u (v ∷ us) d none =
     )
 
 -- the octets of uploads and one more
-pub octets_of-push : (us : List (List ℕ)) (u : List ℕ) → octets_of (us ++ u ∷ []) ≡ octets_of us + length u
+pub octets_of-push : (us : List (List ℕ)) (u : List ℕ) → octets_in_all (us ++ u ∷ []) ≡ octets_in_all us + length u
 octets_of-push [] u = omega arith
 octets_of-push (v ∷ us) u = omega (arith, octets_of-push us u)
 

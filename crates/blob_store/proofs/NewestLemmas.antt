@@ -1,7 +1,7 @@
 -- Dropping the oldest uploads, one after another.
 use Rattle.std.proofs.Common.{◌≡◌, ℕ, ◌<◌, ◌≤◌, List, [], ◌∷◌, ◌++◌, inl, inr, refl, sym, ap, ◌∙◌}
 use Rattle.std.proofs.lemmas.List.{append_assoc}
-use Rattle.blob_store.specs.Uploads.{octets_of, HaveToGo, AreNewest}
+use Rattle.blob_store.specs.Uploads.{octets_in_all, HaveToGo, AreNewest}
 
 -- uploads have gone from the front, and had to
 pub record HaveGone (most : ℕ) (all now : List (List ℕ)) : Type 0 where
@@ -12,12 +12,12 @@ pub record HaveGone (most : ℕ) (all now : List (List ℕ)) : Type 0 where
 pub none_gone : (most : ℕ) (all : List (List ℕ)) → HaveGone most all all
 none_gone most all = record { gone = []; whole = refl; needed = inl refl }
 
-pub one_gone : (most : ℕ) (all : List (List ℕ)) (oldest : List ℕ) (now : List (List ℕ)) → HaveGone most all (oldest ∷ now) → most < octets_of (oldest ∷ now) → HaveGone most all now
+pub one_gone : (most : ℕ) (all : List (List ℕ)) (oldest : List ℕ) (now : List (List ℕ)) → HaveGone most all (oldest ∷ now) → most < octets_in_all (oldest ∷ now) → HaveGone most all now
 one_gone most all oldest now so_far many = record {
   gone = so_far.gone ++ oldest ∷ [];
   whole = so_far.whole ∙ sym (append_assoc so_far.gone (oldest ∷ []) now);
   needed = inr (so_far.gone, oldest, refl, many);
 }
 
-pub are_newest : (most : ℕ) (all now : List (List ℕ)) → HaveGone most all now → octets_of now ≤ most → AreNewest most all now
+pub are_newest : (most : ℕ) (all now : List (List ℕ)) → HaveGone most all now → octets_in_all now ≤ most → AreNewest most all now
 are_newest most all now so_far fit = record { gone = so_far.gone; whole = so_far.whole; fit = fit; needed = so_far.needed }

@@ -14,24 +14,24 @@ upload_with id [] = None
 upload_with id (octets ∷ rest) = if pointwise ◌==◌ id (blob_id octets) then Some octets else upload_with id rest
 
 -- the octets of all of them
-abbrev pub octets_of : List (List ℕ) → ℕ
-octets_of [] = 0
-octets_of (octets ∷ rest) = length octets + octets_of rest
+abbrev pub octets_in_all : List (List ℕ) → ℕ
+octets_in_all [] = 0
+octets_in_all (octets ∷ rest) = length octets + octets_in_all rest
 
 -- No more than have to are gone: with the last of them there would be too many octets.
 abbrev pub HaveToGo : ℕ → List (List ℕ) → List (List ℕ) → Type 0
-HaveToGo most gone kept = (gone ≡ []) ⊎ ((earlier : List (List ℕ)) × (last : List ℕ) × (gone ≡ earlier ++ last ∷ []) × (most < octets_of (last ∷ kept)))
+HaveToGo most gone kept = (gone ≡ []) ⊎ ((earlier : List (List ℕ)) × (last : List ℕ) × (gone ≡ earlier ++ last ∷ []) × (most < octets_in_all (last ∷ kept)))
 
 -- the newest uploads that have at most n octets together: the oldest are gone
 pub record AreNewest (most : ℕ) (all kept : List (List ℕ)) : Type 0 where
   pub gone : List (List ℕ)
   pub whole : all ≡ gone ++ kept
-  pub fit : octets_of kept ≤ most
+  pub fit : octets_in_all kept ≤ most
   pub needed : HaveToGo most gone kept
 
 -- what is kept after an upload: the same where one with its id is there, else the newest of all
-abbrev pub Takes : ℕ → List ℕ → List (List ℕ) → List (List ℕ) → Type 0
-Takes most octets before after = by (upload_with (blob_id octets) before)
+abbrev pub TakesUpload : ℕ → List ℕ → List (List ℕ) → List (List ℕ) → Type 0
+TakesUpload most octets before after = by (upload_with (blob_id octets) before)
   where
     by : Option (List ℕ) → Type 0
     by (Some there) = after ≡ before

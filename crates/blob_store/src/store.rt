@@ -1,6 +1,6 @@
 // The store of uploads.
 ghost use Rattle.std.specs.Prelude.{◌≡◌, ◌<◌, ◌≤◌, ◌↔◌, [], List, ℕ, Err, None, Some, length, IfOk, OnOk, OnErr, MatchOption};
-ghost use Rattle.blob_store.specs.Uploads.{blob_id as id_of, octets_of, upload_with, AreNewest, Takes};
+ghost use Rattle.blob_store.specs.Uploads.{blob_id as id_of, octets_in_all, upload_with, AreNewest, TakesUpload};
 ghost use Rattle.blob_store.specs.declared.error.BlobError.TheVariants.{TooLarge};
 
 use crate::BlobError;
@@ -25,14 +25,14 @@ pub struct BlobStore {
 
 impl Model for BlobStore {
     ghost use Rattle.std.specs.Prelude.{◌≤◌, List, ℕ};
-    ghost use Rattle.blob_store.specs.Uploads.{octets_of};
+    ghost use Rattle.blob_store.specs.Uploads.{octets_in_all};
     ghost use Rattle.blob_store.specs.declared.store.TheConstants.{MAX_KEPT_OCTETS};
 
     ghost Value = { List (List ℕ) };
 
     ghost view = { λ s. s.uploads };
 
-    ghost invariant = { λ s. octets_of s.uploads ≤ MAX_KEPT_OCTETS };
+    ghost invariant = { λ s. octets_in_all s.uploads ≤ MAX_KEPT_OCTETS };
 }
 
 impl BlobStore {
@@ -51,7 +51,7 @@ impl BlobStore {
     /// `MAX_KEPT_OCTETS`. A refusal changes nothing.
     pub fn put(&mut self, octets: &[u8]) -> Result<Bytes, BlobError>
         ensures id { IfOk result (λ id. id ≡ id_of octets.now) }
-        ensures kept { OnOk result (Takes MAX_KEPT_OCTETS octets.now self.old self.new) }
+        ensures kept { OnOk result (TakesUpload MAX_KEPT_OCTETS octets.now self.old self.new) }
         ensures too_large { (size : ℕ) → (result ≡ Err (TooLarge size)) ↔ ((size ≡ length octets.now) × (MAX_UPLOAD_OCTETS < size)) }
         ensures refused { OnErr result (self.new ≡ self.old) }
     {

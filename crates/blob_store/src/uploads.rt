@@ -1,6 +1,6 @@
 // Uploads in the order in which they came, each found by its id.
 ghost use Rattle.std.specs.Prelude.{◌≡◌, ◌+◌, ◌<◌, ◌≤◌, ◌^◌, [], ◌∷◌, ◌++◌, List, ℕ, None, Some, length, OnOk, OnErr, MatchOption};
-ghost use Rattle.blob_store.specs.Uploads.{blob_id as id_of, octets_of, upload_with};
+ghost use Rattle.blob_store.specs.Uploads.{blob_id as id_of, octets_in_all, upload_with};
 
 use crate::blob_id::BlobId;
 use gate_world::Bytes;
@@ -22,14 +22,14 @@ impl Model for Uploads {
     ghost use Rattle.std.specs.Cmp.Lexicographic.{pointwise};
     ghost use Rattle.indexmap.specs.IndexMap.{get};
     ghost use Rattle.blob_store.specs.Kept.{gathered, AreKept};
-    ghost use Rattle.blob_store.specs.Uploads.{octets_of};
+    ghost use Rattle.blob_store.specs.Uploads.{octets_in_all};
 
     ghost Value = { List (List ℕ) };
 
     ghost view = { λ u. gathered (get (pointwise ◌==◌) u.octets) u.ids.items };
 
     ghost invariant = { λ u. AreKept (get (pointwise ◌==◌) u.octets) u.ids.items
-        × (u.total ≡ octets_of (gathered (get (pointwise ◌==◌) u.octets) u.ids.items)) };
+        × (u.total ≡ octets_in_all (gathered (get (pointwise ◌==◌) u.octets) u.ids.items)) };
 }
 
 impl Uploads {
@@ -46,7 +46,7 @@ impl Uploads {
 
     /// How many octets they have together.
     pub fn total(&self) -> u64
-        ensures { result ≡ octets_of self.now }
+        ensures { result ≡ octets_in_all self.now }
     {
         self.total
     }
@@ -65,7 +65,7 @@ impl Uploads {
     pub fn push(&mut self, id: BlobId, octets: Bytes) -> Result<(), AllocError>
         requires id { id ≡ id_of octets }
         requires new { upload_with id self.old ≡ None }
-        requires small { octets_of self.old + length octets < 2 ^ 64 }
+        requires small { octets_in_all self.old + length octets < 2 ^ 64 }
         ensures ok { OnOk result (self.new ≡ self.old ++ octets ∷ []) }
         ensures err { OnErr result (self.new ≡ self.old) }
     {
@@ -81,7 +81,7 @@ impl Uploads {
     pub fn pop(&mut self)
         ensures none { self.old ≡ [] → self.new ≡ [] }
         ensures oldest { (octets : List ℕ) → (rest : List (List ℕ)) → self.old ≡ octets ∷ rest → self.new ≡ rest }
-        ensures fewer { octets_of self.new ≤ octets_of self.old }
+        ensures fewer { octets_in_all self.new ≤ octets_in_all self.old }
     {
         let Some(id) = self.ids.pop_front() else {
             return;

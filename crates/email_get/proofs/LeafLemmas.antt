@@ -8,10 +8,10 @@ use Rattle.mime_tree.specs.declared.part.Part.{Part}
 use Rattle.mime_tree.specs.declared.roles.Walk.{Walk}
 use Rattle.mime_tree.specs.declared.split.Piece.{Piece}
 use Rattle.mime_tree.specs.BodyLists as body
-use Rattle.mime_tree.specs.BodyLists.{PartLists, alone, or_else, shared, spread, into, meeting, Walks, End, Multi, Leaf}
+use Rattle.mime_tree.specs.BodyLists.{PartLists, wanted_part, or_else, shared, spread, into, meeting, Walks, End, Multi, Leaf}
 use Rattle.mime_tree.specs.Heads.{default_in}
-use Rattle.mime_tree.specs.Parts.{children, number_of}
-use Rattle.mime_tree.specs.Roles.{is_leaf, leaf_number, is_inline, is_alternative, is_plain, is_html}
+use Rattle.mime_tree.specs.Parts.{children, part_number}
+use Rattle.mime_tree.specs.Roles.{is_leaf, leaf_number, is_inline, is_alternative, is_plain_part, is_html}
 use Rattle.mime_tree.specs.Trees.{TreeWord, IsLeaf, IsNode, AreTrees, IsPartOf, IsTree, IsMessage}
 use Rattle.email_get.specs.Leaves as leaves
 use Rattle.email_get.specs.Leaves.{AreLeaves}
@@ -46,7 +46,7 @@ cases _ _ (leaves.Multi p ps inner behind no_leaf kids rest) = inr (record { no_
 -- the parts have the numbers from f on, up to before n
 abbrev pub AreFrom : ℕ → List Part → ℕ → Type 0
 AreFrom f [] n = n ≡ f
-AreFrom f (p ∷ ps) n = (number_of p ≡ Some f) × AreFrom (f + 1) ps n
+AreFrom f (p ∷ ps) n = (part_number p ≡ Some f) × AreFrom (f + 1) ps n
 
 from_both : (f m n : ℕ) (ps qs : List Part) → AreFrom f ps m → AreFrom m qs n → AreFrom f (ps ++ qs) n
 from_both f m n [] qs g h = subst (λ (k : ℕ). AreFrom k qs n) g h
@@ -152,7 +152,7 @@ all_or_else : (ps qs ls : List Part) → AllIn ps ls → AllIn qs ls → AllIn (
 all_or_else [] qs ls g h = h
 all_or_else (p ∷ ps) qs ls g h = g
 
-all_alone : (wanted : Bool) (p : Part) (ls : List Part) → IsIn p ls → AllIn (alone wanted p) ls
+all_alone : (wanted : Bool) (p : Part) (ls : List Part) → IsIn p ls → AllIn (wanted_part wanted p) ls
 all_alone true p ls i = (i, tt)
 all_alone false p ls i = tt
 
@@ -187,7 +187,7 @@ inside_leaf walk inline p ls i =
     let in_open : Inside (body.to_open_lists walk p) ls = record { text = all_alone walk.text p ls i; html = all_alone walk.html p ls i; attachments = all_alone _ p ls i } in
     inside_if (not inline) _ _ ls attached
     (inside_if (is_alternative walk.multipart) _ _ ls
-    (inside_if (walk.text && is_plain p) _ _ ls as_text (inside_if (walk.html && is_html p) _ _ ls as_html attached))
+    (inside_if (walk.text && is_plain_part p) _ _ ls as_text (inside_if (walk.html && is_html p) _ _ ls as_html attached))
     in_open)
 
 pub walk_inside : (walk : Walk) (ps : List Part) (a : PartLists) → Walks walk ps a → (ls : List Part) → AreLeaves ps ls → Inside a ls

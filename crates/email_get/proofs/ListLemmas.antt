@@ -9,14 +9,14 @@ use Rattle.mime_tree.specs.declared.lists.BodyLists.{BodyLists}
 use Rattle.mime_tree.specs.declared.part.Part.{Part}
 use Rattle.mime_tree.specs.BodyLists.{start, AreBodyLists}
 use Rattle.mime_tree.specs.Parts.{children, IsUnder, IsWithin, Itself, Below}
-use Rattle.mime_tree.specs.Roles.{is_leaf, leaf_number, is_plain, media}
+use Rattle.mime_tree.specs.Roles.{is_leaf, leaf_number, is_plain_part, media}
 use Rattle.mime_tree.specs.Trees.{IsMessage}
 use Rattle.mime_tree.specs.Heads.{is_text}
 use Rattle.serde_json.specs.Data.{Data, Members}
 use Rattle.serde_json.specs.View.{view}
 use Rattle.serde_json.specs.declared.value.Value.{Value}
 use Rattle.email_get.specs.BodyValues.{PutsValue, PutsIf, AddsValues}
-use Rattle.email_get.specs.EmailObjects.{AreObjects, IsPreview, BodyData, IsBody}
+use Rattle.email_get.specs.EmailObjects.{AreObjects, IsPreview, BodyData, IsBodyData}
 use Rattle.email_get.specs.PartObjects.{IsPartObject}
 use Rattle.email_get.specs.Previews.{IsPreviewOf}
 use Rattle.email_get.specs.reading.LeafLists.{parts_of, parts_at, part_at, Gathers, AreWithin, IsPreviewAt, ListsBody}
@@ -189,7 +189,7 @@ values_split b (x ∷ refs) zero r m0 m1 m2 m3 lt before puts later = (m2, subst
 values_split b (x ∷ refs) (suc k) r m0 m1 m2 m3 lt (m, one, more) puts later = (m, one, values_split b refs k r m m1 m2 m3 (omega arith) more puts later)
 
 -- a plain text's value is put
-pub puts_plain : (b : List ℕ) (p q : Part) (before after : Members) → p ≡ q → is_plain p ≡ true → PutsValue b q before after → PutsIf (is_text (media q)) b q before after
+pub puts_plain : (b : List ℕ) (p q : Part) (before after : Members) → p ≡ q → is_plain_part p ≡ true → PutsValue b q before after → PutsIf (is_text (media q)) b q before after
 puts_plain b p q before after same plain puts =
     let text : is_text (media q) ≡ true = subst (λ (x : Part). is_text (media x) ≡ true) same (plain_text (media p) plain) in
     subst (λ (t : Bool). MatchBool t (PutsValue b q before after) (after ≡ before)) (sym text) puts
@@ -200,13 +200,13 @@ pub no_leaf_here : (b : List ℕ) (ls : List Part) (ns : List ℕ) (i : ℕ) (t 
     → IsPreview b (parts_at ls (drop (i + 1) ns)) t → IsPreview b (parts_at ls (drop i ns)) t
 no_leaf_here b ls ns i t lt e h = subst (λ (ps : List Part). IsPreview b ps t) (sym (at_here ls ns i None lt e)) h
 
-pub no_plain_here : (b : List ℕ) (ls : List Part) (ns : List ℕ) (i : ℕ) (p : Part) (t : List ℕ) → i < length ns → part_at ls (get_or ns i 0) ≡ Some p → is_plain p ≡ false
+pub no_plain_here : (b : List ℕ) (ls : List Part) (ns : List ℕ) (i : ℕ) (p : Part) (t : List ℕ) → i < length ns → part_at ls (get_or ns i 0) ≡ Some p → is_plain_part p ≡ false
     → IsPreview b (parts_at ls (drop (i + 1) ns)) t → IsPreview b (parts_at ls (drop i ns)) t
 no_plain_here b ls ns i p t lt e plain h =
     subst (λ (ps : List Part). IsPreview b ps t) (sym (at_here ls ns i (Some p) lt e))
     (subst (λ (q : Bool). MatchBool q (IsPreviewOf b p t) (IsPreview b (parts_at ls (drop (i + 1) ns)) t)) (sym plain) h)
 
-pub plain_here : (b : List ℕ) (ls : List Part) (ns : List ℕ) (i : ℕ) (p : Part) (t : List ℕ) → i < length ns → part_at ls (get_or ns i 0) ≡ Some p → is_plain p ≡ true
+pub plain_here : (b : List ℕ) (ls : List Part) (ns : List ℕ) (i : ℕ) (p : Part) (t : List ℕ) → i < length ns → part_at ls (get_or ns i 0) ≡ Some p → is_plain_part p ≡ true
     → IsPreviewOf b p t → IsPreview b (parts_at ls (drop i ns)) t
 plain_here b ls ns i p t lt e plain h =
     subst (λ (ps : List Part). IsPreview b ps t) (sym (at_here ls ns i (Some p) lt e))
@@ -223,7 +223,7 @@ same_leaf b ls k p t e (q, f, h) = let same : q ≡ p = cc in subst (λ (x : Par
 -- ---- the body
 
 pub body_is : (b : List ℕ) (root : Part) (lists : BodyLists) (leaves : List Part) (d : BodyData) → IsMessage b root → AreBodyLists lists root → AreLeaves (root ∷ []) leaves
-    → ListsBody b leaves lists d → IsBody b root d
+    → ListsBody b leaves lists d → IsBodyData b root d
 body_is b root lists leaves d m are are_leaves h =
     let numbered = message_from b root m leaves are_leaves in
     let inside = walk_inside start (root ∷ []) are.parts are.walks leaves are_leaves in

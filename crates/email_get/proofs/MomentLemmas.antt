@@ -176,10 +176,10 @@ named_small t =
 
 offset_small : (sign : ℕ) (t : List ℕ) → SomeInZone (dates.offset_of sign t)
 offset_small sign t =
-    either (sign == 43) _ _ (east_small (dates.hours_and_minutes (dates.number_of 4 4 t)) (minutes_small (dates.number_of 4 4 t)))
-    (west_small (dates.hours_and_minutes (dates.number_of 4 4 t)) (minutes_small (dates.number_of 4 4 t)))
+    either (sign == 43) _ _ (east_small (dates.hours_and_minutes (dates.number_in_digits 4 4 t)) (minutes_small (dates.number_in_digits 4 4 t)))
+    (west_small (dates.hours_and_minutes (dates.number_in_digits 4 4 t)) (minutes_small (dates.number_in_digits 4 4 t)))
 
-zone_small : (z : ℤ) (ps : List dates.Piece) → dates.IsZone z ps → InZone z
+zone_small : (z : ℤ) (ps : List dates.DatePiece) → dates.IsZone z ps → InZone z
 zone_small _ _ (dates.Offset sign t z e) = subst (λ (o : Option ℤ). IfSome o InZone) e (offset_small sign t).holds
 zone_small _ _ (dates.Named t) = named_small t
 

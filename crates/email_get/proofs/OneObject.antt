@@ -18,13 +18,13 @@ use Rattle.mime_tree.specs.declared.part.Part.{Part, out-Part}
 use Rattle.mime_tree.specs.Bodies.{encoding_by, HasOctets}
 use Rattle.mime_tree.specs.BodyLists.{start}
 use Rattle.mime_tree.specs.Heads.{is_text, us_ascii}
-use Rattle.mime_tree.specs.Roles.{leaf_number, media, is_plain}
+use Rattle.mime_tree.specs.Roles.{leaf_number, media, is_plain_part}
 use Rattle.mime_tree.specs.SameTrees.{AllSame}
 use Rattle.mime_tree.specs.Trees.{IsMessage}
 use Rattle.mime_tree.proofs.OneTree.{one_message}
 use Rattle.mime_tree.proofs.SameWalks.{same_lists}
 use Rattle.email_get.specs.BodyValues.{value_data, PutsValue, PutsIf, AddsValues}
-use Rattle.email_get.specs.EmailObjects.{AreObjects, IsPreview, BodyData, IsBody as IsBodyOf, email_data, IsEmailObject}
+use Rattle.email_get.specs.EmailObjects.{AreObjects, IsPreview, BodyData, IsBodyData as IsBodyOf, email_data, IsEmailObject}
 use Rattle.email_get.specs.HeaderProperties.{IsHeaderData}
 use Rattle.email_get.specs.PartObjects.{IsLanguage, tags, part_blob_id, part_data, IsPartObject}
 use Rattle.email_get.specs.Previews.{preview_of, IsPreviewOf}
@@ -114,10 +114,10 @@ one_preview : (b : List ℕ) (ps qs : List Part) (u v : List ℕ) → AllSame Ki
 one_preview b [] [] u v same g h = g ∙ sym h
 one_preview b [] (q ∷ qs) u v same g h = absurd same
 one_preview b (p ∷ ps) [] u v same g h = absurd same
-one_preview b (p ∷ ps) (q ∷ qs) u v same g h = by (is_plain q) (subst (λ (t : Bool). MatchBool t (IsPreviewOf b p u) (IsPreview b ps u)) plain g) h
+one_preview b (p ∷ ps) (q ∷ qs) u v same g h = by (is_plain_part q) (subst (λ (t : Bool). MatchBool t (IsPreviewOf b p u) (IsPreview b ps u)) plain g) h
     (λ x y. one_preview b ps qs u v same.1 x y)
   where
-    plain : is_plain p ≡ is_plain q
+    plain : is_plain_part p ≡ is_plain_part q
     plain = ap (λ (m : List ℕ). is_same_text m (codes "text/plain")) same.0.media
 
     by : (t : Bool) → MatchBool t (IsPreviewOf b p u) (IsPreview b ps u) → MatchBool t (IsPreviewOf b q v) (IsPreview b qs v) → (IsPreview b ps u → IsPreview b qs v → u ≡ v)

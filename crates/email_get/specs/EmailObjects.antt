@@ -9,7 +9,7 @@ use Rattle.mail_header.specs.Fields.{NameAndRaw, IsHeader}
 use Rattle.mime_tree.specs.declared.lists.BodyLists.{BodyLists}
 use Rattle.mime_tree.specs.declared.part.Part.{Part}
 use Rattle.mime_tree.specs.BodyLists.{AreBodyLists}
-use Rattle.mime_tree.specs.Roles.{is_plain}
+use Rattle.mime_tree.specs.Roles.{is_plain_part}
 use Rattle.mime_tree.specs.Trees.{IsMessage}
 use Rattle.email_get.specs.Texts.{text_data}
 use Rattle.email_get.specs.Leaves.{AreLeaves}
@@ -28,7 +28,7 @@ AreObjects b (p ∷ ps) (d ∷ ds) = IsPartObject (blob_id b) b p d × AreObject
 -- the preview is that of the first plain text among the leaves, and empty without one
 abbrev pub IsPreview : List ℕ → List Part → List ℕ → Type 0
 IsPreview b [] preview = preview ≡ []
-IsPreview b (p ∷ ps) preview = MatchBool (is_plain p) (IsPreviewOf b p preview) (IsPreview b ps preview)
+IsPreview b (p ∷ ps) preview = MatchBool (is_plain_part p) (IsPreviewOf b p preview) (IsPreview b ps preview)
 
 -- what the object has that doesn't come of the header
 pub record BodyData : Type 0 where
@@ -40,7 +40,7 @@ pub record BodyData : Type 0 where
   pub values : Members
 
 -- the body of a message with this tree
-pub record IsBody (b : List ℕ) (root : Part) (body : BodyData) : Type 0 where
+pub record IsBodyData (b : List ℕ) (root : Part) (body : BodyData) : Type 0 where
   pub lists : BodyLists
   pub are_lists : AreBodyLists lists root
   pub text : AreObjects b are_lists.parts.text body.text
@@ -84,5 +84,5 @@ pub record IsEmailObject (b : List ℕ) (d : Data) : Type 0 where
   pub root : Part
   pub is_message : IsMessage b root
   pub body : BodyData
-  pub is_body : IsBody b root body
+  pub is_body : IsBodyData b root body
   pub is : d ≡ email_data header body

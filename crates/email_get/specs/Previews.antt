@@ -23,14 +23,14 @@ single_spaced [] = []
 single_spaced (c ∷ t) = spaced c t ++ single_spaced t
 
 -- an octet within a character, after its first one (RFC 3629 section 3)
-abbrev pub is_inner : ℕ → Bool
-is_inner c = is_between 128 191 c
+abbrev pub is_continuation : ℕ → Bool
+is_continuation c = is_between 128 191 c
 
 -- the first n characters of a text in UTF-8
 unfoldable pub first_characters : ℕ → List ℕ → List ℕ
 first_characters n [] = []
-first_characters zero (c ∷ t) = if is_inner c then c ∷ first_characters zero t else []
-first_characters (suc n) (c ∷ t) = if is_inner c then c ∷ first_characters (suc n) t else c ∷ first_characters n t
+first_characters zero (c ∷ t) = if is_continuation c then c ∷ first_characters zero t else []
+first_characters (suc n) (c ∷ t) = if is_continuation c then c ∷ first_characters (suc n) t else c ∷ first_characters n t
 
 -- the words of a text with one space between two, up to n characters
 abbrev pub preview_of : List ℕ → List ℕ

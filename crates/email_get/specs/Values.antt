@@ -17,11 +17,11 @@ with_lf [] = []
 with_lf (c ∷ t) = kept_octet c t ++ with_lf t
 
 -- the name of a part's charset; a text has one
-abbrev pub charset_name : Part → List ℕ
-charset_name p = unwrap_or (out-Part p).charset us_ascii
+abbrev pub part_charset : Part → List ℕ
+part_charset p = unwrap_or (out-Part p).charset us_ascii
 
 abbrev pub charset_in : Part → Charset
-charset_in p = charset_of (charset_name p)
+charset_in p = charset_of (part_charset p)
 
 -- The part of the octets b has this text, and has a problem or not: in its transfer encoding or in its charset.
 pub record HasText (p : Part) (b text : List ℕ) (problem : Bool) : Type 0 where

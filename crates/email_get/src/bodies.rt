@@ -7,7 +7,7 @@ ghost use Rattle.mime_tree.specs.declared.part.Part.{Part};
 ghost use Rattle.serde_json.specs.View.{view, members_view};
 ghost use Rattle.email_get.specs.BodyValues.{AddsValues};
 ghost use Rattle.email_get.specs.reading.BodyViews.{body_view};
-ghost use Rattle.email_get.specs.EmailObjects.{AreObjects, IsBody, IsPreview};
+ghost use Rattle.email_get.specs.EmailObjects.{AreObjects, IsBodyData, IsPreview};
 ghost use Rattle.email_get.specs.reading.LeafLists.{parts_of, parts_at, AreWithin, NoPlain, IsFirstPlain, IsPlainAt, IsPreviewAt, ListsBody};
 
 use crate::leaves::{leaf_at, leaves_of};
@@ -155,7 +155,7 @@ fn shown_at(alloc: Global, leaves: &Leaves<'_>, lists: &BodyLists) -> Result<Bod
 pub(crate) fn body_of(alloc: Global, bytes: &[u8], root: &Part) -> Result<BodyShown, AllocError>
     requires message { IsMessage bytes.now root.now }
     requires within { (q : Part) → IsUnder q root.now → IsWithin q bytes.now }
-    ensures { IfOk result (λ b. IsBody bytes.now root.now (body_view b)) }
+    ensures { IfOk result (λ b. IsBodyData bytes.now root.now (body_view b)) }
 {
     let id = blob_id(bytes);
     let lists = body_lists(alloc, root)?;

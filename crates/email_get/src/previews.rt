@@ -34,7 +34,7 @@ fn begins_word(text: &[u8]) -> bool
 
 /// Whether the octet stands within a character in UTF-8, after its first one.
 fn is_inner(octet: u8) -> bool
-    ensures { result ≡ previews.is_inner octet }
+    ensures { result ≡ previews.is_continuation octet }
 {
     128 <= octet && octet <= 191
 }

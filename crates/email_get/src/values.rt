@@ -61,7 +61,7 @@ fn with_lf(alloc: Global, text: &[u8]) -> Result<Vec<u8>, AllocError>
 /// A part's charset; a text has one.
 #[tactic(auto, unfolding(mime_tree::specs::Heads::us_ascii))]
 fn charset_of(part: &Part) -> &[u8]
-    ensures { result.now ≡ values.charset_name part.now }
+    ensures { result.now ≡ values.part_charset part.now }
 {
     match &part.charset {
         None => b"us-ascii",

@@ -13,16 +13,16 @@ use Rattle.told_folder.specs.declared.exchange.Exchange.{Exchange}
 use Rattle.imap_exchange.specs.declared.link_end.LinkEnd.{LinkEnd}
 use Rattle.imap_exchange.specs.declared.link_end.LinkEnd.TheVariants as end
 use Rattle.imap_exchange.specs.Begins.{Begins as begins_with}
-use Rattle.imap_exchange.specs.Received.{begun}
+use Rattle.imap_exchange.specs.Received.{nothing_given}
 use Rattle.imap_exchange.proofs.Verdicts.{Begins-more, first_same}
 use Rattle.imap_client.specs.Connecting.{GreetsBy, greeting_says, IsNew, connect_plan, Connects, Lives, Unready, Undialed, Lived, Unwelcome, Welcome}
 use Rattle.imap_client.specs.LinkLife.{LinkLife, ClientState, next_number, selected, selected_after}
 use Rattle.imap_client.specs.Obeying.{Obeys}
 use Rattle.imap_client.specs.Plans.{Planned, Follows}
-use Rattle.gate_machine.specs.Beginning.{Asks, Settles, Same, Moves, Spends, Lacks, AsksThen, Begins}
-use Rattle.gate_machine.specs.History.{KnownMail, IsSpent, advance, known_of}
-use Rattle.gate_machine.specs.Obeying.{given_by, ObeysIn, Welcomes, IsRoundObeyed, IsObeyed, IsServed}
-use Rattle.gate_machine.specs.Progress.{Progress, ended, idle, standing_by, lost_by, blame_link}
+use Rattle.gate_machine.specs.Beginning.{RunsRound, Settles, Same, Moves, Spends, Lacks, AsksThen, PreparesMail}
+use Rattle.gate_machine.specs.History.{KnownMail, IsSpent, advance, known_mail}
+use Rattle.gate_machine.specs.Obeying.{given_by, ObeysIn, Welcomes, IsRoundObeyed, IsObeyedBeginning, IsServed}
+use Rattle.gate_machine.specs.Progress.{Progress, ended_after, idle, standing_by, lost_by, blame_link}
 use Rattle.gate_machine.specs.declared.machine.Machine.{Machine}
 use Rattle.gate_machine.specs.declared.standing.Fall.TheVariants.{Linked}
 use Rattle.gate_machine.specs.declared.standing.Standing.{Standing}
@@ -54,7 +54,7 @@ before_end talk = flat_map-append store_gave_in talk (LinkEnded ∷ []) ∙ appe
 
 -- a greeting that lets the client in is no other reason not to go on than a lost link or want of memory
 greeting_ends : (gave rest : List ℕ) (greeting : Response) (preauth : Bool) (e : LinkEnd) → begins_with (greeting ∷ []) rest gave → greeting_says greeting ≡ Ok preauth
-    → GreetsBy gave begun (Err e) → (e ≡ end.Lost) ⊎ (e ≡ end.Memory)
+    → GreetsBy gave nothing_given (Err e) → (e ≡ end.Lost) ⊎ (e ≡ end.Memory)
 greeting_ends gave rest greeting preauth end.Lost greets says so = inl refl
 greeting_ends gave rest greeting preauth (end.Bad at) (text, more, spells, is, none) says (place, so, here) = absurd (bad_none gave place so greeting text more spells is)
 greeting_ends gave rest greeting preauth end.Stray greets says never = absurd never
@@ -113,7 +113,7 @@ settles_from (Lacks is a b) = is
 settled_ends : {before after : Progress} {events : List Event} → Settles before events after → ((k : KnownMail) → before.machine.known ≡ Some k → IsSpent k.history → ⊥)
     → IsServed after ⊎ (after.standing ≡ OutOfMemory)
 settled_ends (Same k is known a b c) room = inl (k, ap (λ (p : Progress). p.standing) c ∙ is, ap (λ (p : Progress). p.machine.known) c ∙ known)
-settled_ends (Moves k is a b c d e) room = inl (known_of (advance k.history k.told), ap (λ (p : Progress). p.standing) e ∙ is, ap (λ (p : Progress). p.machine.known) e)
+settled_ends (Moves k is a b c d e) room = inl (known_mail (advance k.history k.told), ap (λ (p : Progress). p.standing) e ∙ is, ap (λ (p : Progress). p.machine.known) e)
 settled_ends (Spends k is known new spent a b) room = absurd (room k known spent)
 settled_ends (Lacks is a b) room = inr (ap (λ (p : Progress). p.standing) b)
 
@@ -131,7 +131,7 @@ asks_nothing {before} a other =
 blamed_once : (b : Faults) (after told : Progress) → told.blamed ≡ blame_link 1 b → after ≡ told → after.blamed ≡ no_faults → ⊥
 blamed_once b after told lost is none = omega (arith, ap (λ (f : Faults). f.link) (sym lost ∙ ap (λ (p : Progress). p.blamed) (sym is) ∙ none))
 
-by_round : {before after : Progress} {events : List Event} (a : AsksThen before events after) (asks : Asks before a.asking a.told) → EndsWell asks.result
+by_round : {before after : Progress} {events : List Event} (a : AsksThen before events after) (asks : RunsRound before a.asking a.told) → EndsWell asks.result
     → ((k : KnownMail) → a.told.machine.known ≡ Some k → IsSpent k.history → ⊥) → after.blamed ≡ no_faults
     → IsServed after ⊎ (after.standing ≡ OutOfMemory)
 by_round {before} {after} a asks (inl ok) room none =
@@ -146,7 +146,7 @@ by_round {before} {after} a asks (inr (inr memory)) room none =
     let out : a.told.standing ≡ OutOfMemory = ap (λ (p : Progress). p.standing) asks.after_is ∙ ap standing_by memory in
     inr (ap (λ (p : Progress). p.standing) (settles_nothing a (λ is. cc)) ∙ out)
 
-rounds_end : {before after : Progress} {events : List Event} → Law → (a : AsksThen before events after) → ((asks : Asks before a.asking a.told) → IsRoundObeyed asks)
+rounds_end : {before after : Progress} {events : List Event} → Law → (a : AsksThen before events after) → ((asks : RunsRound before a.asking a.told) → IsRoundObeyed asks)
     → ((k : KnownMail) → a.told.machine.known ≡ Some k → IsSpent k.history → ⊥) → before.standing ≡ Stands → after.blamed ≡ no_faults
     → IsServed after ⊎ (after.standing ≡ OutOfMemory)
 rounds_end law a obeyed room stands none =
@@ -157,7 +157,7 @@ rounds_end law a obeyed room stands none =
 
 -- ---- the whole way
 
-by_dial : {user password : List ℕ} {before : Machine} {events : List Event} {after : Progress} → Law → (b : Begins user password before events after) → IsObeyed b
+by_dial : {user password : List ℕ} {before : Machine} {events : List Event} {after : Progress} → Law → (b : PreparesMail user password before events after) → IsObeyedBeginning b
     → EndsWell b.dials.result → after.blamed ≡ no_faults
     → IsServed after ⊎ (after.standing ≡ OutOfMemory)
 by_dial law b obeyed (inl ok) none = rounds_end law b.asks obeyed.round obeyed.room (ap (λ (p : Progress). p.standing) b.dials.after_is ∙ ap standing_by ok) none
@@ -170,7 +170,7 @@ by_dial law b obeyed (inr (inr memory)) none =
     let out : b.connected.standing ≡ OutOfMemory = ap (λ (p : Progress). p.standing) b.dials.after_is ∙ ap standing_by memory in
     inr (ap (λ (p : Progress). p.standing) (asks_nothing b.asks (λ is. cc)) ∙ out)
 
-pub obeyed_stands : Law → (user password : List ℕ) (before : Machine) (events : List Event) (after : Progress) (begins : Begins user password before events after) → IsObeyed begins
+pub obeyed_stands : Law → (user password : List ℕ) (before : Machine) (events : List Event) (after : Progress) (begins : PreparesMail user password before events after) → IsObeyedBeginning begins
     → after.blamed ≡ no_faults
     → IsServed after ⊎ (after.standing ≡ OutOfMemory)
 obeyed_stands law user password before events after b obeyed none = by_dial law b obeyed (connects_end law b.dials.connects obeyed.welcomes) none

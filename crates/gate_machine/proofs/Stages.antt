@@ -12,10 +12,10 @@ use Rattle.imap_exchange.specs.declared.link_end.LinkEnd.TheVariants as end
 use Rattle.imap_client.specs.LinkLife.{LinkLife, ClientState, Stands, fresh}
 use Rattle.imap_client.specs.Connecting.{Connects, Lives, Unready, Undialed, Lived, Unwelcome, Welcome}
 use Rattle.imap_client.specs.Rounds.{Rounds}
-use Rattle.gate_machine.specs.History.{KnownMail, Commits, IsNew, IsSpent, advance}
+use Rattle.gate_machine.specs.History.{KnownMail, Commits, IsNewMail, IsSpent, advance}
 use Rattle.gate_machine.specs.Machine.{hearing, committed, forgotten}
-use Rattle.gate_machine.specs.Progress.{Progress, CameTo, Bears, Holds, idle, ended, out_of_memory, is_up, standing_by, machine_by, lost_by, blame_link}
-use Rattle.gate_machine.specs.Beginning.{Readies, Skips, Dials, Asks, Settles, Same, Moves, Spends, Lacks, AsksThen, Begins, DialsTo, BeginsTo, Visits}
+use Rattle.gate_machine.specs.Progress.{Progress, CameTo, Bears, StandsInLife, idle, ended_after, out_of_memory, is_up, standing_by, machine_by, lost_by, blame_link}
+use Rattle.gate_machine.specs.Beginning.{Readies, Skips, Dials, RunsRound, Settles, Same, Moves, Spends, Lacks, AsksThen, PreparesMail, DialsTo, BeginsTo, Visits}
 use Rattle.gate_machine.specs.declared.machine.Machine.{Machine}
 use Rattle.gate_machine.specs.declared.standing.Fall.TheVariants.{Spent}
 use Rattle.gate_machine.specs.declared.standing.Standing.{Standing}
@@ -62,22 +62,22 @@ bears_none f = record { link = rose_none f.link; keep = rose_none f.keep; front 
 
 -- no life is left to a client that isn't alive
 holds_none : (result : Result (Unit {0}) LinkEnd) (e : LinkEnd) (left : Option LinkLife) (client : ClientState) → result ≡ Err e → left ≡ None → OnErr result (client ≡ fresh)
-    → Holds left client
-holds_none result e left client is none ended =
-    let dead : client ≡ fresh = subst (λ (r : Result (Unit {0}) LinkEnd). OnErr r (client ≡ fresh)) is ended in
-    subst (λ (l : Option LinkLife). Holds l client) (sym none) (ap (λ (c : ClientState). c.alive) dead)
+    → StandsInLife left client
+holds_none result e left client is none ended_after =
+    let dead : client ≡ fresh = subst (λ (r : Result (Unit {0}) LinkEnd). OnErr r (client ≡ fresh)) is ended_after in
+    subst (λ (l : Option LinkLife). StandsInLife l client) (sym none) (ap (λ (c : ClientState). c.alive) dead)
 
 holds_lived : {user password : List ℕ} {left : Option LinkLife} {client : ClientState} {result : Result (Unit {0}) LinkEnd} {events : List Event}
-    → Lives user password left client result events → OnErr result (client ≡ fresh) → Holds left client
-holds_lived {left = left} {client = client} {result = result} (Unwelcome e talk gave a b c is none) ended = holds_none result e left client is none ended
-holds_lived {client = client} (Welcome life after preauth exchanges talk last a b c d follows some) ended = subst (λ (l : Option LinkLife). Holds l client)
+    → Lives user password left client result events → OnErr result (client ≡ fresh) → StandsInLife left client
+holds_lived {left = left} {client = client} {result = result} (Unwelcome e talk gave a b c is none) ended_after = holds_none result e left client is none ended_after
+holds_lived {client = client} (Welcome life after preauth exchanges talk last a b c d follows some) ended_after = subst (λ (l : Option LinkLife). StandsInLife l client)
     (sym some) follows.stands
 
 holds_connected : {user password : List ℕ} {left : Option LinkLife} {client : ClientState} {result : Result (Unit {0}) LinkEnd} {events : List Event}
-    → Connects user password left client result events → OnErr result (client ≡ fresh) → Holds left client
-holds_connected {left = left} {client = client} {result = result} (Unready a is none) ended = holds_none result end.Memory left client is none ended
-holds_connected {left = left} {client = client} {result = result} (Undialed a is none) ended = holds_none result end.Lost left client is none ended
-holds_connected (Lived life a lives) ended = holds_lived lives ended
+    → Connects user password left client result events → OnErr result (client ≡ fresh) → StandsInLife left client
+holds_connected {left = left} {client = client} {result = result} (Unready a is none) ended_after = holds_none result end.Memory left client is none ended_after
+holds_connected {left = left} {client = client} {result = result} (Undialed a is none) ended_after = holds_none result end.Lost left client is none ended_after
+holds_connected (Lived life a lives) ended_after = holds_lived lives ended_after
 
 -- the life begins
 pub dialed : {user password : List ℕ} {left : Option LinkLife} {client : ClientState} {result : Result (Unit {0}) LinkEnd} {events : List Event} (before machine : Machine)
@@ -86,7 +86,7 @@ pub dialed : {user password : List ℕ} {left : Option LinkLife} {client : Clien
     → how ≡ standing_by result → machine ≡ machine_by result before
     → (after : Progress) × Dials user password (idle before) events after × CameTo machine client how was now after
 dialed {left = left} {client = client} {result = result} before machine how was now connects over alone cause standing_is machine_is = (
-  ended result (record (idle before) { left = left }),
+  ended_after result (record (idle before) { left = left }),
   record { client = client; left = left; result = result; stands = refl; connects = connects; after_is = refl },
   record {
     machine_is = sym machine_is;
@@ -99,7 +99,7 @@ dialed {left = left} {client = client} {result = result} before machine how was 
 -- ---- the round
 
 -- a client that is alive stands in a life that goes on
-in_life : (left : Option LinkLife) (client : ClientState) → Holds left client → client.alive ≡ true → (life : LinkLife) × (left ≡ Some life) × Stands client life
+in_life : (left : Option LinkLife) (client : ClientState) → StandsInLife left client → client.alive ≡ true → (life : LinkLife) × (left ≡ Some life) × Stands client life
 in_life None client dead alive = absurd (cc (dead, alive))
 in_life (Some life) client stands alive = (life, refl, stands)
 
@@ -109,11 +109,11 @@ pub asked : {client next : ClientState} {result : Result (Unit {0}) LinkEnd} {ev
     → ((life : LinkLife) → Stands client life → (left : LinkLife) × Rounds k.told told life left next result events)
     → LinkAlone then now → (IsErrOf result end.Lost → Rose then.link now.link)
     → how ≡ standing_by result → after ≡ machine_by result (hearing machine k told)
-    → (p : Progress) × Asks before events p × CameTo after next how was now p
+    → (p : Progress) × RunsRound before events p × CameTo after next how was now p
 asked {client} {next} {result} before machine after how was then now k told came known alive rounds alone cause standing_is after_is =
     let here = in_life before.left client came.holds alive in
     let went = rounds here.0 here.2 in (
-      ended result (record before { machine = hearing before.machine k told; left = Some went.0 }),
+      ended_after result (record before { machine = hearing before.machine k told; left = Some went.0 }),
       record {
         known = k;
         told = told;
@@ -159,7 +159,7 @@ settled before client was now machine after k next came known (inr moved) after_
 )
 
 pub spent : (before : Progress) (client : ClientState) (was now : Faults) (machine after : Machine) (k : KnownMail)
-    → CameTo machine client standing.Stands was now before → machine.known ≡ Some k → IsNew k → IsSpent k.history → after ≡ forgotten machine
+    → CameTo machine client standing.Stands was now before → machine.known ≡ Some k → IsNewMail k → IsSpent k.history → after ≡ forgotten machine
     → (p : Progress) × Settles before [] p × CameTo after client (standing.Fell Spent) was now p
 spent before client was now machine after k came known new spends after_is = (
   record before { machine = forgotten before.machine; standing = standing.Fell Spent },
@@ -180,7 +180,7 @@ lacked before client was now machine after came after_is = (
 
 -- the round, and then what it told
 pub asked_then : {before : Progress} {events : List Event} {client : ClientState} {machine after : Machine} {how : Standing} {was now : Faults}
-    → (p : Progress) × Asks before events p × CameTo machine client standing.Stands was now p
+    → (p : Progress) × RunsRound before events p × CameTo machine client standing.Stands was now p
     → ((p : Progress) → CameTo machine client standing.Stands was now p → (q : Progress) × Settles p [] q × CameTo after client how was now q)
     → (q : Progress) × AsksThen before events q × CameTo after client how was now q
 asked_then {events = events} asks settles =
@@ -192,7 +192,7 @@ fell_is_not p how is other stands = other (sym is ∙ stands)
 
 -- the round, which doesn't stand
 pub asked_only : {before : Progress} {events : List Event} {client : ClientState} {machine : Machine} {how : Standing} {was now : Faults}
-    → (how ≡ standing.Stands → ⊥) → (p : Progress) × Asks before events p × CameTo machine client how was now p
+    → (how ≡ standing.Stands → ⊥) → (p : Progress) × RunsRound before events p × CameTo machine client how was now p
     → (q : Progress) × AsksThen before events q × CameTo machine client how was now q
 asked_only {events = events} {how = how} other asks = (
   asks.0,
@@ -254,7 +254,7 @@ begun_by {ready = ready} xs ys readies dials =
     }
 
 -- whether the link is up is what the client knows
-up_is : (left : Option LinkLife) (client : ClientState) → Holds left client → client.alive ≡ is_up left
+up_is : (left : Option LinkLife) (client : ClientState) → StandsInLife left client → client.alive ≡ is_up left
 up_is None client dead = dead
 up_is (Some life) client stands = stands.alive
 

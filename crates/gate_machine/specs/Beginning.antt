@@ -10,9 +10,9 @@ use Rattle.imap_exchange.specs.declared.link_end.LinkEnd.{LinkEnd}
 use Rattle.imap_client.specs.Connecting.{Connects}
 use Rattle.imap_client.specs.LinkLife.{LinkLife, ClientState}
 use Rattle.imap_client.specs.Rounds.{Rounds}
-use Rattle.gate_machine.specs.History.{KnownMail, IsNew, advance, IsSpent}
+use Rattle.gate_machine.specs.History.{KnownMail, IsNewMail, advance, IsSpent}
 use Rattle.gate_machine.specs.Machine.{hearing, restarted, committed, forgotten}
-use Rattle.gate_machine.specs.Progress.{Progress, CameTo, Bears, idle, ended, out_of_memory, is_up}
+use Rattle.gate_machine.specs.Progress.{Progress, CameTo, Bears, idle, ended_after, out_of_memory, is_up}
 use Rattle.gate_machine.specs.declared.machine.Machine.{Machine}
 use Rattle.gate_machine.specs.declared.standing.Fall.TheVariants.{Spent}
 use Rattle.gate_machine.specs.declared.standing.Standing.{Standing}
@@ -34,10 +34,10 @@ pub record Dials (user password : List ℕ) (before : Progress) (events : List E
   pub result : Result (Unit {0}) LinkEnd
   pub stands : before.standing ≡ Stands
   pub connects : Connects user password left client result events
-  pub after_is : after ≡ ended result (record before { left = left })
+  pub after_is : after ≡ ended_after result (record before { left = left })
 
 -- The round asks for all mail in that life. The machine is told each exchange that is completed.
-pub record Asks (before : Progress) (events : List Event) (after : Progress) : Type 0 where
+pub record RunsRound (before : Progress) (events : List Event) (after : Progress) : Type 0 where
   pub known : KnownMail
   pub told : Mail
   pub life : LinkLife
@@ -49,16 +49,16 @@ pub record Asks (before : Progress) (events : List Event) (after : Progress) : T
   pub in_life : before.left ≡ Some life
   pub goes_on : life.goes_on ≡ true
   pub rounds : Rounds known.told told life left client result events
-  pub after_is : after ≡ ended result (record before { machine = hearing before.machine known told; left = Some left })
+  pub after_is : after ≡ ended_after result (record before { machine = hearing before.machine known told; left = Some left })
 
 -- The told mail is served, at a further place where it is new. Where no place is left, or there is no memory for it, the
 -- machine isn't ready.
 pub data Settles (before : Progress) (events : List Event) (after : Progress) : Type 0 where
   Same : (k : KnownMail) → before.standing ≡ Stands → before.machine.known ≡ Some k → SameMail k.history.mail k.told → events ≡ [] → after ≡ before
       → Settles before events after
-  Moves : (k : KnownMail) → before.standing ≡ Stands → before.machine.known ≡ Some k → IsNew k → (IsSpent k.history → ⊥) → events ≡ []
+  Moves : (k : KnownMail) → before.standing ≡ Stands → before.machine.known ≡ Some k → IsNewMail k → (IsSpent k.history → ⊥) → events ≡ []
       → after ≡ record before { machine = committed before.machine (advance k.history k.told) } → Settles before events after
-  Spends : (k : KnownMail) → before.standing ≡ Stands → before.machine.known ≡ Some k → IsNew k → IsSpent k.history → events ≡ []
+  Spends : (k : KnownMail) → before.standing ≡ Stands → before.machine.known ≡ Some k → IsNewMail k → IsSpent k.history → events ≡ []
       → after ≡ record before { machine = forgotten before.machine; standing = Fell Spent } → Settles before events after
   Lacks : before.standing ≡ Stands → events ≡ [] → after ≡ out_of_memory before → Settles before events after
 
@@ -67,12 +67,12 @@ pub record AsksThen (before : Progress) (events : List Event) (after : Progress)
   pub told : Progress
   pub asking : List Event
   pub settling : List Event
-  pub asks : Skips before asking told ⊎ Asks before asking told
+  pub asks : Skips before asking told ⊎ RunsRound before asking told
   pub settles : Skips told settling after ⊎ Settles told settling after
   pub whole : events ≡ asking ++ settling
 
 -- Ready, dial, round, and the told mail is served, each only after one that stands.
-pub record Begins (user password : List ℕ) (before : Machine) (events : List Event) (after : Progress) : Type 0 where
+pub record PreparesMail (user password : List ℕ) (before : Machine) (events : List Event) (after : Progress) : Type 0 where
   pub ready : Machine
   pub connected : Progress
   pub readying : List Event
@@ -101,7 +101,7 @@ pub record DialsTo (user password : List ℕ) (before machine : Machine) (client
 pub record BeginsTo (user password : List ℕ) (before machine : Machine) (client : ClientState) (how : Standing) (was now : Faults)
     (events : List Event) : Type 0 where
   pub after : Progress
-  pub begins : Begins user password before events after
+  pub begins : PreparesMail user password before events after
   pub came : CameTo machine client how was now after
 
 -- The whole way, and the link is hung up where it is up after it.
@@ -109,7 +109,7 @@ pub record Visits (user password : List ℕ) (before machine : Machine) (how : S
   pub after : Progress
   pub beginning : List Event
   pub ending : List Event
-  pub begins : Begins user password before beginning after
+  pub begins : PreparesMail user password before beginning after
   pub hangs : HangsUp (is_up after.left) ending
   pub whole : events ≡ beginning ++ ending
   pub machine_is : after.machine ≡ machine

@@ -13,8 +13,8 @@ pub record History : Type 0 where
   pub mail : Mail
 
 -- an epoch begins
-abbrev pub begun : ℕ → History
-begun epoch = record { epoch = epoch; place = 0; mail = no_mail }
+abbrev pub begun_epoch : ℕ → History
+begun_epoch epoch = record { epoch = epoch; place = 0; mail = no_mail }
 
 -- it goes on by other mail
 abbrev pub advance : History → Mail → History
@@ -36,15 +36,15 @@ pub record KnownMail : Type 0 where
   pub told : Mail
 
 -- nothing was told since
-abbrev pub known_of : History → KnownMail
-known_of h = record { history = h; told = h.mail }
+abbrev pub known_mail : History → KnownMail
+known_mail h = record { history = h; told = h.mail }
 
 -- the told mail is other than the mail that is served
-abbrev pub IsNew : KnownMail → Type 0
-IsNew k = SameMail k.history.mail k.told → ⊥
+abbrev pub IsNewMail : KnownMail → Type 0
+IsNewMail k = SameMail k.history.mail k.told → ⊥
 
 -- The told mail is served from then on, at a further place where it is new.
 abbrev pub Commits : KnownMail → KnownMail → Type 0
 Commits before after =
     (SameMail before.history.mail before.told × (after ≡ before))
-    ⊎ (IsNew before × (IsSpent before.history → ⊥) × (after ≡ known_of (advance before.history before.told)))
+    ⊎ (IsNewMail before × (IsSpent before.history → ⊥) × (after ≡ known_mail (advance before.history before.told)))

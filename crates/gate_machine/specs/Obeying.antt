@@ -10,7 +10,7 @@ use Rattle.imap_client.specs.LinkLife.{LinkLife, next_number, selected}
 use Rattle.imap_client.specs.Obeying.{Obeys}
 use Rattle.imap_client.specs.Plans.{Planned}
 use Rattle.imap_client.specs.Rounds.{round_plan}
-use Rattle.gate_machine.specs.Beginning.{Asks, Begins}
+use Rattle.gate_machine.specs.Beginning.{RunsRound, PreparesMail}
 use Rattle.gate_machine.specs.History.{KnownMail, IsSpent}
 use Rattle.gate_machine.specs.Progress.{Progress}
 use Rattle.gate_machine.specs.declared.machine.Machine.{Machine}
@@ -34,14 +34,14 @@ abbrev pub ObeysIn : Planned → LinkLife → List Event → Type 0
 ObeysIn plan life events = Obeys plan [] (next_number life) (selected life) (life.rest ++ given_by events)
 
 -- the store obeyed what the round asks
-abbrev pub IsRoundObeyed : {before : Progress} {events : List Event} {after : Progress} → Asks before events after → Type 0
+abbrev pub IsRoundObeyed : {before : Progress} {events : List Event} {after : Progress} → RunsRound before events after → Type 0
 IsRoundObeyed {events = events} asks = ObeysIn (round_plan asks.known.told) asks.life events
 
 -- The store obeyed, and a place was left for what it told.
-pub record IsObeyed {user password : List ℕ} {before : Machine} {events : List Event} {after : Progress}
-    (begins : Begins user password before events after) : Type 0 where
+pub record IsObeyedBeginning {user password : List ℕ} {before : Machine} {events : List Event} {after : Progress}
+    (begins : PreparesMail user password before events after) : Type 0 where
   pub welcomes : Welcomes user password (given_by begins.connecting)
-  pub round : (asks : Asks begins.connected begins.asks.asking begins.asks.told) → IsRoundObeyed asks
+  pub round : (asks : RunsRound begins.connected begins.asks.asking begins.asks.told) → IsRoundObeyed asks
   pub room : (k : KnownMail) → begins.asks.told.machine.known ≡ Some k → IsSpent k.history → ⊥
 
 -- the round stands, and mail is served

@@ -50,8 +50,8 @@ lost_by _ = 0
 abbrev pub blame_link : ℕ → Faults → Faults
 blame_link n f = record f { link = f.link + n }
 
-abbrev pub ended : Result (Unit {0}) LinkEnd → Progress → Progress
-ended result p = record { machine = machine_by result p.machine; standing = standing_by result; left = p.left; blamed = blame_link (lost_by result) p.blamed }
+abbrev pub ended_after : Result (Unit {0}) LinkEnd → Progress → Progress
+ended_after result p = record { machine = machine_by result p.machine; standing = standing_by result; left = p.left; blamed = blame_link (lost_by result) p.blamed }
 
 -- each count rose by the faults that are blamed
 pub record Bears (blames was now : Faults) : Type 0 where
@@ -63,13 +63,13 @@ pub record Bears (blames was now : Faults) : Type 0 where
 -- ---- the code's state
 
 -- the client stands in the life
-abbrev pub Holds : Option LinkLife → ClientState → Type 0
-Holds (Some life) client = Stands client life
-Holds None client = client.alive ≡ false
+abbrev pub StandsInLife : Option LinkLife → ClientState → Type 0
+StandsInLife (Some life) client = Stands client life
+StandsInLife None client = client.alive ≡ false
 
 -- The work came so far: by the machine and the client that there are now, and by the counts of faults since it began.
 pub record CameTo (machine : Machine) (client : ClientState) (how : Standing) (was now : Faults) (p : Progress) : Type 0 where
   pub machine_is : p.machine ≡ machine
   pub standing_is : p.standing ≡ how
-  pub holds : Holds p.left client
+  pub holds : StandsInLife p.left client
   pub bears : Bears p.blamed was now

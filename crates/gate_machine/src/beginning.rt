@@ -5,7 +5,7 @@ ghost use Rattle.gate_world.specs.Causes.{Faults, LinkAlone};
 ghost use Rattle.gate_world.specs.Tape.{Adds};
 ghost use Rattle.imap_client.specs.LinkLife.{ClientState};
 ghost use Rattle.gate_machine.specs.Progress.{Progress, CameTo, idle};
-ghost use Rattle.gate_machine.specs.Beginning.{Dials, Asks, Settles, AsksThen, DialsTo, BeginsTo, Visits};
+ghost use Rattle.gate_machine.specs.Beginning.{Dials, RunsRound, Settles, AsksThen, DialsTo, BeginsTo, Visits};
 
 use crate::machine::Machine;
 use crate::standing::{CommitEnd, Fall, Standing};
@@ -39,7 +39,7 @@ fn ask<L: Link>(machine: &mut Machine, client: &mut Client, link: &mut L) -> Sta
     requires ready { IsSome machine.old.known }
     ensures run { Adds (L.tape link.old) (L.tape link.new) (λ es. (before : Progress) (was : Faults)
         → CameTo machine.old client.old Standing.Stands was (L.faults link.old) before
-        → (after : Progress) × Asks before es after × CameTo machine.new client.new result was (L.faults link.new) after) }
+        → (after : Progress) × RunsRound before es after × CameTo machine.new client.new result was (L.faults link.new) after) }
     ensures ready { result ≡ Standing.Stands → IsSome machine.new.known }
     ensures alone { LinkAlone (L.faults link.old) (L.faults link.new) }
     ensures hidden { L.hidden link.new ≡ L.hidden link.old }

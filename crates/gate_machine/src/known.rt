@@ -4,7 +4,7 @@ ghost use Rattle.gate_world.specs.Causes.{Rose, LinkAlone};
 ghost use Rattle.gate_world.specs.Tape.{Adds};
 ghost use Rattle.imap_client.specs.LinkLife.{LinkLife, Stands, fresh};
 ghost use Rattle.imap_client.specs.Rounds.{Rounds};
-ghost use Rattle.gate_machine.specs.History.{begun, known_of, Commits, IsNew, IsSpent};
+ghost use Rattle.gate_machine.specs.History.{begun_epoch, known_mail, Commits, IsNewMail, IsSpent};
 ghost use Rattle.told_mail.specs.Mail.{SameMail};
 
 use crate::standing::CommitEnd;
@@ -44,7 +44,7 @@ impl Model for Known {
 impl Known {
     /// An epoch begins, with no mail. It takes no memory.
     pub fn begun(alloc: Global, epoch: u64) -> Known
-        ensures { result ≡ known_of (begun epoch) }
+        ensures { result ≡ known_mail (begun_epoch epoch) }
     {
         Known {
             epoch,
@@ -90,7 +90,7 @@ impl Known {
     /// The told mail is served from now on, at a further place where it is new. An Err changes nothing.
     pub fn commit(&mut self) -> Result<(), CommitEnd>
         ensures ok { OnOk result (Commits self.old self.new) }
-        ensures spent { IsErrOf result CommitEnd.Spent → IsNew self.old × IsSpent self.old.history }
+        ensures spent { IsErrOf result CommitEnd.Spent → IsNewMail self.old × IsSpent self.old.history }
         ensures err { OnErr result (self.new ≡ self.old) }
     {
         if self.is_same() {

@@ -23,7 +23,7 @@ use Rattle.gate_serving.specs.declared.served.Served.TheVariants as served
 use Rattle.gate_serving.specs.Answers.{Keeps, MayKeep, response_of, no_memory_text}
 use Rattle.gate_serving.specs.Calls.{Mailing}
 use Rattle.gate_serving.specs.GateState.{GateState, forgotten}
-use Rattle.gate_serving.specs.Requests.{Account, Asking, Reads, asks_for_mail}
+use Rattle.gate_serving.specs.Requests.{Account, Asking, ReadsAsking, asks_for_mail}
 use Rattle.gate_serving.specs.Segment.{
   Replies,
   Answered,
@@ -199,13 +199,13 @@ replied_lacking {door} {account} {asking} {before} {mid} {after} {was} {now} {ev
 
 pub read_asked : {door : Door} {account : Account} {asking : Asking} {before after : GateState} {mid now : Faults} {ys : List Event} (xs : List Event) (was : Faults)
     (response : Response)
-    → Later was mid → Reads door account.token (Ok asking) xs → RepliesToAsking door account asking before after mid now (text_of response) ys
+    → Later was mid → ReadsAsking door account.token (Ok asking) xs → RepliesToAsking door account asking before after mid now (text_of response) ys
     → RepliesBy door account before after was now (Some response) (xs ++ ys)
 read_asked {mid = mid} {now = now} xs was response later reads replies =
     let r = replies.of xs reads in (r.0, bears_earlier (reply_blamed r.0) was mid now later r.1)
 
 pub read_lacking : {door : Door} {account : Account} {events : List Event} (before after : GateState) (was now : Faults) (response : Response) → Later was now
-    → Reads door account.token (Err unread.Memory) events → text_of response ≡ no_memory_text door → after ≡ forgotten before
+    → ReadsAsking door account.token (Err unread.Memory) events → text_of response ≡ no_memory_text door → after ≡ forgotten before
     → RepliesBy door account before after was now (Some response) events
 read_lacking before after was now response later reads text_is after_is = (LacksReading reads text_is after_is, bears_none was now later)
 

@@ -4,9 +4,9 @@ use Rattle.gate_world.specs.Causes.{Faults, RoseBy, no_faults}
 use Rattle.gate_world.specs.declared.event.Event.{Event}
 use Rattle.gate_machine.specs.Progress.{Bears, Progress}
 use Rattle.gate_machine.specs.declared.machine.Machine.{Machine}
-use Rattle.gate_machine.specs.Beginning.{Begins}
+use Rattle.gate_machine.specs.Beginning.{PreparesMail}
 use Rattle.gate_machine.specs.History.{KnownMail}
-use Rattle.gate_machine.specs.Obeying.{IsObeyed, IsServed}
+use Rattle.gate_machine.specs.Obeying.{IsObeyedBeginning, IsServed}
 use Rattle.gate_machine.specs.declared.standing.Standing.TheVariants.{OutOfMemory}
 use Rattle.gate_serving.specs.Calls.{Mailing}
 use Rattle.gate_serving.specs.Complete.{IsWorkObeyed, IsAnsweredFrom}
@@ -34,7 +34,7 @@ no_life account before asking events mail after (WithMail begun beginning ending
 -- ---- a store that obeys
 
 abbrev pub Law : Type 0
-Law = (user password : List ℕ) (before : Machine) (events : List Event) (after : Progress) (begins : Begins user password before events after) → IsObeyed begins
+Law = (user password : List ℕ) (before : Machine) (events : List Event) (after : Progress) (begins : PreparesMail user password before events after) → IsObeyedBeginning begins
     → after.blamed ≡ no_faults
     → IsServed after ⊎ (after.standing ≡ OutOfMemory)
 

@@ -10,7 +10,7 @@ use Rattle.gate_serving.specs.declared.served.Served.TheVariants as served
 use Rattle.gate_serving.specs.declared.door.Door.{Door}
 use Rattle.gate_serving.specs.GateState.{GateState}
 use Rattle.gate_serving.specs.Requests.{Account}
-use Rattle.gate_serving.specs.Run.{Begun, Then, both, IsClient, Ends, AllServed, NoneLeft, NotAccepted, StepsTo, RunsTo, IsRun}
+use Rattle.gate_serving.specs.Run.{Begun, Then, sum_of_faults, IsClient, Ends, AllServed, NoneLeft, NotAccepted, StepsTo, RunsTo, IsServingRun}
 
 rose_more : (j k was mid now : ℕ) → RoseBy j was mid → RoseBy k mid now → RoseBy (j + k) was now
 rose_more j k was mid now a b = omega arith
@@ -21,7 +21,7 @@ rose_none was = omega arith
 bears_none : (f : Faults) → Bears no_faults f f
 bears_none f = record { link = rose_none f.link; keep = rose_none f.keep; front = rose_none f.front; say = rose_none f.say }
 
-bears_both : (f g was mid now : Faults) → Bears f was mid → Bears g mid now → Bears (both f g) was now
+bears_both : (f g was mid now : Faults) → Bears f was mid → Bears g mid now → Bears (sum_of_faults f g) was now
 bears_both f g was mid now a b =
     record {
       link = rose_more f.link g.link was.link mid.link now.link a.link b.link;
@@ -57,7 +57,7 @@ then_client {door} {account} {s} {t} {u} {was = was} {mid = mid} {now = now} {ho
 -- the last
 pub then_last : {door : Door} {account : Account} {s t u : GateState} {n : ℕ} {was mid now : Faults} {how : Served} {xs ys : List Event} {d : Door} {b : Account} (most status : ℕ)
     → d ≡ door → b ≡ account → ((went : List Served) → All IsClient went → length went ≡ n → Ends most (went ++ how ∷ []) status) → RunsTo door account s t n was mid xs
-    → StepsTo d b t u mid now how ys → IsRun door account s u most was now status (xs ++ ys)
+    → StepsTo d b t u mid now how ys → IsServingRun door account s u most was now status (xs ++ ys)
 then_last {door} {account} {s} {t} {u} {was = was} {mid = mid} {now = now} {how = how} {ys = ys} {b = b} most status here same ends r steps =
     let step : StepsTo door account t u mid now how ys = subst (λ (a : Account). StepsTo door a t u mid now how ys) same
     (subst (λ (e : Door). StepsTo e b t u mid now how ys) here steps) in
@@ -76,5 +76,5 @@ not_accepted n most less went came counted = NotAccepted went refl came (omega (
 
 -- as many as may come
 pub all_served : {door : Door} {account : Account} {s t : GateState} {n : ℕ} {was now : Faults} {xs : List Event} (most : ℕ) → n ≡ most
-    → RunsTo door account s t n was now xs → IsRun door account s t most was now 0 xs
+    → RunsTo door account s t n was now xs → IsServingRun door account s t most was now 0 xs
 all_served most is r = record { went = r.went; run = r.run; ends = AllServed r.came (r.counted ∙ is) refl; bears = r.bears }

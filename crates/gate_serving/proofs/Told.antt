@@ -13,8 +13,8 @@ use Rattle.gate_serving.specs.Answers.{response_of}
 use Rattle.gate_serving.specs.Calls.{Mailing}
 use Rattle.gate_serving.specs.Complete.{IsAnsweredFrom, IsReplyObeyed, IsSegmentObeyed, IsTold, NobodyComes, EndsEarly, TakesResponse, LacksMemory, IsRunObeyed, IsRunTold}
 use Rattle.gate_serving.specs.GateState.{GateState}
-use Rattle.gate_serving.specs.Requests.{Account, Asking, Reads}
-use Rattle.gate_serving.specs.Run.{both, Run, Begun, Then, run_blamed}
+use Rattle.gate_serving.specs.Requests.{Account, Asking, ReadsAsking}
+use Rattle.gate_serving.specs.Run.{sum_of_faults, Run, Begun, Then, run_blamed}
 use Rattle.gate_serving.specs.Segment.{Replies, Answered, LacksReading, LacksAnswering, Segment, NoneComes, NotAccepted, Left, Unasked, Replied, blame_front, blamed, reply_blamed}
 use Rattle.gate_serving.proofs.Needs.{Law, answered_from}
 
@@ -38,7 +38,7 @@ blamed_once : (f : Faults) → blame_front 1 f ≡ no_faults → ⊥
 blamed_once f is = never f.front (ap (λ (g : Faults). g.front) is)
 
 takes : (door : Door) (account : Account) (events asked worked replied heard : List Event) (text : List ℕ) (how : Served) (after : GateState) (asking : Asking) (mail : Mailing)
-    (done : Progress) → events ≡ Accepted ∷ ((replied ++ heard) ++ ClientDone ∷ []) → replied ≡ asked ++ worked → Reads door account.token (Ok asking) asked
+    (done : Progress) → events ≡ Accepted ∷ ((replied ++ heard) ++ ClientDone ∷ []) → replied ≡ asked ++ worked → ReadsAsking door account.token (Ok asking) asked
     → done.standing ≢ OutOfMemory
     → text ≡ response_of door account mail after.uploads asking → after.machine ≡ done.machine → Hears text heard → how ≡ served.Whole
     → IsAnsweredFrom asking mail done ⊎ (done.standing ≡ OutOfMemory) → IsTold door account events how after
@@ -73,7 +73,7 @@ told law door account before events how after (Replied replied heard text (Err e
 sum_none : (a b : ℕ) → a + b ≡ 0 → (a ≡ 0) × (b ≡ 0)
 sum_none a b is = (omega (arith, is), omega (arith, is))
 
-both_none : (f g : Faults) → both f g ≡ no_faults → (f ≡ no_faults) × (g ≡ no_faults)
+both_none : (f g : Faults) → sum_of_faults f g ≡ no_faults → (f ≡ no_faults) × (g ≡ no_faults)
 both_none f g is =
     let link = sum_none f.link g.link (ap (λ (h : Faults). h.link) is) in
     let keep = sum_none f.keep g.keep (ap (λ (h : Faults). h.keep) is) in

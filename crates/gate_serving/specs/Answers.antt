@@ -2,7 +2,7 @@
 use Rattle.std.specs.Prelude.{◌≡◌, ◌⊎◌, ◌++◌, ℕ, List, [], ◌∷◌, length, Option, Some, None, Result, Ok, Err, codes}
 use Rattle.serde_json.specs.Data.{unsigned, Data, number, string, object, no_members, member}
 use Rattle.serde_json.specs.Written.{compact_text}
-use Rattle.blob_store.specs.Uploads.{blob_id, upload_with, Takes}
+use Rattle.blob_store.specs.Uploads.{blob_id, upload_with, TakesUpload}
 use Rattle.blob_store.specs.declared.store.TheConstants.{MAX_KEPT_OCTETS}
 use Rattle.http_door.specs.Responses.{http_response, json_media, problem_media, download_media}
 use Rattle.http_service.specs.Refusals.{status_of}
@@ -50,7 +50,7 @@ upload_data media octets = object
 
 -- the uploads that are kept after what is asked
 abbrev pub Keeps : Asking → List (List ℕ) → List (List ℕ) → Type 0
-Keeps (Upload media octets) before after = Takes MAX_KEPT_OCTETS octets before after
+Keeps (Upload media octets) before after = TakesUpload MAX_KEPT_OCTETS octets before after
 Keeps _ before after = after ≡ before
 
 -- the same where memory may have run out before

@@ -43,14 +43,14 @@ abbrev pub call_result : Mailing → Using → List CallData → CallData → Re
 call_result mail uses earlier call = by_method mail (resolved_arguments earlier call.arguments) (method_asked uses call.name)
 
 -- the one response to a call
-abbrev pub response_to : CallData → Result Data MethodError → CallData
-response_to call (Ok arguments) = record call { arguments = arguments }
-response_to call (Err e) = record { name = codes "error"; arguments = error_data e; id = call.id }
+abbrev pub answered_call : CallData → Result Data MethodError → CallData
+answered_call call (Ok arguments) = record call { arguments = arguments }
+answered_call call (Err e) = record { name = codes "error"; arguments = error_data e; id = call.id }
 
 -- the responses of calls, each after those of earlier ones
 abbrev pub responses_after : Mailing → Using → List CallData → List CallData → List CallData
 responses_after mail uses earlier [] = earlier
-responses_after mail uses earlier (call ∷ calls) = responses_after mail uses (earlier ++ response_to call (call_result mail uses earlier call) ∷ []) calls
+responses_after mail uses earlier (call ∷ calls) = responses_after mail uses (earlier ++ answered_call call (call_result mail uses earlier call) ∷ []) calls
 
 -- whether one of them needs the mail
 abbrev pub needs_mail : List CallData → Bool

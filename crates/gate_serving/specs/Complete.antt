@@ -6,7 +6,7 @@ use Rattle.gate_world.specs.declared.event.Event.{Event}
 use Rattle.gate_world.specs.declared.event.Event.TheVariants.{Accepted, NoMore, ClientDone}
 use Rattle.http_door.specs.declared.asking.AskError.TheVariants as unread
 use Rattle.gate_machine.specs.History.{KnownMail}
-use Rattle.gate_machine.specs.Obeying.{IsObeyed}
+use Rattle.gate_machine.specs.Obeying.{IsObeyedBeginning}
 use Rattle.gate_machine.specs.Progress.{Progress}
 use Rattle.gate_machine.specs.declared.machine.Machine.{Machine}
 use Rattle.gate_serving.specs.declared.door.Door.{Door}
@@ -16,7 +16,7 @@ use Rattle.gate_serving.specs.Answers.{response_of, no_memory_text}
 use Rattle.gate_serving.specs.Calls.{Mailing}
 use Rattle.gate_serving.specs.Counts.{served_mail}
 use Rattle.gate_serving.specs.GateState.{GateState}
-use Rattle.gate_serving.specs.Requests.{Account, Asking, Reads, asks_for_mail}
+use Rattle.gate_serving.specs.Requests.{Account, Asking, ReadsAsking, asks_for_mail}
 use Rattle.gate_serving.specs.Run.{Run, Begun, Then, run_blamed}
 use Rattle.gate_serving.specs.Segment.{Replies, Answered, LacksReading, LacksAnswering, Segment, NoneComes, NotAccepted, Left, Unasked, Replied}
 use Rattle.gate_serving.specs.Work.{Work, NoMail, WithMail}
@@ -27,7 +27,7 @@ use Rattle.gate_serving.specs.Work.{Work, NoMail, WithMail}
 abbrev pub IsWorkObeyed : {account : Account} {before : Machine} {asking : Asking} {events : List Event} {mail : Mailing} {after : Progress}
     → Work account before asking events mail after → Type 0
 IsWorkObeyed (NoMail a b c d) = Unit {0}
-IsWorkObeyed (WithMail begun beginning ending a begins b c d e) = IsObeyed begins
+IsWorkObeyed (WithMail begun beginning ending a begins b c d e) = IsObeyedBeginning begins
 
 -- The calls are answered over the mail that is served then; or none of them needs it.
 abbrev pub IsAnsweredFrom : Asking → Mailing → Progress → Type 0
@@ -56,10 +56,10 @@ IsSegmentObeyed (Replied replied heard text sent a replies c d) = IsReplyObeyed 
 -- request; or no client comes.
 pub data IsTold (door : Door) (account : Account) (events : List Event) (how : Served) (after : GateState) : Type 0 where
   NobodyComes : events ≡ NoMore ∷ [] → how ≡ served.NoMore → IsTold door account events how after
-  EndsEarly : (asked : List Event) → events ≡ Accepted ∷ (asked ++ ClientDone ∷ []) → Reads door account.token (Err unread.Ended) asked → how ≡ served.Part
+  EndsEarly : (asked : List Event) → events ≡ Accepted ∷ (asked ++ ClientDone ∷ []) → ReadsAsking door account.token (Err unread.Ended) asked → how ≡ served.Part
       → IsTold door account events how after
   TakesResponse : (asked worked heard : List Event) (asking : Asking) (mail : Mailing) (done : Progress)
-      → events ≡ Accepted ∷ (((asked ++ worked) ++ heard) ++ ClientDone ∷ []) → Reads door account.token (Ok asking) asked → IsAnsweredFrom asking mail done
+      → events ≡ Accepted ∷ (((asked ++ worked) ++ heard) ++ ClientDone ∷ []) → ReadsAsking door account.token (Ok asking) asked → IsAnsweredFrom asking mail done
       → after.machine ≡ done.machine → Hears (response_of door account mail after.uploads asking) heard → how ≡ served.Whole
       → IsTold door account events how after
   LacksMemory : (replied heard : List Event) → events ≡ Accepted ∷ ((replied ++ heard) ++ ClientDone ∷ []) → Hears (no_memory_text door) heard

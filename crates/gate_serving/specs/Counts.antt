@@ -19,8 +19,8 @@ is_visible message = not (has_flag (codes "\\deleted") message)
 abbrev pub is_unread : Message → Bool
 is_unread message = not (has_flag (codes "\\seen") message) && not (has_flag (codes "\\draft") message)
 
-abbrev pub counts_in : Held → MailboxCounts
-counts_in held = record {
+abbrev pub mail_counts : Held → MailboxCounts
+mail_counts held = record {
   number = held.folder.number;
   total_emails = count_by is_visible held.messages;
   unread_emails = count_by (λ message. is_visible message && is_unread message) held.messages;
@@ -28,7 +28,7 @@ counts_in held = record {
 
 -- of each folder, by number
 abbrev pub counts_of : Mail → List MailboxCounts
-counts_of mail = map counts_in mail.folders
+counts_of mail = map mail_counts mail.folders
 
 -- the mail of a history
 abbrev pub served_mail : History → ServedMail

@@ -36,8 +36,8 @@ abbrev pub request_limit : ℕ
 request_limit = MAX_BODY_OCTETS
 
 -- A request's body is the client's whole input; or it gave one octet too many; or the front failed before; or memory ran out.
-abbrev pub Asked : Result (List ℕ) AskError → List Event → Type 0
-Asked (Ok octets) events = GivesInput (request_limit + 1) (Ok (Whole octets)) events
-Asked (Err ask.TooLarge) events = (octets : List ℕ) × GivesInput (request_limit + 1) (Ok (Cut octets)) events
-Asked (Err ask.Failed) events = GivesInput (request_limit + 1) (Err front.Failed) events
-Asked (Err ask.Memory) events = GivesInput (request_limit + 1) (Err front.Memory) events
+abbrev pub GivesRequest : Result (List ℕ) AskError → List Event → Type 0
+GivesRequest (Ok octets) events = GivesInput (request_limit + 1) (Ok (Whole octets)) events
+GivesRequest (Err ask.TooLarge) events = (octets : List ℕ) × GivesInput (request_limit + 1) (Ok (Cut octets)) events
+GivesRequest (Err ask.Failed) events = GivesInput (request_limit + 1) (Err front.Failed) events
+GivesRequest (Err ask.Memory) events = GivesInput (request_limit + 1) (Err front.Memory) events

@@ -16,7 +16,7 @@ use Rattle.gate_serving.specs.declared.door.Door.{Door}
 use Rattle.gate_serving.specs.declared.door.Door.TheVariants.{Bare, Http}
 use Rattle.gate_serving.specs.declared.front.AskError.TheVariants.{Failed, TooLarge, Memory}
 use Rattle.gate_serving.specs.Calls.{needs_mail}
-use Rattle.gate_serving.specs.Front.{Asked}
+use Rattle.gate_serving.specs.Front.{GivesRequest}
 
 -- Who is served: the store's user and password, the token that clients show, and the URL that they come by.
 pub record Account : Type 0 where
@@ -73,14 +73,14 @@ account_id = codes "a1"
 -- What reading a client's request adds, by the token that clients must show; or why it isn't read: the client ended its input
 -- inside it, the front failed before its end, or memory ran out on the way or at its end. At the bare door a request is all that
 -- the client gives; no more than one octet past the limit is read.
-abbrev pub Reads : Door → List ℕ → Result Asking AskError → List Event → Type 0
-Reads Bare token (Ok asking) events =
-    ((octets : List ℕ) × Asked (Ok octets) events × (asking ≡ asked_by (requested octets)))
-    ⊎ (Asked (Err TooLarge) events × (asking ≡ Problem (Limit MaxSizeRequest)))
-Reads Bare token (Err unread.Ended) events = ⊥
-Reads Bare token (Err unread.Failed) events = Asked (Err Failed) events
-Reads Bare token (Err unread.Memory) events = Asked (Err Memory) events ⊎ ((octets : List ℕ) × Asked (Ok octets) events)
-Reads Http token (Ok asking) events = (asked : HttpAsking) × AsksOverHttp token account_id (Ok asked) events × (asking ≡ asked_over_http asked)
-Reads Http token (Err unread.Memory) events =
+abbrev pub ReadsAsking : Door → List ℕ → Result Asking AskError → List Event → Type 0
+ReadsAsking Bare token (Ok asking) events =
+    ((octets : List ℕ) × GivesRequest (Ok octets) events × (asking ≡ asked_by (requested octets)))
+    ⊎ (GivesRequest (Err TooLarge) events × (asking ≡ Problem (Limit MaxSizeRequest)))
+ReadsAsking Bare token (Err unread.Ended) events = ⊥
+ReadsAsking Bare token (Err unread.Failed) events = GivesRequest (Err Failed) events
+ReadsAsking Bare token (Err unread.Memory) events = GivesRequest (Err Memory) events ⊎ ((octets : List ℕ) × GivesRequest (Ok octets) events)
+ReadsAsking Http token (Ok asking) events = (asked : HttpAsking) × AsksOverHttp token account_id (Ok asked) events × (asking ≡ asked_over_http asked)
+ReadsAsking Http token (Err unread.Memory) events =
     AsksOverHttp token account_id (Err unread.Memory) events ⊎ ((body : List ℕ) × AsksOverHttp token account_id (Ok (http.Calls body)) events)
-Reads Http token (Err e) events = AsksOverHttp token account_id (Err e) events
+ReadsAsking Http token (Err e) events = AsksOverHttp token account_id (Err e) events

@@ -16,8 +16,8 @@ use Rattle.gate_serving.specs.Segment.{Segment, blamed}
 
 -- ---- counts
 
-abbrev pub both : Faults → Faults → Faults
-both f g = record { link = f.link + g.link; keep = f.keep + g.keep; front = f.front + g.front; say = f.say + g.say }
+abbrev pub sum_of_faults : Faults → Faults → Faults
+sum_of_faults f g = record { link = f.link + g.link; keep = f.keep + g.keep; front = f.front + g.front; say = f.say + g.say }
 
 -- no count rose, and none stands at its end
 pub record Stood (was now : Faults) : Type 0 where
@@ -39,7 +39,7 @@ pub data Run (door : Door) (account : Account) (before : GateState) : List Event
 abbrev pub run_blamed : {door : Door} {account : Account} {before after : GateState} {events : List Event} {went : List Served}
     → Run door account before events went after → Faults
 run_blamed Begun = no_faults
-run_blamed (Then run segment) = both (run_blamed run) (blamed segment)
+run_blamed (Then run segment) = sum_of_faults (run_blamed run) (blamed segment)
 
 -- a client came, and the program goes on
 abbrev pub IsClient : Served → Type 0
@@ -70,7 +70,7 @@ pub record RunsTo (door : Door) (account : Account) (before after : GateState) (
   pub bears : Bears (run_blamed run) was now
 
 -- A whole run.
-pub record IsRun (door : Door) (account : Account) (before after : GateState) (most : ℕ) (was now : Faults) (status : ℕ) (events : List Event) : Type 0 where
+pub record IsServingRun (door : Door) (account : Account) (before after : GateState) (most : ℕ) (was now : Faults) (status : ℕ) (events : List Event) : Type 0 where
   pub went : List Served
   pub run : Run door account before events went after
   pub ends : Ends most went status

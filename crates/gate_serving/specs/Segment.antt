@@ -15,7 +15,7 @@ use Rattle.gate_serving.specs.declared.served.Served.TheVariants as served
 use Rattle.gate_serving.specs.Answers.{Keeps, MayKeep, response_of, no_memory_text}
 use Rattle.gate_serving.specs.Calls.{Mailing}
 use Rattle.gate_serving.specs.GateState.{GateState, forgotten}
-use Rattle.gate_serving.specs.Requests.{Account, Asking, Reads}
+use Rattle.gate_serving.specs.Requests.{Account, Asking, ReadsAsking}
 use Rattle.gate_serving.specs.Work.{Work}
 
 -- how a client was served whose response was sent so
@@ -26,15 +26,15 @@ went (Err _) = served.Part
 -- The text that a client is sent once its request was read, and what the gate holds after it.
 pub data Replies (door : Door) (account : Account) (before : GateState) (events : List Event) (text : List ℕ) (after : GateState) : Type 0 where
   Answered : (asked worked : List Event) (asking : Asking) (mail : Mailing) (done : Progress) → events ≡ asked ++ worked
-      → Reads door account.token (Ok asking) asked → Work account before.machine asking worked mail done → done.standing ≢ OutOfMemory
+      → ReadsAsking door account.token (Ok asking) asked → Work account before.machine asking worked mail done → done.standing ≢ OutOfMemory
       → after.machine ≡ done.machine → Keeps asking before.uploads after.uploads → text ≡ response_of door account mail after.uploads asking
       → Replies door account before events text after
   -- Out of memory, while the request was read;
-  LacksReading : Reads door account.token (Err unread.Memory) events → text ≡ no_memory_text door → after ≡ forgotten before
+  LacksReading : ReadsAsking door account.token (Err unread.Memory) events → text ≡ no_memory_text door → after ≡ forgotten before
       → Replies door account before events text after
   -- or in the link life, while what it told was to be served, or while the response was made. An upload may be kept then.
   LacksAnswering : (asked worked : List Event) (asking : Asking) (mail : Mailing) (done : Progress) → events ≡ asked ++ worked
-      → Reads door account.token (Ok asking) asked → Work account before.machine asking worked mail done → text ≡ no_memory_text door
+      → ReadsAsking door account.token (Ok asking) asked → Work account before.machine asking worked mail done → text ≡ no_memory_text door
       → after.machine ≡ forgotten_machine done.machine → MayKeep asking before.uploads after.uploads
       → Replies door account before events text after
 
@@ -43,10 +43,10 @@ pub data Segment (door : Door) (account : Account) (before : GateState) (events 
   NoneComes : events ≡ NoMore ∷ [] → how ≡ served.NoMore → after ≡ before → Segment door account before events how after
   NotAccepted : events ≡ FrontFailed ∷ [] → how ≡ served.AcceptFault → after ≡ before → Segment door account before events how after
   -- it ended its input inside its request
-  Left : (asked : List Event) → events ≡ Accepted ∷ (asked ++ ClientDone ∷ []) → Reads door account.token (Err unread.Ended) asked → how ≡ served.Part
+  Left : (asked : List Event) → events ≡ Accepted ∷ (asked ++ ClientDone ∷ []) → ReadsAsking door account.token (Err unread.Ended) asked → how ≡ served.Part
       → after ≡ before → Segment door account before events how after
   -- the front failed before the request's end
-  Unasked : (asked : List Event) → events ≡ Accepted ∷ (asked ++ ClientDone ∷ []) → Reads door account.token (Err unread.Failed) asked → how ≡ served.Part
+  Unasked : (asked : List Event) → events ≡ Accepted ∷ (asked ++ ClientDone ∷ []) → ReadsAsking door account.token (Err unread.Failed) asked → how ≡ served.Part
       → after ≡ before → Segment door account before events how after
   Replied : (replied heard : List Event) (text : List ℕ) (sent : Result (Unit {0}) Failed) → events ≡ Accepted ∷ ((replied ++ heard) ++ ClientDone ∷ [])
       → Replies door account before replied text after → Sends text sent heard → how ≡ went sent → Segment door account before events how after

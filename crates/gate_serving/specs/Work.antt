@@ -6,7 +6,7 @@ use Rattle.jmap_core.specs.declared.method_error.MethodError.TheVariants.{Server
 use Rattle.gate_machine.specs.History.{KnownMail}
 use Rattle.imap_exchange.specs.Answering.{HangsUp}
 use Rattle.gate_machine.specs.Progress.{Progress, idle, is_up}
-use Rattle.gate_machine.specs.Beginning.{Begins}
+use Rattle.gate_machine.specs.Beginning.{PreparesMail}
 use Rattle.gate_machine.specs.declared.machine.Machine.{Machine}
 use Rattle.gate_machine.specs.declared.standing.Fall.{Fall}
 use Rattle.gate_machine.specs.declared.standing.Fall.TheVariants.{Linked, Spent}
@@ -35,7 +35,7 @@ mailing_by standing.OutOfMemory known = Err ServerUnavailable
 -- served without one.
 pub data Work (account : Account) (before : Machine) (asking : Asking) (events : List Event) (mail : Mailing) (after : Progress) : Type 0 where
   NoMail : asks_for_mail asking ≡ false → events ≡ [] → mail ≡ Err ServerUnavailable → after ≡ idle before → Work account before asking events mail after
-  WithMail : (begun : Progress) (beginning ending : List Event) → asks_for_mail asking ≡ true → Begins account.user account.password before beginning begun
+  WithMail : (begun : Progress) (beginning ending : List Event) → asks_for_mail asking ≡ true → PreparesMail account.user account.password before beginning begun
       → HangsUp (is_up begun.left) ending → events ≡ beginning ++ ending → mail ≡ mailing_by begun.standing begun.machine.known
       → after ≡ record begun { left = None }
       → Work account before asking events mail after

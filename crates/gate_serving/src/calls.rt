@@ -9,7 +9,7 @@ ghost use Rattle.jmap_core.specs.declared.method_error.MethodError.TheVariants.{
 ghost use Rattle.jmap_core.specs.State.{state_text};
 ghost use Rattle.read_methods.specs.Mailboxes.{mailboxes_answer};
 ghost use Rattle.gate_serving.specs.Calls as spec;
-ghost use Rattle.gate_serving.specs.Calls.{response_to, responses_after};
+ghost use Rattle.gate_serving.specs.Calls.{answered_call, responses_after};
 
 use crate::served_mail::ServedMail;
 use gate_world::Text;
@@ -86,7 +86,7 @@ fn answer(alloc: Global, call: &Call, arguments: Value) -> Result<Call, AllocErr
 }
 
 fn refusal(alloc: Global, call: &Call, error: MethodError) -> Result<Call, AllocError>
-    ensures meant { IfOk result (λ r. call_data r ≡ response_to (call_data call.now) (Err error)) }
+    ensures meant { IfOk result (λ r. call_data r ≡ answered_call (call_data call.now) (Err error)) }
     ensures whole { IfOk result IsWhole }
 {
     Ok(Call {
@@ -105,7 +105,7 @@ fn response_to(
     call: &Call,
 ) -> Result<Call, AllocError>
     ensures meant { IfOk result (λ r. call_data r
-        ≡ response_to (call_data call.now) (spec.call_result mail.now uses (map call_data earlier.now) (call_data call.now))) }
+        ≡ answered_call (call_data call.now) (spec.call_result mail.now uses (map call_data earlier.now) (call_data call.now))) }
     ensures whole { IfOk result IsWhole }
 {
     match call_result(alloc, mail, uses, earlier, call) {

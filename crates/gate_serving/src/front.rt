@@ -2,7 +2,7 @@
 ghost use Rattle.std.specs.Prelude.{◌≡◌, IsErrOf};
 ghost use Rattle.gate_world.specs.Causes.{Rose, FrontAlone};
 ghost use Rattle.gate_world.specs.Tape.{Adds};
-ghost use Rattle.gate_serving.specs.Front.{input_octets, GivesInput, Asked};
+ghost use Rattle.gate_serving.specs.Front.{input_octets, GivesInput, GivesRequest};
 
 use gate_world::{Bytes, Failed, FillError, Front, Unread};
 use std::alloc::{AllocError, Global};
@@ -105,7 +105,7 @@ pub fn receive<F: Front>(alloc: Global, front: &mut F, most: usize) -> Result<In
 
 /// A request's body, which ends with the client's input. No more than one octet past the limit is read.
 pub fn ask<F: Front>(alloc: Global, front: &mut F) -> Result<Bytes, AskError>
-    ensures tape { Adds (F.tape front.old) (F.tape front.new) (Asked result) }
+    ensures tape { Adds (F.tape front.old) (F.tape front.new) (GivesRequest result) }
     ensures alone { FrontAlone (F.faults front.old) (F.faults front.new) }
     ensures cause { IsErrOf result AskError.Failed → Rose (F.faults front.old).front (F.faults front.new).front }
     ensures hidden { F.hidden front.new ≡ F.hidden front.old }

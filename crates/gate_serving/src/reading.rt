@@ -5,7 +5,7 @@ ghost use Rattle.gate_world.specs.Tape.{Adds};
 ghost use Rattle.jmap_core.specs.declared.request.RequestError.TheVariants.{Limit};
 ghost use Rattle.gate_serving.specs.Requests.{Problem, upload_asked};
 ghost use Rattle.gate_serving.specs.declared.door.Door.TheVariants.{Bare, Http};
-ghost use Rattle.gate_serving.specs.reading.Askings.{AsksInBody, AsksOf, ReadsAsking, asking_data};
+ghost use Rattle.gate_serving.specs.reading.Askings.{AsksInBody, AsksOf, ReadsInto, asking_data};
 
 use crate::asking::Asking;
 use crate::door::Door;
@@ -39,7 +39,7 @@ fn asking_in_body(alloc: Global, body: &[u8]) -> Result<Asking, AskError>
 
 // At the bare door a request is all that the client gives.
 fn read_bare<F: Front>(alloc: Global, front: &mut F) -> Result<Asking, AskError>
-    ensures tape { Adds (F.tape front.old) (F.tape front.new) (λ es. (token : List ℕ) → ReadsAsking Bare token result es) }
+    ensures tape { Adds (F.tape front.old) (F.tape front.new) (λ es. (token : List ℕ) → ReadsInto Bare token result es) }
     ensures alone { FrontAlone (F.faults front.old) (F.faults front.new) }
     ensures cause { IsErrOf result AskError.Failed → Rose (F.faults front.old).front (F.faults front.new).front }
     ensures hidden { F.hidden front.new ≡ F.hidden front.old }
@@ -85,7 +85,7 @@ fn read_http<W: Front + Secrets>(
     world: &mut W,
     routes: &Routes,
 ) -> Result<Asking, AskError>
-    ensures tape { Adds (W.tape world.old) (W.tape world.new) (ReadsAsking Http (W.hidden world.old).token result) }
+    ensures tape { Adds (W.tape world.old) (W.tape world.new) (ReadsInto Http (W.hidden world.old).token result) }
     ensures alone { FrontAlone (W.faults world.old) (W.faults world.new) }
     ensures cause { IsErrOf result AskError.Failed → Rose (W.faults world.old).front (W.faults world.new).front }
     ensures hidden { W.hidden world.new ≡ W.hidden world.old }
@@ -103,7 +103,7 @@ pub fn read_asking<W: Front + Secrets>(
     door: Door,
     routes: &Routes,
 ) -> Result<Asking, AskError>
-    ensures tape { Adds (W.tape world.old) (W.tape world.new) (ReadsAsking door (W.hidden world.old).token result) }
+    ensures tape { Adds (W.tape world.old) (W.tape world.new) (ReadsInto door (W.hidden world.old).token result) }
     ensures alone { FrontAlone (W.faults world.old) (W.faults world.new) }
     ensures cause { IsErrOf result AskError.Failed → Rose (W.faults world.old).front (W.faults world.new).front }
     ensures hidden { W.hidden world.new ≡ W.hidden world.old }

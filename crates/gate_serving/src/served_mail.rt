@@ -1,6 +1,6 @@
 // The mail over which calls are answered.
 ghost use Rattle.std.specs.Prelude.{◌≡◌, ◌&&◌, IfOk, count_by};
-ghost use Rattle.gate_serving.specs.Counts.{has_flag, is_visible as visible, is_unread as unread, counts_in, counts_of, served_mail};
+ghost use Rattle.gate_serving.specs.Counts.{has_flag, is_visible as visible, is_unread as unread, mail_counts, counts_of, served_mail};
 
 use gate_machine::Known;
 use gate_world::Listed;
@@ -64,7 +64,7 @@ fn count_unread(messages: &[Message]) -> u64
 }
 
 fn counts_in(held: &Held) -> MailboxCounts
-    ensures { result ≡ counts_in held.now }
+    ensures { result ≡ mail_counts held.now }
 {
     MailboxCounts {
         number: held.folder.number,

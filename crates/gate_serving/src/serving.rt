@@ -3,7 +3,7 @@ ghost use Rattle.std.specs.Prelude.{◌≡◌, ◌⊎◌};
 ghost use Rattle.gate_world.specs.Causes.{Later, Rose};
 ghost use Rattle.gate_world.specs.Tape.{Adds};
 ghost use Rattle.gate_serving.specs.Complete.{CompletesRun};
-ghost use Rattle.gate_serving.specs.Run.{IsRun};
+ghost use Rattle.gate_serving.specs.Run.{IsServingRun};
 ghost use Rattle.gate_serving.specs.reading.Gates.{account_by, state_of};
 
 use crate::gate::Gate;
@@ -15,7 +15,7 @@ use std::alloc::Global;
 /// Serves this many clients, or as many as come: 0, or 6 where accepting failed.
 pub fn serve<W: World>(alloc: Global, gate: &mut Gate, world: &mut W, most: u64) -> u8
     ensures run { Adds (W.tape world.old) (W.tape world.new)
-        (IsRun gate.old.door (account_by gate.old (W.hidden world.old)) (state_of gate.old) (state_of gate.new) most (W.faults world.old) (W.faults world.new) result) }
+        (IsServingRun gate.old.door (account_by gate.old (W.hidden world.old)) (state_of gate.old) (state_of gate.new) most (W.faults world.old) (W.faults world.new) result) }
     // Where nothing is blamed and the store obeyed every request, whoever came takes the whole response that is due.
     ensures complete { Adds (W.tape world.old) (W.tape world.new) (CompletesRun gate.old.door (account_by gate.old (W.hidden world.old))) }
     ensures statuses { (result ≡ 0) ⊎ (result ≡ 6) }

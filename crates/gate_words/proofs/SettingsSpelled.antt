@@ -1,7 +1,7 @@
 -- Words are read as settings exactly where they spell them.
 use Rattle.std.proofs.Common.{◌≡◌, inl, inr, ℕ, List, [], ◌∷◌, ◌++◌, true, false, if◌then◌else◌, Option, Some, None, option_map, option_and_then, refl, sym, ap, subst, ◌∙◌}
 use Rattle.std.proofs.lemmas.Option.{none-some, same_Some}
-use Rattle.gate_words.specs.Options.{name_text, Setting, joined_text, BeginsWithDash, Spells, SpellsAll}
+use Rattle.gate_words.specs.Options.{name_text, Setting, joined_text, BeginsWithDash, SpellsWord, SpellsAll}
 use Rattle.gate_words.specs.Reading.{name_of, joined, begins_with_dash, WordKind, Waits, Sets, kind_where_none_waits, kind_of, waiting_after, before, settings}
 use Rattle.gate_words.specs.declared.option.Name.{Name}
 use Rattle.gate_words.proofs.Names.{name_of-is, name_of-text, name_of-joined, joined-text, joined-is, no-dash, test-no-dash}
@@ -73,7 +73,7 @@ spelled-from (word ∷ words) (Some name) found is =
 
 -- ---- words that spell settings are read
 
-read-one : (setting : Setting) (here rest : List (List ℕ)) → Spells setting here → settings None (here ++ rest) ≡ option_map (before (Sets setting)) (settings None rest)
+read-one : (setting : Setting) (here rest : List (List ℕ)) → SpellsWord setting here → settings None (here ++ rest) ≡ option_map (before (Sets setting)) (settings None rest)
 read-one setting here rest (inl apart) =
     ap (λ (ws : List (List ℕ)). settings None (ws ++ rest)) apart.0
     ∙ ap (λ (o : Option Name). option_and_then (λ (k : WordKind). option_map (before k) (settings (waiting_after k) (setting.value ∷ rest)))

@@ -24,13 +24,13 @@ abbrev pub BeginsWithDash : List ℕ → Type 0
 BeginsWithDash word = (rest : List ℕ) × (word ≡ 45 ∷ rest)
 
 -- A setting is two words, of which the second doesn't begin with `-`, or one word with `=`.
-abbrev pub Spells : Setting → List (List ℕ) → Type 0
-Spells setting words = ((words ≡ name_text setting.name ∷ setting.value ∷ []) × ¬ BeginsWithDash setting.value) ⊎ (words ≡ joined_text setting ∷ [])
+abbrev pub SpellsWord : Setting → List (List ℕ) → Type 0
+SpellsWord setting words = ((words ≡ name_text setting.name ∷ setting.value ∷ []) × ¬ BeginsWithDash setting.value) ⊎ (words ≡ joined_text setting ∷ [])
 
 -- settings one after another
 abbrev pub SpellsAll : List Setting → List (List ℕ) → Type 0
 SpellsAll [] words = words ≡ []
-SpellsAll (setting ∷ settings) words = (here : List (List ℕ)) × (rest : List (List ℕ)) × (words ≡ here ++ rest) × Spells setting here × SpellsAll settings rest
+SpellsAll (setting ∷ settings) words = (here : List (List ℕ)) × (rest : List (List ℕ)) × (words ≡ here ++ rest) × SpellsWord setting here × SpellsAll settings rest
 
 -- a value before others, where the name is the one asked for
 abbrev pub value_if : Name → Name → List ℕ → List (List ℕ) → List (List ℕ)

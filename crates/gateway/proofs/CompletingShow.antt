@@ -18,7 +18,7 @@ use Rattle.gateway.specs.Show.{ShowsObject, Answers, Unread, Sent, Shows, NoneCo
 use Rattle.gate_words.specs.declared.task.Task.{Task}
 use Rattle.gate_words.specs.declared.place.Place.{Place}
 use Rattle.gate_world.specs.Causes.{Faults, Hidden}
-use Rattle.gateway.specs.Program.{Runs, Refused, OutOfMemory, Done, Ran, Unopened, ServedMany, ServedOnce, ShownOne, Explained, EndsOne, IsAt}
+use Rattle.gateway.specs.Program.{Runs, Refused, OutOfMemory, Done, Performed, Unopened, ServedMany, ServedOnce, ShownOne, Explained, EndsOne, IsAt}
 use Rattle.gateway.specs.Complete.{asked_for, IsGiven, TellsObject, CompletesShow}
 use Rattle.gateway.proofs.Quiet.{gives_took, gives_gave, heard_gave_client, before_one}
 
@@ -105,7 +105,7 @@ not_explained page is = cc
 not_at : (task : Task) (place : Place) → IsAt task place → task ≡ Show → ⊥
 not_at task place at shows = subst (λ (t : Task). IsAt t place) shows at
 
-ran_told : {task : Task} {secrets : Hidden} {status : ℕ} {blames : Faults} (behind events : List Event) → Ran task secrets status blames events → task ≡ Show → (status ≡ 6 → ⊥)
+ran_told : {task : Task} {secrets : Hidden} {status : ℕ} {blames : Faults} (behind events : List Event) → Performed task secrets status blames events → task ≡ Show → (status ≡ 6 → ⊥)
     → events ≡ Accepted ∷ behind → Told status events
 ran_told {task} behind events (Unopened place at opens a b) shows well came = absurd (not_at task place at shows)
 ran_told behind events (ServedMany place listen most opened run_events said before after went run is a b c d) shows well came =

@@ -18,7 +18,7 @@ use Rattle.gate_serving.specs.declared.served.OpenError.{OpenError}
 use Rattle.gate_serving.specs.declared.served.OpenError.TheVariants as opening
 use Rattle.gate_serving.specs.GateState.{GateState}
 use Rattle.gate_serving.specs.Requests.{Account}
-use Rattle.gate_serving.specs.Run.{Opens, StepsTo, IsRun, account_of, run_blamed}
+use Rattle.gate_serving.specs.Run.{Opens, StepsTo, IsServingRun, account_of, run_blamed}
 use Rattle.gate_serving.specs.Segment.{blamed}
 use Rattle.gate_serving.proofs.Answering.{bears_none, bears_later, bears_earlier, later_same, bears_failed}
 use Rattle.gateway.specs.Program.{
@@ -30,7 +30,7 @@ use Rattle.gateway.specs.Program.{
   IsSaid,
   one_blamed,
   words_refused,
-  Ran,
+  Performed,
   Unopened,
   ServedMany,
   ServedOnce,
@@ -91,18 +91,18 @@ pub record AttendsAll (place : Place) (secrets : Hidden) (most : ℕ) (was now :
   pub before : GateState
   pub after : GateState
   pub opens : Opens (Ok before) opened
-  pub run : IsRun Http (account_of place secrets) before after most was now status served
+  pub run : IsServingRun Http (account_of place secrets) before after most was now status served
   pub whole : events ≡ opened ++ served
 
 pub attends_all : {place : Place} {secrets now_secrets : Hidden} {door : Door} {account : Account} {before after : GateState} {was mid now : Faults} {most status : ℕ}
     (xs ys : List Event)
     → door ≡ Http → account ≡ account_of place secrets → now_secrets ≡ secrets → NoFault was mid → Opens (Ok before) xs
-    → IsRun door account before after most mid now status ys
+    → IsServingRun door account before after most mid now status ys
     → AttendsAll place secrets most was now status (xs ++ ys)
 attends_all {place} {secrets} {door = door} {account = account} {before = before} {after = after} {was = was} {mid = mid} {now = now} {most = most} {status = status} xs ys here same
     kept none opens run =
-    let there : IsRun Http (account_of place secrets) before after most mid now status ys = subst (λ (a : Account). IsRun Http a before after most mid now status ys) same
-    (subst (λ (d : Door). IsRun d account before after most mid now status ys) here run) in
+    let there : IsServingRun Http (account_of place secrets) before after most mid now status ys = subst (λ (a : Account). IsServingRun Http a before after most mid now status ys) same
+    (subst (λ (d : Door). IsServingRun d account before after most mid now status ys) here run) in
     record {
       opened = xs;
       served = ys;

@@ -9,13 +9,13 @@ use Rattle.gate_serving.specs.Complete.{CompletesRun}
 use Rattle.gate_serving.specs.Requests.{Account}
 use Rattle.gate_serving.specs.Run.{account_of}
 use Rattle.gate_serving.proofs.Told.{ToldLaw}
-use Rattle.gateway.specs.Complete.{IsTaskObeyed, IsTaskTold, Completes}
-use Rattle.gateway.specs.Program.{Ran, Unopened, ServedMany, ServedOnce, ShownOne, Explained, Runs, Refused, OutOfMemory, Done}
+use Rattle.gateway.specs.Complete.{IsTaskObeyed, IsTaskTold, CompletesServing}
+use Rattle.gateway.specs.Program.{Performed, Unopened, ServedMany, ServedOnce, ShownOne, Explained, Runs, Refused, OutOfMemory, Done}
 
 abbrev pub RunsLaw : Type 0
 RunsLaw = (door : Door) (account : Account) (events : List Event) → CompletesRun door account events
 
-task_told : ToldLaw → RunsLaw → {task : Task} {secrets : Hidden} {status : ℕ} {blames : Faults} {events : List Event} (ran : Ran task secrets status blames events)
+task_told : ToldLaw → RunsLaw → {task : Task} {secrets : Hidden} {status : ℕ} {blames : Faults} {events : List Event} (ran : Performed task secrets status blames events)
     → blames ≡ no_faults → IsTaskObeyed ran → IsTaskTold ran
 task_told law runs (Unopened place a b c d) none obeyed = tt
 task_told law runs {secrets = secrets} (ServedMany place listen most opened run_events said before after went run is opens ends blames_is events_are) none obeyed =
@@ -25,7 +25,7 @@ task_told law runs {secrets = secrets} (ServedOnce place opened segment said bef
 task_told law runs (ShownOne shown said outcome a b c d e) none obeyed = tt
 task_told law runs (Explained page explained said outcome a b c d e) none obeyed = tt
 
-pub program_told : ToldLaw → RunsLaw → (words : List (List ℕ)) (secrets : Hidden) (status : ℕ) (events : List Event) → Completes words secrets status events
+pub program_told : ToldLaw → RunsLaw → (words : List (List ℕ)) (secrets : Hidden) (status : ℕ) (events : List Event) → CompletesServing words secrets status events
 program_told law runs words secrets status events blames (Refused a b c d) none obeyed = tt
 program_told law runs words secrets status events blames (OutOfMemory a b c) none obeyed = tt
 program_told law runs words secrets status events blames (Done task is ran) none obeyed = task_told law runs ran none obeyed

@@ -11,7 +11,7 @@ use Rattle.gate_words.specs.declared.task.Task.TheVariants.{Show}
 use Rattle.gate_serving.specs.declared.door.Door.TheVariants.{Bare}
 use Rattle.gate_serving.specs.Complete.{IsSegmentObeyed, IsTold, IsRunObeyed, IsRunTold}
 use Rattle.gate_serving.specs.Run.{account_of}
-use Rattle.gateway.specs.Program.{Ran, Unopened, ServedMany, ServedOnce, ShownOne, Explained, Runs, Refused, OutOfMemory, Done}
+use Rattle.gateway.specs.Program.{Performed, Unopened, ServedMany, ServedOnce, ShownOne, Explained, Runs, Refused, OutOfMemory, Done}
 use Rattle.gateway.specs.Show.{message_limit, ShowsObject}
 
 -- all octets that the client gave
@@ -35,7 +35,7 @@ CompletesShow words status events = IsTask words Show → (after : List Event) �
 
 -- The store obeyed every request of what the task did.
 abbrev pub IsTaskObeyed : {task : Task} {secrets : Hidden} {status : ℕ} {blames : Faults} {events : List Event}
-    → Ran task secrets status blames events → Type 0
+    → Performed task secrets status blames events → Type 0
 IsTaskObeyed (Unopened place a b c d) = Unit {0}
 IsTaskObeyed (ServedMany place listen most opened run_events said before after went run a b c d e) = IsRunObeyed run
 IsTaskObeyed (ServedOnce place opened segment said before after how served a b c d e) = IsSegmentObeyed served
@@ -43,7 +43,7 @@ IsTaskObeyed (ShownOne shown said outcome a b c d e) = Unit {0}
 IsTaskObeyed (Explained page explained said outcome a b c d e) = Unit {0}
 
 abbrev pub IsTaskTold : {task : Task} {secrets : Hidden} {status : ℕ} {blames : Faults} {events : List Event}
-    → Ran task secrets status blames events → Type 0
+    → Performed task secrets status blames events → Type 0
 IsTaskTold (Unopened place a b c d) = Unit {0}
 IsTaskTold (ServedMany place listen most opened run_events said before after went run a b c d e) = IsRunTold run
 IsTaskTold {secrets = secrets} (ServedOnce place opened segment said before after how served a b c d e) =
@@ -65,5 +65,5 @@ AreTold (Done task a ran) = IsTaskTold ran
 
 -- Where nothing is blamed in a run of the program over these events and the store obeyed every request of it, each client
 -- that came with a request is told.
-abbrev pub Completes : List (List ℕ) → Hidden → ℕ → List Event → Type 0
-Completes words secrets status events = (blames : Faults) (runs : Runs words secrets status blames events) → blames ≡ no_faults → AreObeyed runs → AreTold runs
+abbrev pub CompletesServing : List (List ℕ) → Hidden → ℕ → List Event → Type 0
+CompletesServing words secrets status events = (blames : Faults) (runs : Runs words secrets status blames events) → blames ≡ no_faults → AreObeyed runs → AreTold runs

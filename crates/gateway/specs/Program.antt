@@ -79,27 +79,27 @@ IsApart (Serve place listen connections) = ⊥
 IsApart (Once place) = ⊥
 
 -- What a task adds, with its status and the faults that are blamed.
-pub data Ran (task : Task) (secrets : Hidden) (status : ℕ) (blames : Faults) (events : List Event) : Type 0 where
+pub data Performed (task : Task) (secrets : Hidden) (status : ℕ) (blames : Faults) (events : List Event) : Type 0 where
   -- opening came to nothing
-  Unopened : (place : Place) → IsAt task place → Opens (Err opening.Memory) events → status ≡ 5 → blames ≡ no_faults → Ran task secrets status blames events
+  Unopened : (place : Place) → IsAt task place → Opens (Err opening.Memory) events → status ≡ 5 → blames ≡ no_faults → Performed task secrets status blames events
   ServedMany : (place : Place) (listen : List ℕ) (most : ℕ) (opened run_events said : List Event) (before after : GateState) (went : List Served)
       (run : Run Http (account_of place secrets) before run_events went after) → task ≡ Serve place listen most → Opens (Ok before) opened
       → EndsServing most went status said → blames ≡ run_blamed run → events ≡ (opened ++ run_events) ++ said
-      → Ran task secrets status blames events
+      → Performed task secrets status blames events
   ServedOnce : (place : Place) (opened segment said : List Event) (before after : GateState) (how : Served)
       (served : Segment Bare (account_of place secrets) before segment how after) → task ≡ Once place → Opens (Ok before) opened → EndsOnce how status said
-      → blames ≡ blamed served → events ≡ (opened ++ segment) ++ said → Ran task secrets status blames events
+      → blames ≡ blamed served → events ≡ (opened ++ segment) ++ said → Performed task secrets status blames events
   ShownOne : (shown said : List Event) (outcome : Result (Unit {0}) FrontError) → task ≡ Show → events ≡ shown ++ said → Shows outcome shown
-      → EndsOne outcome status said → blames ≡ one_blamed outcome → Ran task secrets status blames events
+      → EndsOne outcome status said → blames ≡ one_blamed outcome → Performed task secrets status blames events
   Explained : (page : Page) (explained said : List Event) (outcome : Result (Unit {0}) FrontError) → task ≡ Explain page → events ≡ explained ++ said
-      → Explains (page_text page) outcome explained → EndsOne outcome status said → blames ≡ one_blamed outcome → Ran task secrets status blames events
+      → Explains (page_text page) outcome explained → EndsOne outcome status said → blames ≡ one_blamed outcome → Performed task secrets status blames events
 
 -- The run of the program over its words: they are refused, memory runs out before anything is asked of the outside, or what
 -- their task adds.
 pub data Runs (words : List (List ℕ)) (secrets : Hidden) (status : ℕ) (blames : Faults) (events : List Event) : Type 0 where
   Refused : ((task : Task) → IsTask words task → ⊥) → status ≡ 2 → IsSaid words_refused events → blames ≡ no_faults → Runs words secrets status blames events
   OutOfMemory : status ≡ 5 → events ≡ [] → blames ≡ no_faults → Runs words secrets status blames events
-  Done : (task : Task) → IsTask words task → Ran task secrets status blames events → Runs words secrets status blames events
+  Done : (task : Task) → IsTask words task → Performed task secrets status blames events → Runs words secrets status blames events
 
 -- ---- what calls add
 
@@ -116,7 +116,7 @@ RunsExplain text status events = (explained : List Event) × (said : List Event)
 -- what a task adds, the counts bearing its blames
 pub record Performs (task : Task) (secrets : Hidden) (was now : Faults) (status : ℕ) (events : List Event) : Type 0 where
   pub blames : Faults
-  pub ran : Ran task secrets status blames events
+  pub ran : Performed task secrets status blames events
   pub bears : Bears blames was now
 
 -- the same of the whole run

@@ -28,10 +28,10 @@ ShowsObject octets line = (email : Data) × IsEmailObject octets email × (line 
 
 -- the message is read and its line made; or the front failed before its end; or memory ran out while it was read or
 -- after that
-abbrev pub Reads : Result (List ℕ) FrontError → List Event → Type 0
-Reads (Ok line) events = (input : Input) × GivesInput message_limit (Ok input) events × ShowsObject (input_octets input) line
-Reads (Err front.Failed) events = GivesInput message_limit (Err front.Failed) events
-Reads (Err front.Memory) events = (input : Result Input FrontError) × GivesInput message_limit input events × (input ≡ Err front.Failed → ⊥)
+abbrev pub ReadsInput : Result (List ℕ) FrontError → List Event → Type 0
+ReadsInput (Ok line) events = (input : Input) × GivesInput message_limit (Ok input) events × ShowsObject (input_octets input) line
+ReadsInput (Err front.Failed) events = GivesInput message_limit (Err front.Failed) events
+ReadsInput (Err front.Memory) events = (input : Result Input FrontError) × GivesInput message_limit input events × (input ≡ Err front.Failed → ⊥)
 
 -- what is left of a call of the front
 abbrev pub over_front : Result (Unit {0}) Failed → Result (Unit {0}) FrontError
@@ -40,8 +40,8 @@ over_front (Err _) = Err front.Failed
 
 -- What comes of a message. Where memory runs out or the front fails before the message's end, nothing is sent.
 pub data Answers (outcome : Result (Unit {0}) FrontError) (events : List Event) : Type 0 where
-  Unread : (e : FrontError) → Reads (Err e) events → outcome ≡ Err e → Answers outcome events
-  Sent : (reads heard : List Event) (line : List ℕ) (sent : Result (Unit {0}) Failed) → events ≡ reads ++ heard → Reads (Ok line) reads → Sends line sent heard
+  Unread : (e : FrontError) → ReadsInput (Err e) events → outcome ≡ Err e → Answers outcome events
+  Sent : (reads heard : List Event) (line : List ℕ) (sent : Result (Unit {0}) Failed) → events ≡ reads ++ heard → ReadsInput (Ok line) reads → Sends line sent heard
       → outcome ≡ over_front sent → Answers outcome events
 
 -- One client that gives a message, or that there is none.

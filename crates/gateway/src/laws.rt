@@ -2,13 +2,13 @@
 ghost use Rattle.std.specs.Prelude.{List, ℕ};
 ghost use Rattle.gate_world.specs.Causes.{Hidden};
 ghost use Rattle.gate_world.specs.declared.event.Event.{Event};
-ghost use Rattle.gateway.specs.Complete.{Completes};
+ghost use Rattle.gateway.specs.Complete.{CompletesServing};
 
 use gate_serving::{obeyed_clients_are_told, obeyed_runs_are_told};
 
 /// Each client of a run of the program is told, where nothing is blamed in it and the store obeyed every request of it.
 pub fn obeyed_programs_tell()
-    ensures { (words : List (List ℕ)) (secrets : Hidden) (status : ℕ) (events : List Event) → Completes words secrets status events }
+    ensures { (words : List (List ℕ)) (secrets : Hidden) (status : ℕ) (events : List Event) → CompletesServing words secrets status events }
 {
     obeyed_clients_are_told();
     obeyed_runs_are_told();

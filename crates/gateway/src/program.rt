@@ -5,7 +5,7 @@ ghost use Rattle.gate_world.specs.Tape.{Adds};
 ghost use Rattle.gate_words.specs.Pages.{page_text};
 ghost use Rattle.gate_words.specs.Task.{IsTask};
 ghost use Rattle.gate_words.specs.declared.task.Task.{Task};
-ghost use Rattle.gateway.specs.Complete.{Completes, CompletesShow};
+ghost use Rattle.gateway.specs.Complete.{CompletesServing, CompletesShow};
 ghost use Rattle.gateway.specs.Program.{EndsDone, EndsFailed, EndsOnce, IsApart, IsSaid, IsWholeRun, Performs, RunsExplain, RunsShow, front_failed, words_refused};
 
 use crate::explain::explain_one;
@@ -176,7 +176,7 @@ pub fn run<W: World>(words: &[String], world: &mut W, watchers: &mut Vec<Box<dyn
 
     // Where nothing is blamed and the store obeyed every request, whoever came takes the whole response over the mail that is
     // served then; or memory ran out, and they take the text of that.
-    ensures complete { Adds (W.tape world.old) (W.tape world.new) (Completes (map string_bytes words.now) (W.hidden world.old) result) }
+    ensures complete { Adds (W.tape world.old) (W.tape world.new) (CompletesServing (map string_bytes words.now) (W.hidden world.old) result) }
 
     // Whoever gives a message to be shown, while the front does not fail, is sent its Email object and a line end; or memory
     // was wanting, and nothing was sent.

@@ -2,7 +2,7 @@
 ghost use Rattle.std.specs.Prelude.{◌≡◌, IfOk, IsErrOf};
 ghost use Rattle.gate_world.specs.Causes.{Rose, FrontAlone};
 ghost use Rattle.gate_world.specs.Tape.{Adds};
-ghost use Rattle.gateway.specs.Show.{ShowsObject, Reads, Answers, ShowsClient, Shows};
+ghost use Rattle.gateway.specs.Show.{ShowsObject, ReadsInput, Answers, ShowsClient, Shows};
 
 use email_get::email_object;
 use gate_serving::{FrontError, receive, with_line_end};
@@ -23,7 +23,7 @@ fn object_line(alloc: Global, octets: &[u8]) -> Result<Bytes, AllocError>
 
 // Reads a message, and makes the line that shows it.
 fn read_message<F: Front>(alloc: Global, front: &mut F) -> Result<Bytes, FrontError>
-    ensures tape { Adds (F.tape front.old) (F.tape front.new) (Reads result) }
+    ensures tape { Adds (F.tape front.old) (F.tape front.new) (ReadsInput result) }
     ensures alone { FrontAlone (F.faults front.old) (F.faults front.new) }
     ensures cause { IsErrOf result FrontError.Failed → Rose (F.faults front.old).front (F.faults front.new).front }
     ensures hidden { F.hidden front.new ≡ F.hidden front.old }

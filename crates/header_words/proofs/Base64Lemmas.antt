@@ -3,7 +3,7 @@ use Rattle.std.proofs.Common.{◌≡◌, ◌≢◌, ℕ, ◌-◌, ◌≤◌, ◌
 use Rattle.std.proofs.lemmas.List.{length-map}
 use Rattle.text_words.specs.Cuts.{Each, Stops, front, back}
 use Rattle.text_words.proofs.CutLemmas.{front_back, front_each, front_is, back_is}
-use Rattle.header_words.specs.Base64.{is_symbol, is_equals_sign, symbol_value, octets_of, spelled_octets, IsBase64}
+use Rattle.header_words.specs.Base64.{is_symbol, is_equals_sign, symbol_value, octets_of_groups, spelled_octets, IsBase64}
 
 equals_stop : (p : List ℕ) → Each is_equals_sign p → Stops is_symbol p
 equals_stop [] e = tt
@@ -37,7 +37,7 @@ one_base64 x y t a b = a.are ∙ ap spelled_octets (symbols_are x t a ∙ sym (s
 
 -- ---- how many octets symbols spell
 
-octets_length : (l : List ℕ) → length (octets_of l) ≡ length l - length l / 4 - min (length l % 4) 1
+octets_length : (l : List ℕ) → length (octets_of_groups l) ≡ length l - length l / 4 - min (length l % 4) 1
 octets_length [] = refl
 octets_length (a ∷ []) = refl
 octets_length (a ∷ b ∷ []) = refl

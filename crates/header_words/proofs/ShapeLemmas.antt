@@ -6,19 +6,19 @@ use Rattle.std.proofs.lemmas.List.{length-append}
 use Rattle.text_words.specs.Cuts.{Each, IsRun}
 use Rattle.text_words.proofs.CutLemmas.{SameCut, one_run}
 use Rattle.header_words.specs.Base64.{IsBase64}
-use Rattle.header_words.specs.EncodedWords.{is_token, is_encoded, HasShape, Spells, InBase64, InQ}
+use Rattle.header_words.specs.EncodedWords.{is_charset_octet, is_encoded, HasShape, Spells, InBase64, InQ}
 
 pub if_none : {X : Type 0} {P : Type 0} (r : Option X) → P → IfNone r P
 if_none None p = p
 if_none (Some x) p = tt
 
 -- what stands after the charset
-pub behind_charset : (t a b cs d c : List ℕ) (l : ℕ) (x y : List ℕ) → t ≡ 61 ∷ a → a ≡ 63 ∷ b → b ≡ cs ++ 63 ∷ d → IsRun is_token cs → HasShape c l x y t
+pub behind_charset : (t a b cs d c : List ℕ) (l : ℕ) (x y : List ℕ) → t ≡ 61 ∷ a → a ≡ 63 ∷ b → b ≡ cs ++ 63 ∷ d → IsRun is_charset_octet cs → HasShape c l x y t
     → SameCut cs c d (l ∷ 63 ∷ (x ++ 63 ∷ 61 ∷ y))
 behind_charset t a b cs d c l x y e f g r h =
     let w = h.whole in
     let q : b ≡ c ++ 63 ∷ l ∷ 63 ∷ (x ++ 63 ∷ 61 ∷ y) = cc in
-    one_run is_token cs d c (l ∷ 63 ∷ (x ++ 63 ∷ 61 ∷ y)) 63 r.0 h.token.0 refl (sym g ∙ q)
+    one_run is_charset_octet cs d c (l ∷ 63 ∷ (x ++ 63 ∷ 61 ∷ y)) 63 r.0 h.token.0 refl (sym g ∙ q)
 
 -- what stands after the encoded text
 pub behind_text : (g tx k x y : List ℕ) → g ≡ tx ++ 63 ∷ k → Each is_encoded tx → Each is_encoded x → g ≡ x ++ 63 ∷ 61 ∷ y → SameCut tx x k (61 ∷ y)

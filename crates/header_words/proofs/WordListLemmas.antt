@@ -10,7 +10,7 @@ use Rattle.base64.specs.Engines.{standard}
 use Rattle.base64.specs.Rfc4648.{encode_symbols, unpadded_len, padding_len}
 use Rattle.base64.proofs.RoundTrip.{length-encode_symbols}
 use lib.Utf8.{scalar, scalars, encode, encodes}
-use Rattle.header_words.specs.WordList.{utf8_word, IsPiece, IsLongestPiece, AreWords, NoneLeft, Next, joined, line_fold, IsWritten}
+use Rattle.header_words.specs.WordList.{utf8_word, IsWordPiece, IsLongestPiece, AreWords, NoneLeft, Next, joined, line_fold, IsWritten}
 use Rattle.header_words.proofs.WordLemmas.{same_length}
 
 -- base64 of n octets
@@ -68,7 +68,7 @@ begins text (c ∷ cs, u) n =
     let p = and_parts (scalar c) (scalars cs) u.0 in
     record { char = c; rest = encodes cs; whole = sym u.1; characters = (c ∷ [], (ap (λ (b : Bool). b && true) p.0, append-nil (encode c))); characters_behind = (cs, (p.1, refl)) }
 
-first_piece : (text : List ℕ) → (b : BeginsWithChar text) → IsPiece (encode b.char) b.rest text
+first_piece : (text : List ℕ) → (b : BeginsWithChar text) → IsWordPiece (encode b.char) b.rest text
 first_piece text b = record {
   whole = b.whole;
   characters = b.characters;

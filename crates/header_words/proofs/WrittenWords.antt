@@ -16,7 +16,7 @@ use Rattle.header_words.specs.declared.charset.Charset.{Charset}
 use Rattle.header_words.specs.declared.charset.Charset.TheVariants as charset
 use Rattle.header_words.specs.EncodedWords.{is_encoded, InBase64, HasShape, charset_name, IsEncodedWord, is_edge, ends_at_edge, BeginsAtEdge, kept, NoneBefore, HasNone, IsFirst}
 use Rattle.header_words.specs.EncodedWords.{IsText, Plain, Worded}
-use Rattle.header_words.specs.WordList.{utf8_word, IsPiece, IsLongestPiece, AreWords, NoneLeft, Next, joined, line_fold, IsWritten}
+use Rattle.header_words.specs.WordList.{utf8_word, IsWordPiece, IsLongestPiece, AreWords, NoneLeft, Next, joined, line_fold, IsWritten}
 use Rattle.header_words.proofs.WordLemmas.{none_yet}
 use Rattle.header_words.proofs.WordListLemmas.{longest_some}
 use Rattle.header_words.proofs.WrittenBase64.{is_octet, reads_back}
@@ -109,7 +109,7 @@ word_is piece u some =
 
 -- ---- the words of a text
 
-text_is : (piece rest text : List ℕ) → IsPiece piece rest text → IsUtf8 text
+text_is : (piece rest text : List ℕ) → IsWordPiece piece rest text → IsUtf8 text
 text_is piece rest text p = subst (λ (u : List ℕ). IsUtf8 u) (sym p.whole) (IsUtf8-append piece rest p.characters p.characters_behind)
 
 longest_is : (piece rest text : List ℕ) → text ≢ [] → IsLongestPiece piece rest text → IsEncodedWord piece (utf8_word piece)

@@ -17,16 +17,16 @@ symbol_value c =
     else 63
 
 -- The octets whose bits stand one after another in these groups of six bits. Bits left over are dropped.
-abbrev pub octets_of : List ℕ → List ℕ
-octets_of [] = []
-octets_of (a ∷ []) = []
-octets_of (a ∷ b ∷ []) = (a * 4 + b / 16) ∷ []
-octets_of (a ∷ b ∷ c ∷ []) = (a * 4 + b / 16) ∷ (b % 16 * 16 + c / 4) ∷ []
-octets_of (a ∷ b ∷ c ∷ d ∷ t) = (a * 4 + b / 16) ∷ (b % 16 * 16 + c / 4) ∷ (c % 4 * 64 + d) ∷ octets_of t
+abbrev pub octets_of_groups : List ℕ → List ℕ
+octets_of_groups [] = []
+octets_of_groups (a ∷ []) = []
+octets_of_groups (a ∷ b ∷ []) = (a * 4 + b / 16) ∷ []
+octets_of_groups (a ∷ b ∷ c ∷ []) = (a * 4 + b / 16) ∷ (b % 16 * 16 + c / 4) ∷ []
+octets_of_groups (a ∷ b ∷ c ∷ d ∷ t) = (a * 4 + b / 16) ∷ (b % 16 * 16 + c / 4) ∷ (c % 4 * 64 + d) ∷ octets_of_groups t
 
 -- the octets that symbols spell
 abbrev pub spelled_octets : List ℕ → List ℕ
-spelled_octets symbols = octets_of (map symbol_value symbols)
+spelled_octets symbols = octets_of_groups (map symbol_value symbols)
 
 abbrev pub is_equals_sign : ℕ → Bool
 is_equals_sign c = c == 61

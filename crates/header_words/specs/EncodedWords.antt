@@ -14,8 +14,8 @@ is_especial c =
     || c == 47 || c == 91 || c == 93 || c == 46 || c == 61
 
 -- an octet of a charset's name
-abbrev pub is_token : ℕ → Bool
-is_token c = is_between 33 126 c && not (is_especial c)
+abbrev pub is_charset_octet : ℕ → Bool
+is_charset_octet c = is_between 33 126 c && not (is_especial c)
 
 -- an octet of an encoded text: any that is printed, but "?"
 abbrev pub is_encoded : ℕ → Bool
@@ -35,7 +35,7 @@ pub data Spells (letter : ℕ) (octets text : List ℕ) : Type 0 where
 -- "=?" charset "?" letter "?" encoded-text "?=", and what follows it. The encoded text may be empty.
 pub record HasShape (charset : List ℕ) (letter : ℕ) (text behind t : List ℕ) : Type 0 where
   pub whole : t ≡ 61 ∷ 63 ∷ (charset ++ 63 ∷ letter ∷ 63 ∷ (text ++ 63 ∷ 61 ∷ behind))
-  pub token : IsRun is_token charset
+  pub token : IsRun is_charset_octet charset
   pub printed : Each is_encoded text
 
 -- a language may follow the charset's name after a "*" (RFC 2231 section 5)
@@ -71,22 +71,22 @@ abbrev pub IsWordBefore : List ℕ → List ℕ → List ℕ → Type 0
 IsWordBefore reading word behind = IsEncodedWord reading word × BeginsAtEdge behind
 
 -- an encoded word stands between these texts: at edges, or at the ends of the value
-pub record Stands (reading before encoded behind : List ℕ) : Type 0 where
+pub record StandsBetween (reading before encoded behind : List ℕ) : Type 0 where
   pub edge_before : ends_at_edge true before ≡ true
   pub word : IsEncodedWord reading encoded
   pub edge_behind : BeginsAtEdge behind
 
 -- no encoded word stands in the value at a place before n
 abbrev pub NoneBefore : ℕ → List ℕ → Type 0
-NoneBefore n t = (reading before word behind : List ℕ) → t ≡ before ++ (word ++ behind) → Stands reading before word behind → n ≤ length before
+NoneBefore n t = (reading before word behind : List ℕ) → t ≡ before ++ (word ++ behind) → StandsBetween reading before word behind → n ≤ length before
 
 abbrev pub HasNone : List ℕ → Type 0
-HasNone t = (reading before word behind : List ℕ) → t ≡ before ++ (word ++ behind) → Stands reading before word behind → ⊥
+HasNone t = (reading before word behind : List ℕ) → t ≡ before ++ (word ++ behind) → StandsBetween reading before word behind → ⊥
 
 -- the first encoded word of the value
 pub record IsFirst (reading before word behind t : List ℕ) : Type 0 where
   pub whole : t ≡ before ++ (word ++ behind)
-  pub stands : Stands reading before word behind
+  pub stands : StandsBetween reading before word behind
   pub first : NoneBefore (length before) t
 
 -- white space between two encoded words is dropped

@@ -10,7 +10,7 @@ unfoldable pub utf8_word : List ℕ → List ℕ
 utf8_word piece = codes "=?utf-8?B?" ++ (encode_of standard piece ++ codes "?=")
 
 -- A piece at the front of a text, and what follows it: no character is cut, and the word has at most 75 octets.
-pub record IsPiece (piece rest text : List ℕ) : Type 0 where
+pub record IsWordPiece (piece rest text : List ℕ) : Type 0 where
   pub whole : text ≡ piece ++ rest
   pub characters : IsUtf8 piece
   pub characters_behind : IsUtf8 rest
@@ -18,8 +18,8 @@ pub record IsPiece (piece rest text : List ℕ) : Type 0 where
 
 -- the longest such piece
 pub record IsLongestPiece (piece rest text : List ℕ) : Type 0 where
-  pub is : IsPiece piece rest text
-  pub longest : (other behind : List ℕ) → IsPiece other behind text → length other ≤ length piece
+  pub is : IsWordPiece piece rest text
+  pub longest : (other behind : List ℕ) → IsWordPiece other behind text → length other ≤ length piece
 
 -- The words of a text: each is the word of the longest piece of what is left. The empty text has none.
 pub data AreWords : List (List ℕ) → List ℕ → Type 0 where

@@ -14,7 +14,7 @@ use text_words::{Class, behind, cut, first, is_white, run_before};
 struct Token;
 
 impl Class<u8> for Token {
-    ghost test = { words.is_token };
+    ghost test = { words.is_charset_octet };
 
     fn has(&self, item: &u8) -> bool {
         match *item {

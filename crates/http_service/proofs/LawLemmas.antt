@@ -13,7 +13,7 @@ use Rattle.http_service.specs.declared.head.BodyKind.TheVariants.{Length, Chunke
 use Rattle.http_service.specs.declared.lines.TheConstants.{MAX_HEAD_OCTETS}
 use Rattle.http_service.specs.declared.error.HttpError.{HttpError}
 use Rattle.http_service.specs.declared.error.HttpError.TheVariants as error
-use Rattle.http_service.specs.Fields.{is_space, IsBearer, IsTokenOf, IsToken, IsLength, IsChunkedCoding, IsBody}
+use Rattle.http_service.specs.Fields.{is_space, IsBearer, IsTokenOf, IsToken, IsLength, IsChunkedCoding, IsBodyKind}
 use Rattle.http_service.specs.Heads.{is_scheme_octet, is_authority_octet, IsAbsolute, IsPathAndQuery, is_path_octet, IsHead, IsHeadText, IsMalformed, IsIncomplete}
 use Rattle.http_service.specs.Taking.{window}
 use Rattle.http_service.specs.ReadHead.{HeadStops}
@@ -58,7 +58,7 @@ one_length (value ∷ more ∷ values) n m a b = absurd a
 no_coding : (codings : List (List ℕ)) → codings ≡ [] → IsChunkedCoding codings → ⊥
 no_coding codings is chunked = subst IsChunkedCoding is chunked
 
-one_body : (lengths codings : List (List ℕ)) (body other : BodyKind) → IsBody lengths codings body → IsBody lengths codings other → body ≡ other
+one_body : (lengths codings : List (List ℕ)) (body other : BodyKind) → IsBodyKind lengths codings body → IsBodyKind lengths codings other → body ≡ other
 one_body lengths codings (Length n) (Length m) a b = ap Length (one_length lengths n m a.1 b.1)
 one_body lengths codings (Length n) Chunked a b = absurd (no_coding codings a.0 b.1)
 one_body lengths codings Chunked (Length m) a b = absurd (no_coding codings b.0 a.1)

@@ -62,9 +62,9 @@ IsChunkedCoding (coding ∷ other ∷ more) = ⊥
 
 -- The body that the Content-Length and Transfer-Encoding fields say (RFC 9112 section 6.3). Neither field is an empty
 -- body, and both together are none.
-abbrev pub IsBody : List (List ℕ) → List (List ℕ) → BodyKind → Type 0
-IsBody lengths codings (Length n) = (codings ≡ []) × IsLength lengths n
-IsBody lengths codings Chunked = (lengths ≡ []) × IsChunkedCoding codings
+abbrev pub IsBodyKind : List (List ℕ) → List (List ℕ) → BodyKind → Type 0
+IsBodyKind lengths codings (Length n) = (codings ≡ []) × IsLength lengths n
+IsBodyKind lengths codings Chunked = (lengths ≡ []) × IsChunkedCoding codings
 
 -- the client waits for `100 Continue`, which HTTP/1.0 doesn't have (RFC 9110 section 10.1.1)
 abbrev pub Expects : ℕ → Option (List ℕ) → Type 0

@@ -7,7 +7,7 @@ use Rattle.text_words.specs.Octets.{is_alpha, is_digit}
 use Rattle.text_words.specs.Cuts.{Each, Stops, front, back}
 use Rattle.http_service.specs.declared.head.Head.{Head}
 use Rattle.http_service.specs.declared.head.BodyKind.{BodyKind}
-use Rattle.http_service.specs.Fields.{values_of, first_value, IsToken, IsBody, Expects, content_length, transfer_encoding, authorization, content_type, expect}
+use Rattle.http_service.specs.Fields.{values_of, first_value, IsToken, IsBodyKind, Expects, content_length, transfer_encoding, authorization, content_type, expect}
 
 -- scheme = ALPHA *( ALPHA / DIGIT / "+" / "-" / "." ) (RFC 3986 section 3.1)
 abbrev pub is_scheme_octet : ℕ → Bool
@@ -51,12 +51,12 @@ pub record IsHeadOf (method_word target : List ℕ) (minor : ℕ) (fields : List
   pub of_target : IsTarget target head.path head.query
   pub token : IsToken (values_of authorization fields) head.token
   pub content_type : head.content_type ≡ first_value (values_of content_type fields)
-  pub body : IsBody (values_of content_length fields) (values_of transfer_encoding fields) head.body
+  pub body : IsBodyKind (values_of content_length fields) (values_of transfer_encoding fields) head.body
   pub expects : IsTrue head.expects ↔ Expects minor (first_value (values_of expect fields))
 
 -- these fields tell no length of the body
 abbrev pub HasNoBody : List (List ℕ × List ℕ) → Type 0
-HasNoBody fields = (body : BodyKind) → IsBody (values_of content_length fields) (values_of transfer_encoding fields) body → ⊥
+HasNoBody fields = (body : BodyKind) → IsBodyKind (values_of content_length fields) (values_of transfer_encoding fields) body → ⊥
 
 -- what the head says
 abbrev pub IsHead : RequestHead → Head → Type 0

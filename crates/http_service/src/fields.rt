@@ -4,7 +4,7 @@ ghost use Rattle.std.specs.Str.Parse.{digits_value};
 ghost use Rattle.httparse.specs.Spans.{IsWithin, IsHeaderWithin, span_bytes, header_bytes};
 ghost use Rattle.text_words.specs.Octets.{is_digit, is_same_text};
 ghost use Rattle.text_words.specs.Cuts.{Each, IsRun};
-ghost use Rattle.http_service.specs.Fields.{values_of, first_value, IsTokenOf, IsToken, IsLengthValue, IsLength, IsChunkedCoding, IsBody, Expects, content_length, transfer_encoding, authorization, content_type, expect};
+ghost use Rattle.http_service.specs.Fields.{values_of, first_value, IsTokenOf, IsToken, IsLengthValue, IsLength, IsChunkedCoding, IsBodyKind, Expects, content_length, transfer_encoding, authorization, content_type, expect};
 ghost use Rattle.http_service.specs.declared.head.BodyKind.{BodyKind};
 ghost use Rattle.std.specs.Option.{option_copied};
 ghost use Rattle.http_service.specs.reading.Values.{AreValues, AreWithin, with_value};
@@ -134,7 +134,7 @@ fn body_of(octets: &[u8], lengths: Values, codings: Values) -> Option<BodyKind>
     requires lengths { AreWithin (length octets.now) lengths }
     requires codings { AreWithin (length octets.now) codings }
     ensures { (ls cs : List (List ℕ)) → AreValues octets.now ls lengths → AreValues octets.now cs codings
-        → MatchOption result ((body : BodyKind) → IsBody ls cs body → ⊥) (IsBody ls cs) }
+        → MatchOption result ((body : BodyKind) → IsBodyKind ls cs body → ⊥) (IsBodyKind ls cs) }
 {
     match (lengths, codings) {
         (lengths, Values::Absent) => Some(BodyKind::Length(length_of(octets, lengths)?)),
@@ -153,8 +153,8 @@ fn body_of(octets: &[u8], lengths: Values, codings: Values) -> Option<BodyKind>
 pub(crate) fn body_in(octets: &[u8], fields: &[HeaderSpan]) -> Option<BodyKind>
     requires { All (IsHeaderWithin (length octets.now)) fields.now }
     ensures { let named = map (header_bytes octets.now) fields.now in
-        MatchOption result ((body : BodyKind) → IsBody (values_of content_length named) (values_of transfer_encoding named) body → ⊥)
-        (IsBody (values_of content_length named) (values_of transfer_encoding named)) }
+        MatchOption result ((body : BodyKind) → IsBodyKind (values_of content_length named) (values_of transfer_encoding named) body → ⊥)
+        (IsBodyKind (values_of content_length named) (values_of transfer_encoding named)) }
 {
     let lengths = values_of(octets, fields, b"content-length");
     let codings = values_of(octets, fields, b"transfer-encoding");

@@ -14,7 +14,7 @@ use Rattle.pushdown.specs.declared.moves.Move.TheVariants as move
 use Rattle.imap_automaton.specs.Keys.{key_text, keys, in_word}
 use Rattle.imap_automaton.specs.DateRules.{month_start, day_octet, time_octet, day_rule, time_rule, date_rule}
 use Rattle.imap_automaton.specs.Fits.{DateFits}
-use Rattle.imap_automaton.specs.Langs.{Places, TimeRest, Among, WordSays, WordRest, DayRest, DateLang, After}
+use Rattle.imap_automaton.specs.Langs.{Places, TimeRest, Among, WordSays, WordRest, DayRest, DateLang, AfterMove}
 use Rattle.pushdown.proofs.Lists.{cons_head, cons_tail, no_append}
 use Rattle.imap_automaton.proofs.Tests.{from_test, to_test, at_true}
 use Rattle.imap_automaton.proofs.KeyLemmas.{is_key_octet, key_octets, key_octet_month, key_some}
@@ -26,7 +26,7 @@ use Rattle.imap_syntax.specs.DateTimes.{seconds_of, IsMonth, IsDateTime}
 
 -- ---- after the month
 
-pub time_back : (at c : ℕ) (t : List ℕ) → After (time_rule at c) t → TimeRest at (c ∷ t)
+pub time_back : (at c : ℕ) (t : List ℕ) → AfterMove (time_rule at c) t → TimeRest at (c ∷ t)
 time_back at c t h = from_test (nat_lt at 21 && time_octet at c) (cond (at + 1 == 21) move.End (move.One (sym.Date (date.Time (at + 1))))) move.Fail t (TimeRest at (c ∷ t))
     (λ e k.
     let o = (and_parts (nat_lt at 21) (time_octet at c) e).1 in
@@ -35,7 +35,7 @@ time_back at c t h = from_test (nat_lt at 21 && time_octet at c) (cond (at + 1 =
     (λ f l. record { each = (o, l.each); count = omega (arith, l.count) }) k)
     (λ e k. absurd k) h
 
-pub time_forth : (at c : ℕ) (t : List ℕ) → TimeRest at (c ∷ t) → After (time_rule at c) t
+pub time_forth : (at c : ℕ) (t : List ℕ) → TimeRest at (c ∷ t) → AfterMove (time_rule at c) t
 time_forth at c t h =
     at_true (nat_lt at 21 && time_octet at c) (cond (at + 1 == 21) move.End (move.One (sym.Date (date.Time (at + 1))))) move.Fail t
     (and_from _ _ (lt-ltb at 21 (let n = h.count in omega (arith, n))) h.each.0)
@@ -48,7 +48,7 @@ time_none h = let n = h.count in omega (arith, n)
 
 -- ---- before the month
 
-day_back : (at c : ℕ) (t : List ℕ) → After (day_rule at c) t → DayRest at (c ∷ t)
+day_back : (at c : ℕ) (t : List ℕ) → AfterMove (day_rule at c) t → DayRest at (c ∷ t)
 day_back at c t h = from_test (nat_lt at 3 && day_octet at c) (cond (at + 1 == 3) (move.One month_start) (move.One (sym.Date (date.Day (at + 1))))) move.Fail t (DayRest at (c ∷ t))
     (λ e k.
     let o = (and_parts (nat_lt at 3) (day_octet at c) e).1 in
@@ -58,7 +58,7 @@ day_back at c t h = from_test (nat_lt at 3 && day_octet at c) (cond (at + 1 == 3
     (λ e k. absurd k) h
 
 day_at_text : (at c : ℕ) (t front back : List ℕ) → at < 3 → c ∷ t ≡ front ++ back → Places day_octet at front → at + length front ≡ 3 → WordRest place.Month [] back
-    → After (day_rule at c) t
+    → AfterMove (day_rule at c) t
 day_at_text at c t [] back lt e each count m = absurd (omega (arith, lt, count))
 day_at_text at c t (d ∷ x) back lt e each count m =
     let o : day_octet at c ≡ true = ap (day_octet at) (cons_head c d t (x ++ back) e) ∙ each.0 in
@@ -68,7 +68,7 @@ day_at_text at c t (d ∷ x) back lt e each count m =
     ∙ ap (λ (u : List ℕ). u ++ back) (nil_from_length x (let g = eqb-true (at + 1) 3 f in omega (arith, count, g))))) m)
     (λ f. record { front = x; back = back; whole = cons_tail c d t (x ++ back) e; each = each.1; count = omega (arith, count); month = m }))
 
-day_forth : (at c : ℕ) (t : List ℕ) → DateFits (date.Day at) ≡ true → DayRest at (c ∷ t) → After (day_rule at c) t
+day_forth : (at c : ℕ) (t : List ℕ) → DateFits (date.Day at) ≡ true → DayRest at (c ∷ t) → AfterMove (day_rule at c) t
 day_forth at c t fits h = day_at_text at c t h.front h.back (ltb-true at 3 fits) h.whole h.each h.count h.month
 
 -- ---- the month
@@ -322,12 +322,12 @@ date_to s t h =
       };
     }
 
-quote_back : (c : ℕ) (t : List ℕ) → After (date_rule date.Open c) t → DateLang date.Open (c ∷ t)
+quote_back : (c : ℕ) (t : List ℕ) → AfterMove (date_rule date.Open c) t → DateLang date.Open (c ∷ t)
 quote_back c t h = from_test (c == 34) (move.One (sym.Date (date.Day 0))) move.Fail t (DateLang date.Open (c ∷ t))
     (λ e k. subst (λ (n : ℕ). DateLang date.Open (n ∷ t)) (sym (eqb-true c 34 e)) (date_from t k))
     (λ e k. absurd k) h
 
-quote_forth : (c : ℕ) (t : List ℕ) → DateLang date.Open (c ∷ t) → After (date_rule date.Open c) t
+quote_forth : (c : ℕ) (t : List ℕ) → DateLang date.Open (c ∷ t) → AfterMove (date_rule date.Open c) t
 quote_forth c t h =
     let q = date_to h.0 (c ∷ t) h.1 in
     at_true (c == 34) (move.One (sym.Date (date.Day 0))) move.Fail t (eq-eqb c 34 (cons_head c 34 t q.inner q.whole))
@@ -335,12 +335,12 @@ quote_forth c t h =
 
 -- ---- the group
 
-pub date_back : (s : Date) (c : ℕ) (t : List ℕ) → After (date_rule s c) t → DateLang s (c ∷ t)
+pub date_back : (s : Date) (c : ℕ) (t : List ℕ) → AfterMove (date_rule s c) t → DateLang s (c ∷ t)
 date_back date.Open c t h = quote_back c t h
 date_back (date.Day at) c t h = day_back at c t h
 date_back (date.Time at) c t h = time_back at c t h
 
-pub date_forth : (s : Date) (c : ℕ) (t : List ℕ) → DateFits s ≡ true → DateLang s (c ∷ t) → After (date_rule s c) t
+pub date_forth : (s : Date) (c : ℕ) (t : List ℕ) → DateFits s ≡ true → DateLang s (c ∷ t) → AfterMove (date_rule s c) t
 date_forth date.Open c t fits h = quote_forth c t h
 date_forth (date.Day at) c t fits h = day_forth at c t fits h
 date_forth (date.Time at) c t fits h = time_forth at c t h

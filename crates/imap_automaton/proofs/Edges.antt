@@ -20,7 +20,7 @@ use Rattle.imap_automaton.specs.Keys.{key_text, keys, is_among}
 use Rattle.imap_automaton.specs.Rules.{rule_of}
 use Rattle.imap_automaton.specs.Fits.{SymFits}
 use Rattle.imap_automaton.specs.Flow.{begins, stops, may_yield}
-use Rattle.imap_automaton.specs.Langs.{Lang, After}
+use Rattle.imap_automaton.specs.Langs.{Lang, AfterMove}
 use Rattle.imap_automaton.proofs.FreeEdges.{free_back, free_forth, free_empty, free_example}
 use Rattle.imap_automaton.proofs.NamesEdges.{names_back, names_forth, names_empty, more_stops, names_example}
 use Rattle.imap_automaton.proofs.ItemEdges.{item_back, item_forth, open_none, more_empty, items_stop, number_ends, number_yields, long_open_none, long_ends, long_yields}
@@ -43,7 +43,7 @@ word_le place key at fits = leb-true _ _ (and_parts (nat_le at (length (key_text
 word_among : (place : Place) (key : Key) (at : ℕ) → SymFits (sym.Word place key at) ≡ true → is_among key (keys place) ≡ true
 word_among place key at fits = (and_parts (nat_le at (length (key_text key))) (is_among key (keys place)) fits).1
 
-pub edge_back : (s : Sym) (c : ℕ) (t : List ℕ) → SymFits s ≡ true → After (rule_of s c) t → Lang s (c ∷ t)
+pub edge_back : (s : Sym) (c : ℕ) (t : List ℕ) → SymFits s ≡ true → AfterMove (rule_of s c) t → Lang s (c ∷ t)
 edge_back (sym.Line s) c t fits h = line_edge_back s c t fits h
 edge_back (sym.Word place key at) c t fits h = word_back place key at c t (word_le place key at fits) (word_among place key at fits) h
 edge_back (sym.Free s) c t fits h = free_back s c t h
@@ -57,7 +57,7 @@ edge_back (sym.Str s) c t fits h = string_back s c t fits h
 edge_back (sym.Value s) c t fits h = value_back s c t h
 edge_back (sym.Folder s) c t fits h = folder_back s c t h
 
-pub edge_forth : (s : Sym) (c : ℕ) (t : List ℕ) → SymFits s ≡ true → Lang s (c ∷ t) → After (rule_of s c) t
+pub edge_forth : (s : Sym) (c : ℕ) (t : List ℕ) → SymFits s ≡ true → Lang s (c ∷ t) → AfterMove (rule_of s c) t
 edge_forth (sym.Line s) c t fits h = line_edge_forth s c t fits h
 edge_forth (sym.Word place key at) c t fits h = word_forth place key at c t (word_le place key at fits) (word_among place key at fits) h
 edge_forth (sym.Free s) c t fits h = free_forth s c t h

@@ -17,7 +17,7 @@ use Rattle.imap_automaton.specs.Rests.{LongRest, IsSpaced}
 use Rattle.imap_automaton.proofs.Rests.{long_from, long_to}
 use Rattle.imap_automaton.specs.FolderLangs.{AnyDelimiter, DelimiterRest, DelimiterPair, NameLine, DelimiterLine, AnyCounts, MoreCounts, IsStatusWord, WordCount, CountsLine}
 use Rattle.imap_automaton.specs.FolderLangs.{FolderLang}
-use Rattle.imap_automaton.specs.Langs.{After}
+use Rattle.imap_automaton.specs.Langs.{AfterMove}
 use Rattle.pushdown.proofs.Lists.{cons_head, cons_tail}
 use Rattle.imap_automaton.proofs.Tests.{from_test, at_true, at_false, is_true_at, crlf_of, crlf_parts, mid}
 use Rattle.imap_automaton.proofs.StringEdges.{special_text, no_special, from_parts, escaped_pair, escaped_self, flat_some}
@@ -38,11 +38,11 @@ spaced_is L c t h = (eq-eqb c 32 (cons_head c 32 t h.0 h.1), subst L (sym (cons_
 
 -- ---- LIST
 
-attributes_back : (c : ℕ) (t : List ℕ) → After (folder_rule folder.Attributes c) t → DelimiterLine (c ∷ t)
+attributes_back : (c : ℕ) (t : List ℕ) → AfterMove (folder_rule folder.Attributes c) t → DelimiterLine (c ∷ t)
 attributes_back c t h = from_test (c == 32) (move.Two (sym.Folder folder.Delimiter) (sym.Folder folder.Name)) move.Fail t (DelimiterLine (c ∷ t))
     (λ e k. spaced_to (Then AnyDelimiter NameLine) c t e k) (λ e k. absurd k) h
 
-attributes_forth : (c : ℕ) (t : List ℕ) → DelimiterLine (c ∷ t) → After (folder_rule folder.Attributes c) t
+attributes_forth : (c : ℕ) (t : List ℕ) → DelimiterLine (c ∷ t) → AfterMove (folder_rule folder.Attributes c) t
 attributes_forth c t h = let k = spaced_is (Then AnyDelimiter NameLine) c t h in
     at_true (c == 32) (move.Two (sym.Folder folder.Delimiter) (sym.Folder folder.Name)) move.Fail t k.0 k.1
 
@@ -50,7 +50,7 @@ attributes_forth c t h = let k = spaced_is (Then AnyDelimiter NameLine) c t h in
 quoted_one : (c : ℕ) (t : List ℕ) → (c == 34) ≡ true → DelimiterRest t → AnyDelimiter (c ∷ t)
 quoted_one c t e h = (Some h.0, ((h.1, tt), ap (λ (n : ℕ). n ∷ t) (eqb-true c 34 e) ∙ ap (λ (u : List ℕ). 34 ∷ u) h.2))
 
-delimiter_back : (c : ℕ) (t : List ℕ) → After (folder_rule folder.Delimiter c) t → AnyDelimiter (c ∷ t)
+delimiter_back : (c : ℕ) (t : List ℕ) → AfterMove (folder_rule folder.Delimiter c) t → AnyDelimiter (c ∷ t)
 delimiter_back c t h = from_test (c == 34) (move.One (sym.Folder folder.DelimiterOctet)) (cond (lower c == 110) (move.One (sym.Line (line.Folded phrase.Nil 1))) move.Fail) t
     (AnyDelimiter (c ∷ t))
     (λ e k. quoted_one c t e k)
@@ -61,10 +61,10 @@ delimiter_back c t h = from_test (c == 34) (move.One (sym.Folder folder.Delimite
 n_no_quote : (c : ℕ) → lower c ≡ 110 → (c == 34) ≡ false
 n_no_quote c e = grind arith
 
-delimiter_forth : (c : ℕ) (t : List ℕ) → AnyDelimiter (c ∷ t) → After (folder_rule folder.Delimiter c) t
+delimiter_forth : (c : ℕ) (t : List ℕ) → AnyDelimiter (c ∷ t) → AfterMove (folder_rule folder.Delimiter c) t
 delimiter_forth c t h = by h.0 h.1
   where
-    by : (d : Option ℕ) → IsDelimiter d (c ∷ t) → After (folder_rule folder.Delimiter c) t
+    by : (d : Option ℕ) → IsDelimiter d (c ∷ t) → AfterMove (folder_rule folder.Delimiter c) t
     by None n =
         let e : lower c ≡ 110 = cons_head (lower c) 110 (map lower t) (codes "il") n in
         at_false (c == 34) (move.One (sym.Folder folder.DelimiterOctet)) (cond (lower c == 110) (move.One (sym.Line (line.Folded phrase.Nil 1))) move.Fail) t (n_no_quote c e)
@@ -75,7 +75,7 @@ delimiter_forth c t h = by h.0 h.1
         (eq-eqb c 34 (cons_head c 34 t rest q.1))
         (d, q.0.0, cons_tail c 34 t rest q.1)
 
-octet_back : (c : ℕ) (t : List ℕ) → After (folder_rule folder.DelimiterOctet c) t → DelimiterRest (c ∷ t)
+octet_back : (c : ℕ) (t : List ℕ) → AfterMove (folder_rule folder.DelimiterOctet c) t → DelimiterRest (c ∷ t)
 octet_back c t h = from_test (c == 34) move.Fail (cond (c == 92) (move.One (sym.Folder folder.DelimiterEscaped))
     (cond (is_text c) (move.One (sym.Line (line.Fixed phrase.Quote 0))) move.Fail)) t (DelimiterRest (c ∷ t))
     (λ e k. absurd k)
@@ -86,7 +86,7 @@ octet_back c t h = from_test (c == 34) move.Fail (cond (c == 92) (move.One (sym.
     (λ g m. (c, g, ap (λ (u : List ℕ). c ∷ u) m ∙ sym (escaped_self c [] (from_parts c e f))))
     (λ g m. absurd m) l) k) h
 
-octet_at : (d c : ℕ) (t : List ℕ) (b : Bool) → (d == 34 || d == 92) ≡ b → is_text d ≡ true → c ∷ t ≡ escaped (d ∷ []) ++ 34 ∷ [] → After (folder_rule folder.DelimiterOctet c) t
+octet_at : (d c : ℕ) (t : List ℕ) (b : Bool) → (d == 34 || d == 92) ≡ b → is_text d ≡ true → c ∷ t ≡ escaped (d ∷ []) ++ 34 ∷ [] → AfterMove (folder_rule folder.DelimiterOctet c) t
 octet_at d c t true f is e =
     let g : c ∷ t ≡ 92 ∷ d ∷ 34 ∷ [] = e ∙ escaped_pair d [] f in
     let slash : c ≡ 92 = cons_head c 92 t (d ∷ 34 ∷ []) g in
@@ -104,33 +104,33 @@ octet_at d c t false f is e =
     (ap (λ (n : ℕ). n == 92) same ∙ apart.1)
     (at_true (is_text c) (move.One (sym.Line (line.Fixed phrase.Quote 0))) move.Fail t (is_true_at is_text c d same is) (cons_tail c d t (34 ∷ []) g)))
 
-octet_forth : (c : ℕ) (t : List ℕ) → DelimiterRest (c ∷ t) → After (folder_rule folder.DelimiterOctet c) t
+octet_forth : (c : ℕ) (t : List ℕ) → DelimiterRest (c ∷ t) → AfterMove (folder_rule folder.DelimiterOctet c) t
 octet_forth c t h = octet_at h.0 c t (h.0 == 34 || h.0 == 92) refl h.1 h.2
 
-pair_back : (c : ℕ) (t : List ℕ) → After (folder_rule folder.DelimiterEscaped c) t → DelimiterPair (c ∷ t)
+pair_back : (c : ℕ) (t : List ℕ) → AfterMove (folder_rule folder.DelimiterEscaped c) t → DelimiterPair (c ∷ t)
 pair_back c t h = from_test (c == 34 || c == 92) (move.One (sym.Line (line.Fixed phrase.Quote 0))) move.Fail t (DelimiterPair (c ∷ t)) (λ e k. (c, e, ap (λ (u : List ℕ). c ∷ u) k))
     (λ e k. absurd k) h
 
-pair_forth : (c : ℕ) (t : List ℕ) → DelimiterPair (c ∷ t) → After (folder_rule folder.DelimiterEscaped c) t
+pair_forth : (c : ℕ) (t : List ℕ) → DelimiterPair (c ∷ t) → AfterMove (folder_rule folder.DelimiterEscaped c) t
 pair_forth c t h =
     at_true (c == 34 || c == 92) (move.One (sym.Line (line.Fixed phrase.Quote 0))) move.Fail t (ap (λ (n : ℕ). n == 34 || n == 92) (cons_head c h.0 t (34 ∷ []) h.2) ∙ h.1)
     (cons_tail c h.0 t (34 ∷ []) h.2)
 
-name_back : (c : ℕ) (t : List ℕ) → After (folder_rule folder.Name c) t → NameLine (c ∷ t)
+name_back : (c : ℕ) (t : List ℕ) → AfterMove (folder_rule folder.Name c) t → NameLine (c ∷ t)
 name_back c t h = from_test (c == 32) (move.Two (sym.Str str.AString) (sym.Folder folder.ListEnd)) move.Fail t (NameLine (c ∷ t)) (λ e k. spaced_to (Then IsFlat IsListEnd) c t e k)
     (λ e k. absurd k) h
 
-name_forth : (c : ℕ) (t : List ℕ) → NameLine (c ∷ t) → After (folder_rule folder.Name c) t
+name_forth : (c : ℕ) (t : List ℕ) → NameLine (c ∷ t) → AfterMove (folder_rule folder.Name c) t
 name_forth c t h = let k = spaced_is (Then IsFlat IsListEnd) c t h in at_true (c == 32) (move.Two (sym.Str str.AString) (sym.Folder folder.ListEnd)) move.Fail t k.0 k.1
 
-end_back : (c : ℕ) (t : List ℕ) → After (folder_rule folder.ListEnd c) t → IsListEnd (c ∷ t)
+end_back : (c : ℕ) (t : List ℕ) → AfterMove (folder_rule folder.ListEnd c) t → IsListEnd (c ∷ t)
 end_back c t h = from_test (c == 32) (move.Two (sym.Value value.Start) (sym.Line (line.Fixed phrase.Crlf 0)))
     (cond (c == 13) (move.One (sym.Line (line.Fixed phrase.Crlf 1))) move.Fail) t (IsListEnd (c ∷ t))
     (λ e k. inr (k.front, ap (λ (n : ℕ). n ∷ t) (eqb-true c 32 e) ∙ ap (λ (u : List ℕ). 32 ∷ u) (k.whole ∙ ap (λ (u : List ℕ). k.front ++ u) k.second), k.first))
     (λ e k. from_test (c == 13) (move.One (sym.Line (line.Fixed phrase.Crlf 1))) move.Fail t (IsListEnd (c ∷ t)) (λ f l. inl (crlf_of c t (eqb-true c 13 f) l))
     (λ f l. absurd l) k) h
 
-end_forth : (c : ℕ) (t : List ℕ) → IsListEnd (c ∷ t) → After (folder_rule folder.ListEnd c) t
+end_forth : (c : ℕ) (t : List ℕ) → IsListEnd (c ∷ t) → AfterMove (folder_rule folder.ListEnd c) t
 end_forth c t (inl e) =
     let k = crlf_parts c t e in
     at_false (c == 32) (move.Two (sym.Value value.Start) (sym.Line (line.Fixed phrase.Crlf 0))) (cond (c == 13) (move.One (sym.Line (line.Fixed phrase.Crlf 1))) move.Fail) t
@@ -143,11 +143,11 @@ end_forth c t (inr v) =
 
 -- ---- STATUS
 
-one_back : (octet : ℕ) (next : Folder) (c : ℕ) (t : List ℕ) → After (octet_rule octet next c) t → (rest : List ℕ) × (c ∷ t ≡ octet ∷ rest) × FolderLang next rest
+one_back : (octet : ℕ) (next : Folder) (c : ℕ) (t : List ℕ) → AfterMove (octet_rule octet next c) t → (rest : List ℕ) × (c ∷ t ≡ octet ∷ rest) × FolderLang next rest
 one_back octet next c t h = from_test (c == octet) (move.One (sym.Folder next)) move.Fail t ((rest : List ℕ) × (c ∷ t ≡ octet ∷ rest) × FolderLang next rest)
     (λ e k. (t, ap (λ (n : ℕ). n ∷ t) (eqb-true c octet e), k)) (λ e k. absurd k) h
 
-one_forth : (octet : ℕ) (next : Folder) (c : ℕ) (t : List ℕ) → (rest : List ℕ) × (c ∷ t ≡ octet ∷ rest) × FolderLang next rest → After (octet_rule octet next c) t
+one_forth : (octet : ℕ) (next : Folder) (c : ℕ) (t : List ℕ) → (rest : List ℕ) × (c ∷ t ≡ octet ∷ rest) × FolderLang next rest → AfterMove (octet_rule octet next c) t
 one_forth octet next c t h = at_true (c == octet) (move.One (sym.Folder next)) move.Fail t (eq-eqb c octet (cons_head c octet t h.0 h.1))
     (subst (FolderLang next) (sym (cons_tail c octet t h.0 h.1)) h.2)
 
@@ -191,21 +191,21 @@ word_more Front c t f h = record {
 begun : (c : ℕ) → is_status_word c ≡ true → (w : List ℕ) → Each is_status_word w → IsStatusWord (c ∷ w)
 begun c e w h = ((e, h), omega arith)
 
-count_back : (c : ℕ) (t : List ℕ) → After (folder_rule folder.Count c) t → WordCount IsStatusWord (c ∷ t)
+count_back : (c : ℕ) (t : List ℕ) → AfterMove (folder_rule folder.Count c) t → WordCount IsStatusWord (c ∷ t)
 count_back c t h = from_test (is_status_word c) (move.One (sym.Folder folder.CountWord)) move.Fail t (WordCount IsStatusWord (c ∷ t))
     (λ e k. word_more IsStatusWord c t (begun c e) k) (λ e k. absurd k) h
 
-count_at : (c : ℕ) (t w digits rest : List ℕ) → c ∷ t ≡ w ++ (32 ∷ digits ++ rest) → IsStatusWord w → LongRest 0 0 digits → MoreCounts rest → After (folder_rule folder.Count c) t
+count_at : (c : ℕ) (t w digits rest : List ℕ) → c ∷ t ≡ w ++ (32 ∷ digits ++ rest) → IsStatusWord w → LongRest 0 0 digits → MoreCounts rest → AfterMove (folder_rule folder.Count c) t
 count_at c t [] digits rest e s l m = absurd (omega (arith, s.1))
 count_at c t (d ∷ w) digits rest e s l m =
     let same : c ≡ d = cons_head c d t (w ++ (32 ∷ digits ++ rest)) e in
     at_true (is_status_word c) (move.One (sym.Folder folder.CountWord)) move.Fail t (is_true_at is_status_word c d same s.0.0)
     (record { word = w; digits = digits; rest = rest; whole = cons_tail c d t (w ++ (32 ∷ digits ++ rest)) e; front = s.0.1; number = l; more = m })
 
-count_forth : (c : ℕ) (t : List ℕ) → WordCount IsStatusWord (c ∷ t) → After (folder_rule folder.Count c) t
+count_forth : (c : ℕ) (t : List ℕ) → WordCount IsStatusWord (c ∷ t) → AfterMove (folder_rule folder.Count c) t
 count_forth c t h = count_at c t h.word h.digits h.rest h.whole h.front h.number h.more
 
-first_back : (c : ℕ) (t : List ℕ) → After (folder_rule folder.FirstCount c) t → AnyCounts (c ∷ t)
+first_back : (c : ℕ) (t : List ℕ) → AfterMove (folder_rule folder.FirstCount c) t → AnyCounts (c ∷ t)
 first_back c t h = from_test (c == 41) (move.One (sym.Line (line.Fixed phrase.Crlf 0))) (cond (is_status_word c) (move.One (sym.Folder folder.CountWord)) move.Fail) t
     (AnyCounts (c ∷ t))
     (λ e k. ([], ap (λ (n : ℕ). n ∷ t) (eqb-true c 41 e) ∙ ap (λ (u : List ℕ). 41 ∷ u) k))
@@ -221,7 +221,7 @@ count_first c t h = by h.word h.whole h.front
     by [] e s = absurd (omega (arith, s.1))
     by (d ∷ w) e s = ap (λ (n : ℕ). n == 41) (cons_head c d t (w ++ (32 ∷ h.digits ++ h.rest)) e) ∙ word_no_close d s.0.0
 
-first_at : (cs : List (List ℕ × ℕ)) (c : ℕ) (t : List ℕ) → IsCounts cs (c ∷ t) → After (folder_rule folder.FirstCount c) t
+first_at : (cs : List (List ℕ × ℕ)) (c : ℕ) (t : List ℕ) → IsCounts cs (c ∷ t) → AfterMove (folder_rule folder.FirstCount c) t
 first_at [] c t e =
     at_true (c == 41) (move.One (sym.Line (line.Fixed phrase.Crlf 0))) (cond (is_status_word c) (move.One (sym.Folder folder.CountWord)) move.Fail) t
     (eq-eqb c 41 (cons_head c 41 t crlf e)) (cons_tail c 41 t crlf e)
@@ -230,7 +230,7 @@ first_at (k ∷ cs) c t h =
     at_false (c == 41) (move.One (sym.Line (line.Fixed phrase.Crlf 0))) (cond (is_status_word c) (move.One (sym.Folder folder.CountWord)) move.Fail) t (count_first c t w)
     (count_forth c t w)
 
-word_back : (c : ℕ) (t : List ℕ) → After (folder_rule folder.CountWord c) t → WordCount (Each is_status_word) (c ∷ t)
+word_back : (c : ℕ) (t : List ℕ) → AfterMove (folder_rule folder.CountWord c) t → WordCount (Each is_status_word) (c ∷ t)
 word_back c t h = from_test (is_status_word c) (move.One (sym.Folder folder.CountWord))
     (cond (c == 32) (move.Two (sym.Item (item.Long 0 0)) (sym.Folder folder.MoreCounts)) move.Fail) t (WordCount (Each is_status_word) (c ∷ t))
     (λ e k. word_more (Each is_status_word) c t (λ w f. (e, f)) k)
@@ -250,7 +250,7 @@ space_no_word : (c : ℕ) → c ≡ 32 → is_status_word c ≡ false
 space_no_word c e = ap is_status_word e
 
 word_at : (c : ℕ) (t w digits rest : List ℕ) → c ∷ t ≡ w ++ (32 ∷ digits ++ rest) → Each is_status_word w → LongRest 0 0 digits → MoreCounts rest
-    → After (folder_rule folder.CountWord c) t
+    → AfterMove (folder_rule folder.CountWord c) t
 word_at c t [] digits rest e s l m =
     let same : c ≡ 32 = cons_head c 32 t (digits ++ rest) e in
     at_false (is_status_word c) (move.One (sym.Folder folder.CountWord)) (cond (c == 32) (move.Two (sym.Item (item.Long 0 0)) (sym.Folder folder.MoreCounts)) move.Fail) t
@@ -263,13 +263,13 @@ word_at c t (d ∷ w) digits rest e s l m =
     (is_true_at is_status_word c d same s.0)
     (record { word = w; digits = digits; rest = rest; whole = cons_tail c d t (w ++ (32 ∷ digits ++ rest)) e; front = s.1; number = l; more = m })
 
-more_back : (c : ℕ) (t : List ℕ) → After (folder_rule folder.MoreCounts c) t → MoreCounts (c ∷ t)
+more_back : (c : ℕ) (t : List ℕ) → AfterMove (folder_rule folder.MoreCounts c) t → MoreCounts (c ∷ t)
 more_back c t h = from_test (c == 32) (move.One (sym.Folder folder.Count)) (cond (c == 41) (move.One (sym.Line (line.Fixed phrase.Crlf 0))) move.Fail) t (MoreCounts (c ∷ t))
     (λ e k. let j = count_join t k in (j.0 ∷ j.1, (j.2.front, j.2.back, ap (λ (n : ℕ). n ∷ t) (eqb-true c 32 e) ∙ ap (λ (u : List ℕ). 32 ∷ u) j.2.whole, j.2.first, j.2.second)))
     (λ e k. from_test (c == 41) (move.One (sym.Line (line.Fixed phrase.Crlf 0))) move.Fail t (MoreCounts (c ∷ t))
     (λ f l. ([], ap (λ (n : ℕ). n ∷ t) (eqb-true c 41 f) ∙ ap (λ (u : List ℕ). 41 ∷ u) l)) (λ f l. absurd l) k) h
 
-more_at : (cs : List (List ℕ × ℕ)) (c : ℕ) (t : List ℕ) → IsMoreCounts cs (c ∷ t) → After (folder_rule folder.MoreCounts c) t
+more_at : (cs : List (List ℕ × ℕ)) (c : ℕ) (t : List ℕ) → IsMoreCounts cs (c ∷ t) → AfterMove (folder_rule folder.MoreCounts c) t
 more_at [] c t e =
     let same : c ≡ 41 = cons_head c 41 t crlf e in
     at_false (c == 32) (move.One (sym.Folder folder.Count)) (cond (c == 41) (move.One (sym.Line (line.Fixed phrase.Crlf 0))) move.Fail) t (ap (λ (n : ℕ). n == 32) same)
@@ -281,7 +281,7 @@ more_at (k ∷ cs) c t h =
 
 -- ---- the group
 
-pub folder_back : (s : Folder) (c : ℕ) (t : List ℕ) → After (folder_rule s c) t → FolderLang s (c ∷ t)
+pub folder_back : (s : Folder) (c : ℕ) (t : List ℕ) → AfterMove (folder_rule s c) t → FolderLang s (c ∷ t)
 folder_back folder.Attributes c t h = attributes_back c t h
 folder_back folder.Delimiter c t h = delimiter_back c t h
 folder_back folder.DelimiterOctet c t h = octet_back c t h
@@ -295,7 +295,7 @@ folder_back folder.Count c t h = count_back c t h
 folder_back folder.CountWord c t h = word_back c t h
 folder_back folder.MoreCounts c t h = more_back c t h
 
-pub folder_forth : (s : Folder) (c : ℕ) (t : List ℕ) → FolderLang s (c ∷ t) → After (folder_rule s c) t
+pub folder_forth : (s : Folder) (c : ℕ) (t : List ℕ) → FolderLang s (c ∷ t) → AfterMove (folder_rule s c) t
 folder_forth folder.Attributes c t h = attributes_forth c t h
 folder_forth folder.Delimiter c t h = delimiter_forth c t h
 folder_forth folder.DelimiterOctet c t h = octet_forth c t h

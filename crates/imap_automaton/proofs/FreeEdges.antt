@@ -12,7 +12,7 @@ use Rattle.pushdown.specs.declared.moves.Move.TheVariants as move
 use Rattle.imap_automaton.specs.Counts.{pend, pends}
 use Rattle.imap_automaton.specs.FreeRules.{free_end, text_rule, free_rule}
 use Rattle.imap_automaton.specs.Fits.{FreeFits}
-use Rattle.imap_automaton.specs.Langs.{NoCount, IsFreeFrom, OctetsRest, FreeLang, After}
+use Rattle.imap_automaton.specs.Langs.{NoCount, IsFreeFrom, OctetsRest, FreeLang, AfterMove}
 use Rattle.pushdown.proofs.Lists.{cons_head, cons_tail, no_append}
 use Rattle.imap_automaton.proofs.Tests.{from_test, to_test, at_true, at_false, is_true_at, text_not_cr, crlf_of, crlf_parts, mid}
 use Rattle.imap_syntax.specs.Octets.{is_text, is_inside}
@@ -23,7 +23,7 @@ use Rattle.imap_syntax.specs.Texts.{Each, crlf}
 end_none : (s : Pending) (t : List ℕ) → NoCount s → t ≡ 10 ∷ [] → (k : ℕ) × IsFreeFrom k s (13 ∷ t)
 end_none s t n h = (0, record { text = []; whole = crlf_of 13 t refl h; text_is = tt; no_count = n })
 
-end_back : (s : Pending) (t : List ℕ) → After (free_end s) t → (k : ℕ) × IsFreeFrom k s (13 ∷ t)
+end_back : (s : Pending) (t : List ℕ) → AfterMove (free_end s) t → (k : ℕ) × IsFreeFrom k s (13 ∷ t)
 end_back pending.Nothing t h = end_none pending.Nothing t tt h
 end_back (pending.Open v n) t h = end_none (pending.Open v n) t tt h
 end_back (pending.Closed v) t h = from_test (nat_le v 50000000) (move.Two (sym.Free (free.Break v)) (sym.Free (free.Text pending.Nothing))) move.Fail t
@@ -62,7 +62,7 @@ more_back (suc k) s c t e h = record {
   goes_on = h.goes_on;
 }
 
-pub text_back : (s : Pending) (c : ℕ) (t : List ℕ) → After (text_rule s c) t → FreeLang (free.Text s) (c ∷ t)
+pub text_back : (s : Pending) (c : ℕ) (t : List ℕ) → AfterMove (text_rule s c) t → FreeLang (free.Text s) (c ∷ t)
 text_back s c t h = from_test (c == 13) (free_end s) (cond (is_text c) (move.One (sym.Free (free.Text (pend s c)))) move.Fail) t (FreeLang (free.Text s) (c ∷ t))
     (λ e k. subst (λ (n : ℕ). FreeLang (free.Text s) (n ∷ t)) (sym (eqb-true c 13 e)) (end_back s t k))
     (λ e k. from_test (is_text c) (move.One (sym.Free (free.Text (pend s c)))) move.Fail t (FreeLang (free.Text s) (c ∷ t)) (λ f l. (l.0, more_back l.0 s c t f l.1))
@@ -72,12 +72,12 @@ text_back s c t h = from_test (c == 13) (free_end s) (cond (is_text c) (move.One
 pub goes_back : (s : Pending) (c : ℕ) (t : List ℕ) → is_text c ≡ true → FreeLang (free.Text (pend s c)) t → FreeLang (free.Text s) (c ∷ t)
 goes_back s c t e h = (h.0, more_back h.0 s c t e h.1)
 
-end_plain : (s : Pending) (t : List ℕ) → NoCount s → t ≡ 10 ∷ [] → After (free_end s) t
+end_plain : (s : Pending) (t : List ℕ) → NoCount s → t ≡ 10 ∷ [] → AfterMove (free_end s) t
 end_plain pending.Nothing t n h = h
 end_plain (pending.Open v m) t n h = h
 end_plain (pending.Closed v) t n h = absurd n
 
-at_end : (s : Pending) (c : ℕ) (t text : List ℕ) → c ∷ t ≡ text ++ crlf → Each is_text text → NoCount (pends s text) → After (text_rule s c) t
+at_end : (s : Pending) (c : ℕ) (t text : List ℕ) → c ∷ t ≡ text ++ crlf → Each is_text text → NoCount (pends s text) → AfterMove (text_rule s c) t
 at_end s c t [] e f n =
     let k = crlf_parts c t e in
     at_true (c == 13) (free_end s) (cond (is_text c) (move.One (sym.Free (free.Text (pend s c)))) move.Fail) t (eq-eqb c 13 k.0) (end_plain s t n k.1)
@@ -89,10 +89,10 @@ at_end s c t (d ∷ x) e f n =
     (0, record { text = x; whole = cons_tail c d t (x ++ crlf) e; text_is = f.1; no_count = subst (λ (q : ℕ). NoCount (pends (pend s q) x)) (sym same) n }))
 
 at_literal : (k : ℕ) (s : Pending) (c v : ℕ) (t text o rest : List ℕ) → c ∷ t ≡ text ++ 13 ∷ 10 ∷ o ++ rest → Each is_text text → pends s text ≡ pending.Closed v → v ≤ 50000000
-    → length o ≡ v → Each is_inside o → IsFreeFrom k pending.Nothing rest → After (text_rule s c) t
+    → length o ≡ v → Each is_inside o → IsFreeFrom k pending.Nothing rest → AfterMove (text_rule s c) t
 at_literal k s c v t [] o rest e f n le len ins g =
     at_true (c == 13) (free_end s) (cond (is_text c) (move.One (sym.Free (free.Text (pend s c)))) move.Fail) t (eq-eqb c 13 (cons_head c 13 t (10 ∷ o ++ rest) e))
-    (subst (λ (q : Pending). After (free_end q) t) (sym n)
+    (subst (λ (q : Pending). AfterMove (free_end q) t) (sym n)
     (at_true (nat_le v 50000000) (move.Two (sym.Free (free.Break v)) (sym.Free (free.Text pending.Nothing))) move.Fail t (le-leb v 50000000 le)
     (record { front = 10 ∷ o; back = rest; whole = cons_tail c 13 t (10 ∷ o ++ rest) e; first = (o, refl, record { counted = len; inside = ins }); second = (k, g) })))
 at_literal k s c v t (d ∷ x) o rest e f n le len ins g =
@@ -116,11 +116,11 @@ at_literal k s c v t (d ∷ x) o rest e f n le len ins g =
       },
     ))
 
-free_at : (k : ℕ) (s : Pending) (c : ℕ) (t : List ℕ) → IsFreeFrom k s (c ∷ t) → After (text_rule s c) t
+free_at : (k : ℕ) (s : Pending) (c : ℕ) (t : List ℕ) → IsFreeFrom k s (c ∷ t) → AfterMove (text_rule s c) t
 free_at zero s c t h = at_end s c t h.text h.whole h.text_is h.no_count
 free_at (suc k) s c t h = at_literal k s c h.count t h.text h.octets h.rest h.whole h.text_is h.counted h.most h.length_is h.inside h.goes_on
 
-pub text_forth : (s : Pending) (c : ℕ) (t : List ℕ) → FreeLang (free.Text s) (c ∷ t) → After (text_rule s c) t
+pub text_forth : (s : Pending) (c : ℕ) (t : List ℕ) → FreeLang (free.Text s) (c ∷ t) → AfterMove (text_rule s c) t
 text_forth s c t h = free_at h.0 s c t h.1
 
 -- after an octet of text
@@ -147,7 +147,7 @@ free_some (pending.Closed v) = (0, record { text = 120 ∷ []; whole = refl; tex
 after_nothing : (n : ℕ) (t : List ℕ) → n ≡ 0 → t ≡ [] → OctetsRest n t
 after_nothing n t e f = record { counted = cc; inside = subst (λ (u : List ℕ). Each is_inside u) (sym f) tt }
 
-pub break_back : (n c : ℕ) (t : List ℕ) → After (free_rule (free.Break n) c) t → FreeLang (free.Break n) (c ∷ t)
+pub break_back : (n c : ℕ) (t : List ℕ) → AfterMove (free_rule (free.Break n) c) t → FreeLang (free.Break n) (c ∷ t)
 break_back n c t h = from_test (c == 10) (cond (n == 0) move.End (move.One (sym.Free (free.Octets n)))) move.Fail t (FreeLang (free.Break n) (c ∷ t))
     (λ e k. (
       t,
@@ -156,13 +156,13 @@ break_back n c t h = from_test (c == 10) (cond (n == 0) move.End (move.One (sym.
     ))
     (λ e k. absurd k) h
 
-pub break_forth : (n c : ℕ) (t : List ℕ) → FreeLang (free.Break n) (c ∷ t) → After (free_rule (free.Break n) c) t
+pub break_forth : (n c : ℕ) (t : List ℕ) → FreeLang (free.Break n) (c ∷ t) → AfterMove (free_rule (free.Break n) c) t
 break_forth n c t h =
     let r : OctetsRest n t = subst (OctetsRest n) (sym (cons_tail c 10 t h.0 h.1)) h.2 in
     at_true (c == 10) (cond (n == 0) move.End (move.One (sym.Free (free.Octets n)))) move.Fail t (eq-eqb c 10 (cons_head c 10 t h.0 h.1))
     (to_test (n == 0) move.End (move.One (sym.Free (free.Octets n))) t (λ e. nil_from_length t (r.counted ∙ eqb-true n 0 e)) (λ e. r))
 
-pub octets_back : (n c : ℕ) (t : List ℕ) → After (free_rule (free.Octets n) c) t → FreeLang (free.Octets n) (c ∷ t)
+pub octets_back : (n c : ℕ) (t : List ℕ) → AfterMove (free_rule (free.Octets n) c) t → FreeLang (free.Octets n) (c ∷ t)
 octets_back n c t h = from_test (nat_le 256 c && nat_lt c 512 && nat_lt 0 n) (cond (n == 1) move.End (move.One (sym.Free (free.Octets (n - 1))))) move.Fail t (OctetsRest n (c ∷ t))
     (λ e k.
     let b = and_parts (nat_le 256 c && nat_lt c 512) (nat_lt 0 n) e in
@@ -171,7 +171,7 @@ octets_back n c t h = from_test (nat_le 256 c && nat_lt c 512 && nat_lt 0 n) (co
     (λ f l. record { counted = omega (arith, l.counted, ltb-true 0 n b.1); inside = (b.0, l.inside) }) k)
     (λ e k. absurd k) h
 
-pub octets_forth : (n c : ℕ) (t : List ℕ) → FreeLang (free.Octets n) (c ∷ t) → After (free_rule (free.Octets n) c) t
+pub octets_forth : (n c : ℕ) (t : List ℕ) → FreeLang (free.Octets n) (c ∷ t) → AfterMove (free_rule (free.Octets n) c) t
 octets_forth n c t h =
     at_true (nat_le 256 c && nat_lt c 512 && nat_lt 0 n) (cond (n == 1) move.End (move.One (sym.Free (free.Octets (n - 1))))) move.Fail t
     (and_from _ _ h.inside.0 (lt-ltb 0 n (omega (arith, h.counted))))
@@ -187,12 +187,12 @@ octets_some n = record { counted = length-replicate n 256; inside = inside n }
 
 -- ---- the group
 
-pub free_back : (s : Free) (c : ℕ) (t : List ℕ) → After (free_rule s c) t → FreeLang s (c ∷ t)
+pub free_back : (s : Free) (c : ℕ) (t : List ℕ) → AfterMove (free_rule s c) t → FreeLang s (c ∷ t)
 free_back (free.Text s) c t h = text_back s c t h
 free_back (free.Break n) c t h = break_back n c t h
 free_back (free.Octets n) c t h = octets_back n c t h
 
-pub free_forth : (s : Free) (c : ℕ) (t : List ℕ) → FreeLang s (c ∷ t) → After (free_rule s c) t
+pub free_forth : (s : Free) (c : ℕ) (t : List ℕ) → FreeLang s (c ∷ t) → AfterMove (free_rule s c) t
 free_forth (free.Text s) c t h = text_forth s c t h
 free_forth (free.Break n) c t h = break_forth n c t h
 free_forth (free.Octets n) c t h = octets_forth n c t h

@@ -20,7 +20,7 @@ use Rattle.imap_automaton.specs.Fits.{ItemFits}
 use Rattle.imap_automaton.specs.Flow.{stops}
 use Rattle.imap_automaton.proofs.KeyLemmas.{key_some}
 use Rattle.imap_automaton.proofs.OtherItems.{named_atoms, other_from, other_to}
-use Rattle.imap_automaton.specs.Langs.{NumberRest, LongRest, ItemLang, Among, IsBehind, WordSays, WordRest, Lang, After}
+use Rattle.imap_automaton.specs.Langs.{NumberRest, LongRest, ItemLang, Among, IsBehind, WordSays, WordRest, Lang, AfterMove}
 use Rattle.pushdown.proofs.Lists.{cons_head, cons_tail}
 use Rattle.imap_automaton.proofs.Tests.{from_test, at_true, at_false, is_true_at}
 use Rattle.imap_automaton.proofs.Rests.{value_mono, number_from, number_to, long_from, long_to}
@@ -39,7 +39,7 @@ next_fits v n c = nat_lt n 10 && nat_le (10 * v + (c - 48)) 4294967295 && not (1
 pub number_more : (v n c : ℕ) (t : List ℕ) → is_digit c ≡ true → NumberRest (10 * v + (c - 48)) (n + 1) t → NumberRest v n (c ∷ t)
 number_more v n c t e h = record { each = (e, h.each); some = omega arith; few = omega (arith, h.few); most = h.most; not_zero = h.not_zero }
 
-number_back : (v n c : ℕ) (t : List ℕ) → After (number_rule v n c) t → NumberRest v n (c ∷ t)
+number_back : (v n c : ℕ) (t : List ℕ) → AfterMove (number_rule v n c) t → NumberRest v n (c ∷ t)
 number_back v n c t h =
     let w : ℕ = 10 * v + (c - 48) in
     from_test (is_digit c)
@@ -67,7 +67,7 @@ number_goes v n c t h =
       record { each = h.each.1; some = omega arith; few = omega (arith, few); most = h.most; not_zero = h.not_zero },
     )
 
-number_forth : (v n c : ℕ) (t : List ℕ) → NumberRest v n (c ∷ t) → After (number_rule v n c) t
+number_forth : (v n c : ℕ) (t : List ℕ) → NumberRest v n (c ∷ t) → AfterMove (number_rule v n c) t
 number_forth v n c t h =
     let k = number_goes v n c t h in
     at_true (is_digit c)
@@ -113,7 +113,7 @@ number_yields v n c fits e =
 abbrev long_next : ℕ → ℕ → ℕ → Bool
 long_next v n c = nat_lt n 19 && nat_le (10 * v + (c - 48)) 9223372036854775807
 
-long_back : (v n c : ℕ) (t : List ℕ) → After (long_rule v n c) t → LongRest v n (c ∷ t)
+long_back : (v n c : ℕ) (t : List ℕ) → AfterMove (long_rule v n c) t → LongRest v n (c ∷ t)
 long_back v n c t h =
     let w : ℕ = 10 * v + (c - 48) in
     from_test (is_digit c)
@@ -124,7 +124,7 @@ long_back v n c t h =
     (λ f l. absurd l) a)
     (λ e a. from_test (nat_lt 0 n) move.Yield move.Fail t (LongRest v n (c ∷ t)) (λ f l. absurd l) (λ f l. absurd l) a) h
 
-long_forth : (v n c : ℕ) (t : List ℕ) → LongRest v n (c ∷ t) → After (long_rule v n c) t
+long_forth : (v n c : ℕ) (t : List ℕ) → LongRest v n (c ∷ t) → AfterMove (long_rule v n c) t
 long_forth v n c t h =
     let w : ℕ = 10 * v + (c - 48) in
     let few : n + (1 + length t) ≤ 19 = omega (arith, h.few) in
@@ -150,12 +150,12 @@ long_yields v n c fits e =
     let some : nat_lt 0 n ≡ true = ended (is_digit c) (long_next v n c) (nat_lt 0 n) (sym.Item (item.Long (10 * v + (c - 48)) (n + 1))) e in
     record { each = tt; some = omega (arith, ltb-true 0 n some); few = omega (arith, leb-true _ _ a.0); most = leb-true _ _ a.1 }
 
-long_open_back : (c : ℕ) (t : List ℕ) → After (item_rule item.LongOpen c) t → ItemLang item.LongOpen (c ∷ t)
+long_open_back : (c : ℕ) (t : List ℕ) → AfterMove (item_rule item.LongOpen c) t → ItemLang item.LongOpen (c ∷ t)
 long_open_back c t h = from_test (c == 40) (move.Two (sym.Item (item.Long 0 0)) (sym.Line (line.Fixed phrase.Close 0))) move.Fail t (ItemLang item.LongOpen (c ∷ t))
     (λ e k. (k.front, ap (λ (d : ℕ). d ∷ t) (eqb-true c 40 e) ∙ ap (λ (u : List ℕ). 40 ∷ u) (k.whole ∙ ap (λ (u : List ℕ). k.front ++ u) k.second), k.first))
     (λ e k. absurd k) h
 
-long_open_forth : (c : ℕ) (t : List ℕ) → ItemLang item.LongOpen (c ∷ t) → After (item_rule item.LongOpen c) t
+long_open_forth : (c : ℕ) (t : List ℕ) → ItemLang item.LongOpen (c ∷ t) → AfterMove (item_rule item.LongOpen c) t
 long_open_forth c t h =
     at_true (c == 40) (move.Two (sym.Item (item.Long 0 0)) (sym.Line (line.Fixed phrase.Close 0))) move.Fail t (eq-eqb c 40 (cons_head c 40 t (h.0 ++ 41 ∷ []) h.1))
     (record { front = h.0; back = 41 ∷ []; whole = cons_tail c 40 t (h.0 ++ 41 ∷ []) h.1; first = h.2; second = refl })
@@ -238,17 +238,17 @@ items_to : (is : List items.Item) (t : List ℕ) → items.IsItems is t → Then
 items_to [] t h = absurd h
 items_to (i ∷ is) t h = record { front = h.front; back = h.back; whole = h.whole; first = item_to i h.front h.first; second = (is, h.second) }
 
-open_back : (c : ℕ) (t : List ℕ) → After (item_rule item.Open c) t → ItemLang item.Open (c ∷ t)
+open_back : (c : ℕ) (t : List ℕ) → AfterMove (item_rule item.Open c) t → ItemLang item.Open (c ∷ t)
 open_back c t h = from_test (c == 40) (move.Two item_start (sym.Item item.More)) move.Fail t (ItemLang item.Open (c ∷ t))
     (λ e k. let i = items_from t k in (i.0, t, ap (λ (d : ℕ). d ∷ t) (eqb-true c 40 e), i.1))
     (λ e k. absurd k) h
 
-open_forth : (c : ℕ) (t : List ℕ) → ItemLang item.Open (c ∷ t) → After (item_rule item.Open c) t
+open_forth : (c : ℕ) (t : List ℕ) → ItemLang item.Open (c ∷ t) → AfterMove (item_rule item.Open c) t
 open_forth c t h =
     at_true (c == 40) (move.Two item_start (sym.Item item.More)) move.Fail t (eq-eqb c 40 (cons_head c 40 t h.1 h.2))
     (items_to h.0 t (subst (items.IsItems h.0) (sym (cons_tail c 40 t h.1 h.2)) h.3))
 
-more_back : (c : ℕ) (t : List ℕ) → After (item_rule item.More c) t → ItemLang item.More (c ∷ t)
+more_back : (c : ℕ) (t : List ℕ) → AfterMove (item_rule item.More c) t → ItemLang item.More (c ∷ t)
 more_back c t h = from_test (c == 32) (move.Two item_start (sym.Item item.More)) (cond (c == 41) (move.One (sym.Line (line.Fixed phrase.Crlf 0))) move.Fail) t
     (ItemLang item.More (c ∷ t))
     (λ e k.
@@ -257,7 +257,7 @@ more_back c t h = from_test (c == 32) (move.Two item_start (sym.Item item.More))
     (λ e k. from_test (c == 41) (move.One (sym.Line (line.Fixed phrase.Crlf 0))) move.Fail t (ItemLang item.More (c ∷ t))
     (λ f l. ([], ap (λ (d : ℕ). d ∷ t) (eqb-true c 41 f) ∙ ap (λ (u : List ℕ). 41 ∷ u) l)) (λ f l. absurd l) k) h
 
-more_at : (is : List items.Item) (c : ℕ) (t : List ℕ) → items.IsMore is (c ∷ t) → After (item_rule item.More c) t
+more_at : (is : List items.Item) (c : ℕ) (t : List ℕ) → items.IsMore is (c ∷ t) → AfterMove (item_rule item.More c) t
 more_at [] c t h =
     at_false (c == 32) (move.Two item_start (sym.Item item.More)) (cond (c == 41) (move.One (sym.Line (line.Fixed phrase.Crlf 0))) move.Fail) t
     (ap (λ (d : ℕ). d == 32) (cons_head c 41 t crlf h))
@@ -269,14 +269,14 @@ more_at (i ∷ is) c t h =
 
 -- ---- the group
 
-pub item_back : (s : Item) (c : ℕ) (t : List ℕ) → After (item_rule s c) t → ItemLang s (c ∷ t)
+pub item_back : (s : Item) (c : ℕ) (t : List ℕ) → AfterMove (item_rule s c) t → ItemLang s (c ∷ t)
 item_back item.Open c t h = open_back c t h
 item_back item.More c t h = more_back c t h
 item_back (item.Number v n) c t h = number_back v n c t h
 item_back item.LongOpen c t h = long_open_back c t h
 item_back (item.Long v n) c t h = long_back v n c t h
 
-pub item_forth : (s : Item) (c : ℕ) (t : List ℕ) → ItemLang s (c ∷ t) → After (item_rule s c) t
+pub item_forth : (s : Item) (c : ℕ) (t : List ℕ) → ItemLang s (c ∷ t) → AfterMove (item_rule s c) t
 item_forth item.Open c t h = open_forth c t h
 item_forth item.More c t h = more_at h.0 c t h.1
 item_forth (item.Number v n) c t h = number_forth v n c t h

@@ -12,7 +12,7 @@ use Rattle.pushdown.specs.declared.moves.Move.TheVariants as move
 use Rattle.imap_automaton.specs.ItemNameRules.{may_end, in_section, takes, next_name, name_from, item_name_rule}
 use Rattle.imap_automaton.specs.StringLangs.{QuotedRest}
 use Rattle.imap_automaton.specs.ItemNameLangs.{SectionRest, NameForm, NameRest}
-use Rattle.imap_automaton.specs.Langs.{After}
+use Rattle.imap_automaton.specs.Langs.{AfterMove}
 use Rattle.pushdown.proofs.Lists.{cons_head, cons_tail}
 use Rattle.imap_automaton.proofs.Tests.{from_test, at_true, at_false, both, mid}
 use Rattle.imap_syntax.specs.Octets.{is_digit, is_atom, lower}
@@ -211,7 +211,7 @@ quoted_back name.Section c t e i h =
     }
 quoted_back _ c t e i h = absurd cc
 
-pub item_name_back : (s : ItemName) (c : ℕ) (t : List ℕ) → After (item_name_rule s c) t → NameRest s (c ∷ t)
+pub item_name_back : (s : ItemName) (c : ℕ) (t : List ℕ) → AfterMove (item_name_rule s c) t → NameRest s (c ∷ t)
 item_name_back s c t h = from_test (c == 32 && may_end s) (move.One (sym.Value value.Start))
     (cond (c == 34 && in_section s) (move.Two (sym.Str str.Quoted) (sym.ItemName name.Section)) (cond (takes s c) (move.One (sym.ItemName (next_name s c))) move.Fail)) t
     (NameRest s (c ∷ t))
@@ -232,7 +232,7 @@ goes_no_end name.Part c e = (grind arith, grind arith)
 goes_no_end name.Digits c e = (grind arith, grind arith)
 goes_no_end name.End c e = absurd cc
 
-goes_after : (s : ItemName) (c : ℕ) (t : List ℕ) → takes s c ≡ true → NameRest (next_name s c) t → After (item_name_rule s c) t
+goes_after : (s : ItemName) (c : ℕ) (t : List ℕ) → takes s c ≡ true → NameRest (next_name s c) t → AfterMove (item_name_rule s c) t
 goes_after s c t e h =
     let n = goes_no_end s c e in
     at_false (c == 32 && may_end s) (move.One (sym.Value value.Start))
@@ -240,7 +240,7 @@ goes_after s c t e h =
     (at_false (c == 34 && in_section s) (move.Two (sym.Str str.Quoted) (sym.ItemName name.Section)) (cond (takes s c) (move.One (sym.ItemName (next_name s c))) move.Fail) t n.1
     (at_true (takes s c) (move.One (sym.ItemName (next_name s c))) move.Fail t e h))
 
-quotes_after : (s : ItemName) (c : ℕ) (t : List ℕ) → s ≡ name.Section → c ≡ 34 → Then QuotedRest (NameRest name.Section) t → After (item_name_rule s c) t
+quotes_after : (s : ItemName) (c : ℕ) (t : List ℕ) → s ≡ name.Section → c ≡ 34 → Then QuotedRest (NameRest name.Section) t → AfterMove (item_name_rule s c) t
 quotes_after s c t i e h =
     let space : (c == 32 && may_end s) ≡ false = ap (λ (d : ℕ). d == 32 && may_end s) e in
     let quote : (c == 34 && in_section s) ≡ true = ap (λ (d : ℕ). d == 34 && in_section s) e ∙ ap in_section i in
@@ -248,7 +248,7 @@ quotes_after s c t i e h =
     (cond (c == 34 && in_section s) (move.Two (sym.Str str.Quoted) (sym.ItemName name.Section)) (cond (takes s c) (move.One (sym.ItemName (next_name s c))) move.Fail)) t space
     (at_true (c == 34 && in_section s) (move.Two (sym.Str str.Quoted) (sym.ItemName name.Section)) (cond (takes s c) (move.One (sym.ItemName (next_name s c))) move.Fail) t quote h)
 
-name_at : (s : ItemName) (c : ℕ) (t rest value : List ℕ) → c ∷ t ≡ rest ++ 32 ∷ value → NameForm s rest → IsValue 64 value → After (item_name_rule s c) t
+name_at : (s : ItemName) (c : ℕ) (t rest value : List ℕ) → c ∷ t ≡ rest ++ 32 ∷ value → NameForm s rest → IsValue 64 value → AfterMove (item_name_rule s c) t
 name_at s c t [] v e form h =
     let is : c ≡ 32 = cons_head c 32 t v e in
     at_true (c == 32 && may_end s) (move.One (sym.Value value.Start))
@@ -270,7 +270,7 @@ name_at s c t (d ∷ x) v e form h =
       | inr g ↦ goes_after s c t g.0 (record { rest = x; value = v; whole = rest; form = g.1; value_is = h })
     ]
 
-pub item_name_forth : (s : ItemName) (c : ℕ) (t : List ℕ) → NameRest s (c ∷ t) → After (item_name_rule s c) t
+pub item_name_forth : (s : ItemName) (c : ℕ) (t : List ℕ) → NameRest s (c ∷ t) → AfterMove (item_name_rule s c) t
 item_name_forth s c t h = name_at s c t h.rest h.value h.whole h.form h.value_is
 
 pub item_name_empty : (s : ItemName) → NameRest s [] → ⊥

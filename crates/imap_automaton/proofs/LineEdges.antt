@@ -22,7 +22,7 @@ use Rattle.imap_automaton.specs.FreeRules.{text_rule}
 use Rattle.imap_automaton.specs.WordRules.{word_rule}
 use Rattle.imap_automaton.specs.LineRules.{word_start, sequence_rule, fixed_rule, folded_rule, line_rule}
 use Rattle.imap_automaton.specs.Fits.{LineFits}
-use Rattle.imap_automaton.specs.Langs.{FreeLang, WordSays, WordRest, TagRest, NumberedRest, SequenceRest, LineLang, After}
+use Rattle.imap_automaton.specs.Langs.{FreeLang, WordSays, WordRest, TagRest, NumberedRest, SequenceRest, LineLang, AfterMove}
 use Rattle.pushdown.proofs.Lists.{cons_head, cons_tail}
 use Rattle.imap_automaton.proofs.Tests.{from_test, to_test, at_true, at_false, is_true_at, both, alnum_not_space, text_not_cr, drop_at, crlf_of, crlf_parts, mid, digit_word}
 use Rattle.imap_automaton.proofs.Tests.{digit_no_brace}
@@ -44,14 +44,14 @@ use Rattle.imap_syntax.specs.Spells.{IsWordLine, Numbered, IsUntagged, Spells}
 
 -- ---- text and fixed texts
 
-line_back : (c : ℕ) (t : List ℕ) → After (line_rule line.Text c) t → LineLang line.Text (c ∷ t)
+line_back : (c : ℕ) (t : List ℕ) → AfterMove (line_rule line.Text c) t → LineLang line.Text (c ∷ t)
 line_back c t h = from_test (c == 13) (move.One (sym.Line (line.Fixed phrase.Crlf 1))) (cond (is_text c) (move.One (sym.Line line.Text)) move.Fail) t (IsLine (c ∷ t))
     (λ e k. record { text = []; whole = crlf_of c t (eqb-true c 13 e) k; text_is = tt })
     (λ e k. from_test (is_text c) (move.One (sym.Line line.Text)) move.Fail t (IsLine (c ∷ t))
     (λ f l. record { text = c ∷ l.text; whole = ap (λ (u : List ℕ). c ∷ u) l.whole; text_is = (f, l.text_is) })
     (λ f l. absurd l) k) h
 
-line_at : (c : ℕ) (t text : List ℕ) → c ∷ t ≡ text ++ crlf → Each is_text text → After (line_rule line.Text c) t
+line_at : (c : ℕ) (t text : List ℕ) → c ∷ t ≡ text ++ crlf → Each is_text text → AfterMove (line_rule line.Text c) t
 line_at c t [] e f =
     let k = crlf_parts c t e in
     at_true (c == 13) (move.One (sym.Line (line.Fixed phrase.Crlf 1))) (cond (is_text c) (move.One (sym.Line line.Text)) move.Fail) t (eq-eqb c 13 k.0) k.1
@@ -61,7 +61,7 @@ line_at c t (d ∷ x) e f =
     at_false (c == 13) (move.One (sym.Line (line.Fixed phrase.Crlf 1))) (cond (is_text c) (move.One (sym.Line line.Text)) move.Fail) t (text_not_cr c ok)
     (at_true (is_text c) (move.One (sym.Line line.Text)) move.Fail t ok (record { text = x; whole = cons_tail c d t (x ++ crlf) e; text_is = f.1 }))
 
-fixed_back : (p : Phrase) (at c : ℕ) (t : List ℕ) → After (fixed_rule p at c) t → c ∷ t ≡ drop at (phrase_text p)
+fixed_back : (p : Phrase) (at c : ℕ) (t : List ℕ) → AfterMove (fixed_rule p at c) t → c ∷ t ≡ drop at (phrase_text p)
 fixed_back p at c t h = from_test (nat_lt at (length (phrase_text p)) && c == get_or (phrase_text p) at 0)
     (cond (at + 1 == length (phrase_text p)) move.End (move.One (sym.Line (line.Fixed p (at + 1))))) move.Fail t (c ∷ t ≡ drop at (phrase_text p))
     (λ e k.
@@ -74,7 +74,7 @@ fixed_back p at c t h = from_test (nat_lt at (length (phrase_text p)) && c == ge
     (λ f l. cc) k)
     (λ e k. absurd k) h
 
-fixed_forth : (p : Phrase) (at c : ℕ) (t : List ℕ) → nat_lt at (length (phrase_text p)) ≡ true → c ∷ t ≡ drop at (phrase_text p) → After (fixed_rule p at c) t
+fixed_forth : (p : Phrase) (at c : ℕ) (t : List ℕ) → nat_lt at (length (phrase_text p)) ≡ true → c ∷ t ≡ drop at (phrase_text p) → AfterMove (fixed_rule p at c) t
 fixed_forth p at c t fits h =
     let split = drop_at (phrase_text p) at (ltb-true _ _ fits) in
     let head = cons_head c (get_or (phrase_text p) at 0) t (drop (at + 1) (phrase_text p)) (h ∙ split) in
@@ -86,7 +86,7 @@ fixed_forth p at c t fits h =
     (λ e. tail ∙ drop_all (at + 1) (phrase_text p) (omega (arith, eqb-true _ _ e)))
     (λ e. tail))
 
-folded_back : (p : Phrase) (at c : ℕ) (t : List ℕ) → After (folded_rule p at c) t → map lower (c ∷ t) ≡ drop at (phrase_text p)
+folded_back : (p : Phrase) (at c : ℕ) (t : List ℕ) → AfterMove (folded_rule p at c) t → map lower (c ∷ t) ≡ drop at (phrase_text p)
 folded_back p at c t h = from_test (nat_lt at (length (phrase_text p)) && lower c == get_or (phrase_text p) at 0)
     (cond (at + 1 == length (phrase_text p)) move.End (move.One (sym.Line (line.Folded p (at + 1))))) move.Fail t (map lower (c ∷ t) ≡ drop at (phrase_text p))
     (λ e k.
@@ -103,7 +103,7 @@ lowered_none : (t : List ℕ) → map lower t ≡ [] → t ≡ []
 lowered_none [] e = refl
 lowered_none (c ∷ t) e = absurd cc
 
-folded_forth : (p : Phrase) (at c : ℕ) (t : List ℕ) → nat_lt at (length (phrase_text p)) ≡ true → map lower (c ∷ t) ≡ drop at (phrase_text p) → After (folded_rule p at c) t
+folded_forth : (p : Phrase) (at c : ℕ) (t : List ℕ) → nat_lt at (length (phrase_text p)) ≡ true → map lower (c ∷ t) ≡ drop at (phrase_text p) → AfterMove (folded_rule p at c) t
 folded_forth p at c t fits h =
     let split = drop_at (phrase_text p) at (ltb-true _ _ fits) in
     let head = cons_head (lower c) (get_or (phrase_text p) at 0) (map lower t) (drop (at + 1) (phrase_text p)) (h ∙ split) in
@@ -131,7 +131,7 @@ folded_some phrase.Earlier at = (drop at (phrase_text phrase.Earlier), lower_dro
 
 -- ---- tags
 
-tag_back : (n c : ℕ) (t : List ℕ) → LineFits (line.Tag n) ≡ true → After (line_rule (line.Tag n) c) t → TagRest n (c ∷ t)
+tag_back : (n c : ℕ) (t : List ℕ) → LineFits (line.Tag n) ≡ true → AfterMove (line_rule (line.Tag n) c) t → TagRest n (c ∷ t)
 tag_back n c t fits h = from_test (c == 32) (move.One (word_start place.Tagged)) (cond (is_alnum c && nat_lt n 32) (move.One (sym.Line (line.Tag (n + 1)))) move.Fail) t
     (TagRest n (c ∷ t))
     (λ e k. record {
@@ -154,7 +154,7 @@ tag_back n c t fits h = from_test (c == 32) (move.One (word_start place.Tagged))
     (λ f l. absurd l) k) h
 
 tag_at : (n c : ℕ) (t tag after : List ℕ) → c ∷ t ≡ tag ++ 32 ∷ after → Each is_alnum tag → n + length tag ≤ 32 → WordRest place.Tagged [] after
-    → After (line_rule (line.Tag n) c) t
+    → AfterMove (line_rule (line.Tag n) c) t
 tag_at n c t [] after e all few h =
     at_true (c == 32) (move.One (word_start place.Tagged)) (cond (is_alnum c && nat_lt n 32) (move.One (sym.Line (line.Tag (n + 1)))) move.Fail) t
     (eq-eqb c 32 (cons_head c 32 t after e))
@@ -222,7 +222,7 @@ sequence_fits v n fits =
 numbered_here : (v n : ℕ) (t : List ℕ) → n ≤ 10 → v ≤ 4294967295 → NumberedRest v n t (32 ∷ t)
 numbered_here v n t few most = record { more = []; whole = refl; each = tt; few = omega (arith, few); most = most }
 
-sequence_back : (v n c : ℕ) (t : List ℕ) → LineFits (line.Sequence v n) ≡ true → After (sequence_rule v n c) t → SequenceRest v n (c ∷ t)
+sequence_back : (v n c : ℕ) (t : List ℕ) → LineFits (line.Sequence v n) ≡ true → AfterMove (sequence_rule v n c) t → SequenceRest v n (c ∷ t)
 sequence_back v n c t fits h = from_test (is_digit c && nat_lt n 10 && nat_le (10 * v + (c - 48)) 4294967295) (move.One (sym.Line (line.Sequence (10 * v + (c - 48)) (n + 1))))
     (cond (c == 32) (move.One (word_start place.Numbered)) (text_rule pending.Nothing c)) t (SequenceRest v n (c ∷ t))
     (λ e k.
@@ -235,7 +235,7 @@ sequence_back v n c t fits h = from_test (is_digit c && nat_lt n 10 && nat_le (1
     (λ f l. let s = sequence_fits v n fits in inl (t, subst (λ (q : ℕ). NumberedRest v n t (q ∷ t)) (sym (eqb-true c 32 f)) (numbered_here v n t s.1 s.2), l))
     (λ f l. inr (text_back pending.Nothing c t l, λ m q. numbered_stays v n c m t e f q)) k) h
 
-sequence_forth : (v n c : ℕ) (t : List ℕ) → LineFits (line.Sequence v n) ≡ true → SequenceRest v n (c ∷ t) → After (sequence_rule v n c) t
+sequence_forth : (v n c : ℕ) (t : List ℕ) → LineFits (line.Sequence v n) ≡ true → SequenceRest v n (c ∷ t) → AfterMove (sequence_rule v n c) t
 sequence_forth v n c t fits (inl r) =
     to_test (is_digit c && nat_lt n 10 && nat_le (10 * v + (c - 48)) 4294967295) (move.One (sym.Line (line.Sequence (10 * v + (c - 48)) (n + 1))))
     (cond (c == 32) (move.One (word_start place.Numbered)) (text_rule pending.Nothing c)) t
@@ -348,7 +348,7 @@ numbered_rest n c l t (d ∷ x) e h =
       },
     )
 
-untagged_back : (c : ℕ) (t : List ℕ) → After (line_rule line.Untagged c) t → LineLang line.Untagged (c ∷ t)
+untagged_back : (c : ℕ) (t : List ℕ) → AfterMove (line_rule line.Untagged c) t → LineLang line.Untagged (c ∷ t)
 untagged_back c t h = from_test (is_digit c) (move.One (sym.Line (line.Sequence (c - 48) 1))) (word_rule place.Plain (first_key place.Plain) 0 c) t (LineLang line.Untagged (c ∷ t))
     (λ d k. elim k [
       | inl r ↦ (
@@ -360,7 +360,7 @@ untagged_back c t h = from_test (is_digit c) (move.One (sym.Line (line.Sequence 
     let v = plain_from (c ∷ t) (word_back place.Plain (first_key place.Plain) 0 c t (omega arith) refl k) in
     (v.0, inr (v.1, λ n l q. both (is_digit c) (numbered_rest n c l t q.0 q.1 q.2).0 d))) h
 
-untagged_at : (v : Response) (c : ℕ) (t : List ℕ) → IsUntagged v (c ∷ t) → After (line_rule line.Untagged c) t
+untagged_at : (v : Response) (c : ℕ) (t : List ℕ) → IsUntagged v (c ∷ t) → AfterMove (line_rule line.Untagged c) t
 untagged_at v c t (inl r) =
     let q = numbered_rest r.0 c r.1 t r.2.0 r.2.1 r.2.2 in
     at_true (is_digit c) (move.One (sym.Line (line.Sequence (c - 48) 1))) (word_rule place.Plain (first_key place.Plain) 0 c) t q.0
@@ -399,7 +399,7 @@ tag_or_none c = cond (is_alnum c) (move.One (sym.Line (line.Tag 1))) move.Fail
 abbrev plus_or_tag : ℕ → Move Sym
 plus_or_tag c = cond (c == 43) (move.One (sym.Line line.Text)) (tag_or_none c)
 
-start_back : (c : ℕ) (t : List ℕ) → After (line_rule line.Start c) t → LineLang line.Start (c ∷ t)
+start_back : (c : ℕ) (t : List ℕ) → AfterMove (line_rule line.Start c) t → LineLang line.Start (c ∷ t)
 start_back c t h = from_test (c == 42) (move.Two (sym.Line (line.Fixed phrase.Space 0)) (sym.Line line.Untagged)) (plus_or_tag c) t (LineLang line.Start (c ∷ t))
     (λ e k.
     let is : c ∷ t ≡ 42 ∷ 32 ∷ k.back = ap (λ (n : ℕ). n ∷ t) (eqb-true c 42 e) ∙ ap (λ (u : List ℕ). 42 ∷ u) (k.whole ∙ ap (λ (u : List ℕ). u ++ k.back) k.first) in
@@ -425,7 +425,7 @@ start_back c t h = from_test (c == 42) (move.Two (sym.Line (line.Fixed phrase.Sp
 alnum_apart : (c : ℕ) → is_alnum c ≡ true → ((c == 42) ≡ false) × ((c == 43) ≡ false)
 alnum_apart c e = (grind arith, grind arith)
 
-tagged_at : (s : Status) (code : Code) (c : ℕ) (t tag : List ℕ) → (h : IsTagged tag s code (c ∷ t)) → c ∷ t ≡ tag ++ 32 ∷ h.after → After (line_rule line.Start c) t
+tagged_at : (s : Status) (code : Code) (c : ℕ) (t tag : List ℕ) → (h : IsTagged tag s code (c ∷ t)) → c ∷ t ≡ tag ++ 32 ∷ h.after → AfterMove (line_rule line.Start c) t
 tagged_at s code c t [] h e = absurd (omega (arith, h.some))
 tagged_at s code c t (d ∷ x) h e =
     let same : c ≡ d = cons_head c d t (x ++ 32 ∷ h.after) e in
@@ -443,18 +443,18 @@ tagged_at s code c t (d ∷ x) h e =
       line = tagged_to s code h.after h.completes h.line;
     })))
 
-star_at : (v : Response) (c : ℕ) (t l : List ℕ) → c ∷ t ≡ 42 ∷ 32 ∷ l → IsUntagged v l → After (line_rule line.Start c) t
+star_at : (v : Response) (c : ℕ) (t l : List ℕ) → c ∷ t ≡ 42 ∷ 32 ∷ l → IsUntagged v l → AfterMove (line_rule line.Start c) t
 star_at v c t l e h =
     at_true (c == 42) (move.Two (sym.Line (line.Fixed phrase.Space 0)) (sym.Line line.Untagged)) (plus_or_tag c) t (eq-eqb c 42 (cons_head c 42 t (32 ∷ l) e))
     (record { front = 32 ∷ []; back = l; whole = cons_tail c 42 t (32 ∷ l) e; first = refl; second = (v, h) })
 
-plus_at : (c : ℕ) (t l : List ℕ) → c ∷ t ≡ 43 ∷ l → IsLine l → After (line_rule line.Start c) t
+plus_at : (c : ℕ) (t l : List ℕ) → c ∷ t ≡ 43 ∷ l → IsLine l → AfterMove (line_rule line.Start c) t
 plus_at c t l e h =
     let same : c ≡ 43 = cons_head c 43 t l e in
     at_false (c == 42) (move.Two (sym.Line (line.Fixed phrase.Space 0)) (sym.Line line.Untagged)) (plus_or_tag c) t (ap (λ (n : ℕ). n == 42) same)
     (at_true (c == 43) (move.One (sym.Line line.Text)) (tag_or_none c) t (eq-eqb c 43 same) (subst IsLine (sym (cons_tail c 43 t l e)) h))
 
-start_at : (v : Response) (c : ℕ) (t : List ℕ) → Spells v (c ∷ t) → After (line_rule line.Start c) t
+start_at : (v : Response) (c : ℕ) (t : List ℕ) → Spells v (c ∷ t) → AfterMove (line_rule line.Start c) t
 start_at (response.Tagged tag status code) c t h = tagged_at status code c t tag h h.whole
 start_at response.Continue c t h = plus_at c t h.0 h.1 h.2
 start_at (response.Untagged status code) c t h = star_at (response.Untagged status code) c t h.0 h.1 h.2
@@ -471,7 +471,7 @@ start_at response.Other c t h = star_at response.Other c t h.0 h.1 h.2
 
 -- ---- the group
 
-pub line_edge_back : (s : Line) (c : ℕ) (t : List ℕ) → LineFits s ≡ true → After (line_rule s c) t → LineLang s (c ∷ t)
+pub line_edge_back : (s : Line) (c : ℕ) (t : List ℕ) → LineFits s ≡ true → AfterMove (line_rule s c) t → LineLang s (c ∷ t)
 line_edge_back line.Start c t fits h = start_back c t h
 line_edge_back (line.Tag n) c t fits h = tag_back n c t fits h
 line_edge_back line.Untagged c t fits h = untagged_back c t h
@@ -480,7 +480,7 @@ line_edge_back line.Text c t fits h = line_back c t h
 line_edge_back (line.Fixed p at) c t fits h = fixed_back p at c t h
 line_edge_back (line.Folded p at) c t fits h = folded_back p at c t h
 
-pub line_edge_forth : (s : Line) (c : ℕ) (t : List ℕ) → LineFits s ≡ true → LineLang s (c ∷ t) → After (line_rule s c) t
+pub line_edge_forth : (s : Line) (c : ℕ) (t : List ℕ) → LineFits s ≡ true → LineLang s (c ∷ t) → AfterMove (line_rule s c) t
 line_edge_forth line.Start c t fits h = start_at h.0 c t h.1
 line_edge_forth (line.Tag n) c t fits h = tag_at n c t h.tag h.after h.whole h.tag_is h.few h.line
 line_edge_forth line.Untagged c t fits h = untagged_at h.0 c t h.1

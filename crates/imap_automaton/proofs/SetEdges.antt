@@ -13,7 +13,7 @@ use Rattle.imap_automaton.specs.declared.sym.Sym.TheVariants as sym
 use Rattle.pushdown.specs.declared.moves.Move.TheVariants as move
 use Rattle.imap_automaton.specs.SetRules.{words_more, words_rule, set_ends, set_number, set_rule}
 use Rattle.imap_automaton.specs.Fits.{ItemFits, SetFits}
-use Rattle.imap_automaton.specs.Langs.{FirstWord, WordsLang, NumberRest, SetLine, RangeEnds, NumberEnds, SetLang, After}
+use Rattle.imap_automaton.specs.Langs.{FirstWord, WordsLang, NumberRest, SetLine, RangeEnds, NumberEnds, SetLang, AfterMove}
 use Rattle.pushdown.proofs.Lists.{cons_head, cons_tail}
 use Rattle.imap_automaton.proofs.Tests.{from_test, to_test, at_true, at_false, is_true_at, both, crlf_of, crlf_parts, mid}
 use Rattle.imap_automaton.proofs.ItemEdges.{number_more, number_goes, number_none, number_some, next_fits}
@@ -34,14 +34,14 @@ word_apart c e = (grind arith, grind arith)
 joined_words : (c : ℕ) (t : List ℕ) → c ≡ 32 → FirstWord IsPrinted t → (ws : List (List ℕ)) × IsWords ws (c ∷ t)
 joined_words c t e h = (h.word ∷ h.words, ((h.front, h.others), ap (λ (n : ℕ). n ∷ t) e ∙ ap (λ (u : List ℕ). 32 ∷ u) h.whole))
 
-pub words_more_back : (c : ℕ) (t : List ℕ) → After (words_more c) t → WordsLang words.More (c ∷ t)
+pub words_more_back : (c : ℕ) (t : List ℕ) → AfterMove (words_more c) t → WordsLang words.More (c ∷ t)
 words_more_back c t h = from_test (c == 32) (move.One (sym.Words words.First)) (cond (c == 13) (move.One (sym.Line (line.Fixed phrase.Crlf 1))) move.Fail) t
     (WordsLang words.More (c ∷ t))
     (λ e k. joined_words c t (eqb-true c 32 e) k)
     (λ e k. from_test (c == 13) (move.One (sym.Line (line.Fixed phrase.Crlf 1))) move.Fail t (WordsLang words.More (c ∷ t)) (λ f l. ([], (tt, crlf_of c t (eqb-true c 13 f) l)))
     (λ f l. absurd l) k) h
 
-words_at : (ws : List (List ℕ)) (c : ℕ) (t : List ℕ) → AllPrinted ws → c ∷ t ≡ spaced ws ++ crlf → After (words_more c) t
+words_at : (ws : List (List ℕ)) (c : ℕ) (t : List ℕ) → AllPrinted ws → c ∷ t ≡ spaced ws ++ crlf → AfterMove (words_more c) t
 words_at [] c t all e =
     let k = crlf_parts c t e in
     at_false (c == 32) (move.One (sym.Words words.First)) (cond (c == 13) (move.One (sym.Line (line.Fixed phrase.Crlf 1))) move.Fail) t (ap (λ (n : ℕ). n == 32) k.0)
@@ -51,7 +51,7 @@ words_at (w ∷ ws) c t all e =
     (eq-eqb c 32 (cons_head c 32 t ((w ++ spaced ws) ++ crlf) e))
     (record { word = w; words = ws; whole = cons_tail c 32 t ((w ++ spaced ws) ++ crlf) e; front = all.0; others = all.1 })
 
-pub words_more_forth : (c : ℕ) (t : List ℕ) → WordsLang words.More (c ∷ t) → After (words_more c) t
+pub words_more_forth : (c : ℕ) (t : List ℕ) → WordsLang words.More (c ∷ t) → AfterMove (words_more c) t
 words_more_forth c t h = words_at h.0 c t h.1.0 h.1.1
 
 pub words_more_none : WordsLang words.More [] → ⊥
@@ -64,7 +64,7 @@ more_of_word c t Front f h = record { word = c ∷ h.word; words = h.words; whol
 printed : (c : ℕ) → is_word c ≡ true → (w : List ℕ) → Each is_word w → IsPrinted (c ∷ w)
 printed c e w h = ((e, h), omega arith)
 
-pub words_back : (s : Words) (c : ℕ) (t : List ℕ) → After (words_rule s c) t → WordsLang s (c ∷ t)
+pub words_back : (s : Words) (c : ℕ) (t : List ℕ) → AfterMove (words_rule s c) t → WordsLang s (c ∷ t)
 words_back words.More c t h = words_more_back c t h
 words_back words.First c t h = from_test (is_word c) (move.One (sym.Words words.Rest)) move.Fail t (FirstWord IsPrinted (c ∷ t)) (λ e k. more_of_word c t IsPrinted (printed c e) k)
     (λ e k. absurd k) h
@@ -72,16 +72,16 @@ words_back words.Rest c t h = from_test (is_word c) (move.One (sym.Words words.R
     (λ e k. more_of_word c t (Each is_word) (λ w f. (e, f)) k)
     (λ e k. let m = words_more_back c t k in record { word = []; words = m.0; whole = m.1.1; front = tt; others = m.1.0 }) h
 
-first_word : (w : List ℕ) (ws : List (List ℕ)) (c : ℕ) (t : List ℕ) → IsPrinted w → AllPrinted ws → c ∷ t ≡ (w ++ spaced ws) ++ crlf → After (words_rule words.First c) t
+first_word : (w : List ℕ) (ws : List (List ℕ)) (c : ℕ) (t : List ℕ) → IsPrinted w → AllPrinted ws → c ∷ t ≡ (w ++ spaced ws) ++ crlf → AfterMove (words_rule words.First c) t
 first_word [] ws c t p all e = absurd (omega (arith, p.1))
 first_word (d ∷ w) ws c t p all e =
     let same : c ≡ d = cons_head c d t ((w ++ spaced ws) ++ crlf) e in
     at_true (is_word c) (move.One (sym.Words words.Rest)) move.Fail t (is_true_at is_word c d same p.0.0)
     (record { word = w; words = ws; whole = cons_tail c d t ((w ++ spaced ws) ++ crlf) e; front = p.0.1; others = all })
 
-rest_word : (w : List ℕ) (ws : List (List ℕ)) (c : ℕ) (t : List ℕ) → Each is_word w → AllPrinted ws → c ∷ t ≡ (w ++ spaced ws) ++ crlf → After (words_rule words.Rest c) t
+rest_word : (w : List ℕ) (ws : List (List ℕ)) (c : ℕ) (t : List ℕ) → Each is_word w → AllPrinted ws → c ∷ t ≡ (w ++ spaced ws) ++ crlf → AfterMove (words_rule words.Rest c) t
 rest_word [] ws c t p all e =
-    let m : After (words_more c) t = words_at ws c t all e in
+    let m : AfterMove (words_more c) t = words_at ws c t all e in
     to_test (is_word c) (move.One (sym.Words words.Rest)) (words_more c) t (λ f. absurd (no_word c ws t f e)) (λ f. m)
   where
     no_word : (c : ℕ) (ws : List (List ℕ)) (t : List ℕ) → is_word c ≡ true → c ∷ t ≡ spaced ws ++ crlf → ⊥
@@ -92,7 +92,7 @@ rest_word (d ∷ w) ws c t p all e =
     at_true (is_word c) (move.One (sym.Words words.Rest)) (words_more c) t (is_true_at is_word c d same p.0)
     (record { word = w; words = ws; whole = cons_tail c d t ((w ++ spaced ws) ++ crlf) e; front = p.1; others = all })
 
-pub words_forth : (s : Words) (c : ℕ) (t : List ℕ) → WordsLang s (c ∷ t) → After (words_rule s c) t
+pub words_forth : (s : Words) (c : ℕ) (t : List ℕ) → WordsLang s (c ∷ t) → AfterMove (words_rule s c) t
 words_forth words.More c t h = words_more_forth c t h
 words_forth words.First c t h = first_word h.word h.words c t h.front h.others h.whole
 words_forth words.Rest c t h = rest_word h.word h.words c t h.front h.others h.whole
@@ -172,7 +172,7 @@ set_back t h = by h.second
 
 -- ---- after a number
 
-ends_back : (second : Bool) (c : ℕ) (t : List ℕ) → After (set_ends second c) t → NumberEnds second (c ∷ t)
+ends_back : (second : Bool) (c : ℕ) (t : List ℕ) → AfterMove (set_ends second c) t → NumberEnds second (c ∷ t)
 ends_back second c t h = from_test (c == 13) (move.One (sym.Line (line.Fixed phrase.Crlf 1)))
     (cond (c == 44) (move.One (sym.Set (set.Number 0 0 false))) (cond (c == 58 && not second) (move.One (sym.Set (set.Number 0 0 true))) move.Fail)) t (NumberEnds second (c ∷ t))
     (λ e k. range second (inl (crlf_of c t (eqb-true c 13 e) k)))
@@ -191,7 +191,7 @@ ends_back second c t h = from_test (c == 13) (move.One (sym.Line (line.Fixed phr
     more true e r = absurd cc
     more false e r = inr r
 
-range_forth : (second : Bool) (c : ℕ) (t : List ℕ) → RangeEnds (c ∷ t) → After (set_ends second c) t
+range_forth : (second : Bool) (c : ℕ) (t : List ℕ) → RangeEnds (c ∷ t) → AfterMove (set_ends second c) t
 range_forth second c t (inl e) =
     let k = crlf_parts c t e in
     at_true (c == 13) (move.One (sym.Line (line.Fixed phrase.Crlf 1)))
@@ -204,7 +204,7 @@ range_forth second c t (inr r) =
     (at_true (c == 44) (move.One (sym.Set (set.Number 0 0 false))) (cond (c == 58 && not second) (move.One (sym.Set (set.Number 0 0 true))) move.Fail) t (eq-eqb c 44 same)
     (set_forth t (subst SetLine (sym (cons_tail c 44 t r.0 r.1)) r.2)))
 
-ends_forth : (second : Bool) (c : ℕ) (t : List ℕ) → NumberEnds second (c ∷ t) → After (set_ends second c) t
+ends_forth : (second : Bool) (c : ℕ) (t : List ℕ) → NumberEnds second (c ∷ t) → AfterMove (set_ends second c) t
 ends_forth true c t h = range_forth true c t h
 ends_forth false c t (inl h) = range_forth false c t h
 ends_forth false c t (inr r) =
@@ -240,7 +240,7 @@ ends_some second h = by second h
     by false (inl h) = range h
     by false (inr r) = let e = r.1 in cc
 
-number_back : (v n : ℕ) (second : Bool) (c : ℕ) (t : List ℕ) → ItemFits (item.Number v n) ≡ true → After (set_number v n second c) t → SetLang (set.Number v n second) (c ∷ t)
+number_back : (v n : ℕ) (second : Bool) (c : ℕ) (t : List ℕ) → ItemFits (item.Number v n) ≡ true → AfterMove (set_number v n second c) t → SetLang (set.Number v n second) (c ∷ t)
 number_back v n second c t fits h = from_test (is_digit c)
     (cond (next_fits v n c) (move.One (sym.Set (set.Number (10 * v + (c - 48)) (n + 1) second))) move.Fail)
     (cond (nat_lt 0 v) (set_ends second c) move.Fail) t (SetLang (set.Number v n second) (c ∷ t))
@@ -251,7 +251,7 @@ number_back v n second c t fits h = from_test (is_digit c)
     (λ f l. record { front = []; back = c ∷ t; whole = refl; first = number_none v n fits (ltb-true 0 v f); second = ends_back second c t l })
     (λ f l. absurd l) k) h
 
-number_at : (v n : ℕ) (second : Bool) (c : ℕ) (t digits rest : List ℕ) → c ∷ t ≡ digits ++ rest → NumberRest v n digits → NumberEnds second rest → After (set_number v n second c) t
+number_at : (v n : ℕ) (second : Bool) (c : ℕ) (t digits rest : List ℕ) → c ∷ t ≡ digits ++ rest → NumberRest v n digits → NumberEnds second rest → AfterMove (set_number v n second c) t
 number_at v n second c t [] rest e number ends =
     let k : NumberEnds second (c ∷ t) = subst (NumberEnds second) (sym e) ends in
     at_false (is_digit c)
@@ -272,7 +272,7 @@ number_at v n second c t (d ∷ digits) rest e number ends =
 folded_earlier : (u : List ℕ) → map lower u ≡ codes "earlier) " → IsWord (codes "(earlier) ") (40 ∷ u)
 folded_earlier u e = ap (λ (q : List ℕ). 40 ∷ q) e
 
-open_back : (c : ℕ) (t : List ℕ) → After (set_rule set.Open c) t → SetLang set.Open (c ∷ t)
+open_back : (c : ℕ) (t : List ℕ) → AfterMove (set_rule set.Open c) t → SetLang set.Open (c ∷ t)
 open_back c t h = from_test (c == 40) (move.Two (sym.Line (line.Folded phrase.Earlier 1)) (sym.Set (set.Number 0 0 false))) (set_number 0 0 false c) t (SetLang set.Open (c ∷ t))
     (λ e k.
     let s = set_back k.back k.second in (
@@ -307,7 +307,7 @@ first_digit : (c : ℕ) (t digits rest : List ℕ) → c ∷ t ≡ digits ++ res
 first_digit c t [] rest e h = absurd (omega (arith, h.some))
 first_digit c t (d ∷ digits) rest e h = is_true_at is_digit c d (cons_head c d t (digits ++ rest) e) h.each.0
 
-open_forth : (c : ℕ) (t : List ℕ) → SetLang set.Open (c ∷ t) → After (set_rule set.Open c) t
+open_forth : (c : ℕ) (t : List ℕ) → SetLang set.Open (c ∷ t) → AfterMove (set_rule set.Open c) t
 open_forth c t (true, rs, h) =
     let k = earlier_at c t h.front h.back h.whole h.first in
     at_true (c == 40) (move.Two (sym.Line (line.Folded phrase.Earlier 1)) (sym.Set (set.Number 0 0 false))) (set_number 0 0 false c) t (eq-eqb c 40 k.0)
@@ -320,11 +320,11 @@ open_forth c t (false, rs, h) =
 
 -- ---- the group
 
-pub set_edge_back : (s : Set) (c : ℕ) (t : List ℕ) → SetFits s ≡ true → After (set_rule s c) t → SetLang s (c ∷ t)
+pub set_edge_back : (s : Set) (c : ℕ) (t : List ℕ) → SetFits s ≡ true → AfterMove (set_rule s c) t → SetLang s (c ∷ t)
 set_edge_back set.Open c t fits h = open_back c t h
 set_edge_back (set.Number v n second) c t fits h = number_back v n second c t fits h
 
-pub set_edge_forth : (s : Set) (c : ℕ) (t : List ℕ) → SetLang s (c ∷ t) → After (set_rule s c) t
+pub set_edge_forth : (s : Set) (c : ℕ) (t : List ℕ) → SetLang s (c ∷ t) → AfterMove (set_rule s c) t
 set_edge_forth set.Open c t h = open_forth c t h
 set_edge_forth (set.Number v n second) c t h = number_at v n second c t h.front h.back h.whole h.first h.second
 

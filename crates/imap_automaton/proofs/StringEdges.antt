@@ -18,12 +18,12 @@ use Rattle.imap_automaton.specs.Fits.{StrFits}
 use Rattle.imap_automaton.specs.Rests.{OctetsRest}
 use Rattle.imap_automaton.proofs.Rests.{value_mono}
 use Rattle.imap_automaton.specs.StringLangs.{QuotedRest, EscapedRest, AnyCounted, CountRest, BraceRest, StrLang}
-use Rattle.imap_automaton.specs.Langs.{Lang, After}
+use Rattle.imap_automaton.specs.Langs.{Lang, AfterMove}
 use Rattle.pushdown.proofs.Lists.{cons_head, cons_tail}
 use Rattle.imap_automaton.proofs.Tests.{from_test, at_true, at_false, is_true_at, mid, atom_apart}
 use Rattle.imap_automaton.proofs.FreeEdges.{octets_some}
 use Rattle.imap_syntax.specs.Octets.{is_digit, is_text, is_atom, lower}
-use Rattle.imap_syntax.specs.Texts.{Each, Then, plain}
+use Rattle.imap_syntax.specs.Texts.{Each, Then, plain_octets}
 use Rattle.imap_syntax.specs.Numbers.{value_from}
 use Rattle.imap_syntax.specs.Strings.{escaped, IsCounted, IsNString, IsAString}
 use Rattle.imap_syntax.specs.Values.{IsFlat}
@@ -55,7 +55,7 @@ quoted_pair c t e h = (
 quoted_more : (c : ℕ) (t : List ℕ) → (c == 34) ≡ false → (c == 92) ≡ false → is_text c ≡ true → QuotedRest t → QuotedRest (c ∷ t)
 quoted_more c t e f g h = (c ∷ h.0, (g, h.1), ap (λ (u : List ℕ). c ∷ u) h.2 ∙ sym (escaped_self c h.0 (from_parts c e f)))
 
-quoted_back : (c : ℕ) (t : List ℕ) → After (string_rule str.Quoted c) t → QuotedRest (c ∷ t)
+quoted_back : (c : ℕ) (t : List ℕ) → AfterMove (string_rule str.Quoted c) t → QuotedRest (c ∷ t)
 quoted_back c t h = from_test (c == 34) move.End (cond (c == 92) (move.One (sym.Str str.Escaped)) (cond (is_text c) (move.One (sym.Str str.Quoted)) move.Fail)) t
     (QuotedRest (c ∷ t))
     (λ e k. ([], tt, ap (λ (n : ℕ). n ∷ t) (eqb-true c 34 e) ∙ ap (λ (u : List ℕ). 34 ∷ u) k))
@@ -63,12 +63,12 @@ quoted_back c t h = from_test (c == 34) move.End (cond (c == 92) (move.One (sym.
     (λ f l. quoted_pair c t (eqb-true c 92 f) l)
     (λ f l. from_test (is_text c) (move.One (sym.Str str.Quoted)) move.Fail t (QuotedRest (c ∷ t)) (λ g m. quoted_more c t e f g m) (λ g m. absurd m) l) k) h
 
-quoted_end : (c : ℕ) (t : List ℕ) → c ∷ t ≡ 34 ∷ [] → After (string_rule str.Quoted c) t
+quoted_end : (c : ℕ) (t : List ℕ) → c ∷ t ≡ 34 ∷ [] → AfterMove (string_rule str.Quoted c) t
 quoted_end c t e = at_true (c == 34) move.End (cond (c == 92) (move.One (sym.Str str.Escaped)) (cond (is_text c) (move.One (sym.Str str.Quoted)) move.Fail)) t
     (eq-eqb c 34 (cons_head c 34 t [] e)) (cons_tail c 34 t [] e)
 
 quoted_at : (d : ℕ) (s : List ℕ) (c : ℕ) (t : List ℕ) (b : Bool) → (d == 34 || d == 92) ≡ b → is_text d ≡ true → Each is_text s → c ∷ t ≡ escaped (d ∷ s) ++ 34 ∷ []
-    → After (string_rule str.Quoted c) t
+    → AfterMove (string_rule str.Quoted c) t
 quoted_at d s c t true f is all e =
     let g : c ∷ t ≡ 92 ∷ d ∷ escaped s ++ 34 ∷ [] = e ∙ escaped_pair d s f in
     let slash : c ≡ 92 = cons_head c 92 t (d ∷ escaped s ++ 34 ∷ []) g in
@@ -84,14 +84,14 @@ quoted_at d s c t false f is all e =
     (at_false (c == 92) (move.One (sym.Str str.Escaped)) (cond (is_text c) (move.One (sym.Str str.Quoted)) move.Fail) t (ap (λ (n : ℕ). n == 92) same ∙ apart.1)
     (at_true (is_text c) (move.One (sym.Str str.Quoted)) move.Fail t (is_true_at is_text c d same is) (s, all, cons_tail c d t (escaped s ++ 34 ∷ []) g)))
 
-quoted_forth_at : (s : List ℕ) (c : ℕ) (t : List ℕ) → Each is_text s → c ∷ t ≡ escaped s ++ 34 ∷ [] → After (string_rule str.Quoted c) t
+quoted_forth_at : (s : List ℕ) (c : ℕ) (t : List ℕ) → Each is_text s → c ∷ t ≡ escaped s ++ 34 ∷ [] → AfterMove (string_rule str.Quoted c) t
 quoted_forth_at [] c t all e = quoted_end c t e
 quoted_forth_at (d ∷ s) c t all e = quoted_at d s c t (d == 34 || d == 92) refl all.0 all.1 e
 
-escaped_back : (c : ℕ) (t : List ℕ) → After (string_rule str.Escaped c) t → EscapedRest (c ∷ t)
+escaped_back : (c : ℕ) (t : List ℕ) → AfterMove (string_rule str.Escaped c) t → EscapedRest (c ∷ t)
 escaped_back c t h = from_test (c == 34 || c == 92) (move.One (sym.Str str.Quoted)) move.Fail t (EscapedRest (c ∷ t)) (λ e k. (c, t, refl, e, k)) (λ e k. absurd k) h
 
-escaped_forth : (c : ℕ) (t : List ℕ) → EscapedRest (c ∷ t) → After (string_rule str.Escaped c) t
+escaped_forth : (c : ℕ) (t : List ℕ) → EscapedRest (c ∷ t) → AfterMove (string_rule str.Escaped c) t
 escaped_forth c t h =
     at_true (c == 34 || c == 92) (move.One (sym.Str str.Quoted)) move.Fail t (ap (λ (n : ℕ). n == 34 || n == 92) (cons_head c h.0 t h.1 h.2) ∙ h.3)
     (subst QuotedRest (sym (cons_tail c h.0 t h.1 h.2)) h.4)
@@ -107,7 +107,7 @@ count_parts v n fits =
     let b = and_parts (nat_le n 8) (nat_le v 50000000) a.0 in
     (leb-true _ _ b.0, leb-true _ _ b.1)
 
-count_back : (v n c : ℕ) (t : List ℕ) → StrFits (str.Count v n) ≡ true → After (count_rule v n c) t → CountRest v n (c ∷ t)
+count_back : (v n c : ℕ) (t : List ℕ) → StrFits (str.Count v n) ≡ true → AfterMove (count_rule v n c) t → CountRest v n (c ∷ t)
 count_back v n c t fits h =
     let w : ℕ = 10 * v + (c - 48) in
     let most = count_parts v n fits in
@@ -144,7 +144,7 @@ brace_no_digit : (c : ℕ) → c ≡ 125 → is_digit c ≡ false
 brace_no_digit c e = grind arith
 
 count_at : (v n c : ℕ) (t front o : List ℕ) → c ∷ t ≡ front ++ 125 ∷ 13 ∷ 10 ∷ o → Each is_digit front → 0 < n + length front → n + length front ≤ 8 → length o ≡ value_from v front
-    → length o ≤ 50000000 → OctetsRest (length o) o → After (count_rule v n c) t
+    → length o ≤ 50000000 → OctetsRest (length o) o → AfterMove (count_rule v n c) t
 count_at v n c t [] o e each some few counted most r =
     let same : c ≡ 125 = cons_head c 125 t (13 ∷ 10 ∷ o) e in
     let w : ℕ = 10 * v + (c - 48) in
@@ -173,20 +173,20 @@ count_at v n c t (d ∷ front) o e each some few counted most r =
       inside = r.inside;
     }))
 
-count_forth : (v n c : ℕ) (t : List ℕ) → CountRest v n (c ∷ t) → After (count_rule v n c) t
+count_forth : (v n c : ℕ) (t : List ℕ) → CountRest v n (c ∷ t) → AfterMove (count_rule v n c) t
 count_forth v n c t h = count_at v n c t h.front h.octets h.whole h.each h.some h.few h.counted h.most (record { counted = refl; inside = h.inside })
 
-brace_back : (n c : ℕ) (t : List ℕ) → After (string_rule (str.Brace n) c) t → BraceRest n (c ∷ t)
+brace_back : (n c : ℕ) (t : List ℕ) → AfterMove (string_rule (str.Brace n) c) t → BraceRest n (c ∷ t)
 brace_back n c t h = from_test (c == 13) (move.One (sym.Free (free.Break n))) move.Fail t (BraceRest n (c ∷ t))
     (λ e k. (k.0, ap (λ (m : ℕ). m ∷ t) (eqb-true c 13 e) ∙ ap (λ (u : List ℕ). 13 ∷ u) k.1, k.2))
     (λ e k. absurd k) h
 
-brace_forth : (n c : ℕ) (t : List ℕ) → BraceRest n (c ∷ t) → After (string_rule (str.Brace n) c) t
+brace_forth : (n c : ℕ) (t : List ℕ) → BraceRest n (c ∷ t) → AfterMove (string_rule (str.Brace n) c) t
 brace_forth n c t h = at_true (c == 13) (move.One (sym.Free (free.Break n))) move.Fail t (eq-eqb c 13 (cons_head c 13 t (10 ∷ h.0) h.1)) (h.0, cons_tail c 13 t (10 ∷ h.0) h.1, h.2)
 
 counted_from : (c : ℕ) (t : List ℕ) → c ≡ 123 → CountRest 0 0 t → AnyCounted (c ∷ t)
 counted_from c t e h = (
-  plain h.octets,
+  plain_octets h.octets,
   record {
     digits = h.front;
     octets = h.octets;
@@ -219,19 +219,19 @@ counted_to c t h =
       },
     )
 
-tilde_back : (c : ℕ) (t : List ℕ) → After (string_rule str.Tilde c) t → AnyCounted (c ∷ t)
+tilde_back : (c : ℕ) (t : List ℕ) → AfterMove (string_rule str.Tilde c) t → AnyCounted (c ∷ t)
 tilde_back c t h = from_test (c == 123) (move.One (sym.Str (str.Count 0 0))) move.Fail t (AnyCounted (c ∷ t)) (λ e k. counted_from c t (eqb-true c 123 e) k) (λ e k. absurd k) h
 
-tilde_forth : (c : ℕ) (t : List ℕ) → AnyCounted (c ∷ t) → After (string_rule str.Tilde c) t
+tilde_forth : (c : ℕ) (t : List ℕ) → AnyCounted (c ∷ t) → AfterMove (string_rule str.Tilde c) t
 tilde_forth c t h = let k = counted_to c t h in at_true (c == 123) (move.One (sym.Str (str.Count 0 0))) move.Fail t (eq-eqb c 123 k.0) k.1
 
-atom_tilde_back : (c : ℕ) (t : List ℕ) → After (string_rule str.AtomTilde c) t → StrLang str.AtomTilde (c ∷ t)
+atom_tilde_back : (c : ℕ) (t : List ℕ) → AfterMove (string_rule str.AtomTilde c) t → StrLang str.AtomTilde (c ∷ t)
 atom_tilde_back c t h = from_test (c == 123) (move.One (sym.Str (str.Count 0 0))) (cond (is_atom c) (move.One (sym.Names names.AtomRest)) move.Yield) t
     (StrLang str.AtomTilde (c ∷ t))
     (λ e k. inr (counted_from c t (eqb-true c 123 e) k))
     (λ e k. from_test (is_atom c) (move.One (sym.Names names.AtomRest)) move.Yield t (StrLang str.AtomTilde (c ∷ t)) (λ f l. inl (f, l)) (λ f l. absurd l) k) h
 
-atom_tilde_forth : (c : ℕ) (t : List ℕ) → StrLang str.AtomTilde (c ∷ t) → After (string_rule str.AtomTilde c) t
+atom_tilde_forth : (c : ℕ) (t : List ℕ) → StrLang str.AtomTilde (c ∷ t) → AfterMove (string_rule str.AtomTilde c) t
 atom_tilde_forth c t (inl a) =
     at_false (c == 123) (move.One (sym.Str (str.Count 0 0))) (cond (is_atom c) (move.One (sym.Names names.AtomRest)) move.Yield) t (atom_apart c a.0).1
     (at_true (is_atom c) (move.One (sym.Names names.AtomRest)) move.Yield t a.0 a.1)
@@ -245,19 +245,19 @@ abbrev pub Starts : Option Sym → List ℕ → Type 0
 Starts None t = ⊥
 Starts (Some s) t = Lang s t
 
-pub after_alone : (o : Option Sym) (t : List ℕ) → After (alone o) t → Starts o t
+pub after_alone : (o : Option Sym) (t : List ℕ) → AfterMove (alone o) t → Starts o t
 after_alone None t h = h
 after_alone (Some s) t h = h
 
-pub alone_after : (o : Option Sym) (t : List ℕ) → Starts o t → After (alone o) t
+pub alone_after : (o : Option Sym) (t : List ℕ) → Starts o t → AfterMove (alone o) t
 alone_after None t h = h
 alone_after (Some s) t h = h
 
-pub after_before : (later : Sym) (o : Option Sym) (t : List ℕ) → After (before later o) t → Then (Starts o) (Lang later) t
+pub after_before : (later : Sym) (o : Option Sym) (t : List ℕ) → AfterMove (before later o) t → Then (Starts o) (Lang later) t
 after_before later None t h = absurd h
 after_before later (Some s) t h = h
 
-pub before_after : (later : Sym) (o : Option Sym) (t : List ℕ) → Then (Starts o) (Lang later) t → After (before later o) t
+pub before_after : (later : Sym) (o : Option Sym) (t : List ℕ) → Then (Starts o) (Lang later) t → AfterMove (before later o) t
 before_after later None t h = h.first
 before_after later (Some s) t h = h
 
@@ -360,7 +360,7 @@ tilde_move c = cond (c == 126) (move.One (sym.Str str.Tilde)) (nil_move c)
 abbrev count_move : ℕ → Move Sym
 count_move c = cond (c == 123) (move.One (sym.Str (str.Count 0 0))) (tilde_move c)
 
-nstring_back : (c : ℕ) (t : List ℕ) → After (nstring_rule c) t → StrLang str.NString (c ∷ t)
+nstring_back : (c : ℕ) (t : List ℕ) → AfterMove (nstring_rule c) t → StrLang str.NString (c ∷ t)
 nstring_back c t h = from_test (c == 34) (move.One (sym.Str str.Quoted)) (count_move c) t (StrLang str.NString (c ∷ t))
     (λ e k. (k.0, inr (inl (k.1, ap (λ (n : ℕ). n ∷ t) (eqb-true c 34 e) ∙ ap (λ (u : List ℕ). 34 ∷ u) k.2))))
     (λ e k. from_test (c == 123) (move.One (sym.Str (str.Count 0 0))) (tilde_move c) t (StrLang str.NString (c ∷ t))
@@ -374,10 +374,10 @@ nstring_back c t h = from_test (c == 34) (move.One (sym.Str str.Quoted)) (count_
 n_apart : (c : ℕ) → lower c ≡ 110 → ((c == 34) ≡ false) × ((c == 123) ≡ false) × ((c == 126) ≡ false)
 n_apart c e = (grind arith, grind arith, grind arith)
 
-nstring_forth : (c : ℕ) (t : List ℕ) → StrLang str.NString (c ∷ t) → After (nstring_rule c) t
+nstring_forth : (c : ℕ) (t : List ℕ) → StrLang str.NString (c ∷ t) → AfterMove (nstring_rule c) t
 nstring_forth c t h = by h.0 h.1
   where
-    by : (s : List ℕ) → IsNString s (c ∷ t) → After (nstring_rule c) t
+    by : (s : List ℕ) → IsNString s (c ∷ t) → AfterMove (nstring_rule c) t
     by s (inl n) =
         let e : lower c ≡ 110 = cons_head (lower c) 110 (map lower t) (codes "il") n.1 in
         let a = n_apart c e in
@@ -409,7 +409,7 @@ no_nstring h = by h.0 h.1
 
 -- ---- the group
 
-pub string_back : (s : Str) (c : ℕ) (t : List ℕ) → StrFits s ≡ true → After (string_rule s c) t → StrLang s (c ∷ t)
+pub string_back : (s : Str) (c : ℕ) (t : List ℕ) → StrFits s ≡ true → AfterMove (string_rule s c) t → StrLang s (c ∷ t)
 string_back str.NString c t fits h = nstring_back c t h
 string_back str.AString c t fits h = flat_back c t (after_alone (flat_start c) t h)
 string_back str.Quoted c t fits h = quoted_back c t h
@@ -419,7 +419,7 @@ string_back str.AtomTilde c t fits h = atom_tilde_back c t h
 string_back (str.Count v n) c t fits h = count_back v n c t fits h
 string_back (str.Brace n) c t fits h = brace_back n c t h
 
-pub string_forth : (s : Str) (c : ℕ) (t : List ℕ) → StrLang s (c ∷ t) → After (string_rule s c) t
+pub string_forth : (s : Str) (c : ℕ) (t : List ℕ) → StrLang s (c ∷ t) → AfterMove (string_rule s c) t
 string_forth str.NString c t h = nstring_forth c t h
 string_forth str.AString c t h = alone_after (flat_start c) t (flat_forth c t h)
 string_forth str.Quoted c t h = quoted_forth_at h.0 c t h.1 h.2

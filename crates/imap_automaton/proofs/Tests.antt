@@ -6,25 +6,25 @@ use Rattle.imap_automaton.specs.declared.sym.Sym.{Sym}
 use Rattle.pushdown.specs.declared.moves.Move.{Move}
 use Rattle.imap_syntax.specs.Octets.{is_digit, is_alnum, is_text, is_word, is_atom}
 use Rattle.imap_syntax.specs.Texts.{crlf}
-use Rattle.imap_automaton.specs.Langs.{After}
+use Rattle.imap_automaton.specs.Langs.{AfterMove}
 use Rattle.std.proofs.Math.Seq.{drop-cons}
 use Rattle.std.proofs.Common.{add-one}
 use Rattle.pushdown.proofs.Lists.{cons_head}
 
 -- what is still read after the move that a test chose
-pub from_test : (b : Bool) (m n : Move Sym) (t : List ℕ) (P : Type 0) → (b ≡ true → After m t → P) → (b ≡ false → After n t → P) → After (cond b m n) t → P
+pub from_test : (b : Bool) (m n : Move Sym) (t : List ℕ) (P : Type 0) → (b ≡ true → AfterMove m t → P) → (b ≡ false → AfterMove n t → P) → AfterMove (cond b m n) t → P
 from_test true m n t P f g h = f refl h
 from_test false m n t P f g h = g refl h
 
-pub to_test : (b : Bool) (m n : Move Sym) (t : List ℕ) → (b ≡ true → After m t) → (b ≡ false → After n t) → After (cond b m n) t
+pub to_test : (b : Bool) (m n : Move Sym) (t : List ℕ) → (b ≡ true → AfterMove m t) → (b ≡ false → AfterMove n t) → AfterMove (cond b m n) t
 to_test true m n t f g = f refl
 to_test false m n t f g = g refl
 
-pub at_true : (b : Bool) (m n : Move Sym) (t : List ℕ) → b ≡ true → After m t → After (cond b m n) t
+pub at_true : (b : Bool) (m n : Move Sym) (t : List ℕ) → b ≡ true → AfterMove m t → AfterMove (cond b m n) t
 at_true true m n t e h = h
 at_true false m n t e h = absurd cc
 
-pub at_false : (b : Bool) (m n : Move Sym) (t : List ℕ) → b ≡ false → After n t → After (cond b m n) t
+pub at_false : (b : Bool) (m n : Move Sym) (t : List ℕ) → b ≡ false → AfterMove n t → AfterMove (cond b m n) t
 at_false true m n t e h = absurd cc
 at_false false m n t e h = h
 

@@ -10,7 +10,7 @@ use Rattle.imap_automaton.specs.StringRules.{flat_start, alone, before}
 use Rattle.imap_automaton.specs.ValueRules.{inner_rule, closes, value_rule}
 use Rattle.imap_automaton.specs.Flow.{stops}
 use Rattle.imap_automaton.specs.StringLangs.{ValuesFirst, ValuesMore, Opened, ValueLang}
-use Rattle.imap_automaton.specs.Langs.{After}
+use Rattle.imap_automaton.specs.Langs.{AfterMove}
 use Rattle.pushdown.proofs.Lists.{cons_head, cons_tail, regroup, ungroup}
 use Rattle.imap_automaton.proofs.Tests.{from_test, at_true, at_false, is_true_at, mid}
 use Rattle.imap_automaton.proofs.StringEdges.{Starts, after_alone, alone_after, after_before, before_after, flat_back, flat_forth, no_flat, flat_some}
@@ -67,7 +67,7 @@ value_first d c t h = elim (value_begins d c t h) [ inl f ↦ (flat_first c t f)
 
 -- ---- Start
 
-start_back : (c : ℕ) (t : List ℕ) → After (value_rule value.Start c) t → IsValue 64 (c ∷ t)
+start_back : (c : ℕ) (t : List ℕ) → AfterMove (value_rule value.Start c) t → IsValue 64 (c ∷ t)
 start_back c t h = from_test (c == 40) (move.One (sym.Value (value.First 0))) (alone (flat_start c)) t (IsValue 64 (c ∷ t))
     (λ e k.
     let inner : ValuesFirst 63 t = subst (ValuesFirst 63) (sym (k.whole ∙ ap (λ (u : List ℕ). k.front ++ u) k.second ∙ append_none k.front)) k.first in
@@ -82,7 +82,7 @@ append_nothing : (x : List ℕ) → x ≡ x ++ []
 append_nothing [] = refl
 append_nothing (c ∷ x) = ap (λ (u : List ℕ). c ∷ u) (append_nothing x)
 
-start_forth : (c : ℕ) (t : List ℕ) → IsValue 64 (c ∷ t) → After (value_rule value.Start c) t
+start_forth : (c : ℕ) (t : List ℕ) → IsValue 64 (c ∷ t) → AfterMove (value_rule value.Start c) t
 start_forth c t h = elim (value_begins 64 c t h) [
   | inl f ↦ at_false (c == 40) (move.One (sym.Value (value.First 0))) (alone (flat_start c)) t (flat_first c t f).0 (alone_after (flat_start c) t (flat_forth c t f))
   | inr l ↦ at_true (c == 40) (move.One (sym.Value (value.First 0))) (alone (flat_start c)) t (eq-eqb c 40 l.0)
@@ -100,7 +100,7 @@ Inner w t = Then (IsValue (63 - w)) (Opened (suc w)) t
 with_octet : (c : ℕ) (t : List ℕ) (A B C : List ℕ → Type 0) → ((u : List ℕ) → A u → C (c ∷ u)) → Then A B t → Then C B (c ∷ t)
 with_octet c t A B C f k = record { front = c ∷ k.front; back = k.back; whole = ap (λ (u : List ℕ). c ∷ u) k.whole; first = f k.front k.first; second = k.second }
 
-inner_back : (w c : ℕ) (t : List ℕ) → After (inner_rule w c) t → Inner w (c ∷ t)
+inner_back : (w c : ℕ) (t : List ℕ) → AfterMove (inner_rule w c) t → Inner w (c ∷ t)
 inner_back w c t h = from_test (c == 40) (cond (nat_lt w 63) (move.One (sym.Value (value.First (w + 1)))) move.Fail) (before (sym.Value (value.More w)) (flat_start c)) t
     (Inner w (c ∷ t))
     (λ e k. from_test (nat_lt w 63) (move.One (sym.Value (value.First (w + 1)))) move.Fail t (Inner w (c ∷ t))
@@ -115,7 +115,7 @@ inner_back w c t h = from_test (c == 40) (cond (nat_lt w 63) (move.One (sym.Valu
     (λ e k. with_octet c t (Starts (flat_start c)) (Opened (suc w)) (IsValue (63 - w)) (λ u a. flat_value (63 - w) (c ∷ u) (flat_back c u a))
     (after_before (sym.Value (value.More w)) (flat_start c) t k)) h
 
-inner_at : (w c : ℕ) (t x y : List ℕ) → c ∷ t ≡ x ++ y → IsValue (63 - w) x → Opened (suc w) y → After (inner_rule w c) t
+inner_at : (w c : ℕ) (t x y : List ℕ) → c ∷ t ≡ x ++ y → IsValue (63 - w) x → Opened (suc w) y → AfterMove (inner_rule w c) t
 inner_at w c t [] y e v o = absurd (no_value (63 - w) v)
 inner_at w c t (d ∷ x) y e v o =
     let v' : IsValue (63 - w) (c ∷ x) = subst (λ (n : ℕ). IsValue (63 - w) (n ∷ x)) (sym (cons_head c d t (x ++ y) e)) v in
@@ -132,12 +132,12 @@ inner_at w c t (d ∷ x) y e v o =
           (record { front = x; back = y; whole = f; first = subst (λ (n : ℕ). ValuesFirst n x) deep l.2; second = subst (λ (n : ℕ). Opened n y) (sym (add_one w)) o })))
     ]
 
-inner_forth : (w c : ℕ) (t : List ℕ) → Inner w (c ∷ t) → After (inner_rule w c) t
+inner_forth : (w c : ℕ) (t : List ℕ) → Inner w (c ∷ t) → AfterMove (inner_rule w c) t
 inner_forth w c t h = inner_at w c t h.front h.back h.whole h.first h.second
 
 -- ---- the closing bracket
 
-closes_back : (w : ℕ) (t : List ℕ) → After (closes w) t → Opened w t
+closes_back : (w : ℕ) (t : List ℕ) → AfterMove (closes w) t → Opened w t
 closes_back w t h = from_test (w == 0) move.End (move.One (sym.Value (value.More (w - 1)))) t (Opened w t)
     (λ e k. subst (λ (n : ℕ). Opened n t) (sym (eqb-true w 0 e)) k)
     (λ e k. let ne : w ≡ 0 → ⊥ = eqb-false w 0 e in subst (λ (n : ℕ). Opened n t) (less w ne) k) h
@@ -145,7 +145,7 @@ closes_back w t h = from_test (w == 0) move.End (move.One (sym.Value (value.More
     less : (w : ℕ) → (w ≡ 0 → ⊥) → suc (w - 1) ≡ w
     less w ne = omega (arith, ne)
 
-closes_forth : (w : ℕ) (t : List ℕ) → Opened w t → After (closes w) t
+closes_forth : (w : ℕ) (t : List ℕ) → Opened w t → AfterMove (closes w) t
 closes_forth zero t h = at_true (0 == 0) move.End (move.One (sym.Value (value.More (0 - 1)))) t refl h
 closes_forth (suc w) t h =
     let same : w ≡ suc w - 1 = omega arith in
@@ -167,7 +167,7 @@ first_of w t h =
     let j = k.first in
     record { front = k.front; back = k.back; whole = k.whole; first = (j.front ∷ j.second.0, (j.first, j.second.1), values_join (63 - w) k.front j); second = k.second }
 
-first_back : (w c : ℕ) (t : List ℕ) → After (value_rule (value.First w) c) t → ValueLang (value.First w) (c ∷ t)
+first_back : (w c : ℕ) (t : List ℕ) → AfterMove (value_rule (value.First w) c) t → ValueLang (value.First w) (c ∷ t)
 first_back w c t h = from_test (c == 41) (closes w) (inner_rule w c) t (ValueLang (value.First w) (c ∷ t))
     (λ e k. record { front = 41 ∷ []; back = t; whole = ap (λ (n : ℕ). n ∷ t) (eqb-true c 41 e); first = ([], tt, refl); second = closes_back w t k })
     (λ e k. first_of w (c ∷ t) (inner_back w c t k)) h
@@ -192,7 +192,7 @@ inner_first w c t h = by h.front h.back h.whole h.first
     by (d ∷ x) y e v = ap (λ (n : ℕ). n == 41) (cons_head c d t (x ++ y) e) ∙ value_first (63 - w) d x v
 
 first_at : (w c : ℕ) (t x y : List ℕ) (vs : List (List ℕ)) → c ∷ t ≡ x ++ y → AllOf (IsValue (63 - w)) vs → x ≡ joined vs ++ 41 ∷ [] → Opened w y
-    → After (value_rule (value.First w) c) t
+    → AfterMove (value_rule (value.First w) c) t
 first_at w c t x y [] e all f o =
     let g : c ∷ t ≡ 41 ∷ y = e ∙ ap (λ (u : List ℕ). u ++ y) f in
     at_true (c == 41) (closes w) (inner_rule w c) t (eq-eqb c 41 (cons_head c 41 t y g)) (closes_forth w t (subst (Opened w) (sym (cons_tail c 41 t y g)) o))
@@ -212,13 +212,13 @@ more_of w c t e h =
       second = k.second;
     }
 
-more_back : (w c : ℕ) (t : List ℕ) → After (value_rule (value.More w) c) t → Opened (suc w) (c ∷ t)
+more_back : (w c : ℕ) (t : List ℕ) → AfterMove (value_rule (value.More w) c) t → Opened (suc w) (c ∷ t)
 more_back w c t h = from_test (c == 32) (move.One (sym.Value (value.Next w))) (cond (c == 41) (closes w) move.Fail) t (Opened (suc w) (c ∷ t))
     (λ e k. more_of w c t (eqb-true c 32 e) k)
     (λ e k. from_test (c == 41) (closes w) move.Fail t (Opened (suc w) (c ∷ t)) (λ f l. closed_more w c t (eqb-true c 41 f) (closes_back w t l)) (λ f l. absurd l) k) h
 
 more_at : (w c : ℕ) (t x y : List ℕ) (vs : List (List ℕ)) → c ∷ t ≡ x ++ y → AllOf (IsValue (63 - w)) vs → x ≡ spaced vs ++ 41 ∷ [] → Opened w y
-    → After (value_rule (value.More w) c) t
+    → AfterMove (value_rule (value.More w) c) t
 more_at w c t x y [] e all f o =
     let g : c ∷ t ≡ 41 ∷ y = e ∙ ap (λ (u : List ℕ). u ++ y) f in
     let same : c ≡ 41 = cons_head c 41 t y g in
@@ -232,13 +232,13 @@ more_at w c t x y (v ∷ vs) e all f o =
 
 -- ---- the group
 
-pub value_back : (s : Value) (c : ℕ) (t : List ℕ) → After (value_rule s c) t → ValueLang s (c ∷ t)
+pub value_back : (s : Value) (c : ℕ) (t : List ℕ) → AfterMove (value_rule s c) t → ValueLang s (c ∷ t)
 value_back value.Start c t h = start_back c t h
 value_back (value.First w) c t h = first_back w c t h
 value_back (value.Next w) c t h = inner_back w c t h
 value_back (value.More w) c t h = more_back w c t h
 
-pub value_forth : (s : Value) (c : ℕ) (t : List ℕ) → ValueLang s (c ∷ t) → After (value_rule s c) t
+pub value_forth : (s : Value) (c : ℕ) (t : List ℕ) → ValueLang s (c ∷ t) → AfterMove (value_rule s c) t
 value_forth value.Start c t h = start_forth c t h
 value_forth (value.First w) c t h = first_at w c t h.front h.back h.first.0 h.whole h.first.1 h.first.2 h.second
 value_forth (value.Next w) c t h = inner_forth w c t h

@@ -25,7 +25,7 @@ use Rattle.pushdown.specs.declared.moves.Move.TheVariants as move
 use Rattle.imap_automaton.specs.Counts.{pend}
 use Rattle.imap_automaton.specs.Keys.{key_text, keys, is_among, in_word, goes_on, next_key, is_whole, whole_key}
 use Rattle.imap_automaton.specs.WordRules.{rest_rule, spaced_rule, end_rule, behind_key, stray, word_goes, word_ends, word_rule}
-use Rattle.imap_automaton.specs.Langs.{FreeLang, ItemLang, NamesLang, SetLang, IsSpaced, Among, IsBehind, IsStray, WordSays, WordRest, Lang, After}
+use Rattle.imap_automaton.specs.Langs.{FreeLang, ItemLang, NamesLang, SetLang, IsSpaced, Among, IsBehind, IsStray, WordSays, WordRest, Lang, AfterMove}
 use Rattle.imap_automaton.specs.StringLangs.{StrLang}
 use Rattle.imap_automaton.specs.FolderLangs.{FolderLang}
 pub use Rattle.pushdown.proofs.Lists.{Cut, cut}
@@ -46,12 +46,12 @@ use Rattle.imap_syntax.specs.Lines.{IsLine, IsRest}
 
 -- ---- after a key
 
-rest_back : (c : ℕ) (t : List ℕ) → After (rest_rule c) t → IsRest (c ∷ t)
+rest_back : (c : ℕ) (t : List ℕ) → AfterMove (rest_rule c) t → IsRest (c ∷ t)
 rest_back c t h = from_test (c == 32) (move.One (sym.Line line.Text)) (cond (c == 13) (move.One (sym.Line (line.Fixed phrase.Crlf 1))) move.Fail) t (IsRest (c ∷ t))
     (λ e k. inr (t, ap (λ (n : ℕ). n ∷ t) (eqb-true c 32 e), k))
     (λ e k. from_test (c == 13) (move.One (sym.Line (line.Fixed phrase.Crlf 1))) move.Fail t (IsRest (c ∷ t)) (λ f l. inl (crlf_of c t (eqb-true c 13 f) l)) (λ f l. absurd l) k) h
 
-rest_forth : (c : ℕ) (t : List ℕ) → IsRest (c ∷ t) → After (rest_rule c) t
+rest_forth : (c : ℕ) (t : List ℕ) → IsRest (c ∷ t) → AfterMove (rest_rule c) t
 rest_forth c t (inl e) =
     let k = crlf_parts c t e in
     at_false (c == 32) (move.One (sym.Line line.Text)) (cond (c == 13) (move.One (sym.Line (line.Fixed phrase.Crlf 1))) move.Fail) t (ap (λ (n : ℕ). n == 32) k.0)
@@ -61,26 +61,26 @@ rest_forth c t (inr w) =
     (subst IsLine (sym (cons_tail c 32 t w.0 w.1)) w.2)
 
 -- the end of the line
-end_back : (c : ℕ) (t : List ℕ) → After (end_rule c) t → IsCrlf (c ∷ t)
+end_back : (c : ℕ) (t : List ℕ) → AfterMove (end_rule c) t → IsCrlf (c ∷ t)
 end_back c t h = from_test (c == 13) (move.One (sym.Line (line.Fixed phrase.Crlf 1))) move.Fail t (IsCrlf (c ∷ t)) (λ e k. crlf_of c t (eqb-true c 13 e) k) (λ e k. absurd k) h
 
-end_forth : (c : ℕ) (t : List ℕ) → IsCrlf (c ∷ t) → After (end_rule c) t
+end_forth : (c : ℕ) (t : List ℕ) → IsCrlf (c ∷ t) → AfterMove (end_rule c) t
 end_forth c t e = let k = crlf_parts c t e in at_true (c == 13) (move.One (sym.Line (line.Fixed phrase.Crlf 1))) move.Fail t (eq-eqb c 13 k.0) k.1
 
 -- a space, and what a move reads
-spaced_move_back : (m : Move Sym) (c : ℕ) (t : List ℕ) → After (spaced_rule m c) t → IsSpaced (After m) (c ∷ t)
-spaced_move_back m c t h = from_test (c == 32) m move.Fail t (IsSpaced (After m) (c ∷ t)) (λ e k. (t, ap (λ (n : ℕ). n ∷ t) (eqb-true c 32 e), k)) (λ e k. absurd k) h
+spaced_move_back : (m : Move Sym) (c : ℕ) (t : List ℕ) → AfterMove (spaced_rule m c) t → IsSpaced (AfterMove m) (c ∷ t)
+spaced_move_back m c t h = from_test (c == 32) m move.Fail t (IsSpaced (AfterMove m) (c ∷ t)) (λ e k. (t, ap (λ (n : ℕ). n ∷ t) (eqb-true c 32 e), k)) (λ e k. absurd k) h
 
-spaced_move_forth : (m : Move Sym) (c : ℕ) (t : List ℕ) → IsSpaced (After m) (c ∷ t) → After (spaced_rule m c) t
-spaced_move_forth m c t h = at_true (c == 32) m move.Fail t (eq-eqb c 32 (cons_head c 32 t h.0 h.1)) (subst (After m) (sym (cons_tail c 32 t h.0 h.1)) h.2)
+spaced_move_forth : (m : Move Sym) (c : ℕ) (t : List ℕ) → IsSpaced (AfterMove m) (c ∷ t) → AfterMove (spaced_rule m c) t
+spaced_move_forth m c t h = at_true (c == 32) m move.Fail t (eq-eqb c 32 (cons_head c 32 t h.0 h.1)) (subst (AfterMove m) (sym (cons_tail c 32 t h.0 h.1)) h.2)
 
-spaced_back : (s : Sym) (c : ℕ) (t : List ℕ) → After (spaced_rule (move.One s) c) t → IsSpaced (Lang s) (c ∷ t)
+spaced_back : (s : Sym) (c : ℕ) (t : List ℕ) → AfterMove (spaced_rule (move.One s) c) t → IsSpaced (Lang s) (c ∷ t)
 spaced_back s c t h = from_test (c == 32) (move.One s) move.Fail t (IsSpaced (Lang s) (c ∷ t)) (λ e k. (t, ap (λ (n : ℕ). n ∷ t) (eqb-true c 32 e), k)) (λ e k. absurd k) h
 
-spaced_forth : (s : Sym) (c : ℕ) (t : List ℕ) → IsSpaced (Lang s) (c ∷ t) → After (spaced_rule (move.One s) c) t
+spaced_forth : (s : Sym) (c : ℕ) (t : List ℕ) → IsSpaced (Lang s) (c ∷ t) → AfterMove (spaced_rule (move.One s) c) t
 spaced_forth s c t h = at_true (c == 32) (move.One s) move.Fail t (eq-eqb c 32 (cons_head c 32 t h.0 h.1)) (subst (Lang s) (sym (cons_tail c 32 t h.0 h.1)) h.2)
 
-behind_back : (p : Place) (k : Key) (c : ℕ) (t : List ℕ) → After (behind_key p k c) t → IsBehind p k (c ∷ t)
+behind_back : (p : Place) (k : Key) (c : ℕ) (t : List ℕ) → AfterMove (behind_key p k c) t → IsBehind p k (c ∷ t)
 behind_back place.Tagged key.Ok c t h = rest_back c t h
 behind_back place.Tagged key.No c t h = rest_back c t h
 behind_back place.Tagged key.Bad c t h = rest_back c t h
@@ -110,7 +110,7 @@ behind_back place.Item key.BodyPart c t h = spaced_back (sym.Str str.NString) c 
 behind_back place.Month k c t h = time_back 0 c t h
 behind_back _ _ c t h = absurd h
 
-behind_forth : (p : Place) (k : Key) (c : ℕ) (t : List ℕ) → IsBehind p k (c ∷ t) → After (behind_key p k c) t
+behind_forth : (p : Place) (k : Key) (c : ℕ) (t : List ℕ) → IsBehind p k (c ∷ t) → AfterMove (behind_key p k c) t
 behind_forth place.Tagged key.Ok c t h = rest_forth c t h
 behind_forth place.Tagged key.No c t h = rest_forth c t h
 behind_forth place.Tagged key.Bad c t h = rest_forth c t h
@@ -179,14 +179,14 @@ behind_none _ _ h = h
 
 -- ---- at a word that is no key
 
-stray_back : (p : Place) (k : Key) (at c : ℕ) (t : List ℕ) → After (stray p k at c) t → IsStray p (take at (key_text k)) (c ∷ t)
+stray_back : (p : Place) (k : Key) (at c : ℕ) (t : List ℕ) → AfterMove (stray p k at c) t → IsStray p (take at (key_text k)) (c ∷ t)
 stray_back place.Plain k at c t h = text_back pending.Nothing c t h
 stray_back place.Numbered k at c t h = text_back pending.Nothing c t h
 stray_back place.Tagged k at c t h = absurd h
 stray_back place.Item k at c t h = item_name_back (name_from name.Plain (take at (key_text k))) c t h
 stray_back place.Month k at c t h = absurd h
 
-stray_forth : (p : Place) (k : Key) (at c : ℕ) (t : List ℕ) → IsStray p (take at (key_text k)) (c ∷ t) → After (stray p k at c) t
+stray_forth : (p : Place) (k : Key) (at c : ℕ) (t : List ℕ) → IsStray p (take at (key_text k)) (c ∷ t) → AfterMove (stray p k at c) t
 stray_forth place.Plain k at c t h = text_forth pending.Nothing c t h
 stray_forth place.Numbered k at c t h = text_forth pending.Nothing c t h
 stray_forth place.Tagged k at c t h = absurd h
@@ -261,7 +261,7 @@ says_comes p begun c w tail t e f g (inr s) = inr (λ k m q. s.0 k m (append_ass
 -- the word's text is taken from the text of its front
 goes_forth_at : (p : Place) (k : Key) (at c : ℕ) (t w tail : List ℕ) (o : Option Key) → next_key p k at (lower c) ≡ o → at ≤ length (key_text k) → in_word p c ≡ true
     → t ≡ w ++ tail → Each (in_word p) w → in_word p (get_or tail 0 0) ≡ false → WordSays p (take at (key_text k)) (take at (key_text k) ++ map lower (c ∷ w)) tail (c ∷ t)
-    → After (word_goes p k at c o) t
+    → AfterMove (word_goes p k at c o) t
 goes_forth_at p k at c t w tail (Some x) e le i whole each longest says =
     let f = find_some (goes_on k at (lower c)) (k ∷ keys p) x e in
     let g = goes_to k x at (lower c) f.0 in
@@ -285,7 +285,7 @@ goes_whole k x at c e = sym (append_assoc (take at (key_text k)) (c ∷ []) (dro
     ∙ take-append-drop (at + 1) (key_text x)
 
 goes_back_at : (p : Place) (k : Key) (at c : ℕ) (t : List ℕ) (o : Option Key) → next_key p k at (lower c) ≡ o → at ≤ length (key_text k) → in_word p c ≡ true
-    → After (word_goes p k at c o) t → WordRest p (take at (key_text k)) (c ∷ t)
+    → AfterMove (word_goes p k at c o) t → WordRest p (take at (key_text k)) (c ∷ t)
 goes_back_at p k at c t (Some x) e le i h =
     let f = find_some (goes_on k at (lower c)) (k ∷ keys p) x e in
     let g = goes_to k x at (lower c) f.0 in
@@ -314,7 +314,7 @@ goes_back_at p k at c t None e le i h =
 -- ---- an octet after the word
 
 ends_forth : (p : Place) (k : Key) (at c : ℕ) (t : List ℕ) (o : Option Key) → whole_key p k at ≡ o → at ≤ length (key_text k) → is_among k (keys p) ≡ true
-    → WordSays p (take at (key_text k)) (take at (key_text k) ++ []) (c ∷ t) (c ∷ t) → After (word_ends p k at c o) t
+    → WordSays p (take at (key_text k)) (take at (key_text k) ++ []) (c ∷ t) (c ∷ t) → AfterMove (word_ends p k at c o) t
 ends_forth p k at c t (Some x) e le m (inl y) =
     let f = find_some (is_whole k at) (k ∷ keys p) x e in
     let same : y.0 ≡ x = one_key y.0 x (sym y.2 ∙ append-nil (take at (key_text k)) ∙ whole_to k x at f.0) in
@@ -326,7 +326,7 @@ ends_forth p k at c t None e le m (inl y) = absurd (find_none (is_whole k at) (k
 ends_forth p k at c t None e le m (inr s) = stray_forth p k at c t s.1
 
 ends_back : (p : Place) (k : Key) (at c : ℕ) (t : List ℕ) (o : Option Key) → whole_key p k at ≡ o → at ≤ length (key_text k) → is_among k (keys p) ≡ true
-    → After (word_ends p k at c o) t → WordSays p (take at (key_text k)) (take at (key_text k) ++ []) (c ∷ t) (c ∷ t)
+    → AfterMove (word_ends p k at c o) t → WordSays p (take at (key_text k)) (take at (key_text k) ++ []) (c ∷ t) (c ∷ t)
 ends_back p k at c t (Some x) e le m h =
     let f = find_some (is_whole k at) (k ∷ keys p) x e in
     inl (x, among_keys p k x m f.1, append-nil (take at (key_text k)) ∙ whole_to k x at f.0, behind_back p x c t h)
@@ -335,7 +335,7 @@ ends_back p k at c t None e le m h =
 
 -- ---- the group
 
-pub word_back : (p : Place) (k : Key) (at c : ℕ) (t : List ℕ) → at ≤ length (key_text k) → is_among k (keys p) ≡ true → After (word_rule p k at c) t
+pub word_back : (p : Place) (k : Key) (at c : ℕ) (t : List ℕ) → at ≤ length (key_text k) → is_among k (keys p) ≡ true → AfterMove (word_rule p k at c) t
     → WordRest p (take at (key_text k)) (c ∷ t)
 word_back p k at c t le m h = from_test (in_word p c) (word_goes p k at c (next_key p k at (lower c))) (cond (at == 0) move.Fail (word_ends p k at c (whole_key p k at))) t
     (WordRest p (take at (key_text k)) (c ∷ t))
@@ -354,7 +354,7 @@ word_back p k at c t le m h = from_test (in_word p c) (word_goes p k at c (next_
 
 word_at : (p : Place) (k : Key) (at c : ℕ) (t w tail : List ℕ) → at ≤ length (key_text k) → is_among k (keys p) ≡ true → c ∷ t ≡ w ++ tail → Each (in_word p) w
     → 0 < length (take at (key_text k)) + length w → in_word p (get_or tail 0 0) ≡ false → WordSays p (take at (key_text k)) (take at (key_text k) ++ map lower w) tail (c ∷ t)
-    → After (word_rule p k at c) t
+    → AfterMove (word_rule p k at c) t
 word_at p k at c t [] tail le m e each some longest says =
     let out : in_word p c ≡ false = ap (λ (u : List ℕ). in_word p (get_or u 0 0)) e ∙ longest in
     let n : length (take at (key_text k)) ≡ at = length-take-le at (key_text k) le in
@@ -372,7 +372,7 @@ word_at p k at c t (d ∷ w) tail le m e each some longest says =
     (subst (λ (q : ℕ). WordSays p (take at (key_text k)) (take at (key_text k) ++ map lower (q ∷ w)) tail (c ∷ t)) same says))
 
 pub word_forth : (p : Place) (k : Key) (at c : ℕ) (t : List ℕ) → at ≤ length (key_text k) → is_among k (keys p) ≡ true → WordRest p (take at (key_text k)) (c ∷ t)
-    → After (word_rule p k at c) t
+    → AfterMove (word_rule p k at c) t
 word_forth p k at c t le m h = word_at p k at c t h.word h.tail le m h.whole h.each h.some h.longest h.says
 
 pub word_empty : (p : Place) (begun : List ℕ) → WordRest p begun [] → ⊥

@@ -268,9 +268,9 @@ Lang (sym.Value s) t = ValueLang s t
 Lang (sym.Folder s) t = FolderLang s t
 
 -- the symbols in turn
-abbrev pub Langs : List Sym → List ℕ → Type 0
-Langs ss t = machine.Langs Lang ss t
+abbrev pub InTurn : List Sym → List ℕ → Type 0
+InTurn ss t = machine.Langs Lang ss t
 
 -- what is still read after a move
-abbrev pub After : Move Sym → List ℕ → Type 0
-After m t = machine.After Lang m t
+abbrev pub AfterMove : Move Sym → List ℕ → Type 0
+AfterMove m t = machine.After Lang m t

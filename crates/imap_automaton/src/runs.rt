@@ -4,7 +4,7 @@ ghost use Rattle.imap_automaton.specs.Keys as keywords;
 ghost use Rattle.imap_syntax.specs.Octets as classes;
 ghost use Rattle.imap_automaton.specs.Fits.{SymFits, ItemFits, LineFits};
 ghost use Rattle.imap_automaton.specs.Responses.{responses};
-ghost use Rattle.pushdown.specs.Run.{RunsTo};
+ghost use Rattle.pushdown.specs.Run.{LeadsTo};
 
 use crate::class::{is_atom, lower};
 use crate::item_rule::{long_rule, number_rule};
@@ -26,7 +26,7 @@ fn word_run(place: Place, key: Key, at: u8, octets: &[u8]) -> usize
     requires { at ≤ length (keywords.key_text key) }
     ensures within { result ≤ length octets.now }
     ensures key { at + result ≤ length (keywords.key_text key) }
-    ensures run { RunsTo responses (Sym.Word place key at) (take result octets.now) (Sym.Word place key (at + result)) }
+    ensures run { LeadsTo responses (Sym.Word place key at) (take result octets.now) (Sym.Word place key (at + result)) }
 {
     let mut count: usize = 0;
     while count < octets.len() && takes(place, key, at as usize + count, octets[count] as u16) {
@@ -39,7 +39,7 @@ fn word_run(place: Place, key: Key, at: u8, octets: &[u8]) -> usize
 fn number_run(value: u32, digits: u8, octets: &[u8]) -> (Item, usize)
     requires { IsTrue (ItemFits (Item.Number value digits)) }
     ensures within { result.1 ≤ length octets.now }
-    ensures run { RunsTo responses (Sym.Item (Item.Number value digits)) (take result.1 octets.now) (Sym.Item result.0) }
+    ensures run { LeadsTo responses (Sym.Item (Item.Number value digits)) (take result.1 octets.now) (Sym.Item result.0) }
 {
     let mut so_far = value;
     let mut length = digits;
@@ -57,7 +57,7 @@ fn number_run(value: u32, digits: u8, octets: &[u8]) -> (Item, usize)
 fn long_run(value: u64, digits: u8, octets: &[u8]) -> (Item, usize)
     requires { IsTrue (ItemFits (Item.Long value digits)) }
     ensures within { result.1 ≤ length octets.now }
-    ensures run { RunsTo responses (Sym.Item (Item.Long value digits)) (take result.1 octets.now) (Sym.Item result.0) }
+    ensures run { LeadsTo responses (Sym.Item (Item.Long value digits)) (take result.1 octets.now) (Sym.Item result.0) }
 {
     let mut so_far = value;
     let mut length = digits;
@@ -75,7 +75,7 @@ fn long_run(value: u64, digits: u8, octets: &[u8]) -> (Item, usize)
 fn sequence_run(value: u32, digits: u8, octets: &[u8]) -> (Line, usize)
     requires { IsTrue (LineFits (Line.Sequence value digits)) }
     ensures within { result.1 ≤ length octets.now }
-    ensures run { RunsTo responses (Sym.Line (Line.Sequence value digits)) (take result.1 octets.now) (Sym.Line result.0) }
+    ensures run { LeadsTo responses (Sym.Line (Line.Sequence value digits)) (take result.1 octets.now) (Sym.Line result.0) }
 {
     let mut so_far = value;
     let mut length = digits;
@@ -93,7 +93,7 @@ fn sequence_run(value: u32, digits: u8, octets: &[u8]) -> (Line, usize)
 /// How many octets at the front go on with an atom.
 fn atom_run(octets: &[u8]) -> usize
     ensures within { result ≤ length octets.now }
-    ensures run { RunsTo responses (Sym.Names Names.AtomRest) (take result octets.now) (Sym.Names Names.AtomRest) }
+    ensures run { LeadsTo responses (Sym.Names Names.AtomRest) (take result octets.now) (Sym.Names Names.AtomRest) }
 {
     for (i, c) in octets.iter().enumerate() {
         if !is_atom(*c as u16) {
@@ -108,7 +108,7 @@ fn atom_run(octets: &[u8]) -> usize
 pub fn run_of(symbol: Sym, octets: &[u8]) -> (Sym, usize)
     requires { IsTrue (SymFits symbol) }
     ensures within { result.1 ≤ length octets.now }
-    ensures run { RunsTo responses symbol (take result.1 octets.now) result.0 }
+    ensures run { LeadsTo responses symbol (take result.1 octets.now) result.0 }
 {
     match symbol {
         Sym::Word(place, key, at) => {

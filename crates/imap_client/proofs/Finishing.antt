@@ -27,7 +27,7 @@ use Rattle.imap_client.specs.declared.round.RoundStage.TheVariants as stage
 use Rattle.imap_client.specs.Connecting.{is_ok}
 use Rattle.imap_client.specs.LinkLife.{LinkLife, ClientState, next_number}
 use Rattle.imap_client.specs.Plans.{Planned, Ran, Begun, Then, IsEnd, Finished, Failed, Broken, Gone, Wanting}
-use Rattle.imap_client.specs.Rounds.{Rounds, RoundState, round_due, round_step, round_from, of_folder, select_of, headers_of, known_of, has_modseqs, is_sliced, slice_of}
+use Rattle.imap_client.specs.Rounds.{Rounds, RoundState, round_due, round_step, round_from, of_folder, select_of, headers_of, known_folder, has_modseqs, is_sliced, slice_of}
 use Rattle.imap_client.specs.Rounds.{new_of, uid_next_told, tells_validity, selectable_from, selecting, next_stage, fetching, fetched_stage, selected_stage, is_sliced_in}
 use Rattle.imap_client.specs.Rounds.{is_slicing, obeyed, round_after}
 use Rattle.imap_client.specs.WholeRounds.{IsObeyed, FetchesHeaders, Slice, Rest, FetchesFolder, WithModseqs, WithoutModseqs, AsksFolder, Asked, VisitsFrom, NoMore, Visits}

@@ -10,25 +10,25 @@ use Rattle.imap_exchange.specs.declared.link_end.LinkEnd.{LinkEnd}
 use Rattle.imap_exchange.specs.declared.link_end.LinkEnd.TheVariants as end
 use Rattle.imap_client.specs.declared.connection.Stage.{Stage}
 use Rattle.imap_client.specs.declared.connection.Stage.TheVariants as stage
-use Rattle.imap_exchange.specs.Received.{Octets, begun}
+use Rattle.imap_exchange.specs.Received.{Octets, nothing_given}
 use Rattle.imap_client.specs.LinkLife.{LinkLife, ClientState, Stands, begun_with}
 use Rattle.imap_exchange.specs.Answering.{end_unless}
-use Rattle.imap_exchange.specs.Responses.{Reads, IsOver}
+use Rattle.imap_exchange.specs.Responses.{ReadsResponse, IsOver}
 use Rattle.imap_exchange.specs.Answering.{IsTooMuch, HangsUp}
 use Rattle.told_folder.specs.declared.exchange.Exchange.{Exchange}
 use Rattle.imap_client.specs.Plans.{Follows}
 use Rattle.imap_client.specs.Connecting.{Greets, GreetsBy, greeting_says, planned_from, Lives, Unwelcome, Welcome, Connects, Lived}
 
 -- no greeting came
-pub ungreeted : {es : List Event} (after : Octets) (up : Bool) (e : LinkEnd) → Reads 0 true up begun after (Err e) es → Greets after up (Err e) es
+pub ungreeted : {es : List Event} (after : Octets) (up : Bool) (e : LinkEnd) → ReadsResponse 0 true up nothing_given after (Err e) es → Greets after up (Err e) es
 ungreeted after up end.Lost r = record { talk = r.talk; gave = r.gave; ended = r.ended; first = record { said = r.said; needed = r.needed }; greets = (r.reads.0, room r.gave r.reads.1) }
   where
-    room : (gave : List ℕ) → (IsOver 0 (0 + length gave) → ⊥) → IsTooMuch begun gave → ⊥
+    room : (gave : List ℕ) → (IsOver 0 (0 + length gave) → ⊥) → IsTooMuch nothing_given gave → ⊥
     room gave none (inl over) = none (inl (omega (arith, over)))
     room gave none (inr over) = none (inr over)
 ungreeted after up end.TooMuch r = record { talk = r.talk; gave = r.gave; ended = r.ended; first = record { said = r.said; needed = r.needed }; greets = (r.reads.0, too_much r.gave r.reads.1) }
   where
-    too_much : (gave : List ℕ) → IsOver 0 (0 + length gave) → IsTooMuch begun gave
+    too_much : (gave : List ℕ) → IsOver 0 (0 + length gave) → IsTooMuch nothing_given gave
     too_much gave (inl over) = inl (omega (arith, over))
     too_much gave (inr over) = inr over
 ungreeted after up (end.Bad at) r = record { talk = r.talk; gave = r.gave; ended = r.ended; first = record { said = r.said; needed = r.needed }; greets = (r.reads.0, r.reads.1, omega (arith, r.reads.2)) }
@@ -45,7 +45,7 @@ only_bye (Untagged status.Bye k) e is = cc
 only_bye (Untagged status.Preauth k) e is = absurd (cc is)
 only_bye _ e is = absurd (cc is)
 
-pub greeted : {es : List Event} (after : Octets) (up : Bool) (w : Response) (says : Result Bool LinkEnd) → greeting_says w ≡ says → Reads 0 true up begun after (Ok w) es
+pub greeted : {es : List Event} (after : Octets) (up : Bool) (w : Response) (says : Result Bool LinkEnd) → greeting_says w ≡ says → ReadsResponse 0 true up nothing_given after (Ok w) es
     → Greets after up says es
 greeted after up w (Ok preauth) is r =
     record { talk = r.talk; gave = r.gave; ended = r.ended; first = record { said = r.said; needed = r.needed }; greets = (w, is, (r.reads.0, after.octets, r.reads.1, r.reads.2, refl), omega (arith, r.reads.3)) }
@@ -61,7 +61,7 @@ greeted after up w (Err end.NoQresync) is r = let never = only_bye w end.NoQresy
 greeted after up w (Err end.Lacks) is r = let never = only_bye w end.Lacks is in absurd (cc never)
 
 -- why there is no greeting doesn't depend on what is unread
-unwelcome_alone : (gave : List ℕ) (after : Octets) (e : LinkEnd) → GreetsBy gave after (Err e) → GreetsBy gave begun (Err e)
+unwelcome_alone : (gave : List ℕ) (after : Octets) (e : LinkEnd) → GreetsBy gave after (Err e) → GreetsBy gave nothing_given (Err e)
 unwelcome_alone gave after end.Lost so = so
 unwelcome_alone gave after end.TooMuch so = so
 unwelcome_alone gave after (end.Bad at) so = so

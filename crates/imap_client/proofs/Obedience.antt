@@ -22,7 +22,7 @@ use Rattle.imap_exchange.proofs.Verdicts.{one_verdict}
 use Rattle.imap_client.specs.declared.plan.Due.TheVariants as due
 use Rattle.imap_client.specs.declared.plan.Refusal.{Refusal}
 use Rattle.imap_client.specs.LinkLife.{LinkLife, ClientState, next_number, selected, selected_after, with_exchange, unread}
-use Rattle.imap_client.specs.Calls.{Completes, Breaks}
+use Rattle.imap_client.specs.Calls.{CompletesExchange, Breaks}
 use Rattle.imap_client.specs.Plans.{Planned, Ran, Begun, Then, IsEnd, Finished, Failed, Broken, Gone, Wanting, Follows}
 use Rattle.imap_client.specs.Obeying.{Obeys, AllDone, Answered}
 use Rattle.imap_client.proofs.Lives.{verdict_more, selected_of}
@@ -69,7 +69,7 @@ selected_next mid after gave took rest x on is on' =
 
 -- the next exchange is the one that obeys
 obeyed_next : {plan : Planned} {heard : List Exchange} {mid after : LinkLife} {events : List Event} (octets : List ℕ) (command : Command) (x : Exchange)
-    → plan heard ≡ due.Send command → (c : Completes mid command x after events)
+    → plan heard ≡ due.Send command → (c : CompletesExchange mid command x after events)
     → Obeys plan heard (next_number mid) (selected mid) (mid.rest ++ (c.speaks.gave ++ octets)) → Left plan (heard ++ x ∷ []) after (after.rest ++ octets)
 obeyed_next octets command x is c (AllDone over) = absurd (send_not_done command (sym over ∙ is))
 obeyed_next {plan} {heard} {mid} {after} octets command x is c (Answered y rest asked folder_is verdict more) =

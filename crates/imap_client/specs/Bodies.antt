@@ -60,9 +60,9 @@ body_due folder uid stage.Fetching m = due.Send (command.FetchBody uid)
 body_due folder uid (stage.Fetched body) m = due.Done
 body_due folder uid (stage.Failing why) m = due.Fails why
 
-abbrev pub validity_of : Option Folder → ℕ
-validity_of (Some f) = f.validity
-validity_of None = 0
+abbrev pub folder_validity : Option Folder → ℕ
+folder_validity (Some f) = f.validity
+folder_validity None = 0
 
 -- another validity: it is another folder
 abbrev pub selected_stage : ℕ → ℕ → BodyStage
@@ -78,7 +78,7 @@ fetched None = stage.Failing refusal.Lacks
 
 -- The stage once an exchange is answered OK: the validity before it, its responses, and the mail that is told then.
 abbrev pub body_obeyed : ℕ → ℕ → BodyStage → ℕ → List Response → Mail → BodyStage
-body_obeyed folder uid stage.Selecting validity rs told = selected_stage validity (validity_of (folder_in told.folders folder))
+body_obeyed folder uid stage.Selecting validity rs told = selected_stage validity (folder_validity (folder_in told.folders folder))
 body_obeyed folder uid stage.Fetching validity rs told = fetched (last_body uid None rs)
 body_obeyed folder uid (stage.Fetched body) validity rs told = stage.Fetched body
 body_obeyed folder uid (stage.Failing why) validity rs told = stage.Failing why
@@ -93,7 +93,7 @@ pub record BodyState : Type 0 where
 
 abbrev pub body_step : ℕ → ℕ → BodyState → Exchange → BodyState
 body_step folder uid s x = record {
-  stage = body_after folder uid s.stage (validity_of (folder_in s.mail.folders folder)) x (tell s.mail x);
+  stage = body_after folder uid s.stage (folder_validity (folder_in s.mail.folders folder)) x (tell s.mail x);
   mail =
       tell s.mail x;
 }

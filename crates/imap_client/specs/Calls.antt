@@ -12,7 +12,7 @@ use Rattle.imap_client.specs.LinkLife.{LinkLife, ClientState, Stands, next_numbe
 
 -- The life went on, the exchange of its next number is completed, and after it the life is this one. Where the link failed meanwhile
 -- the life has ended, and the answer was no OK.
-pub record Completes (life : LinkLife) (command : Command) (x : Exchange) (after : LinkLife) (events : List Event) : Type 0 where
+pub record CompletesExchange (life : LinkLife) (command : Command) (x : Exchange) (after : LinkLife) (events : List Event) : Type 0 where
   pub on : life.goes_on ≡ true
   pub speaks : Speaks (command_pieces command (next_number life)) (unread life) after.goes_on events
   pub rest : List ℕ
@@ -33,7 +33,7 @@ pub record Breaks (life : LinkLife) (command : Command) (e : LinkEnd) (after : L
   pub cause : IsCause (tag_of (next_number life)) (command_pieces command (next_number life)) (unread life) speaks.gave speaks.took e
 
 abbrev pub ExchangeEnds : LinkLife → Command → LinkLife → Result Exchange LinkEnd → List Event → Type 0
-ExchangeEnds life command left (Ok x) events = Completes life command x left events
+ExchangeEnds life command left (Ok x) events = CompletesExchange life command x left events
 ExchangeEnds life command left (Err e) events = Breaks life command e left events
 
 -- What an exchange adds, and the life that is left. In every outcome it is said what was taken, each piece after its

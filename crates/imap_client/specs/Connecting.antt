@@ -16,7 +16,7 @@ use Rattle.imap_grammar.specs.declared.answer.Scan.TheVariants as scan
 use Rattle.told_folder.specs.declared.exchange.Exchange.{Exchange}
 use Rattle.imap_exchange.specs.declared.link_end.LinkEnd.{LinkEnd}
 use Rattle.imap_exchange.specs.declared.link_end.LinkEnd.TheVariants as end
-use Rattle.imap_exchange.specs.Received.{Octets, begun}
+use Rattle.imap_exchange.specs.Received.{Octets, nothing_given}
 use Rattle.imap_exchange.specs.Begins.{Begins}
 use Rattle.imap_exchange.specs.Needed.{ReadsWhile}
 use Rattle.imap_exchange.specs.Responses.{AwaitsResponse}
@@ -42,16 +42,16 @@ abbrev pub GreetsBy : List ℕ → Octets → Result Bool LinkEnd → Type 0
 GreetsBy gave after (Ok preauth) =
     (greeting : Response) × (greeting_says greeting ≡ Ok preauth) × Begins (greeting ∷ []) after.octets gave × (after.given ≡ length gave)
 GreetsBy gave after (Err end.Bye) = (greeting : Response) × (rest : List ℕ) × (greeting_says greeting ≡ Err end.Bye) × Begins (greeting ∷ []) rest gave
-GreetsBy gave after (Err end.Lost) = ScanOf gave scan.NeedMore × (IsTooMuch begun gave → ⊥)
+GreetsBy gave after (Err end.Lost) = ScanOf gave scan.NeedMore × (IsTooMuch nothing_given gave → ⊥)
 GreetsBy gave after (Err (end.Bad at)) = (place : ℕ) × ScanOf gave (scan.Bad place) × (at ≡ 0)
-GreetsBy gave after (Err end.TooMuch) = ScanOf gave scan.NeedMore × IsTooMuch begun gave
+GreetsBy gave after (Err end.TooMuch) = ScanOf gave scan.NeedMore × IsTooMuch nothing_given gave
 GreetsBy gave after (Err end.Memory) = Unit {0}
 GreetsBy gave after (Err _) = ⊥
 
 -- the store gave these octets, and none once a greeting was whole or too much stood there
 pub record GivesFirst (gave : List ℕ) (events : List Event) : Type 0 where
   pub said : Talk gave [] events
-  pub needed : ReadsWhile (AwaitsResponse 0 begun) events
+  pub needed : ReadsWhile (AwaitsResponse 0 nothing_given) events
 
 pub record Greets (after : Octets) (up : Bool) (result : Result Bool LinkEnd) (events : List Event) : Type 0 where
   pub talk : List Event
@@ -124,7 +124,7 @@ connect_plan preauth user password = planned_from preauth user password stage.As
 -- error it has ended.
 pub data Lives (user password : List ℕ) (left : Option LinkLife) (client : ClientState) (result : Result (Unit {0}) LinkEnd)
     (events : List Event) : Type 0 where
-  Unwelcome : (e : LinkEnd) (talk : List Event) (gave : List ℕ) → events ≡ talk ++ LinkEnded ∷ [] → GivesFirst gave talk → GreetsBy gave begun (Err e)
+  Unwelcome : (e : LinkEnd) (talk : List Event) (gave : List ℕ) → events ≡ talk ++ LinkEnded ∷ [] → GivesFirst gave talk → GreetsBy gave nothing_given (Err e)
       → result ≡ Err e → left ≡ None
       → Lives user password left client result events
   Welcome : (life after : LinkLife) (preauth : Bool) (exchanges : List Exchange) (talk last : List Event) → events ≡ talk ++ last → GivesFirst life.gave talk

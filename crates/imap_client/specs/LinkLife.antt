@@ -3,7 +3,7 @@ use Rattle.std.specs.Prelude.{◌≡◌, ◌++◌, ◌+◌, ℕ, Bool, true, fal
 use Rattle.imap_syntax.specs.declared.response.Response.{Response}
 use Rattle.imap_syntax.specs.Commands.{command_pieces}
 use Rattle.told_folder.specs.declared.exchange.Exchange.{Exchange}
-use Rattle.imap_exchange.specs.Received.{Octets, begun, room_left}
+use Rattle.imap_exchange.specs.Received.{Octets, nothing_given, room_left}
 use Rattle.imap_exchange.specs.Begins.{Begins}
 use Rattle.imap_exchange.specs.Exchanges.{Done, VerdictOf, IsTaken}
 use Rattle.imap_exchange.specs.Answering.{selected_by}
@@ -102,7 +102,7 @@ pub record ClientState : Type 0 where
 
 -- a client that isn't alive
 abbrev pub fresh : ClientState
-fresh = record { alive = false; unread = begun; number = 1; selected = None }
+fresh = record { alive = false; unread = nothing_given; number = 1; selected = None }
 
 -- a client of which the greeting was read
 abbrev pub begun_with : Octets → ClientState

@@ -12,7 +12,7 @@ use Rattle.imap_client.specs.declared.plan.Due.TheVariants as due
 use Rattle.imap_client.specs.declared.plan.Refusal.{Refusal}
 use Rattle.imap_client.specs.Refusals.{refusal_end}
 use Rattle.imap_client.specs.LinkLife.{LinkLife, ClientState, Stands, hung_up}
-use Rattle.imap_client.specs.Calls.{Completes, Breaks}
+use Rattle.imap_client.specs.Calls.{CompletesExchange, Breaks}
 
 -- A plan: what is due once these exchanges are completed.
 abbrev pub Planned : Type 0
@@ -27,7 +27,7 @@ pub data Ran (plan : Planned) (life : LinkLife) : List Exchange → LinkLife →
   Begun : Ran plan life [] life []
   Then : {xs : List Exchange} {mid after : LinkLife} {es fs : List Event} (command : Command) (x : Exchange) → Ran plan life xs mid es
       → plan xs ≡ due.Send command
-      → Completes mid command x after fs → Ran plan life (xs ++ x ∷ []) after (es ++ fs)
+      → CompletesExchange mid command x after fs → Ran plan life (xs ++ x ∷ []) after (es ++ fs)
 
 -- The exchanges that a plan heard, from one state of its own to another.
 pub data HearsAll {S : Type 0} (hears : S → Exchange → S → Type 0) (before : S) : List Exchange → S → Type 0 where

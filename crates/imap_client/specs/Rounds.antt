@@ -52,8 +52,8 @@ selectable_from at (h ∷ hs) = if is_selectable h then Some at else selectable_
 -- ---- commands
 
 -- the validity and the mod-sequence up to which a folder is known
-abbrev pub known_of : Folder → Option (ℕ × ℕ)
-known_of f = if f.validity == 0 || f.modseq == 0 then None else Some (f.validity, f.modseq)
+abbrev pub known_folder : Folder → Option (ℕ × ℕ)
+known_folder f = if f.validity == 0 || f.modseq == 0 then None else Some (f.validity, f.modseq)
 
 abbrev pub has_modseqs : Folder → Bool
 has_modseqs f = not (f.modseq == 0)
@@ -63,7 +63,7 @@ abbrev pub is_sliced : ℕ → Folder → Bool
 is_sliced uid_next f = nat_lt (f.next + SLICE_UIDS) uid_next
 
 abbrev pub select_of : Folder → Due
-select_of f = due.Send (command.Select f.name (known_of f))
+select_of f = due.Send (command.Select f.name (known_folder f))
 
 -- a slice of the headers that are new
 abbrev pub slice_of : Folder → Command

@@ -13,7 +13,7 @@ use Rattle.told_folder.specs.declared.message.Held.{Held}
 use Rattle.told_mail.specs.Mail.{Mail}
 use Rattle.told_mail.specs.Exchanges.{tell}
 use Rattle.imap_client.specs.LinkLife.{LinkLife, next_number}
-use Rattle.imap_client.specs.Rounds.{selectable_from, known_of, has_modseqs, is_sliced, slice_of, new_of, uid_next_told, tells_validity}
+use Rattle.imap_client.specs.Rounds.{selectable_from, known_folder, has_modseqs, is_sliced, slice_of, new_of, uid_next_told, tells_validity}
 
 -- the exchange is of the command and was answered OK, and the mail after it is what it told
 pub record IsObeyed (asked : Command) (before : Mail) (x : Exchange) (after : Mail) : Type 0 where
@@ -39,7 +39,7 @@ pub data FetchesFolder (at uid_next : ℕ) : Mail → List Exchange → Mail →
 -- The folder at this place: its SELECT, which tells a UIDVALIDITY, and then what is fetched.
 pub data AsksFolder (at : ℕ) : Mail → List Exchange → Mail → Type 0 where
   Asked : {before mid after : Mail} {xs : List Exchange} (h : Held) (x : Exchange) → slice_get before.folders at ≡ Some h
-      → IsObeyed (command.Select h.folder.name (known_of h.folder)) before x mid → tells_validity x.responses ≡ true
+      → IsObeyed (command.Select h.folder.name (known_folder h.folder)) before x mid → tells_validity x.responses ≡ true
       → FetchesFolder at (uid_next_told x.responses) mid xs after → AsksFolder at before (x ∷ xs) after
 
 -- Each folder that can be selected from this place on, by number.

@@ -93,7 +93,7 @@ fn fetched(body: Option<&Bytes>) -> Result<BodyStage, AllocError>
 }
 
 fn validity_of(folder: Option<&Folder>) -> u32
-    ensures { result ≡ bodies.validity_of (option_copied folder.entry) }
+    ensures { result ≡ bodies.folder_validity (option_copied folder.entry) }
 {
     match folder {
         Some(folder) => folder.validity,
@@ -148,7 +148,7 @@ fn select_due(folder: Option<&Folder>) -> Result<Due, AllocError>
 
 impl BodyFetch {
     fn validity(&self) -> u32
-        ensures { result ≡ bodies.validity_of (folder_in self.now.mirror.mail.folders self.now.folder) }
+        ensures { result ≡ bodies.folder_validity (folder_in self.now.mirror.mail.folders self.now.folder) }
     {
         validity_of(self.mirror.folder(self.folder))
     }

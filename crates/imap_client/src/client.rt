@@ -4,7 +4,7 @@ ghost use Rattle.std.specs.Option.{option_copied};
 ghost use Rattle.gate_world.specs.Causes.{Rose, LinkAlone, NoFault};
 ghost use Rattle.gate_world.specs.Tape.{Adds};
 ghost use Rattle.imap_syntax.specs.declared.response.Status.TheVariants as statuses;
-ghost use Rattle.imap_exchange.specs.Received.{begun, room_left};
+ghost use Rattle.imap_exchange.specs.Received.{nothing_given, room_left};
 ghost use Rattle.imap_exchange.specs.Answering.{HangsUp};
 ghost use Rattle.imap_client.specs.LinkLife.{LinkLife, Stands, fresh, begun_with, life_left};
 ghost use Rattle.imap_client.specs.Calls.{IsExchanged};
@@ -76,7 +76,7 @@ impl Client {
 
     /// A link life goes on after its greeting, from what is unread.
     pub(crate) fn begin(&mut self, unread: Received)
-        requires { room_left unread ≤ room_left begun }
+        requires { room_left unread ≤ room_left nothing_given }
         ensures { self.new ≡ begun_with unread }
     {
         self.alive = true;

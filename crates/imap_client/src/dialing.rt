@@ -2,7 +2,7 @@
 ghost use Rattle.std.specs.Prelude.{◌≡◌, ◌≤◌, Option, true, false, Ok, IsErrOf, OnErr, OnOk, IfOk};
 ghost use Rattle.gate_world.specs.Causes.{Rose, LinkAlone};
 ghost use Rattle.gate_world.specs.Tape.{Adds};
-ghost use Rattle.imap_exchange.specs.Received.{begun, room_left};
+ghost use Rattle.imap_exchange.specs.Received.{nothing_given, room_left};
 ghost use Rattle.imap_client.specs.LinkLife.{LinkLife, fresh};
 ghost use Rattle.imap_client.specs.Connecting.{Greets, Lives, Connects, greeting_says};
 
@@ -38,14 +38,14 @@ fn greet<L: Link>(
     unread: &mut Received,
     up: &mut bool,
 ) -> Result<bool, LinkEnd>
-    requires none { unread.old ≡ begun }
+    requires none { unread.old ≡ nothing_given }
     requires up { up.old ≡ true }
     ensures tape { Adds (L.tape link.old) (L.tape link.new) (Greets unread.new up.new result) }
     ensures alone { LinkAlone (L.faults link.old) (L.faults link.new) }
     ensures cause { up.new ≡ false → Rose (L.faults link.old).link (L.faults link.new).link }
     ensures lost { IsErrOf result LinkEnd.Lost → up.new ≡ false }
     ensures stays { OnOk result (up.new ≡ true) }
-    ensures progress { OnOk result (room_left unread.new ≤ room_left begun) }
+    ensures progress { OnOk result (room_left unread.new ≤ room_left nothing_given) }
     ensures hidden { L.hidden link.new ≡ L.hidden link.old }
 {
     let greeting = next_response(alloc, link, unread, up, 0)?;

@@ -81,7 +81,7 @@ fn next_stage(mirror: &Mirror, from: usize) -> RoundStage
 
 /// The validity and the mod-sequence up to which the folder is known.
 fn known_of(folder: &Folder) -> Option<(u32, u64)>
-    ensures { result ≡ rounds.known_of folder.now }
+    ensures { result ≡ rounds.known_folder folder.now }
 {
     if folder.validity == 0 || folder.modseq == 0 {
         None

@@ -23,10 +23,10 @@ use Rattle.imap_exchange.specs.declared.exchange.Turn.TheVariants as turn
 use Rattle.imap_exchange.specs.Received.{Octets}
 use Rattle.imap_exchange.specs.Begins.{Begins}
 use Rattle.imap_exchange.specs.Needed.{ReadsWhile}
-use Rattle.imap_exchange.specs.Exchanges.{IsOpen, Passes, is_continue, continuations, pieces_due, AreAllDue, Done, Settles, IsVerdict, IsTaken}
+use Rattle.imap_exchange.specs.Exchanges.{IsOpen, Passes, is_continue, continuations, pieces_due, AreAllDue, Done, EndsExchange, IsVerdict, IsTaken}
 use Rattle.imap_exchange.specs.Answering.{end_unless}
 use Rattle.imap_exchange.specs.Answering.{Speaks, Awaits, AllDueTaken, IsTooMuch, Converses}
-use Rattle.imap_exchange.specs.Responses.{IsOver, HasRoom, AwaitsResponse, Ends, Reads}
+use Rattle.imap_exchange.specs.Responses.{IsOver, HasRoom, AwaitsResponse, EndsTalk, ReadsResponse}
 use Rattle.imap_exchange.specs.reading.Sending.{Offers, piece_at}
 use Rattle.imap_exchange.specs.reading.Turns.{SettlesNow, is_settled_by, Judges}
 use Rattle.imap_exchange.proofs.Needing.{reads_none, reads_append, reads_taking, reads_widen}
@@ -68,7 +68,7 @@ some_pieces command n = put_some (tag_of n ++ 32 ∷ []) (pieces_of (parts_of co
 -- ---- the course of an exchange
 
 -- events after those after which the link was up or not
-pub ends_append : (was up : Bool) (xs talk ys more : List Event) → xs ≡ talk ++ end_unless was → Ends was up more ys → xs ++ ys ≡ (talk ++ more) ++ end_unless up
+pub ends_append : (was up : Bool) (xs talk ys more : List Event) → xs ≡ talk ++ end_unless was → EndsTalk was up more ys → xs ++ ys ≡ (talk ++ more) ++ end_unless up
 ends_append true up xs talk ys more is ends =
     (λ i. is i ++ ends i) ∙ ap (λ (l : List Event). l ++ (more ++ end_unless up)) (append-nil talk) ∙ sym (append_assoc talk more (end_unless up))
 ends_append false up xs talk ys more is (none, no_talk, down) =
@@ -125,7 +125,7 @@ first_piece {events} pieces before up o =
 
 -- what was spoken, and then octets came
 abbrev pub spoken_more : {xs : List Event} (ys : List Event) (pieces : List (List ℕ)) (before : Octets) (was up : Bool) (more : List Event) (g : List ℕ)
-    (s : Speaks pieces before was xs) → Ends was up more ys → Talk g [] more → ReadsWhile (λ x t. Awaits pieces before (s.gave ++ x) (s.took ++ t)) more
+    (s : Speaks pieces before was xs) → EndsTalk was up more ys → Talk g [] more → ReadsWhile (λ x t. Awaits pieces before (s.gave ++ x) (s.took ++ t)) more
     → Speaks pieces before up (xs ++ ys)
 spoken_more {xs} ys pieces before was up more g s ends said needed =
     record {
@@ -168,7 +168,7 @@ too_much_of begun before mid gave x from given (inr over) = inr (omega (arith, o
 -- octets of a response are octets of the exchange, where the link is up; where it is down none come
 awaited : {xs ys talk : List Event} {pieces : List (List ℕ)} {before mid : Octets} {responses : List Response} {at : ℕ} {g : List ℕ} (begun : ℕ) (was up : Bool)
     → begun + length before.octets ≡ before.given → at ≡ min (continuations responses + 1) (length pieces) → (c : Course pieces before mid responses at was xs)
-    → Ends was up talk ys → Talk g [] talk → ReadsWhile (AwaitsResponse begun mid) talk
+    → EndsTalk was up talk ys → Talk g [] talk → ReadsWhile (AwaitsResponse begun mid) talk
     → ReadsWhile (λ x t. Awaits pieces before (c.speaks.gave ++ x) (c.speaks.took ++ t)) talk
 awaited {pieces = pieces} {before} {mid} {responses} {at} begun true up from place c ends said needed =
     reads_widen (AwaitsResponse begun mid) (λ x t. Awaits pieces before (c.speaks.gave ++ x) (c.speaks.took ++ t)) wider said needed
@@ -197,7 +197,7 @@ not_all_taken false pieces responses at begun given took left place taken some r
 
 -- a response came
 pub heard : {xs ys : List Event} {pieces : List (List ℕ)} {before mid after : Octets} {responses : List Response} {at : ℕ} {was : Bool} (begun : ℕ) (up : Bool) (w : Response)
-    → begun + length before.octets ≡ before.given → at ≡ min (continuations responses + 1) (length pieces) → up ≡ was → Course pieces before mid responses at was xs → Reads begun was up mid after (Ok w) ys → Heard pieces before after responses w at up (xs ++ ys)
+    → begun + length before.octets ≡ before.given → at ≡ min (continuations responses + 1) (length pieces) → up ≡ was → Course pieces before mid responses at was xs → ReadsResponse begun was up mid after (Ok w) ys → Heard pieces before after responses w at up (xs ++ ys)
 heard {xs} {ys} {pieces} {before} {mid} {after} {responses} {at} {was} begun up w from place same c r =
     record {
       speaks = spoken_more ys pieces before was up r.talk r.gave c.speaks r.ended r.said (awaited begun was up from place c r.ended r.said r.needed);
@@ -218,7 +218,7 @@ wanting tag after s = record { speaks = s; comes = tt }
 
 -- no response came
 pub unheard : {xs ys : List Event} {pieces : List (List ℕ)} {before mid : Octets} {responses : List Response} {at : ℕ} {was : Bool} (tag : List ℕ) (begun : ℕ) (after : Octets)
-    (up : Bool) (e : LinkEnd) → begun + length before.octets ≡ before.given → at ≡ min (continuations responses + 1) (length pieces) → Course pieces before mid responses at was xs → Reads begun was up mid after (Err e) ys
+    (up : Bool) (e : LinkEnd) → begun + length before.octets ≡ before.given → at ≡ min (continuations responses + 1) (length pieces) → Course pieces before mid responses at was xs → ReadsResponse begun was up mid after (Err e) ys
     → Converses tag pieces before after up (Err e) (xs ++ ys)
 unheard {xs} {ys} {pieces} {before} {mid} {responses} {at} {was} tag begun after up end.Lost from place c r =
     record {
@@ -353,7 +353,7 @@ rose_later false a b c before now first second = omega (arith, before refl, seco
 
 -- a status that settles the exchange as the code tests it
 settles_of : (pieces : List (List ℕ)) (responses : List Response) (all_due : Bool) (s : Status) → (all_due ≡ true → AreAllDue pieces responses) → SettlesNow all_due s
-    → Settles pieces responses s
+    → EndsExchange pieces responses s
 settles_of pieces responses all_due status.Ok due settles = due settles
 settles_of pieces responses all_due status.No due settles = tt
 settles_of pieces responses all_due status.Bad due settles = tt
@@ -374,7 +374,7 @@ due_at_end pieces responses at place end = omega (arith, place, end)
 
 -- the verdict of a tagged line
 done_verdict : {es : List Event} {pieces : List (List ℕ)} {before after : Octets} {responses : List Response} {at : ℕ} {up : Bool} (tag : List ℕ) (w : Response) (s : Status)
-    (code : Code) (h : Heard pieces before after responses w at up es) → w ≡ Tagged tag s code → Settles pieces responses s → IsVerdict tag pieces (before.octets ++ h.speaks.gave)
+    (code : Code) (h : Heard pieces before after responses w at up es) → w ≡ Tagged tag s code → EndsExchange pieces responses s → IsVerdict tag pieces (before.octets ++ h.speaks.gave)
     (Done responses s code after.octets)
 done_verdict {after = after} {responses} tag w s code h is settles =
     record {
@@ -386,7 +386,7 @@ done_verdict {after = after} {responses} tag w s code h is settles =
 
 -- what was taken of a command that is answered
 taken_of : (pieces : List (List ℕ)) (responses : List Response) (at : ℕ) (up : Bool) (s : Status) (took left : List ℕ) → at ≡ min (continuations responses + 1) (length pieces)
-    → took ++ left ≡ joined_pieces (take at pieces) → (up ≡ true → left ≡ []) → is_settled_by up s ≡ true → Settles pieces responses s → IsTaken pieces responses s took
+    → took ++ left ≡ joined_pieces (take at pieces) → (up ≡ true → left ≡ []) → is_settled_by up s ≡ true → EndsExchange pieces responses s → IsTaken pieces responses s took
 taken_of pieces responses at up status.Ok took left place taken all settled due =
     sym (append-nil took) ∙ ap (λ (l : List ℕ). took ++ l) (sym (all settled)) ∙ taken ∙ ap joined_pieces (take_all at pieces (omega (arith, place, due)))
 taken_of pieces responses at up status.No took left place taken all settled due = (left, taken ∙ ap joined_pieces (sym (take_min pieces (continuations responses + 1) at place)))

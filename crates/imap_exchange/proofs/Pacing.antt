@@ -8,7 +8,7 @@ use Rattle.gate_world.specs.declared.event.Event.{Event}
 use Rattle.gate_world.specs.Octets.{store_gave_in, store_took_in, Talk}
 use Rattle.imap_syntax.specs.declared.response.Response.{Response}
 use Rattle.imap_syntax.specs.Commands.{joined_pieces}
-use Rattle.imap_exchange.specs.Exchanges.{IsOpen, Passes, pieces_due, IsPart, IsPaced}
+use Rattle.imap_exchange.specs.Exchanges.{IsOpen, Passes, pieces_due, IsDuePart, IsPaced}
 use Rattle.imap_exchange.specs.reading.Sending.{piece_at}
 use Rattle.imap_exchange.proofs.Verdicts.{Passes-more}
 
@@ -37,31 +37,31 @@ nil_left (c ∷ x) y is = absurd (cc is)
 
 -- ---- parts of a command
 
-pub IsPart-more : {pieces : List (List ℕ)} {octets took : List ℕ} (g : List ℕ) → IsPart pieces octets took → IsPart pieces (octets ++ g) took
+pub IsPart-more : {pieces : List (List ℕ)} {octets took : List ℕ} (g : List ℕ) → IsDuePart pieces octets took → IsDuePart pieces (octets ++ g) took
 IsPart-more g so = record { responses = so.responses; remaining = so.remaining ++ g; passed = Passes-more g so.passed; left = so.left; within = so.within }
 
 -- at the end of the events
-pub paced_whole : {pieces : List (List ℕ)} {held gave took : List ℕ} {talk : List Event} → Talk gave took talk → IsPaced pieces held talk → IsPart pieces (held ++ gave) took
+pub paced_whole : {pieces : List (List ℕ)} {held gave took : List ℕ} {talk : List Event} → Talk gave took talk → IsPaced pieces held talk → IsDuePart pieces (held ++ gave) took
 paced_whole {pieces} {held} {gave} {took} {talk} said paced =
-    subst (λ (g : List ℕ). IsPart pieces (held ++ g) took) said.gave_is
-    (subst (λ (t : List ℕ). IsPart pieces (held ++ flat_map store_gave_in talk) t) said.took_is (paced.at_each talk [] (sym (append-nil talk))))
+    subst (λ (g : List ℕ). IsDuePart pieces (held ++ g) took) said.gave_is
+    (subst (λ (t : List ℕ). IsDuePart pieces (held ++ flat_map store_gave_in talk) t) said.took_is (paced.at_each talk [] (sym (append-nil talk))))
 
 -- further events
 pub paced_more : {pieces : List (List ℕ)} {held gave took : List ℕ} {talk : List Event} (ys : List Event) → Talk gave took talk → IsPaced pieces held talk
-    → ((zs ws : List Event) → ys ≡ zs ++ ws → IsPart pieces (held ++ (gave ++ flat_map store_gave_in zs)) (took ++ flat_map store_took_in zs)) → IsPaced pieces held (talk ++ ys)
+    → ((zs ws : List Event) → ys ≡ zs ++ ws → IsDuePart pieces (held ++ (gave ++ flat_map store_gave_in zs)) (took ++ flat_map store_took_in zs)) → IsPaced pieces held (talk ++ ys)
 paced_more {pieces} {held} {gave} {took} {talk} ys said paced then_so = record { at_each = at_each }
   where
-    at_each : (so_far later : List Event) → talk ++ ys ≡ so_far ++ later → IsPart pieces (held ++ flat_map store_gave_in so_far) (flat_map store_took_in so_far)
+    at_each : (so_far later : List Event) → talk ++ ys ≡ so_far ++ later → IsDuePart pieces (held ++ flat_map store_gave_in so_far) (flat_map store_took_in so_far)
     at_each so_far later is =
-        elim (cut_of so_far later talk ys is) as (λ c. IsPart pieces (held ++ flat_map store_gave_in so_far) (flat_map store_took_in so_far)) [
+        elim (cut_of so_far later talk ys is) as (λ c. IsDuePart pieces (held ++ flat_map store_gave_in so_far) (flat_map store_took_in so_far)) [
           | inl so ↦ paced.at_each so_far so.0 so.1
           | inr so ↦
               let gave_is : flat_map store_gave_in so_far ≡ gave ++ flat_map store_gave_in so.0 = ap (λ (l : List Event). flat_map store_gave_in l) so.1
               ∙ flat_map-append store_gave_in talk so.0 ∙ ap (λ (l : List ℕ). l ++ flat_map store_gave_in so.0) said.gave_is in
               let took_is : flat_map store_took_in so_far ≡ took ++ flat_map store_took_in so.0 = ap (λ (l : List Event). flat_map store_took_in l) so.1
               ∙ flat_map-append store_took_in talk so.0 ∙ ap (λ (l : List ℕ). l ++ flat_map store_took_in so.0) said.took_is in
-              subst (λ (g : List ℕ). IsPart pieces (held ++ g) (flat_map store_took_in so_far)) (sym gave_is)
-              (subst (λ (t : List ℕ). IsPart pieces (held ++ (gave ++ flat_map store_gave_in so.0)) t) (sym took_is) (then_so so.0 later so.2))
+              subst (λ (g : List ℕ). IsDuePart pieces (held ++ g) (flat_map store_took_in so_far)) (sym gave_is)
+              (subst (λ (t : List ℕ). IsDuePart pieces (held ++ (gave ++ flat_map store_gave_in so.0)) t) (sym took_is) (then_so so.0 later so.2))
         ]
 
 -- octets come
@@ -72,8 +72,8 @@ paced_reading {pieces} {held} {gave} {took} {talk} g ys said paced reads =
     let took_none : flat_map store_took_in zs ≡ [] = nil_left (flat_map store_took_in zs) (flat_map store_took_in ws)
     (sym (flat_map-append store_took_in zs ws) ∙ ap (λ (l : List Event). flat_map store_took_in l) (sym is) ∙ reads.took_is) in
     let part = IsPart-more (flat_map store_gave_in zs) (paced_whole said paced) in
-    subst (λ (o : List ℕ). IsPart pieces o (took ++ flat_map store_took_in zs)) (append_assoc held gave (flat_map store_gave_in zs))
-    (subst (λ (t : List ℕ). IsPart pieces ((held ++ gave) ++ flat_map store_gave_in zs) t) (sym (append-nil took) ∙ ap (λ (l : List ℕ). took ++ l) (sym took_none)) part))
+    subst (λ (o : List ℕ). IsDuePart pieces o (took ++ flat_map store_took_in zs)) (append_assoc held gave (flat_map store_gave_in zs))
+    (subst (λ (t : List ℕ). IsDuePart pieces ((held ++ gave) ++ flat_map store_gave_in zs) t) (sym (append-nil took) ∙ ap (λ (l : List ℕ). took ++ l) (sym took_none)) part))
 
 -- octets are taken that are due by these responses
 pub paced_writing : {pieces : List (List ℕ)} {held gave took remaining : List ℕ} {talk : List Event} {responses : List Response} (t left : List ℕ) (ys : List Event)
@@ -100,7 +100,7 @@ paced_writing {pieces} {held} {gave} {took} {remaining} {talk} {responses} t lef
 pub paced_none : (pieces : List (List ℕ)) (held : List ℕ) → IsPaced pieces held []
 paced_none pieces held = record { at_each = at_each }
   where
-    at_each : (so_far later : List Event) → [] ≡ so_far ++ later → IsPart pieces (held ++ flat_map store_gave_in so_far) (flat_map store_took_in so_far)
+    at_each : (so_far later : List Event) → [] ≡ so_far ++ later → IsDuePart pieces (held ++ flat_map store_gave_in so_far) (flat_map store_took_in so_far)
     at_each [] later is =
         record { responses = []; remaining = held ++ []; passed = record { all_open = All-nil IsOpen; spelled = refl }; left = joined_pieces (pieces_due pieces []); within = refl }
     at_each (e ∷ so_far) later is = absurd (cc is)

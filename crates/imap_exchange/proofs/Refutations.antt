@@ -21,7 +21,7 @@ use Rattle.imap_exchange.specs.declared.exchange.Answer.{Answer}
 use Rattle.imap_exchange.specs.Received.{Octets}
 use Rattle.imap_exchange.specs.Begins.{Begins}
 use Rattle.imap_exchange.specs.Needed.{ReadsWhile}
-use Rattle.imap_exchange.specs.Exchanges.{IsOpen, continuations, pieces_due, IsPart, Verdict, Done, Stray, Bye, BadAt, Open, IsVerdict}
+use Rattle.imap_exchange.specs.Exchanges.{IsOpen, continuations, pieces_due, IsDuePart, Verdict, Done, Stray, Bye, BadAt, Open, IsVerdict}
 use Rattle.imap_exchange.specs.Answering.{IsCause, Awaits, AllDueTaken, IsTooMuch, ComesTo}
 use Rattle.imap_exchange.proofs.Fronts.{same_front}
 use Rattle.imap_exchange.proofs.Verdicts.{NoneOpen, none_open, same_pass, one_verdict}
@@ -45,7 +45,7 @@ fewer (p ∷ ps) (suc m) (suc n) le =
     let rest = fewer ps m n (omega arith) in
     (rest.0, append_assoc p (joined_pieces (take m ps)) rest.0 ∙ ap (λ (l : List ℕ). p ++ l) rest.1)
 
-pub each_piece_is_due : (tag : List ℕ) (pieces : List (List ℕ)) (octets took : List ℕ) (verdict : Verdict) (v : IsVerdict tag pieces octets verdict) → IsPart pieces octets took
+pub each_piece_is_due : (tag : List ℕ) (pieces : List (List ℕ)) (octets took : List ℕ) (verdict : Verdict) (v : IsVerdict tag pieces octets verdict) → IsDuePart pieces octets took
     → (left : List ℕ) × (took ++ left ≡ joined_pieces (pieces_due pieces v.responses))
 each_piece_is_due tag pieces octets took verdict v part =
     let front = front_of part.responses v.responses part.remaining v.remaining octets part.passed.all_open v.passed.all_open part.passed.spelled v.passed.spelled

@@ -12,9 +12,9 @@ use Rattle.imap_exchange.specs.declared.link_end.LinkEnd.TheVariants as end
 use Rattle.imap_grammar.specs.declared.answer.Scan.TheVariants.{NeedMore, Bad}
 use Rattle.imap_grammar.specs.Scan.{ScanOf}
 use Rattle.imap_exchange.specs.Received.{Octets}
-use Rattle.imap_exchange.specs.reading.Filling.{Grows, Gains, Fills, is_up_at}
+use Rattle.imap_exchange.specs.reading.Filling.{Grows, GainsOctets, Fills, is_up_at}
 use Rattle.imap_exchange.specs.Needed.{ReadsWhile, NeedsMore}
-use Rattle.imap_exchange.specs.Responses.{IsOver, AwaitsResponse, ReadsOf, Reads}
+use Rattle.imap_exchange.specs.Responses.{IsOver, AwaitsResponse, ReadsOf, ReadsResponse}
 use Rattle.imap_exchange.proofs.Needing.{reads_none, reads_one, reads_append, reads_widen}
 
 -- no events
@@ -30,7 +30,7 @@ awaited_later {begun} {a} {b} {g} grows x so =
     }
 
 -- twice
-pub Gains-append : {begun : ℕ} {a b c : Octets} {g h : List ℕ} {es fs : List Event} → Gains begun a b g es → Gains begun b c h fs → Gains begun a c (g ++ h) (es ++ fs)
+pub Gains-append : {begun : ℕ} {a b c : Octets} {g h : List ℕ} {es fs : List Event} → GainsOctets begun a b g es → GainsOctets begun b c h fs → GainsOctets begun a c (g ++ h) (es ++ fs)
 Gains-append {begun} {a} {b} {c} {g} {h} {es} {fs} first second =
     record {
       said = Talk-append first.said second.said;
@@ -43,11 +43,11 @@ Gains-append {begun} {a} {b} {c} {g} {h} {es} {fs} first second =
     }
 
 -- none yet
-pub Gains-none : (begun : ℕ) (a : Octets) → Gains begun a a [] []
+pub Gains-none : (begun : ℕ) (a : Octets) → GainsOctets begun a a [] []
 Gains-none begun a = record { said = Talk-none; needed = reads_none (AwaitsResponse begun a); grows = record { octets = sym (append-nil a.octets); given = omega arith } }
 
 -- once more
-pub gained : {es : List Event} (begun : ℕ) (now after : Octets) → NeedsMore now.octets → (fills : Fills begun now after (Ok tt) es) → Gains begun now after fills.0 es
+pub gained : {es : List Event} (begun : ℕ) (now after : Octets) → NeedsMore now.octets → (fills : Fills begun now after (Ok tt) es) → GainsOctets begun now after fills.0 es
 gained begun now after more (gave, is, grows, room) =
     record {
       said = subst (λ (l : List Event). Talk gave [] l) (sym is) (record { kind = search rules; gave_is = append-nil gave; took_is = refl });
@@ -59,8 +59,8 @@ gained begun now after more (gave, is, grows, room) =
     here = record { more = subst NeedsMore (sym (append-nil now.octets)) more; room = λ over. room (subst (λ (n : ℕ). IsOver begun n) (omega arith) over) }
 
 -- a whole response stands at the front
-pub read_whole : {events : List Event} {response : Response} (begun : ℕ) (before now after : Octets) (n : ℕ) → (gave : List ℕ) × Gains begun before now gave events → IsSpelling response
-    (take n now.octets) → after.octets ≡ drop n now.octets → after.given ≡ now.given → Reads begun true true before after (Ok response) events
+pub read_whole : {events : List Event} {response : Response} (begun : ℕ) (before now after : Octets) (n : ℕ) → (gave : List ℕ) × GainsOctets begun before now gave events → IsSpelling response
+    (take n now.octets) → after.octets ≡ drop n now.octets → after.given ≡ now.given → ReadsResponse begun true true before after (Ok response) events
 read_whole {events} begun before now after n (gave, gains) spells rest given =
     record {
       talk = events;
@@ -77,8 +77,8 @@ read_whole {events} begun before now after n (gave, gains) spells rest given =
     }
 
 -- octets stand there with which no response begins
-pub read_bad : {events : List Event} (begun : ℕ) (before now : Octets) (offset at : ℕ) → (gave : List ℕ) × Gains begun before now gave events → ScanOf now.octets (Bad at)
-    → offset + length now.octets ≡ now.given → Reads begun true true before now (Err (end.Bad offset)) events
+pub read_bad : {events : List Event} (begun : ℕ) (before now : Octets) (offset at : ℕ) → (gave : List ℕ) × GainsOctets begun before now gave events → ScanOf now.octets (Bad at)
+    → offset + length now.octets ≡ now.given → ReadsResponse begun true true before now (Err (end.Bad offset)) events
 read_bad {events} begun before now offset at (gave, gains) so place =
     record {
       talk = events;
@@ -94,13 +94,13 @@ read_bad {events} begun before now offset at (gave, gains) so place =
     }
 
 -- want of memory
-pub read_wanting : {events : List Event} (begun : ℕ) (before now after : Octets) → (gave : List ℕ) × Gains begun before now gave events → Reads begun true true before after
+pub read_wanting : {events : List Event} (begun : ℕ) (before now after : Octets) → (gave : List ℕ) × GainsOctets begun before now gave events → ReadsResponse begun true true before after
     (Err end.Memory) events
 read_wanting {events} begun before now after (gave, gains) = record { talk = events; gave = gave; ended = sym (append-nil events); said = gains.said; needed = gains.needed; reads = tt }
 
 -- no further octets come, where no whole response stands at the front
 pub fill_failed : {xs : List Event} (ys : List Event) (begun : ℕ) (before now after : Octets) (e : LinkEnd) → NeedsMore now.octets → (gave : List ℕ)
-    × Gains begun before now gave xs → Fills begun now after (Err e) ys → Reads begun true (is_up_at e) before after (Err e) (xs ++ ys)
+    × GainsOctets begun before now gave xs → Fills begun now after (Err e) ys → ReadsResponse begun true (is_up_at e) before after (Err e) (xs ++ ys)
 fill_failed {xs} ys begun before now after end.Lost more (gave, gains) fills =
     record {
       talk = xs;
@@ -138,9 +138,9 @@ kept_front old new slice is (gave, grew) = (
 
 -- a response of what is held alone
 pub read_held : (begun : ℕ) (up : Bool) (before after : Octets) (result : Result Response LinkEnd) → up ≡ false → ReadsOf begun false before [] after result
-    → Reads begun up up before after result []
+    → ReadsResponse begun up up before after result []
 read_held begun up before after result down reads =
-    subst (λ (b : Bool). Reads begun b b before after result []) (sym down)
+    subst (λ (b : Bool). ReadsResponse begun b b before after result []) (sym down)
     (record { talk = []; gave = []; ended = (refl, refl, refl); said = Talk-none; needed = reads_none (AwaitsResponse begun before); reads = reads })
 
 -- what is held is read, where nothing is said

@@ -11,7 +11,7 @@ use Rattle.imap_grammar.specs.Scan.{ScanOf}
 use Rattle.imap_grammar.specs.declared.answer.Scan.TheVariants as scan
 use Rattle.imap_grammar.proofs.Spellings.{need_more_none, bad_none, spelling_some, one_answer}
 use Rattle.imap_exchange.specs.Begins.{Begins}
-use Rattle.imap_exchange.specs.Exchanges.{IsOpen, Passes, continuations, AreAllDue, Verdict, Done, Stray, Bye, BadAt, Open, Settles, Decides, IsVerdict}
+use Rattle.imap_exchange.specs.Exchanges.{IsOpen, Passes, continuations, AreAllDue, Verdict, Done, Stray, Bye, BadAt, Open, EndsExchange, Decides, IsVerdict}
 use Rattle.imap_exchange.proofs.Fronts.{same_front}
 
 -- ---- responses at the front of octets
@@ -102,13 +102,13 @@ bad_not_more r place bad more = let same : scan.Bad place ≡ scan.NeedMore = on
 
 -- the tagged line that is due is no stray one
 done_not_stray : (tag : List ℕ) (pieces : List (List ℕ)) (vs : List Response) (r rest rest' other : List ℕ) (s s' : Status) (code code' : Code) → Begins
-    (Tagged tag s code ∷ []) rest r → Settles pieces vs s → Begins (Tagged other s' code' ∷ []) rest' r → (other ≢ tag) ⊎
+    (Tagged tag s code ∷ []) rest r → EndsExchange pieces vs s → Begins (Tagged other s' code' ∷ []) rest' r → (other ≢ tag) ⊎
     ((s' ≡ status.Ok) × (continuations vs + 1 < length pieces)) → ⊥
 done_not_stray tag pieces vs r rest rest' other s s' code code' begins settles begins' (inl differs) =
     differs (sym (tagged_same tag other s s' code code' (first_same _ _ rest rest' r begins begins').0).0)
 done_not_stray tag pieces vs r rest rest' other s s' code code' begins settles begins' (inr (ok, early)) =
     let same = tagged_same tag other s s' code code' (first_same _ _ rest rest' r begins begins').0 in
-    let due : AreAllDue pieces vs = subst (λ (x : Status). Settles pieces vs x) (same.1 ∙ ok) settles in
+    let due : AreAllDue pieces vs = subst (λ (x : Status). EndsExchange pieces vs x) (same.1 ∙ ok) settles in
     omega (arith, due, early)
 
 done_same : (tag : List ℕ) (vs before before' : List Response) (r rest rest' : List ℕ) (s s' : Status) (code code' : Code) → before ≡ vs → before' ≡ vs → Begins

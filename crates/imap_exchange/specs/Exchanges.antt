@@ -47,7 +47,7 @@ abbrev pub AreAllDue : List (List ℕ) → List Response → Type 0
 AreAllDue pieces responses = length pieces ≤ continuations responses + 1
 
 -- no more was taken than the pieces that these octets let go
-pub record IsPart (pieces : List (List ℕ)) (octets took : List ℕ) : Type 0 where
+pub record IsDuePart (pieces : List (List ℕ)) (octets took : List ℕ) : Type 0 where
   pub responses : List Response
   pub remaining : List ℕ
   pub passed : Passes responses remaining octets
@@ -57,7 +57,7 @@ pub record IsPart (pieces : List (List ℕ)) (octets took : List ℕ) : Type 0 w
 -- At each moment of these events no more was taken than the pieces that the octets let go that were held as they began
 -- and that had come by then: each piece but the first is sent after its continuation.
 pub record IsPaced (pieces : List (List ℕ)) (held : List ℕ) (events : List Event) : Type 0 where
-  pub at_each : (so_far later : List Event) → events ≡ so_far ++ later → IsPart pieces (held ++ flat_map store_gave_in so_far) (flat_map store_took_in so_far)
+  pub at_each : (so_far later : List Event) → events ≡ so_far ++ later → IsDuePart pieces (held ++ flat_map store_gave_in so_far) (flat_map store_took_in so_far)
 
 -- ---- what becomes of it
 
@@ -74,14 +74,14 @@ pub data Verdict : Type 0 where
   Open : Verdict
 
 -- a tagged line of this status ends the exchange: OK once all pieces are due, NO and BAD at any time (section 7.1)
-abbrev pub Settles : List (List ℕ) → List Response → Status → Type 0
-Settles pieces responses status.Ok = AreAllDue pieces responses
-Settles pieces responses _ = Unit {0}
+abbrev pub EndsExchange : List (List ℕ) → List Response → Status → Type 0
+EndsExchange pieces responses status.Ok = AreAllDue pieces responses
+EndsExchange pieces responses _ = Unit {0}
 
 -- what stands after the open responses at the front of the octets decides
 abbrev pub Decides : List ℕ → List (List ℕ) → List ℕ → List Response → List ℕ → Verdict → Type 0
 Decides tag pieces octets responses remaining (Done before s code rest) = (before ≡ responses) × Begins (Tagged tag s code ∷ []) rest remaining
-    × Settles pieces responses s
+    × EndsExchange pieces responses s
 Decides tag pieces octets responses remaining Stray =
     (other : List ℕ) × (s : Status) × (code : Code) × (rest : List ℕ) × Begins (Tagged other s code ∷ []) rest remaining
     × ((other ≢ tag) ⊎ ((s ≡ status.Ok) × (continuations responses + 1 < length pieces)))

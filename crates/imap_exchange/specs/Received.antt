@@ -7,8 +7,8 @@ pub record Octets : Type 0 where
   pub given : ℕ
 
 -- nothing is given yet
-abbrev pub begun : Octets
-begun = record { octets = []; given = 0 }
+abbrev pub nothing_given : Octets
+nothing_given = record { octets = []; given = 0 }
 
 -- 2^62 and the octets of one fill: the last fill may go past the limit of a life
 abbrev pub most_given : ℕ

@@ -39,16 +39,16 @@ ReadsOf begun was before gave after (Err end.Memory) = Unit {0}
 ReadsOf begun was before gave after (Err _) = ⊥
 
 -- how the link's end stands after a talk: nothing is said over a link that was down
-abbrev pub Ends : Bool → Bool → List Event → List Event → Type 0
-Ends true up talk events = events ≡ talk ++ end_unless up
-Ends false up talk events = (events ≡ []) × (talk ≡ []) × (up ≡ false)
+abbrev pub EndsTalk : Bool → Bool → List Event → List Event → Type 0
+EndsTalk true up talk events = events ≡ talk ++ end_unless up
+EndsTalk false up talk events = (events ≡ []) × (talk ≡ []) × (up ≡ false)
 
 -- The next response: of the link where it was up, else of what is held alone. Nothing is read once a response is whole or too much
 -- stands there.
-pub record Reads (begun : ℕ) (was up : Bool) (before after : Octets) (result : Result Response LinkEnd) (events : List Event) : Type 0 where
+pub record ReadsResponse (begun : ℕ) (was up : Bool) (before after : Octets) (result : Result Response LinkEnd) (events : List Event) : Type 0 where
   pub talk : List Event
   pub gave : List ℕ
-  pub ended : Ends was up talk events
+  pub ended : EndsTalk was up talk events
   pub said : Talk gave [] talk
   pub needed : ReadsWhile (AwaitsResponse begun before) talk
   pub reads : ReadsOf begun was before gave after result

@@ -14,7 +14,7 @@ ghost use Rattle.imap_exchange.specs.declared.link_end.LinkEnd.TheVariants as en
 ghost use Rattle.imap_exchange.specs.Received.{Octets};
 ghost use Rattle.imap_exchange.specs.declared.exchange.Answer.{Answer};
 ghost use Rattle.imap_exchange.specs.Needed.{ReadsWhile};
-ghost use Rattle.imap_exchange.specs.Exchanges.{Verdict, Done, Open, IsVerdict, IsPart, pieces_due};
+ghost use Rattle.imap_exchange.specs.Exchanges.{Verdict, Done, Open, IsVerdict, IsDuePart, pieces_due};
 ghost use Rattle.imap_exchange.specs.Answering.{IsCause, Awaits, AllDueTaken, IsTooMuch, ComesTo};
 
 /// Octets have one verdict on an exchange, so each comes exactly where it is right.
@@ -25,7 +25,7 @@ pub fn one_verdict()
 /// No more of a command is taken than the pieces that are due by the responses before the verdict: none after a tagged
 /// line, and no literal before its continuation.
 pub fn each_piece_is_due()
-    ensures { (tag : List ℕ) (pieces : List (List ℕ)) (octets took : List ℕ) (verdict : Verdict) (v : IsVerdict tag pieces octets verdict) → IsPart pieces octets took → (left : List ℕ) × (took ++ left ≡ joined_pieces (pieces_due pieces v.responses)) }
+    ensures { (tag : List ℕ) (pieces : List (List ℕ)) (octets took : List ℕ) (verdict : Verdict) (v : IsVerdict tag pieces octets verdict) → IsDuePart pieces octets took → (left : List ℕ) × (took ++ left ≡ joined_pieces (pieces_due pieces v.responses)) }
 {}
 
 /// Once the octets have a verdict, no more of them are read: neither after a tagged line nor after a BYE.

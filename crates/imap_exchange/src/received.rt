@@ -3,7 +3,7 @@ ghost use Rattle.std.specs.Prelude.{◌≡◌, ◌<◌, ◌≤◌, ◌+◌, ◌+
 ghost use Rattle.std.specs.Bool.{OnTrue, OnFalse};
 ghost use Rattle.gate_world.specs.Causes.{Rose, LinkAlone};
 ghost use Rattle.gate_world.specs.Tape.{Adds};
-ghost use Rattle.imap_exchange.specs.Received.{Octets, begun, most_given, room_left};
+ghost use Rattle.imap_exchange.specs.Received.{Octets, nothing_given, most_given, room_left};
 ghost use Rattle.imap_exchange.specs.Responses.{IsOver};
 ghost use Rattle.imap_exchange.specs.reading.Filling.{Fills};
 
@@ -14,9 +14,9 @@ use std::marker::Model;
 
 // Whether too much was given, in an exchange before which this much was given.
 fn is_over(begun: u64, given: u64) -> bool
-    requires { begun ≤ given }
-    ensures over { OnTrue result (IsOver begun given) }
-    ensures under { OnFalse result (IsOver begun given → ⊥) }
+    requires { nothing_given ≤ given }
+    ensures over { OnTrue result (IsOver nothing_given given) }
+    ensures under { OnFalse result (IsOver nothing_given given → ⊥) }
     ensures within { OnFalse result (given ≤ MAX_LIFE_OCTETS) }
 {
     MAX_EXCHANGE_OCTETS < given - begun || MAX_LIFE_OCTETS < given
@@ -43,7 +43,7 @@ impl Model for Received {
 impl Received {
     /// Nothing is given yet. It takes no memory.
     pub fn new(alloc: Global) -> Received
-        ensures { result ≡ begun }
+        ensures { result ≡ nothing_given }
     {
         Received {
             unread: Unread::new(alloc),
@@ -78,8 +78,8 @@ impl Received {
     /// Reads further octets from the link, unless too many were given in the exchange or the life. `begun` is what the
     /// life had given before the exchange.
     pub fn fill<L: Link>(&mut self, link: &mut L, begun: u64) -> Result<(), LinkEnd>
-        requires { begun ≤ self.old.given }
-        ensures tape { Adds (L.tape link.old) (L.tape link.new) (Fills begun self.old self.new result) }
+        requires { nothing_given ≤ self.old.given }
+        ensures tape { Adds (L.tape link.old) (L.tape link.new) (Fills nothing_given self.old self.new result) }
         ensures alone { LinkAlone (L.faults link.old) (L.faults link.new) }
         ensures cause { IsErrOf result LinkEnd.Lost → Rose (L.faults link.old).link (L.faults link.new).link }
         ensures more { OnOk result (self.old.given < self.new.given) }

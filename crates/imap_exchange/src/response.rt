@@ -3,10 +3,10 @@ ghost use Rattle.std.specs.Prelude.{◌≡◌, ◌<◌, ◌≤◌, length, take,
 ghost use Rattle.imap_exchange.specs.Received.{room_left};
 ghost use Rattle.gate_world.specs.Causes.{Rose, LinkAlone};
 ghost use Rattle.gate_world.specs.Tape.{Adds};
-ghost use Rattle.imap_exchange.specs.Responses.{Reads, ReadsOf};
+ghost use Rattle.imap_exchange.specs.Responses.{ReadsResponse, ReadsOf};
 ghost use Rattle.imap_exchange.specs.reading.Filling.{is_up_after, is_up_at};
 ghost use Rattle.imap_grammar.specs.Scan.{ScanOf};
-ghost use Rattle.imap_grammar.specs.Fed.{Fed};
+ghost use Rattle.imap_grammar.specs.Fed.{IsScannerFed};
 ghost use Rattle.imap_grammar.specs.declared.answer.Scan.TheVariants.{Whole, NeedMore};
 ghost use Rattle.imap_syntax.specs.Spells.{IsSpelling};
 ghost use Rattle.std.specs.Prelude.{[]};
@@ -37,10 +37,10 @@ fn take_response(
 
 // Scans on from the place up to which the scanner was fed.
 fn scan_on(scanner: &mut Scanner, octets: &[u8], fed: usize) -> Scan
-    requires fed { Fed scanner.old (take fed octets.now) }
+    requires fed { IsScannerFed scanner.old (take fed octets.now) }
     requires within { fed ≤ length octets.now }
     ensures scan { ScanOf octets.now result }
-    ensures more { result ≡ NeedMore → Fed scanner.new octets.now }
+    ensures more { result ≡ NeedMore → IsScannerFed scanner.new octets.now }
 {
     let (_, rest) = octets.split_at(fed);
     scanner.feed(rest)
@@ -54,7 +54,7 @@ fn read_response<L: Link>(
     begun: u64,
 ) -> Result<Response, LinkEnd>
     requires { begun ≤ received.old.given }
-    ensures tape { Adds (L.tape link.old) (L.tape link.new) (Reads begun true (is_up_after result) received.old received.new result) }
+    ensures tape { Adds (L.tape link.old) (L.tape link.new) (ReadsResponse begun true (is_up_after result) received.old received.new result) }
     ensures alone { LinkAlone (L.faults link.old) (L.faults link.new) }
     ensures cause { IsErrOf result LinkEnd.Lost → Rose (L.faults link.old).link (L.faults link.new).link }
     ensures given { OnOk result (received.old.given ≤ received.new.given) }
@@ -111,7 +111,7 @@ pub fn next_response<L: Link>(
     begun: u64,
 ) -> Result<Response, LinkEnd>
     requires { begun ≤ received.old.given }
-    ensures tape { Adds (L.tape link.old) (L.tape link.new) (Reads begun up.old up.new received.old received.new result) }
+    ensures tape { Adds (L.tape link.old) (L.tape link.new) (ReadsResponse begun up.old up.new received.old received.new result) }
     ensures alone { LinkAlone (L.faults link.old) (L.faults link.new) }
     ensures stays { OnOk result (up.new ≡ up.old) }
     ensures down { up.old ≡ false → up.new ≡ false }

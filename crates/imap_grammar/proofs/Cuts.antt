@@ -6,7 +6,7 @@ use Rattle.std.proofs.lemmas.List.{map-append}
 use Rattle.std.proofs.Math.Seq.{take-append_seam, drop-append_seam}
 use Rattle.imap_grammar.specs.reading.Reading.{span, cap, count_from, number_from, number_in, long_in}
 use Rattle.imap_syntax.specs.Octets.{is_digit, is_text, is_word, is_atom, lower}
-use Rattle.imap_syntax.specs.Texts.{Each, plain_of, plain}
+use Rattle.imap_syntax.specs.Texts.{Each, plain_of, plain_octets}
 use Rattle.imap_syntax.specs.Numbers.{value_from}
 
 abbrev pub small : ℕ → Bool
@@ -36,12 +36,12 @@ atom_small c e = grind arith
 
 -- ---- texts of such octets are plain
 
-pub plain_small : (x : List ℕ) → Each small x → plain x ≡ x
+pub plain_small : (x : List ℕ) → Each small x → plain_octets x ≡ x
 plain_small [] h = refl
 plain_small (c ∷ x) h = let e : plain_of c ≡ c = cond-true (nat_lt c 256) c (c - 256) h.0 in let r = plain_small x h.1 in cc
 
-pub plain_join : (x y : List ℕ) → Each small x → plain (x ++ y) ≡ x ++ plain y
-plain_join x y h = map-append plain_of x y ∙ ap (λ (u : List ℕ). u ++ plain y) (plain_small x h)
+pub plain_join : (x y : List ℕ) → Each small x → plain_octets (x ++ y) ≡ x ++ plain_octets y
+plain_join x y h = map-append plain_of x y ∙ ap (λ (u : List ℕ). u ++ plain_octets y) (plain_small x h)
 
 -- ---- a run of a class, and what stands after it
 

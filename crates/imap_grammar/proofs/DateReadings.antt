@@ -7,7 +7,7 @@ use Rattle.imap_automaton.proofs.DateForms.{two, four, starts_day, is_sign, time
 use Rattle.imap_grammar.specs.reading.DateReading.{month_named, date_in}
 use Rattle.imap_grammar.proofs.Cuts.{small, plain_small, digit_small, small_lower}
 use Rattle.imap_syntax.specs.Octets.{is_digit, lower}
-use Rattle.imap_syntax.specs.Texts.{Each, plain}
+use Rattle.imap_syntax.specs.Texts.{Each, plain_octets}
 use Rattle.imap_syntax.specs.Dates.{month_name}
 use Rattle.imap_syntax.specs.DateTimes.{seconds_of, IsMonth, IsDateTime}
 
@@ -188,11 +188,11 @@ octets_small s t o a b c h =
       ),
     )
 
-pub date_read : (s : ℤ) (t back b : List ℕ) → IsDateTime s t → b ≡ plain t ++ back → (date_in b ≡ s) × (drop 28 b ≡ back)
+pub date_read : (s : ℤ) (t back b : List ℕ) → IsDateTime s t → b ≡ plain_octets t ++ back → (date_in b ≡ s) × (drop 28 b ≡ back)
 date_read s t back b h e =
     let o = octets_of s t h in
     let l = letters o.month o.name o.month_is in
     let tail : List ℕ = 45 ∷ o.y1 ∷ o.y2 ∷ o.y3 ∷ o.y4 ∷ 32 ∷ o.h1 ∷ o.h2 ∷ 58 ∷ o.m1 ∷ o.m2 ∷ 58 ∷ o.s1 ∷ o.s2 ∷ 32 ∷ o.sign ∷ o.z1 ∷ o.z2 ∷ o.z3 ∷ o.z4 ∷ 34 ∷ [] in
     let is : t ≡ text_of o l.a l.b l.c [] = o.whole ∙ ap (λ (u : List ℕ). 34 ∷ o.d1 ∷ o.d2 ∷ 45 ∷ (u ++ tail)) l.whole in
-    let f : b ≡ text_of o l.a l.b l.c back = e ∙ ap (λ (u : List ℕ). u ++ back) (ap plain is ∙ plain_small (text_of o l.a l.b l.c []) (octets_small s t o l.a l.b l.c l.low)) in
+    let f : b ≡ text_of o l.a l.b l.c back = e ∙ ap (λ (u : List ℕ). u ++ back) (ap plain_octets is ∙ plain_small (text_of o l.a l.b l.c []) (octets_small s t o l.a l.b l.c l.low)) in
     (ap date_in f ∙ octets_read s t back o l.a l.b l.c l.read, ap (drop 28) f)

@@ -9,7 +9,7 @@ use Rattle.pushdown.proofs.Lists.{cons_head}
 use Rattle.imap_automaton.proofs.StringEdges.{no_special}
 use Rattle.imap_grammar.specs.reading.Spans.{span, long_in, flags_in}
 use Rattle.imap_grammar.specs.reading.StringReading.{astring_in}
-use Rattle.imap_grammar.specs.reading.FolderReading.{delimiter_in, list_in, count_in, counts_in, counts_of, status_in}
+use Rattle.imap_grammar.specs.reading.FolderReading.{delimiter_in, list_in, count_in, status_counts, counts_of, status_in}
 use Rattle.imap_grammar.proofs.Cuts.{small, plain_small, cut_at, digit_small}
 use Rattle.imap_grammar.proofs.ItemReadings.{joined_small, flags_read, long_read}
 use Rattle.imap_grammar.proofs.StringReadings.{quoted_small, Ends, astring_read}
@@ -17,7 +17,7 @@ use Rattle.imap_grammar.proofs.Lengths.{plain_length, less_one}
 use Rattle.imap_syntax.specs.declared.response.StatusItems.{StatusItems}
 use Rattle.imap_syntax.specs.declared.response.Response.TheVariants as response
 use Rattle.imap_syntax.specs.Octets.{is_digit, is_status_word, lower}
-use Rattle.imap_syntax.specs.Texts.{Each, plain_of, plain}
+use Rattle.imap_syntax.specs.Texts.{Each, plain_of, plain_octets}
 use Rattle.imap_syntax.specs.Strings.{quoted}
 use Rattle.imap_syntax.specs.Items.{joined, kept}
 use Rattle.imap_syntax.specs.Folders.{folder_name, IsDelimiter, IsListEnd, IsListLine, IsCount, IsMoreCounts, IsCounts, told_as, told_counts, no_counts, IsStatusLine}
@@ -40,7 +40,7 @@ no_quote : (c : ℕ) → lower c ≡ 110 → (plain_of c == 34) ≡ false
 no_quote c e = grind arith
 
 -- NIL in letters of any case
-nil_read : (x y : List ℕ) → map lower x ≡ codes "nil" → delimiter_in (plain x ++ y) ≡ (None, y)
+nil_read : (x y : List ℕ) → map lower x ≡ codes "nil" → delimiter_in (plain_octets x ++ y) ≡ (None, y)
 unfolding delimiter_in
 nil_read (a ∷ b ∷ c ∷ []) y h =
     let r : List ℕ = plain_of a ∷ plain_of b ∷ plain_of c ∷ y in
@@ -51,32 +51,32 @@ nil_read (a ∷ []) y h = absurd cc
 nil_read (a ∷ b ∷ []) y h = absurd cc
 nil_read (a ∷ b ∷ c ∷ d ∷ x) y h = absurd cc
 
-delimiter_read : (d : Option ℕ) (x y : List ℕ) → IsDelimiter d x → delimiter_in (plain x ++ y) ≡ (d, y)
+delimiter_read : (d : Option ℕ) (x y : List ℕ) → IsDelimiter d x → delimiter_in (plain_octets x ++ y) ≡ (d, y)
 delimiter_read None x y h = nil_read x y h
-delimiter_read (Some c) x y h = ap (λ (u : List ℕ). delimiter_in (u ++ y)) (ap plain h.1 ∙ plain_small (quoted (c ∷ [])) (quoted_small (c ∷ []) h.0)) ∙ one_quoted c y
+delimiter_read (Some c) x y h = ap (λ (u : List ℕ). delimiter_in (u ++ y)) (ap plain_octets h.1 ∙ plain_small (quoted (c ∷ [])) (quoted_small (c ∷ []) h.0)) ∙ one_quoted c y
 
-list_ends : (rest : List ℕ) → IsListEnd rest → Ends (plain rest)
-list_ends rest (inl e) = subst (λ (u : List ℕ). Ends (plain u)) (sym e) (refl, refl)
-list_ends rest (inr v) = subst (λ (u : List ℕ). Ends (plain u)) (sym v.1) (refl, refl)
+list_ends : (rest : List ℕ) → IsListEnd rest → Ends (plain_octets rest)
+list_ends rest (inl e) = subst (λ (u : List ℕ). Ends (plain_octets u)) (sym e) (refl, refl)
+list_ends rest (inr v) = subst (λ (u : List ℕ). Ends (plain_octets u)) (sym v.1) (refl, refl)
 
 pub list_line_read : (attributes : List (List ℕ)) (delimiter : Option ℕ) (name t : List ℕ) → IsListLine attributes delimiter name t
-    → list_in (plain t) ≡ response.List attributes delimiter name
+    → list_in (plain_octets t) ≡ response.List attributes delimiter name
 unfolding list_in
 list_line_read attributes delimiter name t h =
-    let b = plain t in
+    let b = plain_octets t in
     let ns = h.told in
-    let third : List ℕ = 32 ∷ (plain h.third ++ plain h.rest) in
-    let second : List ℕ = 32 ∷ (plain h.second ++ third) in
-    let names : plain h.first ≡ 40 ∷ joined ns ++ 41 ∷ [] = ap plain h.names.1
+    let third : List ℕ = 32 ∷ (plain_octets h.third ++ plain_octets h.rest) in
+    let second : List ℕ = 32 ∷ (plain_octets h.second ++ third) in
+    let names : plain_octets h.first ≡ 40 ∷ joined ns ++ 41 ∷ [] = ap plain_octets h.names.1
     ∙ plain_small (40 ∷ joined ns ++ 41 ∷ []) (refl, each_append small (joined ns) (41 ∷ []) (joined_small ns h.names.0) (refl, tt)) in
-    let all : b ≡ 32 ∷ (plain h.first ++ second) = ap plain h.whole
+    let all : b ≡ 32 ∷ (plain_octets h.first ++ second) = ap plain_octets h.whole
     ∙ ap (λ (u : List ℕ). 32 ∷ u) (map-append plain_of h.first (32 ∷ h.second ++ (32 ∷ h.third ++ h.rest)))
-    ∙ ap (λ (u : List ℕ). 32 ∷ (plain h.first ++ (32 ∷ u))) (map-append plain_of h.second (32 ∷ h.third ++ h.rest))
-    ∙ ap (λ (u : List ℕ). 32 ∷ (plain h.first ++ (32 ∷ (plain h.second ++ (32 ∷ u))))) (map-append plain_of h.third h.rest) in
+    ∙ ap (λ (u : List ℕ). 32 ∷ (plain_octets h.first ++ (32 ∷ u))) (map-append plain_of h.second (32 ∷ h.third ++ h.rest))
+    ∙ ap (λ (u : List ℕ). 32 ∷ (plain_octets h.first ++ (32 ∷ (plain_octets h.second ++ (32 ∷ u))))) (map-append plain_of h.third h.rest) in
     let inner : drop 2 b ≡ joined ns ++ 41 ∷ second = ap (drop 2) (all ∙ ap (λ (u : List ℕ). 32 ∷ (u ++ second)) names) ∙ append_assoc (joined ns) (41 ∷ []) second in
     let f : flags_in (drop 2 b) ≡ (kept ns, second) = flags_read ns second (drop 2 b) h.names.0 inner in
-    let a : astring_in (plain h.third ++ plain h.rest) ≡ (h.string, plain h.rest) =
-    astring_read h.string h.third (plain h.rest) (plain h.third ++ plain h.rest) h.spelled (list_ends h.rest h.ends) refl in
+    let a : astring_in (plain_octets h.third ++ plain_octets h.rest) ≡ (h.string, plain_octets h.rest) =
+    astring_read h.string h.third (plain_octets h.rest) (plain_octets h.third ++ plain_octets h.rest) h.spelled (list_ends h.rest h.ends) refl in
     ap (λ (r : List (List ℕ) × List ℕ). response.List r.0 (delimiter_in (drop 1 r.1)).0 (folder_name (astring_in (drop 1 (delimiter_in (drop 1 r.1)).1)).0)) f
     ∙ ap (λ (r : Option ℕ × List ℕ). response.List (kept ns) r.0 (folder_name (astring_in (drop 1 r.1)).0)) (delimiter_read delimiter h.second third h.delimited)
     ∙ ap (λ (r : List ℕ × List ℕ). response.List (kept ns) delimiter (folder_name r.0)) a
@@ -87,13 +87,13 @@ list_line_read attributes delimiter name t h =
 status_word_small : (c : ℕ) → is_status_word c ≡ true → small c ≡ true
 status_word_small c e = grind arith
 
-count_read : (k : List ℕ × ℕ) (so_far : StatusItems) (t back b : List ℕ) → IsCount k t → is_digit (get_or back 0 0) ≡ false → b ≡ plain t ++ back
+count_read : (k : List ℕ × ℕ) (so_far : StatusItems) (t back b : List ℕ) → IsCount k t → is_digit (get_or back 0 0) ≡ false → b ≡ plain_octets t ++ back
     → count_in so_far b ≡ (told_as so_far (map lower k.0) k.1, back)
 unfolding count_in
 count_read k so_far t back b h out e =
     let word = k.0 in
     let rest : List ℕ = h.digits ++ back in
-    let is : plain t ≡ word ++ 32 ∷ h.digits = ap plain h.whole
+    let is : plain_octets t ≡ word ++ 32 ∷ h.digits = ap plain_octets h.whole
     ∙ plain_small (word ++ 32 ∷ h.digits) (each_append small word (32 ∷ h.digits) (each_to is_status_word small word status_word_small h.word)
     (refl, each_to is_digit small h.digits digit_small h.number.digits)) in
     let c = cut_at is_status_word word (32 ∷ rest) b (e ∙ ap (λ (u : List ℕ). u ++ back) is ∙ append_assoc word (32 ∷ h.digits) back) h.word refl in
@@ -105,21 +105,21 @@ count_read k so_far t back b h out e =
     ∙ ap (λ (n : ℕ). (told_as so_far (map lower word) n, back)) (long_read k.1 h.digits h.number)
 
 pub counts_next : (left : ℕ) (so_far : StatusItems) (b : List ℕ) → 0 < left → (get_or (count_in so_far b).1 0 0 == 32) ≡ true
-    → counts_in left so_far b ≡ counts_in (left - 1) (count_in so_far b).0 (drop 1 (count_in so_far b).1)
-unfolding counts_in
+    → status_counts left so_far b ≡ status_counts (left - 1) (count_in so_far b).0 (drop 1 (count_in so_far b).1)
+unfolding status_counts
 counts_next zero so_far b lt e = absurd (omega (arith, lt))
 counts_next (suc left) so_far b lt e =
     let r = count_in so_far b in
-    cond-true (get_or r.1 0 0 == 32) (counts_in left r.0 (drop 1 r.1)) r.0 e ∙ ap (λ (n : ℕ). counts_in n r.0 (drop 1 r.1)) (less_one left)
+    cond-true (get_or r.1 0 0 == 32) (status_counts left r.0 (drop 1 r.1)) r.0 e ∙ ap (λ (n : ℕ). status_counts n r.0 (drop 1 r.1)) (less_one left)
 
-pub counts_last : (left : ℕ) (so_far : StatusItems) (b : List ℕ) → 0 < left → (get_or (count_in so_far b).1 0 0 == 32) ≡ false → counts_in left so_far b ≡ (count_in so_far b).0
-unfolding counts_in
+pub counts_last : (left : ℕ) (so_far : StatusItems) (b : List ℕ) → 0 < left → (get_or (count_in so_far b).1 0 0 == 32) ≡ false → status_counts left so_far b ≡ (count_in so_far b).0
+unfolding status_counts
 counts_last zero so_far b lt e = absurd (omega (arith, lt))
-counts_last (suc left) so_far b lt e = let r = count_in so_far b in cond-false (get_or r.1 0 0 == 32) (counts_in left r.0 (drop 1 r.1)) r.0 e
+counts_last (suc left) so_far b lt e = let r = count_in so_far b in cond-false (get_or r.1 0 0 == 32) (status_counts left r.0 (drop 1 r.1)) r.0 e
 
-more_head : (cs : List (List ℕ × ℕ)) (y : List ℕ) → IsMoreCounts cs y → is_digit (get_or (plain y) 0 0) ≡ false
-more_head [] y h = ap (λ (u : List ℕ). is_digit (get_or (plain u) 0 0)) h
-more_head (k ∷ cs) y h = ap (λ (u : List ℕ). is_digit (get_or (plain u) 0 0)) h.2
+more_head : (cs : List (List ℕ × ℕ)) (y : List ℕ) → IsMoreCounts cs y → is_digit (get_or (plain_octets y) 0 0) ≡ false
+more_head [] y h = ap (λ (u : List ℕ). is_digit (get_or (plain_octets u) 0 0)) h
+more_head (k ∷ cs) y h = ap (λ (u : List ℕ). is_digit (get_or (plain_octets u) 0 0)) h.2
 
 more_long : (cs : List (List ℕ × ℕ)) (y : List ℕ) → IsMoreCounts cs y → length cs < length y
 more_long [] y h = let l = ap length h in omega (arith, l)
@@ -130,49 +130,49 @@ more_long (k ∷ cs) y h =
     omega (arith, ih, l, m)
 
 counts_read : (cs : List (List ℕ × ℕ)) (most : ℕ) (so_far : StatusItems) (k : List ℕ × ℕ) (x y b : List ℕ) → IsCount k x → IsMoreCounts cs y → length cs < most
-    → b ≡ plain x ++ plain y → counts_in most so_far b ≡ told_counts so_far (k ∷ cs)
-unfolding counts_in
+    → b ≡ plain_octets x ++ plain_octets y → status_counts most so_far b ≡ told_counts so_far (k ∷ cs)
+unfolding status_counts
 counts_read cs zero so_far k x y b h m lt e = absurd (omega (arith, lt))
 counts_read [] (suc most) so_far k x y b h m lt e =
     let next = told_as so_far (map lower k.0) k.1 in
-    let r = count_read k so_far x (plain y) b h (more_head [] y m) e in
-    ap (λ (q : StatusItems × List ℕ). cond (get_or q.1 0 0 == 32) (counts_in most q.0 (drop 1 q.1)) q.0) r
-    ∙ cond-false (get_or (plain y) 0 0 == 32) (counts_in most next (drop 1 (plain y))) next (ap (λ (u : List ℕ). get_or (plain u) 0 0 == 32) m)
+    let r = count_read k so_far x (plain_octets y) b h (more_head [] y m) e in
+    ap (λ (q : StatusItems × List ℕ). cond (get_or q.1 0 0 == 32) (status_counts most q.0 (drop 1 q.1)) q.0) r
+    ∙ cond-false (get_or (plain_octets y) 0 0 == 32) (status_counts most next (drop 1 (plain_octets y))) next (ap (λ (u : List ℕ). get_or (plain_octets u) 0 0 == 32) m)
 counts_read (j ∷ cs) (suc most) so_far k x y b h m lt e =
     let next = told_as so_far (map lower k.0) k.1 in
-    let r = count_read k so_far x (plain y) b h (more_head (j ∷ cs) y m) e in
-    ap (λ (q : StatusItems × List ℕ). cond (get_or q.1 0 0 == 32) (counts_in most q.0 (drop 1 q.1)) q.0) r
-    ∙ cond-true (get_or (plain y) 0 0 == 32) (counts_in most next (drop 1 (plain y))) next (ap (λ (u : List ℕ). get_or (plain u) 0 0 == 32) m.2)
-    ∙ counts_read cs most next j m.0 m.1 (drop 1 (plain y)) m.3 m.4 (omega (arith, lt)) (ap (λ (u : List ℕ). drop 1 (plain u)) m.2 ∙ map-append plain_of m.0 m.1)
+    let r = count_read k so_far x (plain_octets y) b h (more_head (j ∷ cs) y m) e in
+    ap (λ (q : StatusItems × List ℕ). cond (get_or q.1 0 0 == 32) (status_counts most q.0 (drop 1 q.1)) q.0) r
+    ∙ cond-true (get_or (plain_octets y) 0 0 == 32) (status_counts most next (drop 1 (plain_octets y))) next (ap (λ (u : List ℕ). get_or (plain_octets u) 0 0 == 32) m.2)
+    ∙ counts_read cs most next j m.0 m.1 (drop 1 (plain_octets y)) m.3 m.4 (omega (arith, lt)) (ap (λ (u : List ℕ). drop 1 (plain_octets u)) m.2 ∙ map-append plain_of m.0 m.1)
 
-first_word : (k : List ℕ × ℕ) (x y : List ℕ) → IsCount k x → (get_or (plain (x ++ y)) 0 0 == 41) ≡ false
-first_word k x y h = ap (λ (u : List ℕ). get_or (plain (u ++ y)) 0 0 == 41) h.whole ∙ by k.0 h.word h.some
+first_word : (k : List ℕ × ℕ) (x y : List ℕ) → IsCount k x → (get_or (plain_octets (x ++ y)) 0 0 == 41) ≡ false
+first_word k x y h = ap (λ (u : List ℕ). get_or (plain_octets (u ++ y)) 0 0 == 41) h.whole ∙ by k.0 h.word h.some
   where
     not_close : (c : ℕ) → is_status_word c ≡ true → (plain_of c == 41) ≡ false
     not_close c e = grind arith
 
-    by : (w : List ℕ) → Each is_status_word w → 0 < length w → (get_or (plain ((w ++ 32 ∷ h.digits) ++ y)) 0 0 == 41) ≡ false
+    by : (w : List ℕ) → Each is_status_word w → 0 < length w → (get_or (plain_octets ((w ++ 32 ∷ h.digits) ++ y)) 0 0 == 41) ≡ false
     by [] each some = absurd (omega (arith, some))
     by (c ∷ w) each some = not_close c each.0
 
-all_counts_read : (cs : List (List ℕ × ℕ)) (t : List ℕ) → IsCounts cs t → counts_of (plain t) ≡ told_counts no_counts cs
+all_counts_read : (cs : List (List ℕ × ℕ)) (t : List ℕ) → IsCounts cs t → counts_of (plain_octets t) ≡ told_counts no_counts cs
 unfolding counts_of
-all_counts_read [] t h = cond-true (get_or (plain t) 0 0 == 41) no_counts (counts_in (length (plain t)) no_counts (plain t)) (ap (λ (u : List ℕ). get_or (plain u) 0 0 == 41) h)
+all_counts_read [] t h = cond-true (get_or (plain_octets t) 0 0 == 41) no_counts (status_counts (length (plain_octets t)) no_counts (plain_octets t)) (ap (λ (u : List ℕ). get_or (plain_octets u) 0 0 == 41) h)
 all_counts_read (k ∷ cs) t h =
     let l = more_long cs h.back h.second in
     let n = ap length h.whole in
     let m = length-append h.front h.back in
     let p = plain_length t in
-    cond-false (get_or (plain t) 0 0 == 41) no_counts (counts_in (length (plain t)) no_counts (plain t))
-    (ap (λ (u : List ℕ). get_or (plain u) 0 0 == 41) h.whole ∙ first_word k h.front h.back h.first)
-    ∙ counts_read cs (length (plain t)) no_counts k h.front h.back (plain t) h.first h.second (omega (arith, l, n, m, p)) (ap plain h.whole ∙ map-append plain_of h.front h.back)
+    cond-false (get_or (plain_octets t) 0 0 == 41) no_counts (status_counts (length (plain_octets t)) no_counts (plain_octets t))
+    (ap (λ (u : List ℕ). get_or (plain_octets u) 0 0 == 41) h.whole ∙ first_word k h.front h.back h.first)
+    ∙ counts_read cs (length (plain_octets t)) no_counts k h.front h.back (plain_octets t) h.first h.second (omega (arith, l, n, m, p)) (ap plain_octets h.whole ∙ map-append plain_of h.front h.back)
 
-pub status_line_read : (name : List ℕ) (items : StatusItems) (t : List ℕ) → IsStatusLine name items t → status_in (plain t) ≡ response.StatusItems name items
+pub status_line_read : (name : List ℕ) (items : StatusItems) (t : List ℕ) → IsStatusLine name items t → status_in (plain_octets t) ≡ response.StatusItems name items
 unfolding status_in
 status_line_read name items t h =
-    let b = plain t in
-    let rest : List ℕ = 32 ∷ 40 ∷ plain h.rest in
-    let all : b ≡ 32 ∷ (plain h.first ++ rest) = ap plain h.whole ∙ ap (λ (u : List ℕ). 32 ∷ u) (map-append plain_of h.first (32 ∷ 40 ∷ h.rest)) in
+    let b = plain_octets t in
+    let rest : List ℕ = 32 ∷ 40 ∷ plain_octets h.rest in
+    let all : b ≡ 32 ∷ (plain_octets h.first ++ rest) = ap plain_octets h.whole ∙ ap (λ (u : List ℕ). 32 ∷ u) (map-append plain_of h.first (32 ∷ 40 ∷ h.rest)) in
     let a : astring_in (drop 1 b) ≡ (h.string, rest) = astring_read h.string h.first rest (drop 1 b) h.spelled (refl, refl) (ap (drop 1) all) in
     ap (λ (r : List ℕ × List ℕ). response.StatusItems (folder_name r.0) (counts_of (drop 2 r.1))) a
     ∙ ap (λ (q : StatusItems). response.StatusItems (folder_name h.string) q) (all_counts_read h.counts h.rest h.counted ∙ sym h.items_are)

@@ -1,7 +1,7 @@
 -- Lengths of texts, and counts that go down by one.
 use Rattle.std.proofs.Common.{◌≡◌, ℕ, suc, ◌-◌, ◌≤◌, List, [], ◌∷◌, length, arith}
 use Rattle.std.proofs.lemmas.List.{length-append, length-map}
-use Rattle.imap_syntax.specs.Texts.{plain_of, plain}
+use Rattle.imap_syntax.specs.Texts.{plain_of, plain_octets}
 use Rattle.imap_syntax.specs.Lines.{spaced}
 
 -- one less than one more
@@ -9,7 +9,7 @@ pub less_one : (n : ℕ) → n ≡ suc n - 1
 less_one n = omega arith
 
 -- plain octets are as many
-pub plain_length : (t : List ℕ) → length (plain t) ≡ length t
+pub plain_length : (t : List ℕ) → length (plain_octets t) ≡ length t
 plain_length t = length-map t plain_of
 
 -- words stand in a text that is no shorter than their list

@@ -6,14 +6,14 @@ use Rattle.std.proofs.lemmas.Bool.{cond-false, cases_lt}
 use Rattle.std.proofs.lemmas.List.{append-nil, drop_min, length-drop, get_or-drop}
 use Rattle.imap_automaton.specs.declared.sym.Sym.{Sym}
 use Rattle.imap_automaton.specs.Flow.{ends_open, begins, stops, sym_left, with_left}
-use Rattle.imap_automaton.specs.Langs.{Lang, Langs}
+use Rattle.imap_automaton.specs.Langs.{Lang, InTurn}
 use Rattle.imap_automaton.specs.Responses.{responses}
 use Rattle.imap_automaton.specs.ItemRules.{item_start}
 use Rattle.imap_automaton.proofs.Edges.{empty_may, ends_by, begin_no_yield}
 use Rattle.imap_automaton.proofs.Kept.{yield_open}
 use Rattle.imap_automaton.proofs.Lawful.{responses_lawful}
 use Rattle.imap_grammar.specs.reading.Passing.{beyond, passed}
-use Rattle.imap_syntax.specs.Texts.{plain_of, plain}
+use Rattle.imap_syntax.specs.Texts.{plain_of, plain_octets}
 use Rattle.pushdown.specs.declared.moves.Move.{Move}
 use Rattle.pushdown.specs.Run.{moved, step, inside, inside_top, mark, inside_left, skipped}
 use Rattle.pushdown.specs.Flow.{room, first_begins, Good, Room}
@@ -151,42 +151,42 @@ last_ends s c good h e =
     let plain_octet : mark responses (s ∷ []) c ≡ c = cond-false (inside responses s) (c + 256) c (responses_lawful.open_outside s (yield_open s may)) in
     ap (step responses (s ∷ [])) plain_octet ∙ ap (λ (m : Move Sym). moved m [] (step responses [] c)) (ends_by s c may h e)
 
-no_more : (s p : Sym) (ss : List Sym) → Good responses true (s ∷ p ∷ ss) → Lang s [] → Langs (p ∷ ss) [] → ⊥
+no_more : (s p : Sym) (ss : List Sym) → Good responses true (s ∷ p ∷ ss) → Lang s [] → InTurn (p ∷ ss) [] → ⊥
 no_more s p ss good h k =
     let may = empty_may s good.0 h in
     let b : begins p ≡ true = open_begins (ends_open s) (begins p) good.1 (yield_open s may) in
     let n = no_append k.front k.back k.whole in
     begin_no_yield p b (empty_may p good.2.0 (subst (Lang p) n.0 k.first))
 
-ends_at : (s : Sym) (ss : List Sym) (c : ℕ) → Good responses true (s ∷ ss) → Langs (s ∷ ss) [] → stops c ≡ true → step responses (s ∷ ss) (mark responses (s ∷ ss) c) ≡ None
+ends_at : (s : Sym) (ss : List Sym) (c : ℕ) → Good responses true (s ∷ ss) → InTurn (s ∷ ss) [] → stops c ≡ true → step responses (s ∷ ss) (mark responses (s ∷ ss) c) ≡ None
 ends_at s [] c good h e = let n = no_append h.front h.back h.whole in last_ends s c good (subst (Lang s) n.0 h.first) e
-ends_at s (p ∷ ss) c good h e = let n = no_append h.front h.back h.whole in absurd (no_more s p ss good (subst (Lang s) n.0 h.first) (subst (Langs (p ∷ ss)) n.1 h.second))
+ends_at s (p ∷ ss) c good h e = let n = no_append h.front h.back h.whole in absurd (no_more s p ss good (subst (Lang s) n.0 h.first) (subst (InTurn (p ∷ ss)) n.1 h.second))
 
-empty_passed : (s : Sym) (ss : List Sym) (back : List ℕ) → Good responses true (s ∷ ss) → Langs (s ∷ ss) [] → stops (get_or back 0 0) ≡ true → passed back (s ∷ ss) ≡ 0
+empty_passed : (s : Sym) (ss : List Sym) (back : List ℕ) → Good responses true (s ∷ ss) → InTurn (s ∷ ss) [] → stops (get_or back 0 0) ≡ true → passed back (s ∷ ss) ≡ 0
 unfolding passed
 empty_passed s ss [] good h e = refl
 empty_passed s ss (c ∷ back) good h e = ap (λ (o : Option (List Sym)). beyond o (passed back)) (ends_at s ss c good h e)
 
-pub text_passed : (t : List ℕ) (s : Sym) (ss : List Sym) (back : List ℕ) → Good responses true (s ∷ ss) → Langs (s ∷ ss) t → stops (get_or back 0 0) ≡ true
-    → passed (plain t ++ back) (s ∷ ss) ≡ length t
+pub text_passed : (t : List ℕ) (s : Sym) (ss : List Sym) (back : List ℕ) → Good responses true (s ∷ ss) → InTurn (s ∷ ss) t → stops (get_or back 0 0) ≡ true
+    → passed (plain_octets t ++ back) (s ∷ ss) ≡ length t
 unfolding passed
 text_passed [] s ss back good h e = empty_passed s ss back good h e
 text_passed (d ∷ u) s ss back good h e =
     let l = forth responses responses_lawful true (s ∷ ss) d u good h in
     let octet : mark responses (s ∷ ss) (plain_of d) ≡ d = sym (forced responses responses_lawful true (s ∷ ss) l.left d good l.by) in
-    let rest : List ℕ = plain u ++ back in
+    let rest : List ℕ = plain_octets u ++ back in
     ap (λ (n : ℕ). beyond (step responses (s ∷ ss) n) (passed rest)) octet ∙ ap (λ (o : Option (List Sym)). beyond o (passed rest)) l.by
     ∙ on l.left (keeps responses responses_lawful true (s ∷ ss) d l.left good l.by) l.reads (λ q qs g k. text_passed u q qs back g k e)
   where
-    on : (left : List Sym) → Good responses true left → Langs left u → ((q : Sym) (qs : List Sym) → Good responses true (q ∷ qs) → Langs (q ∷ qs) u → passed (plain u ++ back) (q ∷ qs) ≡ length u)
-        → beyond (Some left) (passed (plain u ++ back)) ≡ length (d ∷ u)
+    on : (left : List Sym) → Good responses true left → InTurn left u → ((q : Sym) (qs : List Sym) → Good responses true (q ∷ qs) → InTurn (q ∷ qs) u → passed (plain_octets u ++ back) (q ∷ qs) ≡ length u)
+        → beyond (Some left) (passed (plain_octets u ++ back)) ≡ length (d ∷ u)
     on [] g k ih = let n = ap length k in omega (arith, n)
     on (q ∷ qs) g k ih = let n = ih q qs g k in omega (arith, n)
 
 start_good : Good responses true (item_start ∷ [])
 start_good = (refl, refl, tt)
 
-pub item_passed : (t back b : List ℕ) → Lang item_start t → stops (get_or back 0 0) ≡ true → b ≡ plain t ++ back → passed b (item_start ∷ []) ≡ length t
+pub item_passed : (t back b : List ℕ) → Lang item_start t → stops (get_or back 0 0) ≡ true → b ≡ plain_octets t ++ back → passed b (item_start ∷ []) ≡ length t
 item_passed t back b h e f =
     ap (λ (u : List ℕ). passed u (item_start ∷ [])) f
     ∙ text_passed t item_start [] back start_good (record { front = t; back = []; whole = sym (append-nil t); first = h; second = refl }) e

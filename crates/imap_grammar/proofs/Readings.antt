@@ -21,7 +21,7 @@ use Rattle.imap_syntax.specs.declared.response.Status.TheVariants as status
 use Rattle.imap_syntax.specs.declared.response.Response.{Response}
 use Rattle.imap_syntax.specs.declared.response.Response.TheVariants as response
 use Rattle.imap_syntax.specs.Octets.{is_digit, is_alnum, is_text, is_word, lower}
-use Rattle.imap_syntax.specs.Texts.{Each, Then, plain_of, plain, crlf, IsWord}
+use Rattle.imap_syntax.specs.Texts.{Each, Then, plain_of, plain_octets, crlf, IsWord}
 use Rattle.imap_syntax.specs.Numbers.{value_from, IsNumber}
 use Rattle.imap_syntax.specs.Lines.{word_of, IsRest, IsCodedRest, IsTagged, IsWords}
 use Rattle.imap_syntax.specs.ReadCodes.{code_in}
@@ -105,22 +105,22 @@ says_small None response.Other w tail t e h k = behind_free k.1.0 w tail t e h k
 says_small (Some n) response.Other w tail t e h k = behind_free k.1.0 w tail t e h k.1.1
 says_small _ _ w tail t e h k = absurd k
 
-plain_head : (t : List ℕ) → small (get_or t 0 0) ≡ true → get_or (plain t) 0 0 ≡ get_or t 0 0
+plain_head : (t : List ℕ) → small (get_or t 0 0) ≡ true → get_or (plain_octets t) 0 0 ≡ get_or t 0 0
 plain_head [] e = refl
 plain_head (c ∷ t) e = cond-true (nat_lt c 256) c (c - 256) e
 
 -- the word of a line, cut from its octets
-word_cut : (number : Option ℕ) (v : Response) (t : List ℕ) → (h : IsWordLine number v t) → CutAt is_word h.word (plain h.tail) (plain t)
-    × (get_or (plain h.tail) 0 0 ≡ get_or h.tail 0 0)
+word_cut : (number : Option ℕ) (v : Response) (t : List ℕ) → (h : IsWordLine number v t) → CutAt is_word h.word (plain_octets h.tail) (plain_octets t)
+    × (get_or (plain_octets h.tail) 0 0 ≡ get_or h.tail 0 0)
 word_cut number v t h =
     let s = says_small number v h.word h.tail t h.whole h.word_is h.says in
     let head = plain_head h.tail s in (
-      cut_at is_word h.word (plain h.tail) (plain t) (ap plain h.whole ∙ plain_join h.word h.tail (each_to is_word small h.word word_small h.word_is)) h.word_is
+      cut_at is_word h.word (plain_octets h.tail) (plain_octets t) (ap plain_octets h.whole ∙ plain_join h.word h.tail (each_to is_word small h.word word_small h.word_is)) h.word_is
           (ap is_word head ∙ h.longest),
       head,
     )
 
-word_read : (number : Option ℕ) (v : Response) (t : List ℕ) → (h : IsWordLine number v t) → word_in (plain t) ≡ map lower h.word
+word_read : (number : Option ℕ) (v : Response) (t : List ℕ) → (h : IsWordLine number v t) → word_in (plain_octets t) ≡ map lower h.word
 unfolding word_in
 word_read number v t h = ap (map lower) (word_cut number v t h).0.front
 
@@ -148,36 +148,36 @@ exists_or n b = cond (bytes_eq (word_in b) (codes "exists")) (response.Exists n)
 apart_by : (w k : List ℕ) → w ≡ k → (q : List ℕ) → (k ≡ q → ⊥) → w ≡ q → ⊥
 apart_by w k e q f g = f (sym e ∙ g)
 
-numbered_read : (n : ℕ) (v : Response) (t : List ℕ) → IsWordLine (Some n) v t → numbered_in n (plain t) ≡ v
+numbered_read : (n : ℕ) (v : Response) (t : List ℕ) → IsWordLine (Some n) v t → numbered_in n (plain_octets t) ≡ v
 unfolding numbered_in
 numbered_read n (response.Fetch seq items) t h =
     let w = word_read (Some n) (response.Fetch seq items) t h in
     let says = h.says in
     let k = says.2 in
     let s = each_to is_word small h.word word_small h.word_is in
-    let inner : plain t ≡ h.word ++ 32 ∷ 40 ∷ plain k.1 = ap plain h.whole ∙ plain_join h.word h.tail s ∙ ap (λ (u : List ℕ). h.word ++ plain u) k.2 in
-    let rest : drop 7 (plain t) ≡ plain k.1 = ap (drop 7) inner ∙ five_long h.word says.1 (plain k.1) in
+    let inner : plain_octets t ≡ h.word ++ 32 ∷ 40 ∷ plain_octets k.1 = ap plain_octets h.whole ∙ plain_join h.word h.tail s ∙ ap (λ (u : List ℕ). h.word ++ plain_octets u) k.2 in
+    let rest : drop 7 (plain_octets t) ≡ plain_octets k.1 = ap (drop 7) inner ∙ five_long h.word says.1 (plain_octets k.1) in
     let l1 = ap length inner in
-    let l2 = length-append h.word (32 ∷ 40 ∷ plain k.1) in
+    let l2 = length-append h.word (32 ∷ 40 ∷ plain_octets k.1) in
     let l3 = plain_length k.1 in
-    let read : items_in (length (plain t)) no_items (drop 7 (plain t)) ≡ items = ap (items_in (length (plain t)) no_items) rest
-    ∙ all_items_read k.0 no_items k.1 (length (plain t)) k.3 (omega (arith, l1, l2, l3)) ∙ sym k.4 in
-    cond-true (bytes_eq (word_in (plain t)) (codes "fetch")) (fetch_of n (plain t)) (exists_or n (plain t)) (text_same (word_in (plain t)) (codes "fetch") (w ∙ says.1))
+    let read : items_in (length (plain_octets t)) no_items (drop 7 (plain_octets t)) ≡ items = ap (items_in (length (plain_octets t)) no_items) rest
+    ∙ all_items_read k.0 no_items k.1 (length (plain_octets t)) k.3 (omega (arith, l1, l2, l3)) ∙ sym k.4 in
+    cond-true (bytes_eq (word_in (plain_octets t)) (codes "fetch")) (fetch_of n (plain_octets t)) (exists_or n (plain_octets t)) (text_same (word_in (plain_octets t)) (codes "fetch") (w ∙ says.1))
     ∙ ap (λ q. response.Fetch n q) read ∙ ap (λ (m : ℕ). response.Fetch m items) (sym says.0)
 numbered_read n (response.Exists count) t h =
-    let b = plain t in
+    let b = plain_octets t in
     let w : word_in b ≡ codes "exists" = word_read (Some n) (response.Exists count) t h ∙ h.says.1 in
     passes (word_in b) (codes "fetch") (fetch_of n b) (exists_or n b) (apart_by (word_in b) (codes "exists") w (codes "fetch") (differ (codes "exists") (codes "fetch") refl))
     ∙ cond-true (bytes_eq (word_in b) (codes "exists")) (response.Exists n) (expunge_or n b) (text_same (word_in b) (codes "exists") w) ∙ ap response.Exists (sym h.says.0)
 numbered_read n (response.Expunge seq) t h =
-    let b = plain t in
+    let b = plain_octets t in
     let w : word_in b ≡ codes "expunge" = word_read (Some n) (response.Expunge seq) t h ∙ h.says.1 in
     passes (word_in b) (codes "fetch") (fetch_of n b) (exists_or n b) (apart_by (word_in b) (codes "expunge") w (codes "fetch") (differ (codes "expunge") (codes "fetch") refl))
     ∙ passes (word_in b) (codes "exists") (response.Exists n) (expunge_or n b)
     (apart_by (word_in b) (codes "expunge") w (codes "exists") (differ (codes "expunge") (codes "exists") refl))
     ∙ cond-true (bytes_eq (word_in b) (codes "expunge")) (response.Expunge n) response.Other (text_same (word_in b) (codes "expunge") w) ∙ ap response.Expunge (sym h.says.0)
 numbered_read n response.Other t h =
-    let b = plain t in
+    let b = plain_octets t in
     let w = word_read (Some n) response.Other t h in
     let says = h.says in
     let ne : (k : List ℕ) → Contains (keywords (Some n)) k → word_in b ≡ k → ⊥ = λ k m e. no_keyword (Some n) (map lower h.word) k says.0 m (sym w ∙ e) in
@@ -236,124 +236,124 @@ flags_or w tail = cond (bytes_eq w (codes "flags")) (response.Flags (flags_in (d
 abbrev enabled_or : List ℕ → List ℕ → Response
 enabled_or w tail = cond (bytes_eq w (codes "enabled")) (response.Enabled (words_in (length tail) tail)) (flags_or w tail)
 
-flags_line : (flags : List (List ℕ)) (t : List ℕ) → IsFlagsLine flags t → (flags_in (drop 2 (plain t))).0 ≡ flags
+flags_line : (flags : List (List ℕ)) (t : List ℕ) → IsFlagsLine flags t → (flags_in (drop 2 (plain_octets t))).0 ≡ flags
 flags_line flags t h =
     let ns = h.0 in
     let all = h.3.0 in
-    let e : plain t ≡ 32 ∷ 40 ∷ joined ns ++ 41 ∷ crlf = ap plain
+    let e : plain_octets t ≡ 32 ∷ 40 ∷ joined ns ++ 41 ∷ crlf = ap plain_octets
     (h.2 ∙ ap (λ (u : List ℕ). 32 ∷ u ++ crlf) h.3.1 ∙ ap (λ (u : List ℕ). 32 ∷ 40 ∷ u) (append_assoc (joined ns) (41 ∷ []) crlf))
     ∙ plain_small (32 ∷ 40 ∷ joined ns ++ 41 ∷ crlf) (refl, (refl, each_append small (joined ns) (41 ∷ crlf) (joined_small ns all) (refl, (refl, (refl, tt))))) in
-    ap (λ (r : List (List ℕ) × List ℕ). r.0) (flags_read ns crlf (drop 2 (plain t)) all (ap (drop 2) e)) ∙ sym h.4
+    ap (λ (r : List (List ℕ) × List ℕ). r.0) (flags_read ns crlf (drop 2 (plain_octets t)) all (ap (drop 2) e)) ∙ sym h.4
 
-rest_plain : (t : List ℕ) → IsRest t → plain t ≡ t
-rest_plain t (inl e) = ap plain e ∙ sym e
+rest_plain : (t : List ℕ) → IsRest t → plain_octets t ≡ t
+rest_plain t (inl e) = ap plain_octets e ∙ sym e
 rest_plain t (inr w) =
     let line = w.2 in
-    ap plain (w.1 ∙ ap (λ (u : List ℕ). 32 ∷ u) line.whole)
+    ap plain_octets (w.1 ∙ ap (λ (u : List ℕ). 32 ∷ u) line.whole)
     ∙ plain_small (32 ∷ line.text ++ crlf) (refl, each_append small line.text crlf (each_to is_text small line.text text_small line.text_is) (refl, (refl, tt)))
     ∙ sym (w.1 ∙ ap (λ (u : List ℕ). 32 ∷ u) line.whole)
 
 -- the code of a rest is read back
-code_read : (code : Code) (t : List ℕ) → IsCodedRest code t → code_in (plain t) ≡ code
+code_read : (code : Code) (t : List ℕ) → IsCodedRest code t → code_in (plain_octets t) ≡ code
 code_read code t h = ap code_in (rest_plain t h.0) ∙ has_code code t h.1
 
-told_said : (v : Response) (w tail t : List ℕ) → Says None v w tail t → said_in (status_named w) w (plain tail) ≡ v
+told_said : (v : Response) (w tail t : List ℕ) → Says None v w tail t → said_in (status_named w) w (plain_octets tail) ≡ v
 unfolding said_in told_in
 told_said (response.Untagged s code) w tail t h =
-    ap (λ (o : Option Status). said_in o w (plain tail)) (ap status_named h.0 ∙ named_back s)
+    ap (λ (o : Option Status). said_in o w (plain_octets tail)) (ap status_named h.0 ∙ named_back s)
     ∙ ap (λ (c : Code). response.Untagged s c) (code_read code tail h.1)
 told_said (response.Capability ws) w tail t h =
-    ap (λ (o : Option Status). said_in o w (plain tail)) (ap status_named h.0 ∙ named_none_of (codes "capability") refl refl refl refl refl)
-    ∙ cond-true (bytes_eq w (codes "capability")) (response.Capability (words_in (length (plain tail)) (plain tail))) (enabled_or w (plain tail))
+    ap (λ (o : Option Status). said_in o w (plain_octets tail)) (ap status_named h.0 ∙ named_none_of (codes "capability") refl refl refl refl refl)
+    ∙ cond-true (bytes_eq w (codes "capability")) (response.Capability (words_in (length (plain_octets tail)) (plain_octets tail))) (enabled_or w (plain_octets tail))
     (text_same w (codes "capability") h.0)
     ∙ ap response.Capability (words_read ws tail h.1)
 told_said (response.Enabled ws) w tail t h =
-    ap (λ (o : Option Status). said_in o w (plain tail)) (ap status_named h.0 ∙ named_none_of (codes "enabled") refl refl refl refl refl)
-    ∙ passes w (codes "capability") (response.Capability (words_in (length (plain tail)) (plain tail))) (enabled_or w (plain tail))
+    ap (λ (o : Option Status). said_in o w (plain_octets tail)) (ap status_named h.0 ∙ named_none_of (codes "enabled") refl refl refl refl refl)
+    ∙ passes w (codes "capability") (response.Capability (words_in (length (plain_octets tail)) (plain_octets tail))) (enabled_or w (plain_octets tail))
     (apart_by w (codes "enabled") h.0 (codes "capability") (differ (codes "enabled") (codes "capability") refl))
-    ∙ cond-true (bytes_eq w (codes "enabled")) (response.Enabled (words_in (length (plain tail)) (plain tail))) (flags_or w (plain tail)) (text_same w (codes "enabled") h.0)
+    ∙ cond-true (bytes_eq w (codes "enabled")) (response.Enabled (words_in (length (plain_octets tail)) (plain_octets tail))) (flags_or w (plain_octets tail)) (text_same w (codes "enabled") h.0)
     ∙ ap response.Enabled (words_read ws tail h.1)
 told_said (response.Flags flags) w tail t h =
-    ap (λ (o : Option Status). said_in o w (plain tail)) (ap status_named h.0 ∙ named_none_of (codes "flags") refl refl refl refl refl)
-    ∙ passes w (codes "capability") (response.Capability (words_in (length (plain tail)) (plain tail))) (enabled_or w (plain tail))
+    ap (λ (o : Option Status). said_in o w (plain_octets tail)) (ap status_named h.0 ∙ named_none_of (codes "flags") refl refl refl refl refl)
+    ∙ passes w (codes "capability") (response.Capability (words_in (length (plain_octets tail)) (plain_octets tail))) (enabled_or w (plain_octets tail))
     (apart_by w (codes "flags") h.0 (codes "capability") (differ (codes "flags") (codes "capability") refl))
-    ∙ passes w (codes "enabled") (response.Enabled (words_in (length (plain tail)) (plain tail))) (flags_or w (plain tail))
+    ∙ passes w (codes "enabled") (response.Enabled (words_in (length (plain_octets tail)) (plain_octets tail))) (flags_or w (plain_octets tail))
     (apart_by w (codes "flags") h.0 (codes "enabled") (differ (codes "flags") (codes "enabled") refl))
-    ∙ cond-true (bytes_eq w (codes "flags")) (response.Flags (flags_in (drop 2 (plain tail))).0) (vanished_or w (plain tail)) (text_same w (codes "flags") h.0)
+    ∙ cond-true (bytes_eq w (codes "flags")) (response.Flags (flags_in (drop 2 (plain_octets tail))).0) (vanished_or w (plain_octets tail)) (text_same w (codes "flags") h.0)
     ∙ ap response.Flags (flags_line flags tail h.1)
 told_said (response.Vanished earlier uids) w tail t h =
-    ap (λ (o : Option Status). said_in o w (plain tail)) (ap status_named h.0 ∙ named_none_of (codes "vanished") refl refl refl refl refl)
-    ∙ passes w (codes "capability") (response.Capability (words_in (length (plain tail)) (plain tail))) (enabled_or w (plain tail))
+    ap (λ (o : Option Status). said_in o w (plain_octets tail)) (ap status_named h.0 ∙ named_none_of (codes "vanished") refl refl refl refl refl)
+    ∙ passes w (codes "capability") (response.Capability (words_in (length (plain_octets tail)) (plain_octets tail))) (enabled_or w (plain_octets tail))
     (apart_by w (codes "vanished") h.0 (codes "capability") (differ (codes "vanished") (codes "capability") refl))
-    ∙ passes w (codes "enabled") (response.Enabled (words_in (length (plain tail)) (plain tail))) (flags_or w (plain tail))
+    ∙ passes w (codes "enabled") (response.Enabled (words_in (length (plain_octets tail)) (plain_octets tail))) (flags_or w (plain_octets tail))
     (apart_by w (codes "vanished") h.0 (codes "enabled") (differ (codes "vanished") (codes "enabled") refl))
-    ∙ passes w (codes "flags") (response.Flags (flags_in (drop 2 (plain tail))).0) (vanished_or w (plain tail))
+    ∙ passes w (codes "flags") (response.Flags (flags_in (drop 2 (plain_octets tail))).0) (vanished_or w (plain_octets tail))
     (apart_by w (codes "vanished") h.0 (codes "flags") (differ (codes "vanished") (codes "flags") refl))
-    ∙ cond-true (bytes_eq w (codes "vanished")) (vanished_in (drop 1 (plain tail))) (list_or w (plain tail)) (text_same w (codes "vanished") h.0)
-    ∙ ap (λ (u : List ℕ). vanished_in (drop 1 (plain u))) h.1.1 ∙ vanished_read earlier uids.ranges h.1.0 h.1.2
+    ∙ cond-true (bytes_eq w (codes "vanished")) (vanished_in (drop 1 (plain_octets tail))) (list_or w (plain_octets tail)) (text_same w (codes "vanished") h.0)
+    ∙ ap (λ (u : List ℕ). vanished_in (drop 1 (plain_octets u))) h.1.1 ∙ vanished_read earlier uids.ranges h.1.0 h.1.2
 told_said (response.List attributes delimiter name) w tail t h =
-    ap (λ (o : Option Status). said_in o w (plain tail)) (ap status_named h.0 ∙ named_none_of (codes "list") refl refl refl refl refl)
-    ∙ passes w (codes "capability") (response.Capability (words_in (length (plain tail)) (plain tail))) (enabled_or w (plain tail))
+    ap (λ (o : Option Status). said_in o w (plain_octets tail)) (ap status_named h.0 ∙ named_none_of (codes "list") refl refl refl refl refl)
+    ∙ passes w (codes "capability") (response.Capability (words_in (length (plain_octets tail)) (plain_octets tail))) (enabled_or w (plain_octets tail))
     (apart_by w (codes "list") h.0 (codes "capability") (differ (codes "list") (codes "capability") refl))
-    ∙ passes w (codes "enabled") (response.Enabled (words_in (length (plain tail)) (plain tail))) (flags_or w (plain tail))
+    ∙ passes w (codes "enabled") (response.Enabled (words_in (length (plain_octets tail)) (plain_octets tail))) (flags_or w (plain_octets tail))
     (apart_by w (codes "list") h.0 (codes "enabled") (differ (codes "list") (codes "enabled") refl))
-    ∙ passes w (codes "flags") (response.Flags (flags_in (drop 2 (plain tail))).0) (vanished_or w (plain tail))
+    ∙ passes w (codes "flags") (response.Flags (flags_in (drop 2 (plain_octets tail))).0) (vanished_or w (plain_octets tail))
     (apart_by w (codes "list") h.0 (codes "flags") (differ (codes "list") (codes "flags") refl))
-    ∙ passes w (codes "vanished") (vanished_in (drop 1 (plain tail))) (list_or w (plain tail))
+    ∙ passes w (codes "vanished") (vanished_in (drop 1 (plain_octets tail))) (list_or w (plain_octets tail))
     (apart_by w (codes "list") h.0 (codes "vanished") (differ (codes "list") (codes "vanished") refl))
-    ∙ cond-true (bytes_eq w (codes "list")) (list_in (plain tail)) (status_or w (plain tail)) (text_same w (codes "list") h.0)
+    ∙ cond-true (bytes_eq w (codes "list")) (list_in (plain_octets tail)) (status_or w (plain_octets tail)) (text_same w (codes "list") h.0)
     ∙ list_line_read attributes delimiter name tail h.1
 told_said (response.StatusItems name items) w tail t h =
-    ap (λ (o : Option Status). said_in o w (plain tail)) (ap status_named h.0 ∙ named_none_of (codes "status") refl refl refl refl refl)
-    ∙ passes w (codes "capability") (response.Capability (words_in (length (plain tail)) (plain tail))) (enabled_or w (plain tail))
+    ap (λ (o : Option Status). said_in o w (plain_octets tail)) (ap status_named h.0 ∙ named_none_of (codes "status") refl refl refl refl refl)
+    ∙ passes w (codes "capability") (response.Capability (words_in (length (plain_octets tail)) (plain_octets tail))) (enabled_or w (plain_octets tail))
     (apart_by w (codes "status") h.0 (codes "capability") (differ (codes "status") (codes "capability") refl))
-    ∙ passes w (codes "enabled") (response.Enabled (words_in (length (plain tail)) (plain tail))) (flags_or w (plain tail))
+    ∙ passes w (codes "enabled") (response.Enabled (words_in (length (plain_octets tail)) (plain_octets tail))) (flags_or w (plain_octets tail))
     (apart_by w (codes "status") h.0 (codes "enabled") (differ (codes "status") (codes "enabled") refl))
-    ∙ passes w (codes "flags") (response.Flags (flags_in (drop 2 (plain tail))).0) (vanished_or w (plain tail))
+    ∙ passes w (codes "flags") (response.Flags (flags_in (drop 2 (plain_octets tail))).0) (vanished_or w (plain_octets tail))
     (apart_by w (codes "status") h.0 (codes "flags") (differ (codes "status") (codes "flags") refl))
-    ∙ passes w (codes "vanished") (vanished_in (drop 1 (plain tail))) (list_or w (plain tail))
+    ∙ passes w (codes "vanished") (vanished_in (drop 1 (plain_octets tail))) (list_or w (plain_octets tail))
     (apart_by w (codes "status") h.0 (codes "vanished") (differ (codes "status") (codes "vanished") refl))
-    ∙ passes w (codes "list") (list_in (plain tail)) (status_or w (plain tail)) (apart_by w (codes "status") h.0 (codes "list") (differ (codes "status") (codes "list") refl))
-    ∙ cond-true (bytes_eq w (codes "status")) (status_in (plain tail)) response.Other (text_same w (codes "status") h.0)
+    ∙ passes w (codes "list") (list_in (plain_octets tail)) (status_or w (plain_octets tail)) (apart_by w (codes "status") h.0 (codes "list") (differ (codes "status") (codes "list") refl))
+    ∙ cond-true (bytes_eq w (codes "status")) (status_in (plain_octets tail)) response.Other (text_same w (codes "status") h.0)
     ∙ status_line_read name items tail h.1
 told_said response.Other w tail t h =
     let ne : (k : List ℕ) → Contains (keywords None) k → w ≡ k → ⊥ = λ k m e. no_keyword None w k h.0 m e in
-    ap (λ (o : Option Status). said_in o w (plain tail)) (named_none w (ne (codes "ok") (0, omega arith, refl)) (ne (codes "no") (1, omega arith, refl))
+    ap (λ (o : Option Status). said_in o w (plain_octets tail)) (named_none w (ne (codes "ok") (0, omega arith, refl)) (ne (codes "no") (1, omega arith, refl))
     (ne (codes "bad") (2, omega arith, refl)) (ne (codes "preauth") (3, omega arith, refl)) (ne (codes "bye") (4, omega arith, refl)))
-    ∙ passes w (codes "capability") (response.Capability (words_in (length (plain tail)) (plain tail))) (enabled_or w (plain tail)) (ne (codes "capability") (5, omega arith, refl))
-    ∙ passes w (codes "enabled") (response.Enabled (words_in (length (plain tail)) (plain tail))) (flags_or w (plain tail)) (ne (codes "enabled") (6, omega arith, refl))
-    ∙ passes w (codes "flags") (response.Flags (flags_in (drop 2 (plain tail))).0) (vanished_or w (plain tail)) (ne (codes "flags") (7, omega arith, refl))
-    ∙ passes w (codes "vanished") (vanished_in (drop 1 (plain tail))) (list_or w (plain tail)) (ne (codes "vanished") (8, omega arith, refl))
-    ∙ passes w (codes "list") (list_in (plain tail)) (status_or w (plain tail)) (ne (codes "list") (9, omega arith, refl))
-    ∙ passes w (codes "status") (status_in (plain tail)) response.Other (ne (codes "status") (10, omega arith, refl))
+    ∙ passes w (codes "capability") (response.Capability (words_in (length (plain_octets tail)) (plain_octets tail))) (enabled_or w (plain_octets tail)) (ne (codes "capability") (5, omega arith, refl))
+    ∙ passes w (codes "enabled") (response.Enabled (words_in (length (plain_octets tail)) (plain_octets tail))) (flags_or w (plain_octets tail)) (ne (codes "enabled") (6, omega arith, refl))
+    ∙ passes w (codes "flags") (response.Flags (flags_in (drop 2 (plain_octets tail))).0) (vanished_or w (plain_octets tail)) (ne (codes "flags") (7, omega arith, refl))
+    ∙ passes w (codes "vanished") (vanished_in (drop 1 (plain_octets tail))) (list_or w (plain_octets tail)) (ne (codes "vanished") (8, omega arith, refl))
+    ∙ passes w (codes "list") (list_in (plain_octets tail)) (status_or w (plain_octets tail)) (ne (codes "list") (9, omega arith, refl))
+    ∙ passes w (codes "status") (status_in (plain_octets tail)) response.Other (ne (codes "status") (10, omega arith, refl))
 told_said _ w tail t h = absurd h
 
-plain_read : (v : Response) (t : List ℕ) → IsWordLine None v t → plain_in (plain t) ≡ v
+plain_read : (v : Response) (t : List ℕ) → IsWordLine None v t → plain_in (plain_octets t) ≡ v
 unfolding plain_in
 plain_read v t h =
-    let b = plain t in
+    let b = plain_octets t in
     let c = word_cut None v t h in
     ap (λ (w : List ℕ). said_in (status_named w) w (drop (span is_word b) b)) (word_read None v t h)
     ∙ ap (said_in (status_named (map lower h.word)) (map lower h.word)) c.0.back
     ∙ told_said v (map lower h.word) h.tail t h.says
 
-untagged_read : (v : Response) (t : List ℕ) → IsUntagged v t → untagged_in (plain t) ≡ v
+untagged_read : (v : Response) (t : List ℕ) → IsUntagged v t → untagged_in (plain_octets t) ≡ v
 unfolding untagged_in
 untagged_read v t (inl r) =
     let n = r.0 in
     let digits = r.2.0 in
     let num = r.2.2 in
-    let b = plain t in
-    let cut : b ≡ digits ++ 32 ∷ plain r.1 = ap plain r.2.1 ∙ plain_join digits (32 ∷ r.1) (each_to is_digit small digits digit_small num.digits) in
-    let k = cut_at is_word digits (32 ∷ plain r.1) b cut (each_to is_digit is_word digits digit_word num.digits) refl in
+    let b = plain_octets t in
+    let cut : b ≡ digits ++ 32 ∷ plain_octets r.1 = ap plain_octets r.2.1 ∙ plain_join digits (32 ∷ r.1) (each_to is_digit small digits digit_small num.digits) in
+    let k = cut_at is_word digits (32 ∷ plain_octets r.1) b cut (each_to is_digit is_word digits digit_word num.digits) refl in
     let test : (is_sequence (take (span is_word b) b) && get_or b (span is_word b) 0 == 32) ≡ true =
     and_from _ _ (ap is_sequence k.front ∙ sequence_true n digits num) (ap (λ (c : ℕ). c == 32) k.octet) in
     let value : number_in (take (span is_word b) b) ≡ n = ap number_in k.front ∙ number_is digits (omega (arith, num.value, num.most)) ∙ sym num.value in
     cond-true (is_sequence (take (span is_word b) b) && get_or b (span is_word b) 0 == 32) (numbered_in (number_in (take (span is_word b) b)) (drop (span is_word b + 1) b))
     (plain_in b) test
-    ∙ ap (λ (m : ℕ). numbered_in m (drop (span is_word b + 1) b)) value ∙ ap (numbered_in n) (k.past 32 (plain r.1) refl) ∙ numbered_read n v r.1 r.3
+    ∙ ap (λ (m : ℕ). numbered_in m (drop (span is_word b + 1) b)) value ∙ ap (numbered_in n) (k.past 32 (plain_octets r.1) refl) ∙ numbered_read n v r.1 r.3
 untagged_read v t (inr r) =
-    let b = plain t in
+    let b = plain_octets t in
     let c = word_cut None v t r.0 in
     let k = c.0 in
     cond-false (is_sequence (take (span is_word b) b) && get_or b (span is_word b) 0 == 32) (numbered_in (number_in (take (span is_word b) b)) (drop (span is_word b + 1) b))
@@ -386,13 +386,13 @@ record StatusRead (s : Status) (code : Code) (b : List ℕ) : Type 0 where
   named : status_named (word_in b) ≡ Some s
   told : code_in (drop (span is_word b) b) ≡ code
 
-status_read : (s : Status) (code : Code) (t : List ℕ) → Then (IsWord (word_of s)) (IsCodedRest code) t → StatusRead s code (plain t)
+status_read : (s : Status) (code : Code) (t : List ℕ) → Then (IsWord (word_of s)) (IsCodedRest code) t → StatusRead s code (plain_octets t)
 unfolding word_in
 status_read s code t h =
     let rest = h.second.0 in
     let each = word_of_key h.front (word_of s) (word_octets s) h.first in
     let head = plain_head h.back (behind_rest h.back rest) in
-    let k = cut_at is_word h.front (plain h.back) (plain t) (ap plain h.whole ∙ plain_join h.front h.back (each_to is_word small h.front word_small each)) each
+    let k = cut_at is_word h.front (plain_octets h.back) (plain_octets t) (ap plain_octets h.whole ∙ plain_join h.front h.back (each_to is_word small h.front word_small each)) each
     (ap is_word head ∙ rest_out h.back rest) in
     record {
       named = ap (λ (u : List ℕ). status_named (map lower u)) k.front ∙ ap status_named h.first ∙ named_back s;
@@ -402,23 +402,23 @@ status_read s code t h =
 abbrev tagged_line : List ℕ → List ℕ → Response
 tagged_line tag line = response.Tagged tag (unwrap_or (status_named (word_in line)) status.Bad) (code_in (drop (span is_word line) line))
 
-tagged_read : (tag : List ℕ) (s : Status) (code : Code) (t : List ℕ) → IsTagged tag s code t → tagged_in (plain t) ≡ response.Tagged tag s code
+tagged_read : (tag : List ℕ) (s : Status) (code : Code) (t : List ℕ) → IsTagged tag s code t → tagged_in (plain_octets t) ≡ response.Tagged tag s code
 unfolding tagged_in
 tagged_read tag s code t h =
-    let b = plain t in
-    let k = cut_at in_name tag (32 ∷ plain h.after) b (ap plain h.whole ∙ plain_join tag (32 ∷ h.after) (each_to is_alnum small tag alnum_small h.tag_is))
+    let b = plain_octets t in
+    let k = cut_at in_name tag (32 ∷ plain_octets h.after) b (ap plain_octets h.whole ∙ plain_join tag (32 ∷ h.after) (each_to is_alnum small tag alnum_small h.tag_is))
     (each_to is_alnum in_name tag alnum_name h.tag_is) refl in
     let read = status_read s code h.after h.line in
     ap (λ (u : List ℕ). tagged_line u (drop (span in_name b + 1) b)) k.front
-    ∙ ap (tagged_line tag) (k.past 32 (plain h.after) refl)
-    ∙ ap (λ (o : Option Status). response.Tagged tag (unwrap_or o status.Bad) (code_in (drop (span is_word (plain h.after)) (plain h.after)))) read.named
+    ∙ ap (tagged_line tag) (k.past 32 (plain_octets h.after) refl)
+    ∙ ap (λ (o : Option Status). response.Tagged tag (unwrap_or o status.Bad) (code_in (drop (span is_word (plain_octets h.after)) (plain_octets h.after)))) read.named
     ∙ ap (response.Tagged tag s) read.told
 
 -- ---- responses
 
-tag_first : (tag t after : List ℕ) → t ≡ tag ++ 32 ∷ after → Each is_alnum tag → ((get_or (plain t) 0 0 == 42) ≡ false) × ((get_or (plain t) 0 0 == 43) ≡ false)
-tag_first [] t after e h = (ap (λ (u : List ℕ). get_or (plain u) 0 0 == 42) e, ap (λ (u : List ℕ). get_or (plain u) 0 0 == 43) e)
-tag_first (c ∷ tag) t after e h = (ap (λ (u : List ℕ). get_or (plain u) 0 0 == 42) e ∙ not_star c h.0, ap (λ (u : List ℕ). get_or (plain u) 0 0 == 43) e ∙ not_plus c h.0)
+tag_first : (tag t after : List ℕ) → t ≡ tag ++ 32 ∷ after → Each is_alnum tag → ((get_or (plain_octets t) 0 0 == 42) ≡ false) × ((get_or (plain_octets t) 0 0 == 43) ≡ false)
+tag_first [] t after e h = (ap (λ (u : List ℕ). get_or (plain_octets u) 0 0 == 42) e, ap (λ (u : List ℕ). get_or (plain_octets u) 0 0 == 43) e)
+tag_first (c ∷ tag) t after e h = (ap (λ (u : List ℕ). get_or (plain_octets u) 0 0 == 42) e ∙ not_star c h.0, ap (λ (u : List ℕ). get_or (plain_octets u) 0 0 == 43) e ∙ not_plus c h.0)
   where
     not_star : (c : ℕ) → is_alnum c ≡ true → (plain_of c == 42) ≡ false
     not_star c e = grind arith
@@ -426,18 +426,18 @@ tag_first (c ∷ tag) t after e h = (ap (λ (u : List ℕ). get_or (plain u) 0 0
     not_plus : (c : ℕ) → is_alnum c ≡ true → (plain_of c == 43) ≡ false
     not_plus c e = grind arith
 
-star_read : (v : Response) (t line : List ℕ) → t ≡ 42 ∷ 32 ∷ line → IsUntagged v line → response_in (plain t) ≡ v
+star_read : (v : Response) (t line : List ℕ) → t ≡ 42 ∷ 32 ∷ line → IsUntagged v line → response_in (plain_octets t) ≡ v
 unfolding response_in
-star_read v t line e h = ap (λ (u : List ℕ). response_in (plain u)) e ∙ untagged_read v line h
+star_read v t line e h = ap (λ (u : List ℕ). response_in (plain_octets u)) e ∙ untagged_read v line h
 
 -- a spelling is read back as its value
-pub reads_value : (v : Response) (t : List ℕ) → Spells v t → response_in (plain t) ≡ v
+pub reads_value : (v : Response) (t : List ℕ) → Spells v t → response_in (plain_octets t) ≡ v
 unfolding response_in
 reads_value (response.Tagged tag s code) t h =
     let f = tag_first tag t h.after h.whole h.tag_is in
-    cond-false (get_or (plain t) 0 0 == 42) (untagged_in (drop 2 (plain t))) (cond (get_or (plain t) 0 0 == 43) response.Continue (tagged_in (plain t))) f.0
-    ∙ cond-false (get_or (plain t) 0 0 == 43) response.Continue (tagged_in (plain t)) f.1 ∙ tagged_read tag s code t h
-reads_value response.Continue t h = ap (λ (u : List ℕ). response_in (plain u)) h.1
+    cond-false (get_or (plain_octets t) 0 0 == 42) (untagged_in (drop 2 (plain_octets t))) (cond (get_or (plain_octets t) 0 0 == 43) response.Continue (tagged_in (plain_octets t))) f.0
+    ∙ cond-false (get_or (plain_octets t) 0 0 == 43) response.Continue (tagged_in (plain_octets t)) f.1 ∙ tagged_read tag s code t h
+reads_value response.Continue t h = ap (λ (u : List ℕ). response_in (plain_octets u)) h.1
 reads_value (response.Untagged s code) t h = star_read (response.Untagged s code) t h.0 h.1 h.2
 reads_value (response.Capability ws) t h = star_read (response.Capability ws) t h.0 h.1 h.2
 reads_value (response.Enabled ws) t h = star_read (response.Enabled ws) t h.0 h.1 h.2

@@ -5,14 +5,14 @@ use Rattle.std.specs.Prelude.{◌==◌, codes}
 use Rattle.std.proofs.lemmas.Bool.{cond-true, cond-false}
 use Rattle.std.proofs.lemmas.List.{length-append, append-nil}
 use Rattle.imap_syntax.proofs.EachLemmas.{each_to, each_append}
-use Rattle.imap_grammar.specs.reading.Reading.{span, number_in, words_in, range_in, ranges_in, vanished_in}
+use Rattle.imap_grammar.specs.reading.Reading.{span, number_in, words_in, range_in, ranges_read, vanished_in}
 use Rattle.imap_grammar.proofs.Cuts.{small, plain_small, plain_join, cut_at, number_is, digit_small, word_small}
 use Rattle.imap_grammar.proofs.Lengths.{less_one, plain_length, spaced_long}
 use Rattle.pushdown.proofs.Lists.{cons_head}
 use Rattle.imap_syntax.specs.declared.response.Response.TheVariants as response
 use Rattle.imap_syntax.specs.declared.uid_set.UidRange.{UidRange}
 use Rattle.imap_syntax.specs.Octets.{is_digit, is_word, lower}
-use Rattle.imap_syntax.specs.Texts.{Each, plain_of, plain, crlf, IsWord}
+use Rattle.imap_syntax.specs.Texts.{Each, plain_of, plain_octets, crlf, IsWord}
 use Rattle.imap_syntax.specs.Numbers.{IsNonZero}
 use Rattle.imap_syntax.specs.Lines.{AllPrinted, spaced, IsWords}
 use Rattle.imap_syntax.specs.UidSets.{range_of, IsRange, IsSet, IsSetLine, IsVanished}
@@ -41,25 +41,25 @@ unfolding words_in
 word_end so_far b = append-nil so_far
 
 pub range_next : (left : ℕ) (so_far : List UidRange) (b : List ℕ) → 0 < left → (get_or (range_in b).1 0 0 == 44) ≡ true
-    → (so_far ++ (range_in b).0 ∷ []) ++ ranges_in (left - 1) (drop 1 (range_in b).1) ≡ so_far ++ ranges_in left b
-unfolding ranges_in
+    → (so_far ++ (range_in b).0 ∷ []) ++ ranges_read (left - 1) (drop 1 (range_in b).1) ≡ so_far ++ ranges_read left b
+unfolding ranges_read
 range_next zero so_far b lt e = absurd (omega (arith, lt))
 range_next (suc left) so_far b lt e =
     let r = range_in b in
-    append_assoc so_far (r.0 ∷ []) (ranges_in (suc left - 1) (drop 1 r.1))
-    ∙ ap (λ (n : ℕ). so_far ++ r.0 ∷ ranges_in n (drop 1 r.1)) (sym (less_one left))
-    ∙ ap (λ (u : List UidRange). so_far ++ r.0 ∷ u) (sym (cond-true (get_or r.1 0 0 == 44) (ranges_in left (drop 1 r.1)) [] e))
+    append_assoc so_far (r.0 ∷ []) (ranges_read (suc left - 1) (drop 1 r.1))
+    ∙ ap (λ (n : ℕ). so_far ++ r.0 ∷ ranges_read n (drop 1 r.1)) (sym (less_one left))
+    ∙ ap (λ (u : List UidRange). so_far ++ r.0 ∷ u) (sym (cond-true (get_or r.1 0 0 == 44) (ranges_read left (drop 1 r.1)) [] e))
 
 pub range_last : (left : ℕ) (so_far : List UidRange) (b : List ℕ) → 0 < left → (get_or (range_in b).1 0 0 == 44) ≡ false
-    → so_far ++ ranges_in left b ≡ so_far ++ (range_in b).0 ∷ []
-unfolding ranges_in
+    → so_far ++ ranges_read left b ≡ so_far ++ (range_in b).0 ∷ []
+unfolding ranges_read
 range_last zero so_far b lt e = absurd (omega (arith, lt))
 range_last (suc left) so_far b lt e =
     let r = range_in b in
-    ap (λ (u : List UidRange). so_far ++ r.0 ∷ u) (cond-false (get_or r.1 0 0 == 44) (ranges_in left (drop 1 r.1)) [] e)
+    ap (λ (u : List UidRange). so_far ++ r.0 ∷ u) (cond-false (get_or r.1 0 0 == 44) (ranges_read left (drop 1 r.1)) [] e)
 
-pub range_end : (so_far : List UidRange) (b : List ℕ) → so_far ++ ranges_in 0 b ≡ so_far
-unfolding ranges_in
+pub range_end : (so_far : List UidRange) (b : List ℕ) → so_far ++ ranges_read 0 b ≡ so_far
+unfolding ranges_read
 range_end so_far b = append-nil so_far
 
 -- ---- words
@@ -86,12 +86,12 @@ read_words (x ∷ ws) (suc most) b h le e =
     ∙ ap (λ (u : List ℕ). u ∷ words_in most (drop (span is_word w) w)) k.front
     ∙ ap (λ (u : List (List ℕ)). x ∷ u) (read_words ws most (drop (span is_word w) w) h.1 (omega (arith, le)) k.back)
 
-pub words_read : (ws : List (List ℕ)) (t : List ℕ) → IsWords ws t → words_in (length (plain t)) (plain t) ≡ ws
+pub words_read : (ws : List (List ℕ)) (t : List ℕ) → IsWords ws t → words_in (length (plain_octets t)) (plain_octets t) ≡ ws
 words_read ws t h =
-    let e : plain t ≡ spaced ws ++ crlf = ap plain h.1 ∙ plain_small (spaced ws ++ crlf) (each_append small (spaced ws) crlf (spaced_small ws h.0) (refl, (refl, tt))) in
+    let e : plain_octets t ≡ spaced ws ++ crlf = ap plain_octets h.1 ∙ plain_small (spaced ws ++ crlf) (each_append small (spaced ws) crlf (spaced_small ws h.0) (refl, (refl, tt))) in
     let l = spaced_long ws in
     let m = length-append (spaced ws) crlf in
-    read_words ws (length (plain t)) (plain t) h.0 (omega (arith, l, m, ap length e)) e
+    read_words ws (length (plain_octets t)) (plain_octets t) h.0 (omega (arith, l, m, ap length e)) e
 
 -- ---- sets of UIDs
 
@@ -146,52 +146,52 @@ set_long (r ∷ q ∷ rs) t h =
 
 -- the ranges of a set, before what follows it
 pub read_ranges : (rs : List UidRange) (most : ℕ) (x y b : List ℕ) → IsSet rs x → length rs ≤ most → is_digit (get_or y 0 0) ≡ false → (get_or y 0 0 == 58) ≡ false
-    → (get_or y 0 0 == 44) ≡ false → b ≡ x ++ y → ranges_in most b ≡ rs
-unfolding ranges_in
+    → (get_or y 0 0 == 44) ≡ false → b ≡ x ++ y → ranges_read most b ≡ rs
+unfolding ranges_read
 read_ranges [] most x y b h le out no_colon no_comma e = absurd h
 read_ranges (r ∷ rs) zero x y b h le out no_colon no_comma e = absurd (omega (arith, le))
 read_ranges (r ∷ []) (suc most) x y b h le out no_colon no_comma e =
     let k = read_range r x y b h out no_colon e in
-    ap (λ (q : UidRange × List ℕ). q.0 ∷ cond (get_or q.1 0 0 == 44) (ranges_in most (drop 1 q.1)) []) k
-    ∙ ap (λ (u : List UidRange). r ∷ u) (cond-false (get_or y 0 0 == 44) (ranges_in most (drop 1 y)) [] no_comma)
+    ap (λ (q : UidRange × List ℕ). q.0 ∷ cond (get_or q.1 0 0 == 44) (ranges_read most (drop 1 q.1)) []) k
+    ∙ ap (λ (u : List UidRange). r ∷ u) (cond-false (get_or y 0 0 == 44) (ranges_read most (drop 1 y)) [] no_comma)
 read_ranges (r ∷ q ∷ rs) (suc most) x y b h le out no_colon no_comma e =
     let k = read_range r h.0 (44 ∷ h.1 ++ y) b h.3 refl refl (e ∙ ap (λ (u : List ℕ). u ++ y) h.2 ∙ append_assoc h.0 (44 ∷ h.1) y) in
-    ap (λ (p : UidRange × List ℕ). p.0 ∷ cond (get_or p.1 0 0 == 44) (ranges_in most (drop 1 p.1)) []) k
+    ap (λ (p : UidRange × List ℕ). p.0 ∷ cond (get_or p.1 0 0 == 44) (ranges_read most (drop 1 p.1)) []) k
     ∙ ap (λ (u : List UidRange). r ∷ u) (read_ranges (q ∷ rs) most h.1 y (h.1 ++ y) h.4 (omega (arith, le)) out no_colon no_comma refl)
 
-line_ranges : (rs : List UidRange) (t : List ℕ) (most : ℕ) → IsSetLine rs t → length t ≤ most → ranges_in most (plain t) ≡ rs
+line_ranges : (rs : List UidRange) (t : List ℕ) (most : ℕ) → IsSetLine rs t → length t ≤ most → ranges_read most (plain_octets t) ≡ rs
 line_ranges rs t most h le =
     let s = set_small rs h.front h.first in
     let l = set_long rs h.front h.first in
     let n = ap length h.whole in
     let m = length-append h.front h.back in
     let c = ap length h.second in
-    read_ranges rs most h.front crlf (plain t) h.first (omega (arith, l, n, m, c, le)) refl refl refl
-    (ap plain h.whole ∙ plain_join h.front h.back s ∙ ap (λ (u : List ℕ). h.front ++ plain u) h.second)
+    read_ranges rs most h.front crlf (plain_octets t) h.first (omega (arith, l, n, m, c, le)) refl refl refl
+    (ap plain_octets h.whole ∙ plain_join h.front h.back s ∙ ap (λ (u : List ℕ). h.front ++ plain_octets u) h.second)
 
-first_digit : (rs : List UidRange) (t : List ℕ) → IsSetLine rs t → (get_or (plain t) 0 0 == 40) ≡ false
-first_digit rs t h = ap (λ (u : List ℕ). get_or (plain u) 0 0 == 40) h.whole ∙ set_first rs h.front h.back h.first
+first_digit : (rs : List UidRange) (t : List ℕ) → IsSetLine rs t → (get_or (plain_octets t) 0 0 == 40) ≡ false
+first_digit rs t h = ap (λ (u : List ℕ). get_or (plain_octets u) 0 0 == 40) h.whole ∙ set_first rs h.front h.back h.first
   where
     digit_no : (c : ℕ) → is_digit c ≡ true → (plain_of c == 40) ≡ false
     digit_no c e = grind arith
 
-    number_first : (n : ℕ) (t u : List ℕ) → IsNonZero n t → (get_or (plain (t ++ u)) 0 0 == 40) ≡ false
+    number_first : (n : ℕ) (t u : List ℕ) → IsNonZero n t → (get_or (plain_octets (t ++ u)) 0 0 == 40) ≡ false
     number_first n [] u h = absurd (omega (arith, h.0.some))
     number_first n (c ∷ t) u h = digit_no c h.0.digits.0
 
-    range_first : (r : UidRange) (t u : List ℕ) → IsRange r t → (get_or (plain (t ++ u)) 0 0 == 40) ≡ false
+    range_first : (r : UidRange) (t u : List ℕ) → IsRange r t → (get_or (plain_octets (t ++ u)) 0 0 == 40) ≡ false
     range_first r t u (inl s) = number_first s.0 t u s.1
-    range_first r t u (inr p) = ap (λ (v : List ℕ). get_or (plain v) 0 0 == 40) (ap (λ (v : List ℕ). v ++ u) p.4 ∙ append_assoc p.2 (58 ∷ p.3) u)
+    range_first r t u (inr p) = ap (λ (v : List ℕ). get_or (plain_octets v) 0 0 == 40) (ap (λ (v : List ℕ). v ++ u) p.4 ∙ append_assoc p.2 (58 ∷ p.3) u)
         ∙ number_first p.0 p.2 (58 ∷ p.3 ++ u) p.5
 
-    set_first : (rs : List UidRange) (t u : List ℕ) → IsSet rs t → (get_or (plain (t ++ u)) 0 0 == 40) ≡ false
+    set_first : (rs : List UidRange) (t u : List ℕ) → IsSet rs t → (get_or (plain_octets (t ++ u)) 0 0 == 40) ≡ false
     set_first [] t u h = absurd h
     set_first (r ∷ []) t u h = range_first r t u h
-    set_first (r ∷ q ∷ rs) t u h = ap (λ (v : List ℕ). get_or (plain v) 0 0 == 40) (ap (λ (v : List ℕ). v ++ u) h.2 ∙ append_assoc h.0 (44 ∷ h.1) u)
+    set_first (r ∷ q ∷ rs) t u h = ap (λ (v : List ℕ). get_or (plain_octets v) 0 0 == 40) (ap (λ (v : List ℕ). v ++ u) h.2 ∙ append_assoc h.0 (44 ∷ h.1) u)
         ∙ range_first r h.0 (44 ∷ h.1 ++ u) h.3
 
 -- ten octets, whatever their case
-earlier_ten : (w : List ℕ) → IsWord (codes "(earlier) ") w → (u : List ℕ) → drop 10 (plain (w ++ u)) ≡ plain u
+earlier_ten : (w : List ℕ) → IsWord (codes "(earlier) ") w → (u : List ℕ) → drop 10 (plain_octets (w ++ u)) ≡ plain_octets u
 earlier_ten (a ∷ b ∷ c ∷ d ∷ e ∷ f ∷ g ∷ h ∷ i ∷ j ∷ []) q u = refl
 earlier_ten [] q u = absurd cc
 earlier_ten (a ∷ []) q u = absurd cc
@@ -205,30 +205,30 @@ earlier_ten (a ∷ b ∷ c ∷ d ∷ e ∷ f ∷ g ∷ h ∷ []) q u = absurd cc
 earlier_ten (a ∷ b ∷ c ∷ d ∷ e ∷ f ∷ g ∷ h ∷ i ∷ []) q u = absurd cc
 earlier_ten (a ∷ b ∷ c ∷ d ∷ e ∷ f ∷ g ∷ h ∷ i ∷ j ∷ k ∷ w) q u = absurd cc
 
-earlier_first : (w u : List ℕ) → IsWord (codes "(earlier) ") w → (get_or (plain (w ++ u)) 0 0 == 40) ≡ true
+earlier_first : (w u : List ℕ) → IsWord (codes "(earlier) ") w → (get_or (plain_octets (w ++ u)) 0 0 == 40) ≡ true
 earlier_first [] u h = absurd cc
 earlier_first (c ∷ w) u h = bracket c (cons_head (lower c) 40 (map lower w) (codes "earlier) ") h)
   where
     bracket : (c : ℕ) → lower c ≡ 40 → (plain_of c == 40) ≡ true
     bracket c e = grind arith
 
-pub vanished_read : (earlier : Bool) (rs : List UidRange) (t : List ℕ) → IsVanished earlier rs t → vanished_in (plain t) ≡ response.Vanished earlier (record { ranges = rs })
+pub vanished_read : (earlier : Bool) (rs : List UidRange) (t : List ℕ) → IsVanished earlier rs t → vanished_in (plain_octets t) ≡ response.Vanished earlier (record { ranges = rs })
 unfolding vanished_in
 vanished_read true rs t h =
-    let b = plain t in
+    let b = plain_octets t in
     let n = plain_length t in
     let l = ap length h.whole in
     let m = length-append h.front h.back in
-    let rest : drop 10 b ≡ plain h.back = ap (λ (u : List ℕ). drop 10 (plain u)) h.whole ∙ earlier_ten h.front h.first h.back in
-    let is : ranges_in (length b) (drop 10 b) ≡ rs = ap (ranges_in (length b)) rest ∙ line_ranges rs h.back (length b) h.second (omega (arith, n, l, m)) in
-    cond-true (get_or b 0 0 == 40) (response.Vanished true (record { ranges = ranges_in (length b) (drop 10 b) }))
-    (response.Vanished false (record { ranges = ranges_in (length b) b })) (ap (λ (u : List ℕ). get_or (plain u) 0 0 == 40) h.whole ∙ earlier_first h.front h.back h.first)
+    let rest : drop 10 b ≡ plain_octets h.back = ap (λ (u : List ℕ). drop 10 (plain_octets u)) h.whole ∙ earlier_ten h.front h.first h.back in
+    let is : ranges_read (length b) (drop 10 b) ≡ rs = ap (ranges_read (length b)) rest ∙ line_ranges rs h.back (length b) h.second (omega (arith, n, l, m)) in
+    cond-true (get_or b 0 0 == 40) (response.Vanished true (record { ranges = ranges_read (length b) (drop 10 b) }))
+    (response.Vanished false (record { ranges = ranges_read (length b) b })) (ap (λ (u : List ℕ). get_or (plain_octets u) 0 0 == 40) h.whole ∙ earlier_first h.front h.back h.first)
     ∙ ap (λ (u : List UidRange). response.Vanished true (record { ranges = u })) is
 vanished_read false rs t h =
-    let b = plain t in
+    let b = plain_octets t in
     let n = plain_length t in
-    cond-false (get_or b 0 0 == 40) (response.Vanished true (record { ranges = ranges_in (length b) (drop 10 b) }))
-    (response.Vanished false (record { ranges = ranges_in (length b) b })) (first_digit rs t h)
+    cond-false (get_or b 0 0 == 40) (response.Vanished true (record { ranges = ranges_read (length b) (drop 10 b) }))
+    (response.Vanished false (record { ranges = ranges_read (length b) b })) (first_digit rs t h)
     ∙ ap (λ (u : List UidRange). response.Vanished false (record { ranges = u })) (line_ranges rs t (length b) h (omega (arith, n)))
 
 pub ruleset words = (word_next, word_last, word_end)

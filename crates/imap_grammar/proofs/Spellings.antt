@@ -5,7 +5,7 @@ use Rattle.imap_automaton.specs.Responses.{responses}
 use Rattle.imap_automaton.proofs.Lawful.{responses_lawful}
 use Rattle.imap_grammar.specs.declared.answer.Scan.{Scan}
 use Rattle.imap_grammar.specs.declared.answer.Scan.TheVariants as scan
-use Rattle.imap_grammar.specs.Scan.{IsPrefix, IsProperPrefix, ScanOf}
+use Rattle.imap_grammar.specs.Scan.{IsResponsePrefix, IsProperResponsePrefix, ScanOf}
 use Rattle.imap_grammar.specs.Fed.{scan_of}
 use Rattle.imap_grammar.proofs.Readings.{one_text_value}
 use Rattle.imap_syntax.specs.declared.response.Response.{Response}
@@ -23,16 +23,16 @@ whole_of v b h = record { text = h.text; reads = (v, h.spells); octets = h.octet
 spelling_of : (b : List ℕ) → texts.IsWhole responses b → (v : Response) × IsSpelling v b
 spelling_of b h = (h.reads.0, record { text = h.text; spells = h.reads.1; octets = h.octets; within = h.within })
 
-prefix_of : (b : List ℕ) → IsPrefix b → texts.IsPrefix responses b
+prefix_of : (b : List ℕ) → IsResponsePrefix b → texts.IsPrefix responses b
 prefix_of b h = record { text = h.text; more = h.more; reads = (h.response, h.spells); octets = h.octets; within = h.within }
 
-proper_of : (b : List ℕ) → IsProperPrefix b → texts.IsProperPrefix responses b
+proper_of : (b : List ℕ) → IsProperResponsePrefix b → texts.IsProperPrefix responses b
 proper_of b h = record { text = h.text; more = h.more; reads = (h.response, h.spells); octets = h.octets; within = h.within; proper = h.proper }
 
-to_prefix : (b : List ℕ) → texts.IsPrefix responses b → IsPrefix b
+to_prefix : (b : List ℕ) → texts.IsPrefix responses b → IsResponsePrefix b
 to_prefix b h = record { response = h.reads.0; text = h.text; more = h.more; spells = h.reads.1; octets = h.octets; within = h.within }
 
-to_proper : (b : List ℕ) → texts.IsProperPrefix responses b → IsProperPrefix b
+to_proper : (b : List ℕ) → texts.IsProperPrefix responses b → IsProperResponsePrefix b
 to_proper b h = record { response = h.reads.0; text = h.text; more = h.more; spells = h.reads.1; octets = h.octets; within = h.within; proper = h.proper }
 
 -- what the automaton answers, as what is said of responses

@@ -13,7 +13,7 @@ use Rattle.imap_grammar.proofs.Cuts.{small, plain_small, plain_join, cut_at, num
 use Rattle.imap_grammar.proofs.Lengths.{plain_length}
 use Rattle.imap_grammar.proofs.StringLemmas.{with_octet}
 use Rattle.imap_syntax.specs.Octets.{is_digit, is_text, is_atom}
-use Rattle.imap_syntax.specs.Texts.{Each, plain}
+use Rattle.imap_syntax.specs.Texts.{Each, plain_octets}
 use Rattle.imap_syntax.specs.Strings.{IsAtom, escaped, quoted, IsQuoted, IsCounted, IsAString}
 
 -- ---- quoted texts
@@ -49,13 +49,13 @@ unquoted_read (c ∷ s) y = by (c == 34 || c == 92) refl (unquoted_read s y)
 
 -- ---- literals
 
-pub literal_read : (s x y b : List ℕ) → (h : IsCounted s x) → b ≡ plain x ++ y → (literal_in (drop 1 b) ≡ (s, y)) × (get_or b 0 0 ≡ 123)
+pub literal_read : (s x y b : List ℕ) → (h : IsCounted s x) → b ≡ plain_octets x ++ y → (literal_in (drop 1 b) ≡ (s, y)) × (get_or b 0 0 ≡ 123)
 unfolding literal_in
 literal_read s x y b h e =
-    let o = plain h.octets in
+    let o = plain_octets h.octets in
     let tail : List ℕ = 125 ∷ 13 ∷ 10 ∷ o ++ y in
     let digits_small = each_to is_digit small h.digits digit_small h.are_digits in
-    let f : b ≡ 123 ∷ (h.digits ++ tail) = e ∙ ap (λ (u : List ℕ). plain u ++ y) h.whole
+    let f : b ≡ 123 ∷ (h.digits ++ tail) = e ∙ ap (λ (u : List ℕ). plain_octets u ++ y) h.whole
     ∙ ap (λ (u : List ℕ). 123 ∷ (u ++ y)) (plain_join h.digits (125 ∷ 13 ∷ 10 ∷ h.octets) digits_small)
     ∙ ap (λ (u : List ℕ). 123 ∷ u) (append_assoc h.digits (125 ∷ 13 ∷ 10 ∷ o) y) in
     let r = drop 1 b in
@@ -102,25 +102,25 @@ atom_read (c ∷ x) y b h out e =
     next [] each = out.1
     next (d ∷ x) each = (atom_apart d each.0).1
 
-quoted_read : (s x y b : List ℕ) → IsQuoted s x → b ≡ plain x ++ y → astring_in b ≡ (s, y)
+quoted_read : (s x y b : List ℕ) → IsQuoted s x → b ≡ plain_octets x ++ y → astring_in b ≡ (s, y)
 unfolding astring_in
 quoted_read s x y b h e =
-    let f : b ≡ 34 ∷ (escaped s ++ 34 ∷ y) = e ∙ ap (λ (u : List ℕ). u ++ y) (ap plain h.1 ∙ plain_small (quoted s) (quoted_small s h.0))
+    let f : b ≡ 34 ∷ (escaped s ++ 34 ∷ y) = e ∙ ap (λ (u : List ℕ). u ++ y) (ap plain_octets h.1 ∙ plain_small (quoted s) (quoted_small s h.0))
     ∙ ap (λ (u : List ℕ). 34 ∷ u) (append_assoc (escaped s) (34 ∷ []) y) in
     cond-true (get_or b 0 0 == 34) (unquoted false (drop 1 b)) (count_or b) (ap (λ (u : List ℕ). get_or u 0 0 == 34) f)
     ∙ ap (λ (u : List ℕ). unquoted false (drop 1 u)) f ∙ unquoted_read s y
 
-counted_read : (s x y b : List ℕ) → IsCounted s x → b ≡ plain x ++ y → astring_in b ≡ (s, y)
+counted_read : (s x y b : List ℕ) → IsCounted s x → b ≡ plain_octets x ++ y → astring_in b ≡ (s, y)
 unfolding astring_in
 counted_read s x y b h e =
     let l = literal_read s x y b h e in
     cond-false (get_or b 0 0 == 34) (unquoted false (drop 1 b)) (count_or b) (ap (λ (n : ℕ). n == 34) l.1)
     ∙ cond-true (get_or b 0 0 == 123) (literal_in (drop 1 b)) (tilde_or b) (ap (λ (n : ℕ). n == 123) l.1) ∙ l.0
 
-tilde_read : (s x y b rest : List ℕ) → x ≡ 126 ∷ rest → IsCounted s rest → b ≡ plain x ++ y → astring_in b ≡ (s, y)
+tilde_read : (s x y b rest : List ℕ) → x ≡ 126 ∷ rest → IsCounted s rest → b ≡ plain_octets x ++ y → astring_in b ≡ (s, y)
 unfolding astring_in
 tilde_read s x y b rest is h e =
-    let f : b ≡ 126 ∷ (plain rest ++ y) = e ∙ ap (λ (u : List ℕ). plain u ++ y) is in
+    let f : b ≡ 126 ∷ (plain_octets rest ++ y) = e ∙ ap (λ (u : List ℕ). plain_octets u ++ y) is in
     let l = literal_read s rest y (drop 1 b) h (ap (drop 1) f) in
     let first : get_or b 0 0 ≡ 126 = ap (λ (u : List ℕ). get_or u 0 0) f in
     let second : get_or b 1 0 ≡ 123 = ap (λ (u : List ℕ). get_or u 1 0) f ∙ ap (λ (u : List ℕ). get_or (drop 1 u) 0 0) (sym f) ∙ l.1 in
@@ -130,10 +130,10 @@ tilde_read s x y b rest is h e =
     ∙ cond-true (get_or b 0 0 == 126 && get_or b 1 0 == 123) (literal_in (drop 2 b)) (atom_in b) (rw first (rw second refl))
     ∙ ap literal_in twice ∙ l.0
 
-atom_plain : (x : List ℕ) → IsAtom x → plain x ≡ x
+atom_plain : (x : List ℕ) → IsAtom x → plain_octets x ≡ x
 atom_plain x h = plain_small x (each_to is_atom small x atom_small h.0)
 
-pub astring_read : (s x y b : List ℕ) → IsAString s x → Ends y → b ≡ plain x ++ y → astring_in b ≡ (s, y)
+pub astring_read : (s x y b : List ℕ) → IsAString s x → Ends y → b ≡ plain_octets x ++ y → astring_in b ≡ (s, y)
 astring_read s x y b (inl a) out e = atom_read x y b a.0 out (e ∙ ap (λ (u : List ℕ). u ++ y) (atom_plain x a.0)) ∙ ap (λ (u : List ℕ). (u, y)) (sym a.1)
 astring_read s x y b (inr (inl q)) out e = quoted_read s x y b q e
 astring_read s x y b (inr (inr (inl k))) out e = counted_read s x y b k e

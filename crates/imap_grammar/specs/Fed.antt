@@ -9,8 +9,8 @@ use Rattle.pushdown.specs.declared.answer.Answer.TheVariants as answer
 use Rattle.pushdown.specs.Fed as automaton
 
 -- the scanner was fed these octets, and answered that it needs more
-abbrev pub Fed : Scanner → List ℕ → Type 0
-Fed s b = automaton.Fed responses s.scanner b
+abbrev pub IsScannerFed : Scanner → List ℕ → Type 0
+IsScannerFed s b = automaton.Fed responses s.scanner b
 
 -- what the automaton's answer says of responses
 abbrev pub scan_of : Answer → Scan

@@ -3,24 +3,24 @@ use Rattle.std.specs.Prelude.{◌≡◌, ◌≢◌, ℕ, ◌+◌, ◌<◌, ◌�
 use Rattle.imap_grammar.specs.declared.answer.Scan.{Scan}
 use Rattle.imap_grammar.specs.declared.answer.Scan.TheVariants.{Whole, NeedMore, Bad}
 use Rattle.imap_syntax.specs.declared.response.Response.{Response}
-use Rattle.imap_syntax.specs.Texts.{plain, outside, limit}
+use Rattle.imap_syntax.specs.Texts.{plain_octets, outside, limit}
 use Rattle.imap_syntax.specs.Spells.{Spells, IsSpelling}
 
 -- the octets begin a response: one taken without the limit, which they keep themselves
-pub record IsPrefix (b : List ℕ) : Type 0 where
+pub record IsResponsePrefix (b : List ℕ) : Type 0 where
   pub response : Response
   pub text : List ℕ
   pub more : List ℕ
   pub spells : Spells response (text ++ more)
-  pub octets : plain text ≡ b
+  pub octets : plain_octets text ≡ b
   pub within : outside text ≤ limit
 
-pub record IsProperPrefix (b : List ℕ) : Type 0 where
+pub record IsProperResponsePrefix (b : List ℕ) : Type 0 where
   pub response : Response
   pub text : List ℕ
   pub more : List ℕ
   pub spells : Spells response (text ++ more)
-  pub octets : plain text ≡ b
+  pub octets : plain_octets text ≡ b
   pub within : outside text ≤ limit
   pub proper : more ≢ []
 
@@ -28,5 +28,5 @@ pub record IsProperPrefix (b : List ℕ) : Type 0 where
 -- and the first at are a proper one
 abbrev pub ScanOf : List ℕ → Scan → Type 0
 ScanOf b (Whole n) = (n ≤ length b) × ((v : Response) × IsSpelling v (take n b))
-ScanOf b NeedMore = IsProperPrefix b
-ScanOf b (Bad at) = (at < length b) × (IsPrefix (take (at + 1) b) → ⊥) × IsProperPrefix (take at b)
+ScanOf b NeedMore = IsProperResponsePrefix b
+ScanOf b (Bad at) = (at < length b) × (IsResponsePrefix (take (at + 1) b) → ⊥) × IsProperResponsePrefix (take at b)

@@ -139,7 +139,7 @@ const NO_COUNTS: StatusItems = StatusItems {
 /// The counts, up to the closing bracket: count *(SP count) ")".
 #[tactic(auto, unfolding(crate::specs::reading::FolderReading::counts_in))]
 fn counts_in(bytes: &[u8]) -> StatusItems
-    ensures { result ≡ reading.counts_in (length bytes.now) folders.no_counts bytes.now }
+    ensures { result ≡ reading.status_counts (length bytes.now) folders.no_counts bytes.now }
 {
     let mut items = NO_COUNTS;
     let mut rest = bytes;

@@ -30,11 +30,11 @@ impl Scanner {
     ghost use Rattle.std.specs.Prelude.{List, [], ◌++◌, ℕ};
     ghost use Rattle.imap_grammar.specs.declared.answer.Scan.TheVariants.{NeedMore};
     ghost use Rattle.imap_grammar.specs.Scan.{ScanOf};
-    ghost use Rattle.imap_grammar.specs.Fed.{Fed};
+    ghost use Rattle.imap_grammar.specs.Fed.{IsScannerFed};
 
     /// A scanner that was fed nothing.
     pub fn new() -> Scanner
-        ensures { Fed result [] }
+        ensures { IsScannerFed result [] }
     {
         Scanner {
             scanner: pushdown::Scanner::new(),
@@ -44,9 +44,9 @@ impl Scanner {
     /// Takes the next piece. The answer is that for all pieces joined, and its places count from the first piece. After
     /// another answer than NeedMore the scanner is to be made anew.
     pub fn feed(&mut self, piece: &[u8]) -> Scan
-        requires { (b : List ℕ) × Fed self.old b }
-        ensures scan { (b : List ℕ) → Fed self.old b → ScanOf (b ++ piece.now) result }
-        ensures more { (b : List ℕ) → Fed self.old b → result ≡ NeedMore → Fed self.new (b ++ piece.now) }
+        requires { (b : List ℕ) × IsScannerFed self.old b }
+        ensures scan { (b : List ℕ) → IsScannerFed self.old b → ScanOf (b ++ piece.now) result }
+        ensures more { (b : List ℕ) → IsScannerFed self.old b → result ≡ NeedMore → IsScannerFed self.new (b ++ piece.now) }
     {
         scan_of(self.scanner.feed(piece))
     }

@@ -74,7 +74,7 @@ fn range_in(bytes: &[u8]) -> (UidRange, &[u8])
 /// At most n ranges, each but the first after a comma: range *("," range).
 #[tactic(auto, using(crate::proofs::SetReadings::ranges))]
 fn ranges_in(alloc: Global, bytes: &[u8], most: usize) -> Result<Vec<UidRange>, AllocError>
-    ensures { IfOk result (λ ranges. ranges.items ≡ reading.ranges_in most bytes.now) }
+    ensures { IfOk result (λ ranges. ranges.items ≡ reading.ranges_read most bytes.now) }
 {
     let mut ranges = Vec::new(alloc);
     let mut rest = bytes;

@@ -17,7 +17,7 @@ use Rattle.imap_syntax.specs.declared.response.Response.TheVariants.{Tagged, Unt
 use Rattle.imap_syntax.specs.declared.response.Response.TheVariants.{Flags, Exists, Expunge, Fetch, Vanished, Other}
 use Rattle.imap_syntax.specs.Octets.{is_word, lower}
 use Rattle.imap_syntax.specs.declared.response.FetchItems.{FetchItems}
-use Rattle.imap_syntax.specs.Texts.{Each, plain, outside, limit, crlf, IsCrlf}
+use Rattle.imap_syntax.specs.Texts.{Each, plain_octets, outside, limit, crlf, IsCrlf}
 use Rattle.imap_syntax.specs.Numbers.{IsNumber}
 use Rattle.imap_syntax.specs.Lines.{word_of, IsLine, IsCodedRest, IsTagged, IsWords}
 use Rattle.imap_syntax.specs.UidSets.{IsVanished}
@@ -85,5 +85,5 @@ Spells v t = (line : List ℕ) × (t ≡ 42 ∷ 32 ∷ line) × IsUntagged v lin
 pub record IsSpelling (v : Response) (b : List ℕ) : Type 0 where
   pub text : List ℕ
   pub spells : Spells v text
-  pub octets : plain text ≡ b
+  pub octets : plain_octets text ≡ b
   pub within : outside text ≤ limit

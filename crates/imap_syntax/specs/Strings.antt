@@ -6,7 +6,7 @@
 --   astring = atom / quoted / literal
 use Rattle.std.specs.Prelude.{◌≡◌, ◌⊎◌, ℕ, ◌<◌, ◌≤◌, ◌||◌, ◌==◌, if◌then◌else◌, List, [], ◌∷◌, ◌++◌, length, codes}
 use Rattle.imap_syntax.specs.Octets.{is_digit, is_text, is_atom, is_inside}
-use Rattle.imap_syntax.specs.Texts.{Each, IsWord, plain, literal_limit}
+use Rattle.imap_syntax.specs.Texts.{Each, IsWord, plain_octets, literal_limit}
 use Rattle.imap_syntax.specs.Numbers.{value_from}
 
 abbrev pub IsAtom : List ℕ → Type 0
@@ -39,7 +39,7 @@ pub record IsCounted (s t : List ℕ) : Type 0 where
   pub counted : length octets ≡ value_from 0 digits
   pub most : length octets ≤ literal_limit
   pub inside : Each is_inside octets
-  pub string : s ≡ plain octets
+  pub string : s ≡ plain_octets octets
 
 abbrev pub IsLiteral : List ℕ → List ℕ → Type 0
 IsLiteral s t = IsCounted s t ⊎ ((rest : List ℕ) × (t ≡ 126 ∷ rest) × IsCounted s rest)

@@ -29,8 +29,8 @@ abbrev pub plain_of : ℕ → ℕ
 plain_of c = if nat_lt c 256 then c else c - 256
 
 -- the octets of a text, whether in a literal or not
-abbrev pub plain : List ℕ → List ℕ
-plain t = map plain_of t
+abbrev pub plain_octets : List ℕ → List ℕ
+plain_octets t = map plain_of t
 
 -- how many of its octets stand outside literals
 abbrev pub outside : List ℕ → ℕ

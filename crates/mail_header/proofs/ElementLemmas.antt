@@ -10,10 +10,10 @@ use Rattle.text_words.specs.Sequence.{UnitAt}
 use Rattle.text_words.proofs.CutLemmas.{front_back, front_each, back_stops, front_is, back_is, each_list_all, list_all_each}
 use Rattle.text_words.proofs.SequenceLemmas.{IsReader, Behind, begins, unit_same}
 use Rattle.mail_header.specs.Tokens.{Spelled}
-use Rattle.mail_header.specs.Mailboxes.{mark_of, has_mark, is_gap, is_phrase, is_display_name, is_addr_spec, is_inner}
+use Rattle.mail_header.specs.Mailboxes.{mark_of, has_mark, is_gap, is_phrase, is_display_name, is_addr_spec, is_inner_token}
 use Rattle.mail_header.specs.AddressLists.{Element, Empty, Head, End, Member, IsElement, Comma, Blank, Phrase, Closed, Bare, InAngle, EndsElement, EndsGroup, is_no_separator}
 use Rattle.mail_header.specs.AddressLists.{is_no_comma}
-use Rattle.mail_header.specs.reading.ElementReading.{is_plain, is_no_greater, stops, bare, in_angle, some_bare, bare_of, head_of, end_before, end_of, angle_before, angle_of}
+use Rattle.mail_header.specs.reading.ElementReading.{is_plain_token, is_no_greater, stops, bare, in_angle, some_bare, bare_of, head_of, end_before, element_end, angle_before, angle_of}
 use Rattle.mail_header.specs.reading.ElementReading.{closed_of, opened_of, separator_of, is_empty, marked_of, element_of, element_in, is_filled}
 use Rattle.mail_header.proofs.MailboxLemmas.{flip, picked, gap_mark, mark_is, gaps_each, phrase_each, name_each, spec_each, inner_each, spec_some}
 
@@ -22,7 +22,7 @@ Read = Option (Element × ℕ)
 
 -- the same by the mark of the token after
 separator_by : ℕ → List Spelled → Read
-separator_by m more = cond (eqb m 44) (Some (Empty, 1)) (cond (eqb m 59) (end_of more) None)
+separator_by m more = cond (eqb m 44) (Some (Empty, 1)) (cond (eqb m 59) (element_end more) None)
 
 marked_by : ℕ → List Spelled → List Spelled → Read
 marked_by m plain more =
@@ -37,23 +37,23 @@ plain_mark m = not (eqb m 60 || eqb m 62 || eqb m 44 || eqb m 58 || eqb m 59)
 
 -- ---- what is spelled is read
 
-at_mark : (m : ℕ) (plain : List Spelled) (s : Spelled) (more : List Spelled) → Each is_plain plain → mark_of s ≡ m → plain_mark m ≡ false
+at_mark : (m : ℕ) (plain : List Spelled) (s : Spelled) (more : List Spelled) → Each is_plain_token plain → mark_of s ≡ m → plain_mark m ≡ false
     → element_in (plain ++ s ∷ more) ≡ marked_by m plain more
 unfolding element_in marked_by separator_by plain_mark
 at_mark m plain s more e h k =
-    let no_plain : is_plain s ≡ false = ap plain_mark h ∙ k in
-    let f = front_is is_plain plain (s ∷ more) e no_plain in
-    let b = back_is is_plain plain (s ∷ more) e no_plain in
-    ap (λ (u : List Spelled). element_of u (back is_plain (plain ++ s ∷ more))) f
+    let no_plain : is_plain_token s ≡ false = ap plain_mark h ∙ k in
+    let f = front_is is_plain_token plain (s ∷ more) e no_plain in
+    let b = back_is is_plain_token plain (s ∷ more) e no_plain in
+    ap (λ (u : List Spelled). element_of u (back is_plain_token (plain ++ s ∷ more))) f
     ∙ ap (λ (u : List Spelled). element_of plain u) b
     ∙ ap (λ (n : ℕ). marked_by n plain more) h
 
-at_end : (plain : List Spelled) → Each is_plain plain → element_in (plain ++ []) ≡ bare_of plain
+at_end : (plain : List Spelled) → Each is_plain_token plain → element_in (plain ++ []) ≡ bare_of plain
 unfolding element_in
 at_end plain e =
-    let f = front_is is_plain plain [] e tt in
-    let b = back_is is_plain plain [] e tt in
-    ap (λ (u : List Spelled). element_of u (back is_plain (plain ++ []))) f ∙ ap (λ (u : List Spelled). element_of plain u) b
+    let f = front_is is_plain_token plain [] e tt in
+    let b = back_is is_plain_token plain [] e tt in
+    ap (λ (u : List Spelled). element_of u (back is_plain_token (plain ++ []))) f ∙ ap (λ (u : List Spelled). element_of plain u) b
 
 separates : (m : ℕ) → not (eqb m 44 || eqb m 59) ≡ false → (m ≡ 44) ⊎ (m ≡ 59)
 separates m e = by (eqb m 44) (eqb m 59) refl refl e
@@ -63,7 +63,7 @@ separates m e = by (eqb m 44) (eqb m 59) refl refl e
     by false true h k e = inr (eqb-true m 59 k)
     by false false h k e = absurd cc
 
-bare_again : (p : Spelled) (ps rest : List Spelled) → Each is_plain (p ∷ ps) → EndsElement rest → element_in ((p ∷ ps) ++ rest) ≡ some_bare (p ∷ ps)
+bare_again : (p : Spelled) (ps rest : List Spelled) → Each is_plain_token (p ∷ ps) → EndsElement rest → element_in ((p ∷ ps) ++ rest) ≡ some_bare (p ∷ ps)
 unfolding marked_by plain_mark
 bare_again p ps [] e s = at_end (p ∷ ps) e
 bare_again p ps (x ∷ rest) e s = elim (separates (mark_of x) s) [
@@ -71,7 +71,7 @@ bare_again p ps (x ∷ rest) e s = elim (separates (mark_of x) s) [
   | inr h ↦ at_mark 59 (p ∷ ps) x rest e h refl
 ]
 
-gaps_plain : (ts : List Spelled) → Each is_gap ts → Each is_plain ts
+gaps_plain : (ts : List Spelled) → Each is_gap ts → Each is_plain_token ts
 unfolding plain_mark
 gaps_plain ts e = gaps_each plain_mark ts refl e
 
@@ -138,12 +138,12 @@ end_again s gaps rest h e k =
 no_greater_mark : ℕ → Bool
 no_greater_mark m = not (eqb m 62)
 
-angle_again : (phrase inner gaps rest : List Spelled) → is_display_name phrase ≡ true → is_inner inner ≡ true → Each is_gap gaps → EndsElement rest
+angle_again : (phrase inner gaps rest : List Spelled) → is_display_name phrase ≡ true → is_inner_token inner ≡ true → Each is_gap gaps → EndsElement rest
     → angle_of phrase inner (gaps ++ rest) ≡ Some (Member (in_angle phrase inner gaps), length phrase + 1 + length inner + 1 + length gaps)
 angle_again phrase inner gaps rest p i e k =
     ap (λ (u : List Spelled). angle_before phrase inner u (back is_gap (gaps ++ rest))) (front_is is_gap gaps rest e (element_stops rest k))
     ∙ ap (λ (u : List Spelled). angle_before phrase inner gaps u) (back_is is_gap gaps rest e (element_stops rest k))
-    ∙ cond-true (is_display_name phrase && is_inner inner && stops is_no_separator rest) _ _ (three (is_display_name phrase) (is_inner inner) (stops is_no_separator rest) p i
+    ∙ cond-true (is_display_name phrase && is_inner_token inner && stops is_no_separator rest) _ _ (three (is_display_name phrase) (is_inner_token inner) (stops is_no_separator rest) p i
     (stops_true is_no_separator rest k))
   where
     three : (a b c : Bool) → a ≡ true → b ≡ true → c ≡ true → (a && b && c) ≡ true
@@ -152,7 +152,7 @@ angle_again phrase inner gaps rest p i e k =
     three true false c e f g = absurd cc
     three false b c e f g = absurd cc
 
-opened_again : (phrase inner gaps rest : List Spelled) (greater : Spelled) → has_mark 62 greater ≡ true → is_inner inner ≡ true
+opened_again : (phrase inner gaps rest : List Spelled) (greater : Spelled) → has_mark 62 greater ≡ true → is_inner_token inner ≡ true
     → opened_of phrase (inner ++ greater ∷ (gaps ++ rest)) ≡ angle_of phrase inner (gaps ++ rest)
 unfolding no_greater_mark
 opened_again phrase inner gaps rest greater h i =
@@ -171,7 +171,7 @@ spread phrase inner gaps rest less greater =
 counted : (phrase inner gaps : List Spelled) (less greater : Spelled) → length phrase + 1 + length inner + 1 + length gaps ≡ length (phrase ++ less ∷ (inner ++ greater ∷ gaps))
 counted phrase inner gaps less greater = omega (arith, length-append phrase (less ∷ (inner ++ greater ∷ gaps)), length-append inner (greater ∷ gaps))
 
-mailbox_again : (phrase inner gaps rest : List Spelled) (less greater : Spelled) → is_display_name phrase ≡ true → has_mark 60 less ≡ true → is_inner inner ≡ true
+mailbox_again : (phrase inner gaps rest : List Spelled) (less greater : Spelled) → is_display_name phrase ≡ true → has_mark 60 less ≡ true → is_inner_token inner ≡ true
     → has_mark 62 greater ≡ true → Each is_gap gaps → EndsElement rest
     → element_in ((phrase ++ less ∷ (inner ++ greater ∷ gaps)) ++ rest) ≡ Some (Member (in_angle phrase inner gaps), length (phrase ++ less ∷ (inner ++ greater ∷ gaps)))
 unfolding marked_by plain_mark
@@ -228,7 +228,7 @@ head_found v n plain s more h e = elim (picked (is_phrase plain) _ _ _ e) [
   | inr i ↦ absurd (let f = i.1 in cc)
 ]
 
-end_found : (v : Element) (n : ℕ) (s : Spelled) (more : List Spelled) → has_mark 59 s ≡ true → end_of more ≡ Some (v, n) → Found v n (s ∷ more)
+end_found : (v : Element) (n : ℕ) (s : Spelled) (more : List Spelled) → has_mark 59 s ≡ true → element_end more ≡ Some (v, n) → Found v n (s ∷ more)
 end_found v n s more h e = elim (picked (stops is_no_comma (back is_gap more)) _ _ _ e) [
   | inl i ↦ found v End (s ∷ front is_gap more) (back is_gap more) n _ _ (ap (λ (u : List Spelled). s ∷ u) (front_back is_gap more)) (omega arith) (Closed s (front is_gap more)
       (back is_gap more) h (front_each is_gap more) (true_stops is_no_comma (back is_gap more) i.0)) i.1
@@ -237,9 +237,9 @@ end_found v n s more h e = elim (picked (stops is_no_comma (back is_gap more)) _
 
 angle_found : (v : Element) (n : ℕ) (phrase inner : List Spelled) (less greater : Spelled) (more ts : List Spelled) → ts ≡ phrase ++ less ∷ (inner ++ greater ∷ more)
     → has_mark 60 less ≡ true → has_mark 62 greater ≡ true → angle_of phrase inner more ≡ Some (v, n) → Found v n ts
-angle_found v n phrase inner less greater more ts w l g e = elim (picked (is_display_name phrase && is_inner inner && stops is_no_separator (back is_gap more)) _ _ _ e) [
+angle_found v n phrase inner less greater more ts w l g e = elim (picked (is_display_name phrase && is_inner_token inner && stops is_no_separator (back is_gap more)) _ _ _ e) [
   | inl i ↦
-      let q = three (is_display_name phrase) (is_inner inner) (stops is_no_separator (back is_gap more)) i.0 in
+      let q = three (is_display_name phrase) (is_inner_token inner) (stops is_no_separator (back is_gap more)) i.0 in
       found v (Member (in_angle phrase inner (front is_gap more))) (phrase ++ less ∷ (inner ++ greater ∷ front is_gap more)) (back is_gap more) n _ ts
       (w ∙ ap (λ (u : List Spelled). phrase ++ less ∷ (inner ++ greater ∷ u)) (front_back is_gap more) ∙ sym
       (spread phrase inner (front is_gap more) (back is_gap more) less greater))
@@ -285,7 +285,7 @@ unmarked_found : (v : Element) (n : ℕ) (plain : List Spelled) (s : Spelled) (m
 unmarked_found v n [] s more k e = separator_found v n s more e
 unmarked_found v n (p ∷ ps) s more k e = bare_found v n (p ∷ ps) (s ∷ more) k e
 
-marked_found : (v : Element) (n : ℕ) (plain : List Spelled) (s : Spelled) (more : List Spelled) → is_plain s ≡ false → marked_of plain s more ≡ Some (v, n)
+marked_found : (v : Element) (n : ℕ) (plain : List Spelled) (s : Spelled) (more : List Spelled) → is_plain_token s ≡ false → marked_of plain s more ≡ Some (v, n)
     → Found v n (plain ++ s ∷ more)
 marked_found v n plain s more k e = elim (picked (has_mark 58 s) _ _ _ e) [
   | inl h ↦ head_found v n plain s more h.0 h.1
@@ -300,9 +300,9 @@ marked_found v n plain s more k e = elim (picked (has_mark 58 s) _ _ _ e) [
 
 sound : (v : Element) (n : ℕ) (ts : List Spelled) → element_in ts ≡ Some (v, n) → Found v n ts
 unfolding element_in
-sound v n ts e = by (front is_plain ts) (back is_plain ts) (front_back is_plain ts) (back_stops is_plain ts) e
+sound v n ts e = by (front is_plain_token ts) (back is_plain_token ts) (front_back is_plain_token ts) (back_stops is_plain_token ts) e
   where
-    by : (plain rest : List Spelled) → ts ≡ plain ++ rest → Stops is_plain rest → element_of plain rest ≡ Some (v, n) → Found v n ts
+    by : (plain rest : List Spelled) → ts ≡ plain ++ rest → Stops is_plain_token rest → element_of plain rest ≡ Some (v, n) → Found v n ts
     by plain [] w s e = subst (λ (u : List Spelled). UnitAt IsElement v n u) (sym w) (bare_found v n plain [] tt e)
     by plain (x ∷ more) w s e = subst (λ (u : List Spelled). UnitAt IsElement v n u) (sym w) (marked_found v n plain x more s e)
 

@@ -16,7 +16,7 @@ use Rattle.mail_header.specs.Lines.{without_end}
 use Rattle.mail_header.specs.Fields.{is_name, IsField, ends_block, IsBlock, Part, AField, Other, Body, IsPart, ThisField, OtherLines, ThisBody, NameAndRaw, field_in, body_in}
 use Rattle.mail_header.specs.Fields.{field_view, fields_view, IsHeader, later_or, last_named, IsLastField}
 use Rattle.mail_header.specs.declared.header.Field.{Field}
-use Rattle.mail_header.specs.reading.HeaderLines.{block_len, EndsHeader, IsBlockAt, Later, Adds, Added, Passed}
+use Rattle.mail_header.specs.reading.HeaderLines.{block_len, EndsHeader, IsBlockAt, LaterField, AddsField, Added, Passed}
 
 -- ---- blocks
 
@@ -182,7 +182,7 @@ walked_part old new p x s rest b w e i f n = record {
 
 -- a block more
 pub walked_block : (old new : List NameAndRaw) (rest b block more : List ℕ) → Walked old rest b → rest ≢ [] → line_end_len rest ≡ 0 → block ≡ take (block_len rest) rest
-    → more ≡ drop (block_len rest) rest → Adds block old new → Walked new more b
+    → more ≡ drop (block_len rest) rest → AddsField block old new → Walked new more b
 walked_block old new [] b block more w k z e f a = absurd (k refl)
 walked_block old new (c ∷ t) b block more w k z e f a = by new a
   where
@@ -201,7 +201,7 @@ walked_block old new (c ∷ t) b block more w k z e f a = by new a
     is_block : IsBlock block more
     is_block = subst (λ (u : List ℕ). IsBlock block u) rest_is (subst (λ (u : List ℕ). IsBlock u at.rest) unit_is at.is)
 
-    by : (new : List NameAndRaw) → Adds block old new → Walked new more b
+    by : (new : List NameAndRaw) → AddsField block old new → Walked new more b
     by _ (Added name raw g) = walked_part old _ (AField name raw) block more (c ∷ t) b w whole (ThisField name raw block more g is_block) refl refl
     by _ (Passed g) = walked_part old _ Other block more (c ∷ t) b w whole (OtherLines block more g (ap line_end_len (sym whole) ∙ z) is_block) (sym (append-nil old)) refl
 
@@ -287,11 +287,11 @@ pub record LastWalked (name : List ℕ) (found : Option (List ℕ)) (rest b : Li
 pub none_walked : (name b : List ℕ) → LastWalked name None b b
 none_walked name b = record { fields = []; walked = nothing_walked b; found_is = refl }
 
-pub block_walked : (old new : List NameAndRaw) (rest b block more : List ℕ) → Walked old rest b → IsBlockAt rest block more → Adds block old new → Walked new more b
+pub block_walked : (old new : List NameAndRaw) (rest b block more : List ℕ) → Walked old rest b → IsBlockAt rest block more → AddsField block old new → Walked new more b
 block_walked old new rest b block more w i a = walked_block old new rest b block more w i.some i.no_end i.block_is i.rest_is a
 
 pub last_walked : (name : List ℕ) (found new : Option (List ℕ)) (rest b block more : List ℕ) → LastWalked name found rest b → IsBlockAt rest block more
-    → Later name block found new → LastWalked name new more b
+    → LaterField name block found new → LastWalked name new more b
 last_walked name found new rest b block more w i l =
     let k = l w.fields w.found_is in
     record { fields = k.0; walked = block_walked w.fields k.0 rest b block more w.walked i k.1; found_is = k.2 }

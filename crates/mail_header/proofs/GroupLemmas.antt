@@ -9,9 +9,9 @@ use Rattle.mail_header.specs.declared.token.Alphabet.TheVariants as alphabet
 use Rattle.mail_header.specs.Tokens.{Spelled, AreTokens}
 use Rattle.mail_header.specs.Mailboxes.{Mailbox}
 use Rattle.mail_header.specs.AddressLists.{Element, Empty, Head, End, Member, Grouped, groups_from}
-use Rattle.mail_header.specs.Names.{IsAddress, IsGroupName, NoName, Named, IsGroup, phrase_text, HasNone, IsGroupsForm}
+use Rattle.mail_header.specs.Names.{IsAddress, IsGroupName, NoName, Named, IsGroup, phrase_text, HasNoAddressList, IsGroupsForm}
 use Rattle.mail_header.specs.Names as names
-use Rattle.mail_header.specs.reading.ElementReading.{closed, are_nested, is_addressee, is_filled, grouped_from, AreFilled}
+use Rattle.mail_header.specs.reading.ElementReading.{group_closed, are_nested, is_addressee, is_filled, grouped_from, AreFilled}
 use Rattle.mail_header.specs.reading.GroupBuilding.{Has, group_from, are_list, IsList, IsNoList, GroupsIn, NoGroups, Groups}
 use Rattle.mail_header.proofs.AddresseeLemmas.{is_listed, groups_are, listed, one_elements, elements_here}
 
@@ -22,7 +22,7 @@ zip_append R (x ∷ xs) us [] vs h k = absurd h
 zip_append R (x ∷ xs) us (y ∷ ys) vs h k = (h.0, zip_append R xs us ys vs h.1 k)
 
 closed_group : (phrase : Option (List Spelled)) (ms : List Mailbox) (name : Option (List ℕ)) (members : List Address) → IsGroupName phrase name → AllZip IsAddress ms members
-    → AllZip IsGroup (closed phrase ms) (option_to_list (group_from name members))
+    → AllZip IsGroup (group_closed phrase ms) (option_to_list (group_from name members))
 closed_group _ [] _ [] NoName h = tt
 closed_group _ [] _ (a ∷ members) NoName h = absurd h
 closed_group _ (m ∷ ms) _ [] NoName h = absurd h
@@ -31,8 +31,8 @@ closed_group _ ms _ members (Named phrase name t) h = (record { name = Named phr
 
 -- the groups with the one that was open
 pub closes : (b : Builder) (done : List Grouped) (phrase : Option (List Spelled)) (ms : List Mailbox) (v : List Group) → Has b done phrase ms
-    → v ≡ b.groups.items ++ option_to_list (group_from b.name b.members.items) → AllZip IsGroup (done ++ closed phrase ms) v
-closes b done phrase ms v h e = subst (λ (u : List Group). AllZip IsGroup (done ++ closed phrase ms) u) (sym e) (zip_append IsGroup done (closed phrase ms) b.groups.items
+    → v ≡ b.groups.items ++ option_to_list (group_from b.name b.members.items) → AllZip IsGroup (done ++ group_closed phrase ms) v
+closes b done phrase ms v h e = subst (λ (u : List Group). AllZip IsGroup (done ++ group_closed phrase ms) u) (sym e) (zip_append IsGroup done (group_closed phrase ms) b.groups.items
     (option_to_list (group_from b.name b.members.items)) h.groups (closed_group phrase ms b.name b.members.items h.name h.members))
 
 pub no_members : (v : List Address) → v ≡ [] → AllZip IsAddress [] v
@@ -68,8 +68,8 @@ list_filled es = ap (λ (q : Bool). q && list_any is_addressee (filter is_filled
 grouped_filled : (phrase : Option (List Spelled)) (ms : List Mailbox) (es : List Element) → grouped_from phrase ms (filter is_filled es) ≡ grouped_from phrase ms es
 grouped_filled phrase ms [] = refl
 grouped_filled phrase ms (Empty ∷ es) = grouped_filled phrase ms es
-grouped_filled phrase ms (Head next ∷ es) = ap (λ (u : List Grouped). closed phrase ms ++ u) (grouped_filled (Some next) [] es)
-grouped_filled phrase ms (End ∷ es) = ap (λ (u : List Grouped). closed phrase ms ++ u) (grouped_filled None [] es)
+grouped_filled phrase ms (Head next ∷ es) = ap (λ (u : List Grouped). group_closed phrase ms ++ u) (grouped_filled (Some next) [] es)
+grouped_filled phrase ms (End ∷ es) = ap (λ (u : List Grouped). group_closed phrase ms ++ u) (grouped_filled None [] es)
 grouped_filled phrase ms (Member m ∷ es) = grouped_filled phrase (ms ++ m ∷ []) es
 
 pub none_checked : {X : Type 0} (r : Option X) (Q : X → Type 0) (kept : List Element) (ts : List Spelled) → AreFilled kept ts → MatchOption r (are_list kept ≡ false) Q
@@ -77,10 +77,10 @@ pub none_checked : {X : Type 0} (r : Option X) (Q : X → Type 0) (kept : List E
 none_checked (Some x) Q kept ts s h = tt
 none_checked None Q kept ts s h = λ fs t l. let e = ap are_list (one_elements fs s.all ts t s.are) ∙ sym (list_filled s.all) ∙ ap are_list (sym s.kept_is) in absurd cc
 
-no_list : (raw : List ℕ) (ts : List Spelled) → AreTokens alphabet.Mail ts (raw_form raw) → IsNoList ts → HasNone raw
+no_list : (raw : List ℕ) (ts : List Spelled) → AreTokens alphabet.Mail ts (raw_form raw) → IsNoList ts → HasNoAddressList raw
 no_list raw ts a n = λ who l. n l.elements (elements_here who (raw_form raw) ts l a) (is_listed who l.elements l.are_addressees l.some)
 
-pub no_tokens : (raw : List ℕ) → ((ts : List Spelled) → AreTokens alphabet.Mail ts (raw_form raw) → ⊥) → HasNone raw
+pub no_tokens : (raw : List ℕ) → ((ts : List Spelled) → AreTokens alphabet.Mail ts (raw_form raw) → ⊥) → HasNoAddressList raw
 no_tokens raw n = λ who l. n l.tokens l.are_tokens
 
 all_list : (kept : List Element) (ts : List Spelled) (l : IsList kept ts) → are_list l.filled.all ≡ true

@@ -10,7 +10,7 @@ use Rattle.mail_header.specs.Tokens.{Spelled}
 use Rattle.mail_header.specs.Lexemes.{is_lexeme_kind}
 use Rattle.mail_header.specs.Mailboxes.{mark_in, mark_of, has_mark, is_gap, is_atom_kind, is_atom, is_word_kind, is_word, is_literal_kind, has_no_opener, behind_first, is_literal}
 use Rattle.mail_header.specs.Mailboxes.{is_phrase_part, begins_phrase, is_phrase, is_display_name, is_dotted, is_local_part, begins_literal, is_domain, is_no_at, spec_of}
-use Rattle.mail_header.specs.Mailboxes.{is_addr_spec, begins_hop, is_hop, are_hops, is_route, is_no_colon, inner_of, is_inner}
+use Rattle.mail_header.specs.Mailboxes.{is_addr_spec, begins_hop, is_hop, are_hops, is_route, is_no_colon, inner_of, is_inner_token}
 use Rattle.mail_header.specs.AddressLists.{is_no_comma}
 use Rattle.mail_header.specs.reading.ElementReading.{are_hops_behind}
 
@@ -191,7 +191,7 @@ hops_each q part (s ∷ ts) z d a c e = elim (picked (has_mark 44 s) _ _ _ e) [
   | inr h ↦ subst (Whole q) (append_assoc part (s ∷ []) ts) (hops_each q (part ++ s ∷ []) ts z d a c h.1)
 ]
 
-pub inner_each : (q : ℕ → Bool) (ts : List Spelled) → q 0 ≡ true → q 46 ≡ true → q 64 ≡ true → q 44 ≡ true → q 58 ≡ true → is_inner ts ≡ true → Each (by_mark q) ts
+pub inner_each : (q : ℕ → Bool) (ts : List Spelled) → q 0 ≡ true → q 46 ≡ true → q 64 ≡ true → q 44 ≡ true → q 58 ≡ true → is_inner_token ts ≡ true → Each (by_mark q) ts
 inner_each q ts z d a c k e = joined q is_no_colon ts (route (front is_no_colon ts) (back is_no_colon ts) e) (spec (front is_no_colon ts) (back is_no_colon ts)
     (back_stops is_no_colon ts) e)
   where

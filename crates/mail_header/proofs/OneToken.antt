@@ -9,7 +9,7 @@ use Rattle.mail_header.specs.declared.token.Kind.{Kind}
 use Rattle.mail_header.specs.declared.token.Kind.TheVariants as kind
 use Rattle.mail_header.specs.Tokens.{is_mark, is_letter}
 use Rattle.text_words.specs.Octets.{is_white}
-use Rattle.mail_header.specs.Tokens.{IsBracketed, none, IsKind, EndsBefore, Begins, Spelled, IsToken}
+use Rattle.mail_header.specs.Tokens.{IsBracketed, none, IsKind, EndsBefore, BeginsWithToken, Spelled, IsToken}
 use Rattle.text_words.specs.Cuts.{Each, IsRun, Stops, front, back}
 use Rattle.text_words.specs.Sequence.{UnitAt}
 use Rattle.text_words.proofs.CutLemmas.{front_back, front_each, back_stops, front_is}
@@ -93,7 +93,7 @@ front_again a kind.Quoted x y i s = bracket_again a kind.Quoted 34 none 34 x y a
 front_again a kind.Literal x y i s = bracket_again a kind.Literal 91 none 93 x y apart_literal (literal_in a) i
 front_again a kind.Comment x y i s = bracket_again a kind.Comment 40 40 41 x y apart_comment (comment_in a) i
 
-pub token_again : (a : Alphabet) (k : Kind) (front rest t : List ℕ) → Begins a k front rest t → Reads a k (length front) t
+pub token_again : (a : Alphabet) (k : Kind) (front rest t : List ℕ) → BeginsWithToken a k front rest t → Reads a k (length front) t
 token_again a k front rest t b = ap (token_in a) b.whole ∙ front_again a k front rest b.spelled b.ends
 
 -- ---- what is read is spelled so
@@ -101,7 +101,7 @@ token_again a k front rest t b = ap (token_in a) b.whole ∙ front_again a k fro
 pub record Takes (a : Alphabet) (k : Kind) (n : ℕ) (t : List ℕ) : Type 0 where
   pub front : List ℕ
   pub rest : List ℕ
-  pub begins : Begins a k front rest t
+  pub begins : BeginsWithToken a k front rest t
   pub counted : n ≡ length front
   pub some : 0 < n
 

@@ -6,18 +6,18 @@ use Rattle.std.proofs.lemmas.List.{nil_from_length}
 use Rattle.text_words.specs.Cuts.{Each, IsRun, Stops, front, back}
 use Rattle.text_words.specs.Octets.{is_digit, is_alpha}
 use Rattle.text_words.proofs.CutLemmas.{front_back, front_each, back_stops}
-use Rattle.mail_header.specs.Dates.{Piece, Digits, Letters, Signed, Octet, Other, is_plus_or_minus, alone, joined, runs, pieces_in, pieces_of}
+use Rattle.mail_header.specs.Dates.{DatePiece, Digits, Letters, Signed, Octet, Other, is_plus_or_minus, single_octet, joined, runs, pieces_in, pieces_of}
 use Rattle.mail_header.specs.declared.token.Alphabet.TheVariants as alphabet
 use Rattle.mail_header.specs.Tokens.{Spelled}
 use Rattle.mail_header.specs.reading.DateReading.{pieces_behind}
 use Rattle.mail_header.specs.reading.LexemeReading.{lexemes_in}
 
-abbrev NoDigits : List Piece → Type 0
+abbrev NoDigits : List DatePiece → Type 0
 NoDigits [] = Unit {0}
 NoDigits (Digits t ∷ ps) = ⊥
 NoDigits (p ∷ ps) = Unit {0}
 
-abbrev NoLetters : List Piece → Type 0
+abbrev NoLetters : List DatePiece → Type 0
 NoLetters [] = Unit {0}
 NoLetters (Letters t ∷ ps) = ⊥
 NoLetters (p ∷ ps) = Unit {0}
@@ -36,47 +36,47 @@ letter_no_sign c e = grind arith
 sign_no_digit : (c : ℕ) → is_plus_or_minus c ≡ true → is_digit c ≡ false
 sign_no_digit c e = grind arith
 
-alone_digit : (c : ℕ) → is_digit c ≡ true → alone c ≡ Digits (c ∷ [])
+alone_digit : (c : ℕ) → is_digit c ≡ true → single_octet c ≡ Digits (c ∷ [])
 alone_digit c e = cond-true (is_digit c) _ _ e
 
-alone_letter : (c : ℕ) → is_alpha c ≡ true → alone c ≡ Letters (c ∷ [])
+alone_letter : (c : ℕ) → is_alpha c ≡ true → single_octet c ≡ Letters (c ∷ [])
 alone_letter c e = cond-false (is_digit c) _ _ (letter_no_digit c e) ∙ cond-true (is_alpha c) _ _ e
 
-alone_octet : (c : ℕ) → is_digit c ≡ false → is_alpha c ≡ false → alone c ≡ Octet c
+alone_octet : (c : ℕ) → is_digit c ≡ false → is_alpha c ≡ false → single_octet c ≡ Octet c
 alone_octet c e f = cond-false (is_digit c) _ _ e ∙ cond-false (is_alpha c) _ _ f
 
-joined_digit : (c : ℕ) (ps : List Piece) → NoDigits ps → is_digit c ≡ true → joined c ps ≡ Digits (c ∷ []) ∷ ps
+joined_digit : (c : ℕ) (ps : List DatePiece) → NoDigits ps → is_digit c ≡ true → joined c ps ≡ Digits (c ∷ []) ∷ ps
 unfolding joined
-joined_digit c [] n e = ap (λ (p : Piece). p ∷ []) (alone_digit c e)
+joined_digit c [] n e = ap (λ (p : DatePiece). p ∷ []) (alone_digit c e)
 joined_digit c (Digits t ∷ ps) n e = absurd n
-joined_digit c (Letters t ∷ ps) n e = cond-false (is_alpha c) _ _ (digit_no_letter c e) ∙ ap (λ (p : Piece). p ∷ Letters t ∷ ps) (alone_digit c e)
-joined_digit c (Signed s t ∷ ps) n e = ap (λ (p : Piece). p ∷ Signed s t ∷ ps) (alone_digit c e)
-joined_digit c (Octet s ∷ ps) n e = ap (λ (p : Piece). p ∷ Octet s ∷ ps) (alone_digit c e)
-joined_digit c (Other ∷ ps) n e = ap (λ (p : Piece). p ∷ Other ∷ ps) (alone_digit c e)
+joined_digit c (Letters t ∷ ps) n e = cond-false (is_alpha c) _ _ (digit_no_letter c e) ∙ ap (λ (p : DatePiece). p ∷ Letters t ∷ ps) (alone_digit c e)
+joined_digit c (Signed s t ∷ ps) n e = ap (λ (p : DatePiece). p ∷ Signed s t ∷ ps) (alone_digit c e)
+joined_digit c (Octet s ∷ ps) n e = ap (λ (p : DatePiece). p ∷ Octet s ∷ ps) (alone_digit c e)
+joined_digit c (Other ∷ ps) n e = ap (λ (p : DatePiece). p ∷ Other ∷ ps) (alone_digit c e)
 
-joined_letter : (c : ℕ) (ps : List Piece) → NoLetters ps → is_alpha c ≡ true → joined c ps ≡ Letters (c ∷ []) ∷ ps
+joined_letter : (c : ℕ) (ps : List DatePiece) → NoLetters ps → is_alpha c ≡ true → joined c ps ≡ Letters (c ∷ []) ∷ ps
 unfolding joined
-joined_letter c [] n e = ap (λ (p : Piece). p ∷ []) (alone_letter c e)
+joined_letter c [] n e = ap (λ (p : DatePiece). p ∷ []) (alone_letter c e)
 joined_letter c (Digits t ∷ ps) n e = cond-false (is_digit c) _ _ (letter_no_digit c e) ∙ cond-false (is_plus_or_minus c) _ _ (letter_no_sign c e)
-    ∙ ap (λ (p : Piece). p ∷ Digits t ∷ ps) (alone_letter c e)
+    ∙ ap (λ (p : DatePiece). p ∷ Digits t ∷ ps) (alone_letter c e)
 joined_letter c (Letters t ∷ ps) n e = absurd n
-joined_letter c (Signed s t ∷ ps) n e = ap (λ (p : Piece). p ∷ Signed s t ∷ ps) (alone_letter c e)
-joined_letter c (Octet s ∷ ps) n e = ap (λ (p : Piece). p ∷ Octet s ∷ ps) (alone_letter c e)
-joined_letter c (Other ∷ ps) n e = ap (λ (p : Piece). p ∷ Other ∷ ps) (alone_letter c e)
+joined_letter c (Signed s t ∷ ps) n e = ap (λ (p : DatePiece). p ∷ Signed s t ∷ ps) (alone_letter c e)
+joined_letter c (Octet s ∷ ps) n e = ap (λ (p : DatePiece). p ∷ Octet s ∷ ps) (alone_letter c e)
+joined_letter c (Other ∷ ps) n e = ap (λ (p : DatePiece). p ∷ Other ∷ ps) (alone_letter c e)
 
-joined_octet : (c : ℕ) (ps : List Piece) → is_digit c ≡ false → is_alpha c ≡ false → NoDigits ps ⊎ (is_plus_or_minus c ≡ false) → joined c ps ≡ Octet c ∷ ps
+joined_octet : (c : ℕ) (ps : List DatePiece) → is_digit c ≡ false → is_alpha c ≡ false → NoDigits ps ⊎ (is_plus_or_minus c ≡ false) → joined c ps ≡ Octet c ∷ ps
 unfolding joined
-joined_octet c [] d a n = ap (λ (p : Piece). p ∷ []) (alone_octet c d a)
+joined_octet c [] d a n = ap (λ (p : DatePiece). p ∷ []) (alone_octet c d a)
 joined_octet c (Digits t ∷ ps) d a (inl n) = absurd n
-joined_octet c (Digits t ∷ ps) d a (inr n) = cond-false (is_digit c) _ _ d ∙ cond-false (is_plus_or_minus c) _ _ n ∙ ap (λ (p : Piece). p ∷ Digits t ∷ ps) (alone_octet c d a)
-joined_octet c (Letters t ∷ ps) d a n = cond-false (is_alpha c) _ _ a ∙ ap (λ (p : Piece). p ∷ Letters t ∷ ps) (alone_octet c d a)
-joined_octet c (Signed s t ∷ ps) d a n = ap (λ (p : Piece). p ∷ Signed s t ∷ ps) (alone_octet c d a)
-joined_octet c (Octet s ∷ ps) d a n = ap (λ (p : Piece). p ∷ Octet s ∷ ps) (alone_octet c d a)
-joined_octet c (Other ∷ ps) d a n = ap (λ (p : Piece). p ∷ Other ∷ ps) (alone_octet c d a)
+joined_octet c (Digits t ∷ ps) d a (inr n) = cond-false (is_digit c) _ _ d ∙ cond-false (is_plus_or_minus c) _ _ n ∙ ap (λ (p : DatePiece). p ∷ Digits t ∷ ps) (alone_octet c d a)
+joined_octet c (Letters t ∷ ps) d a n = cond-false (is_alpha c) _ _ a ∙ ap (λ (p : DatePiece). p ∷ Letters t ∷ ps) (alone_octet c d a)
+joined_octet c (Signed s t ∷ ps) d a n = ap (λ (p : DatePiece). p ∷ Signed s t ∷ ps) (alone_octet c d a)
+joined_octet c (Octet s ∷ ps) d a n = ap (λ (p : DatePiece). p ∷ Octet s ∷ ps) (alone_octet c d a)
+joined_octet c (Other ∷ ps) d a n = ap (λ (p : DatePiece). p ∷ Other ∷ ps) (alone_octet c d a)
 
 -- ---- how the pieces of an atom begin
 
-alone_not_digits : (c : ℕ) (ps : List Piece) → is_digit c ≡ false → NoDigits (alone c ∷ ps)
+alone_not_digits : (c : ℕ) (ps : List DatePiece) → is_digit c ≡ false → NoDigits (single_octet c ∷ ps)
 alone_not_digits c ps e = by (is_digit c) (is_alpha c) e
   where
     by : (q r : Bool) → q ≡ false → NoDigits (cond q (Digits (c ∷ [])) (cond r (Letters (c ∷ [])) (Octet c)) ∷ ps)
@@ -84,7 +84,7 @@ alone_not_digits c ps e = by (is_digit c) (is_alpha c) e
     by false true h = tt
     by false false h = tt
 
-alone_not_letters : (c : ℕ) (ps : List Piece) → is_alpha c ≡ false → NoLetters (alone c ∷ ps)
+alone_not_letters : (c : ℕ) (ps : List DatePiece) → is_alpha c ≡ false → NoLetters (single_octet c ∷ ps)
 alone_not_letters c ps e = by (is_digit c) (is_alpha c) e
   where
     by : (q r : Bool) → r ≡ false → NoLetters (cond q (Digits (c ∷ [])) (cond r (Letters (c ∷ [])) (Octet c)) ∷ ps)
@@ -92,36 +92,36 @@ alone_not_letters c ps e = by (is_digit c) (is_alpha c) e
     by false true h = absurd cc
     by false false h = tt
 
-begins_no_digits : (c : ℕ) (ps : List Piece) → is_digit c ≡ false → NoDigits (joined c ps)
+begins_no_digits : (c : ℕ) (ps : List DatePiece) → is_digit c ≡ false → NoDigits (joined c ps)
 unfolding joined
 begins_no_digits c [] e = alone_not_digits c [] e
 begins_no_digits c (Digits t ∷ ps) e = by (is_digit c) (is_plus_or_minus c) e (alone_not_digits c (Digits t ∷ ps) e)
   where
-    by : (q r : Bool) → q ≡ false → NoDigits (alone c ∷ Digits t ∷ ps) → NoDigits (cond q (Digits (c ∷ t) ∷ ps) (cond r (Signed c t ∷ ps) (alone c ∷ Digits t ∷ ps)))
+    by : (q r : Bool) → q ≡ false → NoDigits (single_octet c ∷ Digits t ∷ ps) → NoDigits (cond q (Digits (c ∷ t) ∷ ps) (cond r (Signed c t ∷ ps) (single_octet c ∷ Digits t ∷ ps)))
     by true r h n = absurd cc
     by false true h n = tt
     by false false h n = n
 begins_no_digits c (Letters t ∷ ps) e = by (is_alpha c) (alone_not_digits c (Letters t ∷ ps) e)
   where
-    by : (q : Bool) → NoDigits (alone c ∷ Letters t ∷ ps) → NoDigits (cond q (Letters (c ∷ t) ∷ ps) (alone c ∷ Letters t ∷ ps))
+    by : (q : Bool) → NoDigits (single_octet c ∷ Letters t ∷ ps) → NoDigits (cond q (Letters (c ∷ t) ∷ ps) (single_octet c ∷ Letters t ∷ ps))
     by true n = tt
     by false n = n
 begins_no_digits c (Signed s t ∷ ps) e = alone_not_digits c (Signed s t ∷ ps) e
 begins_no_digits c (Octet s ∷ ps) e = alone_not_digits c (Octet s ∷ ps) e
 begins_no_digits c (Other ∷ ps) e = alone_not_digits c (Other ∷ ps) e
 
-begins_no_letters : (c : ℕ) (ps : List Piece) → is_alpha c ≡ false → NoLetters (joined c ps)
+begins_no_letters : (c : ℕ) (ps : List DatePiece) → is_alpha c ≡ false → NoLetters (joined c ps)
 unfolding joined
 begins_no_letters c [] e = alone_not_letters c [] e
 begins_no_letters c (Digits t ∷ ps) e = by (is_digit c) (is_plus_or_minus c) (alone_not_letters c (Digits t ∷ ps) e)
   where
-    by : (q r : Bool) → NoLetters (alone c ∷ Digits t ∷ ps) → NoLetters (cond q (Digits (c ∷ t) ∷ ps) (cond r (Signed c t ∷ ps) (alone c ∷ Digits t ∷ ps)))
+    by : (q r : Bool) → NoLetters (single_octet c ∷ Digits t ∷ ps) → NoLetters (cond q (Digits (c ∷ t) ∷ ps) (cond r (Signed c t ∷ ps) (single_octet c ∷ Digits t ∷ ps)))
     by true r n = tt
     by false true n = tt
     by false false n = n
 begins_no_letters c (Letters t ∷ ps) e = by (is_alpha c) e (alone_not_letters c (Letters t ∷ ps) e)
   where
-    by : (q : Bool) → q ≡ false → NoLetters (alone c ∷ Letters t ∷ ps) → NoLetters (cond q (Letters (c ∷ t) ∷ ps) (alone c ∷ Letters t ∷ ps))
+    by : (q : Bool) → q ≡ false → NoLetters (single_octet c ∷ Letters t ∷ ps) → NoLetters (cond q (Letters (c ∷ t) ∷ ps) (single_octet c ∷ Letters t ∷ ps))
     by true h n = absurd cc
     by false h n = n
 begins_no_letters c (Signed s t ∷ ps) e = alone_not_letters c (Signed s t ∷ ps) e
@@ -191,9 +191,9 @@ stops_here p (c ∷ t) u e f = by (p c) refl (sym e ∙ f)
 
 -- ---- pieces from a place on
 
-pub behind_runs : (atom a rest : List ℕ) (p : Piece) → runs atom ≡ p ∷ runs a → pieces_behind atom rest ≡ p ∷ pieces_behind a rest
+pub behind_runs : (atom a rest : List ℕ) (p : DatePiece) → runs atom ≡ p ∷ runs a → pieces_behind atom rest ≡ p ∷ pieces_behind a rest
 unfolding pieces_behind
-behind_runs atom a rest p e = ap (λ (ps : List Piece). ps ++ pieces_of (lexemes_in alphabet.Mail rest)) e
+behind_runs atom a rest p e = ap (λ (ps : List DatePiece). ps ++ pieces_of (lexemes_in alphabet.Mail rest)) e
 
 pub none_behind : (rest : List ℕ) → lexemes_in alphabet.Mail rest ≡ [] → pieces_behind [] rest ≡ []
 unfolding pieces_behind runs pieces_of

@@ -5,7 +5,7 @@ use Rattle.text_words.specs.Cuts.{Each, IsRun, Stops}
 use Rattle.text_words.specs.Sequence.{Sequence}
 use Rattle.mail_header.specs.declared.token.Alphabet.TheVariants as alphabet
 use Rattle.mail_header.specs.Tokens.{Spelled, AreTokens}
-use Rattle.mail_header.specs.Mailboxes.{has_mark, is_gap, is_phrase, is_display_name, is_addr_spec, is_inner, behind_route, Mailbox}
+use Rattle.mail_header.specs.Mailboxes.{has_mark, is_gap, is_phrase, is_display_name, is_addr_spec, is_inner_token, behind_route, Mailbox}
 
 -- an element of a list: a comma or an empty place, a group's phrase with its colon, the semicolon that ends a group, or
 -- a mailbox
@@ -42,7 +42,7 @@ pub data IsElement : Element → List Spelled → List Spelled → Type 0 where
   Bare : (spec rest : List Spelled) → is_addr_spec spec ≡ true → EndsElement rest
       → IsElement (Member (record { phrase = []; spec = spec; behind = spec })) spec rest
   -- [phrase] "<" [obs-domain-list ":"] addr-spec ">"
-  InAngle : (phrase inner gaps rest : List Spelled) (less greater : Spelled) → is_display_name phrase ≡ true → has_mark 60 less ≡ true → is_inner inner ≡ true
+  InAngle : (phrase inner gaps rest : List Spelled) (less greater : Spelled) → is_display_name phrase ≡ true → has_mark 60 less ≡ true → is_inner_token inner ≡ true
       → has_mark 62 greater ≡ true → Each is_gap gaps → EndsElement rest
       → IsElement (Member (record { phrase = phrase; spec = behind_route inner; behind = gaps })) (phrase ++ less ∷ (inner ++ greater ∷ gaps)) rest
 

@@ -7,18 +7,18 @@ use Rattle.text_words.specs.Sequence.{Sequence}
 use Rattle.mail_header.specs.RawForms.{raw_form}
 
 -- neither an angle bracket nor white space
-abbrev pub is_inner : ℕ → Bool
-is_inner c = not (c == 60 || c == 62 || is_white c)
+abbrev pub is_bracketed_octet : ℕ → Bool
+is_bracketed_octet c = not (c == 60 || c == 62 || is_white c)
 
 -- "<", one or more inner octets and ">" are a piece; an octet that begins none is passed over
-pub data IsPiece : Option (List ℕ) → List ℕ → List ℕ → Type 0 where
-  InBrackets : (x rest : List ℕ) → IsRun is_inner x → IsPiece (Some x) (60 ∷ (x ++ 62 ∷ [])) rest
-  Passed : (c : ℕ) (rest : List ℕ) → ((x y : List ℕ) → IsRun is_inner x → c ∷ rest ≢ 60 ∷ (x ++ 62 ∷ y)) → IsPiece None (c ∷ []) rest
+pub data IsBracketPiece : Option (List ℕ) → List ℕ → List ℕ → Type 0 where
+  InBrackets : (x rest : List ℕ) → IsRun is_bracketed_octet x → IsBracketPiece (Some x) (60 ∷ (x ++ 62 ∷ [])) rest
+  Passed : (c : ℕ) (rest : List ℕ) → ((x y : List ℕ) → IsRun is_bracketed_octet x → c ∷ rest ≢ 60 ∷ (x ++ 62 ∷ y)) → IsBracketPiece None (c ∷ []) rest
 
 -- the pieces in brackets that a text has
 pub record HasPieces (names : List (List ℕ)) (t : List ℕ) : Type 0 where
   pub pieces : List (Option (List ℕ))
-  pub are : Sequence IsPiece pieces t
+  pub are : Sequence IsBracketPiece pieces t
   pub names_are : names ≡ flat_map option_to_list pieces
 
 -- the pieces of a raw value; there is no reading where there are none

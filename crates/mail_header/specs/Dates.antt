@@ -17,45 +17,45 @@ use Rattle.mail_header.specs.RawForms.{raw_form}
 -- ---- what dates are made of
 
 -- A run of digits, a run of letters, a sign with the digits directly after it, another octet, or what no date has.
-pub data Piece : Type 0 where
-  Digits : List ℕ → Piece
-  Letters : List ℕ → Piece
-  Signed : ℕ → List ℕ → Piece
-  Octet : ℕ → Piece
-  Other : Piece
+pub data DatePiece : Type 0 where
+  Digits : List ℕ → DatePiece
+  Letters : List ℕ → DatePiece
+  Signed : ℕ → List ℕ → DatePiece
+  Octet : ℕ → DatePiece
+  Other : DatePiece
 
 -- "+" or "-"
 abbrev pub is_plus_or_minus : ℕ → Bool
 is_plus_or_minus c = c == 43 || c == 45
 
-abbrev pub alone : ℕ → Piece
-alone c =
+abbrev pub single_octet : ℕ → DatePiece
+single_octet c =
     if is_digit c then Digits (c ∷ [])
     else if is_alpha c then Letters (c ∷ [])
     else Octet c
 
 -- an octet, and the pieces after it
-unfoldable pub joined : ℕ → List Piece → List Piece
-joined c [] = alone c ∷ []
+unfoldable pub joined : ℕ → List DatePiece → List DatePiece
+joined c [] = single_octet c ∷ []
 joined c (Digits ds ∷ ps) =
     if is_digit c then Digits (c ∷ ds) ∷ ps
     else if is_plus_or_minus c then Signed c ds ∷ ps
-    else alone c ∷ Digits ds ∷ ps
-joined c (Letters ls ∷ ps) = if is_alpha c then Letters (c ∷ ls) ∷ ps else alone c ∷ Letters ls ∷ ps
-joined c (p ∷ ps) = alone c ∷ p ∷ ps
+    else single_octet c ∷ Digits ds ∷ ps
+joined c (Letters ls ∷ ps) = if is_alpha c then Letters (c ∷ ls) ∷ ps else single_octet c ∷ Letters ls ∷ ps
+joined c (p ∷ ps) = single_octet c ∷ p ∷ ps
 
 -- the pieces of an atom
-unfoldable pub runs : List ℕ → List Piece
+unfoldable pub runs : List ℕ → List DatePiece
 runs [] = []
 runs (c ∷ t) = joined c (runs t)
 
-abbrev pub pieces_in : Kind → List ℕ → List Piece
+abbrev pub pieces_in : Kind → List ℕ → List DatePiece
 pieces_in kind.Atom t = runs t
 pieces_in kind.Mark t = Octet (first_octet t) ∷ []
 pieces_in _ t = Other ∷ []
 
 -- the pieces of lexemes
-unfoldable pub pieces_of : List Spelled → List Piece
+unfoldable pub pieces_of : List Spelled → List DatePiece
 pieces_of [] = []
 pieces_of (s ∷ ls) = pieces_in s.kind s.text ++ pieces_of ls
 
@@ -67,8 +67,8 @@ value_from value [] = value
 value_from value (c ∷ t) = value_from (10 * value + (c - 48)) t
 
 -- the number of a text of low to high digits
-abbrev pub number_of : ℕ → ℕ → List ℕ → Option ℕ
-number_of low high t = if nat_le low (length t) && nat_le (length t) high then Some (value_from 0 t) else None
+abbrev pub number_in_digits : ℕ → ℕ → List ℕ → Option ℕ
+number_in_digits low high t = if nat_le low (length t) && nat_le (length t) high then Some (value_from 0 t) else None
 
 abbrev pub month_of : List ℕ → Option ℕ
 month_of t =
@@ -114,7 +114,7 @@ west_of (Some m) = Some (pos 0 -ℤ pos m)
 
 -- a sign and hhmm, in minutes
 abbrev pub offset_of : ℕ → List ℕ → Option ℤ
-offset_of sign t = if sign == 43 then east_of (hours_and_minutes (number_of 4 4 t)) else west_of (hours_and_minutes (number_of 4 4 t))
+offset_of sign t = if sign == 43 then east_of (hours_and_minutes (number_in_digits 4 4 t)) else west_of (hours_and_minutes (number_in_digits 4 4 t))
 
 -- the zones of North America by name; other letters are 0
 abbrev pub named_zone : List ℕ → ℤ
@@ -132,27 +132,27 @@ named_zone t =
 -- ---- the productions
 
 -- date = day month year
-pub data IsDay : Day → List Piece → Type 0 where
-  DayMonthYear : (ds ms ys : List ℕ) (d m y : ℕ) → number_of 1 2 ds ≡ Some d → month_of ms ≡ Some m → year_of ys ≡ Some y
+pub data IsDay : Day → List DatePiece → Type 0 where
+  DayMonthYear : (ds ms ys : List ℕ) (d m y : ℕ) → number_in_digits 1 2 ds ≡ Some d → month_of ms ≡ Some m → year_of ys ≡ Some y
       → IsDay (record { year = y; month = m; day = d }) (Digits ds ∷ Letters ms ∷ Digits ys ∷ [])
 
 -- time-of-day = hour ":" minute [ ":" second ]
-pub data IsClock : Clock → List Piece → Type 0 where
-  HourMinute : (hs ms : List ℕ) (h m : ℕ) → number_of 2 2 hs ≡ Some h → number_of 2 2 ms ≡ Some m
+pub data IsClock : Clock → List DatePiece → Type 0 where
+  HourMinute : (hs ms : List ℕ) (h m : ℕ) → number_in_digits 2 2 hs ≡ Some h → number_in_digits 2 2 ms ≡ Some m
       → IsClock (record { hour = h; minute = m; second = 0 }) (Digits hs ∷ Octet 58 ∷ Digits ms ∷ [])
-  HourMinuteSecond : (hs ms ss : List ℕ) (h m s : ℕ) → number_of 2 2 hs ≡ Some h → number_of 2 2 ms ≡ Some m → number_of 2 2 ss ≡ Some s
+  HourMinuteSecond : (hs ms ss : List ℕ) (h m s : ℕ) → number_in_digits 2 2 hs ≡ Some h → number_in_digits 2 2 ms ≡ Some m → number_in_digits 2 2 ss ≡ Some s
       → IsClock (record { hour = h; minute = m; second = s }) (Digits hs ∷ Octet 58 ∷ Digits ms ∷ Octet 58 ∷ Digits ss ∷ [])
 
 -- zone = ( "+" / "-" ) 4DIGIT / obs-zone
-pub data IsZone : ℤ → List Piece → Type 0 where
+pub data IsZone : ℤ → List DatePiece → Type 0 where
   Offset : (sign : ℕ) (t : List ℕ) (z : ℤ) → offset_of sign t ≡ Some z → IsZone z (Signed sign t ∷ [])
   Named : (t : List ℕ) → IsZone (named_zone t) (Letters t ∷ [])
 
 -- date time
 pub record IsDateTime (d : Day) (c : Clock) (z : ℤ) (lexemes : List Spelled) : Type 0 where
-  pub day : List Piece
-  pub clock : List Piece
-  pub zone : List Piece
+  pub day : List DatePiece
+  pub clock : List DatePiece
+  pub zone : List DatePiece
   pub whole : pieces_of lexemes ≡ day ++ (clock ++ zone)
   pub is_day : IsDay d day
   pub is_clock : IsClock c clock

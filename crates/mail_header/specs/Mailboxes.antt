@@ -141,8 +141,8 @@ abbrev pub inner_of : List Spelled → List Spelled → Bool
 inner_of spec [] = is_addr_spec spec
 inner_of route (colon ∷ spec) = is_route route && is_addr_spec spec
 
-abbrev pub is_inner : List Spelled → Bool
-is_inner ts = inner_of (front is_no_colon ts) (back is_no_colon ts)
+abbrev pub is_inner_token : List Spelled → Bool
+is_inner_token ts = inner_of (front is_no_colon ts) (back is_no_colon ts)
 
 abbrev pub behind_colon : List Spelled → List Spelled → List Spelled
 behind_colon spec [] = spec

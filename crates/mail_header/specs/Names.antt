@@ -113,12 +113,12 @@ pub record IsGroup (g : Grouped) (group : Group) : Type 0 where
 
 -- ---- the forms of a raw value
 
-abbrev pub HasNone : List ℕ → Type 0
-HasNone raw = (who : List Addressee) → IsAddressList who (raw_form raw) → ⊥
+abbrev pub HasNoAddressList : List ℕ → Type 0
+HasNoAddressList raw = (who : List Addressee) → IsAddressList who (raw_form raw) → ⊥
 
 -- the groups
 pub data IsGroupsForm (raw : List ℕ) : Option (List Group) → Type 0 where
-  NoGroups : HasNone raw → IsGroupsForm raw None
+  NoGroups : HasNoAddressList raw → IsGroupsForm raw None
   Groups : (who : List Addressee) (list : List Group) → IsAddressList who (raw_form raw) → AllZip IsGroup (groups_of who) list → IsGroupsForm raw (Some list)
 
 abbrev pub members_in : Group → List Address

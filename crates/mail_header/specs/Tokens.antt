@@ -60,7 +60,7 @@ EndsBefore a kind.Space t = Stops is_white t
 EndsBefore a _ t = Unit {0}
 
 -- the text begins with a token of the kind, and rest follows it
-pub record Begins (a : Alphabet) (k : Kind) (front rest t : List ℕ) : Type 0 where
+pub record BeginsWithToken (a : Alphabet) (k : Kind) (front rest t : List ℕ) : Type 0 where
   pub whole : t ≡ front ++ rest
   pub spelled : IsKind a k front
   pub ends : EndsBefore a k rest

@@ -126,7 +126,7 @@ fn with_member(
     builder: Builder,
     mailbox: &Mailbox<'_, '_>,
 ) -> Result<Builder, AllocError>
-    ensures { IfOk result (λ b. building.Takes builder (lists.Member (mailbox_view mailbox.now)) b) }
+    ensures { IfOk result (λ b. building.TakesElement builder (lists.Member (mailbox_view mailbox.now)) b) }
 {
     let Builder {
         groups,
@@ -142,7 +142,7 @@ fn with_member(
 }
 
 fn begin(alloc: Global, builder: Builder, phrase: &[Token<'_>]) -> Result<Builder, AllocError>
-    ensures { IfOk result (λ b. building.Takes builder (lists.Head (tokens_view phrase.now)) b) }
+    ensures { IfOk result (λ b. building.TakesElement builder (lists.Head (tokens_view phrase.now)) b) }
 {
     let groups = close(builder)?;
     let name = phrase_name(alloc, phrase)?;
@@ -154,7 +154,7 @@ fn begin(alloc: Global, builder: Builder, phrase: &[Token<'_>]) -> Result<Builde
 }
 
 fn end(alloc: Global, builder: Builder) -> Result<Builder, AllocError>
-    ensures { IfOk result (λ b. building.Takes builder lists.End b) }
+    ensures { IfOk result (λ b. building.TakesElement builder lists.End b) }
 {
     let groups = close(builder)?;
     Ok(Builder {
@@ -166,7 +166,7 @@ fn end(alloc: Global, builder: Builder) -> Result<Builder, AllocError>
 
 /// Takes in the next element.
 fn take(alloc: Global, builder: Builder, element: &Element<'_, '_>) -> Result<Builder, AllocError>
-    ensures { IfOk result (λ b. building.Takes builder (element_view element.now) b) }
+    ensures { IfOk result (λ b. building.TakesElement builder (element_view element.now) b) }
 {
     match element {
         Element::Empty => Ok(builder),

@@ -52,7 +52,7 @@ pub fn last_field<'a>(bytes: &'a [u8], name: &[u8]) -> Option<&'a [u8]>
 
 /// The raw value of the block, where it is a field of this name, and else what was found before it.
 fn later<'a>(found: Option<&'a [u8]>, name: &[u8], block: &'a [u8]) -> Option<&'a [u8]>
-    ensures { reading.Later name.now block.now (option_map (λ t. t.now) found.entry) (option_map (λ t. t.now) result) }
+    ensures { reading.LaterField name.now block.now (option_map (λ t. t.now) found.entry) (option_map (λ t. t.now) result) }
 {
     match field_of(block) {
         None => found,
@@ -81,7 +81,7 @@ fn block_at(text: &[u8]) -> Option<(&[u8], &[u8])>
 
 /// Adds the block's field, where it is one.
 fn push_field<'a>(list: &mut Vec<Field<'a>>, block: &'a [u8]) -> Result<(), AllocError>
-    ensures { OnOk result (reading.Adds block.now (fields.fields_view list.old.items) (fields.fields_view list.new.items)) }
+    ensures { OnOk result (reading.AddsField block.now (fields.fields_view list.old.items) (fields.fields_view list.new.items)) }
 {
     match field_of(block) {
         None => Ok(()),

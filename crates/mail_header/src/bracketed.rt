@@ -13,7 +13,7 @@ use text_words::{Class, behind, first, is_white, run_before};
 struct Inner;
 
 impl Class<u8> for Inner {
-    ghost test = { brackets.is_inner };
+    ghost test = { brackets.is_bracketed_octet };
 
     fn has(&self, item: &u8) -> bool {
         !(*item == b'<' || *item == b'>' || is_white(*item))
@@ -61,7 +61,7 @@ fn pieces(alloc: Global, text: &[u8]) -> Result<Names, AllocError>
 /// Adds the piece at the front, or passes over an octet that begins none. Gives what follows.
 fn push_piece<'a>(alloc: Global, names: &mut Names, text: &'a [u8]) -> Result<&'a [u8], AllocError>
     requires { 0 < length text.now }
-    ensures { IfOk result (λ r. reading.Takes text.now r.now names.old names.new) }
+    ensures { IfOk result (λ r. reading.TakesBlock text.now r.now names.old names.new) }
 {
     match piece_at(text) {
         Some((piece, rest)) => {
@@ -78,8 +78,8 @@ fn push_piece<'a>(alloc: Global, names: &mut Names, text: &'a [u8]) -> Result<&'
 /// What stands in angle brackets at the front, and what follows them.
 fn piece_at(text: &[u8]) -> Option<(&[u8], &[u8])>
     ensures { MatchOption result
-        ((x y : List ℕ) → IsRun brackets.is_inner x → text.now ≢ 60 ∷ (x ++ 62 ∷ y))
-        (λ r. IsRun brackets.is_inner r.0.now × (text.now ≡ 60 ∷ (r.0.now ++ 62 ∷ r.1.now))) }
+        ((x y : List ℕ) → IsRun brackets.is_bracketed_octet x → text.now ≢ 60 ∷ (x ++ 62 ∷ y))
+        (λ r. IsRun brackets.is_bracketed_octet r.0.now × (text.now ≡ 60 ∷ (r.0.now ++ 62 ∷ r.1.now))) }
 {
     let inner = behind(b'<', text)?;
     run_before(&Inner, b'>', inner)

@@ -65,7 +65,7 @@ fn value(digits: &[u8]) -> u32
 /// The number that a text of n digits spells.
 pub(crate) fn number_of(low: usize, high: usize, text: &[u8]) -> Option<u32>
     requires { high ≤ 4 }
-    ensures value { result ≡ dates.number_of low high text.now }
+    ensures value { result ≡ dates.number_in_digits low high text.now }
     ensures small { IfSome result (λ n. n < 300000) }
 {
     if text.len() < low {

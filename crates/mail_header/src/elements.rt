@@ -89,7 +89,7 @@ fn head<'a, 'b>(plain: &'b [Token<'a>]) -> Option<(Element<'a, 'b>, usize)>
 
 /// The end of a group, where this follows the semicolon.
 fn end<'a, 'b>(more: &'b [Token<'a>]) -> Option<(Element<'a, 'b>, usize)>
-    ensures { MatchOption result (reading.end_of (tokens_view more.now) ≡ None) (λ r. reading.end_of (tokens_view more.now) ≡ Some (element_view r.0, r.1)) }
+    ensures { MatchOption result (reading.element_end (tokens_view more.now) ≡ None) (λ r. reading.element_end (tokens_view more.now) ≡ Some (element_view r.0, r.1)) }
 {
     let (gaps, rest) = cut_tokens(&Gap, more);
     if stops(&NoComma, rest) {

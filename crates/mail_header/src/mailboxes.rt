@@ -147,7 +147,7 @@ fn is_route(tokens: &[Token<'_>]) -> bool
 
 /// [route ":"] addr-spec
 pub(crate) fn is_inner(tokens: &[Token<'_>]) -> bool
-    ensures { result ≡ mailboxes.is_inner (tokens_view tokens.now) }
+    ensures { result ≡ mailboxes.is_inner_token (tokens_view tokens.now) }
 {
     let (route, rest) = cut_tokens(&NoColon, tokens);
     match rest {

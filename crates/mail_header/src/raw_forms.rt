@@ -53,7 +53,7 @@ pub fn unfold(alloc: Global, text: &[u8]) -> Result<Vec<u8>, AllocError>
 
 /// Adds an octet, where `more` follows it, unless it is one of a line end.
 fn push_octet(kept: &mut Vec<u8>, octet: u8, more: &[u8]) -> Result<(), AllocError>
-    ensures { OnOk result (kept.new.items ≡ kept.old.items ++ reading.kept_octet octet more.now) }
+    ensures { OnOk result (kept.new.items ≡ kept.old.items ++ reading.kept_header_octet octet more.now) }
 {
     if is_of_line_end(octet, more) {
         return Ok(());

@@ -155,7 +155,7 @@ impl TokenClass for NoSeparator {
 pub(crate) struct Plain;
 
 impl TokenClass for Plain {
-    ghost test = { reading.is_plain };
+    ghost test = { reading.is_plain_token };
 
     fn has_token(&self, token: &Token<'_>) -> bool {
         !(has_mark(b'<', token)

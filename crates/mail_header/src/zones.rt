@@ -23,7 +23,7 @@ fn minutes_of(number: u32) -> Option<u32>
 
 /// Minutes of a text hhmm.
 fn hours_and_minutes(text: &[u8]) -> Option<u32>
-    ensures value { result ≡ dates.hours_and_minutes (dates.number_of 4 4 text.now) }
+    ensures value { result ≡ dates.hours_and_minutes (dates.number_in_digits 4 4 text.now) }
     ensures small { IfSome result (λ m. m < 1440) }
 {
     match number_of(4, 4, text) {
@@ -33,7 +33,7 @@ fn hours_and_minutes(text: &[u8]) -> Option<u32>
 }
 
 fn east(text: &[u8]) -> Option<i32>
-    ensures value { result ≡ dates.east_of (dates.hours_and_minutes (dates.number_of 4 4 text.now)) }
+    ensures value { result ≡ dates.east_of (dates.hours_and_minutes (dates.number_in_digits 4 4 text.now)) }
     ensures low { IfSome result (λ z. negsuc 1439 ≤ℤ z) }
     ensures high { IfSome result (λ z. z ≤ℤ pos 1440) }
 {
@@ -44,7 +44,7 @@ fn east(text: &[u8]) -> Option<i32>
 }
 
 fn west(text: &[u8]) -> Option<i32>
-    ensures value { result ≡ dates.west_of (dates.hours_and_minutes (dates.number_of 4 4 text.now)) }
+    ensures value { result ≡ dates.west_of (dates.hours_and_minutes (dates.number_in_digits 4 4 text.now)) }
     ensures low { IfSome result (λ z. negsuc 1439 ≤ℤ z) }
     ensures high { IfSome result (λ z. z ≤ℤ pos 1440) }
 {

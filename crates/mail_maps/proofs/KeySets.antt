@@ -6,16 +6,16 @@ use Rattle.std.specs.Ordering.{match_ordering}
 use Rattle.std.specs.Cmp.Lexicographic.{slice_cmp}
 use Rattle.std.specs.BTreeSet.{insert_key}
 use Rattle.mail_maps.specs.Keywords.{sorted_into}
-use Rattle.mail_maps.specs.reading.Sets.{items_of}
+use Rattle.mail_maps.specs.reading.Sets.{set_items}
 
 abbrev vec_cmp : Vec ℕ Global → Vec ℕ Global → Ordering
 vec_cmp a b = slice_cmp nat_cmp a.items b.items
 
-pub items_of-insert_key : (ks : List (Vec ℕ Global)) (k : Vec ℕ Global) → map items_of (insert_key vec_cmp ks k) ≡ insert_key (slice_cmp nat_cmp) (map items_of ks) k.items
+pub items_of-insert_key : (ks : List (Vec ℕ Global)) (k : Vec ℕ Global) → map set_items (insert_key vec_cmp ks k) ≡ insert_key (slice_cmp nat_cmp) (map set_items ks) k.items
 items_of-insert_key [] k = refl
 items_of-insert_key (x ∷ ks) k =
-    elim (slice_cmp nat_cmp k.items x.items) as (λ o. map items_of (match_ordering o (k ∷ x ∷ ks) (x ∷ ks) (x ∷ insert_key vec_cmp ks k))
-    ≡ match_ordering o (k.items ∷ x.items ∷ map items_of ks) (x.items ∷ map items_of ks) (x.items ∷ insert_key (slice_cmp nat_cmp) (map items_of ks) k.items)) [
+    elim (slice_cmp nat_cmp k.items x.items) as (λ o. map set_items (match_ordering o (k ∷ x ∷ ks) (x ∷ ks) (x ∷ insert_key vec_cmp ks k))
+    ≡ match_ordering o (k.items ∷ x.items ∷ map set_items ks) (x.items ∷ map set_items ks) (x.items ∷ insert_key (slice_cmp nat_cmp) (map set_items ks) k.items)) [
       | Less ↦ refl
       | Equal ↦ refl
       | Greater ↦ ap (λ r. x.items ∷ r) (items_of-insert_key ks k)

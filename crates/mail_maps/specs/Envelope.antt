@@ -13,9 +13,9 @@ use Rattle.mail_maps.specs.declared.envelope.Envelope.{Envelope}
 use Rattle.mail_maps.specs.declared.envelope.Party.{Party}
 
 -- the text form of a field, where there is one
-pub data IsTextOf : Option (List ℕ) → Option (List ℕ) → Type 0 where
-  NoText : IsTextOf None None
-  Text : (raw text : List ℕ) → IsTextForm text raw → IsTextOf (Some raw) (Some text)
+pub data IsFieldText : Option (List ℕ) → Option (List ℕ) → Type 0 where
+  NoText : IsFieldText None None
+  Text : (raw text : List ℕ) → IsTextForm text raw → IsFieldText (Some raw) (Some text)
 
 -- a name, or this where it is missing or empty
 abbrev pub name_or : Option (List ℕ) → List ℕ → List ℕ
@@ -28,13 +28,13 @@ abbrev pub shown_name : Address → List ℕ
 shown_name a = name_or a.name a.email
 
 -- that of the first mailbox
-abbrev pub first_of : List Address → Option (List ℕ)
-first_of [] = None
-first_of (a ∷ list) = Some (shown_name a)
+abbrev pub first_mailbox : List Address → Option (List ℕ)
+first_mailbox [] = None
+first_mailbox (a ∷ list) = Some (shown_name a)
 
 abbrev pub first_name : Option (List Address) → Option (List ℕ)
 first_name None = None
-first_name (Some list) = first_of list
+first_name (Some list) = first_mailbox list
 
 -- how the first mailbox of a field is shown
 pub data IsFirstOf : Option (List ℕ) → Option (List ℕ) → Type 0 where
@@ -42,7 +42,7 @@ pub data IsFirstOf : Option (List ℕ) → Option (List ℕ) → Type 0 where
   First : (raw : List ℕ) (list : Option (List Address)) → IsAddressesForm raw list → IsFirstOf (Some raw) (first_name list)
 
 pub record IsPartyOf (raw : Option (List ℕ)) (p : Party) : Type 0 where
-  pub text : IsTextOf raw p.text
+  pub text : IsFieldText raw p.text
   pub first : IsFirstOf raw p.first
 
 -- the seconds of a date field
@@ -66,13 +66,13 @@ pub record AreAllIds (fields : List NameAndRaw) (ids : List (List ℕ)) : Type 0
   pub all : ids ≡ references ++ in_reply_to ++ message_id
 
 -- what the fields of a header say; of two with one name the last counts
-pub record Says (fields : List NameAndRaw) (e : Envelope) : Type 0 where
-  pub subject : IsTextOf (last_named (codes "subject") fields) e.subject
+pub record SaysEnvelope (fields : List NameAndRaw) (e : Envelope) : Type 0 where
+  pub subject : IsFieldText (last_named (codes "subject") fields) e.subject
   pub base : IsBaseOf (unwrap_or e.subject []) e.base
   pub from : IsPartyOf (last_named (codes "from") fields) e.from
   pub to : IsPartyOf (last_named (codes "to") fields) e.to
-  pub cc : IsTextOf (last_named (codes "cc") fields) e.cc
-  pub bcc : IsTextOf (last_named (codes "bcc") fields) e.bcc
+  pub cc : IsFieldText (last_named (codes "cc") fields) e.cc
+  pub bcc : IsFieldText (last_named (codes "bcc") fields) e.bcc
   pub sent_at : IsTimeOf (last_named (codes "date") fields) e.sent_at
   pub ids : AreAllIds fields e.ids
 
@@ -80,4 +80,4 @@ pub record IsEnvelopeOf (header : List ℕ) (e : Envelope) : Type 0 where
   pub fields : List NameAndRaw
   pub end : ℕ
   pub is_header : IsHeader fields end header
-  pub says : Says fields e
+  pub says : SaysEnvelope fields e

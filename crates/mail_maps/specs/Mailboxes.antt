@@ -7,7 +7,7 @@ use Rattle.mail_maps.specs.declared.row.MailboxRow.{MailboxRow}
 use Rattle.mail_maps.specs.declared.tally.FolderCounts.{FolderCounts}
 use Rattle.mail_maps.specs.Rows.{Rows}
 use Rattle.mail_maps.specs.Hierarchy.{parent_in, own_name}
-use Rattle.mail_maps.specs.Roles.{has, role_in}
+use Rattle.mail_maps.specs.Roles.{has_attribute, role_in}
 use Rattle.mail_maps.specs.Rights.{rights_of}
 use Rattle.mail_maps.specs.Counts.{total_emails, unread_emails, total_threads, unread_threads}
 
@@ -22,7 +22,7 @@ row_with fs f counts = record {
   full_name = f.name;
   parent = option_map (λ (g : Folder). g.number) (parent_in fs f);
   role = role_in fs f;
-  subscribed = has (codes "\\subscribed") f;
+  subscribed = has_attribute (codes "\\subscribed") f;
   rights = rights_of f;
   total_emails = counts.total_emails;
   unread_emails = counts.unread_emails;

@@ -2,18 +2,18 @@
 use Rattle.std.specs.Prelude.{Bool, not, ◌&&◌, is_some, codes}
 use Rattle.told_folder.specs.declared.message.Folder.{Folder}
 use Rattle.mail_maps.specs.declared.row.Rights.{Rights}
-use Rattle.mail_maps.specs.Roles.{has, is_inbox}
+use Rattle.mail_maps.specs.Roles.{has_attribute, is_inbox}
 
 abbrev pub is_selectable : Folder → Bool
-is_selectable f = not (has (codes "\\noselect") f) && not (has (codes "\\nonexistent") f)
+is_selectable f = not (has_attribute (codes "\\noselect") f) && not (has_attribute (codes "\\nonexistent") f)
 
 -- whether the folder can have children
 abbrev pub takes_children : Folder → Bool
-takes_children f = is_some f.delimiter && not (has (codes "\\noinferiors") f)
+takes_children f = is_some f.delimiter && not (has_attribute (codes "\\noinferiors") f)
 
 -- whether the folder can be renamed and deleted
 abbrev pub is_own : Folder → Bool
-is_own f = not (is_inbox f) && not (has (codes "\\nonexistent") f)
+is_own f = not (is_inbox f) && not (has_attribute (codes "\\nonexistent") f)
 
 abbrev pub rights_of : Folder → Rights
 rights_of f = record {

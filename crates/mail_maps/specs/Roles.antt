@@ -8,8 +8,8 @@ use Rattle.mail_maps.specs.declared.row.Role.{Role}
 use Rattle.mail_maps.specs.declared.row.Role.TheVariants as role
 use Rattle.mail_maps.specs.Keywords.{has_name}
 
-abbrev pub has : List ℕ → Folder → Bool
-has attribute f = has_name attribute f.attributes
+abbrev pub has_attribute : List ℕ → Folder → Bool
+has_attribute attribute f = has_name attribute f.attributes
 
 abbrev pub is_inbox : Folder → Bool
 is_inbox f = bytes_eq f.name (codes "INBOX")
@@ -18,13 +18,13 @@ is_inbox f = bytes_eq f.name (codes "INBOX")
 abbrev pub role_told : Folder → Option Role
 role_told f =
     if is_inbox f then Some role.Inbox
-    else if has (codes "\\all") f then Some role.All
-    else if has (codes "\\archive") f then Some role.Archive
-    else if has (codes "\\drafts") f then Some role.Drafts
-    else if has (codes "\\flagged") f then Some role.Flagged
-    else if has (codes "\\junk") f then Some role.Junk
-    else if has (codes "\\sent") f then Some role.Sent
-    else if has (codes "\\trash") f then Some role.Trash
+    else if has_attribute (codes "\\all") f then Some role.All
+    else if has_attribute (codes "\\archive") f then Some role.Archive
+    else if has_attribute (codes "\\drafts") f then Some role.Drafts
+    else if has_attribute (codes "\\flagged") f then Some role.Flagged
+    else if has_attribute (codes "\\junk") f then Some role.Junk
+    else if has_attribute (codes "\\sent") f then Some role.Sent
+    else if has_attribute (codes "\\trash") f then Some role.Trash
     else None
 
 abbrev pub role_number : Role → ℕ

@@ -37,7 +37,7 @@ abbrev pub email_of : EmailRow → Email
 email_of r = record { immutable = immutable_of r; folder = r.folder; keywords = r.keywords }
 
 -- a Mailbox as it is served: without its full name
-pub record Mailbox : Type 0 where
+pub record ServedMailbox : Type 0 where
   pub name : List ℕ
   pub parent : Option ℕ
   pub role : Option Role
@@ -48,7 +48,7 @@ pub record Mailbox : Type 0 where
 abbrev pub counts_of : MailboxRow → FolderCounts
 counts_of r = record { total_emails = r.total_emails; unread_emails = r.unread_emails; total_threads = r.total_threads; unread_threads = r.unread_threads }
 
-abbrev pub mailbox_of : MailboxRow → Mailbox
+abbrev pub mailbox_of : MailboxRow → ServedMailbox
 mailbox_of r = record { name = r.name; parent = r.parent; role = r.role; subscribed = r.subscribed; rights = r.rights; counts = counts_of r }
 
 -- a Thread is served as it is kept
@@ -89,12 +89,12 @@ abbrev pub same_counts : FolderCounts → FolderCounts → Bool
 same_counts a b =
     a.total_emails == b.total_emails && (a.unread_emails == b.unread_emails && (a.total_threads == b.total_threads && a.unread_threads == b.unread_threads))
 
-abbrev pub same_but_counts : Mailbox → Mailbox → Bool
+abbrev pub same_but_counts : ServedMailbox → ServedMailbox → Bool
 same_but_counts a b =
     bytes_eq a.name b.name && (option_eq ◌==◌ a.parent b.parent && (same_role a.role b.role
     && (beq a.subscribed b.subscribed && same_rights a.rights b.rights)))
 
-abbrev pub same_mailbox : Mailbox → Mailbox → Bool
+abbrev pub same_mailbox : ServedMailbox → ServedMailbox → Bool
 same_mailbox a b = same_but_counts a b && same_counts a.counts b.counts
 
 abbrev pub same_thread : List ℕ → List ℕ → Bool
@@ -103,7 +103,7 @@ same_thread a b = bytes_eq a b
 abbrev pub never : {V : Type 0} → V → V → Bool
 never a b = false
 
-abbrev pub mailbox_tests : Tests Mailbox
+abbrev pub mailbox_tests : Tests ServedMailbox
 mailbox_tests = record { same = same_mailbox; counts = same_but_counts }
 
 abbrev pub email_tests : Tests Email

@@ -12,8 +12,8 @@ pub record Placed : Type 0 where
 abbrev pub is_served : Message → Bool
 is_served x = not (has_name (codes "\\deleted") x.flags)
 
-abbrev pub is_visible : Placed → Bool
-is_visible p = is_served p.message
+abbrev pub is_visible_place : Placed → Bool
+is_visible_place p = is_served p.message
 
 abbrev pub placed_in : Held → List Placed
 placed_in h = map (λ x. record { folder = h.folder.number; message = x }) h.messages
@@ -21,7 +21,7 @@ placed_in h = map (λ x. record { folder = h.folder.number; message = x }) h.mes
 -- the visible messages, by folder number and then UID
 abbrev pub visible : List Held → List Placed
 visible [] = []
-visible (h ∷ hs) = filter is_visible (placed_in h) ++ visible hs
+visible (h ∷ hs) = filter is_visible_place (placed_in h) ++ visible hs
 
 -- the visible message of the mark
 abbrev pub shown : List Held → ℕ → Option Placed

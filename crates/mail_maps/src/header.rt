@@ -4,7 +4,7 @@ ghost use Rattle.std.specs.Option.{option_map, unwrap_or};
 ghost use Rattle.mail_header.specs.Fields.{last_named, names_and_raws};
 ghost use Rattle.thread_rule.specs.BaseSubject.{IsBaseOf};
 ghost use Rattle.mail_maps.specs.Envelope as envelope;
-ghost use Rattle.mail_maps.specs.Envelope.{IsEnvelopeOf, IsTextOf, IsFirstOf, IsPartyOf, IsTimeOf, AreIdsOf};
+ghost use Rattle.mail_maps.specs.Envelope.{IsEnvelopeOf, IsFieldText, IsFirstOf, IsPartyOf, IsTimeOf, AreIdsOf};
 
 use crate::{Envelope, Party};
 use gate_world::{Bytes, Names};
@@ -34,7 +34,7 @@ const MESSAGE_ID: &[u8] = b"message-id";
 
 /// The text form of the last field of the name.
 fn text_named(alloc: Global, fields: &Fields<'_>, name: &[u8]) -> Result<Option<Bytes>, AllocError>
-    ensures { IfOk result (λ text. IsTextOf (last_named name.now (names_and_raws fields.now)) text) }
+    ensures { IfOk result (λ text. IsFieldText (last_named name.now (names_and_raws fields.now)) text) }
 {
     match fields.last(name) {
         None => Ok(None),
@@ -57,7 +57,7 @@ fn shown_name(address: &Address) -> Result<Bytes, AllocError>
 
 /// How the first of these mailboxes is shown.
 fn first_name(addresses: &[Address]) -> Result<Option<Bytes>, AllocError>
-    ensures { IfOk result (λ text. text ≡ envelope.first_of addresses.now) }
+    ensures { IfOk result (λ text. text ≡ envelope.first_mailbox addresses.now) }
 {
     match addresses {
         [] => Ok(None),
@@ -183,7 +183,7 @@ fn base_of(alloc: Global, text: &[u8]) -> Result<Bytes, AllocError>
 }
 
 fn envelope_of(alloc: Global, fields: &Fields<'_>) -> Result<Envelope, AllocError>
-    ensures { IfOk result (λ e. envelope.Says (names_and_raws fields.now) e) }
+    ensures { IfOk result (λ e. envelope.SaysEnvelope (names_and_raws fields.now) e) }
 {
     let subject = text_named(alloc, fields, SUBJECT)?;
     let base = base_of(alloc, text_or_empty(&subject))?;

@@ -4,7 +4,7 @@ ghost use Rattle.std.specs.Option.{option_map};
 ghost use Rattle.std.specs.Cmp.Lexicographic.{slice_cmp};
 ghost use Rattle.std.specs.Ordering.{nat_cmp};
 ghost use Rattle.mail_maps.specs.Keywords as keywords;
-ghost use Rattle.mail_maps.specs.reading.Sets.{items_of};
+ghost use Rattle.mail_maps.specs.reading.Sets.{set_items};
 
 use gate_world::{Bytes, Names};
 use std::alloc::{AllocError, Global};
@@ -55,14 +55,14 @@ fn keyword_of(flag: &[u8]) -> Option<&[u8]>
 }
 
 fn copied(alloc: Global, octets: &[u8]) -> Result<Vec<u8>, AllocError>
-    ensures { IfOk result (λ key. items_of key ≡ octets.now) }
+    ensures { IfOk result (λ key. set_items key ≡ octets.now) }
 {
     octets.to_vec(alloc)
 }
 
 /// Puts the keyword of a flag into a set, where there is one.
 fn add_keyword(alloc: Global, set: &mut BTreeSet<Vec<u8>>, flag: &[u8]) -> Result<(), AllocError>
-    ensures { OnOk result (map items_of set.new.keys ≡ keywords.sorted_into (slice_cmp nat_cmp) (map items_of set.old.keys) (keywords.keyword_of flag.now)) }
+    ensures { OnOk result (map set_items set.new.keys ≡ keywords.sorted_into (slice_cmp nat_cmp) (map set_items set.old.keys) (keywords.keyword_of flag.now)) }
 {
     match keyword_of(flag) {
         None => Ok(()),
@@ -76,7 +76,7 @@ fn add_keyword(alloc: Global, set: &mut BTreeSet<Vec<u8>>, flag: &[u8]) -> Resul
 
 /// The keywords of flags as a set.
 fn keyword_set(alloc: Global, flags: &[Bytes]) -> Result<BTreeSet<Vec<u8>>, AllocError>
-    ensures { IfOk result (λ set. map items_of set.keys ≡ keywords.keywords_of flags.now) }
+    ensures { IfOk result (λ set. map set_items set.keys ≡ keywords.keywords_of flags.now) }
 {
     let mut set = BTreeSet::new(alloc);
     for flag in flags {

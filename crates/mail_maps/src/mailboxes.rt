@@ -2,7 +2,7 @@
 ghost use Rattle.std.specs.Prelude.{◌≡◌, IfOk};
 ghost use Rattle.std.specs.Option.{option_copied, option_map};
 ghost use Rattle.told_folder.specs.Keyed.{Ascends};
-ghost use Rattle.told_folder.specs.Folders.{number_of};
+ghost use Rattle.told_folder.specs.Folders.{folder_number};
 ghost use Rattle.mail_maps.specs.Mailboxes as mailboxes;
 ghost use Rattle.mail_maps.specs.Mailboxes.{folders_of, row_with};
 
@@ -57,7 +57,7 @@ pub fn mailboxes_of(
     folders: &[Held],
     emails: &BTreeMap<u64, EmailRow>,
 ) -> Result<BTreeMap<u64, MailboxRow>, AllocError>
-    requires { Ascends number_of folders.now }
+    requires { Ascends folder_number folders.now }
     ensures { IfOk result (λ rows. rows.entries ≡ mailboxes.mailboxes_of folders.now emails.now.entries) }
 {
     let tallies = count_emails(alloc, emails)?;

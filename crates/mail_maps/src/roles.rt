@@ -9,7 +9,7 @@ use crate::keywords::has_name;
 use told_folder::{Folder, Held};
 
 pub fn has(attribute: &[u8], folder: &Folder) -> bool
-    ensures { result ≡ roles.has attribute.now folder.now }
+    ensures { result ≡ roles.has_attribute attribute.now folder.now }
 {
     has_name(attribute, &folder.attributes)
 }

@@ -13,8 +13,8 @@ use Rattle.mail_header.specs.Lines.{unfolded}
 use Rattle.mail_header.specs.Tokens.{IsComment, IsQuoted, IsToken}
 use Rattle.mail_header.specs.reading.TokenReading.{spelled_in}
 use Rattle.mail_header.proofs.OneToken.{token_reader}
-use Rattle.mime_fields.specs.ContentIds.{is_visible, is_opener, IsUnclosed, IsUnit, White, Comment, Quoted, Octet, Unclosed, IsWithoutGaps}
-use Rattle.mime_fields.specs.reading.IdUnits.{BeginsWithOpener, Takes}
+use Rattle.mime_fields.specs.ContentIds.{is_visible_octet, is_opener, IsUnclosed, IsUnit, White, Comment, Quoted, Octet, Unclosed, IsWithoutGaps}
+use Rattle.mime_fields.specs.reading.IdUnits.{BeginsWithOpener, TakesUnit}
 
 -- ---- a text begins with one unit at most
 
@@ -89,14 +89,14 @@ from_octet c s _ _ t e i j (Octet d _ k l) = let q = ap (λ (u : ℕ). u ∷ [])
 from_octet c s _ _ _ e i j (Unclosed d u o n) = absurd (no_opener c d j (heads c d s (u ++ []) e) o)
 
 from_unclosed : (c : ℕ) (u w y t : List ℕ) → (c ∷ u) ++ [] ≡ y ++ t → is_opener c ≡ true → IsUnclosed (c ∷ u) → IsUnit w y t
-    → SameStart (filter is_visible (c ∷ u)) w (c ∷ u) y [] t
+    → SameStart (filter is_visible_octet (c ∷ u)) w (c ∷ u) y [] t
 from_unclosed c u _ _ t e o n (White d _ j) = absurd (white_no_opener d c j (heads d c t (u ++ []) (sym e)) o)
 from_unclosed c u _ _ t e o n (Comment y _ j) = absurd (n.comment y t j (sym (append-nil (c ∷ u)) ∙ e))
 from_unclosed c u _ _ t e o n (Quoted y _ j) = absurd (n.quoted y t j (sym (append-nil (c ∷ u)) ∙ e))
 from_unclosed c u _ _ t e o n (Octet d _ j k) = absurd (no_opener d c k (heads d c t (u ++ []) (sym e)) o)
 from_unclosed c u _ _ _ e o n (Unclosed d v p m) =
     let q : c ∷ u ≡ d ∷ v = sym (append-nil (c ∷ u)) ∙ e ∙ append-nil (d ∷ v) in
-    same (filter is_visible (c ∷ u)) (filter is_visible (d ∷ v)) (c ∷ u) (d ∷ v) [] [] e (ap (filter is_visible) q) q
+    same (filter is_visible_octet (c ∷ u)) (filter is_visible_octet (d ∷ v)) (c ∷ u) (d ∷ v) [] [] e (ap (filter is_visible_octet) q) q
 
 one_unit : (v w x y s t : List ℕ) → x ++ s ≡ y ++ t → IsUnit v x s → IsUnit w y t → SameStart v w x y s t
 one_unit _ w _ y s t e (White c _ i) u = from_white c s w y t e i u
@@ -126,7 +126,7 @@ pub record Gathered (kept rest b : List ℕ) : Type 0 where
 pub nothing_gathered : (b : List ℕ) → Gathered [] b b
 nothing_gathered b = record { units = []; behind = begins IsUnit b; kept_are = refl }
 
-pub gathered_more : (old new rest more b : List ℕ) → Gathered old rest b → Takes rest more old new → Gathered new more b
+pub gathered_more : (old new rest more b : List ℕ) → Gathered old rest b → TakesUnit rest more old new → Gathered new more b
 gathered_more old new rest more b g t = record {
   units = g.units ++ t.kept ∷ [];
   behind = one_more unit_determined g.units t.kept t.unit more rest b g.behind t.whole t.is;
@@ -138,7 +138,7 @@ gathered_more old new rest more b g t = record {
 pub gathered_all : (kept rest b text : List ℕ) → Gathered kept rest b → rest ≡ [] → text ≡ unfolded kept → IsWithoutGaps text b
 gathered_all kept rest b text g e h = record { units = g.units; are = all_done g.units rest b g.behind e; kept_is = h ∙ ap unfolded g.kept_are }
 
-pub takes_some : (text rest old new : List ℕ) → Takes text rest old new → length rest < length text
+pub takes_some : (text rest old new : List ℕ) → TakesUnit text rest old new → length rest < length text
 takes_some text rest old new t = by t.unit (some_unit t.kept t.unit rest t.is) t.whole
   where
     by : (x : List ℕ) → x ≢ [] → text ≡ x ++ rest → length rest < length text
@@ -147,29 +147,29 @@ takes_some text rest old new t = by t.unit (some_unit t.kept t.unit rest t.is) t
 
 -- ---- steps
 
-pub takes_octet : (text rest old new : List ℕ) (c : ℕ) → text ≡ c ∷ rest → is_opener c ≡ false → new ≡ old ++ filter is_visible (c ∷ []) → Takes text rest old new
+pub takes_octet : (text rest old new : List ℕ) (c : ℕ) → text ≡ c ∷ rest → is_opener c ≡ false → new ≡ old ++ filter is_visible_octet (c ∷ []) → TakesUnit text rest old new
 takes_octet text rest old new c e o h = by (is_white c) refl
   where
-    by : (q : Bool) → is_white c ≡ q → Takes text rest old new
+    by : (q : Bool) → is_white c ≡ q → TakesUnit text rest old new
     by true w = record { kept = []; unit = c ∷ []; whole = e; is = White c rest w; added = h ∙ ap (λ (p : Bool). old ++ cond (Rattle.std.specs.Prelude.not p) (c ∷ []) []) w }
     by false w = record { kept = c ∷ []; unit = c ∷ []; whole = e; is = Octet c rest w o; added = h ∙ ap (λ (p : Bool). old ++ cond (Rattle.std.specs.Prelude.not p) (c ∷ []) []) w }
 
 pub begins_with_opener : (text rest : List ℕ) (c : ℕ) → text ≡ c ∷ rest → is_opener c ≡ true → BeginsWithOpener text
 begins_with_opener text rest c e o = let P : List ℕ → Type 0 = λ t. BeginsWithOpener t in subst P (sym e) o
 
-pub takes_comment : (text x rest old : List ℕ) → IsComment x → text ≡ x ++ rest → Takes text rest old old
+pub takes_comment : (text x rest old : List ℕ) → IsComment x → text ≡ x ++ rest → TakesUnit text rest old old
 takes_comment text x rest old b e = record { kept = []; unit = x; whole = e; is = Comment x rest b; added = sym (append-nil old) }
 
-pub takes_quoted : (text x rest old new : List ℕ) → IsQuoted x → text ≡ x ++ rest → new ≡ old ++ x → Takes text rest old new
+pub takes_quoted : (text x rest old new : List ℕ) → IsQuoted x → text ≡ x ++ rest → new ≡ old ++ x → TakesUnit text rest old new
 takes_quoted text x rest old new b e h = record { kept = x; unit = x; whole = e; is = Quoted x rest b; added = h }
 
 pub takes_rest : (text rest old new : List ℕ) → BeginsWithOpener text → ((x y : List ℕ) → IsComment x → text ≢ x ++ y) → ((x y : List ℕ) → IsQuoted x → text ≢ x ++ y)
-    → rest ≡ [] → new ≡ old ++ filter is_visible text → Takes text rest old new
+    → rest ≡ [] → new ≡ old ++ filter is_visible_octet text → TakesUnit text rest old new
 takes_rest [] rest old new o n m e h = absurd o
 takes_rest (c ∷ t) rest old new o n m e h =
-    let P : List ℕ → Type 0 = λ r. Takes (c ∷ t) r old new in
+    let P : List ℕ → Type 0 = λ r. TakesUnit (c ∷ t) r old new in
     subst P (sym e) (record {
-      kept = filter is_visible (c ∷ t);
+      kept = filter is_visible_octet (c ∷ t);
       unit = c ∷ t;
       whole = sym (append-nil (c ∷ t));
       is = Unclosed c t o (record { comment = n; quoted = m });

@@ -14,14 +14,14 @@ use Rattle.mime_fields.specs.declared.header.PartHeader.{PartHeader}
 use Rattle.mime_fields.proofs.IdLemmas.{one_kept}
 use Rattle.mime_fields.specs.ContentIds.{IsWithoutAngles, InAngles, Bare}
 use Rattle.mime_fields.specs.ContentTypes.{media_in, behind_media}
-use Rattle.mime_fields.specs.Dispositions.{token_in, IsName}
+use Rattle.mime_fields.specs.Dispositions.{token_in, IsFileName}
 use Rattle.mime_fields.specs.Parameters.{parameter}
-use Rattle.mime_fields.specs.PartHeaders.{octets_of, HasLexemes, extended_name, written_name, trimmed, IsTrimmedTextOf, IsIdOf, mechanism, IsPartHeader}
+use Rattle.mime_fields.specs.PartHeaders.{field_octets, HasLexemes, extended_name, written_name, trimmed, IsTrimmedTextOf, IsIdOf, mechanism, IsPartHeader}
 
 one_lexemes : (f : List NameAndRaw) (name : List ℕ) (x y : List Spelled) → HasLexemes f name x → HasLexemes f name y → x ≡ y
-one_lexemes f name x y g h = one_leading_lexemes alphabet.Mime x y (octets_of f name) g h
+one_lexemes f name x y g h = one_leading_lexemes alphabet.Mime x y (field_octets f name) g h
 
-one_name : (extended written x y : Option (List ℕ)) → IsName extended written x → IsName extended written y → x ≡ y
+one_name : (extended written x y : Option (List ℕ)) → IsFileName extended written x → IsFileName extended written y → x ≡ y
 one_name (Some e) w x y g h = g ∙ sym h
 one_name None None x y g h = g ∙ sym h
 one_name None (Some w) x y g h = g.2 ∙ ap (λ (u : List ℕ). Some u) (one_text false (raw_form w) g.0 h.0 g.1 h.1) ∙ sym h.2
@@ -53,8 +53,8 @@ one_part_header f g h i j =
     let t = one_lexemes f (codes "content-type") i.content_type j.content_type i.has_content_type j.has_content_type in
     let d = one_lexemes f (codes "content-disposition") i.content_disposition j.content_disposition i.has_content_disposition j.has_content_disposition in
     let e = one_lexemes f (codes "content-transfer-encoding") i.transfer_encoding j.transfer_encoding i.has_transfer_encoding j.has_transfer_encoding in
-    let n = subst (λ (u : List Spelled). IsName (extended_name u) (written_name u i.content_type) g.name) d i.name in
-    let m = subst (λ (u : List Spelled). IsName (extended_name j.content_disposition) (written_name j.content_disposition u) g.name) t n in
+    let n = subst (λ (u : List Spelled). IsFileName (extended_name u) (written_name u i.content_type) g.name) d i.name in
+    let m = subst (λ (u : List Spelled). IsFileName (extended_name j.content_disposition) (written_name j.content_disposition u) g.name) t n in
     record_same _ _ _ _ _ _ _ _ _ _ _ _ _ _ _ _ _ _
     (i.media ∙ ap media_in t ∙ sym j.media)
     (i.boundary ∙ ap (λ u. parameter (codes "boundary") (behind_media u)) t ∙ sym j.boundary)

@@ -8,8 +8,8 @@ use Rattle.mail_header.specs.Names.{some_text}
 use Rattle.mail_header.specs.RawForms.{raw_form}
 use Rattle.mail_header.specs.Tokens.{IsComment, IsQuoted}
 
-abbrev pub is_visible : ℕ → Bool
-is_visible c = not (is_white c)
+abbrev pub is_visible_octet : ℕ → Bool
+is_visible_octet c = not (is_white c)
 
 -- a parenthesis or a quote
 abbrev pub is_opener : ℕ → Bool
@@ -26,7 +26,7 @@ pub data IsUnit : List ℕ → List ℕ → List ℕ → Type 0 where
   Comment : (x rest : List ℕ) → IsComment x → IsUnit [] x rest
   Quoted : (x rest : List ℕ) → IsQuoted x → IsUnit x x rest
   Octet : (c : ℕ) (rest : List ℕ) → is_white c ≡ false → is_opener c ≡ false → IsUnit (c ∷ []) (c ∷ []) rest
-  Unclosed : (c : ℕ) (t : List ℕ) → is_opener c ≡ true → IsUnclosed (c ∷ t) → IsUnit (filter is_visible (c ∷ t)) (c ∷ t) []
+  Unclosed : (c : ℕ) (t : List ℕ) → is_opener c ≡ true → IsUnclosed (c ∷ t) → IsUnit (filter is_visible_octet (c ∷ t)) (c ∷ t) []
 
 -- what is kept of a text: white space in quoted texts stays, but ends of lines don't
 pub record IsWithoutGaps (kept t : List ℕ) : Type 0 where

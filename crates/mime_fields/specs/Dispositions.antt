@@ -27,7 +27,7 @@ pub record IsDisposition (lexemes : List Spelled) (d : Disposition) : Type 0 whe
 -- ---- names
 
 -- the name in an extended value, else the one as it is written, as a text in which encoded words are decoded
-abbrev pub IsName : Option (List ℕ) → Option (List ℕ) → Option (List ℕ) → Type 0
-IsName (Some extended) written name = name ≡ Some extended
-IsName None None name = name ≡ None
-IsName None (Some written) name = (text : List ℕ) × IsText false (raw_form written) text × (name ≡ Some text)
+abbrev pub IsFileName : Option (List ℕ) → Option (List ℕ) → Option (List ℕ) → Type 0
+IsFileName (Some extended) written name = name ≡ Some extended
+IsFileName None None name = name ≡ None
+IsFileName None (Some written) name = (text : List ℕ) × IsText false (raw_form written) text × (name ≡ Some text)

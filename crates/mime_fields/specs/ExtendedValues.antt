@@ -9,13 +9,13 @@ use Rattle.percent_encoding.specs.Percent.{percent_decode}
 abbrev pub is_no_apostrophe : ℕ → Bool
 is_no_apostrophe c = not (c == 39)
 
-abbrev pub behind_first : List ℕ → Option (List ℕ)
-behind_first [] = None
-behind_first (c ∷ t) = Some t
+abbrev pub after_first : List ℕ → Option (List ℕ)
+after_first [] = None
+after_first (c ∷ t) = Some t
 
 -- what follows the first apostrophe
 abbrev pub behind_apostrophe : List ℕ → Option (List ℕ)
-behind_apostrophe t = behind_first (back is_no_apostrophe t)
+behind_apostrophe t = after_first (back is_no_apostrophe t)
 
 -- the text of the octets after the second apostrophe, in the charset before the first
 abbrev pub extended_text : List ℕ → Option (List ℕ)

@@ -11,18 +11,18 @@ use Rattle.mail_header.specs.RawForms.{raw_form, IsTextForm}
 use Rattle.mail_header.specs.Tokens.{Spelled}
 use Rattle.mime_fields.specs.ContentIds.{IsContentId}
 use Rattle.mime_fields.specs.ContentTypes.{media_in, behind_media}
-use Rattle.mime_fields.specs.Dispositions.{token_in, behind_token, IsName}
+use Rattle.mime_fields.specs.Dispositions.{token_in, behind_token, IsFileName}
 use Rattle.mime_fields.specs.ExtendedValues.{extended_text}
 use Rattle.mime_fields.specs.Parameters.{parameter}
 use Rattle.mime_fields.specs.declared.header.PartHeader.{PartHeader}
 
 -- the octets of the field of this name; a field that is missing has none
-abbrev pub octets_of : List NameAndRaw → List ℕ → List ℕ
-octets_of fields name = unwrap_or (last_named name fields) []
+abbrev pub field_octets : List NameAndRaw → List ℕ → List ℕ
+field_octets fields name = unwrap_or (last_named name fields) []
 
 -- the lexemes at their front
 abbrev pub HasLexemes : List NameAndRaw → List ℕ → List Spelled → Type 0
-HasLexemes fields name lexemes = AreLeadingLexemes alphabet.Mime lexemes (octets_of fields name)
+HasLexemes fields name lexemes = AreLeadingLexemes alphabet.Mime lexemes (field_octets fields name)
 
 -- the text without white space at its ends
 abbrev pub trimmed : List ℕ → List ℕ
@@ -62,7 +62,7 @@ pub record IsPartHeader (fields : List NameAndRaw) (h : PartHeader) : Type 0 whe
   pub boundary : h.boundary ≡ parameter (codes "boundary") (behind_media content_type)
   pub charset : h.charset ≡ option_map raw_form (parameter (codes "charset") (behind_media content_type))
   pub disposition : h.disposition ≡ token_in content_disposition
-  pub name : IsName (extended_name content_disposition) (written_name content_disposition content_type) h.name
+  pub name : IsFileName (extended_name content_disposition) (written_name content_disposition content_type) h.name
   pub cid : IsIdOf (last_named (codes "content-id") fields) h.cid
   pub language : h.language ≡ option_map raw_form (last_named (codes "content-language") fields)
   pub location : IsTrimmedTextOf (last_named (codes "content-location") fields) h.location

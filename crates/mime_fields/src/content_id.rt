@@ -37,7 +37,7 @@ fn without_gaps(alloc: Global, text: &[u8]) -> Result<Vec<u8>, AllocError>
 /// Adds what is kept of the unit at the front. Gives what follows it.
 fn push_unit<'a>(kept: &mut Vec<u8>, text: &'a [u8]) -> Result<&'a [u8], AllocError>
     requires { 0 < length text.now }
-    ensures { IfOk result (λ r. reading.Takes text.now r.now kept.old.items kept.new.items) }
+    ensures { IfOk result (λ r. reading.TakesUnit text.now r.now kept.old.items kept.new.items) }
 {
     match first(text) {
         None => unreachable!(),
@@ -55,7 +55,7 @@ fn push_unit<'a>(kept: &mut Vec<u8>, text: &'a [u8]) -> Result<&'a [u8], AllocEr
 /// are no white space: so each octet is looked at once. Gives what follows.
 fn push_bracket<'a>(kept: &mut Vec<u8>, text: &'a [u8]) -> Result<&'a [u8], AllocError>
     requires { reading.BeginsWithOpener text.now }
-    ensures { IfOk result (λ r. reading.Takes text.now r.now kept.old.items kept.new.items) }
+    ensures { IfOk result (λ r. reading.TakesUnit text.now r.now kept.old.items kept.new.items) }
 {
     if let Some((_, rest)) = comment_at(text) {
         return Ok(rest);
@@ -77,7 +77,7 @@ fn is_opener(octet: u8) -> bool
 
 /// Adds the octet, unless it is white space.
 fn push_octet(kept: &mut Vec<u8>, octet: u8) -> Result<(), AllocError>
-    ensures { OnOk result (kept.new.items ≡ kept.old.items ++ filter ids.is_visible (octet ∷ [])) }
+    ensures { OnOk result (kept.new.items ≡ kept.old.items ++ filter ids.is_visible_octet (octet ∷ [])) }
 {
     if !is_white(octet) {
         kept.push(octet)?;
@@ -87,7 +87,7 @@ fn push_octet(kept: &mut Vec<u8>, octet: u8) -> Result<(), AllocError>
 
 /// Adds the octets that are no white space.
 fn push_visible(kept: &mut Vec<u8>, text: &[u8]) -> Result<(), AllocError>
-    ensures { OnOk result (kept.new.items ≡ kept.old.items ++ filter ids.is_visible text.now) }
+    ensures { OnOk result (kept.new.items ≡ kept.old.items ++ filter ids.is_visible_octet text.now) }
 {
     for octet in text {
         push_octet(kept, *octet)?;

@@ -74,7 +74,7 @@ pub(crate) fn name_of(
     extended: Option<Bytes>,
     written: Option<Bytes>,
 ) -> Result<Option<Bytes>, AllocError>
-    ensures { IfOk result (λ n. dispositions.IsName extended written n) }
+    ensures { IfOk result (λ n. dispositions.IsFileName extended written n) }
 {
     match extended {
         Some(name) => Ok(Some(name)),
@@ -83,7 +83,7 @@ pub(crate) fn name_of(
 }
 
 fn decoded(alloc: Global, written: Option<Bytes>) -> Result<Option<Bytes>, AllocError>
-    ensures { IfOk result (λ n. dispositions.IsName None written n) }
+    ensures { IfOk result (λ n. dispositions.IsFileName None written n) }
 {
     match written {
         None => Ok(None),

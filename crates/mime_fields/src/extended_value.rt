@@ -23,7 +23,7 @@ impl Class<u8> for NoApostrophe {
 
 /// What follows the first octet.
 fn behind_first(text: &[u8]) -> Option<&[u8]>
-    ensures { MatchOption result (values.behind_first text.now ≡ None) (λ t. values.behind_first text.now ≡ Some t.now) }
+    ensures { MatchOption result (values.after_first text.now ≡ None) (λ t. values.after_first text.now ≡ Some t.now) }
 {
     match text {
         [] => None,

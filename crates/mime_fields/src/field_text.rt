@@ -13,7 +13,7 @@ use text_words::{White, cut};
 
 /// The octets of the last field of this name, none where there is no such field.
 pub(crate) fn octets_of<'a>(fields: &Fields<'a>, name: &[u8]) -> &'a [u8]
-    ensures { result.now ≡ headers.octets_of (names_and_raws fields.now) name.now }
+    ensures { result.now ≡ headers.field_octets (names_and_raws fields.now) name.now }
 {
     match fields.last(name) {
         None => &[],

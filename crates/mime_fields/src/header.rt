@@ -49,7 +49,7 @@ fn id_of(alloc: Global, fields: &Fields<'_>) -> Result<Option<Bytes>, AllocError
 
 /// The mechanism of Content-Transfer-Encoding, where there is the field.
 fn transfer_encoding(alloc: Global, fields: &Fields<'_>) -> Result<Option<Bytes>, AllocError>
-    ensures { IfOk result (λ e. e ≡ headers.mechanism (last_named (codes "content-transfer-encoding") (names_and_raws fields.now)) (mime_lexemes (headers.octets_of (names_and_raws fields.now) (codes "content-transfer-encoding")))) }
+    ensures { IfOk result (λ e. e ≡ headers.mechanism (last_named (codes "content-transfer-encoding") (names_and_raws fields.now)) (mime_lexemes (headers.field_octets (names_and_raws fields.now) (codes "content-transfer-encoding")))) }
 {
     match fields.last(b"content-transfer-encoding") {
         None => Ok(None),

@@ -8,7 +8,7 @@ use Rattle.mime_tree.specs.declared.lists.BodyLists.{BodyLists}
 use Rattle.mime_tree.specs.Parts.{children}
 use Rattle.mime_tree.specs.Roles.{is_leaf, leaf_number, is_downloadable, is_inline}
 use Rattle.mime_tree.specs.BodyLists.{PartLists, nothing, both, at_leaf, lists_of, meeting, leaf_lists, into, next, spread, Walks, End, Multi, Leaf}
-use Rattle.mime_tree.specs.reading.ListBuilding.{Gains, GainsBy, GainsBelow}
+use Rattle.mime_tree.specs.reading.ListBuilding.{GainsParts, GainsBy, GainsBelow}
 
 map_both : (a b : List Part) → map leaf_number (a ++ b) ≡ map leaf_number a ++ map leaf_number b
 map_both [] b = refl
@@ -37,7 +37,7 @@ attaches old mid new a b first second =
     second ∙ ap (λ (t : Bool). t || list_any is_downloadable b) first
     ∙ sym (or_assoc old (list_any is_downloadable a) (list_any is_downloadable b)) ∙ ap (λ (t : Bool). old || t) (sym (any_both a b))
 
-gains_both : {old mid new : BodyLists} {a b : PartLists} → Gains old mid a → Gains mid new b → Gains old new (both a b)
+gains_both : {old mid new : BodyLists} {a b : PartLists} → GainsParts old mid a → GainsParts mid new b → GainsParts old new (both a b)
 gains_both {old} {mid} {new} {a} {b} first second =
     record {
       text = grows old.text mid.text new.text a.text b.text first.text second.text;
@@ -46,7 +46,7 @@ gains_both {old} {mid} {new} {a} {b} first second =
       has_attachment = attaches old.has_attachment mid.has_attachment new.has_attachment a.attachments b.attachments first.has_attachment second.has_attachment;
     }
 
-gains_nothing : (old : BodyLists) → Gains old old nothing
+gains_nothing : (old : BodyLists) → GainsParts old old nothing
 gains_nothing old =
     record {
       text = sym (append-nil old.text);
@@ -76,7 +76,7 @@ so_far_multi {walk = walk} {now = now} p ps mid is so_far no_leaf below =
     }
 
 pub so_far_leaf : {whole walk : Walk} {all left : List Part} {old now : BodyLists} (p : Part) (ps : List Part) (mid : BodyLists) → left ≡ p ∷ ps → SoFar whole walk all left old now
-    → is_leaf p ≡ true → Gains now mid (leaf_lists walk p) → SoFar whole (next (meeting walk p)) all ps old mid
+    → is_leaf p ≡ true → GainsParts now mid (leaf_lists walk p) → SoFar whole (next (meeting walk p)) all ps old mid
 so_far_leaf {walk = walk} {now = now} p ps mid is so_far leaf gains =
     record {
       forth = λ new behind.
@@ -89,13 +89,13 @@ so_far_leaf {walk = walk} {now = now} p ps mid is so_far leaf gains =
     }
 
 pub so_far_met : {whole walk : Walk} {all left : List Part} {old now : BodyLists} (met : Walk) (inline : Bool) (p : Part) (ps : List Part) (mid : BodyLists) → left ≡ p ∷ ps
-    → SoFar whole walk all left old now → is_leaf p ≡ true → inline ≡ is_inline walk p → met ≡ at_leaf walk inline p → Gains now mid (lists_of met inline p)
+    → SoFar whole walk all left old now → is_leaf p ≡ true → inline ≡ is_inline walk p → met ≡ at_leaf walk inline p → GainsParts now mid (lists_of met inline p)
     → SoFar whole (next met) all ps old mid
 so_far_met {whole} {walk} {all} {left} {old} {now} met inline p ps mid is so_far leaf is_so meets gains =
     let so : met ≡ meeting walk p = meets ∙ ap (λ (t : Bool). at_leaf walk t p) is_so in
     let P : Walk → Type 0 = λ w. SoFar whole (next w) all ps old mid in
-    let Q : Bool → Type 0 = λ t. Gains now mid (lists_of met t p) in
-    let R : Walk → Type 0 = λ w. Gains now mid (lists_of w (is_inline walk p) p) in
+    let Q : Bool → Type 0 = λ t. GainsParts now mid (lists_of met t p) in
+    let R : Walk → Type 0 = λ w. GainsParts now mid (lists_of w (is_inline walk p) p) in
     subst P (sym so) (so_far_leaf p ps mid is so_far leaf (subst R so (subst Q is_so gains)))
 
 pub so_far_same : {whole walk : Walk} {all left : List Part} {old now : BodyLists} (walk' : Walk) (now' : BodyLists) → walk' ≡ walk → now' ≡ now → SoFar whole walk all left old now
@@ -111,10 +111,10 @@ so_far_done {walk = walk} {now = now} is so_far =
     so_far.forth now (subst P (sym is) (record { parts = nothing; walks = End walk; gains = gains_nothing now }))
 
 pub below_of : (walk inner : Walk) (p : Part) (kids : List Part) (old mid new : BodyLists) (text html : ℕ) → kids ≡ children p → inner ≡ into walk p → GainsBy inner kids old mid
-    → length old.text ≡ text → length old.html ≡ html → ((old : BodyLists) (a : PartLists) → length old.text ≡ text → length old.html ≡ html → Gains old mid a
-    → Gains old new (spread inner a)) → GainsBelow walk p old new
+    → length old.text ≡ text → length old.html ≡ html → ((old : BodyLists) (a : PartLists) → length old.text ≡ text → length old.html ≡ html → GainsParts old mid a
+    → GainsParts old new (spread inner a)) → GainsBelow walk p old new
 below_of walk inner p kids old mid new text html same is by long_text long_html spreads =
     let P : Walk → Type 0 = λ w. Walks w (children p) by.parts in
     let Q : List Part → Type 0 = λ l. Walks inner l by.parts in
-    let R : Walk → Type 0 = λ w. Gains old new (spread w by.parts) in
+    let R : Walk → Type 0 = λ w. GainsParts old new (spread w by.parts) in
     record { parts = by.parts; walks = subst P is (subst Q same by.walks); gains = subst R is (spreads old by.parts long_text long_html by.gains) }

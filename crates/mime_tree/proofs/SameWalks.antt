@@ -7,18 +7,18 @@ use Rattle.text_words.specs.Octets.{is_same_text}
 use Rattle.mime_tree.specs.declared.lists.BodyLists.{BodyLists}
 use Rattle.mime_tree.specs.declared.part.Part.{Part, out-Part}
 use Rattle.mime_tree.specs.declared.roles.Walk.{Walk}
-use Rattle.mime_tree.specs.Parts.{children, number_of}
+use Rattle.mime_tree.specs.Parts.{children, part_number}
 use Rattle.mime_tree.specs.SameTrees.{AllSame, SamePart, NoPart, Same}
 use Rattle.mime_tree.specs.Roles as roles
 use Rattle.mime_tree.specs.BodyLists as body
 use Rattle.mime_tree.specs.Roles.{leaf_number, is_downloadable, is_leaf, is_inline, is_alternative, media}
-use Rattle.mime_tree.specs.BodyLists.{PartLists, meeting, start, AreBodyLists, nothing, both, alone, or_else, shared, leaf_lists, into, next, spread, Walks, End, Multi, Leaf}
+use Rattle.mime_tree.specs.BodyLists.{PartLists, meeting, start, AreBodyLists, nothing, both, wanted_part, or_else, shared, leaf_lists, into, next, spread, Walks, End, Multi, Leaf}
 use Rattle.mime_tree.proofs.OneWalk.{ends, lists_eq}
 
 -- ---- what the walk sees of a part
 
 pub record Twin (p q : Part) : Type 0 where
-  pub number : number_of p ≡ number_of q
+  pub number : part_number p ≡ part_number q
   pub media : media p ≡ media q
   pub disposition : (out-Part p).disposition ≡ (out-Part q).disposition
   pub name : (out-Part p).name ≡ (out-Part q).name
@@ -26,13 +26,13 @@ pub record Twin (p q : Part) : Type 0 where
 is_disposed_twin : {p q : Part} (word : List ℕ) → Twin p q → roles.is_disposed p word ≡ roles.is_disposed q word
 is_disposed_twin word t = ap (λ (d : Option (List ℕ)). option_map_or (λ (x : List ℕ). is_same_text x word) d false) t.disposition
 
-is_plain_twin : {p q : Part} → Twin p q → roles.is_plain p ≡ roles.is_plain q
+is_plain_twin : {p q : Part} → Twin p q → roles.is_plain_part p ≡ roles.is_plain_part q
 is_plain_twin t = ap (λ (m : List ℕ). is_same_text m (codes "text/plain")) t.media
 
 is_html_twin : {p q : Part} → Twin p q → roles.is_html p ≡ roles.is_html q
 is_html_twin t = ap (λ (m : List ℕ). is_same_text m (codes "text/html")) t.media
 
-is_media_twin : {p q : Part} → Twin p q → roles.is_media p ≡ roles.is_media q
+is_media_twin : {p q : Part} → Twin p q → roles.is_media_part p ≡ roles.is_media_part q
 is_media_twin t = ap (λ (m : List ℕ). roles.is_type m (codes "image") || roles.is_type m (codes "audio") || roles.is_type m (codes "video")) t.media
 
 is_downloadable_twin : {p q : Part} → Twin p q → is_downloadable p ≡ is_downloadable q
@@ -73,7 +73,7 @@ twins_or_else [] b (q ∷ c) d none others = absurd none
 twins_or_else (p ∷ a) b [] d none others = absurd none
 twins_or_else (p ∷ a) b (q ∷ c) d twins others = twins
 
-twins_alone : {p q : Part} (wanted : Bool) → Twin p q → AllSame Twin (alone wanted p) (alone wanted q)
+twins_alone : {p q : Part} (wanted : Bool) → Twin p q → AllSame Twin (wanted_part wanted p) (wanted_part wanted q)
 twins_alone true t = (t, tt)
 twins_alone false t = tt
 
@@ -124,11 +124,11 @@ alike_leaf {p} {q} walk inline t =
     let as_text : Alike (body.to_text p) (body.to_text q) = record { text = (t, tt); html = tt; attachments = tt } in
     let as_html : Alike (body.to_html p) (body.to_html q) = record { text = tt; html = (t, tt); attachments = tt } in
     let too = ap (λ (m : Bool). m && not (walk.text && walk.html)) (is_media_twin t) in
-    let P : Bool → Type 0 = λ b. AllSame Twin (alone (roles.is_media p && not (walk.text && walk.html)) p) (alone b q) in
+    let P : Bool → Type 0 = λ b. AllSame Twin (wanted_part (roles.is_media_part p && not (walk.text && walk.html)) p) (wanted_part b q) in
     let shown : Alike (body.to_open_lists walk p) (body.to_open_lists walk q) = record {
       text = twins_alone walk.text t;
       html = twins_alone walk.html t;
-      attachments = subst P too (twins_alone (roles.is_media p && not (walk.text && walk.html)) t);
+      attachments = subst P too (twins_alone (roles.is_media_part p && not (walk.text && walk.html)) t);
     } in
     alike_if _ _ _ _ _ _ refl attached
     (alike_if _ _ _ _ _ _ refl

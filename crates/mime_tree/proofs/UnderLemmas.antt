@@ -4,7 +4,7 @@ use Rattle.std.specs.Prelude.{slice_range, Contains}
 use Rattle.mime_tree.specs.declared.head.Head.{Head}
 use Rattle.mime_tree.specs.declared.split.Piece.{Piece}
 use Rattle.mime_tree.specs.declared.part.Part.{Part}
-use Rattle.mime_tree.specs.Parts.{children, number_of, IsUnder, Itself, Below, IsWithin}
+use Rattle.mime_tree.specs.Parts.{children, part_number, IsUnder, Itself, Below, IsWithin}
 use Rattle.mime_tree.specs.Splits.{AreBehind}
 use Rattle.mime_tree.specs.Heads.{IsHead, boundary_of, default_in}
 use Rattle.mime_tree.specs.Trees.{HasHead, IsLeaf, IsNode, AreTrees, ArePieces, IsPartOf, IsTree}
@@ -51,11 +51,11 @@ under_leaf q p e u = by (itself_or_below q p u)
     by (inl i) = i
     by (inr h) = let P : List Part → Type 0 = λ cs. UnderOne q cs in absurd (none_under q (subst P e h))
 
-under_node : (q p : Part) (n : ℕ) → number_of p ≡ None → number_of q ≡ Some n → IsUnder q p → UnderOne q (children p)
+under_node : (q p : Part) (n : ℕ) → part_number p ≡ None → part_number q ≡ Some n → IsUnder q p → UnderOne q (children p)
 under_node q p n e f u = by (itself_or_below q p u)
   where
     by : (q ≡ p) ⊎ UnderOne q (children p) → UnderOne q (children p)
-    by (inl i) = let w = sym f ∙ ap (λ (x : Part). number_of x) i ∙ e in absurd cc
+    by (inl i) = let w = sym f ∙ ap (λ (x : Part). part_number x) i ∙ e in absurd cc
     by (inr h) = h
 
 -- ---- places
@@ -120,9 +120,9 @@ tree_within (suc more) b s e d f p n le w t q u = part_within more b (tree_withi
 -- the numbers of the leaves under these parts are those from f to before n, each once
 pub record Numbered (Under : Part → Type 0) (f n : ℕ) : Type 0 where
   pub ordered : f ≤ n
-  pub between : (q : Part) (k : ℕ) → Under q → number_of q ≡ Some k → (f ≤ k) × (k < n)
-  pub one : (q r : Part) (k : ℕ) → Under q → Under r → number_of q ≡ Some k → number_of r ≡ Some k → q ≡ r
-  pub all : (k : ℕ) → f ≤ k → k < n → (q : Part) × Under q × (number_of q ≡ Some k)
+  pub between : (q : Part) (k : ℕ) → Under q → part_number q ≡ Some k → (f ≤ k) × (k < n)
+  pub one : (q r : Part) (k : ℕ) → Under q → Under r → part_number q ≡ Some k → part_number r ≡ Some k → q ≡ r
+  pub all : (k : ℕ) → f ≤ k → k < n → (q : Part) × Under q × (part_number q ≡ Some k)
 
 abbrev IsNumbered : ℕ → List ℕ → Type 0
 IsNumbered more b = (s e : ℕ) (d : List ℕ) (f : ℕ) (p : Part) (n : ℕ) → IsTree more b s e d f p n → Numbered (λ q. IsUnder q p) f n
@@ -144,11 +144,11 @@ more_numbered c cs f m n g h = record {
   all = λ k a b. all k a b (cases k);
 }
   where
-    between : (q : Part) (k : ℕ) → number_of q ≡ Some k → IsUnder q c ⊎ UnderOne q cs → (f ≤ k) × (k < n)
+    between : (q : Part) (k : ℕ) → part_number q ≡ Some k → IsUnder q c ⊎ UnderOne q cs → (f ≤ k) × (k < n)
     between q k i (inl u) = let w = g.between q k u i in (w.0, omega (arith, w.1, h.ordered))
     between q k i (inr u) = let w = h.between q k u i in (omega (arith, w.0, g.ordered), w.1)
 
-    one : (q r : Part) (k : ℕ) → number_of q ≡ Some k → number_of r ≡ Some k → IsUnder q c ⊎ UnderOne q cs → IsUnder r c ⊎ UnderOne r cs → q ≡ r
+    one : (q r : Part) (k : ℕ) → part_number q ≡ Some k → part_number r ≡ Some k → IsUnder q c ⊎ UnderOne q cs → IsUnder r c ⊎ UnderOne r cs → q ≡ r
     one q r k i j (inl u) (inl v) = g.one q r k u v i j
     one q r k i j (inr u) (inr v) = h.one q r k u v i j
     one q r k i j (inl u) (inr v) = let x = g.between q k u i in let y = h.between r k v j in absurd (omega (arith, x.1, y.0))
@@ -157,7 +157,7 @@ more_numbered c cs f m n g h = record {
     cases : (k : ℕ) → (k < m) ⊎ (m ≤ k)
     cases k = cases_lt k m
 
-    all : (k : ℕ) → f ≤ k → k < n → (k < m) ⊎ (m ≤ k) → (q : Part) × UnderOne q (c ∷ cs) × (number_of q ≡ Some k)
+    all : (k : ℕ) → f ≤ k → k < n → (k < m) ⊎ (m ≤ k) → (q : Part) × UnderOne q (c ∷ cs) × (part_number q ≡ Some k)
     all k a b (inl l) = let w = g.all k a l in (w.0, record { child = c; is_there = here c cs; under = w.1 }, w.2)
     all k a b (inr l) = let w = h.all k l b in (w.0, record { child = w.1.child; is_there = later c cs w.1.child w.1.is_there; under = w.1.under }, w.2)
 
@@ -177,8 +177,8 @@ leaf_numbered h f p n l = record {
   all = λ k a b. let e : k ≡ f = omega (arith, l.next_is) in (p, Itself, l.number ∙ ap (λ (x : ℕ). Some x) (sym e));
 }
   where
-    number_is : (q : Part) (k : ℕ) → IsUnder q p → number_of q ≡ Some k → f ≡ k
-    number_is q k u i = let w = sym l.number ∙ ap (λ (x : Part). number_of x) (sym (under_leaf q p l.children u)) ∙ i in cc
+    number_is : (q : Part) (k : ℕ) → IsUnder q p → part_number q ≡ Some k → f ≡ k
+    number_is q k u i = let w = sym l.number ∙ ap (λ (x : Part). part_number x) (sym (under_leaf q p l.children u)) ∙ i in cc
 
 node_numbered : (h : Head) (f : ℕ) (p : Part) (n : ℕ) → IsNode h p → Numbered (λ q. UnderOne q (children p)) f n → Numbered (λ q. IsUnder q p) f n
 node_numbered h f p n i g = record {

@@ -7,7 +7,7 @@ use Rattle.mime_tree.specs.declared.roles.Multipart.TheVariants as multipart
 use Rattle.mime_tree.specs.declared.roles.Walk.{Walk}
 use Rattle.mime_tree.specs.declared.lists.BodyLists.{BodyLists}
 use Rattle.mime_tree.specs.Parts.{children}
-use Rattle.mime_tree.specs.Roles.{media, is_plain, is_html, is_media, is_downloadable, is_leaf, leaf_number, multipart_of, is_alternative, is_inline}
+use Rattle.mime_tree.specs.Roles.{media, is_plain_part, is_html, is_media_part, is_downloadable, is_leaf, leaf_number, multipart_of, is_alternative, is_inline}
 
 pub record PartLists : Type 0 where
   pub text : List Part
@@ -22,8 +22,8 @@ abbrev pub both : PartLists → PartLists → PartLists
 both a b = record { text = a.text ++ b.text; html = a.html ++ b.html; attachments = a.attachments ++ b.attachments }
 
 -- the part, where it is wanted
-abbrev pub alone : Bool → Part → List Part
-alone wanted p = if wanted then p ∷ [] else []
+abbrev pub wanted_part : Bool → Part → List Part
+wanted_part wanted p = if wanted then p ∷ [] else []
 
 abbrev pub to_text : Part → PartLists
 to_text p = record { text = p ∷ []; html = []; attachments = [] }
@@ -40,7 +40,7 @@ to_attachments p = record { text = []; html = []; attachments = p ∷ [] }
 -- attachment.
 abbrev pub to_its_list : Walk → Part → PartLists
 to_its_list walk p =
-    if walk.text && is_plain p then to_text p
+    if walk.text && is_plain_part p then to_text p
     else if walk.html && is_html p then to_html p
     else to_attachments p
 
@@ -48,21 +48,21 @@ to_its_list walk p =
 -- or video is an attachment too.
 abbrev pub to_open_lists : Walk → Part → PartLists
 to_open_lists walk p = record {
-  text = alone walk.text p;
-  html = alone walk.html p;
-  attachments = alone (is_media p && not (walk.text && walk.html)) p;
+  text = wanted_part walk.text p;
+  html = wanted_part walk.html p;
+  attachments = wanted_part (is_media_part p && not (walk.text && walk.html)) p;
 }
 
 -- plain text closes the HTML, and HTML the text
-abbrev pub closed : Walk → Part → Walk
-closed walk p = record walk { text = walk.text && not (is_html p); html = walk.html && not (is_plain p) }
+abbrev pub closed_lists : Walk → Part → Walk
+closed_lists walk p = record walk { text = walk.text && not (is_html p); html = walk.html && not (is_plain_part p) }
 
 -- a part closes a list where it is inline within an alternative, but not directly in it
 abbrev pub closes : Walk → Bool → Bool
 closes walk inline = inline && (walk.within && not (is_alternative walk.multipart))
 
 abbrev pub at_leaf : Walk → Bool → Part → Walk
-at_leaf walk inline p = if closes walk inline then closed walk p else walk
+at_leaf walk inline p = if closes walk inline then closed_lists walk p else walk
 
 -- The walk as it meets a leaf: a list is closed for the leaf and the rest of the walk.
 abbrev pub meeting : Walk → Part → Walk

@@ -6,8 +6,8 @@ use Rattle.mime_tree.specs.declared.part.Part.{Part, out-Part}
 abbrev pub children : Part → List Part
 children p = (out-Part p).children.items
 
-abbrev pub number_of : Part → Option ℕ
-number_of p = (out-Part p).number
+abbrev pub part_number : Part → Option ℕ
+part_number p = (out-Part p).number
 
 -- q is p, or stands under a part that is directly in p
 pub data IsUnder (q : Part) : Part → Type 0 where

@@ -7,14 +7,14 @@ use Rattle.mime_tree.specs.declared.part.Part.{Part, out-Part}
 use Rattle.mime_tree.specs.declared.roles.Multipart.{Multipart}
 use Rattle.mime_tree.specs.declared.roles.Multipart.TheVariants as multipart
 use Rattle.mime_tree.specs.declared.roles.Walk.{Walk}
-use Rattle.mime_tree.specs.Parts.{number_of}
+use Rattle.mime_tree.specs.Parts.{part_number}
 use Rattle.mime_tree.specs.Heads.{type_of}
 
 abbrev pub media : Part → List ℕ
 media p = (out-Part p).media
 
-abbrev pub is_plain : Part → Bool
-is_plain p = is_same_text (media p) (codes "text/plain")
+abbrev pub is_plain_part : Part → Bool
+is_plain_part p = is_same_text (media p) (codes "text/plain")
 
 abbrev pub is_html : Part → Bool
 is_html p = is_same_text (media p) (codes "text/html")
@@ -23,8 +23,8 @@ abbrev pub is_type : List ℕ → List ℕ → Bool
 is_type of_media name = is_same_text (type_of of_media) name
 
 -- an image, audio or video
-abbrev pub is_media : Part → Bool
-is_media p = is_type (media p) (codes "image") || is_type (media p) (codes "audio") || is_type (media p) (codes "video")
+abbrev pub is_media_part : Part → Bool
+is_media_part p = is_type (media p) (codes "image") || is_type (media p) (codes "audio") || is_type (media p) (codes "video")
 
 abbrev pub is_disposed : Part → List ℕ → Bool
 is_disposed p name = option_map_or (λ (d : List ℕ). is_same_text d name) (out-Part p).disposition false
@@ -35,10 +35,10 @@ is_downloadable p = not (is_disposed p (codes "inline"))
 
 -- leaves alone have a number
 abbrev pub is_leaf : Part → Bool
-is_leaf p = is_some (number_of p)
+is_leaf p = is_some (part_number p)
 
 abbrev pub leaf_number : Part → ℕ
-leaf_number p = unwrap_or (number_of p) 0
+leaf_number p = unwrap_or (part_number p) 0
 
 abbrev pub multipart_of : List ℕ → Multipart
 multipart_of of_media =
@@ -60,7 +60,7 @@ is_related multipart.Mixed = false
 
 -- of a type that a body may show
 abbrev pub is_shown : Part → Bool
-is_shown p = is_plain p || is_html p || is_media p
+is_shown p = is_plain_part p || is_html p || is_media_part p
 
 -- an empty name is none
 abbrev pub is_unnamed : Option (List ℕ) → Bool
@@ -70,7 +70,7 @@ is_unnamed (Some (c ∷ t)) = false
 
 -- a text with a name is a file
 abbrev pub is_no_file : Part → Bool
-is_no_file p = is_media p || is_unnamed (out-Part p).name
+is_no_file p = is_media_part p || is_unnamed (out-Part p).name
 
 -- It is the first part of its multipart. After that no part of a related multipart is inline, and no file.
 abbrev pub has_place : Walk → Part → Bool

@@ -32,7 +32,7 @@ pub record InPart (Behind : ℕ → List (List ℕ) → Type 0) (b boundary : Li
   pub behind : Behind (at + size inner) rest
 
 -- a delimiter line, and the part after it
-pub record IsPart (Behind : ℕ → List (List ℕ) → Type 0) (b boundary : List ℕ) (at : ℕ) (p : Piece) (t : List (List ℕ)) : Type 0 where
+pub record IsSplitPart (Behind : ℕ → List (List ℕ) → Type 0) (b boundary : List ℕ) (at : ℕ) (p : Piece) (t : List (List ℕ)) : Type 0 where
   pub line : List ℕ
   pub lines : List (List ℕ)
   pub whole : t ≡ line ∷ lines
@@ -52,7 +52,7 @@ IsEnd boundary (l ∷ ls) = IsClosed boundary (l ∷ ls)
 -- the parts of the lines t, of which the first begins at offset at of b
 abbrev pub AreParts : List ℕ → List ℕ → List Piece → ℕ → List (List ℕ) → Type 0
 AreParts b boundary [] at t = IsEnd boundary t
-AreParts b boundary (p ∷ ps) at t = IsPart (AreParts b boundary ps) b boundary at p t
+AreParts b boundary (p ∷ ps) at t = IsSplitPart (AreParts b boundary ps) b boundary at p t
 
 -- what follows the preamble: nothing, where no delimiter comes; a closing line; or parts
 abbrev pub Follows : List ℕ → List ℕ → Option (List Piece) → ℕ → List (List ℕ) → Type 0

@@ -7,7 +7,7 @@ ghost use Rattle.mime_tree.specs.declared.split.Piece.{Piece};
 ghost use Rattle.mime_tree.specs.Bodies.{HasOctets};
 ghost use Rattle.mime_tree.specs.BodyLists.{AreBodyLists};
 ghost use Rattle.mime_tree.specs.Delimiters.{IsMarked};
-ghost use Rattle.mime_tree.specs.Parts.{IsUnder, number_of};
+ghost use Rattle.mime_tree.specs.Parts.{IsUnder, part_number};
 ghost use Rattle.mime_tree.specs.SameTrees.{Same};
 ghost use Rattle.mime_tree.specs.Splits.{IsSplit};
 ghost use Rattle.mime_tree.specs.Trees.{IsMessage, IsSingle, IsMulti};
@@ -30,9 +30,9 @@ pub fn one_tree()
 
 /// Under a message each number from 1 up to the highest is one leaf's.
 pub fn one_leaf()
-    ensures one { (b : List ℕ) (p q r : Part) (n : ℕ) → IsMessage b p → IsUnder q p → IsUnder r p → number_of q ≡ Some n → number_of r ≡ Some n → q ≡ r }
-    ensures from_one { (b : List ℕ) (p q : Part) (n : ℕ) → IsMessage b p → IsUnder q p → number_of q ≡ Some n → 1 ≤ n }
-    ensures no_gap { (b : List ℕ) (p q : Part) (m n : ℕ) → IsMessage b p → IsUnder q p → number_of q ≡ Some n → 1 ≤ m → m ≤ n → (r : Part) × IsUnder r p × (number_of r ≡ Some m) }
+    ensures one { (b : List ℕ) (p q r : Part) (n : ℕ) → IsMessage b p → IsUnder q p → IsUnder r p → part_number q ≡ Some n → part_number r ≡ Some n → q ≡ r }
+    ensures from_one { (b : List ℕ) (p q : Part) (n : ℕ) → IsMessage b p → IsUnder q p → part_number q ≡ Some n → 1 ≤ n }
+    ensures no_gap { (b : List ℕ) (p q : Part) (m n : ℕ) → IsMessage b p → IsUnder q p → part_number q ≡ Some n → 1 ≤ m → m ≤ n → (r : Part) × IsUnder r p × (part_number r ≡ Some m) }
 {}
 
 /// A part of a message has a number and no parts in it, or it is a multipart and has none.

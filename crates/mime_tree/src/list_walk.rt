@@ -3,7 +3,7 @@ ghost use Rattle.std.specs.Prelude.{◌≡◌, ◌≤◌, ◌++◌, ◌||◌, �
 ghost use Rattle.mime_tree.specs.BodyLists as body;
 ghost use Rattle.mime_tree.specs.Roles as roles;
 ghost use Rattle.mime_tree.specs.BodyLists.{PartLists};
-ghost use Rattle.mime_tree.specs.reading.ListBuilding.{grown, attached, Gains, GainsBy, GainsBelow, Shares, Spreads};
+ghost use Rattle.mime_tree.specs.reading.ListBuilding.{grown, attached, GainsParts, GainsBy, GainsBelow, Shares, Spreads};
 
 use crate::part::Part;
 use crate::roles::{
@@ -23,7 +23,7 @@ pub struct Growing {
 
 /// Puts a leaf at the end of a list where that is wanted.
 fn put(list: &mut Vec<u64>, wanted: bool, part: &Part) -> Result<(), AllocError>
-    ensures { OnOk result (list.new.items ≡ list.old.items ++ map roles.leaf_number (body.alone wanted part.now)) }
+    ensures { OnOk result (list.new.items ≡ list.old.items ++ map roles.leaf_number (body.wanted_part wanted part.now)) }
 {
     if wanted {
         list.push(leaf_number(part))?;
@@ -32,7 +32,7 @@ fn put(list: &mut Vec<u64>, wanted: bool, part: &Part) -> Result<(), AllocError>
 }
 
 fn add_attachment(lists: &mut Growing, part: &Part) -> Result<(), AllocError>
-    ensures { OnOk result (Gains (grown lists.old) (grown lists.new) (body.to_attachments part.now)) }
+    ensures { OnOk result (GainsParts (grown lists.old) (grown lists.new) (body.to_attachments part.now)) }
 {
     lists.attachments.push(leaf_number(part))?;
     lists.has_attachment = lists.has_attachment || is_downloadable(part);
@@ -40,7 +40,7 @@ fn add_attachment(lists: &mut Growing, part: &Part) -> Result<(), AllocError>
 }
 
 fn takes_plain(walk: Walk, part: &Part) -> bool
-    ensures { result ≡ (walk.text && roles.is_plain part.now) }
+    ensures { result ≡ (walk.text && roles.is_plain_part part.now) }
 {
     walk.text && is_plain(part)
 }
@@ -58,14 +58,14 @@ fn are_both_open(walk: Walk) -> bool
 }
 
 fn is_attached_too(walk: Walk, part: &Part) -> bool
-    ensures { result ≡ (roles.is_media part.now && not (walk.text && walk.html)) }
+    ensures { result ≡ (roles.is_media_part part.now && not (walk.text && walk.html)) }
 {
     is_media(part) && !are_both_open(walk)
 }
 
 /// Directly in an alternative.
 fn add_to_its_list(lists: &mut Growing, walk: Walk, part: &Part) -> Result<(), AllocError>
-    ensures { OnOk result (Gains (grown lists.old) (grown lists.new) (body.to_its_list walk part.now)) }
+    ensures { OnOk result (GainsParts (grown lists.old) (grown lists.new) (body.to_its_list walk part.now)) }
 {
     if takes_plain(walk, part) {
         lists.text.push(leaf_number(part))?;
@@ -80,7 +80,7 @@ fn add_to_its_list(lists: &mut Growing, walk: Walk, part: &Part) -> Result<(), A
 
 /// Adds an attachment where that is wanted.
 fn put_attachment(lists: &mut Growing, wanted: bool, part: &Part) -> Result<(), AllocError>
-    ensures { OnOk result (Gains (grown lists.old) (grown lists.new) (attached wanted part.now)) }
+    ensures { OnOk result (GainsParts (grown lists.old) (grown lists.new) (attached wanted part.now)) }
 {
     if wanted {
         return add_attachment(lists, part);
@@ -90,7 +90,7 @@ fn put_attachment(lists: &mut Growing, wanted: bool, part: &Part) -> Result<(), 
 
 /// Elsewhere than directly in an alternative.
 fn add_to_open_lists(lists: &mut Growing, walk: Walk, part: &Part) -> Result<(), AllocError>
-    ensures { OnOk result (Gains (grown lists.old) (grown lists.new) (body.to_open_lists walk part.now)) }
+    ensures { OnOk result (GainsParts (grown lists.old) (grown lists.new) (body.to_open_lists walk part.now)) }
 {
     put(&mut lists.text, walk.text, part)?;
     put(&mut lists.html, walk.html, part)?;
@@ -98,7 +98,7 @@ fn add_to_open_lists(lists: &mut Growing, walk: Walk, part: &Part) -> Result<(),
 }
 
 fn add_leaf(lists: &mut Growing, walk: Walk, inline: bool, part: &Part) -> Result<(), AllocError>
-    ensures { OnOk result (Gains (grown lists.old) (grown lists.new) (body.lists_of walk inline part.now)) }
+    ensures { OnOk result (GainsParts (grown lists.old) (grown lists.new) (body.lists_of walk inline part.now)) }
 {
     if !inline {
         return add_attachment(lists, part);
@@ -116,7 +116,7 @@ fn closes(walk: Walk, inline: bool) -> bool
 }
 
 fn closed(walk: Walk, part: &Part) -> Walk
-    ensures { result ≡ body.closed walk part.now }
+    ensures { result ≡ body.closed_lists walk part.now }
 {
     Walk {
         text: walk.text && !is_html(part),

@@ -1,7 +1,7 @@
 // Body lists (RFC 8621 section 4.1.4).
 ghost use Rattle.std.specs.Prelude.{◌≡◌, IfOk};
 ghost use Rattle.mime_tree.specs.BodyLists as body;
-ghost use Rattle.mime_tree.specs.reading.ListBuilding.{grown, none};
+ghost use Rattle.mime_tree.specs.reading.ListBuilding.{grown, no_parts};
 
 use crate::list_walk::{Growing, walk_parts};
 use crate::part::Part;
@@ -23,7 +23,7 @@ pub struct BodyLists {
 }
 
 fn none_yet(alloc: Global) -> Growing
-    ensures { grown result ≡ none }
+    ensures { grown result ≡ no_parts }
 {
     Growing {
         text: Vec::new(alloc),

@@ -1,6 +1,6 @@
 // Parts, and leaves by their numbers.
 ghost use Rattle.std.specs.Prelude.{◌≡◌, ◌≢◌, ◌↔◌, IsTrue, MatchOption, Some};
-ghost use Rattle.mime_tree.specs.Parts.{IsUnder, number_of};
+ghost use Rattle.mime_tree.specs.Parts.{IsUnder, part_number};
 
 use gate_world::Bytes;
 
@@ -43,8 +43,8 @@ impl Part {
     /// numbers: each leaf in turn costs as many steps as there are parts, squared in all.
     pub fn leaf(&self, number: u64) -> Option<&Part>
         ensures { MatchOption result
-            ((q : Part) → IsUnder q self.now → number_of q ≢ Some number)
-            (λ q. IsUnder q.now self.now × (number_of q.now ≡ Some number)) }
+            ((q : Part) → IsUnder q self.now → part_number q ≢ Some number)
+            (λ q. IsUnder q.now self.now × (part_number q.now ≡ Some number)) }
     {
         if is_number(self.number, number) {
             return Some(self);

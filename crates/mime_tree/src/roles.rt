@@ -63,7 +63,7 @@ fn is_related(multipart: Multipart) -> bool
 
 /// Whether the part is text/plain.
 pub fn is_plain(part: &Part) -> bool
-    ensures { result ≡ roles.is_plain part.now }
+    ensures { result ≡ roles.is_plain_part part.now }
 {
     same_text(part.media.as_slice(), b"text/plain")
 }
@@ -83,7 +83,7 @@ fn is_type(media: &[u8], name: &[u8]) -> bool
 
 /// An image, audio or video.
 pub(crate) fn is_media(part: &Part) -> bool
-    ensures { result ≡ roles.is_media part.now }
+    ensures { result ≡ roles.is_media_part part.now }
 {
     let media = part.media.as_slice();
     is_type(media, b"image") || is_type(media, b"audio") || is_type(media, b"video")

@@ -15,22 +15,22 @@ use Rattle.pushdown.proofs.Lists.{cons_head, cons_tail, no_append}
 use Rattle.pushdown.proofs.Leading.{no_symbols, none_stays, run_append, alive}
 use Rattle.pushdown.proofs.Marks.{start_same}
 use Rattle.pushdown.proofs.Standing.{read_whole, outside_append}
-use Rattle.imap_syntax.specs.Texts.{plain_of, plain, outside}
+use Rattle.imap_syntax.specs.Texts.{plain_of, plain_octets, outside}
 
 -- a text by how many octets its front has
 pub record Front (t b c : List ℕ) : Type 0 where
   pub front : List ℕ
   pub back : List ℕ
   pub whole : t ≡ front ++ back
-  pub first : plain front ≡ b
-  pub second : plain back ≡ c
+  pub first : plain_octets front ≡ b
+  pub second : plain_octets back ≡ c
 
-pub front_of : (b c t : List ℕ) → plain t ≡ b ++ c → Front t b c
+pub front_of : (b c t : List ℕ) → plain_octets t ≡ b ++ c → Front t b c
 front_of [] c t e = record { front = []; back = t; whole = refl; first = refl; second = e }
 front_of (d ∷ b) c [] e = absurd cc
 front_of (d ∷ b) c (x ∷ t) e =
-    let h = cons_head (plain_of x) d (plain t) (b ++ c) e in
-    let r = front_of b c t (cons_tail (plain_of x) d (plain t) (b ++ c) e) in
+    let h = cons_head (plain_of x) d (plain_octets t) (b ++ c) e in
+    let r = front_of b c t (cons_tail (plain_of x) d (plain_octets t) (b ++ c) e) in
     record { front = x ∷ r.front; back = r.back; whole = ap (λ (u : List ℕ). x ∷ u) r.whole; first = (let f = r.first in cc); second = r.second }
 
 -- of two fronts one begins with the other
@@ -66,7 +66,7 @@ module _ {S : Type 0} (machine : Automaton S) (laws : IsLawful machine) where
 
   -- a text that is one of the language's, at the front of one that leads on, is the whole of it
   whole_of : (t u more : List ℕ) (left : List S) → run machine (Some (start machine)) t ≡ Some [] → run machine (Some (start machine)) (u ++ more) ≡ Some left
-      → plain t ≡ plain u → (t ≡ u) × (more ≡ [])
+      → plain_octets t ≡ plain_octets u → (t ≡ u) × (more ≡ [])
   whole_of t u more left e f p =
       let led = alive machine (run machine (Some (start machine)) u) more left (sym (run_append machine u more (Some (start machine))) ∙ f) in
       let same = start_same machine laws t u [] led.symbols e led.is p in
@@ -78,7 +78,7 @@ module _ {S : Type 0} (machine : Automaton S) (laws : IsLawful machine) where
       let f = front_of t z k.text (k.octets ∙ e) in
       let all = read_whole machine laws k.text k.reads in
       let q = whole_of h.text f.front f.back [] (read_whole machine laws h.text h.reads) (ap (run machine (Some (start machine))) (sym f.whole) ∙ all) (h.octets ∙ sym f.first) in
-      (f.whole ∙ ap (λ (v : List ℕ). f.front ++ v) q.1 ∙ append-nil f.front ∙ sym q.0, sym f.second ∙ ap plain q.1)
+      (f.whole ∙ ap (λ (v : List ℕ). f.front ++ v) q.1 ∙ append-nil f.front ∙ sym q.0, sym f.second ∙ ap plain_octets q.1)
 
   -- two at the front of the same octets are one
   pub whole_front : (t u x y : List ℕ) (h : IsWhole machine t) (k : IsWhole machine u) → t ++ x ≡ u ++ y → (k.text ≡ h.text) × (t ≡ u) × (x ≡ y)
@@ -136,7 +136,7 @@ module _ {S : Type 0} (machine : Automaton S) (laws : IsLawful machine) where
   pub whole_some : (t : List ℕ) → IsWhole machine t → t ≢ []
   whole_some t h e = by h.text (h.octets ∙ e) (read_whole machine laws h.text h.reads)
     where
-      by : (u : List ℕ) → plain u ≡ [] → run machine (Some (start machine)) u ≡ Some [] → ⊥
+      by : (u : List ℕ) → plain_octets u ≡ [] → run machine (Some (start machine)) u ≡ Some [] → ⊥
       by [] p s = cc
       by (c ∷ u) p s = cc
 

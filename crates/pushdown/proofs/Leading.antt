@@ -3,7 +3,7 @@ use Rattle.std.proofs.Common.{◌≡◌, ℕ, zero, suc, ◌+◌, ◌<◌, List,
 use Rattle.pushdown.specs.declared.moves.Move.{Move}
 use Rattle.pushdown.specs.declared.moves.Move.TheVariants as move
 use Rattle.pushdown.specs.Automaton.{Automaton}
-use Rattle.pushdown.specs.Run.{moved, step, stepped, run, RunsTo}
+use Rattle.pushdown.specs.Run.{moved, step, stepped, run, LeadsTo}
 
 pub no_symbols : {A : Type 0} (x : A) → None ≡ Some x → ⊥
 no_symbols x e = cc
@@ -43,12 +43,12 @@ module _ {S : Type 0} (machine : Automaton S) where
   alive (Some ss) t left e = record { symbols = ss; is = refl }
 
   -- no octets change nothing
-  pub runs_none : (s : S) (t : List ℕ) → RunsTo machine s (take 0 t) s
+  pub runs_none : (s : S) (t : List ℕ) → LeadsTo machine s (take 0 t) s
   runs_none s t = λ ss. refl
 
   -- one octet more
-  pub runs_more : (s a b : S) (t : List ℕ) (i c : ℕ) → i < length t → get_or t i 0 ≡ c → RunsTo machine s (take i t) a → machine.rule_of a c ≡ move.One b
-      → RunsTo machine s (take (i + 1) t) b
+  pub runs_more : (s a b : S) (t : List ℕ) (i c : ℕ) → i < length t → get_or t i 0 ≡ c → LeadsTo machine s (take i t) a → machine.rule_of a c ≡ move.One b
+      → LeadsTo machine s (take (i + 1) t) b
   runs_more s a b t i c lt at h e = λ ss.
       ap (run machine (Some (s ∷ ss))) (take_next t i c lt at)
       ∙ run_append (take i t) (c ∷ []) (Some (s ∷ ss))

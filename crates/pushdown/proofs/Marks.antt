@@ -13,7 +13,7 @@ use Rattle.pushdown.specs.Lawful.{IsLawful}
 use Rattle.pushdown.proofs.Leading.{no_symbols, none_stays, alive}
 use Rattle.pushdown.proofs.Whole.{keeps, open_begins}
 use Rattle.pushdown.proofs.Lists.{cons_head, cons_tail}
-use Rattle.imap_syntax.specs.Texts.{plain_of, plain}
+use Rattle.imap_syntax.specs.Texts.{plain_of, plain_octets}
 
 pub plain_large : (c : ℕ) → nat_lt c 256 ≡ false → plain_of c ≡ c - 256
 plain_large c e = cond-false (nat_lt c 256) c (c - 256) e
@@ -95,21 +95,21 @@ module _ {S : Type 0} (machine : Automaton S) (laws : IsLawful machine) where
   -- a text of those octets that leads on is one alone
   same_text : (t u : List ℕ) (o : Option (List S)) (left other : List S) → ((ss : List S) → o ≡ Some ss → Good machine false ss) → run machine o t ≡ Some left
       → run machine o u ≡ Some other
-      → plain t ≡ plain u → t ≡ u
+      → plain_octets t ≡ plain_octets u → t ≡ u
   same_text [] [] o left other good e f p = refl
   same_text [] (d ∷ u) o left other good e f p = absurd cc
   same_text (c ∷ t) [] o left other good e f p = absurd cc
   same_text (c ∷ t) (d ∷ u) None left other good e f p = absurd (no_symbols left (sym (none_stays machine t) ∙ e))
   same_text (c ∷ t) (d ∷ u) (Some ss) left other good e f p =
       let g = good ss refl in
-      let same : c ≡ d = head_is ss c t left g e ∙ ap (mark machine ss) (cons_head (plain_of c) (plain_of d) (plain t) (plain u) p) ∙ sym (head_is ss d u other g f) in
+      let same : c ≡ d = head_is ss c t left g e ∙ ap (mark machine ss) (cons_head (plain_of c) (plain_of d) (plain_octets t) (plain_octets u) p) ∙ sym (head_is ss d u other g f) in
       let rest : t ≡ u =
       same_text t u (step machine ss c) left other (λ next h. keeps machine laws false ss c next g h) e (ap (λ (n : ℕ). run machine (step machine ss n) u) same ∙ f)
-      (cons_tail (plain_of c) (plain_of d) (plain t) (plain u) p) in
+      (cons_tail (plain_of c) (plain_of d) (plain_octets t) (plain_octets u) p) in
       cc
 
   pub start_same : (t u : List ℕ) (left other : List S) → run machine (Some (start machine)) t ≡ Some left → run machine (Some (start machine)) u ≡ Some other
-      → plain t ≡ plain u → t ≡ u
+      → plain_octets t ≡ plain_octets u → t ≡ u
   start_same t u left other e f p = same_text t u (Some (start machine)) left other (λ ss h. subst (Good machine false) (same_Some (start machine) ss h) start_good) e f p
 
   -- ---- what is left of literals

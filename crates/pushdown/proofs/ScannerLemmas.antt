@@ -11,7 +11,7 @@ use Rattle.pushdown.specs.Symbols.{symbols_of}
 use Rattle.pushdown.specs.Run.{step, inside_top, mark, cost}
 use Rattle.pushdown.specs.Lawful.{IsLawful}
 use Rattle.pushdown.specs.Answers.{IsWhole, IsPrefix, IsProperPrefix, AnswerOf}
-use Rattle.pushdown.specs.Fed.{Stands, Fed, FedUpTo, Takes}
+use Rattle.pushdown.specs.Fed.{LeavesSymbols, Fed, FedUpTo, TakesOctet}
 use Rattle.pushdown.proofs.Standing.{prefix_goes, no_prefix_none, stands_step, stands_whole, stands_proper}
 
 -- the front that an octet ends, where it stands in a piece
@@ -29,11 +29,11 @@ module _ {S : Type 0} (machine : Automaton S) (laws : IsLawful machine) where
   pub mark_is : (ss : List S) (inside : Bool) (c m : ℕ) → inside ≡ inside_top machine ss → m ≡ cond inside (c + 256) c → m ≡ mark machine ss c
   mark_is ss inside c m e f = f ∙ ap (λ (b : Bool). cond b (c + 256) c) e
 
-  pub bad_by_limit : (ss : List S) (out : ℕ) (b : List ℕ) (c k : ℕ) → Stands machine ss out b → c < 256 → k ≡ cost machine ss → machine.limit - out < k
+  pub bad_by_limit : (ss : List S) (out : ℕ) (b : List ℕ) (c k : ℕ) → LeavesSymbols machine ss out b → c < 256 → k ≡ cost machine ss → machine.limit - out < k
       → IsPrefix machine (b ++ c ∷ []) → ⊥
   bad_by_limit ss out b c k h lt e over p = let g = prefix_goes machine laws ss out b c h lt p in omega (arith, g.within, e, over)
 
-  pub bad_by_step : (ss left : List S) (out : ℕ) (b : List ℕ) (c m : ℕ) (went : Bool) → Stands machine ss out b → c < 256 → m ≡ mark machine ss c
+  pub bad_by_step : (ss left : List S) (out : ℕ) (b : List ℕ) (c m : ℕ) (went : Bool) → LeavesSymbols machine ss out b → c < 256 → m ≡ mark machine ss c
       → step machine ss m ≡ cond went (Some left) None
       → went ≡ false → IsPrefix machine (b ++ c ∷ []) → ⊥
   bad_by_step ss left out b c m went h lt e f n p =
@@ -43,17 +43,17 @@ module _ {S : Type 0} (machine : Automaton S) (laws : IsLawful machine) where
       → step machine ss (mark machine ss c) ≡ Some left
   went_is ss left c m went e f y = ap (step machine ss) (sym e) ∙ f ∙ cond-true went (Some left) None y
 
-  pub goes_on : (ss left : List S) (out : ℕ) (b : List ℕ) (c k : ℕ) → Stands machine ss out b → c < 256 → k ≡ cost machine ss → k ≤ machine.limit - out
+  pub goes_on : (ss left : List S) (out : ℕ) (b : List ℕ) (c k : ℕ) → LeavesSymbols machine ss out b → c < 256 → k ≡ cost machine ss → k ≤ machine.limit - out
       → step machine ss (mark machine ss c) ≡ Some left
-      → Stands machine left (out + k) (b ++ c ∷ [])
+      → LeavesSymbols machine left (out + k) (b ++ c ∷ [])
   goes_on ss left out b c k h lt e le went =
       let w : out + cost machine ss ≤ machine.limit = omega (arith, h.within, e, le) in
-      subst (λ (n : ℕ). Stands machine left (out + n) (b ++ c ∷ [])) (sym e) (stands_step machine laws ss left out b c h lt went w)
+      subst (λ (n : ℕ). LeavesSymbols machine left (out + n) (b ++ c ∷ [])) (sym e) (stands_step machine laws ss left out b c h lt went w)
 
-  pub nothing_left : (ss : List S) (out : ℕ) (b : List ℕ) → ss ≡ [] → Stands machine ss out b → IsWhole machine b
-  nothing_left ss out b e h = stands_whole machine laws out b (subst (λ (q : List S). Stands machine q out b) e h)
+  pub nothing_left : (ss : List S) (out : ℕ) (b : List ℕ) → ss ≡ [] → LeavesSymbols machine ss out b → IsWhole machine b
+  nothing_left ss out b e h = stands_whole machine laws out b (subst (λ (q : List S). LeavesSymbols machine q out b) e h)
 
-  pub proper_of : (ss : List S) (out : ℕ) (b : List ℕ) → (ss ≡ [] → ⊥) → Stands machine ss out b → IsProperPrefix machine b
+  pub proper_of : (ss : List S) (out : ℕ) (b : List ℕ) → (ss ≡ [] → ⊥) → LeavesSymbols machine ss out b → IsProperPrefix machine b
   proper_of [] out b ne h = absurd (ne refl)
   proper_of (s ∷ ss) out b ne h = stands_proper machine laws s ss out b h
 
@@ -64,7 +64,7 @@ module _ {S : Type 0} (machine : Automaton S) (laws : IsLawful machine) where
 
   -- what an octet of a piece is answered is what the whole is answered, unless more is needed
   pub answered : (b piece front after : List ℕ) (c : ℕ) (before new : Scanner S) (told : Answer) → piece ≡ front ++ c ∷ after → Fed machine before (b ++ front)
-      → Takes machine new (b ++ front) c told
+      → TakesOctet machine new (b ++ front) c told
       → (told ≡ answer.NeedMore → ⊥) → AnswerOf machine (b ++ piece) told
   answered b piece front after c before new answer.NeedMore e fed took ne = absurd (ne refl)
   answered b piece front after c before new (answer.Whole n) e fed took ne =

@@ -13,7 +13,7 @@ use Rattle.pushdown.specs.Symbols.{symbols_of}
 use Rattle.pushdown.specs.Run.{moved, step, mark, cost, inside, inside_left, skipped}
 use Rattle.pushdown.specs.Flow.{room, first_begins, Ready, left_of}
 use Rattle.pushdown.specs.Lawful.{IsLawful}
-use Rattle.pushdown.specs.Fed.{Stands, Fed, FedUpTo}
+use Rattle.pushdown.specs.Fed.{LeavesSymbols, Fed, FedUpTo}
 use Rattle.pushdown.proofs.Standing.{stands_step}
 use Rattle.imap_syntax.specs.Texts.{Each}
 
@@ -29,7 +29,7 @@ small_front (suc k) (c ∷ octets) h = (lt-ltb c 256 (h 0), small_front k octets
 pub record Skips {S : Type 0} (machine : Automaton S) (ss : List S) (out : ℕ) (b cs : List ℕ) : Type 0 where
   pub ready : Ready machine (skipped machine (length cs) ss)
   pub more : skipped machine (length cs) ss ≢ []
-  pub stands : Stands machine (skipped machine (length cs) ss) out (b ++ cs)
+  pub stands : LeavesSymbols machine (skipped machine (length cs) ss) out (b ++ cs)
   pub left : left_of machine (skipped machine (length cs) ss) + length cs ≡ left_of machine ss
 
 module _ {S : Type 0} (machine : Automaton S) (laws : IsLawful machine) where
@@ -44,12 +44,12 @@ module _ {S : Type 0} (machine : Automaton S) (laws : IsLawful machine) where
   inside_free s ss some = cond-true (inside machine s) 0 1 (lt-ltb 0 (machine.left s) some)
 
   -- as many octets as n are taken of the literal at hand
-  stands_skip : (cs : List ℕ) (s : S) (ss : List S) (out n : ℕ) (b : List ℕ) → Each small cs → length cs < n → machine.left s ≡ n → Stands machine (s ∷ ss) out b
-      → Stands machine (machine.with_left s (n - length cs) ∷ ss) out (b ++ cs)
+  stands_skip : (cs : List ℕ) (s : S) (ss : List S) (out n : ℕ) (b : List ℕ) → Each small cs → length cs < n → machine.left s ≡ n → LeavesSymbols machine (s ∷ ss) out b
+      → LeavesSymbols machine (machine.with_left s (n - length cs) ∷ ss) out (b ++ cs)
   stands_skip [] s ss out n b each lt at h =
       let same : n - 0 ≡ machine.left s = omega (arith, at) in
-      subst (λ (u : List ℕ). Stands machine (machine.with_left s (n - 0) ∷ ss) out u) (sym (append-nil b))
-      (subst (λ (q : S). Stands machine (q ∷ ss) out b) (sym (ap (machine.with_left s) same ∙ laws.with_same s)) h)
+      subst (λ (u : List ℕ). LeavesSymbols machine (machine.with_left s (n - 0) ∷ ss) out u) (sym (append-nil b))
+      (subst (λ (q : S). LeavesSymbols machine (q ∷ ss) out b) (sym (ap (machine.with_left s) same ∙ laws.with_same s)) h)
   stands_skip (c ∷ cs) s ss out n b each lt at h =
       let small_c : c < 256 = ltb-true c 256 each.0 in
       let free : cost machine (s ∷ ss) ≡ 0 = inside_free s ss (omega (arith, at, lt)) in
@@ -57,12 +57,12 @@ module _ {S : Type 0} (machine : Automaton S) (laws : IsLawful machine) where
       let here = stands_step machine laws (s ∷ ss) (next ∷ ss) out b c h small_c (step_inside s c ss small_c (omega (arith, lt, at))) (omega (arith, free, h.within)) in
       let same : out + cost machine (s ∷ ss) ≡ out = omega (arith, free) in
       let left : machine.left next ≡ n - 1 = laws.left_with s (machine.left s - 1) (omega (arith, at, lt)) ∙ ap (λ (m : ℕ). m - 1) at in
-      let on = stands_skip cs next ss out (n - 1) (b ++ c ∷ []) each.1 (omega (arith, lt)) left (subst (λ (m : ℕ). Stands machine (next ∷ ss) m (b ++ c ∷ [])) same here) in
+      let on = stands_skip cs next ss out (n - 1) (b ++ c ∷ []) each.1 (omega (arith, lt)) left (subst (λ (m : ℕ). LeavesSymbols machine (next ∷ ss) m (b ++ c ∷ [])) same here) in
       let count : n - 1 - length cs ≡ n - suc (length cs) = omega arith in
       let is : machine.with_left next (n - 1 - length cs) ≡ machine.with_left s (n - suc (length cs)) =
       laws.with_with s (machine.left s - 1) (n - 1 - length cs) ∙ ap (machine.with_left s) count in
-      subst (λ (u : List ℕ). Stands machine (machine.with_left s (n - suc (length cs)) ∷ ss) out u) (append_assoc b (c ∷ []) cs)
-      (subst (λ (q : S). Stands machine (q ∷ ss) out ((b ++ c ∷ []) ++ cs)) is on)
+      subst (λ (u : List ℕ). LeavesSymbols machine (machine.with_left s (n - suc (length cs)) ∷ ss) out u) (append_assoc b (c ∷ []) cs)
+      (subst (λ (q : S). LeavesSymbols machine (q ∷ ss) out ((b ++ c ∷ []) ++ cs)) is on)
 
   -- a literal of which octets were taken stands where it stood
   pub ready_fewer : (s : S) (k : ℕ) (ss : List S) → k < machine.left s → Ready machine (s ∷ ss) → Ready machine (machine.with_left s (machine.left s - k) ∷ ss)
@@ -74,7 +74,7 @@ module _ {S : Type 0} (machine : Automaton S) (laws : IsLawful machine) where
         (subst (λ (n : ℕ). n + length ss ≤ room) (sym need_same) h.1.0, h.1.1),
       )
 
-  skips : (ss : List S) (out : ℕ) (b cs : List ℕ) → Each small cs → length cs < inside_left machine ss → Ready machine ss → Stands machine ss out b → Skips machine ss out b cs
+  skips : (ss : List S) (out : ℕ) (b cs : List ℕ) → Each small cs → length cs < inside_left machine ss → Ready machine ss → LeavesSymbols machine ss out b → Skips machine ss out b cs
   skips [] out b cs each lt ready h = absurd (omega (arith, lt))
   skips (s ∷ ss) out b cs each lt ready h = record {
     ready = ready_fewer s (length cs) ss lt ready;
@@ -90,8 +90,8 @@ module _ {S : Type 0} (machine : Automaton S) (laws : IsLawful machine) where
       record {
         ready = subst (Ready machine) (sym is) k.ready;
         more = λ e. k.more (sym is ∙ e);
-        stands = subst (λ (ss : List S). Stands machine ss new.outside (b ++ cs)) (sym is)
-            (subst (λ (m : ℕ). Stands machine (skipped machine (length cs) (symbols_of s.stack)) m (b ++ cs)) (sym out) k.stands);
+        stands = subst (λ (ss : List S). LeavesSymbols machine ss new.outside (b ++ cs)) (sym is)
+            (subst (λ (m : ℕ). LeavesSymbols machine (skipped machine (length cs) (symbols_of s.stack)) m (b ++ cs)) (sym out) k.stands);
         taken = omega (arith, taken, h.taken, length-append b cs);
         bound = omega (arith, ap (left_of machine) is, k.left, h.bound, taken, ap (λ (n : ℕ). (machine.most + 1) * n) out);
       }
@@ -126,7 +126,7 @@ module _ {S : Type 0} (machine : Automaton S) (laws : IsLawful machine) where
         fed = subst (Fed machine new) (sym (append-nil b)) (record {
           ready = subst (Ready machine) (sym is) h.ready;
           more = λ e. h.more (sym is ∙ e);
-          stands = subst (λ (ss : List S). Stands machine ss new.outside b) (sym is) (subst (λ (m : ℕ). Stands machine (symbols_of s.stack) m b) (sym out) h.stands);
+          stands = subst (λ (ss : List S). LeavesSymbols machine ss new.outside b) (sym is) (subst (λ (m : ℕ). LeavesSymbols machine (symbols_of s.stack) m b) (sym out) h.stands);
           taken = taken ∙ h.taken;
           bound = omega (arith, ap (left_of machine) is, h.bound, taken, ap (λ (n : ℕ). (machine.most + 1) * n) out);
         });

@@ -8,12 +8,12 @@ use Rattle.pushdown.specs.Run.{start, step, stepped, run, inside_top, mark, cost
 use Rattle.pushdown.specs.Flow.{Good}
 use Rattle.pushdown.specs.Lawful.{IsLawful}
 use Rattle.pushdown.specs.Answers.{IsWhole, IsPrefix, IsProperPrefix}
-use Rattle.pushdown.specs.Fed.{Stands}
+use Rattle.pushdown.specs.Fed.{LeavesSymbols}
 use Rattle.pushdown.proofs.Lists.{cons_head, cons_tail}
 use Rattle.pushdown.proofs.Leading.{no_symbols, Alive, run_append, alive}
 use Rattle.pushdown.proofs.Whole.{reads_back, reads_forth, reads_some}
 use Rattle.pushdown.proofs.Marks.{plain_large, plain_small, forced, start_good, good_of, start_same}
-use Rattle.imap_syntax.specs.Texts.{plain_of, plain, outside}
+use Rattle.imap_syntax.specs.Texts.{plain_of, plain_octets, outside}
 
 pub outside_append : (t u : List ℕ) → outside (t ++ u) ≡ outside t + outside u
 outside_append [] u = omega arith
@@ -24,22 +24,22 @@ record Last (t b : List ℕ) (c : ℕ) : Type 0 where
   front : List ℕ
   last : ℕ
   whole : t ≡ front ++ last ∷ []
-  octets : plain front ≡ b
+  octets : plain_octets front ≡ b
   octet : plain_of last ≡ c
 
-last_of : (t b : List ℕ) (c : ℕ) → plain t ≡ b ++ c ∷ [] → Last t b c
+last_of : (t b : List ℕ) (c : ℕ) → plain_octets t ≡ b ++ c ∷ [] → Last t b c
 last_of [] [] c e = absurd cc
 last_of [] (d ∷ b) c e = absurd cc
 last_of (x ∷ []) [] c e = record { front = []; last = x; whole = refl; octets = refl; octet = cc }
 last_of (x ∷ y ∷ t) [] c e = absurd cc
 last_of (x ∷ t) (d ∷ b) c e =
-    let l = last_of t b c (cons_tail (plain_of x) d (plain t) (b ++ c ∷ []) e) in
+    let l = last_of t b c (cons_tail (plain_of x) d (plain_octets t) (b ++ c ∷ []) e) in
     record {
       front = x ∷ l.front;
       last = l.last;
       whole = ap (λ (u : List ℕ). x ∷ u) l.whole;
       octets = let q = l.octets in
-          let h = cons_head (plain_of x) d (plain t) (b ++ c ∷ []) e in cc;
+          let h = cons_head (plain_of x) d (plain_octets t) (b ++ c ∷ []) e in cc;
       octet = l.octet;
     }
 
@@ -54,7 +54,7 @@ module _ {S : Type 0} (machine : Automaton S) (laws : IsLawful machine) where
   pub read_whole : (t : List ℕ) → machine.language machine.start t → run machine (Some (start machine)) t ≡ Some []
   read_whole t h = reads_forth machine laws t (start machine) (start_good machine laws) (record { front = t; back = []; whole = sym (append-nil t); first = h; second = refl })
 
-  pub stands_good : (ss : List S) (out : ℕ) (b : List ℕ) → Stands machine ss out b → Good machine false ss
+  pub stands_good : (ss : List S) (out : ℕ) (b : List ℕ) → LeavesSymbols machine ss out b → Good machine false ss
   stands_good ss out b h = good_of machine laws h.text (start machine) ss (start_good machine laws) h.leads
 
   mark_plain : (ss : List S) (c : ℕ) → c < 256 → plain_of (mark machine ss c) ≡ c
@@ -71,9 +71,9 @@ module _ {S : Type 0} (machine : Automaton S) (laws : IsLawful machine) where
       by true = ap (λ (q : Bool). cond q 1 0 + 0) (le-ltb (c + 256) 256 (omega arith)) ∙ omega arith
       by false = ap (λ (q : Bool). cond q 1 0 + 0) (lt-ltb c 256 lt) ∙ omega arith
 
-  pub stands_step : (ss left : List S) (out : ℕ) (b : List ℕ) (c : ℕ) → Stands machine ss out b → c < 256 → step machine ss (mark machine ss c) ≡ Some left
+  pub stands_step : (ss left : List S) (out : ℕ) (b : List ℕ) (c : ℕ) → LeavesSymbols machine ss out b → c < 256 → step machine ss (mark machine ss c) ≡ Some left
       → out + cost machine ss ≤ machine.limit
-      → Stands machine left (out + cost machine ss) (b ++ c ∷ [])
+      → LeavesSymbols machine left (out + cost machine ss) (b ++ c ∷ [])
   stands_step ss left out b c h lt e w = record {
     text = h.text ++ mark machine ss c ∷ [];
     octets =
@@ -90,7 +90,7 @@ module _ {S : Type 0} (machine : Automaton S) (laws : IsLawful machine) where
       let all = read_whole (h.text ++ h.more) h.reads in
       alive machine (run machine (Some (start machine)) h.text) h.more [] (sym (run_append machine h.text h.more (Some (start machine))) ∙ all)
 
-  pub prefix_goes : (ss : List S) (out : ℕ) (b : List ℕ) (c : ℕ) → Stands machine ss out b → c < 256 → IsPrefix machine (b ++ c ∷ []) → Goes machine ss out c
+  pub prefix_goes : (ss : List S) (out : ℕ) (b : List ℕ) (c : ℕ) → LeavesSymbols machine ss out b → c < 256 → IsPrefix machine (b ++ c ∷ []) → Goes machine ss out c
   prefix_goes ss out b c h lt p =
       let a = prefix_leads (b ++ c ∷ []) p in
       let l = last_of p.text b c p.octets in
@@ -116,14 +116,14 @@ module _ {S : Type 0} (machine : Automaton S) (laws : IsLawful machine) where
         );
       }
 
-  pub no_prefix_none : (ss : List S) (out : ℕ) (b : List ℕ) (c : ℕ) → Stands machine ss out b → c < 256 → step machine ss (mark machine ss c) ≡ None
+  pub no_prefix_none : (ss : List S) (out : ℕ) (b : List ℕ) (c : ℕ) → LeavesSymbols machine ss out b → c < 256 → step machine ss (mark machine ss c) ≡ None
       → IsPrefix machine (b ++ c ∷ []) → ⊥
   no_prefix_none ss out b c h lt e p = let g = prefix_goes ss out b c h lt p in no_symbols g.symbols (sym e ∙ g.is)
 
   langs_start : (t : List ℕ) → Langs machine.language (start machine) t → machine.language machine.start t
   langs_start t h = subst (machine.language machine.start) (sym (h.whole ∙ ap (λ (u : List ℕ). h.front ++ u) h.second ∙ append-nil h.front)) h.first
 
-  pub stands_whole : (out : ℕ) (b : List ℕ) → Stands machine [] out b → IsWhole machine b
+  pub stands_whole : (out : ℕ) (b : List ℕ) → LeavesSymbols machine [] out b → IsWhole machine b
   stands_whole out b h = record {
     text = h.text;
     reads = langs_start h.text (reads_back machine laws h.text (start machine) (start_good machine laws) h.leads);
@@ -134,7 +134,7 @@ module _ {S : Type 0} (machine : Automaton S) (laws : IsLawful machine) where
   no_end : (s : S) (ss : List S) → Some (s ∷ ss) ≡ Some [] → ⊥
   no_end s ss e = let q = same_Some (s ∷ ss) [] e in cc
 
-  pub stands_proper : (s : S) (ss : List S) (out : ℕ) (b : List ℕ) → Stands machine (s ∷ ss) out b → IsProperPrefix machine b
+  pub stands_proper : (s : S) (ss : List S) (out : ℕ) (b : List ℕ) → LeavesSymbols machine (s ∷ ss) out b → IsProperPrefix machine b
   stands_proper s ss out b h =
       let good = stands_good (s ∷ ss) out b h in
       let m = reads_some machine laws false (s ∷ ss) good in

@@ -10,7 +10,7 @@ use Rattle.pushdown.specs.Symbols.{symbols_of}
 use Rattle.pushdown.specs.Run.{run, step, inside_top, mark, cost}
 use Rattle.pushdown.specs.Flow.{Ready, left_of}
 use Rattle.pushdown.specs.Lawful.{IsLawful}
-use Rattle.pushdown.specs.Fed.{Stands, Fed, FedUpTo}
+use Rattle.pushdown.specs.Fed.{LeavesSymbols, Fed, FedUpTo}
 use Rattle.pushdown.proofs.Leading.{alive}
 use Rattle.pushdown.proofs.Whole.{ready_keeps}
 use Rattle.pushdown.proofs.Marks.{plain_small, forced, step_left, bound_keeps}
@@ -21,7 +21,7 @@ use Rattle.imap_syntax.specs.Texts.{Each}
 -- what a stack and the counts keep
 pub record Led {S : Type 0} (machine : Automaton S) (ss : List S) (out taken : ℕ) (b : List ℕ) : Type 0 where
   pub ready : Ready machine ss
-  pub stands : Stands machine ss out b
+  pub stands : LeavesSymbols machine ss out b
   pub bound : taken + left_of machine ss ≤ (machine.most + 1) * out
 
 take_front : (k n : ℕ) (l : List ℕ) → k ≤ n → take k (take n l) ≡ take k l
@@ -64,7 +64,7 @@ module _ {S : Type 0} (machine : Automaton S) (laws : IsLawful machine) where
       record {
         ready = ready_keeps machine laws ss c left h.ready e;
         stands =
-            subst (λ (n : ℕ). Stands machine left (out + n) (b ++ c ∷ [])) one (stands_step machine laws ss left out b c h.stands lt (ap (step machine ss) (sym is)
+            subst (λ (n : ℕ). LeavesSymbols machine left (out + n) (b ++ c ∷ [])) one (stands_step machine laws ss left out b c h.stands lt (ap (step machine ss) (sym is)
             ∙ e) (omega (arith, one, w)));
         bound =
             bound_keeps machine.most (inside_top machine ss) taken out 1 (left_of machine ss) (left_of machine left) (sym one)
@@ -104,7 +104,7 @@ module _ {S : Type 0} (machine : Automaton S) (laws : IsLawful machine) where
       record {
         ready = k.ready;
         more = λ none. let some = stays (some_of (symbols_of s.stack) h.more) in omega (arith, some, ap (λ (q : List S). length q) none);
-        stands = subst (λ (n : ℕ). Stands machine (symbols_of new.stack) n (b ++ cs)) (sym out) k.stands;
+        stands = subst (λ (n : ℕ). LeavesSymbols machine (symbols_of new.stack) n (b ++ cs)) (sym out) k.stands;
         taken = omega (arith, taken, h.taken, length-append b cs);
         bound = omega (arith, k.bound, taken, ap (λ (n : ℕ). (machine.most + 1) * n) out);
       }

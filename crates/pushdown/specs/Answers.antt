@@ -1,6 +1,6 @@
 -- Octets that are a text of a grammar, or begin one.
 use Rattle.std.specs.Prelude.{◌≡◌, ◌≢◌, ℕ, ◌+◌, ◌<◌, ◌≤◌, List, [], ◌++◌, length, take}
-use Rattle.imap_syntax.specs.Texts.{plain, outside}
+use Rattle.imap_syntax.specs.Texts.{plain_octets, outside}
 use Rattle.pushdown.specs.declared.answer.Answer.{Answer}
 use Rattle.pushdown.specs.declared.answer.Answer.TheVariants.{Whole, NeedMore, Bad}
 use Rattle.pushdown.specs.Automaton.{Automaton}
@@ -8,7 +8,7 @@ use Rattle.pushdown.specs.Automaton.{Automaton}
 pub record IsWhole {S : Type 0} (a : Automaton S) (b : List ℕ) : Type 0 where
   pub text : List ℕ
   pub reads : a.language a.start text
-  pub octets : plain text ≡ b
+  pub octets : plain_octets text ≡ b
   pub within : outside text ≤ a.limit
 
 -- the octets begin a text: one taken without the limit, which they keep themselves
@@ -16,14 +16,14 @@ pub record IsPrefix {S : Type 0} (a : Automaton S) (b : List ℕ) : Type 0 where
   pub text : List ℕ
   pub more : List ℕ
   pub reads : a.language a.start (text ++ more)
-  pub octets : plain text ≡ b
+  pub octets : plain_octets text ≡ b
   pub within : outside text ≤ a.limit
 
 pub record IsProperPrefix {S : Type 0} (a : Automaton S) (b : List ℕ) : Type 0 where
   pub text : List ℕ
   pub more : List ℕ
   pub reads : a.language a.start (text ++ more)
-  pub octets : plain text ≡ b
+  pub octets : plain_octets text ≡ b
   pub within : outside text ≤ a.limit
   pub proper : more ≢ []
 

@@ -1,6 +1,6 @@
 -- What a scanner was fed.
 use Rattle.std.specs.Prelude.{◌≡◌, ◌≢◌, ℕ, ◌+◌, ◌*◌, ◌≤◌, List, [], ◌∷◌, ◌++◌, length, Some}
-use Rattle.imap_syntax.specs.Texts.{plain, outside}
+use Rattle.imap_syntax.specs.Texts.{plain_octets, outside}
 use Rattle.pushdown.specs.declared.answer.Answer.{Answer}
 use Rattle.pushdown.specs.declared.answer.Answer.TheVariants.{Whole, NeedMore, Bad}
 use Rattle.pushdown.specs.declared.scanner.Scanner.{Scanner}
@@ -11,9 +11,9 @@ use Rattle.pushdown.specs.Flow.{Ready, left_of}
 use Rattle.pushdown.specs.Answers.{IsWhole, IsPrefix}
 
 -- the symbols that the octets lead to, and how many of these stand outside literals
-pub record Stands {S : Type 0} (a : Automaton S) (ss : List S) (out : ℕ) (b : List ℕ) : Type 0 where
+pub record LeavesSymbols {S : Type 0} (a : Automaton S) (ss : List S) (out : ℕ) (b : List ℕ) : Type 0 where
   pub text : List ℕ
-  pub octets : plain text ≡ b
+  pub octets : plain_octets text ≡ b
   pub leads : run a (Some (start a)) text ≡ Some ss
   pub counted : out ≡ outside text
   pub within : out ≤ a.limit
@@ -22,7 +22,7 @@ pub record Stands {S : Type 0} (a : Automaton S) (ss : List S) (out : ℕ) (b : 
 pub record Fed {S : Type 0} (a : Automaton S) (s : Scanner S) (b : List ℕ) : Type 0 where
   pub ready : Ready a (symbols_of s.stack)
   pub more : symbols_of s.stack ≢ []
-  pub stands : Stands a (symbols_of s.stack) s.outside b
+  pub stands : LeavesSymbols a (symbols_of s.stack) s.outside b
   pub taken : s.taken ≡ length b
   pub bound : s.taken + left_of a (symbols_of s.stack) ≤ (a.most + 1) * s.outside
 
@@ -33,7 +33,7 @@ pub record FedUpTo {S : Type 0} (a : Automaton S) (s : Scanner S) (b piece rest 
   pub fed : Fed a s (b ++ front)
 
 -- what one octet more is answered
-abbrev pub Takes : {S : Type 0} → Automaton S → Scanner S → List ℕ → ℕ → Answer → Type 0
-Takes a new b c (Whole n) = (n ≡ length b + 1) × IsWhole a (b ++ c ∷ [])
-Takes a new b c NeedMore = Fed a new (b ++ c ∷ [])
-Takes a new b c (Bad at) = (at ≡ length b) × (IsPrefix a (b ++ c ∷ []) → ⊥)
+abbrev pub TakesOctet : {S : Type 0} → Automaton S → Scanner S → List ℕ → ℕ → Answer → Type 0
+TakesOctet a new b c (Whole n) = (n ≡ length b + 1) × IsWhole a (b ++ c ∷ [])
+TakesOctet a new b c NeedMore = Fed a new (b ++ c ∷ [])
+TakesOctet a new b c (Bad at) = (at ≡ length b) × (IsPrefix a (b ++ c ∷ []) → ⊥)

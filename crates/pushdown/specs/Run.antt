@@ -25,8 +25,8 @@ run a state [] = state
 run a state (c ∷ t) = run a (stepped a state c) t
 
 -- after the octets the symbol is the other one, whatever symbols follow it
-abbrev pub RunsTo : {S : Type 0} → Automaton S → S → List ℕ → S → Type 0
-RunsTo {S = S} a s t p = (ss : List S) → run a (Some (s ∷ ss)) t ≡ Some (p ∷ ss)
+abbrev pub LeadsTo : {S : Type 0} → Automaton S → S → List ℕ → S → Type 0
+LeadsTo {S = S} a s t p = (ss : List S) → run a (Some (s ∷ ss)) t ≡ Some (p ∷ ss)
 
 abbrev pub start : {S : Type 0} → Automaton S → List S
 start a = a.start ∷ []

@@ -55,7 +55,7 @@ impl<S: Symbol> Scanner<S> {
     ghost use Rattle.std.specs.Prelude.{List, [], ◌∷◌, ◌++◌, ℕ};
     ghost use Rattle.pushdown.specs.declared.answer.Answer.TheVariants.{NeedMore};
     ghost use Rattle.pushdown.specs.Answers.{AnswerOf};
-    ghost use Rattle.pushdown.specs.Fed.{Fed, FedUpTo, Takes};
+    ghost use Rattle.pushdown.specs.Fed.{Fed, FedUpTo, TakesOctet};
 
     /// A scanner that was fed nothing.
     pub fn new() -> Scanner<S>
@@ -72,7 +72,7 @@ impl<S: Symbol> Scanner<S> {
     /// Takes one octet more.
     fn take(&mut self, octet: u8) -> Answer
         requires { (b : List ℕ) × Fed S.automaton self.old b }
-        ensures { (b : List ℕ) → Fed S.automaton self.old b → Takes S.automaton self.new b octet result }
+        ensures { (b : List ℕ) → Fed S.automaton self.old b → TakesOctet S.automaton self.new b octet result }
     {
         S::lawful();
         let inside = self.stack.is_inside();

@@ -2,7 +2,7 @@
 ghost use Rattle.std.specs.Prelude.{◌≡◌, ◌<◌, ◌≤◌, IsTrue, length, take};
 ghost use Rattle.pushdown.specs.Automaton.{Automaton};
 ghost use Rattle.pushdown.specs.Lawful.{IsLawful};
-ghost use Rattle.pushdown.specs.Run.{RunsTo};
+ghost use Rattle.pushdown.specs.Run.{LeadsTo};
 
 use crate::moves::Move;
 
@@ -36,7 +36,7 @@ pub trait Symbol: Copy {
     fn run_of(&self, octets: &[u8]) -> (Self, usize)
         requires { IsTrue (automaton.fits self.now) }
         ensures within { result.1 ≤ length octets.now }
-        ensures run { RunsTo automaton self.now (take result.1 octets.now) result.0 };
+        ensures run { LeadsTo automaton self.now (take result.1 octets.now) result.0 };
 
     /// The rules are those of the language. It does nothing: callers have the laws of it.
     fn lawful()

@@ -9,7 +9,7 @@ use Rattle.jmap_core.specs.Request.{is_among}
 use Rattle.jmap_core.specs.declared.method_error.MethodError.{MethodError}
 use Rattle.jmap_core.specs.declared.method_error.MethodError.TheVariants.{InvalidArguments}
 use Rattle.read_methods.specs.Mailboxes.{is_property, properties_of}
-use Rattle.read_methods.specs.reading.Noted.{noted, known_properties}
+use Rattle.read_methods.specs.reading.Noted.{properties_noted, known_properties}
 use Rattle.read_methods.specs.declared.mailboxes.Properties.{Properties}
 
 -- the properties that are wanted, with those of s
@@ -18,7 +18,7 @@ wanted_with names s = if list_all is_property names then Some
     (record { total_emails = s.total_emails || is_among (codes "totalEmails") names; unread_emails = s.unread_emails || is_among (codes "unreadEmails") names }) else None
 
 abbrev WantsAll : List (List ℕ) → Type 0
-WantsAll names = (s : Properties) → noted s names ≡ wanted_with names s
+WantsAll names = (s : Properties) → properties_noted s names ≡ wanted_with names s
 
 wants-one : (n : List ℕ) (names : List (List ℕ)) → WantsAll names → (n ≡ codes "id") ⊎ (bytes_eq n (codes "id") ≡ false) → (n ≡ codes "totalEmails")
     ⊎ (bytes_eq n (codes "totalEmails") ≡ false) → (n ≡ codes "unreadEmails") ⊎ (bytes_eq n (codes "unreadEmails") ≡ false) → WantsAll (n ∷ names)

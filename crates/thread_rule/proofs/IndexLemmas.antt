@@ -23,7 +23,7 @@ use Rattle.std.proofs.lemmas.Slice.Eq.{bytes_eq-Decides}
 use Rattle.std.proofs.Math.ListN.{get_or-map}
 use Rattle.thread_rule.specs.Threads.{is_among}
 use Rattle.thread_rule.specs.reading.Keys.{key_after, keys_under}
-use Rattle.thread_rule.specs.reading.Index.{Entry, KeyIndex, entry_cmp, numbers_at, numbers_up_to_other, emails_at, has, SameIndex, SetsOne, SetsAll, SameApart}
+use Rattle.thread_rule.specs.reading.Index.{Entry, KeyIndex, entry_cmp, numbers_at, numbers_up_to_other, emails_at, has_entry, SameIndex, SetsOne, SetsAll, SameApart}
 
 pub on_err : {T E P : Type 0} (r : Result T E) → P → OnErr r P
 on_err (Ok x) p = tt
@@ -46,7 +46,7 @@ entry_test at email e =
 -- the index after a change at one entry
 pub sets_one : (m n : KeyIndex) (at : List ℕ) (email : ℕ) (b : Bool) → sorted.UpdatesBy entry_cmp (entry_cmp (at, email)) m n b → SetsOne m n at email b
 sets_one m n at email b h id e =
-    h.0 (id, e) ∙ ap (λ (q : Bool). cond q b (has m id e)) (entry_test at email (id, e) ∙ ap (λ (q : Bool). bytes_eq id at && q) (number_test email e))
+    h.0 (id, e) ∙ ap (λ (q : Bool). cond q b (has_entry m id e)) (entry_test at email (id, e) ∙ ap (λ (q : Bool). bytes_eq id at && q) (number_test email e))
 
 pub same_entries : (m n : KeyIndex) → sorted.IsUnchanged m n → SameIndex m n
 same_entries m n h id e = ap (list_any (is_at (entry_cmp (id, e)))) h
@@ -71,8 +71,8 @@ sets_none m email b id e = refl
 pub sets_more : (k m n : KeyIndex) (xs : List (List ℕ)) (x : List ℕ) (email : ℕ) (b : Bool) → SetsAll k m xs email b → SetsOne m n x email b → SetsAll k n (xs ++ x ∷ []) email b
 sets_more k m n xs x email b g h id e =
     h id e ∙ ap (λ (y : Bool). cond (bytes_eq id x && eqb email e) b y) (g id e)
-    ∙ both (bytes_eq id x) (is_among xs id) (eqb email e) b (has k id e)
-    ∙ ap (λ (y : Bool). cond (y && eqb email e) b (has k id e)) (sym (list_any-append (bytes_eq id) xs (x ∷ [])))
+    ∙ both (bytes_eq id x) (is_among xs id) (eqb email e) b (has_entry k id e)
+    ∙ ap (λ (y : Bool). cond (y && eqb email e) b (has_entry k id e)) (sym (list_any-append (bytes_eq id) xs (x ∷ [])))
 
 -- one turn of a loop over ids
 pub sets_turn : (k m n : KeyIndex) (ids : List (List ℕ)) (i : ℕ) (x : List ℕ) (email : ℕ) (b : Bool) → i < length ids → x ≡ get_or ids i x → SetsAll k m (take i ids) email b
@@ -96,23 +96,23 @@ apart_of k m n ids i email b g h id e f =
     let whole : is_among ids id ≡ (is_among (take i ids) id || is_among (drop i ids) id) =
     ap (list_any (bytes_eq id)) (sym (take-append-drop i ids)) ∙ list_any-append (bytes_eq id) (take i ids) (drop i ids) in
     let none = left_false (is_among (take i ids) id) (is_among (drop i ids) id) (eqb email e) (ap (λ (y : Bool). y && eqb email e) (sym whole) ∙ f) in
-    h id e ∙ g id e ∙ cond-false (is_among (take i ids) id && eqb email e) b (has k id e) none
+    h id e ∙ g id e ∙ cond-false (is_among (take i ids) id && eqb email e) b (has_entry k id e) none
 
 -- what was added in part is taken out again
-pub undone : (k m n : KeyIndex) (ids : List (List ℕ)) (email : ℕ) → ((id : List ℕ) → has k id email ≡ false) → SameApart k m ids email → SetsAll m n ids email false → SameIndex k n
+pub undone : (k m n : KeyIndex) (ids : List (List ℕ)) (email : ℕ) → ((id : List ℕ) → has_entry k id email ≡ false) → SameApart k m ids email → SetsAll m n ids email false → SameIndex k n
 undone k m n ids email a g h id e = by (is_among ids id) (eqb email e) refl refl
   where
-    by : (p q : Bool) → is_among ids id ≡ p → eqb email e ≡ q → has n id e ≡ has k id e
+    by : (p q : Bool) → is_among ids id ≡ p → eqb email e ≡ q → has_entry n id e ≡ has_entry k id e
     by true true x y =
         let same = eqb-true email e y in
-        h id e ∙ ap (λ (z : Bool). cond (z && eqb email e) false (has m id e)) x ∙ ap (λ (z : Bool). cond z false (has m id e)) y
-        ∙ sym (a id) ∙ ap (λ (z : ℕ). has k id z) same
+        h id e ∙ ap (λ (z : Bool). cond (z && eqb email e) false (has_entry m id e)) x ∙ ap (λ (z : Bool). cond z false (has_entry m id e)) y
+        ∙ sym (a id) ∙ ap (λ (z : ℕ). has_entry k id z) same
     by true false x y =
         let f : (is_among ids id && eqb email e) ≡ false = ap (λ (z : Bool). z && eqb email e) x ∙ y in
-        h id e ∙ cond-false (is_among ids id && eqb email e) false (has m id e) f ∙ g id e f
+        h id e ∙ cond-false (is_among ids id && eqb email e) false (has_entry m id e) f ∙ g id e f
     by false q x y =
         let f : (is_among ids id && eqb email e) ≡ false = ap (λ (z : Bool). z && eqb email e) x in
-        h id e ∙ cond-false (is_among ids id && eqb email e) false (has m id e) f ∙ g id e f
+        h id e ∙ cond-false (is_among ids id && eqb email e) false (has_entry m id e) f ∙ g id e f
 
 -- the index has an Email at a key where its number is listed there
 listed_in : (id : List ℕ) (email : ℕ) (es : List Entry) → list_any (is_at (entry_cmp (id, email))) es ≡ list_any (is_at (nat_cmp email)) (numbers_at id es)
@@ -133,7 +133,7 @@ listed_in id email (e ∷ es) = by (bytes_eq e.0 id) refl (listed_in id email es
         ∙ more
         ∙ sym (ap (list_any (is_at (nat_cmp email))) (cond-false (bytes_eq e.0 id) (e.1 ∷ numbers_at id es) (numbers_at id es) k))
 
-pub has_listed : (index : KeyIndex) (id : List ℕ) (email : ℕ) → has index id email ≡ list_any (is_at (nat_cmp email)) (emails_at index id)
+pub has_listed : (index : KeyIndex) (id : List ℕ) (email : ℕ) → has_entry index id email ≡ list_any (is_at (nat_cmp email)) (emails_at index id)
 has_listed index id email = listed_in id email index.keys
 
 -- the numbers at one key ascend

@@ -18,7 +18,7 @@ pub fn add_all(
     named: &[Bytes],
     email: u64,
 ) -> Result<(), AllocError>
-    requires { (key : List ℕ) → indexed.has index.old key email ≡ false }
+    requires { (key : List ℕ) → indexed.has_entry index.old key email ≡ false }
     ensures ok { OnOk result (indexed.SetsAll index.old index.new (keys_under digest.now named.now) email true) }
     ensures err { OnErr result (indexed.SameIndex index.old index.new) }
 {

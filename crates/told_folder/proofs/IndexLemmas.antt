@@ -6,7 +6,7 @@ use Rattle.std.specs.BTreeMap.{BTreeMap, get, is_at}
 use Rattle.std.specs.Option.{option_map}
 use Rattle.told_folder.specs.Keyed.{Ascends, with_key, put_keyed, cut_keyed}
 use Rattle.told_folder.specs.Places.{IsHeldAt}
-use Rattle.told_folder.specs.Folders.{number_of, uid_of, held_in, messages_of, messages_in, message_in, mark_in, with_messages}
+use Rattle.told_folder.specs.Folders.{folder_number, uid_of, held_in, messages_of, messages_in, message_in, mark_in, with_messages}
 use Rattle.told_folder.specs.Index.{Inverts, IsIndexed}
 use Rattle.told_folder.specs.declared.message.Message.{Message}
 use Rattle.told_folder.specs.declared.message.Held.{Held}
@@ -89,12 +89,12 @@ pub record IsHere (hs : List Held) (n at : ℕ) (h : Held) : Type 0 where
   pub found : held_in hs n ≡ Some h
   pub placed : (xs : List Message) → with_messages hs n xs ≡ set hs at (record h { messages = xs })
 
-pub here : (hs shown : List Held) (n at : ℕ) (h : Held) → shown ≡ hs → Ascends number_of hs → IsHeldAt number_of n shown at → h ≡ get_or hs at h → IsHere hs n at h
+pub here : (hs shown : List Held) (n at : ℕ) (h : Held) → shown ≡ hs → Ascends folder_number hs → IsHeldAt folder_number n shown at → h ≡ get_or hs at h → IsHere hs n at h
 here hs shown n at h same up held is =
-    let held_hs : IsHeldAt number_of n hs at = subst (λ (zs : List Held). IsHeldAt number_of n zs at) same held in
+    let held_hs : IsHeldAt folder_number n hs at = subst (λ (zs : List Held). IsHeldAt folder_number n zs at) same held in
     record {
-      found = sym (held_found number_of n hs up at held_hs h is);
-      placed = λ xs. with_at hs n xs at held_hs.place.before held_hs.within h is (ap number_of is ∙ held_hs.same h);
+      found = sym (held_found folder_number n hs up at held_hs h is);
+      placed = λ xs. with_at hs n xs at held_hs.place.before held_hs.within h is (ap folder_number is ∙ held_hs.same h);
     }
 
 pub messages_here : (hs : List Held) (n : ℕ) (h : Held) → held_in hs n ≡ Some h → messages_in hs n ≡ h.messages

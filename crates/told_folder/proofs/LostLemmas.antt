@@ -11,7 +11,7 @@ use Rattle.imap_syntax.specs.declared.uid_set.UidRange.{UidRange}
 use Rattle.told_folder.specs.Folders.{uid_of, held_in, messages_of, mark_in, with_messages}
 use Rattle.told_folder.specs.Index.{IsIndexed}
 use Rattle.told_folder.specs.Keyed.{AllAbove, Ascends, with_key, cut_keyed}
-use Rattle.told_folder.specs.Tell.{Telling, is_in, covers, without}
+use Rattle.told_folder.specs.Tell.{Telling, is_in, covers, without_those}
 use Rattle.told_folder.specs.Work.{telling_of, IsIndexOf, GoesOn, GoesOk, GoesWith}
 use Rattle.told_folder.specs.declared.message.Held.{Held}
 use Rattle.told_folder.specs.declared.message.Message.{Message}
@@ -91,24 +91,24 @@ found_of p u (x ∷ xs) e =
           ]
     ] refl e
 
-pub none_of : (p : ℕ → Bool) (xs : List Message) → ◌≡◌ {A = Option ℕ} None (option_map uid_of (find (λ x. p x.uid) xs)) → without p xs ≡ xs
+pub none_of : (p : ℕ → Bool) (xs : List Message) → ◌≡◌ {A = Option ℕ} None (option_map uid_of (find (λ x. p x.uid) xs)) → without_those p xs ≡ xs
 none_of p [] e = refl
 none_of p (x ∷ xs) e =
     elim (p x.uid) as (λ b. ◌≡◌ {A = Option ℕ} None (option_map uid_of (if b then Some x else find (λ y. p y.uid) xs))
-    → (if not b then x ∷ without p xs else without p xs) ≡ x ∷ xs) [
+    → (if not b then x ∷ without_those p xs else without_those p xs) ≡ x ∷ xs) [
       | true ↦ λ g. absurd (some_is_not_none _ (sym g))
       | false ↦ λ g. ap (λ zs. x ∷ zs) (none_of p xs g)
     ] e
 
 -- ---- a message that is cut
 
-pub cut_within : (p : ℕ → Bool) (u : ℕ) (xs : List Message) → p u ≡ true → without p (cut_keyed uid_of u xs) ≡ without p xs
+pub cut_within : (p : ℕ → Bool) (u : ℕ) (xs : List Message) → p u ≡ true → without_those p (cut_keyed uid_of u xs) ≡ without_those p xs
 cut_within p u [] t = refl
 cut_within p u (x ∷ xs) t =
     elim (same_or_not x.uid u) [
-      | inl same ↦ ap (λ b. without p (if not b then x ∷ cut_keyed uid_of u xs else cut_keyed uid_of u xs)) (eq-eqb _ _ same) ∙ cut_within p u xs t
-          ∙ sym (ap (λ b. if not b then x ∷ without p xs else without p xs) (ap p same ∙ t))
-      | inr apart ↦ ap (λ b. without p (if not b then x ∷ cut_keyed uid_of u xs else cut_keyed uid_of u xs)) (ne_eqb _ _ apart)
+      | inl same ↦ ap (λ b. without_those p (if not b then x ∷ cut_keyed uid_of u xs else cut_keyed uid_of u xs)) (eq-eqb _ _ same) ∙ cut_within p u xs t
+          ∙ sym (ap (λ b. if not b then x ∷ without_those p xs else without_those p xs) (ap p same ∙ t))
+      | inr apart ↦ ap (λ b. without_those p (if not b then x ∷ cut_keyed uid_of u xs else cut_keyed uid_of u xs)) (ne_eqb _ _ apart)
           ∙ ap (λ zs. if not (p x.uid) then x ∷ zs else zs) (cut_within p u xs t)
     ]
 
@@ -184,9 +184,9 @@ lost_fails old new t e folder messages marks next changes = record {
 pub record IsLosing (p : ℕ → Bool) (was now : Work) : Type 0 where
   pub on : GoesOn was now
   pub ascends : Ascends uid_of now.messages
-  pub left : without p now.messages ≡ without p was.messages
+  pub left : without_those p now.messages ≡ without_those p was.messages
   pub next_mark : now.next_mark ≡ was.next_mark
-  pub known : without p was.messages ≡ was.messages → (now.messages ≡ was.messages) × (now.changes ≡ was.changes)
+  pub known : without_those p was.messages ≡ was.messages → (now.messages ≡ was.messages) × (now.changes ≡ was.changes)
   pub index : (hs : List Held) → IsIndexOf hs was → IsIndexOf hs now
 
 pub losing_none : (p : ℕ → Bool) (old : Work) → Ascends uid_of old.messages → IsLosing p old old
@@ -207,18 +207,18 @@ losing_more p was now next u found so g =
     record {
       on = goes_on_to _ _ _ so.on g.on;
       ascends = g.ascends so.ascends;
-      left = ap (without p) cut ∙ cut_within p u now.messages of_p.passes ∙ so.left;
+      left = ap (without_those p) cut ∙ cut_within p u now.messages of_p.passes ∙ so.left;
       next_mark = ap (λ (t : Telling). t.next_mark) g.told ∙ so.next_mark;
       known = λ k.
           let same : now.messages ≡ was.messages = (so.known k).0 in
-          let stays : without p now.messages ≡ now.messages = ap (without p) same ∙ k ∙ sym same in
+          let stays : without_those p now.messages ≡ now.messages = ap (without_those p) same ∙ k ∙ sym same in
           absurd (some_is_not_none _ (sym of_p.held ∙ ap (λ (zs : List Message). with_key uid_of u zs) (sym stays)
           ∙ found_without p u now.messages ∙ ap (λ b. if b then None else with_key uid_of u now.messages) of_p.passes));
       index = λ hs i. g.index hs (so.index hs i);
     }
 
 pub losing_all : (p : ℕ → Bool) (was now : Work) → ◌≡◌ {A = Option ℕ} None (option_map uid_of (find (λ x. p x.uid) now.messages)) → IsLosing p was now
-    → GoesOk was now (record (telling_of was) { messages = without p was.messages }) (Ok tt)
+    → GoesOk was now (record (telling_of was) { messages = without_those p was.messages }) (Ok tt)
 losing_all p was now none so = record {
   on = so.on;
   ascends = λ a. so.ascends;
@@ -239,28 +239,28 @@ losing_fails was now next on ascends index t u e g = record {
 
 -- ---- ranges
 
-without_both : (p q : ℕ → Bool) (xs : List Message) → without q (without p xs) ≡ without (λ u. p u || q u) xs
+without_both : (p q : ℕ → Bool) (xs : List Message) → without_those q (without_those p xs) ≡ without_those (λ u. p u || q u) xs
 without_both p q [] = refl
 without_both p q (x ∷ xs) =
-    elim (p x.uid) as (λ b. without q (if not b then x ∷ without p xs else without p xs)
-    ≡ (if not (b || q x.uid) then x ∷ without (λ u. p u || q u) xs else without (λ u. p u || q u) xs)) [
+    elim (p x.uid) as (λ b. without_those q (if not b then x ∷ without_those p xs else without_those p xs)
+    ≡ (if not (b || q x.uid) then x ∷ without_those (λ u. p u || q u) xs else without_those (λ u. p u || q u) xs)) [
       | true ↦ without_both p q xs
       | false ↦ ap (λ zs. if not (q x.uid) then x ∷ zs else zs) (without_both p q xs)
     ]
 
 -- fewer go where none goes
-fewer_stay : (p q : ℕ → Bool) → ((u : ℕ) → q u ≡ true → p u ≡ true) → (xs : List Message) → without p xs ≡ xs → without q xs ≡ xs
+fewer_stay : (p q : ℕ → Bool) → ((u : ℕ) → q u ≡ true → p u ≡ true) → (xs : List Message) → without_those p xs ≡ xs → without_those q xs ≡ xs
 fewer_stay p q within [] e = refl
 fewer_stay p q within (x ∷ xs) e =
-    elim (p x.uid) as (λ b. p x.uid ≡ b → (if not b then x ∷ without p xs else without p xs) ≡ x ∷ xs → without q (x ∷ xs) ≡ x ∷ xs) [
+    elim (p x.uid) as (λ b. p x.uid ≡ b → (if not b then x ∷ without_those p xs else without_those p xs) ≡ x ∷ xs → without_those q (x ∷ xs) ≡ x ∷ xs) [
       | true ↦ λ t f.
-          let short : length (without p xs) ≤ length xs = filter_short (λ (m : Message). not (p m.uid)) xs in
-          let long : length (without p xs) ≡ length (x ∷ xs) = ap length f in
+          let short : length (without_those p xs) ≤ length xs = filter_short (λ (m : Message). not (p m.uid)) xs in
+          let long : length (without_those p xs) ≡ length (x ∷ xs) = ap length f in
           absurd (omega (arith, short, long))
       | false ↦ λ t f.
-          let tails : without p xs ≡ xs = cc in
-          let rest : without q xs ≡ xs = fewer_stay p q within xs tails in
-          elim (q x.uid) as (λ b. q x.uid ≡ b → (if not b then x ∷ without q xs else without q xs) ≡ x ∷ xs) [
+          let tails : without_those p xs ≡ xs = cc in
+          let rest : without_those q xs ≡ xs = fewer_stay p q within xs tails in
+          elim (q x.uid) as (λ b. q x.uid ≡ b → (if not b then x ∷ without_those q xs else without_those q xs) ≡ x ∷ xs) [
             | true ↦ λ g. let wrong : ◌≡◌ {A = Bool} true false = sym (within x.uid g) ∙ t in absurd (cc)
             | false ↦ λ g. ap (λ zs. x ∷ zs) rest
           ] refl
@@ -288,12 +288,12 @@ covers_one (q ∷ qs) (suc i) r h is u t = ap (λ b. is_in q u || b) (covers_one
 pub record IsLost (rs : List UidRange) (i : ℕ) (was now : Work) : Type 0 where
   pub on : GoesOn was now
   pub ascends : Ascends uid_of now.messages
-  pub left : now.messages ≡ without (covers (take i rs)) was.messages
+  pub left : now.messages ≡ without_those (covers (take i rs)) was.messages
   pub next_mark : now.next_mark ≡ was.next_mark
-  pub known : without (covers rs) was.messages ≡ was.messages → (now.messages ≡ was.messages) × (now.changes ≡ was.changes)
+  pub known : without_those (covers rs) was.messages ≡ was.messages → (now.messages ≡ was.messages) × (now.changes ≡ was.changes)
   pub index : (hs : List Held) → IsIndexOf hs was → IsIndexOf hs now
 
-without_none : (xs : List Message) → xs ≡ without (λ u. false) xs
+without_none : (xs : List Message) → xs ≡ without_those (λ u. false) xs
 without_none [] = refl
 without_none (x ∷ xs) = ap (λ zs. x ∷ zs) (without_none xs)
 
@@ -306,35 +306,35 @@ lost_none rs old up = record {
   known = λ k. (refl, refl);
   index = λ hs i. i;
 } where
-  nothing_taken : (rs : List UidRange) (xs : List Message) → xs ≡ without (covers (take 0 rs)) xs
+  nothing_taken : (rs : List UidRange) (xs : List Message) → xs ≡ without_those (covers (take 0 rs)) xs
   nothing_taken [] xs = without_none xs
   nothing_taken (r ∷ rs) xs = without_none xs
 
 pub lost_more : (rs : List UidRange) (i : ℕ) (r : UidRange) (was now next : Work) → i < length rs → r ≡ get_or rs i r → IsLost rs i was now
-    → GoesOk now next (record (telling_of now) { messages = without (is_in r) now.messages }) (Ok tt) → IsLost rs (i + 1) was next
+    → GoesOk now next (record (telling_of now) { messages = without_those (is_in r) now.messages }) (Ok tt) → IsLost rs (i + 1) was next
 lost_more rs i r was now next h is so g =
     let step : (u : ℕ) → (covers (take i rs) u || is_in r u) ≡ covers (take (i + 1) rs) u = λ u.
     sym (ap (λ (qs : List UidRange). covers qs u) (take_more rs i r h ∙ ap (λ (q : UidRange). take i rs ++ q ∷ []) (sym is)) ∙ covers_more (take i rs) r u) in
     record {
       on = goes_on_to _ _ _ so.on g.on;
       ascends = g.ascends so.ascends;
-      left = ap (λ (t : Telling). t.messages) g.told ∙ ap (without (is_in r)) so.left ∙ without_both (covers (take i rs)) (is_in r) was.messages
+      left = ap (λ (t : Telling). t.messages) g.told ∙ ap (without_those (is_in r)) so.left ∙ without_both (covers (take i rs)) (is_in r) was.messages
           ∙ without_same _ _ step was.messages;
       next_mark = ap (λ (t : Telling). t.next_mark) g.told ∙ so.next_mark;
       known = λ k.
           let same : now.messages ≡ was.messages = (so.known k).0 in
-          let here : without (is_in r) now.messages ≡ now.messages = ap (without (is_in r)) same
+          let here : without_those (is_in r) now.messages ≡ now.messages = ap (without_those (is_in r)) same
           ∙ fewer_stay (covers rs) (is_in r) (covers_one rs i r h is) was.messages k ∙ sym same in
           (ap (λ (t : Telling). t.messages) g.told ∙ here ∙ same, g.known (telling_same _ _ _ _ here refl) ∙ (so.known k).1);
       index = λ hs j. g.index hs (so.index hs j);
     }
 
 pub lost_all : (rs : List UidRange) (i : ℕ) (was now : Work) → take i rs ≡ rs → IsLost rs i was now
-    → GoesOk was now (record (telling_of was) { messages = without (covers rs) was.messages }) (Ok tt)
+    → GoesOk was now (record (telling_of was) { messages = without_those (covers rs) was.messages }) (Ok tt)
 lost_all rs i was now whole so = record {
   on = so.on;
   ascends = λ a. so.ascends;
-  told = telling_same _ _ _ _ (so.left ∙ ap (λ (qs : List UidRange). without (covers qs) was.messages) whole) so.next_mark;
+  told = telling_same _ _ _ _ (so.left ∙ ap (λ (qs : List UidRange). without_those (covers qs) was.messages) whole) so.next_mark;
   index = so.index;
   known = λ e. (so.known (ap (λ (t : Telling). t.messages) e)).1;
 }

@@ -9,8 +9,8 @@ use Rattle.imap_syntax.specs.declared.command.Command.TheVariants as command
 use Rattle.imap_syntax.specs.declared.response.Response.{Response}
 use Rattle.told_folder.specs.Keyed.{last_of}
 use Rattle.told_folder.specs.Select.{is_closed, after_closed, last_told, under}
-use Rattle.told_folder.specs.Tell.{Telling, without, tell_responses, AllKnown}
-use Rattle.told_folder.specs.ToldBy.{past, past_told, uid_told, is_told, begun, adds, ended, telling_in, telling_by}
+use Rattle.told_folder.specs.Tell.{Telling, without_those, tell_responses, AllKnown}
+use Rattle.told_folder.specs.ToldBy.{past, past_told, uid_told, is_told, selected_first, adds, ended_command, telling_in, telling_by}
 use Rattle.told_folder.specs.Work.{telling_of, held_of, GoesOn, Goes, GoesOk, GoesWith, Keeps, StepsOk, Steps, Tells}
 use Rattle.told_folder.specs.reading.Loops.{closed}
 use Rattle.told_folder.specs.declared.message.Folder.{Folder}
@@ -87,7 +87,7 @@ past_end xs n rs i h = ap (λ (qs : List Response). max n (past_told xs qs)) (no
 
 -- ---- the codes of a SELECT
 
-pub without_all : (xs : List Message) → without (λ u. true) xs ≡ []
+pub without_all : (xs : List Message) → without_those (λ u. true) xs ≡ []
 without_all [] = refl
 without_all (x ∷ xs) = without_all xs
 
@@ -102,7 +102,7 @@ validity_of h = h.folder.validity
 
 -- another validity
 pub renewed : (old mid : Work) (f : Folder) (v changes : ℕ) → v ≢ f.validity
-    → Goes old mid (record { messages = without (λ u. true) old.messages; next_mark = old.next_mark }) → changes ≡ min (mid.changes + 1) (2 ^ 64 - 1) → mid.changes < 2 ^ 64
+    → Goes old mid (record { messages = without_those (λ u. true) old.messages; next_mark = old.next_mark }) → changes ≡ min (mid.changes + 1) (2 ^ 64 - 1) → mid.changes < 2 ^ 64
     → Steps old (record mid { changes = changes }) f (record f { validity = v; next = 1 }) (under v (held_of old f))
 renewed old mid f v changes apart goes more fits =
     let messages : mid.messages ≡ [] = ap (λ (t : Telling). t.messages) goes.told ∙ without_all old.messages in
@@ -131,10 +131,10 @@ pub on_ok_always : {T E : Type 0} (r : Result T E) {P : Type 0} → P → OnOk r
 on_ok_always (Ok x) p = p
 on_ok_always (Err e) p = tt
 
-pub without_same : (p q : ℕ → Bool) → ((u : ℕ) → p u ≡ q u) → (xs : List Message) → without p xs ≡ without q xs
+pub without_same : (p q : ℕ → Bool) → ((u : ℕ) → p u ≡ q u) → (xs : List Message) → without_those p xs ≡ without_those q xs
 without_same p q same [] = refl
 without_same p q same (x ∷ xs) =
-    ap (λ b. if not b then x ∷ without p xs else without p xs) (same x.uid)
+    ap (λ b. if not b then x ∷ without_those p xs else without_those p xs) (same x.uid)
     ∙ ap (λ (zs : List Message). if not (q x.uid) then x ∷ zs else zs) (without_same p q same xs)
 
 folder_same : (h k : Held) → h ≡ k → h.folder ≡ k.folder
@@ -145,12 +145,12 @@ messages_same h k e = ap (λ (z : Held). z.messages) e
 
 -- FETCH of the flags of all
 pub kept_told : (old new : Work) (f : Folder) (c : Command) (rs : List Response) (told : BTreeSet ℕ) → c ≡ command.FetchFlags → ((u : ℕ) → contains nat_cmp told u ≡ is_told rs u)
-    → Goes old new (record { messages = without (λ u. not (contains nat_cmp told u)) old.messages; next_mark = old.next_mark })
-    → Steps old new f f (ended c rs f old.messages)
+    → Goes old new (record { messages = without_those (λ u. not (contains nat_cmp told u)) old.messages; next_mark = old.next_mark })
+    → Steps old new f f (ended_command c rs f old.messages)
 kept_told old new f c rs told is same goes =
     let xs : List Message = old.messages in
-    let kept : without (λ u. not (contains nat_cmp told u)) xs ≡ without (λ u. not (is_told rs u)) xs = without_same _ _ (λ u. ap not (same u)) xs in
-    let to : ended c rs f xs ≡ record { folder = f; messages = without (λ u. not (is_told rs u)) xs } = ap (λ (d : Command). ended d rs f xs) is in
+    let kept : without_those (λ u. not (contains nat_cmp told u)) xs ≡ without_those (λ u. not (is_told rs u)) xs = without_same _ _ (λ u. ap not (same u)) xs in
+    let to : ended_command c rs f xs ≡ record { folder = f; messages = without_those (λ u. not (is_told rs u)) xs } = ap (λ (d : Command). ended_command d rs f xs) is in
     record {
       keeps = record { same = refl; stands = λ e l. refl };
       on = goes.on;
@@ -173,11 +173,11 @@ keeps_on a b c f g k on next p q = record {
 }
 
 pub told_whole : (old a b d : Work) (f f1 g : Folder) (c : Command) (rs : List Response) (adding : Bool) (result : Result (Unit {0}) AllocError)
-    → Steps old a f f1 (begun c rs (held_of old f)) → adding ≡ adds c → GoesWith (AllKnown adding (telling_of a) rs) a b (tell_responses adding (telling_of a) rs) (Ok tt)
-    → StepsOk b d f1 g (ended c rs f1 b.messages) result → Tells old d f g c rs result
+    → Steps old a f f1 (selected_first c rs (held_of old f)) → adding ≡ adds c → GoesWith (AllKnown adding (telling_of a) rs) a b (tell_responses adding (telling_of a) rs) (Ok tt)
+    → StepsOk b d f1 g (ended_command c rs f1 b.messages) result → Tells old d f g c rs result
 told_whole old a b d f f1 g c rs adding result start is mid end =
     let h : Held = held_of old f in
-    let begin : Held = begun c rs h in
+    let begin : Held = selected_first c rs h in
     let folder : f1 ≡ begin.folder = folder_same _ _ start.told in
     let messages : a.messages ≡ begin.messages = messages_same _ _ start.told in
     let from : telling_of a ≡ telling_in old.next_mark begin = telling_same _ _ _ _ messages start.next_mark in
@@ -190,7 +190,7 @@ told_whole old a b d f f1 g c rs adding result start is mid end =
       on = goes_on_to old b d on_ab end.on;
       ascends = λ u. end.ascends (mid.ascends (start.ascends u));
       index = λ hs i. end.index hs (mid.index hs (start.index hs i));
-      told = on_ok_map result (λ e. e ∙ ap (λ (z : Folder). ended c rs z b.messages) folder ∙ ap (λ (zs : List Message). ended c rs begin.folder zs) now) end.told;
+      told = on_ok_map result (λ e. e ∙ ap (λ (z : Folder). ended_command c rs z b.messages) folder ∙ ap (λ (zs : List Message). ended_command c rs begin.folder zs) now) end.told;
       next_mark = on_ok_always result (end.next_mark ∙ ap (λ (t : Telling). t.next_mark) to);
       known = λ k.
           let first : a.changes ≡ old.changes = start.known k.before in
@@ -202,8 +202,8 @@ told_whole old a b d f f1 g c rs adding result start is mid end =
           let stays : telling_of b ≡ telling_in old.next_mark h = mid.told ∙ known_stays adding (telling_of a) rs all ∙ from_h in
           let folder_h : f1 ≡ f = folder ∙ folder_same _ _ here in
           let messages_h : b.messages ≡ old.messages = ap (λ (t : Telling). t.messages) stays in
-          let over : ended c rs f1 b.messages ≡ held_of b f1 = ap (λ (z : Folder). ended c rs z b.messages) folder_h
-          ∙ ap (λ (zs : List Message). ended c rs f zs) messages_h ∙ k.after ∙ held_same _ _ _ _ (sym folder_h) (sym messages_h) in
+          let over : ended_command c rs f1 b.messages ≡ held_of b f1 = ap (λ (z : Folder). ended_command c rs z b.messages) folder_h
+          ∙ ap (λ (zs : List Message). ended_command c rs f zs) messages_h ∙ k.after ∙ held_same _ _ _ _ (sym folder_h) (sym messages_h) in
           on_ok_map result (λ e. e ∙ second ∙ first) (end.known over);
     }
 

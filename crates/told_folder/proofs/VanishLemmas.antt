@@ -6,7 +6,7 @@ use Rattle.std.specs.Option.{option_map}
 use Rattle.told_folder.specs.Keyed.{AllAbove, Ascends, with_key}
 use Rattle.told_folder.specs.Folders.{uid_of, held_in, mark_in, with_messages}
 use Rattle.told_folder.specs.Index.{Inverts, IsIndexed}
-use Rattle.told_folder.specs.Tell.{Telling, without}
+use Rattle.told_folder.specs.Tell.{Telling, without_those}
 use Rattle.told_folder.specs.Work.{cleared, GoesOn, Goes}
 use Rattle.told_folder.specs.declared.telling.Work.{Work}
 use Rattle.told_folder.proofs.OpenLemmas.{telling_same}
@@ -46,40 +46,40 @@ pub eqb_is : {m n : ℕ} → m ≡ n → eqb m n ≡ true
 eqb_is {m} {n} e = grind arith
 
 module _ (gone : ℕ → Bool) where
-  pub above_without : (k : ℕ) (xs : List Message) → AllAbove uid_of k xs → AllAbove uid_of k (without gone xs)
+  pub above_without : (k : ℕ) (xs : List Message) → AllAbove uid_of k xs → AllAbove uid_of k (without_those gone xs)
   above_without k [] a = tt
   above_without k (x ∷ xs) a =
-      elim (gone x.uid) as (λ b. AllAbove uid_of k (if not b then x ∷ without gone xs else without gone xs)) [
+      elim (gone x.uid) as (λ b. AllAbove uid_of k (if not b then x ∷ without_those gone xs else without_those gone xs)) [
         | true ↦ above_without k xs a.1
         | false ↦ (a.0, above_without k xs a.1)
       ]
 
-  pub ascends_without : (xs : List Message) → Ascends uid_of xs → Ascends uid_of (without gone xs)
+  pub ascends_without : (xs : List Message) → Ascends uid_of xs → Ascends uid_of (without_those gone xs)
   ascends_without [] a = tt
   ascends_without (x ∷ xs) a =
-      elim (gone x.uid) as (λ b. Ascends uid_of (if not b then x ∷ without gone xs else without gone xs)) [
+      elim (gone x.uid) as (λ b. Ascends uid_of (if not b then x ∷ without_those gone xs else without_those gone xs)) [
         | true ↦ ascends_without xs a.1
         | false ↦ (above_without x.uid xs a.0, ascends_without xs a.1)
       ]
 
-  pub found_without : (u : ℕ) (xs : List Message) → with_key uid_of u (without gone xs) ≡ (if gone u then None else with_key uid_of u xs)
+  pub found_without : (u : ℕ) (xs : List Message) → with_key uid_of u (without_those gone xs) ≡ (if gone u then None else with_key uid_of u xs)
   found_without u [] = none_either (gone u)
   found_without u (x ∷ xs) =
-      let rest : with_key uid_of u (without gone xs) ≡ (if gone u then None else with_key uid_of u xs) = found_without u xs in
+      let rest : with_key uid_of u (without_those gone xs) ≡ (if gone u then None else with_key uid_of u xs) = found_without u xs in
       elim (same_or_not x.uid u) [
         | inl same ↦
-            elim (gone x.uid) as (λ b. gone x.uid ≡ b → with_key uid_of u (if not b then x ∷ without gone xs else without gone xs)
+            elim (gone x.uid) as (λ b. gone x.uid ≡ b → with_key uid_of u (if not b then x ∷ without_those gone xs else without_those gone xs)
             ≡ (if gone u then None else with_key uid_of u (x ∷ xs))) [
               | true ↦ λ e. let at_u : gone u ≡ true = ap gone (sym same) ∙ e in rest ∙ ap (λ b. if b then None else with_key uid_of u xs) at_u
                   ∙ sym (ap (λ b. if b then None else with_key uid_of u (x ∷ xs)) at_u)
-              | false ↦ λ e. let at_u : gone u ≡ false = ap gone (sym same) ∙ e in head_found u x (without gone xs) same ∙ sym (head_found u x xs same)
+              | false ↦ λ e. let at_u : gone u ≡ false = ap gone (sym same) ∙ e in head_found u x (without_those gone xs) same ∙ sym (head_found u x xs same)
                   ∙ sym (ap (λ b. if b then None else with_key uid_of u (x ∷ xs)) at_u)
             ] refl
         | inr apart ↦
             let skip : with_key uid_of u (x ∷ xs) ≡ with_key uid_of u xs = head_passed u x xs apart in
-            elim (gone x.uid) as (λ b. with_key uid_of u (if not b then x ∷ without gone xs else without gone xs) ≡ (if gone u then None else with_key uid_of u (x ∷ xs))) [
+            elim (gone x.uid) as (λ b. with_key uid_of u (if not b then x ∷ without_those gone xs else without_those gone xs) ≡ (if gone u then None else with_key uid_of u (x ∷ xs))) [
               | true ↦ rest ∙ sym (ap (λ (o : Option Message). if gone u then None else o) skip)
-              | false ↦ head_passed u x (without gone xs) apart ∙ rest ∙ sym (ap (λ (o : Option Message). if gone u then None else o) skip)
+              | false ↦ head_passed u x (without_those gone xs) apart ∙ rest ∙ sym (ap (λ (o : Option Message). if gone u then None else o) skip)
             ]
       ]
 
@@ -135,11 +135,11 @@ module _ (gone : ℕ → Bool) where
 
   pub index_without : (hs : List Held) (n : ℕ) (xs : List Message) (marks marks' : BTreeMap ℕ (ℕ × ℕ)) (a : ℕ) → is_some (held_in hs n) ≡ true → Ascends uid_of xs
       → ((q : ℕ) → get nat_cmp marks' q ≡ cleared gone xs q (get nat_cmp marks q)) → IsIndexed (with_messages hs n xs) marks a
-      → IsIndexed (with_messages hs n (without gone xs)) marks' a
+      → IsIndexed (with_messages hs n (without_those gone xs)) marks' a
   index_without hs n xs marks marks' a there up clear i =
       let r = held_with hs n xs there in
       let ks = with_messages hs n xs in
-      let ys : List Message = without gone xs in
+      let ys : List Message = without_those gone xs in
       let P : List Held → Type 0 = λ zs. IsIndexed zs marks' a in
       let was : (u : ℕ) → mark_in ks (n, u) ≡ option_map mark_of (with_key uid_of u xs) = λ u. mark_was ks n u r.0 r.1.found
       ∙ ap (λ (zs : List Message). option_map mark_of (with_key uid_of u zs)) r.1.messages in
@@ -204,9 +204,9 @@ filter_whole p (x ∷ xs) e =
     ] e
 
 pub vanish_goes : (old new : Work) (gone : ℕ → Bool) → Ascends uid_of old.messages → GoesOn old new
-    → (without gone old.messages ≡ old.messages → new.changes ≡ old.changes) → new.messages ≡ without gone old.messages → new.next_mark ≡ old.next_mark
+    → (without_those gone old.messages ≡ old.messages → new.changes ≡ old.changes) → new.messages ≡ without_those gone old.messages → new.next_mark ≡ old.next_mark
     → ((q : ℕ) → get nat_cmp new.marks q ≡ cleared gone old.messages q (get nat_cmp old.marks q))
-    → Goes old new (record { messages = without gone old.messages; next_mark = old.next_mark })
+    → Goes old new (record { messages = without_those gone old.messages; next_mark = old.next_mark })
 vanish_goes old new gone up on known kept next clear = record {
   on = on;
   known = λ e. known (ap (λ (t : Telling). t.messages) e);
@@ -217,7 +217,7 @@ vanish_goes old new gone up on known kept next clear = record {
     indexed =
         subst (λ n. IsIndexed (with_messages hs n new.messages) new.marks new.next_mark) (sym on.folder)
         (subst (λ (zs : List Message). IsIndexed (with_messages hs old.folder zs) new.marks new.next_mark) (sym kept)
-        (subst (λ n. IsIndexed (with_messages hs old.folder (without gone old.messages)) new.marks n) (sym next)
+        (subst (λ n. IsIndexed (with_messages hs old.folder (without_those gone old.messages)) new.marks n) (sym next)
         (index_without gone hs old.folder old.messages old.marks new.marks old.next_mark i.there up clear i.indexed)));
   };
 }

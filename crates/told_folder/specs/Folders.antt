@@ -9,13 +9,13 @@ use Rattle.told_folder.specs.declared.message.Held.{Held}
 abbrev pub uid_of : Message → ℕ
 uid_of x = x.uid
 
-abbrev pub number_of : Held → ℕ
-number_of h = h.folder.number
+abbrev pub folder_number : Held → ℕ
+folder_number h = h.folder.number
 
 -- ---- look-ups
 
 abbrev pub held_in : List Held → ℕ → Option Held
-held_in hs n = with_key number_of n hs
+held_in hs n = with_key folder_number n hs
 
 abbrev pub folder_in : List Held → ℕ → Option Folder
 folder_in hs n = option_map (λ h. h.folder) (held_in hs n)
@@ -39,4 +39,4 @@ mark_in hs p = option_map (λ x. x.mark) (message_in hs p.0 p.1)
 -- with these messages in the folder of the number
 abbrev pub with_messages : List Held → ℕ → List Message → List Held
 with_messages [] n xs = []
-with_messages (h ∷ hs) n xs = if number_of h == n then record h { messages = xs } ∷ hs else h ∷ with_messages hs n xs
+with_messages (h ∷ hs) n xs = if folder_number h == n then record h { messages = xs } ∷ hs else h ∷ with_messages hs n xs

@@ -3,7 +3,7 @@ use Rattle.std.specs.Prelude.{◌≡◌, ℕ, ◌<◌, List, [], ◌∷◌, Opti
 use Rattle.std.specs.BTreeMap.{BTreeMap, get}
 use Rattle.std.specs.Ordering.{nat_cmp}
 use Rattle.told_folder.specs.Keyed.{Ascends}
-use Rattle.told_folder.specs.Folders.{number_of, uid_of, mark_in}
+use Rattle.told_folder.specs.Folders.{folder_number, uid_of, mark_in}
 use Rattle.told_folder.specs.declared.message.Held.{Held}
 
 -- each function undoes the other
@@ -16,7 +16,7 @@ AllAscend [] = Unit {0}
 AllAscend (h ∷ hs) = Ascends uid_of h.messages × AllAscend hs
 
 pub record IsIndexed (hs : List Held) (marks : BTreeMap ℕ (ℕ × ℕ)) (next_mark : ℕ) : Type 0 where
-  pub numbers : Ascends number_of hs
+  pub numbers : Ascends folder_number hs
   pub uids : AllAscend hs
   pub inverse : Inverts (get nat_cmp marks) (mark_in hs)
   pub below : (p : ℕ × ℕ) (q : ℕ) → mark_in hs p ≡ Some q → q < next_mark

@@ -23,8 +23,8 @@ is_in r u = nat_le r.first u && nat_le u r.last
 abbrev pub covers : List UidRange → ℕ → Bool
 covers rs u = list_any (λ r. is_in r u) rs
 
-abbrev pub without : (ℕ → Bool) → List Message → List Message
-without gone xs = filter (λ x. not (gone x.uid)) xs
+abbrev pub without_those : (ℕ → Bool) → List Message → List Message
+without_those gone xs = filter (λ x. not (gone x.uid)) xs
 
 -- ---- FETCH (RFC 9051 section 7.5.2)
 
@@ -69,7 +69,7 @@ tell_fetch adds t (Some uid) items = tell_uid adds t uid items (with_key uid_of 
 
 abbrev pub tell_response : Bool → Telling → Response → Telling
 tell_response adds t (response.Fetch seq items) = tell_fetch adds t items.uid items
-tell_response adds t (response.Vanished earlier uids) = record t { messages = without (covers uids.ranges) t.messages }
+tell_response adds t (response.Vanished earlier uids) = record t { messages = without_those (covers uids.ranges) t.messages }
 tell_response adds t _ = t
 
 abbrev pub tell_responses : Bool → Telling → List Response → Telling

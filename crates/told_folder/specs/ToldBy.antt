@@ -8,16 +8,16 @@ use Rattle.imap_syntax.specs.declared.response.Response.TheVariants as response
 use Rattle.told_folder.specs.Folders.{uid_of}
 use Rattle.told_folder.specs.Keyed.{with_key}
 use Rattle.told_folder.specs.Select.{selected_as}
-use Rattle.told_folder.specs.Tell.{Telling, tell_responses, AllKnown, without}
+use Rattle.told_folder.specs.Tell.{Telling, tell_responses, AllKnown, without_those}
 use Rattle.told_folder.specs.declared.message.Message.{Message}
 use Rattle.told_folder.specs.declared.message.Folder.{Folder}
 use Rattle.told_folder.specs.declared.message.Held.{Held}
 
 -- ---- before, in and after the responses
 
-abbrev pub begun : Command → List Response → Held → Held
-begun (command.Select name known) rs h = selected_as rs h
-begun _ rs h = h
+abbrev pub selected_first : Command → List Response → Held → Held
+selected_first (command.Select name known) rs h = selected_as rs h
+selected_first _ rs h = h
 
 -- whether a UID that isn't held is a new message
 abbrev pub adds : Command → Bool
@@ -54,7 +54,7 @@ next_after _ rs xs next = next
 
 -- FetchFlags tells every message, so that those it doesn't tell are gone
 abbrev pub kept_after : Command → List Response → List Message → List Message
-kept_after command.FetchFlags rs xs = without (λ u. not (is_told rs u)) xs
+kept_after command.FetchFlags rs xs = without_those (λ u. not (is_told rs u)) xs
 kept_after _ rs xs = xs
 
 -- ---- a folder
@@ -65,19 +65,19 @@ telling_in next_mark h = record { messages = h.messages; next_mark = next_mark }
 abbrev pub with_next : ℕ → Held → Held
 with_next n h = record { folder = record h.folder { next = n }; messages = h.messages }
 
-abbrev pub ended : Command → List Response → Folder → List Message → Held
-ended c rs f xs = record { folder = record f { next = next_after c rs xs f.next }; messages = kept_after c rs xs }
+abbrev pub ended_command : Command → List Response → Folder → List Message → Held
+ended_command c rs f xs = record { folder = record f { next = next_after c rs xs f.next }; messages = kept_after c rs xs }
 
 -- the messages once these responses of the command are told
 abbrev pub telling_by : Command → List Response → ℕ → Held → Telling
-telling_by c rs next_mark h = tell_responses (adds c) (telling_in next_mark (begun c rs h)) rs
+telling_by c rs next_mark h = tell_responses (adds c) (telling_in next_mark (selected_first c rs h)) rs
 
 -- the folder once these responses of the command are told
 abbrev pub told_by : Command → List Response → ℕ → Held → Held
-told_by c rs next_mark h = ended c rs (begun c rs h).folder (telling_by c rs next_mark h).messages
+told_by c rs next_mark h = ended_command c rs (selected_first c rs h).folder (telling_by c rs next_mark h).messages
 
 -- each step tells what is known
 pub record TellsKnownOf (c : Command) (rs : List Response) (next_mark : ℕ) (h : Held) : Type 0 where
-  pub before : begun c rs h ≡ h
+  pub before : selected_first c rs h ≡ h
   pub responses : AllKnown (adds c) (telling_in next_mark h) rs
-  pub after : ended c rs h.folder h.messages ≡ h
+  pub after : ended_command c rs h.folder h.messages ≡ h

@@ -3,7 +3,7 @@ ghost use Rattle.std.specs.Prelude.{◌≡◌, ◌≤◌, ◌+◌, ◌^◌, ℕ,
 ghost use Rattle.std.specs.BTreeSet.{contains};
 ghost use Rattle.std.specs.Ordering.{nat_cmp};
 ghost use Rattle.told_folder.specs.ToldBy as told;
-ghost use Rattle.told_folder.specs.ToldBy.{ended, is_told, past_told};
+ghost use Rattle.told_folder.specs.ToldBy.{ended_command, is_told, past_told};
 ghost use Rattle.told_folder.specs.Keyed.{Ascends};
 ghost use Rattle.told_folder.specs.Folders.{uid_of};
 ghost use Rattle.told_folder.specs.Work.{held_of, Steps, StepsOk};
@@ -97,7 +97,7 @@ pub fn tell_end(
     responses: &[Response],
 ) -> Result<(), AllocError>
     requires { Ascends uid_of work.old.messages }
-    ensures { StepsOk work.old work.new folder.old folder.new (ended command.now responses.now folder.old work.old.messages) result }
+    ensures { StepsOk work.old work.new folder.old folder.new (ended_command command.now responses.now folder.old work.old.messages) result }
 {
     match command {
         Command::FetchNew { .. } => {

@@ -3,7 +3,7 @@ ghost use Rattle.std.specs.Prelude.{◌≡◌, ◌≤◌, ◌+◌, ◌-◌, ◌^
 ghost use Rattle.told_folder.specs.Keyed.{Ascends, with_key, put_keyed};
 ghost use Rattle.told_folder.specs.Folders.{uid_of, with_messages};
 ghost use Rattle.told_folder.specs.Tell as told;
-ghost use Rattle.told_folder.specs.Tell.{without, with_flags, with_new, new_message, tell_uid};
+ghost use Rattle.told_folder.specs.Tell.{without_those, with_flags, with_new, new_message, tell_uid};
 ghost use Rattle.told_folder.specs.Work.{telling_of, Goes, GoesOk, GoesWith, IsFlagged, cleared};
 ghost use Rattle.std.specs.BTreeMap.{get};
 ghost use Rattle.std.specs.Ordering.{nat_cmp};
@@ -182,7 +182,7 @@ pub fn clear_marks<U: Uids>(messages: &[Message], gone: &U, marks: &mut BTreeMap
 
 /// Takes out the messages whose UIDs are in the set.
 fn clear_messages<U: Uids>(messages: &mut Vec<Message>, gone: &U)
-    ensures { messages.new.items ≡ without (U.has gone.now) messages.old.items }
+    ensures { messages.new.items ≡ without_those (U.has gone.now) messages.old.items }
 {
     messages.retain(|message| !gone.contains(message.uid));
 }
@@ -190,7 +190,7 @@ fn clear_messages<U: Uids>(messages: &mut Vec<Message>, gone: &U)
 /// Messages that are gone. It goes through all of them.
 pub fn tell_gone<U: Uids>(alloc: Global, work: &mut Work, gone: &U)
     requires { Ascends uid_of work.old.messages }
-    ensures { Goes work.old work.new (record { messages = without (U.has gone.now) work.old.messages; next_mark = work.old.next_mark }) }
+    ensures { Goes work.old work.new (record { messages = without_those (U.has gone.now) work.old.messages; next_mark = work.old.next_mark }) }
 {
     let none = Messages::new(alloc, Vec::new(alloc));
     let mut messages = mem::replace(&mut work.messages, none).into_vec();

@@ -1,7 +1,7 @@
 // An exchange told to its folder.
 ghost use Rattle.std.specs.Prelude.{◌≡◌};
 ghost use Rattle.told_folder.specs.ToldBy as told;
-ghost use Rattle.told_folder.specs.ToldBy.{begun};
+ghost use Rattle.told_folder.specs.ToldBy.{selected_first};
 ghost use Rattle.told_folder.specs.Keyed.{Ascends};
 ghost use Rattle.told_folder.specs.Folders.{uid_of};
 ghost use Rattle.told_folder.specs.Work.{held_of, Steps, Tells};
@@ -32,7 +32,7 @@ fn tell_start(
     responses: &[Response],
 )
     requires { Ascends uid_of work.old.messages }
-    ensures { Steps work.old work.new folder.old folder.new (begun command.now responses.now (held_of work.old folder.old)) }
+    ensures { Steps work.old work.new folder.old folder.new (selected_first command.now responses.now (held_of work.old folder.old)) }
 {
     match command {
         Command::Select { .. } => tell_select(alloc, work, folder, responses),

@@ -3,7 +3,7 @@ ghost use Rattle.std.specs.Option.{option_map};
 ghost use Rattle.std.specs.Prelude.{◌≡◌, Some, IsSome, find};
 ghost use Rattle.told_folder.specs.Folders.{uid_of};
 ghost use Rattle.told_folder.specs.Keyed.{Ascends, with_key, cut_keyed};
-ghost use Rattle.told_folder.specs.Tell.{is_in, covers, without};
+ghost use Rattle.told_folder.specs.Tell.{is_in, covers, without_those};
 ghost use Rattle.told_folder.specs.Work.{telling_of, GoesOk};
 
 use crate::messages::Messages;
@@ -40,7 +40,7 @@ fn tell_lost(work: &mut Work, uid: u32) -> Result<(), AllocError>
 /// Messages of a range that are gone. It takes a logarithm, and as much for each of them.
 fn tell_range(work: &mut Work, range: &UidRange) -> Result<(), AllocError>
     requires { Ascends uid_of work.old.messages }
-    ensures { GoesOk work.old work.new (record (telling_of work.old) { messages = without (is_in range.now) work.old.messages }) result }
+    ensures { GoesOk work.old work.new (record (telling_of work.old) { messages = without_those (is_in range.now) work.old.messages }) result }
 {
     while let Some(uid) = first_in(&work.messages, range) {
         tell_lost(work, uid)?;
@@ -51,7 +51,7 @@ fn tell_range(work: &mut Work, range: &UidRange) -> Result<(), AllocError>
 /// Messages that are gone, in whatever order their UIDs are told.
 pub fn tell_vanished(work: &mut Work, ranges: &[UidRange]) -> Result<(), AllocError>
     requires { Ascends uid_of work.old.messages }
-    ensures { GoesOk work.old work.new (record (telling_of work.old) { messages = without (covers ranges.now) work.old.messages }) result }
+    ensures { GoesOk work.old work.new (record (telling_of work.old) { messages = without_those (covers ranges.now) work.old.messages }) result }
 {
     for range in ranges {
         tell_range(work, range)?;

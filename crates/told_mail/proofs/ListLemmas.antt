@@ -5,7 +5,7 @@ use Rattle.std.specs.Cmp.Lexicographic.{pointwise}
 use Rattle.std.specs.declared.alloc.AllocError.{AllocError}
 use Rattle.imap_syntax.specs.declared.command.Command.{Command}
 use Rattle.imap_syntax.specs.declared.response.Response.{Response}
-use Rattle.told_folder.specs.Folders.{number_of}
+use Rattle.told_folder.specs.Folders.{folder_number}
 use Rattle.told_folder.specs.ToldBy.{TellsKnownOf}
 use Rattle.told_folder.specs.declared.message.Held.{Held}
 use Rattle.told_folder.proofs.KeyedLemmas.{item_at}
@@ -43,17 +43,17 @@ on_ok_both (Err e) f p q = tt
 pub named_told : (m n : Mail) (c : Command) (rs : List Response) (name : List ℕ) (at : ℕ) (result : Result (Unit {0}) AllocError) → IsNamedAt m.folders name at
     → OnOk result ((h : Held) → h ≡ get_or m.folders at h → n ≡ tell_held m c rs (Some h)) → OnOk result (n ≡ tell_held m c rs (named m.folders name))
 named_told m n c rs name at result is told =
-    let item = item_at number_of m.folders at is.within in
+    let item = item_at folder_number m.folders at is.within in
     on_ok_map result (λ f. f item.0 item.1 ∙ ap (λ (o : Option Held). tell_held m c rs o) (sym (is.found item.0 item.1))) told
 
 pub named_known : (m : Mail) (c : Command) (rs : List Response) (name : List ℕ) (at : ℕ) (P : Type 0) (result : Result (Unit {0}) AllocError) → IsNamedAt m.folders name at
     → ((h : Held) → h ≡ get_or m.folders at h → TellsKnownOf c rs m.next_mark h → OnOk result P) → KnownOf c rs m.next_mark (named m.folders name) → OnOk result P
 named_known m c rs name at P result is known k =
-    let item = item_at number_of m.folders at is.within in
+    let item = item_at folder_number m.folders at is.within in
     known item.0 item.1 (subst (λ (o : Option Held). KnownOf c rs m.next_mark o) (is.found item.0 item.1) k)
 
 pub named_some : (hs : List Held) (name : List ℕ) (at : ℕ) → IsNamedAt hs name at → is_some (named hs name) ≡ true
-named_some hs name at is = let item = item_at number_of hs at is.within in ap is_some (is.found item.0 item.1)
+named_some hs name at is = let item = item_at folder_number hs at is.within in ap is_some (is.found item.0 item.1)
 
 -- ---- folders of a LIST
 

@@ -5,7 +5,7 @@ use Rattle.std.specs.List.{flat_map}
 use Rattle.mime_tree.specs.declared.lists.BodyLists.{BodyLists}
 use Rattle.mime_tree.specs.declared.part.Part.{Part}
 use Rattle.mime_tree.specs.Parts.{IsWithin}
-use Rattle.mime_tree.specs.Roles.{is_plain}
+use Rattle.mime_tree.specs.Roles.{is_plain_part}
 use Rattle.email_get.specs.BodyValues.{AreValues}
 use Rattle.email_get.specs.EmailObjects.{AreObjects, IsPreview, BodyData}
 use Rattle.email_get.specs.Leaves.{AreLeaves}
@@ -38,7 +38,7 @@ NoPlain leaves ns = (b : List ℕ) → IsPreview b (parts_at leaves ns) []
 
 -- a plain text stands at this place
 abbrev pub IsPlainAt : List Part → ℕ → Type 0
-IsPlainAt leaves k = (p : Part) × (slice_get leaves k ≡ Some p) × (is_plain p ≡ true)
+IsPlainAt leaves k = (p : Part) × (slice_get leaves k ≡ Some p) × (is_plain_part p ≡ true)
 
 -- the preview is that of the leaf at this place
 abbrev pub IsPreviewAt : List ℕ → List Part → ℕ → List ℕ → Type 0

@@ -9,7 +9,7 @@ use Rattle.jmap_core.specs.Request.{request_data, requested}
 use Rattle.gate_serving.specs.declared.asking.Asking.{Asking as Asked}
 use Rattle.gate_serving.specs.declared.asking.Asking.TheVariants as asked
 use Rattle.gate_serving.specs.declared.door.Door.{Door}
-use Rattle.gate_serving.specs.Requests.{Asking, Calls, Problem, Session, Upload, Download, Refused, Reads, asked_by, asked_over_http}
+use Rattle.gate_serving.specs.Requests.{Asking, Calls, Problem, Session, Upload, Download, Refused, ReadsAsking, asked_by, asked_over_http}
 
 abbrev pub asking_data : Asked → Asking
 asking_data (asked.Calls request) = Calls (request_data request)
@@ -33,5 +33,5 @@ abbrev pub AsksOf : HttpAsking → Result Asked AskError → Type 0
 AsksOf over_http (Ok asking) = asking_data asking ≡ asked_over_http over_http
 AsksOf over_http (Err e) = (e ≡ Memory) × ((body : List ℕ) × (over_http ≡ http.Calls body))
 
-abbrev pub ReadsAsking : Door → List ℕ → Result Asked AskError → List Event → Type 0
-ReadsAsking door token result events = Reads door token (read_data result) events
+abbrev pub ReadsInto : Door → List ℕ → Result Asked AskError → List Event → Type 0
+ReadsInto door token result events = ReadsAsking door token (read_data result) events

@@ -17,7 +17,7 @@ use Rattle.gate_serving.specs.declared.served.Served.TheVariants as served
 use Rattle.gate_serving.specs.Answers.{Keeps, MayKeep, response_of}
 use Rattle.gate_serving.specs.Calls.{Mailing}
 use Rattle.gate_serving.specs.GateState.{GateState}
-use Rattle.gate_serving.specs.Requests.{Account, Asking, Reads, asks_for_mail}
+use Rattle.gate_serving.specs.Requests.{Account, Asking, ReadsAsking, asks_for_mail}
 use Rattle.gate_serving.specs.Segment.{Replies, Segment, reply_blamed, blamed, went}
 use Rattle.gate_serving.specs.Work.{Work}
 use Rattle.gate_serving.specs.reading.Texts.{text_of}
@@ -57,13 +57,13 @@ pub record AnswersTo (door : Door) (account : Account) (asking : Asking) (before
 -- the reply to what is asked, after the events by which it was read
 pub record RepliesToAsking (door : Door) (account : Account) (asking : Asking) (before after : GateState) (was now : Faults) (text : List ℕ)
     (events : List Event) : Type 0 where
-  pub of : (read : List Event) → Reads door account.token (Ok asking) read
+  pub of : (read : List Event) → ReadsAsking door account.token (Ok asking) read
       → (replies : Replies door account before (read ++ events) text after) × Bears (reply_blamed replies) was now
 
 -- why there is no reply
 abbrev pub IsUnread : Door → List ℕ → Faults → Faults → List Event → Type 0
 IsUnread door token was now events =
-    Reads door token (Err unread.Ended) events ⊎ (Reads door token (Err unread.Failed) events × Rose was.front now.front)
+    ReadsAsking door token (Err unread.Ended) events ⊎ (ReadsAsking door token (Err unread.Failed) events × Rose was.front now.front)
 
 -- the reply to what was read, where there is one
 abbrev pub RepliesBy : Door → Account → GateState → GateState → Faults → Faults → Option Response → List Event → Type 0

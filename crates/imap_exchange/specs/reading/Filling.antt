@@ -16,7 +16,7 @@ pub record Grows (before after : Octets) (gave : List ℕ) : Type 0 where
   pub given : after.given ≡ before.given + length gave
 
 -- By these events the store gave these octets, each time while further ones were awaited.
-pub record Gains (begun : ℕ) (before after : Octets) (gave : List ℕ) (events : List Event) : Type 0 where
+pub record GainsOctets (begun : ℕ) (before after : Octets) (gave : List ℕ) (events : List Event) : Type 0 where
   pub said : Talk gave [] events
   pub needed : ReadsWhile (AwaitsResponse begun before) events
   pub grows : Grows before after gave

@@ -2,7 +2,7 @@
 use Rattle.std.specs.Prelude.{◌≡◌, ◌<◌, ◌++◌, ℕ, Bool, true, false, List, [], length, get_or}
 use Rattle.gate_world.specs.declared.event.Event.{Event}
 use Rattle.gate_world.specs.Octets.{Talk}
-use Rattle.imap_exchange.specs.Responses.{Ends}
+use Rattle.imap_exchange.specs.Responses.{EndsTalk}
 
 -- the piece at this place, none after the last
 abbrev pub piece_at : List (List ℕ) → ℕ → List ℕ
@@ -13,7 +13,7 @@ pub record Offers (was up : Bool) (text : List ℕ) (events : List Event) : Type
   pub talk : List Event
   pub took : List ℕ
   pub left : List ℕ
-  pub ended : Ends was up talk events
+  pub ended : EndsTalk was up talk events
   pub said : Talk [] took talk
   pub whole : took ++ left ≡ text
   pub all_taken : up ≡ true → left ≡ []

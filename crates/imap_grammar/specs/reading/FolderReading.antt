@@ -32,15 +32,15 @@ count_in so_far b =
     (told_as so_far (map lower (take n b)) (long_in (take (span is_digit d) d)), drop (span is_digit d) d)
 
 -- at most n counts, each but the first after a space
-unfoldable pub counts_in : ℕ → StatusItems → List ℕ → StatusItems
-counts_in zero so_far b = so_far
-counts_in (suc most) so_far b =
+unfoldable pub status_counts : ℕ → StatusItems → List ℕ → StatusItems
+status_counts zero so_far b = so_far
+status_counts (suc most) so_far b =
     let r = count_in so_far b in
-    if get_or r.1 0 0 == 32 then counts_in most r.0 (drop 1 r.1) else r.0
+    if get_or r.1 0 0 == 32 then status_counts most r.0 (drop 1 r.1) else r.0
 
 -- after the opening bracket
 unfoldable pub counts_of : List ℕ → StatusItems
-counts_of b = if get_or b 0 0 == 41 then no_counts else counts_in (length b) no_counts b
+counts_of b = if get_or b 0 0 == 41 then no_counts else status_counts (length b) no_counts b
 
 unfoldable pub status_in : List ℕ → Response
 status_in b =

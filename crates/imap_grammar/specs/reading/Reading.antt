@@ -38,18 +38,18 @@ range_in b =
     else (range_of first first, after)
 
 -- at most n ranges, each but the first after a comma
-unfoldable pub ranges_in : ℕ → List ℕ → List UidRange
-ranges_in zero b = []
-ranges_in (suc most) b =
+unfoldable pub ranges_read : ℕ → List ℕ → List UidRange
+ranges_read zero b = []
+ranges_read (suc most) b =
     let r = range_in b in
-    r.0 ∷ (if get_or r.1 0 0 == 44 then ranges_in most (drop 1 r.1) else [])
+    r.0 ∷ (if get_or r.1 0 0 == 44 then ranges_read most (drop 1 r.1) else [])
 
 -- after the space after VANISHED
 unfoldable pub vanished_in : List ℕ → Response
 vanished_in b =
     if get_or b 0 0 == 40
-    then Vanished true (record { ranges = ranges_in (length b) (drop 10 b) })
-    else Vanished false (record { ranges = ranges_in (length b) b })
+    then Vanished true (record { ranges = ranges_read (length b) (drop 10 b) })
+    else Vanished false (record { ranges = ranges_read (length b) b })
 
 -- ---- lines
 

@@ -4,12 +4,12 @@ use Rattle.std.specs.List.{list_all, filter}
 use Rattle.text_words.specs.Cuts.{front, back}
 use Rattle.text_words.specs.Sequence.{Sequence}
 use Rattle.mail_header.specs.Tokens.{Spelled}
-use Rattle.mail_header.specs.Mailboxes.{has_mark, is_gap, is_phrase, is_display_name, is_addr_spec, is_inner, behind_route, are_hops, Mailbox}
+use Rattle.mail_header.specs.Mailboxes.{has_mark, is_gap, is_phrase, is_display_name, is_addr_spec, is_inner_token, behind_route, are_hops, Mailbox}
 use Rattle.mail_header.specs.AddressLists.{Element, IsElement, Empty, Head, End, Member, is_no_comma, is_no_separator, Grouped, run_of}
 
 -- a token that may stand outside angle brackets in a mailbox or a phrase
-abbrev pub is_plain : Spelled → Bool
-is_plain s = not (has_mark 60 s || has_mark 62 s || has_mark 44 s || has_mark 58 s || has_mark 59 s)
+abbrev pub is_plain_token : Spelled → Bool
+is_plain_token s = not (has_mark 60 s || has_mark 62 s || has_mark 44 s || has_mark 58 s || has_mark 59 s)
 
 abbrev pub is_no_greater : Spelled → Bool
 is_no_greater s = not (has_mark 62 s)
@@ -43,12 +43,12 @@ abbrev pub end_before : List Spelled → List Spelled → Option (Element × ℕ
 end_before gaps rest = if stops is_no_comma rest then Some (End, 1 + length gaps) else None
 
 -- of what follows a semicolon
-abbrev pub end_of : List Spelled → Option (Element × ℕ)
-end_of more = end_before (front is_gap more) (back is_gap more)
+abbrev pub element_end : List Spelled → Option (Element × ℕ)
+element_end more = end_before (front is_gap more) (back is_gap more)
 
 abbrev pub angle_before : List Spelled → List Spelled → List Spelled → List Spelled → Option (Element × ℕ)
 angle_before phrase inner gaps rest =
-    if is_display_name phrase && is_inner inner && stops is_no_separator rest
+    if is_display_name phrase && is_inner_token inner && stops is_no_separator rest
     then Some (Member (in_angle phrase inner gaps), length phrase + 1 + length inner + 1 + length gaps)
     else None
 
@@ -68,7 +68,7 @@ opened_of phrase more = closed_of phrase (front is_no_greater more) (back is_no_
 abbrev pub separator_of : Spelled → List Spelled → Option (Element × ℕ)
 separator_of s more =
     if has_mark 44 s then Some (Empty, 1)
-    else if has_mark 59 s then end_of more
+    else if has_mark 59 s then element_end more
     else None
 
 abbrev pub is_empty : List Spelled → Bool
@@ -90,7 +90,7 @@ element_of plain (s ∷ more) = marked_of plain s more
 
 -- the element at the front, and how many tokens it has
 unfoldable pub element_in : List Spelled → Option (Element × ℕ)
-element_in ts = element_of (front is_plain ts) (back is_plain ts)
+element_in ts = element_of (front is_plain_token ts) (back is_plain_token ts)
 
 -- a word of the class where one is due, or else a dot
 abbrev pub comes_in_turn : (Spelled → Bool) → Bool → Spelled → Bool
@@ -113,16 +113,16 @@ is_addressee End = false
 is_addressee (Member m) = true
 
 -- what a group or a run of mailboxes outside one comes to
-abbrev pub closed : Option (List Spelled) → List Mailbox → List Grouped
-closed None ms = run_of ms
-closed (Some phrase) ms = (Some phrase, ms) ∷ []
+abbrev pub group_closed : Option (List Spelled) → List Mailbox → List Grouped
+group_closed None ms = run_of ms
+group_closed (Some phrase) ms = (Some phrase, ms) ∷ []
 
 -- the groups of the elements, where the one that is open has this phrase, and these mailboxes so far
 abbrev pub grouped_from : Option (List Spelled) → List Mailbox → List Element → List Grouped
-grouped_from phrase ms [] = closed phrase ms
+grouped_from phrase ms [] = group_closed phrase ms
 grouped_from phrase ms (Empty ∷ es) = grouped_from phrase ms es
-grouped_from phrase ms (Head next ∷ es) = closed phrase ms ++ grouped_from (Some next) [] es
-grouped_from phrase ms (End ∷ es) = closed phrase ms ++ grouped_from None [] es
+grouped_from phrase ms (Head next ∷ es) = group_closed phrase ms ++ grouped_from (Some next) [] es
+grouped_from phrase ms (End ∷ es) = group_closed phrase ms ++ grouped_from None [] es
 grouped_from phrase ms (Member m ∷ es) = grouped_from phrase (ms ++ m ∷ []) es
 
 -- any element but an empty place

@@ -25,8 +25,8 @@ pub record Builds (b : Builder) (es : List Element) (all : List Grouped) : Type 
   pub has : Has b done phrase ms
   pub all_is : done ++ grouped_from phrase ms es ≡ all
 
-abbrev pub Takes : Builder → Element → Builder → Type 0
-Takes old e new = (es : List Element) (all : List Grouped) → Builds old (e ∷ es) all → Builds new es all
+abbrev pub TakesElement : Builder → Element → Builder → Type 0
+TakesElement old e new = (es : List Element) (all : List Grouped) → Builds old (e ∷ es) all → Builds new es all
 
 -- the group of a name and members; members without a name are a run of mailboxes outside a group
 abbrev pub group_from : Option (List ℕ) → List Address → Option Group

@@ -2,5 +2,5 @@
 use Rattle.std.specs.Prelude.{ℕ, List, Vec}
 use Rattle.std.specs.declared.alloc.Global.{Global}
 
-abbrev pub items_of : Vec ℕ Global → List ℕ
-items_of v = v.items
+abbrev pub set_items : Vec ℕ Global → List ℕ
+set_items v = v.items

@@ -7,7 +7,7 @@ BeginsWithOpener [] = ⊥
 BeginsWithOpener (c ∷ t) = is_opener c ≡ true
 
 -- what is kept of the unit at the front of the text was added, and rest follows the unit
-pub record Takes (text rest old new : List ℕ) : Type 0 where
+pub record TakesUnit (text rest old new : List ℕ) : Type 0 where
   pub kept : List ℕ
   pub unit : List ℕ
   pub whole : text ≡ unit ++ rest

@@ -8,9 +8,9 @@ note_property name wanted = if bytes_eq name (codes "id") then Some wanted else
     (if bytes_eq name (codes "totalEmails") then Some (record wanted { total_emails = true }) else
     (if bytes_eq name (codes "unreadEmails") then Some (record wanted { unread_emails = true }) else None))
 
-abbrev pub noted : Properties → List (List ℕ) → Option Properties
-noted wanted [] = Some wanted
-noted wanted (name ∷ names) = option_and_then (λ more. noted more names) (note_property name wanted)
+abbrev pub properties_noted : Properties → List (List ℕ) → Option Properties
+properties_noted wanted [] = Some wanted
+properties_noted wanted (name ∷ names) = option_and_then (λ more. properties_noted more names) (note_property name wanted)
 
 abbrev pub known_properties : List (List ℕ) → Option Properties
-known_properties names = noted (record { total_emails = false; unread_emails = false }) names
+known_properties names = properties_noted (record { total_emails = false; unread_emails = false }) names

@@ -35,8 +35,8 @@ abbrev pub emails_at : KeyIndex → List ℕ → List ℕ
 emails_at index key = numbers_at key index.keys
 
 -- whether the index has the Email at the key
-abbrev pub has : KeyIndex → List ℕ → ℕ → Bool
-has index key email = contains entry_cmp index (key, email)
+abbrev pub has_entry : KeyIndex → List ℕ → ℕ → Bool
+has_entry index key email = contains entry_cmp index (key, email)
 
 -- the keys of an Email's ids under its base subject
 abbrev pub keys_of : Option Member → List (List ℕ)
@@ -45,23 +45,23 @@ keys_of (Some member) = keys_under (base_digest member.base) member.ids
 
 -- an Email is in the index at a key exactly where it is one of the Email's keys
 abbrev pub IsIndexOf : KeyIndex → Members → Type 0
-IsIndexOf index members = (key : List ℕ) (email : ℕ) → has index key email ≡ is_among (keys_of (member_at members email)) key
+IsIndexOf index members = (key : List ℕ) (email : ℕ) → has_entry index key email ≡ is_among (keys_of (member_at members email)) key
 
 -- the index has the same Emails at each key
 abbrev pub SameIndex : KeyIndex → KeyIndex → Type 0
-SameIndex old new = (key : List ℕ) (email : ℕ) → has new key email ≡ has old key email
+SameIndex old new = (key : List ℕ) (email : ℕ) → has_entry new key email ≡ has_entry old key email
 
 -- the Email is in the index at this key, or isn't, and the rest is as it was
 abbrev pub SetsOne : KeyIndex → KeyIndex → List ℕ → ℕ → Bool → Type 0
-SetsOne old new at email there = (key : List ℕ) (e : ℕ) → has new key e ≡ (if bytes_eq key at && (email == e) then there else has old key e)
+SetsOne old new at email there = (key : List ℕ) (e : ℕ) → has_entry new key e ≡ (if bytes_eq key at && (email == e) then there else has_entry old key e)
 
 -- the same at each of these keys
 abbrev pub SetsAll : KeyIndex → KeyIndex → List (List ℕ) → ℕ → Bool → Type 0
-SetsAll old new keys email there = (key : List ℕ) (e : ℕ) → has new key e ≡ (if is_among keys key && (email == e) then there else has old key e)
+SetsAll old new keys email there = (key : List ℕ) (e : ℕ) → has_entry new key e ≡ (if is_among keys key && (email == e) then there else has_entry old key e)
 
 -- but for the Email at these keys, the rest is as it was
 abbrev pub SameApart : KeyIndex → KeyIndex → List (List ℕ) → ℕ → Type 0
-SameApart old new keys email = (key : List ℕ) (e : ℕ) → (is_among keys key && (email == e)) ≡ false → has new key e ≡ has old key e
+SameApart old new keys email = (key : List ℕ) (e : ℕ) → (is_among keys key && (email == e)) ≡ false → has_entry new key e ≡ has_entry old key e
 
 -- the Thread of the first of these Emails that names the id and has an equal base subject
 abbrev pub thread_if : Option Member → List ℕ → List ℕ → Option ℕ → Option ℕ

@@ -1,7 +1,7 @@
 use Rattle.std.proofs.Common.{◌≡◌, ◌∙◌, true, false, ℕ, List, [], drop, subst, sym, refl, Some}
 use Rattle.std.specs.Prelude.{slice_get}
 use Rattle.std.proofs.Math.ListN.{drop_of_length-le}
-use Rattle.mime_tree.specs.Roles.{is_plain}
+use Rattle.mime_tree.specs.Roles.{is_plain_part}
 use Rattle.email_get.specs.EmailObjects.{IsPreview}
 use Rattle.email_get.specs.reading.LeafLists.{parts_of, parts_at}
 use Rattle.email_get.proofs.ListLemmas.{no_leaf_here, no_plain_here, plain_here, place_within, same_leaf}
@@ -16,7 +16,7 @@ returns-then-is_plain c =
     let k = c.saturating_sub.result in
     let P : ℕ → Type 0 = λ n. slice_get ls n ≡ Some p in
     let e : slice_get ls k ≡ Some p = subst P (sym c.saturating_sub.ensures) c.in-Some.ensures in
-    let plain : is_plain p ≡ true = sym c.is_plain.ensures ∙ c.if-is_plain.true in (
+    let plain : is_plain_part p ≡ true = sym c.is_plain.ensures ∙ c.if-is_plain.true in (
       place_within refs k p e,
       (
         (p, e, plain),
@@ -31,7 +31,7 @@ loop-number-preserved c b t h =
     let i = c.loop-number.number-index in
     elim c.match-leaf_at.branch [
       | in-Some+else-is_plain w ↦
-          let plain : is_plain w.in-Some.part.now ≡ false = sym w.is_plain.ensures ∙ w.if-is_plain.false in
+          let plain : is_plain_part w.in-Some.part.now ≡ false = sym w.is_plain.ensures ∙ w.if-is_plain.false in
           c.loop-number.invariant b t (no_plain_here b ls c.args.numbers.now i w.in-Some.part.now t c.loop-number-test.true w.in-Some.ensures plain h)
       | in-None w ↦ c.loop-number.invariant b t (no_leaf_here b ls c.args.numbers.now i t c.loop-number-test.true w.in-None.ensures h)
     ]

@@ -3,11 +3,11 @@ use Rattle.imap_automaton.specs.declared.sym.Item.TheVariants as item
 use Rattle.imap_automaton.specs.declared.sym.Sym.TheVariants as sym
 use Rattle.imap_automaton.specs.Fits.{SymFits}
 use Rattle.imap_automaton.specs.Responses.{responses}
-use Rattle.pushdown.specs.Run.{RunsTo}
+use Rattle.pushdown.specs.Run.{LeadsTo}
 use Rattle.imap_automaton.proofs.runs.number_run.Given as goal
 
 abbrev pub invariant-loop-i : goal.invariant-loop-i
 invariant-loop-i l = record {
   fits : SymFits (sym.Item (item.Number l.so_far l.length)) ≡ true;
-  run : RunsTo responses (sym.Item (item.Number l.value l.digits)) (take l.i l.octets) (sym.Item (item.Number l.so_far l.length));
+  run : LeadsTo responses (sym.Item (item.Number l.value l.digits)) (take l.i l.octets) (sym.Item (item.Number l.so_far l.length));
 }

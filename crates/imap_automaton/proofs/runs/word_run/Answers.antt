@@ -3,7 +3,7 @@ use Rattle.std.proofs.lemmas.Bool.{and_parts}
 use Rattle.imap_automaton.specs.declared.sym.Sym.TheVariants as sym
 use Rattle.imap_automaton.specs.Keys.{in_word, goes_on}
 use Rattle.imap_automaton.specs.Responses.{responses}
-use Rattle.pushdown.specs.Run.{RunsTo}
+use Rattle.pushdown.specs.Run.{LeadsTo}
 use Rattle.imap_automaton.proofs.KeyLemmas.{goes_to}
 use Rattle.pushdown.proofs.Leading.{runs_none, runs_more}
 use Rattle.imap_automaton.proofs.RunLemmas.{word_stays}
@@ -17,7 +17,7 @@ loop-count-init c =
     record {
       within = omega arith;
       key = omega (arith, c.requires);
-      run = subst (λ (n : ℕ). RunsTo responses word (take 0 c.args.octets.now) (sym.Word c.args.place c.args.key n)) same (runs_none responses word c.args.octets.now);
+      run = subst (λ (n : ℕ). LeadsTo responses word (take 0 c.args.octets.now) (sym.Word c.args.place c.args.key n)) same (runs_none responses word c.args.octets.now);
     }
 
 pub loop-count-preserved : goal.loop-count-preserved
@@ -34,5 +34,5 @@ loop-count-preserved c =
     record {
       within = omega arith;
       key = omega (arith, next.1);
-      run = subst (λ (n : ℕ). RunsTo responses (word c.args.at) (take (count + 1) c.args.octets.now) (word n)) same more;
+      run = subst (λ (n : ℕ). LeadsTo responses (word c.args.at) (take (count + 1) c.args.octets.now) (word n)) same more;
     }

@@ -1,7 +1,7 @@
 use Rattle.std.proofs.Common.{rules, arith, sym, subst, ◌++◌, ◌∙◌, ◌≡◌, List, ℕ, [], refl}
 use Rattle.std.proofs.lemmas.Result.{err_from_is_err_and}
 use Rattle.gate_world.proofs.Joins.{join, none, widen}
-use Rattle.imap_grammar.specs.Fed.{Fed}
+use Rattle.imap_grammar.specs.Fed.{IsScannerFed}
 use Rattle.imap_grammar.specs.Scan.{ScanOf}
 use Rattle.imap_grammar.specs.declared.answer.Scan.TheVariants.{NeedMore, Bad}
 use Rattle.imap_exchange.proofs.Responses.{Gains-append, Gains-none, gained, read_whole, read_bad, read_wanting, fill_failed, kept_front}
@@ -42,7 +42,7 @@ reading-preserved g c =
     record {
       tape = join _ c.reading.invariant.tape c.in_ok-fill.ensures.tape
           (λ x y so fills. (so.0 ++ fills.0, Gains-append so.1 (gained c.args.begun c.reading.received c.fill.new.self scanned fills)));
-      fed = subst (λ (l : List ℕ). Fed c.scan_on.new.scanner l) (c.as_slice.ensures ∙ sym front.0) (c.scan_on.ensures.more c.in-NeedMore.is);
+      fed = subst (λ (l : List ℕ). IsScannerFed c.scan_on.new.scanner l) (c.as_slice.ensures ∙ sym front.0) (c.scan_on.ensures.more c.in-NeedMore.is);
       within = front.1;
       room = search rules;
       given = omega (arith, c.reading.invariant.given, c.in_ok-fill.ensures.more);

@@ -1,9 +1,9 @@
 use Rattle.std.proofs.Common.{◌≡◌, ◌∙◌, ◌++◌, ℕ, ap, sym, arith}
-use Rattle.imap_grammar.specs.reading.Reading.{ranges_in}
+use Rattle.imap_grammar.specs.reading.Reading.{ranges_read}
 use Rattle.imap_grammar.proofs.SetReadings.{range_end}
 use Rattle.imap_grammar.proofs.sets.ranges_in.Goals as goal
 
 pub returns : goal.returns
 returns c =
     let none : c.loop-left.left ≡ 0 = omega (arith, c.loop-left-test.false) in
-    sym (range_end c.loop-left.ranges.items c.loop-left.rest.now) ∙ ap (λ (n : ℕ). c.loop-left.ranges.items ++ ranges_in n c.loop-left.rest.now) (sym none) ∙ c.loop-left.invariant
+    sym (range_end c.loop-left.ranges.items c.loop-left.rest.now) ∙ ap (λ (n : ℕ). c.loop-left.ranges.items ++ ranges_read n c.loop-left.rest.now) (sym none) ∙ c.loop-left.invariant

@@ -1,13 +1,13 @@
 use Rattle.std.proofs.Common.{Some, [], ◌++◌, append_assoc, ◌∙◌}
 use Rattle.mail_header.specs.Names.{Named}
-use Rattle.mail_header.specs.reading.ElementReading.{closed, grouped_from}
+use Rattle.mail_header.specs.reading.ElementReading.{group_closed, grouped_from}
 use Rattle.mail_header.specs.TokenView.{tokens_view}
 use Rattle.mail_header.proofs.GroupLemmas.{closes, no_members}
 use Rattle.mail_header.proofs.address_lists.begin.Goals as goal
 
 pub returns : goal.returns
 returns c = λ es all b. record {
-  done = b.done ++ closed b.phrase b.ms;
+  done = b.done ++ group_closed b.phrase b.ms;
   phrase = Some (tokens_view c.args.phrase.now);
   ms = [];
   has = record {
@@ -16,5 +16,5 @@ returns c = λ es all b. record {
         (tokens_view c.args.phrase.now) c.in_ok-name.name c.in_ok-name.ensures;
     members = no_members c.new.result.items c.new.ensures.items;
   };
-  all_is = append_assoc b.done (closed b.phrase b.ms) (grouped_from (Some (tokens_view c.args.phrase.now)) [] es) ∙ b.all_is;
+  all_is = append_assoc b.done (group_closed b.phrase b.ms) (grouped_from (Some (tokens_view c.args.phrase.now)) [] es) ∙ b.all_is;
 }

@@ -1,12 +1,12 @@
 use Rattle.std.proofs.Common.{None, [], ◌++◌, append_assoc, ◌∙◌}
 use Rattle.mail_header.specs.Names.{NoName}
-use Rattle.mail_header.specs.reading.ElementReading.{closed, grouped_from}
+use Rattle.mail_header.specs.reading.ElementReading.{group_closed, grouped_from}
 use Rattle.mail_header.proofs.GroupLemmas.{closes, no_members}
 use Rattle.mail_header.proofs.address_lists.end.Goals as goal
 
 pub returns : goal.returns
 returns c = λ es all b. record {
-  done = b.done ++ closed b.phrase b.ms;
+  done = b.done ++ group_closed b.phrase b.ms;
   phrase = None;
   ms = [];
   has = record {
@@ -14,5 +14,5 @@ returns c = λ es all b. record {
     name = NoName;
     members = no_members c.new.result.items c.new.ensures.items;
   };
-  all_is = append_assoc b.done (closed b.phrase b.ms) (grouped_from None [] es) ∙ b.all_is;
+  all_is = append_assoc b.done (group_closed b.phrase b.ms) (grouped_from None [] es) ∙ b.all_is;
 }

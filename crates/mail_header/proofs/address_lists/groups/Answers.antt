@@ -5,7 +5,7 @@ use Rattle.std.proofs.lemmas.Result.{IfOk-weaker}
 use Rattle.mail_header.specs.declared.elements.Element.{Element as Code}
 use Rattle.mail_header.specs.AddressLists.{Grouped}
 use Rattle.mail_header.specs.Names.{NoName, IsGroup}
-use Rattle.mail_header.specs.reading.ElementReading.{closed, grouped_from}
+use Rattle.mail_header.specs.reading.ElementReading.{group_closed, grouped_from}
 use Rattle.mail_header.specs.reading.ElementView.{elements_view}
 use Rattle.mail_header.specs.reading.GroupBuilding.{Builds}
 use Rattle.mail_header.proofs.GroupLemmas.{closes, no_members, no_groups}
@@ -34,7 +34,7 @@ returns c =
     let i = c.loop-element.element-index in
     let b = c.loop-element.invariant in
     let all = grouped_from None [] (elements_view es) in
-    let end : b.done ++ closed b.phrase b.ms ≡ all = ap (λ (u : List Code). b.done ++ grouped_from b.phrase b.ms (elements_view u)) (sym (drop_all i es (omega arith)))
+    let end : b.done ++ group_closed b.phrase b.ms ≡ all = ap (λ (u : List Code). b.done ++ grouped_from b.phrase b.ms (elements_view u)) (sym (drop_all i es (omega arith)))
     ∙ b.all_is in
     IfOk-weaker c.close.result _ _ (λ v h. subst (λ (u : List Grouped). AllZip IsGroup u v.items) end
     (closes c.loop-element.builder b.done b.phrase b.ms v.items b.has h)) c.close.ensures

@@ -4,14 +4,14 @@ use Rattle.text_words.specs.Cuts.{front, back}
 use Rattle.mail_header.specs.declared.token.Token.{Token}
 use Rattle.mail_header.specs.Tokens.{Spelled}
 use Rattle.mail_header.specs.AddressLists.{Element}
-use Rattle.mail_header.specs.reading.ElementReading.{is_plain, bare_of, marked_of, element_of, element_in}
+use Rattle.mail_header.specs.reading.ElementReading.{is_plain_token, bare_of, marked_of, element_of, element_in}
 use Rattle.mail_header.specs.reading.ElementView.{element_view}
 use Rattle.mail_header.specs.TokenView.{token_view, tokens_view}
 use Rattle.mail_header.proofs.elements.element_at.Goals as goal
 
-cut_here : (ts plain rest : List Spelled) → plain ≡ front is_plain ts → rest ≡ back is_plain ts → element_in ts ≡ element_of plain rest
+cut_here : (ts plain rest : List Spelled) → plain ≡ front is_plain_token ts → rest ≡ back is_plain_token ts → element_in ts ≡ element_of plain rest
 unfolding element_in
-cut_here ts plain rest e f = ap (λ (u : List Spelled). element_of u (back is_plain ts)) (sym e) ∙ ap (λ (u : List Spelled). element_of plain u) (sym f)
+cut_here ts plain rest e f = ap (λ (u : List Spelled). element_of u (back is_plain_token ts)) (sym e) ∙ ap (λ (u : List Spelled). element_of plain u) (sym f)
 
 at_end : (r : List Token) (plain : List Spelled) → length r < 1 → element_of plain (tokens_view r) ≡ bare_of plain
 at_end [] plain e = refl

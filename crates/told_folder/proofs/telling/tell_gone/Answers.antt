@@ -2,7 +2,7 @@ use Rattle.std.proofs.Common.{Bool, ◌≡◌, ℕ, List, not, length, arith, na
 use Rattle.std.specs.BTreeMap.{get}
 use Rattle.told_folder.specs.Folders.{uid_of}
 use Rattle.told_folder.specs.Keyed.{Ascends}
-use Rattle.told_folder.specs.Tell.{without}
+use Rattle.told_folder.specs.Tell.{without_those}
 use Rattle.told_folder.specs.Work.{cleared}
 use Rattle.told_folder.specs.declared.message.Message.{Message}
 use Rattle.told_folder.proofs.VanishLemmas.{vanish_goes, filter_whole, ascends_without}
@@ -13,8 +13,8 @@ returns-then-left-before g c =
     let xs : List Message = c.args.work.now.messages in
     let gone : ℕ → Bool = g.U.Uids.has c.args.gone.now in
     let all : c.into_vec-messages.result.items ≡ xs = c.into_vec-messages.ensures ∙ c.replace.ensures.value in
-    let kept : c.clear_messages.new.messages.items ≡ without gone xs = c.clear_messages.ensures ∙ ap (λ (zs : List Message). without gone zs) all in
-    let now : c.new-2.result ≡ without gone xs = c.new-2.ensures ∙ kept in
+    let kept : c.clear_messages.new.messages.items ≡ without_those gone xs = c.clear_messages.ensures ∙ ap (λ (zs : List Message). without_those gone zs) all in
+    let now : c.new-2.result ≡ without_those gone xs = c.new-2.ensures ∙ kept in
     let clear : (q : ℕ) → get nat_cmp c.clear_marks.new.marks q ≡ cleared gone xs q (get nat_cmp c.args.work.now.marks q) = rw (c.as_slice.ensures.value, c.into_vec-messages.ensures, c.replace.ensures.value) at c.clear_marks.ensures in
     vanish_goes _ _ gone c.requires (record {
       folder = refl;
@@ -29,8 +29,8 @@ returns-else-left-before g c =
     let xs : List Message = c.args.work.now.messages in
     let gone : ℕ → Bool = g.U.Uids.has c.args.gone.now in
     let all : c.into_vec-messages.result.items ≡ xs = c.into_vec-messages.ensures ∙ c.replace.ensures.value in
-    let kept : c.clear_messages.new.messages.items ≡ without gone xs = c.clear_messages.ensures ∙ ap (λ (zs : List Message). without gone zs) all in
-    let now : c.new-2.result ≡ without gone xs = c.new-2.ensures ∙ kept in
+    let kept : c.clear_messages.new.messages.items ≡ without_those gone xs = c.clear_messages.ensures ∙ ap (λ (zs : List Message). without_those gone zs) all in
+    let now : c.new-2.result ≡ without_those gone xs = c.new-2.ensures ∙ kept in
     let clear : (q : ℕ) → get nat_cmp c.clear_marks.new.marks q ≡ cleared gone xs q (get nat_cmp c.args.work.now.marks q) = rw (c.as_slice.ensures.value, c.into_vec-messages.ensures, c.replace.ensures.value) at c.clear_marks.ensures in
     let len_same : length c.clear_messages.new.messages.items ≡ length xs = omega (arith, c.clear_messages.new.messages.ok, c.into_vec-messages.result.ok, c.len-before.ensures, c.len-left.ensures, ap length all) in
     vanish_goes _ _ gone c.requires (record {
@@ -46,4 +46,4 @@ new-requires-2 g c =
     let xs : List Message = c.args.work.now.messages in
     let gone : ℕ → Bool = g.U.Uids.has c.args.gone.now in
     let all : c.into_vec-messages.result.items ≡ xs = c.into_vec-messages.ensures ∙ c.replace.ensures.value in
-    subst (λ (zs : List Message). Ascends uid_of zs) (sym (c.clear_messages.ensures ∙ ap (λ (zs : List Message). without gone zs) all)) (ascends_without gone xs c.requires)
+    subst (λ (zs : List Message). Ascends uid_of zs) (sym (c.clear_messages.ensures ∙ ap (λ (zs : List Message). without_those gone zs) all)) (ascends_without gone xs c.requires)

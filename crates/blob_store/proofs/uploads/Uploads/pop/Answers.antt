@@ -1,7 +1,7 @@
 use Rattle.std.proofs.Common.{◌≡◌, ◌==◌, ◌+◌, ◌-◌, ◌≤◌, List, ℕ, ◌∷◌, ◌++◌, [], Some, length, refl, sym, ap, subst, ◌∙◌, arith}
 use Rattle.std.specs.Cmp.Lexicographic.{pointwise}
 use Rattle.indexmap.specs.IndexMap.{get}
-use Rattle.blob_store.specs.Uploads.{octets_of}
+use Rattle.blob_store.specs.Uploads.{octets_in_all}
 use Rattle.blob_store.specs.Kept.{gathered, AreKept}
 use Rattle.blob_store.proofs.KeptLemmas.{Without, popped}
 use Rattle.blob_store.proofs.uploads.Uploads.pop.Goals as goal
@@ -21,8 +21,8 @@ invariant_of-self-in-Some-swap_remove c =
       omega (
         arith,
         c.self.invariant.1,
-        ap (λ ids. octets_of (gathered (get (pointwise ◌==◌) c.self.inside.octets) ids)) c.in-Some.ensures.items,
-        ap octets_of w.all,
+        ap (λ ids. octets_in_all (gathered (get (pointwise ◌==◌) c.self.inside.octets) ids)) c.in-Some.ensures.items,
+        ap octets_in_all w.all,
         ap length same,
         ap length c.as_slice.ensures,
       ),
@@ -39,4 +39,4 @@ pub returns-in-Some-swap_remove-clause-fewer : goal.returns-in-Some-swap_remove-
 returns-in-Some-swap_remove-clause-fewer c =
     let w = left c in
     let all = sym w.all ∙ ap (gathered (get (pointwise ◌==◌) c.self.inside.octets)) (sym c.in-Some.ensures.items) ∙ c.self.view_is in
-    omega (arith, ap octets_of all)
+    omega (arith, ap octets_in_all all)

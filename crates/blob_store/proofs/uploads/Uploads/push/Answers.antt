@@ -2,7 +2,7 @@ use Rattle.std.proofs.Common.{◌≡◌, ◌==◌, ◌+◌, List, ℕ, ◌∷◌
 use Rattle.std.specs.Cmp.Lexicographic.{pointwise}
 use Rattle.std.specs.Map.{lookup}
 use Rattle.indexmap.specs.IndexMap.{get}
-use Rattle.blob_store.specs.Uploads.{blob_id, upload_with, octets_of}
+use Rattle.blob_store.specs.Uploads.{blob_id, upload_with, octets_in_all}
 use Rattle.blob_store.specs.Kept.{gathered, AreKept}
 use Rattle.blob_store.proofs.KeptLemmas.{With, pushed, octets_of-push}
 use Rattle.blob_store.proofs.uploads.Uploads.push.Goals as goal
@@ -10,9 +10,9 @@ use Rattle.blob_store.proofs.uploads.Uploads.push.Goals as goal
 pub invariant_of-self-in_err-insert : goal.invariant_of-self-in_err-insert
 invariant_of-self-in_err-insert c =
     let total = c.self.inside.total in
-    let at_old = subst (λ ids. AreKept (get (pointwise ◌==◌) c.self.inside.octets) ids × (total ≡ octets_of (gathered (get (pointwise ◌==◌) c.self.inside.octets) ids)))
+    let at_old = subst (λ ids. AreKept (get (pointwise ◌==◌) c.self.inside.octets) ids × (total ≡ octets_in_all (gathered (get (pointwise ◌==◌) c.self.inside.octets) ids)))
     (sym c.reserve.ensures.items) c.self.invariant in
-    subst (λ es. AreKept (λ k. lookup (pointwise ◌==◌ k) es) c.reserve.new.self.items × (total ≡ octets_of (gathered (λ k. lookup (pointwise ◌==◌ k) es) c.reserve.new.self.items)))
+    subst (λ es. AreKept (λ k. lookup (pointwise ◌==◌ k) es) c.reserve.new.self.items × (total ≡ octets_in_all (gathered (λ k. lookup (pointwise ◌==◌ k) es) c.reserve.new.self.items)))
     (sym c.in_err-insert.ensures.err) at_old
 
 -- what stands with the further id in the map and at the end of the queue
@@ -37,8 +37,8 @@ invariant_of-self-2 c =
         c.self.invariant.1,
         ap length c.as_slice.ensures,
         octets_of-push (gathered before c.self.inside.ids.items) c.args.octets,
-        ap octets_of w.all,
-        ap (λ ids. octets_of (gathered after ids)) (queue c),
+        ap octets_in_all w.all,
+        ap (λ ids. octets_in_all (gathered after ids)) (queue c),
       ),
     )
 

@@ -1,6 +1,6 @@
 use Rattle.std.proofs.Common.{◌≡◌, List, [], ◌∷◌, refl, sym, ap, subst, ◌∙◌, arith}
 use Rattle.pushdown.specs.Flow.{Ready, left_of}
-use Rattle.pushdown.specs.Fed.{Stands}
+use Rattle.pushdown.specs.Fed.{LeavesSymbols}
 use Rattle.pushdown.proofs.Marks.{start_good}
 use Rattle.pushdown.proofs.scanner.Scanner.new.Goals as goal
 
@@ -12,7 +12,7 @@ returns g c =
     record {
       ready = subst (Ready machine) (sym is) (start_good machine laws, (omega (arith, laws.start_room), tt));
       more = λ e. none machine.start (sym is ∙ e);
-      stands = subst (λ (ss : List g.row.S.Denot). Stands machine ss 0 []) (sym is) (record { text = []; octets = refl; leads = refl; counted = refl; within = omega arith });
+      stands = subst (λ (ss : List g.row.S.Denot). LeavesSymbols machine ss 0 []) (sym is) (record { text = []; octets = refl; leads = refl; counted = refl; within = omega arith });
       taken = refl;
       bound = omega (arith, ap (left_of machine) is, laws.start_left);
     }
