@@ -12,7 +12,8 @@ pub record HaveGone (most : ℕ) (all now : List (List ℕ)) : Type 0 where
 pub none_gone : (most : ℕ) (all : List (List ℕ)) → HaveGone most all all
 none_gone most all = record { gone = []; whole = refl; needed = inl refl }
 
-pub one_gone : (most : ℕ) (all : List (List ℕ)) (oldest : List ℕ) (now : List (List ℕ)) → HaveGone most all (oldest ∷ now) → most < octets_in_all (oldest ∷ now) → HaveGone most all now
+pub one_gone : (most : ℕ) (all : List (List ℕ)) (oldest : List ℕ) (now : List (List ℕ)) → HaveGone most all (oldest ∷ now) → most < octets_in_all (oldest ∷ now)
+    → HaveGone most all now
 one_gone most all oldest now so_far many = record {
   gone = so_far.gone ++ oldest ∷ [];
   whole = so_far.whole ∙ sym (append_assoc so_far.gone (oldest ∷ []) now);

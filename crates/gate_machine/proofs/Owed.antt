@@ -1,5 +1,6 @@
 -- A store that obeys, and what comes of it.
-use Rattle.std.proofs.Common.{arith, ◌≡◌, ◌≢◌, ◌⊎◌, ◌+◌, ◌++◌, ℕ, Bool, List, [], ◌∷◌, length, fold, if◌then◌else◌, Option, Some, None, Result, Ok, Err, refl, sym, ◌∙◌, ap, subst, inl, inr}
+use Rattle.std.proofs.Common.{arith, ◌≡◌, ◌≢◌, ◌⊎◌, ◌+◌, ◌++◌, ℕ, Bool, List, [], ◌∷◌, length, fold, if◌then◌else◌, Option, Some, None, Result, Ok, Err, refl, sym, ◌∙◌, ap, subst}
+use Rattle.std.proofs.Common.{inl, inr}
 use Rattle.std.specs.List.{flat_map}
 use Rattle.std.proofs.lemmas.List.{append-nil}
 use Rattle.std.proofs.lemmas.List.Concat.{flat_map-append}
@@ -170,7 +171,8 @@ by_dial law b obeyed (inr (inr memory)) none =
     let out : b.connected.standing ≡ OutOfMemory = ap (λ (p : Progress). p.standing) b.dials.after_is ∙ ap standing_by memory in
     inr (ap (λ (p : Progress). p.standing) (asks_nothing b.asks (λ is. cc)) ∙ out)
 
-pub obeyed_stands : Law → (user password : List ℕ) (before : Machine) (events : List Event) (after : Progress) (begins : PreparesMail user password before events after) → IsObeyedBeginning begins
+pub obeyed_stands : Law → (user password : List ℕ) (before : Machine) (events : List Event) (after : Progress) (begins : PreparesMail user password before events after)
+    → IsObeyedBeginning begins
     → after.blamed ≡ no_faults
     → IsServed after ⊎ (after.standing ≡ OutOfMemory)
 obeyed_stands law user password before events after b obeyed none = by_dial law b obeyed (connects_end law b.dials.connects obeyed.welcomes) none

@@ -51,7 +51,13 @@ abbrev pub blame_link : ℕ → Faults → Faults
 blame_link n f = record f { link = f.link + n }
 
 abbrev pub ended_after : Result (Unit {0}) LinkEnd → Progress → Progress
-ended_after result p = record { machine = machine_by result p.machine; standing = standing_by result; left = p.left; blamed = blame_link (lost_by result) p.blamed }
+ended_after result p = record {
+  machine = machine_by result p.machine;
+  standing = standing_by result;
+  left = p.left;
+  blamed = blame_link
+      (lost_by result) p.blamed;
+}
 
 -- each count rose by the faults that are blamed
 pub record Bears (blames was now : Faults) : Type 0 where

@@ -7,7 +7,8 @@ use Rattle.text_words.specs.Octets.{is_alpha, is_digit}
 use Rattle.text_words.specs.Cuts.{Each, Stops, front, back}
 use Rattle.http_service.specs.declared.head.Head.{Head}
 use Rattle.http_service.specs.declared.head.BodyKind.{BodyKind}
-use Rattle.http_service.specs.Fields.{values_of, first_value, IsToken, IsBodyKind, Expects, content_length, transfer_encoding, authorization, content_type, expect}
+use Rattle.http_service.specs.Fields.{values_of, first_value, IsToken, IsBodyKind, Expects, content_length, transfer_encoding, authorization, content_type}
+use Rattle.http_service.specs.Fields.{expect}
 
 -- scheme = ALPHA *( ALPHA / DIGIT / "+" / "-" / "." ) (RFC 3986 section 3.1)
 abbrev pub is_scheme_octet : ℕ → Bool

@@ -195,7 +195,8 @@ count_back : (c : ℕ) (t : List ℕ) → AfterMove (folder_rule folder.Count c)
 count_back c t h = from_test (is_status_word c) (move.One (sym.Folder folder.CountWord)) move.Fail t (WordCount IsStatusWord (c ∷ t))
     (λ e k. word_more IsStatusWord c t (begun c e) k) (λ e k. absurd k) h
 
-count_at : (c : ℕ) (t w digits rest : List ℕ) → c ∷ t ≡ w ++ (32 ∷ digits ++ rest) → IsStatusWord w → LongRest 0 0 digits → MoreCounts rest → AfterMove (folder_rule folder.Count c) t
+count_at : (c : ℕ) (t w digits rest : List ℕ) → c ∷ t ≡ w ++ (32 ∷ digits ++ rest) → IsStatusWord w → LongRest 0 0 digits → MoreCounts rest → AfterMove
+    (folder_rule folder.Count c) t
 count_at c t [] digits rest e s l m = absurd (omega (arith, s.1))
 count_at c t (d ∷ w) digits rest e s l m =
     let same : c ≡ d = cons_head c d t (w ++ (32 ∷ digits ++ rest)) e in

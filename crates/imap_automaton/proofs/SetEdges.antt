@@ -251,7 +251,8 @@ number_back v n second c t fits h = from_test (is_digit c)
     (λ f l. record { front = []; back = c ∷ t; whole = refl; first = number_none v n fits (ltb-true 0 v f); second = ends_back second c t l })
     (λ f l. absurd l) k) h
 
-number_at : (v n : ℕ) (second : Bool) (c : ℕ) (t digits rest : List ℕ) → c ∷ t ≡ digits ++ rest → NumberRest v n digits → NumberEnds second rest → AfterMove (set_number v n second c) t
+number_at : (v n : ℕ) (second : Bool) (c : ℕ) (t digits rest : List ℕ) → c ∷ t ≡ digits ++ rest → NumberRest v n digits → NumberEnds second rest → AfterMove
+    (set_number v n second c) t
 number_at v n second c t [] rest e number ends =
     let k : NumberEnds second (c ∷ t) = subst (NumberEnds second) (sym e) ends in
     at_false (is_digit c)

@@ -21,17 +21,38 @@ use Rattle.imap_client.specs.Connecting.{Greets, GreetsBy, greeting_says, planne
 
 -- no greeting came
 pub ungreeted : {es : List Event} (after : Octets) (up : Bool) (e : LinkEnd) → ReadsResponse 0 true up nothing_given after (Err e) es → Greets after up (Err e) es
-ungreeted after up end.Lost r = record { talk = r.talk; gave = r.gave; ended = r.ended; first = record { said = r.said; needed = r.needed }; greets = (r.reads.0, room r.gave r.reads.1) }
+ungreeted after up end.Lost r = record {
+  talk = r.talk;
+  gave = r.gave;
+  ended = r.ended;
+  first = record { said = r.said; needed = r.needed };
+  greets =
+      (r.reads.0, room r.gave r.reads.1);
+}
   where
     room : (gave : List ℕ) → (IsOver 0 (0 + length gave) → ⊥) → IsTooMuch nothing_given gave → ⊥
     room gave none (inl over) = none (inl (omega (arith, over)))
     room gave none (inr over) = none (inr over)
-ungreeted after up end.TooMuch r = record { talk = r.talk; gave = r.gave; ended = r.ended; first = record { said = r.said; needed = r.needed }; greets = (r.reads.0, too_much r.gave r.reads.1) }
+ungreeted after up end.TooMuch r = record {
+  talk = r.talk;
+  gave = r.gave;
+  ended = r.ended;
+  first = record { said = r.said; needed = r.needed };
+  greets =
+      (r.reads.0, too_much r.gave r.reads.1);
+}
   where
     too_much : (gave : List ℕ) → IsOver 0 (0 + length gave) → IsTooMuch nothing_given gave
     too_much gave (inl over) = inl (omega (arith, over))
     too_much gave (inr over) = inr over
-ungreeted after up (end.Bad at) r = record { talk = r.talk; gave = r.gave; ended = r.ended; first = record { said = r.said; needed = r.needed }; greets = (r.reads.0, r.reads.1, omega (arith, r.reads.2)) }
+ungreeted after up (end.Bad at) r = record {
+  talk = r.talk;
+  gave = r.gave;
+  ended = r.ended;
+  first = record { said = r.said; needed = r.needed };
+  greets =
+      (r.reads.0, r.reads.1, omega (arith, r.reads.2));
+}
 ungreeted after up end.Memory r = record { talk = r.talk; gave = r.gave; ended = r.ended; first = record { said = r.said; needed = r.needed }; greets = tt }
 ungreeted after up end.Stray r = absurd r.reads
 ungreeted after up end.Bye r = absurd r.reads
@@ -48,9 +69,23 @@ only_bye _ e is = absurd (cc is)
 pub greeted : {es : List Event} (after : Octets) (up : Bool) (w : Response) (says : Result Bool LinkEnd) → greeting_says w ≡ says → ReadsResponse 0 true up nothing_given after (Ok w) es
     → Greets after up says es
 greeted after up w (Ok preauth) is r =
-    record { talk = r.talk; gave = r.gave; ended = r.ended; first = record { said = r.said; needed = r.needed }; greets = (w, is, (r.reads.0, after.octets, r.reads.1, r.reads.2, refl), omega (arith, r.reads.3)) }
+    record {
+      talk = r.talk;
+      gave = r.gave;
+      ended = r.ended;
+      first = record { said = r.said; needed = r.needed };
+      greets =
+          (w, is, (r.reads.0, after.octets, r.reads.1, r.reads.2, refl), omega (arith, r.reads.3));
+    }
 greeted after up w (Err end.Bye) is r =
-    record { talk = r.talk; gave = r.gave; ended = r.ended; first = record { said = r.said; needed = r.needed }; greets = (w, after.octets, is, (r.reads.0, after.octets, r.reads.1, r.reads.2, refl)) }
+    record {
+      talk = r.talk;
+      gave = r.gave;
+      ended = r.ended;
+      first = record { said = r.said; needed = r.needed };
+      greets =
+          (w, after.octets, is, (r.reads.0, after.octets, r.reads.1, r.reads.2, refl));
+    }
 greeted after up w (Err end.Lost) is r = let never = only_bye w end.Lost is in absurd (cc never)
 greeted after up w (Err end.TooMuch) is r = let never = only_bye w end.TooMuch is in absurd (cc never)
 greeted after up w (Err (end.Bad at)) is r = let never = only_bye w (end.Bad at) is in absurd (cc never)

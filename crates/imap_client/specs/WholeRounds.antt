@@ -33,7 +33,8 @@ pub data FetchesHeaders (at uid_next : ℕ) : Mail → List Exchange → Mail �
 pub data FetchesFolder (at uid_next : ℕ) : Mail → List Exchange → Mail → Type 0 where
   WithModseqs : {before after : Mail} {xs : List Exchange} (h : Held) → slice_get before.folders at ≡ Some h → has_modseqs h.folder ≡ true
       → FetchesHeaders at uid_next before xs after → FetchesFolder at uid_next before xs after
-  WithoutModseqs : {before mid after : Mail} {xs : List Exchange} (h : Held) (x : Exchange) → slice_get before.folders at ≡ Some h → has_modseqs h.folder ≡ false
+  WithoutModseqs : {before mid after : Mail} {xs : List Exchange} (h : Held) (x : Exchange) → slice_get before.folders at ≡ Some h
+      → has_modseqs h.folder ≡ false
       → IsObeyed command.FetchFlags before x mid → FetchesHeaders at uid_next mid xs after → FetchesFolder at uid_next before (x ∷ xs) after
 
 -- The folder at this place: its SELECT, which tells a UIDVALIDITY, and then what is fetched.
@@ -45,7 +46,8 @@ pub data AsksFolder (at : ℕ) : Mail → List Exchange → Mail → Type 0 wher
 -- Each folder that can be selected from this place on, by number.
 pub data VisitsFrom : ℕ → Mail → List Exchange → Mail → Type 0 where
   NoMore : {from : ℕ} {before : Mail} → selectable_from from (drop from before.folders) ≡ None → VisitsFrom from before [] before
-  Visits : {from : ℕ} {before mid after : Mail} {xs ys : List Exchange} (at : ℕ) → selectable_from from (drop from before.folders) ≡ Some at → AsksFolder at before xs mid
+  Visits : {from : ℕ} {before mid after : Mail} {xs ys : List Exchange} (at : ℕ) → selectable_from from (drop from before.folders) ≡ Some at
+      → AsksFolder at before xs mid
       → VisitsFrom (at + 1) mid ys after → VisitsFrom from before (xs ++ ys) after
 
 -- A whole round: LIST, and then each folder that can be selected of those that are told then.

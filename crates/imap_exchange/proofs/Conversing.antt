@@ -197,7 +197,8 @@ not_all_taken false pieces responses at begun given took left place taken some r
 
 -- a response came
 pub heard : {xs ys : List Event} {pieces : List (List ℕ)} {before mid after : Octets} {responses : List Response} {at : ℕ} {was : Bool} (begun : ℕ) (up : Bool) (w : Response)
-    → begun + length before.octets ≡ before.given → at ≡ min (continuations responses + 1) (length pieces) → up ≡ was → Course pieces before mid responses at was xs → ReadsResponse begun was up mid after (Ok w) ys → Heard pieces before after responses w at up (xs ++ ys)
+    → begun + length before.octets ≡ before.given → at ≡ min (continuations responses + 1) (length pieces) → up ≡ was → Course pieces before mid responses at was xs
+    → ReadsResponse begun was up mid after (Ok w) ys → Heard pieces before after responses w at up (xs ++ ys)
 heard {xs} {ys} {pieces} {before} {mid} {after} {responses} {at} {was} begun up w from place same c r =
     record {
       speaks = spoken_more ys pieces before was up r.talk r.gave c.speaks r.ended r.said (awaited begun was up from place c r.ended r.said r.needed);
@@ -218,7 +219,8 @@ wanting tag after s = record { speaks = s; comes = tt }
 
 -- no response came
 pub unheard : {xs ys : List Event} {pieces : List (List ℕ)} {before mid : Octets} {responses : List Response} {at : ℕ} {was : Bool} (tag : List ℕ) (begun : ℕ) (after : Octets)
-    (up : Bool) (e : LinkEnd) → begun + length before.octets ≡ before.given → at ≡ min (continuations responses + 1) (length pieces) → Course pieces before mid responses at was xs → ReadsResponse begun was up mid after (Err e) ys
+    (up : Bool) (e : LinkEnd) → begun + length before.octets ≡ before.given → at ≡ min (continuations responses + 1) (length pieces) → Course pieces before mid responses at was xs
+    → ReadsResponse begun was up mid after (Err e) ys
     → Converses tag pieces before after up (Err e) (xs ++ ys)
 unheard {xs} {ys} {pieces} {before} {mid} {responses} {at} {was} tag begun after up end.Lost from place c r =
     record {
@@ -374,7 +376,8 @@ due_at_end pieces responses at place end = omega (arith, place, end)
 
 -- the verdict of a tagged line
 done_verdict : {es : List Event} {pieces : List (List ℕ)} {before after : Octets} {responses : List Response} {at : ℕ} {up : Bool} (tag : List ℕ) (w : Response) (s : Status)
-    (code : Code) (h : Heard pieces before after responses w at up es) → w ≡ Tagged tag s code → EndsExchange pieces responses s → IsVerdict tag pieces (before.octets ++ h.speaks.gave)
+    (code : Code) (h : Heard pieces before after responses w at up es) → w ≡ Tagged tag s code → EndsExchange pieces responses s → IsVerdict tag pieces
+    (before.octets ++ h.speaks.gave)
     (Done responses s code after.octets)
 done_verdict {after = after} {responses} tag w s code h is settles =
     record {

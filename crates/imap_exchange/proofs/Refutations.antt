@@ -1,5 +1,6 @@
 -- What the definitions rule out.
-use Rattle.std.proofs.Common.{◌≡◌, ◌≢◌, ◌⊎◌, ◌++◌, ◌+◌, ◌≤◌, ℕ, zero, suc, Bool, Result, Ok, Err, List, [], ◌∷◌, take, refl, sym, ◌∙◌, ap, subst, append_assoc, arith, inl, inr, All}
+use Rattle.std.proofs.Common.{◌≡◌, ◌≢◌, ◌⊎◌, ◌++◌, ◌+◌, ◌≤◌, ℕ, zero, suc, Bool, Result, Ok, Err, List, [], ◌∷◌, take, refl, sym, ◌∙◌, ap, subst, append_assoc, arith, inl, inr}
+use Rattle.std.proofs.Common.{All}
 use Rattle.std.specs.List.{flat_map}
 use Rattle.std.proofs.lemmas.List.{append-nil}
 use Rattle.std.proofs.lemmas.List.Concat.{flat_map-append}
@@ -74,8 +75,10 @@ done_status rs rs' s s' k k' t t' is = cc
 pub no_end_after_an_answer : (tag : List ℕ) (pieces : List (List ℕ)) (before : Octets) (gave took : List ℕ) (responses : List Response) (s : Status) (code : Code) (rest : List ℕ)
     (e : LinkEnd) → IsVerdict tag pieces (before.octets ++ gave) (Done responses s code rest) → (s ≢ status.Ok) ⊎ (took ≡ joined_pieces pieces)
     → IsCause tag pieces before gave took e → e ≡ end.Memory
-no_end_after_an_answer tag pieces before gave took responses s code rest end.Lost v (inl other) (inl (still, short)) = absurd (done_not_open _ _ _ _ (one_verdict tag pieces _ _ _ v still))
-no_end_after_an_answer tag pieces before gave took responses s code rest end.Lost v (inr whole) (inl (still, short)) = absurd (done_not_open _ _ _ _ (one_verdict tag pieces _ _ _ v still))
+no_end_after_an_answer tag pieces before gave took responses s code rest end.Lost v (inl other) (inl (still, short)) = absurd
+    (done_not_open _ _ _ _ (one_verdict tag pieces _ _ _ v still))
+no_end_after_an_answer tag pieces before gave took responses s code rest end.Lost v (inr whole) (inl (still, short)) = absurd
+    (done_not_open _ _ _ _ (one_verdict tag pieces _ _ _ v still))
 no_end_after_an_answer tag pieces before gave took responses s code rest end.Lost v (inl other) (inr (rs, k, t, w, part)) = absurd
     (other (done_status _ _ _ _ _ _ _ _ (one_verdict tag pieces _ _ _ v w)))
 no_end_after_an_answer tag pieces before gave took responses s code rest end.Lost v (inr whole) (inr (rs, k, t, w, part)) = absurd (part whole)
@@ -160,7 +163,8 @@ pub too_much_ends_so : (tag : List ℕ) (pieces : List (List ℕ)) (before after
 too_much_ends_so tag pieces before after gave took up (Ok a) still over sent (v, taken, given, refused, all) = absurd (done_not_yet _ _ _ _ (one_verdict tag pieces _ _ _ still v))
 too_much_ends_so tag pieces before after gave took up (Err end.Lost) still over sent (inl (w, short)) =
     absurd (short over (subst (λ (rs : List Response). AllDueTaken pieces rs took) (same_open tag pieces (before.octets ++ gave) still w) sent))
-too_much_ends_so tag pieces before after gave took up (Err end.Lost) still over sent (inr (rs, k, t, w, part)) = absurd (done_not_yet _ _ _ _ (one_verdict tag pieces _ _ _ still w))
+too_much_ends_so tag pieces before after gave took up (Err end.Lost) still over sent (inr (rs, k, t, w, part)) = absurd
+    (done_not_yet _ _ _ _ (one_verdict tag pieces _ _ _ still w))
 too_much_ends_so tag pieces before after gave took up (Err (end.Bad at)) still over sent (place, w, there) = absurd (bad_not_yet _ (one_verdict tag pieces _ _ _ still w))
 too_much_ends_so tag pieces before after gave took up (Err end.Stray) still over sent w = absurd (stray_not_yet (one_verdict tag pieces _ _ _ still w))
 too_much_ends_so tag pieces before after gave took up (Err end.Bye) still over sent w = absurd (bye_not_yet (one_verdict tag pieces _ _ _ still w))

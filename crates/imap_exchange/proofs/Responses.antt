@@ -1,5 +1,6 @@
 -- Reading one response.
-use Rattle.std.proofs.Common.{◌≡◌, ◌≤◌, ◌++◌, ◌+◌, ℕ, true, List, [], length, take, drop, refl, sym, ◌∙◌, ap, subst, append_assoc, length-append, arith, Ok, Err, rules, Bool, false, Result}
+use Rattle.std.proofs.Common.{◌≡◌, ◌≤◌, ◌++◌, ◌+◌, ℕ, true, List, [], length, take, drop, refl, sym, ◌∙◌, ap, subst, append_assoc, length-append, arith, Ok, Err, rules, Bool}
+use Rattle.std.proofs.Common.{false, Result}
 use Rattle.std.proofs.Math.Seq.{take-append_seam}
 use Rattle.std.proofs.lemmas.List.{append-nil, take-append-drop}
 use Rattle.gate_world.specs.declared.event.Event.{Event}
@@ -30,7 +31,8 @@ awaited_later {begun} {a} {b} {g} grows x so =
     }
 
 -- twice
-pub Gains-append : {begun : ℕ} {a b c : Octets} {g h : List ℕ} {es fs : List Event} → GainsOctets begun a b g es → GainsOctets begun b c h fs → GainsOctets begun a c (g ++ h) (es ++ fs)
+pub Gains-append : {begun : ℕ} {a b c : Octets} {g h : List ℕ} {es fs : List Event} → GainsOctets begun a b g es → GainsOctets begun b c h fs → GainsOctets begun a c (g ++ h)
+    (es ++ fs)
 Gains-append {begun} {a} {b} {c} {g} {h} {es} {fs} first second =
     record {
       said = Talk-append first.said second.said;
@@ -59,7 +61,8 @@ gained begun now after more (gave, is, grows, room) =
     here = record { more = subst NeedsMore (sym (append-nil now.octets)) more; room = λ over. room (subst (λ (n : ℕ). IsOver begun n) (omega arith) over) }
 
 -- a whole response stands at the front
-pub read_whole : {events : List Event} {response : Response} (begun : ℕ) (before now after : Octets) (n : ℕ) → (gave : List ℕ) × GainsOctets begun before now gave events → IsSpelling response
+pub read_whole : {events : List Event} {response : Response} (begun : ℕ) (before now after : Octets) (n : ℕ) → (gave : List ℕ) × GainsOctets begun before now gave events
+    → IsSpelling response
     (take n now.octets) → after.octets ≡ drop n now.octets → after.given ≡ now.given → ReadsResponse begun true true before after (Ok response) events
 read_whole {events} begun before now after n (gave, gains) spells rest given =
     record {
@@ -94,9 +97,11 @@ read_bad {events} begun before now offset at (gave, gains) so place =
     }
 
 -- want of memory
-pub read_wanting : {events : List Event} (begun : ℕ) (before now after : Octets) → (gave : List ℕ) × GainsOctets begun before now gave events → ReadsResponse begun true true before after
+pub read_wanting : {events : List Event} (begun : ℕ) (before now after : Octets) → (gave : List ℕ) × GainsOctets begun before now gave events
+    → ReadsResponse begun true true before after
     (Err end.Memory) events
-read_wanting {events} begun before now after (gave, gains) = record { talk = events; gave = gave; ended = sym (append-nil events); said = gains.said; needed = gains.needed; reads = tt }
+read_wanting {events} begun before now after (gave, gains) =
+    record { talk = events; gave = gave; ended = sym (append-nil events); said = gains.said; needed = gains.needed; reads = tt }
 
 -- no further octets come, where no whole response stands at the front
 pub fill_failed : {xs : List Event} (ys : List Event) (begun : ℕ) (before now after : Octets) (e : LinkEnd) → NeedsMore now.octets → (gave : List ℕ)

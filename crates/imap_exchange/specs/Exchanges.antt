@@ -57,7 +57,8 @@ pub record IsDuePart (pieces : List (List ℕ)) (octets took : List ℕ) : Type 
 -- At each moment of these events no more was taken than the pieces that the octets let go that were held as they began
 -- and that had come by then: each piece but the first is sent after its continuation.
 pub record IsPaced (pieces : List (List ℕ)) (held : List ℕ) (events : List Event) : Type 0 where
-  pub at_each : (so_far later : List Event) → events ≡ so_far ++ later → IsDuePart pieces (held ++ flat_map store_gave_in so_far) (flat_map store_took_in so_far)
+  pub at_each : (so_far later : List Event) → events ≡ so_far ++ later → IsDuePart pieces (held ++ flat_map store_gave_in so_far)
+      (flat_map store_took_in so_far)
 
 -- ---- what becomes of it
 

@@ -14,9 +14,9 @@ use std::marker::Model;
 
 // Whether too much was given, in an exchange before which this much was given.
 fn is_over(begun: u64, given: u64) -> bool
-    requires { nothing_given ≤ given }
-    ensures over { OnTrue result (IsOver nothing_given given) }
-    ensures under { OnFalse result (IsOver nothing_given given → ⊥) }
+    requires { begun ≤ given }
+    ensures over { OnTrue result (IsOver begun given) }
+    ensures under { OnFalse result (IsOver begun given → ⊥) }
     ensures within { OnFalse result (given ≤ MAX_LIFE_OCTETS) }
 {
     MAX_EXCHANGE_OCTETS < given - begun || MAX_LIFE_OCTETS < given
@@ -78,8 +78,8 @@ impl Received {
     /// Reads further octets from the link, unless too many were given in the exchange or the life. `begun` is what the
     /// life had given before the exchange.
     pub fn fill<L: Link>(&mut self, link: &mut L, begun: u64) -> Result<(), LinkEnd>
-        requires { nothing_given ≤ self.old.given }
-        ensures tape { Adds (L.tape link.old) (L.tape link.new) (Fills nothing_given self.old self.new result) }
+        requires { begun ≤ self.old.given }
+        ensures tape { Adds (L.tape link.old) (L.tape link.new) (Fills begun self.old self.new result) }
         ensures alone { LinkAlone (L.faults link.old) (L.faults link.new) }
         ensures cause { IsErrOf result LinkEnd.Lost → Rose (L.faults link.old).link (L.faults link.new).link }
         ensures more { OnOk result (self.old.given < self.new.given) }

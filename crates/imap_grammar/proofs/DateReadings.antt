@@ -194,5 +194,6 @@ date_read s t back b h e =
     let l = letters o.month o.name o.month_is in
     let tail : List ℕ = 45 ∷ o.y1 ∷ o.y2 ∷ o.y3 ∷ o.y4 ∷ 32 ∷ o.h1 ∷ o.h2 ∷ 58 ∷ o.m1 ∷ o.m2 ∷ 58 ∷ o.s1 ∷ o.s2 ∷ 32 ∷ o.sign ∷ o.z1 ∷ o.z2 ∷ o.z3 ∷ o.z4 ∷ 34 ∷ [] in
     let is : t ≡ text_of o l.a l.b l.c [] = o.whole ∙ ap (λ (u : List ℕ). 34 ∷ o.d1 ∷ o.d2 ∷ 45 ∷ (u ++ tail)) l.whole in
-    let f : b ≡ text_of o l.a l.b l.c back = e ∙ ap (λ (u : List ℕ). u ++ back) (ap plain_octets is ∙ plain_small (text_of o l.a l.b l.c []) (octets_small s t o l.a l.b l.c l.low)) in
+    let f : b ≡ text_of o l.a l.b l.c back = e ∙ ap (λ (u : List ℕ). u ++ back)
+    (ap plain_octets is ∙ plain_small (text_of o l.a l.b l.c []) (octets_small s t o l.a l.b l.c l.low)) in
     (ap date_in f ∙ octets_read s t back o l.a l.b l.c l.read, ap (drop 28) f)

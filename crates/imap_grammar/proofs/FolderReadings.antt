@@ -157,7 +157,8 @@ first_word k x y h = ap (λ (u : List ℕ). get_or (plain_octets (u ++ y)) 0 0 =
 
 all_counts_read : (cs : List (List ℕ × ℕ)) (t : List ℕ) → IsCounts cs t → counts_of (plain_octets t) ≡ told_counts no_counts cs
 unfolding counts_of
-all_counts_read [] t h = cond-true (get_or (plain_octets t) 0 0 == 41) no_counts (status_counts (length (plain_octets t)) no_counts (plain_octets t)) (ap (λ (u : List ℕ). get_or (plain_octets u) 0 0 == 41) h)
+all_counts_read [] t h = cond-true (get_or (plain_octets t) 0 0 == 41) no_counts (status_counts (length (plain_octets t)) no_counts (plain_octets t))
+    (ap (λ (u : List ℕ). get_or (plain_octets u) 0 0 == 41) h)
 all_counts_read (k ∷ cs) t h =
     let l = more_long cs h.back h.second in
     let n = ap length h.whole in
@@ -165,7 +166,8 @@ all_counts_read (k ∷ cs) t h =
     let p = plain_length t in
     cond-false (get_or (plain_octets t) 0 0 == 41) no_counts (status_counts (length (plain_octets t)) no_counts (plain_octets t))
     (ap (λ (u : List ℕ). get_or (plain_octets u) 0 0 == 41) h.whole ∙ first_word k h.front h.back h.first)
-    ∙ counts_read cs (length (plain_octets t)) no_counts k h.front h.back (plain_octets t) h.first h.second (omega (arith, l, n, m, p)) (ap plain_octets h.whole ∙ map-append plain_of h.front h.back)
+    ∙ counts_read cs (length (plain_octets t)) no_counts k h.front h.back (plain_octets t) h.first h.second (omega (arith, l, n, m, p))
+    (ap plain_octets h.whole ∙ map-append plain_of h.front h.back)
 
 pub status_line_read : (name : List ℕ) (items : StatusItems) (t : List ℕ) → IsStatusLine name items t → status_in (plain_octets t) ≡ response.StatusItems name items
 unfolding status_in

@@ -69,7 +69,8 @@ body_told = (refl, refl)
 
 -- an item whose name is a key
 known_read : (i : Item) (so_far : FetchItems) (k : Key) (name value t back b : List ℕ) → map lower name ≡ key_text k → is_told (key_text k) ≡ true
-    → value_in so_far (key_text k) (plain_octets value ++ back) ≡ (told so_far i, back) → t ≡ name ++ 32 ∷ value → b ≡ plain_octets t ++ back → item_in so_far b ≡ (told so_far i, back)
+    → value_in so_far (key_text k) (plain_octets value ++ back) ≡ (told so_far i, back) → t ≡ name ++ 32 ∷ value → b ≡ plain_octets t ++ back
+    → item_in so_far b ≡ (told so_far i, back)
 unfolding item_in
 known_read i so_far k name value t back b is told_key read whole e =
     let atoms = named_atoms k name is in
@@ -212,7 +213,8 @@ told_key w e f =
     (λ b. f key.Body (inr (inr (inr (inr (inr (inr (inr (inl refl)))))))) (same_text w (codes "body[]") b))
     (λ b. f key.BodyPart (inr (inr (inr (inr (inr (inr (inr (inr (inl refl))))))))) (same_text w (codes "body[]<0>") b)))
 
-tail_head : (tail back : List ℕ) → nat_lt (get_or tail 0 0) 256 ≡ true → 0 < length tail → is_atom (get_or tail 0 0) ≡ false → is_atom (get_or (plain_octets tail ++ back) 0 0) ≡ false
+tail_head : (tail back : List ℕ) → nat_lt (get_or tail 0 0) 256 ≡ true → 0 < length tail → is_atom (get_or tail 0 0) ≡ false → is_atom
+    (get_or (plain_octets tail ++ back) 0 0) ≡ false
 tail_head [] back s lt o = absurd (omega (arith, lt))
 tail_head (c ∷ t) back s lt o = ap is_atom (cond-true (nat_lt c 256) c (c - 256) s) ∙ o
 
@@ -221,18 +223,21 @@ unfolding item_in
 other_read so_far t back b h out e =
     let o = other_word t h in
     let s = each_to is_atom small o.word atom_small o.each in
-    let cut : b ≡ o.word ++ (plain_octets o.tail ++ back) = e ∙ ap (λ (u : List ℕ). u ++ back) (ap plain_octets o.whole ∙ plain_join o.word o.tail s) ∙ append_assoc o.word (plain_octets o.tail) back in
+    let cut : b ≡ o.word ++ (plain_octets o.tail ++ back) = e ∙ ap (λ (u : List ℕ). u ++ back) (ap plain_octets o.whole ∙ plain_join o.word o.tail s) ∙ append_assoc o.word
+    (plain_octets o.tail) back in
     let c = cut_at is_atom o.word (plain_octets o.tail ++ back) b cut o.each (tail_head o.tail back o.small o.goes_on o.longest) in
     let n = span is_atom b in
     let no : is_told (map lower (take n b)) ≡ false = false_from_ne_true (is_told (map lower (take n b)))
     (λ q. told_key (map lower (take n b)) q (λ k m w. o.no_key k m (sym (ap (map lower) c.front) ∙ w))) in
     let count : passed b (item_start ∷ []) ≡ length (plain_octets t) = item_passed t back b (item_to Other t h) out e ∙ sym (plain_length t) in
     cond-false (is_told (map lower (take n b))) (value_in so_far (map lower (take n b)) (drop (n + 1) b)) (so_far, drop (passed b (item_start ∷ [])) b) no
-    ∙ ap (λ (m : ℕ). (so_far, drop m b)) count ∙ ap (λ (u : List ℕ). (so_far, drop (length (plain_octets t)) u)) e ∙ ap (λ (u : List ℕ). (so_far, u)) (drop-append_seam (plain_octets t) back)
+    ∙ ap (λ (m : ℕ). (so_far, drop m b)) count ∙ ap (λ (u : List ℕ). (so_far, drop (length (plain_octets t)) u)) e ∙ ap (λ (u : List ℕ). (so_far, u))
+    (drop-append_seam (plain_octets t) back)
 
 -- ---- the item at the front
 
-item_read : (i : Item) (so_far : FetchItems) (t back b : List ℕ) → IsItem i t → stops (get_or back 0 0) ≡ true → b ≡ plain_octets t ++ back → item_in so_far b ≡ (told so_far i, back)
+item_read : (i : Item) (so_far : FetchItems) (t back b : List ℕ) → IsItem i t → stops (get_or back 0 0) ≡ true → b ≡ plain_octets t ++ back
+    → item_in so_far b ≡ (told so_far i, back)
 item_read (Uid n) so_far t back b h out e = known_read (Uid n) so_far key.Uid h.name h.value t back b h.item.0 uid_told (uid_read n so_far h.value back h.item.1 out) h.whole e
 item_read (Flags ns) so_far t back b h out e = known_read (Flags ns) so_far key.Flags h.name h.value t back b h.item.0 flags_told
     (told_flags ns so_far h.value back h.item.1) h.whole e
@@ -290,12 +295,15 @@ items_read is zero so_far i x y b h m lt e = absurd (omega (arith, lt))
 items_read [] (suc most) so_far i x y b h m lt e =
     let r = item_read i so_far x (plain_octets y) b h (more_head [] y m) e in
     ap (λ (q : FetchItems × List ℕ). cond (get_or q.1 0 0 == 32) (items_in most q.0 (drop 1 q.1)) q.0) r
-    ∙ cond-false (get_or (plain_octets y) 0 0 == 32) (items_in most (told so_far i) (drop 1 (plain_octets y))) (told so_far i) (ap (λ (u : List ℕ). get_or (plain_octets u) 0 0 == 32) m)
+    ∙ cond-false (get_or (plain_octets y) 0 0 == 32) (items_in most (told so_far i) (drop 1 (plain_octets y))) (told so_far i)
+    (ap (λ (u : List ℕ). get_or (plain_octets u) 0 0 == 32) m)
 items_read (j ∷ is) (suc most) so_far i x y b h m lt e =
     let r = item_read i so_far x (plain_octets y) b h (more_head (j ∷ is) y m) e in
     ap (λ (q : FetchItems × List ℕ). cond (get_or q.1 0 0 == 32) (items_in most q.0 (drop 1 q.1)) q.0) r
-    ∙ cond-true (get_or (plain_octets y) 0 0 == 32) (items_in most (told so_far i) (drop 1 (plain_octets y))) (told so_far i) (ap (λ (u : List ℕ). get_or (plain_octets u) 0 0 == 32) m.2)
-    ∙ items_read is most (told so_far i) j m.0 m.1 (drop 1 (plain_octets y)) m.3 m.4 (omega (arith, lt)) (ap (λ (u : List ℕ). drop 1 (plain_octets u)) m.2 ∙ map-append plain_of m.0 m.1)
+    ∙ cond-true (get_or (plain_octets y) 0 0 == 32) (items_in most (told so_far i) (drop 1 (plain_octets y))) (told so_far i)
+    (ap (λ (u : List ℕ). get_or (plain_octets u) 0 0 == 32) m.2)
+    ∙ items_read is most (told so_far i) j m.0 m.1 (drop 1 (plain_octets y)) m.3 m.4 (omega (arith, lt))
+    (ap (λ (u : List ℕ). drop 1 (plain_octets u)) m.2 ∙ map-append plain_of m.0 m.1)
 
 -- items up to the line's end, with the octets' number to bound them
 pub all_items_read : (is : List Item) (so_far : FetchItems) (t : List ℕ) (most : ℕ) → IsItems is t → length t ≤ most → items_in most so_far (plain_octets t) ≡ told_from so_far is

@@ -1,5 +1,6 @@
 -- The symbols of a text take its octets and no more, where what follows ends it.
-use Rattle.std.proofs.Common.{◌≡◌, ℕ, zero, suc, ◌+◌, ◌-◌, ◌<◌, ◌≤◌, min, Bool, true, not, ◌||◌, List, [], ◌∷◌, ◌++◌, length, drop, get_or, cond, Option, Some, None, inl, inr, refl}
+use Rattle.std.proofs.Common.{◌≡◌, ℕ, zero, suc, ◌+◌, ◌-◌, ◌<◌, ◌≤◌, min, Bool, true, not, ◌||◌, List, [], ◌∷◌, ◌++◌, length, drop, get_or, cond, Option, Some, None, inl, inr}
+use Rattle.std.proofs.Common.{refl}
 use Rattle.std.proofs.Common.{sym, ap, subst, ◌∙◌, arith}
 use Rattle.std.proofs.Math.Nat.{min-le_left, min-le_right}
 use Rattle.std.proofs.lemmas.Bool.{cond-false, cases_lt}
@@ -98,7 +99,8 @@ skip_to b rest octets (s ∷ ss) left at e f =
 -- ---- an octet
 
 -- a step with the octet as it stands in a text
-pub marked_step : (ss : List Sym) (c : ℕ) (inside : Bool) (marked : ℕ) (took : Bool) (next : Option (List Sym)) → inside ≡ inside_top responses ss → marked ≡ cond inside (c + 256) c
+pub marked_step : (ss : List Sym) (c : ℕ) (inside : Bool) (marked : ℕ) (took : Bool) (next : Option (List Sym)) → inside ≡ inside_top responses ss → marked ≡ cond inside
+    (c + 256) c
     → step responses ss marked ≡ cond took next None → step responses ss (mark responses ss c) ≡ cond took next None
 marked_step ss c inside marked took next e f g = ap (step responses ss) (ap (λ (b : Bool). cond b (c + 256) c) (sym e) ∙ sym f) ∙ g
 
@@ -106,7 +108,8 @@ beyond_more : (left : List Sym) (more : List Sym → ℕ) → (left ≡ [] → �
 beyond_more [] more ne = absurd (ne refl)
 beyond_more (s ∷ ss) more ne = refl
 
-passed_at : (rest after : List ℕ) (c : ℕ) (ss : List Sym) (next : Option (List Sym)) → rest ≡ c ∷ after → step responses ss (mark responses ss c) ≡ next → passed rest ss ≡ beyond next (passed after)
+passed_at : (rest after : List ℕ) (c : ℕ) (ss : List Sym) (next : Option (List Sym)) → rest ≡ c ∷ after → step responses ss (mark responses ss c) ≡ next
+    → passed rest ss ≡ beyond next (passed after)
 unfolding passed
 passed_at rest after c ss next e f = ap (λ (u : List ℕ). passed u ss) e ∙ ap (λ (o : Option (List Sym)). beyond o (passed after)) f
 
@@ -178,7 +181,8 @@ text_passed (d ∷ u) s ss back good h e =
     ap (λ (n : ℕ). beyond (step responses (s ∷ ss) n) (passed rest)) octet ∙ ap (λ (o : Option (List Sym)). beyond o (passed rest)) l.by
     ∙ on l.left (keeps responses responses_lawful true (s ∷ ss) d l.left good l.by) l.reads (λ q qs g k. text_passed u q qs back g k e)
   where
-    on : (left : List Sym) → Good responses true left → InTurn left u → ((q : Sym) (qs : List Sym) → Good responses true (q ∷ qs) → InTurn (q ∷ qs) u → passed (plain_octets u ++ back) (q ∷ qs) ≡ length u)
+    on : (left : List Sym) → Good responses true left → InTurn left u
+        → ((q : Sym) (qs : List Sym) → Good responses true (q ∷ qs) → InTurn (q ∷ qs) u → passed (plain_octets u ++ back) (q ∷ qs) ≡ length u)
         → beyond (Some left) (passed (plain_octets u ++ back)) ≡ length (d ∷ u)
     on [] g k ih = let n = ap length k in omega (arith, n)
     on (q ∷ qs) g k ih = let n = ih q qs g k in omega (arith, n)

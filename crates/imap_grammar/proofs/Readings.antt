@@ -115,7 +115,8 @@ word_cut : (number : Option ℕ) (v : Response) (t : List ℕ) → (h : IsWordLi
 word_cut number v t h =
     let s = says_small number v h.word h.tail t h.whole h.word_is h.says in
     let head = plain_head h.tail s in (
-      cut_at is_word h.word (plain_octets h.tail) (plain_octets t) (ap plain_octets h.whole ∙ plain_join h.word h.tail (each_to is_word small h.word word_small h.word_is)) h.word_is
+      cut_at is_word h.word (plain_octets h.tail) (plain_octets t)
+          (ap plain_octets h.whole ∙ plain_join h.word h.tail (each_to is_word small h.word word_small h.word_is)) h.word_is
           (ap is_word head ∙ h.longest),
       head,
     )
@@ -162,7 +163,8 @@ numbered_read n (response.Fetch seq items) t h =
     let l3 = plain_length k.1 in
     let read : items_in (length (plain_octets t)) no_items (drop 7 (plain_octets t)) ≡ items = ap (items_in (length (plain_octets t)) no_items) rest
     ∙ all_items_read k.0 no_items k.1 (length (plain_octets t)) k.3 (omega (arith, l1, l2, l3)) ∙ sym k.4 in
-    cond-true (bytes_eq (word_in (plain_octets t)) (codes "fetch")) (fetch_of n (plain_octets t)) (exists_or n (plain_octets t)) (text_same (word_in (plain_octets t)) (codes "fetch") (w ∙ says.1))
+    cond-true (bytes_eq (word_in (plain_octets t)) (codes "fetch")) (fetch_of n (plain_octets t)) (exists_or n (plain_octets t))
+    (text_same (word_in (plain_octets t)) (codes "fetch") (w ∙ says.1))
     ∙ ap (λ q. response.Fetch n q) read ∙ ap (λ (m : ℕ). response.Fetch m items) (sym says.0)
 numbered_read n (response.Exists count) t h =
     let b = plain_octets t in
@@ -271,7 +273,8 @@ told_said (response.Enabled ws) w tail t h =
     ap (λ (o : Option Status). said_in o w (plain_octets tail)) (ap status_named h.0 ∙ named_none_of (codes "enabled") refl refl refl refl refl)
     ∙ passes w (codes "capability") (response.Capability (words_in (length (plain_octets tail)) (plain_octets tail))) (enabled_or w (plain_octets tail))
     (apart_by w (codes "enabled") h.0 (codes "capability") (differ (codes "enabled") (codes "capability") refl))
-    ∙ cond-true (bytes_eq w (codes "enabled")) (response.Enabled (words_in (length (plain_octets tail)) (plain_octets tail))) (flags_or w (plain_octets tail)) (text_same w (codes "enabled") h.0)
+    ∙ cond-true (bytes_eq w (codes "enabled")) (response.Enabled (words_in (length (plain_octets tail)) (plain_octets tail))) (flags_or w (plain_octets tail))
+    (text_same w (codes "enabled") h.0)
     ∙ ap response.Enabled (words_read ws tail h.1)
 told_said (response.Flags flags) w tail t h =
     ap (λ (o : Option Status). said_in o w (plain_octets tail)) (ap status_named h.0 ∙ named_none_of (codes "flags") refl refl refl refl refl)
@@ -313,15 +316,18 @@ told_said (response.StatusItems name items) w tail t h =
     (apart_by w (codes "status") h.0 (codes "flags") (differ (codes "status") (codes "flags") refl))
     ∙ passes w (codes "vanished") (vanished_in (drop 1 (plain_octets tail))) (list_or w (plain_octets tail))
     (apart_by w (codes "status") h.0 (codes "vanished") (differ (codes "status") (codes "vanished") refl))
-    ∙ passes w (codes "list") (list_in (plain_octets tail)) (status_or w (plain_octets tail)) (apart_by w (codes "status") h.0 (codes "list") (differ (codes "status") (codes "list") refl))
+    ∙ passes w (codes "list") (list_in (plain_octets tail)) (status_or w (plain_octets tail))
+    (apart_by w (codes "status") h.0 (codes "list") (differ (codes "status") (codes "list") refl))
     ∙ cond-true (bytes_eq w (codes "status")) (status_in (plain_octets tail)) response.Other (text_same w (codes "status") h.0)
     ∙ status_line_read name items tail h.1
 told_said response.Other w tail t h =
     let ne : (k : List ℕ) → Contains (keywords None) k → w ≡ k → ⊥ = λ k m e. no_keyword None w k h.0 m e in
     ap (λ (o : Option Status). said_in o w (plain_octets tail)) (named_none w (ne (codes "ok") (0, omega arith, refl)) (ne (codes "no") (1, omega arith, refl))
     (ne (codes "bad") (2, omega arith, refl)) (ne (codes "preauth") (3, omega arith, refl)) (ne (codes "bye") (4, omega arith, refl)))
-    ∙ passes w (codes "capability") (response.Capability (words_in (length (plain_octets tail)) (plain_octets tail))) (enabled_or w (plain_octets tail)) (ne (codes "capability") (5, omega arith, refl))
-    ∙ passes w (codes "enabled") (response.Enabled (words_in (length (plain_octets tail)) (plain_octets tail))) (flags_or w (plain_octets tail)) (ne (codes "enabled") (6, omega arith, refl))
+    ∙ passes w (codes "capability") (response.Capability (words_in (length (plain_octets tail)) (plain_octets tail))) (enabled_or w (plain_octets tail))
+    (ne (codes "capability") (5, omega arith, refl))
+    ∙ passes w (codes "enabled") (response.Enabled (words_in (length (plain_octets tail)) (plain_octets tail))) (flags_or w (plain_octets tail))
+    (ne (codes "enabled") (6, omega arith, refl))
     ∙ passes w (codes "flags") (response.Flags (flags_in (drop 2 (plain_octets tail))).0) (vanished_or w (plain_octets tail)) (ne (codes "flags") (7, omega arith, refl))
     ∙ passes w (codes "vanished") (vanished_in (drop 1 (plain_octets tail))) (list_or w (plain_octets tail)) (ne (codes "vanished") (8, omega arith, refl))
     ∙ passes w (codes "list") (list_in (plain_octets tail)) (status_or w (plain_octets tail)) (ne (codes "list") (9, omega arith, refl))
@@ -418,7 +424,11 @@ tagged_read tag s code t h =
 
 tag_first : (tag t after : List ℕ) → t ≡ tag ++ 32 ∷ after → Each is_alnum tag → ((get_or (plain_octets t) 0 0 == 42) ≡ false) × ((get_or (plain_octets t) 0 0 == 43) ≡ false)
 tag_first [] t after e h = (ap (λ (u : List ℕ). get_or (plain_octets u) 0 0 == 42) e, ap (λ (u : List ℕ). get_or (plain_octets u) 0 0 == 43) e)
-tag_first (c ∷ tag) t after e h = (ap (λ (u : List ℕ). get_or (plain_octets u) 0 0 == 42) e ∙ not_star c h.0, ap (λ (u : List ℕ). get_or (plain_octets u) 0 0 == 43) e ∙ not_plus c h.0)
+tag_first (c ∷ tag) t after e h = (
+  ap (λ (u : List ℕ). get_or (plain_octets u) 0 0 == 42) e ∙ not_star c h.0,
+  ap (λ (u : List ℕ). get_or (plain_octets u) 0 0 == 43) e
+      ∙ not_plus c h.0,
+)
   where
     not_star : (c : ℕ) → is_alnum c ≡ true → (plain_of c == 42) ≡ false
     not_star c e = grind arith
@@ -435,7 +445,8 @@ pub reads_value : (v : Response) (t : List ℕ) → Spells v t → response_in (
 unfolding response_in
 reads_value (response.Tagged tag s code) t h =
     let f = tag_first tag t h.after h.whole h.tag_is in
-    cond-false (get_or (plain_octets t) 0 0 == 42) (untagged_in (drop 2 (plain_octets t))) (cond (get_or (plain_octets t) 0 0 == 43) response.Continue (tagged_in (plain_octets t))) f.0
+    cond-false (get_or (plain_octets t) 0 0 == 42) (untagged_in (drop 2 (plain_octets t)))
+    (cond (get_or (plain_octets t) 0 0 == 43) response.Continue (tagged_in (plain_octets t))) f.0
     ∙ cond-false (get_or (plain_octets t) 0 0 == 43) response.Continue (tagged_in (plain_octets t)) f.1 ∙ tagged_read tag s code t h
 reads_value response.Continue t h = ap (λ (u : List ℕ). response_in (plain_octets u)) h.1
 reads_value (response.Untagged s code) t h = star_read (response.Untagged s code) t h.0 h.1 h.2

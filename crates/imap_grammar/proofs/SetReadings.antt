@@ -88,7 +88,8 @@ read_words (x ∷ ws) (suc most) b h le e =
 
 pub words_read : (ws : List (List ℕ)) (t : List ℕ) → IsWords ws t → words_in (length (plain_octets t)) (plain_octets t) ≡ ws
 words_read ws t h =
-    let e : plain_octets t ≡ spaced ws ++ crlf = ap plain_octets h.1 ∙ plain_small (spaced ws ++ crlf) (each_append small (spaced ws) crlf (spaced_small ws h.0) (refl, (refl, tt))) in
+    let e : plain_octets t ≡ spaced ws ++ crlf = ap plain_octets h.1 ∙ plain_small (spaced ws ++ crlf)
+    (each_append small (spaced ws) crlf (spaced_small ws h.0) (refl, (refl, tt))) in
     let l = spaced_long ws in
     let m = length-append (spaced ws) crlf in
     read_words ws (length (plain_octets t)) (plain_octets t) h.0 (omega (arith, l, m, ap length e)) e

@@ -1,5 +1,6 @@
 -- Hexadecimal digits that are read from the last one on.
-use Rattle.std.proofs.Common.{◌≡◌, ◌<◌, ◌≤◌, ◌^◌, ℕ, Bool, true, false, ◌==◌, zero, suc, ◌+◌, ◌-◌, ◌*◌, ◌/◌, ◌%◌, List, [], ◌∷◌, ◌++◌, length, take, drop, get_or, refl, sym, ap, ◌∙◌}
+use Rattle.std.proofs.Common.{◌≡◌, ◌<◌, ◌≤◌, ◌^◌, ℕ, Bool, true, false, ◌==◌, zero, suc, ◌+◌, ◌-◌, ◌*◌, ◌/◌, ◌%◌, List, [], ◌∷◌, ◌++◌, length, take, drop, get_or, refl, sym, ap}
+use Rattle.std.proofs.Common.{◌∙◌}
 use Rattle.std.proofs.Common.{arith}
 use Rattle.std.proofs.lemmas.Bool.{eqb-true}
 use Rattle.std.proofs.Math.Nat.{pow-suc, pow-le-pow_right}
@@ -25,7 +26,8 @@ hex_front ds front n some cut is =
     let left = hex_text (length ds - 1) (n / 16) in
     let long : length left ≡ length ds - 1 = length-hex (length ds - 1) (n / 16) in
     let seam : take (length left) (left ++ hex_digit (n % 16) ∷ []) ≡ left = take-append_seam left (hex_digit (n % 16) ∷ []) in
-    let front_is : front ≡ left = cut ∙ ap (λ (l : List ℕ). take (length ds - 1) l) (hex_parted ds n some is) ∙ ap (λ (k : ℕ). take k (left ++ hex_digit (n % 16) ∷ [])) (sym long) ∙ seam in
+    let front_is : front ≡ left = cut ∙ ap (λ (l : List ℕ). take (length ds - 1) l) (hex_parted ds n some is) ∙ ap (λ (k : ℕ). take k (left ++ hex_digit (n % 16) ∷ [])) (sym long)
+    ∙ seam in
     front_is ∙ ap (λ (k : ℕ). hex_text k (n / 16)) (sym (ap (λ (l : List ℕ). length l) front_is ∙ long))
 
 -- the last one
@@ -34,7 +36,8 @@ hex_back ds back n some cut is =
     let left = hex_text (length ds - 1) (n / 16) in
     let long : length left ≡ length ds - 1 = length-hex (length ds - 1) (n / 16) in
     let seam : drop (length left) (left ++ hex_digit (n % 16) ∷ []) ≡ hex_digit (n % 16) ∷ [] = drop-append_seam left (hex_digit (n % 16) ∷ []) in
-    let back_is : back ≡ hex_digit (n % 16) ∷ [] = cut ∙ ap (λ (l : List ℕ). drop (length ds - 1) l) (hex_parted ds n some is) ∙ ap (λ (k : ℕ). drop k (left ++ hex_digit (n % 16) ∷ [])) (sym long) ∙ seam in
+    let back_is : back ≡ hex_digit (n % 16) ∷ [] = cut ∙ ap (λ (l : List ℕ). drop (length ds - 1) l) (hex_parted ds n some is) ∙ ap
+    (λ (k : ℕ). drop k (left ++ hex_digit (n % 16) ∷ [])) (sym long) ∙ seam in
     ap (λ (l : List ℕ). get_or l 0 0) back_is
 
 -- a text of one octet is that octet
@@ -50,7 +53,8 @@ hex_joined ds front back n digit some front_cut back_cut front_long one left las
     let whole : front ++ back ≡ ds = ap (λ (l : List ℕ). l ++ back) front_cut ∙ ap (λ (l : List ℕ). take (length ds - 1) ds ++ l) back_cut ∙ take-append-drop (length ds - 1) ds in
     let high : (n * 16 + digit) / 16 ≡ n = omega (arith, small) in
     let low : (n * 16 + digit) % 16 ≡ digit = omega (arith, small) in
-    let front_is : front ≡ hex_text (length ds - 1) ((n * 16 + digit) / 16) = left ∙ ap (λ (k : ℕ). hex_text k n) front_long ∙ ap (λ (m : ℕ). hex_text (length ds - 1) m) (sym high) in
+    let front_is : front ≡ hex_text (length ds - 1) ((n * 16 + digit) / 16) = left ∙ ap (λ (k : ℕ). hex_text k n) front_long ∙ ap (λ (m : ℕ). hex_text (length ds - 1) m)
+    (sym high) in
     let back_is : back ≡ hex_digit ((n * 16 + digit) % 16) ∷ [] = one_octet back (hex_digit digit) one last ∙ ap (λ (d : ℕ). hex_digit d ∷ []) (sym low) in
     sym whole ∙ ap (λ (l : List ℕ). l ++ back) front_is ∙ ap (λ (l : List ℕ). hex_text (length ds - 1) ((n * 16 + digit) / 16) ++ l) back_is
     ∙ sym (hex-last (length ds) (n * 16 + digit) (λ none. absurd (omega (arith, some, none))))

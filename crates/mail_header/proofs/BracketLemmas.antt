@@ -74,7 +74,8 @@ takes_some text rest old new t = by t.unit (some_piece t.value t.unit rest t.is)
 pub takes_piece : (text x rest : List ℕ) (old new : List (List ℕ)) → IsRun is_bracketed_octet x → text ≡ 60 ∷ (x ++ 62 ∷ rest) → new ≡ old ++ x ∷ [] → TakesBlock text rest old new
 takes_piece text x rest old new r e h = record { value = Some x; unit = 60 ∷ (x ++ 62 ∷ []); whole = e ∙ sym (closed x rest); is = InBrackets x rest r; added = h }
 
-pub takes_octet : (text rest : List ℕ) (c : ℕ) (old : List (List ℕ)) → text ≡ c ∷ rest → ((x y : List ℕ) → IsRun is_bracketed_octet x → text ≢ 60 ∷ (x ++ 62 ∷ y)) → TakesBlock text rest old old
+pub takes_octet : (text rest : List ℕ) (c : ℕ) (old : List (List ℕ)) → text ≡ c ∷ rest → ((x y : List ℕ) → IsRun is_bracketed_octet x → text ≢ 60 ∷ (x ++ 62 ∷ y))
+    → TakesBlock text rest old old
 takes_octet text rest c old e n = record { value = None; unit = c ∷ []; whole = e; is = Passed c rest (λ x y r w. n x y r (e ∙ w)); added = sym (append-nil old) }
 
 -- a text has one list of pieces

@@ -13,7 +13,8 @@ use Rattle.mail_header.specs.Tokens.{Spelled, AreTokens}
 use Rattle.mail_header.specs.Lexemes.{is_lexeme, AreLexemes}
 use Rattle.mail_header.specs.Mailboxes.{mark_in, has_mark, is_atom}
 use Rattle.mail_header.specs.RawForms.{raw_form}
-use Rattle.mail_header.specs.Dates.{DatePiece, Digits, Letters, Signed, Octet, Other, pieces_in, pieces_of, number_in_digits, month_of, year_of, offset_of, named_zone, IsDay, DayMonthYear}
+use Rattle.mail_header.specs.Dates.{DatePiece, Digits, Letters, Signed, Octet, Other, pieces_in, pieces_of, number_in_digits, month_of, year_of, offset_of, named_zone, IsDay}
+use Rattle.mail_header.specs.Dates.{DayMonthYear}
 use Rattle.mail_header.specs.Dates.{IsClock, HourMinute, HourMinuteSecond, IsZone, Offset, Named, IsDateTime, IsDate, Plain, OfWeek, moment_of, IsMoment, IsDateForm}
 use Rattle.mail_header.specs.reading.DateReading.{then_read, with_rest, behind_day_name, digits_in, letters_in, octet_in, number_in, month_in, year_in, colon_in, second_behind}
 use Rattle.mail_header.specs.reading.DateReading.{second_in, zone_in, day_in, clock_in, at_end, date_in}
@@ -234,7 +235,8 @@ record FoundClock (c : Clock) (ps r : List DatePiece) : Type 0 where
   is : IsClock c pieces
 
 -- with the seconds, or without them
-with_seconds : (hs ms : List ℕ) (h m n : ℕ) (ps t u : List DatePiece) → number_in_digits 2 2 hs ≡ Some h → number_in_digits 2 2 ms ≡ Some m → ps ≡ Digits hs ∷ Octet 58 ∷ Digits ms ∷ t
+with_seconds : (hs ms : List ℕ) (h m n : ℕ) (ps t u : List DatePiece) → number_in_digits 2 2 hs ≡ Some h → number_in_digits 2 2 ms ≡ Some m
+    → ps ≡ Digits hs ∷ Octet 58 ∷ Digits ms ∷ t
     → second_in t ≡ Some (n, u) → FoundClock (record { hour = h; minute = m; second = n }) ps u
 with_seconds hs ms h m n ps t u e f w g = by (colon_in t) refl g
   where

@@ -13,7 +13,8 @@ use Rattle.mail_header.specs.Tokens.{Spelled}
 use Rattle.mail_header.specs.Mailboxes.{mark_of, has_mark, is_gap, is_phrase, is_display_name, is_addr_spec, is_inner_token}
 use Rattle.mail_header.specs.AddressLists.{Element, Empty, Head, End, Member, IsElement, Comma, Blank, Phrase, Closed, Bare, InAngle, EndsElement, EndsGroup, is_no_separator}
 use Rattle.mail_header.specs.AddressLists.{is_no_comma}
-use Rattle.mail_header.specs.reading.ElementReading.{is_plain_token, is_no_greater, stops, bare, in_angle, some_bare, bare_of, head_of, end_before, element_end, angle_before, angle_of}
+use Rattle.mail_header.specs.reading.ElementReading.{is_plain_token, is_no_greater, stops, bare, in_angle, some_bare, bare_of, head_of, end_before, element_end, angle_before}
+use Rattle.mail_header.specs.reading.ElementReading.{angle_of}
 use Rattle.mail_header.specs.reading.ElementReading.{closed_of, opened_of, separator_of, is_empty, marked_of, element_of, element_in, is_filled}
 use Rattle.mail_header.proofs.MailboxLemmas.{flip, picked, gap_mark, mark_is, gaps_each, phrase_each, name_each, spec_each, inner_each, spec_some}
 
@@ -143,7 +144,8 @@ angle_again : (phrase inner gaps rest : List Spelled) → is_display_name phrase
 angle_again phrase inner gaps rest p i e k =
     ap (λ (u : List Spelled). angle_before phrase inner u (back is_gap (gaps ++ rest))) (front_is is_gap gaps rest e (element_stops rest k))
     ∙ ap (λ (u : List Spelled). angle_before phrase inner gaps u) (back_is is_gap gaps rest e (element_stops rest k))
-    ∙ cond-true (is_display_name phrase && is_inner_token inner && stops is_no_separator rest) _ _ (three (is_display_name phrase) (is_inner_token inner) (stops is_no_separator rest) p i
+    ∙ cond-true (is_display_name phrase && is_inner_token inner && stops is_no_separator rest) _ _
+    (three (is_display_name phrase) (is_inner_token inner) (stops is_no_separator rest) p i
     (stops_true is_no_separator rest k))
   where
     three : (a b c : Bool) → a ≡ true → b ≡ true → c ≡ true → (a && b && c) ≡ true

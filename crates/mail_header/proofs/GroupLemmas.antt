@@ -32,7 +32,8 @@ closed_group _ ms _ members (Named phrase name t) h = (record { name = Named phr
 -- the groups with the one that was open
 pub closes : (b : Builder) (done : List Grouped) (phrase : Option (List Spelled)) (ms : List Mailbox) (v : List Group) → Has b done phrase ms
     → v ≡ b.groups.items ++ option_to_list (group_from b.name b.members.items) → AllZip IsGroup (done ++ group_closed phrase ms) v
-closes b done phrase ms v h e = subst (λ (u : List Group). AllZip IsGroup (done ++ group_closed phrase ms) u) (sym e) (zip_append IsGroup done (group_closed phrase ms) b.groups.items
+closes b done phrase ms v h e = subst (λ (u : List Group). AllZip IsGroup (done ++ group_closed phrase ms) u) (sym e)
+    (zip_append IsGroup done (group_closed phrase ms) b.groups.items
     (option_to_list (group_from b.name b.members.items)) h.groups (closed_group phrase ms b.name b.members.items h.name h.members))
 
 pub no_members : (v : List Address) → v ≡ [] → AllZip IsAddress [] v

@@ -42,7 +42,8 @@ pub data IsElement : Element → List Spelled → List Spelled → Type 0 where
   Bare : (spec rest : List Spelled) → is_addr_spec spec ≡ true → EndsElement rest
       → IsElement (Member (record { phrase = []; spec = spec; behind = spec })) spec rest
   -- [phrase] "<" [obs-domain-list ":"] addr-spec ">"
-  InAngle : (phrase inner gaps rest : List Spelled) (less greater : Spelled) → is_display_name phrase ≡ true → has_mark 60 less ≡ true → is_inner_token inner ≡ true
+  InAngle : (phrase inner gaps rest : List Spelled) (less greater : Spelled) → is_display_name phrase ≡ true → has_mark 60 less ≡ true
+      → is_inner_token inner ≡ true
       → has_mark 62 greater ≡ true → Each is_gap gaps → EndsElement rest
       → IsElement (Member (record { phrase = phrase; spec = behind_route inner; behind = gaps })) (phrase ++ less ∷ (inner ++ greater ∷ gaps)) rest
 

@@ -40,7 +40,8 @@ same : (v w x y s t : List ℕ) → x ++ s ≡ y ++ t → v ≡ w → x ≡ y �
 same v w x y s t e p q = record { value = p; unit = q; rest = append_cancel_left y s t (ap (λ (u : List ℕ). u ++ s) (sym q) ∙ e) }
 
 -- brackets of a kind
-one_bracket : (k : Kind) (x y s t : List ℕ) → x ++ s ≡ y ++ t → IsToken alphabet.Mail (record { kind = k; text = x }) x s → IsToken alphabet.Mail (record { kind = k; text = y }) y t
+one_bracket : (k : Kind) (x y s t : List ℕ) → x ++ s ≡ y ++ t → IsToken alphabet.Mail (record { kind = k; text = x }) x s → IsToken alphabet.Mail
+    (record { kind = k; text = y }) y t
     → x ≡ y
 one_bracket k x y s t e i j =
     let d = determined (spelled_in alphabet.Mail) (token_reader alphabet.Mail) in
@@ -152,7 +153,14 @@ takes_octet text rest old new c e o h = by (is_white c) refl
   where
     by : (q : Bool) → is_white c ≡ q → TakesUnit text rest old new
     by true w = record { kept = []; unit = c ∷ []; whole = e; is = White c rest w; added = h ∙ ap (λ (p : Bool). old ++ cond (Rattle.std.specs.Prelude.not p) (c ∷ []) []) w }
-    by false w = record { kept = c ∷ []; unit = c ∷ []; whole = e; is = Octet c rest w o; added = h ∙ ap (λ (p : Bool). old ++ cond (Rattle.std.specs.Prelude.not p) (c ∷ []) []) w }
+    by false w = record {
+      kept = c ∷ [];
+      unit = c ∷ [];
+      whole = e;
+      is = Octet c rest w o;
+      added = h ∙ ap
+          (λ (p : Bool). old ++ cond (Rattle.std.specs.Prelude.not p) (c ∷ []) []) w;
+    }
 
 pub begins_with_opener : (text rest : List ℕ) (c : ℕ) → text ≡ c ∷ rest → is_opener c ≡ true → BeginsWithOpener text
 begins_with_opener text rest c e o = let P : List ℕ → Type 0 = λ t. BeginsWithOpener t in subst P (sym e) o

@@ -102,7 +102,8 @@ module _ {S : Type 0} (machine : Automaton S) (laws : IsLawful machine) where
   same_text (c ∷ t) (d ∷ u) None left other good e f p = absurd (no_symbols left (sym (none_stays machine t) ∙ e))
   same_text (c ∷ t) (d ∷ u) (Some ss) left other good e f p =
       let g = good ss refl in
-      let same : c ≡ d = head_is ss c t left g e ∙ ap (mark machine ss) (cons_head (plain_of c) (plain_of d) (plain_octets t) (plain_octets u) p) ∙ sym (head_is ss d u other g f) in
+      let same : c ≡ d = head_is ss c t left g e ∙ ap (mark machine ss) (cons_head (plain_of c) (plain_of d) (plain_octets t) (plain_octets u) p) ∙ sym
+      (head_is ss d u other g f) in
       let rest : t ≡ u =
       same_text t u (step machine ss c) left other (λ next h. keeps machine laws false ss c next g h) e (ap (λ (n : ℕ). run machine (step machine ss n) u) same ∙ f)
       (cons_tail (plain_of c) (plain_of d) (plain_octets t) (plain_octets u) p) in

@@ -74,7 +74,8 @@ module _ {S : Type 0} (machine : Automaton S) (laws : IsLawful machine) where
         (subst (λ (n : ℕ). n + length ss ≤ room) (sym need_same) h.1.0, h.1.1),
       )
 
-  skips : (ss : List S) (out : ℕ) (b cs : List ℕ) → Each small cs → length cs < inside_left machine ss → Ready machine ss → LeavesSymbols machine ss out b → Skips machine ss out b cs
+  skips : (ss : List S) (out : ℕ) (b cs : List ℕ) → Each small cs → length cs < inside_left machine ss → Ready machine ss → LeavesSymbols machine ss out b
+      → Skips machine ss out b cs
   skips [] out b cs each lt ready h = absurd (omega (arith, lt))
   skips (s ∷ ss) out b cs each lt ready h = record {
     ready = ready_fewer s (length cs) ss lt ready;

@@ -99,7 +99,8 @@ apart_of k m n ids i email b g h id e f =
     h id e ∙ g id e ∙ cond-false (is_among (take i ids) id && eqb email e) b (has_entry k id e) none
 
 -- what was added in part is taken out again
-pub undone : (k m n : KeyIndex) (ids : List (List ℕ)) (email : ℕ) → ((id : List ℕ) → has_entry k id email ≡ false) → SameApart k m ids email → SetsAll m n ids email false → SameIndex k n
+pub undone : (k m n : KeyIndex) (ids : List (List ℕ)) (email : ℕ) → ((id : List ℕ) → has_entry k id email ≡ false) → SameApart k m ids email → SetsAll m n ids email false
+    → SameIndex k n
 undone k m n ids email a g h id e = by (is_among ids id) (eqb email e) refl refl
   where
     by : (p q : Bool) → is_among ids id ≡ p → eqb email e ≡ q → has_entry n id e ≡ has_entry k id e

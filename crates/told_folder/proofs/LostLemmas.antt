@@ -1,5 +1,6 @@
 -- What holds as a VANISHED takes messages out one by one.
-use Rattle.std.proofs.Common.{◌≡◌, ◌≢◌, ℕ, zero, suc, ◌+◌, ◌<◌, ◌≤◌, Bool, true, false, not, ◌&&◌, ◌||◌, List, [], ◌∷◌, ◌++◌, Option, Some, None, Result, Ok, Err, OnOk, length, get_or, take, filter, find}
+use Rattle.std.proofs.Common.{◌≡◌, ◌≢◌, ℕ, zero, suc, ◌+◌, ◌<◌, ◌≤◌, Bool, true, false, not, ◌&&◌, ◌||◌, List, [], ◌∷◌, ◌++◌, Option, Some, None, Result, Ok, Err, OnOk, length}
+use Rattle.std.proofs.Common.{get_or, take, filter, find}
 use Rattle.std.proofs.Common.{refl, sym, ap, ◌∙◌, subst, arith, leb, le-leb, leb-true, inl, inr, cond, if◌then◌else◌, eqb, eq-eqb, ne_eqb, nat_cmp, is_some}
 use Rattle.std.proofs.lemmas.Bool.{lt-leb}
 use Rattle.std.proofs.lemmas.List.{take_more}
@@ -227,7 +228,8 @@ losing_all p was now none so = record {
   known = λ e. (so.known (ap (λ (t : Telling). t.messages) e)).1;
 }
 
-pub losing_fails : (was now next : Work) (on : GoesOn was now) (ascends : Ascends uid_of now.messages) (index : (hs : List Held) → IsIndexOf hs was → IsIndexOf hs now) (t u : Telling)
+pub losing_fails : (was now next : Work) (on : GoesOn was now) (ascends : Ascends uid_of now.messages) (index : (hs : List Held) → IsIndexOf hs was → IsIndexOf hs now)
+    (t u : Telling)
     (e : AllocError) → GoesOk now next t (Err e) → GoesOk was next u (Err e)
 losing_fails was now next on ascends index t u e g = record {
   on = goes_on_to _ _ _ on g.on;

@@ -145,10 +145,12 @@ set_entries x w [] a up found = absurd (cc)
 set_entries x w (e ∷ es) a up found =
     let key : e.0 ≡ e.1.uid = a.0 in
     elim (lt_same_gt w.uid e.1.uid) [
-      | inl less ↦ absurd (some_is_not_none _ (sym found ∙ none_above uid_of w.uid (e.1 ∷ values_of es) (less, above_more uid_of w.uid e.1.uid (values_of es) (omega (arith, less)) up.0)))
+      | inl less ↦ absurd (some_is_not_none _ (sym found ∙ none_above uid_of w.uid (e.1 ∷ values_of es)
+          (less, above_more uid_of w.uid e.1.uid (values_of es) (omega (arith, less)) up.0)))
       | inr more ↦ elim more [
         | inl greater ↦
-            let rest : with_key uid_of w.uid (values_of es) ≡ Some x = sym (ap (λ b. if b then Some e.1 else with_key uid_of w.uid (values_of es)) (ne_eqb _ _ (λ f. omega (arith, greater, f)))) ∙ found in
+            let rest : with_key uid_of w.uid (values_of es) ≡ Some x = sym
+            (ap (λ b. if b then Some e.1 else with_key uid_of w.uid (values_of es)) (ne_eqb _ _ (λ f. omega (arith, greater, f)))) ∙ found in
             ap (λ b. values_of (cond b ((e.0, w) ∷ es) (e ∷ set_value (is_at (nat_cmp w.uid)) es w))) (apart_at w.uid e.0 (λ f. omega (arith, key, greater, f)))
             ∙ ap (λ zs. e.1 ∷ zs) (set_entries x w es a.1 up.1 rest)
             ∙ sym (ap (λ b. if b then w ∷ (e.1 ∷ values_of es) else (if eqb w.uid e.1.uid then w ∷ values_of es else e.1 ∷ put_keyed uid_of w (values_of es)))
@@ -203,7 +205,8 @@ pub no_entry : (f : ℕ) (es : List (ℕ × Message)) → AllKeyed es → entrie
 no_entry f [] a is = refl
 no_entry f (d ∷ es) a is =
     let test : (is_le (nat_cmp f d.0) && not false) ≡ leb f d.1.uid = le_is f d.0 ∙ ap (leb f) a.0 in
-    elim (leb f d.1.uid) as (λ b. (is_le (nat_cmp f d.0) && not false) ≡ b → ◌≡◌ {A = Option ℕ} None (option_map uid_of (if b then Some d.1 else find (λ x. leb f x.uid) (values_of es)))) [
+    elim (leb f d.1.uid) as (λ b. (is_le (nat_cmp f d.0) && not false) ≡ b → ◌≡◌ {A = Option ℕ} None
+    (option_map uid_of (if b then Some d.1 else find (λ x. leb f x.uid) (values_of es)))) [
       | true ↦ λ t.
           let here : ◌≡◌ {A = List (ℕ × Message)} (d ∷ entries_at f es) [] = sym (ap (λ b. if b then d ∷ entries_at f es else entries_at f es) t) ∙ is in
           absurd (cc)
@@ -243,7 +246,8 @@ put_left w (y ∷ xs) ys (suc at) before l same =
     ∙ ap (λ b. if b then w ∷ (xs ++ ys) else y ∷ put_keyed uid_of w (xs ++ ys)) (ne_eqb _ _ (λ e. omega (arith, e, less)))
     ∙ ap (λ zs. y ∷ zs) (put_left w xs ys at (λ i d h. before (suc i) d (omega arith)) (omega arith) same)
 
-pub flags_left : (u : ℕ) (xs ys : List Message) (at : ℕ) → IsHeldAt uid_of u xs at → Ascends uid_of (xs ++ ys) → (y : Message) → y ≡ get_or xs at y → (flags : List (List ℕ)) → (x : Message)
+pub flags_left : (u : ℕ) (xs ys : List Message) (at : ℕ) → IsHeldAt uid_of u xs at → Ascends uid_of (xs ++ ys) → (y : Message) → y ≡ get_or xs at y → (flags : List (List ℕ))
+    → (x : Message)
     → with_key uid_of u (xs ++ ys) ≡ Some x → set xs at (record y { flags = flags }) ++ ys ≡ put_keyed uid_of (record x { flags = flags }) (xs ++ ys)
 flags_left u xs ys at held up y is flags x found =
     let uid : y.uid ≡ u = ap uid_of is ∙ held.same y in
@@ -253,7 +257,8 @@ flags_left u xs ys at held up y is flags x found =
     sym (put_left w xs ys at (λ i d h. subst (λ n. uid_of (get_or xs i d) < n) (sym uid) (held.place.before i d h)) held.within (λ d. held.same d ∙ sym uid))
     ∙ ap (λ (m : Message). put_keyed uid_of (record m { flags = flags }) (xs ++ ys)) same
 
-pub found_self : (u : ℕ) (xs ys : List Message) (at : ℕ) → IsHeldAt uid_of u xs at → Ascends uid_of (xs ++ ys) → (y : Message) → y ≡ get_or xs at y → with_key uid_of u (xs ++ ys) ≡ Some y
+pub found_self : (u : ℕ) (xs ys : List Message) (at : ℕ) → IsHeldAt uid_of u xs at → Ascends uid_of (xs ++ ys) → (y : Message) → y ≡ get_or xs at y → with_key uid_of u
+    (xs ++ ys) ≡ Some y
 found_self u xs ys at held up y is = found_left u xs ys y (sym (held_found uid_of u xs (ascends_left xs ys up) at held y is))
 
 found_above : (k u : ℕ) (xs : List Message) (x : Message) → AllAbove uid_of k xs → with_key uid_of u xs ≡ Some x → k < u
@@ -277,7 +282,8 @@ found_key u (y ∷ ys) x e =
     ]
 
 -- the message of the map has other flags
-pub flags_right : (u : ℕ) (xs : List Message) (es fs : List (ℕ × Message)) → AllKeyed es → Ascends uid_of (xs ++ values_of es) → (y : Message) → lookup (is_at (nat_cmp u)) es ≡ Some y
+pub flags_right : (u : ℕ) (xs : List Message) (es fs : List (ℕ × Message)) → AllKeyed es → Ascends uid_of (xs ++ values_of es) → (y : Message) → lookup
+    (is_at (nat_cmp u)) es ≡ Some y
     → (flags : List (List ℕ)) → fs ≡ set_value (is_at (nat_cmp u)) es (record y { flags = flags }) → (x : Message) → with_key uid_of u (xs ++ values_of es) ≡ Some x
     → xs ++ values_of fs ≡ put_keyed uid_of (record x { flags = flags }) (xs ++ values_of es)
 flags_right u xs es fs keyed up y at_y flags is x found =

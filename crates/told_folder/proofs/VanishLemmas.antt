@@ -77,7 +77,8 @@ module _ (gone : ℕ → Bool) where
             ] refl
         | inr apart ↦
             let skip : with_key uid_of u (x ∷ xs) ≡ with_key uid_of u xs = head_passed u x xs apart in
-            elim (gone x.uid) as (λ b. with_key uid_of u (if not b then x ∷ without_those gone xs else without_those gone xs) ≡ (if gone u then None else with_key uid_of u (x ∷ xs))) [
+            elim (gone x.uid) as (λ b. with_key uid_of u (if not b then x ∷ without_those gone xs else without_those gone xs) ≡ (if gone u then None else with_key uid_of u
+            (x ∷ xs))) [
               | true ↦ rest ∙ sym (ap (λ (o : Option Message). if gone u then None else o) skip)
               | false ↦ head_passed u x (without_those gone xs) apart ∙ rest ∙ sym (ap (λ (o : Option Message). if gone u then None else o) skip)
             ]

@@ -27,7 +27,8 @@ pub record IsBlockAt (t block rest : List ℕ) : Type 0 where
 
 -- with the block, the last field of this name is `new`, where it was `old` before
 abbrev pub LaterField : List ℕ → List ℕ → Option (List ℕ) → Option (List ℕ) → Type 0
-LaterField name block old new = (fs : List NameAndRaw) → old ≡ last_named name fs → (more : List NameAndRaw) × AddsField block fs more × (new ≡ last_named name more)
+LaterField name block old new = (fs : List NameAndRaw) → old ≡ last_named name fs → (more : List NameAndRaw) × AddsField block fs more
+    × (new ≡ last_named name more)
 
 -- what stands at the front of a text was added to the names, and rest follows it
 pub record TakesBlock (text rest : List ℕ) (old new : List (List ℕ)) : Type 0 where

@@ -33,7 +33,8 @@ Spreads inner text html mid new = (old : BodyLists) (a : PartLists) → length o
     → GainsParts old new (spread inner a)
 
 abbrev pub Shares : ℕ → ℕ → BodyLists → BodyLists → Type 0
-Shares text html mid new = (old : BodyLists) (a : PartLists) → length old.text ≡ text → length old.html ≡ html → GainsParts old mid a → GainsParts old new (shared a)
+Shares text html mid new = (old : BodyLists) (a : PartLists) → length old.text ≡ text → length old.html ≡ html → GainsParts old mid a → GainsParts old new
+    (shared a)
 
 -- what a walk over these parts adds was added
 pub record GainsBy (walk : Walk) (ps : List Part) (old new : BodyLists) : Type 0 where

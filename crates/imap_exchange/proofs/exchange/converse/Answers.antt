@@ -33,7 +33,8 @@ conversing-preserved-in-Continue-branch-2 g c =
     record {
       tape = rw c.in_ok-keep-in-Open.ensures (join _ c.conversing.invariant.tape c.in_ok-response.ensures.tape
           (λ x y so reads. opened c.in_ok-response.response c.in-Open.ensures.0 c.in-Open.ensures.1
-          (heard c.offset-begun.result c.next_response.new.up c.in_ok-response.response c.offset-begun.ensures c.conversing.invariant.place c.in_ok-response.ensures.stays so reads)));
+          (heard c.offset-begun.result c.next_response.new.up c.in_ok-response.response c.offset-begun.ensures c.conversing.invariant.place c.in_ok-response.ensures.stays so
+          reads)));
       place = rw c.in_ok-keep-in-Open.ensures (omega (
         arith,
         c.conversing.invariant.place,
@@ -51,14 +52,16 @@ pub returns-in_err-keep-in-Open-clause-tape : goal.returns-in_err-keep-in-Open-c
 returns-in_err-keep-in-Open-clause-tape g c =
     let is = err_from_is_err_and c.from_residual-in_err-keep-in-Open.result c.from_residual-in_err-keep-in-Open.ensures.1 in
     rw (is.1, is.2) (join _ c.conversing.invariant.tape c.in_ok-response.ensures.tape
-    (λ x y so reads. let h = heard c.offset-begun.result c.next_response.new.up c.in_ok-response.response c.offset-begun.ensures c.conversing.invariant.place c.in_ok-response.ensures.stays so reads in
+    (λ x y so reads. let h = heard c.offset-begun.result c.next_response.new.up c.in_ok-response.response c.offset-begun.ensures c.conversing.invariant.place
+    c.in_ok-response.ensures.stays so reads in
     wanting c.args.due.now c.next_response.new.received h.speaks))
 
 pub returns-in_err-keep-in-Continue-clause-tape : goal.returns-in_err-keep-in-Continue-clause-tape
 returns-in_err-keep-in-Continue-clause-tape g c =
     let is = err_from_is_err_and c.from_residual-in_err-keep-in-Continue.result c.from_residual-in_err-keep-in-Continue.ensures.1 in
     rw (is.1, is.2) (join _ c.conversing.invariant.tape c.in_ok-response.ensures.tape
-    (λ x y so reads. let h = heard c.offset-begun.result c.next_response.new.up c.in_ok-response.response c.offset-begun.ensures c.conversing.invariant.place c.in_ok-response.ensures.stays so reads in
+    (λ x y so reads. let h = heard c.offset-begun.result c.next_response.new.up c.in_ok-response.response c.offset-begun.ensures c.conversing.invariant.place
+    c.in_ok-response.ensures.stays so reads in
     wanting c.args.due.now c.next_response.new.received h.speaks))
 
 -- a continuation
@@ -69,7 +72,8 @@ conversing-preserved g c =
     record {
       tape = rw c.in_ok-keep-in-Continue.ensures (join _
           (join _ c.conversing.invariant.tape c.in_ok-response.ensures.tape
-          (λ x y so reads. heard c.offset-begun.result c.next_response.new.up c.in_ok-response.response c.offset-begun.ensures c.conversing.invariant.place c.in_ok-response.ensures.stays so reads))
+          (λ x y so reads. heard c.offset-begun.result c.next_response.new.up c.in_ok-response.response c.offset-begun.ensures c.conversing.invariant.place
+          c.in_ok-response.ensures.stays so reads))
           c.send_piece-in-Continue.ensures.tape (λ x z h offers. continued c.in_ok-response.response c.next_place-at.result c.send_piece-in-Continue.result here
           c.conversing.invariant.place c.next_place-at.ensures h offers));
       place = rw c.in_ok-keep-in-Continue.ensures (omega (arith, c.conversing.invariant.place, c.next_place-at.ensures, counted));

@@ -26,7 +26,8 @@ pub overflow_add-result : goal.overflow_add-result
 overflow_add-result t c =
     let some = some_by c.args.digits.now c.is_empty.result c.is_empty.ensures c.if-is_empty.false in
     let below = hex_below (length c.split_at.result.0.now) c.in_ok-number.number c.in_ok-digit.digit c.in_ok-number.ensures.some.0 c.in_ok-digit.ensures.some.0 in
-    let fits = hex_fits (suc (length c.split_at.result.0.now)) (c.in_ok-number.number * 16 + c.in_ok-digit.digit) (omega (arith, c.requires, some, c.split_at.ensures.front_len)) below in
+    let fits = hex_fits (suc (length c.split_at.result.0.now)) (c.in_ok-number.number * 16 + c.in_ok-digit.digit)
+    (omega (arith, c.requires, some, c.split_at.ensures.front_len)) below in
     omega (arith, fits)
 
 pub returns-clause-some : goal.returns-clause-some

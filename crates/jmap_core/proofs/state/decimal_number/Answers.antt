@@ -9,7 +9,8 @@ returns-then-not-is_plain-clause-none c = λ none n fits is.
 
 pub returns-in-Ok-clause-some : goal.returns-in-Ok-clause-some
 returns-in-Ok-clause-some c =
-    plain_read c.args.text.now c.parse.result c.in-Ok.number (sym (ap is_plain c.as_bytes.ensures.value) ∙ sym c.is_plain.ensures ∙ c.if-not-is_plain.false) c.parse.ensures.value.0 c.in-Ok.is
+    plain_read c.args.text.now c.parse.result c.in-Ok.number
+    (sym (ap is_plain c.as_bytes.ensures.value) ∙ sym c.is_plain.ensures ∙ c.if-not-is_plain.false) c.parse.ensures.value.0 c.in-Ok.is
 
 pub returns-in-Err-clause-none : goal.returns-in-Err-clause-none
 returns-in-Err-clause-none c = λ none n fits is. plain_unread c.args.text.now c.parse.result c.in-Err.field-0 n fits c.parse.ensures.value.0 c.in-Err.is is

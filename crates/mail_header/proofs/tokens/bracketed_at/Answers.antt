@@ -16,7 +16,8 @@ returns-in-Some-closing c =
     let a : Apart c.args.opener c.args.closer = record { opener = c.requires.opener; closer = c.requires.closer; two = c.requires.two } in
     let n = c.in-Some-closing.len in
     let t = c.args.text.now in (
-      bracket_read c.args.first c.args.opener c.args.closer n t c.in-Some.rest.now c.split_at.result.0.now a c.in-Some.ensures (sym c.in-Some-closing.ensures.value) c.split_at.ensures.front,
+      bracket_read c.args.first c.args.opener c.args.closer n t c.in-Some.rest.now c.split_at.result.0.now a c.in-Some.ensures
+          (sym c.in-Some-closing.ensures.value) c.split_at.ensures.front,
       sym (take-append-drop (n + 1) t) ∙ ap (λ (u : List ℕ). u ++ drop (n + 1) t) (sym c.split_at.ensures.front)
           ∙ ap (λ (u : List ℕ). c.split_at.result.0.now ++ u) (sym c.split_at.ensures.back),
     )

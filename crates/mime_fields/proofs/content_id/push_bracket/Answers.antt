@@ -12,4 +12,5 @@ returns-in-Some-quoted_at c =
 
 pub returns : goal.returns
 returns c =
-    takes_rest c.args.text.now [] c.args.kept.now.items c.push_visible.new.kept.items c.requires c.in_default.ensures c.in_default-quoted_at.ensures refl c.in_ok-push_visible.ensures
+    takes_rest c.args.text.now [] c.args.kept.now.items c.push_visible.new.kept.items c.requires c.in_default.ensures c.in_default-quoted_at.ensures refl
+    c.in_ok-push_visible.ensures

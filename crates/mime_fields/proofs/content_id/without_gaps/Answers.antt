@@ -13,4 +13,5 @@ returns c =
     let kept = c.loop-rest.kept.items in
     let rest = c.loop-rest.rest.now in
     let e : eqb (length rest) 0 ≡ true = cc in
-    gathered_all kept rest c.args.text.now _ c.loop-rest.invariant (nil_from_length rest (eqb-true (length rest) 0 e)) (c.in_ok-unfold.ensures ∙ ap unfolded c.as_slice.ensures.value)
+    gathered_all kept rest c.args.text.now _ c.loop-rest.invariant (nil_from_length rest (eqb-true (length rest) 0 e))
+    (c.in_ok-unfold.ensures ∙ ap unfolded c.as_slice.ensures.value)

@@ -15,14 +15,16 @@ returns-then-left-before g c =
     let all : c.into_vec-messages.result.items ≡ xs = c.into_vec-messages.ensures ∙ c.replace.ensures.value in
     let kept : c.clear_messages.new.messages.items ≡ without_those gone xs = c.clear_messages.ensures ∙ ap (λ (zs : List Message). without_those gone zs) all in
     let now : c.new-2.result ≡ without_those gone xs = c.new-2.ensures ∙ kept in
-    let clear : (q : ℕ) → get nat_cmp c.clear_marks.new.marks q ≡ cleared gone xs q (get nat_cmp c.args.work.now.marks q) = rw (c.as_slice.ensures.value, c.into_vec-messages.ensures, c.replace.ensures.value) at c.clear_marks.ensures in
+    let clear : (q : ℕ) → get nat_cmp c.clear_marks.new.marks q ≡ cleared gone xs q (get nat_cmp c.args.work.now.marks q) =
+    rw (c.as_slice.ensures.value, c.into_vec-messages.ensures, c.replace.ensures.value) at c.clear_marks.ensures in
     vanish_goes _ _ gone c.requires (record {
       folder = refl;
       rises = omega (arith, c.one_more-work.ensures);
       stands = λ e l. absurd (omega (arith, e, l, c.one_more-work.ensures));
       draws = λ e l. refl;
     }) (λ e. let same : length c.clear_messages.new.messages.items ≡ length xs = ap length (kept ∙ e) in
-    absurd (omega (arith, same, c.if-left-before.true, c.clear_messages.new.messages.ok, c.into_vec-messages.result.ok, c.len-before.ensures, c.len-left.ensures, ap length all))) now refl clear
+    absurd (omega (arith, same, c.if-left-before.true, c.clear_messages.new.messages.ok, c.into_vec-messages.result.ok, c.len-before.ensures, c.len-left.ensures, ap length all)))
+    now refl clear
 
 pub returns-else-left-before : goal.returns-else-left-before
 returns-else-left-before g c =
@@ -31,8 +33,10 @@ returns-else-left-before g c =
     let all : c.into_vec-messages.result.items ≡ xs = c.into_vec-messages.ensures ∙ c.replace.ensures.value in
     let kept : c.clear_messages.new.messages.items ≡ without_those gone xs = c.clear_messages.ensures ∙ ap (λ (zs : List Message). without_those gone zs) all in
     let now : c.new-2.result ≡ without_those gone xs = c.new-2.ensures ∙ kept in
-    let clear : (q : ℕ) → get nat_cmp c.clear_marks.new.marks q ≡ cleared gone xs q (get nat_cmp c.args.work.now.marks q) = rw (c.as_slice.ensures.value, c.into_vec-messages.ensures, c.replace.ensures.value) at c.clear_marks.ensures in
-    let len_same : length c.clear_messages.new.messages.items ≡ length xs = omega (arith, c.clear_messages.new.messages.ok, c.into_vec-messages.result.ok, c.len-before.ensures, c.len-left.ensures, ap length all) in
+    let clear : (q : ℕ) → get nat_cmp c.clear_marks.new.marks q ≡ cleared gone xs q (get nat_cmp c.args.work.now.marks q) =
+    rw (c.as_slice.ensures.value, c.into_vec-messages.ensures, c.replace.ensures.value) at c.clear_marks.ensures in
+    let len_same : length c.clear_messages.new.messages.items ≡ length xs = omega
+    (arith, c.clear_messages.new.messages.ok, c.into_vec-messages.result.ok, c.len-before.ensures, c.len-left.ensures, ap length all) in
     vanish_goes _ _ gone c.requires (record {
       folder = refl;
       rises = omega arith;

@@ -31,7 +31,9 @@ loop-uid-preserved c =
 
 pub returns-in_err-tell_lost : goal.returns-in_err-tell_lost
 returns-in_err-tell_lost c =
-    rw (err_from_is_err_and c.from_residual.result c.from_residual.ensures.1).1 (losing_fails c.args.work.now c.loop-uid.work c.tell_lost.new.work c.loop-uid.invariant.on c.loop-uid.invariant.ascends c.loop-uid.invariant.index _ _ _ c.in_err-tell_lost.ensures)
+    rw (err_from_is_err_and c.from_residual.result c.from_residual.ensures.1).1
+    (losing_fails c.args.work.now c.loop-uid.work c.tell_lost.new.work c.loop-uid.invariant.on c.loop-uid.invariant.ascends c.loop-uid.invariant.index _ _ _
+    c.in_err-tell_lost.ensures)
 
 pub returns : goal.returns
 returns c = losing_all (is_in c.args.range.now) c.args.work.now c.loop-uid.work c.in_default.ensures c.loop-uid.invariant

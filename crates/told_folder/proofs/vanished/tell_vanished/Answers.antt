@@ -23,7 +23,8 @@ loop-range-preserved c =
 
 pub returns-in_err-tell_range : goal.returns-in_err-tell_range
 returns-in_err-tell_range c =
-    rw (err_from_is_err_and c.from_residual.result c.from_residual.ensures.1).1 (losing_fails c.args.work.now c.loop-range.work c.tell_range.new.work c.loop-range.invariant.on c.loop-range.invariant.ascends c.loop-range.invariant.index _ _ _
+    rw (err_from_is_err_and c.from_residual.result c.from_residual.ensures.1).1
+    (losing_fails c.args.work.now c.loop-range.work c.tell_range.new.work c.loop-range.invariant.on c.loop-range.invariant.ascends c.loop-range.invariant.index _ _ _
     c.in_err-tell_range.ensures)
 
 pub returns : goal.returns

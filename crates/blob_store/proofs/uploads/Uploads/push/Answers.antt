@@ -12,7 +12,8 @@ invariant_of-self-in_err-insert c =
     let total = c.self.inside.total in
     let at_old = subst (λ ids. AreKept (get (pointwise ◌==◌) c.self.inside.octets) ids × (total ≡ octets_in_all (gathered (get (pointwise ◌==◌) c.self.inside.octets) ids)))
     (sym c.reserve.ensures.items) c.self.invariant in
-    subst (λ es. AreKept (λ k. lookup (pointwise ◌==◌ k) es) c.reserve.new.self.items × (total ≡ octets_in_all (gathered (λ k. lookup (pointwise ◌==◌ k) es) c.reserve.new.self.items)))
+    subst (λ es. AreKept (λ k. lookup (pointwise ◌==◌ k) es) c.reserve.new.self.items
+    × (total ≡ octets_in_all (gathered (λ k. lookup (pointwise ◌==◌ k) es) c.reserve.new.self.items)))
     (sym c.in_err-insert.ensures.err) at_old
 
 -- what stands with the further id in the map and at the end of the queue

@@ -12,7 +12,8 @@ returns g c =
     record {
       ready = subst (Ready machine) (sym is) (start_good machine laws, (omega (arith, laws.start_room), tt));
       more = λ e. none machine.start (sym is ∙ e);
-      stands = subst (λ (ss : List g.row.S.Denot). LeavesSymbols machine ss 0 []) (sym is) (record { text = []; octets = refl; leads = refl; counted = refl; within = omega arith });
+      stands = subst (λ (ss : List g.row.S.Denot). LeavesSymbols machine ss 0 []) (sym is)
+          (record { text = []; octets = refl; leads = refl; counted = refl; within = omega arith });
       taken = refl;
       bound = omega (arith, ap (left_of machine) is, laws.start_left);
     }

@@ -22,7 +22,8 @@ invariant_of-self c =
     let put = flags_left c.args.uid xs vs c.in-Ok.at held c.self.invariant.ascends y c.index_mut-message.ensures.value c.args.flags y
     (found_self c.args.uid xs vs c.in-Ok.at held c.self.invariant.ascends y c.index_mut-message.ensures.value) in
     record {
-      ascends = subst (λ (zs : List Message). Ascends uid_of zs) (sym put) (ascends_put uid_of (record y { flags = c.args.flags }) (all_of c.self.inside.before c.self.inside.after) c.self.invariant.ascends);
+      ascends = subst (λ (zs : List Message). Ascends uid_of zs) (sym put)
+          (ascends_put uid_of (record y { flags = c.args.flags }) (all_of c.self.inside.before c.self.inside.after) c.self.invariant.ascends);
       keyed = c.self.invariant.keyed;
       room = c.self.invariant.room;
     }
@@ -38,7 +39,8 @@ invariant_of-self-in-Some c =
     let put = flags_right c.args.uid xs es _ c.self.invariant.keyed c.self.invariant.ascends y at_y c.args.flags written.0 y
     (found_right c.args.uid xs (values_of es) (none_under c.args.uid xs (under_found c.args.uid xs (values_of es) y c.self.invariant.ascends found)) ∙ found) in
     record {
-      ascends = subst (λ (zs : List Message). Ascends uid_of zs) (sym put) (ascends_put uid_of (record y { flags = c.args.flags }) (all_of c.self.inside.before c.self.inside.after) c.self.invariant.ascends);
+      ascends = subst (λ (zs : List Message). Ascends uid_of zs) (sym put)
+          (ascends_put uid_of (record y { flags = c.args.flags }) (all_of c.self.inside.before c.self.inside.after) c.self.invariant.ascends);
       keyed = keyed_flags c.args.uid es _ c.self.invariant.keyed y at_y c.args.flags written.0;
       room = omega (arith, written.2, c.self.invariant.room);
     }

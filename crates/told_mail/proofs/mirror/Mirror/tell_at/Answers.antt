@@ -36,7 +36,8 @@ invariant_of-self c =
             changes = c.self.inside.changes;
           })
           c.tell_exchange-done.new.work within c.index_mut-held.ensures.value c.self.invariant.index c.take_messages-taken.ensures.folder refl
-          (c.new-messages.ensures ∙ c.take_messages-taken.ensures.taken) c.replace-marks.ensures.value refl c.tell_exchange-done.ensures.index c.tell_exchange-done.ensures.on.folder
+          (c.new-messages.ensures ∙ c.take_messages-taken.ensures.taken) c.replace-marks.ensures.value refl c.tell_exchange-done.ensures.index
+          c.tell_exchange-done.ensures.on.folder
           c.tell_exchange-done.ensures.keeps
           (held_same _ _ _ _ refl (c.from_vec.ensures ∙ c.into_vec-messages.ensures)));
       folders = below_set hs c.self.inside.next_folder c.args.at _
