@@ -137,7 +137,16 @@ works_visited {machine = machine} {how = how} asks result asks_is v meant memory
     record {
       mail = mailing_by v.after.standing v.after.machine.known;
       done = record v.after { left = None };
-      work = λ token base asking is. WithMail v.after v.beginning v.ending (is ∙ asks_is) v.begins v.hangs v.whole refl refl;
+      work = λ token base asking is. WithMail (is ∙ asks_is) record {
+        begun = v.after;
+        beginning = v.beginning;
+        ending = v.ending;
+        prepares = v.begins;
+        hangs_up = v.hangs;
+        whole = v.whole;
+        mail_is = refl;
+        after_is = refl;
+      };
       machine_is = v.machine_is;
       bears = v.bears;
       worked = is_worked result how machine v.after v.machine_is v.standing_is meant memory;
@@ -180,7 +189,25 @@ answers_lacking token base door asks asking e result asks_is w same =
 pub replied : {door : Door} {account : Account} {asking : Asking} {before after : GateState} {was now : Faults} {events : List Event} (response : Response)
     → AnswersTo door account asking before after was now (Ok response) events → RepliesToAsking door account asking before after was now (text_of response) events
 replied {asking = asking} {events = events} response a =
-    record { of = λ read reads. (Answered read events asking a.mail a.done refl reads a.work a.made.1 a.machine_is a.made.2 a.made.0, a.bears) }
+    record {
+      of = λ read reads. (
+        Answered record {
+          asked = read;
+          worked = events;
+          asking = asking;
+          mail = a.mail;
+          done = a.done;
+          whole = refl;
+          reads = reads;
+          work = a.work;
+          stands = a.made.1;
+          machine_is = a.machine_is;
+          keeps = a.made.2;
+          text_is = a.made.0;
+        },
+        a.bears,
+      );
+    }
 
 pub replied_lacking : {door : Door} {account : Account} {asking : Asking} {before mid after : GateState} {was now : Faults} {events : List Event} (e : AllocError) (text : List ℕ)
     → text ≡ no_memory_text door → after ≡ forgotten mid → AnswersTo door account asking before mid was now (Err e) events
@@ -189,8 +216,19 @@ replied_lacking {door} {account} {asking} {before} {mid} {after} {was} {now} {ev
     subst (λ (s : GateState). RepliesToAsking door account asking before s was now text events) (sym after_is)
     record {
       of = λ read reads. (
-        LacksAnswering read events asking a.mail a.done refl reads a.work text_is (ap (λ (m : Machine). (forgotten (record { machine = m; uploads = [] })).machine)
-            a.machine_is) a.may,
+        LacksAnswering record {
+          asked = read;
+          worked = events;
+          asking = asking;
+          mail = a.mail;
+          done = a.done;
+          whole = refl;
+          reads = reads;
+          work = a.work;
+          text_is = text_is;
+          machine_is = ap (λ (m : Machine). (forgotten (record { machine = m; uploads = [] })).machine) a.machine_is;
+          may_keep = a.may;
+        },
         a.bears,
       );
     }
@@ -237,7 +275,7 @@ sent_client : {door : Door} {account : Account} {before after : GateState} {was 
 sent_client {was = was} {mid = mid} {now = now} {xs = xs} ys text sent how replies bears alone cause sends is =
     record {
       of = λ all all_is. (
-        Replied xs ys text sent all_is replies sends is,
+        Replied record { replied = xs; heard = ys; text = text; sent = sent; whole = all_is; replies = replies; sends = sends; how_is = is },
         bears_front (unsent sent) (reply_blamed replies) was mid now bears alone (unsent_rose sent how mid.front now.front alone.front is cause),
       );
     }

@@ -29,7 +29,7 @@ unblamed blames was now bears stood =
 pub no_life : (account : Account) (before : Machine) (asking : Asking) (events : List Event) (mail : Mailing) (after : Progress) → Work account before asking events mail after
     → asks_for_mail asking ≡ false → (events ≡ []) × (after.machine ≡ before)
 no_life account before asking events mail after (NoMail apart none a is) apart_is = (none, ap (λ (p : Progress). p.machine) is)
-no_life account before asking events mail after (WithMail begun beginning ending needs a b c d e) apart_is = absurd (cc (needs, apart_is))
+no_life account before asking events mail after (WithMail needs work) apart_is = absurd (cc (needs, apart_is))
 
 -- ---- a store that obeys
 
@@ -47,5 +47,6 @@ served_from asking mail begun after mail_is is (inr out) = inr (ap (λ (p : Prog
 pub answered_from : Law → (account : Account) (before : Machine) (asking : Asking) (events : List Event) (mail : Mailing) (after : Progress)
     (work : Work account before asking events mail after) → IsWorkObeyed work → after.blamed ≡ no_faults → IsAnsweredFrom asking mail after ⊎ (after.standing ≡ OutOfMemory)
 answered_from law account before asking events mail after (NoMail apart a b c) obeyed none = inl (inl apart)
-answered_from law account before asking events mail after (WithMail begun beginning ending a begins b c mail_is is) obeyed none =
-    served_from asking mail begun after mail_is is (law account.user account.password before beginning begun begins obeyed (ap (λ (p : Progress). p.blamed) (sym is) ∙ none))
+answered_from law account before asking events mail after (WithMail a work) obeyed none =
+    served_from asking mail work.begun after work.mail_is work.after_is
+    (law account.user account.password before work.beginning work.begun work.prepares obeyed (ap (λ (p : Progress). p.blamed) (sym work.after_is) ∙ none))

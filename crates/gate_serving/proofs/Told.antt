@@ -1,21 +1,21 @@
 -- What comes of a client of whom nothing fails.
-use Rattle.std.proofs.Common.{arith, ◌≡◌, ◌≢◌, ◌+◌, ◌++◌, ◌∷◌, ℕ, List, [], Result, Ok, Err, ◌⊎◌, inl, inr, ◌∙◌, ap, subst}
+use Rattle.std.proofs.Common.{arith, ◌≡◌, ◌+◌, ◌++◌, ◌∷◌, ℕ, List, [], Result, Ok, Err, ◌⊎◌, inl, inr, ◌∙◌, ap, subst}
 use Rattle.gate_world.specs.Causes.{Faults, no_faults}
 use Rattle.gate_world.specs.Octets.{Hears}
+use Rattle.gate_world.specs.Sending.{Sends}
 use Rattle.gate_world.specs.declared.event.Event.{Event}
 use Rattle.gate_world.specs.declared.event.Event.TheVariants.{Accepted, ClientDone}
-use Rattle.gate_machine.specs.Progress.{Progress}
+use Rattle.gate_world.specs.declared.outside.Failed.{Failed}
 use Rattle.gate_machine.specs.declared.standing.Standing.TheVariants.{OutOfMemory}
 use Rattle.gate_serving.specs.declared.door.Door.{Door}
 use Rattle.gate_serving.specs.declared.served.Served.{Served}
 use Rattle.gate_serving.specs.declared.served.Served.TheVariants as served
-use Rattle.gate_serving.specs.Answers.{response_of}
-use Rattle.gate_serving.specs.Calls.{Mailing}
-use Rattle.gate_serving.specs.Complete.{IsAnsweredFrom, IsReplyObeyed, IsSegmentObeyed, IsTold, NobodyComes, EndsEarly, TakesResponse, LacksMemory, IsRunObeyed, IsRunTold}
+use Rattle.gate_serving.specs.Complete.{IsAnsweredFrom, IsReplyObeyed, IsSegmentObeyed, IsTold, NobodyComes, EndsEarly, IsAnswered, LacksMemory, IsRunObeyed, IsRunTold}
 use Rattle.gate_serving.specs.GateState.{GateState}
-use Rattle.gate_serving.specs.Requests.{Account, Asking, ReadsAsking}
+use Rattle.gate_serving.specs.Requests.{Account}
 use Rattle.gate_serving.specs.Run.{sum_of_faults, Run, Begun, Then, run_blamed}
-use Rattle.gate_serving.specs.Segment.{Replies, Answered, LacksReading, LacksAnswering, Segment, NoneComes, NotAccepted, Left, Unasked, Replied, blame_front, blamed, reply_blamed}
+use Rattle.gate_serving.specs.Segment.{AnswersAsking, Replies, Answered, LacksReading, LacksAnswering, Segment, NoneComes, NotAccepted, Left, Unasked, Replied}
+use Rattle.gate_serving.specs.Segment.{blame_front, blamed, reply_blamed, unsent, went}
 use Rattle.gate_serving.proofs.Needs.{Law, answered_from}
 
 -- one more is never none
@@ -37,26 +37,43 @@ blameless f is = λ i. record {
 blamed_once : (f : Faults) → blame_front 1 f ≡ no_faults → ⊥
 blamed_once f is = never f.front (ap (λ (g : Faults). g.front) is)
 
-takes : (door : Door) (account : Account) (events asked worked replied heard : List Event) (text : List ℕ) (how : Served) (after : GateState) (asking : Asking) (mail : Mailing)
-    (done : Progress) → events ≡ Accepted ∷ ((replied ++ heard) ++ ClientDone ∷ []) → replied ≡ asked ++ worked → ReadsAsking door account.token (Ok asking) asked
-    → done.standing ≢ OutOfMemory
-    → text ≡ response_of door account mail after.uploads asking → after.machine ≡ done.machine → Hears text heard → how ≡ served.Whole
-    → IsAnsweredFrom asking mail done ⊎ (done.standing ≡ OutOfMemory) → IsTold door account events how after
-takes door account events asked worked replied heard text how after asking mail done is split reads stands text_is after_is hears whole (inl from) =
-    TakesResponse asked worked heard asking mail done (is ∙ (λ i. Accepted ∷ ((split i ++ heard) ++ ClientDone ∷ []))) reads from after_is
-    (subst (λ (t : List ℕ). Hears t heard) text_is hears) whole
-takes door account events asked worked replied heard text how after asking mail done is split reads stands text_is after_is hears whole (inr out) = absurd (stands out)
+takes : (door : Door) (account : Account) (events replied heard : List Event) (text : List ℕ) (how : Served) (before after : GateState)
+    → events ≡ Accepted ∷ ((replied ++ heard) ++ ClientDone ∷ []) → (a : AnswersAsking door account before replied text after) → Hears text heard → how ≡ served.Whole
+    → IsAnsweredFrom a.asking a.mail a.done ⊎ (a.done.standing ≡ OutOfMemory) → IsTold door account events how after
+takes door account events replied heard text how before after is a hears whole (inl from) =
+    IsAnswered record {
+      asked = a.asked;
+      worked = a.worked;
+      heard = heard;
+      asking = a.asking;
+      mail = a.mail;
+      done = a.done;
+      whole = is ∙ (λ i. Accepted ∷ ((a.whole i ++ heard) ++ ClientDone ∷ []));
+      reads = a.reads;
+      answered = from;
+      machine_is = a.machine_is;
+      hears = subst (λ (t : List ℕ). Hears t heard) a.text_is hears;
+    } whole
+takes door account events replied heard text how before after is a hears whole (inr out) = absurd (a.stands out)
 
 told_by : Law → (door : Door) (account : Account) (before : GateState) (events replied heard : List Event) (text : List ℕ) (how : Served) (after : GateState)
     → events ≡ Accepted ∷ ((replied ++ heard) ++ ClientDone ∷ []) → (replies : Replies door account before replied text after) → Hears text heard → how ≡ served.Whole
     → IsReplyObeyed replies → reply_blamed replies ≡ no_faults → IsTold door account events how after
-told_by law door account before events replied heard text how after is (Answered asked worked asking mail done split reads work stands after_is kept text_is) hears whole obeyed none =
-    takes door account events asked worked replied heard text how after asking mail done is split reads stands text_is after_is hears whole
-    (answered_from law account before.machine asking worked mail done work obeyed none)
+told_by law door account before events replied heard text how after is (Answered a) hears whole obeyed none =
+    takes door account events replied heard text how before after is a hears whole
+    (answered_from law account before.machine a.asking a.worked a.mail a.done a.work obeyed none)
 told_by law door account before events replied heard text how after is (LacksReading reads text_is after_is) hears whole obeyed none =
     LacksMemory replied heard is (subst (λ (t : List ℕ). Hears t heard) text_is hears) whole
-told_by law door account before events replied heard text how after is (LacksAnswering asked worked asking mail done split reads work text_is after_is kept) hears whole obeyed none =
-    LacksMemory replied heard is (subst (λ (t : List ℕ). Hears t heard) text_is hears) whole
+told_by law door account before events replied heard text how after is (LacksAnswering a) hears whole obeyed none =
+    LacksMemory replied heard is (subst (λ (t : List ℕ). Hears t heard) a.text_is hears) whole
+
+-- what was sent whole is told; what wasn't is blamed on the front
+told_sent : Law → (door : Door) (account : Account) (before : GateState) (events replied heard : List Event) (text : List ℕ) (sent : Result (Unit {0}) Failed) (how : Served)
+    (after : GateState) → events ≡ Accepted ∷ ((replied ++ heard) ++ ClientDone ∷ []) → (replies : Replies door account before replied text after) → Sends text sent heard
+    → how ≡ went sent → IsReplyObeyed replies → blame_front (unsent sent) (reply_blamed replies) ≡ no_faults → IsTold door account events how after
+told_sent law door account before events replied heard text (Ok u) how after is replies sends how_is obeyed none =
+    told_by law door account before events replied heard text how after is replies sends how_is obeyed (blameless (reply_blamed replies) none)
+told_sent law door account before events replied heard text (Err e) how after is replies sends how_is obeyed none = absurd (blamed_once (reply_blamed replies) none)
 
 pub told : Law → (door : Door) (account : Account) (before : GateState) (events : List Event) (how : Served) (after : GateState)
     (segment : Segment door account before events how after) → IsSegmentObeyed segment → blamed segment ≡ no_faults → IsTold door account events how after
@@ -64,9 +81,8 @@ told law door account before events how after (NoneComes is how_is same) obeyed 
 told law door account before events how after (NotAccepted is how_is same) obeyed none = absurd (blamed_once no_faults none)
 told law door account before events how after (Left asked is reads how_is same) obeyed none = EndsEarly asked is reads how_is
 told law door account before events how after (Unasked asked is reads how_is same) obeyed none = absurd (blamed_once no_faults none)
-told law door account before events how after (Replied replied heard text (Ok u) is replies sends how_is) obeyed none =
-    told_by law door account before events replied heard text how after is replies sends how_is obeyed (blameless (reply_blamed replies) none)
-told law door account before events how after (Replied replied heard text (Err e) is replies sends how_is) obeyed none = absurd (blamed_once (reply_blamed replies) none)
+told law door account before events how after (Replied a) obeyed none =
+    told_sent law door account before events a.replied a.heard a.text a.sent how after a.whole a.replies a.sends a.how_is obeyed none
 
 -- ---- runs
 

@@ -27,7 +27,7 @@ use Rattle.gate_serving.specs.Work.{Work, NoMail, WithMail}
 abbrev pub IsWorkObeyed : {account : Account} {before : Machine} {asking : Asking} {events : List Event} {mail : Mailing} {after : Progress}
     → Work account before asking events mail after → Type 0
 IsWorkObeyed (NoMail a b c d) = Unit {0}
-IsWorkObeyed (WithMail begun beginning ending a begins b c d e) = IsObeyedBeginning begins
+IsWorkObeyed (WithMail a work) = IsObeyedBeginning work.prepares
 
 -- The calls are answered over the mail that is served then; or none of them needs it.
 abbrev pub IsAnsweredFrom : Asking → Mailing → Progress → Type 0
@@ -39,9 +39,9 @@ IsAnsweredFrom asking mail after =
 -- The store obeyed all that the client's request asks of it.
 abbrev pub IsReplyObeyed : {door : Door} {account : Account} {before : GateState} {events : List Event} {text : List ℕ} {after : GateState}
     → Replies door account before events text after → Type 0
-IsReplyObeyed (Answered asked worked asking mail done a b work c d e f) = IsWorkObeyed work
+IsReplyObeyed (Answered a) = IsWorkObeyed a.work
 IsReplyObeyed (LacksReading a b c) = Unit {0}
-IsReplyObeyed (LacksAnswering asked worked asking mail done a b c d e f) = Unit {0}
+IsReplyObeyed (LacksAnswering a) = Unit {0}
 
 abbrev pub IsSegmentObeyed : {door : Door} {account : Account} {before : GateState} {events : List Event} {how : Served} {after : GateState}
     → Segment door account before events how after → Type 0
@@ -49,19 +49,29 @@ IsSegmentObeyed (NoneComes a b c) = Unit {0}
 IsSegmentObeyed (NotAccepted a b c) = Unit {0}
 IsSegmentObeyed (Left asked a b c d) = Unit {0}
 IsSegmentObeyed (Unasked asked a b c d) = Unit {0}
-IsSegmentObeyed (Replied replied heard text sent a replies c d) = IsReplyObeyed replies
+IsSegmentObeyed (Replied a) = IsReplyObeyed a.replies
 
--- What comes of a client of whom nothing fails: it takes the whole response to what it asked, whose calls are answered over
--- the mail that is served from then on; or memory ran out, and it takes the text of that; or it ended its input inside its
--- request; or no client comes.
+-- The client takes the whole response to what it asked, whose calls are answered over the mail that is served from then on.
+pub record TakesResponse (door : Door) (account : Account) (events : List Event) (after : GateState) : Type 0 where
+  pub asked : List Event
+  pub worked : List Event
+  pub heard : List Event
+  pub asking : Asking
+  pub mail : Mailing
+  pub done : Progress
+  pub whole : events ≡ Accepted ∷ (((asked ++ worked) ++ heard) ++ ClientDone ∷ [])
+  pub reads : ReadsAsking door account.token (Ok asking) asked
+  pub answered : IsAnsweredFrom asking mail done
+  pub machine_is : after.machine ≡ done.machine
+  pub hears : Hears (response_of door account mail after.uploads asking) heard
+
+-- What comes of a client of whom nothing fails: it takes the whole response; or memory ran out, and it takes the text of that;
+-- or it ended its input inside its request; or no client comes.
 pub data IsTold (door : Door) (account : Account) (events : List Event) (how : Served) (after : GateState) : Type 0 where
   NobodyComes : events ≡ NoMore ∷ [] → how ≡ served.NoMore → IsTold door account events how after
   EndsEarly : (asked : List Event) → events ≡ Accepted ∷ (asked ++ ClientDone ∷ []) → ReadsAsking door account.token (Err unread.Ended) asked → how ≡ served.Part
       → IsTold door account events how after
-  TakesResponse : (asked worked heard : List Event) (asking : Asking) (mail : Mailing) (done : Progress)
-      → events ≡ Accepted ∷ (((asked ++ worked) ++ heard) ++ ClientDone ∷ []) → ReadsAsking door account.token (Ok asking) asked → IsAnsweredFrom asking mail done
-      → after.machine ≡ done.machine → Hears (response_of door account mail after.uploads asking) heard → how ≡ served.Whole
-      → IsTold door account events how after
+  IsAnswered : TakesResponse door account events after → how ≡ served.Whole → IsTold door account events how after
   LacksMemory : (replied heard : List Event) → events ≡ Accepted ∷ ((replied ++ heard) ++ ClientDone ∷ []) → Hears (no_memory_text door) heard
       → how ≡ served.Whole → IsTold door account events how after
 

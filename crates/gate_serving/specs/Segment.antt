@@ -23,20 +23,54 @@ abbrev pub went : Result (Unit {0}) Failed → Served
 went (Ok _) = served.Whole
 went (Err _) = served.Part
 
--- The text that a client is sent once its request was read, and what the gate holds after it.
+-- The request is read, worked on and answered.
+pub record AnswersAsking (door : Door) (account : Account) (before : GateState) (events : List Event) (text : List ℕ) (after : GateState) : Type 0 where
+  pub asked : List Event
+  pub worked : List Event
+  pub asking : Asking
+  pub mail : Mailing
+  pub done : Progress
+  pub whole : events ≡ asked ++ worked
+  pub reads : ReadsAsking door account.token (Ok asking) asked
+  pub work : Work account before.machine asking worked mail done
+  pub stands : done.standing ≢ OutOfMemory
+  pub machine_is : after.machine ≡ done.machine
+  pub keeps : Keeps asking before.uploads after.uploads
+  pub text_is : text ≡ response_of door account mail after.uploads asking
+
+-- Memory runs out after the request was read: in the link life, while what it told was to be served, or while the response was
+-- made. An upload may be kept then.
+pub record LacksForAsking (door : Door) (account : Account) (before : GateState) (events : List Event) (text : List ℕ) (after : GateState) : Type 0 where
+  pub asked : List Event
+  pub worked : List Event
+  pub asking : Asking
+  pub mail : Mailing
+  pub done : Progress
+  pub whole : events ≡ asked ++ worked
+  pub reads : ReadsAsking door account.token (Ok asking) asked
+  pub work : Work account before.machine asking worked mail done
+  pub text_is : text ≡ no_memory_text door
+  pub machine_is : after.machine ≡ forgotten_machine done.machine
+  pub may_keep : MayKeep asking before.uploads after.uploads
+
+-- The text that a client is sent, and what the gate holds after it: the answer; or that memory ran out, while the request was
+-- read or after that.
 pub data Replies (door : Door) (account : Account) (before : GateState) (events : List Event) (text : List ℕ) (after : GateState) : Type 0 where
-  Answered : (asked worked : List Event) (asking : Asking) (mail : Mailing) (done : Progress) → events ≡ asked ++ worked
-      → ReadsAsking door account.token (Ok asking) asked → Work account before.machine asking worked mail done → done.standing ≢ OutOfMemory
-      → after.machine ≡ done.machine → Keeps asking before.uploads after.uploads → text ≡ response_of door account mail after.uploads asking
-      → Replies door account before events text after
-  -- Out of memory, while the request was read;
+  Answered : AnswersAsking door account before events text after → Replies door account before events text after
   LacksReading : ReadsAsking door account.token (Err unread.Memory) events → text ≡ no_memory_text door → after ≡ forgotten before
       → Replies door account before events text after
-  -- or in the link life, while what it told was to be served, or while the response was made. An upload may be kept then.
-  LacksAnswering : (asked worked : List Event) (asking : Asking) (mail : Mailing) (done : Progress) → events ≡ asked ++ worked
-      → ReadsAsking door account.token (Ok asking) asked → Work account before.machine asking worked mail done → text ≡ no_memory_text door
-      → after.machine ≡ forgotten_machine done.machine → MayKeep asking before.uploads after.uploads
-      → Replies door account before events text after
+  LacksAnswering : LacksForAsking door account before events text after → Replies door account before events text after
+
+-- A client that comes is sent its reply.
+pub record SendsToClient (door : Door) (account : Account) (before : GateState) (events : List Event) (how : Served) (after : GateState) : Type 0 where
+  pub replied : List Event
+  pub heard : List Event
+  pub text : List ℕ
+  pub sent : Result (Unit {0}) Failed
+  pub whole : events ≡ Accepted ∷ ((replied ++ heard) ++ ClientDone ∷ [])
+  pub replies : Replies door account before replied text after
+  pub sends : Sends text sent heard
+  pub how_is : how ≡ went sent
 
 -- One client, or that there is none.
 pub data Segment (door : Door) (account : Account) (before : GateState) (events : List Event) (how : Served) (after : GateState) : Type 0 where
@@ -48,8 +82,7 @@ pub data Segment (door : Door) (account : Account) (before : GateState) (events 
   -- the front failed before the request's end
   Unasked : (asked : List Event) → events ≡ Accepted ∷ (asked ++ ClientDone ∷ []) → ReadsAsking door account.token (Err unread.Failed) asked → how ≡ served.Part
       → after ≡ before → Segment door account before events how after
-  Replied : (replied heard : List Event) (text : List ℕ) (sent : Result (Unit {0}) Failed) → events ≡ Accepted ∷ ((replied ++ heard) ++ ClientDone ∷ [])
-      → Replies door account before replied text after → Sends text sent heard → how ≡ went sent → Segment door account before events how after
+  Replied : SendsToClient door account before events how after → Segment door account before events how after
 
 -- ---- blame
 
@@ -63,9 +96,9 @@ blame_front n f = record f { front = f.front + n }
 -- the faults that a reply is blamed on
 abbrev pub reply_blamed : {door : Door} {account : Account} {before : GateState} {events : List Event} {text : List ℕ} {after : GateState}
     → Replies door account before events text after → Faults
-reply_blamed (Answered asked worked asking mail done a b c d e f g) = done.blamed
+reply_blamed (Answered a) = a.done.blamed
 reply_blamed (LacksReading a b c) = no_faults
-reply_blamed (LacksAnswering asked worked asking mail done a b c d e f) = done.blamed
+reply_blamed (LacksAnswering a) = a.done.blamed
 
 -- The faults that a segment is blamed on, of each part of the outside. None has its fault in a client that leaves.
 abbrev pub blamed : {door : Door} {account : Account} {before : GateState} {events : List Event} {how : Served} {after : GateState}
@@ -74,4 +107,4 @@ blamed (NoneComes a b c) = no_faults
 blamed (NotAccepted a b c) = blame_front 1 no_faults
 blamed (Left asked a b c d) = no_faults
 blamed (Unasked asked a b c d) = blame_front 1 no_faults
-blamed (Replied replied heard text sent a replies c d) = blame_front (unsent sent) (reply_blamed replies)
+blamed (Replied a) = blame_front (unsent a.sent) (reply_blamed a.replies)

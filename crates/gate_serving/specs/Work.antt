@@ -31,11 +31,18 @@ mailing_by standing.Stands known = served_of known
 mailing_by (standing.Fell why) known = Err (error_of why)
 mailing_by standing.OutOfMemory known = Err ServerUnavailable
 
--- A link life stands only after a request that needs the mail, and is over before anything is sent. No mail that is kept is
--- served without one.
+-- The link life of a request that needs the mail. It is over before anything is sent.
+pub record WorksOverMail (account : Account) (before : Machine) (events : List Event) (mail : Mailing) (after : Progress) : Type 0 where
+  pub begun : Progress
+  pub beginning : List Event
+  pub ending : List Event
+  pub prepares : PreparesMail account.user account.password before beginning begun
+  pub hangs_up : HangsUp (is_up begun.left) ending
+  pub whole : events ≡ beginning ++ ending
+  pub mail_is : mail ≡ mailing_by begun.standing begun.machine.known
+  pub after_is : after ≡ record begun { left = None }
+
+-- A link life stands only after a request that needs the mail. No mail that is kept is served without one.
 pub data Work (account : Account) (before : Machine) (asking : Asking) (events : List Event) (mail : Mailing) (after : Progress) : Type 0 where
   NoMail : asks_for_mail asking ≡ false → events ≡ [] → mail ≡ Err ServerUnavailable → after ≡ idle before → Work account before asking events mail after
-  WithMail : (begun : Progress) (beginning ending : List Event) → asks_for_mail asking ≡ true → PreparesMail account.user account.password before beginning begun
-      → HangsUp (is_up begun.left) ending → events ≡ beginning ++ ending → mail ≡ mailing_by begun.standing begun.machine.known
-      → after ≡ record begun { left = None }
-      → Work account before asking events mail after
+  WithMail : asks_for_mail asking ≡ true → WorksOverMail account before events mail after → Work account before asking events mail after

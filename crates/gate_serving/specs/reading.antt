@@ -2,3 +2,4 @@
 pub mod Askings
 pub mod Texts
 pub mod Replying
+pub mod Gates

@@ -108,12 +108,11 @@ not_at task place at shows = subst (λ (t : Task). IsAt t place) shows at
 ran_told : {task : Task} {secrets : Hidden} {status : ℕ} {blames : Faults} (behind events : List Event) → Performed task secrets status blames events → task ≡ Show → (status ≡ 6 → ⊥)
     → events ≡ Accepted ∷ behind → Told status events
 ran_told {task} behind events (Unopened place at opens a b) shows well came = absurd (not_at task place at shows)
-ran_told behind events (ServedMany place listen most opened run_events said before after went run is a b c d) shows well came =
-    absurd (not_served place listen most (sym is ∙ shows))
-ran_told behind events (ServedOnce place opened segment said before after how served is a b c d) shows well came = absurd (other_task place (sym is ∙ shows))
-ran_told {status = status} behind events (ShownOne shown said outcome is events_are so ends a) shows well came =
-    shows_told outcome status behind said shown events so well ends events_are came
-ran_told behind events (Explained page explained said outcome is a b c d) shows well came = absurd (not_explained page (sym is ∙ shows))
+ran_told behind events (ServedMany place listen most is serves) shows well came = absurd (not_served place listen most (sym is ∙ shows))
+ran_told behind events (ServedOnce place is serves) shows well came = absurd (other_task place (sym is ∙ shows))
+ran_told {status = status} behind events (ShownOne is one) shows well came =
+    shows_told one.outcome status behind one.said one.shown events one.shows well one.ends one.whole came
+ran_told behind events (Explained page is one) shows well came = absurd (not_explained page (sym is ∙ shows))
 
 pub completes_show : {words : List (List ℕ)} {secrets : Hidden} {status : ℕ} {blames : Faults} {events : List Event} → Runs words secrets status blames events → (status ≡ 6 → ⊥)
     → CompletesShow words status events

@@ -80,7 +80,19 @@ pub performs_once : {place : Place} {secrets : Hidden} {was mid now : Faults} {h
 performs_once {place} {was = was} {mid = mid} {now = now} {how = how} ys a alone ends =
     record {
       blames = blamed a.step.segment;
-      ran = ServedOnce place a.opened a.segment ys a.before a.after how a.step.segment refl a.opens ends refl (ap (λ (l : List Event). l ++ ys) a.whole);
+      ran = ServedOnce place refl record {
+        opening = a.opened;
+        serving = a.segment;
+        said = ys;
+        before = a.before;
+        after = a.after;
+        how = how;
+        opens = a.opens;
+        segment = a.step.segment;
+        ends = ends;
+        blames_are = refl;
+        whole = ap (λ (l : List Event). l ++ ys) a.whole;
+      };
       bears = bears_later (blamed a.step.segment) was mid now a.step.bears (later_say mid now alone);
     }
 
@@ -119,8 +131,19 @@ pub performs_serve : {place : Place} {secrets : Hidden} {was mid now : Faults} {
 performs_serve {place} {was = was} {mid = mid} {now = now} most ys listen a alone ends =
     record {
       blames = run_blamed a.run.run;
-      ran = ServedMany place listen most a.opened a.served ys a.before a.after a.run.went a.run.run refl a.opens (a.run.ends, ends) refl
-          (ap (λ (l : List Event). l ++ ys) a.whole);
+      ran = ServedMany place listen most refl record {
+        opening = a.opened;
+        serving = a.served;
+        said = ys;
+        before = a.before;
+        after = a.after;
+        went = a.run.went;
+        opens = a.opens;
+        run = a.run.run;
+        ends = (a.run.ends, ends);
+        blames_are = refl;
+        whole = ap (λ (l : List Event). l ++ ys) a.whole;
+      };
       bears = bears_later (run_blamed a.run.run) was mid now a.run.bears (later_say mid now alone);
     }
 
@@ -139,13 +162,18 @@ bears_one (Err front.Failed) status said was now later failed ends = bears_faile
 pub performs_show : {secrets : Hidden} {was now : Faults} {status : ℕ} {events : List Event} → Later was now → (status ≡ 6 → Rose was.front now.front) → RunsShow status events
     → Performs Show secrets was now status events
 performs_show {was = was} {now = now} {status = status} later failed (shown, said, outcome, is, shows, ends) =
-    record { blames = one_blamed outcome; ran = ShownOne shown said outcome refl is shows ends refl; bears = bears_one outcome status said was now later failed ends }
+    record { blames = one_blamed outcome; ran = ShownOne refl record { shown = shown; said = said; outcome = outcome; shows = shows; ends = ends; blames_are = refl; whole = is }; bears = bears_one outcome status said was now later failed ends }
 
 pub performs_explain : {secrets : Hidden} {was now : Faults} {status : ℕ} {events : List Event} (page : Page) → Later was now → (status ≡ 6 → Rose was.front now.front)
     → RunsExplain (page_text page) status events
     → Performs (Explain page) secrets was now status events
 performs_explain {was = was} {now = now} {status = status} page later failed (explained, said, outcome, is, explains, ends) =
-    record { blames = one_blamed outcome; ran = Explained page explained said outcome refl is explains ends refl; bears = bears_one outcome status said was now later failed ends }
+    record {
+      blames = one_blamed outcome;
+      ran = Explained page refl
+          record { explained = explained; said = said; outcome = outcome; explains = explains; ends = ends; blames_are = refl; whole = is };
+      bears = bears_one outcome status said was now later failed ends;
+    }
 
 pub runs_task : {words : List (List ℕ)} {task : Task} {secrets : Hidden} {was now : Faults} {status : ℕ} {events : List Event} → IsTask words task
     → Performs task secrets was now status events

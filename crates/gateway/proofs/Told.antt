@@ -18,12 +18,12 @@ RunsLaw = (door : Door) (account : Account) (events : List Event) → CompletesR
 task_told : ToldLaw → RunsLaw → {task : Task} {secrets : Hidden} {status : ℕ} {blames : Faults} {events : List Event} (ran : Performed task secrets status blames events)
     → blames ≡ no_faults → IsTaskObeyed ran → IsTaskTold ran
 task_told law runs (Unopened place a b c d) none obeyed = tt
-task_told law runs {secrets = secrets} (ServedMany place listen most opened run_events said before after went run is opens ends blames_is events_are) none obeyed =
-    runs Http (account_of place secrets) run_events before after went run (sym blames_is ∙ none) obeyed
-task_told law runs {secrets = secrets} (ServedOnce place opened segment said before after how served is opens ends blames_is events_are) none obeyed =
-    law Bare (account_of place secrets) before segment how after served obeyed (sym blames_is ∙ none)
-task_told law runs (ShownOne shown said outcome a b c d e) none obeyed = tt
-task_told law runs (Explained page explained said outcome a b c d e) none obeyed = tt
+task_told law runs {secrets = secrets} (ServedMany place listen most is serves) none obeyed =
+    runs Http (account_of place secrets) serves.serving serves.before serves.after serves.went serves.run (sym serves.blames_are ∙ none) obeyed
+task_told law runs {secrets = secrets} (ServedOnce place is serves) none obeyed =
+    law Bare (account_of place secrets) serves.before serves.serving serves.how serves.after serves.segment obeyed (sym serves.blames_are ∙ none)
+task_told law runs (ShownOne a b) none obeyed = tt
+task_told law runs (Explained page a b) none obeyed = tt
 
 pub program_told : ToldLaw → RunsLaw → (words : List (List ℕ)) (secrets : Hidden) (status : ℕ) (events : List Event) → CompletesServing words secrets status events
 program_told law runs words secrets status events blames (Refused a b c d) none obeyed = tt

@@ -37,19 +37,18 @@ CompletesShow words status events = IsTask words Show → (after : List Event) �
 abbrev pub IsTaskObeyed : {task : Task} {secrets : Hidden} {status : ℕ} {blames : Faults} {events : List Event}
     → Performed task secrets status blames events → Type 0
 IsTaskObeyed (Unopened place a b c d) = Unit {0}
-IsTaskObeyed (ServedMany place listen most opened run_events said before after went run a b c d e) = IsRunObeyed run
-IsTaskObeyed (ServedOnce place opened segment said before after how served a b c d e) = IsSegmentObeyed served
-IsTaskObeyed (ShownOne shown said outcome a b c d e) = Unit {0}
-IsTaskObeyed (Explained page explained said outcome a b c d e) = Unit {0}
+IsTaskObeyed (ServedMany place listen most a serves) = IsRunObeyed serves.run
+IsTaskObeyed (ServedOnce place a serves) = IsSegmentObeyed serves.segment
+IsTaskObeyed (ShownOne a b) = Unit {0}
+IsTaskObeyed (Explained page a b) = Unit {0}
 
 abbrev pub IsTaskTold : {task : Task} {secrets : Hidden} {status : ℕ} {blames : Faults} {events : List Event}
     → Performed task secrets status blames events → Type 0
 IsTaskTold (Unopened place a b c d) = Unit {0}
-IsTaskTold (ServedMany place listen most opened run_events said before after went run a b c d e) = IsRunTold run
-IsTaskTold {secrets = secrets} (ServedOnce place opened segment said before after how served a b c d e) =
-    IsTold Bare (account_of place secrets) segment how after
-IsTaskTold (ShownOne shown said outcome a b c d e) = Unit {0}
-IsTaskTold (Explained page explained said outcome a b c d e) = Unit {0}
+IsTaskTold (ServedMany place listen most a serves) = IsRunTold serves.run
+IsTaskTold {secrets = secrets} (ServedOnce place a serves) = IsTold Bare (account_of place secrets) serves.serving serves.how serves.after
+IsTaskTold (ShownOne a b) = Unit {0}
+IsTaskTold (Explained page a b) = Unit {0}
 
 abbrev pub AreObeyed : {words : List (List ℕ)} {secrets : Hidden} {status : ℕ} {blames : Faults} {events : List Event}
     → Runs words secrets status blames events → Type 0

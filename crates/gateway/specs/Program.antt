@@ -78,21 +78,63 @@ IsApart (Explain page) = Unit {0}
 IsApart (Serve place listen connections) = ⊥
 IsApart (Once place) = ⊥
 
+-- A gate is opened and clients are served over HTTP.
+pub record ServesClients (place : Place) (most : ℕ) (secrets : Hidden) (status : ℕ) (blames : Faults) (events : List Event) : Type 0 where
+  pub opening : List Event
+  pub serving : List Event
+  pub said : List Event
+  pub before : GateState
+  pub after : GateState
+  pub went : List Served
+  pub opens : Opens (Ok before) opening
+  pub run : Run Http (account_of place secrets) before serving went after
+  pub ends : EndsServing most went status said
+  pub blames_are : blames ≡ run_blamed run
+  pub whole : events ≡ (opening ++ serving) ++ said
+
+-- A gate is opened and one client is served on standard input.
+pub record ServesOne (place : Place) (secrets : Hidden) (status : ℕ) (blames : Faults) (events : List Event) : Type 0 where
+  pub opening : List Event
+  pub serving : List Event
+  pub said : List Event
+  pub before : GateState
+  pub after : GateState
+  pub how : Served
+  pub opens : Opens (Ok before) opening
+  pub segment : Segment Bare (account_of place secrets) before serving how after
+  pub ends : EndsOnce how status said
+  pub blames_are : blames ≡ blamed segment
+  pub whole : events ≡ (opening ++ serving) ++ said
+
+-- One client is shown its message.
+pub record ShowsOne (status : ℕ) (blames : Faults) (events : List Event) : Type 0 where
+  pub shown : List Event
+  pub said : List Event
+  pub outcome : Result (Unit {0}) FrontError
+  pub shows : Shows outcome shown
+  pub ends : EndsOne outcome status said
+  pub blames_are : blames ≡ one_blamed outcome
+  pub whole : events ≡ shown ++ said
+
+-- One client is told a page.
+pub record ExplainsOne (page : Page) (status : ℕ) (blames : Faults) (events : List Event) : Type 0 where
+  pub explained : List Event
+  pub said : List Event
+  pub outcome : Result (Unit {0}) FrontError
+  pub explains : Explains (page_text page) outcome explained
+  pub ends : EndsOne outcome status said
+  pub blames_are : blames ≡ one_blamed outcome
+  pub whole : events ≡ explained ++ said
+
 -- What a task adds, with its status and the faults that are blamed.
 pub data Performed (task : Task) (secrets : Hidden) (status : ℕ) (blames : Faults) (events : List Event) : Type 0 where
   -- opening came to nothing
   Unopened : (place : Place) → IsAt task place → Opens (Err opening.Memory) events → status ≡ 5 → blames ≡ no_faults → Performed task secrets status blames events
-  ServedMany : (place : Place) (listen : List ℕ) (most : ℕ) (opened run_events said : List Event) (before after : GateState) (went : List Served)
-      (run : Run Http (account_of place secrets) before run_events went after) → task ≡ Serve place listen most → Opens (Ok before) opened
-      → EndsServing most went status said → blames ≡ run_blamed run → events ≡ (opened ++ run_events) ++ said
+  ServedMany : (place : Place) (listen : List ℕ) (most : ℕ) → task ≡ Serve place listen most → ServesClients place most secrets status blames events
       → Performed task secrets status blames events
-  ServedOnce : (place : Place) (opened segment said : List Event) (before after : GateState) (how : Served)
-      (served : Segment Bare (account_of place secrets) before segment how after) → task ≡ Once place → Opens (Ok before) opened → EndsOnce how status said
-      → blames ≡ blamed served → events ≡ (opened ++ segment) ++ said → Performed task secrets status blames events
-  ShownOne : (shown said : List Event) (outcome : Result (Unit {0}) FrontError) → task ≡ Show → events ≡ shown ++ said → Shows outcome shown
-      → EndsOne outcome status said → blames ≡ one_blamed outcome → Performed task secrets status blames events
-  Explained : (page : Page) (explained said : List Event) (outcome : Result (Unit {0}) FrontError) → task ≡ Explain page → events ≡ explained ++ said
-      → Explains (page_text page) outcome explained → EndsOne outcome status said → blames ≡ one_blamed outcome → Performed task secrets status blames events
+  ServedOnce : (place : Place) → task ≡ Once place → ServesOne place secrets status blames events → Performed task secrets status blames events
+  ShownOne : task ≡ Show → ShowsOne status blames events → Performed task secrets status blames events
+  Explained : (page : Page) → task ≡ Explain page → ExplainsOne page status blames events → Performed task secrets status blames events
 
 -- The run of the program over its words: they are refused, memory runs out before anything is asked of the outside, or what
 -- their task adds.
