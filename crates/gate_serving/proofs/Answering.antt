@@ -16,35 +16,18 @@ use Rattle.gate_machine.specs.declared.machine.Machine.{Machine}
 use Rattle.gate_machine.specs.declared.standing.Standing.{Standing}
 use Rattle.gate_machine.specs.declared.standing.Standing.TheVariants.{OutOfMemory}
 use Rattle.gate_serving.specs.declared.door.Door.{Door}
-use Rattle.gate_serving.specs.declared.door.Door.TheVariants.{Bare}
 use Rattle.gate_serving.specs.declared.response.Response.{Response}
 use Rattle.gate_serving.specs.declared.served.Served.{Served}
 use Rattle.gate_serving.specs.declared.served.Served.TheVariants as served
-use Rattle.gate_serving.specs.Answers.{Keeps, MayKeep, response_of, no_memory_text}
+use Rattle.gate_serving.specs.Answers.{KeepsUpload, response_of, no_memory_text}
 use Rattle.gate_serving.specs.Calls.{Mailing}
-use Rattle.gate_serving.specs.GateState.{GateState, forgotten}
+use Rattle.gate_serving.specs.GateState.{GateState, unready_state}
 use Rattle.gate_serving.specs.Requests.{Account, Asking, ReadsAsking, asks_for_mail}
-use Rattle.gate_serving.specs.Segment.{
-  Replies,
-  Answered,
-  LacksReading,
-  LacksAnswering,
-  Segment,
-  NoneComes,
-  NotAccepted,
-  Left,
-  Unasked,
-  Replied,
-  reply_blamed,
-  blamed,
-  went,
-  unsent,
-  blame_front,
-}
+use Rattle.gate_serving.specs.Segment.{Replies, Answered, LacksReading, LacksAnswering, Segment, NoneComes, NotAccepted, Left, Unasked, Replied, reply_blamed, blamed, went, unsent, blame_front}
 use Rattle.gate_serving.specs.Run.{StepsTo}
-use Rattle.gate_serving.specs.Work.{Work, NoMail, WithMail, mailing_by}
+use Rattle.gate_serving.specs.Work.{NoMail, WithMail, mailing_by}
 use Rattle.gate_serving.specs.reading.Replying.{IsWorked, WorksTo, IsMade, AnswersTo, RepliesToAsking, IsUnread, RepliesBy, SendsReply, Serves}
-use Rattle.gate_serving.specs.reading.Texts.{text_of}
+use Rattle.gate_serving.specs.reading.Texts.{text_sent}
 
 -- ---- counts
 
@@ -155,16 +138,16 @@ works_visited {machine = machine} {how = how} asks result asks_is v meant memory
 -- ---- the answer
 
 is_made : (door : Door) (account : Account) (given mail : Mailing) (asking : Asking) (before after : GateState) (done : Progress) (result : Result Response AllocError)
-    → given ≡ mail → done.standing ≢ OutOfMemory → Keeps asking before.uploads after.uploads
-    → IfOk result (λ r. text_of r ≡ response_of door account given after.uploads asking) → IsMade door account mail asking before after done result
+    → given ≡ mail → done.standing ≢ OutOfMemory → KeepsUpload asking before.uploads after.uploads
+    → IfOk result (λ r. text_sent r ≡ response_of door account given after.uploads asking) → IsMade door account mail asking before after done result
 is_made door account given mail asking before after done (Ok response) same stands kept is =
     (is ∙ ap (λ (m : Mailing). response_of door account m after.uploads asking) same, stands, kept)
 is_made door account given mail asking before after done (Err e) same stands kept is = tt
 
 pub answers_worked : {user password : List ℕ} {before after : GateState} {was now : Faults} {events : List Event} (token base : List ℕ) (door : Door) (asks : Bool) (asking : Asking)
     (given : Mailing) (result : Result Response AllocError)
-    → asks_for_mail asking ≡ asks → WorksTo user password asks before.machine after.machine was now (Ok given) events → Keeps asking before.uploads after.uploads
-    → IfOk result (λ r. text_of r ≡ response_of door (record { user = user; password = password; token = token; base = base }) given after.uploads asking)
+    → asks_for_mail asking ≡ asks → WorksTo user password asks before.machine after.machine was now (Ok given) events → KeepsUpload asking before.uploads after.uploads
+    → IfOk result (λ r. text_sent r ≡ response_of door (record { user = user; password = password; token = token; base = base }) given after.uploads asking)
     → AnswersTo door (record { user = user; password = password; token = token; base = base }) asking before after was now result events
 answers_worked {user} {password} {before} {after} token base door asks asking given result asks_is w kept is =
     record {
@@ -187,7 +170,7 @@ answers_lacking token base door asks asking e result asks_is w same =
 -- ---- the reply to what is asked
 
 pub replied : {door : Door} {account : Account} {asking : Asking} {before after : GateState} {was now : Faults} {events : List Event} (response : Response)
-    → AnswersTo door account asking before after was now (Ok response) events → RepliesToAsking door account asking before after was now (text_of response) events
+    → AnswersTo door account asking before after was now (Ok response) events → RepliesToAsking door account asking before after was now (text_sent response) events
 replied {asking = asking} {events = events} response a =
     record {
       of = λ read reads. (
@@ -210,7 +193,7 @@ replied {asking = asking} {events = events} response a =
     }
 
 pub replied_lacking : {door : Door} {account : Account} {asking : Asking} {before mid after : GateState} {was now : Faults} {events : List Event} (e : AllocError) (text : List ℕ)
-    → text ≡ no_memory_text door → after ≡ forgotten mid → AnswersTo door account asking before mid was now (Err e) events
+    → text ≡ no_memory_text door → after ≡ unready_state mid → AnswersTo door account asking before mid was now (Err e) events
     → RepliesToAsking door account asking before after was now text events
 replied_lacking {door} {account} {asking} {before} {mid} {after} {was} {now} {events} e text text_is after_is a =
     subst (λ (s : GateState). RepliesToAsking door account asking before s was now text events) (sym after_is)
@@ -226,7 +209,7 @@ replied_lacking {door} {account} {asking} {before} {mid} {after} {was} {now} {ev
           reads = reads;
           work = a.work;
           text_is = text_is;
-          machine_is = ap (λ (m : Machine). (forgotten (record { machine = m; uploads = [] })).machine) a.machine_is;
+          machine_is = ap (λ (m : Machine). (unready_state (record { machine = m; uploads = [] })).machine) a.machine_is;
           may_keep = a.may;
         },
         a.bears,
@@ -237,13 +220,13 @@ replied_lacking {door} {account} {asking} {before} {mid} {after} {was} {now} {ev
 
 pub read_asked : {door : Door} {account : Account} {asking : Asking} {before after : GateState} {mid now : Faults} {ys : List Event} (xs : List Event) (was : Faults)
     (response : Response)
-    → Later was mid → ReadsAsking door account.token (Ok asking) xs → RepliesToAsking door account asking before after mid now (text_of response) ys
+    → Later was mid → ReadsAsking door account.token (Ok asking) xs → RepliesToAsking door account asking before after mid now (text_sent response) ys
     → RepliesBy door account before after was now (Some response) (xs ++ ys)
 read_asked {mid = mid} {now = now} xs was response later reads replies =
     let r = replies.of xs reads in (r.0, bears_earlier (reply_blamed r.0) was mid now later r.1)
 
 pub read_lacking : {door : Door} {account : Account} {events : List Event} (before after : GateState) (was now : Faults) (response : Response) → Later was now
-    → ReadsAsking door account.token (Err unread.Memory) events → text_of response ≡ no_memory_text door → after ≡ forgotten before
+    → ReadsAsking door account.token (Err unread.Memory) events → text_sent response ≡ no_memory_text door → after ≡ unready_state before
     → RepliesBy door account before after was now (Some response) events
 read_lacking before after was now response later reads text_is after_is = (LacksReading reads text_is after_is, bears_none was now later)
 
@@ -309,7 +292,7 @@ pub serves_reply : (door : Door) (account : Account) (before after : GateState) 
     → Later was mid → FrontAlone mid now → (how ≢ served.Whole → (r ≡ None) ⊎ Rose mid.front now.front)
     → RepliesBy door account before after was mid r xs → SendsReply r how ys → Serves door account before after was now how ((xs ++ ys) ++ ClientDone ∷ [])
 serves_reply door account before after was mid now xs ys (Some response) how later alone cause replies sends =
-    sent_client ys (text_of response) sends.0 how replies.0 replies.1 alone (not_none response how mid.front now.front cause) sends.1 sends.2
+    sent_client ys (text_sent response) sends.0 how replies.0 replies.1 alone (not_none response how mid.front now.front cause) sends.1 sends.2
 serves_reply door account before after was mid now xs ys None how later alone cause replies sends =
     record { of = λ all all_is. unread_client door account before after was mid now xs ys all how later alone replies.0 replies.1 sends.0 (unsent_events all xs ys all_is sends.1) }
 

@@ -1,11 +1,10 @@
 -- What is blamed, and what a request without need of the mail adds.
-use Rattle.std.proofs.Common.{arith, ◌≡◌, ◌-◌, ◌^◌, ◌<◌, ℕ, Bool, true, false, List, [], Option, Some, None, Result, Ok, Err, ◌⊎◌, inl, inr, refl, sym, ◌∙◌, ap}
+use Rattle.std.proofs.Common.{arith, ◌≡◌, ◌-◌, ◌^◌, ◌<◌, ℕ, false, List, [], None, ◌⊎◌, inl, inr, sym, ◌∙◌, ap}
 use Rattle.gate_world.specs.Causes.{Faults, RoseBy, no_faults}
 use Rattle.gate_world.specs.declared.event.Event.{Event}
 use Rattle.gate_machine.specs.Progress.{Bears, Progress}
 use Rattle.gate_machine.specs.declared.machine.Machine.{Machine}
 use Rattle.gate_machine.specs.Beginning.{PreparesMail}
-use Rattle.gate_machine.specs.History.{KnownMail}
 use Rattle.gate_machine.specs.Obeying.{IsObeyedBeginning, IsServed}
 use Rattle.gate_machine.specs.declared.standing.Standing.TheVariants.{OutOfMemory}
 use Rattle.gate_serving.specs.Calls.{Mailing}

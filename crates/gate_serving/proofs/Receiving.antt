@@ -1,7 +1,6 @@
 -- What a client gives, piece by piece.
-use Rattle.std.proofs.Common.{◌≡◌, ◌<◌, ◌≤◌, ◌-◌, ◌++◌, ℕ, Bool, true, false, min, List, [], ◌∷◌, length, sym, ap, ◌∙◌, subst, arith, length-append, Ok}
+use Rattle.std.proofs.Common.{◌≡◌, ◌<◌, ◌≤◌, ◌-◌, ◌++◌, ℕ, Bool, true, false, min, List, length, sym, ap, subst, arith, length-append, Ok}
 use Rattle.gate_world.specs.declared.event.Event.{Event}
-use Rattle.gate_world.specs.declared.event.Event.TheVariants.{ClientGave}
 use Rattle.gate_world.specs.Octets.{Asks}
 use Rattle.gate_world.specs.Unread.{ClientFills, ClientTells}
 use Rattle.gate_world.proofs.Joins.{Asks-append, Asks-one}

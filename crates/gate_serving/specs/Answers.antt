@@ -1,5 +1,5 @@
 -- What clients are answered (RFC 8620 sections 2, 3.4, 3.6.1, 6.1 and 6.2), and how the answer is spelled.
-use Rattle.std.specs.Prelude.{◌≡◌, ◌⊎◌, ◌++◌, ℕ, List, [], ◌∷◌, length, Option, Some, None, Result, Ok, Err, codes}
+use Rattle.std.specs.Prelude.{◌≡◌, ◌⊎◌, ◌++◌, ℕ, List, [], ◌∷◌, length, Option, Some, None, Ok, Err, codes}
 use Rattle.serde_json.specs.Data.{unsigned, Data, number, string, object, no_members, member}
 use Rattle.serde_json.specs.Written.{compact_text}
 use Rattle.blob_store.specs.Uploads.{blob_id, upload_with, TakesUpload}
@@ -49,13 +49,13 @@ upload_data media octets = object
     no_members))))
 
 -- the uploads that are kept after what is asked
-abbrev pub Keeps : Asking → List (List ℕ) → List (List ℕ) → Type 0
-Keeps (Upload media octets) before after = TakesUpload MAX_KEPT_OCTETS octets before after
-Keeps _ before after = after ≡ before
+abbrev pub KeepsUpload : Asking → List (List ℕ) → List (List ℕ) → Type 0
+KeepsUpload (Upload media octets) before after = TakesUpload MAX_KEPT_OCTETS octets before after
+KeepsUpload _ before after = after ≡ before
 
 -- the same where memory may have run out before
-abbrev pub MayKeep : Asking → List (List ℕ) → List (List ℕ) → Type 0
-MayKeep asking before after = (after ≡ before) ⊎ Keeps asking before after
+abbrev pub MayKeepUpload : Asking → List (List ℕ) → List (List ℕ) → Type 0
+MayKeepUpload asking before after = (after ≡ before) ⊎ KeepsUpload asking before after
 
 -- a blob that can't be told, as the store can't be asked
 abbrev pub untold_problem : Data
@@ -72,13 +72,13 @@ blob_answer (Err e) found media = problem_answer 404 (compact_text untold_proble
 -- ---- what is answered
 
 -- The answer over this mail and these uploads.
-abbrev pub answer_to : Account → Mailing → List (List ℕ) → Asking → Answer
-answer_to account mail uploads (Calls request) = json_answer 200 (calls_text account.user account.base mail request)
-answer_to account mail uploads (Problem e) = problem_answer (problem_status e) (text_of_problem e)
-answer_to account mail uploads Session = json_answer 200 (compact_text (session_data account.user account.base))
-answer_to account mail uploads (Upload media octets) = json_answer 201 (compact_text (upload_data media octets))
-answer_to account mail uploads (Download blob media) = blob_answer mail (upload_with blob uploads) media
-answer_to account mail uploads (Refused refusal) = empty_answer (status_of refusal)
+abbrev pub answer_over : Account → Mailing → List (List ℕ) → Asking → Answer
+answer_over account mail uploads (Calls request) = json_answer 200 (calls_text account.user account.base mail request)
+answer_over account mail uploads (Problem e) = problem_answer (problem_status e) (text_of_problem e)
+answer_over account mail uploads Session = json_answer 200 (compact_text (session_data account.user account.base))
+answer_over account mail uploads (Upload media octets) = json_answer 201 (compact_text (upload_data media octets))
+answer_over account mail uploads (Download blob media) = blob_answer mail (upload_with blob uploads) media
+answer_over account mail uploads (Refused refusal) = empty_answer (status_of refusal)
 
 -- each line ends so
 abbrev pub line_end : List ℕ
@@ -90,7 +90,7 @@ spelled Bare answer = answer.body ++ line_end
 spelled Http answer = http_response answer.status answer.media answer.body
 
 abbrev pub response_of : Door → Account → Mailing → List (List ℕ) → Asking → List ℕ
-response_of door account mail uploads asking = spelled door (answer_to account mail uploads asking)
+response_of door account mail uploads asking = spelled door (answer_over account mail uploads asking)
 
 -- out of memory (RFC 9110 section 15.6.4)
 abbrev pub no_memory_text : Door → List ℕ

@@ -1,5 +1,5 @@
 -- The answers to a request's calls, one after another (RFC 8620 sections 3.2 to 3.7).
-use Rattle.std.specs.Prelude.{◌++◌, ℕ, Bool, List, [], ◌∷◌, Result, Ok, Err, codes}
+use Rattle.std.specs.Prelude.{◌++◌, Bool, List, [], ◌∷◌, Result, Ok, Err, codes}
 use Rattle.std.specs.List.{list_any}
 use Rattle.serde_json.specs.Data.{Data}
 use Rattle.jmap_core.specs.Echo.{echoed}

@@ -14,9 +14,9 @@ use Rattle.gate_serving.specs.declared.front.Input.{Input}
 use Rattle.gate_serving.specs.declared.front.Input.TheVariants.{Whole, Cut}
 
 -- why the client is given up, where no octets came
-abbrev pub of_fill : FillError → FrontError
-of_fill fill.Failed = front.Failed
-of_fill fill.Memory = front.Memory
+abbrev pub error_of_fill : FillError → FrontError
+error_of_fill fill.Failed = front.Failed
+error_of_fill fill.Memory = front.Memory
 
 abbrev pub input_octets : Input → List ℕ
 input_octets (Whole octets) = octets

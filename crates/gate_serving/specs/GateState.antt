@@ -9,9 +9,9 @@ pub record GateState : Type 0 where
   pub uploads : List (List ℕ)
 
 -- a new gate in this epoch
-abbrev pub opened : ℕ → GateState
-opened epoch = record { machine = opened_machine epoch; uploads = [] }
+abbrev pub new_state : ℕ → GateState
+new_state epoch = record { machine = opened_machine epoch; uploads = [] }
 
 -- its machine isn't ready
-abbrev pub forgotten : GateState → GateState
-forgotten s = record s { machine = forgotten_machine s.machine }
+abbrev pub unready_state : GateState → GateState
+unready_state s = record s { machine = forgotten_machine s.machine }

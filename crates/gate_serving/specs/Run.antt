@@ -10,7 +10,7 @@ use Rattle.gate_serving.specs.declared.served.Served.{Served}
 use Rattle.gate_serving.specs.declared.served.Served.TheVariants as served
 use Rattle.gate_serving.specs.declared.served.OpenError.{OpenError}
 use Rattle.gate_serving.specs.declared.served.OpenError.TheVariants as opening
-use Rattle.gate_serving.specs.GateState.{GateState, opened}
+use Rattle.gate_serving.specs.GateState.{GateState, new_state}
 use Rattle.gate_serving.specs.Requests.{Account}
 use Rattle.gate_serving.specs.Segment.{Segment, blamed}
 
@@ -82,5 +82,5 @@ account_of place secrets = record { user = place.user; password = secrets.passwo
 
 -- What opening a gate adds, and what the gate holds: an epoch is drawn; or there is no memory for it.
 abbrev pub Opens : Result GateState OpenError → List Event → Type 0
-Opens (Ok s) events = (epoch : ℕ) × (events ≡ Word epoch ∷ []) × (s ≡ opened epoch)
+Opens (Ok s) events = (epoch : ℕ) × (events ≡ Word epoch ∷ []) × (s ≡ new_state epoch)
 Opens (Err opening.Memory) events = events ≡ []

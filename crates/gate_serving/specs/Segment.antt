@@ -12,9 +12,9 @@ use Rattle.gate_machine.specs.declared.standing.Standing.TheVariants.{OutOfMemor
 use Rattle.gate_serving.specs.declared.door.Door.{Door}
 use Rattle.gate_serving.specs.declared.served.Served.{Served}
 use Rattle.gate_serving.specs.declared.served.Served.TheVariants as served
-use Rattle.gate_serving.specs.Answers.{Keeps, MayKeep, response_of, no_memory_text}
+use Rattle.gate_serving.specs.Answers.{KeepsUpload, MayKeepUpload, response_of, no_memory_text}
 use Rattle.gate_serving.specs.Calls.{Mailing}
-use Rattle.gate_serving.specs.GateState.{GateState, forgotten}
+use Rattle.gate_serving.specs.GateState.{GateState, unready_state}
 use Rattle.gate_serving.specs.Requests.{Account, Asking, ReadsAsking}
 use Rattle.gate_serving.specs.Work.{Work}
 
@@ -35,7 +35,7 @@ pub record AnswersAsking (door : Door) (account : Account) (before : GateState) 
   pub work : Work account before.machine asking worked mail done
   pub stands : done.standing ≢ OutOfMemory
   pub machine_is : after.machine ≡ done.machine
-  pub keeps : Keeps asking before.uploads after.uploads
+  pub keeps : KeepsUpload asking before.uploads after.uploads
   pub text_is : text ≡ response_of door account mail after.uploads asking
 
 -- Memory runs out after the request was read: in the link life, while what it told was to be served, or while the response was
@@ -51,13 +51,13 @@ pub record LacksForAsking (door : Door) (account : Account) (before : GateState)
   pub work : Work account before.machine asking worked mail done
   pub text_is : text ≡ no_memory_text door
   pub machine_is : after.machine ≡ forgotten_machine done.machine
-  pub may_keep : MayKeep asking before.uploads after.uploads
+  pub may_keep : MayKeepUpload asking before.uploads after.uploads
 
 -- The text that a client is sent, and what the gate holds after it: the answer; or that memory ran out, while the request was
 -- read or after that.
 pub data Replies (door : Door) (account : Account) (before : GateState) (events : List Event) (text : List ℕ) (after : GateState) : Type 0 where
   Answered : AnswersAsking door account before events text after → Replies door account before events text after
-  LacksReading : ReadsAsking door account.token (Err unread.Memory) events → text ≡ no_memory_text door → after ≡ forgotten before
+  LacksReading : ReadsAsking door account.token (Err unread.Memory) events → text ≡ no_memory_text door → after ≡ unready_state before
       → Replies door account before events text after
   LacksAnswering : LacksForAsking door account before events text after → Replies door account before events text after
 

@@ -1,5 +1,5 @@
 -- The work on one request, from its last octet to the first of the response.
-use Rattle.std.specs.Prelude.{◌≡◌, ◌++◌, ℕ, true, false, List, [], Option, Some, None, Result, Ok, Err}
+use Rattle.std.specs.Prelude.{◌≡◌, ◌++◌, true, false, List, [], Option, Some, None, Ok, Err}
 use Rattle.gate_world.specs.declared.event.Event.{Event}
 use Rattle.jmap_core.specs.declared.method_error.MethodError.{MethodError}
 use Rattle.jmap_core.specs.declared.method_error.MethodError.TheVariants.{ServerUnavailable, ServerFail}

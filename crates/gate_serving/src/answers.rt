@@ -8,7 +8,7 @@ ghost use Rattle.jmap_core.specs.Problem.{text_of_problem, status_of as status_o
 ghost use Rattle.jmap_core.specs.Request.{request_data};
 ghost use Rattle.jmap_core.specs.Session.{session_data};
 ghost use Rattle.gate_serving.specs.Answers.{blob_answer, calls_text as text_of_calls, json_answer, problem_answer, spelled, untold_problem, upload_data};
-ghost use Rattle.gate_serving.specs.reading.Texts.{text_of};
+ghost use Rattle.gate_serving.specs.reading.Texts.{text_sent};
 
 use crate::calls::{Mailing, responses_to};
 use crate::door::Door;
@@ -51,7 +51,7 @@ fn json_response(
     status: StatusCode,
     text: String,
 ) -> Result<Response, AllocError>
-    ensures { IfOk result (λ r. text_of r ≡ spelled door (json_answer status (string_bytes text))) }
+    ensures { IfOk result (λ r. text_sent r ≡ spelled door (json_answer status (string_bytes text))) }
 {
     let body = Bytes::from_vec(text.into_bytes())?;
     Response::new(alloc, door, status, &json_media(), body)
@@ -66,7 +66,7 @@ pub fn calls_response(
     mail: &Mailing,
     request: &Request,
 ) -> Result<Response, AllocError>
-    ensures { IfOk result (λ r. text_of r ≡ spelled door (json_answer 200 (text_of_calls user.now base.now mail.now (request_data request.now)))) }
+    ensures { IfOk result (λ r. text_sent r ≡ spelled door (json_answer 200 (text_of_calls user.now base.now mail.now (request_data request.now)))) }
 {
     let text = calls_text(alloc, user, base, mail, request)?;
     json_response(alloc, door, StatusCode::OK, text)
@@ -93,7 +93,7 @@ pub fn problem_response(
     door: Door,
     error: RequestError,
 ) -> Result<Response, AllocError>
-    ensures { IfOk result (λ r. text_of r ≡ spelled door (problem_answer (status_of_problem error) (text_of_problem error))) }
+    ensures { IfOk result (λ r. text_sent r ≡ spelled door (problem_answer (status_of_problem error) (text_of_problem error))) }
 {
     let body = Bytes::copy_of(alloc, problem_text(error))?;
     Response::new(alloc, door, status_of(error), &problem_media(), body)
@@ -113,7 +113,7 @@ pub fn session_response(
     user: &Text,
     base: &Text,
 ) -> Result<Response, AllocError>
-    ensures { IfOk result (λ r. text_of r ≡ spelled door (json_answer 200 (compact_text (session_data user.now base.now)))) }
+    ensures { IfOk result (λ r. text_sent r ≡ spelled door (json_answer 200 (compact_text (session_data user.now base.now)))) }
 {
     let text = session_text(alloc, user, base)?;
     json_response(alloc, door, StatusCode::OK, text)
@@ -141,7 +141,7 @@ fn upload_value(alloc: Global, upload: &Upload) -> Result<Value, AllocError>
 
 /// What is told of an upload that is kept.
 pub fn upload_response(alloc: Global, door: Door, upload: &Upload) -> Result<Response, AllocError>
-    ensures { IfOk result (λ r. text_of r ≡ spelled door (json_answer 201 (compact_text (upload_data upload.now.media upload.now.octets)))) }
+    ensures { IfOk result (λ r. text_sent r ≡ spelled door (json_answer 201 (compact_text (upload_data upload.now.media upload.now.octets)))) }
 {
     let text = upload_value(alloc, upload)?.to_string(alloc)?;
     json_response(alloc, door, StatusCode::CREATED, text)
@@ -157,7 +157,7 @@ fn untold_text() -> &'static [u8]
 
 // A blob that can't be told.
 fn untold_response(alloc: Global, door: Door) -> Result<Response, AllocError>
-    ensures { IfOk result (λ r. text_of r ≡ spelled door (problem_answer 404 (compact_text untold_problem))) }
+    ensures { IfOk result (λ r. text_sent r ≡ spelled door (problem_answer 404 (compact_text untold_problem))) }
 {
     let body = Bytes::copy_of(alloc, untold_text())?;
     Response::new(alloc, door, StatusCode::NOT_FOUND, &problem_media(), body)
@@ -171,7 +171,7 @@ pub fn blob_response(
     found: Option<&[u8]>,
     media: Option<&[u8]>,
 ) -> Result<Response, AllocError>
-    ensures { IfOk result (λ r. text_of r ≡ spelled door (blob_answer mail.now (option_copied found.entry) (option_copied media.entry))) }
+    ensures { IfOk result (λ r. text_sent r ≡ spelled door (blob_answer mail.now (option_copied found.entry) (option_copied media.entry))) }
 {
     match (mail, found) {
         (Err(_), _) => untold_response(alloc, door),

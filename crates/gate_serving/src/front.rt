@@ -51,10 +51,10 @@ impl From<Failed> for FrontError {
 }
 
 impl From<FillError> for FrontError {
-    ghost use Rattle.gate_serving.specs.Front.{of_fill};
+    ghost use Rattle.gate_serving.specs.Front.{error_of_fill};
     ghost use Rattle.std.specs.Prelude.{◌≡◌};
 
-    ghost from_gives = { λ f e. e ≡ of_fill f };
+    ghost from_gives = { λ f e. e ≡ error_of_fill f };
 
     fn from(error: FillError) -> FrontError {
         match error {

@@ -3,15 +3,15 @@ ghost use Rattle.std.specs.Prelude.{◌≡◌, ◌≢◌, ◌⊎◌, IfOk, OnOk,
 ghost use Rattle.std.specs.Option.{option_copied};
 ghost use Rattle.gate_world.specs.Causes.{FrontAlone, Hidden, Later, LinkAlone, NoFault, Rose};
 ghost use Rattle.gate_world.specs.Tape.{Adds};
-ghost use Rattle.gate_serving.specs.GateState.{forgotten};
-ghost use Rattle.gate_serving.specs.Answers.{Keeps, no_memory_text, response_of};
+ghost use Rattle.gate_serving.specs.GateState.{unready_state};
+ghost use Rattle.gate_serving.specs.Answers.{KeepsUpload, no_memory_text, response_of};
 ghost use Rattle.gate_serving.specs.Run.{Opens, StepsTo, account_of};
 ghost use Rattle.gate_serving.specs.declared.door.Door.TheVariants.{Bare};
 ghost use Rattle.gate_serving.specs.reading.Askings.{asking_data};
-ghost use Rattle.gate_serving.specs.reading.Gates.{RestStays, account_by, opened_state, state_of};
+ghost use Rattle.gate_serving.specs.reading.Gates.{RestStays, account_by, opened_gate, state_of};
 ghost use Rattle.gate_serving.specs.Segment.{went};
 ghost use Rattle.gate_serving.specs.reading.Replying.{AnswersTo, RepliesBy, RepliesToAsking, SendsReply, Serves};
-ghost use Rattle.gate_serving.specs.reading.Texts.{text_of};
+ghost use Rattle.gate_serving.specs.reading.Texts.{text_sent};
 
 use crate::answers::{
     blob_response, calls_response, problem_response, session_response, upload_response,
@@ -52,7 +52,7 @@ impl Gate {
         door: Door,
         place: &Place,
     ) -> Result<Gate, OpenError>
-        ensures run { Adds (W.tape world.old) (W.tape world.new) (Opens (opened_state result)) }
+        ensures run { Adds (W.tape world.old) (W.tape world.new) (Opens (opened_gate result)) }
         ensures door { IfOk result (λ gate. gate.door ≡ door) }
         ensures account { IfOk result (λ gate. account_by gate (W.hidden world.old) ≡ account_of place.now (W.hidden world.old)) }
         ensures cause { NoFault (W.faults world.old) (W.faults world.new) }
@@ -127,7 +127,7 @@ impl Gate {
     // The response to what is asked.
     fn answer<W: World>(&mut self, alloc: Global, world: &mut W, asking: &Asking) -> Response
         ensures run { Adds (W.tape world.old) (W.tape world.new)
-            (RepliesToAsking self.old.door (account_by self.old (W.hidden world.old)) (asking_data asking.now) (state_of self.old) (state_of self.new) (W.faults world.old) (W.faults world.new) (text_of result)) }
+            (RepliesToAsking self.old.door (account_by self.old (W.hidden world.old)) (asking_data asking.now) (state_of self.old) (state_of self.new) (W.faults world.old) (W.faults world.new) (text_sent result)) }
         ensures rest { RestStays self.old self.new }
         ensures alone { LinkAlone (W.faults world.old) (W.faults world.new) }
         ensures hidden { W.hidden world.new ≡ W.hidden world.old }
@@ -159,7 +159,7 @@ impl Gate {
 
     // Keeps what is uploaded.
     fn keep(&mut self, asking: &Asking) -> Result<(), AllocError>
-        ensures kept { OnOk result (Keeps (asking_data asking.now) self.old.uploads self.new.uploads) }
+        ensures kept { OnOk result (KeepsUpload (asking_data asking.now) self.old.uploads self.new.uploads) }
         ensures refused { OnErr result (self.new.uploads ≡ self.old.uploads) }
         ensures rest { RestStays self.old self.new }
         ensures machine { self.new.machine ≡ self.old.machine }
@@ -180,7 +180,7 @@ impl Gate {
         mail: &Mailing,
         asking: &Asking,
     ) -> Result<Response, AllocError>
-        ensures { IfOk result (λ r. (secrets : Hidden) → text_of r
+        ensures { IfOk result (λ r. (secrets : Hidden) → text_sent r
             ≡ response_of self.now.door (account_by self.now secrets) mail.now self.now.uploads (asking_data asking.now)) }
     {
         match asking {
@@ -200,8 +200,8 @@ impl Gate {
 
     // Out of memory: the machine isn't ready.
     fn lack(&mut self) -> Response
-        ensures text { text_of result ≡ no_memory_text self.old.door }
-        ensures state { state_of self.new ≡ forgotten (state_of self.old) }
+        ensures text { text_sent result ≡ no_memory_text self.old.door }
+        ensures state { state_of self.new ≡ unready_state (state_of self.old) }
         ensures rest { RestStays self.old self.new }
     {
         self.machine.forget();

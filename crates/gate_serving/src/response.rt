@@ -5,7 +5,7 @@ ghost use Rattle.gate_world.specs.Sending.{Sends};
 ghost use Rattle.gate_world.specs.Tape.{Adds};
 ghost use Rattle.http_service.specs.Refusals.{status_of};
 ghost use Rattle.gate_serving.specs.Answers.{empty_answer, spelled};
-ghost use Rattle.gate_serving.specs.reading.Texts.{text_of};
+ghost use Rattle.gate_serving.specs.reading.Texts.{text_sent};
 
 use crate::door::Door;
 use crate::line::with_line_end;
@@ -34,7 +34,7 @@ impl Response {
         media: &MediaType<'_>,
         body: Bytes,
     ) -> Result<Response, AllocError>
-        ensures { IfOk result (λ r. text_of r ≡ spelled door (record { status = status; media = media.now; body = body })) }
+        ensures { IfOk result (λ r. text_sent r ≡ spelled door (record { status = status; media = media.now; body = body })) }
     {
         match door {
             Door::Bare => Ok(Response::Line(with_line_end(body)?)),
@@ -44,7 +44,7 @@ impl Response {
 
     /// The answer of this status that has no body. It takes no memory.
     pub fn empty(door: Door, refusal: Refusal) -> Response
-        ensures { text_of result ≡ spelled door (empty_answer (status_of refusal)) }
+        ensures { text_sent result ≡ spelled door (empty_answer (status_of refusal)) }
     {
         match door {
             Door::Bare => Response::LineEnd,
@@ -54,7 +54,7 @@ impl Response {
 
     /// Sends it. It takes no memory.
     pub fn send<F: Front>(&self, front: &mut F) -> Result<(), Failed>
-        ensures tape { Adds (F.tape front.old) (F.tape front.new) (Sends (text_of self.now) result) }
+        ensures tape { Adds (F.tape front.old) (F.tape front.new) (Sends (text_sent self.now) result) }
         ensures alone { FrontAlone (F.faults front.old) (F.faults front.new) }
         ensures cause { OnErr result (Rose (F.faults front.old).front (F.faults front.new).front) }
         ensures hidden { F.hidden front.new ≡ F.hidden front.old }

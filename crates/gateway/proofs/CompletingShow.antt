@@ -19,7 +19,7 @@ use Rattle.gate_words.specs.declared.task.Task.{Task}
 use Rattle.gate_words.specs.declared.place.Place.{Place}
 use Rattle.gate_world.specs.Causes.{Faults, Hidden}
 use Rattle.gateway.specs.Program.{Runs, Refused, OutOfMemory, Done, Performed, Unopened, ServedMany, ServedOnce, ShownOne, Explained, EndsOne, IsAt}
-use Rattle.gateway.specs.Complete.{asked_for, IsGiven, TellsObject, CompletesShow}
+use Rattle.gateway.specs.Complete.{asked_for, GivesWhole, TellsObject, CompletesShow}
 use Rattle.gateway.proofs.Quiet.{gives_took, gives_gave, heard_gave_client, before_one}
 
 -- all events of a run that showed one client its message
@@ -39,7 +39,7 @@ parts f es asked life a l is first second = ap (λ (x : List Event). flat_map f 
 
 -- the client's input is all that it gave
 is_given : (input : Input) (reads heard events : List Event) → GivesInput 50000000 (Ok input) reads → events ≡ Accepted ∷ ((reads ++ heard) ++ ClientDone ∷ [])
-    → asked_for events ≡ input_octets input → IsGiven events
+    → asked_for events ≡ input_octets input → GivesWhole events
 is_given (Whole octets) reads heard events (asks, is, so, few) events_are gave =
     let parts_are : ((asks ++ ClientEnded ∷ []) ++ heard) ++ ClientDone ∷ [] ≡ asks ++ ClientEnded ∷ (heard ++ ClientDone ∷ []) =
     append_assoc (asks ++ ClientEnded ∷ []) heard (ClientDone ∷ []) ∙ append_assoc asks (ClientEnded ∷ []) (heard ++ ClientDone ∷ []) in

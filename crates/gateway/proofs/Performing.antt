@@ -21,30 +21,7 @@ use Rattle.gate_serving.specs.Requests.{Account}
 use Rattle.gate_serving.specs.Run.{Opens, StepsTo, IsServingRun, account_of, run_blamed}
 use Rattle.gate_serving.specs.Segment.{blamed}
 use Rattle.gate_serving.proofs.Answering.{bears_none, bears_later, bears_earlier, later_same, bears_failed}
-use Rattle.gateway.specs.Program.{
-  EndsDone,
-  EndsFailed,
-  EndsOnce,
-  EndsOne,
-  IsAt,
-  IsSaid,
-  one_blamed,
-  words_refused,
-  Performed,
-  Unopened,
-  ServedMany,
-  ServedOnce,
-  ShownOne,
-  Explained,
-  Runs,
-  Refused,
-  OutOfMemory,
-  Done,
-  RunsShow,
-  RunsExplain,
-  Performs,
-  IsWholeRun,
-}
+use Rattle.gateway.specs.Program.{EndsDone, EndsFailed, EndsOnce, EndsOne, IsAt, IsSaid, one_blamed, words_refused, Unopened, ServedMany, ServedOnce, ShownOne, Explained, Refused, OutOfMemory, Done, RunsShow, RunsExplain, Performs, IsWholeRun}
 
 later_say : (was now : Faults) → SayAlone was now → Later was now
 later_say was now alone = record { link = omega (arith, alone.link); keep = omega (arith, alone.keep); front = omega (arith, alone.front); say = alone.say }

@@ -10,7 +10,7 @@ use Rattle.gate_serving.specs.Requests.{Account}
 use Rattle.gate_serving.specs.Run.{account_of}
 use Rattle.gate_serving.proofs.Told.{ToldLaw}
 use Rattle.gateway.specs.Complete.{IsTaskObeyed, IsTaskTold, CompletesServing}
-use Rattle.gateway.specs.Program.{Performed, Unopened, ServedMany, ServedOnce, ShownOne, Explained, Runs, Refused, OutOfMemory, Done}
+use Rattle.gateway.specs.Program.{Performed, Unopened, ServedMany, ServedOnce, ShownOne, Explained, Refused, OutOfMemory, Done}
 
 abbrev pub RunsLaw : Type 0
 RunsLaw = (door : Door) (account : Account) (events : List Event) → CompletesRun door account events

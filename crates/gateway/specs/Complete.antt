@@ -19,12 +19,12 @@ abbrev pub asked_for : List Event → List ℕ
 asked_for events = flat_map client_gave_in events
 
 -- The client's input is all octets that it gave: it ended, or gave as many as a message has at most.
-abbrev pub IsGiven : List Event → Type 0
-IsGiven events = ((before : List Event) × (after : List Event) × (events ≡ before ++ ClientEnded ∷ after)) ⊎ (length (asked_for events) ≡ message_limit)
+abbrev pub GivesWhole : List Event → Type 0
+GivesWhole events = ((before : List Event) × (after : List Event) × (events ≡ before ++ ClientEnded ∷ after)) ⊎ (length (asked_for events) ≡ message_limit)
 
 -- it took one line, which shows the Email object of what it gave
 abbrev pub TellsObject : List Event → Type 0
-TellsObject events = IsGiven events × ShowsObject (asked_for events) (flat_map client_took_in events)
+TellsObject events = GivesWhole events × ShowsObject (asked_for events) (flat_map client_took_in events)
 
 -- whoever comes with a message to be shown is told its Email object; or memory ran out, and nothing was sent
 abbrev pub CompletesShow : List (List ℕ) → ℕ → List Event → Type 0

@@ -13,9 +13,9 @@ account_by gate secrets = record { user = gate.user; password = secrets.password
 abbrev pub state_of : Gate → GateState
 state_of gate = record { machine = gate.machine; uploads = gate.uploads }
 
-abbrev pub opened_state : Result Gate OpenError → Result GateState OpenError
-opened_state (Ok gate) = Ok (state_of gate)
-opened_state (Err e) = Err e
+abbrev pub opened_gate : Result Gate OpenError → Result GateState OpenError
+opened_gate (Ok gate) = Ok (state_of gate)
+opened_gate (Err e) = Err e
 
 -- all but the machine and the uploads stays
 pub record RestStays (before after : Gate) : Type 0 where

@@ -14,13 +14,13 @@ use Rattle.gate_serving.specs.declared.door.Door.{Door}
 use Rattle.gate_serving.specs.declared.response.Response.{Response}
 use Rattle.gate_serving.specs.declared.served.Served.{Served}
 use Rattle.gate_serving.specs.declared.served.Served.TheVariants as served
-use Rattle.gate_serving.specs.Answers.{Keeps, MayKeep, response_of}
+use Rattle.gate_serving.specs.Answers.{KeepsUpload, MayKeepUpload, response_of}
 use Rattle.gate_serving.specs.Calls.{Mailing}
 use Rattle.gate_serving.specs.GateState.{GateState}
 use Rattle.gate_serving.specs.Requests.{Account, Asking, ReadsAsking, asks_for_mail}
 use Rattle.gate_serving.specs.Segment.{Replies, Segment, reply_blamed, blamed, went}
 use Rattle.gate_serving.specs.Work.{Work}
-use Rattle.gate_serving.specs.reading.Texts.{text_of}
+use Rattle.gate_serving.specs.reading.Texts.{text_sent}
 
 -- the mail that the work gave; or memory ran out in it or after it
 abbrev pub IsWorked : Result Mailing AllocError → Mailing → Progress → Type 0
@@ -40,8 +40,8 @@ pub record WorksTo (user password : List ℕ) (asks : Bool) (before machine : Ma
 
 -- the response, where there was memory for it
 abbrev pub IsMade : Door → Account → Mailing → Asking → GateState → GateState → Progress → Result Response AllocError → Type 0
-IsMade door account mail asking before after done (Ok response) = (text_of response ≡ response_of door account mail after.uploads asking)
-    × (done.standing ≢ OutOfMemory) × Keeps asking before.uploads after.uploads
+IsMade door account mail asking before after done (Ok response) = (text_sent response ≡ response_of door account mail after.uploads asking)
+    × (done.standing ≢ OutOfMemory) × KeepsUpload asking before.uploads after.uploads
 IsMade door account mail asking before after done (Err _) = Unit {0}
 
 pub record AnswersTo (door : Door) (account : Account) (asking : Asking) (before after : GateState) (was now : Faults) (result : Result Response AllocError)
@@ -51,7 +51,7 @@ pub record AnswersTo (door : Door) (account : Account) (asking : Asking) (before
   pub work : Work account before.machine asking events mail done
   pub machine_is : after.machine ≡ done.machine
   pub bears : Bears done.blamed was now
-  pub may : MayKeep asking before.uploads after.uploads
+  pub may : MayKeepUpload asking before.uploads after.uploads
   pub made : IsMade door account mail asking before after done result
 
 -- the reply to what is asked, after the events by which it was read
@@ -68,12 +68,12 @@ IsUnread door token was now events =
 -- the reply to what was read, where there is one
 abbrev pub RepliesBy : Door → Account → GateState → GateState → Faults → Faults → Option Response → List Event → Type 0
 RepliesBy door account before after was now (Some response) events =
-    (replies : Replies door account before events (text_of response) after) × Bears (reply_blamed replies) was now
+    (replies : Replies door account before events (text_sent response) after) × Bears (reply_blamed replies) was now
 RepliesBy door account before after was now None events = IsUnread door account.token was now events × (after ≡ before)
 
 -- the reply is sent, where there is one
 abbrev pub SendsReply : Option Response → Served → List Event → Type 0
-SendsReply (Some response) how events = (sent : Result (Unit {0}) Failed) × Sends (text_of response) sent events × (how ≡ went sent)
+SendsReply (Some response) how events = (sent : Result (Unit {0}) Failed) × Sends (text_sent response) sent events × (how ≡ went sent)
 SendsReply None how events = (how ≡ served.Part) × (events ≡ [])
 
 -- what a client that was accepted adds after its coming

@@ -4,7 +4,7 @@ use Rattle.gate_serving.specs.declared.response.Response.{Response}
 use Rattle.gate_serving.specs.declared.response.Response.TheVariants.{Line, LineEnd, Http}
 use Rattle.gate_serving.specs.Answers.{line_end}
 
-abbrev pub text_of : Response → List ℕ
-text_of (Line octets) = octets
-text_of LineEnd = line_end
-text_of (Http response) = response
+abbrev pub text_sent : Response → List ℕ
+text_sent (Line octets) = octets
+text_sent LineEnd = line_end
+text_sent (Http response) = response

@@ -1,6 +1,6 @@
 use Rattle.std.proofs.Common.{◌≡◌, ◌≤◌, take}
-use Rattle.std.specs.Prelude.{count_by, ◌&&◌}
-use Rattle.gate_serving.specs.Counts.{is_visible, is_unread}
+use Rattle.std.specs.Prelude.{count_by}
+use Rattle.gate_serving.specs.Counts.{is_visible}
 use Rattle.gate_serving.proofs.served_mail.count_visible.Given as goal
 
 abbrev pub invariant-loop-message : goal.invariant-loop-message

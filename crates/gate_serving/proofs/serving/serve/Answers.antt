@@ -1,5 +1,5 @@
-use Rattle.std.proofs.Common.{arith, rules, refl, sym, subst, ◌∙◌, ◌++◌}
-use Rattle.gate_world.proofs.Joins.{join, none, widen}
+use Rattle.std.proofs.Common.{arith, rules, sym, subst, ◌∙◌, ◌++◌}
+use Rattle.gate_world.proofs.Joins.{join, none}
 use Rattle.gate_serving.specs.Run.{IsClient}
 use Rattle.gate_serving.proofs.Gates.{same_account, rest_both, rest_none}
 use Rattle.gate_serving.proofs.Running.{begun, then_client, then_last, none_left, not_accepted}

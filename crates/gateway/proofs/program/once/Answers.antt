@@ -1,6 +1,5 @@
-use Rattle.std.proofs.Common.{refl, sym, subst, ◌∙◌}
+use Rattle.std.proofs.Common.{refl}
 use Rattle.gate_world.proofs.Joins.{join, widen}
-use Rattle.gateway.specs.Program.{Performs}
 use Rattle.gateway.proofs.Performing.{Attends, attends, performs_once, performs_unopened}
 use Rattle.gateway.proofs.program.once.Goals as goal
 

@@ -2,9 +2,9 @@ use Rattle.std.proofs.Common.{sym, subst}
 use Rattle.gate_world.specs.Tape.{Adds}
 use Rattle.gate_world.proofs.Joins.{widen}
 use Rattle.gate_words.specs.declared.task.Task.{Task}
-use Rattle.gate_words.specs.declared.task.Task.TheVariants.{Serve, Show, Explain}
+use Rattle.gate_words.specs.declared.task.Task.TheVariants.{Show}
 use Rattle.gateway.specs.Program.{Performs}
-use Rattle.gateway.proofs.Performing.{performs_show, performs_explain}
+use Rattle.gateway.proofs.Performing.{performs_show}
 use Rattle.gateway.proofs.program.perform.Goals as goal
 
 pub returns-in-Show-clause-run : goal.returns-in-Show-clause-run

@@ -1,4 +1,4 @@
-use Rattle.std.proofs.Common.{refl, inr, inl}
+use Rattle.std.proofs.Common.{refl}
 use Rattle.gate_world.proofs.Joins.{join, widen}
 use Rattle.gateway.proofs.Performing.{AttendsAll, attends_all, performs_serve, performs_unopened}
 use Rattle.gateway.proofs.program.serve_clients.Goals as goal

@@ -1,4 +1,3 @@
-use Rattle.std.proofs.Common.{refl}
 use Rattle.gate_world.proofs.Joins.{widen}
 use Rattle.gate_serving.proofs.Answering.{replied, replied_lacking}
 use Rattle.gate_serving.proofs.gate.Gate.answer.Goals as goal

@@ -1,4 +1,4 @@
-use Rattle.std.proofs.Common.{◌++◌, ◌∷◌, [], sym, subst, refl, ◌∙◌}
+use Rattle.std.proofs.Common.{◌++◌, ◌∷◌, [], sym, subst}
 use Rattle.gate_world.specs.Causes.{Faults, Rose}
 use Rattle.gate_world.specs.declared.event.Event.TheVariants.{ClientDone}
 use Rattle.gate_world.proofs.Joins.{join, then_one}

@@ -1,4 +1,4 @@
-use Rattle.std.proofs.Common.{◌++◌, sym, subst, refl, inl, inr}
+use Rattle.std.proofs.Common.{◌++◌, subst}
 use Rattle.gate_world.specs.Causes.{Hidden}
 use Rattle.gate_world.proofs.Joins.{join, widen}
 use Rattle.gate_serving.specs.Run.{StepsTo}
