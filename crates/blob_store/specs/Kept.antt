@@ -1,5 +1,5 @@
 -- What a map from ids to octets and a queue of ids stand for.
-use Rattle.std.specs.Prelude.{◌≡◌, ℕ, ◌==◌, List, [], ◌∷◌, ◌++◌, Option, None, Some, option_to_list}
+use Rattle.std.specs.Prelude.{◌≡◌, ℕ, List, [], ◌∷◌, ◌++◌, Option, None, Some, option_to_list}
 use Rattle.blob_store.specs.Uploads.{blob_id, upload_with}
 
 -- the uploads in the order of the ids

@@ -3,7 +3,7 @@ use Rattle.std.proofs.Common.{◌≡◌, ◌≢◌, ◌↔◌, ℕ, ◌≤◌, L
 use Rattle.std.proofs.lemmas.List.Elements.{All-nil, All-cons, All-head, All-tail}
 use Rattle.change_list.specs.Touches.{there_at, between, touches}
 use Rattle.change_list.specs.Changes.{IsChanges, IsCreated, IsUpdated, IsDestroyed}
-use Rattle.change_list.specs.History.{Touch, IsHistory, IsTouched, last_place, map_at, map_now, entries_of}
+use Rattle.change_list.specs.History.{Touch, IsHistory, IsTouched, last_place, map_at, entries_of}
 use Rattle.change_list.specs.Copy.{TellsMaps, TouchedTellsMaps}
 use Rattle.change_list.specs.TouchedIds.{AreTouched}
 use Rattle.change_list.specs.declared.answer.Changes.{Changes}

@@ -5,17 +5,17 @@ use Rattle.serde_json.specs.Data.{Data, null, string}
 use Rattle.serde_json.specs.View.{items_of}
 use Rattle.serde_json.specs.Written.{has_float, items_have_float}
 use Rattle.header_words.proofs.WordLemmas.{one_text}
-use Rattle.mail_header.specs.declared.address.Address.{Address}
-use Rattle.mail_header.specs.declared.date.Moment.{Moment}
+use Rattle.header_addresses.specs.declared.address.Address.{Address}
+use Rattle.header_dates.specs.declared.date.Moment.{Moment}
 use Rattle.mail_header.specs.Bracketed.{IsNamesForm}
 use Rattle.mail_header.specs.Fields.{NameAndRaw, last_named}
 use Rattle.mail_header.proofs.BracketLemmas.{one_names}
-use Rattle.mail_header.proofs.FormLemmas.{one_addresses}
+use Rattle.header_addresses.proofs.FormLemmas.{one_addresses}
 use Rattle.email_get.specs.Texts.{text_data, optional_text}
 use Rattle.email_get.specs.HeaderProperties.{HeaderData, IsHeaderData, IsProperty, IsAddressesData, IsMessageIdsData, IsTextData, IsDateData, IsMomentData, address_data}
 use Rattle.email_get.specs.HeaderProperties.{addresses_data, message_ids_data}
 use Rattle.email_get.specs.MomentText.{IsMomentText}
-use Rattle.mail_header.proofs.DateLemmas.{one_date}
+use Rattle.header_dates.proofs.DateLemmas.{one_date}
 use Rattle.email_get.proofs.MomentLemmas.{one_moment_text}
 
 -- ---- no number has a fraction: there is none

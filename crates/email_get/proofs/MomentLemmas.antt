@@ -10,12 +10,12 @@ use Rattle.jiff_core.proofs.CalendarLemmas.{day_count-lt_year, day_count-later_y
 use Rattle.jiff_core.proofs.DateLemmas.{civil, epoch_day_range, epoch_day_injective}
 use Rattle.jiff_core.proofs.MarchLemmas.{day_count-early}
 use Rattle.jiff_core.proofs.SignedLemmas.{signed_arith}
-use Rattle.mail_header.specs.declared.date.Clock.{Clock}
-use Rattle.mail_header.specs.declared.date.Day.{Day}
-use Rattle.mail_header.specs.declared.date.Moment.{Moment}
+use Rattle.header_dates.specs.declared.date.Clock.{Clock}
+use Rattle.header_dates.specs.declared.date.Day.{Day}
+use Rattle.header_dates.specs.declared.date.Moment.{Moment}
 use Rattle.text_words.specs.Octets.{is_between, is_same_text}
-use Rattle.mail_header.specs.Tokens.{Spelled}
-use Rattle.mail_header.specs.Dates as dates
+use Rattle.header_tokens.specs.Tokens.{Spelled}
+use Rattle.header_dates.specs.Dates as dates
 use Rattle.email_get.specs.MomentText.{IsMomentText, IsShown, local_text}
 
 year_zero : day_count (pos 0) 1 1 ≡ 3652425

@@ -8,11 +8,11 @@ use Rattle.text_words.specs.Octets.{is_same_text}
 use Rattle.header_words.specs.Charsets.{charset_of, text_in, has_problem_in}
 use Rattle.header_words.specs.Transfer.{IsBody}
 use Rattle.header_words.proofs.PrintableLemmas.{one_body}
-use Rattle.mail_header.specs.declared.token.Alphabet.TheVariants as alphabet
+use Rattle.header_tokens.specs.declared.token.Alphabet.TheVariants as alphabet
 use Rattle.mail_header.specs.Fields.{NameAndRaw}
-use Rattle.mail_header.specs.Tokens.{Spelled}
+use Rattle.header_tokens.specs.Tokens.{Spelled}
 use Rattle.mail_header.proofs.FieldLemmas.{one_header}
-use Rattle.mail_header.proofs.LeadingLemmas.{one_leading_lexemes}
+use Rattle.header_tokens.proofs.LeadingLemmas.{one_leading_lexemes}
 use Rattle.mime_tree.specs.declared.lists.BodyLists.{BodyLists}
 use Rattle.mime_tree.specs.declared.part.Part.{Part, out-Part}
 use Rattle.mime_tree.specs.Bodies.{encoding_by, HasOctets}

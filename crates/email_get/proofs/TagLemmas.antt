@@ -3,7 +3,7 @@ use Rattle.std.proofs.Common.{◌≡◌, ◌∙◌, Bool, true, false, cond, Lis
 use Rattle.std.specs.List.{filter}
 use Rattle.serde_json.specs.Data.{Data}
 use Rattle.mime_fields.specs.Parameters.{is_token}
-use Rattle.mail_header.specs.Tokens.{Spelled}
+use Rattle.header_tokens.specs.Tokens.{Spelled}
 use Rattle.email_get.specs.PartObjects.{tags}
 use Rattle.email_get.specs.Texts.{text_data}
 

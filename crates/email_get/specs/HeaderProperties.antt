@@ -2,12 +2,12 @@
 use Rattle.std.specs.Prelude.{◌≡◌, ℕ, List, Option, Some, None, MatchOption, codes, map}
 use Rattle.serde_json.specs.Data.{Data, null, string, array, object, no_members, member}
 use Rattle.serde_json.specs.View.{view, items_of}
-use Rattle.mail_header.specs.declared.address.Address.{Address}
-use Rattle.mail_header.specs.declared.date.Moment.{Moment}
+use Rattle.header_addresses.specs.declared.address.Address.{Address}
+use Rattle.header_dates.specs.declared.date.Moment.{Moment}
 use Rattle.mail_header.specs.Bracketed.{IsNamesForm}
-use Rattle.mail_header.specs.Dates.{IsDateForm}
+use Rattle.header_dates.specs.Dates.{IsDateForm}
 use Rattle.mail_header.specs.Fields.{NameAndRaw, last_named}
-use Rattle.mail_header.specs.Names.{IsAddressesForm}
+use Rattle.header_addresses.specs.Names.{IsAddressesForm}
 use Rattle.mail_header.specs.RawForms.{IsTextForm}
 use Rattle.email_get.specs.declared.header_properties.HeaderValues.{HeaderValues}
 use Rattle.email_get.specs.MomentText.{IsMomentText}

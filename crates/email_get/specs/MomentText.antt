@@ -1,9 +1,9 @@
 -- The text of a moment in its zone (RFC 3339 section 5.6; RFC 8620 section 1.4).
 use Rattle.std.specs.Prelude.{◌≡◌, ◌≤◌, ℕ, zero, suc, ◌+◌, ◌/◌, ◌%◌, ℤ, pos, negsuc, ◌+ℤ◌, ◌*ℤ◌, ◌≤ℤ◌, ◌<ℤ◌, List, [], ◌∷◌, ◌++◌, Some}
-use Rattle.mail_header.specs.declared.date.Clock.{Clock}
-use Rattle.mail_header.specs.declared.date.Day.{Day}
-use Rattle.mail_header.specs.declared.date.Moment.{Moment}
-use Rattle.mail_header.specs.Dates.{moment_of}
+use Rattle.header_dates.specs.declared.date.Clock.{Clock}
+use Rattle.header_dates.specs.declared.date.Day.{Day}
+use Rattle.header_dates.specs.declared.date.Moment.{Moment}
+use Rattle.header_dates.specs.Dates.{moment_of}
 
 abbrev pub two_digits : ℕ → List ℕ
 two_digits n = (48 + n / 10) ∷ (48 + n % 10) ∷ []

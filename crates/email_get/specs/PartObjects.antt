@@ -2,9 +2,9 @@
 use Rattle.std.specs.Prelude.{◌≡◌, ℕ, Bool, List, ◌∷◌, ◌++◌, length, map, codes, decimal, Option, Some, None}
 use Rattle.std.specs.List.{filter}
 use Rattle.serde_json.specs.Data.{unsigned, Data, null, number, string, object, no_members, member}
-use Rattle.mail_header.specs.declared.token.Alphabet.TheVariants as alphabet
-use Rattle.mail_header.specs.Lexemes.{AreLeadingLexemes}
-use Rattle.mail_header.specs.Tokens.{Spelled}
+use Rattle.header_tokens.specs.declared.token.Alphabet.TheVariants as alphabet
+use Rattle.header_tokens.specs.Lexemes.{AreLeadingLexemes}
+use Rattle.header_tokens.specs.Tokens.{Spelled}
 use Rattle.mime_fields.specs.Parameters.{is_token}
 use Rattle.mime_tree.specs.declared.part.Part.{Part, out-Part}
 use Rattle.mime_tree.specs.Bodies.{HasOctets}

@@ -8,7 +8,9 @@ ghost use Rattle.email_get.specs.HeaderProperties as header;
 use crate::moment_text::moment_text;
 use crate::texts::{optional_text_value, text_value};
 use gate_world::Bytes;
-use mail_header::{Address, Fields, as_addresses, as_date, as_message_ids, as_text};
+use header_addresses::{Address, as_addresses};
+use header_dates::as_date;
+use mail_header::{Fields, as_message_ids, as_text};
 use serde_json::{Value, json};
 use std::alloc::{AllocError, Global};
 

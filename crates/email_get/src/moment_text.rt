@@ -1,12 +1,11 @@
 // The text of a moment in its zone.
 ghost use Rattle.std.specs.Prelude.{◌≡◌, ◌<◌, ◌≤◌, ◌+◌, ◌/◌, ◌*◌, ◌++◌, ◌∷◌, true, pos, negsuc, ◌+ℤ◌, ◌*ℤ◌, ◌≤ℤ◌, IfOk, OnOk, string_bytes};
 ghost use Rattle.jiff_core.specs.Date.{epoch_day};
-ghost use Rattle.mail_header.specs.Dates as dates;
+ghost use Rattle.header_dates.specs.Dates as dates;
 ghost use Rattle.email_get.specs.MomentText as texts;
 
+use header_dates::{Clock, Day, Moment};
 use jiff_core::civil::Date;
-use mail_header::Moment;
-use mail_header::date::{Clock, Day};
 use std::alloc::{AllocError, Global};
 
 /// The seconds from the first of January of the year 0 to 1970-01-01.

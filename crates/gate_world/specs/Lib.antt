@@ -3,7 +3,6 @@ pub mod Heard
 pub mod Octets
 pub mod Pieces
 pub mod Read
-pub mod Script
 pub mod Sending
 pub mod Tape
 pub mod Unread

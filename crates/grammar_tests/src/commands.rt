@@ -1,6 +1,6 @@
 // The texts of commands.
 use gate_world::{Bytes, Names};
-use imap_grammar::{Command, write_command};
+use imap_commands::{Command, write_command};
 use std::alloc::{AllocError, Global};
 use std::test::Fail;
 

@@ -1,6 +1,7 @@
 // One client that gives octets, and what is read of it.
-use gate_world::{Event, Front, Script, ScriptWorld};
+use gate_world::{Event, Front};
 use http_service::{Spare, read_body, read_head};
+use scripted_world::{Script, ScriptWorld};
 use std::alloc::{AllocError, Global};
 use std::test::Fail;
 

@@ -1,6 +1,7 @@
 // Requests and their bodies, cut at every octet.
-use gate_world::{Bytes, Front, Script, ScriptWorld};
+use gate_world::{Bytes, Front};
 use http_service::{HttpError, Spare, read_body, read_head};
+use scripted_world::{Script, ScriptWorld};
 use std::alloc::{AllocError, Global};
 use std::process::Abort;
 use std::test::Fail;

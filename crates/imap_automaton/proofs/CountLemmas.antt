@@ -9,7 +9,7 @@ use Rattle.imap_automaton.specs.declared.sym.Pending.{Pending}
 use Rattle.imap_automaton.specs.declared.sym.Pending.TheVariants as pending
 use Rattle.imap_automaton.specs.Counts.{capped, pend_on, pend, pends}
 use Rattle.imap_automaton.specs.Langs.{NoCount, IsFreeFrom}
-use Rattle.imap_automaton.proofs.Tests.{digit_no_brace}
+use Rattle.imap_keywords.proofs.Classes.{digit_no_brace}
 use Rattle.imap_syntax.specs.Octets.{is_digit}
 use Rattle.imap_syntax.specs.Texts.{Each}
 use Rattle.imap_syntax.specs.Numbers.{value_from}

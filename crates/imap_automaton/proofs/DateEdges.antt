@@ -4,20 +4,21 @@ use Rattle.std.proofs.Common.{inl, inr}
 use Rattle.std.specs.Prelude.{◌==◌, nat_lt, nat_le, codes}
 use Rattle.std.proofs.lemmas.Bool.{eqb-true, ltb-true, and_parts, and_from, lt-ltb, eq-eqb, cond-false}
 use Rattle.std.proofs.lemmas.List.{length-drop, length-map, nil_from_length}
-use Rattle.imap_automaton.specs.declared.sym.Key.{Key}
-use Rattle.imap_automaton.specs.declared.sym.Key.TheVariants as key
-use Rattle.imap_automaton.specs.declared.sym.Place.TheVariants as place
+use Rattle.imap_keywords.specs.declared.key.Key.{Key}
+use Rattle.imap_keywords.specs.declared.key.Key.TheVariants as key
+use Rattle.imap_keywords.specs.declared.key.Place.TheVariants as place
 use Rattle.imap_automaton.specs.declared.sym.Date.{Date}
 use Rattle.imap_automaton.specs.declared.sym.Date.TheVariants as date
 use Rattle.imap_automaton.specs.declared.sym.Sym.TheVariants as sym
 use Rattle.pushdown.specs.declared.moves.Move.TheVariants as move
-use Rattle.imap_automaton.specs.Keys.{key_text, keys, in_word}
+use Rattle.imap_keywords.specs.Keys.{key_text, keys, in_word}
 use Rattle.imap_automaton.specs.DateRules.{month_start, day_octet, time_octet, day_rule, time_rule, date_rule}
 use Rattle.imap_automaton.specs.Fits.{DateFits}
-use Rattle.imap_automaton.specs.Langs.{Places, TimeRest, Among, WordSays, WordRest, DayRest, DateLang, AfterMove}
+use Rattle.imap_automaton.specs.Langs.{Places, TimeRest, WordSays, WordRest, DayRest, DateLang, AfterMove}
+use Rattle.imap_keywords.specs.Keys.{Among}
 use Rattle.pushdown.proofs.Lists.{cons_head, cons_tail, no_append}
 use Rattle.imap_automaton.proofs.Tests.{from_test, to_test, at_true}
-use Rattle.imap_automaton.proofs.KeyLemmas.{is_key_octet, key_octets, key_octet_month, key_some}
+use Rattle.imap_keywords.proofs.KeyLemmas.{is_key_octet, key_octets, key_octet_month, key_some}
 use Rattle.imap_automaton.proofs.DateForms.{starts_day, is_sign, two, four, time_of, zone_of, octets_of, of_octets}
 use Rattle.imap_syntax.specs.Octets.{is_digit, lower}
 use Rattle.imap_syntax.specs.Texts.{Each}

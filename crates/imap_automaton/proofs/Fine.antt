@@ -2,12 +2,12 @@
 use Rattle.std.proofs.Common.{◌≡◌, ℕ, zero, suc, ◌+◌, ◌-◌, ◌*◌, ◌≤◌, Bool, true, false, not, ◌&&◌, ◌||◌, List, [], ◌∷◌, length, cond, Option, Some, None, refl, arith}
 use Rattle.std.specs.Prelude.{◌==◌, nat_lt, nat_le, get_or, take}
 use Rattle.std.proofs.lemmas.Bool.{and_parts, and_from, le-leb, ltb-true, lt-ltb, eqb-false}
-use Rattle.imap_automaton.specs.declared.sym.Key.{Key}
-use Rattle.imap_automaton.specs.declared.sym.Key.TheVariants as key
-use Rattle.imap_automaton.specs.declared.sym.Place.{Place}
-use Rattle.imap_automaton.specs.declared.sym.Place.TheVariants as place
-use Rattle.imap_automaton.specs.declared.sym.Phrase.{Phrase}
-use Rattle.imap_automaton.specs.declared.sym.Phrase.TheVariants as phrase
+use Rattle.imap_keywords.specs.declared.key.Key.{Key}
+use Rattle.imap_keywords.specs.declared.key.Key.TheVariants as key
+use Rattle.imap_keywords.specs.declared.key.Place.{Place}
+use Rattle.imap_keywords.specs.declared.key.Place.TheVariants as place
+use Rattle.imap_keywords.specs.declared.phrase.Phrase.{Phrase}
+use Rattle.imap_keywords.specs.declared.phrase.Phrase.TheVariants as phrase
 use Rattle.imap_automaton.specs.declared.sym.Pending.{Pending}
 use Rattle.imap_automaton.specs.declared.sym.Pending.TheVariants as pending
 use Rattle.imap_automaton.specs.declared.sym.Line.{Line}
@@ -32,7 +32,7 @@ use Rattle.imap_automaton.specs.declared.sym.Sym.TheVariants as sym
 use Rattle.pushdown.specs.declared.moves.Move.{Move}
 use Rattle.pushdown.specs.declared.moves.Move.TheVariants as move
 use Rattle.imap_automaton.specs.Counts.{pend}
-use Rattle.imap_automaton.specs.Keys.{key_text, phrase_text, keys, first_key, in_word, goes_on, next_key, whole_key, is_among}
+use Rattle.imap_keywords.specs.Keys.{key_text, phrase_text, keys, first_key, in_word, goes_on, next_key, whole_key, is_among}
 use Rattle.imap_automaton.specs.FreeRules.{free_end, text_rule}
 use Rattle.imap_automaton.specs.WordRules.{rest_rule, spaced_rule, end_rule, behind_key, stray, word_goes, word_ends, word_rule}
 use Rattle.imap_automaton.specs.ItemRules.{number_rule, long_rule}
@@ -46,7 +46,7 @@ use Rattle.imap_automaton.specs.Rules.{rule_of}
 use Rattle.imap_automaton.specs.Fits.{PendFits, SymFits}
 use Rattle.imap_automaton.specs.Flow.{ends_open, begins, may_yield, need, sym_left, is_octets}
 use Rattle.imap_automaton.proofs.ItemNameEdges.{takes_small}
-use Rattle.imap_automaton.proofs.KeyLemmas.{find_some, among_keys, goes_to, among_is}
+use Rattle.imap_keywords.proofs.KeyLemmas.{find_some, among_keys, goes_to, among_is}
 use Rattle.imap_syntax.specs.Octets.{is_digit, is_text, is_word, is_atom, lower}
 use Rattle.imap_syntax.specs.Texts.{Each}
 

@@ -14,7 +14,8 @@ use Rattle.imap_automaton.specs.FreeRules.{free_end, text_rule, free_rule}
 use Rattle.imap_automaton.specs.Fits.{FreeFits}
 use Rattle.imap_automaton.specs.Langs.{NoCount, IsFreeFrom, OctetsRest, FreeLang, AfterMove}
 use Rattle.pushdown.proofs.Lists.{cons_head, cons_tail, no_append}
-use Rattle.imap_automaton.proofs.Tests.{from_test, to_test, at_true, at_false, is_true_at, text_not_cr, crlf_of, crlf_parts, mid}
+use Rattle.imap_automaton.proofs.Tests.{from_test, to_test, at_true, at_false, is_true_at, crlf_of, crlf_parts, mid}
+use Rattle.imap_keywords.proofs.Classes.{text_not_cr}
 use Rattle.imap_syntax.specs.Octets.{is_text, is_inside}
 use Rattle.imap_syntax.specs.Texts.{Each, crlf}
 

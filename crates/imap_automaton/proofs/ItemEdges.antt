@@ -4,23 +4,24 @@ use Rattle.std.proofs.Common.{inr, zero, suc}
 use Rattle.std.specs.Prelude.{◌==◌, nat_lt, nat_le, codes}
 use Rattle.std.proofs.lemmas.Bool.{eqb-true, ltb-true, leb-true, and_parts, and_from, lt-ltb, le-leb, eq-eqb, ne_eqb, cond-true, cond-false}
 use Rattle.std.proofs.lemmas.List.{length-map}
-use Rattle.imap_automaton.specs.declared.sym.Key.{Key}
-use Rattle.imap_automaton.specs.declared.sym.Key.TheVariants as key
-use Rattle.imap_automaton.specs.declared.sym.Place.TheVariants as place
-use Rattle.imap_automaton.specs.declared.sym.Phrase.TheVariants as phrase
+use Rattle.imap_keywords.specs.declared.key.Key.{Key}
+use Rattle.imap_keywords.specs.declared.key.Key.TheVariants as key
+use Rattle.imap_keywords.specs.declared.key.Place.TheVariants as place
+use Rattle.imap_keywords.specs.declared.phrase.Phrase.TheVariants as phrase
 use Rattle.imap_automaton.specs.declared.sym.Line.TheVariants as line
 use Rattle.imap_automaton.specs.declared.sym.Item.{Item}
 use Rattle.imap_automaton.specs.declared.sym.Item.TheVariants as item
 use Rattle.imap_automaton.specs.declared.sym.Sym.{Sym}
 use Rattle.imap_automaton.specs.declared.sym.Sym.TheVariants as sym
 use Rattle.pushdown.specs.declared.moves.Move.TheVariants as move
-use Rattle.imap_automaton.specs.Keys.{key_text, keys}
+use Rattle.imap_keywords.specs.Keys.{key_text, keys}
 use Rattle.imap_automaton.specs.ItemRules.{item_start, number_rule, long_rule, item_rule}
 use Rattle.imap_automaton.specs.Fits.{ItemFits}
 use Rattle.imap_automaton.specs.Flow.{stops}
-use Rattle.imap_automaton.proofs.KeyLemmas.{key_some}
+use Rattle.imap_keywords.proofs.KeyLemmas.{key_some}
 use Rattle.imap_automaton.proofs.OtherItems.{named_atoms, other_from, other_to}
-use Rattle.imap_automaton.specs.Langs.{NumberRest, LongRest, ItemLang, Among, IsBehind, WordSays, WordRest, Lang, AfterMove}
+use Rattle.imap_automaton.specs.Langs.{NumberRest, LongRest, ItemLang, IsBehind, WordSays, WordRest, Lang, AfterMove}
+use Rattle.imap_keywords.specs.Keys.{Among}
 use Rattle.pushdown.proofs.Lists.{cons_head, cons_tail}
 use Rattle.imap_automaton.proofs.Tests.{from_test, at_true, at_false, is_true_at}
 use Rattle.imap_automaton.proofs.Rests.{value_mono, number_from, number_to, long_from, long_to}

@@ -1,11 +1,11 @@
 -- Keys begin as names of items do.
 use Rattle.std.proofs.Common.{◌≡◌, ℕ, Bool, true, ◌&&◌, List, [], ◌∷◌, ◌++◌, refl, ap, ◌∙◌, arith}
 use Rattle.std.proofs.lemmas.Bool.{and_parts}
-use Rattle.imap_automaton.specs.declared.sym.Key.{Key}
-use Rattle.imap_automaton.specs.declared.sym.Key.TheVariants as key
+use Rattle.imap_keywords.specs.declared.key.Key.{Key}
+use Rattle.imap_keywords.specs.declared.key.Key.TheVariants as key
 use Rattle.imap_automaton.specs.declared.sym.ItemName.{ItemName}
 use Rattle.imap_automaton.specs.declared.sym.ItemName.TheVariants as name
-use Rattle.imap_automaton.specs.Keys.{key_text}
+use Rattle.imap_keywords.specs.Keys.{key_text}
 use Rattle.imap_automaton.specs.ItemNameRules.{takes, next_name, name_from}
 use Rattle.imap_syntax.specs.Octets.{lower}
 

@@ -2,7 +2,6 @@ pub mod Rests
 pub mod Tests
 pub mod FreeEdges
 pub mod NamesEdges
-pub mod KeyLemmas
 pub mod ItemNameEdges
 pub mod KeyNames
 pub mod OtherItems

@@ -4,11 +4,11 @@ use Rattle.std.proofs.Common.{◌∙◌, arith, inl, inr}
 use Rattle.std.specs.Prelude.{◌==◌, nat_lt, nat_le}
 use Rattle.std.proofs.lemmas.Bool.{eqb-true, eqb-false, ltb-true, leb-true, and_parts, and_from, lt-ltb, le-leb, eq-eqb}
 use Rattle.std.proofs.lemmas.List.{drop_all}
-use Rattle.imap_automaton.specs.declared.sym.Key.{Key}
-use Rattle.imap_automaton.specs.declared.sym.Key.TheVariants as key
-use Rattle.imap_automaton.specs.declared.sym.Place.TheVariants as place
-use Rattle.imap_automaton.specs.declared.sym.Phrase.{Phrase}
-use Rattle.imap_automaton.specs.declared.sym.Phrase.TheVariants as phrase
+use Rattle.imap_keywords.specs.declared.key.Key.{Key}
+use Rattle.imap_keywords.specs.declared.key.Key.TheVariants as key
+use Rattle.imap_keywords.specs.declared.key.Place.TheVariants as place
+use Rattle.imap_keywords.specs.declared.phrase.Phrase.{Phrase}
+use Rattle.imap_keywords.specs.declared.phrase.Phrase.TheVariants as phrase
 use Rattle.imap_automaton.specs.declared.sym.Pending.TheVariants as pending
 use Rattle.imap_automaton.specs.declared.sym.Free.TheVariants as free
 use Rattle.imap_automaton.specs.declared.sym.Line.{Line}
@@ -17,17 +17,18 @@ use Rattle.imap_automaton.specs.declared.sym.Sym.TheVariants as sym
 use Rattle.imap_automaton.specs.declared.sym.Sym.{Sym}
 use Rattle.pushdown.specs.declared.moves.Move.{Move}
 use Rattle.pushdown.specs.declared.moves.Move.TheVariants as move
-use Rattle.imap_automaton.specs.Keys.{key_text, phrase_text, first_key}
+use Rattle.imap_keywords.specs.Keys.{key_text, phrase_text, first_key}
 use Rattle.imap_automaton.specs.FreeRules.{text_rule}
 use Rattle.imap_automaton.specs.WordRules.{word_rule}
 use Rattle.imap_automaton.specs.LineRules.{word_start, sequence_rule, fixed_rule, folded_rule, line_rule}
 use Rattle.imap_automaton.specs.Fits.{LineFits}
 use Rattle.imap_automaton.specs.Langs.{FreeLang, WordSays, WordRest, TagRest, NumberedRest, SequenceRest, LineLang, AfterMove}
 use Rattle.pushdown.proofs.Lists.{cons_head, cons_tail}
-use Rattle.imap_automaton.proofs.Tests.{from_test, to_test, at_true, at_false, is_true_at, both, alnum_not_space, text_not_cr, drop_at, crlf_of, crlf_parts, mid, digit_word}
-use Rattle.imap_automaton.proofs.Tests.{digit_no_brace}
+use Rattle.imap_automaton.proofs.Tests.{from_test, to_test, at_true, at_false, is_true_at, both, drop_at, crlf_of, crlf_parts, mid}
+use Rattle.imap_keywords.proofs.Classes.{alnum_not_space, text_not_cr, digit_word}
+use Rattle.imap_keywords.proofs.Classes.{digit_no_brace}
 use Rattle.imap_automaton.proofs.FreeEdges.{text_back, text_forth, free_empty}
-use Rattle.imap_automaton.proofs.KeyLemmas.{no_bang}
+use Rattle.imap_keywords.proofs.KeyLemmas.{no_bang}
 use Rattle.imap_automaton.proofs.WordEdges.{cut, text_goes, text_comes, word_back, word_forth, word_empty, word_example}
 use Rattle.imap_automaton.proofs.CountLemmas.{free_from}
 use Rattle.imap_automaton.proofs.LineWords.{plain_key, plain_to, plain_from, numbered_to, numbered_from, tagged_to, tagged_from}

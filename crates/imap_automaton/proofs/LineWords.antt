@@ -2,14 +2,15 @@
 use Rattle.std.proofs.Common.{◌≡◌, ℕ, zero, suc, ◌<◌, true, false, List, [], ◌∷◌, ◌++◌, length, map, get_or, Option, Some, None, refl, sym, ap, subst, ◌∙◌, arith, inl, inr}
 use Rattle.std.proofs.lemmas.List.{length-map}
 use Rattle.std.specs.Prelude.{◌≢◌, Contains}
-use Rattle.imap_automaton.specs.declared.sym.Key.{Key}
-use Rattle.imap_automaton.specs.declared.sym.Key.TheVariants as key
-use Rattle.imap_automaton.specs.declared.sym.Place.TheVariants as place
-use Rattle.imap_automaton.specs.Keys.{key_text, keys}
-use Rattle.imap_automaton.specs.Langs.{Among, IsBehind, WordSays, WordRest}
+use Rattle.imap_keywords.specs.declared.key.Key.{Key}
+use Rattle.imap_keywords.specs.declared.key.Key.TheVariants as key
+use Rattle.imap_keywords.specs.declared.key.Place.TheVariants as place
+use Rattle.imap_keywords.specs.Keys.{key_text, keys}
+use Rattle.imap_automaton.specs.Langs.{IsBehind, WordSays, WordRest}
+use Rattle.imap_keywords.specs.Keys.{Among}
 use Rattle.imap_automaton.specs.FolderLangs.{NameLine, DelimiterLine}
 use Rattle.pushdown.proofs.Lists.{cons_head, cons_tail}
-use Rattle.imap_automaton.proofs.KeyLemmas.{is_key_octet, key_octets, key_some, among_is}
+use Rattle.imap_keywords.proofs.KeyLemmas.{is_key_octet, key_octets, key_some, among_is}
 use Rattle.imap_automaton.proofs.CountLemmas.{free_to, free_from}
 use Rattle.imap_syntax.specs.declared.response.Status.{Status}
 use Rattle.imap_syntax.specs.declared.response.Status.TheVariants as status

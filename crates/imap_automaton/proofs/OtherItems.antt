@@ -3,19 +3,20 @@ use Rattle.std.proofs.Common.{◌≡◌, ℕ, zero, suc, ◌<◌, true, false, L
 use Rattle.std.specs.Prelude.{Contains, nat_lt}
 use Rattle.std.proofs.lemmas.Bool.{and_parts}
 use Rattle.std.proofs.lemmas.List.{append-nil}
-use Rattle.imap_automaton.specs.declared.sym.Key.{Key}
-use Rattle.imap_automaton.specs.declared.sym.Key.TheVariants as key
-use Rattle.imap_automaton.specs.declared.sym.Place.TheVariants as place
+use Rattle.imap_keywords.specs.declared.key.Key.{Key}
+use Rattle.imap_keywords.specs.declared.key.Key.TheVariants as key
+use Rattle.imap_keywords.specs.declared.key.Place.TheVariants as place
 use Rattle.imap_automaton.specs.declared.sym.ItemName.{ItemName}
 use Rattle.imap_automaton.specs.declared.sym.ItemName.TheVariants as name
-use Rattle.imap_automaton.specs.Keys.{key_text, keys}
+use Rattle.imap_keywords.specs.Keys.{key_text, keys}
 use Rattle.imap_automaton.specs.ItemNameRules.{may_end, name_from}
 use Rattle.imap_automaton.specs.ItemNameLangs.{NameForm, NameRest}
 use Rattle.imap_automaton.proofs.ItemNameEdges.{form_forth, takes_small, walk, goes_atom}
-use Rattle.imap_automaton.specs.Langs.{Among, WordRest}
+use Rattle.imap_automaton.specs.Langs.{WordRest}
+use Rattle.imap_keywords.specs.Keys.{Among}
 use Rattle.pushdown.proofs.Lists.{cons_head, cons_tail, Cut, cut, one_cut}
 use Rattle.imap_automaton.proofs.Tests.{both}
-use Rattle.imap_automaton.proofs.KeyLemmas.{is_key_octet, key_octets, key_octet_parts}
+use Rattle.imap_keywords.proofs.KeyLemmas.{is_key_octet, key_octets, key_octet_parts}
 use Rattle.imap_syntax.specs.Octets.{is_atom, lower}
 use Rattle.imap_syntax.specs.Texts.{Each}
 use Rattle.imap_syntax.specs.ItemNames.{is_plain, IsFormed, told_names, IsOtherName}

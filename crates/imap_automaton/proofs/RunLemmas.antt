@@ -1,12 +1,12 @@
 -- Runs of octets that one symbol takes.
 use Rattle.std.proofs.Common.{◌≡◌, ℕ, ◌+◌, ◌≤◌, true, length, refl, arith}
-use Rattle.imap_automaton.specs.declared.sym.Key.{Key}
-use Rattle.imap_automaton.specs.declared.sym.Key.TheVariants as key
-use Rattle.imap_automaton.specs.declared.sym.Place.{Place}
+use Rattle.imap_keywords.specs.declared.key.Key.{Key}
+use Rattle.imap_keywords.specs.declared.key.Key.TheVariants as key
+use Rattle.imap_keywords.specs.declared.key.Place.{Place}
 use Rattle.imap_automaton.specs.declared.sym.Sym.{Sym}
 use Rattle.imap_automaton.specs.declared.sym.Sym.TheVariants as sym
 use Rattle.imap_automaton.specs.declared.sym.Names.TheVariants as names
-use Rattle.imap_automaton.specs.Keys.{key_text, in_word, goes_on}
+use Rattle.imap_keywords.specs.Keys.{key_text, in_word, goes_on}
 use Rattle.imap_automaton.specs.WordRules.{word_rule}
 use Rattle.imap_automaton.specs.NamesRules.{names_rule}
 use Rattle.imap_automaton.specs.Rules.{rule_of}
@@ -28,42 +28,3 @@ word_stays p k at c i g = rw (i, g) refl
 -- an atom that goes on
 pub atom_stays : (c : ℕ) → is_atom c ≡ true → names_rule names.AtomRest c ≡ move.One (sym.Names names.AtomRest)
 atom_stays c e = rw e refl
-
--- no key is long
-pub key_short : (k : Key) → length (key_text k) ≤ 15
-key_short key.Ok = omega arith
-key_short key.No = omega arith
-key_short key.Bad = omega arith
-key_short key.Preauth = omega arith
-key_short key.Bye = omega arith
-key_short key.Capability = omega arith
-key_short key.Enabled = omega arith
-key_short key.Vanished = omega arith
-key_short key.List = omega arith
-key_short key.Status = omega arith
-key_short key.Exists = omega arith
-key_short key.Expunge = omega arith
-key_short key.Fetch = omega arith
-key_short key.Uid = omega arith
-key_short key.Flags = omega arith
-key_short key.ModSeq = omega arith
-key_short key.InternalDate = omega arith
-key_short key.Size = omega arith
-key_short key.Header = omega arith
-key_short key.HeaderPart = omega arith
-key_short key.Body = omega arith
-key_short key.BodyPart = omega arith
-key_short key.Jan = omega arith
-key_short key.Feb = omega arith
-key_short key.Mar = omega arith
-key_short key.Apr = omega arith
-key_short key.May = omega arith
-key_short key.Jun = omega arith
-key_short key.Jul = omega arith
-key_short key.Aug = omega arith
-key_short key.Sep = omega arith
-key_short key.Oct = omega arith
-key_short key.Nov = omega arith
-key_short key.Dec = omega arith
-
-pub ruleset keys_short = (key_short)

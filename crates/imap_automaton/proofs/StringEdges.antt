@@ -3,7 +3,7 @@ use Rattle.std.proofs.Common.{◌≡◌, ℕ, zero, suc, ◌+◌, ◌-◌, ◌*�
 use Rattle.std.proofs.Common.{subst, ◌∙◌, arith, inl, inr, replicate}
 use Rattle.std.specs.Prelude.{◌==◌, nat_lt, nat_le, codes}
 use Rattle.std.proofs.lemmas.Bool.{eqb-true, ltb-true, leb-true, and_parts, and_from, lt-ltb, le-leb, eq-eqb, cond-true, cond-false}
-use Rattle.imap_automaton.specs.declared.sym.Phrase.TheVariants as phrase
+use Rattle.imap_keywords.specs.declared.phrase.Phrase.TheVariants as phrase
 use Rattle.imap_automaton.specs.declared.sym.Line.TheVariants as line
 use Rattle.imap_automaton.specs.declared.sym.Free.TheVariants as free
 use Rattle.imap_automaton.specs.declared.sym.Names.TheVariants as names
@@ -20,7 +20,8 @@ use Rattle.imap_automaton.proofs.Rests.{value_mono}
 use Rattle.imap_automaton.specs.StringLangs.{QuotedRest, EscapedRest, AnyCounted, CountRest, BraceRest, StrLang}
 use Rattle.imap_automaton.specs.Langs.{Lang, AfterMove}
 use Rattle.pushdown.proofs.Lists.{cons_head, cons_tail}
-use Rattle.imap_automaton.proofs.Tests.{from_test, at_true, at_false, is_true_at, mid, atom_apart}
+use Rattle.imap_automaton.proofs.Tests.{from_test, at_true, at_false, is_true_at, mid}
+use Rattle.imap_keywords.proofs.Classes.{atom_apart}
 use Rattle.imap_automaton.proofs.FreeEdges.{octets_some}
 use Rattle.imap_syntax.specs.Octets.{is_digit, is_text, is_atom, lower}
 use Rattle.imap_syntax.specs.Texts.{Each, Then, plain_octets}

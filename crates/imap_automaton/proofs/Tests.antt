@@ -35,32 +35,6 @@ both false e f = absurd cc
 pub is_true_at : (p : ℕ → Bool) (c d : ℕ) → c ≡ d → p d ≡ true → p c ≡ true
 is_true_at p c d e h = ap p e ∙ h
 
--- ---- what a class says of an octet
-
--- the octets of digits
-pub digit_range : (c : ℕ) → is_digit c ≡ true → (48 ≤ c) × (c ≤ 57)
-digit_range c e = grind arith
-
--- a digit stands in words
-pub digit_word : (c : ℕ) → is_digit c ≡ true → is_word c ≡ true
-digit_word c e = grind arith
-
--- no digit opens a literal
-pub digit_no_brace : (c : ℕ) → is_digit c ≡ true → (c == 123) ≡ false
-digit_no_brace c e = grind arith
-
--- no letter and no digit is a space
-pub alnum_not_space : (c : ℕ) → is_alnum c ≡ true → (c == 32) ≡ false
-alnum_not_space c e = grind arith
-
--- no line ends within text
-pub text_not_cr : (c : ℕ) → is_text c ≡ true → (c == 13) ≡ false
-text_not_cr c e = grind arith
-
--- no octet of an atom opens a quoted text or a literal
-pub atom_apart : (c : ℕ) → is_atom c ≡ true → ((c == 34) ≡ false) × ((c == 123) ≡ false)
-atom_apart c e = (grind arith, grind arith)
-
 -- ---- texts
 
 -- a text with its first octet

@@ -4,12 +4,12 @@ use Rattle.std.proofs.Common.{append_assoc, arith, inl, inr}
 use Rattle.std.specs.Prelude.{◌==◌, codes}
 use Rattle.std.proofs.lemmas.Bool.{eqb-true, eqb-false, eq-eqb, cond-false}
 use Rattle.std.proofs.lemmas.List.{length-append, length-take-le, append-nil, take-append-drop}
-use Rattle.imap_automaton.specs.declared.sym.Key.{Key}
-use Rattle.imap_automaton.specs.declared.sym.Key.TheVariants as key
-use Rattle.imap_automaton.specs.declared.sym.Place.{Place}
-use Rattle.imap_automaton.specs.declared.sym.Place.TheVariants as place
+use Rattle.imap_keywords.specs.declared.key.Key.{Key}
+use Rattle.imap_keywords.specs.declared.key.Key.TheVariants as key
+use Rattle.imap_keywords.specs.declared.key.Place.{Place}
+use Rattle.imap_keywords.specs.declared.key.Place.TheVariants as place
 use Rattle.imap_automaton.specs.declared.sym.Pending.TheVariants as pending
-use Rattle.imap_automaton.specs.declared.sym.Phrase.TheVariants as phrase
+use Rattle.imap_keywords.specs.declared.phrase.Phrase.TheVariants as phrase
 use Rattle.imap_automaton.specs.declared.sym.Line.TheVariants as line
 use Rattle.imap_automaton.specs.declared.sym.Free.TheVariants as free
 use Rattle.imap_automaton.specs.declared.sym.Item.TheVariants as item
@@ -23,9 +23,10 @@ use Rattle.imap_automaton.specs.declared.sym.Sym.TheVariants as sym
 use Rattle.pushdown.specs.declared.moves.Move.{Move}
 use Rattle.pushdown.specs.declared.moves.Move.TheVariants as move
 use Rattle.imap_automaton.specs.Counts.{pend}
-use Rattle.imap_automaton.specs.Keys.{key_text, keys, is_among, in_word, goes_on, next_key, is_whole, whole_key}
+use Rattle.imap_keywords.specs.Keys.{key_text, keys, is_among, in_word, goes_on, next_key, is_whole, whole_key}
 use Rattle.imap_automaton.specs.WordRules.{rest_rule, spaced_rule, end_rule, behind_key, stray, word_goes, word_ends, word_rule}
-use Rattle.imap_automaton.specs.Langs.{FreeLang, ItemLang, NamesLang, SetLang, IsSpaced, Among, IsBehind, IsStray, WordSays, WordRest, Lang, AfterMove}
+use Rattle.imap_automaton.specs.Langs.{FreeLang, ItemLang, NamesLang, SetLang, IsSpaced, IsBehind, IsStray, WordSays, WordRest, Lang, AfterMove}
+use Rattle.imap_keywords.specs.Keys.{Among}
 use Rattle.imap_automaton.specs.StringLangs.{StrLang}
 use Rattle.imap_automaton.specs.FolderLangs.{FolderLang}
 pub use Rattle.pushdown.proofs.Lists.{Cut, cut}
@@ -38,8 +39,8 @@ use Rattle.imap_automaton.proofs.Tests.{from_test, at_true, at_false, crlf_of, c
 use Rattle.imap_automaton.proofs.DateEdges.{date_text, date_example, time_text, time_example, time_back, time_forth, time_none}
 use Rattle.imap_automaton.proofs.SetEdges.{words_more_back, words_more_forth, words_more_none}
 use Rattle.imap_automaton.proofs.FreeEdges.{text_back, text_forth, goes_back, goes_forth, free_empty}
-use Rattle.imap_automaton.proofs.KeyLemmas.{one_key, among_keys, key_some, key_in_word, key_lower, no_bang, find_some, find_none, is_among_is, goes_to, goes_from, goes_octet}
-use Rattle.imap_automaton.proofs.KeyLemmas.{whole_to, whole_from}
+use Rattle.imap_keywords.proofs.KeyLemmas.{one_key, among_keys, key_some, key_in_word, key_lower, no_bang, find_some, find_none, is_among_is, goes_to, goes_from, goes_octet}
+use Rattle.imap_keywords.proofs.KeyLemmas.{whole_to, whole_from}
 use Rattle.imap_syntax.specs.Octets.{is_text, is_word, is_atom, lower}
 use Rattle.imap_syntax.specs.Texts.{Each, Then, crlf, IsCrlf}
 use Rattle.imap_syntax.specs.Lines.{IsLine, IsRest}

@@ -1,13 +1,13 @@
 -- Dates.
 use Rattle.std.specs.Prelude.{ℕ, ◌+◌, Bool, ◌&&◌, ◌||◌, nat_lt, ◌==◌, if◌then◌else◌}
-use Rattle.imap_automaton.specs.declared.sym.Place.TheVariants as place
+use Rattle.imap_keywords.specs.declared.key.Place.TheVariants as place
 use Rattle.imap_automaton.specs.declared.sym.Date.{Date}
 use Rattle.imap_automaton.specs.declared.sym.Date.TheVariants as date
 use Rattle.imap_automaton.specs.declared.sym.Sym.{Sym}
 use Rattle.imap_automaton.specs.declared.sym.Sym.TheVariants as sym
 use Rattle.pushdown.specs.declared.moves.Move.{Move}
 use Rattle.pushdown.specs.declared.moves.Move.TheVariants as move
-use Rattle.imap_automaton.specs.Keys.{first_key}
+use Rattle.imap_keywords.specs.Keys.{first_key}
 use Rattle.imap_syntax.specs.Octets.{is_digit}
 
 abbrev pub month_start : Sym

@@ -18,7 +18,7 @@ use Rattle.imap_automaton.specs.declared.sym.Value.{Value}
 use Rattle.imap_automaton.specs.declared.sym.Value.TheVariants as value
 use Rattle.imap_automaton.specs.declared.sym.Sym.{Sym}
 use Rattle.imap_automaton.specs.declared.sym.Sym.TheVariants as sym
-use Rattle.imap_automaton.specs.Keys.{key_text, phrase_text, keys, is_among}
+use Rattle.imap_keywords.specs.Keys.{key_text, phrase_text, keys, is_among}
 
 abbrev pub PendFits : Pending → Bool
 PendFits (pending.Open v n) = nat_le v 50000001 && nat_le n 8

@@ -2,7 +2,7 @@
 use Rattle.std.specs.Prelude.{ℕ, ◌-◌, ◌&&◌, nat_lt, nat_le, ◌==◌, if◌then◌else◌}
 use Rattle.imap_automaton.specs.declared.sym.Pending.{Pending}
 use Rattle.imap_automaton.specs.declared.sym.Pending.TheVariants as pending
-use Rattle.imap_automaton.specs.declared.sym.Phrase.TheVariants as phrase
+use Rattle.imap_keywords.specs.declared.phrase.Phrase.TheVariants as phrase
 use Rattle.imap_automaton.specs.declared.sym.Line.TheVariants as line
 use Rattle.imap_automaton.specs.declared.sym.Free.{Free}
 use Rattle.imap_automaton.specs.declared.sym.Free.TheVariants as free

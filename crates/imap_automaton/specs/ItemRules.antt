@@ -1,15 +1,15 @@
 -- The items of a FETCH.
 use Rattle.std.specs.Prelude.{ℕ, ◌+◌, ◌-◌, ◌*◌, not, ◌&&◌, nat_lt, nat_le, ◌==◌, if◌then◌else◌}
-use Rattle.imap_automaton.specs.declared.sym.Phrase.TheVariants as phrase
+use Rattle.imap_keywords.specs.declared.phrase.Phrase.TheVariants as phrase
 use Rattle.imap_automaton.specs.declared.sym.Line.TheVariants as line
-use Rattle.imap_automaton.specs.declared.sym.Place.TheVariants as place
+use Rattle.imap_keywords.specs.declared.key.Place.TheVariants as place
 use Rattle.imap_automaton.specs.declared.sym.Item.{Item}
 use Rattle.imap_automaton.specs.declared.sym.Item.TheVariants as item
 use Rattle.imap_automaton.specs.declared.sym.Sym.{Sym}
 use Rattle.imap_automaton.specs.declared.sym.Sym.TheVariants as sym
 use Rattle.pushdown.specs.declared.moves.Move.{Move}
 use Rattle.pushdown.specs.declared.moves.Move.TheVariants as move
-use Rattle.imap_automaton.specs.Keys.{first_key}
+use Rattle.imap_keywords.specs.Keys.{first_key}
 use Rattle.imap_syntax.specs.Octets.{is_digit}
 
 abbrev pub item_start : Sym

@@ -1,9 +1,9 @@
 -- What each symbol of the automaton still reads, in the words of the grammar.
 use Rattle.std.specs.Prelude.{◌≡◌, ◌⊎◌, ℕ, zero, suc, ◌+◌, ◌<◌, ◌≤◌, Bool, true, false, List, [], ◌∷◌, ◌++◌, length, map, take, drop, get_or, ℤ}
-use Rattle.imap_automaton.specs.declared.sym.Key.{Key}
-use Rattle.imap_automaton.specs.declared.sym.Key.TheVariants as key
-use Rattle.imap_automaton.specs.declared.sym.Place.{Place}
-use Rattle.imap_automaton.specs.declared.sym.Place.TheVariants as place
+use Rattle.imap_keywords.specs.declared.key.Key.{Key}
+use Rattle.imap_keywords.specs.declared.key.Key.TheVariants as key
+use Rattle.imap_keywords.specs.declared.key.Place.{Place}
+use Rattle.imap_keywords.specs.declared.key.Place.TheVariants as place
 use Rattle.imap_automaton.specs.declared.sym.Pending.{Pending}
 use Rattle.imap_automaton.specs.declared.sym.Pending.TheVariants as pending
 use Rattle.imap_automaton.specs.declared.sym.Line.{Line}
@@ -31,7 +31,7 @@ use Rattle.imap_automaton.specs.Counts.{pends}
 use Rattle.imap_automaton.specs.DateRules.{day_octet, time_octet}
 use Rattle.imap_automaton.specs.ItemNameRules.{name_from}
 use Rattle.imap_automaton.specs.ItemNameLangs.{NameRest}
-use Rattle.imap_automaton.specs.Keys.{key_text, phrase_text, keys, in_word}
+use Rattle.imap_keywords.specs.Keys.{key_text, phrase_text, keys, in_word}
 pub use Rattle.imap_automaton.specs.Rests.{OctetsRest, NumberRest, LongRest, IsSpaced}
 use Rattle.imap_automaton.specs.StringLangs.{StrLang, ValueLang}
 use Rattle.imap_automaton.specs.FolderLangs.{FolderLang}
@@ -175,11 +175,6 @@ IsBehind place.Item key.Body t = IsSpaced (StrLang str.NString) t
 IsBehind place.Item key.BodyPart t = IsSpaced (StrLang str.NString) t
 IsBehind place.Month k t = TimeRest 0 t
 IsBehind _ _ t = ⊥
-
--- one of the keys
-abbrev pub Among : Key → List Key → Type 0
-Among k [] = ⊥
-Among k (x ∷ xs) = (k ≡ x) ⊎ Among k xs
 
 -- the text of a word that is no key and began so
 abbrev pub IsStray : Place → List ℕ → List ℕ → Type 0

@@ -1,9 +1,9 @@
 -- Lines.
 use Rattle.std.specs.Prelude.{ℕ, ◌+◌, ◌-◌, ◌*◌, ◌&&◌, nat_lt, nat_le, ◌==◌, if◌then◌else◌, length, get_or}
-use Rattle.imap_automaton.specs.declared.sym.Phrase.{Phrase}
-use Rattle.imap_automaton.specs.declared.sym.Phrase.TheVariants as phrase
-use Rattle.imap_automaton.specs.declared.sym.Place.{Place}
-use Rattle.imap_automaton.specs.declared.sym.Place.TheVariants as place
+use Rattle.imap_keywords.specs.declared.phrase.Phrase.{Phrase}
+use Rattle.imap_keywords.specs.declared.phrase.Phrase.TheVariants as phrase
+use Rattle.imap_keywords.specs.declared.key.Place.{Place}
+use Rattle.imap_keywords.specs.declared.key.Place.TheVariants as place
 use Rattle.imap_automaton.specs.declared.sym.Pending.TheVariants as pending
 use Rattle.imap_automaton.specs.declared.sym.Line.{Line}
 use Rattle.imap_automaton.specs.declared.sym.Line.TheVariants as line
@@ -11,7 +11,7 @@ use Rattle.imap_automaton.specs.declared.sym.Sym.{Sym}
 use Rattle.imap_automaton.specs.declared.sym.Sym.TheVariants as sym
 use Rattle.pushdown.specs.declared.moves.Move.{Move}
 use Rattle.pushdown.specs.declared.moves.Move.TheVariants as move
-use Rattle.imap_automaton.specs.Keys.{first_key, phrase_text}
+use Rattle.imap_keywords.specs.Keys.{first_key, phrase_text}
 use Rattle.imap_automaton.specs.FreeRules.{text_rule}
 use Rattle.imap_automaton.specs.WordRules.{word_rule}
 use Rattle.imap_syntax.specs.Octets.{is_digit, is_alnum, is_text, lower}

@@ -1,6 +1,6 @@
 -- Strings.
 use Rattle.std.specs.Prelude.{ℕ, ◌+◌, ◌-◌, ◌*◌, ◌&&◌, ◌||◌, nat_lt, nat_le, ◌==◌, if◌then◌else◌, Option, Some, None}
-use Rattle.imap_automaton.specs.declared.sym.Phrase.TheVariants as phrase
+use Rattle.imap_keywords.specs.declared.phrase.Phrase.TheVariants as phrase
 use Rattle.imap_automaton.specs.declared.sym.Line.TheVariants as line
 use Rattle.imap_automaton.specs.declared.sym.Free.TheVariants as free
 use Rattle.imap_automaton.specs.declared.sym.Names.TheVariants as names

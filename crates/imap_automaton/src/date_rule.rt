@@ -2,8 +2,8 @@
 ghost use Rattle.std.specs.Prelude.{◌≡◌};
 ghost use Rattle.imap_automaton.specs.DateRules as rules;
 
-use crate::class::is_digit;
-use crate::sym::{Date, Key, Place, Sym};
+use crate::sym::{Date, Sym};
+use imap_keywords::{Key, Place, is_digit};
 use pushdown::Move;
 
 /// The octets between the quote and the month.

@@ -2,8 +2,8 @@
 ghost use Rattle.std.specs.Prelude.{◌≡◌};
 ghost use Rattle.imap_automaton.specs.FolderRules as rules;
 
-use crate::class::{CR, is_status_word, is_text, lower};
-use crate::sym::{Folder, Item, Line, Phrase, Str, Sym, Value};
+use crate::sym::{Folder, Item, Line, Str, Sym, Value};
+use imap_keywords::{CR, Phrase, is_status_word, is_text, lower};
 use pushdown::Move;
 
 /// The line's end, from its CR on.

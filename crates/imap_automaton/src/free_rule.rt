@@ -4,8 +4,8 @@ ghost use Rattle.imap_automaton.specs.Counts as counts;
 ghost use Rattle.imap_automaton.specs.FreeRules as rules;
 ghost use Rattle.imap_automaton.specs.Fits.{PendFits, FreeFits};
 
-use crate::class::{CR, LF, is_digit, is_text};
-use crate::sym::{Free, Line, Pending, Phrase, Sym};
+use crate::sym::{Free, Line, Pending, Sym};
+use imap_keywords::{CR, LF, Phrase, is_digit, is_text};
 use pushdown::Move;
 
 /// Octets of a literal.

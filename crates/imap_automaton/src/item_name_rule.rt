@@ -3,8 +3,8 @@ ghost use Rattle.std.specs.Prelude.{◌≡◌};
 ghost use Rattle.imap_automaton.specs.ItemNameRules as rules;
 ghost use Rattle.imap_syntax.specs.ItemNames as names;
 
-use crate::class::{is_atom, is_digit};
 use crate::sym::{ItemName, Str, Sym, Value};
+use imap_keywords::{is_atom, is_digit};
 use pushdown::Move;
 
 /// Whether the octet may stand in a section outside quoted texts.

@@ -3,8 +3,8 @@ ghost use Rattle.std.specs.Prelude.{◌≡◌, IsTrue};
 ghost use Rattle.imap_automaton.specs.ItemRules as rules;
 ghost use Rattle.imap_automaton.specs.Fits.{ItemFits};
 
-use crate::class::is_digit;
-use crate::sym::{Item, Key, Line, Phrase, Place, Sym};
+use crate::sym::{Item, Line, Sym};
+use imap_keywords::{Key, Phrase, Place, is_digit};
 use pushdown::Move;
 
 /// Digits of a number.

@@ -1,7 +1,6 @@
 //! A pushdown automaton that recognises the formal syntax of a store's responses octet by octet, in fixed memory.
 #![tactic(auto)]
 
-mod class;
 mod date_rule;
 mod folder_rule;
 mod free_rule;
@@ -18,7 +17,7 @@ mod value_rule;
 mod word_rule;
 
 pub use grammar::LIMIT;
+pub use imap_keywords::{Key, Phrase, Place};
 pub use sym::{
-    Date, Folder, Free, Item, ItemName, Key, Line, Names, Pending, Phrase, Place, Set, Str, Sym,
-    Value, Words,
+    Date, Folder, Free, Item, ItemName, Line, Names, Pending, Set, Str, Sym, Value, Words,
 };

@@ -1,31 +1,20 @@
 // Lines.
 ghost use Rattle.std.specs.Prelude.{◌≡◌, IsTrue, length};
-ghost use Rattle.imap_automaton.specs.Keys as keywords;
+ghost use Rattle.imap_keywords.specs.Keys as keywords;
 ghost use Rattle.imap_automaton.specs.LineRules as rules;
 ghost use Rattle.imap_automaton.specs.Fits.{LineFits};
 
-use crate::class::{CR, is_alnum, is_digit, is_text, lower};
 use crate::free_rule::text_rule;
 use crate::item_rule::NUMBER_DIGITS;
-use crate::sym::{Line, Pending, Phrase, Place, Sym};
-use crate::word_rule::{first_key, word_rule};
+use crate::sym::{Line, Pending, Sym};
+use crate::word_rule::word_rule;
+use imap_keywords::{
+    CR, Phrase, Place, first_key, is_alnum, is_digit, is_text, lower, phrase_text,
+};
 use pushdown::Move;
 
 /// Octets of a tag.
 const TAG_LIMIT: u8 = 32;
-
-fn phrase_text(phrase: Phrase) -> &'static [u8]
-    ensures { result.now ≡ keywords.phrase_text phrase }
-{
-    match phrase {
-        Phrase::Space => b" ",
-        Phrase::Crlf => b"\r\n",
-        Phrase::Earlier => b"(earlier) ",
-        Phrase::Close => b")",
-        Phrase::Quote => b"\"",
-        Phrase::Nil => b"nil",
-    }
-}
 
 fn word_start(place: Place) -> Sym
     ensures { result ≡ rules.word_start place }

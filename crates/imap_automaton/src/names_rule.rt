@@ -2,8 +2,8 @@
 ghost use Rattle.std.specs.Prelude.{◌≡◌};
 ghost use Rattle.imap_automaton.specs.NamesRules as rules;
 
-use crate::class::is_atom;
 use crate::sym::{Names, Sym};
+use imap_keywords::is_atom;
 use pushdown::Move;
 
 fn first_rule(c: u16) -> Move<Sym>

@@ -1,16 +1,15 @@
 // Runs of octets that one symbol takes: those of a word, of a number, of an atom.
 ghost use Rattle.std.specs.Prelude.{◌≡◌, ◌+◌, ◌≤◌, ◌&&◌, IsTrue, length, take};
-ghost use Rattle.imap_automaton.specs.Keys as keywords;
+ghost use Rattle.imap_keywords.specs.Keys as keywords;
 ghost use Rattle.imap_syntax.specs.Octets as classes;
 ghost use Rattle.imap_automaton.specs.Fits.{SymFits, ItemFits, LineFits};
 ghost use Rattle.imap_automaton.specs.Responses.{responses};
 ghost use Rattle.pushdown.specs.Run.{LeadsTo};
 
-use crate::class::{is_atom, lower};
 use crate::item_rule::{long_rule, number_rule};
 use crate::line_rule::sequence_rule;
-use crate::sym::{Item, Key, Line, Names, Place, Sym};
-use crate::word_rule::{goes_on_itself, in_word};
+use crate::sym::{Item, Line, Names, Sym};
+use imap_keywords::{Key, Place, goes_on_itself, in_word, is_atom, lower};
 use pushdown::Move;
 
 /// Whether a word that is the key's first octets up to `at` goes on with the key.
@@ -21,7 +20,7 @@ fn takes(place: Place, key: Key, at: usize, c: u16) -> bool
 }
 
 /// How many octets at the front go on with the key.
-#[tactic(auto, using(crate::proofs::RunLemmas::keys_short))]
+#[tactic(auto, using(imap_keywords::proofs::KeyLemmas::keys_short))]
 fn word_run(place: Place, key: Key, at: u8, octets: &[u8]) -> usize
     requires { at ≤ length (keywords.key_text key) }
     ensures within { result ≤ length octets.now }
@@ -104,7 +103,7 @@ fn atom_run(octets: &[u8]) -> usize
 }
 
 /// A run of octets at the front that the symbol takes: what the symbol is then, and how many they are.
-#[tactic(auto, using(crate::proofs::RunLemmas::keys_short))]
+#[tactic(auto, using(imap_keywords::proofs::KeyLemmas::keys_short))]
 pub fn run_of(symbol: Sym, octets: &[u8]) -> (Sym, usize)
     requires { IsTrue (SymFits symbol) }
     ensures within { result.1 ≤ length octets.now }

@@ -3,9 +3,9 @@ ghost use Rattle.std.specs.Prelude.{◌≡◌, IsTrue};
 ghost use Rattle.imap_automaton.specs.SetRules as rules;
 ghost use Rattle.imap_automaton.specs.Fits.{SetFits};
 
-use crate::class::{CR, is_digit, is_word};
 use crate::item_rule::NUMBER_DIGITS;
-use crate::sym::{Line, Phrase, Set, Sym, Words};
+use crate::sym::{Line, Set, Sym, Words};
+use imap_keywords::{CR, Phrase, is_digit, is_word};
 use pushdown::Move;
 
 /// A number of a set, from its first digit on.

@@ -16,7 +16,7 @@ use crate::received::Received;
 use crate::response::next_response;
 use crate::sending::send_piece;
 use gate_world::{Bytes, Link, Listed};
-use imap_grammar::write_command;
+use imap_commands::write_command;
 use imap_syntax::{Code, Command, Response, Status};
 use std::alloc::{AllocError, Global};
 use told_folder::Exchange;

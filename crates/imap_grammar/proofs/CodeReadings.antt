@@ -9,7 +9,7 @@ use Rattle.imap_syntax.specs.ReadCodes.{cut, nonzero_in, long_in, range_in, one_
 use Rattle.imap_syntax.proofs.CodeLemmas.{nonzero_sound, nonzero_complete, long_sound, long_complete}
 use Rattle.imap_grammar.specs.reading.Codes.{put_ranges}
 use Rattle.imap_grammar.specs.reading.Reading as reading
-use Rattle.imap_grammar.proofs.Cuts.{number_is, long_is, long_capped, within_cap}
+use Rattle.imap_values.proofs.Cuts.{number_is, long_is, long_capped, within_cap}
 use Rattle.imap_grammar.proofs.Readings.{sequence_true, true_sequence, digits_true, true_digits}
 
 -- ---- numbers

@@ -7,13 +7,13 @@ use Rattle.std.proofs.lemmas.List.{length-append, map-append}
 use Rattle.imap_syntax.proofs.EachLemmas.{each_to, each_append}
 use Rattle.pushdown.proofs.Lists.{cons_head}
 use Rattle.imap_automaton.proofs.StringEdges.{no_special}
-use Rattle.imap_grammar.specs.reading.Spans.{span, long_in, flags_in}
-use Rattle.imap_grammar.specs.reading.StringReading.{astring_in}
+use Rattle.imap_values.specs.reading.Spans.{span, long_in, flags_in}
+use Rattle.imap_values.specs.reading.StringReading.{astring_in}
 use Rattle.imap_grammar.specs.reading.FolderReading.{delimiter_in, list_in, count_in, status_counts, counts_of, status_in}
-use Rattle.imap_grammar.proofs.Cuts.{small, plain_small, cut_at, digit_small}
+use Rattle.imap_values.proofs.Cuts.{small, plain_small, cut_at, digit_small}
 use Rattle.imap_grammar.proofs.ItemReadings.{joined_small, flags_read, long_read}
 use Rattle.imap_grammar.proofs.StringReadings.{quoted_small, Ends, astring_read}
-use Rattle.imap_grammar.proofs.Lengths.{plain_length, less_one}
+use Rattle.imap_values.proofs.Lengths.{plain_length, less_one}
 use Rattle.imap_syntax.specs.declared.response.StatusItems.{StatusItems}
 use Rattle.imap_syntax.specs.declared.response.Response.TheVariants as response
 use Rattle.imap_syntax.specs.Octets.{is_digit, is_status_word, lower}

@@ -8,25 +8,25 @@ use Rattle.std.proofs.Math.Seq.{drop-append_seam}
 use Rattle.imap_syntax.proofs.EachLemmas.{each_to, each_append}
 use Rattle.imap_automaton.specs.Flow.{stops}
 use Rattle.imap_automaton.specs.ItemRules.{item_start}
-use Rattle.imap_automaton.specs.Keys.{key_text, keys}
-use Rattle.imap_automaton.specs.declared.sym.Key.{Key}
-use Rattle.imap_automaton.specs.declared.sym.Key.TheVariants as key
-use Rattle.imap_automaton.specs.declared.sym.Place.TheVariants as place
-use Rattle.imap_automaton.specs.Langs.{Among}
-use Rattle.imap_automaton.proofs.KeyLemmas.{same_text}
+use Rattle.imap_keywords.specs.Keys.{key_text, keys}
+use Rattle.imap_keywords.specs.declared.key.Key.{Key}
+use Rattle.imap_keywords.specs.declared.key.Key.TheVariants as key
+use Rattle.imap_keywords.specs.declared.key.Place.TheVariants as place
+use Rattle.imap_keywords.specs.Keys.{Among}
+use Rattle.imap_keywords.proofs.KeyLemmas.{same_text}
 use Rattle.pushdown.proofs.Lists.{cons_head, cons_tail}
 use Rattle.imap_automaton.proofs.ItemEdges.{stop_no_digit, item_to}
 use Rattle.imap_automaton.proofs.OtherItems.{named_atoms, other_word}
-use Rattle.imap_grammar.specs.reading.Spans.{span, number_in, long_in}
-use Rattle.imap_grammar.specs.reading.StringReading.{astring_in}
+use Rattle.imap_values.specs.reading.Spans.{span, number_in, long_in}
+use Rattle.imap_values.specs.reading.StringReading.{astring_in}
 use Rattle.imap_grammar.specs.reading.ItemReading.{nstring_in, is_header, is_body, is_told, text_in, value_in, item_in, items_in}
 use Rattle.imap_grammar.specs.reading.Passing.{passed}
 use Rattle.imap_grammar.proofs.DateReadings.{date_read}
 use Rattle.imap_grammar.proofs.StringReadings.{astring_read}
 use Rattle.imap_grammar.proofs.PassingReadings.{item_passed}
-pub use Rattle.imap_grammar.proofs.NameReadings.{joined_small, flags_read, long_read}
-use Rattle.imap_grammar.proofs.Cuts.{small, plain_small, plain_join, cut_at, number_is, atom_small, digit_small, small_lower}
-use Rattle.imap_grammar.proofs.Lengths.{plain_length, less_one}
+pub use Rattle.imap_values.proofs.NameReadings.{joined_small, flags_read, long_read}
+use Rattle.imap_values.proofs.Cuts.{small, plain_small, plain_join, cut_at, number_is, atom_small, digit_small, small_lower}
+use Rattle.imap_values.proofs.Lengths.{plain_length, less_one}
 use Rattle.imap_syntax.specs.declared.response.FetchItems.{FetchItems}
 use Rattle.imap_syntax.specs.Octets.{is_digit, is_atom, lower}
 use Rattle.imap_syntax.specs.Texts.{plain_of, plain_octets}

@@ -1,17 +1,8 @@
-pub mod Lengths
-pub mod SpanLemmas
-pub mod FlagLemmas
-pub mod StringLemmas
-pub mod Cuts
 pub mod DateReadings
-pub mod SetReadings
-pub mod NameReadings
 pub mod StringReadings
 pub mod PassingReadings
 pub mod ItemReadings
 pub mod FolderReadings
 pub mod Readings
 pub mod Spellings
-pub mod Pieces
-pub mod DateLemmas
 pub mod CodeReadings

@@ -4,18 +4,19 @@ use Rattle.std.proofs.Common.{append_assoc, arith, inl, inr, Option, Some, None,
 use Rattle.std.specs.Prelude.{◌==◌, nat_lt, nat_le, codes, bytes_eq, Contains, unwrap_or}
 use Rattle.std.proofs.lemmas.Bool.{cond-true, cond-false, and_parts, and_from, lt-ltb, le-leb, ltb-true, leb-true, eqb-true, false_from_ne_true}
 use Rattle.std.proofs.lemmas.List.{length-append}
-use Rattle.imap_automaton.proofs.KeyLemmas.{is_key_octet, same_text, text_same}
+use Rattle.imap_keywords.proofs.KeyLemmas.{is_key_octet, same_text, text_same}
 use Rattle.imap_automaton.proofs.LineWords.{word_of_key, rest_out}
 use Rattle.pushdown.proofs.Lists.{cons_head, cons_tail}
-use Rattle.imap_automaton.proofs.Tests.{both, digit_word}
+use Rattle.imap_automaton.proofs.Tests.{both}
+use Rattle.imap_keywords.proofs.Classes.{digit_word}
 use Rattle.imap_grammar.specs.reading.Reading.{span, in_name, number_from, number_in, flags_in, words_in, vanished_in, items_in, status_named, word_in, all_digits, is_sequence}
 use Rattle.imap_grammar.specs.reading.Reading.{numbered_in, told_in, said_in, plain_in, untagged_in, tagged_in, response_in}
-use Rattle.imap_grammar.proofs.Cuts.{small, plain_small, plain_join, CutAt, cut_at, number_from_is, number_is, capped_le, digit_small, word_small, text_small, within_cap}
+use Rattle.imap_values.proofs.Cuts.{small, plain_small, plain_join, CutAt, cut_at, number_from_is, number_is, capped_le, digit_small, word_small, text_small, within_cap}
 use Rattle.imap_grammar.proofs.ItemReadings.{joined_small, flags_read, all_items_read}
 use Rattle.imap_grammar.specs.reading.FolderReading.{list_in, status_in}
-use Rattle.imap_grammar.proofs.SetReadings.{words_read, vanished_read}
+use Rattle.imap_values.proofs.SetReadings.{words_read, vanished_read}
 use Rattle.imap_grammar.proofs.FolderReadings.{list_line_read, status_line_read}
-use Rattle.imap_grammar.proofs.Lengths.{plain_length}
+use Rattle.imap_values.proofs.Lengths.{plain_length}
 use Rattle.imap_syntax.specs.declared.response.Status.{Status}
 use Rattle.imap_syntax.specs.declared.response.Status.TheVariants as status
 use Rattle.imap_syntax.specs.declared.response.Response.{Response}

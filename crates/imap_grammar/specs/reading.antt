@@ -1,10 +1,6 @@
--- How spellings are read back and commands put together: private clauses and proofs alone speak of it.
-pub mod Spans
-pub mod StringReading
+-- How spellings are read back: private clauses and proofs alone speak of it.
 pub mod FolderReading
-pub mod DateReading
 pub mod Passing
 pub mod ItemReading
 pub mod Codes
 pub mod Reading
-pub mod Written

@@ -4,12 +4,11 @@ ghost use Rattle.imap_syntax.specs.Octets as classes;
 ghost use Rattle.imap_syntax.specs.ReadCodes as reading;
 ghost use Rattle.imap_grammar.specs.reading.Codes.{ranges_of};
 
-use crate::octets::{
-    before, behind, is_decimal, is_key, is_sequence, long_of, number_of, octet_at,
-};
-use crate::sets::range_of;
 use gate_world::Listed;
 use imap_syntax::{Code, UidRange, UidSet};
+use imap_values::{
+    before, behind, is_decimal, is_key, is_sequence, long_of, number_of, octet_at, range_of,
+};
 use std::alloc::{AllocError, Global};
 
 /// Digits of a long number.

@@ -1,20 +1,20 @@
 // What a response says (RFC 9051 sections 7 and 9, RFC 7162 section 3.2.10).
-ghost use Rattle.std.specs.Prelude.{◌≡◌, ◌++◌, List, [], ℕ, IfOk, length, map, drop, Some, bytes_eq, codes};
-ghost use Rattle.imap_syntax.specs.Items.{no_items};
+ghost use Rattle.std.specs.Prelude.{◌≡◌, ◌++◌, List, [], ℕ, IfOk, map, Some, bytes_eq};
 ghost use Rattle.imap_syntax.specs.Octets as classes;
 ghost use Rattle.imap_syntax.specs.Spells.{IsSpelling};
 ghost use Rattle.imap_syntax.specs.declared.response.Response.{Response};
 ghost use Rattle.imap_grammar.specs.reading.Reading as reading;
 
 use crate::codes::code_in;
-use crate::flags::flags_in;
 use crate::folders;
 use crate::folders::list_in;
 use crate::items::items_in;
-use crate::octets::{before, behind, is_key, is_sequence, name_len, number_of, octet_at, word_len};
-use crate::sets::{vanished_in, words_in};
 use gate_world::{Bytes, Names};
 use imap_syntax::{Response, Status};
+use imap_values::{
+    before, behind, flags_in, is_key, is_sequence, name_len, number_of, octet_at, vanished_in,
+    word_len, words_in,
+};
 use std::alloc::{AllocError, Global};
 
 /// Octets of `FETCH (`.

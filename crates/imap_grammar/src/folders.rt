@@ -2,14 +2,12 @@
 ghost use Rattle.std.specs.Prelude.{◌≡◌, ◌≤◌, IfOk, length, map};
 ghost use Rattle.imap_syntax.specs.Octets as classes;
 ghost use Rattle.imap_syntax.specs.Folders as folders;
-ghost use Rattle.imap_grammar.specs.reading.Spans as spans;
+ghost use Rattle.imap_values.specs.reading.Spans as spans;
 ghost use Rattle.imap_grammar.specs.reading.FolderReading as reading;
 
-use crate::flags::flags_in;
-use crate::octets::{before, behind, digits_len, is_key, long_of, octet_at};
-use crate::strings::astring_in;
 use gate_world::Bytes;
 use imap_syntax::{Response, StatusItems};
+use imap_values::{astring_in, before, behind, digits_len, flags_in, is_key, long_of, octet_at};
 use std::alloc::{AllocError, Global};
 
 /// INBOX whatever the case of its letters, or the name as it is.
@@ -61,7 +59,7 @@ fn is_status_word(c: u8) -> bool
 }
 
 /// How many octets of a word of a STATUS stand at the front.
-#[tactic(auto, using(crate::proofs::SpanLemmas::spans))]
+#[tactic(auto, using(imap_values::proofs::SpanLemmas::spans))]
 fn status_word_len(bytes: &[u8]) -> usize
     ensures count { result ≡ spans.span classes.is_status_word bytes.now }
     ensures most { result ≤ length bytes.now }

@@ -2,18 +2,18 @@
 ghost use Rattle.std.specs.Prelude.{◌≡◌, ◌+◌, ◌∷◌, [], IfOk, map, take, drop, Some};
 ghost use Rattle.imap_automaton.specs.ItemRules.{item_start};
 ghost use Rattle.imap_syntax.specs.Items.{no_items, header_limit, body_limit};
-ghost use Rattle.imap_grammar.specs.reading.Spans as spans;
+ghost use Rattle.imap_values.specs.reading.Spans as spans;
 ghost use Rattle.imap_syntax.specs.Octets as classes;
 ghost use Rattle.imap_grammar.specs.reading.ItemReading as reading;
 ghost use Rattle.imap_grammar.specs.reading.Passing as passing;
 
-use crate::date_times::date_in;
-use crate::flags::flags_in;
-use crate::octets::{before, behind, digits_len, is_key, long_of, lower, number_of, octet_at};
-use crate::strings::{atom_in, atom_len, literal_in, unquoted};
 use gate_world::{Bytes, Names};
 use imap_automaton::{Key, Place, Sym};
 use imap_syntax::FetchItems;
+use imap_values::{
+    atom_in, atom_len, before, behind, date_in, digits_len, flags_in, is_key, literal_in, long_of,
+    lower, number_of, octet_at, unquoted,
+};
 use pushdown::{Stack, advance, marked_by, skip_inside};
 use std::alloc::{AllocError, Global};
 
@@ -91,7 +91,7 @@ fn with_body(items: FetchItems, body: Bytes) -> FetchItems
 
 /// The first n octets of the string at the front, none for NIL, and what follows the string:
 /// "NIL" / quoted / ["~"] literal.
-#[tactic(auto, unfolding(crate::specs::reading::ItemReading::nstring_in, crate::specs::reading::StringReading::astring_in))]
+#[tactic(auto, unfolding(crate::specs::reading::ItemReading::nstring_in, imap_values::specs::reading::StringReading::astring_in))]
 fn nstring_in(alloc: Global, bytes: &[u8], most: usize) -> Result<(Bytes, &[u8]), AllocError>
     ensures string { IfOk result (λ r. r.0 ≡ take most (reading.nstring_in bytes.now).0) }
     ensures rest { IfOk result (λ r. r.1.now ≡ (reading.nstring_in bytes.now).1) }

@@ -4,7 +4,7 @@ use Rattle.std.specs.List.{list_all}
 use Rattle.std.proofs.lemmas.List.{take_all, take_more}
 use Rattle.std.proofs.lemmas.Bool.{cond-true}
 use Rattle.text_words.specs.Octets.{is_white}
-use Rattle.mail_header.specs.Names.{without_white_end}
+use Rattle.mail_header.specs.WhiteEnd.{without_white_end}
 
 all_last : (p : ℕ → Bool) (x : List ℕ) (c : ℕ) → list_all p (x ++ c ∷ []) ≡ (list_all p x && p c)
 all_last p [] c = by (p c)

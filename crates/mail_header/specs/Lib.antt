@@ -1,12 +1,6 @@
 pub mod Lines
+pub mod WhiteEnd
 pub mod Fields
 pub mod RawForms
 pub mod Bracketed
-pub mod Tokens
-pub mod TokenView
-pub mod Lexemes
-pub mod Dates
-pub mod Mailboxes
-pub mod AddressLists
-pub mod Names
 pub mod reading

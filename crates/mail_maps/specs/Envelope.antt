@@ -3,11 +3,11 @@ use Rattle.std.specs.Prelude.{◌≡◌, ℕ, ℤ, List, [], ◌∷◌, ◌++◌
 use Rattle.std.specs.Option.{option_map, unwrap_or}
 use Rattle.mail_header.specs.Fields.{NameAndRaw, IsHeader, last_named}
 use Rattle.mail_header.specs.RawForms.{IsTextForm}
-use Rattle.mail_header.specs.Names.{IsAddressesForm}
+use Rattle.header_addresses.specs.Names.{IsAddressesForm}
 use Rattle.mail_header.specs.Bracketed.{IsNamesForm}
-use Rattle.mail_header.specs.Dates.{IsDateForm}
-use Rattle.mail_header.specs.declared.address.Address.{Address}
-use Rattle.mail_header.specs.declared.date.Moment.{Moment}
+use Rattle.header_dates.specs.Dates.{IsDateForm}
+use Rattle.header_addresses.specs.declared.address.Address.{Address}
+use Rattle.header_dates.specs.declared.date.Moment.{Moment}
 use Rattle.thread_rule.specs.BaseSubject.{IsBaseOf}
 use Rattle.mail_maps.specs.declared.envelope.Envelope.{Envelope}
 use Rattle.mail_maps.specs.declared.envelope.Party.{Party}

@@ -8,9 +8,9 @@ ghost use Rattle.mail_maps.specs.Envelope.{IsEnvelopeOf, IsFieldText, IsFirstOf,
 
 use crate::{Envelope, Party};
 use gate_world::{Bytes, Names};
-use mail_header::{
-    Address, Fields, Moment, as_addresses, as_date, as_message_ids, as_text, fields,
-};
+use header_addresses::{Address, as_addresses};
+use header_dates::{Moment, as_date};
+use mail_header::{Fields, as_message_ids, as_text, fields};
 use std::alloc::{AllocError, Global};
 use thread_rule::base_subject;
 

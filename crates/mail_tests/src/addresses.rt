@@ -1,5 +1,5 @@
 // Addresses and groups.
-use mail_header::{Address, Group, as_addresses, as_groups};
+use header_addresses::{Address, Group, as_addresses, as_groups};
 use std::alloc::{AllocError, Global};
 use std::process::Abort;
 use std::test::Fail;

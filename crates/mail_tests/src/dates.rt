@@ -1,5 +1,5 @@
 // Dates.
-use mail_header::{Moment, as_date};
+use header_dates::{Moment, as_date};
 use std::alloc::Global;
 use std::process::Abort;
 use std::test::Fail;

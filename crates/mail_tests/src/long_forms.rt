@@ -1,6 +1,8 @@
 // Ten million octets through each form of a raw value.
 use crate::long_texts::long;
-use mail_header::{as_addresses, as_date, as_groups, as_message_ids, as_raw, as_text, as_urls};
+use header_addresses::{as_addresses, as_groups};
+use header_dates::as_date;
+use mail_header::{as_message_ids, as_raw, as_text, as_urls};
 use std::alloc::{AllocError, Global};
 use std::test::Fail;
 

@@ -1,5 +1,7 @@
 // Long values of fields.
-use mail_header::{as_addresses, as_date, as_groups, as_message_ids, as_text, fields};
+use header_addresses::{as_addresses, as_groups};
+use header_dates::as_date;
+use mail_header::{as_message_ids, as_text, fields};
 use std::alloc::{AllocError, Global};
 use std::process::Abort;
 use std::test::Fail;

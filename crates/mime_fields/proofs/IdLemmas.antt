@@ -6,13 +6,13 @@ use Rattle.std.proofs.lemmas.List.{append-nil, append_cancel_left, length-append
 use Rattle.text_words.specs.Octets.{is_white}
 use Rattle.text_words.specs.Sequence.{SameStart, IsDetermined}
 use Rattle.text_words.proofs.SequenceLemmas.{Behind, begins, one_more, all_done, one_reading, determined}
-use Rattle.mail_header.specs.declared.token.Alphabet.TheVariants as alphabet
-use Rattle.mail_header.specs.declared.token.Kind.{Kind}
-use Rattle.mail_header.specs.declared.token.Kind.TheVariants as kind
+use Rattle.header_tokens.specs.declared.token.Alphabet.TheVariants as alphabet
+use Rattle.header_tokens.specs.declared.token.Kind.{Kind}
+use Rattle.header_tokens.specs.declared.token.Kind.TheVariants as kind
 use Rattle.mail_header.specs.Lines.{unfolded}
-use Rattle.mail_header.specs.Tokens.{IsComment, IsQuoted, IsToken}
-use Rattle.mail_header.specs.reading.TokenReading.{spelled_in}
-use Rattle.mail_header.proofs.OneToken.{token_reader}
+use Rattle.header_tokens.specs.Tokens.{IsComment, IsQuoted, IsToken}
+use Rattle.header_tokens.specs.reading.TokenReading.{spelled_in}
+use Rattle.header_tokens.proofs.OneToken.{token_reader}
 use Rattle.mime_fields.specs.ContentIds.{is_visible_octet, is_opener, IsUnclosed, IsUnit, White, Comment, Quoted, Octet, Unclosed, IsWithoutGaps}
 use Rattle.mime_fields.specs.reading.IdUnits.{BeginsWithOpener, TakesUnit}
 

@@ -2,11 +2,11 @@
 use Rattle.std.proofs.Common.{◌≡◌, ℕ, List, Option, ap, ◌∙◌, subst}
 use Rattle.std.specs.Prelude.{codes}
 use Rattle.std.specs.Option.{option_map, option_or}
-use Rattle.mail_header.specs.declared.token.Alphabet.TheVariants as alphabet
+use Rattle.header_tokens.specs.declared.token.Alphabet.TheVariants as alphabet
 use Rattle.mail_header.specs.Fields.{NameAndRaw, last_named}
-use Rattle.mail_header.specs.Lexemes.{AreLeadingLexemes}
+use Rattle.header_tokens.specs.Lexemes.{AreLeadingLexemes}
 use Rattle.mail_header.specs.RawForms.{raw_form}
-use Rattle.mail_header.proofs.LexemeLemmas.{lexemes_are}
+use Rattle.header_tokens.proofs.LexemeLemmas.{lexemes_are}
 use Rattle.mime_fields.specs.declared.content_type.ContentType.{ContentType}
 use Rattle.mime_fields.specs.declared.disposition.Disposition.{Disposition}
 use Rattle.mime_fields.specs.ContentTypes.{IsContentType}

@@ -4,12 +4,12 @@ use Rattle.std.specs.Prelude.{codes}
 use Rattle.std.specs.Option.{option_map}
 use Rattle.std.proofs.lemmas.List.{append_cancel_right}
 use Rattle.header_words.proofs.WordLemmas.{one_text}
-use Rattle.mail_header.specs.declared.token.Alphabet.TheVariants as alphabet
+use Rattle.header_tokens.specs.declared.token.Alphabet.TheVariants as alphabet
 use Rattle.mail_header.specs.Fields.{NameAndRaw, last_named}
-use Rattle.mail_header.specs.Names.{some_text}
+use Rattle.mail_header.specs.WhiteEnd.{some_text}
 use Rattle.mail_header.specs.RawForms.{raw_form}
-use Rattle.mail_header.specs.Tokens.{Spelled}
-use Rattle.mail_header.proofs.LeadingLemmas.{one_leading_lexemes}
+use Rattle.header_tokens.specs.Tokens.{Spelled}
+use Rattle.header_tokens.proofs.LeadingLemmas.{one_leading_lexemes}
 use Rattle.mime_fields.specs.declared.header.PartHeader.{PartHeader}
 use Rattle.mime_fields.proofs.IdLemmas.{one_kept}
 use Rattle.mime_fields.specs.ContentIds.{IsWithoutAngles, InAngles, Bare}

@@ -4,9 +4,9 @@ use Rattle.std.specs.List.{filter, flat_map}
 use Rattle.text_words.specs.Octets.{is_white}
 use Rattle.text_words.specs.Sequence.{Sequence}
 use Rattle.mail_header.specs.Lines.{unfolded}
-use Rattle.mail_header.specs.Names.{some_text}
+use Rattle.mail_header.specs.WhiteEnd.{some_text}
 use Rattle.mail_header.specs.RawForms.{raw_form}
-use Rattle.mail_header.specs.Tokens.{IsComment, IsQuoted}
+use Rattle.header_tokens.specs.Tokens.{IsComment, IsQuoted}
 
 abbrev pub is_visible_octet : ℕ → Bool
 is_visible_octet c = not (is_white c)

@@ -3,8 +3,8 @@ use Rattle.std.specs.Prelude.{◌≡◌, ℕ, Bool, ◌&&◌, if◌then◌else�
 use Rattle.std.specs.Char.{to_ascii_lowercase}
 use Rattle.std.specs.Option.{option_map}
 use Rattle.mail_header.specs.RawForms.{raw_form}
-use Rattle.mail_header.specs.Tokens.{Spelled}
-use Rattle.mail_header.specs.Mailboxes.{has_mark}
+use Rattle.header_tokens.specs.Tokens.{Spelled}
+use Rattle.header_tokens.specs.Kinds.{has_mark}
 use Rattle.mime_fields.specs.Parameters.{is_token, parameter}
 use Rattle.mime_fields.specs.declared.content_type.ContentType.{ContentType}
 

@@ -3,7 +3,7 @@ use Rattle.std.specs.Prelude.{◌≡◌, ℕ, false, if◌then◌else◌, List, 
 use Rattle.std.specs.Option.{option_and_then}
 use Rattle.header_words.specs.EncodedWords.{IsText}
 use Rattle.mail_header.specs.RawForms.{raw_form}
-use Rattle.mail_header.specs.Tokens.{Spelled}
+use Rattle.header_tokens.specs.Tokens.{Spelled}
 use Rattle.mime_fields.specs.ContentTypes.{lower}
 use Rattle.mime_fields.specs.ExtendedValues.{extended_text}
 use Rattle.mime_fields.specs.Parameters.{is_token, parameter}

@@ -4,9 +4,9 @@ use Rattle.std.specs.List.{list_all}
 use Rattle.std.specs.Option.{option_map}
 use Rattle.text_words.specs.Octets.{is_same_text}
 use Rattle.header_words.specs.Charsets.{is_ascii}
-use Rattle.mail_header.specs.Tokens.{Spelled}
-use Rattle.mail_header.specs.Mailboxes.{has_mark, is_atom, is_word}
-use Rattle.mail_header.specs.Names.{word_text}
+use Rattle.header_tokens.specs.Tokens.{Spelled}
+use Rattle.header_tokens.specs.Kinds.{has_mark, is_atom, is_word}
+use Rattle.header_tokens.specs.Words.{word_text}
 
 -- token: octets of US-ASCII that are no specials
 abbrev pub is_token : Spelled → Bool

@@ -3,12 +3,12 @@ use Rattle.std.specs.Prelude.{◌≡◌, ℕ, List, [], Option, Some, None, unwr
 use Rattle.std.specs.Option.{option_map, option_or, option_and_then}
 use Rattle.text_words.specs.Cuts.{back}
 use Rattle.text_words.specs.Octets.{is_white}
-use Rattle.mail_header.specs.declared.token.Alphabet.TheVariants as alphabet
+use Rattle.header_tokens.specs.declared.token.Alphabet.TheVariants as alphabet
 use Rattle.mail_header.specs.Fields.{NameAndRaw, last_named}
-use Rattle.mail_header.specs.Lexemes.{AreLeadingLexemes}
-use Rattle.mail_header.specs.Names.{without_white_end}
+use Rattle.header_tokens.specs.Lexemes.{AreLeadingLexemes}
+use Rattle.mail_header.specs.WhiteEnd.{without_white_end}
 use Rattle.mail_header.specs.RawForms.{raw_form, IsTextForm}
-use Rattle.mail_header.specs.Tokens.{Spelled}
+use Rattle.header_tokens.specs.Tokens.{Spelled}
 use Rattle.mime_fields.specs.ContentIds.{IsContentId}
 use Rattle.mime_fields.specs.ContentTypes.{media_in, behind_media}
 use Rattle.mime_fields.specs.Dispositions.{token_in, behind_token, IsFileName}

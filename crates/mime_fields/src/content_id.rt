@@ -1,14 +1,14 @@
 // Content-ID.
 ghost use Rattle.std.specs.Prelude.{◌≡◌, ◌≢◌, ◌<◌, ℕ, length, List, [], ◌∷◌, ◌++◌, IfOk, OnOk, MatchOption};
 ghost use Rattle.std.specs.List.{filter};
-ghost use Rattle.mail_header.specs.Names.{some_text};
+ghost use Rattle.mail_header.specs.WhiteEnd.{some_text};
 ghost use Rattle.mime_fields.specs.ContentIds as ids;
 ghost use Rattle.mime_fields.specs.reading.IdUnits as reading;
 
 use gate_world::Bytes;
+use header_tokens::tokens::{comment_at, quoted_at};
 use mail_header::as_raw;
 use mail_header::raw_forms::unfold;
-use mail_header::tokens::{comment_at, quoted_at};
 use std::alloc::{AllocError, Global};
 use text_words::{behind, first, is_white};
 

@@ -2,15 +2,15 @@
 ghost use Rattle.std.specs.Prelude.{◌≡◌, [], ◌++◌, ◌∷◌, None, Some, IfOk, MatchOption, codes};
 ghost use Rattle.std.specs.Option.{option_map};
 ghost use Rattle.mail_header.specs.RawForms.{raw_form};
-ghost use Rattle.mail_header.specs.TokenView.{token_view};
+ghost use Rattle.header_tokens.specs.TokenView.{token_view};
 ghost use Rattle.mime_fields.specs.ContentTypes as types;
 ghost use Rattle.mime_fields.specs.Parameters as parameters;
 ghost use Rattle.mime_fields.specs.reading.MimeLexemes.{mime_lexemes};
 
 use crate::parameters::{is_token, mime_lexeme, parameter};
 use gate_world::Bytes;
-use mail_header::token::Token;
-use mail_header::{as_raw, has_mark};
+use header_tokens::{Token, has_mark};
+use mail_header::as_raw;
 use std::alloc::{AllocError, Global};
 
 /// What Content-Type says.

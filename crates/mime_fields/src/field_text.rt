@@ -6,7 +6,7 @@ ghost use Rattle.mail_header.specs.RawForms.{raw_form};
 ghost use Rattle.mime_fields.specs.PartHeaders as headers;
 
 use gate_world::Bytes;
-use mail_header::names::without_white_end;
+use mail_header::white_end::without_white_end;
 use mail_header::{Fields, as_raw, as_text};
 use std::alloc::{AllocError, Global};
 use text_words::{White, cut};

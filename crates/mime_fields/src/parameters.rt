@@ -1,15 +1,12 @@
 // Tokens and parameters, read one after another.
 ghost use Rattle.std.specs.Prelude.{◌≡◌, ◌<◌, [], ◌∷◌, None, Some, length, IfOk, IfSome, MatchOption};
 ghost use Rattle.header_words.specs.Charsets.{is_ascii};
-ghost use Rattle.mail_header.specs.TokenView.{token_view};
+ghost use Rattle.header_tokens.specs.TokenView.{token_view};
 ghost use Rattle.mime_fields.specs.Parameters as parameters;
 ghost use Rattle.mime_fields.specs.reading.MimeLexemes.{mime_lexemes};
 
 use gate_world::Bytes;
-use mail_header::lexemes::next_lexeme;
-use mail_header::names::word_text;
-use mail_header::token::{Alphabet, Token};
-use mail_header::{has_mark, is_atom, is_word};
+use header_tokens::{Alphabet, Token, has_mark, is_atom, is_word, next_lexeme, word_text};
 use std::alloc::{AllocError, Global};
 use text_words::{Class, are_all, same_text};
 

@@ -1,6 +1,6 @@
 -- What a Mailbox/get answers has integers alone.
 use Rattle.std.proofs.Common.{◌≡◌, ℕ, List, [], ◌∷◌, map, Bool, true, false, ◌||◌, if◌then◌else◌, nat_lt, length, Option, Some, None, option_map, Result, Ok, Err, Ordering, Less}
-use Rattle.std.proofs.Common.{Equal, Greater, nat_cmp, refl, ap, ◌∙◌, codes}
+use Rattle.std.proofs.Common.{Equal, Greater, nat_cmp, refl, codes}
 use Rattle.std.specs.Cmp.Lexicographic.{slice_cmp}
 use Rattle.std.specs.Ordering.{match_ordering}
 use Rattle.std.specs.List.{filter, filter_map, cons_option}

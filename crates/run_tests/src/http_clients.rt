@@ -1,6 +1,7 @@
 // Clients over HTTP.
 use crate::whole_runs::{CONNECTED, DONE, LISTED, SELECTED, follow, joined};
-use gate_world::{Bytes, Script};
+use gate_world::Bytes;
+use scripted_world::Script;
 use std::alloc::{AllocError, Global};
 use std::process::Abort;
 use std::test::Fail;

@@ -1,8 +1,9 @@
 // Runs that show a message.
 use crate::whole_runs::{FRONT_FAILED, PIECES, Seen, follow, joined, script_of, words_of};
 use email_get::email_object;
-use gate_world::{Bytes, Event, Listed, Script, ScriptWorld, Watcher};
+use gate_world::{Bytes, Event, Listed, Watcher};
 use gateway::run;
+use scripted_world::{Script, ScriptWorld};
 use std::alloc::{AllocError, Global};
 use std::process::Abort;
 use std::test::Fail;

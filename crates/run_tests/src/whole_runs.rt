@@ -1,7 +1,8 @@
 // Whole runs over a world that follows a script.
-use gate_world::{Bytes, Event, Script, ScriptWorld, Text, Watcher};
 use gate_serving::{Door, Gate, Served};
+use gate_world::{Bytes, Event, Text, Watcher};
 use gateway::{Place, run};
+use scripted_world::{Script, ScriptWorld};
 use std::alloc::{AllocError, Global};
 use std::process::Abort;
 use std::test::Fail;

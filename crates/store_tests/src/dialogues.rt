@@ -1,6 +1,7 @@
 // Exchanges made from octets.
 use gate_world::{Bytes, Listed};
-use imap_grammar::{Command, Response, Scan, decode, scan};
+use imap_commands::Command;
+use imap_grammar::{Response, Scan, decode, scan};
 use std::alloc::{AllocError, Global};
 use told_mail::Exchange;
 

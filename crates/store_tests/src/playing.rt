@@ -1,7 +1,8 @@
 // Link lives played over a world that follows a script.
 use crate::showing::shown;
-use gate_world::{Bytes, Event, Script, ScriptWorld};
+use gate_world::{Bytes, Event};
 use imap_client::{Client, LinkEnd};
+use scripted_world::{Script, ScriptWorld};
 use std::alloc::Global;
 use std::test::Fail;
 use told_mail::Mirror;

@@ -1,5 +1,6 @@
 // The calls of a world that follows a script.
-use gate_world::{Chance, Console, Front, Link, Script, ScriptWorld, Secrets};
+use gate_world::{Chance, Console, Front, Link, Secrets};
+use scripted_world::{Script, ScriptWorld};
 use std::alloc::{AllocError, Global};
 use std::test::Fail;
 

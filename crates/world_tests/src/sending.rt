@@ -1,5 +1,6 @@
 // Texts that are sent and written over a world that fails at a call.
-use gate_world::{Bytes, Event, Link, Script, ScriptWorld, send_all, write_all};
+use gate_world::{Bytes, Event, Link, send_all, write_all};
+use scripted_world::{Script, ScriptWorld};
 use std::alloc::{AllocError, Global};
 use std::test::Fail;
 

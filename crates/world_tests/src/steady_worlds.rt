@@ -1,5 +1,6 @@
 // The calls of a world in which no call fails: the arms for a failure are proved to be out of reach.
-use gate_world::{Chance, Console, Front, Link, Script, Secrets, SteadyWorld};
+use gate_world::{Chance, Console, Front, Link, Secrets};
+use scripted_world::{Script, SteadyWorld};
 use std::alloc::{AllocError, Global};
 use std::test::Fail;
 

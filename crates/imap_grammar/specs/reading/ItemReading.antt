@@ -4,9 +4,9 @@ use Rattle.imap_automaton.specs.ItemRules.{item_start}
 use Rattle.imap_syntax.specs.declared.response.FetchItems.{FetchItems}
 use Rattle.imap_syntax.specs.Octets.{is_digit, is_atom, lower}
 use Rattle.imap_syntax.specs.Items.{header_limit, body_limit}
-use Rattle.imap_grammar.specs.reading.Spans.{span, number_in, long_in, flags_in}
-use Rattle.imap_grammar.specs.reading.StringReading.{astring_in}
-use Rattle.imap_grammar.specs.reading.DateReading.{date_in}
+use Rattle.imap_values.specs.reading.Spans.{span, number_in, long_in, flags_in}
+use Rattle.imap_values.specs.reading.StringReading.{astring_in}
+use Rattle.imap_values.specs.reading.DateReading.{date_in}
 use Rattle.imap_grammar.specs.reading.Passing.{passed}
 
 -- NIL, or the string at the front, and what follows it

@@ -1,55 +1,19 @@
 -- How a spelling is read back: each function takes the octets from its place on. That it gives the spelled value is a
 -- law of this crate.
-use Rattle.std.specs.Prelude.{ℕ, zero, suc, ◌+◌, Bool, true, false, ◌&&◌, nat_lt, nat_le, ◌==◌, if◌then◌else◌, List, [], ◌∷◌, length, map, take, drop, get_or}
+use Rattle.std.specs.Prelude.{ℕ, ◌+◌, ◌&&◌, ◌==◌, if◌then◌else◌, List, length, map, take, drop, get_or}
 use Rattle.std.specs.Prelude.{codes, bytes_eq, Option, Some, None, unwrap_or}
-unfoldable pub use Rattle.imap_grammar.specs.reading.Spans.{span, in_name, cap, count_from, number_from, long_in, number_in, names_in, flags_in}
+unfoldable pub use Rattle.imap_values.specs.reading.Spans.{span, in_name, cap, count_from, number_from, long_in, number_in, names_in, flags_in, all_digits, is_sequence}
+unfoldable pub use Rattle.imap_values.specs.reading.SetReading.{words_in, range_in, ranges_read, vanished_in}
 use Rattle.imap_grammar.specs.reading.FolderReading.{list_in, status_in}
 use Rattle.imap_syntax.specs.declared.response.Status.{Status}
 use Rattle.imap_syntax.specs.declared.response.Status.TheVariants as status
 use Rattle.imap_syntax.specs.declared.response.Response.{Response}
-use Rattle.imap_syntax.specs.declared.response.Response.TheVariants.{Tagged, Untagged, Continue, Capability, Enabled, Flags, Exists, Expunge, Fetch, Vanished}
+use Rattle.imap_syntax.specs.declared.response.Response.TheVariants.{Tagged, Untagged, Continue, Capability, Enabled, Flags, Exists, Expunge, Fetch}
 use Rattle.imap_syntax.specs.declared.response.Response.TheVariants.{Other}
-use Rattle.imap_syntax.specs.declared.uid_set.UidRange.{UidRange}
-use Rattle.imap_syntax.specs.Octets.{is_digit, is_word, lower}
-use Rattle.imap_syntax.specs.UidSets.{range_of}
+use Rattle.imap_syntax.specs.Octets.{is_word, lower}
 use Rattle.imap_syntax.specs.Items.{no_items}
 use Rattle.imap_syntax.specs.ReadCodes.{code_in}
 unfoldable pub use Rattle.imap_grammar.specs.reading.ItemReading.{value_in, item_in, items_in}
-
--- ---- words
-
--- at most n words, each after a space
-unfoldable pub words_in : ℕ → List ℕ → List (List ℕ)
-words_in zero b = []
-words_in (suc most) b =
-    if get_or b 0 0 == 32
-    then (let w = drop 1 b in take (span is_word w) w ∷ words_in most (drop (span is_word w) w)) else []
-
--- ---- sets of UIDs
-
--- a range, and what follows it
-unfoldable pub range_in : List ℕ → UidRange × List ℕ
-range_in b =
-    let n = span is_digit b in
-    let first = number_in (take n b) in
-    let after = drop n b in
-    if get_or after 0 0 == 58
-    then (let second = drop 1 after in (range_of first (number_in (take (span is_digit second) second)), drop (span is_digit second) second))
-    else (range_of first first, after)
-
--- at most n ranges, each but the first after a comma
-unfoldable pub ranges_read : ℕ → List ℕ → List UidRange
-ranges_read zero b = []
-ranges_read (suc most) b =
-    let r = range_in b in
-    r.0 ∷ (if get_or r.1 0 0 == 44 then ranges_read most (drop 1 r.1) else [])
-
--- after the space after VANISHED
-unfoldable pub vanished_in : List ℕ → Response
-vanished_in b =
-    if get_or b 0 0 == 40
-    then Vanished true (record { ranges = ranges_read (length b) (drop 10 b) })
-    else Vanished false (record { ranges = ranges_read (length b) b })
 
 -- ---- lines
 
@@ -64,13 +28,6 @@ status_named w =
 -- the first word, in lower case
 unfoldable pub word_in : List ℕ → List ℕ
 word_in b = map lower (take (span is_word b) b)
-
-unfoldable pub all_digits : List ℕ → Bool
-all_digits [] = true
-all_digits (c ∷ t) = is_digit c && all_digits t
-
-unfoldable pub is_sequence : List ℕ → Bool
-is_sequence w = nat_lt 0 (length w) && nat_le (length w) 10 && all_digits w && nat_le (number_from 0 w) 4294967295
 
 unfoldable pub numbered_in : ℕ → List ℕ → Response
 numbered_in seq b =

@@ -1,6 +1,5 @@
-use Rattle.std.proofs.Common.{◌≡◌, ◌+◌, ◌*◌, ℕ, Result, Ok, Err, List, ◌∷◌, [], ◌++◌, length, refl, sym, ap, ◌∙◌, true≢false, arith}
+use Rattle.std.proofs.Common.{◌≡◌, ◌+◌, ◌*◌, Result, Ok, Err, ◌++◌, length, sym, ap, ◌∙◌, true≢false, arith}
 use Rattle.std.specs.Result.{IsOk, OnOk}
-use Rattle.sha2.specs.Sha256.{sha256}
 use Rattle.sha2.proofs.Facts256.{length-sha256}
 use Rattle.hex.specs.Hex.{encode_lower}
 use Rattle.blob_store.specs.Uploads.{blob_id}

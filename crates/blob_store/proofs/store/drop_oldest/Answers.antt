@@ -1,4 +1,4 @@
-use Rattle.std.proofs.Common.{◌≡◌, ℕ, ◌<◌, List, [], ◌∷◌, length, refl, sym, ap, subst, ◌∙◌, arith}
+use Rattle.std.proofs.Common.{◌≡◌, ℕ, ◌<◌, List, [], ◌∷◌, length, refl, sym, ap, subst, arith}
 use Rattle.blob_store.specs.Uploads.{octets_in_all}
 use Rattle.blob_store.proofs.NewestLemmas.{HaveGone, one_gone}
 use Rattle.blob_store.proofs.store.drop_oldest.Goals as goal

@@ -1,7 +1,7 @@
 use Rattle.std.proofs.Common.{◌≡◌, ◌∙◌, ap, arith, pos, ◌+ℤ◌, ◌-ℤ◌, ◌*ℤ◌, ◌++◌, FitsSigned, w32, to_z, of_z}
 use Rattle.std.proofs.lemmas.Int.{to_z-of_z}
 use Rattle.jiff_core.proofs.SignedLemmas.{signed_arith}
-use Rattle.mail_header.specs.Dates as dates
+use Rattle.header_dates.specs.Dates as dates
 use Rattle.email_get.specs.MomentText.{local_text}
 use Rattle.email_get.proofs.MomentLemmas.{is_moment}
 use Rattle.email_get.proofs.moment_text.moment_text.Goals as goal

@@ -1,10 +1,10 @@
 use Rattle.std.proofs.Common.{◌∙◌, ◌++◌, List, ap, map, sym, append-nil}
 use Rattle.serde_json.specs.View.{view}
-use Rattle.mail_header.specs.declared.token.Alphabet.TheVariants as alphabet
-use Rattle.mail_header.specs.TokenView.{token_view}
-use Rattle.mail_header.specs.Tokens.{Spelled}
-use Rattle.mail_header.specs.reading.LexemeReading.{lexemes_in}
-use Rattle.mail_header.proofs.LexemeLemmas.{next_in, none_in}
+use Rattle.header_tokens.specs.declared.token.Alphabet.TheVariants as alphabet
+use Rattle.header_tokens.specs.TokenView.{token_view}
+use Rattle.header_tokens.specs.Tokens.{Spelled}
+use Rattle.header_tokens.specs.reading.LexemeReading.{lexemes_in}
+use Rattle.header_tokens.proofs.LexemeLemmas.{next_in, none_in}
 use Rattle.email_get.specs.PartObjects.{tags}
 use Rattle.email_get.specs.Texts.{text_data}
 use Rattle.email_get.proofs.TagLemmas.{tag_more}

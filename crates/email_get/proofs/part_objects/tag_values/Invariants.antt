@@ -1,7 +1,7 @@
 use Rattle.std.proofs.Common.{◌≡◌, ◌++◌, length, map}
 use Rattle.serde_json.specs.View.{view}
-use Rattle.mail_header.specs.declared.token.Alphabet.TheVariants as alphabet
-use Rattle.mail_header.specs.reading.LexemeReading.{lexemes_in}
+use Rattle.header_tokens.specs.declared.token.Alphabet.TheVariants as alphabet
+use Rattle.header_tokens.specs.reading.LexemeReading.{lexemes_in}
 use Rattle.email_get.specs.PartObjects.{tags}
 use Rattle.email_get.specs.Texts.{text_data}
 use Rattle.email_get.proofs.part_objects.tag_values.Given as goal

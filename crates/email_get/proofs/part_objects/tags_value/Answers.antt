@@ -2,9 +2,9 @@ use Rattle.std.proofs.Common.{◌∙◌, ap, List}
 use Rattle.serde_json.specs.Data.{Data, array}
 use Rattle.serde_json.specs.View.{items_of}
 use Rattle.serde_json.proofs.Views.{view-Array}
-use Rattle.mail_header.specs.declared.token.Alphabet.TheVariants as alphabet
-use Rattle.mail_header.specs.reading.LexemeReading.{lexemes_in}
-use Rattle.mail_header.proofs.LexemeLemmas.{lexemes_are}
+use Rattle.header_tokens.specs.declared.token.Alphabet.TheVariants as alphabet
+use Rattle.header_tokens.specs.reading.LexemeReading.{lexemes_in}
+use Rattle.header_tokens.proofs.LexemeLemmas.{lexemes_are}
 use Rattle.email_get.proofs.part_objects.tags_value.Goals as goal
 
 pub returns : goal.returns

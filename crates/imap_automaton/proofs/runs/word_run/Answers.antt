@@ -1,10 +1,10 @@
 use Rattle.std.proofs.Common.{◌≡◌, ℕ, ◌+◌, take, get_or, refl, sym, subst, ◌∙◌, arith}
 use Rattle.std.proofs.lemmas.Bool.{and_parts}
 use Rattle.imap_automaton.specs.declared.sym.Sym.TheVariants as sym
-use Rattle.imap_automaton.specs.Keys.{in_word, goes_on}
+use Rattle.imap_keywords.specs.Keys.{in_word, goes_on}
 use Rattle.imap_automaton.specs.Responses.{responses}
 use Rattle.pushdown.specs.Run.{LeadsTo}
-use Rattle.imap_automaton.proofs.KeyLemmas.{goes_to}
+use Rattle.imap_keywords.proofs.KeyLemmas.{goes_to}
 use Rattle.pushdown.proofs.Leading.{runs_none, runs_more}
 use Rattle.imap_automaton.proofs.RunLemmas.{word_stays}
 use Rattle.imap_automaton.proofs.runs.word_run.Goals as goal

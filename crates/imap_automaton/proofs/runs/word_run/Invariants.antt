@@ -1,6 +1,6 @@
 use Rattle.std.proofs.Common.{◌+◌, ◌≤◌, ◌-◌, length, take}
 use Rattle.imap_automaton.specs.declared.sym.Sym.TheVariants as sym
-use Rattle.imap_automaton.specs.Keys as keywords
+use Rattle.imap_keywords.specs.Keys as keywords
 use Rattle.imap_automaton.specs.Responses.{responses}
 use Rattle.pushdown.specs.Run.{LeadsTo}
 use Rattle.imap_automaton.proofs.runs.word_run.Given as goal

@@ -1,6 +1,6 @@
 use Rattle.std.proofs.Common.{◌≡◌, drop}
 use Rattle.std.specs.Prelude.{take}
-use Rattle.imap_automaton.specs.Keys as keywords
+use Rattle.imap_keywords.specs.Keys as keywords
 use Rattle.imap_automaton.specs.ItemNameRules as names
 use Rattle.imap_automaton.specs.declared.sym.ItemName.TheVariants as name
 use Rattle.imap_automaton.proofs.word_rule.name_of.Given as goal

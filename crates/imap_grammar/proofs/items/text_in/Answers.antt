@@ -4,7 +4,7 @@ use Rattle.std.proofs.lemmas.Bool.{cond-true, cond-false}
 use Rattle.imap_syntax.specs.declared.response.FetchItems.{FetchItems}
 use Rattle.imap_syntax.specs.Octets.{lower}
 use Rattle.imap_syntax.specs.Items.{header_limit, body_limit}
-use Rattle.imap_grammar.specs.reading.Spans.{flags_in}
+use Rattle.imap_values.specs.reading.Spans.{flags_in}
 use Rattle.imap_grammar.specs.reading.ItemReading.{nstring_in, is_header, is_body, text_in}
 use Rattle.imap_grammar.proofs.items.text_in.Goals as goal
 

@@ -1,5 +1,5 @@
 use Rattle.std.proofs.Common.{ℕ, List, sym, ap, ◌∙◌, subst, Option, Some}
-use Rattle.mail_header.specs.declared.address.Address.{Address}
+use Rattle.header_addresses.specs.declared.address.Address.{Address}
 use Rattle.mail_maps.specs.Envelope.{IsFirstOf, first_name, first_mailbox}
 use Rattle.mail_maps.specs.Envelope.IsFirstOf.{First}
 use Rattle.mail_maps.proofs.header.first_in.Goals as goal

@@ -1,9 +1,9 @@
 use Rattle.std.proofs.Common.{◌≡◌, ℕ, List, ◌∷◌, Bor}
-use Rattle.mail_header.specs.declared.token.Alphabet.TheVariants as alphabet
-use Rattle.mail_header.specs.declared.token.Token.{Token}
-use Rattle.mail_header.specs.Lexemes.{IsNextLexeme}
-use Rattle.mail_header.specs.TokenView.{token_view}
-use Rattle.mail_header.proofs.LexemeLemmas.{next_in, none_in, match_map}
+use Rattle.header_tokens.specs.declared.token.Alphabet.TheVariants as alphabet
+use Rattle.header_tokens.specs.declared.token.Token.{Token}
+use Rattle.header_tokens.specs.Lexemes.{IsNextLexeme}
+use Rattle.header_tokens.specs.TokenView.{token_view}
+use Rattle.header_tokens.proofs.LexemeLemmas.{next_in, none_in, match_map}
 use Rattle.mime_fields.specs.reading.MimeLexemes.{mime_lexemes}
 use Rattle.mime_fields.proofs.parameters.mime_lexeme.Goals as goal
 

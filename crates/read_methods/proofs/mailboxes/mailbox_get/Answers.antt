@@ -1,4 +1,4 @@
-use Rattle.std.proofs.Common.{◌≡◌, ◌⊎◌, inl, inr, false, Result, Ok, Err, subst}
+use Rattle.std.proofs.Common.{◌≡◌, false, Result, Ok, Err, subst}
 use Rattle.std.specs.Result.{IfOk}
 use Rattle.serde_json.specs.Data.{Data}
 use Rattle.serde_json.specs.View.{view}

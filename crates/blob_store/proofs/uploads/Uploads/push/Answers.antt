@@ -1,4 +1,4 @@
-use Rattle.std.proofs.Common.{◌≡◌, ◌==◌, ◌+◌, List, ℕ, ◌∷◌, ◌++◌, [], Some, length, refl, sym, ap, subst, ◌∙◌, cond, arith}
+use Rattle.std.proofs.Common.{◌≡◌, ◌==◌, ◌+◌, ◌∷◌, ◌++◌, [], Some, length, sym, ap, subst, ◌∙◌, cond, arith}
 use Rattle.std.specs.Cmp.Lexicographic.{pointwise}
 use Rattle.std.specs.Map.{lookup}
 use Rattle.indexmap.specs.IndexMap.{get}

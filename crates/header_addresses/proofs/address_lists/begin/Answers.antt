@@ -1,0 +1,20 @@
+use Rattle.std.proofs.Common.{Some, [], ◌++◌, append_assoc, ◌∙◌}
+use Rattle.header_addresses.specs.Names.{Named}
+use Rattle.header_addresses.specs.reading.ElementReading.{group_closed, grouped_from}
+use Rattle.header_tokens.specs.TokenView.{tokens_view}
+use Rattle.header_addresses.proofs.GroupLemmas.{closes, no_members}
+use Rattle.header_addresses.proofs.address_lists.begin.Goals as goal
+
+pub returns : goal.returns
+returns c = λ es all b. record {
+  done = b.done ++ group_closed b.phrase b.ms;
+  phrase = Some (tokens_view c.args.phrase.now);
+  ms = [];
+  has = record {
+    groups = closes c.args.builder b.done b.phrase b.ms c.in_ok-groups.groups.items b.has c.in_ok-groups.ensures;
+    name = Named
+        (tokens_view c.args.phrase.now) c.in_ok-name.name c.in_ok-name.ensures;
+    members = no_members c.new.result.items c.new.ensures.items;
+  };
+  all_is = append_assoc b.done (group_closed b.phrase b.ms) (grouped_from (Some (tokens_view c.args.phrase.now)) [] es) ∙ b.all_is;
+}

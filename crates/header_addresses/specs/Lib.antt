@@ -1,0 +1,4 @@
+pub mod Mailboxes
+pub mod AddressLists
+pub mod Names
+pub mod reading

@@ -1,0 +1,4 @@
+-- How the code reads: what proofs, private clauses and the clauses of single steps use.
+pub mod ElementReading
+pub mod ElementView
+pub mod GroupBuilding

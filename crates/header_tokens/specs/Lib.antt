@@ -1,0 +1,6 @@
+pub mod Tokens
+pub mod TokenView
+pub mod Lexemes
+pub mod Kinds
+pub mod Words
+pub mod reading

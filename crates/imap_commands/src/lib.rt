@@ -1,0 +1,7 @@
+//! The texts of commands that are sent to a store.
+#![tactic(auto)]
+
+mod commands;
+
+pub use commands::write_command;
+pub use imap_syntax::Command;

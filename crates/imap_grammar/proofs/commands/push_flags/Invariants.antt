@@ -1,6 +1,0 @@
-use Rattle.std.proofs.Common.{◌≡◌, ◌++◌, drop}
-use Rattle.imap_syntax.specs.Commands as texts
-use Rattle.imap_grammar.proofs.commands.push_flags.Given as goal
-
-abbrev pub invariant-loop-flag : goal.invariant-loop-flag
-invariant-loop-flag l = l.out.items ++ texts.more_flags (drop l.flag-index l.more) ≡ l.fn.out.items ++ texts.flags_inside l.flags

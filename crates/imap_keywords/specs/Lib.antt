@@ -1,0 +1,2 @@
+-- All of it is of the automaton itself: who believes what scanning means (imap_syntax's Spells, imap_grammar's Scan) may skip it.
+pub mod Keys

@@ -1,0 +1,43 @@
+-- Spans, octet by octet.
+use Rattle.std.proofs.Common.{◌≡◌, ℕ, suc, ◌+◌, ◌-◌, ◌*◌, ◌<◌, ◌≤◌, Bool, true, false, List, length, drop, get_or, refl, ◌∙◌, arith}
+use Rattle.std.proofs.lemmas.Bool.{cond-true, cond-false}
+use Rattle.std.proofs.lemmas.List.{drop_all}
+use Rattle.imap_values.specs.reading.Spans.{span, cap, count_from, all_digits}
+use Rattle.imap_syntax.specs.Octets.{is_digit}
+use Rattle.imap_values.proofs.Lengths.{drop_at}
+
+pub span_more : (p : ℕ → Bool) (b : List ℕ) (i : ℕ) → i < length b → p (get_or b i 0) ≡ true → span p (drop i b) ≡ 1 + span p (drop (i + 1) b)
+unfolding span
+span_more p b i lt e = rw (drop_at b i lt) (cond-true (p (get_or b i 0)) (suc (span p (drop (i + 1) b))) 0 e ∙ omega arith)
+
+pub span_stop : (p : ℕ → Bool) (b : List ℕ) (i : ℕ) → i < length b → p (get_or b i 0) ≡ false → span p (drop i b) ≡ 0
+unfolding span
+span_stop p b i lt e = rw (drop_at b i lt) (cond-false (p (get_or b i 0)) (suc (span p (drop (i + 1) b))) 0 e)
+
+pub span_end : (p : ℕ → Bool) (b : List ℕ) (i : ℕ) → length b ≤ i → span p (drop i b) ≡ 0
+unfolding span
+span_end p b i le = rw (drop_all i b le) refl
+
+pub ruleset spans = (span_more, span_stop, span_end)
+
+pub digits_more : (b : List ℕ) (i : ℕ) → i < length b → is_digit (get_or b i 0) ≡ true → all_digits (drop i b) ≡ all_digits (drop (i + 1) b)
+unfolding all_digits
+digits_more b i lt e = rw (drop_at b i lt) (rw e refl)
+
+pub digits_stop : (b : List ℕ) (i : ℕ) → i < length b → is_digit (get_or b i 0) ≡ false → all_digits (drop i b) ≡ false
+unfolding all_digits
+digits_stop b i lt e = rw (drop_at b i lt) (rw e refl)
+
+pub digits_end : (b : List ℕ) (i : ℕ) → length b ≤ i → all_digits (drop i b) ≡ true
+unfolding all_digits
+digits_end b i le = rw (drop_all i b le) refl
+
+pub count_more : (most n : ℕ) (b : List ℕ) (i : ℕ) → i < length b → count_from most n (drop i b) ≡ count_from most (cap most (10 * n + (get_or b i 0 - 48))) (drop (i + 1) b)
+unfolding count_from
+count_more most n b i lt = rw (drop_at b i lt) refl
+
+pub count_end : (most n : ℕ) (b : List ℕ) (i : ℕ) → length b ≤ i → count_from most n (drop i b) ≡ n
+unfolding count_from
+count_end most n b i le = rw (drop_all i b le) refl
+
+pub ruleset runs = (digits_more, digits_stop, digits_end, count_more, count_end)

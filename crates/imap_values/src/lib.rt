@@ -1,0 +1,19 @@
+//! The values of a store's language at the front of octets: words, numbers, strings, flags, dates and sets of UIDs.
+#![tactic(auto)]
+
+mod date_times;
+mod dates;
+mod flags;
+mod octets;
+mod sets;
+mod strings;
+
+pub use date_times::date_in;
+pub use dates::push_date;
+pub use flags::flags_in;
+pub use octets::{
+    before, behind, digits_len, is_decimal, is_key, is_sequence, long_of, lower, name_len,
+    number_of, octet_at, word_len,
+};
+pub use sets::{range_of, vanished_in, words_in};
+pub use strings::{astring_in, atom_in, atom_len, literal_in, unquoted};

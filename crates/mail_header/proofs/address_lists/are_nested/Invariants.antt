@@ -1,7 +1,0 @@
-use Rattle.std.proofs.Common.{◌≡◌, drop, false}
-use Rattle.mail_header.specs.reading.ElementReading.{are_nested}
-use Rattle.mail_header.specs.reading.ElementView.{elements_view}
-use Rattle.mail_header.proofs.address_lists.are_nested.Given as goal
-
-abbrev pub invariant-loop-element : goal.invariant-loop-element
-invariant-loop-element l = are_nested l.inside (elements_view (drop l.element-index l.elements)) ≡ are_nested false (elements_view l.elements)

@@ -1,8 +1,0 @@
-use Rattle.std.proofs.Common.{drop, None, []}
-use Rattle.mail_header.specs.reading.ElementReading.{grouped_from}
-use Rattle.mail_header.specs.reading.GroupBuilding.{Builds}
-use Rattle.mail_header.specs.reading.ElementView.{elements_view}
-use Rattle.mail_header.proofs.address_lists.groups.Given as goal
-
-abbrev pub invariant-loop-element : goal.invariant-loop-element
-invariant-loop-element l = Builds l.builder (elements_view (drop l.element-index l.elements)) (grouped_from None [] (elements_view l.elements))

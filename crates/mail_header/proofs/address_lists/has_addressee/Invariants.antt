@@ -1,8 +1,0 @@
-use Rattle.std.proofs.Common.{◌≡◌, drop}
-use Rattle.std.specs.List.{list_any}
-use Rattle.mail_header.specs.reading.ElementReading.{is_addressee}
-use Rattle.mail_header.specs.reading.ElementView.{elements_view}
-use Rattle.mail_header.proofs.address_lists.has_addressee.Given as goal
-
-abbrev pub invariant-loop-element : goal.invariant-loop-element
-invariant-loop-element l = list_any is_addressee (elements_view (drop l.element-index l.elements)) ≡ list_any is_addressee (elements_view l.elements)

@@ -1,5 +1,0 @@
-use Rattle.mail_header.proofs.AddresseeLemmas as lemmas
-use Rattle.mail_header.proofs.laws.one_address_list.Goals as goal
-
-pub returns : goal.returns
-returns c = λ one other t g h. lemmas.one_list one other t g h

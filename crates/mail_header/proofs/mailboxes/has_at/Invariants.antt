@@ -1,8 +1,0 @@
-use Rattle.std.proofs.Common.{◌≡◌, drop}
-use Rattle.std.specs.List.{list_any}
-use Rattle.mail_header.specs.Mailboxes.{has_mark}
-use Rattle.mail_header.specs.TokenView.{tokens_view}
-use Rattle.mail_header.proofs.mailboxes.has_at.Given as goal
-
-abbrev pub invariant-loop-token : goal.invariant-loop-token
-invariant-loop-token l = list_any (has_mark 64) (tokens_view (drop l.token-index l.tokens)) ≡ list_any (has_mark 64) (tokens_view l.tokens)

@@ -1,7 +1,0 @@
-use Rattle.std.proofs.Common.{◌≡◌, ◌++◌, drop, false}
-use Rattle.mail_header.specs.Names.{phrase_from}
-use Rattle.mail_header.specs.TokenView.{tokens_view}
-use Rattle.mail_header.proofs.names.phrase_text.Given as goal
-
-abbrev pub invariant-loop-word : goal.invariant-loop-word
-invariant-loop-word l = l.text.items ++ phrase_from l.gap (tokens_view (drop l.word-index l.words)) ≡ phrase_from false (tokens_view l.words)

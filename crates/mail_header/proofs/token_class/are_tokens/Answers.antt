@@ -1,7 +1,0 @@
-use Rattle.std.proofs.Common.{◌∙◌}
-use Rattle.mail_header.specs.TokenView.{token_view}
-use Rattle.mail_header.proofs.ClassLemmas.{map_all}
-use Rattle.mail_header.proofs.token_class.are_tokens.Goals as goal
-
-pub returns : goal.returns
-returns g c = c.are_all.ensures.test ∙ map_all token_view g.C.TokenClass.test c.args.tokens.now

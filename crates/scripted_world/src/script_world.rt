@@ -1,0 +1,267 @@
+// A world in memory that follows a script, and fails where the script says so.
+ghost use Rattle.std.specs.Prelude.{◌≡◌, ◌<◌, ◌≤◌, [], Some, None, IfOk, IfSome, IsNone, OnErr, OnOk, length, take, if◌then◌else◌};
+ghost use Rattle.gate_world.specs.Causes.{FrontAlone, LinkAlone, NoFault, Rose, SayAlone};
+ghost use Rattle.gate_world.specs.declared.event.Event.TheVariants.{Accepted, ClientDone, ClientTook, Dialed, FrontFailed, LinkEnded, NoMore, Said, SayFailed, StoreGave, StoreTook, Word};
+ghost use Rattle.gate_world.specs.Read.{given};
+ghost use Rattle.scripted_world.specs.Script.{AcceptPlays, DialPlays, ReadPlays, RecvPlays, SayPlays, SendPlays, WritePlays, begun, counted, drawn, ended, next_word};
+ghost use Rattle.gate_world.specs.Tape.{AddsOne};
+
+use crate::Script;
+use crate::playback::Playback;
+use gate_world::{Chance, Console, Event, Failed, Front, Link, Secrets, Taped, World};
+use std::alloc::Global;
+use std::marker::Model;
+
+/// A world in memory that follows a script: the clauses of each call say what it plays of it.
+#[derive(Drop)]
+pub struct ScriptWorld {
+    playback: Playback,
+    link_faults: u64,
+    front_faults: u64,
+    say_faults: u64,
+}
+
+impl Model for ScriptWorld {
+    ghost use Rattle.scripted_world.specs.Script.{Scripted, secrets};
+
+    ghost Value = { Scripted };
+
+    ghost view = { λ w. record { tape = w.playback.tape; faults = record { link = w.link_faults; keep = 0; front = w.front_faults; say = w.say_faults }; hidden = secrets w.playback.left.script; left = w.playback.left } };
+}
+
+impl ScriptWorld {
+    /// Nothing of the script is played. It takes no memory.
+    pub fn new(alloc: Global, script: Script) -> ScriptWorld
+        ensures { result ≡ begun script }
+    {
+        ScriptWorld {
+            playback: Playback::new(alloc, script),
+            link_faults: 0,
+            front_faults: 0,
+            say_faults: 0,
+        }
+    }
+
+    /// The events so far, where they are told.
+    pub fn events(&self) -> Option<&[Event]>
+        ensures told { IfSome result (λ events. self.now.tape ≡ Some events.now) }
+        ensures stopped { IsNone result → self.now.tape ≡ None }
+    {
+        self.playback.tape.events()
+    }
+}
+
+impl ScriptWorld {
+    // The link life has ended: the fault is counted and told.
+    fn link_fails(&mut self) -> Failed
+        ensures tape { AddsOne self.old.tape self.new.tape LinkEnded }
+        ensures alone { LinkAlone self.old.faults self.new.faults }
+        ensures cause { Rose self.old.faults.link self.new.faults.link }
+        ensures hidden { self.new.hidden ≡ self.old.hidden }
+        ensures left { self.new.left ≡ ended self.old.left }
+    {
+        self.link_faults = self.link_faults.saturating_add(1);
+        self.playback.end_link();
+        Failed
+    }
+
+    // The fault is counted and told.
+    fn front_fails(&mut self) -> Failed
+        ensures tape { AddsOne self.old.tape self.new.tape FrontFailed }
+        ensures alone { FrontAlone self.old.faults self.new.faults }
+        ensures cause { Rose self.old.faults.front self.new.faults.front }
+        ensures hidden { self.new.hidden ≡ self.old.hidden }
+        ensures left { self.new.left ≡ self.old.left }
+    {
+        self.front_faults = self.front_faults.saturating_add(1);
+        self.playback.tape.add(Event::FrontFailed);
+        Failed
+    }
+
+    // The fault is counted and told.
+    fn say_fails(&mut self) -> Failed
+        ensures tape { AddsOne self.old.tape self.new.tape SayFailed }
+        ensures alone { SayAlone self.old.faults self.new.faults }
+        ensures cause { Rose self.old.faults.say self.new.faults.say }
+        ensures hidden { self.new.hidden ≡ self.old.hidden }
+        ensures left { self.new.left ≡ self.old.left }
+    {
+        self.say_faults = self.say_faults.saturating_add(1);
+        self.playback.tape.add(Event::SayFailed);
+        Failed
+    }
+}
+
+impl Taped for ScriptWorld {
+    ghost tape = { λ s. s.tape };
+
+    ghost faults = { λ s. s.faults };
+
+    ghost hidden = { λ s. s.hidden };
+}
+
+impl Link for ScriptWorld {
+    fn dial(&mut self) -> Result<(), Failed>
+        ensures ok { OnOk result (AddsOne self.old.tape self.new.tape Dialed) }
+        ensures err { OnErr result (AddsOne self.old.tape self.new.tape LinkEnded) }
+        ensures alone { LinkAlone self.old.faults self.new.faults }
+        ensures cause { OnErr result (Rose self.old.faults.link self.new.faults.link) }
+        ensures hidden { self.new.hidden ≡ self.old.hidden }
+        ensures plays { DialPlays self.old.left self.new.left result }
+    {
+        if self.playback.left.count_call() {
+            return Err(self.link_fails());
+        }
+        self.playback.dial();
+        Ok(())
+    }
+
+    fn read(&mut self, into: &mut [u8]) -> Result<usize, Failed>
+        requires { 0 < length into.old }
+        ensures bound { IfOk result (λ n. (0 < n) × (n ≤ length into.new)) }
+        ensures ok { IfOk result (λ n. AddsOne self.old.tape self.new.tape (StoreGave (take n into.new))) }
+        ensures err { OnErr result (AddsOne self.old.tape self.new.tape LinkEnded) }
+        ensures alone { LinkAlone self.old.faults self.new.faults }
+        ensures cause { OnErr result (Rose self.old.faults.link self.new.faults.link) }
+        ensures hidden { self.new.hidden ≡ self.old.hidden }
+        ensures plays { ReadPlays into.new self.old.left self.new.left result }
+    {
+        if self.playback.left.count_call() {
+            return Err(self.link_fails());
+        }
+        let count = self.playback.left.read(into);
+        if count == 0 {
+            return Err(self.link_fails());
+        }
+        self.playback.tell_store_gave(&into[..count]);
+        Ok(count)
+    }
+
+    fn write(&mut self, from: &[u8]) -> Result<usize, Failed>
+        requires { 0 < length from.now }
+        ensures bound { IfOk result (λ n. (0 < n) × (n ≤ length from.now)) }
+        ensures ok { IfOk result (λ n. AddsOne self.old.tape self.new.tape (StoreTook (take n from.now))) }
+        ensures err { OnErr result (AddsOne self.old.tape self.new.tape LinkEnded) }
+        ensures alone { LinkAlone self.old.faults self.new.faults }
+        ensures cause { OnErr result (Rose self.old.faults.link self.new.faults.link) }
+        ensures hidden { self.new.hidden ≡ self.old.hidden }
+        ensures plays { WritePlays from.now self.old.left self.new.left result }
+    {
+        if self.playback.left.count_call() {
+            return Err(self.link_fails());
+        }
+        if !self.playback.left.is_linked() {
+            return Err(self.link_fails());
+        }
+        self.playback.write(from);
+        Ok(from.len())
+    }
+
+    fn hang_up(&mut self)
+        ensures tape { AddsOne self.old.tape self.new.tape LinkEnded }
+        ensures cause { NoFault self.old.faults self.new.faults }
+        ensures hidden { self.new.hidden ≡ self.old.hidden }
+        ensures plays { self.new.left ≡ ended self.old.left }
+    {
+        self.playback.end_link();
+    }
+}
+
+impl Front for ScriptWorld {
+    fn accept(&mut self) -> Result<bool, Failed>
+        ensures ok { IfOk result (λ more. AddsOne self.old.tape self.new.tape (if more then Accepted else NoMore)) }
+        ensures err { OnErr result (AddsOne self.old.tape self.new.tape FrontFailed) }
+        ensures alone { FrontAlone self.old.faults self.new.faults }
+        ensures cause { OnErr result (Rose self.old.faults.front self.new.faults.front) }
+        ensures hidden { self.new.hidden ≡ self.old.hidden }
+        ensures plays { AcceptPlays self.old.left self.new.left result }
+    {
+        if self.playback.left.count_call() {
+            return Err(self.front_fails());
+        }
+        Ok(self.playback.accept())
+    }
+
+    fn recv(&mut self, into: &mut [u8]) -> Result<usize, Failed>
+        requires { 0 < length into.old }
+        ensures bound { IfOk result (λ n. n ≤ length into.new) }
+        ensures ok { IfOk result (λ n. AddsOne self.old.tape self.new.tape (given (take n into.new))) }
+        ensures err { OnErr result (AddsOne self.old.tape self.new.tape FrontFailed) }
+        ensures alone { FrontAlone self.old.faults self.new.faults }
+        ensures cause { OnErr result (Rose self.old.faults.front self.new.faults.front) }
+        ensures hidden { self.new.hidden ≡ self.old.hidden }
+        ensures plays { RecvPlays into.new self.old.left self.new.left result }
+    {
+        if self.playback.left.count_call() {
+            return Err(self.front_fails());
+        }
+        Ok(self.playback.recv(into))
+    }
+
+    fn send(&mut self, from: &[u8]) -> Result<usize, Failed>
+        requires { 0 < length from.now }
+        ensures bound { IfOk result (λ n. (0 < n) × (n ≤ length from.now)) }
+        ensures ok { IfOk result (λ n. AddsOne self.old.tape self.new.tape (ClientTook (take n from.now))) }
+        ensures err { OnErr result (AddsOne self.old.tape self.new.tape FrontFailed) }
+        ensures alone { FrontAlone self.old.faults self.new.faults }
+        ensures cause { OnErr result (Rose self.old.faults.front self.new.faults.front) }
+        ensures hidden { self.new.hidden ≡ self.old.hidden }
+        ensures plays { SendPlays from.now self.old.left self.new.left result }
+    {
+        if self.playback.left.count_call() {
+            return Err(self.front_fails());
+        }
+        self.playback.send(from);
+        Ok(from.len())
+    }
+
+    fn finish(&mut self)
+        ensures tape { AddsOne self.old.tape self.new.tape ClientDone }
+        ensures cause { NoFault self.old.faults self.new.faults }
+        ensures hidden { self.new.hidden ≡ self.old.hidden }
+        ensures plays { self.new.left ≡ self.old.left }
+    {
+        self.playback.finish();
+    }
+}
+
+impl Chance for ScriptWorld {
+    fn word(&mut self) -> u64
+        ensures tape { AddsOne self.old.tape self.new.tape (Word result) }
+        ensures cause { NoFault self.old.faults self.new.faults }
+        ensures hidden { self.new.hidden ≡ self.old.hidden }
+        ensures word { result ≡ next_word self.old.left.script.words }
+        ensures plays { self.new.left ≡ drawn self.old.left }
+    {
+        self.playback.word()
+    }
+}
+
+impl Console for ScriptWorld {
+    fn say(&mut self, text: &[u8]) -> Result<(), Failed>
+        ensures ok { OnOk result (AddsOne self.old.tape self.new.tape (Said text.now)) }
+        ensures err { OnErr result (AddsOne self.old.tape self.new.tape SayFailed) }
+        ensures alone { SayAlone self.old.faults self.new.faults }
+        ensures cause { OnErr result (Rose self.old.faults.say self.new.faults.say) }
+        ensures hidden { self.new.hidden ≡ self.old.hidden }
+        ensures plays { SayPlays self.old.left self.new.left result }
+    {
+        if self.playback.left.count_call() {
+            return Err(self.say_fails());
+        }
+        self.playback.say(text);
+        Ok(())
+    }
+}
+
+impl Secrets for ScriptWorld {
+    fn password(&self) -> &[u8] {
+        self.playback.left.script.password.as_slice()
+    }
+
+    fn token(&self) -> &[u8] {
+        self.playback.left.script.token.as_slice()
+    }
+}
+
+impl World for ScriptWorld {}
