@@ -3,7 +3,7 @@ use Rattle.std.proofs.Common.{arith, ◌≡◌, ◌≢◌, ◌⊎◌, ◌++◌, 
 use Rattle.std.specs.Prelude.{IfOk}
 use Rattle.std.specs.declared.alloc.AllocError.{AllocError}
 use Rattle.std.proofs.lemmas.List.{append-nil}
-use Rattle.gate_world.specs.Causes.{Faults, RoseBy, Rose, LinkAlone, FrontAlone, NoFault, Later, no_faults}
+use Rattle.gate_world.specs.Causes.{Faults, Hidden, RoseBy, Rose, LinkAlone, FrontAlone, NoFault, Later, no_faults}
 use Rattle.gate_world.specs.Sending.{Sends}
 use Rattle.gate_world.specs.declared.event.Event.{Event}
 use Rattle.gate_world.specs.declared.event.Event.TheVariants.{Accepted, NoMore, ClientDone, FrontFailed}
@@ -16,6 +16,7 @@ use Rattle.gate_machine.specs.declared.machine.Machine.{Machine}
 use Rattle.gate_machine.specs.declared.standing.Standing.{Standing}
 use Rattle.gate_machine.specs.declared.standing.Standing.TheVariants.{OutOfMemory}
 use Rattle.gate_serving.specs.declared.door.Door.{Door}
+use Rattle.gate_serving.specs.declared.gate.Gate.{Gate}
 use Rattle.gate_serving.specs.declared.response.Response.{Response}
 use Rattle.gate_serving.specs.declared.served.Served.{Served}
 use Rattle.gate_serving.specs.declared.served.Served.TheVariants as served
@@ -27,6 +28,7 @@ use Rattle.gate_serving.specs.Segment.{Replies, Answered, LacksReading, LacksAns
 use Rattle.gate_serving.specs.Run.{StepsTo}
 use Rattle.gate_serving.specs.Work.{NoMail, WithMail, mailing_by}
 use Rattle.gate_serving.specs.reading.Replying.{IsWorked, WorksTo, IsMade, AnswersTo, RepliesToAsking, IsUnread, RepliesBy, SendsReply, Serves}
+use Rattle.gate_serving.specs.Gates.{RestStays, account_by, state_of}
 use Rattle.gate_serving.specs.reading.Texts.{text_sent}
 
 -- ---- counts
@@ -144,28 +146,49 @@ is_made door account given mail asking before after done (Ok response) same stan
     (is ∙ ap (λ (m : Mailing). response_of door account m after.uploads asking) same, stands, kept)
 is_made door account given mail asking before after done (Err e) same stands kept is = tt
 
-pub answers_worked : {user password : List ℕ} {before after : GateState} {was now : Faults} {events : List Event} (token base : List ℕ) (door : Door) (asks : Bool) (asking : Asking)
-    (given : Mailing) (result : Result Response AllocError)
-    → asks_for_mail asking ≡ asks → WorksTo user password asks before.machine after.machine was now (Ok given) events → KeepsUpload asking before.uploads after.uploads
-    → IfOk result (λ r. text_sent r ≡ response_of door (record { user = user; password = password; token = token; base = base }) given after.uploads asking)
-    → AnswersTo door (record { user = user; password = password; token = token; base = base }) asking before after was now result events
-answers_worked {user} {password} {before} {after} token base door asks asking given result asks_is w kept is =
+-- the response that the gate makes, as it stood before
+made_of : (gate before : Gate) (secrets : Hidden) (given : Mailing) (asking : Asking) (result : Result Response AllocError) → RestStays before gate
+    → IfOk result (λ r. (s : Hidden) → text_sent r ≡ response_of gate.door (account_by gate s) given gate.uploads asking)
+    → IfOk result (λ r. text_sent r ≡ response_of before.door (account_by before secrets) given gate.uploads asking)
+made_of gate before secrets given asking (Ok response) rest made =
+    made secrets ∙ (λ i. response_of (rest.door i) (record { user = rest.user i; password = secrets.password; token = secrets.token; base = rest.base i }) given gate.uploads asking)
+made_of gate before secrets given asking (Err e) rest made = tt
+
+-- there was memory for the work
+pub answers_worked : {machine : Machine} {was now : Faults} {events : List Event} (gate before : Gate) (secrets : Hidden) (asks : Bool) (asking : Asking) (given : Mailing)
+    (result : Result Response AllocError)
+    → asks_for_mail asking ≡ asks → WorksTo before.user secrets.password asks before.machine machine was now (Ok given) events → gate.machine ≡ machine
+    → KeepsUpload asking before.uploads gate.uploads → RestStays before gate
+    → IfOk result (λ r. (s : Hidden) → text_sent r ≡ response_of gate.door (account_by gate s) given gate.uploads asking)
+    → AnswersTo before.door (account_by before secrets) asking (state_of before) (state_of gate) was now result events
+answers_worked gate before secrets asks asking given result asks_is w machine_is kept rest made =
     record {
       mail = w.mail;
       done = w.done;
-      work = w.work token base asking asks_is;
-      machine_is = sym w.machine_is;
+      work = w.work secrets.token before.base asking asks_is;
+      machine_is = machine_is ∙ sym w.machine_is;
       bears = w.bears;
       may = inr kept;
-      made = is_made door (record { user = user; password = password; token = token; base = base }) given w.mail asking before after w.done result w.worked.0 w.worked.1 kept is;
+      made = is_made before.door (account_by before secrets) given w.mail asking (state_of before) (state_of gate) w.done result w.worked.0 w.worked.1 kept
+          (made_of gate before secrets given asking result rest made);
     }
 
-pub answers_lacking : {user password : List ℕ} {before after : GateState} {was now : Faults} {events : List Event} (token base : List ℕ) (door : Door) (asks : Bool) (asking : Asking)
-    (e : AllocError) (result : Result Mailing AllocError)
-    → asks_for_mail asking ≡ asks → WorksTo user password asks before.machine after.machine was now result events → after.uploads ≡ before.uploads
-    → AnswersTo door (record { user = user; password = password; token = token; base = base }) asking before after was now (Err e) events
-answers_lacking token base door asks asking e result asks_is w same =
-    record { mail = w.mail; done = w.done; work = w.work token base asking asks_is; machine_is = sym w.machine_is; bears = w.bears; may = inl same; made = tt }
+-- there was none for it, or none to keep an upload
+pub answers_lacking : {machine : Machine} {was now : Faults} {events : List Event} (gate before : Gate) (secrets : Hidden) (asks : Bool) (asking : Asking) (e : AllocError)
+    (result : Result Mailing AllocError)
+    → asks_for_mail asking ≡ asks → WorksTo before.user secrets.password asks before.machine machine was now result events → gate.machine ≡ machine
+    → gate.uploads ≡ before.uploads
+    → AnswersTo before.door (account_by before secrets) asking (state_of before) (state_of gate) was now (Err e) events
+answers_lacking gate before secrets asks asking e result asks_is w machine_is same =
+    record {
+      mail = w.mail;
+      done = w.done;
+      work = w.work secrets.token before.base asking asks_is;
+      machine_is = machine_is ∙ sym w.machine_is;
+      bears = w.bears;
+      may = inl same;
+      made = tt;
+    }
 
 -- ---- the reply to what is asked
 

@@ -2,7 +2,7 @@
 use Rattle.std.proofs.Common.{◌≡◌, refl, ◌∙◌}
 use Rattle.gate_world.specs.Causes.{Hidden}
 use Rattle.gate_serving.specs.declared.gate.Gate.{Gate}
-use Rattle.gate_serving.specs.reading.Gates.{RestStays, account_by}
+use Rattle.gate_serving.specs.Gates.{RestStays, account_by}
 
 pub rest_none : (gate : Gate) → RestStays gate gate
 rest_none gate = record { door = refl; user = refl; base = refl }

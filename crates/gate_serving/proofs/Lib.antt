@@ -1,4 +1,5 @@
 mod Receiving
+mod Asked
 pub mod Answering
 mod Gates
 mod Ids

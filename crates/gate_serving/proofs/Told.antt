@@ -10,10 +10,10 @@ use Rattle.gate_machine.specs.declared.standing.Standing.TheVariants.{OutOfMemor
 use Rattle.gate_serving.specs.declared.door.Door.{Door}
 use Rattle.gate_serving.specs.declared.served.Served.{Served}
 use Rattle.gate_serving.specs.declared.served.Served.TheVariants as served
-use Rattle.gate_serving.specs.Complete.{IsAnsweredFrom, IsReplyObeyed, IsSegmentObeyed, IsTold, NobodyComes, EndsEarly, IsAnswered, LacksMemory, IsRunObeyed, IsRunTold}
+use Rattle.gate_serving.specs.Complete.{IsAnsweredFrom, IsReplyObeyed, IsSegmentObeyed, IsTold, NobodyComes, EndsEarly, IsAnswered, LacksMemory, IsRunTold}
 use Rattle.gate_serving.specs.GateState.{GateState}
 use Rattle.gate_serving.specs.Requests.{Account}
-use Rattle.gate_serving.specs.Run.{sum_of_faults, Run, Begun, Then, run_blamed}
+use Rattle.gate_serving.specs.Run.{Run, Begun, Then}
 use Rattle.gate_serving.specs.Segment.{AnswersAsking, Replies, Answered, LacksReading, LacksAnswering, Segment, NoneComes, NotAccepted, Left, Unasked, Replied}
 use Rattle.gate_serving.specs.Segment.{blame_front, blamed, reply_blamed, unsent, went}
 use Rattle.gate_serving.proofs.Needs.{Law, answered_from}
@@ -86,27 +86,12 @@ told law door account before events how after (Replied a) obeyed none =
 
 -- ---- runs
 
-sum_none : (a b : ℕ) → a + b ≡ 0 → (a ≡ 0) × (b ≡ 0)
-sum_none a b is = (omega (arith, is), omega (arith, is))
-
-both_none : (f g : Faults) → sum_of_faults f g ≡ no_faults → (f ≡ no_faults) × (g ≡ no_faults)
-both_none f g is =
-    let link = sum_none f.link g.link (ap (λ (h : Faults). h.link) is) in
-    let keep = sum_none f.keep g.keep (ap (λ (h : Faults). h.keep) is) in
-    let front = sum_none f.front g.front (ap (λ (h : Faults). h.front) is) in
-    let say = sum_none f.say g.say (ap (λ (h : Faults). h.say) is) in (
-      (λ i. record { link = link.0 i; keep = keep.0 i; front = front.0 i; say = say.0 i }),
-      (λ i. record { link = link.1 i; keep = keep.1 i; front = front.1 i; say = say.1 i }),
-    )
-
 -- what is proved of each client
 abbrev pub ToldLaw : Type 0
 ToldLaw = (door : Door) (account : Account) (before : GateState) (events : List Event) (how : Served) (after : GateState)
     (segment : Segment door account before events how after) → IsSegmentObeyed segment → blamed segment ≡ no_faults → IsTold door account events how after
 
 pub run_told : ToldLaw → {door : Door} {account : Account} {before after : GateState} {events : List Event} {went : List Served} (run : Run door account before events went after)
-    → run_blamed run ≡ no_faults → IsRunObeyed run → IsRunTold run
-run_told law Begun none obeyed = tt
-run_told law {door} {account} (Then {fs = fs} {s = s} {mid = mid} {after = after} run segment) none obeyed =
-    let parts = both_none (run_blamed run) (blamed segment) none in
-    (run_told law run parts.0 obeyed.0, law door account mid fs s after segment obeyed.1 parts.1)
+    → IsRunTold run
+run_told law Begun = tt
+run_told law {door} {account} (Then {fs = fs} {s = s} {mid = mid} {after = after} run segment) = (run_told law run, λ obeyed none. law door account mid fs s after segment obeyed none)

@@ -17,7 +17,7 @@ use Rattle.gate_serving.specs.Calls.{Mailing}
 use Rattle.gate_serving.specs.Counts.{served_mail}
 use Rattle.gate_serving.specs.GateState.{GateState}
 use Rattle.gate_serving.specs.Requests.{Account, Asking, ReadsAsking, asks_for_mail}
-use Rattle.gate_serving.specs.Run.{Run, Begun, Then, run_blamed}
+use Rattle.gate_serving.specs.Run.{Run, Begun, Then}
 use Rattle.gate_serving.specs.Segment.{Replies, Answered, LacksReading, LacksAnswering, Segment, NoneComes, NotAccepted, Left, Unasked, Replied}
 use Rattle.gate_serving.specs.Work.{Work, NoMail, WithMail}
 
@@ -77,19 +77,13 @@ pub data IsTold (door : Door) (account : Account) (events : List Event) (how : S
 
 -- ---- a run
 
--- The store obeyed every request of the run.
-abbrev pub IsRunObeyed : {door : Door} {account : Account} {before after : GateState} {events : List Event} {went : List Served}
-    → Run door account before events went after → Type 0
-IsRunObeyed Begun = Unit {0}
-IsRunObeyed (Then run segment) = IsRunObeyed run × IsSegmentObeyed segment
-
--- What comes of each client of a run of which nothing fails.
+-- What comes of each client of a run of whom nothing fails and for whom the store obeyed, whatever comes of the others.
 abbrev pub IsRunTold : {door : Door} {account : Account} {before after : GateState} {events : List Event} {went : List Served}
     → Run door account before events went after → Type 0
 IsRunTold Begun = Unit {0}
-IsRunTold {door} {account} (Then {fs = fs} {s = s} {after = after} run segment) = IsRunTold run × IsTold door account fs s after
+IsRunTold {door} {account} (Then {fs = fs} {s = s} {after = after} run segment) =
+    IsRunTold run × (IsSegmentObeyed segment → blamed segment ≡ no_faults → IsTold door account fs s after)
 
--- Where nothing is blamed in a run of these events and the store obeyed every request of it, each client of it is told.
+-- Each such client of a run of these events is told.
 abbrev pub CompletesRun : Door → Account → List Event → Type 0
-CompletesRun door account events = (before after : GateState) (went : List Served) (run : Run door account before events went after)
-    → run_blamed run ≡ no_faults → IsRunObeyed run → IsRunTold run
+CompletesRun door account events = (before after : GateState) (went : List Served) (run : Run door account before events went after) → IsRunTold run

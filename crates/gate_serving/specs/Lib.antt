@@ -7,5 +7,6 @@ pub mod Work
 pub mod GateState
 pub mod Segment
 pub mod Run
+pub mod Gates
 pub mod Complete
 pub mod reading

@@ -14,7 +14,7 @@ use Rattle.jmap_core.specs.declared.request.RequestError.TheVariants.{Limit}
 use Rattle.jmap_core.specs.declared.request.LimitName.TheVariants.{MaxSizeRequest, MaxSizeUpload}
 use Rattle.gate_serving.specs.declared.door.Door.{Door}
 use Rattle.gate_serving.specs.declared.door.Door.TheVariants.{Bare, Http}
-use Rattle.gate_serving.specs.declared.front.AskError.TheVariants.{Failed, TooLarge, Memory}
+use Rattle.gate_serving.specs.declared.front.BodyError.TheVariants.{Failed, TooLarge, Memory}
 use Rattle.gate_serving.specs.Calls.{needs_mail}
 use Rattle.gate_serving.specs.Front.{GivesRequest}
 

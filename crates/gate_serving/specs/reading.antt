@@ -2,4 +2,3 @@
 pub mod Askings
 pub mod Texts
 pub mod Replying
-pub mod Gates

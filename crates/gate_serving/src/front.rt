@@ -5,10 +5,8 @@ ghost use Rattle.gate_world.specs.Tape.{Adds};
 ghost use Rattle.gate_serving.specs.Front.{input_octets, GivesInput, GivesRequest};
 
 use gate_world::{Bytes, Failed, FillError, Front, Unread};
+use http_door::MAX_REQUEST_OCTETS;
 use std::alloc::{AllocError, Global};
-
-/// The most octets of a request's body.
-const MAX_BODY_OCTETS: usize = 10_000_000;
 
 /// What a client gives.
 #[derive(Debug, Drop)]
@@ -77,7 +75,7 @@ impl From<AllocError> for FrontError {
 
 /// Why there is no request.
 #[derive(Clone, Copy, Debug, PartialEq, Eq)]
-pub enum AskError {
+pub enum BodyError {
     /// The front failed.
     Failed,
     /// More octets than a body has at most.
@@ -104,16 +102,16 @@ pub fn receive<F: Front>(alloc: Global, front: &mut F, most: usize) -> Result<In
 }
 
 /// A request's body, which ends with the client's input. No more than one octet past the limit is read.
-pub fn ask<F: Front>(alloc: Global, front: &mut F) -> Result<Bytes, AskError>
+pub fn ask<F: Front>(alloc: Global, front: &mut F) -> Result<Bytes, BodyError>
     ensures tape { Adds (F.tape front.old) (F.tape front.new) (GivesRequest result) }
     ensures alone { FrontAlone (F.faults front.old) (F.faults front.new) }
-    ensures cause { IsErrOf result AskError.Failed → Rose (F.faults front.old).front (F.faults front.new).front }
+    ensures cause { IsErrOf result BodyError.Failed → Rose (F.faults front.old).front (F.faults front.new).front }
     ensures hidden { F.hidden front.new ≡ F.hidden front.old }
 {
-    match receive(alloc, front, MAX_BODY_OCTETS + 1) {
+    match receive(alloc, front, MAX_REQUEST_OCTETS as usize + 1) {
         Ok(Input::Whole(octets)) => Ok(octets),
-        Ok(Input::Cut(_)) => Err(AskError::TooLarge),
-        Err(FrontError::Failed) => Err(AskError::Failed),
-        Err(FrontError::Memory) => Err(AskError::Memory),
+        Ok(Input::Cut(_)) => Err(BodyError::TooLarge),
+        Err(FrontError::Failed) => Err(BodyError::Failed),
+        Err(FrontError::Memory) => Err(BodyError::Memory),
     }
 }

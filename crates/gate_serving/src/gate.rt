@@ -8,7 +8,7 @@ ghost use Rattle.gate_serving.specs.Answers.{KeepsUpload, no_memory_text, respon
 ghost use Rattle.gate_serving.specs.Run.{Opens, StepsTo, account_of};
 ghost use Rattle.gate_serving.specs.declared.door.Door.TheVariants.{Bare};
 ghost use Rattle.gate_serving.specs.reading.Askings.{asking_data};
-ghost use Rattle.gate_serving.specs.reading.Gates.{RestStays, account_by, opened_gate, state_of};
+ghost use Rattle.gate_serving.specs.Gates.{RestStays, account_by, opened_gate, state_of};
 ghost use Rattle.gate_serving.specs.Segment.{went};
 ghost use Rattle.gate_serving.specs.reading.Replying.{AnswersTo, RepliesBy, RepliesToAsking, SendsReply, Serves};
 ghost use Rattle.gate_serving.specs.reading.Texts.{text_sent};

@@ -48,7 +48,7 @@ pub fn obeyed_clients_are_told()
     obeyed_rounds_stand();
 }
 
-/// Each client of a run is told, where nothing is blamed in it and the store obeyed every request of it.
+/// Each client of a run of whom nothing fails and for whom the store obeyed is told, whatever comes of the others.
 pub fn obeyed_runs_are_told()
     ensures { (door : Door) (account : Account) (events : List Event) → CompletesRun door account events }
 {

@@ -5,11 +5,11 @@ ghost use Rattle.gate_world.specs.Tape.{Adds};
 ghost use Rattle.jmap_core.specs.declared.request.RequestError.TheVariants.{Limit};
 ghost use Rattle.gate_serving.specs.Requests.{Problem, upload_asked};
 ghost use Rattle.gate_serving.specs.declared.door.Door.TheVariants.{Bare, Http};
-ghost use Rattle.gate_serving.specs.reading.Askings.{AsksInBody, AsksOf, ReadsInto, asking_data};
+ghost use Rattle.gate_serving.specs.reading.Askings.{AsksInBody, AsksInVain, AsksOf, ReadsInto, asking_data};
 
 use crate::asking::Asking;
 use crate::door::Door;
-use crate::front::{AskError as FrontError, ask};
+use crate::front::{BodyError, ask};
 use crate::upload::Upload;
 use gate_world::{Bytes, Front, Secrets, Text};
 use http_door::{AskError, HttpAsking, ask_over_http};
@@ -26,14 +26,26 @@ fn too_large(name: LimitName) -> Asking
     Asking::Problem(RequestError::Limit { name })
 }
 
+// What is asked by a body that is no request.
+fn problem_of(error: RequestError) -> Result<Asking, AskError>
+    ensures { AsksInVain error result }
+{
+    match error {
+        RequestError::Memory => Err(AskError::Memory),
+        RequestError::NotJson => Ok(Asking::Problem(error)),
+        RequestError::NotRequest => Ok(Asking::Problem(error)),
+        RequestError::UnknownCapability => Ok(Asking::Problem(error)),
+        RequestError::Limit { .. } => Ok(Asking::Problem(error)),
+    }
+}
+
 // What the body of a request of the API asks.
 fn asking_in_body(alloc: Global, body: &[u8]) -> Result<Asking, AskError>
     ensures { AsksInBody body.now result }
 {
     match read_request(alloc, body) {
         Ok(request) => Ok(Asking::Calls(request)),
-        Err(RequestError::Memory) => Err(AskError::Memory),
-        Err(error) => Ok(Asking::Problem(error)),
+        Err(error) => problem_of(error),
     }
 }
 
@@ -46,9 +58,9 @@ fn read_bare<F: Front>(alloc: Global, front: &mut F) -> Result<Asking, AskError>
 {
     match ask(alloc, front) {
         Ok(body) => asking_in_body(alloc, body.as_slice()),
-        Err(FrontError::TooLarge) => Ok(too_large(LimitName::MaxSizeRequest)),
-        Err(FrontError::Failed) => Err(AskError::Failed),
-        Err(FrontError::Memory) => Err(AskError::Memory),
+        Err(BodyError::TooLarge) => Ok(too_large(LimitName::MaxSizeRequest)),
+        Err(BodyError::Failed) => Err(AskError::Failed),
+        Err(BodyError::Memory) => Err(AskError::Memory),
     }
 }
 

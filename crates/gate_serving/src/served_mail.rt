@@ -84,7 +84,7 @@ fn counts_of(alloc: Global, mirror: &Mirror) -> Result<Vec<MailboxCounts>, Alloc
     Ok(counts)
 }
 
-/// The mail that is known, as calls are answered over it. Each message is looked at once.
+/// The mail that is known, as calls are answered over it.
 pub fn served_mail(alloc: Global, known: &Known) -> Result<ServedMail, AllocError>
     ensures { IfOk result (λ mail. mail ≡ served_mail known.now.history) }
 {

@@ -4,7 +4,7 @@ ghost use Rattle.gate_world.specs.Causes.{Later, Rose};
 ghost use Rattle.gate_world.specs.Tape.{Adds};
 ghost use Rattle.gate_serving.specs.Complete.{CompletesRun};
 ghost use Rattle.gate_serving.specs.Run.{IsServingRun};
-ghost use Rattle.gate_serving.specs.reading.Gates.{account_by, state_of};
+ghost use Rattle.gate_serving.specs.Gates.{account_by, state_of};
 
 use crate::gate::Gate;
 use crate::laws::obeyed_runs_are_told;
@@ -16,7 +16,8 @@ use std::alloc::Global;
 pub fn serve<W: World>(alloc: Global, gate: &mut Gate, world: &mut W, most: u64) -> u8
     ensures run { Adds (W.tape world.old) (W.tape world.new)
         (IsServingRun gate.old.door (account_by gate.old (W.hidden world.old)) (state_of gate.old) (state_of gate.new) most (W.faults world.old) (W.faults world.new) result) }
-    // Where nothing is blamed and the store obeyed every request, whoever came takes the whole response that is due.
+    // A law over that run: of whom nothing is blamed and for whom the store obeyed takes the whole response that is due, whatever
+    // comes of the others.
     ensures complete { Adds (W.tape world.old) (W.tape world.new) (CompletesRun gate.old.door (account_by gate.old (W.hidden world.old))) }
     ensures statuses { (result ≡ 0) ⊎ (result ≡ 6) }
     ensures later { Later (W.faults world.old) (W.faults world.new) }

@@ -5,6 +5,8 @@ use Rattle.std.proofs.lemmas.List.{append-nil}
 use Rattle.std.proofs.lemmas.List.Concat.{flat_map-append}
 use Rattle.gate_world.specs.declared.event.Event.{Event}
 use Rattle.gate_world.specs.declared.event.Event.TheVariants.{Accepted, NoMore, ClientEnded, ClientDone}
+use Rattle.gate_world.specs.Sending.{Sends}
+use Rattle.gate_world.specs.declared.outside.Failed.{Failed}
 use Rattle.gate_world.specs.Octets.{client_gave_in, client_took_in}
 use Rattle.gate_words.specs.declared.page.Page.{Page}
 use Rattle.gate_words.specs.declared.task.Task.TheVariants.{Serve, Once, Show, Explain}
@@ -14,7 +16,7 @@ use Rattle.gate_serving.specs.declared.front.FrontError.TheVariants as error
 use Rattle.gate_serving.specs.declared.front.Input.{Input}
 use Rattle.gate_serving.specs.declared.front.Input.TheVariants.{Whole, Cut}
 use Rattle.gate_serving.specs.Front.{input_octets, GivesInput}
-use Rattle.gateway.specs.Show.{ShowsObject, Answers, Unread, Sent, Shows, NoneComes, NotAccepted, Came}
+use Rattle.gateway.specs.Show.{ShowsObject, Answers, Unread, Sent, SendsLine, over_front, Shows, NoneComes, NotAccepted, Came}
 use Rattle.gate_words.specs.declared.task.Task.{Task}
 use Rattle.gate_words.specs.declared.place.Place.{Place}
 use Rattle.gate_world.specs.Causes.{Faults, Hidden}
@@ -63,6 +65,28 @@ ends_shown outcome status said is ends = let e = subst (λ (r : Result (Unit {0}
 abbrev Told : ℕ → List Event → Type 0
 Told status events = TellsObject events ⊎ ((status ≡ 5) × (flat_map client_took_in events ≡ []))
 
+-- the line was sent, or the front failed
+sent_told : (outcome : Result (Unit {0}) FrontError) (status : ℕ) (answered said shown events : List Event) (a : SendsLine outcome answered) (sent : Result (Unit {0}) Failed)
+    → Sends a.line sent a.heard → outcome ≡ over_front sent → (status ≡ 6 → ⊥) → EndsOne outcome status said → events ≡ shown ++ said
+    → shown ≡ Accepted ∷ (answered ++ ClientDone ∷ []) → Told status events
+sent_told outcome status answered said shown events a (Err e) sends is well ends events_are shown_is = absurd (ends_badly outcome status said is well ends)
+sent_told outcome status answered said shown events a (Ok u) sends is well ends events_are shown_is =
+    let input : Input = a.reads.0 in
+    let gives : GivesInput 50000000 (Ok input) a.reading = a.reads.1.0 in
+    let object : ShowsObject (input_octets input) a.line = a.reads.1.1 in
+    let all = shown_events answered said shown events events_are (ends_shown outcome status said is ends) shown_is in
+    let gave = octets_within client_gave_in answered events refl refl all
+    ∙ parts client_gave_in answered a.reading a.heard (input_octets input) [] a.whole (gives_gave 50000000 input a.reading gives) (heard_gave_client a.heard sends.kind)
+    ∙ append-nil (input_octets input) in
+    let took = octets_within client_took_in answered events refl refl all
+    ∙ parts client_took_in answered a.reading a.heard [] a.line a.whole (gives_took 50000000 (Ok input) a.reading gives) sends.took_is in
+    let given = is_given input a.reading a.heard events gives (all ∙ ap (λ (l : List Event). Accepted ∷ (l ++ ClientDone ∷ [])) a.whole) gave in
+    inl (
+      given,
+      subst (λ (l : List ℕ). ShowsObject l (flat_map client_took_in events)) (sym gave)
+          (subst (λ (l : List ℕ). ShowsObject (input_octets input) l) (sym took) object),
+    )
+
 answers_told : (outcome : Result (Unit {0}) FrontError) (status : ℕ) (answered said shown events : List Event) → Answers outcome answered → (status ≡ 6 → ⊥)
     → EndsOne outcome status said → events ≡ shown ++ said → shown ≡ Accepted ∷ (answered ++ ClientDone ∷ []) → Told status events
 answers_told outcome status answered said shown events (Unread error.Failed reads is) well ends events_are shown_is = absurd (ends_badly outcome status said is well ends)
@@ -70,17 +94,8 @@ answers_told outcome status answered said shown events (Unread error.Memory (inp
     let wanting = ends_wanting outcome status said is ends in
     let all = shown_events answered said shown events events_are wanting.1 shown_is in
     inr (wanting.0, octets_within client_took_in answered events refl refl all ∙ gives_took 50000000 input answered gives)
-answers_told outcome status answered said shown events (Sent reads heard line (Err e) answered_is so sends is) well ends events_are shown_is =
-    absurd (ends_badly outcome status said is well ends)
-answers_told outcome status answered said shown events (Sent reads heard line (Ok u) answered_is (input, gives, object) sends is) well ends events_are shown_is =
-    let all = shown_events answered said shown events events_are (ends_shown outcome status said is ends) shown_is in
-    let gave = octets_within client_gave_in answered events refl refl all
-    ∙ parts client_gave_in answered reads heard (input_octets input) [] answered_is (gives_gave 50000000 input reads gives) (heard_gave_client heard sends.kind)
-    ∙ append-nil (input_octets input) in
-    let took = octets_within client_took_in answered events refl refl all
-    ∙ parts client_took_in answered reads heard [] line answered_is (gives_took 50000000 (Ok input) reads gives) sends.took_is in
-    let given = is_given input reads heard events gives (all ∙ ap (λ (l : List Event). Accepted ∷ (l ++ ClientDone ∷ [])) answered_is) gave in
-    inl (given, subst (λ (l : List ℕ). ShowsObject l (flat_map client_took_in events)) (sym gave) (subst (λ (l : List ℕ). ShowsObject (input_octets input) l) (sym took) object))
+answers_told outcome status answered said shown events (Sent a) well ends events_are shown_is =
+    sent_told outcome status answered said shown events a a.sent a.sends a.outcome_is well ends events_are shown_is
 
 none_came : (behind said shown events : List Event) → events ≡ shown ++ said → shown ≡ NoMore ∷ [] → events ≡ Accepted ∷ behind → ⊥
 none_came behind said shown events is shown_is came =

@@ -25,10 +25,12 @@ shows_object octets o text (Err e) is text_is with_end = tt
 
 -- the line was sent, or the front failed before
 pub sent_whole : {xs : List Event} (ys : List Event) (line : List ℕ) → ReadsInput (Ok line) xs → Sends line (Ok tt) ys → Answers (Ok tt) (xs ++ ys)
-sent_whole {xs} ys line reads sends = Sent xs ys line (Ok tt) refl reads sends refl
+sent_whole {xs} ys line reads sends =
+    Sent record { reading = xs; heard = ys; line = line; sent = Ok tt; whole = refl; reads = reads; sends = sends; outcome_is = refl }
 
 pub sent_part : {xs : List Event} (ys : List Event) (line : List ℕ) (e : Failed) → ReadsInput (Ok line) xs → Sends line (Err e) ys → Answers (Err error.Failed) (xs ++ ys)
-sent_part {xs} ys line e reads sends = Sent xs ys line (Err e) refl reads sends refl
+sent_part {xs} ys line e reads sends =
+    Sent record { reading = xs; heard = ys; line = line; sent = Err e; whole = refl; reads = reads; sends = sends; outcome_is = refl }
 
 -- the client was accepted
 pub accepted : {xs : List Event} (ys : List Event) (outcome : Result (Unit {0}) FrontError) → xs ≡ Accepted ∷ [] → ShowsClient outcome ys → Shows outcome (xs ++ ys)

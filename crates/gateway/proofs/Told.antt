@@ -16,16 +16,16 @@ abbrev pub RunsLaw : Type 0
 RunsLaw = (door : Door) (account : Account) (events : List Event) → CompletesRun door account events
 
 task_told : ToldLaw → RunsLaw → {task : Task} {secrets : Hidden} {status : ℕ} {blames : Faults} {events : List Event} (ran : Performed task secrets status blames events)
-    → blames ≡ no_faults → IsTaskObeyed ran → IsTaskTold ran
-task_told law runs (Unopened place a b c d) none obeyed = tt
-task_told law runs {secrets = secrets} (ServedMany place listen most is serves) none obeyed =
-    runs Http (account_of place secrets) serves.serving serves.before serves.after serves.went serves.run (sym serves.blames_are ∙ none) obeyed
-task_told law runs {secrets = secrets} (ServedOnce place is serves) none obeyed =
-    law Bare (account_of place secrets) serves.before serves.serving serves.how serves.after serves.segment obeyed (sym serves.blames_are ∙ none)
-task_told law runs (ShownOne a b) none obeyed = tt
-task_told law runs (Explained page a b) none obeyed = tt
+    → IsTaskTold ran
+task_told law runs (Unopened place a b c d) = tt
+task_told law runs {secrets = secrets} (ServedMany place listen most is serves) =
+    runs Http (account_of place secrets) serves.serving serves.before serves.after serves.went serves.run
+task_told law runs {secrets = secrets} (ServedOnce place is serves) =
+    law Bare (account_of place secrets) serves.before serves.serving serves.how serves.after serves.segment
+task_told law runs (ShownOne a b) = tt
+task_told law runs (Explained page a b) = tt
 
 pub program_told : ToldLaw → RunsLaw → (words : List (List ℕ)) (secrets : Hidden) (status : ℕ) (events : List Event) → CompletesServing words secrets status events
-program_told law runs words secrets status events blames (Refused a b c d) none obeyed = tt
-program_told law runs words secrets status events blames (OutOfMemory a b c) none obeyed = tt
-program_told law runs words secrets status events blames (Done task is ran) none obeyed = task_told law runs ran none obeyed
+program_told law runs words secrets status events blames (Refused a b c d) = tt
+program_told law runs words secrets status events blames (OutOfMemory a b c) = tt
+program_told law runs words secrets status events blames (Done task is ran) = task_told law runs ran

@@ -9,8 +9,9 @@ use Rattle.gate_words.specs.Task.{IsTask}
 use Rattle.gate_words.specs.declared.task.Task.{Task}
 use Rattle.gate_words.specs.declared.task.Task.TheVariants.{Show}
 use Rattle.gate_serving.specs.declared.door.Door.TheVariants.{Bare}
-use Rattle.gate_serving.specs.Complete.{IsSegmentObeyed, IsTold, IsRunObeyed, IsRunTold}
+use Rattle.gate_serving.specs.Complete.{IsSegmentObeyed, IsTold, IsRunTold}
 use Rattle.gate_serving.specs.Run.{account_of}
+use Rattle.gate_serving.specs.Segment.{blamed}
 use Rattle.gateway.specs.Program.{Performed, Unopened, ServedMany, ServedOnce, ShownOne, Explained, Runs, Refused, OutOfMemory, Done}
 use Rattle.gateway.specs.Show.{message_limit, ShowsObject}
 
@@ -33,28 +34,15 @@ CompletesShow words status events = IsTask words Show → (after : List Event) �
 
 -- ---- the program
 
--- The store obeyed every request of what the task did.
-abbrev pub IsTaskObeyed : {task : Task} {secrets : Hidden} {status : ℕ} {blames : Faults} {events : List Event}
-    → Performed task secrets status blames events → Type 0
-IsTaskObeyed (Unopened place a b c d) = Unit {0}
-IsTaskObeyed (ServedMany place listen most a serves) = IsRunObeyed serves.run
-IsTaskObeyed (ServedOnce place a serves) = IsSegmentObeyed serves.segment
-IsTaskObeyed (ShownOne a b) = Unit {0}
-IsTaskObeyed (Explained page a b) = Unit {0}
-
+-- What comes of each client of a task of whom nothing fails and for whom the store obeyed, whatever comes of the others.
 abbrev pub IsTaskTold : {task : Task} {secrets : Hidden} {status : ℕ} {blames : Faults} {events : List Event}
     → Performed task secrets status blames events → Type 0
 IsTaskTold (Unopened place a b c d) = Unit {0}
 IsTaskTold (ServedMany place listen most a serves) = IsRunTold serves.run
-IsTaskTold {secrets = secrets} (ServedOnce place a serves) = IsTold Bare (account_of place secrets) serves.serving serves.how serves.after
+IsTaskTold {secrets = secrets} (ServedOnce place a serves) =
+    IsSegmentObeyed serves.segment → blamed serves.segment ≡ no_faults → IsTold Bare (account_of place secrets) serves.serving serves.how serves.after
 IsTaskTold (ShownOne a b) = Unit {0}
 IsTaskTold (Explained page a b) = Unit {0}
-
-abbrev pub AreObeyed : {words : List (List ℕ)} {secrets : Hidden} {status : ℕ} {blames : Faults} {events : List Event}
-    → Runs words secrets status blames events → Type 0
-AreObeyed (Refused a b c d) = Unit {0}
-AreObeyed (OutOfMemory a b c) = Unit {0}
-AreObeyed (Done task a ran) = IsTaskObeyed ran
 
 abbrev pub AreTold : {words : List (List ℕ)} {secrets : Hidden} {status : ℕ} {blames : Faults} {events : List Event}
     → Runs words secrets status blames events → Type 0
@@ -62,7 +50,6 @@ AreTold (Refused a b c d) = Unit {0}
 AreTold (OutOfMemory a b c) = Unit {0}
 AreTold (Done task a ran) = IsTaskTold ran
 
--- Where nothing is blamed in a run of the program over these events and the store obeyed every request of it, each client
--- that came with a request is told.
+-- Each such client of a run of the program over these events is told.
 abbrev pub CompletesServing : List (List ℕ) → Hidden → ℕ → List Event → Type 0
-CompletesServing words secrets status events = (blames : Faults) (runs : Runs words secrets status blames events) → blames ≡ no_faults → AreObeyed runs → AreTold runs
+CompletesServing words secrets status events = (blames : Faults) (runs : Runs words secrets status blames events) → AreTold runs

@@ -6,7 +6,7 @@ ghost use Rattle.gateway.specs.Complete.{CompletesServing};
 
 use gate_serving::{obeyed_clients_are_told, obeyed_runs_are_told};
 
-/// Each client of a run of the program is told, where nothing is blamed in it and the store obeyed every request of it.
+/// Each client of a run of the program of whom nothing fails and for whom the store obeyed is told, whatever comes of the others.
 pub fn obeyed_programs_tell()
     ensures { (words : List (List ℕ)) (secrets : Hidden) (status : ℕ) (events : List Event) → CompletesServing words secrets status events }
 {

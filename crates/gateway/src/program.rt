@@ -174,8 +174,8 @@ pub fn run<W: World>(words: &[String], world: &mut W, watchers: &mut Vec<Box<dyn
     ensures run { Adds (W.tape world.old) (W.tape world.new)
         (IsWholeRun (map string_bytes words.now) (W.hidden world.old) (W.faults world.old) (W.faults world.new) result) }
 
-    // Where nothing is blamed and the store obeyed every request, whoever came takes the whole response over the mail that is
-    // served then; or memory ran out, and they take the text of that.
+    // A law over that run: of whom nothing is blamed and for whom the store obeyed takes the whole response over the mail that is
+    // served then, whatever comes of the others; or memory ran out, and they take the text of that.
     ensures complete { Adds (W.tape world.old) (W.tape world.new) (CompletesServing (map string_bytes words.now) (W.hidden world.old) result) }
 
     // Whoever gives a message to be shown, while the front does not fail, is sent its Email object and a line end; or memory

@@ -6,6 +6,8 @@ use Rattle.http_door.specs.declared.asking.AskError.TheVariants.{Memory}
 use Rattle.http_door.specs.declared.asking.HttpAsking.{HttpAsking}
 use Rattle.http_door.specs.declared.asking.HttpAsking.TheVariants as http
 use Rattle.jmap_core.specs.Request.{request_data, requested}
+use Rattle.jmap_core.specs.declared.request.RequestError.{RequestError}
+use Rattle.jmap_core.specs.declared.request.RequestError.TheVariants as error
 use Rattle.gate_serving.specs.declared.asking.Asking.{Asking as Asked}
 use Rattle.gate_serving.specs.declared.asking.Asking.TheVariants as asked
 use Rattle.gate_serving.specs.declared.door.Door.{Door}
@@ -27,6 +29,11 @@ read_data (Err e) = Err e
 abbrev pub AsksInBody : List ℕ → Result Asked AskError → Type 0
 AsksInBody body (Ok asking) = asking_data asking ≡ asked_by (requested body)
 AsksInBody body (Err e) = e ≡ Memory
+
+-- what is asked by a body that is no request
+abbrev pub AsksInVain : RequestError → Result Asked AskError → Type 0
+AsksInVain error.Memory result = result ≡ Err Memory
+AsksInVain e result = result ≡ Ok (asked.Problem e)
 
 -- what is asked over HTTP, or memory ran out
 abbrev pub AsksOf : HttpAsking → Result Asked AskError → Type 0

@@ -2,7 +2,7 @@ use Rattle.std.proofs.Common.{◌-◌, ◌≡◌, ◌≤◌}
 use Rattle.gate_world.specs.Causes.{Later}
 use Rattle.gate_world.specs.Tape.{Adds}
 use Rattle.gate_serving.specs.Run.{RunsTo}
-use Rattle.gate_serving.specs.reading.Gates.{RestStays, account_by, state_of}
+use Rattle.gate_serving.specs.Gates.{RestStays, account_by, state_of}
 use Rattle.gate_serving.proofs.serving.serve.Given as goal
 
 abbrev pub invariant-serving : goal.invariant-serving

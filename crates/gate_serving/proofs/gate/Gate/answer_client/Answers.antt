@@ -2,7 +2,7 @@ use Rattle.std.proofs.Common.{◌++◌, ◌∷◌, [], sym, subst}
 use Rattle.gate_world.specs.Causes.{Faults, Rose}
 use Rattle.gate_world.specs.declared.event.Event.TheVariants.{ClientDone}
 use Rattle.gate_world.proofs.Joins.{join, then_one}
-use Rattle.gate_serving.specs.reading.Gates.{account_by, state_of}
+use Rattle.gate_serving.specs.Gates.{account_by, state_of}
 use Rattle.gate_serving.specs.reading.Replying.{Serves}
 use Rattle.gate_serving.proofs.Answering.{serves_reply, part_rose}
 use Rattle.gate_serving.proofs.gate.Gate.answer_client.Goals as goal

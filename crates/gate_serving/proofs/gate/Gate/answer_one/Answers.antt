@@ -2,7 +2,7 @@ use Rattle.std.proofs.Common.{◌++◌, subst}
 use Rattle.gate_world.specs.Causes.{Hidden}
 use Rattle.gate_world.proofs.Joins.{join, widen}
 use Rattle.gate_serving.specs.Run.{StepsTo}
-use Rattle.gate_serving.specs.reading.Gates.{account_by, state_of}
+use Rattle.gate_serving.specs.Gates.{account_by, state_of}
 use Rattle.gate_serving.proofs.Answering.{steps_fault, steps_none, steps_client, rose_earlier, not_refused}
 use Rattle.gate_serving.proofs.gate.Gate.answer_one.Goals as goal
 

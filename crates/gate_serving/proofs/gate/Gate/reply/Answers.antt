@@ -1,7 +1,7 @@
 use Rattle.std.proofs.Common.{◌++◌, refl, subst, inl, inr, Some}
 use Rattle.gate_world.specs.Causes.{Hidden}
 use Rattle.gate_world.proofs.Joins.{join, widen}
-use Rattle.gate_serving.specs.reading.Gates.{account_by, state_of}
+use Rattle.gate_serving.specs.Gates.{account_by, state_of}
 use Rattle.gate_serving.specs.reading.Replying.{RepliesBy}
 use Rattle.gate_serving.proofs.Answering.{read_asked, read_lacking, later_front}
 use Rattle.gate_serving.proofs.gate.Gate.reply.Goals as goal

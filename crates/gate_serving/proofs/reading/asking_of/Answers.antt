@@ -1,0 +1,9 @@
+use Rattle.std.proofs.Common.{List, ℕ, subst}
+use Rattle.gate_serving.specs.reading.Askings.{AsksInBody}
+use Rattle.gate_serving.proofs.Asked.{calls_over_http}
+use Rattle.gate_serving.proofs.reading.asking_of.Goals as goal
+
+pub returns-in-Calls : goal.returns-in-Calls
+returns-in-Calls c =
+    calls_over_http c.in-Calls.body c.asking_in_body.result
+    (subst (λ (l : List ℕ). AsksInBody l c.asking_in_body.result) c.as_slice.ensures.value c.asking_in_body.ensures)
