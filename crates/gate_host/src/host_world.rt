@@ -98,6 +98,7 @@ impl<H: Host, C: Clients> Link for HostWorld<H, C> {
 
 impl<H: Host, C: Clients> Front for HostWorld<H, C> {
     fn accept(&mut self) -> Result<bool, Failed>
+        ensures accepts { C.accepts self.old.front result self.new.front }
         ensures elsewhere { (self.new.link ≡ self.old.link) × (self.new.console ≡ self.old.console) × (self.new.host ≡ self.old.host) }
         ensures secrets { (self.new.password ≡ self.old.password) × (self.new.token ≡ self.old.token) }
         ensures ok { OnOk result (C.client_faults self.new.front ≡ C.client_faults self.old.front) }
@@ -110,6 +111,7 @@ impl<H: Host, C: Clients> Front for HostWorld<H, C> {
     fn recv(&mut self, into: &mut [u8]) -> Result<usize, Failed>
         ensures bound { IfOk result (λ n. n ≤ length into.new) }
         ensures octets { ReadConsumes (C.gives self.old.front) (C.gives self.new.front) result into.new }
+        ensures takes { C.takes self.new.front ≡ C.takes self.old.front }
         ensures elsewhere { (self.new.link ≡ self.old.link) × (self.new.console ≡ self.old.console) × (self.new.host ≡ self.old.host) }
         ensures secrets { (self.new.password ≡ self.old.password) × (self.new.token ≡ self.old.token) }
         ensures ok { OnOk result (C.client_faults self.new.front ≡ C.client_faults self.old.front) }
@@ -122,6 +124,7 @@ impl<H: Host, C: Clients> Front for HostWorld<H, C> {
     fn send(&mut self, from: &[u8]) -> Result<usize, Failed>
         ensures bound { IfOk result (λ n. (0 < n) × (n ≤ length from.now)) }
         ensures octets { WriteAppends (C.takes self.old.front) (C.takes self.new.front) result from.now }
+        ensures gives { C.gives self.new.front ≡ C.gives self.old.front }
         ensures elsewhere { (self.new.link ≡ self.old.link) × (self.new.console ≡ self.old.console) × (self.new.host ≡ self.old.host) }
         ensures secrets { (self.new.password ≡ self.old.password) × (self.new.token ≡ self.old.token) }
         ensures ok { OnOk result (C.client_faults self.new.front ≡ C.client_faults self.old.front) }
@@ -132,6 +135,7 @@ impl<H: Host, C: Clients> Front for HostWorld<H, C> {
     }
 
     fn finish(&mut self)
+        ensures finishes { C.finishes self.old.front self.new.front }
         ensures elsewhere { (self.new.link ≡ self.old.link) × (self.new.console ≡ self.old.console) × (self.new.host ≡ self.old.host) }
         ensures secrets { (self.new.password ≡ self.old.password) × (self.new.token ≡ self.old.token) }
         ensures faults { C.client_faults self.new.front ≡ C.client_faults self.old.front }

@@ -46,6 +46,12 @@ impl<L: ClientListener + Drop, C: Ticks + Drop> Clients for ListenerFront<L, C> 
 
     ghost takes = { λ _. None };
 
+    ghost use Rattle.std.specs.Prelude.{⊤};
+
+    ghost accepts = { λ _ _ _. ⊤ };
+
+    ghost finishes = { λ _ _. ⊤ };
+
     fn accept(&mut self) -> Result<bool, Failed> {
         let accepted = match &mut self.clients {
             Some(clients) => clients.accept(),

@@ -1,5 +1,5 @@
 // One client, over an input and an output.
-ghost use Rattle.std.specs.Prelude.{◌≡◌, ◌<◌, ◌≤◌, ◌↔◌, length, take, false, true, IsTrue, IfOk, OnOk, OnErr};
+ghost use Rattle.std.specs.Prelude.{◌≡◌, ◌<◌, ◌≤◌, length, take, false, true, not, IfOk, OnOk, OnErr};
 ghost use Rattle.std.specs.Io.KnownBytes.{Keeps, ReadConsumes, WriteAppends};
 ghost use Rattle.gate_host.specs.Faults.{one_more};
 
@@ -45,7 +45,7 @@ impl<I: Read + Drop, O: Write + Drop> StandardFront<I, O> {
 
     /// Whether the client comes: the first time alone.
     pub fn next_client(&mut self) -> bool
-        ensures first { IsTrue result ↔ (self.old.has_come ≡ false) }
+        ensures first { result ≡ not self.old.has_come }
         ensures same { self.new ≡ record self.old { has_come = true } }
     {
         let is_first = !self.has_come;
@@ -83,11 +83,18 @@ impl<I: Read + Drop, O: Write + Drop> StandardFront<I, O> {
 }
 
 impl<I: Read + Drop, O: Write + Drop> Clients for StandardFront<I, O> {
+    ghost use Rattle.std.specs.Prelude.{◌≡◌, Ok, true, not};
+
     ghost client_faults = { λ f. f.faults };
 
     ghost gives = { λ f. I.remaining f.input };
 
     ghost takes = { λ f. O.contents f.output };
+
+    // One client comes, the first time alone, and accepting never fails.
+    ghost accepts = { λ old result new. (result ≡ Ok (not old.has_come)) × (new ≡ record old { has_come = true }) };
+
+    ghost finishes = { λ old new. new ≡ old };
 
     fn accept(&mut self) -> Result<bool, Failed> {
         Ok(self.next_client())

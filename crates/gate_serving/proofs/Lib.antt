@@ -1,5 +1,6 @@
 mod Receiving
 mod Asked
+mod Meant
 pub mod Answering
 mod Gates
 mod Ids
