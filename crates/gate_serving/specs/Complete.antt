@@ -18,7 +18,7 @@ use Rattle.gate_serving.specs.Counts.{served_mail}
 use Rattle.gate_serving.specs.GateState.{GateState}
 use Rattle.gate_serving.specs.Requests.{Account, Asking, ReadsAsking, asks_for_mail}
 use Rattle.gate_serving.specs.Run.{Run, Begun, Then}
-use Rattle.gate_serving.specs.Segment.{Replies, Answered, LacksReading, LacksAnswering, Segment, NoneComes, NotAccepted, Left, Unasked, Replied}
+use Rattle.gate_serving.specs.Segment.{Replies, Answered, LacksReading, LacksAnswering, Segment, NoneComes, NotAccepted, Left, Unasked, Replied, blamed}
 use Rattle.gate_serving.specs.Work.{Work, NoMail, WithMail}
 
 -- ---- a request

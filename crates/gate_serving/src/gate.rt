@@ -210,7 +210,7 @@ impl Gate {
 }
 
 fn media_of(media: &Option<Bytes>) -> Option<&[u8]>
-    ensures { option_copied result.entry ≡ media.now }
+    ensures { option_copied result ≡ media.now }
 {
     match media {
         Some(media) => Some(media.as_slice()),

@@ -1,5 +1,5 @@
 -- Words ask for one task.
-use Rattle.std.proofs.Common.{◌≡◌, ℕ, List, [], Option, Some, None, inl, inr, sym, ap, ◌∙◌, refl}
+use Rattle.std.proofs.Common.{◌≡◌, ℕ, List, [], Option, Some, None, inl, inr, ap, ◌∙◌}
 use Rattle.gate_words.specs.Task.{IsTask}
 use Rattle.gate_words.specs.declared.task.Task.{Task}
 use Rattle.gate_words.proofs.Tasks.{same-task}
