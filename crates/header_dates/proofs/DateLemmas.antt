@@ -375,7 +375,14 @@ moment_read raw m ls h a =
     ap (λ (u : List Spelled). date_in (pieces_of (behind_day_name u))) (one_lexemes ls h.lexemes (raw_form raw) a h.are)
     ∙ complete h.day h.clock h.zone h.lexemes h.is ∙ h.moment_is
 
-pub form_read : (raw t : List ℕ) (o : Option Moment) → t ≡ raw_form raw → (ts : List Spelled) × AreTokens alphabet.Mail ts t → o ≡ date_in (pieces_of (behind_day_name (lexemes_in alphabet.Mail t)))
+-- whether the text is a row of tokens
+abbrev pub IsRow : List ℕ → Type 0
+IsRow t = (ts : List Spelled) × AreTokens alphabet.Mail ts t
+
+abbrev pub IsNoRow : List ℕ → Type 0
+IsNoRow t = (ts : List Spelled) → AreTokens alphabet.Mail ts t → ⊥
+
+pub form_read : (raw t : List ℕ) (o : Option Moment) → t ≡ raw_form raw → IsRow t → o ≡ date_in (pieces_of (behind_day_name (lexemes_in alphabet.Mail t)))
     → IsDateForm raw o
 form_read raw t o e r d = by o d
   where
@@ -388,7 +395,7 @@ form_read raw t o e r d = by o d
         let s = sound (lexemes_in alphabet.Mail t) m (sym f) in
         record { lexemes = lexemes_in alphabet.Mail t; are = are; day = s.day; clock = s.clock; zone = s.zone; is = s.is; moment_is = s.moment_is }
 
-pub no_form : (raw t : List ℕ) → t ≡ raw_form raw → ((ts : List Spelled) → AreTokens alphabet.Mail ts t → ⊥) → IsDateForm raw None
+pub no_form : (raw t : List ℕ) → t ≡ raw_form raw → IsNoRow t → IsDateForm raw None
 no_form raw t e n = λ m h. n h.are.tokens (subst (λ (u : List ℕ). AreTokens alphabet.Mail h.are.tokens u) (sym e) h.are.are)
 
 -- no raw value has two dates

@@ -1,5 +1,5 @@
 -- Reading a chunked body, step by step.
-use Rattle.std.proofs.Common.{◌≡◌, ◌≢◌, ◌<◌, ◌≤◌, ◌+◌, ◌++◌, ℕ, List, [], ◌∷◌, length, take, drop, refl, sym, ap, ◌∙◌, subst, arith, append_assoc, length-append, length-take}
+use Rattle.std.proofs.Common.{◌≡◌, ◌≢◌, ◌<◌, ◌≤◌, ◌+◌, ◌-◌, ◌++◌, ℕ, List, [], ◌∷◌, length, take, drop, refl, sym, ap, ◌∙◌, subst, arith, append_assoc, length-append, length-take}
 use Rattle.std.proofs.Common.{take-append-drop, ◌⊎◌, inl, inr, Ok, Err, Result, All}
 use Rattle.std.proofs.lemmas.List.{append-nil}
 use Rattle.std.proofs.lemmas.List.Concat.{flat_map-append}
@@ -8,8 +8,10 @@ use Rattle.gate_world.specs.declared.event.Event.{Event}
 use Rattle.http_service.specs.declared.error.HttpError.{HttpError}
 use Rattle.http_service.specs.declared.error.HttpError.TheVariants as error
 use Rattle.http_service.specs.Taking.{Nothing, Octets, Takes, Breaks}
-use Rattle.http_service.specs.Chunked.{Chunk, IsChunk, IsLine, data_of, chunk_text, texts_of, content}
-use Rattle.http_service.specs.ReadChunked.{ChunkStops, AtReturn, AtFeed, AtLine, AtLimit, InChunk, AtTrailer, AtEnd, ChunksStop, ReadsChunks}
+use Rattle.http_service.specs.declared.chunks.TheConstants.{FREE_LINE_OCTETS, MAX_EXCESS_OCTETS}
+use Rattle.http_service.specs.Chunked.{Chunk, IsChunk, IsLine, data_of, chunk_text, texts_of, content, excess, excess_of}
+use Rattle.std.proofs.lemmas.List.Sums.{sum_by_push}
+use Rattle.http_service.specs.ReadChunked.{ChunkStops, AtReturn, AtFeed, AtLine, AtExcess, AtLimit, InChunk, AtTrailer, AtEnd, ChunksStop, ReadsChunks}
 use Rattle.http_service.specs.ReadBody.{ReadsLength}
 use Rattle.http_service.specs.reading.Steps.{FillsTo, NoLine, NoTrailer, NoOctet, NoData, ReadsLine, ReadsTrailer, ReadsOctet, ReadsData, ReadsChunk}
 use Rattle.http_service.proofs.TakingLemmas.{then_takes, then_breaks, octets_taken}
@@ -66,7 +68,7 @@ octet_breaks es octet error.Memory (earlier, takes, ends, stops) = (Octets 1, []
 
 pub octet_differs : {before : List ℕ} (after : List ℕ) (es : List Event) (octet c : ℕ) → FillsTo 1 before after (Ok tt) es → c ≢ octet → (more : List ℕ) → after ≡ c ∷ more
     → Breaks (NoOctet octet) before after error.BadHead es
-octet_differs after es octet c (takes, enough, few) other more is = (Octets 1, [], es, takes, inl refl, (refl, (refl, c, more, is, other)))
+octet_differs after es octet c (takes, enough, few) other more is = (Octets 1, [], es, takes, inl (refl, λ short. absurd (omega (arith, short, ap length is))), (refl, (refl, c, more, is, other)))
 
 -- the data was read, but not the CR after it
 pub return_stops : {a b c octets : List ℕ} {xs : List Event} {e : HttpError} (ys : List Event) (size : ℕ) → Takes Nothing octets a b xs → length octets ≡ size
@@ -96,27 +98,68 @@ chunk_end {a} {c} kept keeps d zs size (Err e) (octets, both, long, adds) feed =
     then_breaks zs (NoOctet 10) (ChunkStops size) both feed (λ due text so. AtFeed octets
     (ap (λ (l : List ℕ). (octets ++ 13 ∷ []) ++ l) so.0 ∙ append-nil (octets ++ 13 ∷ [])) long so.1)
 
--- whole chunks were read, and this is their content
-abbrev pub Gathered : List ℕ → List ℕ → List ℕ → List Event → Type 0
-Gathered before after body events = (chunks : List Chunk) × All IsChunk chunks × Takes Nothing (texts_of chunks) before after events × (body ≡ content chunks)
+-- whole chunks were read, with this content, and their lines have so many octets beyond what is free
+abbrev pub Gathered : List ℕ → List ℕ → List ℕ → ℕ → List Event → Type 0
+Gathered before after body over events = (chunks : List Chunk) × All IsChunk chunks × Takes Nothing (texts_of chunks) before after events × (body ≡ content chunks)
+    × (over ≡ excess_of chunks)
 
--- and then a chunk's line that says this size
-abbrev pub LineRead : List ℕ → List ℕ → List ℕ → ℕ → List Event → Type 0
-LineRead before after body size events = (chunks : List Chunk) × (line : List ℕ) × All IsChunk chunks × Takes Nothing (texts_of chunks ++ line) before after events
-    × (body ≡ content chunks) × IsLine line size
+-- and then a chunk's line of so many octets that says this size
+abbrev pub LineRead : List ℕ → List ℕ → List ℕ → ℕ → ℕ → ℕ → List Event → Type 0
+LineRead before after body over count size events = (chunks : List Chunk) × (line : List ℕ) × All IsChunk chunks
+    × Takes Nothing (texts_of chunks ++ line) before after events × (body ≡ content chunks) × (over ≡ excess_of chunks) × IsLine line size × (count ≡ length line)
 
-pub after_line : {a b : List ℕ} {xs : List Event} (body c : List ℕ) (size : ℕ) (ys : List Event) → Gathered a b body xs → ReadsLine b c (Ok size) ys
-    → LineRead a c body size (xs ++ ys)
-after_line body c size ys (chunks, all, takes, is) (line, more, said) = (chunks, line, all, then_takes Nothing takes more, is, said)
+-- what was read keeps to its limits
+pub record Keeps (limit : ℕ) (body : List ℕ) (over : ℕ) : Type 0 where
+  pub octets : length body ≤ limit
+  pub lines : over ≤ MAX_EXCESS_OCTETS
 
-pub line_stops : {a b : List ℕ} {xs : List Event} (limit : ℕ) (body c : List ℕ) (e : HttpError) (ys : List Event) → length body ≤ limit → Gathered a b body xs
-    → ReadsLine b c (Err e) ys → Breaks (ChunksStop limit) a c e (xs ++ ys)
-line_stops {a} {b} limit body c e ys within (chunks, all, takes, is) reads =
-    then_breaks ys NoLine (ChunksStop limit) takes reads (λ due text so. (chunks, text, all, refl, subst (λ (l : List ℕ). length l ≤ limit) is within, AtLine so.0 so.1))
+pub after_line : {a b : List ℕ} {xs : List Event} (body : List ℕ) (over : ℕ) (c : List ℕ) (count size : ℕ) (ys : List Event) → Gathered a b body over xs
+    → ReadsLine b c (Ok (count, size)) ys → LineRead a c body over count size (xs ++ ys)
+after_line body over c count size ys (chunks, all, takes, is, so) (line, more, said, long) = (chunks, line, all, then_takes Nothing takes more, is, so, said, long)
 
-pub limit_stops : {a b : List ℕ} {xs : List Event} (limit : ℕ) (body : List ℕ) (size : ℕ) → length body ≤ limit → limit < length body + size → LineRead a b body size xs
+pub line_stops : {a b : List ℕ} {xs : List Event} (limit : ℕ) (body : List ℕ) (over : ℕ) (c : List ℕ) (e : HttpError) (ys : List Event) → Keeps limit body over
+    → Gathered a b body over xs → ReadsLine b c (Err e) ys → Breaks (ChunksStop limit) a c e (xs ++ ys)
+line_stops {a} {b} limit body over c e ys keeps (chunks, all, takes, is, so) reads =
+    then_breaks ys NoLine (ChunksStop limit) takes reads (λ due text stops. (
+      chunks,
+      text,
+      all,
+      refl,
+      subst (λ (l : List ℕ). length l ≤ limit) is keeps.octets,
+      subst (λ (n : ℕ). n ≤ MAX_EXCESS_OCTETS) so keeps.lines,
+      AtLine stops.0 stops.1,
+    ))
+
+pub excess_stops : {a b : List ℕ} {xs : List Event} (limit : ℕ) (body : List ℕ) (over count size : ℕ) → Keeps limit body over → size ≢ 0
+    → MAX_EXCESS_OCTETS < over + (count - FREE_LINE_OCTETS) → LineRead a b body over count size xs → Breaks (ChunksStop limit) a b error.BadHead xs
+excess_stops {xs = xs} limit body over count size keeps some passes (chunks, line, all, takes, is, so, said, long) = (
+  Nothing,
+  texts_of chunks ++ line,
+  xs,
+  takes,
+  inl (refl, λ missing. absurd missing),
+  (
+    chunks,
+    line,
+    all,
+    refl,
+    subst (λ (l : List ℕ). length l ≤ limit) is keeps.octets,
+    subst (λ (n : ℕ). n ≤ MAX_EXCESS_OCTETS) so keeps.lines,
+    AtExcess size said (omega (arith, some)) (subst (λ (n : ℕ). MAX_EXCESS_OCTETS < excess_of chunks + (n - FREE_LINE_OCTETS)) long
+        (subst (λ (n : ℕ). MAX_EXCESS_OCTETS < n + (count - FREE_LINE_OCTETS)) so passes)) refl refl,
+  ),
+)
+
+-- the bound of the lines, as the definitions say it
+lines_kept : (chunks : List Chunk) (line : List ℕ) (over count : ℕ) → over ≡ excess_of chunks → count ≡ length line → over + (count - FREE_LINE_OCTETS) ≤ MAX_EXCESS_OCTETS
+    → excess_of chunks + excess line ≤ MAX_EXCESS_OCTETS
+lines_kept chunks line over count so long few =
+    subst (λ (n : ℕ). excess_of chunks + (n - FREE_LINE_OCTETS) ≤ MAX_EXCESS_OCTETS) long (subst (λ (n : ℕ). n + (count - FREE_LINE_OCTETS) ≤ MAX_EXCESS_OCTETS) so few)
+
+pub limit_stops : {a b : List ℕ} {xs : List Event} (limit : ℕ) (body : List ℕ) (over count size : ℕ) → Keeps limit body over
+    → over + (count - FREE_LINE_OCTETS) ≤ MAX_EXCESS_OCTETS → limit < length body + size → LineRead a b body over count size xs
     → Breaks (ChunksStop limit) a b (error.TooLarge limit) xs
-limit_stops {xs = xs} limit body size within over (chunks, line, all, takes, is, said) = (
+limit_stops {xs = xs} limit body over count size keeps few passes (chunks, line, all, takes, is, so, said, long) = (
   Nothing,
   texts_of chunks ++ line,
   xs,
@@ -127,52 +170,65 @@ limit_stops {xs = xs} limit body size within over (chunks, line, all, takes, is,
     line,
     all,
     refl,
-    subst (λ (l : List ℕ). length l ≤ limit) is within,
-    AtLimit size said (subst (λ (l : List ℕ). limit < length l + size) is over) refl refl,
+    subst (λ (l : List ℕ). length l ≤ limit) is keeps.octets,
+    subst (λ (n : ℕ). n ≤ MAX_EXCESS_OCTETS) so keeps.lines,
+    AtLimit size said (lines_kept chunks line over count so long few) (subst (λ (l : List ℕ). limit < length l + size) is passes) refl refl,
   ),
 )
 
-pub trailer_stops : {a b : List ℕ} {xs : List Event} (limit : ℕ) (body c : List ℕ) (e : HttpError) (ys : List Event) → length body ≤ limit → LineRead a b body 0 xs
-    → ReadsTrailer b c (Err e) ys → Breaks (ChunksStop limit) a c e (xs ++ ys)
-trailer_stops {a} {b} limit body c e ys within (chunks, line, all, takes, is, said) reads =
-    then_breaks ys NoTrailer (ChunksStop limit) takes reads (λ due text so.
-    let none : line ++ text ≡ line = ap (λ (l : List ℕ). line ++ l) so.0 ∙ append-nil line in (
+pub trailer_stops : {a b : List ℕ} {xs : List Event} (limit : ℕ) (body : List ℕ) (over count : ℕ) (c : List ℕ) (e : HttpError) (ys : List Event) → Keeps limit body over
+    → LineRead a b body over count 0 xs → ReadsTrailer b c (Err e) ys → Breaks (ChunksStop limit) a c e (xs ++ ys)
+trailer_stops {a} {b} limit body over count c e ys keeps (chunks, line, all, takes, is, so, said, long) reads =
+    then_breaks ys NoTrailer (ChunksStop limit) takes reads (λ due text stops.
+    let none : line ++ text ≡ line = ap (λ (l : List ℕ). line ++ l) stops.0 ∙ append-nil line in (
       chunks,
       line ++ text,
       all,
       append_assoc (texts_of chunks) line text,
-      subst (λ (l : List ℕ). length l ≤ limit) is within,
-      AtTrailer (subst (λ (l : List ℕ). IsLine l 0) (sym none) said) so.1,
+      subst (λ (l : List ℕ). length l ≤ limit) is keeps.octets,
+      subst (λ (n : ℕ). n ≤ MAX_EXCESS_OCTETS) so keeps.lines,
+      AtTrailer (subst (λ (l : List ℕ). IsLine l 0) (sym none) said) stops.1,
     ))
 
-pub chunk_stops : {a b : List ℕ} {xs : List Event} (limit : ℕ) (body keeps c : List ℕ) (size : ℕ) (e : HttpError) (ys : List Event) → length body + size ≤ limit → size ≢ 0
-    → LineRead a b body size xs → ReadsChunk size body keeps b c (Err e) ys → Breaks (ChunksStop limit) a c e (xs ++ ys)
-chunk_stops {a} {b} limit body keeps c size e ys within some (chunks, line, all, takes, is, said) reads =
+pub chunk_stops : {a b : List ℕ} {xs : List Event} (limit : ℕ) (body keeps : List ℕ) (over count : ℕ) (c : List ℕ) (size : ℕ) (e : HttpError) (ys : List Event)
+    → Keeps limit body over → over + (count - FREE_LINE_OCTETS) ≤ MAX_EXCESS_OCTETS → length body + size ≤ limit → size ≢ 0 → LineRead a b body over count size xs
+    → ReadsChunk size body keeps b c (Err e) ys → Breaks (ChunksStop limit) a c e (xs ++ ys)
+chunk_stops {a} {b} limit body keeps over count c size e ys kept few within some (chunks, line, all, takes, is, so, said, long) reads =
     let fits = subst (λ (l : List ℕ). length l + size ≤ limit) is within in
-    then_breaks ys (ChunkStops size) (ChunksStop limit) takes reads (λ due text so.
-    (chunks, line ++ text, all, append_assoc (texts_of chunks) line text, omega (arith, fits), InChunk line text size refl said (omega (arith, some)) fits so))
+    then_breaks ys (ChunkStops size) (ChunksStop limit) takes reads (λ due text stops. (
+      chunks,
+      line ++ text,
+      all,
+      append_assoc (texts_of chunks) line text,
+      omega (arith, fits),
+      subst (λ (n : ℕ). n ≤ MAX_EXCESS_OCTETS) so kept.lines,
+      InChunk line text size refl said (omega (arith, some)) (lines_kept chunks line over count so long few) fits stops,
+    ))
 
 -- a chunk more
-pub chunk_read : {a b : List ℕ} {xs : List Event} (body keeps c : List ℕ) (size : ℕ) (ys : List Event) → size ≢ 0 → LineRead a b body size xs
-    → ReadsChunk size body keeps b c (Ok tt) ys → Gathered a c keeps (xs ++ ys)
-chunk_read {a} {xs = xs} body keeps c size ys some (chunks, line, all, takes, is, said) (octets, more, long, adds) =
+pub chunk_read : {a b : List ℕ} {xs : List Event} (body keeps : List ℕ) (over count : ℕ) (c : List ℕ) (size : ℕ) (ys : List Event) → size ≢ 0
+    → LineRead a b body over count size xs → ReadsChunk size body keeps b c (Ok tt) ys → Gathered a c keeps (over + (count - FREE_LINE_OCTETS)) (xs ++ ys)
+chunk_read {a} {xs = xs} body keeps over count c size ys some (chunks, line, all, takes, is, so, said, counted) (octets, more, long, adds) =
     let chunk : Chunk = record { line = line; data_octets = octets } in
     let is_chunk : IsChunk chunk = record { line = subst (λ (n : ℕ). IsLine line n) (sym long) said; some = omega (arith, long, some) } in
     let texts : (texts_of chunks ++ line) ++ (octets ++ 13 ∷ 10 ∷ []) ≡ texts_of (chunks ++ chunk ∷ []) =
     append_assoc (texts_of chunks) line (octets ++ 13 ∷ 10 ∷ []) ∙ ap (λ (l : List ℕ). texts_of chunks ++ l) (sym (append-nil (line ++ (octets ++ 13 ∷ 10 ∷ []))))
     ∙ sym (flat_map-append chunk_text chunks (chunk ∷ [])) in
     let kept : keeps ≡ content (chunks ++ chunk ∷ []) =
-    adds ∙ ap (λ (l : List ℕ). l ++ octets) is ∙ ap (λ (l : List ℕ). content chunks ++ l) (sym (append-nil octets)) ∙ sym (flat_map-append data_of chunks (chunk ∷ [])) in (
+    adds ∙ ap (λ (l : List ℕ). l ++ octets) is ∙ ap (λ (l : List ℕ). content chunks ++ l) (sym (append-nil octets)) ∙ sym (flat_map-append data_of chunks (chunk ∷ [])) in
+    let sum : over + (count - FREE_LINE_OCTETS) ≡ excess_of (chunks ++ chunk ∷ []) =
+    (λ i. so i + (counted i - FREE_LINE_OCTETS)) ∙ sym (sum_by_push (λ (k : Chunk). excess k.line) chunks chunk) in (
       chunks ++ chunk ∷ [],
       All-append IsChunk chunks (chunk ∷ []) all (All-cons IsChunk chunk [] is_chunk (All-nil IsChunk)),
       subst (λ (l : List ℕ). Takes Nothing l a c (xs ++ ys)) texts (then_takes Nothing takes more),
       kept,
+      sum,
     )
 
 -- the whole body
-pub body_read : {a b : List ℕ} {xs : List Event} (limit : ℕ) (body c : List ℕ) (ys : List Event) → length body ≤ limit → LineRead a b body 0 xs → ReadsTrailer b c (Ok tt) ys
-    → ReadsChunks limit a c (Ok body) (xs ++ ys)
-body_read limit body c ys within (chunks, line, all, takes, is, said) (trailer, more, is_trailer) = (
+pub body_read : {a b : List ℕ} {xs : List Event} (limit : ℕ) (body : List ℕ) (over count : ℕ) (c : List ℕ) (ys : List Event) → Keeps limit body over
+    → LineRead a b body over count 0 xs → ReadsTrailer b c (Ok tt) ys → ReadsChunks limit a c (Ok body) (xs ++ ys)
+body_read limit body over count c ys keeps (chunks, line, all, takes, is, so, said, long) (trailer, more, is_trailer) = (
   (texts_of chunks ++ line) ++ trailer,
   then_takes Nothing takes more,
   record {
@@ -180,18 +236,19 @@ body_read limit body c ys within (chunks, line, all, takes, is, said) (trailer, 
     last = line;
     trailer = trailer;
     are_chunks = all;
+    few = subst (λ (n : ℕ). n ≤ MAX_EXCESS_OCTETS) so keeps.lines;
     is_last = said;
     is_trailer = is_trailer;
     whole = append_assoc (texts_of chunks) line trailer;
     body_is = is;
   },
-  within,
+  keeps.octets,
 )
 
 -- the whole body, and then memory ran out
-pub body_memory : {a b : List ℕ} {xs : List Event} (limit : ℕ) (body c : List ℕ) (ys : List Event) → length body ≤ limit → LineRead a b body 0 xs → ReadsTrailer b c (Ok tt) ys
-    → Breaks (ChunksStop limit) a c error.Memory (xs ++ ys)
-body_memory {xs = xs} limit body c ys within (chunks, line, all, takes, is, said) (trailer, more, is_trailer) = (
+pub body_memory : {a b : List ℕ} {xs : List Event} (limit : ℕ) (body : List ℕ) (over count : ℕ) (c : List ℕ) (ys : List Event) → Keeps limit body over
+    → LineRead a b body over count 0 xs → ReadsTrailer b c (Ok tt) ys → Breaks (ChunksStop limit) a c error.Memory (xs ++ ys)
+body_memory {xs = xs} limit body over count c ys keeps (chunks, line, all, takes, is, so, said, long) (trailer, more, is_trailer) = (
   Nothing,
   (texts_of chunks ++ line) ++ trailer,
   xs ++ ys,
@@ -202,7 +259,8 @@ body_memory {xs = xs} limit body c ys within (chunks, line, all, takes, is, said
     line ++ trailer,
     all,
     append_assoc (texts_of chunks) line trailer,
-    subst (λ (l : List ℕ). length l ≤ limit) is within,
+    subst (λ (l : List ℕ). length l ≤ limit) is keeps.octets,
+    subst (λ (n : ℕ). n ≤ MAX_EXCESS_OCTETS) so keeps.lines,
     AtEnd line trailer refl said is_trailer refl refl,
   ),
 )

@@ -1,5 +1,7 @@
 -- What the parser's answers say of a head.
-use Rattle.std.proofs.Common.{◌≡◌, ◌≢◌, ◌≤◌, ◌<◌, ◌*◌, ◌++◌, ℕ, List, [], ◌∷◌, length, take, map, refl, ap, subst, arith, length-append, inl, inr, Ok, Err, Result}
+use Rattle.std.proofs.Common.{◌≡◌, ◌≢◌, ◌≤◌, ◌<◌, ◌*◌, ◌++◌, ℕ, suc, List, [], ◌∷◌, length, take, map, refl, sym, ap, ◌∙◌, subst, arith, length-append, inl, inr, Ok, Err, Result}
+use Rattle.std.proofs.Math.Nat.{lt_of_not-le}
+use Rattle.std.proofs.lemmas.List.{take-append-le}
 use Rattle.std.specs.List.{flat_map}
 use Rattle.httparse.specs.declared.Error.{Error}
 use Rattle.httparse.specs.declared.Error.TheVariants.{HeaderName, HeaderValue, NewLine, Status, Token, TooManyHeaders, Version}
@@ -12,8 +14,13 @@ use Rattle.httparse.specs.Spans.{span_bytes, header_bytes, name_and_value, IsReq
 use Rattle.http_service.specs.declared.head.Head.{Head}
 use Rattle.http_service.specs.declared.error.HttpError.{HttpError}
 use Rattle.http_service.specs.declared.error.HttpError.TheVariants as error
+use Rattle.http_service.specs.declared.lines.Lines.{Lines}
+use Rattle.http_service.specs.declared.lines.Lines.TheVariants.{Head as OfHead, Trailer}
+use Rattle.http_service.specs.declared.lines.Place.TheVariants.{Ended}
+use Rattle.http_service.specs.reading.LineEnds.{EndAt, start, run}
 use Rattle.http_service.specs.Heads.{IsHeadText}
 use Rattle.http_service.specs.reading.Parses.{MakesHead, IsAtFront, IsRefused, ParsesFields}
+use Rattle.http_service.proofs.LineEndLemmas.{run_ended, request_open, section_open}
 
 end_long : (e : LineEnd) → 1 ≤ length (print_end e)
 end_long crlf = omega arith
@@ -35,15 +42,23 @@ unfolding print_request
 request_long h =
     omega (arith, length-append (print_blank h.blank ++ h.method ++ space ∷ h.target ++ space ∷ print_version h.minor ++ print_end h.line_end) (print_section h.fields h.last))
 
+-- lines that haven't ended after these octets are as long at least
+as_long : (lines : Lines) (octets front rest : List ℕ) (n : ℕ) → EndAt lines octets n → octets ≡ front ++ rest → run (start lines) front ≢ Ended → length front ≤ n
+as_long lines octets front rest n (inr all) is open_still = omega (arith, all, ap length is, length-append front rest)
+as_long lines octets front rest n (inl ended) is open_still =
+    let less : length front < suc n = lt_of_not-le (λ short.
+    let front_of : take n octets ≡ take n front = ap (take n) is ∙ take-append-le n front rest (omega (arith, short)) in
+    open_still (run_ended (start lines) front n (ap (run (start lines)) (sym front_of) ∙ ended))) in
+    omega (arith, less)
+
 -- there is room for all fields
-not_too_many : (octets : List ℕ) (room : ℕ) → length octets ≤ 2 * room → RequestExceeds room octets → ⊥
-not_too_many octets room enough (front, rest, is, h, reads, more) =
+pub request_room : (octets : List ℕ) (n room : ℕ) → EndAt OfHead octets n → n ≤ 2 * room → RequestExceeds room octets → ⊥
+request_room octets n room at enough (front, rest, is, h, reads, more) =
     omega (
       arith,
       enough,
       more,
-      ap length is,
-      length-append front rest,
+      as_long OfHead octets front rest n at is (request_open front (print_end lf) h reads (λ none. absurd cc)),
       ap length reads.1,
       length-append front (print_end lf),
       length-append (print_request h) [],
@@ -52,14 +67,14 @@ not_too_many octets room enough (front, rest, is, h, reads, more) =
     )
 
 -- an error of the parser
-pub refused : (octets : List ℕ) (room : ℕ) (e : Error) → length octets ≤ 2 * room → (e ≢ TooManyHeaders → NeverHasRequest octets)
+pub refused : (octets : List ℕ) (room : ℕ) (e : Error) → (RequestExceeds room octets → ⊥) → (e ≢ TooManyHeaders → NeverHasRequest octets)
     → (◌≡◌ {A = Error} e TooManyHeaders → RequestExceeds room octets) → IsRefused octets
 refused octets room HeaderName enough never over = inl (never (λ is. cc))
 refused octets room HeaderValue enough never over = inl (never (λ is. cc))
 refused octets room NewLine enough never over = inl (never (λ is. cc))
 refused octets room Status enough never over = inl (never (λ is. cc))
 refused octets room Token enough never over = inl (never (λ is. cc))
-refused octets room TooManyHeaders enough never over = absurd (not_too_many octets room enough (over refl))
+refused octets room TooManyHeaders enough never over = absurd (enough (over refl))
 refused octets room Version enough never over = inl (never (λ is. cc))
 
 -- what is made of a head, where its parts stand in the octets
@@ -89,14 +104,14 @@ not_made octets headers spans error.Short so makes = absurd makes
 not_made octets headers spans error.FrontFault so makes = absurd makes
 not_made octets headers spans error.Memory so makes = tt
 
-section_exceeds : (octets : List ℕ) (room : ℕ) → length octets ≤ 2 * room → SectionExceeds room octets → ⊥
-section_exceeds octets room enough (front, rest, is, fields, reads, more) =
+-- there is room for all fields of a trailer section
+pub section_room : (octets : List ℕ) (n room : ℕ) → EndAt Trailer octets n → n ≤ 2 * room → SectionExceeds room octets → ⊥
+section_room octets n room at enough (front, rest, is, fields, reads, more) =
     omega (
       arith,
       enough,
       more,
-      ap length is,
-      length-append front rest,
+      as_long Trailer octets front rest n at is (section_open front (print_end lf) fields lf reads (λ none. absurd cc)),
       ap length reads.1,
       length-append front (print_end lf),
       length-append (print_section fields lf) [],
@@ -104,12 +119,12 @@ section_exceeds octets room enough (front, rest, is, fields, reads, more) =
     )
 
 -- an error of the parser, where there is room for all fields of a trailer section
-pub trailer_refused : (octets : List ℕ) (room : ℕ) (e : Error) → length octets ≤ 2 * room → (e ≢ TooManyHeaders → NeverHasSection octets)
+pub trailer_refused : (octets : List ℕ) (room : ℕ) (e : Error) → (SectionExceeds room octets → ⊥) → (e ≢ TooManyHeaders → NeverHasSection octets)
     → (◌≡◌ {A = Error} e TooManyHeaders → SectionExceeds room octets) → NeverHasSection octets
 trailer_refused octets room HeaderName enough never over = never (λ is. cc)
 trailer_refused octets room HeaderValue enough never over = never (λ is. cc)
 trailer_refused octets room NewLine enough never over = never (λ is. cc)
 trailer_refused octets room Status enough never over = never (λ is. cc)
 trailer_refused octets room Token enough never over = never (λ is. cc)
-trailer_refused octets room TooManyHeaders enough never over = absurd (section_exceeds octets room enough (over refl))
+trailer_refused octets room TooManyHeaders enough never over = absurd (enough (over refl))
 trailer_refused octets room Version enough never over = never (λ is. cc)

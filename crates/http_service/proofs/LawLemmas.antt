@@ -90,7 +90,7 @@ one_head text other rest more h k (r, is_r, printed_r, says_r) (s, is_s, printed
     (printed_r ∙ ap print_request same.0 ∙ sym printed_s, one_request r h k says_r (subst (λ (t : RequestHead). IsHead t k) (sym same.0) says_s))
 
 -- where a head stands, it stands in the octets that a head may stand in
-in_window : (text rest : List ℕ) → length text ≤ MAX_HEAD_OCTETS → (more : List ℕ) × (window (text ++ rest) ≡ text ++ more)
+pub in_window : (text rest : List ℕ) → length text ≤ MAX_HEAD_OCTETS → (more : List ℕ) × (window (text ++ rest) ≡ text ++ more)
 in_window text rest few = cut text MAX_HEAD_OCTETS few
   where
     cut : (l : List ℕ) (n : ℕ) → length l ≤ n → (more : List ℕ) × (take n (l ++ rest) ≡ l ++ more)
@@ -122,7 +122,7 @@ not_both octets (inl (never, not_cut)) (none, inl (more, h, reads)) = never more
 not_both octets (inl (never, not_cut)) (none, inr cut) = not_cut cut
 not_both octets (inr (h, rest, reads, no_body)) (none, may) = none h rest reads
 
-one_line : (line other rest more : List ℕ) (size count : ℕ) → IsLine line size → IsLine other count → line ++ rest ≡ other ++ more → (line ≡ other) × (size ≡ count) × (rest ≡ more)
+pub one_line : (line other rest more : List ℕ) (size count : ℕ) → IsLine line size → IsLine other count → line ++ rest ≡ other ++ more → (line ≡ other) × (size ≡ count) × (rest ≡ more)
 one_line line other rest more size count (l, is_l, printed_l, says_l, short_l) (k, is_k, printed_k, says_k, short_k) whole =
     let same = chunk_line_unique (line ++ rest) l k rest more (is_l, ap (λ (t : List ℕ). t ++ rest) printed_l) (is_k, whole ∙ ap (λ (t : List ℕ). t ++ more) printed_k) in
     (printed_l ∙ ap print_chunk_line same.0 ∙ sym printed_k, says_l ∙ ap chunk_size same.0 ∙ sym says_k, same.1)
@@ -134,7 +134,7 @@ one_trailer trailer other rest more (fields, last, all, printed, short) (others,
     printed ∙ (λ i. print_section (same.0 i) (same.1 i)) ∙ sym spelled
 
 -- equally long fronts of one text
-same_front : (a b r q : List ℕ) → length a ≡ length b → a ++ r ≡ b ++ q → (a ≡ b) × (r ≡ q)
+pub same_front : (a b r q : List ℕ) → length a ≡ length b → a ++ r ≡ b ++ q → (a ≡ b) × (r ≡ q)
 same_front [] [] r q long whole = (refl, whole)
 same_front [] (y ∷ b) r q long whole = absurd (omega (arith, long))
 same_front (x ∷ a) [] r q long whole = absurd (omega (arith, long))

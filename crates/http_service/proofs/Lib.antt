@@ -7,4 +7,5 @@ pub mod TargetLemmas
 pub mod ChunkLemmas
 pub mod RefusalLemmas
 pub mod LawLemmas
+pub mod BodyLawLemmas
 pub mod CutTargetLemmas

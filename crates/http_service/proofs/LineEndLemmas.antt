@@ -4,7 +4,7 @@ use Rattle.std.proofs.Common.{append_assoc}
 use Rattle.std.proofs.Common.{length-append, ◌⊎◌, inl, inr, All, Option, Some, None}
 use Rattle.std.specs.List.{flat_map}
 use Rattle.std.proofs.lemmas.List.{append-nil, take_more}
-use Rattle.std.proofs.lemmas.List.Elements.{All-head, All-tail}
+use Rattle.std.proofs.lemmas.List.Elements.{All-head, All-tail, All-cons, All-nil}
 use Rattle.std.specs.Char.{is_ascii_hexdigit}
 use Rattle.httparse.specs.Ascii.{space, colon}
 use Rattle.httparse.specs.Grammar.{LineEnd, crlf, lf, print_end, print_blank, print_version, Field, IsField, print_field, print_section, AllPass, is_token_byte, is_uri_byte}
@@ -18,8 +18,8 @@ use Rattle.http_service.specs.declared.lines.Place.{Place}
 use Rattle.http_service.specs.declared.lines.Place.TheVariants.{Blank, Inside, Begun, Returned, Only, Ended}
 use Rattle.http_service.specs.declared.lines.Lines.{Lines}
 use Rattle.http_service.specs.declared.lines.Lines.TheVariants.{Head, ChunkLine as OfChunk, Trailer}
-use Rattle.http_service.specs.Taking.{HaveEnd}
-use Rattle.http_service.specs.reading.LineEnds.{start, step, run}
+use Rattle.http_service.specs.Taking.{HaveEnd, HeadLines, ChunkLine as LineOfChunk, TrailerLines, IsOfLineEnd}
+use Rattle.http_service.specs.reading.LineEnds.{lines_of, start, step, run}
 use Rattle.http_service.proofs.TakingLemmas.{begins_other}
 
 pub run-append : (place : Place) (xs ys : List ℕ) → run place (xs ++ ys) ≡ run (run place xs) ys
@@ -44,6 +44,23 @@ stays_blank : (ends : List LineEnd) (octets : List ℕ) → run Blank (print_bla
 stays_blank [] octets = refl
 stays_blank (crlf ∷ ends) octets = stays_blank ends octets
 stays_blank (lf ∷ ends) octets = stays_blank ends octets
+
+-- empty lines are octets of line ends
+blank_octets : (ends : List LineEnd) → All IsOfLineEnd (print_blank ends)
+blank_octets [] = All-nil IsOfLineEnd
+blank_octets (crlf ∷ ends) = All-cons IsOfLineEnd 13 (10 ∷ print_blank ends) (inl refl) (All-cons IsOfLineEnd 10 (print_blank ends) (inr refl) (blank_octets ends))
+blank_octets (lf ∷ ends) = All-cons IsOfLineEnd 10 (print_blank ends) (inr refl) (blank_octets ends)
+
+-- which leave the place where it is
+skips_blank : (blank octets : List ℕ) → All IsOfLineEnd blank → run Blank (blank ++ octets) ≡ run Blank octets
+skips_blank [] octets all = refl
+skips_blank (c ∷ blank) octets all =
+    let stays : step Blank c ≡ Blank = by (All-head IsOfLineEnd c blank all) in
+    ap (λ (p : Place). run p (blank ++ octets)) stays ∙ skips_blank blank octets (All-tail IsOfLineEnd c blank all)
+  where
+    by : IsOfLineEnd c → step Blank c ≡ Blank
+    by (inl is) = ap (step Blank) is
+    by (inr is) = ap (step Blank) is
 
 -- something but line ends has come
 abbrev pub Past : Place → Type 0
@@ -150,11 +167,11 @@ only_feed (c ∷ text) rest = either (c == 10) (only_feed text rest)
     either false more = more
 
 -- where the line end has come, it is seen
-pub no_end : (lines : Lines) (octets : List ℕ) → run (start lines) octets ≢ Ended → HaveEnd lines octets → ⊥
-no_end Head octets open_still (blank, first, text, last, rest, no_return, no_feed, whole) =
+pub no_end : (lines : Lines) (octets : List ℕ) → run (start lines) octets ≢ Ended → HaveEnd (lines_of lines) octets → ⊥
+no_end Head octets open_still (blank, first, text, last, rest, all, no_return, no_feed, whole) =
     open_still (
     ap (run Blank) whole
-    ∙ stays_blank blank ((first ∷ text) ++ ((10 ∷ print_end last) ++ rest))
+    ∙ skips_blank blank ((first ∷ text) ++ ((10 ∷ print_end last) ++ rest)) all
     ∙ ap (λ (p : Place). run p (text ++ ((10 ∷ print_end last) ++ rest))) (begins_blank first no_return no_feed)
     ∙ run-append Inside text ((10 ∷ print_end last) ++ rest)
     ∙ run-append (run Inside text) (10 ∷ print_end last) rest
@@ -171,6 +188,106 @@ no_end Trailer octets open_still (inr (text, last, rest, whole)) =
     ∙ ap (λ (p : Place). run p rest) (empty_line (run Begun text) last (past_run Begun text tt))
     ∙ stays_ended rest)
 
+-- what an octet may be where it is looked at
+same_or_not : (c d : ℕ) → (c ≡ d) ⊎ (c ≢ d)
+same_or_not c d = by (c == d) refl
+  where
+    by : (b : Bool) → c == d ≡ b → (c ≡ d) ⊎ (c ≢ d)
+    by true is = inl (grind (arith, is))
+    by false is = inr (λ same. grind (arith, is, same))
+
+-- an empty line stands there, after a line's end
+abbrev pub HasEmptyLine : List ℕ → Type 0
+HasEmptyLine octets = (text : List ℕ) × (last : LineEnd) × (rest : List ℕ) × (octets ≡ text ++ ((10 ∷ print_end last) ++ rest))
+
+abbrev pub BeginsEmpty : List ℕ → Type 0
+BeginsEmpty octets = (last : LineEnd) × (rest : List ℕ) × (octets ≡ print_end last ++ rest)
+
+after_octet : (c : ℕ) (octets : List ℕ) → HasEmptyLine octets → HasEmptyLine (c ∷ octets)
+after_octet c octets (text, last, rest, whole) = (c ∷ text, last, rest, ap (λ (l : List ℕ). c ∷ l) whole)
+
+-- what stands where the end is seen from a place on
+abbrev pub Stands : Place → List ℕ → Type 0
+Stands Blank octets = HaveEnd HeadLines octets
+Stands Inside octets = HasEmptyLine octets
+Stands Begun octets = BeginsEmpty octets ⊎ HasEmptyLine octets
+Stands Returned octets = BeginsEmpty (13 ∷ octets) ⊎ HasEmptyLine octets
+Stands Only octets = HaveEnd LineOfChunk octets
+Stands Ended octets = Unit {0}
+
+-- octets of line ends before a head
+after_blank : (c : ℕ) (octets : List ℕ) → IsOfLineEnd c → HaveEnd HeadLines octets → HaveEnd HeadLines (c ∷ octets)
+after_blank c octets is (blank, first, text, last, rest, all, no_return, no_feed, whole) =
+    (c ∷ blank, first, text, last, rest, All-cons IsOfLineEnd c blank is all, no_return, no_feed, ap (λ (l : List ℕ). c ∷ l) whole)
+
+stands_before : (place : Place) (c : ℕ) (octets : List ℕ) → Stands (step place c) octets → Stands place (c ∷ octets)
+stands_before Blank c octets more = by (same_or_not c 10) (same_or_not c 13)
+  where
+    by : (c ≡ 10) ⊎ (c ≢ 10) → (c ≡ 13) ⊎ (c ≢ 13) → HaveEnd HeadLines (c ∷ octets)
+    by (inl feed) _ = after_blank c octets (inr feed) (subst (λ (n : ℕ). Stands (step Blank n) octets) feed more)
+    by (inr other) (inl return) = after_blank c octets (inl return) (subst (λ (n : ℕ). Stands (step Blank n) octets) return more)
+    by (inr other) (inr neither) =
+        let inside : HasEmptyLine octets = subst (λ (p : Place). Stands p octets) (begins_blank c neither other) more in
+        ([], c, inside.0, inside.1, inside.2, All-nil IsOfLineEnd, neither, other, ap (λ (l : List ℕ). c ∷ l) inside.3)
+stands_before Inside c octets more = by (same_or_not c 10)
+  where
+    begun : BeginsEmpty octets ⊎ HasEmptyLine octets → HasEmptyLine (10 ∷ octets)
+    begun (inl (last, rest, whole)) = ([], last, rest, ap (λ (l : List ℕ). 10 ∷ l) whole)
+    begun (inr later) = after_octet 10 octets later
+
+    by : (c ≡ 10) ⊎ (c ≢ 10) → HasEmptyLine (c ∷ octets)
+    by (inl feed) = subst (λ (n : ℕ). HasEmptyLine (n ∷ octets)) (sym feed) (begun (subst (λ (n : ℕ). Stands (step Inside n) octets) feed more))
+    by (inr other) =
+        let stays : step Inside c ≡ Inside = grind (arith, other) in
+        after_octet c octets (subst (λ (p : Place). Stands p octets) stays more)
+stands_before Begun c octets more = by (same_or_not c 10) (same_or_not c 13)
+  where
+    returned : BeginsEmpty (13 ∷ octets) ⊎ HasEmptyLine octets → BeginsEmpty (13 ∷ octets) ⊎ HasEmptyLine (13 ∷ octets)
+    returned (inl here) = inl here
+    returned (inr later) = inr (after_octet 13 octets later)
+
+    by : (c ≡ 10) ⊎ (c ≢ 10) → (c ≡ 13) ⊎ (c ≢ 13) → BeginsEmpty (c ∷ octets) ⊎ HasEmptyLine (c ∷ octets)
+    by (inl feed) _ = inl (lf, octets, ap (λ (n : ℕ). n ∷ octets) feed)
+    by (inr other) (inl return) =
+        subst (λ (n : ℕ). BeginsEmpty (n ∷ octets) ⊎ HasEmptyLine (n ∷ octets)) (sym return) (returned (subst (λ (n : ℕ). Stands (step Begun n) octets) return more))
+    by (inr other) (inr neither) =
+        let stays : step Begun c ≡ Inside = grind (arith, other, neither) in
+        inr (after_octet c octets (subst (λ (p : Place). Stands p octets) stays more))
+stands_before Returned c octets more = by (same_or_not c 10)
+  where
+    by : (c ≡ 10) ⊎ (c ≢ 10) → BeginsEmpty (13 ∷ c ∷ octets) ⊎ HasEmptyLine (c ∷ octets)
+    by (inl feed) = inl (crlf, octets, ap (λ (n : ℕ). 13 ∷ n ∷ octets) feed)
+    by (inr other) =
+        let stays : step Returned c ≡ Inside = grind (arith, other) in
+        inr (after_octet c octets (subst (λ (p : Place). Stands p octets) stays more))
+stands_before Only c octets more = by (same_or_not c 10)
+  where
+    by : (c ≡ 10) ⊎ (c ≢ 10) → HaveEnd LineOfChunk (c ∷ octets)
+    by (inl feed) = ([], octets, ap (λ (n : ℕ). n ∷ octets) feed)
+    by (inr other) =
+        let stays : step Only c ≡ Only = grind (arith, other) in
+        let later : HaveEnd LineOfChunk octets = subst (λ (p : Place). Stands p octets) stays more in
+        (c ∷ later.0, later.1, ap (λ (l : List ℕ). c ∷ l) later.2)
+stands_before Ended c octets more = tt
+
+nothing_stands : (place : Place) → place ≡ Ended → Stands place []
+nothing_stands Blank ended = absurd cc
+nothing_stands Inside ended = absurd cc
+nothing_stands Begun ended = absurd cc
+nothing_stands Returned ended = absurd cc
+nothing_stands Only ended = absurd cc
+nothing_stands Ended ended = tt
+
+stands_there : (place : Place) (octets : List ℕ) → run place octets ≡ Ended → Stands place octets
+stands_there place [] ended = nothing_stands place ended
+stands_there place (c ∷ octets) ended = stands_before place c octets (stands_there (step place c) octets ended)
+
+-- where the end is seen, the line end has come
+pub has_end : (lines : Lines) (octets : List ℕ) → run (start lines) octets ≡ Ended → HaveEnd (lines_of lines) octets
+has_end Head octets ended = stands_there Blank octets ended
+has_end OfChunk octets ended = stands_there Only octets ended
+has_end Trailer octets ended = stands_there Begun octets ended
+
 token_no_feed : is_token_byte 10 ≡ false
 unfolding is_token_byte
 token_no_feed = refl
@@ -183,30 +300,31 @@ not_it : (test : ℕ → Bool) (c d : ℕ) → test d ≡ false → test c ≡ t
 not_it test c d fails passes is = absurd (let k = subst (λ (n : ℕ). test n ≡ true) is passes in cc)
 
 -- a head has the line end that ends it
-pub head_end : (h : RequestHead) (rest : List ℕ) → IsRequestHead h → HaveEnd Head (print_request h ++ rest)
+pub head_end : (h : RequestHead) (rest : List ℕ) → IsRequestHead h → HaveEnd HeadLines (print_request h ++ rest)
 head_end h rest is = by h.method is.method (head_parts h rest)
   where
     by : (method : List ℕ) → IsToken method → (more : List ℕ) × (print_request h ++ rest ≡ print_blank h.blank ++ (method ++ (more ++ ((10 ∷ print_end h.last) ++ rest))))
-        → HaveEnd Head (print_request h ++ rest)
+        → HaveEnd HeadLines (print_request h ++ rest)
     by [] token parts = absurd (omega (arith, token.0))
     by (c ∷ method) token (more, whole) =
         let passes = All-head (λ v. is_token_byte v ≡ true) c method token.1 in (
-          h.blank,
+          print_blank h.blank,
           c,
           method ++ more,
           h.last,
           rest,
+          blank_octets h.blank,
           not_it is_token_byte c 13 token_no_return passes,
           not_it is_token_byte c 10 token_no_feed passes,
           whole ∙ ap (λ (l : List ℕ). print_blank h.blank ++ (c ∷ l)) (sym (append_assoc method more ((10 ∷ print_end h.last) ++ rest))),
         )
 
 -- so has a chunk's line
-pub line_end : (l : ChunkLine) (rest : List ℕ) → HaveEnd OfChunk (print_chunk_line l ++ rest)
+pub line_end : (l : ChunkLine) (rest : List ℕ) → HaveEnd LineOfChunk (print_chunk_line l ++ rest)
 line_end l rest = let parts = line_feed_last l rest in (parts.0, rest, parts.1)
 
 -- so has a trailer section
-pub trailer_end : (fields : List Field) (last : LineEnd) (rest : List ℕ) → HaveEnd Trailer (print_section fields last ++ rest)
+pub trailer_end : (fields : List Field) (last : LineEnd) (rest : List ℕ) → HaveEnd TrailerLines (print_section fields last ++ rest)
 trailer_end [] last rest = inl (last, rest, refl)
 trailer_end (f ∷ fields) last rest =
     let lines = lines_end (f.name ++ colon ∷ f.raw) f.end fields in
@@ -330,12 +448,16 @@ section_init fields lf all =
     let at : run Begun (flat_map print_field fields) ≡ Begun = ap (run Begun) (sym (append-nil (flat_map print_field fields))) ∙ fields_more fields [] all in
     (flat_map print_field fields, refl, λ ended. absurd (let k = sym at ∙ ended in cc))
 
+-- a trailer section hasn't ended before its last octet
+pub section_open : (octets more : List ℕ) (fields : List Field) (last : LineEnd) → ReadsSection (octets ++ more) fields last [] → more ≢ [] → run Begun octets ≢ Ended
+section_open octets more fields last (all, whole) some =
+    let init = section_init fields last all in
+    cut_before Begun octets more init.0 10 (whole ∙ append-nil (print_section fields last) ∙ init.1) some init.2
+
 -- a trailer section that may go on
 pub trailer_open : (octets : List ℕ) → HasNoSection octets → MayBecomeSection octets → run Begun octets ≢ Ended
-trailer_open octets none (more, fields, last, (all, whole)) =
-    let init = section_init fields last all in
-    cut_before Begun octets more init.0 10 (whole ∙ append-nil (print_section fields last) ∙ init.1)
-    (goes_on octets more (λ text. ReadsSection text fields last []) (none fields last []) (all, whole)) init.2
+trailer_open octets none (more, fields, last, reads) =
+    section_open octets more fields last reads (goes_on octets more (λ text. ReadsSection text fields last []) (none fields last []) reads)
 
 version_more : (minor : ℕ) (rest : List ℕ) → run Inside (print_version minor ++ rest) ≡ run Inside rest
 version_more minor rest =
@@ -365,13 +487,12 @@ inside_target octets (blank, method, target, token, all, whole) =
 -- they have no head
 pub no_head_in_target : (octets : List ℕ) (h : RequestHead) (rest : List ℕ) → EndsInTarget octets → ReadsRequest octets h rest → ⊥
 no_head_in_target octets h rest cut (is, whole) =
-    no_end Head octets (λ ended. absurd (let k = sym (inside_target octets cut) ∙ ended in cc)) (subst (HaveEnd Head) (sym whole) (head_end h rest is))
+    no_end Head octets (λ ended. absurd (let k = sym (inside_target octets cut) ∙ ended in cc)) (subst (HaveEnd HeadLines) (sym whole) (head_end h rest is))
 
--- a head that may go on
-pub head_open : (octets : List ℕ) → HasNoRequest octets → MayBecomeRequest octets → run Blank octets ≢ Ended
-head_open octets none (inl (more, h, (is, whole))) =
-    cut_before Blank octets more (lead init.0) 10 text (goes_on octets more (λ t. ReadsRequest t h []) (none h []) (is, whole))
-    (λ ended. init.2 (sym (request_more h init.0 is) ∙ ended))
+-- a head hasn't ended before its last octet
+pub request_open : (octets more : List ℕ) (h : RequestHead) → ReadsRequest (octets ++ more) h [] → more ≢ [] → run Blank octets ≢ Ended
+request_open octets more h (is, whole) some =
+    cut_before Blank octets more (lead init.0) 10 text some (λ ended. init.2 (sym (request_more h init.0 is) ∙ ended))
   where
     lead : List ℕ → List ℕ
     lead rest = print_blank h.blank ++ (h.method ++ 32 ∷ (h.target ++ 32 ∷ (print_version h.minor ++ (print_end h.line_end ++ rest))))
@@ -388,4 +509,9 @@ head_open octets none (inl (more, h, (is, whole))) =
         ∙ print_request-append h []
         ∙ ap lead (append-nil (print_section h.fields h.last) ∙ init.1)
         ∙ regroup (print_blank h.blank) h.method h.target (print_version h.minor) (print_end h.line_end) init.0 (10 ∷ [])
+
+-- a head that may go on
+pub head_open : (octets : List ℕ) → HasNoRequest octets → MayBecomeRequest octets → run Blank octets ≢ Ended
+head_open octets none (inl (more, h, reads)) =
+    request_open octets more h reads (goes_on octets more (λ t. ReadsRequest t h []) (none h []) reads)
 head_open octets none (inr cut) = λ ended. absurd (let k = sym (inside_target octets cut) ∙ ended in cc)

@@ -4,19 +4,19 @@ use Rattle.std.proofs.Common.{length-take, ◌⊎◌, inl, inr, Some, None, Ok, 
 use Rattle.std.proofs.Math.Seq.{take-append_seam, drop-append_seam}
 use Rattle.std.proofs.lemmas.List.{take_all, take-append-drop}
 use Rattle.http_service.specs.declared.lines.TheConstants.{MAX_HEAD_OCTETS}
-use Rattle.http_service.specs.Taking.{HaveEnd, Due, Nothing, Octets, LinesOf, IsMissing, Takes, EndedInside, Breaks, window}
-use Rattle.http_service.specs.reading.LineEnds.{start, run}
+use Rattle.http_service.specs.Taking.{HaveEnd, HeadLines, ChunkLine as LineOfChunk, TrailerLines, Due, Nothing, Octets, LinesOf, IsMissing, Takes, EndedInside, Breaks, window}
+use Rattle.http_service.specs.reading.LineEnds.{lines_of, start, run}
 use Rattle.http_service.specs.declared.lines.Lines.{Lines}
 use Rattle.http_service.specs.declared.lines.Lines.TheVariants as of
 use Rattle.http_service.specs.declared.line_reading.Stop.{Stop}
 use Rattle.http_service.specs.declared.line_reading.Stop.TheVariants as stop
 use Rattle.http_service.specs.declared.lines.Place.TheVariants.{Ended}
-use Rattle.http_service.proofs.LineEndLemmas.{no_end, head_end, line_end, trailer_end}
+use Rattle.http_service.proofs.LineEndLemmas.{no_end, has_end, head_end, line_end, trailer_end}
 use Rattle.http_service.proofs.TakingLemmas.{lines_taken}
 use Rattle.http_service.specs.declared.error.HttpError.{HttpError}
 use Rattle.http_service.specs.declared.error.HttpError.TheVariants as error
 use Rattle.http_service.specs.ReadChunked.{DataStops}
-use Rattle.http_service.specs.reading.Steps.{Grows, IsOutside, StopsAt, ReadsLines, NoLine, NoTrailer}
+use Rattle.http_service.specs.reading.Steps.{Grows, IsOutside, IsStopped, StopsAt, ReadsLines, NoLine, NoTrailer}
 use Rattle.http_service.specs.reading.Parses.{ParsesLine, ParsesTrailer, ParsesHead}
 use Rattle.http_service.specs.Heads.{IsHeadText, IsIncomplete}
 use Rattle.http_service.specs.Chunked.{IsLine, IsTrailer}
@@ -69,7 +69,7 @@ data_outside size error.FrontFault out = refl
 data_outside size error.Memory out = refl
 
 -- lines that haven't ended, and aren't as long as they may be, are missing
-pub lines_missing : (lines : Lines) (octets : List ℕ) → run (start lines) (window octets) ≢ Ended → length (window octets) < MAX_HEAD_OCTETS → IsMissing (LinesOf lines) octets
+pub lines_missing : (lines : Lines) (octets : List ℕ) → run (start lines) (window octets) ≢ Ended → length (window octets) < MAX_HEAD_OCTETS → IsMissing (LinesOf (lines_of lines)) octets
 lines_missing lines octets not_ended short =
     let same = short_window octets short in
     (no_end lines octets (λ is. not_ended (ap (run (start lines)) same ∙ is)), omega (arith, short, ap length same))
@@ -79,7 +79,7 @@ not_grown now after seen true is grows = absurd cc
 not_grown now after seen false is grows = grows
 
 stop_ends : (lines : Lines) (at : Stop) (rest : List ℕ) (events earlier : List Event) → StopsAt lines at rest events earlier → (events ≡ earlier)
-    ⊎ EndedInside (LinesOf lines) rest events earlier
+    ⊎ EndedInside (LinesOf (lines_of lines)) rest events earlier
 stop_ends lines stop.Ended rest events earlier is = inl is
 stop_ends lines stop.Full rest events earlier is = inl is
 stop_ends lines stop.Closed rest events earlier ended = inr ended
@@ -100,123 +100,132 @@ at_front now text after n whole long rest =
 
 -- lines that were found are taken
 pub lines_read : {before now : List ℕ} {es : List Event} (lines : Lines) (at : Stop) (text after : List ℕ) → ReadsLines lines before now (Ok at) es → now ≡ text ++ after
-    → ((rest : List ℕ) → HaveEnd lines (text ++ rest)) → Takes Nothing text before after es
+    → ((rest : List ℕ) → HaveEnd (lines_of lines) (text ++ rest)) → Takes Nothing text before after es
 lines_read {before} {now} {es} lines at text after (earlier, takes, stops) whole ends = by (stop_ends lines at now es earlier stops)
   where
-    by : (es ≡ earlier) ⊎ EndedInside (LinesOf lines) now es earlier → Takes Nothing text before after es
-    by (inl is) = subst (Takes Nothing text before after) (sym is) (lines_taken lines text after takes whole ends)
-    by (inr (is, (no_last, short))) = absurd (no_last (subst (HaveEnd lines) (sym whole) (ends after)))
+    by : (es ≡ earlier) ⊎ EndedInside (LinesOf (lines_of lines)) now es earlier → Takes Nothing text before after es
+    by (inl is) = subst (Takes Nothing text before after) (sym is) (lines_taken (lines_of lines) text after takes whole ends)
+    by (inr (is, (no_last, short))) = absurd (no_last (subst (HaveEnd (lines_of lines)) (sym whole) (ends after)))
+
+-- all of it has come, or the input ended before
+malformed_ends : (lines : Lines) (at : Stop) (rest : List ℕ) (events earlier : List Event) → IsStopped lines at rest → StopsAt lines at rest events earlier
+    → ((events ≡ earlier) × (IsMissing (LinesOf (lines_of lines)) rest → ⊥)) ⊎ EndedInside (LinesOf (lines_of lines)) rest events earlier
+malformed_ends lines stop.Ended rest events earlier stopped is =
+    inl (is, λ missing. missing.0 (has_end lines rest (ap (run (start lines)) (sym (whole_window rest (omega (arith, missing.1)))) ∙ stopped)))
+malformed_ends lines stop.Full rest events earlier stopped is = inl (is, λ missing. absurd (omega (arith, missing.1, stopped.1)))
+malformed_ends lines stop.Closed rest events earlier stopped ended = inr ended
 
 -- no lines were found: malformed, or out of memory
-pub lines_malformed : {before now : List ℕ} {es : List Event} (lines : Lines) (at : Stop) (C : Due → List ℕ → List ℕ → HttpError → Type 0) → ReadsLines lines before now (Ok at) es
-    → C (LinesOf lines) [] now error.BadHead → Breaks C before now error.BadHead es
-lines_malformed {now = now} {es = es} lines at C (earlier, takes, stops) cause = (LinesOf lines, [], earlier, takes, stop_ends lines at now es earlier stops, cause)
+pub lines_malformed : {before now : List ℕ} {es : List Event} (lines : Lines) (at : Stop) (C : Due → List ℕ → List ℕ → HttpError → Type 0) → IsStopped lines at now
+    → ReadsLines lines before now (Ok at) es → C (LinesOf (lines_of lines)) [] now error.BadHead → Breaks C before now error.BadHead es
+lines_malformed {now = now} {es = es} lines at C stopped (earlier, takes, stops) cause =
+    (LinesOf (lines_of lines), [], earlier, takes, malformed_ends lines at now es earlier stopped stops, cause)
 
 pub lines_memory : {before now : List ℕ} {es : List Event} (lines : Lines) (at : Stop) (C : Due → List ℕ → List ℕ → HttpError → Type 0) → ReadsLines lines before now (Ok at) es
-    → C (LinesOf lines) [] now error.Memory → Breaks C before now error.Memory es
-lines_memory {now = now} {es = es} lines at C (earlier, takes, stops) cause = (LinesOf lines, [], earlier, takes, stop_ends lines at now es earlier stops, cause)
+    → C (LinesOf (lines_of lines)) [] now error.Memory → Breaks C before now error.Memory es
+lines_memory {now = now} {es = es} lines at C (earlier, takes, stops) cause = (LinesOf (lines_of lines), [], earlier, takes, stop_ends lines at now es earlier stops, cause)
 
 -- no line was found
-pub line_refused : {before now : List ℕ} (es : List Event) (at : Stop) (e : HttpError) → ReadsLines of.ChunkLine before now (Ok at) es → ParsesLine (window now) (Err e)
+pub line_refused : {before now : List ℕ} (es : List Event) (at : Stop) (e : HttpError) → IsStopped of.ChunkLine at now → ReadsLines of.ChunkLine before now (Ok at) es → ParsesLine (window now) (Err e)
     → Breaks NoLine before now e es
-line_refused es at error.BadHead reads never = lines_malformed of.ChunkLine at NoLine reads (refl, (refl, inl never))
-line_refused es at error.HeadTooLarge reads parses = absurd parses
-line_refused es at (error.TooLarge limit) reads parses = absurd parses
-line_refused es at error.Short reads parses = absurd parses
-line_refused es at error.FrontFault reads parses = absurd parses
-line_refused es at error.Memory reads parses = absurd parses
+line_refused es at error.BadHead stopped reads never = lines_malformed of.ChunkLine at NoLine stopped reads (refl, (refl, inl never))
+line_refused es at error.HeadTooLarge stopped reads parses = absurd parses
+line_refused es at (error.TooLarge limit) stopped reads parses = absurd parses
+line_refused es at error.Short stopped reads parses = absurd parses
+line_refused es at error.FrontFault stopped reads parses = absurd parses
+line_refused es at error.Memory stopped reads parses = absurd parses
 
 pub line_outside : {before now : List ℕ} (es : List Event) (e : HttpError) → ReadsLines of.ChunkLine before now (Err e) es → Breaks NoLine before now e es
 line_outside es error.BadHead (earlier, takes, ends, out) = absurd out
 line_outside es error.HeadTooLarge (earlier, takes, ends, out) = absurd out
 line_outside es (error.TooLarge limit) (earlier, takes, ends, out) = absurd out
 line_outside es error.Short (earlier, takes, ends, out) = absurd out
-line_outside es error.FrontFault (earlier, takes, ends, out) = (LinesOf of.ChunkLine, [], earlier, takes, ends, (refl, refl))
-line_outside es error.Memory (earlier, takes, ends, out) = (LinesOf of.ChunkLine, [], earlier, takes, ends, (refl, refl))
+line_outside es error.FrontFault (earlier, takes, ends, out) = (LinesOf LineOfChunk, [], earlier, takes, ends, (refl, refl))
+line_outside es error.Memory (earlier, takes, ends, out) = (LinesOf LineOfChunk, [], earlier, takes, ends, (refl, refl))
 
 -- the line is too long
-pub line_full : {before now : List ℕ} {es : List Event} → ReadsLines of.ChunkLine before now (Ok stop.Full) es → HasNoChunkLine (window now) → MAX_HEAD_OCTETS ≤ length now
+pub line_full : {before now : List ℕ} {es : List Event} → IsStopped of.ChunkLine stop.Full now → ReadsLines of.ChunkLine before now (Ok stop.Full) es → HasNoChunkLine (window now)
     → Breaks NoLine before now error.BadHead es
-line_full reads none many = lines_malformed of.ChunkLine stop.Full NoLine reads (refl, (refl, inr (none, many)))
+line_full full reads none = lines_malformed of.ChunkLine stop.Full NoLine full reads (refl, (refl, inr (none, full.1)))
 
 -- the input ended inside
 pub line_short : {before now : List ℕ} {es : List Event} → ReadsLines of.ChunkLine before now (Ok stop.Closed) es → ParsesLine (window now) (Ok None)
     → Breaks NoLine before now error.Short es
 line_short {now = now} (earlier, takes, (is, (no_last, short))) parses =
     let all = subst (λ (l : List ℕ). ParsesLine l (Ok None)) (whole_window now (omega (arith, short))) parses in
-    (LinesOf of.ChunkLine, [], earlier, takes, (is, (no_last, short)), (refl, (refl, all.0, all.1)))
+    (LinesOf LineOfChunk, [], earlier, takes, (is, (no_last, short)), (refl, (refl, all.0, all.1)))
 
 -- no trailer section was found
-pub trailer_not_read : {before now : List ℕ} (es : List Event) (at : Stop) (e : HttpError) → ReadsLines of.Trailer before now (Ok at) es → ParsesTrailer (window now) (Err e)
+pub trailer_not_read : {before now : List ℕ} (es : List Event) (at : Stop) (e : HttpError) → IsStopped of.Trailer at now → ReadsLines of.Trailer before now (Ok at) es → ParsesTrailer (window now) (Err e)
     → Breaks NoTrailer before now e es
-trailer_not_read es at error.BadHead reads never = lines_malformed of.Trailer at NoTrailer reads (refl, (refl, inl never))
-trailer_not_read es at error.HeadTooLarge reads parses = absurd parses
-trailer_not_read es at (error.TooLarge limit) reads parses = absurd parses
-trailer_not_read es at error.Short reads parses = absurd parses
-trailer_not_read es at error.FrontFault reads parses = absurd parses
-trailer_not_read es at error.Memory reads parses = lines_memory of.Trailer at NoTrailer reads (refl, refl)
+trailer_not_read es at error.BadHead stopped reads never = lines_malformed of.Trailer at NoTrailer stopped reads (refl, (refl, inl never))
+trailer_not_read es at error.HeadTooLarge stopped reads parses = absurd parses
+trailer_not_read es at (error.TooLarge limit) stopped reads parses = absurd parses
+trailer_not_read es at error.Short stopped reads parses = absurd parses
+trailer_not_read es at error.FrontFault stopped reads parses = absurd parses
+trailer_not_read es at error.Memory stopped reads parses = lines_memory of.Trailer at NoTrailer reads (refl, refl)
 
 pub trailer_outside : {before now : List ℕ} (es : List Event) (e : HttpError) → ReadsLines of.Trailer before now (Err e) es → Breaks NoTrailer before now e es
 trailer_outside es error.BadHead (earlier, takes, ends, out) = absurd out
 trailer_outside es error.HeadTooLarge (earlier, takes, ends, out) = absurd out
 trailer_outside es (error.TooLarge limit) (earlier, takes, ends, out) = absurd out
 trailer_outside es error.Short (earlier, takes, ends, out) = absurd out
-trailer_outside es error.FrontFault (earlier, takes, ends, out) = (LinesOf of.Trailer, [], earlier, takes, ends, (refl, refl))
-trailer_outside es error.Memory (earlier, takes, ends, out) = (LinesOf of.Trailer, [], earlier, takes, ends, (refl, refl))
+trailer_outside es error.FrontFault (earlier, takes, ends, out) = (LinesOf TrailerLines, [], earlier, takes, ends, (refl, refl))
+trailer_outside es error.Memory (earlier, takes, ends, out) = (LinesOf TrailerLines, [], earlier, takes, ends, (refl, refl))
 
-pub trailer_full : {before now : List ℕ} {es : List Event} → ReadsLines of.Trailer before now (Ok stop.Full) es → HasNoSection (window now) → MAX_HEAD_OCTETS ≤ length now
+pub trailer_full : {before now : List ℕ} {es : List Event} → IsStopped of.Trailer stop.Full now → ReadsLines of.Trailer before now (Ok stop.Full) es → HasNoSection (window now)
     → Breaks NoTrailer before now error.BadHead es
-trailer_full reads none many = lines_malformed of.Trailer stop.Full NoTrailer reads (refl, (refl, inr (none, many)))
+trailer_full full reads none = lines_malformed of.Trailer stop.Full NoTrailer full reads (refl, (refl, inr (none, full.1)))
 
 pub trailer_short : {before now : List ℕ} {es : List Event} → ReadsLines of.Trailer before now (Ok stop.Closed) es → ParsesTrailer (window now) (Ok None)
     → Breaks NoTrailer before now error.Short es
 trailer_short {now = now} (earlier, takes, (is, (no_last, short))) parses =
     let all = subst (λ (l : List ℕ). ParsesTrailer l (Ok None)) (whole_window now (omega (arith, short))) parses in
-    (LinesOf of.Trailer, [], earlier, takes, (is, (no_last, short)), (refl, (refl, all.0, all.1)))
+    (LinesOf TrailerLines, [], earlier, takes, (is, (no_last, short)), (refl, (refl, all.0, all.1)))
 
 -- no head was found
-pub head_refused : {before now : List ℕ} (es : List Event) (at : Stop) (e : HttpError) → ReadsLines of.Head before now (Ok at) es → ParsesHead (window now) (Err e)
+pub head_refused : {before now : List ℕ} (es : List Event) (at : Stop) (e : HttpError) → IsStopped of.Head at now → ReadsLines of.Head before now (Ok at) es → ParsesHead (window now) (Err e)
     → Breaks NoHead before now e es
-head_refused es at error.BadHead reads malformed = lines_malformed of.Head at NoHead reads (refl, refl, malformed)
-head_refused es at error.HeadTooLarge reads parses = absurd parses
-head_refused es at (error.TooLarge limit) reads parses = absurd parses
-head_refused es at error.Short reads parses = absurd parses
-head_refused es at error.FrontFault reads parses = absurd parses
-head_refused es at error.Memory reads parses = lines_memory of.Head at NoHead reads (refl, refl, tt)
+head_refused es at error.BadHead stopped reads malformed = lines_malformed of.Head at NoHead stopped reads (refl, refl, malformed)
+head_refused es at error.HeadTooLarge stopped reads parses = absurd parses
+head_refused es at (error.TooLarge limit) stopped reads parses = absurd parses
+head_refused es at error.Short stopped reads parses = absurd parses
+head_refused es at error.FrontFault stopped reads parses = absurd parses
+head_refused es at error.Memory stopped reads parses = lines_memory of.Head at NoHead reads (refl, refl, tt)
 
 pub head_outside : {before now : List ℕ} (es : List Event) (e : HttpError) → ReadsLines of.Head before now (Err e) es → Breaks NoHead before now e es
 head_outside es error.BadHead (earlier, takes, ends, out) = absurd out
 head_outside es error.HeadTooLarge (earlier, takes, ends, out) = absurd out
 head_outside es (error.TooLarge limit) (earlier, takes, ends, out) = absurd out
 head_outside es error.Short (earlier, takes, ends, out) = absurd out
-head_outside es error.FrontFault (earlier, takes, ends, out) = (LinesOf of.Head, [], earlier, takes, ends, (refl, refl, tt))
-head_outside es error.Memory (earlier, takes, ends, out) = (LinesOf of.Head, [], earlier, takes, ends, (refl, refl, tt))
+head_outside es error.FrontFault (earlier, takes, ends, out) = (LinesOf HeadLines, [], earlier, takes, ends, (refl, refl, tt))
+head_outside es error.Memory (earlier, takes, ends, out) = (LinesOf HeadLines, [], earlier, takes, ends, (refl, refl, tt))
 
 pub head_full : {before now : List ℕ} {es : List Event} → ReadsLines of.Head before now (Ok stop.Full) es → IsIncomplete (window now) → MAX_HEAD_OCTETS ≤ length now
     → Breaks NoHead before now error.HeadTooLarge es
-head_full (earlier, takes, is) incomplete many = (LinesOf of.Head, [], earlier, takes, is, (refl, refl, (incomplete, many)))
+head_full (earlier, takes, is) incomplete many = (LinesOf HeadLines, [], earlier, takes, is, (refl, refl, (incomplete, many)))
 
 pub head_short : {before now : List ℕ} {es : List Event} → ReadsLines of.Head before now (Ok stop.Closed) es → IsIncomplete (window now) → Breaks NoHead before now error.Short es
 head_short {now = now} (earlier, takes, (is, (no_last, short))) incomplete =
-    (LinesOf of.Head, [], earlier, takes, (is, (no_last, short)), (refl, refl, subst IsIncomplete (whole_window now (omega (arith, short))) incomplete))
+    (LinesOf HeadLines, [], earlier, takes, (is, (no_last, short)), (refl, refl, subst IsIncomplete (whole_window now (omega (arith, short))) incomplete))
 
 -- the line that was found
 pub line_found : (now : List ℕ) (n size : ℕ) → ParsesLine (window now) (Ok (Some (n, size))) → (text : List ℕ) × (now ≡ text ++ drop n now) × IsLine text size × (n ≤ length now)
-    × ((rest : List ℕ) → HaveEnd of.ChunkLine (text ++ rest))
+    × ((rest : List ℕ) → HaveEnd LineOfChunk (text ++ rest)) × (n ≡ length text)
 line_found now n size (text, (l, is, printed, says), whole, long) =
     let at = at_front now text (drop n now) n whole long refl in
-    (text, at.0, (l, is, printed, says, at.1), at.2, λ rest. subst (λ (t : List ℕ). HaveEnd of.ChunkLine (t ++ rest)) (sym printed) (line_end l rest))
+    (text, at.0, (l, is, printed, says, at.1), at.2, λ rest. subst (λ (t : List ℕ). HaveEnd LineOfChunk (t ++ rest)) (sym printed) (line_end l rest), long)
 
 -- the trailer section that was found
 pub trailer_found : (now : List ℕ) (n : ℕ) → ParsesTrailer (window now) (Ok (Some n)) → (text : List ℕ) × (now ≡ text ++ drop n now) × IsTrailer text × (n ≤ length now)
-    × ((rest : List ℕ) → HaveEnd of.Trailer (text ++ rest))
+    × ((rest : List ℕ) → HaveEnd TrailerLines (text ++ rest))
 trailer_found now n (text, (fields, last, all, printed), whole, long) =
     let at = at_front now text (drop n now) n whole long refl in
-    (text, at.0, (fields, last, all, printed, at.1), at.2, λ rest. subst (λ (t : List ℕ). HaveEnd of.Trailer (t ++ rest)) (sym printed) (trailer_end fields last rest))
+    (text, at.0, (fields, last, all, printed, at.1), at.2, λ rest. subst (λ (t : List ℕ). HaveEnd TrailerLines (t ++ rest)) (sym printed) (trailer_end fields last rest))
 
 -- the head that was found
 pub head_found : (now : List ℕ) (n : ℕ) (head : Head) → ParsesHead (window now) (Ok (Some (head, n))) → (text : List ℕ) × (now ≡ text ++ drop n now) × IsHeadText text head
-    × (n ≤ length now) × ((rest : List ℕ) → HaveEnd of.Head (text ++ rest)) × (length text ≤ MAX_HEAD_OCTETS)
+    × (n ≤ length now) × ((rest : List ℕ) → HaveEnd HeadLines (text ++ rest)) × (length text ≤ MAX_HEAD_OCTETS)
 head_found now n head (text, (h, is, printed, says), whole, long) =
     let at = at_front now text (drop n now) n whole long refl in
-    (text, at.0, (h, is, printed, says), at.2, λ rest. subst (λ (t : List ℕ). HaveEnd of.Head (t ++ rest)) (sym printed) (head_end h rest is), at.1)
+    (text, at.0, (h, is, printed, says), at.2, λ rest. subst (λ (t : List ℕ). HaveEnd HeadLines (t ++ rest)) (sym printed) (head_end h rest is), at.1)

@@ -9,10 +9,9 @@ use Rattle.gate_world.specs.declared.event.Event.TheVariants.{ClientGave, Client
 use Rattle.gate_world.specs.Octets.{Asks, IsClientGave, client_gave_in}
 use Rattle.gate_world.proofs.Joins.{Asks-append, Asks-one}
 use Rattle.http_service.specs.declared.lines.TheConstants.{MAX_HEAD_OCTETS}
-use Rattle.http_service.specs.declared.lines.Lines.{Lines}
 use Rattle.http_service.specs.declared.error.HttpError.{HttpError}
 use Rattle.http_service.specs.declared.error.HttpError.TheVariants as error
-use Rattle.http_service.specs.Taking.{HaveEnd, Due, Nothing, Octets, LinesOf, IsMissing, most, WereMissing, Takes, EndsBy, EndedInside, Breaks}
+use Rattle.http_service.specs.Taking.{Lines, HaveEnd, Due, Nothing, Octets, LinesOf, IsMissing, most, WereMissing, Takes, EndsBy, EndedInside, Breaks}
 use Rattle.http_service.specs.reading.Steps.{Fills, IsOutside}
 
 -- nothing was asked for
@@ -90,7 +89,7 @@ then_inside : (due : Due) (rest : List ℕ) (xs ys earlier : List Event) → End
 then_inside due rest xs ys earlier (is, missing) = (ap (λ (l : List Event). xs ++ l) is ∙ sym (append_assoc xs earlier (ClientEnded ∷ [])), missing)
 
 then_ends : (e : HttpError) (due : Due) (rest : List ℕ) (xs ys earlier : List Event) → EndsBy e due rest ys earlier → EndsBy e due rest (xs ++ ys) (xs ++ earlier)
-then_ends error.BadHead due rest xs ys earlier (inl is) = inl (ap (λ (l : List Event). xs ++ l) is)
+then_ends error.BadHead due rest xs ys earlier (inl (is, there)) = inl (ap (λ (l : List Event). xs ++ l) is, there)
 then_ends error.BadHead due rest xs ys earlier (inr ended) = inr (then_inside due rest xs ys earlier ended)
 then_ends error.HeadTooLarge due rest xs ys earlier is = ap (λ (l : List Event). xs ++ l) is
 then_ends (error.TooLarge limit) due rest xs ys earlier is = ap (λ (l : List Event). xs ++ l) is

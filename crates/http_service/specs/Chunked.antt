@@ -1,8 +1,9 @@
 -- A chunked body (RFC 9112 section 7.1).
-use Rattle.std.specs.Prelude.{◌≡◌, ◌<◌, ◌≤◌, ◌++◌, ℕ, List, length, All}
+use Rattle.std.specs.Prelude.{◌≡◌, ◌<◌, ◌≤◌, ◌-◌, ◌++◌, ℕ, List, length, All, sum_by}
 use Rattle.std.specs.List.{flat_map}
 use Rattle.httparse.specs.Ascii.{crlf_bytes}
 use Rattle.httparse.specs.Grammar.{ChunkLine, IsChunkLine, print_chunk_line, chunk_size, Field, IsField, LineEnd, print_section}
+use Rattle.http_service.specs.declared.chunks.TheConstants.{FREE_LINE_OCTETS, MAX_EXCESS_OCTETS}
 use Rattle.http_service.specs.declared.lines.TheConstants.{MAX_HEAD_OCTETS}
 
 -- chunk-size [ chunk-ext ] CRLF, of at most `MAX_HEAD_OCTETS`, and the size that it says
@@ -37,12 +38,21 @@ texts_of chunks = flat_map chunk_text chunks
 abbrev pub content : List Chunk → List ℕ
 content chunks = flat_map data_of chunks
 
--- chunked-body = *chunk last-chunk trailer-section CRLF
+-- the octets that a chunk's line has beyond `FREE_LINE_OCTETS`
+abbrev pub excess : List ℕ → ℕ
+excess line = length line - FREE_LINE_OCTETS
+
+-- the same of the lines of all chunks
+abbrev pub excess_of : List Chunk → ℕ
+excess_of chunks = sum_by (λ c. excess c.line) chunks
+
+-- chunked-body = *chunk last-chunk trailer-section CRLF, where the chunks' lines aren't too long taken together
 pub record IsChunked (body text : List ℕ) : Type 0 where
   pub chunks : List Chunk
   pub last : List ℕ
   pub trailer : List ℕ
   pub are_chunks : All IsChunk chunks
+  pub few : excess_of chunks ≤ MAX_EXCESS_OCTETS
   pub is_last : IsLine last 0
   pub is_trailer : IsTrailer trailer
   pub whole : text ≡ texts_of chunks ++ (last ++ trailer)

@@ -1,3 +1,4 @@
+pub mod Errors
 pub mod Responses
 pub mod Refusals
 pub mod Fields

@@ -3,12 +3,12 @@ use Rattle.std.specs.Prelude.{◌≡◌, ◌≢◌, ◌<◌, ◌≤◌, ◌⊎�
 use Rattle.httparse.specs.Ascii.{carriage_return, line_feed}
 use Rattle.httparse.specs.Grammar.{HasNoChunkLine, NeverHasChunkLine, MayBecomeChunkLine, HasNoSection, NeverHasSection, MayBecomeSection}
 use Rattle.gate_world.specs.declared.event.Event.{Event}
+use Rattle.http_service.specs.declared.chunks.TheConstants.{MAX_EXCESS_OCTETS}
 use Rattle.http_service.specs.declared.lines.TheConstants.{MAX_HEAD_OCTETS}
-use Rattle.http_service.specs.declared.lines.Lines.TheVariants as lines
 use Rattle.http_service.specs.declared.error.HttpError.{HttpError}
 use Rattle.http_service.specs.declared.error.HttpError.TheVariants.{BadHead, TooLarge, Short, FrontFault, Memory}
-use Rattle.http_service.specs.Taking.{Due, Nothing, Octets, LinesOf, Takes, Breaks, window}
-use Rattle.http_service.specs.Chunked.{Chunk, IsChunk, IsLine, IsTrailer, IsChunked, texts_of, content}
+use Rattle.http_service.specs.Taking.{Due, Nothing, Octets, LinesOf, ChunkLine, TrailerLines, Takes, Breaks, window}
+use Rattle.http_service.specs.Chunked.{Chunk, IsChunk, IsLine, IsTrailer, IsChunked, texts_of, content, excess, excess_of}
 
 -- whatever follows, no chunk's line of at most `MAX_HEAD_OCTETS` begins the octets
 abbrev pub BeginNoLine : List ℕ → Type 0
@@ -16,10 +16,10 @@ BeginNoLine octets = NeverHasChunkLine (window octets) ⊎ (HasNoChunkLine (wind
 
 -- why a chunk's line isn't read of these octets
 abbrev pub LineStops : Due → List ℕ → HttpError → Type 0
-LineStops due octets BadHead = (due ≡ LinesOf lines.ChunkLine) × BeginNoLine octets
-LineStops due octets Short = (due ≡ LinesOf lines.ChunkLine) × HasNoChunkLine octets × MayBecomeChunkLine octets
-LineStops due octets FrontFault = due ≡ LinesOf lines.ChunkLine
-LineStops due octets Memory = due ≡ LinesOf lines.ChunkLine
+LineStops due octets BadHead = (due ≡ LinesOf ChunkLine) × BeginNoLine octets
+LineStops due octets Short = (due ≡ LinesOf ChunkLine) × HasNoChunkLine octets × MayBecomeChunkLine octets
+LineStops due octets FrontFault = due ≡ LinesOf ChunkLine
+LineStops due octets Memory = due ≡ LinesOf ChunkLine
 LineStops due octets _ = ⊥
 
 -- whatever follows, no trailer section of at most `MAX_HEAD_OCTETS` begins the octets
@@ -28,10 +28,10 @@ BeginNoTrailer octets = NeverHasSection (window octets) ⊎ (HasNoSection (windo
 
 -- why a trailer section isn't read of these octets
 abbrev pub TrailerStops : Due → List ℕ → HttpError → Type 0
-TrailerStops due octets BadHead = (due ≡ LinesOf lines.Trailer) × BeginNoTrailer octets
-TrailerStops due octets Short = (due ≡ LinesOf lines.Trailer) × HasNoSection octets × MayBecomeSection octets
-TrailerStops due octets FrontFault = due ≡ LinesOf lines.Trailer
-TrailerStops due octets Memory = due ≡ LinesOf lines.Trailer
+TrailerStops due octets BadHead = (due ≡ LinesOf TrailerLines) × BeginNoTrailer octets
+TrailerStops due octets Short = (due ≡ LinesOf TrailerLines) × HasNoSection octets × MayBecomeSection octets
+TrailerStops due octets FrontFault = due ≡ LinesOf TrailerLines
+TrailerStops due octets Memory = due ≡ LinesOf TrailerLines
 TrailerStops due octets _ = ⊥
 
 -- why an octet that is due isn't read of these octets
@@ -56,22 +56,25 @@ pub data ChunkStops (size : ℕ) (due : Due) (started rest : List ℕ) (e : Http
   AtFeed : (octets : List ℕ) → started ≡ octets ++ carriage_return ∷ [] → length octets ≡ size → OctetStops line_feed due rest e
       → ChunkStops size due started rest e
 
--- Why a body isn't read after whole chunks with this content, where this was read after them. A chunk that would pass the
--- limit is refused at its line.
-pub data BodyStops (limit : ℕ) (body : List ℕ) (due : Due) (started rest : List ℕ) (e : HttpError) : Type 0 where
-  AtLine : started ≡ [] → LineStops due rest e → BodyStops limit body due started rest e
-  AtLimit : (size : ℕ) → IsLine started size → limit < length body + size → due ≡ Nothing → e ≡ TooLarge limit → BodyStops limit body due started rest e
-  InChunk : (line more : List ℕ) (size : ℕ) → started ≡ line ++ more → IsLine line size → 0 < size → length body + size ≤ limit
-      → ChunkStops size due more rest e → BodyStops limit body due started rest e
-  AtTrailer : IsLine started 0 → TrailerStops due rest e → BodyStops limit body due started rest e
+-- Why a body isn't read after these whole chunks, where this was read after them. At a chunk's line it is seen first whether
+-- the lines are too long taken together, and then whether the data would pass the limit.
+pub data BodyStops (limit : ℕ) (chunks : List Chunk) (due : Due) (started rest : List ℕ) (e : HttpError) : Type 0 where
+  AtLine : started ≡ [] → LineStops due rest e → BodyStops limit chunks due started rest e
+  AtExcess : (size : ℕ) → IsLine started size → 0 < size → MAX_EXCESS_OCTETS < excess_of chunks + excess started → due ≡ Nothing → e ≡ BadHead
+      → BodyStops limit chunks due started rest e
+  AtLimit : (size : ℕ) → IsLine started size → excess_of chunks + excess started ≤ MAX_EXCESS_OCTETS → limit < length (content chunks) + size
+      → due ≡ Nothing → e ≡ TooLarge limit → BodyStops limit chunks due started rest e
+  InChunk : (line more : List ℕ) (size : ℕ) → started ≡ line ++ more → IsLine line size → 0 < size → excess_of chunks + excess line ≤ MAX_EXCESS_OCTETS
+      → length (content chunks) + size ≤ limit → ChunkStops size due more rest e → BodyStops limit chunks due started rest e
+  AtTrailer : IsLine started 0 → TrailerStops due rest e → BodyStops limit chunks due started rest e
   AtEnd : (line trailer : List ℕ) → started ≡ line ++ trailer → IsLine line 0 → IsTrailer trailer → due ≡ Nothing → e ≡ Memory
-      → BodyStops limit body due started rest e
+      → BodyStops limit chunks due started rest e
 
 -- the same, in all that was read
 abbrev pub ChunksStop : ℕ → Due → List ℕ → List ℕ → HttpError → Type 0
 ChunksStop limit due text rest e =
     (chunks : List Chunk) × (started : List ℕ) × All IsChunk chunks × (text ≡ texts_of chunks ++ started) × (length (content chunks) ≤ limit)
-    × BodyStops limit (content chunks) due started rest e
+    × (excess_of chunks ≤ MAX_EXCESS_OCTETS) × BodyStops limit chunks due started rest e
 
 -- what reading a chunked body of at most `limit` octets adds
 abbrev pub ReadsChunks : ℕ → List ℕ → List ℕ → Result (List ℕ) HttpError → List Event → Type 0

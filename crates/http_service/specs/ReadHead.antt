@@ -3,11 +3,10 @@ use Rattle.std.specs.Prelude.{◌≡◌, ◌≤◌, ℕ, List, [], length, Resul
 use Rattle.gate_world.specs.declared.event.Event.{Event}
 use Rattle.http_service.specs.declared.head.Head.{Head}
 use Rattle.http_service.specs.declared.lines.TheConstants.{MAX_HEAD_OCTETS}
-use Rattle.http_service.specs.declared.lines.Lines.TheVariants as lines
 use Rattle.http_service.specs.declared.error.HttpError.{HttpError}
 use Rattle.http_service.specs.declared.error.HttpError.TheVariants.{BadHead, HeadTooLarge, TooLarge, Short, FrontFault, Memory}
 use Rattle.http_service.specs.Heads.{IsHeadText, IsMalformed, IsIncomplete}
-use Rattle.http_service.specs.Taking.{Due, Nothing, LinesOf, Takes, Breaks, window}
+use Rattle.http_service.specs.Taking.{Due, Nothing, LinesOf, HeadLines, Takes, Breaks, window}
 
 -- why no head is read of these octets
 abbrev pub HeadStops : List ℕ → HttpError → Type 0
@@ -20,7 +19,7 @@ HeadStops octets Memory = ⊤
 
 -- nothing was taken, where a head is due
 abbrev pub NoHead : Due → List ℕ → List ℕ → HttpError → Type 0
-NoHead due text rest e = (due ≡ LinesOf lines.Head) × (text ≡ []) × HeadStops rest e
+NoHead due text rest e = (due ≡ LinesOf HeadLines) × (text ≡ []) × HeadStops rest e
 
 -- A head was taken; or nothing was.
 abbrev pub ReadsHead : List ℕ → List ℕ → Result Head HttpError → List Event → Type 0

@@ -1,24 +1,32 @@
 -- How octets of the client are taken: what is due after those that were taken, and when more were asked for.
-use Rattle.std.specs.Prelude.{◌≡◌, ◌≢◌, ◌⊎◌, ◌<◌, ◌≤◌, ◌++◌, ℕ, max, List, [], ◌∷◌, length, take}
+use Rattle.std.specs.Prelude.{◌≡◌, ◌≢◌, ◌⊎◌, ◌<◌, ◌≤◌, ◌++◌, ℕ, max, List, [], ◌∷◌, length, take, All}
 use Rattle.httparse.specs.Ascii.{line_feed, carriage_return}
-use Rattle.httparse.specs.Grammar.{LineEnd, print_end, print_blank}
+use Rattle.httparse.specs.Grammar.{LineEnd, print_end}
 use Rattle.gate_world.specs.declared.event.Event.{Event}
 use Rattle.gate_world.specs.declared.event.Event.TheVariants.{ClientGave, ClientEnded, FrontFailed}
 use Rattle.gate_world.specs.Octets.{Asks}
 use Rattle.http_service.specs.declared.lines.TheConstants.{MAX_HEAD_OCTETS}
-use Rattle.http_service.specs.declared.lines.Lines.{Lines}
-use Rattle.http_service.specs.declared.lines.Lines.TheVariants.{Head, ChunkLine, Trailer}
 use Rattle.http_service.specs.declared.error.HttpError.{HttpError}
 use Rattle.http_service.specs.declared.error.HttpError.TheVariants.{BadHead, HeadTooLarge, TooLarge, Short, FrontFault, Memory}
+
+-- lines that are read whole: those of a head, the one before a chunk's data, those of a trailer section
+pub data Lines : Type 0 where
+  HeadLines : Lines
+  ChunkLine : Lines
+  TrailerLines : Lines
+
+-- CR or LF
+abbrev pub IsOfLineEnd : ℕ → Type 0
+IsOfLineEnd c = (c ≡ carriage_return) ⊎ (c ≡ line_feed)
 
 -- The octets have the line end that ends such lines, whatever the lines say: of a head an empty line after one that isn't
 -- empty (RFC 9112 section 2.2), of a chunk's line its LF, of a trailer section its empty line (section 7.1.2).
 abbrev pub HaveEnd : Lines → List ℕ → Type 0
-HaveEnd Head octets =
-    (blank : List LineEnd) × (first : ℕ) × (text : List ℕ) × (last : LineEnd) × (rest : List ℕ)
-    × (first ≢ carriage_return) × (first ≢ line_feed) × (octets ≡ print_blank blank ++ ((first ∷ text) ++ ((line_feed ∷ print_end last) ++ rest)))
+HaveEnd HeadLines octets =
+    (blank : List ℕ) × (first : ℕ) × (text : List ℕ) × (last : LineEnd) × (rest : List ℕ) × All IsOfLineEnd blank
+    × (first ≢ carriage_return) × (first ≢ line_feed) × (octets ≡ blank ++ ((first ∷ text) ++ ((line_feed ∷ print_end last) ++ rest)))
 HaveEnd ChunkLine octets = (text : List ℕ) × (rest : List ℕ) × (octets ≡ text ++ (line_feed ∷ rest))
-HaveEnd Trailer octets =
+HaveEnd TrailerLines octets =
     ((last : LineEnd) × (rest : List ℕ) × (octets ≡ print_end last ++ rest))
     ⊎ ((text : List ℕ) × (last : LineEnd) × (rest : List ℕ) × (octets ≡ text ++ ((line_feed ∷ print_end last) ++ rest)))
 
@@ -64,9 +72,10 @@ pub record Takes (due : Due) (text before after : List ℕ) (events : List Event
 abbrev pub EndedInside : Due → List ℕ → List Event → List Event → Type 0
 EndedInside due rest events earlier = (events ≡ earlier ++ ClientEnded ∷ []) × IsMissing due rest
 
--- what came after these events, where this error did
+-- What came after these events, where this error did. Octets are malformed once all that is due has come, or where the
+-- client ended its input before.
 abbrev pub EndsBy : HttpError → Due → List ℕ → List Event → List Event → Type 0
-EndsBy BadHead due rest events earlier = (events ≡ earlier) ⊎ EndedInside due rest events earlier
+EndsBy BadHead due rest events earlier = ((events ≡ earlier) × (IsMissing due rest → ⊥)) ⊎ EndedInside due rest events earlier
 EndsBy HeadTooLarge due rest events earlier = events ≡ earlier
 EndsBy (TooLarge limit) due rest events earlier = events ≡ earlier
 EndsBy Short due rest events earlier = EndedInside due rest events earlier

@@ -3,5 +3,4 @@ pub mod Values
 pub mod LineEnds
 pub mod Parses
 pub mod Steps
-pub mod Errors
 pub mod Targets

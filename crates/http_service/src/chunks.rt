@@ -1,5 +1,5 @@
 // A chunked body (RFC 9112 section 7.1).
-ghost use Rattle.std.specs.Prelude.{◌≡◌, ◌+◌, length, vec_len, OnOk, IsErrOf};
+ghost use Rattle.std.specs.Prelude.{◌≡◌, ◌+◌, ◌-◌, length, vec_len, OnOk, IsErrOf};
 ghost use Rattle.gate_world.specs.Causes.{Rose, FrontAlone};
 ghost use Rattle.gate_world.specs.Tape.{Adds};
 ghost use Rattle.http_service.specs.ReadChunked.{ReadsChunks};
@@ -10,6 +10,13 @@ use crate::filling::fill_to;
 use crate::line_reading::{read_line, read_trailer};
 use gate_world::{Bytes, Front, Unread};
 use std::alloc::Global;
+
+/// What a chunk's line may have without counting: its size and CR LF.
+pub const FREE_LINE_OCTETS: usize = 16;
+
+/// The most octets that the lines of a body's chunks may have beyond `FREE_LINE_OCTETS` each, taken together: so that what
+/// stands outside the data has a bound.
+pub const MAX_EXCESS_OCTETS: usize = 16_384;
 
 // Reads this octet.
 fn read_octet<F: Front>(front: &mut F, spare: &mut Unread, octet: u8) -> Result<(), HttpError>
@@ -77,11 +84,16 @@ pub(crate) fn read_chunks<F: Front>(
     ensures hidden { F.hidden front.new ≡ F.hidden front.old }
 {
     let mut body = Vec::new(alloc);
+    let mut excess: usize = 0;
     'chunks: loop {
-        let size = read_line(front, spare)?;
+        let (line, size) = read_line(front, spare)?;
         if size == 0 {
             read_trailer(alloc, front, spare)?;
             return Ok(Bytes::from_vec(body)?);
+        }
+        excess += line.saturating_sub(FREE_LINE_OCTETS);
+        if excess > MAX_EXCESS_OCTETS {
+            return Err(HttpError::BadHead);
         }
         if limit - (body.len() as u64) < size {
             return Err(HttpError::TooLarge { limit });

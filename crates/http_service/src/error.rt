@@ -7,7 +7,8 @@ use thiserror::Error;
 #[derive(Clone, Copy, Debug, PartialEq, Eq, Error)]
 pub enum HttpError {
     /// The octets begin no head, or no chunk where one is due; or the head's fields say no length
-    /// of the body; or a chunk's data or a trailer section ends otherwise than it must.
+    /// of the body; or a chunk's data or a trailer section ends otherwise than it must; or the
+    /// lines of a body's chunks are too long, taken together.
     #[error("malformed request")]
     BadHead,
     /// `MAX_HEAD_OCTETS` came that may begin a head, and it isn't whole.
@@ -26,7 +27,7 @@ pub enum HttpError {
 }
 
 impl From<FillError> for HttpError {
-    ghost use Rattle.http_service.specs.reading.Errors.{of_fill};
+    ghost use Rattle.http_service.specs.Errors.{of_fill};
     ghost use Rattle.std.specs.Prelude.{◌≡◌};
 
     ghost from_gives = { λ f e. e ≡ of_fill f };

@@ -1,13 +1,14 @@
 // A request's head.
 ghost use Rattle.std.specs.Prelude.{◌≡◌, ◌≤◌, ◌*◌, vec_len, length, map, take, All, IfOk};
 ghost use Rattle.std.specs.Option.{option_copied};
-ghost use Rattle.httparse.specs.Spans.{IsRequestWithin, IsHeaderWithin, IsWithin, header_bytes, span_bytes};
+ghost use Rattle.httparse.specs.Spans.{IsRequestWithin, IsHeaderWithin, IsWithin, RequestExceeds, header_bytes, span_bytes};
 ghost use Rattle.http_service.specs.Heads.{IsTarget};
 ghost use Rattle.http_service.specs.reading.Parses.{MakesHead, ParsesFields, ParsesHead};
 
 use crate::cut_target::ends_in_target;
 use crate::error::HttpError;
 use crate::fields::{body_in, content_type_in, is_expecting, token_in};
+use crate::lines::Lines;
 use crate::target::split_target;
 use gate_world::Bytes;
 use httparse::Status;
@@ -100,7 +101,7 @@ fn head_of(
     })
 }
 
-// Room for the fields of a head of n octets: each takes two at least.
+// Room for the fields of lines of n octets: each takes two at least.
 pub(crate) fn room(alloc: Global, octets: usize) -> Result<Vec<HeaderSpan>, AllocError>
     ensures { IfOk result (λ fields. octets ≤ 2 * vec_len fields) }
 {
@@ -113,7 +114,7 @@ fn parse_into(
     octets: &[u8],
     fields: &mut [HeaderSpan],
 ) -> Result<Option<(Head, usize)>, HttpError>
-    requires { length octets.now ≤ 2 * length fields.old }
+    requires { RequestExceeds (length fields.old) octets.now → ⊥ }
     ensures { ParsesFields octets.now result }
 {
     match parse_request(octets, fields) {
@@ -131,7 +132,7 @@ fn parse_into(
 fn parse(alloc: Global, octets: &[u8]) -> Result<Option<(Head, usize)>, HttpError>
     ensures { ParsesFields octets.now result }
 {
-    let mut fields = room(alloc, octets.len())?;
+    let mut fields = room(alloc, Lines::Head.end_in(octets))?;
     parse_into(alloc, octets, &mut fields)
 }
 

@@ -6,6 +6,11 @@ ghost use Rattle.http_service.specs.declared.lines.TheConstants.{MAX_HEAD_OCTETS
 ghost use Rattle.http_service.specs.Heads.{IsHeadText, IsIncomplete, IsMalformed};
 ghost use Rattle.http_service.specs.ReadHead.{HeadStops};
 ghost use Rattle.http_service.specs.Chunked.{IsChunked};
+ghost use Rattle.http_service.specs.Taking.{Breaks};
+ghost use Rattle.http_service.specs.ReadChunked.{ChunksStop};
+ghost use Rattle.std.specs.List.{flat_map};
+ghost use Rattle.gate_world.specs.Octets.{client_gave_in};
+ghost use Rattle.gate_world.specs.declared.event.Event.{Event};
 
 /// Octets begin with at most one head, which says one thing.
 pub fn one_head()
@@ -23,6 +28,14 @@ pub fn head_excludes_refusals()
 /// No octets are malformed and incomplete: they are refused at once, or waited for.
 pub fn malformed_excludes_incomplete()
     ensures { (octets : List ℕ) → IsMalformed octets → IsIncomplete octets → ⊥ }
+{}
+
+/// Where the octets that stood there and those that the client gave begin with a chunked body within the limit, none of the
+/// refusals that are about the octets fits.
+pub fn chunked_body_excludes_refusals()
+    ensures { (limit : ℕ) (body text rest before after : List ℕ) (e : HttpError) (events : List Event)
+        → IsChunked body text → length body ≤ limit → before ++ flat_map client_gave_in events ≡ text ++ rest
+        → Breaks (ChunksStop limit) before after e events → (e ≡ HttpError.FrontFault) ⊎ (e ≡ HttpError.Memory) }
 {}
 
 /// Octets begin with at most one chunked body.

@@ -19,6 +19,7 @@ mod response_text;
 mod target;
 
 pub use body::read_body;
+pub use chunks::{FREE_LINE_OCTETS, MAX_EXCESS_OCTETS};
 pub use error::HttpError;
 pub use gate_world::Unread as Spare;
 pub use head::{BodyKind, Head};

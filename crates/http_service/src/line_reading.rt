@@ -1,5 +1,5 @@
 // Reading lines from the client: a head, a chunk's line, a trailer section.
-ghost use Rattle.std.specs.Prelude.{◌≡◌, IfOk, IsErrOf};
+ghost use Rattle.std.specs.Prelude.{◌≡◌, ◌≤◌, IfOk, IsErrOf};
 ghost use Rattle.gate_world.specs.Causes.{Rose, FrontAlone};
 ghost use Rattle.gate_world.specs.Tape.{Adds};
 ghost use Rattle.http_service.specs.Taking.{window};
@@ -87,9 +87,13 @@ pub fn read_head<F: Front>(
     }
 }
 
-/// Reads a chunk's line of at most `MAX_HEAD_OCTETS` (RFC 9112 section 7.1), and gives the size that it says.
-pub(crate) fn read_line<F: Front>(front: &mut F, spare: &mut Unread) -> Result<u64, HttpError>
+/// Reads a chunk's line of at most `MAX_HEAD_OCTETS` (RFC 9112 section 7.1), and gives its length and the size that it says.
+pub(crate) fn read_line<F: Front>(
+    front: &mut F,
+    spare: &mut Unread,
+) -> Result<(usize, u64), HttpError>
     ensures tape { Adds (F.tape front.old) (F.tape front.new) (ReadsLine spare.old spare.new result) }
+    ensures short { IfOk result (λ line. line.0 ≤ MAX_HEAD_OCTETS) }
     ensures alone { FrontAlone (F.faults front.old) (F.faults front.new) }
     ensures cause { IsErrOf result HttpError.FrontFault → Rose (F.faults front.old).front (F.faults front.new).front }
     ensures hidden { F.hidden front.new ≡ F.hidden front.old }
@@ -98,7 +102,7 @@ pub(crate) fn read_line<F: Front>(front: &mut F, spare: &mut Unread) -> Result<u
     match parse_line(window(spare.as_slice()))? {
         Some((length, size)) => {
             spare.skip(length);
-            Ok(size)
+            Ok((length, size))
         }
         None => match stop {
             Stop::Ended => unreachable!(),

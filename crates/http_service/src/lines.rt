@@ -1,6 +1,6 @@
 // Lines that are read whole: those of a head, of a chunk and of a trailer section; and the line end that ends them.
 ghost use Rattle.std.specs.Prelude.{◌≡◌, ◌≤◌, ◌↔◌, length, take, IsTrue};
-ghost use Rattle.http_service.specs.reading.LineEnds.{start, step, run};
+ghost use Rattle.http_service.specs.reading.LineEnds.{EndAt, start, step, run};
 
 /// The most octets of a head, of a chunk's line, and of a trailer section, each with the line end that ends it.
 pub const MAX_HEAD_OCTETS: usize = 16_384;
@@ -52,6 +52,20 @@ impl Lines {
     {
         let (_, fresh) = octets.split_at(seen);
         place.run(fresh)
+    }
+
+    /// How many of the octets such lines are, with the line end that ends them; all of them where it isn't there.
+    pub(crate) fn end_in(self, octets: &[u8]) -> usize
+        ensures { EndAt self octets.now result }
+    {
+        let mut place = self.start();
+        for at in 0..octets.len() {
+            if place.is_ended() {
+                return at;
+            }
+            place = place.step(octets[at]);
+        }
+        octets.len()
     }
 }
 

@@ -1,5 +1,5 @@
 // Heads of responses (RFC 9112 section 4).
-ghost use Rattle.std.specs.Prelude.{◌≡◌, ◌++◌, [], IfOk, OnOk, unwrap_or};
+ghost use Rattle.std.specs.Prelude.{◌≡◌, ◌++◌, [], length, IfOk, OnOk, unwrap_or};
 ghost use Rattle.http.specs.StatusCode.{reason_phrase};
 ghost use Rattle.http_service.specs.Responses as texts;
 
@@ -77,16 +77,16 @@ fn push_length(alloc: Global, head: &mut Vec<u8>, length: u64) -> Result<(), All
     Ok(())
 }
 
-/// The head of a response with a body of `length` octets and of this type, its empty line with it. An empty body has no
-/// type.
+/// The head of a response with this body, of this type, its empty line with it. An empty body has no type.
 pub fn response_head(
     alloc: Global,
     status: StatusCode,
-    length: u64,
+    body: &[u8],
     media: &MediaType,
 ) -> Result<Bytes, AllocError>
-    ensures { IfOk result (λ head. head ≡ texts.response_head status length media.now) }
+    ensures { IfOk result (λ head. head ≡ texts.response_head status (length body.now) media.now) }
 {
+    let length = body.len() as u64;
     let mut head = Vec::new(alloc);
     push_status_line(alloc, &mut head, status)?;
     push_fixed_fields(&mut head)?;

@@ -179,6 +179,49 @@ fn lines_and_trailers_have_at_most_their_octets(rt: HostRuntime) -> Result<(), F
     expect_asked(&rt, alloc, &long, b"BadHead", most + 3)
 }
 
+/// Chunks of one octet each, whose lines have these many octets. The body ends after them, or after the last line.
+fn with_lines(alloc: Global, lines: &[usize], back: &[u8]) -> Result<Vec<u8>, Fail> {
+    let mut body = Vec::new(alloc);
+    for size in lines {
+        if !body.is_empty() {
+            body.extend_from_slice(b"z\r\n")?;
+        }
+        body.extend_from_slice(&filled(alloc, LINE_FRONT, LINE_BACK, *size)?)?;
+    }
+    body.extend_from_slice(back)?;
+    Ok(body)
+}
+
+/// The octets of the lines of a body's chunks, each with one octet of data, and what is read of it.
+const LINES_TOGETHER: [(&[usize], &[u8]); 6] = [
+    (&[16_384, 32], b"zz"),
+    (&[16_384, 33], b"BadHead"),
+    (&[16_384, 32, 16, 4, 16], b"zzzzz"),
+    (&[16_384, 32, 16, 17], b"BadHead"),
+    (&[8_208, 8_208], b"zz"),
+    (&[8_208, 8_208, 17], b"BadHead"),
+];
+
+#[test]
+fn lines_together_have_at_most_their_octets(rt: HostRuntime) -> Result<(), Fail> {
+    let alloc = rt.alloc();
+    for row in LINES_TOGETHER.iter() {
+        let lines = with_lines(alloc, row.0, b"")?;
+        let body = with_lines(alloc, row.0, b"z\r\n0\r\n\r\n")?;
+        let asked = if row.1 == b"BadHead".as_slice() {
+            lines.len()
+        } else {
+            body.len()
+        };
+        let client = posted(alloc, CHUNKED, &body)?;
+        let seen = read_slowly(alloc, &client, 10)?;
+        assert_eq!(rt; seen.body.as_slice(), row.1);
+        let head = client.len().saturating_sub(body.len());
+        assert_eq!(rt; seen.given, head.saturating_add(asked));
+    }
+    Ok(())
+}
+
 /// Chunked bodies that are refused, and how many of their octets are asked for until then, one at a time.
 const ASKED_FOR: [(&[u8], usize); 6] = [
     (b"b\r\nabcdefghijk\r\n0\r\n\r\n", 3),
@@ -201,11 +244,11 @@ fn no_octet_is_asked_for_after_a_refusal(rt: HostRuntime) -> Result<(), Fail> {
     Ok(())
 }
 
-/// A chunked body of n chunks, each of one octet.
+/// A chunked body of n chunks, each of one octet behind a line of 16 octets.
 fn in_single_octets(alloc: Global, chunks: usize) -> Result<Vec<u8>, Fail> {
     let mut body = Vec::new(alloc);
     for _ in 0..chunks {
-        body.extend_from_slice(b"1\r\nx\r\n")?;
+        body.extend_from_slice(b"00000000000001\r\nx\r\n")?;
     }
     body.extend_from_slice(b"0\r\n\r\n")?;
     Ok(body)

@@ -7,7 +7,7 @@ use std::process::Abort;
 use std::test::Fail;
 
 /// Status codes, the lengths and the types of bodies, and the heads of their responses.
-const HEADS: [(u16, u64, &[u8], &[u8]); 10] = [
+const HEADS: [(u16, usize, &[u8], &[u8]); 10] = [
     (
         404,
         0,
@@ -28,9 +28,9 @@ const HEADS: [(u16, u64, &[u8], &[u8]); 10] = [
     ),
     (
         200,
-        50_000_000,
+        5_000_000,
         b"application/json",
-        b"HTTP/1.1 200 OK\r\nConnection: close\r\nCache-Control: no-store\r\nContent-Length: 50000000\r\nContent-Type: application/json\r\n\r\n",
+        b"HTTP/1.1 200 OK\r\nConnection: close\r\nCache-Control: no-store\r\nContent-Length: 5000000\r\nContent-Type: application/json\r\n\r\n",
     ),
     (
         201,
@@ -46,9 +46,9 @@ const HEADS: [(u16, u64, &[u8], &[u8]); 10] = [
     ),
     (
         413,
-        u64::MAX,
+        10,
         b"b",
-        b"HTTP/1.1 413 Payload Too Large\r\nConnection: close\r\nCache-Control: no-store\r\nContent-Length: 18446744073709551615\r\nContent-Type: b\r\n\r\n",
+        b"HTTP/1.1 413 Payload Too Large\r\nConnection: close\r\nCache-Control: no-store\r\nContent-Length: 10\r\nContent-Type: b\r\n\r\n",
     ),
     (
         431,
@@ -70,10 +70,15 @@ const HEADS: [(u16, u64, &[u8], &[u8]); 10] = [
     ),
 ];
 
-fn expect_head(rt: &impl Abort, alloc: Global, row: &(u16, u64, &[u8], &[u8])) -> Result<(), Fail> {
+fn expect_head(
+    rt: &impl Abort,
+    alloc: Global,
+    row: &(u16, usize, &[u8], &[u8]),
+) -> Result<(), Fail> {
     let status = StatusCode::from_u16(row.0)?;
     let media = MediaType::new(row.2).ok_or("no media type")?;
-    let head = response_head(alloc, status, row.1, &media)?;
+    let body = vec![in alloc; b'x'; row.1]?;
+    let head = response_head(alloc, status, &body, &media)?;
     assert_eq!(rt; head.as_slice(), row.3);
     Ok(())
 }
@@ -81,7 +86,7 @@ fn expect_head(rt: &impl Abort, alloc: Global, row: &(u16, u64, &[u8], &[u8])) -
 fn expect_heads(
     rt: &impl Abort,
     alloc: Global,
-    rows: &[(u16, u64, &[u8], &[u8])],
+    rows: &[(u16, usize, &[u8], &[u8])],
 ) -> Result<(), Fail> {
     for row in rows {
         expect_head(rt, alloc, row)?;
@@ -109,7 +114,7 @@ fn refusals_have_the_heads_of_their_statuses(rt: HostRuntime) -> Result<(), Fail
     let media = MediaType::new(b"text/plain").ok_or("no media type")?;
     for row in REFUSALS.iter() {
         let status = StatusCode::from_u16(row.1)?;
-        let head = response_head(rt.alloc(), status, 0, &media)?;
+        let head = response_head(rt.alloc(), status, b"", &media)?;
         assert_eq!(rt; refusal_head(row.0), head.as_slice());
     }
     Ok(())

@@ -8,8 +8,8 @@ use Rattle.imap_keywords.specs.declared.key.Place.{Place}
 use Rattle.imap_keywords.specs.declared.key.Place.TheVariants as place
 use Rattle.imap_keywords.specs.declared.phrase.Phrase.{Phrase}
 use Rattle.imap_keywords.specs.declared.phrase.Phrase.TheVariants as phrase
-use Rattle.imap_automaton.specs.declared.sym.Pending.{Pending}
-use Rattle.imap_automaton.specs.declared.sym.Pending.TheVariants as pending
+use Rattle.imap_keywords.specs.declared.count.Pending.{Pending}
+use Rattle.imap_keywords.specs.declared.count.Pending.TheVariants as pending
 use Rattle.imap_automaton.specs.declared.sym.Line.{Line}
 use Rattle.imap_automaton.specs.declared.sym.Line.TheVariants as line
 use Rattle.imap_automaton.specs.declared.sym.Free.TheVariants as free
@@ -31,7 +31,7 @@ use Rattle.imap_automaton.specs.declared.sym.Sym.{Sym}
 use Rattle.imap_automaton.specs.declared.sym.Sym.TheVariants as sym
 use Rattle.pushdown.specs.declared.moves.Move.{Move}
 use Rattle.pushdown.specs.declared.moves.Move.TheVariants as move
-use Rattle.imap_automaton.specs.Counts.{pend}
+use Rattle.imap_keywords.specs.Counts.{pend}
 use Rattle.imap_keywords.specs.Keys.{key_text, phrase_text, keys, first_key, in_word, goes_on, next_key, whole_key, is_among}
 use Rattle.imap_automaton.specs.FreeRules.{free_end, text_rule}
 use Rattle.imap_automaton.specs.WordRules.{rest_rule, spaced_rule, end_rule, behind_key, stray, word_goes, word_ends, word_rule}
@@ -43,7 +43,8 @@ use Rattle.imap_automaton.specs.StringRules.{flat_start, alone, before, count_ru
 use Rattle.imap_automaton.specs.ValueRules.{inner_rule, closes, value_rule}
 use Rattle.imap_automaton.specs.FolderRules.{folder_rule}
 use Rattle.imap_automaton.specs.Rules.{rule_of}
-use Rattle.imap_automaton.specs.Fits.{PendFits, SymFits}
+use Rattle.imap_automaton.specs.Fits.{SymFits}
+use Rattle.imap_keywords.specs.Counts.{PendFits}
 use Rattle.imap_automaton.specs.Flow.{ends_open, begins, may_yield, need, sym_left, is_octets}
 use Rattle.imap_automaton.proofs.ItemNameEdges.{takes_small}
 use Rattle.imap_keywords.proofs.KeyLemmas.{find_some, among_keys, goes_to, among_is}

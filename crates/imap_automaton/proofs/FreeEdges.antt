@@ -3,13 +3,13 @@ use Rattle.std.proofs.Common.{◌≡◌, ℕ, zero, suc, ◌-◌, ◌≤◌, tru
 use Rattle.std.specs.Prelude.{◌==◌, nat_lt, nat_le}
 use Rattle.std.proofs.lemmas.Bool.{eqb-true, ltb-true, leb-true, and_parts, and_from, lt-ltb, le-leb, eq-eqb}
 use Rattle.std.proofs.lemmas.List.{length-replicate, nil_from_length}
-use Rattle.imap_automaton.specs.declared.sym.Pending.{Pending}
-use Rattle.imap_automaton.specs.declared.sym.Pending.TheVariants as pending
+use Rattle.imap_keywords.specs.declared.count.Pending.{Pending}
+use Rattle.imap_keywords.specs.declared.count.Pending.TheVariants as pending
 use Rattle.imap_automaton.specs.declared.sym.Free.{Free}
 use Rattle.imap_automaton.specs.declared.sym.Free.TheVariants as free
 use Rattle.imap_automaton.specs.declared.sym.Sym.TheVariants as sym
 use Rattle.pushdown.specs.declared.moves.Move.TheVariants as move
-use Rattle.imap_automaton.specs.Counts.{pend, pends}
+use Rattle.imap_keywords.specs.Counts.{pend, pends}
 use Rattle.imap_automaton.specs.FreeRules.{free_end, text_rule, free_rule}
 use Rattle.imap_automaton.specs.Fits.{FreeFits}
 use Rattle.imap_automaton.specs.Langs.{NoCount, IsFreeFrom, OctetsRest, FreeLang, AfterMove}

@@ -9,7 +9,7 @@ use Rattle.imap_keywords.specs.declared.key.Key.TheVariants as key
 use Rattle.imap_keywords.specs.declared.key.Place.TheVariants as place
 use Rattle.imap_keywords.specs.declared.phrase.Phrase.{Phrase}
 use Rattle.imap_keywords.specs.declared.phrase.Phrase.TheVariants as phrase
-use Rattle.imap_automaton.specs.declared.sym.Pending.TheVariants as pending
+use Rattle.imap_keywords.specs.declared.count.Pending.TheVariants as pending
 use Rattle.imap_automaton.specs.declared.sym.Free.TheVariants as free
 use Rattle.imap_automaton.specs.declared.sym.Line.{Line}
 use Rattle.imap_automaton.specs.declared.sym.Line.TheVariants as line
@@ -24,7 +24,8 @@ use Rattle.imap_automaton.specs.LineRules.{word_start, sequence_rule, fixed_rule
 use Rattle.imap_automaton.specs.Fits.{LineFits}
 use Rattle.imap_automaton.specs.Langs.{FreeLang, WordSays, WordRest, TagRest, NumberedRest, SequenceRest, LineLang, AfterMove}
 use Rattle.pushdown.proofs.Lists.{cons_head, cons_tail}
-use Rattle.imap_automaton.proofs.Tests.{from_test, to_test, at_true, at_false, is_true_at, both, drop_at, crlf_of, crlf_parts, mid}
+use Rattle.imap_automaton.proofs.Tests.{from_test, to_test, at_true, at_false, is_true_at, both, crlf_of, crlf_parts, mid}
+use Rattle.imap_keywords.proofs.Texts.{drop_at}
 use Rattle.imap_keywords.proofs.Classes.{alnum_not_space, text_not_cr, digit_word}
 use Rattle.imap_keywords.proofs.Classes.{digit_no_brace}
 use Rattle.imap_automaton.proofs.FreeEdges.{text_back, text_forth, free_empty}

@@ -1,14 +1,11 @@
--- Moves by tests, and what the tests say of an octet.
-use Rattle.std.proofs.Common.{◌≡◌, ℕ, ◌+◌, ◌<◌, ◌≤◌, Bool, true, false, List, [], ◌∷◌, ◌++◌, length, drop, get_or, cond, refl, ap, ◌∙◌, arith}
+-- Moves by tests.
+use Rattle.std.proofs.Common.{◌≡◌, ℕ, ◌+◌, Bool, true, false, List, [], ◌∷◌, ◌++◌, cond, refl, ap, ◌∙◌}
 use Rattle.std.specs.Prelude.{◌==◌}
 use Rattle.std.proofs.lemmas.Bool.{eqb-false}
 use Rattle.imap_automaton.specs.declared.sym.Sym.{Sym}
 use Rattle.pushdown.specs.declared.moves.Move.{Move}
-use Rattle.imap_syntax.specs.Octets.{is_digit, is_alnum, is_text, is_word, is_atom}
 use Rattle.imap_syntax.specs.Texts.{crlf}
 use Rattle.imap_automaton.specs.Langs.{AfterMove}
-use Rattle.std.proofs.Math.Seq.{drop-cons}
-use Rattle.std.proofs.Common.{add-one}
 use Rattle.pushdown.proofs.Lists.{cons_head}
 
 -- what is still read after the move that a test chose
@@ -36,10 +33,6 @@ pub is_true_at : (p : ℕ → Bool) (c d : ℕ) → c ≡ d → p d ≡ true →
 is_true_at p c d e h = ap p e ∙ h
 
 -- ---- texts
-
--- a text with its first octet
-pub drop_at : (l : List ℕ) (n : ℕ) → n < length l → drop n l ≡ get_or l n 0 ∷ drop (n + 1) l
-drop_at l n h = rw add-one (drop-cons l n 0 h)
 
 -- texts that begin differently
 pub apart : (c d : ℕ) (x y : List ℕ) → (c == d) ≡ false → c ∷ x ≡ d ∷ y → ⊥

@@ -8,7 +8,7 @@ use Rattle.imap_keywords.specs.declared.key.Key.{Key}
 use Rattle.imap_keywords.specs.declared.key.Key.TheVariants as key
 use Rattle.imap_keywords.specs.declared.key.Place.{Place}
 use Rattle.imap_keywords.specs.declared.key.Place.TheVariants as place
-use Rattle.imap_automaton.specs.declared.sym.Pending.TheVariants as pending
+use Rattle.imap_keywords.specs.declared.count.Pending.TheVariants as pending
 use Rattle.imap_keywords.specs.declared.phrase.Phrase.TheVariants as phrase
 use Rattle.imap_automaton.specs.declared.sym.Line.TheVariants as line
 use Rattle.imap_automaton.specs.declared.sym.Free.TheVariants as free
@@ -22,7 +22,7 @@ use Rattle.imap_automaton.specs.declared.sym.Sym.{Sym}
 use Rattle.imap_automaton.specs.declared.sym.Sym.TheVariants as sym
 use Rattle.pushdown.specs.declared.moves.Move.{Move}
 use Rattle.pushdown.specs.declared.moves.Move.TheVariants as move
-use Rattle.imap_automaton.specs.Counts.{pend}
+use Rattle.imap_keywords.specs.Counts.{pend}
 use Rattle.imap_keywords.specs.Keys.{key_text, keys, is_among, in_word, goes_on, next_key, is_whole, whole_key}
 use Rattle.imap_automaton.specs.WordRules.{rest_rule, spaced_rule, end_rule, behind_key, stray, word_goes, word_ends, word_rule}
 use Rattle.imap_automaton.specs.Langs.{FreeLang, ItemLang, NamesLang, SetLang, IsSpaced, IsBehind, IsStray, WordSays, WordRest, Lang, AfterMove}

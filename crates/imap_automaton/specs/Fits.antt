@@ -1,7 +1,6 @@
 -- What the registers of a symbol keep.
 use Rattle.std.specs.Prelude.{Bool, true, not, ◌&&◌, ◌||◌, nat_lt, nat_le, ◌==◌, length}
-use Rattle.imap_automaton.specs.declared.sym.Pending.{Pending}
-use Rattle.imap_automaton.specs.declared.sym.Pending.TheVariants as pending
+use Rattle.imap_keywords.specs.Counts.{PendFits}
 use Rattle.imap_automaton.specs.declared.sym.Line.{Line}
 use Rattle.imap_automaton.specs.declared.sym.Line.TheVariants as line
 use Rattle.imap_automaton.specs.declared.sym.Free.{Free}
@@ -19,11 +18,6 @@ use Rattle.imap_automaton.specs.declared.sym.Value.TheVariants as value
 use Rattle.imap_automaton.specs.declared.sym.Sym.{Sym}
 use Rattle.imap_automaton.specs.declared.sym.Sym.TheVariants as sym
 use Rattle.imap_keywords.specs.Keys.{key_text, phrase_text, keys, is_among}
-
-abbrev pub PendFits : Pending → Bool
-PendFits (pending.Open v n) = nat_le v 50000001 && nat_le n 8
-PendFits (pending.Closed v) = nat_le v 50000001
-PendFits pending.Nothing = true
 
 abbrev pub LineFits : Line → Bool
 LineFits (line.Tag n) = nat_lt 0 n && nat_le n 32

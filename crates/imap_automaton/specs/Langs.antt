@@ -4,8 +4,8 @@ use Rattle.imap_keywords.specs.declared.key.Key.{Key}
 use Rattle.imap_keywords.specs.declared.key.Key.TheVariants as key
 use Rattle.imap_keywords.specs.declared.key.Place.{Place}
 use Rattle.imap_keywords.specs.declared.key.Place.TheVariants as place
-use Rattle.imap_automaton.specs.declared.sym.Pending.{Pending}
-use Rattle.imap_automaton.specs.declared.sym.Pending.TheVariants as pending
+use Rattle.imap_keywords.specs.declared.count.Pending.{Pending}
+use Rattle.imap_keywords.specs.declared.count.Pending.TheVariants as pending
 use Rattle.imap_automaton.specs.declared.sym.Line.{Line}
 use Rattle.imap_automaton.specs.declared.sym.Line.TheVariants as line
 use Rattle.imap_automaton.specs.declared.sym.Free.{Free}
@@ -27,11 +27,11 @@ use Rattle.imap_automaton.specs.declared.sym.Sym.{Sym}
 use Rattle.imap_automaton.specs.declared.sym.Sym.TheVariants as sym
 use Rattle.pushdown.specs.declared.moves.Move.{Move}
 use Rattle.pushdown.specs.Automaton as machine
-use Rattle.imap_automaton.specs.Counts.{pends}
+use Rattle.imap_keywords.specs.Counts.{pends}
 use Rattle.imap_automaton.specs.DateRules.{day_octet, time_octet}
 use Rattle.imap_automaton.specs.ItemNameRules.{name_from}
 use Rattle.imap_automaton.specs.ItemNameLangs.{NameRest}
-use Rattle.imap_keywords.specs.Keys.{key_text, phrase_text, keys, in_word}
+use Rattle.imap_keywords.specs.Keys.{key_text, phrase_text, keys, in_word, Among}
 pub use Rattle.imap_automaton.specs.Rests.{OctetsRest, NumberRest, LongRest, IsSpaced}
 use Rattle.imap_automaton.specs.StringLangs.{StrLang, ValueLang}
 use Rattle.imap_automaton.specs.FolderLangs.{FolderLang}

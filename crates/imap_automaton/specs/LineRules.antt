@@ -4,7 +4,7 @@ use Rattle.imap_keywords.specs.declared.phrase.Phrase.{Phrase}
 use Rattle.imap_keywords.specs.declared.phrase.Phrase.TheVariants as phrase
 use Rattle.imap_keywords.specs.declared.key.Place.{Place}
 use Rattle.imap_keywords.specs.declared.key.Place.TheVariants as place
-use Rattle.imap_automaton.specs.declared.sym.Pending.TheVariants as pending
+use Rattle.imap_keywords.specs.declared.count.Pending.TheVariants as pending
 use Rattle.imap_automaton.specs.declared.sym.Line.{Line}
 use Rattle.imap_automaton.specs.declared.sym.Line.TheVariants as line
 use Rattle.imap_automaton.specs.declared.sym.Sym.{Sym}

@@ -17,7 +17,5 @@ mod value_rule;
 mod word_rule;
 
 pub use grammar::LIMIT;
-pub use imap_keywords::{Key, Phrase, Place};
-pub use sym::{
-    Date, Folder, Free, Item, ItemName, Line, Names, Pending, Set, Str, Sym, Value, Words,
-};
+pub use imap_keywords::{Key, Pending, Phrase, Place};
+pub use sym::{Date, Folder, Free, Item, ItemName, Line, Names, Set, Str, Sym, Value, Words};

@@ -6,10 +6,10 @@ ghost use Rattle.imap_automaton.specs.Fits.{LineFits};
 
 use crate::free_rule::text_rule;
 use crate::item_rule::NUMBER_DIGITS;
-use crate::sym::{Line, Pending, Sym};
+use crate::sym::{Line, Sym};
 use crate::word_rule::word_rule;
 use imap_keywords::{
-    CR, Phrase, Place, first_key, is_alnum, is_digit, is_text, lower, phrase_text,
+    CR, Pending, Phrase, Place, first_key, is_alnum, is_digit, is_text, lower, phrase_text,
 };
 use pushdown::Move;
 

@@ -3,9 +3,8 @@ ghost use Rattle.std.specs.Prelude.{◌≡◌, IsTrue};
 ghost use Rattle.imap_automaton.specs.StringRules as rules;
 ghost use Rattle.imap_automaton.specs.Fits.{StrFits};
 
-use crate::free_rule::{COUNT_DIGITS, LITERAL_LIMIT};
 use crate::sym::{Free, Line, Names, Str, Sym};
-use imap_keywords::{CR, Phrase, is_atom, is_digit, is_text, lower};
+use imap_keywords::{COUNT_DIGITS, CR, LITERAL_LIMIT, Phrase, is_atom, is_digit, is_text, lower};
 use pushdown::Move;
 
 /// A literal's count, from its first digit on.

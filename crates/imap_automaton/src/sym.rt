@@ -1,13 +1,5 @@
 // The symbols of the automaton's stack, in groups, and what an octet does to the first of them.
-use imap_keywords::{Key, Phrase, Place};
-
-/// A count in braces that may stand at the end of a text: none, one with n digits, one with its closing brace.
-#[derive(Clone, Copy)]
-pub enum Pending {
-    Nothing,
-    Open(u32, u8),
-    Closed(u32),
-}
+use imap_keywords::{Key, Pending, Phrase, Place};
 
 /// Within a line.
 #[derive(Clone, Copy)]

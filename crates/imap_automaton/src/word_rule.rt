@@ -8,8 +8,10 @@ use crate::date_rule::time_rule;
 use crate::free_rule::text_rule;
 use crate::item_name_rule::{item_name_rule, next_name};
 use crate::set_rule::words_more;
-use crate::sym::{Date, Folder, Item, ItemName, Line, Names, Pending, Set, Str, Sym};
-use imap_keywords::{CR, Key, Phrase, Place, in_word, key_text, lower, next_key, whole_key};
+use crate::sym::{Date, Folder, Item, ItemName, Line, Names, Set, Str, Sym};
+use imap_keywords::{
+    CR, Key, Pending, Phrase, Place, in_word, key_text, lower, next_key, whole_key,
+};
 use pushdown::Move;
 
 fn rest_rule(c: u16) -> Move<Sym>

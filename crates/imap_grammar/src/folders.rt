@@ -6,6 +6,7 @@ ghost use Rattle.imap_values.specs.reading.Spans as spans;
 ghost use Rattle.imap_grammar.specs.reading.FolderReading as reading;
 
 use gate_world::Bytes;
+use imap_keywords::is_status_word;
 use imap_syntax::{Response, StatusItems};
 use imap_values::{astring_in, before, behind, digits_len, flags_in, is_key, long_of, octet_at};
 use std::alloc::{AllocError, Global};
@@ -52,12 +53,6 @@ pub fn list_in(alloc: Global, bytes: &[u8]) -> Result<Response, AllocError>
     })
 }
 
-fn is_status_word(c: u8) -> bool
-    ensures { result ≡ classes.is_status_word c }
-{
-    33 <= c && c <= 126 && c != b'(' && c != b')'
-}
-
 /// How many octets of a word of a STATUS stand at the front.
 #[tactic(auto, using(imap_values::proofs::SpanLemmas::spans))]
 fn status_word_len(bytes: &[u8]) -> usize
@@ -65,7 +60,7 @@ fn status_word_len(bytes: &[u8]) -> usize
     ensures most { result ≤ length bytes.now }
 {
     for (i, c) in bytes.iter().enumerate() {
-        if !is_status_word(*c) {
+        if !is_status_word(*c as u16) {
             return i;
         }
     }

@@ -1,2 +1,3 @@
 pub mod Classes
 pub mod KeyLemmas
+pub mod Texts

@@ -4,7 +4,7 @@ use Rattle.std.proofs.lemmas.Bool.{cond-true, cond-false}
 use Rattle.std.proofs.lemmas.List.{drop_all}
 use Rattle.imap_values.specs.reading.Spans.{span, cap, count_from, all_digits}
 use Rattle.imap_syntax.specs.Octets.{is_digit}
-use Rattle.imap_values.proofs.Lengths.{drop_at}
+use Rattle.imap_keywords.proofs.Texts.{drop_at}
 
 pub span_more : (p : ℕ → Bool) (b : List ℕ) (i : ℕ) → i < length b → p (get_or b i 0) ≡ true → span p (drop i b) ≡ 1 + span p (drop (i + 1) b)
 unfolding span

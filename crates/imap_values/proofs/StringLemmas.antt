@@ -3,7 +3,7 @@ use Rattle.std.proofs.Common.{◌≡◌, ℕ, ◌+◌, ◌<◌, ◌≤◌, Bool,
 use Rattle.std.specs.Prelude.{◌==◌}
 use Rattle.std.proofs.lemmas.Bool.{cond-true, cond-false}
 use Rattle.std.proofs.lemmas.List.{drop_all, append-nil}
-use Rattle.imap_values.proofs.Lengths.{drop_at}
+use Rattle.imap_keywords.proofs.Texts.{drop_at}
 use Rattle.imap_values.specs.reading.StringReading.{unquoted}
 
 -- one octet before what is read

@@ -5,7 +5,8 @@ ghost use Rattle.imap_syntax.specs.Octets as classes;
 ghost use Rattle.imap_values.specs.reading.DateReading as reading;
 
 use crate::dates::{DAYS_TO_EPOCH, SECONDS_OF_DAY, SECONDS_TO_EPOCH};
-use crate::octets::{before, behind, is_digit, is_key, octet_at};
+use crate::octets::{before, behind, is_key, octet_at};
+use imap_keywords::is_digit;
 use jiff_core::civil::Date;
 
 /// The last second of the year 9999, since the first of the year 0.
@@ -17,7 +18,7 @@ fn digit_at(bytes: &[u8], at: usize) -> u32
     ensures most { result ≤ 9 }
 {
     let octet = octet_at(bytes, at);
-    if is_digit(octet) {
+    if is_digit(octet as u16) {
         (octet - b'0') as u32
     } else {
         0

@@ -3,6 +3,8 @@ ghost use Rattle.std.specs.Prelude.{◌≡◌, take, drop, get_or, length, map, 
 ghost use Rattle.imap_syntax.specs.Octets as classes;
 ghost use Rattle.imap_values.specs.reading.Spans as reading;
 
+use imap_keywords::{is_digit, is_word};
+
 /// What stands after the first n octets.
 pub fn behind(bytes: &[u8], n: usize) -> &[u8]
     ensures { result.now ≡ drop n bytes.now }
@@ -34,19 +36,6 @@ pub fn octet_at(bytes: &[u8], at: usize) -> u8
     if at < bytes.len() { bytes[at] } else { 0 }
 }
 
-fn is_word(c: u8) -> bool
-    ensures { result ≡ classes.is_word c }
-{
-    b'!' <= c && c <= b'~'
-}
-
-/// Whether the octet is a decimal digit.
-pub fn is_digit(c: u8) -> bool
-    ensures { result ≡ classes.is_digit c }
-{
-    b'0' <= c && c <= b'9'
-}
-
 fn in_name(c: u8) -> bool
     ensures { result ≡ reading.in_name c }
 {
@@ -67,7 +56,7 @@ pub fn word_len(bytes: &[u8]) -> usize
     ensures most { result ≤ length bytes.now }
 {
     for (i, c) in bytes.iter().enumerate() {
-        if !is_word(*c) {
+        if !is_word(*c as u16) {
             return i;
         }
     }
@@ -95,7 +84,7 @@ pub fn digits_len(bytes: &[u8]) -> usize
     ensures most { result ≤ length bytes.now }
 {
     for (i, c) in bytes.iter().enumerate() {
-        if !is_digit(*c) {
+        if !is_digit(*c as u16) {
             return i;
         }
     }
@@ -107,7 +96,7 @@ fn all_digits(bytes: &[u8]) -> bool
     ensures { result ≡ reading.all_digits bytes.now }
 {
     for c in bytes {
-        if !is_digit(*c) {
+        if !is_digit(*c as u16) {
             return false;
         }
     }

@@ -6,13 +6,8 @@ ghost use Rattle.imap_values.specs.reading.StringReading as reading;
 
 use crate::octets::{before, behind, digits_len, number_of, octet_at};
 use gate_world::Bytes;
+use imap_keywords::is_atom;
 use std::alloc::{AllocError, Global};
-
-fn is_atom(c: u8) -> bool
-    ensures { result ≡ classes.is_atom c }
-{
-    33 <= c && c <= 126 && c != b'(' && c != b')' && c != b'{' && c != b'"' && c != b'\\'
-}
 
 /// How many octets of an atom stand at the front.
 #[tactic(auto, using(crate::proofs::SpanLemmas::spans))]
@@ -21,7 +16,7 @@ pub fn atom_len(bytes: &[u8]) -> usize
     ensures most { result ≤ length bytes.now }
 {
     for (i, c) in bytes.iter().enumerate() {
-        if !is_atom(*c) {
+        if !is_atom(*c as u16) {
             return i;
         }
     }

@@ -64,32 +64,45 @@ fn odd_vanished(alloc: Global) -> Result<Vec<u8>, AllocError> {
     Ok(out)
 }
 
-/// A LIST of many folders, the last by name first.
-fn many_listed(alloc: Global) -> Result<Vec<u8>, AllocError> {
+/// A LIST of many folders, the last by name first; of those that are even where it's so asked.
+fn many_listed(alloc: Global, even: bool) -> Result<Vec<u8>, AllocError> {
     let mut out = Vec::new(alloc);
     for step in 0..FOLDERS {
         let number = 9_999_u32.saturating_sub(step);
-        let text = format!(in alloc; "* LIST () \"/\" f{number}\r\n")?;
-        out.extend_from_slice(text.as_bytes())?;
+        if !even || number % 2 == 0 {
+            let text = format!(in alloc; "* LIST () \"/\" f{number}\r\n")?;
+            out.extend_from_slice(text.as_bytes())?;
+        }
     }
     out.extend_from_slice(b"a1 OK done\r\n")?;
     Ok(out)
 }
 
+/// Whether a LIST tells the even folders alone; how many there are then, how often the mail has changed, and the number
+/// of f9999.
+const LISTS: [(bool, usize, u64, Option<u64>); 5] = [
+    (false, 2_000, 1, Some(2_000)),
+    (false, 2_000, 1, Some(2_000)),
+    (true, 1_000, 2, None),
+    (true, 1_000, 2, None),
+    (false, 2_000, 3, Some(3_000)),
+];
+
 #[test]
 fn many_folders_are_listed(rt: HostRuntime) -> Result<(), Fail> {
     let alloc = rt.alloc();
     let mut mirror = Mirror::new(alloc);
-    let octets = many_listed(alloc)?;
-    for changes in [1, 1] {
+    for row in LISTS.iter() {
+        let octets = many_listed(alloc, row.0)?;
         told(&rt, alloc, &mut mirror, Asked::List, &octets)?;
-        assert_eq!(rt; mirror.folders().len(), 2_000);
+        assert_eq!(rt; mirror.folders().len(), row.1);
+        assert_eq!(rt; mirror.changes(), row.2);
         assert_eq!(rt; mirror.named(b"f8000").map(|folder| folder.number), Some(1));
-        assert_eq!(rt;
-            mirror.named(b"f9999").map(|folder| folder.number),
-            Some(2_000)
-        );
-        assert_eq!(rt; mirror.changes(), changes);
+        assert_eq!(rt; mirror.named(b"f9999").map(|folder| folder.number), row.3);
+        for held in mirror.folders() {
+            let named = mirror.named(held.folder.name.as_slice());
+            assert_eq!(rt; named.map(|folder| folder.number), Some(held.folder.number));
+        }
     }
     Ok(())
 }
@@ -119,6 +132,16 @@ fn a_large_folder_is_told_by_slices(rt: HostRuntime) -> Result<(), Fail> {
         assert_eq!(rt; mirror.messages(1).len(), 20_000);
         assert_eq!(rt; mirror.message(1, MESSAGES).is_some(), true);
         assert_eq!(rt; mirror.folder(1).map(|folder| folder.next), Some(20_001));
+        // one in front, and then more than are taken out in place
+        told(
+            &rt,
+            alloc,
+            &mut mirror,
+            Asked::Unselect,
+            b"* VANISHED 1\r\na1 OK done\r\n",
+        )?;
+        assert_eq!(rt; mirror.messages(1).len(), 19_999);
+        assert_eq!(rt; mirror.message_at(1, 0).map(|message| message.uid), Some(2));
         let odd = odd_vanished(alloc)?;
         told(&rt, alloc, &mut mirror, Asked::Unselect, &odd)?;
         assert_eq!(rt; mirror.messages(1).len(), 10_000);

@@ -21,7 +21,8 @@ use Rattle.told_folder.specs.Keyed.{last_of}
 use Rattle.told_folder.specs.declared.message.Held.{Held}
 use Rattle.told_mail.specs.Lists.{line_of, line_for, names_told, in_order, is_inbox, inbox_first}
 use Rattle.told_mail.specs.Mail.{is_same, named}
-use Rattle.told_mail.specs.reading.Lines.{StandsAt, AreLinesFrom, names_in, place_in, has_name, is_picked}
+use Rattle.told_mail.specs.reading.Lines.{StandsAt, AreLinesFrom, is_picked}
+use Rattle.told_mail.specs.reading.Names.{names_in, place_in}
 
 -- one line more at the front
 pub line_first : (q : List ℕ) (r : Response) (rs : List Response) (l : lists.Line) → line_of r ≡ Some l
@@ -76,7 +77,7 @@ same_sym (x ∷ xs) (y ∷ ys) = ap (λ b. eqb x y && b) (same_sym xs ys) ∙ ap
   eqb_sym : (m n : ℕ) → eqb m n ≡ eqb n m
   eqb_sym m n = grind arith
 
-at_is : (q k : List ℕ) → is_eq (slice_cmp nat_cmp q k) ≡ is_same k q
+pub at_is : (q k : List ℕ) → is_eq (slice_cmp nat_cmp q k) ≡ is_same k q
 at_is q k = is_eq-slice_cmp q k ∙ same_sym q k
 
 same_list : (a b : List ℕ) → is_same a b ≡ true → a ≡ b
@@ -128,45 +129,6 @@ names_put (e ∷ es) k v = by (slice_cmp nat_cmp k.items e.0.items) (names_put e
     by Less h = refl
     by Equal h = refl
     by Greater h = ap (λ (u : List (List ℕ)). e.0.items ∷ u) h
-
--- ---- names of folders
-
-or_twice : (a b : Bool) → (a || b) ≡ (a || (a || b))
-or_twice true b = refl
-or_twice false b = refl
-
-or_swap : (a b c : Bool) → (a || (b || c)) ≡ (b || (a || c))
-or_swap true true c = refl
-or_swap true false c = refl
-or_swap false b c = refl
-
-pub has_put : (ks : List (Vec ℕ Global)) (k : Vec ℕ Global) (q : List ℕ) → list_any (at q) (insert_key by_items ks k) ≡ (is_same k.items q || list_any (at q) ks)
-has_put [] k q = ap (λ b. b || false) (at_is q k.items)
-has_put (x ∷ xs) k q = by (slice_cmp nat_cmp k.items x.items) refl (has_put xs k q)
-  where
-    by : (o : Ordering) → slice_cmp nat_cmp k.items x.items ≡ o → list_any (at q) (insert_key by_items xs k) ≡ (is_same k.items q || list_any (at q) xs)
-        → list_any (at q) (match_ordering o (k ∷ x ∷ xs) (x ∷ xs) (x ∷ insert_key by_items xs k)) ≡ (is_same k.items q || list_any (at q) (x ∷ xs))
-    by Less s h = ap (λ b. b || list_any (at q) (x ∷ xs)) (at_is q k.items)
-    by Equal s h =
-        let keys : k.items ≡ x.items = same_list k.items x.items (sym (is_eq-slice_cmp k.items x.items) ∙ ap is_eq s) in
-        or_twice (at q x) (list_any (at q) xs) ∙ ap (λ b. b || list_any (at q) (x ∷ xs)) (at_is q x.items ∙ ap (λ (u : List ℕ). is_same u q) (sym keys))
-    by Greater s h = ap (λ b. at q x || b) h ∙ or_swap (at q x) (is_same k.items q) (list_any (at q) xs)
-
-named_last : (hs : List Held) (h : Held) (q : List ℕ) → is_some (named (hs ++ h ∷ []) q) ≡ (is_same h.folder.name q || is_some (named hs q))
-named_last [] h q = elim (is_same h.folder.name q) as (λ b. is_some (if b then Some h else None) ≡ (b || false)) [ true ↦ refl | false ↦ refl ]
-named_last (x ∷ xs) h q =
-    elim (is_same x.folder.name q) as (λ b. is_some (if b then Some x else named (xs ++ h ∷ []) q) ≡ (is_same h.folder.name q || is_some (if b then Some x else named xs q))) [
-      | true ↦ elim (is_same h.folder.name q) as (λ b. true ≡ (b || true)) [ true ↦ refl | false ↦ refl ]
-      | false ↦ named_last xs h q
-    ]
-
--- one folder more has been looked at
-pub names_more : (hs : List Held) (i : ℕ) (h : Held) (ks : List (Vec ℕ Global)) (k : Vec ℕ Global) (q : List ℕ) → i < length hs → h ≡ get_or hs i h → k.items ≡ h.folder.name
-    → list_any (at q) ks ≡ is_some (named (take i hs) q) → list_any (at q) (insert_key by_items ks k) ≡ is_some (named (take (i + 1) hs) q)
-names_more hs i h ks k q within is name so_far =
-    has_put ks k q ∙ ap (λ b. is_same k.items q || b) so_far ∙ ap (λ (u : List ℕ). is_same u q || is_some (named (take i hs) q)) name
-    ∙ sym (named_last (take i hs) h q) ∙ ap (λ (z : Held). is_some (named (take i hs ++ z ∷ []) q)) is
-    ∙ sym (ap (λ (zs : List Held). is_some (named zs q)) (take_more hs i h within))
 
 -- ---- names that are picked
 
@@ -245,16 +207,39 @@ no_line rs q w s e =
     let t : line_for q (drop 0 rs) ≡ None = subst (λ (o : Option ℕ). StandsAt rs (line_for q (drop 0 rs)) o) (sym e) s in
     sym t ∙ ap (λ (qs : List Response). line_for q qs) (drop_none rs)
 
+last_same : (name : List ℕ) (ls : List lists.Line) (l : lists.Line) → last_of (filter (λ k. is_same k.name name) ls) ≡ Some l → l.name ≡ name
+last_same name [] l e = absurd (cc)
+last_same name (k ∷ ks) l e =
+    let rest : List lists.Line = filter (λ z. is_same z.name name) ks in
+    elim (is_same k.name name) as (λ b. is_same k.name name ≡ b → last_of (if b then k ∷ rest else rest) ≡ Some l → l.name ≡ name) [
+      | true ↦ λ t f. elim (last_of rest) as (λ o. last_of rest ≡ o → Some (unwrap_or o k) ≡ Some l → l.name ≡ name) [
+        | None ↦ λ g h. ap (λ (z : lists.Line). z.name) (sym (one_line k l h)) ∙ same_list k.name name t
+        | Some z ↦ λ g h. last_same name ks l (g ∙ h)
+      ] refl f
+      | false ↦ λ t f. last_same name ks l f
+    ] refl e where
+      one_line : (a b : lists.Line) → Some a ≡ Some b → a ≡ b
+      one_line a b h = cc
+
+-- the line of a name has it
+pub line_name : (name : List ℕ) (rs : List Response) (l : lists.Line) → line_for name rs ≡ Some l → l.name ≡ name
+line_name name rs l e = last_same name (filter_map line_of rs) l e
+
+has_place : (rs : List Response) (o : Option lists.Line) (w : Option ℕ) → StandsAt rs o w → is_some w ≡ is_some o
+has_place rs o None s = sym (ap is_some s)
+has_place rs o (Some at) s = sym (ap is_some s.1)
+
+-- a name has a place where a line has it
+pub has_line_is : (rs : List Response) (lines : BTreeMap (Vec ℕ Global) ℕ) (q : List ℕ) → AreLinesFrom rs 0 lines → is_some (place_in lines q) ≡ is_some (line_for q rs)
+has_line_is rs lines q a = has_place rs _ _ (a.places q) ∙ ap (λ (qs : List Response). is_some (line_for q qs)) (drop_none rs)
+
 pub names_whole : (rs : List Response) → names_told (drop 0 rs) ≡ names_told rs
 names_whole rs = ap (λ (qs : List Response). names_told qs) (drop_none rs)
 
 -- INBOX, and then the other names
-pub picked : (hs : List Held) (held : BTreeSet (Vec ℕ Global)) (ns : List (List ℕ)) → ((q : List ℕ) → has_name held q ≡ is_some (named hs q))
-    → filter (is_picked held true) ns ++ filter (is_picked held false) ns ≡ inbox_first (filter (λ name. not (is_some (named hs name))) ns)
-picked hs held ns h =
-    let p : List ℕ → Bool = λ name. not (is_some (named hs name)) in
-    let one : filter (is_picked held true) ns ≡ filter is_inbox (filter p ns) =
-    filter_same (is_picked held true) (λ x. is_inbox x && p x) (λ x. ap (λ b. is_inbox x && not b) (h x)) ns ∙ sym (filter_both is_inbox p ns) in
-    let two : filter (is_picked held false) ns ≡ filter (λ name. not (is_inbox name)) (filter p ns) =
-    filter_same (is_picked held false) (λ x. not (is_inbox x) && p x) (λ x. ap (λ b. not (is_inbox x) && not b) (h x)) ns ∙ sym (filter_both (λ name. not (is_inbox name)) p ns) in
-    ap (λ (zs : List (List ℕ)). zs ++ filter (is_picked held false) ns) one ∙ ap (λ (zs : List (List ℕ)). filter is_inbox (filter p ns) ++ zs) two
+pub picked : (numbers : BTreeMap (Vec ℕ Global) ℕ) (ns : List (List ℕ))
+    → filter (is_picked numbers true) ns ++ filter (is_picked numbers false) ns ≡ inbox_first (filter (λ name. not (is_some (place_in numbers name))) ns)
+picked numbers ns =
+    let p : List ℕ → Bool = λ name. not (is_some (place_in numbers name)) in
+    ap (λ (zs : List (List ℕ)). zs ++ filter (is_picked numbers false) ns) (sym (filter_both is_inbox p ns))
+    ∙ ap (λ (zs : List (List ℕ)). filter is_inbox (filter p ns) ++ zs) (sym (filter_both (λ name. not (is_inbox name)) p ns))

@@ -1,4 +1,8 @@
 -- What holds of the folder of a name, and as a LIST is told to the folders.
+use Rattle.std.proofs.Common.{Bool, Vec, Global, filter, map}
+use Rattle.std.specs.BTreeMap.{BTreeMap}
+use Rattle.std.proofs.lemmas.List.{append_assoc, append-nil, take_more}
+use Rattle.std.proofs.lemmas.List.Elements.{filter-append}
 use Rattle.std.proofs.Common.{◌≡◌, ℕ, ◌+◌, ◌<◌, ◌≤◌, zero, suc, true, false, List, [], ◌∷◌, ◌++◌, Option, Some, None, Result, Ok, Err, OnOk, length}
 use Rattle.std.proofs.Common.{length-append, get_or, set, take, drop, refl, sym, ap, ◌∙◌, subst, arith, eqb, is_some, if◌then◌else◌}
 use Rattle.std.specs.Cmp.Lexicographic.{pointwise}
@@ -17,9 +21,10 @@ use Rattle.told_mail.specs.Lists.{line_for, with_line, put_listed, listed}
 use Rattle.told_mail.specs.Mail.{Mail, named}
 use Rattle.told_mail.specs.Told.{Told}
 use Rattle.told_mail.specs.reading.Index.{IsNamedAt}
-use Rattle.told_mail.specs.reading.Lines.{listed_at}
+use Rattle.told_mail.specs.reading.Lines.{lined, lined_by, lined_here, lined_at, is_told, AreLinesFrom}
 use Rattle.told_mail.specs.reading.Rises.{Rises}
-use Rattle.told_mail.proofs.ToldLemmas.{known_at, listed_some, listed_none, listed_step, set_at, cut_short}
+use Rattle.told_mail.proofs.LineLemmas.{has_line_is}
+use Rattle.told_mail.proofs.ToldLemmas.{known_at, set_at}
 
 -- ---- the folder of a name
 
@@ -55,30 +60,6 @@ named_known m c rs name at P result is known k =
 pub named_some : (hs : List Held) (name : List ℕ) (at : ℕ) → IsNamedAt hs name at → is_some (named hs name) ≡ true
 named_some hs name at is = let item = item_at folder_number hs at is.within in ap is_some (is.found item.0 item.1)
 
--- ---- folders of a LIST
-
-pub list_some_ok : (m n : Mail) (rs : List Response) (at : ℕ) (h : Held) (l : lists.Line) (result : Result (Unit {0}) AllocError) → at < length m.folders
-    → h ≡ get_or m.folders at h → Some l ≡ line_for h.folder.name rs
-    → OnOk result ((k : Held) → k ≡ get_or m.folders at k → n ≡ record m { folders = set m.folders at (with_line l k) }) → OnOk result (n ≡ listed_at rs at m)
-list_some_ok m n rs at h l result within is line told = on_ok_map result
-    (λ f. f h is ∙ ap (λ (hs : List Held). record m { folders = hs }) (sym (listed_some rs m.folders at h l within is (sym line)))) told
-
-pub list_some_known : (m : Mail) (rs : List Response) (at : ℕ) (h : Held) (l : lists.Line) (P : Type 0) → at < length m.folders → h ≡ get_or m.folders at h
-    → Some l ≡ line_for h.folder.name rs → ((k : Held) → k ≡ get_or m.folders at k → with_line l k ≡ k → P) → listed_at rs at m ≡ m → P
-list_some_known m rs at h l P within is line known e =
-    known h is (set_at m.folders at h (with_line l h) within is (sym (listed_some rs m.folders at h l within is (sym line)) ∙ ap (λ (k : Mail). k.folders) e))
-
-pub list_none_ok : (m n : Mail) (rs : List Response) (at : ℕ) (h : Held) → at < length m.folders → h ≡ get_or m.folders at h → None ≡ line_for h.folder.name rs
-    → n ≡ record m { folders = take at m.folders ++ drop (at + 1) m.folders } → n ≡ listed_at rs at m
-list_none_ok m n rs at h within is line cut =
-    let more : at + 1 ≡ suc at = omega arith in
-    cut ∙ ap (λ j. record m { folders = take at m.folders ++ drop j m.folders }) more
-    ∙ ap (λ (hs : List Held). record m { folders = hs }) (sym (listed_none rs m.folders at h within is (sym line)))
-
-pub list_none_known : (m : Mail) (rs : List Response) (at : ℕ) (h : Held) (P : Type 0) → at < length m.folders → h ≡ get_or m.folders at h → None ≡ line_for h.folder.name rs
-    → listed_at rs at m ≡ m → P
-list_none_known m rs at h P within is line e = absurd (cut_short m.folders at within (sym (listed_none rs m.folders at h within is (sym line)) ∙ ap (λ (k : Mail). k.folders) e))
-
 pub rises_on : (a b c : Told) → Rises a b → Rises b c → Rises a c
 rises_on a b c f g = record {
   rises = omega (arith, f.rises, g.rises);
@@ -88,55 +69,187 @@ rises_on a b c f g = record {
       g.stands second l ∙ f.stands first (omega (arith, second, l));
 }
 
-pub listed_end : (rs : List Response) (m : Mail) → m ≡ record m { folders = take (length m.folders) m.folders ++ listed rs (drop (length m.folders) m.folders) }
-listed_end rs m = ap (λ (hs : List Held). record m { folders = hs }) (sym (whole m.folders)) where
-  whole : (hs : List Held) → take (length hs) hs ++ listed rs (drop (length hs) hs) ≡ hs
-  whole [] = refl
-  whole (h ∷ hs) = ap (λ zs. h ∷ zs) (whole hs)
+-- ---- the lines of a LIST, told to the folders that they name
 
-short : (rs : List Response) (hs : List Held) → length (listed rs hs) ≤ length hs
-short rs [] = omega arith
-short rs (h ∷ hs) =
-    let rest = short rs hs in
+-- the folder at a place with what its line tells
+lined_some : (rs : List Response) (hs : List Held) (at : ℕ) (h : Held) (l : lists.Line) → at < length hs → h ≡ get_or hs at h → line_for h.folder.name rs ≡ Some l
+    → take at hs ++ lined_here rs (drop at hs) ≡ set hs at (with_line l h)
+lined_some rs [] at h l w is e = absurd (omega arith)
+lined_some rs (x ∷ xs) zero h l w is e = ap (λ (z : Held). lined rs z ∷ xs) (sym is) ∙ ap (λ (o : Option lists.Line). lined_by o h ∷ xs) e
+lined_some rs (x ∷ xs) (suc at) h l w is e = ap (λ zs. x ∷ zs) (lined_some rs xs at h l (omega arith) is e)
+
+-- a folder that no line tells
+lined_none : (rs : List Response) (hs : List Held) (at : ℕ) (h : Held) → at < length hs → h ≡ get_or hs at h → line_for h.folder.name rs ≡ None
+    → take at hs ++ lined_here rs (drop at hs) ≡ hs
+lined_none rs [] at h w is e = absurd (omega arith)
+lined_none rs (x ∷ xs) zero h w is e = ap (λ (z : Held). lined rs z ∷ xs) (sym is) ∙ ap (λ (o : Option lists.Line). lined_by o h ∷ xs) e ∙ ap (λ (z : Held). z ∷ xs) is
+lined_none rs (x ∷ xs) (suc at) h w is e = ap (λ zs. x ∷ zs) (lined_none rs xs at h (omega arith) is e)
+
+pub list_some_ok : (m n : Mail) (rs : List Response) (at : ℕ) (h : Held) (l : lists.Line) (result : Result (Unit {0}) AllocError) → at < length m.folders
+    → h ≡ get_or m.folders at h → Some l ≡ line_for h.folder.name rs
+    → OnOk result ((k : Held) → k ≡ get_or m.folders at k → n ≡ record m { folders = set m.folders at (with_line l k) }) → OnOk result (n ≡ lined_at rs at m)
+list_some_ok m n rs at h l result within is line told = on_ok_map result
+    (λ f. f h is ∙ ap (λ (hs : List Held). record m { folders = hs }) (sym (lined_some rs m.folders at h l within is (sym line)))) told
+
+pub list_some_known : (m : Mail) (rs : List Response) (at : ℕ) (h : Held) (l : lists.Line) (P : Type 0) → at < length m.folders → h ≡ get_or m.folders at h
+    → Some l ≡ line_for h.folder.name rs → ((k : Held) → k ≡ get_or m.folders at k → with_line l k ≡ k → P) → lined_at rs at m ≡ m → P
+list_some_known m rs at h l P within is line known e =
+    known h is (set_at m.folders at h (with_line l h) within is (sym (lined_some rs m.folders at h l within is (sym line)) ∙ ap (λ (k : Mail). k.folders) e))
+
+pub list_none_ok : (m : Mail) (rs : List Response) (at : ℕ) (h : Held) → at < length m.folders → h ≡ get_or m.folders at h → None ≡ line_for h.folder.name rs → m ≡ lined_at rs at m
+list_none_ok m rs at h within is line = ap (λ (hs : List Held). record m { folders = hs }) (sym (lined_none rs m.folders at h within is (sym line)))
+
+heads : (x y : Held) (xs ys : List Held) → x ∷ xs ≡ y ∷ ys → x ≡ y
+heads x y xs ys f = cc
+
+tails : (x y : Held) (xs ys : List Held) → x ∷ xs ≡ y ∷ ys → xs ≡ ys
+tails x y xs ys f = cc
+
+pub lined_length : (rs : List Response) (hs : List Held) (at : ℕ) → length (map (lined rs) (take at hs) ++ drop at hs) ≡ length hs
+lined_length rs [] zero = refl
+lined_length rs [] (suc at) = refl
+lined_length rs (x ∷ xs) zero = refl
+lined_length rs (x ∷ xs) (suc at) = omega (arith, lined_length rs xs at)
+
+lined_step : (rs : List Response) (was now : List Held) (at : ℕ) → at < length was → now ≡ map (lined rs) (take at was) ++ drop at was
+    → take at now ++ lined_here rs (drop at now) ≡ map (lined rs) (take (at + 1) was) ++ drop (at + 1) was
+lined_step rs [] now at h e = absurd (omega arith)
+lined_step rs (x ∷ xs) now zero h e = ap (λ (zs : List Held). lined_here rs zs) e
+lined_step rs (x ∷ xs) now (suc at) h e =
+    let shift : suc at + 1 ≡ suc (at + 1) = omega arith in
+    ap (λ (zs : List Held). take (suc at) zs ++ lined_here rs (drop (suc at) zs)) e
+    ∙ ap (λ (zs : List Held). lined rs x ∷ zs) (lined_step rs xs (map (lined rs) (take at xs) ++ drop at xs) at (omega arith) refl)
+    ∙ sym (ap (λ j. map (lined rs) (take j (x ∷ xs)) ++ drop j (x ∷ xs)) shift)
+
+lined_rest : (rs : List Response) (hs : List Held) (at : ℕ) → map (lined rs) hs ≡ hs → map (lined rs) (take at hs) ++ drop at hs ≡ hs
+lined_rest rs [] zero e = refl
+lined_rest rs [] (suc at) e = refl
+lined_rest rs (x ∷ xs) zero e = refl
+lined_rest rs (x ∷ xs) (suc at) e =
+    ap (λ (z : Held). z ∷ (map (lined rs) (take at xs) ++ drop at xs)) (heads (lined rs x) x (map (lined rs) xs) xs e)
+    ∙ ap (λ (zs : List Held). x ∷ zs) (lined_rest rs xs at (tails (lined rs x) x (map (lined rs) xs) xs e))
+
+lined_all : (rs : List Response) (hs : List Held) → map (lined rs) (take (length hs) hs) ++ drop (length hs) hs ≡ map (lined rs) hs
+lined_all rs [] = refl
+lined_all rs (x ∷ xs) = ap (λ (zs : List Held). lined rs x ∷ zs) (lined_all rs xs)
+
+pub lined_within : (rs : List Response) (m now : Mail) (at : ℕ) → at < length m.folders → now ≡ record m { folders = map (lined rs) (take at m.folders) ++ drop at m.folders }
+    → at < length now.folders
+lined_within rs m now at h e = let all : length now.folders ≡ length m.folders = ap (λ (k : Mail). length k.folders) e ∙ lined_length rs m.folders at in omega (arith, all, h)
+
+pub lined_more : (rs : List Response) (m now new : Mail) (at : ℕ) → at < length m.folders → now ≡ record m { folders = map (lined rs) (take at m.folders) ++ drop at m.folders }
+    → new ≡ lined_at rs at now → new ≡ record m { folders = map (lined rs) (take (at + 1) m.folders) ++ drop (at + 1) m.folders }
+lined_more rs m now new at h e f = f ∙ ap (lined_at rs at) e
+    ∙ ap (λ (hs : List Held). record m { folders = hs }) (lined_step rs m.folders (map (lined rs) (take at m.folders) ++ drop at m.folders) at h refl)
+
+pub lined_known : (rs : List Response) (m now : Mail) (at : ℕ) → at < length m.folders → map (lined rs) m.folders ≡ m.folders
+    → now ≡ record m { folders = map (lined rs) (take at m.folders) ++ drop at m.folders } → lined_at rs at now ≡ now
+lined_known rs m now at h same e =
+    let here : now ≡ m = e ∙ ap (λ (hs : List Held). record m { folders = hs }) (lined_rest rs m.folders at same) in
+    lined_more rs m now (lined_at rs at now) at h e refl ∙ ap (λ (hs : List Held). record m { folders = hs }) (lined_rest rs m.folders (at + 1) same) ∙ sym here
+
+pub lined_end : (rs : List Response) (m now : Mail) (at : ℕ) → at ≡ length m.folders → now ≡ record m { folders = map (lined rs) (take at m.folders) ++ drop at m.folders }
+    → now ≡ record m { folders = map (lined rs) m.folders }
+lined_end rs m now at h e = e ∙ ap (λ j. record m { folders = map (lined rs) (take j m.folders) ++ drop j m.folders }) h ∙ ap (λ (hs : List Held). record m { folders = hs })
+    (lined_all rs m.folders)
+
+-- ---- folders that no line tells
+
+-- those that a line names, with what it tells
+pub listed_as : (rs : List Response) (lines : BTreeMap (Vec ℕ Global) ℕ) (hs : List Held) → AreLinesFrom rs 0 lines
+    → filter (is_told lines) (map (lined rs) hs) ≡ listed rs hs
+listed_as rs lines [] a = refl
+listed_as rs lines (h ∷ hs) a =
+    let rest : filter (is_told lines) (map (lined rs) hs) ≡ listed rs hs = listed_as rs lines hs a in
+    elim (line_for h.folder.name rs) as (λ o. line_for h.folder.name rs ≡ o
+    → (if is_told lines (lined_by o h) then lined_by o h ∷ filter (is_told lines) (map (lined rs) hs) else filter (is_told lines) (map (lined rs) hs)) ≡ put_listed o h
+    (listed rs hs)) [
+      | None ↦ λ e. ap (λ b. if b then h ∷ filter (is_told lines) (map (lined rs) hs) else filter (is_told lines) (map (lined rs) hs))
+          (has_line_is rs lines h.folder.name a ∙ ap is_some e) ∙ rest
+      | Some l ↦ λ e. ap (λ b. if b then with_line l h ∷ filter (is_told lines) (map (lined rs) hs) else filter (is_told lines) (map (lined rs) hs))
+          (has_line_is rs lines h.folder.name a ∙ ap is_some e) ∙ ap (λ (zs : List Held). with_line l h ∷ zs) rest
+    ] refl
+
+listed_short : (rs : List Response) (hs : List Held) → length (listed rs hs) ≤ length hs
+listed_short rs [] = omega arith
+listed_short rs (h ∷ hs) =
+    let rest = listed_short rs hs in
     elim (line_for h.folder.name rs) as (λ o. length (put_listed o h (listed rs hs)) ≤ length (h ∷ hs)) [ None ↦ omega (arith, rest) | Some l ↦ omega (arith, rest) ]
 
-rest_same : (rs : List Response) (h : Held) (hs : List Held) → listed rs (h ∷ hs) ≡ h ∷ hs → listed rs hs ≡ hs
-rest_same rs h hs e =
-    let rest = short rs hs in
-    elim (line_for h.folder.name rs) as (λ o. put_listed o h (listed rs hs) ≡ h ∷ hs → listed rs hs ≡ hs) [
+-- where all is listed as it is, each folder is
+first_same : (rs : List Response) (h : Held) (hs : List Held) → listed rs (h ∷ hs) ≡ h ∷ hs → (lined rs h ≡ h) × (listed rs hs ≡ hs)
+first_same rs h hs e =
+    let rest = listed_short rs hs in
+    elim (line_for h.folder.name rs) as (λ o. put_listed o h (listed rs hs) ≡ h ∷ hs → (lined_by o h ≡ h) × (listed rs hs ≡ hs)) [
       | None ↦ λ f. let same : length (listed rs hs) ≡ length (h ∷ hs) = ap length f in absurd (omega (arith, rest, same))
-      | Some l ↦ λ f. tails (with_line l h) h (listed rs hs) hs f
-    ] e where
-      tails : (x y : Held) (xs ys : List Held) → x ∷ xs ≡ y ∷ ys → xs ≡ ys
-      tails x y xs ys f = cc
+      | Some l ↦ λ f. (heads (with_line l h) h (listed rs hs) hs f, tails (with_line l h) h (listed rs hs) hs f)
+    ] e
 
--- where all is listed as it is, so is each rest
-pub listed_rest : (rs : List Response) (hs : List Held) (at : ℕ) → listed rs hs ≡ hs → take at hs ++ listed rs (drop at hs) ≡ hs
-listed_rest rs hs zero e = e
-listed_rest rs [] (suc at) e = refl
-listed_rest rs (h ∷ hs) (suc at) e = ap (λ zs. h ∷ zs) (listed_rest rs hs at (rest_same rs h hs e))
+pub listed_lined : (rs : List Response) (hs : List Held) → listed rs hs ≡ hs → map (lined rs) hs ≡ hs
+listed_lined rs [] e = refl
+listed_lined rs (h ∷ hs) e =
+    let first = first_same rs h hs e in
+    ap (λ (z : Held). z ∷ map (lined rs) hs) first.0 ∙ ap (λ (zs : List Held). h ∷ zs) (listed_lined rs hs first.1)
 
-pub listed_more : (rs : List Response) (m now new : Mail) (at : ℕ) → at < length m.folders
-    → now ≡ record m { folders = take (at + 1) m.folders ++ listed rs (drop (at + 1) m.folders) } → new ≡ listed_at rs at now
-    → new ≡ record m { folders = take at m.folders ++ listed rs (drop at m.folders) }
-listed_more rs m now new at h e f = f ∙ ap (listed_at rs at) e
-    ∙ ap (λ (hs : List Held). record m { folders = hs }) (listed_step rs m.folders (take (at + 1) m.folders ++ listed rs (drop (at + 1) m.folders)) at h refl)
+pub listed_mail : (rs : List Response) (lines : BTreeMap (Vec ℕ Global) ℕ) (m now new : Mail) → AreLinesFrom rs 0 lines → now ≡ record m { folders = map (lined rs) m.folders }
+    → new ≡ record now { folders = filter (is_told lines) now.folders } → new ≡ record m { folders = listed rs m.folders }
+listed_mail rs lines m now new a e f = f ∙ ap (λ (k : Mail). record k { folders = filter (is_told lines) k.folders }) e
+    ∙ ap (λ (hs : List Held). record m { folders = hs }) (listed_as rs lines m.folders a)
 
-pub listed_within : (rs : List Response) (m now : Mail) (at : ℕ) → at < length m.folders
-    → now ≡ record m { folders = take (at + 1) m.folders ++ listed rs (drop (at + 1) m.folders) } → at < length now.folders
-listed_within rs m now at h e =
-    let front : length (take (at + 1) m.folders) ≡ at + 1 = taken m.folders (at + 1) (omega arith) in
-    let all : length now.folders ≡ length (take (at + 1) m.folders) + length (listed rs (drop (at + 1) m.folders)) = ap (λ (k : Mail). length k.folders) e
-    ∙ length-append (take (at + 1) m.folders) (listed rs (drop (at + 1) m.folders)) in
-    omega (arith, front, all) where
-      taken : (hs : List Held) (n : ℕ) → n ≤ length hs → length (take n hs) ≡ n
-      taken [] zero l = refl
-      taken [] (suc n) l = absurd (omega arith)
-      taken (x ∷ hs) zero l = refl
-      taken (x ∷ hs) (suc n) l = omega (arith, taken hs n (omega arith))
+pub listed_known : (rs : List Response) (lines : BTreeMap (Vec ℕ Global) ℕ) (m now : Mail) → AreLinesFrom rs 0 lines → listed rs m.folders ≡ m.folders
+    → now ≡ record m { folders = map (lined rs) m.folders } → filter (is_told lines) now.folders ≡ now.folders
+listed_known rs lines m now a same e =
+    let here : now.folders ≡ map (lined rs) m.folders = ap (λ (k : Mail). k.folders) e in
+    ap (λ (hs : List Held). filter (is_told lines) hs) here ∙ listed_as rs lines m.folders a ∙ same ∙ sym (listed_lined rs m.folders same) ∙ sym here
 
-pub listed_known : (rs : List Response) (m now : Mail) (at : ℕ) → at < length m.folders → listed rs m.folders ≡ m.folders
-    → now ≡ record m { folders = take (at + 1) m.folders ++ listed rs (drop (at + 1) m.folders) } → listed_at rs at now ≡ now
-listed_known rs m now at h same e =
-    let here : now ≡ m = e ∙ ap (λ (hs : List Held). record m { folders = hs }) (listed_rest rs m.folders (at + 1) same) in
-    listed_more rs m now (listed_at rs at now) at h e refl ∙ ap (λ (hs : List Held). record m { folders = hs }) (listed_rest rs m.folders at same) ∙ sym here
+filter_short : (p : Held → Bool) (hs : List Held) → length (filter p hs) ≤ length hs
+filter_short p [] = omega arith
+filter_short p (h ∷ hs) =
+    let rest = filter_short p hs in
+    elim (p h) as (λ b. length (if b then h ∷ filter p hs else filter p hs) ≤ length (h ∷ hs)) [ true ↦ omega (arith, rest) | false ↦ omega (arith, rest) ]
+
+-- where none is taken out, all stay
+pub all_stay : (p : Held → Bool) (hs : List Held) → length (filter p hs) ≡ length hs → filter p hs ≡ hs
+all_stay p [] e = refl
+all_stay p (h ∷ hs) e =
+    let rest = filter_short p hs in
+    elim (p h) as (λ b. length (if b then h ∷ filter p hs else filter p hs) ≡ length (h ∷ hs) → (if b then h ∷ filter p hs else filter p hs) ≡ h ∷ hs) [
+      | true ↦ λ f. ap (λ (zs : List Held). h ∷ zs) (all_stay p hs (omega (arith, f)))
+      | false ↦ λ f. absurd (omega (arith, f, rest))
+    ] e
+
+-- one folder more is looked at
+pub told_more : (p : Held → Bool) (hs : List Held) (i : ℕ) (h : Held) → i < length hs → h ≡ get_or hs i h → p h ≡ true
+    → filter p (take i hs) ++ drop i hs ≡ filter p (take (i + 1) hs) ++ drop (i + 1) hs
+told_more p hs i h within is t =
+    ap (λ (zs : List Held). filter p (take i hs) ++ zs) (left hs i h within is) ∙ sym (append_assoc (filter p (take i hs)) (h ∷ []) (drop (i + 1) hs))
+    ∙ ap (λ (zs : List Held). filter p (take i hs) ++ zs ++ drop (i + 1) hs) (sym (ap (λ b. if b then h ∷ [] else []) t))
+    ∙ ap (λ (zs : List Held). zs ++ drop (i + 1) hs) (sym (filter-append p (take i hs) (h ∷ [])) ∙ ap (λ (zs : List Held). filter p zs)
+    (sym (take_more hs i h within ∙ ap (λ (z : Held). take i hs ++ z ∷ []) (sym is))))
+
+pub ended_before : (p : Held → Bool) (hs : List Held) (i : ℕ) (h : Held) → i < length hs → h ≡ get_or hs i h
+    → filter p (take i hs) ++ drop i hs ≡ filter p (take i hs) ++ h ∷ drop (i + 1) hs
+ended_before p hs i h within is = ap (λ (zs : List Held). filter p (take i hs) ++ zs) (left hs i h within is)
+
+pub ended_after : (p : Held → Bool) (hs : List Held) (i : ℕ) (h : Held) → i < length hs → h ≡ get_or hs i h → p h ≡ false
+    → filter p (take i hs) ++ drop (i + 1) hs ≡ filter p (take (i + 1) hs) ++ drop (i + 1) hs
+ended_after p hs i h within is t =
+    ap (λ (zs : List Held). zs ++ drop (i + 1) hs)
+    (sym (append-nil (filter p (take i hs))) ∙ ap (λ (zs : List Held). filter p (take i hs) ++ zs) (sym (ap (λ b. if b then h ∷ [] else []) t))
+    ∙ sym (filter-append p (take i hs) (h ∷ [])) ∙ ap (λ (zs : List Held). filter p zs) (sym (take_more hs i h within ∙ ap (λ (z : Held). take i hs ++ z ∷ []) (sym is))))
+
+pub told_end : (p : Held → Bool) (hs : List Held) (i : ℕ) → length hs ≤ i → filter p (take i hs) ++ drop i hs ≡ filter p hs
+told_end p hs i h = ap (λ (zs : List Held). zs ++ drop i hs) (ap (λ (zs : List Held). filter p zs) (whole hs i h)) ∙ ap (λ (zs : List Held). filter p hs ++ zs) (gone hs i h)
+    ∙ append-nil (filter p hs)
+  where
+    whole : (zs : List Held) (j : ℕ) → length zs ≤ j → take j zs ≡ zs
+    whole [] zero l = refl
+    whole [] (suc j) l = refl
+    whole (z ∷ zs) zero l = absurd (omega arith)
+    whole (z ∷ zs) (suc j) l = ap (λ ys. z ∷ ys) (whole zs j (omega arith))
+
+    gone : (zs : List Held) (j : ℕ) → length zs ≤ j → drop j zs ≡ []
+    gone [] zero l = refl
+    gone [] (suc j) l = refl
+    gone (z ∷ zs) zero l = absurd (omega arith)
+    gone (z ∷ zs) (suc j) l = gone zs j (omega arith)

@@ -1,3 +1,4 @@
 pub mod Index
 pub mod Lines
+pub mod Names
 pub mod Rises

@@ -6,7 +6,8 @@ ghost use Rattle.std.specs.Ordering.{nat_cmp};
 ghost use Rattle.std.specs.Prelude.{◌≡◌, ◌+◌, ℕ, List, Some, IfOk, OnOk, if◌then◌else◌, slice_get, unwrap_or};
 ghost use Rattle.told_mail.specs.Lists as lists;
 ghost use Rattle.told_mail.specs.Mail.{is_same};
-ghost use Rattle.told_mail.specs.reading.Lines.{value_of, names_in, place_in, AreLinesFrom};
+ghost use Rattle.told_mail.specs.reading.Lines.{value_of, AreLinesFrom};
+ghost use Rattle.told_mail.specs.reading.Names.{names_in, place_in};
 
 use crate::list::{Line, line_of};
 use imap_syntax::Response;

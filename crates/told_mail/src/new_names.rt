@@ -1,17 +1,12 @@
 // Names that a LIST tells and that no folder has.
-ghost use Rattle.std.specs.BTreeSet.{contains_by};
-ghost use Rattle.std.specs.Cmp.Lexicographic.{slice_cmp};
-ghost use Rattle.std.specs.Ordering.{nat_cmp};
-ghost use Rattle.std.specs.Prelude.{◌≡◌, ◌==◌, ◌&&◌, ◌++◌, ℕ, List, IfOk, OnOk, not, filter, is_some};
+ghost use Rattle.std.specs.Prelude.{◌≡◌, ◌++◌, IfOk, OnOk, not, filter, is_some};
 ghost use Rattle.told_mail.specs.Lists as lists;
-ghost use Rattle.told_mail.specs.Mail.{named};
 ghost use Rattle.told_mail.specs.reading.Lines as reading;
-ghost use Rattle.told_mail.specs.reading.Lines.{names_in, has_name, is_picked};
+ghost use Rattle.told_mail.specs.reading.Names.{names_in, place_in, AreApart};
 
-use crate::Held;
 use gate_world::Bytes;
 use std::alloc::{AllocError, Global};
-use std::collections::{BTreeMap, BTreeSet};
+use std::collections::BTreeMap;
 
 fn is_inbox(name: &[u8]) -> bool
     ensures { result ≡ lists.is_inbox name.now }
@@ -30,46 +25,43 @@ fn is_of(inbox: bool, name: &[u8]) -> bool
     }
 }
 
-/// The names of the folders. Each is copied.
-fn names_of(alloc: Global, folders: &[Held]) -> Result<BTreeSet<Vec<u8>>, AllocError>
-    ensures { IfOk result (λ names. (name : List ℕ) → has_name names name ≡ is_some (named folders.now name)) }
+/// Whether the name has no number, and is INBOX or isn't.
+fn is_picked(numbers: &BTreeMap<Vec<u8>, u64>, inbox: bool, name: &[u8]) -> bool
+    ensures { result ≡ reading.is_picked numbers.now inbox name.now }
 {
-    let mut names = BTreeSet::new(alloc);
-    for held in folders {
-        names.insert(held.folder.name.as_slice().to_vec(alloc)?)?;
-    }
-    Ok(names)
+    is_of(inbox, name) && !numbers.contains_key(name)
 }
 
-/// Adds the names that no folder has, and of these INBOX alone or all but INBOX.
+/// Adds the names that have no number, and of these INBOX alone or all but INBOX.
 fn add_names(
     alloc: Global,
     names: &mut Vec<Bytes>,
     lines: &BTreeMap<Vec<u8>, usize>,
-    held: &BTreeSet<Vec<u8>>,
+    numbers: &BTreeMap<Vec<u8>, u64>,
     inbox: bool,
 ) -> Result<(), AllocError>
-    ensures { OnOk result (names.new.items ≡ names.old.items ++ filter (is_picked held.now inbox) (names_in lines.now)) }
+    ensures names { OnOk result (names.new.items ≡ names.old.items ++ filter (reading.is_picked numbers.now inbox) (names_in lines.now)) }
+    ensures apart { OnOk result (AreApart (names_in lines.now)) }
 {
     for name in lines.keys() {
-        if is_of(inbox, name.as_slice()) && !held.contains(name.as_slice()) {
+        if is_picked(numbers, inbox, name.as_slice()) {
             names.push(Bytes::copy_of(alloc, name.as_slice())?)?;
         }
     }
     Ok(())
 }
 
-/// The names that are told and that no folder has, INBOX first, then by octets.
+/// The names that are told and have no number, INBOX first, then by octets.
 pub fn new_names(
     alloc: Global,
-    folders: &[Held],
+    numbers: &BTreeMap<Vec<u8>, u64>,
     lines: &BTreeMap<Vec<u8>, usize>,
 ) -> Result<Vec<Bytes>, AllocError>
-    ensures { IfOk result (λ names. names.items ≡ lists.inbox_first (filter (λ name. not (is_some (named folders.now name))) (names_in lines.now))) }
+    ensures names { IfOk result (λ names. names.items ≡ lists.inbox_first (filter (λ name. not (is_some (place_in numbers.now name))) (names_in lines.now))) }
+    ensures apart { IfOk result (λ names. AreApart names.items) }
 {
-    let held = names_of(alloc, folders)?;
     let mut names = Vec::new(alloc);
-    add_names(alloc, &mut names, lines, &held, true)?;
-    add_names(alloc, &mut names, lines, &held, false)?;
+    add_names(alloc, &mut names, lines, numbers, true)?;
+    add_names(alloc, &mut names, lines, numbers, false)?;
     Ok(names)
 }

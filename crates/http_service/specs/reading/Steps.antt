@@ -14,7 +14,7 @@ use Rattle.http_service.specs.Taking.{Due, Nothing, Octets, LinesOf, Takes, Ends
 use Rattle.http_service.specs.Chunked.{IsLine, IsTrailer}
 use Rattle.http_service.specs.ReadChunked.{LineStops, TrailerStops, OctetStops, DataStops, ChunkStops}
 use Rattle.http_service.specs.ReadBody.{Continues, NotContinued}
-use Rattle.http_service.specs.reading.LineEnds.{start, run}
+use Rattle.http_service.specs.reading.LineEnds.{lines_of, start, run}
 
 -- one call of the client
 abbrev pub Fills : List ℕ → List ℕ → Result Bool HttpError → List Event → Type 0
@@ -34,12 +34,12 @@ Grows before after most (Err _) = after ≡ before
 abbrev pub IsStopped : Lines → Stop → List ℕ → Type 0
 IsStopped lines stop.Ended rest = run (start lines) (window rest) ≡ Ended
 IsStopped lines stop.Full rest = (run (start lines) (window rest) ≢ Ended) × (MAX_HEAD_OCTETS ≤ length rest)
-IsStopped lines stop.Closed rest = IsMissing (LinesOf lines) rest
+IsStopped lines stop.Closed rest = IsMissing (LinesOf (lines_of lines)) rest
 
 abbrev pub StopsAt : Lines → Stop → List ℕ → List Event → List Event → Type 0
 StopsAt lines stop.Ended rest events earlier = events ≡ earlier
 StopsAt lines stop.Full rest events earlier = events ≡ earlier
-StopsAt lines stop.Closed rest events earlier = EndedInside (LinesOf lines) rest events earlier
+StopsAt lines stop.Closed rest events earlier = EndedInside (LinesOf (lines_of lines)) rest events earlier
 
 -- only the front and memory fail
 abbrev pub IsOutside : HttpError → Type 0
@@ -49,15 +49,15 @@ IsOutside _ = ⊥
 
 -- lines stand at the front, as far as their last line end, or as far as they may be read
 abbrev pub ReadsLines : Lines → List ℕ → List ℕ → Result Stop HttpError → List Event → Type 0
-ReadsLines lines before after (Ok at) events = (earlier : List Event) × Takes (LinesOf lines) [] before after earlier × StopsAt lines at after events earlier
-ReadsLines lines before after (Err e) events = (earlier : List Event) × Takes (LinesOf lines) [] before after earlier
-    × EndsBy e (LinesOf lines) after events earlier × IsOutside e
+ReadsLines lines before after (Ok at) events = (earlier : List Event) × Takes (LinesOf (lines_of lines)) [] before after earlier × StopsAt lines at after events earlier
+ReadsLines lines before after (Err e) events = (earlier : List Event) × Takes (LinesOf (lines_of lines)) [] before after earlier
+    × EndsBy e (LinesOf (lines_of lines)) after events earlier × IsOutside e
 
 abbrev pub NoLine : Due → List ℕ → List ℕ → HttpError → Type 0
 NoLine due text rest e = (text ≡ []) × LineStops due rest e
 
-abbrev pub ReadsLine : List ℕ → List ℕ → Result ℕ HttpError → List Event → Type 0
-ReadsLine before after (Ok size) events = (text : List ℕ) × Takes Nothing text before after events × IsLine text size
+abbrev pub ReadsLine : List ℕ → List ℕ → Result (ℕ × ℕ) HttpError → List Event → Type 0
+ReadsLine before after (Ok (count, size)) events = (text : List ℕ) × Takes Nothing text before after events × IsLine text size × (count ≡ length text)
 ReadsLine before after (Err e) events = Breaks NoLine before after e events
 
 abbrev pub NoTrailer : Due → List ℕ → List ℕ → HttpError → Type 0

@@ -1,17 +1,15 @@
 -- Lines of a LIST as the code reads them, and how far a loop over folders has come.
-use Rattle.std.specs.Prelude.{◌≡◌, ◌≢◌, ◌&&◌, if◌then◌else◌, not, Vec, ℕ, Bool, true, false, List, []}
-use Rattle.std.specs.Prelude.{◌∷◌, ◌++◌, Option, Some, None, map, take, drop, slice_get, Result, OnOk, OnErr, IfOk}
-use Rattle.std.specs.BTreeMap.{BTreeMap, get_by, keys}
-use Rattle.std.specs.BTreeSet.{BTreeSet, contains_by}
-use Rattle.std.specs.Cmp.Lexicographic.{slice_cmp}
+use Rattle.std.specs.Prelude.{◌≡◌, ◌≢◌, ◌+◌, ◌&&◌, if◌then◌else◌, not, Vec, ℕ, Bool, true, false, List, []}
+use Rattle.std.specs.Prelude.{◌∷◌, ◌++◌, Option, Some, None, map, take, drop, slice_get, Result, OnOk, OnErr, IfOk, is_some}
+use Rattle.std.specs.BTreeMap.{BTreeMap}
 use Rattle.std.specs.Option.{option_and_then}
-use Rattle.std.specs.Ordering.{nat_cmp}
 use Rattle.std.specs.declared.alloc.Global.{Global}
 use Rattle.imap_syntax.specs.declared.response.Response.{Response}
 use Rattle.told_folder.specs.declared.message.Held.{Held}
 use Rattle.told_mail.specs.Lists as lists
-use Rattle.told_mail.specs.Lists.{line_of, line_for, names_told, put_listed, is_inbox}
+use Rattle.told_mail.specs.Lists.{line_of, line_for, names_told, with_line, is_inbox}
 use Rattle.told_mail.specs.Mail.{Mail}
+use Rattle.told_mail.specs.reading.Names.{names_in, place_in}
 use Rattle.told_mail.specs.declared.list.Line.{Line}
 use Rattle.told_folder.specs.declared.message.Folder.{Folder}
 use Rattle.std.specs.declared.alloc.AllocError.{AllocError}
@@ -19,31 +17,41 @@ use Rattle.std.specs.declared.alloc.AllocError.{AllocError}
 abbrev pub value_of : Line → lists.Line
 value_of l = record { name = l.name.now; delimiter = l.delimiter; attributes = l.attributes.now }
 
-abbrev pub lined : Folder → lists.Line → Folder
-lined f l = record f { delimiter = l.delimiter; attributes = l.attributes }
+abbrev pub told_as : Folder → lists.Line → Folder
+told_as f l = record f { delimiter = l.delimiter; attributes = l.attributes }
 
 -- at Ok the folder has what the line tells, and the answer is whether that is new; where memory lacked it is as it was
 pub record IsLined (f g : Folder) (l : lists.Line) (result : Result Bool AllocError) : Type 0 where
-  pub ok : OnOk result (g ≡ lined f l)
+  pub ok : OnOk result (g ≡ told_as f l)
   pub err : OnErr result (g ≡ f)
   pub same : IfOk result (λ b. b ≡ false → g ≡ f)
-  pub new : IfOk result (λ b. b ≡ true → lined f l ≢ f)
+  pub new : IfOk result (λ b. b ≡ true → told_as f l ≢ f)
 
--- the same of the folders from a place on, of which those after the first are told already
-abbrev pub listed_here : List Response → List Held → List Held
-listed_here rs [] = []
-listed_here rs (h ∷ hs) = put_listed (line_for h.folder.name rs) h hs
+-- the folder with what its line tells, where there is one
+abbrev pub lined_by : Option lists.Line → Held → Held
+lined_by None h = h
+lined_by (Some l) h = with_line l h
 
-abbrev pub listed_at : List Response → ℕ → Mail → Mail
-listed_at rs at m = record m { folders = take at m.folders ++ listed_here rs (drop at m.folders) }
+abbrev pub lined : List Response → Held → Held
+lined rs h = lined_by (line_for h.folder.name rs) h
+
+-- the first folder with what its line tells
+abbrev pub lined_here : List Response → List Held → List Held
+lined_here rs [] = []
+lined_here rs (h ∷ hs) = lined rs h ∷ hs
+
+abbrev pub lined_at : List Response → ℕ → Mail → Mail
+lined_at rs at m = record m { folders = take at m.folders ++ lined_here rs (drop at m.folders) }
+
+-- with a folder behind the others, which takes the next number
+abbrev pub with_pushed : Mail → Folder → Mail
+with_pushed m f = record {
+  folders = m.folders ++ record { folder = f; messages = [] } ∷ [];
+  next_mark = m.next_mark;
+  next_folder = m.next_folder + 1;
+}
 
 -- ---- places of lines, by their names
-
-abbrev pub names_in : BTreeMap (Vec ℕ Global) ℕ → List (List ℕ)
-names_in lines = map (λ (v : Vec ℕ Global). v.items) (keys lines)
-
-abbrev pub place_in : BTreeMap (Vec ℕ Global) ℕ → List ℕ → Option ℕ
-place_in lines name = get_by (λ (v : Vec ℕ Global). slice_cmp nat_cmp name v.items) lines
 
 -- the line is that of the response at the place
 abbrev pub StandsAt : List Response → Option lists.Line → Option ℕ → Type 0
@@ -55,15 +63,16 @@ pub record AreLinesFrom (rs : List Response) (at : ℕ) (lines : BTreeMap (Vec �
   pub names : names_in lines ≡ names_told (drop at rs)
   pub places : (name : List ℕ) → StandsAt rs (line_for name (drop at rs)) (place_in lines name)
 
--- ---- names of folders
+-- a line has the folder's name
+abbrev pub is_told : BTreeMap (Vec ℕ Global) ℕ → Held → Bool
+is_told lines h = is_some (place_in lines h.folder.name)
 
-abbrev pub has_name : BTreeSet (Vec ℕ Global) → List ℕ → Bool
-has_name names name = contains_by (λ (v : Vec ℕ Global). slice_cmp nat_cmp name v.items) names
+-- ---- names that are picked
 
 -- INBOX alone or all but INBOX
 abbrev pub is_of : Bool → List ℕ → Bool
 is_of inbox name = if inbox then is_inbox name else not (is_inbox name)
 
--- the same, where the name isn't among these
-abbrev pub is_picked : BTreeSet (Vec ℕ Global) → Bool → List ℕ → Bool
-is_picked held inbox name = is_of inbox name && not (has_name held name)
+-- the same, where the name has no number
+abbrev pub is_picked : BTreeMap (Vec ℕ Global) ℕ → Bool → List ℕ → Bool
+is_picked numbers inbox name = is_of inbox name && not (is_some (place_in numbers name))

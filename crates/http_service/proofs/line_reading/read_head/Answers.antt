@@ -21,7 +21,7 @@ returns-in_err-head-clause-tape g c =
     let is = err_from_is_err_and c.from_residual-in_err-head.result c.from_residual-in_err-head.ensures.1 in
     let here = c.window.ensures ∙ ap window c.as_slice.ensures in
     let parses = subst (λ (l : List ℕ). ParsesHead l (Err c.in_err-head.field-0.0)) here c.in_err-head.ensures in
-    rw (is.1, is.2) (widen _ c.in_ok-stop.ensures.tape (λ es reads. head_refused es c.in_ok-stop.stop c.in_err-head.field-0.0 reads parses))
+    rw (is.1, is.2) (widen _ c.in_ok-stop.ensures.tape (λ es reads. head_refused es c.in_ok-stop.stop c.in_err-head.field-0.0 c.in_ok-stop.ensures.stop reads parses))
 
 pub skip-requires : goal.skip-requires
 skip-requires g c =

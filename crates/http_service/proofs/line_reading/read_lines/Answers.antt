@@ -4,7 +4,7 @@ use Rattle.gate_world.proofs.Joins.{join, widen}
 use Rattle.http_service.specs.declared.lines.TheConstants.{MAX_HEAD_OCTETS}
 use Rattle.http_service.specs.declared.lines.Place.TheVariants.{Ended}
 use Rattle.http_service.specs.Taking.{LinesOf, IsMissing, window}
-use Rattle.http_service.specs.reading.LineEnds.{start, run}
+use Rattle.http_service.specs.reading.LineEnds.{lines_of, start, run}
 use Rattle.http_service.proofs.TakingLemmas.{one_more, input_ended, not_filled}
 use Rattle.http_service.proofs.LineReadingLemmas.{lines_missing, not_grown, window_short, seen_on}
 use Rattle.http_service.proofs.line_reading.read_lines.Goals as goal
@@ -28,10 +28,10 @@ returns-in_err-fill-clause-tape g c =
     absurd cc in
     let seen = c.window-seen.ensures ∙ ap window c.as_slice-in-reading.ensures in
     let small : length (window c.reading.spare) < MAX_HEAD_OCTETS = omega (arith, c.if-seen-ge-MAX_HEAD_OCTETS.false, ap length seen) in
-    let missing : IsMissing (LinesOf c.args.lines) c.reading.spare =
+    let missing : IsMissing (LinesOf (lines_of c.args.lines)) c.reading.spare =
     lines_missing c.args.lines c.reading.spare (subst (λ (l : List ℕ). run (start c.args.lines) l ≢ Ended) looked not_ended) small in
     rw (is.1, is.2) (join _ c.reading.invariant.tape c.in_err-fill.ensures.tape
-    (λ x y takes fills. not_filled y (LinesOf c.args.lines) c.fill.new.spare c.in_err-fill.field-0.0 takes missing fills))
+    (λ x y takes fills. not_filled y (LinesOf (lines_of c.args.lines)) c.fill.new.spare c.in_err-fill.field-0.0 takes missing fills))
 
 pub returns-then-not-branch-clause-tape : goal.returns-then-not-branch-clause-tape
 returns-then-not-branch-clause-tape g c =
@@ -41,9 +41,9 @@ returns-then-not-branch-clause-tape g c =
     let seen = c.window-seen.ensures ∙ ap window c.as_slice-in-reading.ensures in
     let small : length (window c.reading.spare) < MAX_HEAD_OCTETS = omega (arith, c.if-seen-ge-MAX_HEAD_OCTETS.false, ap length seen) in
     let still = subst (λ (l : List ℕ). run (start c.args.lines) l ≢ Ended) looked not_ended in
-    let missing : IsMissing (LinesOf c.args.lines) c.reading.spare = lines_missing c.args.lines c.reading.spare still small in
+    let missing : IsMissing (LinesOf (lines_of c.args.lines)) c.reading.spare = lines_missing c.args.lines c.reading.spare still small in
     join _ c.reading.invariant.tape c.in_ok-fill.ensures.tape (λ x y takes fills.
-    let ended = input_ended y (LinesOf c.args.lines) c.fill.new.spare c.in_ok-fill.field-0 c.if-not-branch.true takes missing fills in
+    let ended = input_ended y (LinesOf (lines_of c.args.lines)) c.fill.new.spare c.in_ok-fill.field-0 c.if-not-branch.true takes missing fills in
     (x, ended.0, ended.1))
 
 pub returns-then-not-branch-clause-stop : goal.returns-then-not-branch-clause-stop
@@ -54,9 +54,9 @@ returns-then-not-branch-clause-stop g c =
     let seen = c.window-seen.ensures ∙ ap window c.as_slice-in-reading.ensures in
     let small : length (window c.reading.spare) < MAX_HEAD_OCTETS = omega (arith, c.if-seen-ge-MAX_HEAD_OCTETS.false, ap length seen) in
     let still = subst (λ (l : List ℕ). run (start c.args.lines) l ≢ Ended) looked not_ended in
-    let missing : IsMissing (LinesOf c.args.lines) c.reading.spare = lines_missing c.args.lines c.reading.spare still small in
+    let missing : IsMissing (LinesOf (lines_of c.args.lines)) c.reading.spare = lines_missing c.args.lines c.reading.spare still small in
     let same = not_grown c.reading.spare c.fill.new.spare c.window-seen.result.now c.in_ok-fill.field-0 c.if-not-branch.true c.in_ok-fill.ensures.grows in
-    subst (IsMissing (LinesOf c.args.lines)) (sym same) missing
+    subst (IsMissing (LinesOf (lines_of c.args.lines))) (sym same) missing
 
 pub reading-smaller : goal.reading-smaller
 reading-smaller g c =
@@ -72,13 +72,13 @@ reading-preserved g c =
     absurd cc in
     let seen = c.window-seen.ensures ∙ ap window c.as_slice-in-reading.ensures in
     let small : length (window c.reading.spare) < MAX_HEAD_OCTETS = omega (arith, c.if-seen-ge-MAX_HEAD_OCTETS.false, ap length seen) in
-    let missing : IsMissing (LinesOf c.args.lines) c.reading.spare =
+    let missing : IsMissing (LinesOf (lines_of c.args.lines)) c.reading.spare =
     lines_missing c.args.lines c.reading.spare (subst (λ (l : List ℕ). run (start c.args.lines) l ≢ Ended) looked not_ended) small in
     let on = seen_on c.reading.spare c.fill.new.spare (length c.window-seen.result.now) c.in_ok-fill.field-0 is (ap length seen)
     (omega (arith, c.if-seen-ge-MAX_HEAD_OCTETS.false)) c.in_ok-fill.ensures.grows in
     record {
       tape = join _ c.reading.invariant.tape c.in_ok-fill.ensures.tape
-          (λ x y takes fills. one_more y (LinesOf c.args.lines) c.fill.new.spare c.in_ok-fill.field-0 is takes missing fills on.3);
+          (λ x y takes fills. one_more y (LinesOf (lines_of c.args.lines)) c.fill.new.spare c.in_ok-fill.field-0 is takes missing fills on.3);
       seen = on.1;
       place = c.place_after-place.ensures ∙ ap (run (start c.args.lines)) (looked ∙ sym on.0);
       alone = search rules;

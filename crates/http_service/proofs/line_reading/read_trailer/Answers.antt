@@ -20,7 +20,7 @@ returns-in_err-length-clause-tape g c =
     let is = err_from_is_err_and c.from_residual-in_err-length.result c.from_residual-in_err-length.ensures.1 in
     let here = c.window.ensures ∙ ap window c.as_slice.ensures in
     let parses = subst (λ (l : List ℕ). ParsesTrailer l (Err c.in_err-length.field-0.0)) here c.in_err-length.ensures in
-    rw (is.1, is.2) (widen _ c.in_ok-stop.ensures.tape (λ es reads. trailer_not_read es c.in_ok-stop.stop c.in_err-length.field-0.0 reads parses))
+    rw (is.1, is.2) (widen _ c.in_ok-stop.ensures.tape (λ es reads. trailer_not_read es c.in_ok-stop.stop c.in_err-length.field-0.0 c.in_ok-stop.ensures.stop reads parses))
 
 pub skip-requires : goal.skip-requires
 skip-requires g c =
@@ -50,8 +50,8 @@ returns-in-Full-clause-tape g c =
     let here = c.window.ensures ∙ ap window c.as_slice.ensures in
     let none = subst (λ (l : List ℕ). ParsesTrailer l (Ok None)) here (subst (λ (r : Option (ℕ)). ParsesTrailer c.window.result.now (Ok r)) c.in-None.is c.in_ok-length.ensures) in
     let full = subst (λ (s : Stop). IsStopped lines.Trailer s c.read_lines.new.spare) c.in-Full.is c.in_ok-stop.ensures.stop in
-    widen _ c.in_ok-stop.ensures.tape (λ es reads. trailer_full
-    (subst (λ (s : Stop). ReadsLines lines.Trailer c.args.spare.now c.read_lines.new.spare (Ok s) es) c.in-Full.is reads) none.0 full.1)
+    widen _ c.in_ok-stop.ensures.tape (λ es reads. trailer_full full
+    (subst (λ (s : Stop). ReadsLines lines.Trailer c.args.spare.now c.read_lines.new.spare (Ok s) es) c.in-Full.is reads) none.0)
 
 pub returns-in-Closed-clause-tape : goal.returns-in-Closed-clause-tape
 returns-in-Closed-clause-tape g c =

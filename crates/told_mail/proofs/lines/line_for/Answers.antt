@@ -1,5 +1,5 @@
 use Rattle.std.proofs.Common.{◌∙◌}
-use Rattle.told_mail.specs.reading.Lines.{place_in}
+use Rattle.told_mail.specs.reading.Names.{place_in}
 use Rattle.told_mail.proofs.LineLemmas.{found_line, no_line}
 use Rattle.told_mail.proofs.lines.line_for.Goals as goal
 

@@ -1,9 +1,14 @@
-use Rattle.std.proofs.Common.{◌∙◌, ap}
+use Rattle.std.proofs.Common.{◌≡◌, ◌∙◌, ℕ, List, Option, Some, None, ap, sym}
 use Rattle.told_folder.specs.declared.message.Folder.{Folder}
-use Rattle.told_mail.proofs.ToldLemmas.{pushed}
+use Rattle.told_mail.specs.Lists as lists
+use Rattle.told_mail.specs.Mail.{named}
+use Rattle.told_mail.specs.reading.Lines.{value_of}
+use Rattle.told_mail.proofs.LineLemmas.{line_name}
 use Rattle.told_mail.proofs.mirror.Mirror.add_folder.Goals as goal
 
-pub invariant_of-self-2 : goal.invariant_of-self-2
-invariant_of-self-2 c =
-    pushed c.self.inside.folders.items c.push.new.self.items c.in_ok-folder.folder c.from_vec-messages.result c.self.inside.marks c.self.inside.next_mark c.self.inside.next_folder
-    (ap (λ (f : Folder). f.number) c.in_ok-folder.ensures) (c.from_vec-messages.ensures ∙ c.new.ensures.items) c.in_ok-push.ensures.items c.self.invariant
+pub push_folder-requires-clause-free : goal.push_folder-requires-clause-free
+push_folder-requires-clause-free c =
+    let line : lists.line_for c.args.name.now c.args.responses.now ≡ Some (value_of c.in-Some.line) = sym (rw c.as_slice.ensures at c.in-Some.ensures) in
+    let name : c.in_ok-folder.folder.name ≡ c.args.name.now = ap (λ (f : Folder). f.name) c.in_ok-folder.ensures
+    ∙ line_name c.args.name.now c.args.responses.now (value_of c.in-Some.line) line in
+    ap (λ (q : List ℕ). named c.args.self.now.mail.folders q) name ∙ c.requires.free

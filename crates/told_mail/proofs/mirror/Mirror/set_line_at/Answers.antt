@@ -7,5 +7,5 @@ pub invariant_of-self-then-branch : goal.invariant_of-self-then-branch
 invariant_of-self-then-branch c =
     let hs : List Held = c.self.inside.folders.items in
     let within : c.args.at < length hs = rw (← c.self.view_is) at c.requires in
-    lined_at hs c.args.at c.index_mut-held.result.now _ c.args.line.delimiter c.args.line.attributes.now _ _ _ within c.index_mut-held.ensures.value c.in_ok-set_line.ensures.ok
+    lined_at hs c.args.at c.index_mut-held.result.now _ c.args.line.delimiter c.args.line.attributes.now _ _ _ _ within c.index_mut-held.ensures.value c.in_ok-set_line.ensures.ok
     c.self.invariant

@@ -4,6 +4,7 @@ use Rattle.told_folder.specs.declared.message.Folder.{Folder}
 use Rattle.told_folder.proofs.FolderLemmas.{ascend_in, held_same}
 use Rattle.told_mail.proofs.ListLemmas.{on_ok_both}
 use Rattle.told_mail.proofs.ToldLemmas.{here_at_place, indexed_told, told_at, below_set, below_get, number_kept}
+use Rattle.told_mail.proofs.NameLemmas.{name_set, numbers_same}
 use Rattle.told_mail.proofs.mirror.Mirror.tell_at.Goals as goal
 
 pub new-messages-requires : goal.new-messages-requires
@@ -46,6 +47,10 @@ invariant_of-self c =
           ∙ ap (λ
           (z : Folder). z.number) c.take_messages-taken.ensures.folder))
           (below_get hs c.self.inside.next_folder c.args.at c.index_mut-held.result.now c.self.invariant.folders within c.index_mut-held.ensures.value)) c.self.invariant.folders;
+      names = numbers_same _ _ hs _ c.self.invariant.names (λ q. refl) (name_set hs c.args.at c.index_mut-held.result.now _ within c.index_mut-held.ensures.value
+          (number_kept c.take_messages-taken.new.held.folder c.tell_exchange-done.new.folder _ _ _ c.tell_exchange-done.ensures.keeps.same
+          ∙ ap (λ (z : Folder). z.number) c.take_messages-taken.ensures.folder)
+          (ap (λ (z : Folder). z.name) (c.tell_exchange-done.ensures.keeps.same) ∙ ap (λ (z : Folder). z.name) c.take_messages-taken.ensures.folder));
     }
 
 pub returns-clause-ok : goal.returns-clause-ok

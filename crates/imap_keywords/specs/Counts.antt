@@ -1,7 +1,7 @@
 -- A count in braces that stands at the end of a text. One above the limit of a literal is one more than the limit.
-use Rattle.std.specs.Prelude.{ℕ, ◌+◌, ◌-◌, ◌*◌, ◌&&◌, nat_lt, nat_le, ◌==◌, if◌then◌else◌, List, [], ◌∷◌}
-use Rattle.imap_automaton.specs.declared.sym.Pending.{Pending}
-use Rattle.imap_automaton.specs.declared.sym.Pending.TheVariants as pending
+use Rattle.std.specs.Prelude.{ℕ, Bool, true, ◌+◌, ◌-◌, ◌*◌, ◌&&◌, nat_lt, nat_le, ◌==◌, if◌then◌else◌, List, [], ◌∷◌}
+use Rattle.imap_keywords.specs.declared.count.Pending.{Pending}
+use Rattle.imap_keywords.specs.declared.count.Pending.TheVariants as pending
 use Rattle.imap_syntax.specs.Octets.{is_digit}
 
 abbrev pub capped : ℕ → ℕ
@@ -21,3 +21,9 @@ pend s c = if c == 123 then pending.Open 0 0 else pend_on s c
 abbrev pub pends : Pending → List ℕ → Pending
 pends s [] = s
 pends s (c ∷ t) = pends (pend s c) t
+
+-- what its registers keep
+abbrev pub PendFits : Pending → Bool
+PendFits (pending.Open v n) = nat_le v 50000001 && nat_le n 8
+PendFits (pending.Closed v) = nat_le v 50000001
+PendFits pending.Nothing = true
