@@ -3,10 +3,9 @@ use Rattle.std.proofs.Common.{◌≡◌, ℕ, Bool, true, false, if◌then◌els
 use Rattle.std.specs.List.{list_all}
 use Rattle.std.proofs.lemmas.Bool.{and_parts, lt-ltb}
 use Rattle.text_words.proofs.CutLemmas.{each_list_all, list_all_each}
-use Rattle.http_routes.specs.Accept.{is_media, is_media_octet}
-use Rattle.http_service.specs.Responses.{IsMediaText}
+use Rattle.http_service.specs.Responses.{IsMediaText, is_media_octet}
 use Rattle.http_door.specs.Asking.{octet_stream}
-use Rattle.http_door.specs.Responses.{download_media}
+use Rattle.http_door.specs.Responses.{is_media, download_media}
 
 -- what passes the test is a type
 pub media_text : (t : List ℕ) → is_media t ≡ true → IsMediaText t

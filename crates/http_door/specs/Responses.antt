@@ -1,8 +1,8 @@
 -- The texts of responses (RFC 9112 section 4).
-use Rattle.std.specs.Prelude.{◌++◌, ℕ, List, [], length, Option, Some, None, if◌then◌else◌, codes}
-use Rattle.http_routes.specs.Accept.{is_media}
+use Rattle.std.specs.Prelude.{◌++◌, ◌&&◌, ℕ, Bool, List, [], length, nat_lt, Option, Some, None, if◌then◌else◌, codes}
+use Rattle.std.specs.List.{list_all}
 use Rattle.http_service.specs.Refusals.{status_of}
-use Rattle.http_service.specs.Responses.{response_head}
+use Rattle.http_service.specs.Responses.{response_head, is_media_octet}
 use Rattle.http_service.specs.declared.refusal.Refusal.{Refusal}
 use Rattle.http_door.specs.Asking.{octet_stream}
 
@@ -21,6 +21,10 @@ json_media = codes "application/json"
 -- (RFC 7807 section 3)
 abbrev pub problem_media : List ℕ
 problem_media = codes "application/problem+json"
+
+-- octets that may stand as a type in a head
+abbrev pub is_media : List ℕ → Bool
+is_media octets = nat_lt 0 (length octets) && list_all is_media_octet octets
 
 -- the type of what is downloaded: the one that is asked for, where it may stand in a head
 abbrev pub download_media : Option (List ℕ) → List ℕ

@@ -45,7 +45,7 @@ impl HttpResponse {
     ) -> Result<HttpResponse, AllocError>
         ensures { IfOk result (λ response. response ≡ http_response status media.now body) }
     {
-        let head = response_head(alloc, status, body.as_slice().len() as u64, media)?;
+        let head = response_head(alloc, status, body.as_slice(), media)?;
         Ok(HttpResponse {
             parts: Parts::Whole { head, body },
         })

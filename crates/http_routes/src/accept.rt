@@ -1,6 +1,5 @@
 // The type that a download asks for.
 ghost use Rattle.std.specs.Prelude.{◌≡◌, IfOk};
-ghost use Rattle.std.specs.List.{list_all};
 ghost use Rattle.http_routes.specs.Accept as spec;
 
 use crate::cutting::{after, before};
@@ -19,37 +18,19 @@ fn accept_in(query: &str) -> &str
     }
 }
 
-fn is_media_octet(octet: u8) -> bool
-    ensures { result ≡ spec.is_media_octet octet }
+fn some_octets(octets: Bytes) -> Option<Bytes>
+    ensures { result ≡ spec.some_octets octets }
 {
-    b'!' <= octet && octet <= b'~'
-}
-
-fn are_media_octets(octets: &[u8]) -> bool
-    ensures { result ≡ list_all spec.is_media_octet octets.now }
-{
-    for octet in octets {
-        if !is_media_octet(*octet) {
-            return false;
-        }
+    if octets.as_slice().is_empty() {
+        None
+    } else {
+        Some(octets)
     }
-    true
 }
 
-fn is_media(octets: &[u8]) -> bool
-    ensures { result ≡ spec.is_media octets.now }
-{
-    !octets.is_empty() && are_media_octets(octets)
-}
-
-/// The type that the query asks for, where its octets may stand in a head.
+/// The type that the query asks for. Which octets may stand in a head isn't looked at here.
 pub(crate) fn media_in(alloc: Global, query: &str) -> Result<Option<Bytes>, AllocError>
     ensures { IfOk result (λ media. media ≡ spec.media_in query.now) }
 {
-    let octets = decoded(alloc, accept_in(query))?;
-    if is_media(octets.as_slice()) {
-        Ok(Some(octets))
-    } else {
-        Ok(None)
-    }
+    Ok(some_octets(decoded(alloc, accept_in(query))?))
 }

@@ -1,11 +1,11 @@
 // What clients ask over HTTP.
 use crate::client::{given_and_taken, joined, world_of};
 use gate_world::{Bytes, Front};
-use scripted_world::{Script, ScriptWorld};
 use http::StatusCode;
 use http_door::{AskError, HttpAsking, HttpResponse, ask_over_http, download_media, problem_media};
 use http_routes::Routes;
 use http_service::Refusal;
+use scripted_world::{Script, ScriptWorld};
 use std::alloc::{AllocError, Global};
 use std::test::Fail;
 
