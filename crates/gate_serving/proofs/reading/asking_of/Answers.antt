@@ -6,4 +6,4 @@ use Rattle.gate_serving.proofs.reading.asking_of.Goals as goal
 pub returns-in-Calls : goal.returns-in-Calls
 returns-in-Calls c =
     calls_over_http c.in-Calls.body c.asking_in_body.result
-    (subst (λ (l : List ℕ). AsksInBody l c.asking_in_body.result) c.as_slice.ensures.value c.asking_in_body.ensures)
+    (subst (λ (l : List ℕ). AsksInBody l c.asking_in_body.result) c.as_slice.ensures c.asking_in_body.ensures)

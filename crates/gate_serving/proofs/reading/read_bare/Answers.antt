@@ -7,7 +7,7 @@ use Rattle.gate_serving.proofs.reading.read_bare.Goals as goal
 pub returns-in-Ok-clause-tape : goal.returns-in-Ok-clause-tape
 returns-in-Ok-clause-tape g c =
     widen _ c.in-Ok.ensures.tape (λ es gives token. read_in_body token c.in-Ok.body c.asking_in_body.result es gives
-    (subst (λ (l : List ℕ). AsksInBody l c.asking_in_body.result) c.as_slice.ensures.value c.asking_in_body.ensures))
+    (subst (λ (l : List ℕ). AsksInBody l c.asking_in_body.result) c.as_slice.ensures c.asking_in_body.ensures))
 
 pub returns-in-Err-TooLarge-clause-tape : goal.returns-in-Err-TooLarge-clause-tape
 returns-in-Err-TooLarge-clause-tape g c = widen _ (rw c.in-Err-TooLarge.field-0-is at c.in-Err-TooLarge.ensures.tape) (λ es gives token. inr (gives, c.too_large.ensures))
