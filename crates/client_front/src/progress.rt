@@ -19,8 +19,10 @@ pub(crate) enum Stage {
     Blank,
     /// In a line of the head.
     Line,
-    /// At the start of a line, or after its CR.
+    /// At the start of a line.
     LineStart,
+    /// After a CR at the start of a line.
+    Returned,
     /// After the head's empty line.
     Body,
 }
@@ -37,7 +39,7 @@ fn is_body(stage: Stage) -> bool
 {
     match stage {
         Stage::Body => true,
-        Stage::Blank | Stage::Line | Stage::LineStart => false,
+        Stage::Blank | Stage::Line | Stage::LineStart | Stage::Returned => false,
     }
 }
 
@@ -49,7 +51,8 @@ fn stage_after(stage: Stage, octet: u8) -> Stage
         (Stage::Blank, CR | LF) => Stage::Blank,
         (Stage::Line, LF) => Stage::LineStart,
         (Stage::LineStart, LF) => Stage::Body,
-        (Stage::LineStart, CR) => Stage::LineStart,
+        (Stage::LineStart, CR) => Stage::Returned,
+        (Stage::Returned, LF) => Stage::Body,
         _ => Stage::Line,
     }
 }
@@ -110,7 +113,7 @@ impl Progress {
     {
         match self.stage {
             Stage::Body => self.pace.due(),
-            Stage::Blank | Stage::Line | Stage::LineStart => {
+            Stage::Blank | Stage::Line | Stage::LineStart | Stage::Returned => {
                 self.pace.since.saturating_add(HEAD_MILLISECONDS)
             }
         }

@@ -41,7 +41,7 @@ impl<S: ClientStream> Serving<S> {
     /// Octets of the request, while it is not late.
     pub(crate) fn receive<C: Ticks>(&mut self, clock: &C, into: &mut [u8]) -> Option<usize>
         ensures bound { IfSome result (λ n. n ≤ length into.new) }
-        ensures in_time { IfSome result (λ n. ReceivesInTime S.receives (C.reads clock.now) n (take n into.new) self.old self.new) }
+        ensures in_time { IfSome result (λ n. ReceivesInTime S.receives (C.reads clock.now) (take n into.new) self.old self.new) }
     {
         let limit = left(self.progress.due(), clock.milliseconds()?)?;
         let count = self.stream.receive(into, limit)?;
@@ -53,7 +53,7 @@ impl<S: ClientStream> Serving<S> {
     /// Gives the client octets of the response, while it is not late in taking them.
     pub(crate) fn send<C: Ticks>(&mut self, clock: &C, from: &[u8]) -> Option<usize>
         ensures bound { IfSome result (λ n. (0 < n) × (n ≤ length from.now)) }
-        ensures in_time { IfSome result (λ n. SendsInTime S.sends (C.reads clock.now) n self.old self.new) }
+        ensures in_time { IfSome result (λ n. SendsInTime S.sends (C.reads clock.now) n (take n from.now) self.old self.new) }
     {
         let now = clock.milliseconds()?;
         let mut pace = pace_at(self.sent, now);

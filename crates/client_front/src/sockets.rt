@@ -1,5 +1,5 @@
 // What the front asks of a host's listener and of a client's stream.
-ghost use Rattle.std.specs.Prelude.{ℕ, ◌<◌, ◌≤◌, Option, length, IfSome};
+ghost use Rattle.std.specs.Prelude.{ℕ, List, ◌<◌, ◌≤◌, Option, length, take, option_map, IfSome};
 ghost use Rattle.client_front.specs.Handing.{IfOctet};
 
 /// What a client that may have sent something has sent first.
@@ -18,10 +18,11 @@ pub trait ClientStream: Drop {
     /// The first octet that the client may have sent. A caller knows nothing else of it.
     ghost shows: { Self → ℕ → Type 0 };
 
-    /// What a wait of at most so long for octets may come to, and one for room. A caller knows nothing else of them.
-    ghost receives: { Self → ℕ → Option ℕ → Type 0 };
+    /// The octets that a wait of at most so long may give, and those that the client may have taken after one. A caller knows
+    /// nothing else of them.
+    ghost receives: { Self → ℕ → Option (List ℕ) → Type 0 };
 
-    ghost sends: { Self → ℕ → Option ℕ → Type 0 };
+    ghost sends: { Self → ℕ → Option (List ℕ) → Type 0 };
 
     /// What the client has sent first. It does not wait.
     fn first(&self) -> First
@@ -31,13 +32,13 @@ pub trait ClientStream: Drop {
     /// client ended its input. None where none came in time or the stream failed.
     fn receive(&mut self, into: &mut [u8], limit: u64) -> Option<usize>
         ensures bound { IfSome result (λ n. n ≤ length into.new) }
-        ensures received { receives self.old limit result };
+        ensures received { receives self.old limit (option_map (λ n. take n into.new) result) };
 
     /// Gives the client some of the octets, from their front, and waits for it at most so long: how many it took, at least
     /// 1. None where it took none in time or the stream failed.
     fn send(&mut self, from: &[u8], limit: u64) -> Option<usize>
         ensures bound { IfSome result (λ n. (0 < n) × (n ≤ length from.now)) }
-        ensures taken { sends self.old limit result };
+        ensures taken { sends self.old limit (option_map (λ n. take n from.now) result) };
 
     /// Tells the client that nothing more is sent.
     fn end_writing(&mut self);

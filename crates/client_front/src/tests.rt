@@ -164,5 +164,7 @@ fn a_request_of_one_octet_a_turn_is_late(rt: HostRuntime) -> Result<(), Fail> {
     assert_eq!(rt; octets_in_time(b"\r\n\r\n\r\n\r\n"), 5);
     assert_eq!(rt; octets_in_time(b"G\n\n"), 33);
     assert_eq!(rt; octets_in_time(b"G\n\r\n"), 34);
+    // a CR after a line's first CR begins no line end
+    assert_eq!(rt; octets_in_time(b"G\n\r\r\n"), 5);
     Ok(())
 }
