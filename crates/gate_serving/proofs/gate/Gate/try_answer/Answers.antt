@@ -14,7 +14,7 @@ returns-clause-run g c =
 
 pub returns-in_err-keep-clause-run : goal.returns-in_err-keep-clause-run
 returns-in_err-keep-clause-run g c =
-    let ends = err_from_is_err_and c.from_residual.result c.from_residual.ensures.1 in
+    let ends = err_from_is_err_and c.from_residual-in_err-keep.result c.from_residual-in_err-keep.ensures.1 in
     rw (ends.1) (widen _ c.in_ok-mail.ensures.run (λ es w.
     answers_lacking c.keep.new.self c.args.self.now (g.W.Taped.hidden c.args.world.now) c.needs_mail-asks.result (asking_data c.args.asking.now) ends.0 _
     (sym c.needs_mail-asks.ensures) w c.keep.ensures.machine c.in_err-keep.ensures.refused))
@@ -23,5 +23,5 @@ pub returns-in_err-mail-clause-run : goal.returns-in_err-mail-clause-run
 returns-in_err-mail-clause-run g c =
     let ends = err_from_is_err_and c.from_residual.result c.from_residual.ensures.1 in
     rw (ends.1) (widen _ c.in_err-mail.ensures.run (λ es w.
-    answers_lacking (record c.args.self.now { machine = c.work-mail.new.machine }) c.args.self.now (g.W.Taped.hidden c.args.world.now) c.needs_mail-asks.result
+    answers_lacking (record c.args.self.now { machine = c.work.new.machine }) c.args.self.now (g.W.Taped.hidden c.args.world.now) c.needs_mail-asks.result
     (asking_data c.args.asking.now) ends.0 _ (sym c.needs_mail-asks.ensures) w refl refl))
