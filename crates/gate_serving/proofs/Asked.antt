@@ -38,6 +38,11 @@ vain_in_body body UnknownCapability result is (inr why) = problem_in_body body U
 vain_in_body body (Limit name) result is (inl out) = absurd (cc out)
 vain_in_body body (Limit name) result is (inr why) = problem_in_body body (Limit name) result is why
 
+-- no body ends early
+pub never_ended : (body : List ℕ) (result : Result Asked AskError) → AsksInBody body result → result ≡ Err unread.Ended → ⊥
+never_ended body (Ok asking) is ended = absurd (cc ended)
+never_ended body (Err e) is ended = absurd (cc (is, ended))
+
 -- at the bare door a request is all that the client gives
 pub read_in_body : (token body : List ℕ) (result : Result Asked AskError) (events : List Event) → GivesRequest (Ok body) events → AsksInBody body result
     → ReadsInto Bare token result events

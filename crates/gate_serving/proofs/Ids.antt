@@ -1,5 +1,5 @@
 -- Ids of uploads are texts.
-use Rattle.std.proofs.Common.{◌≡◌, ◌<◌, ◌∷◌, ℕ, List, arith}
+use Rattle.std.proofs.Common.{◌≡◌, ◌∷◌, ℕ, List, arith}
 use Rattle.std.specs.Str.Lossy.{utf8_lossy}
 use Rattle.std.proofs.lemmas.Str.{utf8_lossy-IsUtf8, IsUtf8-from_ascii}
 use Rattle.std.proofs.lemmas.Str.Ascii.{IsAscii-cons, IsAscii-nil}
@@ -9,15 +9,12 @@ use Rattle.hex.specs.Hex.{encode_lower, lower_digits}
 use Rattle.hex.proofs.HexLemmas.{IsAscii-encode_with}
 use Rattle.sha2.specs.Sha256.{sha256}
 
--- one more
-more : (b : ℕ) {bs : List ℕ} → b < 128 → IsAscii bs → IsAscii (b ∷ bs)
-more b {bs} small rest = IsAscii-cons b bs small rest
-
 digits_are_ascii : IsAscii lower_digits
 digits_are_ascii =
-    more 48 (omega arith) (more 49 (omega arith) (more 50 (omega arith) (more 51 (omega arith) (more 52 (omega arith) (more 53 (omega arith)
-    (more 54 (omega arith) (more 55 (omega arith) (more 56 (omega arith) (more 57 (omega arith) (more 97 (omega arith) (more 98 (omega arith)
-    (more 99 (omega arith) (more 100 (omega arith) (more 101 (omega arith) (more 102 (omega arith) IsAscii-nil)))))))))))))))
+    IsAscii-cons 48 _ (omega arith) (IsAscii-cons 49 _ (omega arith) (IsAscii-cons 50 _ (omega arith) (IsAscii-cons 51 _ (omega arith)
+    (IsAscii-cons 52 _ (omega arith) (IsAscii-cons 53 _ (omega arith) (IsAscii-cons 54 _ (omega arith) (IsAscii-cons 55 _ (omega arith)
+    (IsAscii-cons 56 _ (omega arith) (IsAscii-cons 57 _ (omega arith) (IsAscii-cons 97 _ (omega arith) (IsAscii-cons 98 _ (omega arith)
+    (IsAscii-cons 99 _ (omega arith) (IsAscii-cons 100 _ (omega arith) (IsAscii-cons 101 _ (omega arith) (IsAscii-cons 102 _ (omega arith) IsAscii-nil)))))))))))))))
 
 pub id_is_text : (octets : List ℕ) → utf8_lossy (blob_id octets) ≡ blob_id octets
 unfolding blob_id

@@ -54,6 +54,8 @@ fn read_bare<F: Front>(alloc: Global, front: &mut F) -> Result<Asking, AskError>
     ensures tape { Adds (F.tape front.old) (F.tape front.new) (λ es. (token : List ℕ) → ReadsInto Bare token result es) }
     ensures alone { FrontAlone (F.faults front.old) (F.faults front.new) }
     ensures cause { IsErrOf result AskError.Failed → Rose (F.faults front.old).front (F.faults front.new).front }
+    // The client's end is the request's.
+    ensures whole { IsErrOf result AskError.Ended → ⊥ }
     ensures hidden { F.hidden front.new ≡ F.hidden front.old }
 {
     match ask(alloc, front) {
@@ -118,6 +120,7 @@ pub fn read_asking<W: Front + Secrets>(
     ensures tape { Adds (W.tape world.old) (W.tape world.new) (ReadsInto door (W.hidden world.old).token result) }
     ensures alone { FrontAlone (W.faults world.old) (W.faults world.new) }
     ensures cause { IsErrOf result AskError.Failed → Rose (W.faults world.old).front (W.faults world.new).front }
+    ensures bare { door ≡ Bare → IsErrOf result AskError.Ended → ⊥ }
     ensures hidden { W.hidden world.new ≡ W.hidden world.old }
 {
     match door {

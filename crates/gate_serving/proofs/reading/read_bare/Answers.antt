@@ -1,7 +1,7 @@
 use Rattle.std.proofs.Common.{List, ℕ, inl, inr, subst}
 use Rattle.gate_world.proofs.Joins.{widen}
 use Rattle.gate_serving.specs.reading.Askings.{AsksInBody}
-use Rattle.gate_serving.proofs.Asked.{read_in_body}
+use Rattle.gate_serving.proofs.Asked.{never_ended, read_in_body}
 use Rattle.gate_serving.proofs.reading.read_bare.Goals as goal
 
 pub returns-in-Ok-clause-tape : goal.returns-in-Ok-clause-tape
@@ -17,3 +17,6 @@ returns-in-Err-Failed-clause-tape g c = widen _ (rw c.in-Err-Failed.field-0-is a
 
 pub returns-in-Err-Memory-clause-tape : goal.returns-in-Err-Memory-clause-tape
 returns-in-Err-Memory-clause-tape g c = widen _ (rw c.in-Err-Memory.field-0-is at c.in-Err-Memory.ensures.tape) (λ es gives token. inl gives)
+
+pub returns-in-Ok-clause-whole : goal.returns-in-Ok-clause-whole
+returns-in-Ok-clause-whole g c = never_ended _ c.asking_in_body.result c.asking_in_body.ensures
