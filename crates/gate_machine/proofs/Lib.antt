@@ -1,2 +1,3 @@
 mod Stages
 mod Owed
+mod Unequal

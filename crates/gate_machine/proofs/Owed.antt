@@ -21,12 +21,11 @@ use Rattle.imap_client.specs.LinkLife.{LinkLife, ClientState, next_number, selec
 use Rattle.imap_client.specs.Obeying.{Obeys}
 use Rattle.imap_client.specs.Plans.{Planned, Follows}
 use Rattle.gate_machine.specs.Beginning.{RunsRound, Settles, Same, Moves, Spends, Lacks, AsksThen, PreparesMail}
-use Rattle.gate_machine.specs.History.{KnownMail, IsSpent, advance, known_mail}
+use Rattle.gate_machine.specs.History.{KnownMail, IsSpent, served_anew}
 use Rattle.gate_machine.specs.Obeying.{given_by, ObeysIn, Welcomes, IsRoundObeyed, IsObeyedBeginning, IsServed}
-use Rattle.gate_machine.specs.Progress.{Progress, ended_after, idle, standing_by, lost_by, blame_link}
+use Rattle.gate_machine.specs.Progress.{Progress, standing_by, lost_by, blame_link}
 use Rattle.gate_machine.specs.declared.machine.Machine.{Machine}
 use Rattle.gate_machine.specs.declared.standing.Fall.TheVariants.{Linked}
-use Rattle.gate_machine.specs.declared.standing.Standing.{Standing}
 use Rattle.gate_machine.specs.declared.standing.Standing.TheVariants.{Stands, Fell, OutOfMemory}
 
 -- how a plan that is obeyed ends
@@ -91,11 +90,11 @@ obeyed_behind user password life preauth talk last events is said new says w =
 
 lives_end : {user password : List ℕ} {left : Option LinkLife} {client : ClientState} {result : Result (Unit {0}) LinkEnd} {events : List Event} → Law
     → Lives user password left client result events → Welcomes user password (given_by events) → EndsWell result
-lives_end {events = events} law (Unwelcome e talk gave is said greets ends none) w =
-    let gave_is : given_by events ≡ gave = ap given_by is ∙ before_end talk ∙ said.said.gave_is in
-    ended_by e ends (greeting_ends gave w.rest w.greeting w.preauth e (subst (λ (l : List ℕ). begins_with (w.greeting ∷ []) w.rest l) gave_is w.greets) w.says greets)
-lives_end {user} {password} {client = client} {result = result} {events = events} law (Welcome life after preauth exchanges talk last is said new says follows left_is) w =
-    law _ life after exchanges client result last follows (obeyed_behind user password life preauth talk last events is said.said new says w)
+lives_end {events = events} law (Unwelcome e u ends none) w =
+    let gave_is : given_by events ≡ u.gave = ap given_by u.whole ∙ before_end u.talk ∙ u.first.said.gave_is in
+    ended_by e ends (greeting_ends u.gave w.rest w.greeting w.preauth e (subst (λ (l : List ℕ). begins_with (w.greeting ∷ []) w.rest l) gave_is w.greets) w.says u.greets)
+lives_end {user} {password} {client = client} {result = result} {events = events} law (Welcome life after u left_is) w =
+    law _ life after u.exchanges client result u.last u.follows (obeyed_behind user password life u.preauth u.talk u.last events u.whole u.first.said u.new u.says w)
 
 connects_end : {user password : List ℕ} {left : Option LinkLife} {client : ClientState} {result : Result (Unit {0}) LinkEnd} {events : List Event} → Law
     → Connects user password left client result events → Welcomes user password (given_by events) → EndsWell result
@@ -114,7 +113,7 @@ settles_from (Lacks is a b) = is
 settled_ends : {before after : Progress} {events : List Event} → Settles before events after → ((k : KnownMail) → before.machine.known ≡ Some k → IsSpent k.history → ⊥)
     → IsServed after ⊎ (after.standing ≡ OutOfMemory)
 settled_ends (Same k is known a b c) room = inl (k, ap (λ (p : Progress). p.standing) c ∙ is, ap (λ (p : Progress). p.machine.known) c ∙ known)
-settled_ends (Moves k is a b c d e) room = inl (known_mail (advance k.history k.told), ap (λ (p : Progress). p.standing) e ∙ is, ap (λ (p : Progress). p.machine.known) e)
+settled_ends (Moves k is a b c d e) room = inl (served_anew k, ap (λ (p : Progress). p.standing) e ∙ is, ap (λ (p : Progress). p.machine.known) e)
 settled_ends (Spends k is known new spent a b) room = absurd (room k known spent)
 settled_ends (Lacks is a b) room = inr (ap (λ (p : Progress). p.standing) b)
 

@@ -1,21 +1,20 @@
 -- A request's way to the mail, stage by stage.
-use Rattle.std.proofs.Common.{arith, ◌≡◌, ◌≢◌, ◌⊎◌, ◌++◌, ◌≤◌, ◌+◌, ℕ, Bool, true, false, List, [], Option, Some, None, Result, Ok, Err, refl, sym, ◌∙◌, ap, subst, inl, inr}
-use Rattle.std.proofs.Common.{append_assoc}
-use Rattle.std.specs.Prelude.{IsErrOf, OnErr, IsSome}
+use Rattle.std.proofs.Common.{arith, ◌≡◌, ◌≢◌, ◌++◌, ◌≤◌, ◌+◌, ℕ, Bool, true, List, [], Option, Some, None, Result, Ok, Err, refl, sym, ◌∙◌, ap, subst, inl, inr}
+use Rattle.std.specs.Prelude.{IsErrOf, OnErr}
 use Rattle.std.proofs.lemmas.List.{append-nil}
 use Rattle.gate_world.specs.Causes.{Faults, RoseBy, Rose, LinkAlone, NoFault, no_faults}
 use Rattle.gate_world.specs.declared.event.Event.{Event}
-use Rattle.told_mail.specs.Mail.{Mail, SameMail}
+use Rattle.told_mail.specs.Told.{Told}
 use Rattle.imap_exchange.specs.Answering.{HangsUp}
 use Rattle.imap_exchange.specs.declared.link_end.LinkEnd.{LinkEnd}
 use Rattle.imap_exchange.specs.declared.link_end.LinkEnd.TheVariants as end
 use Rattle.imap_client.specs.LinkLife.{LinkLife, ClientState, Stands, fresh}
 use Rattle.imap_client.specs.Connecting.{Connects, Lives, Unready, Undialed, Lived, Unwelcome, Welcome}
-use Rattle.imap_client.specs.Rounds.{Rounds}
-use Rattle.gate_machine.specs.History.{KnownMail, Commits, IsNewMail, IsSpent, advance}
+use Rattle.imap_client.specs.Rounds.{KeepsCount, Rounds}
+use Rattle.gate_machine.specs.History.{KnownMail, Commits, IsNewMail, IsSpent, served_anew}
 use Rattle.gate_machine.specs.Machine.{hearing, committed, forgotten}
 use Rattle.gate_machine.specs.Progress.{Progress, CameTo, Bears, StandsInLife, idle, ended_after, out_of_memory, is_up, standing_by, machine_by, lost_by, blame_link}
-use Rattle.gate_machine.specs.Beginning.{Readies, Skips, Dials, RunsRound, Settles, Same, Moves, Spends, Lacks, AsksThen, PreparesMail, DialsTo, BeginsTo, Visits}
+use Rattle.gate_machine.specs.Beginning.{Readies, Dials, RunsRound, Settles, Same, Moves, Spends, Lacks, AsksThen, DialsTo, BeginsTo, Visits}
 use Rattle.gate_machine.specs.declared.machine.Machine.{Machine}
 use Rattle.gate_machine.specs.declared.standing.Fall.TheVariants.{Spent}
 use Rattle.gate_machine.specs.declared.standing.Standing.{Standing}
@@ -69,9 +68,8 @@ holds_none result e left client is none ended_after =
 
 holds_lived : {user password : List ℕ} {left : Option LinkLife} {client : ClientState} {result : Result (Unit {0}) LinkEnd} {events : List Event}
     → Lives user password left client result events → OnErr result (client ≡ fresh) → StandsInLife left client
-holds_lived {left = left} {client = client} {result = result} (Unwelcome e talk gave a b c is none) ended_after = holds_none result e left client is none ended_after
-holds_lived {client = client} (Welcome life after preauth exchanges talk last a b c d follows some) ended_after = subst (λ (l : Option LinkLife). StandsInLife l client)
-    (sym some) follows.stands
+holds_lived {left = left} {client = client} {result = result} (Unwelcome e u is none) ended_after = holds_none result e left client is none ended_after
+holds_lived {client = client} (Welcome life after u some) ended_after = subst (λ (l : Option LinkLife). StandsInLife l client) (sym some) u.follows.stands
 
 holds_connected : {user password : List ℕ} {left : Option LinkLife} {client : ClientState} {result : Result (Unit {0}) LinkEnd} {events : List Event}
     → Connects user password left client result events → OnErr result (client ≡ fresh) → StandsInLife left client
@@ -104,9 +102,10 @@ in_life None client dead alive = absurd (cc (dead, alive))
 in_life (Some life) client stands alive = (life, refl, stands)
 
 pub asked : {client next : ClientState} {result : Result (Unit {0}) LinkEnd} {events : List Event} (before : Progress) (machine after : Machine) (how : Standing)
-    (was then now : Faults) (k : KnownMail) (told : Mail)
+    (was then now : Faults) (k : KnownMail) (told : Told)
     → CameTo machine client standing.Stands was then before → machine.known ≡ Some k → client.alive ≡ true
-    → ((life : LinkLife) → Stands client life → (left : LinkLife) × Rounds k.told told life left next result events)
+    → ((life : LinkLife) → Stands client life → (left : LinkLife) × (rounds : Rounds k.told.mail told.mail life left next result events)
+    × KeepsCount k.told told result rounds.exchanges)
     → LinkAlone then now → (IsErrOf result end.Lost → Rose then.link now.link)
     → how ≡ standing_by result → after ≡ machine_by result (hearing machine k told)
     → (p : Progress) × RunsRound before events p × CameTo after next how was now p
@@ -126,6 +125,7 @@ asked {client} {next} {result} before machine after how was then now k told came
         in_life = here.1;
         goes_on = sym here.2.alive ∙ alive;
         rounds = went.1;
+        counted = went.2;
         after_is = refl;
       },
       record {
@@ -148,7 +148,7 @@ settled before client was now machine after k next came known (inl same) after_i
       record { machine_is = came.machine_is ∙ sym is; standing_is = came.standing_is; holds = came.holds; bears = came.bears },
     )
 settled before client was now machine after k next came known (inr moved) after_is = (
-  record before { machine = committed before.machine (advance k.history k.told) },
+  record before { machine = committed before.machine (served_anew k) },
   Moves k came.standing_is (ap (λ (m : Machine). m.known) came.machine_is ∙ known) moved.0 moved.1 refl refl,
   record {
     machine_is = (λ i. record (came.machine_is i) { known = Some (sym moved.2 i) }) ∙ sym after_is;

@@ -4,13 +4,14 @@ use Rattle.std.specs.Prelude.{◌≡◌, ◌≢◌, ◌⊎◌, ◌++◌, ℕ, tr
 use Rattle.gate_world.specs.Causes.{Faults}
 use Rattle.gate_world.specs.declared.event.Event.{Event}
 use Rattle.gate_world.specs.declared.event.Event.TheVariants.{Word}
-use Rattle.told_mail.specs.Mail.{Mail, SameMail}
+use Rattle.told_mail.specs.Mail.{SameMail}
+use Rattle.told_mail.specs.Told.{Told}
 use Rattle.imap_exchange.specs.Answering.{HangsUp}
 use Rattle.imap_exchange.specs.declared.link_end.LinkEnd.{LinkEnd}
 use Rattle.imap_client.specs.Connecting.{Connects}
 use Rattle.imap_client.specs.LinkLife.{LinkLife, ClientState}
-use Rattle.imap_client.specs.Rounds.{Rounds}
-use Rattle.gate_machine.specs.History.{KnownMail, IsNewMail, advance, IsSpent}
+use Rattle.imap_client.specs.Rounds.{KeepsCount, Rounds}
+use Rattle.gate_machine.specs.History.{KnownMail, IsNewMail, IsSpent, served_anew}
 use Rattle.gate_machine.specs.Machine.{hearing, restarted, committed, forgotten}
 use Rattle.gate_machine.specs.Progress.{Progress, CameTo, Bears, idle, ended_after, out_of_memory, is_up}
 use Rattle.gate_machine.specs.declared.machine.Machine.{Machine}
@@ -18,7 +19,7 @@ use Rattle.gate_machine.specs.declared.standing.Fall.TheVariants.{Spent}
 use Rattle.gate_machine.specs.declared.standing.Standing.{Standing}
 use Rattle.gate_machine.specs.declared.standing.Standing.TheVariants.{Stands, Fell}
 
--- A machine that isn't ready draws another epoch, and begins with no mail.
+-- A machine that isn't ready draws an epoch, and begins with no mail.
 pub data Readies (before : Machine) (events : List Event) (after : Machine) : Type 0 where
   Ready : (k : KnownMail) → before.known ≡ Some k → events ≡ [] → after ≡ before → Readies before events after
   Restart : (epoch : ℕ) → before.known ≡ None → events ≡ Word epoch ∷ [] → after ≡ restarted before epoch → Readies before events after
@@ -36,10 +37,11 @@ pub record Dials (user password : List ℕ) (before : Progress) (events : List E
   pub connects : Connects user password left client result events
   pub after_is : after ≡ ended_after result (record before { left = left })
 
--- The round asks for all mail in that life. The machine is told each exchange that is completed.
+-- The round asks for all mail in that life. The machine is told each exchange that is completed, and counts no change where each
+-- told what was known already.
 pub record RunsRound (before : Progress) (events : List Event) (after : Progress) : Type 0 where
   pub known : KnownMail
-  pub told : Mail
+  pub told : Told
   pub life : LinkLife
   pub left : LinkLife
   pub client : ClientState
@@ -48,16 +50,17 @@ pub record RunsRound (before : Progress) (events : List Event) (after : Progress
   pub ready : before.machine.known ≡ Some known
   pub in_life : before.left ≡ Some life
   pub goes_on : life.goes_on ≡ true
-  pub rounds : Rounds known.told told life left client result events
+  pub rounds : Rounds known.told.mail told.mail life left client result events
+  pub counted : KeepsCount known.told told result rounds.exchanges
   pub after_is : after ≡ ended_after result (record before { machine = hearing before.machine known told; left = Some left })
 
 -- The told mail is served, at a further place where it is new. Where no place is left, or there is no memory for it, the
 -- machine isn't ready.
 pub data Settles (before : Progress) (events : List Event) (after : Progress) : Type 0 where
-  Same : (k : KnownMail) → before.standing ≡ Stands → before.machine.known ≡ Some k → SameMail k.history.mail k.told → events ≡ [] → after ≡ before
+  Same : (k : KnownMail) → before.standing ≡ Stands → before.machine.known ≡ Some k → SameMail k.history.mail k.told.mail → events ≡ [] → after ≡ before
       → Settles before events after
   Moves : (k : KnownMail) → before.standing ≡ Stands → before.machine.known ≡ Some k → IsNewMail k → (IsSpent k.history → ⊥) → events ≡ []
-      → after ≡ record before { machine = committed before.machine (advance k.history k.told) } → Settles before events after
+      → after ≡ record before { machine = committed before.machine (served_anew k) } → Settles before events after
   Spends : (k : KnownMail) → before.standing ≡ Stands → before.machine.known ≡ Some k → IsNewMail k → IsSpent k.history → events ≡ []
       → after ≡ record before { machine = forgotten before.machine; standing = Fell Spent } → Settles before events after
   Lacks : before.standing ≡ Stands → events ≡ [] → after ≡ out_of_memory before → Settles before events after

@@ -1,6 +1,7 @@
 -- How often the mail changed in an epoch, the mail that it came to, and what was told since.
-use Rattle.std.specs.Prelude.{◌≡◌, ◌⊎◌, ◌<◌, ◌+◌, ◌-◌, ◌^◌, ℕ, List, []}
+use Rattle.std.specs.Prelude.{◌≡◌, ◌⊎◌, ◌<◌, ◌+◌, ◌-◌, ◌^◌, ℕ, []}
 use Rattle.told_mail.specs.Mail.{Mail, SameMail}
+use Rattle.told_mail.specs.Told.{Told}
 
 abbrev pub no_mail : Mail
 no_mail = record { folders = []; next_mark = 1; next_folder = 1 }
@@ -30,21 +31,25 @@ IsSpent h = last_place < h.place + 1
 
 -- ---- what is known
 
--- the history that is served, and the mail told since
+-- the history that is served, and the mail told since, with the count of its changes
 pub record KnownMail : Type 0 where
   pub history : History
-  pub told : Mail
+  pub told : Told
 
--- nothing was told since
+-- nothing was told yet
 abbrev pub known_mail : History → KnownMail
-known_mail h = record { history = h; told = h.mail }
+known_mail h = record { history = h; told = record { mail = h.mail; changes = 0 } }
 
 -- the told mail is other than the mail that is served
 abbrev pub IsNewMail : KnownMail → Type 0
-IsNewMail k = SameMail k.history.mail k.told → ⊥
+IsNewMail k = SameMail k.history.mail k.told.mail → ⊥
+
+-- the told mail is served, at a further place
+abbrev pub served_anew : KnownMail → KnownMail
+served_anew k = record k { history = advance k.history k.told.mail }
 
 -- The told mail is served from then on, at a further place where it is new.
 abbrev pub Commits : KnownMail → KnownMail → Type 0
 Commits before after =
-    (SameMail before.history.mail before.told × (after ≡ before))
-    ⊎ (IsNewMail before × (IsSpent before.history → ⊥) × (after ≡ known_mail (advance before.history before.told)))
+    (SameMail before.history.mail before.told.mail × (after ≡ before))
+    ⊎ (IsNewMail before × (IsSpent before.history → ⊥) × (after ≡ served_anew before))

@@ -35,7 +35,7 @@ ObeysIn plan life events = Obeys plan [] (next_number life) (selected life) (lif
 
 -- the store obeyed what the round asks
 abbrev pub IsRoundObeyed : {before : Progress} {events : List Event} {after : Progress} → RunsRound before events after → Type 0
-IsRoundObeyed {events = events} asks = ObeysIn (round_plan asks.known.told) asks.life events
+IsRoundObeyed {events = events} asks = ObeysIn (round_plan asks.known.told.mail) asks.life events
 
 -- The store obeyed, and a place was left for what it told.
 pub record IsObeyedBeginning {user password : List ℕ} {before : Machine} {events : List Event} {after : Progress}

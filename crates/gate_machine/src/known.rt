@@ -3,10 +3,11 @@ ghost use Rattle.std.specs.Prelude.{◌≡◌, ◌↔◌, IsTrue, IsErrOf, OnOk,
 ghost use Rattle.gate_world.specs.Causes.{Rose, LinkAlone};
 ghost use Rattle.gate_world.specs.Tape.{Adds};
 ghost use Rattle.imap_client.specs.LinkLife.{LinkLife, Stands, fresh};
-ghost use Rattle.imap_client.specs.Rounds.{Rounds};
+ghost use Rattle.imap_client.specs.Rounds.{KeepsCount, Rounds};
 ghost use Rattle.gate_machine.specs.History.{begun_epoch, known_mail, Commits, IsNewMail, IsSpent};
 ghost use Rattle.told_mail.specs.Mail.{SameMail};
 
+use crate::differences::folders_differ;
 use crate::standing::CommitEnd;
 use gate_world::Link;
 use imap_client::{Client, LinkEnd};
@@ -35,7 +36,7 @@ impl Model for Known {
 
     ghost Value = { KnownMail };
 
-    ghost view = { λ k. record { history = record { epoch = k.epoch; place = k.place; mail = k.served.mail }; told = k.told.mail } };
+    ghost view = { λ k. record { history = record { epoch = k.epoch; place = k.place; mail = k.served.mail }; told = k.told } };
 
     ghost invariant = { λ k. (k.place ≤ last_place) × (k.same_at ≤ k.told.changes)
         × (k.told.changes ≡ k.same_at → k.told.changes < 2 ^ 64 - 1 → SameMail k.served.mail k.told.mail) };
@@ -76,15 +77,17 @@ impl Known {
         &self.served
     }
 
-    /// Whether the told mail is the same as the served. Where no exchange changed it since they were, nothing is compared.
+    /// Whether the told mail is the same as the served. Where no exchange changed it since they were, nothing is compared;
+    /// headers are only where all else is the same.
     fn is_same(&self) -> bool
-        ensures { IsTrue result ↔ SameMail self.now.history.mail self.now.told }
+        ensures { IsTrue result ↔ SameMail self.now.history.mail self.now.told.mail }
     {
         let changes = self.told.changes();
         if changes == self.same_at && changes < u64::MAX {
             return true;
         }
-        self.served.same_mail(&self.told)
+        !folders_differ(self.served.folders(), self.told.folders())
+            && self.served.same_mail(&self.told)
     }
 
     /// The told mail is served from now on, at a further place where it is new. An Err changes nothing.
@@ -114,8 +117,8 @@ impl Known {
     /// Asks for all mail, and is told what completed exchanges tell. Out of memory leaves the told mail undetermined.
     pub fn ask<L: Link>(&mut self, client: &mut Client, link: &mut L) -> Result<(), LinkEnd>
         requires { client.old.alive ≡ true }
-        ensures tape { Adds (L.tape link.old) (L.tape link.new) (λ es. (life : LinkLife) → Stands client.old life
-            → (left : LinkLife) × Rounds self.old.told self.new.told life left client.new result es) }
+        ensures tape { Adds (L.tape link.old) (L.tape link.new) (λ es. (life : LinkLife) → Stands client.old life → (left : LinkLife)
+            × (rounds : Rounds self.old.told.mail self.new.told.mail life left client.new result es) × KeepsCount self.old.told self.new.told result rounds.exchanges) }
         ensures history { self.new.history ≡ self.old.history }
         ensures alive { OnOk result (client.new.alive ≡ true) }
         ensures ended { OnErr result (client.new ≡ fresh) }

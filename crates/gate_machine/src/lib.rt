@@ -2,6 +2,7 @@
 #![tactic(auto)]
 
 mod beginning;
+mod differences;
 mod known;
 mod laws;
 mod machine;

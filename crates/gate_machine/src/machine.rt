@@ -60,7 +60,7 @@ impl Machine {
         }
     }
 
-    /// Where it isn't ready it draws another epoch, and begins with no mail.
+    /// Where it isn't ready it draws an epoch, and begins with no mail.
     pub fn make_ready<C: Chance>(&mut self, alloc: Global, chance: &mut C)
         ensures tape { Adds (C.tape chance.old) (C.tape chance.new) (λ es. Readies self.old es self.new) }
         ensures ready { IsSome self.new.known }

@@ -1,5 +1,5 @@
-// Runs of octets that one symbol takes: those of a word, of a number, of an atom.
-ghost use Rattle.std.specs.Prelude.{◌≡◌, ◌+◌, ◌≤◌, ◌&&◌, IsTrue, length, take};
+// Runs of octets that one symbol takes: those of a word, of a number, of an atom, of a line's text.
+ghost use Rattle.std.specs.Prelude.{◌≡◌, ◌==◌, ◌+◌, ◌≤◌, ◌&&◌, IsTrue, nat_lt, get_or, length, take};
 ghost use Rattle.imap_keywords.specs.Keys as keywords;
 ghost use Rattle.imap_syntax.specs.Octets as classes;
 ghost use Rattle.imap_automaton.specs.Fits.{SymFits, ItemFits, LineFits};
@@ -9,14 +9,14 @@ ghost use Rattle.pushdown.specs.Run.{LeadsTo};
 use crate::item_rule::{long_rule, number_rule};
 use crate::line_rule::sequence_rule;
 use crate::sym::{Item, Line, Names, Sym};
-use imap_keywords::{Key, Place, goes_on_itself, in_word, is_atom, lower};
+use imap_keywords::{Key, Place, is_atom, is_text, key_text, lower};
 use pushdown::Move;
 
-/// Whether a word that is the key's first octets up to `at` goes on with the key.
-fn takes(place: Place, key: Key, at: usize, c: u16) -> bool
-    ensures { result ≡ (keywords.in_word place c && keywords.goes_on key at (classes.lower c) key) }
+/// Whether the text goes on with the octet, in letters of either case.
+fn goes_with(text: &[u8], at: usize, c: u16) -> bool
+    ensures { result ≡ (nat_lt at (length text.now) && get_or text.now at 0 == classes.lower c) }
 {
-    in_word(place, c) && goes_on_itself(key, at, lower(c))
+    at < text.len() && text[at] as u16 == lower(c)
 }
 
 /// How many octets at the front go on with the key.
@@ -27,8 +27,9 @@ fn word_run(place: Place, key: Key, at: u8, octets: &[u8]) -> usize
     ensures key { at + result ≤ length (keywords.key_text key) }
     ensures run { LeadsTo responses (Sym.Word place key at) (take result octets.now) (Sym.Word place key (at + result)) }
 {
+    let text = key_text(key);
     let mut count: usize = 0;
-    while count < octets.len() && takes(place, key, at as usize + count, octets[count] as u16) {
+    while count < octets.len() && goes_with(text, at as usize + count, octets[count] as u16) {
         count += 1;
     }
     count
@@ -102,6 +103,19 @@ fn atom_run(octets: &[u8]) -> usize
     octets.len()
 }
 
+/// How many octets at the front go on with a line's text.
+fn text_run(octets: &[u8]) -> usize
+    ensures within { result ≤ length octets.now }
+    ensures run { LeadsTo responses (Sym.Line Line.Text) (take result octets.now) (Sym.Line Line.Text) }
+{
+    for (i, c) in octets.iter().enumerate() {
+        if !is_text(*c as u16) {
+            return i;
+        }
+    }
+    octets.len()
+}
+
 /// A run of octets at the front that the symbol takes: what the symbol is then, and how many they are.
 #[tactic(auto, using(imap_keywords::proofs::KeyLemmas::keys_short))]
 pub fn run_of(symbol: Sym, octets: &[u8]) -> (Sym, usize)
@@ -126,6 +140,7 @@ pub fn run_of(symbol: Sym, octets: &[u8]) -> (Sym, usize)
             let (line, count) = sequence_run(value, digits, octets);
             (Sym::Line(line), count)
         }
+        Sym::Line(Line::Text) => (symbol, text_run(octets)),
         Sym::Names(Names::AtomRest) => (symbol, atom_run(octets)),
         _ => (symbol, 0),
     }

@@ -1,5 +1,5 @@
 -- A round that is done is a whole round.
-use Rattle.std.proofs.Common.{◌≡◌, ◌⊎◌, ◌++◌, ◌+◌, ◌==◌, ℕ, Bool, true, false, not, List, [], ◌∷◌, length, drop, slice_get, fold, if◌then◌else◌, Option, Some, None, Ok, Err}
+use Rattle.std.proofs.Common.{◌≡◌, ◌⊎◌, ◌++◌, ◌+◌, ◌==◌, ℕ, Bool, true, false, not, List, [], ◌∷◌, length, drop, slice_get, fold, if◌then◌else◌, Option, Some, None, Ok}
 use Rattle.std.proofs.Common.{refl, sym, ◌∙◌, ap, subst, append_assoc, length-append, arith, inl, inr}
 use Rattle.std.specs.List.{flat_map}
 use Rattle.std.proofs.lemmas.List.{append-nil}
@@ -27,12 +27,11 @@ use Rattle.imap_client.specs.declared.round.RoundStage.TheVariants as stage
 use Rattle.imap_client.specs.Connecting.{is_ok}
 use Rattle.imap_client.specs.LinkLife.{LinkLife, ClientState, next_number}
 use Rattle.imap_client.specs.Plans.{Planned, Ran, Begun, Then, IsEnd, Finished, Failed, Broken, Gone, Wanting}
-use Rattle.imap_client.specs.Rounds.{Rounds, RoundState, round_due, round_step, round_from, of_folder, select_of, headers_of, known_folder, has_modseqs, is_sliced, slice_of}
+use Rattle.imap_client.specs.Rounds.{Rounds, RoundState, round_due, round_step, round_from, of_folder, select_of, headers_of, is_sliced, slice_of}
 use Rattle.imap_client.specs.Rounds.{new_of, uid_next_told, tells_validity, selectable_from, selecting, next_stage, fetching, fetched_stage, selected_stage, is_sliced_in}
 use Rattle.imap_client.specs.Rounds.{is_slicing, obeyed, round_after}
 use Rattle.imap_client.specs.WholeRounds.{IsObeyed, FetchesHeaders, Slice, Rest, FetchesFolder, WithModseqs, WithoutModseqs, AsksFolder, Asked, VisitsFrom, NoMore, Visits}
 use Rattle.imap_client.specs.WholeRounds.{IsWholeRound, texts_from, IsFinishedRound}
-use Rattle.imap_client.proofs.Connections.{not_ok}
 
 -- ---- what was asked
 

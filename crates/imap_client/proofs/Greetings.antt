@@ -114,8 +114,12 @@ ended_by false xs ys talk is none = ap (λ (l : List Event). xs ++ l) none ∙ a
 pub unwelcome : {xs : List Event} (ys : List Event) (user password : List ℕ) (after : Octets) (up : Bool) (e : LinkEnd) (client : ClientState) → Greets after up (Err e) xs
     → HangsUp up ys
     → (left : Option LinkLife) × Lives user password left client (Err e) (xs ++ ys)
-unwelcome {xs} ys user password after up e client g hangs =
-    (None, Unwelcome e g.talk g.gave (ended_by up xs ys g.talk g.ended hangs) g.first (unwelcome_alone g.gave after e g.greets) refl refl)
+unwelcome {xs} ys user password after up e client g hangs = (
+  None,
+  Unwelcome e
+      (record { talk = g.talk; gave = g.gave; whole = ended_by up xs ys g.talk g.ended hangs; first = g.first; greets = unwelcome_alone g.gave after e g.greets })
+      refl refl,
+)
 
 pub lived : {xs : List Event} (ys : List Event) (user password : List ℕ) (after : Octets) (up preauth : Bool) (at : Stage) (before client : ClientState)
     (result : Result (Unit {0}) LinkEnd) → before ≡ begun_with after → up ≡ true → at ≡ stage.Asking → Greets after up (Ok preauth) xs
@@ -125,9 +129,19 @@ pub lived : {xs : List Event} (ys : List Event) (user password : List ℕ) (afte
 lived {xs} ys user password after up preauth at before client result before_is up_is at_is g follows =
     let so = follows life (subst (λ (p : ClientState). Stands p life) (sym before_is) stands) in (
       Some so.0,
-      Welcome life so.0 preauth so.1 g.talk ys (ap (λ (l : List Event). l ++ ys) events_are) g.first
-          (record { greeted = g.greets.2; unasked = refl; untaken = refl; whole = refl; alive = refl }) g.greets.1
-          (subst (λ (s : Stage). Follows (planned_from preauth user password s) life so.0 so.1 client result ys) at_is so.2) refl,
+      Welcome life so.0
+          (record {
+            preauth = preauth;
+            exchanges = so.1;
+            talk = g.talk;
+            last = ys;
+            whole = ap (λ (l : List Event). l ++ ys) events_are;
+            first = g.first;
+            new = record { greeted = g.greets.2; unasked = refl; untaken = refl; whole = refl; alive = refl };
+            says = g.greets.1;
+            follows = subst (λ (s : Stage). Follows (planned_from preauth user password s) life so.0 so.1 client result ys) at_is so.2;
+          })
+          refl,
     )
   where
     life : LinkLife

@@ -1,3 +1,4 @@
+mod Lasts
 mod Lives
 mod PlanSteps
 mod Connections

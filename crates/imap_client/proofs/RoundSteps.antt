@@ -1,11 +1,11 @@
 -- Rounds and the fetch of a body, exchange by exchange.
-use Rattle.std.proofs.Common.{◌≡◌, ◌<◌, ◌++◌, ◌^◌, ◌-◌, ℕ, false, List, [], ◌∷◌, Option, Some, None, Result, Ok, Err, fold, refl, sym, ◌∙◌, ap, subst, arith}
+use Rattle.std.proofs.Common.{◌≡◌, ◌≢◌, ◌<◌, ◌++◌, ◌^◌, ◌-◌, ℕ, false, List, [], ◌∷◌, Option, Some, None, Result, Ok, Err, fold, refl, sym, ◌∙◌, ap, subst, arith}
 use Rattle.std.proofs.lemmas.List.Sums.{fold-append}
 use Rattle.told_folder.specs.declared.exchange.Exchange.{Exchange}
 use Rattle.told_mail.specs.Mail.{Mail, folder_in}
 use Rattle.told_folder.specs.declared.message.Folder.{Folder}
 use Rattle.told_mail.specs.Told.{Told, Counts}
-use Rattle.told_mail.specs.Exchanges.{tell}
+use Rattle.told_mail.specs.Exchanges.{tell, TellsKnown}
 use Rattle.gate_world.specs.declared.event.Event.{Event}
 use Rattle.imap_exchange.specs.declared.link_end.LinkEnd.{LinkEnd}
 use Rattle.imap_exchange.specs.declared.link_end.LinkEnd.TheVariants as end
@@ -20,26 +20,17 @@ use Rattle.imap_client.specs.declared.plan.Refusal.TheVariants as refusal
 use Rattle.imap_client.specs.Connecting.{is_ok}
 use Rattle.imap_client.specs.Plans.{StopsAtRefusal, HearsAll, HeardNone, HeardMore, Follows, FollowsTo}
 use Rattle.imap_client.specs.LinkLife.{LinkLife, ClientState, selected}
-use Rattle.imap_client.specs.Rounds.{CountsOn, Rounds, RoundState, round_due, round_step, round_from}
+use Rattle.imap_client.specs.Rounds.{AllTellKnown, CountsOn, KeepsCount, Rounds, RoundState, round_due, round_step, round_from}
 use Rattle.imap_client.specs.Bodies.{BodyState, body_step, body_from, body_due, body_begun, body_start, select_due, HasBody, FetchesBody}
 use Rattle.imap_client.proofs.Connections.{not_ok}
 
 -- a plan's state goes by its steps
-pub folded : {S V : Type 0} (view : S → V) (step : V → Exchange → V) {before after : S} {xs : List Exchange} → HearsAll (λ s x d. view d ≡ step (view s) x) before xs after
+folded : {S V : Type 0} {hears : S → Exchange → S → Type 0} (view : S → V) (step : V → Exchange → V)
+    → ((s d : S) (x : Exchange) → hears s x d → view d ≡ step (view s) x) → {before after : S} {xs : List Exchange} → HearsAll hears before xs after
     → view after ≡ fold step (view before) xs
-folded view step HeardNone = refl
-folded view step {before} (HeardMore {xs} {mid} {after} x so is) =
-    is ∙ ap (λ (v : _). step v x) (folded view step so) ∙ sym (fold-append step (view before) xs (x ∷ []))
-
--- ---- the mail that is told
-
-pub round_mail : (s : RoundState) (xs : List Exchange) → (fold round_step s xs).mail ≡ fold tell s.mail xs
-round_mail s [] = refl
-round_mail s (x ∷ xs) = round_mail (round_step s x) xs
-
-pub body_mail : (folder uid : ℕ) (s : BodyState) (xs : List Exchange) → (fold (body_step folder uid) s xs).mail ≡ fold tell s.mail xs
-body_mail folder uid s [] = refl
-body_mail folder uid s (x ∷ xs) = body_mail folder uid (body_step folder uid s x) xs
+folded view step steps HeardNone = refl
+folded view step steps {before} (HeardMore {xs} {mid} {after} x so heard) =
+    steps mid after x heard ∙ ap (λ (v : _). step v x) (folded view step steps so) ∙ sym (fold-append step (view before) xs (x ∷ []))
 
 -- ---- a refusal fails them
 
@@ -88,35 +79,72 @@ counts_more a b c first next =
           next.stands c_is below ∙ first.stands b_is b_below;
     }
 
+-- of exchanges that all tell what is known, each does
+known_parts : (m : Mail) (xs : List Exchange) (x : Exchange) → AllTellKnown m (xs ++ x ∷ []) → AllTellKnown m xs × TellsKnown (fold tell m xs) x
+known_parts m [] x all = (tt, all.0)
+known_parts m (y ∷ xs) x all = let rest = known_parts (tell m y) xs x all.1 in ((all.0, rest.0), rest.1)
+
+-- what a plan holds was told each exchange that it heard, and its count stands where the exchange tells what is known
+record TellsEach {S : Type 0} (hears : S → Exchange → S → Type 0) (told : S → Told) : Type 0 where
+  tells : (s d : S) (x : Exchange) → hears s x d → (told d).mail ≡ tell (told s).mail x
+  stands : (s d : S) (x : Exchange) → hears s x d → TellsKnown (told s).mail x → (told d).changes ≡ (told s).changes
+
+count_stands : {S : Type 0} {hears : S → Exchange → S → Type 0} {told : S → Told} → TellsEach hears told → {before after : S} {xs : List Exchange}
+    → HearsAll hears before xs after → AllTellKnown (told before).mail xs → (told after).changes ≡ (told before).changes
+count_stands each HeardNone all = refl
+count_stands {told = told} each {before} (HeardMore {xs} {mid} {after} x so heard) all =
+    let parts = known_parts (told before).mail xs x all in
+    let mail_is : (told mid).mail ≡ fold tell (told before).mail xs = folded (λ s. (told s).mail) tell each.tells so in
+    each.stands mid after x heard (subst (λ (m : Mail). TellsKnown m x) (sym mail_is) parts.1) ∙ count_stands each so parts.0
+
+keeps_count : {S A : Type 0} {hears : S → Exchange → S → Type 0} {told : S → Told} {first last : S} {xs : List Exchange} (before after : Told) (result : Result A LinkEnd)
+    → TellsEach hears told → told first ≡ before → told last ≡ after → (result ≢ Err end.Memory → HearsAll hears first xs last) → KeepsCount before after result xs
+keeps_count {told = told} {xs = xs} before after result each before_is after_is heard other all =
+    ap (λ (t : Told). t.changes) (sym after_is)
+    ∙ count_stands each (heard other) (subst (λ (t : Told). AllTellKnown t.mail xs) (sym before_is) all) ∙ ap (λ (t : Told). t.changes) before_is
+
 -- ---- what was followed
 
 abbrev pub round_view : Round → RoundState
 round_view r = record { stage = r.stage; mail = r.mirror.mail }
 
+abbrev pub RoundHears : Round → Exchange → Round → Type 0
+RoundHears r x s = (round_view s ≡ round_step (round_view r) x) × (TellsKnown r.mirror.mail x → s.mirror.changes ≡ r.mirror.changes)
+
+round_tells : TellsEach RoundHears (λ r. r.mirror)
+round_tells = record { tells = λ s d x heard. ap (λ (v : RoundState). v.mail) heard.0; stands = λ s d x heard known. heard.1 known }
+
 -- a round that was followed
-pub rounded : {life left : LinkLife} {client : ClientState} {result : Result (Unit {0}) LinkEnd} {es : List Event} (before after : Mail) (first last : Round)
-    → first.stage ≡ stage.Listing → first.mirror.mail ≡ before → last.mirror.mail ≡ after
-    → FollowsTo (λ (r : Round). round_from (round_view r))
-    (λ (r : Round) (x : Exchange) (s : Round). round_view s ≡ round_step (round_view r) x) first last life left client result es → Rounds before after life left client result es
-rounded {life} {left} {client} {result} {es} before after first last stage_is mail_is after_is f =
-    let begins : round_view first ≡ record { stage = stage.Listing; mail = before } = (λ i. record { stage = stage_is i; mail = mail_is i }) in
-    record {
-      exchanges = f.exchanges;
-      follows = subst (λ (s : RoundState). Follows (round_from s) life left f.exchanges client result es) begins f.follows;
-      told = λ other. sym after_is ∙ ap (λ (s : RoundState). s.mail) (folded round_view round_step (f.heard other)) ∙ round_mail (round_view first) f.exchanges ∙ ap
-          (λ (m : Mail). fold tell m f.exchanges) mail_is;
-    }
+pub rounded : {life left : LinkLife} {client : ClientState} {result : Result (Unit {0}) LinkEnd} {es : List Event} (before after : Told) (first last : Round)
+    → first.stage ≡ stage.Listing → first.mirror ≡ before → last.mirror ≡ after
+    → FollowsTo (λ (r : Round). round_from (round_view r)) RoundHears first last life left client result es
+    → (rounds : Rounds before.mail after.mail life left client result es) × KeepsCount before after result rounds.exchanges
+rounded {life} {left} {client} {result} {es} before after first last stage_is before_is after_is f =
+    let begins : round_view first ≡ record { stage = stage.Listing; mail = before.mail } = (λ i. record { stage = stage_is i; mail = (before_is i).mail }) in
+    let told_is : (heard : HearsAll RoundHears first f.exchanges last) → last.mirror.mail ≡ fold tell first.mirror.mail f.exchanges = λ heard.
+    folded (λ (r : Round). r.mirror.mail) tell round_tells.tells heard in (
+      record {
+        exchanges = f.exchanges;
+        follows = subst (λ (s : RoundState). Follows (round_from s) life left f.exchanges client result es) begins f.follows;
+        told = λ other. ap (λ (t : Told). t.mail) (sym after_is) ∙ told_is (f.heard other) ∙ ap (λ (t : Told). fold tell t.mail f.exchanges) before_is;
+      },
+      keeps_count before after result round_tells before_is after_is f.heard,
+    )
 
 abbrev pub body_view : BodyFetch → BodyState
 body_view f = record { stage = f.stage; mail = f.mirror.mail }
 
 abbrev pub BodyHears : BodyFetch → Exchange → BodyFetch → Type 0
 BodyHears f x g = (g.folder ≡ f.folder) × (g.uid ≡ f.uid) × (body_view g ≡ body_step f.folder f.uid (body_view f) x)
+    × (TellsKnown f.mirror.mail x → g.mirror.changes ≡ f.mirror.changes)
+
+body_tells : TellsEach BodyHears (λ f. f.mirror)
+body_tells = record { tells = λ s d x heard. ap (λ (v : BodyState). v.mail) heard.2; stands = λ s d x heard known. heard.3 known }
 
 body_folded : {first last : BodyFetch} {xs : List Exchange} → HearsAll BodyHears first xs last → (last.folder ≡ first.folder) × (last.uid ≡ first.uid)
     × (body_view last ≡ fold (body_step first.folder first.uid) (body_view first) xs)
 body_folded HeardNone = (refl, refl, refl)
-body_folded {first} (HeardMore {xs} {mid} {after} x so (folder_is, uid_is, is)) =
+body_folded {first} (HeardMore {xs} {mid} {after} x so (folder_is, uid_is, is, stands)) =
     let before = body_folded so in
     let here : body_view after ≡ body_step first.folder first.uid (body_view mid) x = is ∙ (λ i. body_step (before.0 i) (before.1 i) (body_view mid) x) in (
       folder_is ∙ before.0,
@@ -145,10 +173,10 @@ body_starts : (selected : Option (List ℕ)) (folder uid : ℕ) (before : Mail) 
     → first.mirror.mail ≡ before → body_view first ≡ body_start selected before folder
 body_starts selected folder uid before first stage_is mail_is = (λ i. record { stage = stage_is i; mail = mail_is i })
 
-body_told : (folder uid : ℕ) (before after : Mail) (first last : BodyFetch) {xs : List Exchange} → first.folder ≡ folder → first.uid ≡ uid → first.mirror.mail ≡ before
-    → last.mirror.mail ≡ after → HearsAll BodyHears first xs last → after ≡ fold tell before xs
-body_told folder uid before after first last {xs} folder_is uid_is mail_is after_is heard =
-    sym after_is ∙ ap (λ (s : BodyState). s.mail) (body_folded heard).2 ∙ body_mail first.folder first.uid (body_view first) xs ∙ ap (λ (m : Mail). fold tell m xs) mail_is
+body_told : (before after : Told) (first last : BodyFetch) {xs : List Exchange} → first.mirror ≡ before → last.mirror ≡ after → HearsAll BodyHears first xs last
+    → after.mail ≡ fold tell before.mail xs
+body_told before after first last {xs} before_is after_is heard =
+    ap (λ (t : Told). t.mail) (sym after_is) ∙ folded (λ (f : BodyFetch). f.mirror.mail) tell body_tells.tells heard ∙ ap (λ (t : Told). fold tell t.mail xs) before_is
 
 follows_body : {life left : LinkLife} {client : ClientState} {result : Result (Unit {0}) LinkEnd} {es : List Event} {xs : List Exchange} (folder uid : ℕ) (before : Mail)
     (first : BodyFetch) → first.folder ≡ folder → first.uid ≡ uid → body_view first ≡ body_start (selected life) before folder
@@ -166,32 +194,42 @@ unit_end e = Err e
 same_end : (e f : LinkEnd) → unit_end e ≡ unit_end f → e ≡ f
 same_end e f is = cc
 
--- the fetch of a body that was followed up to its end
-pub body_ended : {life left : LinkLife} {client : ClientState} {es : List Event} (e : LinkEnd) (folder uid : ℕ) (before after : Mail) (first last : BodyFetch)
-    → first.folder ≡ folder → first.uid ≡ uid → first.stage ≡ body_begun (selected life) (folder_in before.folders folder) → first.mirror.mail ≡ before
-    → last.mirror.mail ≡ after → FollowsBody first last life left client (Err e) es → FetchesBody folder uid before after life left client (Err e) es
-body_ended {life = life} e folder uid before after first last folder_is uid_is stage_is mail_is after_is f =
-    record {
-      exchanges = f.exchanges;
-      follows = follows_body folder uid before first folder_is uid_is (body_starts (selected life) folder uid before first stage_is mail_is) f.follows;
-      told = λ other. body_told folder uid before after first last folder_is uid_is mail_is after_is (f.heard (λ is. other (ap Err (same_end e end.Memory is))));
-      body = λ octets is. absurd (cc is);
-    }
+abbrev fetch_end : LinkEnd → Result (List ℕ) LinkEnd
+fetch_end e = Err e
 
-pub body_fetched : {life left : LinkLife} {client : ClientState} {es : List Event} (body : List ℕ) (folder uid : ℕ) (before after : Mail) (first last : BodyFetch)
-    → first.folder ≡ folder → first.uid ≡ uid → first.stage ≡ body_begun (selected life) (folder_in before.folders folder) → first.mirror.mail ≡ before
-    → last.mirror.mail ≡ after → last.stage ≡ bstage.Fetched body → FollowsBody first last life left client (Ok tt) es → FetchesBody folder uid before after life left client
-    (Ok body) es
-body_fetched {life = life} body folder uid before after first last folder_is uid_is stage_is mail_is after_is body_is f =
+-- the fetch of a body that was followed up to its end
+pub body_ended : {life left : LinkLife} {client : ClientState} {es : List Event} (e : LinkEnd) (folder uid : ℕ) (before after : Told) (first last : BodyFetch)
+    → first.folder ≡ folder → first.uid ≡ uid → first.stage ≡ body_begun (selected life) (folder_in before.mail.folders folder) → first.mirror ≡ before
+    → last.mirror ≡ after → FollowsBody first last life left client (Err e) es
+    → (fetches : FetchesBody folder uid before.mail after.mail life left client (Err e) es) × KeepsCount {A = List ℕ} before after (Err e) fetches.exchanges
+body_ended {life = life} e folder uid before after first last folder_is uid_is stage_is before_is after_is f =
+    let heard : fetch_end e ≢ Err end.Memory → HearsAll BodyHears first f.exchanges last = λ other. f.heard (λ is. other (ap Err (same_end e end.Memory is))) in
+    let start_is = body_starts (selected life) folder uid before.mail first stage_is (ap (λ (t : Told). t.mail) before_is) in (
+      record {
+        exchanges = f.exchanges;
+        follows = follows_body folder uid before.mail first folder_is uid_is start_is f.follows;
+        told = λ other. body_told before after first last before_is after_is (heard other);
+        body = λ octets is. absurd (cc is);
+      },
+      keeps_count before after (fetch_end e) body_tells before_is after_is heard,
+    )
+
+pub body_fetched : {life left : LinkLife} {client : ClientState} {es : List Event} (body : List ℕ) (folder uid : ℕ) (before after : Told) (first last : BodyFetch)
+    → first.folder ≡ folder → first.uid ≡ uid → first.stage ≡ body_begun (selected life) (folder_in before.mail.folders folder) → first.mirror ≡ before
+    → last.mirror ≡ after → last.stage ≡ bstage.Fetched body → FollowsBody first last life left client (Ok tt) es
+    → (fetches : FetchesBody folder uid before.mail after.mail life left client (Ok body) es) × KeepsCount before after (Ok body) fetches.exchanges
+body_fetched {life = life} body folder uid before after first last folder_is uid_is stage_is before_is after_is body_is f =
     let heard = f.heard (λ is. cc) in
-    let start_is = body_starts (selected life) folder uid before first stage_is mail_is in
-    record {
-      exchanges = f.exchanges;
-      follows = follows_body folder uid before first folder_is uid_is start_is f.follows;
-      told = λ other. body_told folder uid before after first last folder_is uid_is mail_is after_is heard;
-      body = λ octets is.
-          let same : body ≡ octets = cc in
-          let ends : body_view last ≡ fold (body_step folder uid) (body_start (selected life) before folder) f.exchanges = (body_folded heard).2
-          ∙ (λ i. fold (body_step (folder_is i) (uid_is i)) (start_is i) f.exchanges) in
-          sym (ap (λ (s : BodyState). s.stage) ends) ∙ body_is ∙ ap bstage.Fetched same;
-    }
+    let start_is = body_starts (selected life) folder uid before.mail first stage_is (ap (λ (t : Told). t.mail) before_is) in (
+      record {
+        exchanges = f.exchanges;
+        follows = follows_body folder uid before.mail first folder_is uid_is start_is f.follows;
+        told = λ other. body_told before after first last before_is after_is heard;
+        body = λ octets is.
+            let same : body ≡ octets = cc in
+            let ends : body_view last ≡ fold (body_step folder uid) (body_start (selected life) before.mail folder) f.exchanges = (body_folded heard).2
+            ∙ (λ i. fold (body_step (folder_is i) (uid_is i)) (start_is i) f.exchanges) in
+            sym (ap (λ (s : BodyState). s.stage) ends) ∙ body_is ∙ ap bstage.Fetched same;
+      },
+      keeps_count before after (Ok body) body_tells before_is after_is (λ _. heard),
+    )

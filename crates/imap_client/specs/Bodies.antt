@@ -1,10 +1,12 @@
 -- The body of a message: SELECT of its folder where that isn't selected, and its fetch (RFC 9051 sections 6.3.2 and 6.4.5).
-use Rattle.std.specs.Prelude.{◌≡◌, ◌≢◌, ◌==◌, ℕ, Bool, false, List, [], ◌∷◌, bytes_eq, fold, if◌then◌else◌, Option, Some, None, Result, Ok, Err}
+use Rattle.std.specs.Prelude.{◌≡◌, ◌≢◌, ◌==◌, ℕ, Bool, false, List, bytes_eq, fold, if◌then◌else◌, Option, Some, None, Result, Ok, Err}
+use Rattle.std.specs.List.{filter_map}
 use Rattle.gate_world.specs.declared.event.Event.{Event}
 use Rattle.imap_syntax.specs.declared.command.Command.TheVariants as command
 use Rattle.imap_syntax.specs.declared.response.FetchItems.{FetchItems}
 use Rattle.imap_syntax.specs.declared.response.Response.{Response}
 use Rattle.imap_syntax.specs.declared.response.Response.TheVariants as response
+use Rattle.told_folder.specs.Keyed.{last_of}
 use Rattle.told_folder.specs.declared.exchange.Exchange.{Exchange}
 use Rattle.told_folder.specs.declared.message.Folder.{Folder}
 use Rattle.told_mail.specs.Mail.{Mail, folder_in}
@@ -30,14 +32,9 @@ abbrev pub body_in : ℕ → Response → Option (List ℕ)
 body_in uid (response.Fetch seq items) = body_of_items uid items
 body_in uid _ = None
 
-abbrev pub later : Option (List ℕ) → Option (List ℕ) → Option (List ℕ)
-later was None = was
-later was (Some body) = Some body
-
--- the last body that is told for the UID, else this one
-abbrev pub last_body : ℕ → Option (List ℕ) → List Response → Option (List ℕ)
-last_body uid was [] = was
-last_body uid was (r ∷ rs) = last_body uid (later was (body_in uid r)) rs
+-- the last body that is told for the UID
+abbrev pub last_body : ℕ → List Response → Option (List ℕ)
+last_body uid rs = last_of (filter_map (body_in uid) rs)
 
 -- ---- stages
 
@@ -79,7 +76,7 @@ fetched None = stage.Failing refusal.Lacks
 -- The stage once an exchange is answered OK: the validity before it, its responses, and the mail that is told then.
 abbrev pub body_obeyed : ℕ → ℕ → BodyStage → ℕ → List Response → Mail → BodyStage
 body_obeyed folder uid stage.Selecting validity rs told = selected_stage validity (folder_validity (folder_in told.folders folder))
-body_obeyed folder uid stage.Fetching validity rs told = fetched (last_body uid None rs)
+body_obeyed folder uid stage.Fetching validity rs told = fetched (last_body uid rs)
 body_obeyed folder uid (stage.Fetched body) validity rs told = stage.Fetched body
 body_obeyed folder uid (stage.Failing why) validity rs told = stage.Failing why
 

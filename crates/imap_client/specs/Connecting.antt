@@ -120,16 +120,33 @@ planned_from preauth user password at (x ∷ xs) = planned_from preauth user pas
 abbrev pub connect_plan : Bool → List ℕ → List ℕ → Planned
 connect_plan preauth user password = planned_from preauth user password stage.Asking
 
+-- no greeting came, or a BYE
+pub record IsUnwelcome (e : LinkEnd) (events : List Event) : Type 0 where
+  pub talk : List Event
+  pub gave : List ℕ
+  pub whole : events ≡ talk ++ LinkEnded ∷ []
+  pub first : GivesFirst gave talk
+  pub greets : GreetsBy gave nothing_given (Err e)
+
+-- a greeting came, and then what is asked
+pub record IsWelcome (user password : List ℕ) (life after : LinkLife) (client : ClientState) (result : Result (Unit {0}) LinkEnd)
+    (events : List Event) : Type 0 where
+  pub preauth : Bool
+  pub exchanges : List Exchange
+  pub talk : List Event
+  pub last : List Event
+  pub whole : events ≡ talk ++ last
+  pub first : GivesFirst life.gave talk
+  pub new : IsNew life
+  pub says : greeting_says life.greeting ≡ Ok preauth
+  pub follows : Follows (connect_plan preauth user password) life after exchanges client result last
+
 -- What a life adds from its dial on, until all is asked, and the life that is left; none where no greeting came. After each
 -- error it has ended.
 pub data Lives (user password : List ℕ) (left : Option LinkLife) (client : ClientState) (result : Result (Unit {0}) LinkEnd)
     (events : List Event) : Type 0 where
-  Unwelcome : (e : LinkEnd) (talk : List Event) (gave : List ℕ) → events ≡ talk ++ LinkEnded ∷ [] → GivesFirst gave talk → GreetsBy gave nothing_given (Err e)
-      → result ≡ Err e → left ≡ None
-      → Lives user password left client result events
-  Welcome : (life after : LinkLife) (preauth : Bool) (exchanges : List Exchange) (talk last : List Event) → events ≡ talk ++ last → GivesFirst life.gave talk
-      → IsNew life
-      → greeting_says life.greeting ≡ Ok preauth → Follows (connect_plan preauth user password) life after exchanges client result last → left ≡ Some after
+  Unwelcome : (e : LinkEnd) → IsUnwelcome e events → result ≡ Err e → left ≡ None → Lives user password left client result events
+  Welcome : (life after : LinkLife) → IsWelcome user password life after client result events → left ≡ Some after
       → Lives user password left client result events
 
 -- What connecting adds, and the life that is left.

@@ -1,7 +1,7 @@
 -- A round: LIST, and then for each folder that can be selected, by number, SELECT and what is fetched (RFC 9051
 -- sections 6.3.2, 6.3.9 and 6.4.5, RFC 7162 section 3.2.5).
 use Rattle.std.specs.Prelude.{◌≡◌, ◌≢◌, ◌<◌, ◌≤◌, ◌^◌, ◌+◌, ◌-◌, ◌==◌, ◌||◌, ℕ, Bool, false, not, nat_lt, min, List, [], ◌∷◌, codes, bytes_eq, drop, fold}
-use Rattle.std.specs.Prelude.{if◌then◌else◌, is_some, slice_get, unwrap_or, Option, Some, None, Result, Err}
+use Rattle.std.specs.Prelude.{if◌then◌else◌, is_some, slice_get, Option, Some, None, Result, Err}
 use Rattle.std.specs.List.{list_any}
 use Rattle.gate_world.specs.declared.event.Event.{Event}
 use Rattle.imap_syntax.specs.declared.code.Code.TheVariants as code
@@ -15,7 +15,7 @@ use Rattle.told_folder.specs.declared.message.Folder.{Folder}
 use Rattle.told_folder.specs.declared.message.Held.{Held}
 use Rattle.told_mail.specs.Mail.{Mail}
 use Rattle.told_mail.specs.Told.{Told}
-use Rattle.told_mail.specs.Exchanges.{after_closed, tell, validity_in}
+use Rattle.told_mail.specs.Exchanges.{after_closed, last_told, tell, TellsKnown, validity_in}
 use Rattle.imap_exchange.specs.declared.link_end.LinkEnd.{LinkEnd}
 use Rattle.imap_exchange.specs.declared.link_end.LinkEnd.TheVariants as end
 use Rattle.imap_client.specs.declared.plan.Due.{Due}
@@ -34,6 +34,15 @@ use Rattle.imap_client.specs.Plans.{Planned, Follows}
 pub record CountsOn (old new : Told) : Type 0 where
   pub rises : old.changes ≤ new.changes
   pub stands : new.changes ≡ old.changes → new.changes < 2 ^ 64 - 1 → new.mail ≡ old.mail
+
+-- each of these exchanges tells what is known already, where those before it told theirs
+abbrev pub AllTellKnown : Mail → List Exchange → Type 0
+AllTellKnown m [] = Unit {0}
+AllTellKnown m (x ∷ xs) = TellsKnown m x × AllTellKnown (tell m x) xs
+
+-- where each of these exchanges told what was known already, the count is as it was, unless memory ran out
+abbrev pub KeepsCount : {A : Type 0} → Told → Told → Result A LinkEnd → List Exchange → Type 0
+KeepsCount old new result xs = result ≢ Err end.Memory → AllTellKnown old.mail xs → new.changes ≡ old.changes
 
 -- ---- folders
 
@@ -96,14 +105,9 @@ abbrev pub uid_next_in : Response → Option ℕ
 uid_next_in (response.Untagged status.Ok (code.UidNext n)) = Some n
 uid_next_in _ = None
 
--- the last UIDNEXT that is told, else this number
-abbrev pub last_uid_next : ℕ → List Response → ℕ
-last_uid_next was [] = was
-last_uid_next was (r ∷ rs) = last_uid_next (unwrap_or (uid_next_in r) was) rs
-
--- the UIDNEXT that a SELECT tells of its folder; 0 where it tells none
+-- the last UIDNEXT that a SELECT tells of its folder; 0 where it tells none
 abbrev pub uid_next_told : List Response → ℕ
-uid_next_told rs = last_uid_next 0 (after_closed rs)
+uid_next_told rs = last_told uid_next_in 0 (after_closed rs)
 
 abbrev pub tells_validity : List Response → Bool
 tells_validity rs = list_any (λ r. is_some (validity_in r)) (after_closed rs)

@@ -1,6 +1,6 @@
 -- A round that is done: which commands were sent in it, and what they told (RFC 9051 sections 6.3.2, 6.3.9 and 6.4.5, RFC 7162
 -- section 3.2.5).
-use Rattle.std.specs.Prelude.{◌≡◌, ◌++◌, ◌+◌, ℕ, true, false, List, [], ◌∷◌, drop, slice_get, Option, Some, None}
+use Rattle.std.specs.Prelude.{◌≡◌, ◌++◌, ◌+◌, ℕ, true, false, List, [], ◌∷◌, drop, slice_get, Some, None}
 use Rattle.std.specs.List.{flat_map}
 use Rattle.gate_world.specs.declared.event.Event.{Event}
 use Rattle.gate_world.specs.Octets.{store_took_in}

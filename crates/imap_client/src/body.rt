@@ -8,7 +8,7 @@ ghost use Rattle.told_mail.specs.Mail.{folder_in};
 ghost use Rattle.imap_client.specs.LinkLife.{LinkLife, Stands, fresh};
 ghost use Rattle.imap_client.specs.Bodies as bodies;
 ghost use Rattle.imap_client.specs.Bodies.{FetchesBody};
-ghost use Rattle.imap_client.specs.Rounds.{CountsOn};
+ghost use Rattle.imap_client.specs.Rounds.{CountsOn, KeepsCount};
 
 use crate::client::Client;
 use crate::connection::is_ok;
@@ -20,7 +20,7 @@ use imap_exchange::LinkEnd;
 use imap_syntax::{Command, FetchItems, Response};
 use std::alloc::{AllocError, Global};
 use std::mem;
-use told_mail::{Exchange, Folder, Mirror};
+use told_mail::{Exchange, Folder, Mirror, ToldError};
 
 /// How far the fetch of a body is.
 #[derive(Debug, Drop)]
@@ -71,7 +71,7 @@ fn body_in(uid: u32, response: &Response) -> Option<&Bytes>
 
 /// The last body that is told for the UID.
 fn last_body(uid: u32, responses: &[Response]) -> Option<&Bytes>
-    ensures { option_copied result ≡ bodies.last_body uid None responses.now }
+    ensures { option_copied result ≡ bodies.last_body uid responses.now }
 {
     let mut last = None;
     for response in responses {
@@ -172,7 +172,8 @@ impl BodyFetch {
 impl Plan for BodyFetch {
     ghost plan = { λ f. bodies.body_from f.folder f.uid (record { stage = f.stage; mail = f.mirror.mail }) };
 
-    ghost hears = { λ f x g. (g.folder ≡ f.folder) × (g.uid ≡ f.uid) × (record { stage = g.stage; mail = g.mirror.mail } ≡ bodies.body_step f.folder f.uid (record { stage = f.stage; mail = f.mirror.mail }) x) };
+    ghost hears = { λ f x g. (g.folder ≡ f.folder) × (g.uid ≡ f.uid) × (record { stage = g.stage; mail = g.mirror.mail } ≡ bodies.body_step f.folder f.uid (record { stage = f.stage; mail = f.mirror.mail }) x)
+        × (telling.TellsKnown f.mirror.mail x → g.mirror.changes ≡ f.mirror.changes) };
 
     ghost keeps = { λ f g. CountsOn f.mirror g.mirror };
 
@@ -192,7 +193,8 @@ impl Plan for BodyFetch {
                 self.stage = self.stage_after(validity, &x)?;
                 Ok(())
             }
-            Err(_) => Err(AllocError),
+            Err(ToldError::Memory) => Err(AllocError),
+            Err(ToldError::Contradicts { .. }) => unreachable!(),
         }
     }
 }
@@ -220,7 +222,8 @@ impl Client {
         uid: u32,
     ) -> Result<Bytes, LinkEnd>
         requires { self.old.alive ≡ true }
-        ensures tape { Adds (L.tape link.old) (L.tape link.new) (λ es. (life : LinkLife) → Stands self.old life → (left : LinkLife) × FetchesBody folder uid mirror.old.mail mirror.new.mail life left self.new result es) }
+        ensures tape { Adds (L.tape link.old) (L.tape link.new) (λ es. (life : LinkLife) → Stands self.old life → (left : LinkLife)
+            × (fetches : FetchesBody folder uid mirror.old.mail mirror.new.mail life left self.new result es) × KeepsCount mirror.old mirror.new result fetches.exchanges) }
         ensures alive { OnOk result (self.new.alive ≡ true) }
         ensures ended { OnErr result (self.new ≡ fresh) }
         ensures counts { CountsOn mirror.old mirror.new }

@@ -8,7 +8,7 @@ ghost use Rattle.gate_world.specs.Tape.{Adds};
 ghost use Rattle.told_mail.specs.Exchanges as telling;
 ghost use Rattle.imap_client.specs.LinkLife.{LinkLife, Stands, fresh};
 ghost use Rattle.imap_client.specs.Rounds as rounds;
-ghost use Rattle.imap_client.specs.Rounds.{CountsOn, Rounds};
+ghost use Rattle.imap_client.specs.Rounds.{CountsOn, KeepsCount, Rounds};
 
 use crate::client::Client;
 use crate::connection::is_ok;
@@ -19,7 +19,7 @@ use imap_exchange::LinkEnd;
 use imap_syntax::{Code, Command, Response, Status};
 use std::alloc::{AllocError, Global};
 use std::mem;
-use told_mail::{Exchange, Folder, Held, Mirror, after_closed};
+use told_mail::{Exchange, Folder, Held, Mirror, ToldError, after_closed};
 
 /// The most UIDs that one fetch of headers asks for, but for the last one of a folder.
 pub const SLICE_UIDS: u64 = 10_000;
@@ -159,7 +159,7 @@ fn uid_next_in(response: &Response) -> Option<u32>
 
 /// The UIDNEXT that these responses tell last, else 0.
 fn last_uid_next(responses: &[Response]) -> u32
-    ensures { result ≡ rounds.last_uid_next 0 responses.now }
+    ensures { result ≡ telling.last_told rounds.uid_next_in 0 responses.now }
 {
     let mut last = 0;
     for response in responses {
@@ -303,7 +303,8 @@ fn is_slicing(stage: RoundStage, mirror: &Mirror) -> bool
 impl Plan for Round {
     ghost plan = { λ r. rounds.round_from (record { stage = r.stage; mail = r.mirror.mail }) };
 
-    ghost hears = { λ r x s. record { stage = s.stage; mail = s.mirror.mail } ≡ rounds.round_step (record { stage = r.stage; mail = r.mirror.mail }) x };
+    ghost hears = { λ r x s. (record { stage = s.stage; mail = s.mirror.mail } ≡ rounds.round_step (record { stage = r.stage; mail = r.mirror.mail }) x)
+        × (telling.TellsKnown r.mirror.mail x → s.mirror.changes ≡ r.mirror.changes) };
 
     ghost keeps = { λ r s. CountsOn r.mirror s.mirror };
 
@@ -327,7 +328,8 @@ impl Plan for Round {
                 self.stage = stage_after(self.stage, sliced, &x, &self.mirror);
                 Ok(())
             }
-            Err(_) => Err(AllocError),
+            Err(ToldError::Memory) => Err(AllocError),
+            Err(ToldError::Contradicts { .. }) => unreachable!(),
         }
     }
 }
@@ -337,7 +339,8 @@ impl Client {
     /// mirror holds what completed exchanges told, and is to be dropped after want of memory.
     pub fn round<L: Link>(&mut self, link: &mut L, mirror: &mut Mirror) -> Result<(), LinkEnd>
         requires { self.old.alive ≡ true }
-        ensures tape { Adds (L.tape link.old) (L.tape link.new) (λ es. (life : LinkLife) → Stands self.old life → (left : LinkLife) × Rounds mirror.old.mail mirror.new.mail life left self.new result es) }
+        ensures tape { Adds (L.tape link.old) (L.tape link.new) (λ es. (life : LinkLife) → Stands self.old life → (left : LinkLife)
+            × (rounds : Rounds mirror.old.mail mirror.new.mail life left self.new result es) × KeepsCount mirror.old mirror.new result rounds.exchanges) }
         ensures alive { OnOk result (self.new.alive ≡ true) }
         ensures ended { OnErr result (self.new ≡ fresh) }
         ensures counts { CountsOn mirror.old mirror.new }

@@ -166,11 +166,11 @@ too_much_of begun before mid gave x from given (inl over) = inl (omega (arith, o
 too_much_of begun before mid gave x from given (inr over) = inr (omega (arith, over, given, length-append gave x))
 
 -- octets of a response are octets of the exchange, where the link is up; where it is down none come
-awaited : {xs ys talk : List Event} {pieces : List (List ℕ)} {before mid : Octets} {responses : List Response} {at : ℕ} {g : List ℕ} (begun : ℕ) (was up : Bool)
+awaited : {xs talk : List Event} (ys : List Event) {pieces : List (List ℕ)} {before mid : Octets} {responses : List Response} {at : ℕ} {g : List ℕ} (begun : ℕ) (was up : Bool)
     → begun + length before.octets ≡ before.given → at ≡ min (continuations responses + 1) (length pieces) → (c : Course pieces before mid responses at was xs)
     → EndsTalk was up talk ys → Talk g [] talk → ReadsWhile (AwaitsResponse begun mid) talk
     → ReadsWhile (λ x t. Awaits pieces before (c.speaks.gave ++ x) (c.speaks.took ++ t)) talk
-awaited {pieces = pieces} {before} {mid} {responses} {at} begun true up from place c ends said needed =
+awaited ys {pieces = pieces} {before} {mid} {responses} {at} begun true up from place c ends said needed =
     reads_widen (AwaitsResponse begun mid) (λ x t. Awaits pieces before (c.speaks.gave ++ x) (c.speaks.took ++ t)) wider said needed
   where
     wider : (x : List ℕ) → AwaitsResponse begun mid x [] → Awaits pieces before (c.speaks.gave ++ x) (c.speaks.took ++ [])
@@ -183,7 +183,7 @@ awaited {pieces = pieces} {before} {mid} {responses} {at} begun true up from pla
           sent = append-nil c.speaks.took ∙ due_taken pieces responses at c.speaks.took c.left place c.taken (c.all_taken refl);
           room = λ over. so.room (over_of begun before mid c.speaks.gave x from c.given over);
         }
-awaited {pieces = pieces} {before} begun false up from place c ends said needed =
+awaited ys {pieces = pieces} {before} begun false up from place c ends said needed =
     let P : List ℕ → List ℕ → Type 0 = λ x t. Awaits pieces before (c.speaks.gave ++ x) (c.speaks.took ++ t) in
     subst (λ (l : List Event). ReadsWhile P l) (sym ends.1) (reads_none P)
 
@@ -201,7 +201,7 @@ pub heard : {xs ys : List Event} {pieces : List (List ℕ)} {before mid after : 
     → ReadsResponse begun was up mid after (Ok w) ys → Heard pieces before after responses w at up (xs ++ ys)
 heard {xs} {ys} {pieces} {before} {mid} {after} {responses} {at} {was} begun up w from place same c r =
     record {
-      speaks = spoken_more ys pieces before was up r.talk r.gave c.speaks r.ended r.said (awaited begun was up from place c r.ended r.said r.needed);
+      speaks = spoken_more ys pieces before was up r.talk r.gave c.speaks r.ended r.said (awaited ys begun was up from place c r.ended r.said r.needed);
       remaining = mid.octets ++ r.gave;
       passed = passed_more before mid c.speaks.gave r.gave c.passed;
       begins = (r.reads.0, after.octets, r.reads.1, r.reads.2, refl);
@@ -224,7 +224,7 @@ pub unheard : {xs ys : List Event} {pieces : List (List ℕ)} {before mid : Octe
     → Converses tag pieces before after up (Err e) (xs ++ ys)
 unheard {xs} {ys} {pieces} {before} {mid} {responses} {at} {was} tag begun after up end.Lost from place c r =
     record {
-      speaks = spoken_more ys pieces before was up r.talk r.gave c.speaks r.ended r.said (awaited begun was up from place c r.ended r.said r.needed);
+      speaks = spoken_more ys pieces before was up r.talk r.gave c.speaks r.ended r.said (awaited ys begun was up from place c r.ended r.said r.needed);
       comes = inl (
         record { responses = responses; remaining = mid.octets ++ r.gave; passed = passed_more before mid c.speaks.gave r.gave c.passed; decided = r.reads.0 },
         λ over. not_all_taken was pieces responses at begun (mid.given + length r.gave) c.speaks.took c.left place c.taken c.some_left r.reads.1
@@ -233,7 +233,7 @@ unheard {xs} {ys} {pieces} {before} {mid} {responses} {at} {was} tag begun after
     }
 unheard {xs} {ys} {pieces} {before} {mid} {responses} {at} {was} tag begun after up end.TooMuch from place c r =
     record {
-      speaks = spoken_more ys pieces before was up r.talk r.gave c.speaks r.ended r.said (awaited begun was up from place c r.ended r.said r.needed);
+      speaks = spoken_more ys pieces before was up r.talk r.gave c.speaks r.ended r.said (awaited ys begun was up from place c r.ended r.said r.needed);
       comes = (
         record { responses = responses; remaining = mid.octets ++ r.gave; passed = passed_more before mid c.speaks.gave r.gave c.passed; decided = r.reads.0 },
         too_much_of begun before mid c.speaks.gave r.gave from c.given r.reads.1,
@@ -242,7 +242,7 @@ unheard {xs} {ys} {pieces} {before} {mid} {responses} {at} {was} tag begun after
     }
 unheard {xs} {ys} {pieces} {before} {mid} {responses} {at} {was} tag begun after up (end.Bad offset) from place c r =
     record {
-      speaks = spoken_more ys pieces before was up r.talk r.gave c.speaks r.ended r.said (awaited begun was up from place c r.ended r.said r.needed);
+      speaks = spoken_more ys pieces before was up r.talk r.gave c.speaks r.ended r.said (awaited ys begun was up from place c r.ended r.said r.needed);
       comes = (
         length (before.octets ++ (c.speaks.gave ++ r.gave)) - length (mid.octets ++ r.gave),
         record {
@@ -258,7 +258,7 @@ unheard {xs} {ys} {pieces} {before} {mid} {responses} {at} {was} tag begun after
     within : length (mid.octets ++ r.gave) ≤ length (before.octets ++ (c.speaks.gave ++ r.gave))
     within = let passed = passed_more before mid c.speaks.gave r.gave c.passed in Begins-length responses _ _ passed.spelled
 unheard {xs} {ys} {pieces} {before} {mid} {responses} {at} {was} tag begun after up end.Memory from place c r =
-    wanting tag after (spoken_more ys pieces before was up r.talk r.gave c.speaks r.ended r.said (awaited begun was up from place c r.ended r.said r.needed))
+    wanting tag after (spoken_more ys pieces before was up r.talk r.gave c.speaks r.ended r.said (awaited ys begun was up from place c r.ended r.said r.needed))
 unheard tag begun after up end.Stray from place c r = absurd r.reads
 unheard tag begun after up end.Bye from place c r = absurd r.reads
 unheard tag begun after up end.Refused from place c r = absurd r.reads

@@ -10,7 +10,7 @@ use Rattle.imap_syntax.specs.declared.response.Response.{Response}
 use Rattle.imap_syntax.specs.Spells.{IsSpelling}
 use Rattle.imap_exchange.specs.declared.link_end.LinkEnd.{LinkEnd}
 use Rattle.imap_exchange.specs.declared.link_end.LinkEnd.TheVariants as end
-use Rattle.imap_grammar.specs.declared.answer.Scan.TheVariants.{NeedMore, Bad}
+use Rattle.imap_grammar.specs.declared.answer.Scan.TheVariants.{Bad}
 use Rattle.imap_grammar.specs.Scan.{ScanOf}
 use Rattle.imap_exchange.specs.Received.{Octets}
 use Rattle.imap_exchange.specs.reading.Filling.{Grows, GainsOctets, Fills, is_up_at}

@@ -181,28 +181,24 @@ fn send<L: Link>(
     converse(alloc, link, received, up, due.as_bytes(), pieces.as_slice())
 }
 
-// A copy of the name.
-fn copied(alloc: Global, name: &Option<Bytes>) -> Result<Option<Bytes>, AllocError>
-    ensures { IfOk result (λ copy. copy ≡ name.now) }
+// The same name, whose octets are shared and not copied.
+fn shared(name: &Option<Bytes>) -> Result<Option<Bytes>, AllocError>
+    ensures { IfOk result (λ same. same ≡ name.now) }
 {
     match name {
         None => Ok(None),
-        Some(name) => Ok(Some(Bytes::copy_of(alloc, name.as_slice())?)),
+        Some(name) => Ok(Some(name.share()?)),
     }
 }
 
-// The folder that an OK to the command selects, where another was selected before.
-fn to_select(
-    alloc: Global,
-    command: &Command,
-    selected: &Option<Bytes>,
-) -> Result<Option<Bytes>, AllocError>
+// The folder that an OK to the command selects, where another was selected before. Its name is shared.
+fn to_select(command: &Command, selected: &Option<Bytes>) -> Result<Option<Bytes>, AllocError>
     ensures { IfOk result (λ name. name ≡ selected_by command.now statuses.Ok selected.now) }
 {
     match command {
-        Command::Select { name, .. } => Ok(Some(Bytes::copy_of(alloc, name.as_slice())?)),
+        Command::Select { name, .. } => Ok(Some(name.share()?)),
         Command::Unselect => Ok(None),
-        _ => copied(alloc, selected),
+        _ => shared(selected),
     }
 }
 
@@ -239,8 +235,8 @@ pub fn complete<L: Link>(
     ensures progress { OnOk result (room_left received.new < room_left received.old) }
     ensures hidden { L.hidden link.new ≡ L.hidden link.old }
 {
-    let before = copied(alloc, selected)?;
-    let target = to_select(alloc, &command, selected)?;
+    let before = shared(selected)?;
+    let target = to_select(&command, selected)?;
     let answer = send(alloc, link, received, up, number, &command)?;
     let now = now_selected(&command, answer.status, target);
     Ok((

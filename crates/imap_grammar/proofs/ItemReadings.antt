@@ -1,8 +1,8 @@
 -- The items of a FETCH are read back as what they tell.
 use Rattle.std.proofs.Common.{◌≡◌, ◌⊎◌, ℕ, zero, suc, ◌+◌, ◌-◌, ◌<◌, ◌≤◌, Bool, true, false, ◌||◌, List, [], ◌∷◌, ◌++◌, length, map, take, drop, get_or, cond, refl, sym, ap, ◌∙◌}
-use Rattle.std.proofs.Common.{append_assoc, arith, inl, inr, Some, ℤ}
+use Rattle.std.proofs.Common.{append_assoc, arith, inl, inr, Option, Some, None, ℤ}
 use Rattle.std.specs.Prelude.{◌==◌, nat_lt, codes, bytes_eq}
-use Rattle.std.proofs.lemmas.Bool.{cond-true, cond-false, or_cases, false_from_ne_true}
+use Rattle.std.proofs.lemmas.Bool.{cond-true, cond-false, or_cases}
 use Rattle.std.proofs.lemmas.List.{length-append, map-append}
 use Rattle.std.proofs.Math.Seq.{drop-append_seam}
 use Rattle.imap_syntax.proofs.EachLemmas.{each_to, each_append}
@@ -19,7 +19,9 @@ use Rattle.imap_automaton.proofs.ItemEdges.{stop_no_digit, item_to}
 use Rattle.imap_automaton.proofs.OtherItems.{named_atoms, other_word}
 use Rattle.imap_values.specs.reading.Spans.{span, number_in, long_in}
 use Rattle.imap_values.specs.reading.StringReading.{astring_in}
-use Rattle.imap_grammar.specs.reading.ItemReading.{nstring_in, is_header, is_body, is_told, text_in, value_in, item_in, items_in}
+use Rattle.imap_grammar.specs.declared.items.Told.{Told}
+use Rattle.imap_grammar.specs.declared.items.Told.TheVariants as names
+use Rattle.imap_grammar.specs.reading.ItemReading.{nstring_in, told_by, value_in, value_or_passed, item_in, items_in}
 use Rattle.imap_grammar.specs.reading.Passing.{passed}
 use Rattle.imap_grammar.proofs.DateReadings.{date_read}
 use Rattle.imap_grammar.proofs.StringReadings.{astring_read}
@@ -39,49 +41,31 @@ use Rattle.imap_syntax.specs.Items.{joined, IsNames, Item, Uid, Flags, ModSeq, D
 
 -- ---- names that are told
 
-uid_told : is_told (codes "uid") ≡ true
-unfolding is_told
-uid_told = refl
+told_names : (told_by (key_text key.Uid) ≡ Some names.Uid) × (told_by (key_text key.Flags) ≡ Some names.Flags) × (told_by (key_text key.ModSeq) ≡ Some names.ModSeq)
+    × (told_by (key_text key.InternalDate) ≡ Some names.Date) × (told_by (key_text key.Size) ≡ Some names.Size)
+unfolding told_by
+told_names = (refl, refl, refl, refl, refl)
 
-flags_told : is_told (codes "flags") ≡ true
-unfolding is_told
-flags_told = refl
-
-modseq_told : is_told (codes "modseq") ≡ true
-unfolding is_told
-modseq_told = refl
-
-date_told : is_told (codes "internaldate") ≡ true
-unfolding is_told
-date_told = refl
-
-size_told : is_told (codes "rfc822.size") ≡ true
-unfolding is_told
-size_told = refl
-
-header_told : (is_told (codes "body[header]") ≡ true) × (is_told (codes "body[header]<0>") ≡ true)
-unfolding is_told is_header is_body
-header_told = (refl, refl)
-
-body_told : (is_told (codes "body[]") ≡ true) × (is_told (codes "body[]<0>") ≡ true)
-unfolding is_told is_header is_body
-body_told = (refl, refl)
+told_texts : (told_by (key_text key.Header) ≡ Some names.Header) × (told_by (key_text key.HeaderPart) ≡ Some names.Header) × (told_by (key_text key.Body) ≡ Some names.Body)
+    × (told_by (key_text key.BodyPart) ≡ Some names.Body)
+unfolding told_by
+told_texts = (refl, refl, refl, refl)
 
 -- an item whose name is a key
-known_read : (i : Item) (so_far : FetchItems) (k : Key) (name value t back b : List ℕ) → map lower name ≡ key_text k → is_told (key_text k) ≡ true
-    → value_in so_far (key_text k) (plain_octets value ++ back) ≡ (told so_far i, back) → t ≡ name ++ 32 ∷ value → b ≡ plain_octets t ++ back
+known_read : (i : Item) (so_far : FetchItems) (k : Key) (m : Told) (name value t back b : List ℕ) → map lower name ≡ key_text k → told_by (key_text k) ≡ Some m
+    → value_in so_far m (plain_octets value ++ back) ≡ (told so_far i, back) → t ≡ name ++ 32 ∷ value → b ≡ plain_octets t ++ back
     → item_in so_far b ≡ (told so_far i, back)
 unfolding item_in
-known_read i so_far k name value t back b is told_key read whole e =
+known_read i so_far k m name value t back b is told_key read whole e =
     let atoms = named_atoms k name is in
     let s = each_to is_atom small name atom_small atoms in
     let cut : b ≡ name ++ (32 ∷ (plain_octets value ++ back)) = e ∙ ap (λ (u : List ℕ). u ++ back) (ap plain_octets whole ∙ plain_join name (32 ∷ value) s)
     ∙ append_assoc name (32 ∷ plain_octets value) back in
     let c = cut_at is_atom name (32 ∷ (plain_octets value ++ back)) b cut atoms refl in
     let n = span is_atom b in
-    let word : map lower (take n b) ≡ key_text k = ap (map lower) c.front ∙ is in
-    cond-true (is_told (map lower (take n b))) (value_in so_far (map lower (take n b)) (drop (n + 1) b)) (so_far, drop (passed b (item_start ∷ [])) b) (ap is_told word ∙ told_key)
-    ∙ ap (λ (u : List ℕ). value_in so_far u (drop (n + 1) b)) word ∙ ap (value_in so_far (key_text k)) (c.past 32 (plain_octets value ++ back) refl) ∙ read
+    let word : told_by (map lower (take n b)) ≡ Some m = ap told_by (ap (map lower) c.front ∙ is) ∙ told_key in
+    ap (λ (o : Option Told). value_or_passed so_far o (drop (n + 1) b) b) word
+    ∙ ap (value_in so_far m) (c.past 32 (plain_octets value ++ back) refl) ∙ read
 
 -- ---- values
 
@@ -89,7 +73,7 @@ no_digit : (back : List ℕ) → stops (get_or back 0 0) ≡ true → is_digit (
 no_digit back e = stop_no_digit (get_or back 0 0) e
 
 uid_read : (n : ℕ) (so_far : FetchItems) (value back : List ℕ) → IsNonZero n value → stops (get_or back 0 0) ≡ true
-    → value_in so_far (codes "uid") (plain_octets value ++ back) ≡ (told so_far (Uid n), back)
+    → value_in so_far names.Uid (plain_octets value ++ back) ≡ (told so_far (Uid n), back)
 unfolding value_in
 uid_read n so_far value back h out =
     let b = plain_octets value ++ back in
@@ -99,7 +83,7 @@ uid_read n so_far value back h out =
     ap (λ (m : ℕ). (told so_far (Uid m), drop (span is_digit b) b)) num ∙ ap (λ (u : List ℕ). (told so_far (Uid n), u)) k.back
 
 size_read : (n : ℕ) (so_far : FetchItems) (value back : List ℕ) → IsLong n value → stops (get_or back 0 0) ≡ true
-    → value_in so_far (codes "rfc822.size") (plain_octets value ++ back) ≡ (told so_far (Size n), back)
+    → value_in so_far names.Size (plain_octets value ++ back) ≡ (told so_far (Size n), back)
 unfolding value_in
 size_read n so_far value back h out =
     let b = plain_octets value ++ back in
@@ -108,7 +92,7 @@ size_read n so_far value back h out =
     ap (λ (m : ℕ). (told so_far (Size m), drop (span is_digit b) b)) (ap long_in k.front ∙ long_read n value h) ∙ ap (λ (u : List ℕ). (told so_far (Size n), u)) k.back
 
 modseq_read : (n : ℕ) (so_far : FetchItems) (value back digits : List ℕ) → value ≡ 40 ∷ digits ++ 41 ∷ [] → IsLong n digits
-    → value_in so_far (codes "modseq") (plain_octets value ++ back) ≡ (told so_far (ModSeq n), back)
+    → value_in so_far names.ModSeq (plain_octets value ++ back) ≡ (told so_far (ModSeq n), back)
 unfolding value_in
 modseq_read n so_far value back digits e is =
     let d = drop 1 (plain_octets value ++ back) in
@@ -120,7 +104,7 @@ modseq_read n so_far value back digits e is =
     ∙ ap (λ (u : List ℕ). (told so_far (ModSeq n), u)) (k.past 41 back refl)
 
 told_date : (seconds : ℤ) (so_far : FetchItems) (value back : List ℕ) → IsDateTime seconds value
-    → value_in so_far (codes "internaldate") (plain_octets value ++ back) ≡ (told so_far (Date seconds), back)
+    → value_in so_far names.Date (plain_octets value ++ back) ≡ (told so_far (Date seconds), back)
 unfolding value_in
 told_date seconds so_far value back h =
     let b = plain_octets value ++ back in
@@ -128,8 +112,8 @@ told_date seconds so_far value back h =
     ap (λ (z : ℤ). (told so_far (Date z), drop 28 b)) r.0 ∙ ap (λ (u : List ℕ). (told so_far (Date seconds), u)) r.1
 
 told_flags : (ns : List (List ℕ)) (so_far : FetchItems) (value back : List ℕ) → IsNames ns value
-    → value_in so_far (codes "flags") (plain_octets value ++ back) ≡ (told so_far (Flags ns), back)
-unfolding value_in text_in is_header is_body
+    → value_in so_far names.Flags (plain_octets value ++ back) ≡ (told so_far (Flags ns), back)
+unfolding value_in
 told_flags ns so_far value back h =
     let inner : plain_octets value ≡ 40 ∷ joined ns ++ 41 ∷ [] = ap plain_octets h.1
     ∙ plain_small (40 ∷ joined ns ++ 41 ∷ []) (refl, each_append small (joined ns) (41 ∷ []) (joined_small ns h.0) (refl, tt)) in
@@ -170,48 +154,39 @@ string_read s x y (inr q) out =
     let b = plain_octets x ++ y in
     cond-false (lower (get_or b 0 0) == 110) ([], drop 3 b) (astring_in b) (string_first s x y q) ∙ astring_read s x y b (inr q) (stop_ends (get_or y 0 0) out) refl
 
--- a header, under either name
 header_read : (s : List ℕ) (so_far : FetchItems) (value back : List ℕ) → IsNString s value → stops (get_or back 0 0) ≡ true
-    → (value_in so_far (codes "body[header]") (plain_octets value ++ back) ≡ (told so_far (Header s), back))
-    × (value_in so_far (codes "body[header]<0>") (plain_octets value ++ back) ≡ (told so_far (Header s), back))
-unfolding value_in text_in is_header is_body
+    → value_in so_far names.Header (plain_octets value ++ back) ≡ (told so_far (Header s), back)
+unfolding value_in
 header_read s so_far value back h out =
-    let r = ap (λ (q : List ℕ × List ℕ). (record so_far { header = Some (take header_limit q.0) }, q.1)) (string_read s value back h out) in (r, r)
+    ap (λ (q : List ℕ × List ℕ). (record so_far { header = Some (take header_limit q.0) }, q.1)) (string_read s value back h out)
 
 body_read : (s : List ℕ) (so_far : FetchItems) (value back : List ℕ) → IsNString s value → stops (get_or back 0 0) ≡ true
-    → (value_in so_far (codes "body[]") (plain_octets value ++ back) ≡ (told so_far (Body s), back))
-    × (value_in so_far (codes "body[]<0>") (plain_octets value ++ back) ≡ (told so_far (Body s), back))
-unfolding value_in text_in is_header is_body
+    → value_in so_far names.Body (plain_octets value ++ back) ≡ (told so_far (Body s), back)
+unfolding value_in
 body_read s so_far value back h out =
-    let r = ap (λ (q : List ℕ × List ℕ). (record so_far { body = Some (take body_limit q.0) }, q.1)) (string_read s value back h out) in (r, r)
+    ap (λ (q : List ℕ × List ℕ). (record so_far { body = Some (take body_limit q.0) }, q.1)) (string_read s value back h out)
 
 -- ---- other items
 
-either : {P : Type 0} (a b : Bool) → (a || b) ≡ true → (a ≡ true → P) → (b ≡ true → P) → P
-either a b e f g = elim (or_cases a b e) [ inl x ↦ f x | inr y ↦ g y ]
+told_case : {P : Type 0} {o : Option Told} (b : Bool) (x m : Told) → cond b (Some x) o ≡ Some m → (b ≡ true → P) → (o ≡ Some m → P) → P
+told_case true x m e f g = f refl
+told_case false x m e f g = g e
 
 -- a told name is a key
-told_key : {P : Type 0} (w : List ℕ) → is_told w ≡ true → ((k : Key) → Among k (keys place.Item) → w ≡ key_text k → P) → P
-unfolding is_told is_header is_body
-told_key w e f =
+told_key : {P : Type 0} (w : List ℕ) (m : Told) → told_by w ≡ Some m → ((k : Key) → Among k (keys place.Item) → w ≡ key_text k → P) → P
+unfolding told_by
+told_key w m e f =
     let is : List ℕ → Bool = bytes_eq w in
-    either (is (codes "uid") || is (codes "modseq") || is (codes "rfc822.size") || is (codes "internaldate") || is (codes "flags") || is_header w) (is_body w) e
-    (λ a. either (is (codes "uid") || is (codes "modseq") || is (codes "rfc822.size") || is (codes "internaldate") || is (codes "flags")) (is_header w) a
-    (λ b. either (is (codes "uid") || is (codes "modseq") || is (codes "rfc822.size") || is (codes "internaldate")) (is (codes "flags")) b
-    (λ c. either (is (codes "uid") || is (codes "modseq") || is (codes "rfc822.size")) (is (codes "internaldate")) c
-    (λ d. either (is (codes "uid") || is (codes "modseq")) (is (codes "rfc822.size")) d
-    (λ g. either (is (codes "uid")) (is (codes "modseq")) g
-    (λ h. f key.Uid (inl refl) (same_text w (codes "uid") h))
-    (λ h. f key.ModSeq (inr (inr (inl refl))) (same_text w (codes "modseq") h)))
-    (λ g. f key.Size (inr (inr (inr (inr (inl refl))))) (same_text w (codes "rfc822.size") g)))
-    (λ d. f key.InternalDate (inr (inr (inr (inl refl)))) (same_text w (codes "internaldate") d)))
-    (λ c. f key.Flags (inr (inl refl)) (same_text w (codes "flags") c)))
-    (λ b. either (is (codes "body[header]")) (is (codes "body[header]<0>")) b
-    (λ c. f key.Header (inr (inr (inr (inr (inr (inl refl)))))) (same_text w (codes "body[header]") c))
-    (λ c. f key.HeaderPart (inr (inr (inr (inr (inr (inr (inl refl))))))) (same_text w (codes "body[header]<0>") c))))
-    (λ a. either (is (codes "body[]")) (is (codes "body[]<0>")) a
-    (λ b. f key.Body (inr (inr (inr (inr (inr (inr (inr (inl refl)))))))) (same_text w (codes "body[]") b))
-    (λ b. f key.BodyPart (inr (inr (inr (inr (inr (inr (inr (inr (inl refl))))))))) (same_text w (codes "body[]<0>") b)))
+    told_case (is (codes "uid")) names.Uid m e (λ a. f key.Uid (inl refl) (same_text w (codes "uid") a)) (λ e.
+    told_case (is (codes "flags")) names.Flags m e (λ a. f key.Flags (inr (inl refl)) (same_text w (codes "flags") a)) (λ e.
+    told_case (is (codes "modseq")) names.ModSeq m e (λ a. f key.ModSeq (inr (inr (inl refl))) (same_text w (codes "modseq") a)) (λ e.
+    told_case (is (codes "internaldate")) names.Date m e (λ a. f key.InternalDate (inr (inr (inr (inl refl)))) (same_text w (codes "internaldate") a)) (λ e.
+    told_case (is (codes "rfc822.size")) names.Size m e (λ a. f key.Size (inr (inr (inr (inr (inl refl))))) (same_text w (codes "rfc822.size") a)) (λ e.
+    told_case (is (codes "body[header]") || is (codes "body[header]<0>")) names.Header m e
+    (λ b. elim (or_cases (is (codes "body[header]")) (is (codes "body[header]<0>")) b) [ inl a ↦ f key.Header (inr (inr (inr (inr (inr (inl refl)))))) (same_text w (codes "body[header]") a) | inr a ↦ f key.HeaderPart (inr (inr (inr (inr (inr (inr (inl refl))))))) (same_text w (codes "body[header]<0>") a) ]) (λ e.
+    told_case (is (codes "body[]") || is (codes "body[]<0>")) names.Body m e
+    (λ b. elim (or_cases (is (codes "body[]")) (is (codes "body[]<0>")) b) [ inl a ↦ f key.Body (inr (inr (inr (inr (inr (inr (inr (inl refl)))))))) (same_text w (codes "body[]") a) | inr a ↦ f key.BodyPart (inr (inr (inr (inr (inr (inr (inr (inr (inl refl))))))))) (same_text w (codes "body[]<0>") a) ]) (λ e.
+    absurd cc)))))))
 
 tail_head : (tail back : List ℕ) → nat_lt (get_or tail 0 0) 256 ≡ true → 0 < length tail → is_atom (get_or tail 0 0) ≡ false → is_atom
     (get_or (plain_octets tail ++ back) 0 0) ≡ false
@@ -227,36 +202,41 @@ other_read so_far t back b h out e =
     (plain_octets o.tail) back in
     let c = cut_at is_atom o.word (plain_octets o.tail ++ back) b cut o.each (tail_head o.tail back o.small o.goes_on o.longest) in
     let n = span is_atom b in
-    let no : is_told (map lower (take n b)) ≡ false = false_from_ne_true (is_told (map lower (take n b)))
-    (λ q. told_key (map lower (take n b)) q (λ k m w. o.no_key k m (sym (ap (map lower) c.front) ∙ w))) in
+    let no : told_by (map lower (take n b)) ≡ None = untold (told_by (map lower (take n b))) (λ m q. told_key (map lower (take n b)) m q (λ k a w. o.no_key k a (sym (ap (map lower) c.front) ∙ w))) in
     let count : passed b (item_start ∷ []) ≡ length (plain_octets t) = item_passed t back b (item_to Other t h) out e ∙ sym (plain_length t) in
-    cond-false (is_told (map lower (take n b))) (value_in so_far (map lower (take n b)) (drop (n + 1) b)) (so_far, drop (passed b (item_start ∷ [])) b) no
+    ap (λ (q : Option Told). value_or_passed so_far q (drop (n + 1) b) b) no
     ∙ ap (λ (m : ℕ). (so_far, drop m b)) count ∙ ap (λ (u : List ℕ). (so_far, drop (length (plain_octets t)) u)) e ∙ ap (λ (u : List ℕ). (so_far, u))
     (drop-append_seam (plain_octets t) back)
+  where
+    untold : (q : Option Told) → ((m : Told) → q ≡ Some m → ⊥) → q ≡ None
+    untold None f = refl
+    untold (Some m) f = absurd (f m refl)
 
 -- ---- the item at the front
 
 item_read : (i : Item) (so_far : FetchItems) (t back b : List ℕ) → IsItem i t → stops (get_or back 0 0) ≡ true → b ≡ plain_octets t ++ back
     → item_in so_far b ≡ (told so_far i, back)
-item_read (Uid n) so_far t back b h out e = known_read (Uid n) so_far key.Uid h.name h.value t back b h.item.0 uid_told (uid_read n so_far h.value back h.item.1 out) h.whole e
-item_read (Flags ns) so_far t back b h out e = known_read (Flags ns) so_far key.Flags h.name h.value t back b h.item.0 flags_told
-    (told_flags ns so_far h.value back h.item.1) h.whole e
-item_read (ModSeq n) so_far t back b h out e = known_read (ModSeq n) so_far key.ModSeq h.name h.value t back b h.item.0 modseq_told
+item_read (Uid n) so_far t back b h out e =
+    known_read (Uid n) so_far key.Uid names.Uid h.name h.value t back b h.item.0 told_names.0 (uid_read n so_far h.value back h.item.1 out) h.whole e
+item_read (Flags ns) so_far t back b h out e =
+    known_read (Flags ns) so_far key.Flags names.Flags h.name h.value t back b h.item.0 told_names.1 (told_flags ns so_far h.value back h.item.1) h.whole e
+item_read (ModSeq n) so_far t back b h out e = known_read (ModSeq n) so_far key.ModSeq names.ModSeq h.name h.value t back b h.item.0 told_names.2
     (modseq_read n so_far h.value back h.item.1.0 h.item.1.1 h.item.1.2) h.whole e
-item_read (Date s) so_far t back b h out e = known_read (Date s) so_far key.InternalDate h.name h.value t back b h.item.0 date_told
-    (told_date s so_far h.value back h.item.1) h.whole e
-item_read (Size n) so_far t back b h out e = known_read (Size n) so_far key.Size h.name h.value t back b h.item.0 size_told (size_read n so_far h.value back h.item.1 out) h.whole e
+item_read (Date s) so_far t back b h out e =
+    known_read (Date s) so_far key.InternalDate names.Date h.name h.value t back b h.item.0 told_names.3 (told_date s so_far h.value back h.item.1) h.whole e
+item_read (Size n) so_far t back b h out e =
+    known_read (Size n) so_far key.Size names.Size h.name h.value t back b h.item.0 told_names.4 (size_read n so_far h.value back h.item.1 out) h.whole e
 item_read (Header s) so_far t back b h out e =
     let r = header_read s so_far h.value back h.item.1 out in
     elim h.item.0 [
-      | inl n ↦ known_read (Header s) so_far key.Header h.name h.value t back b n header_told.0 r.0 h.whole e
-      | inr n ↦ known_read (Header s) so_far key.HeaderPart h.name h.value t back b n header_told.1 r.1 h.whole e
+      | inl n ↦ known_read (Header s) so_far key.Header names.Header h.name h.value t back b n told_texts.0 r h.whole e
+      | inr n ↦ known_read (Header s) so_far key.HeaderPart names.Header h.name h.value t back b n told_texts.1 r h.whole e
     ]
 item_read (Body s) so_far t back b h out e =
     let r = body_read s so_far h.value back h.item.1 out in
     elim h.item.0 [
-      | inl n ↦ known_read (Body s) so_far key.Body h.name h.value t back b n body_told.0 r.0 h.whole e
-      | inr n ↦ known_read (Body s) so_far key.BodyPart h.name h.value t back b n body_told.1 r.1 h.whole e
+      | inl n ↦ known_read (Body s) so_far key.Body names.Body h.name h.value t back b n told_texts.2 r h.whole e
+      | inr n ↦ known_read (Body s) so_far key.BodyPart names.Body h.name h.value t back b n told_texts.3 r h.whole e
     ]
 item_read Other so_far t back b h out e = other_read so_far t back b h out e
 

@@ -130,7 +130,7 @@ const NO_COUNTS: StatusItems = StatusItems {
 };
 
 /// The counts, up to the closing bracket: count *(SP count) ")".
-#[tactic(auto, unfolding(crate::specs::reading::FolderReading::counts_in))]
+#[tactic(auto, unfolding(crate::specs::reading::FolderReading::status_counts))]
 fn counts_in(bytes: &[u8]) -> StatusItems
     ensures { result ≡ reading.status_counts (length bytes.now) folders.no_counts bytes.now }
 {

@@ -256,17 +256,38 @@ goes_from k x at c y le e =
     subst (λ (t : List ℕ). (nat_lt at (length t) && get_or t at 0 == c && bytes_eq (take at t) (take at (key_text k))) ≡ true) e
     (and_from _ _ (and_from _ _ (lt-ltb _ _ r.0) (eq-eqb _ _ r.1)) (text_same _ _ r.2))
 
--- an octet with which a key goes on
-pub goes_octet : (k x : Key) (at c : ℕ) → goes_on k at (lower c) x ≡ true → (c == 123) ≡ false
-goes_octet k x at c e =
-    let g = goes_to k x at (lower c) e in
+-- an octet with which a key goes on is one of its own
+goes_key_octet : (k x : Key) (at c : ℕ) → goes_on k at c x ≡ true → is_key_octet c ≡ true
+goes_key_octet k x at c e =
+    let g = goes_to k x at c e in
     let all = subst (Each is_key_octet) (sym (take-append-drop (at + 1) (key_text x))) (key_octets x) in
     let front = (each_parts is_key_octet (take (at + 1) (key_text x)) (drop (at + 1) (key_text x)) all).0 in
-    let o = each_mid is_key_octet (take at (key_text k)) [] (lower c) (subst (Each is_key_octet) g.0 front) in
-    no_brace c (key_octet_parts (lower c) o).3
+    each_mid is_key_octet (take at (key_text k)) [] c (subst (Each is_key_octet) g.0 front)
+
+pub goes_octet : (k x : Key) (at c : ℕ) → goes_on k at (lower c) x ≡ true → (c == 123) ≡ false
+goes_octet k x at c e = no_brace c (key_octet_parts (lower c) (goes_key_octet k x at (lower c) e)).3
   where
     no_brace : (c : ℕ) → (lower c == 123) ≡ false → (c == 123) ≡ false
     no_brace c e = grind arith
+
+-- it stands in the words of each place, in either case
+pub goes_in_word : (p : Place) (k x : Key) (at c : ℕ) → goes_on k at (lower c) x ≡ true → in_word p c ≡ true
+goes_in_word p k x at c e =
+    let parts = key_octet_parts (lower c) (goes_key_octet k x at (lower c) e) in
+    of p c (upper_atom c parts.0) (upper_dash c parts.4)
+  where
+    upper_atom : (c : ℕ) → is_atom (lower c) ≡ true → is_atom c ≡ true
+    upper_atom c e = grind arith
+
+    upper_dash : (c : ℕ) → not (lower c == 45) ≡ true → not (c == 45) ≡ true
+    upper_dash c e = grind arith
+
+    of : (p : Place) (c : ℕ) → is_atom c ≡ true → not (c == 45) ≡ true → in_word p c ≡ true
+    of place.Tagged c e f = atom_word c e
+    of place.Plain c e f = atom_word c e
+    of place.Numbered c e f = atom_word c e
+    of place.Item c e f = e
+    of place.Month c e f = and_from (is_atom c) (not (c == 45)) e f
 
 -- ---- a key that is whole
 

@@ -206,7 +206,7 @@ fn goes_on(key: Key, at: u8, c: u16, candidate: Key) -> bool
 
 /// Whether the key itself goes on with the octet.
 #[tactic(auto, using(crate::proofs::KeyLemmas::selves))]
-pub fn goes_on_itself(key: Key, at: usize, c: u16) -> bool
+fn goes_on_itself(key: Key, at: usize, c: u16) -> bool
     ensures { result ≡ keywords.goes_on key at c key }
 {
     let text = key_text(key);

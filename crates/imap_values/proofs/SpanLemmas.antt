@@ -1,9 +1,11 @@
--- Spans, octet by octet.
-use Rattle.std.proofs.Common.{◌≡◌, ℕ, suc, ◌+◌, ◌-◌, ◌*◌, ◌<◌, ◌≤◌, Bool, true, false, List, length, drop, get_or, refl, ◌∙◌, arith}
-use Rattle.std.proofs.lemmas.Bool.{cond-true, cond-false}
-use Rattle.std.proofs.lemmas.List.{drop_all}
+-- Spans, octet by octet, and words of another length than a key.
+use Rattle.std.proofs.Common.{◌≡◌, ℕ, suc, ◌+◌, ◌-◌, ◌*◌, ◌<◌, ◌≤◌, Bool, true, false, List, length, map, drop, get_or, refl, sym, ap, ◌∙◌, arith, bytes_eq}
+use Rattle.std.proofs.lemmas.Bool.{cond-true, cond-false, false_from_ne_true}
+use Rattle.std.proofs.lemmas.List.{drop_all, length-map}
+use Rattle.std.proofs.lemmas.Slice.Eq.{bytes_eq-Decides}
 use Rattle.imap_values.specs.reading.Spans.{span, cap, count_from, all_digits}
-use Rattle.imap_syntax.specs.Octets.{is_digit}
+use Rattle.imap_syntax.specs.Octets.{is_digit, lower}
+use Rattle.imap_keywords.proofs.Texts.{drop_at}
 use Rattle.imap_keywords.proofs.Texts.{drop_at}
 
 pub span_more : (p : ℕ → Bool) (b : List ℕ) (i : ℕ) → i < length b → p (get_or b i 0) ≡ true → span p (drop i b) ≡ 1 + span p (drop (i + 1) b)
@@ -41,3 +43,10 @@ unfolding count_from
 count_end most n b i le = rw (drop_all i b le) refl
 
 pub ruleset runs = (digits_more, digits_stop, digits_end, count_more, count_end)
+
+-- a word of another length is no key
+pub other_length : (w k : List ℕ) → (length w ≡ length k → ⊥) → bytes_eq (map lower w) k ≡ false
+other_length w k ne = false_from_ne_true (bytes_eq (map lower w) k)
+    (λ e. ne (sym (length-map w lower) ∙ ap (length {A = ℕ}) ((bytes_eq-Decides (map lower w) k).0 e)))
+
+pub ruleset keys = (other_length)

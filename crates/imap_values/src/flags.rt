@@ -13,7 +13,7 @@ use std::collections::BTreeSet;
 fn lowered(alloc: Global, name: &[u8]) -> Result<Vec<u8>, AllocError>
     ensures { IfOk result (λ v. v.items ≡ map classes.lower name.now) }
 {
-    let mut out = Vec::new(alloc);
+    let mut out = Vec::with_capacity(alloc, name.len())?;
     for c in name {
         out.push(lower(*c))?;
     }

@@ -186,13 +186,25 @@ pub fn is_sequence(word: &[u8]) -> bool
     is_decimal(word, 10) && is_small(word)
 }
 
-/// Whether the word, whatever the case of its letters, is the key, which is in lower case.
-pub fn is_key(word: &[u8], key: &[u8]) -> bool
+/// Whether the octets, letters in lower case, are the other ones.
+fn is_folded(word: &[u8], key: &[u8]) -> bool
     ensures { result ≡ bytes_eq (map classes.lower word.now) key.now }
 {
     match (word, key) {
         ([], []) => true,
-        ([a, x @ ..], [b, y @ ..]) => lower(*a) == *b && is_key(x, y),
+        ([a, x @ ..], [b, y @ ..]) => lower(*a) == *b && is_folded(x, y),
         _ => false,
+    }
+}
+
+/// Whether the word, whatever the case of its letters, is the key, which is in lower case.
+#[tactic(auto, using(crate::proofs::SpanLemmas::keys))]
+pub fn is_key(word: &[u8], key: &[u8]) -> bool
+    ensures { result ≡ bytes_eq (map classes.lower word.now) key.now }
+{
+    if word.len() == key.len() {
+        is_folded(word, key)
+    } else {
+        false
     }
 }

@@ -25,18 +25,29 @@ fn advance_run<S: Symbol>(stack: &mut Stack<S>, octets: &[u8]) -> usize
     count
 }
 
-/// Takes an octet where it turns the first symbol into one or two. Where it does something else, nothing is changed.
+/// Takes an octet, unless no text goes on so or it ends the last symbol. Where it isn't taken, nothing is changed.
 fn advance_within<S: Symbol>(stack: &mut Stack<S>, c: u16) -> bool
     requires { Ready S.automaton (symbols_of stack.old) }
     ensures taken { result ≡ true → step S.automaton (symbols_of stack.old) c ≡ Some (symbols_of stack.new) }
     ensures left { result ≡ false → symbols_of stack.new ≡ symbols_of stack.old }
-    ensures some { 0 < length (symbols_of stack.old) → 0 < length (symbols_of stack.new) }
+    ensures some { result ≡ true → 0 < length (symbols_of stack.new) }
 {
     S::lawful();
     let Some(symbol) = stack.first() else {
         return false;
     };
     match symbol.rule(c) {
+        Move::Fail => false,
+        Move::Yield => {
+            stack.pop();
+            if advance_within(stack, c) {
+                true
+            } else {
+                stack.push(symbol);
+                false
+            }
+        }
+        Move::End => stack.end_first(),
         Move::One(a) => {
             stack.put(a);
             true
@@ -46,11 +57,10 @@ fn advance_within<S: Symbol>(stack: &mut Stack<S>, c: u16) -> bool
             stack.push(a);
             true
         }
-        _ => false,
     }
 }
 
-/// Takes octets at the front, all outside literals, up to one that ends a symbol or that no text has there: how many they
+/// Takes octets at the front, all outside literals, up to one that ends the text or that no text has there: how many they
 /// are. What they leave is for `advance`.
 pub fn advance_through<S: Symbol>(stack: &mut Stack<S>, octets: &[u8]) -> usize
     requires { Ready S.automaton (symbols_of stack.old) }

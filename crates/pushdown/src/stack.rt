@@ -28,7 +28,7 @@ impl<S: Copy> Clone for Stack<S> {
 impl<S: Copy> Copy for Stack<S> {}
 
 impl<S: Copy> Stack<S> {
-    ghost use Rattle.std.specs.Prelude.{◌≡◌, ◌<◌, drop, List, [], ◌∷◌, length, MatchOption, IsTrue, ◌↔◌};
+    ghost use Rattle.std.specs.Prelude.{◌≡◌, ◌<◌, true, false, drop, List, [], ◌∷◌, length, MatchOption, IsTrue, ◌↔◌};
     ghost use Rattle.pushdown.specs.Symbols.{symbols_of};
 
     /// A stack of one symbol.
@@ -72,6 +72,23 @@ impl<S: Copy> Stack<S> {
         self.fourth = self.fifth;
         self.count -= 1;
         Some(symbol)
+    }
+
+    /// Takes the first symbol off, where another stands after it: whether one does.
+    pub fn end_first(&mut self) -> bool
+        ensures ended { result ≡ true → symbols_of self.new ≡ drop 1 (symbols_of self.old) }
+        ensures some { result ≡ true → 0 < length (symbols_of self.new) }
+        ensures left { result ≡ false → symbols_of self.new ≡ symbols_of self.old }
+    {
+        if self.count < 2 {
+            return false;
+        }
+        self.first = self.second;
+        self.second = self.third;
+        self.third = self.fourth;
+        self.fourth = self.fifth;
+        self.count -= 1;
+        true
     }
 
     /// The symbol that is read first.

@@ -1,25 +1,24 @@
 -- What holds as a VANISHED takes messages out one by one.
-use Rattle.std.proofs.Common.{◌≡◌, ◌≢◌, ℕ, zero, suc, ◌+◌, ◌<◌, ◌≤◌, Bool, true, false, not, ◌&&◌, ◌||◌, List, [], ◌∷◌, ◌++◌, Option, Some, None, Result, Ok, Err, OnOk, length}
-use Rattle.std.proofs.Common.{get_or, take, filter, find}
-use Rattle.std.proofs.Common.{refl, sym, ap, ◌∙◌, subst, arith, leb, le-leb, leb-true, inl, inr, cond, if◌then◌else◌, eqb, eq-eqb, ne_eqb, nat_cmp, is_some}
+use Rattle.std.proofs.Common.{◌≡◌, ℕ, zero, suc, ◌+◌, ◌<◌, ◌≤◌, Bool, true, false, not, ◌&&◌, ◌||◌, List, [], ◌∷◌, ◌++◌, Option, Some, None, Ok, Err, length}
+use Rattle.std.proofs.Common.{get_or, take, find}
+use Rattle.std.proofs.Common.{refl, sym, ap, ◌∙◌, subst, arith, leb, le-leb, inl, inr, cond, if◌then◌else◌, eqb, eq-eqb, ne_eqb, nat_cmp, is_some}
 use Rattle.std.proofs.lemmas.Bool.{lt-leb}
 use Rattle.std.proofs.lemmas.List.{take_more}
 use Rattle.std.specs.BTreeMap.{BTreeMap, get, is_at}
-use Rattle.std.specs.List.{list_any}
 use Rattle.std.specs.Option.{option_map}
 use Rattle.std.specs.declared.alloc.AllocError.{AllocError}
 use Rattle.imap_syntax.specs.declared.uid_set.UidRange.{UidRange}
-use Rattle.told_folder.specs.Folders.{uid_of, held_in, messages_of, mark_in, with_messages}
+use Rattle.told_folder.specs.Folders.{uid_of, held_in, mark_in, with_messages}
 use Rattle.told_folder.specs.Index.{IsIndexed}
 use Rattle.told_folder.specs.Keyed.{AllAbove, Ascends, with_key, cut_keyed}
 use Rattle.told_folder.specs.Tell.{Telling, is_in, covers, without_those}
-use Rattle.told_folder.specs.Work.{telling_of, IsIndexOf, GoesOn, GoesOk, GoesWith}
+use Rattle.told_folder.specs.Work.{telling_of, IsIndexOf, GoesOn, GoesOk}
 use Rattle.told_folder.specs.declared.message.Held.{Held}
 use Rattle.told_folder.specs.declared.message.Message.{Message}
 use Rattle.told_folder.specs.declared.telling.Work.{Work}
 use Rattle.told_folder.proofs.FolderLemmas.{with_twice, held_with}
 use Rattle.told_folder.proofs.IndexLemmas.{mark_of, mark_was, same_or_not, indexed_cut}
-use Rattle.told_folder.proofs.KeyedLemmas.{some_is_not_none, some_same, ascends_cut, found_cut}
+use Rattle.told_folder.proofs.KeyedLemmas.{some_is_not_none, some_same, ascends_cut}
 use Rattle.told_folder.proofs.OpenLemmas.{telling_same, goes_on_to}
 use Rattle.told_folder.proofs.StepLemmas.{without_same}
 use Rattle.told_folder.proofs.VanishLemmas.{found_without, filter_short, head_found, head_passed}

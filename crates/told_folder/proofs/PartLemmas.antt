@@ -1,6 +1,7 @@
 -- What holds of messages of which some stand in a vector, and those after them in a map.
-use Rattle.std.proofs.Common.{◌≡◌, ◌≢◌, ℕ, ◌+◌, ◌<◌, ◌≤◌, zero, suc, Bool, true, false, not, List, [], ◌∷◌, ◌++◌, Option, Some, None, length, get_or, set, take, filter, find, refl}
-use Rattle.std.proofs.Common.{sym, ap, ◌∙◌, subst, arith, inl, inr, cond, if◌then◌else◌, leb, le-leb, ◌&&◌, eq-eqb, ne_eqb, nat_cmp, ltb, lt-ltb, le-ltb, eqb, is_some}
+use Rattle.std.proofs.Common.{◌≡◌, ◌≢◌, ℕ, ◌+◌, ◌<◌, ◌≤◌, zero, suc, Bool, true, false, not, List, [], ◌∷◌, ◌++◌, Option, Some, None, length, get_or, set, take, drop, filter, find}
+use Rattle.std.proofs.Common.{refl}
+use Rattle.std.proofs.Common.{sym, ap, ◌∙◌, subst, arith, inl, inr, cond, if◌then◌else◌, leb, le-leb, ◌&&◌, eq-eqb, ne_eqb, nat_cmp, lt-ltb, le-ltb, eqb, eqb-true, is_some}
 use Rattle.std.proofs.lemmas.Bool.{lt-leb}
 use Rattle.std.proofs.lemmas.List.{append_assoc, append-nil}
 use Rattle.std.proofs.lemmas.List.Folds.{find-append}
@@ -17,7 +18,7 @@ use Rattle.told_folder.specs.Keyed.{AllAbove, Ascends, with_key, put_keyed, cut_
 use Rattle.told_folder.specs.Places.{IsPlace, IsHeldAt}
 use Rattle.told_folder.specs.reading.Parts.{AllKeyed, AllUnder}
 use Rattle.told_folder.specs.declared.message.Message.{Message}
-use Rattle.told_folder.proofs.KeyedLemmas.{lt_same_gt, some_same, some_is_not_none, cut_above, above_more, none_above, held_found}
+use Rattle.told_folder.proofs.KeyedLemmas.{lt_same_gt, some_same, some_is_not_none, cut_above, cut_held, item_at, above_more, none_above, held_found}
 use Rattle.told_folder.proofs.IndexLemmas.{same_or_not, here_at, apart_at}
 
 -- ---- two lists
@@ -398,3 +399,40 @@ put_found u x (y ∷ ys) up e =
           ∙ ap (λ b. if b then x ∷ ys else y ∷ put_keyed uid_of x ys) (ne_eqb _ _ (λ f. omega (arith, key, less, f)))
           ∙ ap (λ zs. y ∷ zs) (put_found u x ys up.1 rest)
     ]
+
+-- ---- changes within the vector
+
+-- a message goes before one that is held
+pub put_inside : (x : Message) (xs ys : List Message) (at : ℕ) → IsPlace uid_of x.uid xs at → at < length xs → ((d : Message) → x.uid ≢ uid_of (get_or xs at d))
+    → put_keyed uid_of x (xs ++ ys) ≡ (take at xs ++ x ∷ drop at xs) ++ ys
+put_inside x [] ys at place w free = absurd (omega arith)
+put_inside x (z ∷ xs) ys zero place w free =
+    let least : x.uid ≤ z.uid = place.from 0 z (omega arith) (omega arith) in
+    let less : x.uid < z.uid = omega (arith, least, free z) in
+    ap (λ b. if b then x ∷ (z ∷ (xs ++ ys)) else (if eqb x.uid z.uid then x ∷ (xs ++ ys) else z ∷ put_keyed uid_of x (xs ++ ys))) (lt-ltb _ _ less)
+put_inside x (z ∷ xs) ys (suc at) place w free =
+    let less : z.uid < x.uid = place.before 0 z (omega arith) in
+    ap (λ b. if b then x ∷ (z ∷ (xs ++ ys)) else (if eqb x.uid z.uid then x ∷ (xs ++ ys) else z ∷ put_keyed uid_of x (xs ++ ys))) (le-ltb _ _ (omega (arith, less)))
+    ∙ ap (λ b. if b then x ∷ (xs ++ ys) else z ∷ put_keyed uid_of x (xs ++ ys)) (ne_eqb _ _ (λ e. omega (arith, e, less)))
+    ∙ ap (λ (zs : List Message). z ∷ zs) (put_inside x xs ys at (record {
+      within = omega (arith, place.within);
+      before = λ i d l. place.before (suc i) d (omega arith);
+      from = λ i d l m. place.from (suc i) d (omega arith) (omega arith);
+    }) (omega arith) free)
+
+above_all : (k : ℕ) (xs ys : List Message) (x : Message) → Ascends uid_of (xs ++ ys) → with_key uid_of k xs ≡ Some x → AllAbove uid_of k ys
+above_all k [] ys x up e = absurd (cc)
+above_all k (z ∷ xs) ys x up e =
+    elim (eqb z.uid k) as (λ b. eqb z.uid k ≡ b → (if b then Some z else with_key uid_of k xs) ≡ Some x → AllAbove uid_of k ys) [
+      | true ↦ λ t f. subst (λ n. AllAbove uid_of n ys) (eqb-true _ _ t) (above_right z.uid xs ys up.0)
+      | false ↦ λ t f. above_all k xs ys x up.1 f
+    ] refl e
+
+-- a message that the first part holds is taken out
+pub cut_inside : (k : ℕ) (xs ys : List Message) (at : ℕ) → IsHeldAt uid_of k xs at → Ascends uid_of (xs ++ ys) → cut_keyed uid_of k (xs ++ ys) ≡ (take at xs ++ drop (suc at) xs)
+    ++ ys
+cut_inside k xs ys at held up =
+    let item = item_at uid_of xs at held.within in
+    let found : with_key uid_of k xs ≡ Some item.0 = sym (held_found uid_of k xs (ascends_left xs ys up) at held item.0 item.1) in
+    filter-append (λ (m : Message). not (eqb m.uid k)) xs ys ∙ ap (λ (zs : List Message). zs ++ cut_keyed uid_of k ys) (cut_held uid_of k xs (ascends_left xs ys up) at held)
+    ∙ ap (λ (zs : List Message). (take at xs ++ drop (suc at) xs) ++ zs) (cut_above uid_of k ys (above_all k xs ys item.0 up found))

@@ -11,7 +11,7 @@ use Rattle.told_folder.specs.Keyed.{last_of}
 use Rattle.told_folder.specs.Select.{is_closed, after_closed, last_told, under}
 use Rattle.told_folder.specs.Tell.{Telling, without_those, tell_responses, AllKnown}
 use Rattle.told_folder.specs.ToldBy.{past, past_told, uid_told, is_told, selected_first, adds, ended_command, telling_in, telling_by}
-use Rattle.told_folder.specs.Work.{telling_of, held_of, GoesOn, Goes, GoesOk, GoesWith, Keeps, StepsOk, Steps, Tells}
+use Rattle.told_folder.specs.Work.{telling_of, held_of, GoesOn, Goes, GoesWith, Keeps, StepsOk, Steps, Tells}
 use Rattle.told_folder.specs.reading.Loops.{closed}
 use Rattle.told_folder.specs.declared.message.Folder.{Folder}
 use Rattle.told_folder.specs.declared.message.Held.{Held}

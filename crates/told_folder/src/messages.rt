@@ -1,9 +1,10 @@
 // A folder's messages while responses are told of them.
 ghost use Rattle.std.specs.BTreeMap.{values};
 ghost use Rattle.std.specs.Option.{option_map, option_copied};
-ghost use Rattle.std.specs.Prelude.{◌≡◌, ◌-◌, None, Some, IfOk, OnOk, OnErr, is_some, find, nat_le, take, vec_len};
+ghost use Rattle.std.specs.Prelude.{◌≡◌, ◌≢◌, ◌<◌, ◌-◌, slice_index_or, None, Some, IfOk, OnOk, OnErr, is_some, find, nat_le, take, vec_len};
 ghost use Rattle.told_folder.specs.Folders.{uid_of};
 ghost use Rattle.told_folder.specs.Keyed.{Ascends, with_key, put_keyed, cut_keyed};
+ghost use Rattle.told_folder.specs.Places.{IsPlace, IsHeldAt};
 ghost use Rattle.told_folder.specs.reading.Parts.{all_of, AllKeyed, AllUnder, IsParted};
 
 use crate::Message;
@@ -13,14 +14,20 @@ use std::alloc::{AllocError, Global};
 use std::collections::BTreeMap;
 use std::marker::Model;
 
-/// Messages by UID. Those from some UID on may stand in a map, so that one more or one less among them costs a
-/// logarithm. A message moves into the map once.
+/// Changes that are made within the vector, before messages move into the map. That many cost about as much as to
+/// move all of them into the map and back.
+const CHANGES_WITHIN: u32 = 16;
+
+/// Messages by UID. The first changes are made within a vector. From then on those from some UID on stand in a map, so
+/// that one more or one less among them costs a logarithm. A message moves into the map once.
 #[derive(Drop)]
 pub struct Messages {
     /// With room for those of the map.
     before: Vec<Message>,
     /// Those after them, by UID.
     after: BTreeMap<u32, Message>,
+    /// How many more changes are made within the vector.
+    within: u32,
 }
 
 impl Model for Messages {
@@ -78,6 +85,44 @@ fn move_from(
     Ok(())
 }
 
+/// Puts a message before one of the vector, in whose place it goes.
+fn put_within(
+    before: &mut Vec<Message>,
+    after: &BTreeMap<u32, Message>,
+    at: usize,
+    message: Message,
+) -> Result<(), AllocError>
+    requires parted { IsParted before.old after.now }
+    requires place { IsPlace uid_of message.uid before.old.items at }
+    requires inside { at < vec_len before.old }
+    requires free { (x : Message) → message.uid ≢ uid_of (slice_index_or before.old.items at x) }
+    ensures parted { IsParted before.new after.now }
+    ensures ok { OnOk result (all_of before.new after.now ≡ put_keyed uid_of message (all_of before.old after.now)) }
+    ensures err { OnErr result (all_of before.new after.now ≡ all_of before.old after.now) }
+{
+    before.reserve(after.len() + 1)?;
+    let Ok(()) = before.insert(at, message) else {
+        unreachable!()
+    };
+    Ok(())
+}
+
+/// Takes the message at a place out of the vector.
+fn cut_within(
+    before: &mut Vec<Message>,
+    after: &BTreeMap<u32, Message>,
+    at: usize,
+    uid: u32,
+) -> Message
+    requires parted { IsParted before.old after.now }
+    requires held { IsHeldAt uid_of uid before.old.items at }
+    ensures parted { IsParted before.new after.now }
+    ensures cut { all_of before.new after.now ≡ cut_keyed uid_of uid (all_of before.old after.now) }
+    ensures message { Some result ≡ with_key uid_of uid (all_of before.old after.now) }
+{
+    before.remove(at)
+}
+
 /// Puts a message behind those of the vector.
 fn put_behind(
     before: &mut Vec<Message>,
@@ -118,6 +163,7 @@ impl Messages {
         Messages {
             before: messages,
             after: BTreeMap::new(alloc),
+            within: CHANGES_WITHIN,
         }
     }
 
@@ -162,9 +208,10 @@ impl Messages {
         }
     }
 
-    /// Gives the message of the UID these flags.
+    /// Gives the message of the UID these flags, where it is held.
     pub fn set_flags(&mut self, uid: u32, flags: Names)
-        ensures { (x : Message) → with_key uid_of uid self.old ≡ Some x → self.new ≡ put_keyed uid_of (record x { flags = flags }) self.old }
+        ensures held { (x : Message) → with_key uid_of uid self.old ≡ Some x → self.new ≡ put_keyed uid_of (record x { flags = flags }) self.old }
+        ensures none { with_key uid_of uid self.old ≡ None → self.new ≡ self.old }
     {
         match index_of(self.before.as_slice(), u64::from(uid)) {
             Ok(at) => {
@@ -185,6 +232,10 @@ impl Messages {
         ensures err { OnErr result (self.new ≡ self.old) }
     {
         let at = place_of(self.before.as_slice(), u64::from(message.uid));
+        if 0 < self.within && at < self.before.len() && self.before[at].uid != message.uid {
+            self.within -= 1;
+            return put_within(&mut self.before, &self.after, at, message);
+        }
         move_from(&mut self.before, &mut self.after, at)?;
         put_behind(&mut self.before, &mut self.after, message)
     }
@@ -196,6 +247,10 @@ impl Messages {
         ensures err { OnErr result (self.new ≡ self.old) }
     {
         let at = place_of(self.before.as_slice(), u64::from(uid));
+        if 0 < self.within && at < self.before.len() && self.before[at].uid == uid {
+            self.within -= 1;
+            return Ok(Some(cut_within(&mut self.before, &self.after, at, uid)));
+        }
         move_from(&mut self.before, &mut self.after, at)?;
         Ok(self.after.remove(&uid))
     }

@@ -1,16 +1,15 @@
 -- What holds of lines that are found by their names.
-use Rattle.std.proofs.Common.{◌≡◌, ◌≢◌, ℕ, ◌+◌, ◌<◌, ◌≤◌, ◌&&◌, ◌||◌, zero, suc, cond, take, get_or, Bool, true, false, not, List, [], ◌∷◌, ◌++◌, Option, Some, None, Vec, Global}
-use Rattle.std.proofs.Common.{length, map, drop, filter, refl, sym, ap, ◌∙◌, subst, arith}
+use Rattle.std.proofs.Common.{◌≡◌, ℕ, ◌+◌, ◌&&◌, zero, suc, cond, Bool, true, false, not, List, [], ◌∷◌, ◌++◌, Option, Some, None, Vec, Global}
+use Rattle.std.proofs.Common.{map, drop, filter, refl, sym, ap, ◌∙◌, subst, arith}
 use Rattle.std.proofs.Common.{eqb, is_some, unwrap_or, if◌then◌else◌, nat_cmp, bytes_eq}
-use Rattle.std.proofs.lemmas.List.{take_more}
 use Rattle.std.proofs.lemmas.Map.Text.{is_eq-slice_cmp}
 use Rattle.std.proofs.lemmas.Slice.Eq.{bytes_eq-Decides}
 use Rattle.std.specs.BTreeMap.{BTreeMap, insert_entry, is_at}
-use Rattle.std.specs.BTreeSet.{BTreeSet, insert_key}
-use Rattle.std.specs.List.{list_any, filter_map, cons_option}
+use Rattle.std.specs.BTreeSet.{insert_key}
+use Rattle.std.specs.List.{filter_map, cons_option}
 use Rattle.std.specs.Map.{lookup, keys_of}
 use Rattle.std.specs.Ordering.{is_eq, match_ordering}
-use Rattle.std.specs.Cmp.Lexicographic.{slice_cmp, pointwise}
+use Rattle.std.specs.Cmp.Lexicographic.{slice_cmp}
 use Rattle.std.specs.Option.{option_and_then}
 use Rattle.std.specs.Prelude.{slice_get}
 use Rattle.std.specs.declared.cmp.Ordering.{Ordering}
@@ -18,9 +17,8 @@ use Rattle.std.specs.declared.cmp.Ordering.TheVariants.{Less, Equal, Greater}
 use Rattle.imap_syntax.specs.declared.response.Response.{Response}
 use Rattle.told_mail.specs.Lists as lists
 use Rattle.told_folder.specs.Keyed.{last_of}
-use Rattle.told_folder.specs.declared.message.Held.{Held}
 use Rattle.told_mail.specs.Lists.{line_of, line_for, names_told, in_order, is_inbox, inbox_first}
-use Rattle.told_mail.specs.Mail.{is_same, named}
+use Rattle.told_mail.specs.Mail.{is_same}
 use Rattle.told_mail.specs.reading.Lines.{StandsAt, AreLinesFrom, is_picked}
 use Rattle.told_mail.specs.reading.Names.{names_in, place_in}
 

@@ -1,34 +1,7 @@
 -- What holds of folders' names, and of the index from names to numbers.
-use Rattle.std.proofs.Common.{
-  ◌≡◌,
-  ◌≢◌,
-  ◌⊎◌,
-  ℕ,
-  ◌<◌,
-  Bool,
-  true,
-  false,
-  not,
-  List,
-  [],
-  ◌∷◌,
-  ◌++◌,
-  Option,
-  Some,
-  None,
-  Vec,
-  Global,
-  length,
-  get_or,
-  set,
-  take,
-  drop,
-  filter,
-  map,
-  zero,
-  suc,
-}
-use Rattle.std.proofs.Common.{refl, sym, ap, ◌∙◌, subst, arith, inl, inr, cond, if◌then◌else◌, eqb, eqb-true, eq-eqb, ne_eqb, is_some, ◌&&◌}
+use Rattle.std.proofs.Common.{◌≡◌, ◌≢◌, ◌⊎◌, ℕ, ◌<◌, Bool, true, false, not, List, [], ◌∷◌, ◌++◌, Option, Some, None, Vec, Global, length, get_or, set, drop, filter, map, zero}
+use Rattle.std.proofs.Common.{suc}
+use Rattle.std.proofs.Common.{refl, sym, ap, ◌∙◌, subst, arith, inl, inr, cond, if◌then◌else◌, eqb, eq-eqb, ne_eqb, is_some}
 use Rattle.std.proofs.lemmas.Map.Keys.{sorted_head, sorted_tail}
 use Rattle.std.proofs.lemmas.Map.Text.{is_eq-slice_cmp}
 use Rattle.std.proofs.lemmas.Slice.Eq.{bytes_eq-Decides}
@@ -54,7 +27,7 @@ use Rattle.told_folder.proofs.IndexLemmas.{same_or_not, inverts_put, inverts_cut
 use Rattle.told_folder.proofs.KeyedLemmas.{some_same, some_is_not_none, found_put, found_cut, ascends_cut, held_found, put_held}
 use Rattle.told_mail.specs.Lists as lists
 use Rattle.told_mail.specs.Mail.{Mail, is_same, named}
-use Rattle.told_mail.specs.reading.Index.{name_in, AreNumbers}
+use Rattle.told_mail.specs.reading.Index.{name_in}
 use Rattle.told_mail.specs.reading.Names.{place_in, AllOther, AreApart, AllFree}
 use Rattle.told_mail.specs.Lists.{is_inbox, inbox_first, listed, put_listed, line_for, with_line, names_told, new_names, new_folder, with_new_folder}
 use Rattle.told_mail.proofs.LineLemmas.{at, at_is, by_items, filter_same, line_name}

@@ -2,7 +2,8 @@
 -- law of this crate.
 use Rattle.std.specs.Prelude.{ℕ, ◌+◌, ◌&&◌, ◌==◌, if◌then◌else◌, List, length, map, take, drop, get_or}
 use Rattle.std.specs.Prelude.{codes, bytes_eq, Option, Some, None, unwrap_or}
-unfoldable pub use Rattle.imap_values.specs.reading.Spans.{span, in_name, cap, count_from, number_from, long_in, number_in, names_in, flags_in, all_digits, is_sequence}
+pub use Rattle.imap_values.specs.reading.Spans.{in_name, cap, number_from, long_in, number_in}
+unfoldable pub use Rattle.imap_values.specs.reading.Spans.{span, count_from, names_in, flags_in, all_digits, is_sequence}
 unfoldable pub use Rattle.imap_values.specs.reading.SetReading.{words_in, range_in, ranges_read, vanished_in}
 use Rattle.imap_grammar.specs.reading.FolderReading.{list_in, status_in}
 use Rattle.imap_syntax.specs.declared.response.Status.{Status}

@@ -1,6 +1,6 @@
 -- Lines of a LIST as the code reads them, and how far a loop over folders has come.
 use Rattle.std.specs.Prelude.{◌≡◌, ◌≢◌, ◌+◌, ◌&&◌, if◌then◌else◌, not, Vec, ℕ, Bool, true, false, List, []}
-use Rattle.std.specs.Prelude.{◌∷◌, ◌++◌, Option, Some, None, map, take, drop, slice_get, Result, OnOk, OnErr, IfOk, is_some}
+use Rattle.std.specs.Prelude.{◌∷◌, ◌++◌, Option, Some, None, take, drop, slice_get, Result, OnOk, OnErr, IfOk, is_some}
 use Rattle.std.specs.BTreeMap.{BTreeMap}
 use Rattle.std.specs.Option.{option_and_then}
 use Rattle.std.specs.declared.alloc.Global.{Global}

@@ -1,5 +1,5 @@
 -- Maps from names to numbers, and names of which each is another.
-use Rattle.std.specs.Prelude.{◌≡◌, Vec, ℕ, Bool, false, List, [], ◌∷◌, Option, None, map}
+use Rattle.std.specs.Prelude.{◌≡◌, Vec, ℕ, false, List, [], ◌∷◌, Option, None, map}
 use Rattle.std.specs.BTreeMap.{BTreeMap, get_by, keys}
 use Rattle.std.specs.Cmp.Lexicographic.{slice_cmp}
 use Rattle.std.specs.Ordering.{nat_cmp}

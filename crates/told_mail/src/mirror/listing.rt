@@ -75,7 +75,7 @@ impl Mirror {
         Ok(())
     }
 
-    /// Takes out the folders that no line tells, with their messages, in one pass.
+    /// Takes out the folders that no line tells, with their messages. No folder is moved more than once.
     fn cut_ended(&mut self, lines: &BTreeMap<Vec<u8>, usize>)
         ensures mail { self.new.mail ≡ record self.old.mail { folders = filter (is_told lines.now) self.old.mail.folders } }
         ensures known { filter (is_told lines.now) self.old.mail.folders ≡ self.old.mail.folders → self.new.changes ≡ self.old.changes }

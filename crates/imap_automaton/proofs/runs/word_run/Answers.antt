@@ -1,10 +1,11 @@
-use Rattle.std.proofs.Common.{◌≡◌, ℕ, ◌+◌, take, get_or, refl, sym, subst, ◌∙◌, arith}
-use Rattle.std.proofs.lemmas.Bool.{and_parts}
+use Rattle.std.proofs.Common.{◌≡◌, ℕ, ◌+◌, true, ◌&&◌, List, length, take, get_or, refl, sym, ap, subst, ◌∙◌, arith}
+use Rattle.std.specs.Prelude.{◌==◌, nat_lt}
+use Rattle.std.proofs.lemmas.Bool.{and_from}
 use Rattle.imap_automaton.specs.declared.sym.Sym.TheVariants as sym
-use Rattle.imap_keywords.specs.Keys.{in_word, goes_on}
+use Rattle.imap_keywords.specs.Keys.{key_text, goes_on}
 use Rattle.imap_automaton.specs.Responses.{responses}
 use Rattle.pushdown.specs.Run.{LeadsTo}
-use Rattle.imap_keywords.proofs.KeyLemmas.{goes_to}
+use Rattle.imap_keywords.proofs.KeyLemmas.{self_same, goes_to, goes_in_word}
 use Rattle.pushdown.proofs.Leading.{runs_none, runs_more}
 use Rattle.imap_automaton.proofs.RunLemmas.{word_stays}
 use Rattle.imap_automaton.proofs.runs.word_run.Goals as goal
@@ -26,11 +27,14 @@ loop-count-preserved c =
     let at = c.args.at + count in
     let octet = get_or c.args.octets.now count 0 in
     let word = sym.Word c.args.place c.args.key in
-    let p = and_parts (in_word c.args.place octet) (goes_on c.args.key at (lower octet) c.args.key) (sym c.takes.ensures ∙ c.if-takes.true) in
-    let next = goes_to c.args.key c.args.key at (lower octet) p.1 in
+    let key = key_text c.args.key in
+    let text : (nat_lt at (length key) && get_or key at 0 == lower octet) ≡ true =
+    ap (λ (t : List ℕ). nat_lt at (length t) && get_or t at 0 == lower octet) (sym c.key_text-text.ensures) ∙ sym c.goes_with.ensures ∙ c.if-goes_with.true in
+    let on : goes_on c.args.key at (lower octet) c.args.key ≡ true = and_from _ _ text (self_same (take at key)) in
+    let next = goes_to c.args.key c.args.key at (lower octet) on in
     let same : at + 1 ≡ c.args.at + (count + 1) = omega arith in
     let more = runs_more responses (word c.args.at) (word at) (word (at + 1)) c.args.octets.now count octet (omega arith) refl c.loop-count.invariant.run
-    (word_stays c.args.place c.args.key at octet p.0 p.1) in
+    (word_stays c.args.place c.args.key at octet (goes_in_word c.args.place c.args.key c.args.key at octet on) on) in
     record {
       within = omega arith;
       key = omega (arith, next.1);

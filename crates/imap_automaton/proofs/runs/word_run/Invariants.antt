@@ -8,8 +8,8 @@ use Rattle.imap_automaton.proofs.runs.word_run.Given as goal
 abbrev pub invariant-loop-count : goal.invariant-loop-count
 invariant-loop-count l = record {
   within : l.count ≤ length l.octets;
-  key : l.at + l.count ≤ length (keywords.key_text l.key);
-  run : LeadsTo responses (sym.Word l.place l.key l.at) (take l.count l.octets) (sym.Word l.place l.key (l.at + l.count));
+  key : l.at + l.count ≤ length (keywords.key_text l.fn.key);
+  run : LeadsTo responses (sym.Word l.fn.place l.fn.key l.at) (take l.count l.octets) (sym.Word l.fn.place l.fn.key (l.at + l.count));
 }
 
 abbrev pub decreases-loop-count : goal.decreases-loop-count

@@ -1,6 +1,7 @@
 use Rattle.std.proofs.Common.{◌≡◌, drop}
+use Rattle.told_mail.specs.Exchanges.{last_told}
 use Rattle.imap_client.specs.Rounds as rounds
 use Rattle.imap_client.proofs.round.last_uid_next.Given as goal
 
 abbrev pub invariant-loop-response : goal.invariant-loop-response
-invariant-loop-response l = rounds.last_uid_next l.last (drop l.response-index l.responses) ≡ rounds.last_uid_next 0 l.responses
+invariant-loop-response l = last_told rounds.uid_next_in l.last (drop l.response-index l.responses) ≡ last_told rounds.uid_next_in 0 l.responses

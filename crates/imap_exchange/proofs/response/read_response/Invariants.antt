@@ -9,7 +9,7 @@ use Rattle.imap_exchange.proofs.response.read_response.Given as goal
 abbrev pub invariant-reading : goal.invariant-reading
 invariant-reading g l =
     record {
-      tape : Adds (g.L.Taped.tape l.fn.link) (g.L.Taped.tape l.link) (λ es. (gave : List ℕ) × GainsOctets l.fn.received l.received gave es);
+      tape : Adds (g.L.Taped.tape l.fn.link) (g.L.Taped.tape l.link) (λ es. (gave : List ℕ) × GainsOctets l.begun l.fn.received l.received gave es);
       fed : IsScannerFed l.scanner (take l.fed l.received.octets);
       within : l.fed ≤ length l.received.octets;
       room : room_left l.received ≡ room_left l.fn.received;

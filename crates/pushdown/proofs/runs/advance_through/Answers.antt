@@ -68,5 +68,5 @@ loop-count-preserved g c =
       within = omega arith;
       run = run_more machine first after left octets (count + more) octet (omega arith) refl on taken;
       ready = ready_keeps machine laws after octet left ready taken;
-      some = λ h. c.advance_within.ensures.some (let k = c.loop-count.invariant.some h in omega (arith, k, c.advance_run-count.ensures.number));
+      some = λ h. c.advance_within.ensures.some c.if-not-advance_within.false;
     }

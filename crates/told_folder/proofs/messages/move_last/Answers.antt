@@ -1,5 +1,4 @@
-use Rattle.std.proofs.Common.{◌≡◌, ◌≤◌, ◌∙◌, List, Option, Some, None, ap, sym, subst, arith, if◌then◌else◌, is_some}
-use Rattle.std.specs.BTreeMap.{values}
+use Rattle.std.proofs.Common.{List, sym, subst, arith}
 use Rattle.told_folder.specs.Folders.{uid_of}
 use Rattle.told_folder.specs.Keyed.{Ascends}
 use Rattle.told_folder.specs.reading.Parts.{AllKeyed}

@@ -1,4 +1,4 @@
-use Rattle.std.proofs.Common.{◌≡◌, ◌∙◌, ℕ, List, refl, sym, ap, arith, true, false, Bool}
+use Rattle.std.proofs.Common.{◌≡◌, ◌∙◌, ℕ, List, refl, sym, ap, arith, true, false}
 use Rattle.std.proofs.lemmas.Result.{err_from_is_err_and}
 use Rattle.told_folder.specs.Folders.{uid_of}
 use Rattle.told_folder.specs.Keyed.{put_keyed}
@@ -33,7 +33,7 @@ returns c = λ x found. record {
   };
   marks = refl;
   next_mark = refl;
-  told = c.set_flags.ensures x found ∙ ap (λ (fs : List (List ℕ)). put_keyed uid_of (record x { flags = fs }) c.args.work.now.messages) c.in_ok-flags.ensures;
+  told = c.set_flags.ensures.held x found ∙ ap (λ (fs : List (List ℕ)). put_keyed uid_of (record x { flags = fs }) c.args.work.now.messages) c.in_ok-flags.ensures;
   err = tt;
   known = λ e. absurd (true_is_not_false true (sym ((c.is_flagged.ensures x found).1 e) ∙ c.if-is_flagged.false));
 }

@@ -1,7 +1,5 @@
-use Rattle.std.proofs.Common.{◌≡◌, ◌<◌, List, Some, ap, sym, ◌∙◌, subst, length, is_some, arith}
+use Rattle.std.proofs.Common.{◌<◌, List, ap, sym, subst, length, is_some}
 use Rattle.std.proofs.lemmas.Result.{err_from_is_err_and}
-use Rattle.told_folder.specs.Folders.{uid_of}
-use Rattle.told_folder.specs.Keyed.{cut_keyed}
 use Rattle.told_folder.specs.Tell.{Telling, is_in}
 use Rattle.told_folder.specs.declared.message.Message.{Message}
 use Rattle.told_folder.proofs.LostLemmas.{losing_none, losing_more, losing_all, losing_fails, found_of, cut_shorter}

@@ -1,4 +1,4 @@
-use Rattle.std.proofs.Common.{◌≡◌, ◌∙◌, ◌<◌, ◌++◌, ◌∷◌, ◌+◌, ℕ, Bool, true, false, List, ap, sym, subst, arith, filter, take, drop, length}
+use Rattle.std.proofs.Common.{◌≡◌, ◌∙◌, ◌<◌, ◌++◌, ◌∷◌, ◌+◌, ℕ, Bool, true, false, List, sym, subst, arith, filter, take, drop, length}
 use Rattle.told_folder.specs.declared.message.Held.{Held}
 use Rattle.told_mail.specs.reading.Index.{IsMirror}
 use Rattle.told_mail.specs.reading.Lines.{is_told}

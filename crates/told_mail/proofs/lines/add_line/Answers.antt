@@ -1,4 +1,4 @@
-use Rattle.std.proofs.Common.{◌≡◌, ◌∙◌, ℕ, List, Vec, Global, map, ap, unwrap_or}
+use Rattle.std.proofs.Common.{◌∙◌, ℕ, List, Vec, Global, map, ap, unwrap_or}
 use Rattle.std.specs.Map.{lookup, keys_of}
 use Rattle.told_mail.specs.reading.Names.{place_in}
 use Rattle.told_mail.proofs.LineLemmas.{names_put, place_put, place_kept, at}

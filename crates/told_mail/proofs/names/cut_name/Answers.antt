@@ -1,4 +1,4 @@
-use Rattle.std.proofs.Common.{◌≡◌, ◌∙◌, ℕ, List, Vec, Global, ap}
+use Rattle.std.proofs.Common.{◌∙◌, ℕ, List, Vec, Global, ap}
 use Rattle.std.specs.Map.{lookup}
 use Rattle.told_mail.proofs.LineLemmas.{at}
 use Rattle.told_mail.proofs.NameLemmas.{place_cut}

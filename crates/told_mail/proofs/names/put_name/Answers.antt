@@ -1,4 +1,4 @@
-use Rattle.std.proofs.Common.{◌≡◌, ◌∙◌, ℕ, List, Vec, Global, ap, Some, if◌then◌else◌}
+use Rattle.std.proofs.Common.{◌∙◌, ℕ, List, Vec, Global, ap, Some, if◌then◌else◌}
 use Rattle.std.specs.Map.{lookup}
 use Rattle.told_mail.specs.Mail.{is_same}
 use Rattle.told_mail.specs.reading.Names.{place_in}

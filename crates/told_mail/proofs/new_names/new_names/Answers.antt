@@ -1,4 +1,4 @@
-use Rattle.std.proofs.Common.{◌≡◌, ◌∙◌, ◌++◌, true, false, not, is_some, ℕ, List, ap, sym, subst, filter}
+use Rattle.std.proofs.Common.{◌∙◌, ◌++◌, true, false, not, is_some, ℕ, List, ap, sym, subst, filter}
 use Rattle.told_mail.specs.reading.Lines.{is_picked}
 use Rattle.told_mail.specs.reading.Names.{names_in, place_in, AreApart}
 use Rattle.told_mail.proofs.LineLemmas.{picked}

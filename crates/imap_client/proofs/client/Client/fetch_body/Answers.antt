@@ -1,6 +1,5 @@
-use Rattle.std.proofs.Common.{refl, ap, ◌∙◌}
+use Rattle.std.proofs.Common.{refl, ◌∙◌}
 use Rattle.gate_world.proofs.Joins.{widen}
-use Rattle.told_mail.specs.Told.{Told}
 use Rattle.imap_client.specs.Bodies.{body_begun}
 use Rattle.imap_client.proofs.RoundSteps.{body_ended, body_fetched, body_stops, done_has_body}
 use Rattle.imap_client.proofs.client.Client.fetch_body.Goals as goal
@@ -8,24 +7,20 @@ use Rattle.imap_client.proofs.client.Client.fetch_body.Goals as goal
 pub returns-in-Err-clause-tape : goal.returns-in-Err-clause-tape
 returns-in-Err-clause-tape g c =
     widen _ c.in-Err.ensures.tape (λ x so life stands.
-    let f = so life stands in (
-      f.0,
-      body_ended c.in-Err.end c.args.folder c.args.uid c.args.mirror.now.mail c.follow-result.new.plan.mirror.mail
-          (record { stage = c.begun-stage.result; mirror = c.replace.result; folder = c.args.folder; uid = c.args.uid }) c.follow-result.new.plan refl refl
-          (c.begun-stage.ensures ∙ (λ i. body_begun ((c.selected.ensures ∙ stands.selected_is) i) (c.folder.ensures i)))
-          (ap (λ (t : Told). t.mail) c.replace.ensures.value) refl f.1,
-    ))
+    let f = so life stands in
+    let b = body_ended c.in-Err.end c.args.folder c.args.uid c.args.mirror.now c.follow-result.new.plan.mirror
+    (record { stage = c.begun-stage.result; mirror = c.replace.result; folder = c.args.folder; uid = c.args.uid }) c.follow-result.new.plan refl refl
+    (c.begun-stage.ensures ∙ (λ i. body_begun ((c.selected.ensures ∙ stands.selected_is) i) (c.folder.ensures i))) c.replace.ensures.value refl f.1 in
+    (f.0, b.0, b.1))
 
 pub returns-in-Ok-clause-tape : goal.returns-in-Ok-clause-tape
 returns-in-Ok-clause-tape g c =
     widen _ c.in-Ok.ensures.tape (λ x so life stands.
-    let f = so life stands in (
-      f.0,
-      body_fetched c.body_at.result c.args.folder c.args.uid c.args.mirror.now.mail c.follow-result.new.plan.mirror.mail
-          (record { stage = c.begun-stage.result; mirror = c.replace.result; folder = c.args.folder; uid = c.args.uid }) c.follow-result.new.plan refl refl
-          (c.begun-stage.ensures ∙ (λ i. body_begun ((c.selected.ensures ∙ stands.selected_is) i) (c.folder.ensures i)))
-          (ap (λ (t : Told). t.mail) c.replace.ensures.value) refl c.body_at.ensures f.1,
-    ))
+    let f = so life stands in
+    let b = body_fetched c.body_at.result c.args.folder c.args.uid c.args.mirror.now c.follow-result.new.plan.mirror
+    (record { stage = c.begun-stage.result; mirror = c.replace.result; folder = c.args.folder; uid = c.args.uid }) c.follow-result.new.plan refl refl
+    (c.begun-stage.ensures ∙ (λ i. body_begun ((c.selected.ensures ∙ stands.selected_is) i) (c.folder.ensures i))) c.replace.ensures.value refl c.body_at.ensures f.1 in
+    (f.0, b.0, b.1))
 
 pub returns-in-Ok-clause-alive : goal.returns-in-Ok-clause-alive
 returns-in-Ok-clause-alive g c = c.in-Ok.ensures.alive (body_stops _ _ _)

@@ -1,4 +1,4 @@
-use Rattle.std.proofs.Common.{refl, ap, subst}
+use Rattle.std.proofs.Common.{refl, subst}
 use Rattle.gate_world.proofs.Joins.{widen}
 use Rattle.told_mail.specs.Told.{Told}
 use Rattle.imap_client.specs.declared.round.RoundStage.TheVariants as stage
@@ -9,11 +9,11 @@ use Rattle.imap_client.proofs.client.Client.round.Goals as goal
 
 pub returns-clause-tape : goal.returns-clause-tape
 returns-clause-tape g c =
-    widen _ c.follow-result.ensures.tape (λ x so life stands. let f = so life stands in (
-      f.0,
-      rounded c.args.mirror.now.mail c.follow-result.new.plan.mirror.mail (record { stage = stage.Listing; mirror = c.replace.result }) c.follow-result.new.plan refl
-          (ap (λ (t : Told). t.mail) c.replace.ensures.value) refl f.1,
-    ))
+    widen _ c.follow-result.ensures.tape (λ x so life stands.
+    let f = so life stands in
+    let r = rounded c.args.mirror.now c.follow-result.new.plan.mirror (record { stage = stage.Listing; mirror = c.replace.result }) c.follow-result.new.plan refl
+    c.replace.ensures.value refl f.1 in
+    (f.0, r.0, r.1))
 
 pub returns-clause-alive : goal.returns-clause-alive
 returns-clause-alive g c = on_ok c.follow-result.result (λ alive. alive (round_stops _)) c.follow-result.ensures.alive

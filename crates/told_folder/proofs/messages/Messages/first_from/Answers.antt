@@ -1,4 +1,4 @@
-use Rattle.std.proofs.Common.{◌≡◌, ◌<◌, ◌≤◌, ◌∙◌, List, ap, sym, length, find, leb, arith, ◌++◌}
+use Rattle.std.proofs.Common.{◌<◌, ◌≤◌, ◌∙◌, List, ap, sym, length, arith}
 use Rattle.std.specs.BTreeMap.{values}
 use Rattle.std.specs.Option.{option_map}
 use Rattle.told_folder.specs.Folders.{uid_of}

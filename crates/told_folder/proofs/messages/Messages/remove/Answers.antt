@@ -1,4 +1,4 @@
-use Rattle.std.proofs.Common.{◌≡◌, ◌∙◌, ℕ, List, ap, sym, subst, arith}
+use Rattle.std.proofs.Common.{◌≡◌, ◌∙◌, List, ap, sym, subst, arith}
 use Rattle.std.specs.BTreeMap.{values}
 use Rattle.told_folder.specs.Folders.{uid_of}
 use Rattle.told_folder.specs.Keyed.{Ascends, with_key, cut_keyed}

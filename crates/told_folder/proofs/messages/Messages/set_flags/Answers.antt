@@ -1,4 +1,4 @@
-use Rattle.std.proofs.Common.{◌≡◌, ◌∙◌, ℕ, List, Some, None, ap, sym, subst, set, arith, nat_cmp, length}
+use Rattle.std.proofs.Common.{◌≡◌, ◌∙◌, List, Some, None, ap, sym, subst, arith, nat_cmp}
 use Rattle.std.specs.BTreeMap.{values, is_at}
 use Rattle.std.specs.Map.{lookup, values_of}
 use Rattle.told_folder.specs.Folders.{uid_of}
@@ -45,8 +45,8 @@ invariant_of-self-in-Some c =
       room = omega (arith, written.2, c.self.invariant.room);
     }
 
-pub returns-in-Ok : goal.returns-in-Ok
-returns-in-Ok c = λ x found.
+pub returns-in-Ok-clause-held : goal.returns-in-Ok-clause-held
+returns-in-Ok-clause-held c = λ x found.
     let xs : List Message = c.self.inside.before.items in
     let vs : List Message = values c.self.inside.after in
     let held : IsHeldAt uid_of c.args.uid xs c.in-Ok.at = rw (c.as_slice.ensures.value, c.from.ensures) at c.in-Ok.ensures in
@@ -55,8 +55,8 @@ returns-in-Ok c = λ x found.
     (ap (λ (zs : List Message). with_key uid_of c.args.uid zs) all ∙ found)
     ∙ ap (λ (zs : List Message). put_keyed uid_of (record x { flags = c.args.flags }) zs) all
 
-pub returns-in-Some : goal.returns-in-Some
-returns-in-Some c = λ x found.
+pub returns-in-Some-clause-held : goal.returns-in-Some-clause-held
+returns-in-Some-clause-held c = λ x found.
     let xs : List Message = c.self.inside.before.items in
     let es = c.self.inside.after.entries in
     let all : all_of c.self.inside.before c.self.inside.after ≡ c.args.self.now = c.self.view_is in
@@ -65,8 +65,8 @@ returns-in-Some c = λ x found.
     (ap (λ (zs : List Message). with_key uid_of c.args.uid zs) all ∙ found)
     ∙ ap (λ (zs : List Message). put_keyed uid_of (record x { flags = c.args.flags }) zs) all
 
-pub returns-in_default : goal.returns-in_default
-returns-in_default c = λ x found.
+pub returns-in_default-clause-held : goal.returns-in_default-clause-held
+returns-in_default-clause-held c = λ x found.
     let xs : List Message = c.self.inside.before.items in
     let es = c.self.inside.after.entries in
     let free : IsFreeAt uid_of c.args.uid xs c.in-Err.field-0 = rw (c.as_slice.ensures.value, c.from.ensures) at c.in-Err.ensures in
@@ -74,3 +74,22 @@ returns-in_default c = λ x found.
     let right : with_key uid_of c.args.uid (values_of es) ≡ None = sym (looked_up c.args.uid es c.self.invariant.keyed) ∙ sym c.in_default.ensures.value in
     let all : all_of c.self.inside.before c.self.inside.after ≡ c.args.self.now = c.self.view_is in
     absurd (some_is_not_none x (sym found ∙ ap (λ (zs : List Message). with_key uid_of c.args.uid zs) (sym all) ∙ found_right c.args.uid xs (values_of es) left ∙ right))
+
+pub returns-in-Ok-clause-none : goal.returns-in-Ok-clause-none
+returns-in-Ok-clause-none c = λ none.
+    let xs : List Message = c.self.inside.before.items in
+    let vs : List Message = values c.self.inside.after in
+    let held : IsHeldAt uid_of c.args.uid xs c.in-Ok.at = rw (c.as_slice.ensures.value, c.from.ensures) at c.in-Ok.ensures in
+    let all : all_of c.self.inside.before c.self.inside.after ≡ c.args.self.now = c.self.view_is in
+    let found = found_self c.args.uid xs vs c.in-Ok.at held c.self.invariant.ascends c.index_mut-message.result.now c.index_mut-message.ensures.value in
+    absurd (some_is_not_none _ (sym found ∙ ap (λ (zs : List Message). with_key uid_of c.args.uid zs) all ∙ none))
+
+pub returns-in-Some-clause-none : goal.returns-in-Some-clause-none
+returns-in-Some-clause-none c = λ none.
+    let xs : List Message = c.self.inside.before.items in
+    let es = c.self.inside.after.entries in
+    let y : Message = c.in-Some.message.now in
+    let all : all_of c.self.inside.before c.self.inside.after ≡ c.args.self.now = c.self.view_is in
+    let found : with_key uid_of c.args.uid (values_of es) ≡ Some y = sym (looked_up c.args.uid es c.self.invariant.keyed) ∙ sym c.in-Some.ensures.value in
+    let whole = found_right c.args.uid xs (values_of es) (none_under c.args.uid xs (under_found c.args.uid xs (values_of es) y c.self.invariant.ascends found)) ∙ found in
+    absurd (some_is_not_none _ (sym whole ∙ ap (λ (zs : List Message). with_key uid_of c.args.uid zs) all ∙ none))

@@ -1,4 +1,4 @@
-use Rattle.std.proofs.Common.{◌≡◌, ℕ, sym, ◌∙◌}
+use Rattle.std.proofs.Common.{sym, ◌∙◌}
 use Rattle.told_folder.proofs.KeyedLemmas.{some_same}
 use Rattle.told_mail.proofs.NameLemmas.{names_differ}
 use Rattle.told_mail.proofs.mirror.Mirror.each_is_mail.Goals as goal

@@ -1,4 +1,4 @@
-use Rattle.std.proofs.Common.{◌≡◌, ◌∙◌, ℕ, List, Some, None, ap, sym}
+use Rattle.std.proofs.Common.{◌≡◌, ◌∙◌, List, None, ap, sym}
 use Rattle.std.specs.Option.{option_map}
 use Rattle.told_folder.specs.Places.{IsHeldAt, IsFreeAt}
 use Rattle.told_folder.specs.Folders.{folder_number, held_in}

@@ -1,4 +1,4 @@
-use Rattle.std.proofs.Common.{◌≡◌, ◌∙◌, ◌++◌, List, [], ◌∷◌, ap, sym}
+use Rattle.std.proofs.Common.{◌∙◌, ◌++◌, List, [], ◌∷◌, ap}
 use Rattle.told_folder.specs.declared.message.Held.{Held}
 use Rattle.told_mail.proofs.ToldLemmas.{pushed}
 use Rattle.told_mail.proofs.mirror.Mirror.push_folder.Goals as goal

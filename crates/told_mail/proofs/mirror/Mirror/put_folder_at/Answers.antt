@@ -1,11 +1,10 @@
-use Rattle.std.proofs.Common.{arith, ◌≡◌, List, [], None, ap, sym, ◌∙◌, ◌++◌, ◌∷◌, subst, refl, take, drop}
+use Rattle.std.proofs.Common.{arith, ◌≡◌, List, [], None, ap, sym, ◌∙◌, ◌++◌, ◌∷◌, refl, take, drop}
 use Rattle.told_folder.specs.Places.{IsFreeAt}
 use Rattle.told_folder.specs.Keyed.{put_keyed}
 use Rattle.told_folder.specs.Folders.{folder_number, held_in, messages_of}
 use Rattle.told_folder.specs.declared.message.Held.{Held}
 use Rattle.told_folder.specs.declared.message.Message.{Message}
 use Rattle.told_folder.proofs.KeyedLemmas.{free_found}
-use Rattle.told_mail.specs.reading.Index.{IsMirror}
 use Rattle.told_mail.proofs.NameLemmas.{unused_name}
 use Rattle.told_mail.proofs.ToldLemmas.{mail_same, folder_put, mirror_put}
 use Rattle.told_mail.proofs.mirror.Mirror.put_folder_at.Goals as goal
