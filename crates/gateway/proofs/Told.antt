@@ -9,7 +9,7 @@ use Rattle.gate_serving.specs.Complete.{CompletesRun}
 use Rattle.gate_serving.specs.Requests.{Account}
 use Rattle.gate_serving.specs.Run.{account_of}
 use Rattle.gate_serving.proofs.Told.{ToldLaw}
-use Rattle.gateway.specs.Complete.{IsTaskObeyed, IsTaskTold, CompletesServing}
+use Rattle.gateway.specs.Complete.{IsTaskTold, CompletesServing}
 use Rattle.gateway.specs.Program.{Performed, Unopened, ServedMany, ServedOnce, ShownOne, Explained, Refused, OutOfMemory, Done}
 
 abbrev pub RunsLaw : Type 0
