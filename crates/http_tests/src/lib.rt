@@ -13,5 +13,3 @@ mod cut_requests;
 mod heads;
 #[cfg(test)]
 mod responses;
-#[cfg(test)]
-mod routes;
