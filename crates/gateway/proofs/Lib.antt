@@ -1,5 +1,6 @@
 mod Quiet
 mod Showing
+mod Explaining
 mod CompletingShow
 mod Performing
 mod Told
