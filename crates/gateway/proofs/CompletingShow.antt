@@ -72,8 +72,8 @@ sent_told : (outcome : Result (Unit {0}) FrontError) (status : ℕ) (answered sa
 sent_told outcome status answered said shown events a (Err e) sends is well ends events_are shown_is = absurd (ends_badly outcome status said is well ends)
 sent_told outcome status answered said shown events a (Ok u) sends is well ends events_are shown_is =
     let input : Input = a.reads.0 in
-    let gives : GivesInput 50000000 (Ok input) a.reading = a.reads.1.0 in
-    let object : ShowsObject (input_octets input) a.line = a.reads.1.1 in
+    let gives : GivesInput 50000000 (Ok input) a.reading = a.reads.1 in
+    let object : ShowsObject (input_octets input) a.line = a.reads.2 in
     let all = shown_events answered said shown events events_are (ends_shown outcome status said is ends) shown_is in
     let gave = octets_within client_gave_in answered events refl refl all
     ∙ parts client_gave_in answered a.reading a.heard (input_octets input) [] a.whole (gives_gave 50000000 input a.reading gives) (heard_gave_client a.heard sends.kind)

@@ -1,5 +1,5 @@
 // The top call: from the words of the command to the status of the program.
-ghost use Rattle.std.specs.Prelude.{◌≡◌, ◌⊎◌, map, string_bytes, List};
+ghost use Rattle.std.specs.Prelude.{◌≡◌, ◌⊎◌, ℕ, map, string_bytes, List};
 ghost use Rattle.gate_world.specs.Causes.{Rose, Later, SayAlone};
 ghost use Rattle.gate_world.specs.Tape.{Adds};
 ghost use Rattle.gate_words.specs.Pages.{page_text};
