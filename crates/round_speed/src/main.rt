@@ -6,7 +6,7 @@
 mod made;
 mod store_octets;
 
-use gate_host::{HostWorld, StandardFront};
+use gate_host::{Host, HostWorld, StandardFront};
 use gate_world::{Bytes, Link, Secrets, Text, Unread};
 use imap_client::Client;
 use made::MadeLink;

@@ -36,7 +36,8 @@ struct Row {
 
 const EMPTY: &[u8] = b"Content-Length: 0\r\n\r\n";
 
-const NOT_JSON: &[u8] = b"Content-Length: 58\r\nContent-Type: application/problem+json\r\n\r\n{\"status\":400,\"type\":\"urn:ietf:params:jmap:error:notJSON\"}";
+const NOT_JSON: &[u8] =
+    b"Content-Length: 58\r\nContent-Type: application/problem+json\r\n\r\n{\"status\":400,\"type\":\"urn:ietf:params:jmap:error:notJSON\"}";
 
 const ROWS: [Row; 11] = [
     // refusals in their order: the token before the path, the path before the method
@@ -165,7 +166,9 @@ fn taken_by(
     clients: &[&[u8]],
     fails: u64,
 ) -> Result<(u8, Bytes), Fail> {
-    let mut script = Script::new(alloc)?.with_word(31)?.with_secrets(b"pw", b"secret")?;
+    let mut script = Script::new(alloc)?
+        .with_word(31)?
+        .with_secrets(b"pw", b"secret")?;
     for link in links {
         script = script.with_link(link)?;
     }
