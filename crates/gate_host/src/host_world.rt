@@ -7,37 +7,37 @@ ghost use Rattle.gate_host.specs.Dialing.{Connects};
 ghost use Rattle.gate_host.specs.Faults.{one_more};
 ghost use Rattle.gate_host.specs.Streams.{known_of};
 
-use crate::{ErrorConsole, Host, StandardFront, TcpLink, random_word};
+use crate::{Clients, ErrorConsole, Host, TcpLink, random_word};
 use gate_world::{Bytes, Chance, Console, Failed, Front, Link, Secrets, Taped, Text, World};
 
-/// A world on a host: the store over TCP, the client over the standard streams. It tells no tape.
+/// A world on a host: the store over TCP, and clients. It tells no tape.
 #[derive(Drop)]
-pub struct HostWorld<H: Host> {
+pub struct HostWorld<H: Host, C: Clients> {
     host: H,
     /// The store.
     pub link: TcpLink<H>,
-    /// The client.
-    pub front: StandardFront<H::Input, H::Output>,
+    /// The clients.
+    pub front: C,
     /// Where whoever runs the program is told something.
     pub console: ErrorConsole<H::Errors>,
     password: Bytes,
     token: Bytes,
 }
 
-impl<H: Host> HostWorld<H> {
+impl<H: Host, C: Clients> HostWorld<H, C> {
     /// A world in which nothing has happened: it has dialed nobody and accepted nobody.
-    pub fn new(host: H, store: Text, password: Bytes, token: Bytes) -> HostWorld<H>
-        ensures faults { ⟦<HostWorld<H> as Taped>⟧.faults result ≡ record { link = 0; keep = 0; front = 0; say = 0 } }
-        ensures hidden { ⟦<HostWorld<H> as Taped>⟧.hidden result ≡ record { password = password; token = token } }
+    pub fn new(host: H, store: Text, front: C, password: Bytes, token: Bytes) -> HostWorld<H, C>
+        ensures faults { ⟦<HostWorld<H, C> as Taped>⟧.faults result ≡ record { link = 0; keep = 0; front = C.client_faults front; say = 0 } }
+        ensures hidden { ⟦<HostWorld<H, C> as Taped>⟧.hidden result ≡ record { password = password; token = token } }
         ensures undialed { IsNone result.link.stream }
         ensures dialer { result.link.dialer ≡ host }
         ensures store { result.link.store ≡ store }
-        ensures no_client { result.front.has_come ≡ false }
+        ensures front { result.front ≡ front }
     {
         HostWorld {
             host,
             link: TcpLink::new(host, store),
-            front: StandardFront::new(host.input(), host.output()),
+            front,
             console: ErrorConsole::new(host.errors()),
             password,
             token,
@@ -45,16 +45,16 @@ impl<H: Host> HostWorld<H> {
     }
 }
 
-impl<H: Host> Taped for HostWorld<H> {
+impl<H: Host, C: Clients> Taped for HostWorld<H, C> {
     ghost tape = { λ _. None };
 
-    ghost faults = { λ w. record { link = w.link.faults; keep = 0; front = w.front.faults; say = w.console.faults } };
+    ghost faults = { λ w. record { link = w.link.faults; keep = 0; front = C.client_faults w.front; say = w.console.faults } };
 
     ghost hidden = { λ w. record { password = w.password; token = w.token } };
 }
 
 // Each call goes to its part, and leaves the others as they were.
-impl<H: Host> Link for HostWorld<H> {
+impl<H: Host, C: Clients> Link for HostWorld<H, C> {
     fn dial(&mut self) -> Result<(), Failed>
         ensures connects { Connects (H.looks_up self.old.link.dialer) (H.dials self.old.link.dialer) PATIENCE_SECONDS self.old.link.store self.new.link.stream }
         ensures ok { OnOk result (IsSome self.new.link.stream) }
@@ -96,41 +96,55 @@ impl<H: Host> Link for HostWorld<H> {
     }
 }
 
-impl<H: Host> Front for HostWorld<H> {
+impl<H: Host, C: Clients> Front for HostWorld<H, C> {
     fn accept(&mut self) -> Result<bool, Failed>
-        ensures first { IfOk result (λ comes. comes ≡ not self.old.front.has_come) }
-        ensures ok { IsOk result }
-        ensures same { self.new ≡ record self.old { front = record self.old.front { has_come = true } } }
+        ensures accepts { C.accepts self.old.front result self.new.front }
+        ensures elsewhere { (self.new.link ≡ self.old.link) × (self.new.console ≡ self.old.console) × (self.new.host ≡ self.old.host) }
+        ensures secrets { (self.new.password ≡ self.old.password) × (self.new.token ≡ self.old.token) }
+        ensures ok { OnOk result (C.client_faults self.new.front ≡ C.client_faults self.old.front) }
+        ensures err { OnErr result (C.client_faults self.new.front ≡ one_more (C.client_faults self.old.front)) }
+        ensures later { C.client_faults self.old.front ≤ C.client_faults self.new.front }
     {
-        Ok(self.front.accept())
+        self.front.accept()
     }
 
     fn recv(&mut self, into: &mut [u8]) -> Result<usize, Failed>
         ensures bound { IfOk result (λ n. n ≤ length into.new) }
-        ensures octets { ReadConsumes (H.Input.remaining self.old.front.input) (H.Input.remaining self.new.front.input) result into.new }
-        ensures ok { OnOk result (self.new ≡ record self.old { front = record self.old.front { input = self.new.front.input } }) }
-        ensures err { OnErr result (self.new ≡ record self.old { front = record self.old.front { input = self.new.front.input; faults = one_more self.old.front.faults } }) }
-        ensures later { self.old.front.faults ≤ self.new.front.faults }
+        ensures octets { ReadConsumes (C.gives self.old.front) (C.gives self.new.front) result into.new }
+        ensures takes { C.takes self.new.front ≡ C.takes self.old.front }
+        ensures elsewhere { (self.new.link ≡ self.old.link) × (self.new.console ≡ self.old.console) × (self.new.host ≡ self.old.host) }
+        ensures secrets { (self.new.password ≡ self.old.password) × (self.new.token ≡ self.old.token) }
+        ensures ok { OnOk result (C.client_faults self.new.front ≡ C.client_faults self.old.front) }
+        ensures err { OnErr result (C.client_faults self.new.front ≡ one_more (C.client_faults self.old.front)) }
+        ensures later { C.client_faults self.old.front ≤ C.client_faults self.new.front }
     {
         self.front.recv(into)
     }
 
     fn send(&mut self, from: &[u8]) -> Result<usize, Failed>
         ensures bound { IfOk result (λ n. (0 < n) × (n ≤ length from.now)) }
-        ensures octets { WriteAppends (H.Output.contents self.old.front.output) (H.Output.contents self.new.front.output) result from.now }
-        ensures ok { OnOk result (self.new ≡ record self.old { front = record self.old.front { output = self.new.front.output } }) }
-        ensures err { OnErr result (self.new ≡ record self.old { front = record self.old.front { output = self.new.front.output; faults = one_more self.old.front.faults } }) }
-        ensures later { self.old.front.faults ≤ self.new.front.faults }
+        ensures octets { WriteAppends (C.takes self.old.front) (C.takes self.new.front) result from.now }
+        ensures gives { C.gives self.new.front ≡ C.gives self.old.front }
+        ensures elsewhere { (self.new.link ≡ self.old.link) × (self.new.console ≡ self.old.console) × (self.new.host ≡ self.old.host) }
+        ensures secrets { (self.new.password ≡ self.old.password) × (self.new.token ≡ self.old.token) }
+        ensures ok { OnOk result (C.client_faults self.new.front ≡ C.client_faults self.old.front) }
+        ensures err { OnErr result (C.client_faults self.new.front ≡ one_more (C.client_faults self.old.front)) }
+        ensures later { C.client_faults self.old.front ≤ C.client_faults self.new.front }
     {
         self.front.send(from)
     }
 
     fn finish(&mut self)
-        ensures { self.new ≡ self.old }
-    {}
+        ensures finishes { C.finishes self.old.front self.new.front }
+        ensures elsewhere { (self.new.link ≡ self.old.link) × (self.new.console ≡ self.old.console) × (self.new.host ≡ self.old.host) }
+        ensures secrets { (self.new.password ≡ self.old.password) × (self.new.token ≡ self.old.token) }
+        ensures faults { C.client_faults self.new.front ≡ C.client_faults self.old.front }
+    {
+        self.front.finish();
+    }
 }
 
-impl<H: Host> Chance for HostWorld<H> {
+impl<H: Host, C: Clients> Chance for HostWorld<H, C> {
     fn word(&mut self) -> u64
         ensures drawn { IsDrawnWord (H.draws self.old.host) result }
         ensures same { self.new ≡ self.old }
@@ -139,7 +153,7 @@ impl<H: Host> Chance for HostWorld<H> {
     }
 }
 
-impl<H: Host> Console for HostWorld<H> {
+impl<H: Host, C: Clients> Console for HostWorld<H, C> {
     fn say(&mut self, text: &[u8]) -> Result<(), Failed>
         ensures octets { OnOk result (Appends (H.Errors.contents self.old.console.stream) (H.Errors.contents self.new.console.stream) text.now) }
         ensures ok { OnOk result (self.new ≡ record self.old { console = record self.old.console { stream = self.new.console.stream } }) }
@@ -150,7 +164,7 @@ impl<H: Host> Console for HostWorld<H> {
     }
 }
 
-impl<H: Host> Secrets for HostWorld<H> {
+impl<H: Host, C: Clients> Secrets for HostWorld<H, C> {
     fn password(&self) -> &[u8] {
         self.password.as_slice()
     }
@@ -160,4 +174,4 @@ impl<H: Host> Secrets for HostWorld<H> {
     }
 }
 
-impl<H: Host> World for HostWorld<H> {}
+impl<H: Host, C: Clients> World for HostWorld<H, C> {}

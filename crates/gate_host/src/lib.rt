@@ -1,12 +1,14 @@
-//! The outside of the gateway on a real host: a store over TCP, a client over the standard streams, a console, and
+//! The outside of the gateway on a real host: a store over TCP, clients over the standard streams or a listener, a console, and
 //! random words. None of them tells a tape; each counts its faults.
 #![tactic(auto)]
 
 mod chance;
+mod clients;
 mod error_console;
 mod faults;
 mod host;
 mod host_world;
+mod listener_front;
 mod sockets;
 mod standard_front;
 mod streams;
@@ -15,9 +17,11 @@ mod tcp_link;
 mod tests;
 
 pub use chance::random_word;
+pub use clients::Clients;
 pub use error_console::ErrorConsole;
 pub use host::Host;
 pub use host_world::HostWorld;
+pub use listener_front::ListenerFront;
 pub use sockets::{Dialer, Draws};
 pub use standard_front::StandardFront;
 pub use tcp_link::{MAX_ADDRESSES, PATIENCE_SECONDS, TcpLink};

@@ -1,8 +1,9 @@
 // One client, over an input and an output.
-ghost use Rattle.std.specs.Prelude.{◌≡◌, ◌<◌, ◌≤◌, ◌↔◌, length, take, false, true, IsTrue, IfOk, OnOk, OnErr};
+ghost use Rattle.std.specs.Prelude.{◌≡◌, ◌<◌, ◌≤◌, length, take, false, true, not, IfOk, OnOk, OnErr};
 ghost use Rattle.std.specs.Io.KnownBytes.{Keeps, ReadConsumes, WriteAppends};
 ghost use Rattle.gate_host.specs.Faults.{one_more};
 
+use crate::Clients;
 use crate::faults::raised;
 use crate::streams::{read_once, write_some};
 use gate_world::Failed;
@@ -43,8 +44,8 @@ impl<I: Read + Drop, O: Write + Drop> StandardFront<I, O> {
     }
 
     /// Whether the client comes: the first time alone.
-    pub fn accept(&mut self) -> bool
-        ensures first { IsTrue result ↔ (self.old.has_come ≡ false) }
+    pub fn next_client(&mut self) -> bool
+        ensures first { result ≡ not self.old.has_come }
         ensures same { self.new ≡ record self.old { has_come = true } }
     {
         let is_first = !self.has_come;
@@ -53,7 +54,7 @@ impl<I: Read + Drop, O: Write + Drop> StandardFront<I, O> {
     }
 
     /// What the client gives next. It is 0 where its input ended.
-    pub fn recv(&mut self, into: &mut [u8]) -> Result<usize, Failed>
+    pub fn receive(&mut self, into: &mut [u8]) -> Result<usize, Failed>
         ensures bound { IfOk result (λ n. n ≤ length into.new) }
         ensures octets { ReadConsumes (I.remaining self.old.input) (I.remaining self.new.input) result into.new }
         ensures ok { OnOk result (self.new ≡ record self.old { input = self.new.input }) }
@@ -67,7 +68,7 @@ impl<I: Read + Drop, O: Write + Drop> StandardFront<I, O> {
     }
 
     /// Gives the client some of the octets, from their front. Where it fails, none of them.
-    pub fn send(&mut self, from: &[u8]) -> Result<usize, Failed>
+    pub fn give(&mut self, from: &[u8]) -> Result<usize, Failed>
         ensures bound { IfOk result (λ n. (0 < n) × (n ≤ length from.now)) }
         ensures octets { WriteAppends (O.contents self.old.output) (O.contents self.new.output) result from.now }
         ensures ok { OnOk result (self.new ≡ record self.old { output = self.new.output }) }
@@ -79,4 +80,33 @@ impl<I: Read + Drop, O: Write + Drop> StandardFront<I, O> {
             None => Err(self.fail()),
         }
     }
+}
+
+impl<I: Read + Drop, O: Write + Drop> Clients for StandardFront<I, O> {
+    ghost use Rattle.std.specs.Prelude.{◌≡◌, Ok, true, not};
+
+    ghost client_faults = { λ f. f.faults };
+
+    ghost gives = { λ f. I.remaining f.input };
+
+    ghost takes = { λ f. O.contents f.output };
+
+    // One client comes, the first time alone, and accepting never fails.
+    ghost accepts = { λ old result new. (result ≡ Ok (not old.has_come)) × (new ≡ record old { has_come = true }) };
+
+    ghost finishes = { λ old new. new ≡ old };
+
+    fn accept(&mut self) -> Result<bool, Failed> {
+        Ok(self.next_client())
+    }
+
+    fn recv(&mut self, into: &mut [u8]) -> Result<usize, Failed> {
+        self.receive(into)
+    }
+
+    fn send(&mut self, from: &[u8]) -> Result<usize, Failed> {
+        self.give(from)
+    }
+
+    fn finish(&mut self) {}
 }

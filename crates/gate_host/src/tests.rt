@@ -1,7 +1,8 @@
 // A world over loopback and memory, and an input that fails.
 use crate::sockets::{addresses_over, dial_over, draw_over};
 use crate::tcp_link::PATIENCE_SECONDS;
-use crate::{Dialer, Draws, Host, HostWorld, StandardFront};
+use crate::{Clients, Dialer, Draws, Host, HostWorld, ListenerFront, StandardFront};
+use client_front::TcpClients;
 use gate_world::{Bytes, Chance, Console, Failed, Front, Link, Secrets, Text};
 use std::alloc::Global;
 use std::io;
@@ -97,15 +98,27 @@ impl RandomSource for Desk {
     }
 }
 
+/// An input of these octets.
+#[derive(Drop)]
+struct Given {
+    octets: &'static [u8],
+}
+
+impl Read for Given {
+    fn read(&mut self, buf: &mut [u8]) -> io::Result<usize> {
+        self.octets.read(buf)
+    }
+}
+
 impl Host for Desk {
-    type Input = &'static [u8];
+    type Input = Given;
 
     type Output = Vec<u8>;
 
     type Errors = Vec<u8>;
 
-    fn input(&self) -> &'static [u8] {
-        b"ask"
+    fn input(&self) -> Given {
+        Given { octets: b"ask" }
     }
 
     fn output(&self) -> Vec<u8> {
@@ -121,19 +134,19 @@ impl Host for Desk {
     }
 }
 
-fn world_of(
-    rt: HostRuntime,
-    store: &str,
-    random: Option<[u8; 8]>,
-) -> Result<HostWorld<Desk>, Fail> {
+type DeskWorld = HostWorld<Desk, StandardFront<Given, Vec<u8>>>;
+
+fn world_of(rt: HostRuntime, store: &str, random: Option<[u8; 8]>) -> Result<DeskWorld, Fail> {
     let alloc = rt.alloc();
     let store = Text::copy_of(alloc, store)?;
     let password = Bytes::copy_of(alloc, b"pw")?;
     let token = Bytes::copy_of(alloc, b"word")?;
-    Ok(HostWorld::new(Desk { rt, alloc, random }, store, password, token))
+    let desk = Desk { rt, alloc, random };
+    let front = StandardFront::new(desk.input(), desk.output());
+    Ok(HostWorld::new(desk, store, front, password, token))
 }
 
-fn world_at(rt: HostRuntime, listener: &TcpListener) -> Result<HostWorld<Desk>, Fail> {
+fn world_at(rt: HostRuntime, listener: &TcpListener) -> Result<DeskWorld, Fail> {
     let address = listener.local_addr()?;
     let store = format!(in rt.alloc(); "{address}")?;
     world_of(rt, store.as_str(), None)
@@ -267,4 +280,29 @@ fn a_signal_is_no_fault_and_a_reset_is_one(rt: HostRuntime) {
     assert_eq!(rt; front.faults, 1);
     assert!(rt; front.recv(&mut room) == Ok(1));
     assert_eq!(rt; front.faults, 1);
+}
+
+#[test]
+fn a_front_without_a_listener_fails_and_one_with_it_hands_on(rt: HostRuntime) -> Result<(), Fail> {
+    let mut none: ListenerFront<TcpClients, HostRuntime> = ListenerFront::new(rt.alloc(), None, rt);
+    let mut room = [0u8; 2];
+    assert!(rt; none.accept() == Err(Failed) && none.recv(&mut room) == Err(Failed));
+    assert!(rt; none.send(b"x") == Err(Failed));
+    none.finish();
+    assert_eq!(rt; none.faults, 3);
+    let Some(listener) = TcpClients::bind(rt.alloc(), &rt, "127.0.0.1:0") else {
+        panic!(rt; "no listener");
+    };
+    let port = listener.port().unwrap_or(0);
+    let mut front = ListenerFront::new(rt.alloc(), Some(listener), rt);
+    let mut client = TcpStream::connect(&rt, ("127.0.0.1", port))?;
+    assert!(rt; client.write(b"G")? == 1);
+    assert!(rt; front.accept() == Ok(true));
+    assert!(rt; front.recv(&mut room) == Ok(1));
+    assert!(rt; front.send(b"a") == Ok(1));
+    front.finish();
+    assert!(rt; client.read(&mut room)? == 1);
+    assert!(rt; front.recv(&mut room) == Err(Failed));
+    assert_eq!(rt; front.faults, 1);
+    Ok(())
 }

@@ -86,8 +86,10 @@ impl Known {
         if changes == self.same_at && changes < u64::MAX {
             return true;
         }
-        !folders_differ(self.served.folders(), self.told.folders())
-            && self.served.same_mail(&self.told)
+        if folders_differ(self.served.folders(), self.told.folders()) {
+            return false;
+        }
+        self.served.same_mail(&self.told)
     }
 
     /// The told mail is served from now on, at a further place where it is new. An Err changes nothing.

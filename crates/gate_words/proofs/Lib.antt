@@ -1,7 +1,6 @@
 pub mod Cut
-pub mod Kept
 pub mod Names
-pub mod Places
-pub mod Steps
-pub mod Taken
+pub mod PagesAsked
+pub mod SettingsSpelled
 pub mod Tasks
+pub mod Values

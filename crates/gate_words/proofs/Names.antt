@@ -1,42 +1,56 @@
 -- Options as they are written, and as they are read.
-use Rattle.std.proofs.Common.{◌≡◌, ◌⊎◌, inl, inr, ℕ, List, [], ◌∷◌, ◌++◌, true, false, ◌==◌, Some, None, refl, sym, ap, ◌∙◌, codes}
-use Rattle.std.specs.Str.{bytes_eq}
+use Rattle.std.proofs.Common.{◌≡◌, inl, inr, ℕ, List, [], ◌∷◌, ◌++◌, true, false, ◌==◌, Some, None, refl, sym, ap, ◌∙◌, codes}
 use Rattle.std.proofs.lemmas.Bool.{eqb-true, eq-eqb}
 use Rattle.std.proofs.lemmas.Option.{none-some, same_Some}
 use Rattle.gate_words.specs.Options.{name_text, Setting, joined_text, BeginsWithDash}
-use Rattle.gate_words.specs.Given.{cut, name_of, named, joined, begins_with_dash}
+use Rattle.gate_words.specs.Reading.{cut, name_of, named, joined, begins_with_dash}
 use Rattle.gate_words.specs.declared.option.Name.{Name}
-use Rattle.gate_words.specs.declared.option.Name.TheVariants.{Store, User, Base}
+use Rattle.gate_words.specs.declared.option.Name.TheVariants.{Store, User, Base, Listen, Connections}
 use Rattle.gate_words.proofs.Cut.{cut-is}
 use Rattle.gate_world.proofs.Steps.{and_then-some, map-some, is_or_not}
 
-name-from : (word : List ℕ) (name : Name) → (word ≡ codes "--store") ⊎ (bytes_eq word (codes "--store") ≡ false) → (word ≡ codes "--user")
-    ⊎ (bytes_eq word (codes "--user") ≡ false) → (word ≡ codes "--base") ⊎ (bytes_eq word (codes "--base") ≡ false) → name_of word ≡ Some name → word ≡ name_text name
-name-from word name (inl is) user base found = is ∙ ap name_text (same_Some Store name (ap name_of (sym is) ∙ found))
-name-from word name (inr no_store) (inl is) base found = is ∙ ap name_text (same_Some User name (ap name_of (sym is) ∙ found))
-name-from word name (inr no_store) (inr no_user) (inl is) found = is ∙ ap name_text (same_Some Base name (ap name_of (sym is) ∙ found))
-name-from word name (inr no_store) (inr no_user) (inr no_base) found = absurd (none-some name (rw (no_store, no_user, no_base) at found))
-
 -- a word that is read as an option is its text
 pub name_of-is : (word : List ℕ) (name : Name) → name_of word ≡ Some name → word ≡ name_text name
-name_of-is word name found = name-from word name (is_or_not word _) (is_or_not word _) (is_or_not word _) found
+name_of-is word name found =
+    elim (is_or_not word (codes "--store")) [
+      | inl is ↦ is ∙ ap name_text (same_Some Store name (ap name_of (sym is) ∙ found))
+      | inr no_store ↦ elim (is_or_not word (codes "--user")) [
+        | inl is ↦ is ∙ ap name_text (same_Some User name (ap name_of (sym is) ∙ found))
+        | inr no_user ↦ elim (is_or_not word (codes "--base")) [
+          | inl is ↦ is ∙ ap name_text (same_Some Base name (ap name_of (sym is) ∙ found))
+          | inr no_base ↦ elim (is_or_not word (codes "--listen")) [
+            | inl is ↦ is ∙ ap name_text (same_Some Listen name (ap name_of (sym is) ∙ found))
+            | inr no_listen ↦ elim (is_or_not word (codes "--connections")) [
+              | inl is ↦ is ∙ ap name_text (same_Some Connections name (ap name_of (sym is) ∙ found))
+              | inr no_connections ↦ absurd (none-some name (rw (no_store, no_user, no_base, no_listen, no_connections) at found))
+            ]
+          ]
+        ]
+      ]
+    ]
 
 -- and its text is read as it
 pub name_of-text : (name : Name) → name_of (name_text name) ≡ Some name
 name_of-text Store = refl
 name_of-text User = refl
 name_of-text Base = refl
+name_of-text Listen = refl
+name_of-text Connections = refl
 
 -- a setting in one word is no option alone
 pub name_of-joined : (name : Name) (value : List ℕ) → name_of (name_text name ++ 61 ∷ value) ≡ None
 name_of-joined Store value = refl
 name_of-joined User value = refl
 name_of-joined Base value = refl
+name_of-joined Listen value = refl
+name_of-joined Connections value = refl
 
 pub joined-text : (name : Name) (value : List ℕ) → joined (name_text name ++ 61 ∷ value) ≡ Some (record { name = name; value = value })
 joined-text Store value = refl
 joined-text User value = refl
 joined-text Base value = refl
+joined-text Listen value = refl
+joined-text Connections value = refl
 
 pub joined-is : (word : List ℕ) (setting : Setting) → joined word ≡ Some setting → word ≡ joined_text setting
 joined-is word setting found =

@@ -1,15 +1,27 @@
 -- What lent values are, for private clauses.
-use Rattle.std.specs.Prelude.{Option, option_map}
-use Rattle.gate_words.specs.Given.{Values}
-use Rattle.gate_words.specs.declared.option.Name.{Name}
-use Rattle.gate_words.specs.declared.given.Given.{Given}
+use Rattle.std.specs.Prelude.{◌≡◌, ℕ, List, [], ◌∷◌}
+use Rattle.gate_words.specs.Options.{Setting}
+use Rattle.gate_words.specs.Reading.{WordKind, Waits, Sets}
+use Rattle.gate_words.specs.declared.option.LentSetting.{LentSetting}
+use Rattle.gate_words.specs.declared.settings.WordKind.TheVariants as kind
+use Rattle.gate_words.specs.declared.settings.WordKind.{WordKind as LentWordKind}
+use Rattle.gate_words.specs.declared.settings.GivenValues.{GivenValues}
+use Rattle.gate_words.specs.declared.settings.GivenValues.TheVariants.{Absent, Single, Several}
+use Rattle.gate_words.specs.declared.reading.LentPlace.{LentPlace}
+use Rattle.gate_words.specs.declared.place.Place.{Place}
 
-abbrev pub values_in : Given → Values
-values_in given = record {
-  store = option_map (λ text. text.now) given.store;
-  user = option_map (λ text. text.now) given.user;
-  base = option_map (λ text. text.now) given.base;
-}
+abbrev pub setting_in : LentSetting → Setting
+setting_in setting = record { name = setting.name; value = setting.value.now }
 
-abbrev pub state_in : Given → Option Name × Values
-state_in given = (given.waiting, values_in given)
+abbrev pub kind_in : LentWordKind → WordKind
+kind_in (kind.Name name) = Waits name
+kind_in (kind.Setting setting) = Sets (setting_in setting)
+
+-- the values are none, one, or more
+abbrev pub IsGiven : GivenValues → List (List ℕ) → Type 0
+IsGiven Absent values = values ≡ []
+IsGiven (Single value) values = values ≡ value.now ∷ []
+IsGiven Several values = (first : List ℕ) × (second : List ℕ) × (more : List (List ℕ)) × (values ≡ first ∷ second ∷ more)
+
+abbrev pub place_in : LentPlace → Place
+place_in place = record { store = place.store.now; user = place.user.now; base = place.base.now }

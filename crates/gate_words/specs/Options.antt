@@ -1,13 +1,15 @@
 -- How words give options their values.
 use Rattle.std.specs.Prelude.{◌≡◌, ◌⊎◌, ℕ, List, [], ◌∷◌, ◌++◌, codes}
 use Rattle.gate_words.specs.declared.option.Name.{Name}
-use Rattle.gate_words.specs.declared.option.Name.TheVariants.{Store, User, Base}
+use Rattle.gate_words.specs.declared.option.Name.TheVariants.{Store, User, Base, Listen, Connections}
 
 -- an option as it is written
 abbrev pub name_text : Name → List ℕ
 name_text Store = codes "--store"
 name_text User = codes "--user"
 name_text Base = codes "--base"
+name_text Listen = codes "--listen"
+name_text Connections = codes "--connections"
 
 -- an option and a value that it is given
 pub record Setting : Type 0 where
@@ -28,14 +30,15 @@ SpellsWord setting words = ((words ≡ name_text setting.name ∷ setting.value 
 -- settings one after another
 abbrev pub SpellsAll : List Setting → List (List ℕ) → Type 0
 SpellsAll [] words = words ≡ []
-SpellsAll (setting ∷ settings) words = (here : List (List ℕ)) × (rest : List (List ℕ)) × (words ≡ here ++ rest) × SpellsWord setting here
-    × SpellsAll settings rest
+SpellsAll (setting ∷ settings) words = (here : List (List ℕ)) × (rest : List (List ℕ)) × (words ≡ here ++ rest) × SpellsWord setting here × SpellsAll settings rest
 
 -- a value before others, where the name is the one asked for
 abbrev pub value_if : Name → Name → List ℕ → List (List ℕ) → List (List ℕ)
 value_if Store Store value values = value ∷ values
 value_if User User value values = value ∷ values
 value_if Base Base value values = value ∷ values
+value_if Listen Listen value values = value ∷ values
+value_if Connections Connections value values = value ∷ values
 value_if asked name value values = values
 
 -- the values that an option is given, in order

@@ -1,6 +1,7 @@
 // Options, as they are written.
-ghost use Rattle.std.specs.Prelude.{◌≡◌, option_map};
-ghost use Rattle.gate_words.specs.Given as spec;
+ghost use Rattle.std.specs.Prelude.{◌≡◌, option_map, true, false, IsTrue, ◌↔◌};
+ghost use Rattle.gate_words.specs.Lent.{setting_in};
+ghost use Rattle.gate_words.specs.Reading as spec;
 
 /// The name of an option.
 #[derive(Clone, Copy, Debug, PartialEq, Eq)]
@@ -8,9 +9,11 @@ pub(crate) enum Name {
     Store,
     User,
     Base,
+    Listen,
+    Connections,
 }
 
-/// An option with its value in one word.
+/// An option with its value.
 #[derive(Clone, Copy)]
 pub(crate) struct LentSetting<'a> {
     pub(crate) name: Name,
@@ -25,6 +28,8 @@ pub(crate) fn name_of(word: &str) -> Option<Name>
         "--store" => Some(Name::Store),
         "--user" => Some(Name::User),
         "--base" => Some(Name::Base),
+        "--listen" => Some(Name::Listen),
+        "--connections" => Some(Name::Connections),
         _ => None,
     }
 }
@@ -38,8 +43,7 @@ fn cut(word: &str) -> Option<(&str, &str)>
 
 /// The option and value that a word is with `=` between them.
 pub(crate) fn joined(word: &str) -> Option<LentSetting<'_>>
-    ensures { option_map (λ setting. record { name = setting.name; value = setting.value.now }) result
-        ≡ spec.joined word.now }
+    ensures { option_map setting_in result ≡ spec.joined word.now }
 {
     let (name, value) = cut(word)?;
     Some(LentSetting {

@@ -1,13 +1,19 @@
 // Reading the words of a command.
-ghost use Rattle.std.specs.Prelude.{◌≡◌, List, ℕ, ◌∷◌, codes, map, string_bytes, option_map, IfOk, IfErr};
-ghost use Rattle.gate_words.specs.Given.{place_of};
-ghost use Rattle.gate_words.specs.Task.{IsTask};
+ghost use Rattle.std.specs.Prelude.{◌≡◌, List, ℕ, [], ◌∷◌, codes, map, string_bytes, IfOk, IfErr, IfSome, IfNone, IsTrue, None};
+ghost use Rattle.gate_words.specs.Lent.{setting_in, place_in};
+ghost use Rattle.gate_words.specs.Reading as spec;
+ghost use Rattle.gate_words.specs.Rules as rule;
+ghost use Rattle.gate_words.specs.Task.{IsTask, IsServe, IsOnce, Spelled, NamesPlace};
+ghost use Rattle.gate_words.specs.declared.place.Place.{Place};
 ghost use Rattle.gate_words.specs.declared.task.Task.{Task};
+ghost use Rattle.gate_words.specs.declared.task.Task.TheVariants.{Show};
 ghost use Rattle.gate_words.specs.declared.task.WordsError.TheVariants.{Refused};
 
-use crate::given::{Given, given_by};
+use crate::connections::connections_in;
+use crate::option::{LentSetting, Name};
 use crate::rules::{is_base, is_user};
-use crate::{Place, Task, WordsError};
+use crate::settings::{is_absent, settings_of, single};
+use crate::{Page, Place, Task, WordsError};
 use gate_world::Text;
 use std::alloc::{AllocError, Global};
 
@@ -19,28 +25,32 @@ struct LentPlace<'a> {
     base: &'a str,
 }
 
-/// The place that options name.
-fn place_of(words: &[String]) -> Option<LentPlace<'_>>
-    ensures { option_map (λ p. record { store = p.store.now; user = p.user.now; base = p.base.now }) result
-        ≡ place_of (map string_bytes words.now) }
+/// The place whose user and base are taken.
+fn ruled<'a>(place: LentPlace<'a>) -> Option<LentPlace<'a>>
+    ensures some { IfSome result (λ p. (p ≡ place.entry) × IsTrue (rule.is_user p.user.now) × IsTrue (rule.is_base p.base.now)) }
+    ensures none { IfNone result (IsTrue (rule.is_user place.entry.user.now) → IsTrue (rule.is_base place.entry.base.now) → ⊥) }
 {
-    let Given {
-        waiting: _,
-        store,
-        user,
-        base,
-    } = given_by(words)?;
-    let (store, user, base) = (store?, user?, base?);
-    if is_user(user) && is_base(base) {
-        Some(LentPlace { store, user, base })
+    if is_user(place.user) && is_base(place.base) {
+        Some(place)
     } else {
         None
     }
 }
 
+/// The place that settings name.
+fn place_named<'a>(settings: &[LentSetting<'a>]) -> Option<LentPlace<'a>>
+    ensures some { IfSome result (λ p. NamesPlace (map setting_in settings.now) (place_in p)) }
+    ensures none { IfNone result ((place : Place) → NamesPlace (map setting_in settings.now) place → ⊥) }
+{
+    let store = single(settings, Name::Store)?;
+    let user = single(settings, Name::User)?;
+    let base = single(settings, Name::Base)?;
+    ruled(LentPlace { store, user, base })
+}
+
 /// A copy of the place.
 fn owned(alloc: Global, place: LentPlace<'_>) -> Result<Place, AllocError>
-    ensures { IfOk result (λ p. p ≡ record { store = place.entry.store.now; user = place.entry.user.now; base = place.entry.base.now }) }
+    ensures { IfOk result (λ p. p ≡ place_in place.entry) }
 {
     Ok(Place {
         store: Text::copy_of(alloc, place.store)?,
@@ -49,30 +59,126 @@ fn owned(alloc: Global, place: LentPlace<'_>) -> Result<Place, AllocError>
     })
 }
 
-/// The task of the command `once` with these options.
-fn once(alloc: Global, options: &[String]) -> Result<Task, WordsError>
-    ensures ok { IfOk result (λ task. IsTask (codes "once" ∷ map string_bytes options.now) task) }
-    ensures refused { IfErr result (λ error. error ≡ Refused
-        → (task : Task) → ¬ IsTask (codes "once" ∷ map string_bytes options.now) task) }
+/// The task of the command `serve` with these settings.
+fn serve_by(alloc: Global, settings: &[LentSetting<'_>]) -> Result<Task, WordsError>
+    ensures ok { IfOk result (IsServe (map setting_in settings.now)) }
+    ensures refused { IfErr result (λ error. error ≡ Refused → (task : Task) → IsServe (map setting_in settings.now) task → ⊥) }
 {
-    let Some(place) = place_of(options) else {
+    let Some(place) = place_named(settings) else {
         return Err(WordsError::Refused);
     };
+    let Some(listen) = single(settings, Name::Listen) else {
+        return Err(WordsError::Refused);
+    };
+    let Some(connections) = connections_in(settings) else {
+        return Err(WordsError::Refused);
+    };
+    Ok(Task::Serve {
+        place: owned(alloc, place)?,
+        listen: Text::copy_of(alloc, listen)?,
+        connections,
+    })
+}
+
+/// The task of the command `once` with these settings.
+fn once_by(alloc: Global, settings: &[LentSetting<'_>]) -> Result<Task, WordsError>
+    ensures ok { IfOk result (IsOnce (map setting_in settings.now)) }
+    ensures refused { IfErr result (λ error. error ≡ Refused → (task : Task) → IsOnce (map setting_in settings.now) task → ⊥) }
+{
+    let Some(place) = place_named(settings) else {
+        return Err(WordsError::Refused);
+    };
+    if !is_absent(settings, Name::Listen) || !is_absent(settings, Name::Connections) {
+        return Err(WordsError::Refused);
+    }
     Ok(Task::Once {
         place: owned(alloc, place)?,
     })
 }
 
+/// The task of the command `serve` with these options.
+fn serve(alloc: Global, options: &[String]) -> Result<Task, WordsError>
+    ensures ok { IfOk result (Spelled IsServe (map string_bytes options.now)) }
+    ensures refused { IfErr result (λ error. error ≡ Refused → (task : Task) → Spelled IsServe (map string_bytes options.now) task → ⊥) }
+{
+    match settings_of(alloc, options) {
+        Ok(settings) => serve_by(alloc, settings.as_slice()),
+        Err(error) => Err(error),
+    }
+}
+
+/// The task of the command `once` with these options.
+fn once(alloc: Global, options: &[String]) -> Result<Task, WordsError>
+    ensures ok { IfOk result (Spelled IsOnce (map string_bytes options.now)) }
+    ensures refused { IfErr result (λ error. error ≡ Refused → (task : Task) → Spelled IsOnce (map string_bytes options.now) task → ⊥) }
+{
+    match settings_of(alloc, options) {
+        Ok(settings) => once_by(alloc, settings.as_slice()),
+        Err(error) => Err(error),
+    }
+}
+
 /// The task of the command `show`, which has no options.
 fn show(options: &[String]) -> Result<Task, WordsError>
-    ensures ok { IfOk result (λ task. IsTask (codes "show" ∷ map string_bytes options.now) task) }
-    ensures refused { IfErr result (λ error. error ≡ Refused
-        → (task : Task) → ¬ IsTask (codes "show" ∷ map string_bytes options.now) task) }
+    ensures ok { IfOk result (λ task. (task ≡ Show) × (map string_bytes options.now ≡ [])) }
+    ensures refused { IfErr result (λ error. error ≡ Refused → map string_bytes options.now ≡ [] → ⊥) }
 {
     if options.is_empty() {
         Ok(Task::Show)
     } else {
         Err(WordsError::Refused)
+    }
+}
+
+/// The page that an option asks for, where the one on its command is given.
+fn page_by(option: &str, page: Page) -> Option<Page>
+    ensures { result ≡ spec.page_by option.now page }
+{
+    match option {
+        "--help" => Some(page),
+        "--version" => Some(Page::Version),
+        _ => None,
+    }
+}
+
+/// The page on a command.
+fn page_on(command: &str) -> Option<Page>
+    ensures { result ≡ spec.page_on command.now }
+{
+    match command {
+        "serve" => Some(Page::Serve),
+        "once" => Some(Page::Once),
+        "show" => Some(Page::Show),
+        _ => None,
+    }
+}
+
+/// The page that the words ask for.
+fn page_of(words: &[String]) -> Option<Page>
+    ensures { result ≡ spec.page_of (map string_bytes words.now) }
+{
+    match words {
+        [option] => page_by(option.as_str(), Page::Program),
+        [command, option] => page_by(option.as_str(), page_on(command.as_str())?),
+        _ => None,
+    }
+}
+
+/// The task that words ask for which ask for no page.
+fn command_task(alloc: Global, words: &[String]) -> Result<Task, WordsError>
+    requires no_page { spec.page_of (map string_bytes words.now) ≡ None }
+    ensures ok { IfOk result (λ task. IsTask (map string_bytes words.now) task) }
+    ensures refused { IfErr result (λ error. error ≡ Refused
+        → (task : Task) → IsTask (map string_bytes words.now) task → ⊥) }
+{
+    let Some((command, options)) = words.split_first() else {
+        return Err(WordsError::Refused);
+    };
+    match command.as_str() {
+        "serve" => serve(alloc, options),
+        "once" => once(alloc, options),
+        "show" => show(options),
+        _ => Err(WordsError::Refused),
     }
 }
 
@@ -82,13 +188,9 @@ pub fn read_words(alloc: Global, words: &[String]) -> Result<Task, WordsError>
     ensures refused { IfErr result (λ error. error ≡ Refused
         → (task : Task) → ¬ IsTask (map string_bytes words.now) task) }
 {
-    let Some((command, options)) = words.split_first() else {
-        return Err(WordsError::Refused);
-    };
-    match command.as_str() {
-        "once" => once(alloc, options),
-        "show" => show(options),
-        _ => Err(WordsError::Refused),
+    match page_of(words) {
+        Some(page) => Ok(Task::Explain { page }),
+        None => command_task(alloc, words),
     }
 }
 

@@ -2,17 +2,30 @@
 ghost use Rattle.std.specs.Prelude.{◌≡◌};
 ghost use Rattle.gate_words.specs.declared.task.WordsError.TheVariants.{Memory};
 
-use crate::Place;
+use crate::{Page, Place};
+use gate_world::Text;
 use std::alloc::AllocError;
 use thiserror::Error;
 
 /// What the words ask for.
 #[derive(Debug, Drop)]
 pub enum Task {
+    /// Answers clients over HTTP, at the address `listen`; ends after this many connections.
+    Serve {
+        place: Place,
+        listen: Text,
+        connections: u64,
+    },
     /// Answers one request on standard input.
-    Once { place: Place },
+    Once {
+        place: Place,
+    },
     /// Shows the message on standard input as an Email object.
     Show,
+    /// Writes a page of help.
+    Explain {
+        page: Page,
+    },
 }
 
 /// Why words are no task.

@@ -22,7 +22,23 @@ fn shown(alloc: Global, line: &str) -> Result<String, AllocError> {
             );
             format!(in alloc; "{store} {user} {base}")
         }
+        Ok(
+            Task::Serve {
+                place,
+                listen,
+                connections,
+            },
+        ) => {
+            let (store, user, base) = (
+                place.store.as_str(),
+                place.user.as_str(),
+                place.base.as_str(),
+            );
+            let listen = listen.as_str();
+            format!(in alloc; "{store} {user} {base} {listen} {connections}")
+        }
         Ok(Task::Show) => String::from_str(alloc, "show"),
+        Ok(Task::Explain { page }) => format!(in alloc; "{page:?}"),
         Err(error) => format!(in alloc; "{error}"),
     }
 }
@@ -46,6 +62,26 @@ fn tasks_that_words_name(rt: HostRuntime) -> Result<(), Fail> {
             "s \u{e9} http://\u{1F600}",
         ),
         ("show", "show"),
+        ("--help", "Program"),
+        ("--version", "Version"),
+        ("serve|--help", "Serve"),
+        ("once|--help", "Once"),
+        ("show|--help", "Show"),
+        ("serve|--version", "Version"),
+        ("once|--version", "Version"),
+        ("show|--version", "Version"),
+        (
+            "serve|--store|s|--user|u|--base|http://h|--listen|l",
+            "s u http://h l 9223372036854775807",
+        ),
+        (
+            "serve|--connections=1|--store|s|--user|u|--base|http://h|--listen=",
+            "s u http://h  1",
+        ),
+        (
+            "serve|--connections|9223372036854775807|--store|s|--user|u|--base|http://h|--listen|l",
+            "s u http://h l 9223372036854775807",
+        ),
     ] {
         assert_eq!(rt; shown(alloc, line)?.as_str(), wanted, "{line}");
     }
@@ -92,7 +128,33 @@ fn words_that_are_refused(rt: HostRuntime) -> Result<(), Fail> {
         "show|show",
         "show|--store|a",
         "show|--store|s|--user|u|--base|http://h",
-        "show|--help",
+        "--help|--help",
+        "help",
+        "-h",
+        "--version|--help",
+        "--help|show",
+        "show|--help|--help",
+        "store|--help",
+        "drill|--version",
+        "once|--help=",
+        "once|--store|--help",
+        "once|--store|s|--user|u|--base|http://h|--help",
+        "once|--store|s|--user|u|--base|http://h|--listen|l",
+        "once|--store|s|--user|u|--base|http://h|--connections|1",
+        "serve|--store|s|--user|u|--base|http://h",
+        "serve|--store|s|--user|u|--listen|l",
+        "serve|--store|s|--user|u|--base|http://h|--listen|l|--listen|l",
+        "serve|--store|s|--user|u|--base|http://h|--listen|l|--connections|0",
+        "serve|--store|s|--user|u|--base|http://h|--listen|l|--connections|+1",
+        "serve|--store|s|--user|u|--base|http://h|--listen|l|--connections|01",
+        "serve|--store|s|--user|u|--base|http://h|--listen|l|--connections=",
+        "serve|--store|s|--user|u|--base|http://h|--listen|l|--connections|1a",
+        "serve|--store|s|--user|u|--base|http://h|--listen|l|--connections|9223372036854775808",
+        "serve|--store|s|--user|u|--base|http://h|--listen|l|--connections|18446744073709551617",
+        "serve|--store|s|--user|u|--base|http://h|--listen|l|--connections=1|--connections=1",
+        "serve|--store|s|--user|u|--base|http://h|--listen|l|--keep|f",
+        "serve|--store|s|--user|u|--base|http://h|--listen|l|--watch|f",
+        "serve|--store|s|--user|u|--base|http://h|--listen|l|--watch-socket|f",
         "Show",
         "shows",
         "--show",

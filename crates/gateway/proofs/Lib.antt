@@ -1,10 +1,6 @@
 mod Quiet
-mod Receiving
-mod Answering
-mod Running
 mod Showing
-mod Calling
+mod Explaining
 mod CompletingShow
 mod Performing
-mod Needs
 mod Told

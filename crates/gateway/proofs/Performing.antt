@@ -1,91 +1,166 @@
 -- What a task comes to.
-use Rattle.std.proofs.Common.{arith, ◌≡◌, ◌≢◌, ◌⊎◌, ◌++◌, ◌∷◌, ◌≤◌, ℕ, List, [], Result, Ok, Err, refl, sym, ◌∙◌, ap, subst, inl, inr}
-use Rattle.std.proofs.lemmas.List.{append-nil}
-use Rattle.gate_world.specs.Causes.{Faults, NoFault, Later, SayAlone, Rose, no_faults}
+use Rattle.std.proofs.Common.{arith, ◌≡◌, ◌⊎◌, ◌++◌, ℕ, List, [], Result, Ok, Err, refl, ap, subst}
+use Rattle.gate_world.specs.Causes.{Faults, Hidden, NoFault, Later, SayAlone, Rose, no_faults}
 use Rattle.gate_world.specs.declared.event.Event.{Event}
+use Rattle.gate_words.specs.Pages.{page_text}
+use Rattle.gate_words.specs.Task.{IsTask}
+use Rattle.gate_words.specs.declared.page.Page.{Page}
 use Rattle.gate_words.specs.declared.place.Place.{Place}
 use Rattle.gate_words.specs.declared.task.Task.{Task}
-use Rattle.gate_words.specs.declared.task.Task.TheVariants.{Once, Show}
-use Rattle.gate_words.specs.Task.{IsTask}
+use Rattle.gate_words.specs.declared.task.Task.TheVariants.{Serve, Once, Show, Explain}
 use Rattle.gate_machine.specs.Progress.{Bears}
-use Rattle.gate_machine.specs.declared.machine.Machine.{Machine}
-use Rattle.gateway.specs.declared.front.FrontError.{FrontError}
-use Rattle.gateway.specs.declared.front.FrontError.TheVariants as front
-use Rattle.gateway.specs.declared.served.Served.{Served}
-use Rattle.gateway.specs.declared.served.Served.TheVariants as served
-use Rattle.gateway.specs.declared.served.OpenError.{OpenError}
-use Rattle.gateway.specs.declared.served.OpenError.TheVariants as opening
-use Rattle.gateway.specs.Requests.{Account, Bare}
-use Rattle.gateway.specs.Segment.{Segment, blamed, blame_front}
-use Rattle.gateway.specs.Run.{Opens, StepsTo, EndsOnce, EndsShow, IsSaid, front_failed, account_of, show_blamed, words_refused, Performed, Unopened, ServedOnce, ShownOne, Runs}
-use Rattle.gateway.specs.Run.{Refused}
-use Rattle.gateway.specs.Run.{OutOfMemory, Done, RunsShow, Performs, IsWholeRun}
-use Rattle.gateway.proofs.Answering.{bears_none, bears_later, bears_earlier, later_same, bears_failed}
+use Rattle.gate_serving.specs.declared.door.Door.{Door}
+use Rattle.gate_serving.specs.declared.door.Door.TheVariants.{Bare, Http}
+use Rattle.gate_serving.specs.declared.front.FrontError.{FrontError}
+use Rattle.gate_serving.specs.declared.front.FrontError.TheVariants as front
+use Rattle.gate_serving.specs.declared.served.Served.{Served}
+use Rattle.gate_serving.specs.declared.served.OpenError.{OpenError}
+use Rattle.gate_serving.specs.declared.served.OpenError.TheVariants as opening
+use Rattle.gate_serving.specs.GateState.{GateState}
+use Rattle.gate_serving.specs.Requests.{Account}
+use Rattle.gate_serving.specs.Run.{Opens, StepsTo, IsServingRun, account_of, run_blamed}
+use Rattle.gate_serving.specs.Segment.{blamed}
+use Rattle.gate_serving.proofs.Answering.{bears_none, bears_later, bears_earlier, later_same, bears_failed}
+use Rattle.gateway.specs.Program.{EndsDone, EndsFailed, EndsOnce, EndsOne, IsAt, IsSaid, one_blamed, words_refused, Unopened, ServedMany, ServedOnce, ShownOne, Explained, Refused, OutOfMemory, Done, RunsShow, RunsExplain, Performs, IsWholeRun}
 
 later_say : (was now : Faults) → SayAlone was now → Later was now
 later_say was now alone = record { link = omega (arith, alone.link); keep = omega (arith, alone.keep); front = omega (arith, alone.front); say = alone.say }
 
 -- a gate was opened, and answered one client
-pub record Attends (place : Place) (password : List ℕ) (was now : Faults) (how : Served) (events : List Event) : Type 0 where
+pub record Attends (place : Place) (secrets : Hidden) (was now : Faults) (how : Served) (events : List Event) : Type 0 where
   pub opened : List Event
   pub segment : List Event
-  pub before : Machine
-  pub after : Machine
-  pub opens : Opens opened (Ok tt) before
-  pub served : Segment Bare (account_of place password) before segment how after
-  pub bears : Bears (blamed served) was now
+  pub before : GateState
+  pub after : GateState
+  pub opens : Opens (Ok before) opened
+  pub step : StepsTo Bare (account_of place secrets) before after was now how segment
   pub whole : events ≡ opened ++ segment
 
-pub attends : {account : Account} {m : Machine} {S : Machine → Type 0} {mid now : Faults} {how : Served} (xs ys : List Event) (place : Place) (password : List ℕ) (was : Faults)
-    → account ≡ account_of place password → NoFault was mid → Opens xs (Ok tt) m → StepsTo Bare account m S mid now how ys → Attends place password was now how (xs ++ ys)
-attends {account} {m} {S} {mid} {now} {how} xs ys place password was same none opens step =
-    let here : StepsTo Bare (account_of place password) m S mid now how ys = subst (λ (a : Account). StepsTo Bare a m S mid now how ys) same step in
+pub attends : {place : Place} {secrets now_secrets : Hidden} {door : Door} {account : Account} {before after : GateState} {was mid now : Faults} {how : Served} (xs ys : List Event)
+    → door ≡ Bare → account ≡ account_of place secrets → now_secrets ≡ secrets → NoFault was mid → Opens (Ok before) xs → StepsTo door account before after mid now how ys
+    → Attends place secrets was now how (xs ++ ys)
+attends {place} {secrets} {door = door} {account = account} {before = before} {after = after} {was = was} {mid = mid} {now = now} {how = how} xs ys here same kept none opens step =
+    let there : StepsTo Bare (account_of place secrets) before after mid now how ys = subst (λ (a : Account). StepsTo Bare a before after mid now how ys) same
+    (subst (λ (d : Door). StepsTo d account before after mid now how ys) here step) in
     record {
       opened = xs;
       segment = ys;
-      before = m;
-      after = here.after;
+      before = before;
+      after = after;
       opens = opens;
-      served = here.segment;
-      bears = bears_earlier (blamed here.segment) was mid now (later_same was mid none) here.bears;
+      step = record { segment = there.segment; bears = bears_earlier (blamed there.segment) was mid now (later_same was mid none) there.bears };
       whole = refl;
     }
 
-pub performs_once : {place : Place} {password : List ℕ} {was mid now : Faults} {how : Served} {status : ℕ} {xs : List Event} (ys : List Event)
-    → Attends place password was mid how xs → SayAlone mid now → EndsOnce how status ys → Performs (Once place) password was now status (xs ++ ys)
+pub performs_once : {place : Place} {secrets : Hidden} {was mid now : Faults} {how : Served} {status : ℕ} {xs : List Event} (ys : List Event)
+    → Attends place secrets was mid how xs → SayAlone mid now → EndsOnce how status ys → Performs (Once place) secrets was now status (xs ++ ys)
 performs_once {place} {was = was} {mid = mid} {now = now} {how = how} ys a alone ends =
     record {
-      blames = blamed a.served;
-      ran = ServedOnce place a.opened a.segment ys a.before a.after how a.served refl a.opens ends refl (ap (λ (l : List Event). l ++ ys) a.whole);
-      bears = bears_later (blamed a.served) was mid now a.bears (later_say mid now alone);
+      blames = blamed a.step.segment;
+      ran = ServedOnce place refl record {
+        opening = a.opened;
+        serving = a.segment;
+        said = ys;
+        before = a.before;
+        after = a.after;
+        how = how;
+        opens = a.opens;
+        segment = a.step.segment;
+        ends = ends;
+        blames_are = refl;
+        whole = ap (λ (l : List Event). l ++ ys) a.whole;
+      };
+      bears = bears_later (blamed a.step.segment) was mid now a.step.bears (later_say mid now alone);
     }
 
-pub performs_unopened : {password : List ℕ} {was now : Faults} {events : List Event} (place : Place) (e : OpenError) (m : Machine) → NoFault was now → Opens events (Err e) m
-    → Performs (Once place) password was now 5 events
-performs_unopened {was = was} {now = now} place opening.Memory m same opens =
-    record { blames = no_faults; ran = Unopened place m refl opens refl refl; bears = bears_none was now (later_same was now same) }
+-- a gate was opened, and answered clients over HTTP
+pub record AttendsAll (place : Place) (secrets : Hidden) (most : ℕ) (was now : Faults) (status : ℕ) (events : List Event) : Type 0 where
+  pub opened : List Event
+  pub served : List Event
+  pub before : GateState
+  pub after : GateState
+  pub opens : Opens (Ok before) opened
+  pub run : IsServingRun Http (account_of place secrets) before after most was now status served
+  pub whole : events ≡ opened ++ served
 
-bears_shown : (outcome : Result (Unit {0}) FrontError) (status : ℕ) (said : List Event) (was now : Faults) → Later was now → (status ≡ 6 → Rose was.front now.front)
-    → EndsShow outcome status said
-    → Bears (show_blamed outcome) was now
-bears_shown (Ok u) status said was now later failed ends = bears_none was now later
-bears_shown (Err front.Memory) status said was now later failed ends = bears_none was now later
-bears_shown (Err front.Failed) status said was now later failed ends = bears_failed was now later (failed ends.0)
+pub attends_all : {place : Place} {secrets now_secrets : Hidden} {door : Door} {account : Account} {before after : GateState} {was mid now : Faults} {most status : ℕ}
+    (xs ys : List Event)
+    → door ≡ Http → account ≡ account_of place secrets → now_secrets ≡ secrets → NoFault was mid → Opens (Ok before) xs
+    → IsServingRun door account before after most mid now status ys
+    → AttendsAll place secrets most was now status (xs ++ ys)
+attends_all {place} {secrets} {door = door} {account = account} {before = before} {after = after} {was = was} {mid = mid} {now = now} {most = most} {status = status} xs ys here same
+    kept none opens run =
+    let there : IsServingRun Http (account_of place secrets) before after most mid now status ys = subst (λ (a : Account). IsServingRun Http a before after most mid now status ys) same
+    (subst (λ (d : Door). IsServingRun d account before after most mid now status ys) here run) in
+    record {
+      opened = xs;
+      served = ys;
+      before = before;
+      after = after;
+      opens = opens;
+      run = record { went = there.went; run = there.run; ends = there.ends; bears = bears_earlier (run_blamed there.run) was mid now (later_same was mid none) there.bears };
+      whole = refl;
+    }
 
-pub performs_show : {password : List ℕ} {was now : Faults} {status : ℕ} {events : List Event} → Later was now → (status ≡ 6 → Rose was.front now.front) → RunsShow status events
-    → Performs Show password was now status events
+pub performs_serve : {place : Place} {secrets : Hidden} {was mid now : Faults} {status : ℕ} {xs : List Event} (most : ℕ) (ys : List Event) (listen : List ℕ)
+    → AttendsAll place secrets most was mid status xs → SayAlone mid now → EndsDone status ys ⊎ EndsFailed status ys
+    → Performs (Serve place listen most) secrets was now status (xs ++ ys)
+performs_serve {place} {was = was} {mid = mid} {now = now} most ys listen a alone ends =
+    record {
+      blames = run_blamed a.run.run;
+      ran = ServedMany place listen most refl record {
+        opening = a.opened;
+        serving = a.served;
+        said = ys;
+        before = a.before;
+        after = a.after;
+        went = a.run.went;
+        opens = a.opens;
+        run = a.run.run;
+        ends = (a.run.ends, ends);
+        blames_are = refl;
+        whole = ap (λ (l : List Event). l ++ ys) a.whole;
+      };
+      bears = bears_later (run_blamed a.run.run) was mid now a.run.bears (later_say mid now alone);
+    }
+
+pub performs_unopened : {secrets : Hidden} {was now : Faults} {events : List Event} (task : Task) (place : Place) (e : OpenError) → IsAt task place → NoFault was now
+    → Opens (Err e) events → Performs task secrets was now 5 events
+performs_unopened {was = was} {now = now} task place opening.Memory at same opens =
+    record { blames = no_faults; ran = Unopened place at opens refl refl; bears = bears_none was now (later_same was now same) }
+
+bears_one : (outcome : Result (Unit {0}) FrontError) (status : ℕ) (said : List Event) (was now : Faults) → Later was now → (status ≡ 6 → Rose was.front now.front)
+    → EndsOne outcome status said
+    → Bears (one_blamed outcome) was now
+bears_one (Ok u) status said was now later failed ends = bears_none was now later
+bears_one (Err front.Memory) status said was now later failed ends = bears_none was now later
+bears_one (Err front.Failed) status said was now later failed ends = bears_failed was now later (failed ends.0)
+
+pub performs_show : {secrets : Hidden} {was now : Faults} {status : ℕ} {events : List Event} → Later was now → (status ≡ 6 → Rose was.front now.front) → RunsShow status events
+    → Performs Show secrets was now status events
 performs_show {was = was} {now = now} {status = status} later failed (shown, said, outcome, is, shows, ends) =
-    record { blames = show_blamed outcome; ran = ShownOne shown said outcome refl is shows ends refl; bears = bears_shown outcome status said was now later failed ends }
+    record { blames = one_blamed outcome; ran = ShownOne refl record { shown = shown; said = said; outcome = outcome; shows = shows; ends = ends; blames_are = refl; whole = is }; bears = bears_one outcome status said was now later failed ends }
 
-pub runs_task : {words : List (List ℕ)} {task : Task} {password : List ℕ} {was now : Faults} {status : ℕ} {events : List Event} → IsTask words task
-    → Performs task password was now status events
-    → IsWholeRun words password was now status events
+pub performs_explain : {secrets : Hidden} {was now : Faults} {status : ℕ} {events : List Event} (page : Page) → Later was now → (status ≡ 6 → Rose was.front now.front)
+    → RunsExplain (page_text page) status events
+    → Performs (Explain page) secrets was now status events
+performs_explain {was = was} {now = now} {status = status} page later failed (explained, said, outcome, is, explains, ends) =
+    record {
+      blames = one_blamed outcome;
+      ran = Explained page refl
+          record { explained = explained; said = said; outcome = outcome; explains = explains; ends = ends; blames_are = refl; whole = is };
+      bears = bears_one outcome status said was now later failed ends;
+    }
+
+pub runs_task : {words : List (List ℕ)} {task : Task} {secrets : Hidden} {was now : Faults} {status : ℕ} {events : List Event} → IsTask words task
+    → Performs task secrets was now status events
+    → IsWholeRun words secrets was now status events
 runs_task {task = task} is p = record { blames = p.blames; runs = Done task is p.ran; bears = p.bears }
 
-pub runs_refused : {words : List (List ℕ)} {password : List ℕ} {was now : Faults} {events : List Event} → ((task : Task) → IsTask words task → ⊥) → SayAlone was now
+pub runs_refused : {words : List (List ℕ)} {secrets : Hidden} {was now : Faults} {events : List Event} → ((task : Task) → IsTask words task → ⊥) → SayAlone was now
     → IsSaid words_refused events
-    → IsWholeRun words password was now 2 events
+    → IsWholeRun words secrets was now 2 events
 runs_refused {was = was} {now = now} none alone said = record { blames = no_faults; runs = Refused none refl said refl; bears = bears_none was now (later_say was now alone) }
 
-pub runs_lacking : {words : List (List ℕ)} {password : List ℕ} (f : Faults) → IsWholeRun words password f f 5 []
+pub runs_lacking : {words : List (List ℕ)} {secrets : Hidden} (f : Faults) → IsWholeRun words secrets f f 5 []
 runs_lacking f = record { blames = no_faults; runs = OutOfMemory refl refl refl; bears = bears_none f f (later_same f f refl) }

@@ -6,11 +6,11 @@ use Rattle.std.proofs.lemmas.List.Concat.{flat_map-append}
 use Rattle.std.proofs.lemmas.List.Elements.{All-head, All-tail}
 use Rattle.gate_world.specs.declared.event.Event.{Event}
 use Rattle.gate_world.specs.declared.event.Event.TheVariants.{Accepted, ClientGave, ClientEnded, ClientTook, ClientDone, FrontFailed, Dialed, StoreGave, StoreTook, LinkEnded}
-use Rattle.gateway.specs.declared.front.FrontError.{FrontError}
-use Rattle.gateway.specs.declared.front.FrontError.TheVariants as error
-use Rattle.gateway.specs.declared.front.Input.{Input}
-use Rattle.gateway.specs.declared.front.Input.TheVariants.{Whole, Cut}
-use Rattle.gateway.specs.Front.{input_octets, GivesInput}
+use Rattle.gate_serving.specs.declared.front.FrontError.{FrontError}
+use Rattle.gate_serving.specs.declared.front.FrontError.TheVariants as error
+use Rattle.gate_serving.specs.declared.front.Input.{Input}
+use Rattle.gate_serving.specs.declared.front.Input.TheVariants.{Whole, Cut}
+use Rattle.gate_serving.specs.Front.{input_octets, GivesInput}
 use Rattle.gate_world.specs.Octets.{store_gave_in, store_took_in, client_gave_in, client_took_in, IsTalk, IsClientGave, IsClientTook}
 
 -- events that all have no octets of a kind

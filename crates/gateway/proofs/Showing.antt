@@ -9,12 +9,12 @@ use Rattle.gate_world.specs.declared.event.Event.{Event}
 use Rattle.gate_world.specs.declared.event.Event.TheVariants.{Accepted}
 use Rattle.gate_world.specs.declared.outside.Failed.{Failed}
 use Rattle.email_get.specs.EmailObjects.{IsEmailObject}
-use Rattle.gateway.specs.declared.front.FrontError.{FrontError}
-use Rattle.gateway.specs.declared.front.FrontError.TheVariants as error
+use Rattle.gate_serving.specs.declared.front.FrontError.{FrontError}
+use Rattle.gate_serving.specs.declared.front.FrontError.TheVariants as error
 use Rattle.gate_world.specs.Sending.{Sends}
-use Rattle.gateway.specs.Requests.{line_end}
+use Rattle.gate_serving.specs.Answers.{line_end}
 use Rattle.gateway.specs.Show.{object_line, ShowsObject, ReadsInput, Answers, Sent, Shows, ShowsClient}
-use Rattle.gateway.specs.Run.{IsSaid, front_failed, RunsShow}
+use Rattle.gateway.specs.Program.{IsSaid, front_failed, RunsShow}
 
 -- the text with its line end shows the object
 pub shows_object : (octets : List ℕ) (o : Data) (text : List ℕ) (line : Result (List ℕ) AllocError) → IsEmailObject octets o → text ≡ compact_text o
@@ -25,10 +25,12 @@ shows_object octets o text (Err e) is text_is with_end = tt
 
 -- the line was sent, or the front failed before
 pub sent_whole : {xs : List Event} (ys : List Event) (line : List ℕ) → ReadsInput (Ok line) xs → Sends line (Ok tt) ys → Answers (Ok tt) (xs ++ ys)
-sent_whole {xs} ys line reads sends = Sent xs ys line (Ok tt) refl reads sends refl
+sent_whole {xs} ys line reads sends =
+    Sent record { reading = xs; heard = ys; line = line; sent = Ok tt; whole = refl; reads = reads; sends = sends; outcome_is = refl }
 
 pub sent_part : {xs : List Event} (ys : List Event) (line : List ℕ) (e : Failed) → ReadsInput (Ok line) xs → Sends line (Err e) ys → Answers (Err error.Failed) (xs ++ ys)
-sent_part {xs} ys line e reads sends = Sent xs ys line (Err e) refl reads sends refl
+sent_part {xs} ys line e reads sends =
+    Sent record { reading = xs; heard = ys; line = line; sent = Err e; whole = refl; reads = reads; sends = sends; outcome_is = refl }
 
 -- the client was accepted
 pub accepted : {xs : List Event} (ys : List Event) (outcome : Result (Unit {0}) FrontError) → xs ≡ Accepted ∷ [] → ShowsClient outcome ys → Shows outcome (xs ++ ys)

@@ -1,110 +1,31 @@
--- What comes of a client of whom nothing fails.
-use Rattle.std.proofs.Common.{arith, ◌≡◌, ◌≢◌, ◌+◌, ◌++◌, ◌∷◌, ℕ, List, [], Result, Ok, Err, ◌⊎◌, inl, inr, sym, ◌∙◌, ap, subst}
-use Rattle.gate_world.specs.Causes.{Faults, no_faults}
-use Rattle.gate_world.specs.Octets.{Hears}
+-- Who came to a run of the program of which nothing fails is told.
+use Rattle.std.proofs.Common.{◌≡◌, ℕ, List, sym, ◌∙◌}
+use Rattle.gate_world.specs.Causes.{Faults, Hidden, no_faults}
 use Rattle.gate_world.specs.declared.event.Event.{Event}
-use Rattle.gate_world.specs.declared.event.Event.TheVariants.{Accepted, ClientDone}
 use Rattle.gate_words.specs.declared.task.Task.{Task}
-use Rattle.gate_machine.specs.Progress.{Progress}
-use Rattle.gate_machine.specs.declared.machine.Machine.{Machine}
-use Rattle.gate_machine.specs.declared.standing.Standing.TheVariants as standing
-use Rattle.gateway.proofs.Needs.{Law, answered_from}
-use Rattle.gateway.specs.Calls.{Mailing}
-use Rattle.gateway.specs.Complete.{IsAnsweredFrom, IsReplyObeyed, IsSegmentObeyed, IsTold, NobodyComes, TakesResponse, LacksMemory, IsRunObeyed, IsRunTold, IsTaskObeyed}
+use Rattle.gate_serving.specs.declared.door.Door.{Door}
+use Rattle.gate_serving.specs.declared.door.Door.TheVariants.{Bare, Http}
+use Rattle.gate_serving.specs.Complete.{CompletesRun}
+use Rattle.gate_serving.specs.Requests.{Account}
+use Rattle.gate_serving.specs.Run.{account_of}
+use Rattle.gate_serving.proofs.Told.{ToldLaw}
 use Rattle.gateway.specs.Complete.{IsTaskTold, CompletesServing}
-use Rattle.gateway.specs.Requests.{Account, Asking, Door, Bare, ReadsAsking, response_of}
-use Rattle.gateway.specs.Run.{sum_of_faults, Run, Begun, Then, run_blamed, account_of, Performed, Unopened, ServedOnce, ShownOne, Runs, Refused, OutOfMemory, Done}
-use Rattle.gateway.specs.Segment.{Replies, Answered, LacksReading, LacksAnswering, Segment, NoneComes, NotAccepted, Unasked, Replied, blame_front, blamed, reply_blamed}
-use Rattle.gateway.specs.declared.served.Served.{Served}
-use Rattle.gateway.specs.declared.served.Served.TheVariants as served
+use Rattle.gateway.specs.Program.{Performed, Unopened, ServedMany, ServedOnce, ShownOne, Explained, Refused, OutOfMemory, Done}
 
--- one more is never none
-never : (n : ℕ) → n + 1 ≡ 0 → ⊥
-never n is = absurd (omega (arith, is))
+abbrev pub RunsLaw : Type 0
+RunsLaw = (door : Door) (account : Account) (events : List Event) → CompletesRun door account events
 
-nothing : (n : ℕ) → n + 0 ≡ 0 → n ≡ 0
-nothing n is = omega (arith, is)
+task_told : ToldLaw → RunsLaw → {task : Task} {secrets : Hidden} {status : ℕ} {blames : Faults} {events : List Event} (ran : Performed task secrets status blames events)
+    → IsTaskTold ran
+task_told law runs (Unopened place a b c d) = tt
+task_told law runs {secrets = secrets} (ServedMany place listen most is serves) =
+    runs Http (account_of place secrets) serves.serving serves.before serves.after serves.went serves.run
+task_told law runs {secrets = secrets} (ServedOnce place is serves) =
+    law Bare (account_of place secrets) serves.before serves.serving serves.how serves.after serves.segment
+task_told law runs (ShownOne a b) = tt
+task_told law runs (Explained page a b) = tt
 
--- where none is added and nothing is blamed, nothing was blamed
-blameless : (f : Faults) → blame_front 0 f ≡ no_faults → f ≡ no_faults
-blameless f is = λ i. record {
-  link = ap (λ (g : Faults). g.link) is i;
-  keep = ap (λ (g : Faults). g.keep) is i;
-  front = nothing f.front (ap (λ (g : Faults). g.front) is) i;
-  say = ap (λ (g : Faults). g.say) is i;
-}
-
-blamed_once : (f : Faults) → blame_front 1 f ≡ no_faults → ⊥
-blamed_once f is = never f.front (ap (λ (g : Faults). g.front) is)
-
-takes : (door : Door) (account : Account) (events asked worked replied heard : List Event) (text : List ℕ) (how : Served) (after : Machine) (asking : Asking) (mail : Mailing)
-    (done : Progress) → events ≡ Accepted ∷ ((replied ++ heard) ++ ClientDone ∷ []) → replied ≡ asked ++ worked → ReadsAsking door (Ok asking) asked
-    → done.standing ≢ standing.OutOfMemory
-    → text ≡ response_of door account mail asking → after ≡ done.machine → Hears text heard → how ≡ served.Whole
-    → IsAnsweredFrom asking mail done ⊎ (done.standing ≡ standing.OutOfMemory) → IsTold door account events how after
-takes door account events asked worked replied heard text how after asking mail done is split reads stands text_is after_is hears whole (inl from) =
-    TakesResponse asked worked heard asking mail done (is ∙ (λ i. Accepted ∷ ((split i ++ heard) ++ ClientDone ∷ []))) reads from after_is
-    (subst (λ (t : List ℕ). Hears t heard) text_is hears) whole
-takes door account events asked worked replied heard text how after asking mail done is split reads stands text_is after_is hears whole (inr out) = absurd (stands out)
-
-told_by : Law → (door : Door) (account : Account) (before : Machine) (events replied heard : List Event) (text : List ℕ) (how : Served) (after : Machine)
-    → events ≡ Accepted ∷ ((replied ++ heard) ++ ClientDone ∷ []) → (replies : Replies door account before replied text after) → Hears text heard → how ≡ served.Whole
-    → IsReplyObeyed replies → reply_blamed replies ≡ no_faults → IsTold door account events how after
-told_by law door account before events replied heard text how after is (Answered asked worked asking mail done split reads work stands text_is after_is) hears whole obeyed none =
-    takes door account events asked worked replied heard text how after asking mail done is split reads stands text_is after_is hears whole
-    (answered_from law account before asking worked mail done work obeyed none)
-told_by law door account before events replied heard text how after is (LacksReading reads text_is after_is) hears whole obeyed none =
-    LacksMemory replied heard is (subst (λ (t : List ℕ). Hears t heard) text_is hears) whole
-told_by law door account before events replied heard text how after is (LacksAnswering asked worked asking mail done split reads work text_is after_is) hears whole obeyed none =
-    LacksMemory replied heard is (subst (λ (t : List ℕ). Hears t heard) text_is hears) whole
-
-pub told : Law → (door : Door) (account : Account) (before : Machine) (events : List Event) (how : Served) (after : Machine)
-    (segment : Segment door account before events how after) → IsSegmentObeyed segment → blamed segment ≡ no_faults → IsTold door account events how after
-told law door account before events how after (NoneComes is how_is same) obeyed none = NobodyComes is how_is
-told law door account before events how after (NotAccepted is how_is same) obeyed none = absurd (blamed_once no_faults none)
-told law door account before events how after (Unasked asked is reads how_is same) obeyed none = absurd (blamed_once no_faults none)
-told law door account before events how after (Replied replied heard text (Ok u) is replies sends how_is) obeyed none =
-    told_by law door account before events replied heard text how after is replies sends how_is obeyed (blameless (reply_blamed replies) none)
-told law door account before events how after (Replied replied heard text (Err e) is replies sends how_is) obeyed none = absurd (blamed_once (reply_blamed replies) none)
-
--- ---- runs
-
-sum_none : (a b : ℕ) → a + b ≡ 0 → (a ≡ 0) × (b ≡ 0)
-sum_none a b is = (omega (arith, is), omega (arith, is))
-
-both_none : (f g : Faults) → sum_of_faults f g ≡ no_faults → (f ≡ no_faults) × (g ≡ no_faults)
-both_none f g is =
-    let link = sum_none f.link g.link (ap (λ (h : Faults). h.link) is) in
-    let keep = sum_none f.keep g.keep (ap (λ (h : Faults). h.keep) is) in
-    let front = sum_none f.front g.front (ap (λ (h : Faults). h.front) is) in
-    let say = sum_none f.say g.say (ap (λ (h : Faults). h.say) is) in (
-      (λ i. record { link = link.0 i; keep = keep.0 i; front = front.0 i; say = say.0 i }),
-      (λ i. record { link = link.1 i; keep = keep.1 i; front = front.1 i; say = say.1 i }),
-    )
-
--- what is proved of each client
-abbrev pub ToldLaw : Type 0
-ToldLaw = (door : Door) (account : Account) (before : Machine) (events : List Event) (how : Served) (after : Machine)
-    (segment : Segment door account before events how after) → IsSegmentObeyed segment → blamed segment ≡ no_faults → IsTold door account events how after
-
-pub run_told : ToldLaw → {door : Door} {account : Account} {before after : Machine} {events : List Event} {went : List Served} (run : Run door account before events went after)
-    → run_blamed run ≡ no_faults → IsRunObeyed run → IsRunTold run
-run_told law Begun none obeyed = tt
-run_told law {door} {account} (Then {fs = fs} {s = s} {mid = mid} {after = after} run segment) none obeyed =
-    let parts = both_none (run_blamed run) (blamed segment) none in
-    (run_told law run parts.0 obeyed.0, law door account mid fs s after segment obeyed.1 parts.1)
-
--- ---- the program
-
-task_told : ToldLaw → {task : Task} {password : List ℕ} {status : ℕ} {blames : Faults} {events : List Event} (ran : Performed task password status blames events)
-    → blames ≡ no_faults
-    → IsTaskObeyed ran → IsTaskTold ran
-task_told law (Unopened place m a b c d) none obeyed = tt
-task_told law {password = password} (ServedOnce place opened segment said m after how served is opens ends blames_is events_are) none obeyed =
-    law Bare (account_of place password) m segment how after served obeyed (sym blames_is ∙ none)
-task_told law (ShownOne shown said outcome a b c d e) none obeyed = tt
-
-pub program_told : ToldLaw → (words : List (List ℕ)) (password : List ℕ) (status : ℕ) (events : List Event) → CompletesServing words password status events
-program_told law words password status events blames (Refused a b c d) none obeyed = tt
-program_told law words password status events blames (OutOfMemory a b c) none obeyed = tt
-program_told law words password status events blames (Done task is ran) none obeyed = task_told law ran none obeyed
+pub program_told : ToldLaw → RunsLaw → (words : List (List ℕ)) (secrets : Hidden) (status : ℕ) (events : List Event) → CompletesServing words secrets status events
+program_told law runs words secrets status events blames (Refused a b c d) = tt
+program_told law runs words secrets status events blames (OutOfMemory a b c) = tt
+program_told law runs words secrets status events blames (Done task is ran) = task_told law runs ran

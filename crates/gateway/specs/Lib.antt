@@ -1,10 +1,4 @@
-pub mod Front
-pub mod Counts
-pub mod Calls
-pub mod Requests
-pub mod Work
-pub mod Segment
 pub mod Show
-pub mod Run
+pub mod Explain
+pub mod Program
 pub mod Complete
-pub mod reading

@@ -7,12 +7,12 @@ use Rattle.gate_world.specs.declared.event.Event.TheVariants.{Accepted, NoMore, 
 use Rattle.gate_world.specs.declared.outside.Failed.{Failed}
 use Rattle.email_get.specs.EmailObjects.{IsEmailObject}
 use Rattle.gateway.specs.declared.show.TheConstants.{MAX_MESSAGE_OCTETS}
-use Rattle.gateway.specs.declared.front.FrontError.{FrontError}
-use Rattle.gateway.specs.declared.front.FrontError.TheVariants as front
-use Rattle.gateway.specs.declared.front.Input.{Input}
+use Rattle.gate_serving.specs.declared.front.FrontError.{FrontError}
+use Rattle.gate_serving.specs.declared.front.FrontError.TheVariants as front
+use Rattle.gate_serving.specs.declared.front.Input.{Input}
 use Rattle.gate_world.specs.Sending.{Sends}
-use Rattle.gateway.specs.Front.{input_octets, GivesInput}
-use Rattle.gateway.specs.Requests.{line_end}
+use Rattle.gate_serving.specs.Front.{input_octets, GivesInput}
+use Rattle.gate_serving.specs.Answers.{line_end}
 
 -- the most octets of a message
 abbrev pub message_limit : ℕ
@@ -38,12 +38,21 @@ abbrev pub over_front : Result (Unit {0}) Failed → Result (Unit {0}) FrontErro
 over_front (Ok _) = Ok tt
 over_front (Err _) = Err front.Failed
 
+-- The message is read, and the line that shows it is sent.
+pub record SendsLine (outcome : Result (Unit {0}) FrontError) (events : List Event) : Type 0 where
+  pub reading : List Event
+  pub heard : List Event
+  pub line : List ℕ
+  pub sent : Result (Unit {0}) Failed
+  pub whole : events ≡ reading ++ heard
+  pub reads : ReadsInput (Ok line) reading
+  pub sends : Sends line sent heard
+  pub outcome_is : outcome ≡ over_front sent
+
 -- What comes of a message. Where memory runs out or the front fails before the message's end, nothing is sent.
 pub data Answers (outcome : Result (Unit {0}) FrontError) (events : List Event) : Type 0 where
   Unread : (e : FrontError) → ReadsInput (Err e) events → outcome ≡ Err e → Answers outcome events
-  Sent : (reads heard : List Event) (line : List ℕ) (sent : Result (Unit {0}) Failed) → events ≡ reads ++ heard → ReadsInput (Ok line) reads
-      → Sends line sent heard
-      → outcome ≡ over_front sent → Answers outcome events
+  Sent : SendsLine outcome events → Answers outcome events
 
 -- One client that gives a message, or that there is none.
 pub data Shows (outcome : Result (Unit {0}) FrontError) (events : List Event) : Type 0 where

@@ -1,20 +1,19 @@
 // The top call: from the words of the command to the status of the program.
-ghost use Rattle.std.specs.Prelude.{◌≡◌, ◌⊎◌, map, string_bytes};
+ghost use Rattle.std.specs.Prelude.{◌≡◌, ◌⊎◌, ℕ, map, string_bytes, List};
 ghost use Rattle.gate_world.specs.Causes.{Rose, Later, SayAlone};
 ghost use Rattle.gate_world.specs.Tape.{Adds};
+ghost use Rattle.gate_words.specs.Pages.{page_text};
 ghost use Rattle.gate_words.specs.Task.{IsTask};
 ghost use Rattle.gate_words.specs.declared.task.Task.{Task};
 ghost use Rattle.gateway.specs.Complete.{CompletesServing, CompletesShow};
-ghost use Rattle.gateway.specs.Run.{IsWholeRun, Performs, RunsShow, IsSaid, EndsOnce, front_failed, words_refused};
+ghost use Rattle.gateway.specs.Program.{EndsDone, EndsFailed, EndsOnce, IsApart, IsSaid, IsWholeRun, Performs, RunsExplain, RunsShow, front_failed, words_refused};
 
-use crate::bare_gate::BareGate;
-use crate::front::FrontError;
-use crate::gate::Gate;
+use crate::explain::explain_one;
 use crate::laws::obeyed_programs_tell;
-use crate::served::{OpenError, Served};
 use crate::show::show_one;
-use gate_words::{Place, Task, WordsError, read_words};
-use gate_world::{Watcher, World};
+use gate_serving::{Door, FrontError, Gate, OpenError, Served, serve};
+use gate_words::{Page, Place, Task, WordsError, read_words};
+use gate_world::{Failed, Watcher, World};
 use std::alloc::Global;
 
 /// The program did what it was asked.
@@ -67,17 +66,50 @@ fn end_once<W: World>(world: &mut W, served: Served) -> u8
 // Opens a gate and answers one client.
 fn once<W: World>(alloc: Global, world: &mut W, place: &Place) -> u8
     ensures run { Adds (W.tape world.old) (W.tape world.new)
-        (Performs (Task.Once place.now) (W.hidden world.old).password (W.faults world.old) (W.faults world.new) result) }
+        (Performs (Task.Once place.now) (W.hidden world.old) (W.faults world.old) (W.faults world.new) result) }
     ensures statuses { (result ≡ 0) ⊎ (result ≡ 5) ⊎ (result ≡ 6) }
     ensures front { result ≡ 6 → Rose (W.faults world.old).front (W.faults world.new).front }
     ensures later { Later (W.faults world.old) (W.faults world.new) }
     ensures hidden { W.hidden world.new ≡ W.hidden world.old }
 {
-    match BareGate::open(alloc, world, place) {
+    match Gate::open(alloc, world, Door::Bare, place) {
         Err(OpenError::Memory) => STATUS_MEMORY,
         Ok(mut gate) => {
             let served = gate.answer_one(alloc, world);
             end_once(world, served)
+        }
+    }
+}
+
+// Ends the serving of clients over HTTP.
+fn end_serving<W: World>(world: &mut W, status: u8) -> u8
+    requires { (status ≡ 0) ⊎ (status ≡ 6) }
+    ensures said { Adds (W.tape world.old) (W.tape world.new) (λ es. EndsDone result es ⊎ EndsFailed result es) }
+    ensures status { result ≡ status }
+    ensures alone { SayAlone (W.faults world.old) (W.faults world.new) }
+    ensures hidden { W.hidden world.new ≡ W.hidden world.old }
+{
+    if status == STATUS_FRONT {
+        end_failed(world)
+    } else {
+        STATUS_DONE
+    }
+}
+
+// Opens a gate and answers clients over HTTP.
+fn serve_clients<W: World>(alloc: Global, world: &mut W, place: &Place, most: u64) -> u8
+    ensures run { Adds (W.tape world.old) (W.tape world.new)
+        (λ es. (listen : List ℕ) → Performs (Task.Serve place.now listen most) (W.hidden world.old) (W.faults world.old) (W.faults world.new) result es) }
+    ensures statuses { (result ≡ 0) ⊎ (result ≡ 5) ⊎ (result ≡ 6) }
+    ensures front { result ≡ 6 → Rose (W.faults world.old).front (W.faults world.new).front }
+    ensures later { Later (W.faults world.old) (W.faults world.new) }
+    ensures hidden { W.hidden world.new ≡ W.hidden world.old }
+{
+    match Gate::open(alloc, world, Door::Http, place) {
+        Err(OpenError::Memory) => STATUS_MEMORY,
+        Ok(mut gate) => {
+            let status = serve(alloc, &mut gate, world, most);
+            end_serving(world, status)
         }
     }
 }
@@ -98,19 +130,40 @@ fn show<W: World>(alloc: Global, world: &mut W) -> u8
     }
 }
 
+// Tells one client a page.
+fn explain<W: World>(world: &mut W, page: Page) -> u8
+    ensures run { Adds (W.tape world.old) (W.tape world.new) (RunsExplain (page_text page) result) }
+    ensures statuses { (result ≡ 0) ⊎ (result ≡ 6) }
+    ensures front { result ≡ 6 → Rose (W.faults world.old).front (W.faults world.new).front }
+    ensures later { Later (W.faults world.old) (W.faults world.new) }
+    ensures apart { (W.faults world.new).link ≡ (W.faults world.old).link }
+    ensures hidden { W.hidden world.new ≡ W.hidden world.old }
+{
+    match explain_one(world, page.text().as_bytes()) {
+        Ok(()) => STATUS_DONE,
+        Err(Failed) => end_failed(world),
+    }
+}
+
 // Does what the task asks.
 fn perform<W: World>(alloc: Global, world: &mut W, task: &Task) -> u8
     ensures run { Adds (W.tape world.old) (W.tape world.new)
-        (Performs task.now (W.hidden world.old).password (W.faults world.old) (W.faults world.new) result) }
+        (Performs task.now (W.hidden world.old) (W.faults world.old) (W.faults world.new) result) }
     ensures statuses { (result ≡ 0) ⊎ (result ≡ 5) ⊎ (result ≡ 6) }
     ensures front { result ≡ 6 → Rose (W.faults world.old).front (W.faults world.new).front }
     ensures later { Later (W.faults world.old) (W.faults world.new) }
-    ensures apart { task.now ≡ Task.Show → (W.faults world.new).link ≡ (W.faults world.old).link }
+    ensures apart { IsApart task.now → (W.faults world.new).link ≡ (W.faults world.old).link }
     ensures hidden { W.hidden world.new ≡ W.hidden world.old }
 {
     match task {
+        Task::Serve {
+            place,
+            connections,
+            ..
+        } => serve_clients(alloc, world, place, *connections),
         Task::Once { place } => once(alloc, world, place),
         Task::Show => show(alloc, world),
+        Task::Explain { page } => explain(world, *page),
     }
 }
 
@@ -119,11 +172,11 @@ fn perform<W: World>(alloc: Global, world: &mut W, task: &Task) -> u8
 pub fn run<W: World>(words: &[String], world: &mut W, watchers: &mut Vec<Box<dyn Watcher>>) -> u8
     // Where the tape is told, it has grown by a run over these words, and the counts of faults bear what the run blames.
     ensures run { Adds (W.tape world.old) (W.tape world.new)
-        (IsWholeRun (map string_bytes words.now) (W.hidden world.old).password (W.faults world.old) (W.faults world.new) result) }
+        (IsWholeRun (map string_bytes words.now) (W.hidden world.old) (W.faults world.old) (W.faults world.new) result) }
 
-    // Where nothing is blamed and the store obeyed every request, whoever came takes the whole response over the mail that is
-    // served then; or memory ran out, and they take the text of that.
-    ensures complete { Adds (W.tape world.old) (W.tape world.new) (CompletesServing (map string_bytes words.now) (W.hidden world.old).password result) }
+    // A law over that run: of whom nothing is blamed and for whom the store obeyed takes the whole response over the mail that is
+    // served then, whatever comes of the others; or memory ran out, and they take the text of that.
+    ensures complete { Adds (W.tape world.old) (W.tape world.new) (CompletesServing (map string_bytes words.now) (W.hidden world.old) result) }
 
     // Whoever gives a message to be shown, while the front does not fail, is sent its Email object and a line end; or memory
     // was wanting, and nothing was sent.
@@ -135,9 +188,9 @@ pub fn run<W: World>(words: &[String], world: &mut W, watchers: &mut Vec<Box<dyn
     ensures refused { ((task : Task) → IsTask (map string_bytes words.now) task → ⊥) → (result ≡ 2) ⊎ (result ≡ 5) }
     ensures front { result ≡ 6 → Rose (W.faults world.old).front (W.faults world.new).front }
 
-    // What stays. Showing a message has nothing to do with the store.
+    // What stays. Showing a message and explaining have nothing to do with the store.
     ensures later { Later (W.faults world.old) (W.faults world.new) }
-    ensures apart { IsTask (map string_bytes words.now) Task.Show → (W.faults world.new).link ≡ (W.faults world.old).link }
+    ensures apart { (task : Task) → IsTask (map string_bytes words.now) task → IsApart task → (W.faults world.new).link ≡ (W.faults world.old).link }
     ensures hidden { W.hidden world.new ≡ W.hidden world.old }
     ensures watchers { watchers.new ≡ watchers.old }
 {

@@ -4,9 +4,8 @@ ghost use Rattle.gate_world.specs.Causes.{Rose, FrontAlone};
 ghost use Rattle.gate_world.specs.Tape.{Adds};
 ghost use Rattle.gateway.specs.Show.{ShowsObject, ReadsInput, Answers, ShowsClient, Shows};
 
-use crate::front::{FrontError, receive};
-use crate::line::with_line_end;
 use email_get::email_object;
+use gate_serving::{FrontError, receive, with_line_end};
 use gate_world::{Bytes, Front, send_all};
 use std::alloc::{AllocError, Global};
 

@@ -13,3 +13,5 @@ mod cut_requests;
 mod heads;
 #[cfg(test)]
 mod responses;
+#[cfg(test)]
+mod routes;

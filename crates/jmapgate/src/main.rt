@@ -2,9 +2,10 @@
 #![tactic(auto)]
 
 ghost use Rattle.std.specs.Prelude.{◌≡◌, [], map, string_bytes, IfOk};
-ghost use Rattle.jmapgate.specs.Store.{NamesStore};
+ghost use Rattle.jmapgate.specs.Devices.{NamesListener, NamesStore};
 
-use gate_host::HostWorld;
+use client_front::TcpClients;
+use gate_host::{Clients, Host, HostWorld, ListenerFront, StandardFront};
 use gate_words::{Task, WordsError, read_words};
 use gate_world::{Bytes, Text, Watcher};
 use std::alloc::{AllocError, Global};
@@ -26,12 +27,24 @@ fn main(rt: HostRuntime) -> ExitCode {
 /// Makes the devices that the words ask for, and runs the gateway over them.
 fn run(rt: HostRuntime) -> Result<u8, AllocError> {
     let words = words_of(&rt)?;
-    let store = store_of(rt.alloc(), &words)?;
+    match listen_of(rt.alloc(), &words)? {
+        Some(address) => {
+            let listener = TcpClients::bind(rt.alloc(), &rt, address.as_str());
+            let front = ListenerFront::new(rt.alloc(), listener, rt);
+            run_over(rt, &words, front)
+        }
+        None => run_over(rt, &words, StandardFront::new(rt.input(), rt.output())),
+    }
+}
+
+/// Runs the gateway for these clients.
+fn run_over<C: Clients>(rt: HostRuntime, words: &[String], front: C) -> Result<u8, AllocError> {
+    let store = store_of(rt.alloc(), words)?;
     let password = variable(&rt, "JMAPGATE_PASSWORD")?;
     let token = variable(&rt, "JMAPGATE_TOKEN")?;
-    let mut world = HostWorld::new(rt, store, password, token);
+    let mut world = HostWorld::new(rt, store, front, password, token);
     let mut watchers: Vec<Box<dyn Watcher>> = Vec::new(rt.alloc());
-    Ok(gateway::run(&words, &mut world, &mut watchers))
+    Ok(gateway::run(words, &mut world, &mut watchers))
 }
 
 /// The words after the program's name. Where one of them is no UTF-8 there are none, which are refused as well.
@@ -60,9 +73,25 @@ fn store_of(alloc: Global, words: &[String]) -> Result<Text, AllocError>
     ensures { IfOk result (NamesStore (map string_bytes words.now)) }
 {
     match read_words(alloc, words) {
+        Ok(Task::Serve { place, .. }) => Ok(place.store),
         Ok(Task::Once { place }) => Ok(place.store),
         Ok(Task::Show) => Ok(no_store(alloc)),
+        Ok(Task::Explain { .. }) => Ok(no_store(alloc)),
         Err(WordsError::Refused) => Ok(no_store(alloc)),
+        Err(WordsError::Memory) => Err(AllocError),
+    }
+}
+
+/// Where the words have clients accepted: at no address but in `serve`.
+fn listen_of(alloc: Global, words: &[String]) -> Result<Option<Text>, AllocError>
+    ensures { IfOk result (NamesListener (map string_bytes words.now)) }
+{
+    match read_words(alloc, words) {
+        Ok(Task::Serve { listen, .. }) => Ok(Some(listen)),
+        Ok(Task::Once { .. }) => Ok(None),
+        Ok(Task::Show) => Ok(None),
+        Ok(Task::Explain { .. }) => Ok(None),
+        Err(WordsError::Refused) => Ok(None),
         Err(WordsError::Memory) => Err(AllocError),
     }
 }

@@ -6,7 +6,7 @@
 mod made;
 mod store_octets;
 
-use gate_host::HostWorld;
+use gate_host::{Host, HostWorld, StandardFront};
 use gate_world::{Bytes, Link, Secrets, Text, Unread};
 use imap_client::Client;
 use made::MadeLink;
@@ -144,7 +144,8 @@ fn over_tcp(rt: HostRuntime, store: String, user: String) -> Result<(), anyhow::
         Err(_) => Bytes::copy_of(rt.alloc(), b"")?,
     };
     let token = Bytes::copy_of(rt.alloc(), b"")?;
-    let mut world = HostWorld::new(rt, Text::from_string(store), password, token);
+    let front = StandardFront::new(rt.input(), rt.output());
+    let mut world = HostWorld::new(rt, Text::from_string(store), front, password, token);
     rounds(&rt, &mut world, user.as_bytes())
 }
 

@@ -2,6 +2,8 @@
 #![tactic(auto)]
 
 #[cfg(test)]
+mod http_clients;
+#[cfg(test)]
 mod shown_messages;
 #[cfg(test)]
 mod whole_runs;

@@ -1,6 +1,7 @@
 // Whole runs over a world that follows a script.
+use gate_serving::{Door, Gate, Served};
 use gate_world::{Bytes, Event, Text, Watcher};
-use gateway::{BareGate, Gate, Place, Served, run};
+use gateway::{Place, run};
 use scripted_world::{Script, ScriptWorld};
 use std::alloc::{AllocError, Global};
 use std::process::Abort;
@@ -42,16 +43,16 @@ const FETCHES: &[u8] =
     b"a7 UID FETCH 1:* (UID FLAGS MODSEQ INTERNALDATE RFC822.SIZE BODY.PEEK[HEADER]<0.32768>)\r\n";
 
 /// What a store gives up to the fetch, the messages, and its end.
-const CONNECTED: &[u8] =
+pub(crate) const CONNECTED: &[u8] =
     b"* OK hi\r\n* CAPABILITY IMAP4rev2 QRESYNC\r\na1 OK done\r\na2 OK in\r\n* CAPABILITY IMAP4rev2 QRESYNC\r\na3 OK done\r\n";
 
-const LISTED: &[u8] =
+pub(crate) const LISTED: &[u8] =
     b"* ENABLED QRESYNC\r\na4 OK on\r\n* LIST (\\Subscribed) \"/\" INBOX\r\na5 OK listed\r\n";
 
-const SELECTED: &[u8] =
+pub(crate) const SELECTED: &[u8] =
     b"* 0 EXISTS\r\n* OK [UIDVALIDITY 7] x\r\n* OK [UIDNEXT 1] x\r\n* OK [HIGHESTMODSEQ 1] x\r\na6 OK [READ-WRITE] x\r\n";
 
-const DONE: &[u8] = b"a7 OK done\r\n";
+pub(crate) const DONE: &[u8] = b"a7 OK done\r\n";
 
 const THREE: &[u8] =
     b"* 1 FETCH (UID 1 FLAGS (\\Seen) MODSEQ (3) INTERNALDATE \"01-Jan-2024 00:00:00 +0000\" RFC822.SIZE 40 BODY[HEADER]<0> {2}\r\n\r\n)\r\n* 2 FETCH (UID 2 FLAGS () MODSEQ (3) INTERNALDATE \"01-Jan-2024 00:00:00 +0000\" RFC822.SIZE 40 BODY[HEADER]<0> {2}\r\n\r\n)\r\n* 3 FETCH (UID 4 FLAGS () MODSEQ (3) INTERNALDATE \"01-Jan-2024 00:00:00 +0000\" RFC822.SIZE 40 BODY[HEADER]<0> {2}\r\n\r\n)\r\n";
@@ -68,7 +69,7 @@ pub(crate) struct Seen {
     store_gave: usize,
     store_took: Vec<u8>,
     pub(crate) said: Vec<u8>,
-    dials: usize,
+    pub(crate) dials: usize,
     is_linked: bool,
     /// Whether a client took octets while a link life had not ended.
     was_early: bool,
@@ -302,7 +303,7 @@ fn a_lost_link_spoils_one_request(rt: HostRuntime) -> Result<(), Fail> {
         .with_secrets(b"pw", b"")?;
     let mut world = ScriptWorld::new(alloc, script);
     let place = place(alloc)?;
-    let Ok(mut gate) = BareGate::open(alloc, &mut world, &place) else {
+    let Ok(mut gate) = Gate::open(alloc, &mut world, Door::Bare, &place) else {
         return Err(Fail::from("no gate"));
     };
     for _ in 0..3 {

@@ -14,8 +14,8 @@ use std::alloc::{AllocError, Global};
 use std::collections::BTreeMap;
 use std::marker::Model;
 
-/// Changes that are made within the vector, before messages move into the map. That many cost about as much as to
-/// move all of them into the map and back.
+/// Changes that are made within the vector, before messages move into the map. That many cost far less than to move all of
+/// them into the map and back.
 const CHANGES_WITHIN: u32 = 16;
 
 /// Messages by UID. The first changes are made within a vector. From then on those from some UID on stand in a map, so

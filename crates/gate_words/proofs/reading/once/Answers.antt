@@ -1,11 +1,21 @@
-use Rattle.std.proofs.Common.{Some, map, string_bytes, sym, ap, ◌∙◌}
-use Rattle.gate_words.specs.declared.place.Place.{Place}
-use Rattle.gate_words.proofs.Tasks.{no-place, is-once}
+use Rattle.std.proofs.Common.{rules, List, Some, map, string_bytes, ap, ◌∙◌}
+use Rattle.gate_words.specs.Lent.{setting_in}
+use Rattle.gate_words.specs.Task.{IsOnce}
+use Rattle.gate_words.specs.declared.option.LentSetting.{LentSetting}
+use Rattle.gate_words.proofs.Tasks.{spelled-by, not-spelled, not-meant, ok-then, err-then}
 use Rattle.gate_words.proofs.reading.once.Goals as goal
 
-pub returns-in_default-clause-refused : goal.returns-in_default-clause-refused
-returns-in_default-clause-refused c refused = no-place (map string_bytes c.args.options.now) c.in_default.ensures
+pub returns-in-Ok-clause-ok : goal.returns-in-Ok-clause-ok
+returns-in-Ok-clause-ok c =
+    ok-then c.once_by.result c.once_by.ensures.ok
+    (λ task means. spelled-by IsOnce (map string_bytes c.args.options.now) (map setting_in c.as_slice.result.now) task
+    (c.in-Ok.ensures.ok ∙ ap (λ (l : List LentSetting). Some (map setting_in l)) (search rules)) means)
 
-pub returns-clause-ok : goal.returns-clause-ok
-returns-clause-ok c =
-    is-once (map string_bytes c.args.options.now) c.in_ok-owned.field-0 (sym c.in-Some.ensures ∙ ap (λ (p : Place). Some p) (sym c.in_ok-owned.ensures))
+pub returns-in-Ok-clause-refused : goal.returns-in-Ok-clause-refused
+returns-in-Ok-clause-refused c =
+    err-then c.once_by.result c.once_by.ensures.refused
+    (λ error none is. not-meant IsOnce (map string_bytes c.args.options.now) (map setting_in c.as_slice.result.now)
+    (c.in-Ok.ensures.ok ∙ ap (λ (l : List LentSetting). Some (map setting_in l)) (search rules)) (none is))
+
+pub returns-in-Err-clause-refused : goal.returns-in-Err-clause-refused
+returns-in-Err-clause-refused c is = not-spelled IsOnce (map string_bytes c.args.options.now) (c.in-Err.ensures.refused is)

@@ -1,21 +1,19 @@
-use Rattle.std.proofs.Common.{◌∙◌, ap}
+use Rattle.std.proofs.Common.{refl, ap, ◌∙◌}
 use Rattle.gate_world.specs.Causes.{Hidden}
 use Rattle.gate_world.proofs.Joins.{join, widen}
-use Rattle.gateway.specs.Run.{account_of}
+use Rattle.gate_serving.specs.Gates.{account_by}
 use Rattle.gateway.proofs.Performing.{Attends, attends, performs_once, performs_unopened}
 use Rattle.gateway.proofs.program.once.Goals as goal
 
 pub returns-in-Err-Memory-clause-run : goal.returns-in-Err-Memory-clause-run
 returns-in-Err-Memory-clause-run g c = widen _ c.in-Err-Memory.ensures.run
-    (λ x opens. performs_unopened c.args.place.now c.in-Err-Memory.field-0 opens.0 c.in-Err-Memory.ensures.cause opens.1)
+    (λ x opens. performs_unopened _ c.args.place.now c.in-Err-Memory.field-0 refl c.in-Err-Memory.ensures.cause opens)
 
 pub returns-in-Ok-clause-run : goal.returns-in-Ok-clause-run
 returns-in-Ok-clause-run g c =
     join _
-    (join (Attends c.args.place.now (g.W.Taped.hidden c.args.world.now).password (g.W.Taped.faults c.args.world.now)
-    (g.W.Taped.faults c.answer_one-served.new.world) c.answer_one-served.result)
-    c.in-Ok.ensures.run c.answer_one-served.ensures.run (λ x y opens runs.
-    attends x y c.args.place.now (g.W.Taped.hidden c.args.world.now).password (g.W.Taped.faults c.args.world.now)
-    (c.in-Ok.ensures.account (g.W.Taped.hidden c.open.new.world) ∙ ap (λ (h : Hidden). account_of c.args.place.now h.password) c.in-Ok.ensures.hidden) c.in-Ok.ensures.cause opens.1
-    (runs opens.0 opens.2)))
+    (join (Attends c.args.place.now (g.W.Taped.hidden c.args.world.now) (g.W.Taped.faults c.args.world.now) (g.W.Taped.faults c.answer_one-served.new.world)
+    c.answer_one-served.result)
+    c.in-Ok.ensures.run c.answer_one-served.ensures.run (λ x y opens steps.
+    attends x y c.in-Ok.ensures.door (ap (λ (h : Hidden). account_by c.in-Ok.gate h) c.in-Ok.ensures.hidden ∙ c.in-Ok.ensures.account) c.in-Ok.ensures.hidden c.in-Ok.ensures.cause opens steps))
     c.end_once.ensures.said (λ x y attended ends. performs_once y attended c.end_once.ensures.alone ends)

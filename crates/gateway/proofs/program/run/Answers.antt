@@ -1,3 +1,7 @@
+use Rattle.std.proofs.Common.{subst}
+use Rattle.gate_words.specs.declared.task.Task.{Task}
+use Rattle.gate_words.proofs.Tasks.{same-task}
+use Rattle.gateway.specs.Program.{IsApart}
 use Rattle.gate_world.proofs.Joins.{none, widen}
 use Rattle.gateway.proofs.CompletingShow.{completes_show}
 use Rattle.gateway.proofs.Performing.{runs_task, runs_refused, runs_lacking}
@@ -25,3 +29,7 @@ returns-in-Err-Refused-clause-complete g c = widen _ c.end_refused.ensures.said 
 
 pub returns-in-Err-Memory-clause-complete : goal.returns-in-Err-Memory-clause-complete
 returns-in-Err-Memory-clause-complete g c = none _ _ (c.obeyed_programs_tell.ensures _ _ _ _)
+
+pub returns-in-Ok-clause-apart : goal.returns-in-Ok-clause-apart
+returns-in-Ok-clause-apart g c =
+    λ other is apart. c.perform.ensures.apart (subst (λ (t : Task). IsApart t) (same-task _ other c.in-Ok.task is c.in-Ok.ensures.ok) apart)

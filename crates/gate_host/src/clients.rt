@@ -1,0 +1,54 @@
+// Clients, whichever way they come.
+ghost use Rattle.std.specs.Prelude.{ℕ, Bool, List, Option, Result, ◌≡◌, ◌<◌, ◌≤◌, length, IfOk, OnOk, OnErr};
+ghost use Rattle.std.specs.Io.KnownBytes.{ReadConsumes, WriteAppends};
+ghost use Rattle.gate_host.specs.Faults.{one_more};
+ghost use Rattle.gate_world.specs.declared.outside.Failed.{Failed as failed};
+
+use gate_world::Failed;
+
+/// Clients, one after another. Each Err is one fault.
+pub trait Clients: Drop {
+    /// How often a call has failed; the last number stays.
+    ghost client_faults: { Self → ℕ };
+
+    /// The octets that the client gives from here on, and those that it was given, where they are known.
+    ghost gives: { Self → Option (List ℕ) };
+
+    ghost takes: { Self → Option (List ℕ) };
+
+    /// What a call of `accept` comes to, between the clients before it and after it.
+    ghost accepts: { Self → Result Bool failed → Self → Type 0 };
+
+    /// What a call of `finish` changes.
+    ghost finishes: { Self → Self → Type 0 };
+
+    /// Waits for the next client. False where no client will come.
+    fn accept(&mut self) -> Result<bool, Failed>
+        ensures accepts { accepts self.old result self.new }
+        ensures ok { OnOk result (client_faults self.new ≡ client_faults self.old) }
+        ensures err { OnErr result (client_faults self.new ≡ one_more (client_faults self.old)) }
+        ensures later { client_faults self.old ≤ client_faults self.new };
+
+    /// What the client gives next. It is 0 where its input ended.
+    fn recv(&mut self, into: &mut [u8]) -> Result<usize, Failed>
+        ensures bound { IfOk result (λ n. n ≤ length into.new) }
+        ensures octets { ReadConsumes (gives self.old) (gives self.new) result into.new }
+        ensures takes { takes self.new ≡ takes self.old }
+        ensures ok { OnOk result (client_faults self.new ≡ client_faults self.old) }
+        ensures err { OnErr result (client_faults self.new ≡ one_more (client_faults self.old)) }
+        ensures later { client_faults self.old ≤ client_faults self.new };
+
+    /// Gives the client some of the octets, from their front. Where it fails, none of them.
+    fn send(&mut self, from: &[u8]) -> Result<usize, Failed>
+        ensures bound { IfOk result (λ n. (0 < n) × (n ≤ length from.now)) }
+        ensures octets { WriteAppends (takes self.old) (takes self.new) result from.now }
+        ensures gives { gives self.new ≡ gives self.old }
+        ensures ok { OnOk result (client_faults self.new ≡ client_faults self.old) }
+        ensures err { OnErr result (client_faults self.new ≡ one_more (client_faults self.old)) }
+        ensures later { client_faults self.old ≤ client_faults self.new };
+
+    /// The answer to this client is whole.
+    fn finish(&mut self)
+        ensures finishes { finishes self.old self.new }
+        ensures faults { client_faults self.new ≡ client_faults self.old };
+}

@@ -1,0 +1,93 @@
+// The clients of a listener.
+ghost use Rattle.std.specs.Prelude.{◌≡◌, ◌≤◌, ◌<◌, None, Some, take, length, IsNone, IsErr, IfOk, OnOk, OnErr};
+ghost use Rattle.gate_host.specs.Faults.{one_more};
+
+use crate::Clients;
+use crate::faults::raised;
+use client_front::{ClientFront, ClientListener, Ticks};
+use gate_world::Failed;
+use std::alloc::Global;
+
+/// The clients of a listener, or of none where there is no listening at the address that was asked for: then each call
+/// fails.
+#[derive(Drop)]
+pub struct ListenerFront<L: ClientListener + Drop, C: Ticks + Drop> {
+    /// The clients.
+    pub clients: Option<ClientFront<L, C>>,
+    /// How often a call has failed; the last number stays.
+    pub faults: u64,
+}
+
+impl<L: ClientListener + Drop, C: Ticks + Drop> ListenerFront<L, C> {
+    /// A front that has accepted nobody.
+    pub fn new(alloc: Global, listener: Option<L>, clock: C) -> ListenerFront<L, C>
+        ensures faults { result.faults ≡ 0 }
+    {
+        let clients = match listener {
+            Some(listener) => Some(ClientFront::new(alloc, listener, clock)),
+            None => None,
+        };
+        ListenerFront { clients, faults: 0 }
+    }
+
+    fn fail(&mut self) -> Failed
+        ensures same { self.new ≡ record self.old { faults = one_more self.old.faults } }
+        ensures later { self.old.faults ≤ self.new.faults }
+    {
+        self.faults = raised(self.faults);
+        Failed
+    }
+}
+
+impl<L: ClientListener + Drop, C: Ticks + Drop> Clients for ListenerFront<L, C> {
+    ghost client_faults = { λ f. f.faults };
+
+    ghost gives = { λ _. None };
+
+    ghost takes = { λ _. None };
+
+    ghost use Rattle.std.specs.Prelude.{⊤};
+
+    ghost accepts = { λ _ _ _. ⊤ };
+
+    ghost finishes = { λ _ _. ⊤ };
+
+    fn accept(&mut self) -> Result<bool, Failed> {
+        let accepted = match &mut self.clients {
+            Some(clients) => clients.accept(),
+            None => None,
+        };
+        match accepted {
+            Some(()) => Ok(true),
+            None => Err(self.fail()),
+        }
+    }
+
+    fn recv(&mut self, into: &mut [u8]) -> Result<usize, Failed> {
+        let got = match &mut self.clients {
+            Some(clients) => clients.recv(into),
+            None => None,
+        };
+        match got {
+            Some(count) => Ok(count),
+            None => Err(self.fail()),
+        }
+    }
+
+    fn send(&mut self, from: &[u8]) -> Result<usize, Failed> {
+        let taken = match &mut self.clients {
+            Some(clients) => clients.send(from),
+            None => None,
+        };
+        match taken {
+            Some(count) => Ok(count),
+            None => Err(self.fail()),
+        }
+    }
+
+    fn finish(&mut self) {
+        if let Some(clients) = &mut self.clients {
+            clients.finish();
+        }
+    }
+}

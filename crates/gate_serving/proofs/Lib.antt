@@ -1,0 +1,10 @@
+mod Receiving
+mod Asked
+mod Meant
+pub mod Answering
+mod Gates
+mod Ids
+mod Running
+mod Calling
+mod Needs
+pub mod Told

@@ -1,0 +1,97 @@
+-- What clients are answered (RFC 8620 sections 2, 3.4, 3.6.1, 6.1 and 6.2), and how the answer is spelled.
+use Rattle.std.specs.Prelude.{◌≡◌, ◌⊎◌, ◌++◌, ℕ, List, [], ◌∷◌, length, Option, Some, None, Ok, Err, codes}
+use Rattle.serde_json.specs.Data.{unsigned, Data, number, string, object, no_members, member}
+use Rattle.serde_json.specs.Written.{compact_text}
+use Rattle.blob_store.specs.Uploads.{blob_id, upload_with, TakesUpload}
+use Rattle.blob_store.specs.declared.store.TheConstants.{MAX_KEPT_OCTETS}
+use Rattle.http_door.specs.Responses.{http_response, json_media, problem_media, download_media}
+use Rattle.http_service.specs.Refusals.{status_of}
+use Rattle.jmap_core.specs.Problem.{text_of_problem, status_of as problem_status}
+use Rattle.jmap_core.specs.Request.{RequestData}
+use Rattle.jmap_core.specs.Response.{response_data}
+use Rattle.jmap_core.specs.Session.{session_data, session_state_text}
+use Rattle.gate_serving.specs.declared.door.Door.{Door}
+use Rattle.gate_serving.specs.declared.door.Door.TheVariants.{Bare, Http}
+use Rattle.gate_serving.specs.Calls.{Mailing, responses_after}
+use Rattle.gate_serving.specs.Requests.{Account, Asking, Calls, Problem, Session, Upload, Download, Refused, account_id}
+
+-- a status of HTTP, and a body of this type
+pub record Answer : Type 0 where
+  pub status : ℕ
+  pub media : List ℕ
+  pub body : List ℕ
+
+abbrev pub json_answer : ℕ → List ℕ → Answer
+json_answer status text = record { status = status; media = json_media; body = text }
+
+abbrev pub problem_answer : ℕ → List ℕ → Answer
+problem_answer status text = record { status = status; media = problem_media; body = text }
+
+abbrev pub empty_answer : ℕ → Answer
+empty_answer status = record { status = status; media = []; body = [] }
+
+-- ---- method calls
+
+-- the responses to a request's calls, with the Session's state of this user and base
+unfoldable pub calls_text : List ℕ → List ℕ → Mailing → RequestData → List ℕ
+calls_text user base mail request =
+    compact_text (response_data (responses_after mail request.uses [] request.calls) request.created (session_state_text user base))
+
+-- ---- uploads and downloads
+
+-- what is told of an upload (RFC 8620 section 6.1)
+abbrev pub upload_data : List ℕ → List ℕ → Data
+upload_data media octets = object
+    (member (codes "accountId") (string account_id)
+    (member (codes "blobId") (string (blob_id octets))
+    (member (codes "size") (number (unsigned (length octets)))
+    (member (codes "type") (string media)
+    no_members))))
+
+-- the uploads that are kept after what is asked
+abbrev pub KeepsUpload : Asking → List (List ℕ) → List (List ℕ) → Type 0
+KeepsUpload (Upload media octets) before after = TakesUpload MAX_KEPT_OCTETS octets before after
+KeepsUpload _ before after = after ≡ before
+
+-- the same where memory may have run out before
+abbrev pub MayKeepUpload : Asking → List (List ℕ) → List (List ℕ) → Type 0
+MayKeepUpload asking before after = (after ≡ before) ⊎ KeepsUpload asking before after
+
+-- a blob that can't be told, as the store can't be asked
+abbrev pub untold_problem : Data
+untold_problem = object (member (codes "status") (number (unsigned 404)) (member (codes "type") (string (codes "about:blank")) no_members))
+
+abbrev pub found_answer : Option (List ℕ) → Option (List ℕ) → Answer
+found_answer (Some octets) media = record { status = 200; media = download_media media; body = octets }
+found_answer None media = empty_answer 404
+
+abbrev pub blob_answer : Mailing → Option (List ℕ) → Option (List ℕ) → Answer
+blob_answer (Ok mail) found media = found_answer found media
+blob_answer (Err e) found media = problem_answer 404 (compact_text untold_problem)
+
+-- ---- what is answered
+
+-- The answer over this mail and these uploads.
+abbrev pub answer_over : Account → Mailing → List (List ℕ) → Asking → Answer
+answer_over account mail uploads (Calls request) = json_answer 200 (calls_text account.user account.base mail request)
+answer_over account mail uploads (Problem e) = problem_answer (problem_status e) (text_of_problem e)
+answer_over account mail uploads Session = json_answer 200 (compact_text (session_data account.user account.base))
+answer_over account mail uploads (Upload media octets) = json_answer 201 (compact_text (upload_data media octets))
+answer_over account mail uploads (Download blob media) = blob_answer mail (upload_with blob uploads) media
+answer_over account mail uploads (Refused refusal) = empty_answer (status_of refusal)
+
+-- each line ends so
+abbrev pub line_end : List ℕ
+line_end = 10 ∷ []
+
+-- At the bare door an answer is its body, as a line.
+abbrev pub spelled : Door → Answer → List ℕ
+spelled Bare answer = answer.body ++ line_end
+spelled Http answer = http_response answer.status answer.media answer.body
+
+abbrev pub response_of : Door → Account → Mailing → List (List ℕ) → Asking → List ℕ
+response_of door account mail uploads asking = spelled door (answer_over account mail uploads asking)
+
+-- out of memory (RFC 9110 section 15.6.4)
+abbrev pub no_memory_text : Door → List ℕ
+no_memory_text door = spelled door (empty_answer 503)

@@ -1,0 +1,89 @@
+-- What a client is owed of whom nothing fails.
+use Rattle.std.specs.Prelude.{◌≡◌, ◌⊎◌, ◌++◌, ℕ, false, List, [], ◌∷◌, Some, Ok, Err}
+use Rattle.gate_world.specs.Causes.{no_faults}
+use Rattle.gate_world.specs.Octets.{Hears}
+use Rattle.gate_world.specs.declared.event.Event.{Event}
+use Rattle.gate_world.specs.declared.event.Event.TheVariants.{Accepted, NoMore, ClientDone}
+use Rattle.http_door.specs.declared.asking.AskError.TheVariants as unread
+use Rattle.gate_machine.specs.History.{KnownMail}
+use Rattle.gate_machine.specs.Obeying.{IsObeyedBeginning}
+use Rattle.gate_machine.specs.Progress.{Progress}
+use Rattle.gate_machine.specs.declared.machine.Machine.{Machine}
+use Rattle.gate_serving.specs.declared.door.Door.{Door}
+use Rattle.gate_serving.specs.declared.served.Served.{Served}
+use Rattle.gate_serving.specs.declared.served.Served.TheVariants as served
+use Rattle.gate_serving.specs.Answers.{response_of, no_memory_text}
+use Rattle.gate_serving.specs.Calls.{Mailing}
+use Rattle.gate_serving.specs.Counts.{served_mail}
+use Rattle.gate_serving.specs.GateState.{GateState}
+use Rattle.gate_serving.specs.Requests.{Account, Asking, ReadsAsking, asks_for_mail}
+use Rattle.gate_serving.specs.Run.{Run, Begun, Then}
+use Rattle.gate_serving.specs.Segment.{Replies, Answered, LacksReading, LacksAnswering, Segment, NoneComes, NotAccepted, Left, Unasked, Replied, blamed}
+use Rattle.gate_serving.specs.Work.{Work, NoMail, WithMail}
+
+-- ---- a request
+
+-- The store obeyed all that a request asks of it, where it asks anything.
+abbrev pub IsWorkObeyed : {account : Account} {before : Machine} {asking : Asking} {events : List Event} {mail : Mailing} {after : Progress}
+    → Work account before asking events mail after → Type 0
+IsWorkObeyed (NoMail a b c d) = Unit {0}
+IsWorkObeyed (WithMail a work) = IsObeyedBeginning work.prepares
+
+-- The calls are answered over the mail that is served then; or none of them needs it.
+abbrev pub IsAnsweredFrom : Asking → Mailing → Progress → Type 0
+IsAnsweredFrom asking mail after =
+    (asks_for_mail asking ≡ false) ⊎ ((k : KnownMail) × (after.machine.known ≡ Some k) × (mail ≡ Ok (served_mail k.history)))
+
+-- ---- a client
+
+-- The store obeyed all that the client's request asks of it.
+abbrev pub IsReplyObeyed : {door : Door} {account : Account} {before : GateState} {events : List Event} {text : List ℕ} {after : GateState}
+    → Replies door account before events text after → Type 0
+IsReplyObeyed (Answered a) = IsWorkObeyed a.work
+IsReplyObeyed (LacksReading a b c) = Unit {0}
+IsReplyObeyed (LacksAnswering a) = Unit {0}
+
+abbrev pub IsSegmentObeyed : {door : Door} {account : Account} {before : GateState} {events : List Event} {how : Served} {after : GateState}
+    → Segment door account before events how after → Type 0
+IsSegmentObeyed (NoneComes a b c) = Unit {0}
+IsSegmentObeyed (NotAccepted a b c) = Unit {0}
+IsSegmentObeyed (Left asked a b c d) = Unit {0}
+IsSegmentObeyed (Unasked asked a b c d) = Unit {0}
+IsSegmentObeyed (Replied a) = IsReplyObeyed a.replies
+
+-- The client takes the whole response to what it asked, whose calls are answered over the mail that is served from then on.
+pub record TakesResponse (door : Door) (account : Account) (events : List Event) (after : GateState) : Type 0 where
+  pub asked : List Event
+  pub worked : List Event
+  pub heard : List Event
+  pub asking : Asking
+  pub mail : Mailing
+  pub done : Progress
+  pub whole : events ≡ Accepted ∷ (((asked ++ worked) ++ heard) ++ ClientDone ∷ [])
+  pub reads : ReadsAsking door account.token (Ok asking) asked
+  pub answered : IsAnsweredFrom asking mail done
+  pub machine_is : after.machine ≡ done.machine
+  pub hears : Hears (response_of door account mail after.uploads asking) heard
+
+-- What comes of a client of whom nothing fails: it takes the whole response; or memory ran out, and it takes the text of that;
+-- or it ended its input inside its request; or no client comes.
+pub data IsTold (door : Door) (account : Account) (events : List Event) (how : Served) (after : GateState) : Type 0 where
+  NobodyComes : events ≡ NoMore ∷ [] → how ≡ served.NoMore → IsTold door account events how after
+  EndsEarly : (asked : List Event) → events ≡ Accepted ∷ (asked ++ ClientDone ∷ []) → ReadsAsking door account.token (Err unread.Ended) asked → how ≡ served.Part
+      → IsTold door account events how after
+  IsAnswered : TakesResponse door account events after → how ≡ served.Whole → IsTold door account events how after
+  LacksMemory : (replied heard : List Event) → events ≡ Accepted ∷ ((replied ++ heard) ++ ClientDone ∷ []) → Hears (no_memory_text door) heard
+      → how ≡ served.Whole → IsTold door account events how after
+
+-- ---- a run
+
+-- What comes of each client of a run of whom nothing fails and for whom the store obeyed, whatever comes of the others.
+abbrev pub IsRunTold : {door : Door} {account : Account} {before after : GateState} {events : List Event} {went : List Served}
+    → Run door account before events went after → Type 0
+IsRunTold Begun = Unit {0}
+IsRunTold {door} {account} (Then {fs = fs} {s = s} {after = after} run segment) =
+    IsRunTold run × (IsSegmentObeyed segment → blamed segment ≡ no_faults → IsTold door account fs s after)
+
+-- Each such client of a run of these events is told.
+abbrev pub CompletesRun : Door → Account → List Event → Type 0
+CompletesRun door account events = (before after : GateState) (went : List Served) (run : Run door account before events went after) → IsRunTold run

@@ -1,0 +1,17 @@
+-- What a gate holds between clients.
+use Rattle.std.specs.Prelude.{ℕ, List, []}
+use Rattle.gate_machine.specs.Machine.{opened as opened_machine, forgotten as forgotten_machine}
+use Rattle.gate_machine.specs.declared.machine.Machine.{Machine}
+
+-- the machine, and the uploads that are kept, oldest first
+pub record GateState : Type 0 where
+  pub machine : Machine
+  pub uploads : List (List ℕ)
+
+-- a new gate in this epoch
+abbrev pub new_state : ℕ → GateState
+new_state epoch = record { machine = opened_machine epoch; uploads = [] }
+
+-- its machine isn't ready
+abbrev pub unready_state : GateState → GateState
+unready_state s = record s { machine = forgotten_machine s.machine }

@@ -1,0 +1,12 @@
+pub mod Front
+pub mod Counts
+pub mod Calls
+pub mod Requests
+pub mod Answers
+pub mod Work
+pub mod GateState
+pub mod Segment
+pub mod Run
+pub mod Gates
+pub mod Complete
+pub mod reading

@@ -1,0 +1,110 @@
+-- One client, from its coming to the end of the answer to it (RFC 8620 section 3.3).
+use Rattle.std.specs.Prelude.{◌≡◌, ◌≢◌, ◌+◌, ◌++◌, ℕ, List, [], ◌∷◌, Result, Ok, Err}
+use Rattle.gate_world.specs.Causes.{Faults, no_faults}
+use Rattle.gate_world.specs.Sending.{Sends}
+use Rattle.gate_world.specs.declared.event.Event.{Event}
+use Rattle.gate_world.specs.declared.event.Event.TheVariants.{Accepted, NoMore, ClientDone, FrontFailed}
+use Rattle.gate_world.specs.declared.outside.Failed.{Failed}
+use Rattle.http_door.specs.declared.asking.AskError.TheVariants as unread
+use Rattle.gate_machine.specs.Machine.{forgotten as forgotten_machine}
+use Rattle.gate_machine.specs.Progress.{Progress}
+use Rattle.gate_machine.specs.declared.standing.Standing.TheVariants.{OutOfMemory}
+use Rattle.gate_serving.specs.declared.door.Door.{Door}
+use Rattle.gate_serving.specs.declared.served.Served.{Served}
+use Rattle.gate_serving.specs.declared.served.Served.TheVariants as served
+use Rattle.gate_serving.specs.Answers.{KeepsUpload, MayKeepUpload, response_of, no_memory_text}
+use Rattle.gate_serving.specs.Calls.{Mailing}
+use Rattle.gate_serving.specs.GateState.{GateState, unready_state}
+use Rattle.gate_serving.specs.Requests.{Account, Asking, ReadsAsking}
+use Rattle.gate_serving.specs.Work.{Work}
+
+-- how a client was served whose response was sent so
+abbrev pub went : Result (Unit {0}) Failed → Served
+went (Ok _) = served.Whole
+went (Err _) = served.Part
+
+-- The request is read, worked on and answered.
+pub record AnswersAsking (door : Door) (account : Account) (before : GateState) (events : List Event) (text : List ℕ) (after : GateState) : Type 0 where
+  pub asked : List Event
+  pub worked : List Event
+  pub asking : Asking
+  pub mail : Mailing
+  pub done : Progress
+  pub whole : events ≡ asked ++ worked
+  pub reads : ReadsAsking door account.token (Ok asking) asked
+  pub work : Work account before.machine asking worked mail done
+  pub stands : done.standing ≢ OutOfMemory
+  pub machine_is : after.machine ≡ done.machine
+  pub keeps : KeepsUpload asking before.uploads after.uploads
+  pub text_is : text ≡ response_of door account mail after.uploads asking
+
+-- Memory runs out after the request was read: in the link life, while what it told was to be served, or while the response was
+-- made. An upload may be kept then.
+pub record LacksForAsking (door : Door) (account : Account) (before : GateState) (events : List Event) (text : List ℕ) (after : GateState) : Type 0 where
+  pub asked : List Event
+  pub worked : List Event
+  pub asking : Asking
+  pub mail : Mailing
+  pub done : Progress
+  pub whole : events ≡ asked ++ worked
+  pub reads : ReadsAsking door account.token (Ok asking) asked
+  pub work : Work account before.machine asking worked mail done
+  pub text_is : text ≡ no_memory_text door
+  pub machine_is : after.machine ≡ forgotten_machine done.machine
+  pub may_keep : MayKeepUpload asking before.uploads after.uploads
+
+-- The text that a client is sent, and what the gate holds after it: the answer; or that memory ran out, while the request was
+-- read or after that.
+pub data Replies (door : Door) (account : Account) (before : GateState) (events : List Event) (text : List ℕ) (after : GateState) : Type 0 where
+  Answered : AnswersAsking door account before events text after → Replies door account before events text after
+  LacksReading : ReadsAsking door account.token (Err unread.Memory) events → text ≡ no_memory_text door → after ≡ unready_state before
+      → Replies door account before events text after
+  LacksAnswering : LacksForAsking door account before events text after → Replies door account before events text after
+
+-- A client that comes is sent its reply.
+pub record SendsToClient (door : Door) (account : Account) (before : GateState) (events : List Event) (how : Served) (after : GateState) : Type 0 where
+  pub replied : List Event
+  pub heard : List Event
+  pub text : List ℕ
+  pub sent : Result (Unit {0}) Failed
+  pub whole : events ≡ Accepted ∷ ((replied ++ heard) ++ ClientDone ∷ [])
+  pub replies : Replies door account before replied text after
+  pub sends : Sends text sent heard
+  pub how_is : how ≡ went sent
+
+-- One client, or that there is none.
+pub data Segment (door : Door) (account : Account) (before : GateState) (events : List Event) (how : Served) (after : GateState) : Type 0 where
+  NoneComes : events ≡ NoMore ∷ [] → how ≡ served.NoMore → after ≡ before → Segment door account before events how after
+  NotAccepted : events ≡ FrontFailed ∷ [] → how ≡ served.AcceptFault → after ≡ before → Segment door account before events how after
+  -- it ended its input inside its request
+  Left : (asked : List Event) → events ≡ Accepted ∷ (asked ++ ClientDone ∷ []) → ReadsAsking door account.token (Err unread.Ended) asked → how ≡ served.Part
+      → after ≡ before → Segment door account before events how after
+  -- the front failed before the request's end
+  Unasked : (asked : List Event) → events ≡ Accepted ∷ (asked ++ ClientDone ∷ []) → ReadsAsking door account.token (Err unread.Failed) asked → how ≡ served.Part
+      → after ≡ before → Segment door account before events how after
+  Replied : SendsToClient door account before events how after → Segment door account before events how after
+
+-- ---- blame
+
+abbrev pub unsent : Result (Unit {0}) Failed → ℕ
+unsent (Ok _) = 0
+unsent (Err _) = 1
+
+abbrev pub blame_front : ℕ → Faults → Faults
+blame_front n f = record f { front = f.front + n }
+
+-- the faults that a reply is blamed on
+abbrev pub reply_blamed : {door : Door} {account : Account} {before : GateState} {events : List Event} {text : List ℕ} {after : GateState}
+    → Replies door account before events text after → Faults
+reply_blamed (Answered a) = a.done.blamed
+reply_blamed (LacksReading a b c) = no_faults
+reply_blamed (LacksAnswering a) = a.done.blamed
+
+-- The faults that a segment is blamed on, of each part of the outside. None has its fault in a client that leaves.
+abbrev pub blamed : {door : Door} {account : Account} {before : GateState} {events : List Event} {how : Served} {after : GateState}
+    → Segment door account before events how after → Faults
+blamed (NoneComes a b c) = no_faults
+blamed (NotAccepted a b c) = blame_front 1 no_faults
+blamed (Left asked a b c d) = no_faults
+blamed (Unasked asked a b c d) = blame_front 1 no_faults
+blamed (Replied a) = blame_front (unsent a.sent) (reply_blamed a.replies)

@@ -1,0 +1,44 @@
+-- What is asked, as the code has it.
+use Rattle.std.specs.Prelude.{◌≡◌, ℕ, List, Result, Ok, Err}
+use Rattle.gate_world.specs.declared.event.Event.{Event}
+use Rattle.http_door.specs.declared.asking.AskError.{AskError}
+use Rattle.http_door.specs.declared.asking.AskError.TheVariants.{Memory}
+use Rattle.http_door.specs.declared.asking.HttpAsking.{HttpAsking}
+use Rattle.http_door.specs.declared.asking.HttpAsking.TheVariants as http
+use Rattle.jmap_core.specs.Request.{request_data, requested}
+use Rattle.jmap_core.specs.declared.request.RequestError.{RequestError}
+use Rattle.jmap_core.specs.declared.request.RequestError.TheVariants as error
+use Rattle.gate_serving.specs.declared.asking.Asking.{Asking as Asked}
+use Rattle.gate_serving.specs.declared.asking.Asking.TheVariants as asked
+use Rattle.gate_serving.specs.declared.door.Door.{Door}
+use Rattle.gate_serving.specs.Requests.{Asking, Calls, Problem, Session, Upload, Download, Refused, ReadsAsking, asked_by, asked_over_http}
+
+abbrev pub asking_data : Asked → Asking
+asking_data (asked.Calls request) = Calls (request_data request)
+asking_data (asked.Problem error) = Problem error
+asking_data asked.Session = Session
+asking_data (asked.Upload upload) = Upload upload.media upload.octets
+asking_data (asked.Download blob media) = Download blob media
+asking_data (asked.Refused refusal) = Refused refusal
+
+abbrev pub read_data : Result Asked AskError → Result Asking AskError
+read_data (Ok asking) = Ok (asking_data asking)
+read_data (Err e) = Err e
+
+-- what a body asks, or memory ran out
+abbrev pub AsksInBody : List ℕ → Result Asked AskError → Type 0
+AsksInBody body (Ok asking) = asking_data asking ≡ asked_by (requested body)
+AsksInBody body (Err e) = e ≡ Memory
+
+-- what is asked by a body that is no request
+abbrev pub AsksInVain : RequestError → Result Asked AskError → Type 0
+AsksInVain error.Memory result = result ≡ Err Memory
+AsksInVain e result = result ≡ Ok (asked.Problem e)
+
+-- what is asked over HTTP, or memory ran out
+abbrev pub AsksOf : HttpAsking → Result Asked AskError → Type 0
+AsksOf over_http (Ok asking) = asking_data asking ≡ asked_over_http over_http
+AsksOf over_http (Err e) = (e ≡ Memory) × ((body : List ℕ) × (over_http ≡ http.Calls body))
+
+abbrev pub ReadsInto : Door → List ℕ → Result Asked AskError → List Event → Type 0
+ReadsInto door token result events = ReadsAsking door token (read_data result) events

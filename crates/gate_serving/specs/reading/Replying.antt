@@ -1,0 +1,81 @@
+-- What the parts of answering a client add.
+use Rattle.std.specs.Prelude.{◌≡◌, ◌≢◌, ◌⊎◌, ◌++◌, ℕ, Bool, List, [], ◌∷◌, Option, Some, None, Result, Ok, Err}
+use Rattle.std.specs.declared.alloc.AllocError.{AllocError}
+use Rattle.gate_world.specs.Causes.{Faults, Rose}
+use Rattle.gate_world.specs.Sending.{Sends}
+use Rattle.gate_world.specs.declared.event.Event.{Event}
+use Rattle.gate_world.specs.declared.event.Event.TheVariants.{Accepted}
+use Rattle.gate_world.specs.declared.outside.Failed.{Failed}
+use Rattle.http_door.specs.declared.asking.AskError.TheVariants as unread
+use Rattle.gate_machine.specs.Progress.{Progress, Bears}
+use Rattle.gate_machine.specs.declared.machine.Machine.{Machine}
+use Rattle.gate_machine.specs.declared.standing.Standing.TheVariants.{OutOfMemory}
+use Rattle.gate_serving.specs.declared.door.Door.{Door}
+use Rattle.gate_serving.specs.declared.response.Response.{Response}
+use Rattle.gate_serving.specs.declared.served.Served.{Served}
+use Rattle.gate_serving.specs.declared.served.Served.TheVariants as served
+use Rattle.gate_serving.specs.Answers.{KeepsUpload, MayKeepUpload, response_of}
+use Rattle.gate_serving.specs.Calls.{Mailing}
+use Rattle.gate_serving.specs.GateState.{GateState}
+use Rattle.gate_serving.specs.Requests.{Account, Asking, ReadsAsking, asks_for_mail}
+use Rattle.gate_serving.specs.Segment.{Replies, Segment, reply_blamed, blamed, went}
+use Rattle.gate_serving.specs.Work.{Work}
+use Rattle.gate_serving.specs.reading.Texts.{text_sent}
+
+-- the mail that the work gave; or memory ran out in it or after it
+abbrev pub IsWorked : Result Mailing AllocError → Mailing → Progress → Type 0
+IsWorked (Ok given) mail done = (given ≡ mail) × (done.standing ≢ OutOfMemory)
+IsWorked (Err _) mail done = Unit {0}
+
+-- the work on what needs the mail or doesn't
+pub record WorksTo (user password : List ℕ) (asks : Bool) (before machine : Machine) (was now : Faults) (result : Result Mailing AllocError)
+    (events : List Event) : Type 0 where
+  pub mail : Mailing
+  pub done : Progress
+  pub work : (token base : List ℕ) (asking : Asking) → asks_for_mail asking ≡ asks
+      → Work (record { user = user; password = password; token = token; base = base }) before asking events mail done
+  pub machine_is : done.machine ≡ machine
+  pub bears : Bears done.blamed was now
+  pub worked : IsWorked result mail done
+
+-- the response, where there was memory for it
+abbrev pub IsMade : Door → Account → Mailing → Asking → GateState → GateState → Progress → Result Response AllocError → Type 0
+IsMade door account mail asking before after done (Ok response) = (text_sent response ≡ response_of door account mail after.uploads asking)
+    × (done.standing ≢ OutOfMemory) × KeepsUpload asking before.uploads after.uploads
+IsMade door account mail asking before after done (Err _) = Unit {0}
+
+pub record AnswersTo (door : Door) (account : Account) (asking : Asking) (before after : GateState) (was now : Faults) (result : Result Response AllocError)
+    (events : List Event) : Type 0 where
+  pub mail : Mailing
+  pub done : Progress
+  pub work : Work account before.machine asking events mail done
+  pub machine_is : after.machine ≡ done.machine
+  pub bears : Bears done.blamed was now
+  pub may : MayKeepUpload asking before.uploads after.uploads
+  pub made : IsMade door account mail asking before after done result
+
+-- the reply to what is asked, after the events by which it was read
+pub record RepliesToAsking (door : Door) (account : Account) (asking : Asking) (before after : GateState) (was now : Faults) (text : List ℕ)
+    (events : List Event) : Type 0 where
+  pub of : (read : List Event) → ReadsAsking door account.token (Ok asking) read
+      → (replies : Replies door account before (read ++ events) text after) × Bears (reply_blamed replies) was now
+
+-- why there is no reply
+abbrev pub IsUnread : Door → List ℕ → Faults → Faults → List Event → Type 0
+IsUnread door token was now events =
+    ReadsAsking door token (Err unread.Ended) events ⊎ (ReadsAsking door token (Err unread.Failed) events × Rose was.front now.front)
+
+-- the reply to what was read, where there is one
+abbrev pub RepliesBy : Door → Account → GateState → GateState → Faults → Faults → Option Response → List Event → Type 0
+RepliesBy door account before after was now (Some response) events =
+    (replies : Replies door account before events (text_sent response) after) × Bears (reply_blamed replies) was now
+RepliesBy door account before after was now None events = IsUnread door account.token was now events × (after ≡ before)
+
+-- the reply is sent, where there is one
+abbrev pub SendsReply : Option Response → Served → List Event → Type 0
+SendsReply (Some response) how events = (sent : Result (Unit {0}) Failed) × Sends (text_sent response) sent events × (how ≡ went sent)
+SendsReply None how events = (how ≡ served.Part) × (events ≡ [])
+
+-- what a client that was accepted adds after its coming
+pub record Serves (door : Door) (account : Account) (before after : GateState) (was now : Faults) (how : Served) (events : List Event) : Type 0 where
+  pub of : (all : List Event) → all ≡ Accepted ∷ events → (segment : Segment door account before all how after) × Bears (blamed segment) was now

@@ -1,0 +1,184 @@
+// The answers to what clients ask.
+ghost use Rattle.std.specs.Prelude.{◌≡◌, IfOk, string_bytes};
+ghost use Rattle.std.specs.Option.{option_copied};
+ghost use Rattle.serde_json.specs.View.{view};
+ghost use Rattle.serde_json.specs.Written.{compact_text};
+ghost use Rattle.blob_store.specs.Uploads.{blob_id as id_of};
+ghost use Rattle.jmap_core.specs.Problem.{text_of_problem, status_of as status_of_problem};
+ghost use Rattle.jmap_core.specs.Request.{request_data};
+ghost use Rattle.jmap_core.specs.Session.{session_data};
+ghost use Rattle.gate_serving.specs.Answers.{blob_answer, calls_text as text_of_calls, json_answer, problem_answer, spelled, untold_problem, upload_data};
+ghost use Rattle.gate_serving.specs.reading.Texts.{text_sent};
+
+use crate::calls::{Mailing, responses_to};
+use crate::door::Door;
+use crate::response::Response;
+use crate::upload::Upload;
+use blob_store::blob_id::blob_id;
+use gate_world::{Bytes, Text};
+use http::StatusCode;
+use http_door::{download_media, json_media, problem_media};
+use http_service::Refusal;
+use jmap_core::{
+    LimitName, Request, RequestError, problem_text, response_text, session_object, session_state,
+};
+use serde_json::{Value, json};
+use std::alloc::{AllocError, Global};
+
+fn calls_text(
+    alloc: Global,
+    user: &Text,
+    base: &Text,
+    mail: &Mailing,
+    request: &Request,
+) -> Result<String, AllocError>
+    ensures { IfOk result (λ text. string_bytes text ≡ text_of_calls user.now base.now mail.now (request_data request.now)) }
+{
+    let responses = responses_to(alloc, mail, request.using, request.calls.as_slice())?;
+    let session = session_state(alloc, user.as_str(), base.as_str())?;
+    response_text(
+        alloc,
+        responses.as_slice(),
+        request.created.as_ref(),
+        session.as_str(),
+    )
+}
+
+// JSON, of this status.
+fn json_response(
+    alloc: Global,
+    door: Door,
+    status: StatusCode,
+    text: String,
+) -> Result<Response, AllocError>
+    ensures { IfOk result (λ r. text_sent r ≡ spelled door (json_answer status (string_bytes text))) }
+{
+    let body = Bytes::from_vec(text.into_bytes())?;
+    Response::new(alloc, door, status, &json_media(), body)
+}
+
+/// The answer to method calls over this mail.
+pub fn calls_response(
+    alloc: Global,
+    door: Door,
+    user: &Text,
+    base: &Text,
+    mail: &Mailing,
+    request: &Request,
+) -> Result<Response, AllocError>
+    ensures { IfOk result (λ r. text_sent r ≡ spelled door (json_answer 200 (text_of_calls user.now base.now mail.now (request_data request.now)))) }
+{
+    let text = calls_text(alloc, user, base, mail, request)?;
+    json_response(alloc, door, StatusCode::OK, text)
+}
+
+fn status_of(error: RequestError) -> StatusCode
+    ensures { result ≡ status_of_problem error }
+{
+    match error {
+        RequestError::NotJson | RequestError::NotRequest | RequestError::UnknownCapability => {
+            StatusCode::BAD_REQUEST
+        }
+        RequestError::Limit { name } => match name {
+            LimitName::MaxSizeRequest | LimitName::MaxSizeUpload => StatusCode::PAYLOAD_TOO_LARGE,
+            LimitName::MaxCallsInRequest => StatusCode::BAD_REQUEST,
+        },
+        RequestError::Memory => StatusCode::SERVICE_UNAVAILABLE,
+    }
+}
+
+/// Why there is no request.
+pub fn problem_response(
+    alloc: Global,
+    door: Door,
+    error: RequestError,
+) -> Result<Response, AllocError>
+    ensures { IfOk result (λ r. text_sent r ≡ spelled door (problem_answer (status_of_problem error) (text_of_problem error))) }
+{
+    let body = Bytes::copy_of(alloc, problem_text(error))?;
+    Response::new(alloc, door, status_of(error), &problem_media(), body)
+}
+
+fn session_text(alloc: Global, user: &Text, base: &Text) -> Result<String, AllocError>
+    ensures { IfOk result (λ text. string_bytes text ≡ compact_text (session_data user.now base.now)) }
+{
+    let session = session_object(alloc, user.as_str(), base.as_str())?;
+    session.to_string(alloc)
+}
+
+/// The Session.
+pub fn session_response(
+    alloc: Global,
+    door: Door,
+    user: &Text,
+    base: &Text,
+) -> Result<Response, AllocError>
+    ensures { IfOk result (λ r. text_sent r ≡ spelled door (json_answer 200 (compact_text (session_data user.now base.now)))) }
+{
+    let text = session_text(alloc, user, base)?;
+    json_response(alloc, door, StatusCode::OK, text)
+}
+
+#[tactic(auto, using(crate::proofs::Ids::id_is_text))]
+fn blob_id_text(alloc: Global, octets: &[u8]) -> Result<String, AllocError>
+    ensures { IfOk result (λ text. string_bytes text ≡ id_of octets.now) }
+{
+    let id = blob_id(octets);
+    String::from_utf8_lossy(alloc, &id)
+}
+
+fn upload_value(alloc: Global, upload: &Upload) -> Result<Value, AllocError>
+    ensures { IfOk result (λ value. view value ≡ upload_data upload.now.media upload.now.octets) }
+{
+    let id = blob_id_text(alloc, upload.octets.as_slice())?;
+    json!(in alloc; {
+        "accountId": "a1",
+        "blobId": id.as_str(),
+        "size": upload.octets.as_slice().len() as u64,
+        "type": upload.media.as_str(),
+    })
+}
+
+/// What is told of an upload that is kept.
+pub fn upload_response(alloc: Global, door: Door, upload: &Upload) -> Result<Response, AllocError>
+    ensures { IfOk result (λ r. text_sent r ≡ spelled door (json_answer 201 (compact_text (upload_data upload.now.media upload.now.octets)))) }
+{
+    let text = upload_value(alloc, upload)?.to_string(alloc)?;
+    json_response(alloc, door, StatusCode::CREATED, text)
+}
+
+const UNTOLD: &[u8] = b"{\"status\":404,\"type\":\"about:blank\"}";
+
+fn untold_text() -> &'static [u8]
+    ensures { result.now ≡ compact_text untold_problem }
+{
+    UNTOLD
+}
+
+// A blob that can't be told.
+fn untold_response(alloc: Global, door: Door) -> Result<Response, AllocError>
+    ensures { IfOk result (λ r. text_sent r ≡ spelled door (problem_answer 404 (compact_text untold_problem))) }
+{
+    let body = Bytes::copy_of(alloc, untold_text())?;
+    Response::new(alloc, door, StatusCode::NOT_FOUND, &problem_media(), body)
+}
+
+/// The octets of a blob, of which these are found, over this mail.
+pub fn blob_response(
+    alloc: Global,
+    door: Door,
+    mail: &Mailing,
+    found: Option<&[u8]>,
+    media: Option<&[u8]>,
+) -> Result<Response, AllocError>
+    ensures { IfOk result (λ r. text_sent r ≡ spelled door (blob_answer mail.now (option_copied found.entry) (option_copied media.entry))) }
+{
+    match (mail, found) {
+        (Err(_), _) => untold_response(alloc, door),
+        (Ok(_), None) => Ok(Response::empty(door, Refusal::NotFound)),
+        (Ok(_), Some(octets)) => {
+            let body = Bytes::copy_of(alloc, octets)?;
+            Response::new(alloc, door, StatusCode::OK, &download_media(media), body)
+        }
+    }
+}

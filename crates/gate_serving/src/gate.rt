@@ -1,0 +1,253 @@
+// What answers one client after another.
+ghost use Rattle.std.specs.Prelude.{◌≡◌, ◌≢◌, ◌⊎◌, IfOk, OnOk, OnErr, None};
+ghost use Rattle.std.specs.Option.{option_copied};
+ghost use Rattle.gate_world.specs.Causes.{FrontAlone, Hidden, Later, LinkAlone, NoFault, Rose};
+ghost use Rattle.gate_world.specs.Tape.{Adds};
+ghost use Rattle.gate_serving.specs.GateState.{unready_state};
+ghost use Rattle.gate_serving.specs.Answers.{KeepsUpload, no_memory_text, response_of};
+ghost use Rattle.gate_serving.specs.Run.{Opens, StepsTo, account_of};
+ghost use Rattle.gate_serving.specs.declared.door.Door.TheVariants.{Bare};
+ghost use Rattle.gate_serving.specs.reading.Askings.{asking_data};
+ghost use Rattle.gate_serving.specs.Gates.{RestStays, account_by, opened_gate, state_of};
+ghost use Rattle.gate_serving.specs.Segment.{went};
+ghost use Rattle.gate_serving.specs.reading.Replying.{AnswersTo, RepliesBy, RepliesToAsking, SendsReply, Serves};
+ghost use Rattle.gate_serving.specs.reading.Texts.{text_sent};
+
+use crate::answers::{
+    blob_response, calls_response, problem_response, session_response, upload_response,
+};
+use crate::asking::Asking;
+use crate::calls::Mailing;
+use crate::door::Door;
+use crate::mailing::work;
+use crate::reading::read_asking;
+use crate::response::Response;
+use crate::served::{OpenError, Served};
+use blob_store::BlobStore;
+use gate_machine::Machine;
+use gate_words::Place;
+use gate_world::{Bytes, Failed, Front, Text, World};
+use http_door::AskError;
+use http_routes::Routes;
+use http_service::Refusal;
+use std::alloc::{AllocError, Global};
+
+/// Answers one client after another.
+#[derive(Drop)]
+pub struct Gate {
+    door: Door,
+    user: Text,
+    base: Text,
+    /// What is asked over HTTP is found by them.
+    routes: Routes,
+    machine: Machine,
+    uploads: BlobStore,
+}
+
+impl Gate {
+    /// A gate at this door: an epoch is drawn.
+    pub fn open<W: World>(
+        alloc: Global,
+        world: &mut W,
+        door: Door,
+        place: &Place,
+    ) -> Result<Gate, OpenError>
+        ensures run { Adds (W.tape world.old) (W.tape world.new) (Opens (opened_gate result)) }
+        ensures door { IfOk result (λ gate. gate.door ≡ door) }
+        ensures account { IfOk result (λ gate. account_by gate (W.hidden world.old) ≡ account_of place.now (W.hidden world.old)) }
+        ensures cause { NoFault (W.faults world.old) (W.faults world.new) }
+        ensures hidden { W.hidden world.new ≡ W.hidden world.old }
+    {
+        match parts_of(alloc, place) {
+            Ok((user, base, routes)) => {
+                let epoch = world.word();
+                Ok(Gate {
+                    door,
+                    user,
+                    base,
+                    routes,
+                    machine: Machine::opened(alloc, epoch),
+                    uploads: BlobStore::new(alloc),
+                })
+            }
+            Err(_) => Err(OpenError::Memory),
+        }
+    }
+
+    /// Answers one client, where one comes.
+    pub fn answer_one<W: World>(&mut self, alloc: Global, world: &mut W) -> Served
+        ensures run { Adds (W.tape world.old) (W.tape world.new)
+            (StepsTo self.old.door (account_by self.old (W.hidden world.old)) (state_of self.old) (state_of self.new) (W.faults world.old) (W.faults world.new) result) }
+        ensures rest { RestStays self.old self.new }
+        ensures later { Later (W.faults world.old) (W.faults world.new) }
+        ensures accepting { result ≡ Served.AcceptFault → Rose (W.faults world.old).front (W.faults world.new).front }
+        ensures part { self.old.door ≡ Bare → result ≡ Served.Part → Rose (W.faults world.old).front (W.faults world.new).front }
+        ensures hidden { W.hidden world.new ≡ W.hidden world.old }
+    {
+        match world.accept() {
+            Err(_) => Served::AcceptFault,
+            Ok(false) => Served::NoMore,
+            Ok(true) => self.answer_client(alloc, world),
+        }
+    }
+
+    // A client that came.
+    fn answer_client<W: World>(&mut self, alloc: Global, world: &mut W) -> Served
+        ensures run { Adds (W.tape world.old) (W.tape world.new)
+            (Serves self.old.door (account_by self.old (W.hidden world.old)) (state_of self.old) (state_of self.new) (W.faults world.old) (W.faults world.new) result) }
+        ensures rest { RestStays self.old self.new }
+        ensures later { Later (W.faults world.old) (W.faults world.new) }
+        ensures came { (result ≡ Served.Whole) ⊎ (result ≡ Served.Part) }
+        ensures part { self.old.door ≡ Bare → result ≡ Served.Part → Rose (W.faults world.old).front (W.faults world.new).front }
+        ensures hidden { W.hidden world.new ≡ W.hidden world.old }
+    {
+        let reply = self.reply(alloc, world);
+        let served = send_reply(world, &reply);
+        world.finish();
+        served
+    }
+
+    // Reads what the client asks and makes the response to it, where it gets one. Its link life is over before that.
+    fn reply<W: World>(&mut self, alloc: Global, world: &mut W) -> Option<Response>
+        ensures run { Adds (W.tape world.old) (W.tape world.new)
+            (RepliesBy self.old.door (account_by self.old (W.hidden world.old)) (state_of self.old) (state_of self.new) (W.faults world.old) (W.faults world.new) result) }
+        ensures rest { RestStays self.old self.new }
+        ensures later { Later (W.faults world.old) (W.faults world.new) }
+        ensures none { self.old.door ≡ Bare → result ≡ None → Rose (W.faults world.old).front (W.faults world.new).front }
+        ensures hidden { W.hidden world.new ≡ W.hidden world.old }
+    {
+        match read_asking(alloc, world, self.door, &self.routes) {
+            Ok(asking) => Some(self.answer(alloc, world, &asking)),
+            Err(AskError::Memory) => Some(self.lack()),
+            Err(AskError::Ended) => None,
+            Err(AskError::Failed) => None,
+        }
+    }
+
+    // The response to what is asked.
+    fn answer<W: World>(&mut self, alloc: Global, world: &mut W, asking: &Asking) -> Response
+        ensures run { Adds (W.tape world.old) (W.tape world.new)
+            (RepliesToAsking self.old.door (account_by self.old (W.hidden world.old)) (asking_data asking.now) (state_of self.old) (state_of self.new) (W.faults world.old) (W.faults world.new) (text_sent result)) }
+        ensures rest { RestStays self.old self.new }
+        ensures alone { LinkAlone (W.faults world.old) (W.faults world.new) }
+        ensures hidden { W.hidden world.new ≡ W.hidden world.old }
+    {
+        match self.try_answer(alloc, world, asking) {
+            Ok(response) => response,
+            Err(_) => self.lack(),
+        }
+    }
+
+    // The same, where there is memory for it.
+    fn try_answer<W: World>(
+        &mut self,
+        alloc: Global,
+        world: &mut W,
+        asking: &Asking,
+    ) -> Result<Response, AllocError>
+        ensures run { Adds (W.tape world.old) (W.tape world.new)
+            (AnswersTo self.old.door (account_by self.old (W.hidden world.old)) (asking_data asking.now) (state_of self.old) (state_of self.new) (W.faults world.old) (W.faults world.new) result) }
+        ensures rest { RestStays self.old self.new }
+        ensures alone { LinkAlone (W.faults world.old) (W.faults world.new) }
+        ensures hidden { W.hidden world.new ≡ W.hidden world.old }
+    {
+        let asks = asking.needs_mail();
+        let mail = work(alloc, &mut self.machine, world, &self.user, asks)?;
+        self.keep(asking)?;
+        self.response(alloc, &mail, asking)
+    }
+
+    // Keeps what is uploaded.
+    fn keep(&mut self, asking: &Asking) -> Result<(), AllocError>
+        ensures kept { OnOk result (KeepsUpload (asking_data asking.now) self.old.uploads self.new.uploads) }
+        ensures refused { OnErr result (self.new.uploads ≡ self.old.uploads) }
+        ensures rest { RestStays self.old self.new }
+        ensures machine { self.new.machine ≡ self.old.machine }
+    {
+        match asking {
+            Asking::Upload(upload) => match self.uploads.put(upload.octets.as_slice()) {
+                Ok(_) => Ok(()),
+                Err(_) => Err(AllocError),
+            },
+            _ => Ok(()),
+        }
+    }
+
+    // The response over this mail and the uploads that are kept.
+    fn response(
+        &self,
+        alloc: Global,
+        mail: &Mailing,
+        asking: &Asking,
+    ) -> Result<Response, AllocError>
+        ensures { IfOk result (λ r. (secrets : Hidden) → text_sent r
+            ≡ response_of self.now.door (account_by self.now secrets) mail.now self.now.uploads (asking_data asking.now)) }
+    {
+        match asking {
+            Asking::Calls(request) => {
+                calls_response(alloc, self.door, &self.user, &self.base, mail, request)
+            }
+            Asking::Problem(error) => problem_response(alloc, self.door, *error),
+            Asking::Session => session_response(alloc, self.door, &self.user, &self.base),
+            Asking::Upload(upload) => upload_response(alloc, self.door, upload),
+            Asking::Download { blob, media } => {
+                let found = self.uploads.get(blob.as_slice());
+                blob_response(alloc, self.door, mail, found, media_of(media))
+            }
+            Asking::Refused(refusal) => Ok(Response::empty(self.door, *refusal)),
+        }
+    }
+
+    // Out of memory: the machine isn't ready.
+    fn lack(&mut self) -> Response
+        ensures text { text_sent result ≡ no_memory_text self.old.door }
+        ensures state { state_of self.new ≡ unready_state (state_of self.old) }
+        ensures rest { RestStays self.old self.new }
+    {
+        self.machine.forget();
+        Response::empty(self.door, Refusal::Unavailable)
+    }
+}
+
+fn media_of(media: &Option<Bytes>) -> Option<&[u8]>
+    ensures { option_copied result ≡ media.now }
+{
+    match media {
+        Some(media) => Some(media.as_slice()),
+        None => None,
+    }
+}
+
+// The user, the base and the routes.
+fn parts_of(alloc: Global, place: &Place) -> Result<(Text, Text, Routes), AllocError>
+    ensures user { IfOk result (λ parts. parts.0 ≡ place.now.user) }
+    ensures base { IfOk result (λ parts. parts.1 ≡ place.now.base) }
+{
+    let user = Text::copy_of(alloc, place.user.as_str())?;
+    let base = Text::copy_of(alloc, place.base.as_str())?;
+    let routes = Routes::new(alloc)?;
+    Ok((user, base, routes))
+}
+
+// Sends the reply, where there is one.
+fn send_reply<F: Front>(front: &mut F, reply: &Option<Response>) -> Served
+    ensures tape { Adds (F.tape front.old) (F.tape front.new) (SendsReply reply.now result) }
+    ensures alone { FrontAlone (F.faults front.old) (F.faults front.new) }
+    ensures cause { result ≢ Served.Whole → (reply.now ≡ None) ⊎ Rose (F.faults front.old).front (F.faults front.new).front }
+    ensures came { (result ≡ Served.Whole) ⊎ (result ≡ Served.Part) }
+    ensures hidden { F.hidden front.new ≡ F.hidden front.old }
+{
+    match reply {
+        Some(response) => served_by(response.send(front)),
+        None => Served::Part,
+    }
+}
+
+fn served_by(sent: Result<(), Failed>) -> Served
+    ensures { result ≡ went sent }
+{
+    match sent {
+        Ok(()) => Served::Whole,
+        Err(_) => Served::Part,
+    }
+}

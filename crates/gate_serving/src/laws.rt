@@ -1,0 +1,56 @@
+// What the definitions rule out.
+ghost use Rattle.std.specs.Prelude.{◌≡◌, ◌⊎◌, List, [], false};
+ghost use Rattle.gate_world.specs.Causes.{Faults, no_faults};
+ghost use Rattle.gate_world.specs.declared.event.Event.{Event};
+ghost use Rattle.gate_machine.specs.Progress.{Bears, Progress};
+ghost use Rattle.gate_machine.specs.declared.machine.Machine.{Machine};
+ghost use Rattle.gate_machine.specs.declared.standing.Standing.TheVariants.{OutOfMemory};
+ghost use Rattle.gate_serving.specs.Calls.{Mailing};
+ghost use Rattle.gate_serving.specs.Complete.{CompletesRun, IsAnsweredFrom, IsSegmentObeyed, IsTold, IsWorkObeyed};
+ghost use Rattle.gate_serving.specs.declared.door.Door.{Door};
+ghost use Rattle.gate_serving.specs.GateState.{GateState};
+ghost use Rattle.gate_serving.specs.Requests.{Account, Asking, asks_for_mail};
+ghost use Rattle.gate_serving.specs.Run.{Stood};
+ghost use Rattle.gate_serving.specs.Segment.{Segment, blamed};
+ghost use Rattle.gate_serving.specs.Work.{Work};
+ghost use Rattle.gate_serving.specs.declared.served.Served.{Served};
+
+use gate_machine::obeyed_rounds_stand;
+
+/// Where no count rose, nothing is blamed.
+pub fn no_fault_no_blame()
+    ensures { (blames was now : Faults) → Bears blames was now → Stood was now → blames ≡ no_faults }
+{}
+
+/// A request that doesn't need the mail has no link life, and leaves the machine as it was.
+pub fn no_life_without_need()
+    ensures { (account : Account) (before : Machine) (asking : Asking) (events : List Event) (mail : Mailing) (after : Progress)
+        → Work account before asking events mail after → asks_for_mail asking ≡ false → (events ≡ []) × (after.machine ≡ before) }
+{}
+
+/// Where the store obeys, a place is left and no fault is blamed, calls are answered over the mail that is served then; or
+/// memory ran out.
+pub fn obeyed_requests_answered()
+    ensures { (account : Account) (before : Machine) (asking : Asking) (events : List Event) (mail : Mailing) (after : Progress)
+        (work : Work account before asking events mail after) → IsWorkObeyed work → after.blamed ≡ no_faults
+        → IsAnsweredFrom asking mail after ⊎ (after.standing ≡ OutOfMemory) }
+{
+    obeyed_rounds_stand();
+}
+
+/// Where the store obeys, a place is left and no fault is blamed, whoever comes takes the whole response that is due over
+/// the mail that is served then; or memory ran out.
+pub fn obeyed_clients_are_told()
+    ensures { (door : Door) (account : Account) (before : GateState) (events : List Event) (how : Served) (after : GateState)
+        (segment : Segment door account before events how after) → IsSegmentObeyed segment → blamed segment ≡ no_faults
+        → IsTold door account events how after }
+{
+    obeyed_rounds_stand();
+}
+
+/// Each client of a run of whom nothing fails and for whom the store obeyed is told, whatever comes of the others.
+pub fn obeyed_runs_are_told()
+    ensures { (door : Door) (account : Account) (events : List Event) → CompletesRun door account events }
+{
+    obeyed_clients_are_told();
+}

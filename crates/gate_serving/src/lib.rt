@@ -1,0 +1,31 @@
+//! Clients are served, one after another: what they ask at either door, the mail over which they are answered, and what they
+//! are sent.
+#![tactic(auto)]
+
+mod answers;
+mod asking;
+mod calls;
+mod door;
+mod front;
+mod gate;
+mod laws;
+mod line;
+mod mailing;
+mod reading;
+mod requests;
+mod response;
+mod served;
+mod served_mail;
+mod serving;
+mod upload;
+
+pub use door::Door;
+pub use front::{FrontError, Input, receive};
+pub use gate::Gate;
+pub use laws::{
+    no_fault_no_blame, no_life_without_need, obeyed_clients_are_told, obeyed_requests_answered,
+    obeyed_runs_are_told,
+};
+pub use line::with_line_end;
+pub use served::{OpenError, Served};
+pub use serving::serve;

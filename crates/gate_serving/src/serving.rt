@@ -1,0 +1,39 @@
+// Clients are served, one after another.
+ghost use Rattle.std.specs.Prelude.{◌≡◌, ◌⊎◌};
+ghost use Rattle.gate_world.specs.Causes.{Later, Rose};
+ghost use Rattle.gate_world.specs.Tape.{Adds};
+ghost use Rattle.gate_serving.specs.Complete.{CompletesRun};
+ghost use Rattle.gate_serving.specs.Run.{IsServingRun};
+ghost use Rattle.gate_serving.specs.Gates.{account_by, state_of};
+
+use crate::gate::Gate;
+use crate::laws::obeyed_runs_are_told;
+use crate::served::Served;
+use gate_world::World;
+use std::alloc::Global;
+
+/// Serves this many clients, or as many as come: 0, or 6 where accepting failed.
+pub fn serve<W: World>(alloc: Global, gate: &mut Gate, world: &mut W, most: u64) -> u8
+    ensures run { Adds (W.tape world.old) (W.tape world.new)
+        (IsServingRun gate.old.door (account_by gate.old (W.hidden world.old)) (state_of gate.old) (state_of gate.new) most (W.faults world.old) (W.faults world.new) result) }
+    // A law over that run: of whom nothing is blamed and for whom the store obeyed takes the whole response that is due, whatever
+    // comes of the others.
+    ensures complete { Adds (W.tape world.old) (W.tape world.new) (CompletesRun gate.old.door (account_by gate.old (W.hidden world.old))) }
+    ensures statuses { (result ≡ 0) ⊎ (result ≡ 6) }
+    ensures later { Later (W.faults world.old) (W.faults world.new) }
+    ensures front { result ≡ 6 → Rose (W.faults world.old).front (W.faults world.new).front }
+    ensures hidden { W.hidden world.new ≡ W.hidden world.old }
+{
+    obeyed_runs_are_told();
+    let mut count: u64 = 0;
+    'serving: while count < most {
+        match gate.answer_one(alloc, world) {
+            Served::AcceptFault => return 6,
+            Served::NoMore => return 0,
+            Served::Whole => {}
+            Served::Part => {}
+        }
+        count += 1;
+    }
+    0
+}

@@ -1,5 +1,0 @@
-use Rattle.gateway.proofs.Told.{told}
-use Rattle.gateway.proofs.laws.obeyed_clients_are_told.Goals as goal
-
-pub returns : goal.returns
-returns c = told c.obeyed_rounds_stand.ensures

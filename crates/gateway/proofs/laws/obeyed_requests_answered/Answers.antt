@@ -1,5 +1,0 @@
-use Rattle.gateway.proofs.Needs.{answered_from}
-use Rattle.gateway.proofs.laws.obeyed_requests_answered.Goals as goal
-
-pub returns : goal.returns
-returns c = answered_from c.obeyed_rounds_stand.ensures

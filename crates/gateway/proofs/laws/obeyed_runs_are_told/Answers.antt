@@ -1,5 +1,0 @@
-use Rattle.gateway.proofs.Told.{run_told}
-use Rattle.gateway.proofs.laws.obeyed_runs_are_told.Goals as goal
-
-pub returns : goal.returns
-returns c = λ door account events before after went run none obeyed. run_told c.obeyed_clients_are_told.ensures run none obeyed

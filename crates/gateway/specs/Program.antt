@@ -1,0 +1,168 @@
+-- A run of the program over its words and the outside.
+use Rattle.std.specs.Prelude.{◌≡◌, ◌⊎◌, ◌++◌, ℕ, List, [], ◌∷◌, Result, Ok, Err, codes}
+use Rattle.gate_world.specs.Causes.{Faults, Hidden, no_faults}
+use Rattle.gate_world.specs.declared.event.Event.{Event}
+use Rattle.gate_world.specs.declared.event.Event.TheVariants.{Said, SayFailed}
+use Rattle.gate_words.specs.Pages.{page_text}
+use Rattle.gate_words.specs.Task.{IsTask}
+use Rattle.gate_words.specs.declared.page.Page.{Page}
+use Rattle.gate_words.specs.declared.place.Place.{Place}
+use Rattle.gate_words.specs.declared.task.Task.{Task}
+use Rattle.gate_words.specs.declared.task.Task.TheVariants.{Serve, Once, Show, Explain}
+use Rattle.gate_machine.specs.Progress.{Bears}
+use Rattle.gate_serving.specs.declared.door.Door.TheVariants.{Bare, Http}
+use Rattle.gate_serving.specs.declared.front.FrontError.{FrontError}
+use Rattle.gate_serving.specs.declared.front.FrontError.TheVariants as front
+use Rattle.gate_serving.specs.declared.served.Served.{Served}
+use Rattle.gate_serving.specs.declared.served.Served.TheVariants as served
+use Rattle.gate_serving.specs.declared.served.OpenError.TheVariants as opening
+use Rattle.gate_serving.specs.GateState.{GateState}
+use Rattle.gate_serving.specs.Run.{Run, Ends, Opens, account_of, run_blamed}
+use Rattle.gate_serving.specs.Segment.{Segment, blamed, blame_front}
+use Rattle.gateway.specs.Explain.{Explains}
+use Rattle.gateway.specs.Show.{Shows}
+
+-- ---- what is said
+
+-- a line on the console, or that it failed
+abbrev pub IsSaid : List ℕ → List Event → Type 0
+IsSaid line events = (events ≡ Said line ∷ []) ⊎ (events ≡ SayFailed ∷ [])
+
+abbrev pub words_refused : List ℕ
+words_refused = codes "jmapgate: words refused\n"
+
+abbrev pub front_failed : List ℕ
+front_failed = codes "jmapgate: front failed\n"
+
+-- the front failed, and that is said
+abbrev pub EndsFailed : ℕ → List Event → Type 0
+EndsFailed status said = (status ≡ 6) × IsSaid front_failed said
+
+abbrev pub EndsDone : ℕ → List Event → Type 0
+EndsDone status said = (status ≡ 0) × (said ≡ [])
+
+-- The status after one client on standard input, and what is said: whatever of the front fails ends in status 6.
+abbrev pub EndsOnce : Served → ℕ → List Event → Type 0
+EndsOnce served.Whole status said = EndsDone status said
+EndsOnce served.NoMore status said = EndsDone status said
+EndsOnce served.Part status said = EndsFailed status said
+EndsOnce served.AcceptFault status said = EndsFailed status said
+
+-- The same after clients over HTTP, of whom so many may come: a fault ends in status 6 where no client could be accepted.
+abbrev pub EndsServing : ℕ → List Served → ℕ → List Event → Type 0
+EndsServing most went status said = Ends most went status × (EndsDone status said ⊎ EndsFailed status said)
+
+-- the same after one that gives a message, or is told a page
+abbrev pub EndsOne : Result (Unit {0}) FrontError → ℕ → List Event → Type 0
+EndsOne (Ok _) status said = EndsDone status said
+EndsOne (Err front.Memory) status said = (status ≡ 5) × (said ≡ [])
+EndsOne (Err front.Failed) status said = EndsFailed status said
+
+abbrev pub one_blamed : Result (Unit {0}) FrontError → Faults
+one_blamed (Err front.Failed) = blame_front 1 no_faults
+one_blamed _ = no_faults
+
+-- ---- what tasks add
+
+-- the task opens a gate at this place
+abbrev pub IsAt : Task → Place → Type 0
+IsAt (Serve place listen connections) at = place ≡ at
+IsAt (Once place) at = place ≡ at
+IsAt Show at = ⊥
+IsAt (Explain page) at = ⊥
+
+-- it has nothing to do with the store
+abbrev pub IsApart : Task → Type 0
+IsApart Show = Unit {0}
+IsApart (Explain page) = Unit {0}
+IsApart (Serve place listen connections) = ⊥
+IsApart (Once place) = ⊥
+
+-- A gate is opened and clients are served over HTTP.
+pub record ServesClients (place : Place) (most : ℕ) (secrets : Hidden) (status : ℕ) (blames : Faults) (events : List Event) : Type 0 where
+  pub opening : List Event
+  pub serving : List Event
+  pub said : List Event
+  pub before : GateState
+  pub after : GateState
+  pub went : List Served
+  pub opens : Opens (Ok before) opening
+  pub run : Run Http (account_of place secrets) before serving went after
+  pub ends : EndsServing most went status said
+  pub blames_are : blames ≡ run_blamed run
+  pub whole : events ≡ (opening ++ serving) ++ said
+
+-- A gate is opened and one client is served on standard input.
+pub record ServesOne (place : Place) (secrets : Hidden) (status : ℕ) (blames : Faults) (events : List Event) : Type 0 where
+  pub opening : List Event
+  pub serving : List Event
+  pub said : List Event
+  pub before : GateState
+  pub after : GateState
+  pub how : Served
+  pub opens : Opens (Ok before) opening
+  pub segment : Segment Bare (account_of place secrets) before serving how after
+  pub ends : EndsOnce how status said
+  pub blames_are : blames ≡ blamed segment
+  pub whole : events ≡ (opening ++ serving) ++ said
+
+-- One client is shown its message.
+pub record ShowsOne (status : ℕ) (blames : Faults) (events : List Event) : Type 0 where
+  pub shown : List Event
+  pub said : List Event
+  pub outcome : Result (Unit {0}) FrontError
+  pub shows : Shows outcome shown
+  pub ends : EndsOne outcome status said
+  pub blames_are : blames ≡ one_blamed outcome
+  pub whole : events ≡ shown ++ said
+
+-- One client is told a page.
+pub record ExplainsOne (page : Page) (status : ℕ) (blames : Faults) (events : List Event) : Type 0 where
+  pub explained : List Event
+  pub said : List Event
+  pub outcome : Result (Unit {0}) FrontError
+  pub explains : Explains (page_text page) outcome explained
+  pub ends : EndsOne outcome status said
+  pub blames_are : blames ≡ one_blamed outcome
+  pub whole : events ≡ explained ++ said
+
+-- What a task adds, with its status and the faults that are blamed.
+pub data Performed (task : Task) (secrets : Hidden) (status : ℕ) (blames : Faults) (events : List Event) : Type 0 where
+  -- opening came to nothing
+  Unopened : (place : Place) → IsAt task place → Opens (Err opening.Memory) events → status ≡ 5 → blames ≡ no_faults → Performed task secrets status blames events
+  ServedMany : (place : Place) (listen : List ℕ) (most : ℕ) → task ≡ Serve place listen most → ServesClients place most secrets status blames events
+      → Performed task secrets status blames events
+  ServedOnce : (place : Place) → task ≡ Once place → ServesOne place secrets status blames events → Performed task secrets status blames events
+  ShownOne : task ≡ Show → ShowsOne status blames events → Performed task secrets status blames events
+  Explained : (page : Page) → task ≡ Explain page → ExplainsOne page status blames events → Performed task secrets status blames events
+
+-- The run of the program over its words: they are refused, memory runs out before anything is asked of the outside, or what
+-- their task adds.
+pub data Runs (words : List (List ℕ)) (secrets : Hidden) (status : ℕ) (blames : Faults) (events : List Event) : Type 0 where
+  Refused : ((task : Task) → IsTask words task → ⊥) → status ≡ 2 → IsSaid words_refused events → blames ≡ no_faults → Runs words secrets status blames events
+  OutOfMemory : status ≡ 5 → events ≡ [] → blames ≡ no_faults → Runs words secrets status blames events
+  Done : (task : Task) → IsTask words task → Performed task secrets status blames events → Runs words secrets status blames events
+
+-- ---- what calls add
+
+-- what showing one client its message adds
+abbrev pub RunsShow : ℕ → List Event → Type 0
+RunsShow status events = (shown : List Event) × (said : List Event) × (outcome : Result (Unit {0}) FrontError) × (events ≡ shown ++ said) × Shows outcome shown
+    × EndsOne outcome status said
+
+-- what telling one client a page adds
+abbrev pub RunsExplain : List ℕ → ℕ → List Event → Type 0
+RunsExplain text status events = (explained : List Event) × (said : List Event) × (outcome : Result (Unit {0}) FrontError) × (events ≡ explained ++ said)
+    × Explains text outcome explained × EndsOne outcome status said
+
+-- what a task adds, the counts bearing its blames
+pub record Performs (task : Task) (secrets : Hidden) (was now : Faults) (status : ℕ) (events : List Event) : Type 0 where
+  pub blames : Faults
+  pub ran : Performed task secrets status blames events
+  pub bears : Bears blames was now
+
+-- the same of the whole run
+pub record IsWholeRun (words : List (List ℕ)) (secrets : Hidden) (was now : Faults) (status : ℕ) (events : List Event) : Type 0 where
+  pub blames : Faults
+  pub runs : Runs words secrets status blames events
+  pub bears : Bears blames was now

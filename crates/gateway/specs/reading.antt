@@ -1,2 +1,0 @@
--- What the parts of answering a client add: private clauses and proofs alone speak of it.
-pub mod Replying
