@@ -47,7 +47,7 @@ IsClient served.Whole = Unit {0}
 IsClient served.Part = Unit {0}
 IsClient _ = ⊥
 
--- How a run of at most so many clients ends: after the last of them, after the last that came, or where accepting failed.
+-- How a run of at most n clients ends: after the last of them, after the last that came, or where accepting failed.
 pub data Ends (most : ℕ) (went : List Served) (status : ℕ) : Type 0 where
   AllServed : All IsClient went → length went ≡ most → status ≡ 0 → Ends most went status
   NoneLeft : (clients : List Served) → went ≡ clients ++ served.NoMore ∷ [] → All IsClient clients → length clients < most → status ≡ 0 → Ends most went status
@@ -61,7 +61,7 @@ pub record StepsTo (door : Door) (account : Account) (before after : GateState) 
   pub segment : Segment door account before events how after
   pub bears : Bears (blamed segment) was now
 
--- A run that goes on after so many clients.
+-- A run that goes on after n clients.
 pub record RunsTo (door : Door) (account : Account) (before after : GateState) (clients : ℕ) (was now : Faults) (events : List Event) : Type 0 where
   pub went : List Served
   pub run : Run door account before events went after

@@ -48,7 +48,7 @@ EndsOnce served.NoMore status said = EndsDone status said
 EndsOnce served.Part status said = EndsFailed status said
 EndsOnce served.AcceptFault status said = EndsFailed status said
 
--- The same after clients over HTTP, of whom so many may come: a fault ends in status 6 where no client could be accepted.
+-- The same after clients over HTTP, of whom n may come: a fault ends in status 6 where no client could be accepted.
 abbrev pub EndsServing : ℕ → List Served → ℕ → List Event → Type 0
 EndsServing most went status said = Ends most went status × (EndsDone status said ⊎ EndsFailed status said)
 
