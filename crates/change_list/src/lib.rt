@@ -2,14 +2,19 @@
 //! copy stays right.
 #![tactic(auto)]
 
-mod answer;
+// Touches and answers.
 mod entries;
+mod answer;
 mod error;
-pub mod laws;
+
+// The list.
 mod list;
+mod walk;
 mod parts;
 mod since;
-mod walk;
+
+// Laws.
+pub mod laws;
 
 pub use answer::Changes;
 pub use entries::{Entry, Kind};

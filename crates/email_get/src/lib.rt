@@ -1,17 +1,24 @@
 //! What the octets of a message are as an Email object (RFC 8621).
 #![tactic(auto)]
 
-mod bodies;
-mod email_objects;
-pub mod header_laws;
-pub mod header_properties;
-pub mod laws;
-mod leaves;
-mod moment_text;
-mod part_objects;
-mod previews;
+// Texts and moments.
 mod texts;
+mod moment_text;
+
+// Parts.
+mod leaves;
 mod values;
+mod previews;
+mod part_objects;
+mod bodies;
+
+// The object.
+pub mod header_properties;
+mod email_objects;
+
+// Laws.
+pub mod header_laws;
+pub mod laws;
 
 pub use email_objects::email_object;
 pub use header_properties::{HeaderValues, header_values};

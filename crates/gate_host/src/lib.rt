@@ -2,17 +2,23 @@
 //! random words. None of them tells a tape; each counts its faults.
 #![tactic(auto)]
 
-mod chance;
-mod clients;
-mod error_console;
-mod faults;
+// What a host gives.
 mod host;
-mod host_world;
-mod listener_front;
 mod sockets;
-mod standard_front;
 mod streams;
+mod faults;
+mod chance;
+
+// The parts of the world.
 mod tcp_link;
+mod clients;
+mod standard_front;
+mod listener_front;
+mod error_console;
+
+// All of them.
+mod host_world;
+
 #[cfg(test)]
 mod tests;
 

@@ -1,12 +1,17 @@
 //! What the gateway holds between requests, and a request's way to the mail: over the link alone.
 #![tactic(auto)]
 
-mod beginning;
-mod differences;
+// What is known.
 mod known;
-mod laws;
+mod differences;
 mod machine;
+
+// The way to the mail.
 mod standing;
+mod beginning;
+
+// Laws.
+mod laws;
 
 pub use beginning::{begin, visit};
 pub use known::Known;

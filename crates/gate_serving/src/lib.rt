@@ -2,22 +2,29 @@
 //! are sent.
 #![tactic(auto)]
 
-mod answers;
-mod asking;
-mod calls;
+// What clients ask.
 mod door;
 mod front;
-mod gate;
-mod laws;
-mod line;
-mod mailing;
-mod reading;
 mod requests;
-mod response;
-mod served;
-mod served_mail;
-mod serving;
 mod upload;
+mod asking;
+mod reading;
+
+// The work, and answers.
+mod served_mail;
+mod calls;
+mod mailing;
+mod line;
+mod response;
+mod answers;
+
+// One client after another.
+mod served;
+mod gate;
+mod serving;
+
+// Laws.
+mod laws;
 
 pub use door::Door;
 pub use front::{FrontError, Input, receive};

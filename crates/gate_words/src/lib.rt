@@ -1,14 +1,20 @@
 //! The words of a command, and what they ask for.
 #![tactic(auto)]
 
-mod connections;
-mod option;
-mod page;
-mod place;
-mod reading;
-mod rules;
-mod settings;
+// What words ask for.
 mod task;
+mod place;
+mod page;
+
+// Options and values.
+mod option;
+mod settings;
+mod rules;
+mod connections;
+
+// Reading.
+mod reading;
+
 #[cfg(test)]
 mod tests;
 

@@ -2,15 +2,20 @@
 //! is written as encoded words.
 #![tactic(auto)]
 
-pub mod base64_text;
+// Charsets and encodings.
 pub mod charset;
-pub mod encoded_word;
-pub mod laws;
-pub mod quoted_printable;
+pub mod base64_text;
 pub mod quoted_text;
+pub mod quoted_printable;
 pub mod transfer;
-pub mod word_list;
+
+// Encoded words.
+pub mod encoded_word;
 pub mod words;
+pub mod word_list;
+
+// Laws.
+pub mod laws;
 
 pub use charset::decode_charset;
 pub use transfer::{decode_transfer, transfer_len};

@@ -1,12 +1,15 @@
 //! The values of a store's language at the front of octets: words, numbers, strings, flags, dates and sets of UIDs.
 #![tactic(auto)]
 
-mod date_times;
-mod dates;
-mod flags;
+// Octets at the front.
 mod octets;
-mod sets;
 mod strings;
+
+// Values.
+mod flags;
+mod sets;
+mod dates;
+mod date_times;
 
 pub use date_times::date_in;
 pub use dates::push_date;

@@ -1,13 +1,18 @@
 //! The fields of a header (RFC 5322), and the forms of their values as texts and as pieces in angle brackets.
 #![tactic(auto)]
 
-pub mod blocks;
-pub mod bracketed;
-pub mod header;
-pub mod laws;
+// Lines and fields.
 pub mod lines;
-pub mod raw_forms;
+pub mod blocks;
+pub mod header;
+
+// Forms.
 pub mod white_end;
+pub mod raw_forms;
+pub mod bracketed;
+
+// Laws.
+pub mod laws;
 
 pub use blocks::{fields, last_field};
 pub use bracketed::{as_message_ids, as_urls};

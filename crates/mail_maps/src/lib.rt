@@ -1,18 +1,23 @@
 //! The maps that are served: Emails with their envelopes and keywords, Threads, and Mailboxes with their counts.
 #![tactic(auto)]
 
-mod envelope;
-mod header;
-mod hierarchy;
-pub mod keywords;
-mod mailboxes;
-mod rights;
-mod roles;
+// Rows.
 mod row;
 mod served;
-mod tally;
-mod threads;
+
+// Emails.
+mod header;
+mod envelope;
+pub mod keywords;
 pub mod visible;
+
+// Threads and Mailboxes.
+mod threads;
+mod hierarchy;
+mod roles;
+mod rights;
+mod tally;
+mod mailboxes;
 
 pub use envelope::{Envelope, Party};
 pub use header::read_envelope;

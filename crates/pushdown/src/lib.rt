@@ -2,13 +2,18 @@
 //! symbols, whose laws say that the rules are those of its language.
 #![tactic(auto)]
 
-mod answer;
+// What a grammar gives.
+mod symbol;
 mod moves;
-mod runs;
-mod scanner;
+
+// Octets at a stack.
 mod stack;
 mod step;
-mod symbol;
+mod runs;
+
+// Scanning.
+mod answer;
+mod scanner;
 
 pub use answer::Answer;
 pub use moves::Move;

@@ -20,7 +20,7 @@ value_of l = record { name = l.name.now; delimiter = l.delimiter; attributes = l
 abbrev pub told_as : Folder → lists.Line → Folder
 told_as f l = record f { delimiter = l.delimiter; attributes = l.attributes }
 
--- at Ok the folder has what the line tells, and the answer is whether that is new; where memory lacked it is as it was
+-- at Ok the folder has what the line tells, and the answer is whether that is new; out of memory it is as it was
 pub record IsLined (f g : Folder) (l : lists.Line) (result : Result Bool AllocError) : Type 0 where
   pub ok : OnOk result (g ≡ told_as f l)
   pub err : OnErr result (g ≡ f)
