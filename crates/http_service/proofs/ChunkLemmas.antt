@@ -203,7 +203,8 @@ chunk_stops {a} {b} limit body keeps over count c size e ys kept few within some
       append_assoc (texts_of chunks) line text,
       omega (arith, fits),
       subst (λ (n : ℕ). n ≤ MAX_EXCESS_OCTETS) so kept.lines,
-      InChunk line text size refl said (omega (arith, some)) (lines_kept chunks line over count so long few) fits stops,
+      InChunk line text size refl
+          (record { said = said; some = omega (arith, some); few = lines_kept chunks line over count so long few; fits = fits }) stops,
     ))
 
 -- a chunk more
@@ -262,7 +263,7 @@ body_memory {xs = xs} limit body over count c ys keeps (chunks, line, all, takes
     append_assoc (texts_of chunks) line trailer,
     subst (λ (l : List ℕ). length l ≤ limit) is keeps.octets,
     subst (λ (n : ℕ). n ≤ MAX_EXCESS_OCTETS) so keeps.lines,
-    AtEnd line trailer refl said is_trailer refl refl,
+    AtEnd (record { last = line; trailer = trailer; whole = refl; is_last = said; is_trailer = is_trailer }) refl refl,
   ),
 )
 
