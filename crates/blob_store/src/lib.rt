@@ -8,7 +8,6 @@ mod uploads;
 // The store.
 mod error;
 mod store;
-
 #[cfg(test)]
 mod tests;
 

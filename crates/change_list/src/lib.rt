@@ -3,15 +3,15 @@
 #![tactic(auto)]
 
 // Touches and answers.
-mod entries;
 mod answer;
+mod entries;
 mod error;
 
 // The list.
 mod list;
-mod walk;
 mod parts;
 mod since;
+mod walk;
 
 // Laws.
 pub mod laws;

@@ -18,7 +18,6 @@ mod serving;
 
 // All of them.
 mod front;
-
 #[cfg(test)]
 mod tests;
 

@@ -2,19 +2,19 @@
 #![tactic(auto)]
 
 // Texts and moments.
-mod texts;
 mod moment_text;
+mod texts;
 
 // Parts.
-mod leaves;
-mod values;
-mod previews;
-mod part_objects;
 mod bodies;
+mod leaves;
+mod part_objects;
+mod previews;
+mod values;
 
 // The object.
-pub mod header_properties;
 mod email_objects;
+pub mod header_properties;
 
 // Laws.
 pub mod header_laws;

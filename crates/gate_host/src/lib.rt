@@ -3,22 +3,21 @@
 #![tactic(auto)]
 
 // What a host gives.
+mod chance;
+mod faults;
 mod host;
 mod sockets;
 mod streams;
-mod faults;
-mod chance;
 
 // The parts of the world.
-mod tcp_link;
 mod clients;
-mod standard_front;
-mod listener_front;
 mod error_console;
+mod listener_front;
+mod standard_front;
+mod tcp_link;
 
 // All of them.
 mod host_world;
-
 #[cfg(test)]
 mod tests;
 

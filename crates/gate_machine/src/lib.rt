@@ -2,13 +2,13 @@
 #![tactic(auto)]
 
 // What is known.
-mod known;
 mod differences;
+mod known;
 mod machine;
 
 // The way to the mail.
-mod standing;
 mod beginning;
+mod standing;
 
 // Laws.
 mod laws;

@@ -3,24 +3,24 @@
 #![tactic(auto)]
 
 // What clients ask.
+mod asking;
 mod door;
 mod front;
+mod reading;
 mod requests;
 mod upload;
-mod asking;
-mod reading;
 
 // The work, and answers.
-mod served_mail;
-mod calls;
-mod mailing;
-mod line;
-mod response;
 mod answers;
+mod calls;
+mod line;
+mod mailing;
+mod response;
+mod served_mail;
 
 // One client after another.
-mod served;
 mod gate;
+mod served;
 mod serving;
 
 // Laws.

@@ -2,19 +2,18 @@
 #![tactic(auto)]
 
 // What words ask for.
-mod task;
-mod place;
 mod page;
+mod place;
+mod task;
 
 // Options and values.
-mod option;
-mod settings;
-mod rules;
 mod connections;
+mod option;
+mod rules;
+mod settings;
 
 // Reading.
 mod reading;
-
 #[cfg(test)]
 mod tests;
 

@@ -3,14 +3,14 @@
 
 // Values.
 mod bytes;
+mod listed;
 mod names;
 mod text;
-mod listed;
 
 // The outside.
 mod event;
-mod tape;
 mod outside;
+mod tape;
 mod watcher;
 
 // Texts that are sent, octets that came.

@@ -35,19 +35,19 @@ single_octet c =
     else Octet c
 
 -- an octet, and the pieces after it
-unfoldable pub joined : ℕ → List DatePiece → List DatePiece
-joined c [] = single_octet c ∷ []
-joined c (Digits ds ∷ ps) =
+unfoldable pub joined_piece : ℕ → List DatePiece → List DatePiece
+joined_piece c [] = single_octet c ∷ []
+joined_piece c (Digits ds ∷ ps) =
     if is_digit c then Digits (c ∷ ds) ∷ ps
     else if is_plus_or_minus c then Signed c ds ∷ ps
     else single_octet c ∷ Digits ds ∷ ps
-joined c (Letters ls ∷ ps) = if is_alpha c then Letters (c ∷ ls) ∷ ps else single_octet c ∷ Letters ls ∷ ps
-joined c (p ∷ ps) = single_octet c ∷ p ∷ ps
+joined_piece c (Letters ls ∷ ps) = if is_alpha c then Letters (c ∷ ls) ∷ ps else single_octet c ∷ Letters ls ∷ ps
+joined_piece c (p ∷ ps) = single_octet c ∷ p ∷ ps
 
 -- the pieces of an atom
 unfoldable pub runs : List ℕ → List DatePiece
 runs [] = []
-runs (c ∷ t) = joined c (runs t)
+runs (c ∷ t) = joined_piece c (runs t)
 
 abbrev pub pieces_in : Kind → List ℕ → List DatePiece
 pieces_in kind.Atom t = runs t

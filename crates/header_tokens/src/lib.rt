@@ -2,9 +2,9 @@
 #![tactic(auto)]
 
 // Tokens.
+pub mod kinds;
 pub mod token;
 pub mod tokens;
-pub mod kinds;
 
 // Lexemes, and what words spell.
 pub mod lexemes;

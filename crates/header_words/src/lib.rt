@@ -3,16 +3,16 @@
 #![tactic(auto)]
 
 // Charsets and encodings.
-pub mod charset;
 pub mod base64_text;
-pub mod quoted_text;
+pub mod charset;
 pub mod quoted_printable;
+pub mod quoted_text;
 pub mod transfer;
 
 // Encoded words.
 pub mod encoded_word;
-pub mod words;
 pub mod word_list;
+pub mod words;
 
 // Laws.
 pub mod laws;

@@ -2,9 +2,9 @@
 #![tactic(auto)]
 
 // Paths and their parts.
+mod accept;
 mod cutting;
 mod parts;
-mod accept;
 mod router;
 
 // Routes and tokens.

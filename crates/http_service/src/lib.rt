@@ -4,25 +4,25 @@
 // Octets and lines that are read.
 mod error;
 mod filling;
-mod lines;
 mod line_reading;
+mod lines;
 
 // Heads.
-mod target;
 mod cut_target;
 mod fields;
 mod head;
+mod target;
 
 // Bodies.
+mod body;
 mod chunk_lines;
 mod chunks;
-mod body;
 
 // Responses.
 mod media;
-mod response_text;
-mod response;
 mod refusal;
+mod response;
+mod response_text;
 
 // Laws.
 pub mod laws;

@@ -5,21 +5,21 @@
 mod sym;
 
 // Their rules, from lines inwards.
-mod line_rule;
-mod word_rule;
-mod free_rule;
-mod folder_rule;
-mod names_rule;
-mod item_rule;
-mod item_name_rule;
-mod set_rule;
-mod value_rule;
-mod string_rule;
 mod date_rule;
+mod folder_rule;
+mod free_rule;
+mod item_name_rule;
+mod item_rule;
+mod line_rule;
+mod names_rule;
+mod set_rule;
+mod string_rule;
+mod value_rule;
+mod word_rule;
 
 // The grammar.
-mod runs;
 mod grammar;
+mod runs;
 
 pub use grammar::LIMIT;
 pub use imap_keywords::{Key, Pending, Phrase, Place};

@@ -103,7 +103,7 @@ fn validity_of(folder: Option<&Folder>) -> u32
 
 /// The stage once the folder is selected, which had this validity before.
 fn selected(validity: u32, told: u32) -> BodyStage
-    ensures { result ≡ bodies.selected_stage validity told }
+    ensures { result ≡ bodies.selected_body_stage validity told }
 {
     if told == validity {
         BodyStage::Fetching

@@ -4,14 +4,14 @@
 
 // A link life, and plans that are followed in it.
 mod client;
-mod plan;
 mod following;
+mod plan;
 
 // Plans.
+mod body;
 mod connection;
 mod dialing;
 mod round;
-mod body;
 
 // Laws.
 mod laws;

@@ -7,9 +7,9 @@ mod link_end;
 mod received;
 
 // Responses and commands.
+mod exchange;
 mod response;
 mod sending;
-mod exchange;
 
 // Laws.
 mod laws;

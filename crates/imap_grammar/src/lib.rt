@@ -7,9 +7,9 @@ mod scanner;
 
 // What it says.
 mod codes;
+mod decoder;
 mod folders;
 mod items;
-mod decoder;
 
 pub use answer::Scan;
 pub use decoder::{decode, no_spelling_within, one_value};

@@ -6,10 +6,10 @@ mod octets;
 mod strings;
 
 // Values.
+mod date_times;
+mod dates;
 mod flags;
 mod sets;
-mod dates;
-mod date_times;
 
 pub use date_times::date_in;
 pub use dates::push_date;

@@ -2,23 +2,23 @@
 #![tactic(auto)]
 
 // Requests.
-mod request;
 mod call;
 mod created_ids;
+mod request;
 mod request_body;
 
 // Methods.
+mod arguments;
+mod core_echo;
 mod method;
 mod method_error;
-mod arguments;
 mod pointer;
 mod references;
-mod core_echo;
 mod state;
 
 // Answers.
-mod response;
 mod problem;
+mod response;
 mod session;
 
 pub use arguments::{

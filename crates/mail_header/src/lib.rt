@@ -2,14 +2,14 @@
 #![tactic(auto)]
 
 // Lines and fields.
-pub mod lines;
 pub mod blocks;
 pub mod header;
+pub mod lines;
 
 // Forms.
-pub mod white_end;
-pub mod raw_forms;
 pub mod bracketed;
+pub mod raw_forms;
+pub mod white_end;
 
 // Laws.
 pub mod laws;

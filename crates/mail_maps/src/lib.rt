@@ -6,18 +6,18 @@ mod row;
 mod served;
 
 // Emails.
-mod header;
 mod envelope;
+mod header;
 pub mod keywords;
 pub mod visible;
 
 // Threads and Mailboxes.
-mod threads;
 mod hierarchy;
-mod roles;
-mod rights;
-mod tally;
 mod mailboxes;
+mod rights;
+mod roles;
+mod tally;
+mod threads;
 
 pub use envelope::{Envelope, Party};
 pub use header::read_envelope;

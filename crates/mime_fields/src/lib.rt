@@ -2,14 +2,14 @@
 #![tactic(auto)]
 
 // Octets and parameters of fields.
+mod extended_value;
 mod field_text;
 mod parameters;
-mod extended_value;
 
 // Fields.
+mod content_id;
 mod content_type;
 mod disposition;
-mod content_id;
 
 // What they say together.
 pub mod header;

@@ -2,17 +2,17 @@
 #![tactic(auto)]
 
 // Parts and their tree.
+pub mod head;
 pub mod part;
 mod shared;
-pub mod head;
 pub mod split;
 pub mod tree;
 
 // What a part spells, and the body lists.
 pub mod body;
-mod roles;
 mod list_walk;
 mod lists;
+mod roles;
 
 // Laws.
 pub mod laws;

@@ -3,13 +3,13 @@
 #![tactic(auto)]
 
 // What a grammar gives.
-mod symbol;
 mod moves;
+mod symbol;
 
 // Octets at a stack.
+mod runs;
 mod stack;
 mod step;
-mod runs;
 
 // Scanning.
 mod answer;

@@ -2,9 +2,9 @@
 #![tactic(auto)]
 
 // What is followed, and what is left of it.
-mod script;
 mod left;
 mod playback;
+mod script;
 
 // The worlds.
 mod script_world;

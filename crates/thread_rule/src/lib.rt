@@ -2,19 +2,19 @@
 #![tactic(auto)]
 
 // The base subject.
-mod subject;
 mod base;
+mod subject;
 
 // Emails by what they name.
-mod member;
 mod header;
+mod member;
 
 // The book.
-mod key;
-mod index;
-mod search;
-mod entries;
 mod book;
+mod entries;
+mod index;
+mod key;
+mod search;
 
 pub use base::{base_of, base_subject};
 pub use book::ThreadBook;

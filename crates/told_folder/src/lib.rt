@@ -2,19 +2,19 @@
 #![tactic(auto)]
 
 // Folders, messages and exchanges.
-mod message;
 mod exchange;
 pub mod keyed;
-pub mod uids;
+mod message;
 pub mod messages;
+pub mod uids;
 
 // What responses tell.
-pub mod puts;
+mod fetched;
 mod headers;
+pub mod puts;
+pub mod select;
 pub mod telling;
 mod vanished;
-pub mod select;
-mod fetched;
 
 // What an exchange tells.
 mod told;
