@@ -39,7 +39,7 @@ Cases (p ∷ ps) ls = FirstLeaf p ps ls ⊎ FirstMulti p ps ls
 pub cases : (ps ls : List Part) → AreLeaves ps ls → Cases ps ls
 cases _ _ leaves.End = refl
 cases _ _ (leaves.Leaf p ps behind leaf rest) = inl (record { leaf = leaf; behind = behind; are_behind = rest; is = refl })
-cases _ _ (leaves.Multi p ps inner behind no_leaf kids rest) = inr (record { no_leaf = no_leaf; inner = inner; behind = behind; are_inner = kids; are_behind = rest; is = refl })
+cases _ _ (leaves.Multi p ps x kids rest) = inr (record { no_leaf = x.no_leaf; inner = x.inner; behind = x.behind; are_inner = kids; are_behind = rest; is = refl })
 
 -- ---- numbers
 
@@ -69,7 +69,7 @@ trees_from T each base d (q ∷ qs) f (c ∷ cs) n t ls a = by (cases (c ∷ cs)
     by (inl w) more = subst (λ (u : List Part). AreFrom f u n) (sym w.is)
         (from_both f t.0 n (c ∷ []) w.behind (one (c ∷ []) (leaves.Leaf c [] [] w.leaf leaves.End)) (more w.behind w.are_behind))
     by (inr w) more =
-        let k = one (w.inner ++ []) (leaves.Multi c [] w.inner [] w.no_leaf w.are_inner leaves.End) in
+        let k = one (w.inner ++ []) (leaves.Multi c [] (record { no_leaf = w.no_leaf; inner = w.inner; behind = [] }) w.are_inner leaves.End) in
         subst (λ (u : List Part). AreFrom f u n) (sym w.is) (from_both f t.0 n w.inner w.behind (subst (λ (u : List Part). AreFrom f u t.0) (append-nil w.inner) k)
         (more w.behind w.are_behind))
 
