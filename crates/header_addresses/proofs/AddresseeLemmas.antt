@@ -7,7 +7,8 @@ use Rattle.text_words.proofs.SequenceLemmas.{one_reading, determined}
 use Rattle.header_tokens.specs.declared.token.Alphabet.TheVariants as alphabet
 use Rattle.header_tokens.specs.Tokens.{Spelled, AreTokens}
 use Rattle.header_addresses.specs.Mailboxes.{Mailbox}
-use Rattle.header_addresses.specs.AddressLists.{Element, Empty, Head, End, Member, IsElement, Addressee, One, Group, AreMailboxes, NoMailboxes, EmptyPlace, NextMailbox, AreAddressees}
+use Rattle.header_addresses.specs.AddressLists.{Element, Empty, Head, End, Member, IsElement, Addressee, One, Group, AreMailboxes, NoMailboxes, EmptyPlace, NextMailbox}
+use Rattle.header_addresses.specs.AddressLists.{AreAddressees}
 use Rattle.header_addresses.specs.AddressLists.{NoAddressees, Passed, NextOne, NextGroup, IsAddressList, Grouped, run_of, groups_from}
 use Rattle.header_addresses.specs.reading.ElementReading.{element_in, are_nested, is_addressee, grouped_from}
 use Rattle.header_addresses.specs.reading.GroupBuilding.{are_list}

@@ -68,7 +68,8 @@ octet_breaks es octet error.Memory (earlier, takes, ends, stops) = (Octets 1, []
 
 pub octet_differs : {before : List ℕ} (after : List ℕ) (es : List Event) (octet c : ℕ) → FillsTo 1 before after (Ok tt) es → c ≢ octet → (more : List ℕ) → after ≡ c ∷ more
     → Breaks (NoOctet octet) before after error.BadHead es
-octet_differs after es octet c (takes, enough, few) other more is = (Octets 1, [], es, takes, inl (refl, λ short. absurd (omega (arith, short, ap length is))), (refl, (refl, c, more, is, other)))
+octet_differs after es octet c (takes, enough, few) other more is =
+    (Octets 1, [], es, takes, inl (refl, λ short. absurd (omega (arith, short, ap length is))), (refl, (refl, c, more, is, other)))
 
 -- the data was read, but not the CR after it
 pub return_stops : {a b c octets : List ℕ} {xs : List Event} {e : HttpError} (ys : List Event) (size : ℕ) → Takes Nothing octets a b xs → length octets ≡ size

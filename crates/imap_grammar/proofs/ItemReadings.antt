@@ -183,9 +183,15 @@ told_key w m e f =
     told_case (is (codes "internaldate")) names.Date m e (λ a. f key.InternalDate (inr (inr (inr (inl refl)))) (same_text w (codes "internaldate") a)) (λ e.
     told_case (is (codes "rfc822.size")) names.Size m e (λ a. f key.Size (inr (inr (inr (inr (inl refl))))) (same_text w (codes "rfc822.size") a)) (λ e.
     told_case (is (codes "body[header]") || is (codes "body[header]<0>")) names.Header m e
-    (λ b. elim (or_cases (is (codes "body[header]")) (is (codes "body[header]<0>")) b) [ inl a ↦ f key.Header (inr (inr (inr (inr (inr (inl refl)))))) (same_text w (codes "body[header]") a) | inr a ↦ f key.HeaderPart (inr (inr (inr (inr (inr (inr (inl refl))))))) (same_text w (codes "body[header]<0>") a) ]) (λ e.
+    (λ b. elim (or_cases (is (codes "body[header]")) (is (codes "body[header]<0>")) b) [
+      | inl a ↦ f key.Header (inr (inr (inr (inr (inr (inl refl)))))) (same_text w (codes "body[header]") a)
+      | inr a ↦ f key.HeaderPart (inr (inr (inr (inr (inr (inr (inl refl))))))) (same_text w (codes "body[header]<0>") a)
+    ]) (λ e.
     told_case (is (codes "body[]") || is (codes "body[]<0>")) names.Body m e
-    (λ b. elim (or_cases (is (codes "body[]")) (is (codes "body[]<0>")) b) [ inl a ↦ f key.Body (inr (inr (inr (inr (inr (inr (inr (inl refl)))))))) (same_text w (codes "body[]") a) | inr a ↦ f key.BodyPart (inr (inr (inr (inr (inr (inr (inr (inr (inl refl))))))))) (same_text w (codes "body[]<0>") a) ]) (λ e.
+    (λ b. elim (or_cases (is (codes "body[]")) (is (codes "body[]<0>")) b) [
+      | inl a ↦ f key.Body (inr (inr (inr (inr (inr (inr (inr (inl refl)))))))) (same_text w (codes "body[]") a)
+      | inr a ↦ f key.BodyPart (inr (inr (inr (inr (inr (inr (inr (inr (inl refl))))))))) (same_text w (codes "body[]<0>") a)
+    ]) (λ e.
     absurd cc)))))))
 
 tail_head : (tail back : List ℕ) → nat_lt (get_or tail 0 0) 256 ≡ true → 0 < length tail → is_atom (get_or tail 0 0) ≡ false → is_atom
@@ -202,7 +208,8 @@ other_read so_far t back b h out e =
     (plain_octets o.tail) back in
     let c = cut_at is_atom o.word (plain_octets o.tail ++ back) b cut o.each (tail_head o.tail back o.small o.goes_on o.longest) in
     let n = span is_atom b in
-    let no : told_by (map lower (take n b)) ≡ None = untold (told_by (map lower (take n b))) (λ m q. told_key (map lower (take n b)) m q (λ k a w. o.no_key k a (sym (ap (map lower) c.front) ∙ w))) in
+    let no : told_by (map lower (take n b)) ≡ None =
+    untold (told_by (map lower (take n b))) (λ m q. told_key (map lower (take n b)) m q (λ k a w. o.no_key k a (sym (ap (map lower) c.front) ∙ w))) in
     let count : passed b (item_start ∷ []) ≡ length (plain_octets t) = item_passed t back b (item_to Other t h) out e ∙ sym (plain_length t) in
     ap (λ (q : Option Told). value_or_passed so_far q (drop (n + 1) b) b) no
     ∙ ap (λ (m : ℕ). (so_far, drop m b)) count ∙ ap (λ (u : List ℕ). (so_far, drop (length (plain_octets t)) u)) e ∙ ap (λ (u : List ℕ). (so_far, u))
