@@ -9,8 +9,6 @@ mod pace;
 mod progress;
 mod serving;
 mod sockets;
-#[cfg(test)]
-mod tests;
 mod toolchain;
 mod waiting;
 
