@@ -2,17 +2,22 @@
 //! and a request has a deadline.
 #![tactic(auto)]
 
+// What is asked of a host.
 mod clock;
+mod sockets;
+mod toolchain;
+
+// Clients that wait.
 mod first_octet;
-mod front;
+mod waiting;
+
+// The client that is served, and its deadlines.
 mod pace;
 mod progress;
 mod serving;
-mod sockets;
-#[cfg(test)]
-mod tests;
-mod toolchain;
-mod waiting;
+
+// All of them.
+mod front;
 
 pub use clock::Ticks;
 pub use front::ClientFront;
