@@ -8,8 +8,6 @@ mod uploads;
 // The store.
 mod error;
 mod store;
-#[cfg(test)]
-mod tests;
 
 pub use error::BlobError;
 pub use store::{BlobStore, MAX_KEPT_OCTETS, MAX_UPLOAD_OCTETS};

@@ -18,8 +18,6 @@ mod serving;
 
 // All of them.
 mod front;
-#[cfg(test)]
-mod tests;
 
 pub use clock::Ticks;
 pub use front::ClientFront;

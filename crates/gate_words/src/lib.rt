@@ -14,8 +14,6 @@ mod settings;
 
 // Reading.
 mod reading;
-#[cfg(test)]
-mod tests;
 
 pub use connections::MAX_CONNECTIONS;
 pub use page::{ONCE_PAGE, PROGRAM_PAGE, Page, SERVE_PAGE, SHOW_PAGE, VERSION_PAGE};

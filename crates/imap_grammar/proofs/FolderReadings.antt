@@ -7,7 +7,7 @@ use Rattle.std.proofs.lemmas.List.{length-append, map-append}
 use Rattle.imap_syntax.proofs.EachLemmas.{each_to, each_append}
 use Rattle.pushdown.proofs.Lists.{cons_head}
 use Rattle.imap_automaton.proofs.StringEdges.{no_special}
-use Rattle.imap_values.specs.reading.Spans.{span, long_read, flags_in}
+use Rattle.imap_values.specs.reading.Spans.{span, long_value, flags_in}
 use Rattle.imap_values.specs.reading.StringReading.{astring_in}
 use Rattle.imap_grammar.specs.reading.FolderReading.{delimiter_in, list_in, count_in, status_counts, counts_in, status_in}
 use Rattle.imap_values.proofs.Cuts.{small, plain_small, cut_at, digit_small}
@@ -99,9 +99,9 @@ count_read k so_far t back b h out e =
     let c = cut_at is_status_word word (32 ∷ rest) b (e ∙ ap (λ (u : List ℕ). u ++ back) is ∙ append_assoc word (32 ∷ h.digits) back) h.word refl in
     let d = drop (span is_status_word b + 1) b in
     let l = cut_at is_digit h.digits back d (c.past 32 rest refl) h.number.digits out in
-    ap (λ (u : List ℕ). (told_as so_far (map lower u) (long_read (take (span is_digit d) d)), drop (span is_digit d) d)) c.front
-    ∙ ap (λ (u : List ℕ). (told_as so_far (map lower word) (long_read u), drop (span is_digit d) d)) l.front
-    ∙ ap (λ (u : List ℕ). (told_as so_far (map lower word) (long_read h.digits), u)) l.back
+    ap (λ (u : List ℕ). (told_as so_far (map lower u) (long_value (take (span is_digit d) d)), drop (span is_digit d) d)) c.front
+    ∙ ap (λ (u : List ℕ). (told_as so_far (map lower word) (long_value u), drop (span is_digit d) d)) l.front
+    ∙ ap (λ (u : List ℕ). (told_as so_far (map lower word) (long_value h.digits), u)) l.back
     ∙ ap (λ (n : ℕ). (told_as so_far (map lower word) n, back)) (long_read k.1 h.digits h.number)
 
 pub counts_next : (left : ℕ) (so_far : StatusItems) (b : List ℕ) → 0 < left → (get_or (count_in so_far b).1 0 0 == 32) ≡ true

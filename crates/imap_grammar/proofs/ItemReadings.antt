@@ -17,7 +17,7 @@ use Rattle.imap_keywords.proofs.KeyLemmas.{same_text}
 use Rattle.pushdown.proofs.Lists.{cons_head, cons_tail}
 use Rattle.imap_automaton.proofs.ItemEdges.{stop_no_digit, item_to}
 use Rattle.imap_automaton.proofs.OtherItems.{named_atoms, other_word}
-use Rattle.imap_values.specs.reading.Spans.{span, number_in, long_read}
+use Rattle.imap_values.specs.reading.Spans.{span, number_in, long_value}
 use Rattle.imap_values.specs.reading.StringReading.{astring_in}
 use Rattle.imap_grammar.specs.declared.items.Told.{Told}
 use Rattle.imap_grammar.specs.declared.items.Told.TheVariants as names
@@ -89,7 +89,7 @@ size_read n so_far value back h out =
     let b = plain_octets value ++ back in
     let v : plain_octets value ≡ value = plain_small value (each_to is_digit small value digit_small h.digits) in
     let k = cut_at is_digit value back b (ap (λ (u : List ℕ). u ++ back) v) h.digits (no_digit back out) in
-    ap (λ (m : ℕ). (told so_far (Size m), drop (span is_digit b) b)) (ap long_read k.front ∙ long_read n value h) ∙ ap (λ (u : List ℕ). (told so_far (Size n), u)) k.back
+    ap (λ (m : ℕ). (told so_far (Size m), drop (span is_digit b) b)) (ap long_value k.front ∙ long_read n value h) ∙ ap (λ (u : List ℕ). (told so_far (Size n), u)) k.back
 
 modseq_read : (n : ℕ) (so_far : FetchItems) (value back digits : List ℕ) → value ≡ 40 ∷ digits ++ 41 ∷ [] → IsLong n digits
     → value_in so_far names.ModSeq (plain_octets value ++ back) ≡ (told so_far (ModSeq n), back)
@@ -100,7 +100,7 @@ modseq_read n so_far value back digits e is =
     ∙ plain_small (40 ∷ digits ++ 41 ∷ []) (refl, each_append small digits (41 ∷ []) (each_to is_digit small digits digit_small is.digits) (refl, tt)) in
     let f : d ≡ digits ++ 41 ∷ back = ap (λ (u : List ℕ). drop 1 (u ++ back)) inner ∙ append_assoc digits (41 ∷ []) back in
     let k = cut_at is_digit digits (41 ∷ back) d f is.digits refl in
-    ap (λ (m : ℕ). (told so_far (ModSeq m), drop (span is_digit d + 1) d)) (ap long_read k.front ∙ long_read n digits is)
+    ap (λ (m : ℕ). (told so_far (ModSeq m), drop (span is_digit d + 1) d)) (ap long_value k.front ∙ long_read n digits is)
     ∙ ap (λ (u : List ℕ). (told so_far (ModSeq n), u)) (k.past 41 back refl)
 
 told_date : (seconds : ℤ) (so_far : FetchItems) (value back : List ℕ) → IsDateTime seconds value

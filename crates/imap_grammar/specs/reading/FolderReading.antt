@@ -5,7 +5,7 @@ use Rattle.imap_syntax.specs.declared.response.Response.{Response}
 use Rattle.imap_syntax.specs.declared.response.Response.TheVariants.{List as Listing, StatusItems as Counts}
 use Rattle.imap_syntax.specs.Octets.{is_digit, is_status_word, lower}
 use Rattle.imap_syntax.specs.Folders.{folder_name, told_as, no_counts}
-use Rattle.imap_values.specs.reading.Spans.{span, long_read, flags_in}
+use Rattle.imap_values.specs.reading.Spans.{span, long_value, flags_in}
 use Rattle.imap_values.specs.reading.StringReading.{astring_in}
 
 -- ---- LIST
@@ -29,7 +29,7 @@ unfoldable pub count_in : StatusItems → List ℕ → StatusItems × List ℕ
 count_in so_far b =
     let n = span is_status_word b in
     let d = drop (n + 1) b in
-    (told_as so_far (map lower (take n b)) (long_read (take (span is_digit d) d)), drop (span is_digit d) d)
+    (told_as so_far (map lower (take n b)) (long_value (take (span is_digit d) d)), drop (span is_digit d) d)
 
 -- at most n counts, each but the first after a space
 unfoldable pub status_counts : ℕ → StatusItems → List ℕ → StatusItems

@@ -26,8 +26,8 @@ abbrev pub number_from : ℕ → List ℕ → ℕ
 number_from n t = count_from 4294967295 n t
 
 -- the number, or 2^63 where it is greater
-abbrev pub long_read : List ℕ → ℕ
-long_read t = count_from 9223372036854775807 0 t
+abbrev pub long_value : List ℕ → ℕ
+long_value t = count_from 9223372036854775807 0 t
 
 -- the number, or 2^32 - 1 where it is greater
 abbrev pub number_in : List ℕ → ℕ
