@@ -9,6 +9,7 @@ mod pace;
 mod progress;
 mod serving;
 mod sockets;
+mod streams;
 #[cfg(test)]
 mod tests;
 mod toolchain;
@@ -20,5 +21,6 @@ pub use pace::{MIN_OCTETS_PER_MILLISECOND, PATIENCE_MILLISECONDS};
 pub use progress::HEAD_MILLISECONDS;
 pub use serving::{DRAIN_MILLISECONDS, MAX_DRAIN_OCTETS};
 pub use sockets::{ClientListener, ClientStream, First};
+pub use streams::{read_once, write_once};
 pub use toolchain::{TcpClient, TcpClients};
 pub use waiting::{IDLE_MILLISECONDS, MAX_HELD_CLIENTS};

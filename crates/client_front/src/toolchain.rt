@@ -2,10 +2,11 @@
 ghost use Rattle.std.specs.Prelude.{◌<◌, ◌≤◌, length, IfSome};
 
 use crate::sockets::{ClientListener, ClientStream, First};
+use crate::streams::{read_once, write_once};
 use mio::unix::SourceFd;
 use mio::{Events, Interest, Poll, Token};
 use std::alloc::Global;
-use std::io::{ErrorKind, Read, Write};
+use std::io::ErrorKind;
 use std::net::{Net, Shutdown, TcpListener, TcpStream};
 use std::os::fd::AsRawFd;
 use std::time::Duration;
@@ -20,17 +21,6 @@ const LISTENER: usize = usize::MAX;
 #[derive(Drop)]
 pub struct TcpClient {
     stream: TcpStream,
-}
-
-impl TcpClient {
-    fn read_once(&mut self, into: &mut [u8], limit: u64) -> Option<usize>
-        ensures { IfSome result (λ n. n ≤ length into.new) }
-    {
-        self.stream
-            .set_read_timeout(Some(Duration::from_millis(limit)))
-            .ok()?;
-        self.stream.read(into).ok()
-    }
 }
 
 impl ClientStream for TcpClient {
@@ -53,7 +43,10 @@ impl ClientStream for TcpClient {
 
     fn receive(&mut self, into: &mut [u8], limit: u64) -> Option<usize> {
         self.stream.set_nonblocking(false).ok()?;
-        self.read_once(into, limit)
+        self.stream
+            .set_read_timeout(Some(Duration::from_millis(limit)))
+            .ok()?;
+        read_once(&mut self.stream, into).ok()
     }
 
     fn send(&mut self, from: &[u8], limit: u64) -> Option<usize> {
@@ -61,7 +54,7 @@ impl ClientStream for TcpClient {
         self.stream
             .set_write_timeout(Some(Duration::from_millis(limit)))
             .ok()?;
-        match self.stream.write(from) {
+        match write_once(&mut self.stream, from) {
             Ok(0) | Err(_) => None,
             Ok(count) => Some(count),
         }

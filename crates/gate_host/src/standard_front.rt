@@ -5,7 +5,8 @@ ghost use Rattle.gate_host.specs.Faults.{one_more};
 
 use crate::Clients;
 use crate::faults::raised;
-use crate::streams::{read_once, write_some};
+use crate::streams::write_some;
+use client_front::read_once;
 use gate_world::Failed;
 use std::io::{Read, Write};
 
