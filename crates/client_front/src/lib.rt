@@ -2,18 +2,23 @@
 //! and a request has a deadline.
 #![tactic(auto)]
 
+// What is asked of a host.
 mod clock;
+mod sockets;
+mod streams;
+mod toolchain;
+
+// Clients that wait.
 mod first_octet;
-mod front;
+mod waiting;
+
+// The client that is served, and its deadlines.
 mod pace;
 mod progress;
 mod serving;
-mod sockets;
-mod streams;
-#[cfg(test)]
-mod tests;
-mod toolchain;
-mod waiting;
+
+// All of them.
+mod front;
 
 pub use clock::Ticks;
 pub use front::ClientFront;

@@ -53,22 +53,22 @@ pub leaves_kin : (more : ℕ) (ps qs ls ms : List Part) → AllSame (Same more) 
 leaves_kin more _ [] _ ms same End other = subst (λ (u : List Part). AllSame Kin [] u) (sym (cases [] ms other)) tt
 leaves_kin more _ (q ∷ qs) _ ms same End other = absurd same
 leaves_kin more _ [] _ ms same (Leaf p ps behind leaf rest) other = absurd same
-leaves_kin more _ [] _ ms same (Multi p ps inner behind no_leaf kids rest) other = absurd same
+leaves_kin more _ [] _ ms same (Multi p ps x kids rest) other = absurd same
 leaves_kin more _ (q ∷ qs) _ ms same (Leaf p ps behind leaf rest) other =
     by (cases (q ∷ qs) ms other) (λ later k. leaves_kin more ps qs behind later same.1 rest k)
   where
     by : FirstLeaf q qs ms ⊎ FirstMulti q qs ms → ((later : List Part) → AreLeaves qs later → AllSame Kin behind later) → AllSame Kin (p ∷ behind) ms
     by (inl w) k = subst (λ (u : List Part). AllSame Kin (p ∷ behind) u) (sym w.is) (kin more p q same.0, k w.behind w.are_behind)
     by (inr w) k = absurd (let e = sym leaf ∙ ap is_some (kin more p q same.0).number ∙ w.no_leaf in cc)
-leaves_kin more _ (q ∷ qs) _ ms same (Multi p ps inner behind no_leaf kids rest) other =
-    by (cases (q ∷ qs) ms other) (λ within k. leaves_kin (below more) (children p) (children q) inner within (same_below more p q same.0) kids k)
-    (λ later k. leaves_kin more ps qs behind later same.1 rest k)
+leaves_kin more _ (q ∷ qs) _ ms same (Multi p ps x kids rest) other =
+    by (cases (q ∷ qs) ms other) (λ within k. leaves_kin (below more) (children p) (children q) x.inner within (same_below more p q same.0) kids k)
+    (λ later k. leaves_kin more ps qs x.behind later same.1 rest k)
   where
-    by : FirstLeaf q qs ms ⊎ FirstMulti q qs ms → ((within : List Part) → AreLeaves (children q) within → AllSame Kin inner within)
-        → ((later : List Part) → AreLeaves qs later → AllSame Kin behind later) → AllSame Kin (inner ++ behind) ms
-    by (inl w) g k = absurd (let e = sym no_leaf ∙ ap is_some (kin more p q same.0).number ∙ w.leaf in cc)
-    by (inr w) g k = subst (λ (u : List Part). AllSame Kin (inner ++ behind) u) (sym w.is)
-        (kin_both inner behind w.inner w.behind (g w.inner w.are_inner) (k w.behind w.are_behind))
+    by : FirstLeaf q qs ms ⊎ FirstMulti q qs ms → ((within : List Part) → AreLeaves (children q) within → AllSame Kin x.inner within)
+        → ((later : List Part) → AreLeaves qs later → AllSame Kin x.behind later) → AllSame Kin (x.inner ++ x.behind) ms
+    by (inl w) g k = absurd (let e = sym x.no_leaf ∙ ap is_some (kin more p q same.0).number ∙ w.leaf in cc)
+    by (inr w) g k = subst (λ (u : List Part). AllSame Kin (x.inner ++ x.behind) u) (sym w.is)
+        (kin_both x.inner x.behind w.inner w.behind (g w.inner w.are_inner) (k w.behind w.are_behind))
 
 -- ---- leaves of the same numbers
 

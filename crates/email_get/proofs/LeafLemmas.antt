@@ -39,7 +39,7 @@ Cases (p ∷ ps) ls = FirstLeaf p ps ls ⊎ FirstMulti p ps ls
 pub cases : (ps ls : List Part) → AreLeaves ps ls → Cases ps ls
 cases _ _ leaves.End = refl
 cases _ _ (leaves.Leaf p ps behind leaf rest) = inl (record { leaf = leaf; behind = behind; are_behind = rest; is = refl })
-cases _ _ (leaves.Multi p ps inner behind no_leaf kids rest) = inr (record { no_leaf = no_leaf; inner = inner; behind = behind; are_inner = kids; are_behind = rest; is = refl })
+cases _ _ (leaves.Multi p ps x kids rest) = inr (record { no_leaf = x.no_leaf; inner = x.inner; behind = x.behind; are_inner = kids; are_behind = rest; is = refl })
 
 -- ---- numbers
 
@@ -69,7 +69,7 @@ trees_from T each base d (q ∷ qs) f (c ∷ cs) n t ls a = by (cases (c ∷ cs)
     by (inl w) more = subst (λ (u : List Part). AreFrom f u n) (sym w.is)
         (from_both f t.0 n (c ∷ []) w.behind (one (c ∷ []) (leaves.Leaf c [] [] w.leaf leaves.End)) (more w.behind w.are_behind))
     by (inr w) more =
-        let k = one (w.inner ++ []) (leaves.Multi c [] w.inner [] w.no_leaf w.are_inner leaves.End) in
+        let k = one (w.inner ++ []) (leaves.Multi c [] (record { no_leaf = w.no_leaf; inner = w.inner; behind = [] }) w.are_inner leaves.End) in
         subst (λ (u : List Part). AreFrom f u n) (sym w.is) (from_both f t.0 n w.inner w.behind (subst (λ (u : List Part). AreFrom f u t.0) (append-nil w.inner) k)
         (more w.behind w.are_behind))
 
@@ -192,14 +192,14 @@ inside_leaf walk inline p ls i =
 
 pub walk_inside : (walk : Walk) (ps : List Part) (a : PartLists) → Walks walk ps a → (ls : List Part) → AreLeaves ps ls → Inside a ls
 walk_inside _ _ _ (End walk) ls h = record { text = tt; html = tt; attachments = tt }
-walk_inside _ _ _ (Multi walk p ps inner behind no_leaf kids rest) ls h =
-    by (cases (p ∷ ps) ls h) (λ below k. walk_inside (into walk p) (children p) inner kids below k) (λ later k. walk_inside _ ps behind rest later k)
+walk_inside _ _ _ (Multi walk p ps x kids rest) ls h =
+    by (cases (p ∷ ps) ls h) (λ below k. walk_inside (into walk p) (children p) x.inner kids below k) (λ later k. walk_inside _ ps x.behind rest later k)
   where
-    by : FirstLeaf p ps ls ⊎ FirstMulti p ps ls → ((below : List Part) → AreLeaves (children p) below → Inside inner below)
-        → ((later : List Part) → AreLeaves ps later → Inside behind later) → Inside (body.both (spread (into walk p) inner) behind) ls
-    by (inl w) g k = absurd (let e = sym no_leaf ∙ w.leaf in cc)
-    by (inr w) g k = subst (λ (u : List Part). Inside (body.both (spread (into walk p) inner) behind) u) (sym w.is)
-        (inside_both _ behind w.inner w.behind (inside_spread (into walk p) inner w.inner (g w.inner w.are_inner)) (k w.behind w.are_behind))
+    by : FirstLeaf p ps ls ⊎ FirstMulti p ps ls → ((below : List Part) → AreLeaves (children p) below → Inside x.inner below)
+        → ((later : List Part) → AreLeaves ps later → Inside x.behind later) → Inside (body.both (spread (into walk p) x.inner) x.behind) ls
+    by (inl w) g k = absurd (let e = sym x.no_leaf ∙ w.leaf in cc)
+    by (inr w) g k = subst (λ (u : List Part). Inside (body.both (spread (into walk p) x.inner) x.behind) u) (sym w.is)
+        (inside_both _ x.behind w.inner w.behind (inside_spread (into walk p) x.inner w.inner (g w.inner w.are_inner)) (k w.behind w.are_behind))
 walk_inside _ _ _ (Leaf walk p ps behind leaf rest) ls h =
     by (cases (p ∷ ps) ls h) (λ later k. walk_inside _ ps behind rest later k)
   where

@@ -33,9 +33,9 @@ parts_more (x ∷ refs) r = ap (λ (u : List Part). x.now ∷ u) (parts_more ref
 leaves_both : (ps qs ls ms : List Part) → AreLeaves ps ls → AreLeaves qs ms → AreLeaves (ps ++ qs) (ls ++ ms)
 leaves_both _ qs _ ms End more = more
 leaves_both _ qs _ ms (Leaf p ps behind leaf rest) more = Leaf p (ps ++ qs) (behind ++ ms) leaf (leaves_both ps qs behind ms rest more)
-leaves_both _ qs _ ms (Multi p ps inner behind no_leaf kids rest) more =
-    subst (λ (u : List Part). AreLeaves (p ∷ (ps ++ qs)) u) (sym (append_assoc inner behind ms))
-    (Multi p (ps ++ qs) inner (behind ++ ms) no_leaf kids (leaves_both ps qs behind ms rest more))
+leaves_both _ qs _ ms (Multi p ps x kids rest) more =
+    subst (λ (u : List Part). AreLeaves (p ∷ (ps ++ qs)) u) (sym (append_assoc x.inner x.behind ms))
+    (Multi p (ps ++ qs) (record { no_leaf = x.no_leaf; inner = x.inner; behind = x.behind ++ ms }) kids (leaves_both ps qs x.behind ms rest more))
 
 pub gathers_none : (g : List Part) → Gathers [] g g
 gathers_none g = ([], End, sym (append-nil g))
@@ -45,7 +45,7 @@ gathers_leaf p before after leaf e = (p ∷ [], Leaf p [] [] leaf End, e)
 
 pub gathers_multi : (p : Part) (before after : List Part) → is_leaf p ≡ false → Gathers (children p) before after → Gathers (p ∷ []) before after
 gathers_multi p before after no_leaf (ls, are, e) =
-    (ls, subst (λ (u : List Part). AreLeaves (p ∷ []) u) (append-nil ls) (Multi p [] ls [] no_leaf are End), e)
+    (ls, subst (λ (u : List Part). AreLeaves (p ∷ []) u) (append-nil ls) (Multi p [] (record { no_leaf = no_leaf; inner = ls; behind = [] }) are End), e)
 
 pub gathers_more : (ps : List Part) (i : ℕ) (d : Part) (before mid after : List Part) → i < length ps → Gathers (take i ps) before mid → Gathers (get_or ps i d ∷ []) mid after
     → Gathers (take (i + 1) ps) before after
@@ -74,9 +74,9 @@ AllUnder b ps = (p q : Part) → Contains ps p → IsUnder q p → IsWithin q b
 leaves_within : (b : List ℕ) (ps ls : List Part) → AreLeaves ps ls → AllUnder b ps → AreWithin b ls
 leaves_within b _ _ End h = tt
 leaves_within b _ _ (Leaf p ps behind leaf rest) h = (h p p (first_of p ps) Itself, leaves_within b ps behind rest (λ x q i u. h x q (later_of p ps x i) u))
-leaves_within b _ _ (Multi p ps inner behind no_leaf kids rest) h =
-    within_both b inner behind (leaves_within b (children p) inner kids (λ x q i u. h p q (first_of p ps) (Below p x i u)))
-    (leaves_within b ps behind rest (λ x q i u. h x q (later_of p ps x i) u))
+leaves_within b _ _ (Multi p ps l kids rest) h =
+    within_both b l.inner l.behind (leaves_within b (children p) l.inner kids (λ x q i u. h p q (first_of p ps) (Below p x i u)))
+    (leaves_within b ps l.behind rest (λ x q i u. h x q (later_of p ps x i) u))
 
 pub message_within : (b : List ℕ) (root : Part) (ls : List Part) → AreLeaves (root ∷ []) ls → ((q : Part) → IsUnder q root → IsWithin q b) → AreWithin b ls
 message_within b root ls a h = leaves_within b (root ∷ []) ls a (λ p q i u. h q (subst (λ (x : Part). IsUnder q x) (sym (alone_is root p i)) u))

@@ -52,7 +52,7 @@ ended_by e is (inr out) = inr (inr (is ∙ ap Err out))
 before_end : (talk : List Event) → given_by (talk ++ LinkEnded ∷ []) ≡ flat_map store_gave_in talk
 before_end talk = flat_map-append store_gave_in talk (LinkEnded ∷ []) ∙ append-nil (flat_map store_gave_in talk)
 
--- a greeting that lets the client in is no other reason not to go on than a lost link or want of memory
+-- a greeting that lets the client in is no other reason not to go on than a lost link or out of memory
 greeting_ends : (gave rest : List ℕ) (greeting : Response) (preauth : Bool) (e : LinkEnd) → begins_with (greeting ∷ []) rest gave → greeting_says greeting ≡ Ok preauth
     → GreetsBy gave nothing_given (Err e) → (e ≡ end.Lost) ⊎ (e ≡ end.Memory)
 greeting_ends gave rest greeting preauth end.Lost greets says so = inl refl
@@ -106,15 +106,15 @@ connects_end {user} {password} law (Lived life is lives) w = lives_end law lives
 
 settles_from : {before after : Progress} {events : List Event} → Settles before events after → before.standing ≡ Stands
 settles_from (Same k is a b c d) = is
-settles_from (Moves k is a b c d e) = is
-settles_from (Spends k is a b c d e) = is
+settles_from (Moves new a b c) = new.stands
+settles_from (Spends new a b c) = new.stands
 settles_from (Lacks is a b) = is
 
 settled_ends : {before after : Progress} {events : List Event} → Settles before events after → ((k : KnownMail) → before.machine.known ≡ Some k → IsSpent k.history → ⊥)
     → IsServed after ⊎ (after.standing ≡ OutOfMemory)
 settled_ends (Same k is known a b c) room = inl (k, ap (λ (p : Progress). p.standing) c ∙ is, ap (λ (p : Progress). p.machine.known) c ∙ known)
-settled_ends (Moves k is a b c d e) room = inl (served_anew k, ap (λ (p : Progress). p.standing) e ∙ is, ap (λ (p : Progress). p.machine.known) e)
-settled_ends (Spends k is known new spent a b) room = absurd (room k known spent)
+settled_ends (Moves new a b c) room = inl (served_anew new.known, ap (λ (p : Progress). p.standing) c ∙ new.stands, ap (λ (p : Progress). p.machine.known) c)
+settled_ends (Spends new spent a b) room = absurd (room new.known new.ready spent)
 settled_ends (Lacks is a b) room = inr (ap (λ (p : Progress). p.standing) b)
 
 -- where the round doesn't stand, nothing more is done

@@ -149,7 +149,7 @@ settled before client was now machine after k next came known (inl same) after_i
     )
 settled before client was now machine after k next came known (inr moved) after_is = (
   record before { machine = committed before.machine (served_anew k) },
-  Moves k came.standing_is (ap (λ (m : Machine). m.known) came.machine_is ∙ known) moved.0 moved.1 refl refl,
+  Moves (record { known = k; stands = came.standing_is; ready = ap (λ (m : Machine). m.known) came.machine_is ∙ known; is_new = moved.0 }) moved.1 refl refl,
   record {
     machine_is = (λ i. record (came.machine_is i) { known = Some (sym moved.2 i) }) ∙ sym after_is;
     standing_is = came.standing_is;
@@ -163,7 +163,7 @@ pub spent : (before : Progress) (client : ClientState) (was now : Faults) (machi
     → (p : Progress) × Settles before [] p × CameTo after client (standing.Fell Spent) was now p
 spent before client was now machine after k came known new spends after_is = (
   record before { machine = forgotten before.machine; standing = standing.Fell Spent },
-  Spends k came.standing_is (ap (λ (m : Machine). m.known) came.machine_is ∙ known) new spends refl refl,
+  Spends (record { known = k; stands = came.standing_is; ready = ap (λ (m : Machine). m.known) came.machine_is ∙ known; is_new = new }) spends refl refl,
   record { machine_is = ap forgotten came.machine_is ∙ sym after_is; standing_is = refl; holds = came.holds; bears = came.bears },
 )
 

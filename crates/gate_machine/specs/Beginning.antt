@@ -54,14 +54,21 @@ pub record RunsRound (before : Progress) (events : List Event) (after : Progress
   pub counted : KeepsCount known.told told result rounds.exchanges
   pub after_is : after ≡ ended_after result (record before { machine = hearing before.machine known told; left = Some left })
 
+-- what was begun stands, and new mail was told
+pub record HasNewMail (before : Progress) : Type 0 where
+  pub known : KnownMail
+  pub stands : before.standing ≡ Stands
+  pub ready : before.machine.known ≡ Some known
+  pub is_new : IsNewMail known
+
 -- The told mail is served, at a further place where it is new. Where no place is left, or there is no memory for it, the
 -- machine isn't ready.
 pub data Settles (before : Progress) (events : List Event) (after : Progress) : Type 0 where
   Same : (k : KnownMail) → before.standing ≡ Stands → before.machine.known ≡ Some k → SameMail k.history.mail k.told.mail → events ≡ [] → after ≡ before
       → Settles before events after
-  Moves : (k : KnownMail) → before.standing ≡ Stands → before.machine.known ≡ Some k → IsNewMail k → (IsSpent k.history → ⊥) → events ≡ []
-      → after ≡ record before { machine = committed before.machine (served_anew k) } → Settles before events after
-  Spends : (k : KnownMail) → before.standing ≡ Stands → before.machine.known ≡ Some k → IsNewMail k → IsSpent k.history → events ≡ []
+  Moves : (new : HasNewMail before) → (IsSpent new.known.history → ⊥) → events ≡ []
+      → after ≡ record before { machine = committed before.machine (served_anew new.known) } → Settles before events after
+  Spends : (new : HasNewMail before) → IsSpent new.known.history → events ≡ []
       → after ≡ record before { machine = forgotten before.machine; standing = Fell Spent } → Settles before events after
   Lacks : before.standing ≡ Stands → events ≡ [] → after ≡ out_of_memory before → Settles before events after
 

@@ -1,16 +1,19 @@
 //! The words of a command, and what they ask for.
 #![tactic(auto)]
 
-mod connections;
-mod option;
+// What words ask for.
 mod page;
 mod place;
-mod reading;
+mod task;
+
+// Options and values.
+mod connections;
+mod option;
 mod rules;
 mod settings;
-mod task;
-#[cfg(test)]
-mod tests;
+
+// Reading.
+mod reading;
 
 pub use connections::MAX_CONNECTIONS;
 pub use page::{ONCE_PAGE, PROGRAM_PAGE, Page, SERVE_PAGE, SHOW_PAGE, VERSION_PAGE};

@@ -1,17 +1,8 @@
 // Codes of status lines.
-use crate::reading::read;
-use imap_grammar::{Code, Response, UidRange};
-use std::alloc::{AllocError, Global};
-use std::test::Fail;
-
-/// The code of the status line that the octets are.
-fn code_of(alloc: Global, bytes: &[u8]) -> Result<Option<Code>, AllocError> {
-    match read(alloc, bytes)? {
-        Some(Response::Tagged { code, .. }) => Ok(Some(code)),
-        Some(Response::Untagged { code, .. }) => Ok(Some(code)),
-        _ => Ok(None),
-    }
-}
+use crate::reading::{has_ranges, read};
+use imap_grammar::{Code, Response};
+use std::alloc::Global;
+use std::process::Abort;
 
 /// Status lines without a code, and what stands in brackets elsewhere.
 const ABSENT: [&[u8]; 9] = [
@@ -67,18 +58,14 @@ const OTHER: [&[u8]; 37] = [
     b"a1 OK [COPYUID 1 2 3 4]\r\n",
 ];
 
-/// Codes without a value.
-const WORDS: [(&[u8], &[u8]); 6] = [
-    (b"* OK [CLOSED] Previous mailbox closed.\r\n", b"closed"),
-    (b"* OK [clOsed]\r\n", b"closed"),
-    (b"* OK [CLOSED]x] y\r\n", b"closed"),
-    (b"* OK [NOMODSEQ] x\r\n", b"nomodseq"),
-    (b"a1 NO [OVERQUOTA]\xff\r\n", b"overquota"),
-    (b"* BYE [OverQuota]]\r\n", b"overquota"),
-];
-
-/// Codes of one number.
-const NUMBERS: [(&[u8], &[u8], u64); 8] = [
+/// Codes that are known: the word for each, and its number or 0.
+const KNOWN: [(&[u8], &[u8], u64); 14] = [
+    (b"* OK [CLOSED] Previous mailbox closed.\r\n", b"closed", 0),
+    (b"* OK [clOsed]\r\n", b"closed", 0),
+    (b"* OK [CLOSED]x] y\r\n", b"closed", 0),
+    (b"* OK [NOMODSEQ] x\r\n", b"nomodseq", 0),
+    (b"a1 NO [OVERQUOTA]\xff\r\n", b"overquota", 0),
+    (b"* BYE [OverQuota]]\r\n", b"overquota", 0),
     (
         b"* OK [UIDVALIDITY 1795736906] x\r\n",
         b"validity",
@@ -101,122 +88,113 @@ const NUMBERS: [(&[u8], &[u8], u64); 8] = [
     ),
 ];
 
-fn word_of(code: &Code) -> &'static [u8] {
-    match code {
-        Code::Absent => b"absent",
-        Code::NoModSeq => b"nomodseq",
-        Code::Closed => b"closed",
-        Code::OverQuota => b"overquota",
-        Code::Other => b"other",
-        _ => b"",
+/// The code of a status line.
+fn code_of<'a>(rt: &impl Abort, response: &'a Response) -> &'a Code {
+    match response {
+        Response::Tagged { code, .. } => code,
+        Response::Untagged { code, .. } => code,
+        _ => panic!(rt; "no status line"),
     }
 }
 
-fn is_word(alloc: Global, bytes: &[u8], word: &[u8]) -> Result<bool, AllocError> {
-    match code_of(alloc, bytes)? {
-        Some(code) => Ok(word_of(&code) == word),
-        None => Ok(false),
-    }
-}
-
-fn number_of(code: &Code) -> (&'static [u8], u64) {
+/// The word for a code that is no set of UIDs, and its number or 0.
+fn told(code: &Code) -> (&'static [u8], u64) {
     match code {
+        Code::Absent => (b"absent", 0),
         Code::UidValidity(n) => (b"validity", *n as u64),
         Code::UidNext(n) => (b"next", *n as u64),
         Code::HighestModSeq(n) => (b"modseq", *n),
+        Code::NoModSeq => (b"nomodseq", 0),
+        Code::Closed => (b"closed", 0),
+        Code::OverQuota => (b"overquota", 0),
+        Code::Other => (b"other", 0),
         _ => (b"", 0),
     }
 }
 
-fn is_number(alloc: Global, bytes: &[u8], word: &[u8], n: u64) -> Result<bool, AllocError> {
-    match code_of(alloc, bytes)? {
-        Some(code) => {
-            let (told, number) = number_of(&code);
-            Ok(told == word && number == n)
-        }
-        None => Ok(false),
-    }
+fn expect_code(rt: &impl Abort, alloc: Global, bytes: &[u8], word: &[u8], number: u64) {
+    let response = read(rt, alloc, bytes);
+    let (told, given) = told(code_of(rt, &response));
+    assert_eq!(rt; told, word, "{bytes:?}");
+    assert_eq!(rt; given, number, "{bytes:?}");
 }
 
 #[test]
-fn codes_are_words(rt: HostRuntime) -> Result<(), Fail> {
+fn codes_are_told(rt: HostRuntime) {
     let alloc = rt.alloc();
-    for (bytes, word) in WORDS.iter() {
-        assert!(rt; is_word(alloc, bytes, word)?);
+    for (bytes, word, number) in KNOWN.iter() {
+        expect_code(&rt, alloc, bytes, word, *number);
     }
     for bytes in ABSENT.iter() {
-        assert!(rt; is_word(alloc, bytes, b"absent")?);
+        expect_code(&rt, alloc, bytes, b"absent", 0);
     }
-    Ok(())
-}
-
-#[test]
-fn codes_have_numbers(rt: HostRuntime) -> Result<(), Fail> {
-    let alloc = rt.alloc();
-    for (bytes, word, n) in NUMBERS.iter() {
-        assert!(rt; is_number(alloc, bytes, word, *n)?, "{n}");
-    }
-    Ok(())
-}
-
-#[test]
-fn what_is_spelled_otherwise_is_another_code(rt: HostRuntime) -> Result<(), Fail> {
-    let alloc = rt.alloc();
     for bytes in OTHER.iter() {
-        assert!(rt; is_word(alloc, bytes, b"other")?);
-    }
-    Ok(())
-}
-
-/// Whether the code tells that a message got this UID.
-fn is_appended(alloc: Global, bytes: &[u8], validity: u32, uid: u32) -> Result<bool, AllocError> {
-    match code_of(alloc, bytes)? {
-        Some(
-            Code::AppendUid {
-                validity: told,
-                uid: given,
-            },
-        ) => Ok(told == validity && given == uid),
-        _ => Ok(false),
+        expect_code(&rt, alloc, bytes, b"other", 0);
     }
 }
 
-fn range(first: u32, last: u32) -> UidRange {
-    UidRange { first, last }
+/// Codes that tell which UID an appended message got: the folder's validity and the UID.
+const APPENDED: [(&[u8], u32, u32); 2] = [
+    (
+        b"a6 OK [APPENDUID 1795736906 5] Append completed\r\n",
+        1795736906,
+        5,
+    ),
+    (b"* NO [appenduid 1 4294967295]\r\n", 1, u32::MAX),
+];
+
+/// Codes that tell which UIDs copied messages got: the folder's validity, the UIDs before and those that they got.
+const COPIED: [(&[u8], u32, &[(u32, u32)], &[(u32, u32)]); 2] = [
+    (
+        b"* OK [COPYUID 1795736873 6 5] Moved UIDs.\r\n",
+        1795736873,
+        &[(6, 6)],
+        &[(5, 5)],
+    ),
+    (
+        b"a3 OK [CopyUid 38505 304,319:320 3958:3956]\r\n",
+        38505,
+        &[(304, 304), (319, 320)],
+        &[(3956, 3958)],
+    ),
+];
+
+fn is_appended(code: &Code, validity: u32, uid: u32) -> bool {
+    match code {
+        Code::AppendUid {
+            validity: told,
+            uid: given,
+        } => *told == validity && *given == uid,
+        _ => false,
+    }
 }
 
-/// Whether the code tells that messages with these UIDs got those.
-fn is_copied(
-    alloc: Global,
-    bytes: &[u8],
-    validity: u32,
-    from: &[UidRange],
-    to: &[UidRange],
-) -> Result<bool, AllocError> {
-    match code_of(alloc, bytes)? {
-        Some(
-            Code::CopyUid {
-                validity: told,
-                from: front,
-                to: back,
-            },
-        ) => Ok(
-            told == validity && front.ranges.as_slice() == from && back.ranges.as_slice() == to,
-        ),
-        _ => Ok(false),
+fn is_copied(code: &Code, validity: u32, front: &[(u32, u32)], back: &[(u32, u32)]) -> bool {
+    match code {
+        Code::CopyUid {
+            validity: told,
+            from,
+            to,
+        } => *told == validity && has_ranges(from, front) && has_ranges(to, back),
+        _ => false,
     }
 }
 
 #[test]
-fn codes_tell_new_uids(rt: HostRuntime) -> Result<(), Fail> {
+fn codes_tell_new_uids(rt: HostRuntime) {
     let alloc = rt.alloc();
-    let appended = b"a6 OK [APPENDUID 1795736906 5] Append completed\r\n";
-    assert!(rt; is_appended(alloc, appended, 1795736906, 5)?);
-    assert!(rt; is_appended(alloc, b"* NO [appenduid 1 4294967295]\r\n", 1, u32::MAX)?);
-    let moved = b"* OK [COPYUID 1795736873 6 5] Moved UIDs.\r\n";
-    assert!(rt; is_copied(alloc, moved, 1795736873, &[range(6, 6)], &[range(5, 5)])?);
-    let copied = b"a3 OK [CopyUid 38505 304,319:320 3958:3956]\r\n";
-    let from = [range(304, 304), range(319, 320)];
-    assert!(rt; is_copied(alloc, copied, 38505, &from, &[range(3956, 3958)])?);
-    Ok(())
+    for (bytes, validity, uid) in APPENDED.iter() {
+        let response = read(&rt, alloc, bytes);
+        assert!(rt;
+            is_appended(code_of(&rt, &response), *validity, *uid),
+            "{bytes:?}"
+        );
+    }
+    for (bytes, validity, from, to) in COPIED.iter() {
+        let response = read(&rt, alloc, bytes);
+        assert!(rt;
+            is_copied(code_of(&rt, &response), *validity, from, to),
+            "{bytes:?}"
+        );
+    }
 }

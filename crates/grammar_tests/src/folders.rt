@@ -1,8 +1,8 @@
 // Lines of folders: where they end, and what they say.
-use crate::reading::{expect_scan, expect_whole, joined, read};
+use crate::reading::{expect_scan, expect_whole, has_names, read};
 use imap_grammar::{Response, Scan, StatusItems};
-use std::alloc::{AllocError, Global};
-use std::test::Fail;
+use std::alloc::Global;
+use std::process::Abort;
 
 /// Octets that are one response.
 const WHOLE: [&[u8]; 17] = [
@@ -83,7 +83,7 @@ const BAD: [(&[u8], usize); 36] = [
 ];
 
 #[test]
-fn lines_of_folders_end_where_the_grammar_says(rt: HostRuntime) -> Result<(), Fail> {
+fn lines_of_folders_end_where_the_grammar_says(rt: HostRuntime) {
     for bytes in WHOLE.iter() {
         expect_whole(&rt, bytes);
     }
@@ -93,36 +93,13 @@ fn lines_of_folders_end_where_the_grammar_says(rt: HostRuntime) -> Result<(), Fa
     for (bytes, at) in BAD.iter() {
         expect_scan(&rt, bytes, Scan::Bad(*at));
     }
-    Ok(())
 }
 
-fn is_list(
-    alloc: Global,
-    bytes: &[u8],
-    attributes: &[u8],
-    delimiter: Option<u8>,
-    name: &[u8],
-) -> Result<bool, AllocError> {
-    match read(alloc, bytes)? {
-        Some(
-            Response::List {
-                attributes: told,
-                delimiter: given,
-                name: named,
-            },
-        ) => {
-            let told = joined(alloc, &Some(told))?;
-            Ok(told.as_slice() == attributes && given == delimiter && named.as_slice() == name)
-        }
-        _ => Ok(false),
-    }
-}
-
-/// A LIST, its attributes with a space before each, its delimiter and its name.
+/// A LIST, its attributes with `|` before each, its delimiter and its name.
 const LISTS: [(&[u8], &[u8], Option<u8>, &[u8]); 9] = [
     (
         b"* LIST (\\Subscribed \\HasNoChildren \\SUBSCRIBED \\Recent) \"/\" inbox\r\n",
-        b" \\hasnochildren \\subscribed",
+        b"|\\hasnochildren|\\subscribed",
         Some(b'/'),
         b"INBOX",
     ),
@@ -143,35 +120,24 @@ const LISTS: [(&[u8], &[u8], Option<u8>, &[u8]); 9] = [
     ),
     (b"* LIST () \".\" ~a\r\n", b"", Some(b'.'), b"~a"),
     (b"* LIST () \"\xff\" NIL\r\n", b"", Some(255), b"NIL"),
-    (b"* LIST (a) \"/\" \"\"\r\n", b" a", Some(b'/'), b""),
+    (b"* LIST (a) \"/\" \"\"\r\n", b"|a", Some(b'/'), b""),
 ];
 
-#[test]
-fn folders_are_told(rt: HostRuntime) -> Result<(), Fail> {
-    for (bytes, attributes, delimiter, name) in LISTS.iter() {
-        assert!(rt;
-            is_list(rt.alloc(), bytes, attributes, *delimiter, name)?,
-            "{name:?}"
-        );
+fn is_list(response: &Response, delimiter: Option<u8>, name: &[u8]) -> bool {
+    match response {
+        Response::List {
+            delimiter: given,
+            name: named,
+            ..
+        } => *given == delimiter && named.as_slice() == name,
+        _ => false,
     }
-    Ok(())
 }
 
-fn is_status(
-    alloc: Global,
-    bytes: &[u8],
-    name: &[u8],
-    items: StatusItems,
-) -> Result<bool, AllocError> {
-    match read(alloc, bytes)? {
-        Some(
-            Response::StatusItems {
-                name: named,
-                items: told,
-            },
-        ) => Ok(named.as_slice() == name && told == items),
-        _ => Ok(false),
-    }
+fn expect_list(rt: &impl Abort, alloc: Global, row: &(&[u8], &[u8], Option<u8>, &[u8])) {
+    let response = read(rt, alloc, row.0);
+    assert!(rt; has_names(rt, alloc, &response, Some(row.1)), "{row:?}");
+    assert!(rt; is_list(&response, row.2, row.3), "{row:?}");
 }
 
 const NOTHING: StatusItems = StatusItems {
@@ -207,10 +173,26 @@ const STATUSES: [(&[u8], &[u8], StatusItems); 4] = [
     ),
 ];
 
-#[test]
-fn counts_of_folders_are_told(rt: HostRuntime) -> Result<(), Fail> {
-    for (bytes, name, items) in STATUSES.iter() {
-        assert!(rt; is_status(rt.alloc(), bytes, name, *items)?, "{name:?}");
+fn is_status(response: &Response, name: &[u8], items: &StatusItems) -> bool {
+    match response {
+        Response::StatusItems {
+            name: named,
+            items: told,
+        } => named.as_slice() == name && told == items,
+        _ => false,
     }
-    Ok(())
+}
+
+#[test]
+fn folders_and_their_counts_are_told(rt: HostRuntime) {
+    let alloc = rt.alloc();
+    for row in LISTS.iter() {
+        expect_list(&rt, alloc, row);
+    }
+    for (bytes, name, items) in STATUSES.iter() {
+        assert!(rt;
+            is_status(&read(&rt, alloc, bytes), name, items),
+            "{bytes:?}"
+        );
+    }
 }

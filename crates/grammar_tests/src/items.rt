@@ -2,8 +2,8 @@
 use crate::reading::{expect_scan, expect_whole, read};
 use gate_world::Bytes;
 use imap_grammar::{FetchItems, Response, Scan};
-use std::alloc::{AllocError, Global};
-use std::test::Fail;
+use std::alloc::Global;
+use std::process::Abort;
 
 /// Whole responses.
 const WHOLE: [&[u8]; 12] = [
@@ -44,21 +44,20 @@ const BAD: [(&[u8], usize); 15] = [
 ];
 
 #[test]
-fn items_end_where_the_grammar_says(rt: HostRuntime) -> Result<(), Fail> {
+fn items_end_where_the_grammar_says(rt: HostRuntime) {
     for bytes in WHOLE.iter() {
         expect_whole(&rt, bytes);
     }
     for (bytes, at) in BAD.iter() {
         expect_scan(&rt, bytes, Scan::Bad(*at));
     }
-    Ok(())
 }
 
-/// The items of the FETCH, if it is one.
-fn items_of(alloc: Global, bytes: &[u8]) -> Result<Option<FetchItems>, AllocError> {
-    match read(alloc, bytes)? {
-        Some(Response::Fetch { seq: _seq, items }) => Ok(Some(items)),
-        _ => Ok(None),
+/// The items of a FETCH.
+fn items_of(response: &Response) -> Option<&FetchItems> {
+    match response {
+        Response::Fetch { items, .. } => Some(items),
+        _ => None,
     }
 }
 
@@ -118,82 +117,17 @@ const TEXTS: [(&[u8], Option<u32>, Option<&[u8]>, Option<&[u8]>); 8] = [
 ];
 
 fn has_texts(
-    alloc: Global,
-    bytes: &[u8],
+    response: &Response,
     uid: Option<u32>,
     header: Option<&[u8]>,
     body: Option<&[u8]>,
-) -> Result<bool, AllocError> {
-    match items_of(alloc, bytes)? {
-        Some(items) => Ok(
-            items.uid == uid && is_text(&items.header, header) && is_text(&items.body, body),
-        ),
-        None => Ok(false),
+) -> bool {
+    match items_of(response) {
+        Some(items) => {
+            items.uid == uid && is_text(&items.header, header) && is_text(&items.body, body)
+        }
+        None => false,
     }
-}
-
-#[test]
-fn headers_and_bodies_are_told_and_other_items_passed_over(rt: HostRuntime) -> Result<(), Fail> {
-    for (bytes, uid, header, body) in TEXTS.iter() {
-        assert!(rt; has_texts(rt.alloc(), bytes, *uid, *header, *body)?);
-    }
-    Ok(())
-}
-
-/// A FETCH of an item with n octets, and of UID 7.
-fn long_item(alloc: Global, name: &str, count: usize) -> Result<Vec<u8>, AllocError> {
-    let octets = vec![in alloc; b'a'; count]?;
-    let front = format!(in alloc; "* 1 FETCH ({name} {{{count}}}\r\n")?;
-    let mut bytes = Vec::new(alloc);
-    bytes.extend_from_slice(front.as_bytes())?;
-    bytes.extend_from_slice(&octets)?;
-    bytes.extend_from_slice(b" UID 7)\r\n")?;
-    Ok(bytes)
-}
-
-fn length_of(text: &Option<Bytes>) -> usize {
-    match text {
-        Some(text) => text.as_slice().len(),
-        None => 0,
-    }
-}
-
-/// An item with n octets, and how many of a header and of a body are told.
-const LONG: [(&str, usize, usize, usize); 5] = [
-    ("BODY[HEADER]", 32_767, 32_767, 0),
-    ("BODY[HEADER]<0>", 32_768, 32_768, 0),
-    ("BODY[HEADER]", 32_769, 32_768, 0),
-    ("BODY[]", 32_769, 0, 32_769),
-    ("BODY[]<0>", 50_000_000, 0, 50_000_000),
-];
-
-fn has_lengths(
-    alloc: Global,
-    bytes: &[u8],
-    header: usize,
-    body: usize,
-) -> Result<bool, AllocError> {
-    match items_of(alloc, bytes)? {
-        Some(items) => Ok(
-            items.uid == Some(7)
-                && length_of(&items.header) == header
-                && length_of(&items.body) == body,
-        ),
-        None => Ok(false),
-    }
-}
-
-#[test]
-fn headers_are_cut_and_bodies_are_not(rt: HostRuntime) -> Result<(), Fail> {
-    let alloc = rt.alloc();
-    for (name, count, header, body) in LONG.iter() {
-        let bytes = long_item(alloc, name, *count)?;
-        assert!(rt;
-            has_lengths(alloc, &bytes, *header, *body)?,
-            "{name} {count}"
-        );
-    }
-    Ok(())
 }
 
 /// A FETCH, and the date that it tells.
@@ -245,17 +179,82 @@ const DATES: [(&[u8], Option<i64>); 12] = [
     (b"* 1 FETCH (UID 7)\r\n", None),
 ];
 
-fn has_date(alloc: Global, bytes: &[u8], date: Option<i64>) -> Result<bool, AllocError> {
-    match items_of(alloc, bytes)? {
-        Some(items) => Ok(items.date == date),
-        None => Ok(false),
+fn has_date(response: &Response, date: Option<i64>) -> bool {
+    match items_of(response) {
+        Some(items) => items.date == date,
+        None => false,
     }
 }
 
 #[test]
-fn dates_are_told_in_seconds(rt: HostRuntime) -> Result<(), Fail> {
-    for (bytes, date) in DATES.iter() {
-        assert!(rt; has_date(rt.alloc(), bytes, *date)?);
+fn items_are_told(rt: HostRuntime) {
+    let alloc = rt.alloc();
+    for (bytes, uid, header, body) in TEXTS.iter() {
+        assert!(rt;
+            has_texts(&read(&rt, alloc, bytes), *uid, *header, *body),
+            "{bytes:?}"
+        );
     }
-    Ok(())
+    for (bytes, date) in DATES.iter() {
+        assert!(rt; has_date(&read(&rt, alloc, bytes), *date), "{bytes:?}");
+    }
+}
+
+/// A FETCH of an item with n octets, and of UID 7.
+fn long_item(rt: &impl Abort, alloc: Global, name: &str, count: usize) -> Vec<u8> {
+    let front = format!(in alloc; "* 1 FETCH ({name} {{{count}}}\r\n").expect(
+        rt,
+        "memory for a front",
+    );
+    let mut bytes = Vec::new(alloc);
+    bytes
+        .extend_from_slice(front.as_bytes())
+        .expect(rt, "memory for a front");
+    let octets = vec![in alloc; b'a'; count].expect(rt, "memory for an item");
+    bytes
+        .extend_from_slice(&octets)
+        .expect(rt, "memory for an item");
+    bytes
+        .extend_from_slice(b" UID 7)\r\n")
+        .expect(rt, "memory for an item");
+    bytes
+}
+
+/// An item with n octets, and how many of a header and of a body are told.
+const LONG: [(&str, usize, usize, usize); 5] = [
+    ("BODY[HEADER]", 32_767, 32_767, 0),
+    ("BODY[HEADER]<0>", 32_768, 32_768, 0),
+    ("BODY[HEADER]", 32_769, 32_768, 0),
+    ("BODY[]", 32_769, 0, 32_769),
+    ("BODY[]<0>", 50_000_000, 0, 50_000_000),
+];
+
+fn length_of(text: &Option<Bytes>) -> usize {
+    match text {
+        Some(text) => text.as_slice().len(),
+        None => 0,
+    }
+}
+
+fn has_lengths(response: &Response, header: usize, body: usize) -> bool {
+    match items_of(response) {
+        Some(items) => {
+            items.uid == Some(7)
+                && length_of(&items.header) == header
+                && length_of(&items.body) == body
+        }
+        None => false,
+    }
+}
+
+#[test]
+fn headers_are_cut_and_bodies_are_not(rt: HostRuntime) {
+    let alloc = rt.alloc();
+    for (name, count, header, body) in LONG.iter() {
+        let bytes = long_item(&rt, alloc, name, *count);
+        assert!(rt;
+            has_lengths(&read(&rt, alloc, &bytes), *header, *body),
+            "{name} {count}"
+        );
+    }
 }

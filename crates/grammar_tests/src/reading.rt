@@ -1,7 +1,7 @@
 // Responses read through the public calls.
-use gate_world::Names;
-use imap_grammar::{Response, Scan, Scanner, decode, scan};
-use std::alloc::{AllocError, Global};
+use gate_world::{Bytes, Names};
+use imap_grammar::{Response, Scan, Scanner, UidSet, decode, scan};
+use std::alloc::Global;
 use std::process::Abort;
 
 /// The answer to the octets, fed one at a time.
@@ -28,29 +28,57 @@ pub(crate) fn expect_whole(rt: &impl Abort, bytes: &[u8]) {
     expect_scan(rt, bytes, Scan::Whole(bytes.len()));
 }
 
-/// The value of the response at the front, if there is one.
-pub(crate) fn read(alloc: Global, bytes: &[u8]) -> Result<Option<Response>, AllocError> {
-    match scan(bytes) {
-        Scan::Whole(n) => {
-            let (front, _) = bytes.split_at(n);
-            let response = decode(alloc, front)?;
-            Ok(Some(response))
-        }
-        _ => Ok(None),
+/// The response that the octets are, or begin with.
+pub(crate) fn read(rt: &impl Abort, alloc: Global, bytes: &[u8]) -> Response {
+    let Scan::Whole(n) = scan(bytes) else {
+        panic!(rt; "{bytes:?}");
+    };
+    let (front, _) = bytes.split_at(n);
+    decode(alloc, front).expect(rt, "memory for a response")
+}
+
+/// The texts with `|` before each.
+pub(crate) fn joined(rt: &impl Abort, alloc: Global, texts: &[Bytes]) -> Vec<u8> {
+    let mut out = Vec::new(alloc);
+    for text in texts {
+        out.push(b'|').expect(rt, "memory for a text");
+        out.extend_from_slice(text.as_slice())
+            .expect(rt, "memory for a text");
+    }
+    out
+}
+
+/// The names that a response tells.
+fn names_of(response: &Response) -> Option<&Names> {
+    match response {
+        Response::Capability(names) => Some(names),
+        Response::Enabled(names) => Some(names),
+        Response::Flags(names) => Some(names),
+        Response::List { attributes, .. } => Some(attributes),
+        Response::Fetch { items, .. } => items.flags.as_ref(),
+        _ => None,
     }
 }
 
-/// The names with a space before each, or `-` for none told.
-pub(crate) fn joined(alloc: Global, names: &Option<Names>) -> Result<Vec<u8>, AllocError> {
-    let mut out = Vec::new(alloc);
-    match names {
-        None => out.push(b'-')?,
-        Some(names) => {
-            for name in names.as_slice() {
-                out.push(b' ')?;
-                out.extend_from_slice(name.as_slice())?;
-            }
-        }
+/// Whether the response tells these names, with `|` before each, or none where none are wanted.
+pub(crate) fn has_names(
+    rt: &impl Abort,
+    alloc: Global,
+    response: &Response,
+    wanted: Option<&[u8]>,
+) -> bool {
+    match (names_of(response), wanted) {
+        (Some(names), Some(wanted)) => joined(rt, alloc, names.as_slice()).as_slice() == wanted,
+        (None, None) => true,
+        _ => false,
     }
-    Ok(out)
+}
+
+/// Whether the set has these ranges, of which each is a first and a last UID.
+pub(crate) fn has_ranges(set: &UidSet, wanted: &[(u32, u32)]) -> bool {
+    let mut same = set.ranges.as_slice().len() == wanted.len();
+    for (range, (first, last)) in set.ranges.as_slice().iter().zip(wanted) {
+        same = same && range.first == *first && range.last == *last;
+    }
+    same
 }

@@ -1,7 +1,6 @@
 // Where responses end.
 use crate::reading::expect_scan;
 use imap_grammar::Scan;
-use std::test::Fail;
 
 /// Octets, and how many of them are a response.
 const WHOLE: [(&[u8], usize); 50] = [
@@ -155,7 +154,7 @@ const BAD: [(&[u8], usize); 53] = [
 ];
 
 #[test]
-fn responses_end_where_the_grammar_says(rt: HostRuntime) -> Result<(), Fail> {
+fn responses_end_where_the_grammar_says(rt: HostRuntime) {
     for (bytes, n) in WHOLE.iter() {
         expect_scan(&rt, bytes, Scan::Whole(*n));
     }
@@ -165,5 +164,4 @@ fn responses_end_where_the_grammar_says(rt: HostRuntime) -> Result<(), Fail> {
     for (bytes, at) in BAD.iter() {
         expect_scan(&rt, bytes, Scan::Bad(*at));
     }
-    Ok(())
 }

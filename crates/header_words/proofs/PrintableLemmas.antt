@@ -40,7 +40,7 @@ no_hex t n = by (hex_in t) refl
     by None e = e
     by (Some c) e =
         let h = hex_sound c t e in
-        absurd (n (record { high = h.high; low = h.low; left = h.left; right_digit = h.right; rest = h.rest; whole = h.whole; high_is = h.high_is; low_is = h.low_is }))
+        absurd (n (record { digits = h.digits; rest = h.rest; whole = h.whole }))
 
 no_break : (t : List ℕ) → (BeginsWithSoft t → ⊥) → line_end_len (back is_blank t) ≡ 0
 no_break t n = by (line_end_len (back is_blank t)) refl
@@ -94,7 +94,7 @@ blanks_read c b s o e k h =
 
 complete : (v : Piece) (x s : List ℕ) → IsPiece v x s → piece_in (x ++ s) ≡ Some (v, length x)
 unfolding piece_in
-complete _ _ _ (Hex h l a b s p q) = ap (λ (o : Option ℕ). sign_of o (h ∷ l ∷ s)) (hex_complete h l a b s p q)
+complete _ _ _ (Hex d s) = ap (λ (o : Option ℕ). sign_of o (d.high ∷ d.low ∷ s)) (hex_complete d s)
 complete _ _ _ (SoftBreak break s h) = ap (λ (o : Option ℕ). sign_of o (break ++ s)) (soft_no_hex break s h) ∙ soft_read break s h
 complete _ _ _ (WrongSign s n m) = ap (λ (o : Option ℕ). sign_of o s) (no_hex s n) ∙ ap (break_of (length (front is_blank s))) (no_break s m)
 complete _ _ _ (Trailing [] s r e) = absurd (r.1 refl)
@@ -104,7 +104,7 @@ complete _ _ _ (Blanks (c ∷ b) s r k e) = blanks_read c b s _ r.0 k (cond-fals
 complete _ _ _ (Itself c s n k) = cond-false (eqb c 61) _ _ (ne_eqb c 61 n) ∙ cond-false (is_blank c) _ _ k
 
 some : (v : Piece) (x s : List ℕ) → IsPiece v x s → x ≢ []
-some _ _ _ (Hex h l a b s p q) = λ e. absurd cc
+some _ _ _ (Hex d s) = λ e. absurd cc
 some _ _ _ (SoftBreak break s h) = λ e. absurd cc
 some _ _ _ (WrongSign s n m) = λ e. absurd cc
 some _ _ _ (Trailing b s r e) = r.1
@@ -122,7 +122,7 @@ sign_sound v n t e = by_hex (hex_in t) refl e
           unit = 61 ∷ [];
           rest = t;
           whole = refl;
-          is = WrongSign t (λ b. let f = ap hex_in b.whole ∙ hex_complete b.high b.low b.left b.right_digit b.rest b.high_is b.low_is in absurd cc)
+          is = WrongSign t (λ b. let f = ap hex_in b.whole ∙ hex_complete b.digits b.rest in absurd cc)
               (λ b. no_soft b.break b.rest b.whole b.soft);
           counted = refl;
         })
@@ -148,12 +148,12 @@ sign_sound v n t e = by_hex (hex_in t) refl e
     by_hex : (o : Option ℕ) → hex_in t ≡ o → sign_of o t ≡ Some (v, n) → UnitAt IsPiece v n (61 ∷ t)
     by_hex (Some c) h e =
         let x = hex_sound c t h in
-        let P : ℕ → Type 0 = λ y. IsPiece (right (y ∷ [])) (61 ∷ x.high ∷ x.low ∷ []) x.rest in
+        let P : ℕ → Type 0 = λ y. IsPiece (right (y ∷ [])) (61 ∷ x.digits.high ∷ x.digits.low ∷ []) x.rest in
         unit_same IsPiece _ v 3 n (61 ∷ t) e (record {
-          unit = 61 ∷ x.high ∷ x.low ∷ [];
+          unit = 61 ∷ x.digits.high ∷ x.digits.low ∷ [];
           rest = x.rest;
           whole = ap (λ (u : List ℕ). 61 ∷ u) x.whole;
-          is = subst P (sym x.value) (Hex x.high x.low x.left x.right x.rest x.high_is x.low_is);
+          is = subst P (sym x.value) (Hex x.digits x.rest);
           counted = refl;
         })
     by_hex None h e = by_break (line_end_len (back is_blank t)) h refl e
@@ -291,7 +291,7 @@ kept_sign t rest behind sign n e l z s b = record {
 
 -- a piece stands for no more octets than it has
 piece_fits : (v : Piece) (x s : List ℕ) → IsPiece v x s → length v.octets ≤ length x
-piece_fits _ _ _ (Hex h l a b s p q) = omega arith
+piece_fits _ _ _ (Hex d s) = omega arith
 piece_fits _ _ _ (SoftBreak break s h) = omega arith
 piece_fits _ _ _ (WrongSign s n m) = omega arith
 piece_fits _ _ _ (Trailing b s r e) = omega arith

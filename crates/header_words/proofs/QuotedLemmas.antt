@@ -4,20 +4,16 @@ use Rattle.std.proofs.lemmas.Bool.{cond-false, eqb-false, ne_eqb}
 use Rattle.text_words.specs.Octets.{hex_value}
 use Rattle.text_words.specs.Sequence.{UnitAt}
 use Rattle.text_words.proofs.SequenceLemmas.{IsReader, same_pair}
+use Rattle.header_words.specs.QuotedPrintable.{HexDigits, hex_octet}
 use Rattle.header_words.specs.QuotedText.{IsQUnit, Space, Hex, Itself}
 use Rattle.header_words.specs.reading.Units.{hex_pair, hex_in, escape_of, q_unit_in}
 
 -- two digits at the front, and the octet that they spell
 pub record HexAt (c : ℕ) (t : List ℕ) : Type 0 where
-  pub high : ℕ
-  pub low : ℕ
+  pub digits : HexDigits
   pub rest : List ℕ
-  pub left : ℕ
-  pub right : ℕ
-  pub whole : t ≡ high ∷ low ∷ rest
-  pub high_is : hex_value high ≡ Some left
-  pub low_is : hex_value low ≡ Some right
-  pub value : c ≡ 16 * left + right
+  pub whole : t ≡ digits.high ∷ digits.low ∷ rest
+  pub value : c ≡ hex_octet digits
 
 pub hex_sound : (c : ℕ) (t : List ℕ) → hex_in t ≡ Some c → HexAt c t
 hex_sound c [] e = absurd cc
@@ -27,20 +23,25 @@ hex_sound c (h ∷ l ∷ t) e = by (hex_value h) (hex_value l) refl refl e
     by : (x y : Option ℕ) → hex_value h ≡ x → hex_value l ≡ y → hex_pair x y ≡ Some c → HexAt c (h ∷ l ∷ t)
     by None y p q e = absurd cc
     by (Some a) None p q e = absurd cc
-    by (Some a) (Some b) p q e = record { high = h; low = l; rest = t; left = a; right = b; whole = refl; high_is = p; low_is = q; value = cc }
+    by (Some a) (Some b) p q e = record {
+      digits = record { high = h; low = l; high_value = a; low_value = b; high_is = p; low_is = q };
+      rest = t;
+      whole = refl;
+      value = cc;
+    }
 
-pub hex_complete : (h l a b : ℕ) (t : List ℕ) → hex_value h ≡ Some a → hex_value l ≡ Some b → hex_in (h ∷ l ∷ t) ≡ Some (16 * a + b)
-hex_complete h l a b t p q = ap (λ (x : Option ℕ). hex_pair x (hex_value l)) p ∙ ap (λ (y : Option ℕ). hex_pair (Some a) y) q
+pub hex_complete : (d : HexDigits) (t : List ℕ) → hex_in (d.high ∷ d.low ∷ t) ≡ Some (hex_octet d)
+hex_complete d t = ap (λ (x : Option ℕ). hex_pair x (hex_value d.low)) d.high_is ∙ ap (λ (y : Option ℕ). hex_pair (Some d.high_value) y) d.low_is
 
 complete : (v : ℕ) (x s : List ℕ) → IsQUnit v x s → q_unit_in (x ++ s) ≡ Some (v, length x)
 unfolding q_unit_in
 complete _ _ _ (Space s) = refl
-complete _ _ _ (Hex h l a b s p q) = ap escape_of (hex_complete h l a b s p q)
+complete _ _ _ (Hex d s) = ap escape_of (hex_complete d s)
 complete _ _ _ (Itself c s n m) = cond-false (eqb c 95) _ _ (ne_eqb c 95 n) ∙ cond-false (eqb c 61) _ _ (ne_eqb c 61 m)
 
 some : (v : ℕ) (x s : List ℕ) → IsQUnit v x s → x ≢ []
 some _ _ _ (Space s) = λ e. absurd cc
-some _ _ _ (Hex h l a b s p q) = λ e. absurd cc
+some _ _ _ (Hex d s) = λ e. absurd cc
 some _ _ _ (Itself c s n m) = λ e. absurd cc
 
 -- a unit of one octet, or of three
@@ -58,13 +59,13 @@ escape_sound v n t e = by (hex_in t) refl e
     by None p e = absurd cc
     by (Some c) p e =
         let h = hex_sound c t p in
-        let P : ℕ → Type 0 = λ y. IsQUnit y (61 ∷ h.high ∷ h.low ∷ []) h.rest in
+        let P : ℕ → Type 0 = λ y. IsQUnit y (61 ∷ h.digits.high ∷ h.digits.low ∷ []) h.rest in
         unit_is c v 3 n (61 ∷ t) e
         (record {
-          unit = 61 ∷ h.high ∷ h.low ∷ [];
+          unit = 61 ∷ h.digits.high ∷ h.digits.low ∷ [];
           rest = h.rest;
           whole = ap (λ (u : List ℕ). 61 ∷ u) h.whole;
-          is = subst P (sym h.value) (Hex h.high h.low h.left h.right h.rest h.high_is h.low_is);
+          is = subst P (sym h.value) (Hex h.digits h.rest);
           counted = refl;
         })
 

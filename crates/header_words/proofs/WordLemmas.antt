@@ -5,7 +5,8 @@ use Rattle.std.proofs.lemmas.Bool.{cases_lt}
 use Rattle.text_words.specs.Sequence.{UnitAt}
 use Rattle.text_words.proofs.SequenceLemmas.{determined, one_reading}
 use Rattle.header_words.specs.Charsets.{text_in, charset_of}
-use Rattle.header_words.specs.EncodedWords.{is_b, is_q, is_edge, Spells, InBase64, InQ, IsEncodedWord, ends_at_edge, NoneBefore, HasNone, IsFirst, kept, IsText, Plain, Worded}
+use Rattle.header_words.specs.EncodedWords.{is_b, is_q, is_edge, Spells, InBase64, InQ, IsEncodedWord, ends_at_edge, NoneBefore, HasNone}
+use Rattle.header_words.specs.EncodedWords.{IsFirst, FirstEncodedWord, kept, IsText, Plain, Worded}
 use Rattle.header_words.specs.EncodedWords.{charset_name, IsWordBefore}
 use Rattle.header_words.specs.reading.Units.{q_unit_in, FoundAt}
 use Rattle.header_words.proofs.QuotedLemmas.{q_reader}
@@ -123,14 +124,14 @@ same_first r s b c w v x y t g h =
 -- no value has two texts
 pub one_text : (after : Bool) (value s t : List ℕ) → IsText after value s → IsText after value t → s ≡ t
 one_text after value _ _ (Plain _ _ n) (Plain _ _ m) = refl
-one_text after value _ _ (Plain _ _ n) (Worded _ r b w x u _ g h) = absurd (n r b w x g.whole g.stands)
-one_text after value _ _ (Worded _ r b w x u _ g h) (Plain _ _ n) = absurd (n r b w x g.whole g.stands)
-one_text after value _ _ (Worded _ r b w x u _ g h) (Worded _ s c v y z _ k l) =
-    let q = same_first r s b c w v x y value g k in
-    let tail = one_text true x u z h (subst (λ (a : List ℕ). IsText true a z) (sym q.1.behind) l) in
-    ap (λ (a : List ℕ). kept after a ++ (r ++ u)) q.0
-    ∙ ap (λ (a : List ℕ). kept after c ++ (a ++ u)) q.1.reading
-    ∙ ap (λ (a : List ℕ). kept after c ++ (s ++ a)) tail
+one_text after value _ _ (Plain _ _ n) (Worded _ u _ f h) = absurd (n f.reading f.before f.word f.behind f.is.whole f.is.stands)
+one_text after value _ _ (Worded _ u _ f h) (Plain _ _ n) = absurd (n f.reading f.before f.word f.behind f.is.whole f.is.stands)
+one_text after value _ _ (Worded _ u _ f h) (Worded _ v _ g k) =
+    let q = same_first f.reading g.reading f.before g.before f.word g.word f.behind g.behind value f.is g.is in
+    let tail = one_text true f.behind u v h (subst (λ (a : List ℕ). IsText true a v) (sym q.1.behind) k) in
+    ap (λ (a : List ℕ). kept after a ++ (f.reading ++ u)) q.0
+    ∙ ap (λ (a : List ℕ). kept after g.before ++ (a ++ u)) q.1.reading
+    ∙ ap (λ (a : List ℕ). kept after g.before ++ (g.reading ++ a)) tail
 
 -- what the rest reads as goes after what was written
 pub record Goes (behind_word : Bool) (rest done value : List ℕ) : Type 0 where
@@ -147,7 +148,8 @@ goes_on after rest done value reading start end done' g f e = record {
       let front : take start rest ≡ f.before = ap (take start) f.first.whole ∙ take_at f.before (f.word ++ f.behind) start (sym f.start_is) in
       let back : drop end rest ≡ f.behind = ap (drop end) (f.first.whole ∙ sym (append_assoc f.before f.word f.behind))
       ∙ drop_at (f.before ++ f.word) f.behind end (omega (arith, f.end_is, length-append f.before f.word)) in
-      let inner = Worded after reading f.before f.word f.behind t rest f.first (subst (λ (u : List ℕ). IsText true u t) back h) in
+      let first : FirstEncodedWord rest = record { reading = reading; before = f.before; word = f.word; behind = f.behind; is = f.first } in
+      let inner = Worded after t rest first (subst (λ (u : List ℕ). IsText true u t) back h) in
       subst (λ (u : List ℕ). IsText false value u)
       (sym (ap (λ (u : List ℕ). u ++ t) (e ∙ ap (λ (u : List ℕ). (done ++ kept after u) ++ reading) front)
       ∙ append_assoc (done ++ kept after f.before) reading t ∙ append_assoc done (kept after f.before) (reading ++ t)))

@@ -10,7 +10,7 @@ use Rattle.base64.specs.Engines.{standard}
 use Rattle.base64.specs.Rfc4648.{encode_symbols, unpadded_len, padding_len}
 use Rattle.base64.proofs.RoundTrip.{length-encode_symbols}
 use lib.Utf8.{scalar, scalars, encode, encodes}
-use Rattle.header_words.specs.WordList.{utf8_word, IsWordPiece, IsLongestPiece, AreWords, NoneLeft, Next, joined, line_fold, IsWritten}
+use Rattle.header_words.specs.WordList.{utf8_word, IsWordPiece, IsLongestPiece, FirstPiece, AreWords, NoneLeft, Next, joined, line_fold, IsWritten}
 use Rattle.header_words.proofs.WordLemmas.{same_length}
 
 -- base64 of n octets
@@ -127,7 +127,7 @@ begun piece rest text value some l e = record {
   first = utf8_word piece;
   words = [];
   folds = e ∙ sym (append-nil (utf8_word piece));
-  goes = λ more a. Next piece rest text more (λ n. omega (arith, ap length n)) l a;
+  goes = λ more a. Next text more (record { piece = piece; rest = rest; some = λ n. omega (arith, ap length n); longest = l }) a;
 }
 
 pub one_more : (piece behind value rest text new : List ℕ) → 0 < length rest → Begun value rest text → IsLongestPiece piece behind rest
@@ -138,7 +138,8 @@ one_more piece behind value rest text new some b l e = record {
   folds = e ∙ append_assoc value (13 ∷ 10 ∷ 32 ∷ []) (utf8_word piece) ∙ ap (λ (u : List ℕ). u ++ (13 ∷ 10 ∷ 32 ∷ utf8_word piece)) b.folds
       ∙ sym (folded_more b.first b.words (utf8_word piece));
   goes = λ more a.
-      let w = b.goes (utf8_word piece ∷ more) (Next piece behind rest more (λ n. omega (arith, ap length n)) l a) in
+      let first : FirstPiece rest = record { piece = piece; rest = behind; some = λ n. omega (arith, ap length n); longest = l } in
+      let w = b.goes (utf8_word piece ∷ more) (Next rest more first a) in
       subst (λ (u : List (List ℕ)). AreWords (b.first ∷ u) text) (sym (append_assoc b.words (utf8_word piece ∷ []) more)) w;
 }
 
@@ -168,11 +169,12 @@ one_piece p q r s text a b =
 
 same_words : (text : List ℕ) (v w : List (List ℕ)) → AreWords v text → AreWords w text → v ≡ w
 same_words _ _ _ NoneLeft NoneLeft = refl
-same_words _ _ _ NoneLeft (Next p r _ w n l a) = absurd (n refl)
-same_words _ _ _ (Next p r _ w n l a) NoneLeft = absurd (n refl)
-same_words _ _ _ (Next p r text v n l a) (Next q s _ w m k b) =
-    let o = one_piece p q r s text l k in
-    ap (λ (u : List ℕ). utf8_word u ∷ v) o.piece ∙ ap (λ (u : List (List ℕ)). utf8_word q ∷ u) (same_words r v w a (subst (λ (u : List ℕ). AreWords w u) (sym o.rest) b))
+same_words _ _ _ NoneLeft (Next _ w f a) = absurd (f.some refl)
+same_words _ _ _ (Next _ w f a) NoneLeft = absurd (f.some refl)
+same_words _ _ _ (Next text v f a) (Next _ w g b) =
+    let o = one_piece f.piece g.piece f.rest g.rest text f.longest g.longest in
+    ap (λ (u : List ℕ). utf8_word u ∷ v) o.piece
+    ∙ ap (λ (u : List (List ℕ)). utf8_word g.piece ∷ u) (same_words f.rest v w a (subst (λ (u : List ℕ). AreWords w u) (sym o.rest) b))
 
 pub one_writing : (text s t : List ℕ) → IsWritten text s → IsWritten text t → s ≡ t
 one_writing text s t a b = a.folds ∙ ap (joined line_fold) (same_words text a.words b.words a.are b.are) ∙ sym b.folds

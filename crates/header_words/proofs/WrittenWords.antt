@@ -15,7 +15,7 @@ use Rattle.header_words.specs.Charsets.{charset_of, text_in}
 use Rattle.header_words.specs.declared.charset.Charset.{Charset}
 use Rattle.header_words.specs.declared.charset.Charset.TheVariants as charset
 use Rattle.header_words.specs.EncodedWords.{is_encoded, InBase64, HasShape, charset_name, IsEncodedWord, is_edge, ends_at_edge, BeginsAtEdge, kept, NoneBefore, HasNone, IsFirst}
-use Rattle.header_words.specs.EncodedWords.{IsText, Plain, Worded}
+use Rattle.header_words.specs.EncodedWords.{FirstEncodedWord, IsText, Plain, Worded}
 use Rattle.header_words.specs.WordList.{utf8_word, IsWordPiece, IsLongestPiece, AreWords, NoneLeft, Next, joined, line_fold, IsWritten}
 use Rattle.header_words.proofs.WordLemmas.{none_yet}
 use Rattle.header_words.proofs.WordListLemmas.{longest_some}
@@ -163,31 +163,37 @@ begins_white (c ∷ between) (w ∷ words) r = ap not (white_is_edge c r.0.0)
 
 more_read : (between : List ℕ) (words : List (List ℕ)) (text : List ℕ) → IsRun is_white between → AreWords words text → IsText true (more_words between words) text
 more_read between _ _ r NoneLeft = Plain true [] none_in_empty
-more_read between _ _ r (Next piece rest text words n l a) =
-    let word = utf8_word piece in
+more_read between _ _ r (Next text words f a) =
+    let word = utf8_word f.piece in
     let more = more_words between words in
     let value = (between ++ word) ++ more in
     let same : value ≡ between ++ (word ++ more) = append_assoc between word more in
-    let first : IsFirst piece between word more value = record {
+    let is : IsFirst f.piece between word more value = record {
       whole = same;
-      stands = record { edge_before = white_edge true between refl r.0; word = longest_is piece rest text n l; edge_behind = begins_white between words r };
+      stands = record {
+        edge_before = white_edge true between refl r.0;
+        word = longest_is f.piece f.rest text f.some f.longest;
+        edge_behind = begins_white between words r;
+      };
       first = subst (λ (u : List ℕ). NoneBefore (length between) u) (sym same) (none_in_white between (word ++ more) r.0);
     } in
-    subst (λ (u : List ℕ). IsText true value u) (ap (λ (u : List ℕ). u ++ (piece ++ rest)) (white_dropped between r.0) ∙ sym l.is.whole)
-    (Worded true piece between word more rest value first (more_read between words rest r a))
+    let first : FirstEncodedWord value = record { reading = f.piece; before = between; word = word; behind = more; is = is } in
+    subst (λ (u : List ℕ). IsText true value u) (ap (λ (u : List ℕ). u ++ (f.piece ++ f.rest)) (white_dropped between r.0) ∙ sym f.longest.is.whole)
+    (Worded true f.rest value first (more_read between words f.rest r a))
 
 pub words_read : (between : List ℕ) (words : List (List ℕ)) (text : List ℕ) → IsRun is_white between → AreWords words text → IsText false (joined between words) text
 words_read between _ _ r NoneLeft = Plain false [] none_in_empty
-words_read between _ _ r (Next piece rest text words n l a) =
-    let word = utf8_word piece in
+words_read between _ _ r (Next text words f a) =
+    let word = utf8_word f.piece in
     let more = more_words between words in
-    let first : IsFirst piece [] word more (word ++ more) = record {
+    let is : IsFirst f.piece [] word more (word ++ more) = record {
       whole = refl;
-      stands = record { edge_before = refl; word = longest_is piece rest text n l; edge_behind = begins_white between words r };
+      stands = record { edge_before = refl; word = longest_is f.piece f.rest text f.some f.longest; edge_behind = begins_white between words r };
       first = none_yet (word ++ more);
     } in
-    subst (λ (u : List ℕ). IsText false (word ++ more) u) (sym l.is.whole)
-    (Worded false piece [] word more rest (word ++ more) first (more_read between words rest r a))
+    let first : FirstEncodedWord (word ++ more) = record { reading = f.piece; before = []; word = word; behind = more; is = is } in
+    subst (λ (u : List ℕ). IsText false (word ++ more) u) (sym f.longest.is.whole)
+    (Worded false f.rest (word ++ more) first (more_read between words f.rest r a))
 
 fold_is_white : IsRun is_white line_fold
 fold_is_white = ((refl, (refl, (refl, tt))), λ n. absurd cc)

@@ -89,6 +89,14 @@ pub record IsFirst (reading before word behind t : List ℕ) : Type 0 where
   pub stands : StandsBetween reading before word behind
   pub first : NoneBefore (length before) t
 
+-- the first encoded word of a value, and what stands before and after it
+pub record FirstEncodedWord (value : List ℕ) : Type 0 where
+  pub reading : List ℕ
+  pub before : List ℕ
+  pub word : List ℕ
+  pub behind : List ℕ
+  pub is : IsFirst reading before word behind value
+
 -- white space between two encoded words is dropped
 abbrev pub kept : Bool → List ℕ → List ℕ
 kept behind_word between = if behind_word && list_all is_white between then [] else between
@@ -97,5 +105,5 @@ kept behind_word between = if behind_word && list_all is_white between then [] e
 -- directly before the value.
 pub data IsText : Bool → List ℕ → List ℕ → Type 0 where
   Plain : (behind_word : Bool) (value : List ℕ) → HasNone value → IsText behind_word value value
-  Worded : (behind_word : Bool) (reading before word behind text value : List ℕ) → IsFirst reading before word behind value → IsText true behind text
-      → IsText behind_word value (kept behind_word before ++ (reading ++ text))
+  Worded : (behind_word : Bool) (text value : List ℕ) (first : FirstEncodedWord value) → IsText true first.behind text
+      → IsText behind_word value (kept behind_word first.before ++ (first.reading ++ text))

@@ -22,16 +22,24 @@ pub record IsSoft (t : List ℕ) : Type 0 where
   pub are_blank : Each is_blank blanks
   pub is_end : IsLineEnd end
 
--- the text begins with two hexadecimal digits
-pub record BeginsWithHex (t : List ℕ) : Type 0 where
+-- two hexadecimal digits, and what each is worth
+pub record HexDigits : Type 0 where
   pub high : ℕ
   pub low : ℕ
-  pub left : ℕ
-  pub right_digit : ℕ
+  pub high_value : ℕ
+  pub low_value : ℕ
+  pub high_is : hex_value high ≡ Some high_value
+  pub low_is : hex_value low ≡ Some low_value
+
+-- the octet that they spell
+abbrev pub hex_octet : HexDigits → ℕ
+hex_octet digits = 16 * digits.high_value + digits.low_value
+
+-- the text begins with two hexadecimal digits
+pub record BeginsWithHex (t : List ℕ) : Type 0 where
+  pub digits : HexDigits
   pub rest : List ℕ
-  pub whole : t ≡ high ∷ low ∷ rest
-  pub high_is : hex_value high ≡ Some left
-  pub low_is : hex_value low ≡ Some right_digit
+  pub whole : t ≡ digits.high ∷ digits.low ∷ rest
 
 -- the text begins with white space, which may be none, and the end of the line
 pub record BeginsWithSoft (t : List ℕ) : Type 0 where
@@ -47,7 +55,7 @@ ends_line (c ∷ t) = c == 10 || (c == 13 && begins_with_lf t)
 
 -- A piece of a text, and what follows it.
 pub data IsPiece : Piece → List ℕ → List ℕ → Type 0 where
-  Hex : (h l a b : ℕ) (rest : List ℕ) → hex_value h ≡ Some a → hex_value l ≡ Some b → IsPiece (right ((16 * a + b) ∷ [])) (61 ∷ h ∷ l ∷ []) rest
+  Hex : (digits : HexDigits) (rest : List ℕ) → IsPiece (right (hex_octet digits ∷ [])) (61 ∷ digits.high ∷ digits.low ∷ []) rest
   SoftBreak : (break rest : List ℕ) → IsSoft break → IsPiece (right []) (61 ∷ break) rest
   WrongSign : (rest : List ℕ) → (BeginsWithHex rest → ⊥) → (BeginsWithSoft rest → ⊥) → IsPiece (record { octets = 61 ∷ []; wrong = true }) (61 ∷ []) rest
   Trailing : (blanks rest : List ℕ) → IsRun is_blank blanks → ends_line rest ≡ true → IsPiece (right []) blanks rest

@@ -21,11 +21,17 @@ pub record IsLongestPiece (piece rest text : List ℕ) : Type 0 where
   pub is : IsWordPiece piece rest text
   pub longest : (other behind : List ℕ) → IsWordPiece other behind text → length other ≤ length piece
 
+-- a text that isn't empty: its longest piece, and the rest
+pub record FirstPiece (text : List ℕ) : Type 0 where
+  pub piece : List ℕ
+  pub rest : List ℕ
+  pub some : text ≢ []
+  pub longest : IsLongestPiece piece rest text
+
 -- The words of a text: each is the word of the longest piece of what is left. The empty text has none.
 pub data AreWords : List (List ℕ) → List ℕ → Type 0 where
   NoneLeft : AreWords [] []
-  Next : (piece rest text : List ℕ) (words : List (List ℕ)) → text ≢ [] → IsLongestPiece piece rest text → AreWords words rest
-      → AreWords (utf8_word piece ∷ words) text
+  Next : (text : List ℕ) (words : List (List ℕ)) (first : FirstPiece text) → AreWords words first.rest → AreWords (utf8_word first.piece ∷ words) text
 
 -- the words, with the same text between each two
 abbrev pub joined : List ℕ → List (List ℕ) → List ℕ

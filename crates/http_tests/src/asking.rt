@@ -1,94 +1,60 @@
 // What clients ask over HTTP.
-use crate::client::{given_and_taken, joined, world_of};
-use gate_world::{Bytes, Front};
+use crate::client::{filled, joined, name_of, or_dash, taken, world_of};
+use gate_world::Bytes;
 use http::StatusCode;
 use http_door::{AskError, HttpAsking, HttpResponse, ask_over_http, download_media, problem_media};
 use http_routes::Routes;
 use http_service::Refusal;
-use scripted_world::{Script, ScriptWorld};
-use std::alloc::{AllocError, Global};
-use std::test::Fail;
-
-const TOKEN: &[u8] = b"word";
-
-/// A client that gives these octets, in pieces, where clients must show the token. A call of number 0 is none.
-fn client(
-    alloc: Global,
-    octets: &[u8],
-    piece: usize,
-    call: u64,
-) -> Result<ScriptWorld, AllocError> {
-    let script = Script::new(alloc)?
-        .with_client(octets)?
-        .with_secrets(b"", TOKEN)?
-        .in_pieces(piece)
-        .failing(call)?;
-    let mut world = ScriptWorld::new(alloc, script);
-    let _ = world.accept();
-    Ok(world)
-}
-
-fn or_dash(octets: &Option<Bytes>) -> &[u8] {
-    match octets {
-        None => b"-",
-        Some(octets) => octets.as_slice(),
-    }
-}
+use std::alloc::Global;
+use std::process::Abort;
 
 /// What is asked, as a text.
-fn text_of(alloc: Global, asked: Result<HttpAsking, AskError>) -> Result<Vec<u8>, AllocError> {
-    match asked {
-        Ok(HttpAsking::Calls { body }) => joined(alloc, &[b"calls ", body.as_slice()]),
-        Ok(HttpAsking::Upload { media, octets }) => {
+fn text_of(rt: &impl Abort, alloc: Global, asking: &HttpAsking) -> Vec<u8> {
+    match asking {
+        HttpAsking::Calls { body } => joined(rt, alloc, &[b"calls ", body.as_slice()]),
+        HttpAsking::Upload { media, octets } => {
             let media = media.as_str().as_bytes();
-            joined(alloc, &[b"upload ", media, b" ", octets.as_slice()])
+            let pieces: [&[u8]; 4] = [b"upload ", media, b" ", octets.as_slice()];
+            joined(rt, alloc, &pieces)
         }
-        Ok(HttpAsking::Download { blob, name, media }) => {
+        HttpAsking::Download { blob, name, media } => {
             let (blob, name) = (blob.as_slice(), name.as_slice());
-            joined(
-                alloc,
-                &[b"download ", blob, b" ", name, b" ", or_dash(&media)],
-            )
+            let pieces: [&[u8]; 6] = [b"download ", blob, b" ", name, b" ", or_dash(media)];
+            joined(rt, alloc, &pieces)
         }
-        Ok(HttpAsking::Refused { refusal }) => {
-            let text = format!(in alloc; "{refusal:?}")?;
-            text.as_bytes().to_vec(alloc)
-        }
-        Ok(HttpAsking::Session) => b"session".to_vec(alloc),
-        Ok(HttpAsking::CallsTooLarge) => b"calls too large".to_vec(alloc),
-        Ok(HttpAsking::UploadTooLarge) => b"upload too large".to_vec(alloc),
-        Err(error) => {
-            let text = format!(in alloc; "{error:?}")?;
-            text.as_bytes().to_vec(alloc)
-        }
+        HttpAsking::Refused { refusal } => name_of(rt, alloc, refusal),
+        other => name_of(rt, alloc, other),
     }
 }
 
-/// What a client asks that gives these octets, in pieces.
-fn asked(alloc: Global, octets: &[u8], piece: usize, call: u64) -> Result<Vec<u8>, Fail> {
-    let routes = Routes::new(alloc)?;
-    let mut world = client(alloc, octets, piece, call)?;
-    Ok(text_of(alloc, ask_over_http(alloc, &mut world, &routes, b"a1"))?)
+/// What a client asks that gives these octets, in pieces; an error by its name.
+fn asked(rt: &impl Abort, alloc: Global, octets: &[u8], piece: usize, call: u64) -> Vec<u8> {
+    let routes = Routes::new(alloc).expect(rt, "out of memory");
+    let mut world = world_of(rt, alloc, octets, piece, call);
+    match ask_over_http(alloc, &mut world, &routes, b"a1") {
+        Ok(asking) => text_of(rt, alloc, &asking),
+        Err(error) => name_of(rt, alloc, &error),
+    }
 }
 
 /// A request's line, its fields and its body, each request with the token but where it says another; and what it asks.
 const ROWS: [(&[u8], &[u8]); 34] = [
     (
         b"GET /.well-known/jmap HTTP/1.1\r\nAuthorization: Bearer word\r\n\r\n",
-        b"session",
+        b"Session",
     ),
     (
         b"GET /.well-known/jmap HTTP/1.0\r\nauthorization: bearer  word\r\n\r\n",
-        b"session",
+        b"Session",
     ),
     (
         b"GET http://h/.well-known/jmap HTTP/1.1\r\nAuthorization: Bearer word\r\n\r\n",
-        b"session",
+        b"Session",
     ),
     // a body that nobody reads
     (
         b"GET /.well-known/jmap HTTP/1.1\r\nAuthorization: Bearer word\r\nContent-Length: 99999999\r\n\r\n",
-        b"session",
+        b"Session",
     ),
     (
         b"POST /jmap/api HTTP/1.1\r\nAuthorization: Bearer word\r\nContent-Length: 1\r\n\r\n{",
@@ -182,11 +148,11 @@ const ROWS: [(&[u8], &[u8]); 34] = [
     ),
     (
         b"POST /jmap/api HTTP/1.1\r\nAuthorization: Bearer word\r\nTransfer-Encoding: chunked\r\n\r\n989681\r\n",
-        b"calls too large",
+        b"CallsTooLarge",
     ),
     (
         b"POST /jmap/api HTTP/1.1\r\nAuthorization: Bearer word\r\nContent-Length: 10000001\r\n\r\n",
-        b"calls too large",
+        b"CallsTooLarge",
     ),
     (
         b"POST /jmap/api HTTP/1.1\r\nAuthorization: Bearer word\r\nContent-Length: 10000000\r\n\r\n",
@@ -194,7 +160,7 @@ const ROWS: [(&[u8], &[u8]); 34] = [
     ),
     (
         b"POST /jmap/upload/a1 HTTP/1.1\r\nAuthorization: Bearer word\r\nContent-Length: 50000001\r\n\r\n",
-        b"upload too large",
+        b"UploadTooLarge",
     ),
     (
         b"POST /jmap/upload/a1 HTTP/1.1\r\nAuthorization: Bearer word\r\nContent-Length: 50000000\r\n\r\n",
@@ -209,76 +175,84 @@ const ROWS: [(&[u8], &[u8]); 34] = [
     (b"", b"Ended"),
 ];
 
-#[test]
-fn requests_ask(rt: HostRuntime) -> Result<(), Fail> {
-    let alloc = rt.alloc();
-    for (octets, wanted) in ROWS {
-        for piece in [1, 100_000] {
-            let seen = asked(alloc, octets, piece, 0)?;
-            let (seen, row) = (seen.as_slice(), octets);
-            assert_eq!(rt; seen, wanted, "{row:?}");
-        }
+fn expect_asked(rt: &impl Abort, alloc: Global, octets: &[u8], wanted: &[u8]) {
+    for piece in [1, 100_000].iter() {
+        let seen = asked(rt, alloc, octets, *piece, 0);
+        assert_eq!(rt; seen.as_slice(), wanted, "{octets:?}");
     }
-    Ok(())
 }
 
 #[test]
-fn a_head_that_is_too_long_comes_before_the_token(rt: HostRuntime) -> Result<(), Fail> {
-    let alloc = rt.alloc();
-    let mut octets = joined(alloc, &[b"GET / HTTP/1.1\r\nX: "])?;
-    octets.resize(16_385, b'x')?;
-    let seen = asked(alloc, &octets, 100_000, 0)?;
-    assert_eq!(rt; seen.as_slice(), b"HeadTooLarge".as_slice());
-    Ok(())
+fn requests_ask(rt: HostRuntime) {
+    for row in ROWS.iter() {
+        expect_asked(&rt, rt.alloc(), row.0, row.1);
+    }
+    // a head that is too long comes before the token
+    let long = filled(&rt, rt.alloc(), b"GET / HTTP/1.1\r\nX: ", b"", 16_385);
+    expect_asked(&rt, rt.alloc(), &long, b"HeadTooLarge");
 }
 
 /// A client that waits before it gives its body.
 const WAITS: &[u8] =
     b"POST /jmap/api HTTP/1.1\r\nAuthorization: Bearer word\r\nExpect: 100-continue\r\nContent-Length: 2\r\n\r\nhi";
 
-#[test]
-fn a_front_that_fails_before_the_request_ends_is_a_fault(rt: HostRuntime) -> Result<(), Fail> {
-    let alloc = rt.alloc();
-    // after `accept`, one recv of the head, the send of `100 Continue`, and one recv of the body
-    for (call, wanted) in [
-        (2, b"Failed".as_slice()),
-        (3, b"Failed".as_slice()),
-        (4, b"calls hi".as_slice()),
-    ] {
-        let seen = asked(alloc, WAITS, 100_000, call)?;
-        assert_eq!(rt; seen.as_slice(), wanted, "{call}");
-    }
-    Ok(())
-}
-
-/// What the client takes, where the response is sent in pieces.
-fn taken(alloc: Global, response: &HttpResponse) -> Result<Vec<u8>, Fail> {
-    let mut world = world_of(alloc, b"", 1, 0)?;
-    let _ = response.send(&mut world);
-    let (_, took) = given_and_taken(alloc, &world)?;
-    Ok(took)
-}
+/// The call that fails, and what is asked: after `accept`, one recv of the head, the send of `100 Continue`, and one
+/// recv of the body.
+const FAULTS: [(u64, &[u8]); 3] = [(2, b"Failed"), (3, b"Failed"), (4, b"calls hi")];
 
 #[test]
-fn responses_are_their_texts(rt: HostRuntime) -> Result<(), Fail> {
-    let alloc = rt.alloc();
-    let seen = taken(alloc, &HttpResponse::refusal(Refusal::NotFound))?;
-    let wanted =
-        b"HTTP/1.1 404 Not Found\r\nConnection: close\r\nCache-Control: no-store\r\nContent-Length: 0\r\n\r\n";
-    assert_eq!(rt; seen.as_slice(), wanted.as_slice());
-    let body = Bytes::copy_of(alloc, b"{}")?;
-    let response = HttpResponse::new(alloc, StatusCode::BAD_REQUEST, &problem_media(), body)?;
-    let seen = taken(alloc, &response)?;
-    let wanted =
-        b"HTTP/1.1 400 Bad Request\r\nConnection: close\r\nCache-Control: no-store\r\nContent-Length: 2\r\nContent-Type: application/problem+json\r\n\r\n{}";
-    assert_eq!(rt; seen.as_slice(), wanted.as_slice());
-    for (media, wanted) in [
-        (b"text/plain".as_slice(), b"text/plain".as_slice()),
-        (b"a b".as_slice(), b"application/octet-stream".as_slice()),
-        (b"".as_slice(), b"application/octet-stream".as_slice()),
-    ] {
-        let media = download_media(Some(media));
-        assert_eq!(rt; media.as_slice(), wanted);
+fn a_front_that_fails_before_the_request_ends_is_a_fault(rt: HostRuntime) {
+    for row in FAULTS.iter() {
+        let seen = asked(&rt, rt.alloc(), WAITS, 100_000, row.0);
+        assert_eq!(rt; seen.as_slice(), row.1);
     }
-    Ok(())
+}
+
+/// What the client takes of a response.
+fn expect_taken(rt: &impl Abort, alloc: Global, response: &HttpResponse, wanted: &[u8]) {
+    let mut world = world_of(rt, alloc, b"", 1, 0);
+    assert!(rt; response.send(&mut world).is_ok());
+    let took = taken(rt, alloc, &world);
+    assert_eq!(rt; took.as_slice(), wanted);
+}
+
+const NOT_FOUND: &[u8] =
+    b"HTTP/1.1 404 Not Found\r\nConnection: close\r\nCache-Control: no-store\r\nContent-Length: 0\r\n\r\n";
+
+const PROBLEM: &[u8] =
+    b"HTTP/1.1 400 Bad Request\r\nConnection: close\r\nCache-Control: no-store\r\nContent-Length: 2\r\nContent-Type: application/problem+json\r\n\r\n{}";
+
+/// A problem whose body is an empty object.
+fn problem(rt: &impl Abort, alloc: Global) -> HttpResponse {
+    let body = Bytes::copy_of(alloc, b"{}").expect(rt, "out of memory");
+    HttpResponse::new(alloc, StatusCode::BAD_REQUEST, &problem_media(), body).expect(
+        rt,
+        "out of memory",
+    )
+}
+
+#[test]
+fn responses_are_their_texts(rt: HostRuntime) {
+    expect_taken(
+        &rt,
+        rt.alloc(),
+        &HttpResponse::refusal(Refusal::NotFound),
+        NOT_FOUND,
+    );
+    expect_taken(&rt, rt.alloc(), &problem(&rt, rt.alloc()), PROBLEM);
+}
+
+/// Types that are asked for, and the types of what is downloaded.
+const MEDIA: [(&[u8], &[u8]); 4] = [
+    (b"text/plain", b"text/plain"),
+    (b"a b", b"application/octet-stream"),
+    (b"a\nb", b"application/octet-stream"),
+    (b"", b"application/octet-stream"),
+];
+
+#[test]
+fn downloads_have_the_types_that_may_stand_in_heads(rt: HostRuntime) {
+    for row in MEDIA.iter() {
+        assert_eq!(rt; download_media(Some(row.0)).as_slice(), row.1);
+    }
 }

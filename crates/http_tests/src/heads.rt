@@ -1,21 +1,12 @@
 // Heads of requests.
-use crate::client::{PIECES, given_and_taken, joined, world_of};
-use gate_world::Bytes;
+use crate::client::{PIECES, filled, given, joined, name_of, or_dash, world_of};
 use http_service::{Head, MAX_HEAD_OCTETS, Spare, read_head};
-use std::alloc::{AllocError, Global};
+use std::alloc::Global;
 use std::process::Abort;
-use std::test::Fail;
-
-fn or_dash(octets: &Option<Bytes>) -> &[u8] {
-    match octets {
-        Some(octets) => octets.as_slice(),
-        None => b"-",
-    }
-}
 
 /// Method, path, query, token, content type, body, and whether the client waits.
-fn said(alloc: Global, head: &Head) -> Result<Vec<u8>, AllocError> {
-    let rest = format!(in alloc; "{:?}|{}", head.body, head.expects)?;
+fn said(rt: &impl Abort, alloc: Global, head: &Head) -> Vec<u8> {
+    let rest = format!(in alloc; "{:?}|{}", head.body, head.expects).expect(rt, "out of memory");
     let pieces: [&[u8]; 11] = [
         head.method.as_slice(),
         b"|",
@@ -29,19 +20,16 @@ fn said(alloc: Global, head: &Head) -> Result<Vec<u8>, AllocError> {
         b"|",
         rest.as_bytes(),
     ];
-    joined(alloc, &pieces)
+    joined(rt, alloc, &pieces)
 }
 
 /// What is read of a client's head; an error by its name.
-fn read_one(alloc: Global, client: &[u8], piece: usize) -> Result<Vec<u8>, Fail> {
-    let mut world = world_of(alloc, client, piece, 0)?;
+fn read_one(rt: &impl Abort, alloc: Global, client: &[u8], piece: usize) -> Vec<u8> {
+    let mut world = world_of(rt, alloc, client, piece, 0);
     let mut spare = Spare::new(alloc);
     match read_head(alloc, &mut world, &mut spare) {
-        Ok(head) => Ok(said(alloc, &head)?),
-        Err(error) => {
-            let text = format!(in alloc; "{error:?}")?;
-            Ok(text.as_bytes().to_vec(alloc)?)
-        }
+        Ok(head) => said(rt, alloc, &head),
+        Err(error) => name_of(rt, alloc, &error),
     }
 }
 
@@ -170,107 +158,96 @@ const BAD_HEADS: [&[u8]; 20] = [
     b"POST / HTTP/1.1\r\nContent-Length: 0x5\r\n\r\n",
 ];
 
-/// The client's head is read so in any pieces.
-fn expect_head(rt: &impl Abort, alloc: Global, client: &[u8], wanted: &[u8]) -> Result<(), Fail> {
-    for piece in PIECES {
-        let seen = read_one(alloc, client, piece)?;
-        assert_eq!(rt; seen.as_slice(), wanted);
-    }
-    Ok(())
-}
-
-fn expect_all(
-    rt: &impl Abort,
-    alloc: Global,
-    clients: &[&[u8]],
-    wanted: &[u8],
-) -> Result<(), Fail> {
-    for client in clients {
-        expect_head(rt, alloc, client, wanted)?;
-    }
-    Ok(())
-}
-
-fn expect_rows(rt: &impl Abort, alloc: Global, rows: &[(&[u8], &[u8])]) -> Result<(), Fail> {
-    for row in rows {
-        expect_head(rt, alloc, row.0, row.1)?;
-    }
-    Ok(())
-}
-
-#[test]
-fn heads_are_read_in_any_pieces(rt: HostRuntime) -> Result<(), Fail> {
-    expect_rows(&rt, rt.alloc(), &HEADS)
-}
-
-#[test]
-fn heads_without_the_fields_say_no_more(rt: HostRuntime) -> Result<(), Fail> {
-    expect_all(&rt, rt.alloc(), &PLAIN_HEADS, PLAIN)
-}
-
-#[test]
-fn heads_of_another_form_are_refused(rt: HostRuntime) -> Result<(), Fail> {
-    expect_all(&rt, rt.alloc(), &BAD_HEADS, b"BadHead")
-}
-
-#[test]
-fn a_head_that_is_cut_anywhere_is_short(rt: HostRuntime) -> Result<(), Fail> {
-    let client = b"\r\nPOST /a?b HTTP/1.1\r\nContent-Length: 5\r\n\r\n".as_slice();
-    for cut in 0..client.len() {
-        let (front, _) = client.split_at(cut);
-        expect_head(&rt, rt.alloc(), front, b"Short")?;
-    }
-    Ok(())
-}
-
 /// Heads that are cut inside their targets, which may still become UTF-8, or never.
 const CUT_IN_TARGET: [&[u8]; 4] = [b"GET /", b"GET /\xc3", b"GET /\xff", b"\r\nGET /\xff\xff?"];
 
+/// The client's head is read so in any pieces.
+fn expect_head(rt: &impl Abort, alloc: Global, client: &[u8], wanted: &[u8]) {
+    for piece in PIECES.iter() {
+        let seen = read_one(rt, alloc, client, *piece);
+        assert_eq!(rt; seen.as_slice(), wanted);
+    }
+}
+
+fn expect_rows(rt: &impl Abort, alloc: Global, rows: &[(&[u8], &[u8])]) {
+    for row in rows {
+        expect_head(rt, alloc, row.0, row.1);
+    }
+}
+
+fn expect_all(rt: &impl Abort, alloc: Global, clients: &[&[u8]], wanted: &[u8]) {
+    for client in clients {
+        expect_head(rt, alloc, client, wanted);
+    }
+}
+
+fn expect_short_where_cut(rt: &impl Abort, alloc: Global, client: &[u8]) {
+    for cut in 0..client.len() {
+        let (front, _) = client.split_at(cut);
+        expect_head(rt, alloc, front, b"Short");
+    }
+}
+
 #[test]
-fn a_head_that_is_cut_in_its_target_is_short(rt: HostRuntime) -> Result<(), Fail> {
-    expect_all(&rt, rt.alloc(), &CUT_IN_TARGET, b"Short")
+fn heads_are_read_or_refused_in_any_pieces(rt: HostRuntime) {
+    expect_rows(&rt, rt.alloc(), &HEADS);
+    expect_all(&rt, rt.alloc(), &PLAIN_HEADS, PLAIN);
+    expect_all(&rt, rt.alloc(), &BAD_HEADS, b"BadHead");
+}
+
+#[test]
+fn a_head_that_is_cut_anywhere_is_short(rt: HostRuntime) {
+    let client = b"\r\nPOST /a?b HTTP/1.1\r\nContent-Length: 5\r\n\r\n";
+    expect_short_where_cut(&rt, rt.alloc(), client);
+    expect_all(&rt, rt.alloc(), &CUT_IN_TARGET, b"Short");
 }
 
 /// How many octets of a client are asked for until its head is read or refused, where it gives one at a time.
-fn given_for_head(alloc: Global, client: &[u8]) -> Result<usize, Fail> {
-    let mut world = world_of(alloc, client, 1, 0)?;
+fn given_for_head(rt: &impl Abort, alloc: Global, client: &[u8]) -> usize {
+    let mut world = world_of(rt, alloc, client, 1, 0);
     let mut spare = Spare::new(alloc);
     let _ = read_head(alloc, &mut world, &mut spare);
-    let (given, _) = given_and_taken(alloc, &world)?;
-    Ok(given)
+    given(rt, &world)
 }
 
 #[test]
-fn no_octet_is_asked_for_after_an_empty_line(rt: HostRuntime) -> Result<(), Fail> {
-    let alloc = rt.alloc();
-    for head in BAD_HEADS {
-        let client = joined(alloc, &[head, b"GET / HTTP/1.1\r\n\r\n"])?;
-        assert_eq!(rt; given_for_head(alloc, &client)?, head.len());
+fn no_octet_is_asked_for_after_an_empty_line(rt: HostRuntime) {
+    for head in BAD_HEADS.iter() {
+        let client = joined(&rt, rt.alloc(), &[head, b"GET / HTTP/1.1\r\n\r\n"]);
+        assert_eq!(rt; given_for_head(&rt, rt.alloc(), &client), head.len());
     }
-    Ok(())
 }
 
-const LONG_FRONT: &[u8] = b"GET / HTTP/1.1\r\nX: ";
+/// What stands round the filler of a long head, how many octets it has, and what it says.
+const LONG_HEADS: [(&[u8], &[u8], usize, &[u8]); 3] = [
+    (
+        b"GET / HTTP/1.1\r\nX: ",
+        b"\r\n\r\n",
+        MAX_HEAD_OCTETS,
+        PLAIN,
+    ),
+    (
+        b"GET / HTTP/1.1\r\nX: ",
+        b"\r\n\r\n",
+        MAX_HEAD_OCTETS + 1,
+        b"HeadTooLarge",
+    ),
+    // the end of the target isn't there: its length decides
+    (b"GET /\xff", b"", MAX_HEAD_OCTETS + 1, b"HeadTooLarge"),
+];
 
-const LONG_BACK: &[u8] = b"\r\n\r\n";
-
-/// A head of n octets.
-fn long_head(alloc: Global, size: usize) -> Result<Vec<u8>, AllocError> {
-    let filled = size.saturating_sub(LONG_FRONT.len() + LONG_BACK.len());
-    let filler = vec![in alloc; b'x'; filled]?;
-    joined(alloc, &[LONG_FRONT, filler.as_slice(), LONG_BACK])
+fn expect_long_head(rt: &impl Abort, alloc: Global, row: &(&[u8], &[u8], usize, &[u8])) {
+    let client = filled(rt, alloc, row.0, row.1, row.2);
+    assert_eq!(rt; client.len(), row.2);
+    for piece in [1000, 100_000].iter() {
+        let seen = read_one(rt, alloc, &client, *piece);
+        assert_eq!(rt; seen.as_slice(), row.3);
+    }
 }
 
 #[test]
-fn a_head_has_at_most_its_octets(rt: HostRuntime) -> Result<(), Fail> {
-    let whole = long_head(rt.alloc(), MAX_HEAD_OCTETS)?;
-    assert_eq!(rt; whole.len(), MAX_HEAD_OCTETS);
-    let long = long_head(rt.alloc(), MAX_HEAD_OCTETS + 1)?;
-    for piece in [1000, 100_000] {
-        let seen = read_one(rt.alloc(), &whole, piece)?;
-        assert_eq!(rt; seen.as_slice(), PLAIN);
-        let seen = read_one(rt.alloc(), &long, piece)?;
-        assert_eq!(rt; seen.as_slice(), b"HeadTooLarge".as_slice());
+fn a_head_has_at_most_its_octets(rt: HostRuntime) {
+    for row in LONG_HEADS.iter() {
+        expect_long_head(&rt, rt.alloc(), row);
     }
-    Ok(())
 }

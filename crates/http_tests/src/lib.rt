@@ -15,3 +15,5 @@ mod heads;
 mod responses;
 #[cfg(test)]
 mod routes;
+#[cfg(test)]
+mod uploads;

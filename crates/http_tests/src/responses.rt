@@ -1,10 +1,10 @@
 // Heads and bodies of responses.
-use crate::client::{given_and_taken, world_of};
+use crate::client::{taken, world_of};
+use gate_world::Bytes;
 use http::StatusCode;
 use http_service::{MediaType, Refusal, refusal_head, response_head, write_response};
 use std::alloc::Global;
 use std::process::Abort;
-use std::test::Fail;
 
 /// Status codes, the lengths and the types of bodies, and the heads of their responses.
 const HEADS: [(u16, usize, &[u8], &[u8]); 10] = [
@@ -70,33 +70,16 @@ const HEADS: [(u16, usize, &[u8], &[u8]); 10] = [
     ),
 ];
 
-fn expect_head(
-    rt: &impl Abort,
-    alloc: Global,
-    row: &(u16, usize, &[u8], &[u8]),
-) -> Result<(), Fail> {
-    let status = StatusCode::from_u16(row.0)?;
-    let media = MediaType::new(row.2).ok_or("no media type")?;
-    let body = vec![in alloc; b'x'; row.1]?;
-    let head = response_head(alloc, status, &body, &media)?;
+fn head_of(rt: &impl Abort, alloc: Global, code: u16, media: &[u8], body: &[u8]) -> Bytes {
+    let status = StatusCode::from_u16(code).expect(rt, "a status");
+    let media = MediaType::new(media).expect(rt, "a media type");
+    response_head(alloc, status, body, &media).expect(rt, "out of memory")
+}
+
+fn expect_head(rt: &impl Abort, alloc: Global, row: &(u16, usize, &[u8], &[u8])) {
+    let body = vec![in alloc; b'x'; row.1].expect(rt, "out of memory");
+    let head = head_of(rt, alloc, row.0, row.2, &body);
     assert_eq!(rt; head.as_slice(), row.3);
-    Ok(())
-}
-
-fn expect_heads(
-    rt: &impl Abort,
-    alloc: Global,
-    rows: &[(u16, usize, &[u8], &[u8])],
-) -> Result<(), Fail> {
-    for row in rows {
-        expect_head(rt, alloc, row)?;
-    }
-    Ok(())
-}
-
-#[test]
-fn responses_have_heads(rt: HostRuntime) -> Result<(), Fail> {
-    expect_heads(&rt, rt.alloc(), &HEADS)
 }
 
 /// Refusals, and their statuses.
@@ -110,14 +93,14 @@ const REFUSALS: [(Refusal, u16); 6] = [
 ];
 
 #[test]
-fn refusals_have_the_heads_of_their_statuses(rt: HostRuntime) -> Result<(), Fail> {
-    let media = MediaType::new(b"text/plain").ok_or("no media type")?;
+fn responses_and_refusals_have_heads(rt: HostRuntime) {
+    for row in HEADS.iter() {
+        expect_head(&rt, rt.alloc(), row);
+    }
     for row in REFUSALS.iter() {
-        let status = StatusCode::from_u16(row.1)?;
-        let head = response_head(rt.alloc(), status, b"", &media)?;
+        let head = head_of(&rt, rt.alloc(), row.1, b"text/plain", b"");
         assert_eq!(rt; refusal_head(row.0), head.as_slice());
     }
-    Ok(())
 }
 
 /// Texts that are no media type: empty, or with a space, a control character or an octet above 126.
@@ -140,39 +123,29 @@ const MEDIA_TYPES: [&[u8]; 4] = [
 ];
 
 #[test]
-fn media_types_end_no_line(rt: HostRuntime) -> Result<(), Fail> {
-    for text in NO_MEDIA_TYPES {
+fn media_types_end_no_line(rt: HostRuntime) {
+    for text in NO_MEDIA_TYPES.iter() {
         assert!(rt; MediaType::new(text).is_none());
     }
-    for text in MEDIA_TYPES {
-        let media = MediaType::new(text).ok_or("no media type")?;
-        assert_eq!(rt; media.as_slice(), text);
+    for text in MEDIA_TYPES.iter() {
+        let media = MediaType::new(text).expect(&rt, "a media type");
+        assert_eq!(rt; media.as_slice(), *text);
     }
-    Ok(())
 }
 
-/// Whether all was sent, and what the client took.
-fn sent(alloc: Global, head: &[u8], body: &[u8]) -> Result<(bool, Vec<u8>), Fail> {
-    let mut world = world_of(alloc, b"", 1, 0)?;
-    let is_sent = write_response(&mut world, head, body).is_ok();
-    let (_, took) = given_and_taken(alloc, &world)?;
-    Ok((is_sent, took))
-}
-
-/// The first call of a client is `accept`, the second and third take the head and the body.
-fn expect_failed(rt: &impl Abort, alloc: Global, head: &[u8], body: &[u8]) -> Result<(), Fail> {
-    for call in 2..4 {
-        let mut world = world_of(alloc, b"", 1, call)?;
-        assert!(rt; write_response(&mut world, head, body).is_err());
-    }
-    Ok(())
+/// Whether all of a response is sent, and what the client takes, where this call fails.
+fn expect_sent(rt: &impl Abort, alloc: Global, call: u64, is_sent: bool, wanted: &[u8]) {
+    let mut world = world_of(rt, alloc, b"", 1, call);
+    let sent = write_response(&mut world, b"HTTP/1.1 200 OK\r\n\r\n", b"{}");
+    assert_eq!(rt; sent.is_ok(), is_sent);
+    let took = taken(rt, alloc, &world);
+    assert_eq!(rt; took.as_slice(), wanted);
 }
 
 #[test]
-fn a_response_is_its_head_and_its_body(rt: HostRuntime) -> Result<(), Fail> {
-    let (is_sent, took) = sent(rt.alloc(), b"HTTP/1.1 200 OK\r\n\r\n", b"{}")?;
-    assert!(rt; is_sent);
-    assert_eq!(rt; took.as_slice(), b"HTTP/1.1 200 OK\r\n\r\n{}".as_slice());
-    expect_failed(&rt, rt.alloc(), b"HTTP/1.1 200 OK\r\n\r\n", b"{}")?;
-    Ok(())
+fn a_response_is_its_head_and_its_body(rt: HostRuntime) {
+    expect_sent(&rt, rt.alloc(), 0, true, b"HTTP/1.1 200 OK\r\n\r\n{}");
+    // after `accept`, the sends of the head and of the body
+    expect_sent(&rt, rt.alloc(), 2, false, b"");
+    expect_sent(&rt, rt.alloc(), 3, false, b"HTTP/1.1 200 OK\r\n\r\n");
 }

@@ -9,3 +9,5 @@ mod references;
 mod requests;
 #[cfg(test)]
 mod states;
+#[cfg(test)]
+mod texts;

@@ -1,33 +1,38 @@
 // Methods by their names, and Mailbox/get.
+use crate::texts::shown;
 use jmap_core::{Method, MethodError, Using, method_named, needs_mail};
 use read_methods::{MailboxCounts, mailbox_get};
-use serde_json::{Error, Value};
-use std::alloc::{AllocError, Global};
-use std::test::Fail;
+use serde_json::Value;
+use std::alloc::Global;
+use std::process::Abort;
+
+const CORE: Using = Using {
+    core: true,
+    mail: false,
+};
+
+const MAIL: Using = Using {
+    core: false,
+    mail: true,
+};
+
+/// What a request uses, a name, and the method of the name.
+const NAMES: [(Using, &str, Result<Method, MethodError>); 6] = [
+    (CORE, "Core/echo", Ok(Method::CoreEcho)),
+    (MAIL, "Mailbox/get", Ok(Method::MailboxGet)),
+    (MAIL, "Core/echo", Err(MethodError::UnknownMethod)),
+    (CORE, "Mailbox/get", Err(MethodError::UnknownMethod)),
+    (MAIL, "mailbox/get", Err(MethodError::UnknownMethod)),
+    (CORE, "", Err(MethodError::UnknownMethod)),
+];
 
 #[test]
-fn names(rt: HostRuntime) -> Result<(), Fail> {
-    let core = Using {
-        core: true,
-        mail: false,
-    };
-    let mail = Using {
-        core: false,
-        mail: true,
-    };
-    for (using, name, wanted) in [
-        (core, "Core/echo", Ok(Method::CoreEcho)),
-        (mail, "Mailbox/get", Ok(Method::MailboxGet)),
-        (mail, "Core/echo", Err(MethodError::UnknownMethod)),
-        (core, "Mailbox/get", Err(MethodError::UnknownMethod)),
-        (mail, "mailbox/get", Err(MethodError::UnknownMethod)),
-        (core, "", Err(MethodError::UnknownMethod)),
-    ] {
-        assert!(rt; method_named(using, name) == wanted);
+fn names(rt: HostRuntime) {
+    for row in NAMES.iter() {
+        assert!(rt; method_named(row.0, row.1) == row.2);
     }
     assert!(rt; !needs_mail("Core/echo"));
     assert!(rt; needs_mail("Core/Echo"));
-    Ok(())
 }
 
 const MAILBOXES: [MailboxCounts; 2] = [
@@ -43,12 +48,10 @@ const MAILBOXES: [MailboxCounts; 2] = [
     },
 ];
 
-fn answer(alloc: Global, mailboxes: &[MailboxCounts], arguments: &str) -> Result<String, Error> {
-    let arguments = Value::from_str(alloc, arguments)?;
-    match mailbox_get(alloc, "s-1", mailboxes, &arguments) {
-        Ok(value) => Ok(value.to_string(alloc)?),
-        Err(error) => Ok(format!(in alloc; "{error}")?),
-    }
+/// What Mailbox/get answers to these arguments.
+fn answer(rt: &impl Abort, alloc: Global, mailboxes: &[MailboxCounts], arguments: &str) -> String {
+    let arguments = Value::from_str(alloc, arguments).expect(rt, "arguments");
+    shown(rt, alloc, mailbox_get(alloc, "s-1", mailboxes, &arguments))
 }
 
 const FIRST: &str = "{\"id\":\"m1\",\"totalEmails\":3,\"unreadEmails\":2}";
@@ -83,26 +86,37 @@ const ANSWERS: [(&str, &[&str], &str); 7] = [
 ];
 
 /// The whole answer with this list and these ids.
-fn whole(alloc: Global, list: &[&str], missing: &str) -> Result<String, AllocError> {
-    let mut text = String::from_str(alloc, "{\"accountId\":\"a1\",\"list\":[")?;
+fn whole(rt: &impl Abort, alloc: Global, list: &[&str], missing: &str) -> String {
+    let mut text = String::from_str(alloc, "{\"accountId\":\"a1\",\"list\":[").expect(
+        rt,
+        "out of memory",
+    );
     let mut mark = "";
     for mailbox in list {
-        write!(text, "{mark}{mailbox}")?;
+        write!(text, "{mark}{mailbox}").expect(rt, "out of memory");
         mark = ",";
     }
-    write!(text, "],\"notFound\":[{missing}],\"state\":\"s-1\"}}")?;
-    Ok(text)
+    write!(text, "],\"notFound\":[{missing}],\"state\":\"s-1\"}}").expect(rt, "out of memory");
+    text
+}
+
+fn expect_whole(rt: &impl Abort, alloc: Global, arguments: &str, list: &[&str], missing: &str) {
+    let found = answer(rt, alloc, &MAILBOXES, arguments);
+    let wanted = whole(rt, alloc, list, missing);
+    assert_eq!(rt; found.as_str(), wanted.as_str());
+}
+
+fn expect_answer(rt: &impl Abort, alloc: Global, row: &(&str, &[&str], &str)) {
+    let arguments = format!(in alloc; "{{\"accountId\":\"a1\"{}}}", row.0);
+    let arguments = arguments.expect(rt, "out of memory");
+    expect_whole(rt, alloc, arguments.as_str(), row.1, row.2);
 }
 
 #[test]
-fn mailboxes(rt: HostRuntime) -> Result<(), Fail> {
-    let alloc = rt.alloc();
-    for (members, list, missing) in ANSWERS {
-        let arguments = format!(in alloc; "{{\"accountId\":\"a1\"{members}}}")?;
-        let found = answer(alloc, &MAILBOXES, arguments.as_str())?;
-        assert_eq!(rt; found.as_str(), whole(alloc, list, missing)?.as_str());
+fn mailboxes(rt: HostRuntime) {
+    for row in ANSWERS.iter() {
+        expect_answer(&rt, rt.alloc(), row);
     }
-    Ok(())
 }
 
 /// Arguments that are refused.
@@ -123,32 +137,54 @@ const REFUSED: [(&str, &str); 8] = [
     ("{\"accountId\":\"\",\"ids\":[]}", "account not found"),
 ];
 
-/// Arguments with this many ids.
-fn with_ids(alloc: Global, account: &str, count: usize) -> Result<String, AllocError> {
-    let mut text = format!(in alloc; "{{\"accountId\":\"{account}\",\"ids\":[\"m1\"")?;
-    for _ in 1..count {
-        write!(text, ",\"m1\"")?;
-    }
-    write!(text, "]}}")?;
-    Ok(text)
+fn expect_refused(
+    rt: &impl Abort,
+    alloc: Global,
+    mailboxes: &[MailboxCounts],
+    arguments: &str,
+    wanted: &str,
+) {
+    let found = answer(rt, alloc, mailboxes, arguments);
+    assert_eq!(rt; found.as_str(), wanted);
 }
 
 #[test]
-fn refusals(rt: HostRuntime) -> Result<(), Fail> {
-    let alloc = rt.alloc();
-    for (arguments, wanted) in REFUSED {
-        assert_eq!(rt; answer(alloc, &MAILBOXES, arguments)?.as_str(), wanted);
+fn refusals(rt: HostRuntime) {
+    for row in REFUSED.iter() {
+        expect_refused(&rt, rt.alloc(), &MAILBOXES, row.0, row.1);
     }
-    let edge = answer(alloc, &MAILBOXES, with_ids(alloc, "a1", 500)?.as_str())?;
-    assert_eq!(rt; edge.as_str(), whole(alloc, &[FIRST], "")?.as_str());
-    for (account, wanted) in [("a1", "request too large"), ("a2", "account not found")] {
-        let past = answer(alloc, &MAILBOXES, with_ids(alloc, account, 501)?.as_str())?;
-        assert_eq!(rt; past.as_str(), wanted);
+}
+
+/// Arguments with this many ids.
+fn with_ids(rt: &impl Abort, alloc: Global, account: &str, count: usize) -> String {
+    let mut text = format!(in alloc; "{{\"accountId\":\"{account}\",\"ids\":[\"m1\"").expect(
+        rt,
+        "out of memory",
+    );
+    for _ in 1..count {
+        write!(text, ",\"m1\"").expect(rt, "out of memory");
     }
-    let all = "{\"accountId\":\"a1\"}";
-    let many = vec![in alloc; MAILBOXES[0]; 501]?;
-    assert_eq!(rt; answer(alloc, &many, all)?.as_str(), "request too large");
-    let fits = answer(alloc, &many[..500], all)?;
-    assert_ne!(rt; fits.as_str(), "request too large");
-    Ok(())
+    write!(text, "]}}").expect(rt, "out of memory");
+    text
+}
+
+/// Mailbox/get over this many mailboxes.
+fn answer_of_many(rt: &impl Abort, alloc: Global, count: usize) -> String {
+    let many = vec![in alloc; MAILBOXES[0]; count].expect(rt, "out of memory");
+    answer(rt, alloc, &many, "{\"accountId\":\"a1\"}")
+}
+
+/// At most 500 ids are asked for, or mailboxes answered.
+#[test]
+fn limits(rt: HostRuntime) {
+    let edge = with_ids(&rt, rt.alloc(), "a1", 500);
+    expect_whole(&rt, rt.alloc(), edge.as_str(), &[FIRST], "");
+    for row in [("a1", "request too large"), ("a2", "account not found")].iter() {
+        let past = with_ids(&rt, rt.alloc(), row.0, 501);
+        expect_refused(&rt, rt.alloc(), &MAILBOXES, past.as_str(), row.1);
+    }
+    for row in [(500, false), (501, true)].iter() {
+        let found = answer_of_many(&rt, rt.alloc(), row.0);
+        assert_eq!(rt; found.as_str() == "request too large", row.1);
+    }
 }

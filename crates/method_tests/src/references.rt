@@ -1,16 +1,20 @@
 // Result references (RFC 8620 section 3.7): the examples of the RFC, and each refusal.
+use crate::texts::shown;
 use gate_world::Text;
 use jmap_core::{Call, echo, resolve, response_value};
-use serde_json::{Error, Value};
-use std::alloc::{AllocError, Global};
-use std::test::Fail;
+use serde_json::Value;
+use std::alloc::Global;
+use std::process::Abort;
 
-fn call(alloc: Global, name: &str, arguments: &str, id: &str) -> Result<Call, Error> {
-    Ok(Call {
-        name: Text::copy_of(alloc, name)?,
-        arguments: Value::from_str(alloc, arguments)?,
-        id: Text::copy_of(alloc, id)?,
-    })
+fn call(rt: &impl Abort, alloc: Global, name: &str, arguments: &str, id: &str) -> Call {
+    let arguments = Value::from_str(alloc, arguments).expect(rt, "arguments");
+    let name = Text::copy_of(alloc, name).expect(rt, "out of memory");
+    let id = Text::copy_of(alloc, id).expect(rt, "out of memory");
+    Call {
+        name,
+        arguments,
+        id,
+    }
 }
 
 const CHANGES: &str =
@@ -25,33 +29,35 @@ const EMAILS: &str =
 const THREADS: &str =
     "{\"list\":[{\"id\":\"trd194\",\"emailIds\":[\"msg1020\",\"msg1021\",\"msg1023\"]},{\"id\":\"trd114\",\"emailIds\":[\"msg201\",\"msg223\"]}],\"a/b~c\":{\"*\":[[1],2]}}";
 
-fn push(calls: &mut Vec<Call>, call: Call) -> Result<(), AllocError> {
-    calls.push(call)?;
-    Ok(())
-}
+/// The responses that references speak of: a name, the arguments and an id. The second `t0` is never found: the first
+/// error in order.
+const EARLIER: [(&str, &str, &str); 5] = [
+    ("Foo/changes", CHANGES, "t0"),
+    ("Email/query", QUERY, "t0"),
+    ("Email/query", QUERY, "t1"),
+    ("Email/get", EMAILS, "t2"),
+    ("Thread/get", THREADS, "t3"),
+];
 
-/// The responses that references speak of. The second `t0` is never found: the first error in order.
-fn earlier(alloc: Global) -> Result<Vec<Call>, Error> {
+fn earlier(rt: &impl Abort, alloc: Global) -> Vec<Call> {
     let mut calls = Vec::new(alloc);
-    for (name, arguments, id) in [
-        ("Foo/changes", CHANGES, "t0"),
-        ("Email/query", QUERY, "t0"),
-        ("Email/query", QUERY, "t1"),
-        ("Email/get", EMAILS, "t2"),
-        ("Thread/get", THREADS, "t3"),
-    ] {
-        push(&mut calls, call(alloc, name, arguments, id)?)?;
+    for row in EARLIER.iter() {
+        let call = call(rt, alloc, row.0, row.1, row.2);
+        calls.push(call).expect(rt, "out of memory");
     }
-    Ok(calls)
+    calls
 }
 
-fn resolved(alloc: Global, arguments: &str) -> Result<String, Error> {
-    let earlier = earlier(alloc)?;
-    let arguments = Value::from_str(alloc, arguments)?;
-    match resolve(alloc, &arguments, earlier.as_slice()) {
-        Ok(value) => Ok(value.to_string(alloc)?),
-        Err(error) => Ok(format!(in alloc; "{error}")?),
-    }
+/// What these arguments are resolved to.
+fn resolved(rt: &impl Abort, alloc: Global, arguments: &str) -> String {
+    let arguments = Value::from_str(alloc, arguments).expect(rt, "arguments");
+    let earlier = earlier(rt, alloc);
+    shown(rt, alloc, resolve(alloc, &arguments, &earlier))
+}
+
+fn expect_resolved(rt: &impl Abort, alloc: Global, arguments: &str, wanted: &str) {
+    let found = resolved(rt, alloc, arguments);
+    assert_eq!(rt; found.as_str(), wanted);
 }
 
 const NONE: &str = "invalid result reference";
@@ -102,25 +108,28 @@ const PATHS: [(&str, &str, &str, &str); 20] = [
     ("t0", "Foo/changes", "/hasMoreChanges", "false"),
 ];
 
-/// The whole of the arguments, where the reference isn't refused.
-fn whole(alloc: Global, wanted: &str) -> Result<String, AllocError> {
-    if wanted == NONE {
-        return String::from_str(alloc, NONE);
-    }
-    format!(in alloc; "{{\"ids\":{wanted},\"z\":1}}")
+/// The arguments with this reference as `#ids`.
+fn referring(rt: &impl Abort, alloc: Global, id: &str, name: &str, path: &str) -> String {
+    let text = format!(in alloc;
+        "{{\"#ids\":{{\"resultOf\":\"{id}\",\"name\":\"{name}\",\"path\":\"{path}\"}},\"z\":1}}"
+    );
+    text.expect(rt, "out of memory")
 }
 
-#[test]
-fn paths(rt: HostRuntime) -> Result<(), Fail> {
-    let alloc = rt.alloc();
-    for (id, name, path, wanted) in PATHS {
-        let arguments = format!(in alloc;
-            "{{\"#ids\":{{\"resultOf\":\"{id}\",\"name\":\"{name}\",\"path\":\"{path}\"}},\"z\":1}}"
-        )?;
-        let found = resolved(alloc, arguments.as_str())?;
-        assert_eq!(rt; found.as_str(), whole(alloc, wanted)?.as_str());
-    }
-    Ok(())
+/// The whole of the arguments, where the reference isn't refused.
+fn whole(rt: &impl Abort, alloc: Global, wanted: &str) -> String {
+    let text = if wanted == NONE {
+        String::from_str(alloc, NONE)
+    } else {
+        format!(in alloc; "{{\"ids\":{wanted},\"z\":1}}")
+    };
+    text.expect(rt, "out of memory")
+}
+
+fn expect_path(rt: &impl Abort, alloc: Global, row: &(&str, &str, &str, &str)) {
+    let arguments = referring(rt, alloc, row.0, row.1, row.2);
+    let wanted = whole(rt, alloc, row.3);
+    expect_resolved(rt, alloc, arguments.as_str(), wanted.as_str());
 }
 
 /// Arguments, and what they are resolved to.
@@ -158,49 +167,50 @@ const ARGUMENTS: [(&str, &str); 9] = [
 ];
 
 #[test]
-fn arguments(rt: HostRuntime) -> Result<(), Fail> {
-    let alloc = rt.alloc();
-    for (arguments, wanted) in ARGUMENTS {
-        assert_eq!(rt; resolved(alloc, arguments)?.as_str(), wanted);
+fn references(rt: HostRuntime) {
+    for row in PATHS.iter() {
+        expect_path(&rt, rt.alloc(), row);
     }
-    Ok(())
-}
-
-fn echoed(alloc: Global, arguments: &str) -> Result<String, Error> {
-    match echo(Value::from_str(alloc, arguments)?) {
-        Ok(value) => Ok(value.to_string(alloc)?),
-        Err(error) => Ok(format!(in alloc; "{error}")?),
+    for row in ARGUMENTS.iter() {
+        expect_resolved(&rt, rt.alloc(), row.0, row.1);
     }
 }
 
-#[test]
-fn echoes(rt: HostRuntime) -> Result<(), Fail> {
-    let alloc = rt.alloc();
-    for (arguments, wanted) in [
-        ("{\"b\":[1,-2],\"a\":{}}", "{\"a\":{},\"b\":[1,-2]}"),
-        (
-            "{\"a\":18446744073709551615}",
-            "{\"a\":18446744073709551615}",
-        ),
-        ("{\"a\":18446744073709551616}", WRONG),
-        ("{\"a\":[{\"b\":1.0}]}", WRONG),
-        ("{\"a\":-0}", WRONG),
-        ("{\"a\":1e3}", WRONG),
-    ] {
-        assert_eq!(rt; echoed(alloc, arguments)?.as_str(), wanted);
-    }
-    Ok(())
+/// Arguments, and what Core/echo answers.
+const ECHOES: [(&str, &str); 6] = [
+    ("{\"b\":[1,-2],\"a\":{}}", "{\"a\":{},\"b\":[1,-2]}"),
+    (
+        "{\"a\":18446744073709551615}",
+        "{\"a\":18446744073709551615}",
+    ),
+    ("{\"a\":18446744073709551616}", WRONG),
+    ("{\"a\":[{\"b\":1.0}]}", WRONG),
+    ("{\"a\":-0}", WRONG),
+    ("{\"a\":1e3}", WRONG),
+];
+
+fn expect_echoed(rt: &impl Abort, alloc: Global, arguments: &str, wanted: &str) {
+    let arguments = Value::from_str(alloc, arguments).expect(rt, "arguments");
+    let found = shown(rt, alloc, echo(arguments));
+    assert_eq!(rt; found.as_str(), wanted);
 }
 
 #[test]
-fn responses(rt: HostRuntime) -> Result<(), Fail> {
+fn echoes(rt: HostRuntime) {
+    for row in ECHOES.iter() {
+        expect_echoed(&rt, rt.alloc(), row.0, row.1);
+    }
+}
+
+const RESPONSE: &str =
+    "{\"methodResponses\":[[\"Core/echo\",{\"a\":\"\u{e9}\"},\"c\\\\\\\"1\"]],\"sessionState\":\"1;5;alice;http://h\"}";
+
+#[test]
+fn responses(rt: HostRuntime) {
     let alloc = rt.alloc();
-    let answer = call(alloc, "Core/echo", "{\"a\":\"\\u00e9\"}", "c\\\"1")?;
-    let response = response_value(alloc, &[answer], None, "1;5;alice;http://h")?;
-    let text = response.to_string(alloc)?;
-    assert_eq!(rt;
-        text.as_str(),
-        "{\"methodResponses\":[[\"Core/echo\",{\"a\":\"\u{e9}\"},\"c\\\\\\\"1\"]],\"sessionState\":\"1;5;alice;http://h\"}"
-    );
-    Ok(())
+    let answers = [call(&rt, alloc, "Core/echo", "{\"a\":\"\\u00e9\"}", "c\\\"1")];
+    let response = response_value(alloc, &answers, None, "1;5;alice;http://h");
+    let response = response.expect(&rt, "out of memory");
+    let text = response.to_string(alloc).expect(&rt, "out of memory");
+    assert_eq!(rt; text.as_str(), RESPONSE);
 }

@@ -1,7 +1,7 @@
 // States' texts, and the ids of what was created.
 use jmap_core::{CreatedIds, read_state, state_text};
-use std::alloc::{AllocError, Global};
-use std::test::Fail;
+use std::alloc::Global;
+use std::process::Abort;
 
 /// Texts, and whether each is a state's.
 const TEXTS: [(&str, bool); 16] = [
@@ -23,42 +23,46 @@ const TEXTS: [(&str, bool); 16] = [
     ("", false),
 ];
 
-/// The text that is written of what a text is read as.
-fn rewritten(alloc: Global, text: &str) -> Result<Option<String>, AllocError> {
+/// A state is written as it is read, and no other text is read.
+fn expect_state(rt: &impl Abort, alloc: Global, text: &str, is_state: bool) {
     match read_state(text) {
-        None => Ok(None),
-        Some(state) => Ok(Some(state_text(alloc, state)?)),
-    }
-}
-
-#[test]
-fn states(rt: HostRuntime) -> Result<(), Fail> {
-    let alloc = rt.alloc();
-    for (text, is_state) in TEXTS {
-        match rewritten(alloc, text)? {
-            None => assert!(rt; !is_state),
-            Some(written) => {
-                assert!(rt; is_state);
-                assert_eq!(rt; written.as_str(), text);
-            }
+        None => assert!(rt; !is_state),
+        Some(state) => {
+            let written = state_text(alloc, state).expect(rt, "out of memory");
+            assert!(rt; is_state && written.as_str() == text);
         }
     }
-    Ok(())
 }
 
 #[test]
-fn created_ids(rt: HostRuntime) -> Result<(), Fail> {
-    let alloc = rt.alloc();
+fn states(rt: HostRuntime) {
+    for row in TEXTS.iter() {
+        expect_state(&rt, rt.alloc(), row.0, row.1);
+    }
+}
+
+/// Creation ids and ids, in the order in which they are put.
+const PUT: [(&str, &str); 4] = [("k2", "e2"), ("K", "m1"), ("k", "e1"), ("k2", "e3")];
+
+fn created(rt: &impl Abort, alloc: Global) -> CreatedIds {
     let mut ids = CreatedIds::new(alloc);
-    for (creation, id) in [("k2", "e2"), ("K", "m1"), ("k", "e1"), ("k2", "e3")] {
-        ids.put(alloc, creation, id)?;
+    for row in PUT.iter() {
+        ids.put(alloc, row.0, row.1).expect(rt, "out of memory");
     }
-    let mut found = String::new(alloc);
+    ids
+}
+
+#[test]
+fn created_ids(rt: HostRuntime) {
+    let ids = created(&rt, rt.alloc());
+    let wanted = [
+        Some(("K", "m1")),
+        Some(("k", "e1")),
+        Some(("k2", "e3")),
+        None,
+        None,
+    ];
     for at in 0..5 {
-        if let Some((creation, id)) = ids.at(at) {
-            write!(found, "{creation}={id} ")?;
-        }
+        assert!(rt; ids.at(at) == wanted[at]);
     }
-    assert_eq!(rt; found.as_str(), "K=m1 k=e1 k2=e3 ");
-    Ok(())
 }

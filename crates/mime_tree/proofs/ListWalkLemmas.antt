@@ -70,7 +70,7 @@ so_far_multi {walk = walk} {now = now} p ps mid is so_far no_leaf below =
           let P : List Part → Type 0 = λ l. GainsBy walk l now new in
           so_far.forth new (subst P (sym is) (record {
             parts = both (spread (into walk p) below.parts) behind.parts;
-            walks = Multi walk p ps below.parts behind.parts no_leaf below.walks behind.walks;
+            walks = Multi walk p ps (record { no_leaf = no_leaf; inner = below.parts; behind = behind.parts }) below.walks behind.walks;
             gains = gains_both below.gains behind.gains;
           }));
     }

@@ -13,16 +13,16 @@ Ends (p ∷ ps) a = Unit {0}
 
 pub ends : (walk : Walk) (ps : List Part) (a : PartLists) → Walks walk ps a → Ends ps a
 ends _ _ _ (End walk) = refl
-ends _ _ _ (Multi walk p ps inner behind no_leaf below rest) = tt
+ends _ _ _ (Multi walk p ps a below rest) = tt
 ends _ _ _ (Leaf walk p ps behind leaf rest) = tt
 
 pub one_walk : (walk : Walk) (ps : List Part) (a c : PartLists) → Walks walk ps a → Walks walk ps c → a ≡ c
 one_walk _ _ _ c (End walk) other = sym (ends walk [] c other)
-one_walk _ _ _ c (Multi walk p ps inner behind no_leaf below rest) (Multi _ _ _ inner' behind' no_leaf' below' rest') =
-    ap (λ (a : PartLists). both (spread (into walk p) a) behind) (one_walk _ _ inner inner' below below')
-    ∙ ap (λ (a : PartLists). both (spread (into walk p) inner') a) (one_walk _ _ behind behind' rest rest')
-one_walk _ _ _ c (Multi walk p ps inner behind no_leaf below rest) (Leaf _ _ _ behind' leaf rest') = absurd (let e = sym no_leaf ∙ leaf in cc)
-one_walk _ _ _ c (Leaf walk p ps behind leaf rest) (Multi _ _ _ inner' behind' no_leaf below' rest') = absurd (let e = sym no_leaf ∙ leaf in cc)
+one_walk _ _ _ c (Multi walk p ps x below rest) (Multi _ _ _ y below' rest') =
+    ap (λ (a : PartLists). both (spread (into walk p) a) x.behind) (one_walk _ _ x.inner y.inner below below')
+    ∙ ap (λ (a : PartLists). both (spread (into walk p) y.inner) a) (one_walk _ _ x.behind y.behind rest rest')
+one_walk _ _ _ c (Multi walk p ps x below rest) (Leaf _ _ _ behind' leaf rest') = absurd (let e = sym x.no_leaf ∙ leaf in cc)
+one_walk _ _ _ c (Leaf walk p ps behind leaf rest) (Multi _ _ _ y below' rest') = absurd (let e = sym y.no_leaf ∙ leaf in cc)
 one_walk _ _ _ c (Leaf walk p ps behind leaf rest) (Leaf _ _ _ behind' leaf' rest') =
     ap (λ (a : PartLists). both (leaf_lists walk p) a) (one_walk _ _ behind behind' rest rest')
 

@@ -167,18 +167,18 @@ walks_alike more _ _ [] _ c same (End walk) other =
     let P : PartLists → Type 0 = λ l. Alike nothing l in
     subst P (sym (ends walk [] c other)) (record { text = tt; html = tt; attachments = tt })
 walks_alike more _ _ (q ∷ qs) _ c same (End walk) other = absurd same
-walks_alike more _ _ [] _ c same (Multi walk p ps inner behind no_leaf kids rest) other = absurd same
+walks_alike more _ _ [] _ c same (Multi walk p ps x kids rest) other = absurd same
 walks_alike more _ _ [] _ c same (Leaf walk p ps behind leaf rest) other = absurd same
-walks_alike more _ _ (q ∷ qs) _ _ same (Multi walk p ps inner behind no_leaf kids rest) (Multi _ _ _ inner' behind' no_leaf' kids' rest') =
+walks_alike more _ _ (q ∷ qs) _ _ same (Multi walk p ps x kids rest) (Multi _ _ _ y kids' rest') =
     let t = twin more p q same.0 in
-    let P : Walk → Type 0 = λ w. Walks w (children q) inner' in
-    let Q : Walk → Type 0 = λ w. Alike (spread (into walk p) inner) (spread w inner') in
-    let one = walks_alike (below more) (into walk p) (children p) (children q) inner inner' (same_below more p q same.0) kids (subst P (sym (into_twin walk t)) kids') in
-    alike_both _ _ _ _ (subst Q (into_twin walk t) (alike_spread (into walk p) inner inner' one)) (walks_alike more (next walk) ps qs behind behind' same.1 rest rest')
-walks_alike more _ _ (q ∷ qs) _ _ same (Multi walk p ps inner behind no_leaf kids rest) (Leaf _ _ _ behind' leaf rest') =
-    absurd (let e = sym no_leaf ∙ ap is_some (twin more p q same.0).number ∙ leaf in cc)
-walks_alike more _ _ (q ∷ qs) _ _ same (Leaf walk p ps behind leaf rest) (Multi _ _ _ inner' behind' no_leaf kids' rest') =
-    absurd (let e = sym leaf ∙ ap is_some (twin more p q same.0).number ∙ no_leaf in cc)
+    let P : Walk → Type 0 = λ w. Walks w (children q) y.inner in
+    let Q : Walk → Type 0 = λ w. Alike (spread (into walk p) x.inner) (spread w y.inner) in
+    let one = walks_alike (below more) (into walk p) (children p) (children q) x.inner y.inner (same_below more p q same.0) kids (subst P (sym (into_twin walk t)) kids') in
+    alike_both _ _ _ _ (subst Q (into_twin walk t) (alike_spread (into walk p) x.inner y.inner one)) (walks_alike more (next walk) ps qs x.behind y.behind same.1 rest rest')
+walks_alike more _ _ (q ∷ qs) _ _ same (Multi walk p ps x kids rest) (Leaf _ _ _ behind' leaf rest') =
+    absurd (let e = sym x.no_leaf ∙ ap is_some (twin more p q same.0).number ∙ leaf in cc)
+walks_alike more _ _ (q ∷ qs) _ _ same (Leaf walk p ps behind leaf rest) (Multi _ _ _ y kids' rest') =
+    absurd (let e = sym leaf ∙ ap is_some (twin more p q same.0).number ∙ y.no_leaf in cc)
 walks_alike more _ _ (q ∷ qs) _ _ same (Leaf walk p ps behind leaf rest) (Leaf _ _ _ behind' leaf' rest') =
     let t = twin more p q same.0 in
     let P : Walk → Type 0 = λ w. Walks (next w) qs behind' in

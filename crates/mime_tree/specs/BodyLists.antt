@@ -106,11 +106,17 @@ spread inner a = if is_alternative inner.multipart && (inner.text && inner.html)
 
 -- ---- the walk
 
+-- what the parts in a multipart add, and what the parts after it add
+pub record MultipartLists (p : Part) : Type 0 where
+  pub no_leaf : is_leaf p ≡ false
+  pub inner : PartLists
+  pub behind : PartLists
+
 -- What a walk over parts adds. What is closed in a multipart is open again after it.
 pub data Walks : Walk → List Part → PartLists → Type 0 where
   End : (walk : Walk) → Walks walk [] nothing
-  Multi : (walk : Walk) (p : Part) (ps : List Part) (inner behind : PartLists) → is_leaf p ≡ false → Walks (into walk p) (children p) inner
-      → Walks (next walk) ps behind → Walks walk (p ∷ ps) (both (spread (into walk p) inner) behind)
+  Multi : (walk : Walk) (p : Part) (ps : List Part) (adds : MultipartLists p) → Walks (into walk p) (children p) adds.inner
+      → Walks (next walk) ps adds.behind → Walks walk (p ∷ ps) (both (spread (into walk p) adds.inner) adds.behind)
   Leaf : (walk : Walk) (p : Part) (ps : List Part) (behind : PartLists) → is_leaf p ≡ true → Walks (next (meeting walk p)) ps behind
       → Walks walk (p ∷ ps) (both (leaf_lists walk p) behind)
 

@@ -1,10 +1,8 @@
 // Clients over HTTP.
-use crate::whole_runs::{CONNECTED, DONE, LISTED, SELECTED, follow, joined};
-use gate_world::Bytes;
-use scripted_world::Script;
-use std::alloc::{AllocError, Global};
+use crate::scripts::{EMPTY_INBOX, expect_parts, scripted};
+use crate::seen::follow;
+use std::alloc::Global;
 use std::process::Abort;
-use std::test::Fail;
 
 const SERVE: &str =
     "serve|--listen|127.0.0.1:1|--store|127.0.0.1:1|--user|alice|--base|http://127.0.0.1:8080";
@@ -13,16 +11,6 @@ const TOKEN: &[u8] = b"Authorization: Bearer secret\r\n";
 
 /// What stands between a status line and a length.
 const FIXED: &[u8] = b"Connection: close\r\nCache-Control: no-store\r\n";
-
-/// One client that gives this, over one link life with an empty INBOX.
-fn script_of(alloc: Global, client: &[u8]) -> Result<Script, AllocError> {
-    let link = joined(alloc, &[CONNECTED, LISTED, SELECTED, DONE])?;
-    Script::new(alloc)?
-        .with_link(link.as_slice())?
-        .with_client(client)?
-        .with_word(31)?
-        .with_secrets(b"pw", b"secret")
-}
 
 /// A request of these parts, and the response: its status line, and from its length on. How often the store is dialed.
 struct Row {
@@ -133,21 +121,19 @@ const ROWS: [Row; 11] = [
     },
 ];
 
-fn expect_row(rt: &impl Abort, alloc: Global, row: &Row) -> Result<(), Fail> {
-    let request = joined(alloc, &[row.line, row.fields, b"\r\n", row.body])?;
-    let response = joined(alloc, &[row.status, FIXED, row.rest])?;
-    let seen = follow(alloc, SERVE, script_of(alloc, request.as_slice())?)?;
-    assert_eq!(rt; seen.client_took.as_slice(), response.as_slice());
+fn expect_row(rt: &impl Abort, alloc: Global, row: &Row) {
+    let request: [&[u8]; 4] = [row.line, row.fields, b"\r\n", row.body];
+    let script = scripted(rt, alloc, &[EMPTY_INBOX], &[&request], b"secret");
+    let seen = follow(rt, alloc, SERVE, script);
     assert!(rt; seen.status == 0 && seen.dials == row.dials);
-    Ok(())
+    expect_parts(rt, alloc, &seen.client_took, &[row.status, FIXED, row.rest]);
 }
 
 #[test]
-fn requests_and_their_responses(rt: HostRuntime) -> Result<(), Fail> {
+fn requests_and_their_responses(rt: HostRuntime) {
     for row in ROWS.iter() {
-        expect_row(&rt, rt.alloc(), row)?;
+        expect_row(&rt, rt.alloc(), row);
     }
-    Ok(())
 }
 
 const UPLOADS: &[u8] =
@@ -159,65 +145,63 @@ const DOWNLOADS: &[u8] =
 const ENDS_EARLY: &[u8] =
     b"POST /jmap/api HTTP/1.1\r\nContent-Length: 5\r\nAuthorization: Bearer secret\r\n\r\n{}\n";
 
-/// What clients one after another take, of whom the store is asked over these links.
-fn taken_by(
-    alloc: Global,
-    links: &[&[u8]],
-    clients: &[&[u8]],
-    fails: u64,
-) -> Result<(u8, Bytes), Fail> {
-    let mut script = Script::new(alloc)?
-        .with_word(31)?
-        .with_secrets(b"pw", b"secret")?;
-    for link in links {
-        script = script.with_link(link)?;
-    }
-    for client in clients {
-        script = script.with_client(client)?;
-    }
-    let seen = follow(alloc, SERVE, script.failing(fails)?)?;
-    Ok((seen.status, Bytes::from_vec(seen.client_took)?))
+const GETS_NOTHING: &[u8] = b"GET /nothing HTTP/1.1\r\nAuthorization: Bearer secret\r\n\r\n";
+
+/// What stands behind the fixed fields of these requests' responses.
+const UPLOADED: &[u8] =
+    b"Content-Length: 124\r\nContent-Type: application/json\r\n\r\n{\"accountId\":\"a1\",\"blobId\":\"u8f434346648f6b96df89dda901c5176b10a6d83961dd3c1ac88b59b2dc327aa4\",\"size\":2,\"type\":\"text/plain\"}";
+
+const DOWNLOADED: &[u8] = b"Content-Length: 2\r\nContent-Type: text/plain\r\n\r\nhi";
+
+const LOST: &[u8] =
+    b"Content-Length: 35\r\nContent-Type: application/problem+json\r\n\r\n{\"status\":404,\"type\":\"about:blank\"}";
+
+/// What clients one after another take, of whom the store is asked over these links, where a call fails.
+struct Serving {
+    links: &'static [&'static [&'static [u8]]],
+    clients: &'static [&'static [&'static [u8]]],
+    fails_at: u64,
+    took: &'static [&'static [u8]],
 }
 
-#[test]
-fn uploads_are_kept_from_client_to_client(rt: HostRuntime) -> Result<(), Fail> {
-    let alloc = rt.alloc();
-    let link = joined(alloc, &[CONNECTED, LISTED, SELECTED, DONE])?;
-    let links: [&[u8]; 2] = [link.as_slice(), b"* OK hi\r\n"];
-    let (status, took) = taken_by(
-        alloc,
-        &links,
-        &[UPLOADS, DOWNLOADS, DOWNLOADS, ENDS_EARLY],
-        0,
-    )?;
-    let wanted = joined(
-        alloc,
-        &[
+const SERVINGS: [Serving; 2] = [
+    // an upload is kept from client to client, and a client that ends early is sent nothing
+    Serving {
+        links: &[EMPTY_INBOX, &[b"* OK hi\r\n"]],
+        clients: &[&[UPLOADS], &[DOWNLOADS], &[DOWNLOADS], &[ENDS_EARLY]],
+        fails_at: 0,
+        took: &[
             b"HTTP/1.1 201 Created\r\n",
             FIXED,
-            b"Content-Length: 124\r\nContent-Type: application/json\r\n\r\n{\"accountId\":\"a1\",\"blobId\":\"u8f434346648f6b96df89dda901c5176b10a6d83961dd3c1ac88b59b2dc327aa4\",\"size\":2,\"type\":\"text/plain\"}",
+            UPLOADED,
             b"HTTP/1.1 200 OK\r\n",
             FIXED,
-            b"Content-Length: 2\r\nContent-Type: text/plain\r\n\r\nhi",
+            DOWNLOADED,
             b"HTTP/1.1 404 Not Found\r\n",
             FIXED,
-            b"Content-Length: 35\r\nContent-Type: application/problem+json\r\n\r\n{\"status\":404,\"type\":\"about:blank\"}",
+            LOST,
         ],
-    )?;
-    assert_eq!(&rt; took.as_slice(), wanted.as_slice());
-    assert_eq!(&rt; status, 0);
-    Ok(())
+    },
+    // the first client's front fails, and the second is answered
+    Serving {
+        links: &[],
+        clients: &[&[GETS_NOTHING], &[GETS_NOTHING]],
+        fails_at: 2,
+        took: &[b"HTTP/1.1 404 Not Found\r\n", FIXED, EMPTY],
+    },
+];
+
+fn expect_served(rt: &impl Abort, alloc: Global, row: &Serving) {
+    let script = scripted(rt, alloc, row.links, row.clients, b"secret");
+    let script = script.failing(row.fails_at).expect(rt, "out of memory");
+    let seen = follow(rt, alloc, SERVE, script);
+    assert_eq!(rt; seen.status, 0);
+    expect_parts(rt, alloc, &seen.client_took, row.took);
 }
 
-/// The first client's front fails, and the second is answered.
 #[test]
-fn a_failed_front_spoils_one_client(rt: HostRuntime) -> Result<(), Fail> {
-    let alloc = rt.alloc();
-    let row = &ROWS[0];
-    let request = joined(alloc, &[row.line, row.fields, b"\r\n"])?;
-    let (status, took) = taken_by(alloc, &[], &[request.as_slice(), request.as_slice()], 2)?;
-    let wanted = joined(alloc, &[row.status, FIXED, row.rest])?;
-    assert_eq!(&rt; took.as_slice(), wanted.as_slice());
-    assert_eq!(&rt; status, 0);
-    Ok(())
+fn clients_one_after_another(rt: HostRuntime) {
+    for row in SERVINGS.iter() {
+        expect_served(&rt, rt.alloc(), row);
+    }
 }

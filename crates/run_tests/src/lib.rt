@@ -1,8 +1,14 @@
-//! Tests of whole runs of the program over a world that follows a script.
+//! Tests of whole runs of the program over a world that follows a script, and of the words that ask for them.
 #![tactic(auto)]
 
 #[cfg(test)]
+mod asked_words;
+#[cfg(test)]
 mod http_clients;
+#[cfg(test)]
+mod scripts;
+#[cfg(test)]
+mod seen;
 #[cfg(test)]
 mod shown_messages;
 #[cfg(test)]

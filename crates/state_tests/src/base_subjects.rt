@@ -1,7 +1,6 @@
 // Base subjects of decoded texts.
-use std::alloc::{AllocError, Global};
+use std::alloc::Global;
 use std::process::Abort;
-use std::test::Fail;
 use thread_rule::{base_of, base_subject};
 
 /// Examples of the procedure, each reasoned from its steps. The text is decoded before them: encoded words that stand in
@@ -57,55 +56,61 @@ const SUBJECTS: [(&[u8], &[u8]); 48] = [
     (b"Re: =?utf-8?B?UGxhbg==?=", b"=?utf-8?B?UGxhbg==?="),
 ];
 
-fn expect_bases(rt: &impl Abort, alloc: Global, rows: &[(&[u8], &[u8])]) -> Result<(), Fail> {
-    for row in rows {
-        let base = base_subject(alloc, row.0)?;
-        assert_eq!(rt; base.as_slice(), row.1);
-    }
-    Ok(())
+/// The base subject of a text.
+pub(crate) fn expect_base(rt: &impl Abort, alloc: Global, text: &[u8], wanted: &[u8]) {
+    let base = base_subject(alloc, text).expect(rt, "memory");
+    assert_eq!(rt; base.as_slice(), wanted);
 }
 
 #[test]
-fn subjects_have_bases(rt: HostRuntime) -> Result<(), Fail> {
-    expect_bases(&rt, rt.alloc(), &SUBJECTS)?;
+fn subjects_have_bases(rt: HostRuntime) {
+    for row in SUBJECTS.iter() {
+        expect_base(&rt, rt.alloc(), row.0, row.1);
+    }
     assert_eq!(rt; base_of(b"Re: [a]"), b"[a]".as_slice());
-    Ok(())
 }
 
-/// `front` n times, and then `back` n times.
-fn nested(alloc: Global, front: &[u8], back: &[u8], times: u32) -> Result<Vec<u8>, AllocError> {
-    let mut text = Vec::new(alloc);
+fn put_times(rt: &impl Abort, text: &mut Vec<u8>, part: &[u8], times: u32) {
     for _ in 0..times {
-        text.extend_from_slice(front)?;
+        text.extend_from_slice(part).expect(rt, "memory");
     }
-    for _ in 0..times {
-        text.extend_from_slice(back)?;
-    }
-    Ok(text)
 }
+
+/// `front` so many times, and then `back` as often.
+fn nested(rt: &impl Abort, alloc: Global, front: &[u8], back: &[u8], times: u32) -> Vec<u8> {
+    let mut text = Vec::new(alloc);
+    put_times(rt, &mut text, front, times);
+    put_times(rt, &mut text, back, times);
+    text
+}
+
+/// What a text begins with and ends with 100,000 times, and its base subject.
+const LONG: [(&[u8], &[u8], &[u8]); 9] = [
+    (b"[a]", b"", b"[a]"),
+    (b"Re: ", b"", b""),
+    (b"[a]Re[b]: ", b"", b""),
+    (b"", b"(fwd)", b""),
+    (b"", b" (fwd) ", b""),
+    (b"[fwd:", b"]", b""),
+    (b"[fwd: [a]Re: ", b" (fwd)]", b""),
+    (b"[a][b] ", b"(fwd)", b"[b]"),
+    (b"\t [a]\t ", b"", b"[a]"),
+];
 
 /// A megabyte of marks, blobs, trailers or wrappings is read in one pass.
 #[test]
-fn long_subjects_are_read_in_a_moment(rt: HostRuntime) -> Result<(), Fail> {
-    let rows: [(&[u8], &[u8], &[u8]); 9] = [
-        (b"[a]", b"", b"[a]"),
-        (b"Re: ", b"", b""),
-        (b"[a]Re[b]: ", b"", b""),
-        (b"", b"(fwd)", b""),
-        (b"", b" (fwd) ", b""),
-        (b"[fwd:", b"]", b""),
-        (b"[fwd: [a]Re: ", b" (fwd)]", b""),
-        (b"[a][b] ", b"(fwd)", b"[b]"),
-        (b"\t [a]\t ", b"", b"[a]"),
-    ];
-    for row in rows {
-        let text = nested(rt.alloc(), row.0, row.1, 100000)?;
-        let base = base_subject(rt.alloc(), text.as_slice())?;
-        assert_eq!(rt; base.as_slice(), row.2);
+fn long_subjects_are_read_in_a_moment(rt: HostRuntime) {
+    for row in LONG.iter() {
+        let text = nested(&rt, rt.alloc(), row.0, row.1, 100000);
+        expect_base(&rt, rt.alloc(), text.as_slice(), row.2);
     }
-    let open = nested(rt.alloc(), b"[", b"", 1000000)?;
+}
+
+/// A megabyte that opens, and one of blobs before a text.
+#[test]
+fn long_subjects_that_stay(rt: HostRuntime) {
+    let open = nested(&rt, rt.alloc(), b"[", b"", 1000000);
     assert_eq!(rt; base_of(open.as_slice()), open.as_slice());
-    let blobs = nested(rt.alloc(), b"[a]", b"x", 200000)?;
+    let blobs = nested(&rt, rt.alloc(), b"[a]", b"x", 200000);
     assert_eq!(rt; base_of(blobs.as_slice()).len(), 200000);
-    Ok(())
 }

@@ -1,9 +1,8 @@
 //! Touches at random, and the answers of a slow program that goes by the definition alone.
 use change_list::{ChangeList, Changes, Entry, Kind, SinceError, WINDOW};
 use gate_world::Listed;
-use std::alloc::{AllocError, Global};
+use std::alloc::Global;
 use std::process::Abort;
-use std::test::Fail;
 
 /// The places at which an id was added and removed, the second 0 where it never was.
 #[derive(Clone, Copy)]
@@ -45,7 +44,7 @@ impl History {
     }
 
     /// Adds one id in eight, removes one in eight, and else changes one.
-    fn next_touch(&mut self) -> Result<Entry, AllocError> {
+    fn next_touch(&mut self, rt: &impl Abort) -> Entry {
         let chance = self.random();
         let place = self.touches.len().wrapping_add(1);
         let mut entry = Entry {
@@ -55,11 +54,12 @@ impl History {
         };
         let count = self.present.len();
         if count == 0 || chance % 8 == 0 {
-            self.present.push(self.lives.len())?;
-            self.lives.push(Life {
+            self.present.push(self.lives.len()).expect(rt, "memory");
+            let life = Life {
                 added: place,
                 removed: 0,
-            })?;
+            };
+            self.lives.push(life).expect(rt, "memory");
         } else {
             let at = chance / 8 % count;
             let id = self.present[at];
@@ -75,8 +75,8 @@ impl History {
                 }
             }
         }
-        self.touches.push(entry)?;
-        Ok(entry)
+        self.touches.push(entry).expect(rt, "memory");
+        entry
     }
 }
 
@@ -112,94 +112,138 @@ fn reach(after: &[Entry], max: Option<u64>) -> usize {
     }
 }
 
-/// The answer by the definition.
-#[derive(Drop)]
-struct Plain {
-    to: usize,
-    created: Vec<u64>,
-    updated: Vec<u64>,
-    destroyed: Vec<u64>,
-    counts_only: bool,
-}
-
 /// For each id whether it is touched.
-fn touched_ids(alloc: Global, touches: &[Entry], count: usize) -> Result<Vec<bool>, AllocError> {
-    let mut touched = vec![in alloc; false; count]?;
+fn touched_ids(rt: &impl Abort, alloc: Global, touches: &[Entry], count: usize) -> Vec<bool> {
+    let mut touched = vec![in alloc; false; count].expect(rt, "memory");
     for touch in touches {
         if let Some(is_touched) = touched.get_mut(touch.id as usize) {
             *is_touched = true;
         }
     }
-    Ok(touched)
+    touched
 }
 
-fn changes_by_definition(
-    alloc: Global,
-    history: &History,
-    place: usize,
-    max: Option<u64>,
-) -> Result<Plain, AllocError> {
+/// Two places of a history, the later one that of the answer, and for each id whether it is touched between them.
+#[derive(Drop)]
+struct Span<'a> {
+    lives: &'a [Life],
+    from: usize,
+    to: usize,
+    touched: Vec<bool>,
+}
+
+/// Whether an id is there at the first place and at the last.
+type Presence = (bool, bool);
+
+impl Span<'_> {
+    /// The ids of this presence; of those that are there at both places, the ones that are touched.
+    fn ids(&self, rt: &impl Abort, alloc: Global, wanted: Presence) -> Vec<u64> {
+        let mut ids = Vec::new(alloc);
+        for (id, life) in self.lives.iter().enumerate() {
+            let presence = (life.is_there_at(self.from), life.is_there_at(self.to));
+            let is_told = presence != (true, true) || self.touched.get(id) == Some(&true);
+            if presence == wanted && is_told {
+                ids.push(id as u64).expect(rt, "memory");
+            }
+        }
+        ids
+    }
+}
+
+/// The touches that an answer tells.
+fn taken(history: &History, place: usize, max: Option<u64>) -> &[Entry] {
     let (_, after) = history.touches.split_at(history.touches.len().min(place));
     let (taken, _) = after.split_at(after.len().min(reach(after, max)));
-    let touched = touched_ids(alloc, taken, history.lives.len())?;
-    let to = place.saturating_add(taken.len());
-    let mut created = Vec::new(alloc);
-    let mut updated = Vec::new(alloc);
-    let mut destroyed = Vec::new(alloc);
-    for (id, life) in history.lives.iter().enumerate() {
-        let is_touched = touched.get(id) == Some(&true);
-        match (life.is_there_at(place), life.is_there_at(to)) {
-            (false, true) => created.push(id as u64)?,
-            (true, false) => destroyed.push(id as u64)?,
-            (true, true) if is_touched => updated.push(id as u64)?,
-            _ => {}
-        }
-    }
-    let counts_only = taken
-        .iter()
-        .all(|touch| touch.counts_only || !updated.contains(&touch.id));
-    Ok(Plain {
-        to,
-        counts_only: counts_only && !updated.is_empty(),
-        created,
-        updated,
-        destroyed,
-    })
+    taken
 }
 
-fn compare(
+fn span_of<'a>(
     rt: &impl Abort,
     alloc: Global,
-    list: &ChangeList,
+    history: &'a History,
+    place: usize,
+    taken: &[Entry],
+) -> Span<'a> {
+    Span {
+        lives: history.lives.as_slice(),
+        from: place,
+        to: place.saturating_add(taken.len()),
+        touched: touched_ids(rt, alloc, taken, history.lives.len()),
+    }
+}
+
+/// Whether there are updates, and all of them are of counts alone.
+fn counts_only(taken: &[Entry], updated: &[u64]) -> bool {
+    let each = taken
+        .iter()
+        .all(|touch| touch.counts_only || !updated.contains(&touch.id));
+    each && !updated.is_empty()
+}
+
+/// Compares an answer with the definition's.
+fn compare_changes(
+    rt: &impl Abort,
+    alloc: Global,
+    changes: &Changes,
+    span: &Span<'_>,
+    taken: &[Entry],
+) {
+    let place = span.from;
+    assert_eq!(rt; changes.to, span.to as u64, "from {place}");
+    let created = span.ids(rt, alloc, (false, true));
+    assert_eq!(rt;
+        changes.created.as_slice(),
+        created.as_slice(),
+        "created from {place}"
+    );
+    let updated = span.ids(rt, alloc, (true, true));
+    assert_eq!(rt;
+        changes.updated.as_slice(),
+        updated.as_slice(),
+        "updated from {place}"
+    );
+    let destroyed = span.ids(rt, alloc, (true, false));
+    assert_eq!(rt;
+        changes.destroyed.as_slice(),
+        destroyed.as_slice(),
+        "destroyed from {place}"
+    );
+    assert_eq!(rt;
+        changes.counts_only,
+        counts_only(taken, &updated),
+        "counts from {place}"
+    );
+}
+
+/// The most ids of an answer.
+const MOST: [Option<u64>; 4] = [None, Some(1), Some(2), Some(7)];
+
+fn compare(rt: &impl Abort, alloc: Global, list: &ChangeList, history: &History, place: usize) {
+    for max in MOST.iter() {
+        let changes = list.since(place as u64, *max).expect(rt, "changes");
+        let taken = taken(history, place, *max);
+        let span = span_of(rt, alloc, history, place, taken);
+        compare_changes(rt, alloc, &changes, &span, taken);
+    }
+}
+
+/// The ids that are touched from a place on, and whether each was there at it.
+fn touched_since(
+    rt: &impl Abort,
+    alloc: Global,
     history: &History,
     place: usize,
-) -> Result<(), Fail> {
-    for max in [None, Some(1), Some(2), Some(7)] {
-        let changes = list.since(place as u64, max)?;
-        let plain = changes_by_definition(alloc, history, place, max)?;
-        assert_eq!(rt; changes.to, plain.to as u64, "from {place}");
-        assert_eq!(rt;
-            changes.created.as_slice(),
-            plain.created.as_slice(),
-            "created from {place}"
-        );
-        assert_eq!(rt;
-            changes.updated.as_slice(),
-            plain.updated.as_slice(),
-            "updated from {place}"
-        );
-        assert_eq!(rt;
-            changes.destroyed.as_slice(),
-            plain.destroyed.as_slice(),
-            "destroyed from {place}"
-        );
-        assert_eq!(rt;
-            changes.counts_only,
-            plain.counts_only,
-            "counts from {place}"
-        );
+) -> Vec<(u64, bool)> {
+    let (_, after) = history.touches.split_at(history.touches.len().min(place));
+    let touched = touched_ids(rt, alloc, after, history.lives.len());
+    let mut ids = Vec::new(alloc);
+    for (id, life) in history.lives.iter().enumerate() {
+        if touched.get(id) == Some(&true) {
+            ids.push((id as u64, life.is_there_at(place)))
+                .expect(rt, "memory");
+        }
     }
-    Ok(())
+    ids
 }
 
 fn compare_touched(
@@ -208,60 +252,57 @@ fn compare_touched(
     list: &ChangeList,
     history: &History,
     place: usize,
-) -> Result<(), Fail> {
-    let (_, after) = history.touches.split_at(history.touches.len().min(place));
-    let touched = touched_ids(alloc, after, history.lives.len())?;
-    let mut plain = Vec::new(alloc);
-    for (id, life) in history.lives.iter().enumerate() {
-        if touched.get(id) == Some(&true) {
-            plain.push((id as u64, life.is_there_at(place)))?;
-        }
-    }
-    let told = list.touched(place as u64)?;
-    assert_eq!(rt; told.as_slice(), plain.as_slice(), "touched from {place}");
-    Ok(())
+) {
+    let wanted = touched_since(rt, alloc, history, place);
+    let told = list.touched(place as u64).expect(rt, "touched ids");
+    assert_eq!(rt; told.as_slice(), wanted.as_slice(), "touched from {place}");
 }
 
-fn compare_all(
-    rt: &impl Abort,
-    alloc: Global,
-    list: &ChangeList,
-    history: &History,
-) -> Result<(), Fail> {
+fn expect_refused(rt: &impl Abort, list: &ChangeList, place: usize, wanted: SinceError) {
+    for max in [None, Some(1)] {
+        let refused = list.since(place as u64, max).err();
+        assert_eq!(rt; refused, Some(wanted), "from {place}");
+    }
+}
+
+fn compare_at(rt: &impl Abort, alloc: Global, list: &ChangeList, history: &History, place: usize) {
     let end = history.touches.len();
     let front = end.saturating_sub(8192);
-    for at in 0..202usize {
-        let place = at * 100;
-        if place < front {
-            let refused = list.since(place as u64, None).err();
-            let want = SinceError::BeforeFront {
-                front: front as u64,
-            };
-            assert_eq!(rt; refused, Some(want), "from {place}");
-        } else if end < place {
-            let refused = list.since(place as u64, Some(1)).err();
-            let want = SinceError::AfterEnd { place: end as u64 };
-            assert_eq!(rt; refused, Some(want), "from {place}");
-        } else {
-            compare(rt, alloc, list, history, place)?;
-            compare_touched(rt, alloc, list, history, place)?;
-        }
+    if place < front {
+        let front = front as u64;
+        expect_refused(rt, list, place, SinceError::BeforeFront { front });
+    } else if end < place {
+        let place_of_end = end as u64;
+        expect_refused(
+            rt,
+            list,
+            place,
+            SinceError::AfterEnd {
+                place: place_of_end,
+            },
+        );
+    } else {
+        compare(rt, alloc, list, history, place);
+        compare_touched(rt, alloc, list, history, place);
     }
-    Ok(())
+}
+
+fn touch_more(rt: &impl Abort, list: &mut ChangeList, history: &mut History, more: u32) {
+    for _ in 0..more {
+        let entry = history.next_touch(rt);
+        assert!(rt; list.place() < 20_000);
+        list.touch(entry);
+    }
 }
 
 #[test]
-fn random_touches_agree_with_the_definition(rt: HostRuntime) -> Result<(), Fail> {
-    let alloc = rt.alloc();
-    let mut list = ChangeList::new(alloc)?;
-    let mut history = History::new(alloc, 31);
+fn random_touches_agree_with_the_definition(rt: HostRuntime) {
+    let mut list = ChangeList::new(rt.alloc()).expect(&rt, "memory");
+    let mut history = History::new(rt.alloc(), 31);
     for more in [6_000, 14_000] {
-        for _ in 0..more {
-            let entry = history.next_touch()?;
-            assert!(rt; list.place() < 20_000);
-            list.touch(entry);
+        touch_more(&rt, &mut list, &mut history, more);
+        for at in 0..202usize {
+            compare_at(&rt, rt.alloc(), &list, &history, at * 100);
         }
-        compare_all(&rt, alloc, &list, &history)?;
     }
-    Ok(())
 }

@@ -2,7 +2,8 @@
 use gate_world::{Bytes, Listed};
 use imap_commands::Command;
 use imap_grammar::{Response, Scan, decode, scan};
-use std::alloc::{AllocError, Global};
+use std::alloc::Global;
+use std::process::Abort;
 use told_mail::Exchange;
 
 /// What the store is asked.
@@ -16,11 +17,11 @@ pub(crate) enum Asked<'a> {
     Unselect,
 }
 
-fn command_of(alloc: Global, asked: Asked<'_>) -> Result<Command, AllocError> {
-    let command = match asked {
+fn command_of(rt: &impl Abort, alloc: Global, asked: Asked<'_>) -> Command {
+    match asked {
         Asked::List => Command::List,
         Asked::Select(name) => Command::Select {
-            name: Bytes::copy_of(alloc, name)?,
+            name: Bytes::copy_of(alloc, name).expect(rt, "memory"),
             known: None,
         },
         Asked::Flags => Command::FetchFlags,
@@ -31,48 +32,51 @@ fn command_of(alloc: Global, asked: Asked<'_>) -> Result<Command, AllocError> {
         },
         Asked::New(from) => Command::FetchNew { from, modseq: true },
         Asked::Unselect => Command::Unselect,
-    };
-    Ok(command)
-}
-
-/// The response at the front, and what follows it.
-fn read(alloc: Global, octets: &[u8]) -> Result<Option<(Response, &[u8])>, AllocError> {
-    match scan(octets) {
-        Scan::Whole(n) => {
-            let (front, rest) = octets.split_at(n);
-            let response = decode(alloc, front)?;
-            Ok(Some((response, rest)))
-        }
-        _ => Ok(None),
     }
 }
 
-/// The exchange that these octets complete, with the folder that was selected before it; none where they complete none.
+/// How many octets the response at the front has, and the response; none where there is no whole one.
+fn read(rt: &impl Abort, alloc: Global, octets: &[u8]) -> Option<(usize, Response)> {
+    match scan(octets) {
+        Scan::Whole(n) => {
+            let (front, _) = octets.split_at(n);
+            Some((n, decode(alloc, front).expect(rt, "memory")))
+        }
+        _ => None,
+    }
+}
+
+/// The responses in these octets.
+fn responses(rt: &impl Abort, alloc: Global, octets: &[u8]) -> Vec<Response> {
+    let mut responses = Vec::new(alloc);
+    let mut rest = octets;
+    for _ in 0..octets.len() {
+        let Some((len, response)) = read(rt, alloc, rest) else {
+            return responses;
+        };
+        responses.push(response).expect(rt, "memory");
+        rest = rest.get(len..).unwrap_or(&[]);
+    }
+    responses
+}
+
+/// The exchange that these octets complete, with the folder that was selected before it.
 pub(crate) fn exchange(
+    rt: &impl Abort,
     alloc: Global,
     asked: Asked<'_>,
     selected: &[u8],
     octets: &[u8],
-) -> Result<Option<Exchange>, AllocError> {
-    let mut responses = Vec::new(alloc);
-    let mut rest = octets;
-    for _ in 0..octets.len() {
-        match read(alloc, rest)? {
-            None => return Ok(None),
-            Some((Response::Tagged { status, code, .. }, _)) => {
-                return Ok(Some(Exchange {
-                    command: command_of(alloc, asked)?,
-                    selected: Some(Bytes::copy_of(alloc, selected)?),
-                    responses: Listed::from_vec(responses),
-                    status,
-                    code,
-                }));
-            }
-            Some((response, after)) => {
-                responses.push(response)?;
-                rest = after;
-            }
-        }
+) -> Exchange {
+    let mut responses = responses(rt, alloc, octets);
+    let Some(Response::Tagged { status, code, .. }) = responses.pop() else {
+        panic!(rt; "no tagged response ends {octets:?}");
+    };
+    Exchange {
+        command: command_of(rt, alloc, asked),
+        selected: Some(Bytes::copy_of(alloc, selected).expect(rt, "memory")),
+        responses: Listed::from_vec(responses),
+        status,
+        code,
     }
-    Ok(None)
 }

@@ -14,6 +14,8 @@ mod session;
 #[cfg(test)]
 mod showing;
 #[cfg(test)]
+mod single_exchanges;
+#[cfg(test)]
 mod told_exchanges;
 #[cfg(test)]
 mod whole_folders;

@@ -4,7 +4,7 @@ use gate_world::{Bytes, Event};
 use imap_client::{Client, LinkEnd};
 use scripted_world::{Script, ScriptWorld};
 use std::alloc::Global;
-use std::test::Fail;
+use std::process::Abort;
 use told_mail::Mirror;
 
 /// The most octets that one read gives.
@@ -42,103 +42,140 @@ pub(crate) fn plain<'a>(links: &'a [&'a [u8]]) -> Lives<'a> {
     }
 }
 
-fn world_of(alloc: Global, lives: &Lives<'_>) -> Result<ScriptWorld, Fail> {
-    let mut script = Script::new(alloc)?
-        .with_secrets(lives.password, b"")?
+/// The script of these lives without what the store gives.
+fn script_of(rt: &impl Abort, alloc: Global, lives: &Lives<'_>) -> Script {
+    Script::new(alloc)
+        .expect(rt, "memory")
+        .with_secrets(lives.password, b"")
+        .expect(rt, "memory")
         .in_pieces(lives.piece)
-        .failing(lives.failing)?;
-    for link in lives.links {
-        script = script.with_link(link)?;
-    }
-    Ok(ScriptWorld::new(alloc, script))
+        .failing(lives.failing)
+        .expect(rt, "memory")
 }
 
-fn put_end(alloc: Global, answers: &mut String, done: Result<(), LinkEnd>) -> Result<(), Fail> {
+fn world_of(rt: &impl Abort, alloc: Global, lives: &Lives<'_>) -> ScriptWorld {
+    let mut script = script_of(rt, alloc, lives);
+    for link in lives.links {
+        script = script.with_link(link).expect(rt, "memory");
+    }
+    ScriptWorld::new(alloc, script)
+}
+
+fn put(rt: &impl Abort, answers: &mut String, text: &str) {
+    answers.push_str(text).expect(rt, "memory");
+}
+
+fn put_end(rt: &impl Abort, alloc: Global, answers: &mut String, done: Result<(), LinkEnd>) {
     match done {
-        Ok(()) => answers.push_str("ok ")?,
+        Ok(()) => put(rt, answers, "ok "),
         Err(end) => {
-            let text = format!(in alloc; "{end:?} ")?;
-            answers.push_str(&text)?;
+            let text = format!(in alloc; "{end:?} ").expect(rt, "memory");
+            put(rt, answers, &text);
         }
     }
-    Ok(())
 }
 
-fn put_body(alloc: Global, answers: &mut String, done: Result<Bytes, LinkEnd>) -> Result<(), Fail> {
+fn put_body(rt: &impl Abort, alloc: Global, answers: &mut String, done: Result<Bytes, LinkEnd>) {
     match done {
         Ok(body) => {
-            let text = format!(in alloc; "{} octets ", body.as_slice().len())?;
-            answers.push_str(&text)?;
+            let octets = body.as_slice().len();
+            let text = format!(in alloc; "{octets} octets ").expect(rt, "memory");
+            put(rt, answers, &text);
         }
-        Err(end) => {
-            put_end(alloc, answers, Err(end))?;
-        }
+        Err(end) => put_end(rt, alloc, answers, Err(end)),
     }
-    Ok(())
+}
+
+fn put_taken(rt: &impl Abort, took: &mut Vec<u8>, event: &Event) {
+    match event {
+        Event::StoreTook(octets) => took
+            .extend_from_slice(octets.as_slice())
+            .expect(rt, "memory"),
+        Event::LinkEnded => took.push(b'|').expect(rt, "memory"),
+        _ => {}
+    }
 }
 
 /// What the store took.
-fn taken(alloc: Global, world: &ScriptWorld) -> Result<Vec<u8>, Fail> {
+fn taken(rt: &impl Abort, alloc: Global, world: &ScriptWorld) -> Vec<u8> {
     let mut took = Vec::new(alloc);
-    for event in world.events().ok_or("the tape is not told")? {
-        match event {
-            Event::StoreTook(octets) => took.extend_from_slice(octets.as_slice())?,
-            Event::LinkEnded => took.push(b'|')?,
-            _ => {}
-        }
+    for event in world.events().expect(rt, "a tape") {
+        put_taken(rt, &mut took, event);
     }
-    Ok(took)
+    took
 }
 
-/// Leaves the life that there is, connects, does a round, and fetches the body where one is asked.
-fn live(
+/// Leaves the life that there is, and connects.
+fn connect(
+    rt: &impl Abort,
+    alloc: Global,
+    world: &mut ScriptWorld,
+    client: &mut Client,
+    user: &[u8],
+    answers: &mut String,
+) {
+    client.leave(world);
+    let connected = client.connect(world, user);
+    put_end(rt, alloc, answers, connected);
+}
+
+/// Fetches the body, where the client is alive.
+fn fetch(
+    rt: &impl Abort,
     alloc: Global,
     world: &mut ScriptWorld,
     client: &mut Client,
     mirror: &mut Mirror,
-    lives: &Lives<'_>,
+    body: (u64, u32),
     answers: &mut String,
-) -> Result<(), Fail> {
-    client.leave(world);
-    let connected = client.connect(world, lives.user);
-    put_end(alloc, answers, connected)?;
-    if !client.alive() {
-        return Ok(());
+) {
+    if client.alive() {
+        let body = client.fetch_body(world, mirror, body.0, body.1);
+        put_body(rt, alloc, answers, body);
     }
-    let done = client.round(world, mirror);
-    put_end(alloc, answers, done)?;
-    if lives.body.1 == 0 {
-        return Ok(());
+}
+
+/// Does a round, where the client is alive, and fetches the body where one is asked.
+fn go_round(
+    rt: &impl Abort,
+    alloc: Global,
+    world: &mut ScriptWorld,
+    client: &mut Client,
+    mirror: &mut Mirror,
+    body: (u64, u32),
+    answers: &mut String,
+) {
+    if client.alive() {
+        let done = client.round(world, mirror);
+        put_end(rt, alloc, answers, done);
+        if body.1 != 0 {
+            fetch(rt, alloc, world, client, mirror, body, answers);
+        }
     }
-    if !client.alive() {
-        return Ok(());
-    }
-    let body = client.fetch_body(world, mirror, lives.body.0, lives.body.1);
-    put_body(alloc, answers, body)
 }
 
 /// One life after another over one mirror.
-pub(crate) fn play(alloc: Global, lives: &Lives<'_>) -> Result<Played, Fail> {
-    let mut world = world_of(alloc, lives)?;
+pub(crate) fn play(rt: &impl Abort, alloc: Global, lives: &Lives<'_>) -> Played {
+    let mut world = world_of(rt, alloc, lives);
     let mut client = Client::new(alloc);
     let mut mirror = Mirror::new(alloc);
     let mut answers = String::new(alloc);
     for _ in 0..lives.links.len() {
-        live(
+        connect(rt, alloc, &mut world, &mut client, lives.user, &mut answers);
+        go_round(
+            rt,
             alloc,
             &mut world,
             &mut client,
             &mut mirror,
-            lives,
+            lives.body,
             &mut answers,
-        )?;
+        );
     }
     client.leave(&mut world);
-    let mail = shown(alloc, &mirror)?;
-    let took = taken(alloc, &world)?;
-    Ok(Played {
+    Played {
         answers,
-        took,
-        mail,
-    })
+        took: taken(rt, alloc, &world),
+        mail: shown(rt, alloc, &mirror),
+    }
 }

@@ -1,11 +1,10 @@
 // Rounds over one mirror, life after life.
 use crate::playing::{Lives, PIECES, plain, play};
-use std::alloc::{AllocError, Global};
+use std::alloc::Global;
 use std::process::Abort;
-use std::test::Fail;
 
 /// What a store gives up to the end of `connect`.
-const CONNECTED: &[u8] =
+pub(crate) const CONNECTED: &[u8] =
     b"* OK hi\r\n* CAPABILITY IMAP4rev2 QRESYNC\r\na1 OK done\r\na2 OK in\r\n* CAPABILITY IMAP4rev2 QRESYNC\r\na3 OK done\r\n* ENABLED X-OTHER qresync\r\na4 OK on\r\n";
 
 const CONNECTING: &[u8] =
@@ -21,7 +20,7 @@ type Row = (
     &'static [u8],
 );
 
-const ROUNDS: [Row; 21] = [
+const ROUNDS: [Row; 24] = [
     // an empty folder
     (
         &[
@@ -162,6 +161,34 @@ const ROUNDS: [Row; 21] = [
         b"a5 LIST \"\" \"*\" RETURN (SUBSCRIBED)\r\na6 SELECT \"INBOX\"\r\na7 UID FETCH 1:* (UID FLAGS)\r\n|",
         b"1 INBOX 5 0 1:;",
     ),
+    (
+        &[
+            b"* LIST () \"/\" INBOX\r\na5 OK x\r\n* OK [UIDVALIDITY 7] x\r\n* OK [HIGHESTMODSEQ 4] x\r\na6 OK x\r\na7 NO x\r\n",
+        ],
+        (1, 0),
+        "ok Refused ",
+        b"a5 LIST \"\" \"*\" RETURN (SUBSCRIBED)\r\na6 SELECT \"INBOX\"\r\na7 UID FETCH 1:* (UID FLAGS MODSEQ INTERNALDATE RFC822.SIZE BODY.PEEK[HEADER]<0.32768>)\r\n|",
+        b"1 INBOX 7 4 1:;",
+    ),
+    // a refusal of the body, and of its folder
+    (
+        &[
+            b"* LIST () \"/\" INBOX\r\na5 OK x\r\n* OK [UIDVALIDITY 7] x\r\n* OK [HIGHESTMODSEQ 4] x\r\na6 OK x\r\na7 OK x\r\na8 NO x\r\n",
+        ],
+        (1, 4),
+        "ok ok Refused ",
+        b"a5 LIST \"\" \"*\" RETURN (SUBSCRIBED)\r\na6 SELECT \"INBOX\"\r\na7 UID FETCH 1:* (UID FLAGS MODSEQ INTERNALDATE RFC822.SIZE BODY.PEEK[HEADER]<0.32768>)\r\na8 UID FETCH 4 (UID BODY.PEEK[]<0.50000000>)\r\n|",
+        b"1 INBOX 7 4 1:;",
+    ),
+    (
+        &[
+            b"* LIST () \"/\" INBOX\r\n* LIST () \"/\" b\r\na5 OK x\r\n* OK [UIDVALIDITY 7] x\r\n* OK [HIGHESTMODSEQ 4] x\r\na6 OK x\r\na7 OK x\r\n* OK [CLOSED] x\r\n* OK [UIDVALIDITY 8] x\r\n* OK [HIGHESTMODSEQ 5] x\r\na8 OK x\r\na9 OK x\r\na10 NO x\r\n",
+        ],
+        (1, 4),
+        "ok ok Refused ",
+        b"a5 LIST \"\" \"*\" RETURN (SUBSCRIBED)\r\na6 SELECT \"INBOX\"\r\na7 UID FETCH 1:* (UID FLAGS MODSEQ INTERNALDATE RFC822.SIZE BODY.PEEK[HEADER]<0.32768>)\r\na8 SELECT \"b\"\r\na9 UID FETCH 1:* (UID FLAGS MODSEQ INTERNALDATE RFC822.SIZE BODY.PEEK[HEADER]<0.32768>)\r\na10 SELECT \"INBOX\" (QRESYNC (7 4))\r\n|",
+        b"1 INBOX 7 4 1:;2 b 8 5 1:;",
+    ),
     // no folder
     (
         &[b"a5 OK x\r\n"],
@@ -226,51 +253,56 @@ const ROUNDS: [Row; 21] = [
     ),
 ];
 
-fn joined(alloc: Global, first: &[u8], rest: &[u8]) -> Result<Vec<u8>, AllocError> {
-    let mut octets = first.to_vec(alloc)?;
-    octets.extend_from_slice(rest)?;
-    Ok(octets)
+fn joined(rt: &impl Abort, alloc: Global, first: &[u8], rest: &[u8]) -> Vec<u8> {
+    let mut octets = first.to_vec(alloc).expect(rt, "memory");
+    octets.extend_from_slice(rest).expect(rt, "memory");
+    octets
 }
 
 /// These lives have these answers and leave this mail, and this is the last that the store takes.
-fn expect_lives(
-    rt: &impl Abort,
-    alloc: Global,
-    lives: &Lives<'_>,
-    row: &Row,
-    last: &[u8],
-) -> Result<(), Fail> {
-    let played = play(alloc, lives)?;
+fn expect_lives(rt: &impl Abort, alloc: Global, lives: &Lives<'_>, row: &Row) {
+    let played = play(rt, alloc, lives);
     assert_eq!(rt; played.answers.as_str(), row.2);
     assert_eq!(rt; played.mail.as_slice(), row.4, "{}", row.2);
-    assert!(rt; played.took.ends_with(last), "{}", row.2);
-    Ok(())
+    let last = joined(rt, alloc, CONNECTING, row.3);
+    assert!(rt; played.took.ends_with(&last), "{}", row.2);
 }
 
-fn expect_round(rt: &impl Abort, alloc: Global, row: &Row, piece: usize) -> Result<(), Fail> {
+/// What a store gives in each life.
+fn texts_of(rt: &impl Abort, alloc: Global, row: &Row) -> Vec<Vec<u8>> {
     let mut texts = Vec::new(alloc);
     for life in row.0 {
-        texts.push(joined(alloc, CONNECTED, life)?)?;
+        texts
+            .push(joined(rt, alloc, CONNECTED, life))
+            .expect(rt, "memory");
     }
-    let mut links = Vec::new(alloc);
-    for text in &texts {
-        links.push(text.as_slice())?;
+    texts
+}
+
+fn slices_of<'a>(rt: &impl Abort, alloc: Global, texts: &'a [Vec<u8>]) -> Vec<&'a [u8]> {
+    let mut slices = Vec::new(alloc);
+    for text in texts {
+        slices.push(text.as_slice()).expect(rt, "memory");
     }
-    let last = joined(alloc, CONNECTING, row.3)?;
-    let mut lives = plain(&links);
-    lives.piece = piece;
-    lives.body = row.1;
-    expect_lives(rt, alloc, &lives, row, &last)
+    slices
+}
+
+fn expect_round(rt: &impl Abort, alloc: Global, links: &[&[u8]], row: &Row) {
+    for piece in PIECES.iter() {
+        let mut lives = plain(links);
+        lives.piece = *piece;
+        lives.body = row.1;
+        expect_lives(rt, alloc, &lives, row);
+    }
 }
 
 #[test]
-fn rounds_in_any_pieces(rt: HostRuntime) -> Result<(), Fail> {
+fn rounds_in_any_pieces(rt: HostRuntime) {
     for row in ROUNDS.iter() {
-        for piece in PIECES {
-            expect_round(&rt, rt.alloc(), row, piece)?;
-        }
+        let texts = texts_of(&rt, rt.alloc(), row);
+        let links = slices_of(&rt, rt.alloc(), &texts);
+        expect_round(&rt, rt.alloc(), &links, row);
     }
-    Ok(())
 }
 
 /// One life over two folders, exchange by exchange, with the mail that is told after each.
@@ -309,87 +341,79 @@ const FRESH: &[u8] = b"1 INBOX\\subscribed 7 4 5: 1#1\\seen 4#2;2 b 9 0 8: 7#3\\
 fn told_after(count: usize) -> &'static [u8] {
     let mut mail: &'static [u8] = b"";
     let mut end: usize = 0;
-    for (octets, after) in LIFE {
-        end = end.saturating_add(octets.len());
+    for row in LIFE.iter() {
+        end = end.saturating_add(row.0.len());
         if end <= count {
-            mail = after;
+            mail = row.1;
         }
     }
     mail
 }
 
-fn whole_life(alloc: Global) -> Result<Vec<u8>, AllocError> {
+fn whole_life(rt: &impl Abort, alloc: Global) -> Vec<u8> {
     let mut whole = Vec::new(alloc);
-    for (octets, _) in LIFE {
-        whole.extend_from_slice(octets)?;
+    for row in LIFE.iter() {
+        whole.extend_from_slice(row.0).expect(rt, "memory");
     }
-    Ok(whole)
+    whole
 }
 
 /// The mail that these lives leave.
-fn expect_mail(
-    rt: &impl Abort,
-    alloc: Global,
-    links: &[&[u8]],
-    mail: &[u8],
-    count: usize,
-) -> Result<(), Fail> {
-    let played = play(alloc, &plain(links))?;
+fn expect_mail(rt: &impl Abort, alloc: Global, links: &[&[u8]], mail: &[u8], count: usize) {
+    let played = play(rt, alloc, &plain(links));
     assert_eq!(rt; played.mail.as_slice(), mail, "{count}");
-    Ok(())
 }
 
 /// A life that is cut after `count` octets leaves what its exchanges told, and one after it the same mail as a fresh one.
-fn expect_cut(rt: &impl Abort, alloc: Global, whole: &[u8], count: usize) -> Result<(), Fail> {
-    if whole.len() < count {
-        return Ok(());
-    }
-    let (cut, _) = whole.split_at(count);
-    expect_mail(rt, alloc, &[cut], told_after(count), count)?;
-    expect_mail(rt, alloc, &[cut, whole], FRESH, count)
+fn expect_cut(rt: &impl Abort, alloc: Global, whole: &[u8], count: usize) {
+    let (cut, _) = whole.split_at(count.min(whole.len()));
+    expect_mail(rt, alloc, &[cut], told_after(count), count);
+    expect_mail(rt, alloc, &[cut, whole], FRESH, count);
 }
 
 #[test]
-fn a_life_cut_at_each_octet(rt: HostRuntime) -> Result<(), Fail> {
-    let whole = whole_life(rt.alloc())?;
+fn a_life_cut_at_each_octet(rt: HostRuntime) {
+    let whole = whole_life(&rt, rt.alloc());
     for count in 0..whole.len() {
-        expect_cut(&rt, rt.alloc(), &whole, count)?;
+        expect_cut(&rt, rt.alloc(), &whole, count);
     }
-    Ok(())
 }
 
 /// The most octets that a read gives, and a number of calls of the outside that is greater than those of one life and less
 /// than those of two.
 const CALLS: [(usize, u64); 2] = [(100, 32), (100_000, 18)];
 
-/// Of three lives the last ends well, whichever call fails before.
-fn expect_failing(
-    rt: &impl Abort,
-    alloc: Global,
-    whole: &[u8],
-    failing: u64,
-    piece: usize,
-) -> Result<(), Fail> {
-    let links = [whole, whole, whole];
-    let mut lives = plain(&links);
-    lives.failing = failing;
+/// The play of these lives in which a call fails, in pieces.
+fn failing<'a>(links: &'a [&'a [u8]], piece: usize, call: u64) -> Lives<'a> {
+    let mut lives = plain(links);
     lives.piece = piece;
-    let played = play(alloc, &lives)?;
-    assert_eq!(rt; played.mail.as_slice(), FRESH, "{piece} {failing}");
-    assert!(rt;
-        played.answers.as_str().ends_with("ok ok "),
-        "{piece} {failing}"
-    );
-    Ok(())
+    lives.failing = call;
+    lives
+}
+
+/// Of three lives the last ends well, whichever call fails before.
+fn expect_failing(rt: &impl Abort, alloc: Global, lives: &Lives<'_>) {
+    let played = play(rt, alloc, lives);
+    let call = lives.failing;
+    assert_eq!(rt; played.mail.as_slice(), FRESH, "{call}");
+    assert!(rt; played.answers.as_str().ends_with("ok ok "), "{call}");
+}
+
+/// The call that fails is one of the second life.
+fn expect_past_a_life(rt: &impl Abort, alloc: Global, lives: &Lives<'_>) {
+    let played = play(rt, alloc, lives);
+    assert!(rt; played.answers.as_str().starts_with("ok ok "));
+    assert!(rt; played.answers.as_str() != "ok ok ok ok ok ok ");
 }
 
 #[test]
-fn each_call_of_the_outside_failing(rt: HostRuntime) -> Result<(), Fail> {
-    let whole = whole_life(rt.alloc())?;
-    for (piece, calls) in CALLS {
-        for failing in 1..calls {
-            expect_failing(&rt, rt.alloc(), &whole, failing, piece)?;
+fn each_call_of_the_outside_failing(rt: HostRuntime) {
+    let whole = whole_life(&rt, rt.alloc());
+    let links = [whole.as_slice(), whole.as_slice(), whole.as_slice()];
+    for row in CALLS.iter() {
+        for call in 1..row.1 {
+            expect_failing(&rt, rt.alloc(), &failing(&links, row.0, call));
         }
+        expect_past_a_life(&rt, rt.alloc(), &failing(&links, row.0, row.1));
     }
-    Ok(())
 }

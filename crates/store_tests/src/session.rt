@@ -2,7 +2,6 @@
 use crate::playing::{Lives, PIECES, plain, play};
 use std::alloc::Global;
 use std::process::Abort;
-use std::test::Fail;
 
 /// A user and a password.
 type Secrets = (&'static [u8], &'static [u8]);
@@ -225,56 +224,64 @@ const STARTS: [Row; 34] = [
 ];
 
 /// These lives have these answers, and the store takes these octets.
-fn expect_lives(
-    rt: &impl Abort,
-    alloc: Global,
-    lives: &Lives<'_>,
-    answers: &str,
-    took: &[u8],
-) -> Result<(), Fail> {
-    let played = play(alloc, lives)?;
+fn expect_lives(rt: &impl Abort, alloc: Global, lives: &Lives<'_>, answers: &str, took: &[u8]) {
+    let played = play(rt, alloc, lives);
     assert_eq!(rt; played.answers.as_str(), answers);
     assert_eq!(rt; played.took.as_slice(), took, "{answers}");
-    Ok(())
 }
 
-fn expect_start(rt: &impl Abort, alloc: Global, row: &Row, piece: usize) -> Result<(), Fail> {
+fn expect_start(rt: &impl Abort, alloc: Global, row: &Row, piece: usize) {
     let links = [row.0];
-    let lives = Lives {
-        links: &links,
-        user: row.1.0,
-        password: row.1.1,
-        piece,
-        failing: 0,
-        body: (1, 0),
-    };
-    expect_lives(rt, alloc, &lives, row.2, row.3)
+    let mut lives = plain(&links);
+    lives.user = row.1.0;
+    lives.password = row.1.1;
+    lives.piece = piece;
+    expect_lives(rt, alloc, &lives, row.2, row.3);
 }
 
 #[test]
-fn the_first_in_the_octets_decides(rt: HostRuntime) -> Result<(), Fail> {
+fn the_first_in_the_octets_decides(rt: HostRuntime) {
     for row in STARTS.iter() {
-        for piece in PIECES {
-            expect_start(&rt, rt.alloc(), row, piece)?;
+        for piece in PIECES.iter() {
+            expect_start(&rt, rt.alloc(), row, *piece);
         }
     }
-    Ok(())
 }
 
-/// What the store gives, the call that fails, the answers, and what the store took: what is held decides.
-type HeldRow = (&'static [u8], u64, &'static str, &'static [u8]);
+/// What the store gives, the user and the password, the call that fails, the answers, and what the store took: what is held
+/// decides.
+type HeldRow = (&'static [u8], Secrets, u64, &'static str, &'static [u8]);
 
-const HELD: [HeldRow; 10] = [
-    (b"* OK hi\r\na1 NO no\r\n", 3, "Refused ", b"|"),
-    (b"* OK hi\r\na1 OK no\r\n", 3, "Lost ", b"|"),
-    (b"* OK hi\r\n* BYE x\r\na1 NO no\r\n", 3, "Bye ", b"|"),
-    (b"* OK hi\r\na9 NO no\r\n", 3, "Stray ", b"|"),
-    (b"* OK hi\r\n*\r\na1 NO no\r\n", 3, "Bad { at: 9 } ", b"|"),
-    (b"* OK hi\r\n", 3, "Lost ", b"|"),
+const HELD: [HeldRow; 11] = [
+    (b"* OK hi\r\na1 NO no\r\n", ALICE, 3, "Refused ", b"|"),
+    (b"* OK hi\r\na1 OK no\r\n", ALICE, 3, "Lost ", b"|"),
+    (
+        b"* OK hi\r\n* BYE x\r\na1 NO no\r\n",
+        ALICE,
+        3,
+        "Bye ",
+        b"|",
+    ),
+    (b"* OK hi\r\na9 NO no\r\n", ALICE, 3, "Stray ", b"|"),
+    (
+        b"* OK hi\r\n*\r\na1 NO no\r\n",
+        ALICE,
+        3,
+        "Bad { at: 9 } ",
+        b"|",
+    ),
+    (b"* OK hi\r\n", ALICE, 3, "Lost ", b"|"),
     // after a NO nothing decides
-    (b"* OK hi\r\na1 NO no\r\n* BYE x\r\n", 3, "Refused ", b"|"),
+    (
+        b"* OK hi\r\na1 NO no\r\n* BYE x\r\n",
+        ALICE,
+        3,
+        "Refused ",
+        b"|",
+    ),
     (
         b"* OK hi\r\na1 BAD no\r\na9 OK x\r\n*\r\n",
+        ALICE,
         3,
         "Refused ",
         b"|",
@@ -282,29 +289,40 @@ const HELD: [HeldRow; 10] = [
     // the write of the second command fails
     (
         b"* OK hi\r\na1 OK x\r\na2 NO no\r\n",
+        ALICE,
         4,
         "Refused ",
         b"a1 CAPABILITY\r\n|",
     ),
     (
         b"* OK hi\r\na1 OK x\r\na2 OK no\r\n",
+        ALICE,
         4,
         "Lost ",
         b"a1 CAPABILITY\r\n|",
     ),
+    // an OK came before the literal was asked for
+    (
+        b"* OK hi\r\na1 OK x\r\na2 OK early\r\n",
+        (b"al\x80ce", b"pw"),
+        4,
+        "Stray ",
+        b"a1 CAPABILITY\r\n|",
+    ),
 ];
 
-fn expect_held(rt: &impl Abort, alloc: Global, row: &HeldRow) -> Result<(), Fail> {
+fn expect_held(rt: &impl Abort, alloc: Global, row: &HeldRow) {
     let links = [row.0];
     let mut lives = plain(&links);
-    lives.failing = row.1;
-    expect_lives(rt, alloc, &lives, row.2, row.3)
+    lives.user = row.1.0;
+    lives.password = row.1.1;
+    lives.failing = row.2;
+    expect_lives(rt, alloc, &lives, row.3, row.4);
 }
 
 #[test]
-fn what_is_held_decides_where_a_write_fails(rt: HostRuntime) -> Result<(), Fail> {
+fn what_is_held_decides_where_a_write_fails(rt: HostRuntime) {
     for row in HELD.iter() {
-        expect_held(&rt, rt.alloc(), row)?;
+        expect_held(&rt, rt.alloc(), row);
     }
-    Ok(())
 }

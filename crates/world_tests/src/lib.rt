@@ -4,6 +4,10 @@
 #[cfg(test)]
 mod scripted_worlds;
 #[cfg(test)]
+mod scripts;
+#[cfg(test)]
 mod sending;
 #[cfg(test)]
 mod steady_worlds;
+#[cfg(test)]
+mod telling;

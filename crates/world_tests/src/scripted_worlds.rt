@@ -1,19 +1,10 @@
 // The calls of a world that follows a script.
+use crate::scripts::pairs;
+use crate::telling::text_of;
 use gate_world::{Chance, Console, Front, Link, Secrets};
 use scripted_world::{Script, ScriptWorld};
-use std::alloc::{AllocError, Global};
-use std::test::Fail;
-
-/// Link lives, clients and words, two of each.
-fn pairs(alloc: Global) -> Result<Script, AllocError> {
-    Script::new(alloc)?
-        .with_link(b"abc")?
-        .with_link(b"defgh")?
-        .with_client(b"xy")?
-        .with_client(b"z")?
-        .with_word(5)?
-        .with_word(6)
-}
+use std::alloc::Global;
+use std::process::Abort;
 
 fn call_link(world: &mut ScriptWorld, letter: u8) {
     let mut room = [0u8; 4];
@@ -67,13 +58,12 @@ fn call(world: &mut ScriptWorld, letter: u8) {
 }
 
 /// The tape after these calls.
-fn tape(alloc: Global, script: Script, calls: &str) -> Result<String, Fail> {
+fn tape(rt: &impl Abort, alloc: Global, script: Script, calls: &str) -> String {
     let mut world = ScriptWorld::new(alloc, script);
     for letter in calls.as_bytes() {
         call(&mut world, *letter);
     }
-    let events = world.events().ok_or("the tape is not told")?;
-    Ok(format!(in alloc; "{events:?}")?)
+    text_of(rt, alloc, world.events().expect(rt, "a tape"))
 }
 
 /// The most octets that a read gives, calls, and the tape after them.
@@ -171,30 +161,44 @@ const FAILS: [(u64, u64, &str, &str); 12] = [
     ),
 ];
 
-#[test]
-fn each_call_of_a_scripted_world(rt: HostRuntime) -> Result<(), Fail> {
-    let alloc = rt.alloc();
-    for (piece, calls, wanted) in CALLS {
-        let script = pairs(alloc)?.in_pieces(piece);
-        assert_eq!(rt; tape(alloc, script, calls)?.as_str(), wanted, "{calls}");
+fn expect_calls(rt: &impl Abort, alloc: Global) {
+    for row in CALLS.iter() {
+        let script = pairs(rt, alloc).in_pieces(row.0);
+        assert_eq!(rt; tape(rt, alloc, script, row.1).as_str(), row.2, "{}", row.1);
     }
-    for (call, stop_at, calls, wanted) in FAILS {
-        let script = pairs(alloc)?.failing(call)?.stopping_at(stop_at);
-        assert_eq!(rt; tape(alloc, script, calls)?.as_str(), wanted, "{calls}");
+}
+
+/// The script of a row of FAILS.
+fn failing(rt: &impl Abort, alloc: Global, call: u64, stop_at: u64) -> Script {
+    let script = pairs(rt, alloc).failing(call).expect(rt, "memory");
+    script.stopping_at(stop_at)
+}
+
+fn expect_fails(rt: &impl Abort, alloc: Global) {
+    for row in FAILS.iter() {
+        let script = failing(rt, alloc, row.0, row.1);
+        assert_eq!(rt; tape(rt, alloc, script, row.2).as_str(), row.3, "{}", row.2);
     }
-    Ok(())
 }
 
 #[test]
-fn a_script_of_nothing(rt: HostRuntime) -> Result<(), Fail> {
-    let alloc = rt.alloc();
+fn each_call_of_a_scripted_world(rt: HostRuntime) {
+    expect_calls(&rt, rt.alloc());
+    expect_fails(&rt, rt.alloc());
+}
+
+#[test]
+fn a_script_of_nothing(rt: HostRuntime) {
+    let script = Script::new(rt.alloc()).expect(&rt, "memory");
     let wanted = "[Word(0), Word(0), NoMore, ClientEnded, Dialed, LinkEnded, LinkEnded]";
-    assert_eq!(rt;
-        tape(alloc, Script::new(alloc)?, "nnARdrw")?.as_str(),
-        wanted
-    );
-    let world = ScriptWorld::new(alloc, Script::new(alloc)?.with_secrets(b"pw", b"t")?);
+    assert_eq!(rt; tape(&rt, rt.alloc(), script, "nnARdrw").as_str(), wanted);
+}
+
+#[test]
+fn secrets_of_a_script(rt: HostRuntime) {
+    let script = Script::new(rt.alloc()).expect(&rt, "memory");
+    let script = script.with_secrets(b"pw", b"t").expect(&rt, "memory");
+    let world = ScriptWorld::new(rt.alloc(), script);
     assert_eq!(rt; world.password(), b"pw".as_slice());
     assert_eq!(rt; world.token(), b"t".as_slice());
-    Ok(())
 }

@@ -1,40 +1,42 @@
 // Texts that are sent and written over a world that fails at a call.
-use gate_world::{Bytes, Event, Link, send_all, write_all};
+use crate::telling::text_of;
+use gate_world::{Link, send_all, write_all};
 use scripted_world::{Script, ScriptWorld};
-use std::alloc::{AllocError, Global};
-use std::test::Fail;
+use std::alloc::Global;
+use std::process::Abort;
 
-/// A world in which the call of this number fails. A call of number 0 is none.
-fn world_of(alloc: Global, call: u64) -> Result<ScriptWorld, AllocError> {
-    let script = Script::new(alloc)?.in_pieces(1).failing(call)?;
-    Ok(ScriptWorld::new(alloc, script))
+/// A world in which the call of this number fails.
+fn world_of(rt: &impl Abort, alloc: Global, call: u64) -> ScriptWorld {
+    let script = Script::new(alloc).expect(rt, "memory");
+    let script = script.in_pieces(1).failing(call).expect(rt, "memory");
+    ScriptWorld::new(alloc, script)
+}
+
+/// What the world told.
+fn tape(rt: &impl Abort, alloc: Global, world: &ScriptWorld) -> String {
+    text_of(rt, alloc, world.events().expect(rt, "a tape"))
+}
+
+/// Texts, and whether all of each is taken.
+const TEXTS: [(&[u8], bool); 3] = [(b"", true), (b"ab", true), (b"c", false)];
+
+#[test]
+fn a_client_takes_all_that_is_sent(rt: HostRuntime) {
+    let mut world = world_of(&rt, rt.alloc(), 2);
+    for row in TEXTS.iter() {
+        assert_eq!(rt; send_all(&mut world, row.0).is_ok(), row.1);
+    }
+    let wanted = "[ClientTook([97, 98]), FrontFailed]";
+    assert_eq!(rt; tape(&rt, rt.alloc(), &world).as_str(), wanted);
 }
 
 #[test]
-fn a_client_takes_all_that_is_sent(rt: HostRuntime) -> Result<(), Fail> {
-    let alloc = rt.alloc();
-    let mut world = world_of(alloc, 2)?;
-    assert!(rt; send_all(&mut world, b"").is_ok());
-    assert!(rt; send_all(&mut world, b"ab").is_ok());
-    assert!(rt; send_all(&mut world, b"c").is_err());
-    let events = world.events().ok_or("the tape is not told")?;
-    let took = Event::ClientTook(Bytes::copy_of(alloc, b"ab")?);
-    let wanted = vec![in alloc; took, Event::FrontFailed]?;
-    assert_eq!(rt; events, wanted.as_slice());
-    Ok(())
-}
-
-#[test]
-fn a_store_takes_all_that_is_written(rt: HostRuntime) -> Result<(), Fail> {
-    let alloc = rt.alloc();
-    let mut world = world_of(alloc, 3)?;
+fn a_store_takes_all_that_is_written(rt: HostRuntime) {
+    let mut world = world_of(&rt, rt.alloc(), 3);
     assert!(rt; world.dial().is_ok());
-    assert!(rt; write_all(&mut world, b"").is_ok());
-    assert!(rt; write_all(&mut world, b"ab").is_ok());
-    assert!(rt; write_all(&mut world, b"c").is_err());
-    let events = world.events().ok_or("the tape is not told")?;
-    let took = Event::StoreTook(Bytes::copy_of(alloc, b"ab")?);
-    let wanted = vec![in alloc; Event::Dialed, took, Event::LinkEnded]?;
-    assert_eq!(rt; events, wanted.as_slice());
-    Ok(())
+    for row in TEXTS.iter() {
+        assert_eq!(rt; write_all(&mut world, row.0).is_ok(), row.1);
+    }
+    let wanted = "[Dialed, StoreTook([97, 98]), LinkEnded]";
+    assert_eq!(rt; tape(&rt, rt.alloc(), &world).as_str(), wanted);
 }

@@ -1,23 +1,20 @@
 // The calls of a world in which no call fails: the arms for a failure are proved to be out of reach.
+use crate::scripts::pairs;
+use crate::telling::text_of;
 use gate_world::{Chance, Console, Front, Link, Secrets};
 use scripted_world::{Script, SteadyWorld};
-use std::alloc::{AllocError, Global};
-use std::test::Fail;
+use std::alloc::Global;
+use std::process::Abort;
 
 /// Two link lives, two clients and two words. Each call is said to fail.
-fn script_of(alloc: Global, piece: usize) -> Result<Script, AllocError> {
-    let script = Script::new(alloc)?
-        .with_link(b"abc")?
-        .with_link(b"defgh")?
-        .with_client(b"xy")?
-        .with_client(b"z")?
-        .with_word(5)?
-        .with_word(6)?
-        .with_secrets(b"pw", b"t")?
+fn script_of(rt: &impl Abort, alloc: Global, piece: usize) -> Script {
+    pairs(rt, alloc)
+        .with_secrets(b"pw", b"t")
+        .expect(rt, "memory")
         .in_pieces(piece)
-        .failing(1)?
-        .stopping_at(1);
-    Ok(script)
+        .failing(1)
+        .expect(rt, "memory")
+        .stopping_at(1)
 }
 
 fn call_link(world: &mut SteadyWorld, letter: u8) {
@@ -86,13 +83,12 @@ fn call(world: &mut SteadyWorld, letter: u8) {
 }
 
 /// The tape after these calls.
-fn tape(alloc: Global, piece: usize, calls: &str) -> Result<String, Fail> {
-    let mut world = SteadyWorld::new(alloc, script_of(alloc, piece)?);
+fn tape(rt: &impl Abort, alloc: Global, script: Script, calls: &str) -> String {
+    let mut world = SteadyWorld::new(alloc, script);
     for letter in calls.as_bytes() {
         call(&mut world, *letter);
     }
-    let events = world.events().ok_or("the tape is not told")?;
-    Ok(format!(in alloc; "{events:?}")?)
+    text_of(rt, alloc, world.events().expect(rt, "a tape"))
 }
 
 /// The most octets that a read gives, calls, and the tape after them.
@@ -126,13 +122,21 @@ const CALLS: [(usize, &str, &str); 6] = [
 ];
 
 #[test]
-fn each_call_of_a_steady_world(rt: HostRuntime) -> Result<(), Fail> {
-    let alloc = rt.alloc();
-    for (piece, calls, wanted) in CALLS {
-        assert_eq!(rt; tape(alloc, piece, calls)?.as_str(), wanted, "{calls}");
+fn each_call_of_a_steady_world(rt: HostRuntime) {
+    for row in CALLS.iter() {
+        let script = script_of(&rt, rt.alloc(), row.0);
+        assert_eq!(rt;
+            tape(&rt, rt.alloc(), script, row.1).as_str(),
+            row.2,
+            "{}",
+            row.1
+        );
     }
-    let world = SteadyWorld::new(alloc, script_of(alloc, 1)?);
+}
+
+#[test]
+fn secrets_of_a_steady_world(rt: HostRuntime) {
+    let world = SteadyWorld::new(rt.alloc(), script_of(&rt, rt.alloc(), 1));
     assert_eq!(rt; world.password(), b"pw".as_slice());
     assert_eq!(rt; world.token(), b"t".as_slice());
-    Ok(())
 }

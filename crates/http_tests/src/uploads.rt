@@ -1,5 +1,5 @@
-// Tests of what is kept and what is refused.
-use crate::{BlobError, BlobStore, MAX_UPLOAD_OCTETS};
+// Uploads that are kept and that are refused.
+use blob_store::{BlobError, BlobStore, MAX_UPLOAD_OCTETS};
 use gate_world::Bytes;
 use std::alloc::{AllocError, Global};
 use std::test::Fail;
