@@ -7,17 +7,12 @@ use Rattle.client_front.specs.declared.serving.Serving.{Serving}
 use Rattle.client_front.specs.declared.sockets.First.{First}
 use Rattle.client_front.specs.declared.sockets.First.TheVariants.{Octet}
 
--- a fact of the octet, where there is one
-abbrev pub IfOctet : (ℕ → Type 0) → First → Type 0
-IfOctet P (Octet octet) = P octet
-IfOctet P _ = Unit {0}
-
 -- the client has sent an octet that may begin a head
-abbrev pub Asks : {S : Type 0} → (S → ℕ → Type 0) → S → Type 0
-Asks shows stream = (octet : ℕ) × shows stream octet × IsTrue (can_begin octet)
+abbrev pub Asks : {S : Type 0} → (S → First → Type 0) → S → Type 0
+Asks shows stream = (octet : ℕ) × shows stream (Octet octet) × IsTrue (can_begin octet)
 
 -- The client has sent an octet that may begin a head, and its request begins now.
-pub record Handed {S : Type 0} (shows : S → ℕ → Type 0) (reads : Option ℕ → Type 0) (serving : Serving S) : Type 0 where
+pub record Handed {S : Type 0} (shows : S → First → Type 0) (reads : Option ℕ → Type 0) (serving : Serving S) : Type 0 where
   pub asks : Asks shows serving.stream
   pub now : ℕ
   pub is_now : reads (Some now)

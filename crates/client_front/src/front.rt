@@ -61,7 +61,8 @@ impl<L: ClientListener + Drop, C: Ticks + Drop> ClientFront<L, C> {
         self.clock.milliseconds()
     }
 
-    /// Hands on the client that has sent something first, where it asks; else it is closed. Whether one is handed on.
+    /// Hands on the client that has sent something first, where it asks; else it is closed. Whether one is handed on. What a
+    /// client has sent, or its end, it goes on to show until it is read: so none is closed here that has sent nothing.
     fn hand_on(&mut self) -> Option<bool>
         ensures handed { IfSome result (λ done. done ≡ true → IfServed (Handed L.Stream.shows (C.reads self.new.clock)) self.new.current) }
     {
