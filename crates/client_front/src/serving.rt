@@ -53,13 +53,14 @@ impl<S: ClientStream> Serving<S> {
     /// Gives the client octets of the response, while it is not late in taking them.
     pub(crate) fn send<C: Ticks>(&mut self, clock: &C, from: &[u8]) -> Option<usize>
         ensures bound { IfSome result (λ n. (0 < n) × (n ≤ length from.now)) }
-        ensures in_time { IfSome result (λ n. SendsInTime S.sends (C.reads clock.now) n (take n from.now) self.old self.new) }
+        ensures in_time { IfSome result (λ n. SendsInTime S.sends (C.reads clock.now) (take n from.now) self.old self.new) }
     {
         let now = clock.milliseconds()?;
         let mut pace = pace_at(self.sent, now);
         let limit = left(pace.due(), now)?;
         let count = self.stream.send(from, limit)?;
-        pace.add(count);
+        let (octets, _) = from.split_at(count);
+        pace.add(octets.len());
         self.sent = Some(pace);
         Some(count)
     }

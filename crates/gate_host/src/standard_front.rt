@@ -85,6 +85,7 @@ impl<I: Read + Drop, O: Write + Drop> StandardFront<I, O> {
 
 impl<I: Read + Drop, O: Write + Drop> Clients for StandardFront<I, O> {
     ghost use Rattle.std.specs.Prelude.{◌≡◌, Ok, true, not};
+    ghost use Rattle.std.specs.Io.KnownBytes.{Appends, Consumes};
 
     ghost client_faults = { λ f. f.faults };
 
@@ -94,6 +95,10 @@ impl<I: Read + Drop, O: Write + Drop> Clients for StandardFront<I, O> {
 
     // One client comes, the first time alone, and accepting never fails.
     ghost accepts = { λ old result new. (result ≡ Ok (not old.has_come)) × (new ≡ record old { has_come = true }) };
+
+    ghost receives = { λ old octets new. Consumes (I.remaining old.input) (I.remaining new.input) octets };
+
+    ghost sends = { λ old octets new. Appends (O.contents old.output) (O.contents new.output) octets };
 
     ghost finishes = { λ old new. new ≡ old };
 
