@@ -1,58 +1,59 @@
 // Addresses and groups.
+use gate_world::Bytes;
 use header_addresses::{Address, Group, as_addresses, as_groups};
-use std::alloc::{AllocError, Global};
+use std::alloc::Global;
 use std::process::Abort;
-use std::test::Fail;
 
-/// A reading written out: each address as `name<email>`, or `-<email>` without a name, with `|` after it.
-fn push_address(text: &mut Vec<u8>, address: &Address) -> Result<(), AllocError> {
-    match &address.name {
-        None => text.push(b'-')?,
-        Some(name) => text.extend_from_slice(name.as_slice())?,
-    }
-    text.push(b'<')?;
-    text.extend_from_slice(address.email.as_slice())?;
-    text.extend_from_slice(b">|")
+fn push(rt: &impl Abort, text: &mut Vec<u8>, octets: &[u8]) {
+    text.extend_from_slice(octets).expect(rt, "memory");
 }
 
-fn addresses_text(alloc: Global, raw: &[u8]) -> Result<Vec<u8>, AllocError> {
-    let mut text = Vec::new(alloc);
-    match as_addresses(alloc, raw)? {
-        None => text.extend_from_slice(b"null")?,
-        Some(list) => {
-            for address in list.as_slice() {
-                push_address(&mut text, address)?;
-            }
-        }
+/// A name, or `-` for none.
+fn push_name(rt: &impl Abort, text: &mut Vec<u8>, name: &Option<Bytes>) {
+    match name {
+        None => push(rt, text, b"-"),
+        Some(name) => push(rt, text, name.as_slice()),
     }
-    Ok(text)
+}
+
+/// Each address as `name<email>`, or `-<email>` without a name, with `|` after it.
+fn push_addresses(rt: &impl Abort, text: &mut Vec<u8>, addresses: &[Address]) {
+    for address in addresses {
+        push_name(rt, text, &address.name);
+        push(rt, text, b"<");
+        push(rt, text, address.email.as_slice());
+        push(rt, text, b">|");
+    }
+}
+
+/// The reading as addresses, written out.
+fn addresses_text(rt: &impl Abort, alloc: Global, raw: &[u8]) -> Vec<u8> {
+    let mut text = Vec::new(alloc);
+    match as_addresses(alloc, raw).expect(rt, "memory") {
+        None => push(rt, &mut text, b"null"),
+        Some(list) => push_addresses(rt, &mut text, list.as_slice()),
+    }
+    text
 }
 
 /// Each group as `name:`, or `-:` without a name, its addresses, and `;`.
-fn push_group(text: &mut Vec<u8>, group: &Group) -> Result<(), AllocError> {
-    match &group.name {
-        None => text.push(b'-')?,
-        Some(name) => text.extend_from_slice(name.as_slice())?,
+fn push_groups(rt: &impl Abort, text: &mut Vec<u8>, groups: &[Group]) {
+    for group in groups {
+        push_name(rt, text, &group.name);
+        push(rt, text, b":");
+        push_addresses(rt, text, group.members.as_slice());
+        push(rt, text, b";");
     }
-    text.push(b':')?;
-    for address in group.members.as_slice() {
-        push_address(text, address)?;
-    }
-    text.push(b';')?;
-    Ok(())
 }
 
-fn groups_text(alloc: Global, raw: &[u8]) -> Result<Vec<u8>, AllocError> {
+/// The reading as groups, written out.
+fn groups_text(rt: &impl Abort, alloc: Global, raw: &[u8]) -> Vec<u8> {
     let mut text = Vec::new(alloc);
-    match as_groups(alloc, raw)? {
-        None => text.extend_from_slice(b"null")?,
-        Some(list) => {
-            for group in list.as_slice() {
-                push_group(&mut text, group)?;
-            }
-        }
+    match as_groups(alloc, raw).expect(rt, "memory") {
+        None => push(rt, &mut text, b"null"),
+        Some(list) => push_groups(rt, &mut text, list.as_slice()),
     }
-    Ok(text)
+    text
 }
 
 /// The examples of RFC 5322 appendix A.
@@ -237,39 +238,6 @@ const NO_LISTS: [&[u8]; 23] = [
     b";",
 ];
 
-fn expect_addresses(rt: &impl Abort, alloc: Global, rows: &[(&[u8], &[u8])]) -> Result<(), Fail> {
-    for row in rows {
-        let text = addresses_text(alloc, row.0)?;
-        assert_eq!(rt; text.as_slice(), row.1);
-        assert!(rt; as_groups(alloc, row.0)?.is_some());
-    }
-    Ok(())
-}
-
-fn expect_none(rt: &impl Abort, alloc: Global, values: &[&[u8]]) -> Result<(), Fail> {
-    for value in values {
-        assert!(rt; as_addresses(alloc, value)?.is_none());
-        assert!(rt; as_groups(alloc, value)?.is_none());
-    }
-    Ok(())
-}
-
-/// The examples of RFC 5322 appendix A.
-#[test]
-fn examples_of_the_standard_are_read(rt: HostRuntime) -> Result<(), Fail> {
-    expect_addresses(&rt, rt.alloc(), &EXAMPLES)
-}
-
-/// Names, comments, routes, groups and obsolete forms, and values that are no list of addresses.
-#[test]
-fn values_are_addresses(rt: HostRuntime) -> Result<(), Fail> {
-    expect_addresses(&rt, rt.alloc(), &NAMES)?;
-    expect_addresses(&rt, rt.alloc(), &ADDRESSES)?;
-    expect_none(&rt, rt.alloc(), &NO_ADDRESSES)?;
-    expect_none(&rt, rt.alloc(), &NO_LISTS)?;
-    Ok(())
-}
-
 /// Values, and their groups written out.
 const GROUPS: [(&[u8], &[u8]); 11] = [
     (
@@ -288,15 +256,38 @@ const GROUPS: [(&[u8], &[u8]); 11] = [
     (b"", b"null"),
 ];
 
-fn expect_groups(rt: &impl Abort, alloc: Global, rows: &[(&[u8], &[u8])]) -> Result<(), Fail> {
-    for row in rows {
-        let text = groups_text(alloc, row.0)?;
-        assert_eq!(rt; text.as_slice(), row.1);
+fn are_groups(rt: &impl Abort, alloc: Global, raw: &[u8]) -> bool {
+    as_groups(alloc, raw).expect(rt, "memory").is_some()
+}
+
+fn expect_addresses(rt: &impl Abort, alloc: Global, rows: &[(&[u8], &[u8])]) {
+    for (raw, wanted) in rows {
+        assert_eq!(rt; addresses_text(rt, alloc, raw).as_slice(), *wanted);
+        assert!(rt; are_groups(rt, alloc, raw));
     }
-    Ok(())
+}
+
+fn expect_none(rt: &impl Abort, alloc: Global, values: &[&[u8]]) {
+    for value in values {
+        assert!(rt; as_addresses(alloc, value).expect(rt, "memory").is_none());
+        assert!(rt; !are_groups(rt, alloc, value));
+    }
+}
+
+/// The standard's examples; names, comments, routes, groups and obsolete forms; and values that are no list of addresses.
+#[test]
+fn values_are_addresses(rt: HostRuntime) {
+    let alloc = rt.alloc();
+    expect_addresses(&rt, alloc, &EXAMPLES);
+    expect_addresses(&rt, alloc, &NAMES);
+    expect_addresses(&rt, alloc, &ADDRESSES);
+    expect_none(&rt, alloc, &NO_ADDRESSES);
+    expect_none(&rt, alloc, &NO_LISTS);
 }
 
 #[test]
-fn addresses_stand_in_groups(rt: HostRuntime) -> Result<(), Fail> {
-    expect_groups(&rt, rt.alloc(), &GROUPS)
+fn addresses_stand_in_groups(rt: HostRuntime) {
+    for (raw, wanted) in GROUPS.iter() {
+        assert_eq!(rt; groups_text(&rt, rt.alloc(), raw).as_slice(), *wanted);
+    }
 }

@@ -1,8 +1,7 @@
 // Text, HTML and attachments.
-use mime_tree::{Part, body_lists, parse};
-use std::alloc::{AllocError, Global};
+use mime_tree::{BodyLists, body_lists, parse};
+use std::alloc::Global;
 use std::process::Abort;
-use std::test::Fail;
 
 /// Trees, and their body lists.
 ///
@@ -79,124 +78,121 @@ fn media_of(letter: u8) -> &'static [u8] {
     }
 }
 
-/// The delimiter line of the multipart at this depth; the root stands after none.
-fn put_delimiter(alloc: Global, mail: &mut Vec<u8>, depth: u32) -> Result<(), AllocError> {
-    if depth == 0 {
-        return Ok(());
+fn put(rt: &impl Abort, mail: &mut Vec<u8>, text: &[u8]) {
+    mail.extend_from_slice(text).expect(rt, "memory");
+}
+
+/// A text with the number of a depth in it.
+fn put_numbered(
+    rt: &impl Abort,
+    alloc: Global,
+    mail: &mut Vec<u8>,
+    front: &str,
+    depth: u32,
+    behind: &str,
+) {
+    let text = format!(in alloc; "{front}{depth}{behind}").expect(rt, "memory");
+    put(rt, mail, text.as_bytes());
+}
+
+/// The delimiter line of the multipart at this depth, which the root has none of, and the type that the letter spells.
+fn put_head(rt: &impl Abort, alloc: Global, mail: &mut Vec<u8>, depth: u32, letter: u8) {
+    if depth > 0 {
+        put_numbered(rt, alloc, mail, "\r\n--b", depth, "\r\n");
     }
-    mail.extend_from_slice(format!(in alloc; "\r\n--b{depth}\r\n")?.as_bytes())?;
-    Ok(())
-}
-
-fn put_head(alloc: Global, mail: &mut Vec<u8>, depth: u32, letter: u8) -> Result<(), AllocError> {
-    put_delimiter(alloc, mail, depth)?;
-    mail.extend_from_slice(b"Content-Type: ")?;
-    mail.extend_from_slice(media_of(letter))?;
-    Ok(())
-}
-
-fn put_boundary(alloc: Global, mail: &mut Vec<u8>, depth: u32) -> Result<(), AllocError> {
-    mail.extend_from_slice(format!(in alloc; "; boundary=b{depth}\r\n")?.as_bytes())?;
-    Ok(())
-}
-
-fn put_end(alloc: Global, mail: &mut Vec<u8>, depth: u32) -> Result<(), AllocError> {
-    mail.extend_from_slice(format!(in alloc; "\r\n--b{depth}--")?.as_bytes())?;
-    Ok(())
+    put(rt, mail, b"Content-Type: ");
+    put(rt, mail, media_of(letter));
 }
 
 /// Adds what a letter spells, and gives the depth after it.
-fn put_spelled(
-    alloc: Global,
-    mail: &mut Vec<u8>,
-    depth: u32,
-    letter: u8,
-) -> Result<u32, AllocError> {
+fn put_spelled(rt: &impl Abort, alloc: Global, mail: &mut Vec<u8>, depth: u32, letter: u8) -> u32 {
     match letter {
         b'm' | b'a' | b'r' => {
-            put_head(alloc, mail, depth, letter)?;
-            put_boundary(alloc, mail, depth.saturating_add(1))?;
-            return Ok(depth.saturating_add(1));
+            let below = depth.saturating_add(1);
+            put_head(rt, alloc, mail, depth, letter);
+            put_numbered(rt, alloc, mail, "; boundary=b", below, "\r\n");
+            return below;
         }
         b')' => {
-            put_end(alloc, mail, depth)?;
-            return Ok(depth.saturating_sub(1));
+            put_numbered(rt, alloc, mail, "\r\n--b", depth, "--");
+            return depth.saturating_sub(1);
         }
-        b'!' => mail.extend_from_slice(b"\r\nContent-Disposition: attachment")?,
-        b'~' => mail.extend_from_slice(b"\r\nContent-Disposition: inline")?,
-        b'\'' => mail.extend_from_slice(b"; name=n")?,
-        b'"' => mail.extend_from_slice(b"; name=\"\"")?,
-        _ => put_head(alloc, mail, depth, letter)?,
+        b'!' => put(rt, mail, b"\r\nContent-Disposition: attachment"),
+        b'~' => put(rt, mail, b"\r\nContent-Disposition: inline"),
+        b'\'' => put(rt, mail, b"; name=n"),
+        b'"' => put(rt, mail, b"; name=\"\""),
+        _ => put_head(rt, alloc, mail, depth, letter),
     }
-    Ok(depth)
+    depth
 }
 
 /// The message whose tree is spelled.
-fn spelled(alloc: Global, text: &[u8]) -> Result<Vec<u8>, AllocError> {
+fn spelled(rt: &impl Abort, alloc: Global, text: &[u8]) -> Vec<u8> {
     let mut mail = Vec::new(alloc);
     let mut depth: u32 = 0;
     for letter in text {
-        depth = put_spelled(alloc, &mut mail, depth, *letter)?;
+        depth = put_spelled(rt, alloc, &mut mail, depth, *letter);
     }
-    Ok(mail)
+    mail
 }
 
-fn put_numbers(alloc: Global, text: &mut Vec<u8>, numbers: &[u64]) -> Result<(), AllocError> {
-    for (i, number) in numbers.iter().enumerate() {
-        if i > 0 {
-            text.push(b',')?;
-        }
-        text.extend_from_slice(format!(in alloc; "{number}")?.as_bytes())?;
+/// The numbers with a comma before each but the first, and `|` after them.
+fn put_numbers(rt: &impl Abort, alloc: Global, text: &mut Vec<u8>, numbers: &[u64]) {
+    let mut comma = "";
+    for number in numbers {
+        let next = format!(in alloc; "{comma}{number}").expect(rt, "memory");
+        put(rt, text, next.as_bytes());
+        comma = ",";
     }
-    text.push(b'|')?;
-    Ok(())
+    put(rt, text, b"|");
 }
 
-fn lists_text(alloc: Global, root: &Part) -> Result<Vec<u8>, AllocError> {
-    let lists = body_lists(alloc, root)?;
+fn lists_text(rt: &impl Abort, alloc: Global, lists: &BodyLists) -> Vec<u8> {
     let mut text = Vec::new(alloc);
-    put_numbers(alloc, &mut text, lists.text.as_slice())?;
-    put_numbers(alloc, &mut text, lists.html.as_slice())?;
-    put_numbers(alloc, &mut text, lists.attachments.as_slice())?;
-    let has: &[u8] = if lists.has_attachment { b"yes" } else { b"no" };
-    text.extend_from_slice(has)?;
-    Ok(text)
+    put_numbers(rt, alloc, &mut text, lists.text.as_slice());
+    put_numbers(rt, alloc, &mut text, lists.html.as_slice());
+    put_numbers(rt, alloc, &mut text, lists.attachments.as_slice());
+    put(
+        rt,
+        &mut text,
+        if lists.has_attachment { b"yes" } else { b"no" },
+    );
+    text
 }
 
-fn expect_lists(rt: &impl Abort, alloc: Global, tree: &[u8], lists: &[u8]) -> Result<(), Fail> {
-    let mail = spelled(alloc, tree)?;
-    let root = parse(alloc, &mail)?;
-    let text = lists_text(alloc, &root)?;
-    assert_eq!(rt; text.as_slice(), lists);
-    Ok(())
+/// The body lists of a message.
+fn lists_of(rt: &impl Abort, alloc: Global, mail: &[u8]) -> BodyLists {
+    let root = parse(alloc, mail).expect(rt, "memory");
+    body_lists(alloc, &root).expect(rt, "memory")
 }
 
-fn expect_all(rt: &impl Abort, alloc: Global, rows: &[(&[u8], &[u8])]) -> Result<(), Fail> {
-    for row in rows {
-        expect_lists(rt, alloc, row.0, row.1)?;
-    }
-    Ok(())
+fn expect_lists(rt: &impl Abort, alloc: Global, tree: &[u8], wanted: &[u8]) {
+    let lists = lists_of(rt, alloc, spelled(rt, alloc, tree).as_slice());
+    assert_eq!(rt; lists_text(rt, alloc, &lists).as_slice(), wanted);
+}
+
+/// An alternative of one mixed multipart of many texts.
+fn many_texts(rt: &impl Abort, alloc: Global) -> Vec<u8> {
+    let mut tree = Vec::new(alloc);
+    let texts = vec![in alloc; b'p'; 100_000].expect(rt, "memory");
+    put(rt, &mut tree, b"am");
+    put(rt, &mut tree, texts.as_slice());
+    put(rt, &mut tree, b"))");
+    spelled(rt, alloc, tree.as_slice())
 }
 
 #[test]
-fn trees_have_body_lists(rt: HostRuntime) -> Result<(), Fail> {
-    expect_all(&rt, rt.alloc(), &TREES)
+fn trees_have_body_lists(rt: HostRuntime) {
+    for (tree, wanted) in TREES.iter() {
+        expect_lists(&rt, rt.alloc(), tree, wanted);
+    }
 }
 
 /// A list that is shared may be as long as the message has parts.
 #[test]
-fn many_parts_are_listed(rt: HostRuntime) -> Result<(), Fail> {
-    let mut tree = Vec::new(rt.alloc());
-    tree.extend_from_slice(b"am")?;
-    for _ in 0..100_000 {
-        tree.push(b'p')?;
-    }
-    tree.extend_from_slice(b"))")?;
-    let mail = spelled(rt.alloc(), tree.as_slice())?;
-    let root = parse(rt.alloc(), mail.as_slice())?;
-    let lists = body_lists(rt.alloc(), &root)?;
+fn many_parts_are_listed(rt: HostRuntime) {
+    let lists = lists_of(&rt, rt.alloc(), many_texts(&rt, rt.alloc()).as_slice());
     assert_eq!(rt; lists.text.len(), 100_000);
     assert_eq!(rt; lists.html.len(), 100_000);
     assert!(rt; lists.attachments.is_empty());
-    Ok(())
 }

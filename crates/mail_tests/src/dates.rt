@@ -2,7 +2,6 @@
 use header_dates::{Moment, as_date};
 use std::alloc::Global;
 use std::process::Abort;
-use std::test::Fail;
 
 /// The seconds and the zone in minutes of a date, where it exists.
 type Row = (&'static [u8], Option<(i64, i32)>);
@@ -89,20 +88,6 @@ fn moment_of(date: Option<(i64, i32)>) -> Option<Moment> {
     }
 }
 
-fn expect_moments(rt: &impl Abort, alloc: Global, rows: &[Row]) -> Result<(), Fail> {
-    for row in rows {
-        let found = as_date(alloc, row.0)?;
-        assert_eq!(rt; found, moment_of(row.1));
-    }
-    Ok(())
-}
-
-#[test]
-fn values_are_dates(rt: HostRuntime) -> Result<(), Fail> {
-    expect_moments(&rt, rt.alloc(), &DATES)?;
-    expect_moments(&rt, rt.alloc(), &TOUCHING)
-}
-
 /// The last second of each month of a year, and of the last year; leap years; leap seconds; years of three digits.
 const SECONDS: [(&[u8], i64); 17] = [
     (b"31 Jan 2023 23:59:59 GMT", 1675209599),
@@ -146,26 +131,31 @@ const NO_DATES: [&[u8]; 18] = [
     b"100 Jan 2023 00:00 GMT",
 ];
 
-fn expect_seconds(rt: &impl Abort, alloc: Global, rows: &[(&[u8], i64)]) -> Result<(), Fail> {
-    for row in rows {
-        match as_date(alloc, row.0)? {
-            None => assert!(rt; false),
-            Some(moment) => assert_eq!(rt; moment.seconds, row.1),
-        }
-    }
-    Ok(())
+fn date_of(rt: &impl Abort, alloc: Global, raw: &[u8]) -> Option<Moment> {
+    as_date(alloc, raw).expect(rt, "memory")
 }
 
-fn expect_no_dates(rt: &impl Abort, alloc: Global, values: &[&[u8]]) -> Result<(), Fail> {
-    for value in values {
-        assert!(rt; as_date(alloc, value)?.is_none());
+fn expect_moments(rt: &impl Abort, alloc: Global, rows: &[Row]) {
+    for (raw, date) in rows {
+        assert_eq!(rt; date_of(rt, alloc, raw), moment_of(*date));
     }
-    Ok(())
 }
 
 #[test]
-fn months_end(rt: HostRuntime) -> Result<(), Fail> {
-    expect_seconds(&rt, rt.alloc(), &SECONDS)?;
-    expect_no_dates(&rt, rt.alloc(), &NO_DATES)?;
-    Ok(())
+fn values_are_dates(rt: HostRuntime) {
+    expect_moments(&rt, rt.alloc(), &DATES);
+    expect_moments(&rt, rt.alloc(), &TOUCHING);
+}
+
+#[test]
+fn months_end(rt: HostRuntime) {
+    for (raw, seconds) in SECONDS.iter() {
+        match date_of(&rt, rt.alloc(), raw) {
+            None => panic!(rt; "{raw:?}"),
+            Some(moment) => assert_eq!(rt; moment.seconds, *seconds),
+        }
+    }
+    for raw in NO_DATES.iter() {
+        assert_eq!(rt; date_of(&rt, rt.alloc(), raw), None);
+    }
 }

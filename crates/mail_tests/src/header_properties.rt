@@ -2,57 +2,8 @@
 use email_get::{HeaderValues, header_values};
 use mail_header::fields;
 use serde_json::Value;
-use std::alloc::{AllocError, Global};
+use std::alloc::Global;
 use std::process::Abort;
-use std::test::Fail;
-
-/// The properties in the order of their names.
-fn in_order(alloc: Global, values: HeaderValues) -> Result<Vec<Value>, AllocError> {
-    let mut list = Vec::new(alloc);
-    list.push(values.bcc)?;
-    list.push(values.cc)?;
-    list.push(values.from)?;
-    list.push(values.in_reply_to)?;
-    list.push(values.message_id)?;
-    list.push(values.references)?;
-    list.push(values.reply_to)?;
-    list.push(values.sender)?;
-    list.push(values.sent_at)?;
-    list.push(values.subject)?;
-    list.push(values.to)?;
-    Ok(list)
-}
-
-/// The properties of a header as one text.
-fn shown(alloc: Global, header: &[u8]) -> Result<String, AllocError> {
-    let fields = fields(alloc, header)?;
-    let values = header_values(alloc, &fields)?;
-    Value::Array(in_order(alloc, values)?).to_string(alloc)
-}
-
-fn expect_shown(rt: &impl Abort, alloc: Global, rows: &[(&[u8], &str)]) -> Result<(), AllocError> {
-    for row in rows {
-        let found = shown(alloc, row.0)?;
-        assert_eq!(rt; found.as_str(), row.1);
-    }
-    Ok(())
-}
-
-/// The property `sentAt` that a date gives, as a text.
-fn sent_at(alloc: Global, date: &[u8]) -> Result<String, AllocError> {
-    let mut header = Vec::from_slice(alloc, b"Date:")?;
-    header.extend_from_slice(date)?;
-    let fields = fields(alloc, header.as_slice())?;
-    header_values(alloc, &fields)?.sent_at.to_string(alloc)
-}
-
-fn expect_dates(rt: &impl Abort, alloc: Global, rows: &[(&[u8], &str)]) -> Result<(), AllocError> {
-    for row in rows {
-        let found = sent_at(alloc, row.0)?;
-        assert_eq!(rt; found.as_str(), row.1);
-    }
-    Ok(())
-}
 
 const LETTERS: [(&[u8], &str); 4] = [
     (
@@ -135,20 +86,53 @@ const DATES: [(&[u8], &str); 18] = [
     ),
 ];
 
-#[test]
-fn letters_have_their_properties(rt: HostRuntime) -> Result<(), Fail> {
-    expect_shown(&rt, rt.alloc(), &LETTERS)?;
-    Ok(())
+/// The properties in the order of their names.
+fn in_order(values: HeaderValues) -> [Value; 11] {
+    [
+        values.bcc,
+        values.cc,
+        values.from,
+        values.in_reply_to,
+        values.message_id,
+        values.references,
+        values.reply_to,
+        values.sender,
+        values.sent_at,
+        values.subject,
+        values.to,
+    ]
 }
 
-#[test]
-fn the_last_field_counts_and_other_octets_are_replaced(rt: HostRuntime) -> Result<(), Fail> {
-    expect_shown(&rt, rt.alloc(), &SEVERAL)?;
-    Ok(())
+fn values_of(rt: &impl Abort, alloc: Global, header: &[u8]) -> HeaderValues {
+    let fields = fields(alloc, header).expect(rt, "memory");
+    header_values(alloc, &fields).expect(rt, "memory")
 }
 
+/// The properties of a header as one text.
+fn shown(rt: &impl Abort, alloc: Global, header: &[u8]) -> String {
+    let list = Vec::from_array(alloc, in_order(values_of(rt, alloc, header))).expect(rt, "memory");
+    Value::Array(list).to_string(alloc).expect(rt, "memory")
+}
+
+/// The property `sentAt` that a date gives, as a text.
+fn sent_at(rt: &impl Abort, alloc: Global, date: &[u8]) -> String {
+    let mut header = b"Date:".to_vec(alloc).expect(rt, "memory");
+    header.extend_from_slice(date).expect(rt, "memory");
+    let values = values_of(rt, alloc, header.as_slice());
+    values.sent_at.to_string(alloc).expect(rt, "memory")
+}
+
+/// The last field of a name counts, other octets are replaced, and dates keep their zone.
 #[test]
-fn dates_keep_their_zone(rt: HostRuntime) -> Result<(), Fail> {
-    expect_dates(&rt, rt.alloc(), &DATES)?;
-    Ok(())
+fn letters_have_their_properties(rt: HostRuntime) {
+    let alloc = rt.alloc();
+    for (header, text) in LETTERS.iter() {
+        assert_eq!(rt; shown(&rt, alloc, header).as_str(), *text);
+    }
+    for (header, text) in SEVERAL.iter() {
+        assert_eq!(rt; shown(&rt, alloc, header).as_str(), *text);
+    }
+    for (date, text) in DATES.iter() {
+        assert_eq!(rt; sent_at(&rt, alloc, date).as_str(), *text);
+    }
 }

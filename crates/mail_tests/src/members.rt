@@ -1,26 +1,27 @@
 // Members of Email objects.
 use email_get::email_object;
 use serde_json::Value;
-use std::alloc::{AllocError, Global};
+use std::alloc::Global;
 use std::process::Abort;
-use std::test::Fail;
 
 /// A message, a path to a value in its object, and the text of that value.
 pub(crate) type Row = (&'static [u8], &'static str, &'static str);
 
 /// The text of what stands at the path.
-fn text_at(alloc: Global, value: &Value, path: &str) -> Result<String, AllocError> {
+fn text_at(rt: &impl Abort, alloc: Global, value: &Value, path: &str) -> String {
     match value.pointer(path) {
-        None => String::from_str(alloc, "nothing"),
-        Some(found) => found.to_string(alloc),
+        None => panic!(rt; "nothing at {path}"),
+        Some(found) => found.to_string(alloc).expect(rt, "memory"),
     }
 }
 
-pub(crate) fn go_over(rt: &impl Abort, alloc: Global, rows: &[Row]) -> Result<(), Fail> {
+fn expect_text(rt: &impl Abort, alloc: Global, row: &Row) {
+    let value = email_object(alloc, row.0).expect(rt, "memory");
+    assert_eq!(rt; text_at(rt, alloc, &value, row.1).as_str(), row.2);
+}
+
+pub(crate) fn go_over(rt: &impl Abort, alloc: Global, rows: &[Row]) {
     for row in rows {
-        let value = email_object(alloc, row.0)?;
-        let text = text_at(alloc, &value, row.1)?;
-        assert_eq!(rt; text.as_str(), row.2);
+        expect_text(rt, alloc, row);
     }
-    Ok(())
 }

@@ -2,7 +2,6 @@
 use mime_tree::{Part, parse};
 use std::alloc::{AllocError, Global};
 use std::process::Abort;
-use std::test::Fail;
 
 fn push_number(text: &mut Vec<u8>, number: Option<u64>) -> Result<(), AllocError> {
     match number {
@@ -18,12 +17,12 @@ fn push_number(text: &mut Vec<u8>, number: Option<u64>) -> Result<(), AllocError
     Ok(())
 }
 
-fn push_body(text: &mut Vec<u8>, bytes: &[u8], part: &Part) -> Result<(), AllocError> {
+/// The octets of the part's body.
+pub(crate) fn body_of<'a>(bytes: &'a [u8], part: &Part) -> &'a [u8] {
     match bytes.get(part.start..part.end) {
-        None => text.extend_from_slice(b"?")?,
-        Some(body) => text.extend_from_slice(body)?,
+        None => b"?",
+        Some(body) => body,
     }
-    Ok(())
 }
 
 fn push_charset(text: &mut Vec<u8>, part: &Part) -> Result<(), AllocError> {
@@ -45,7 +44,7 @@ fn push_part(text: &mut Vec<u8>, bytes: &[u8], part: &Part) -> Result<(), AllocE
     push_charset(text, part)?;
     if part.number.is_some() {
         text.push(b'[')?;
-        push_body(text, bytes, part)?;
+        text.extend_from_slice(body_of(bytes, part))?;
         text.push(b']')?;
         return Ok(());
     }
@@ -58,18 +57,16 @@ fn push_part(text: &mut Vec<u8>, bytes: &[u8], part: &Part) -> Result<(), AllocE
 }
 
 /// The tree of the octets, written out.
-fn outline(alloc: Global, bytes: &[u8]) -> Result<Vec<u8>, AllocError> {
-    let part = parse(alloc, bytes)?;
+fn outline(rt: &impl Abort, alloc: Global, bytes: &[u8]) -> Vec<u8> {
+    let part = parse(alloc, bytes).expect(rt, "memory");
     let mut text = Vec::new(alloc);
-    push_part(&mut text, bytes, &part)?;
-    Ok(text)
+    push_part(&mut text, bytes, &part).expect(rt, "memory");
+    text
 }
 
 /// Each row is octets, and their tree written out.
-pub(crate) fn go_over(rt: &impl Abort, alloc: Global, rows: &[(&[u8], &[u8])]) -> Result<(), Fail> {
-    for row in rows {
-        let text = outline(alloc, row.0)?;
-        assert_eq!(rt; text.as_slice(), row.1);
+pub(crate) fn go_over(rt: &impl Abort, alloc: Global, rows: &[(&[u8], &[u8])]) {
+    for (bytes, wanted) in rows {
+        assert_eq!(rt; outline(rt, alloc, bytes).as_slice(), *wanted);
     }
-    Ok(())
 }

@@ -2,32 +2,32 @@
 use gate_world::Bytes;
 use mail_header::fields;
 use mime_fields::{PartHeader, part_header};
-use std::alloc::{AllocError, Global};
+use std::alloc::Global;
 use std::process::Abort;
-use std::test::Fail;
 
-fn push_value(text: &mut Vec<u8>, value: &Option<Bytes>) -> Result<(), AllocError> {
+fn push_value(rt: &impl Abort, text: &mut Vec<u8>, value: &Option<Bytes>) {
     match value {
-        None => text.push(b'-')?,
-        Some(value) => text.extend_from_slice(value.as_slice())?,
+        None => text.push(b'-').expect(rt, "memory"),
+        Some(value) => text
+            .extend_from_slice(value.as_slice())
+            .expect(rt, "memory"),
     }
-    text.push(b'|')?;
-    Ok(())
+    text.push(b'|').expect(rt, "memory");
 }
 
 /// Type, boundary, charset, disposition, name, id, language, place and encoding, `-` for none, with `|` after each.
-fn written(alloc: Global, header: &PartHeader) -> Result<Vec<u8>, AllocError> {
+fn written(rt: &impl Abort, alloc: Global, header: &PartHeader) -> Vec<u8> {
     let mut text = Vec::new(alloc);
-    push_value(&mut text, &header.media)?;
-    push_value(&mut text, &header.boundary)?;
-    push_value(&mut text, &header.charset)?;
-    push_value(&mut text, &header.disposition)?;
-    push_value(&mut text, &header.name)?;
-    push_value(&mut text, &header.cid)?;
-    push_value(&mut text, &header.language)?;
-    push_value(&mut text, &header.location)?;
-    push_value(&mut text, &header.encoding)?;
-    Ok(text)
+    push_value(rt, &mut text, &header.media);
+    push_value(rt, &mut text, &header.boundary);
+    push_value(rt, &mut text, &header.charset);
+    push_value(rt, &mut text, &header.disposition);
+    push_value(rt, &mut text, &header.name);
+    push_value(rt, &mut text, &header.cid);
+    push_value(rt, &mut text, &header.language);
+    push_value(rt, &mut text, &header.location);
+    push_value(rt, &mut text, &header.encoding);
+    text
 }
 
 /// Examples of RFC 2045, RFC 2046, RFC 2183, RFC 2231, RFC 2392, RFC 3282, RFC 6266 and RFC 8187.
@@ -254,62 +254,68 @@ const IDS_AND_PLACES: [(&[u8], &[u8]); 25] = [
     ),
 ];
 
-fn expect_headers(rt: &impl Abort, alloc: Global, rows: &[(&[u8], &[u8])]) -> Result<(), Fail> {
-    for row in rows {
-        let header = part_header(alloc, &fields(alloc, row.0)?)?;
-        let text = written(alloc, &header)?;
-        assert_eq!(rt; text.as_slice(), row.1);
+fn header_of(rt: &impl Abort, alloc: Global, text: &[u8]) -> PartHeader {
+    let fields = fields(alloc, text).expect(rt, "memory");
+    part_header(alloc, &fields).expect(rt, "memory")
+}
+
+fn expect_header(rt: &impl Abort, alloc: Global, text: &[u8], wanted: &[u8]) {
+    let header = header_of(rt, alloc, text);
+    assert_eq!(rt; written(rt, alloc, &header).as_slice(), wanted);
+}
+
+fn expect_headers(rt: &impl Abort, alloc: Global, rows: &[(&[u8], &[u8])]) {
+    for (text, wanted) in rows {
+        expect_header(rt, alloc, text, wanted);
     }
-    Ok(())
 }
 
 #[test]
-fn parts_have_headers(rt: HostRuntime) -> Result<(), Fail> {
-    expect_headers(&rt, rt.alloc(), &EXAMPLES)?;
-    expect_headers(&rt, rt.alloc(), &READINGS)?;
-    expect_headers(&rt, rt.alloc(), &IDS_AND_PLACES)?;
-    Ok(())
+fn parts_have_headers(rt: HostRuntime) {
+    expect_headers(&rt, rt.alloc(), &EXAMPLES);
+    expect_headers(&rt, rt.alloc(), &READINGS);
+    expect_headers(&rt, rt.alloc(), &IDS_AND_PLACES);
 }
 
-/// A type, the piece n times, and a charset.
-fn long_type(alloc: Global, piece: &[u8]) -> Result<Vec<u8>, AllocError> {
-    let mut text = Vec::new(alloc);
-    text.extend_from_slice(b"Content-Type: a/b")?;
-    for _ in 0..20_000 {
-        text.extend_from_slice(piece)?;
-    }
-    text.extend_from_slice(b"; charset=z\n")?;
-    Ok(text)
+/// The front, a piece twenty thousand times, and what is behind.
+fn long(rt: &impl Abort, alloc: Global, front: &str, piece: &str, behind: &str) -> String {
+    let pieces = piece.repeat(alloc, 20_000).expect(rt, "memory");
+    format!(in alloc; "{front}{pieces}{behind}").expect(rt, "memory")
 }
 
-/// An id of the piece, n times.
-fn long_id(alloc: Global, piece: &[u8]) -> Result<Vec<u8>, AllocError> {
-    let mut text = Vec::new(alloc);
-    text.extend_from_slice(b"Content-ID: ")?;
-    for _ in 0..20_000 {
-        text.extend_from_slice(piece)?;
+/// Pieces of a long type, and whether the charset behind them is read.
+const TYPES: [(&str, &[u8]); 8] = [
+    ("; x=y", b"a/b|-|z|-|-|-|-|-|-|"),
+    ("  (c)", b"a/b|-|z|-|-|-|-|-|-|"),
+    ("(", b"a/b|-|-|-|-|-|-|-|-|"),
+    ("\"", b"a/b|-|-|-|-|-|-|-|-|"),
+    ("[", b"a/b|-|-|-|-|-|-|-|-|"),
+    (";", b"a/b|-|-|-|-|-|-|-|-|"),
+    ("=", b"a/b|-|-|-|-|-|-|-|-|"),
+    ("\\", b"a/b|-|-|-|-|-|-|-|-|"),
+];
+
+/// Pieces of a long id.
+const IDS: [&str; 3] = ["(a", "\"\\", "a)"];
+
+fn id_length(header: &PartHeader) -> usize {
+    match &header.cid {
+        None => 0,
+        Some(id) => id.as_slice().len(),
     }
-    text.push(b'\n')?;
-    Ok(text)
 }
 
 /// Twenty thousand parameters, blanks and openers are read.
 #[test]
-fn long_values_are_read(rt: HostRuntime) -> Result<(), Fail> {
+fn long_values_are_read(rt: HostRuntime) {
     let alloc = rt.alloc();
-    for piece in [b"; x=y", b"  (c)"] {
-        let header = part_header(alloc, &fields(alloc, long_type(alloc, piece)?.as_slice())?)?;
-        let text = written(alloc, &header)?;
-        assert_eq!(rt; text.as_slice(), b"a/b|-|z|-|-|-|-|-|-|".as_slice());
+    for (piece, wanted) in TYPES.iter() {
+        let text = long(&rt, alloc, "Content-Type: a/b", piece, "; charset=z\n");
+        expect_header(&rt, alloc, text.as_bytes(), wanted);
     }
-    for piece in [b"(", b"\"", b"[", b";", b"=", b"\\"] {
-        let header = part_header(alloc, &fields(alloc, long_type(alloc, piece)?.as_slice())?)?;
-        let text = written(alloc, &header)?;
-        assert_eq!(rt; text.as_slice(), b"a/b|-|-|-|-|-|-|-|-|".as_slice());
+    for piece in IDS.iter() {
+        let text = long(&rt, alloc, "Content-ID: ", piece, "\n");
+        let header = header_of(&rt, alloc, text.as_bytes());
+        assert_eq!(rt; id_length(&header), 40_000);
     }
-    for piece in [b"(a", b"\"\\", b"a)"] {
-        let header = part_header(alloc, &fields(alloc, long_id(alloc, piece)?.as_slice())?)?;
-        assert_eq!(rt; header.cid.map(|id| id.as_slice().len()), Some(40_000));
-    }
-    Ok(())
 }

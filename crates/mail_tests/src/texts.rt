@@ -1,8 +1,5 @@
 // Raw and Text forms.
 use mail_header::{as_raw, as_text};
-use std::alloc::Global;
-use std::process::Abort;
-use std::test::Fail;
 
 /// Values, and their texts.
 const TEXTS: [(&[u8], &[u8]); 11] = [
@@ -22,22 +19,13 @@ const TEXTS: [(&[u8], &[u8]); 11] = [
     (b"", b""),
 ];
 
-fn expect_texts(rt: &impl Abort, alloc: Global, rows: &[(&[u8], &[u8])]) -> Result<(), Fail> {
-    for row in rows {
-        let text = as_text(alloc, row.0)?;
-        assert_eq!(rt; text.as_slice(), row.1);
+#[test]
+fn values_are_texts(rt: HostRuntime) {
+    let alloc = rt.alloc();
+    for (value, wanted) in TEXTS.iter() {
+        let text = as_text(alloc, value).expect(&rt, "memory");
+        assert_eq!(rt; text.as_slice(), *wanted);
     }
-    Ok(())
-}
-
-#[test]
-fn values_are_texts(rt: HostRuntime) -> Result<(), Fail> {
-    expect_texts(&rt, rt.alloc(), &TEXTS)
-}
-
-#[test]
-fn values_are_raw(rt: HostRuntime) -> Result<(), Fail> {
-    let raw = as_raw(rt.alloc(), b" a\x00\r\n \xC3")?;
+    let raw = as_raw(alloc, b" a\x00\r\n \xC3").expect(&rt, "memory");
     assert_eq!(rt; raw.as_slice(), b" a\r\n \xEF\xBF\xBD".as_slice());
-    Ok(())
 }

@@ -1,9 +1,9 @@
 // Trees of parts.
-use crate::outline::go_over;
+use crate::long_texts::{many, with};
+use crate::outline::{body_of, go_over};
 use mime_tree::{Part, parse};
-use std::alloc::{AllocError, Global};
+use std::alloc::Global;
 use std::process::Abort;
-use std::test::Fail;
 
 /// Messages that are one part.
 const LEAVES: [(&[u8], &[u8]); 16] = [
@@ -185,38 +185,27 @@ const NESTED: [(&[u8], &[u8]); 8] = [
 ];
 
 #[test]
-fn messages_of_one_part_are_leaves(rt: HostRuntime) -> Result<(), Fail> {
-    go_over(&rt, rt.alloc(), LEAVES.as_slice())
+fn messages_are_trees(rt: HostRuntime) {
+    go_over(&rt, rt.alloc(), LEAVES.as_slice());
+    go_over(&rt, rt.alloc(), MULTIPARTS.as_slice());
+    go_over(&rt, rt.alloc(), NESTED.as_slice());
 }
 
-#[test]
-fn multiparts_are_split_at_delimiter_lines(rt: HostRuntime) -> Result<(), Fail> {
-    go_over(&rt, rt.alloc(), MULTIPARTS.as_slice())
-}
-
-#[test]
-fn multiparts_stand_in_multiparts(rt: HostRuntime) -> Result<(), Fail> {
-    go_over(&rt, rt.alloc(), NESTED.as_slice())
-}
-
-fn push_pair(text: &mut Vec<u8>, level: u8) -> Result<(), AllocError> {
-    text.push(b'0' + level / 10 % 10)?;
-    text.push(b'0' + level % 10)?;
-    Ok(())
+fn tree(rt: &impl Abort, alloc: Global, bytes: &[u8]) -> Part {
+    parse(alloc, bytes).expect(rt, "memory")
 }
 
 /// A multipart in each of n others, each with a boundary of its own.
-fn nested(alloc: Global, levels: u8) -> Result<Vec<u8>, AllocError> {
+fn nested(rt: &impl Abort, alloc: Global, levels: u8) -> Vec<u8> {
     let mut text = Vec::new(alloc);
     for level in 0..levels {
-        text.extend_from_slice(b"Content-Type: multipart/mixed; boundary=")?;
-        push_pair(&mut text, level)?;
-        text.extend_from_slice(b"\n\n--")?;
-        push_pair(&mut text, level)?;
-        text.push(b'\n')?;
+        let header = format!(in alloc;
+            "Content-Type: multipart/mixed; boundary={level:02}\n\n--{level:02}\n"
+        ).expect(rt, "memory");
+        text.extend_from_slice(header.as_bytes())
+            .expect(rt, "memory");
     }
-    text.extend_from_slice(b"\nHi")?;
-    Ok(text)
+    with(rt, text, b"\nHi")
 }
 
 /// The part under n others, each the first in the one above.
@@ -231,76 +220,72 @@ fn part_below(part: &Part, levels: u8) -> &Part {
     below
 }
 
-fn body_of<'a>(bytes: &'a [u8], part: &Part) -> &'a [u8] {
-    match bytes.get(part.start..part.end) {
-        None => b"?",
-        Some(body) => body,
-    }
+/// Whether the part is a text, the first leaf.
+fn is_first_text(part: &Part) -> bool {
+    part.number == Some(1)
+        && part.children.is_empty()
+        && part.media.as_slice() == b"text/plain".as_slice()
+}
+
+/// Whether the part is a multipart of one part.
+fn is_of_one(part: &Part) -> bool {
+    part.number.is_none()
+        && part.children.len() == 1
+        && part.media.as_slice() == b"multipart/mixed".as_slice()
+}
+
+/// The body at depth 64 has 36 levels of 49 octets, less the 44 of the first header, and the last part of 3.
+#[test]
+fn parts_at_depth_64_are_leaves(rt: HostRuntime) {
+    let text = nested(&rt, rt.alloc(), 100);
+    let root = tree(&rt, rt.alloc(), text.as_slice());
+    assert!(rt; is_of_one(part_below(&root, 63)));
+    assert!(rt; is_first_text(part_below(&root, 64)));
+    assert_eq!(rt; body_of(text.as_slice(), part_below(&root, 64)).len(), 1723);
 }
 
 #[test]
-fn parts_at_depth_64_are_leaves(rt: HostRuntime) -> Result<(), Fail> {
-    let text = nested(rt.alloc(), 100)?;
-    let root = parse(rt.alloc(), text.as_slice())?;
-    let above = part_below(&root, 63);
-    assert_eq!(rt; above.number, None);
-    assert_eq!(rt; above.children.len(), 1);
-    assert_eq!(rt; above.media.as_slice(), b"multipart/mixed".as_slice());
-    let leaf = part_below(&root, 64);
-    assert_eq!(rt; leaf.number, Some(1));
-    assert_eq!(rt; leaf.children.len(), 0);
-    assert_eq!(rt; leaf.media.as_slice(), b"text/plain".as_slice());
-    // 36 levels of 49 octets, less the 44 of the first header, and the last part of 3
-    assert_eq!(rt; body_of(text.as_slice(), leaf).len(), 1723);
-    Ok(())
+fn parts_above_depth_64_are_split(rt: HostRuntime) {
+    let text = nested(&rt, rt.alloc(), 64);
+    let root = tree(&rt, rt.alloc(), text.as_slice());
+    assert!(rt; is_first_text(part_below(&root, 64)));
+    assert_eq!(rt;
+        body_of(text.as_slice(), part_below(&root, 64)),
+        b"Hi".as_slice()
+    );
+}
+
+/// The octets are a multipart of so many parts, of which the last is this text.
+fn expect_parts(rt: &impl Abort, alloc: Global, bytes: &[u8], count: usize, last: &[u8]) {
+    let root = tree(rt, alloc, bytes);
+    assert_eq!(rt; root.children.len(), count);
+    match root.leaf(count as u64) {
+        None => panic!(rt; "no last leaf"),
+        Some(part) => assert_eq!(rt; body_of(bytes, part), last),
+    }
+}
+
+/// A multipart's header, and this many of the piece.
+fn long_multipart(rt: &impl Abort, alloc: Global, piece: &[u8], count: usize) -> Vec<u8> {
+    let front = b"Content-Type: multipart/mixed; boundary=a\n\n--a"
+        .to_vec(alloc)
+        .expect(rt, "memory");
+    with(rt, front, many(rt, alloc, piece, count).as_slice())
 }
 
 #[test]
-fn parts_above_depth_64_are_split(rt: HostRuntime) -> Result<(), Fail> {
-    let text = nested(rt.alloc(), 64)?;
-    let root = parse(rt.alloc(), text.as_slice())?;
-    let leaf = part_below(&root, 64);
-    assert_eq!(rt; leaf.number, Some(1));
-    assert_eq!(rt; leaf.media.as_slice(), b"text/plain".as_slice());
-    assert_eq!(rt; body_of(text.as_slice(), leaf), b"Hi".as_slice());
-    Ok(())
-}
-
-fn many_parts(alloc: Global, count: u32) -> Result<Vec<u8>, AllocError> {
-    let mut text = Vec::new(alloc);
-    text.extend_from_slice(b"Content-Type: multipart/mixed; boundary=a\n\n")?;
-    for _ in 0..count {
-        text.extend_from_slice(b"--a\n\nx\n")?;
-    }
-    text.extend_from_slice(b"--a--")?;
-    Ok(text)
-}
-
-#[test]
-fn many_parts_are_split(rt: HostRuntime) -> Result<(), Fail> {
-    let text = many_parts(rt.alloc(), 200_000)?;
-    let root = parse(rt.alloc(), text.as_slice())?;
-    assert_eq!(rt; root.children.len(), 200_000);
-    match root.leaf(200_000) {
-        None => assert!(rt; false),
-        Some(part) => assert_eq!(rt; body_of(text.as_slice(), part), b"x".as_slice()),
-    }
-    Ok(())
+fn many_parts_are_split(rt: HostRuntime) {
+    let alloc = rt.alloc();
+    let text = long_multipart(&rt, alloc, b"\n\nx\n--a", 200_000);
+    let text = with(&rt, text, b"--");
+    expect_parts(&rt, alloc, text.as_slice(), 200_000, b"x");
 }
 
 /// A delimiter line may be as long as the message.
 #[test]
-fn long_lines_are_read(rt: HostRuntime) -> Result<(), Fail> {
-    let mut text = Vec::new(rt.alloc());
-    text.extend_from_slice(b"Content-Type: multipart/mixed; boundary=a\n\n--a")?;
-    for _ in 0..1_000_000 {
-        text.push(b' ')?;
-    }
-    text.extend_from_slice(b"\n\nx")?;
-    let root = parse(rt.alloc(), text.as_slice())?;
-    assert_eq!(rt; root.children.len(), 1);
-    if let Some(part) = root.leaf(1) {
-        assert_eq!(rt; body_of(text.as_slice(), part), b"x".as_slice());
-    }
-    Ok(())
+fn long_lines_are_read(rt: HostRuntime) {
+    let alloc = rt.alloc();
+    let text = long_multipart(&rt, alloc, b" ", 1_000_000);
+    let text = with(&rt, text, b"\n\nx");
+    expect_parts(&rt, alloc, text.as_slice(), 1, b"x");
 }
