@@ -26,28 +26,28 @@ IfServed P (Some serving) = P serving
 
 -- The request was not late when its next octets were waited for, no longer than until they were due; these came, and they are
 -- noted.
-pub record ReceivesInTime {S : Type 0} (receives : S → ℕ → Option (List ℕ) → S → Type 0) (reads : Option ℕ → Type 0) (octets : List ℕ)
+pub record ReceivesInTime {S : Type 0} (receives : S → ℕ → Option (List ℕ) → Type 0) (reads : Option ℕ → Type 0) (octets : List ℕ)
     (old new : Serving S) : Type 0 where
   pub now : ℕ
   pub is_now : reads (Some now)
   pub limit : ℕ
   pub is_left : now + limit ≡ due old.progress
   pub some_left : 0 < limit
-  pub received : receives old.stream limit (Some octets) new.stream
+  pub received : receives old.stream limit (Some octets)
   pub later : ℕ
   pub is_later : reads (Some later)
   pub notes : new.progress ≡ noted octets later old.progress
 
 -- The response was not late when its next octets were given, no longer than until they were due; these were taken, and they are
 -- noted.
-pub record SendsInTime {S : Type 0} (sends : S → ℕ → Option (List ℕ) → S → Type 0) (reads : Option ℕ → Type 0) (octets : List ℕ)
+pub record SendsInTime {S : Type 0} (sends : S → ℕ → Option (List ℕ) → Type 0) (reads : Option ℕ → Type 0) (octets : List ℕ)
     (old new : Serving S) : Type 0 where
   pub now : ℕ
   pub is_now : reads (Some now)
   pub limit : ℕ
   pub is_left : now + limit ≡ pace_due (pace_at now old.sent)
   pub some_left : 0 < limit
-  pub taken : sends old.stream limit (Some octets) new.stream
+  pub taken : sends old.stream limit (Some octets)
   pub notes : new.sent ≡ Some (with_octets (length octets) (pace_at now old.sent))
 
 -- there is one before and one after, and this relates the two

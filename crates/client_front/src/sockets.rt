@@ -18,11 +18,11 @@ pub trait ClientStream: Drop {
     /// What the client may have sent first. A caller knows nothing else of it.
     ghost shows: { Self → First → Type 0 };
 
-    /// What a wait of at most so long may come to, between the stream before it and after it: the octets that the client gave,
-    /// or those that it took, and None where it failed. A caller knows nothing else of them.
-    ghost receives: { Self → ℕ → Option (List ℕ) → Self → Type 0 };
+    /// The octets that a wait of at most so long may give, and those that the client may have taken after one. A caller knows
+    /// nothing else of them.
+    ghost receives: { Self → ℕ → Option (List ℕ) → Type 0 };
 
-    ghost sends: { Self → ℕ → Option (List ℕ) → Self → Type 0 };
+    ghost sends: { Self → ℕ → Option (List ℕ) → Type 0 };
 
     /// What the client has sent first. It does not wait.
     fn first(&self) -> First
@@ -32,13 +32,13 @@ pub trait ClientStream: Drop {
     /// client ended its input. None where none came in time or the stream failed.
     fn receive(&mut self, into: &mut [u8], limit: u64) -> Option<usize>
         ensures bound { IfSome result (λ n. n ≤ length into.new) }
-        ensures received { receives self.old limit (option_map (λ n. take n into.new) result) self.new };
+        ensures received { receives self.old limit (option_map (λ n. take n into.new) result) };
 
     /// Gives the client some of the octets, from their front, and waits for it at most so long: how many it took, at least
     /// 1. None where it took none in time or the stream failed.
     fn send(&mut self, from: &[u8], limit: u64) -> Option<usize>
         ensures bound { IfSome result (λ n. (0 < n) × (n ≤ length from.now)) }
-        ensures taken { sends self.old limit (option_map (λ n. take n from.now) result) self.new };
+        ensures taken { sends self.old limit (option_map (λ n. take n from.now) result) };
 
     /// Tells the client that nothing more is sent.
     fn end_writing(&mut self);

@@ -34,9 +34,9 @@ impl ClientStream for Dripping {
 
     ghost shows = { λ _ _. ⊤ };
 
-    ghost receives = { λ _ _ _ _. ⊤ };
+    ghost receives = { λ _ _ _. ⊤ };
 
-    ghost sends = { λ _ _ _ _. ⊤ };
+    ghost sends = { λ _ _ _. ⊤ };
 
     fn first(&self) -> First {
         First::Octet(b'G')
