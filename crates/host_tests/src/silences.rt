@@ -27,9 +27,9 @@ impl ClientStream for Hesitant {
 
     ghost shows = { λ _ _. ⊤ };
 
-    ghost receives = { λ _ _ _ _. ⊤ };
+    ghost receives = { λ _ _ _. ⊤ };
 
-    ghost sends = { λ _ _ _ _. ⊤ };
+    ghost sends = { λ _ _ _. ⊤ };
 
     fn first(&self) -> First {
         let looks = self.looks.get();
