@@ -1,5 +1,5 @@
 -- Which clients are handed on.
-use Rattle.std.specs.Prelude.{◌≡◌, ◌+◌, ◌<◌, ℕ, List, IsTrue, Option, None, Some}
+use Rattle.std.specs.Prelude.{◌≡◌, ◌+◌, ◌<◌, ℕ, List, length, IsTrue, Option, None, Some}
 use Rattle.client_front.specs.Deadlines.{begun, due, pace_at, pace_due, with_octets}
 use Rattle.client_front.specs.FirstOctet.{can_begin}
 use Rattle.client_front.specs.HeadEnd.{noted}
@@ -7,17 +7,12 @@ use Rattle.client_front.specs.declared.serving.Serving.{Serving}
 use Rattle.client_front.specs.declared.sockets.First.{First}
 use Rattle.client_front.specs.declared.sockets.First.TheVariants.{Octet}
 
--- a fact of the octet, where there is one
-abbrev pub IfOctet : (ℕ → Type 0) → First → Type 0
-IfOctet P (Octet octet) = P octet
-IfOctet P _ = Unit {0}
-
 -- the client has sent an octet that may begin a head
-abbrev pub Asks : {S : Type 0} → (S → ℕ → Type 0) → S → Type 0
-Asks shows stream = (octet : ℕ) × shows stream octet × IsTrue (can_begin octet)
+abbrev pub Asks : {S : Type 0} → (S → First → Type 0) → S → Type 0
+Asks shows stream = (octet : ℕ) × shows stream (Octet octet) × IsTrue (can_begin octet)
 
 -- The client has sent an octet that may begin a head, and its request begins now.
-pub record Handed {S : Type 0} (shows : S → ℕ → Type 0) (reads : Option ℕ → Type 0) (serving : Serving S) : Type 0 where
+pub record Handed {S : Type 0} (shows : S → First → Type 0) (reads : Option ℕ → Type 0) (serving : Serving S) : Type 0 where
   pub asks : Asks shows serving.stream
   pub now : ℕ
   pub is_now : reads (Some now)
@@ -45,7 +40,7 @@ pub record ReceivesInTime {S : Type 0} (receives : S → ℕ → Option (List �
 
 -- The response was not late when its next octets were given, no longer than until they were due; these were taken, and they are
 -- noted.
-pub record SendsInTime {S : Type 0} (sends : S → ℕ → Option (List ℕ) → Type 0) (reads : Option ℕ → Type 0) (count : ℕ) (octets : List ℕ)
+pub record SendsInTime {S : Type 0} (sends : S → ℕ → Option (List ℕ) → Type 0) (reads : Option ℕ → Type 0) (octets : List ℕ)
     (old new : Serving S) : Type 0 where
   pub now : ℕ
   pub is_now : reads (Some now)
@@ -53,9 +48,9 @@ pub record SendsInTime {S : Type 0} (sends : S → ℕ → Option (List ℕ) →
   pub is_left : now + limit ≡ pace_due (pace_at now old.sent)
   pub some_left : 0 < limit
   pub taken : sends old.stream limit (Some octets)
-  pub notes : new.sent ≡ Some (with_octets count (pace_at now old.sent))
+  pub notes : new.sent ≡ Some (with_octets (length octets) (pace_at now old.sent))
 
--- a client is served before and after, and this relates the two
-abbrev pub ServedSo : {S : Type 0} → (Serving S → Serving S → Type 0) → Option (Serving S) → Option (Serving S) → Type 0
-ServedSo P (Some old) (Some new) = P old new
-ServedSo P _ _ = ⊥
+-- there is one before and one after, and this relates the two
+abbrev pub BothSo : {A : Type 0} → (A → A → Type 0) → Option A → Option A → Type 0
+BothSo P (Some old) (Some new) = P old new
+BothSo P _ _ = ⊥

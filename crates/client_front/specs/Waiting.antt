@@ -1,6 +1,8 @@
 -- Clients that came and are not handed on yet.
-use Rattle.std.specs.Prelude.{◌≡◌, ◌≢◌, ◌+◌, ◌-◌, ◌^◌, ◌++◌, ℕ, Bool, false, List, [], ◌∷◌, Option, None, Some, All, length, min, nat_le, if◌then◌else◌}
+use Rattle.std.specs.Prelude.{◌≡◌, ◌≢◌, ◌+◌, ◌-◌, ◌^◌, ◌++◌, ◌⊎◌, ℕ, Bool, true, false, List, [], ◌∷◌, Option, None, Some, All, length, min, nat_le, if◌then◌else◌}
 use Rattle.std.specs.Option.{option_to_list}
+use Rattle.client_front.specs.declared.sockets.First.{First}
+use Rattle.client_front.specs.declared.sockets.First.TheVariants.{Nothing}
 use Rattle.client_front.specs.declared.waiting.Idle.{Idle}
 use Rattle.client_front.specs.declared.waiting.Waiting.{Waiting}
 
@@ -29,12 +31,36 @@ abbrev pub unexpired : {S : Type 0} → ℕ → List (Idle S) → List (Idle S)
 unexpired now [] = []
 unexpired now (client ∷ idle) = if has_expired now client.since then unexpired now idle else client ∷ idle
 
--- the stream is that of the first client with the key, which is held no longer; or none has the key, and all stay
-abbrev pub IsTaken : {S : Type 0} → ℕ → Option S → List (Idle S) → List (Idle S) → Type 0
-IsTaken key None old now = All (λ client. client.key ≢ key) old × (now ≡ old)
-IsTaken {S} key (Some stream) old now = (before : List (Idle S)) × (client : Idle S) × (after : List (Idle S)) × (old ≡ before ++ client ∷ after)
-    × All (λ earlier. earlier.key ≢ key) before × (client.key ≡ key) × (client.stream ≡ stream) × (now ≡ before ++ after)
+-- an idle client that is the first with the key, those before it and those after it
+pub record FirstWith {S : Type 0} (key : ℕ) (idle : List (Idle S)) : Type 0 where
+  pub before : List (Idle S)
+  pub client : Idle S
+  pub after : List (Idle S)
+  pub whole : idle ≡ before ++ client ∷ after
+  pub earlier : All (λ other. other.key ≢ key) before
+  pub has_key : client.key ≡ key
 
--- the client with the key, where there is one, stands at the end of those that have sent something
-abbrev pub IsAsked : {S : Type 0} → ℕ → Waiting S → Waiting S → Type 0
-IsAsked {S} key old new = (asks : Option S) × IsTaken key asks old.idle.items new.idle.items × (new.asking.items ≡ old.asking.items ++ option_to_list asks)
+-- whether this is something, or an end
+abbrev pub has_come : First → Bool
+has_come Nothing = false
+has_come _ = true
+
+-- whether the client has sent something, or ended
+abbrev pub HasSent : {S : Type 0} → (S → First → Type 0) → Bool → S → Type 0
+HasSent shows sent stream = (shown : First) × shows stream shown × (has_come shown ≡ sent)
+
+-- the first client with the key has sent nothing yet
+abbrev pub IsSilent : {S : Type 0} → (S → First → Type 0) → ℕ → List (Idle S) → Type 0
+IsSilent shows key idle = (found : FirstWith key idle) × HasSent shows false found.client.stream
+
+-- The stream is that of the first client with the key, which has sent something or ended, and is held no longer. Or none has the key, or
+-- that client has sent nothing yet, as where a wait ended for nothing: then all stay.
+abbrev pub IsTaken : {S : Type 0} → (S → First → Type 0) → ℕ → Option S → List (Idle S) → List (Idle S) → Type 0
+IsTaken shows key None old now = (All (λ client. client.key ≢ key) old ⊎ IsSilent shows key old) × (now ≡ old)
+IsTaken shows key (Some stream) old now =
+    (found : FirstWith key old) × (found.client.stream ≡ stream) × HasSent shows true stream × (now ≡ found.before ++ found.after)
+
+-- the client with the key, where there is one that has sent something or ended, stands at the end of those that have
+abbrev pub IsAsked : {S : Type 0} → (S → First → Type 0) → ℕ → Waiting S → Waiting S → Type 0
+IsAsked {S} shows key old new =
+    (asks : Option S) × IsTaken shows key asks old.idle.items new.idle.items × (new.asking.items ≡ old.asking.items ++ option_to_list asks)

@@ -1,6 +1,6 @@
 // The front: holds clients, and hands on the first that asks.
 ghost use Rattle.std.specs.Prelude.{◌≡◌, ◌<◌, ◌≤◌, length, take, true, IsNone, IfSome, OnSome};
-ghost use Rattle.client_front.specs.Handing.{Handed, IfServed, ServedSo, ReceivesInTime, SendsInTime};
+ghost use Rattle.client_front.specs.Handing.{BothSo, Handed, IfServed, ReceivesInTime, SendsInTime};
 
 use crate::clock::Ticks;
 use crate::first_octet::can_begin;
@@ -61,7 +61,8 @@ impl<L: ClientListener + Drop, C: Ticks + Drop> ClientFront<L, C> {
         self.clock.milliseconds()
     }
 
-    /// Hands on the client that has sent something first, where it asks; else it is closed. Whether one is handed on.
+    /// Hands on the client that has sent something first, where it asks; else it is closed. Whether one is handed on. What a
+    /// client has sent, or its end, it goes on to show until it is read: so none is closed here that has sent nothing.
     fn hand_on(&mut self) -> Option<bool>
         ensures handed { IfSome result (λ done. done ≡ true → IfServed (Handed L.Stream.shows (C.reads self.new.clock)) self.new.current) }
     {
@@ -130,7 +131,7 @@ impl<L: ClientListener + Drop, C: Ticks + Drop> ClientFront<L, C> {
     /// stream failed, or none is served.
     pub fn recv(&mut self, into: &mut [u8]) -> Option<usize>
         ensures bound { IfSome result (λ n. n ≤ length into.new) }
-        ensures in_time { IfSome result (λ n. ServedSo (ReceivesInTime L.Stream.receives (C.reads self.old.clock) (take n into.new)) self.old.current self.new.current) }
+        ensures in_time { IfSome result (λ n. BothSo (ReceivesInTime L.Stream.receives (C.reads self.old.clock) (take n into.new)) self.old.current self.new.current) }
     {
         match &mut self.current {
             Some(serving) => serving.receive(&self.clock, into),
@@ -142,7 +143,7 @@ impl<L: ClientListener + Drop, C: Ticks + Drop> ClientFront<L, C> {
     /// taking them, its stream failed, or none is served.
     pub fn send(&mut self, from: &[u8]) -> Option<usize>
         ensures bound { IfSome result (λ n. (0 < n) × (n ≤ length from.now)) }
-        ensures in_time { IfSome result (λ n. ServedSo (SendsInTime L.Stream.sends (C.reads self.old.clock) n (take n from.now)) self.old.current self.new.current) }
+        ensures in_time { IfSome result (λ n. BothSo (SendsInTime L.Stream.sends (C.reads self.old.clock) (take n from.now)) self.old.current self.new.current) }
     {
         match &mut self.current {
             Some(serving) => serving.send(&self.clock, from),

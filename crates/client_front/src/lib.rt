@@ -5,6 +5,7 @@
 // What is asked of a host.
 mod clock;
 mod sockets;
+mod streams;
 mod toolchain;
 
 // Clients that wait.
@@ -25,5 +26,6 @@ pub use pace::{MIN_OCTETS_PER_MILLISECOND, PATIENCE_MILLISECONDS};
 pub use progress::HEAD_MILLISECONDS;
 pub use serving::{DRAIN_MILLISECONDS, MAX_DRAIN_OCTETS};
 pub use sockets::{ClientListener, ClientStream, First};
+pub use streams::{read_once, write_once};
 pub use toolchain::{TcpClient, TcpClients};
 pub use waiting::{IDLE_MILLISECONDS, MAX_HELD_CLIENTS};

@@ -53,13 +53,14 @@ impl<S: ClientStream> Serving<S> {
     /// Gives the client octets of the response, while it is not late in taking them.
     pub(crate) fn send<C: Ticks>(&mut self, clock: &C, from: &[u8]) -> Option<usize>
         ensures bound { IfSome result (λ n. (0 < n) × (n ≤ length from.now)) }
-        ensures in_time { IfSome result (λ n. SendsInTime S.sends (C.reads clock.now) n (take n from.now) self.old self.new) }
+        ensures in_time { IfSome result (λ n. SendsInTime S.sends (C.reads clock.now) (take n from.now) self.old self.new) }
     {
         let now = clock.milliseconds()?;
         let mut pace = pace_at(self.sent, now);
         let limit = left(pace.due(), now)?;
         let count = self.stream.send(from, limit)?;
-        pace.add(count);
+        let (octets, _) = from.split_at(count);
+        pace.add(octets.len());
         self.sent = Some(pace);
         Some(count)
     }
@@ -67,7 +68,7 @@ impl<S: ClientStream> Serving<S> {
     /// Ends the response, and drops what still comes, so that the client reads it to its end.
     pub(crate) fn finish<C: Ticks>(mut self, clock: &C) {
         self.stream.end_writing();
-        let _ = drain(&mut self.stream, clock);
+        drain(&mut self.stream, clock);
     }
 }
 
@@ -85,24 +86,34 @@ fn pace_at(sent: Option<Pace>, now: u64) -> Pace
 }
 
 /// Reads and drops what comes, for a short time: how many octets.
-fn drain<S: ClientStream, C: Ticks>(stream: &mut S, clock: &C) -> Option<usize> {
-    let due = clock.milliseconds()?.saturating_add(DRAIN_MILLISECONDS);
-    let mut dropped = 0usize;
-    for _ in 0..MAX_DRAIN_OCTETS {
-        if dropped >= MAX_DRAIN_OCTETS {
+fn drain<S: ClientStream, C: Ticks>(stream: &mut S, clock: &C) -> usize
+    ensures { result ≤ MAX_DRAIN_OCTETS }
+{
+    let mut dropped = 0;
+    let Some(now) = clock.milliseconds() else {
+        return dropped;
+    };
+    let due = now.saturating_add(DRAIN_MILLISECONDS);
+    while dropped < MAX_DRAIN_OCTETS {
+        let Some(count) = drain_piece(stream, clock, due, MAX_DRAIN_OCTETS - dropped) else {
             break;
-        }
-        let count = drain_piece(stream, left(due, clock.milliseconds()?)?)?;
-        dropped = dropped.saturating_add(count);
+        };
+        dropped += count;
     }
-    Some(dropped)
+    dropped
 }
 
-/// Reads and drops one piece; none where nothing more comes.
-fn drain_piece<S: ClientStream>(stream: &mut S, limit: u64) -> Option<usize> {
+/// Reads and drops one piece of at most so many octets: how many. None where nothing more comes, or not in time.
+fn drain_piece<S: ClientStream, C: Ticks>(
+    stream: &mut S,
+    clock: &C,
+    due: u64,
+    most: usize,
+) -> Option<usize>
+    ensures { IfSome result (λ n. (0 < n) × (n ≤ most)) }
+{
+    let limit = left(due, clock.milliseconds()?)?;
     let mut room = [0u8; DRAIN_PIECE_OCTETS];
-    match stream.receive(&mut room, limit) {
-        Some(0) | None => None,
-        Some(count) => Some(count),
-    }
+    let count = stream.receive(&mut room[..most.min(DRAIN_PIECE_OCTETS)], limit)?;
+    if count == 0 { None } else { Some(count) }
 }

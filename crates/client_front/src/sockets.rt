@@ -1,6 +1,6 @@
 // What the front asks of a host's listener and of a client's stream.
 ghost use Rattle.std.specs.Prelude.{ℕ, List, ◌<◌, ◌≤◌, Option, length, take, option_map, IfSome};
-ghost use Rattle.client_front.specs.Handing.{IfOctet};
+ghost use Rattle.client_front.specs.declared.sockets.First.{First};
 
 /// What a client that may have sent something has sent first.
 #[derive(Clone, Copy, Debug, PartialEq, Eq)]
@@ -15,8 +15,8 @@ pub enum First {
 
 /// A client's stream. Times are milliseconds.
 pub trait ClientStream: Drop {
-    /// The first octet that the client may have sent. A caller knows nothing else of it.
-    ghost shows: { Self → ℕ → Type 0 };
+    /// What the client may have sent first. A caller knows nothing else of it.
+    ghost shows: { Self → First → Type 0 };
 
     /// The octets that a wait of at most so long may give, and those that the client may have taken after one. A caller knows
     /// nothing else of them.
@@ -26,7 +26,7 @@ pub trait ClientStream: Drop {
 
     /// What the client has sent first. It does not wait.
     fn first(&self) -> First
-        ensures { IfOctet (shows self.now) result };
+        ensures { shows self.now result };
 
     /// Waits for octets of the client, at most so long, and puts them at the front of `into`: how many, and 0 where the
     /// client ended its input. None where none came in time or the stream failed.

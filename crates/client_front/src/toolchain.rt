@@ -1,12 +1,14 @@
 // The toolchain's sockets, and readiness over them.
-ghost use Rattle.std.specs.Prelude.{◌<◌, ◌≤◌, length, IfSome};
+ghost use Rattle.std.specs.Prelude.{◌<◌, ◌≤◌, length, take, IfSome};
+ghost use Rattle.std.specs.Io.KnownBytes.{Appends, Consumes};
 
 use crate::sockets::{ClientListener, ClientStream, First};
+use crate::streams::{read_once, write_once};
 use mio::unix::SourceFd;
 use mio::{Events, Interest, Poll, Token};
 use std::alloc::Global;
 use std::io::{ErrorKind, Read, Write};
-use std::net::{Net, Shutdown, TcpListener, TcpStream};
+use std::net::{Net, OpenStream, Shutdown, TcpListener, TcpStream};
 use std::os::fd::AsRawFd;
 use std::time::Duration;
 
@@ -20,17 +22,6 @@ const LISTENER: usize = usize::MAX;
 #[derive(Drop)]
 pub struct TcpClient {
     stream: TcpStream,
-}
-
-impl TcpClient {
-    fn read_once(&mut self, into: &mut [u8], limit: u64) -> Option<usize>
-        ensures { IfSome result (λ n. n ≤ length into.new) }
-    {
-        self.stream
-            .set_read_timeout(Some(Duration::from_millis(limit)))
-            .ok()?;
-        self.stream.read(into).ok()
-    }
 }
 
 impl ClientStream for TcpClient {
@@ -52,23 +43,45 @@ impl ClientStream for TcpClient {
     }
 
     fn receive(&mut self, into: &mut [u8], limit: u64) -> Option<usize> {
-        self.stream.set_nonblocking(false).ok()?;
-        self.read_once(into, limit)
+        receive_over(&mut self.stream, into, limit)
     }
 
     fn send(&mut self, from: &[u8], limit: u64) -> Option<usize> {
-        self.stream.set_nonblocking(false).ok()?;
-        self.stream
-            .set_write_timeout(Some(Duration::from_millis(limit)))
-            .ok()?;
-        match self.stream.write(from) {
-            Ok(0) | Err(_) => None,
-            Ok(count) => Some(count),
-        }
+        send_over(&mut self.stream, from, limit)
     }
 
     fn end_writing(&mut self) {
         let _ = self.stream.shutdown(Shutdown::Write);
+    }
+}
+
+/// One read of a stream that waits at most so many milliseconds.
+fn receive_over<S: Read + OpenStream>(stream: &mut S, into: &mut [u8], limit: u64) -> Option<usize>
+    ensures bound { IfSome result (λ n. n ≤ length into.new) }
+    ensures octets { IfSome result (λ n. Consumes (S.remaining stream.old) (S.remaining stream.new) (take n into.new)) }
+{
+    stream.set_nonblocking(false).ok()?;
+    stream
+        .set_read_timeout(Some(Duration::from_millis(limit)))
+        .ok()?;
+    match read_once(stream, into) {
+        Ok(count) => Some(count),
+        Err(_) => None,
+    }
+}
+
+/// One write of a stream that waits at most so many milliseconds and takes an octet at least.
+fn send_over<S: Write + OpenStream>(stream: &mut S, from: &[u8], limit: u64) -> Option<usize>
+    ensures bound { IfSome result (λ n. (0 < n) × (n ≤ length from.now)) }
+    ensures octets { IfSome result (λ n. Appends (S.contents stream.old) (S.contents stream.new) (take n from.now)) }
+{
+    stream.set_nonblocking(false).ok()?;
+    stream
+        .set_write_timeout(Some(Duration::from_millis(limit)))
+        .ok()?;
+    match write_once(stream, from) {
+        Ok(0) | Err(_) => None,
+        Ok(count) => Some(count),
     }
 }
 

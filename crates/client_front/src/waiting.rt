@@ -1,9 +1,10 @@
 // Clients that came and are not handed on yet.
 ghost use Rattle.std.specs.Prelude.{◌≡◌, ◌≢◌, ◌<◌, ◌↔◌, ℕ, [], ◌∷◌, All, length, slice_index_or, IsTrue, IfOk, OnOk, IfSome, IfNone};
 ghost use Rattle.client_front.specs.Waiting as spec;
-ghost use Rattle.client_front.specs.Waiting.{IsTaken, IsAsked};
+ghost use Rattle.client_front.specs.Waiting.{HasSent, IsTaken, IsAsked};
 ghost use Rattle.client_front.specs.declared.waiting.Idle.{Idle};
 
+use crate::sockets::{ClientStream, First};
 use std::alloc::{AllocError, Global};
 use std::collections::VecDeque;
 
@@ -118,26 +119,6 @@ impl<S: Drop> Waiting<S> {
         None
     }
 
-    /// The idle client with the key, which is held no longer.
-    fn take(&mut self, key: u64) -> Option<S>
-        ensures taken { IsTaken key result self.old.idle.items self.new.idle.items }
-        ensures asking { self.new.asking ≡ self.old.asking }
-    {
-        let at = self.place_of(key)?;
-        let client = self.idle.remove(at)?;
-        Some(stream_of(client))
-    }
-
-    /// Notes that the client with the key has sent something.
-    pub(crate) fn ask(&mut self, key: u64) -> Result<(), AllocError>
-        ensures { OnOk result (IsAsked key self.old self.new) }
-    {
-        if let Some(stream) = self.take(key) {
-            self.asking.push_back(stream)?;
-        }
-        Ok(())
-    }
-
     /// Whether a client has sent something.
     pub(crate) fn has_asking(&self) -> bool {
         !self.asking.is_empty()
@@ -150,5 +131,41 @@ impl<S: Drop> Waiting<S> {
         ensures idle { self.new.idle ≡ self.old.idle }
     {
         self.asking.pop_front()
+    }
+}
+
+impl<S: ClientStream> Waiting<S> {
+    /// Whether the idle client there has sent something, or ended.
+    fn has_sent(&self, at: usize) -> bool
+        requires { at < length self.now.idle.items }
+        ensures { (d : Idle S) → HasSent S.shows result (slice_index_or self.now.idle.items at d).stream }
+    {
+        match self.idle[at].stream.first() {
+            First::Octet(_) | First::Ended => true,
+            First::Nothing => false,
+        }
+    }
+
+    /// The idle client with the key, which is held no longer; none where it has sent nothing, as where a wait ended for nothing.
+    fn take(&mut self, key: u64) -> Option<S>
+        ensures taken { IsTaken S.shows key result self.old.idle.items self.new.idle.items }
+        ensures asking { self.new.asking ≡ self.old.asking }
+    {
+        let at = self.place_of(key)?;
+        if !self.has_sent(at) {
+            return None;
+        }
+        let client = self.idle.remove(at)?;
+        Some(stream_of(client))
+    }
+
+    /// Notes that the client with the key has sent something, where it has.
+    pub(crate) fn ask(&mut self, key: u64) -> Result<(), AllocError>
+        ensures { OnOk result (IsAsked S.shows key self.old self.new) }
+    {
+        if let Some(stream) = self.take(key) {
+            self.asking.push_back(stream)?;
+        }
+        Ok(())
     }
 }

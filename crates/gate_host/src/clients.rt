@@ -1,5 +1,5 @@
 // Clients, whichever way they come.
-ghost use Rattle.std.specs.Prelude.{ℕ, Bool, List, Option, Result, ◌≡◌, ◌<◌, ◌≤◌, length, IfOk, OnOk, OnErr};
+ghost use Rattle.std.specs.Prelude.{ℕ, Bool, List, Option, Result, ◌≡◌, ◌<◌, ◌≤◌, length, take, IfOk, OnOk, OnErr};
 ghost use Rattle.std.specs.Io.KnownBytes.{ReadConsumes, WriteAppends};
 ghost use Rattle.gate_host.specs.Faults.{one_more};
 ghost use Rattle.gate_world.specs.declared.outside.Failed.{Failed as failed};
@@ -19,6 +19,12 @@ pub trait Clients: Drop {
     /// What a call of `accept` comes to, between the clients before it and after it.
     ghost accepts: { Self → Result Bool failed → Self → Type 0 };
 
+    /// What a call of `recv` that gives these octets comes to, and a call of `send` that takes these, between the clients
+    /// before it and after it.
+    ghost receives: { Self → List ℕ → Self → Type 0 };
+
+    ghost sends: { Self → List ℕ → Self → Type 0 };
+
     /// What a call of `finish` changes.
     ghost finishes: { Self → Self → Type 0 };
 
@@ -33,6 +39,7 @@ pub trait Clients: Drop {
     fn recv(&mut self, into: &mut [u8]) -> Result<usize, Failed>
         ensures bound { IfOk result (λ n. n ≤ length into.new) }
         ensures octets { ReadConsumes (gives self.old) (gives self.new) result into.new }
+        ensures receives { IfOk result (λ n. receives self.old (take n into.new) self.new) }
         ensures takes { takes self.new ≡ takes self.old }
         ensures ok { OnOk result (client_faults self.new ≡ client_faults self.old) }
         ensures err { OnErr result (client_faults self.new ≡ one_more (client_faults self.old)) }
@@ -42,6 +49,7 @@ pub trait Clients: Drop {
     fn send(&mut self, from: &[u8]) -> Result<usize, Failed>
         ensures bound { IfOk result (λ n. (0 < n) × (n ≤ length from.now)) }
         ensures octets { WriteAppends (takes self.old) (takes self.new) result from.now }
+        ensures sends { IfOk result (λ n. sends self.old (take n from.now) self.new) }
         ensures gives { gives self.new ≡ gives self.old }
         ensures ok { OnOk result (client_faults self.new ≡ client_faults self.old) }
         ensures err { OnErr result (client_faults self.new ≡ one_more (client_faults self.old)) }

@@ -47,8 +47,14 @@ impl<L: ClientListener + Drop, C: Ticks + Drop> Clients for ListenerFront<L, C> 
     ghost takes = { λ _. None };
 
     ghost use Rattle.std.specs.Prelude.{⊤};
+    ghost use Rattle.client_front.specs.Handing.{BothSo, ReceivesInTime, SendsInTime};
 
     ghost accepts = { λ _ _ _. ⊤ };
+
+    // The octets are just those that came for the client that is served, or that it took, in time.
+    ghost receives = { λ old octets new. BothSo (λ before after. BothSo (ReceivesInTime L.Stream.receives (C.reads before.clock) octets) before.current after.current) old.clients new.clients };
+
+    ghost sends = { λ old octets new. BothSo (λ before after. BothSo (SendsInTime L.Stream.sends (C.reads before.clock) octets) before.current after.current) old.clients new.clients };
 
     ghost finishes = { λ _ _. ⊤ };
 

@@ -5,7 +5,8 @@ ghost use Rattle.gate_host.specs.Faults.{one_more};
 
 use crate::Clients;
 use crate::faults::raised;
-use crate::streams::{read_once, write_some};
+use crate::streams::write_some;
+use client_front::read_once;
 use gate_world::Failed;
 use std::io::{Read, Write};
 
@@ -84,6 +85,7 @@ impl<I: Read + Drop, O: Write + Drop> StandardFront<I, O> {
 
 impl<I: Read + Drop, O: Write + Drop> Clients for StandardFront<I, O> {
     ghost use Rattle.std.specs.Prelude.{◌≡◌, Ok, true, not};
+    ghost use Rattle.std.specs.Io.KnownBytes.{Appends, Consumes};
 
     ghost client_faults = { λ f. f.faults };
 
@@ -93,6 +95,10 @@ impl<I: Read + Drop, O: Write + Drop> Clients for StandardFront<I, O> {
 
     // One client comes, the first time alone, and accepting never fails.
     ghost accepts = { λ old result new. (result ≡ Ok (not old.has_come)) × (new ≡ record old { has_come = true }) };
+
+    ghost receives = { λ old octets new. Consumes (I.remaining old.input) (I.remaining new.input) octets };
+
+    ghost sends = { λ old octets new. Appends (O.contents old.output) (O.contents new.output) octets };
 
     ghost finishes = { λ old new. new ≡ old };
 

@@ -1,46 +1,9 @@
-// One read or one write of a stream, repeated where a signal broke in.
-ghost use Rattle.std.specs.Prelude.{◌≢◌, ◌<◌, ◌≤◌, length, take, IfOk, IfErr, IfSome, IfNone};
-ghost use Rattle.std.specs.IoError.{error_kind};
-ghost use Rattle.std.specs.Io.KnownBytes.{Appends, Consumes, Keeps, ReadConsumes, WriteAppends};
+// A read or a write of a stream that comes to an octet at least.
+ghost use Rattle.std.specs.Prelude.{◌<◌, ◌≤◌, length, take, IfSome, IfNone};
+ghost use Rattle.std.specs.Io.KnownBytes.{Appends, Consumes, Keeps};
 
-use std::io;
-use std::io::{ErrorKind, Read, Write};
-
-/// Reads once, and again where a signal broke in.
-pub(crate) fn read_once<R: Read>(stream: &mut R, into: &mut [u8]) -> io::Result<usize>
-    ensures bound { IfOk result (λ n. n ≤ length into.new) }
-    ensures octets { ReadConsumes (R.remaining stream.old) (R.remaining stream.new) result into.new }
-{
-    'signals: for _ in 0..u64::MAX {
-        match stream.read(into) {
-            Ok(count) => return Ok(count),
-            Err(error) => {
-                if error.kind() != ErrorKind::Interrupted {
-                    return Err(error);
-                }
-            }
-        }
-    }
-    Err(io::Error::from(ErrorKind::TimedOut))
-}
-
-/// Writes once, and again where a signal broke in.
-pub(crate) fn write_once<W: Write>(stream: &mut W, from: &[u8]) -> io::Result<usize>
-    ensures bound { IfOk result (λ n. n ≤ length from.now) }
-    ensures octets { WriteAppends (W.contents stream.old) (W.contents stream.new) result from.now }
-{
-    'signals: for _ in 0..u64::MAX {
-        match stream.write(from) {
-            Ok(count) => return Ok(count),
-            Err(error) => {
-                if error.kind() != ErrorKind::Interrupted {
-                    return Err(error);
-                }
-            }
-        }
-    }
-    Err(io::Error::from(ErrorKind::TimedOut))
-}
+use client_front::{read_once, write_once};
+use std::io::{Read, Write};
 
 /// The count of a read that gave an octet at least. A stream that has ended gives none.
 pub(crate) fn read_some<R: Read>(stream: &mut R, into: &mut [u8]) -> Option<usize>

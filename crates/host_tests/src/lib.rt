@@ -13,3 +13,5 @@ mod fronts;
 mod links;
 #[cfg(test)]
 mod loopback;
+#[cfg(test)]
+mod silences;

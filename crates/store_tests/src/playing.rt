@@ -42,6 +42,18 @@ pub(crate) fn plain<'a>(links: &'a [&'a [u8]]) -> Lives<'a> {
     }
 }
 
+/// The play of these lives by this user in which nothing fails.
+pub(crate) fn by_user<'a>(links: &'a [&'a [u8]], user: &'a [u8], password: &'a [u8]) -> Lives<'a> {
+    Lives {
+        links,
+        user,
+        password,
+        piece: 100_000,
+        failing: 0,
+        body: (1, 0),
+    }
+}
+
 /// The script of these lives without what the store gives.
 fn script_of(rt: &impl Abort, alloc: Global, lives: &Lives<'_>) -> Script {
     Script::new(alloc)

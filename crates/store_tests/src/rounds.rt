@@ -287,7 +287,7 @@ fn slices_of<'a>(rt: &impl Abort, alloc: Global, texts: &'a [Vec<u8>]) -> Vec<&'
     slices
 }
 
-fn expect_round(rt: &impl Abort, alloc: Global, links: &[&[u8]], row: &Row) {
+fn expect_round<'a>(rt: &impl Abort, alloc: Global, links: &'a [&'a [u8]], row: &Row) {
     for piece in PIECES.iter() {
         let mut lives = plain(links);
         lives.piece = *piece;

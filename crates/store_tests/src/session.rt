@@ -1,5 +1,5 @@
 // How a session begins, and how it ends.
-use crate::playing::{Lives, PIECES, plain, play};
+use crate::playing::{Lives, PIECES, by_user, play};
 use std::alloc::Global;
 use std::process::Abort;
 
@@ -232,9 +232,7 @@ fn expect_lives(rt: &impl Abort, alloc: Global, lives: &Lives<'_>, answers: &str
 
 fn expect_start(rt: &impl Abort, alloc: Global, row: &Row, piece: usize) {
     let links = [row.0];
-    let mut lives = plain(&links);
-    lives.user = row.1.0;
-    lives.password = row.1.1;
+    let mut lives = by_user(&links, &*row.1.0, &*row.1.1);
     lives.piece = piece;
     expect_lives(rt, alloc, &lives, row.2, row.3);
 }
@@ -313,9 +311,7 @@ const HELD: [HeldRow; 11] = [
 
 fn expect_held(rt: &impl Abort, alloc: Global, row: &HeldRow) {
     let links = [row.0];
-    let mut lives = plain(&links);
-    lives.user = row.1.0;
-    lives.password = row.1.1;
+    let mut lives = by_user(&links, &*row.1.0, &*row.1.1);
     lives.failing = row.2;
     expect_lives(rt, alloc, &lives, row.3, row.4);
 }
