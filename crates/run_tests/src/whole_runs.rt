@@ -113,7 +113,7 @@ const TWO_FOLDERS: &[&[u8]] = &[
 ];
 
 /// What clients give, over which link life, what they are told, and how often the store is dialed.
-const ANSWERS: [(&[u8], &[&[u8]], &[u8], usize); 5] = [
+const ANSWERS: [(&[u8], &[&[u8]], &[u8], usize); 9] = [
     (
         b"{}",
         EMPTY_INBOX,
@@ -139,13 +139,42 @@ const ANSWERS: [(&[u8], &[&[u8]], &[u8], usize); 5] = [
         0,
     ),
     (ASKS_TWO, TWO_FOLDERS, TELLS_TWO, 1),
+    // two wrongs at once: the method before its references, and these before the kinds of arguments; every call but Core/echo
+    // needs the mail, also one that is refused
+    (
+        b"{\"using\":[\"urn:ietf:params:jmap:core\"],\"methodCalls\":[[\"Core/none\",{\"#a\":{\"resultOf\":\"c0\",\"name\":\"Core/echo\",\"path\":\"/a\"}},\"c1\"]]}",
+        EMPTY_INBOX,
+        b"{\"methodResponses\":[[\"error\",{\"type\":\"unknownMethod\"},\"c1\"]],\"sessionState\":\"1;5;alice;http://127.0.0.1:8080\"}\n",
+        1,
+    ),
+    (
+        b"{\"using\":[\"urn:ietf:params:jmap:core\",\"urn:ietf:params:jmap:mail\"],\"methodCalls\":[[\"Mailbox/get\",{\"accountId\":1,\"#ids\":{\"resultOf\":\"c0\",\"name\":\"Core/echo\",\"path\":\"/a\"}},\"c1\"]]}",
+        EMPTY_INBOX,
+        b"{\"methodResponses\":[[\"error\",{\"type\":\"invalidResultReference\"},\"c1\"]],\"sessionState\":\"1;5;alice;http://127.0.0.1:8080\"}\n",
+        1,
+    ),
+    // a call that is refused by its arguments keeps its refusal where the link is lost
+    (
+        b"{\"using\":[\"urn:ietf:params:jmap:core\",\"urn:ietf:params:jmap:mail\"],\"methodCalls\":[[\"Mailbox/get\",{\"accountId\":\"a2\"},\"c1\"],[\"Mailbox/get\",{\"accountId\":\"a1\"},\"c2\"]]}",
+        &[b"* OK hi\r\n"],
+        b"{\"methodResponses\":[[\"error\",{\"type\":\"accountNotFound\"},\"c1\"],[\"error\",{\"type\":\"serverUnavailable\"},\"c2\"]],\"sessionState\":\"1;5;alice;http://127.0.0.1:8080\"}\n",
+        1,
+    ),
+    // created ids are answered where they were given
+    (
+        b"{\"using\":[\"urn:ietf:params:jmap:core\"],\"methodCalls\":[[\"Core/echo\",{},\"c1\"]],\"createdIds\":{\"k\":\"v\"}}",
+        EMPTY_INBOX,
+        b"{\"createdIds\":{\"k\":\"v\"},\"methodResponses\":[[\"Core/echo\",{},\"c1\"]],\"sessionState\":\"1;5;alice;http://127.0.0.1:8080\"}\n",
+        0,
+    ),
 ];
 
 fn expect_told(rt: &impl Abort, alloc: Global, row: &(&[u8], &[&[u8]], &[u8], usize)) {
     let script = scripted(rt, alloc, &[row.1], &[&[row.0]], b"");
     let seen = follow(rt, alloc, USUAL, script);
     assert_eq!(rt; seen.client_took.as_slice(), row.2);
-    assert!(rt; seen.status == 0 && seen.dials == row.3);
+    assert_eq!(rt; seen.status, 0);
+    assert_eq!(rt; seen.dials, row.3);
 }
 
 /// The list stands in the order of the ids, and no store is dialed without need.
