@@ -39,7 +39,7 @@ is_decimal_of : (digits most : ℕ) (t : List ℕ) → Each is_digit t → 0 < l
 is_decimal_of digits most t each some few within =
     and_from _ _ (and_from _ _ (and_from _ _ (all_each is_digit t each) (lt-ltb 0 (length t) some)) (le-leb (length t) digits few)) (le-leb (value_from 0 t) most within)
 
--- a text that is read as a number above 0 spells that number
+-- a text that is read as a nonzero number spells that number
 pub nonzero_sound : (t : List ℕ) (n : ℕ) → nonzero_in t ≡ Some n → IsNonZero n t
 unfolding nonzero_in
 nonzero_sound t n e = by_test (is_decimal 10 4294967295 t && nat_lt 0 (value_from 0 t)) (Some (value_from 0 t)) None (Some n) (IsNonZero n t) e
@@ -50,7 +50,7 @@ nonzero_sound t n e = by_test (is_decimal 10 4294967295 t && nat_lt 0 (value_fro
     (record { digits = d.each; some = d.some; few = d.few; value = sym same; most = omega (arith, d.within, same) }, omega (arith, same, ltb-true 0 (value_from 0 t) a.1)))
     (λ b f. absurd cc)
 
--- a text that spells a number above 0 is read as that number
+-- a text that spells a nonzero number is read as that number
 pub nonzero_complete : (n : ℕ) (t : List ℕ) → IsNonZero n t → nonzero_in t ≡ Some n
 unfolding nonzero_in
 nonzero_complete n t h =
@@ -59,7 +59,7 @@ nonzero_complete n t h =
     (and_from _ _ (is_decimal_of 10 4294967295 t d.digits d.some d.few (omega (arith, d.value, d.most))) (lt-ltb 0 (value_from 0 t) (omega (arith, d.value, h.1))))
     ∙ ap (λ (m : ℕ). Some m) (sym d.value)
 
--- a text that is read as a number of at most 19 digits spells that number
+-- a text that is read as a 63-bit number spells that number
 pub long_sound : (t : List ℕ) (n : ℕ) → long_in t ≡ Some n → IsLong n t
 unfolding long_in
 long_sound t n e = by_test (is_decimal 19 9223372036854775807 t) (Some (value_from 0 t)) None (Some n) (IsLong n t) e
@@ -69,7 +69,7 @@ long_sound t n e = by_test (is_decimal 19 9223372036854775807 t) (Some (value_fr
     record { digits = d.each; some = d.some; few = d.few; value = sym same; most = omega (arith, d.within, same) })
     (λ b f. absurd cc)
 
--- a text that spells a number of at most 19 digits is read as that number
+-- a text that spells a 63-bit number is read as that number
 pub long_complete : (n : ℕ) (t : List ℕ) → IsLong n t → long_in t ≡ Some n
 unfolding long_in
 long_complete n t h =
