@@ -75,6 +75,6 @@ flags_read (n ∷ ns) rest b all e =
 
 -- ---- numbers
 
--- a text that spells a number of at most 19 digits is read as that number
+-- a text that spells a 63-bit number is read as that number
 pub long_read : (n : ℕ) (t : List ℕ) → IsLong n t → long_value t ≡ n
 long_read n t h = long_is t (omega (arith, h.value, h.most)) ∙ sym h.value
