@@ -345,7 +345,7 @@ date_back date.Open c t h = quote_back c t h
 date_back (date.Day at) c t h = day_back at c t h
 date_back (date.Time at) c t h = time_back at c t h
 
--- where a symbol of a date reads an octet and a text, its rule still reads the text after the octet
+-- where a fitting symbol of a date reads an octet and a text, its rule still reads the text after the octet
 pub date_forth : (s : Date) (c : ℕ) (t : List ℕ) → DateFits s ≡ true → DateLang s (c ∷ t) → AfterMove (date_rule s c) t
 date_forth date.Open c t fits h = quote_forth c t h
 date_forth (date.Day at) c t fits h = day_forth at c t fits h
@@ -354,7 +354,7 @@ date_forth (date.Time at) c t fits h = time_forth at c t h
 day_none : (at : ℕ) → at < 3 → DayRest at [] → ⊥
 day_none at lt h = let e = ap length (no_append h.front h.back h.whole).0 in let n = h.count in omega (arith, lt, e, n)
 
--- no symbol of a date that fits reads the empty text
+-- no fitting symbol of a date reads the empty text
 pub date_empty : (s : Date) → DateFits s ≡ true → DateLang s [] → ⊥
 date_empty date.Open fits h = let e = h.1.whole in cc
 date_empty (date.Day at) fits h = day_none at (ltb-true at 3 fits) h
@@ -408,11 +408,11 @@ day_example at lt = record {
   month = month_to 7 (codes "jul") time_text (omega arith, omega arith, refl) time_example refl;
 }
 
--- the example is a date
+-- the example spells a date
 pub date_example : (s : ℤ) × IsDateTime s date_text
 date_example = date_from (day_text ++ (codes "jul" ++ time_text)) (day_example 0 (omega arith))
 
--- each symbol of a date that fits reads some text
+-- each fitting symbol of a date reads some text
 pub date_lang_example : (s : Date) → DateFits s ≡ true → (t : List ℕ) × DateLang s t
 date_lang_example date.Open fits = (date_text, date_example)
 date_lang_example (date.Day at) fits = (drop at day_text ++ (codes "jul" ++ time_text), day_example at (ltb-true at 3 fits))

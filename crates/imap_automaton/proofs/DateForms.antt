@@ -76,7 +76,7 @@ day_digits n t (inl h) = let d = two_digits n t h in record {
 }
 day_digits n t (inr h) = one_digit n t h.0 h.1 h.2
 
--- a digit after a space or a digit spells the day that they make
+-- a space or a digit, and then a digit, spell the day that they make
 pub digits_day : (a b : ℕ) → starts_day a ≡ true → is_digit b ≡ true → IsFixedDay (two a b) (a ∷ b ∷ [])
 digits_day a b s d = elim (or_cases (a == 32) (is_digit a) s) [
   | inl e ↦ (let space : a ≡ 32 = eqb-true a 32 e in inr (b ∷ [], ap (λ (c : ℕ). c ∷ b ∷ []) space, record { digits = (d, tt); count_is = refl; value = omega (arith, space) }))

@@ -43,7 +43,7 @@ word_le place key at fits = leb-true _ _ (and_parts (nat_le at (length (key_text
 word_among : (place : Place) (key : Key) (at : ℕ) → SymFits (sym.Word place key at) ≡ true → is_among key (keys place) ≡ true
 word_among place key at fits = (and_parts (nat_le at (length (key_text key))) (is_among key (keys place)) fits).1
 
--- a symbol that fits reads an octet and any text that its rule still reads after it
+-- a fitting symbol reads an octet and any text that its rule still reads after it
 pub edge_back : (s : Sym) (c : ℕ) (t : List ℕ) → SymFits s ≡ true → AfterMove (rule_of s c) t → Lang s (c ∷ t)
 edge_back (sym.Line s) c t fits h = line_edge_back s c t fits h
 edge_back (sym.Word place key at) c t fits h = word_back place key at c t (word_le place key at fits) (word_among place key at fits) h
@@ -58,7 +58,7 @@ edge_back (sym.Str s) c t fits h = string_back s c t fits h
 edge_back (sym.Value s) c t fits h = value_back s c t h
 edge_back (sym.Folder s) c t fits h = folder_back s c t h
 
--- where a symbol that fits reads an octet and a text, its rule still reads the text after the octet
+-- where a fitting symbol reads an octet and a text, its rule still reads the text after the octet
 pub edge_forth : (s : Sym) (c : ℕ) (t : List ℕ) → SymFits s ≡ true → Lang s (c ∷ t) → AfterMove (rule_of s c) t
 edge_forth (sym.Line s) c t fits h = line_edge_forth s c t fits h
 edge_forth (sym.Word place key at) c t fits h = word_forth place key at c t (word_le place key at fits) (word_among place key at fits) h
@@ -134,7 +134,7 @@ begin_stops (sym.Folder folder.Counts) c t b h = counts_stop c t h
 begin_stops (sym.Folder folder.MoreCounts) c t b h = more_stop h.0 c t h.1
 begin_stops _ c t b h = absurd cc
 
--- each symbol that fits reads some text
+-- each fitting symbol reads some text
 pub example : (s : Sym) → SymFits s ≡ true → (t : List ℕ) × Lang s t
 example (sym.Line s) fits = line_example s fits
 example (sym.Word place key at) fits = word_example place key at (word_le place key at fits) (word_among place key at fits)

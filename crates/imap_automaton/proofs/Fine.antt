@@ -528,7 +528,7 @@ folder_fine folder.MoreCounts c = grind arith
 
 -- ---- all
 
--- each move of a symbol that fits and isn't within a literal is fine
+-- each move of a fitting symbol that isn't within a literal is fine
 pub move_fine : (s : Sym) (c : ℕ) → is_octets s ≡ false → SymFits s ≡ true → fine (ends_open s) (may_yield s) (need s) (nat_lt c 256) (rule_of s c) ≡ true
 move_fine (sym.Line s) c o fits = line_fine s c fits
 move_fine (sym.Word p k at) c o fits = word_fine p k at c (and_parts (nat_le at (length (key_text k))) (is_among k (keys p)) fits).1

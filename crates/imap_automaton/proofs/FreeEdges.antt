@@ -63,7 +63,7 @@ more_back (suc k) s c t e h = record {
   goes_on = h.goes_on;
 }
 
--- text with literals reads an octet and any text that its rule still reads after it
+-- in text outside literals, an octet is read and any text that its rule still reads after it
 pub text_back : (s : Pending) (c : ℕ) (t : List ℕ) → AfterMove (text_rule s c) t → FreeLang (free.Text s) (c ∷ t)
 text_back s c t h = from_test (c == 13) (free_end s) (cond (is_text c) (move.One (sym.Free (free.Text (pend s c)))) move.Fail) t (FreeLang (free.Text s) (c ∷ t))
     (λ e k. subst (λ (n : ℕ). FreeLang (free.Text s) (n ∷ t)) (sym (eqb-true c 13 e)) (end_back s t k))
@@ -122,7 +122,7 @@ free_at : (k : ℕ) (s : Pending) (c : ℕ) (t : List ℕ) → IsFreeFrom k s (c
 free_at zero s c t h = at_end s c t h.text h.whole h.text_is h.no_count
 free_at (suc k) s c t h = at_literal k s c h.count t h.text h.octets h.rest h.whole h.text_is h.counted h.most h.length_is h.inside h.goes_on
 
--- where text with literals reads an octet and a text, its rule still reads the text after the octet
+-- where an octet and a text are read in text outside literals, the rule still reads the text after the octet
 pub text_forth : (s : Pending) (c : ℕ) (t : List ℕ) → FreeLang (free.Text s) (c ∷ t) → AfterMove (text_rule s c) t
 text_forth s c t h = free_at h.0 s c t h.1
 
@@ -208,7 +208,7 @@ free_forth (free.Text s) c t h = text_forth s c t h
 free_forth (free.Break n) c t h = break_forth n c t h
 free_forth (free.Octets n) c t h = octets_forth n c t h
 
--- no symbol of text with literals that fits reads the empty text
+-- no fitting symbol of text with literals reads the empty text
 pub free_empty : (s : Free) → FreeFits s ≡ true → FreeLang s [] → ⊥
 free_empty (free.Text s) fits h = free_none h.0 s h.1
 free_empty (free.Break n) fits h = let e = h.1 in cc

@@ -360,7 +360,7 @@ long_some v n fits =
     by zero few most e = let z = eqb-true v 0 e in (48 ∷ [], record { each = (refl, tt); some = omega arith; few = omega arith; most = omega (arith, z) })
     by (suc n) few most e = ([], record { each = tt; some = omega arith; few = omega (arith, few); most = most })
 
--- each symbol of the items of a FETCH that fits reads some text
+-- each fitting symbol of the items of a FETCH reads some text
 pub item_example : (s : Item) → ItemFits s ≡ true → (t : List ℕ) × ItemLang s t
 item_example item.Open fits = (
   40 ∷ codes "uid 1" ++ 41 ∷ crlf,

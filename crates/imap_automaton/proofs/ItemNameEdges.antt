@@ -327,7 +327,7 @@ lower_next name.Part c = refl
 lower_next name.Digits c = ap (λ (b : Bool). cond b name.End name.Digits) (sym (lower_62 c))
 lower_next name.End c = refl
 
--- after octets and one more, a name has come to where the one takes it from where the others did
+-- reading octets of a name and one more is reading the octets and then the one
 pub next_from : (s : ItemName) (x : List ℕ) (c : ℕ) → name_from s (x ++ c ∷ []) ≡ next_name (name_from s x) c
 next_from s [] c = refl
 next_from s (d ∷ x) c = next_from (next_name s d) x c

@@ -82,7 +82,7 @@ formed : (n : List ℕ) → 0 < length n → NameForm name.Plain n → IsFormed 
 formed n some (inl h) = inl (h, some)
 formed n some (inr h) = inr h
 
--- where the first word is no key, the rest of a name, a space and a value are an item that is passed over
+-- where the first word is no key, a name, a space and a value are an item that is passed over
 pub other_from : (t word tail : List ℕ) → t ≡ word ++ tail → Each is_atom word → 0 < length word → is_atom (get_or tail 0 0) ≡ false
     → ((k : Key) → Among k (keys place.Item) → map lower word ≡ key_text k → ⊥) → NameRest name.Plain t → items.IsItem items.Other t
 other_from t word tail e each some longest no_key h =

@@ -330,7 +330,7 @@ open_forth c t (false, rs, h) =
 
 -- ---- the group
 
--- a symbol of a set of UIDs that fits reads an octet and any text that its rule still reads after it
+-- a fitting symbol of a set of UIDs reads an octet and any text that its rule still reads after it
 pub set_edge_back : (s : Set) (c : ℕ) (t : List ℕ) → SetFits s ≡ true → AfterMove (set_rule s c) t → SetLang s (c ∷ t)
 set_edge_back set.Open c t fits h = open_back c t h
 set_edge_back (set.Number v n second) c t fits h = number_back v n second c t fits h
@@ -361,7 +361,7 @@ crlf_ends : (second : Bool) → NumberEnds second crlf
 crlf_ends true = inl refl
 crlf_ends false = inl (inl refl)
 
--- each symbol of a set of UIDs that fits reads some text
+-- each fitting symbol of a set of UIDs reads some text
 pub set_example : (s : Set) → SetFits s ≡ true → (t : List ℕ) × SetLang s t
 set_example set.Open fits =
     let k = number_some 0 0 refl in

@@ -422,7 +422,7 @@ no_nstring h = by h.0 h.1
 
 -- ---- the group
 
--- a symbol of a string that fits reads an octet and any text that its rule still reads after it
+-- a fitting symbol of a string reads an octet and any text that its rule still reads after it
 pub string_back : (s : Str) (c : ℕ) (t : List ℕ) → StrFits s ≡ true → AfterMove (string_rule s c) t → StrLang s (c ∷ t)
 string_back str.NString c t fits h = nstring_back c t h
 string_back str.AString c t fits h = flat_back c t (after_alone (flat_start c) t h)
@@ -511,7 +511,7 @@ count_some v n fits = by n (count_parts v n fits) (and_parts (nat_le n 8 && nat_
 pub flat_some : IsFlat (97 ∷ [])
 flat_some = (97 ∷ [], inl (((refl, tt), omega arith), refl))
 
--- each symbol of a string that fits reads some text
+-- each fitting symbol of a string reads some text
 pub string_example : (s : Str) → StrFits s ≡ true → (t : List ℕ) × StrLang s t
 string_example str.NString fits = (34 ∷ 34 ∷ [], ([], inr (inl (tt, refl))))
 string_example str.AString fits = (97 ∷ [], flat_some)

@@ -341,7 +341,7 @@ ends_back p k at c t None e le m h =
 
 -- ---- the group
 
--- a word that began as a key does reads an octet and any text that its rule still reads after it
+-- a word begun as a key of its place reads an octet and any text that its rule still reads after it
 pub word_back : (p : Place) (k : Key) (at c : ℕ) (t : List ℕ) → at ≤ length (key_text k) → is_among k (keys p) ≡ true → AfterMove (word_rule p k at c) t
     → WordRest p (take at (key_text k)) (c ∷ t)
 word_back p k at c t le m h = from_test (in_word p c) (word_goes p k at c (next_key p k at (lower c))) (cond (at == 0) move.Fail (word_ends p k at c (whole_key p k at))) t
@@ -378,7 +378,7 @@ word_at p k at c t (d ∷ w) tail le m e each some longest says =
     (goes_forth_at p k at c t w tail (next_key p k at (lower c)) refl le i (cons_tail c d t (w ++ tail) e) each.1 longest
     (subst (λ (q : ℕ). WordSays p (take at (key_text k)) (take at (key_text k) ++ map lower (q ∷ w)) tail (c ∷ t)) same says))
 
--- where a word that began as a key does reads an octet and a text, its rule still reads the text after the octet
+-- where a word begun as a key of its place reads an octet and a text, its rule still reads the text after the octet
 pub word_forth : (p : Place) (k : Key) (at c : ℕ) (t : List ℕ) → at ≤ length (key_text k) → is_among k (keys p) ≡ true → WordRest p (take at (key_text k)) (c ∷ t)
     → AfterMove (word_rule p k at c) t
 word_forth p k at c t le m h = word_at p k at c t h.word h.tail le m h.whole h.each h.some h.longest h.says
@@ -434,7 +434,7 @@ nil_example : (k : Key) (at : ℕ) → at ≤ length (key_text k) → is_among k
     → WordRest place.Item (take at (key_text k)) (drop at (key_text k) ++ 32 ∷ codes "nil")
 nil_example k at le m b = key_example place.Item k at (32 ∷ codes "nil") le (is_among_is k (keys place.Item) m) refl b
 
--- a word that began as a key of its place does reads some text
+-- a word begun as a key of its place reads some text
 pub word_example : (p : Place) (k : Key) (at : ℕ) → at ≤ length (key_text k) → is_among k (keys p) ≡ true → (t : List ℕ) × WordRest p (take at (key_text k)) t
 word_example place.Plain k at le m = (33 ∷ crlf, stray_example place.Plain k at refl refl bang_line)
 word_example place.Numbered k at le m = (33 ∷ crlf, stray_example place.Numbered k at refl refl bang_line)

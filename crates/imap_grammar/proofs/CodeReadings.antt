@@ -93,7 +93,7 @@ next_range ranges (suc most) rest front back all lt e h =
     ap (λ (n : ℕ). put_ranges ranges (more_in_set (range_in front) (ranges_in n back))) less
     ∙ sym (ap (λ (o : Option (List ℕ × List ℕ)). put_ranges ranges (elim o [ None ↦ one_in_set (range_in rest) | Some r ↦ more_in_set (range_in r.0) (ranges_in most r.1) ])) e) ∙ h
 
--- ranges put after those so far and one more are the one and the ranges put after those so far
+-- putting ranges after those so far and one more is putting the one and them after those so far
 pub put_more : (ranges : List UidRange) (r : UidRange) (o : Option (List UidRange)) → put_ranges (ranges ++ r ∷ []) o ≡ put_ranges ranges (more_in_set (Some r) o)
 put_more ranges r None = refl
 put_more ranges r (Some rs) = ap (λ (q : List UidRange). Some q) (append_assoc ranges (r ∷ []) rs)

@@ -105,7 +105,7 @@ count_read k so_far t back b h out e =
     ∙ ap (λ (u : List ℕ). (told_as so_far (map lower word) (long_value h.digits), u)) l.back
     ∙ ap (λ (n : ℕ). (told_as so_far (map lower word) n, back)) (long_read k.1 h.digits h.number)
 
--- where a space follows a count, the others are read after the space, one fewer at most
+-- where a space follows a count, the others are read after the space, with one fewer allowed
 pub counts_next : (left : ℕ) (so_far : StatusItems) (b : List ℕ) → 0 < left → (get_or (count_in so_far b).1 0 0 == 32) ≡ true
     → status_counts left so_far b ≡ status_counts (left - 1) (count_in so_far b).0 (drop 1 (count_in so_far b).1)
 unfolding status_counts

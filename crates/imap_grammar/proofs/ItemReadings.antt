@@ -249,7 +249,7 @@ item_read Other so_far t back b h out e = other_read so_far t back b h out e
 
 -- ---- one item more
 
--- where a space follows an item, the others are read after the space, one fewer at most
+-- where a space follows an item, the others are read after the space, with one fewer allowed
 pub items_next : (left : ℕ) (so_far : FetchItems) (b : List ℕ) → 0 < left → (get_or (item_in so_far b).1 0 0 == 32) ≡ true
     → items_in left so_far b ≡ items_in (left - 1) (item_in so_far b).0 (drop 1 (item_in so_far b).1)
 unfolding items_in

@@ -50,7 +50,7 @@ unquoted_read (c ∷ s) y = by (c == 34 || c == 92) refl (unquoted_read s y)
 
 -- ---- literals
 
--- a literal begins with `{`, and is read after it as its string, and what follows the string is left
+-- a literal begins with `{`, from after which it is read as its string, and what follows it is left
 pub literal_read : (s x y b : List ℕ) → (h : IsCounted s x) → b ≡ plain_octets x ++ y → (literal_in (drop 1 b) ≡ (s, y)) × (get_or b 0 0 ≡ 123)
 unfolding literal_in
 literal_read s x y b h e =

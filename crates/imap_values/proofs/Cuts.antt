@@ -126,11 +126,11 @@ long_is t le = count_capped 9223372036854775807 0 t ∙ cap_small 92233720368547
 pub capped_le : (n : ℕ) → n ≤ 4294967295 → cap 4294967295 n ≤ 4294967295
 capped_le n le = let e = cap_small 4294967295 n le in omega (arith, e, le)
 
--- a long number is the digits' value, or 2^63 where that is greater
+-- a 63-bit number is read as the digits' value, or as 2^63 where that is greater
 pub long_capped : (t : List ℕ) → long_value t ≡ cap 9223372036854775807 (value_from 0 t)
 long_capped t = count_capped 9223372036854775807 0 t
 
--- a number that is at most the most when it is capped is at most the most itself
+-- a number that is at most `most` once it is capped is at most `most` itself
 pub within_cap : (most n : ℕ) → cap most n ≤ most → n ≤ most
 within_cap most n le = by (nat_le n most) refl
   where

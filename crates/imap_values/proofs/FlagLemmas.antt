@@ -29,7 +29,7 @@ insert_items (x ∷ keys) k = by (slice_cmp nat_cmp k.items x.items) (insert_ite
 
 -- ---- one name more
 
--- a name with a space after it is added, and the others are read after the space, one fewer at most
+-- a name with a space after it is added, and the others are read after the space, with one fewer allowed
 pub names_next : (left : ℕ) (so_far : List (List ℕ)) (b : List ℕ) → 0 < left → (get_or b (span in_name b) 0 == 32) ≡ true
     → names_in left so_far b ≡ names_in (left - 1) (add_name so_far (map lower (take (span in_name b) b))) (drop (span in_name b + 1) b)
 unfolding names_in

@@ -220,7 +220,7 @@ earlier_first (c ∷ w) u h = let first : lower c ∷ map lower w ≡ codes "(ea
     bracket : (c : ℕ) → lower c ≡ 40 → (plain_of c == 40) ≡ true
     bracket c e = grind arith
 
--- the octets after VANISHED are read as the set that they spell, earlier or not
+-- the octets after VANISHED are read as the set that they spell, and as EARLIER or not
 pub vanished_read : (earlier : Bool) (rs : List UidRange) (t : List ℕ) → IsVanished earlier rs t → vanished_in (plain_octets t) ≡ response.Vanished earlier (record { ranges = rs })
 unfolding vanished_in
 vanished_read true rs t h =
