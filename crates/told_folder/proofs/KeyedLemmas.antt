@@ -7,6 +7,7 @@ use Rattle.std.specs.List.Sorted.{IsNonDecreasingBy}
 use Rattle.told_folder.specs.Keyed.{AllAbove, Ascends, with_key, put_keyed, cut_keyed}
 use Rattle.told_folder.specs.Places.{IsPlace, IsHeldAt, IsFreeAt}
 
+-- Some of a value isn't None
 pub some_is_not_none : {X : Type 0} (x : X) → Some x ≡ None → ⊥
 some_is_not_none x e = cc
 
@@ -16,9 +17,11 @@ set_stays [] i x y h is e = absurd (omega arith)
 set_stays (z ∷ zs) zero x y h is e = let heads : y ≡ z = cc in heads ∙ sym is
 set_stays (z ∷ zs) (suc i) x y h is e = let tails : set zs i y ≡ zs = cc in set_stays zs i x y (omega arith) is tails
 
+-- two values are equal where Some of them are
 pub some_same : {A : Type 0} (x y : A) → Some x ≡ Some y → x ≡ y
 some_same x y e = cc
 
+-- a number is below another, above it or equal to it
 pub lt_same_gt : (m n : ℕ) → (m < n) ⊎ ((n < m) ⊎ (m ≡ n))
 lt_same_gt m n =
     elim (ltb m n) as (λ b. ltb m n ≡ b → (m < n) ⊎ ((n < m) ⊎ (m ≡ n))) [
@@ -26,9 +29,11 @@ lt_same_gt m n =
       | false ↦ λ e. let ge : n ≤ m = ltb-false _ _ e in elim (eq-or-lt_of_le ge) [ inl same ↦ inr (inr (sym same)) | inr less ↦ inr (inl less) ]
     ] refl
 
+-- None in both cases is None
 pub none_either : {A : Type 0} (b : Bool) → ◌≡◌ {A = Option A} None (if b then None else None)
 none_either {A = A} b = elim b as (λ v. ◌≡◌ {A = Option A} None (if v then None else None)) [ true ↦ refl | false ↦ refl ]
 
+-- an element that is read within a list is read with itself as the default, too
 pub get_or-defaults : {X : Type 0} (xs : List X) (i : ℕ) (d : X) → i < length xs → get_or xs i d ≡ get_or xs i (get_or xs i d)
 get_or-defaults [] i d h = absurd (omega arith)
 get_or-defaults (x ∷ xs) zero d h = refl
