@@ -208,7 +208,7 @@ losing_none p old up = record {
   index = λ hs i. i;
 }
 
--- cutting one more message that passes the test goes on with the loss of those that do
+-- when the first message left that passes the test is cut, those left still come to what is left of all
 pub losing_more : (p : ℕ → Bool) (was now next : Work) (u : ℕ) → Some u ≡ option_map uid_of (find (λ x. p x.uid) now.messages) → IsLosing p was now
     → GoesOk now next (record (telling_of now) { messages = cut_keyed uid_of u now.messages }) (Ok tt) → IsLosing p was next
 losing_more p was now next u found so g =

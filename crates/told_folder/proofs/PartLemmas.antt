@@ -89,7 +89,7 @@ put_first x (y ∷ ys) a = ap (λ b. if b then x ∷ (y ∷ ys) else (if eqb x.u
 
 -- ---- the entries of a map
 
--- what a map has at a UID is the message of the UID among its values
+-- what a map by UID has at a UID is the message of the UID among its values
 pub looked_up : (u : ℕ) (es : List (ℕ × Message)) → AllKeyed es → lookup (is_at (nat_cmp u)) es ≡ with_key uid_of u (values_of es)
 looked_up u [] a = refl
 looked_up u (e ∷ es) a =
@@ -104,7 +104,7 @@ looked_up u (e ∷ es) a =
 abbrev pub InsertsAt : Message → ℕ × Message → List (ℕ × Message) → Ordering → List (ℕ × Message)
 InsertsAt x e es r = match_ordering r ((x.uid, x) ∷ e ∷ es) ((e.0, x) ∷ es) (e ∷ insert_entry nat_cmp es x.uid x)
 
--- inserting a message in a map under its UID is putting it among the values
+-- inserting a message in a map by UID is putting it among the values
 pub put_entries : (x : Message) (es : List (ℕ × Message)) → AllKeyed es → values_of (insert_entry nat_cmp es x.uid x) ≡ put_keyed uid_of x (values_of es)
 put_entries x [] a = refl
 put_entries x (e ∷ es) a =
@@ -138,7 +138,7 @@ keyed_put x (e ∷ es) a =
       ]
     ]
 
--- removing a UID from a map is cutting it from the values
+-- in a map by UID whose values ascend, removing a UID is cutting it from the values
 pub cut_entries : (u : ℕ) (es : List (ℕ × Message)) → AllKeyed es → Ascends uid_of (values_of es)
     → values_of (remove_entry (is_at (nat_cmp u)) es) ≡ cut_keyed uid_of u (values_of es)
 cut_entries u [] a up = refl
@@ -208,7 +208,7 @@ le_is a b =
 abbrev pub entries_at : ℕ → List (ℕ × Message) → List (ℕ × Message)
 entries_at f es = filter (λ e. is_le (nat_cmp f e.0) && not false) es
 
--- the first entry from a key on has the UID of the first message that isn't below the key
+-- the first entry of a map by UID from a key on has the UID of the first message that isn't below the key
 pub first_entry : (f : ℕ) (es : List (ℕ × Message)) → AllKeyed es → (e : ℕ × Message) (rest : List (ℕ × Message)) → entries_at f es ≡ e ∷ rest
     → Some e.0 ≡ option_map uid_of (find (λ x. leb f x.uid) (values_of es))
 first_entry f [] a e rest is = absurd (cc)
@@ -222,7 +222,7 @@ first_entry f (d ∷ es) a e rest is =
       | false ↦ λ t. first_entry f es a.1 e rest (sym (ap (λ b. if b then d ∷ entries_at f es else entries_at f es) t) ∙ is)
     ] test
 
--- where no entry is from a key on, no message has a UID from it on
+-- where a map by UID has no entry from a key on, no message has a UID from it on
 pub no_entry : (f : ℕ) (es : List (ℕ × Message)) → AllKeyed es → entries_at f es ≡ [] → ◌≡◌ {A = Option ℕ} None (option_map uid_of (find (λ x. leb f x.uid) (values_of es)))
 no_entry f [] a is = refl
 no_entry f (d ∷ es) a is =
@@ -270,7 +270,7 @@ put_left w (y ∷ xs) ys (suc at) before l same =
     ∙ ap (λ b. if b then w ∷ (xs ++ ys) else y ∷ put_keyed uid_of w (xs ++ ys)) (ne_eqb _ _ (λ e. omega (arith, e, less)))
     ∙ ap (λ zs. y ∷ zs) (put_left w xs ys at (λ i d h. before (suc i) d (omega arith)) (omega arith) same)
 
--- setting other flags at a UID's place in the first list is putting the message found, with those flags, in both lists
+-- setting other flags at a UID's place in the first list is putting its message with those flags among those of both lists
 pub flags_left : (u : ℕ) (xs ys : List Message) (at : ℕ) → IsHeldAt uid_of u xs at → Ascends uid_of (xs ++ ys) → (y : Message) → y ≡ get_or xs at y → (flags : List (List ℕ))
     → (x : Message)
     → with_key uid_of u (xs ++ ys) ≡ Some x → set xs at (record y { flags = flags }) ++ ys ≡ put_keyed uid_of (record x { flags = flags }) (xs ++ ys)

@@ -250,7 +250,7 @@ pub ended_before : (p : Held → Bool) (hs : List Held) (i : ℕ) (h : Held) →
     → filter p (take i hs) ++ drop i hs ≡ filter p (take i hs) ++ h ∷ drop (i + 1) hs
 ended_before p hs i h within is = ap (λ (zs : List Held). filter p (take i hs) ++ zs) (left hs i h within is)
 
--- without the folder at a place, which doesn't pass, those up to it that pass are kept
+-- where the folder at a place doesn't pass and is taken out, the folders up to it are looked at
 pub ended_after : (p : Held → Bool) (hs : List Held) (i : ℕ) (h : Held) → i < length hs → h ≡ get_or hs i h → p h ≡ false
     → filter p (take i hs) ++ drop (i + 1) hs ≡ filter p (take (i + 1) hs) ++ drop (i + 1) hs
 ended_after p hs i h within is t =
