@@ -74,6 +74,7 @@ module _ {K P : Type 0} where
     ];
   }
 
+  -- functions that agree with two that undo each other undo each other, too
   pub inverts_same : (look look' : K → Option P) (back back' : P → Option K) → Inverts look back → ((j : K) → look' j ≡ look j) → ((q : P) → back' q ≡ back q) → Inverts look' back'
   inverts_same look look' back back' i l b = record {
     to = λ j q e. b q ∙ i.to j q (sym (l j) ∙ e);

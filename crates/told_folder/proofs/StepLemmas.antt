@@ -68,12 +68,15 @@ closed_whole rs = closed_is rs rs ∙ none_closed rs where
       ]
 
 module _ (rs : List Response) (i : ℕ) (r : Response) (h : i < length rs) (is : r ≡ get_or rs i r) where
+  -- taking the value that a response tells, where it tells one, for the one so far leaves the value told last as it is
   pub last_step : (value : Response → Option ℕ) (was : ℕ) → last_told value was (drop i rs) ≡ last_told value (unwrap_or (value r) was) (drop (i + 1) rs)
   last_step value was = ap (λ (qs : List Response). last_told value was qs) (left rs i r h is) ∙ last_first value was r (drop (i + 1) rs)
 
+  -- at a CLOSED the loop begins anew with all responses after it, and at any other response it goes on with those found so far
   pub closed_step : (after : List Response) → closed after (drop i rs) ≡ (if is_closed r then closed (drop (i + 1) rs) (drop (i + 1) rs) else closed after (drop (i + 1) rs))
   closed_step after = ap (λ (qs : List Response). closed after qs) (left rs i r h is)
 
+  -- raising the number so far to that past the UID which a response tells leaves the number past all UIDs as it is
   pub past_step : (xs : List Message) (n : ℕ) → max n (past_told xs (drop i rs)) ≡ max (max n (past xs (uid_told r))) (past_told xs (drop (i + 1) rs))
   past_step xs n = ap (λ (qs : List Response). max n (past_told xs qs)) (left rs i r h is) ∙ outer n (past xs (uid_told r)) (past_told xs (drop (i + 1) rs)) where
     outer : (a b c : ℕ) → max a (max b c) ≡ max (max a b) c

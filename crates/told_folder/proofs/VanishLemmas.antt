@@ -54,6 +54,7 @@ pub eqb_is : {m n : ℕ} → m ≡ n → eqb m n ≡ true
 eqb_is {m} {n} e = grind arith
 
 module _ (gone : ℕ → Bool) where
+  -- a number below all UIDs is below those that are left
   pub above_without : (k : ℕ) (xs : List Message) → AllAbove uid_of k xs → AllAbove uid_of k (without_those gone xs)
   above_without k [] a = tt
   above_without k (x ∷ xs) a =
@@ -62,6 +63,7 @@ module _ (gone : ℕ → Bool) where
         | false ↦ (a.0, above_without k xs a.1)
       ]
 
+  -- where UIDs ascend, those that are left do
   pub ascends_without : (xs : List Message) → Ascends uid_of xs → Ascends uid_of (without_those gone xs)
   ascends_without [] a = tt
   ascends_without (x ∷ xs) a =
@@ -70,6 +72,7 @@ module _ (gone : ℕ → Bool) where
         | false ↦ (above_without x.uid xs a.0, ascends_without xs a.1)
       ]
 
+  -- a UID that goes isn't found, and every other UID is found as before
   pub found_without : (u : ℕ) (xs : List Message) → with_key uid_of u (without_those gone xs) ≡ (if gone u then None else with_key uid_of u xs)
   found_without u [] = none_either (gone u)
   found_without u (x ∷ xs) =
@@ -94,11 +97,13 @@ module _ (gone : ℕ → Bool) where
 
   -- ---- the marks that are taken out
 
+  -- a mark that the index doesn't have is not in it once marks are cleared
   pub cleared_none : (xs : List Message) (q : ℕ) → cleared gone xs q None ≡ None
   cleared_none [] q = refl
   cleared_none (x ∷ xs) q =
       elim (gone x.uid && eqb x.mark q) as (λ b. cleared gone xs q (if b then None else None) ≡ None) [ true ↦ cleared_none xs q | false ↦ cleared_none xs q ]
 
+  -- with one message more, its mark is cleared, too, where the message goes
   pub cleared_more : (xs : List Message) (x : Message) (q : ℕ) (o : Option (ℕ × ℕ))
       → cleared gone (xs ++ x ∷ []) q o ≡ (if gone x.uid && eqb x.mark q then None else cleared gone xs q o)
   cleared_more [] x q o = refl
@@ -125,6 +130,7 @@ module _ (gone : ℕ → Bool) where
         | inr apart ↦ cleared_hit ys u x q (if gone y.uid && eqb y.mark q then None else o) (sym (head_passed u y ys apart) ∙ e) c m
       ]
 
+  -- the mark of the message at a UID that goes is cleared
   pub mark_hit : (xs : List Message) (u q : ℕ) (o : Option (ℕ × ℕ)) → option_map mark_of (with_key uid_of u xs) ≡ Some q → gone u ≡ true → cleared gone xs q o ≡ None
   mark_hit xs u q o e c =
       elim (with_key uid_of u xs) as (λ w. with_key uid_of u xs ≡ w → option_map mark_of w ≡ Some q → cleared gone xs q o ≡ None) [
@@ -142,6 +148,7 @@ module _ (gone : ℕ → Bool) where
       ∙ cleared_kept ys q o a.1 (λ u x e. miss_all u x (head_passed u y ys (λ s. some_is_not_none _ (sym e ∙ none_above uid_of u ys (subst (λ n. AllAbove uid_of n ys) s a.0)))
       ∙ e))
 
+  -- when the messages that go are taken out of a folder, and their marks from the index, the index is that of the folders
   pub index_without : (hs : List Held) (n : ℕ) (xs : List Message) (marks marks' : BTreeMap ℕ (ℕ × ℕ)) (a : ℕ) → is_some (held_in hs n) ≡ true → Ascends uid_of xs
       → ((q : ℕ) → get nat_cmp marks' q ≡ cleared gone xs q (get nat_cmp marks q)) → IsIndexed (with_messages hs n xs) marks a
       → IsIndexed (with_messages hs n (without_those gone xs)) marks' a

@@ -147,11 +147,13 @@ module _ (look : List ℕ → Option ℕ) (hs : List Held) (i : Inverts look (na
       let two : look h.folder.name ≡ Some n = i.from h.folder.name n (ap (option_map (λ (z : Held). z.folder.name)) f ∙ ap (λ (q : List ℕ). Some q) (sym same)) in
       some_same _ _ (sym one ∙ two)
 
+  -- the folder of the number that a name has is the folder of the name
   pub placed : (q : List ℕ) (n : ℕ) (h : Held) → look q ≡ Some n → held_in hs n ≡ Some h → named hs q ≡ Some h
   placed q n h e held =
       let name : h.folder.name ≡ q = some_same _ _ (sym (ap (option_map (λ (z : Held). z.folder.name)) held) ∙ i.to q n e) in
       ap (named hs) (sym name) ∙ named_only n h held
 
+  -- where a name has no number, no folder has the name
   pub unplaced : (q : List ℕ) → look q ≡ None → named hs q ≡ None
   unplaced q e =
       elim (named hs q) as (λ o. named hs q ≡ o → o ≡ None) [
@@ -163,6 +165,7 @@ module _ (look : List ℕ → Option ℕ) (hs : List Held) (i : Inverts look (na
             absurd (some_is_not_none _ (sym there ∙ e))
       ] refl
 
+  -- where no folder has a name, the name has no number
   pub unnamed : (q : List ℕ) → named hs q ≡ None → look q ≡ None
   unnamed q e =
       elim (look q) as (λ o. look q ≡ o → o ≡ None) [
