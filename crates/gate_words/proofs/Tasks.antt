@@ -122,7 +122,7 @@ pub ok-then : {T E : Type 0} (r : Result T E) {P Q : T → Type 0} → IfOk r P 
 ok-then (Ok x) p then = then x p
 ok-then (Err e) p then = tt
 
--- the same for the error
+-- what follows for the error
 pub err-then : {T E : Type 0} (r : Result T E) {P Q : E → Type 0} → IfErr r P → ((e : E) → P e → Q e) → IfErr r Q
 err-then (Ok x) p then = tt
 err-then (Err e) p then = then e p
