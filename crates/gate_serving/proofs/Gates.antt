@@ -4,7 +4,7 @@ use Rattle.gate_world.specs.Causes.{Hidden}
 use Rattle.gate_serving.specs.declared.gate.Gate.{Gate}
 use Rattle.gate_serving.specs.Gates.{RestStays, account_by}
 
--- what a gate is but for the machine and the uploads is what it was
+-- where a gate stays, all of it but the machine and the uploads stays
 pub rest_none : (gate : Gate) → RestStays gate gate
 rest_none gate = record { door = refl; user = refl; base = refl }
 
