@@ -160,7 +160,7 @@ values_both : (b : List ℕ) (ps qs : List Part) (x y z : Members) → AddsValue
 values_both b [] qs x y z none rest = subst (λ (m : Members). AddsValues b qs m z) none rest
 values_both b (p ∷ ps) qs x y z (m, one, more) rest = (m, one, values_both b ps qs m y z more rest)
 
--- the value of one leaf more is put after those before it, if it is a text
+-- with one leaf more, its value is put to those before, if it is a text
 pub values_more : (b : List ℕ) (refs : List (Bor Part)) (i : ℕ) (r : Bor Part) (before mid after : Members) → i < length refs → AddsValues b (parts_of (take i refs)) before mid
     → PutsIf (is_text (media (get_or refs i r).now)) b (get_or refs i r).now mid after → AddsValues b (parts_of (take (i + 1) refs)) before after
 values_more b refs i r before mid after lt all has =
