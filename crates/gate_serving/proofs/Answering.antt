@@ -262,7 +262,7 @@ pub read_asked : {door : Door} {account : Account} {asking : Asking} {before aft
 read_asked {mid = mid} {now = now} xs was response later reads replies =
     let r = replies.of xs reads in (r.0, bears_earlier (reply_blamed r.0) was mid now later r.1)
 
--- memory ran out while the request was read: the reply says so
+-- memory ran out while the request was read: the reply says so, and the machine isn't ready
 pub read_lacking : {door : Door} {account : Account} {events : List Event} (before after : GateState) (was now : Faults) (response : Response) → Later was now
     → ReadsAsking door account.token (Err unread.Memory) events → text_sent response ≡ no_memory_text door → after ≡ unready_state before
     → RepliesBy door account before after was now (Some response) events
@@ -346,7 +346,7 @@ pub steps_none : {door : Door} {account : Account} {events : List Event} (s : Ga
     → StepsTo door account s s was now served.NoMore events
 steps_none s was now is alone = record { segment = NoneComes is refl refl; bears = bears_none was now (later_front was now alone) }
 
--- a client comes, and is served
+-- a client comes, and then what serving it adds
 pub steps_client : {door : Door} {account : Account} {before after : GateState} {mid now : Faults} {xs ys : List Event} (was : Faults) (how : Served) → xs ≡ Accepted ∷ []
     → FrontAlone was mid
     → Serves door account before after mid now how ys → StepsTo door account before after was now how (xs ++ ys)

@@ -69,7 +69,7 @@ read_over_http token over_http (Err unread.Memory) events asks (out, (body, is))
 read_over_http token over_http (Err unread.Ended) events asks (out, so) = absurd (cc out)
 read_over_http token over_http (Err unread.Failed) events asks (out, so) = absurd (cc out)
 
--- what isn't read over HTTP isn't read, for the same cause
+-- where a request isn't read over HTTP, reading at that door ends for the same cause
 pub unread_over_http : (token : List ℕ) (e : AskError) (events : List Event) → AsksOverHttp token account_id (Err e) events → ReadsInto Http token (Err e) events
 unread_over_http token unread.Memory events asks = inl asks
 unread_over_http token unread.Ended events asks = asks
