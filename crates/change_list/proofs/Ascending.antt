@@ -11,6 +11,7 @@ use Rattle.change_list.specs.Copy.{holds_id}
 pub Contains-holds_id : (xs : List ℕ) (q : ℕ) → holds_id xs q ≡ true → Contains xs q
 Contains-holds_id xs q e = Contains-from_any eqb-true q xs e
 
+-- of a number that is a member the test of membership says so
 pub holds_id-Contains : (xs : List ℕ) (q : ℕ) → Contains xs q → holds_id xs q ≡ true
 holds_id-Contains xs q e = list_any-from_Contains nat_eq_equiv q xs e
 

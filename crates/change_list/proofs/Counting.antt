@@ -98,6 +98,7 @@ fresh_listed before (e ∷ es) xs up same = elim (touches before e.id) as
           ap suc rest ∙ sym (length_without e.id xs up held)
     ] refl
 
+-- as many ids are touched as an ascending list of them has
 pub count_listed : (es : List Entry) (xs : List ℕ) → Lists xs (λ q. touches es q ≡ true) → touched_count es ≡ length xs
 count_listed es xs l = fresh_listed [] es xs l.ascending (λ q. same_truth (holds_id xs q) (touches es q) (λ h. (l.members q).0 (Contains-holds_id xs q h))
     (λ t. holds_id-Contains xs q ((l.members q).1 t)) ∙ sym (and-true (touches es q)))
@@ -190,6 +191,7 @@ ids_of (e ∷ es) =
       )
     ] refl
 
+-- there is an ascending list of the ids that are touched
 pub ids_listed : (es : List Entry) → (xs : List ℕ) × Lists xs (λ q. touches es q ≡ true)
 ids_listed es =
     let ids = ids_of es in (

@@ -51,6 +51,7 @@ fresh_step false false true later x y a b s e f = ap suc f
 fresh_step false false false true x y a b s e f = ap suc f
 fresh_step false false false false x y a b s e f = ap suc f
 
+-- one touch more at the end counts where its id wasn't touched before it
 pub fresh_count-snoc : (before es : List Entry) (e : Entry) → fresh_count before (es ++ e ∷ [])
     ≡ cond (touches before e.id || touches es e.id) (fresh_count before es) (suc (fresh_count before es))
 fresh_count-snoc before [] e = fresh_end (touches before e.id) 0

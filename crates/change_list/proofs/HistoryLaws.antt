@@ -10,6 +10,7 @@ use Rattle.change_list.specs.declared.entries.Entry.{Entry}
 
 -- ---- touches of appended lists
 
+-- an id is touched in two lists in turn where it is in one of them
 pub touches-append : (a b : List Entry) (q : ℕ) → touches (a ++ b) q ≡ touches a q || touches b q
 touches-append [] b q = refl
 touches-append (e ∷ a) b q =
@@ -22,6 +23,7 @@ touches-append (e ∷ a) b q =
 pub take-parts : {X : Type 0} (h : List X) (k n : ℕ) → k ≤ n → take n h ≡ take k h ++ drop k (take n h)
 take-parts h k n kn = sym (take-append-drop k (take n h)) ∙ ap (λ x. x ++ drop k (take n h)) (take-take k n h kn)
 
+-- the touches of the places s + 1 to n are those of s + 1 to k and then those of k + 1 to n
 pub between-append : (h : List Entry) (s k n : ℕ) → s ≤ k → k ≤ n → between h s n ≡ between h s k ++ between h k n
 between-append h zero k n sk kn = take-parts h k n kn
 between-append h (suc s) zero n sk kn = absurd (omega arith)

@@ -20,10 +20,12 @@ use Rattle.email_get.proofs.MomentLemmas.{one_moment_text}
 
 -- ---- no number has a fraction: there is none
 
+-- where nothing that is made of an element has a fraction, a list of it has none
 pub items_whole : {A : Type 0} (f : A → Data) (xs : List A) → ((x : A) → has_float (f x) ≡ false) → items_have_float (items_of (map f xs)) ≡ false
 items_whole f [] h = refl
 items_whole f (x ∷ xs) h = ap (λ b. b || items_have_float (items_of (map f xs))) (h x) ∙ items_whole f xs h
 
+-- neither a text nor null has a fraction
 pub text_whole : (t : Option (List ℕ)) → has_float (optional_text t) ≡ false
 text_whole None = refl
 text_whole (Some t) = refl
@@ -73,6 +75,7 @@ pub record IsWholeHeader (h : HeaderData) : Type 0 where
   pub subject : has_float h.subject ≡ false
   pub to : has_float h.to ≡ false
 
+-- no property of a header has a fraction
 pub whole_header : (fields : List NameAndRaw) (h : HeaderData) → IsHeaderData fields h → IsWholeHeader h
 whole_header fields h p = record {
   bcc = of_addresses (codes "bcc") fields h.bcc p.bcc;
@@ -148,6 +151,7 @@ made bcc cc from_ in_reply_to message_id references reply_to sender sent_at subj
   to = to;
 }
 
+-- fields give at most one value of each header property
 pub one_header_data : (fields : List NameAndRaw) (g h : HeaderData) → IsHeaderData fields g → IsHeaderData fields h → g ≡ h
 one_header_data fields g h p q =
     ap (λ (d : Data). made d g.cc g.from g.in_reply_to g.message_id g.references g.reply_to g.sender g.sent_at g.subject g.to)

@@ -49,6 +49,7 @@ kin_both [] b (q ∷ c) d none rest = absurd none
 kin_both (p ∷ a) b [] d none rest = absurd none
 kin_both (p ∷ a) b (q ∷ c) d (one, more) rest = (one, kin_both a b c d more rest)
 
+-- parts that are the same have leaves that are the same in turn, but for what stands below
 pub leaves_kin : (more : ℕ) (ps qs ls ms : List Part) → AllSame (Same more) ps qs → AreLeaves ps ls → AreLeaves qs ms → AllSame Kin ls ms
 leaves_kin more _ [] _ ms same End other = subst (λ (u : List Part). AllSame Kin [] u) (sym (cases [] ms other)) tt
 leaves_kin more _ (q ∷ qs) _ ms same End other = absurd same
@@ -89,6 +90,7 @@ head_or : ℕ → List ℕ → ℕ
 head_or d [] = d
 head_or d (n ∷ ns) = n
 
+-- of two lists of leaves that are kin and numbered from 1 on, those with equal numbers are kin
 pub kin_lists : (ls ms : List Part) (m n : ℕ) → AllSame Kin ls ms → AreFrom 1 ls m → AreFrom 1 ms n → (ps qs : List Part) → map leaf_number ps ≡ map leaf_number qs → AllIn ps ls
     → AllIn qs ms → AllSame Kin ps qs
 unfolding tail_of head_or

@@ -36,6 +36,7 @@ abbrev pub Cases : List Part → List Part → Type 0
 Cases [] ls = ls ≡ []
 Cases (p ∷ ps) ls = FirstLeaf p ps ls ⊎ FirstMulti p ps ls
 
+-- the leaves of parts, by whether there is a first part, and whether it is a leaf
 pub cases : (ps ls : List Part) → AreLeaves ps ls → Cases ps ls
 cases _ _ leaves.End = refl
 cases _ _ (leaves.Leaf p ps behind leaf rest) = inl (record { leaf = leaf; behind = behind; are_behind = rest; is = refl })
@@ -100,6 +101,7 @@ unfolding IsTree
 tree_from zero b s e d f p n t ls a = leaf_from t.0 f p n t.2 ls a
 tree_from (suc more) b s e d f p n t ls a = part_from more b (tree_from more b) t.0 t.2 f p n t.4 ls a
 
+-- the leaves of a message have the numbers from 1 on, in their order
 pub message_from : (b : List ℕ) (p : Part) (h : IsMessage b p) (ls : List Part) → AreLeaves (p ∷ []) ls → AreFrom 1 ls h.0
 message_from b p h ls a = tree_from 64 b 0 _ _ 1 p h.0 h.1 ls a
 
@@ -114,6 +116,7 @@ pub record Place (f : ℕ) (ls : List Part) (p : Part) : Type 0 where
   pub there : slice_get ls at ≡ Some p
   pub number : leaf_number p ≡ f + at
 
+-- a part among leaves numbered from f on stands at the place that is its number less f
 pub place : (f : ℕ) (ls : List Part) (n : ℕ) → AreFrom f ls n → (p : Part) → IsIn p ls → Place f ls p
 place f [] n h p i = absurd i
 place f (q ∷ ls) n h p (inl e) =
@@ -190,6 +193,7 @@ inside_leaf walk inline p ls i =
     (inside_if (walk.text && is_plain_part p) _ _ ls as_text (inside_if (walk.html && is_html p) _ _ ls as_html attached))
     in_open)
 
+-- what a walk adds is among the leaves of the parts that it walks
 pub walk_inside : (walk : Walk) (ps : List Part) (a : PartLists) → Walks walk ps a → (ls : List Part) → AreLeaves ps ls → Inside a ls
 walk_inside _ _ _ (End walk) ls h = record { text = tt; html = tt; attachments = tt }
 walk_inside _ _ _ (Multi walk p ps x kids rest) ls h =

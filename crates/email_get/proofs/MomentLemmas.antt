@@ -249,6 +249,7 @@ same_clock c d p q low high same =
     let of_parts : ℕ → ℕ → ℕ → Clock = λ h m s. record { hour = h; minute = m; second = s } in
     ap (λ h. of_parts h c.minute c.second) hours ∙ ap (λ m. of_parts d.hour m c.second) minutes ∙ ap (λ s. of_parts d.hour d.minute s) seconds
 
+-- a moment has at most one text
 pub one_moment_text : (m : Moment) (s t : List ℕ) → IsMomentText m s → IsMomentText m t → s ≡ t
 one_moment_text m s t p q =
     let f = moment_is p.day p.clock m p.is_moment in

@@ -174,6 +174,7 @@ one_body_data b p q x y m n g h =
     let values = one_values b g.leaves h.leaves no_members x.values y.values all g.values h.values in
     λ i. record { attachments = attachments i; has_attachment = has i; html = html i; preview = preview i; text = text i; values = values i }
 
+-- octets are at most one Email object
 pub one_email_object : (b : List ℕ) (d e : Data) → IsEmailObject b d → IsEmailObject b e → d ≡ e
 one_email_object b d e g h =
     let fields = (one_header g.fields h.fields g.header_end h.header_end b g.is_header h.is_header).0 in

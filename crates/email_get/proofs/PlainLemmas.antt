@@ -26,6 +26,7 @@ text_of : (m : List ℕ) → map to_ascii_lowercase m ≡ map to_ascii_lowercase
 unfolding front
 text_of m e = front_lower m ∙ ap (λ (u : List ℕ). front is_no_slash u) e
 
+-- a media type that is text/plain is that of a text
 pub plain_text : (m : List ℕ) → is_same_text m (codes "text/plain") ≡ true → is_text m ≡ true
 unfolding is_text
 plain_text m h =

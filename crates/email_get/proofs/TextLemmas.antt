@@ -30,9 +30,11 @@ first_cr (c ∷ t) zero lt e h = ap (λ (x : ℕ). kept_octet x t ++ with_lf t) 
 first_cr (c ∷ t) (suc n) lt e h =
     ap (λ (u : List ℕ). u ++ with_lf t) (plain_octet c t (h 0 (omega arith))) ∙ ap (λ (u : List ℕ). c ∷ u) (first_cr t n (omega arith) e (λ k lt. h (suc k) (omega arith)))
 
+-- a text in which no CR is found stays as it is
 pub none_found : (t : List ℕ) → Nowhere (Passes (is_byte 13) t) 0 (length t) → with_lf t ≡ t
 none_found t h = no_cr t (λ k lt e. h k (omega arith) lt (ap (λ (x : ℕ). is_byte 13 x) e))
 
+-- up to the first CR that is found a text stays as it is, and the CR stays where no LF follows
 pub found : (t : List ℕ) (n : ℕ) → IsFirst (Passes (is_byte 13) t) 0 (length t) (Some n)
     → with_lf t ≡ take n t ++ (kept_octet 13 (drop 1 (drop n t)) ++ with_lf (drop 1 (drop n t)))
 found t n h = first_cr t n h.0.high (eqb-true (get_or t n 0) 13 h.1) (λ k lt e. h.0.before k (omega arith) lt (ap (λ (x : ℕ). is_byte 13 x) e))

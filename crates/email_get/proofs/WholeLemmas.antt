@@ -85,6 +85,7 @@ email_whole h d w v =
     rw v.attachments (rw w.bcc (rw v.values (rw w.cc (rw w.from
     (rw v.html (rw w.in_reply_to (rw w.message_id (rw w.references (rw w.reply_to (rw w.sender (rw w.sent_at (rw w.subject (rw v.text (rw w.to refl))))))))))))))
 
+-- an Email object has no number with a fraction
 pub whole_object : (b : List ℕ) (d : Data) → IsEmailObject b d → has_float d ≡ false
 whole_object b d o =
     let body = o.is_body in

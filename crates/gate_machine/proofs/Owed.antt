@@ -170,6 +170,7 @@ by_dial law b obeyed (inr (inr memory)) none =
     let out : b.connected.standing ≡ OutOfMemory = ap (λ (p : Progress). p.standing) b.dials.after_is ∙ ap standing_by memory in
     inr (ap (λ (p : Progress). p.standing) (asks_nothing b.asks (λ is. cc)) ∙ out)
 
+-- where the store obeyed, a place was left and no fault is blamed, mail is served or memory ran out
 pub obeyed_stands : Law → (user password : List ℕ) (before : Machine) (events : List Event) (after : Progress) (begins : PreparesMail user password before events after)
     → IsObeyedBeginning begins
     → after.blamed ≡ no_faults

@@ -101,6 +101,7 @@ in_life : (left : Option LinkLife) (client : ClientState) → StandsInLife left 
 in_life None client dead alive = absurd (cc (dead, alive))
 in_life (Some life) client stands alive = (life, refl, stands)
 
+-- a round in the life of a client that is alive takes the work to where the round's end leaves it
 pub asked : {client next : ClientState} {result : Result (Unit {0}) LinkEnd} {events : List Event} (before : Progress) (machine after : Machine) (how : Standing)
     (was then now : Faults) (k : KnownMail) (told : Told)
     → CameTo machine client standing.Stands was then before → machine.known ≡ Some k → client.alive ≡ true
@@ -138,6 +139,7 @@ asked {client} {next} {result} before machine after how was then now k told came
 
 -- ---- what was told is served
 
+-- serving the mail that was told, at a further place where it is new, settles the work, which stands
 pub settled : (before : Progress) (client : ClientState) (was now : Faults) (machine after : Machine) (k next : KnownMail)
     → CameTo machine client standing.Stands was now before → machine.known ≡ Some k → Commits k next → after ≡ record machine { known = Some next }
     → (p : Progress) × Settles before [] p × CameTo after client standing.Stands was now p
@@ -158,6 +160,7 @@ settled before client was now machine after k next came known (inr moved) after_
   },
 )
 
+-- where new mail was told and no place is left for it, forgetting the mail settles the work, which fell
 pub spent : (before : Progress) (client : ClientState) (was now : Faults) (machine after : Machine) (k : KnownMail)
     → CameTo machine client standing.Stands was now before → machine.known ≡ Some k → IsNewMail k → IsSpent k.history → after ≡ forgotten machine
     → (p : Progress) × Settles before [] p × CameTo after client (standing.Fell Spent) was now p
@@ -167,6 +170,7 @@ spent before client was now machine after k came known new spends after_is = (
   record { machine_is = ap forgotten came.machine_is ∙ sym after_is; standing_is = refl; holds = came.holds; bears = came.bears },
 )
 
+-- where memory ran out for what was told, forgetting the mail settles the work
 pub lacked : (before : Progress) (client : ClientState) (was now : Faults) (machine after : Machine)
     → CameTo machine client standing.Stands was now before → after ≡ forgotten machine
     → (p : Progress) × Settles before [] p × CameTo after client standing.OutOfMemory was now p

@@ -43,6 +43,7 @@ earlier_rose b was mid now later rose = omega arith
 rose_none : (was now : ℕ) → was ≤ now → RoseBy 0 was now
 rose_none was now later = omega arith
 
+-- counts that haven't fallen bear that nothing is blamed
 pub bears_none : (was now : Faults) → Later was now → Bears no_faults was now
 bears_none was now later =
     record {
@@ -52,6 +53,7 @@ bears_none was now later =
       say = rose_none was.say now.say later.say;
     }
 
+-- counts that bear a blame bear it later, where they haven't fallen since
 pub bears_later : (b was mid now : Faults) → Bears b was mid → Later mid now → Bears b was now
 bears_later b was mid now bears later =
     record {
@@ -61,6 +63,7 @@ bears_later b was mid now bears later =
       say = later_rose b.say was.say mid.say now.say bears.say later.say;
     }
 
+-- counts that bear a blame bear it from an earlier moment on, where they hadn't fallen before
 pub bears_earlier : (b was mid now : Faults) → Later was mid → Bears b mid now → Bears b was now
 bears_earlier b was mid now later bears =
     record {
@@ -70,6 +73,7 @@ bears_earlier b was mid now later bears =
       say = earlier_rose b.say was.say mid.say now.say later.say bears.say;
     }
 
+-- where nothing failed, no count has fallen
 pub later_same : (was now : Faults) → NoFault was now → Later was now
 later_same was now same =
     record {
@@ -79,12 +83,15 @@ later_same was now same =
       say = omega (arith, ap (λ (f : Faults). f.say) same);
     }
 
+-- where the link alone may have failed, no count has fallen
 pub later_link : (was now : Faults) → LinkAlone was now → Later was now
 later_link was now alone = record { link = alone.link; keep = omega (arith, alone.keep); front = omega (arith, alone.front); say = omega (arith, alone.say) }
 
+-- where the front alone may have failed, no count has fallen
 pub later_front : (was now : Faults) → FrontAlone was now → Later was now
 later_front was now alone = record { link = omega (arith, alone.link); keep = omega (arith, alone.keep); front = alone.front; say = omega (arith, alone.say) }
 
+-- counts that have fallen neither before a moment nor after it haven't fallen
 pub later_both : (was mid now : Faults) → Later was mid → Later mid now → Later was now
 later_both was mid now one two =
     record {
@@ -96,6 +103,7 @@ later_both was mid now one two =
 
 -- ---- the work
 
+-- the work on what doesn't need the mail: nothing is done, and there is no mail
 pub works_without : (user password : List ℕ) (asks : Bool) (machine : Machine) (f : Faults) → Later f f → asks ≡ false
     → WorksTo user password asks machine machine f f (Ok (Err ServerUnavailable)) []
 works_without user password asks machine f same asks_is =
@@ -115,6 +123,7 @@ is_worked (Ok mail) how machine p machine_is standing_is meant memory =
     (meant ∙ (λ i. mailing_by (sym standing_is i) (sym machine_is i).known), (λ out. memory (sym standing_is ∙ out)))
 is_worked (Err e) how machine p machine_is standing_is meant memory = tt
 
+-- the work on what needs the mail: its link life, and the mail by how that went
 pub works_visited : {user password : List ℕ} {before machine : Machine} {how : Standing} {was now : Faults} {events : List Event} (asks : Bool) (result : Result Mailing AllocError)
     → asks ≡ true → Visits user password before machine how was now events
     → IfOk result (λ mail. mail ≡ mailing_by how machine.known) → IfOk result (λ mail. how ≢ OutOfMemory)
@@ -194,6 +203,7 @@ answers_lacking gate before secrets asks asking e result asks_is w machine_is sa
 
 -- ---- the reply to what is asked
 
+-- a response that was made is the reply
 pub replied : {door : Door} {account : Account} {asking : Asking} {before after : GateState} {was now : Faults} {events : List Event} (response : Response)
     → AnswersTo door account asking before after was now (Ok response) events → RepliesToAsking door account asking before after was now (text_sent response) events
 replied {asking = asking} {events = events} response a =
@@ -217,6 +227,7 @@ replied {asking = asking} {events = events} response a =
       );
     }
 
+-- there was no memory for a response: the reply says so, and the machine isn't ready
 pub replied_lacking : {door : Door} {account : Account} {asking : Asking} {before mid after : GateState} {was now : Faults} {events : List Event} (e : AllocError) (text : List ℕ)
     → text ≡ no_memory_text door → after ≡ unready_state mid → AnswersTo door account asking before mid was now (Err e) events
     → RepliesToAsking door account asking before after was now text events
@@ -243,6 +254,7 @@ replied_lacking {door} {account} {asking} {before} {mid} {after} {was} {now} {ev
 
 -- ---- reading
 
+-- what was read of the client, and then the reply to what it asks
 pub read_asked : {door : Door} {account : Account} {asking : Asking} {before after : GateState} {mid now : Faults} {ys : List Event} (xs : List Event) (was : Faults)
     (response : Response)
     → Later was mid → ReadsAsking door account.token (Ok asking) xs → RepliesToAsking door account asking before after mid now (text_sent response) ys
@@ -250,6 +262,7 @@ pub read_asked : {door : Door} {account : Account} {asking : Asking} {before aft
 read_asked {mid = mid} {now = now} xs was response later reads replies =
     let r = replies.of xs reads in (r.0, bears_earlier (reply_blamed r.0) was mid now later r.1)
 
+-- memory ran out while the request was read: the reply says so, and the machine isn't ready
 pub read_lacking : {door : Door} {account : Account} {events : List Event} (before after : GateState) (was now : Faults) (response : Response) → Later was now
     → ReadsAsking door account.token (Err unread.Memory) events → text_sent response ≡ no_memory_text door → after ≡ unready_state before
     → RepliesBy door account before after was now (Some response) events
@@ -328,10 +341,12 @@ pub steps_fault : {door : Door} {account : Account} {events : List Event} (s : G
 steps_fault s was now is alone rose =
     record { segment = NotAccepted is refl refl; bears = bears_front 1 no_faults was was now (bears_none was was (later_same was was refl)) alone rose }
 
+-- no client comes
 pub steps_none : {door : Door} {account : Account} {events : List Event} (s : GateState) (was now : Faults) → events ≡ NoMore ∷ [] → FrontAlone was now
     → StepsTo door account s s was now served.NoMore events
 steps_none s was now is alone = record { segment = NoneComes is refl refl; bears = bears_none was now (later_front was now alone) }
 
+-- a client comes, and then what serving it adds
 pub steps_client : {door : Door} {account : Account} {before after : GateState} {mid now : Faults} {xs ys : List Event} (was : Faults) (how : Served) → xs ≡ Accepted ∷ []
     → FrontAlone was mid
     → Serves door account before after mid now how ys → StepsTo door account before after was now how (xs ++ ys)

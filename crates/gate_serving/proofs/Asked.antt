@@ -21,12 +21,14 @@ use Rattle.gate_serving.specs.reading.Askings.{AsksInBody, AsksInVain, AsksOf, R
 
 -- ---- a body
 
+-- a body that is a request asks its calls
 pub request_in_body : (body : List ℕ) (request : RequestData) → requested body ≡ Ok request → Calls request ≡ asked_by (requested body)
 request_in_body body request is = sym (ap asked_by is)
 
 problem_in_body : (body : List ℕ) (e : RequestError) (result : Result Asked AskError) → result ≡ Ok (asked.Problem e) → requested body ≡ Err e → AsksInBody body result
 problem_in_body body e result is why = subst (λ (r : Result Asked AskError). AsksInBody body r) (sym is) (sym (ap asked_by why))
 
+-- a body that is no request asks the problem that it has, or memory ran out
 pub vain_in_body : (body : List ℕ) (e : RequestError) (result : Result Asked AskError) → AsksInVain e result → (e ≡ Memory) ⊎ (requested body ≡ Err e) → AsksInBody body result
 vain_in_body body Memory result is cause = subst (λ (r : Result Asked AskError). AsksInBody body r) (sym is) refl
 vain_in_body body NotJson result is (inl out) = absurd (cc out)
@@ -53,10 +55,12 @@ read_in_body token body (Err unread.Failed) events gives is = absurd (cc is)
 
 -- ---- over HTTP
 
+-- calls over HTTP ask what their body asks
 pub calls_over_http : (body : List ℕ) (result : Result Asked AskError) → AsksInBody body result → AsksOf (http.Calls body) result
 calls_over_http body (Ok asking) is = is
 calls_over_http body (Err e) is = (is, (body, refl))
 
+-- what was read over HTTP asks what it stands for, or memory ran out
 pub read_over_http : (token : List ℕ) (over_http : HttpAsking) (result : Result Asked AskError) (events : List Event) → AsksOverHttp token account_id (Ok over_http) events
     → AsksOf over_http result → ReadsInto Http token result events
 read_over_http token over_http (Ok asking) events asks is = (over_http, asks, is)
@@ -65,6 +69,7 @@ read_over_http token over_http (Err unread.Memory) events asks (out, (body, is))
 read_over_http token over_http (Err unread.Ended) events asks (out, so) = absurd (cc out)
 read_over_http token over_http (Err unread.Failed) events asks (out, so) = absurd (cc out)
 
+-- where a request isn't read over HTTP, reading at that door ends for the same cause
 pub unread_over_http : (token : List ℕ) (e : AskError) (events : List Event) → AsksOverHttp token account_id (Err e) events → ReadsInto Http token (Err e) events
 unread_over_http token unread.Memory events asks = inl asks
 unread_over_http token unread.Ended events asks = asks
@@ -75,12 +80,14 @@ unread_over_http token unread.Failed events asks = asks
 by_size : List ℕ → List ℕ → Bool → Asking
 by_size media octets fits = if fits then Upload media octets else Problem (Limit MaxSizeUpload)
 
+-- an upload that isn't too large is asked
 pub kept_upload : (media octets m o : List ℕ) → m ≡ media → o ≡ octets → length octets ≤ MAX_UPLOAD_OCTETS → Upload m o ≡ upload_asked media octets
 unfolding by_size
 kept_upload media octets m o media_is octets_is fits =
     let test : nat_le (length octets) MAX_UPLOAD_OCTETS ≡ true = grind (arith, nat_tests) in
     (λ i. Upload (media_is i) (octets_is i)) ∙ sym (ap (by_size media octets) test)
 
+-- an upload that is too large is a problem
 pub large_upload : (media octets : List ℕ) → MAX_UPLOAD_OCTETS < length octets → Problem (Limit MaxSizeUpload) ≡ upload_asked media octets
 unfolding by_size
 large_upload media octets large =

@@ -4,9 +4,11 @@ use Rattle.gate_world.specs.Causes.{Hidden}
 use Rattle.gate_serving.specs.declared.gate.Gate.{Gate}
 use Rattle.gate_serving.specs.Gates.{RestStays, account_by}
 
+-- where a gate stays, all of it but the machine and the uploads stays
 pub rest_none : (gate : Gate) → RestStays gate gate
 rest_none gate = record { door = refl; user = refl; base = refl }
 
+-- what stays up to a moment and after it stays
 pub rest_both : {a b c : Gate} → RestStays a b → RestStays b c → RestStays a c
 rest_both one two = record { door = two.door ∙ one.door; user = two.user ∙ one.user; base = two.base ∙ one.base }
 

@@ -20,6 +20,7 @@ digits_are_ascii =
     (IsAscii-cons 99 (codes "def") (omega arith) (IsAscii-cons 100 (codes "ef") (omega arith)
     (IsAscii-cons 101 (codes "f") (omega arith) (IsAscii-cons 102 [] (omega arith) IsAscii-nil)))))))))))))))
 
+-- the id of an upload is a text of UTF-8 as it stands
 pub id_is_text : (octets : List ℕ) → utf8_lossy (blob_id octets) ≡ blob_id octets
 unfolding blob_id
 id_is_text octets = utf8_lossy-IsUtf8 (117 ∷ encode_lower (sha256 octets)) (IsUtf8-from_ascii (117 ∷ encode_lower (sha256 octets))

@@ -16,6 +16,7 @@ use Rattle.gate_serving.specs.Work.{Work, NoMail, WithMail, mailing_by}
 none_of : (b was now : ℕ) → RoseBy b was now → now ≡ was → was < 2 ^ 64 - 1 → b ≡ 0
 none_of b was now rose is less = omega (arith, is)
 
+-- where no count rose and none stands at its end, nothing is blamed
 pub unblamed : (blames was now : Faults) → Bears blames was now → Stood was now → blames ≡ no_faults
 unblamed blames was now bears stood =
     λ i. record {
@@ -25,6 +26,7 @@ unblamed blames was now bears stood =
       say = none_of blames.say was.say now.say bears.say (ap (λ (f : Faults). f.say) stood.same) stood.say i;
     }
 
+-- what doesn't need the mail adds no event, and leaves the machine as it was
 pub no_life : (account : Account) (before : Machine) (asking : Asking) (events : List Event) (mail : Mailing) (after : Progress) → Work account before asking events mail after
     → asks_for_mail asking ≡ false → (events ≡ []) × (after.machine ≡ before)
 no_life account before asking events mail after (NoMail apart none a is) apart_is = (none, ap (λ (p : Progress). p.machine) is)
@@ -43,6 +45,7 @@ served_from asking mail begun after mail_is is (inl (k, stands, known)) =
     inl (inr (k, ap (λ (p : Progress). p.machine.known) is ∙ known, mail_is ∙ (λ i. mailing_by (stands i) (known i))))
 served_from asking mail begun after mail_is is (inr out) = inr (ap (λ (p : Progress). p.standing) is ∙ out)
 
+-- where the store obeyed and nothing is blamed, calls are answered over the mail that is served then; or memory ran out
 pub answered_from : Law → (account : Account) (before : Machine) (asking : Asking) (events : List Event) (mail : Mailing) (after : Progress)
     (work : Work account before asking events mail after) → IsWorkObeyed work → after.blamed ≡ no_faults → IsAnsweredFrom asking mail after ⊎ (after.standing ≡ OutOfMemory)
 answered_from law account before asking events mail after (NoMail apart a b c) obeyed none = inl (inl apart)

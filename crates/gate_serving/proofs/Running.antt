@@ -68,9 +68,11 @@ then_last {door} {account} {s} {t} {u} {was = was} {mid = mid} {now = now} {how 
       bears = bears_both _ _ was mid now r.bears step.bears;
     }
 
+-- a run ends with status 0 where fewer clients came than may, and no more come
 pub none_left : (n most : ℕ) → n < most → (went : List Served) → All IsClient went → length went ≡ n → Ends most (went ++ served.NoMore ∷ []) 0
 none_left n most less went came counted = NoneLeft went refl came (omega (arith, counted)) refl
 
+-- a run ends with status 6 where fewer clients came than may, and accepting fails
 pub not_accepted : (n most : ℕ) → n < most → (went : List Served) → All IsClient went → length went ≡ n → Ends most (went ++ served.AcceptFault ∷ []) 6
 not_accepted n most less went came counted = NotAccepted went refl came (omega (arith, counted)) refl
 

@@ -75,6 +75,7 @@ told_sent law door account before events replied heard text (Ok u) how after is 
     told_by law door account before events replied heard text how after is replies sends how_is obeyed (blameless (reply_blamed replies) none)
 told_sent law door account before events replied heard text (Err e) how after is replies sends how_is obeyed none = absurd (blamed_once (reply_blamed replies) none)
 
+-- what comes of one client or none, where the store obeyed and nothing is blamed
 pub told : Law → (door : Door) (account : Account) (before : GateState) (events : List Event) (how : Served) (after : GateState)
     (segment : Segment door account before events how after) → IsSegmentObeyed segment → blamed segment ≡ no_faults → IsTold door account events how after
 told law door account before events how after (NoneComes is how_is same) obeyed none = NobodyComes is how_is
@@ -91,6 +92,7 @@ abbrev pub ToldLaw : Type 0
 ToldLaw = (door : Door) (account : Account) (before : GateState) (events : List Event) (how : Served) (after : GateState)
     (segment : Segment door account before events how after) → IsSegmentObeyed segment → blamed segment ≡ no_faults → IsTold door account events how after
 
+-- what comes of each client of a run for whom the store obeyed and of whom nothing is blamed
 pub run_told : ToldLaw → {door : Door} {account : Account} {before after : GateState} {events : List Event} {went : List Served} (run : Run door account before events went after)
     → IsRunTold run
 run_told law Begun = tt

@@ -45,6 +45,7 @@ name_of-joined Base value = refl
 name_of-joined Listen value = refl
 name_of-joined Connections value = refl
 
+-- an option, `=` and a value in one word are read as that setting
 pub joined-text : (name : Name) (value : List ℕ) → joined (name_text name ++ 61 ∷ value) ≡ Some (record { name = name; value = value })
 joined-text Store value = refl
 joined-text User value = refl
@@ -52,6 +53,7 @@ joined-text Base value = refl
 joined-text Listen value = refl
 joined-text Connections value = refl
 
+-- a word that is read as a setting is its option, `=` and its value
 pub joined-is : (word : List ℕ) (setting : Setting) → joined word ≡ Some setting → word ≡ joined_text setting
 joined-is word setting found =
     let parts = and_then-some named (cut word) setting found in
@@ -59,6 +61,7 @@ joined-is word setting found =
     let text : parts.0.0 ≡ name_text name.0 = name_of-is parts.0.0 name.0 name.1 in
     cut-is word parts.0.0 parts.0.1 parts.1 ∙ ap (λ (t : List ℕ). t ++ 61 ∷ parts.0.1) text ∙ ap joined_text name.2
 
+-- a word in which the test finds no dash at the front begins with none
 pub no-dash : (word : List ℕ) → begins_with_dash word ≡ false → BeginsWithDash word → ⊥
 no-dash [] is dash = let e = dash.1 in cc
 no-dash (octet ∷ word) is dash =
@@ -66,6 +69,7 @@ no-dash (octet ∷ word) is dash =
     let yes : (octet == 45) ≡ true = eq-eqb octet 45 first in
     cc
 
+-- in a word that begins with no dash the test finds none
 pub test-no-dash : (word : List ℕ) → (BeginsWithDash word → ⊥) → begins_with_dash word ≡ false
 test-no-dash [] none = refl
 test-no-dash (octet ∷ word) none = elim (octet == 45) as (λ t. (octet == 45) ≡ t

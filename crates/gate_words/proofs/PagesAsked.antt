@@ -46,6 +46,7 @@ alone : (option : List ℕ) (found : Page) → ((option ≡ codes "--help") × (
 alone option found (inl o) = rw (o.0, o.1) refl
 alone option found (inr o) = rw (o.0, o.1) (inl refl)
 
+-- words that are read as a page ask for it
 pub page-asked : (words : List (List ℕ)) (found : Page) → page_of words ≡ Some found → AsksFor found words
 page-asked [] found is = absurd (none-some found is)
 page-asked (option ∷ []) found is = alone option found (by-is option Program found is)
@@ -54,6 +55,7 @@ page-asked (command ∷ option ∷ []) found is =
     after-command command option on.0 found (on-is command on.0 on.1) (by-is option on.0 found on.2)
 page-asked (command ∷ option ∷ word ∷ words) found is = absurd (none-some found is)
 
+-- words that ask for a page are read as it
 pub asked-page : (page : Page) (words : List (List ℕ)) → AsksFor page words → page_of words ≡ Some page
 asked-page Program words is = ap page_of is
 asked-page Version words (inl is) = ap page_of is

@@ -61,6 +61,7 @@ spelled-value word words name kind found follows step rest =
           (word, words, r.0, refl, no-dash word dash, follows None r.0 r.1, sym r.2)
     ] refl step
 
+-- words that are read as settings spell them; where an option waits, its value comes first
 pub spelled-from : (words : List (List ℕ)) → Follows words
 spelled-from [] None found is = subst (λ (f : List Setting). SpellsAll f []) (same_Some [] found is) refl
 spelled-from [] (Some name) found is = absurd (none-some found is)
@@ -87,6 +88,7 @@ read-one setting here rest (inr together) =
     ap (λ (ws : List (List ℕ)). settings None (ws ++ rest)) together
     ∙ rw (name_of-joined setting.name setting.value, joined-text setting.name setting.value) refl
 
+-- words that spell settings are read as them
 pub settings-from : (found : List Setting) (words : List (List ℕ)) → SpellsAll found words → settings None words ≡ Some found
 settings-from [] words spelled = ap (settings None) spelled
 settings-from (setting ∷ found) words spelled =

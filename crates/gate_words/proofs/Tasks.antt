@@ -93,6 +93,7 @@ no-page page.Serve words options command settings asked is spelled h v = no-help
 no-page page.Once words options command settings asked is spelled h v = no-help _ words asked options command settings is spelled
 no-page page.Show words options command settings asked is spelled h v = no-help _ words asked options command settings is spelled
 
+-- words are one task at most
 pub same-task : (words : List (List ℕ)) (first second : Task) → IsTask words first → IsTask words second → first ≡ second
 same-task words (Serve p l a) (Serve q m b) one two =
     same-spelled IsServe words (codes "serve") (Serve p l a) (Serve q m b) (λ settings x y. same-serve settings p q l m a b x y) one two
@@ -121,17 +122,21 @@ pub ok-then : {T E : Type 0} (r : Result T E) {P Q : T → Type 0} → IfOk r P 
 ok-then (Ok x) p then = then x p
 ok-then (Err e) p then = tt
 
+-- what follows for the error
 pub err-then : {T E : Type 0} (r : Result T E) {P Q : E → Type 0} → IfErr r P → ((e : E) → P e → Q e) → IfErr r Q
 err-then (Ok x) p then = tt
 err-then (Err e) p then = then e p
 
+-- options that are read as settings spell the task that these mean
 pub spelled-by : (Means : List Setting → Task → Type 0) (options : List (List ℕ)) (settings : List Setting) (task : Task) → read None options ≡ Some settings → Means settings task
     → Spelled Means options task
 spelled-by Means options settings task is means = (settings, spelled-from options None settings is, means)
 
+-- options that aren't read as settings spell no task
 pub not-spelled : (Means : List Setting → Task → Type 0) (options : List (List ℕ)) → read None options ≡ None → (task : Task) → Spelled Means options task → ⊥
 not-spelled Means options none task spelled = none-some spelled.0 (sym none ∙ settings-from spelled.0 options spelled.1)
 
+-- options that are read as settings that mean no task spell none
 pub not-meant : (Means : List Setting → Task → Type 0) (options : List (List ℕ)) (settings : List Setting) → read None options ≡ Some settings
     → ((task : Task) → Means settings task → ⊥) → (task : Task) → Spelled Means options task → ⊥
 not-meant Means options settings is none task spelled =
@@ -139,6 +144,7 @@ not-meant Means options settings is none task spelled =
 
 -- ---- words that are refused
 
+-- `serve` and options that spell none of its tasks are no task, where no page is asked for
 pub no-serve : (options : List (List ℕ)) → page_of (codes "serve" ∷ options) ≡ None → ((task : Task) → Spelled IsServe options task → ⊥)
     → (task : Task) → IsTask (codes "serve" ∷ options) task → ⊥
 no-serve options no_page none (Serve p l a) asked = none (Serve p l a) (subst (λ (o : List (List ℕ)). Spelled IsServe o (Serve p l a)) (sym (ap rest-words asked.1)) asked.2)
@@ -146,6 +152,7 @@ no-serve options no_page none (Once p) asked = other (codes "serve" ∷ options)
 no-serve options no_page none Show asked = other (codes "serve" ∷ options) (codes "serve") options [] (codes "show") refl asked refl refl
 no-serve options no_page none (Explain shown) asked = none-some shown (sym no_page ∙ asked-page shown (codes "serve" ∷ options) asked)
 
+-- `once` and options that spell none of its tasks are no task, where no page is asked for
 pub no-once : (options : List (List ℕ)) → page_of (codes "once" ∷ options) ≡ None → ((task : Task) → Spelled IsOnce options task → ⊥)
     → (task : Task) → IsTask (codes "once" ∷ options) task → ⊥
 no-once options no_page none (Serve p l a) asked = other (codes "once" ∷ options) (codes "once") options asked.0 (codes "serve") refl asked.1 refl refl
@@ -153,12 +160,14 @@ no-once options no_page none (Once p) asked = none (Once p) (subst (λ (o : List
 no-once options no_page none Show asked = other (codes "once" ∷ options) (codes "once") options [] (codes "show") refl asked refl refl
 no-once options no_page none (Explain shown) asked = none-some shown (sym no_page ∙ asked-page shown (codes "once" ∷ options) asked)
 
+-- `show` and words after it are no task, where no page is asked for
 pub no-show : (options : List (List ℕ)) → page_of (codes "show" ∷ options) ≡ None → (options ≡ [] → ⊥) → (task : Task) → IsTask (codes "show" ∷ options) task → ⊥
 no-show options no_page none (Serve p l a) asked = other (codes "show" ∷ options) (codes "show") options asked.0 (codes "serve") refl asked.1 refl refl
 no-show options no_page none (Once p) asked = other (codes "show" ∷ options) (codes "show") options asked.0 (codes "once") refl asked.1 refl refl
 no-show options no_page none Show asked = none (ap rest-words asked)
 no-show options no_page none (Explain shown) asked = none-some shown (sym no_page ∙ asked-page shown (codes "show" ∷ options) asked)
 
+-- words of which the first is no command are no task, where no page is asked for
 pub no-command : (command : List ℕ) (options : List (List ℕ)) → page_of (command ∷ options) ≡ None → command ≢ codes "serve" → command ≢ codes "once" → command ≢ codes "show"
     → (task : Task) → IsTask (command ∷ options) task → ⊥
 no-command command options no_page no_serve no_once no_show (Serve p l a) asked = no_serve (ap first-word asked.1)
@@ -166,6 +175,7 @@ no-command command options no_page no_serve no_once no_show (Once p) asked = no_
 no-command command options no_page no_serve no_once no_show Show asked = no_show (ap first-word asked)
 no-command command options no_page no_serve no_once no_show (Explain shown) asked = none-some shown (sym no_page ∙ asked-page shown (command ∷ options) asked)
 
+-- without any word there is no task
 pub no-words : (task : Task) → IsTask [] task → ⊥
 no-words (Serve p l a) asked = let e = asked.1 in absurd (cc)
 no-words (Once p) asked = let e = asked.1 in absurd (cc)

@@ -130,6 +130,7 @@ ran_told {status = status} behind events (ShownOne is one) shows well came =
     shows_told one.outcome status behind one.said one.shown events one.shows well one.ends one.whole came
 ran_told behind events (Explained page is one) shows well came = absurd (not_explained page (sym is ∙ shows))
 
+-- where the status isn't 6, whoever comes with a message to be shown is told its Email object, or memory ran out
 pub completes_show : {words : List (List ℕ)} {secrets : Hidden} {status : ℕ} {blames : Faults} {events : List Event} → Runs words secrets status blames events → (status ≡ 6 → ⊥)
     → CompletesShow words status events
 completes_show {events = events} (Refused none a b c) well task behind came = absurd (none Show task)

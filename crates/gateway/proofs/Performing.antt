@@ -37,6 +37,7 @@ pub record Attends (place : Place) (secrets : Hidden) (was now : Faults) (how : 
   pub step : StepsTo Bare (account_of place secrets) before after was now how segment
   pub whole : events ≡ opened ++ segment
 
+-- a gate is opened at the place, and then answers one client, or none comes
 pub attends : {place : Place} {secrets now_secrets : Hidden} {door : Door} {account : Account} {before after : GateState} {was mid now : Faults} {how : Served} (xs ys : List Event)
     → door ≡ Bare → account ≡ account_of place secrets → now_secrets ≡ secrets → NoFault was mid → Opens (Ok before) xs → StepsTo door account before after mid now how ys
     → Attends place secrets was now how (xs ++ ys)
@@ -53,6 +54,7 @@ attends {place} {secrets} {door = door} {account = account} {before = before} {a
       whole = refl;
     }
 
+-- the task `once`: a gate that answered one client, and what is said after it
 pub performs_once : {place : Place} {secrets : Hidden} {was mid now : Faults} {how : Served} {status : ℕ} {xs : List Event} (ys : List Event)
     → Attends place secrets was mid how xs → SayAlone mid now → EndsOnce how status ys → Performs (Once place) secrets was now status (xs ++ ys)
 performs_once {place} {was = was} {mid = mid} {now = now} {how = how} ys a alone ends =
@@ -84,6 +86,7 @@ pub record AttendsAll (place : Place) (secrets : Hidden) (most : ℕ) (was now :
   pub run : IsServingRun Http (account_of place secrets) before after most was now status served
   pub whole : events ≡ opened ++ served
 
+-- a gate is opened at the place, and then answers clients over HTTP
 pub attends_all : {place : Place} {secrets now_secrets : Hidden} {door : Door} {account : Account} {before after : GateState} {was mid now : Faults} {most status : ℕ}
     (xs ys : List Event)
     → door ≡ Http → account ≡ account_of place secrets → now_secrets ≡ secrets → NoFault was mid → Opens (Ok before) xs
@@ -105,6 +108,7 @@ attends_all {place} {secrets} {door = door} {account = account} {before = before
       whole = refl;
     }
 
+-- the task `serve`: a gate that answered clients over HTTP, and what is said after them
 pub performs_serve : {place : Place} {secrets : Hidden} {was mid now : Faults} {status : ℕ} {xs : List Event} (most : ℕ) (ys : List Event) (listen : List ℕ)
     → AttendsAll place secrets most was mid status xs → SayAlone mid now → EndsDone status ys ⊎ EndsFailed status ys
     → Performs (Serve place listen most) secrets was now status (xs ++ ys)
@@ -127,6 +131,7 @@ performs_serve {place} {was = was} {mid = mid} {now = now} most ys listen a alon
       bears = bears_later (run_blamed a.run.run) was mid now a.run.bears (later_say mid now alone);
     }
 
+-- a task whose gate isn't opened ends with status 5
 pub performs_unopened : {secrets : Hidden} {was now : Faults} {events : List Event} (task : Task) (place : Place) (e : OpenError) → IsAt task place → NoFault was now
     → Opens (Err e) events → Performs task secrets was now 5 events
 performs_unopened {was = was} {now = now} task place opening.Memory at same opens =
@@ -139,6 +144,7 @@ bears_one (Ok u) status said was now later failed ends = bears_none was now late
 bears_one (Err front.Memory) status said was now later failed ends = bears_none was now later
 bears_one (Err front.Failed) status said was now later failed ends = bears_failed was now later (failed ends.0)
 
+-- the task `show`: one client is shown its message
 pub performs_show : {secrets : Hidden} {was now : Faults} {status : ℕ} {events : List Event} → Later was now → (status ≡ 6 → Rose was.front now.front) → RunsShow status events
     → Performs Show secrets was now status events
 performs_show {was = was} {now = now} {status = status} later failed (shown, said, outcome, is, shows, ends) =
@@ -148,6 +154,7 @@ performs_show {was = was} {now = now} {status = status} later failed (shown, sai
       bears = bears_one outcome status said was now later failed ends;
     }
 
+-- the task that asks for a page of help: one client is told it
 pub performs_explain : {secrets : Hidden} {was now : Faults} {status : ℕ} {events : List Event} (page : Page) → Later was now → (status ≡ 6 → Rose was.front now.front)
     → RunsExplain (page_text page) status events
     → Performs (Explain page) secrets was now status events
@@ -159,15 +166,18 @@ performs_explain {was = was} {now = now} {status = status} page later failed (ex
       bears = bears_one outcome status said was now later failed ends;
     }
 
+-- a run over words that are a task is what the task adds
 pub runs_task : {words : List (List ℕ)} {task : Task} {secrets : Hidden} {was now : Faults} {status : ℕ} {events : List Event} → IsTask words task
     → Performs task secrets was now status events
     → IsWholeRun words secrets was now status events
 runs_task {task = task} is p = record { blames = p.blames; runs = Done task is p.ran; bears = p.bears }
 
+-- a run over words that are no task ends with status 2, and says so
 pub runs_refused : {words : List (List ℕ)} {secrets : Hidden} {was now : Faults} {events : List Event} → ((task : Task) → IsTask words task → ⊥) → SayAlone was now
     → IsSaid words_refused events
     → IsWholeRun words secrets was now 2 events
 runs_refused {was = was} {now = now} none alone said = record { blames = no_faults; runs = Refused none refl said refl; bears = bears_none was now (later_say was now alone) }
 
+-- a run whose memory ran out at once ends with status 5, and adds no event
 pub runs_lacking : {words : List (List ℕ)} {secrets : Hidden} (f : Faults) → IsWholeRun words secrets f f 5 []
 runs_lacking f = record { blames = no_faults; runs = OutOfMemory refl refl refl; bears = bears_none f f (later_same f f refl) }

@@ -52,27 +52,35 @@ heard_store_took : (e : Event) → IsClientTook e → store_took_in e ≡ []
 heard_store_took (ClientTook octets) here = refl
 heard_store_took _ never = absurd never
 
+-- events by which the client gives octets have none that the store gives
 pub asks_gave_store : (es : List Event) → All IsClientGave es → flat_map store_gave_in es ≡ []
 asks_gave_store = quiet store_gave_in IsClientGave asks_store_gave
 
+-- events by which the client gives octets have none that the store takes
 pub asks_took_store : (es : List Event) → All IsClientGave es → flat_map store_took_in es ≡ []
 asks_took_store = quiet store_took_in IsClientGave asks_store_took
 
+-- events by which the client gives octets have none that the client takes
 pub asks_took_client : (es : List Event) → All IsClientGave es → flat_map client_took_in es ≡ []
 asks_took_client = quiet client_took_in IsClientGave asks_client_took
 
+-- events of the link alone have no octets that the client gives
 pub talk_gave_client : (es : List Event) → All IsTalk es → flat_map client_gave_in es ≡ []
 talk_gave_client = quiet client_gave_in IsTalk talk_client_gave
 
+-- events of the link alone have no octets that the client takes
 pub talk_took_client : (es : List Event) → All IsTalk es → flat_map client_took_in es ≡ []
 talk_took_client = quiet client_took_in IsTalk talk_client_took
 
+-- events by which the client takes octets have none that the client gives
 pub heard_gave_client : (es : List Event) → All IsClientTook es → flat_map client_gave_in es ≡ []
 heard_gave_client = quiet client_gave_in IsClientTook heard_client_gave
 
+-- events by which the client takes octets have none that the store gives
 pub heard_gave_store : (es : List Event) → All IsClientTook es → flat_map store_gave_in es ≡ []
 heard_gave_store = quiet store_gave_in IsClientTook heard_store_gave
 
+-- events by which the client takes octets have none that the store takes
 pub heard_took_store : (es : List Event) → All IsClientTook es → flat_map store_took_in es ≡ []
 heard_took_store = quiet store_took_in IsClientTook heard_store_took
 
@@ -91,6 +99,7 @@ gives_took most (Err error.Memory) es (asks, gave, so, few, inl is) = ap (λ (l 
 gives_took most (Err error.Memory) es (asks, gave, so, few, inr (is, short)) = ap (λ (l : List Event). flat_map client_took_in l) is
     ∙ before_one client_took_in asks ClientEnded refl ∙ asks_took_client asks so.kind
 
+-- the octets that the client gives as its input are the input's
 pub gives_gave : (most : ℕ) (input : Input) (es : List Event) → GivesInput most (Ok input) es → flat_map client_gave_in es ≡ input_octets input
 gives_gave most (Whole octets) es (asks, is, so, few) = ap (λ (l : List Event). flat_map client_gave_in l) is ∙ before_one client_gave_in asks ClientEnded refl ∙ so.gave_is
 gives_gave most (Cut octets) es (so, many) = so.gave_is

@@ -28,6 +28,7 @@ pub sent_whole : {xs : List Event} (ys : List Event) (line : List ℕ) → Reads
 sent_whole {xs} ys line reads sends =
     Sent record { reading = xs; heard = ys; line = line; sent = Ok tt; whole = refl; reads = reads; sends = sends; outcome_is = refl }
 
+-- the front failed before the line was sent whole
 pub sent_part : {xs : List Event} (ys : List Event) (line : List ℕ) (e : Failed) → ReadsInput (Ok line) xs → Sends line (Err e) ys → Answers (Err error.Failed) (xs ++ ys)
 sent_part {xs} ys line e reads sends =
     Sent record { reading = xs; heard = ys; line = line; sent = Err e; whole = refl; reads = reads; sends = sends; outcome_is = refl }
@@ -40,8 +41,10 @@ accepted ys outcome is so = subst (λ (l : List Event). Shows outcome (l ++ ys))
 pub runs_well : {es : List Event} → Shows (Ok tt) es → RunsShow 0 es
 runs_well {es} shows = (es, [], Ok tt, sym (append-nil es), shows, (refl, refl))
 
+-- memory ran out: the status is 5, and nothing is said
 pub runs_out : {es : List Event} → Shows (Err error.Memory) es → RunsShow 5 es
 runs_out {es} shows = (es, [], Err error.Memory, sym (append-nil es), shows, (refl, refl))
 
+-- the front failed: the status is 6, and that is said
 pub runs_badly : {es said : List Event} (status : ℕ) → status ≡ 6 → Shows (Err error.Failed) es → IsSaid front_failed said → RunsShow status (es ++ said)
 runs_badly {es} {said} status is shows says = (es, said, Err error.Failed, refl, shows, (is, says))

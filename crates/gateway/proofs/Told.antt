@@ -25,6 +25,7 @@ task_told law runs {secrets = secrets} (ServedOnce place is serves) =
 task_told law runs (ShownOne a b) = tt
 task_told law runs (Explained page a b) = tt
 
+-- what comes of each client of a run of the program for whom the store obeyed and of whom nothing is blamed
 pub program_told : ToldLaw → RunsLaw → (words : List (List ℕ)) (secrets : Hidden) (status : ℕ) (events : List Event) → CompletesServing words secrets status events
 program_told law runs words secrets status events blames (Refused a b c d) = tt
 program_told law runs words secrets status events blames (OutOfMemory a b c) = tt

@@ -35,6 +35,7 @@ has_one _ _ (Passed who es h) n = has_one who es h n
 has_one _ _ (NextOne m who es h) n = refl
 has_one _ _ (NextGroup g who es h) n = refl
 
+-- the elements of a list of addresses with at least one mailbox or group pass the test for such lists
 pub is_listed : (who : List Addressee) (es : List Element) → AreAddressees who es → who ≢ [] → are_list es ≡ true
 is_listed who es h n = both (are_nested false es) (list_any is_addressee es) (nested who es h) (has_one who es h n)
 
@@ -45,6 +46,7 @@ inner_grouped phrase _ _ es (EmptyPlace ms inner h) so_far = inner_grouped phras
 inner_grouped phrase _ _ es (NextMailbox m ms inner h) so_far = ap (λ (u : List Mailbox). (Some phrase, u) ∷ grouped_from None [] es) (sym (append_assoc so_far (m ∷ []) ms))
     ∙ inner_grouped phrase ms inner es h (so_far ++ m ∷ [])
 
+-- the groups of a list of addresses, behind a run of mailboxes, are what its elements come to behind the same run
 pub groups_are : (who : List Addressee) (es : List Element) → AreAddressees who es → (run : List Mailbox) → groups_from run who ≡ grouped_from None run es
 groups_are _ _ NoAddressees run = refl
 groups_are _ _ (Passed who es h) run = groups_are who es h run
@@ -126,6 +128,7 @@ pub record Listed (es : List Element) : Type 0 where
   pub addressees : AreAddressees who es
   pub some : who ≢ []
 
+-- elements that pass the test are a list of addresses with at least one mailbox or group
 pub listed : (es : List Element) → are_list es ≡ true → Listed es
 unfolding Reads
 listed es e =
@@ -163,6 +166,7 @@ read_is _ _ (NextOne m who es h) = ap (λ (u : List Addressee). One m ∷ u) (re
 read_is _ _ (NextGroup g who es h) =
     ap (λ (u : List Addressee). Group g.phrase g.mailboxes ∷ u) (read_is who es h) ∙ inner_read g.phrase g.mailboxes g.inner es g.are_mailboxes []
 
+-- two rows of elements that are read of the same tokens are the same
 pub one_elements : (x y : List Element) (ts : List Spelled) → Sequence IsElement x ts → Sequence IsElement y ts → x ≡ y
 one_elements x y ts g h = one_reading (determined element_in element_reader) x y ts g h
 
@@ -170,6 +174,7 @@ one_elements x y ts g h = one_reading (determined element_in element_reader) x y
 pub elements_here : (who : List Addressee) (t : List ℕ) (ts : List Spelled) (l : IsAddressList who t) → AreTokens alphabet.Mail ts t → Sequence IsElement l.elements ts
 elements_here who t ts l a = subst (λ (u : List Spelled). Sequence IsElement l.elements u) (one_tokens alphabet.Mail l.tokens ts t l.are_tokens a) l.are_elements
 
+-- two lists of addresses that are read of the same text are the same
 pub one_list : (who other : List Addressee) (t : List ℕ) → IsAddressList who t → IsAddressList other t → who ≡ other
 one_list who other t g h =
     let e = one_elements g.elements h.elements h.tokens (elements_here who t h.tokens g h.are_tokens) h.are_elements in

@@ -320,6 +320,7 @@ sound v n ts e = by (front is_plain_token ts) (back is_plain_token ts) (front_ba
     by plain [] w s e = subst (λ (u : List Spelled). UnitAt IsElement v n u) (sym w) (bare_found v n plain [] tt e)
     by plain (x ∷ more) w s e = subst (λ (u : List Spelled). UnitAt IsElement v n u) (sym w) (marked_found v n plain x more s e)
 
+-- reading the element at the front of tokens finds the element that they begin with, and nothing else
 pub element_reader : IsReader IsElement element_in
 element_reader = record { sound = sound; complete = complete; some = some }
 
@@ -331,8 +332,10 @@ pub record FilledBehind (kept : List Element) (rest b : List Spelled) : Type 0 w
   pub read : Behind IsElement all rest b
   pub kept_is : kept ≡ filter is_filled all
 
+-- before any element was read, none is kept, and all tokens are left
 pub none_filled : (b : List Spelled) → FilledBehind [] b b
 none_filled b = record { all = []; read = begins IsElement b; kept_is = refl }
 
+-- with one element more, those but the empty places are those before, and that one unless it is an empty place
 pub more_filled : (old new all : List Element) (v : Element) → old ≡ filter is_filled all → new ≡ old ++ cond (is_filled v) (v ∷ []) [] → new ≡ filter is_filled (all ++ v ∷ [])
 more_filled old new all v e p = p ∙ ap (λ (u : List Element). u ++ cond (is_filled v) (v ∷ []) []) e ∙ sym (filter-append is_filled all (v ∷ []))

@@ -45,6 +45,7 @@ one_group p a b g h =
     ap (λ (u : Option (List ℕ)). record { name = u; members = a.members }) (one_group_name p.0 a.name b.name g.name h.name)
     ∙ ap (λ (u : List Address). record { name = b.name; members = u }) (zip_one IsAddress one_address p.1 a.members b.members g.members h.members)
 
+-- two readings of a raw value as groups are the same
 pub one_groups : (raw : List ℕ) (x y : Option (List Group)) → IsGroupsForm raw x → IsGroupsForm raw y → x ≡ y
 one_groups raw _ _ (NoGroups n) (NoGroups k) = refl
 one_groups raw _ _ (NoGroups n) (Groups who list l h) = absurd (n who l)
@@ -53,6 +54,7 @@ one_groups raw _ _ (Groups who list l h) (Groups other rest k j) =
     ap (λ (u : List Group). Some u) (zip_one IsGroup one_group (groups_of other) list rest
     (subst (λ u. AllZip IsGroup (groups_of u) list) (one_list who other (raw_form raw) l k) h) j)
 
+-- two readings of a raw value as addresses are the same
 pub one_addresses : (raw : List ℕ) (x y : Option (List Address)) → IsAddressesForm raw x → IsAddressesForm raw y → x ≡ y
 one_addresses raw None None g h = refl
 one_addresses raw None (Some y) g h = let e = one_groups raw None (Some h.0) g h.1 in absurd cc

@@ -15,6 +15,7 @@ use Rattle.header_addresses.specs.reading.ElementReading.{group_closed, are_nest
 use Rattle.header_addresses.specs.reading.GroupBuilding.{Has, group_from, are_list, IsList, IsNoList, GroupsIn, NoGroups, Groups}
 use Rattle.header_addresses.proofs.AddresseeLemmas.{is_listed, groups_are, listed, one_elements, elements_here}
 
+-- where two lists match element by element, and two others do, the first two with the others behind them match, too
 pub zip_append : {A B : Type 0} (R : A → B → Type 0) (xs us : List A) (ys vs : List B) → AllZip R xs ys → AllZip R us vs → AllZip R (xs ++ us) (ys ++ vs)
 zip_append R [] us [] vs h k = k
 zip_append R [] us (y ∷ ys) vs h k = absurd h
@@ -36,12 +37,15 @@ closes b done phrase ms v h e = subst (λ (u : List Group). AllZip IsGroup (done
     (zip_append IsGroup done (group_closed phrase ms) b.groups.items
     (option_to_list (group_from b.name b.members.items)) h.groups (closed_group phrase ms b.name b.members.items h.name h.members))
 
+-- an empty list of addresses is the addresses of no mailboxes
 pub no_members : (v : List Address) → v ≡ [] → AllZip IsAddress [] v
 no_members v e = subst (λ (u : List Address). AllZip IsAddress [] u) (sym e) tt
 
+-- an empty list of groups is what no groups of a value come to
 pub no_groups : (v : List Group) → v ≡ [] → AllZip IsGroup [] v
 no_groups v e = subst (λ (u : List Group). AllZip IsGroup [] u) (sym e) tt
 
+-- with one mailbox more, its address stands behind the addresses of the others
 pub one_member_more : (ms : List Mailbox) (m : Mailbox) (old new : List Address) (a : Address) → AllZip IsAddress ms old → IsAddress m a → new ≡ old ++ a ∷ []
     → AllZip IsAddress (ms ++ m ∷ []) new
 one_member_more ms m old new a h k e = subst (λ (u : List Address). AllZip IsAddress (ms ++ m ∷ []) u) (sym e) (zip_append IsAddress ms (m ∷ []) old (a ∷ []) h (k, tt))
@@ -73,6 +77,7 @@ grouped_filled phrase ms (Head next ∷ es) = ap (λ (u : List Grouped). group_c
 grouped_filled phrase ms (End ∷ es) = ap (λ (u : List Grouped). group_closed phrase ms ++ u) (grouped_filled None [] es)
 grouped_filled phrase ms (Member m ∷ es) = grouped_filled phrase (ms ++ m ∷ []) es
 
+-- where the check of the elements, without the empty places, gives nothing, the tokens are no list of addresses
 pub none_checked : {X : Type 0} (r : Option X) (Q : X → Type 0) (kept : List Element) (ts : List Spelled) → AreFilled kept ts → MatchOption r (are_list kept ≡ false) Q
     → IfNone r (IsNoList ts)
 none_checked (Some x) Q kept ts s h = tt
@@ -81,12 +86,14 @@ none_checked None Q kept ts s h = λ fs t l. let e = ap are_list (one_elements f
 no_list : (raw : List ℕ) (ts : List Spelled) → AreTokens alphabet.Mail ts (raw_form raw) → IsNoList ts → HasNoAddressList raw
 no_list raw ts a n = λ who l. n l.elements (elements_here who (raw_form raw) ts l a) (is_listed who l.elements l.are_addressees l.some)
 
+-- a raw value that is no row of tokens has no list of addresses
 pub no_tokens : (raw : List ℕ) → ((ts : List Spelled) → AreTokens alphabet.Mail ts (raw_form raw) → ⊥) → HasNoAddressList raw
 no_tokens raw n = λ who l. n l.tokens l.are_tokens
 
 all_list : (kept : List Element) (ts : List Spelled) (l : IsList kept ts) → are_list l.filled.all ≡ true
 all_list kept ts l = sym (list_filled l.filled.all) ∙ ap are_list (sym l.filled.kept_is) ∙ l.list
 
+-- what is read of the tokens of a raw value, groups or none, is its form as groups
 pub groups_form : (raw : List ℕ) (ts : List Spelled) (r : Option (List Group)) → AreTokens alphabet.Mail ts (raw_form raw) → GroupsIn ts r → IsGroupsForm raw r
 groups_form raw ts _ a (NoGroups n) = names.NoGroups (no_list raw ts a n)
 groups_form raw ts _ a (Groups kept list l h) =

@@ -17,13 +17,16 @@ use Rattle.header_addresses.specs.reading.ElementReading.{are_hops_behind}
 
 -- ---- choices
 
+-- where a conjunction is true, both of its parts are
 pub and_parts : (a b : Bool) → (a && b) ≡ true → (a ≡ true) × (b ≡ true)
 and_parts true b e = (refl, e)
 and_parts false b e = absurd cc
 
+-- where two answers are true, so is their conjunction
 pub both : (a b : Bool) → a ≡ true → b ≡ true → (a && b) ≡ true
 both a b e f = ap (λ (q : Bool). q && b) e ∙ f
 
+-- where a disjunction is true, one of its parts is
 pub or_parts : (a b : Bool) → (a || b) ≡ true → (a ≡ true) ⊎ (b ≡ true)
 or_parts true b e = inl refl
 or_parts false b e = inr e
@@ -32,16 +35,19 @@ and_true : (b : Bool) → b ≡ (b && true)
 and_true true = refl
 and_true false = refl
 
+-- an answer whose negation is false is true
 pub flip : (b : Bool) → not b ≡ false → b ≡ true
 flip true e = refl
 flip false e = absurd cc
 
+-- what a choice gives is its first branch, where the test is true, or its second, where it is false
 pub picked : {A : Type 0} (b : Bool) (x y z : A) → cond b x y ≡ z → ((b ≡ true) × (x ≡ z)) ⊎ ((b ≡ false) × (y ≡ z))
 picked true x y z e = inl (refl, e)
 picked false x y z e = inr (refl, e)
 
 -- ---- marks of tokens
 
+-- white space and comments are no marks
 pub gap_mark : (s : Spelled) → is_gap s ≡ true → mark_of s ≡ 0
 gap_mark s e = by s.kind s.text e
   where
@@ -53,6 +59,7 @@ gap_mark s e = by s.kind s.text e
     by kind.Literal t e = refl
     by kind.Comment t e = refl
 
+-- words are no marks
 pub word_mark : (s : Spelled) → is_word s ≡ true → mark_of s ≡ 0
 word_mark s e = by s.kind s.text e
   where
@@ -64,6 +71,7 @@ word_mark s e = by s.kind s.text e
     by kind.Literal t e = refl
     by kind.Comment t e = refl
 
+-- atoms are no marks
 pub atom_mark : (s : Spelled) → is_atom s ≡ true → mark_of s ≡ 0
 atom_mark s e = by s.kind s.text e
   where
@@ -86,6 +94,7 @@ literal_mark s e = by s.kind s.text (and_parts (is_literal_kind s.kind) (has_no_
     by kind.Literal t e = refl
     by kind.Comment t e = refl
 
+-- where the test for a mark is true of a token, that is the token's mark
 pub mark_is : (c : ℕ) (s : Spelled) → has_mark c s ≡ true → mark_of s ≡ c
 mark_is c s e = eqb-true (mark_of s) c e
 
@@ -93,6 +102,7 @@ mark_is c s e = eqb-true (mark_of s) c e
 abbrev pub by_mark : (ℕ → Bool) → Spelled → Bool
 by_mark q s = q (mark_of s)
 
+-- a token is in a class of marks where its mark is
 pub in_class : (q : ℕ → Bool) (m : ℕ) (s : Spelled) → mark_of s ≡ m → q m ≡ true → by_mark q s ≡ true
 in_class q m s e f = ap q e ∙ f
 
@@ -106,6 +116,7 @@ joined : (q : ℕ → Bool) (p : Spelled → Bool) (ts : List Spelled) → Each 
 unfolding Whole
 joined q p ts e f = subst (Whole q) (sym (front_back p ts)) (each_append (by_mark q) (front p ts) (back p ts) e f)
 
+-- white space and comments are in each class by marks that has all tokens that are no marks
 pub gaps_each : (q : ℕ → Bool) (ts : List Spelled) → q 0 ≡ true → Each is_gap ts → Each (by_mark q) ts
 gaps_each q [] z e = tt
 gaps_each q (s ∷ ts) z e = (in_class q 0 s (gap_mark s e.0) z, gaps_each q ts z e.1)
@@ -155,15 +166,18 @@ words_each q (w ∷ ts) z d e =
     let a = and_parts (is_word w) (list_all is_phrase_part ts) e in
     (in_class q 0 w (word_mark w a.0) z, parts_each q ts z d (list_all_each is_phrase_part ts a.1))
 
+-- the tokens of a phrase are in each class by marks that has dots, and all tokens that are no marks
 pub phrase_each : (q : ℕ → Bool) (ts : List Spelled) → q 0 ≡ true → q 46 ≡ true → is_phrase ts ≡ true → Each (by_mark q) ts
 phrase_each q ts z d e = joined q is_gap ts (gaps_each q (front is_gap ts) z (front_each is_gap ts)) (words_each q (back is_gap ts) z d e)
 
+-- the tokens of a display name are in each class by marks that has dots, and all tokens that are no marks
 pub name_each : (q : ℕ → Bool) (ts : List Spelled) → q 0 ≡ true → q 46 ≡ true → is_display_name ts ≡ true → Each (by_mark q) ts
 name_each q ts z d e = elim (or_parts (list_all is_gap ts) (is_phrase ts) e) [
   | inl h ↦ gaps_each q ts z (list_all_each is_gap ts h)
   | inr h ↦ phrase_each q ts z d h
 ]
 
+-- the tokens of an addr-spec are in each class by marks that has dots, "@", and all tokens that are no marks
 pub spec_each : (q : ℕ → Bool) (ts : List Spelled) → q 0 ≡ true → q 46 ≡ true → q 64 ≡ true → is_addr_spec ts ≡ true → Each (by_mark q) ts
 spec_each q ts z d a e = joined q is_no_at ts (local (front is_no_at ts) (back is_no_at ts) e) (domain (front is_no_at ts) (back is_no_at ts) (back_stops is_no_at ts) e)
   where
@@ -192,6 +206,7 @@ hops_each q part (s ∷ ts) z d a c e = elim (picked (has_mark 44 s) _ _ _ e) [
   | inr h ↦ subst (Whole q) (append_assoc part (s ∷ []) ts) (hops_each q (part ++ s ∷ []) ts z d a c h.1)
 ]
 
+-- what stands in angle brackets is in each class by marks that has dots, "@", commas, colons, and all tokens that are no marks
 pub inner_each : (q : ℕ → Bool) (ts : List Spelled) → q 0 ≡ true → q 46 ≡ true → q 64 ≡ true → q 44 ≡ true → q 58 ≡ true → is_inner_token ts ≡ true → Each (by_mark q) ts
 inner_each q ts z d a c k e = joined q is_no_colon ts (route (front is_no_colon ts) (back is_no_colon ts) e) (spec (front is_no_colon ts) (back is_no_colon ts)
     (back_stops is_no_colon ts) e)
@@ -210,6 +225,7 @@ dotted_gaps : (word : Spelled → Bool) (ts : List Spelled) → Each is_gap ts �
 dotted_gaps word [] e = refl
 dotted_gaps word (s ∷ ts) e = ap (λ (b : Bool). cond b (is_dotted word true ts) (word s && is_dotted word false ts)) e.0 ∙ dotted_gaps word ts e.1
 
+-- an addr-spec is more than white space and comments
 pub spec_some : (ts : List Spelled) → is_addr_spec ts ≡ true → list_all is_gap ts ≡ false
 spec_some ts e = by (list_all is_gap ts) refl
   where
@@ -224,6 +240,7 @@ spec_some ts e = by (list_all is_gap ts) refl
 
 -- ---- hops, cut at the first comma
 
+-- a part and the tokens behind it are hops exactly where they are a hop up to the first comma of the tokens, and hops behind it
 pub hops_cut : (part ts : List Spelled) → are_hops part ts ≡ (is_hop (part ++ front is_no_comma ts) && are_hops_behind (back is_no_comma ts))
 unfolding front back
 hops_cut part [] = ap is_hop (sym (append-nil part)) ∙ and_true (is_hop (part ++ []))
@@ -235,10 +252,12 @@ hops_cut part (s ∷ ts) = by (has_mark 44 s) (hops_cut (part ++ s ∷ []) ts)
     by true h = ap (λ (u : List Spelled). is_hop u && are_hops [] ts) (sym (append-nil part))
     by false h = h ∙ ap (λ (u : List Spelled). is_hop u && are_hops_behind (back is_no_comma ts)) (append_assoc part (s ∷ []) (front is_no_comma ts))
 
+-- where what stands before the first comma is no hop, the tokens are no hops
 pub no_hop : (more hop : List Spelled) → hop ≡ front is_no_comma more → is_hop hop ≡ false → are_hops [] more ≡ false
 no_hop more hop e h = hops_cut [] more ∙ ap (λ (u : List Spelled). is_hop u && are_hops_behind (back is_no_comma more)) (sym e)
     ∙ ap (λ (b : Bool). b && are_hops_behind (back is_no_comma more)) h
 
+-- where what stands before the first comma is a hop, the tokens are hops exactly where what follows is
 pub hop_passed : (more hop behind : List Spelled) → hop ≡ front is_no_comma more → behind ≡ back is_no_comma more → is_hop hop ≡ true → are_hops [] more ≡ are_hops_behind behind
 hop_passed more hop behind e f h = hops_cut [] more ∙ ap (λ (u : List Spelled). is_hop u && are_hops_behind (back is_no_comma more)) (sym e)
     ∙ ap (λ (b : Bool). b && are_hops_behind (back is_no_comma more)) h ∙ ap are_hops_behind (sym f)

@@ -384,6 +384,7 @@ IsRow t = (ts : List Spelled) × AreTokens alphabet.Mail ts t
 abbrev pub IsNoRow : List ℕ → Type 0
 IsNoRow t = (ts : List Spelled) → AreTokens alphabet.Mail ts t → ⊥
 
+-- of a raw value that is a row of tokens, the moment read of its lexemes, or none, is its form as a date
 pub form_read : (raw t : List ℕ) (o : Option Moment) → t ≡ raw_form raw → IsRow t → o ≡ date_in (pieces_of (behind_day_name (lexemes_in alphabet.Mail t)))
     → IsDateForm raw o
 form_read raw t o e r d = by o d
@@ -397,6 +398,7 @@ form_read raw t o e r d = by o d
         let s = sound (lexemes_in alphabet.Mail t) m (sym f) in
         record { lexemes = lexemes_in alphabet.Mail t; are = are; day = s.day; clock = s.clock; zone = s.zone; is = s.is; moment_is = s.moment_is }
 
+-- a raw value that is no row of tokens has no moment
 pub no_form : (raw t : List ℕ) → t ≡ raw_form raw → IsNoRow t → IsDateForm raw None
 no_form raw t e n = λ m h. n h.are.tokens (subst (λ (u : List ℕ). AreTokens alphabet.Mail h.are.tokens u) (sym e) h.are.are)
 

@@ -140,18 +140,21 @@ runs_no_letters (c ∷ t) s = begins_no_letters c (runs t) s
 
 -- ---- the pieces of an atom that begins with a run
 
+-- the pieces of digits, and a rest that doesn't begin with a digit, are the digits as one, and those of the rest
 pub digit_run : (u a : List ℕ) → IsRun is_digit u → Stops is_digit a → runs (u ++ a) ≡ Digits u ∷ runs a
 unfolding runs joined_piece
 digit_run [] a r s = absurd (r.1 refl)
 digit_run (c ∷ []) a r s = joined_digit c (runs a) (runs_no_digits a s) r.0.0
 digit_run (c ∷ d ∷ u) a r s = ap (joined_piece c) (digit_run (d ∷ u) a (r.0.1, λ e. absurd cc) s) ∙ cond-true (is_digit c) _ _ r.0.0
 
+-- the pieces of letters, and a rest that doesn't begin with a letter, are the letters as one, and those of the rest
 pub letter_run : (u a : List ℕ) → IsRun is_alpha u → Stops is_alpha a → runs (u ++ a) ≡ Letters u ∷ runs a
 unfolding runs joined_piece
 letter_run [] a r s = absurd (r.1 refl)
 letter_run (c ∷ []) a r s = joined_letter c (runs a) (runs_no_letters a s) r.0.0
 letter_run (c ∷ d ∷ u) a r s = ap (joined_piece c) (letter_run (d ∷ u) a (r.0.1, λ e. absurd cc) s) ∙ cond-true (is_alpha c) _ _ r.0.0
 
+-- the pieces of a sign, digits, and a rest that doesn't begin with a digit, are the sign with the digits as one, and those of the rest
 pub signed_run : (c : ℕ) (u a : List ℕ) → is_plus_or_minus c ≡ true → IsRun is_digit u → Stops is_digit a → runs (c ∷ (u ++ a)) ≡ Signed c u ∷ runs a
 unfolding runs joined_piece
 signed_run c u a e r s = ap (joined_piece c) (digit_run u a r s) ∙ cond-false (is_digit c) _ _ (sign_no_digit c e) ∙ cond-true (is_plus_or_minus c) _ _ e
@@ -164,16 +167,19 @@ octet_run c a d l (inr n) = joined_octet c (runs a) d l (inr n)
 
 -- ---- what is cut off
 
+-- digits at the front of an atom, if there are some, are its first piece, and the others are those of what follows
 pub digits_cut : (t u a : List ℕ) → u ≡ front is_digit t → a ≡ back is_digit t → u ≢ [] → runs t ≡ Digits u ∷ runs a
 digits_cut t u a e f n =
     ap runs (front_back is_digit t ∙ ap (λ (x : List ℕ). x ++ back is_digit t) (sym e) ∙ ap (λ (x : List ℕ). u ++ x) (sym f))
     ∙ digit_run u a (subst (λ (x : List ℕ). Each is_digit x) (sym e) (front_each is_digit t), n) (subst (λ (x : List ℕ). Stops is_digit x) (sym f) (back_stops is_digit t))
 
+-- letters at the front of an atom, if there are some, are its first piece, and the others are those of what follows
 pub letters_cut : (t u a : List ℕ) → u ≡ front is_alpha t → a ≡ back is_alpha t → u ≢ [] → runs t ≡ Letters u ∷ runs a
 letters_cut t u a e f n =
     ap runs (front_back is_alpha t ∙ ap (λ (x : List ℕ). x ++ back is_alpha t) (sym e) ∙ ap (λ (x : List ℕ). u ++ x) (sym f))
     ∙ letter_run u a (subst (λ (x : List ℕ). Each is_alpha x) (sym e) (front_each is_alpha t), n) (subst (λ (x : List ℕ). Stops is_alpha x) (sym f) (back_stops is_alpha t))
 
+-- a sign and the digits behind it, if there are some, are the first piece of an atom, and the others are those of what follows
 pub signed_cut : (c : ℕ) (t u a : List ℕ) → is_plus_or_minus c ≡ true → u ≡ front is_digit t → a ≡ back is_digit t → u ≢ [] → runs (c ∷ t) ≡ Signed c u ∷ runs a
 signed_cut c t u a g e f n =
     ap (λ (x : List ℕ). runs (c ∷ x)) (front_back is_digit t ∙ ap (λ (x : List ℕ). x ++ back is_digit t) (sym e) ∙ ap (λ (x : List ℕ). u ++ x) (sym f))
@@ -191,33 +197,41 @@ stops_here p (c ∷ t) u e f = by (p c) refl (sym e ∙ f)
 
 -- ---- pieces from a place on
 
+-- the first piece of an atom is the first piece from there on, and the others are those from what follows it on
 pub behind_runs : (atom a rest : List ℕ) (p : DatePiece) → runs atom ≡ p ∷ runs a → pieces_behind atom rest ≡ p ∷ pieces_behind a rest
 unfolding pieces_behind
 behind_runs atom a rest p e = ap (λ (ps : List DatePiece). ps ++ pieces_of (lexemes_in alphabet.Mail rest)) e
 
+-- where no atom is left and no lexeme follows, there are no pieces
 pub none_behind : (rest : List ℕ) → lexemes_in alphabet.Mail rest ≡ [] → pieces_behind [] rest ≡ []
 unfolding pieces_behind runs pieces_of
 none_behind rest e = ap pieces_of e
 
+-- where no atom is left, the pieces are those of the next lexeme, and then those from what follows it on
 pub lexeme_behind : (v : Spelled) (more rest : List ℕ) → lexemes_in alphabet.Mail rest ≡ v ∷ lexemes_in alphabet.Mail more
     → pieces_behind [] rest ≡ pieces_in v.kind v.text ++ pieces_behind [] more
 unfolding pieces_behind runs pieces_of
 lexeme_behind v more rest e = ap pieces_of e
 
+-- the pieces of an atom, and then those of what follows it, are the pieces from the atom on
 pub atom_behind : (atom rest : List ℕ) → runs atom ++ pieces_behind [] rest ≡ pieces_behind atom rest
 unfolding pieces_behind runs
 atom_behind atom rest = refl
 
+-- a text whose length is 0 is empty
 pub nothing_cut : (t : List ℕ) → eqb (length t) 0 ≡ true → t ≡ []
 nothing_cut t e = nil_from_length t (eqb-true (length t) 0 e)
 
+-- a text whose length isn't 0 isn't empty
 pub something_cut : (t : List ℕ) → eqb (length t) 0 ≡ false → t ≢ []
 something_cut t e n = let z = eq-eqb (length t) 0 (ap length n) in absurd cc
 
+-- where no octet of a class stands at the front of a text that isn't empty, its first octet isn't of the class
 pub first_fails : (p : ℕ → Bool) (t u : List ℕ) → u ≡ front p t → eqb (length u) 0 ≡ true → 1 ≤ length t → p (get_or t 0 0) ≡ false
 first_fails p [] u e f l = absurd (omega arith)
 first_fails p (c ∷ t) u e f l = stops_here p (c ∷ t) u e (nothing_cut u f)
 
+-- where no atom is left, the pieces are those of the lexemes that follow
 pub start_behind : (rest : List ℕ) → pieces_behind [] rest ≡ pieces_of (lexemes_in alphabet.Mail rest)
 unfolding pieces_behind runs
 start_behind rest = refl

@@ -18,6 +18,7 @@ pub record Apart (o c : ℕ) : Type 0 where
   pub closer : c ≢ 92
   pub two : o ≢ c
 
+-- a closing octet counts one; the reading then ends, or goes on with one inner bracket fewer open
 pub close_is : (o c d : ℕ) (t : List ℕ) → Apart o c → close_in o c d false (c ∷ t) ≡ further 1 (behind o c d t)
 close_is o c zero t a = close_last o c c t a.closer refl
 close_is o c (suc d) t a =
@@ -71,6 +72,7 @@ pub record Closed (o c d n : ℕ) (t : List ℕ) : Type 0 where
   pub inside : Contents o c contents
   pub counted : further (length contents + 1) (behind o c d rest) ≡ Some n
 
+-- where raising a count by m gives n, there was a count, and n is m more than it
 pub further_some : (m n : ℕ) (r : Option ℕ) → further m r ≡ Some n → (k : ℕ) × (r ≡ Some k) × (n ≡ m + k)
 further_some m n None e = absurd cc
 further_some m n (Some k) e = (k, refl, cc)

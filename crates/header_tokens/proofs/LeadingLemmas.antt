@@ -14,6 +14,7 @@ use Rattle.header_tokens.proofs.OneToken.{token_reader}
 abbrev pub Leads : Alphabet → List Spelled → List ℕ → List ℕ → Type 0
 Leads a vs rest t = (more : List Spelled) (end : List ℕ) → AreLeading a more end rest → AreLeading a (vs ++ more) end t
 
+-- before any token was read, the whole text is what follows
 pub leads_begin : (a : Alphabet) (t : List ℕ) → Leads a [] t t
 leads_begin a t = λ more end h. h
 
@@ -31,11 +32,13 @@ leads_more a vs v n rest t h e = λ more end g.
 pub none_begins : (a : Alphabet) (t : List ℕ) → spelled_in a t ≡ None → BeginsNone a t
 none_begins a t e = λ v x rest w i. let q = (token_reader a).complete v x rest i in let p = ap (spelled_in a) w in absurd cc
 
+-- where no further token is read, the tokens that were read are those at the front of the text
 pub leads_done : (a : Alphabet) (vs : List Spelled) (rest t : List ℕ) → Leads a vs rest t → spelled_in a rest ≡ None → AreLeading a vs rest t
 leads_done a vs rest t h e = let P : List Spelled → Type 0 = λ x. AreLeading a x rest t in subst P (append-nil vs) (h [] rest (refl, none_begins a rest e))
 
 -- ---- the whole text is tokens exactly where nothing is left
 
+-- where nothing is left behind the tokens at the front, they are the tokens of the whole text
 pub all_read : (a : Alphabet) (vs : List Spelled) (rest t : List ℕ) → AreLeading a vs rest t → rest ≡ [] → AreTokens a vs t
 all_read a [] rest t h e = h.0 ∙ e
 all_read a (v ∷ vs) rest t h e = record { unit = h.unit; rest = h.rest; whole = h.whole; is = h.is; more = all_read a vs rest h.rest h.more e }
@@ -47,6 +50,7 @@ no_unit : (x s : List ℕ) → x ++ s ≡ [] → x ≡ []
 no_unit [] s e = refl
 no_unit (c ∷ x) s e = absurd cc
 
+-- where something is left behind the tokens at the front, the whole text is no row of tokens
 pub not_all : (a : Alphabet) (vs : List Spelled) (rest t : List ℕ) → AreLeading a vs rest t → rest ≢ [] → (us : List Spelled) → AreTokens a us t → ⊥
 not_all a [] rest t h n [] g = n (sym h.0 ∙ g)
 not_all a [] rest t h n (u ∷ us) g = h.1 u g.unit g.rest g.whole g.is
@@ -58,6 +62,7 @@ not_all a (v ∷ vs) rest t h n (u ∷ us) g =
 
 -- ---- no text has two rows of tokens at its front
 
+-- two rows of tokens at the front of a text, each up to where no token begins, are the same
 pub one_leading : (a : Alphabet) (vs ws : List Spelled) (r q t : List ℕ) → AreLeading a vs r t → AreLeading a ws q t → vs ≡ ws
 one_leading a [] [] r q t h g = refl
 one_leading a [] (w ∷ ws) r q t h g = absurd (h.1 w g.unit g.rest g.whole g.is)
@@ -68,6 +73,7 @@ one_leading a (v ∷ vs) (w ∷ ws) r q t h g =
     let tail = one_leading a vs ws r q h.rest h.more (subst P (sym s.rest) g.more) in
     ap (λ (x : Spelled). x ∷ vs) s.value ∙ ap (λ (xs : List Spelled). w ∷ xs) tail
 
+-- two rows of tokens at the front of a text, each up to where no token begins, leave the same rest
 pub one_rest : (a : Alphabet) (vs ws : List Spelled) (r q t : List ℕ) → AreLeading a vs r t → AreLeading a ws q t → r ≡ q
 one_rest a [] [] r q t h g = sym h.0 ∙ g.0
 one_rest a [] (w ∷ ws) r q t h g = absurd (h.1 w g.unit g.rest g.whole g.is)
@@ -77,6 +83,7 @@ one_rest a (v ∷ vs) (w ∷ ws) r q t h g =
     let P : List ℕ → Type 0 = λ x. AreLeading a ws q x in
     one_rest a vs ws r q h.rest h.more (subst P (sym s.rest) g.more)
 
+-- two rows of lexemes at the front of a text, each up to where no token begins, are the same
 pub one_leading_lexemes : (a : Alphabet) (x y : List Spelled) (t : List ℕ) → AreLeadingLexemes a x t → AreLeadingLexemes a y t → x ≡ y
 one_leading_lexemes a x y t h g =
     h.lexemes_are ∙ ap (filter is_lexeme) (one_leading a h.tokens g.tokens h.rest g.rest t h.are g.are) ∙ sym g.lexemes_are

@@ -71,6 +71,7 @@ same_rest a (suc n) (suc m) t h k = by (spelled_in a t) refl (λ x l g. same_res
 
 -- ---- the token at the front, and what follows it
 
+-- where a token is read, the tokens at the front are that one, and then those of what follows it
 pub tokens_step : (a : Alphabet) (v : Spelled) (n : ℕ) (t : List ℕ) → spelled_in a t ≡ Some (v, n) → tokens_in a t ≡ v ∷ tokens_in a (drop n t)
 unfolding tokens_in tokens_within
 tokens_step a v n [] e = let z = none_in_nothing a in absurd cc
@@ -79,11 +80,13 @@ tokens_step a v n (c ∷ t) e =
     ap (λ (o : Option (Spelled × ℕ)). tokens_then o (tokens_within a (length t)) (c ∷ t)) e
     ∙ ap (λ (u : List Spelled). v ∷ u) (same_tokens a (length t) (length (drop n (c ∷ t))) (drop n (c ∷ t)) (omega (arith, length-drop n (c ∷ t), w.some, w.within)) (omega arith))
 
+-- where no token is read, there are no tokens at the front
 pub tokens_none : (a : Alphabet) (t : List ℕ) → spelled_in a t ≡ None → tokens_in a t ≡ []
 unfolding tokens_in tokens_within
 tokens_none a [] e = refl
 tokens_none a (c ∷ t) e = ap (λ (o : Option (Spelled × ℕ)). tokens_then o (tokens_within a (length t)) (c ∷ t)) e
 
+-- where a token is read, what the tokens at the front leave is what the tokens behind that one leave
 pub rest_step : (a : Alphabet) (v : Spelled) (n : ℕ) (t : List ℕ) → spelled_in a t ≡ Some (v, n) → rest_in a t ≡ rest_in a (drop n t)
 unfolding rest_in rest_within
 rest_step a v n [] e = let z = none_in_nothing a in absurd cc
@@ -92,6 +95,7 @@ rest_step a v n (c ∷ t) e =
     ap (λ (o : Option (Spelled × ℕ)). rest_then o (rest_within a (length t)) (c ∷ t)) e
     ∙ same_rest a (length t) (length (drop n (c ∷ t))) (drop n (c ∷ t)) (omega (arith, length-drop n (c ∷ t), w.some, w.within)) (omega arith)
 
+-- where no token is read, the whole text is left
 pub rest_none : (a : Alphabet) (t : List ℕ) → spelled_in a t ≡ None → rest_in a t ≡ t
 unfolding rest_in rest_within
 rest_none a [] e = refl
@@ -121,9 +125,11 @@ leads_within : (a : Alphabet) (n : ℕ) (t : List ℕ) → length t ≤ n → Ar
 leads_within a zero t h = leads_step a t (λ x l. absurd (omega (arith, l, h)))
 leads_within a (suc n) t h = leads_step a t (λ x l. leads_within a n x (omega (arith, l, h)))
 
+-- the tokens that are read at the front of a text are the tokens there, and no token begins what they leave
 pub leads : (a : Alphabet) (t : List ℕ) → AreLeading a (tokens_in a t) (rest_in a t) t
 leads a t = leads_within a (length t) t (omega arith)
 
+-- the lexemes that are read at the front of a text are the lexemes there
 pub lexemes_are : (a : Alphabet) (t : List ℕ) → AreLeadingLexemes a (lexemes_in a t) t
 unfolding lexemes_in
 lexemes_are a t = record { tokens = tokens_in a t; rest = rest_in a t; are = leads a t; lexemes_are = refl }
@@ -133,6 +139,7 @@ pub row_read : (a : Alphabet) (t : List ℕ) → rest_in a t ≡ [] → AreLexem
 unfolding lexemes_in
 row_read a t e = record { tokens = tokens_in a t; are = all_read a (tokens_in a t) (rest_in a t) t (leads a t) e; lexemes_are = refl }
 
+-- where the reading leaves something, the text is no row of tokens
 pub no_row : (a : Alphabet) (t : List ℕ) → rest_in a t ≢ [] → (ts : List Spelled) → AreTokens a ts t → ⊥
 no_row a t n ts h = not_all a (tokens_in a t) (rest_in a t) t (leads a t) n ts h
 
@@ -152,14 +159,17 @@ row_lexemes a t ts h = by (rest_in a t) refl
 
 -- ---- lexemes one after another
 
+-- where the token that is read is no lexeme, the lexemes are those of what follows it
 pub gap_passed : (a : Alphabet) (v : Spelled) (n : ℕ) (t : List ℕ) → spelled_in a t ≡ Some (v, n) → is_lexeme v ≡ false → lexemes_in a t ≡ lexemes_in a (drop n t)
 unfolding lexemes_in
 gap_passed a v n t e g = ap (filter is_lexeme) (tokens_step a v n t e) ∙ cond-false (is_lexeme v) _ _ g
 
+-- where the token that is read is a lexeme, the lexemes are that one, and then those of what follows it
 pub lexeme_read : (a : Alphabet) (v : Spelled) (n : ℕ) (t : List ℕ) → spelled_in a t ≡ Some (v, n) → is_lexeme v ≡ true → lexemes_in a t ≡ v ∷ lexemes_in a (drop n t)
 unfolding lexemes_in
 lexeme_read a v n t e g = ap (filter is_lexeme) (tokens_step a v n t e) ∙ cond-true (is_lexeme v) _ _ g
 
+-- where no token is read, no lexeme is read
 pub none_left : (a : Alphabet) (t : List ℕ) → spelled_in a t ≡ None → lexemes_in a t ≡ []
 unfolding lexemes_in
 none_left a t e = ap (filter is_lexeme) (tokens_none a t e)
@@ -180,6 +190,7 @@ next_is a v more t r = record {
   some = r.some;
 }
 
+-- where no lexeme is read, there is no lexeme at the front of the text
 pub none_is : (a : Alphabet) (t : List ℕ) → lexemes_in a t ≡ [] → AreLeadingLexemes a [] t
 none_is a t e = let P : List Spelled → Type 0 = λ u. AreLeadingLexemes a u t in subst P e (lexemes_are a t)
 
@@ -187,14 +198,17 @@ none_is a t e = let P : List Spelled → Type 0 = λ u. AreLeadingLexemes a u t 
 pub next_in : (a : Alphabet) (v : Spelled) (more t : List ℕ) → IsNextLexeme a v more t → lexemes_in a t ≡ v ∷ lexemes_in a more
 next_in a v more t n = one_leading_lexemes a (lexemes_in a t) (v ∷ lexemes_in a more) t (lexemes_are a t) (n.lexemes (lexemes_in a more) (lexemes_are a more))
 
+-- the next lexeme of a text is read as its first, with the same text behind it
 pub reads_next : (a : Alphabet) (v : Spelled) (more t : List ℕ) → IsNextLexeme a v more t → ReadsLexeme a v more t
 reads_next a v more t n = record { lexemes = next_in a v more t n; some = n.some }
 
+-- where there is no lexeme at the front of the text, none is read
 pub none_in : (a : Alphabet) (t : List ℕ) → AreLeadingLexemes a [] t → lexemes_in a t ≡ []
 none_in a t h = one_leading_lexemes a (lexemes_in a t) [] t (lexemes_are a t) h
 
 -- ---- what is said of a result is widened
 
+-- what is said of a result, of its value or of there being none, may be replaced by what follows from it
 pub match_map : {X P P' : Type 0} {Q Q' : X → Type 0} (o : Option X) → (P → P') → ((x : X) → Q x → Q' x) → MatchOption o P Q → MatchOption o P' Q'
 match_map None f g h = f h
 match_map (Some x) f g h = g x h

@@ -19,6 +19,7 @@ use Rattle.header_tokens.proofs.BracketContents.{Apart, closes_again, closed_in}
 
 -- ---- what is spelled is read
 
+-- octets of a class at the front of a text, with none of it directly behind them, are those that are counted
 pub span_is : (p : ℕ → Bool) (x y : List ℕ) → Each p x → Stops p y → span p (x ++ y) ≡ length x
 span_is p x y e s = ap length (front_is p x y e s)
 
@@ -67,12 +68,15 @@ unfolding token_in
 comment_in alphabet.Mail t = refl
 comment_in alphabet.Mime t = refl
 
+-- the octet that closes a quoted text is no backslash, and no octet opens a bracket in it
 pub apart_quoted : Apart none 34
 apart_quoted = record { opener = eqb-false none 92 refl; closer = eqb-false 34 92 refl; two = eqb-false none 34 refl }
 
+-- the octet that closes a literal is no backslash, and no octet opens a bracket in it
 pub apart_literal : Apart none 93
 apart_literal = record { opener = eqb-false none 92 refl; closer = eqb-false 93 92 refl; two = eqb-false none 93 refl }
 
+-- the two parentheses of a comment differ, and neither is a backslash
 pub apart_comment : Apart 40 41
 apart_comment = record { opener = eqb-false 40 92 refl; closer = eqb-false 41 92 refl; two = eqb-false 40 41 refl }
 
@@ -93,6 +97,7 @@ front_again a kind.Quoted x y i s = bracket_again a kind.Quoted 34 none 34 x y a
 front_again a kind.Literal x y i s = bracket_again a kind.Literal 91 none 93 x y apart_literal (literal_in a) i
 front_again a kind.Comment x y i s = bracket_again a kind.Comment 40 40 41 x y apart_comment (comment_in a) i
 
+-- the token that a text begins with is read, with its kind and its length
 pub token_again : (a : Alphabet) (k : Kind) (front rest t : List ℕ) → BeginsWithToken a k front rest t → Reads a k (length front) t
 token_again a k front rest t b = ap (token_in a) b.whole ∙ front_again a k front rest b.spelled b.ends
 
@@ -123,6 +128,7 @@ run_takes a k p c n t f g e h =
       some = omega (arith, h, ap length some);
     }
 
+-- equal results of the reading of a token have the same kind and the same length
 pub some_pair : (k l : Kind) (n m : ℕ) → ◌≡◌ {A = Option (Kind × ℕ)} (Some (k, n)) (Some (l, m)) → (k ≡ l) × (n ≡ m)
 some_pair k l n m e = (ap kind_in e, ap count_in e)
   where
@@ -197,6 +203,7 @@ at_kind a k k' n n' t e f =
     let P : Kind → Type 0 = λ k. Takes a k n t in
     subst P q.0 (f q.1)
 
+-- where a token is read, the text begins with a token of that kind and that length
 pub token_takes : (a : Alphabet) (k : Kind) (n : ℕ) (t : List ℕ) → token_in a t ≡ Some (k, n) → Takes a k n t
 unfolding token_in
 token_takes a k n [] e = absurd cc
@@ -245,5 +252,6 @@ sound a v n t e = by_token (token_in a t) refl e
           counted = k.counted;
         })
 
+-- reading the token at the front of a text finds the token that the text begins with, and nothing else
 pub token_reader : (a : Alphabet) → IsReader (IsToken a) (spelled_in a)
 token_reader a = record { sound = sound a; complete = complete a; some = some a }

@@ -189,6 +189,7 @@ sound v n (c ∷ t) e = by (eqb c 61) (is_blank c) refl refl e
     by false true h k e = blanks_sound v n c t k e
     by false false h k e = unit_same IsPiece _ v 1 n (c ∷ t) e (record { unit = c ∷ []; rest = t; whole = refl; is = Itself c t (eqb-false c 61 h) k; counted = refl })
 
+-- reading the piece at the front of a text finds the piece that the text begins with, and nothing else
 pub piece_reader : IsReader IsPiece piece_in
 piece_reader = record { sound = sound; complete = complete; some = some }
 
@@ -207,6 +208,7 @@ pub record Written (octets : List ℕ) (problem : Bool) (rest t : List ℕ) : Ty
   pub spelled : octets ≡ flat_map octets_of pieces
   pub wrong : problem ≡ list_any is_wrong pieces
 
+-- before any piece was read, no octet was written, there is no problem, and the whole text is left
 pub nothing_written : (t : List ℕ) → Written [] false t t
 nothing_written t = record { pieces = []; behind = begins IsPiece t; spelled = refl; wrong = refl }
 
@@ -214,6 +216,7 @@ or_false : (p : Bool) → (p || false) ≡ p
 or_false true = refl
 or_false false = refl
 
+-- where a piece was read, its octets go behind those written, and there is a problem if there was one or the piece is wrong
 pub written_more : (octets octets' more rest rest' t : List ℕ) (problem wrong problem' : Bool) → Written octets problem rest t → IsRead (piece_in rest) rest rest' more wrong
     → octets' ≡ octets ++ more → problem' ≡ (problem || wrong) → Written octets' problem' rest' t
 written_more octets octets' more rest rest' t problem wrong problem' w p f e =
@@ -227,6 +230,7 @@ written_more octets octets' more rest rest' t problem wrong problem' w p f e =
           ∙ sym (list_any-append is_wrong w.pieces (p.piece ∷ []));
     }
 
+-- where nothing is left, the octets written are those that the text spells
 pub written_all : (octets rest t : List ℕ) (problem : Bool) → Written octets problem rest t → rest ≡ [] → IsPrintable octets problem t
 written_all octets rest t problem w e = record { pieces = w.pieces; are = all_done w.pieces rest t w.behind e; spelled = w.spelled; wrong = w.wrong }
 
@@ -247,6 +251,7 @@ dropped_blanks t rest none e z h = record {
   octets_are = z;
 }
 
+-- where the line goes on behind them, blanks stand for themselves
 pub kept_blanks : (t blanks rest : List ℕ) → blanks ≡ front is_blank t → rest ≡ back is_blank t → ends_line rest ≡ false
     → IsRead (blanks_of (front is_blank t) (back is_blank t)) t rest blanks false
 kept_blanks t blanks rest f e h = record {
@@ -298,6 +303,7 @@ piece_fits _ _ _ (Trailing b s r e) = omega arith
 piece_fits _ _ _ (Blanks b s r k e) = omega arith
 piece_fits _ _ _ (Itself c s n k) = omega arith
 
+-- a piece that is read stands for no more octets than it takes of the text
 pub read_fits : (rest rest' more : List ℕ) (wrong : Bool) → IsRead (piece_in rest) rest rest' more wrong → length more + length rest' ≤ length rest
 read_fits rest rest' more wrong p =
     let u = sound p.piece p.len rest p.read_is in
@@ -311,9 +317,11 @@ pub record Counted (n : ℕ) (rest t : List ℕ) : Type 0 where
   pub written : Written octets problem rest t
   pub counted : n ≡ length octets
 
+-- before any piece was read, no octet was counted, and the whole text is left
 pub none_counted : (t : List ℕ) → Counted 0 t t
 none_counted t = record { octets = []; problem = false; written = nothing_written t; counted = refl }
 
+-- where a piece was read, the octets that it stands for are added to the count
 pub counted_more : (n k : ℕ) (more rest rest' t : List ℕ) (wrong : Bool) → Counted n rest t → IsRead (piece_in rest) rest rest' more wrong → k ≡ length more
     → Counted (n + k) rest' t
 counted_more n k more rest rest' t wrong h p e = record {
@@ -323,6 +331,7 @@ counted_more n k more rest rest' t wrong h p e = record {
   counted = omega (arith, h.counted, e, length-append h.octets more);
 }
 
+-- where nothing is left, the count is how many octets the text spells
 pub counted_all : (n : ℕ) (rest t : List ℕ) → Counted n rest t → rest ≡ [] → HasPrintableLen n t
 counted_all n rest t h e = record { octets = h.octets; problem = h.problem; is = written_all h.octets rest t h.problem h.written e; counted = h.counted }
 
@@ -332,6 +341,7 @@ one_printable s t b p q g h =
     let e = one_reading (determined piece_in piece_reader) g.pieces h.pieces b g.are h.are in
     (g.spelled ∙ ap (flat_map octets_of) e ∙ sym h.spelled, g.wrong ∙ ap (list_any is_wrong) e ∙ sym h.wrong)
 
+-- in an encoding, a body spells one list of octets, and there is one answer to whether it has a problem
 pub one_body : (e : Encoding) (s t b : List ℕ) (p q : Bool) → IsBody e s p b → IsBody e t q b → (s ≡ t) × (p ≡ q)
 one_body encoding.Identity s t b p q g h = (g.0 ∙ sym h.0, g.1 ∙ sym h.1)
 one_body encoding.QuotedPrintable s t b p q g h = one_printable s t b p q g h

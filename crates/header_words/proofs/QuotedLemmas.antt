@@ -15,6 +15,7 @@ pub record HexAt (c : ℕ) (t : List ℕ) : Type 0 where
   pub whole : t ≡ digits.high ∷ digits.low ∷ rest
   pub value : c ≡ hex_octet digits
 
+-- where an octet is read, the text begins with the two hexadecimal digits that spell it
 pub hex_sound : (c : ℕ) (t : List ℕ) → hex_in t ≡ Some c → HexAt c t
 hex_sound c [] e = absurd cc
 hex_sound c (h ∷ []) e = absurd cc
@@ -30,6 +31,7 @@ hex_sound c (h ∷ l ∷ t) e = by (hex_value h) (hex_value l) refl refl e
       value = cc;
     }
 
+-- two hexadecimal digits at the front of a text are read as the octet that they spell
 pub hex_complete : (d : HexDigits) (t : List ℕ) → hex_in (d.high ∷ d.low ∷ t) ≡ Some (hex_octet d)
 hex_complete d t = ap (λ (x : Option ℕ). hex_pair x (hex_value d.low)) d.high_is ∙ ap (λ (y : Option ℕ). hex_pair (Some d.high_value) y) d.low_is
 
@@ -83,5 +85,6 @@ sound v n (c ∷ t) e = by_space (eqb c 95) (eqb c 61) refl refl e
         subst P (sym (eqb-true c 61 k)) (escape_sound v n t e)
     by_space false false h k e = unit_is c v 1 n (c ∷ t) e (record { unit = c ∷ []; rest = t; whole = refl; is = Itself c t (eqb-false c 95 h) (eqb-false c 61 k); counted = refl })
 
+-- reading the unit at the front of a text in "Q" finds the unit that the text begins with, and nothing else
 pub q_reader : IsReader IsQUnit q_unit_in
 q_reader = record { sound = sound; complete = complete; some = some }

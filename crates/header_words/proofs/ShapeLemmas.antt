@@ -8,6 +8,7 @@ use Rattle.text_words.proofs.CutLemmas.{SameCut, one_run}
 use Rattle.header_words.specs.Base64.{IsBase64}
 use Rattle.header_words.specs.EncodedWords.{is_charset_octet, is_encoded, HasShape, Spells, InBase64, InQ}
 
+-- what holds in any case holds where there is no value
 pub if_none : {X : Type 0} {P : Type 0} (r : Option X) → P → IfNone r P
 if_none None p = p
 if_none (Some x) p = tt
@@ -31,6 +32,7 @@ pub record SameShape (c d : List ℕ) (l m : ℕ) (x y s t : List ℕ) : Type 0 
   pub text : x ≡ y
   pub behind : s ≡ t
 
+-- two ways to take a text as an encoded word and what follows have the same parts
 pub one_shape : (c d : List ℕ) (l m : ℕ) (x y s t w : List ℕ) → HasShape c l x s w → HasShape d m y t w → SameShape c d l m x y s t
 one_shape c d l m x y s t w g h =
     let e = behind_charset w _ _ c (l ∷ 63 ∷ (x ++ 63 ∷ 61 ∷ s)) d m y t g.whole refl refl g.token h in
@@ -44,10 +46,12 @@ one_shape c d l m x y s t w g h =
 pub word_of : (c : List ℕ) (l : ℕ) (x : List ℕ) → List ℕ
 word_of c l x = 61 ∷ 63 ∷ (c ++ 63 ∷ l ∷ 63 ∷ (x ++ 63 ∷ 61 ∷ []))
 
+-- the word that a text begins with has the same parts where nothing follows it
 pub shape_word : (c : List ℕ) (l : ℕ) (x s w : List ℕ) → HasShape c l x s w → HasShape c l x [] (word_of c l x)
 unfolding word_of
 shape_word c l x s w h = record { whole = refl; token = h.token; printed = h.printed }
 
+-- a text that begins with a word of these parts is that word, and then what follows
 pub whole_word : (c : List ℕ) (l : ℕ) (x s w : List ℕ) → HasShape c l x s w → w ≡ word_of c l x ++ s
 unfolding word_of
 whole_word c l x s w h =
@@ -64,12 +68,14 @@ shape_before c l x w s t h e =
       printed = h.printed;
     }
 
+-- the word is as long as the text less what follows the word
 pub word_len : (c : List ℕ) (l : ℕ) (x s w : List ℕ) → HasShape c l x s w → length w - length s ≡ length (word_of c l x)
 word_len c l x s w h = omega (arith, ap length (whole_word c l x s w h), length-append (word_of c l x) s)
 
 abbrev pub NoShape : List ℕ → Type 0
 NoShape w = (c : List ℕ) (l : ℕ) (x y : List ℕ) → HasShape c l x y w → ⊥
 
+-- what is said of a result that is no error and has no value may be replaced by what follows from it
 pub none_map : {X E P Q : Type 0} (r : Result (Option X) E) → (P → Q) → IfOk r (λ o. IfNone o P) → IfOk r (λ o. IfNone o Q)
 none_map (Ok None) f p = f p
 none_map (Ok (Some x)) f p = tt
@@ -80,10 +86,12 @@ pub spells_b : (l : ℕ) (octets text : List ℕ) → (l ≡ 66) ⊎ (l ≡ 98) 
 spells_b l octets text e (InBase64 b i) = i
 spells_b l octets text e (InQ q i) = absurd (grind arith)
 
+-- where there is no value, what is said of that case holds
 pub take_none : {X P : Type 0} (o : Option X) → o ≡ None → IfNone o P → P
 take_none None e p = p
 take_none (Some x) e p = absurd cc
 
+-- where there is a value, what is said of it holds
 pub take_some : {X : Type 0} (Q : X → Type 0) (o : Option X) (x : X) → o ≡ Some x → IfSome o Q → Q x
 take_some Q None x e q = absurd cc
 take_some Q (Some y) x e q = let f : y ≡ x = cc in subst Q f q

@@ -55,6 +55,7 @@ word_some r w i = let e = ap length i.shape.whole in omega arith
 
 -- ---- the search for the first
 
+-- no encoded word stands before the beginning of a text
 pub none_yet : (t : List ℕ) → NoneBefore 0 t
 none_yet t = λ reading before word behind e s. omega arith
 
@@ -82,6 +83,7 @@ edge_append : (edge : Bool) (x : List ℕ) (c : ℕ) → ends_at_edge edge (x ++
 edge_append edge [] c = refl
 edge_append edge (d ∷ x) c = edge_append (is_edge d) x c
 
+-- a text up to the octet at i, with that octet, ends at an edge exactly where the octet is an edge
 pub edge_more : (t : List ℕ) (i x : ℕ) → i < length t → x ≡ get_or t i 0 → is_edge x ≡ ends_at_edge true (take (i + 1) t)
 edge_more t i x lt e = ap is_edge e ∙ sym (edge_append true (take i t) (get_or t i 0)) ∙ ap (ends_at_edge true) (sym (take_more t i 0 lt))
 
@@ -137,6 +139,7 @@ one_text after value _ _ (Worded _ u _ f h) (Worded _ v _ g k) =
 pub record Goes (behind_word : Bool) (rest done value : List ℕ) : Type 0 where
   pub goes : (t : List ℕ) → IsText behind_word rest t → IsText false value (done ++ t)
 
+-- at the start nothing is written, the rest is the whole value, and the value reads as what the rest reads as
 pub starts : (value : List ℕ) → Goes false value [] value
 starts value = record { goes = λ t h. h }
 
@@ -156,6 +159,7 @@ goes_on after rest done value reading start end done' g f e = record {
       (g.goes (kept after f.before ++ (reading ++ t)) inner);
 }
 
+-- where no encoded word is left, the value reads as what was written, and then the rest as it is
 pub ends : (after : Bool) (rest done value done' : List ℕ) → Goes after rest done value → HasNone rest → done' ≡ done ++ rest → IsText false value done'
 ends after rest done value done' g n e = subst (λ (u : List ℕ). IsText false value u) (sym e) (g.goes rest (Plain after rest n))
 
@@ -164,6 +168,7 @@ pub record Places (start end : ℕ) (rest : List ℕ) : Type 0 where
   pub end_within : end ≤ length rest
   pub some : 0 < end
 
+-- the first encoded word begins and ends within the text, and ends behind at least one octet
 pub places : (reading rest : List ℕ) (start end : ℕ) → FoundAt reading start end rest → Places start end rest
 places reading rest start end f =
     let w = word_some reading f.word f.first.stands.word in

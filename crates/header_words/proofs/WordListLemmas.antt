@@ -32,6 +32,7 @@ word_len m = omega (arith, length-append (codes "=?utf-8?B?") (encode_of standar
 pub few_fit : (m : List ℕ) → length m ≤ 45 → length (utf8_word m) ≤ 75
 few_fit m le = let e = word_len m in omega arith
 
+-- a word of at most 75 octets stands for at most 45
 pub fit_few : (m : List ℕ) → length (utf8_word m) ≤ 75 → length m ≤ 45
 fit_few m le = let e = word_len m in omega arith
 
@@ -84,6 +85,7 @@ longest_some piece rest text u n l =
     let e = l.longest (encode b.char) b.rest (first_piece text b) in
     omega (arith, length-encode b.char, (len_utf8_bounds b.char).0)
 
+-- what follows the longest piece of a text that isn't empty is shorter than the text
 pub shorter : (piece rest text : List ℕ) → IsUtf8 text → IsLongestPiece piece rest text → 0 < length text → length rest < length text
 shorter piece rest text u l some =
     let n : text ≢ [] = λ e. omega (arith, ap length e) in
@@ -92,13 +94,16 @@ shorter piece rest text u l some =
 
 -- ---- the words written so far
 
+-- a text whose length is 0 is empty
 pub is_empty : (t : List ℕ) → eqb (length t) 0 ≡ true → t ≡ []
 is_empty t e = nil_from_length t (eqb-true (length t) 0 e)
 
+-- a text whose length isn't 0 has an octet at least
 pub is_some : (t : List ℕ) → eqb (length t) 0 ≡ false → 0 < length t
 is_some [] e = absurd cc
 is_some (c ∷ t) e = omega arith
 
+-- the opening of a word, the base64 of a piece and the closing, written one after another, are the word of the piece
 pub pushed : (old begun encoded ended piece : List ℕ) → begun ≡ old ++ codes "=?utf-8?B?" → encoded ≡ begun ++ encode_of standard piece → ended ≡ encoded ++ codes "?="
     → ended ≡ old ++ utf8_word piece
 unfolding utf8_word
@@ -122,6 +127,7 @@ pub record Begun (value rest text : List ℕ) : Type 0 where
   pub folds : value ≡ joined line_fold (first ∷ words)
   pub goes : (more : List (List ℕ)) → AreWords more rest → AreWords (first ∷ (words ++ more)) text
 
+-- where the word of the longest piece of a text is written, the words of the rest go after it
 pub begun : (piece rest text value : List ℕ) → 0 < length text → IsLongestPiece piece rest text → value ≡ utf8_word piece → Begun value rest text
 begun piece rest text value some l e = record {
   first = utf8_word piece;
@@ -130,6 +136,7 @@ begun piece rest text value some l e = record {
   goes = λ more a. Next text more (record { piece = piece; rest = rest; some = λ n. omega (arith, ap length n); longest = l }) a;
 }
 
+-- where a line fold and the word of the longest piece of the rest are written, the words of what is then left go after it
 pub one_more : (piece behind value rest text new : List ℕ) → 0 < length rest → Begun value rest text → IsLongestPiece piece behind rest
     → new ≡ (value ++ (13 ∷ 10 ∷ 32 ∷ [])) ++ utf8_word piece → Begun new behind text
 one_more piece behind value rest text new some b l e = record {
@@ -143,6 +150,7 @@ one_more piece behind value rest text new some b l e = record {
       subst (λ (u : List (List ℕ)). AreWords (b.first ∷ u) text) (sym (append_assoc b.words (utf8_word piece ∷ []) more)) w;
 }
 
+-- where nothing is left, the value is what the text is written as
 pub all_written : (value rest text : List ℕ) → rest ≡ [] → Begun value rest text → IsWritten text value
 all_written value rest text e b = record {
   words = b.first ∷ b.words;
@@ -150,6 +158,7 @@ all_written value rest text e b = record {
   folds = b.folds;
 }
 
+-- the empty text is written as the empty value
 pub none_written : (value text : List ℕ) → text ≡ [] → value ≡ [] → IsWritten text value
 none_written value text e f = record { words = []; are = subst (λ (u : List ℕ). AreWords [] u) (sym e) NoneLeft; folds = f }
 
@@ -176,5 +185,6 @@ same_words _ _ _ (Next text v f a) (Next _ w g b) =
     ap (λ (u : List ℕ). utf8_word u ∷ v) o.piece
     ∙ ap (λ (u : List (List ℕ)). utf8_word g.piece ∷ u) (same_words f.rest v w a (subst (λ (u : List ℕ). AreWords w u) (sym o.rest) b))
 
+-- two values that a text is written as are the same
 pub one_writing : (text s t : List ℕ) → IsWritten text s → IsWritten text t → s ≡ t
 one_writing text s t a b = a.folds ∙ ap (joined line_fold) (same_words text a.words b.words a.are b.are) ∙ sym b.folds

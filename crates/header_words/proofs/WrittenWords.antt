@@ -181,6 +181,7 @@ more_read between _ _ r (Next text words f a) =
     subst (λ (u : List ℕ). IsText true value u) (ap (λ (u : List ℕ). u ++ (f.piece ++ f.rest)) (white_dropped between r.0) ∙ sym f.longest.is.whole)
     (Worded true f.rest value first (more_read between words f.rest r a))
 
+-- the words of a text, with the same white space between each two, read as the text
 pub words_read : (between : List ℕ) (words : List (List ℕ)) (text : List ℕ) → IsRun is_white between → AreWords words text → IsText false (joined between words) text
 words_read between _ _ r NoneLeft = Plain false [] none_in_empty
 words_read between _ _ r (Next text words f a) =
@@ -198,5 +199,6 @@ words_read between _ _ r (Next text words f a) =
 fold_is_white : IsRun is_white line_fold
 fold_is_white = ((refl, (refl, (refl, tt))), λ n. absurd cc)
 
+-- what a text is written as, with line folds between its words, reads as the text
 pub written_reads : (text value : List ℕ) → IsWritten text value → IsText false value text
 written_reads text value w = subst (λ (u : List ℕ). IsText false u text) (sym w.folds) (words_read line_fold w.words text fold_is_white w.are)

@@ -32,6 +32,7 @@ download_is_text (Some text) = by (is_media text) refl
 pub download_named : (text : List ℕ) → IsMediaText text → text ≡ download_media (Some text)
 download_named text is = ap (λ (q : Bool). if q then text else octet_stream) (sym (is_media_text text is))
 
+-- where a text is asked for that is no type, what is answered with is application/octet-stream
 pub download_other : (text : List ℕ) → (IsMediaText text → ⊥) → octet_stream ≡ download_media (Some text)
 download_other text not = by (is_media text) refl
   where

@@ -25,9 +25,11 @@ merged-zero d a b is =
     let differs : bit_xor a b ≡ 0 = omega (arith, right, is) in
     (omega (arith, left, is), xor-zero a b differs)
 
+-- where nothing differed before, and this pair of octets is the same, nothing differs
 pub merged-same : (d a b : ℕ) → d ≡ 0 → a ≡ b → bit_or d (bit_xor a b) ≡ 0
 merged-same d a b none same = ap (λ (x : ℕ). bit_or x (bit_xor a b)) none ∙ or_zero_l (bit_xor a b) ∙ ap (λ (x : ℕ). bit_xor x b) same ∙ xor_self b
 
+-- texts that were compared up to a place are compared with one pair of octets more
 pub compared-more : (difference next : ℕ) (one other : List ℕ) (at : ℕ) → at < length one → at < length other
     → (next ≡ 0 → (difference ≡ 0) × (get_or one at 0 ≡ get_or other at 0)) → (difference ≡ 0 → get_or one at 0 ≡ get_or other at 0 → next ≡ 0)
     → Compared difference (take at one) (take at other) → Compared next (take (at + 1) one) (take (at + 1) other)

@@ -51,6 +51,7 @@ length_memory {now = now} es size after fills rest =
     let front = front_taken size after fills rest in
     (Nothing, take size now, es, front.0, inl refl, inr (front.1, refl, refl))
 
+-- enough octets stand there: the first of them are the body of the length
 pub length_read : {before now : List ℕ} (es : List Event) (size : ℕ) (after body : List ℕ) → FillsTo size before now (Ok tt) es → after ≡ drop size now → body ≡ take size now
     → ReadsLength size before after (Ok body) es
 length_read {before} {now} es size after body fills rest is =
@@ -66,6 +67,7 @@ octet_breaks es octet error.Short (earlier, takes, ends, stops) = (Octets 1, [],
 octet_breaks es octet error.FrontFault (earlier, takes, ends, stops) = (Octets 1, [], earlier, takes, ends, (refl, refl))
 octet_breaks es octet error.Memory (earlier, takes, ends, stops) = (Octets 1, [], earlier, takes, ends, (refl, refl))
 
+-- another octet than the one that is due is malformed
 pub octet_differs : {before : List ℕ} (after : List ℕ) (es : List Event) (octet c : ℕ) → FillsTo 1 before after (Ok tt) es → c ≢ octet → (more : List ℕ) → after ≡ c ∷ more
     → Breaks (NoOctet octet) before after error.BadHead es
 octet_differs after es octet c (takes, enough, few) other more is =
@@ -82,6 +84,7 @@ abbrev pub Returned : ℕ → List ℕ → List ℕ → List ℕ → List ℕ �
 Returned size kept keeps before after events =
     (octets : List ℕ) × Takes Nothing (octets ++ 13 ∷ []) before after events × (length octets ≡ size) × (keeps ≡ kept ++ octets)
 
+-- data that was read and a CR that was read after it were read together
 pub returned : {a b : List ℕ} {xs : List Event} (kept keeps c : List ℕ) (ys : List Event) (size : ℕ) → ReadsData size kept keeps a b (Ok tt) xs → ReadsOctet 13 b c (Ok tt) ys
     → Returned size kept keeps a c (xs ++ ys)
 returned kept keeps c ys size (octets, takes, long, adds) return = (octets, then_takes Nothing takes return, long, adds)
@@ -114,10 +117,12 @@ pub record Keeps (limit : ℕ) (body : List ℕ) (over : ℕ) : Type 0 where
   pub octets : length body ≤ limit
   pub lines : over ≤ MAX_EXCESS_OCTETS
 
+-- a chunk's line was read after whole chunks
 pub after_line : {a b : List ℕ} {xs : List Event} (body : List ℕ) (over : ℕ) (c : List ℕ) (count size : ℕ) (ys : List Event) → Gathered a b body over xs
     → ReadsLine b c (Ok (count, size)) ys → LineRead a c body over count size (xs ++ ys)
 after_line body over c count size ys (chunks, all, takes, is, so) (line, more, said, long) = (chunks, line, all, then_takes Nothing takes more, is, so, said, long)
 
+-- no chunk's line is read after whole chunks, and so no body
 pub line_stops : {a b : List ℕ} {xs : List Event} (limit : ℕ) (body : List ℕ) (over : ℕ) (c : List ℕ) (e : HttpError) (ys : List Event) → Keeps limit body over
     → Gathered a b body over xs → ReadsLine b c (Err e) ys → Breaks (ChunksStop limit) a c e (xs ++ ys)
 line_stops {a} {b} limit body over c e ys keeps (chunks, all, takes, is, so) reads =
@@ -131,6 +136,7 @@ line_stops {a} {b} limit body over c e ys keeps (chunks, all, takes, is, so) rea
       AtLine stops.0 stops.1,
     ))
 
+-- with this line the chunks' lines are too long taken together, and the body is malformed
 pub excess_stops : {a b : List ℕ} {xs : List Event} (limit : ℕ) (body : List ℕ) (over count size : ℕ) → Keeps limit body over → size ≢ 0
     → MAX_EXCESS_OCTETS < over + (count - FREE_LINE_OCTETS) → LineRead a b body over count size xs → Breaks (ChunksStop limit) a b error.BadHead xs
 excess_stops {xs = xs} limit body over count size keeps some passes (chunks, line, all, takes, is, so, said, long) = (
@@ -157,6 +163,7 @@ lines_kept : (chunks : List Chunk) (line : List ℕ) (over count : ℕ) → over
 lines_kept chunks line over count so long few =
     subst (λ (n : ℕ). excess_of chunks + (n - FREE_LINE_OCTETS) ≤ MAX_EXCESS_OCTETS) long (subst (λ (n : ℕ). n + (count - FREE_LINE_OCTETS) ≤ MAX_EXCESS_OCTETS) so few)
 
+-- with the size that this line says the data would pass the limit, and the body is too large
 pub limit_stops : {a b : List ℕ} {xs : List Event} (limit : ℕ) (body : List ℕ) (over count size : ℕ) → Keeps limit body over
     → over + (count - FREE_LINE_OCTETS) ≤ MAX_EXCESS_OCTETS → limit < length body + size → LineRead a b body over count size xs
     → Breaks (ChunksStop limit) a b (error.TooLarge limit) xs
@@ -177,6 +184,7 @@ limit_stops {xs = xs} limit body over count size keeps few passes (chunks, line,
   ),
 )
 
+-- no trailer section is read after the last chunk's line, and so no body
 pub trailer_stops : {a b : List ℕ} {xs : List Event} (limit : ℕ) (body : List ℕ) (over count : ℕ) (c : List ℕ) (e : HttpError) (ys : List Event) → Keeps limit body over
     → LineRead a b body over count 0 xs → ReadsTrailer b c (Err e) ys → Breaks (ChunksStop limit) a c e (xs ++ ys)
 trailer_stops {a} {b} limit body over count c e ys keeps (chunks, line, all, takes, is, so, said, long) reads =
@@ -191,6 +199,7 @@ trailer_stops {a} {b} limit body over count c e ys keeps (chunks, line, all, tak
       AtTrailer (subst (λ (l : List ℕ). IsLine l 0) (sym none) said) stops.1,
     ))
 
+-- a chunk's data or the line end after it isn't read, and so no body
 pub chunk_stops : {a b : List ℕ} {xs : List Event} (limit : ℕ) (body keeps : List ℕ) (over count : ℕ) (c : List ℕ) (size : ℕ) (e : HttpError) (ys : List Event)
     → Keeps limit body over → over + (count - FREE_LINE_OCTETS) ≤ MAX_EXCESS_OCTETS → length body + size ≤ limit → size ≢ 0 → LineRead a b body over count size xs
     → ReadsChunk size body keeps b c (Err e) ys → Breaks (ChunksStop limit) a c e (xs ++ ys)
@@ -267,6 +276,7 @@ body_memory {xs = xs} limit body over count c ys keeps (chunks, line, all, takes
   ),
 )
 
+-- enough octets stand there: the first of them are the data, which is kept after what was kept before
 pub data_read : {before now : List ℕ} (es : List Event) (size : ℕ) (kept keeps octets after : List ℕ) → FillsTo size before now (Ok tt) es → after ≡ drop size now
     → octets ≡ take size now → keeps ≡ kept ++ octets → ReadsData size kept keeps before after (Ok tt) es
 data_read {before} {now} es size kept keeps octets after fills rest is adds =

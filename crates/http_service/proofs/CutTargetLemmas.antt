@@ -115,6 +115,7 @@ target_parts octets rest (ends, whole, none) (blank, method, target, (some, toke
 never_now : (octets : List ℕ) → NeverHasRequest octets → HasNoRequest octets
 never_now octets never h rest reads = never [] h rest (subst (λ (l : List ℕ). ReadsRequest l h rest) (sym (append-nil octets)) reads)
 
+-- texts that are equal with a space before each are equal
 pub same_tail : (t u : List ℕ) → 32 ∷ t ≡ 32 ∷ u → t ≡ u
 same_tail t u is = cc
 

@@ -22,6 +22,7 @@ pub empty_is : (l : List ℕ) (b : Bool) → b ≡ (length l == 0) → b ≡ tru
 empty_is [] b is so = refl
 empty_is (x ∷ l) b is so = absurd (grind arith)
 
+-- where `is_empty` is false, there is something
 pub some_is : (l : List ℕ) (b : Bool) → b ≡ (length l == 0) → b ≡ false → l ≢ []
 some_is [] b is so nil = absurd (grind arith)
 some_is (x ∷ l) b is so nil = absurd cc
@@ -40,13 +41,16 @@ scheme_length word same = sym (length-map word to_ascii_lowercase) ∙ ap length
 pub bearer_parts : (value token : List ℕ) → (b : IsBearer value token) → (take 6 value ≡ b.scheme) × (drop 6 value ≡ b.gap ++ token)
 bearer_parts value token b = front_of_length value b.scheme (b.gap ++ token) 6 (sym (scheme_length b.scheme b.bearer)) b.whole
 
+-- a value that doesn't begin with the scheme's name has no token
 pub not_another_scheme : (value token : List ℕ) → IsBearer value token → (IsScheme (take 6 value) → ⊥) → ⊥
 not_another_scheme value token b other = other (subst IsScheme (sym (bearer_parts value token b).0) b.bearer)
 
+-- a value without a space after the scheme's name has no token
 pub not_without_gap : (value token : List ℕ) → IsBearer value token → front is_space (drop 6 value) ≡ [] → ⊥
 not_without_gap value token b none =
     b.spaces.1 (sym (front_is is_space b.gap token b.spaces.0 b.begins) ∙ ap (front is_space) (sym (bearer_parts value token b).1) ∙ none)
 
+-- after the scheme's name and spaces the rest of a value is its token
 pub is_bearer : (value : List ℕ) → IsScheme (take 6 value) → front is_space (drop 6 value) ≢ [] → IsBearer value (back is_space (drop 6 value))
 is_bearer value bearer some =
     record {
@@ -64,6 +68,7 @@ each_at p [] i each lt = absurd (omega arith)
 each_at p (x ∷ l) zero each lt = each.0
 each_at p (x ∷ l) (suc i) each lt = each_at p l i each.1 (omega arith)
 
+-- a digit is one of the octets 48 to 57
 pub digit_range : (c : ℕ) → is_digit c ≡ true → (48 ≤ c) × (c ≤ 57)
 digit_range c is = (grind arith, grind arith)
 

@@ -34,6 +34,7 @@ fields_long : (fields : List Field) → 2 * length fields ≤ length (flat_map p
 fields_long [] = omega arith
 fields_long (f ∷ fields) = omega (arith, length-append (print_field f) (flat_map print_field fields), field_long f, fields_long fields)
 
+-- a section has more than twice as many octets as fields
 pub section_long : (fields : List Field) (last : LineEnd) → 2 * length fields < length (print_section fields last)
 section_long fields last = omega (arith, length-append (flat_map print_field fields) (print_end last), end_long last, fields_long fields)
 

@@ -122,6 +122,7 @@ not_both octets (inl (never, not_cut)) (none, inl (more, h, reads)) = never more
 not_both octets (inl (never, not_cut)) (none, inr cut) = not_cut cut
 not_both octets (inr (h, rest, reads, no_body)) (none, may) = none h rest reads
 
+-- octets begin with at most one chunk's line, which says one size, and after which one rest stands
 pub one_line : (line other rest more : List ℕ) (size count : ℕ) → IsLine line size → IsLine other count → line ++ rest ≡ other ++ more → (line ≡ other) × (size ≡ count)
     × (rest ≡ more)
 one_line line other rest more size count (l, is_l, printed_l, says_l, short_l) (k, is_k, printed_k, says_k, short_k) whole =

@@ -22,10 +22,12 @@ use Rattle.http_service.specs.Taking.{HaveEnd, HeadLines, ChunkLine as LineOfChu
 use Rattle.http_service.specs.reading.LineEnds.{lines_of, start, step, run}
 use Rattle.http_service.proofs.TakingLemmas.{begins_other}
 
+-- the place after two texts is the one that the second leads to from the place after the first
 pub run-append : (place : Place) (xs ys : List ℕ) → run place (xs ++ ys) ≡ run (run place xs) ys
 run-append place [] ys = refl
 run-append place (c ∷ xs) ys = run-append (step place c) xs ys
 
+-- the place after one octet more is one step from the place before it
 pub run_more : (place : Place) (octets : List ℕ) (i : ℕ) → i < length octets → run place (take (i + 1) octets) ≡ step (run place (take i octets)) (get_or octets i 0)
 run_more place octets i lt = ap (run place) (take_more octets i 0 lt) ∙ run-append place (take i octets) (get_or octets i 0 ∷ [])
 
@@ -71,10 +73,12 @@ Past Returned = Unit {0}
 Past Only = Unit {0}
 Past Ended = Unit {0}
 
+-- where something but line ends has come at each of two places, it has at whichever is chosen
 pub past_either : (b : Bool) (p q : Place) → Past p → Past q → Past (cond b p q)
 past_either true p q x y = x
 past_either false p q x y = y
 
+-- once something but line ends has come, it has come after one octet more
 pub past_step : (place : Place) (c : ℕ) → Past place → Past (step place c)
 past_step Blank c past = absurd past
 past_step Inside c past = past_either (c == 10) Begun Inside tt tt
@@ -83,6 +87,7 @@ past_step Returned c past = past_either (c == 10) Ended Inside tt tt
 past_step Only c past = past_either (c == 10) Ended Only tt tt
 past_step Ended c past = tt
 
+-- once something but line ends has come, it has come after any octets more
 pub past_run : (place : Place) (octets : List ℕ) → Past place → Past (run place octets)
 past_run place [] past = past
 past_run place (c ∷ octets) past = past_run (step place c) octets (past_step place c past)

@@ -25,12 +25,15 @@ use Rattle.http_service.specs.ReadHead.{NoHead}
 use Rattle.httparse.specs.Grammar.{HasNoChunkLine, HasNoSection}
 use Rattle.gate_world.specs.declared.event.Event.{Event}
 
+-- the window of octets that are at most `MAX_HEAD_OCTETS` is all of them
 pub whole_window : (octets : List ℕ) → length octets ≤ MAX_HEAD_OCTETS → window octets ≡ octets
 whole_window octets few = take_all MAX_HEAD_OCTETS octets few
 
+-- a window of fewer than `MAX_HEAD_OCTETS` octets is all octets that there are
 pub short_window : (octets : List ℕ) → length (window octets) < MAX_HEAD_OCTETS → window octets ≡ octets
 short_window octets short = whole_window octets (omega (arith, short, length-take MAX_HEAD_OCTETS octets))
 
+-- a window is no longer than the octets
 pub window_short : (octets : List ℕ) → length (window octets) ≤ length octets
 window_short octets = omega (arith, length-take MAX_HEAD_OCTETS octets)
 
@@ -75,6 +78,7 @@ lines_missing lines octets not_ended short =
     let same = short_window octets short in
     (no_end lines octets (λ is. not_ended (ap (run (start lines)) same ∙ is)), omega (arith, short, ap length same))
 
+-- where nothing came, the octets stay as they were
 pub not_grown : (now after seen : List ℕ) (came : Bool) → came ≡ false → Grows now after (MAX_HEAD_OCTETS - length seen) (Ok came) → after ≡ now
 not_grown now after seen true is grows = absurd cc
 not_grown now after seen false is grows = grows
@@ -122,6 +126,7 @@ pub lines_malformed : {before now : List ℕ} {es : List Event} (lines : Lines) 
 lines_malformed {now = now} {es = es} lines at C stopped (earlier, takes, stops) cause =
     (LinesOf (lines_of lines), [], earlier, takes, malformed_ends lines at now es earlier stopped stops, cause)
 
+-- lines were read up to a stop, and memory ran out
 pub lines_memory : {before now : List ℕ} {es : List Event} (lines : Lines) (at : Stop) (C : Due → List ℕ → List ℕ → HttpError → Type 0) → ReadsLines lines before now (Ok at) es
     → C (LinesOf (lines_of lines)) [] now error.Memory → Breaks C before now error.Memory es
 lines_memory {now = now} {es = es} lines at C (earlier, takes, stops) cause = (LinesOf (lines_of lines), [], earlier, takes, stop_ends lines at now es earlier stops, cause)
@@ -137,6 +142,7 @@ line_refused es at error.Short stopped reads parses = absurd parses
 line_refused es at error.FrontFault stopped reads parses = absurd parses
 line_refused es at error.Memory stopped reads parses = absurd parses
 
+-- the front or memory failed where a chunk's line was due
 pub line_outside : {before now : List ℕ} (es : List Event) (e : HttpError) → ReadsLines of.ChunkLine before now (Err e) es → Breaks NoLine before now e es
 line_outside es error.BadHead (earlier, takes, ends, out) = absurd out
 line_outside es error.HeadTooLarge (earlier, takes, ends, out) = absurd out
@@ -168,6 +174,7 @@ trailer_not_read es at error.Short stopped reads parses = absurd parses
 trailer_not_read es at error.FrontFault stopped reads parses = absurd parses
 trailer_not_read es at error.Memory stopped reads parses = lines_memory of.Trailer at NoTrailer reads (refl, refl)
 
+-- the front or memory failed where a trailer section was due
 pub trailer_outside : {before now : List ℕ} (es : List Event) (e : HttpError) → ReadsLines of.Trailer before now (Err e) es → Breaks NoTrailer before now e es
 trailer_outside es error.BadHead (earlier, takes, ends, out) = absurd out
 trailer_outside es error.HeadTooLarge (earlier, takes, ends, out) = absurd out
@@ -176,10 +183,12 @@ trailer_outside es error.Short (earlier, takes, ends, out) = absurd out
 trailer_outside es error.FrontFault (earlier, takes, ends, out) = (LinesOf TrailerLines, [], earlier, takes, ends, (refl, refl))
 trailer_outside es error.Memory (earlier, takes, ends, out) = (LinesOf TrailerLines, [], earlier, takes, ends, (refl, refl))
 
+-- the trailer section is too long
 pub trailer_full : {before now : List ℕ} {es : List Event} → IsStopped of.Trailer stop.Full now → ReadsLines of.Trailer before now (Ok stop.Full) es → HasNoSection (window now)
     → Breaks NoTrailer before now error.BadHead es
 trailer_full full reads none = lines_malformed of.Trailer stop.Full NoTrailer full reads (refl, (refl, inr (none, full.1)))
 
+-- the input ended inside a trailer section
 pub trailer_short : {before now : List ℕ} {es : List Event} → ReadsLines of.Trailer before now (Ok stop.Closed) es → ParsesTrailer (window now) (Ok None)
     → Breaks NoTrailer before now error.Short es
 trailer_short {now = now} (earlier, takes, (is, (no_last, short))) parses =
@@ -197,6 +206,7 @@ head_refused es at error.Short stopped reads parses = absurd parses
 head_refused es at error.FrontFault stopped reads parses = absurd parses
 head_refused es at error.Memory stopped reads parses = lines_memory of.Head at NoHead reads (refl, refl, tt)
 
+-- the front or memory failed where a head was due
 pub head_outside : {before now : List ℕ} (es : List Event) (e : HttpError) → ReadsLines of.Head before now (Err e) es → Breaks NoHead before now e es
 head_outside es error.BadHead (earlier, takes, ends, out) = absurd out
 head_outside es error.HeadTooLarge (earlier, takes, ends, out) = absurd out
@@ -205,10 +215,12 @@ head_outside es error.Short (earlier, takes, ends, out) = absurd out
 head_outside es error.FrontFault (earlier, takes, ends, out) = (LinesOf HeadLines, [], earlier, takes, ends, (refl, refl, tt))
 head_outside es error.Memory (earlier, takes, ends, out) = (LinesOf HeadLines, [], earlier, takes, ends, (refl, refl, tt))
 
+-- the head is too long
 pub head_full : {before now : List ℕ} {es : List Event} → ReadsLines of.Head before now (Ok stop.Full) es → IsIncomplete (window now) → MAX_HEAD_OCTETS ≤ length now
     → Breaks NoHead before now error.HeadTooLarge es
 head_full (earlier, takes, is) incomplete many = (LinesOf HeadLines, [], earlier, takes, is, (refl, refl, (incomplete, many)))
 
+-- the input ended inside a head
 pub head_short : {before now : List ℕ} {es : List Event} → ReadsLines of.Head before now (Ok stop.Closed) es → IsIncomplete (window now) → Breaks NoHead before now error.Short es
 head_short {now = now} (earlier, takes, (is, (no_last, short))) incomplete =
     (LinesOf HeadLines, [], earlier, takes, (is, (no_last, short)), (refl, refl, subst IsIncomplete (whole_window now (omega (arith, short))) incomplete))

@@ -130,6 +130,7 @@ input_ended {before} {now} {xs} ys due after false is takes missing (one, same) 
 abbrev pub FillStops : Due → List ℕ → List ℕ → HttpError → List Event → Type 0
 FillStops due before after e events = (earlier : List Event) × Takes due [] before after earlier × EndsBy e due after events earlier × IsOutside e
 
+-- the front or memory failed where something was missing
 pub not_filled : {before now : List ℕ} {xs : List Event} (ys : List Event) (due : Due) (after : List ℕ) (e : HttpError) → Takes due [] before now xs → IsMissing due now
     → Fills now after (Err e) ys → FillStops due before after e (xs ++ ys)
 not_filled ys due after error.BadHead takes missing fills = absurd fills

@@ -12,15 +12,19 @@ scheme_parts target rest (scheme, whole, begins, each) = (
   ap (back is_scheme_octet) whole ∙ back_is is_scheme_octet scheme (codes "://" ++ rest) each refl,
 )
 
+-- a target that begins with no letter has no scheme
 pub not_without_letter : (target : List ℕ) → (BeginsWithLetter (front is_scheme_octet target) → ⊥) → (rest : List ℕ) → HasScheme target rest → ⊥
 not_without_letter target none rest h = none (subst BeginsWithLetter (sym (scheme_parts target rest h).0) h.2)
 
+-- a target in which fewer than three octets follow those of a scheme has no scheme
 pub not_without_room : (target : List ℕ) → length (back is_scheme_octet target) < 3 → (rest : List ℕ) → HasScheme target rest → ⊥
 not_without_room target short rest h = omega (arith, short, ap length (scheme_parts target rest h).1, length-append (codes "://") rest)
 
+-- a target in which no `://` follows the octets of a scheme has no scheme
 pub not_without_sign : (target : List ℕ) → take 3 (back is_scheme_octet target) ≢ codes "://" → (rest : List ℕ) → HasScheme target rest → ⊥
 not_without_sign target other rest h = other (ap (take 3) (scheme_parts target rest h).1)
 
+-- octets of a scheme that begin with a letter, and `://` after them, are a scheme before the rest
 pub has_scheme : (target : List ℕ) → BeginsWithLetter (front is_scheme_octet target) → take 3 (back is_scheme_octet target) ≡ codes "://"
     → HasScheme target (drop 3 (back is_scheme_octet target))
 has_scheme target begins sign = (
@@ -31,9 +35,11 @@ has_scheme target begins sign = (
   front_each is_scheme_octet target,
 )
 
+-- a target without a scheme is all path and query
 pub whole_target : (target : List ℕ) → ((rest : List ℕ) → HasScheme target rest → ⊥) → IsPathAndQuery target target
 whole_target target none = inr (λ other is. none (is.authority ++ other) (is.scheme, is.whole, is.begins, is.is_scheme), refl)
 
+-- after a scheme, what stands after the authority is the path and the query
 pub after_authority : (target rest : List ℕ) → HasScheme target rest → IsPathAndQuery target (back is_authority_octet rest)
 after_authority target rest (scheme, whole, begins, each) =
     inl (

@@ -143,6 +143,7 @@ closed_none (pending.Closed v) text e no_count = let c = closed_count v text e i
 none_closed : (s : Pending) (n : ℕ) (text : List ℕ) → pends pending.Nothing text ≡ s → NoCount s → EndsInCount n text → ⊥
 none_closed s n text e h c = subst NoCount (sym e ∙ count_closed n text c) h
 
+-- text with k literals by the grammar is such text by the automaton's reading of counts
 pub free_to : (k : ℕ) (t : List ℕ) → IsFree k t → IsFreeFrom k pending.Nothing t
 free_to zero t h = record { text = h.text; whole = h.whole; text_is = h.text_is; no_count = closed_none (pends pending.Nothing h.text) h.text refl h.no_count }
 free_to (suc k) t h = record {
@@ -159,6 +160,7 @@ free_to (suc k) t h = record {
   goes_on = free_to k h.rest h.goes_on;
 }
 
+-- text with k literals by the automaton's reading of counts is such text by the grammar
 pub free_from : (k : ℕ) (t : List ℕ) → IsFreeFrom k pending.Nothing t → IsFree k t
 free_from zero t h = record { text = h.text; whole = h.whole; text_is = h.text_is; no_count = λ n c. none_closed (pends pending.Nothing h.text) n h.text refl h.no_count c }
 free_from (suc k) t h =

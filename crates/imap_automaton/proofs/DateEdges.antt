@@ -27,6 +27,7 @@ use Rattle.imap_syntax.specs.DateTimes.{seconds_of, IsMonth, IsDateTime}
 
 -- ---- after the month
 
+-- after a date's month, an octet is read and any text that its rule still reads after it
 pub time_back : (at c : ℕ) (t : List ℕ) → AfterMove (time_rule at c) t → TimeRest at (c ∷ t)
 time_back at c t h = from_test (nat_lt at 21 && time_octet at c) (cond (at + 1 == 21) move.End (move.One (sym.Date (date.Time (at + 1))))) move.Fail t (TimeRest at (c ∷ t))
     (λ e k.
@@ -36,6 +37,7 @@ time_back at c t h = from_test (nat_lt at 21 && time_octet at c) (cond (at + 1 =
     (λ f l. record { each = (o, l.each); count = omega (arith, l.count) }) k)
     (λ e k. absurd k) h
 
+-- where an octet and a text are read after a date's month, the rule still reads the text after the octet
 pub time_forth : (at c : ℕ) (t : List ℕ) → TimeRest at (c ∷ t) → AfterMove (time_rule at c) t
 time_forth at c t h =
     at_true (nat_lt at 21 && time_octet at c) (cond (at + 1 == 21) move.End (move.One (sym.Date (date.Time (at + 1))))) move.Fail t
@@ -44,6 +46,7 @@ time_forth at c t h =
     (λ e. nil_from_length t (let n = h.count in let f = eqb-true (at + 1) 21 e in omega (arith, n, f)))
     (λ e. record { each = h.each.1; count = (let n = h.count in omega (arith, n)) }))
 
+-- what stands after a date's month isn't empty
 pub time_none : TimeRest 0 [] → ⊥
 time_none h = let n = h.count in omega (arith, n)
 
@@ -336,11 +339,13 @@ quote_forth c t h =
 
 -- ---- the group
 
+-- a symbol of a date reads an octet and any text that its rule still reads after it
 pub date_back : (s : Date) (c : ℕ) (t : List ℕ) → AfterMove (date_rule s c) t → DateLang s (c ∷ t)
 date_back date.Open c t h = quote_back c t h
 date_back (date.Day at) c t h = day_back at c t h
 date_back (date.Time at) c t h = time_back at c t h
 
+-- where a fitting symbol of a date reads an octet and a text, its rule still reads the text after the octet
 pub date_forth : (s : Date) (c : ℕ) (t : List ℕ) → DateFits s ≡ true → DateLang s (c ∷ t) → AfterMove (date_rule s c) t
 date_forth date.Open c t fits h = quote_forth c t h
 date_forth (date.Day at) c t fits h = day_forth at c t fits h
@@ -349,6 +354,7 @@ date_forth (date.Time at) c t fits h = time_forth at c t h
 day_none : (at : ℕ) → at < 3 → DayRest at [] → ⊥
 day_none at lt h = let e = ap length (no_append h.front h.back h.whole).0 in let n = h.count in omega (arith, lt, e, n)
 
+-- no fitting symbol of a date reads the empty text
 pub date_empty : (s : Date) → DateFits s ≡ true → DateLang s [] → ⊥
 date_empty date.Open fits h = let e = h.1.whole in cc
 date_empty (date.Day at) fits h = day_none at (ltb-true at 3 fits) h
@@ -365,6 +371,7 @@ day_text = codes "17-"
 abbrev pub date_text : List ℕ
 date_text = 34 ∷ day_text ++ codes "jul" ++ time_text
 
+-- the example's year, time and zone may stand after a month
 pub time_example : TimeRest 0 time_text
 time_example = record {
   each = (
@@ -401,9 +408,11 @@ day_example at lt = record {
   month = month_to 7 (codes "jul") time_text (omega arith, omega arith, refl) time_example refl;
 }
 
+-- the example spells a date
 pub date_example : (s : ℤ) × IsDateTime s date_text
 date_example = date_from (day_text ++ (codes "jul" ++ time_text)) (day_example 0 (omega arith))
 
+-- each fitting symbol of a date reads some text
 pub date_lang_example : (s : Date) → DateFits s ≡ true → (t : List ℕ) × DateLang s t
 date_lang_example date.Open fits = (date_text, date_example)
 date_lang_example (date.Day at) fits = (drop at day_text ++ (codes "jul" ++ time_text), day_example at (ltb-true at 3 fits))

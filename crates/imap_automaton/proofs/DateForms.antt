@@ -24,6 +24,7 @@ two_digits : (n : ℕ) (t : List ℕ) → IsDigits 2 n t → TwoDigits n t
 two_digits n (a ∷ b ∷ []) h = record { first = a; second = b; whole = refl; digits = h.digits; value = omega (arith, h.value) }
 two_digits n _ h = absurd (omega (arith, h.count_is))
 
+-- two digits spell the number that they make
 pub digits_two : (a b : ℕ) → Each is_digit (a ∷ b ∷ []) → IsDigits 2 (two a b) (a ∷ b ∷ [])
 digits_two a b h = record { digits = h; count_is = refl; value = omega arith }
 
@@ -40,6 +41,7 @@ four_digits : (n : ℕ) (t : List ℕ) → IsDigits 4 n t → FourDigits n t
 four_digits n (a ∷ b ∷ c ∷ d ∷ []) h = record { first = a; second = b; third = c; fourth = d; whole = refl; digits = h.digits; value = omega (arith, h.value) }
 four_digits n _ h = absurd (omega (arith, h.count_is))
 
+-- four digits spell the number that they make
 pub digits_four : (a b c d : ℕ) → Each is_digit (a ∷ b ∷ c ∷ d ∷ []) → IsDigits 4 (four a b c d) (a ∷ b ∷ c ∷ d ∷ [])
 digits_four a b c d h = record { digits = h; count_is = refl; value = omega arith }
 
@@ -74,6 +76,7 @@ day_digits n t (inl h) = let d = two_digits n t h in record {
 }
 day_digits n t (inr h) = one_digit n t h.0 h.1 h.2
 
+-- a space or a digit, and then a digit, spell the day that they make
 pub digits_day : (a b : ℕ) → starts_day a ≡ true → is_digit b ≡ true → IsFixedDay (two a b) (a ∷ b ∷ [])
 digits_day a b s d = elim (or_cases (a == 32) (is_digit a) s) [
   | inl e ↦ (let space : a ≡ 32 = eqb-true a 32 e in inr (b ∷ [], ap (λ (c : ℕ). c ∷ b ∷ []) space, record { digits = (d, tt); count_is = refl; value = omega (arith, space) }))
@@ -146,6 +149,7 @@ times_two time hours minutes seconds a b c e f g h = omega (arith, e, f, g, h)
 zone_two : (zone hours minutes a b : ℕ) → zone ≡ zone_of hours minutes → hours ≡ a → minutes ≡ b → zone ≡ zone_of a b
 zone_two zone hours minutes a b e f g = omega (arith, e, f, g)
 
+-- dates of the same month whose other parts are equal are the same in seconds
 pub seconds_same : (year month day time zone year2 day2 time2 zone2 : ℕ) (east east2 : Bool) → year ≡ year2 → day ≡ day2 → time ≡ time2 → east ≡ east2 → zone ≡ zone2
     → seconds_of year month day time east zone ≡ seconds_of year2 month day2 time2 east2 zone2
 seconds_same year month day time zone year2 day2 time2 zone2 east east2 a b c d e =
@@ -157,6 +161,7 @@ seconds_same year month day time zone year2 day2 time2 zone2 east east2 a b c d 
 rejoin : (a y c z q : List ℕ) → a ++ y ++ c ++ z ++ q ≡ a ++ (y ++ (c ++ (z ++ q)))
 rejoin a y c z q = append_assoc (a ++ y ++ c) z q ∙ append_assoc (a ++ y) c (z ++ q) ∙ append_assoc a y (c ++ (z ++ q))
 
+-- the octets of a text that spells a date stand each at its place, and make its seconds
 pub octets_of : (seconds : ℤ) (t : List ℕ) → IsDateTime seconds t → DateOctets seconds t
 octets_of seconds t h =
     let d = h.date_is in
@@ -223,6 +228,7 @@ octets_of seconds t h =
           (sym (sign_east h.east)) (zone_two h.zone z.hours z.minutes (two zh.first zh.second) (two zm.first zm.second) z.value zh.value zm.value);
     }
 
+-- octets that stand each at its place spell the date of the seconds that they make
 pub of_octets : (seconds : ℤ) (t : List ℕ) → DateOctets seconds t → IsDateTime seconds t
 of_octets seconds t o =
     let ys : List ℕ = o.y1 ∷ o.y2 ∷ o.y3 ∷ o.y4 ∷ [] in

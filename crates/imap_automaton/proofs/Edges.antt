@@ -43,6 +43,7 @@ word_le place key at fits = leb-true _ _ (and_parts (nat_le at (length (key_text
 word_among : (place : Place) (key : Key) (at : ℕ) → SymFits (sym.Word place key at) ≡ true → is_among key (keys place) ≡ true
 word_among place key at fits = (and_parts (nat_le at (length (key_text key))) (is_among key (keys place)) fits).1
 
+-- a fitting symbol reads an octet and any text that its rule still reads after it
 pub edge_back : (s : Sym) (c : ℕ) (t : List ℕ) → SymFits s ≡ true → AfterMove (rule_of s c) t → Lang s (c ∷ t)
 edge_back (sym.Line s) c t fits h = line_edge_back s c t fits h
 edge_back (sym.Word place key at) c t fits h = word_back place key at c t (word_le place key at fits) (word_among place key at fits) h
@@ -57,6 +58,7 @@ edge_back (sym.Str s) c t fits h = string_back s c t fits h
 edge_back (sym.Value s) c t fits h = value_back s c t h
 edge_back (sym.Folder s) c t fits h = folder_back s c t h
 
+-- where a fitting symbol reads an octet and a text, its rule still reads the text after the octet
 pub edge_forth : (s : Sym) (c : ℕ) (t : List ℕ) → SymFits s ≡ true → Lang s (c ∷ t) → AfterMove (rule_of s c) t
 edge_forth (sym.Line s) c t fits h = line_edge_forth s c t fits h
 edge_forth (sym.Word place key at) c t fits h = word_forth place key at c t (word_le place key at fits) (word_among place key at fits) h
@@ -120,6 +122,7 @@ ends_by (sym.Str str.AtomTilde) c may h e =
     ∙ cond-false (is_atom c) (move.One (sym.Names names.AtomRest)) move.Yield (stop_no_atom c e)
 ends_by _ c may h e = absurd cc
 
+-- the texts of a symbol that begins with a stop begin with one
 pub begin_stops : (s : Sym) (c : ℕ) (t : List ℕ) → begins s ≡ true → Lang s (c ∷ t) → stops c ≡ true
 begin_stops (sym.Item item.More) c t b h = items_stop h.0 c t h.1
 begin_stops (sym.Names names.More) c t b h = more_stops h.0 c t h.2
@@ -131,6 +134,7 @@ begin_stops (sym.Folder folder.Counts) c t b h = counts_stop c t h
 begin_stops (sym.Folder folder.MoreCounts) c t b h = more_stop h.0 c t h.1
 begin_stops _ c t b h = absurd cc
 
+-- each fitting symbol reads some text
 pub example : (s : Sym) → SymFits s ≡ true → (t : List ℕ) × Lang s t
 example (sym.Line s) fits = line_example s fits
 example (sym.Word place key at) fits = word_example place key at (word_le place key at fits) (word_among place key at fits)
@@ -145,6 +149,7 @@ example (sym.Str s) fits = string_example s fits
 example (sym.Value s) fits = value_example s
 example (sym.Folder s) fits = folder_example s
 
+-- no symbol that begins with a stop may end before an octet
 pub begin_no_yield : (s : Sym) → begins s ≡ true → may_yield s ≡ true → ⊥
 begin_no_yield (sym.Item item.More) b y = cc
 begin_no_yield (sym.Names names.More) b y = cc

@@ -62,6 +62,7 @@ fine ends yields room small (move.Two a b) =
     small && SymFits a && SymFits b && (not (ends_open a) || begins b) && (not (ends_open b) || ends) && nat_le (need a + 1) room && nat_le (need b) room
     && nat_le (sym_left a + sym_left b) 50000000
 
+-- the move that a test chooses is fine if each of the two is where it is chosen
 pub fine_by : (o y : Bool) (r : ℕ) (s b : Bool) (m n : Move Sym) → (b ≡ true → fine o y r s m ≡ true) → (b ≡ false → fine o y r s n ≡ true) → fine o y r s (cond b m n) ≡ true
 fine_by o y r s true m n f g = f refl
 fine_by o y r s false m n f g = g refl
@@ -527,6 +528,7 @@ folder_fine folder.MoreCounts c = grind arith
 
 -- ---- all
 
+-- each move of a fitting symbol that isn't within a literal is fine
 pub move_fine : (s : Sym) (c : ℕ) → is_octets s ≡ false → SymFits s ≡ true → fine (ends_open s) (may_yield s) (need s) (nat_lt c 256) (rule_of s c) ≡ true
 move_fine (sym.Line s) c o fits = line_fine s c fits
 move_fine (sym.Word p k at) c o fits = word_fine p k at c (and_parts (nat_le at (length (key_text k))) (is_among k (keys p)) fits).1

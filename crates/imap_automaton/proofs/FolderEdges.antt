@@ -282,6 +282,7 @@ more_at (k ∷ cs) c t h =
 
 -- ---- the group
 
+-- a symbol of a LIST or a STATUS reads an octet and any text that its rule still reads after it
 pub folder_back : (s : Folder) (c : ℕ) (t : List ℕ) → AfterMove (folder_rule s c) t → FolderLang s (c ∷ t)
 folder_back folder.Attributes c t h = attributes_back c t h
 folder_back folder.Delimiter c t h = delimiter_back c t h
@@ -296,6 +297,7 @@ folder_back folder.Count c t h = count_back c t h
 folder_back folder.CountWord c t h = word_back c t h
 folder_back folder.MoreCounts c t h = more_back c t h
 
+-- where a symbol of a LIST or a STATUS reads an octet and a text, its rule still reads the text after the octet
 pub folder_forth : (s : Folder) (c : ℕ) (t : List ℕ) → FolderLang s (c ∷ t) → AfterMove (folder_rule s c) t
 folder_forth folder.Attributes c t h = attributes_forth c t h
 folder_forth folder.Delimiter c t h = delimiter_forth c t h
@@ -322,6 +324,7 @@ no_more_counts : (cs : List (List ℕ × ℕ)) → IsMoreCounts cs [] → ⊥
 no_more_counts [] h = cc
 no_more_counts (k ∷ cs) h = let e = h.2 in cc
 
+-- no symbol of a LIST or a STATUS reads the empty text
 pub folder_empty : (s : Folder) → FolderLang s [] → ⊥
 folder_empty folder.Attributes h = let e = h.1 in cc
 folder_empty folder.Delimiter h = no_delimiter h.0 h.1
@@ -337,13 +340,16 @@ folder_empty folder.Count h = mid h.word (h.digits ++ h.rest) 32 h.whole
 folder_empty folder.CountWord h = mid h.word (h.digits ++ h.rest) 32 h.whole
 folder_empty folder.MoreCounts h = no_more_counts h.0 h.1
 
+-- what follows the name of a LIST begins with a stop
 pub end_stops : (c : ℕ) (t : List ℕ) → IsListEnd (c ∷ t) → stops c ≡ true
 end_stops c t (inl e) = is_true_at stops c 13 (cons_head c 13 t (10 ∷ []) e) refl
 end_stops c t (inr v) = is_true_at stops c 32 (cons_head c 32 t (v.0 ++ crlf) v.1) refl
 
+-- what follows the name of a STATUS begins with a stop
 pub counts_stop : (c : ℕ) (t : List ℕ) → CountsLine (c ∷ t) → stops c ≡ true
 counts_stop c t h = is_true_at stops c 32 (cons_head c 32 t h.0 h.1) refl
 
+-- what follows a count of a STATUS begins with a stop
 pub more_stop : (cs : List (List ℕ × ℕ)) (c : ℕ) (t : List ℕ) → IsMoreCounts cs (c ∷ t) → stops c ≡ true
 more_stop [] c t e = is_true_at stops c 41 (cons_head c 41 t crlf e) refl
 more_stop (k ∷ cs) c t h = is_true_at stops c 32 (cons_head c 32 t (h.0 ++ h.1) h.2) refl
@@ -362,6 +368,7 @@ one_digit = record { each = (refl, tt); some = omega arith; few = omega arith; m
 word_some : WordCount (Each is_status_word) (codes " 1)" ++ crlf)
 word_some = record { word = []; digits = 49 ∷ []; rest = 41 ∷ crlf; whole = refl; front = tt; number = one_digit; more = ([], refl) }
 
+-- each symbol of a LIST or a STATUS reads some text
 pub folder_example : (s : Folder) → (t : List ℕ) × FolderLang s t
 folder_example folder.Attributes = (
   32 ∷ codes "nil" ++ 32 ∷ 97 ∷ crlf,

@@ -63,6 +63,7 @@ more_back (suc k) s c t e h = record {
   goes_on = h.goes_on;
 }
 
+-- in text outside literals, an octet is read and any text that its rule still reads after it
 pub text_back : (s : Pending) (c : ℕ) (t : List ℕ) → AfterMove (text_rule s c) t → FreeLang (free.Text s) (c ∷ t)
 text_back s c t h = from_test (c == 13) (free_end s) (cond (is_text c) (move.One (sym.Free (free.Text (pend s c)))) move.Fail) t (FreeLang (free.Text s) (c ∷ t))
     (λ e k. subst (λ (n : ℕ). FreeLang (free.Text s) (n ∷ t)) (sym (eqb-true c 13 e)) (end_back s t k))
@@ -121,6 +122,7 @@ free_at : (k : ℕ) (s : Pending) (c : ℕ) (t : List ℕ) → IsFreeFrom k s (c
 free_at zero s c t h = at_end s c t h.text h.whole h.text_is h.no_count
 free_at (suc k) s c t h = at_literal k s c h.count t h.text h.octets h.rest h.whole h.text_is h.counted h.most h.length_is h.inside h.goes_on
 
+-- where an octet and a text are read in text outside literals, the rule still reads the text after the octet
 pub text_forth : (s : Pending) (c : ℕ) (t : List ℕ) → FreeLang (free.Text s) (c ∷ t) → AfterMove (text_rule s c) t
 text_forth s c t h = free_at h.0 s c t h.1
 
@@ -138,6 +140,7 @@ free_none : (k : ℕ) (s : Pending) → IsFreeFrom k s [] → ⊥
 free_none zero s h = mid h.text (10 ∷ []) 13 h.whole
 free_none (suc k) s h = mid h.text (10 ∷ h.octets) 13 (sym (no_append (h.text ++ 13 ∷ 10 ∷ h.octets) h.rest h.whole).0)
 
+-- `x` and CR LF are the rest of a text with literals, whatever count the text so far ends in
 pub free_some : (s : Pending) → FreeLang (free.Text s) (120 ∷ crlf)
 free_some pending.Nothing = (0, record { text = 120 ∷ []; whole = refl; text_is = (refl, tt); no_count = tt })
 free_some (pending.Open v n) = (0, record { text = 120 ∷ []; whole = refl; text_is = (refl, tt); no_count = tt })
@@ -148,6 +151,7 @@ free_some (pending.Closed v) = (0, record { text = 120 ∷ []; whole = refl; tex
 after_nothing : (n : ℕ) (t : List ℕ) → n ≡ 0 → t ≡ [] → OctetsRest n t
 after_nothing n t e f = record { counted = cc; inside = subst (λ (u : List ℕ). Each is_inside u) (sym f) tt }
 
+-- after the CR of a literal, an octet is read and any text that its rule still reads after it
 pub break_back : (n c : ℕ) (t : List ℕ) → AfterMove (free_rule (free.Break n) c) t → FreeLang (free.Break n) (c ∷ t)
 break_back n c t h = from_test (c == 10) (cond (n == 0) move.End (move.One (sym.Free (free.Octets n)))) move.Fail t (FreeLang (free.Break n) (c ∷ t))
     (λ e k. (
@@ -157,12 +161,14 @@ break_back n c t h = from_test (c == 10) (cond (n == 0) move.End (move.One (sym.
     ))
     (λ e k. absurd k) h
 
+-- where an octet and a text are read after the CR of a literal, the rule still reads the text after the octet
 pub break_forth : (n c : ℕ) (t : List ℕ) → FreeLang (free.Break n) (c ∷ t) → AfterMove (free_rule (free.Break n) c) t
 break_forth n c t h =
     let r : OctetsRest n t = subst (OctetsRest n) (sym (cons_tail c 10 t h.0 h.1)) h.2 in
     at_true (c == 10) (cond (n == 0) move.End (move.One (sym.Free (free.Octets n)))) move.Fail t (eq-eqb c 10 (cons_head c 10 t h.0 h.1))
     (to_test (n == 0) move.End (move.One (sym.Free (free.Octets n))) t (λ e. nil_from_length t (r.counted ∙ eqb-true n 0 e)) (λ e. r))
 
+-- within a literal, an octet is read and any text that its rule still reads after it
 pub octets_back : (n c : ℕ) (t : List ℕ) → AfterMove (free_rule (free.Octets n) c) t → FreeLang (free.Octets n) (c ∷ t)
 octets_back n c t h = from_test (nat_le 256 c && nat_lt c 512 && nat_lt 0 n) (cond (n == 1) move.End (move.One (sym.Free (free.Octets (n - 1))))) move.Fail t (OctetsRest n (c ∷ t))
     (λ e k.
@@ -172,6 +178,7 @@ octets_back n c t h = from_test (nat_le 256 c && nat_lt c 512 && nat_lt 0 n) (co
     (λ f l. record { counted = omega (arith, l.counted, ltb-true 0 n b.1); inside = (b.0, l.inside) }) k)
     (λ e k. absurd k) h
 
+-- where an octet and a text are read within a literal, the rule still reads the text after the octet
 pub octets_forth : (n c : ℕ) (t : List ℕ) → FreeLang (free.Octets n) (c ∷ t) → AfterMove (free_rule (free.Octets n) c) t
 octets_forth n c t h =
     at_true (nat_le 256 c && nat_lt c 512 && nat_lt 0 n) (cond (n == 1) move.End (move.One (sym.Free (free.Octets (n - 1))))) move.Fail t
@@ -183,26 +190,31 @@ inside : (n : ℕ) → Each is_inside (replicate n 256)
 inside zero = tt
 inside (suc n) = (refl, inside n)
 
+-- n octets that are 0 within a literal are the rest of a literal with n octets to come
 pub octets_some : (n : ℕ) → OctetsRest n (replicate n 256)
 octets_some n = record { counted = length-replicate n 256; inside = inside n }
 
 -- ---- the group
 
+-- a symbol of text with literals reads an octet and any text that its rule still reads after it
 pub free_back : (s : Free) (c : ℕ) (t : List ℕ) → AfterMove (free_rule s c) t → FreeLang s (c ∷ t)
 free_back (free.Text s) c t h = text_back s c t h
 free_back (free.Break n) c t h = break_back n c t h
 free_back (free.Octets n) c t h = octets_back n c t h
 
+-- where a symbol of text with literals reads an octet and a text, its rule still reads the text after the octet
 pub free_forth : (s : Free) (c : ℕ) (t : List ℕ) → FreeLang s (c ∷ t) → AfterMove (free_rule s c) t
 free_forth (free.Text s) c t h = text_forth s c t h
 free_forth (free.Break n) c t h = break_forth n c t h
 free_forth (free.Octets n) c t h = octets_forth n c t h
 
+-- no fitting symbol of text with literals reads the empty text
 pub free_empty : (s : Free) → FreeFits s ≡ true → FreeLang s [] → ⊥
 free_empty (free.Text s) fits h = free_none h.0 s h.1
 free_empty (free.Break n) fits h = let e = h.1 in cc
 free_empty (free.Octets n) fits h = omega (arith, h.counted, ltb-true _ _ (and_parts (nat_lt 0 n) (nat_le n 50000000) fits).0)
 
+-- each symbol of text with literals reads some text
 pub free_example : (s : Free) → (t : List ℕ) × FreeLang s t
 free_example (free.Text s) = (120 ∷ crlf, free_some s)
 free_example (free.Break n) = (10 ∷ replicate n 256, (replicate n 256, refl, octets_some n))

@@ -76,9 +76,11 @@ number_forth v n c t h =
     (cond (nat_lt 0 v) move.Yield move.Fail) t k.0
     (at_true (next_fits v n c) (move.One (sym.Item (item.Number (10 * v + (c - 48)) (n + 1)))) move.Fail t k.1 k.2)
 
+-- a stop is no digit
 pub stop_no_digit : (c : ℕ) → stops c ≡ true → is_digit c ≡ false
 stop_no_digit c e = grind arith
 
+-- a nonzero number that is whole ends before a stop
 pub number_ends : (v n c : ℕ) → NumberRest v n [] → stops c ≡ true → number_rule v n c ≡ move.Yield
 number_ends v n c h e =
     cond-false (is_digit c) (cond (nat_lt n 10 && nat_le (10 * v + (c - 48)) 4294967295 && not (10 * v + (c - 48) == 0 && n == 9))
@@ -104,6 +106,7 @@ ended true false r s e = absurd cc
 ended false q true s e = refl
 ended false q false s e = absurd cc
 
+-- a nonzero number that fits and ends before an octet is whole
 pub number_yields : (v n c : ℕ) → ItemFits (item.Number v n) ≡ true → number_rule v n c ≡ move.Yield → NumberRest v n []
 number_yields v n c fits e =
     let pos : nat_lt 0 v ≡ true = ended (is_digit c) (next_fits v n c) (nat_lt 0 v) (sym.Item (item.Number (10 * v + (c - 48)) (n + 1))) e in
@@ -138,12 +141,14 @@ long_forth v n c t h =
     (and_from _ _ (lt-ltb n 19 (omega (arith, few))) (le-leb w 9223372036854775807 (omega (arith, most, mono))))
     (record { each = h.each.1; some = omega arith; few = omega (arith, few); most = h.most }))
 
+-- a 63-bit number that is whole ends before a stop
 pub long_ends : (v n c : ℕ) → LongRest v n [] → stops c ≡ true → long_rule v n c ≡ move.Yield
 long_ends v n c h e =
     cond-false (is_digit c) (cond (long_next v n c) (move.One (sym.Item (item.Long (10 * v + (c - 48)) (n + 1)))) move.Fail) (cond (nat_lt 0 n) move.Yield move.Fail)
     (stop_no_digit c e)
     ∙ cond-true (nat_lt 0 n) move.Yield move.Fail (lt-ltb 0 n (let s = h.some in omega (arith, s)))
 
+-- a 63-bit number that fits and ends before an octet is whole
 pub long_yields : (v n c : ℕ) → ItemFits (item.Long v n) ≡ true → long_rule v n c ≡ move.Yield → LongRest v n []
 long_yields v n c fits e =
     let b = and_parts (nat_le n 19 && nat_le v 9223372036854775807) (nat_lt 0 n || v == 0) fits in
@@ -161,11 +166,13 @@ long_open_forth c t h =
     at_true (c == 40) (move.Two (sym.Item (item.Long 0 0)) (sym.Line (line.Fixed phrase.Close 0))) move.Fail t (eq-eqb c 40 (cons_head c 40 t (h.0 ++ 41 ∷ []) h.1))
     (record { front = h.0; back = 41 ∷ []; whole = cons_tail c 40 t (h.0 ++ 41 ∷ []) h.1; first = h.2; second = refl })
 
+-- a 63-bit number in brackets isn't the empty text
 pub long_open_none : ItemLang item.LongOpen [] → ⊥
 long_open_none h = let e = h.1 in cc
 
 -- ---- an item is a word, a space and a value
 
+-- what the automaton reads from the word of an item on is an item
 pub item_from : (t : List ℕ) → WordRest place.Item [] t → (i : items.Item) × items.IsItem i t
 item_from t h = by h.says
   where
@@ -211,6 +218,7 @@ named_to k n v t m e is b = record {
   says = inl (k, m, is, b);
 }
 
+-- an item is read by the automaton from its word on
 pub item_to : (i : items.Item) (t : List ℕ) → items.IsItem i t → WordRest place.Item [] t
 item_to (items.Uid n) t h = named_to key.Uid h.name h.value t (inl refl) h.whole h.item.0 (h.value, refl, number_from n h.value h.item.1)
 item_to (items.Flags ns) t h = named_to key.Flags h.name h.value t (inr (inl refl)) h.whole h.item.0 (h.value, refl, (ns, h.item.1))
@@ -270,6 +278,7 @@ more_at (i ∷ is) c t h =
 
 -- ---- the group
 
+-- a symbol of the items of a FETCH reads an octet and any text that its rule still reads after it
 pub item_back : (s : Item) (c : ℕ) (t : List ℕ) → AfterMove (item_rule s c) t → ItemLang s (c ∷ t)
 item_back item.Open c t h = open_back c t h
 item_back item.More c t h = more_back c t h
@@ -277,6 +286,7 @@ item_back (item.Number v n) c t h = number_back v n c t h
 item_back item.LongOpen c t h = long_open_back c t h
 item_back (item.Long v n) c t h = long_back v n c t h
 
+-- where a symbol of the items of a FETCH reads an octet and a text, its rule still reads the text after the octet
 pub item_forth : (s : Item) (c : ℕ) (t : List ℕ) → ItemLang s (c ∷ t) → AfterMove (item_rule s c) t
 item_forth item.Open c t h = open_forth c t h
 item_forth item.More c t h = more_at h.0 c t h.1
@@ -288,12 +298,15 @@ more_none : (is : List items.Item) → items.IsMore is [] → ⊥
 more_none [] h = cc
 more_none (i ∷ is) h = let e = h.2 in cc
 
+-- the items of a FETCH in brackets aren't the empty text
 pub open_none : ItemLang item.Open [] → ⊥
 open_none h = let e = h.2 in cc
 
+-- what follows an item isn't the empty text
 pub more_empty : ItemLang item.More [] → ⊥
 more_empty h = more_none h.0 h.1
 
+-- what follows an item begins with a stop
 pub items_stop : (is : List items.Item) (c : ℕ) (t : List ℕ) → items.IsMore is (c ∷ t) → stops c ≡ true
 items_stop [] c t h = is_true_at stops c 41 (cons_head c 41 t crlf h) refl
 items_stop (i ∷ is) c t h = is_true_at stops c 32 (cons_head c 32 t (h.0 ++ h.1) h.2) refl
@@ -310,6 +323,7 @@ one_item = (
   },
 )
 
+-- a nonzero number that fits so far has some rest
 pub number_some : (v n : ℕ) → ItemFits (item.Number v n) ≡ true → (t : List ℕ) × NumberRest v n t
 number_some v n fits =
     let a = and_parts (nat_le n 10 && nat_le v 4294967295 && (nat_lt 0 n || v == 0)) (not (v == 0 && n == 10)) fits in
@@ -346,6 +360,7 @@ long_some v n fits =
     by zero few most e = let z = eqb-true v 0 e in (48 ∷ [], record { each = (refl, tt); some = omega arith; few = omega arith; most = omega (arith, z) })
     by (suc n) few most e = ([], record { each = tt; some = omega arith; few = omega (arith, few); most = most })
 
+-- each fitting symbol of the items of a FETCH reads some text
 pub item_example : (s : Item) → ItemFits s ≡ true → (t : List ℕ) × ItemLang s t
 item_example item.Open fits = (
   40 ∷ codes "uid 1" ++ 41 ∷ crlf,

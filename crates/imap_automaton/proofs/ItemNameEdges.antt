@@ -83,6 +83,7 @@ digits_back : (c : ℕ) (t : List ℕ) (b : Bool) → (c == 62) ≡ b → (c == 
 digits_back c t true e a h = ([], ap (λ (d : ℕ). d ∷ t) (eqb-true c 62 e) ∙ ap (λ (u : List ℕ). 62 ∷ u) h, tt)
 digits_back c t false e a h = (c ∷ h.0, ap (λ (u : List ℕ). c ∷ u) h.1, (other (c == 62) (is_digit c) e a, h.2))
 
+-- an octet that goes on with a name, and then a rest of the name after it, are a rest of the name before it
 pub form_back : (s : ItemName) (c : ℕ) (t : List ℕ) → takes s c ≡ true → NameForm (next_name s c) t → NameForm s (c ∷ t)
 form_back name.Plain c t e h = plain_back c t (c == 91) refl e h
 form_back name.Section c t e h = section_back c t (c == 93) refl e h
@@ -182,6 +183,7 @@ partial_goes : (c : ℕ) (t : List ℕ) → IsPartial (c ∷ t) → Goes name.Af
 partial_goes c t (inl e) = absurd cc
 partial_goes c t (inr h) = (eq-eqb c 60 (cons_head c 60 t (h.0 ++ 62 ∷ []) h.1), (h.0, cons_tail c 60 t (h.0 ++ 62 ∷ []) h.1, h.2, h.3))
 
+-- the first octet of a name's rest goes on with the name, or begins a quoted text in its section
 pub form_forth : (s : ItemName) (c : ℕ) (t : List ℕ) → NameForm s (c ∷ t) → Quotes s c t ⊎ Goes s c t
 form_forth name.Plain c t h = inr (plain_goes c t h)
 form_forth name.Section c t h = section_goes c t h.rest h.units h.whole h.units_are h.rest_is
@@ -211,6 +213,7 @@ quoted_back name.Section c t e i h =
     }
 quoted_back _ c t e i h = absurd cc
 
+-- a symbol of an item's name reads an octet and any text that its rule still reads after it
 pub item_name_back : (s : ItemName) (c : ℕ) (t : List ℕ) → AfterMove (item_name_rule s c) t → NameRest s (c ∷ t)
 item_name_back s c t h = from_test (c == 32 && may_end s) (move.One (sym.Value value.Start))
     (cond (c == 34 && in_section s) (move.Two (sym.Str str.Quoted) (sym.ItemName name.Section)) (cond (takes s c) (move.One (sym.ItemName (next_name s c))) move.Fail)) t
@@ -270,9 +273,11 @@ name_at s c t (d ∷ x) v e form h =
       | inr g ↦ goes_after s c t g.0 (record { rest = x; value = v; whole = rest; form = g.1; value_is = h })
     ]
 
+-- where a symbol of an item's name reads an octet and a text, its rule still reads the text after the octet
 pub item_name_forth : (s : ItemName) (c : ℕ) (t : List ℕ) → NameRest s (c ∷ t) → AfterMove (item_name_rule s c) t
 item_name_forth s c t h = name_at s c t h.rest h.value h.whole h.form h.value_is
 
+-- no symbol of an item's name reads the empty text
 pub item_name_empty : (s : ItemName) → NameRest s [] → ⊥
 item_name_empty s h = mid h.rest h.value 32 h.whole
 
@@ -287,11 +292,13 @@ form_example name.End = ([], refl)
 atom_value : IsValue 64 (codes "a")
 atom_value = inl (codes "a", inl (((refl, tt), omega arith), refl))
 
+-- each symbol of an item's name reads some text
 pub item_name_example : (s : ItemName) → (t : List ℕ) × NameRest s t
 item_name_example s =
     let f = form_example s in
     (f.0 ++ 32 ∷ codes "a", record { rest = f.0; value = codes "a"; whole = refl; form = f.1; value_is = atom_value })
 
+-- an octet that goes on with a name stands outside literals
 pub takes_small : (s : ItemName) (c : ℕ) → takes s c ≡ true → nat_lt c 256 ≡ true
 takes_small name.Plain c e = grind arith
 takes_small name.Section c e = grind arith
@@ -320,6 +327,7 @@ lower_next name.Part c = refl
 lower_next name.Digits c = ap (λ (b : Bool). cond b name.End name.Digits) (sym (lower_62 c))
 lower_next name.End c = refl
 
+-- reading octets of a name and one more is reading the octets and then the one
 pub next_from : (s : ItemName) (x : List ℕ) (c : ℕ) → name_from s (x ++ c ∷ []) ≡ next_name (name_from s x) c
 next_from s [] c = refl
 next_from s (d ∷ x) c = next_from (next_name s d) x c
@@ -346,6 +354,7 @@ rest_goes s c t (d ∷ x) v a e form h = record {
   value_is = h;
 }
 
+-- what follows an octet of an atom is the rest of a name that began with that octet too, in lower case, and its value
 pub name_goes : (begun : List ℕ) (c : ℕ) (t : List ℕ) → is_atom c ≡ true → NameRest (name_from name.Plain begun) (c ∷ t) → NameRest (name_from name.Plain (begun ++ lower c ∷ [])) t
 name_goes begun c t e h = subst (λ (s : ItemName). NameRest s t) (sym (next_from name.Plain begun (lower c)))
     (rest_goes (name_from name.Plain begun) c t h.rest h.value e h.whole h.form h.value_is)
@@ -371,6 +380,7 @@ pub record Walked (s : ItemName) (w n tail v : List ℕ) : Type 0 where
   pub back : tail ≡ rest ++ 32 ∷ v
   pub form : NameForm (name_from s (map lower w)) rest
 
+-- octets of an atom at the front of a name, a space and a value are a front of the name, and its rest goes on from there
 pub walk : (w : List ℕ) (s : ItemName) (n tail v : List ℕ) → Each is_atom w → w ++ tail ≡ n ++ 32 ∷ v → NameForm s n → Walked s w n tail v
 walk [] s n tail v each e h = record { rest = n; whole = refl; back = e; form = h }
 walk (c ∷ w) s [] tail v each e h = absurd (no_space c each.0 (cons_head c 32 (w ++ tail) v e))

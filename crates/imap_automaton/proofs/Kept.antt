@@ -74,6 +74,7 @@ fine_yield o y r s m e f = sym (ap (fine o y r s) e) ∙ f
 
 -- ---- symbols
 
+-- a symbol that may end before an octet ends open
 pub yield_open : (s : Sym) → may_yield s ≡ true → ends_open s ≡ true
 yield_open (sym.Item (item.Number v n)) e = refl
 yield_open (sym.Item (item.Long v n)) e = refl
@@ -115,14 +116,17 @@ by_octets P (sym.Str q) f g = g refl
 by_octets P (sym.Value q) f g = g refl
 by_octets P (sym.Folder q) f g = g refl
 
+-- each move of a fitting symbol leaves symbols that fit and may stand in its place
 pub moves_good : (s : Sym) (c : ℕ) → SymFits s ≡ true → move_good responses (ends_open s) (rule_of s c) ≡ true
 moves_good s c = by_octets (λ s. SymFits s ≡ true → move_good responses (ends_open s) (rule_of s c) ≡ true) s (λ n fits. octets_good n c fits)
     (λ o fits. fine_good (ends_open s) (may_yield s) (need s) (nat_lt c 256) (rule_of s c) (yield_open s) (move_fine s c o fits))
 
+-- each move of a fitting symbol leaves symbols that need no more room than it
 pub moves_room : (s : Sym) (c : ℕ) → SymFits s ≡ true → move_needs responses (need s) (rule_of s c) ≡ true
 moves_room s c = by_octets (λ s. SymFits s ≡ true → move_needs responses (need s) (rule_of s c) ≡ true) s (λ n fits. octets_room n c)
     (λ o fits. fine_room (ends_open s) (may_yield s) (need s) (nat_lt c 256) (rule_of s c) (move_fine s c o fits))
 
+-- a fitting symbol ends before an octet only if it may
 pub moves_yield : (s : Sym) (c : ℕ) → SymFits s ≡ true → rule_of s c ≡ move.Yield → may_yield s ≡ true
 moves_yield s c = by_octets (λ s. SymFits s ≡ true → rule_of s c ≡ move.Yield → may_yield s ≡ true) s (λ n fits e. absurd (octets_no_yield n c e))
     (λ o fits e. fine_yield (ends_open s) (may_yield s) (need s) (nat_lt c 256) (rule_of s c) e (move_fine s c o fits))
@@ -131,16 +135,20 @@ moves_yield s c = by_octets (λ s. SymFits s ≡ true → rule_of s c ≡ move.Y
 pub large : (s : Sym) (c : ℕ) → is_octets s ≡ false → SymFits s ≡ true → nat_lt c 256 ≡ false → is_go (rule_of s c) ≡ false
 large s c o fits e = fine_small (ends_open s) (may_yield s) (need s) (nat_lt c 256) (rule_of s c) e (move_fine s c o fits)
 
+-- a fitting symbol within a literal has octets to come
 pub first_left : (n : ℕ) → SymFits (sym.Free (free.Octets n)) ≡ true → nat_lt 0 n ≡ true
 first_left n fits = (and_parts (nat_lt 0 n) (nat_le n 50000000) fits).0
 
+-- a symbol that isn't within a literal has no octets of one to come
 pub outside_left : (s : Sym) → is_octets s ≡ false → sym_left s ≡ 0
 outside_left (sym.Free (free.Octets n)) e = absurd cc
 outside_left _ e = refl
 
+-- a symbol other than that of a literal's octets isn't within a literal
 pub outside_is : (s : Sym) → is_octets s ≡ false → inside responses s ≡ false
 outside_is s e = ap (nat_lt 0) (outside_left s e)
 
+-- a move within a literal leaves at least one octet fewer to come, and another at most the octets of a literal more
 pub moves_left : (s : Sym) (c : ℕ) → SymFits s ≡ true → Leaves literal_limit (inside responses s) (sym_left s) (pushed_left responses (rule_of s c))
 moves_left s c = by_octets (λ s. SymFits s ≡ true → Leaves literal_limit (inside responses s) (sym_left s) (pushed_left responses (rule_of s c))) s
     (λ n fits. let l = octets_left n c fits in
@@ -148,9 +156,11 @@ moves_left s c = by_octets (λ s. SymFits s ≡ true → Leaves literal_limit (i
     (λ o fits. let l = fine_left (ends_open s) (may_yield s) (need s) (nat_lt c 256) (rule_of s c) (move_fine s c o fits) in
     subst (λ (b : Bool). Leaves literal_limit b (sym_left s) (pushed_left responses (rule_of s c))) (sym (outside_is s o)) (omega (arith, l)))
 
+-- a fitting symbol that ends before an octet reads the empty text
 pub yields : (s : Sym) (c : ℕ) → SymFits s ≡ true → rule_of s c ≡ move.Yield → Lang s []
 yields s c fits e = yield_empty s c (moves_yield s c fits e) fits e
 
+-- each symbol needs room for itself at least
 pub need_some : (s : Sym) → 1 ≤ need s
 need_some (sym.Line line.Start) = omega arith
 need_some (sym.Word place.Item k at) = omega arith

@@ -29,5 +29,6 @@ lower_takes name.Part c e = grind arith
 lower_takes name.Digits c e = grind arith
 lower_takes name.End c e = absurd cc
 
+-- an octet, in either case, with which a key goes on, goes on with an item's name that began as the key does
 pub key_takes : (begun : List ℕ) (c : ℕ) (k : Key) (y : List ℕ) → begun ++ lower c ∷ y ≡ key_text k → takes (name_from name.Plain begun) c ≡ true
 key_takes begun c k y e = lower_takes (name_from name.Plain begun) c (taken_at name.Plain begun (lower c) y (ap (all_taken name.Plain) e ∙ keys_taken k))

@@ -99,6 +99,7 @@ with_need s n = by_octets (λ s. need (with_left s n) ≡ need s) s (λ k. refl)
 with_open : (s : Sym) (n : ℕ) → ends_open (with_left s n) ≡ ends_open s
 with_open s n = by_octets (λ s. ends_open (with_left s n) ≡ ends_open s) s (λ k. refl) (λ o. ap ends_open (with_outside s n o))
 
+-- the rules of the automaton of responses are those of its languages
 pub responses_lawful : IsLawful responses
 responses_lawful = record {
   back = edge_back;

@@ -473,6 +473,7 @@ start_at response.Other c t h = star_at response.Other c t h.0 h.1 h.2
 
 -- ---- the group
 
+-- a fitting symbol of a line reads an octet and any text that its rule still reads after it
 pub line_edge_back : (s : Line) (c : ℕ) (t : List ℕ) → LineFits s ≡ true → AfterMove (line_rule s c) t → LineLang s (c ∷ t)
 line_edge_back line.Start c t fits h = start_back c t h
 line_edge_back (line.Tag n) c t fits h = tag_back n c t fits h
@@ -482,6 +483,7 @@ line_edge_back line.Text c t fits h = line_back c t h
 line_edge_back (line.Fixed p at) c t fits h = fixed_back p at c t h
 line_edge_back (line.Folded p at) c t fits h = folded_back p at c t h
 
+-- where a fitting symbol of a line reads an octet and a text, its rule still reads the text after the octet
 pub line_edge_forth : (s : Line) (c : ℕ) (t : List ℕ) → LineFits s ≡ true → LineLang s (c ∷ t) → AfterMove (line_rule s c) t
 line_edge_forth line.Start c t fits h = start_at h.0 c t h.1
 line_edge_forth (line.Tag n) c t fits h = tag_at n c t h.tag h.after h.whole h.tag_is h.few h.line
@@ -514,6 +516,7 @@ sequence_none : (v n : ℕ) → SequenceRest v n [] → ⊥
 sequence_none v n (inl r) = mid r.1.more r.0 32 r.1.whole
 sequence_none v n (inr r) = free_empty (free.Text pending.Nothing) refl r.0
 
+-- no fitting symbol of a line reads the empty text
 pub line_empty : (s : Line) → LineFits s ≡ true → LineLang s [] → ⊥
 line_empty line.Start fits h = start_none h.0 h.1
 line_empty (line.Tag n) fits h = mid h.tag h.after 32 h.whole
@@ -556,6 +559,7 @@ tag_example n fits = record {
   line = ok_line.1;
 }
 
+-- each fitting symbol of a line reads some text
 pub line_example : (s : Line) → LineFits s ≡ true → (t : List ℕ) × LineLang s t
 line_example line.Start fits = (42 ∷ 32 ∷ 33 ∷ crlf, (response.Other, (33 ∷ crlf, refl, bang_untagged)))
 line_example (line.Tag n) fits = (32 ∷ ok_line.0, tag_example n fits)

@@ -29,6 +29,7 @@ use Rattle.imap_syntax.specs.Spells.{keywords, IsFlagsLine, Says, IsWordLine}
 
 -- ---- keywords
 
+-- a keyword of lines without a number is the text of a key that counts there
 pub plain_key : (w : List ℕ) → Contains (keywords None) w → (k : Key) × Among k (keys place.Plain) × (w ≡ key_text k)
 plain_key w (zero, lt, e) = (key.Ok, inl refl, sym e)
 plain_key w (suc zero, lt, e) = (key.No, inr (inl refl), sym e)
@@ -223,13 +224,16 @@ plain_says (response.Vanished earlier uids) w tail t h = inl (
 plain_says response.Other w tail t h = inr (stray_to w h.0, (h.1.0, free_to h.1.0 t h.1.1))
 plain_says _ w tail t h = absurd h
 
+-- a word that isn't empty has an octet
 pub word_some : (w : List ℕ) → w ≢ [] → 0 < length w
 word_some [] ne = absurd (ne refl)
 word_some (c ∷ w) ne = omega arith
 
+-- a word that has an octet isn't empty
 pub some_word : (w : List ℕ) → 0 < length w → w ≢ []
 some_word w lt e = omega (arith, lt, ap length e)
 
+-- a line without a number is read by the automaton from its first word on
 pub plain_to : (v : Response) (t : List ℕ) → IsWordLine None v t → WordRest place.Plain [] t
 plain_to v t h = record {
   word = h.word;
@@ -268,6 +272,7 @@ plain_said : (w tail t : List ℕ) → WordSays place.Plain [] w tail t → (v :
 plain_said w tail t (inl k) = said_by_key k.0 w tail t k.2 k.3
 plain_said w tail t (inr s) = (response.Other, (no_plain w s.0, (s.1.0, free_from s.1.0 t s.1.1)))
 
+-- what the automaton reads from the first word after `* ` on is a line without a number
 pub plain_from : (t : List ℕ) → WordRest place.Plain [] t → (v : Response) × IsWordLine None v t
 plain_from t h =
     let s = plain_said (map lower h.word) h.tail t h.says in
@@ -285,6 +290,7 @@ numbered_says n (response.Fetch seq items) w tail t h = inl (key.Fetch, inr (inr
 numbered_says n response.Other w tail t h = inr (stray_numbered n w h.0, (h.1.0, free_to h.1.0 t h.1.1))
 numbered_says n _ w tail t h = absurd h
 
+-- a line after a number is read by the automaton from its first word on
 pub numbered_to : (n : ℕ) (v : Response) (t : List ℕ) → IsWordLine (Some n) v t → WordRest place.Numbered [] t
 numbered_to n v t h = record {
   word = h.word;
@@ -309,6 +315,7 @@ numbered_said : (n : ℕ) (w tail t : List ℕ) → WordSays place.Numbered [] w
 numbered_said n w tail t (inl k) = numbered_by_key n k.0 w tail t k.2 k.3
 numbered_said n w tail t (inr s) = (response.Other, (no_numbered n w s.0, (s.1.0, free_from s.1.0 t s.1.1)))
 
+-- what the automaton reads from the first word after a number on is such a line, whatever the number
 pub numbered_from : (n : ℕ) (t : List ℕ) → WordRest place.Numbered [] t → (v : Response) × IsWordLine (Some n) v t
 numbered_from n t h =
     let s = numbered_said n (map lower h.word) h.tail t h.says in
@@ -322,6 +329,7 @@ tagged_said key.No x tail e b = (status.No, tt, e, b)
 tagged_said key.Bad x tail e b = (status.Bad, tt, e, b)
 tagged_said _ x tail e b = absurd b
 
+-- what the automaton reads after a tag is the word of a status that completes, and a rest with a code
 pub tagged_from : (t : List ℕ) → WordRest place.Tagged [] t → (s : Status) × (code : Code) × Completes s × Then (IsWord (word_of s)) (IsCodedRest code) t
 tagged_from t h = by h.says
   where
@@ -331,9 +339,11 @@ tagged_from t h = by h.says
         (s.0, code_in h.tail, s.1, record { front = h.word; back = h.tail; whole = h.whole; first = s.2; second = (s.3, code_has h.tail) })
     by (inr s) = absurd s.1
 
+-- an octet whose lower case may stand in a key may stand in a word
 pub lower_word : (c : ℕ) → is_key_octet (lower c) ≡ true → is_word c ≡ true
 lower_word c e = grind arith
 
+-- octets that are a key's in lower case may all stand in a word
 pub word_of_key : (x y : List ℕ) → Each is_key_octet y → map lower x ≡ y → Each is_word x
 word_of_key [] y h e = tt
 word_of_key (c ∷ x) [] h e = absurd cc
@@ -353,6 +363,7 @@ tagged_key status.Bad h = (key.Bad, inr (inr (inl refl)), refl, λ u r. r)
 tagged_key status.Preauth h = absurd h
 tagged_key status.Bye h = absurd h
 
+-- the word of a status that completes, and a rest with a code, are read by the automaton after a tag
 pub tagged_to : (s : Status) (code : Code) (t : List ℕ) → Completes s → Then (IsWord (word_of s)) (IsCodedRest code) t → WordRest place.Tagged [] t
 tagged_to s code t done h =
     let k = tagged_key s done in

@@ -157,6 +157,7 @@ first_forth c t h = first_at h.0 c t h.1 h.2
 
 -- ---- the group
 
+-- a symbol of names in brackets reads an octet and any text that its rule still reads after it
 pub names_back : (s : Names) (c : ℕ) (t : List ℕ) → AfterMove (names_rule s c) t → NamesLang s (c ∷ t)
 names_back names.Open c t h = open_back c t h
 names_back names.First c t h = first_back c t h
@@ -165,6 +166,7 @@ names_back names.Name c t h = name_back c t h
 names_back names.Atom c t h = start_back c t h
 names_back names.AtomRest c t h = rest_back c t h
 
+-- where a symbol of names in brackets reads an octet and a text, its rule still reads the text after the octet
 pub names_forth : (s : Names) (c : ℕ) (t : List ℕ) → NamesLang s (c ∷ t) → AfterMove (names_rule s c) t
 names_forth names.Open c t h = open_forth c t h
 names_forth names.First c t h = first_forth c t h
@@ -186,10 +188,12 @@ names_empty names.Name h = absurd (no_name h)
 names_empty names.Atom h = absurd (omega (arith, h.1))
 names_empty names.AtomRest h = refl
 
+-- what follows a name begins with a stop
 pub more_stops : (ns : List (List ℕ)) (c : ℕ) (t : List ℕ) → c ∷ t ≡ spaced ns ++ 41 ∷ [] → stops c ≡ true
 more_stops [] c t e = is_true_at stops c 41 (cons_head c 41 t [] e) refl
 more_stops (n ∷ ns) c t e = is_true_at stops c 32 (cons_head c 32 t ((n ++ spaced ns) ++ 41 ∷ []) e) refl
 
+-- each symbol of names in brackets reads some text
 pub names_example : (s : Names) → (t : List ℕ) × NamesLang s t
 names_example names.Open = (40 ∷ 41 ∷ [], ([], (tt, refl)))
 names_example names.First = (41 ∷ [], ([], tt, refl))

@@ -82,6 +82,7 @@ formed : (n : List ℕ) → 0 < length n → NameForm name.Plain n → IsFormed 
 formed n some (inl h) = inl (h, some)
 formed n some (inr h) = inr h
 
+-- where the first word is no key, a name, a space and a value are an item that is passed over
 pub other_from : (t word tail : List ℕ) → t ≡ word ++ tail → Each is_atom word → 0 < length word → is_atom (get_or tail 0 0) ≡ false
     → ((k : Key) → Among k (keys place.Item) → map lower word ≡ key_text k → ⊥) → NameRest name.Plain t → items.IsItem items.Other t
 other_from t word tail e each some longest no_key h =
@@ -156,6 +157,7 @@ rest_small : (s : ItemName) (rest v tail : List ℕ) → NameForm s rest → tai
 rest_small s [] v tail h e = (ap (λ (u : List ℕ). nat_lt (get_or u 0 0) 256) e, (let l = ap length e in omega (arith, l)))
 rest_small s (c ∷ rest) v tail h e = (ap (λ (u : List ℕ). nat_lt (get_or u 0 0) 256) e ∙ quote_or_small s c rest h, (let l = ap length e in omega (arith, l)))
 
+-- an item that is passed over begins with a word that is no key
 pub other_word : (t : List ℕ) → items.IsItem items.Other t → OtherWord t
 other_word t h =
     let c = cut is_atom t refl in
@@ -175,6 +177,7 @@ other_word t h =
       no_key = λ k m is. no_key h.name h.value c.front c.back n (sym c.whole ∙ h.whole) c.each c.longest k m is;
     }
 
+-- an item that is passed over is read by the automaton from its word on
 pub other_to : (t : List ℕ) → items.IsItem items.Other t → WordRest place.Item [] t
 other_to t h =
     let o = other_word t h in

@@ -34,6 +34,7 @@ word_apart c e = (grind arith, grind arith)
 joined_words : (c : ℕ) (t : List ℕ) → c ≡ 32 → FirstWord IsPrinted t → (ws : List (List ℕ)) × IsWords ws (c ∷ t)
 joined_words c t e h = (h.word ∷ h.words, ((h.front, h.others), ap (λ (n : ℕ). n ∷ t) e ∙ ap (λ (u : List ℕ). 32 ∷ u) h.whole))
 
+-- after a word, an octet is read and any text that its rule still reads after it
 pub words_more_back : (c : ℕ) (t : List ℕ) → AfterMove (words_more c) t → WordsLang words.More (c ∷ t)
 words_more_back c t h = from_test (c == 32) (move.One (sym.Words words.First)) (cond (c == 13) (move.One (sym.Line (line.Fixed phrase.Crlf 1))) move.Fail) t
     (WordsLang words.More (c ∷ t))
@@ -51,9 +52,11 @@ words_at (w ∷ ws) c t all e =
     (eq-eqb c 32 (cons_head c 32 t ((w ++ spaced ws) ++ crlf) e))
     (record { word = w; words = ws; whole = cons_tail c 32 t ((w ++ spaced ws) ++ crlf) e; front = all.0; others = all.1 })
 
+-- where an octet and a text are read after a word, the rule still reads the text after the octet
 pub words_more_forth : (c : ℕ) (t : List ℕ) → WordsLang words.More (c ∷ t) → AfterMove (words_more c) t
 words_more_forth c t h = words_at h.0 c t h.1.0 h.1.1
 
+-- what follows a word, up to the line's end, isn't the empty text
 pub words_more_none : WordsLang words.More [] → ⊥
 words_more_none h = mid (spaced h.0) (10 ∷ []) 13 h.1.1
 
@@ -64,6 +67,7 @@ more_of_word c t Front f h = record { word = c ∷ h.word; words = h.words; whol
 printed : (c : ℕ) → is_word c ≡ true → (w : List ℕ) → Each is_word w → IsPrinted (c ∷ w)
 printed c e w h = ((e, h), omega arith)
 
+-- a symbol of words up to a line's end reads an octet and any text that its rule still reads after it
 pub words_back : (s : Words) (c : ℕ) (t : List ℕ) → AfterMove (words_rule s c) t → WordsLang s (c ∷ t)
 words_back words.More c t h = words_more_back c t h
 words_back words.First c t h = from_test (is_word c) (move.One (sym.Words words.Rest)) move.Fail t (FirstWord IsPrinted (c ∷ t)) (λ e k. more_of_word c t IsPrinted (printed c e) k)
@@ -92,16 +96,19 @@ rest_word (d ∷ w) ws c t p all e =
     at_true (is_word c) (move.One (sym.Words words.Rest)) (words_more c) t (is_true_at is_word c d same p.0)
     (record { word = w; words = ws; whole = cons_tail c d t ((w ++ spaced ws) ++ crlf) e; front = p.1; others = all })
 
+-- where a symbol of words up to a line's end reads an octet and a text, its rule still reads the text after the octet
 pub words_forth : (s : Words) (c : ℕ) (t : List ℕ) → WordsLang s (c ∷ t) → AfterMove (words_rule s c) t
 words_forth words.More c t h = words_more_forth c t h
 words_forth words.First c t h = first_word h.word h.words c t h.front h.others h.whole
 words_forth words.Rest c t h = rest_word h.word h.words c t h.front h.others h.whole
 
+-- no symbol of words up to a line's end reads the empty text
 pub words_empty : (s : Words) → WordsLang s [] → ⊥
 words_empty words.More h = words_more_none h
 words_empty words.First h = mid (h.word ++ spaced h.words) (10 ∷ []) 13 h.whole
 words_empty words.Rest h = mid (h.word ++ spaced h.words) (10 ∷ []) 13 h.whole
 
+-- each symbol of words up to a line's end reads some text
 pub words_example : (s : Words) → (t : List ℕ) × WordsLang s t
 words_example words.More = (crlf, ([], (tt, refl)))
 words_example words.First = (97 ∷ crlf, record { word = 97 ∷ []; words = []; whole = refl; front = ((refl, tt), omega arith); others = tt })
@@ -131,6 +138,7 @@ range_ends r front back (inr p) e = record {
   second = inr (p.3 ++ back, refl, record { front = p.3; back = back; whole = refl; first = number_from p.1 p.3 p.6; second = e });
 }
 
+-- a set of UIDs up to the line's end is a nonzero number and what may follow it
 pub set_forth : (t : List ℕ) → SetLine t → Then (NumberRest 0 0) (NumberEnds false) t
 set_forth t ([], h) = absurd h.first
 set_forth t (r ∷ rs, h) =
@@ -155,6 +163,7 @@ with_ends r front back t e h (inr k) = by k.2.0 k.2.1
       },
     )
 
+-- a nonzero number and what may follow it are a set of UIDs up to the line's end
 pub set_back : (t : List ℕ) → Then (NumberRest 0 0) (NumberEnds false) t → SetLine t
 set_back t h = by h.second
   where
@@ -321,10 +330,12 @@ open_forth c t (false, rs, h) =
 
 -- ---- the group
 
+-- a fitting symbol of a set of UIDs reads an octet and any text that its rule still reads after it
 pub set_edge_back : (s : Set) (c : ℕ) (t : List ℕ) → SetFits s ≡ true → AfterMove (set_rule s c) t → SetLang s (c ∷ t)
 set_edge_back set.Open c t fits h = open_back c t h
 set_edge_back (set.Number v n second) c t fits h = number_back v n second c t fits h
 
+-- where a symbol of a set of UIDs reads an octet and a text, its rule still reads the text after the octet
 pub set_edge_forth : (s : Set) (c : ℕ) (t : List ℕ) → SetLang s (c ∷ t) → AfterMove (set_rule s c) t
 set_edge_forth set.Open c t h = open_forth c t h
 set_edge_forth (set.Number v n second) c t h = number_at v n second c t h.front h.back h.whole h.first h.second
@@ -340,6 +351,7 @@ none_of_two A B f h = by h.front h.back h.whole h.second
 crlf_none : IsCrlf [] → ⊥
 crlf_none e = cc
 
+-- no symbol of a set of UIDs reads the empty text
 pub set_empty : (s : Set) → SetLang s [] → ⊥
 set_empty set.Open (true, rs, h) = none_of_two (IsWord (codes "(earlier) ")) (IsSetLine rs) (none_of_two (IsSet rs) IsCrlf crlf_none) h
 set_empty set.Open (false, rs, h) = none_of_two (IsSet rs) IsCrlf crlf_none h
@@ -349,6 +361,7 @@ crlf_ends : (second : Bool) → NumberEnds second crlf
 crlf_ends true = inl refl
 crlf_ends false = inl (inl refl)
 
+-- each fitting symbol of a set of UIDs reads some text
 pub set_example : (s : Set) → SetFits s ≡ true → (t : List ℕ) × SetLang s t
 set_example set.Open fits =
     let k = number_some 0 0 refl in

@@ -31,18 +31,23 @@ use Rattle.imap_syntax.specs.Values.{IsFlat}
 
 -- ---- quoted texts
 
+-- a quote and a `\` are octets of text
 pub special_text : (d : ℕ) → (d == 34 || d == 92) ≡ true → is_text d ≡ true
 special_text d e = grind arith
 
+-- where the test for a quote or a `\` fails, the octet is neither
 pub no_special : (d : ℕ) → (d == 34 || d == 92) ≡ false → ((d == 34) ≡ false) × ((d == 92) ≡ false)
 no_special d e = (grind arith, grind arith)
 
+-- where an octet is neither a quote nor a `\`, the test for either fails
 pub from_parts : (d : ℕ) → (d == 34) ≡ false → (d == 92) ≡ false → (d == 34 || d == 92) ≡ false
 from_parts d e f = rw e f
 
+-- a quote or a `\` stands in a quoted text after a `\`
 pub escaped_pair : (d : ℕ) (s : List ℕ) → (d == 34 || d == 92) ≡ true → escaped (d ∷ s) ++ 34 ∷ [] ≡ 92 ∷ d ∷ escaped s ++ 34 ∷ []
 escaped_pair d s e = ap (λ (u : List ℕ). u ++ 34 ∷ []) (cond-true (d == 34 || d == 92) (92 ∷ d ∷ escaped s) (d ∷ escaped s) e)
 
+-- an octet that isn't a quote or a `\` stands in a quoted text as itself
 pub escaped_self : (d : ℕ) (s : List ℕ) → (d == 34 || d == 92) ≡ false → escaped (d ∷ s) ++ 34 ∷ [] ≡ d ∷ escaped s ++ 34 ∷ []
 escaped_self d s e = ap (λ (u : List ℕ). u ++ 34 ∷ []) (cond-false (d == 34 || d == 92) (92 ∷ d ∷ escaped s) (d ∷ escaped s) e)
 
@@ -246,18 +251,22 @@ abbrev pub Starts : Option Sym → List ℕ → Type 0
 Starts None t = ⊥
 Starts (Some s) t = Lang s t
 
+-- the text that is still read after the move to one symbol or none is a text of that symbol
 pub after_alone : (o : Option Sym) (t : List ℕ) → AfterMove (alone o) t → Starts o t
 after_alone None t h = h
 after_alone (Some s) t h = h
 
+-- a text of one symbol is still read after the move to it
 pub alone_after : (o : Option Sym) (t : List ℕ) → Starts o t → AfterMove (alone o) t
 alone_after None t h = h
 alone_after (Some s) t h = h
 
+-- the text that is still read after the move to a symbol and a later one is a text of the first and then one of the later
 pub after_before : (later : Sym) (o : Option Sym) (t : List ℕ) → AfterMove (before later o) t → Then (Starts o) (Lang later) t
 after_before later None t h = absurd h
 after_before later (Some s) t h = h
 
+-- a text of a symbol and then one of a later symbol is still read after the move to both
 pub before_after : (later : Sym) (o : Option Sym) (t : List ℕ) → Then (Starts o) (Lang later) t → AfterMove (before later o) t
 before_after later None t h = h.first
 before_after later (Some s) t h = h
@@ -299,6 +308,7 @@ tilde_flat c t e (inr k) = (k.0, inr (inr (inr (t, ap (λ (n : ℕ). n ∷ t) e,
 count_flat : (c : ℕ) (t : List ℕ) → c ≡ 123 → CountRest 0 0 t → IsFlat (c ∷ t)
 count_flat c t e h = let k = counted_from c t e h in (k.0, inr (inr (inl k.1)))
 
+-- an octet and a text of the symbol that it starts are an atom or a string
 pub flat_back : (c : ℕ) (t : List ℕ) → Starts (flat_start c) t → IsFlat (c ∷ t)
 flat_back c t h = starts_test (c == 34) (Some (sym.Str str.Quoted)) (count_start c) t (IsFlat (c ∷ t))
     (λ e k. quoted_flat c t (eqb-true c 34 e) k)
@@ -326,6 +336,7 @@ count_starts c t e h =
     starts_false (c == 34) (Some (sym.Str str.Quoted)) (count_start c) t (ap (λ (n : ℕ). n == 34) e)
     (starts_true (c == 123) (Some (sym.Str (str.Count 0 0))) (tilde_start c) t (eq-eqb c 123 e) h)
 
+-- after the first octet of an atom or a string, the symbol that the octet starts reads the rest
 pub flat_forth : (c : ℕ) (t : List ℕ) → IsFlat (c ∷ t) → Starts (flat_start c) t
 flat_forth c t h = by h.0 h.1
   where
@@ -341,6 +352,7 @@ flat_forth c t h = by h.0 h.1
         (starts_false (c == 123) (Some (sym.Str (str.Count 0 0))) (tilde_start c) t (ap (λ (n : ℕ). n == 123) e)
         (starts_true (c == 126) (Some (sym.Str str.AtomTilde)) (atom_start c) t (eq-eqb c 126 e) (inr (s, subst (IsCounted s) (sym (cons_tail c 126 t l.0 l.1)) l.2))))
 
+-- no atom or string is the empty text
 pub no_flat : IsFlat [] → ⊥
 no_flat h = by h.0 h.1
   where
@@ -410,6 +422,7 @@ no_nstring h = by h.0 h.1
 
 -- ---- the group
 
+-- a fitting symbol of a string reads an octet and any text that its rule still reads after it
 pub string_back : (s : Str) (c : ℕ) (t : List ℕ) → StrFits s ≡ true → AfterMove (string_rule s c) t → StrLang s (c ∷ t)
 string_back str.NString c t fits h = nstring_back c t h
 string_back str.AString c t fits h = flat_back c t (after_alone (flat_start c) t h)
@@ -420,6 +433,7 @@ string_back str.AtomTilde c t fits h = atom_tilde_back c t h
 string_back (str.Count v n) c t fits h = count_back v n c t fits h
 string_back (str.Brace n) c t fits h = brace_back n c t h
 
+-- where a symbol of a string reads an octet and a text, its rule still reads the text after the octet
 pub string_forth : (s : Str) (c : ℕ) (t : List ℕ) → StrLang s (c ∷ t) → AfterMove (string_rule s c) t
 string_forth str.NString c t h = nstring_forth c t h
 string_forth str.AString c t h = alone_after (flat_start c) t (flat_forth c t h)
@@ -497,6 +511,7 @@ count_some v n fits = by n (count_parts v n fits) (and_parts (nat_le n 8 && nat_
 pub flat_some : IsFlat (97 ∷ [])
 flat_some = (97 ∷ [], inl (((refl, tt), omega arith), refl))
 
+-- each fitting symbol of a string reads some text
 pub string_example : (s : Str) → StrFits s ≡ true → (t : List ℕ) × StrLang s t
 string_example str.NString fits = (34 ∷ 34 ∷ [], ([], inr (inl (tt, refl))))
 string_example str.AString fits = (97 ∷ [], flat_some)

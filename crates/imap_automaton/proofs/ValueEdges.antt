@@ -22,6 +22,7 @@ use Rattle.imap_syntax.specs.Values.{AllOf, IsFlat, IsValue}
 
 -- ---- the kinds of values
 
+-- an atom or a string is a value, whatever number of brackets may be open
 pub flat_value : (d : ℕ) (t : List ℕ) → IsFlat t → IsValue d t
 flat_value zero t h = h
 flat_value (suc d) t h = inl h
@@ -41,6 +42,7 @@ value_begins (suc d) c t (inr h) =
     let same : d ≡ suc d - 1 = omega arith in
     inr (cons_head c 40 t (joined h.0 ++ 41 ∷ []) h.2, omega arith, subst (λ (n : ℕ). ValuesFirst n t) same (h.0, h.1, cons_tail c 40 t (joined h.0 ++ 41 ∷ []) h.2))
 
+-- no value is the empty text
 pub no_value : (d : ℕ) → IsValue d [] → ⊥
 no_value zero h = no_flat h
 no_value (suc d) (inl h) = no_flat h
@@ -232,12 +234,14 @@ more_at w c t x y (v ∷ vs) e all f o =
 
 -- ---- the group
 
+-- a symbol of a value reads an octet and any text that its rule still reads after it
 pub value_back : (s : Value) (c : ℕ) (t : List ℕ) → AfterMove (value_rule s c) t → ValueLang s (c ∷ t)
 value_back value.Start c t h = start_back c t h
 value_back (value.First w) c t h = first_back w c t h
 value_back (value.Next w) c t h = inner_back w c t h
 value_back (value.More w) c t h = more_back w c t h
 
+-- where a symbol of a value reads an octet and a text, its rule still reads the text after the octet
 pub value_forth : (s : Value) (c : ℕ) (t : List ℕ) → ValueLang s (c ∷ t) → AfterMove (value_rule s c) t
 value_forth value.Start c t h = start_forth c t h
 value_forth (value.First w) c t h = first_at w c t h.front h.back h.first.0 h.whole h.first.1 h.first.2 h.second
@@ -255,6 +259,7 @@ value_empty (value.Next w) h = by h.front h.back h.whole h.first
     by (d ∷ x) y e v = cc
 value_empty (value.More w) h = mid (spaced h.first.0) h.back 41 (h.whole ∙ ap (λ (u : List ℕ). u ++ h.back) h.first.2 ∙ append_assoc (spaced h.first.0) (41 ∷ []) h.back)
 
+-- what follows a value in brackets begins with a stop
 pub opened_stops : (w c : ℕ) (t : List ℕ) → Opened (suc w) (c ∷ t) → stops c ≡ true
 opened_stops w c t h = by h.first.0 (h.whole ∙ ap (λ (u : List ℕ). u ++ h.back) h.first.2)
   where
@@ -267,6 +272,7 @@ closing : (w : ℕ) → (t : List ℕ) × Opened w t
 closing zero = ([], refl)
 closing (suc w) = let k = closing w in (41 ∷ k.0, record { front = 41 ∷ []; back = k.0; whole = refl; first = ([], tt, refl); second = k.1 })
 
+-- each symbol of a value reads some text
 pub value_example : (s : Value) → (t : List ℕ) × ValueLang s t
 value_example value.Start = (97 ∷ [], flat_value 64 (97 ∷ []) flat_some)
 value_example (value.First w) = let k = closing w in (41 ∷ k.0, record { front = 41 ∷ []; back = k.0; whole = refl; first = ([], tt, refl); second = k.1 })

@@ -194,6 +194,7 @@ stray_forth place.Tagged k at c t h = absurd h
 stray_forth place.Item k at c t h = item_name_forth (name_from name.Plain (take at (key_text k))) c t h
 stray_forth place.Month k at c t h = absurd h
 
+-- where no count stands, an octet other than `{` begins none
 pub pend_none : (c : ℕ) → (c == 123) ≡ false → pend pending.Nothing c ≡ pending.Nothing
 pend_none c e = cond-false (c == 123) (pending.Open 0 0) pending.Nothing e
 
@@ -206,6 +207,7 @@ atom_is c e = grind arith
 month_is : (c : ℕ) → in_word place.Month c ≡ true → is_text c ≡ true
 month_is c e = grind arith
 
+-- an octet that may stand in a word of a place may stand in text
 pub word_text : (p : Place) (c : ℕ) → in_word p c ≡ true → is_text c ≡ true
 word_text place.Tagged c e = word_is c e
 word_text place.Plain c e = word_is c e
@@ -213,9 +215,11 @@ word_text place.Numbered c e = word_is c e
 word_text place.Item c e = atom_is c e
 word_text place.Month c e = month_is c e
 
+-- what follows an octet of text other than `{` in text with literals is text with literals
 pub text_goes : (c : ℕ) (t : List ℕ) → is_text c ≡ true → (c == 123) ≡ false → FreeLang (free.Text pending.Nothing) (c ∷ t) → FreeLang (free.Text pending.Nothing) t
 text_goes c t e f h = subst (λ s. FreeLang (free.Text s) t) (pend_none c f) (goes_forth pending.Nothing c t e h)
 
+-- an octet of text other than `{` and text with literals are text with literals
 pub text_comes : (c : ℕ) (t : List ℕ) → is_text c ≡ true → (c == 123) ≡ false → FreeLang (free.Text pending.Nothing) t → FreeLang (free.Text pending.Nothing) (c ∷ t)
 text_comes c t e f h = goes_back pending.Nothing c t e (subst (λ s. FreeLang (free.Text s) t) (sym (pend_none c f)) h)
 
@@ -240,6 +244,7 @@ stray_comes place.Month begun c t e f g h = h
 
 -- ---- the longest run of a word
 
+-- the octet 0 may stand in no word
 pub no_word_zero : (p : Place) → in_word p 0 ≡ false
 no_word_zero place.Tagged = refl
 no_word_zero place.Plain = refl
@@ -336,6 +341,7 @@ ends_back p k at c t None e le m h =
 
 -- ---- the group
 
+-- a word begun as a key of its place reads an octet and any text that its rule still reads after it
 pub word_back : (p : Place) (k : Key) (at c : ℕ) (t : List ℕ) → at ≤ length (key_text k) → is_among k (keys p) ≡ true → AfterMove (word_rule p k at c) t
     → WordRest p (take at (key_text k)) (c ∷ t)
 word_back p k at c t le m h = from_test (in_word p c) (word_goes p k at c (next_key p k at (lower c))) (cond (at == 0) move.Fail (word_ends p k at c (whole_key p k at))) t
@@ -372,10 +378,12 @@ word_at p k at c t (d ∷ w) tail le m e each some longest says =
     (goes_forth_at p k at c t w tail (next_key p k at (lower c)) refl le i (cons_tail c d t (w ++ tail) e) each.1 longest
     (subst (λ (q : ℕ). WordSays p (take at (key_text k)) (take at (key_text k) ++ map lower (q ∷ w)) tail (c ∷ t)) same says))
 
+-- where a word begun as a key of its place reads an octet and a text, its rule still reads the text after the octet
 pub word_forth : (p : Place) (k : Key) (at c : ℕ) (t : List ℕ) → at ≤ length (key_text k) → is_among k (keys p) ≡ true → WordRest p (take at (key_text k)) (c ∷ t)
     → AfterMove (word_rule p k at c) t
 word_forth p k at c t le m h = word_at p k at c t h.word h.tail le m h.whole h.each h.some h.longest h.says
 
+-- the rest of a word and what follows it aren't the empty text
 pub word_empty : (p : Place) (begun : List ℕ) → WordRest p begun [] → ⊥
 word_empty p begun h =
     let n = no_append h.word h.tail h.whole in
@@ -426,6 +434,7 @@ nil_example : (k : Key) (at : ℕ) → at ≤ length (key_text k) → is_among k
     → WordRest place.Item (take at (key_text k)) (drop at (key_text k) ++ 32 ∷ codes "nil")
 nil_example k at le m b = key_example place.Item k at (32 ∷ codes "nil") le (is_among_is k (keys place.Item) m) refl b
 
+-- a word begun as a key of its place reads some text
 pub word_example : (p : Place) (k : Key) (at : ℕ) → at ≤ length (key_text k) → is_among k (keys p) ≡ true → (t : List ℕ) × WordRest p (take at (key_text k)) t
 word_example place.Plain k at le m = (33 ∷ crlf, stray_example place.Plain k at refl refl bang_line)
 word_example place.Numbered k at le m = (33 ∷ crlf, stray_example place.Numbered k at refl refl bang_line)

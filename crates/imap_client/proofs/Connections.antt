@@ -12,6 +12,7 @@ use Rattle.imap_client.specs.declared.connection.Stage.TheVariants as stage
 use Rattle.imap_client.specs.Connecting.{is_ok, stage_after, due_at, planned_from}
 use Rattle.imap_client.specs.Plans.{StopsAtRefusal}
 
+-- a status that is another than OK counts as not OK
 pub not_ok : (s : Status) → s ≢ status.Ok → is_ok s ≡ false
 not_ok status.Ok other = absurd (other refl)
 not_ok status.No other = refl
@@ -39,6 +40,7 @@ stops_by preauth user password at [] command x is bad =
     λ done. fails_not_done next.0 (sym (ap (due_at user password) next.1) ∙ done)
 stops_by preauth user password at (y ∷ ys) command x is bad = stops_by preauth user password (stage_after preauth at y) ys command x is bad
 
+-- in connecting, a command that isn't answered OK is never the last of all that is to be done
 pub connecting_stops : (preauth : Bool) (user password : List ℕ) (at : Stage) → StopsAtRefusal (planned_from preauth user password at)
 connecting_stops preauth user password at = record { stops = λ xs command x is other. stops_by preauth user password at xs command x is (not_ok x.status other) }
 

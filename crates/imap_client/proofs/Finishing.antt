@@ -240,6 +240,7 @@ ok_front : (xs : List Exchange) (x : Exchange) → AllOk (xs ++ x ∷ []) → Al
 ok_front [] x (ok, rest) = (tt, ok)
 ok_front (y ∷ ys) x (ok, rest) = let so = ok_front ys x rest in ((ok, so.0), so.1)
 
+-- the exchanges of a life after a run are those before it, and then those of the run
 pub ran_exchanges : {plan : Planned} {life : LinkLife} {xs : List Exchange} {after : LinkLife} {es : List Event} → Ran plan life xs after es
     → after.exchanges ≡ life.exchanges ++ xs
 ran_exchanges {life = life} Begun = sym (append-nil life.exchanges)
@@ -273,6 +274,7 @@ end_done (Broken asked e is bad b) = absurd (cc bad)
 end_done (Gone asked is over bad none same) = absurd (cc bad)
 end_done (Wanting bad hangs same) = absurd (cc bad)
 
+-- a round that ends in Ok is a whole round, of which the store took exactly the commands
 pub finished_rounds_are_whole : (before after : Mail) (life left : LinkLife) (client : ClientState) (events : List Event) → Rounds before after life left client (Ok tt) events
     → IsFinishedRound before after life left events
 finished_rounds_are_whole before after life left client events r =

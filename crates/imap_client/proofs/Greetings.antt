@@ -66,6 +66,7 @@ only_bye (Untagged status.Bye k) e is = cc
 only_bye (Untagged status.Preauth k) e is = absurd (cc is)
 only_bye _ e is = absurd (cc is)
 
+-- the first response that is read of a life is its greeting, which lets the client in unless it is BYE
 pub greeted : {es : List Event} (after : Octets) (up : Bool) (w : Response) (says : Result Bool LinkEnd) → greeting_says w ≡ says → ReadsResponse 0 true up nothing_given after
     (Ok w) es
     → Greets after up says es
@@ -112,6 +113,7 @@ ended_by : (up : Bool) (xs ys talk : List Event) → xs ≡ talk ++ end_unless u
 ended_by true xs ys talk is hung = (λ i. (is ∙ append-nil talk) i ++ hung i)
 ended_by false xs ys talk is none = ap (λ (l : List Event). xs ++ l) none ∙ append-nil xs ∙ is
 
+-- no greeting that lets the client in, and then the link's end, are a life that was unwelcome
 pub unwelcome : {xs : List Event} (ys : List Event) (user password : List ℕ) (after : Octets) (up : Bool) (e : LinkEnd) (client : ClientState) → Greets after up (Err e) xs
     → HangsUp up ys
     → (left : Option LinkLife) × Lives user password left client (Err e) (xs ++ ys)
@@ -122,6 +124,7 @@ unwelcome {xs} ys user password after up e client g hangs = (
       refl refl,
 )
 
+-- a greeting that lets the client in, and then the plan of connecting that is followed, are a life
 pub lived : {xs : List Event} (ys : List Event) (user password : List ℕ) (after : Octets) (up preauth : Bool) (at : Stage) (before client : ClientState)
     (result : Result (Unit {0}) LinkEnd) → before ≡ begun_with after → up ≡ true → at ≡ stage.Asking → Greets after up (Ok preauth) xs
     → ((life : LinkLife) → Stands before life → (left : LinkLife) × (exchanges : List Exchange) × Follows
@@ -160,6 +163,7 @@ lived {xs} ys user password after up preauth at before client result before_is u
       spelled = record { remaining = after.octets; greeted = g.greets.2; completed = (refl, refl); whole = λ _. refl };
     }
 
+-- a dial and then a life are what connecting adds
 pub connected : {xs : List Event} (ys : List Event) (user password user' password' : List ℕ) (client : ClientState) (result : Result (Unit {0}) LinkEnd) → xs ≡ Dialed ∷ []
     → user' ≡ user → password' ≡ password → (left : Option LinkLife) × Lives user' password' left client result ys
     → (left : Option LinkLife) × Connects user password left client result (xs ++ ys)

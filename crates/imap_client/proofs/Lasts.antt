@@ -13,6 +13,7 @@ later_some : {X : Type 0} (was : Option X) (x : X) (o : Option X) → later was 
 later_some was x None = refl
 later_some was x (Some y) = refl
 
+-- taking an element's value, where it has one, for the one so far leaves the last value as it is
 pub later_first : {X Y : Type 0} (value : X → Option Y) (was : Option Y) (x : X) (xs : List X)
     → later was (last_of (filter_map value (x ∷ xs))) ≡ later (later was (value x)) (last_of (filter_map value xs))
 later_first value was x xs =

@@ -81,6 +81,7 @@ life_part life gave took so =
       whole = λ never. absurd (cc never);
     }
 
+-- octets that spell a life still spell it when it is hung up
 pub life_hung : (life : LinkLife) → IsLife life → IsLife (hung_up life)
 life_hung life so = record { remaining = so.remaining; greeted = so.greeted; completed = so.completed; whole = λ never. absurd (cc never) }
 
@@ -99,6 +100,7 @@ stands_ended life is spelled =
       spelled = spelled;
     }
 
+-- in a life that goes on the selected folder is the one that its exchanges leave selected
 pub selected_of : (life : LinkLife) → life.goes_on ≡ true → selected life ≡ fold selected_after None life.exchanges
 selected_of life is = rw is refl
 

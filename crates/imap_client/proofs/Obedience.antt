@@ -94,6 +94,7 @@ obeyed_next {plan} {heard} {mid} {after} octets command x is c (Answered y rest 
       );
     }
 
+-- where octets obey a plan, what is left of them after the completed exchanges obeys what is left of the plan
 pub obeyed_so_far : {plan : Planned} {life : LinkLife} {heard : List Exchange} {after : LinkLife} {events : List Event} (octets : List ℕ) → Ran plan life heard after events
     → Obeys plan [] (next_number life) (selected life) (life.rest ++ (flat_map store_gave_in events ++ octets)) → Left plan heard after (after.rest ++ octets)
 obeyed_so_far {life = life} octets Begun o = record { number = next_number life; folder = selected life; left = life.rest ++ octets; obeys = o; here = λ on. (refl, refl, refl) }
@@ -171,6 +172,7 @@ ends_well {plan} {heard} {after} {result = result} (Broken command e is failed b
 ends_well (Gone command is over lost none same) so = inr (inl lost)
 ends_well (Wanting memory hangs same) so = inr (inr memory)
 
+-- a plan that octets obey ends in Ok, with a lost link or out of memory
 pub obeyed_plans_end_ok : (plan : Planned) (life left : LinkLife) (exchanges : List Exchange) (client : ClientState) (result : Result (Unit {0}) LinkEnd) (events : List Event)
     → Follows plan life left exchanges client result events
     → Obeys plan [] (next_number life) (selected life) (life.rest ++ flat_map store_gave_in events) → EndsWell result

@@ -23,13 +23,16 @@ use Rattle.imap_client.proofs.Lives.{stands_ended, life_hung}
 pub record IsAfter (plan : Planned) (heard : List Exchange) (now : Planned) : Type 0 where
   pub same : (more : List Exchange) → now more ≡ plan (heard ++ more)
 
+-- a plan of which no exchange is heard is itself
 pub after_none : (plan : Planned) → IsAfter plan [] plan
 after_none plan = record { same = λ more. refl }
 
+-- when a plan after some exchanges goes on by one more, it is the plan after all of them
 pub after_more : {plan now next : Planned} {heard : List Exchange} (x : Exchange) → IsAfter plan heard now → ((more : List Exchange) → next more ≡ now (x ∷ more)) → IsAfter plan
     (heard ++ x ∷ []) next
 after_more {plan} {now} {next} {heard} x so step = record { same = λ more. step more ∙ so.same (x ∷ more) ∙ ap plan (sym (append_assoc heard (x ∷ []) more)) }
 
+-- what is due now is what the plan asks after the exchanges that are heard
 pub due_after : {plan now : Planned} {heard : List Exchange} → IsAfter plan heard now → now [] ≡ plan heard
 due_after {plan} {now} {heard} so = so.same [] ∙ ap plan (append-nil heard)
 
@@ -39,6 +42,7 @@ pub record Going (plan : Planned) (life : LinkLife) (heard : List Exchange) (cli
   pub ran : Ran plan life heard after events
   pub stands : Stands client after
 
+-- at the start no exchange is completed
 pub going_none : (plan : Planned) (life : LinkLife) (client : ClientState) → Stands client life → Going plan life [] client []
 going_none plan life client stands = record { after = life; ran = Begun; stands = stands }
 
@@ -67,6 +71,7 @@ done_alive_by plan heard false stops is down =
     let so = down refl in
     absurd (stops.stops so.before so.command so.last so.due_is so.refused (ap plan (sym so.is) ∙ is))
 
+-- once all is done of a plan that stops at refusals, a client is alive, where one that isn't had its last exchange refused
 pub done_alive : {plan : Planned} {heard : List Exchange} {alive : Bool} → StopsAtRefusal plan → plan heard ≡ due.Done → (alive ≡ false → LastRefused plan heard) → alive ≡ true
 done_alive {plan} {heard} {alive} stops is down = done_alive_by plan heard alive stops is down
 
@@ -83,6 +88,7 @@ hung ys stands hangs = subst (λ (b : Bool). HangsUp b ys) stands.alive hangs
 stands_hung : {client : ClientState} {life : LinkLife} (next : ClientState) → next ≡ fresh → Stands client life → Stands next (hung_up life)
 stands_hung {client} {life} next none stands = subst (λ (c : ClientState). Stands c (hung_up life)) (sym none) (stands_ended (hung_up life) refl (life_hung life stands.spelled))
 
+-- where the command that is due isn't completed, the plan ends with the error of its exchange
 pub broken : {plan : Planned} {life : LinkLife} {heard : List Exchange} {client : ClientState} {xs : List Event} (ys : List Event) (command : Command) (e : LinkEnd)
     (next : ClientState) → plan heard ≡ due.Send command → Going plan life heard client xs
     → ((mid : LinkLife) → Stands client mid → (left : LinkLife) × IsExchanged mid command left next (Err e) ys) → Left plan life heard next (Err e) (xs ++ ys)
@@ -90,6 +96,7 @@ broken {xs = xs} ys command e next is so goes =
     let went = goes so.after so.stands in
     (went.0, record { after = so.after; so_far = xs; last = ys; ran = so.ran; ends = Broken command e is refl went.1.ends; whole = refl; stands = went.1.stands })
 
+-- where the plan fails and the link is hung up, it ends with the refusal's error
 pub refused : {plan : Planned} {life : LinkLife} {heard : List Exchange} {client : ClientState} {xs : List Event} (ys : List Event) (why : Refusal) (next : ClientState)
     → plan heard ≡ due.Fails why → next ≡ fresh → Going plan life heard client xs
     → HangsUp client.alive ys → Left plan life heard next (Err (refusal_end why)) (xs ++ ys)
@@ -106,6 +113,7 @@ refused {xs = xs} ys why next is none so hangs = (
   },
 )
 
+-- where memory runs out and the link is hung up, the plan ends with out of memory
 pub wanting : {plan : Planned} {life : LinkLife} {heard : List Exchange} {client : ClientState} {xs : List Event} (ys : List Event) (next : ClientState) → next ≡ fresh
     → Going plan life heard client xs → HangsUp client.alive ys → Left plan life heard next (Err end.Memory) (xs ++ ys)
 wanting {xs = xs} ys next none so hangs = (
@@ -121,6 +129,7 @@ wanting {xs = xs} ys next none so hangs = (
   },
 )
 
+-- where a command is due and the client isn't alive, the plan ends with a lost link
 pub gone : {plan : Planned} {life : LinkLife} {heard : List Exchange} {client : ClientState} {xs : List Event} (ys : List Event) (command : Command) (next : ClientState)
     → plan heard ≡ due.Send command → next ≡ fresh → client.alive ≡ false → Going plan life heard client xs
     → HangsUp client.alive ys → Left plan life heard next (Err end.Lost) (xs ++ ys)
@@ -138,6 +147,7 @@ gone {xs = xs} ys command next is none dead so hangs =
       },
     )
 
+-- where all is done, the plan ends in Ok
 pub finished : {plan : Planned} {life : LinkLife} {heard : List Exchange} {client : ClientState} {xs : List Event} → plan heard ≡ due.Done → Going plan life heard client xs
     → Left plan life heard client (Ok tt) xs
 finished {xs = xs} is so =
@@ -165,6 +175,7 @@ pub record Course {S : Type 0} (plan : S → Planned) (hears : S → Exchange �
 abbrev pub EndsTo : {S : Type 0} → (S → Planned) → (S → Exchange → S → Type 0) → S → S → ClientState → ClientState → Result (Unit {0}) LinkEnd → List Event → Type 0
 EndsTo plan hears first last begun client result es = (life : LinkLife) → Stands begun life → (left : LinkLife) × FollowsTo plan hears first last life left client result es
 
+-- at the start of a plan that is followed no exchange is heard
 pub course_none : {S : Type 0} (plan : S → Planned) (hears : S → Exchange → S → Type 0) (first : S) (client : ClientState) (at : Option (List Event)) → client.alive ≡ true
     → Course plan hears first first client client at at
 course_none plan hears first client at alive =
@@ -249,6 +260,7 @@ pub course_done : {S : Type 0} {plan : S → Planned} {hears : S → Exchange �
     → Course plan hears first now begun client before after → Adds before after (EndsTo plan hears first now begun client (Ok tt))
 course_done is c = widen _ c.tape (λ xs so life stands. told_to (λ _. c.told) (finished (due_of due.Done c is) (so life stands)))
 
+-- once all is done of a plan that stops at refusals, the client that followed it is alive
 pub course_alive : {S : Type 0} {plan : S → Planned} {hears : S → Exchange → S → Type 0} {first now : S} {begun client : ClientState} {before after : Option (List Event)}
     → due.Done ≡ plan now []
     → Course plan hears first now begun client before after → StopsAtRefusal (plan first) → client.alive ≡ true

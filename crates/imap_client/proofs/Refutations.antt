@@ -7,6 +7,7 @@ use Rattle.imap_exchange.specs.Begins.{Begins}
 use Rattle.imap_exchange.proofs.Verdicts.{first_same}
 use Rattle.imap_client.specs.Connecting.{GreetsBy, greeting_says}
 
+-- octets that begin with a BYE are no greeting that lets the client in
 pub no_bye_is_welcome : (gave rest : List ℕ) (greeting : Response) (after : Octets) (preauth : Bool) → Begins (greeting ∷ []) rest gave → greeting_says greeting ≡ Err end.Bye
     → GreetsBy gave after (Ok preauth) → ⊥
 no_bye_is_welcome gave rest greeting after preauth begins bye (other, says, begins', given) =

@@ -40,6 +40,7 @@ fails_not_done why is = cc
 round_refused : (s : RoundState) (x : Exchange) → is_ok x.status ≡ false → round_from s (x ∷ []) ≡ due.Fails refusal.Refused
 round_refused s x bad = rw bad refl
 
+-- in a round, a command that isn't answered OK is never the last of all that is to be done
 pub round_stops : (s : RoundState) → StopsAtRefusal (round_from s)
 round_stops s =
     record {
@@ -52,6 +53,7 @@ round_stops s =
 body_refused : (folder uid : ℕ) (s : BodyState) (x : Exchange) → is_ok x.status ≡ false → body_from folder uid s (x ∷ []) ≡ due.Fails refusal.Refused
 body_refused folder uid s x bad = rw bad refl
 
+-- in the fetch of a body, a command that isn't answered OK is never the last of all that is to be done
 pub body_stops : (folder uid : ℕ) (s : BodyState) → StopsAtRefusal (body_from folder uid s)
 body_stops folder uid s =
     record {
@@ -65,9 +67,11 @@ body_stops folder uid s =
 
 -- ---- the count of changes
 
+-- where nothing is told, the count goes on as it should
 pub counts_none : (t : Told) → CountsOn t t
 counts_none t = record { rises = omega arith; stands = λ _ _. refl }
 
+-- where the count goes on as it should, it does after one change more that is counted
 pub counts_more : (a b c : Told) → CountsOn a b → Counts b c → CountsOn a c
 counts_more a b c first next =
     record {
@@ -214,6 +218,7 @@ body_ended {life = life} e folder uid before after first last folder_is uid_is s
       keeps_count before after (fetch_end e) body_tells before_is after_is heard,
     )
 
+-- the fetch of a body that was followed until all is done fetched the body that its last stage has
 pub body_fetched : {life left : LinkLife} {client : ClientState} {es : List Event} (body : List ℕ) (folder uid : ℕ) (before after : Told) (first last : BodyFetch)
     → first.folder ≡ folder → first.uid ≡ uid → first.stage ≡ body_begun (selected life) (folder_in before.mail.folders folder) → first.mirror ≡ before
     → last.mirror ≡ after → last.stage ≡ bstage.Fetched body → FollowsBody first last life left client (Ok tt) es

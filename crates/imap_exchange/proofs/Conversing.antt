@@ -285,6 +285,7 @@ opened {r} {es} {pieces} {before} {after} {responses} {at} {up} w is here h =
 pub one_not_continue : (responses : List Response) (w : Response) → is_continue w ≡ false → continuations (responses ++ w ∷ []) ≡ continuations responses
 one_not_continue responses w is = sum_by-append _ responses (w ∷ []) ∙ grind (arith, nat_tests)
 
+-- with one continuation more, the continuations are one more
 pub one_continue : (responses : List Response) → continuations (responses ++ Continue ∷ []) ≡ continuations responses + 1
 one_continue responses = sum_by-append _ responses (Continue ∷ [])
 

@@ -19,6 +19,7 @@ Cut {A} xs ys ps qs = ((cs : List A) × (ps ≡ xs ++ cs)) ⊎ ((cs : List A) ×
 tail_same : {A : Type 0} (x y : A) (xs ys : List A) → x ∷ xs ≡ y ∷ ys → (x ≡ y) × (xs ≡ ys)
 tail_same x y xs ys is = (cc, cc)
 
+-- where a list is cut in two at two places, the part before the later place begins with the part before the earlier one
 pub cut_of : {A : Type 0} (xs ys ps qs : List A) → ps ++ qs ≡ xs ++ ys → Cut xs ys ps qs
 cut_of [] ys ps qs is = inl (ps, refl)
 cut_of (x ∷ xs) ys [] qs is = inr (x ∷ xs, refl, is)
@@ -37,6 +38,7 @@ nil_left (c ∷ x) y is = absurd (cc is)
 
 -- ---- parts of a command
 
+-- where no more was taken than some octets let go, no more was taken than those and further ones let go
 pub IsPart-more : {pieces : List (List ℕ)} {octets took : List ℕ} (g : List ℕ) → IsDuePart pieces octets took → IsDuePart pieces (octets ++ g) took
 IsPart-more g so = record { responses = so.responses; remaining = so.remaining ++ g; passed = Passes-more g so.passed; left = so.left; within = so.within }
 
@@ -114,6 +116,7 @@ joined_suc [] (suc at) = refl
 joined_suc (p ∷ ps) zero = append-nil p
 joined_suc (p ∷ ps) (suc at) = ap (λ (l : List ℕ). p ++ l) (joined_suc ps at) ∙ sym (append_assoc p (joined_pieces (take at ps)) (piece_at ps at))
 
+-- the octets of the pieces up to a place and the one there are those of the pieces before it, and then its own
 pub joined_more : (pieces : List (List ℕ)) (at : ℕ) → joined_pieces (take (at + 1) pieces) ≡ joined_pieces (take at pieces) ++ piece_at pieces at
 joined_more pieces at = ap (λ (k : ℕ). joined_pieces (take k pieces)) (add-one at) ∙ joined_suc pieces at
 

@@ -46,6 +46,7 @@ fewer (p ∷ ps) (suc m) (suc n) le =
     let rest = fewer ps m n (omega arith) in
     (rest.0, append_assoc p (joined_pieces (take m ps)) rest.0 ∙ ap (λ (l : List ℕ). p ++ l) rest.1)
 
+-- no more is taken than the pieces that are due by the responses before the verdict
 pub each_piece_is_due : (tag : List ℕ) (pieces : List (List ℕ)) (octets took : List ℕ) (verdict : Verdict) (v : IsVerdict tag pieces octets verdict) → IsDuePart pieces octets took
     → (left : List ℕ) × (took ++ left ≡ joined_pieces (pieces_due pieces v.responses))
 each_piece_is_due tag pieces octets took verdict v part =
@@ -72,6 +73,7 @@ done_not_bad rs s k t at is = cc
 done_status : (rs rs' : List Response) (s s' : Status) (k k' : Code) (t t' : List ℕ) → Done rs s k t ≡ Done rs' s' k' t' → s ≡ s'
 done_status rs rs' s s' k k' t t' is = cc
 
+-- where a command is answered, and was taken whole if that is OK, the one cause not to complete it is out of memory
 pub no_end_after_an_answer : (tag : List ℕ) (pieces : List (List ℕ)) (before : Octets) (gave took : List ℕ) (responses : List Response) (s : Status) (code : Code) (rest : List ℕ)
     (e : LinkEnd) → IsVerdict tag pieces (before.octets ++ gave) (Done responses s code rest) → (s ≢ status.Ok) ⊎ (took ≡ joined_pieces pieces)
     → IsCause tag pieces before gave took e → e ≡ end.Memory
@@ -99,6 +101,7 @@ said_by tag status.Bad code text spells = inr (inr refl)
 said_by tag status.Preauth code text spells = absurd spells.spells.completes
 said_by tag status.Bye code text spells = absurd spells.spells.completes
 
+-- the status of an answer is OK, NO or BAD
 pub statuses_of_answers : (tag : List ℕ) (pieces : List (List ℕ)) (octets rest : List ℕ) (responses : List Response) (s : Status) (code : Code) → IsVerdict tag pieces octets
     (Done responses s code rest) → (s ≡ status.Ok) ⊎ (s ≡ status.No) ⊎ (s ≡ status.Bad)
 statuses_of_answers tag pieces octets rest responses s code v = let line = v.decided.1 in said_by tag s code line.0 line.2
@@ -114,6 +117,7 @@ abbrev pub still_open : (tag : List ℕ) {pieces : List (List ℕ)} {before : Oc
     → IsVerdict tag pieces (before.octets ++ gave) Open
 still_open tag so = record { responses = so.responses; remaining = so.remaining; passed = so.passed; decided = so.more }
 
+-- once octets decide the exchange no more of them are read
 pub nothing_is_read_once_decided : (tag : List ℕ) (pieces : List (List ℕ)) (before : Octets) (so_far later : List Event) (verdict : Verdict)
     → ReadsWhile (Awaits pieces before) (so_far ++ later) → IsVerdict tag pieces (before.octets ++ flat_map store_gave_in so_far) verdict → verdict ≢ Open
     → flat_map store_gave_in later ≡ []
@@ -138,6 +142,7 @@ same_open tag pieces octets v w =
     (same_pass v.responses w.responses v.remaining w.remaining octets v.passed.all_open w.passed.all_open v.passed.spelled w.passed.spelled
     (none_open tag pieces octets v.responses v.remaining Open v.decided) (none_open tag pieces octets w.responses w.remaining Open w.decided)).0
 
+-- where octets are read, those before them decide nothing and aren't too much, and all that is due by them was taken
 pub all_due_is_taken_before_reading : (tag : List ℕ) (pieces : List (List ℕ)) (before : Octets) (so_far later : List Event) (octet : ℕ) (octets : List ℕ)
     → ReadsWhile (Awaits pieces before) (so_far ++ StoreGave (octet ∷ octets) ∷ later)
     → (still : IsVerdict tag pieces (before.octets ++ flat_map store_gave_in so_far) Open)
@@ -157,6 +162,7 @@ bye_not_yet is = cc
 bad_not_yet : (at : ℕ) → Open ≡ BadAt at → ⊥
 bad_not_yet at is = cc
 
+-- where too much came, nothing is decided and all that is due was taken, the exchange ends with too much or out of memory
 pub too_much_ends_so : (tag : List ℕ) (pieces : List (List ℕ)) (before after : Octets) (gave took : List ℕ) (up : Bool) (result : Result Answer LinkEnd)
     (still : IsVerdict tag pieces (before.octets ++ gave) Open) → IsTooMuch before gave → AllDueTaken pieces still.responses took
     → ComesTo tag pieces before gave took after up result → (result ≡ Err end.TooMuch) ⊎ (result ≡ Err end.Memory)

@@ -27,6 +27,7 @@ Begins-more [] r b g is = ap (λ (l : List ℕ). l ++ g) is
 Begins-more (v ∷ vs) r b g (text, more, spells, is, rest) =
     (text, more ++ g, spells, ap (λ (l : List ℕ). l ++ g) is ∙ append_assoc text more g, Begins-more vs r more g rest)
 
+-- open responses at the front of octets are at their front when further octets come
 pub Passes-more : {vs : List Response} {r b : List ℕ} (g : List ℕ) → Passes vs r b → Passes vs (r ++ g) (b ++ g)
 Passes-more {vs} {r} {b} g so = record { all_open = so.all_open; spelled = Begins-more vs r b g so.spelled }
 
@@ -43,6 +44,7 @@ pub Begins-length : (vs : List Response) (r b : List ℕ) → Begins vs r b → 
 Begins-length [] r b is = omega (arith, ap length is)
 Begins-length (v ∷ vs) r b (text, more, spells, is, rest) = omega (arith, Begins-length vs r more rest, ap length is, length-append text more)
 
+-- what stands after a response is shorter than what begins with it
 pub Begins-shorter : (v : Response) (r b : List ℕ) → Begins (v ∷ []) r b → length r < length b
 Begins-shorter v r b (text, more, spells, is, remaining) = omega (arith, some text (spelling_some v text spells), ap length is, ap length remaining, length-append text more)
   where
@@ -72,6 +74,7 @@ closed : (w : Response) (s r : List ℕ) → (IsOpen w → ⊥) → Begins (w �
 closed w s r shut (text, more, spells, is, remaining) v text' more' spells' is' here =
     shut (subst IsOpen (same_front spells' spells (sym is' ∙ is)).0 here)
 
+-- what a verdict is decided by begins with no open response
 pub none_open : (tag : List ℕ) (pieces : List (List ℕ)) (octets : List ℕ) (vs : List Response) (r : List ℕ) (v : Verdict) → Decides tag pieces octets vs r v → NoneOpen r
 none_open tag pieces octets vs r (Done before s code rest) (same, begins, settles) = closed (Tagged tag s code) rest r (λ never. never) begins
 none_open tag pieces octets vs r Stray (other, s, code, rest, begins, why) = closed (Tagged other s code) rest r (λ never. never) begins
@@ -151,6 +154,7 @@ decides_one tag pieces octets vs r Open Bye so (k, t, begins) = absurd (begun_no
 decides_one tag pieces octets vs r Open (BadAt at) more (place, so, there) = absurd (bad_not_more r place so more)
 decides_one tag pieces octets vs r Open Open first second = refl
 
+-- octets have one verdict on an exchange
 pub one_verdict : (tag : List ℕ) (pieces : List (List ℕ)) (octets : List ℕ) (v w : Verdict) → IsVerdict tag pieces octets v → IsVerdict tag pieces octets w → v ≡ w
 one_verdict tag pieces octets v w first second =
     let same = same_pass first.responses second.responses first.remaining second.remaining octets first.passed.all_open second.passed.all_open first.passed.spelled

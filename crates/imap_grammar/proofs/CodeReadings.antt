@@ -21,14 +21,17 @@ nonzero_none t h = by (nonzero_in t) refl
     by None e = refl
     by (Some n) e = absurd (h n (nonzero_sound t n e))
 
+-- a text that fails the test for a number isn't read as a nonzero number
 pub no_sequence : (t : List ℕ) (b : Bool) → b ≡ reading.is_sequence t → b ≡ false → None ≡ nonzero_in t
 no_sequence t b is fails = nonzero_none t (λ n h. both (reading.is_sequence t) (sequence_true n t h.0) (sym is ∙ fails))
 
+-- a text whose digits come to 0 isn't read as a nonzero number
 pub zero_sequence : (t : List ℕ) (n : ℕ) → n ≡ reading.number_in t → n ≤ 0 → None ≡ nonzero_in t
 zero_sequence t n is le = nonzero_none t (λ m h.
     let value : reading.number_in t ≡ value_from 0 t = number_is t (omega (arith, h.0.value, h.0.most)) in
     omega (arith, is, value, h.0.value, h.1, le))
 
+-- a text that passes the test for a number, and whose digits come to more than 0, is read as that nonzero number
 pub nonzero_sequence : (t : List ℕ) (b : Bool) (n : ℕ) → b ≡ reading.is_sequence t → b ≡ true → n ≡ reading.number_in t → 0 < n → Some n ≡ nonzero_in t
 nonzero_sequence t b n is holds value lt =
     let number = true_sequence t (sym is ∙ holds) in
@@ -47,15 +50,18 @@ long_none t h = by (long_in t) refl
     by None e = refl
     by (Some n) e = absurd (h n (long_sound t n e))
 
+-- a text that isn't one to nineteen digits isn't read as a 63-bit number
 pub no_long : (t : List ℕ) (b : Bool) → b ≡ few_digits t → b ≡ false → None ≡ long_in t
 no_long t b is fails = long_none t (λ n h. both (few_digits t) (and_from _ _ (and_from _ _ (lt-ltb 0 (length t) h.some) (le-leb (length t) 19 h.few)) (digits_true t h.digits))
     (sym is ∙ fails))
 
+-- a text whose digits come to 2^63 or more isn't read as a 63-bit number
 pub great_long : (t : List ℕ) (n : ℕ) → n ≡ reading.long_value t → 9223372036854775807 < n → None ≡ long_in t
 great_long t n is lt = long_none t (λ m h.
     let value : reading.long_value t ≡ value_from 0 t = long_is t (omega (arith, h.value, h.most)) in
     omega (arith, is, value, h.value, h.most, lt))
 
+-- a text of one to nineteen digits that come to less than 2^63 is read as that 63-bit number
 pub some_long : (t : List ℕ) (b : Bool) (n : ℕ) → b ≡ few_digits t → b ≡ true → n ≡ reading.long_value t → n ≤ 9223372036854775807 → Some n ≡ long_in t
 some_long t b n is holds value le =
     let p = and_parts (nat_lt 0 (length t) && nat_le (length t) 19) (reading.all_digits t) (sym is ∙ holds) in
@@ -69,6 +75,7 @@ pub ruleset longs = (no_long, great_long, some_long)
 
 -- ---- sets of UIDs
 
+-- where what is left has no comma, the set is the ranges so far and the one that is left
 pub last_range : (ranges : List UidRange) (left : ℕ) (rest : List ℕ) (all : Option (List UidRange)) → 0 < left → cut 44 rest ≡ None → put_ranges ranges (ranges_in left rest) ≡ all
     → put_ranges ranges (one_in_set (range_in rest)) ≡ all
 unfolding ranges_in
@@ -76,6 +83,7 @@ last_range ranges zero rest all lt e h = absurd (omega (arith, lt))
 last_range ranges (suc most) rest all lt e h =
     sym (ap (λ (o : Option (List ℕ × List ℕ)). put_ranges ranges (elim o [ None ↦ one_in_set (range_in rest) | Some r ↦ more_in_set (range_in r.0) (ranges_in most r.1) ])) e) ∙ h
 
+-- where what is left is cut at a comma, the set is the ranges so far, the one before the comma and those after it
 pub next_range : (ranges : List UidRange) (left : ℕ) (rest front back : List ℕ) (all : Option (List UidRange)) → 0 < left → cut 44 rest ≡ Some (front, back)
     → put_ranges ranges (ranges_in left rest) ≡ all → put_ranges ranges (more_in_set (range_in front) (ranges_in (left - 1) back)) ≡ all
 unfolding ranges_in
@@ -85,10 +93,12 @@ next_range ranges (suc most) rest front back all lt e h =
     ap (λ (n : ℕ). put_ranges ranges (more_in_set (range_in front) (ranges_in n back))) less
     ∙ sym (ap (λ (o : Option (List ℕ × List ℕ)). put_ranges ranges (elim o [ None ↦ one_in_set (range_in rest) | Some r ↦ more_in_set (range_in r.0) (ranges_in most r.1) ])) e) ∙ h
 
+-- putting ranges after those so far and one more is putting the one and them after those so far
 pub put_more : (ranges : List UidRange) (r : UidRange) (o : Option (List UidRange)) → put_ranges (ranges ++ r ∷ []) o ≡ put_ranges ranges (more_in_set (Some r) o)
 put_more ranges r None = refl
 put_more ranges r (Some rs) = ap (λ (q : List UidRange). Some q) (append_assoc ranges (r ∷ []) rs)
 
+-- where no more ranges may be read, there is no set
 pub no_more : (ranges : List UidRange) (left : ℕ) (rest : List ℕ) (all : Option (List UidRange)) → left ≡ 0 → put_ranges ranges (ranges_in left rest) ≡ all → None ≡ all
 unfolding ranges_in
 no_more ranges left rest all e h = ap (λ (n : ℕ). put_ranges ranges (ranges_in n rest)) (sym e) ∙ h

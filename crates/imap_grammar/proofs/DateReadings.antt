@@ -188,6 +188,7 @@ octets_small s t o a b c h =
       ),
     )
 
+-- the octets of a text that spells a date are read as that date, and take 28 octets
 pub date_read : (s : ℤ) (t back b : List ℕ) → IsDateTime s t → b ≡ plain_octets t ++ back → (date_in b ≡ s) × (drop 28 b ≡ back)
 date_read s t back b h e =
     let o = octets_of s t h in

@@ -59,6 +59,7 @@ list_ends : (rest : List ℕ) → IsListEnd rest → Ends (plain_octets rest)
 list_ends rest (inl e) = subst (λ (u : List ℕ). Ends (plain_octets u)) (sym e) (refl, refl)
 list_ends rest (inr v) = subst (λ (u : List ℕ). Ends (plain_octets u)) (sym v.1) (refl, refl)
 
+-- the octets after LIST are read as the attributes, delimiter and name that they spell
 pub list_line_read : (attributes : List (List ℕ)) (delimiter : Option ℕ) (name t : List ℕ) → IsListLine attributes delimiter name t
     → list_in (plain_octets t) ≡ response.List attributes delimiter name
 unfolding list_in
@@ -104,6 +105,7 @@ count_read k so_far t back b h out e =
     ∙ ap (λ (u : List ℕ). (told_as so_far (map lower word) (long_value h.digits), u)) l.back
     ∙ ap (λ (n : ℕ). (told_as so_far (map lower word) n, back)) (long_read k.1 h.digits h.number)
 
+-- where a space follows a count, the others are read after the space, with one fewer allowed
 pub counts_next : (left : ℕ) (so_far : StatusItems) (b : List ℕ) → 0 < left → (get_or (count_in so_far b).1 0 0 == 32) ≡ true
     → status_counts left so_far b ≡ status_counts (left - 1) (count_in so_far b).0 (drop 1 (count_in so_far b).1)
 unfolding status_counts
@@ -112,6 +114,7 @@ counts_next (suc left) so_far b lt e =
     let r = count_in so_far b in
     cond-true (get_or r.1 0 0 == 32) (status_counts left r.0 (drop 1 r.1)) r.0 e ∙ ap (λ (n : ℕ). status_counts n r.0 (drop 1 r.1)) (less_one left)
 
+-- a count with no space after it is the last that is read
 pub counts_last : (left : ℕ) (so_far : StatusItems) (b : List ℕ) → 0 < left → (get_or (count_in so_far b).1 0 0 == 32) ≡ false → status_counts left so_far b ≡ (count_in so_far b).0
 unfolding status_counts
 counts_last zero so_far b lt e = absurd (omega (arith, lt))
@@ -169,6 +172,7 @@ all_counts_read (k ∷ cs) t h =
     ∙ counts_read cs (length (plain_octets t)) no_counts k h.front h.back (plain_octets t) h.first h.second (omega (arith, l, n, m, p))
     (ap plain_octets h.whole ∙ map-append plain_of h.front h.back)
 
+-- the octets after STATUS are read as the name and the counts that they spell
 pub status_line_read : (name : List ℕ) (items : StatusItems) (t : List ℕ) → IsStatusLine name items t → status_in (plain_octets t) ≡ response.StatusItems name items
 unfolding status_in
 status_line_read name items t h =

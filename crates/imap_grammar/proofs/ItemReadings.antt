@@ -249,6 +249,7 @@ item_read Other so_far t back b h out e = other_read so_far t back b h out e
 
 -- ---- one item more
 
+-- where a space follows an item, the others are read after the space, with one fewer allowed
 pub items_next : (left : ℕ) (so_far : FetchItems) (b : List ℕ) → 0 < left → (get_or (item_in so_far b).1 0 0 == 32) ≡ true
     → items_in left so_far b ≡ items_in (left - 1) (item_in so_far b).0 (drop 1 (item_in so_far b).1)
 unfolding items_in
@@ -257,6 +258,7 @@ items_next (suc left) so_far b lt e =
     let r = item_in so_far b in
     cond-true (get_or r.1 0 0 == 32) (items_in left r.0 (drop 1 r.1)) r.0 e ∙ ap (λ (n : ℕ). items_in n r.0 (drop 1 r.1)) (less_one left)
 
+-- an item with no space after it is the last that is read
 pub items_last : (left : ℕ) (so_far : FetchItems) (b : List ℕ) → 0 < left → (get_or (item_in so_far b).1 0 0 == 32) ≡ false → items_in left so_far b ≡ (item_in so_far b).0
 unfolding items_in
 items_last zero so_far b lt e = absurd (omega (arith, lt))

@@ -78,6 +78,7 @@ skip_some b rest octets s ss k at lt le back =
       same = omega (arith, on, there, long, le, at.same);
     }
 
+-- octets of the literal at hand, but for its last, may be passed over at once
 pub skip_to : (b rest octets : List ℕ) (ss left : List Sym) → PassedTo b rest ss → octets ≡ drop (inside_left responses ss - 1) rest
     → left ≡ skipped responses (min (inside_left responses ss - 1) (length rest)) ss → PassedTo b octets left
 skip_to b rest octets [] left at e f = subst (PassedTo b octets) (sym f) (subst (λ (u : List ℕ). PassedTo b u []) (sym e) at)
@@ -132,6 +133,7 @@ passed_with b rest after c ss left at e f none =
     let long = ap (λ (u : List ℕ). length u) e in
     omega (arith, one, long, at.same)
 
+-- an octet that the item goes on with, and doesn't end with, is passed over
 pub passed_on : (b rest after : List ℕ) (c : ℕ) (ss left : List Sym) → PassedTo b rest ss → rest ≡ c ∷ after → step responses ss (mark responses ss c) ≡ Some left → (left ≡ [] → ⊥)
     → PassedTo b after left
 passed_on b rest after c ss left at e f ne =
@@ -170,6 +172,7 @@ unfolding passed
 empty_passed s ss [] good h e = refl
 empty_passed s ss (c ∷ back) good h e = ap (λ (o : Option (List Sym)). beyond o (passed back)) (ends_at s ss c good h e)
 
+-- symbols take all octets of a text that they read, and no more, where a space, `)` or CR follows
 pub text_passed : (t : List ℕ) (s : Sym) (ss : List Sym) (back : List ℕ) → Good responses true (s ∷ ss) → InTurn (s ∷ ss) t → stops (get_or back 0 0) ≡ true
     → passed (plain_octets t ++ back) (s ∷ ss) ≡ length t
 unfolding passed
@@ -190,6 +193,7 @@ text_passed (d ∷ u) s ss back good h e =
 start_good : Good responses true (item_start ∷ [])
 start_good = (refl, refl, tt)
 
+-- an item takes all octets of its text, and no more, where a space, `)` or CR follows
 pub item_passed : (t back b : List ℕ) → Lang item_start t → stops (get_or back 0 0) ≡ true → b ≡ plain_octets t ++ back → passed b (item_start ∷ []) ≡ length t
 item_passed t back b h e f =
     ap (λ (u : List ℕ). passed u (item_start ∷ [])) f

@@ -191,21 +191,25 @@ numbered_read n _ t h = absurd h.says
 
 -- ---- after `* `
 
+-- the test for digits holds of a text that has only digits
 pub digits_true : (t : List ℕ) → Each is_digit t → all_digits t ≡ true
 unfolding all_digits
 digits_true [] h = refl
 digits_true (c ∷ t) h = and_from (is_digit c) (all_digits t) h.0 (digits_true t h.1)
 
+-- a text that passes the test for digits has only digits
 pub true_digits : (t : List ℕ) → all_digits t ≡ true → Each is_digit t
 unfolding all_digits
 true_digits [] e = tt
 true_digits (c ∷ t) e = let p = and_parts (is_digit c) (all_digits t) e in (p.0, true_digits t p.1)
 
+-- the test for a number holds of a text that spells a number
 pub sequence_true : (n : ℕ) (t : List ℕ) → IsNumber n t → is_sequence t ≡ true
 unfolding is_sequence
 sequence_true n t h = and_from _ _ (and_from _ _ (and_from _ _ (lt-ltb 0 (length t) h.some) (le-leb (length t) 10 h.few)) (digits_true t h.digits))
     (le-leb (number_from 0 t) 4294967295 (let c = capped_le (value_from 0 t) (omega (arith, h.value, h.most)) in omega (arith, number_from_is t, c)))
 
+-- a text that passes the test for a number spells the number that its digits make
 pub true_sequence : (t : List ℕ) → is_sequence t ≡ true → IsNumber (value_from 0 t) t
 unfolding is_sequence
 true_sequence t e =
@@ -466,9 +470,11 @@ reads_value response.Other t h = star_read response.Other t h.0 h.1 h.2
 pub one_text_value : (v w : Response) (t : List ℕ) → Spells v t → Spells w t → v ≡ w
 one_text_value v w t h k = sym (reads_value v t h) ∙ reads_value w t k
 
+-- the octets of a spelling are read as the response that they spell
 pub spelling_read : (v : Response) (b : List ℕ) → IsSpelling v b → response_in b ≡ v
 spelling_read v b h = ap response_in (sym h.octets) ∙ reads_value v h.text h.spells
 
+-- if one fact of responses follows from another, it follows of a result's response too
 pub if_ok : {E : Type 0} (r : Result Response E) (P Q : Response → Type 0) → ((x : Response) → P x → Q x) → IfOk r P → IfOk r Q
 if_ok (Ok x) P Q f h = f x h
 if_ok (Err e) P Q f h = h

@@ -41,6 +41,7 @@ scanned b (answer.Whole n) h = (h.0, spelling_of (take n b) h.1)
 scanned b answer.NeedMore h = to_proper b h
 scanned b (answer.Bad at) h = (h.0, λ p. h.1 (prefix_of (take (at + 1) b) p), to_proper (take at b) h.2)
 
+-- where the answer told of responses is that more is needed, the automaton's is too
 pub more_of : (p : Answer) → scan_of p ≡ scan.NeedMore → p ≡ answer.NeedMore
 more_of (answer.Whole n) e = absurd cc
 more_of answer.NeedMore e = refl

@@ -26,6 +26,7 @@ escaped_small (c ∷ s) h = by (c == 34 || c == 92) refl (escaped_small s h.1)
     by true e ih = subst (Each small) (sym (cond-true (c == 34 || c == 92) (92 ∷ c ∷ escaped s) (c ∷ escaped s) e)) (refl, (text_small c h.0, ih))
     by false e ih = subst (Each small) (sym (cond-false (c == 34 || c == 92) (92 ∷ c ∷ escaped s) (c ∷ escaped s) e)) (text_small c h.0, ih)
 
+-- the octets of a quoted text are below 256
 pub quoted_small : (s : List ℕ) → Each is_text s → Each small (quoted s)
 quoted_small s h = (refl, each_append small (escaped s) (34 ∷ []) (escaped_small s h) (refl, tt))
 
@@ -49,6 +50,7 @@ unquoted_read (c ∷ s) y = by (c == 34 || c == 92) refl (unquoted_read s y)
 
 -- ---- literals
 
+-- a literal begins with `{`, from after which it is read as its string, and what follows it is left
 pub literal_read : (s x y b : List ℕ) → (h : IsCounted s x) → b ≡ plain_octets x ++ y → (literal_in (drop 1 b) ≡ (s, y)) × (get_or b 0 0 ≡ 123)
 unfolding literal_in
 literal_read s x y b h e =
@@ -133,6 +135,7 @@ tilde_read s x y b rest is h e =
 atom_plain : (x : List ℕ) → IsAtom x → plain_octets x ≡ x
 atom_plain x h = plain_small x (each_to is_atom small x atom_small h.0)
 
+-- an atom or a string is read as its value, and what follows is left, where that begins with no octet of an atom and no `{`
 pub astring_read : (s x y b : List ℕ) → IsAString s x → Ends y → b ≡ plain_octets x ++ y → astring_in b ≡ (s, y)
 astring_read s x y b (inl a) out e = atom_read x y b a.0 out (e ∙ ap (λ (u : List ℕ). u ++ y) (atom_plain x a.0)) ∙ ap (λ (u : List ℕ). (u, y)) (sym a.1)
 astring_read s x y b (inr (inl q)) out e = quoted_read s x y b q e

@@ -63,6 +63,7 @@ named key.Oct = refl
 named key.Nov = refl
 named key.Dec = refl
 
+-- keys of the same text are the same key
 pub one_key : (a b : Key) → key_text a ≡ key_text b → a ≡ b
 one_key a b e = sym (named a) ∙ ap key_named e ∙ named b
 
@@ -70,6 +71,7 @@ one_key a b e = sym (named a) ∙ ap key_named e ∙ named b
 abbrev pub is_key_octet : ℕ → Bool
 is_key_octet c = is_atom c && (lower c == c) && not (c == 33) && not (c == 45)
 
+-- each octet of a key's text is an atom's, in lower case, and neither `!` nor `-`
 pub key_octets : (k : Key) → Each is_key_octet (key_text k)
 key_octets key.Ok = (refl, (refl, tt))
 key_octets key.No = (refl, (refl, tt))
@@ -106,6 +108,7 @@ key_octets key.Nov = (refl, (refl, (refl, tt)))
 key_octets key.Dec = (refl, (refl, (refl, tt)))
 key_octets key.Size = (refl, (refl, (refl, (refl, (refl, (refl, (refl, (refl, (refl, (refl, (refl, tt)))))))))))
 
+-- the text of a key isn't empty
 pub key_some : (k : Key) → 0 < length (key_text k)
 key_some key.Ok = omega arith
 key_some key.No = omega arith
@@ -147,6 +150,7 @@ key_some key.Dec = omega arith
 each_mid : (p : ℕ → Bool) (x y : List ℕ) (c : ℕ) → Each p (x ++ c ∷ y) → p c ≡ true
 each_mid p x y c h = (each_parts p x (c ∷ y) h).1.0
 
+-- an octet of a key is an atom's, in lower case, and none of `!`, `{` and `-`
 pub key_octet_parts : (c : ℕ) → is_key_octet c ≡ true → (is_atom c ≡ true) × ((lower c == c) ≡ true) × ((c == 33) ≡ false) × ((c == 123) ≡ false) × (not (c == 45) ≡ true)
 key_octet_parts c e =
     let p = and_parts (is_atom c && (lower c == c) && not (c == 33)) (not (c == 45)) e in
@@ -157,6 +161,7 @@ key_octet_parts c e =
 atom_word : (c : ℕ) → is_atom c ≡ true → is_word c ≡ true
 atom_word c e = grind arith
 
+-- an octet of a key may stand in the word of a month
 pub key_octet_month : (c : ℕ) → is_key_octet c ≡ true → in_word place.Month c ≡ true
 key_octet_month c e = let p = key_octet_parts c e in and_from (is_atom c) (not (c == 45)) p.0 p.4
 
@@ -167,6 +172,7 @@ key_octet_in_word place.Numbered c e = atom_word c (key_octet_parts c e).0
 key_octet_in_word place.Item c e = (key_octet_parts c e).0
 key_octet_in_word place.Month c e = key_octet_month c e
 
+-- the octets of a key, from any index on, may stand in a word of each place
 pub key_in_word : (place : Place) (k : Key) (at : ℕ) → Each (in_word place) (drop at (key_text k))
 key_in_word place k at =
     each_to is_key_octet (in_word place) (drop at (key_text k)) (key_octet_in_word place)
@@ -176,6 +182,7 @@ same_lower : (t : List ℕ) → Each is_key_octet t → map lower t ≡ t
 same_lower [] h = refl
 same_lower (c ∷ t) h = let e : lower c ≡ c = eqb-true _ _ (key_octet_parts c h.0).1 in let r = same_lower t h.1 in cc
 
+-- the text of a key, from any index on, is in lower case
 pub key_lower : (k : Key) (at : ℕ) → map lower (drop at (key_text k)) ≡ drop at (key_text k)
 key_lower k at = same_lower (drop at (key_text k)) (each_parts is_key_octet (take at (key_text k)) (drop at (key_text k))
     (subst (Each is_key_octet) (sym (take-append-drop at (key_text k))) (key_octets k))).1
@@ -186,9 +193,11 @@ no_bang k x y e = let q = each_mid is_key_octet x y 33 (subst (Each is_key_octet
 
 -- ---- searches
 
+-- texts that the comparison finds equal are equal
 pub same_text : (a b : List ℕ) → bytes_eq a b ≡ true → a ≡ b
 same_text a b e = (bytes_eq-Decides a b).0 e
 
+-- the comparison finds equal texts equal
 pub text_same : (a b : List ℕ) → a ≡ b → bytes_eq a b ≡ true
 text_same a b e = (bytes_eq-Decides a b).1 e
 
@@ -198,6 +207,7 @@ self_same t = text_same t t refl
 
 pub ruleset selves = (self_same)
 
+-- the key that a search finds passes its test, and is among those that were searched
 pub find_some : (p : Key → Bool) (xs : List Key) (x : Key) → find p xs ≡ Some x → (p x ≡ true) × Among x xs
 find_some p [] x e = absurd cc
 find_some p (y ∷ xs) x e = by (p y) refl (find_some p xs x) e
@@ -206,6 +216,7 @@ find_some p (y ∷ xs) x e = by (p y) refl (find_some p xs x) e
     by true f ih g = let same : y ≡ x = cc in (ap p (sym same) ∙ f, inl (sym same))
     by false f ih g = let r = ih g in (r.0, inr r.1)
 
+-- where a search finds none, no key that it searched passes its test
 pub find_none : (p : Key → Bool) (xs : List Key) (x : Key) → find p xs ≡ None → Among x xs → p x ≡ true → ⊥
 find_none p [] x e h f = h
 find_none p (y ∷ xs) x e h f = by (p y) refl (λ g rest. find_none p xs x g rest f) e
@@ -214,11 +225,13 @@ find_none p (y ∷ xs) x e h f = by (p y) refl (λ g rest. find_none p xs x g re
     by true q ih g = cc
     by false q ih g = elim h [ inl same ↦ (let k : p x ≡ false = ap p same ∙ q in cc) | inr rest ↦ ih g rest ]
 
+-- the test for a key among others holds where it is among them
 pub among_is : (x : Key) (xs : List Key) → Among x xs → is_among x xs ≡ true
 among_is x [] h = absurd h
 among_is x (y ∷ xs) (inl e) = or_left (bytes_eq (key_text x) (key_text y)) (is_among x xs) (text_same (key_text x) (key_text y) (ap key_text e))
 among_is x (y ∷ xs) (inr h) = or_right (bytes_eq (key_text x) (key_text y)) (is_among x xs) (among_is x xs h)
 
+-- a key is among others where the test for it holds
 pub is_among_is : (x : Key) (xs : List Key) → is_among x xs ≡ true → Among x xs
 is_among_is x [] e = absurd cc
 is_among_is x (y ∷ xs) e = elim (or_cases (bytes_eq (key_text x) (key_text y)) (is_among x xs) e) [
@@ -234,9 +247,11 @@ among_keys p k x m (inr h) = h
 
 -- ---- a key that goes on
 
+-- the first i + 1 octets are the first i and the one at index i
 pub take_next : (t : List ℕ) (i c : ℕ) → i < length t → get_or t i 0 ≡ c → take (i + 1) t ≡ take i t ++ c ∷ []
 take_next t i c lt e = grind (arith, common_steps)
 
+-- a key that goes on with an octet begins with the octets so far and then this one
 pub goes_to : (k x : Key) (at c : ℕ) → goes_on k at c x ≡ true → (take (at + 1) (key_text x) ≡ take at (key_text k) ++ c ∷ []) × (at + 1 ≤ length (key_text x))
 goes_to k x at c e =
     let p = and_parts (nat_lt at (length (key_text x)) && get_or (key_text x) at 0 == c) (bytes_eq (take at (key_text x)) (take at (key_text k))) e in
@@ -250,6 +265,7 @@ at_front [] y c (suc n) e = absurd (omega (arith, e))
 at_front (d ∷ x) y c zero e = absurd (omega (arith, e))
 at_front (d ∷ x) y c (suc n) e = let r = at_front x y c n (omega (arith, e)) in (omega (arith, r.0), r.1, ap (λ (u : List ℕ). d ∷ u) r.2)
 
+-- a key that begins with the octets so far and then an octet goes on with it
 pub goes_from : (k x : Key) (at c : ℕ) (y : List ℕ) → at ≤ length (key_text k) → take at (key_text k) ++ c ∷ y ≡ key_text x → goes_on k at c x ≡ true
 goes_from k x at c y le e =
     let r = at_front (take at (key_text k)) y c at (sym (length-take-le at (key_text k) le)) in
@@ -264,6 +280,7 @@ goes_key_octet k x at c e =
     let front = (each_parts is_key_octet (take (at + 1) (key_text x)) (drop (at + 1) (key_text x)) all).0 in
     each_mid is_key_octet (take at (key_text k)) [] c (subst (Each is_key_octet) g.0 front)
 
+-- no key goes on with `{`
 pub goes_octet : (k x : Key) (at c : ℕ) → goes_on k at (lower c) x ≡ true → (c == 123) ≡ false
 goes_octet k x at c e = no_brace c (key_octet_parts (lower c) (goes_key_octet k x at (lower c) e)).3
   where
@@ -291,11 +308,13 @@ goes_in_word p k x at c e =
 
 -- ---- a key that is whole
 
+-- a key that is whole has the octets so far as its text
 pub whole_to : (k x : Key) (at : ℕ) → is_whole k at x ≡ true → take at (key_text k) ≡ key_text x
 whole_to k x at e =
     let p = and_parts (length (key_text x) == at) (bytes_eq (take at (key_text x)) (take at (key_text k))) e in
     sym (same_text _ _ p.1) ∙ ap (λ (n : ℕ). take n (key_text x)) (sym (eqb-true _ _ p.0)) ∙ take-length (key_text x)
 
+-- a key that has the octets so far as its text is whole
 pub whole_from : (k x : Key) (at : ℕ) → at ≤ length (key_text k) → take at (key_text k) ≡ key_text x → is_whole k at x ≡ true
 whole_from k x at le e =
     let n : length (key_text x) ≡ at = sym (ap length e) ∙ length-take-le at (key_text k) le in

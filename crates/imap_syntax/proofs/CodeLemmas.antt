@@ -39,6 +39,7 @@ is_decimal_of : (digits most : ℕ) (t : List ℕ) → Each is_digit t → 0 < l
 is_decimal_of digits most t each some few within =
     and_from _ _ (and_from _ _ (and_from _ _ (all_each is_digit t each) (lt-ltb 0 (length t) some)) (le-leb (length t) digits few)) (le-leb (value_from 0 t) most within)
 
+-- a text that is read as a nonzero number spells that number
 pub nonzero_sound : (t : List ℕ) (n : ℕ) → nonzero_in t ≡ Some n → IsNonZero n t
 unfolding nonzero_in
 nonzero_sound t n e = by_test (is_decimal 10 4294967295 t && nat_lt 0 (value_from 0 t)) (Some (value_from 0 t)) None (Some n) (IsNonZero n t) e
@@ -49,6 +50,7 @@ nonzero_sound t n e = by_test (is_decimal 10 4294967295 t && nat_lt 0 (value_fro
     (record { digits = d.each; some = d.some; few = d.few; value = sym same; most = omega (arith, d.within, same) }, omega (arith, same, ltb-true 0 (value_from 0 t) a.1)))
     (λ b f. absurd cc)
 
+-- a text that spells a nonzero number is read as that number
 pub nonzero_complete : (n : ℕ) (t : List ℕ) → IsNonZero n t → nonzero_in t ≡ Some n
 unfolding nonzero_in
 nonzero_complete n t h =
@@ -57,6 +59,7 @@ nonzero_complete n t h =
     (and_from _ _ (is_decimal_of 10 4294967295 t d.digits d.some d.few (omega (arith, d.value, d.most))) (lt-ltb 0 (value_from 0 t) (omega (arith, d.value, h.1))))
     ∙ ap (λ (m : ℕ). Some m) (sym d.value)
 
+-- a text that is read as a 63-bit number spells that number
 pub long_sound : (t : List ℕ) (n : ℕ) → long_in t ≡ Some n → IsLong n t
 unfolding long_in
 long_sound t n e = by_test (is_decimal 19 9223372036854775807 t) (Some (value_from 0 t)) None (Some n) (IsLong n t) e
@@ -66,6 +69,7 @@ long_sound t n e = by_test (is_decimal 19 9223372036854775807 t) (Some (value_fr
     record { digits = d.each; some = d.some; few = d.few; value = sym same; most = omega (arith, d.within, same) })
     (λ b f. absurd cc)
 
+-- a text that spells a 63-bit number is read as that number
 pub long_complete : (n : ℕ) (t : List ℕ) → IsLong n t → long_in t ≡ Some n
 unfolding long_in
 long_complete n t h =
@@ -151,10 +155,12 @@ set_long [] t h = absurd h
 set_long (r ∷ []) t h = let l = range_long r t h in omega (arith, l)
 set_long (r ∷ s ∷ rs) t h = omega (arith, ap length h.2, length-append h.0 (44 ∷ h.1), set_long (s ∷ rs) h.1 h.4)
 
+-- a text that is read as a set of UIDs spells that set
 pub set_sound : (t : List ℕ) (rs : List UidRange) → set_in t ≡ Some rs → IsSet rs t
 unfolding set_in
 set_sound t rs e = ranges_sound (length t) t rs e
 
+-- a text that spells a set of UIDs is read as that set
 pub set_complete : (rs : List UidRange) (t : List ℕ) → IsSet rs t → set_in t ≡ Some rs
 unfolding set_in
 set_complete rs t h = ranges_complete (length t) rs t (set_long rs t h) h
@@ -230,6 +236,7 @@ with_sound t r c e f = by_test (bytes_eq (map lower r.0) (codes "uidvalidity")) 
     subst (λ (k : Code). IsKnown k t) is (parted (IsWord (codes "copyuid")) (Parted (IsNonZero v) (Parted (IsSet from) (IsSet to))) t r e (same_word r.0 (codes "copyuid") b) h)))
     (λ b f. absurd cc)))))
 
+-- a text that is read as a known code spells that code
 pub known_sound : (t : List ℕ) (c : Code) → known_in t ≡ Some c → IsKnown c t
 unfolding known_in
 known_sound t c e = by (cut 32 t) refl e
@@ -251,6 +258,7 @@ word_cut B w t free h =
 parted_cut : (A B : List ℕ → Type 0) (t : List ℕ) → ((u : List ℕ) → A u → Each (other 32) u) → (h : Parted A B t) → cut 32 t ≡ Some (h.front, h.back)
 parted_cut A B t free h = ap (cut 32) h.whole ∙ cut_at 32 h.front h.back (free h.front h.first)
 
+-- a text that spells a known code is read as that code
 pub known_complete : (c : Code) (t : List ℕ) → IsKnown c t → known_in t ≡ Some c
 unfolding bare_code code_with
 known_complete (code.UidValidity n) t h = word_cut (IsNonZero n) (codes "uidvalidity") t refl h ∙ ap validity_of (nonzero_complete n h.back h.second)
@@ -306,6 +314,7 @@ opened [] e = absurd cc
 opened (a ∷ []) e = let p = and_parts (a == 32) (0 == 91) e in absurd cc
 opened (a ∷ b ∷ t) e = let p = and_parts (a == 32) (b == 91) e in let f = eqb-true a 32 p.0 in let g = eqb-true b 91 p.1 in cc
 
+-- what follows a status has the code that is read of it
 pub code_has : (t : List ℕ) → HasCode (code_in t) t
 unfolding code_in
 code_has t = by (opens t) refl
@@ -345,6 +354,7 @@ other_read t h = by (known_in h.inner) refl
     by None e = refl
     by (Some c) e = absurd (h.says c (known_sound h.inner c e))
 
+-- what follows a status has no code but the one that is read of it
 pub has_code : (c : Code) (t : List ℕ) → HasCode c t → code_in t ≡ c
 has_code code.Absent t h = absent_read (code_in t) t (code_has t) h
 has_code code.Other t h = code_read (λ (inner : List ℕ). (c : Code) → IsKnown c inner → ⊥) t h ∙ other_read t h

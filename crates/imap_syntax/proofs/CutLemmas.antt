@@ -11,6 +11,7 @@ use Rattle.imap_syntax.specs.ReadCodes.{cut, put_front}
 
 -- ---- tests
 
+-- to show what follows from a test's outcome, show it where the test holds and where it fails
 pub by_test : {A : Type 0} (b : Bool) (x y r : A) (P : Type 0) → cond b x y ≡ r → (b ≡ true → x ≡ r → P) → (b ≡ false → y ≡ r → P) → P
 by_test true x y r P e f g = f refl e
 by_test false x y r P e f g = g refl e
@@ -33,6 +34,7 @@ pub word_free : (t : List ℕ) → list_all (other 32) (map lower t) ≡ true �
 word_free [] e = tt
 word_free (c ∷ t) e = let a = and_parts (other 32 (lower c)) (list_all (other 32) (map lower t)) e in (space_lower c a.0, word_free t a.1)
 
+-- a text that is a word without a space, in letters of any case, has no space
 pub free_of : (t w : List ℕ) → map lower t ≡ w → list_all (other 32) w ≡ true → Each (other 32) t
 free_of t w e f = word_free t (ap (list_all (other 32)) e ∙ f)
 
@@ -59,12 +61,14 @@ cut_is c (d ∷ t) r e = by_test (d == c) (Some ([], t)) (put_front d (cut c t))
     (λ b f. cut_first c d t r b f)
     (λ b f. by_some (cut c t) (put_front d) r (Cut c (d ∷ t) r) refl f (λ q g k. cut_later c d t r q b (cut_is c t q g) k))
 
+-- where a text is cut, it is what stands before the octet, the octet, and what follows, and none before is the octet
 pub cut_some : (c : ℕ) (t : List ℕ) (r : List ℕ × List ℕ) → cut c t ≡ Some r → (t ≡ r.0 ++ c ∷ r.1) × Each (other c) r.0
 cut_some c t r e = let h = cut_is c t r e in (h.whole, h.each)
 
 same_octet : (c : ℕ) → (c == c) ≡ true
 same_octet c = grind arith
 
+-- a text of other octets, the octet, and more is cut into what stands before the octet and what follows it
 pub cut_at : (c : ℕ) (front back : List ℕ) → Each (other c) front → cut c (front ++ c ∷ back) ≡ Some (front, back)
 unfolding cut
 cut_at c [] back h = cond-true (c == c) (Some ([], back)) (put_front c (cut c back)) (same_octet c)
@@ -72,6 +76,7 @@ cut_at c (d ∷ front) back h =
     cond-false (d == c) (Some ([], front ++ c ∷ back)) (put_front d (cut c (front ++ c ∷ back))) (not-true (d == c) h.0)
     ∙ ap (put_front d) (cut_at c front back h.1)
 
+-- a text without the octet isn't cut
 pub cut_free : (c : ℕ) (t : List ℕ) → Each (other c) t → cut c t ≡ None
 unfolding cut
 cut_free c [] h = refl
@@ -100,6 +105,7 @@ cut_index c (d ∷ t) (suc i) lt h e =
     ∙ ap (put_front d) (cut_index c t i (omega (arith, lt)) (λ k l. h (suc k) (omega (arith, l))) e)
     ∙ ap (λ (n : ℕ). Some (d ∷ take i t, drop n (d ∷ t))) (sym past)
 
+-- a text that has the octet at no index isn't cut
 pub cut_never : (c : ℕ) (t : List ℕ) → ((k : ℕ) → k < length t → get_or t k 0 ≡ c → ⊥) → cut c t ≡ None
 unfolding cut
 cut_never c [] h = refl

@@ -36,15 +36,18 @@ atom_small c e = grind arith
 
 -- ---- texts of such octets are plain
 
+-- a text whose octets are all below 256 is its own plain octets
 pub plain_small : (x : List ℕ) → Each small x → plain_octets x ≡ x
 plain_small [] h = refl
 plain_small (c ∷ x) h = let e : plain_of c ≡ c = cond-true (nat_lt c 256) c (c - 256) h.0 in let r = plain_small x h.1 in cc
 
+-- where all octets of a front are below 256, the plain octets of a text are that front and those of the rest
 pub plain_join : (x y : List ℕ) → Each small x → plain_octets (x ++ y) ≡ x ++ plain_octets y
 plain_join x y h = map-append plain_of x y ∙ ap (λ (u : List ℕ). u ++ plain_octets y) (plain_small x h)
 
 -- ---- a run of a class, and what stands after it
 
+-- octets of a class, with none of it next, are the whole run at the front
 pub span_at : (p : ℕ → Bool) (x y : List ℕ) → Each p x → p (get_or y 0 0) ≡ false → span p (x ++ y) ≡ length x
 unfolding span
 span_at p [] [] h e = refl
@@ -70,6 +73,7 @@ pub record CutAt (p : ℕ → Bool) (x y b : List ℕ) : Type 0 where
   pub octet : get_or b (span p b) 0 ≡ get_or y 0 0
   pub past : (c : ℕ) (z : List ℕ) → y ≡ c ∷ z → drop (span p b + 1) b ≡ z
 
+-- octets of a class, with none of it next, are cut from what follows them
 pub cut_at : (p : ℕ → Bool) (x y b : List ℕ) → b ≡ x ++ y → Each p x → p (get_or y 0 0) ≡ false → CutAt p x y b
 cut_at p x y b e h o =
     let n : span p b ≡ length x = ap (span p) e ∙ span_at p x y h o in
@@ -104,23 +108,29 @@ count_capped most v (c ∷ t) = ap (λ (n : ℕ). count_from most n t) (cap_more
 cap_small : (most n : ℕ) → n ≤ most → cap most n ≡ n
 cap_small most n le = cond-true (nat_le n most) n (most + 1) (le-leb n most le)
 
+-- a number counted up from 0 is the digits' value, or 2^32 where that is greater
 pub number_from_is : (t : List ℕ) → number_from 0 t ≡ cap 4294967295 (value_from 0 t)
 number_from_is t = count_capped 4294967295 0 t
 
+-- digits whose value is below 2^32 are read as that value
 pub number_is : (t : List ℕ) → value_from 0 t ≤ 4294967295 → number_in t ≡ value_from 0 t
 number_is t le =
     let e : number_from 0 t ≡ value_from 0 t = number_from_is t ∙ cap_small 4294967295 (value_from 0 t) le in
     ap (λ (n : ℕ). cond (nat_le n 4294967295) n 4294967295) e ∙ cond-true (nat_le (value_from 0 t) 4294967295) (value_from 0 t) 4294967295 (le-leb (value_from 0 t) 4294967295 le)
 
+-- digits whose value is below 2^63 are read as that value
 pub long_is : (t : List ℕ) → value_from 0 t ≤ 9223372036854775807 → long_value t ≡ value_from 0 t
 long_is t le = count_capped 9223372036854775807 0 t ∙ cap_small 9223372036854775807 (value_from 0 t) le
 
+-- a number below 2^32 stays below it when it is capped
 pub capped_le : (n : ℕ) → n ≤ 4294967295 → cap 4294967295 n ≤ 4294967295
 capped_le n le = let e = cap_small 4294967295 n le in omega (arith, e, le)
 
+-- a 63-bit number is read as the digits' value, or as 2^63 where that is greater
 pub long_capped : (t : List ℕ) → long_value t ≡ cap 9223372036854775807 (value_from 0 t)
 long_capped t = count_capped 9223372036854775807 0 t
 
+-- a number that is at most `most` once it is capped is at most `most` itself
 pub within_cap : (most n : ℕ) → cap most n ≤ most → n ≤ most
 within_cap most n le = by (nat_le n most) refl
   where

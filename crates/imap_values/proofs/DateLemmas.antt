@@ -109,6 +109,7 @@ last_year n d h le = elim (cases_lt 10000 d.year) [
   ]
 ]
 
+-- each of the first 3652425 days from the first of January of the year 0 on is in a year up to 9999
 pub year_small : (n : ℕ) → n ≤ 3652424 → (day_at n).year ≤ 9999
 year_small n le = last_year n (day_at n) (counted n) le
 
@@ -145,6 +146,7 @@ since_zero (suc y) m h =
     let on = day_count-later_year (pos 0) (pos (suc y)) (omega (arith, signed_arith)) (omega (arith, signed_arith)) in
     omega (arith, year_zero, on, day_count-day_of_year (pos (suc y)) m 1 (omega arith))
 
+-- for the first of a month up to the year 9999, the days from 1970 on are those from the year 0 on, at most 3652424, less 719528
 pub first_day : (y m : ℕ) → y ≤ 9999 → 1 ≤ m → m ≤ 12 → (days_from_civil (pos y) m 1 ≡ pos (days_to y m) -ℤ pos 719528) × (days_to y m ≤ 3652424)
 first_day y m year low high =
     let civil : IsCivilDate (pos y) m 1 = ((omega (arith, signed_arith), omega (arith, signed_arith, year)), (low, high), (omega arith, some_day y m)) in

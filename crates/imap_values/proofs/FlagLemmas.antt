@@ -11,6 +11,7 @@ use Rattle.imap_values.specs.reading.Spans.{span, in_name, names_in, flags_in}
 use Rattle.imap_syntax.specs.Octets.{lower}
 use Rattle.imap_syntax.specs.Items.{add_name}
 
+-- putting an owned name in a set puts its octets in the set of the names' octets
 pub insert_items : (keys : List (Vec ℕ Global)) (k : Vec ℕ Global)
     → map (λ (v : Vec ℕ Global). v.items) (insert_key (λ (x y : Vec ℕ Global). slice_cmp nat_cmp x.items y.items) keys k)
     ≡ insert_key (slice_cmp nat_cmp) (map (λ (v : Vec ℕ Global). v.items) keys) k.items
@@ -28,6 +29,7 @@ insert_items (x ∷ keys) k = by (slice_cmp nat_cmp k.items x.items) (insert_ite
 
 -- ---- one name more
 
+-- a name with a space after it is added, and the others are read after the space, with one fewer allowed
 pub names_next : (left : ℕ) (so_far : List (List ℕ)) (b : List ℕ) → 0 < left → (get_or b (span in_name b) 0 == 32) ≡ true
     → names_in left so_far b ≡ names_in (left - 1) (add_name so_far (map lower (take (span in_name b) b))) (drop (span in_name b + 1) b)
 unfolding names_in
@@ -37,6 +39,7 @@ names_next (suc left) so_far b lt e =
     (add_name so_far (map lower (take (span in_name b) b)), drop (span in_name b + 1) b) e
     ∙ ap (λ (n : ℕ). names_in n (add_name so_far (map lower (take (span in_name b) b))) (drop (span in_name b + 1) b)) (less_one left)
 
+-- a name with no space after it is added as the last, and what follows the octet after it is left
 pub names_last : (left : ℕ) (so_far : List (List ℕ)) (b : List ℕ) → 0 < left → (get_or b (span in_name b) 0 == 32) ≡ false
     → names_in left so_far b ≡ (add_name so_far (map lower (take (span in_name b) b)), drop (span in_name b + 1) b)
 unfolding names_in

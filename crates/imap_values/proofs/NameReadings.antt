@@ -16,6 +16,7 @@ use Rattle.imap_syntax.specs.Items.{IsName, AllNames, joined, add_name, kept_fro
 
 -- ---- names
 
+-- an octet of an atom may stand in a name
 pub atom_name : (c : ℕ) → is_atom c ≡ true → in_name c ≡ true
 atom_name c e = grind arith
 
@@ -27,6 +28,7 @@ names_small : (ns : List (List ℕ)) → AllNames ns → Each small (spaced ns)
 names_small [] h = tt
 names_small (n ∷ ns) h = (refl, each_append small n (spaced ns) (name_class small n atom_small refl h.0) (names_small ns h.1))
 
+-- the octets of names with spaces between are below 256
 pub joined_small : (ns : List (List ℕ)) → AllNames ns → Each small (joined ns)
 joined_small [] h = tt
 joined_small (n ∷ ns) h = each_append small n (spaced ns) (name_class small n atom_small refl h.0) (names_small ns h.1)
@@ -57,6 +59,7 @@ name_first (c ∷ n) rest (inl a) = not_bracket c a.0.0
     not_bracket c e = grind arith
 name_first (c ∷ n) rest (inr a) = let first : c ∷ n ≡ 92 ∷ a.0 = a.1 in let octet : c ≡ 92 = cc in ap (λ (d : ℕ). d == 41) octet
 
+-- names with spaces between and then `)` are read as their kept form, and what follows the `)` is left
 pub flags_read : (ns : List (List ℕ)) (rest b : List ℕ) → AllNames ns → b ≡ joined ns ++ 41 ∷ rest → flags_in b ≡ (kept ns, rest)
 unfolding flags_in
 flags_read [] rest b all e =
@@ -72,5 +75,6 @@ flags_read (n ∷ ns) rest b all e =
 
 -- ---- numbers
 
+-- a text that spells a 63-bit number is read as that number
 pub long_read : (n : ℕ) (t : List ℕ) → IsLong n t → long_value t ≡ n
 long_read n t h = long_is t (omega (arith, h.value, h.most)) ∙ sym h.value

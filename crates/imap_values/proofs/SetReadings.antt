@@ -19,6 +19,7 @@ use Rattle.imap_syntax.specs.UidSets.{range_of, IsRange, IsSet, IsSetLine, IsVan
 
 -- ---- one word more, one range more
 
+-- at a space, the words so far, the next one and those after it are the words so far and all that are read here
 pub word_next : (left : ℕ) (so_far : List (List ℕ)) (b : List ℕ) → 0 < left → (get_or b 0 0 == 32) ≡ true
     → (so_far ++ take (span is_word (drop 1 b)) (drop 1 b) ∷ []) ++ words_in (left - 1) (drop (span is_word (drop 1 b)) (drop 1 b)) ≡ so_far ++ words_in left b
 unfolding words_in
@@ -29,6 +30,7 @@ word_next (suc left) so_far b lt e =
     ∙ ap (λ (n : ℕ). so_far ++ take (span is_word w) w ∷ words_in n (drop (span is_word w) w)) (sym (less_one left))
     ∙ ap (λ (u : List (List ℕ)). so_far ++ u) (sym (cond-true (get_or b 0 0 == 32) (take (span is_word w) w ∷ words_in left (drop (span is_word w) w)) [] e))
 
+-- where no space follows, no word is added to those so far
 pub word_last : (left : ℕ) (so_far : List (List ℕ)) (b : List ℕ) → (get_or b 0 0 == 32) ≡ false → so_far ++ words_in left b ≡ so_far
 unfolding words_in
 word_last zero so_far b e = append-nil so_far
@@ -36,10 +38,12 @@ word_last (suc left) so_far b e =
     let w = drop 1 b in
     ap (λ (u : List (List ℕ)). so_far ++ u) (cond-false (get_or b 0 0 == 32) (take (span is_word w) w ∷ words_in left (drop (span is_word w) w)) [] e) ∙ append-nil so_far
 
+-- where no more words may be read, none is added to those so far
 pub word_end : (so_far : List (List ℕ)) (b : List ℕ) → so_far ++ words_in 0 b ≡ so_far
 unfolding words_in
 word_end so_far b = append-nil so_far
 
+-- where a comma follows a range, the ranges so far, this one and those after it are the ranges so far and all that are read here
 pub range_next : (left : ℕ) (so_far : List UidRange) (b : List ℕ) → 0 < left → (get_or (range_read b).1 0 0 == 44) ≡ true
     → (so_far ++ (range_read b).0 ∷ []) ++ ranges_read (left - 1) (drop 1 (range_read b).1) ≡ so_far ++ ranges_read left b
 unfolding ranges_read
@@ -50,6 +54,7 @@ range_next (suc left) so_far b lt e =
     ∙ ap (λ (n : ℕ). so_far ++ r.0 ∷ ranges_read n (drop 1 r.1)) (sym (less_one left))
     ∙ ap (λ (u : List UidRange). so_far ++ r.0 ∷ u) (sym (cond-true (get_or r.1 0 0 == 44) (ranges_read left (drop 1 r.1)) [] e))
 
+-- where no comma follows a range, it is the last that is added to those so far
 pub range_last : (left : ℕ) (so_far : List UidRange) (b : List ℕ) → 0 < left → (get_or (range_read b).1 0 0 == 44) ≡ false
     → so_far ++ ranges_read left b ≡ so_far ++ (range_read b).0 ∷ []
 unfolding ranges_read
@@ -58,6 +63,7 @@ range_last (suc left) so_far b lt e =
     let r = range_read b in
     ap (λ (u : List UidRange). so_far ++ r.0 ∷ u) (cond-false (get_or r.1 0 0 == 44) (ranges_read left (drop 1 r.1)) [] e)
 
+-- where no more ranges may be read, none is added to those so far
 pub range_end : (so_far : List UidRange) (b : List ℕ) → so_far ++ ranges_read 0 b ≡ so_far
 unfolding ranges_read
 range_end so_far b = append-nil so_far
@@ -86,6 +92,7 @@ read_words (x ∷ ws) (suc most) b h le e =
     ∙ ap (λ (u : List ℕ). u ∷ words_in most (drop (span is_word w) w)) k.front
     ∙ ap (λ (u : List (List ℕ)). x ∷ u) (read_words ws most (drop (span is_word w) w) h.1 (omega (arith, le)) k.back)
 
+-- the octets of a text that spells words are read as these words
 pub words_read : (ws : List (List ℕ)) (t : List ℕ) → IsWords ws t → words_in (length (plain_octets t)) (plain_octets t) ≡ ws
 words_read ws t h =
     let e : plain_octets t ≡ spaced ws ++ crlf = ap plain_octets h.1 ∙ plain_small (spaced ws ++ crlf)
@@ -213,6 +220,7 @@ earlier_first (c ∷ w) u h = let first : lower c ∷ map lower w ≡ codes "(ea
     bracket : (c : ℕ) → lower c ≡ 40 → (plain_of c == 40) ≡ true
     bracket c e = grind arith
 
+-- the octets after VANISHED are read as the set that they spell, and as EARLIER or not
 pub vanished_read : (earlier : Bool) (rs : List UidRange) (t : List ℕ) → IsVanished earlier rs t → vanished_in (plain_octets t) ≡ response.Vanished earlier (record { ranges = rs })
 unfolding vanished_in
 vanished_read true rs t h =

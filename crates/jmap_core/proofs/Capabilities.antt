@@ -32,6 +32,7 @@ noted-capabilities : (names : List (List ℕ)) → UsesAll names
 noted-capabilities [] = λ s. rw (or-false s.core, or-false s.mail) refl
 noted-capabilities (n ∷ names) = uses-one n names (noted-capabilities names) (is_or_not n _) (is_or_not n _)
 
+-- what is noted of names is which capabilities stand among them, where all of them are capabilities
 pub known-is : (names : List (List ℕ)) → known_capabilities names ≡ (if list_all is_capability names then Some (using_of names) else None)
 known-is names = noted-capabilities names (record { core = false; mail = false })
 
@@ -59,12 +60,15 @@ fit_if form true u is fit = rw (le-ltb 16 (length form.calls) fit)
     (same_Some _ _ is))
 fit_if form false u is fit = absurd (none-some u is)
 
+-- a form that names another capability is refused for that
 pub admitted-unknown : (form : Form) → None ≡ known_capabilities form.uses → admitted form ≡ Err UnknownCapability
 admitted-unknown form is = unknown_if form (list_all is_capability form.uses) (sym (is ∙ known-is form.uses))
 
+-- a form that names no other capability, and has more than 16 calls, is refused for those
 pub admitted-many : (form : Form) (u : Using) → Some u ≡ known_capabilities form.uses → 16 < length form.calls → admitted form ≡ Err (Limit MaxCallsInRequest)
 admitted-many form u is many = many_if form (list_all is_capability form.uses) u (sym (is ∙ known-is form.uses)) many
 
+-- a form that names no other capability, and has at most 16 calls, is a request
 pub admitted-fit : (form : Form) (u : Using) → Some u ≡ known_capabilities form.uses → length form.calls ≤ 16
     → admitted form ≡ Ok (record { uses = u; calls = form.calls; created = form.created })
 admitted-fit form u is fit = fit_if form (list_all is_capability form.uses) u (sym (is ∙ known-is form.uses)) fit

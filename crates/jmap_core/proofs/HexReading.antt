@@ -70,6 +70,7 @@ pub some_by : (ds : List ℕ) (b : Bool) → b ≡ (length ds == 0) → b ≡ fa
 some_by [] b is not_so = absurd (cc (is, not_so))
 some_by (c ∷ ds) b is not_so = omega arith
 
+-- where the test says so, there are no digits
 pub none_by : (ds : List ℕ) (b : Bool) → b ≡ (length ds == 0) → b ≡ true → length ds ≡ 0
 none_by ds b is so = eqb-true (length ds) 0 (sym is ∙ so)
 

@@ -4,6 +4,7 @@ use Rattle.std.proofs.Common.{arith}
 use Rattle.std.specs.declared.alloc.AllocError.{AllocError}
 use Rattle.jmap_core.specs.State.{hex_digit, hex_text}
 
+-- a number's last digits are those of its sixteenth, one fewer, and then the digit of the remainder
 pub hex-last : (width n : ℕ) → (width ≡ 0 → ⊥) → hex_text width n ≡ hex_text (width - 1) (n / 16) ++ hex_digit (n % 16) ∷ []
 unfolding hex_text
 hex-last zero n some = absurd (some refl)

@@ -12,6 +12,7 @@ use Rattle.serde_json.specs.Data.{string, member, put}
 use Rattle.jmap_core.specs.CreatedIds.{put_id, id_of, id_members}
 use Rattle.jmap_core.specs.reading.Pairs.{Entry, pairs}
 
+-- what a map of texts has at a name is what its pairs have there
 pub lookup-pairs : (name : List ℕ) (es : List Entry) → lookup (is_at (λ k. slice_cmp nat_cmp name (string_bytes k))) es ≡ id_of name (pairs es)
 lookup-pairs name [] = refl
 lookup-pairs name (e ∷ es) = ap (λ (o : Option (List ℕ)). cond (is_eq (slice_cmp nat_cmp name (string_bytes e.0))) (Some e.1) o) (lookup-pairs name es)
@@ -21,6 +22,7 @@ pairs-match_ordering Less a b c = refl
 pairs-match_ordering Equal a b c = refl
 pairs-match_ordering Greater a b c = refl
 
+-- an entry that is put into a map of texts is put into its pairs
 pub pairs-insert_entry : (es : List Entry) (k : String Global) (id : List ℕ) → pairs (insert_entry string_cmp es k id) ≡ put_id (string_bytes k) id (pairs es)
 pairs-insert_entry [] k id = refl
 pairs-insert_entry (e ∷ es) k id = pairs-match_ordering (string_cmp k e.0) _ _ _ ∙ rw (pairs-insert_entry es k id)

@@ -20,6 +20,7 @@ whole_ids : (ids : Ids) → members_have_float (id_members ids) ≡ false
 whole_ids [] = refl
 whole_ids (e ∷ ids) = whole_ids ids
 
+-- where no answer has a number with a fraction, the response to them all has none
 pub whole_response : (cs : List Call) (created : Option Ids) (session : List ℕ) → All IsWhole cs → has_float (response_data (map call_data cs) created session) ≡ false
 whole_response cs None session whole = rw (whole_answers cs (recursion_from_All _ cs whole)) refl
 whole_response cs (Some ids) session whole = rw (whole_ids ids, whole_answers cs (recursion_from_All _ cs whole)) refl

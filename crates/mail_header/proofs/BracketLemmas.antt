@@ -40,6 +40,7 @@ some_piece : (v : Option (List ℕ)) (x s : List ℕ) → IsBracketPiece v x s �
 some_piece _ _ s (InBrackets x _ r) = λ e. absurd cc
 some_piece _ _ s (Passed c _ n) = λ e. absurd cc
 
+-- a text begins with one piece at most: a name in angle brackets, or an octet that is passed over
 pub piece_determined : IsDetermined IsBracketPiece
 piece_determined = record { one = one_piece; some = some_piece }
 
@@ -49,9 +50,11 @@ pub record Gathered (names : List (List ℕ)) (rest b : List ℕ) : Type 0 where
   pub behind : Behind IsBracketPiece pieces rest b
   pub names_are : names ≡ flat_map option_to_list pieces
 
+-- before any piece was read, there are no names, and the whole text is left
 pub nothing_gathered : (b : List ℕ) → Gathered [] b b
 nothing_gathered b = record { pieces = []; behind = begins IsBracketPiece b; names_are = refl }
 
+-- where what stands at the front of the rest was taken, the names are those with what it added, and what follows it is left
 pub gathered_more : (old new : List (List ℕ)) (rest more b : List ℕ) → Gathered old rest b → TakesBlock rest more old new → Gathered new more b
 gathered_more old new rest more b g t = record {
   pieces = g.pieces ++ t.value ∷ [];
@@ -61,9 +64,11 @@ gathered_more old new rest more b g t = record {
       ∙ sym (flat_map-append option_to_list g.pieces (t.value ∷ []));
 }
 
+-- where nothing is left, the names are those that the whole text has
 pub gathered_all : (names : List (List ℕ)) (rest b : List ℕ) → Gathered names rest b → rest ≡ [] → HasPieces names b
 gathered_all names rest b g e = record { pieces = g.pieces; are = all_done g.pieces rest b g.behind e; names_are = g.names_are }
 
+-- what is left when a piece was taken is shorter than the text
 pub takes_some : (text rest : List ℕ) (old new : List (List ℕ)) → TakesBlock text rest old new → length rest < length text
 takes_some text rest old new t = by t.unit (some_piece t.value t.unit rest t.is) t.whole
   where
@@ -71,9 +76,11 @@ takes_some text rest old new t = by t.unit (some_piece t.value t.unit rest t.is)
     by [] n e = absurd (n refl)
     by (c ∷ x) n e = omega (arith, ap length e, length-append (c ∷ x) rest)
 
+-- octets in angle brackets at the front of a text are taken, and added as a name
 pub takes_piece : (text x rest : List ℕ) (old new : List (List ℕ)) → IsRun is_bracketed_octet x → text ≡ 60 ∷ (x ++ 62 ∷ rest) → new ≡ old ++ x ∷ [] → TakesBlock text rest old new
 takes_piece text x rest old new r e h = record { value = Some x; unit = 60 ∷ (x ++ 62 ∷ []); whole = e ∙ sym (closed x rest); is = InBrackets x rest r; added = h }
 
+-- an octet that begins no name in angle brackets is passed over, and adds no name
 pub takes_octet : (text rest : List ℕ) (c : ℕ) (old : List (List ℕ)) → text ≡ c ∷ rest → ((x y : List ℕ) → IsRun is_bracketed_octet x → text ≢ 60 ∷ (x ++ 62 ∷ y))
     → TakesBlock text rest old old
 takes_octet text rest c old e n = record { value = None; unit = c ∷ []; whole = e; is = Passed c rest (λ x y r w. n x y r (e ∙ w)); added = sym (append-nil old) }

@@ -24,6 +24,7 @@ chosen_one : (q : Bool) → cond {A = ℕ} q 1 1 ≡ 1
 chosen_one true = refl
 chosen_one false = refl
 
+-- where a text begins with a block, as many octets are counted as the block has
 pub block_counted : (x s : List ℕ) → IsBlock x s → block_len (x ++ s) ≡ length x
 block_counted [] s b = absurd b
 block_counted (c ∷ []) s (inl e) = cond-true (ends_block c s) _ _ e
@@ -50,6 +51,7 @@ longer c d t e b = by b.unit b.rest b.whole b.is b.counted
       counted = cond-false (ends_block c (d ∷ t)) _ _ e ∙ ap (λ (k : ℕ). suc k) n;
     }
 
+-- a text that isn't empty begins with a block, and as many octets are counted as the block has
 pub block_at : (c : ℕ) (t : List ℕ) → BlockAt (c ∷ t)
 block_at c [] = record { unit = c ∷ []; rest = []; whole = refl; is = inr refl; counted = chosen_one (ends_block c []) }
 block_at c (d ∷ t) = by (ends_block c (d ∷ t)) refl (block_at d t)
@@ -80,12 +82,14 @@ stops_name (c ∷ b) v e = blank_no_name c e.0
 pub field_name : (n r b : List ℕ) (f : IsField n r b) → n ≡ front is_name b
 field_name n r b f = sym (front_is is_name n (f.blanks ++ 58 ∷ f.value) f.is_named.0 (stops_name f.blanks f.value f.are_blank)) ∙ ap (front is_name) (sym f.whole)
 
+-- behind the name of a field and the white space after it stand the colon and the value
 pub field_rest : (n r b : List ℕ) (f : IsField n r b) → back is_blank (back is_name b) ≡ 58 ∷ f.value
 field_rest n r b f =
     ap (λ (u : List ℕ). back is_blank (back is_name u)) f.whole
     ∙ ap (back is_blank) (back_is is_name n (f.blanks ++ 58 ∷ f.value) f.is_named.0 (stops_name f.blanks f.value f.are_blank))
     ∙ back_is is_blank f.blanks (58 ∷ f.value) f.are_blank refl
 
+-- a block is a field with one name and one raw value at most
 pub one_field : (n m r s b : List ℕ) → IsField n r b → IsField m s b → SameField n m r s
 one_field n m r s b f g = record {
   name = field_name n r b f ∙ sym (field_name m s b g);
@@ -153,6 +157,7 @@ some_part _ x s (OtherLines _ _ g z b) = block_some x s b
 some_part _ _ _ (ThisBody _ d Lf) = λ e. absurd cc
 some_part _ _ _ (ThisBody _ d CrLf) = λ e. absurd cc
 
+-- a text begins with one part of a message at most: a field, other lines, or the empty line with the body after it
 pub part_determined : IsDetermined IsPart
 part_determined = record { one = one_part; some = some_part }
 
@@ -166,6 +171,7 @@ pub record Walked (fields : List NameAndRaw) (rest b : List ℕ) : Type 0 where
   pub no_body : flat_map body_in parts ≡ []
   pub counted : length rest ≤ length b
 
+-- before any part was read, there are no fields, and all octets are left
 pub nothing_walked : (b : List ℕ) → Walked [] b b
 nothing_walked b = record { parts = []; behind = begins IsPart b; fields_are = refl; no_body = refl; counted = omega arith }
 
@@ -221,6 +227,7 @@ walked_end fields rest b (suc n) w e p =
       end_is = omega (arith, ap length body, f.counted, ap length f.whole, length-append f.end f.rest, w.counted);
     }
 
+-- where nothing is left, the header has the fields that were read, and ends at the end of the octets
 pub walked_all : (fields : List NameAndRaw) (rest b : List ℕ) → Walked fields rest b → rest ≡ [] → IsHeader fields (length b) b
 walked_all fields rest b w e = record {
   parts = w.parts;
@@ -249,11 +256,13 @@ is_field b n r v w en er ev some ew = record {
 
 -- ---- the last of a name
 
+-- a field of a name that has no other of that name behind it is the last of the name
 pub last_found : (name : List ℕ) (fs : List NameAndRaw) (f : NameAndRaw) (gs : List NameAndRaw) → is_same_text f.0 name ≡ true → last_named name gs ≡ None
     → last_named name (fs ++ f ∷ gs) ≡ Some f.1
 last_found name [] f gs e n = ap (λ (o : Option (List ℕ)). later_or o (is_same_text f.0 name) f.1) n ∙ cond-true (is_same_text f.0 name) _ _ e
 last_found name (g ∷ fs) f gs e n = ap (λ (o : Option (List ℕ)). later_or o (is_same_text g.0 name) g.1) (last_found name fs f gs e n)
 
+-- a field in the list that has the name, where none behind it has, is the last of the name
 pub last_at : (name : List ℕ) (l : List Field) (i at : ℕ) (f : Field) → i < length l → at ≡ i + 1 → f ≡ get_or l i f → is_same_text f.name.now name ≡ true
     → last_named name (fields_view (drop at l)) ≡ None → last_named name (fields_view l) ≡ Some f.raw.now
 last_at name l i at f lt n e h none =
@@ -263,6 +272,7 @@ last_at name l i at f lt n e h none =
     ∙ ap (last_named name) (map-append field_view (take i l) (f ∷ drop at l))
     ∙ last_found name (fields_view (take i l)) (field_view f) (fields_view (drop at l)) h none
 
+-- the field that is read at a place of the list is the last of the name, where it has the name and none behind it has
 pub last_read : (name : List ℕ) (l : List Field) (i at : ℕ) (d : Field) → i < length l → at ≡ i + 1 → is_same_text (get_or l i d).name.now name ≡ true
     → last_named name (fields_view (drop at l)) ≡ None → last_named name (fields_view l) ≡ Some (get_or l i d).raw.now
 last_read name l i at d lt n e none = last_at name l i at (get_or l i d) lt n (get_or_default l i d (get_or l i d) lt) e none
@@ -284,24 +294,29 @@ pub record LastWalked (name : List ℕ) (found : Option (List ℕ)) (rest b : Li
   pub walked : Walked fields rest b
   pub found_is : found ≡ last_named name fields
 
+-- before any part was read, there is no field of the name
 pub none_walked : (name b : List ℕ) → LastWalked name None b b
 none_walked name b = record { fields = []; walked = nothing_walked b; found_is = refl }
 
+-- where the block at the front of the rest was read, the fields are those with its own, if it is a field, and the rest goes on behind it
 pub block_walked : (old new : List NameAndRaw) (rest b block more : List ℕ) → Walked old rest b → IsBlockAt rest block more → AddsField block old new → Walked new more b
 block_walked old new rest b block more w i a = walked_block old new rest b block more w i.some i.no_end i.block_is i.rest_is a
 
+-- where the next block was read, the last field of the name is its own, if it is a field of that name, or the one found before
 pub last_walked : (name : List ℕ) (found new : Option (List ℕ)) (rest b block more : List ℕ) → LastWalked name found rest b → IsBlockAt rest block more
     → LaterField name block found new → LastWalked name new more b
 last_walked name found new rest b block more w i l =
     let k = l w.fields w.found_is in
     record { fields = k.0; walked = block_walked w.fields k.0 rest b block more w.walked i k.1; found_is = k.2 }
 
+-- where a header ends before the rest, it has the fields that were read, and ends behind the empty line, if there is one
 pub walked_done : (fields : List NameAndRaw) (rest b : List ℕ) (n : ℕ) → Walked fields rest b → EndsHeader rest → n ≡ line_end_len rest
     → IsHeader fields (length b - length rest + n) b
 walked_done fields rest b n w (inl e) h =
     subst (λ (k : ℕ). IsHeader fields k b) (omega (arith, ap length e, ap line_end_len e, h)) (walked_all fields rest b w e)
 walked_done fields rest b n w (inr e) h = walked_end fields rest b n w (sym h) (omega (arith, e, h))
 
+-- where a header ends before the rest, the last field of the name among those read is the last in the header
 pub last_done : (name : List ℕ) (found : Option (List ℕ)) (rest b : List ℕ) → LastWalked name found rest b → EndsHeader rest → IsLastField name b found
 last_done name found rest b w e = record {
   fields = w.fields;

@@ -64,6 +64,7 @@ whole_kept t x l w n h =
     let e : t ≡ x ++ o.0 ∷ [] = w ∙ ap (λ (u : List ℕ). x ++ u) o.1 in
     e ∙ sym (kept_whole x o.0 (ap begins_with_lf (sym o.1) ∙ h)) ∙ ap without_end (sym e)
 
+-- of a text that is one LF, what stands before the LF is the text without the end of its line
 pub lone_lf : (t x l : List ℕ) → t ≡ x ++ l → length l ≡ 1 → begins_with_lf l ≡ true → length t ≡ 1 → x ≡ without_end t
 lone_lf t x l w n h k =
     let o = one_octet l n in
@@ -71,6 +72,7 @@ lone_lf t x l w n h k =
     let e : t ≡ o.0 ∷ [] = w ∙ ap (λ (u : List ℕ). u ++ l) z ∙ o.1 in
     z ∙ sym (cond-true (is_line_end (o.0 ∷ [])) [] _ (ap begins_with_lf (sym o.1) ∙ h)) ∙ ap without_end (sym e)
 
+-- what stands before a CR LF at the end is the text without the end of its last line
 pub crlf_cut : (t x l y m : List ℕ) → t ≡ x ++ l → length l ≡ 1 → begins_with_lf l ≡ true → t ≡ y ++ m → length m ≡ 2 → begins_with_cr m ≡ true → y ≡ without_end t
 crlf_cut t x l y m w n h v k c =
     let o = one_octet l n in
@@ -79,6 +81,7 @@ crlf_cut t x l y m w n h v k c =
     let q = last_is t x l y p.0 p.1 w n e in
     sym (crlf_lost y p.0 p.1 (ap (λ (b : Bool). b && eqb p.1 10) (ap begins_with_cr (sym p.2) ∙ c) ∙ ap begins_with_lf (sym q.1) ∙ h)) ∙ ap without_end (sym e)
 
+-- where the last octet is an LF and the one before it isn't a CR, what stands before the LF is the text without the end of its last line
 pub lf_cut : (t x l y m : List ℕ) → t ≡ x ++ l → length l ≡ 1 → begins_with_lf l ≡ true → t ≡ y ++ m → length m ≡ 2 → begins_with_cr m ≡ false → x ≡ without_end t
 lf_cut t x l y m w n h v k c =
     let o = one_octet l n in

@@ -42,8 +42,10 @@ other_kept (y ∷ x) c e =
 with_last : (t : List ℕ) (d : ℕ) → 1 ≤ length t → t ≡ take (length t - 1) t ++ get_or t (length t - 1) d ∷ []
 with_last t d e = sym (take_all (length t - 1 + 1) t (omega arith)) ∙ take_more t (length t - 1) d (omega arith)
 
+-- where the last octet is white space, the text without it is the same once the white space at the end is dropped
 pub last_dropped : (t : List ℕ) (d : ℕ) → 1 ≤ length t → is_white (get_or t (length t - 1) d) ≡ true → without_white_end (take (length t - 1) t) ≡ without_white_end t
 last_dropped t d e w = sym (white_dropped (take (length t - 1) t) (get_or t (length t - 1) d) w) ∙ ap without_white_end (sym (with_last t d e))
 
+-- where the last octet isn't white space, no white space is dropped at the end
 pub last_kept : (t : List ℕ) (d : ℕ) → 1 ≤ length t → is_white (get_or t (length t - 1) d) ≡ false → without_white_end t ≡ t
 last_kept t d e w = ap without_white_end (with_last t d e) ∙ other_kept (take (length t - 1) t) (get_or t (length t - 1) d) w ∙ sym (with_last t d e)

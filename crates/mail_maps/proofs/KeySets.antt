@@ -11,6 +11,7 @@ use Rattle.mail_maps.specs.reading.Sets.{set_items}
 abbrev vec_cmp : Vec ℕ Global → Vec ℕ Global → Ordering
 vec_cmp a b = slice_cmp nat_cmp a.items b.items
 
+-- the octets of a set with a key put in are those of the set with the key's put in
 pub items_of-insert_key : (ks : List (Vec ℕ Global)) (k : Vec ℕ Global) → map set_items (insert_key vec_cmp ks k) ≡ insert_key (slice_cmp nat_cmp) (map set_items ks) k.items
 items_of-insert_key [] k = refl
 items_of-insert_key (x ∷ ks) k =
@@ -21,6 +22,7 @@ items_of-insert_key (x ∷ ks) k =
       | Greater ↦ ap (λ r. x.items ∷ r) (items_of-insert_key ks k)
     ]
 
+-- keys of two lists in turn are put in like those of the one, and then those of the other
 pub sorted_into-append : {K : Type 0} (cmp : K → K → Ordering) (ks xs ys : List K) → sorted_into cmp ks (xs ++ ys) ≡ sorted_into cmp (sorted_into cmp ks xs) ys
 sorted_into-append cmp ks [] ys = refl
 sorted_into-append cmp ks (x ∷ xs) ys = sorted_into-append cmp (insert_key cmp ks x) xs ys

@@ -23,6 +23,7 @@ all_less : (F : Folder → MailboxRow) (k : ℕ) (hs : List Held) → AllAbove f
 all_less F k [] h = tt
 all_less F k (x ∷ hs) h = (is_less k (folder_number x) h.0, all_less F k hs h.1)
 
+-- where folders ascend by their numbers, the rows that they give do
 pub sorted_by_number : (F : Folder → MailboxRow) (hs : List Held) → Ascends folder_number hs → IsStrictlySortedBy nat_cmp (keys_of (by_number F hs))
 unfolding IsStrictlySortedBy
 sorted_by_number F [] h = tt

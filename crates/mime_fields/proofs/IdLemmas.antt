@@ -124,9 +124,11 @@ pub record Gathered (kept rest b : List ℕ) : Type 0 where
   pub behind : Behind IsUnit units rest b
   pub kept_are : kept ≡ flat_map (λ (unit : List ℕ). unit) units
 
+-- before any unit was read, nothing is kept, and the whole text is left
 pub nothing_gathered : (b : List ℕ) → Gathered [] b b
 nothing_gathered b = record { units = []; behind = begins IsUnit b; kept_are = refl }
 
+-- where the unit at the front of the rest was taken, what it adds is kept too, and what follows it is left
 pub gathered_more : (old new rest more b : List ℕ) → Gathered old rest b → TakesUnit rest more old new → Gathered new more b
 gathered_more old new rest more b g t = record {
   units = g.units ++ t.kept ∷ [];
@@ -136,9 +138,11 @@ gathered_more old new rest more b g t = record {
       ∙ sym (flat_map-append (λ (unit : List ℕ). unit) g.units (t.kept ∷ []));
 }
 
+-- where nothing is left, what was kept, without its line ends, is what is kept of the whole text
 pub gathered_all : (kept rest b text : List ℕ) → Gathered kept rest b → rest ≡ [] → text ≡ unfolded kept → IsWithoutGaps text b
 gathered_all kept rest b text g e h = record { units = g.units; are = all_done g.units rest b g.behind e; kept_is = h ∙ ap unfolded g.kept_are }
 
+-- what is left when a unit was taken is shorter than the text
 pub takes_some : (text rest old new : List ℕ) → TakesUnit text rest old new → length rest < length text
 takes_some text rest old new t = by t.unit (some_unit t.kept t.unit rest t.is) t.whole
   where
@@ -148,6 +152,7 @@ takes_some text rest old new t = by t.unit (some_unit t.kept t.unit rest t.is) t
 
 -- ---- steps
 
+-- an octet that is no parenthesis and no quote is taken, and kept unless it is white space
 pub takes_octet : (text rest old new : List ℕ) (c : ℕ) → text ≡ c ∷ rest → is_opener c ≡ false → new ≡ old ++ filter is_visible_octet (c ∷ []) → TakesUnit text rest old new
 takes_octet text rest old new c e o h = by (is_white c) refl
   where
@@ -162,15 +167,19 @@ takes_octet text rest old new c e o h = by (is_white c) refl
           (λ (p : Bool). old ++ cond (Rattle.std.specs.Prelude.not p) (c ∷ []) []) w;
     }
 
+-- a text whose first octet is a parenthesis or a quote begins with one
 pub begins_with_opener : (text rest : List ℕ) (c : ℕ) → text ≡ c ∷ rest → is_opener c ≡ true → BeginsWithOpener text
 begins_with_opener text rest c e o = let P : List ℕ → Type 0 = λ t. BeginsWithOpener t in subst P (sym e) o
 
+-- a comment at the front of a text is taken, and nothing of it is kept
 pub takes_comment : (text x rest old : List ℕ) → IsComment x → text ≡ x ++ rest → TakesUnit text rest old old
 takes_comment text x rest old b e = record { kept = []; unit = x; whole = e; is = Comment x rest b; added = sym (append-nil old) }
 
+-- a quoted text at the front of a text is taken, and kept as it is
 pub takes_quoted : (text x rest old new : List ℕ) → IsQuoted x → text ≡ x ++ rest → new ≡ old ++ x → TakesUnit text rest old new
 takes_quoted text x rest old new b e h = record { kept = x; unit = x; whole = e; is = Quoted x rest b; added = h }
 
+-- a text that begins with a parenthesis or a quote that isn't closed is taken whole, and kept without white space
 pub takes_rest : (text rest old new : List ℕ) → BeginsWithOpener text → ((x y : List ℕ) → IsComment x → text ≢ x ++ y) → ((x y : List ℕ) → IsQuoted x → text ≢ x ++ y)
     → rest ≡ [] → new ≡ old ++ filter is_visible_octet text → TakesUnit text rest old new
 takes_rest [] rest old new o n m e h = absurd o
@@ -186,6 +195,7 @@ takes_rest (c ∷ t) rest old new o n m e h =
 
 -- ---- a text has one reading
 
+-- two texts that are kept of the same text are the same
 pub one_kept : (x y t : List ℕ) → IsWithoutGaps x t → IsWithoutGaps y t → x ≡ y
 one_kept x y t g h =
     g.kept_is ∙ ap (λ (us : List (List ℕ)). unfolded (flat_map (λ (unit : List ℕ). unit) us)) (one_reading unit_determined g.units h.units t g.are h.are) ∙ sym h.kept_is

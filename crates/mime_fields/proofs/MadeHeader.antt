@@ -18,6 +18,7 @@ use Rattle.mime_fields.specs.reading.MimeLexemes.{mime_lexemes}
 has_lexemes : (f : List NameAndRaw) (name t : List ℕ) → t ≡ field_octets f name → HasLexemes f name (mime_lexemes t)
 has_lexemes f name t e = subst (λ (u : List ℕ). AreLeadingLexemes alphabet.Mime (mime_lexemes t) u) e (lexemes_are alphabet.Mime t)
 
+-- what was read of the fields of a part, value by value, is the part's header
 pub made : (f : List NameAndRaw) (ct cd : List ℕ) (content : ContentType) (d : Disposition) (written name cid language location encoding : Option (List ℕ))
     → ct ≡ field_octets f (codes "content-type") → cd ≡ field_octets f (codes "content-disposition")
     → IsContentType (mime_lexemes ct) content → IsDisposition (mime_lexemes cd) d → written ≡ option_or d.file content.name → IsFileName d.extended written name

@@ -48,6 +48,7 @@ record_same : (m b c d n i l p e m' b' c' d' n' i' l' p' e' : Option (List ℕ))
     (record { media = m'; boundary = b'; charset = c'; disposition = d'; name = n'; cid = i'; language = l'; location = p'; encoding = e' })
 record_same m b c d n i l p e m' b' c' d' n' i' l' p' e' q1 q2 q3 q4 q5 q6 q7 q8 q9 = cc
 
+-- two headers of a part that the same fields give are the same
 pub one_part_header : (f : List NameAndRaw) (g h : PartHeader) → IsPartHeader f g → IsPartHeader f h → g ≡ h
 one_part_header f g h i j =
     let t = one_lexemes f (codes "content-type") i.content_type j.content_type i.has_content_type j.has_content_type in

@@ -55,6 +55,7 @@ parts_behind b y (p ∷ ps) at n t h le =
     let tail = parts_behind b y ps (at + length h.line + size h.part.inner) n h.part.rest h.part.behind (omega arith) in
     (omega (arith, start_is, s), omega (arith, start_is, end_is, e.0), behind_lower p.end _ ps n (omega (arith, end_is, e.1)) tail)
 
+-- the pieces that octets are split into lie one after another, up to the end of the octets
 pub split_behind : (b y : List ℕ) (ps : List Piece) → IsSplit b y (Some ps) → AreBehind 0 ps (length b)
 split_behind b y [] h = omega arith
 split_behind b y (p ∷ ps) h =

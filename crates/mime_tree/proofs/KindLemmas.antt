@@ -60,6 +60,7 @@ part_either more b all h (Some qs) f p n a k q u = by (itself_or_below q p u)
     by (inl e) = let P : Part → Type 0 = λ x. IsEither x in subst P (sym e) (node_is h (slice_range b h.body h.end) qs p a k.0)
     by (inr i) = trees_either more b all h.body (default_in h.media) qs f (children p) n k.1 q i
 
+-- each part of a tree, its root too, is a leaf or a multipart
 pub tree_either : (more : ℕ) (b : List ℕ) → AllEither more b
 unfolding IsTree
 tree_either zero b s e d f p n t q u = leaf_either t.0 f p n t.2 q u

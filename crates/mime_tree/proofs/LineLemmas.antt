@@ -32,12 +32,15 @@ len_first (c ∷ t) (suc n) lt e h = by (eqb c 10) refl (len_first t n (omega ar
     by true f more = absurd (h 0 (omega arith) (eqb-true c 10 f))
     by false f more = omega (arith, more)
 
+-- where no LF is found, the first line is the whole text
 pub len_none : (t : List ℕ) → Nowhere (Passes (is_byte 10) t) 0 (length t) → line_len t ≡ length t
 len_none t h = len_whole t (λ k lt e. h k (omega arith) lt (ap (λ (x : ℕ). is_byte 10 x) e))
 
+-- where the first LF is found at n, the first line has n + 1 octets
 pub len_found : (t : List ℕ) (n : ℕ) → IsFirst (Passes (is_byte 10) t) 0 (length t) (Some n) → line_len t ≡ n + 1
 len_found t n h = len_first t n h.0.high (eqb-true (get_or t n 0) 10 h.1) (λ k lt e. h.0.before k (omega arith) lt (ap (λ (x : ℕ). is_byte 10 x) e))
 
+-- the first line is no longer than the text
 pub len_within : (t : List ℕ) → line_len t ≤ length t
 unfolding line_len
 len_within [] = omega arith
@@ -89,6 +92,7 @@ pub record Here (b : List ℕ) (at : ℕ) (line : List ℕ) (n : ℕ) : Type 0 w
   pub some : 0 < n
   pub within : at + n ≤ length b
 
+-- what stands at an offset, up to the end of its first line, is the line there
 pub here : (b : List ℕ) (at : ℕ) (rest line : List ℕ) (n : ℕ) → at < length b → rest ≡ drop at b → n ≡ line_len rest → line ≡ take n rest → Here b at line n
 here b at rest line n lt r e l = by rest r e l
   where

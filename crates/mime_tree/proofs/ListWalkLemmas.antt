@@ -59,9 +59,11 @@ gains_nothing old =
 pub record SoFar (whole walk : Walk) (all left : List Part) (old now : BodyLists) : Type 0 where
   pub forth : (new : BodyLists) → GainsBy walk left now new → GainsBy whole all old new
 
+-- at the beginning all parts are left, and nothing was added
 pub so_far_begun : (walk : Walk) (all : List Part) (old : BodyLists) → SoFar walk walk all all old old
 so_far_begun walk all old = record { forth = λ new w. w }
 
+-- past a multipart, once what the parts in it add was added and spread
 pub so_far_multi : {whole walk : Walk} {all left : List Part} {old now : BodyLists} (p : Part) (ps : List Part) (mid : BodyLists) → left ≡ p ∷ ps
     → SoFar whole walk all left old now → is_leaf p ≡ false → GainsBelow walk p now mid → SoFar whole (next walk) all ps old mid
 so_far_multi {walk = walk} {now = now} p ps mid is so_far no_leaf below =
@@ -75,6 +77,7 @@ so_far_multi {walk = walk} {now = now} p ps mid is so_far no_leaf below =
           }));
     }
 
+-- past a leaf, once it was added to the lists where it goes
 pub so_far_leaf : {whole walk : Walk} {all left : List Part} {old now : BodyLists} (p : Part) (ps : List Part) (mid : BodyLists) → left ≡ p ∷ ps → SoFar whole walk all left old now
     → is_leaf p ≡ true → GainsParts now mid (leaf_lists walk p) → SoFar whole (next (meeting walk p)) all ps old mid
 so_far_leaf {walk = walk} {now = now} p ps mid is so_far leaf gains =
@@ -88,6 +91,7 @@ so_far_leaf {walk = walk} {now = now} p ps mid is so_far leaf gains =
           }));
     }
 
+-- past a leaf, where the walk that meets it and whether it is inline were found before
 pub so_far_met : {whole walk : Walk} {all left : List Part} {old now : BodyLists} (met : Walk) (inline : Bool) (p : Part) (ps : List Part) (mid : BodyLists) → left ≡ p ∷ ps
     → SoFar whole walk all left old now → is_leaf p ≡ true → inline ≡ is_inline walk p → met ≡ at_leaf walk inline p → GainsParts now mid (lists_of met inline p)
     → SoFar whole (next met) all ps old mid
@@ -98,6 +102,7 @@ so_far_met {whole} {walk} {all} {left} {old} {now} met inline p ps mid is so_far
     let R : Walk → Type 0 = λ w. GainsParts now mid (lists_of w (is_inline walk p) p) in
     subst P (sym so) (so_far_leaf p ps mid is so_far leaf (subst R so (subst Q is_so gains)))
 
+-- an equal walk and equal lists are as far
 pub so_far_same : {whole walk : Walk} {all left : List Part} {old now : BodyLists} (walk' : Walk) (now' : BodyLists) → walk' ≡ walk → now' ≡ now → SoFar whole walk all left old now
     → SoFar whole walk' all left old now'
 so_far_same {whole} {walk} {all} {left} {old} {now} walk' now' same_walk same_lists so_far =
@@ -105,11 +110,13 @@ so_far_same {whole} {walk} {all} {left} {old} {now} walk' now' same_walk same_li
     let Q : BodyLists → Type 0 = λ l. SoFar whole walk' all left old l in
     subst Q (sym same_lists) (subst P (sym same_walk) so_far)
 
+-- where no part is left, all was added that the whole walk adds
 pub so_far_done : {whole walk : Walk} {all left : List Part} {old now : BodyLists} → left ≡ [] → SoFar whole walk all left old now → GainsBy whole all old now
 so_far_done {walk = walk} {now = now} is so_far =
     let P : List Part → Type 0 = λ l. GainsBy walk l now now in
     so_far.forth now (subst P (sym is) (record { parts = nothing; walks = End walk; gains = gains_nothing now }))
 
+-- a walk over the parts in a multipart, and then the spreading, add what the multipart adds
 pub below_of : (walk inner : Walk) (p : Part) (kids : List Part) (old mid new : BodyLists) (text html : ℕ) → kids ≡ children p → inner ≡ into walk p → GainsBy inner kids old mid
     → length old.text ≡ text → length old.html ≡ html → ((old : BodyLists) (a : PartLists) → length old.text ≡ text → length old.html ≡ html → GainsParts old mid a
     → GainsParts old new (spread inner a)) → GainsBelow walk p old new

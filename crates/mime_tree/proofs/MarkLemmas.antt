@@ -52,6 +52,7 @@ rest_marked y l u e = opens (list_all is_white u) refl
     opens true f = record { white = u; whole = e; is_white = list_all_each is_white u f }
     opens false f = closes_by (behind (45 ∷ 45 ∷ []) u) (behind_is (45 ∷ 45 ∷ []) u) f
 
+-- the mark that is computed of a line is its mark
 pub marked : (y l : List ℕ) → IsMarked y l (line_mark y l)
 unfolding line_mark
 marked y l = by (behind (45 ∷ 45 ∷ []) l) (behind_is (45 ∷ 45 ∷ []) l)
@@ -64,6 +65,7 @@ marked y l = by (behind (45 ∷ 45 ∷ []) l) (behind_is (45 ∷ 45 ∷ []) l)
     by _ (Begins t w) = boundary t (behind y t) w (behind_is y t)
     by _ (BeginsNot k) = (λ d. k (y ++ d.white) d.whole, λ c. k (y ++ 45 ∷ 45 ∷ c.white) c.whole)
 
+-- no delimiter line is a closing line
 pub opens_closes : (y l : List ℕ) → IsDelimiter y l → IsClosing y l → ⊥
 opens_closes y l d c =
     let g = sym d.whole ∙ c.whole in
@@ -89,5 +91,6 @@ one_mark y l mark.Closes mark.Closes g h = refl
 pub mark_is : (y l : List ℕ) (m : Mark) → line_mark y l ≡ m → IsMarked y l m
 mark_is y l m e = let P : Mark → Type 0 = λ x. IsMarked y l x in subst P e (marked y l)
 
+-- the mark of a line is the one that is computed
 pub is_mark : (y l : List ℕ) (m : Mark) → IsMarked y l m → line_mark y l ≡ m
 is_mark y l m h = one_mark y l (line_mark y l) m (marked y l) h

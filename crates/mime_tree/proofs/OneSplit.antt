@@ -83,6 +83,7 @@ one_following b y (Some (p ∷ ps)) None at t g h = let w = sym h ∙ g.whole in
 one_following b y (Some (p ∷ ps)) (Some []) at t g h = absurd (closed_no_part b y p ps at t h g)
 one_following b y (Some (p ∷ ps)) (Some (q ∷ qs)) at t g h = ap (λ (u : List Piece). Some u) (one_parts b y (p ∷ ps) (q ∷ qs) at t g h)
 
+-- octets are split by a boundary in one way at most
 pub one_split : (b y : List ℕ) (r s : Option (List Piece)) → IsSplit b y r → IsSplit b y s → r ≡ s
 one_split b y r s g h =
     let c = one_cut (is_plain y) g.preamble h.preamble g.rest h.rest (sym g.whole ∙ h.whole) (each_plain y g.preamble g.plain) (follows_stop b y r _ g.rest g.follows)

@@ -28,6 +28,7 @@ head_eq g h header media start body end =
     ∙ ap (λ (x : ℕ). make h.header h.media h.start x g.end) body
     ∙ ap (λ (x : ℕ). make h.header h.media h.start h.body x) end
 
+-- octets have at most one head
 pub one_head : (b : List ℕ) (s e : ℕ) (d : List ℕ) (g h : Head) → IsHead b s e d g → IsHead b s e d h → g ≡ h
 one_head b s e d g h i j =
     let o = fields.one_header i.fields j.fields i.len j.len (slice_range b s e) i.is_header j.is_header in
@@ -98,6 +99,7 @@ one_pieces : (y : Option (List ℕ)) (body : List ℕ) (r s : Option (List Piece
 one_pieces None body r s g h = g ∙ sym h
 one_pieces (Some y) body r s g h = one_split body y r s g h
 
+-- two trees of the same octets, numbered from the same number, are the same, and have the same number next
 pub one_tree : (more : ℕ) (b : List ℕ) (s e : ℕ) (d : List ℕ) (f : ℕ) (p q : Part) (m n : ℕ) → IsTree more b s e d f p m → IsTree more b s e d f q n → (m ≡ n) × Same more p q
 unfolding One IsTree Same
 one_tree zero b s e d f p q m n g h =
@@ -111,5 +113,6 @@ one_tree (suc more) b s e d f p q m n g h =
     let C : Option (List Piece) → Type 0 = λ x. IsPartOf (IsTree more b) g.0 x f q n in
     one_part (IsTree more b) (Same more) (λ s e d f p q m n. one_tree more b s e d f p q m n) g.0 g.2 f p q m n g.4 (subst C (sym r) (subst B w h.4))
 
+-- two parts that are the same message are the same
 pub one_message : (b : List ℕ) (p q : Part) → IsMessage b p → IsMessage b q → Same 64 p q
 one_message b p q g h = (one_tree 64 b 0 (length b) _ 1 p q g.0 h.0 g.1 h.1).1

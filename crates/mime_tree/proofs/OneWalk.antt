@@ -11,11 +11,13 @@ abbrev pub Ends : List Part → PartLists → Type 0
 Ends [] a = a ≡ nothing
 Ends (p ∷ ps) a = Unit {0}
 
+-- a walk over no parts adds nothing
 pub ends : (walk : Walk) (ps : List Part) (a : PartLists) → Walks walk ps a → Ends ps a
 ends _ _ _ (End walk) = refl
 ends _ _ _ (Multi walk p ps a below rest) = tt
 ends _ _ _ (Leaf walk p ps behind leaf rest) = tt
 
+-- two equal walks over the same parts add the same
 pub one_walk : (walk : Walk) (ps : List Part) (a c : PartLists) → Walks walk ps a → Walks walk ps c → a ≡ c
 one_walk _ _ _ c (End walk) other = sym (ends walk [] c other)
 one_walk _ _ _ c (Multi walk p ps x below rest) (Multi _ _ _ y below' rest') =
@@ -29,6 +31,7 @@ one_walk _ _ _ c (Leaf walk p ps behind leaf rest) (Leaf _ _ _ behind' leaf' res
 make : List ℕ → List ℕ → List ℕ → Bool → BodyLists
 make text html attachments has = record { text = text; html = html; attachments = attachments; has_attachment = has }
 
+-- body lists with equal fields are equal
 pub lists_eq : (l m : BodyLists) → l.text ≡ m.text → l.html ≡ m.html → l.attachments ≡ m.attachments → l.has_attachment ≡ m.has_attachment → l ≡ m
 unfolding make
 lists_eq l m text html attachments has =
@@ -37,6 +40,7 @@ lists_eq l m text html attachments has =
     ∙ ap (λ (x : List ℕ). make m.text m.html x l.has_attachment) attachments
     ∙ ap (λ (x : Bool). make m.text m.html m.attachments x) has
 
+-- a part has at most one value of its body lists
 pub one_value : (p : Part) (l m : BodyLists) → AreBodyLists l p → AreBodyLists m p → l ≡ m
 one_value p l m i j =
     let same = one_walk start (p ∷ []) i.parts j.parts i.walks j.walks in

@@ -146,6 +146,7 @@ unfolding Same
 twin zero p q s = twin_of s
 twin (suc more) p q s = twin_of s
 
+-- one level less, and none below none
 pub below : ℕ → ℕ
 below zero = zero
 below (suc more) = more
@@ -187,6 +188,7 @@ walks_alike more _ _ (q ∷ qs) _ _ same (Leaf walk p ps behind leaf rest) (Leaf
     let one = subst R (is_inline_twin walk t) (subst Q (meeting_twin walk t) (alike_leaf (meeting walk p) (is_inline walk p) t)) in
     alike_both _ _ _ _ one (walks_alike more (next (meeting walk p)) ps qs behind behind' same.1 rest (subst P (sym (meeting_twin walk t)) rest'))
 
+-- parts that are the same have equal body lists
 pub same_lists : (more : ℕ) (p q : Part) (l m : BodyLists) → Same more p q → AreBodyLists l p → AreBodyLists m q → l ≡ m
 same_lists more p q l m same i j =
     let alike = walks_alike more start (p ∷ []) (q ∷ []) i.parts j.parts (same, tt) i.walks j.walks in

@@ -105,6 +105,7 @@ pub record Split (begun : Option ℕ) (b y : List ℕ) (ps : List Piece) (at : �
   pub so_far : SoFar begun b y ps at (lines (drop at b)) (lines b)
   pub ordered : IfSome begun (λ start. start ≤ at)
 
+-- at offset 0 no piece was found, and no part has begun
 pub split_begins : (b y : List ℕ) → Split None b y [] 0
 split_begins b y = record { so_far = record { forth = λ r q. first r q }; ordered = tt }
   where
@@ -116,6 +117,7 @@ line_here : (begun : Option ℕ) (b y : List ℕ) (ps : List Piece) (at n : ℕ)
     → SoFar begun b y ps at (line ∷ lines (drop (at + n) b)) (lines b)
 line_here begun b y ps at n line h s = let P : List (List ℕ) → Type 0 = λ t. SoFar begun b y ps at t (lines b) in subst P h.first s.so_far
 
+-- past a line that neither delimits nor closes, the pieces and the part that has begun stay as they were
 pub at_plain : (begun begun' : Option ℕ) (b y : List ℕ) (ps ps' : List Piece) (at n : ℕ) (line : List ℕ) → Here b at line n → line_mark y line ≡ mark.Plain → Split begun b y ps at
     → begun' ≡ begun → ps' ≡ ps → Split begun' b y ps' (at + n)
 at_plain begun begun' b y ps ps' at n line h e s p q =
@@ -129,6 +131,7 @@ at_plain begun begun' b y ps ps' at n line h e s p q =
     later None l = tt
     later (Some start) l = omega (arith, l)
 
+-- past a delimiter line, the part before it, if one has begun, is a piece, and another begins
 pub at_opens : (begun begun' : Option ℕ) (b y : List ℕ) (ps ps' : List Piece) (at n : ℕ) (line : List ℕ) → Here b at line n → line_mark y line ≡ mark.Opens → Split begun b y ps at
     → begun' ≡ Some (at + n) → ps' ≡ ps ++ ending begun b at → Split begun' b y ps' (at + n)
 at_opens begun begun' b y ps ps' at n line h e s p q =
@@ -138,6 +141,7 @@ at_opens begun begun' b y ps ps' at n line h e s p q =
     let B : List Piece → Type 0 = λ u. Split begun' b y u (at + n) in
     subst B (sym q) (subst A (sym p) (record { so_far = subst P (sym h.counted) m; ordered = omega arith }))
 
+-- at a closing line the octets are split: the part before it, if one has begun, is the last piece
 pub at_closes : (begun : Option ℕ) (b y : List ℕ) (ps ps' : List Piece) (at n : ℕ) (line : List ℕ) → Here b at line n → line_mark y line ≡ mark.Closes → Split begun b y ps at
     → ps' ≡ ps ++ ending begun b at → IsSplit b y (Some ps')
 at_closes begun b y ps ps' at n line h e s q =
@@ -149,6 +153,7 @@ nothing_left : (b : List ℕ) (at : ℕ) → length b ≤ at → lines (drop at 
 unfolding lines
 nothing_left b at le = ap lines (drop_all at b le)
 
+-- where the octets end in a part that has begun, they are split: that part is the last piece
 pub at_end_inside : (begun : Option ℕ) (b y : List ℕ) (start : ℕ) (ps ps' : List Piece) (at : ℕ) → length b ≤ at → Split begun b y ps at → begun ≡ Some start
     → ps' ≡ ps ++ piece start at ∷ [] → IsSplit b y (Some ps')
 at_end_inside begun b y start ps ps' at le s e q =
@@ -158,6 +163,7 @@ at_end_inside begun b y start ps ps' at le s e q =
     let m = s.so_far in
     subst P (sym q) (m.forth (Some (piece start at ∷ [])) (subst O (sym e) (subst L (sym (nothing_left b at le)) (ends_inside b y start at))))
 
+-- where the octets end and no part has begun, no delimiter line comes in them
 pub at_end_outside : (begun : Option ℕ) (b y : List ℕ) (ps : List Piece) (at : ℕ) → length b ≤ at → Split begun b y ps at → begun ≡ None → IsSplit b y None
 at_end_outside begun b y ps at le s e =
     let O : Option ℕ → Type 0 = λ o. Left o b y None at (lines (drop at b)) in

@@ -19,9 +19,11 @@ pub record UnderOne (q : Part) (cs : List Part) : Type 0 where
   pub is_there : Contains cs child
   pub under : IsUnder q child
 
+-- what is in a list is in it with one part more in front
 pub later : (c : Part) (cs : List Part) (x : Part) → Contains cs x → Contains (c ∷ cs) x
 later c cs x h = (suc h.0, omega (arith, h.1), h.2)
 
+-- the first part of a list is in it
 pub here : (c : Part) (cs : List Part) → Contains (c ∷ cs) c
 here c cs = (zero, omega arith, refl)
 
@@ -29,6 +31,7 @@ contains_cases : (c : Part) (cs : List Part) (x : Part) → Contains (c ∷ cs) 
 contains_cases c cs x (zero, lt, e) = inl e
 contains_cases c cs x (suc k, lt, e) = inr (k, omega arith, e)
 
+-- what stands under one of the parts stands under the first, or under one of the others
 pub under_first : (q c : Part) (cs : List Part) → UnderOne q (c ∷ cs) → IsUnder q c ⊎ UnderOne q cs
 under_first q c cs h = by (contains_cases c cs h.child h.is_there)
   where
@@ -36,6 +39,7 @@ under_first q c cs h = by (contains_cases c cs h.child h.is_there)
     by (inl e) = let P : Part → Type 0 = λ x. IsUnder q x in inl (subst P (sym e) h.under)
     by (inr i) = inr (record { child = h.child; is_there = i; under = h.under })
 
+-- nothing stands under one of no parts
 pub none_under : (q : Part) → UnderOne q [] → ⊥
 none_under q h = omega (arith, h.is_there.1)
 
@@ -44,6 +48,7 @@ pub itself_or_below : (q p : Part) → IsUnder q p → (q ≡ p) ⊎ UnderOne q 
 itself_or_below q _ Itself = inl refl
 itself_or_below q _ (Below p c i u) = inr (record { child = c; is_there = i; under = u })
 
+-- under a part with no parts in it stands only the part itself
 pub under_leaf : (q p : Part) → children p ≡ [] → IsUnder q p → q ≡ p
 under_leaf q p e u = by (itself_or_below q p u)
   where
@@ -108,6 +113,7 @@ part_within more b all s e d h (Some qs) f p n le w i j k q u = by (itself_or_be
         trees_within more b all h.body (default_in h.media) qs f (children p) n 0 (length (slice_range b h.body h.end)) k.1 (behind (boundary_of h) j)
         (omega (arith, v.ordered, v.end)) q x
 
+-- each part of a tree lies within the octets
 pub tree_within : (more : ℕ) (b : List ℕ) → AllWithinBy more b
 unfolding IsTree
 tree_within zero b s e d f p n le w t q u =
@@ -193,6 +199,7 @@ part_numbered : (more : ℕ) (b : List ℕ) → IsNumbered more b → (h : Head)
 part_numbered more b each h None f p n k = leaf_numbered h f p n k
 part_numbered more b each h (Some qs) f p n k = node_numbered h f p n k.0 (trees_numbered more b each h.body (default_in h.media) qs f (children p) n k.1)
 
+-- the leaves of a tree have the numbers from its first to before the next, each once
 pub tree_numbered : (more : ℕ) (b : List ℕ) → IsNumbered more b
 unfolding IsTree
 tree_numbered zero b s e d f p n t = leaf_numbered t.0 f p n t.2

@@ -25,6 +25,7 @@ pub record Front (t b c : List ℕ) : Type 0 where
   pub first : plain_octets front ≡ b
   pub second : plain_octets back ≡ c
 
+-- a text whose octets are b and then c is a text with octets b, and then one with octets c
 pub front_of : (b c t : List ℕ) → plain_octets t ≡ b ++ c → Front t b c
 front_of [] c t e = record { front = []; back = t; whole = refl; first = refl; second = e }
 front_of (d ∷ b) c [] e = absurd cc

@@ -5,6 +5,7 @@ use Rattle.pushdown.specs.declared.moves.Move.TheVariants as move
 use Rattle.pushdown.specs.Automaton.{Automaton}
 use Rattle.pushdown.specs.Run.{moved, step, stepped, run, LeadsTo}
 
+-- None is never Some of anything
 pub no_symbols : {A : Type 0} (x : A) → None ≡ Some x → ⊥
 no_symbols x e = cc
 

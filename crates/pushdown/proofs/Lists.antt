@@ -3,16 +3,20 @@ use Rattle.std.proofs.Common.{◌≡◌, ℕ, Bool, true, false, List, [], ◌�
 use Rattle.std.proofs.lemmas.Bool.{both_ways}
 use Rattle.imap_syntax.specs.Texts.{Each, Then}
 
+-- equal lists have the same first element
 pub cons_head : {A : Type 0} (c d : A) (x y : List A) → c ∷ x ≡ d ∷ y → c ≡ d
 cons_head c d x y e = cc
 
+-- equal lists are the same after their first element
 pub cons_tail : {A : Type 0} (c d : A) (x y : List A) → c ∷ x ≡ d ∷ y → x ≡ y
 cons_tail c d x y e = cc
 
+-- if two texts joined are empty, both are
 pub no_append : (x y : List ℕ) → [] ≡ x ++ y → (x ≡ []) × (y ≡ [])
 no_append [] y e = (refl, sym e)
 no_append (c ∷ x) y e = absurd cc
 
+-- a text of A, and then one of B and C, is a text of A and B, and then one of C
 pub regroup : (A B C : List ℕ → Type 0) (t : List ℕ) → Then A (Then B C) t → Then (Then A B) C t
 regroup A B C t h = record {
   front = h.front ++ h.second.front;
@@ -22,6 +26,7 @@ regroup A B C t h = record {
   second = h.second.second;
 }
 
+-- a text of A and B, and then one of C, is a text of A, and then one of B and C
 pub ungroup : (A B C : List ℕ → Type 0) (t : List ℕ) → Then (Then A B) C t → Then A (Then B C) t
 ungroup A B C t h = record {
   front = h.first.front;
@@ -40,6 +45,7 @@ pub record Cut (p : ℕ → Bool) (t : List ℕ) : Type 0 where
   pub each : Each p front
   pub longest : p (get_or back 0 0) ≡ false
 
+-- a text begins with a longest run of octets of a class that doesn't have 0, though the run may be empty
 pub cut : (p : ℕ → Bool) (t : List ℕ) → p 0 ≡ false → Cut p t
 cut p [] z = record { front = []; back = []; whole = refl; each = tt; longest = z }
 cut p (c ∷ t) z = by (p c) refl (cut p t z)

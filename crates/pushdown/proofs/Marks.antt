@@ -15,12 +15,15 @@ use Rattle.pushdown.proofs.Whole.{keeps, open_begins}
 use Rattle.pushdown.proofs.Lists.{cons_head, cons_tail}
 use Rattle.imap_syntax.specs.Texts.{plain_of, plain_octets}
 
+-- a number of 256 or more in a text stands for the octet 256 below it
 pub plain_large : (c : ℕ) → nat_lt c 256 ≡ false → plain_of c ≡ c - 256
 plain_large c e = cond-false (nat_lt c 256) c (c - 256) e
 
+-- a number below 256 in a text stands for the octet itself
 pub plain_small : (c : ℕ) → nat_lt c 256 ≡ true → plain_of c ≡ c
 plain_small c e = cond-true (nat_lt c 256) c (c - 256) e
 
+-- no boolean is both true and false
 pub both : {P : Type 0} (b : Bool) → b ≡ true → b ≡ false → P
 both true e f = absurd cc
 both false e f = absurd cc

@@ -20,6 +20,7 @@ use Rattle.imap_syntax.specs.Texts.{Each}
 abbrev pub small : ℕ → Bool
 small c = nat_lt c 256
 
+-- where every element of a list is below 256, so are its first k
 pub small_front : (k : ℕ) (octets : List ℕ) → ((i : ℕ) → get_or octets i 0 < 256) → Each small (take k octets)
 small_front zero octets h = tt
 small_front (suc k) [] h = tt

@@ -6,6 +6,7 @@ use Rattle.std.proofs.Common.{add-one}
 abbrev pub five : {S : Type 0} → S → S → S → S → S → List S
 five a b c d e = a ∷ b ∷ c ∷ d ∷ e ∷ []
 
+-- the first n of five symbols are n in number, where n is at most 5
 pub held : {S : Type 0} (n : ℕ) (a b c d e : S) → n ≤ 5 → length (take n (five a b c d e)) ≡ n
 held zero a b c d e le = refl
 held (suc zero) a b c d e le = refl

@@ -15,6 +15,7 @@ use Rattle.pushdown.proofs.Whole.{reads_back, reads_forth, reads_some}
 use Rattle.pushdown.proofs.Marks.{plain_large, plain_small, forced, start_good, good_of, start_same}
 use Rattle.imap_syntax.specs.Texts.{plain_of, plain_octets, outside}
 
+-- the octets outside literals of two texts joined are those of the first and those of the second, counted together
 pub outside_append : (t u : List ℕ) → outside (t ++ u) ≡ outside t + outside u
 outside_append [] u = omega arith
 outside_append (c ∷ t) u = let ih = outside_append t u in omega (arith, ih)

@@ -12,6 +12,7 @@ use Rattle.pushdown.specs.Lawful.{IsLawful}
 use Rattle.pushdown.proofs.Leading.{no_symbols, none_stays}
 use Rattle.pushdown.proofs.Lists.{cons_head, cons_tail, no_append, regroup, ungroup}
 
+-- where the first flag implies the second and is set, the second is set
 pub open_begins : (o b : Bool) → (not o || b) ≡ true → o ≡ true → b ≡ true
 open_begins o b e f = grind arith
 

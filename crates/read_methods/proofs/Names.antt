@@ -50,8 +50,10 @@ known_if : (names : List (List ℕ)) (b : Bool) (wanted : Properties) → (if b 
 known_if names true wanted is = ap (λ (w : Properties). let o : Result Properties MethodError = Ok w in o) (same_Some _ _ is)
 known_if names false wanted is = absurd (none-some wanted is)
 
+-- names of which one is no property are refused
 pub properties-unknown : (names : List (List ℕ)) → None ≡ known_properties names → properties_of (Some names) ≡ Err InvalidArguments
 properties-unknown names is = unknown_if names (list_all is_property names) (sym (is ∙ known-is names))
 
+-- names that all are properties want those
 pub properties-known : (names : List (List ℕ)) (wanted : Properties) → Some wanted ≡ known_properties names → properties_of (Some names) ≡ Ok wanted
 properties-known names wanted is = known_if names (list_all is_property names) wanted (sym (is ∙ known-is names))

@@ -5,6 +5,7 @@ use Rattle.std.proofs.lemmas.Bool.{cond-true, cond-false}
 use Rattle.std.proofs.lemmas.List.{append-nil, take-append-drop, drop_at, take_more, drop_more}
 use Rattle.text_words.specs.Cuts.{Each, Stops, front, back}
 
+-- a list is the elements before the first that fails the test, and then the rest
 pub front_back : {A : Type 0} (p : A → Bool) (t : List A) → t ≡ front p t ++ back p t
 unfolding front back
 front_back p [] = refl
@@ -14,6 +15,7 @@ front_back {A} p (x ∷ t) = by (p x) (front_back p t)
     by true e = ap (λ (u : List A). x ∷ u) e
     by false e = refl
 
+-- each element before the first that fails the test passes it
 pub front_each : {A : Type 0} (p : A → Bool) (t : List A) → Each p (front p t)
 unfolding front
 front_each p [] = tt
@@ -23,6 +25,7 @@ front_each {A} p (x ∷ t) = by (p x) refl (front_each p t)
     by true e h = (e, h)
     by false e h = tt
 
+-- what is cut off doesn't begin with an element that passes the test
 pub back_stops : {A : Type 0} (p : A → Bool) (t : List A) → Stops p (back p t)
 unfolding back
 back_stops p [] = tt
@@ -32,12 +35,14 @@ back_stops {A} p (x ∷ t) = by (p x) refl (back_stops p t)
     by true e h = h
     by false e h = e
 
+-- elements that pass, with none that passes directly behind them, are the front of a list
 pub front_is : {A : Type 0} (p : A → Bool) (x y : List A) → Each p x → Stops p y → front p (x ++ y) ≡ x
 unfolding front
 front_is p [] [] e s = refl
 front_is p [] (c ∷ y) e s = cond-false (p c) _ _ s
 front_is {A} p (c ∷ x) y e s = cond-true (p c) _ _ e.0 ∙ ap (λ (u : List A). c ∷ u) (front_is p x y e.1 s)
 
+-- what stands behind elements that pass, and doesn't begin with one that passes, is what is cut off
 pub back_is : {A : Type 0} (p : A → Bool) (x y : List A) → Each p x → Stops p y → back p (x ++ y) ≡ y
 unfolding back
 back_is p [] [] e s = refl
@@ -49,20 +54,24 @@ pub record SameCut {A : Type 0} (x y s t : List A) : Type 0 where
   pub front : x ≡ y
   pub back : s ≡ t
 
+-- a list is in one way at most elements that pass, and then a rest that doesn't begin with one that passes
 pub one_cut : {A : Type 0} (p : A → Bool) (x y s t : List A) → x ++ s ≡ y ++ t → Each p x → Stops p s → Each p y → Stops p t → SameCut x y s t
 one_cut p x y s t e ex ss ey st = record {
   front = sym (front_is p x s ex ss) ∙ ap (front p) e ∙ front_is p y t ey st;
   back = sym (back_is p x s ex ss) ∙ ap (back p) e ∙ back_is p y t ey st;
 }
 
+-- where each element of two lists passes, so does each of one list followed by the other
 pub each_append : {A : Type 0} (p : A → Bool) (x y : List A) → Each p x → Each p y → Each p (x ++ y)
 each_append p [] y e f = f
 each_append p (c ∷ x) y e f = (e.0, each_append p x y e.1 f)
 
+-- where each element of one list followed by another passes, so does each of the first list
 pub each_left : {A : Type 0} (p : A → Bool) (x y : List A) → Each p (x ++ y) → Each p x
 each_left p [] y e = tt
 each_left p (c ∷ x) y e = (e.0, each_left p x y e.1)
 
+-- where each element of one list followed by another passes, so does each of the second list
 pub each_right : {A : Type 0} (p : A → Bool) (x y : List A) → Each p (x ++ y) → Each p y
 each_right p [] y e = e
 each_right p (c ∷ x) y e = each_right p x y e.1
@@ -93,6 +102,7 @@ nothing_behind {A} p t e =
     let P : List A → Type 0 = λ u. Each p u in
     subst P (sym (front_back p t ∙ ap (λ (u : List A). front p t ++ u) e ∙ append-nil (front p t))) (front_each p t)
 
+-- where each element passes, nothing is cut off
 pub all_before : {A : Type 0} (p : A → Bool) (t : List A) → Each p t → back p t ≡ []
 all_before p t e = sym (cut_at_end p t e).back
 
@@ -111,6 +121,7 @@ pub each_list_all : {A : Type 0} (p : A → Bool) (t : List A) → Each p t → 
 each_list_all p [] e = refl
 each_list_all p (x ∷ t) e = ap (λ (q : Bool). q && list_all p t) e.0 ∙ each_list_all p t e.1
 
+-- where the test of a whole list is true, each element passes
 pub list_all_each : {A : Type 0} (p : A → Bool) (t : List A) → list_all p t ≡ true → Each p t
 list_all_each p [] e = tt
 list_all_each {A} p (x ∷ t) e = by (p x) (list_all p t) refl (list_all_each p t) e
@@ -120,6 +131,7 @@ list_all_each {A} p (x ∷ t) e = by (p x) (list_all p t) refl (list_all_each p 
     by true false h k e = absurd cc
     by false r h k e = absurd cc
 
+-- an answer that is true exactly where each element passes is the test of the whole list
 pub all_is : {A : Type 0} (p : A → Bool) (t : List A) (b : Bool) → (b ≡ true → Each p t) → (Each p t → b ≡ true) → b ≡ list_all p t
 all_is {A} p t b f g = by b (list_all p t) refl refl
   where

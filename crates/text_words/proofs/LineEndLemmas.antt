@@ -2,10 +2,12 @@
 use Rattle.std.proofs.Common.{◌≡◌, ℕ, suc, Bool, true, false, ◌&&◌, List, [], ◌∷◌, ◌++◌, length, cond, refl, sym, ap, ◌∙◌, eqb, eqb-true}
 use Rattle.text_words.specs.LineEnds.{IsLineEnd, Lf, CrLf, begins_with_lf, line_end_len}
 
+-- where a text begins with the end of a line, as many octets are counted at its front as that end has
 pub end_len : (e s : List ℕ) → IsLineEnd e → line_end_len (e ++ s) ≡ length e
 end_len _ s Lf = refl
 end_len _ s CrLf = refl
 
+-- the end of a line has at least one octet
 pub end_some : (e : List ℕ) → IsLineEnd e → (k : ℕ) × (length e ≡ suc k)
 end_some _ Lf = (0, refl)
 end_some _ CrLf = (1, refl)

@@ -24,6 +24,7 @@ pub record Behind {V A : Type 0} (Is : V → List A → List A → Type 0) (vs :
   pub forth : (more : List V) → Sequence Is more rest → Sequence Is (vs ++ more) b
   pub back : (all : List V) → Sequence Is all b → (more : List V) × (all ≡ vs ++ more) × Sequence Is more rest
 
+-- before any unit was read, the whole text is what follows
 pub begins : {V A : Type 0} (Is : V → List A → List A → Type 0) (b : List A) → Behind Is [] b b
 begins Is b = record { forth = λ more h. h; back = λ all h. (all, refl, h) }
 
@@ -67,11 +68,13 @@ pub record SamePair {V : Type 0} (v w : V) (m n : ℕ) : Type 0 where
   pub value : v ≡ w
   pub count : m ≡ n
 
+-- equal results of a reading have the same value and the same count
 pub same_pair : {V : Type 0} (v w : V) (m n : ℕ) → ◌≡◌ {A = Option (V × ℕ)} (Some (v, m)) (Some (w, n)) → SamePair v w m n
 same_pair {V} v w m n e =
     let p : ◌≡◌ {A = V × ℕ} (v, m) (w, n) = cc in
     record { value = ap (λ (q : V × ℕ). q.0) p; count = ap (λ (q : V × ℕ). q.1) p }
 
+-- where a function reads the units, a text begins with one unit at most, and that has one value
 pub determined : {V A : Type 0} {Is : V → List A → List A → Type 0} (read : List A → Option (V × ℕ)) → IsReader Is read → IsDetermined Is
 determined {V} {A} {Is} read r = record { one = one; some = r.some }
   where
@@ -110,6 +113,7 @@ pub read_no_more : {V A : Type 0} {Is : V → List A → List A → Type 0} (rea
     → rest ≢ [] → read rest ≡ None → (all : List V) → Sequence Is all b → ⊥
 read_no_more {V} {A} {Is} read r vs rest b h k e = no_more vs rest b h k (λ v x more w i. let q = r.complete v x more i in let p = ap read w in absurd cc)
 
+-- where two results of a reading are equal, a text that begins with the unit of one begins with the unit of the other
 pub unit_same : {V A : Type 0} (Is : V → List A → List A → Type 0) (v w : V) (m n : ℕ) (t : List A) → ◌≡◌ {A = Option (V × ℕ)} (Some (v, m)) (Some (w, n)) → UnitAt Is v m t
     → UnitAt Is w n t
 unit_same {V} {A} Is v w m n t e u =

@@ -25,10 +25,12 @@ use Rattle.thread_rule.specs.Threads.{is_among}
 use Rattle.thread_rule.specs.reading.Keys.{key_after, keys_under}
 use Rattle.thread_rule.specs.reading.Index.{Entry, KeyIndex, entry_cmp, numbers_at, numbers_up_to_other, emails_at, has_entry, SameIndex, SetsOne, SetsAll, SameApart}
 
+-- what holds in any case holds after an error
 pub on_err : {T E P : Type 0} (r : Result T E) → P → OnErr r P
 on_err (Ok x) p = tt
 on_err (Err e) p = p
 
+-- a number is the one that is sought exactly where the two are equal
 pub number_test : (a b : ℕ) → is_at (nat_cmp a) b ≡ eqb a b
 number_test a b = grind arith
 
@@ -38,6 +40,7 @@ then_equal Less p = refl
 then_equal Equal p = refl
 then_equal Greater p = refl
 
+-- an entry is the one that is sought exactly where its key and its number are those that are sought
 pub entry_test : (at : List ℕ) (email : ℕ) (e : Entry) → is_at (entry_cmp (at, email)) e ≡ bytes_eq e.0 at && is_at (nat_cmp email) e.1
 entry_test at email e =
     then_equal (slice_cmp nat_cmp at e.0) (nat_cmp email e.1)
@@ -48,6 +51,7 @@ pub sets_one : (m n : KeyIndex) (at : List ℕ) (email : ℕ) (b : Bool) → sor
 sets_one m n at email b h id e =
     h.0 (id, e) ∙ ap (λ (q : Bool). cond q b (has_entry m id e)) (entry_test at email (id, e) ∙ ap (λ (q : Bool). bytes_eq id at && q) (number_test email e))
 
+-- an index whose entries are unchanged has the same Emails at each key
 pub same_entries : (m n : KeyIndex) → sorted.IsUnchanged m n → SameIndex m n
 same_entries m n h id e = ap (list_any (is_at (entry_cmp (id, e)))) h
 
@@ -65,9 +69,11 @@ left_false : (r s q : Bool) → ((r || s) && q) ≡ false → (r && q) ≡ false
 left_false true s q e = e
 left_false false s q e = refl
 
+-- an index that is as it was is changed at no key
 pub sets_none : (m : KeyIndex) (email : ℕ) (b : Bool) → SetsAll m m [] email b
 sets_none m email b id e = refl
 
+-- a change at some keys, and then the same at one key more, is a change at all of them
 pub sets_more : (k m n : KeyIndex) (xs : List (List ℕ)) (x : List ℕ) (email : ℕ) (b : Bool) → SetsAll k m xs email b → SetsOne m n x email b → SetsAll k n (xs ++ x ∷ []) email b
 sets_more k m n xs x email b g h id e =
     h id e ∙ ap (λ (y : Bool). cond (bytes_eq id x && eqb email e) b y) (g id e)
@@ -91,6 +97,7 @@ keys_turn k m n digest ids i x y email b l e is g h =
     let P : List ℕ → Type 0 = λ z. z ≡ get_or (map f ids) i z in
     sets_turn k m n (map f ids) i y email b (omega (arith, l, length-map ids f)) (subst P (sym is) there) g h
 
+-- where the index changed for an Email at the first i of some keys alone, all but this Email at these keys is as it was
 pub apart_of : (k m n : KeyIndex) (ids : List (List ℕ)) (i : ℕ) (email : ℕ) (b : Bool) → SetsAll k m (take i ids) email b → SameIndex m n → SameApart k n ids email
 apart_of k m n ids i email b g h id e f =
     let whole : is_among ids id ≡ (is_among (take i ids) id || is_among (drop i ids) id) =
@@ -134,6 +141,7 @@ listed_in id email (e ∷ es) = by (bytes_eq e.0 id) refl (listed_in id email es
         ∙ more
         ∙ sym (ap (list_any (is_at (nat_cmp email))) (cond-false (bytes_eq e.0 id) (e.1 ∷ numbers_at id es) (numbers_at id es) k))
 
+-- the index has an Email at a key exactly where the Email's number is listed among those at the key
 pub has_listed : (index : KeyIndex) (id : List ℕ) (email : ℕ) → has_entry index id email ≡ list_any (is_at (nat_cmp email)) (emails_at index id)
 has_listed index id email = listed_in id email index.keys
 
@@ -155,6 +163,7 @@ above_at key e (y ∷ es) k a = by (bytes_eq y.0 key) refl (above_at key e es k 
     by true l more = subst All (sym (cond-true (bytes_eq y.0 key) (y.1 ∷ numbers_at key es) (numbers_at key es) l)) (less ((bytes_eq-Decides y.0 key).0 l), more)
     by false l more = subst All (sym (cond-false (bytes_eq y.0 key) (y.1 ∷ numbers_at key es) (numbers_at key es) l)) more
 
+-- of entries in order, the numbers at one key ascend
 pub numbers_ascend : (key : List ℕ) (es : List Entry) → IsStrictlySortedBy entry_cmp es → IsStrictlySortedBy nat_cmp (numbers_at key es)
 unfolding IsStrictlySortedBy
 numbers_ascend key [] s = tt

@@ -7,6 +7,7 @@ use Rattle.thread_rule.specs.Subject.{IsWsp, IsBlob, IsReplyMark, IsMarkBehindBl
 use Rattle.thread_rule.specs.BaseSubject.{Drops, DropsBlob, Lacks}
 use Rattle.thread_rule.proofs.BlobLemmas.{word_letters, no_blank_letter, blob_whole, one_blob, one_mark, mark_is_no_blob}
 
+-- a text that begins with a reply mark doesn't begin with white space
 pub mark_stops : (m t : List ℕ) → IsReplyMark m → Stops is_blank (m ++ t)
 mark_stops m t i =
     let l = word_letters i.word i.reply in
@@ -15,6 +16,7 @@ mark_stops m t i =
     let P : List ℕ → Type 0 = λ u. Stops is_blank u in
     subst P (sym e) (no_blank_letter l.first l.letter)
 
+-- a text that begins with a reply mark, or with blobs and a reply mark, doesn't begin with white space
 pub marked_stops : (m t : List ℕ) → IsMarkBehindBlobs m → Stops is_blank (m ++ t)
 marked_stops _ t (Mark m i) = mark_stops m t i
 marked_stops _ t (BehindBlob b x i k) =
@@ -33,6 +35,7 @@ marked_behind s u t d e = record {
   is = BehindBlob d.drops.piece e.piece d.drops.is e.is;
 }
 
+-- where a blob is dropped, a reply mark behind blobs can still be dropped, and leaves the same text
 pub marked_past : (s u t : List ℕ) → DropsBlob s u → Drops IsMarkBehindBlobs s t → Drops IsMarkBehindBlobs u t
 marked_past s u t d e = by e.piece e.is e.whole
   where
@@ -40,6 +43,7 @@ marked_past s u t d e = by e.piece e.is e.whole
     by _ (Mark p m) w = absurd (mark_is_no_blob s t u (record { piece = p; whole = w; is = m }) d)
     by _ (BehindBlob b x i k) w = record { piece = x; whole = one_blob s u (x ++ t) d (blob_before s b x t w i k); is = k }
 
+-- a reply mark at the front is one with no blob before it
 pub mark_alone : (s t : List ℕ) → Drops IsReplyMark s t → Drops IsMarkBehindBlobs s t
 mark_alone s t d = record { piece = d.piece; whole = d.whole; is = Mark d.piece d.is }
 
@@ -51,6 +55,7 @@ marked_alone s t l d = by d.piece d.is d.whole
     by _ (Mark p m) w = record { piece = p; whole = w; is = m }
     by _ (BehindBlob b x i k) w = absurd (l (x ++ t) (blob_before s b x t w i k))
 
+-- dropping a reply mark with the blobs before it leaves one text
 pub one_marked : (p : List ℕ) → IsMarkBehindBlobs p → (s t u : List ℕ) → s ≡ p ++ t → Drops IsMarkBehindBlobs s u → t ≡ u
 one_marked _ (Mark p m) s t u w e =
     let d : Drops IsReplyMark s t = record { piece = p; whole = w; is = m } in
@@ -67,15 +72,18 @@ blank_is_no_mark s t u d e =
     let y = w.blank in
     absurd cc
 
+-- dropping one octet of white space at the front leaves one text
 pub one_wsp : (s t u : List ℕ) → Drops IsWsp s t → Drops IsWsp s u → t ≡ u
 one_wsp s t u d e =
     let p = d.whole ∙ ap (λ (x : List ℕ). x ++ t) d.is.whole in
     let q = e.whole ∙ ap (λ (x : List ℕ). x ++ u) e.is.whole in
     cc
 
+-- an octet of white space at the front is a leader
 pub leader_of_wsp : (s t : List ℕ) → Drops IsWsp s t → Drops IsLeader s t
 leader_of_wsp s t d = record { piece = d.piece; whole = d.whole; is = BlankAtFront d.is }
 
+-- a reply mark at the front, with the blobs before it, is a leader
 pub leader_of_mark : (s t : List ℕ) → Drops IsMarkBehindBlobs s t → Drops IsLeader s t
 leader_of_mark s t d = record { piece = d.piece; whole = d.whole; is = Marked d.is }
 
@@ -103,14 +111,17 @@ mark_some m i =
     let l = word_letters i.word i.reply in
     omega (arith, ap length i.whole, length-append i.word (i.gap ++ (i.blob ++ 58 ∷ [])), ap length l.whole)
 
+-- a reply mark with the blobs before it isn't empty
 pub marked_some : (m : List ℕ) → IsMarkBehindBlobs m → 0 < length m
 marked_some _ (Mark m i) = mark_some m i
 marked_some _ (BehindBlob b x i k) = omega (arith, length-append b x, marked_some x k)
 
+-- no leader is empty, be it a mark or white space
 pub leader_some : (m : List ℕ) → IsLeader m → 0 < length m
 leader_some m (Marked i) = marked_some m i
 leader_some m (BlankAtFront w) = omega (arith, ap length w.whole)
 
+-- what is left when a leader is dropped is shorter than the text
 pub leader_shorter : (s t : List ℕ) → Drops IsLeader s t → length t < length s
 leader_shorter s t d = omega (arith, ap length d.whole, length-append d.piece t, leader_some d.piece d.is)
 

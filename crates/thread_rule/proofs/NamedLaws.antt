@@ -47,6 +47,7 @@ base_named header text b s t f g =
     let there = subst P (subject_text header text b f.text g.text f.subject g.subject) f.is in
     one_normal (spaced g.text) s t there.reached there.normal g.is.reached g.is.normal
 
+-- a header names one thing, where no octets have two headers, no text two lists of pieces, and no value two texts
 pub one_named : OneHeader → OneList → OneText → (header : List ℕ) (email : ℕ) (one other : Named) → IsNamedOf header email one → IsNamedOf header email other → one ≡ other
 one_named oh ol ot header email one other f g =
     let number : one.email ≡ other.email = f.email_is ∙ sym g.email_is in

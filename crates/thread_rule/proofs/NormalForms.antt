@@ -7,6 +7,7 @@ use Rattle.thread_rule.proofs.PieceLemmas.{one_trailer, one_inner}
 use Rattle.thread_rule.proofs.BlobLemmas.{one_blob}
 use Rattle.thread_rule.proofs.LeaderLemmas.{one_leader}
 
+-- one step leads from a text to one text at most
 pub one_step : (s t u : List ℕ) → Step s t → Step s u → t ≡ u
 one_step s t u (Step2 d) (Step2 e) = one_trailer s t u d e
 one_step s t u (Step2 d) (Step3 l e) = absurd (l t d)
@@ -25,6 +26,7 @@ one_step s t u (Step6 l m n d) (Step3 k e) = absurd (m u e)
 one_step s t u (Step6 l m n d) (Step4 k o e) = absurd (n u e)
 one_step s t u (Step6 l m n d) (Step6 k o p e) = one_inner s t u d e
 
+-- two texts that steps lead to from the same text, and that no step leads from, are the same
 pub one_normal : (s t u : List ℕ) → Reaches s t → Lacks Step t → Reaches s u → Lacks Step u → t ≡ u
 one_normal s _ _ (Stays _) n (Stays _) m = refl
 one_normal s _ u (Stays _) n (Goes _ y _ d e) m = absurd (n y d)
@@ -33,13 +35,16 @@ one_normal s t u (Goes _ x _ a b) n (Goes _ y _ d e) m =
     let P : List ℕ → Type 0 = λ z. Reaches z u in
     one_normal x t u b n (subst P (sym (one_step s x y a d)) e) m
 
+-- steps from s to t, and then steps from t to u, are steps from s to u
 pub reaches_on : (s t u : List ℕ) → Reaches s t → Reaches t u → Reaches s u
 reaches_on s _ u (Stays _) r = r
 reaches_on s t u (Goes _ x _ d e) r = Goes s x u d (reaches_on x t u e r)
 
+-- steps from s to t, and then one step from t to u, are steps from s to u
 pub reaches_more : (s t u : List ℕ) → Reaches s t → Step t u → Reaches s u
 reaches_more s t u r d = reaches_on s t u r (Goes t u u d (Stays u))
 
+-- no step leads from a text that has no trailer, no leader, no blob before other text, and no wrapping of a forwarded subject
 pub no_step : (s : List ℕ) → Lacks (DropsEnd IsTrailer) s → Lacks (Drops IsLeader) s → Lacks DropsBlobBeforeText s → Lacks Unwraps s → Lacks Step s
 no_step s a b c d t (Step2 e) = a t e
 no_step s a b c d t (Step3 k e) = b t e

@@ -7,18 +7,22 @@ use Rattle.text_words.specs.Octets.{is_blank, SameText}
 use Rattle.thread_rule.specs.Subject.{IsWsp, IsTrailer, Forwarded, BlankAtEnd, IsForwardHeader, IsForwardTrailer}
 use Rattle.thread_rule.specs.BaseSubject.{Drops, DropsEnd, Unwraps, Lacks}
 
+-- what is said of a result, of its value or of there being none, may be replaced by what follows from it
 pub match_map : {X P R : Type 0} {Q S : X → Type 0} (o : Option X) → (P → R) → ((x : X) → Q x → S x) → MatchOption o P Q → MatchOption o R S
 match_map None f g p = f p
 match_map (Some x) f g q = g x q
 
+-- where something is said of a result, what follows from it for a value holds of the value, if there is one
 pub some_of : {X : Type 0} (P : Type 0) {Q S : X → Type 0} (o : Option X) → ((x : X) → Q x → S x) → MatchOption o P Q → IfSome o S
 some_of P None g p = tt
 some_of P (Some x) g q = g x q
 
+-- where there is no value, what is said of a result holds once what is said of that case does
 pub of_none : {X P : Type 0} (Q : X → Type 0) (o : Option X) → o ≡ None → P → MatchOption o P Q
 of_none Q None e p = p
 of_none Q (Some x) e p = absurd cc
 
+-- texts that are equal but for the case of their letters have the same length
 pub same_length : (x w : List ℕ) → SameText x w → length x ≡ length w
 same_length x w e = sym (length-map x to_ascii_lowercase) ∙ ap length e ∙ length-map w to_ascii_lowercase
 
@@ -28,6 +32,7 @@ one_end s a x b y e f l =
     let k : length a ≡ length b = omega (arith, ap length e, ap length f, length-append a x, length-append b y) in
     sym (take_at a x (length b) k) ∙ ap (take (length b)) (sym e ∙ f) ∙ take_at b y (length b) refl
 
+-- two fronts of a text that have the same length leave the same rest
 pub one_front : (s a x b y : List ℕ) → s ≡ x ++ a → s ≡ y ++ b → length x ≡ length y → a ≡ b
 one_front s a x b y e f l =
     sym (drop_at x a (length y) l) ∙ ap (drop (length y)) (sym e ∙ f) ∙ drop_at y b (length y) refl
@@ -39,6 +44,7 @@ pub record EndsIn (e : ℕ) (p : List ℕ) : Type 0 where
   pub whole : p ≡ front ++ octet ∷ []
   pub same : to_ascii_lowercase octet ≡ e
 
+-- the trailer "(fwd)" ends in a closing parenthesis
 pub forwarded_end : (p : List ℕ) → SameText p (codes "(fwd)") → EndsIn 41 p
 forwarded_end [] e = absurd cc
 forwarded_end (a ∷ []) e = absurd cc
@@ -48,9 +54,11 @@ forwarded_end (a ∷ b ∷ c ∷ d ∷ []) e = absurd cc
 forwarded_end (a ∷ b ∷ c ∷ d ∷ x ∷ []) e = record { front = a ∷ b ∷ c ∷ d ∷ []; octet = x; whole = refl; same = cc }
 forwarded_end (a ∷ b ∷ c ∷ d ∷ x ∷ y ∷ t) e = absurd cc
 
+-- a closing parenthesis is no white space
 pub blank_is_no_parenthesis : (c : ℕ) → to_ascii_lowercase c ≡ 41 → is_blank c ≡ true → ⊥
 blank_is_no_parenthesis c e b = grind arith
 
+-- a text that ends in the trailer "(fwd)" doesn't end in white space
 pub forwarded_is_no_blank : (s t u : List ℕ) (p : List ℕ) → s ≡ t ++ p → SameText p (codes "(fwd)") → DropsEnd IsWsp s u → ⊥
 forwarded_is_no_blank s t u p e f d =
     let k = forwarded_end p f in
@@ -59,6 +67,7 @@ forwarded_is_no_blank s t u p e f d =
     (append_assoc t k.front (k.octet ∷ []) ∙ ap (λ (x : List ℕ). t ++ x) (sym k.whole) ∙ sym e ∙ d.whole ∙ ap (λ (x : List ℕ). u ++ x) w.whole) in
     blank_is_no_parenthesis k.octet k.same (ap is_blank same.1 ∙ w.blank)
 
+-- the white space that is dropped as one piece is one octet
 pub wsp_length : (t : List ℕ) → IsWsp t → length t ≡ 1
 wsp_length t w = ap length w.whole
 
@@ -76,6 +85,7 @@ one_trailer s t u d e = by d.is e.is
     by (BlankAtEnd w) (Forwarded g) = absurd (forwarded_is_no_blank s u t e.piece e.whole g (record { piece = d.piece; whole = d.whole; is = w }))
     by (BlankAtEnd w) (BlankAtEnd v) = one_end s t d.piece u e.piece d.whole e.whole (wsp_length _ w ∙ sym (wsp_length _ v))
 
+-- what is left when a trailer is dropped is shorter than the text
 pub trailer_shorter : (s t : List ℕ) → DropsEnd IsTrailer s t → length t < length s
 trailer_shorter s t d = by d.is
   where
@@ -91,6 +101,7 @@ no_trailer s a b t d = by d.is
     by (Forwarded f) = b t (record { piece = d.piece; whole = d.whole; is = f })
     by (BlankAtEnd w) = a t (record { piece = d.piece; whole = d.whole; is = w })
 
+-- a "(fwd)" at the end, in letters of either case, is a trailer
 pub forwarded_trailer : (s t : List ℕ) → DropsEnd (λ p. SameText p (codes "(fwd)")) s t → DropsEnd IsTrailer s t
 forwarded_trailer s t d = record { piece = d.piece; whole = d.whole; is = Forwarded d.is }
 
@@ -109,6 +120,7 @@ one_inner s t u d e =
     let b = e.trailer in
     one_end d.inner t a.piece u b.piece a.whole (inner ∙ b.whole) (same_length a.piece (codes "]") a.is ∙ sym (same_length b.piece (codes "]") b.is))
 
+-- what is left when a forwarded subject is unwrapped is shorter than the text
 pub inner_shorter : (s t : List ℕ) → Unwraps s t → length t < length s
 inner_shorter s t d =
     let h = d.header in

@@ -48,6 +48,7 @@ or_right : (p q : Bool) → q ≡ true → (p || q) ≡ true
 or_right true q e = refl
 or_right false q e = e
 
+-- a number that is listed is listed with another number in front, too
 pub listed_behind : (x y : ℕ) (es : List ℕ) → list_any (is_at (nat_cmp x)) es ≡ true → list_any (is_at (nat_cmp x)) (y ∷ es) ≡ true
 listed_behind x y es e = or_right (is_at (nat_cmp x) y) (list_any (is_at (nat_cmp x)) es) e
 
@@ -56,6 +57,7 @@ pub data Listed (x y : ℕ) (es : List ℕ) : Type 0 where
   First : x ≡ y → Listed x y es
   Behind : list_any (is_at (nat_cmp x)) es ≡ true → Listed x y es
 
+-- a number in a list is the first, or is listed behind it
 pub listed_where : (x y : ℕ) (es : List ℕ) → list_any (is_at (nat_cmp x)) (y ∷ es) ≡ true → Listed x y es
 listed_where x y es e = by (is_at (nat_cmp x) y) refl e
   where
@@ -63,6 +65,7 @@ listed_where x y es e = by (is_at (nat_cmp x) y) refl e
     by true k h = First (eqb-true x y (sym (number_test x y) ∙ k))
     by false k h = Behind h
 
+-- a number that compares as less than another is below it
 pub less_is : (a b : ℕ) → nat_cmp a b ≡ Less → a < b
 less_is a b e = grind arith
 
@@ -75,9 +78,11 @@ above_first y (z ∷ es) a x e = by (listed_where x z es e) (above_first y es a.
     by (First s) f = let l = less_is y z a.0 in omega arith
     by (Behind h) f = f h
 
+-- where the test for it is true, two texts are equal but for the case of their letters
 pub same_is : (s t : List ℕ) → is_same_text s t ≡ true → SameText s t
 same_is s t e = (bytes_eq-Decides _ _).0 e
 
+-- of two texts that are equal but for the case of their letters, the test for it is true
 pub same_test : (s t : List ℕ) → SameText s t → is_same_text s t ≡ true
 same_test s t e = (bytes_eq-Decides _ _).1 e
 
@@ -124,6 +129,7 @@ both_pass false q = λ e. absurd (let f : false ≡ true = e in cc)
 pass_both : (p q : Bool) → p ≡ true → q ≡ true → p && q ≡ true
 pass_both p q e f = ap (λ (x : Bool). x && q) e ∙ f
 
+-- a lower Email in front gives its Thread, if it names the id and has an equal base subject, and else what was found stays
 pub first_finds_more : (members : Members) (base id : List ℕ) (x : ℕ) (es : List ℕ) → IsStrictlySortedBy nat_cmp (x ∷ es) → (r : Option ℕ) → Finds members base id es r
     → Finds members base id (x ∷ es) (thread_if (member_at members x) base id r)
 first_finds_more members base id x es s r more = by (member_at members x) refl
@@ -141,6 +147,7 @@ first_finds_more members base id x es s r more = by (member_at members x) refl
     by None e = skipped members base id x es r (λ m f a h. absurd cc) more
     by (Some member) e = tested member e (is_among member.ids id && is_same_text member.base base) refl
 
+-- of ascending Emails, the lowest that names the id and has an equal base subject gives its Thread; without one, nothing is found
 pub first_finds : (members : Members) (base id emails : List ℕ) → IsStrictlySortedBy nat_cmp emails → Finds members base id emails (first_thread members base id emails)
 first_finds members base id [] s = λ other m h. let l = h.listed in absurd cc
 first_finds members base id (x ∷ es) s = first_finds_more members base id x es s (first_thread members base id es) (first_finds members base id es (sorted_tail nat_cmp x es s))
@@ -168,6 +175,7 @@ key_there member base id named same =
 abbrev pub key_of : List ℕ → List ℕ → List ℕ
 key_of base id = key_after (base_digest base) id
 
+-- an Email that names the id and has an equal base subject is listed in the index at their key
 pub shares_listed : (index : KeyIndex) (members : Members) (base id : List ℕ) (email : ℕ) (member : Member) → IsIndexOf index members → Shares members base id email member
     → SharesBase members base id (emails_at index (key_of base id)) email member
 shares_listed index members base id email member i s = record {
@@ -178,6 +186,7 @@ shares_listed index members base id email member i s = record {
   same = s.same;
 }
 
+-- an Email listed at the key that names the id and has an equal base subject is such an Email among all
 pub listed_shares : (index : KeyIndex) (members : Members) (base id : List ℕ) (email : ℕ) (member : Member)
     → SharesBase members base id (emails_at index (key_of base id)) email member → Shares members base id email member
 listed_shares index members base id email member s = record { there = s.there; named = s.named; same = s.same }
@@ -216,6 +225,7 @@ joins_here index members base number named i x y b k thread o l e f g is s h =
     subst P (ap (λ (z : List ℕ). z ∷ drop (i + 1) named) (f ∙ e) ∙ sym (drop_more named i x l))
     (subst Q g (joins index members b number y (drop (i + 1) named) thread o (subst S is s) (subst T is h)))
 
+-- where the id at i decides nothing, the Thread is the one by the ids from i + 1 on
 pub passes_here : (index : KeyIndex) (members : Members) (base : List ℕ) (number : ℕ) (named : List (List ℕ)) (i : ℕ) (x y b k : List ℕ) (thread : ℕ) → IsIndexOf index members
     → i < length named → x ≡ get_or named i x → y ≡ x → b ≡ base → k ≡ key_of b y → IsStrictlySortedBy nat_cmp (emails_at index k)
     → None ≡ first_thread members b y (emails_at index k)
@@ -229,6 +239,7 @@ passes_here index members base number named i x y b k thread o l e f g is s h t 
     subst P (ap (λ (z : List ℕ). z ∷ drop (i + 1) named) (f ∙ e) ∙ sym (drop_more named i x l))
     (subst Q g (passes index members b number y (drop (i + 1) named) thread o (subst S is s) (subst T is h) (subst R (sym g) t)))
 
+-- where no id is left, the Email founds the Thread of its own number
 pub founds_at_end : (members : Members) (base : List ℕ) (number : ℕ) (named : List (List ℕ)) (i : ℕ) → length named ≤ i → IsThreadOf members base number (drop i named) number
 founds_at_end members base number named i l =
     let P : List (List ℕ) → Type 0 = λ xs. IsThreadOf members base number xs number in

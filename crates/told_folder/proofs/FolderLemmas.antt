@@ -7,9 +7,11 @@ use Rattle.told_folder.specs.declared.message.Message.{Message}
 use Rattle.told_folder.specs.declared.message.Folder.{Folder}
 use Rattle.told_folder.specs.declared.message.Held.{Held}
 
+-- two folders with their messages are equal where the folders are and the messages are
 pub held_same : (f g : Folder) (xs ys : List Message) → f ≡ g → xs ≡ ys → ◌≡◌ {A = Held} (record { folder = f; messages = xs }) (record { folder = g; messages = ys })
 held_same f g xs ys e h = cc
 
+-- where the UIDs in each folder ascend, those of a folder that is found do
 pub ascend_in : (hs : List Held) (n : ℕ) (h : Held) → AllAscend hs → Some h ≡ held_in hs n → Ascends uid_of h.messages
 ascend_in [] n h a is = absurd (cc)
 ascend_in (x ∷ hs) n h a is =
@@ -18,6 +20,7 @@ ascend_in (x ∷ hs) n h a is =
       | false ↦ λ e. ascend_in hs n h a.1 e
     ] is
 
+-- where the UIDs in each folder ascend, those of the messages at a folder's number do
 pub ascends_in : (hs : List Held) (n : ℕ) → AllAscend hs → Ascends uid_of (messages_in hs n)
 ascends_in [] n a = tt
 ascends_in (x ∷ hs) n a =
@@ -28,6 +31,7 @@ ascends_in (x ∷ hs) n a =
 
 -- ---- other messages in a folder
 
+-- a number below those of all folders is below them when one has other messages
 pub above_with : (k : ℕ) (hs : List Held) (n : ℕ) (xs : List Message) → AllAbove folder_number k hs → AllAbove folder_number k (with_messages hs n xs)
 above_with k [] n xs a = tt
 above_with k (h ∷ hs) n xs a =
@@ -36,6 +40,7 @@ above_with k (h ∷ hs) n xs a =
       | false ↦ (a.0, above_with k hs n xs a.1)
     ]
 
+-- the numbers of folders still ascend when one has other messages
 pub numbers_with : (hs : List Held) (n : ℕ) (xs : List Message) → Ascends folder_number hs → Ascends folder_number (with_messages hs n xs)
 numbers_with [] n xs a = tt
 numbers_with (h ∷ hs) n xs a =
@@ -44,6 +49,7 @@ numbers_with (h ∷ hs) n xs a =
       | false ↦ (above_with (folder_number h) hs n xs a.0, numbers_with hs n xs a.1)
     ]
 
+-- the UIDs in each folder still ascend when one has other messages whose UIDs ascend
 pub uids_with : (hs : List Held) (n : ℕ) (xs : List Message) → Ascends uid_of xs → AllAscend hs → AllAscend (with_messages hs n xs)
 uids_with [] n xs up a = tt
 uids_with (h ∷ hs) n xs up a =
@@ -82,11 +88,13 @@ with_at (x ∷ hs) n xs (suc at) before w h is same =
     let rest : with_messages hs n xs ≡ set hs at (record h { messages = xs }) = with_at hs n xs at (λ i d l. before (suc i) d (omega arith)) (omega arith) h is same in
     grind arith
 
+-- setting a place to what stands there changes nothing
 pub set_here : {X : Type 0} (xs : List X) (i : ℕ) (x : X) → i < length xs → x ≡ get_or xs i x → set xs i x ≡ xs
 set_here [] i x h is = absurd (omega arith)
 set_here (y ∷ ys) zero x h is = ap (λ z. z ∷ ys) is
 set_here (y ∷ ys) (suc i) x h is = ap (λ zs. y ∷ zs) (set_here ys i x (omega arith) is)
 
+-- giving a folder messages, and then others, is giving it the others
 pub with_twice : (hs : List Held) (n : ℕ) (xs ys : List Message) → with_messages (with_messages hs n xs) n ys ≡ with_messages hs n ys
 with_twice [] n xs ys = refl
 with_twice (h ∷ hs) n xs ys =
@@ -102,6 +110,7 @@ pub record IsWith (hs : List Held) (n : ℕ) (xs : List Message) (h : Held) : Ty
   pub found : held_in hs n ≡ Some h
   pub messages : h.messages ≡ xs
 
+-- a folder that is there is found with the messages that it is given
 pub held_with : (hs : List Held) (n : ℕ) (xs : List Message) → is_some (held_in hs n) ≡ true → (h : Held) × IsWith (with_messages hs n xs) n xs h
 held_with [] n xs there = absurd (cc)
 held_with (x ∷ hs) n xs there =

@@ -17,9 +17,11 @@ or_true : (a b : Bool) → b ≡ true → (a || (b || false)) ≡ true
 or_true true b e = refl
 or_true false b e = ap (λ v. v || false) e
 
+-- octets with one more that isn't LF have an LF exactly where they had one without it
 pub has_end_more : (bs : List ℕ) (b : ℕ) → eqb b 10 ≡ false → has_end (bs ++ b ∷ []) ≡ has_end bs
 has_end_more bs b e = list_any-append (λ c. eqb c 10) bs (b ∷ []) ∙ or_false (has_end bs) (eqb b 10) e
 
+-- octets that end in LF have an LF
 pub has_end_last : (bs : List ℕ) (b : ℕ) → eqb b 10 ≡ true → has_end (bs ++ b ∷ []) ≡ true
 has_end_last bs b e = list_any-append (λ c. eqb c 10) bs (b ∷ []) ∙ or_true (has_end bs) (eqb b 10) e
 
@@ -43,6 +45,7 @@ take_one bs i = let same : suc i ≡ i + 1 = omega arith in ap (λ j. take j bs)
 less_one : (i : ℕ) → (suc i) - 1 ≡ i
 less_one i = omega arith
 
+-- where the last of n octets isn't LF, their whole lines are those of one octet less
 pub lines_passed : (bs : List ℕ) (n : ℕ) → 0 < n → n ≤ length bs → eqb (get_or bs (n - 1) 0) 10 ≡ false → whole_lines (take n bs) ≡ whole_lines (take (n - 1) bs)
 lines_passed bs zero h w e = absurd (omega arith)
 lines_passed bs (suc i) h w e =
@@ -50,6 +53,7 @@ lines_passed bs (suc i) h w e =
     ap whole_lines (take_one bs i) ∙ ap whole_lines (take_more bs i 0 (omega arith)) ∙ lines_more (take i bs) (get_or bs i 0) at
     ∙ ap (λ j. whole_lines (take j bs)) (sym (less_one i))
 
+-- where the last of n octets is LF, they are whole lines
 pub lines_end : (bs : List ℕ) (n : ℕ) → 0 < n → n ≤ length bs → eqb (get_or bs (n - 1) 0) 10 ≡ true → whole_lines (take n bs) ≡ take n bs
 lines_end bs zero h w e = absurd (omega arith)
 lines_end bs (suc i) h w e =

@@ -74,12 +74,14 @@ module _ {K P : Type 0} where
     ];
   }
 
+  -- functions that agree with two that undo each other undo each other, too
   pub inverts_same : (look look' : K → Option P) (back back' : P → Option K) → Inverts look back → ((j : K) → look' j ≡ look j) → ((q : P) → back' q ≡ back q) → Inverts look' back'
   inverts_same look look' back back' i l b = record {
     to = λ j q e. b q ∙ i.to j q (sym (l j) ∙ e);
     from = λ j q e. l j ∙ i.from j q (sym (b q) ∙ e);
   }
 
+-- an option that is Some of nothing is None
 pub none_found : {A : Type 0} (o : Option A) → ((a : A) → o ≡ Some a → ⊥) → o ≡ None
 none_found None h = refl
 none_found (Some a) h = absurd (h a refl)
@@ -89,6 +91,7 @@ pub record IsHere (hs : List Held) (n at : ℕ) (h : Held) : Type 0 where
   pub found : held_in hs n ≡ Some h
   pub placed : (xs : List Message) → with_messages hs n xs ≡ set hs at (record h { messages = xs })
 
+-- the folder at its number's place is found by the number, and its messages are changed at that place
 pub here : (hs shown : List Held) (n at : ℕ) (h : Held) → shown ≡ hs → Ascends folder_number hs → IsHeldAt folder_number n shown at → h ≡ get_or hs at h → IsHere hs n at h
 here hs shown n at h same up held is =
     let held_hs : IsHeldAt folder_number n hs at = subst (λ (zs : List Held). IsHeldAt folder_number n zs at) same held in
@@ -97,6 +100,7 @@ here hs shown n at h same up held is =
       placed = λ xs. with_at hs n xs at held_hs.place.before held_hs.within h is (ap folder_number is ∙ held_hs.same h);
     }
 
+-- the messages at a folder's number are those of the folder that is found by it
 pub messages_here : (hs : List Held) (n : ℕ) (h : Held) → held_in hs n ≡ Some h → messages_in hs n ≡ h.messages
 messages_here hs n h e = ap messages_of e
 
@@ -104,6 +108,7 @@ messages_here hs n h e = ap messages_of e
 pub apart_at : (k q : ℕ) → q ≢ k → is_at (nat_cmp k) q ≡ false
 apart_at k q apart = grind arith
 
+-- a key is at itself
 pub here_at : (k : ℕ) → is_at (nat_cmp k) k ≡ true
 here_at k = grind arith
 
@@ -115,6 +120,7 @@ pub mark_same : (hs : List Held) (n u : ℕ) (xs : List Message) (h : Held) → 
     → mark_in (with_messages hs n xs) (n, u) ≡ option_map mark_of (with_key uid_of u xs)
 mark_same hs n u xs h found = ap (λ (ys : List Message). option_map mark_of (with_key uid_of u ys)) (messages_same hs n xs h found)
 
+-- the mark at a folder's number and a UID is that of the message which the folder has at the UID
 pub mark_was : (hs : List Held) (n u : ℕ) (h : Held) → held_in hs n ≡ Some h → mark_in hs (n, u) ≡ option_map mark_of (with_key uid_of u h.messages)
 mark_was hs n u h found = ap (λ (o : Option Held). option_map mark_of (with_key uid_of u (messages_of o))) found
 
@@ -130,12 +136,15 @@ mark_off hs n v xs h found stay q off =
       | inr apart ↦ ap (λ (ys : List Message). option_map mark_of (with_key uid_of q.1 ys)) (messages_other hs n xs q.0 apart)
     ]
 
+-- a number compares as equal to itself
 pub eqb_same : (k : ℕ) → eqb k k ≡ true
 eqb_same k = grind arith
 
+-- numbers that differ compare as not equal
 pub eqb_apart : (j k : ℕ) → k ≢ j → eqb j k ≡ false
 eqb_apart j k apart = grind arith
 
+-- when a message of a new UID and mark is put in a folder, and its mark in the index, the index is that of the folders
 pub indexed_put : (hs : List Held) (marks marks' : BTreeMap ℕ (ℕ × ℕ)) (nm nm' n : ℕ) (h : Held) (x : Message) → nm ≤ nm' → x.mark < nm' → IsIndexed hs marks nm
     → held_in hs n ≡ Some h → message_in hs n x.uid ≡ None → ((p : ℕ × ℕ) → mark_in hs p ≢ Some x.mark)
     → ((q : ℕ) → get nat_cmp marks' q ≡ cond (is_at (nat_cmp x.mark) q) (Some (n, x.uid)) (get nat_cmp marks q))
@@ -164,6 +173,7 @@ indexed_put hs marks marks' nm nm' n h x grows fits i found free new upd =
           (ap (option_map mark_of) free);
     }
 
+-- when the message at a UID is cut from a folder, and its mark from the index, the index is that of the folders
 pub indexed_cut : (hs : List Held) (marks marks' : BTreeMap ℕ (ℕ × ℕ)) (nm nm' n u k : ℕ) (h : Held) → nm ≤ nm' → IsIndexed hs marks nm → held_in hs n ≡ Some h
     → mark_in hs (n, u) ≡ Some k → ((q : ℕ) → get nat_cmp marks' q ≡ cond (is_at (nat_cmp k) q) None (get nat_cmp marks q))
     → IsIndexed (with_messages hs n (cut_keyed uid_of u h.messages)) marks' nm'

@@ -35,6 +35,7 @@ none_past f l k (x ∷ xs) a h =
       | false ↦ none_past f l k xs a.1 h
     ]
 
+-- the first UID held from f on is the first held from f to l, where it is at most l
 pub within_yes : (f l u : ℕ) (xs : List Message) → Some u ≡ option_map uid_of (find (λ x. leb f x.uid) xs) → u ≤ l
     → Some u ≡ option_map uid_of (find (λ x. leb f x.uid && leb x.uid l) xs)
 within_yes f l u [] e h = absurd (cc)
@@ -47,6 +48,7 @@ within_yes f l u (x ∷ xs) e h =
       | false ↦ λ g. within_yes f l u xs g h
     ] e
 
+-- where UIDs ascend and the first one held from f on is above l, none is held from f to l
 pub within_no : (f l u : ℕ) (xs : List Message) → Ascends uid_of xs → Some u ≡ option_map uid_of (find (λ x. leb f x.uid) xs) → l < u
     → ◌≡◌ {A = Option ℕ} None (option_map uid_of (find (λ x. leb f x.uid && leb x.uid l) xs))
 within_no f l u [] a e h = refl
@@ -60,6 +62,7 @@ within_no f l u (x ∷ xs) a e h =
       | false ↦ λ g. within_no f l u xs a.1 g h
     ] e
 
+-- where no UID is held from f on, none is held from f to l
 pub within_none : (f l : ℕ) (xs : List Message) → ◌≡◌ {A = Option ℕ} None (option_map uid_of (find (λ x. leb f x.uid) xs))
     → ◌≡◌ {A = Option ℕ} None (option_map uid_of (find (λ x. leb f x.uid && leb x.uid l) xs))
 within_none f l [] e = refl
@@ -76,6 +79,7 @@ pub record IsOf (p : ℕ → Bool) (u : ℕ) (xs : List Message) : Type 0 where
   pub held : with_key uid_of u xs ≡ Some message
   pub passes : p u ≡ true
 
+-- the UID of the first message that passes a test is held, and passes it
 pub found_of : (p : ℕ → Bool) (u : ℕ) (xs : List Message) → Some u ≡ option_map uid_of (find (λ x. p x.uid) xs) → IsOf p u xs
 found_of p u [] e = absurd (cc)
 found_of p u (x ∷ xs) e =
@@ -91,6 +95,7 @@ found_of p u (x ∷ xs) e =
           ]
     ] refl e
 
+-- where no message passes a test, taking out those that do takes out none
 pub none_of : (p : ℕ → Bool) (xs : List Message) → ◌≡◌ {A = Option ℕ} None (option_map uid_of (find (λ x. p x.uid) xs)) → without_those p xs ≡ xs
 none_of p [] e = refl
 none_of p (x ∷ xs) e =
@@ -102,6 +107,7 @@ none_of p (x ∷ xs) e =
 
 -- ---- a message that is cut
 
+-- where a UID passes a test, cutting it before all that pass are taken out leaves the same messages
 pub cut_within : (p : ℕ → Bool) (u : ℕ) (xs : List Message) → p u ≡ true → without_those p (cut_keyed uid_of u xs) ≡ without_those p xs
 cut_within p u [] t = refl
 cut_within p u (x ∷ xs) t =
@@ -112,6 +118,7 @@ cut_within p u (x ∷ xs) t =
           ∙ ap (λ zs. if not (p x.uid) then x ∷ zs else zs) (cut_within p u xs t)
     ]
 
+-- cutting a message that is held leaves fewer messages
 pub cut_shorter : (u : ℕ) (x : Message) (xs : List Message) → with_key uid_of u xs ≡ Some x → length (cut_keyed uid_of u xs) < length xs
 cut_shorter u x [] e = absurd (cc)
 cut_shorter u x (y ∷ ys) e =
@@ -136,6 +143,7 @@ index_cut hs n xs marks marks' nm u x there found upd i =
     subst P (ap (λ (zs : List Message). with_messages ks n (cut_keyed uid_of u zs)) r.1.messages ∙ with_twice hs n xs (cut_keyed uid_of u xs))
     (indexed_cut ks marks marks' nm nm n u x.mark r.0 (omega arith) i r.1.found marked upd)
 
+-- cutting a message that is held, and its mark, brings the open folder to its messages without that one
 pub lost_goes : (old new : Work) (u : ℕ) (x : Message) → with_key uid_of u old.messages ≡ Some x → GoesOn old new → new.messages ≡ cut_keyed uid_of u old.messages
     → new.next_mark ≡ old.next_mark → ((q : ℕ) → get nat_cmp new.marks q ≡ cond (is_at (nat_cmp x.mark) q) None (get nat_cmp old.marks q))
     → GoesOk old new (record (telling_of old) { messages = cut_keyed uid_of u old.messages }) (Ok tt)
@@ -189,6 +197,7 @@ pub record IsLosing (p : ℕ → Bool) (was now : Work) : Type 0 where
   pub known : without_those p was.messages ≡ was.messages → (now.messages ≡ was.messages) × (now.changes ≡ was.changes)
   pub index : (hs : List Held) → IsIndexOf hs was → IsIndexOf hs now
 
+-- at the start nothing is cut yet
 pub losing_none : (p : ℕ → Bool) (old : Work) → Ascends uid_of old.messages → IsLosing p old old
 losing_none p old up = record {
   on = record { folder = refl; rises = omega arith; stands = λ e l. refl; draws = λ e l. refl };
@@ -199,6 +208,7 @@ losing_none p old up = record {
   index = λ hs i. i;
 }
 
+-- when the first message left that passes the test is cut, those left still come to what is left of all
 pub losing_more : (p : ℕ → Bool) (was now next : Work) (u : ℕ) → Some u ≡ option_map uid_of (find (λ x. p x.uid) now.messages) → IsLosing p was now
     → GoesOk now next (record (telling_of now) { messages = cut_keyed uid_of u now.messages }) (Ok tt) → IsLosing p was next
 losing_more p was now next u found so g =
@@ -217,6 +227,7 @@ losing_more p was now next u found so g =
       index = λ hs i. g.index hs (so.index hs i);
     }
 
+-- where no message is left that passes the test, the open folder has come to its messages without those that did
 pub losing_all : (p : ℕ → Bool) (was now : Work) → ◌≡◌ {A = Option ℕ} None (option_map uid_of (find (λ x. p x.uid) now.messages)) → IsLosing p was now
     → GoesOk was now (record (telling_of was) { messages = without_those p was.messages }) (Ok tt)
 losing_all p was now none so = record {
@@ -227,6 +238,7 @@ losing_all p was now none so = record {
   known = λ e. (so.known (ap (λ (t : Telling). t.messages) e)).1;
 }
 
+-- what runs out of memory in a step after others does so as a whole, and leaves the index and the count right
 pub losing_fails : (was now next : Work) (on : GoesOn was now) (ascends : Ascends uid_of now.messages) (index : (hs : List Held) → IsIndexOf hs was → IsIndexOf hs now)
     (t u : Telling)
     (e : AllocError) → GoesOk now next t (Err e) → GoesOk was next u (Err e)
@@ -298,6 +310,7 @@ without_none : (xs : List Message) → xs ≡ without_those (λ u. false) xs
 without_none [] = refl
 without_none (x ∷ xs) = ap (λ zs. x ∷ zs) (without_none xs)
 
+-- at the start the messages of no range are gone
 pub lost_none : (rs : List UidRange) (old : Work) → Ascends uid_of old.messages → IsLost rs 0 old old
 lost_none rs old up = record {
   on = record { folder = refl; rises = omega arith; stands = λ e l. refl; draws = λ e l. refl };
@@ -311,6 +324,7 @@ lost_none rs old up = record {
   nothing_taken [] xs = without_none xs
   nothing_taken (r ∷ rs) xs = without_none xs
 
+-- when the messages of the range at a place go after those before it, those of the ranges up to it are gone
 pub lost_more : (rs : List UidRange) (i : ℕ) (r : UidRange) (was now next : Work) → i < length rs → r ≡ get_or rs i r → IsLost rs i was now
     → GoesOk now next (record (telling_of now) { messages = without_those (is_in r) now.messages }) (Ok tt) → IsLost rs (i + 1) was next
 lost_more rs i r was now next h is so g =
@@ -330,6 +344,7 @@ lost_more rs i r was now next h is so g =
       index = λ hs j. g.index hs (so.index hs j);
     }
 
+-- after the last range the open folder has come to its messages without those of all ranges
 pub lost_all : (rs : List UidRange) (i : ℕ) (was now : Work) → take i rs ≡ rs → IsLost rs i was now
     → GoesOk was now (record (telling_of was) { messages = without_those (covers rs) was.messages }) (Ok tt)
 lost_all rs i was now whole so = record {

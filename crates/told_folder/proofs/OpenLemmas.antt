@@ -22,6 +22,7 @@ use Rattle.told_folder.proofs.PartLemmas.{some_there, found_key, put_found}
 use Rattle.told_folder.proofs.FolderLemmas.{with_twice, held_with, messages_other, numbers_with, uids_with}
 use Rattle.told_folder.proofs.IndexLemmas.{mark_of, mark_same, mark_was, same_or_not, inverts_same, eqb_same, eqb_apart, indexed_put, indexed_again}
 
+-- where a test that decides a statement is true, the statement holds
 pub on_true : (r : Bool) (P : Type 0) → Decides r P → OnTrue r P
 on_true true P d = d.0 refl
 on_true false P d = tt
@@ -36,6 +37,7 @@ marks_stay hs n h ys found stay q =
       | inr apart ↦ ap (λ (zs : List Message). option_map mark_of (with_key uid_of q.1 zs)) (messages_other hs n ys q.0 apart)
     ]
 
+-- the index stays right where the open folder's other messages ascend and have the same mark at each UID
 pub index_same : (hs : List Held) (n : ℕ) (xs ys : List Message) (marks : BTreeMap ℕ (ℕ × ℕ)) (a : ℕ) → is_some (held_in hs n) ≡ true → Ascends uid_of ys
     → ((u : ℕ) → option_map mark_of (with_key uid_of u ys) ≡ option_map mark_of (with_key uid_of u xs)) → IsIndexed (with_messages hs n xs) marks a
     → IsIndexed (with_messages hs n ys) marks a
@@ -64,10 +66,12 @@ put_marks x y xs up held same u =
       | inr apart ↦ ap (λ b. option_map mark_of (if b then Some x else with_key uid_of u xs)) (eqb_apart x.uid u apart)
     ]
 
+-- what follows from what holds at Ok holds at Ok
 pub on_ok_map : {T E : Type 0} (r : Result T E) {P Q : Type 0} → (P → Q) → OnOk r P → OnOk r Q
 on_ok_map (Ok x) f p = f p
 on_ok_map (Err e) f p = tt
 
+-- equal messages with equal next marks are equal
 pub telling_same : (xs ys : List Message) (a b : ℕ) → xs ≡ ys → a ≡ b → ◌≡◌ {A = Telling} (record { messages = xs; next_mark = a }) (record { messages = ys; next_mark = b })
 telling_same xs ys a b e f = cc
 
@@ -82,6 +86,7 @@ index_on hs old new folder marks next there i = record {
       (subst (λ n. IsIndexed (with_messages hs old.folder new.messages) old.marks n) (sym next) i));
 }
 
+-- giving a message that is held the flags that a FETCH tells is what the FETCH comes to
 pub held_goes : (old new : Work) (uid : ℕ) (items : FetchItems) (flags : List (List ℕ)) (result : Result (Unit {0}) AllocError) (adds : Bool) → Ascends uid_of old.messages
     → is_some (with_key uid_of uid old.messages) ≡ true → items.flags ≡ Some flags
     → ((x : Message) → with_key uid_of uid old.messages ≡ Some x → IsFlagged old new x flags result)
@@ -151,6 +156,7 @@ held_stays old uid items adds up held is =
 
 -- ---- a new message
 
+-- when a message of a new UID, with a mark from the next one on, is put in the open folder, the index with its mark is right
 pub index_put : (hs : List Held) (n : ℕ) (xs : List Message) (marks marks' : BTreeMap ℕ (ℕ × ℕ)) (nm nm' : ℕ) (x : Message) → is_some (held_in hs n) ≡ true → nm ≤ nm'
     → x.mark < nm' → nm ≤ x.mark → with_key uid_of x.uid xs ≡ None → ((q : ℕ) → get nat_cmp marks' q ≡ cond (is_at (nat_cmp x.mark) q) (Some (n, x.uid)) (get nat_cmp marks q))
     → IsIndexed (with_messages hs n xs) marks nm → IsIndexed (with_messages hs n (put_keyed uid_of x xs)) marks' nm'
@@ -164,6 +170,7 @@ index_put hs n xs marks marks' nm nm' x there grows fits fresh free upd i =
     subst P (ap (λ (zs : List Message). with_messages ks n (put_keyed uid_of x zs)) r.1.messages ∙ with_twice hs n xs (put_keyed uid_of x xs))
     (indexed_put ks marks marks' nm nm' n r.0 x grows fits i r.1.found free_ks new upd)
 
+-- a new message that is put with the next mark in the open folder and in the index is what was to be told
 pub put_goes : (old new : Work) (x : Message) → Ascends uid_of old.messages → with_key uid_of x.uid old.messages ≡ None → x.mark ≡ old.next_mark → GoesOn old new
     → new.messages ≡ put_keyed uid_of x old.messages → new.next_mark ≡ old.next_mark + 1
     → ((q : ℕ) → get nat_cmp new.marks q ≡ cond (is_at (nat_cmp x.mark) q) (Some (old.folder, x.uid)) (get nat_cmp old.marks q))
@@ -228,9 +235,11 @@ fails old t e = record {
 
 -- ---- what a FETCH comes to
 
+-- a step that comes to what was to be told comes to what is equal to it
 pub goes_to : (old new : Work) (t u : Telling) (result : Result (Unit {0}) AllocError) → t ≡ u → GoesOk old new t result → GoesOk old new u result
 goes_to old new t u result e g = subst (λ (z : Telling). GoesOk old new z result) e g
 
+-- a FETCH that has a UID tells what its items tell of that UID
 pub fetched : (old new : Work) (adds : Bool) (o : Option ℕ) (uid : ℕ) (items : FetchItems) (result : Result (Unit {0}) AllocError) → o ≡ Some uid
     → GoesOk old new (tell_uid adds (telling_of old) uid items (with_key uid_of uid old.messages)) result → GoesOk old new (tell_fetch adds (telling_of old) o items) result
 fetched old new adds o uid items result e g = subst (λ (z : Option ℕ). GoesOk old new (tell_fetch adds (telling_of old) z items) result) (sym e) g
@@ -243,6 +252,7 @@ added old new adds uid items result free on g =
     goes_to old new _ _ result (sym (ap (λ b. tell_uid b (telling_of old) uid items (with_key uid_of uid old.messages)) on
     ∙ ap (λ (o : Option Message). tell_uid true (telling_of old) uid items o) free)) g
 
+-- a FETCH of a UID that isn't held changes nothing where the command adds no messages
 pub passed_over : (old : Work) (adds : Bool) (uid : ℕ) (items : FetchItems) → with_key uid_of uid old.messages ≡ None → adds ≡ false
     → GoesOk old old (tell_uid adds (telling_of old) uid items (with_key uid_of uid old.messages)) (Ok tt)
 passed_over old adds uid items free off =
@@ -251,6 +261,7 @@ passed_over old adds uid items free off =
 
 -- ---- one response more
 
+-- two steps in order that each keep the folder's number and count what changes do so together
 pub goes_on_to : (a b c : Work) → GoesOn a b → GoesOn b c → GoesOn a c
 goes_on_to a b c f g = record {
   folder = g.folder ∙ f.folder;
@@ -265,10 +276,12 @@ goes_on_to a b c f g = record {
       g.draws second l ∙ f.draws first (omega (arith, second, l));
 }
 
+-- telling one response more is telling it after the others
 pub tell_more : (adds : Bool) (t : Telling) (rs : List Response) (r : Response) → tell_responses adds t (rs ++ r ∷ []) ≡ tell_response adds (tell_responses adds t rs) r
 tell_more adds t [] r = refl
 tell_more adds t (q ∷ qs) r = tell_more adds (tell_response adds t q) qs r
 
+-- when the response at a place is told after those before it, those up to it are told
 pub tell_step : (adds : Bool) (was : Telling) (rs : List Response) (i : ℕ) (r : Response) (mid new : Telling) → i < length rs → r ≡ get_or rs i r
     → mid ≡ tell_responses adds was (take i rs) → new ≡ tell_response adds mid r → new ≡ tell_responses adds was (take (i + 1) rs)
 tell_step adds was rs i r mid new h is m n =
@@ -277,10 +290,12 @@ tell_step adds was rs i r mid new h is m n =
 
 -- ---- what is known
 
+-- where all responses tell what is known, those but the last do, and so does the last
 pub known_more : (adds : Bool) (t : Telling) (rs : List Response) (r : Response) → AllKnown adds t (rs ++ r ∷ []) → AllKnown adds t rs × (tell_response adds t r ≡ t)
 known_more adds t [] r k = (tt, k.0)
 known_more adds t (q ∷ qs) r k = let rest = known_more adds t qs r k.1 in ((k.0, rest.0), rest.1)
 
+-- responses that each tell what is known change nothing
 pub known_stays : (adds : Bool) (t : Telling) (rs : List Response) → AllKnown adds t rs → tell_responses adds t rs ≡ t
 known_stays adds t [] k = refl
 known_stays adds t (r ∷ rs) k = ap (λ (s : Telling). tell_responses adds s rs) k.0 ∙ known_stays adds t rs k.1

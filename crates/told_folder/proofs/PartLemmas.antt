@@ -23,38 +23,47 @@ use Rattle.told_folder.proofs.IndexLemmas.{same_or_not, here_at, apart_at}
 
 -- ---- two lists
 
+-- a number below the UIDs of two lists is below those of the first
 pub above_left : (k : ℕ) (xs ys : List Message) → AllAbove uid_of k (xs ++ ys) → AllAbove uid_of k xs
 above_left k [] ys a = tt
 above_left k (x ∷ xs) ys a = (a.0, above_left k xs ys a.1)
 
+-- a number below the UIDs of two lists is below those of the second
 pub above_right : (k : ℕ) (xs ys : List Message) → AllAbove uid_of k (xs ++ ys) → AllAbove uid_of k ys
 above_right k [] ys a = a
 above_right k (x ∷ xs) ys a = above_right k xs ys a.1
 
+-- where UIDs ascend through two lists, those of the first ascend
 pub ascends_left : (xs ys : List Message) → Ascends uid_of (xs ++ ys) → Ascends uid_of xs
 ascends_left [] ys a = tt
 ascends_left (x ∷ xs) ys a = (above_left x.uid xs ys a.0, ascends_left xs ys a.1)
 
+-- where UIDs ascend through two lists, those of the second ascend
 pub ascends_right : (xs ys : List Message) → Ascends uid_of (xs ++ ys) → Ascends uid_of ys
 ascends_right [] ys a = a
 ascends_right (x ∷ xs) ys a = ascends_right xs ys a.1
 
+-- a message found in the first of two lists is found in both
 pub found_left : (u : ℕ) (xs ys : List Message) (x : Message) → with_key uid_of u xs ≡ Some x → with_key uid_of u (xs ++ ys) ≡ Some x
 found_left u xs ys x e = find-append (λ (m : Message). eqb m.uid u) xs ys ∙ ap (λ (o : Option Message). option_or o (with_key uid_of u ys)) e
 
+-- a UID that the first of two lists doesn't have is looked for in the second
 pub found_right : (u : ℕ) (xs ys : List Message) → with_key uid_of u xs ≡ None → with_key uid_of u (xs ++ ys) ≡ with_key uid_of u ys
 found_right u xs ys e = find-append (λ (m : Message). eqb m.uid u) xs ys ∙ ap (λ (o : Option Message). option_or o (with_key uid_of u ys)) e
 
+-- where each UID before a place is below a number, all messages before the place are
 pub under_take : (k : ℕ) (xs : List Message) (at : ℕ) → ((i : ℕ) (d : Message) → i < at → uid_of (get_or xs i d) < k) → at ≤ length xs → AllUnder k (take at xs)
 under_take k [] zero before w = tt
 under_take k [] (suc at) before w = tt
 under_take k (x ∷ xs) zero before w = tt
 under_take k (x ∷ xs) (suc at) before w = (before 0 x (omega arith), under_take k xs at (λ i d l. before (suc i) d (omega arith)) (omega arith))
 
+-- a UID above all is not found
 pub none_under : (k : ℕ) (xs : List Message) → AllUnder k xs → with_key uid_of k xs ≡ None
 none_under k [] a = refl
 none_under k (x ∷ xs) a = let less : x.uid < k = a.0 in ap (λ b. if b then Some x else with_key uid_of k xs) (ne_eqb _ _ (λ e. omega (arith, e, less))) ∙ none_under k xs a.1
 
+-- a message whose UID is above the first list's is put in the second
 pub put_under : (x : Message) (xs ys : List Message) → AllUnder x.uid xs → put_keyed uid_of x (xs ++ ys) ≡ xs ++ put_keyed uid_of x ys
 put_under x [] ys a = refl
 put_under x (y ∷ xs) ys a =
@@ -63,20 +72,24 @@ put_under x (y ∷ xs) ys a =
     ∙ ap (λ b. if b then x ∷ (xs ++ ys) else y ∷ put_keyed uid_of x (xs ++ ys)) (ne_eqb _ _ (λ e. omega (arith, e, less)))
     ∙ ap (λ zs. y ∷ zs) (put_under x xs ys a.1)
 
+-- cutting a UID above all changes nothing
 pub cut_under : (k : ℕ) (xs : List Message) → AllUnder k xs → cut_keyed uid_of k xs ≡ xs
 cut_under k [] a = refl
 cut_under k (x ∷ xs) a = let less : x.uid < k = a.0 in
     ap (λ b. if not b then x ∷ cut_keyed uid_of k xs else cut_keyed uid_of k xs) (ne_eqb _ _ (λ e. omega (arith, e, less))) ∙ ap (λ zs. x ∷ zs) (cut_under k xs a.1)
 
+-- a UID above the first list's is cut from the second
 pub cut_both : (k : ℕ) (xs ys : List Message) → AllUnder k xs → cut_keyed uid_of k (xs ++ ys) ≡ xs ++ cut_keyed uid_of k ys
 cut_both k xs ys a = filter-append (λ (m : Message). not (eqb m.uid k)) xs ys ∙ ap (λ zs. zs ++ cut_keyed uid_of k ys) (cut_under k xs a)
 
+-- a message whose UID is below all is put first
 pub put_first : (x : Message) (xs : List Message) → AllAbove uid_of x.uid xs → put_keyed uid_of x xs ≡ x ∷ xs
 put_first x [] a = refl
 put_first x (y ∷ ys) a = ap (λ b. if b then x ∷ (y ∷ ys) else (if eqb x.uid y.uid then x ∷ ys else y ∷ put_keyed uid_of x ys)) (lt-ltb _ _ a.0)
 
 -- ---- the entries of a map
 
+-- what a map by UID has at a UID is the message of the UID among its values
 pub looked_up : (u : ℕ) (es : List (ℕ × Message)) → AllKeyed es → lookup (is_at (nat_cmp u)) es ≡ with_key uid_of u (values_of es)
 looked_up u [] a = refl
 looked_up u (e ∷ es) a =
@@ -91,6 +104,7 @@ looked_up u (e ∷ es) a =
 abbrev pub InsertsAt : Message → ℕ × Message → List (ℕ × Message) → Ordering → List (ℕ × Message)
 InsertsAt x e es r = match_ordering r ((x.uid, x) ∷ e ∷ es) ((e.0, x) ∷ es) (e ∷ insert_entry nat_cmp es x.uid x)
 
+-- inserting a message in a map by UID is putting it among the values
 pub put_entries : (x : Message) (es : List (ℕ × Message)) → AllKeyed es → values_of (insert_entry nat_cmp es x.uid x) ≡ put_keyed uid_of x (values_of es)
 put_entries x [] a = refl
 put_entries x (e ∷ es) a =
@@ -112,6 +126,7 @@ put_entries x (e ∷ es) a =
       ]
     ]
 
+-- each key is still the UID of its message when a message is inserted under its UID
 pub keyed_put : (x : Message) (es : List (ℕ × Message)) → AllKeyed es → AllKeyed (insert_entry nat_cmp es x.uid x)
 keyed_put x [] a = (refl, tt)
 keyed_put x (e ∷ es) a =
@@ -123,6 +138,7 @@ keyed_put x (e ∷ es) a =
       ]
     ]
 
+-- in a map by UID whose values ascend, removing a UID is cutting it from the values
 pub cut_entries : (u : ℕ) (es : List (ℕ × Message)) → AllKeyed es → Ascends uid_of (values_of es)
     → values_of (remove_entry (is_at (nat_cmp u)) es) ≡ cut_keyed uid_of u (values_of es)
 cut_entries u [] a up = refl
@@ -135,6 +151,7 @@ cut_entries u (e ∷ es) a up =
           ∙ sym (ap (λ b. if not b then e.1 ∷ cut_keyed uid_of u (values_of es) else cut_keyed uid_of u (values_of es)) (ne_eqb _ _ (λ f. apart (a.0 ∙ f))))
     ]
 
+-- each key is still the UID of its message when a UID is removed
 pub keyed_cut : (u : ℕ) (es : List (ℕ × Message)) → AllKeyed es → AllKeyed (remove_entry (is_at (nat_cmp u)) es)
 keyed_cut u [] a = tt
 keyed_cut u (e ∷ es) a = elim (is_at (nat_cmp u) e.0) as (λ b. AllKeyed (cond b es (e ∷ remove_entry (is_at (nat_cmp u)) es))) [ true ↦ a.1 | false ↦ (a.0, keyed_cut u es a.1) ]
@@ -165,6 +182,7 @@ set_entries x w (e ∷ es) a up found =
       ]
     ]
 
+-- each key is still the UID of its message when a message is set at its UID
 pub keyed_set : (w : Message) (es : List (ℕ × Message)) → AllKeyed es → AllKeyed (set_value (is_at (nat_cmp w.uid)) es w)
 keyed_set w [] a = tt
 keyed_set w (e ∷ es) a =
@@ -175,6 +193,7 @@ keyed_set w (e ∷ es) a =
 
 -- ---- what is looked for
 
+-- a number passes a map's test of a lower bound exactly where the bound is at most the number
 pub le_is : (a b : ℕ) → (is_le (nat_cmp a b) && not false) ≡ leb a b
 le_is a b =
     elim (lt_same_gt a b) [
@@ -189,6 +208,7 @@ le_is a b =
 abbrev pub entries_at : ℕ → List (ℕ × Message) → List (ℕ × Message)
 entries_at f es = filter (λ e. is_le (nat_cmp f e.0) && not false) es
 
+-- the first entry of a map by UID from a key on has the UID of the first message that isn't below the key
 pub first_entry : (f : ℕ) (es : List (ℕ × Message)) → AllKeyed es → (e : ℕ × Message) (rest : List (ℕ × Message)) → entries_at f es ≡ e ∷ rest
     → Some e.0 ≡ option_map uid_of (find (λ x. leb f x.uid) (values_of es))
 first_entry f [] a e rest is = absurd (cc)
@@ -202,6 +222,7 @@ first_entry f (d ∷ es) a e rest is =
       | false ↦ λ t. first_entry f es a.1 e rest (sym (ap (λ b. if b then d ∷ entries_at f es else entries_at f es) t) ∙ is)
     ] test
 
+-- where a map by UID has no entry from a key on, no message has a UID from it on
 pub no_entry : (f : ℕ) (es : List (ℕ × Message)) → AllKeyed es → entries_at f es ≡ [] → ◌≡◌ {A = Option ℕ} None (option_map uid_of (find (λ x. leb f x.uid) (values_of es)))
 no_entry f [] a is = refl
 no_entry f (d ∷ es) a is =
@@ -214,6 +235,7 @@ no_entry f (d ∷ es) a is =
       | false ↦ λ t. no_entry f es a.1 (sym (ap (λ b. if b then d ∷ entries_at f es else entries_at f es) t) ∙ is)
     ] test
 
+-- where a UID has its place within the first list, the message there is the first of both lists from the UID on
 pub first_at : (f : ℕ) (xs ys : List Message) (at : ℕ) → ((i : ℕ) (d : Message) → i < at → uid_of (get_or xs i d) < f)
     → ((i : ℕ) (d : Message) → at ≤ i → i < length xs → f ≤ uid_of (get_or xs i d)) → at < length xs → (x : Message) → x ≡ get_or xs at x
     → find (λ m. leb f m.uid) (xs ++ ys) ≡ Some x
@@ -224,6 +246,7 @@ first_at f (y ∷ xs) ys (suc at) before from w x is =
     ap (λ b. if b then Some y else find (λ m. leb f m.uid) (xs ++ ys)) (lt-leb _ _ (before 0 y (omega arith)))
     ∙ first_at f xs ys at (λ i d l. before (suc i) d (omega arith)) (λ i d l h. from (suc i) d (omega arith) (omega arith)) (omega arith) x is
 
+-- where the first list's UIDs are all below a UID, the first message from it on is the second list's
 pub first_after : (f : ℕ) (xs ys : List Message) (at : ℕ) → ((i : ℕ) (d : Message) → i < at → uid_of (get_or xs i d) < f) → length xs ≤ at
     → find (λ m. leb f m.uid) (xs ++ ys) ≡ find (λ m. leb f m.uid) ys
 first_after f [] ys at before w = refl
@@ -247,6 +270,7 @@ put_left w (y ∷ xs) ys (suc at) before l same =
     ∙ ap (λ b. if b then w ∷ (xs ++ ys) else y ∷ put_keyed uid_of w (xs ++ ys)) (ne_eqb _ _ (λ e. omega (arith, e, less)))
     ∙ ap (λ zs. y ∷ zs) (put_left w xs ys at (λ i d h. before (suc i) d (omega arith)) (omega arith) same)
 
+-- setting other flags at a UID's place in the first list is putting its message with those flags among those of both lists
 pub flags_left : (u : ℕ) (xs ys : List Message) (at : ℕ) → IsHeldAt uid_of u xs at → Ascends uid_of (xs ++ ys) → (y : Message) → y ≡ get_or xs at y → (flags : List (List ℕ))
     → (x : Message)
     → with_key uid_of u (xs ++ ys) ≡ Some x → set xs at (record y { flags = flags }) ++ ys ≡ put_keyed uid_of (record x { flags = flags }) (xs ++ ys)
@@ -258,6 +282,7 @@ flags_left u xs ys at held up y is flags x found =
     sym (put_left w xs ys at (λ i d h. subst (λ n. uid_of (get_or xs i d) < n) (sym uid) (held.place.before i d h)) held.within (λ d. held.same d ∙ sym uid))
     ∙ ap (λ (m : Message). put_keyed uid_of (record m { flags = flags }) (xs ++ ys)) same
 
+-- the message at a UID's place in the first list is the one that both lists have at the UID
 pub found_self : (u : ℕ) (xs ys : List Message) (at : ℕ) → IsHeldAt uid_of u xs at → Ascends uid_of (xs ++ ys) → (y : Message) → y ≡ get_or xs at y → with_key uid_of u
     (xs ++ ys) ≡ Some y
 found_self u xs ys at held up y is = found_left u xs ys y (sym (held_found uid_of u xs (ascends_left xs ys up) at held y is))
@@ -270,10 +295,12 @@ found_above k u (y ∷ ys) x a e =
       | inr apart ↦ found_above k u ys x a.1 (sym (ap (λ b. if b then Some y else with_key uid_of u ys) (ne_eqb _ _ apart)) ∙ e)
     ]
 
+-- where UIDs ascend through two lists, those of the first are below one that the second has
 pub under_found : (u : ℕ) (xs ys : List Message) (x : Message) → Ascends uid_of (xs ++ ys) → with_key uid_of u ys ≡ Some x → AllUnder u xs
 under_found u [] ys x a e = tt
 under_found u (y ∷ xs) ys x a e = (found_above y.uid u ys x (above_right y.uid xs ys a.0) e, under_found u xs ys x a.1 e)
 
+-- a message that is found by a UID has that UID
 pub found_key : (u : ℕ) (xs : List Message) (x : Message) → with_key uid_of u xs ≡ Some x → x.uid ≡ u
 found_key u [] x e = absurd (cc)
 found_key u (y ∷ ys) x e =
@@ -300,6 +327,7 @@ flags_right u xs es fs keyed up y at_y flags is x found =
     ∙ sym (put_under w xs vs (subst (λ n. AllUnder n xs) (sym uid) under))
     ∙ ap (λ (m : Message). put_keyed uid_of (record m { flags = flags }) (xs ++ vs)) same
 
+-- each key is still the UID of its message when a message of the map has other flags
 pub keyed_flags : (u : ℕ) (es fs : List (ℕ × Message)) → AllKeyed es → (y : Message) → lookup (is_at (nat_cmp u)) es ≡ Some y → (flags : List (List ℕ))
     → fs ≡ set_value (is_at (nat_cmp u)) es (record y { flags = flags }) → AllKeyed fs
 keyed_flags u es fs keyed y at_y flags is =
@@ -309,6 +337,7 @@ keyed_flags u es fs keyed y at_y flags is =
 
 -- ---- the last of the vector moves into the map
 
+-- moving the last message of the vector into the map leaves the messages as they are
 pub moved_same : (xs xs' : List Message) (es fs : List (ℕ × Message)) (x : Message) → AllKeyed es → Ascends uid_of (xs ++ values_of es) → xs ≡ xs' ++ x ∷ []
     → fs ≡ insert_entry nat_cmp es x.uid x → xs' ++ values_of fs ≡ xs ++ values_of es
 moved_same xs xs' es fs x keyed up is entries =
@@ -317,6 +346,7 @@ moved_same xs xs' es fs x keyed up is entries =
     let above : AllAbove uid_of x.uid vs = (ascends_right xs' (x ∷ vs) (subst (λ (zs : List Message). Ascends uid_of zs) apart up)).0 in
     ap (λ zs. xs' ++ values_of zs) entries ∙ ap (λ zs. xs' ++ zs) (put_entries x es keyed ∙ put_first x vs above) ∙ sym apart
 
+-- the first n of the first m elements are the first n, where n is at most m
 pub take_take : {X : Type 0} (n m : ℕ) (xs : List X) → n ≤ m → take n (take m xs) ≡ take n xs
 take_take zero zero [] h = refl
 take_take zero (suc m) [] h = refl
@@ -327,6 +357,7 @@ take_take zero (suc m) (x ∷ xs) h = refl
 take_take (suc n) zero (x ∷ xs) h = absurd (omega arith)
 take_take (suc n) (suc m) (x ∷ xs) h = ap (λ zs. x ∷ zs) (take_take n m xs (omega arith))
 
+-- the first n elements are all, where there are no more than n
 pub take_whole : {X : Type 0} (n : ℕ) (xs : List X) → length xs ≤ n → take n xs ≡ xs
 take_whole zero [] h = refl
 take_whole (suc n) [] h = refl
@@ -337,35 +368,42 @@ take_whole (suc n) (x ∷ xs) h = ap (λ zs. x ∷ zs) (take_whole n xs (omega a
 pub under_moved : (u : ℕ) (was xs : List Message) (at : ℕ) → IsPlace uid_of u was at → xs ≡ take at was → AllUnder u xs
 under_moved u was xs at place is = subst (λ (zs : List Message). AllUnder u zs) (sym is) (under_take u was at place.before place.within)
 
+-- 1 where an option is None and else 0 is at most 1
 pub one_at_most : {X : Type 0} (o : Option X) → (if is_some o then 0 else 1) ≤ 1
 one_at_most None = omega arith
 one_at_most (Some x) = omega arith
 
+-- a map whose length isn't above 0 has no values
 pub nothing_left : (es : List (ℕ × Message)) → (0 < length es → false ≡ true) → values_of es ≡ []
 nothing_left [] h = refl
 nothing_left (e ∷ es) h = let wrong : ◌≡◌ {A = Bool} false true = h (omega arith) in absurd (cc)
 
+-- the first n elements are n at most
 pub short_take : {X : Type 0} (n : ℕ) (xs : List X) → length (take n xs) ≤ n
 short_take zero [] = omega arith
 short_take (suc n) [] = omega arith
 short_take zero (x ∷ xs) = omega arith
 short_take (suc n) (x ∷ xs) = omega (arith, short_take n xs)
 
+-- a map of length 0 has no values
 pub nothing_there : (es : List (ℕ × Message)) → length es ≡ 0 → values_of es ≡ []
 nothing_there [] h = refl
 nothing_there (e ∷ es) h = absurd (omega (arith, h))
 
+-- where the map is empty, pushing a message whose UID is above the vector's is putting it in its place
 pub pushed_same : (x : Message) (was xs xs' ys : List Message) → xs ≡ was → xs' ≡ xs ++ x ∷ [] → ys ≡ [] → AllUnder x.uid was → xs' ++ ys ≡ put_keyed uid_of x (was ++ ys)
 pushed_same x was xs xs' ys same is none under =
     ap (λ (zs : List Message). xs' ++ zs) none ∙ append-nil xs' ∙ is ∙ ap (λ (zs : List Message). zs ++ x ∷ []) same
     ∙ sym (put_under x was ys under ∙ ap (λ (zs : List Message). was ++ put_keyed uid_of x zs) none)
 
+-- inserting a message in the map whose UID is above the vector's is putting it in its place
 pub behind_same : (x : Message) (was xs : List Message) (es fs : List (ℕ × Message)) → AllKeyed es → xs ≡ was → fs ≡ insert_entry nat_cmp es x.uid x → AllUnder x.uid was
     → xs ++ values_of fs ≡ put_keyed uid_of x (was ++ values_of es)
 behind_same x was xs es fs keyed same is under =
     ap (λ (zs : List Message). zs ++ values_of fs) same ∙ ap (λ (zs : List (ℕ × Message)). was ++ values_of zs) is
     ∙ ap (λ (zs : List Message). was ++ zs) (put_entries x es keyed) ∙ sym (put_under x was (values_of es) under)
 
+-- removing a UID above the vector's from the map is cutting it from all
 pub removed_same : (u : ℕ) (xs : List Message) (es fs : List (ℕ × Message)) → AllKeyed es → Ascends uid_of (xs ++ values_of es) → AllUnder u xs
     → fs ≡ remove_entry (is_at (nat_cmp u)) es → xs ++ values_of fs ≡ cut_keyed uid_of u (xs ++ values_of es)
 removed_same u xs es fs keyed up under is =
@@ -374,10 +412,12 @@ removed_same u xs es fs keyed up under is =
 
 -- ---- what is found and put again
 
+-- an option that isn't None is Some of a value
 pub some_there : {X : Type 0} (o : Option X) → is_some o ≡ true → (x : X) × (o ≡ Some x)
 some_there None h = let wrong : ◌≡◌ {A = Bool} false true = h in absurd (cc)
 some_there (Some x) h = (x, refl)
 
+-- an option that isn't Some is None
 pub none_there : {X : Type 0} (o : Option X) → is_some o ≡ false → o ≡ None
 none_there None h = refl
 none_there (Some x) h = let wrong : ◌≡◌ {A = Bool} true false = h in absurd (cc)

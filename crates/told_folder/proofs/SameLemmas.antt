@@ -18,6 +18,7 @@ message_same : (u v m n s t : ℕ) (f g : List (List ℕ)) (d e : ℤ) (h k : Li
     → ◌≡◌ {A = Message} (record { uid = u; mark = m; flags = f; date = d; size = s; header = h }) (record { uid = v; mark = n; flags = g; date = e; size = t; header = k })
 message_same u v m n s t f g d e h k a b c i j l = cc
 
+-- `==` of two messages is true exactly where they are equal
 pub message_decides : (a b : Message) → Decides (message.it a b) (a ≡ b)
 message_decides a b =
     Decides-like _ (λ h. message_same _ _ _ _ _ _ _ _ _ _ _ _ h.0 h.1.0 h.1.1.0 h.1.1.1.0 h.1.1.1.1.0 h.1.1.1.1.1)
@@ -43,6 +44,7 @@ folder_same : (n m v w q r s t : ℕ) (a b : List ℕ) (d e : Option ℕ) (f g :
     (record { number = m; name = b; delimiter = e; attributes = g; validity = w; modseq = r; next = t })
 folder_same n m v w q r s t a b d e f g h i j k l o p = cc
 
+-- `==` of two folders is true exactly where they are equal
 pub folder_decides : (a b : Folder) → Decides (folder.it a b) (a ≡ b)
 folder_decides a b =
     Decides-like _ (λ h. folder_same _ _ _ _ _ _ _ _ _ _ _ _ _ _ h.0 h.1.0 h.1.1.0 h.1.1.1.0 h.1.1.1.1.0 h.1.1.1.1.1.0 h.1.1.1.1.1.1)
@@ -64,10 +66,12 @@ folder_decides a b =
     (Decides-and _ _ (slice_eq-Decides (λ (x y : List ℕ). slice_eq-Decides Decides-eqb x y _ refl) a.attributes b.attributes _ refl)
     (Decides-and _ _ (Decides-eqb a.validity b.validity) (Decides-and _ _ (Decides-eqb a.modseq b.modseq) (Decides-eqb a.next b.next)))))))
 
+-- `==` of two folders with their messages is true exactly where they are equal
 pub held_decides : (a b : Held) → Decides (held.it a b) (a ≡ b)
 held_decides a b =
     Decides-like _ (λ h. held_same _ _ _ _ h.0 h.1) (λ e. (ap (λ (x : Held). x.folder) e, ap (λ (x : Held). x.messages) e))
     (Decides-and _ _ (folder_decides a.folder b.folder) (slice_eq-Decides message_decides a.messages b.messages _ refl))
 
+-- `==` of two lists of folders, one by one, is true exactly where they are equal
 pub mail_decides : (hs ks : List Held) (r : Bool) → r ≡ pointwise held.it hs ks → Decides r (hs ≡ ks)
 mail_decides hs ks r e = slice_eq-Decides held_decides hs ks r e

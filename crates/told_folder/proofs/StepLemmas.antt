@@ -22,6 +22,7 @@ use Rattle.told_folder.proofs.OpenLemmas.{telling_same, on_ok_map, goes_on_to, k
 
 -- ---- what is left to read
 
+-- what is left from a place on is the element there, and then what is left after it
 pub left : {X : Type 0} (xs : List X) (i : ℕ) (x : X) → i < length xs → x ≡ get_or xs i x → drop i xs ≡ x ∷ drop (i + 1) xs
 left [] i x h is = absurd (omega arith)
 left (y ∷ ys) zero x h is = ap (λ z. z ∷ ys) (sym is)
@@ -29,6 +30,7 @@ left (y ∷ ys) (suc i) x h is = left ys i x (omega arith) is ∙ ap (λ j. x �
   more : (i : ℕ) → suc (i + 1) ≡ suc i + 1
   more i = omega arith
 
+-- from the end of a list on nothing is left
 pub none_left : {X : Type 0} (xs : List X) (i : ℕ) → length xs ≤ i → drop i xs ≡ []
 none_left [] zero h = refl
 none_left [] (suc i) h = refl
@@ -51,6 +53,7 @@ closed_is after (r ∷ rs) =
           ≡ (if v then (if v then after_closed rs else r ∷ rs) else after)) [ true ↦ refl | false ↦ refl ]
     ]
 
+-- a loop that begins with all responses finds those after the last CLOSED, or all where there is none
 pub closed_whole : (rs : List Response) → closed rs rs ≡ after_closed rs
 closed_whole rs = closed_is rs rs ∙ none_closed rs where
   none_closed : (rs : List Response) → (if list_any is_closed rs then after_closed rs else rs) ≡ after_closed rs
@@ -65,35 +68,44 @@ closed_whole rs = closed_is rs rs ∙ none_closed rs where
       ]
 
 module _ (rs : List Response) (i : ℕ) (r : Response) (h : i < length rs) (is : r ≡ get_or rs i r) where
+  -- taking the value that a response tells, where it tells one, for the one so far leaves the value told last as it is
   pub last_step : (value : Response → Option ℕ) (was : ℕ) → last_told value was (drop i rs) ≡ last_told value (unwrap_or (value r) was) (drop (i + 1) rs)
   last_step value was = ap (λ (qs : List Response). last_told value was qs) (left rs i r h is) ∙ last_first value was r (drop (i + 1) rs)
 
+  -- at a CLOSED the loop begins anew with all responses after it, and at any other response it goes on with those found so far
   pub closed_step : (after : List Response) → closed after (drop i rs) ≡ (if is_closed r then closed (drop (i + 1) rs) (drop (i + 1) rs) else closed after (drop (i + 1) rs))
   closed_step after = ap (λ (qs : List Response). closed after qs) (left rs i r h is)
 
+  -- raising the number so far to that past the UID which a response tells leaves the number past all UIDs as it is
   pub past_step : (xs : List Message) (n : ℕ) → max n (past_told xs (drop i rs)) ≡ max (max n (past xs (uid_told r))) (past_told xs (drop (i + 1) rs))
   past_step xs n = ap (λ (qs : List Response). max n (past_told xs qs)) (left rs i r h is) ∙ outer n (past xs (uid_told r)) (past_told xs (drop (i + 1) rs)) where
     outer : (a b c : ℕ) → max a (max b c) ≡ max (max a b) c
     outer a b c = omega arith
 
+-- where no response is left, the value told last is the one so far
 pub last_end : (value : Response → Option ℕ) (was : ℕ) (rs : List Response) (i : ℕ) → length rs ≤ i → last_told value was (drop i rs) ≡ was
 last_end value was rs i h = ap (λ (qs : List Response). last_told value was qs) (none_left rs i h)
 
+-- where no response is left, the responses after the last CLOSED are those found so far
 pub closed_end : (after rs : List Response) (i : ℕ) → length rs ≤ i → closed after (drop i rs) ≡ after
 closed_end after rs i h = ap (λ (qs : List Response). closed after qs) (none_left rs i h)
 
+-- where no response is left, the number past all UIDs is the one so far
 pub past_end : (xs : List Message) (n : ℕ) (rs : List Response) (i : ℕ) → length rs ≤ i → max n (past_told xs (drop i rs)) ≡ n
 past_end xs n rs i h = ap (λ (qs : List Response). max n (past_told xs qs)) (none_left rs i h) ∙ omega arith
 
 -- ---- the codes of a SELECT
 
+-- where every UID goes, no message is left
 pub without_all : (xs : List Message) → without_those (λ u. true) xs ≡ []
 without_all [] = refl
 without_all (x ∷ xs) = without_all xs
 
+-- numbers that differ compare as not equal
 pub keyed_apart : (v w : ℕ) → v ≢ w → eqb v w ≡ false
 keyed_apart v w apart = grind arith
 
+-- under another validity a folder has that validity, its `next` at 1, and no messages
 pub under_other : (v : ℕ) (h : Held) → v ≢ h.folder.validity → under v h ≡ record { folder = record h.folder { validity = v; next = 1 }; messages = [] }
 under_other v h apart = ap (λ b. if b then h else record { folder = record h.folder { validity = v; next = 1 }; messages = [] }) (keyed_apart v h.folder.validity apart)
 
@@ -127,10 +139,12 @@ renewed old mid f v changes apart goes more fits =
 
 -- ---- what the end of a fetch tells
 
+-- what holds anyway holds at Ok
 pub on_ok_always : {T E : Type 0} (r : Result T E) {P : Type 0} → P → OnOk r P
 on_ok_always (Ok x) p = p
 on_ok_always (Err e) p = tt
 
+-- two tests that say the same of each UID leave the same messages
 pub without_same : (p q : ℕ → Bool) → ((u : ℕ) → p u ≡ q u) → (xs : List Message) → without_those p xs ≡ without_those q xs
 without_same p q same [] = refl
 without_same p q same (x ∷ xs) =
@@ -163,6 +177,7 @@ kept_told old new f c rs told is same goes =
 
 -- ---- the whole exchange
 
+-- where two steps in order each keep what no exchange of the folder tells, both together do
 pub keeps_on : (a b c : Work) (f g k : Folder) → GoesOn a b → GoesOn b c → Keeps a b f g → Keeps b c g k → Keeps a c f k
 keeps_on a b c f g k on next p q = record {
   same = q.same ∙ ap (λ (z : Folder). record z { validity = k.validity; modseq = k.modseq; next = k.next }) p.same;
@@ -172,6 +187,7 @@ keeps_on a b c f g k on next p q = record {
       q.stands second l ∙ p.stands first (omega (arith, second, l));
 }
 
+-- what comes before the responses, the responses, and what comes after them bring the folder to what the command tells
 pub told_whole : (old a b d : Work) (f f1 g : Folder) (c : Command) (rs : List Response) (adding : Bool) (result : Result (Unit {0}) AllocError)
     → Steps old a f f1 (selected_first c rs (held_of old f)) → adding ≡ adds c → GoesWith (AllKnown adding (telling_of a) rs) a b (tell_responses adding (telling_of a) rs) (Ok tt)
     → StepsOk b d f1 g (ended_command c rs f1 b.messages) result → Tells old d f g c rs result

@@ -17,35 +17,44 @@ use Rattle.told_folder.proofs.FolderLemmas.{with_twice, held_with, messages_othe
 use Rattle.std.proofs.lemmas.List.{take_more}
 use Rattle.told_folder.proofs.IndexLemmas.{mark_of, mark_same, mark_was, same_or_not, here_at, apart_at}
 
+-- where the first message has a UID, it is found by it
 pub head_found : (u : ℕ) (x : Message) (xs : List Message) → x.uid ≡ u → with_key uid_of u (x ∷ xs) ≡ Some x
 head_found u x xs same = grind arith
 
+-- a first message of another UID is passed over
 pub head_passed : (u : ℕ) (x : Message) (xs : List Message) → x.uid ≢ u → with_key uid_of u (x ∷ xs) ≡ with_key uid_of u xs
 head_passed u x xs apart = grind arith
 
+-- true isn't false
 pub true_is_not_false : (b : Bool) → ◌≡◌ {A = Bool} true false → ⊥
 true_is_not_false b e = cc
 
+-- equal places have one folder's number
 pub place_first : (p q : ℕ × ℕ) → p ≡ q → p.0 ≡ q.0
 place_first p q e = ap (λ (x : ℕ × ℕ). x.0) e
 
+-- equal places have one UID
 pub place_second : (p q : ℕ × ℕ) → p ≡ q → p.1 ≡ q.1
 place_second p q e = ap (λ (x : ℕ × ℕ). x.1) e
 
+-- two tests that are each true are true together
 pub both : (a b : Bool) → a ≡ true → b ≡ true → (a && b) ≡ true
 both true true e f = refl
 both true false e f = f
 both false b e f = e
 
+-- two tests that aren't both true are false together
 pub not_both : (a b : Bool) → (a ≡ true → b ≡ true → ⊥) → (a && b) ≡ false
 not_both true true h = absurd (h refl refl)
 not_both true false h = refl
 not_both false b h = refl
 
+-- equal numbers compare as equal
 pub eqb_is : {m n : ℕ} → m ≡ n → eqb m n ≡ true
 eqb_is {m} {n} e = grind arith
 
 module _ (gone : ℕ → Bool) where
+  -- a number below all UIDs is below those that are left
   pub above_without : (k : ℕ) (xs : List Message) → AllAbove uid_of k xs → AllAbove uid_of k (without_those gone xs)
   above_without k [] a = tt
   above_without k (x ∷ xs) a =
@@ -54,6 +63,7 @@ module _ (gone : ℕ → Bool) where
         | false ↦ (a.0, above_without k xs a.1)
       ]
 
+  -- where UIDs ascend, those that are left do
   pub ascends_without : (xs : List Message) → Ascends uid_of xs → Ascends uid_of (without_those gone xs)
   ascends_without [] a = tt
   ascends_without (x ∷ xs) a =
@@ -62,6 +72,7 @@ module _ (gone : ℕ → Bool) where
         | false ↦ (above_without x.uid xs a.0, ascends_without xs a.1)
       ]
 
+  -- a UID that goes isn't found, and every other UID is found as before
   pub found_without : (u : ℕ) (xs : List Message) → with_key uid_of u (without_those gone xs) ≡ (if gone u then None else with_key uid_of u xs)
   found_without u [] = none_either (gone u)
   found_without u (x ∷ xs) =
@@ -86,11 +97,13 @@ module _ (gone : ℕ → Bool) where
 
   -- ---- the marks that are taken out
 
+  -- a mark that the index doesn't have is not in it once marks are cleared
   pub cleared_none : (xs : List Message) (q : ℕ) → cleared gone xs q None ≡ None
   cleared_none [] q = refl
   cleared_none (x ∷ xs) q =
       elim (gone x.uid && eqb x.mark q) as (λ b. cleared gone xs q (if b then None else None) ≡ None) [ true ↦ cleared_none xs q | false ↦ cleared_none xs q ]
 
+  -- with one message more, its mark is cleared, too, where the message goes
   pub cleared_more : (xs : List Message) (x : Message) (q : ℕ) (o : Option (ℕ × ℕ))
       → cleared gone (xs ++ x ∷ []) q o ≡ (if gone x.uid && eqb x.mark q then None else cleared gone xs q o)
   cleared_more [] x q o = refl
@@ -117,6 +130,7 @@ module _ (gone : ℕ → Bool) where
         | inr apart ↦ cleared_hit ys u x q (if gone y.uid && eqb y.mark q then None else o) (sym (head_passed u y ys apart) ∙ e) c m
       ]
 
+  -- the mark of the message at a UID that goes is cleared
   pub mark_hit : (xs : List Message) (u q : ℕ) (o : Option (ℕ × ℕ)) → option_map mark_of (with_key uid_of u xs) ≡ Some q → gone u ≡ true → cleared gone xs q o ≡ None
   mark_hit xs u q o e c =
       elim (with_key uid_of u xs) as (λ w. with_key uid_of u xs ≡ w → option_map mark_of w ≡ Some q → cleared gone xs q o ≡ None) [
@@ -134,6 +148,7 @@ module _ (gone : ℕ → Bool) where
       ∙ cleared_kept ys q o a.1 (λ u x e. miss_all u x (head_passed u y ys (λ s. some_is_not_none _ (sym e ∙ none_above uid_of u ys (subst (λ n. AllAbove uid_of n ys) s a.0)))
       ∙ e))
 
+  -- when the messages that go are taken out of a folder, and their marks from the index, the index is that of the folders
   pub index_without : (hs : List Held) (n : ℕ) (xs : List Message) (marks marks' : BTreeMap ℕ (ℕ × ℕ)) (a : ℕ) → is_some (held_in hs n) ≡ true → Ascends uid_of xs
       → ((q : ℕ) → get nat_cmp marks' q ≡ cleared gone xs q (get nat_cmp marks q)) → IsIndexed (with_messages hs n xs) marks a
       → IsIndexed (with_messages hs n (without_those gone xs)) marks' a
@@ -187,6 +202,7 @@ module _ (gone : ℕ → Bool) where
         below = λ p q e. i.below p q (i.inverse.to q p (cleared_was xs q _ p (sym (clear q) ∙ inverse.from q p e)));
       })
 
+-- what a filter leaves is no longer than the list
 pub filter_short : {X : Type 0} (p : X → Bool) (xs : List X) → length (filter p xs) ≤ length xs
 filter_short p [] = omega arith
 filter_short p (x ∷ xs) = elim (p x) as (λ b. length (if b then x ∷ filter p xs else filter p xs) ≤ length (x ∷ xs)) [
@@ -204,6 +220,7 @@ filter_whole p (x ∷ xs) e =
       | false ↦ λ f. let short : length (filter p xs) ≤ length xs = filter_short p xs in absurd (omega (arith, f, short))
     ] e
 
+-- taking out the messages that go, and their marks, brings the open folder to those that are left
 pub vanish_goes : (old new : Work) (gone : ℕ → Bool) → Ascends uid_of old.messages → GoesOn old new
     → (without_those gone old.messages ≡ old.messages → new.changes ≡ old.changes) → new.messages ≡ without_those gone old.messages → new.next_mark ≡ old.next_mark
     → ((q : ℕ) → get nat_cmp new.marks q ≡ cleared gone old.messages q (get nat_cmp old.marks q))
@@ -229,6 +246,7 @@ pub clear_step : (gone : ℕ → Bool) (xs : List Message) (i : ℕ) (x : Messag
 clear_step gone xs i x q o h is = ap (λ (zs : List Message). cleared gone zs q o) (take_more xs i x h ∙ ap (λ (z : Message). take i xs ++ z ∷ []) (sym is))
     ∙ cleared_more gone (take i xs) x q o
 
+-- where a message goes and its mark was removed, the marks of those that go are cleared up to and with it
 pub clear_taken : (gone : ℕ → Bool) (xs : List Message) (i : ℕ) (x : Message) (q : ℕ) (before after was : Option (ℕ × ℕ)) → i < length xs → x ≡ get_or xs i x → gone x.uid ≡ true
     → before ≡ cleared gone (take i xs) q was → after ≡ cond (is_at (nat_cmp x.mark) q) None before → after ≡ cleared gone (take (i + 1) xs) q was
 clear_taken gone xs i x q before after was h is c b a =
@@ -240,6 +258,7 @@ clear_taken gone xs i x q before after was h is c b a =
           (not_both (gone x.uid) (eqb x.mark q) (λ d m. apart (sym (eqb-true _ _ m)))))
     ]
 
+-- where a message stays, the marks of those that go are cleared up to and with it as they were before
 pub clear_left : (gone : ℕ → Bool) (xs : List Message) (i : ℕ) (x : Message) (q : ℕ) (before was : Option (ℕ × ℕ)) → i < length xs → x ≡ get_or xs i x → gone x.uid ≡ false
     → before ≡ cleared gone (take i xs) q was → before ≡ cleared gone (take (i + 1) xs) q was
 clear_left gone xs i x q before was h is c b = b ∙ sym (clear_step gone xs i x q was h is ∙ ap (λ v. if v && eqb x.mark q then None else cleared gone (take i xs) q was) c)

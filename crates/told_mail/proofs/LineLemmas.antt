@@ -33,9 +33,11 @@ line_first q r rs l e = ap (λ (o : Option lists.Line). last_of (filter (λ k. i
 pub line_passed : (q : List ℕ) (r : Response) (rs : List Response) → line_of r ≡ None → line_for q (r ∷ rs) ≡ line_for q rs
 line_passed q r rs e = ap (λ (o : Option lists.Line). last_of (filter (λ k. is_same k.name q) (cons_option o (filter_map line_of rs)))) e
 
+-- a line adds its name to those of the responses after it
 pub names_first : (r : Response) (rs : List Response) (l : lists.Line) → line_of r ≡ Some l → names_told (r ∷ rs) ≡ insert_key (slice_cmp nat_cmp) (names_told rs) l.name
 names_first r rs l e = ap (λ (o : Option lists.Line). in_order (map (λ k. k.name) (cons_option o (filter_map line_of rs)))) e
 
+-- a response that is no line adds no name
 pub names_passed : (r : Response) (rs : List Response) → line_of r ≡ None → names_told (r ∷ rs) ≡ names_told rs
 names_passed r rs e = ap (λ (o : Option lists.Line). in_order (map (λ k. k.name) (cons_option o (filter_map line_of rs)))) e
 
@@ -75,6 +77,7 @@ same_sym (x ∷ xs) (y ∷ ys) = ap (λ b. eqb x y && b) (same_sym xs ys) ∙ ap
   eqb_sym : (m n : ℕ) → eqb m n ≡ eqb n m
   eqb_sym m n = grind arith
 
+-- texts compare as equal exactly where they are the same
 pub at_is : (q k : List ℕ) → is_eq (slice_cmp nat_cmp q k) ≡ is_same k q
 at_is q k = is_eq-slice_cmp q k ∙ same_sym q k
 
@@ -87,6 +90,7 @@ at q x = is_at (λ (v : Vec ℕ Global). slice_cmp nat_cmp q v.items) x
 abbrev pub by_items : Vec ℕ Global → Vec ℕ Global → Ordering
 by_items x y = slice_cmp nat_cmp x.items y.items
 
+-- after a name is inserted with a number it has that number, and every other name has its number as before
 pub place_put : (es : List (Vec ℕ Global × ℕ)) (k : Vec ℕ Global) (v : ℕ) (q : List ℕ)
     → lookup (at q) (insert_entry by_items es k v) ≡ (if is_same k.items q then Some v else lookup (at q) es)
 place_put [] k v q = ap (λ b. cond b (Some v) None) (at_is q k.items)
@@ -114,6 +118,7 @@ place_put (e ∷ es) k v q = by (slice_cmp nat_cmp k.items e.0.items) refl (plac
           | false ↦ λ f. refl
         ] refl
 
+-- after a name is inserted, the map's names are those before with it in its place
 pub names_put : (es : List (Vec ℕ Global × ℕ)) (k : Vec ℕ Global) (v : ℕ)
     → map (λ (x : Vec ℕ Global). x.items) (keys_of (insert_entry by_items es k v)) ≡ insert_key (slice_cmp nat_cmp) (map (λ (x : Vec ℕ Global). x.items) (keys_of es)) k.items
 names_put [] k v = refl
@@ -130,6 +135,7 @@ names_put (e ∷ es) k v = by (slice_cmp nat_cmp k.items e.0.items) (names_put e
 
 -- ---- names that are picked
 
+-- a filter after another leaves what passes both
 pub filter_both : (p q : List ℕ → Bool) (xs : List (List ℕ)) → filter p (filter q xs) ≡ filter (λ x. p x && q x) xs
 filter_both p q [] = refl
 filter_both p q (x ∷ xs) =
@@ -145,6 +151,7 @@ filter_both p q (x ∷ xs) =
       ]
     ]
 
+-- two tests that say the same of each text leave the same
 pub filter_same : (p q : List ℕ → Bool) → ((x : List ℕ) → p x ≡ q x) → (xs : List (List ℕ)) → filter p xs ≡ filter q xs
 filter_same p q same [] = refl
 filter_same p q same (x ∷ xs) = ap (λ b. if b then x ∷ filter p xs else filter p xs) (same x) ∙ ap (λ (zs : List (List ℕ)). if q x then x ∷ zs else zs) (filter_same p q same xs)
@@ -160,6 +167,7 @@ place_kept P name q last at is =
 
 -- ---- the lines from a place on
 
+-- when the line at a place is added, under its place unless a later line has the name, the map is that of the lines from there on
 pub lines_more : (rs : List Response) (at : ℕ) (lines new : BTreeMap (Vec ℕ Global) ℕ) (l : lists.Line) (name : List ℕ) → name ≡ l.name
     → option_and_then line_of (slice_get rs at) ≡ Some l → AreLinesFrom rs (at + 1) lines → names_in new ≡ insert_key (slice_cmp nat_cmp) (names_in lines) name
     → ((q : List ℕ) → place_in new q ≡ (if is_same name q then Some (unwrap_or (place_in lines q) at) else place_in lines q)) → AreLinesFrom rs at new
@@ -183,6 +191,7 @@ lines_more rs at lines new l name same e o names places =
           ]));
     }
 
+-- where the response at a place is no line, the lines from the place on are those after it
 pub lines_passed : (rs : List Response) (at : ℕ) (lines : BTreeMap (Vec ℕ Global) ℕ) → option_and_then line_of (slice_get rs at) ≡ None → AreLinesFrom rs (at + 1) lines
     → AreLinesFrom rs at lines
 lines_passed rs at lines e o = record {
@@ -194,12 +203,14 @@ drop_none : {X : Type 0} (xs : List X) → drop 0 xs ≡ xs
 drop_none [] = refl
 drop_none (x ∷ xs) = refl
 
+-- the place that a name has is that of its last line
 pub found_line : (rs : List Response) (q : List ℕ) (at : ℕ) (w : Option ℕ) → StandsAt rs (line_for q (drop 0 rs)) w → Some at ≡ w
     → option_and_then line_of (slice_get rs at) ≡ line_for q rs
 found_line rs q at w s e =
     let t : StandsAt rs (line_for q (drop 0 rs)) (Some at) = subst (λ (o : Option ℕ). StandsAt rs (line_for q (drop 0 rs)) o) (sym e) s in
     t.2 ∙ sym t.1 ∙ ap (λ (qs : List Response). line_for q qs) (drop_none rs)
 
+-- where a name has no place, no line has the name
 pub no_line : (rs : List Response) (q : List ℕ) (w : Option ℕ) → StandsAt rs (line_for q (drop 0 rs)) w → None ≡ w → None ≡ line_for q rs
 no_line rs q w s e =
     let t : line_for q (drop 0 rs) ≡ None = subst (λ (o : Option ℕ). StandsAt rs (line_for q (drop 0 rs)) o) (sym e) s in
@@ -231,6 +242,7 @@ has_place rs o (Some at) s = sym (ap is_some s.1)
 pub has_line_is : (rs : List Response) (lines : BTreeMap (Vec ℕ Global) ℕ) (q : List ℕ) → AreLinesFrom rs 0 lines → is_some (place_in lines q) ≡ is_some (line_for q rs)
 has_line_is rs lines q a = has_place rs _ _ (a.places q) ∙ ap (λ (qs : List Response). is_some (line_for q qs)) (drop_none rs)
 
+-- the names told from the first response on are all that are told
 pub names_whole : (rs : List Response) → names_told (drop 0 rs) ≡ names_told rs
 names_whole rs = ap (λ (qs : List Response). names_told qs) (drop_none rs)
 

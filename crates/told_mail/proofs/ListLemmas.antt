@@ -28,6 +28,7 @@ use Rattle.told_mail.proofs.ToldLemmas.{known_at, set_at}
 
 -- ---- the folder of a name
 
+-- where the folder at a place has the name, it is the first of the name from there on
 pub named_here : (hs : List Held) (at : ℕ) (x h : Held) (name : List ℕ) → at < length hs → x ≡ get_or hs at x → h ≡ get_or hs at h → pointwise eqb x.folder.name name ≡ true
     → named (drop at hs) name ≡ Some h
 named_here hs at x h name within is is_h same =
@@ -35,31 +36,37 @@ named_here hs at x h name within is is_h same =
     ∙ ap (λ b. if b then Some x else named (drop (at + 1) hs) name) same
     ∙ ap (λ z. Some z) (known_at hs at x h within is is_h)
 
+-- where the folder at a place has another name, the first of the name from there on is the first after it
 pub named_on : (hs : List Held) (at : ℕ) (x : Held) (name : List ℕ) → at < length hs → x ≡ get_or hs at x → pointwise eqb x.folder.name name ≡ false
     → named (drop at hs) name ≡ named (drop (at + 1) hs) name
 named_on hs at x name within is apart =
     ap (λ (zs : List Held). named zs name) (left hs at x within is)
     ∙ ap (λ b. if b then Some x else named (drop (at + 1) hs) name) apart
 
+-- what follows from two things that hold at Ok holds at Ok
 pub on_ok_both : {T E : Type 0} (r : Result T E) {P Q R : Type 0} → (P → Q → R) → OnOk r P → OnOk r Q → OnOk r R
 on_ok_both (Ok x) f p q = f p q
 on_ok_both (Err e) f p q = tt
 
+-- telling the folder at a name's place is telling the folder of the name
 pub named_told : (m n : Mail) (c : Command) (rs : List Response) (name : List ℕ) (at : ℕ) (result : Result (Unit {0}) AllocError) → IsNamedAt m.folders name at
     → OnOk result ((h : Held) → h ≡ get_or m.folders at h → n ≡ tell_held m c rs (Some h)) → OnOk result (n ≡ tell_held m c rs (named m.folders name))
 named_told m n c rs name at result is told =
     let item = item_at folder_number m.folders at is.within in
     on_ok_map result (λ f. f item.0 item.1 ∙ ap (λ (o : Option Held). tell_held m c rs o) (sym (is.found item.0 item.1))) told
 
+-- what follows where the folder at a name's place is told what is known follows where the folder of the name is
 pub named_known : (m : Mail) (c : Command) (rs : List Response) (name : List ℕ) (at : ℕ) (P : Type 0) (result : Result (Unit {0}) AllocError) → IsNamedAt m.folders name at
     → ((h : Held) → h ≡ get_or m.folders at h → TellsKnownOf c rs m.next_mark h → OnOk result P) → KnownOf c rs m.next_mark (named m.folders name) → OnOk result P
 named_known m c rs name at P result is known k =
     let item = item_at folder_number m.folders at is.within in
     known item.0 item.1 (subst (λ (o : Option Held). KnownOf c rs m.next_mark o) (is.found item.0 item.1) k)
 
+-- a name that has a place has a folder
 pub named_some : (hs : List Held) (name : List ℕ) (at : ℕ) → IsNamedAt hs name at → is_some (named hs name) ≡ true
 named_some hs name at is = let item = item_at folder_number hs at is.within in ap is_some (is.found item.0 item.1)
 
+-- two steps in order that each count what changes do so together
 pub rises_on : (a b c : Told) → Rises a b → Rises b c → Rises a c
 rises_on a b c f g = record {
   rises = omega (arith, f.rises, g.rises);
@@ -85,17 +92,20 @@ lined_none rs [] at h w is e = absurd (omega arith)
 lined_none rs (x ∷ xs) zero h w is e = ap (λ (z : Held). lined rs z ∷ xs) (sym is) ∙ ap (λ (o : Option lists.Line). lined_by o h ∷ xs) e ∙ ap (λ (z : Held). z ∷ xs) is
 lined_none rs (x ∷ xs) (suc at) h w is e = ap (λ zs. x ∷ zs) (lined_none rs xs at h (omega arith) is e)
 
+-- giving the folder at a place what its line tells is telling the LIST to the folder there
 pub list_some_ok : (m n : Mail) (rs : List Response) (at : ℕ) (h : Held) (l : lists.Line) (result : Result (Unit {0}) AllocError) → at < length m.folders
     → h ≡ get_or m.folders at h → Some l ≡ line_for h.folder.name rs
     → OnOk result ((k : Held) → k ≡ get_or m.folders at k → n ≡ record m { folders = set m.folders at (with_line l k) }) → OnOk result (n ≡ lined_at rs at m)
 list_some_ok m n rs at h l result within is line told = on_ok_map result
     (λ f. f h is ∙ ap (λ (hs : List Held). record m { folders = hs }) (sym (lined_some rs m.folders at h l within is (sym line)))) told
 
+-- what follows where a line tells its folder as it is follows where telling the LIST to that folder changes nothing
 pub list_some_known : (m : Mail) (rs : List Response) (at : ℕ) (h : Held) (l : lists.Line) (P : Type 0) → at < length m.folders → h ≡ get_or m.folders at h
     → Some l ≡ line_for h.folder.name rs → ((k : Held) → k ≡ get_or m.folders at k → with_line l k ≡ k → P) → lined_at rs at m ≡ m → P
 list_some_known m rs at h l P within is line known e =
     known h is (set_at m.folders at h (with_line l h) within is (sym (lined_some rs m.folders at h l within is (sym line)) ∙ ap (λ (k : Mail). k.folders) e))
 
+-- where no line names the folder at a place, telling the LIST to the folder there changes nothing
 pub list_none_ok : (m : Mail) (rs : List Response) (at : ℕ) (h : Held) → at < length m.folders → h ≡ get_or m.folders at h → None ≡ line_for h.folder.name rs → m ≡ lined_at rs at m
 list_none_ok m rs at h within is line = ap (λ (hs : List Held). record m { folders = hs }) (sym (lined_none rs m.folders at h within is (sym line)))
 
@@ -105,6 +115,7 @@ heads x y xs ys f = cc
 tails : (x y : Held) (xs ys : List Held) → x ∷ xs ≡ y ∷ ys → xs ≡ ys
 tails x y xs ys f = cc
 
+-- telling a LIST to the folders before a place leaves as many folders
 pub lined_length : (rs : List Response) (hs : List Held) (at : ℕ) → length (map (lined rs) (take at hs) ++ drop at hs) ≡ length hs
 lined_length rs [] zero = refl
 lined_length rs [] (suc at) = refl
@@ -133,21 +144,25 @@ lined_all : (rs : List Response) (hs : List Held) → map (lined rs) (take (leng
 lined_all rs [] = refl
 lined_all rs (x ∷ xs) = ap (λ (zs : List Held). lined rs x ∷ zs) (lined_all rs xs)
 
+-- a place within the folders is within them after the LIST is told to those before it
 pub lined_within : (rs : List Response) (m now : Mail) (at : ℕ) → at < length m.folders → now ≡ record m { folders = map (lined rs) (take at m.folders) ++ drop at m.folders }
     → at < length now.folders
 lined_within rs m now at h e = let all : length now.folders ≡ length m.folders = ap (λ (k : Mail). length k.folders) e ∙ lined_length rs m.folders at in omega (arith, all, h)
 
+-- when the LIST is told to the folder at a place after those before it, it is told to all up to it
 pub lined_more : (rs : List Response) (m now new : Mail) (at : ℕ) → at < length m.folders → now ≡ record m { folders = map (lined rs) (take at m.folders) ++ drop at m.folders }
     → new ≡ lined_at rs at now → new ≡ record m { folders = map (lined rs) (take (at + 1) m.folders) ++ drop (at + 1) m.folders }
 lined_more rs m now new at h e f = f ∙ ap (lined_at rs at) e
     ∙ ap (λ (hs : List Held). record m { folders = hs }) (lined_step rs m.folders (map (lined rs) (take at m.folders) ++ drop at m.folders) at h refl)
 
+-- where the LIST tells each folder as it is, telling it to the one at a place after those before it changes nothing
 pub lined_known : (rs : List Response) (m now : Mail) (at : ℕ) → at < length m.folders → map (lined rs) m.folders ≡ m.folders
     → now ≡ record m { folders = map (lined rs) (take at m.folders) ++ drop at m.folders } → lined_at rs at now ≡ now
 lined_known rs m now at h same e =
     let here : now ≡ m = e ∙ ap (λ (hs : List Held). record m { folders = hs }) (lined_rest rs m.folders at same) in
     lined_more rs m now (lined_at rs at now) at h e refl ∙ ap (λ (hs : List Held). record m { folders = hs }) (lined_rest rs m.folders (at + 1) same) ∙ sym here
 
+-- at the end of the folders the LIST is told to all of them
 pub lined_end : (rs : List Response) (m now : Mail) (at : ℕ) → at ≡ length m.folders → now ≡ record m { folders = map (lined rs) (take at m.folders) ++ drop at m.folders }
     → now ≡ record m { folders = map (lined rs) m.folders }
 lined_end rs m now at h e = e ∙ ap (λ j. record m { folders = map (lined rs) (take j m.folders) ++ drop j m.folders }) h ∙ ap (λ (hs : List Held). record m { folders = hs })
@@ -185,17 +200,20 @@ first_same rs h hs e =
       | Some l ↦ λ f. (heads (with_line l h) h (listed rs hs) hs f, tails (with_line l h) h (listed rs hs) hs f)
     ] e
 
+-- where the folders after a LIST are those before it, their lines tell each as it is
 pub listed_lined : (rs : List Response) (hs : List Held) → listed rs hs ≡ hs → map (lined rs) hs ≡ hs
 listed_lined rs [] e = refl
 listed_lined rs (h ∷ hs) e =
     let first = first_same rs h hs e in
     ap (λ (z : Held). z ∷ map (lined rs) hs) first.0 ∙ ap (λ (zs : List Held). h ∷ zs) (listed_lined rs hs first.1)
 
+-- telling the LIST to all folders, and then taking out those that no line names, leaves the folders as listed
 pub listed_mail : (rs : List Response) (lines : BTreeMap (Vec ℕ Global) ℕ) (m now new : Mail) → AreLinesFrom rs 0 lines → now ≡ record m { folders = map (lined rs) m.folders }
     → new ≡ record now { folders = filter (is_listed lines) now.folders } → new ≡ record m { folders = listed rs m.folders }
 listed_mail rs lines m now new a e f = f ∙ ap (λ (k : Mail). record k { folders = filter (is_listed lines) k.folders }) e
     ∙ ap (λ (hs : List Held). record m { folders = hs }) (listed_as rs lines m.folders a)
 
+-- where the folders after a LIST are those before it, none is taken out
 pub listed_known : (rs : List Response) (lines : BTreeMap (Vec ℕ Global) ℕ) (m now : Mail) → AreLinesFrom rs 0 lines → listed rs m.folders ≡ m.folders
     → now ≡ record m { folders = map (lined rs) m.folders } → filter (is_listed lines) now.folders ≡ now.folders
 listed_known rs lines m now a same e =
@@ -227,10 +245,12 @@ told_more p hs i h within is t =
     ∙ ap (λ (zs : List Held). zs ++ drop (i + 1) hs) (sym (filter-append p (take i hs) (h ∷ [])) ∙ ap (λ (zs : List Held). filter p zs)
     (sym (take_more hs i h within ∙ ap (λ (z : Held). take i hs ++ z ∷ []) (sym is))))
 
+-- the folder at a place stands between those that were kept before it and those after it
 pub ended_before : (p : Held → Bool) (hs : List Held) (i : ℕ) (h : Held) → i < length hs → h ≡ get_or hs i h
     → filter p (take i hs) ++ drop i hs ≡ filter p (take i hs) ++ h ∷ drop (i + 1) hs
 ended_before p hs i h within is = ap (λ (zs : List Held). filter p (take i hs) ++ zs) (left hs i h within is)
 
+-- where the folder at a place doesn't pass and is taken out, the folders up to it are looked at
 pub ended_after : (p : Held → Bool) (hs : List Held) (i : ℕ) (h : Held) → i < length hs → h ≡ get_or hs i h → p h ≡ false
     → filter p (take i hs) ++ drop (i + 1) hs ≡ filter p (take (i + 1) hs) ++ drop (i + 1) hs
 ended_after p hs i h within is t =
@@ -238,6 +258,7 @@ ended_after p hs i h within is t =
     (sym (append-nil (filter p (take i hs))) ∙ ap (λ (zs : List Held). filter p (take i hs) ++ zs) (sym (ap (λ b. if b then h ∷ [] else []) t))
     ∙ sym (filter-append p (take i hs) (h ∷ [])) ∙ ap (λ (zs : List Held). filter p zs) (sym (take_more hs i h within ∙ ap (λ (z : Held). take i hs ++ z ∷ []) (sym is))))
 
+-- once all folders are looked at, those that pass are left
 pub told_end : (p : Held → Bool) (hs : List Held) (i : ℕ) → length hs ≤ i → filter p (take i hs) ++ drop i hs ≡ filter p hs
 told_end p hs i h = ap (λ (zs : List Held). zs ++ drop i hs) (ap (λ (zs : List Held). filter p zs) (whole hs i h)) ∙ ap (λ (zs : List Held). filter p hs ++ zs) (gone hs i h)
     ∙ append-nil (filter p hs)

@@ -34,15 +34,19 @@ use Rattle.told_mail.proofs.LineLemmas.{at, at_is, by_items, filter_same, line_n
 use Rattle.told_folder.proofs.StepLemmas.{left}
 use Rattle.std.proofs.Common.{◌+◌, ◌^◌, ltb}
 
+-- a name is the same as itself
 pub is_self : (a : List ℕ) → is_same a a ≡ true
 is_self a = (bytes_eq-Decides a a).1 refl
 
+-- names that compare as the same are equal
 pub same_name : (a b : List ℕ) → is_same a b ≡ true → a ≡ b
 same_name a b e = (bytes_eq-Decides a b).0 e
 
+-- names that aren't equal compare as not the same
 pub other_name : (a b : List ℕ) → a ≢ b → is_same a b ≡ false
 other_name a b apart = elim (is_same a b) as (λ v. is_same a b ≡ v → v ≡ false) [ true ↦ λ e. absurd (apart (same_name a b e)) | false ↦ λ e. refl ] refl
 
+-- a name is another or not
 pub name_or_not : (a b : List ℕ) → (a ≡ b) ⊎ (a ≢ b)
 name_or_not a b =
     elim (is_same a b) as (λ v. is_same a b ≡ v → (a ≡ b) ⊎ (a ≢ b)) [
@@ -55,6 +59,7 @@ name_or_not a b =
 at_other : (q : List ℕ) (k : Vec ℕ Global) → is_same k.items q ≡ false → at q k ≡ false
 at_other q k e = at_is q k.items ∙ e
 
+-- where a name is found no more after it is removed, every other name has its number as before
 pub place_cut : (es : List (Vec ℕ Global × ℕ)) (name q : List ℕ) (fs : List (Vec ℕ Global × ℕ)) → fs ≡ remove_entry (at name) es → lookup (at name) fs ≡ None
     → lookup (at q) (remove_entry (at name) es) ≡ (if is_same name q then None else lookup (at q) es)
 place_cut es name q fs is none =
@@ -75,6 +80,7 @@ place_cut es name q fs is none =
 
 -- ---- the folder of a name
 
+-- a folder that is found by a name has that name
 pub named_name : (hs : List Held) (q : List ℕ) (h : Held) → named hs q ≡ Some h → h.folder.name ≡ q
 named_name [] q h e = absurd (cc)
 named_name (x ∷ hs) q h e =
@@ -91,6 +97,7 @@ found_above k n (x ∷ hs) h a e =
       | inr apart ↦ found_above k n hs h a.1 (sym (ap (λ b. if b then Some x else held_in hs n) (ne_eqb _ _ apart)) ∙ e)
     ]
 
+-- where the numbers ascend, a folder that is found by a name is found by its number
 pub named_held : (hs : List Held) (q : List ℕ) (h : Held) → Ascends folder_number hs → named hs q ≡ Some h → held_in hs (folder_number h) ≡ Some h
 named_held [] q h up e = absurd (cc)
 named_held (x ∷ hs) q h up e =
@@ -140,11 +147,13 @@ module _ (look : List ℕ → Option ℕ) (hs : List Held) (i : Inverts look (na
       let two : look h.folder.name ≡ Some n = i.from h.folder.name n (ap (option_map (λ (z : Held). z.folder.name)) f ∙ ap (λ (q : List ℕ). Some q) (sym same)) in
       some_same _ _ (sym one ∙ two)
 
+  -- the folder of the number that a name has is the folder of the name
   pub placed : (q : List ℕ) (n : ℕ) (h : Held) → look q ≡ Some n → held_in hs n ≡ Some h → named hs q ≡ Some h
   placed q n h e held =
       let name : h.folder.name ≡ q = some_same _ _ (sym (ap (option_map (λ (z : Held). z.folder.name)) held) ∙ i.to q n e) in
       ap (named hs) (sym name) ∙ named_only n h held
 
+  -- where a name has no number, no folder has the name
   pub unplaced : (q : List ℕ) → look q ≡ None → named hs q ≡ None
   unplaced q e =
       elim (named hs q) as (λ o. named hs q ≡ o → o ≡ None) [
@@ -156,6 +165,7 @@ module _ (look : List ℕ → Option ℕ) (hs : List Held) (i : Inverts look (na
             absurd (some_is_not_none _ (sym there ∙ e))
       ] refl
 
+  -- where no folder has a name, the name has no number
   pub unnamed : (q : List ℕ) → named hs q ≡ None → look q ≡ None
   unnamed q e =
       elim (look q) as (λ o. look q ≡ o → o ≡ None) [
@@ -171,6 +181,7 @@ module _ (look : List ℕ → Option ℕ) (hs : List Held) (i : Inverts look (na
 
 -- ---- folders that change
 
+-- another folder of the same number and name at a place leaves the name of each number as it was
 pub name_set : (hs : List Held) (at : ℕ) (h k : Held) → at < length hs → h ≡ get_or hs at h → folder_number k ≡ folder_number h → k.folder.name ≡ h.folder.name → (n : ℕ)
     → name_in (set hs at k) n ≡ name_in hs n
 name_set [] at h k w is number name n = absurd (omega arith)
@@ -225,6 +236,7 @@ numbers_cut look look' hs h i held upd =
 
 -- ---- names that no folder has
 
+-- names that no folder has, and one folder more doesn't have, are free when it is added
 pub free_more : (hs : List Held) (h : Held) (qs : List (List ℕ)) → AllFree hs qs → AllOther h.folder.name qs → AllFree (hs ++ h ∷ []) qs
 free_more hs h [] f o = tt
 free_more hs h (q ∷ qs) f o = (named_last hs f.0, free_more hs h qs f.1 o.1) where
@@ -311,6 +323,7 @@ apart_parts p qs a = joined qs a qs (apart_filter (λ q. not (p q)) qs a) where
         | false ↦ λ t. joined zs a.1 rs b
       ] refl
 
+-- where each name is another, so is each that a test leaves, INBOX first
 pub apart_new : (p : List ℕ → Bool) (qs : List (List ℕ)) → AreApart qs → AreApart (inbox_first (filter p qs))
 apart_new p qs a = apart_parts is_inbox (filter p qs) (apart_filter p qs a)
 
@@ -349,6 +362,7 @@ free_listed : (rs : List Response) (hs : List Held) (qs : List (List ℕ)) → A
 free_listed rs hs [] a = tt
 free_listed rs hs (q ∷ qs) a = (listed_free rs hs q a.0, free_listed rs hs qs a.1)
 
+-- no folder that a LIST leaves has one of the new names
 pub free_new : (rs : List Response) (hs : List Held) → AllFree (listed rs hs) (new_names hs rs)
 free_new rs hs =
     let ns : List (List ℕ) = filter (λ name. not (is_some (named hs name))) (names_told rs) in
@@ -368,6 +382,7 @@ names_new look hs i up ns = filter_same _ _ (λ q. ap not (same q)) ns where
             ∙ ap (λ (r : List ℕ). Some r) (named_name hs q h e)))
       ] refl
 
+-- the names told that have no number, INBOX first, are the new names
 pub new_names_are : (look : List ℕ → Option ℕ) (hs : List Held) (rs : List Response) (ns names : List (List ℕ)) → Inverts look (name_in hs) → Ascends folder_number hs
     → ns ≡ names_told rs
     → names ≡ inbox_first (filter (λ name. not (is_some (look name))) ns) → names ≡ new_names hs rs
@@ -380,6 +395,7 @@ new_names_are look hs rs ns names i up told is = is ∙ ap inbox_first (names_ne
 abbrev pub IsOnly : List Held → List ℕ → ℕ → Type 0
 IsOnly hs name n = (m : ℕ) (h : Held) → held_in hs m ≡ Some h → h.folder.name ≡ name → m ≡ n
 
+-- where no folder but the one of a number has a name, and no folder has the number, none has the name
 pub unused_name : (hs : List Held) (name : List ℕ) (n : ℕ) → Ascends folder_number hs → held_in hs n ≡ None → IsOnly hs name n → named hs name ≡ None
 unused_name hs name n up free only =
     elim (named hs name) as (λ o. named hs name ≡ o → o ≡ None) [
@@ -397,6 +413,7 @@ cut_only hs name n only m h held is =
       | inr apart ↦ only m h (sym (found_cut folder_number m n hs ∙ ap (λ b. if b then None else held_in hs m) (eqb_apart n m apart)) ∙ held) is
     ]
 
+-- the numbers of names stay right when the folder of a number takes a name that no other folder has
 pub numbers_changed : (look look' : List ℕ → Option ℕ) (hs : List Held) (at : ℕ) (h k : Held) → Ascends folder_number hs → Inverts look (name_in hs) → IsHeldAt folder_number
     (folder_number k) hs at
     → h ≡ get_or hs at h → IsOnly hs k.folder.name (folder_number k)
@@ -425,6 +442,7 @@ numbers_changed look look' hs at h k up i held is only upd =
           ∙ found_cut folder_number m n hs ∙ ap (λ b. if b then None else held_in hs m) e))
     ] refl)
 
+-- taking out the old name after the new one is put is putting the new one after the old one is taken out
 pub changed_place : (old new q : List ℕ) (n : ℕ) (was now : Option ℕ) → is_same old new ≡ false → now ≡ (if is_same new q then Some n else was)
     → (if is_same old q then None else now) ≡ (if is_same new q then Some n else (if is_same old q then None else was))
 changed_place old new q n was now apart is =
@@ -434,6 +452,7 @@ changed_place old new q n was now apart is =
       | false ↦ λ e f. ap (λ (o : Option ℕ). if is_same old q then None else o) f
     ] refl is
 
+-- a test whose opposite is true is false
 pub not_true : (b : Bool) → not b ≡ true → b ≡ false
 not_true true e = let wrong : ◌≡◌ {A = Bool} false true = e in absurd (cc)
 not_true false e = refl

@@ -39,6 +39,7 @@ fine_items (i ∷ is) t m = fine_more (told no_items i) is m.back m.second (fine
 fine_line : (items : FetchItems) (t : List ℕ) → IsItemsLine items t → AreFine items
 fine_line items t l = subst AreFine (sym l.4) (fine_items l.0 l.1 l.3)
 
+-- a FETCH that octets spell tells flags in kept form, and a UID below 2^32
 pub fetch_fine : (seq : ℕ) (items : FetchItems) (b : List ℕ) → IsSpelling (response.Fetch seq items) b → AreFine items
 fetch_fine seq items b s = elim s.spells.2 [ inl w ↦ fine_line items w.3.tail w.3.says.2 | inr w ↦ absurd w.0.says ]
 
@@ -51,6 +52,7 @@ fine_list : (attributes : List (List ℕ)) (delimiter : Option ℕ) (name t : Li
 fine_list attributes delimiter name t l =
     (subst (λ (zs : List (List ℕ)). kept zs ≡ zs) (sym l.attributes_are) (kept_again l.told), not_zero delimiter l.second l.delimited)
 
+-- a LIST line that octets spell tells attributes in kept form, and no delimiter of octet 0
 pub list_fine : (attributes : List (List ℕ)) (delimiter : Option ℕ) (name b : List ℕ) → IsSpelling (response.List attributes delimiter name) b
     → (kept attributes ≡ attributes) × (delimiter ≢ Some 0)
 list_fine attributes delimiter name b s = elim s.spells.2 [ inl w ↦ absurd w.3.says | inr w ↦ fine_list attributes delimiter name w.0.tail w.0.says.1 ]

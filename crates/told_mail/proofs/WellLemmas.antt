@@ -306,6 +306,7 @@ well_ok : (m : Mail) (c : Command) (rs : List Response) (selected : Option (List
 well_ok m command.List rs selected fits sp w = well_list (tell_named m command.List rs selected) rs sp (well_named m command.List rs selected fits sp w)
 well_ok m c rs selected fits sp w = well_named m c (responses_of c rs) (target c selected) fits (spelled_of c rs sp) w
 
+-- telling an exchange leaves mail well-formed, where octets spell its responses and its slice ends at a UID
 pub well_formed : (m : Mail) (x : Exchange) → FitsSlice x.command → AllSpelled x.responses → IsWellFormed m → IsWellFormed (tell m x)
 well_formed m x fits sp w = by x.status
   where
@@ -333,6 +334,7 @@ all_with_messages (h ∷ hs) n xs a m =
       | false ↦ (a.0, all_with_messages hs n xs a.1 m)
     ]
 
+-- well-formed mail is still so with a well-formed folder
 pub well_with_folder : (m : Mail) (f : Folder) → IsWellFormedFolder f → IsWellFormed m → IsWellFormed (with_folder m f)
 well_with_folder m f p w = record {
   folders = all_put folder_number IsWellFormedHeld (record { folder = f; messages = messages_in m.folders f.number }) m.folders
@@ -343,6 +345,7 @@ well_with_folder m f p w = record {
   numbers = omega (arith, w.numbers, p.number);
 }
 
+-- well-formed mail is still so with a well-formed message
 pub well_with_message : (m : Mail) (n : ℕ) (x : Message) → IsWellFormedMessage x → IsWellFormed m → IsWellFormed (with_message m n x)
 well_with_message m n x p w = record {
   folders = all_with_messages m.folders n (put_keyed uid_of x (messages_in m.folders n)) w.folders
@@ -353,6 +356,7 @@ well_with_message m n x p w = record {
   numbers = w.numbers;
 }
 
+-- well-formed mail is still so without a folder
 pub well_without_folder : (m : Mail) (n : ℕ) → IsWellFormed m → IsWellFormed (without_folder m n)
 well_without_folder m n w = record {
   folders = all_filter IsWellFormedHeld (λ (h : Held). not (eqb (folder_number h) n)) m.folders w.folders;
@@ -362,6 +366,7 @@ well_without_folder m n w = record {
   numbers = w.numbers;
 }
 
+-- well-formed mail is still so without a message
 pub well_without_message : (m : Mail) (p : ℕ × ℕ) → IsWellFormed m → IsWellFormed (without_message m p)
 well_without_message m p w = record {
   folders = all_with_messages m.folders p.0 (cut_keyed uid_of p.1 (messages_in m.folders p.0)) w.folders
