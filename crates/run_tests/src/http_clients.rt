@@ -147,7 +147,7 @@ const ENDS_EARLY: &[u8] =
 
 const GETS_NOTHING: &[u8] = b"GET /nothing HTTP/1.1\r\nAuthorization: Bearer secret\r\n\r\n";
 
-/// What stands behind the fixed fields of these requests' responses.
+/// What stands after the fixed fields of these requests' responses.
 const UPLOADED: &[u8] =
     b"Content-Length: 124\r\nContent-Type: application/json\r\n\r\n{\"accountId\":\"a1\",\"blobId\":\"u8f434346648f6b96df89dda901c5176b10a6d83961dd3c1ac88b59b2dc327aa4\",\"size\":2,\"type\":\"text/plain\"}";
 
