@@ -5,6 +5,7 @@ ghost use Rattle.std.specs.Prelude.{◌≡◌, ℕ, Bool, true};
 pub trait Uids {
     ghost has: { Self → ℕ → Bool };
 
+    /// Whether this UID is one of them.
     fn contains(&self, uid: u32) -> bool
         ensures { result ≡ Self.has self.now uid };
 }
