@@ -9,9 +9,13 @@ use std::alloc::{AllocError, Global};
 /// What a path is of.
 #[derive(Clone, Copy, Debug, PartialEq, Eq)]
 pub enum Kind {
+    /// `/.well-known/jmap`
     Session,
+    /// `/jmap/api`
     Api,
+    /// `/jmap/upload/{account}`
     Upload,
+    /// `/jmap/download/{account}/{blob}/{name}`
     Download,
 }
 
