@@ -28,11 +28,13 @@ pub enum Command {
     /// Headers of the messages from one UID to another. `modseq` says whether the folder has mod-sequences.
     FetchSlice {
         from: u32,
+        /// It is among them.
         to: u32,
         modseq: bool,
     },
     /// Headers of the messages from a UID on.
     FetchNew {
+        /// A store tells the message of the greatest UID even where all are below (RFC 9051 section 6.4.9).
         from: u32,
         modseq: bool,
     },
