@@ -3,6 +3,7 @@ ghost use Rattle.std.specs.Prelude.{◌≡◌, ℕ, Bool, true};
 
 /// A set of UIDs that tells whether it has one.
 pub trait Uids {
+    /// Whether a number is one of its UIDs.
     ghost has: { Self → ℕ → Bool };
 
     /// Whether this UID is one of them.
