@@ -23,6 +23,7 @@ pub enum Kind {
 #[derive(Drop)]
 pub struct Routes {
     router: Router<Kind>,
+    /// Those paths and no others.
     ghost holds: { router ≡ paths },
 }
 
