@@ -12,6 +12,7 @@ pub struct Upload {
     pub media: Text,
     /// At most `MAX_UPLOAD_OCTETS`.
     pub octets: Bytes,
+    /// What `new` makes sure of.
     ghost fits: { length octets ≤ MAX_UPLOAD_OCTETS },
 }
 
