@@ -53,7 +53,7 @@ pub enum MethodError {
     /// More changes than `maxChanges` allows (RFC 8620 section 5.6).
     #[error("too many changes")]
     TooManyChanges,
-    /// Out of memory; an `error` response says `serverUnavailable`.
+    /// Out of memory; its type is that of `ServerUnavailable`.
     #[error("out of memory")]
     Memory,
 }
