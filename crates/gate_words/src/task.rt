@@ -13,7 +13,7 @@ pub enum Task {
     /// Answers clients over HTTP, at the address `listen`; ends after this many connections.
     Serve {
         place: Place,
-        /// An address, `:` and a port, as it was written.
+        /// An address, `:` and a port; which text is one isn't looked at here.
         listen: Text,
         /// From 1 to `MAX_CONNECTIONS`.
         connections: u64,

@@ -182,9 +182,9 @@ pub enum Sym {
     Line(Line),
     /// Within a word, whose octets so far are the first n of the key's.
     Word(Place, Key, u8),
-    /// The rest of a line that isn't told, which may have literals.
+    /// The rest of a line that isn't told, and the octets of any literal.
     Free(Free),
-    /// The items of a FETCH, and numbers.
+    /// The items of a FETCH with their numbers, and the numbers of a STATUS.
     Item(Item),
     /// Flags and attributes, and the rest of an atom.
     Names(Names),
@@ -196,7 +196,7 @@ pub enum Sym {
     Words(Words),
     /// What follows VANISHED and its space.
     Set(Set),
-    /// Quoted texts and literals, up to the count of a literal.
+    /// Quoted texts, and literals up to the `}` of their count.
     Str(Str),
     /// A value that isn't told, with its brackets.
     Value(Value),
