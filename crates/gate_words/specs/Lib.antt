@@ -1,3 +1,4 @@
+-- By name. Task says which words are a task; Lent and Reading are for private clauses.
 pub mod Connections
 pub mod Lent
 pub mod Options

@@ -26,10 +26,15 @@ const MARKS: u64 = 1 << 53;
 /// A folder's messages while responses are told to it, and what changes with them.
 #[derive(Drop)]
 pub struct Work {
+    /// The folder's number.
     pub folder: u64,
+    /// Those of the folder.
     pub messages: Messages,
+    /// The folder's number and the UID of each mark, those of other folders too.
     pub marks: BTreeMap<u64, (u64, u32)>,
+    /// The mark that the next new message gets.
     pub next_mark: u64,
+    /// How often the mail was changed, up to 2^64 - 1.
     pub changes: u64,
 }
 
