@@ -14,7 +14,7 @@ pub struct Address {
 /// A group of mailboxes (RFC 5322 section 3.4), or a run of mailboxes outside a group, which has no name.
 #[derive(PartialEq, Debug, Drop)]
 pub struct Group {
-    /// The text of the phrase, with encoded words decoded. None of a run outside a group.
+    /// The text of the phrase, with encoded words decoded. None in a run outside a group.
     pub name: Option<Bytes>,
     /// In their order. A group may have none, a run outside a group has one or more.
     pub members: Listed<Address>,
