@@ -15,7 +15,7 @@ use std::alloc::AllocError;
 /// Body lists that grow while parts are walked.
 #[derive(Drop)]
 pub struct Growing {
-    /// Numbers of leaves, in the order of the walk, as in the lists below.
+    /// Numbers of leaves, as in the lists below: those shown as plain text, in the order of the walk.
     pub text: Vec<u64>,
     /// Those shown as HTML.
     pub html: Vec<u64>,

@@ -8,7 +8,7 @@ use gate_world::Bytes;
 /// from 1 on in the order of the octets. A multipart has none, and the parts in it are its children.
 #[derive(Drop)]
 pub struct Part {
-    /// None of a multipart.
+    /// None in a multipart.
     pub number: Option<u64>,
     /// The media type, `type/subtype` in lower case.
     pub media: Bytes,
@@ -19,7 +19,7 @@ pub struct Part {
     /// The name of the part's file: `filename*` or `filename` of Content-Disposition, else `name` of Content-Type, decoded
     /// (RFC 8187, RFC 2047). None where there is none of these.
     pub name: Option<Bytes>,
-    /// Content-ID without comments, white space and one pair of angle brackets; None where nothing is left.
+    /// Content-ID without comments, white space and one pair of angle brackets; None where it is missing or nothing is left.
     pub cid: Option<Bytes>,
     /// Content-Language as it is written; None where there is no such field.
     pub language: Option<Bytes>,
