@@ -12,4 +12,6 @@ mod seen;
 #[cfg(test)]
 mod shown_messages;
 #[cfg(test)]
+mod told_pages;
+#[cfg(test)]
 mod whole_runs;
