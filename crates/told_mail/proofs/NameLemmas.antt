@@ -32,7 +32,8 @@ use Rattle.told_mail.specs.reading.Names.{place_in, AllOther, AreApart, AllFree}
 use Rattle.told_mail.specs.Lists.{is_inbox, inbox_first, listed, put_listed, line_for, with_line, names_told, new_names, new_folder, with_new_folder}
 use Rattle.told_mail.proofs.LineLemmas.{at, at_is, by_items, filter_same, line_name}
 use Rattle.told_folder.proofs.StepLemmas.{left}
-use Rattle.std.proofs.Common.{◌+◌, ◌^◌, ltb}
+use Rattle.std.proofs.Common.{◌+◌, leb}
+use Rattle.told_mail.specs.declared.mirror.listing.TheConstants.{MAX_FOLDER_NUMBER}
 
 -- a name is the same as itself
 pub is_self : (a : List ℕ) → is_same a a ≡ true
@@ -252,7 +253,7 @@ free_added : (m : Mail) (o : Option lists.Line) (name : List ℕ) (qs : List (Li
     → AllFree (with_new_folder m o).folders qs
 free_added m None name qs named f o = f
 free_added m (Some l) name qs named f o =
-    elim (ltb m.next_folder (2 ^ 53)) as (λ b. AllFree (if b then record {
+    elim (leb m.next_folder MAX_FOLDER_NUMBER) as (λ b. AllFree (if b then record {
       folders = m.folders ++ new_folder m.next_folder l ∷ [];
       next_mark = m.next_mark;
       next_folder = m.next_folder + 1;
