@@ -2,6 +2,9 @@
 use Rattle.std.specs.Prelude.{ℕ, List, [], ◌∷◌, ◌++◌, length, codes, decimal, map, true, false}
 use Rattle.serde_json.specs.Data.{unsigned, Data, null, boolean, number, string, array, object, no_items, no_members, member}
 use Rattle.serde_json.specs.View.{items_of}
+use Rattle.jmap_core.specs.declared.arguments.TheConstants.{MAX_OBJECTS_IN_GET}
+use Rattle.jmap_core.specs.declared.request_body.TheConstants.{MAX_CALLS_IN_REQUEST}
+use Rattle.jmap_core.specs.declared.session.TheConstants.{MAX_SIZE_REQUEST_OCTETS, MAX_SIZE_UPLOAD_OCTETS}
 
 -- The user's length makes it clear where the user ends, so that no two pairs have one text.
 abbrev pub session_state_text : List ℕ → List ℕ → List ℕ
@@ -14,13 +17,13 @@ count n = number (unsigned n)
 abbrev pub core_limits : Data
 core_limits = object
     (member (codes "collationAlgorithms") (array no_items)
-    (member (codes "maxCallsInRequest") (count 16)
+    (member (codes "maxCallsInRequest") (count MAX_CALLS_IN_REQUEST)
     (member (codes "maxConcurrentRequests") (count 4)
     (member (codes "maxConcurrentUpload") (count 4)
-    (member (codes "maxObjectsInGet") (count 500)
+    (member (codes "maxObjectsInGet") (count MAX_OBJECTS_IN_GET)
     (member (codes "maxObjectsInSet") (count 500)
-    (member (codes "maxSizeRequest") (count 10000000)
-    (member (codes "maxSizeUpload") (count 50000000)
+    (member (codes "maxSizeRequest") (count MAX_SIZE_REQUEST_OCTETS)
+    (member (codes "maxSizeUpload") (count MAX_SIZE_UPLOAD_OCTETS)
     no_members))))))))
 
 abbrev pub email_orders : List (List ℕ)

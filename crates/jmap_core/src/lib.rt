@@ -35,5 +35,5 @@ pub use references::resolve;
 pub use request::{LimitName, Request, RequestError, Using};
 pub use request_body::{MAX_CALLS_IN_REQUEST, read_request};
 pub use response::{response_text, response_value};
-pub use session::{session_object, session_state};
+pub use session::{MAX_SIZE_REQUEST_OCTETS, MAX_SIZE_UPLOAD_OCTETS, session_object, session_state};
 pub use state::{State, read_state, state_text};

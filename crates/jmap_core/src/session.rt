@@ -9,6 +9,12 @@ use crate::{MAX_CALLS_IN_REQUEST, MAX_OBJECTS_IN_GET};
 use serde_json::{Map, Value, json, put};
 use std::alloc::{AllocError, Global};
 
+/// The most octets of a request's body, as the Session tells it (RFC 8620 section 2). The door has the same limit.
+pub const MAX_SIZE_REQUEST_OCTETS: u64 = 10_000_000;
+
+/// The most octets of an upload, as the Session tells it. The store of uploads has the same limit.
+pub const MAX_SIZE_UPLOAD_OCTETS: u64 = 50_000_000;
+
 const API_PATH: &str = "/jmap/api";
 
 const DOWNLOAD_PATH: &str = "/jmap/download/{accountId}/{blobId}/{name}?accept={type}";
@@ -35,8 +41,8 @@ fn core_limits(alloc: Global) -> Result<Value, AllocError>
         "maxConcurrentUpload": 4,
         "maxObjectsInGet": (MAX_OBJECTS_IN_GET as u64),
         "maxObjectsInSet": 500,
-        "maxSizeRequest": 10_000_000,
-        "maxSizeUpload": 50_000_000,
+        "maxSizeRequest": MAX_SIZE_REQUEST_OCTETS,
+        "maxSizeUpload": MAX_SIZE_UPLOAD_OCTETS,
     })
 }
 
