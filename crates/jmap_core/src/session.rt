@@ -9,10 +9,10 @@ use crate::{MAX_CALLS_IN_REQUEST, MAX_OBJECTS_IN_GET};
 use serde_json::{Map, Value, json, put};
 use std::alloc::{AllocError, Global};
 
-/// The most octets of a request's body, as the Session tells it.
+/// The most octets of a request's body, as the Session tells it (RFC 8620 section 2). The door has the same limit.
 pub const MAX_SIZE_REQUEST: u64 = 10_000_000;
 
-/// The most octets of an upload, as the Session tells it.
+/// The most octets of an upload, as the Session tells it. The store of uploads has the same limit.
 pub const MAX_SIZE_UPLOAD: u64 = 50_000_000;
 
 // Of what no method does yet.
