@@ -1,0 +1,11 @@
+//! The rows of Emails: which remain as the mail changes, which come, in what order, and in which Threads.
+#![tactic(auto)]
+
+mod arrivals;
+mod emails;
+mod indexes;
+mod remaining;
+mod shown;
+mod touches;
+
+pub use emails::Emails;

@@ -1,0 +1,6 @@
+pub mod History
+pub mod Sound
+pub mod State
+pub mod Following
+pub mod LookUps
+pub mod Laws
