@@ -57,8 +57,8 @@ fn keep(
     row: EmailRow,
     place: (u64, &Message),
 ) -> Result<(), AllocError>
-    ensures { OnOk result (passes.gathered_in stays.new
-        ≡ passes.gather_where (Some (record { folder = place.0; message = place.1.now })) (passes.gathered_in stays.old) (number, row)) }
+    ensures { OnOk result (passes.pass_of stays.new
+        ≡ passes.gather_where (Some (record { folder = place.0; message = place.1.now })) (passes.pass_of stays.old) (number, row)) }
 {
     let (folder, message) = place;
     let keywords = keywords_of(alloc, &message.flags)?;
@@ -82,7 +82,7 @@ fn gather(
     number: u64,
     row: EmailRow,
 ) -> Result<(), AllocError>
-    ensures { OnOk result (passes.gathered_in stays.new ≡ passes.gather_one mirror.now.mail.folders (passes.gathered_in stays.old) (number, row)) }
+    ensures { OnOk result (passes.pass_of stays.new ≡ passes.gather_one mirror.now.mail.folders (passes.pass_of stays.old) (number, row)) }
 {
     match shown(mirror, row.mark) {
         Some(place) => keep(alloc, stays, number, row, place),
