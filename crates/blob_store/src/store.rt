@@ -70,7 +70,7 @@ impl BlobStore {
     }
 
     /// The octets of the upload with this id. It takes no memory.
-    pub fn get(&self, id: &[u8]) -> Option<&[u8]>
+    pub fn get(&self, id: &[u8]) -> Option<&Bytes>
         ensures { MatchOption result (upload_with id.now self.now ≡ None) (λ octets. upload_with id.now self.now ≡ Some octets.now) }
     {
         match <BlobId>::try_from(id) {

@@ -56,7 +56,7 @@ fn uploads_are_found_by_their_digest(rt: HostRuntime) -> Result<(), Fail> {
     }
     for (octets, id) in rows {
         match store.get(id) {
-            Some(kept) => assert!(rt; kept == octets),
+            Some(kept) => assert!(rt; kept.as_slice() == octets),
             None => assert!(rt; false),
         }
     }
@@ -86,7 +86,7 @@ fn uploads_have_a_limit(rt: HostRuntime) -> Result<(), Fail> {
     let small = put(&mut store, alloc, b'a', MAX_UPLOAD_OCTETS);
     match small {
         Ok(id) => match store.get(id.as_slice()) {
-            Some(kept) => assert_eq!(rt; kept.len(), MAX_UPLOAD_OCTETS),
+            Some(kept) => assert_eq!(rt; kept.as_slice().len(), MAX_UPLOAD_OCTETS),
             None => assert!(rt; false),
         },
         Err(_) => assert!(rt; false),

@@ -52,13 +52,10 @@ impl Uploads {
     }
 
     /// The octets of the upload with this id.
-    pub fn with_id(&self, id: &BlobId) -> Option<&[u8]>
+    pub fn with_id(&self, id: &BlobId) -> Option<&Bytes>
         ensures { MatchOption result (upload_with id.now self.now ≡ None) (λ octets. upload_with id.now self.now ≡ Some octets.now) }
     {
-        match self.octets.get(id) {
-            None => None,
-            Some(octets) => Some(octets.as_slice()),
-        }
+        self.octets.get(id)
     }
 
     /// Adds an upload as the newest, under its id, which none has yet. A refusal changes nothing.

@@ -2,14 +2,19 @@
 //! copy stays right.
 #![tactic(auto)]
 
+// Touches and answers.
 mod answer;
 mod entries;
 mod error;
-pub mod laws;
+
+// The list.
 mod list;
 mod parts;
 mod since;
 mod walk;
+
+// Laws.
+pub mod laws;
 
 pub use answer::Changes;
 pub use entries::{Entry, Kind};

@@ -2,17 +2,24 @@
 //! and a request has a deadline.
 #![tactic(auto)]
 
+// What is asked of a host.
 mod clock;
+mod sockets;
+mod toolchain;
+
+// Clients that wait.
 mod first_octet;
-mod front;
+mod waiting;
+
+// The client that is served, and its deadlines.
 mod pace;
 mod progress;
 mod serving;
-mod sockets;
+
+// All of them.
+mod front;
 #[cfg(test)]
 mod tests;
-mod toolchain;
-mod waiting;
 
 pub use clock::Ticks;
 pub use front::ClientFront;

@@ -1,17 +1,24 @@
 //! What the octets of a message are as an Email object (RFC 8621).
 #![tactic(auto)]
 
-mod bodies;
-mod email_objects;
-pub mod header_laws;
-pub mod header_properties;
-pub mod laws;
-mod leaves;
+// Texts and moments.
 mod moment_text;
+mod texts;
+
+// Parts.
+mod bodies;
+mod leaves;
 mod part_objects;
 mod previews;
-mod texts;
 mod values;
+
+// The object.
+mod email_objects;
+pub mod header_properties;
+
+// Laws.
+pub mod header_laws;
+pub mod laws;
 
 pub use email_objects::email_object;
 pub use header_properties::{HeaderValues, header_values};

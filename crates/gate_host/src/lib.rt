@@ -2,17 +2,22 @@
 //! random words. None of them tells a tape; each counts its faults.
 #![tactic(auto)]
 
+// What a host gives.
 mod chance;
-mod clients;
-mod error_console;
 mod faults;
 mod host;
-mod host_world;
-mod listener_front;
 mod sockets;
-mod standard_front;
 mod streams;
+
+// The parts of the world.
+mod clients;
+mod error_console;
+mod listener_front;
+mod standard_front;
 mod tcp_link;
+
+// All of them.
+mod host_world;
 #[cfg(test)]
 mod tests;
 

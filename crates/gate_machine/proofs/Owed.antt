@@ -52,7 +52,7 @@ ended_by e is (inr out) = inr (inr (is ∙ ap Err out))
 before_end : (talk : List Event) → given_by (talk ++ LinkEnded ∷ []) ≡ flat_map store_gave_in talk
 before_end talk = flat_map-append store_gave_in talk (LinkEnded ∷ []) ∙ append-nil (flat_map store_gave_in talk)
 
--- a greeting that lets the client in is no other reason not to go on than a lost link or want of memory
+-- a greeting that lets the client in is no other reason not to go on than a lost link or out of memory
 greeting_ends : (gave rest : List ℕ) (greeting : Response) (preauth : Bool) (e : LinkEnd) → begins_with (greeting ∷ []) rest gave → greeting_says greeting ≡ Ok preauth
     → GreetsBy gave nothing_given (Err e) → (e ≡ end.Lost) ⊎ (e ≡ end.Memory)
 greeting_ends gave rest greeting preauth end.Lost greets says so = inl refl

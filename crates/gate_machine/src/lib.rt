@@ -1,12 +1,17 @@
 //! What the gateway holds between requests, and a request's way to the mail: over the link alone.
 #![tactic(auto)]
 
-mod beginning;
+// What is known.
 mod differences;
 mod known;
-mod laws;
 mod machine;
+
+// The way to the mail.
+mod beginning;
 mod standing;
+
+// Laws.
+mod laws;
 
 pub use beginning::{begin, visit};
 pub use known::Known;

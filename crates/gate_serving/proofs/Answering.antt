@@ -24,7 +24,8 @@ use Rattle.gate_serving.specs.Answers.{KeepsUpload, response_of, no_memory_text}
 use Rattle.gate_serving.specs.Calls.{Mailing}
 use Rattle.gate_serving.specs.GateState.{GateState, unready_state}
 use Rattle.gate_serving.specs.Requests.{Account, Asking, ReadsAsking, asks_for_mail}
-use Rattle.gate_serving.specs.Segment.{Replies, Answered, LacksReading, LacksAnswering, Segment, NoneComes, NotAccepted, Left, Unasked, Replied, reply_blamed, blamed, went, unsent, blame_front}
+use Rattle.gate_serving.specs.Segment.{Replies, Answered, LacksReading, LacksAnswering, Segment, NoneComes, NotAccepted, Left, Unasked, Replied, reply_blamed, blamed, went, unsent}
+use Rattle.gate_serving.specs.Segment.{blame_front}
 use Rattle.gate_serving.specs.Run.{StepsTo}
 use Rattle.gate_serving.specs.Work.{NoMail, WithMail, mailing_by}
 use Rattle.gate_serving.specs.reading.Replying.{IsWorked, WorksTo, IsMade, AnswersTo, RepliesToAsking, IsUnread, RepliesBy, SendsReply, Serves}
@@ -151,7 +152,8 @@ made_of : (gate before : Gate) (secrets : Hidden) (given : Mailing) (asking : As
     → IfOk result (λ r. (s : Hidden) → text_sent r ≡ response_of gate.door (account_by gate s) given gate.uploads asking)
     → IfOk result (λ r. text_sent r ≡ response_of before.door (account_by before secrets) given gate.uploads asking)
 made_of gate before secrets given asking (Ok response) rest made =
-    made secrets ∙ (λ i. response_of (rest.door i) (record { user = rest.user i; password = secrets.password; token = secrets.token; base = rest.base i }) given gate.uploads asking)
+    made secrets ∙ (λ i. response_of (rest.door i)
+    (record { user = rest.user i; password = secrets.password; token = secrets.token; base = rest.base i }) given gate.uploads asking)
 made_of gate before secrets given asking (Err e) rest made = tt
 
 -- there was memory for the work

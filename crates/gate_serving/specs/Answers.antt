@@ -5,7 +5,7 @@ use Rattle.serde_json.specs.Written.{compact_text}
 use Rattle.blob_store.specs.Uploads.{blob_id, upload_with, TakesUpload}
 use Rattle.blob_store.specs.declared.store.TheConstants.{MAX_KEPT_OCTETS}
 use Rattle.http_door.specs.Responses.{http_response, json_media, problem_media, download_media}
-use Rattle.http_service.specs.Refusals.{status_of}
+use Rattle.http_service.specs.Refusals.{refusal_status}
 use Rattle.jmap_core.specs.Problem.{text_of_problem, status_of as problem_status}
 use Rattle.jmap_core.specs.Request.{RequestData}
 use Rattle.jmap_core.specs.Response.{response_data}
@@ -78,7 +78,7 @@ answer_over account mail uploads (Problem e) = problem_answer (problem_status e)
 answer_over account mail uploads Session = json_answer 200 (compact_text (session_data account.user account.base))
 answer_over account mail uploads (Upload media octets) = json_answer 201 (compact_text (upload_data media octets))
 answer_over account mail uploads (Download blob media) = blob_answer mail (upload_with blob uploads) media
-answer_over account mail uploads (Refused refusal) = empty_answer (status_of refusal)
+answer_over account mail uploads (Refused refusal) = empty_answer (refusal_status refusal)
 
 -- each line ends so
 abbrev pub line_end : List ℕ

@@ -70,7 +70,8 @@ pub record RunsTo (door : Door) (account : Account) (before after : GateState) (
   pub bears : Bears (run_blamed run) was now
 
 -- A whole run.
-pub record IsServingRun (door : Door) (account : Account) (before after : GateState) (most : ℕ) (was now : Faults) (status : ℕ) (events : List Event) : Type 0 where
+pub record IsServingRun (door : Door) (account : Account) (before after : GateState) (most : ℕ) (was now : Faults) (status : ℕ)
+    (events : List Event) : Type 0 where
   pub went : List Served
   pub run : Run door account before events went after
   pub ends : Ends most went status

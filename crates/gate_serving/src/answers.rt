@@ -168,7 +168,7 @@ pub fn blob_response(
     alloc: Global,
     door: Door,
     mail: &Mailing,
-    found: Option<&[u8]>,
+    found: Option<&Bytes>,
     media: Option<&[u8]>,
 ) -> Result<Response, AllocError>
     ensures { IfOk result (λ r. text_sent r ≡ spelled door (blob_answer mail.now (option_copied found.entry) (option_copied media.entry))) }
@@ -177,7 +177,7 @@ pub fn blob_response(
         (Err(_), _) => untold_response(alloc, door),
         (Ok(_), None) => Ok(Response::empty(door, Refusal::NotFound)),
         (Ok(_), Some(octets)) => {
-            let body = Bytes::copy_of(alloc, octets)?;
+            let body = octets.share()?;
             Response::new(alloc, door, StatusCode::OK, &download_media(media), body)
         }
     }

@@ -2,22 +2,29 @@
 //! are sent.
 #![tactic(auto)]
 
-mod answers;
+// What clients ask.
 mod asking;
-mod calls;
 mod door;
 mod front;
-mod gate;
-mod laws;
-mod line;
-mod mailing;
 mod reading;
 mod requests;
-mod response;
-mod served;
-mod served_mail;
-mod serving;
 mod upload;
+
+// The work, and answers.
+mod answers;
+mod calls;
+mod line;
+mod mailing;
+mod response;
+mod served_mail;
+
+// One client after another.
+mod gate;
+mod served;
+mod serving;
+
+// Laws.
+mod laws;
 
 pub use door::Door;
 pub use front::{FrontError, Input, receive};

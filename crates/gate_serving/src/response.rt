@@ -3,7 +3,7 @@ ghost use Rattle.std.specs.Prelude.{◌≡◌, IfOk, OnErr};
 ghost use Rattle.gate_world.specs.Causes.{FrontAlone, Rose};
 ghost use Rattle.gate_world.specs.Sending.{Sends};
 ghost use Rattle.gate_world.specs.Tape.{Adds};
-ghost use Rattle.http_service.specs.Refusals.{status_of};
+ghost use Rattle.http_service.specs.Refusals.{refusal_status};
 ghost use Rattle.gate_serving.specs.Answers.{empty_answer, spelled};
 ghost use Rattle.gate_serving.specs.reading.Texts.{text_sent};
 
@@ -44,7 +44,7 @@ impl Response {
 
     /// The answer of this status that has no body. It takes no memory.
     pub fn empty(door: Door, refusal: Refusal) -> Response
-        ensures { text_sent result ≡ spelled door (empty_answer (status_of refusal)) }
+        ensures { text_sent result ≡ spelled door (empty_answer (refusal_status refusal)) }
     {
         match door {
             Door::Bare => Response::LineEnd,

@@ -40,7 +40,8 @@ value_if-other _ _ value values apart = refl
 
 -- the values of one setting more
 pub next-values : (asked : Name) (settings : List LentSetting) (index : ℕ) (d : LentSetting) → index < length settings
-    → values_of asked (map setting_in (take (index + 1) settings)) ≡ values_of asked (map setting_in (take index settings)) ++ values_of asked (setting_in (get_or settings index d) ∷ [])
+    → values_of asked (map setting_in (take (index + 1) settings)) ≡ values_of asked (map setting_in (take index settings)) ++ values_of asked
+    (setting_in (get_or settings index d) ∷ [])
 next-values asked settings index d within =
     ap (values_of asked) (map_more setting_in settings index d within)
     ∙ values-append asked (map setting_in (take index settings)) (setting_in (get_or settings index d) ∷ [])

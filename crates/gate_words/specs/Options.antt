@@ -30,7 +30,8 @@ SpellsWord setting words = ((words ≡ name_text setting.name ∷ setting.value 
 -- settings one after another
 abbrev pub SpellsAll : List Setting → List (List ℕ) → Type 0
 SpellsAll [] words = words ≡ []
-SpellsAll (setting ∷ settings) words = (here : List (List ℕ)) × (rest : List (List ℕ)) × (words ≡ here ++ rest) × SpellsWord setting here × SpellsAll settings rest
+SpellsAll (setting ∷ settings) words = (here : List (List ℕ)) × (rest : List (List ℕ)) × (words ≡ here ++ rest) × SpellsWord setting here
+    × SpellsAll settings rest
 
 -- a value before others, where the name is the one asked for
 abbrev pub value_if : Name → Name → List ℕ → List (List ℕ) → List (List ℕ)

@@ -1,14 +1,19 @@
 //! The words of a command, and what they ask for.
 #![tactic(auto)]
 
-mod connections;
-mod option;
+// What words ask for.
 mod page;
 mod place;
-mod reading;
+mod task;
+
+// Options and values.
+mod connections;
+mod option;
 mod rules;
 mod settings;
-mod task;
+
+// Reading.
+mod reading;
 #[cfg(test)]
 mod tests;
 

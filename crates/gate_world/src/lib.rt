@@ -1,16 +1,21 @@
 //! The outside of the gateway: its parts as traits, and what each call adds to the tape of events.
 #![tactic(auto)]
 
+// Values.
 mod bytes;
-mod event;
 mod listed;
 mod names;
-mod outside;
-mod sending;
-mod tape;
 mod text;
-mod unread;
+
+// The outside.
+mod event;
+mod outside;
+mod tape;
 mod watcher;
+
+// Texts that are sent, octets that came.
+mod sending;
+mod unread;
 
 pub use bytes::Bytes;
 pub use event::Event;

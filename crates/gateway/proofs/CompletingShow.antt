@@ -120,7 +120,8 @@ not_explained page is = cc
 not_at : (task : Task) (place : Place) → IsAt task place → task ≡ Show → ⊥
 not_at task place at shows = subst (λ (t : Task). IsAt t place) shows at
 
-ran_told : {task : Task} {secrets : Hidden} {status : ℕ} {blames : Faults} (behind events : List Event) → Performed task secrets status blames events → task ≡ Show → (status ≡ 6 → ⊥)
+ran_told : {task : Task} {secrets : Hidden} {status : ℕ} {blames : Faults} (behind events : List Event) → Performed task secrets status blames events → task ≡ Show
+    → (status ≡ 6 → ⊥)
     → events ≡ Accepted ∷ behind → Told status events
 ran_told {task} behind events (Unopened place at opens a b) shows well came = absurd (not_at task place at shows)
 ran_told behind events (ServedMany place listen most is serves) shows well came = absurd (not_served place listen most (sym is ∙ shows))

@@ -21,7 +21,8 @@ use Rattle.gate_serving.specs.Requests.{Account}
 use Rattle.gate_serving.specs.Run.{Opens, StepsTo, IsServingRun, account_of, run_blamed}
 use Rattle.gate_serving.specs.Segment.{blamed}
 use Rattle.gate_serving.proofs.Answering.{bears_none, bears_later, bears_earlier, later_same, bears_failed}
-use Rattle.gateway.specs.Program.{EndsDone, EndsFailed, EndsOnce, EndsOne, IsAt, IsSaid, one_blamed, words_refused, Unopened, ServedMany, ServedOnce, ShownOne, Explained, Refused, OutOfMemory, Done, RunsShow, RunsExplain, Performs, IsWholeRun}
+use Rattle.gateway.specs.Program.{EndsDone, EndsFailed, EndsOnce, EndsOne, IsAt, IsSaid, one_blamed, words_refused, Unopened, ServedMany, ServedOnce, ShownOne, Explained, Refused}
+use Rattle.gateway.specs.Program.{OutOfMemory, Done, RunsShow, RunsExplain, Performs, IsWholeRun}
 
 later_say : (was now : Faults) → SayAlone was now → Later was now
 later_say was now alone = record { link = omega (arith, alone.link); keep = omega (arith, alone.keep); front = omega (arith, alone.front); say = alone.say }
@@ -88,9 +89,11 @@ pub attends_all : {place : Place} {secrets now_secrets : Hidden} {door : Door} {
     → door ≡ Http → account ≡ account_of place secrets → now_secrets ≡ secrets → NoFault was mid → Opens (Ok before) xs
     → IsServingRun door account before after most mid now status ys
     → AttendsAll place secrets most was now status (xs ++ ys)
-attends_all {place} {secrets} {door = door} {account = account} {before = before} {after = after} {was = was} {mid = mid} {now = now} {most = most} {status = status} xs ys here same
+attends_all {place} {secrets} {door = door} {account = account} {before = before} {after = after} {was = was} {mid = mid} {now = now} {most = most}
+    {status = status} xs ys here same
     kept none opens run =
-    let there : IsServingRun Http (account_of place secrets) before after most mid now status ys = subst (λ (a : Account). IsServingRun Http a before after most mid now status ys) same
+    let there : IsServingRun Http (account_of place secrets) before after most mid now status ys =
+    subst (λ (a : Account). IsServingRun Http a before after most mid now status ys) same
     (subst (λ (d : Door). IsServingRun d account before after most mid now status ys) here run) in
     record {
       opened = xs;
@@ -139,7 +142,11 @@ bears_one (Err front.Failed) status said was now later failed ends = bears_faile
 pub performs_show : {secrets : Hidden} {was now : Faults} {status : ℕ} {events : List Event} → Later was now → (status ≡ 6 → Rose was.front now.front) → RunsShow status events
     → Performs Show secrets was now status events
 performs_show {was = was} {now = now} {status = status} later failed (shown, said, outcome, is, shows, ends) =
-    record { blames = one_blamed outcome; ran = ShownOne refl record { shown = shown; said = said; outcome = outcome; shows = shows; ends = ends; blames_are = refl; whole = is }; bears = bears_one outcome status said was now later failed ends }
+    record {
+      blames = one_blamed outcome;
+      ran = ShownOne refl record { shown = shown; said = said; outcome = outcome; shows = shows; ends = ends; blames_are = refl; whole = is };
+      bears = bears_one outcome status said was now later failed ends;
+    }
 
 pub performs_explain : {secrets : Hidden} {was now : Faults} {status : ℕ} {events : List Event} (page : Page) → Later was now → (status ≡ 6 → Rose was.front now.front)
     → RunsExplain (page_text page) status events

@@ -129,7 +129,8 @@ pub record ExplainsOne (page : Page) (status : ℕ) (blames : Faults) (events : 
 -- What a task adds, with its status and the faults that are blamed.
 pub data Performed (task : Task) (secrets : Hidden) (status : ℕ) (blames : Faults) (events : List Event) : Type 0 where
   -- opening came to nothing
-  Unopened : (place : Place) → IsAt task place → Opens (Err opening.Memory) events → status ≡ 5 → blames ≡ no_faults → Performed task secrets status blames events
+  Unopened : (place : Place) → IsAt task place → Opens (Err opening.Memory) events → status ≡ 5 → blames ≡ no_faults
+      → Performed task secrets status blames events
   ServedMany : (place : Place) (listen : List ℕ) (most : ℕ) → task ≡ Serve place listen most → ServesClients place most secrets status blames events
       → Performed task secrets status blames events
   ServedOnce : (place : Place) → task ≡ Once place → ServesOne place secrets status blames events → Performed task secrets status blames events

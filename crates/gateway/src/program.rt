@@ -179,7 +179,7 @@ pub fn run<W: World>(words: &[String], world: &mut W, watchers: &mut Vec<Box<dyn
     ensures complete { Adds (W.tape world.old) (W.tape world.new) (CompletesServing (map string_bytes words.now) (W.hidden world.old) result) }
 
     // Whoever gives a message to be shown, while the front does not fail, is sent its Email object and a line end; or memory
-    // was wanting, and nothing was sent.
+    // ran out, and nothing was sent.
     ensures shown { (result ≡ 6 → ⊥) → Adds (W.tape world.old) (W.tape world.new) (CompletesShow (map string_bytes words.now) result) }
 
     // When each status comes, in every world. Out of memory in the words comes before their refusal.

@@ -7,7 +7,8 @@ use Rattle.text_words.proofs.SequenceLemmas.{one_reading, determined}
 use Rattle.header_tokens.specs.declared.token.Alphabet.TheVariants as alphabet
 use Rattle.header_tokens.specs.Tokens.{Spelled, AreTokens}
 use Rattle.header_addresses.specs.Mailboxes.{Mailbox}
-use Rattle.header_addresses.specs.AddressLists.{Element, Empty, Head, End, Member, IsElement, Addressee, One, Group, AreMailboxes, NoMailboxes, EmptyPlace, NextMailbox, AreAddressees}
+use Rattle.header_addresses.specs.AddressLists.{Element, Empty, Head, End, Member, IsElement, Addressee, One, Group, AreMailboxes, NoMailboxes, EmptyPlace, NextMailbox}
+use Rattle.header_addresses.specs.AddressLists.{AreAddressees}
 use Rattle.header_addresses.specs.AddressLists.{NoAddressees, Passed, NextOne, NextGroup, IsAddressList, Grouped, run_of, groups_from}
 use Rattle.header_addresses.specs.reading.ElementReading.{element_in, are_nested, is_addressee, grouped_from}
 use Rattle.header_addresses.specs.reading.GroupBuilding.{are_list}
@@ -26,13 +27,13 @@ nested : (who : List Addressee) (es : List Element) → AreAddressees who es →
 nested _ _ NoAddressees = refl
 nested _ _ (Passed who es h) = nested who es h
 nested _ _ (NextOne m who es h) = nested who es h
-nested _ _ (NextGroup phrase ms inner who es i h) = inner_nested ms inner es i ∙ nested who es h
+nested _ _ (NextGroup g who es h) = inner_nested g.mailboxes g.inner es g.are_mailboxes ∙ nested who es h
 
 has_one : (who : List Addressee) (es : List Element) → AreAddressees who es → who ≢ [] → list_any is_addressee es ≡ true
 has_one _ _ NoAddressees n = absurd (n refl)
 has_one _ _ (Passed who es h) n = has_one who es h n
 has_one _ _ (NextOne m who es h) n = refl
-has_one _ _ (NextGroup phrase ms inner who es i h) n = refl
+has_one _ _ (NextGroup g who es h) n = refl
 
 pub is_listed : (who : List Addressee) (es : List Element) → AreAddressees who es → who ≢ [] → are_list es ≡ true
 is_listed who es h n = both (are_nested false es) (list_any is_addressee es) (nested who es h) (has_one who es h n)
@@ -48,9 +49,9 @@ pub groups_are : (who : List Addressee) (es : List Element) → AreAddressees wh
 groups_are _ _ NoAddressees run = refl
 groups_are _ _ (Passed who es h) run = groups_are who es h run
 groups_are _ _ (NextOne m who es h) run = groups_are who es h (run ++ m ∷ [])
-groups_are _ _ (NextGroup phrase ms inner who es i h) run =
-    ap (λ (u : List Grouped). run_of run ++ (Some phrase, ms) ∷ u) (groups_are who es h [])
-    ∙ ap (λ (u : List Grouped). run_of run ++ u) (inner_grouped phrase ms inner es i [])
+groups_are _ _ (NextGroup g who es h) run =
+    ap (λ (u : List Grouped). run_of run ++ (Some g.phrase, g.mailboxes) ∷ u) (groups_are who es h [])
+    ∙ ap (λ (u : List Grouped). run_of run ++ u) (inner_grouped g.phrase g.mailboxes g.inner es g.are_mailboxes [])
 
 -- ---- elements that pass are a list of addresses
 
@@ -93,7 +94,7 @@ reads false (Head phrase ∷ es) e =
     record {
       who = Group phrase r.ms ∷ r.who;
       addressees = subst (λ (u : List Element). AreAddressees (Group phrase r.ms ∷ r.who) (Head phrase ∷ u)) (sym r.whole)
-          (NextGroup phrase r.ms r.inner r.who r.rest r.mailboxes r.addressees);
+          (NextGroup (record { phrase = phrase; mailboxes = r.ms; inner = r.inner; are_mailboxes = r.mailboxes }) r.who r.rest r.addressees);
     }
 reads true (Head phrase ∷ es) e = absurd cc
 reads false (End ∷ es) e = absurd cc
@@ -118,7 +119,7 @@ some_one : (who : List Addressee) (es : List Element) → AreAddressees who es �
 some_one _ _ NoAddressees e = absurd cc
 some_one _ _ (Passed who es h) e = some_one who es h e
 some_one _ _ (NextOne m who es h) e = λ n. absurd cc
-some_one _ _ (NextGroup phrase ms inner who es i h) e = λ n. absurd cc
+some_one _ _ (NextGroup g who es h) e = λ n. absurd cc
 
 pub record Listed (es : List Element) : Type 0 where
   pub who : List Addressee
@@ -159,7 +160,8 @@ unfolding read_from ended
 read_is _ _ NoAddressees = refl
 read_is _ _ (Passed who es h) = read_is who es h
 read_is _ _ (NextOne m who es h) = ap (λ (u : List Addressee). One m ∷ u) (read_is who es h)
-read_is _ _ (NextGroup phrase ms inner who es i h) = ap (λ (u : List Addressee). Group phrase ms ∷ u) (read_is who es h) ∙ inner_read phrase ms inner es i []
+read_is _ _ (NextGroup g who es h) =
+    ap (λ (u : List Addressee). Group g.phrase g.mailboxes ∷ u) (read_is who es h) ∙ inner_read g.phrase g.mailboxes g.inner es g.are_mailboxes []
 
 pub one_elements : (x y : List Element) (ts : List Spelled) → Sequence IsElement x ts → Sequence IsElement y ts → x ≡ y
 one_elements x y ts g h = one_reading (determined element_in element_reader) x y ts g h

@@ -12,8 +12,8 @@ use Rattle.text_words.proofs.SequenceLemmas.{IsReader, Behind, begins, unit_same
 use Rattle.header_tokens.specs.Tokens.{Spelled}
 use Rattle.header_tokens.specs.Kinds.{mark_of, has_mark, is_gap}
 use Rattle.header_addresses.specs.Mailboxes.{is_phrase, is_display_name, is_addr_spec, is_inner_token}
-use Rattle.header_addresses.specs.AddressLists.{Element, Empty, Head, End, Member, IsElement, Comma, Blank, Phrase, Closed, Bare, InAngle, EndsElement, EndsGroup, is_no_separator}
-use Rattle.header_addresses.specs.AddressLists.{is_no_comma}
+use Rattle.header_addresses.specs.AddressLists.{Element, Empty, Head, End, Member, NameAddr, IsElement, Comma, Blank, Phrase, Closed, Bare, InAngle, EndsElement}
+use Rattle.header_addresses.specs.AddressLists.{EndsGroup, is_no_separator, is_no_comma}
 use Rattle.header_addresses.specs.reading.ElementReading.{is_plain_token, is_no_greater, stops, bare, in_angle, some_bare, bare_of, head_of, end_before, element_end, angle_before}
 use Rattle.header_addresses.specs.reading.ElementReading.{angle_of}
 use Rattle.header_addresses.specs.reading.ElementReading.{closed_of, opened_of, separator_of, is_empty, marked_of, element_of, element_in, is_filled}
@@ -174,16 +174,16 @@ spread phrase inner gaps rest less greater =
 counted : (phrase inner gaps : List Spelled) (less greater : Spelled) → length phrase + 1 + length inner + 1 + length gaps ≡ length (phrase ++ less ∷ (inner ++ greater ∷ gaps))
 counted phrase inner gaps less greater = omega (arith, length-append phrase (less ∷ (inner ++ greater ∷ gaps)), length-append inner (greater ∷ gaps))
 
-mailbox_again : (phrase inner gaps rest : List Spelled) (less greater : Spelled) → is_display_name phrase ≡ true → has_mark 60 less ≡ true → is_inner_token inner ≡ true
-    → has_mark 62 greater ≡ true → Each is_gap gaps → EndsElement rest
-    → element_in ((phrase ++ less ∷ (inner ++ greater ∷ gaps)) ++ rest) ≡ Some (Member (in_angle phrase inner gaps), length (phrase ++ less ∷ (inner ++ greater ∷ gaps)))
+mailbox_again : (a : NameAddr) (rest : List Spelled) → EndsElement rest
+    → element_in ((a.phrase ++ a.less ∷ (a.inner ++ a.greater ∷ a.gaps)) ++ rest)
+    ≡ Some (Member (in_angle a.phrase a.inner a.gaps), length (a.phrase ++ a.less ∷ (a.inner ++ a.greater ∷ a.gaps)))
 unfolding marked_by plain_mark
-mailbox_again phrase inner gaps rest less greater p l i g e k =
-    ap element_in (spread phrase inner gaps rest less greater)
-    ∙ at_mark 60 phrase less (inner ++ greater ∷ (gaps ++ rest)) (name_each plain_mark phrase refl refl p) (mark_is 60 less l) refl
-    ∙ opened_again phrase inner gaps rest greater g i
-    ∙ angle_again phrase inner gaps rest p i e k
-    ∙ ap (λ (n : ℕ). Some (Member (in_angle phrase inner gaps), n)) (counted phrase inner gaps less greater)
+mailbox_again a rest k =
+    ap element_in (spread a.phrase a.inner a.gaps rest a.less a.greater)
+    ∙ at_mark 60 a.phrase a.less (a.inner ++ a.greater ∷ (a.gaps ++ rest)) (name_each plain_mark a.phrase refl refl a.is_name) (mark_is 60 a.less a.opens) refl
+    ∙ opened_again a.phrase a.inner a.gaps rest a.greater a.closes a.is_inner
+    ∙ angle_again a.phrase a.inner a.gaps rest a.is_name a.is_inner a.are_gaps k
+    ∙ ap (λ (n : ℕ). Some (Member (in_angle a.phrase a.inner a.gaps), n)) (counted a.phrase a.inner a.gaps a.less a.greater)
 
 complete : (v : Element) (x s : List Spelled) → IsElement v x s → element_in (x ++ s) ≡ Some (v, length x)
 unfolding marked_by separator_by plain_mark
@@ -192,7 +192,7 @@ complete _ _ _ (Blank gaps rest r s) = blank_again gaps rest r.0 r.1 s
 complete _ _ _ (Phrase phrase rest colon e h) = head_again phrase rest colon e h
 complete _ _ _ (Closed s gaps rest h e k) = end_again s gaps rest h e k
 complete _ _ _ (Bare spec rest e s) = spec_again spec rest e s
-complete _ _ _ (InAngle phrase inner gaps rest less greater p l i g e k) = mailbox_again phrase inner gaps rest less greater p l i g e k
+complete _ _ _ (InAngle a rest k) = mailbox_again a rest k
 
 ends_some : (x y : List Spelled) (c : Spelled) → x ++ c ∷ y ≢ []
 ends_some [] y c = λ e. absurd cc
@@ -204,7 +204,7 @@ some _ _ _ (Blank gaps rest r s) = r.1
 some _ _ _ (Phrase phrase rest colon e h) = ends_some phrase [] colon
 some _ _ _ (Closed s gaps rest h e k) = λ e. absurd cc
 some _ _ _ (Bare spec rest e s) = λ n. let q = ap (λ (u : List Spelled). list_all is_gap u) n in let h = spec_some spec e in absurd cc
-some _ _ _ (InAngle phrase inner gaps rest less greater p l i g e k) = ends_some phrase (inner ++ greater ∷ gaps) less
+some _ _ _ (InAngle a rest k) = ends_some a.phrase (a.inner ++ a.greater ∷ a.gaps) a.less
 
 -- ---- what is read is spelled so
 
@@ -247,7 +247,18 @@ angle_found v n phrase inner less greater more ts w l g e = elim (picked (is_dis
       (w ∙ ap (λ (u : List Spelled). phrase ++ less ∷ (inner ++ greater ∷ u)) (front_back is_gap more) ∙ sym
       (spread phrase inner (front is_gap more) (back is_gap more) less greater))
       (counted phrase inner (front is_gap more) less greater)
-      (InAngle phrase inner (front is_gap more) (back is_gap more) less greater q.0 l q.1 g (front_each is_gap more) (true_stops is_no_separator (back is_gap more) q.2)) i.1
+      (InAngle (record {
+        phrase = phrase;
+        less = less;
+        inner = inner;
+        greater = greater;
+        gaps = front is_gap more;
+        is_name = q.0;
+        opens = l;
+        is_inner = q.1;
+        closes = g;
+        are_gaps = front_each is_gap more;
+      }) (back is_gap more) (true_stops is_no_separator (back is_gap more) q.2)) i.1
   | inr i ↦ absurd (let f = i.1 in cc)
 ]
   where

@@ -30,6 +30,19 @@ EndsElement rest = Stops is_no_separator rest
 abbrev pub EndsGroup : List Spelled → Type 0
 EndsGroup rest = Stops is_no_comma rest
 
+-- name-addr: [phrase] "<" [obs-domain-list ":"] addr-spec ">", and the white space and comments after it
+pub record NameAddr : Type 0 where
+  pub phrase : List Spelled
+  pub less : Spelled
+  pub inner : List Spelled
+  pub greater : Spelled
+  pub gaps : List Spelled
+  pub is_name : is_display_name phrase ≡ true
+  pub opens : has_mark 60 less ≡ true
+  pub is_inner : is_inner_token inner ≡ true
+  pub closes : has_mark 62 greater ≡ true
+  pub are_gaps : Each is_gap gaps
+
 pub data IsElement : Element → List Spelled → List Spelled → Type 0 where
   Comma : (c : Spelled) (rest : List Spelled) → has_mark 44 c ≡ true → IsElement Empty (c ∷ []) rest
   Blank : (gaps rest : List Spelled) → IsRun is_gap gaps → EndsElement rest → IsElement Empty gaps rest
@@ -42,11 +55,10 @@ pub data IsElement : Element → List Spelled → List Spelled → Type 0 where
   -- addr-spec
   Bare : (spec rest : List Spelled) → is_addr_spec spec ≡ true → EndsElement rest
       → IsElement (Member (record { phrase = []; spec = spec; behind = spec })) spec rest
-  -- [phrase] "<" [obs-domain-list ":"] addr-spec ">"
-  InAngle : (phrase inner gaps rest : List Spelled) (less greater : Spelled) → is_display_name phrase ≡ true → has_mark 60 less ≡ true
-      → is_inner_token inner ≡ true
-      → has_mark 62 greater ≡ true → Each is_gap gaps → EndsElement rest
-      → IsElement (Member (record { phrase = phrase; spec = behind_route inner; behind = gaps })) (phrase ++ less ∷ (inner ++ greater ∷ gaps)) rest
+  -- name-addr
+  InAngle : (a : NameAddr) (rest : List Spelled) → EndsElement rest
+      → IsElement (Member (record { phrase = a.phrase; spec = behind_route a.inner; behind = a.gaps }))
+      (a.phrase ++ a.less ∷ (a.inner ++ a.greater ∷ a.gaps)) rest
 
 -- address = mailbox / group
 pub data Addressee : Type 0 where
@@ -59,13 +71,20 @@ pub data AreMailboxes : List Mailbox → List Element → Type 0 where
   EmptyPlace : (ms : List Mailbox) (es : List Element) → AreMailboxes ms es → AreMailboxes ms (Empty ∷ es)
   NextMailbox : (m : Mailbox) (ms : List Mailbox) (es : List Element) → AreMailboxes ms es → AreMailboxes (m ∷ ms) (Member m ∷ es)
 
+-- a group, and the elements between its ":" and its ";"
+pub record WrittenGroup : Type 0 where
+  pub phrase : List Spelled
+  pub mailboxes : List Mailbox
+  pub inner : List Element
+  pub are_mailboxes : AreMailboxes mailboxes inner
+
 -- obs-addr-list: places may be empty
 pub data AreAddressees : List Addressee → List Element → Type 0 where
   NoAddressees : AreAddressees [] []
   Passed : (who : List Addressee) (es : List Element) → AreAddressees who es → AreAddressees who (Empty ∷ es)
   NextOne : (m : Mailbox) (who : List Addressee) (es : List Element) → AreAddressees who es → AreAddressees (One m ∷ who) (Member m ∷ es)
-  NextGroup : (phrase : List Spelled) (ms : List Mailbox) (inner : List Element) (who : List Addressee) (es : List Element) → AreMailboxes ms inner
-      → AreAddressees who es → AreAddressees (Group phrase ms ∷ who) (Head phrase ∷ (inner ++ End ∷ es))
+  NextGroup : (g : WrittenGroup) (who : List Addressee) (es : List Element) → AreAddressees who es
+      → AreAddressees (Group g.phrase g.mailboxes ∷ who) (Head g.phrase ∷ (g.inner ++ End ∷ es))
 
 -- address-list: one or more mailboxes and groups
 pub record IsAddressList (who : List Addressee) (t : List ℕ) : Type 0 where

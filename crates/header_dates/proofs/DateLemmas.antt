@@ -28,11 +28,11 @@ known : {A B : Type 0} (o : Option A) (a : A) (r : List DatePiece) (f : A → Li
 known {A} o a r f e = ap (λ (x : Option A). then_read (with_rest x r) f) e
 
 day_read : (d : Day) (ps rest : List DatePiece) → IsDay d ps → day_in (ps ++ rest) ≡ Some (d, rest)
-day_read _ _ rest (DayMonthYear ds ms ys d m y e f g) =
-    known (number_in_digits 1 2 ds) d (Letters ms ∷ Digits ys ∷ rest) (λ n r. then_read (month_in r)
-    (λ o s. then_read (year_in s) (λ p t. Some (record { year = p; month = o; day = n }, t)))) e
-    ∙ known (month_of ms) m (Digits ys ∷ rest) (λ o s. then_read (year_in s) (λ p t. Some (record { year = p; month = o; day = d }, t))) f
-    ∙ known (year_of ys) y rest (λ p t. Some (record { year = p; month = m; day = d }, t)) g
+day_read _ _ rest (DayMonthYear d x) =
+    known (number_in_digits 1 2 x.day_text) d.day (Letters x.month_text ∷ Digits x.year_text ∷ rest) (λ n r. then_read (month_in r)
+    (λ o s. then_read (year_in s) (λ p t. Some (record { year = p; month = o; day = n }, t)))) x.day_is
+    ∙ known (month_of x.month_text) d.month (Digits x.year_text ∷ rest) (λ o s. then_read (year_in s) (λ p t. Some (record { year = p; month = o; day = d.day }, t))) x.month_is
+    ∙ known (year_of x.year_text) d.year rest (λ p t. Some (record { year = p; month = d.month; day = d.day }, t)) x.year_is
 
 clock_read : (c : Clock) (ps rest : List DatePiece) → IsClock c ps → colon_in rest ≡ None → clock_in (ps ++ rest) ≡ Some (c, rest)
 clock_read _ _ rest (HourMinute hs ms h m e f) n =
@@ -40,11 +40,12 @@ clock_read _ _ rest (HourMinute hs ms h m e f) n =
     (λ k s. then_read (number_in 2 2 s) (λ b t. then_read (second_in t) (λ d u. Some (record { hour = a; minute = b; second = d }, u))))) e
     ∙ known (number_in_digits 2 2 ms) m rest (λ b t. then_read (second_in t) (λ d u. Some (record { hour = h; minute = b; second = d }, u))) f
     ∙ ap (λ (o : Option (ℕ × List DatePiece)). then_read (second_behind o rest) (λ d u. Some (record { hour = h; minute = m; second = d }, u))) n
-clock_read _ _ rest (HourMinuteSecond hs ms ss h m s e f g) n =
-    known (number_in_digits 2 2 hs) h (Octet 58 ∷ Digits ms ∷ Octet 58 ∷ Digits ss ∷ rest) (λ a r. then_read (colon_in r)
-    (λ k s'. then_read (number_in 2 2 s') (λ b t. then_read (second_in t) (λ d u. Some (record { hour = a; minute = b; second = d }, u))))) e
-    ∙ known (number_in_digits 2 2 ms) m (Octet 58 ∷ Digits ss ∷ rest) (λ b t. then_read (second_in t) (λ d u. Some (record { hour = h; minute = b; second = d }, u))) f
-    ∙ known (number_in_digits 2 2 ss) s rest (λ d u. Some (record { hour = h; minute = m; second = d }, u)) g
+clock_read _ _ rest (HourMinuteSecond c x) n =
+    known (number_in_digits 2 2 x.hour_text) c.hour (Octet 58 ∷ Digits x.minute_text ∷ Octet 58 ∷ Digits x.second_text ∷ rest) (λ a r. then_read (colon_in r)
+    (λ k s. then_read (number_in 2 2 s) (λ b t. then_read (second_in t) (λ d u. Some (record { hour = a; minute = b; second = d }, u))))) x.hour_is
+    ∙ known (number_in_digits 2 2 x.minute_text) c.minute (Octet 58 ∷ Digits x.second_text ∷ rest)
+    (λ b t. then_read (second_in t) (λ d u. Some (record { hour = c.hour; minute = b; second = d }, u))) x.minute_is
+    ∙ known (number_in_digits 2 2 x.second_text) c.second rest (λ d u. Some (record { hour = c.hour; minute = c.minute; second = d }, u)) x.second_is
 
 zone_read : (z : ℤ) (ps : List DatePiece) → IsZone z ps → zone_in ps ≡ Some (z, [])
 zone_read _ _ (Offset c t z e) = ap (λ (o : Option ℤ). with_rest o []) e
@@ -73,10 +74,10 @@ is_no_comma (Signed c t) = true
 is_no_comma Other = true
 
 no_comma_in : (d : Day) (c : Clock) (z : ℤ) (x y w : List DatePiece) → IsDay d x → IsClock c y → IsZone z w → list_all is_no_comma (x ++ (y ++ w)) ≡ true
-no_comma_in _ _ _ _ _ _ (DayMonthYear ds ms ys d m y e f g) (HourMinute hs ns h n i j) (Offset s t z k) = refl
-no_comma_in _ _ _ _ _ _ (DayMonthYear ds ms ys d m y e f g) (HourMinute hs ns h n i j) (Named t) = refl
-no_comma_in _ _ _ _ _ _ (DayMonthYear ds ms ys d m y e f g) (HourMinuteSecond hs ns ss h n s i j k) (Offset b t z l) = refl
-no_comma_in _ _ _ _ _ _ (DayMonthYear ds ms ys d m y e f g) (HourMinuteSecond hs ns ss h n s i j k) (Named t) = refl
+no_comma_in _ _ _ _ _ _ (DayMonthYear d x) (HourMinute hs ns h n i j) (Offset s t z k) = refl
+no_comma_in _ _ _ _ _ _ (DayMonthYear d x) (HourMinute hs ns h n i j) (Named t) = refl
+no_comma_in _ _ _ _ _ _ (DayMonthYear d x) (HourMinuteSecond c y) (Offset s t z k) = refl
+no_comma_in _ _ _ _ _ _ (DayMonthYear d x) (HourMinuteSecond c y) (Named t) = refl
 
 comma_fails : (x y : List DatePiece) → list_all is_no_comma (x ++ Octet 44 ∷ y) ≡ false
 comma_fails [] y = refl
@@ -226,7 +227,7 @@ day_found ps d r e =
       whole = n.whole ∙ ap (λ (u : List DatePiece). Digits n.text ∷ u) (m.whole ∙ ap (λ (u : List DatePiece). Letters m.text ∷ u)
           (y.whole ∙ ap (λ (q : Day × List DatePiece). Digits y.text ∷ q.1) p));
       is = subst (λ (x : Day). IsDay x (Digits n.text ∷ Letters m.text ∷ Digits y.text ∷ [])) (ap (λ (q : Day × List DatePiece). q.0) p)
-          (DayMonthYear n.text m.text y.text a.value b.value c.value n.value_is m.value_is y.value_is);
+          (DayMonthYear made (record { day_text = n.text; month_text = m.text; year_text = y.text; day_is = n.value_is; month_is = m.value_is; year_is = y.value_is }));
     }
 
 record FoundClock (c : Clock) (ps r : List DatePiece) : Type 0 where
@@ -254,7 +255,8 @@ with_seconds hs ms h m n ps t u e f w g = by (colon_in t) refl g
         record {
           pieces = Digits hs ∷ Octet 58 ∷ Digits ms ∷ Octet 58 ∷ Digits s.text ∷ [];
           whole = w ∙ ap (λ (x : List DatePiece). Digits hs ∷ Octet 58 ∷ Digits ms ∷ x) (colon_found t q.0 q.1 k ∙ ap (λ (x : List DatePiece). Octet 58 ∷ x) s.whole);
-          is = HourMinuteSecond hs ms s.text h m n e f s.value_is;
+          is = HourMinuteSecond (record { hour = h; minute = m; second = n })
+              (record { hour_text = hs; minute_text = ms; second_text = s.text; hour_is = e; minute_is = f; second_is = s.value_is });
         }
 
 clock_found : (ps : List DatePiece) (c : Clock) (r : List DatePiece) → clock_in ps ≡ Some (c, r) → FoundClock c ps r

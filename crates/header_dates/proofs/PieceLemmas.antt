@@ -6,7 +6,7 @@ use Rattle.std.proofs.lemmas.List.{nil_from_length}
 use Rattle.text_words.specs.Cuts.{Each, IsRun, Stops, front, back}
 use Rattle.text_words.specs.Octets.{is_digit, is_alpha}
 use Rattle.text_words.proofs.CutLemmas.{front_back, front_each, back_stops}
-use Rattle.header_dates.specs.Dates.{DatePiece, Digits, Letters, Signed, Octet, Other, is_plus_or_minus, single_octet, joined, runs, pieces_in, pieces_of}
+use Rattle.header_dates.specs.Dates.{DatePiece, Digits, Letters, Signed, Octet, Other, is_plus_or_minus, single_octet, joined_piece, runs, pieces_in, pieces_of}
 use Rattle.header_tokens.specs.declared.token.Alphabet.TheVariants as alphabet
 use Rattle.header_tokens.specs.Tokens.{Spelled}
 use Rattle.header_dates.specs.reading.DateReading.{pieces_behind}
@@ -45,8 +45,8 @@ alone_letter c e = cond-false (is_digit c) _ _ (letter_no_digit c e) ∙ cond-tr
 alone_octet : (c : ℕ) → is_digit c ≡ false → is_alpha c ≡ false → single_octet c ≡ Octet c
 alone_octet c e f = cond-false (is_digit c) _ _ e ∙ cond-false (is_alpha c) _ _ f
 
-joined_digit : (c : ℕ) (ps : List DatePiece) → NoDigits ps → is_digit c ≡ true → joined c ps ≡ Digits (c ∷ []) ∷ ps
-unfolding joined
+joined_digit : (c : ℕ) (ps : List DatePiece) → NoDigits ps → is_digit c ≡ true → joined_piece c ps ≡ Digits (c ∷ []) ∷ ps
+unfolding joined_piece
 joined_digit c [] n e = ap (λ (p : DatePiece). p ∷ []) (alone_digit c e)
 joined_digit c (Digits t ∷ ps) n e = absurd n
 joined_digit c (Letters t ∷ ps) n e = cond-false (is_alpha c) _ _ (digit_no_letter c e) ∙ ap (λ (p : DatePiece). p ∷ Letters t ∷ ps) (alone_digit c e)
@@ -54,8 +54,8 @@ joined_digit c (Signed s t ∷ ps) n e = ap (λ (p : DatePiece). p ∷ Signed s 
 joined_digit c (Octet s ∷ ps) n e = ap (λ (p : DatePiece). p ∷ Octet s ∷ ps) (alone_digit c e)
 joined_digit c (Other ∷ ps) n e = ap (λ (p : DatePiece). p ∷ Other ∷ ps) (alone_digit c e)
 
-joined_letter : (c : ℕ) (ps : List DatePiece) → NoLetters ps → is_alpha c ≡ true → joined c ps ≡ Letters (c ∷ []) ∷ ps
-unfolding joined
+joined_letter : (c : ℕ) (ps : List DatePiece) → NoLetters ps → is_alpha c ≡ true → joined_piece c ps ≡ Letters (c ∷ []) ∷ ps
+unfolding joined_piece
 joined_letter c [] n e = ap (λ (p : DatePiece). p ∷ []) (alone_letter c e)
 joined_letter c (Digits t ∷ ps) n e = cond-false (is_digit c) _ _ (letter_no_digit c e) ∙ cond-false (is_plus_or_minus c) _ _ (letter_no_sign c e)
     ∙ ap (λ (p : DatePiece). p ∷ Digits t ∷ ps) (alone_letter c e)
@@ -64,8 +64,8 @@ joined_letter c (Signed s t ∷ ps) n e = ap (λ (p : DatePiece). p ∷ Signed s
 joined_letter c (Octet s ∷ ps) n e = ap (λ (p : DatePiece). p ∷ Octet s ∷ ps) (alone_letter c e)
 joined_letter c (Other ∷ ps) n e = ap (λ (p : DatePiece). p ∷ Other ∷ ps) (alone_letter c e)
 
-joined_octet : (c : ℕ) (ps : List DatePiece) → is_digit c ≡ false → is_alpha c ≡ false → NoDigits ps ⊎ (is_plus_or_minus c ≡ false) → joined c ps ≡ Octet c ∷ ps
-unfolding joined
+joined_octet : (c : ℕ) (ps : List DatePiece) → is_digit c ≡ false → is_alpha c ≡ false → NoDigits ps ⊎ (is_plus_or_minus c ≡ false) → joined_piece c ps ≡ Octet c ∷ ps
+unfolding joined_piece
 joined_octet c [] d a n = ap (λ (p : DatePiece). p ∷ []) (alone_octet c d a)
 joined_octet c (Digits t ∷ ps) d a (inl n) = absurd n
 joined_octet c (Digits t ∷ ps) d a (inr n) = cond-false (is_digit c) _ _ d ∙ cond-false (is_plus_or_minus c) _ _ n ∙ ap (λ (p : DatePiece). p ∷ Digits t ∷ ps) (alone_octet c d a)
@@ -92,8 +92,8 @@ alone_not_letters c ps e = by (is_digit c) (is_alpha c) e
     by false true h = absurd cc
     by false false h = tt
 
-begins_no_digits : (c : ℕ) (ps : List DatePiece) → is_digit c ≡ false → NoDigits (joined c ps)
-unfolding joined
+begins_no_digits : (c : ℕ) (ps : List DatePiece) → is_digit c ≡ false → NoDigits (joined_piece c ps)
+unfolding joined_piece
 begins_no_digits c [] e = alone_not_digits c [] e
 begins_no_digits c (Digits t ∷ ps) e = by (is_digit c) (is_plus_or_minus c) e (alone_not_digits c (Digits t ∷ ps) e)
   where
@@ -110,8 +110,8 @@ begins_no_digits c (Signed s t ∷ ps) e = alone_not_digits c (Signed s t ∷ ps
 begins_no_digits c (Octet s ∷ ps) e = alone_not_digits c (Octet s ∷ ps) e
 begins_no_digits c (Other ∷ ps) e = alone_not_digits c (Other ∷ ps) e
 
-begins_no_letters : (c : ℕ) (ps : List DatePiece) → is_alpha c ≡ false → NoLetters (joined c ps)
-unfolding joined
+begins_no_letters : (c : ℕ) (ps : List DatePiece) → is_alpha c ≡ false → NoLetters (joined_piece c ps)
+unfolding joined_piece
 begins_no_letters c [] e = alone_not_letters c [] e
 begins_no_letters c (Digits t ∷ ps) e = by (is_digit c) (is_plus_or_minus c) (alone_not_letters c (Digits t ∷ ps) e)
   where
@@ -141,20 +141,20 @@ runs_no_letters (c ∷ t) s = begins_no_letters c (runs t) s
 -- ---- the pieces of an atom that begins with a run
 
 pub digit_run : (u a : List ℕ) → IsRun is_digit u → Stops is_digit a → runs (u ++ a) ≡ Digits u ∷ runs a
-unfolding runs joined
+unfolding runs joined_piece
 digit_run [] a r s = absurd (r.1 refl)
 digit_run (c ∷ []) a r s = joined_digit c (runs a) (runs_no_digits a s) r.0.0
-digit_run (c ∷ d ∷ u) a r s = ap (joined c) (digit_run (d ∷ u) a (r.0.1, λ e. absurd cc) s) ∙ cond-true (is_digit c) _ _ r.0.0
+digit_run (c ∷ d ∷ u) a r s = ap (joined_piece c) (digit_run (d ∷ u) a (r.0.1, λ e. absurd cc) s) ∙ cond-true (is_digit c) _ _ r.0.0
 
 pub letter_run : (u a : List ℕ) → IsRun is_alpha u → Stops is_alpha a → runs (u ++ a) ≡ Letters u ∷ runs a
-unfolding runs joined
+unfolding runs joined_piece
 letter_run [] a r s = absurd (r.1 refl)
 letter_run (c ∷ []) a r s = joined_letter c (runs a) (runs_no_letters a s) r.0.0
-letter_run (c ∷ d ∷ u) a r s = ap (joined c) (letter_run (d ∷ u) a (r.0.1, λ e. absurd cc) s) ∙ cond-true (is_alpha c) _ _ r.0.0
+letter_run (c ∷ d ∷ u) a r s = ap (joined_piece c) (letter_run (d ∷ u) a (r.0.1, λ e. absurd cc) s) ∙ cond-true (is_alpha c) _ _ r.0.0
 
 pub signed_run : (c : ℕ) (u a : List ℕ) → is_plus_or_minus c ≡ true → IsRun is_digit u → Stops is_digit a → runs (c ∷ (u ++ a)) ≡ Signed c u ∷ runs a
-unfolding runs joined
-signed_run c u a e r s = ap (joined c) (digit_run u a r s) ∙ cond-false (is_digit c) _ _ (sign_no_digit c e) ∙ cond-true (is_plus_or_minus c) _ _ e
+unfolding runs joined_piece
+signed_run c u a e r s = ap (joined_piece c) (digit_run u a r s) ∙ cond-false (is_digit c) _ _ (sign_no_digit c e) ∙ cond-true (is_plus_or_minus c) _ _ e
 
 -- an octet that isn't joined to what follows
 pub octet_run : (c : ℕ) (a : List ℕ) → is_digit c ≡ false → is_alpha c ≡ false → Stops is_digit a ⊎ (is_plus_or_minus c ≡ false) → runs (c ∷ a) ≡ Octet c ∷ runs a

@@ -35,19 +35,19 @@ single_octet c =
     else Octet c
 
 -- an octet, and the pieces after it
-unfoldable pub joined : ℕ → List DatePiece → List DatePiece
-joined c [] = single_octet c ∷ []
-joined c (Digits ds ∷ ps) =
+unfoldable pub joined_piece : ℕ → List DatePiece → List DatePiece
+joined_piece c [] = single_octet c ∷ []
+joined_piece c (Digits ds ∷ ps) =
     if is_digit c then Digits (c ∷ ds) ∷ ps
     else if is_plus_or_minus c then Signed c ds ∷ ps
     else single_octet c ∷ Digits ds ∷ ps
-joined c (Letters ls ∷ ps) = if is_alpha c then Letters (c ∷ ls) ∷ ps else single_octet c ∷ Letters ls ∷ ps
-joined c (p ∷ ps) = single_octet c ∷ p ∷ ps
+joined_piece c (Letters ls ∷ ps) = if is_alpha c then Letters (c ∷ ls) ∷ ps else single_octet c ∷ Letters ls ∷ ps
+joined_piece c (p ∷ ps) = single_octet c ∷ p ∷ ps
 
 -- the pieces of an atom
 unfoldable pub runs : List ℕ → List DatePiece
 runs [] = []
-runs (c ∷ t) = joined c (runs t)
+runs (c ∷ t) = joined_piece c (runs t)
 
 abbrev pub pieces_in : Kind → List ℕ → List DatePiece
 pieces_in kind.Atom t = runs t
@@ -131,17 +131,34 @@ named_zone t =
 
 -- ---- the productions
 
+-- a day's texts
+pub record DayTexts (d : Day) : Type 0 where
+  pub day_text : List ℕ
+  pub month_text : List ℕ
+  pub year_text : List ℕ
+  pub day_is : number_in_digits 1 2 day_text ≡ Some d.day
+  pub month_is : month_of month_text ≡ Some d.month
+  pub year_is : year_of year_text ≡ Some d.year
+
 -- date = day month year
 pub data IsDay : Day → List DatePiece → Type 0 where
-  DayMonthYear : (ds ms ys : List ℕ) (d m y : ℕ) → number_in_digits 1 2 ds ≡ Some d → month_of ms ≡ Some m → year_of ys ≡ Some y
-      → IsDay (record { year = y; month = m; day = d }) (Digits ds ∷ Letters ms ∷ Digits ys ∷ [])
+  DayMonthYear : (d : Day) (texts : DayTexts d) → IsDay d (Digits texts.day_text ∷ Letters texts.month_text ∷ Digits texts.year_text ∷ [])
+
+-- the texts of a time of day that has its second
+pub record ClockTexts (c : Clock) : Type 0 where
+  pub hour_text : List ℕ
+  pub minute_text : List ℕ
+  pub second_text : List ℕ
+  pub hour_is : number_in_digits 2 2 hour_text ≡ Some c.hour
+  pub minute_is : number_in_digits 2 2 minute_text ≡ Some c.minute
+  pub second_is : number_in_digits 2 2 second_text ≡ Some c.second
 
 -- time-of-day = hour ":" minute [ ":" second ]
 pub data IsClock : Clock → List DatePiece → Type 0 where
   HourMinute : (hs ms : List ℕ) (h m : ℕ) → number_in_digits 2 2 hs ≡ Some h → number_in_digits 2 2 ms ≡ Some m
       → IsClock (record { hour = h; minute = m; second = 0 }) (Digits hs ∷ Octet 58 ∷ Digits ms ∷ [])
-  HourMinuteSecond : (hs ms ss : List ℕ) (h m s : ℕ) → number_in_digits 2 2 hs ≡ Some h → number_in_digits 2 2 ms ≡ Some m → number_in_digits 2 2 ss ≡ Some s
-      → IsClock (record { hour = h; minute = m; second = s }) (Digits hs ∷ Octet 58 ∷ Digits ms ∷ Octet 58 ∷ Digits ss ∷ [])
+  HourMinuteSecond : (c : Clock) (texts : ClockTexts c)
+      → IsClock c (Digits texts.hour_text ∷ Octet 58 ∷ Digits texts.minute_text ∷ Octet 58 ∷ Digits texts.second_text ∷ [])
 
 -- zone = ( "+" / "-" ) 4DIGIT / obs-zone
 pub data IsZone : ℤ → List DatePiece → Type 0 where

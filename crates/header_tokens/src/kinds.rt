@@ -15,6 +15,7 @@ fn mark_of(token: &Token<'_>) -> u8
     }
 }
 
+/// The first octet; 0 where there is none.
 pub fn first_octet(text: &[u8]) -> u8
     ensures { result ≡ kinds.first_octet text.now }
 {

@@ -2,15 +2,20 @@
 //! is written as encoded words.
 #![tactic(auto)]
 
+// Charsets and encodings.
 pub mod base64_text;
 pub mod charset;
-pub mod encoded_word;
-pub mod laws;
 pub mod quoted_printable;
 pub mod quoted_text;
 pub mod transfer;
+
+// Encoded words.
+pub mod encoded_word;
 pub mod word_list;
 pub mod words;
+
+// Laws.
+pub mod laws;
 
 pub use charset::decode_charset;
 pub use transfer::{decode_transfer, transfer_len};

@@ -1,7 +1,7 @@
 -- The texts of responses (RFC 9112 section 4).
 use Rattle.std.specs.Prelude.{◌++◌, ◌&&◌, ℕ, Bool, List, [], length, nat_lt, Option, Some, None, if◌then◌else◌, codes}
 use Rattle.std.specs.List.{list_all}
-use Rattle.http_service.specs.Refusals.{status_of}
+use Rattle.http_service.specs.Refusals.{refusal_status}
 use Rattle.http_service.specs.Responses.{response_head, is_media_octet}
 use Rattle.http_service.specs.declared.refusal.Refusal.{Refusal}
 use Rattle.http_door.specs.Asking.{octet_stream}
@@ -12,7 +12,7 @@ http_response status media body = response_head status (length body) media ++ bo
 
 -- a refusal without a body
 abbrev pub refusal_text : Refusal → List ℕ
-refusal_text refusal = response_head (status_of refusal) 0 []
+refusal_text refusal = response_head (refusal_status refusal) 0 []
 
 -- (RFC 8259 section 11)
 abbrev pub json_media : List ℕ

@@ -39,7 +39,8 @@ compared-more difference next one other at within_one within_other zero same so_
       ∙ ap (λ (x : ℕ). take at other ++ x ∷ []) parts.1
       ∙ sym (take_more other at 0 within_other);
   same = λ is.
-      let here : get_or one at 0 ≡ get_or other at 0 = sym (get_or-take (at + 1) one at 0 (omega arith)) ∙ ap (λ (l : List ℕ). get_or l at 0) is ∙ get_or-take (at + 1) other at 0 (omega arith) in
+      let here : get_or one at 0 ≡ get_or other at 0 =
+      sym (get_or-take (at + 1) one at 0 (omega arith)) ∙ ap (λ (l : List ℕ). get_or l at 0) is ∙ get_or-take (at + 1) other at 0 (omega arith) in
       let before : take at one ≡ take at other = sym (take-take at (at + 1) one (omega arith)) ∙ ap (take at) is ∙ take-take at (at + 1) other (omega arith) in
       same (so_far.same before) here;
 }

@@ -1,12 +1,15 @@
 //! What a request's method and target ask for, and whether its token is the gateway's.
 #![tactic(auto)]
 
+// Paths and their parts.
 mod accept;
 mod cutting;
 mod parts;
+mod router;
+
+// Routes and tokens.
 mod request;
 mod route;
-mod router;
 mod token;
 
 pub use request::Request;

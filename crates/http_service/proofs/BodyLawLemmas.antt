@@ -161,13 +161,13 @@ body_stands limit cs (m ∷ ms) due started after last trailer rest e events ear
     let same = one_line started m.line after ((m.data_octets ++ 13 ∷ 10 ∷ []) ++ (body_text ms last trailer ++ rest)) size (length m.data_octets) is
     (All-head IsChunk m ms all).line (whole ∙ regroup m.line (m.data_octets ++ 13 ∷ 10 ∷ []) (texts_of ms) (last ++ trailer) rest) in
     absurd (omega (arith, over, within, same.1, length-append m.data_octets (content ms)))
-body_stands limit cs [] due started after last trailer rest e events earlier all is_last is_trailer within few whole ends (InChunk line read size is said some keeps fits stops) =
-    let same = line_there line (read ++ after) last (trailer ++ rest) size 0 said is_last
+body_stands limit cs [] due started after last trailer rest e events earlier all is_last is_trailer within few whole ends (InChunk line read size is begins stops) =
+    let same = line_there line (read ++ after) last (trailer ++ rest) size 0 begins.said is_last
     (sym (append_assoc line read after) ∙ ap (λ (l : List ℕ). l ++ after) (sym is) ∙ whole ∙ append_assoc last trailer rest) in
-    absurd (omega (arith, same, some))
+    absurd (omega (arith, same, begins.some))
 body_stands limit cs (m ∷ ms) due started after last trailer rest e events earlier all is_last is_trailer within few whole ends
-    (InChunk line read size is said some keeps fits stops) =
-    let same = one_line line m.line (read ++ after) ((m.data_octets ++ 13 ∷ 10 ∷ []) ++ (body_text ms last trailer ++ rest)) size (length m.data_octets) said
+    (InChunk line read size is begins stops) =
+    let same = one_line line m.line (read ++ after) ((m.data_octets ++ 13 ∷ 10 ∷ []) ++ (body_text ms last trailer ++ rest)) size (length m.data_octets) begins.said
     (All-head IsChunk m ms all).line
     (sym (append_assoc line read after) ∙ ap (λ (l : List ℕ). l ++ after) (sym is) ∙ whole
     ∙ regroup m.line (m.data_octets ++ 13 ∷ 10 ∷ []) (texts_of ms) (last ++ trailer) rest) in
@@ -181,7 +181,7 @@ body_stands limit cs (m ∷ ms) due started after last trailer rest e events ear
     let same = line_there started after m.line ((m.data_octets ++ 13 ∷ 10 ∷ []) ++ (body_text ms last trailer ++ rest)) 0 (length m.data_octets) is is_chunk.line
     (whole ∙ regroup m.line (m.data_octets ++ 13 ∷ 10 ∷ []) (texts_of ms) (last ++ trailer) rest) in
     absurd (omega (arith, same, is_chunk.some))
-body_stands limit cs more due started after last trailer rest e events earlier all is_last is_trailer within few whole ends (AtEnd line section is said is_section dues memory) =
+body_stands limit cs more due started after last trailer rest e events earlier all is_last is_trailer within few whole ends (AtEnd end dues memory) =
     inr memory
 
 -- an event that gives none

@@ -68,7 +68,8 @@ octet_breaks es octet error.Memory (earlier, takes, ends, stops) = (Octets 1, []
 
 pub octet_differs : {before : List ℕ} (after : List ℕ) (es : List Event) (octet c : ℕ) → FillsTo 1 before after (Ok tt) es → c ≢ octet → (more : List ℕ) → after ≡ c ∷ more
     → Breaks (NoOctet octet) before after error.BadHead es
-octet_differs after es octet c (takes, enough, few) other more is = (Octets 1, [], es, takes, inl (refl, λ short. absurd (omega (arith, short, ap length is))), (refl, (refl, c, more, is, other)))
+octet_differs after es octet c (takes, enough, few) other more is =
+    (Octets 1, [], es, takes, inl (refl, λ short. absurd (omega (arith, short, ap length is))), (refl, (refl, c, more, is, other)))
 
 -- the data was read, but not the CR after it
 pub return_stops : {a b c octets : List ℕ} {xs : List Event} {e : HttpError} (ys : List Event) (size : ℕ) → Takes Nothing octets a b xs → length octets ≡ size
@@ -202,7 +203,8 @@ chunk_stops {a} {b} limit body keeps over count c size e ys kept few within some
       append_assoc (texts_of chunks) line text,
       omega (arith, fits),
       subst (λ (n : ℕ). n ≤ MAX_EXCESS_OCTETS) so kept.lines,
-      InChunk line text size refl said (omega (arith, some)) (lines_kept chunks line over count so long few) fits stops,
+      InChunk line text size refl
+          (record { said = said; some = omega (arith, some); few = lines_kept chunks line over count so long few; fits = fits }) stops,
     ))
 
 -- a chunk more
@@ -261,7 +263,7 @@ body_memory {xs = xs} limit body over count c ys keeps (chunks, line, all, takes
     append_assoc (texts_of chunks) line trailer,
     subst (λ (l : List ℕ). length l ≤ limit) is keeps.octets,
     subst (λ (n : ℕ). n ≤ MAX_EXCESS_OCTETS) so keeps.lines,
-    AtEnd line trailer refl said is_trailer refl refl,
+    AtEnd (record { last = line; trailer = trailer; whole = refl; is_last = said; is_trailer = is_trailer }) refl refl,
   ),
 )
 

@@ -122,7 +122,8 @@ not_both octets (inl (never, not_cut)) (none, inl (more, h, reads)) = never more
 not_both octets (inl (never, not_cut)) (none, inr cut) = not_cut cut
 not_both octets (inr (h, rest, reads, no_body)) (none, may) = none h rest reads
 
-pub one_line : (line other rest more : List ℕ) (size count : ℕ) → IsLine line size → IsLine other count → line ++ rest ≡ other ++ more → (line ≡ other) × (size ≡ count) × (rest ≡ more)
+pub one_line : (line other rest more : List ℕ) (size count : ℕ) → IsLine line size → IsLine other count → line ++ rest ≡ other ++ more → (line ≡ other) × (size ≡ count)
+    × (rest ≡ more)
 one_line line other rest more size count (l, is_l, printed_l, says_l, short_l) (k, is_k, printed_k, says_k, short_k) whole =
     let same = chunk_line_unique (line ++ rest) l k rest more (is_l, ap (λ (t : List ℕ). t ++ rest) printed_l) (is_k, whole ∙ ap (λ (t : List ℕ). t ++ more) printed_k) in
     (printed_l ∙ ap print_chunk_line same.0 ∙ sym printed_k, says_l ∙ ap chunk_size same.0 ∙ sym says_k, same.1)

@@ -69,7 +69,8 @@ data_outside size error.FrontFault out = refl
 data_outside size error.Memory out = refl
 
 -- lines that haven't ended, and aren't as long as they may be, are missing
-pub lines_missing : (lines : Lines) (octets : List ℕ) → run (start lines) (window octets) ≢ Ended → length (window octets) < MAX_HEAD_OCTETS → IsMissing (LinesOf (lines_of lines)) octets
+pub lines_missing : (lines : Lines) (octets : List ℕ) → run (start lines) (window octets) ≢ Ended → length (window octets) < MAX_HEAD_OCTETS → IsMissing
+    (LinesOf (lines_of lines)) octets
 lines_missing lines octets not_ended short =
     let same = short_window octets short in
     (no_end lines octets (λ is. not_ended (ap (run (start lines)) same ∙ is)), omega (arith, short, ap length same))
@@ -126,7 +127,8 @@ pub lines_memory : {before now : List ℕ} {es : List Event} (lines : Lines) (at
 lines_memory {now = now} {es = es} lines at C (earlier, takes, stops) cause = (LinesOf (lines_of lines), [], earlier, takes, stop_ends lines at now es earlier stops, cause)
 
 -- no line was found
-pub line_refused : {before now : List ℕ} (es : List Event) (at : Stop) (e : HttpError) → IsStopped of.ChunkLine at now → ReadsLines of.ChunkLine before now (Ok at) es → ParsesLine (window now) (Err e)
+pub line_refused : {before now : List ℕ} (es : List Event) (at : Stop) (e : HttpError) → IsStopped of.ChunkLine at now → ReadsLines of.ChunkLine before now (Ok at) es → ParsesLine
+    (window now) (Err e)
     → Breaks NoLine before now e es
 line_refused es at error.BadHead stopped reads never = lines_malformed of.ChunkLine at NoLine stopped reads (refl, (refl, inl never))
 line_refused es at error.HeadTooLarge stopped reads parses = absurd parses
@@ -156,7 +158,8 @@ line_short {now = now} (earlier, takes, (is, (no_last, short))) parses =
     (LinesOf LineOfChunk, [], earlier, takes, (is, (no_last, short)), (refl, (refl, all.0, all.1)))
 
 -- no trailer section was found
-pub trailer_not_read : {before now : List ℕ} (es : List Event) (at : Stop) (e : HttpError) → IsStopped of.Trailer at now → ReadsLines of.Trailer before now (Ok at) es → ParsesTrailer (window now) (Err e)
+pub trailer_not_read : {before now : List ℕ} (es : List Event) (at : Stop) (e : HttpError) → IsStopped of.Trailer at now → ReadsLines of.Trailer before now (Ok at) es
+    → ParsesTrailer (window now) (Err e)
     → Breaks NoTrailer before now e es
 trailer_not_read es at error.BadHead stopped reads never = lines_malformed of.Trailer at NoTrailer stopped reads (refl, (refl, inl never))
 trailer_not_read es at error.HeadTooLarge stopped reads parses = absurd parses
@@ -184,7 +187,8 @@ trailer_short {now = now} (earlier, takes, (is, (no_last, short))) parses =
     (LinesOf TrailerLines, [], earlier, takes, (is, (no_last, short)), (refl, (refl, all.0, all.1)))
 
 -- no head was found
-pub head_refused : {before now : List ℕ} (es : List Event) (at : Stop) (e : HttpError) → IsStopped of.Head at now → ReadsLines of.Head before now (Ok at) es → ParsesHead (window now) (Err e)
+pub head_refused : {before now : List ℕ} (es : List Event) (at : Stop) (e : HttpError) → IsStopped of.Head at now → ReadsLines of.Head before now (Ok at) es → ParsesHead
+    (window now) (Err e)
     → Breaks NoHead before now e es
 head_refused es at error.BadHead stopped reads malformed = lines_malformed of.Head at NoHead stopped reads (refl, refl, malformed)
 head_refused es at error.HeadTooLarge stopped reads parses = absurd parses

@@ -56,6 +56,21 @@ pub data ChunkStops (size : ℕ) (due : Due) (started rest : List ℕ) (e : Http
   AtFeed : (octets : List ℕ) → started ≡ octets ++ carriage_return ∷ [] → length octets ≡ size → OctetStops line_feed due rest e
       → ChunkStops size due started rest e
 
+-- The line of a chunk after these ones. Neither the lines nor the data pass what they may have.
+pub record BeginsChunk (limit : ℕ) (chunks : List Chunk) (line : List ℕ) (size : ℕ) : Type 0 where
+  pub said : IsLine line size
+  pub some : 0 < size
+  pub few : excess_of chunks + excess line ≤ MAX_EXCESS_OCTETS
+  pub fits : length (content chunks) + size ≤ limit
+
+-- a body's end: last-chunk trailer-section CRLF
+pub record EndsBody (text : List ℕ) : Type 0 where
+  pub last : List ℕ
+  pub trailer : List ℕ
+  pub whole : text ≡ last ++ trailer
+  pub is_last : IsLine last 0
+  pub is_trailer : IsTrailer trailer
+
 -- Why a body isn't read after these whole chunks, where this was read after them. At a chunk's line it is seen first whether
 -- the lines are too long taken together, and then whether the data would pass the limit.
 pub data BodyStops (limit : ℕ) (chunks : List Chunk) (due : Due) (started rest : List ℕ) (e : HttpError) : Type 0 where
@@ -64,11 +79,10 @@ pub data BodyStops (limit : ℕ) (chunks : List Chunk) (due : Due) (started rest
       → BodyStops limit chunks due started rest e
   AtLimit : (size : ℕ) → IsLine started size → excess_of chunks + excess started ≤ MAX_EXCESS_OCTETS → limit < length (content chunks) + size
       → due ≡ Nothing → e ≡ TooLarge limit → BodyStops limit chunks due started rest e
-  InChunk : (line more : List ℕ) (size : ℕ) → started ≡ line ++ more → IsLine line size → 0 < size → excess_of chunks + excess line ≤ MAX_EXCESS_OCTETS
-      → length (content chunks) + size ≤ limit → ChunkStops size due more rest e → BodyStops limit chunks due started rest e
-  AtTrailer : IsLine started 0 → TrailerStops due rest e → BodyStops limit chunks due started rest e
-  AtEnd : (line trailer : List ℕ) → started ≡ line ++ trailer → IsLine line 0 → IsTrailer trailer → due ≡ Nothing → e ≡ Memory
+  InChunk : (line more : List ℕ) (size : ℕ) → started ≡ line ++ more → BeginsChunk limit chunks line size → ChunkStops size due more rest e
       → BodyStops limit chunks due started rest e
+  AtTrailer : IsLine started 0 → TrailerStops due rest e → BodyStops limit chunks due started rest e
+  AtEnd : EndsBody started → due ≡ Nothing → e ≡ Memory → BodyStops limit chunks due started rest e
 
 -- the same, in all that was read
 abbrev pub ChunksStop : ℕ → Due → List ℕ → List ℕ → HttpError → Type 0

@@ -3,10 +3,10 @@ use Rattle.std.specs.Prelude.{ℕ}
 use Rattle.http_service.specs.declared.refusal.Refusal.{Refusal}
 use Rattle.http_service.specs.declared.refusal.Refusal.TheVariants as refusal
 
-abbrev pub status_of : Refusal → ℕ
-status_of refusal.BadRequest = 400
-status_of refusal.Unauthorized = 401
-status_of refusal.NotFound = 404
-status_of refusal.MethodNotAllowed = 405
-status_of refusal.HeadTooLarge = 431
-status_of refusal.Unavailable = 503
+abbrev pub refusal_status : Refusal → ℕ
+refusal_status refusal.BadRequest = 400
+refusal_status refusal.Unauthorized = 401
+refusal_status refusal.NotFound = 404
+refusal_status refusal.MethodNotAllowed = 405
+refusal_status refusal.HeadTooLarge = 431
+refusal_status refusal.Unavailable = 503

@@ -1,22 +1,31 @@
 //! HTTP/1.x at a server's edge (RFC 9112): heads of requests, bodies, and responses.
 #![tactic(auto)]
 
+// Octets and lines that are read.
+mod error;
+mod filling;
+mod line_reading;
+mod lines;
+
+// Heads.
+mod cut_target;
+mod fields;
+mod head;
+mod target;
+
+// Bodies.
 mod body;
 mod chunk_lines;
 mod chunks;
-mod cut_target;
-mod error;
-mod fields;
-mod filling;
-mod head;
-pub mod laws;
-mod line_reading;
-mod lines;
+
+// Responses.
 mod media;
 mod refusal;
 mod response;
 mod response_text;
-mod target;
+
+// Laws.
+pub mod laws;
 
 pub use body::read_body;
 pub use chunks::{FREE_LINE_OCTETS, MAX_EXCESS_OCTETS};

@@ -1,7 +1,7 @@
 // Heads of refusals, which are made without memory.
 ghost use Rattle.std.specs.Prelude.{◌≡◌, ℕ, List};
 ghost use Rattle.http_service.specs.Responses.{response_head};
-ghost use Rattle.http_service.specs.Refusals.{status_of};
+ghost use Rattle.http_service.specs.Refusals.{refusal_status};
 
 /// A refusal whose response has no body.
 #[derive(Clone, Copy, Debug, PartialEq, Eq)]
@@ -22,7 +22,7 @@ pub enum Refusal {
 
 /// The head of the refusal's response, its empty line with it. It takes no memory.
 pub fn refusal_head(refusal: Refusal) -> &'static [u8]
-    ensures { (media : List ℕ) → result.now ≡ response_head (status_of refusal) 0 media }
+    ensures { (media : List ℕ) → result.now ≡ response_head (refusal_status refusal) 0 media }
 {
     match refusal {
         Refusal::BadRequest =>

@@ -37,6 +37,7 @@ fn time_octet(at: u8, c: u16) -> bool
     }
 }
 
+/// Between the quote and the month: what an octet does.
 fn day_rule(at: u8, c: u16) -> Move<Sym>
     ensures { result ≡ rules.day_rule at c }
 {
@@ -51,6 +52,7 @@ fn day_rule(at: u8, c: u16) -> Move<Sym>
     }
 }
 
+/// After the month: what an octet does.
 pub fn time_rule(at: u8, c: u16) -> Move<Sym>
     ensures { result ≡ rules.time_rule at c }
 {

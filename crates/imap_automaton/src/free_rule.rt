@@ -27,6 +27,7 @@ fn free_end(pending: Pending) -> Move<Sym>
     }
 }
 
+/// Text with literals, by what stands of the count of one: what an octet does.
 pub fn text_rule(pending: Pending, c: u16) -> Move<Sym>
     requires { IsTrue (PendFits pending) }
     ensures { result ≡ rules.text_rule pending c }

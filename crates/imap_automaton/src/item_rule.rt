@@ -13,6 +13,7 @@ pub const NUMBER_DIGITS: u8 = 10;
 /// A word of an item, from its first octet on.
 const ITEM_START: Sym = Sym::Word(Place::Item, Key::Uid, 0);
 
+/// A number from 1 to 2^32 - 1, of which these digits came: what an octet does.
 pub fn number_rule(value: u32, digits: u8, c: u16) -> Move<Sym>
     requires { IsTrue (ItemFits (Item.Number value digits)) }
     ensures { result ≡ rules.number_rule value digits c }
@@ -37,6 +38,7 @@ pub fn number_rule(value: u32, digits: u8, c: u16) -> Move<Sym>
 /// Digits of a long number.
 const LONG_DIGITS: u8 = 19;
 
+/// A number up to 2^63 - 1, of which these digits came: what an octet does.
 pub fn long_rule(value: u64, digits: u8, c: u16) -> Move<Sym>
     requires { IsTrue (ItemFits (Item.Long value digits)) }
     ensures { result ≡ rules.long_rule value digits c }

@@ -1,20 +1,25 @@
 //! A pushdown automaton that recognises the formal syntax of a store's responses octet by octet, in fixed memory.
 #![tactic(auto)]
 
+// Symbols.
+mod sym;
+
+// Their rules, from lines inwards.
 mod date_rule;
 mod folder_rule;
 mod free_rule;
-mod grammar;
 mod item_name_rule;
 mod item_rule;
 mod line_rule;
 mod names_rule;
-mod runs;
 mod set_rule;
 mod string_rule;
-mod sym;
 mod value_rule;
 mod word_rule;
+
+// The grammar.
+mod grammar;
+mod runs;
 
 pub use grammar::LIMIT;
 pub use imap_keywords::{Key, Pending, Phrase, Place};

@@ -61,6 +61,7 @@ fn untagged_rule(c: u16) -> Move<Sym>
     }
 }
 
+/// The number that a line begins with, of which these digits came: what an octet does.
 pub fn sequence_rule(value: u32, digits: u8, c: u16) -> Move<Sym>
     ensures { result ≡ rules.sequence_rule value digits c }
 {

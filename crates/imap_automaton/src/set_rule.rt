@@ -27,6 +27,7 @@ pub fn words_more(c: u16) -> Move<Sym>
     }
 }
 
+/// Words up to the end of the line: what an octet does.
 #[inline(never)]
 pub fn words_rule(words: &Words, c: u16) -> Move<Sym>
     ensures { result ≡ rules.words_rule words.now c }
@@ -86,6 +87,7 @@ fn set_number(value: u32, digits: u8, second: bool, c: u16) -> Move<Sym>
     }
 }
 
+/// VANISHED with its set of UIDs: what an octet does.
 #[inline(never)]
 pub fn set_rule(set: &Set, c: u16) -> Move<Sym>
     requires { IsTrue (SetFits set.now) }

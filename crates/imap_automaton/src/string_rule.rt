@@ -27,6 +27,7 @@ pub fn flat_start(c: u16) -> Option<Sym>
     }
 }
 
+/// The symbol in place of the one before it; the octet is wrong where there is none.
 pub fn alone(first: Option<Sym>) -> Move<Sym>
     ensures { result ≡ rules.alone first }
 {

@@ -66,7 +66,8 @@ only_bye (Untagged status.Bye k) e is = cc
 only_bye (Untagged status.Preauth k) e is = absurd (cc is)
 only_bye _ e is = absurd (cc is)
 
-pub greeted : {es : List Event} (after : Octets) (up : Bool) (w : Response) (says : Result Bool LinkEnd) → greeting_says w ≡ says → ReadsResponse 0 true up nothing_given after (Ok w) es
+pub greeted : {es : List Event} (after : Octets) (up : Bool) (w : Response) (says : Result Bool LinkEnd) → greeting_says w ≡ says → ReadsResponse 0 true up nothing_given after
+    (Ok w) es
     → Greets after up says es
 greeted after up w (Ok preauth) is r =
     record {

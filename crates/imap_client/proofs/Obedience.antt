@@ -110,7 +110,7 @@ obeyed_so_far {plan} {life} octets (Then {xs} {mid} {after} {es} {fs} command x 
 
 -- ---- its end
 
--- Ok, a lost link or want of memory
+-- Ok, a lost link or out of memory
 abbrev pub EndsWell : Result (Unit {0}) LinkEnd → Type 0
 EndsWell result = (result ≡ Ok tt) ⊎ (result ≡ Err end.Lost) ⊎ (result ≡ Err end.Memory)
 

@@ -62,8 +62,8 @@ folder_validity (Some f) = f.validity
 folder_validity None = 0
 
 -- another validity: it is another folder
-abbrev pub selected_stage : ℕ → ℕ → BodyStage
-selected_stage validity told = if told == validity then stage.Fetching else stage.Failing refusal.Lacks
+abbrev pub selected_body_stage : ℕ → ℕ → BodyStage
+selected_body_stage validity told = if told == validity then stage.Fetching else stage.Failing refusal.Lacks
 
 abbrev pub HasBody : BodyStage → Type 0
 HasBody (stage.Fetched body) = Unit {0}
@@ -75,7 +75,7 @@ fetched None = stage.Failing refusal.Lacks
 
 -- The stage once an exchange is answered OK: the validity before it, its responses, and the mail that is told then.
 abbrev pub body_obeyed : ℕ → ℕ → BodyStage → ℕ → List Response → Mail → BodyStage
-body_obeyed folder uid stage.Selecting validity rs told = selected_stage validity (folder_validity (folder_in told.folders folder))
+body_obeyed folder uid stage.Selecting validity rs told = selected_body_stage validity (folder_validity (folder_in told.folders folder))
 body_obeyed folder uid stage.Fetching validity rs told = fetched (last_body uid rs)
 body_obeyed folder uid (stage.Fetched body) validity rs told = stage.Fetched body
 body_obeyed folder uid (stage.Failing why) validity rs told = stage.Failing why

@@ -103,7 +103,7 @@ fn validity_of(folder: Option<&Folder>) -> u32
 
 /// The stage once the folder is selected, which had this validity before.
 fn selected(validity: u32, told: u32) -> BodyStage
-    ensures { result ≡ bodies.selected_stage validity told }
+    ensures { result ≡ bodies.selected_body_stage validity told }
 {
     if told == validity {
         BodyStage::Fetching
@@ -213,7 +213,7 @@ fn body_at(stage: BodyStage) -> Bytes
 impl Client {
     /// Fetches the body of a message of the mirror, whose folder is selected before where it isn't, and tells the mirror what
     /// comes with it. After an Err the life has ended; the mirror holds what completed exchanges told, and is to be dropped
-    /// after want of memory.
+    /// where the end is out of memory.
     pub fn fetch_body<L: Link>(
         &mut self,
         link: &mut L,

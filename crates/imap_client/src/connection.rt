@@ -31,6 +31,7 @@ pub struct Connection {
     pub password: Bytes,
 }
 
+/// Whether a command was answered OK.
 pub fn is_ok(status: Status) -> bool
     ensures { result ≡ ok_test status }
 {

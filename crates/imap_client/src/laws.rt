@@ -29,7 +29,7 @@ pub fn finished_rounds_are_whole()
         → IsFinishedRound before after life left events }
 {}
 
-/// Octets that obey a plan whole let it end in nothing but Ok, a link that was lost, or want of memory.
+/// Octets that obey a plan whole let it end in nothing but Ok, a link that was lost, or out of memory.
 pub fn obeyed_plans_end_ok()
     ensures { (plan : Planned) (life left : LinkLife) (exchanges : List Exchange) (client : ClientState) (result : Result (Unit {0}) LinkEnd) (events : List Event)
         → Follows plan life left exchanges client result events → Obeys plan [] (next_number life) (selected life) (life.rest ++ flat_map store_gave_in events)

@@ -2,14 +2,19 @@
 //! a round over all folders, the body of a message.
 #![tactic(auto)]
 
-mod body;
+// A link life, and plans that are followed in it.
 mod client;
+mod following;
+mod plan;
+
+// Plans.
+mod body;
 mod connection;
 mod dialing;
-mod following;
-mod laws;
-mod plan;
 mod round;
+
+// Laws.
+mod laws;
 
 pub use client::Client;
 pub use following::follow;

@@ -47,6 +47,7 @@ pub trait Plan {
     /// What holds between the plan's own state and a later one, also where memory ran out.
     ghost keeps: { Self → Self → Type 0 };
 
+    /// What is due now; an error where there is no memory for the command.
     fn due(&self, alloc: Global) -> Result<Due, AllocError>
         ensures { IfOk result (λ now. now ≡ Self.plan self.now []) };
 

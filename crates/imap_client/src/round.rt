@@ -336,7 +336,7 @@ impl Plan for Round {
 
 impl Client {
     /// Asks which folders there are and what is new in each, and tells the mirror. After an Err the life has ended; the
-    /// mirror holds what completed exchanges told, and is to be dropped after want of memory.
+    /// mirror holds what completed exchanges told, and is to be dropped where the end is out of memory.
     pub fn round<L: Link>(&mut self, link: &mut L, mirror: &mut Mirror) -> Result<(), LinkEnd>
         requires { self.old.alive ≡ true }
         ensures tape { Adds (L.tape link.old) (L.tape link.new) (λ es. (life : LinkLife) → Stands self.old life → (left : LinkLife)

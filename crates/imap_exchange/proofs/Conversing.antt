@@ -212,7 +212,7 @@ heard {xs} {ys} {pieces} {before} {mid} {after} {responses} {at} {was} begun up 
       some_left = λ is. c.some_left (sym same ∙ is);
     }
 
--- want of memory
+-- out of memory
 pub wanting : {xs : List Event} {pieces : List (List ℕ)} {before : Octets} {up : Bool} (tag : List ℕ) (after : Octets) → Speaks pieces before up xs
     → Converses tag pieces before after up (Err end.Memory) xs
 wanting tag after s = record { speaks = s; comes = tt }

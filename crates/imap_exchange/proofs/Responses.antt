@@ -96,7 +96,7 @@ read_bad {events} begun before now offset at (gave, gains) so place =
       );
     }
 
--- want of memory
+-- out of memory
 pub read_wanting : {events : List Event} (begun : ℕ) (before now after : Octets) → (gave : List ℕ) × GainsOctets begun before now gave events
     → ReadsResponse begun true true before after
     (Err end.Memory) events

@@ -61,7 +61,7 @@ pub record Speaks (pieces : List (List ℕ)) (before : Octets) (up : Bool) (even
   pub paced : IsPaced pieces before.octets talk
   pub needed : ReadsWhile (Awaits pieces before) talk
 
--- Why an exchange isn't completed, by the octets held and given and those taken. Of want of memory nothing is said.
+-- Why an exchange isn't completed, by the octets held and given and those taken. Nothing is said of out of memory.
 abbrev pub IsCause : List ℕ → List (List ℕ) → Octets → List ℕ → List ℕ → LinkEnd → Type 0
 -- No tagged line came, where not too much stands there or the store didn't take all that was due; or an OK to a command that
 -- wasn't taken whole.

@@ -42,14 +42,14 @@ pub fn all_due_is_taken_before_reading()
         × AllDueTaken pieces still.responses (flat_map store_took_in so_far) × (IsTooMuch before (flat_map store_gave_in so_far) → ⊥) }
 {}
 
-/// Too many octets, by which nothing is decided though all that was due was taken, end in nothing but this or want of memory.
+/// Too many octets, by which nothing is decided though all that was due was taken, end in nothing but this or out of memory.
 pub fn too_much_ends_so()
     ensures { (tag : List ℕ) (pieces : List (List ℕ)) (before after : Octets) (gave took : List ℕ) (up : Bool) (result : Result Answer LinkEnd)
         (still : IsVerdict tag pieces (before.octets ++ gave) Open) → IsTooMuch before gave → AllDueTaken pieces still.responses took
         → ComesTo tag pieces before gave took after up result → (result ≡ Err ends.TooMuch) ⊎ (result ≡ Err ends.Memory) }
 {}
 
-/// Once the tagged line came, no other end is answered than want of memory: where it isn't OK, or the command was taken whole.
+/// Once the tagged line came, no other end is answered than out of memory: where it isn't OK, or the command was taken whole.
 pub fn no_end_after_an_answer()
     ensures { (tag : List ℕ) (pieces : List (List ℕ)) (before : Octets) (gave took : List ℕ) (responses : List Response) (s : Status) (code : Code) (rest : List ℕ) (e : LinkEnd)
         → IsVerdict tag pieces (before.octets ++ gave) (Done responses s code rest) → (s ≢ statuses.Ok) ⊎ (took ≡ joined_pieces pieces)

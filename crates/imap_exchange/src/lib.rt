@@ -2,12 +2,17 @@
 //! continuation, and what the octets say of the exchange.
 #![tactic(auto)]
 
-mod exchange;
-mod laws;
+// Octets and ends of a link life.
 mod link_end;
 mod received;
+
+// Responses and commands.
+mod exchange;
 mod response;
 mod sending;
+
+// Laws.
+mod laws;
 
 pub use exchange::complete;
 pub use laws::{

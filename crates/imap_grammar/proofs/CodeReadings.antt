@@ -51,12 +51,12 @@ pub no_long : (t : List ℕ) (b : Bool) → b ≡ few_digits t → b ≡ false �
 no_long t b is fails = long_none t (λ n h. both (few_digits t) (and_from _ _ (and_from _ _ (lt-ltb 0 (length t) h.some) (le-leb (length t) 19 h.few)) (digits_true t h.digits))
     (sym is ∙ fails))
 
-pub great_long : (t : List ℕ) (n : ℕ) → n ≡ reading.long_in t → 9223372036854775807 < n → None ≡ long_in t
+pub great_long : (t : List ℕ) (n : ℕ) → n ≡ reading.long_read t → 9223372036854775807 < n → None ≡ long_in t
 great_long t n is lt = long_none t (λ m h.
-    let value : reading.long_in t ≡ value_from 0 t = long_is t (omega (arith, h.value, h.most)) in
+    let value : reading.long_read t ≡ value_from 0 t = long_is t (omega (arith, h.value, h.most)) in
     omega (arith, is, value, h.value, h.most, lt))
 
-pub some_long : (t : List ℕ) (b : Bool) (n : ℕ) → b ≡ few_digits t → b ≡ true → n ≡ reading.long_in t → n ≤ 9223372036854775807 → Some n ≡ long_in t
+pub some_long : (t : List ℕ) (b : Bool) (n : ℕ) → b ≡ few_digits t → b ≡ true → n ≡ reading.long_read t → n ≤ 9223372036854775807 → Some n ≡ long_in t
 some_long t b n is holds value le =
     let p = and_parts (nat_lt 0 (length t) && nat_le (length t) 19) (reading.all_digits t) (sym is ∙ holds) in
     let q = and_parts (nat_lt 0 (length t)) (nat_le (length t) 19) p.0 in

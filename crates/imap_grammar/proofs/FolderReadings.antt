@@ -7,9 +7,9 @@ use Rattle.std.proofs.lemmas.List.{length-append, map-append}
 use Rattle.imap_syntax.proofs.EachLemmas.{each_to, each_append}
 use Rattle.pushdown.proofs.Lists.{cons_head}
 use Rattle.imap_automaton.proofs.StringEdges.{no_special}
-use Rattle.imap_values.specs.reading.Spans.{span, long_in, flags_in}
+use Rattle.imap_values.specs.reading.Spans.{span, long_read, flags_in}
 use Rattle.imap_values.specs.reading.StringReading.{astring_in}
-use Rattle.imap_grammar.specs.reading.FolderReading.{delimiter_in, list_in, count_in, status_counts, counts_of, status_in}
+use Rattle.imap_grammar.specs.reading.FolderReading.{delimiter_in, list_in, count_in, status_counts, counts_in, status_in}
 use Rattle.imap_values.proofs.Cuts.{small, plain_small, cut_at, digit_small}
 use Rattle.imap_grammar.proofs.ItemReadings.{joined_small, flags_read, long_read}
 use Rattle.imap_grammar.proofs.StringReadings.{quoted_small, Ends, astring_read}
@@ -99,9 +99,9 @@ count_read k so_far t back b h out e =
     let c = cut_at is_status_word word (32 ∷ rest) b (e ∙ ap (λ (u : List ℕ). u ++ back) is ∙ append_assoc word (32 ∷ h.digits) back) h.word refl in
     let d = drop (span is_status_word b + 1) b in
     let l = cut_at is_digit h.digits back d (c.past 32 rest refl) h.number.digits out in
-    ap (λ (u : List ℕ). (told_as so_far (map lower u) (long_in (take (span is_digit d) d)), drop (span is_digit d) d)) c.front
-    ∙ ap (λ (u : List ℕ). (told_as so_far (map lower word) (long_in u), drop (span is_digit d) d)) l.front
-    ∙ ap (λ (u : List ℕ). (told_as so_far (map lower word) (long_in h.digits), u)) l.back
+    ap (λ (u : List ℕ). (told_as so_far (map lower u) (long_read (take (span is_digit d) d)), drop (span is_digit d) d)) c.front
+    ∙ ap (λ (u : List ℕ). (told_as so_far (map lower word) (long_read u), drop (span is_digit d) d)) l.front
+    ∙ ap (λ (u : List ℕ). (told_as so_far (map lower word) (long_read h.digits), u)) l.back
     ∙ ap (λ (n : ℕ). (told_as so_far (map lower word) n, back)) (long_read k.1 h.digits h.number)
 
 pub counts_next : (left : ℕ) (so_far : StatusItems) (b : List ℕ) → 0 < left → (get_or (count_in so_far b).1 0 0 == 32) ≡ true
@@ -155,8 +155,8 @@ first_word k x y h = ap (λ (u : List ℕ). get_or (plain_octets (u ++ y)) 0 0 =
     by [] each some = absurd (omega (arith, some))
     by (c ∷ w) each some = not_close c each.0
 
-all_counts_read : (cs : List (List ℕ × ℕ)) (t : List ℕ) → IsCounts cs t → counts_of (plain_octets t) ≡ told_counts no_counts cs
-unfolding counts_of
+all_counts_read : (cs : List (List ℕ × ℕ)) (t : List ℕ) → IsCounts cs t → counts_in (plain_octets t) ≡ told_counts no_counts cs
+unfolding counts_in
 all_counts_read [] t h = cond-true (get_or (plain_octets t) 0 0 == 41) no_counts (status_counts (length (plain_octets t)) no_counts (plain_octets t))
     (ap (λ (u : List ℕ). get_or (plain_octets u) 0 0 == 41) h)
 all_counts_read (k ∷ cs) t h =
@@ -176,6 +176,6 @@ status_line_read name items t h =
     let rest : List ℕ = 32 ∷ 40 ∷ plain_octets h.rest in
     let all : b ≡ 32 ∷ (plain_octets h.first ++ rest) = ap plain_octets h.whole ∙ ap (λ (u : List ℕ). 32 ∷ u) (map-append plain_of h.first (32 ∷ 40 ∷ h.rest)) in
     let a : astring_in (drop 1 b) ≡ (h.string, rest) = astring_read h.string h.first rest (drop 1 b) h.spelled (refl, refl) (ap (drop 1) all) in
-    ap (λ (r : List ℕ × List ℕ). response.StatusItems (folder_name r.0) (counts_of (drop 2 r.1))) a
+    ap (λ (r : List ℕ × List ℕ). response.StatusItems (folder_name r.0) (counts_in (drop 2 r.1))) a
     ∙ ap (λ (q : StatusItems). response.StatusItems (folder_name h.string) q) (all_counts_read h.counts h.rest h.counted ∙ sym h.items_are)
     ∙ ap (λ (u : List ℕ). response.StatusItems u items) (sym h.name_is)

@@ -17,7 +17,7 @@ use Rattle.imap_keywords.proofs.KeyLemmas.{same_text}
 use Rattle.pushdown.proofs.Lists.{cons_head, cons_tail}
 use Rattle.imap_automaton.proofs.ItemEdges.{stop_no_digit, item_to}
 use Rattle.imap_automaton.proofs.OtherItems.{named_atoms, other_word}
-use Rattle.imap_values.specs.reading.Spans.{span, number_in, long_in}
+use Rattle.imap_values.specs.reading.Spans.{span, number_in, long_read}
 use Rattle.imap_values.specs.reading.StringReading.{astring_in}
 use Rattle.imap_grammar.specs.declared.items.Told.{Told}
 use Rattle.imap_grammar.specs.declared.items.Told.TheVariants as names
@@ -89,7 +89,7 @@ size_read n so_far value back h out =
     let b = plain_octets value ++ back in
     let v : plain_octets value ≡ value = plain_small value (each_to is_digit small value digit_small h.digits) in
     let k = cut_at is_digit value back b (ap (λ (u : List ℕ). u ++ back) v) h.digits (no_digit back out) in
-    ap (λ (m : ℕ). (told so_far (Size m), drop (span is_digit b) b)) (ap long_in k.front ∙ long_read n value h) ∙ ap (λ (u : List ℕ). (told so_far (Size n), u)) k.back
+    ap (λ (m : ℕ). (told so_far (Size m), drop (span is_digit b) b)) (ap long_read k.front ∙ long_read n value h) ∙ ap (λ (u : List ℕ). (told so_far (Size n), u)) k.back
 
 modseq_read : (n : ℕ) (so_far : FetchItems) (value back digits : List ℕ) → value ≡ 40 ∷ digits ++ 41 ∷ [] → IsLong n digits
     → value_in so_far names.ModSeq (plain_octets value ++ back) ≡ (told so_far (ModSeq n), back)
@@ -100,7 +100,7 @@ modseq_read n so_far value back digits e is =
     ∙ plain_small (40 ∷ digits ++ 41 ∷ []) (refl, each_append small digits (41 ∷ []) (each_to is_digit small digits digit_small is.digits) (refl, tt)) in
     let f : d ≡ digits ++ 41 ∷ back = ap (λ (u : List ℕ). drop 1 (u ++ back)) inner ∙ append_assoc digits (41 ∷ []) back in
     let k = cut_at is_digit digits (41 ∷ back) d f is.digits refl in
-    ap (λ (m : ℕ). (told so_far (ModSeq m), drop (span is_digit d + 1) d)) (ap long_in k.front ∙ long_read n digits is)
+    ap (λ (m : ℕ). (told so_far (ModSeq m), drop (span is_digit d + 1) d)) (ap long_read k.front ∙ long_read n digits is)
     ∙ ap (λ (u : List ℕ). (told so_far (ModSeq n), u)) (k.past 41 back refl)
 
 told_date : (seconds : ℤ) (so_far : FetchItems) (value back : List ℕ) → IsDateTime seconds value
@@ -183,9 +183,15 @@ told_key w m e f =
     told_case (is (codes "internaldate")) names.Date m e (λ a. f key.InternalDate (inr (inr (inr (inl refl)))) (same_text w (codes "internaldate") a)) (λ e.
     told_case (is (codes "rfc822.size")) names.Size m e (λ a. f key.Size (inr (inr (inr (inr (inl refl))))) (same_text w (codes "rfc822.size") a)) (λ e.
     told_case (is (codes "body[header]") || is (codes "body[header]<0>")) names.Header m e
-    (λ b. elim (or_cases (is (codes "body[header]")) (is (codes "body[header]<0>")) b) [ inl a ↦ f key.Header (inr (inr (inr (inr (inr (inl refl)))))) (same_text w (codes "body[header]") a) | inr a ↦ f key.HeaderPart (inr (inr (inr (inr (inr (inr (inl refl))))))) (same_text w (codes "body[header]<0>") a) ]) (λ e.
+    (λ b. elim (or_cases (is (codes "body[header]")) (is (codes "body[header]<0>")) b) [
+      | inl a ↦ f key.Header (inr (inr (inr (inr (inr (inl refl)))))) (same_text w (codes "body[header]") a)
+      | inr a ↦ f key.HeaderPart (inr (inr (inr (inr (inr (inr (inl refl))))))) (same_text w (codes "body[header]<0>") a)
+    ]) (λ e.
     told_case (is (codes "body[]") || is (codes "body[]<0>")) names.Body m e
-    (λ b. elim (or_cases (is (codes "body[]")) (is (codes "body[]<0>")) b) [ inl a ↦ f key.Body (inr (inr (inr (inr (inr (inr (inr (inl refl)))))))) (same_text w (codes "body[]") a) | inr a ↦ f key.BodyPart (inr (inr (inr (inr (inr (inr (inr (inr (inl refl))))))))) (same_text w (codes "body[]<0>") a) ]) (λ e.
+    (λ b. elim (or_cases (is (codes "body[]")) (is (codes "body[]<0>")) b) [
+      | inl a ↦ f key.Body (inr (inr (inr (inr (inr (inr (inr (inl refl)))))))) (same_text w (codes "body[]") a)
+      | inr a ↦ f key.BodyPart (inr (inr (inr (inr (inr (inr (inr (inr (inl refl))))))))) (same_text w (codes "body[]<0>") a)
+    ]) (λ e.
     absurd cc)))))))
 
 tail_head : (tail back : List ℕ) → nat_lt (get_or tail 0 0) 256 ≡ true → 0 < length tail → is_atom (get_or tail 0 0) ≡ false → is_atom
@@ -202,7 +208,8 @@ other_read so_far t back b h out e =
     (plain_octets o.tail) back in
     let c = cut_at is_atom o.word (plain_octets o.tail ++ back) b cut o.each (tail_head o.tail back o.small o.goes_on o.longest) in
     let n = span is_atom b in
-    let no : told_by (map lower (take n b)) ≡ None = untold (told_by (map lower (take n b))) (λ m q. told_key (map lower (take n b)) m q (λ k a w. o.no_key k a (sym (ap (map lower) c.front) ∙ w))) in
+    let no : told_by (map lower (take n b)) ≡ None =
+    untold (told_by (map lower (take n b))) (λ m q. told_key (map lower (take n b)) m q (λ k a w. o.no_key k a (sym (ap (map lower) c.front) ∙ w))) in
     let count : passed b (item_start ∷ []) ≡ length (plain_octets t) = item_passed t back b (item_to Other t h) out e ∙ sym (plain_length t) in
     ap (λ (q : Option Told). value_or_passed so_far q (drop (n + 1) b) b) no
     ∙ ap (λ (m : ℕ). (so_far, drop m b)) count ∙ ap (λ (u : List ℕ). (so_far, drop (length (plain_octets t)) u)) e ∙ ap (λ (u : List ℕ). (so_far, u))

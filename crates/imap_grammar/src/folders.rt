@@ -150,9 +150,9 @@ fn counts_in(bytes: &[u8]) -> StatusItems
 }
 
 /// The counts from after the opening bracket on: [count *(SP count)] ")".
-#[tactic(auto, unfolding(crate::specs::reading::FolderReading::counts_of))]
+#[tactic(auto, unfolding(crate::specs::reading::FolderReading::counts_in))]
 fn counts_of(bytes: &[u8]) -> StatusItems
-    ensures { result ≡ reading.counts_of bytes.now }
+    ensures { result ≡ reading.counts_in bytes.now }
 {
     if octet_at(bytes, 0) == b')' {
         NO_COUNTS

@@ -1,12 +1,15 @@
 //! A store's responses: where one ends, and what it says.
 #![tactic(auto)]
 
+// Where a response ends.
 mod answer;
+mod scanner;
+
+// What it says.
 mod codes;
 mod decoder;
 mod folders;
 mod items;
-mod scanner;
 
 pub use answer::Scan;
 pub use decoder::{decode, no_spelling_within, one_value};

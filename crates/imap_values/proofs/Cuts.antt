@@ -4,7 +4,7 @@ use Rattle.std.specs.Prelude.{nat_lt, nat_le}
 use Rattle.std.proofs.lemmas.Bool.{cond-true, cond-false, leb-true, leb-false, le-leb, false_from_ne_true}
 use Rattle.std.proofs.lemmas.List.{map-append}
 use Rattle.std.proofs.Math.Seq.{take-append_seam, drop-append_seam}
-use Rattle.imap_values.specs.reading.Spans.{span, cap, count_from, number_from, number_in, long_in}
+use Rattle.imap_values.specs.reading.Spans.{span, cap, count_from, number_from, number_in, long_read}
 use Rattle.imap_syntax.specs.Octets.{is_digit, is_text, is_word, is_atom, lower}
 use Rattle.imap_syntax.specs.Texts.{Each, plain_of, plain_octets}
 use Rattle.imap_syntax.specs.Numbers.{value_from}
@@ -112,13 +112,13 @@ number_is t le =
     let e : number_from 0 t ≡ value_from 0 t = number_from_is t ∙ cap_small 4294967295 (value_from 0 t) le in
     ap (λ (n : ℕ). cond (nat_le n 4294967295) n 4294967295) e ∙ cond-true (nat_le (value_from 0 t) 4294967295) (value_from 0 t) 4294967295 (le-leb (value_from 0 t) 4294967295 le)
 
-pub long_is : (t : List ℕ) → value_from 0 t ≤ 9223372036854775807 → long_in t ≡ value_from 0 t
+pub long_is : (t : List ℕ) → value_from 0 t ≤ 9223372036854775807 → long_read t ≡ value_from 0 t
 long_is t le = count_capped 9223372036854775807 0 t ∙ cap_small 9223372036854775807 (value_from 0 t) le
 
 pub capped_le : (n : ℕ) → n ≤ 4294967295 → cap 4294967295 n ≤ 4294967295
 capped_le n le = let e = cap_small 4294967295 n le in omega (arith, e, le)
 
-pub long_capped : (t : List ℕ) → long_in t ≡ cap 9223372036854775807 (value_from 0 t)
+pub long_capped : (t : List ℕ) → long_read t ≡ cap 9223372036854775807 (value_from 0 t)
 long_capped t = count_capped 9223372036854775807 0 t
 
 pub within_cap : (most n : ℕ) → cap most n ≤ most → n ≤ most

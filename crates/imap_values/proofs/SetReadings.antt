@@ -6,7 +6,7 @@ use Rattle.std.proofs.lemmas.Bool.{cond-true, cond-false}
 use Rattle.std.proofs.lemmas.List.{length-append, append-nil}
 use Rattle.imap_syntax.proofs.EachLemmas.{each_to, each_append}
 use Rattle.imap_values.specs.reading.Spans.{span, number_in}
-use Rattle.imap_values.specs.reading.SetReading.{words_in, range_in, ranges_read, vanished_in}
+use Rattle.imap_values.specs.reading.SetReading.{words_in, range_read, ranges_read, vanished_in}
 use Rattle.imap_values.proofs.Cuts.{small, plain_small, plain_join, cut_at, number_is, digit_small, word_small}
 use Rattle.imap_values.proofs.Lengths.{less_one, plain_length, spaced_long}
 use Rattle.imap_syntax.specs.declared.response.Response.TheVariants as response
@@ -40,22 +40,22 @@ pub word_end : (so_far : List (List ℕ)) (b : List ℕ) → so_far ++ words_in 
 unfolding words_in
 word_end so_far b = append-nil so_far
 
-pub range_next : (left : ℕ) (so_far : List UidRange) (b : List ℕ) → 0 < left → (get_or (range_in b).1 0 0 == 44) ≡ true
-    → (so_far ++ (range_in b).0 ∷ []) ++ ranges_read (left - 1) (drop 1 (range_in b).1) ≡ so_far ++ ranges_read left b
+pub range_next : (left : ℕ) (so_far : List UidRange) (b : List ℕ) → 0 < left → (get_or (range_read b).1 0 0 == 44) ≡ true
+    → (so_far ++ (range_read b).0 ∷ []) ++ ranges_read (left - 1) (drop 1 (range_read b).1) ≡ so_far ++ ranges_read left b
 unfolding ranges_read
 range_next zero so_far b lt e = absurd (omega (arith, lt))
 range_next (suc left) so_far b lt e =
-    let r = range_in b in
+    let r = range_read b in
     append_assoc so_far (r.0 ∷ []) (ranges_read (suc left - 1) (drop 1 r.1))
     ∙ ap (λ (n : ℕ). so_far ++ r.0 ∷ ranges_read n (drop 1 r.1)) (sym (less_one left))
     ∙ ap (λ (u : List UidRange). so_far ++ r.0 ∷ u) (sym (cond-true (get_or r.1 0 0 == 44) (ranges_read left (drop 1 r.1)) [] e))
 
-pub range_last : (left : ℕ) (so_far : List UidRange) (b : List ℕ) → 0 < left → (get_or (range_in b).1 0 0 == 44) ≡ false
-    → so_far ++ ranges_read left b ≡ so_far ++ (range_in b).0 ∷ []
+pub range_last : (left : ℕ) (so_far : List UidRange) (b : List ℕ) → 0 < left → (get_or (range_read b).1 0 0 == 44) ≡ false
+    → so_far ++ ranges_read left b ≡ so_far ++ (range_read b).0 ∷ []
 unfolding ranges_read
 range_last zero so_far b lt e = absurd (omega (arith, lt))
 range_last (suc left) so_far b lt e =
-    let r = range_in b in
+    let r = range_read b in
     ap (λ (u : List UidRange). so_far ++ r.0 ∷ u) (cond-false (get_or r.1 0 0 == 44) (ranges_read left (drop 1 r.1)) [] e)
 
 pub range_end : (so_far : List UidRange) (b : List ℕ) → so_far ++ ranges_read 0 b ≡ so_far
@@ -102,8 +102,8 @@ number_small n t h = each_to is_digit small t digit_small h.0.digits
 number_read : (n : ℕ) (t : List ℕ) → IsNonZero n t → number_in t ≡ n
 number_read n t h = number_is t (omega (arith, h.0.value, h.0.most)) ∙ sym h.0.value
 
-read_range : (r : UidRange) (x y b : List ℕ) → IsRange r x → is_digit (get_or y 0 0) ≡ false → (get_or y 0 0 == 58) ≡ false → b ≡ x ++ y → range_in b ≡ (r, y)
-unfolding range_in
+read_range : (r : UidRange) (x y b : List ℕ) → IsRange r x → is_digit (get_or y 0 0) ≡ false → (get_or y 0 0 == 58) ≡ false → b ≡ x ++ y → range_read b ≡ (r, y)
+unfolding range_read
 read_range r x y b (inl s) out no_colon e =
     let k = cut_at is_digit x y b e s.1.0.digits out in
     let n = span is_digit b in

@@ -1,12 +1,15 @@
 //! The values of a store's language at the front of octets: words, numbers, strings, flags, dates and sets of UIDs.
 #![tactic(auto)]
 
+// Octets at the front.
+mod octets;
+mod strings;
+
+// Values.
 mod date_times;
 mod dates;
 mod flags;
-mod octets;
 mod sets;
-mod strings;
 
 pub use date_times::date_in;
 pub use dates::push_date;

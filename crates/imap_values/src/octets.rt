@@ -150,7 +150,7 @@ fn capped_long(n: u128) -> u64
 /// The number, or 2^63 where it is greater.
 #[tactic(auto, using(crate::proofs::SpanLemmas::runs))]
 pub fn long_of(digits: &[u8]) -> u64
-    ensures { result ≡ reading.long_in digits.now }
+    ensures { result ≡ reading.long_read digits.now }
 {
     let mut value: u64 = 0;
     for c in digits {

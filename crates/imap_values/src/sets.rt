@@ -51,10 +51,10 @@ pub fn range_of(first: u32, second: u32) -> UidRange
 }
 
 /// A range, and what follows it: nz [":" nz].
-#[tactic(auto, unfolding(crate::specs::reading::SetReading::range_in))]
+#[tactic(auto, unfolding(crate::specs::reading::SetReading::range_read))]
 fn range_in(bytes: &[u8]) -> (UidRange, &[u8])
-    ensures range { result.0 ≡ (reading.range_in bytes.now).0 }
-    ensures rest { result.1.now ≡ (reading.range_in bytes.now).1 }
+    ensures range { result.0 ≡ (reading.range_read bytes.now).0 }
+    ensures rest { result.1.now ≡ (reading.range_read bytes.now).1 }
 {
     let n = digits_len(bytes);
     let first = number_of(before(bytes, n));

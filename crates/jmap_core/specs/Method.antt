@@ -34,7 +34,7 @@ needs_mail_by name = not (bytes_eq name (name_of CoreEcho))
 
 -- ---- errors
 
--- Want of memory is answered by no method response; its type is that of a resource that is gone for now.
+-- Out of memory is answered by no method response; its type is that of a resource that is gone for now.
 abbrev pub error_type : MethodError → List ℕ
 error_type error.ServerUnavailable = codes "serverUnavailable"
 error_type error.ServerFail = codes "serverFail"

@@ -1,4 +1,4 @@
--- A result that is what a definition gives, want of memory aside.
+-- A result that is what a definition gives, out of memory aside.
 use Rattle.std.specs.Prelude.{◌≡◌, ◌⊎◌, Result, Ok, Err}
 
 -- What a call gave, seen by `view`, is what was meant; only the error `memory` is free.

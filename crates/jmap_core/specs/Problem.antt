@@ -35,7 +35,7 @@ limit_problem name = object
     (member (codes "type") (string (codes "urn:ietf:params:jmap:error:limit"))
     no_members)))
 
--- Want of memory has no text.
+-- Out of memory has no text.
 abbrev pub text_of_problem : RequestError → List ℕ
 text_of_problem NotJson = compact_text (plain_problem (codes "urn:ietf:params:jmap:error:notJSON"))
 text_of_problem NotRequest = compact_text (plain_problem (codes "urn:ietf:params:jmap:error:notRequest"))

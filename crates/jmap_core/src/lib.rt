@@ -1,20 +1,25 @@
 //! JMAP requests and responses (RFC 8620): what a body asks, result references, the Session, and the texts of answers.
 #![tactic(auto)]
 
-mod arguments;
+// Requests.
 mod call;
-mod core_echo;
 mod created_ids;
+mod request;
+mod request_body;
+
+// Methods.
+mod arguments;
+mod core_echo;
 mod method;
 mod method_error;
 mod pointer;
-mod problem;
 mod references;
-mod request;
-mod request_body;
+mod state;
+
+// Answers.
+mod problem;
 mod response;
 mod session;
-mod state;
 
 pub use arguments::{
     MAX_OBJECTS_IN_GET, MAX_WHOLE_NUMBER, check_account, check_count, text_at, texts_or_null,

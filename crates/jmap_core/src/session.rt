@@ -5,6 +5,7 @@ ghost use Rattle.serde_json.specs.View.{view, items_of};
 ghost use Rattle.jmap_core.specs.Session.{session_state_text, core_limits, email_orders, mail_limits, account_data, accounts_data, capabilities_data, primary_accounts_data, session_data};
 ghost use Rattle.jmap_core.specs.Session.{api_path, download_path, events_path, upload_path};
 
+use crate::{MAX_CALLS_IN_REQUEST, MAX_OBJECTS_IN_GET};
 use serde_json::{Map, Value, json, put};
 use std::alloc::{AllocError, Global};
 
@@ -29,10 +30,10 @@ fn core_limits(alloc: Global) -> Result<Value, AllocError>
 {
     json!(in alloc; {
         "collationAlgorithms": [],
-        "maxCallsInRequest": 16,
+        "maxCallsInRequest": (MAX_CALLS_IN_REQUEST as u64),
         "maxConcurrentRequests": 4,
         "maxConcurrentUpload": 4,
-        "maxObjectsInGet": 500,
+        "maxObjectsInGet": (MAX_OBJECTS_IN_GET as u64),
         "maxObjectsInSet": 500,
         "maxSizeRequest": 10_000_000,
         "maxSizeUpload": 50_000_000,

@@ -1,18 +1,23 @@
 //! The maps that are served: Emails with their envelopes and keywords, Threads, and Mailboxes with their counts.
 #![tactic(auto)]
 
+// Rows.
+mod row;
+mod served;
+
+// Emails.
 mod envelope;
 mod header;
-mod hierarchy;
 pub mod keywords;
+pub mod visible;
+
+// Threads and Mailboxes.
+mod hierarchy;
 mod mailboxes;
 mod rights;
 mod roles;
-mod row;
-mod served;
 mod tally;
 mod threads;
-pub mod visible;
 
 pub use envelope::{Envelope, Party};
 pub use header::read_envelope;

@@ -26,6 +26,7 @@ fn is_own(folder: &Folder) -> bool
     !is_inbox(folder) && !has(b"\\nonexistent", folder)
 }
 
+/// What the user may do in the Mailbox of a folder (RFC 8621 section 2, myRights).
 pub fn rights_of(folder: &Folder) -> Rights
     ensures { result ≡ rights.rights_of folder.now }
 {

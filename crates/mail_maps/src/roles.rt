@@ -8,12 +8,14 @@ use crate::Role;
 use crate::keywords::has_name;
 use told_folder::{Folder, Held};
 
+/// Whether the folder has the attribute, which is given in lower case.
 pub fn has(attribute: &[u8], folder: &Folder) -> bool
     ensures { result ≡ roles.has_attribute attribute.now folder.now }
 {
     has_name(attribute, &folder.attributes)
 }
 
+/// Whether the folder is INBOX.
 pub fn is_inbox(folder: &Folder) -> bool
     ensures { result ≡ roles.is_inbox folder.now }
 {
@@ -75,6 +77,7 @@ fn number_in(role: Option<Role>) -> Option<u8>
     }
 }
 
+/// Whether two roles are the same, or neither is there.
 pub fn same_role(one: Option<Role>, other: Option<Role>) -> bool
     ensures { result ≡ roles.same_role one other }
 {

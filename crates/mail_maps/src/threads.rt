@@ -27,6 +27,7 @@ impl Model for Thread {
 }
 
 impl Thread {
+    /// The numbers of its Emails, by the time at which they were received and then by number.
     pub fn emails(&self) -> &[u64]
         ensures { result.now ≡ self.now }
     {

@@ -14,7 +14,7 @@ use Rattle.mime_fields.specs.declared.header.PartHeader.{PartHeader}
 use Rattle.mime_fields.proofs.IdLemmas.{one_kept}
 use Rattle.mime_fields.specs.ContentIds.{IsWithoutAngles, InAngles, Bare}
 use Rattle.mime_fields.specs.ContentTypes.{media_in, behind_media}
-use Rattle.mime_fields.specs.Dispositions.{token_in, IsFileName}
+use Rattle.mime_fields.specs.Dispositions.{leading_token, IsFileName}
 use Rattle.mime_fields.specs.Parameters.{parameter}
 use Rattle.mime_fields.specs.PartHeaders.{field_octets, HasLexemes, extended_name, written_name, trimmed, IsTrimmedTextOf, IsIdOf, mechanism, IsPartHeader}
 
@@ -59,7 +59,7 @@ one_part_header f g h i j =
     (i.media ∙ ap media_in t ∙ sym j.media)
     (i.boundary ∙ ap (λ u. parameter (codes "boundary") (behind_media u)) t ∙ sym j.boundary)
     (i.charset ∙ ap (λ u. option_map raw_form (parameter (codes "charset") (behind_media u))) t ∙ sym j.charset)
-    (i.disposition ∙ ap token_in d ∙ sym j.disposition)
+    (i.disposition ∙ ap leading_token d ∙ sym j.disposition)
     (one_name _ _ g.name h.name m j.name)
     (one_id _ g.cid h.cid i.cid j.cid)
     (i.language ∙ sym j.language)

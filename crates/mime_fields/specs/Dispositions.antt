@@ -10,9 +10,9 @@ use Rattle.mime_fields.specs.Parameters.{is_token, parameter}
 use Rattle.mime_fields.specs.declared.disposition.Disposition.{Disposition}
 
 -- the token at the front, in lower case
-abbrev pub token_in : List Spelled → Option (List ℕ)
-token_in [] = None
-token_in (s ∷ ls) = if is_token s then Some (lower s.text) else None
+abbrev pub leading_token : List Spelled → Option (List ℕ)
+leading_token [] = None
+leading_token (s ∷ ls) = if is_token s then Some (lower s.text) else None
 
 -- what follows it
 abbrev pub behind_token : List Spelled → List Spelled
@@ -20,7 +20,7 @@ behind_token [] = []
 behind_token (s ∷ ls) = if is_token s then ls else []
 
 pub record IsDisposition (lexemes : List Spelled) (d : Disposition) : Type 0 where
-  pub kind : d.kind ≡ token_in lexemes
+  pub kind : d.kind ≡ leading_token lexemes
   pub extended : d.extended ≡ option_and_then extended_text (parameter (codes "filename*") (behind_token lexemes))
   pub file : d.file ≡ parameter (codes "filename") (behind_token lexemes)
 

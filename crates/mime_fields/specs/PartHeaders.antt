@@ -11,7 +11,7 @@ use Rattle.mail_header.specs.RawForms.{raw_form, IsTextForm}
 use Rattle.header_tokens.specs.Tokens.{Spelled}
 use Rattle.mime_fields.specs.ContentIds.{IsContentId}
 use Rattle.mime_fields.specs.ContentTypes.{media_in, behind_media}
-use Rattle.mime_fields.specs.Dispositions.{token_in, behind_token, IsFileName}
+use Rattle.mime_fields.specs.Dispositions.{leading_token, behind_token, IsFileName}
 use Rattle.mime_fields.specs.ExtendedValues.{extended_text}
 use Rattle.mime_fields.specs.Parameters.{parameter}
 use Rattle.mime_fields.specs.declared.header.PartHeader.{PartHeader}
@@ -49,7 +49,7 @@ written_name disposition content = option_or (parameter (codes "filename") (behi
 -- The mechanism of Content-Transfer-Encoding, where there is the field. One that is no token is the empty text, which names
 -- no encoding.
 abbrev pub mechanism : Option (List ℕ) → List Spelled → Option (List ℕ)
-mechanism raw lexemes = option_map (λ (r : List ℕ). unwrap_or (token_in lexemes) []) raw
+mechanism raw lexemes = option_map (λ (r : List ℕ). unwrap_or (leading_token lexemes) []) raw
 
 pub record IsPartHeader (fields : List NameAndRaw) (h : PartHeader) : Type 0 where
   pub content_type : List Spelled
@@ -61,7 +61,7 @@ pub record IsPartHeader (fields : List NameAndRaw) (h : PartHeader) : Type 0 whe
   pub media : h.media ≡ media_in content_type
   pub boundary : h.boundary ≡ parameter (codes "boundary") (behind_media content_type)
   pub charset : h.charset ≡ option_map raw_form (parameter (codes "charset") (behind_media content_type))
-  pub disposition : h.disposition ≡ token_in content_disposition
+  pub disposition : h.disposition ≡ leading_token content_disposition
   pub name : IsFileName (extended_name content_disposition) (written_name content_disposition content_type) h.name
   pub cid : IsIdOf (last_named (codes "content-id") fields) h.cid
   pub language : h.language ≡ option_map raw_form (last_named (codes "content-language") fields)

@@ -21,7 +21,7 @@ pub(crate) struct Disposition {
 
 /// The token at the front, and what follows it.
 fn token_at(text: &[u8]) -> Option<(&[u8], &[u8])>
-    ensures token { MatchOption result (dispositions.token_in (mime_lexemes text.now) ≡ None) (λ r. dispositions.token_in (mime_lexemes text.now) ≡ Some (lower r.0.now)) }
+    ensures token { MatchOption result (dispositions.leading_token (mime_lexemes text.now) ≡ None) (λ r. dispositions.leading_token (mime_lexemes text.now) ≡ Some (lower r.0.now)) }
     ensures behind { MatchOption result (dispositions.behind_token (mime_lexemes text.now) ≡ []) (λ r. dispositions.behind_token (mime_lexemes text.now) ≡ mime_lexemes r.1.now) }
 {
     let (token, rest) = mime_lexeme(text)?;
@@ -34,7 +34,7 @@ fn token_at(text: &[u8]) -> Option<(&[u8], &[u8])>
 
 /// The token at the front in lower case.
 pub(crate) fn first_token(alloc: Global, text: &[u8]) -> Result<Option<Bytes>, AllocError>
-    ensures { IfOk result (λ t. t ≡ dispositions.token_in (mime_lexemes text.now)) }
+    ensures { IfOk result (λ t. t ≡ dispositions.leading_token (mime_lexemes text.now)) }
 {
     match token_at(text) {
         None => Ok(None),

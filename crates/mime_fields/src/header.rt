@@ -1,7 +1,7 @@
 // What the header of a body part says.
 ghost use Rattle.std.specs.Prelude.{◌≡◌, [], unwrap_or, IfOk, codes};
 ghost use Rattle.mail_header.specs.Fields.{names_and_raws, last_named};
-ghost use Rattle.mime_fields.specs.Dispositions.{token_in};
+ghost use Rattle.mime_fields.specs.Dispositions.{leading_token};
 ghost use Rattle.mime_fields.specs.PartHeaders as headers;
 ghost use Rattle.mime_fields.specs.reading.MimeLexemes.{mime_lexemes};
 
@@ -59,7 +59,7 @@ fn transfer_encoding(alloc: Global, fields: &Fields<'_>) -> Result<Option<Bytes>
 
 /// The token at the front in lower case, or the empty text.
 fn token_or_none(alloc: Global, text: &[u8]) -> Result<Bytes, AllocError>
-    ensures { IfOk result (λ t. t ≡ unwrap_or (token_in (mime_lexemes text.now)) []) }
+    ensures { IfOk result (λ t. t ≡ unwrap_or (leading_token (mime_lexemes text.now)) []) }
 {
     match first_token(alloc, text)? {
         None => Bytes::copy_of(alloc, b""),

@@ -1,14 +1,21 @@
 //! What the header of a body part says: its media type, its name, its ids and its encoding (RFC 2045, RFC 2183).
 #![tactic(auto)]
 
+// Octets and parameters of fields.
+mod extended_value;
+mod field_text;
+mod parameters;
+
+// Fields.
 mod content_id;
 mod content_type;
 mod disposition;
-mod extended_value;
-mod field_text;
+
+// What they say together.
 pub mod header;
+
+// Laws.
 pub mod laws;
-mod parameters;
 
 pub use header::{PartHeader, part_header};
 pub use parameters::is_token;

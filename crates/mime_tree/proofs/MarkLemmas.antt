@@ -10,7 +10,7 @@ use Rattle.text_words.proofs.CutLemmas.{each_list_all, list_all_each}
 use Rattle.mime_tree.specs.declared.split.Mark.{Mark}
 use Rattle.mime_tree.specs.declared.split.Mark.TheVariants as mark
 use Rattle.mime_tree.specs.Delimiters.{IsDelimiter, IsClosing, IsMarked}
-use Rattle.mime_tree.specs.reading.LineReading.{behind, behind_dashes, closes, rest_mark, mark_of}
+use Rattle.mime_tree.specs.reading.LineReading.{behind, behind_dashes, closing_mark, rest_mark, line_mark}
 
 -- the text begins with the prefix, or with no text after it
 data Behind (p t : List ℕ) : Option (List ℕ) → Type 0 where
@@ -44,16 +44,16 @@ rest_marked y l u e = opens (list_all is_white u) refl
       λ c. let g = sym w ∙ same (45 ∷ 45 ∷ c.white) c.whole in whites_same v c.white c.is_white f cc,
     )
 
-    closes_by : (r : Option (List ℕ)) → Behind (45 ∷ 45 ∷ []) u r → list_all is_white u ≡ false → IsMarked y l (closes r)
+    closes_by : (r : Option (List ℕ)) → Behind (45 ∷ 45 ∷ []) u r → list_all is_white u ≡ false → IsMarked y l (closing_mark r)
     closes_by _ (Begins v w) n = closing (list_all is_white v) v refl n w
     closes_by _ (BeginsNot k) n = (λ d. whites_same u d.white d.is_white n (same d.white d.whole), λ c. k c.white (same (45 ∷ 45 ∷ c.white) c.whole))
 
-    opens : (q : Bool) → list_all is_white u ≡ q → IsMarked y l (cond q mark.Opens (closes (behind (45 ∷ 45 ∷ []) u)))
+    opens : (q : Bool) → list_all is_white u ≡ q → IsMarked y l (cond q mark.Opens (closing_mark (behind (45 ∷ 45 ∷ []) u)))
     opens true f = record { white = u; whole = e; is_white = list_all_each is_white u f }
     opens false f = closes_by (behind (45 ∷ 45 ∷ []) u) (behind_is (45 ∷ 45 ∷ []) u) f
 
-pub marked : (y l : List ℕ) → IsMarked y l (mark_of y l)
-unfolding mark_of
+pub marked : (y l : List ℕ) → IsMarked y l (line_mark y l)
+unfolding line_mark
 marked y l = by (behind (45 ∷ 45 ∷ []) l) (behind_is (45 ∷ 45 ∷ []) l)
   where
     boundary : (t : List ℕ) (r : Option (List ℕ)) → l ≡ 45 ∷ 45 ∷ t → Behind y t r → IsMarked y l (rest_mark r)
@@ -86,8 +86,8 @@ one_mark y l mark.Closes mark.Opens g h = absurd (opens_closes y l h g)
 one_mark y l mark.Closes mark.Closes g h = refl
 
 -- between the mark as a function and as a fact
-pub mark_is : (y l : List ℕ) (m : Mark) → mark_of y l ≡ m → IsMarked y l m
+pub mark_is : (y l : List ℕ) (m : Mark) → line_mark y l ≡ m → IsMarked y l m
 mark_is y l m e = let P : Mark → Type 0 = λ x. IsMarked y l x in subst P e (marked y l)
 
-pub is_mark : (y l : List ℕ) (m : Mark) → IsMarked y l m → mark_of y l ≡ m
-is_mark y l m h = one_mark y l (mark_of y l) m (marked y l) h
+pub is_mark : (y l : List ℕ) (m : Mark) → IsMarked y l m → line_mark y l ≡ m
+is_mark y l m h = one_mark y l (line_mark y l) m (marked y l) h

@@ -6,7 +6,7 @@ use Rattle.mime_tree.specs.declared.split.Mark.{Mark}
 use Rattle.mime_tree.specs.declared.split.Mark.TheVariants as mark
 use Rattle.mime_tree.specs.declared.split.Piece.{Piece}
 use Rattle.mime_tree.specs.Delimiters.{size}
-use Rattle.mime_tree.specs.reading.LineReading.{mark_of}
+use Rattle.mime_tree.specs.reading.LineReading.{line_mark}
 use Rattle.mime_tree.specs.Splits.{piece, ArePlain, end_of, IsEnd, IsClosed, AreParts, Follows, IsSplit}
 use Rattle.mime_tree.proofs.MarkLemmas.{is_mark, opens_closes}
 
@@ -16,13 +16,13 @@ plain_mark mark.Opens = false
 plain_mark mark.Closes = false
 
 abbrev is_plain : List ℕ → List ℕ → Bool
-is_plain y l = plain_mark (mark_of y l)
+is_plain y l = plain_mark (line_mark y l)
 
 each_plain : (y : List ℕ) (ls : List (List ℕ)) → ArePlain y ls → Each (is_plain y) ls
 each_plain y [] h = tt
 each_plain y (l ∷ ls) h = (ap plain_mark (is_mark y l mark.Plain h.0), each_plain y ls h.1)
 
-not_plain : (y l : List ℕ) (m : Mark) → plain_mark m ≡ false → mark_of y l ≡ m → is_plain y l ≡ false
+not_plain : (y l : List ℕ) (m : Mark) → plain_mark m ≡ false → line_mark y l ≡ m → is_plain y l ≡ false
 not_plain y l m f e = ap plain_mark e ∙ f
 
 closed_stops : (y : List ℕ) (t : List (List ℕ)) → IsClosed y t → Stops (is_plain y) t

@@ -5,7 +5,7 @@ use Rattle.std.proofs.lemmas.List.{drop_all}
 use Rattle.mime_tree.specs.declared.split.Mark.TheVariants as mark
 use Rattle.mime_tree.specs.declared.split.Piece.{Piece}
 use Rattle.mime_tree.specs.Delimiters.{size, lines}
-use Rattle.mime_tree.specs.reading.LineReading.{mark_of}
+use Rattle.mime_tree.specs.reading.LineReading.{line_mark}
 use Rattle.mime_tree.specs.Splits.{piece, ending, before, end_of, InPart, AreParts, Follows, HasParts, IsSplit}
 use Rattle.mime_tree.proofs.LineLemmas.{Here}
 use Rattle.mime_tree.proofs.MarkLemmas.{mark_is}
@@ -27,7 +27,7 @@ Left (Some start) b y (Some []) at t = ⊥
 Left (Some start) b y (Some (p ∷ ps)) at t = InPart (AreParts b y ps) b y start at p t
 
 -- a line that is no delimiter is the preamble's, or the part's
-plain_more : (begun : Option ℕ) (b y : List ℕ) (at : ℕ) (l : List ℕ) (t : List (List ℕ)) (r : Option (List Piece)) → mark_of y l ≡ mark.Plain → Left begun b y r (at + length l) t
+plain_more : (begun : Option ℕ) (b y : List ℕ) (at : ℕ) (l : List ℕ) (t : List (List ℕ)) (r : Option (List Piece)) → line_mark y l ≡ mark.Plain → Left begun b y r (at + length l) t
     → Left begun b y r at (l ∷ t)
 plain_more None b y at l t r e h = record {
   preamble = l ∷ h.preamble;
@@ -67,7 +67,7 @@ ended b y start at l t ps h = record {
 begins : (b y : List ℕ) (at : ℕ) (t : List (List ℕ)) (r : Option (List Piece)) → Follows b y r at t → HasParts b y r at t
 begins b y at t r h = record { preamble = []; rest = t; whole = refl; plain = tt; follows = let P : ℕ → Type 0 = λ n. Follows b y r n t in subst P (omega arith) h }
 
-opens_more : (begun : Option ℕ) (b y : List ℕ) (at : ℕ) (l : List ℕ) (t : List (List ℕ)) (r : Option (List Piece)) → mark_of y l ≡ mark.Opens
+opens_more : (begun : Option ℕ) (b y : List ℕ) (at : ℕ) (l : List ℕ) (t : List (List ℕ)) (r : Option (List Piece)) → line_mark y l ≡ mark.Opens
     → Left (Some (at + length l)) b y r (at + length l) t → Left begun b y (onto (ending begun b at) r) at (l ∷ t)
 opens_more begun b y at l t None e h = absurd h
 opens_more begun b y at l t (Some []) e h = absurd h
@@ -76,7 +76,7 @@ opens_more None b y at l t (Some (p ∷ ps)) e h = begins b y at (l ∷ t) (Some
 opens_more (Some start) b y at l t (Some (p ∷ ps)) e h = ended b y start at l t (p ∷ ps)
     (record { line = l; lines = t; whole = refl; delimiter = mark_is y l mark.Opens e; part = h })
 
-closes_here : (begun : Option ℕ) (b y : List ℕ) (at : ℕ) (l : List ℕ) (t : List (List ℕ)) → mark_of y l ≡ mark.Closes → Left begun b y (Some (ending begun b at)) at (l ∷ t)
+closes_here : (begun : Option ℕ) (b y : List ℕ) (at : ℕ) (l : List ℕ) (t : List (List ℕ)) → line_mark y l ≡ mark.Closes → Left begun b y (Some (ending begun b at)) at (l ∷ t)
 closes_here None b y at l t e = begins b y at (l ∷ t) (Some []) (mark_is y l mark.Closes e)
 closes_here (Some start) b y at l t e = ended b y start at l t [] (mark_is y l mark.Closes e)
 
@@ -87,11 +87,11 @@ ends_inside b y start at = record { inner = []; rest = []; whole = refl; plain =
 pub record SoFar (begun : Option ℕ) (b y : List ℕ) (ps : List Piece) (at : ℕ) (t all : List (List ℕ)) : Type 0 where
   pub forth : (r : Option (List Piece)) → Left begun b y r at t → HasParts b y (onto ps r) 0 all
 
-so_far_plain : (begun : Option ℕ) (b y : List ℕ) (ps : List Piece) (at : ℕ) (l : List ℕ) (t all : List (List ℕ)) → SoFar begun b y ps at (l ∷ t) all → mark_of y l ≡ mark.Plain
+so_far_plain : (begun : Option ℕ) (b y : List ℕ) (ps : List Piece) (at : ℕ) (l : List ℕ) (t all : List (List ℕ)) → SoFar begun b y ps at (l ∷ t) all → line_mark y l ≡ mark.Plain
     → SoFar begun b y ps (at + length l) t all
 so_far_plain begun b y ps at l t all h e = record { forth = λ r q. h.forth r (plain_more begun b y at l t r e q) }
 
-so_far_opens : (begun : Option ℕ) (b y : List ℕ) (ps : List Piece) (at : ℕ) (l : List ℕ) (t all : List (List ℕ)) → SoFar begun b y ps at (l ∷ t) all → mark_of y l ≡ mark.Opens
+so_far_opens : (begun : Option ℕ) (b y : List ℕ) (ps : List Piece) (at : ℕ) (l : List ℕ) (t all : List (List ℕ)) → SoFar begun b y ps at (l ∷ t) all → line_mark y l ≡ mark.Opens
     → SoFar (Some (at + length l)) b y (ps ++ ending begun b at) (at + length l) t all
 so_far_opens begun b y ps at l t all h e = record {
   forth = λ r q.
@@ -116,7 +116,7 @@ line_here : (begun : Option ℕ) (b y : List ℕ) (ps : List Piece) (at n : ℕ)
     → SoFar begun b y ps at (line ∷ lines (drop (at + n) b)) (lines b)
 line_here begun b y ps at n line h s = let P : List (List ℕ) → Type 0 = λ t. SoFar begun b y ps at t (lines b) in subst P h.first s.so_far
 
-pub at_plain : (begun begun' : Option ℕ) (b y : List ℕ) (ps ps' : List Piece) (at n : ℕ) (line : List ℕ) → Here b at line n → mark_of y line ≡ mark.Plain → Split begun b y ps at
+pub at_plain : (begun begun' : Option ℕ) (b y : List ℕ) (ps ps' : List Piece) (at n : ℕ) (line : List ℕ) → Here b at line n → line_mark y line ≡ mark.Plain → Split begun b y ps at
     → begun' ≡ begun → ps' ≡ ps → Split begun' b y ps' (at + n)
 at_plain begun begun' b y ps ps' at n line h e s p q =
     let m = so_far_plain begun b y ps at line (lines (drop (at + n) b)) (lines b) (line_here begun b y ps at n line h s) e in
@@ -129,7 +129,7 @@ at_plain begun begun' b y ps ps' at n line h e s p q =
     later None l = tt
     later (Some start) l = omega (arith, l)
 
-pub at_opens : (begun begun' : Option ℕ) (b y : List ℕ) (ps ps' : List Piece) (at n : ℕ) (line : List ℕ) → Here b at line n → mark_of y line ≡ mark.Opens → Split begun b y ps at
+pub at_opens : (begun begun' : Option ℕ) (b y : List ℕ) (ps ps' : List Piece) (at n : ℕ) (line : List ℕ) → Here b at line n → line_mark y line ≡ mark.Opens → Split begun b y ps at
     → begun' ≡ Some (at + n) → ps' ≡ ps ++ ending begun b at → Split begun' b y ps' (at + n)
 at_opens begun begun' b y ps ps' at n line h e s p q =
     let m = so_far_opens begun b y ps at line (lines (drop (at + n) b)) (lines b) (line_here begun b y ps at n line h s) e in
@@ -138,7 +138,7 @@ at_opens begun begun' b y ps ps' at n line h e s p q =
     let B : List Piece → Type 0 = λ u. Split begun' b y u (at + n) in
     subst B (sym q) (subst A (sym p) (record { so_far = subst P (sym h.counted) m; ordered = omega arith }))
 
-pub at_closes : (begun : Option ℕ) (b y : List ℕ) (ps ps' : List Piece) (at n : ℕ) (line : List ℕ) → Here b at line n → mark_of y line ≡ mark.Closes → Split begun b y ps at
+pub at_closes : (begun : Option ℕ) (b y : List ℕ) (ps ps' : List Piece) (at n : ℕ) (line : List ℕ) → Here b at line n → line_mark y line ≡ mark.Closes → Split begun b y ps at
     → ps' ≡ ps ++ ending begun b at → IsSplit b y (Some ps')
 at_closes begun b y ps ps' at n line h e s q =
     let P : List Piece → Type 0 = λ u. IsSplit b y (Some u) in

@@ -1,16 +1,21 @@
 //! The tree of parts that the octets of a message are (RFC 2045, RFC 2046).
 #![tactic(auto)]
 
-pub mod body;
+// Parts and their tree.
 pub mod head;
-pub mod laws;
-mod list_walk;
-mod lists;
 pub mod part;
-mod roles;
 mod shared;
 pub mod split;
 pub mod tree;
+
+// What a part spells, and the body lists.
+pub mod body;
+mod list_walk;
+mod lists;
+mod roles;
+
+// Laws.
+pub mod laws;
 
 pub use body::{part_bytes, part_len};
 pub use lists::{BodyLists, body_lists};

@@ -58,9 +58,9 @@ fn rest_mark(rest: &[u8]) -> Mark
 }
 
 /// What the line is to a multipart with this boundary.
-#[tactic(auto, unfolding(crate::specs::reading::LineReading::mark_of))]
+#[tactic(auto, unfolding(crate::specs::reading::LineReading::line_mark))]
 fn mark_of(line: &[u8], boundary: &[u8]) -> Mark
-    ensures { result ≡ reading.mark_of boundary.now line.now }
+    ensures { result ≡ reading.line_mark boundary.now line.now }
 {
     match line.strip_prefix(b"--") {
         None => Mark::Plain,

@@ -2,13 +2,18 @@
 //! symbols, whose laws say that the rules are those of its language.
 #![tactic(auto)]
 
-mod answer;
+// What a grammar gives.
 mod moves;
+mod symbol;
+
+// Octets at a stack.
 mod runs;
-mod scanner;
 mod stack;
 mod step;
-mod symbol;
+
+// Scanning.
+mod answer;
+mod scanner;
 
 pub use answer::Answer;
 pub use moves::Move;

@@ -11,6 +11,7 @@ pub struct MadeLink {
 }
 
 impl MadeLink {
+    /// A link of these octets, which are not given yet.
     pub fn new(octets: Vec<u8>) -> MadeLink {
         MadeLink { octets, from: 0 }
     }

@@ -1,9 +1,12 @@
 //! Worlds in memory that follow a script.
 #![tactic(auto)]
 
+// What is followed, and what is left of it.
 mod left;
 mod playback;
 mod script;
+
+// The worlds.
 mod script_world;
 mod steady_world;
 

@@ -11,7 +11,7 @@ use Rattle.change_list.specs.Kept.{Kept, IsOf}
 use Rattle.change_list.specs.declared.entries.Entry.{Entry}
 use Rattle.change_list.proofs.AdvanceLaws.{advance_goes_on}
 use Rattle.served_maps.specs.Steps.{removed, changed, added}
-use Rattle.served_maps.specs.Past.{Past, IsPast, AreFresh, gone_on, last_place, had_at, served, tests_of, StandsFor}
+use Rattle.served_maps.specs.Past.{Past, IsPast, AreFresh, gone_on, place_now, had_at, served, tests_of, StandsFor}
 
 -- a filter and a map of mapped items
 mapped : {X Y Z : Type 0} (f : X → Y) (p : Y → Bool) (r : X → Bool) (g : Y → Z) (h : X → Z) → ((x : X) → p (f x) ≡ r x) → ((x : X) → g (f x) ≡ h x)
@@ -100,9 +100,9 @@ module _ {V : Type 0} where
       ∙ sym (length-append (map removed gone) (map (changed tests.counts old) differ ++ map added news))
 
   -- the place rises by the number of touches
-  pub rises : (tests : Tests V) (p : Past V) (new : List (ℕ × V)) → last_place (gone_on tests p new) ≡ last_place p + length (advance_entries tests p.now new)
+  pub rises : (tests : Tests V) (p : Past V) (new : List (ℕ × V)) → place_now (gone_on tests p new) ≡ place_now p + length (advance_entries tests p.now new)
   rises tests p new = length-append p.touches (advance tests p.now new) ∙ ap (λ n. length p.touches + n) (length_advance tests p.now new)
 
   -- earlier places stay
-  pub stays : (tests : Tests V) (p : Past V) (new : List (ℕ × V)) (place q : ℕ) → place ≤ last_place p → had_at (gone_on tests p new) place q ≡ had_at p place q
+  pub stays : (tests : Tests V) (p : Past V) (new : List (ℕ × V)) (place q : ℕ) → place ≤ place_now p → had_at (gone_on tests p new) place q ≡ had_at p place q
   stays tests p new place q within = ap (λ ts. value_after None ts q) (take-append-le place p.touches (advance tests p.now new) within)

@@ -11,8 +11,8 @@ pub record Past (V : Type 0) : Type 0 where
   pub touches : List (Touch V)
 
 module _ {V : Type 0} where
-  abbrev pub last_place : Past V → ℕ
-  last_place p = history.last_place p.touches
+  abbrev pub place_now : Past V → ℕ
+  place_now p = history.last_place p.touches
 
   -- what q has at a place
   abbrev pub had_at : Past V → ℕ → ℕ → Option V
@@ -20,7 +20,7 @@ module _ {V : Type 0} where
 
   -- what q has now
   abbrev pub has_now : Past V → ℕ → Option V
-  has_now p q = had_at p (last_place p) q
+  has_now p q = had_at p (place_now p) q
 
   -- the map now is the last one of the history
   pub record IsPast (p : Past V) : Type 0 where

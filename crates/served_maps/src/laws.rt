@@ -4,7 +4,7 @@ ghost use Rattle.change_list.specs.Kept.{Kept, IsOf};
 ghost use Rattle.change_list.specs.History as history;
 ghost use Rattle.change_list.specs.Advance.{Tests, IsExact, row_at, AreRows, advance_entries};
 ghost use Rattle.change_list.specs.declared.entries.Entry.{Entry};
-ghost use Rattle.served_maps.specs.Past.{Past, IsPast, IsEverBelow, AreFresh, StandsFor, gone_on, served, tests_of, last_place, had_at};
+ghost use Rattle.served_maps.specs.Past.{Past, IsPast, IsEverBelow, AreFresh, StandsFor, gone_on, served, tests_of, place_now, had_at};
 
 /// A past goes on to new rows, where no id is new in them that was there before.
 pub fn pasts_go_on<V>()
@@ -15,13 +15,13 @@ pub fn pasts_go_on<V>()
 /// Its place rises by the number of touches.
 pub fn places_rise<V>()
     ensures { (tests : Tests V) (p : Past V) (new : List (ℕ × V))
-        → last_place (gone_on tests p new) ≡ last_place p + length (advance_entries tests p.now new) }
+        → place_now (gone_on tests p new) ≡ place_now p + length (advance_entries tests p.now new) }
 {}
 
 /// What was there at a place stays as it was.
 pub fn places_stay<V>()
     ensures { (tests : Tests V) (p : Past V) (new : List (ℕ × V)) (place q : ℕ)
-        → place ≤ last_place p → had_at (gone_on tests p new) place q ≡ had_at p place q }
+        → place ≤ place_now p → had_at (gone_on tests p new) place q ≡ had_at p place q }
 {}
 
 /// Where every id that ever was is below a number, so is every id of the past that went on to rows below a later one.

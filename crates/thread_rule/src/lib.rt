@@ -1,15 +1,20 @@
 //! How replies come into one conversation: the base subject of an Email, and the Thread of a new one.
 #![tactic(auto)]
 
+// The base subject.
 mod base;
+mod subject;
+
+// Emails by what they name.
+mod header;
+mod member;
+
+// The book.
 mod book;
 mod entries;
-mod header;
 mod index;
 mod key;
-mod member;
 mod search;
-mod subject;
 
 pub use base::{base_of, base_subject};
 pub use book::ThreadBook;

@@ -160,7 +160,7 @@ lost_goes old new u x found on cut next upd =
       };
     }
 
--- memory lacked, and the messages stay
+-- out of memory, and the messages stay
 pub lost_fails : (old new : Work) (t : Telling) (e : AllocError) → new.folder ≡ old.folder → new.messages ≡ old.messages → new.marks ≡ old.marks → new.next_mark ≡ old.next_mark
     → new.changes ≡ old.changes → GoesOk old new t (Err e)
 lost_fails old new t e folder messages marks next changes = record {

@@ -120,7 +120,7 @@ held_goes old new uid items flags result adds up held is flagged =
           ] f.told f.err);
     }
 
--- memory lacked for the flags
+-- out of memory for the flags
 pub stays_flagged : (old : Work) (x : Message) (flags : List (List ℕ)) (e : AllocError) → IsFlagged old old x flags (Err e)
 stays_flagged old x flags e = record {
   on = record { folder = refl; rises = omega arith; stands = λ f l. refl; draws = λ f l. refl };
@@ -195,7 +195,7 @@ stays old t e = record {
   index = λ hs i. i;
 }
 
--- memory lacked, and the mark that was put was cut again
+-- out of memory, and the mark that was put was cut again
 pub put_fails : (old new : Work) (t : Telling) (k : ℕ) (p : ℕ × ℕ) (marks : BTreeMap ℕ (ℕ × ℕ)) (e : AllocError) → old.next_mark ≤ k → new.folder ≡ old.folder
     → new.messages ≡ old.messages → new.next_mark ≡ old.next_mark → new.changes ≡ old.changes
     → ((q : ℕ) → get nat_cmp marks q ≡ cond (is_at (nat_cmp k) q) (Some p) (get nat_cmp old.marks q))
@@ -216,7 +216,7 @@ put_fails old new t k p marks e fresh folder messages next changes upd upd' = re
   };
 }
 
--- memory lacked, and nothing was changed
+-- out of memory, and nothing was changed
 pub fails : (old : Work) (t : Telling) (e : AllocError) → GoesOk old old t (Err e)
 fails old t e = record {
   known = λ k. tt;

@@ -207,7 +207,7 @@ told_whole old a b d f f1 g c rs adding result start is mid end =
           on_ok_map result (λ e. e ∙ second ∙ first) (end.known over);
     }
 
--- memory lacked within the responses
+-- out of memory within the responses
 pub told_part : (old a b : Work) (f f1 : Folder) (c : Command) (rs : List Response) (Known : Type 0) (t : Telling) (h : Held) (e : AllocError) → Steps old a f f1 h
     → GoesWith Known a b t (Err e) → Tells old b f f1 c rs (Err e)
 told_part old a b f f1 c rs Known t h e start mid = record {

@@ -46,7 +46,7 @@ pub record IsFlagged (old new : Work) (x : Message) (flags : List (List ℕ)) (r
   pub err : OnErr result (new.messages ≡ old.messages)
   pub known : x.flags ≡ flags → OnOk result (new.changes ≡ old.changes)
 
--- the same at Ok; where memory lacked the index and the count are right all the same. Where nothing new is told the count stands
+-- the same at Ok; out of memory the index and the count are right all the same. Where nothing new is told the count stands
 pub record GoesWith (Known : Type 0) (old new : Work) (t : Telling) (result : Result (Unit {0}) AllocError) : Type 0 where
   pub on : GoesOn old new
   pub ascends : Ascends uid_of old.messages → Ascends uid_of new.messages

@@ -6,8 +6,10 @@ ghost use Rattle.told_folder.specs.Places.{IsPlace, IsHeldAt, IsFreeAt};
 
 /// What has a number of its own.
 pub trait Keyed {
+    /// Its number.
     ghost key_of: { Self → ℕ };
 
+    /// Its number.
     fn key(&self) -> u64
         ensures { result ≡ key_of self.now };
 }

@@ -181,6 +181,7 @@ impl Messages {
         all
     }
 
+    /// The message of a UID.
     pub fn get(&self, uid: u32) -> Option<&Message>
         ensures { option_copied result ≡ with_key uid_of uid self.now }
     {
@@ -190,6 +191,7 @@ impl Messages {
         }
     }
 
+    /// Whether there is a message of this UID.
     pub fn holds(&self, uid: u32) -> bool
         ensures { result ≡ is_some (with_key uid_of uid self.now) }
     {

@@ -21,7 +21,7 @@ use Rattle.told_mail.specs.Lists.{line_for, with_line, put_listed, listed}
 use Rattle.told_mail.specs.Mail.{Mail, named}
 use Rattle.told_mail.specs.Told.{Told}
 use Rattle.told_mail.specs.reading.Index.{IsNamedAt}
-use Rattle.told_mail.specs.reading.Lines.{lined, lined_by, lined_here, lined_at, is_told, AreLinesFrom}
+use Rattle.told_mail.specs.reading.Lines.{lined, lined_by, lined_here, lined_at, is_listed, AreLinesFrom}
 use Rattle.told_mail.specs.reading.Rises.{Rises}
 use Rattle.told_mail.proofs.LineLemmas.{has_line_is}
 use Rattle.told_mail.proofs.ToldLemmas.{known_at, set_at}
@@ -157,16 +157,16 @@ lined_end rs m now at h e = e ∙ ap (λ j. record m { folders = map (lined rs) 
 
 -- those that a line names, with what it tells
 pub listed_as : (rs : List Response) (lines : BTreeMap (Vec ℕ Global) ℕ) (hs : List Held) → AreLinesFrom rs 0 lines
-    → filter (is_told lines) (map (lined rs) hs) ≡ listed rs hs
+    → filter (is_listed lines) (map (lined rs) hs) ≡ listed rs hs
 listed_as rs lines [] a = refl
 listed_as rs lines (h ∷ hs) a =
-    let rest : filter (is_told lines) (map (lined rs) hs) ≡ listed rs hs = listed_as rs lines hs a in
+    let rest : filter (is_listed lines) (map (lined rs) hs) ≡ listed rs hs = listed_as rs lines hs a in
     elim (line_for h.folder.name rs) as (λ o. line_for h.folder.name rs ≡ o
-    → (if is_told lines (lined_by o h) then lined_by o h ∷ filter (is_told lines) (map (lined rs) hs) else filter (is_told lines) (map (lined rs) hs)) ≡ put_listed o h
+    → (if is_listed lines (lined_by o h) then lined_by o h ∷ filter (is_listed lines) (map (lined rs) hs) else filter (is_listed lines) (map (lined rs) hs)) ≡ put_listed o h
     (listed rs hs)) [
-      | None ↦ λ e. ap (λ b. if b then h ∷ filter (is_told lines) (map (lined rs) hs) else filter (is_told lines) (map (lined rs) hs))
+      | None ↦ λ e. ap (λ b. if b then h ∷ filter (is_listed lines) (map (lined rs) hs) else filter (is_listed lines) (map (lined rs) hs))
           (has_line_is rs lines h.folder.name a ∙ ap is_some e) ∙ rest
-      | Some l ↦ λ e. ap (λ b. if b then with_line l h ∷ filter (is_told lines) (map (lined rs) hs) else filter (is_told lines) (map (lined rs) hs))
+      | Some l ↦ λ e. ap (λ b. if b then with_line l h ∷ filter (is_listed lines) (map (lined rs) hs) else filter (is_listed lines) (map (lined rs) hs))
           (has_line_is rs lines h.folder.name a ∙ ap is_some e) ∙ ap (λ (zs : List Held). with_line l h ∷ zs) rest
     ] refl
 
@@ -192,15 +192,15 @@ listed_lined rs (h ∷ hs) e =
     ap (λ (z : Held). z ∷ map (lined rs) hs) first.0 ∙ ap (λ (zs : List Held). h ∷ zs) (listed_lined rs hs first.1)
 
 pub listed_mail : (rs : List Response) (lines : BTreeMap (Vec ℕ Global) ℕ) (m now new : Mail) → AreLinesFrom rs 0 lines → now ≡ record m { folders = map (lined rs) m.folders }
-    → new ≡ record now { folders = filter (is_told lines) now.folders } → new ≡ record m { folders = listed rs m.folders }
-listed_mail rs lines m now new a e f = f ∙ ap (λ (k : Mail). record k { folders = filter (is_told lines) k.folders }) e
+    → new ≡ record now { folders = filter (is_listed lines) now.folders } → new ≡ record m { folders = listed rs m.folders }
+listed_mail rs lines m now new a e f = f ∙ ap (λ (k : Mail). record k { folders = filter (is_listed lines) k.folders }) e
     ∙ ap (λ (hs : List Held). record m { folders = hs }) (listed_as rs lines m.folders a)
 
 pub listed_known : (rs : List Response) (lines : BTreeMap (Vec ℕ Global) ℕ) (m now : Mail) → AreLinesFrom rs 0 lines → listed rs m.folders ≡ m.folders
-    → now ≡ record m { folders = map (lined rs) m.folders } → filter (is_told lines) now.folders ≡ now.folders
+    → now ≡ record m { folders = map (lined rs) m.folders } → filter (is_listed lines) now.folders ≡ now.folders
 listed_known rs lines m now a same e =
     let here : now.folders ≡ map (lined rs) m.folders = ap (λ (k : Mail). k.folders) e in
-    ap (λ (hs : List Held). filter (is_told lines) hs) here ∙ listed_as rs lines m.folders a ∙ same ∙ sym (listed_lined rs m.folders same) ∙ sym here
+    ap (λ (hs : List Held). filter (is_listed lines) hs) here ∙ listed_as rs lines m.folders a ∙ same ∙ sym (listed_lined rs m.folders same) ∙ sym here
 
 filter_short : (p : Held → Bool) (hs : List Held) → length (filter p hs) ≤ length hs
 filter_short p [] = omega arith

@@ -5,7 +5,7 @@ ghost use Rattle.std.specs.Prelude.{◌≡◌, ℕ, List, Bool, true, None, if�
 ghost use Rattle.told_folder.specs.Work.{cleared};
 ghost use Rattle.told_mail.specs.Mail.{is_same};
 ghost use Rattle.told_mail.specs.reading.Index.{IsMirror};
-ghost use Rattle.told_mail.specs.reading.Lines.{is_told};
+ghost use Rattle.told_mail.specs.reading.Lines.{is_listed};
 ghost use Rattle.told_mail.specs.reading.Names.{place_in};
 
 use crate::Held;
@@ -41,7 +41,7 @@ pub fn clear_ended(
     marks: &mut BTreeMap<u64, (u64, u32)>,
     numbers: &mut BTreeMap<Vec<u8>, u64>,
 )
-    ensures { (next_mark next_folder : ℕ) → IsMirror folders.now marks.old numbers.old next_mark next_folder → IsMirror (filter (is_told lines.now) folders.now) marks.new numbers.new next_mark next_folder }
+    ensures { (next_mark next_folder : ℕ) → IsMirror folders.now marks.old numbers.old next_mark next_folder → IsMirror (filter (is_listed lines.now) folders.now) marks.new numbers.new next_mark next_folder }
 {
     for held in folders {
         if !has_line(lines, held.folder.name.as_slice()) {
@@ -52,7 +52,7 @@ pub fn clear_ended(
 
 /// Takes out the folders that no line tells.
 pub fn keep_told(folders: &mut Vec<Held>, lines: &BTreeMap<Vec<u8>, usize>)
-    ensures { folders.new.items ≡ filter (is_told lines.now) folders.old.items }
+    ensures { folders.new.items ≡ filter (is_listed lines.now) folders.old.items }
 {
     folders.retain(|held| has_line(lines, held.folder.name.as_slice()));
 }

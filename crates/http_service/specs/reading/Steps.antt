@@ -49,7 +49,8 @@ IsOutside _ = ⊥
 
 -- lines stand at the front, as far as their last line end, or as far as they may be read
 abbrev pub ReadsLines : Lines → List ℕ → List ℕ → Result Stop HttpError → List Event → Type 0
-ReadsLines lines before after (Ok at) events = (earlier : List Event) × Takes (LinesOf (lines_of lines)) [] before after earlier × StopsAt lines at after events earlier
+ReadsLines lines before after (Ok at) events = (earlier : List Event) × Takes (LinesOf (lines_of lines)) [] before after earlier
+    × StopsAt lines at after events earlier
 ReadsLines lines before after (Err e) events = (earlier : List Event) × Takes (LinesOf (lines_of lines)) [] before after earlier
     × EndsBy e (LinesOf (lines_of lines)) after events earlier × IsOutside e
 

@@ -5,7 +5,7 @@ use Rattle.imap_syntax.specs.declared.response.Response.{Response}
 use Rattle.imap_syntax.specs.declared.response.Response.TheVariants.{List as Listing, StatusItems as Counts}
 use Rattle.imap_syntax.specs.Octets.{is_digit, is_status_word, lower}
 use Rattle.imap_syntax.specs.Folders.{folder_name, told_as, no_counts}
-use Rattle.imap_values.specs.reading.Spans.{span, long_in, flags_in}
+use Rattle.imap_values.specs.reading.Spans.{span, long_read, flags_in}
 use Rattle.imap_values.specs.reading.StringReading.{astring_in}
 
 -- ---- LIST
@@ -29,7 +29,7 @@ unfoldable pub count_in : StatusItems → List ℕ → StatusItems × List ℕ
 count_in so_far b =
     let n = span is_status_word b in
     let d = drop (n + 1) b in
-    (told_as so_far (map lower (take n b)) (long_in (take (span is_digit d) d)), drop (span is_digit d) d)
+    (told_as so_far (map lower (take n b)) (long_read (take (span is_digit d) d)), drop (span is_digit d) d)
 
 -- at most n counts, each but the first after a space
 unfoldable pub status_counts : ℕ → StatusItems → List ℕ → StatusItems
@@ -39,10 +39,10 @@ status_counts (suc most) so_far b =
     if get_or r.1 0 0 == 32 then status_counts most r.0 (drop 1 r.1) else r.0
 
 -- after the opening bracket
-unfoldable pub counts_of : List ℕ → StatusItems
-counts_of b = if get_or b 0 0 == 41 then no_counts else status_counts (length b) no_counts b
+unfoldable pub counts_in : List ℕ → StatusItems
+counts_in b = if get_or b 0 0 == 41 then no_counts else status_counts (length b) no_counts b
 
 unfoldable pub status_in : List ℕ → Response
 status_in b =
     let s = astring_in (drop 1 b) in
-    Counts (folder_name s.0) (counts_of (drop 2 s.1))
+    Counts (folder_name s.0) (counts_in (drop 2 s.1))

@@ -6,7 +6,7 @@ use Rattle.imap_grammar.specs.declared.items.Told.{Told}
 use Rattle.imap_grammar.specs.declared.items.Told.TheVariants as told
 use Rattle.imap_syntax.specs.Octets.{is_digit, is_atom, lower}
 use Rattle.imap_syntax.specs.Items.{header_limit, body_limit}
-use Rattle.imap_values.specs.reading.Spans.{span, number_in, long_in, flags_in}
+use Rattle.imap_values.specs.reading.Spans.{span, number_in, long_read, flags_in}
 use Rattle.imap_values.specs.reading.StringReading.{astring_in}
 use Rattle.imap_values.specs.reading.DateReading.{date_in}
 use Rattle.imap_grammar.specs.reading.Passing.{passed}
@@ -30,9 +30,9 @@ unfoldable pub value_in : FetchItems → Told → List ℕ → FetchItems × Lis
 value_in so_far told.Uid b = (let n = span is_digit b in (record so_far { uid = Some (number_in (take n b)) }, drop n b))
 value_in so_far told.Flags b = (let f = flags_in (drop 1 b) in (record so_far { flags = Some f.0 }, f.1))
 value_in so_far told.ModSeq b =
-    (let d = drop 1 b in (record so_far { modseq = Some (long_in (take (span is_digit d) d)) }, drop (span is_digit d + 1) d))
+    (let d = drop 1 b in (record so_far { modseq = Some (long_read (take (span is_digit d) d)) }, drop (span is_digit d + 1) d))
 value_in so_far told.Date b = (record so_far { date = Some (date_in b) }, drop 28 b)
-value_in so_far told.Size b = (let n = span is_digit b in (record so_far { size = Some (long_in (take n b)) }, drop n b))
+value_in so_far told.Size b = (let n = span is_digit b in (record so_far { size = Some (long_read (take n b)) }, drop n b))
 value_in so_far told.Header b = (let s = nstring_in b in (record so_far { header = Some (take header_limit s.0) }, s.1))
 value_in so_far told.Body b = (let s = nstring_in b in (record so_far { body = Some (take body_limit s.0) }, s.1))
 

@@ -19,8 +19,8 @@ words_in (suc most) b =
 -- ---- sets of UIDs
 
 -- a range, and what follows it
-unfoldable pub range_in : List ℕ → UidRange × List ℕ
-range_in b =
+unfoldable pub range_read : List ℕ → UidRange × List ℕ
+range_read b =
     let n = span is_digit b in
     let first = number_in (take n b) in
     let after = drop n b in
@@ -32,7 +32,7 @@ range_in b =
 unfoldable pub ranges_read : ℕ → List ℕ → List UidRange
 ranges_read zero b = []
 ranges_read (suc most) b =
-    let r = range_in b in
+    let r = range_read b in
     r.0 ∷ (if get_or r.1 0 0 == 44 then ranges_read most (drop 1 r.1) else [])
 
 -- after the space after VANISHED

@@ -1,5 +1,6 @@
 -- Runs of octets, numbers and flags at the front of octets.
-use Rattle.std.specs.Prelude.{ℕ, zero, suc, ◌+◌, ◌-◌, ◌*◌, Bool, true, not, ◌&&◌, nat_lt, nat_le, ◌==◌, if◌then◌else◌, List, [], ◌∷◌, length, map, take, drop, get_or}
+use Rattle.std.specs.Prelude.{ℕ, zero, suc, ◌+◌, ◌-◌, ◌*◌, Bool, true, not, ◌&&◌, nat_lt, nat_le, ◌==◌, if◌then◌else◌, List, [], ◌∷◌, length, map, take, drop}
+use Rattle.std.specs.Prelude.{get_or}
 use Rattle.imap_syntax.specs.Octets.{is_digit, lower}
 use Rattle.imap_syntax.specs.Items.{add_name}
 
@@ -25,8 +26,8 @@ abbrev pub number_from : ℕ → List ℕ → ℕ
 number_from n t = count_from 4294967295 n t
 
 -- the number, or 2^63 where it is greater
-abbrev pub long_in : List ℕ → ℕ
-long_in t = count_from 9223372036854775807 0 t
+abbrev pub long_read : List ℕ → ℕ
+long_read t = count_from 9223372036854775807 0 t
 
 -- the number, or 2^32 - 1 where it is greater
 abbrev pub number_in : List ℕ → ℕ

@@ -15,19 +15,19 @@ line_len (c ∷ t) = if c == 10 then 1 else suc (line_len t)
 abbrev pub behind : List ℕ → List ℕ → Option (List ℕ)
 behind p t = if bytes_eq (take (length p) t) p then Some (drop (length p) t) else None
 
-abbrev pub closes : Option (List ℕ) → Mark
-closes None = mark.Plain
-closes (Some t) = if list_all is_white t then mark.Closes else mark.Plain
+abbrev pub closing_mark : Option (List ℕ) → Mark
+closing_mark None = mark.Plain
+closing_mark (Some t) = if list_all is_white t then mark.Closes else mark.Plain
 
 -- what the line is, by what stands after the boundary
 abbrev pub rest_mark : Option (List ℕ) → Mark
 rest_mark None = mark.Plain
-rest_mark (Some t) = if list_all is_white t then mark.Opens else closes (behind (45 ∷ 45 ∷ []) t)
+rest_mark (Some t) = if list_all is_white t then mark.Opens else closing_mark (behind (45 ∷ 45 ∷ []) t)
 
 abbrev pub behind_dashes : List ℕ → Option (List ℕ) → Option (List ℕ)
 behind_dashes boundary None = None
 behind_dashes boundary (Some t) = behind boundary t
 
 -- the one mark of the line
-unfoldable pub mark_of : List ℕ → List ℕ → Mark
-mark_of boundary line = rest_mark (behind_dashes boundary (behind (45 ∷ 45 ∷ []) line))
+unfoldable pub line_mark : List ℕ → List ℕ → Mark
+line_mark boundary line = rest_mark (behind_dashes boundary (behind (45 ∷ 45 ∷ []) line))

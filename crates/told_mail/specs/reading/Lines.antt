@@ -17,15 +17,15 @@ use Rattle.std.specs.declared.alloc.AllocError.{AllocError}
 abbrev pub value_of : Line → lists.Line
 value_of l = record { name = l.name.now; delimiter = l.delimiter; attributes = l.attributes.now }
 
-abbrev pub told_as : Folder → lists.Line → Folder
-told_as f l = record f { delimiter = l.delimiter; attributes = l.attributes }
+abbrev pub as_listed : Folder → lists.Line → Folder
+as_listed f l = record f { delimiter = l.delimiter; attributes = l.attributes }
 
--- at Ok the folder has what the line tells, and the answer is whether that is new; where memory lacked it is as it was
+-- at Ok the folder has what the line tells, and the answer is whether that is new; out of memory it is as it was
 pub record IsLined (f g : Folder) (l : lists.Line) (result : Result Bool AllocError) : Type 0 where
-  pub ok : OnOk result (g ≡ told_as f l)
+  pub ok : OnOk result (g ≡ as_listed f l)
   pub err : OnErr result (g ≡ f)
   pub same : IfOk result (λ b. b ≡ false → g ≡ f)
-  pub new : IfOk result (λ b. b ≡ true → told_as f l ≢ f)
+  pub new : IfOk result (λ b. b ≡ true → as_listed f l ≢ f)
 
 -- the folder with what its line tells, where there is one
 abbrev pub lined_by : Option lists.Line → Held → Held
@@ -64,8 +64,8 @@ pub record AreLinesFrom (rs : List Response) (at : ℕ) (lines : BTreeMap (Vec �
   pub places : (name : List ℕ) → StandsAt rs (line_for name (drop at rs)) (place_in lines name)
 
 -- a line has the folder's name
-abbrev pub is_told : BTreeMap (Vec ℕ Global) ℕ → Held → Bool
-is_told lines h = is_some (place_in lines h.folder.name)
+abbrev pub is_listed : BTreeMap (Vec ℕ Global) ℕ → Held → Bool
+is_listed lines h = is_some (place_in lines h.folder.name)
 
 -- ---- names that are picked
 

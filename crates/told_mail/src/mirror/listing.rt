@@ -4,7 +4,7 @@ ghost use Rattle.told_mail.specs.Lists.{listed, with_line, with_new_folder, with
 ghost use Rattle.told_mail.specs.Lists as lists;
 ghost use Rattle.told_mail.specs.Mail.{named};
 ghost use Rattle.told_mail.specs.Told.{counted_up};
-ghost use Rattle.told_mail.specs.reading.Lines.{value_of, lined, lined_at, is_told, AreLinesFrom, with_pushed};
+ghost use Rattle.told_mail.specs.reading.Lines.{value_of, lined, lined_at, is_listed, AreLinesFrom, with_pushed};
 ghost use Rattle.told_mail.specs.reading.Names.{AllFree, AreApart};
 ghost use Rattle.told_mail.specs.reading.Rises.{Rises};
 
@@ -77,8 +77,8 @@ impl Mirror {
 
     /// Takes out the folders that no line tells, with their messages. No folder is moved more than once.
     fn cut_ended(&mut self, lines: &BTreeMap<Vec<u8>, usize>)
-        ensures mail { self.new.mail ≡ record self.old.mail { folders = filter (is_told lines.now) self.old.mail.folders } }
-        ensures known { filter (is_told lines.now) self.old.mail.folders ≡ self.old.mail.folders → self.new.changes ≡ self.old.changes }
+        ensures mail { self.new.mail ≡ record self.old.mail { folders = filter (is_listed lines.now) self.old.mail.folders } }
+        ensures known { filter (is_listed lines.now) self.old.mail.folders ≡ self.old.mail.folders → self.new.changes ≡ self.old.changes }
         ensures counts { Rises self.old self.new }
     {
         let before = self.folders.len();

@@ -15,5 +15,6 @@ returns-in-Ok-clause-run g c =
     (join (Attends c.args.place.now (g.W.Taped.hidden c.args.world.now) (g.W.Taped.faults c.args.world.now) (g.W.Taped.faults c.answer_one-served.new.world)
     c.answer_one-served.result)
     c.in-Ok.ensures.run c.answer_one-served.ensures.run (λ x y opens steps.
-    attends x y c.in-Ok.ensures.door (ap (λ (h : Hidden). account_by c.in-Ok.gate h) c.in-Ok.ensures.hidden ∙ c.in-Ok.ensures.account) c.in-Ok.ensures.hidden c.in-Ok.ensures.cause opens steps))
+    attends x y c.in-Ok.ensures.door (ap (λ (h : Hidden). account_by c.in-Ok.gate h) c.in-Ok.ensures.hidden ∙ c.in-Ok.ensures.account)
+    c.in-Ok.ensures.hidden c.in-Ok.ensures.cause opens steps))
     c.end_once.ensures.said (λ x y attended ends. performs_once y attended c.end_once.ensures.alone ends)

@@ -1,5 +1,5 @@
 use Rattle.std.proofs.Common.{◌≡◌, arith, sym, ◌∙◌}
-use Rattle.mime_tree.specs.reading.LineReading.{mark_of}
+use Rattle.mime_tree.specs.reading.LineReading.{line_mark}
 use Rattle.mime_tree.specs.declared.split.Mark.TheVariants as mark
 use Rattle.mime_tree.proofs.LineLemmas.{here}
 use Rattle.mime_tree.proofs.SplitLemmas.{at_plain, at_opens, at_closes, at_end_inside, at_end_outside}
@@ -11,7 +11,7 @@ pub returns-in-Closes-clause-split : goal.returns-in-Closes-clause-split
 returns-in-Closes-clause-split c =
     let h = here c.args.bytes.now c.loop-at.at c.split_at.result.1.now c.split_at-in-loop-at.result.0.now c.line_len-len.result c.loop-at-test.true c.split_at.ensures.back
     c.line_len-len.ensures.value c.split_at-in-loop-at.ensures.front in
-    let m : mark_of c.args.boundary.now c.split_at-in-loop-at.result.0.now ≡ mark.Closes = sym c.mark_of.ensures ∙ c.in-Closes.is in
+    let m : line_mark c.args.boundary.now c.split_at-in-loop-at.result.0.now ≡ mark.Closes = sym c.mark_of.ensures ∙ c.in-Closes.is in
     at_closes c.loop-at.begun c.args.bytes.now c.args.boundary.now c.loop-at.pieces.items _ c.loop-at.at c.line_len-len.result _ h m c.loop-at.invariant.split
     (c.from_vec.ensures ∙ c.in_ok-end_part-in-Closes.ensures)
 

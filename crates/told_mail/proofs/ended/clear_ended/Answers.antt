@@ -1,7 +1,7 @@
 use Rattle.std.proofs.Common.{◌≡◌, ◌∙◌, ◌<◌, ◌++◌, ◌∷◌, ◌+◌, ℕ, Bool, true, false, List, sym, subst, arith, filter, take, drop, length}
 use Rattle.told_folder.specs.declared.message.Held.{Held}
 use Rattle.told_mail.specs.reading.Index.{IsMirror}
-use Rattle.told_mail.specs.reading.Lines.{is_told}
+use Rattle.told_mail.specs.reading.Lines.{is_listed}
 use Rattle.told_mail.proofs.ListLemmas.{told_more, told_end, ended_before, ended_after}
 use Rattle.told_mail.proofs.ToldLemmas.{one_ended}
 use Rattle.told_mail.proofs.ended.clear_ended.Goals as goal
@@ -10,7 +10,7 @@ use Rattle.told_mail.proofs.ended.clear_ended.Goals.{then-not-has_line, else-not
 pub loop-held-preserved : goal.loop-held-preserved
 loop-held-preserved c =
     let hs : List Held = c.args.folders.now in
-    let p : Held → Bool = is_told c.args.lines.now in
+    let p : Held → Bool = is_listed c.args.lines.now in
     let i : ℕ = c.loop-held.held-index in
     let h : Held = c.held-item.result in
     let within : i < length hs = omega (arith, c.loop-held-test.true) in
@@ -35,5 +35,5 @@ pub returns : goal.returns
 returns c = λ n m start.
     let hs : List Held = c.args.folders.now in
     subst (λ (zs : List Held). IsMirror zs c.loop-held.marks c.loop-held.numbers n m)
-    (told_end (is_told c.args.lines.now) hs c.loop-held.held-index (omega (arith, c.loop-held-test.false)))
+    (told_end (is_listed c.args.lines.now) hs c.loop-held.held-index (omega (arith, c.loop-held-test.false)))
     (c.loop-held.invariant n m start)

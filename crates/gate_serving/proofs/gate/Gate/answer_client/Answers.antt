@@ -10,7 +10,8 @@ use Rattle.gate_serving.proofs.gate.Gate.answer_client.Goals as goal
 pub returns-clause-run : goal.returns-clause-run
 returns-clause-run g c =
     let was : Faults = g.W.Taped.faults c.args.world.now in
-    let sent = join (λ es. Serves c.args.self.now.door (account_by c.args.self.now (g.W.Taped.hidden c.args.world.now)) (state_of c.args.self.now) (state_of c.reply-reply.new.self) was
+    let sent = join (λ es. Serves c.args.self.now.door (account_by c.args.self.now (g.W.Taped.hidden c.args.world.now)) (state_of c.args.self.now)
+    (state_of c.reply-reply.new.self) was
     (g.W.Taped.faults c.send_reply-served.new.front) c.send_reply-served.result (es ++ ClientDone ∷ []))
     c.reply-reply.ensures.run c.send_reply-served.ensures.tape
     (λ x y so sends. serves_reply _ _ _ _ was _ _ x y c.reply-reply.result c.send_reply-served.result c.reply-reply.ensures.later c.send_reply-served.ensures.alone

@@ -25,7 +25,8 @@ pub returns-in-Err-Ended-clause-run : goal.returns-in-Err-Ended-clause-run
 returns-in-Err-Ended-clause-run g c = widen _ (rw c.in-Err-Ended.field-0-is at c.in-Err-Ended.ensures.tape) (λ x so. (inl so, refl))
 
 pub returns-in-Err-Failed-clause-run : goal.returns-in-Err-Failed-clause-run
-returns-in-Err-Failed-clause-run g c = widen _ (rw c.in-Err-Failed.field-0-is at c.in-Err-Failed.ensures.tape) (λ x so. (inr (so, (rw c.in-Err-Failed.field-0-is at c.in-Err-Failed.ensures.cause) refl), refl))
+returns-in-Err-Failed-clause-run g c = widen _ (rw c.in-Err-Failed.field-0-is at c.in-Err-Failed.ensures.tape)
+    (λ x so. (inr (so, (rw c.in-Err-Failed.field-0-is at c.in-Err-Failed.ensures.cause) refl), refl))
 
 pub returns-in-Err-Ended-clause-none : goal.returns-in-Err-Ended-clause-none
 returns-in-Err-Ended-clause-none g c = λ bare none. absurd ((rw c.in-Err-Ended.field-0-is at c.in-Err-Ended.ensures.bare) bare refl)

@@ -1,7 +1,7 @@
 use Rattle.std.proofs.Common.{◌≡◌, ◌∙◌, List, ap, sym, subst, refl, arith, length, filter}
 use Rattle.told_folder.specs.declared.message.Held.{Held}
 use Rattle.told_mail.specs.reading.Index.{IsMirror}
-use Rattle.told_mail.specs.reading.Lines.{is_told}
+use Rattle.told_mail.specs.reading.Lines.{is_listed}
 use Rattle.told_mail.proofs.ListLemmas.{all_stay}
 use Rattle.told_mail.proofs.ToldLemmas.{mail_same}
 use Rattle.told_mail.proofs.mirror.Mirror.cut_ended.Goals as goal
@@ -37,7 +37,7 @@ returns-else-len-before-clause-mail c = rw (← c.self.view_is) (mail_same _ _ _
 pub returns-else-len-before-clause-counts : goal.returns-else-len-before-clause-counts
 returns-else-len-before-clause-counts c =
     let hs : List Held = c.self.inside.folders.items in
-    let same : length (filter (is_told c.args.lines.now) hs) ≡ length hs = omega
+    let same : length (filter (is_listed c.args.lines.now) hs) ≡ length hs = omega
     (arith, ap length c.keep_told.ensures, c.if-len-before.false, c.len.ensures, c.len-before.ensures, c.self.inside.folders.ok, c.keep_told.new.folders.ok) in
-    let stays : c.keep_told.new.folders.items ≡ hs = c.keep_told.ensures ∙ all_stay (is_told c.args.lines.now) hs same in
+    let stays : c.keep_told.new.folders.items ≡ hs = c.keep_told.ensures ∙ all_stay (is_listed c.args.lines.now) hs same in
     rw (← c.self.view_is) (record { rises = omega arith; stands = λ e l. mail_same _ _ _ _ _ _ stays refl refl })
