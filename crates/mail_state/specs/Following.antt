@@ -5,7 +5,7 @@ use Rattle.change_list.specs.Kept.{Kept}
 use Rattle.change_list.specs.Advance.{advance_entries}
 use Rattle.change_list.specs.declared.entries.Entry.{Entry}
 use Rattle.told_mail.specs.Mail.{Mail}
-use Rattle.served_maps.specs.Past.{tests_of, last_place}
+use Rattle.served_maps.specs.Past.{tests_of, place_now}
 use Rattle.mail_maps.specs.Threads.{threads_of}
 use Rattle.mail_maps.specs.Mailboxes.{mailboxes_of}
 use Rattle.mail_maps.specs.Serve.{mailbox_of, thread_of, mailbox_tests, thread_tests}
@@ -58,9 +58,9 @@ RefusesSpent s m (Err e) = (e ≡ Memory) ⊎ ((n : NumberedRows) × TakesMail s
 
 -- a type has moved where its place rose
 pub record Moves (moved : Advance) (h after : MailHistory) : Type 0 where
-  pub mailbox : IsTrue moved.mailbox ↔ (last_place h.mailboxes < last_place after.mailboxes)
-  pub email : IsTrue moved.email ↔ (last_place h.emails < last_place after.emails)
-  pub thread : IsTrue moved.thread ↔ (last_place h.threads < last_place after.threads)
+  pub mailbox : IsTrue moved.mailbox ↔ (place_now h.mailboxes < place_now after.mailboxes)
+  pub email : IsTrue moved.email ↔ (place_now h.emails < place_now after.emails)
+  pub thread : IsTrue moved.thread ↔ (place_now h.threads < place_now after.threads)
 
 -- the state stands for the history that went on to the mail
 pub record FollowsMail (h : MailHistory) (m : Mail) (now : ServedState) (moved : Advance) : Type 0 where

@@ -2,7 +2,7 @@
 use Rattle.std.specs.Prelude.{◌≡◌, ◌≢◌, ℕ, ◌≤◌, Option, Some, None}
 use Rattle.told_mail.specs.Mail.{Mail}
 use Rattle.change_list.specs.Copy.{IsCopy}
-use Rattle.served_maps.specs.Past.{Past, had_at, has_now, last_place}
+use Rattle.served_maps.specs.Past.{Past, had_at, has_now, place_now}
 use Rattle.mail_maps.specs.Serve.{Email}
 use Rattle.mail_state.specs.History.{MailHistory, IsReached, IsNextMail, Advances}
 use Rattle.mail_state.specs.Sound.{IsSound}
@@ -19,7 +19,7 @@ pub record UsesOnce (h after : MailHistory) : Type 0 where
 
 -- a copy at a place stays one
 abbrev pub CopiesStay : {V : Type 0} → Past V → Past V → Type 0
-CopiesStay {V} before after = (place : ℕ) (copy : ℕ → Option V) → place ≤ last_place before → IsCopy copy before.touches place → IsCopy copy after.touches place
+CopiesStay {V} before after = (place : ℕ) (copy : ℕ → Option V) → place ≤ place_now before → IsCopy copy before.touches place → IsCopy copy after.touches place
 
 pub record KeepsCopies (h after : MailHistory) : Type 0 where
   pub mailboxes : CopiesStay h.mailboxes after.mailboxes

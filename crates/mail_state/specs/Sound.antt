@@ -2,7 +2,7 @@
 use Rattle.std.specs.Prelude.{◌≡◌, ℕ, ◌+◌, ◌≤◌, List, All, Some}
 use Rattle.told_folder.specs.declared.message.Held.{Held}
 use Rattle.told_mail.specs.Mail.{IsMail}
-use Rattle.served_maps.specs.Past.{Past, IsPast, IsEverBelow, had_at, last_place}
+use Rattle.served_maps.specs.Past.{Past, IsPast, IsEverBelow, had_at, place_now}
 use Rattle.mail_maps.specs.declared.row.EmailRow.{EmailRow}
 use Rattle.mail_maps.specs.Envelope.{IsEnvelopeOf}
 use Rattle.mail_maps.specs.Visible.{Placed, shown}
@@ -36,7 +36,7 @@ pub record IsSound (h : MailHistory) : Type 0 where
   pub mailboxes_below : IsEverBelow h.mailboxes h.mail.next_folder
   pub emails_below : IsEverBelow h.emails h.numbered.next
   pub threads_below : IsEverBelow h.threads h.numbered.next
-  pub next : h.numbered.next ≤ last_place h.emails + 1
+  pub next : h.numbered.next ≤ place_now h.emails + 1
   pub rows : All (IsRowOf h.mail.folders) h.numbered.rows
   pub marks : MarksApart h.numbered.rows
   pub immutable : KeepsImmutable h.emails
