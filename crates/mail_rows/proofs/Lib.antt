@@ -1,1 +1,9 @@
-mod VisibleLemmas
+pub mod VisibleLemmas
+pub mod RowLemmas
+pub mod PassLemmas
+pub mod IndexLemmas
+pub mod OneTake
+pub mod Exact
+pub mod ThreadLaw
+pub mod TakingLemmas
+pub mod TouchLemmas

@@ -83,19 +83,19 @@ all_seen (h ∷ hs) numbers uids =
 -- ---- what is found
 
 -- a visible message of the mark
-record IsOfMark (hs : List Held) (mark : ℕ) (p : Placed) : Type 0 where
+record IsVisibleOf (hs : List Held) (mark : ℕ) (p : Placed) : Type 0 where
   pub seen : IsSeen hs p
   pub marked : p.message.mark ≡ mark
 
-among : (hs : List Held) (mark : ℕ) (ps : List Placed) (p : Placed) → AllSeen hs ps → find (λ x. nat_eq x.message.mark mark) ps ≡ Some p → IsOfMark hs mark p
+among : (hs : List Held) (mark : ℕ) (ps : List Placed) (p : Placed) → AllSeen hs ps → find (λ x. nat_eq x.message.mark mark) ps ≡ Some p → IsVisibleOf hs mark p
 among hs mark [] p seen is = absurd (let f : None ≡ Some p = is in cc)
 among hs mark (x ∷ ps) p seen is =
-    elim (nat_eq x.message.mark mark) as (λ (b : Bool). nat_eq x.message.mark mark ≡ b → cond b (Some x) (find (λ y. nat_eq y.message.mark mark) ps) ≡ Some p → IsOfMark hs mark p) [
-      | true ↦ λ same e. let P : Placed → Type 0 = λ q. IsOfMark hs mark q in subst P (some_is x p e) (record { seen = seen.0; marked = eqb-true x.message.mark mark same })
+    elim (nat_eq x.message.mark mark) as (λ (b : Bool). nat_eq x.message.mark mark ≡ b → cond b (Some x) (find (λ y. nat_eq y.message.mark mark) ps) ≡ Some p → IsVisibleOf hs mark p) [
+      | true ↦ λ same e. let P : Placed → Type 0 = λ q. IsVisibleOf hs mark q in subst P (some_is x p e) (record { seen = seen.0; marked = eqb-true x.message.mark mark same })
       | false ↦ λ other e. among hs mark ps p seen.1 e
     ] refl is
 
-found : (m : Mail) (mark : ℕ) (p : Placed) → IsMail m → shown m.folders mark ≡ Some p → IsOfMark m.folders mark p
+found : (m : Mail) (mark : ℕ) (p : Placed) → IsMail m → shown m.folders mark ≡ Some p → IsVisibleOf m.folders mark p
 found m mark p is e = among m.folders mark (visible m.folders) p (all_seen m.folders is.numbers is.uids) e
 
 -- its mark stands at its place
@@ -169,7 +169,7 @@ placed_same a b x y e f = cc
 at_place : (m : Mail) (mark : ℕ) (p : ℕ × ℕ) (x : Message) (q : Placed) → IsMail m → mark_in m.folders p ≡ Some mark → message_in m.folders p.0 p.1 ≡ Some x → shown m.folders mark ≡ Some q
     → (q ≡ record { folder = p.0; message = x }) × (is_served x ≡ true)
 at_place m mark p x q is at held e =
-    let f : IsOfMark m.folders mark q = found m mark q is e in
+    let f : IsVisibleOf m.folders mark q = found m mark q is e in
     let place : (q.folder, q.message.uid) ≡ p = is.marks (q.folder, q.message.uid) p mark (marked_at m.folders q.folder q.message.uid q.message f.seen.at ∙ ap (λ (n : ℕ). Some n) f.marked) at in
     let same : q.message ≡ x = some_is q.message x (sym f.seen.at ∙ ap (λ (r : ℕ × ℕ). message_in m.folders r.0 r.1) place ∙ held) in
     (placed_same q.folder p.0 q.message x (ap (λ (r : ℕ × ℕ). r.0) place) same, ap is_served (sym same) ∙ f.seen.served)
@@ -180,7 +180,7 @@ hidden_mark m mark is none = by (shown m.folders mark) refl
     by : (o : Option Placed) → shown m.folders mark ≡ o → shown m.folders mark ≡ None
     by None e = e
     by (Some q) e =
-        let f : IsOfMark m.folders mark q = found m mark q is e in
+        let f : IsVisibleOf m.folders mark q = found m mark q is e in
         absurd (none (q.folder, q.message.uid) (marked_at m.folders q.folder q.message.uid q.message f.seen.at ∙ ap (λ (n : ℕ). Some n) f.marked))
 
 pub shown_at : (m : Mail) (mark : ℕ) (p : ℕ × ℕ) → IsMail m → mark_in m.folders p ≡ Some mark → served_at m.folders p.0 p.1 ≡ shown m.folders mark

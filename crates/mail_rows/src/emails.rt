@@ -10,6 +10,7 @@ ghost use Rattle.mail_rows.specs.Joining as joining;
 ghost use Rattle.mail_rows.specs.Taking as taking;
 ghost use Rattle.mail_rows.specs.Taking.{TakesMail};
 ghost use Rattle.mail_rows.specs.RowTouches.{email_touches};
+ghost use Rattle.mail_rows.specs.LookUps.{IsOfMark, NoneHasMark};
 ghost use Rattle.mail_rows.specs.reading.Indexes as indexes;
 ghost use Rattle.mail_rows.specs.reading.Stays as passes;
 ghost use Rattle.mail_maps.specs.declared.row.EmailRow.{EmailRow};
@@ -48,7 +49,7 @@ impl Model for Emails {
     ghost invariant = { λ a. AreIndexes a.rows.entries a.next a.marks a.book };
 }
 
-/// An Email that remains was Email before, with what became of the others.
+/// The Emails that remain, with what became of the others.
 #[derive(Drop)]
 struct Remaining {
     emails: Emails,
@@ -118,9 +119,10 @@ impl Emails {
         self.next
     }
 
-    /// Does nothing, and shows that the rows are in order.
+    /// Does nothing, and shows that the rows are in order, and below the next number.
     pub fn are_in_order(&self)
-        ensures { IsStrictlySortedBy nat_cmp (keys_of self.now.rows) }
+        ensures sorted { IsStrictlySortedBy nat_cmp (keys_of self.now.rows) }
+        ensures below { indexes.AreBelow self.now.next self.now.rows }
     {
         let _count = self.rows.len();
     }
@@ -133,12 +135,19 @@ impl Emails {
 
     /// The Email of a mark.
     pub fn email_by_mark(&self, mark: u64) -> Option<&EmailRow>
-        ensures { option_copied result ≡ indexes.row_if self.now.rows (indexes.number_of self.now.rows mark) }
+        ensures { MatchOption result (NoneHasMark self.now.rows mark) (λ row. IsOfMark self.now.rows mark row.now) }
     {
         match self.marks.get(&mark) {
             Some(number) => self.rows.get(number),
             None => None,
         }
+    }
+
+    /// The visible messages that have no row, by folder number and then UID.
+    fn arrivals(&self, alloc: Global, mirror: &Mirror) -> Result<Vec<Arrival>, AllocError>
+        ensures { IfOk result (λ v. v.items ≡ taking.newcomers mirror.now.mail.folders self.now.rows) }
+    {
+        arrivals_in(alloc, mirror.folders(), &self.marks)
     }
 
     /// The Emails that remain, with the touches of those that go or are changed.
@@ -203,7 +212,7 @@ impl Emails {
         requires { self.next + 1 < 2 ^ 64 }
         ensures { IfOk result (λ e. indexes.AddsRow self arrival e) }
     {
-        let number = self.next;
+        let number = self.next();
         let envelope = read_envelope(alloc, arrival.message.header.as_slice())?;
         let named = named(alloc, number, &envelope)?;
         let thread = self.book.find(&named);
@@ -228,22 +237,19 @@ impl Emails {
         requires { self.next ≤ 2 ^ 53 }
         ensures takes { IfOk result (λ r. TakesMail self mirror.now.mail.folders r.0) }
         ensures touches { IfOk result (λ r. r.1.items ≡ email_touches self.rows r.0.rows) }
+        ensures counted { IfOk result (λ r. r.0.next ≤ self.next + length r.1.items) }
     {
-        let first = self.next;
+        self.are_in_order();
+        let first = self.next();
         let Remaining {
             emails,
             gone,
             changed,
         } = self.remain(alloc, mirror)?;
-        let arrivals = arrivals_in(alloc, mirror.folders(), &emails.marks)?;
+        let arrivals = emails.arrivals(alloc, mirror)?;
         let emails = emails.with_arrivals(alloc, arrivals)?;
-        let touches = touches_of(
-            alloc,
-            gone.as_slice(),
-            changed.as_slice(),
-            first,
-            emails.next,
-        )?;
+        let next = emails.next();
+        let touches = touches_of(alloc, gone.as_slice(), changed.as_slice(), first, next)?;
         Ok((emails, touches))
     }
 }

@@ -9,3 +9,6 @@ mod shown;
 mod touches;
 
 pub use emails::Emails;
+
+#[cfg(test)]
+mod tests;

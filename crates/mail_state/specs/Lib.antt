@@ -4,3 +4,4 @@ pub mod State
 pub mod Following
 pub mod LookUps
 pub mod Laws
+pub mod reading

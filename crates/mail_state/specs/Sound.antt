@@ -1,5 +1,8 @@
 -- What holds of each history.
 use Rattle.std.specs.Prelude.{◌≡◌, ℕ, ◌+◌, ◌≤◌, List, All, Some}
+use Rattle.std.specs.List.Sorted.{IsStrictlySortedBy}
+use Rattle.std.specs.Map.{keys_of}
+use Rattle.std.specs.Ordering.{nat_cmp}
 use Rattle.told_folder.specs.declared.message.Held.{Held}
 use Rattle.told_mail.specs.Mail.{IsMail}
 use Rattle.served_maps.specs.Past.{Past, IsPast, IsEverBelow, had_at, place_now}
@@ -37,6 +40,7 @@ pub record IsSound (h : MailHistory) : Type 0 where
   pub emails_below : IsEverBelow h.emails h.numbered.next
   pub threads_below : IsEverBelow h.threads h.numbered.next
   pub next : h.numbered.next ≤ place_now h.emails + 1
+  pub ascending : IsStrictlySortedBy nat_cmp (keys_of h.numbered.rows)
   pub rows : All (IsRowOf h.mail.folders) h.numbered.rows
   pub marks : MarksApart h.numbered.rows
   pub immutable : KeepsImmutable h.emails

@@ -5,7 +5,6 @@ use Rattle.std.specs.Map.{remove_entry}
 use Rattle.std.specs.Ordering.{nat_cmp}
 use Rattle.thread_rule.specs.Threads.{Members}
 use Rattle.mail_maps.specs.Rows.{Rows}
-use Rattle.change_list.specs.Advance.{row_at}
 use Rattle.mail_maps.specs.declared.row.EmailRow.{EmailRow}
 use Rattle.mail_maps.specs.declared.envelope.Envelope.{Envelope}
 use Rattle.mail_maps.specs.Envelope.{IsEnvelopeOf}
@@ -62,11 +61,6 @@ pub record AddsRow (before : NumberedRows) (p : Placed) (after : NumberedRows) :
 abbrev pub numbers_from : ℕ → ℕ → List ℕ
 numbers_from first zero = []
 numbers_from first (suc n) = first ∷ numbers_from (first + 1) n
-
--- the row of the number that an index names
-abbrev pub row_if : Rows → Option ℕ → Option EmailRow
-row_if rows None = None
-row_if rows (Some number) = row_at rows number
 
 -- the row of a new Email of this number, in this Thread
 abbrev pub row_for : ℕ → ℕ → Placed → Envelope → EmailRow
