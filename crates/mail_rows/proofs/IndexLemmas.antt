@@ -32,65 +32,68 @@ module _ (hs : List Held) (q : ℕ) where
   -- where the mark is shown, none of those that go has it
   stays_left : (p : Placed) → shown hs q ≡ Some p → (es : Rows) (o : Option ℕ) → number_left (gone_in hs es) q o ≡ o
   stays_left p is [] o = refl
-  stays_left p is (e ∷ es) o = by (shown hs e.1.mark) refl
+  stays_left p is (e ∷ es) o = by (shown hs e.1.mark) refl (stays_left p is es o)
     where
-      by : (w : Option Placed) → shown hs e.1.mark ≡ w → number_left (map gone_of (cond (not (is_some w)) (e ∷ filter (is_hidden hs) es) (filter (is_hidden hs) es))) q o ≡ o
-      by (Some x) f = stays_left p is es o
-      by None f =
+      by : (w : Option Placed) → shown hs e.1.mark ≡ w → number_left (gone_in hs es) q o ≡ o
+          → number_left (map gone_of (cond (not (is_some w)) (e ∷ filter (is_hidden hs) es) (filter (is_hidden hs) es))) q o ≡ o
+      by (Some x) f rest = rest
+      by None f rest =
           elim (nat_eq e.1.mark q) as (λ (b : Bool). nat_eq e.1.mark q ≡ b → number_left (gone_in hs es) q (cond b None o) ≡ o) [
             | true ↦ λ same. absurd (let g : None ≡ Some p = sym f ∙ ap (shown hs) (eqb-true e.1.mark q same) ∙ is in cc)
-            | false ↦ λ other. stays_left p is es o
+            | false ↦ λ other. rest
           ] refl
 
   -- and the rows with it remain
   stays_after : (p : Placed) → shown hs q ≡ Some p → (o : Option ℕ) (es : Rows) → number_after o (remaining hs es) q ≡ number_after o es q
   stays_after p is o [] = refl
-  stays_after p is o (e ∷ es) = by (shown hs e.1.mark) refl
+  stays_after p is o (e ∷ es) = by (shown hs e.1.mark) refl (λ w. stays_after p is w es)
     where
-      by : (w : Option Placed) → shown hs e.1.mark ≡ w
+      by : (w : Option Placed) → shown hs e.1.mark ≡ w → ((v : Option ℕ) → number_after v (remaining hs es) q ≡ number_after v es q)
           → number_after o (put_remaining e.0 (option_map (updated e.1) w) (remaining hs es)) q ≡ number_after (cond (nat_eq e.1.mark q) (Some e.0) o) es q
-      by (Some x) f = stays_after p is (cond (nat_eq e.1.mark q) (Some e.0) o) es
-      by None f =
+      by (Some x) f rest = rest (cond (nat_eq e.1.mark q) (Some e.0) o)
+      by None f rest =
           elim (nat_eq e.1.mark q) as (λ (b : Bool). nat_eq e.1.mark q ≡ b → number_after o (remaining hs es) q ≡ number_after (cond b (Some e.0) o) es q) [
             | true ↦ λ same. absurd (let g : None ≡ Some p = sym f ∙ ap (shown hs) (eqb-true e.1.mark q same) ∙ is in cc)
-            | false ↦ λ other. stays_after p is o es
+            | false ↦ λ other. rest o
           ] refl
 
   -- where it isn't shown, all rows with it go
   goes_left : shown hs q ≡ None → (es : Rows) (o : Option ℕ) → number_left (gone_in hs es) q o ≡ None → number_left (gone_in hs es) q (number_after o es q) ≡ None
   goes_left is [] o h = h
-  goes_left is (e ∷ es) o h = by (nat_eq e.1.mark q) refl h
+  goes_left is (e ∷ es) o h = by (nat_eq e.1.mark q) refl h (goes_left is es o)
     where
       hidden : e.1.mark ≡ q → shown hs e.1.mark ≡ None
       hidden same = ap (shown hs) same ∙ is
 
-      by : (b : Bool) → nat_eq e.1.mark q ≡ b → number_left (gone_in hs (e ∷ es)) q o ≡ None → number_left (gone_in hs (e ∷ es)) q (number_after (cond (nat_eq e.1.mark q) (Some e.0) o) es q) ≡ None
-      by true same g =
+      by : (b : Bool) → nat_eq e.1.mark q ≡ b → number_left (gone_in hs (e ∷ es)) q o ≡ None
+          → (number_left (gone_in hs es) q o ≡ None → number_left (gone_in hs es) q (number_after o es q) ≡ None)
+          → number_left (gone_in hs (e ∷ es)) q (number_after (cond (nat_eq e.1.mark q) (Some e.0) o) es q) ≡ None
+      by true same g rest =
           let list : gone_in hs (e ∷ es) ≡ gone_of e ∷ gone_in hs es =
           ap (λ (v : Option Placed). map gone_of (cond (not (is_some v)) (e ∷ filter (is_hidden hs) es) (filter (is_hidden hs) es))) (hidden (eqb-true e.1.mark q same)) in
           ap (λ (gs : List Gone). number_left gs q (number_after (cond (nat_eq e.1.mark q) (Some e.0) o) es q)) list
           ∙ ap (λ (b : Bool). number_left (gone_in hs es) q (cond b None (number_after (cond (nat_eq e.1.mark q) (Some e.0) o) es q))) same
           ∙ none_left (gone_in hs es) q
-      by false other g =
+      by false other g rest =
           ap (λ (b : Bool). number_left (gone_in hs (e ∷ es)) q (number_after (cond b (Some e.0) o) es q)) other
           ∙ elim (shown hs e.1.mark) as (λ (v : Option Placed). number_left (map gone_of (cond (not (is_some v)) (e ∷ filter (is_hidden hs) es) (filter (is_hidden hs) es))) q o ≡ None
           → number_left (map gone_of (cond (not (is_some v)) (e ∷ filter (is_hidden hs) es) (filter (is_hidden hs) es))) q (number_after o es q) ≡ None) [
-            | Some x ↦ λ k. goes_left is es o k
+            | Some x ↦ λ k. rest k
             | None ↦ λ k.
                 ap (λ (b : Bool). number_left (gone_in hs es) q (cond b None (number_after o es q))) other
-                ∙ goes_left is es o (sym (ap (λ (b : Bool). number_left (gone_in hs es) q (cond b None o)) other) ∙ k)
+                ∙ rest (sym (ap (λ (b : Bool). number_left (gone_in hs es) q (cond b None o)) other) ∙ k)
           ] g
 
   goes_after : shown hs q ≡ None → (es : Rows) → number_after None (remaining hs es) q ≡ None
   goes_after is [] = refl
-  goes_after is (e ∷ es) = by (shown hs e.1.mark) refl
+  goes_after is (e ∷ es) = by (shown hs e.1.mark) refl (goes_after is es)
     where
-      by : (w : Option Placed) → shown hs e.1.mark ≡ w → number_after None (put_remaining e.0 (option_map (updated e.1) w) (remaining hs es)) q ≡ None
-      by None f = goes_after is es
-      by (Some x) f =
+      by : (w : Option Placed) → shown hs e.1.mark ≡ w → number_after None (remaining hs es) q ≡ None → number_after None (put_remaining e.0 (option_map (updated e.1) w) (remaining hs es)) q ≡ None
+      by None f rest = rest
+      by (Some x) f rest =
           elim (nat_eq e.1.mark q) as (λ (b : Bool). nat_eq e.1.mark q ≡ b → number_after (cond b (Some e.0) None) (remaining hs es) q ≡ None) [
             | true ↦ λ same. absurd (let g : Some x ≡ None = sym f ∙ ap (shown hs) (eqb-true e.1.mark q same) ∙ is in cc)
-            | false ↦ λ other. goes_after is es
+            | false ↦ λ other. rest
           ] refl
 
   pub marks_left : (es : Rows) → number_left (gone_in hs es) q (number_of es q) ≡ number_of (remaining hs es) q
@@ -117,31 +120,29 @@ abbrev Before : Members → Rows → Type 0
 Before a [] = Unit {0}
 Before a (e ∷ es) = NoneAt e.0 a × Before a es
 
+none_more : (number k : ℕ) (m : Member) (a : Members) → k < number → NoneAt number a → NoneAt number (a ++ (k, m) ∷ [])
+none_more number k m [] l n = (below_is_not k number l, tt)
+none_more number k m (y ∷ a) l n = (n.0, none_more number k m a l n.1)
+
 before_more : (a : Members) (k : ℕ) (m : Member) (es : Rows) → AllByRecursion (λ y. nat_cmp k y ≡ Less) (keys_of es) → Before a es → Before (a ++ (k, m) ∷ []) es
 before_more a k m [] h b = tt
-before_more a k m (e ∷ es) h b = (one a b.0, before_more a k m es h.1 b.1)
-  where
-    one : (x : Members) → NoneAt e.0 x → NoneAt e.0 (x ++ (k, m) ∷ [])
-    one [] n = (below_is_not k e.0 (less_is_below k e.0 h.0), tt)
-    one (y ∷ x) n = (n.0, one x n.1)
+before_more a k m (e ∷ es) h b = (none_more e.0 k m a (less_is_below k e.0 h.0) b.0, before_more a k m es h.1 b.1)
 
 module _ (hs : List Held) where
   book_left : (a : Members) (es : Rows) → IsStrictlySortedBy nat_cmp (keys_of es) → Before a es → members_left (gone_in hs es) (a ++ members_of es) ≡ a ++ members_of (remaining hs es)
   book_left a [] sorted before = refl
-  book_left a (e ∷ es) sorted before = by (shown hs e.1.mark)
+  book_left a (e ∷ es) sorted before = by (shown hs e.1.mark) (λ x b. book_left x es (sorted_tail nat_cmp e.0 (keys_of es) sorted) b)
     where
-      tail : IsStrictlySortedBy nat_cmp (keys_of es)
-      tail = sorted_tail nat_cmp e.0 (keys_of es) sorted
-
-      by : (w : Option Placed) → members_left (map gone_of (cond (not (is_some w)) (e ∷ filter (is_hidden hs) es) (filter (is_hidden hs) es))) (a ++ (e.0, row_member e.1) ∷ members_of es)
+      by : (w : Option Placed) → ((x : Members) → Before x es → members_left (gone_in hs es) (x ++ members_of es) ≡ x ++ members_of (remaining hs es))
+          → members_left (map gone_of (cond (not (is_some w)) (e ∷ filter (is_hidden hs) es) (filter (is_hidden hs) es))) (a ++ (e.0, row_member e.1) ∷ members_of es)
           ≡ a ++ members_of (put_remaining e.0 (option_map (updated e.1) w) (remaining hs es))
-      by None =
+      by None rest =
           ap (members_left (gone_in hs es)) (removed_behind e.0 a ((e.0, row_member e.1) ∷ members_of es) before.0
           ∙ ap (λ (t : Bool). a ++ cond t (members_of es) ((e.0, row_member e.1) ∷ remove_entry (is_at (nat_cmp e.0)) (members_of es))) (is_here e.0))
-          ∙ book_left a es tail before.1
-      by (Some p) =
+          ∙ rest a before.1
+      by (Some p) rest =
           ap (members_left (gone_in hs es)) (sym (append_assoc a ((e.0, row_member e.1) ∷ []) (members_of es)))
-          ∙ book_left (a ++ (e.0, row_member e.1) ∷ []) es tail (before_more a e.0 (row_member e.1) es (sorted_head nat_cmp e.0 (keys_of es) sorted) before.1)
+          ∙ rest (a ++ (e.0, row_member e.1) ∷ []) (before_more a e.0 (row_member e.1) es (sorted_head nat_cmp e.0 (keys_of es) sorted) before.1)
           ∙ append_assoc a ((e.0, row_member e.1) ∷ []) (members_of (remaining hs es))
 
   none_before : (es : Rows) → Before [] es

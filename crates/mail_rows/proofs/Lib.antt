@@ -7,3 +7,4 @@ pub mod Exact
 pub mod ThreadLaw
 pub mod TakingLemmas
 pub mod TouchLemmas
+pub mod LookLemmas

@@ -63,17 +63,18 @@ module _ (hs : List Held) where
 
   rows_are : (g : PassSoFar) (es : Rows) → IsStrictlySortedBy nat_cmp (keys_of (g.rows ++ remaining hs es)) → (gather_all hs g es).rows ≡ g.rows ++ remaining hs es
   rows_are g [] h = sym (append_none g.rows)
-  rows_are g (e ∷ es) h = by (shown hs e.1.mark) h
+  rows_are g (e ∷ es) h = by (shown hs e.1.mark) h (λ k sorted. rows_are k es sorted)
     where
       by : (o : Option Placed) → IsStrictlySortedBy nat_cmp (keys_of (g.rows ++ put_remaining e.0 (option_map (updated e.1) o) (remaining hs es)))
+          → ((k : PassSoFar) → IsStrictlySortedBy nat_cmp (keys_of (k.rows ++ remaining hs es)) → (gather_all hs k es).rows ≡ k.rows ++ remaining hs es)
           → (gather_all hs (gather_where o g e) es).rows ≡ g.rows ++ put_remaining e.0 (option_map (updated e.1) o) (remaining hs es)
-      by None sorted = rows_are (gather_where None g e) es sorted
-      by (Some p) sorted =
+      by None sorted rest = rest (gather_where None g e) sorted
+      by (Some p) sorted rest =
           let w : EmailRow = updated e.1 p in
           let put : insert_entry nat_cmp g.rows e.0 w ++ remaining hs es ≡ g.rows ++ (e.0, w) ∷ remaining hs es =
           put_next (g.rows ++ (e.0, w) ∷ remaining hs es) g.rows e.0 w (remaining hs es) (insert_entry nat_cmp g.rows e.0 w) sorted refl refl in
           let S : Rows → Type 0 = λ rows. IsStrictlySortedBy nat_cmp (keys_of rows) in
-          rows_are (gather_where (Some p) g e) es (subst S (sym put) sorted) ∙ put
+          rest (gather_where (Some p) g e) (subst S (sym put) sorted) ∙ put
 
   pub all_gone : (es : Rows) → (gather_all hs none_passed es).gone ≡ gone_in hs es
   all_gone es = gone_are none_passed es

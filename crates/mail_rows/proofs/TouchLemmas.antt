@@ -69,14 +69,12 @@ none_changed old (e ∷ es) n =
 module _ (hs : List Held) (old more : Rows) where
   changes_are : NewIn old more → (es : Rows) → AllIn old es → map (change_to old) (filter (is_changed tests.same old) (remaining hs es ++ more)) ≡ changes_in hs es
   changes_are new [] found = none_changed old more new
-  changes_are new (e ∷ es) found = by (shown hs e.1.mark)
+  changes_are new (e ∷ es) found = by (shown hs e.1.mark) (changes_are new es found.1)
     where
-      rest : map (change_to old) (filter (is_changed tests.same old) (remaining hs es ++ more)) ≡ changes_in hs es
-      rest = changes_are new es found.1
-
-      by : (w : Option Placed) → map (change_to old) (filter (is_changed tests.same old) (put_remaining e.0 (option_map (updated e.1) w) (remaining hs es) ++ more)) ≡ changes_where w e ++ changes_in hs es
-      by None = rest
-      by (Some p) =
+      by : (w : Option Placed) → map (change_to old) (filter (is_changed tests.same old) (remaining hs es ++ more)) ≡ changes_in hs es
+          → map (change_to old) (filter (is_changed tests.same old) (put_remaining e.0 (option_map (updated e.1) w) (remaining hs es) ++ more)) ≡ changes_where w e ++ changes_in hs es
+      by None rest = rest
+      by (Some p) rest =
           let row : ℕ × EmailRow = (e.0, updated e.1 p) in
           let later : Rows = filter (is_changed tests.same old) (remaining hs es ++ more) in
           let test : differs tests.same (row_at old e.0) (updated e.1 p) ≡ is_moved e.1 p = ap (λ (o : Option EmailRow). differs tests.same o (updated e.1 p)) found.0 ∙ moved_is e.1 p in
@@ -100,14 +98,12 @@ all_added old (e ∷ es) n =
 module _ (hs : List Held) (old more : Rows) where
   additions_are : NewIn old more → (es : Rows) → AllIn old es → map addition_of (filter (is_gone old) (remaining hs es ++ more)) ≡ map touch_of_addition (keys_of more)
   additions_are new [] found = all_added old more new
-  additions_are new (e ∷ es) found = by (shown hs e.1.mark)
+  additions_are new (e ∷ es) found = by (shown hs e.1.mark) (additions_are new es found.1)
     where
-      rest : map addition_of (filter (is_gone old) (remaining hs es ++ more)) ≡ map touch_of_addition (keys_of more)
-      rest = additions_are new es found.1
-
-      by : (w : Option Placed) → map addition_of (filter (is_gone old) (put_remaining e.0 (option_map (updated e.1) w) (remaining hs es) ++ more)) ≡ map touch_of_addition (keys_of more)
-      by None = rest
-      by (Some p) =
+      by : (w : Option Placed) → map addition_of (filter (is_gone old) (remaining hs es ++ more)) ≡ map touch_of_addition (keys_of more)
+          → map addition_of (filter (is_gone old) (put_remaining e.0 (option_map (updated e.1) w) (remaining hs es) ++ more)) ≡ map touch_of_addition (keys_of more)
+      by None rest = rest
+      by (Some p) rest =
           let row : ℕ × EmailRow = (e.0, updated e.1 p) in
           let later : Rows = filter (is_gone old) (remaining hs es ++ more) in
           ap (λ (o : Option EmailRow). map addition_of (cond (not (is_some o)) (row ∷ later) later)) found.0 ∙ rest
@@ -121,27 +117,24 @@ remaining_if hs (Some row) = remaining_row hs row
 -- what remains of the row of a number
 pub remaining_at : (hs : List Held) (es : Rows) → IsStrictlySortedBy nat_cmp (keys_of es) → (q : ℕ) → row_at (remaining hs es) q ≡ remaining_if hs (row_at es q)
 remaining_at hs [] sorted q = refl
-remaining_at hs (e ∷ es) sorted q = by (is_at (nat_cmp q) e.0) refl (shown hs e.1.mark) refl
+remaining_at hs (e ∷ es) sorted q = by (is_at (nat_cmp q) e.0) refl (shown hs e.1.mark) refl (remaining_at hs es (sorted_tail nat_cmp e.0 (keys_of es) sorted) q)
   where
-    rest : row_at (remaining hs es) q ≡ remaining_if hs (row_at es q)
-    rest = remaining_at hs es (sorted_tail nat_cmp e.0 (keys_of es) sorted) q
-
     none : q ≡ e.0 → row_at (remaining hs es) q ≡ None
     none same = ap (row_at (remaining hs es)) same ∙ none_above e.0 (remaining hs es) (all_remaining hs (λ y. nat_cmp e.0 y ≡ Less) es (sorted_head nat_cmp e.0 (keys_of es) sorted))
 
-    by : (b : Bool) → is_at (nat_cmp q) e.0 ≡ b → (w : Option Placed) → shown hs e.1.mark ≡ w
+    by : (b : Bool) → is_at (nat_cmp q) e.0 ≡ b → (w : Option Placed) → shown hs e.1.mark ≡ w → row_at (remaining hs es) q ≡ remaining_if hs (row_at es q)
         → row_at (put_remaining e.0 (option_map (updated e.1) (shown hs e.1.mark)) (remaining hs es)) q ≡ remaining_if hs (cond (is_at (nat_cmp q) e.0) (Some e.1) (row_at es q))
-    by true here None is =
+    by true here None is rest =
         ap (λ (o : Option Placed). row_at (put_remaining e.0 (option_map (updated e.1) o) (remaining hs es)) q) is ∙ none (found_is q e.0 here)
         ∙ sym (ap (λ (b : Bool). remaining_if hs (cond b (Some e.1) (row_at es q))) here ∙ ap (option_map (updated e.1)) is)
-    by true here (Some p) is =
+    by true here (Some p) is rest =
         ap (λ (o : Option Placed). row_at (put_remaining e.0 (option_map (updated e.1) o) (remaining hs es)) q) is
         ∙ ap (λ (b : Bool). cond b (Some (updated e.1 p)) (row_at (remaining hs es) q)) here
         ∙ sym (ap (λ (b : Bool). remaining_if hs (cond b (Some e.1) (row_at es q))) here ∙ ap (option_map (updated e.1)) is)
-    by false other None is =
+    by false other None is rest =
         ap (λ (o : Option Placed). row_at (put_remaining e.0 (option_map (updated e.1) o) (remaining hs es)) q) is ∙ rest
         ∙ sym (ap (λ (b : Bool). remaining_if hs (cond b (Some e.1) (row_at es q))) other)
-    by false other (Some p) is =
+    by false other (Some p) is rest =
         ap (λ (o : Option Placed). row_at (put_remaining e.0 (option_map (updated e.1) o) (remaining hs es)) q) is
         ∙ ap (λ (b : Bool). cond b (Some (updated e.1 p)) (row_at (remaining hs es) q)) other ∙ rest
         ∙ sym (ap (λ (b : Bool). remaining_if hs (cond b (Some e.1) (row_at es q))) other)

@@ -116,36 +116,29 @@ some_either : {A : Type 0} (b : Bool) (x : A) (o : Option A) → is_some o ≡ t
 some_either true x o e = refl
 some_either false x o e = e
 
-in_folder : (n u mark : ℕ) (xs : List Message) (x : Message) → with_key uid_of u xs ≡ Some x → is_served x ≡ true → x.mark ≡ mark
-    → is_some (find (λ p. nat_eq p.message.mark mark) (filter is_visible_place (map (λ y. record { folder = n; message = y }) xs))) ≡ true
+-- the visible ones of these messages in a folder
+abbrev seen_of : ℕ → List Message → List Placed
+seen_of n xs = filter is_visible_place (map {B = Placed} (λ y. record { folder = n; message = y }) xs)
+
+abbrev with_mark : ℕ → List Placed → Option Placed
+with_mark mark ps = find (λ p. nat_eq p.message.mark mark) ps
+
+in_folder : (n u mark : ℕ) (xs : List Message) (x : Message) → with_key uid_of u xs ≡ Some x → is_served x ≡ true → x.mark ≡ mark → is_some (with_mark mark (seen_of n xs)) ≡ true
 in_folder n u mark [] x is served marked = absurd (let f : None ≡ Some x = is in cc)
-in_folder n u mark (y ∷ xs) x is served marked = by (nat_eq y.uid u) refl is
+in_folder n u mark (y ∷ xs) x is served marked = by (nat_eq y.uid u) refl is (λ e. in_folder n u mark xs x e served marked)
   where
-    Found : List Placed → Type 0
-    Found ps = is_some (find (λ p. nat_eq p.message.mark mark) ps) ≡ true
-
-    rest : List Placed
-    rest = filter is_visible_place (map (λ z. record { folder = n; message = z }) xs)
-
-    here : Placed
-    here = record { folder = n; message = y }
-
-    by : (b : Bool) → nat_eq y.uid u ≡ b → cond b (Some y) (with_key uid_of u xs) ≡ Some x
-        → is_some (find (λ p. nat_eq p.message.mark mark) (cond (is_served y) ((record { folder = n; message = y }) ∷ filter is_visible_place (map (λ z. record { folder = n; message = z }) xs))
-        (filter is_visible_place (map (λ z. record { folder = n; message = z }) xs)))) ≡ true
-    by true same e =
+    by : (b : Bool) → nat_eq y.uid u ≡ b → cond b (Some y) (with_key uid_of u xs) ≡ Some x → (with_key uid_of u xs ≡ Some x → is_some (with_mark mark (seen_of n xs)) ≡ true)
+        → is_some (with_mark mark (cond (is_served y) ((record { folder = n; message = y }) ∷ seen_of n xs) (seen_of n xs))) ≡ true
+    by true same e later =
         let this : y ≡ x = some_is y x e in
         let s : is_served y ≡ true = ap is_served this ∙ served in
         let k : nat_eq y.mark mark ≡ true = eq-eqb y.mark mark (ap (λ (z : Message). z.mark) this ∙ marked) in
-        ap (λ (b : Bool). is_some (find (λ p. nat_eq p.message.mark mark) (cond b ((record { folder = n; message = y }) ∷ filter is_visible_place (map (λ z. record { folder = n; message = z }) xs))
-        (filter is_visible_place (map (λ z. record { folder = n; message = z }) xs))))) s
-        ∙ ap (λ (b : Bool). is_some (cond b (Some (record { folder = n; message = y })) (find (λ p. nat_eq p.message.mark mark) (filter is_visible_place (map (λ z. record { folder = n; message = z }) xs))))) k
-    by false other e =
-        let later = in_folder n u mark xs x e served marked in
-        elim (is_served y) as (λ (b : Bool). is_some (find (λ p. nat_eq p.message.mark mark) (cond b ((record { folder = n; message = y }) ∷ filter is_visible_place (map (λ z. record { folder = n; message = z }) xs))
-        (filter is_visible_place (map (λ z. record { folder = n; message = z }) xs)))) ≡ true) [
-          | true ↦ some_either (nat_eq y.mark mark) (record { folder = n; message = y }) (find (λ p. nat_eq p.message.mark mark) (filter is_visible_place (map (λ z. record { folder = n; message = z }) xs))) later
-          | false ↦ later
+        ap (λ (b : Bool). is_some (with_mark mark (cond b ((record { folder = n; message = y }) ∷ seen_of n xs) (seen_of n xs)))) s
+        ∙ ap (λ (b : Bool). is_some (cond b (Some (record { folder = n; message = y })) (with_mark mark (seen_of n xs)))) k
+    by false other e later =
+        elim (is_served y) as (λ (b : Bool). is_some (with_mark mark (cond b ((record { folder = n; message = y }) ∷ seen_of n xs) (seen_of n xs))) ≡ true) [
+          | true ↦ some_either (nat_eq y.mark mark) (record { folder = n; message = y }) (with_mark mark (seen_of n xs)) (later e)
+          | false ↦ later e
         ]
 
 shows : (hs : List Held) (n u mark : ℕ) (x : Message) → message_in hs n u ≡ Some x → is_served x ≡ true → x.mark ≡ mark → is_some (shown hs mark) ≡ true

@@ -25,10 +25,9 @@ impl Model for Arrival {
 }
 
 /// Whether the message is visible and has no row.
-fn is_unmarked(marks: &BTreeMap<u64, u64>, folder: u64, message: &Message) -> bool
-    ensures { result ≡ passes.is_unmarked marks.now (record { folder = folder; message = message.now }) }
+fn is_new(marks: &BTreeMap<u64, u64>, message: &Message) -> bool
+    ensures { result ≡ passes.is_new_message marks.now message.now }
 {
-    let _folder = folder;
     is_served(message) && !marks.contains_key(&message.mark)
 }
 
@@ -57,7 +56,7 @@ fn add_folder(
 {
     let folder = held.folder.number;
     for message in held.messages.as_slice() {
-        if is_unmarked(marks, folder, message) {
+        if is_new(marks, message) {
             add(alloc, arrivals, folder, message)?;
         }
     }

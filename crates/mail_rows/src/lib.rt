@@ -4,6 +4,7 @@
 mod arrivals;
 mod emails;
 mod indexes;
+pub mod laws;
 mod remaining;
 mod shown;
 mod touches;

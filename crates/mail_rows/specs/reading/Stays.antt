@@ -11,7 +11,7 @@ use Rattle.mail_maps.specs.declared.row.EmailRow.{EmailRow}
 use Rattle.mail_maps.specs.Rows.{Rows}
 use Rattle.mail_maps.specs.Keywords.{keywords_of}
 use Rattle.mail_maps.specs.Serve.{same_names}
-use Rattle.mail_maps.specs.Visible.{Placed, shown, placed_in, is_served, is_visible_place}
+use Rattle.mail_maps.specs.Visible.{Placed, shown, placed_in, is_served}
 use Rattle.mail_rows.specs.Remaining.{updated}
 use Rattle.mail_rows.specs.declared.remaining.Gone.{Gone}
 use Rattle.mail_rows.specs.declared.remaining.Stays.{Stays}
@@ -98,8 +98,11 @@ changes_in hs (e ∷ es) = changes_where (shown hs e.1.mark) e ++ changes_in hs 
 
 -- ---- messages without a row, by the index of marks
 
+abbrev pub is_new_message : BTreeMap ℕ ℕ → Message → Bool
+is_new_message marks x = is_served x && not (is_some (get nat_cmp marks x.mark))
+
 abbrev pub is_unmarked : BTreeMap ℕ ℕ → Placed → Bool
-is_unmarked marks p = is_visible_place p && not (is_some (get nat_cmp marks p.message.mark))
+is_unmarked marks p = is_new_message marks p.message
 
 abbrev pub unmarked : BTreeMap ℕ ℕ → List Held → List Placed
 unmarked marks [] = []
