@@ -176,18 +176,19 @@ hidden_mark m mark is none = by (shown m.folders mark) refl
         let f : IsVisibleOf m.folders mark q = found m mark q is e in
         absurd (none (q.folder, q.message.uid) (marked_at m.folders q.folder q.message.uid q.message f.seen.at ∙ ap (λ (n : ℕ). Some n) f.marked))
 
+shown_if : (m : Mail) (mark : ℕ) (p : ℕ × ℕ) (x : Message) → IsMail m → mark_in m.folders p ≡ Some mark → message_in m.folders p.0 p.1 ≡ Some x
+    → (b : Bool) → is_served x ≡ b → (o : Option Placed) → shown m.folders mark ≡ o → if_served p.0 x ≡ shown m.folders mark
+shown_if m mark p x is at e b s (Some q) f =
+    let k = at_place m mark p x q is at e f in
+    ap (λ (t : Bool). cond t (Some (record { folder = p.0; message = x })) None) k.1 ∙ ap (λ (r : Placed). Some r) (sym k.0) ∙ sym f
+shown_if m mark p x is at e false s None f = ap (λ (t : Bool). cond t (Some (record { folder = p.0; message = x })) None) s ∙ sym f
+shown_if m mark p x is at e true s None f =
+    let own : x.mark ≡ mark = some_is x.mark mark (sym (marked_at m.folders p.0 p.1 x e) ∙ at) in
+    absurd (let g : false ≡ true = sym (ap is_some f) ∙ shows m.folders p.0 p.1 mark x e s own in cc)
+
 pub shown_at : (m : Mail) (mark : ℕ) (p : ℕ × ℕ) → IsMail m → mark_in m.folders p ≡ Some mark → served_at m.folders p.0 p.1 ≡ shown m.folders mark
 shown_at m mark p is at = by (message_in m.folders p.0 p.1) refl
   where
     by : (o : Option Message) → message_in m.folders p.0 p.1 ≡ o → served_at m.folders p.0 p.1 ≡ shown m.folders mark
     by None e = absurd (let f : None ≡ Some mark = sym (ap (option_map (λ (y : Message). y.mark)) e) ∙ at in cc)
-    by (Some x) e = ap (served_if p.0) e ∙ is_shown (is_served x) refl (shown m.folders mark) refl
-      where
-        is_shown : (b : Bool) → is_served x ≡ b → (o : Option Placed) → shown m.folders mark ≡ o → cond (is_served x) (Some (record { folder = p.0; message = x })) None ≡ shown m.folders mark
-        is_shown b s (Some q) f =
-            let k = at_place m mark p x q is at e f in
-            ap (λ (b : Bool). cond b (Some (record { folder = p.0; message = x })) None) k.1 ∙ ap (λ (r : Placed). Some r) (sym k.0) ∙ sym f
-        is_shown false s None f = ap (λ (b : Bool). cond b (Some (record { folder = p.0; message = x })) None) s ∙ sym f
-        is_shown true s None f =
-            let own : x.mark ≡ mark = some_is x.mark mark (sym (marked_at m.folders p.0 p.1 x e) ∙ at) in
-            absurd (let g : false ≡ true = sym (ap is_some f) ∙ shows m.folders p.0 p.1 mark x e s own in cc)
+    by (Some x) e = ap (served_if p.0) e ∙ shown_if m mark p x is at e (is_served x) refl (shown m.folders mark) refl
