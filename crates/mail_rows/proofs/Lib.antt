@@ -8,3 +8,4 @@ pub mod ThreadLaw
 pub mod TakingLemmas
 pub mod TouchLemmas
 pub mod LookLemmas
+mod LoopLemmas

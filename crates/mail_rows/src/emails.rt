@@ -147,7 +147,8 @@ impl Emails {
     fn arrivals(&self, alloc: Global, mirror: &Mirror) -> Result<Vec<Arrival>, AllocError>
         ensures { IfOk result (λ v. v.items ≡ taking.newcomers mirror.now.mail.folders self.now.rows) }
     {
-        arrivals_in(alloc, mirror.folders(), &self.marks)
+        let arrivals = arrivals_in(alloc, mirror.folders(), &self.marks)?;
+        Ok(arrivals)
     }
 
     /// The Emails that remain, with the touches of those that go or are changed.

@@ -12,6 +12,7 @@ use Rattle.served_maps.specs.Past.{Past, IsPast, AreFresh, no_past, gone_on, had
 use Rattle.served_maps.proofs.StandsOn.{past_on, row_at-served}
 use Rattle.served_maps.proofs.Between.{ever_below}
 use Rattle.told_folder.specs.Folders.{folder_in}
+use Rattle.told_folder.specs.declared.message.Folder.{Folder}
 use Rattle.told_folder.specs.declared.message.Held.{Held}
 use Rattle.told_mail.specs.Mail.{Mail, IsMail}
 use Rattle.mail_maps.specs.Serve.{Immutable, Email, email_of, mailbox_tests, email_tests, thread_tests}
@@ -160,4 +161,17 @@ first_stands epoch = record {
   mailboxes = record { now = refl; kept = none_kept; past = no_past_is };
   emails = record { now = refl; kept = none_kept; past = no_past_is };
   threads = record { now = refl; kept = none_kept; past = no_past_is };
+}
+
+-- ---- mail after mail
+
+pub next_mail_joins : (a b c : Mail) → IsNextMail a b → IsNextMail b c → IsNextMail a c
+next_mail_joins a b c f g = record {
+  is_mail = g.is_mail;
+  counter = (let k = f.counter in let l = g.counter in omega (arith, k, l));
+  new_folders = λ n x there gone.
+      elim (folder_in b.folders n) as (λ (o : Option Folder). folder_in b.folders n ≡ o → a.next_folder ≤ n) [
+        | None ↦ λ e. let k = g.new_folders n x there e in let l = f.counter in omega (arith, k, l)
+        | Some y ↦ λ e. f.new_folders n y e gone
+      ] refl;
 }

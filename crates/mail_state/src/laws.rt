@@ -19,6 +19,11 @@ pub fn first_stands()
     ensures { (epoch : ℕ) → IsStateOf (first_history epoch) (first_state epoch) }
 {}
 
+/// What comes after mail that a history can go on to is mail that it can go on to.
+pub fn next_mail_joins()
+    ensures { (a b c : Mail) → IsNextMail a b → IsNextMail b c → IsNextMail a c }
+{}
+
 /// A history goes on to some mail in one way.
 pub fn one_advance()
     ensures { (h : MailHistory) (m : Mail) (a b : MailHistory) → Advances h m a → Advances h m b → a ≡ b }
