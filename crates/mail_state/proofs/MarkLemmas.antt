@@ -118,13 +118,16 @@ abbrev AreApart : List Placed → Type 0
 AreApart [] = Unit {0}
 AreApart (p ∷ ps) = (has_its_mark ps p.message.mark ≡ false) × AreApart ps
 
+never_both : (a b : ℕ) → a < b → a ≡ b → ⊥
+never_both a b l e = omega (arith, l, e)
+
 not_before_itself : (m : Mail) (p q : Placed) → IsMail m → IsSeen m.folders p → IsSeen m.folders q → IsBefore p q → q.message.mark ≡ p.message.mark → ⊥
 not_before_itself m p q is f g before same =
     let at : (p.folder, p.message.uid) ≡ (q.folder, q.message.uid) =
     is.marks (p.folder, p.message.uid) (q.folder, q.message.uid) p.message.mark (marked_at m.folders p.folder p.message.uid p.message f.at) (marked_at m.folders q.folder q.message.uid q.message g.at ∙ ap (λ (n : ℕ). Some n) same) in
     let folder : p.folder ≡ q.folder = ap (λ (r : ℕ × ℕ). r.0) at in
     let uid : p.message.uid ≡ q.message.uid = ap (λ (r : ℕ × ℕ). r.1) at in
-    elim before [ inl l ↦ let k : ⊥ = omega (arith, l, folder) in k | inr r ↦ let l = r.1 in let k : ⊥ = omega (arith, l, uid) in k ]
+    elim before [ inl l ↦ never_both p.folder q.folder l folder | inr r ↦ never_both p.message.uid q.message.uid r.1 uid ]
 
 apart_behind : (m : Mail) (p : Placed) (ps : List Placed) → IsMail m → IsSeen m.folders p → AllSeen m.folders ps → AllBehind p ps → has_its_mark ps p.message.mark ≡ false
 apart_behind m p [] is f seen before = refl
