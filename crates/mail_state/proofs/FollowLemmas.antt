@@ -75,6 +75,7 @@ moves s h m n stands = record {
 
 -- ---- the rows of other mail, with the touches that lead to them
 
+-- rows, boxes and Threads of the mail, with their touches, are a step
 pub steps_rows : (before : ServedRows) (m : Mail) (n : NumberedRows) (boxes : List (ℕ × MailboxRow)) (threads : List (ℕ × List ℕ)) (t : Touches)
     → TakesMail before.numbered m.folders n → boxes ≡ mailboxes_of m.folders n.rows → threads ≡ threads_of n.rows
     → t.mailbox ≡ advance_entries (tests_of mailbox_of mailbox_tests) before.mailboxes boxes
@@ -87,7 +88,11 @@ steps_rows before m n boxes threads t takes boxes_are threads_are mailbox email 
       ∙ ap (λ (x : List (ℕ × List ℕ)). record { numbered = n; mailboxes = mailboxes_of m.folders n.rows; threads = x }) threads_are;
   touches = ap (λ (x : List Entry). record { mailbox = x; email = t.email; thread = t.thread }) mailbox
       ∙ ap (λ (x : List Entry). record { mailbox = advance_entries (tests_of mailbox_of mailbox_tests) before.mailboxes boxes; email = x; thread = t.thread }) email
-      ∙ ap (λ (x : List Entry). record { mailbox = advance_entries (tests_of mailbox_of mailbox_tests) before.mailboxes boxes; email = email_touches before.numbered.rows n.rows; thread = x }) thread;
+      ∙ ap (λ (x : List Entry). record {
+        mailbox = advance_entries (tests_of mailbox_of mailbox_tests) before.mailboxes boxes;
+        email = email_touches before.numbered.rows n.rows;
+        thread = x;
+      }) thread;
   counted = counted;
 }
 
@@ -96,6 +101,7 @@ steps_rows before m n boxes threads t takes boxes_are threads_are mailbox email 
 touches_are : (before : ServedRows) (m : Mail) (now : ServedRows) (t : Touches) → StepsRows before m now t → t ≡ touches_between before (rows_of m now.numbered)
 touches_are before m now t steps = steps.touches ∙ ap (touches_between before) steps.rows
 
+-- the state stands for the history that went on to the mail
 pub follows : (s : ServedState) (h : MailHistory) (m : Mail) (rows : ServedRows) (t : Touches) (lists : ChangeLists) → IsStateOf h s → IsNextMail h.mail m
     → StepsRows s.rows m rows t → AllNoted s.lists lists t → FollowsMail h m (state_with s rows lists) (moved_by t)
 follows s h m rows t lists stands next steps noted =
@@ -118,10 +124,11 @@ follows s h m rows t lists stands next steps noted =
 spent_is : (s : ServedState) (m : Mail) (rows : ServedRows) (t : Touches) → StepsRows s.rows m rows t → spent_to s m rows.numbered ≡ spent_place s.lists t
 spent_is s m rows t steps = sym (ap (spent_place s.lists) (touches_are s.rows m rows t steps))
 
--- no place would pass the greatest one
+-- no place would pass the last one
 abbrev pub HasRoom : ServedState → Mail → Type 0
 HasRoom s m = (n : NumberedRows) × TakesMail s.rows.numbered m.folders n × (spent_to s m n ≡ None)
 
+-- touches that have room
 pub has_room : (s : ServedState) (m : Mail) (rows : ServedRows) (t : Touches) → StepsRows s.rows m rows t → spent_place s.lists t ≡ None → HasRoom s m
 has_room s m rows t steps room = (rows.numbered, steps.takes, spent_is s m rows t steps ∙ room)
 
@@ -129,5 +136,7 @@ has_room s m rows t steps room = (rows.numbered, steps.takes, spent_is s m rows 
 abbrev pub HasNoRoom : StateError → ServedState → Mail → Type 0
 HasNoRoom e s m = (n : NumberedRows) × TakesMail s.rows.numbered m.folders n × (option_map Spent (spent_to s m n) ≡ Some e)
 
-pub has_no_room : (e : StateError) (s : ServedState) (m : Mail) (rows : ServedRows) (t : Touches) → StepsRows s.rows m rows t → option_map Spent (spent_place s.lists t) ≡ Some e → HasNoRoom e s m
+-- touches that have none
+pub has_no_room : (e : StateError) (s : ServedState) (m : Mail) (rows : ServedRows) (t : Touches) → StepsRows s.rows m rows t → option_map Spent (spent_place s.lists t) ≡ Some e
+    → HasNoRoom e s m
 has_no_room e s m rows t steps spent = (rows.numbered, steps.takes, ap (option_map Spent) (spent_is s m rows t steps) ∙ spent)

@@ -21,7 +21,20 @@ use Rattle.mail_rows.specs.Taking.{TakesMail}
 use Rattle.mail_rows.proofs.OneTake.{one_take}
 use Rattle.mail_rows.proofs.Exact.{exact_mailbox, exact_email, exact_thread}
 use Rattle.mail_rows.proofs.RowLemmas.{found_under}
-use Rattle.mail_state.specs.History.{MailHistory, IsReached, Begins, Goes, IsNextMail, Advances, advanced, first_mail, first_history, served_mailboxes, served_emails, served_threads}
+use Rattle.mail_state.specs.History.{
+  MailHistory,
+  IsReached,
+  Begins,
+  Goes,
+  IsNextMail,
+  Advances,
+  advanced,
+  first_mail,
+  first_history,
+  served_mailboxes,
+  served_emails,
+  served_threads,
+}
 use Rattle.mail_state.specs.Sound.{IsSound, IsRowOf, KeepsImmutable}
 use Rattle.mail_state.specs.State.{IsStateOf, first_state}
 use Rattle.mail_state.specs.Laws.{ComesNew, UsesOnce, CopiesStay, KeepsCopies}
@@ -53,6 +66,7 @@ no_mail_is = record {
   numbers_below = tt;
 }
 
+-- the first history is sound
 pub first_is_sound : (epoch : ℕ) → IsSound (first_history epoch)
 first_is_sound epoch = record {
   is_mail = no_mail_is;
@@ -74,6 +88,7 @@ first_is_sound epoch = record {
 
 -- ---- going on
 
+-- a sound history goes on to a sound one
 pub taken_sound : (h : MailHistory) (m : Mail) (n : NumberedRows) → IsSound h → IsNextMail h.mail m → TakesMail h.numbered m.folders n → IsSound (advanced h m n)
 taken_sound h m n sound next takes =
     let order : InOrder n = taken_in_order h.numbered m.folders n (in_order h sound) takes in
@@ -105,21 +120,25 @@ taken_sound h m n sound next takes =
     no_email : (q : ℕ) → row_at n.rows q ≡ None → row_at (served_emails n.rows) q ≡ None
     no_email q e = row_at-served email_of n.rows q ∙ ap (option_map email_of) e
 
+-- the same of any history that it advances to
 pub advances_keep_sound : (h after : MailHistory) (m : Mail) → IsSound h → IsNextMail h.mail m → Advances h m after → IsSound after
 advances_keep_sound h after m sound next a = let P : MailHistory → Type 0 = λ x. IsSound x in subst P (sym a.after_is) (taken_sound h m after.numbered sound next a.takes)
 
+-- each history that there is is sound
 pub all_are_sound : (h : MailHistory) → IsReached h → IsSound h
 all_are_sound _ (Begins epoch) = first_is_sound epoch
 all_are_sound _ (Goes h after m reached next a) = advances_keep_sound h after m (all_are_sound h reached) next a
 
 -- ---- one step, and no number twice
 
+-- a history goes on to some mail in one way
 pub one_advance : (h : MailHistory) (m : Mail) (a b : MailHistory) → Advances h m a → Advances h m b → a ≡ b
 one_advance h m a b g k = g.after_is ∙ ap (advanced h m) (one_take h.numbered m.folders a.numbered b.numbered g.takes k.takes) ∙ sym k.after_is
 
 comes_new : {V : Type 0} (tests : Tests V) (p : Past V) (new : List (ℕ × V)) → IsPast p → IsPast (gone_on tests p new) → AreFresh p new → ComesNew p (gone_on tests p new)
 comes_new tests p new past then fresh q gone comes place = fresh q place (past.last q ∙ gone) (λ none. comes (sym (then.last q) ∙ none))
 
+-- no number is used twice
 pub numbers_are_new : (h after : MailHistory) (m : Mail) → IsSound h → IsNextMail h.mail m → Advances h m after → UsesOnce h after
 numbers_are_new h after m sound next a =
     let P : MailHistory → Type 0 = λ k. UsesOnce h k in
@@ -131,6 +150,7 @@ numbers_are_new h after m sound next a =
       threads = comes_new thread_tests h.threads (served_threads n.rows) sound.threads then.threads (threads_are_fresh h m.folders n sound a.takes);
     })
 
+-- a number never names two marks
 pub one_mark : (h : MailHistory) (i j q : ℕ) (u v : Email) → IsSound h → had_at h.emails i q ≡ Some u → had_at h.emails j q ≡ Some v → u.immutable.mark ≡ v.immutable.mark
 one_mark h i j q u v sound at_i at_j = ap (λ (b : Immutable). b.mark) (sound.immutable i j q u v at_i at_j)
 
@@ -139,6 +159,7 @@ one_mark h i j q u v sound at_i at_j = ap (λ (b : Immutable). b.mark) (sound.im
 stays : {V : Type 0} (tests : Tests V) (p : Past V) (new : List (ℕ × V)) → CopiesStay p (gone_on tests p new)
 stays tests p new place copy within is = copies.copies_stay p.touches (advance tests p.now new) place copy within is
 
+-- a copy at a place stays one
 pub copies_stay_right : (h after : MailHistory) (m : Mail) → Advances h m after → KeepsCopies h after
 copies_stay_right h after m a =
     let P : MailHistory → Type 0 = λ k. KeepsCopies h k in
@@ -153,6 +174,7 @@ copies_stay_right h after m a =
 none_kept : IsOf none_yet []
 none_kept = record { place = refl; entries = refl }
 
+-- a state without mail stands for the first history
 pub first_stands : (epoch : ℕ) → IsStateOf (first_history epoch) (first_state epoch)
 first_stands epoch = record {
   sound = first_is_sound epoch;
@@ -165,6 +187,7 @@ first_stands epoch = record {
 
 -- ---- mail after mail
 
+-- what comes after mail that a history can go on to is mail that it can go on to
 pub next_mail_joins : (a b c : Mail) → IsNextMail a b → IsNextMail b c → IsNextMail a c
 next_mail_joins a b c f g = record {
   is_mail = g.is_mail;

@@ -20,8 +20,11 @@ use told_mail::Mirror;
 /// A type that is served.
 #[derive(Clone, Copy, Debug, PartialEq, Eq)]
 pub enum MailType {
+    /// Mailboxes, which are folders.
     Mailbox,
+    /// Emails, which are visible messages.
     Email,
+    /// Threads, which are conversations of Emails.
     Thread,
 }
 
@@ -84,12 +87,14 @@ impl MailState {
         Ok((state, moved))
     }
 
+    /// The epoch that the state was made with.
     pub fn epoch(&self) -> u64
         ensures { result ≡ self.now.epoch }
     {
         self.epoch
     }
 
+    /// The Email of a number.
     pub fn email(&self, number: u64) -> Option<&EmailRow>
         ensures { option_copied result ≡ row_at self.now.rows.numbered.rows number }
     {
@@ -103,6 +108,7 @@ impl MailState {
         self.rows.emails.email_by_mark(mark)
     }
 
+    /// The Mailbox of a number, which is its folder's.
     pub fn mailbox(&self, number: u64) -> Option<&MailboxRow>
         ensures { option_copied result ≡ row_at self.now.rows.mailboxes number }
     {

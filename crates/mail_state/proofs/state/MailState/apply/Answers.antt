@@ -21,7 +21,8 @@ returns-clause-follows c h stands next =
     let S : ServedState → Type 0 = λ x. IsStateOf h x in
     let F : Advance → Type 0 = λ moved. FollowsMail h c.args.mirror.now.mail (state_with s c.in_ok-rows.rows c.in_ok-lists.lists) moved in
     subst F (sym c.moved-moved.ensures)
-    (follows s h c.args.mirror.now.mail c.in_ok-rows.rows c.in_ok-rows.touches c.in_ok-lists.lists (subst S (sym c.self.view_is) stands) next c.in_ok-rows.ensures c.in_ok-lists.ensures.noted)
+    (follows s h c.args.mirror.now.mail c.in_ok-rows.rows c.in_ok-rows.touches c.in_ok-lists.lists
+    (subst S (sym c.self.view_is) stands) next c.in_ok-rows.ensures c.in_ok-lists.ensures.noted)
 
 pub returns-clause-spent : goal.returns-clause-spent
 returns-clause-spent c =
