@@ -76,6 +76,14 @@ module _ (hs : List Held) where
           let S : Rows → Type 0 = λ rows. IsStrictlySortedBy nat_cmp (keys_of rows) in
           rest (gather_where (Some p) g e) (subst S (sym put) sorted) ∙ put
 
+  -- ---- the loop
+
+  pub pass_more : (g k : PassSoFar) (e : ℕ × EmailRow) (rest rows : Rows) (all : PassSoFar) → rows ≡ e ∷ rest → k ≡ gather_one hs g e → gather_all hs g rows ≡ all → gather_all hs k rest ≡ all
+  pass_more g k e rest rows all is made so_far = ap (λ (x : PassSoFar). gather_all hs x rest) made ∙ sym (ap (gather_all hs g) is) ∙ so_far
+
+  pub pass_ended : (g : PassSoFar) (rows : Rows) (all : PassSoFar) → rows ≡ [] → gather_all hs g rows ≡ all → g ≡ all
+  pass_ended g rows all is so_far = sym (ap (gather_all hs g) is) ∙ so_far
+
   pub all_gone : (es : Rows) → (gather_all hs none_passed es).gone ≡ gone_in hs es
   all_gone es = gone_are none_passed es
 

@@ -55,12 +55,12 @@ fn keep(
     stays: &mut Stays,
     number: u64,
     row: EmailRow,
-    place: (u64, &Message),
+    folder: u64,
+    message: &Message,
 ) -> Result<(), AllocError>
     ensures { OnOk result (passes.pass_of stays.new
-        ≡ passes.gather_where (Some (record { folder = place.0; message = place.1.now })) (passes.pass_of stays.old) (number, row)) }
+        ≡ passes.gather_where (Some (record { folder = folder; message = message.now })) (passes.pass_of stays.old) (number, row)) }
 {
-    let (folder, message) = place;
     let keywords = keywords_of(alloc, &message.flags)?;
     let moved = is_moved(&row, folder, &keywords);
     note_change(&mut stays.changed, number, moved)?;
@@ -85,7 +85,7 @@ fn gather(
     ensures { OnOk result (passes.pass_of stays.new ≡ passes.gather_one mirror.now.mail.folders (passes.pass_of stays.old) (number, row)) }
 {
     match shown(mirror, row.mark) {
-        Some(place) => keep(alloc, stays, number, row, place),
+        Some((folder, message)) => keep(alloc, stays, number, row, folder, message),
         None => {
             stays.gone.push(Gone {
                 number,
