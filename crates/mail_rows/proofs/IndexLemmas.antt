@@ -160,6 +160,20 @@ module _ (hs : List Held) where
   below_remaining k [] h = tt
   below_remaining k (e ∷ es) h = below_put k e.0 (remaining_row hs e.1) (remaining hs es) h.0 (below_remaining k es h.1)
 
+pub indexes_left : (hs : List Held) (es rows : Rows) (next : ℕ) (gone : List Gone) (marks marks' : BTreeMap ℕ ℕ) (book book' : Members)
+    → IsStrictlySortedBy nat_cmp (keys_of es) → AreIndexes es next marks book
+    → rows ≡ remaining hs es → gone ≡ gone_in hs es
+    → ((q : ℕ) → get nat_cmp marks' q ≡ number_left gone q (get nat_cmp marks q))
+    → book' ≡ members_left gone book
+    → AreIndexes rows next marks' book'
+indexes_left hs es rows next gone marks marks' book book' sorted was is go m b =
+    let P : Rows → Type 0 = λ rs. AreIndexes rs next marks' book' in
+    subst P (sym is) (record {
+      below = below_remaining hs next es was.below;
+      marks_are = λ q. m q ∙ ap (number_left gone q) (was.marks_are q) ∙ ap (λ (gs : List Gone). number_left gs q (number_of es q)) go ∙ marks_left hs q es;
+      book_is = b ∙ ap (members_left gone) was.book_is ∙ ap (λ (gs : List Gone). members_left gs (members_of es)) go ∙ members_left_are hs es sorted;
+    })
+
 -- ---- one row more
 
 number_after-append : (was : Option ℕ) (a b : Rows) (q : ℕ) → number_after was (a ++ b) q ≡ number_after (number_after was a q) b q

@@ -2,6 +2,9 @@
 use Rattle.std.proofs.Common.{◌≡◌, ◌≢◌, ◌⊎◌, inl, inr, ℕ, List, [], ◌∷◌, Bool, true, false, ◌||◌, cond, nat_eq, refl, sym, ap, ◌∙◌, nat_cmp, is_some, Option, Some, None, eqb-true, eq-eqb}
 use Rattle.std.specs.List.Sorted.{IsStrictlySortedBy}
 use Rattle.std.specs.Map.{keys_of}
+use Rattle.std.specs.Borrow.{Bor}
+use Rattle.std.specs.Option.{option_copied}
+use Rattle.std.specs.Prelude.{MatchOption}
 use Rattle.std.specs.BTreeMap.{is_at}
 use Rattle.change_list.specs.Advance.{row_at}
 use Rattle.mail_maps.specs.declared.row.EmailRow.{EmailRow}
@@ -64,3 +67,9 @@ known (r ∷ es) n mark row e same =
 pub none_has_mark : (es : Rows) (mark : ℕ) → number_of es mark ≡ None → NoneHasMark es mark
 none_has_mark es mark e n row there same =
     let f : false ≡ true = sym (ap is_some e) ∙ has_number es mark ∙ known es n mark row there same in cc
+
+-- what the index of marks leads to
+pub led_to : (es : Rows) (mark n : ℕ) (found : Option (Bor EmailRow)) → IsStrictlySortedBy nat_cmp (keys_of es) → number_of es mark ≡ Some n → option_copied found ≡ row_at es n
+    → MatchOption found (NoneHasMark es mark) (λ row. IsOfMark es mark row.now)
+led_to es mark n None sorted e is = absurd (is_numbered es mark n sorted e (sym is))
+led_to es mark n (Some row) sorted e is = is_of_mark es mark n row.now sorted e (sym is)

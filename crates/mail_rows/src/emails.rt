@@ -137,6 +137,7 @@ impl Emails {
     pub fn email_by_mark(&self, mark: u64) -> Option<&EmailRow>
         ensures { MatchOption result (NoneHasMark self.now.rows mark) (λ row. IsOfMark self.now.rows mark row.now) }
     {
+        self.are_in_order();
         match self.marks.get(&mark) {
             Some(number) => self.rows.get(number),
             None => None,
@@ -157,6 +158,7 @@ impl Emails {
         ensures gone { IfOk result (λ r. r.gone.items ≡ passes.gone_in mirror.now.mail.folders self.rows) }
         ensures changed { IfOk result (λ r. r.changed.items ≡ passes.changes_in mirror.now.mail.folders self.rows) }
     {
+        self.are_in_order();
         let Emails {
             rows,
             mut marks,
