@@ -1,5 +1,5 @@
 -- The index of marks finds the row of a mark.
-use Rattle.std.proofs.Common.{◌≡◌, ◌≢◌, ◌⊎◌, inl, inr, ℕ, List, [], ◌∷◌, Bool, true, false, ◌||◌, cond, nat_eq, refl, sym, ap, ◌∙◌, nat_cmp, is_some, Option, Some, None, eqb-true, eq-eqb}
+use Rattle.std.proofs.Common.{◌≡◌, ◌≢◌, ◌⊎◌, inl, inr, ℕ, [], ◌∷◌, Bool, true, false, ◌||◌, cond, nat_eq, refl, sym, ap, ◌∙◌, nat_cmp, is_some, Option, Some, None, eqb-true, eq-eqb}
 use Rattle.std.specs.List.Sorted.{IsStrictlySortedBy}
 use Rattle.std.specs.Map.{keys_of}
 use Rattle.std.specs.Borrow.{Bor}
@@ -9,7 +9,7 @@ use Rattle.std.specs.BTreeMap.{is_at}
 use Rattle.change_list.specs.Advance.{row_at}
 use Rattle.mail_maps.specs.declared.row.EmailRow.{EmailRow}
 use Rattle.mail_maps.specs.Rows.{Rows}
-use Rattle.mail_rows.specs.NumberedRows.{has_row_mark, knows}
+use Rattle.mail_rows.specs.NumberedRows.{knows}
 use Rattle.mail_rows.specs.LookUps.{IsOfMark, NoneHasMark}
 use Rattle.mail_rows.specs.reading.Indexes.{number_after, number_of}
 use Rattle.mail_rows.proofs.RowLemmas.{AllIn, all_in}

@@ -1,20 +1,17 @@
 -- What one pass over the rows has gathered in the end.
-use Rattle.std.proofs.Common.{◌≡◌, ℕ, List, [], ◌∷◌, ◌++◌, Bool, true, false, not, cond, map, filter, refl, sym, ap, ◌∙◌, subst, nat_cmp, append_assoc, is_some, Option, Some, None}
+use Rattle.std.proofs.Common.{◌≡◌, ℕ, List, [], ◌∷◌, ◌++◌, not, cond, map, filter, refl, sym, ap, ◌∙◌, subst, nat_cmp, append_assoc, is_some, Option, Some, None}
 use Rattle.std.specs.declared.cmp.Ordering.TheVariants.{Less}
 use Rattle.std.specs.Option.{option_map}
 use Rattle.std.specs.List.{AllByRecursion}
 use Rattle.std.specs.List.Sorted.{IsStrictlySortedBy}
 use Rattle.std.specs.Map.{keys_of}
 use Rattle.std.specs.BTreeMap.{insert_entry}
-use Rattle.std.proofs.lemmas.Map.Keys.{sorted_head, sorted_tail}
-use Rattle.change_list.specs.declared.entries.Entry.{Entry}
 use Rattle.told_folder.specs.declared.message.Held.{Held}
 use Rattle.mail_maps.specs.declared.row.EmailRow.{EmailRow}
 use Rattle.mail_maps.specs.Rows.{Rows}
 use Rattle.mail_maps.specs.Visible.{Placed, shown}
 use Rattle.mail_maps.proofs.InOrder.{put_next}
 use Rattle.mail_rows.specs.Remaining.{updated, remaining_row, put_remaining, remaining}
-use Rattle.mail_rows.specs.declared.remaining.Gone.{Gone}
 use Rattle.mail_rows.specs.reading.Stays.{PassSoFar, none_passed, gone_of, change_where, is_moved, gather_where, gather_one, gather_all, is_hidden, gone_in, changes_where, changes_in}
 
 append_none : {A : Type 0} (xs : List A) → xs ++ [] ≡ xs

@@ -1,5 +1,5 @@
-use Rattle.std.proofs.Common.{◌≡◌, ◌∙◌, ap}
-use Rattle.mail_rows.specs.reading.Stays.{PassSoFar, pass_of, gather_all}
+use Rattle.std.proofs.Common.{◌∙◌, ap}
+use Rattle.mail_rows.specs.reading.Stays.{PassSoFar, pass_of}
 use Rattle.mail_rows.proofs.PassLemmas.{pass_more, pass_ended, all_gone, all_changed, all_rows}
 use Rattle.mail_rows.proofs.remaining.stays_of.Goals as goal
 
