@@ -184,7 +184,7 @@ members-append : (a b : Rows) → members_of (a ++ b) ≡ members_of a ++ member
 members-append [] b = refl
 members-append (e ∷ a) b = ap (λ (r : Members). (e.0, row_member e.1) ∷ r) (members-append a b)
 
-members_under : (k : ℕ) (es : Rows) → AreBelow k es → Under k (members_of es)
+pub members_under : (k : ℕ) (es : Rows) → AreBelow k es → Under k (members_of es)
 members_under k [] u = tt
 members_under k (e ∷ es) u = (u.0, members_under k es u.1)
 

@@ -58,8 +58,9 @@ unmarked_are marks rows are (h ∷ hs) =
 
 -- ---- one after another
 
-pub adds_none : (n : NumberedRows) → AddsRows n [] n
-adds_none n = record { envelopes = []; are_read = tt; after_is = refl }
+pub adds_none : (n : NumberedRows) (ps : List Placed) → length ps ≡ 0 → AddsRows n ps n
+adds_none n [] e = record { envelopes = []; are_read = tt; after_is = refl }
+adds_none n (p ∷ ps) e = absurd (omega (arith, e))
 
 pub adds_more : (n m : NumberedRows) (p : Placed) (ps : List Placed) (after : NumberedRows) → AddsRow n p m → AddsRows m ps after → AddsRows n (p ∷ ps) after
 adds_more n m p ps after one rest = record {

@@ -215,6 +215,7 @@ impl Emails {
         requires { self.next + 1 < 2 ^ 64 }
         ensures { IfOk result (λ e. indexes.AddsRow self arrival e) }
     {
+        self.are_in_order();
         let number = self.next();
         let envelope = read_envelope(alloc, arrival.message.header.as_slice())?;
         let named = named_by(alloc, number, &envelope)?;
