@@ -35,6 +35,7 @@ number_found all (r ∷ es) was mark n found e = by (number_found all es (cond (
           | false ↦ λ other g. inl g
         ] refl f
 
+-- the row of the number that the index has for a mark is one of the mark
 pub is_of_mark : (es : Rows) (mark n : ℕ) (row : EmailRow) → IsStrictlySortedBy nat_cmp (keys_of es) → number_of es mark ≡ Some n → row_at es n ≡ Some row → IsOfMark es mark row
 is_of_mark es mark n row sorted e there = by (number_found es es None mark n (all_in es sorted) e)
   where
@@ -64,6 +65,7 @@ known (r ∷ es) n mark row e same =
       | false ↦ λ f. or_right (nat_eq r.1.mark mark) (knows es mark) (known es n mark row f same)
     ] e
 
+-- a mark that the index lacks is no row's
 pub none_has_mark : (es : Rows) (mark : ℕ) → number_of es mark ≡ None → NoneHasMark es mark
 none_has_mark es mark e n row there same =
     let f : false ≡ true = sym (ap is_some e) ∙ has_number es mark ∙ known es n mark row there same in cc

@@ -1,4 +1,4 @@
-// Emails by number, with what finds them by mark and by what they name.
+//! Emails by number, with what finds them by mark and by what they name.
 ghost use Rattle.std.specs.Prelude.{◌≡◌, ◌≢◌, ℕ, ◌+◌, ◌^◌, ◌<◌, ◌≤◌, [], length, IfOk, MatchOption, Some};
 ghost use Rattle.std.specs.Option.{option_copied};
 ghost use Rattle.std.specs.List.Sorted.{IsStrictlySortedBy};
@@ -127,6 +127,7 @@ impl Emails {
         let _count = self.rows.len();
     }
 
+    /// The Email of a number.
     pub fn email(&self, number: u64) -> Option<&EmailRow>
         ensures { option_copied result ≡ row_at self.now.rows number }
     {

@@ -1,4 +1,4 @@
-// Which Emails remain, in one pass over them.
+//! Which Emails remain, in one pass over them.
 ghost use Rattle.std.specs.Prelude.{◌≡◌, ◌++◌, IfOk, OnOk, Some};
 ghost use Rattle.mail_rows.specs.Remaining as remaining;
 ghost use Rattle.mail_rows.specs.reading.Stays as passes;
@@ -16,15 +16,20 @@ use told_mail::Mirror;
 /// An Email that goes.
 #[derive(Clone, Copy, Debug)]
 pub struct Gone {
+    /// Its number.
     pub number: u64,
+    /// The mark of its message.
     pub mark: u64,
 }
 
-/// The rows that remain, those that go, and the touches of those that are changed.
+/// What one pass over the rows finds.
 #[derive(Drop)]
 pub struct Stays {
+    /// The rows that remain, as their messages are now.
     pub rows: BTreeMap<u64, EmailRow>,
+    /// The Emails that go, by ascending number.
     pub gone: Vec<Gone>,
+    /// The touches of those that are changed, by ascending number.
     pub changed: Vec<Entry>,
 }
 
