@@ -47,6 +47,7 @@ immutable_same : (m n s t u v : ℕ) (r q : ℤ) (h k : List ℕ) (e f : Envelop
     → ◌≡◌ {A = Immutable} (record { mark = m; received = r; size = s; thread = u; header = h; envelope = e }) (record { mark = n; received = q; size = t; thread = v; header = k; envelope = f })
 immutable_same m n s t u v r q h k e f g0 g1 g2 g3 g4 g5 = cc
 
+-- the test of what an Email never changes tells it apart
 pub immutable : (a b : Immutable) → Decides (same_immutable a b) (a ≡ b)
 immutable a b =
     Decides-like _ (λ h. immutable_same _ _ _ _ _ _ _ _ _ _ _ _ h.0 h.1.0 h.1.1.0 h.1.1.1.0 h.1.1.1.1.0 h.1.1.1.1.1)
@@ -57,12 +58,14 @@ immutable a b =
 email_same : (b c : Immutable) (f g : ℕ) (k l : List (List ℕ)) → b ≡ c → f ≡ g → k ≡ l → ◌≡◌ {A = Email} (record { immutable = b; folder = f; keywords = k }) (record { immutable = c; folder = g; keywords = l })
 email_same b c f g k l e0 e1 e2 = cc
 
+-- the test of Emails tells them apart
 pub exact_email : IsExact email_tests
 exact_email a b =
     Decides-like (same_email a b) (λ h. email_same _ _ _ _ _ _ h.0 h.1.0 h.1.1)
     (λ e. (ap (λ (x : Email). x.immutable) e, (ap (λ (x : Email). x.folder) e, ap (λ (x : Email). x.keywords) e)))
     (Decides-and _ _ (immutable a.immutable b.immutable) (Decides-and _ _ (Decides-eqb a.folder b.folder) (names a.keywords b.keywords)))
 
+-- the test of Threads tells them apart
 pub exact_thread : IsExact thread_tests
 exact_thread a b = bytes_eq-Decides a b
 
@@ -140,6 +143,7 @@ mailbox_same : (a b : List ℕ) (c d : Option ℕ) (e f : Option Role) (g h : Bo
     → ◌≡◌ {A = ServedMailbox} (record { name = a; parent = c; role = e; subscribed = g; rights = i; counts = k }) (record { name = b; parent = d; role = f; subscribed = h; rights = j; counts = l })
 mailbox_same a b c d e f g h i j k l e0 e1 e2 e3 e4 e5 = cc
 
+-- the test of Mailboxes tells them apart
 pub exact_mailbox : IsExact mailbox_tests
 exact_mailbox a b =
     Decides-like (same_mailbox a b) (λ h. mailbox_same _ _ _ _ _ _ _ _ _ _ _ _ h.0.0 h.0.1.0 h.0.1.1.0 h.0.1.1.1.0 h.0.1.1.1.1 h.1)

@@ -160,6 +160,21 @@ module _ (hs : List Held) where
   below_remaining k [] h = tt
   below_remaining k (e ∷ es) h = below_put k e.0 (remaining_row hs e.1) (remaining hs es) h.0 (below_remaining k es h.1)
 
+-- the indexes of the rows that remain, after what goes is taken out of them
+pub indexes_left : (hs : List Held) (es rows : Rows) (next : ℕ) (gone : List Gone) (marks marks' : BTreeMap ℕ ℕ) (book book' : Members)
+    → IsStrictlySortedBy nat_cmp (keys_of es) → AreIndexes es next marks book
+    → rows ≡ remaining hs es → gone ≡ gone_in hs es
+    → ((q : ℕ) → get nat_cmp marks' q ≡ number_left gone q (get nat_cmp marks q))
+    → book' ≡ members_left gone book
+    → AreIndexes rows next marks' book'
+indexes_left hs es rows next gone marks marks' book book' sorted was is go m b =
+    let P : Rows → Type 0 = λ rs. AreIndexes rs next marks' book' in
+    subst P (sym is) (record {
+      below = below_remaining hs next es was.below;
+      marks_are = λ q. m q ∙ ap (number_left gone q) (was.marks_are q) ∙ ap (λ (gs : List Gone). number_left gs q (number_of es q)) go ∙ marks_left hs q es;
+      book_is = b ∙ ap (members_left gone) was.book_is ∙ ap (λ (gs : List Gone). members_left gs (members_of es)) go ∙ members_left_are hs es sorted;
+    })
+
 -- ---- one row more
 
 number_after-append : (was : Option ℕ) (a b : Rows) (q : ℕ) → number_after was (a ++ b) q ≡ number_after (number_after was a q) b q
@@ -170,10 +185,12 @@ members-append : (a b : Rows) → members_of (a ++ b) ≡ members_of a ++ member
 members-append [] b = refl
 members-append (e ∷ a) b = ap (λ (r : Members). (e.0, row_member e.1) ∷ r) (members-append a b)
 
-members_under : (k : ℕ) (es : Rows) → AreBelow k es → Under k (members_of es)
+-- members of rows below a number are under it
+pub members_under : (k : ℕ) (es : Rows) → AreBelow k es → Under k (members_of es)
 members_under k [] u = tt
 members_under k (e ∷ es) u = (u.0, members_under k es u.1)
 
+-- rows below a number are under it
 pub as_under : (k : ℕ) (es : Rows) → AreBelow k es → Under k es
 as_under k [] u = tt
 as_under k (e ∷ es) u = (u.0, as_under k es u.1)
@@ -185,6 +202,7 @@ from_under k (e ∷ es) u = (u.0, from_under k es u.1)
 mark_test : (a b : ℕ) → is_at (nat_cmp a) b ≡ nat_eq a b
 mark_test a b = grind (arith, common_steps)
 
+-- the indexes with a row behind the others, of the next number
 pub indexes_more : (es : Rows) (k : ℕ) (v : EmailRow) (marks marks' : BTreeMap ℕ ℕ) (book book' : Members)
     → AreIndexes es k marks book
     → ((q : ℕ) → get nat_cmp marks' q ≡ cond (is_at (nat_cmp v.mark) q) (Some k) (get nat_cmp marks q))
@@ -198,5 +216,6 @@ indexes_more es k v marks marks' book book' was m b = record {
       ∙ insert_last (members_of es) k (row_member v) (members_under k es was.below) ∙ sym (members-append es ((k, v) ∷ []));
 }
 
+-- the rows that remain are under a number where all were
 pub under_remaining : (hs : List Held) (k : ℕ) (es : Rows) → Under k es → Under k (remaining hs es)
 under_remaining hs k es u = as_under k (remaining hs es) (below_remaining hs k es (from_under k es u))

@@ -6,6 +6,8 @@ pub mod OneTake
 pub mod Exact
 pub mod ThreadLaw
 pub mod TakingLemmas
+pub mod ArrivalLemmas
 pub mod TouchLemmas
+pub mod FollowLemmas
 pub mod LookLemmas
 mod LoopLemmas

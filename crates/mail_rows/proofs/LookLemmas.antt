@@ -1,12 +1,15 @@
 -- The index of marks finds the row of a mark.
-use Rattle.std.proofs.Common.{◌≡◌, ◌≢◌, ◌⊎◌, inl, inr, ℕ, List, [], ◌∷◌, Bool, true, false, ◌||◌, cond, nat_eq, refl, sym, ap, ◌∙◌, nat_cmp, is_some, Option, Some, None, eqb-true, eq-eqb}
+use Rattle.std.proofs.Common.{◌≡◌, ◌≢◌, ◌⊎◌, inl, inr, ℕ, [], ◌∷◌, Bool, true, false, ◌||◌, cond, nat_eq, refl, sym, ap, ◌∙◌, nat_cmp, is_some, Option, Some, None, eqb-true, eq-eqb}
 use Rattle.std.specs.List.Sorted.{IsStrictlySortedBy}
 use Rattle.std.specs.Map.{keys_of}
+use Rattle.std.specs.Borrow.{Bor}
+use Rattle.std.specs.Option.{option_copied}
+use Rattle.std.specs.Prelude.{MatchOption}
 use Rattle.std.specs.BTreeMap.{is_at}
 use Rattle.change_list.specs.Advance.{row_at}
 use Rattle.mail_maps.specs.declared.row.EmailRow.{EmailRow}
 use Rattle.mail_maps.specs.Rows.{Rows}
-use Rattle.mail_rows.specs.NumberedRows.{has_row_mark, knows}
+use Rattle.mail_rows.specs.NumberedRows.{knows}
 use Rattle.mail_rows.specs.LookUps.{IsOfMark, NoneHasMark}
 use Rattle.mail_rows.specs.reading.Indexes.{number_after, number_of}
 use Rattle.mail_rows.proofs.RowLemmas.{AllIn, all_in}
@@ -32,6 +35,7 @@ number_found all (r ∷ es) was mark n found e = by (number_found all es (cond (
           | false ↦ λ other g. inl g
         ] refl f
 
+-- the row of the number that the index has for a mark is one of the mark
 pub is_of_mark : (es : Rows) (mark n : ℕ) (row : EmailRow) → IsStrictlySortedBy nat_cmp (keys_of es) → number_of es mark ≡ Some n → row_at es n ≡ Some row → IsOfMark es mark row
 is_of_mark es mark n row sorted e there = by (number_found es es None mark n (all_in es sorted) e)
   where
@@ -61,6 +65,13 @@ known (r ∷ es) n mark row e same =
       | false ↦ λ f. or_right (nat_eq r.1.mark mark) (knows es mark) (known es n mark row f same)
     ] e
 
+-- a mark that the index lacks is no row's
 pub none_has_mark : (es : Rows) (mark : ℕ) → number_of es mark ≡ None → NoneHasMark es mark
 none_has_mark es mark e n row there same =
     let f : false ≡ true = sym (ap is_some e) ∙ has_number es mark ∙ known es n mark row there same in cc
+
+-- what the index of marks leads to
+pub led_to : (es : Rows) (mark n : ℕ) (found : Option (Bor EmailRow)) → IsStrictlySortedBy nat_cmp (keys_of es) → number_of es mark ≡ Some n → option_copied found ≡ row_at es n
+    → MatchOption found (NoneHasMark es mark) (λ row. IsOfMark es mark row.now)
+led_to es mark n None sorted e is = absurd (is_numbered es mark n sorted e (sym is))
+led_to es mark n (Some row) sorted e is = is_of_mark es mark n row.now sorted e (sym is)

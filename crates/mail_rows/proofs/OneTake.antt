@@ -62,6 +62,7 @@ all_ids fs x y g h =
 one_base : (text x y : List ℕ) → IsBaseOf text x → IsBaseOf text y → x ≡ y
 one_base text x y g h = one_normal (spaced text) x y g.reached g.normal h.reached h.normal
 
+-- envelopes with equal fields are equal
 pub envelope_same : (a b c d e f : Option (List ℕ)) (p q r s : Party) (k l : List ℕ) (m n : Option ℤ) (i j : List (List ℕ))
     → a ≡ b → c ≡ d → e ≡ f → p ≡ q → r ≡ s → k ≡ l → m ≡ n → i ≡ j
     → ◌≡◌ {A = Envelope} (record { subject = a; cc = c; bcc = e; from = p; to = r; base = k; sent_at = m; ids = i })
@@ -81,6 +82,7 @@ one_said fs e f g h =
     (one_time (last_named (codes "date") fs) e.sent_at f.sent_at g.sent_at h.sent_at)
     (all_ids fs e.ids f.ids g.ids h.ids)
 
+-- a header has one envelope
 pub one_envelope : (header : List ℕ) (e f : Envelope) → IsEnvelopeOf header e → IsEnvelopeOf header f → e ≡ f
 one_envelope header e f g h =
     let P : List NameAndRaw → Type 0 = λ fs. SaysEnvelope fs e in
@@ -95,5 +97,6 @@ all_one (p ∷ ps) (e ∷ es) [] g h = absurd h
 all_one (p ∷ ps) (e ∷ es) (f ∷ fs) g h =
     ap (λ (u : Envelope). u ∷ es) (one_envelope p.message.header e f g.0 h.0) ∙ ap (λ (u : List Envelope). f ∷ u) (all_one ps es fs g.1 h.1)
 
+-- the rows of some mail come of those before in one way
 pub one_take : (n : NumberedRows) (hs : List Held) (a b : NumberedRows) → TakesMail n hs a → TakesMail n hs b → a ≡ b
 one_take n hs a b g h = g.after_is ∙ ap (taken n hs) (all_one (arrivals n hs) g.envelopes h.envelopes g.are_read h.are_read) ∙ sym h.after_is

@@ -1,20 +1,17 @@
 -- What one pass over the rows has gathered in the end.
-use Rattle.std.proofs.Common.{◌≡◌, ℕ, List, [], ◌∷◌, ◌++◌, Bool, true, false, not, cond, map, filter, refl, sym, ap, ◌∙◌, subst, nat_cmp, append_assoc, is_some, Option, Some, None}
+use Rattle.std.proofs.Common.{◌≡◌, ℕ, List, [], ◌∷◌, ◌++◌, not, cond, map, filter, refl, sym, ap, ◌∙◌, subst, nat_cmp, append_assoc, is_some, Option, Some, None}
 use Rattle.std.specs.declared.cmp.Ordering.TheVariants.{Less}
 use Rattle.std.specs.Option.{option_map}
 use Rattle.std.specs.List.{AllByRecursion}
 use Rattle.std.specs.List.Sorted.{IsStrictlySortedBy}
 use Rattle.std.specs.Map.{keys_of}
 use Rattle.std.specs.BTreeMap.{insert_entry}
-use Rattle.std.proofs.lemmas.Map.Keys.{sorted_head, sorted_tail}
-use Rattle.change_list.specs.declared.entries.Entry.{Entry}
 use Rattle.told_folder.specs.declared.message.Held.{Held}
 use Rattle.mail_maps.specs.declared.row.EmailRow.{EmailRow}
 use Rattle.mail_maps.specs.Rows.{Rows}
 use Rattle.mail_maps.specs.Visible.{Placed, shown}
 use Rattle.mail_maps.proofs.InOrder.{put_next}
 use Rattle.mail_rows.specs.Remaining.{updated, remaining_row, put_remaining, remaining}
-use Rattle.mail_rows.specs.declared.remaining.Gone.{Gone}
 use Rattle.mail_rows.specs.reading.Stays.{PassSoFar, none_passed, gone_of, change_where, is_moved, gather_where, gather_one, gather_all, is_hidden, gone_in, changes_where, changes_in}
 
 append_none : {A : Type 0} (xs : List A) → xs ++ [] ≡ xs
@@ -45,6 +42,7 @@ module _ (hs : List Held) where
   all_put P k None rest here later = later
   all_put P k (Some w) rest here later = (here, later)
 
+  -- what holds of each number holds of those that remain
   pub all_remaining : (P : ℕ → Type 0) (es : Rows) → AllByRecursion P (keys_of es) → AllByRecursion P (keys_of (remaining hs es))
   all_remaining P [] h = tt
   all_remaining P (e ∷ es) h = all_put P e.0 (remaining_row hs e.1) (remaining hs es) h.0 (all_remaining P es h.1)
@@ -55,6 +53,7 @@ module _ (hs : List Held) where
   sorted_put k None rest below later = later
   sorted_put k (Some w) rest below later = (below, later)
 
+  -- the rows that remain are in order
   pub sorted_remaining : (es : Rows) → IsStrictlySortedBy nat_cmp (keys_of es) → IsStrictlySortedBy nat_cmp (keys_of (remaining hs es))
   unfolding IsStrictlySortedBy
   sorted_remaining [] h = h
@@ -76,11 +75,24 @@ module _ (hs : List Held) where
           let S : Rows → Type 0 = λ rows. IsStrictlySortedBy nat_cmp (keys_of rows) in
           rest (gather_where (Some p) g e) (subst S (sym put) sorted) ∙ put
 
+  -- ---- the loop
+
+  -- a turn of the loop: one row is gathered
+  pub pass_more : (g k : PassSoFar) (e : ℕ × EmailRow) (rest rows : Rows) (all : PassSoFar) → rows ≡ e ∷ rest → k ≡ gather_one hs g e → gather_all hs g rows ≡ all → gather_all hs k rest ≡ all
+  pass_more g k e rest rows all is made so_far = ap (λ (x : PassSoFar). gather_all hs x rest) made ∙ sym (ap (gather_all hs g) is) ∙ so_far
+
+  -- the end of the loop: no row is left
+  pub pass_ended : (g : PassSoFar) (rows : Rows) (all : PassSoFar) → rows ≡ [] → gather_all hs g rows ≡ all → g ≡ all
+  pass_ended g rows all is so_far = sym (ap (gather_all hs g) is) ∙ so_far
+
+  -- the pass gathers what goes
   pub all_gone : (es : Rows) → (gather_all hs none_passed es).gone ≡ gone_in hs es
   all_gone es = gone_are none_passed es
 
+  -- the pass gathers the changes
   pub all_changed : (es : Rows) → (gather_all hs none_passed es).changed ≡ changes_in hs es
   all_changed es = changed_are none_passed es
 
+  -- the pass gathers the rows that remain
   pub all_rows : (es : Rows) → IsStrictlySortedBy nat_cmp (keys_of es) → (gather_all hs none_passed es).rows ≡ remaining hs es
   all_rows es sorted = rows_are none_passed es (sorted_remaining es sorted)

@@ -12,24 +12,31 @@ use Rattle.std.proofs.lemmas.Map.Keys.{sorted_head, sorted_tail}
 use Rattle.std.proofs.lemmas.Grind.{common_steps}
 use Rattle.change_list.specs.Advance.{row_at, AreRows}
 
+-- a number is at itself
 pub is_here : (k : ℕ) → is_at (nat_cmp k) k ≡ true
 is_here k = grind (arith, common_steps)
 
+-- no number is at a higher one
 pub above_is_not : (a b : ℕ) → a < b → is_at (nat_cmp a) b ≡ false
 above_is_not a b h = grind (arith, common_steps)
 
+-- no number is at a lower one
 pub below_is_not : (a b : ℕ) → a < b → is_at (nat_cmp b) a ≡ false
 below_is_not a b h = grind (arith, common_steps)
 
+-- a number that compares less is below
 pub less_is_below : (a b : ℕ) → nat_cmp a b ≡ Less → a < b
 less_is_below a b e = grind arith
 
+-- a number below compares less
 pub below_is_less : (a b : ℕ) → a < b → nat_cmp a b ≡ Less
 below_is_less a b e = grind (arith, common_steps)
 
+-- a number above compares greater
 pub is_greater : (a b : ℕ) → a < b → nat_cmp b a ≡ Greater
 is_greater a b h = grind (arith, common_steps)
 
+-- a number is at its equal alone
 pub found_is : (q k : ℕ) → is_at (nat_cmp q) k ≡ true → q ≡ k
 found_is q k e = grind (arith, common_steps)
 
@@ -49,18 +56,22 @@ module _ {R : Type 0} where
   AllIn rows [] = Unit {0}
   AllIn rows (e ∷ es) = (row_at rows e.0 ≡ Some e.1) × AllIn rows es
 
+  -- no row is found below the first
   pub none_above : (k : ℕ) (es : List (ℕ × R)) → AllByRecursion (λ y. nat_cmp k y ≡ Less) (keys_of es) → row_at es k ≡ None
   none_above k [] h = refl
   none_above k (e ∷ es) h = ap (λ (b : Bool). cond b (Some e.1) (row_at es k)) (above_is_not k e.0 (less_is_below k e.0 h.0)) ∙ none_above k es h.1
 
+  -- rows in order are one each number
   pub rows_sorted : (es : List (ℕ × R)) → IsStrictlySortedBy nat_cmp (keys_of es) → AreRows es
   rows_sorted [] h = tt
   rows_sorted (e ∷ es) h = (none_above e.0 es (sorted_head nat_cmp e.0 (keys_of es) h), rows_sorted es (sorted_tail nat_cmp e.0 (keys_of es) h))
 
+  -- no row is found from the number on under which all are
   pub none_over : (next q : ℕ) (es : List (ℕ × R)) → Under next es → next ≤ q → row_at es q ≡ None
   none_over next q [] u h = refl
   none_over next q (e ∷ es) u h = ap (λ (b : Bool). cond b (Some e.1) (row_at es q)) (below_is_not e.0 q (omega (arith, u.0, h))) ∙ none_over next q es u.1 h
 
+  -- no row is found before the first number
   pub none_before : (first q : ℕ) (es : List (ℕ × R)) → From first es → q < first → row_at es q ≡ None
   none_before first q [] f h = refl
   none_before first q (e ∷ es) f h = ap (λ (b : Bool). cond b (Some e.1) (row_at es q)) (above_is_not q e.0 (omega (arith, f.0, h))) ∙ none_before first q es f.1 h
@@ -70,6 +81,7 @@ module _ {R : Type 0} where
   found_later e es (x ∷ xs) h a =
       (ap (λ (b : Bool). cond b (Some e.1) (row_at es x.0)) (below_is_not e.0 x.0 (less_is_below e.0 x.0 h.0)) ∙ a.0, found_later e es xs h.1 a.1)
 
+  -- each row of rows in order is found by its number
   pub all_in : (es : List (ℕ × R)) → IsStrictlySortedBy nat_cmp (keys_of es) → AllIn es es
   all_in [] h = tt
   all_in (e ∷ es) h = (
@@ -93,10 +105,12 @@ module _ {R : Type 0} where
       ap (λ (o : Ordering). match_ordering o ((k, v) ∷ e ∷ es) ((e.0, v) ∷ es) (e ∷ insert_entry nat_cmp es k v)) (is_greater e.0 k u.0)
       ∙ ap (λ (r : List (ℕ × R)). e ∷ r) (insert_last es k v u.1)
 
+  -- with the row behind, rows are under the next number
   pub under_more : (es : List (ℕ × R)) (k : ℕ) (v : R) → Under k es → Under (k + 1) (es ++ (k, v) ∷ [])
   under_more [] k v u = (omega arith, tt)
   under_more (e ∷ es) k v u = (omega (arith, u.0), under_more es k v u.1)
 
+  -- rows from the next number on are above the number
   pub all_less : (k : ℕ) (es : List (ℕ × R)) → From (k + 1) es → AllByRecursion (λ y. nat_cmp k y ≡ Less) (keys_of es)
   all_less k [] f = tt
   all_less k (e ∷ es) f = (below_is_less k e.0 (omega (arith, f.0)), all_less k es f.1)
@@ -105,6 +119,7 @@ module _ {R : Type 0} where
   less_last j k v [] l h = (below_is_less j k l, tt)
   less_last j k v (e ∷ es) l h = (h.0, less_last j k v es l h.1)
 
+  -- with a row of a higher number behind, rows are in order
   pub sorted_last : (es : List (ℕ × R)) (k : ℕ) (v : R) → IsStrictlySortedBy nat_cmp (keys_of es) → Under k es → IsStrictlySortedBy nat_cmp (keys_of (es ++ (k, v) ∷ []))
   unfolding IsStrictlySortedBy
   sorted_last [] k v h u = (tt, tt)

@@ -32,6 +32,7 @@ number_known was (e ∷ es) q =
       | false ↦ refl
     ]
 
+-- the index has a number for the marks of rows alone
 pub has_number : (es : Rows) (q : ℕ) → is_some (number_of es q) ≡ knows es q
 has_number es q = number_known None es q
 
@@ -47,6 +48,7 @@ filter_twice v p r same (x ∷ xs) =
       | false ↦ filter_twice v p r same xs
     ]
 
+-- the visible messages whose marks the index lacks are those without a row
 pub unmarked_are : (marks : BTreeMap ℕ ℕ) (rows : Rows) → ((q : ℕ) → get nat_cmp marks q ≡ number_of rows q) → (hs : List Held) → unmarked marks hs ≡ newcomers hs rows
 unmarked_are marks rows are [] = refl
 unmarked_are marks rows are (h ∷ hs) =
@@ -58,9 +60,12 @@ unmarked_are marks rows are (h ∷ hs) =
 
 -- ---- one after another
 
-pub adds_none : (n : NumberedRows) → AddsRows n [] n
-adds_none n = record { envelopes = []; are_read = tt; after_is = refl }
+-- with no message the rows stay
+pub adds_none : (n : NumberedRows) (ps : List Placed) → length ps ≡ 0 → AddsRows n ps n
+adds_none n [] e = record { envelopes = []; are_read = tt; after_is = refl }
+adds_none n (p ∷ ps) e = absurd (omega (arith, e))
 
+-- one message more
 pub adds_more : (n m : NumberedRows) (p : Placed) (ps : List Placed) (after : NumberedRows) → AddsRow n p m → AddsRows m ps after → AddsRows n (p ∷ ps) after
 adds_more n m p ps after one rest = record {
   envelopes = one.envelope ∷ rest.envelopes;
@@ -68,6 +73,7 @@ adds_more n m p ps after one rest = record {
   after_is = rest.after_is ∙ ap (λ (x : NumberedRows). with_rows x ps rest.envelopes) one.after_is;
 }
 
+-- rows that take in the arrivals behind those that remain are those of the mail
 pub takes_from_adds : (n : NumberedRows) (hs : List Held) (ps : List Placed) (after : NumberedRows) → ps ≡ arrivals n hs → AddsRows (left n hs) ps after → TakesMail n hs after
 takes_from_adds n hs ps after are adds =
     let P : List Placed → Type 0 = λ xs. AddsRows (left n hs) xs after in
@@ -85,16 +91,19 @@ append_none : {A : Type 0} (xs : List A) → xs ++ [] ≡ xs
 append_none [] = refl
 append_none {A} (x ∷ xs) = ap (λ (r : List A). x ∷ r) (append_none xs)
 
+-- rows are added behind the others
 pub rows_added : (n : NumberedRows) (ps : List Placed) (es : List Envelope) → (with_rows n ps es).rows ≡ n.rows ++ added n ps es
 rows_added n [] es = sym (append_none n.rows)
 rows_added n (p ∷ ps) [] = sym (append_none n.rows)
 rows_added n (p ∷ ps) (e ∷ es) = rows_added (with_row n p e) ps es ∙ append_assoc n.rows ((n.next, new_row n p e) ∷ []) (added (with_row n p e) ps es)
 
+-- the next number grows by one for each row
 pub next_added : (n : NumberedRows) (ps : List Placed) (es : List Envelope) → (with_rows n ps es).next ≡ n.next + length (added n ps es)
 next_added n [] es = omega arith
 next_added n (p ∷ ps) [] = omega arith
 next_added n (p ∷ ps) (e ∷ es) = let k : (with_rows (with_row n p e) ps es).next ≡ n.next + 1 + length (added (with_row n p e) ps es) = next_added (with_row n p e) ps es in omega (arith, k)
 
+-- the rows that are added have the next numbers
 pub keys_added : (n : NumberedRows) (ps : List Placed) (es : List Envelope) → keys_of (added n ps es) ≡ numbers_from n.next (length (added n ps es))
 keys_added n [] es = refl
 keys_added n (p ∷ ps) [] = refl
@@ -104,6 +113,7 @@ from_lower : (j k : ℕ) (es : Rows) → j ≤ k → From k es → From j es
 from_lower j k [] l f = tt
 from_lower j k (e ∷ es) l f = (omega (arith, l, f.0), from_lower j k es l f.1)
 
+-- their numbers are the next one or above it
 pub from_added : (n : NumberedRows) (ps : List Placed) (es : List Envelope) → From n.next (added n ps es)
 from_added n [] es = tt
 from_added n (p ∷ ps) [] = tt

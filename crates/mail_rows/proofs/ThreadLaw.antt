@@ -91,6 +91,7 @@ first_is (e ∷ es) base id s = by (shares base id e.1) refl (first_is es base i
         }
     by false k f = lift k (first_shared base id es) f
 
+-- the Thread that is sought among all members is that of the rule
 pub thread_is : (members : Members) (base : List ℕ) (number : ℕ) (ids : List (List ℕ)) → IsStrictlySortedBy nat_cmp (keys_of members) → IsThreadOf members base number ids (thread_in members base number ids)
 thread_is members base number [] s = Founds
 thread_is members base number (id ∷ ids) s = by (first_shared base id members) (first_is members base id s) (thread_is members base number ids s)

@@ -56,6 +56,7 @@ abbrev pub NewIn : Rows → Rows → Type 0
 NewIn old [] = Unit {0}
 NewIn old (e ∷ es) = (row_at old e.0 ≡ None) × NewIn old es
 
+-- rows from a number on are new where all are under it
 pub new_in : (old : Rows) (k : ℕ) (es : Rows) → Under k old → From k es → NewIn old es
 new_in old k [] u f = tt
 new_in old k (e ∷ es) u f = (none_over k e.0 old u f.0, new_in old k es u f.1)
@@ -139,6 +140,7 @@ remaining_at hs (e ∷ es) sorted q = by (is_at (nat_cmp q) e.0) refl (shown hs 
         ∙ ap (λ (b : Bool). cond b (Some (updated e.1 p)) (row_at (remaining hs es) q)) other ∙ rest
         ∙ sym (ap (λ (b : Bool). remaining_if hs (cond b (Some e.1) (row_at es q))) other)
 
+-- an option or none is the option
 pub or_none : {A : Type 0} (o : Option A) → option_or o None ≡ o
 or_none None = refl
 or_none (Some x) = refl
@@ -174,6 +176,7 @@ module _ (hs : List Held) (old more : Rows) (k : ℕ) where
 
 -- ---- all of them
 
+-- the touches of what goes, what is changed and what is added are those of the step
 pub touches_are : (hs : List Held) (old more : Rows) (k : ℕ) → IsStrictlySortedBy nat_cmp (keys_of old) → Under k old → From k more
     → email_touches old (remaining hs old ++ more) ≡ map touch_of_removal (gone_in hs old) ++ (changes_in hs old ++ map touch_of_addition (keys_of more))
 touches_are hs old more k sorted under from =

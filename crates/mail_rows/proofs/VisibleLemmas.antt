@@ -73,6 +73,7 @@ seen_joined : (hs : List Held) (ps qs : List Placed) → AllSeen hs ps → AllSe
 seen_joined hs [] qs f g = g
 seen_joined hs (p ∷ ps) qs f g = (f.0, seen_joined hs ps qs f.1 g)
 
+-- each visible message is found at its place
 pub all_seen : (hs : List Held) → Ascends folder_number hs → AllAscend hs → AllSeen hs (visible hs)
 all_seen [] numbers uids = tt
 all_seen (h ∷ hs) numbers uids =
@@ -167,6 +168,7 @@ at_place m mark p x q is at held e =
     let same : q.message ≡ x = some_is q.message x (sym f.seen.at ∙ ap (λ (r : ℕ × ℕ). message_in m.folders r.0 r.1) place ∙ held) in
     (placed_same q.folder p.0 q.message x (ap (λ (r : ℕ × ℕ). r.0) place) same, ap is_served (sym same) ∙ f.seen.served)
 
+-- a mark at no place is not shown
 pub hidden_mark : (m : Mail) (mark : ℕ) → IsMail m → ((p : ℕ × ℕ) → mark_in m.folders p ≢ Some mark) → shown m.folders mark ≡ None
 hidden_mark m mark is none = by (shown m.folders mark) refl
   where
@@ -186,6 +188,7 @@ shown_if m mark p x is at e true s None f =
     let own : x.mark ≡ mark = some_is x.mark mark (sym (marked_at m.folders p.0 p.1 x e) ∙ at) in
     absurd (let g : false ≡ true = sym (ap is_some f) ∙ shows m.folders p.0 p.1 mark x e s own in cc)
 
+-- what is visible at the place of a mark is what is shown of it
 pub shown_at : (m : Mail) (mark : ℕ) (p : ℕ × ℕ) → IsMail m → mark_in m.folders p ≡ Some mark → served_at m.folders p.0 p.1 ≡ shown m.folders mark
 shown_at m mark p is at = by (message_in m.folders p.0 p.1) refl
   where

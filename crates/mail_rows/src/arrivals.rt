@@ -1,4 +1,4 @@
-// Visible messages that have no row yet.
+//! Visible messages that have no row yet.
 ghost use Rattle.std.specs.Prelude.{◌≡◌, [], ◌∷◌, ◌++◌, filter, IfOk, OnOk};
 ghost use Rattle.mail_maps.specs.Visible.{placed_in};
 ghost use Rattle.mail_rows.specs.reading.Stays as passes;
@@ -9,10 +9,12 @@ use std::collections::BTreeMap;
 use std::marker::Model;
 use told_folder::{Held, Message};
 
-/// A message that becomes an Email, and the number of its folder.
+/// A message that becomes an Email.
 #[derive(Drop)]
 pub struct Arrival {
+    /// The folder's number.
     pub folder: u64,
+    /// The message, whose octets are shared with the mirror.
     pub message: Message,
 }
 

@@ -1,4 +1,4 @@
-// Emails by number, with what finds them by mark and by what they name.
+//! Emails by number, with what finds them by mark and by what they name.
 ghost use Rattle.std.specs.Prelude.{◌≡◌, ◌≢◌, ℕ, ◌+◌, ◌^◌, ◌<◌, ◌≤◌, [], length, IfOk, MatchOption, Some};
 ghost use Rattle.std.specs.Option.{option_copied};
 ghost use Rattle.std.specs.List.Sorted.{IsStrictlySortedBy};
@@ -127,6 +127,7 @@ impl Emails {
         let _count = self.rows.len();
     }
 
+    /// The Email of a number.
     pub fn email(&self, number: u64) -> Option<&EmailRow>
         ensures { option_copied result ≡ row_at self.now.rows number }
     {
@@ -137,6 +138,7 @@ impl Emails {
     pub fn email_by_mark(&self, mark: u64) -> Option<&EmailRow>
         ensures { MatchOption result (NoneHasMark self.now.rows mark) (λ row. IsOfMark self.now.rows mark row.now) }
     {
+        self.are_in_order();
         match self.marks.get(&mark) {
             Some(number) => self.rows.get(number),
             None => None,
@@ -157,6 +159,7 @@ impl Emails {
         ensures gone { IfOk result (λ r. r.gone.items ≡ passes.gone_in mirror.now.mail.folders self.rows) }
         ensures changed { IfOk result (λ r. r.changed.items ≡ passes.changes_in mirror.now.mail.folders self.rows) }
     {
+        self.are_in_order();
         let Emails {
             rows,
             mut marks,
@@ -213,6 +216,7 @@ impl Emails {
         requires { self.next + 1 < 2 ^ 64 }
         ensures { IfOk result (λ e. indexes.AddsRow self arrival e) }
     {
+        self.are_in_order();
         let number = self.next();
         let envelope = read_envelope(alloc, arrival.message.header.as_slice())?;
         let named = named_by(alloc, number, &envelope)?;

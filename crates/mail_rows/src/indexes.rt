@@ -1,4 +1,4 @@
-// The indexes beside the rows, as Emails go.
+//! The indexes beside the rows, as Emails go.
 ghost use Rattle.std.specs.Prelude.{◌≡◌, ℕ};
 ghost use Rattle.std.specs.BTreeMap.{get};
 ghost use Rattle.std.specs.Ordering.{nat_cmp};

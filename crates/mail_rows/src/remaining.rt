@@ -1,4 +1,4 @@
-// Which Emails remain, in one pass over them.
+//! Which Emails remain, in one pass over them.
 ghost use Rattle.std.specs.Prelude.{◌≡◌, ◌++◌, IfOk, OnOk, Some};
 ghost use Rattle.mail_rows.specs.Remaining as remaining;
 ghost use Rattle.mail_rows.specs.reading.Stays as passes;
@@ -16,15 +16,20 @@ use told_mail::Mirror;
 /// An Email that goes.
 #[derive(Clone, Copy, Debug)]
 pub struct Gone {
+    /// Its number.
     pub number: u64,
+    /// The mark of its message.
     pub mark: u64,
 }
 
-/// The rows that remain, those that go, and the touches of those that are changed.
+/// What one pass over the rows finds.
 #[derive(Drop)]
 pub struct Stays {
+    /// The rows that remain, as their messages are now.
     pub rows: BTreeMap<u64, EmailRow>,
+    /// The Emails that go, by ascending number.
     pub gone: Vec<Gone>,
+    /// The touches of those that are changed, by ascending number.
     pub changed: Vec<Entry>,
 }
 
@@ -55,12 +60,12 @@ fn keep(
     stays: &mut Stays,
     number: u64,
     row: EmailRow,
-    place: (u64, &Message),
+    folder: u64,
+    message: &Message,
 ) -> Result<(), AllocError>
     ensures { OnOk result (passes.pass_of stays.new
-        ≡ passes.gather_where (Some (record { folder = place.0; message = place.1.now })) (passes.pass_of stays.old) (number, row)) }
+        ≡ passes.gather_where (Some (record { folder = folder; message = message.now })) (passes.pass_of stays.old) (number, row)) }
 {
-    let (folder, message) = place;
     let keywords = keywords_of(alloc, &message.flags)?;
     let moved = is_moved(&row, folder, &keywords);
     note_change(&mut stays.changed, number, moved)?;
@@ -85,7 +90,7 @@ fn gather(
     ensures { OnOk result (passes.pass_of stays.new ≡ passes.gather_one mirror.now.mail.folders (passes.pass_of stays.old) (number, row)) }
 {
     match shown(mirror, row.mark) {
-        Some(place) => keep(alloc, stays, number, row, place),
+        Some((folder, message)) => keep(alloc, stays, number, row, folder, message),
         None => {
             stays.gone.push(Gone {
                 number,

@@ -1,4 +1,4 @@
-// The visible message of a mark.
+//! The visible message of a mark.
 ghost use Rattle.std.specs.Prelude.{◌≡◌};
 ghost use Rattle.std.specs.Option.{option_map};
 ghost use Rattle.mail_maps.specs.Visible as visible;

@@ -1,4 +1,4 @@
-// Emails as mail comes, moves and goes.
+//! Emails as mail comes, moves and goes.
 
 use crate::Emails;
 use change_list::{Entry, Kind};

@@ -1,4 +1,4 @@
-// The touches of a step, by what remains, what goes and what comes.
+//! The touches of a step, by what remains, what goes and what comes.
 ghost use Rattle.std.specs.Prelude.{◌≡◌, ◌≤◌, ◌-◌, ◌++◌, map, IfOk};
 ghost use Rattle.mail_rows.specs.reading.Stays as passes;
 ghost use Rattle.mail_rows.specs.reading.Indexes.{numbers_from};
