@@ -1,0 +1,6 @@
+mod EmailLemmas
+mod ThreadLemmas
+mod FolderLemmas
+mod MarkLemmas
+mod SoundLemmas
+mod FollowLemmas

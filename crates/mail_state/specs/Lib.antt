@@ -1,0 +1,7 @@
+pub mod History
+pub mod Sound
+pub mod State
+pub mod Following
+pub mod LookUps
+pub mod Laws
+pub mod reading

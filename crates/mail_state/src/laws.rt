@@ -1,0 +1,53 @@
+//! The laws of histories and states, as clauses of functions that do nothing.
+ghost use Rattle.std.specs.Prelude.{◌≡◌, ℕ, Some};
+ghost use Rattle.change_list.specs.Advance.{IsExact};
+ghost use Rattle.told_mail.specs.Mail.{Mail};
+ghost use Rattle.served_maps.specs.Past.{had_at};
+ghost use Rattle.mail_maps.specs.Serve.{Email, mailbox_tests, email_tests, thread_tests};
+ghost use Rattle.mail_state.specs.History.{MailHistory, IsReached, IsNextMail, Advances, first_history};
+ghost use Rattle.mail_state.specs.Sound.{IsSound};
+ghost use Rattle.mail_state.specs.State.{IsStateOf, first_state};
+ghost use Rattle.mail_state.specs.Laws.{UsesOnce, KeepsCopies};
+
+/// Each history that there is is sound.
+pub fn all_are_sound()
+    ensures { (h : MailHistory) → IsReached h → IsSound h }
+{}
+
+/// A state without mail stands for the first history.
+pub fn first_stands()
+    ensures { (epoch : ℕ) → IsStateOf (first_history epoch) (first_state epoch) }
+{}
+
+/// What comes after mail that a history can go on to is mail that it can go on to.
+pub fn next_mail_joins()
+    ensures { (a b c : Mail) → IsNextMail a b → IsNextMail b c → IsNextMail a c }
+{}
+
+/// A history goes on to some mail in one way.
+pub fn one_advance()
+    ensures { (h : MailHistory) (m : Mail) (a b : MailHistory) → Advances h m a → Advances h m b → a ≡ b }
+{}
+
+/// No number is used twice.
+pub fn numbers_are_new()
+    ensures { (h after : MailHistory) (m : Mail) → IsSound h → IsNextMail h.mail m → Advances h m after → UsesOnce h after }
+{}
+
+/// A number never names two marks.
+pub fn one_mark()
+    ensures { (h : MailHistory) (i j q : ℕ) (u v : Email)
+        → IsSound h → had_at h.emails i q ≡ Some u → had_at h.emails j q ≡ Some v → u.immutable.mark ≡ v.immutable.mark }
+{}
+
+/// A client's copy of a type at a place stays one as the history goes on.
+pub fn copies_stay()
+    ensures { (h after : MailHistory) (m : Mail) → Advances h m after → KeepsCopies h after }
+{}
+
+/// The tests by which Mailboxes, Emails and Threads are compared tell served values apart, and no more.
+pub fn tests_are_exact()
+    ensures mailboxes { IsExact mailbox_tests }
+    ensures emails { IsExact email_tests }
+    ensures threads { IsExact thread_tests }
+{}
