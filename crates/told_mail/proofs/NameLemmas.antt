@@ -277,10 +277,6 @@ free_rest rs m new names i name w is apart f e =
     subst (λ (k : Mail). AllFree k.folders (drop (i + 1) names)) (sym e)
     (free_added m (line_for name rs) name (drop (i + 1) names) (line_name name rs) here.1 (apart_from names i name w is apart))
 
--- the name of the first is free
-pub free_first : (hs : List Held) (names : List (List ℕ)) (i : ℕ) (name : List ℕ) → i < length names → name ≡ get_or names i name → AllFree hs (drop i names) → named hs name ≡ None
-free_first hs names i name w is f = (subst (λ (qs : List (List ℕ)). AllFree hs qs) (left names i name w is) f).0
-
 -- the keys of a map ascend, so that each name is another
 pub apart_sorted : (ks : List (Vec ℕ Global)) → IsStrictlySortedBy by_items ks → AreApart (map (λ (v : Vec ℕ Global). v.items) ks)
 apart_sorted [] s = tt
