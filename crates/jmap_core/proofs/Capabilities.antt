@@ -13,7 +13,6 @@ use Rattle.jmap_core.specs.declared.request.Using.{Using}
 use Rattle.jmap_core.specs.declared.request.LimitName.TheVariants.{MaxCallsInRequest}
 use Rattle.jmap_core.specs.declared.request.RequestError.{RequestError}
 use Rattle.jmap_core.specs.declared.request.RequestError.TheVariants.{UnknownCapability, Limit}
-use Rattle.jmap_core.specs.declared.request_body.TheConstants.{MAX_CALLS_IN_REQUEST}
 
 -- the capabilities that are used, with those of s
 abbrev used_with : List (List ℕ) → Using → Option Using
@@ -43,20 +42,20 @@ abbrev known_if : Form → Bool → Option Using
 known_if form b = if b then Some (using_of form.uses) else None
 
 abbrev admitted_if : Form → Bool → Result RequestData RequestError
-admitted_if form b = if b then (if nat_lt MAX_CALLS_IN_REQUEST (length form.calls) then Err (Limit MaxCallsInRequest)
+admitted_if form b = if b then (if nat_lt 16 (length form.calls) then Err (Limit MaxCallsInRequest)
     else Ok (record { uses = using_of form.uses; calls = form.calls; created = form.created })) else Err UnknownCapability
 
 unknown_if : (form : Form) (b : Bool) → known_if form b ≡ None → admitted_if form b ≡ Err UnknownCapability
 unknown_if form true is = absurd (none-some _ (sym is))
 unknown_if form false is = refl
 
-many_if : (form : Form) (b : Bool) (u : Using) → known_if form b ≡ Some u → MAX_CALLS_IN_REQUEST < length form.calls → admitted_if form b ≡ Err (Limit MaxCallsInRequest)
-many_if form true u is many = rw (lt-ltb MAX_CALLS_IN_REQUEST (length form.calls) many) refl
+many_if : (form : Form) (b : Bool) (u : Using) → known_if form b ≡ Some u → 16 < length form.calls → admitted_if form b ≡ Err (Limit MaxCallsInRequest)
+many_if form true u is many = rw (lt-ltb 16 (length form.calls) many) refl
 many_if form false u is many = absurd (none-some u is)
 
-fit_if : (form : Form) (b : Bool) (u : Using) → known_if form b ≡ Some u → length form.calls ≤ MAX_CALLS_IN_REQUEST
+fit_if : (form : Form) (b : Bool) (u : Using) → known_if form b ≡ Some u → length form.calls ≤ 16
     → admitted_if form b ≡ Ok (record { uses = u; calls = form.calls; created = form.created })
-fit_if form true u is fit = rw (le-ltb MAX_CALLS_IN_REQUEST (length form.calls) fit)
+fit_if form true u is fit = rw (le-ltb 16 (length form.calls) fit)
     (ap (λ (v : Using). let r : RequestData = record { uses = v; calls = form.calls; created = form.created } in let o : Result RequestData RequestError = Ok r in o)
     (same_Some _ _ is))
 fit_if form false u is fit = absurd (none-some u is)
@@ -65,11 +64,11 @@ fit_if form false u is fit = absurd (none-some u is)
 pub admitted-unknown : (form : Form) → None ≡ known_capabilities form.uses → admitted form ≡ Err UnknownCapability
 admitted-unknown form is = unknown_if form (list_all is_capability form.uses) (sym (is ∙ known-is form.uses))
 
--- a form that names no other capability, and has more than `MAX_CALLS_IN_REQUEST`, is refused for those
-pub admitted-many : (form : Form) (u : Using) → Some u ≡ known_capabilities form.uses → MAX_CALLS_IN_REQUEST < length form.calls → admitted form ≡ Err (Limit MaxCallsInRequest)
+-- a form that names no other capability, and has more than 16 calls, is refused for those
+pub admitted-many : (form : Form) (u : Using) → Some u ≡ known_capabilities form.uses → 16 < length form.calls → admitted form ≡ Err (Limit MaxCallsInRequest)
 admitted-many form u is many = many_if form (list_all is_capability form.uses) u (sym (is ∙ known-is form.uses)) many
 
--- a form that names no other capability, and has at most `MAX_CALLS_IN_REQUEST`, is a request
-pub admitted-fit : (form : Form) (u : Using) → Some u ≡ known_capabilities form.uses → length form.calls ≤ MAX_CALLS_IN_REQUEST
+-- a form that names no other capability, and has at most 16 calls, is a request
+pub admitted-fit : (form : Form) (u : Using) → Some u ≡ known_capabilities form.uses → length form.calls ≤ 16
     → admitted form ≡ Ok (record { uses = u; calls = form.calls; created = form.created })
 admitted-fit form u is fit = fit_if form (list_all is_capability form.uses) u (sym (is ∙ known-is form.uses)) fit
