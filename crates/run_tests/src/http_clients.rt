@@ -1,5 +1,5 @@
 // Clients over HTTP.
-use crate::scripts::{EMPTY_INBOX, expect_parts, scripted};
+use crate::scripts::{CONNECTED, DONE, EMPTY_INBOX, LISTED, expect_parts, scripted};
 use crate::seen::follow;
 use std::alloc::Global;
 use std::process::Abort;
@@ -34,7 +34,7 @@ const SESSION: &[u8] =
 /// A field that makes a head too large.
 const LONG_FIELD: [u8; 16_384] = [b'a'; 16_384];
 
-const ROWS: [Row; 15] = [
+const ROWS: [Row; 18] = [
     // refusals in their order: the token before the path, the path before the method
     Row {
         line: b"GET /nothing HTTP/1.1\r\n",
@@ -107,6 +107,30 @@ const ROWS: [Row; 15] = [
         body: b"1\r\n{\r\n0\r\n\r\n",
         status: b"HTTP/1.1 400 Bad Request\r\n",
         rest: NOT_JSON,
+        dials: 0,
+    },
+    Row {
+        line: b"POST /jmap/api HTTP/1.1\r\nContent-Length: 2\r\n",
+        fields: TOKEN,
+        body: b"{}",
+        status: b"HTTP/1.1 400 Bad Request\r\n",
+        rest: b"Content-Length: 61\r\nContent-Type: application/problem+json\r\n\r\n{\"status\":400,\"type\":\"urn:ietf:params:jmap:error:notRequest\"}",
+        dials: 0,
+    },
+    Row {
+        line: b"POST /jmap/api HTTP/1.1\r\nContent-Length: 36\r\n",
+        fields: TOKEN,
+        body: b"{\"using\":[\"urn:x\"],\"methodCalls\":[]}",
+        status: b"HTTP/1.1 400 Bad Request\r\n",
+        rest: b"Content-Length: 68\r\nContent-Type: application/problem+json\r\n\r\n{\"status\":400,\"type\":\"urn:ietf:params:jmap:error:unknownCapability\"}",
+        dials: 0,
+    },
+    Row {
+        line: b"POST /jmap/api HTTP/1.1\r\nContent-Length: 412\r\n",
+        fields: TOKEN,
+        body: b"{\"using\":[\"urn:ietf:params:jmap:core\"],\"methodCalls\":[[\"Core/echo\",{},\"c\"],[\"Core/echo\",{},\"c\"],[\"Core/echo\",{},\"c\"],[\"Core/echo\",{},\"c\"],[\"Core/echo\",{},\"c\"],[\"Core/echo\",{},\"c\"],[\"Core/echo\",{},\"c\"],[\"Core/echo\",{},\"c\"],[\"Core/echo\",{},\"c\"],[\"Core/echo\",{},\"c\"],[\"Core/echo\",{},\"c\"],[\"Core/echo\",{},\"c\"],[\"Core/echo\",{},\"c\"],[\"Core/echo\",{},\"c\"],[\"Core/echo\",{},\"c\"],[\"Core/echo\",{},\"c\"],[\"Core/echo\",{},\"c\"]]}",
+        status: b"HTTP/1.1 400 Bad Request\r\n",
+        rest: b"Content-Length: 84\r\nContent-Type: application/problem+json\r\n\r\n{\"limit\":\"maxCallsInRequest\",\"status\":400,\"type\":\"urn:ietf:params:jmap:error:limit\"}",
         dials: 0,
     },
     Row {
@@ -195,6 +219,35 @@ const DOWNLOADED: &[u8] = b"Content-Length: 2\r\nContent-Type: text/plain\r\n\r\
 const LOST: &[u8] =
     b"Content-Length: 35\r\nContent-Type: application/problem+json\r\n\r\n{\"status\":404,\"type\":\"about:blank\"}";
 
+const OK: &[u8] = b"HTTP/1.1 200 OK\r\n";
+
+const ASKS: &[u8] =
+    b"POST /jmap/api HTTP/1.1\r\nAuthorization: Bearer secret\r\nContent-Length: 123\r\n\r\n{\"using\":[\"urn:ietf:params:jmap:core\",\"urn:ietf:params:jmap:mail\"],\"methodCalls\":[[\"Mailbox/get\",{\"accountId\":\"a1\"},\"c1\"]]}";
+
+/// A message came since INBOX was empty.
+const ONE_CAME: &[&[u8]] = &[
+    CONNECTED,
+    LISTED,
+    b"* 1 EXISTS\r\n* OK [UIDVALIDITY 7] x\r\n* OK [UIDNEXT 2] x\r\n* OK [HIGHESTMODSEQ 2] x\r\na6 OK [READ-WRITE] x\r\n",
+    b"* 1 FETCH (UID 1 FLAGS () MODSEQ (2) INTERNALDATE \"01-Jan-2024 00:00:00 +0000\" RFC822.SIZE 40 BODY[HEADER]<0> {2}\r\n\r\n)\r\n",
+    DONE,
+];
+
+/// What stands after the fixed fields of the responses to those calls.
+const NONE_THERE: &[u8] =
+    b"Content-Length: 207\r\nContent-Type: application/json\r\n\r\n{\"methodResponses\":[[\"Mailbox/get\",{\"accountId\":\"a1\",\"list\":[{\"id\":\"m1\",\"totalEmails\":0,\"unreadEmails\":0}],\"notFound\":[],\"state\":\"000000000000001f-1\"},\"c1\"]],\"sessionState\":\"1;5;alice;http://127.0.0.1:8080\"}";
+
+const ONE_THERE: &[u8] =
+    b"Content-Length: 207\r\nContent-Type: application/json\r\n\r\n{\"methodResponses\":[[\"Mailbox/get\",{\"accountId\":\"a1\",\"list\":[{\"id\":\"m1\",\"totalEmails\":1,\"unreadEmails\":1}],\"notFound\":[],\"state\":\"000000000000001f-2\"},\"c1\"]],\"sessionState\":\"1;5;alice;http://127.0.0.1:8080\"}";
+
+const UNAVAILABLE: &[u8] =
+    b"Content-Length: 114\r\nContent-Type: application/json\r\n\r\n{\"methodResponses\":[[\"error\",{\"type\":\"serverUnavailable\"},\"c1\"]],\"sessionState\":\"1;5;alice;http://127.0.0.1:8080\"}";
+
+const DOWNLOADS_ANY: &[u8] =
+    b"GET /jmap/download/a1/u8f434346648f6b96df89dda901c5176b10a6d83961dd3c1ac88b59b2dc327aa4/x HTTP/1.1\r\nAuthorization: Bearer secret\r\n\r\n";
+
+const OCTETS: &[u8] = b"Content-Length: 2\r\nContent-Type: application/octet-stream\r\n\r\nhi";
+
 /// What clients one after another take, of whom the store is asked over these links, where a call fails.
 struct Serving {
     links: &'static [&'static [&'static [u8]]],
@@ -203,7 +256,7 @@ struct Serving {
     took: &'static [&'static [u8]],
 }
 
-const SERVINGS: [Serving; 2] = [
+const SERVINGS: [Serving; 4] = [
     // an upload is kept from client to client, and a client that ends early is sent nothing
     Serving {
         links: &[EMPTY_INBOX, &[b"* OK hi\r\n"]],
@@ -227,6 +280,40 @@ const SERVINGS: [Serving; 2] = [
         clients: &[&[GETS_NOTHING], &[GETS_NOTHING]],
         fails_at: 2,
         took: &[b"HTTP/1.1 404 Not Found\r\n", FIXED, EMPTY],
+    },
+    // mail that changed is served at a further place, and a lost link spoils one request
+    Serving {
+        links: &[EMPTY_INBOX, ONE_CAME, &[b"* OK hi\r\n"], ONE_CAME],
+        clients: &[&[ASKS], &[ASKS], &[ASKS], &[ASKS]],
+        fails_at: 0,
+        took: &[
+            OK,
+            FIXED,
+            NONE_THERE,
+            OK,
+            FIXED,
+            ONE_THERE,
+            OK,
+            FIXED,
+            UNAVAILABLE,
+            OK,
+            FIXED,
+            ONE_THERE,
+        ],
+    },
+    // a download for which no type is asked
+    Serving {
+        links: &[EMPTY_INBOX],
+        clients: &[&[UPLOADS], &[DOWNLOADS_ANY]],
+        fails_at: 0,
+        took: &[
+            b"HTTP/1.1 201 Created\r\n",
+            FIXED,
+            UPLOADED,
+            OK,
+            FIXED,
+            OCTETS,
+        ],
     },
 ];
 

@@ -4,6 +4,8 @@
 #[cfg(test)]
 mod asked_words;
 #[cfg(test)]
+mod beginnings;
+#[cfg(test)]
 mod http_clients;
 #[cfg(test)]
 mod scripts;
