@@ -3,7 +3,6 @@ pub mod Texts
 pub mod Numbers
 pub mod UidSets
 pub mod Codes
-pub mod ReadCodes
 pub mod Lines
 pub mod Strings
 pub mod Values
@@ -15,3 +14,4 @@ pub mod Folders
 pub mod Free
 pub mod Spells
 pub mod Commands
+pub mod reading
