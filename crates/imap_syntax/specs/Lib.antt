@@ -4,7 +4,6 @@ pub mod Texts
 pub mod Numbers
 pub mod UidSets
 pub mod Codes
-pub mod ReadCodes
 pub mod Lines
 pub mod Strings
 pub mod Values
@@ -16,3 +15,4 @@ pub mod Folders
 pub mod Free
 pub mod Spells
 pub mod Commands
+pub mod reading
