@@ -1,5 +1,5 @@
 -- What holds of each history.
-use Rattle.std.specs.Prelude.{◌≡◌, ℕ, ◌+◌, ◌≤◌, List, All, Some}
+use Rattle.std.specs.Prelude.{◌≡◌, ℕ, ◌+◌, ◌≤◌, List, All, true, Some}
 use Rattle.std.specs.List.Sorted.{IsStrictlySortedBy}
 use Rattle.std.specs.Map.{keys_of}
 use Rattle.std.specs.Ordering.{nat_cmp}
@@ -10,7 +10,7 @@ use Rattle.mail_maps.specs.declared.row.EmailRow.{EmailRow}
 use Rattle.mail_maps.specs.Envelope.{IsEnvelopeOf}
 use Rattle.mail_maps.specs.Visible.{Placed, shown}
 use Rattle.mail_maps.specs.Serve.{Email}
-use Rattle.mail_rows.specs.NumberedRows.{MarksApart}
+use Rattle.mail_rows.specs.NumberedRows.{knows, MarksApart}
 use Rattle.mail_rows.specs.Remaining.{updated}
 use Rattle.mail_state.specs.History.{MailHistory, served_mailboxes, served_emails, served_threads}
 
@@ -43,4 +43,6 @@ pub record IsSound (h : MailHistory) : Type 0 where
   pub ascending : IsStrictlySortedBy nat_cmp (keys_of h.numbered.rows)
   pub rows : All (IsRowOf h.mail.folders) h.numbered.rows
   pub marks : MarksApart h.numbered.rows
+  -- each visible message has an Email
+  pub visible : (mark : ℕ) (message : Placed) → shown h.mail.folders mark ≡ Some message → knows h.numbered.rows mark ≡ true
   pub immutable : KeepsImmutable h.emails
