@@ -27,6 +27,7 @@ use Rattle.mail_maps.specs.Serve.{
   same_email,
   same_rights,
   same_counts,
+  same_but_counts,
   same_mailbox,
   mailbox_tests,
   email_tests,

@@ -116,22 +116,22 @@ added_ordered : (n : NumberedRows) (ps : List Placed) (es : List Envelope) (q r 
     → row_at (added n ps es) r ≡ Some v → ComesBefore u v
 added_ordered n [] es q r u v order less is_u is_v = absurd (let f : None ≡ Some u = is_u in cc)
 added_ordered n (p ∷ ps) [] q r u v order less is_u is_v = absurd (let f : None ≡ Some u = is_u in cc)
-added_ordered n (p ∷ ps) (e ∷ es) q r u v order less is_u is_v = by (is_at (nat_cmp q) n.next) (is_at (nat_cmp r) n.next) refl refl is_u is_v
+added_ordered n (p ∷ ps) (e ∷ es) q r u v order less is_u is_v = by (is_at (nat_cmp q) n.next) (is_at (nat_cmp r) n.next) refl refl is_u is_v (added_ordered (with_row n p e) ps es q r u v order.1 less)
   where
     rest : Rows
     rest = added (with_row n p e) ps es
 
     by : (a b : Bool) → is_at (nat_cmp q) n.next ≡ a → is_at (nat_cmp r) n.next ≡ b → cond a (Some (new_row n p e)) (row_at rest q) ≡ Some u
-        → cond b (Some (new_row n p e)) (row_at rest r) ≡ Some v → ComesBefore u v
-    by true true q_is r_is f g = absurd (let k : q ≡ n.next = found_is q n.next q_is in let l : r ≡ n.next = found_is r n.next r_is in omega (arith, k, l, less))
-    by true false q_is r_not f g =
+        → cond b (Some (new_row n p e)) (row_at rest r) ≡ Some v → (row_at rest q ≡ Some u → row_at rest r ≡ Some v → ComesBefore u v) → ComesBefore u v
+    by true true q_is r_is f g later = absurd (let k : q ≡ n.next = found_is q n.next q_is in let l : r ≡ n.next = found_is r n.next r_is in omega (arith, k, l, less))
+    by true false q_is r_not f g later =
         let P : EmailRow → Type 0 = λ w. ComesBefore w v in
         subst P (same_row (new_row n p e) u f) (found_behind p (new_row n p e) (with_row n p e) ps es r v refl refl order.0 g)
-    by false true q_not r_is f g =
+    by false true q_not r_is f g later =
         let l : r ≡ n.next = found_is r n.next r_is in
         let none : row_at rest q ≡ None = none_before (n.next + 1) q rest (from_added (with_row n p e) ps es) (omega (arith, l, less)) in
         absurd (let k : None ≡ Some u = sym none ∙ f in cc)
-    by false false q_not r_not f g = added_ordered (with_row n p e) ps es q r u v order.1 less f g
+    by false false q_not r_not f g later = later f g
 
 -- of two new Emails the one of the lower number comes first in the mail
 pub new_in_order : (h after : MailHistory) (m : Mail) (q r : ℕ) (u v : EmailRow) → IsSound h → IsNextMail h.mail m → Advances h m after → h.numbered.next ≤ q → q < r
