@@ -18,6 +18,7 @@ use Rattle.told_mail.specs.Mail.{Mail, IsMail}
 use Rattle.mail_maps.specs.Serve.{Immutable, Email, email_of, mailbox_tests, email_tests, thread_tests}
 use Rattle.mail_rows.specs.NumberedRows.{NumberedRows}
 use Rattle.mail_rows.specs.Taking.{TakesMail}
+use Rattle.mail_rows.proofs.MailLaws.{emails_are_shown}
 use Rattle.mail_rows.proofs.OneTake.{one_take}
 use Rattle.mail_rows.proofs.Exact.{exact_mailbox, exact_email, exact_thread}
 use Rattle.mail_rows.proofs.RowLemmas.{found_under}
@@ -37,7 +38,7 @@ use Rattle.mail_state.specs.History.{
 }
 use Rattle.mail_state.specs.Sound.{IsSound, IsRowOf, KeepsImmutable}
 use Rattle.mail_state.specs.State.{IsStateOf, first_state}
-use Rattle.mail_state.specs.Laws.{ComesNew, UsesOnce, CopiesStay, KeepsCopies}
+use Rattle.mail_state.specs.Laws.{ComesNew, UsesOnce, CopiesStay, KeepsCopies, HasCopyLaws}
 use Rattle.mail_state.proofs.EmailLemmas.{InOrder, in_order, taken_in_order, served_rows, next_rises, next_bound, emails_are_fresh, keeps_immutable}
 use Rattle.mail_state.proofs.ThreadLemmas.{thread_rows, threads_have, threads_are_fresh, threads_below_then, some_is}
 use Rattle.mail_state.proofs.FolderLemmas.{mailbox_rows, mailboxes_have, mailboxes_are_fresh, folder_below}
@@ -83,6 +84,7 @@ first_is_sound epoch = record {
   ascending = nothing_sorted;
   rows = All-nil (IsRowOf []);
   marks = tt;
+  marks_shown = λ mark. refl;
   immutable = λ i j q u v a b. absurd (let f : None ≡ Some u = sym (none_at i q) ∙ a in cc);
 }
 
@@ -114,6 +116,7 @@ taken_sound h m n sound next takes =
       ascending = order.sorted;
       rows = rows_are h.mail.folders m h.numbered n next.is_mail sound.rows takes;
       marks = marks_apart m h.numbered n next.is_mail sound.marks takes;
+      marks_shown = λ mark. emails_are_shown h.numbered m.folders n mark takes;
       immutable = keeps_immutable h m.folders n sound takes emails;
     }
   where
@@ -168,6 +171,13 @@ copies_stay_right h after m a =
       emails = stays email_tests h.emails (served_emails after.numbered.rows);
       threads = stays thread_tests h.threads (served_threads after.numbered.rows);
     })
+
+-- answers take copies on, and a copy at the last place is the last map
+pub copy_laws : {V : Type 0} (p : Past V) → HasCopyLaws p
+copy_laws {V} p = record {
+  follow = copies.copies_follow p.touches;
+  last = λ copy. (copies.last_copy_is_map p.touches copy, λ all. record { no_other = λ q none. all q ∙ none; agrees = λ q untouched. all q });
+}
 
 -- ---- the first state
 
