@@ -21,7 +21,7 @@ fn is_email(row: &EmailRow, email: &PlainEmail) -> bool {
         .keywords
         .as_slice()
         .iter()
-        .any(|keyword| keyword.as_slice() == b"$seen");
+        .any(|keyword| keyword.as_slice() == b"$seen".as_slice());
     row.number == email.number
         && row.mark == email.mark
         && row.folder == email.folder
