@@ -1,12 +1,15 @@
 //! Tests of changes, conversations and the mail that is served, over the public calls.
 #![tactic(auto)]
 
+// Mail as it is told, and states as text.
 #[cfg(test)]
-mod base_subjects;
+mod followed_steps;
 #[cfg(test)]
-mod change_answers;
+mod shown_state;
 #[cfg(test)]
-mod encoded_subjects;
+mod told;
+
+// What is served.
 #[cfg(test)]
 mod mail_walk;
 #[cfg(test)]
@@ -14,6 +17,22 @@ mod plain_mail;
 #[cfg(test)]
 mod random_mail;
 #[cfg(test)]
+mod served_folders;
+#[cfg(test)]
+mod served_mail;
+#[cfg(test)]
+mod served_sizes;
+
+// Changes.
+#[cfg(test)]
+mod change_answers;
+#[cfg(test)]
 mod random_touches;
+
+// Conversations.
+#[cfg(test)]
+mod base_subjects;
+#[cfg(test)]
+mod encoded_subjects;
 #[cfg(test)]
 mod threads;

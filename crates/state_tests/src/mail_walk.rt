@@ -1,186 +1,222 @@
 //! A state that follows mail which changes at random, beside a slow program.
-use crate::plain_mail::{PlainEmail, PlainMail, emails_in, threads_in};
+use crate::followed_steps::{first, follow};
+use crate::plain_mail::{PlainMail, Row, email_rows, mailbox_rows, named_row, row, thread_rows};
 use crate::random_mail::RandomMail;
 use change_list::Changes;
-use mail_maps::EmailRow;
-use mail_state::{MailState, MailType, StateError};
-use std::alloc::{AllocError, Global};
+use mail_maps::{EmailRow, MailboxRow};
+use mail_state::{MailState, MailType};
+use std::alloc::Global;
 use std::process::Abort;
-use std::test::Fail;
+use told_mail::Held;
 
-/// The Emails as a client has them, and the place up to which it has them.
+const KINDS: [MailType; 3] = [MailType::Mailbox, MailType::Email, MailType::Thread];
+
+/// A type as a client has it, and the place up to which it has it.
 #[derive(Drop)]
 struct Copy {
+    kind: MailType,
     place: u64,
-    emails: Vec<PlainEmail>,
+    rows: Vec<Row>,
 }
 
-/// Whether the row is the Email.
-fn is_email(row: &EmailRow, email: &PlainEmail) -> bool {
-    let is_seen = row
+fn is_seen(email: &EmailRow) -> bool {
+    email
         .keywords
         .as_slice()
         .iter()
-        .any(|keyword| keyword.as_slice() == b"$seen".as_slice());
-    row.number == email.number
-        && row.mark == email.mark
-        && row.folder == email.folder
-        && row.uid == email.uid
-        && row.thread == email.thread
-        && is_seen == email.is_seen
+        .any(|keyword| keyword.as_slice() == b"$seen".as_slice())
 }
 
-/// Whether the state has just these Emails.
-fn has_emails(state: &MailState, plain: &PlainMail) -> Result<bool, AllocError> {
-    let numbers = state.numbers(MailType::Email)?;
-    if numbers.len() != plain.emails.len() {
-        return Ok(false);
-    }
-    for (number, email) in numbers.iter().zip(plain.emails.iter()) {
-        match state.email(*number) {
-            Some(row) if is_email(row, email) => {}
-            _ => return Ok(false),
+fn email_row(rt: &impl Abort, alloc: Global, email: &EmailRow) -> Row {
+    let numbers = [
+        email.number,
+        email.mark,
+        email.folder,
+        email.thread,
+        email.received as u64,
+        u64::from(is_seen(email)),
+    ];
+    row(rt, alloc, &numbers)
+}
+
+fn mailbox_row(rt: &impl Abort, alloc: Global, mailbox: &MailboxRow) -> Row {
+    let numbers = [
+        mailbox.number,
+        mailbox.parent.unwrap_or(0),
+        mailbox.total_emails,
+        mailbox.unread_emails,
+        mailbox.total_threads,
+        mailbox.unread_threads,
+    ];
+    named_row(rt, alloc, &numbers, mailbox.name.as_slice(), 0)
+}
+
+fn thread_row(rt: &impl Abort, alloc: Global, thread: u64, emails: &[u64]) -> Row {
+    let mut row = row(rt, alloc, &[thread]);
+    row.extend_from_slice(emails).expect(rt, "memory");
+    row
+}
+
+/// What the state serves of a number.
+fn served(rt: &impl Abort, alloc: Global, state: &MailState, kind: MailType, number: u64) -> Row {
+    match kind {
+        MailType::Email => {
+            let email = state.email(number).expect(rt, "no such Email");
+            email_row(rt, alloc, email)
+        }
+        MailType::Mailbox => {
+            let mailbox = state.mailbox(number).expect(rt, "no such Mailbox");
+            mailbox_row(rt, alloc, mailbox)
+        }
+        MailType::Thread => {
+            let emails = state.thread(number).expect(rt, "no such Thread");
+            thread_row(rt, alloc, number, emails)
         }
     }
-    Ok(true)
 }
 
-/// Whether the counts of a Mailbox are right.
-fn has_counts(state: &MailState, plain: &PlainMail, folder: u64) -> bool {
-    match state.mailbox(folder) {
-        Some(row) => {
-            (row.total_emails, row.unread_emails) == emails_in(plain.emails.as_slice(), folder)
-                && (row.total_threads, row.unread_threads)
-                    == threads_in(plain.emails.as_slice(), folder)
-        }
-        None => false,
+fn served_rows(rt: &impl Abort, alloc: Global, state: &MailState, kind: MailType) -> Vec<Row> {
+    let numbers = state.numbers(kind).expect(rt, "memory");
+    let mut rows = Vec::new(alloc);
+    for number in &numbers {
+        let row = served(rt, alloc, state, kind, *number);
+        rows.push(row).expect(rt, "memory");
+    }
+    rows
+}
+
+/// What the slow program would serve.
+fn plain_rows(
+    rt: &impl Abort,
+    alloc: Global,
+    plain: &PlainMail,
+    folders: &[Held],
+    kind: MailType,
+) -> Vec<Row> {
+    match kind {
+        MailType::Email => email_rows(rt, alloc, plain.emails.as_slice()),
+        MailType::Mailbox => mailbox_rows(rt, alloc, plain.emails.as_slice(), folders),
+        MailType::Thread => thread_rows(rt, alloc, plain),
     }
 }
 
-fn has_mailboxes(
+/// Compares the Emails that are found by mark, with their UIDs.
+fn expect_marks(rt: &impl Abort, state: &MailState, plain: &PlainMail) {
+    for email in &plain.emails {
+        let row = state.email_by_mark(email.mark).expect(rt, "no such mark");
+        assert_eq!(rt; (row.number, row.uid), (email.number, email.uid));
+    }
+    assert!(rt; state.email_by_mark(0).is_none());
+}
+
+fn expect_rows(
+    rt: &impl Abort,
+    alloc: Global,
     state: &MailState,
     plain: &PlainMail,
-    mail: &RandomMail,
-) -> Result<bool, AllocError> {
-    let folders = mail.mirror.folders();
-    if state.numbers(MailType::Mailbox)?.len() != folders.len() {
-        return Ok(false);
+    folders: &[Held],
+) {
+    for kind in KINDS.iter() {
+        let served = served_rows(rt, alloc, state, *kind);
+        let plain = plain_rows(rt, alloc, plain, folders, *kind);
+        assert_eq!(rt; served.as_slice(), plain.as_slice());
     }
-    for held in folders {
-        if !has_counts(state, plain, held.folder.number) {
-            return Ok(false);
-        }
-    }
-    Ok(true)
+    expect_marks(rt, state, plain);
 }
 
-/// Whether each Thread has just its Emails, by when they came.
-fn has_threads(state: &MailState, plain: &PlainMail) -> bool {
-    for email in &plain.emails {
-        let count = plain
-            .emails
-            .iter()
-            .filter(|other| other.thread == email.thread)
-            .count();
-        match state.thread(email.thread) {
-            Some(emails) if emails.len() == count && emails.contains(&email.number) => {}
-            _ => return false,
-        }
-    }
-    true
+fn has_number(row: &Row, number: u64) -> bool {
+    row.first().copied() == Some(number)
 }
 
-/// The copy without an id, and with what it has now.
-fn take(copy: &mut Copy, id: u64, plain: &PlainMail) -> Result<(), AllocError> {
-    copy.emails.retain(|email| email.number != id);
-    for email in &plain.emails {
-        if email.number == id {
-            copy.emails.push(*email)?;
+/// The copy with what is served of these numbers now.
+fn take(rt: &impl Abort, alloc: Global, copy: &mut Copy, fresh: &[Row], numbers: &[u64]) {
+    for number in numbers {
+        copy.rows.retain(|row| !has_number(row, *number));
+        if let Some(now) = fresh.iter().find(|row| has_number(row, *number)) {
+            let now = row(rt, alloc, now.as_slice());
+            copy.rows.push(now).expect(rt, "memory");
         }
     }
-    Ok(())
 }
 
 /// Applies what changed since the copy's place.
-fn apply_changes(copy: &mut Copy, changes: &Changes, plain: &PlainMail) -> Result<(), AllocError> {
-    for id in changes.created.as_slice() {
-        take(copy, *id, plain)?;
-    }
-    for id in changes.updated.as_slice() {
-        take(copy, *id, plain)?;
-    }
-    for id in changes.destroyed.as_slice() {
-        copy.emails.retain(|email| email.number != *id);
+fn apply(rt: &impl Abort, alloc: Global, copy: &mut Copy, fresh: &[Row], changes: &Changes) {
+    take(rt, alloc, copy, fresh, changes.created.as_slice());
+    take(rt, alloc, copy, fresh, changes.updated.as_slice());
+    for number in changes.destroyed.as_slice() {
+        copy.rows.retain(|row| !has_number(row, *number));
     }
     copy.place = changes.to;
-    Ok(())
 }
 
-/// Whether the copy has just the Emails, their UIDs aside.
-fn is_current(copy: &Copy, plain: &PlainMail) -> bool {
-    copy.emails.len() == plain.emails.len()
-        && plain.emails.iter().all(|email| {
-            copy.emails.iter().any(|other| {
-                other.number == email.number
-                    && other.folder == email.folder
-                    && other.is_seen == email.is_seen
-            })
-        })
+/// Whether the copy has just the rows that are served.
+fn is_current(copy: &Copy, fresh: &[Row]) -> bool {
+    copy.rows.len() == fresh.len()
+        && fresh
+            .iter()
+            .all(|row| copy.rows.iter().any(|other| other == row))
 }
 
-/// Brings the copies up to date, and answers whether each has the Emails then.
-fn bring_up(copies: &mut Vec<Copy>, state: &MailState, plain: &PlainMail) -> Result<bool, Fail> {
-    for copy in copies.iter_mut() {
-        let changes = state.list(MailType::Email).since(copy.place, None)?;
-        apply_changes(copy, &changes, plain)?;
-        if !is_current(copy, plain) {
-            return Ok(false);
-        }
+/// Brings a copy up to date, and compares it with what is served.
+fn bring_up(rt: &impl Abort, alloc: Global, copy: &mut Copy, state: &MailState) {
+    let fresh = served_rows(rt, alloc, state, copy.kind);
+    let changes = state.list(copy.kind).since(copy.place, None);
+    let changes = changes.expect(rt, "the place is kept");
+    apply(rt, alloc, copy, fresh.as_slice(), &changes);
+    assert!(rt; is_current(copy, fresh.as_slice()), "{:?}", copy.kind);
+}
+
+/// Brings copies up to date, which are let go then.
+fn bring_all_up(rt: &impl Abort, alloc: Global, copies: Vec<Copy>, state: &MailState) {
+    for copy in copies {
+        let mut copy = copy;
+        bring_up(rt, alloc, &mut copy, state);
     }
-    Ok(true)
 }
 
-fn copy_of(alloc: Global, state: &MailState, plain: &PlainMail) -> Result<Copy, AllocError> {
-    let place = state.list(MailType::Email).place();
-    let emails = plain.emails.as_slice().to_vec(alloc)?;
-    Ok(Copy { place, emails })
+/// A copy of each type.
+fn keep_copies(rt: &impl Abort, alloc: Global, copies: &mut Vec<Copy>, state: &MailState) {
+    for kind in KINDS.iter() {
+        let copy = Copy {
+            kind: *kind,
+            place: state.list(*kind).place(),
+            rows: served_rows(rt, alloc, state, *kind),
+        };
+        copies.push(copy).expect(rt, "memory");
+    }
 }
 
-/// One step of all three, and whether they agree.
-fn steps(
+/// One step of all three.
+fn step(
+    rt: &impl Abort,
     alloc: Global,
     state: MailState,
     plain: &mut PlainMail,
     mail: &mut RandomMail,
-) -> Result<(MailState, bool), Fail> {
-    mail.step()?;
-    plain.step(alloc, mail.mirror.folders())?;
-    let (state, _moved) = state.apply(&mail.mirror)?;
-    let agree = has_emails(&state, plain)?
-        && has_mailboxes(&state, plain, mail)?
-        && has_threads(&state, plain);
-    Ok((state, agree))
+) -> MailState {
+    mail.step(rt);
+    let state = follow(rt, state, &mail.mirror);
+    plain.step(rt, alloc, mail.mirror.folders());
+    expect_rows(rt, alloc, &state, plain, mail.mirror.folders());
+    state
 }
 
-/// Three thousand steps; a copy is kept at every fifth, and twenty of them are brought up to date at every hundredth.
+/// Three thousand steps. A copy of each type is kept at every fifth, and all of the last hundred are brought up to date.
 #[test]
-fn the_state_follows_mail(rt: HostRuntime) -> Result<(), Fail> {
+fn the_state_follows_mail(rt: HostRuntime) {
     let alloc = rt.alloc();
     let mut mail = RandomMail::new(alloc, 7);
     let mut plain = PlainMail::new(alloc);
-    let mut state = MailState::new(alloc, 1)?;
+    let mut state = first(&rt, alloc);
     let mut copies = Vec::new(alloc);
-    for at in 1..3001 {
-        let (next, agree) = steps(alloc, state, &mut plain, &mut mail)?;
-        assert!(rt; agree, "at step {at}");
-        state = next;
+    for at in 1..3001u32 {
+        state = step(&rt, alloc, state, &mut plain, &mut mail);
         if at % 5 == 0 {
-            copies.push(copy_of(alloc, &state, &plain)?)?;
+            keep_copies(&rt, alloc, &mut copies, &state);
         }
         if at % 100 == 0 {
-            assert!(rt; bring_up(&mut copies, &state, &plain)?, "at step {at}");
+            bring_all_up(&rt, alloc, copies, &state);
             copies = Vec::new(alloc);
         }
     }
-    Ok(())
 }

@@ -1,8 +1,15 @@
 //! Mail that changes at random: messages come, get flags, move and go; folders are made, renamed, emptied and removed.
-use gate_world::{Bytes, Names};
-use std::alloc::{AllocError, Global};
-use told_folder::{Folder, Message};
-use told_mail::Mirror;
+use crate::told::{
+    move_message, name_folder, tell_flags, tell_gone, tell_new, tell_validity, whole,
+};
+use gate_world::Bytes;
+use imap_syntax::FetchItems;
+use std::alloc::Global;
+use std::process::Abort;
+use told_mail::{Message, Mirror};
+
+/// From so many messages on, one goes where else one would come.
+const MANY: usize = 60;
 
 /// A mirror with what chooses its next change.
 #[derive(Drop)]
@@ -10,47 +17,60 @@ pub struct RandomMail {
     pub mirror: Mirror,
     alloc: Global,
     seed: u64,
-    next_mark: u64,
     next_uid: u32,
     next_folder: u64,
+    validity: u32,
+}
+
+/// Where a message is, with the name of its folder.
+#[derive(Drop)]
+struct Place {
+    folder: Bytes,
+    uid: u32,
+    mark: u64,
 }
 
 /// A header with one digit each for an own id, the id that is answered, and a subject.
-fn header(alloc: Global, own: u8, parent: u8, subject: u8) -> Result<Bytes, AllocError> {
+fn header(rt: &impl Abort, alloc: Global, own: u8, parent: u8, subject: u8) -> Vec<u8> {
     let mut octets = Vec::new(alloc);
-    octets.extend_from_slice(b"Message-ID: <")?;
-    octets.push(own)?;
-    octets.extend_from_slice(b">\nIn-Reply-To:   <")?;
-    octets.push(parent)?;
-    octets.extend_from_slice(b">\nSubject: Re: S")?;
-    octets.push(subject)?;
-    octets.extend_from_slice(b"\n\n")?;
-    Bytes::from_vec(octets)
+    let parts: [(&[u8], u8); 3] = [
+        (b"Message-ID: <", own),
+        (b">\nIn-Reply-To:   <", parent),
+        (b">\nSubject: Re: S", subject),
+    ];
+    for part in parts.iter() {
+        octets.extend_from_slice(part.0).expect(rt, "memory");
+        octets.push(part.1).expect(rt, "memory");
+    }
+    octets.extend_from_slice(b"\n\n").expect(rt, "memory");
+    octets
 }
 
-/// One digit.
+/// One of eight digits.
 fn digit(chance: usize) -> u8 {
-    match chance % 8 {
-        0 => b'0',
-        1 => b'1',
-        2 => b'2',
-        3 => b'3',
-        4 => b'4',
-        5 => b'5',
-        6 => b'6',
-        _ => b'7',
+    b"01234567".get(chance % 8).copied().unwrap_or(b'0')
+}
+
+/// Flags: one message in five is to be deleted.
+fn flags(chance: usize) -> &'static [&'static [u8]] {
+    match (chance % 5 == 4, chance % 2 == 1) {
+        (true, true) => &[b"\\deleted", b"\\seen"],
+        (true, false) => &[b"\\deleted"],
+        (false, true) => &[b"\\seen"],
+        (false, false) => &[],
     }
 }
 
-fn flags(alloc: Global, chance: usize) -> Result<Names, AllocError> {
-    let mut flags = Names::new(alloc);
-    if chance % 5 == 4 {
-        flags.push(Bytes::copy_of(alloc, b"\\deleted")?)?;
+/// All of each of these messages.
+fn items_of(rt: &impl Abort, alloc: Global, messages: &[Message]) -> Vec<FetchItems> {
+    let mut all = Vec::new(alloc);
+    for message in messages {
+        let flags = message.flags.share(alloc).expect(rt, "memory");
+        let header = message.header.as_slice();
+        let items = whole(rt, alloc, message.uid, flags, message.date, header);
+        all.push(items).expect(rt, "memory");
     }
-    if chance % 2 == 1 {
-        flags.push(Bytes::copy_of(alloc, b"\\seen")?)?;
-    }
-    Ok(flags)
+    all
 }
 
 impl RandomMail {
@@ -59,9 +79,9 @@ impl RandomMail {
             mirror: Mirror::new(alloc),
             alloc,
             seed,
-            next_mark: 1,
             next_uid: 1,
             next_folder: 1,
+            validity: 1,
         }
     }
 
@@ -73,182 +93,172 @@ impl RandomMail {
         (self.seed >> 33) as usize
     }
 
-    /// The number of one of the folders.
-    fn some_folder(&mut self) -> u64 {
-        let count = self.mirror.folders().len();
-        if count == 0 {
-            return 0;
-        }
-        let at = self.random() % count;
-        match self.mirror.folder_at(at) {
-            Some(folder) => folder.number,
-            None => 0,
-        }
-    }
-
-    /// The mark of one of the messages.
-    fn some_mark(&mut self) -> u64 {
-        let folder = self.some_folder();
-        let count = self.mirror.messages(folder).len();
-        if count == 0 {
-            return 0;
-        }
-        let at = self.random() % count;
-        match self.mirror.message_at(folder, at) {
-            Some(message) => message.mark,
-            None => 0,
-        }
-    }
-
-    /// Puts a message into a folder, where both are as they may be.
-    fn put(&mut self, folder: u64, message: Message) -> Result<(), AllocError> {
-        let is_there = self.mirror.folder(folder).is_some();
-        let is_free = self.mirror.message(folder, message.uid).is_none();
-        let is_new = self.mirror.place_of(message.mark).is_none();
-        let may_be = 0 < message.mark && message.mark < 1 << 53;
-        if is_there && is_free && is_new && may_be {
-            self.mirror.put_message(folder, message)?;
-        }
-        Ok(())
-    }
-
     fn draw_uid(&mut self) -> u32 {
         let uid = self.next_uid;
         self.next_uid = uid.saturating_add(1);
         uid
     }
 
-    fn draw_mark(&mut self) -> u64 {
-        let mark = self.next_mark;
-        self.next_mark = mark.saturating_add(1);
-        mark
+    /// The number of one of the folders; 0 where there is none.
+    fn some_folder(&mut self) -> u64 {
+        let chance = self.random();
+        let count = self.mirror.folders().len();
+        if count == 0 {
+            return 0;
+        }
+        match self.mirror.folder_at(chance % count) {
+            Some(folder) => folder.number,
+            None => 0,
+        }
+    }
+
+    /// The name of a folder.
+    fn name_of(&self, rt: &impl Abort, number: u64) -> Bytes {
+        let folder = self.mirror.folder(number).expect(rt, "no such folder");
+        folder.name.share().expect(rt, "memory")
+    }
+
+    /// Where one of the messages is, if the folder that is chosen has any.
+    fn some_message(&mut self, rt: &impl Abort) -> Option<Place> {
+        let number = self.some_folder();
+        let chance = self.random();
+        let messages = self.mirror.messages(number);
+        if messages.is_empty() {
+            return None;
+        }
+        let message = &messages[chance % messages.len()];
+        let (uid, mark) = (message.uid, message.mark);
+        let folder = self.name_of(rt, number);
+        Some(Place { folder, uid, mark })
     }
 
     /// A new message comes.
-    fn deliver(&mut self) -> Result<(), AllocError> {
-        let folder = self.some_folder();
+    fn deliver(&mut self, rt: &impl Abort) {
+        let alloc = self.alloc;
+        let number = self.some_folder();
         let chance = self.random();
-        let message = Message {
-            uid: self.draw_uid(),
-            mark: self.draw_mark(),
-            flags: flags(self.alloc, chance)?,
-            date: (chance % 50) as i64,
-            size: 9,
-            header: header(
-                self.alloc,
-                digit(chance),
-                digit(chance / 8),
-                digit(chance / 64 % 2),
-            )?,
-        };
-        self.put(folder, message)
+        let uid = self.draw_uid();
+        let (own, parent, subject) = (digit(chance), digit(chance / 8), digit(chance / 64 % 2));
+        let header = header(rt, alloc, own, parent, subject);
+        let flags = crate::told::names(rt, alloc, flags(chance / 128));
+        let items = whole(
+            rt,
+            alloc,
+            uid,
+            flags,
+            (chance % 50) as i64,
+            header.as_slice(),
+        );
+        let mut messages = Vec::new(alloc);
+        messages.push(items).expect(rt, "memory");
+        let folder = self.name_of(rt, number);
+        tell_new(rt, alloc, &mut self.mirror, folder.as_slice(), messages);
     }
 
     /// A message gets flags.
-    fn flag(&mut self) -> Result<(), AllocError> {
-        let mark = self.some_mark();
-        let place = self.mirror.place_of(mark);
+    fn flag(&mut self, rt: &impl Abort) {
         let chance = self.random();
-        if let (Some((folder, _uid)), Some(message)) = (place, self.mirror.cut_message(mark)) {
-            let changed = Message {
-                flags: flags(self.alloc, chance)?,
-                ..message
-            };
-            self.put(folder, changed)?;
+        if let Some(place) = self.some_message(rt) {
+            let folder = place.folder.as_slice();
+            tell_flags(
+                rt,
+                self.alloc,
+                &mut self.mirror,
+                folder,
+                place.uid,
+                flags(chance),
+            );
         }
-        Ok(())
+    }
+
+    fn expunge(&mut self, rt: &impl Abort) {
+        if let Some(place) = self.some_message(rt) {
+            let folder = place.folder.as_slice();
+            tell_gone(rt, self.alloc, &mut self.mirror, folder, place.uid);
+        }
     }
 
     /// A message moves to some folder, where it has a new UID.
-    fn move_one(&mut self) -> Result<(), AllocError> {
-        let mark = self.some_mark();
-        let folder = self.some_folder();
+    fn move_one(&mut self, rt: &impl Abort) {
+        let number = self.some_folder();
         let uid = self.draw_uid();
-        if let Some(message) = self.mirror.cut_message(mark) {
-            let moved = Message { uid, ..message };
-            self.put(folder, moved)?;
+        if let Some(place) = self.some_message(rt) {
+            move_message(rt, self.alloc, &mut self.mirror, place.mark, number, uid);
         }
-        Ok(())
     }
 
-    /// The first message of a folder is another one: it has a new mark.
-    fn renew(&mut self) -> Result<(), AllocError> {
-        let mark = self.some_mark();
-        let folder = self.some_folder();
-        let new_mark = self.draw_mark();
-        if let Some(message) = self.mirror.cut_message(mark) {
-            let renewed = Message {
-                mark: new_mark,
-                ..message
-            };
-            self.put(folder, renewed)?;
-        }
-        Ok(())
+    /// A folder has another validity: the same messages are new ones.
+    fn renew(&mut self, rt: &impl Abort) {
+        let number = self.some_folder();
+        let folder = self.name_of(rt, number);
+        let messages = items_of(rt, self.alloc, self.mirror.messages(number));
+        self.validity = self.validity.saturating_add(1);
+        let name = folder.as_slice();
+        tell_validity(rt, self.alloc, &mut self.mirror, name, self.validity);
+        tell_new(rt, self.alloc, &mut self.mirror, name, messages);
     }
 
-    /// A folder of this number gets a name that no other has.
-    fn name_folder(&mut self, number: u64) -> Result<(), AllocError> {
+    /// The folder of a number, which may be new, gets a name, where no other has it. Some names stand below others.
+    fn name(&mut self, rt: &impl Abort, number: u64) {
         let chance = self.random();
-        let mut name = Vec::new(self.alloc);
-        name.extend_from_slice(b"F")?;
-        name.push(digit(chance))?;
-        name.extend_from_slice(b"/G")?;
-        name.push(digit(chance / 8))?;
-        if self.mirror.named(name.as_slice()).is_some() || number == 0 || number >= 1 << 53 {
-            return Ok(());
+        let octets = [b'F', digit(chance), b'/', b'G', digit(chance / 8)];
+        let len = if chance / 64 % 2 == 0 { 2 } else { 5 };
+        let name = octets.get(..len).unwrap_or(&[]);
+        if self.mirror.named(name).is_none() {
+            name_folder(rt, self.alloc, &mut self.mirror, number, name);
         }
-        let folder = Folder {
-            number,
-            name: Bytes::from_vec(name)?,
-            delimiter: Some(b'/'),
-            attributes: Names::new(self.alloc),
-            validity: 1,
-            modseq: 1,
-            next: 1,
-        };
-        self.mirror.put_folder(folder)?;
-        Ok(())
     }
 
-    fn make_folder(&mut self) -> Result<(), AllocError> {
+    fn make_folder(&mut self, rt: &impl Abort) {
         let number = self.next_folder;
         self.next_folder = number.saturating_add(1);
-        self.name_folder(number)
+        self.name(rt, number);
     }
 
-    fn rename_folder(&mut self) -> Result<(), AllocError> {
-        let number = self.some_folder();
-        self.name_folder(number)
+    /// Changes a folder.
+    fn change_folder(&mut self, rt: &impl Abort, chance: usize) {
+        match chance {
+            0..=2 => self.make_folder(rt),
+            3..=4 => {
+                let number = self.some_folder();
+                self.name(rt, number);
+            }
+            5 => {
+                let number = self.some_folder();
+                self.mirror.cut_folder(number);
+            }
+            _ => self.renew(rt),
+        }
+    }
+
+    fn count(&self) -> usize {
+        let mut count: usize = 0;
+        for held in self.mirror.folders() {
+            count = count.saturating_add(held.messages.len());
+        }
+        count
+    }
+
+    /// Changes a message.
+    fn change_message(&mut self, rt: &impl Abort, chance: usize) {
+        match chance {
+            0..=17 => self.expunge(rt),
+            18..=44 => self.flag(rt),
+            45..=59 => self.move_one(rt),
+            _ if self.count() < MANY => self.deliver(rt),
+            _ => self.expunge(rt),
+        }
     }
 
     /// Changes something.
-    pub fn step(&mut self) -> Result<(), AllocError> {
+    pub fn step(&mut self, rt: &impl Abort) {
         let chance = self.random() % 100;
-        if self.mirror.folders().is_empty() || chance < 3 {
-            return self.make_folder();
+        if self.mirror.folders().is_empty() {
+            self.make_folder(rt);
+        } else if chance < 8 {
+            self.change_folder(rt, chance);
+        } else {
+            self.change_message(rt, chance);
         }
-        if chance < 5 {
-            return self.rename_folder();
-        }
-        if chance < 6 {
-            let folder = self.some_folder();
-            self.mirror.cut_folder(folder);
-            return Ok(());
-        }
-        if chance < 18 {
-            let mark = self.some_mark();
-            let _message = self.mirror.cut_message(mark);
-            return Ok(());
-        }
-        if chance < 45 {
-            return self.flag();
-        }
-        if chance < 60 {
-            return self.move_one();
-        }
-        if chance < 63 {
-            return self.renew();
-        }
-        self.deliver()
     }
 }

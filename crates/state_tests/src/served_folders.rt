@@ -38,11 +38,7 @@ const NAMES: [Step; 4] = [
         b" m1 INBOX: inbox 0/0 0/0; m7 m1/a/b: 0/0 0/0;",
     ),
     (
-        &[Told::Folders(&[
-            (b"INBOX/a/b", Some(b'.'), &[]),
-            (b"A", SLASH, &[]),
-            INBOX,
-        ])],
+        &[Told::Folders(&[(b"INBOX/a/b", Some(b'.'), &[]), (b"A", SLASH, &[]), INBOX])],
         b" m~7 m+11",
         b" m1 INBOX: inbox 0/0 0/0; m7 INBOX/a/b: 0/0 0/0; m11 A: 0/0 0/0;",
     ),

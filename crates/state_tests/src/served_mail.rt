@@ -32,7 +32,10 @@ const FLAGS: [Step; 10] = [
         b" e1 m1/1 t1 $seen; e2 m1/2 t2; e3 m1/4 t3; m1 INBOX: inbox 3/2 3/2; t1 e1; t2 e2; t3 e3;",
     ),
     (
-        &[Told::Mail(b"INBOX", (2, &[], 20, PLAIN)), Told::Validity(b"INBOX", 7)],
+        &[
+            Told::Mail(b"INBOX", (2, &[], 20, PLAIN)),
+            Told::Validity(b"INBOX", 7),
+        ],
         b"",
         b" e1 m1/1 t1 $seen; e2 m1/2 t2; e3 m1/4 t3; m1 INBOX: inbox 3/2 3/2; t1 e1; t2 e2; t3 e3;",
     ),
@@ -50,13 +53,23 @@ const FLAGS: [Step; 10] = [
         &[Told::Flags(
             b"INBOX",
             1,
-            &[b"$label", b"\\answered", b"\\draft", b"\\flagged", b"\\other"],
+            &[
+                b"$label",
+                b"\\answered",
+                b"\\draft",
+                b"\\flagged",
+                b"\\other",
+            ],
         )],
         b" e~1",
         b" e1 m1/1 t1 $answered $draft $flagged $label; e2 m1/2 t2; e3 m1/4 t3; m1 INBOX: inbox 3/2 3/2; t1 e1; t2 e2; t3 e3;",
     ),
     (
-        &[Told::Flags(b"INBOX", 1, &[b"$label", b"\\answered", b"\\draft", b"\\flagged"])],
+        &[Told::Flags(
+            b"INBOX",
+            1,
+            &[b"$label", b"\\answered", b"\\draft", b"\\flagged"],
+        )],
         b"",
         b" e1 m1/1 t1 $answered $draft $flagged $label; e2 m1/2 t2; e3 m1/4 t3; m1 INBOX: inbox 3/2 3/2; t1 e1; t2 e2; t3 e3;",
     ),
@@ -203,24 +216,38 @@ const LATE_PARENT: [Step; 6] = [
             Told::Folders(&[INBOX]),
             Told::Mail(
                 b"INBOX",
-                (1, &[], 10, b"Message-ID: <r>\nIn-Reply-To: <p>\nSubject: Re: Plan\n\n"),
+                (
+                    1,
+                    &[],
+                    10,
+                    b"Message-ID: <r>\nIn-Reply-To: <p>\nSubject: Re: Plan\n\n",
+                ),
             ),
         ],
         b" m+1 e+1 t+1",
         b" e1 m1/1 t1; m1 INBOX: inbox 1/1 1/1; t1 e1;",
     ),
     (
-        &[Told::Mail(b"INBOX", (2, &[], 20, b"Message-ID: <p>\nSubject: Plan\n\n"))],
+        &[Told::Mail(
+            b"INBOX",
+            (2, &[], 20, b"Message-ID: <p>\nSubject: Plan\n\n"),
+        )],
         b" m#1 e+2 t~1",
         b" e1 m1/1 t1; e2 m1/2 t1; m1 INBOX: inbox 2/2 1/1; t1 e1 e2;",
     ),
     (
-        &[Told::Mail(b"INBOX", (3, &[], 30, b"Message-ID: <x>\nSubject: Plan\n\n"))],
+        &[Told::Mail(
+            b"INBOX",
+            (3, &[], 30, b"Message-ID: <x>\nSubject: Plan\n\n"),
+        )],
         b" m#1 e+3 t+3",
         b" e1 m1/1 t1; e2 m1/2 t1; e3 m1/3 t3; m1 INBOX: inbox 3/3 2/2; t1 e1 e2; t3 e3;",
     ),
     (
-        &[Told::Mail(b"INBOX", (4, &[], 40, b"References: <x> <p>\nSubject: Re: Plan\n\n"))],
+        &[Told::Mail(
+            b"INBOX",
+            (4, &[], 40, b"References: <x> <p>\nSubject: Re: Plan\n\n"),
+        )],
         b" m#1 e+4 t~3",
         b" e1 m1/1 t1; e2 m1/2 t1; e3 m1/3 t3; e4 m1/4 t3; m1 INBOX: inbox 4/4 2/2; t1 e1 e2; t3 e3 e4;",
     ),
@@ -230,7 +257,10 @@ const LATE_PARENT: [Step; 6] = [
         b" e2 m1/2 t1; e3 m1/3 t3; e4 m1/4 t3; m1 INBOX: inbox 3/3 2/2; t1 e2; t3 e3 e4;",
     ),
     (
-        &[Told::Mail(b"INBOX", (5, &[], 50, b"In-Reply-To: <r>\nSubject: Plan\n\n"))],
+        &[Told::Mail(
+            b"INBOX",
+            (5, &[], 50, b"In-Reply-To: <r>\nSubject: Plan\n\n"),
+        )],
         b" m#1 e+5 t+5",
         b" e2 m1/2 t1; e3 m1/3 t3; e4 m1/4 t3; e5 m1/5 t5; m1 INBOX: inbox 4/4 3/3; t1 e2; t3 e3 e4; t5 e5;",
     ),

@@ -115,7 +115,11 @@ fn many(rt: &impl Abort, alloc: Global, count: u32) -> Vec<FetchItems> {
 fn sizes(rt: &impl Abort, state: &MailState, thread: u64) -> (usize, u64, usize) {
     let emails = state.thread(thread).expect(rt, "no such Thread");
     let threads = state.numbers(MailType::Thread).expect(rt, "memory");
-    (emails.len(), emails.first().copied().unwrap_or(0), threads.len())
+    (
+        emails.len(),
+        emails.first().copied().unwrap_or(0),
+        threads.len(),
+    )
 }
 
 #[test]
