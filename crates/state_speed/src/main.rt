@@ -133,7 +133,7 @@ fn measure(rt: &HostRuntime, messages: u32) -> Result<(), anyhow::Error> {
     println!(rt; "{messages} messages, {count} fields, {octets} octets of headers")?;
     let mut state = take_in(rt, &mirror, messages)?;
     for change in 0..CHANGES {
-        let uid = messages / CHANGES * change + 1;
+        let uid = (messages / CHANGES).saturating_mul(change).saturating_add(1);
         state = take_change(rt, &mut mirror, state, uid)?;
     }
     let watch = Watch::start(rt)?;

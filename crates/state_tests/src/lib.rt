@@ -1,9 +1,15 @@
 //! Tests of changes, conversations and the mail that is served, over the public calls.
 #![tactic(auto)]
 
-// Mail as it is told, and states as text.
+// Mail as it is told, and states as text and beside a slow program.
+#[cfg(test)]
+mod beside_plain;
 #[cfg(test)]
 mod followed_steps;
+#[cfg(test)]
+mod plain_mail;
+#[cfg(test)]
+mod random_mail;
 #[cfg(test)]
 mod shown_state;
 #[cfg(test)]
@@ -11,11 +17,9 @@ mod told;
 
 // What is served.
 #[cfg(test)]
+mod arrival_orders;
+#[cfg(test)]
 mod mail_walk;
-#[cfg(test)]
-mod plain_mail;
-#[cfg(test)]
-mod random_mail;
 #[cfg(test)]
 mod served_folders;
 #[cfg(test)]

@@ -151,6 +151,11 @@ pub fn row(rt: &impl Abort, alloc: Global, numbers: &[u64]) -> Row {
     row
 }
 
+/// A time, none of which is before 1970 in this mail.
+pub fn seconds(received: i64) -> u64 {
+    u64::try_from(received).unwrap_or(u64::MAX)
+}
+
 pub fn email_rows(rt: &impl Abort, alloc: Global, emails: &[PlainEmail]) -> Vec<Row> {
     let mut rows = Vec::new(alloc);
     for email in emails {
@@ -159,7 +164,7 @@ pub fn email_rows(rt: &impl Abort, alloc: Global, emails: &[PlainEmail]) -> Vec<
             email.mark,
             email.folder,
             email.thread,
-            email.received as u64,
+            seconds(email.received),
             u64::from(email.is_seen),
         ];
         rows.push(row(rt, alloc, &numbers)).expect(rt, "memory");

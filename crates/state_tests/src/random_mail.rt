@@ -1,6 +1,6 @@
 //! Mail that changes at random: messages come, get flags, move and go; folders are made, renamed, emptied and removed.
 use crate::told::{
-    move_message, name_folder, tell_flags, tell_gone, tell_new, tell_validity, whole,
+    move_message, name_folder, names, tell_flags, tell_gone, tell_new, tell_validity, whole,
 };
 use gate_world::Bytes;
 use imap_syntax::FetchItems;
@@ -123,10 +123,11 @@ impl RandomMail {
         let number = self.some_folder();
         let chance = self.random();
         let messages = self.mirror.messages(number);
-        if messages.is_empty() {
+        let count = messages.len();
+        if count == 0 {
             return None;
         }
-        let message = &messages[chance % messages.len()];
+        let message = &messages[chance % count];
         let (uid, mark) = (message.uid, message.mark);
         let folder = self.name_of(rt, number);
         Some(Place { folder, uid, mark })
@@ -140,7 +141,7 @@ impl RandomMail {
         let uid = self.draw_uid();
         let (own, parent, subject) = (digit(chance), digit(chance / 8), digit(chance / 64 % 2));
         let header = header(rt, alloc, own, parent, subject);
-        let flags = crate::told::names(rt, alloc, flags(chance / 128));
+        let flags = names(rt, alloc, flags(chance / 128));
         let items = whole(
             rt,
             alloc,

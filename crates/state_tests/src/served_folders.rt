@@ -1,12 +1,10 @@
 //! Folders as Mailboxes: names, parents, roles and rights.
 use crate::followed_steps::{Step, expect_steps, first, follow};
 use crate::shown_state::rights;
-use crate::told::{Line, Told, tell_all};
+use crate::told::{INBOX, Told, tell_all};
 use told_mail::Mirror;
 
 const SLASH: Option<u8> = Some(b'/');
-
-const INBOX: Line = (b"INBOX", SLASH, &[]);
 
 /// The parent is the folder with the longest name that, with the delimiter, begins this one. A name is served in UTF-8. What
 /// changes of a folder's name without a change of what is served is no change.

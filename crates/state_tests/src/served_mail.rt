@@ -1,8 +1,6 @@
 //! What is served as mail comes, changes, moves and goes.
 use crate::followed_steps::{Step, expect_steps};
-use crate::told::{Line, Told};
-
-const INBOX: Line = (b"INBOX", Some(b'/'), &[]);
+use crate::told::{INBOX, Line, Told};
 
 const ARCHIVE: Line = (b"Archive", Some(b'/'), &[b"\\archive"]);
 

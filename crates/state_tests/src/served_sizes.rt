@@ -1,102 +1,11 @@
-//! Many Emails of one Thread, in each order, and many folders within one another.
+//! Many Emails of one Thread, and many folders within one another.
 use crate::followed_steps::{first, follow};
-use crate::told::{Line, Told, line, names, tell, tell_all, tell_gone, tell_new, whole};
+use crate::told::{inbox, line, names, tell, tell_gone, tell_new, whole};
 use imap_syntax::{Command, FetchItems};
 use mail_state::{MailState, MailType};
 use std::alloc::Global;
 use std::process::Abort;
 use told_mail::Mirror;
-
-const INBOX: Line = (b"INBOX", Some(b'/'), &[]);
-
-/// A mirror with an empty INBOX.
-fn inbox(rt: &impl Abort, alloc: Global) -> Mirror {
-    let mut mirror = Mirror::new(alloc);
-    tell_all(rt, alloc, &mut mirror, &[Told::Folders(&[INBOX])]);
-    mirror
-}
-
-/// Headers of a conversation. Each names the first.
-const CONVERSATION: [&[u8]; 5] = [
-    b"Message-ID: <a>\nSubject: Plan\n\n",
-    b"Message-ID: <b>\nIn-Reply-To: <a>\nSubject: Re: Plan\n\n",
-    b"Message-ID: <c>\nIn-Reply-To: <b>\nReferences: <a> <b>\nSubject: RE: plan\n\n",
-    b"Message-ID: <d>\nReferences: <a>\nSubject: Plan (fwd)\n\n",
-    b"Message-ID: <e>\nIn-Reply-To: <c>\nReferences: <a> <b> <c>\nSubject: [list] Re: Plan\n\n",
-];
-
-/// The message of a place in the conversation, which was received then.
-fn spoken(rt: &impl Abort, alloc: Global, uid: u32, which: usize) -> Vec<FetchItems> {
-    let header = CONVERSATION.get(which).expect(rt, "five");
-    let flags = names(rt, alloc, &[]);
-    let items = whole(rt, alloc, uid, flags, which as i64, header);
-    let mut messages = Vec::new(alloc);
-    messages.push(items).expect(rt, "memory");
-    messages
-}
-
-/// The state once the five came in this order, each in a step of its own.
-fn conversed(rt: &impl Abort, alloc: Global, order: &[usize; 5]) -> MailState {
-    let mut mirror = inbox(rt, alloc);
-    let mut state = first(rt, alloc);
-    let mut uid: u32 = 1;
-    for which in order.iter() {
-        let messages = spoken(rt, alloc, uid, *which);
-        tell_new(rt, alloc, &mut mirror, b"INBOX", messages);
-        state = follow(rt, state, &mirror);
-        uid = uid.saturating_add(1);
-    }
-    state
-}
-
-/// The number of the Email that came last but for so many.
-fn number_at(order: &[usize; 5], which: usize) -> Option<u64> {
-    let at = order.iter().position(|place| *place == which)?;
-    Some((at as u64).saturating_add(1))
-}
-
-/// Whether the numbers are those of the five by when they were received.
-fn are_received(order: &[usize; 5], numbers: &[u64]) -> bool {
-    numbers.len() == 5
-        && (0..5usize).all(|which| number_at(order, which) == numbers.get(which).copied())
-}
-
-fn expect_one_thread(rt: &impl Abort, alloc: Global, order: &[usize; 5]) {
-    let state = conversed(rt, alloc, order);
-    let threads = state.numbers(MailType::Thread).expect(rt, "memory");
-    assert_eq!(rt; threads.as_slice(), [1].as_slice());
-    let emails = state.thread(1).expect(rt, "one Thread");
-    assert!(rt; are_received(order, emails), "{emails:?}");
-}
-
-fn is_order(order: &[usize; 5]) -> bool {
-    (0..5usize).all(|place| order.contains(&place))
-}
-
-/// The order of a number to base 5, where it has each digit once.
-fn order_of(code: usize) -> Option<[usize; 5]> {
-    let order = [
-        code % 5,
-        code / 5 % 5,
-        code / 25 % 5,
-        code / 125 % 5,
-        code / 625 % 5,
-    ];
-    if is_order(&order) { Some(order) } else { None }
-}
-
-/// A conversation is one Thread in whatever order it comes, and stands by when each was received.
-#[test]
-fn five_come_in_each_order(rt: HostRuntime) {
-    let mut orders = 0u32;
-    for code in 0..3125usize {
-        if let Some(order) = order_of(code) {
-            expect_one_thread(&rt, rt.alloc(), &order);
-            orders = orders.saturating_add(1);
-        }
-    }
-    assert_eq!(rt; orders, 120);
-}
 
 const SHARED: &[u8] = b"References: <a@b>\nSubject: Re: Plan\n\n";
 

@@ -28,6 +28,8 @@ pub(crate) enum Told {
     Renamed(u64, &'static [u8]),
 }
 
+pub(crate) const INBOX: Line = (b"INBOX", Some(b'/'), &[]);
+
 pub(crate) fn bytes(rt: &impl Abort, alloc: Global, octets: &[u8]) -> Bytes {
     Bytes::copy_of(alloc, octets).expect(rt, "memory")
 }
@@ -94,6 +96,13 @@ fn tell_folders(rt: &impl Abort, alloc: Global, mirror: &mut Mirror, lines: &[Li
         responses.push(response).expect(rt, "memory");
     }
     tell(rt, alloc, mirror, Command::List, b"", responses);
+}
+
+/// A mirror with an empty INBOX.
+pub(crate) fn inbox(rt: &impl Abort, alloc: Global) -> Mirror {
+    let mut mirror = Mirror::new(alloc);
+    tell_folders(rt, alloc, &mut mirror, &[INBOX]);
+    mirror
 }
 
 pub(crate) fn tell_validity(
@@ -213,10 +222,10 @@ pub(crate) fn tell_gone(
 /// Puts a message without its flags into a folder, where both are as they may be.
 fn put(rt: &impl Abort, alloc: Global, mirror: &mut Mirror, folder: u64, message: Message) {
     let mark = message.mark;
-    let is_there = mirror.folder(folder).is_some();
-    let is_free = mirror.message(folder, message.uid).is_none();
-    let is_new = mirror.place_of(mark).is_none();
-    assert!(rt; is_there && is_free && is_new && 0 < mark && mark < 1 << 53);
+    assert!(rt; mirror.folder(folder).is_some());
+    assert!(rt; mirror.message(folder, message.uid).is_none());
+    assert!(rt; mirror.place_of(mark).is_none());
+    assert!(rt; 0 < mark && mark < 1 << 53);
     let message = Message {
         flags: Names::new(alloc),
         ..message
@@ -247,7 +256,9 @@ pub(crate) fn name_folder(
     number: u64,
     name: &[u8],
 ) {
-    assert!(rt; mirror.named(name).is_none() && 0 < number && number < 1 << 53);
+    assert!(rt; mirror.named(name).is_none());
+    assert!(rt; 0 < number && number < 1 << 53);
+    mirror.one_named();
     let folder = Folder {
         number,
         name: bytes(rt, alloc, name),
