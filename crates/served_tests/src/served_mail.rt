@@ -264,6 +264,60 @@ const LATE_PARENT: [Step; 6] = [
     ),
 ];
 
+const FIRST_NOTE: &[u8] = b"Message-ID: <1.drill@example>\nSubject: Note\n\n";
+
+const SECOND_NOTE: &[u8] =
+    b"Message-ID: <2.drill@example>\nIn-Reply-To: <1.drill@example>\nSubject: Note\n\n";
+
+/// A message that goes and comes again under another UID is another Email, of the same Thread.
+const COMES_AGAIN: [Step; 4] = [
+    (
+        &[
+            Told::Folders(&[INBOX]),
+            Told::Mail(b"INBOX", (1, &[], 1, FIRST_NOTE)),
+        ],
+        b" m+1 e+1 t+1",
+        b" e1 m1/1 t1; m1 INBOX: inbox 1/1 1/1; t1 e1;",
+    ),
+    (
+        &[Told::Mail(b"INBOX", (2, &[], 2, SECOND_NOTE))],
+        b" m#1 e+2 t~1",
+        b" e1 m1/1 t1; e2 m1/2 t1; m1 INBOX: inbox 2/2 1/1; t1 e1 e2;",
+    ),
+    (
+        &[
+            Told::Gone(b"INBOX", 1),
+            Told::Mail(b"INBOX", (3, &[], 1, FIRST_NOTE)),
+        ],
+        b" e-1 e+3 t~1",
+        b" e2 m1/2 t1; e3 m1/3 t1; m1 INBOX: inbox 2/2 1/1; t1 e3 e2;",
+    ),
+    (
+        &[Told::Flags(b"INBOX", 3, &[b"\\seen"])],
+        b" m#1 e~3",
+        b" e2 m1/2 t1; e3 m1/3 t1 $seen; m1 INBOX: inbox 2/1 1/1; t1 e3 e2;",
+    ),
+];
+
+const PLAN: &[u8] = b"Message-ID: <a@b>\nSubject: Plan\n\n";
+
+const OTHER: &[u8] = b"References: <a@b>\nSubject: Re: Other\n\n";
+
+const PLAN_AGAIN: &[u8] = b"References: <z@b> <a@b>\nSubject: RE: PLAN (fwd)\n\n";
+
+/// Under another subject an id names another Thread.
+const SUBJECTS: [Step; 1] = [(
+    &[
+        Told::Folders(&[INBOX]),
+        Told::Mail(b"INBOX", (1, &[], 10, PLAN)),
+        Told::Mail(b"INBOX", (2, &[], 20, OTHER)),
+        Told::Mail(b"INBOX", (3, &[], 30, OTHER)),
+        Told::Mail(b"INBOX", (4, &[], 40, PLAN_AGAIN)),
+    ],
+    b" m+1 e+1 e+2 e+3 e+4 t+1 t+2",
+    b" e1 m1/1 t1; e2 m1/2 t2; e3 m1/3 t2; e4 m1/4 t1; m1 INBOX: inbox 4/4 2/2; t1 e1 e4; t2 e2 e3;",
+)];
+
 /// The Emails of a Thread stand by when they came, then by number.
 const BY_DATE: [Step; 2] = [
     (
@@ -300,5 +354,7 @@ fn mail_is_followed(rt: HostRuntime) {
 fn threads_are_followed(rt: HostRuntime) {
     let alloc = rt.alloc();
     expect_steps(&rt, alloc, &LATE_PARENT);
+    expect_steps(&rt, alloc, &COMES_AGAIN);
+    expect_steps(&rt, alloc, &SUBJECTS);
     expect_steps(&rt, alloc, &BY_DATE);
 }

@@ -30,7 +30,7 @@ pub(crate) enum Told {
 
 pub(crate) const INBOX: Line = (b"INBOX", Some(b'/'), &[]);
 
-pub(crate) fn bytes(rt: &impl Abort, alloc: Global, octets: &[u8]) -> Bytes {
+fn bytes(rt: &impl Abort, alloc: Global, octets: &[u8]) -> Bytes {
     Bytes::copy_of(alloc, octets).expect(rt, "memory")
 }
 
