@@ -299,8 +299,6 @@ const COMES_AGAIN: [Step; 4] = [
     ),
 ];
 
-const PLAN: &[u8] = b"Message-ID: <a@b>\nSubject: Plan\n\n";
-
 const OTHER: &[u8] = b"References: <a@b>\nSubject: Re: Other\n\n";
 
 const PLAN_AGAIN: &[u8] = b"References: <z@b> <a@b>\nSubject: RE: PLAN (fwd)\n\n";
@@ -309,7 +307,7 @@ const PLAN_AGAIN: &[u8] = b"References: <z@b> <a@b>\nSubject: RE: PLAN (fwd)\n\n
 const SUBJECTS: [Step; 1] = [(
     &[
         Told::Folders(&[INBOX]),
-        Told::Mail(b"INBOX", (1, &[], 10, PLAN)),
+        Told::Mail(b"INBOX", (1, &[], 10, QUESTION)),
         Told::Mail(b"INBOX", (2, &[], 20, OTHER)),
         Told::Mail(b"INBOX", (3, &[], 30, OTHER)),
         Told::Mail(b"INBOX", (4, &[], 40, PLAN_AGAIN)),
