@@ -67,7 +67,12 @@ fn served(rt: &impl Abort, alloc: Global, state: &MailState, kind: MailType, num
 }
 
 /// What the state serves of a type.
-pub(crate) fn served_rows(rt: &impl Abort, alloc: Global, state: &MailState, kind: MailType) -> Vec<Row> {
+pub(crate) fn served_rows(
+    rt: &impl Abort,
+    alloc: Global,
+    state: &MailState,
+    kind: MailType,
+) -> Vec<Row> {
     let numbers = state.numbers(kind).expect(rt, "memory");
     let mut rows = Vec::new(alloc);
     for number in &numbers {
