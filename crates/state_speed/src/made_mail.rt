@@ -4,6 +4,9 @@ use imap_syntax::{Code, Command, FetchItems, Response, Status};
 use std::alloc::{AllocError, Global};
 use told_mail::{Exchange, Mirror};
 
+/// Messages that are told at once: few, so that little memory is free again before it's measured.
+const SLICE: u32 = 500;
+
 /// Messages of one conversation.
 const CONVERSATION: u32 = 5;
 
@@ -75,19 +78,33 @@ fn tell_folder(alloc: Global, mirror: &mut Mirror) -> Result<(), AllocError> {
     tell(alloc, mirror, Command::List, responses)
 }
 
-/// A mirror with an INBOX of this many messages, each with a header of its own.
-pub fn inbox(alloc: Global, messages: u32) -> Result<Mirror, AllocError> {
-    let mut mirror = Mirror::new(alloc);
-    tell_folder(alloc, &mut mirror)?;
+/// Tells of the messages from one number to before another.
+fn tell_slice(
+    alloc: Global,
+    mirror: &mut Mirror,
+    first: u32,
+    end: u32,
+) -> Result<(), AllocError> {
     let mut responses = Vec::new(alloc);
-    for number in 0..messages {
+    for number in first..end {
         responses.push(whole(alloc, number)?)?;
     }
     let command = Command::FetchNew {
         from: 1,
         modseq: true,
     };
-    tell(alloc, &mut mirror, command, responses)?;
+    tell(alloc, mirror, command, responses)
+}
+
+/// A mirror with an INBOX of this many messages, each with a header of its own.
+pub fn inbox(alloc: Global, messages: u32) -> Result<Mirror, AllocError> {
+    let mut mirror = Mirror::new(alloc);
+    tell_folder(alloc, &mut mirror)?;
+    for slice in 0..messages.div_ceil(SLICE) {
+        let first = slice.saturating_mul(SLICE);
+        let end = first.saturating_add(SLICE).min(messages);
+        tell_slice(alloc, &mut mirror, first, end)?;
+    }
     Ok(mirror)
 }
 
