@@ -1,7 +1,5 @@
 // What a state serves, beside a slow program.
-use crate::plain_mail::{
-    PlainMail, Row, email_rows, mailbox_rows, named_row, row, seconds, thread_rows,
-};
+use crate::plain_mail::{PlainMail, Row, email_rows, mailbox_rows, named_row, thread_rows};
 use mail_maps::{EmailRow, MailboxRow};
 use mail_state::{MailState, MailType};
 use std::alloc::Global;
@@ -10,24 +8,17 @@ use told_mail::Held;
 
 pub(crate) const KINDS: [MailType; 3] = [MailType::Mailbox, MailType::Email, MailType::Thread];
 
-fn is_seen(email: &EmailRow) -> bool {
-    email
-        .keywords
-        .as_slice()
-        .iter()
-        .any(|keyword| keyword.as_slice() == b"$seen".as_slice())
-}
-
 fn email_row(rt: &impl Abort, alloc: Global, email: &EmailRow) -> Row {
+    let mut keywords = email.keywords.as_slice().iter();
+    let is_seen = keywords.any(|keyword| keyword.as_slice() == b"$seen".as_slice());
     let numbers = [
         email.number,
         email.mark,
         email.folder,
         email.thread,
-        seconds(email.received),
-        u64::from(is_seen(email)),
+        u64::from(is_seen),
     ];
-    row(rt, alloc, &numbers)
+    numbers.as_slice().to_vec(alloc).expect(rt, "memory")
 }
 
 fn mailbox_row(rt: &impl Abort, alloc: Global, mailbox: &MailboxRow) -> Row {
@@ -39,11 +30,12 @@ fn mailbox_row(rt: &impl Abort, alloc: Global, mailbox: &MailboxRow) -> Row {
         mailbox.total_threads,
         mailbox.unread_threads,
     ];
-    named_row(rt, alloc, &numbers, mailbox.name.as_slice(), 0)
+    named_row(rt, alloc, &numbers, mailbox.name.as_slice())
 }
 
 fn thread_row(rt: &impl Abort, alloc: Global, thread: u64, emails: &[u64]) -> Row {
-    let mut row = row(rt, alloc, &[thread]);
+    let mut row = Vec::new(alloc);
+    row.push(thread).expect(rt, "memory");
     row.extend_from_slice(emails).expect(rt, "memory");
     row
 }
@@ -116,8 +108,8 @@ pub(crate) fn expect_rows(
 ) {
     for kind in KINDS.iter() {
         let served = served_rows(rt, alloc, state, *kind);
-        let plain = plain_rows(rt, alloc, plain, folders, *kind);
-        assert_eq!(rt; served.as_slice(), plain.as_slice());
+        let wanted = plain_rows(rt, alloc, plain, folders, *kind);
+        assert_eq!(rt; served.as_slice(), wanted.as_slice());
     }
     expect_marks(rt, state, plain);
 }

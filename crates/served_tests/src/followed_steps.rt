@@ -12,7 +12,7 @@ pub(crate) type Step = (&'static [Told], &'static [u8], &'static [u8]);
 /// The places of Mailboxes, Emails and Threads.
 type Places = (u64, u64, u64);
 
-pub(crate) fn places(state: &MailState) -> Places {
+fn places(state: &MailState) -> Places {
     (
         state.list(MailType::Mailbox).place(),
         state.list(MailType::Email).place(),
@@ -34,12 +34,12 @@ pub(crate) fn follow(rt: &impl Abort, state: MailState, mirror: &Mirror) -> Mail
 fn changes(rt: &impl Abort, alloc: Global, state: &MailState, from: Places) -> Vec<u8> {
     let mut out = Vec::new(alloc);
     let kinds = [
-        (MailType::Mailbox, from.0),
-        (MailType::Email, from.1),
-        (MailType::Thread, from.2),
+        ("m", MailType::Mailbox, from.0),
+        ("e", MailType::Email, from.1),
+        ("t", MailType::Thread, from.2),
     ];
     for row in kinds.iter() {
-        put_touches(rt, alloc, &mut out, row.0, state.list(row.0), row.1);
+        put_touches(rt, alloc, &mut out, row.0, state.list(row.1), row.2);
     }
     out
 }

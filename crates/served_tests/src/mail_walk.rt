@@ -1,9 +1,8 @@
 //! A state that follows mail which changes at random, beside a slow program.
 use crate::beside_plain::{KINDS, expect_rows, served_rows};
 use crate::followed_steps::{first, follow};
-use crate::plain_mail::{PlainMail, Row, row};
+use crate::plain_mail::{PlainMail, Row};
 use crate::random_mail::RandomMail;
-use change_list::Changes;
 use mail_state::{MailState, MailType};
 use std::alloc::Global;
 use std::process::Abort;
@@ -25,20 +24,10 @@ fn take(rt: &impl Abort, alloc: Global, copy: &mut Copy, fresh: &[Row], numbers:
     for number in numbers {
         copy.rows.retain(|row| !has_number(row, *number));
         if let Some(now) = fresh.iter().find(|row| has_number(row, *number)) {
-            let now = row(rt, alloc, now.as_slice());
+            let now = now.as_slice().to_vec(alloc).expect(rt, "memory");
             copy.rows.push(now).expect(rt, "memory");
         }
     }
-}
-
-/// Applies what changed since the copy's place.
-fn apply(rt: &impl Abort, alloc: Global, copy: &mut Copy, fresh: &[Row], changes: &Changes) {
-    take(rt, alloc, copy, fresh, changes.created.as_slice());
-    take(rt, alloc, copy, fresh, changes.updated.as_slice());
-    for number in changes.destroyed.as_slice() {
-        copy.rows.retain(|row| !has_number(row, *number));
-    }
-    copy.place = changes.to;
 }
 
 /// Whether the copy has just the rows that are served.
@@ -49,12 +38,14 @@ fn is_current(copy: &Copy, fresh: &[Row]) -> bool {
             .all(|row| copy.rows.iter().any(|other| other == row))
 }
 
-/// Brings a copy up to date, and compares it with what is served.
+/// Applies what changed since the copy's place, and compares it with what is served. No row is served of what was destroyed.
 fn bring_up(rt: &impl Abort, alloc: Global, copy: &mut Copy, state: &MailState) {
     let fresh = served_rows(rt, alloc, state, copy.kind);
     let changes = state.list(copy.kind).since(copy.place, None);
     let changes = changes.expect(rt, "the place is kept");
-    apply(rt, alloc, copy, fresh.as_slice(), &changes);
+    take(rt, alloc, copy, fresh.as_slice(), changes.created.as_slice());
+    take(rt, alloc, copy, fresh.as_slice(), changes.updated.as_slice());
+    take(rt, alloc, copy, fresh.as_slice(), changes.destroyed.as_slice());
     assert!(rt; is_current(copy, fresh.as_slice()), "{:?}", copy.kind);
 }
 

@@ -36,16 +36,9 @@ fn has_flag(message: &Message, name: &[u8]) -> bool {
         .any(|flag| flag.as_slice() == name)
 }
 
-/// The octet at a place of the header.
-fn octet(message: &Message, at: usize) -> u8 {
-    match message.header.as_slice().get(at) {
-        Some(octet) => *octet,
-        None => 0,
-    }
-}
-
 /// What the message says of an Email with this number and Thread.
 fn email_of(number: u64, folder: u64, message: &Message, thread: u64) -> PlainEmail {
+    let header = message.header.as_slice();
     PlainEmail {
         number,
         mark: message.mark,
@@ -53,9 +46,9 @@ fn email_of(number: u64, folder: u64, message: &Message, thread: u64) -> PlainEm
         uid: message.uid,
         is_seen: has_flag(message, b"\\seen"),
         received: message.date,
-        own: octet(message, 13),
-        parent: octet(message, 32),
-        subject: octet(message, 49),
+        own: header.get(13).copied().unwrap_or(0),
+        parent: header.get(32).copied().unwrap_or(0),
+        subject: header.get(49).copied().unwrap_or(0),
         thread,
     }
 }
@@ -89,24 +82,17 @@ fn remaining(
     left
 }
 
-/// The Thread of the lowest Email that names the id and has the subject.
-fn thread_of_id(emails: &[PlainEmail], id: u8, subject: u8) -> Option<u64> {
-    for email in emails {
-        if email.subject == subject && (email.own == id || email.parent == id) {
-            return Some(email.thread);
+/// The Thread of the lowest Email that has the subject and names the id which is answered, or else the own id.
+fn thread_of(emails: &[PlainEmail], new: &PlainEmail) -> u64 {
+    for id in [new.parent, new.own].iter() {
+        let named = emails
+            .iter()
+            .find(|email| email.subject == new.subject && (email.own == *id || email.parent == *id));
+        if let Some(email) = named {
+            return email.thread;
         }
     }
-    None
-}
-
-fn thread_of(emails: &[PlainEmail], new: &PlainEmail) -> u64 {
-    if let Some(thread) = thread_of_id(emails, new.parent, new.subject) {
-        return thread;
-    }
-    match thread_of_id(emails, new.own, new.subject) {
-        Some(thread) => thread,
-        None => new.number,
-    }
+    new.number
 }
 
 impl PlainMail {
@@ -144,18 +130,7 @@ impl PlainMail {
     }
 }
 
-/// A row of these numbers.
-pub fn row(rt: &impl Abort, alloc: Global, numbers: &[u64]) -> Row {
-    let mut row = Vec::new(alloc);
-    row.extend_from_slice(numbers).expect(rt, "memory");
-    row
-}
-
-/// A time, none of which is before 1970 in this mail.
-pub fn seconds(received: i64) -> u64 {
-    u64::try_from(received).unwrap_or(u64::MAX)
-}
-
+/// What is served of Emails, but for when they were received, by which Threads are ordered.
 pub fn email_rows(rt: &impl Abort, alloc: Global, emails: &[PlainEmail]) -> Vec<Row> {
     let mut rows = Vec::new(alloc);
     for email in emails {
@@ -164,16 +139,21 @@ pub fn email_rows(rt: &impl Abort, alloc: Global, emails: &[PlainEmail]) -> Vec<
             email.mark,
             email.folder,
             email.thread,
-            seconds(email.received),
             u64::from(email.is_seen),
         ];
-        rows.push(row(rt, alloc, &numbers)).expect(rt, "memory");
+        let row = numbers.as_slice().to_vec(alloc).expect(rt, "memory");
+        rows.push(row).expect(rt, "memory");
     }
     rows
 }
 
 /// When the Emails of a Thread were received, each with its number, in order.
-fn received(rt: &impl Abort, alloc: Global, emails: &[PlainEmail], thread: u64) -> Vec<(i64, u64)> {
+fn received(
+    rt: &impl Abort,
+    alloc: Global,
+    emails: &[PlainEmail],
+    thread: u64,
+) -> Vec<(i64, u64)> {
     let mut pairs = Vec::new(alloc);
     for email in emails {
         if email.thread == thread {
@@ -185,39 +165,32 @@ fn received(rt: &impl Abort, alloc: Global, emails: &[PlainEmail], thread: u64) 
     pairs
 }
 
-fn thread_row(rt: &impl Abort, alloc: Global, emails: &[PlainEmail], thread: u64) -> Row {
-    let mut numbers = row(rt, alloc, &[thread]);
-    for pair in received(rt, alloc, emails, thread) {
-        numbers.push(pair.1).expect(rt, "memory");
+/// The Thread, and the Emails with these times.
+fn thread_row(rt: &impl Abort, alloc: Global, thread: u64, received: &[(i64, u64)]) -> Row {
+    let mut row = Vec::new(alloc);
+    row.push(thread).expect(rt, "memory");
+    for pair in received {
+        row.push(pair.1).expect(rt, "memory");
     }
-    numbers
+    row
 }
 
-/// The Thread of each number below this one that an Email is in.
+/// The Thread of each number below the next one that an Email is in.
 pub fn thread_rows(rt: &impl Abort, alloc: Global, plain: &PlainMail) -> Vec<Row> {
-    let emails = plain.emails.as_slice();
     let mut rows = Vec::new(alloc);
     for thread in 1..plain.next {
-        if emails.iter().any(|email| email.thread == thread) {
-            let row = thread_row(rt, alloc, emails, thread);
+        let received = received(rt, alloc, plain.emails.as_slice(), thread);
+        if !received.is_empty() {
+            let row = thread_row(rt, alloc, thread, received.as_slice());
             rows.push(row).expect(rt, "memory");
         }
     }
     rows
 }
 
-/// How many Emails of a folder there are, and how many of them are unread.
-fn emails_in(emails: &[PlainEmail], folder: u64) -> (u64, u64) {
-    let total = emails.iter().filter(|email| email.folder == folder);
-    let unread = emails
-        .iter()
-        .filter(|email| email.folder == folder && !email.is_seen);
-    (total.count() as u64, unread.count() as u64)
-}
-
-/// Whether an earlier one of these Emails is in the folder and the Thread.
-fn is_counted(before: &[PlainEmail], folder: u64, thread: u64) -> bool {
-    before
+/// Whether one of these Emails is in the folder and the Thread.
+fn is_among(emails: &[PlainEmail], folder: u64, thread: u64) -> bool {
+    emails
         .iter()
         .any(|email| email.folder == folder && email.thread == thread)
 }
@@ -228,20 +201,23 @@ fn is_unread_thread(emails: &[PlainEmail], thread: u64) -> bool {
         .any(|email| email.thread == thread && !email.is_seen)
 }
 
-/// How many Threads have an Email in the folder, and how many of them have an unread one anywhere.
-fn threads_in(emails: &[PlainEmail], folder: u64) -> (u64, u64) {
-    let mut total: u64 = 0;
-    let mut unread: u64 = 0;
+/// How many Emails a folder has, how many of them are unread, how many Threads have an Email in it, and how many of these
+/// have an unread one anywhere.
+fn counts_in(emails: &[PlainEmail], folder: u64) -> [u64; 4] {
+    let (mut total, mut unread, mut threads, mut unread_threads) = (0u64, 0u64, 0u64, 0u64);
     for at in 0..emails.len() {
         let email = emails[at];
-        if email.folder == folder && !is_counted(&emails[..at], folder, email.thread) {
+        if email.folder == folder {
             total = total.saturating_add(1);
-            if is_unread_thread(emails, email.thread) {
-                unread = unread.saturating_add(1);
-            }
+            unread = unread.saturating_add(u64::from(!email.is_seen));
+        }
+        if email.folder == folder && !is_among(&emails[..at], folder, email.thread) {
+            let is_unread = is_unread_thread(emails, email.thread);
+            threads = threads.saturating_add(1);
+            unread_threads = unread_threads.saturating_add(u64::from(is_unread));
         }
     }
-    (total, unread)
+    [total, unread, threads, unread_threads]
 }
 
 /// The name begins with that of the other folder and `/`.
@@ -262,19 +238,13 @@ fn parent<'a>(folders: &'a [Held], name: &[u8]) -> Option<&'a Folder> {
     best
 }
 
-/// Numbers, and then the octets of a name, whose first octets are left out.
-pub fn named_row(
-    rt: &impl Abort,
-    alloc: Global,
-    numbers: &[u64],
-    name: &[u8],
-    without: usize,
-) -> Row {
-    let mut named = row(rt, alloc, numbers);
-    for octet in name.get(without..).unwrap_or(&[]) {
-        named.push(u64::from(*octet)).expect(rt, "memory");
+/// Numbers, and then the octets of a name.
+pub fn named_row(rt: &impl Abort, alloc: Global, numbers: &[u64], name: &[u8]) -> Row {
+    let mut row = numbers.to_vec(alloc).expect(rt, "memory");
+    for octet in name {
+        row.push(u64::from(*octet)).expect(rt, "memory");
     }
-    named
+    row
 }
 
 /// Names are ASCII, delimiters `/`, and no folder has attributes.
@@ -286,15 +256,13 @@ fn mailbox_row(
     folder: &Folder,
 ) -> Row {
     let name = folder.name.as_slice();
-    let (above, len) = match parent(folders, name) {
-        Some(parent) => (parent.number, parent.name.as_slice().len()),
+    let (above, from) = match parent(folders, name) {
+        Some(parent) => (parent.number, parent.name.as_slice().len().saturating_add(1)),
         None => (0, 0),
     };
-    let (total, unread) = emails_in(emails, folder.number);
-    let (threads, unread_threads) = threads_in(emails, folder.number);
+    let [total, unread, threads, unread_threads] = counts_in(emails, folder.number);
     let numbers = [folder.number, above, total, unread, threads, unread_threads];
-    let without = if above == 0 { 0 } else { len.saturating_add(1) };
-    named_row(rt, alloc, &numbers, name, without)
+    named_row(rt, alloc, &numbers, name.get(from..).unwrap_or(&[]))
 }
 
 pub fn mailbox_rows(

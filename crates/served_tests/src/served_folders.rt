@@ -1,7 +1,7 @@
 //! Folders as Mailboxes: names, parents, roles and rights.
 use crate::followed_steps::{Step, expect_steps, first, follow};
-use crate::shown_state::rights;
 use crate::told::{INBOX, Told, tell_all};
+use mail_maps::Rights;
 use told_mail::Mirror;
 
 const SLASH: Option<u8> = Some(b'/');
@@ -23,22 +23,22 @@ const NAMES: [Step; 4] = [
             INBOX,
         ])],
         b" m+1 m+2 m+3 m+4 m+5 m+6 m+7 m+8 m+9 m+10",
-        b" m1 INBOX: inbox 0/0 0/0; m2 A: 0/0 0/0; m3 A.x: 0/0 0/0; m4 A/: 0/0 0/0; m5 m2/x/y: 0/0 0/0; m6 m1/a: 0/0 0/0; m7 m6/b: 0/0 0/0; m8 caf\xef\xbf\xbd: 0/0 0/0; m9 m8/x: 0/0 0/0; m10 \xef\xbf\xbd\xef\xbf\xbd: 0/0 0/0;",
+        b" m1 INBOX: Inbox 0/0 0/0; m2 A: 0/0 0/0; m3 A.x: 0/0 0/0; m4 A/: 0/0 0/0; m5 m2/x/y: 0/0 0/0; m6 m1/a: 0/0 0/0; m7 m6/b: 0/0 0/0; m8 caf\xef\xbf\xbd: 0/0 0/0; m9 m8/x: 0/0 0/0; m10 \xef\xbf\xbd\xef\xbf\xbd: 0/0 0/0;",
     ),
     (
         &[Told::Renamed(2, b"B"), Told::Renamed(10, b"\xfe\xff")],
         b" m~2 m~5",
-        b" m1 INBOX: inbox 0/0 0/0; m2 B: 0/0 0/0; m3 A.x: 0/0 0/0; m4 A/: 0/0 0/0; m5 A/x/y: 0/0 0/0; m6 m1/a: 0/0 0/0; m7 m6/b: 0/0 0/0; m8 caf\xef\xbf\xbd: 0/0 0/0; m9 m8/x: 0/0 0/0; m10 \xef\xbf\xbd\xef\xbf\xbd: 0/0 0/0;",
+        b" m1 INBOX: Inbox 0/0 0/0; m2 B: 0/0 0/0; m3 A.x: 0/0 0/0; m4 A/: 0/0 0/0; m5 A/x/y: 0/0 0/0; m6 m1/a: 0/0 0/0; m7 m6/b: 0/0 0/0; m8 caf\xef\xbf\xbd: 0/0 0/0; m9 m8/x: 0/0 0/0; m10 \xef\xbf\xbd\xef\xbf\xbd: 0/0 0/0;",
     ),
     (
         &[Told::Folders(&[(b"INBOX/a/b", SLASH, &[]), INBOX])],
         b" m-2 m-3 m-4 m-5 m-6 m-8 m-9 m-10 m~7",
-        b" m1 INBOX: inbox 0/0 0/0; m7 m1/a/b: 0/0 0/0;",
+        b" m1 INBOX: Inbox 0/0 0/0; m7 m1/a/b: 0/0 0/0;",
     ),
     (
         &[Told::Folders(&[(b"INBOX/a/b", Some(b'.'), &[]), (b"A", SLASH, &[]), INBOX])],
         b" m~7 m+11",
-        b" m1 INBOX: inbox 0/0 0/0; m7 INBOX/a/b: 0/0 0/0; m11 A: 0/0 0/0;",
+        b" m1 INBOX: Inbox 0/0 0/0; m7 INBOX/a/b: 0/0 0/0; m11 A: 0/0 0/0;",
     ),
 ];
 
@@ -58,7 +58,7 @@ const ROLES: [Step; 2] = [
             (b"I", SLASH, &[b"\\junk"]),
         ])],
         b" m+1 m+2 m+3 m+4 m+5 m+6 m+7 m+8 m+9 m+10",
-        b" m1 INBOX: inbox 0/0 0/0; m2 A: archive 0/0 0/0; m3 B: 0/0 0/0; m4 C: trash 0/0 0/0; m5 D: all 0/0 0/0; m6 E: 0/0 0/0; m7 F: sent 0/0 0/0; m8 G: drafts 0/0 0/0; m9 H: flagged 0/0 0/0; m10 I: junk 0/0 0/0;",
+        b" m1 INBOX: Inbox 0/0 0/0; m2 A: Archive 0/0 0/0; m3 B: 0/0 0/0; m4 C: Trash 0/0 0/0; m5 D: All 0/0 0/0; m6 E: 0/0 0/0; m7 F: Sent 0/0 0/0; m8 G: Drafts 0/0 0/0; m9 H: Flagged 0/0 0/0; m10 I: Junk 0/0 0/0;",
     ),
     (
         &[Told::Folders(&[
@@ -67,7 +67,7 @@ const ROLES: [Step; 2] = [
             (b"C", SLASH, &[b"\\trash"]),
         ])],
         b" m-2 m-5 m-6 m-7 m-8 m-9 m-10 m~3",
-        b" m1 INBOX: inbox 0/0 0/0; m3 B: archive 0/0 0/0; m4 C: trash 0/0 0/0;",
+        b" m1 INBOX: Inbox 0/0 0/0; m3 B: Archive 0/0 0/0; m4 C: Trash 0/0 0/0;",
     ),
 ];
 
@@ -78,7 +78,55 @@ fn folders_are_followed(rt: HostRuntime) {
     expect_steps(&rt, alloc, &ROLES);
 }
 
-const RIGHTS: [Told; 1] = [Told::Folders(&[
+/// All rights but those to rename and delete.
+const INBOX_RIGHTS: Rights = Rights {
+    may_read_items: true,
+    may_add_items: true,
+    may_remove_items: true,
+    may_set_seen: true,
+    may_set_keywords: true,
+    may_create_child: true,
+    may_rename: false,
+    may_delete: false,
+    may_submit: true,
+};
+
+const ALL_RIGHTS: Rights = Rights {
+    may_rename: true,
+    may_delete: true,
+    ..INBOX_RIGHTS
+};
+
+const CHILDLESS: Rights = Rights {
+    may_create_child: false,
+    ..ALL_RIGHTS
+};
+
+const NONE: Rights = Rights {
+    may_read_items: false,
+    may_add_items: false,
+    may_remove_items: false,
+    may_set_seen: false,
+    may_set_keywords: false,
+    may_create_child: false,
+    may_rename: false,
+    may_delete: false,
+    may_submit: false,
+};
+
+const UNSELECTABLE: Rights = Rights {
+    may_create_child: true,
+    may_rename: true,
+    may_delete: true,
+    ..NONE
+};
+
+const NONEXISTENT: Rights = Rights {
+    may_create_child: true,
+    ..NONE
+};
+
+const WITH_RIGHTS: [Told; 1] = [Told::Folders(&[
     INBOX,
     (b"A", SLASH, &[]),
     (b"B", SLASH, &[b"\\noselect"]),
@@ -87,15 +135,25 @@ const RIGHTS: [Told; 1] = [Told::Folders(&[
     (b"E", None, &[b"\\hasnochildren", b"\\subscribed"]),
 ])];
 
+/// The number of each of these Mailboxes, its rights, and whether it is subscribed.
+const RIGHTS: [(u64, Rights, bool); 6] = [
+    (1, INBOX_RIGHTS, false),
+    (2, ALL_RIGHTS, false),
+    (3, UNSELECTABLE, false),
+    (4, NONEXISTENT, true),
+    (5, CHILDLESS, false),
+    (6, CHILDLESS, true),
+];
+
 /// A folder that can't be selected has no right to its messages. INBOX and what isn't there are neither renamed nor deleted.
 #[test]
 fn rights_are_those_of_the_attributes(rt: HostRuntime) {
     let alloc = rt.alloc();
     let mut mirror = Mirror::new(alloc);
-    tell_all(&rt, alloc, &mut mirror, &RIGHTS);
+    tell_all(&rt, alloc, &mut mirror, &WITH_RIGHTS);
     let state = follow(&rt, first(&rt, alloc), &mirror);
-    assert_eq!(rt;
-        rights(&rt, alloc, &state).as_slice(),
-        b"INBOX ritswkp;A ritswknxp;B knx;C k+;D ritswnxp;E ritswnxp+;".as_slice()
-    );
+    for row in RIGHTS.iter() {
+        let mailbox = state.mailbox(row.0).expect(&rt, "no such Mailbox");
+        assert_eq!(rt; (mailbox.rights, mailbox.subscribed), (row.1, row.2), "{}", row.0);
+    }
 }

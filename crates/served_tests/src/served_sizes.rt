@@ -1,7 +1,7 @@
 //! Many Emails of one Thread, and many folders within one another.
 use crate::followed_steps::{first, follow};
-use crate::told::{inbox, line, names, tell, tell_gone, tell_new, whole};
-use imap_syntax::{Command, FetchItems};
+use crate::told::{fetch_new, inbox, line, tell, tell_gone, whole};
+use imap_syntax::{Command, Response};
 use mail_state::{MailState, MailType};
 use std::alloc::Global;
 use std::process::Abort;
@@ -10,12 +10,12 @@ use told_mail::Mirror;
 const SHARED: &[u8] = b"References: <a@b>\nSubject: Re: Plan\n\n";
 
 /// So many messages of one conversation.
-fn many(rt: &impl Abort, alloc: Global, count: u32) -> Vec<FetchItems> {
+fn many(rt: &impl Abort, alloc: Global, count: u32) -> Vec<Response> {
     let mut messages = Vec::new(alloc);
     for at in 0..count {
         let uid = at.saturating_add(1);
-        let items = whole(rt, alloc, uid, names(rt, alloc, &[]), 9, SHARED);
-        messages.push(items).expect(rt, "memory");
+        let message = whole(rt, alloc, uid, &[], 9, SHARED);
+        messages.push(message).expect(rt, "memory");
     }
     messages
 }
@@ -32,16 +32,16 @@ fn sizes(rt: &impl Abort, state: &MailState, thread: u64) -> (usize, u64, usize)
 }
 
 #[test]
-fn a_thread_has_fifty_thousand_emails(rt: HostRuntime) {
+fn a_thread_has_two_thousand_emails(rt: HostRuntime) {
     let alloc = rt.alloc();
     let mut mirror = inbox(&rt, alloc);
-    let messages = many(&rt, alloc, 50000);
-    tell_new(&rt, alloc, &mut mirror, b"INBOX", messages);
+    let messages = many(&rt, alloc, 2000);
+    tell(&rt, alloc, &mut mirror, fetch_new(), b"INBOX", messages);
     let state = follow(&rt, first(&rt, alloc), &mirror);
-    assert_eq!(rt; sizes(&rt, &state, 1), (50000, 1, 1));
+    assert_eq!(rt; sizes(&rt, &state, 1), (2000, 1, 1));
     tell_gone(&rt, alloc, &mut mirror, b"INBOX", 1);
     let state = follow(&rt, state, &mirror);
-    assert_eq!(rt; sizes(&rt, &state, 1), (49999, 2, 1));
+    assert_eq!(rt; sizes(&rt, &state, 1), (1999, 2, 1));
 }
 
 /// `a`, `a/a`, `a/a/a` and so on, told from the longest on.

@@ -1,15 +1,15 @@
 // States as text.
 use change_list::{ChangeList, Changes};
-use mail_maps::{EmailRow, MailboxRow, Rights, Role};
+use mail_maps::{EmailRow, MailboxRow};
 use mail_state::{MailState, MailType};
 use std::alloc::Global;
 use std::process::Abort;
 
-pub(crate) fn put(rt: &impl Abort, out: &mut Vec<u8>, text: &[u8]) {
+fn put(rt: &impl Abort, out: &mut Vec<u8>, text: &[u8]) {
     out.extend_from_slice(text).expect(rt, "memory");
 }
 
-/// A letter and a number.
+/// Letters and a number.
 fn put_id(rt: &impl Abort, alloc: Global, out: &mut Vec<u8>, letter: &str, number: u64) {
     let text = format!(in alloc; "{letter}{number}").expect(rt, "memory");
     put(rt, out, text.as_bytes());
@@ -27,29 +27,7 @@ fn put_email(rt: &impl Abort, alloc: Global, out: &mut Vec<u8>, row: &EmailRow) 
     put(rt, out, b";");
 }
 
-fn role_word(role: Option<Role>) -> &'static [u8] {
-    match role {
-        None => b"",
-        Some(Role::Inbox) => b" inbox",
-        Some(Role::All) => b" all",
-        Some(Role::Archive) => b" archive",
-        Some(Role::Drafts) => b" drafts",
-        Some(Role::Flagged) => b" flagged",
-        Some(Role::Junk) => b" junk",
-        Some(Role::Sent) => b" sent",
-        Some(Role::Trash) => b" trash",
-    }
-}
-
-/// How many Emails, unread Emails, Threads and unread Threads a Mailbox has.
-fn put_counts(rt: &impl Abort, alloc: Global, out: &mut Vec<u8>, row: &MailboxRow) {
-    let (emails, unread) = (row.total_emails, row.unread_emails);
-    let (threads, unread_threads) = (row.total_threads, row.unread_threads);
-    let text = format!(in alloc; " {emails}/{unread} {threads}/{unread_threads};");
-    put(rt, out, text.expect(rt, "memory").as_bytes());
-}
-
-/// `m3 m1/Work: sent 2/1 2/1;`: the Mailbox, its parent, name, role and counts.
+/// `m3 m1/Work: Sent 2/1 4/3;`: the Mailbox, its parent, name and role, how many Emails, unread ones, Threads and unread Threads.
 fn put_mailbox(rt: &impl Abort, alloc: Global, out: &mut Vec<u8>, row: &MailboxRow) {
     put_id(rt, alloc, out, "m", row.number);
     put(rt, out, b" ");
@@ -59,16 +37,20 @@ fn put_mailbox(rt: &impl Abort, alloc: Global, out: &mut Vec<u8>, row: &MailboxR
     }
     put(rt, out, row.name.as_slice());
     put(rt, out, b":");
-    put(rt, out, role_word(row.role));
-    put_counts(rt, alloc, out, row);
+    if let Some(role) = row.role {
+        let text = format!(in alloc; " {role:?}").expect(rt, "memory");
+        put(rt, out, text.as_bytes());
+    }
+    let (emails, unread) = (row.total_emails, row.unread_emails);
+    let (threads, unread_threads) = (row.total_threads, row.unread_threads);
+    let text = format!(in alloc; " {emails}/{unread} {threads}/{unread_threads};");
+    put(rt, out, text.expect(rt, "memory").as_bytes());
 }
 
 /// `t1 e1 e4;`: the Thread and its Emails, in their order.
 fn put_thread(rt: &impl Abort, alloc: Global, out: &mut Vec<u8>, thread: u64, emails: &[u64]) {
     put_id(rt, alloc, out, "t", thread);
-    for email in emails {
-        put_id(rt, alloc, out, " e", *email);
-    }
+    put_ids(rt, alloc, out, " e", emails);
     put(rt, out, b";");
 }
 
@@ -118,31 +100,22 @@ fn put_ids(rt: &impl Abort, alloc: Global, out: &mut Vec<u8>, letter: &str, ids:
     }
 }
 
-fn letter(kind: MailType) -> &'static str {
-    match kind {
-        MailType::Mailbox => "m",
-        MailType::Email => "e",
-        MailType::Thread => "t",
-    }
-}
-
 /// ` e-1`, ` e~2`, ` e#2` and ` e+3`: an id that is gone, changed, changed in its counts alone, and new.
 fn put_changes(
     rt: &impl Abort,
     alloc: Global,
     out: &mut Vec<u8>,
-    kind: MailType,
+    letter: &str,
     changes: &Changes,
 ) {
     let mark = if changes.counts_only { "#" } else { "~" };
-    let kind = letter(kind);
     let lists = [
         ("-", changes.destroyed.as_slice()),
         (mark, changes.updated.as_slice()),
         ("+", changes.created.as_slice()),
     ];
     for list in lists.iter() {
-        let word = format!(in alloc; " {kind}{}", list.0).expect(rt, "memory");
+        let word = format!(in alloc; " {letter}{}", list.0).expect(rt, "memory");
         put_ids(rt, alloc, out, word.as_str(), list.1);
     }
 }
@@ -152,47 +125,13 @@ pub(crate) fn put_touches(
     rt: &impl Abort,
     alloc: Global,
     out: &mut Vec<u8>,
-    kind: MailType,
+    letter: &str,
     list: &ChangeList,
     from: u64,
 ) {
     for place in from..list.place() {
         let changes = list.since(place, Some(1)).expect(rt, "kept");
         assert_eq!(rt; changes.to, place.saturating_add(1));
-        put_changes(rt, alloc, out, kind, &changes);
+        put_changes(rt, alloc, out, letter, &changes);
     }
-}
-
-/// A letter for each right, as access lists have them (RFC 4314), with `n` for renaming and `x` for deleting.
-fn put_rights(rt: &impl Abort, out: &mut Vec<u8>, rights: &Rights) {
-    let letters = [
-        (rights.may_read_items, b"r"),
-        (rights.may_add_items, b"i"),
-        (rights.may_remove_items, b"t"),
-        (rights.may_set_seen, b"s"),
-        (rights.may_set_keywords, b"w"),
-        (rights.may_create_child, b"k"),
-        (rights.may_rename, b"n"),
-        (rights.may_delete, b"x"),
-        (rights.may_submit, b"p"),
-    ];
-    for row in letters.iter() {
-        if row.0 {
-            put(rt, out, row.1.as_slice());
-        }
-    }
-}
-
-/// The full name of each Mailbox, its rights, and `+` where it is subscribed.
-pub(crate) fn rights(rt: &impl Abort, alloc: Global, state: &MailState) -> Vec<u8> {
-    let mut out = Vec::new(alloc);
-    let numbers = state.numbers(MailType::Mailbox).expect(rt, "memory");
-    for number in &numbers {
-        let row = state.mailbox(*number).expect(rt, "no such Mailbox");
-        put(rt, &mut out, row.full_name.as_slice());
-        put(rt, &mut out, b" ");
-        put_rights(rt, &mut out, &row.rights);
-        put(rt, &mut out, if row.subscribed { b"+;" } else { b";" });
-    }
-    out
 }

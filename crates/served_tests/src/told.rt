@@ -18,9 +18,8 @@ pub(crate) enum Told {
     Folders(&'static [Line]),
     /// The folder's validity. Where it is another one, no message that was there is left.
     Validity(&'static [u8], u32),
-    /// A message of the folder, which is new or has other flags.
+    /// A message of the folder. Where its UID is held, its flags alone are taken.
     Mail(&'static [u8], Mail),
-    Flags(&'static [u8], u32, &'static [&'static [u8]]),
     Gone(&'static [u8], u32),
     /// The message of a mark moves to the folder of a number and has this UID there. It loses its flags.
     Moved(u64, u64, u32),
@@ -34,7 +33,7 @@ fn bytes(rt: &impl Abort, alloc: Global, octets: &[u8]) -> Bytes {
     Bytes::copy_of(alloc, octets).expect(rt, "memory")
 }
 
-pub(crate) fn names(rt: &impl Abort, alloc: Global, words: &[&[u8]]) -> Names {
+fn names(rt: &impl Abort, alloc: Global, words: &[&[u8]]) -> Names {
     let mut names = Names::new(alloc);
     for word in words {
         names.push(bytes(rt, alloc, word)).expect(rt, "memory");
@@ -62,7 +61,7 @@ pub(crate) fn tell(
 }
 
 /// Tells one response of a command that is OK.
-fn tell_one(
+pub(crate) fn tell_one(
     rt: &impl Abort,
     alloc: Global,
     mirror: &mut Mirror,
@@ -123,78 +122,45 @@ pub(crate) fn tell_validity(
     tell_one(rt, alloc, mirror, command, folder, response);
 }
 
+/// What is asked for new messages.
+pub(crate) fn fetch_new() -> Command {
+    Command::FetchNew {
+        from: 1,
+        modseq: true,
+    }
+}
+
 /// All of a message.
 pub(crate) fn whole(
     rt: &impl Abort,
     alloc: Global,
     uid: u32,
-    flags: Names,
+    flags: &[&[u8]],
     date: i64,
     header: &[u8],
-) -> FetchItems {
-    FetchItems {
+) -> Response {
+    let items = FetchItems {
         uid: Some(uid),
-        flags: Some(flags),
+        flags: Some(names(rt, alloc, flags)),
         modseq: None,
         date: Some(date),
         size: Some(9),
         header: Some(bytes(rt, alloc, header)),
         body: None,
-    }
-}
-
-/// The flags of a message.
-fn flags_of(uid: u32, flags: Names) -> FetchItems {
-    FetchItems {
-        uid: Some(uid),
-        flags: Some(flags),
-        modseq: None,
-        date: None,
-        size: None,
-        header: None,
-        body: None,
-    }
-}
-
-/// Tells of messages of a folder, where those that aren't held are new.
-pub(crate) fn tell_new(
-    rt: &impl Abort,
-    alloc: Global,
-    mirror: &mut Mirror,
-    folder: &[u8],
-    messages: Vec<FetchItems>,
-) {
-    let mut responses = Vec::new(alloc);
-    for items in messages {
-        let response = Response::Fetch { seq: 1, items };
-        responses.push(response).expect(rt, "memory");
-    }
-    let command = Command::FetchNew {
-        from: 1,
-        modseq: true,
     };
-    tell(rt, alloc, mirror, command, folder, responses);
+    Response::Fetch { seq: 1, items }
 }
 
-fn tell_mail(rt: &impl Abort, alloc: Global, mirror: &mut Mirror, folder: &[u8], mail: &Mail) {
-    let flags = names(rt, alloc, mail.1);
-    let items = whole(rt, alloc, mail.0, flags, mail.2, mail.3);
-    let mut messages = Vec::new(alloc);
-    messages.push(items).expect(rt, "memory");
-    tell_new(rt, alloc, mirror, folder, messages);
-}
-
-pub(crate) fn tell_flags(
+/// Tells all of a message. Where its UID is held, its flags alone are taken.
+pub(crate) fn tell_mail(
     rt: &impl Abort,
     alloc: Global,
     mirror: &mut Mirror,
     folder: &[u8],
-    uid: u32,
-    flags: &[&[u8]],
+    mail: &Mail,
 ) {
-    let items = flags_of(uid, names(rt, alloc, flags));
-    let response = Response::Fetch { seq: 1, items };
-    tell_one(rt, alloc, mirror, Command::Unselect, folder, response);
+    let message = whole(rt, alloc, mail.0, mail.1, mail.2, mail.3);
+    tell_one(rt, alloc, mirror, fetch_new(), folder, message);
 }
 
 pub(crate) fn tell_gone(
@@ -219,20 +185,6 @@ pub(crate) fn tell_gone(
     tell_one(rt, alloc, mirror, Command::Unselect, folder, response);
 }
 
-/// Puts a message without its flags into a folder, where both are as they may be.
-fn put(rt: &impl Abort, alloc: Global, mirror: &mut Mirror, folder: u64, message: Message) {
-    let mark = message.mark;
-    assert!(rt; mirror.folder(folder).is_some());
-    assert!(rt; mirror.message(folder, message.uid).is_none());
-    assert!(rt; mirror.place_of(mark).is_none());
-    assert!(rt; 0 < mark && mark < 1 << 53);
-    let message = Message {
-        flags: Names::new(alloc),
-        ..message
-    };
-    mirror.put_message(folder, message).expect(rt, "memory");
-}
-
 /// Moves the message of a mark to a folder, where it has this UID. It loses its flags.
 pub(crate) fn move_message(
     rt: &impl Abort,
@@ -242,10 +194,18 @@ pub(crate) fn move_message(
     folder: u64,
     uid: u32,
 ) {
-    match mirror.cut_message(mark) {
-        Some(message) => put(rt, alloc, mirror, folder, Message { uid, ..message }),
-        None => panic!(rt; "no message has mark {mark}"),
-    }
+    let message = mirror.cut_message(mark).expect(rt, "no such mark");
+    assert!(rt; mirror.folder(folder).is_some());
+    assert!(rt; mirror.message(folder, uid).is_none());
+    assert!(rt; mirror.place_of(mark).is_none());
+    assert!(rt; 0 < mark && mark < 1 << 53);
+    let moved = Message {
+        uid,
+        mark,
+        flags: Names::new(alloc),
+        ..message
+    };
+    mirror.put_message(folder, moved).expect(rt, "memory");
 }
 
 /// Gives the folder of a number, or a new folder, a name that no folder has.
@@ -276,7 +236,6 @@ fn tell_told(rt: &impl Abort, alloc: Global, mirror: &mut Mirror, told: &Told) {
         Told::Folders(lines) => tell_folders(rt, alloc, mirror, lines),
         Told::Validity(folder, validity) => tell_validity(rt, alloc, mirror, folder, *validity),
         Told::Mail(folder, mail) => tell_mail(rt, alloc, mirror, folder, mail),
-        Told::Flags(folder, uid, flags) => tell_flags(rt, alloc, mirror, folder, *uid, flags),
         Told::Gone(folder, uid) => tell_gone(rt, alloc, mirror, folder, *uid),
         Told::Moved(mark, folder, uid) => move_message(rt, alloc, mirror, *mark, *folder, *uid),
         Told::Renamed(number, name) => name_folder(rt, alloc, mirror, *number, name),
