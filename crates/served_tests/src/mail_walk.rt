@@ -30,14 +30,6 @@ fn take(rt: &impl Abort, alloc: Global, copy: &mut Copy, fresh: &[Row], numbers:
     }
 }
 
-/// Whether the copy has just the rows that are served.
-fn is_current(copy: &Copy, fresh: &[Row]) -> bool {
-    copy.rows.len() == fresh.len()
-        && fresh
-            .iter()
-            .all(|row| copy.rows.iter().any(|other| other == row))
-}
-
 /// Applies what changed since the copy's place, and compares it with what is served. No row is served of what was destroyed.
 fn bring_up(rt: &impl Abort, alloc: Global, copy: &mut Copy, state: &MailState) {
     let fresh = served_rows(rt, alloc, state, copy.kind);
@@ -46,7 +38,10 @@ fn bring_up(rt: &impl Abort, alloc: Global, copy: &mut Copy, state: &MailState) 
     take(rt, alloc, copy, fresh.as_slice(), changes.created.as_slice());
     take(rt, alloc, copy, fresh.as_slice(), changes.updated.as_slice());
     take(rt, alloc, copy, fresh.as_slice(), changes.destroyed.as_slice());
-    assert!(rt; is_current(copy, fresh.as_slice()), "{:?}", copy.kind);
+    assert_eq!(rt; copy.rows.len(), fresh.len(), "{:?}", copy.kind);
+    for row in &fresh {
+        assert!(rt; copy.rows.contains(row), "{:?}", copy.kind);
+    }
 }
 
 /// Brings copies up to date, which are let go then.

@@ -203,8 +203,11 @@ fn is_unread_thread(emails: &[PlainEmail], thread: u64) -> bool {
 
 /// How many Emails a folder has, how many of them are unread, how many Threads have an Email in it, and how many of these
 /// have an unread one anywhere.
-fn counts_in(emails: &[PlainEmail], folder: u64) -> [u64; 4] {
-    let (mut total, mut unread, mut threads, mut unread_threads) = (0u64, 0u64, 0u64, 0u64);
+fn counts_in(emails: &[PlainEmail], folder: u64) -> (u64, u64, u64, u64) {
+    let mut total: u64 = 0;
+    let mut unread: u64 = 0;
+    let mut threads: u64 = 0;
+    let mut unread_threads: u64 = 0;
     for at in 0..emails.len() {
         let email = emails[at];
         if email.folder == folder {
@@ -217,7 +220,7 @@ fn counts_in(emails: &[PlainEmail], folder: u64) -> [u64; 4] {
             unread_threads = unread_threads.saturating_add(u64::from(is_unread));
         }
     }
-    [total, unread, threads, unread_threads]
+    (total, unread, threads, unread_threads)
 }
 
 /// The name begins with that of the other folder and `/`.
@@ -260,7 +263,7 @@ fn mailbox_row(
         Some(parent) => (parent.number, parent.name.as_slice().len().saturating_add(1)),
         None => (0, 0),
     };
-    let [total, unread, threads, unread_threads] = counts_in(emails, folder.number);
+    let (total, unread, threads, unread_threads) = counts_in(emails, folder.number);
     let numbers = [folder.number, above, total, unread, threads, unread_threads];
     named_row(rt, alloc, &numbers, name.get(from..).unwrap_or(&[]))
 }

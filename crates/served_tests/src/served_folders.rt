@@ -78,53 +78,20 @@ fn folders_are_followed(rt: HostRuntime) {
     expect_steps(&rt, alloc, &ROLES);
 }
 
-/// All rights but those to rename and delete.
-const INBOX_RIGHTS: Rights = Rights {
-    may_read_items: true,
-    may_add_items: true,
-    may_remove_items: true,
-    may_set_seen: true,
-    may_set_keywords: true,
-    may_create_child: true,
-    may_rename: false,
-    may_delete: false,
-    may_submit: true,
-};
-
-const ALL_RIGHTS: Rights = Rights {
-    may_rename: true,
-    may_delete: true,
-    ..INBOX_RIGHTS
-};
-
-const CHILDLESS: Rights = Rights {
-    may_create_child: false,
-    ..ALL_RIGHTS
-};
-
-const NONE: Rights = Rights {
-    may_read_items: false,
-    may_add_items: false,
-    may_remove_items: false,
-    may_set_seen: false,
-    may_set_keywords: false,
-    may_create_child: false,
-    may_rename: false,
-    may_delete: false,
-    may_submit: false,
-};
-
-const UNSELECTABLE: Rights = Rights {
-    may_create_child: true,
-    may_rename: true,
-    may_delete: true,
-    ..NONE
-};
-
-const NONEXISTENT: Rights = Rights {
-    may_create_child: true,
-    ..NONE
-};
+/// The rights where a folder can be selected, can have children, and can be renamed and deleted, or can't.
+fn rights(selectable: bool, parent: bool, own: bool) -> Rights {
+    Rights {
+        may_read_items: selectable,
+        may_add_items: selectable,
+        may_remove_items: selectable,
+        may_set_seen: selectable,
+        may_set_keywords: selectable,
+        may_create_child: parent,
+        may_rename: own,
+        may_delete: own,
+        may_submit: selectable,
+    }
+}
 
 const WITH_RIGHTS: [Told; 1] = [Told::Folders(&[
     INBOX,
@@ -135,14 +102,15 @@ const WITH_RIGHTS: [Told; 1] = [Told::Folders(&[
     (b"E", None, &[b"\\hasnochildren", b"\\subscribed"]),
 ])];
 
-/// The number of each of these Mailboxes, its rights, and whether it is subscribed.
-const RIGHTS: [(u64, Rights, bool); 6] = [
-    (1, INBOX_RIGHTS, false),
-    (2, ALL_RIGHTS, false),
-    (3, UNSELECTABLE, false),
-    (4, NONEXISTENT, true),
-    (5, CHILDLESS, false),
-    (6, CHILDLESS, true),
+/// The number of each of these Mailboxes, whether it can be selected, have children, and be renamed and deleted, and whether it
+/// is subscribed.
+const RIGHTS: [(u64, bool, bool, bool, bool); 6] = [
+    (1, true, true, false, false),
+    (2, true, true, true, false),
+    (3, false, true, true, false),
+    (4, false, true, false, true),
+    (5, true, false, true, false),
+    (6, true, false, true, true),
 ];
 
 /// A folder that can't be selected has no right to its messages. INBOX and what isn't there are neither renamed nor deleted.
@@ -154,6 +122,7 @@ fn rights_are_those_of_the_attributes(rt: HostRuntime) {
     let state = follow(&rt, first(&rt, alloc), &mirror);
     for row in RIGHTS.iter() {
         let mailbox = state.mailbox(row.0).expect(&rt, "no such Mailbox");
-        assert_eq!(rt; (mailbox.rights, mailbox.subscribed), (row.1, row.2), "{}", row.0);
+        assert_eq!(rt; mailbox.rights, rights(row.1, row.2, row.3), "{}", row.0);
+        assert_eq!(rt; mailbox.subscribed, row.4, "{}", row.0);
     }
 }

@@ -1,5 +1,6 @@
-//! What it costs to serve mail. `state_speed MESSAGES` makes mail of so many messages with headers of some 1,500 octets in
-//! memory, reads their headers alone, takes them into a state, and then takes changes of one message at a time into it.
+//! What it costs to serve mail. `state_speed MESSAGES` makes mail of so many messages with headers of some 1,400 octets in
+//! memory, reads their headers alone, takes them into a state, and then takes changes of one message at a time into it: first
+//! in conversations of five messages, and then in one conversation of all.
 #![tactic(auto)]
 
 mod made_mail;
@@ -14,6 +15,9 @@ use told_mail::Mirror;
 
 /// How many messages are changed, one at a time.
 const CHANGES: u32 = 5;
+
+/// Messages of one conversation.
+const CONVERSATION: u32 = 5;
 
 /// What the line of this name says in a text of the system; empty where there is none.
 fn field<'a>(text: &'a str, name: &str) -> &'a str {
@@ -125,12 +129,12 @@ fn take_change(
     Ok(state)
 }
 
-fn measure(rt: &HostRuntime, messages: u32) -> Result<(), anyhow::Error> {
-    let mut mirror = inbox(rt.alloc(), messages)?;
+fn measure(rt: &HostRuntime, messages: u32, each: u32) -> Result<(), anyhow::Error> {
+    let mut mirror = inbox(rt.alloc(), messages, each)?;
     let watch = Watch::start(rt)?;
     let (count, octets) = read_headers(rt.alloc(), &mirror)?;
     watch.say(rt, "headers read")?;
-    println!(rt; "{messages} messages, {count} fields, {octets} octets of headers")?;
+    println!(rt; "{messages} messages, {each} a conversation, {count} fields, {octets} octets of headers")?;
     let mut state = take_in(rt, &mirror, messages)?;
     for change in 0..CHANGES {
         let uid = (messages / CHANGES).saturating_mul(change).saturating_add(1);
@@ -146,7 +150,11 @@ fn main(rt: HostRuntime) -> Result<(), anyhow::Error> {
     let mut words = env::args(&rt)?;
     let _ = words.next();
     match words.next() {
-        Some(messages) => measure(&rt, messages.parse::<u32>().unwrap_or(0)),
+        Some(messages) => {
+            let messages = messages.parse::<u32>().unwrap_or(0);
+            measure(&rt, messages, CONVERSATION)?;
+            measure(&rt, messages, messages)
+        }
         None => {
             println!(rt; "usage: state_speed MESSAGES")?;
             Ok(())
