@@ -1,6 +1,6 @@
-//! What it costs to serve mail. `state_speed MESSAGES` makes mail of so many messages with headers of some 1,400 octets in
-//! memory, reads their headers alone, takes them into a state, and then takes changes of one message at a time into it: first
-//! in conversations of five messages, and then in one conversation of all.
+//! What it costs to serve mail. `state_speed MESSAGES EACH` makes mail of so many messages in memory, with so many in each
+//! conversation and with headers of some 1,400 octets. It reads their headers alone, takes them into a state, and then takes
+//! changes of one message at a time into it.
 #![tactic(auto)]
 
 mod made_mail;
@@ -15,9 +15,6 @@ use told_mail::Mirror;
 
 /// How many messages are changed, one at a time.
 const CHANGES: u32 = 5;
-
-/// Messages of one conversation.
-const CONVERSATION: u32 = 5;
 
 /// What the line of this name says in a text of the system; empty where there is none.
 fn field<'a>(text: &'a str, name: &str) -> &'a str {
@@ -146,17 +143,17 @@ fn measure(rt: &HostRuntime, messages: u32, each: u32) -> Result<(), anyhow::Err
     say_rows(rt, &state)
 }
 
+fn number(word: String) -> u32 {
+    word.parse::<u32>().unwrap_or(0)
+}
+
 fn main(rt: HostRuntime) -> Result<(), anyhow::Error> {
     let mut words = env::args(&rt)?;
     let _ = words.next();
-    match words.next() {
-        Some(messages) => {
-            let messages = messages.parse::<u32>().unwrap_or(0);
-            measure(&rt, messages, CONVERSATION)?;
-            measure(&rt, messages, messages)
-        }
-        None => {
-            println!(rt; "usage: state_speed MESSAGES")?;
+    match (words.next(), words.next()) {
+        (Some(messages), Some(each)) => measure(&rt, number(messages), number(each)),
+        _ => {
+            println!(rt; "usage: state_speed MESSAGES EACH")?;
             Ok(())
         }
     }
