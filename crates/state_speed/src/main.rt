@@ -126,21 +126,44 @@ fn take_change(
     Ok(state)
 }
 
-fn measure(rt: &HostRuntime, messages: u32, each: u32) -> Result<(), anyhow::Error> {
-    let mut mirror = inbox(rt.alloc(), messages, each)?;
+/// Says how long it takes to read the headers alone.
+fn say_headers(rt: &HostRuntime, mirror: &Mirror) -> Result<(), anyhow::Error> {
     let watch = Watch::start(rt)?;
-    let (count, octets) = read_headers(rt.alloc(), &mirror)?;
+    let (count, octets) = read_headers(rt.alloc(), mirror)?;
     watch.say(rt, "headers read")?;
-    println!(rt; "{messages} messages, {each} a conversation, {count} fields, {octets} octets of headers")?;
-    let mut state = take_in(rt, &mirror, messages)?;
+    println!(rt; "{count} fields, {octets} octets of headers")?;
+    Ok(())
+}
+
+/// Takes changes of one message at a time in.
+fn take_changes(
+    rt: &HostRuntime,
+    mirror: &mut Mirror,
+    state: MailState,
+    messages: u32,
+) -> Result<MailState, anyhow::Error> {
+    let mut state = state;
     for change in 0..CHANGES {
         let uid = (messages / CHANGES).saturating_mul(change).saturating_add(1);
-        state = take_change(rt, &mut mirror, state, uid)?;
+        state = take_change(rt, mirror, state, uid)?;
     }
+    Ok(state)
+}
+
+/// Takes the same mail in again.
+fn take_again(rt: &HostRuntime, mirror: &Mirror, state: MailState) -> Result<(), anyhow::Error> {
     let watch = Watch::start(rt)?;
-    let (state, _moved) = state.apply(&mirror)?;
+    let (state, _moved) = state.apply(mirror)?;
     watch.say(rt, "nothing changed")?;
     say_rows(rt, &state)
+}
+
+fn measure(rt: &HostRuntime, messages: u32, each: u32) -> Result<(), anyhow::Error> {
+    let mut mirror = inbox(rt.alloc(), messages, each)?;
+    say_headers(rt, &mirror)?;
+    let state = take_in(rt, &mirror, messages)?;
+    let state = take_changes(rt, &mut mirror, state, messages)?;
+    take_again(rt, &mirror, state)
 }
 
 fn number(word: String) -> u32 {
