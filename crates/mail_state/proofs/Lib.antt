@@ -3,6 +3,5 @@ mod ThreadLemmas
 mod FolderLemmas
 mod MarkLemmas
 mod NumberLemmas
-mod TellingLemmas
 mod SoundLemmas
 mod FollowLemmas
