@@ -12,7 +12,7 @@ pub(crate) type Step = (&'static [Told], &'static [u8], &'static [u8]);
 /// The places of Mailboxes, Emails and Threads.
 type Places = (u64, u64, u64);
 
-fn places(state: &MailState) -> Places {
+pub(crate) fn places(state: &MailState) -> Places {
     (
         state.list(MailType::Mailbox).place(),
         state.list(MailType::Email).place(),

@@ -23,6 +23,8 @@ mod mail_walk;
 #[cfg(test)]
 mod served_folders;
 #[cfg(test)]
+mod served_headers;
+#[cfg(test)]
 mod served_mail;
 #[cfg(test)]
 mod served_sizes;

@@ -1,6 +1,6 @@
 //! A state that follows mail which changes at random, beside a slow program.
 use crate::beside_plain::{KINDS, expect_rows, served_rows};
-use crate::followed_steps::{first, follow};
+use crate::followed_steps::{first, follow, places};
 use crate::plain_mail::{PlainMail, Row};
 use crate::random_mail::RandomMail;
 use mail_state::{MailState, MailType};
@@ -15,18 +15,30 @@ struct Copy {
     rows: Vec<Row>,
 }
 
-fn has_number(row: &Row, number: u64) -> bool {
-    row.first().copied() == Some(number)
+/// The row of a number.
+fn row_of(rows: &[Row], number: u64) -> Option<&Row> {
+    rows.iter().find(|row| row.first().copied() == Some(number))
 }
 
 /// The copy with what is served of these numbers now.
 fn take(rt: &impl Abort, alloc: Global, copy: &mut Copy, fresh: &[Row], numbers: &[u64]) {
     for number in numbers {
-        copy.rows.retain(|row| !has_number(row, *number));
-        if let Some(now) = fresh.iter().find(|row| has_number(row, *number)) {
+        copy.rows.retain(|row| row.first().copied() != Some(*number));
+        if let Some(now) = row_of(fresh, *number) {
             let now = now.as_slice().to_vec(alloc).expect(rt, "memory");
             copy.rows.push(now).expect(rt, "memory");
         }
+    }
+}
+
+/// Compares what the copy has of these Mailboxes with what is served, the four counts aside.
+fn expect_counts_alone(rt: &impl Abort, copy: &Copy, fresh: &[Row], numbers: &[u64]) {
+    assert_eq!(rt; copy.kind, MailType::Mailbox);
+    for number in numbers {
+        let old = row_of(copy.rows.as_slice(), *number).expect(rt, "it was there");
+        let now = row_of(fresh, *number).expect(rt, "it is there");
+        assert_eq!(rt; old.get(..2), now.get(..2));
+        assert_eq!(rt; old.get(6..), now.get(6..));
     }
 }
 
@@ -35,6 +47,9 @@ fn bring_up(rt: &impl Abort, alloc: Global, copy: &mut Copy, state: &MailState) 
     let fresh = served_rows(rt, alloc, state, copy.kind);
     let changes = state.list(copy.kind).since(copy.place, None);
     let changes = changes.expect(rt, "the place is kept");
+    if changes.counts_only {
+        expect_counts_alone(rt, copy, fresh.as_slice(), changes.updated.as_slice());
+    }
     take(rt, alloc, copy, fresh.as_slice(), changes.created.as_slice());
     take(rt, alloc, copy, fresh.as_slice(), changes.updated.as_slice());
     take(rt, alloc, copy, fresh.as_slice(), changes.destroyed.as_slice());
@@ -89,7 +104,7 @@ fn the_state_follows_mail(rt: HostRuntime) {
     let mut copies = Vec::new(alloc);
     for at in 1..3001u32 {
         state = step(&rt, alloc, state, &mut plain, &mut mail);
-        if at % 5 == 0 {
+        if at % 5 == 1 {
             keep_copies(&rt, alloc, &mut copies, &state);
         }
         if at % 100 == 0 {
@@ -97,4 +112,7 @@ fn the_state_follows_mail(rt: HostRuntime) {
             copies = Vec::new(alloc);
         }
     }
+    let (mailboxes, emails, threads) = places(&state);
+    assert!(rt; 1000 < mailboxes && 1500 < emails && 1000 < threads);
+    assert!(rt; 500 < plain.next);
 }

@@ -195,12 +195,6 @@ fn is_among(emails: &[PlainEmail], folder: u64, thread: u64) -> bool {
         .any(|email| email.folder == folder && email.thread == thread)
 }
 
-fn is_unread_thread(emails: &[PlainEmail], thread: u64) -> bool {
-    emails
-        .iter()
-        .any(|email| email.thread == thread && !email.is_seen)
-}
-
 /// How many Emails a folder has, how many of them are unread, how many Threads have an Email in it, and how many of these
 /// have an unread one anywhere.
 fn counts_in(emails: &[PlainEmail], folder: u64) -> (u64, u64, u64, u64) {
@@ -215,7 +209,9 @@ fn counts_in(emails: &[PlainEmail], folder: u64) -> (u64, u64, u64, u64) {
             unread = unread.saturating_add(u64::from(!email.is_seen));
         }
         if email.folder == folder && !is_among(&emails[..at], folder, email.thread) {
-            let is_unread = is_unread_thread(emails, email.thread);
+            let is_unread = emails
+                .iter()
+                .any(|other| other.thread == email.thread && !other.is_seen);
             threads = threads.saturating_add(1);
             unread_threads = unread_threads.saturating_add(u64::from(is_unread));
         }

@@ -124,14 +124,6 @@ impl RandomMail {
         tell_one(rt, self.alloc, &mut self.mirror, fetch_new(), name, message);
     }
 
-    /// A message that is there gets flags.
-    fn flag(&mut self, rt: &impl Abort, place: &Place) {
-        let flags = flags(self.random());
-        let message = whole(rt, self.alloc, place.uid, flags, 0, b"");
-        let name = place.folder.as_slice();
-        tell_one(rt, self.alloc, &mut self.mirror, fetch_new(), name, message);
-    }
-
     /// A folder has another validity: the same messages are new ones.
     fn renew(&mut self, rt: &impl Abort) {
         let (number, folder) = self.some_folder(rt);
@@ -170,17 +162,19 @@ impl RandomMail {
         let Some(place) = self.some_message(rt) else {
             return;
         };
+        let name = place.folder.as_slice();
         match chance {
-            18..=44 => self.flag(rt, &place),
+            18..=44 => {
+                let flags = flags(self.random());
+                let message = whole(rt, self.alloc, place.uid, flags, 0, b"");
+                tell_one(rt, self.alloc, &mut self.mirror, fetch_new(), name, message);
+            }
             45..=59 => {
                 let (number, _) = self.some_folder(rt);
                 let uid = self.steps;
                 move_message(rt, self.alloc, &mut self.mirror, place.mark, number, uid);
             }
-            _ => {
-                let name = place.folder.as_slice();
-                tell_gone(rt, self.alloc, &mut self.mirror, name, place.uid);
-            }
+            _ => tell_gone(rt, self.alloc, &mut self.mirror, name, place.uid),
         }
     }
 

@@ -1,6 +1,6 @@
 //! Folders as Mailboxes: names, parents, roles and rights.
-use crate::followed_steps::{Step, expect_steps, first, follow};
-use crate::told::{INBOX, Told, tell_all};
+use crate::followed_steps::{Step, first, follow};
+use crate::told::{INBOX, Line, Told, tell_all};
 use mail_maps::Rights;
 use told_mail::Mirror;
 
@@ -8,7 +8,7 @@ const SLASH: Option<u8> = Some(b'/');
 
 /// The parent is the folder with the longest name that, with the delimiter, begins this one. A name is served in UTF-8. What
 /// changes of a folder's name without a change of what is served is no change.
-const NAMES: [Step; 4] = [
+pub(crate) const NAMES: [Step; 4] = [
     (
         &[Told::Folders(&[
             (b"\xff\xfe", SLASH, &[]),
@@ -43,7 +43,7 @@ const NAMES: [Step; 4] = [
 ];
 
 /// A role goes to the folder with the lowest number that has it as its first one, and to no other.
-const ROLES: [Step; 2] = [
+pub(crate) const ROLES: [Step; 2] = [
     (
         &[Told::Folders(&[
             (b"INBOX", SLASH, &[b"\\junk"]),
@@ -71,12 +71,52 @@ const ROLES: [Step; 2] = [
     ),
 ];
 
-#[test]
-fn folders_are_followed(rt: HostRuntime) {
-    let alloc = rt.alloc();
-    expect_steps(&rt, alloc, &NAMES);
-    expect_steps(&rt, alloc, &ROLES);
-}
+const A: Line = (b"A", SLASH, &[]);
+
+/// A message that names no id, and has no subject.
+const PLAIN: &[u8] = b"\n";
+
+/// Counts alone are told apart from counts with another attribute or another name. Where the name that is served stays, counts
+/// are all that changed.
+pub(crate) const COUNTS_AND_MORE: [Step; 5] = [
+    (
+        &[
+            Told::Folders(&[(b"INBOX", SLASH, &[b"\\subscribed"]), A]),
+            Told::Mail(b"INBOX", (1, &[], 10, PLAIN)),
+        ],
+        b" m+1 m+2 e+1 t+1",
+        b" e1 m1/1 t1; m1 INBOX: Inbox 1/1 1/1; m2 A: 0/0 0/0; t1 e1;",
+    ),
+    (
+        &[
+            Told::Folders(&[INBOX, A]),
+            Told::Mail(b"INBOX", (1, &[b"\\seen"], 0, b"")),
+        ],
+        b" m~1 e~1",
+        b" e1 m1/1 t1 $seen; m1 INBOX: Inbox 1/0 1/0; m2 A: 0/0 0/0; t1 e1;",
+    ),
+    (
+        &[Told::Mail(b"INBOX", (1, &[], 0, b""))],
+        b" m#1 e~1",
+        b" e1 m1/1 t1; m1 INBOX: Inbox 1/1 1/1; m2 A: 0/0 0/0; t1 e1;",
+    ),
+    (
+        &[
+            Told::Mail(b"A", (1, &[], 20, PLAIN)),
+            Told::Renamed(2, b"\xff"),
+        ],
+        b" m~2 e+2 t+2",
+        b" e1 m1/1 t1; e2 m2/1 t2; m1 INBOX: Inbox 1/1 1/1; m2 \xef\xbf\xbd: 1/1 1/1; t1 e1; t2 e2;",
+    ),
+    (
+        &[
+            Told::Mail(b"\xff", (2, &[], 30, PLAIN)),
+            Told::Renamed(2, b"\xfe"),
+        ],
+        b" m#2 e+3 t+3",
+        b" e1 m1/1 t1; e2 m2/1 t2; e3 m2/2 t3; m1 INBOX: Inbox 1/1 1/1; m2 \xef\xbf\xbd: 2/2 2/2; t1 e1; t2 e2; t3 e3;",
+    ),
+];
 
 /// The rights where a folder can be selected, can have children, and can be renamed and deleted, or can't.
 fn rights(selectable: bool, parent: bool, own: bool) -> Rights {

@@ -5,7 +5,7 @@ use mail_state::{MailState, MailType};
 use std::alloc::Global;
 use std::process::Abort;
 
-fn put(rt: &impl Abort, out: &mut Vec<u8>, text: &[u8]) {
+pub(crate) fn put(rt: &impl Abort, out: &mut Vec<u8>, text: &[u8]) {
     out.extend_from_slice(text).expect(rt, "memory");
 }
 
