@@ -85,9 +85,8 @@ fn remaining(
 /// The Thread of the lowest Email that has the subject and names the id which is answered, or else the own id.
 fn thread_of(emails: &[PlainEmail], new: &PlainEmail) -> u64 {
     for id in [new.parent, new.own].iter() {
-        let named = emails
-            .iter()
-            .find(|email| email.subject == new.subject && (email.own == *id || email.parent == *id));
+        let named = emails.iter().find(|email| email.subject == new.subject
+            && (email.own == *id || email.parent == *id));
         if let Some(email) = named {
             return email.thread;
         }
@@ -148,12 +147,7 @@ pub fn email_rows(rt: &impl Abort, alloc: Global, emails: &[PlainEmail]) -> Vec<
 }
 
 /// When the Emails of a Thread were received, each with its number, in order.
-fn received(
-    rt: &impl Abort,
-    alloc: Global,
-    emails: &[PlainEmail],
-    thread: u64,
-) -> Vec<(i64, u64)> {
+fn received(rt: &impl Abort, alloc: Global, emails: &[PlainEmail], thread: u64) -> Vec<(i64, u64)> {
     let mut pairs = Vec::new(alloc);
     for email in emails {
         if email.thread == thread {
@@ -256,7 +250,10 @@ fn mailbox_row(
 ) -> Row {
     let name = folder.name.as_slice();
     let (above, from) = match parent(folders, name) {
-        Some(parent) => (parent.number, parent.name.as_slice().len().saturating_add(1)),
+        Some(parent) => (
+            parent.number,
+            parent.name.as_slice().len().saturating_add(1),
+        ),
         None => (0, 0),
     };
     let (total, unread, threads, unread_threads) = counts_in(emails, folder.number);
