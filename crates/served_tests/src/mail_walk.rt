@@ -23,7 +23,8 @@ fn row_of(rows: &[Row], number: u64) -> Option<&Row> {
 /// The copy with what is served of these numbers now.
 fn take(rt: &impl Abort, alloc: Global, copy: &mut Copy, fresh: &[Row], numbers: &[u64]) {
     for number in numbers {
-        copy.rows.retain(|row| row.first().copied() != Some(*number));
+        copy.rows
+            .retain(|row| row.first().copied() != Some(*number));
         if let Some(now) = row_of(fresh, *number) {
             let now = now.as_slice().to_vec(alloc).expect(rt, "memory");
             copy.rows.push(now).expect(rt, "memory");
@@ -50,9 +51,27 @@ fn bring_up(rt: &impl Abort, alloc: Global, copy: &mut Copy, state: &MailState) 
     if changes.counts_only {
         expect_counts_alone(rt, copy, fresh.as_slice(), changes.updated.as_slice());
     }
-    take(rt, alloc, copy, fresh.as_slice(), changes.created.as_slice());
-    take(rt, alloc, copy, fresh.as_slice(), changes.updated.as_slice());
-    take(rt, alloc, copy, fresh.as_slice(), changes.destroyed.as_slice());
+    take(
+        rt,
+        alloc,
+        copy,
+        fresh.as_slice(),
+        changes.created.as_slice(),
+    );
+    take(
+        rt,
+        alloc,
+        copy,
+        fresh.as_slice(),
+        changes.updated.as_slice(),
+    );
+    take(
+        rt,
+        alloc,
+        copy,
+        fresh.as_slice(),
+        changes.destroyed.as_slice(),
+    );
     assert_eq!(rt; copy.rows.len(), fresh.len(), "{:?}", copy.kind);
     for row in &fresh {
         assert!(rt; copy.rows.contains(row), "{:?}", copy.kind);
@@ -99,7 +118,10 @@ fn step(
 fn the_state_follows_mail(rt: HostRuntime) {
     let alloc = rt.alloc();
     let mut mail = RandomMail::new(alloc, 7);
-    let mut plain = PlainMail::new(alloc);
+    let mut plain = PlainMail {
+        emails: Vec::new(alloc),
+        next: 1,
+    };
     let mut state = first(&rt, alloc);
     let mut copies = Vec::new(alloc);
     for at in 1..3001u32 {

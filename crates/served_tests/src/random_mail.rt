@@ -130,7 +130,14 @@ impl RandomMail {
         let messages = told_again(rt, self.alloc, self.mirror.messages(number));
         let name = folder.as_slice();
         tell_validity(rt, self.alloc, &mut self.mirror, name, self.steps);
-        tell(rt, self.alloc, &mut self.mirror, fetch_new(), name, messages);
+        tell(
+            rt,
+            self.alloc,
+            &mut self.mirror,
+            fetch_new(),
+            name,
+            messages,
+        );
     }
 
     /// The folder of a number, which may be new, gets a name, where no other has it.

@@ -7,9 +7,11 @@ use mail_state::MailState;
 use std::alloc::Global;
 use std::process::Abort;
 
-const WHOLE: &[u8] = b"From: \"Bob\" <b@x>\r\nTo: \"\" <c@y>, d@y\r\nCc: e@y\r\nBcc: f@y\r\nDate: Tue, 2 Jan 2024 09:00:00 +0000\r\nSubject: Re: =?utf-8?Q?Caf=C3=A9?=\r\nReferences: <z@b>\r\nMessage-ID: <a@b>\r\n\r\n";
+const WHOLE: &[u8] =
+    b"From: \"Bob\" <b@x>\r\nTo: \"\" <c@y>, d@y\r\nCc: e@y\r\nBcc: f@y\r\nDate: Tue, 2 Jan 2024 09:00:00 +0000\r\nSubject: Re: =?utf-8?Q?Caf=C3=A9?=\r\nReferences: <z@b>\r\nMessage-ID: <a@b>\r\n\r\n";
 
-const WHOLE_READ: &[u8] = b"Re: Caf\xc3\xa9|\"Bob\" <b@x>|Bob|\"\" <c@y>, d@y|c@y|e@y|f@y|Caf\xc3\xa9|Some(1704186000) z@b a@b";
+const WHOLE_READ: &[u8] =
+    b"Re: Caf\xc3\xa9|\"Bob\" <b@x>|Bob|\"\" <c@y>, d@y|c@y|e@y|f@y|Caf\xc3\xa9|Some(1704186000) z@b a@b";
 
 /// Headers, and what is read of each: the subject, From with its first mailbox, To likewise, Cc, Bcc, the base subject, the date,
 /// and the ids. A `-` stands where there is none.
@@ -80,7 +82,11 @@ fn expect_read(rt: &impl Abort, alloc: Global, header: &[u8], kept: usize, wante
 /// A header with 3,000 lines more.
 fn padded(rt: &impl Abort, alloc: Global, header: &[u8]) -> Vec<u8> {
     let mut long = Vec::new(alloc);
-    put(rt, &mut long, header.strip_suffix(b"\r\n").unwrap_or(header));
+    put(
+        rt,
+        &mut long,
+        header.strip_suffix(b"\r\n").unwrap_or(header),
+    );
     for _ in 0..3000u32 {
         put(rt, &mut long, b"X-Pad: aaaa\r\n");
     }

@@ -101,13 +101,7 @@ fn put_ids(rt: &impl Abort, alloc: Global, out: &mut Vec<u8>, letter: &str, ids:
 }
 
 /// ` e-1`, ` e~2`, ` e#2` and ` e+3`: an id that is gone, changed, changed in its counts alone, and new.
-fn put_changes(
-    rt: &impl Abort,
-    alloc: Global,
-    out: &mut Vec<u8>,
-    letter: &str,
-    changes: &Changes,
-) {
+fn put_changes(rt: &impl Abort, alloc: Global, out: &mut Vec<u8>, letter: &str, changes: &Changes) {
     let mark = if changes.counts_only { "#" } else { "~" };
     let lists = [
         ("-", changes.destroyed.as_slice()),
