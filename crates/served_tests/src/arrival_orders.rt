@@ -65,7 +65,10 @@ fn expect_one_thread(rt: &impl Abort, alloc: Global, order: &[usize; 5]) {
 fn expect_chain(rt: &impl Abort, alloc: Global, order: &[usize; 5]) {
     let mut mirror = inbox(rt, alloc);
     let state = come(rt, alloc, &mut mirror, &CHAIN, order);
-    let mut plain = PlainMail::new(alloc);
+    let mut plain = PlainMail {
+        emails: Vec::new(alloc),
+        next: 1,
+    };
     plain.step(rt, alloc, mirror.folders());
     expect_rows(rt, alloc, &state, &plain, mirror.folders());
 }

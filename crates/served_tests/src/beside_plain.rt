@@ -85,7 +85,7 @@ fn plain_rows(
     match kind {
         MailType::Email => email_rows(rt, alloc, plain.emails.as_slice()),
         MailType::Mailbox => mailbox_rows(rt, alloc, plain.emails.as_slice(), folders),
-        MailType::Thread => thread_rows(rt, alloc, plain),
+        MailType::Thread => thread_rows(rt, alloc, plain.emails.as_slice()),
     }
 }
 

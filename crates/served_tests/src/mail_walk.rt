@@ -118,7 +118,10 @@ fn step(
 fn the_state_follows_mail(rt: HostRuntime) {
     let alloc = rt.alloc();
     let mut mail = RandomMail::new(alloc, 7);
-    let mut plain = PlainMail::new(alloc);
+    let mut plain = PlainMail {
+        emails: Vec::new(alloc),
+        next: 1,
+    };
     let mut state = first(&rt, alloc);
     let mut copies = Vec::new(alloc);
     for at in 1..3001u32 {

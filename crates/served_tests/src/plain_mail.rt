@@ -1,5 +1,6 @@
 //! A slow program that reckons what is served of some mail, from what was served before, by the definitions alone.
 use std::alloc::Global;
+use std::collections::BTreeSet;
 use std::process::Abort;
 use told_folder::{Folder, Held, Message};
 
@@ -95,13 +96,6 @@ fn thread_of(emails: &[PlainEmail], new: &PlainEmail) -> u64 {
 }
 
 impl PlainMail {
-    pub fn new(alloc: Global) -> PlainMail {
-        PlainMail {
-            emails: Vec::new(alloc),
-            next: 1,
-        }
-    }
-
     /// Takes a message in, where it is visible and has no Email.
     fn add(&mut self, rt: &impl Abort, folder: u64, message: &Message) {
         let is_known = self.emails.iter().any(|email| email.mark == message.mark);
@@ -169,15 +163,22 @@ fn thread_row(rt: &impl Abort, alloc: Global, thread: u64, received: &[(i64, u64
     row
 }
 
-/// The Thread of each number below the next one that an Email is in.
-pub fn thread_rows(rt: &impl Abort, alloc: Global, plain: &PlainMail) -> Vec<Row> {
+/// The numbers of the Threads.
+fn threads(rt: &impl Abort, alloc: Global, emails: &[PlainEmail]) -> BTreeSet<u64> {
+    let mut threads = BTreeSet::new(alloc);
+    for email in emails {
+        threads.insert(email.thread).expect(rt, "memory");
+    }
+    threads
+}
+
+pub fn thread_rows(rt: &impl Abort, alloc: Global, emails: &[PlainEmail]) -> Vec<Row> {
+    let threads = threads(rt, alloc, emails);
     let mut rows = Vec::new(alloc);
-    for thread in 1..plain.next {
-        let received = received(rt, alloc, plain.emails.as_slice(), thread);
-        if !received.is_empty() {
-            let row = thread_row(rt, alloc, thread, received.as_slice());
-            rows.push(row).expect(rt, "memory");
-        }
+    for thread in &threads {
+        let received = received(rt, alloc, emails, *thread);
+        let row = thread_row(rt, alloc, *thread, received.as_slice());
+        rows.push(row).expect(rt, "memory");
     }
     rows
 }
