@@ -216,7 +216,6 @@ pub(crate) fn name_folder(
     number: u64,
     name: &[u8],
 ) {
-    assert!(rt; mirror.named(name).is_none());
     assert!(rt; 0 < number && number < 1 << 53);
     mirror.one_named();
     let folder = Folder {
@@ -228,7 +227,10 @@ pub(crate) fn name_folder(
         modseq: 0,
         next: 1,
     };
-    mirror.put_folder(folder).expect(rt, "memory");
+    match mirror.named(folder.name.as_slice()) {
+        None => mirror.put_folder(folder).expect(rt, "memory"),
+        Some(_) => panic!(rt; "another folder has the name"),
+    }
 }
 
 fn tell_told(rt: &impl Abort, alloc: Global, mirror: &mut Mirror, told: &Told) {
