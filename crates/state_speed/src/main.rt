@@ -144,7 +144,9 @@ fn take_changes(
 ) -> Result<MailState, anyhow::Error> {
     let mut state = state;
     for change in 0..CHANGES {
-        let uid = (messages / CHANGES).saturating_mul(change).saturating_add(1);
+        let uid = (messages / CHANGES)
+            .saturating_mul(change)
+            .saturating_add(1);
         state = take_change(rt, mirror, state, uid)?;
     }
     Ok(state)
