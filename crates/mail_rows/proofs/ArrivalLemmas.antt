@@ -28,17 +28,20 @@ not_member rows next email marks book is same =
 row_put : (rows all : Rows) (next : ℕ) (row : EmailRow) → AreBelow next rows → all ≡ insert_entry nat_cmp rows next row → all ≡ rows ++ (next, row) ∷ []
 row_put rows all next row below put = put ∙ insert_last rows next row (as_under next rows below)
 
+-- the rows with the new one behind them
 pub rows_put : (rows all : Rows) (next : ℕ) (row : EmailRow) → AreBelow next rows → all ≡ insert_entry nat_cmp rows next row
     → ◌≡◌ {A = NumberedRows} (record { rows = all; next = next + 1 }) (with_last (record { rows = rows; next = next }) row)
 rows_put rows all next row below put = ap (λ (rs : Rows). record { rows = rs; next = next + 1 }) (row_put rows all next row below put)
 
+-- the indexes of these rows
 pub indexes_put : (rows all : Rows) (next : ℕ) (row : EmailRow) (named : Named) (marks marks' : BTreeMap ℕ ℕ) (book book' : Members) → AreIndexes rows next marks book
     → all ≡ insert_entry nat_cmp rows next row → named.email ≡ next → named.ids ≡ row.envelope.ids → named.base ≡ row.envelope.base
     → ((q : ℕ) → get nat_cmp marks' q ≡ cond (is_at (nat_cmp row.mark) q) (Some next) (get nat_cmp marks q))
     → book' ≡ insert_entry nat_cmp book named.email (member_of named row.thread) → AreIndexes all (next + 1) marks' book'
 indexes_put rows all next row named marks marks' book book' was put email ids base marked kept =
     let member : member_of named row.thread ≡ row_member row =
-    ap (λ (x : List (List ℕ)). record { ids = x; base = named.base; thread = row.thread }) ids ∙ ap (λ (x : List ℕ). record { ids = row.envelope.ids; base = x; thread = row.thread }) base in
+    ap (λ (x : List (List ℕ)). record { ids = x; base = named.base; thread = row.thread }) ids
+    ∙ ap (λ (x : List ℕ). record { ids = row.envelope.ids; base = x; thread = row.thread }) base in
     let in_book : book' ≡ insert_entry nat_cmp book next (row_member row) =
     kept ∙ ap (λ (k : ℕ). insert_entry nat_cmp book k (member_of named row.thread)) email ∙ ap (insert_entry nat_cmp book next) member in
     let I : Rows → Type 0 = λ rs. AreIndexes rs (next + 1) marks' book' in
@@ -58,6 +61,7 @@ thread_found rows book base number thread ids sorted is found =
     let T : Members → Type 0 = λ ms. IsThreadOf ms base number ids (thread_in (members_of rows) base number ids) in
     (found (thread_in (members_of rows) base number ids)).0 (subst T (sym is) (thread_is (members_of rows) base number ids (subst S (sym (keys_of-members rows)) sorted)))
 
+-- the row in the Thread that the book finds is that of the new Email
 pub row_joins : (n : NumberedRows) (p : Placed) (e : Envelope) (named : Named) (book : Members) (number thread : ℕ) (row : EmailRow) (after : NumberedRows)
     → IsStrictlySortedBy nat_cmp (keys_of n.rows) → book ≡ members_of n.rows → number ≡ n.next → named ≡ record { email = number; ids = e.ids; base = e.base }
     → ((t : ℕ) → IsThreadOf book named.base named.email named.ids t ↔ (t ≡ thread)) → row ≡ row_for number thread p e → IsEnvelopeOf p.message.header e

@@ -1,6 +1,6 @@
 -- The tests of what is served tell values apart, and no more.
-use Rattle.std.proofs.Common.{◌≡◌, ℕ, ℤ, List, Option, Some, None, Bool, true, refl, ap, sym, ◌∙◌, ◌==◌, ◌&&◌, if◌then◌else◌}
-use Rattle.std.specs.Bool.{Decides, beq}
+use Rattle.std.proofs.Common.{◌≡◌, ℕ, ℤ, List, Option, Some, None, Bool, refl, ap, sym, ◌∙◌, ◌==◌, if◌then◌else◌}
+use Rattle.std.specs.Bool.{Decides}
 use Rattle.std.specs.Cmp.{booleans_Decides}
 use Rattle.std.specs.Option.{option_eq, option_map}
 use Rattle.std.specs.Ordering.{int_eq}
@@ -15,7 +15,7 @@ use Rattle.mail_maps.specs.declared.row.Role.TheVariants as role
 use Rattle.mail_maps.specs.declared.row.Rights.{Rights}
 use Rattle.mail_maps.specs.declared.tally.FolderCounts.{FolderCounts}
 use Rattle.mail_maps.specs.Roles.{role_number, same_role}
-use Rattle.mail_maps.specs.Serve.{Immutable, Email, ServedMailbox, same_names, same_text, same_party, same_envelope, same_immutable, same_email, same_rights, same_counts, same_but_counts, same_mailbox, same_thread, mailbox_tests, email_tests, thread_tests}
+use Rattle.mail_maps.specs.Serve.{Immutable, Email, ServedMailbox, same_names, same_text, same_party, same_envelope, same_immutable, same_email, same_rights, same_counts, same_mailbox, mailbox_tests, email_tests, thread_tests}
 use Rattle.mail_rows.proofs.OneTake.{envelope_same}
 
 option_decides : {X : Type 0} (eq : X → X → Bool) → ((a b : X) → Decides (eq a b) (a ≡ b)) → (o p : Option X) → Decides (option_eq eq o p) (o ≡ p)

@@ -5,7 +5,6 @@ use Rattle.std.specs.List.Sorted.{IsStrictlySortedBy}
 use Rattle.std.specs.Map.{keys_of}
 use Rattle.change_list.specs.declared.entries.Entry.{Entry}
 use Rattle.told_folder.specs.declared.message.Held.{Held}
-use Rattle.mail_maps.specs.declared.envelope.Envelope.{Envelope}
 use Rattle.mail_maps.specs.Rows.{Rows}
 use Rattle.mail_maps.specs.Visible.{Placed}
 use Rattle.mail_rows.specs.NumberedRows.{NumberedRows}
@@ -19,6 +18,7 @@ use Rattle.mail_rows.proofs.IndexLemmas.{as_under}
 use Rattle.mail_rows.proofs.TakingLemmas.{takes_from_adds, added, rows_added, next_added, keys_added, from_added}
 use Rattle.mail_rows.proofs.TouchLemmas.{touches_are}
 
+-- the mail is taken in where what comes is added to what remains
 pub takes : (n m : NumberedRows) (hs : List Held) (ps : List Placed) (after : NumberedRows) → m ≡ left n hs → ps ≡ newcomers hs m.rows → AddsRows m ps after → TakesMail n hs after
 takes n m hs ps after is are adds =
     let A : NumberedRows → Type 0 = λ x. AddsRows x ps after in
@@ -46,11 +46,13 @@ module _ (n : NumberedRows) (hs : List Held) (after : NumberedRows) (t : TakesMa
   rows_are = ap (λ (x : NumberedRows). x.rows) t.after_is ∙ rows_added (left n hs) (arrivals n hs) t.envelopes
 
   module _ (gone : List Gone) (changed entries : List Entry) (first next : ℕ) where
+    -- the touches of what goes, what is changed and what is added
     abbrev pub gathered : List Entry
     gathered = map touch_of_removal gone ++ (changed ++ map touch_of_addition (numbers_from first (next - first)))
 
-    pub touches_between : IsStrictlySortedBy nat_cmp (keys_of n.rows) → AreBelow n.next n.rows → first ≡ n.next → next ≡ after.next → gone ≡ gone_in hs n.rows → changed ≡ changes_in hs n.rows
-        → entries ≡ gathered → entries ≡ email_touches n.rows after.rows
+    -- they are the touches from the rows before to those after
+    pub touches_between : IsStrictlySortedBy nat_cmp (keys_of n.rows) → AreBelow n.next n.rows → first ≡ n.next → next ≡ after.next → gone ≡ gone_in hs n.rows
+        → changed ≡ changes_in hs n.rows → entries ≡ gathered → entries ≡ email_touches n.rows after.rows
     touches_between sorted below f g gone_is changed_is all =
         let count : next - first ≡ length more = omega (arith, next_is) in
         let numbers : numbers_from first (next - first) ≡ keys_of more =

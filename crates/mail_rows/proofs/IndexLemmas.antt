@@ -1,8 +1,8 @@
 -- The indexes beside the rows, as Emails go and come.
-use Rattle.std.proofs.Common.{◌≡◌, ℕ, ◌+◌, ◌<◌, ◌≤◌, List, [], ◌∷◌, ◌++◌, Bool, true, false, not, cond, nat_eq, map, filter, refl, sym, ap, ◌∙◌, subst, arith, nat_cmp, append_assoc, is_some, Option, Some, None, eqb-true, eq-eqb, BTreeMap}
+use Rattle.std.proofs.Common.{◌≡◌, ℕ, ◌+◌, ◌<◌, List, [], ◌∷◌, ◌++◌, Bool, true, false, not, cond, nat_eq, map, filter, refl, sym, ap, ◌∙◌, subst, arith, nat_cmp, append_assoc, is_some, Option, Some, None, eqb-true, BTreeMap}
 use Rattle.std.specs.declared.cmp.Ordering.TheVariants.{Less}
 use Rattle.std.specs.Option.{option_map}
-use Rattle.std.specs.List.{AllByRecursion, list_any}
+use Rattle.std.specs.List.{AllByRecursion}
 use Rattle.std.specs.List.Sorted.{IsStrictlySortedBy}
 use Rattle.std.specs.Map.{keys_of, remove_entry}
 use Rattle.std.specs.BTreeMap.{get, is_at, insert_entry}
@@ -14,7 +14,6 @@ use Rattle.told_folder.specs.declared.message.Held.{Held}
 use Rattle.mail_maps.specs.declared.row.EmailRow.{EmailRow}
 use Rattle.mail_maps.specs.Rows.{Rows}
 use Rattle.mail_maps.specs.Visible.{Placed, shown}
-use Rattle.mail_rows.specs.NumberedRows.{has_row_mark, knows}
 use Rattle.mail_rows.specs.Remaining.{updated, remaining_row, put_remaining, remaining}
 use Rattle.mail_rows.specs.Joining.{row_member, members_of}
 use Rattle.mail_rows.specs.declared.remaining.Gone.{Gone}

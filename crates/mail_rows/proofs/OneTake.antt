@@ -10,7 +10,6 @@ use Rattle.mail_header.specs.Bracketed.{IsNamesForm}
 use Rattle.mail_header.specs.Fields.{NameAndRaw, last_named}
 use Rattle.mail_header.proofs.FieldLemmas.{one_header}
 use Rattle.mail_header.proofs.BracketLemmas.{one_names}
-use Rattle.header_addresses.specs.declared.address.Address.{Address}
 use Rattle.header_addresses.proofs.FormLemmas.{one_addresses}
 use Rattle.header_dates.specs.declared.date.Moment.{Moment}
 use Rattle.header_dates.proofs.DateLemmas.{one_date}

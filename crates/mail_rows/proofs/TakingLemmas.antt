@@ -1,17 +1,14 @@
 -- New Emails: which messages they are, and the rows that come of them.
-use Rattle.std.proofs.Common.{◌≡◌, ℕ, ◌+◌, ◌<◌, ◌≤◌, List, [], ◌∷◌, ◌++◌, Bool, true, false, not, ◌&&◌, ◌||◌, cond, nat_eq, map, filter, refl, sym, ap, ◌∙◌, subst, arith, nat_cmp, append_assoc, is_some, length, Option, Some, None, BTreeMap}
-use Rattle.std.specs.List.{list_any}
+use Rattle.std.proofs.Common.{◌≡◌, ℕ, ◌+◌, ◌≤◌, List, [], ◌∷◌, ◌++◌, Bool, true, false, not, ◌&&◌, ◌||◌, cond, nat_eq, filter, refl, sym, ap, ◌∙◌, subst, arith, nat_cmp, append_assoc, is_some, length, Option, Some, None, BTreeMap}
 use Rattle.std.specs.Map.{keys_of}
 use Rattle.std.specs.BTreeMap.{get}
 use Rattle.std.proofs.lemmas.List.Elements.{filter-append}
 use Rattle.told_folder.specs.declared.message.Held.{Held}
-use Rattle.mail_maps.specs.declared.row.EmailRow.{EmailRow}
 use Rattle.mail_maps.specs.declared.envelope.Envelope.{Envelope}
 use Rattle.mail_maps.specs.Rows.{Rows}
 use Rattle.mail_maps.specs.Visible.{Placed, placed_in, visible, is_visible_place}
-use Rattle.mail_rows.specs.NumberedRows.{NumberedRows, has_row_mark, knows}
-use Rattle.mail_rows.specs.Remaining.{remaining}
-use Rattle.mail_rows.specs.Taking.{is_newcomer, newcomers, new_row, with_row, with_rows, AreEnvelopes, TakesMail, left, arrivals}
+use Rattle.mail_rows.specs.NumberedRows.{NumberedRows, knows}
+use Rattle.mail_rows.specs.Taking.{is_newcomer, newcomers, new_row, with_row, with_rows, TakesMail, left, arrivals}
 use Rattle.mail_rows.specs.reading.Stays.{is_unmarked, unmarked}
 use Rattle.mail_rows.specs.reading.Indexes.{number_after, number_of, AddsRow, AddsRows, numbers_from}
 use Rattle.mail_rows.proofs.RowLemmas.{From}
@@ -101,7 +98,8 @@ rows_added n (p ∷ ps) (e ∷ es) = rows_added (with_row n p e) ps es ∙ appen
 pub next_added : (n : NumberedRows) (ps : List Placed) (es : List Envelope) → (with_rows n ps es).next ≡ n.next + length (added n ps es)
 next_added n [] es = omega arith
 next_added n (p ∷ ps) [] = omega arith
-next_added n (p ∷ ps) (e ∷ es) = let k : (with_rows (with_row n p e) ps es).next ≡ n.next + 1 + length (added (with_row n p e) ps es) = next_added (with_row n p e) ps es in omega (arith, k)
+next_added n (p ∷ ps) (e ∷ es) =
+    let k : (with_rows (with_row n p e) ps es).next ≡ n.next + 1 + length (added (with_row n p e) ps es) = next_added (with_row n p e) ps es in omega (arith, k)
 
 -- the rows that are added have the next numbers
 pub keys_added : (n : NumberedRows) (ps : List Placed) (es : List Envelope) → keys_of (added n ps es) ≡ numbers_from n.next (length (added n ps es))

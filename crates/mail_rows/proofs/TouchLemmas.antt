@@ -1,8 +1,7 @@
 -- The touches of a step are those of what goes, what is changed and what is added.
-use Rattle.std.proofs.Common.{◌≡◌, ℕ, ◌<◌, ◌≤◌, List, [], ◌∷◌, ◌++◌, Bool, true, false, not, ◌&&◌, ◌||◌, cond, nat_eq, map, filter, refl, sym, ap, ◌∙◌, subst, arith, nat_cmp, is_some, Option, Some, None}
+use Rattle.std.proofs.Common.{◌≡◌, ℕ, ◌<◌, List, [], ◌∷◌, ◌++◌, Bool, true, false, not, ◌&&◌, ◌||◌, cond, nat_eq, map, filter, refl, sym, ap, ◌∙◌, nat_cmp, is_some, Option, Some, None}
 use Rattle.std.specs.declared.cmp.Ordering.TheVariants.{Less}
 use Rattle.std.specs.Option.{option_map, option_or}
-use Rattle.std.specs.List.{AllByRecursion}
 use Rattle.std.specs.List.Sorted.{IsStrictlySortedBy}
 use Rattle.std.specs.Map.{keys_of}
 use Rattle.std.specs.BTreeMap.{is_at}
@@ -15,14 +14,13 @@ use Rattle.told_folder.specs.declared.message.Held.{Held}
 use Rattle.mail_maps.specs.declared.row.EmailRow.{EmailRow}
 use Rattle.mail_maps.specs.Rows.{Rows}
 use Rattle.mail_maps.specs.Keywords.{keywords_of}
-use Rattle.mail_maps.specs.Serve.{Immutable, email_of, immutable_of, same_immutable, same_email, same_names, email_tests}
+use Rattle.mail_maps.specs.Serve.{email_of, immutable_of, same_email, same_names, email_tests}
 use Rattle.mail_maps.specs.Visible.{Placed, shown}
 use Rattle.mail_rows.specs.Remaining.{updated, remaining_row, put_remaining, remaining}
 use Rattle.mail_rows.specs.RowTouches.{email_touches}
-use Rattle.mail_rows.specs.declared.remaining.Gone.{Gone}
-use Rattle.mail_rows.specs.reading.Stays.{is_changed_to, is_moved, touch_of_change, touch_of_addition, touch_of_removal, gone_of, change_where, changes_where, is_hidden, gone_in, changes_in}
+use Rattle.mail_rows.specs.reading.Stays.{is_moved, touch_of_change, touch_of_addition, touch_of_removal, gone_of, change_where, changes_where, is_hidden, gone_in, changes_in}
 use Rattle.mail_rows.proofs.Exact.{immutable}
-use Rattle.mail_rows.proofs.PassLemmas.{all_remaining, sorted_remaining}
+use Rattle.mail_rows.proofs.PassLemmas.{all_remaining}
 use Rattle.mail_rows.proofs.RowLemmas.{found_is, Under, From, AllIn, all_in, none_above, none_over, none_before, row_at-append}
 
 abbrev tests : Tests EmailRow

@@ -3,7 +3,7 @@ use Rattle.std.proofs.Common.{◌≡◌, ◌≢◌, ℕ, ◌<◌, List, [], ◌�
 use Rattle.std.specs.Option.{option_map, option_or}
 use Rattle.std.proofs.lemmas.List.Folds.{find-append}
 use Rattle.told_folder.specs.Keyed.{Ascends, AllAbove, with_key}
-use Rattle.told_folder.specs.Folders.{uid_of, folder_number, held_in, messages_of, messages_in, message_in, mark_in}
+use Rattle.told_folder.specs.Folders.{uid_of, folder_number, held_in, messages_of, message_in, mark_in}
 use Rattle.told_folder.specs.Index.{AllAscend}
 use Rattle.told_folder.specs.declared.message.Message.{Message}
 use Rattle.told_folder.specs.declared.message.Held.{Held}

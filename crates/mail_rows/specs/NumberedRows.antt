@@ -1,5 +1,5 @@
 -- Emails by ascending number, with the number that the next new one gets.
-use Rattle.std.specs.Prelude.{ℕ, ◌==◌, List, [], Bool, ◌≡◌, ◌∷◌, false}
+use Rattle.std.specs.Prelude.{ℕ, ◌==◌, [], Bool, ◌≡◌, ◌∷◌, false}
 use Rattle.std.specs.List.{list_any}
 use Rattle.mail_maps.specs.Rows.{Rows}
 use Rattle.mail_maps.specs.declared.row.EmailRow.{EmailRow}

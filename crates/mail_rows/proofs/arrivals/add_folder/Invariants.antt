@@ -1,4 +1,4 @@
-use Rattle.std.proofs.Common.{◌≡◌, ◌++◌, map, filter, drop, ◌∷◌}
+use Rattle.std.proofs.Common.{◌≡◌, ◌++◌, map, filter, drop}
 use Rattle.mail_maps.specs.Visible.{Placed, placed_in}
 use Rattle.mail_rows.specs.reading.Stays.{is_unmarked}
 use Rattle.mail_rows.proofs.arrivals.add_folder.Given as goal

@@ -1,4 +1,4 @@
-use Rattle.std.proofs.Common.{◌≡◌, ◌+◌, ◌<◌, ◌^◌, length}
+use Rattle.std.proofs.Common.{◌+◌, ◌<◌, ◌^◌, length}
 use Rattle.std.specs.Vec.Iter.{into_iter_items}
 use Rattle.mail_rows.specs.NumberedRows.{NumberedRows}
 use Rattle.mail_rows.specs.reading.Indexes.{AddsRows}

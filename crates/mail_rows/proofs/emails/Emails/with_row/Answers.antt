@@ -11,8 +11,8 @@ put-requires c =
 
 pub invariant_of-result : goal.invariant_of-result
 invariant_of-result c =
-    indexes_put c.self.inside.rows.entries c.insert-2.new.self.entries c.self.inside.next c.args.row c.args.named c.self.inside.marks c.insert.new.self c.self.inside.book c.put.new.self
-    c.self.invariant c.in_ok-insert-2.ensures.entries (c.requires.email ∙ sym (ap (λ (n : NumberedRows). n.next) c.self.view_is)) c.requires.ids c.requires.base
+    indexes_put c.self.inside.rows.entries c.insert-2.new.self.entries c.self.inside.next c.args.row c.args.named c.self.inside.marks c.insert.new.self c.self.inside.book
+    c.put.new.self c.self.invariant c.in_ok-insert-2.ensures.entries (c.requires.email ∙ sym (ap (λ (n : NumberedRows). n.next) c.self.view_is)) c.requires.ids c.requires.base
     c.in_ok-insert.ensures.updates.0 c.in_ok-put.ensures.ok
 
 pub returns : goal.returns
