@@ -124,7 +124,8 @@ sorted_all before (x ∷ xs) s = sorted_all (insert_key cmp before x) xs (sorted
 has_put : (q : List ℕ) (xs : List (List ℕ)) (k : List ℕ) → has_name q (insert_key cmp xs k) ≡ (bytes_eq q k || has_name q xs)
 has_put q [] k = refl
 has_put q (x ∷ xs) k =
-    elim (cmp k x) as (λ (o : Ordering). cmp k x ≡ o → has_name q (match_ordering o (k ∷ x ∷ xs) (x ∷ xs) (x ∷ insert_key cmp xs k)) ≡ (bytes_eq q k || (bytes_eq q x || has_name q xs))) [
+    elim (cmp k x) as (λ (o : Ordering). cmp k x ≡ o → has_name q (match_ordering o (k ∷ x ∷ xs) (x ∷ xs) (x ∷ insert_key cmp xs k))
+    ≡ (bytes_eq q k || (bytes_eq q x || has_name q xs))) [
       | Less ↦ λ l. refl
       | Equal ↦ λ e. ap (λ (y : List ℕ). bytes_eq q y || has_name q xs) (sym (exact_bytes k x e)) ∙ or_same (bytes_eq q k) (has_name q xs)
           ∙ ap (λ (y : List ℕ). bytes_eq q k || (bytes_eq q y || has_name q xs)) (exact_bytes k x e)
@@ -174,7 +175,8 @@ same_first x y xs ys a b same =
       | Greater ↦ λ g. absurd (not_below y x ys xs a (sym (same y)) (flipped y x g))
     ] refl
 
-same_later : (x : List ℕ) (xs ys : List (List ℕ)) → AllAbove x xs → AllAbove x ys → ((q : List ℕ) → has_name q (x ∷ xs) ≡ has_name q (x ∷ ys)) → (q : List ℕ) → has_name q xs ≡ has_name q ys
+same_later : (x : List ℕ) (xs ys : List (List ℕ)) → AllAbove x xs → AllAbove x ys → ((q : List ℕ) → has_name q (x ∷ xs) ≡ has_name q (x ∷ ys))
+    → (q : List ℕ) → has_name q xs ≡ has_name q ys
 same_later x xs ys a b same q = by (bytes_eq q x) refl (same q)
   where
     by : (t : Bool) → bytes_eq q x ≡ t → (t || has_name q xs) ≡ (t || has_name q ys) → has_name q xs ≡ has_name q ys
@@ -207,7 +209,8 @@ among others (x ∷ xs) e q h = by (bytes_eq q x) refl h (among others xs (both 
 all_among : (others xs : List (List ℕ)) → ((q : List ℕ) → has_name q xs ≡ true → has_name q others ≡ true) → are_among others xs ≡ true
 all_among others [] f = refl
 all_among others (x ∷ xs) f =
-    and_both (has_name x others) (are_among others xs) (f x (ap (λ (b : Bool). b || has_name x xs) (is_itself x))) (all_among others xs (λ q h. f q (or_later (bytes_eq q x) (has_name q xs) h)))
+    and_both (has_name x others) (are_among others xs) (f x (ap (λ (b : Bool). b || has_name x xs) (is_itself x)))
+    (all_among others xs (λ q h. f q (or_later (bytes_eq q x) (has_name q xs) h)))
   where
     or_later : (a b : Bool) → b ≡ true → (a || b) ≡ true
     or_later true b e = refl

@@ -1,22 +1,29 @@
 -- What one pass over the rows has gathered in the end.
-use Rattle.std.proofs.Common.{◌≡◌, ℕ, List, [], ◌∷◌, ◌++◌, not, cond, map, filter, refl, sym, ap, ◌∙◌, subst, nat_cmp, append_assoc, is_some, Option, Some, None}
+use Rattle.std.proofs.Common.{◌≡◌, ℕ, true, List, [], ◌∷◌, ◌++◌, not, cond, map, filter, refl, sym, ap, ◌∙◌, subst, nat_cmp, append_assoc, is_some, Option, Some, None}
 use Rattle.std.specs.declared.cmp.Ordering.TheVariants.{Less}
 use Rattle.std.specs.Option.{option_map}
 use Rattle.std.specs.List.{AllByRecursion}
 use Rattle.std.specs.List.Sorted.{IsStrictlySortedBy}
 use Rattle.std.specs.Map.{keys_of}
 use Rattle.std.specs.BTreeMap.{insert_entry}
+use Rattle.std.proofs.lemmas.Slice.Eq.{bytes_eq-Decides, slice_eq-Decides}
 use Rattle.told_folder.specs.declared.message.Held.{Held}
 use Rattle.mail_maps.specs.declared.row.EmailRow.{EmailRow}
 use Rattle.mail_maps.specs.Rows.{Rows}
+use Rattle.mail_maps.specs.Serve.{same_names}
 use Rattle.mail_maps.specs.Visible.{Placed, shown}
 use Rattle.mail_maps.proofs.InOrder.{put_next}
 use Rattle.mail_rows.specs.Remaining.{updated, remaining_row, put_remaining, remaining}
-use Rattle.mail_rows.specs.reading.Stays.{PassSoFar, none_passed, gone_of, change_where, is_moved, gather_where, gather_one, gather_all, is_hidden, gone_in, changes_where, changes_in}
+use Rattle.mail_rows.specs.reading.Stays.{PassSoFar, none_passed, gone_of, change_where, is_moved, gather_where, gather_one, gather_all, is_hidden, gone_in, changes_where}
+use Rattle.mail_rows.specs.reading.Stays.{changes_in}
 
 append_none : {A : Type 0} (xs : List A) → xs ++ [] ≡ xs
 append_none [] = refl
 append_none {A} (x ∷ xs) = ap (λ (r : List A). x ∷ r) (append_none xs)
+
+-- the test of keywords tells them apart
+pub same_keywords : (a b : List (List ℕ)) → same_names a b ≡ true → a ≡ b
+same_keywords a b e = (slice_eq-Decides bytes_eq-Decides a b (same_names a b) refl).0 e
 
 module _ (hs : List Held) where
   gone_are : (g : PassSoFar) (es : Rows) → (gather_all hs g es).gone ≡ g.gone ++ gone_in hs es
@@ -78,7 +85,8 @@ module _ (hs : List Held) where
   -- ---- the loop
 
   -- a turn of the loop: one row is gathered
-  pub pass_more : (g k : PassSoFar) (e : ℕ × EmailRow) (rest rows : Rows) (all : PassSoFar) → rows ≡ e ∷ rest → k ≡ gather_one hs g e → gather_all hs g rows ≡ all → gather_all hs k rest ≡ all
+  pub pass_more : (g k : PassSoFar) (e : ℕ × EmailRow) (rest rows : Rows) (all : PassSoFar) → rows ≡ e ∷ rest → k ≡ gather_one hs g e
+      → gather_all hs g rows ≡ all → gather_all hs k rest ≡ all
   pass_more g k e rest rows all is made so_far = ap (λ (x : PassSoFar). gather_all hs x rest) made ∙ sym (ap (gather_all hs g) is) ∙ so_far
 
   -- the end of the loop: no row is left

@@ -1,5 +1,7 @@
 //! Which Emails remain, in one pass over them.
-ghost use Rattle.std.specs.Prelude.{◌≡◌, ◌++◌, IfOk, OnOk, Some};
+ghost use Rattle.std.specs.Prelude.{◌≡◌, ◌++◌, ◌==◌, ◌||◌, not, IfOk, OnOk, Some};
+ghost use Rattle.mail_maps.specs.Keywords as keywords;
+ghost use Rattle.mail_maps.specs.Serve.{same_names};
 ghost use Rattle.mail_rows.specs.Remaining as remaining;
 ghost use Rattle.mail_rows.specs.reading.Stays as passes;
 
@@ -8,6 +10,7 @@ use change_list::{Entry, Kind};
 use gate_world::Names;
 use mail_maps::EmailRow;
 use mail_maps::keywords::keywords_of;
+use mail_maps::same_keywords::are_keywords_of;
 use std::alloc::{AllocError, Global};
 use std::collections::BTreeMap;
 use told_folder::Message;
@@ -33,11 +36,11 @@ pub struct Stays {
     pub changed: Vec<Entry>,
 }
 
-/// Whether what is served of the row changes with its folder and keywords. A UID isn't served.
-fn is_moved(row: &EmailRow, folder: u64, keywords: &Names) -> bool
-    ensures { result ≡ passes.is_changed_to row.now folder keywords.now }
+/// Whether what is served of the row changes: its folder or its keywords. A UID isn't served.
+fn is_moved(row: &EmailRow, folder: u64, has_same: bool) -> bool
+    ensures { result ≡ (not (row.now.folder == folder) || not has_same) }
 {
-    row.folder != folder || row.keywords != *keywords
+    row.folder != folder || !has_same
 }
 
 /// Notes a change where there is one.
@@ -54,7 +57,44 @@ fn note_change(changed: &mut Vec<Entry>, number: u64, is_moved: bool) -> Result<
     Ok(())
 }
 
-/// Keeps the row of a message that is shown, as the message is now.
+/// The keywords of flags: those that a row had where they are the same, which takes no memory.
+fn keywords_now(
+    alloc: Global,
+    had: Names,
+    are_same: bool,
+    flags: &Names,
+) -> Result<Names, AllocError>
+    requires { are_same ≡ same_names had (keywords.keywords_of flags.now) }
+    ensures { IfOk result (λ names. names ≡ keywords.keywords_of flags.now) }
+{
+    if are_same {
+        Ok(had)
+    } else {
+        keywords_of(alloc, flags)
+    }
+}
+
+/// The row of a message, as the message is now.
+fn row_now(
+    alloc: Global,
+    row: EmailRow,
+    has_same: bool,
+    folder: u64,
+    message: &Message,
+) -> Result<EmailRow, AllocError>
+    requires { has_same ≡ same_names row.keywords (keywords.keywords_of message.now.flags) }
+    ensures { IfOk result (λ now. now ≡ remaining.updated row (record { folder = folder; message = message.now })) }
+{
+    let keywords = keywords_now(alloc, row.keywords, has_same, &message.flags)?;
+    Ok(EmailRow {
+        folder,
+        uid: message.uid,
+        keywords,
+        ..row
+    })
+}
+
+/// Keeps the row of a message that is shown, as the message is now. It takes memory for other keywords alone.
 fn keep(
     alloc: Global,
     stays: &mut Stays,
@@ -66,15 +106,10 @@ fn keep(
     ensures { OnOk result (passes.pass_of stays.new
         ≡ passes.gather_where (Some (record { folder = folder; message = message.now })) (passes.pass_of stays.old) (number, row)) }
 {
-    let keywords = keywords_of(alloc, &message.flags)?;
-    let moved = is_moved(&row, folder, &keywords);
+    let has_same = are_keywords_of(&row.keywords, &message.flags);
+    let moved = is_moved(&row, folder, has_same);
     note_change(&mut stays.changed, number, moved)?;
-    let now = EmailRow {
-        folder,
-        uid: message.uid,
-        keywords,
-        ..row
-    };
+    let now = row_now(alloc, row, has_same, folder, message)?;
     stays.rows.insert(number, now)?;
     Ok(())
 }
