@@ -1,5 +1,6 @@
 -- Rows that are taken out and updated by what the pass found are those that remain.
-use Rattle.std.proofs.Common.{◌≡◌, ℕ, ◌+◌, ◌<◌, ◌⊎◌, inl, inr, List, [], ◌∷◌, ◌++◌, Bool, true, false, not, ◌||◌, cond, nat_eq, map, filter, drop, length, get_or, refl, sym, ap, ◌∙◌}
+use Rattle.std.proofs.Common.{◌≡◌, ℕ, ◌+◌, ◌<◌, ◌⊎◌, inl, inr, List, [], ◌∷◌, ◌++◌, Bool, true, false, not, ◌||◌, cond, nat_eq, map, filter, drop, length, get_or, refl, sym, ap}
+use Rattle.std.proofs.Common.{◌∙◌}
 use Rattle.std.proofs.Common.{subst, nat_cmp, arith, is_some, Option, Some, None, eqb-true}
 use Rattle.std.specs.declared.cmp.Ordering.TheVariants.{Less}
 use Rattle.std.specs.List.{AllByRecursion}
@@ -21,8 +22,9 @@ use Rattle.mail_maps.specs.Visible.{Placed, shown}
 use Rattle.mail_rows.specs.Remaining.{updated, remaining}
 use Rattle.mail_rows.specs.declared.remaining.Gone.{Gone}
 use Rattle.mail_rows.specs.declared.remaining.Update.{Update}
-use Rattle.mail_rows.specs.reading.Stays.{is_moved, is_other, update_of, update_where, updates_where, updates_in, gone_of, is_hidden, gone_in, row_left, row_with, row_if, row_updated}
-use Rattle.mail_rows.proofs.RowLemmas.{is_here, below_is_not, above_is_not, less_is_below, below_is_less, found_is, none_above}
+use Rattle.mail_rows.specs.reading.Stays.{is_moved, is_other, update_of, update_where, updates_where, updates_in, gone_of, is_hidden, gone_in, row_left, row_with, row_if}
+use Rattle.mail_rows.specs.reading.Stays.{row_updated}
+use Rattle.mail_rows.proofs.RowLemmas.{is_here, less_is_below, below_is_less, found_is, none_above}
 use Rattle.mail_rows.proofs.LoopLemmas.{next_left}
 use Rattle.mail_rows.proofs.PassLemmas.{sorted_remaining}
 use Rattle.mail_rows.proofs.TouchLemmas.{remaining_if, remaining_at}
@@ -69,7 +71,8 @@ row_forgotten gone i g q old new r within is made all =
     ∙ sym (ap (λ (gs : List Gone). row_left gs q old) (next_left gone i g within is)) ∙ all
 
 -- one update more
-pub update_taken : (us rest : List Update) (u : Update) (q : ℕ) (old new r : Option EmailRow) → us ≡ u ∷ rest → new ≡ row_if u q old → row_updated us q old ≡ r → row_updated rest q new ≡ r
+pub update_taken : (us rest : List Update) (u : Update) (q : ℕ) (old new r : Option EmailRow) → us ≡ u ∷ rest → new ≡ row_if u q old
+    → row_updated us q old ≡ r → row_updated rest q new ≡ r
 update_taken us rest u q old new r is made all = ap (row_updated rest q) made ∙ sym (ap (λ (vs : List Update). row_updated vs q old) is) ∙ all
 
 -- no update is left
@@ -118,7 +121,8 @@ module _ (hs : List Held) (q : ℕ) where
   left_alone [] o none = refl
   left_alone (e ∷ es) o none = by (is_at (nat_cmp q) e.0) refl none (left_alone es o)
     where
-      by : (b : Bool) → is_at (nat_cmp q) e.0 ≡ b → cond b (Some e.1) (row_at es q) ≡ None → (row_at es q ≡ None → row_left (gone_in hs es) q o ≡ o) → row_left (gone_in hs (e ∷ es)) q o ≡ o
+      by : (b : Bool) → is_at (nat_cmp q) e.0 ≡ b → cond b (Some e.1) (row_at es q) ≡ None → (row_at es q ≡ None → row_left (gone_in hs es) q o ≡ o)
+          → row_left (gone_in hs (e ∷ es)) q o ≡ o
       by true here f later = absurd (let g : Some e.1 ≡ None = f in cc)
       by false other f later =
           elim (shown hs e.1.mark) as (λ (w : Option Placed). row_left (map gone_of (cond (not (is_some w)) (e ∷ filter (is_hidden hs) es) (filter (is_hidden hs) es))) q o ≡ o) [
@@ -152,13 +156,15 @@ module _ (hs : List Held) (q : ℕ) where
       none same = ap (row_at es) same ∙ none_above e.0 es (sorted_head nat_cmp e.0 (keys_of es) sorted)
 
       -- its own row, which stays
-      kept : (p : Placed) (t : Bool) → nat_eq e.0 q ≡ true → row_at es q ≡ None → is_other e.1 p ≡ t → row_updated (update_where t e.0 p ++ updates_in hs es) q (Some e.1) ≡ Some (updated e.1 p)
+      kept : (p : Placed) (t : Bool) → nat_eq e.0 q ≡ true → row_at es q ≡ None → is_other e.1 p ≡ t
+          → row_updated (update_where t e.0 p ++ updates_in hs es) q (Some e.1) ≡ Some (updated e.1 p)
       kept p true here lone is =
           ap (λ (b : Bool). row_updated (updates_in hs es) q (cond b (Some (updated e.1 p)) (Some e.1))) here ∙ updated_alone es (Some (updated e.1 p)) lone
       kept p false here lone is = updated_alone es (Some e.1) lone ∙ ap (λ (r : EmailRow). Some r) (same_row e.1 p is)
 
       -- another row
-      passed : (p : Placed) (t : Bool) (o : Option EmailRow) → nat_eq e.0 q ≡ false → row_updated (update_where t e.0 p ++ updates_in hs es) q o ≡ row_updated (updates_in hs es) q o
+      passed : (p : Placed) (t : Bool) (o : Option EmailRow) → nat_eq e.0 q ≡ false
+          → row_updated (update_where t e.0 p ++ updates_in hs es) q o ≡ row_updated (updates_in hs es) q o
       passed p true o other = ap (λ (b : Bool). row_updated (updates_in hs es) q (cond b (option_map (row_with (update_of e.0 p)) o) o)) other
       passed p false o other = refl
 
@@ -227,7 +233,8 @@ same_rows (x ∷ xs) (y ∷ ys) s t same =
     let P : ℕ × EmailRow → Type 0 = λ z. InOrder (z ∷ xs) in
     let Q : ℕ × EmailRow → Type 0 = λ z. (q : ℕ) → row_at (z ∷ xs) q ≡ row_at (y ∷ ys) q in
     ap (λ (z : ℕ × EmailRow). z ∷ xs) first
-    ∙ ap (λ (zs : Rows). y ∷ zs) (same_rows xs ys (sorted_tail nat_cmp x.0 (keys_of xs) s) (sorted_tail nat_cmp y.0 (keys_of ys) t) (one_later y xs ys (subst P first s) t (subst Q first same)))
+    ∙ ap (λ (zs : Rows). y ∷ zs)
+    (same_rows xs ys (sorted_tail nat_cmp x.0 (keys_of xs) s) (sorted_tail nat_cmp y.0 (keys_of ys) t) (one_later y xs ys (subst P first s) t (subst Q first same)))
 
 -- rows in order that have at each number what the pass leaves there are those that remain
 pub rows_remain : (hs : List Held) (es after : Rows) (gone : List Gone) (updates : List Update) → InOrder es → InOrder after → gone ≡ gone_in hs es → updates ≡ updates_in hs es

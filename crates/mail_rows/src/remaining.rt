@@ -127,8 +127,14 @@ fn note_shown(
     let moved = is_moved(row, folder, message);
     note_change(&mut found.changed, number, moved)?;
     let other = is_other(moved, row.uid, message.uid);
-    note_update(alloc, &mut found.updates, number, other, folder, message)?;
-    Ok(())
+    note_update(
+        alloc,
+        &mut found.updates,
+        number,
+        other,
+        folder,
+        message,
+    )
 }
 
 /// Notes what becomes of a row.
