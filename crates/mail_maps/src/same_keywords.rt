@@ -18,7 +18,17 @@ fn is_below(name: &[u8], other: &[u8]) -> bool
     name.cmp(other) == Ordering::Less
 }
 
-/// Whether each of the names is above the one before it, the first above this one.
+/// Whether each of the names is above the one before it.
+fn ascend(names: &[Bytes]) -> bool
+    ensures { result ≡ compared.ascend names.now }
+{
+    match names {
+        [] => true,
+        [first, rest @ ..] => ascend_from(first.as_slice(), rest),
+    }
+}
+
+/// The same, where this name stands before them.
 fn ascend_from(before: &[u8], names: &[Bytes]) -> bool
     ensures { result ≡ compared.ascend_from before.now names.now }
 {
@@ -33,15 +43,6 @@ fn ascend_from(before: &[u8], names: &[Bytes]) -> bool
     true
 }
 
-fn ascend(names: &[Bytes]) -> bool
-    ensures { result ≡ compared.ascend names.now }
-{
-    match names {
-        [] => true,
-        [first, rest @ ..] => ascend_from(first.as_slice(), rest),
-    }
-}
-
 /// Whether the keyword of a flag, where there is one, is among the names.
 fn has_keyword(names: &Names, flag: &[u8]) -> bool
     ensures { result ≡ compared.are_among names.now (keywords.keyword_of flag.now) }
@@ -52,6 +53,7 @@ fn has_keyword(names: &Names, flag: &[u8]) -> bool
     }
 }
 
+/// Whether each keyword of the flags is among the names.
 fn have_keywords(names: &Names, flags: &[Bytes]) -> bool
     ensures { result ≡ compared.are_among names.now (flat_map keywords.keyword_of flags.now) }
 {
@@ -73,6 +75,7 @@ fn is_keyword(name: &[u8], flag: &[u8]) -> bool
     }
 }
 
+/// Whether the name is a keyword of the flags.
 fn is_of_flags(name: &[u8], flags: &[Bytes]) -> bool
     ensures { result ≡ keywords.has_name name.now (flat_map keywords.keyword_of flags.now) }
 {
@@ -84,6 +87,7 @@ fn is_of_flags(name: &[u8], flags: &[Bytes]) -> bool
     false
 }
 
+/// Whether each of the names is.
 fn are_of_flags(names: &[Bytes], flags: &[Bytes]) -> bool
     ensures { result ≡ compared.are_among (flat_map keywords.keyword_of flags.now) names.now }
 {
