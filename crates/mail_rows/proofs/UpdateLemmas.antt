@@ -40,25 +40,24 @@ turned_test k q = grind (arith, common_steps)
 
 -- ---- one row
 
--- where the number is another's, an update leaves the row
-pub row_replaced : (rows : ℕ → Option EmailRow) (u : Update) (row : EmailRow) (q : ℕ) (mid new : Option EmailRow) → Some row ≡ rows u.number
-    → mid ≡ cond (is_at (nat_cmp u.number) q) None (rows q) → new ≡ cond (is_at (nat_cmp u.number) q) (Some (row_with u row)) mid → new ≡ row_if u q (rows q)
-row_replaced rows u row q mid new there out put =
-    put ∙ ap (cond (is_at (nat_cmp u.number) q) (Some (row_with u row))) out
-    ∙ ap (λ (b : Bool). cond b (Some (row_with u row)) (cond b None (rows q))) (number_test u.number q)
-    ∙ by (nat_eq u.number q) refl
+-- the row of the number is written
+pub row_written : (rows : ℕ → Option EmailRow) (u : Update) (row : EmailRow) (q : ℕ) (new : Option EmailRow) → Some row ≡ rows u.number
+    → new ≡ cond (is_at (nat_cmp u.number) q) (Some (row_with u row)) (rows q) → new ≡ row_if u q (rows q)
+row_written rows u row q new there put =
+    put ∙ ap (λ (b : Bool). cond b (Some (row_with u row)) (rows q)) (number_test u.number q) ∙ by (nat_eq u.number q) refl
   where
-    by : (b : Bool) → nat_eq u.number q ≡ b → cond b (Some (row_with u row)) (cond b None (rows q)) ≡ cond b (option_map (row_with u) (rows q)) (rows q)
+    by : (b : Bool) → nat_eq u.number q ≡ b → cond b (Some (row_with u row)) (rows q) ≡ cond b (option_map (row_with u) (rows q)) (rows q)
     by true same = ap (option_map (row_with u)) (there ∙ ap rows (eqb-true u.number q same))
     by false other = refl
 
--- nor is there anything to update where there is no row
-pub row_missing : (rows : ℕ → Option EmailRow) (u : Update) (q : ℕ) (new : Option EmailRow) → None ≡ rows u.number
-    → new ≡ cond (is_at (nat_cmp u.number) q) None (rows q) → new ≡ row_if u q (rows q)
-row_missing rows u q new none out = out ∙ ap (λ (b : Bool). cond b None (rows q)) (number_test u.number q) ∙ by (nat_eq u.number q) refl
+-- there is no row of the number
+pub row_absent : (rows : ℕ → Option EmailRow) (u : Update) (q : ℕ) → None ≡ rows u.number → rows q ≡ row_if u q (rows q)
+row_absent rows u q none = by (nat_eq u.number q) refl
   where
-    by : (b : Bool) → nat_eq u.number q ≡ b → cond b None (rows q) ≡ cond b (option_map (row_with u) (rows q)) (rows q)
-    by true same = ap (option_map (row_with u)) (none ∙ ap rows (eqb-true u.number q same))
+    by : (b : Bool) → nat_eq u.number q ≡ b → rows q ≡ cond b (option_map (row_with u) (rows q)) (rows q)
+    by true same =
+        let here : None ≡ rows q = none ∙ ap rows (eqb-true u.number q same) in
+        sym here ∙ ap (option_map (row_with u)) here
     by false other = refl
 
 -- ---- loops

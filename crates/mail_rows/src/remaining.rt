@@ -134,7 +134,8 @@ fn note_shown(
         other,
         folder,
         message,
-    )
+    )?;
+    Ok(())
 }
 
 /// Notes what becomes of a row.
@@ -189,45 +190,34 @@ fn forget_rows(rows: &mut BTreeMap<u64, EmailRow>, gone: &[Gone])
     }
 }
 
-/// Updates the row of a number.
-fn update_row(rows: &mut BTreeMap<u64, EmailRow>, update: Update) -> Result<(), AllocError>
-    ensures { OnOk result ((q : ℕ) → get nat_cmp rows.new q ≡ passes.row_if update q (get nat_cmp rows.old q)) }
+/// Updates the row of a number. It takes no memory.
+fn update_row(rows: &mut BTreeMap<u64, EmailRow>, update: Update)
+    ensures { (q : ℕ) → get nat_cmp rows.new q ≡ passes.row_if update q (get nat_cmp rows.old q) }
 {
-    match rows.remove(&update.number) {
-        Some(row) => {
-            let Update {
-                number,
-                folder,
-                uid,
-                keywords,
-            } = update;
-            let now = EmailRow {
-                folder,
-                uid,
-                keywords,
-                ..row
-            };
-            rows.insert(number, now)?;
-            Ok(())
-        }
-        None => Ok(()),
+    let Update {
+        number,
+        folder,
+        uid,
+        keywords,
+    } = update;
+    if let Some(row) = rows.get_mut(&number) {
+        row.folder = folder;
+        row.uid = uid;
+        row.keywords = keywords;
     }
 }
 
-fn update_rows(
-    rows: &mut BTreeMap<u64, EmailRow>,
-    updates: Vec<Update>,
-) -> Result<(), AllocError>
-    ensures { OnOk result ((q : ℕ) → get nat_cmp rows.new q ≡ passes.row_updated updates.items q (get nat_cmp rows.old q)) }
+/// Updates these rows. It takes no memory.
+fn update_rows(rows: &mut BTreeMap<u64, EmailRow>, updates: Vec<Update>)
+    ensures { (q : ℕ) → get nat_cmp rows.new q ≡ passes.row_updated updates.items q (get nat_cmp rows.old q) }
 {
     for update in updates {
-        update_row(rows, update)?;
+        update_row(rows, update);
     }
-    Ok(())
 }
 
 /// The rows whose marks are shown, as their messages are now. No header is read, and none copied: beside the pass it
-/// costs a look-up or two for each row that goes or changes.
+/// costs a look-up for each row that goes or changes.
 pub fn stays_of(
     alloc: Global,
     mirror: &Mirror,
@@ -245,7 +235,7 @@ pub fn stays_of(
     let mut rows = rows;
     let _before = rows.len();
     forget_rows(&mut rows, gone.as_slice());
-    update_rows(&mut rows, updates)?;
+    update_rows(&mut rows, updates);
     let _after = rows.len();
     Ok(Stays {
         rows,

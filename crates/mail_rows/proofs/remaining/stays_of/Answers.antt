@@ -9,5 +9,5 @@ pub returns-clause-rows : goal.returns-clause-rows
 returns-clause-rows c =
     rows_remain c.args.mirror.now.mail.folders c.args.rows.entries _ c.in_ok-gone.field-0.gone.items c.in_ok-gone.field-0.updates.items
     c.len-before.ensures.ordered c.len-after.ensures.ordered c.in_ok-gone.ensures.gone c.in_ok-gone.ensures.updates
-    (λ q. c.in_ok-update_rows.ensures q ∙ ap (row_updated c.in_ok-gone.field-0.updates.items q)
+    (λ q. c.update_rows.ensures q ∙ ap (row_updated c.in_ok-gone.field-0.updates.items q)
     (c.forget_rows.ensures q ∙ ap (λ (gs : List Gone). row_left gs q (get nat_cmp c.args.rows q)) c.as_slice.ensures.value))

@@ -11,7 +11,7 @@ loop-update-init c = λ q. ap (λ (us : List Update). row_updated us q (get nat_
 
 pub loop-update-preserved : goal.loop-update-preserved
 loop-update-preserved c = λ q. update_taken (into_iter_items c.loop-update.update-iterator) (into_iter_items c.next.new.self) c.in-Some.update q _ _ _
-    c.in-Some.ensures.steps.0 (c.in_ok-update_row.ensures q) (c.loop-update.invariant q)
+    c.in-Some.ensures.steps.0 (c.update_row.ensures q) (c.loop-update.invariant q)
 
 pub returns : goal.returns
 returns c = λ q. updates_end (into_iter_items c.loop-update.update-iterator) q _ _
