@@ -221,7 +221,7 @@ fn update_rows(rows: &mut BTreeMap<u64, EmailRow>, updates: Vec<Update>)
 pub fn stays_of(
     alloc: Global,
     mirror: &Mirror,
-    rows: BTreeMap<u64, EmailRow>,
+    mut rows: BTreeMap<u64, EmailRow>,
 ) -> Result<Stays, AllocError>
     ensures rows { IfOk result (λ s. s.rows.entries ≡ remaining.remaining mirror.now.mail.folders rows.entries) }
     ensures gone { IfOk result (λ s. s.gone.items ≡ passes.gone_in mirror.now.mail.folders rows.entries) }
@@ -232,7 +232,6 @@ pub fn stays_of(
         changed,
         updates,
     } = found_in(alloc, mirror, &rows)?;
-    let mut rows = rows;
     let _before = rows.len();
     forget_rows(&mut rows, gone.as_slice());
     update_rows(&mut rows, updates);
