@@ -1,7 +1,6 @@
 -- Rows that are taken out and updated by what the pass found are those that remain.
 use Rattle.std.proofs.Common.{◌≡◌, ℕ, ◌+◌, ◌<◌, ◌⊎◌, inl, inr, List, [], ◌∷◌, ◌++◌, Bool, true, false, not, ◌||◌, cond, nat_eq, map, filter, drop, length, get_or, refl, sym, ap}
-use Rattle.std.proofs.Common.{◌∙◌}
-use Rattle.std.proofs.Common.{subst, nat_cmp, arith, is_some, Option, Some, None, eqb-true}
+use Rattle.std.proofs.Common.{◌∙◌, subst, nat_cmp, arith, is_some, Option, Some, None, eqb-true}
 use Rattle.std.specs.declared.cmp.Ordering.TheVariants.{Less}
 use Rattle.std.specs.List.{AllByRecursion}
 use Rattle.std.specs.List.Sorted.{IsStrictlySortedBy}
