@@ -1,5 +1,5 @@
-//! Whether names are the keywords of flags, asked without memory.
-ghost use Rattle.std.specs.Prelude.{◌≡◌};
+//! Whether names are the keywords of flags, asked without memory where the flags are few.
+ghost use Rattle.std.specs.Prelude.{◌≡◌, IfOk};
 ghost use Rattle.std.specs.List.{flat_map};
 ghost use Rattle.std.specs.Ordering.{nat_cmp, is_lt};
 ghost use Rattle.std.specs.Cmp.Lexicographic.{slice_cmp};
@@ -7,9 +7,13 @@ ghost use Rattle.mail_maps.specs.Keywords as keywords;
 ghost use Rattle.mail_maps.specs.Serve.{same_names};
 ghost use Rattle.mail_maps.specs.reading.Compared as compared;
 
-use crate::keywords::{has_name, keyword_of};
+use crate::keywords::{has_name, keyword_of, keywords_of};
 use gate_world::{Bytes, Names};
+use std::alloc::{AllocError, Global};
 use std::cmp::Ordering;
+
+/// So many flags are looked through for each name.
+const FEW_FLAGS: usize = 16;
 
 /// Whether a name stands before another, by octets.
 fn is_below(name: &[u8], other: &[u8]) -> bool
@@ -99,11 +103,22 @@ fn are_of_flags(names: &[Bytes], flags: &[Bytes]) -> bool
     true
 }
 
-/// Whether the names are the keywords of flags. It takes no memory.
-pub fn are_keywords_of(names: &Names, flags: &Names) -> bool
+/// The same of a few flags. It takes no memory, and seeks each keyword among all names and each name among all flags.
+fn are_keywords_of_few(names: &Names, flags: &Names) -> bool
     ensures { result ≡ same_names names.now (keywords.keywords_of flags.now) }
 {
     ascend(names.as_slice())
         && have_keywords(names, flags.as_slice())
         && are_of_flags(names.as_slice(), flags.as_slice())
+}
+
+/// Whether the names are the keywords of flags. It takes memory for many flags alone, whose keywords are made then.
+pub fn are_keywords_of(alloc: Global, names: &Names, flags: &Names) -> Result<bool, AllocError>
+    ensures { IfOk result (λ b. b ≡ same_names names.now (keywords.keywords_of flags.now)) }
+{
+    if flags.len() <= FEW_FLAGS {
+        return Ok(are_keywords_of_few(names, flags));
+    }
+    let now = keywords_of(alloc, flags)?;
+    Ok(*names == now)
 }

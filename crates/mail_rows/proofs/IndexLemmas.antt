@@ -15,11 +15,12 @@ use Rattle.told_folder.specs.declared.message.Held.{Held}
 use Rattle.mail_maps.specs.declared.row.EmailRow.{EmailRow}
 use Rattle.mail_maps.specs.Rows.{Rows}
 use Rattle.mail_maps.specs.Visible.{Placed, shown}
+use Rattle.mail_rows.specs.NumberedRows.{AreBelow}
 use Rattle.mail_rows.specs.Remaining.{updated, remaining_row, put_remaining, remaining}
 use Rattle.mail_rows.specs.Joining.{row_member, members_of}
 use Rattle.mail_rows.specs.declared.remaining.Gone.{Gone}
 use Rattle.mail_rows.specs.reading.Stays.{gone_of, is_hidden, gone_in}
-use Rattle.mail_rows.specs.reading.Indexes.{number_after, number_of, AreBelow, AreIndexes, number_left, members_left}
+use Rattle.mail_rows.specs.reading.Indexes.{number_after, number_of, AreIndexes, number_left, members_left}
 use Rattle.mail_rows.proofs.RowLemmas.{is_here, below_is_not, less_is_below, Under, insert_last, under_more}
 
 -- ---- the numbers of marks, as Emails go

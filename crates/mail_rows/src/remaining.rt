@@ -61,10 +61,10 @@ pub struct Stays {
 }
 
 /// Whether what is served of the row changes: its folder or its keywords. A UID isn't served.
-fn is_moved(row: &EmailRow, folder: u64, message: &Message) -> bool
-    ensures { result ≡ passes.is_moved row.now (record { folder = folder; message = message.now }) }
+fn is_moved(row: &EmailRow, folder: u64, has_same: bool) -> bool
+    ensures { result ≡ (not (row.now.folder == folder) || not has_same) }
 {
-    row.folder != folder || !are_keywords_of(&row.keywords, &message.flags)
+    row.folder != folder || !has_same
 }
 
 /// Whether the row itself changes.
@@ -124,7 +124,8 @@ fn note_shown(
     ensures { OnOk result (passes.pass_of found.new
         ≡ passes.gather_where (Some (record { folder = folder; message = message.now })) (passes.pass_of found.old) (number, row.now)) }
 {
-    let moved = is_moved(row, folder, message);
+    let has_same = are_keywords_of(alloc, &row.keywords, &message.flags)?;
+    let moved = is_moved(row, folder, has_same);
     note_change(&mut found.changed, number, moved)?;
     let other = is_other(moved, row.uid, message.uid);
     note_update(
@@ -160,7 +161,7 @@ fn note_row(
     }
 }
 
-/// One pass over the rows. It takes memory for what goes or changes alone.
+/// One pass over the rows. It takes memory for what goes or changes, and for rows with many flags.
 fn found_in(
     alloc: Global,
     mirror: &Mirror,

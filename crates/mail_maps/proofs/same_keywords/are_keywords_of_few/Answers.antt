@@ -3,8 +3,8 @@ use Rattle.std.specs.List.{flat_map}
 use Rattle.mail_maps.specs.Keywords.{keyword_of}
 use Rattle.mail_maps.specs.reading.Compared.{ascend, are_among}
 use Rattle.mail_maps.proofs.SameKeywords.{all_hold, second_fails, first_fails}
-use Rattle.mail_maps.proofs.same_keywords.are_keywords_of.Goals as goal
-use Rattle.mail_maps.proofs.same_keywords.are_keywords_of.Goals.{then-ascend, else-ascend}
+use Rattle.mail_maps.proofs.same_keywords.are_keywords_of_few.Goals as goal
+use Rattle.mail_maps.proofs.same_keywords.are_keywords_of_few.Goals.{then-ascend, else-ascend}
 
 pub returns-then-have_keywords : goal.returns-then-have_keywords
 returns-then-have_keywords c =
