@@ -70,7 +70,8 @@ first_is (e ∷ es) base id s = by (shares base id e.1) refl (first_is es base i
       member = f.member;
       shares = record {
         there = ap (λ (q : Bool). cond q (Some e.1) (member_at es f.email)) (not_at e.0 f.email (above f.email f.member f.shares.there)) ∙ f.shares.there;
-        named = f.shares.named;
+        named =
+            f.shares.named;
         same = f.shares.same;
       };
       is = f.is;
@@ -89,7 +90,8 @@ first_is (e ∷ es) base id s = by (shares base id e.1) refl (first_is es base i
           shares = record {
             there = ap (λ (q : Bool). cond q (Some e.1) (member_at es e.0)) (number_test e.0 e.0 ∙ eq-eqb e.0 e.0 refl);
             named = p.0;
-            same = same_is e.1.base base p.1;
+            same =
+                same_is e.1.base base p.1;
           };
           is = refl;
           least = λ other m h.
@@ -101,12 +103,12 @@ first_is (e ∷ es) base id s = by (shares base id e.1) refl (first_is es base i
     by false k f = lift k (first_shared base id es) f
 
 -- the Thread that is sought among all members is that of the rule
-pub thread_is : (members : Members) (base : List ℕ) (number : ℕ) (ids : List (List ℕ)) → IsStrictlySortedBy nat_cmp (keys_of members)
-    → IsThreadOf members base number ids (thread_in members base number ids)
+pub thread_is : (members : Members) (base : List ℕ) (number : ℕ) (ids : List (List ℕ)) → IsStrictlySortedBy nat_cmp (keys_of members) → IsThreadOf members base number ids
+    (thread_in members base number ids)
 thread_is members base number [] s = Founds
 thread_is members base number (id ∷ ids) s = by (first_shared base id members) (first_is members base id s) (thread_is members base number ids s)
   where
-    by : (o : Option ℕ) → Finds members base id o → IsThreadOf members base number ids (thread_in members base number ids)
-        → IsThreadOf members base number (id ∷ ids) (unwrap_or o (thread_in members base number ids))
+    by : (o : Option ℕ) → Finds members base id o → IsThreadOf members base number ids (thread_in members base number ids) → IsThreadOf members base number (id ∷ ids)
+        (unwrap_or o (thread_in members base number ids))
     by None f r = Passes id ids (thread_in members base number ids) f r
     by (Some t) f r = let P : ℕ → Type 0 = λ x. IsThreadOf members base number (id ∷ ids) x in subst P (sym f.is) (Joins id ids f.email f.member f.shares f.least)

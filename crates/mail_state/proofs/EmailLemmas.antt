@@ -38,12 +38,15 @@ pub record InOrder (n : NumberedRows) : Type 0 where
   pub sorted : IsStrictlySortedBy nat_cmp (keys_of n.rows)
   pub under : Under n.next n.rows
 
+-- the rows of a sound history are in order
 pub in_order : (h : MailHistory) → IsSound h → InOrder h.numbered
 in_order h sound =
     let rows = h.numbered.rows in
     record {
       sorted = sound.ascending;
-      under = under_from h.numbered.next rows rows (all_in rows sound.ascending) (λ q some. sound.emails_below (place_now h.emails) q (λ e. some (was_none (row_at rows q) (sym (row_at-served email_of rows q) ∙ ap (λ (x : List (ℕ × Email)). row_at x q) (sym sound.emails_now) ∙ sound.emails.last q ∙ e))));
+      under = under_from h.numbered.next rows rows (all_in rows sound.ascending)
+          (λ q some. sound.emails_below (place_now h.emails) q (λ e. some (was_none (row_at rows q)
+          (sym (row_at-served email_of rows q) ∙ ap (λ (x : List (ℕ × Email)). row_at x q) (sym sound.emails_now) ∙ sound.emails.last q ∙ e))));
     }
   where
     was_none : (o : Option EmailRow) → option_map email_of o ≡ None → o ≡ None
@@ -59,17 +62,21 @@ all_in_order n (p ∷ ps) (e ∷ es) o =
 left_in_order : (n : NumberedRows) (hs : List Held) → InOrder n → InOrder (left n hs)
 left_in_order n hs o = record { sorted = sorted_remaining hs n.rows o.sorted; under = under_remaining hs n.next n.rows o.under }
 
+-- so are the rows that come of some mail
 pub taken_in_order : (n : NumberedRows) (hs : List Held) (after : NumberedRows) → InOrder n → TakesMail n hs after → InOrder after
 taken_in_order n hs after o takes =
     let P : NumberedRows → Type 0 = λ x. InOrder x in
     subst P (sym takes.after_is) (all_in_order (left n hs) (arrivals n hs) takes.envelopes (left_in_order n hs o))
 
+-- rows by ascending number have one row a number, as they are served too
 pub served_rows : {R V : Type 0} (serve : R → V) (es : List (ℕ × R)) → IsStrictlySortedBy nat_cmp (keys_of es) → AreRows (served serve es)
 served_rows serve es h = let S : List ℕ → Type 0 = λ ks. IsStrictlySortedBy nat_cmp ks in rows_sorted (served serve es) (subst S (sym (keys_of-map_values serve es)) h)
 
 -- ---- what is found below the next number
 
-pub taken_at : (n : NumberedRows) (hs : List Held) (after : NumberedRows) → InOrder n → TakesMail n hs after → (q : ℕ) → q < n.next → row_at after.rows q ≡ remaining_if hs (row_at n.rows q)
+-- below the next number nothing new comes: what is found there is what remains of what was
+pub taken_at : (n : NumberedRows) (hs : List Held) (after : NumberedRows) → InOrder n → TakesMail n hs after → (q : ℕ) → q < n.next
+    → row_at after.rows q ≡ remaining_if hs (row_at n.rows q)
 taken_at n hs after o takes q under =
     let more : Rows = added (left n hs) (arrivals n hs) takes.envelopes in
     ap (λ (x : NumberedRows). row_at x.rows q) takes.after_is
@@ -79,6 +86,7 @@ taken_at n hs after o takes q under =
     ∙ or_none (row_at (remaining hs n.rows) q)
     ∙ remaining_at hs n.rows o.sorted q
 
+-- the next number does not fall
 pub next_rises : (n : NumberedRows) (hs : List Held) (after : NumberedRows) → TakesMail n hs after → n.next ≤ after.next
 next_rises n hs after takes =
     let k : after.next ≡ n.next + length (added (left n hs) (arrivals n hs) takes.envelopes) =
@@ -87,6 +95,7 @@ next_rises n hs after takes =
 
 -- ---- new numbers
 
+-- a number that is not below the next one was never there
 pub never_there : {V : Type 0} (p : Past V) (next q place : ℕ) → IsEverBelow p next → next ≤ q → had_at p place q ≡ None
 never_there {V} p next q place below over =
     elim (had_at p place q) as (λ (o : Option V). had_at p place q ≡ o → o ≡ None) [
@@ -94,6 +103,7 @@ never_there {V} p next q place below over =
       | Some v ↦ λ is. absurd (let k : q < next = below place q (λ is_none. let f : Some v ≡ None = sym is ∙ is_none in cc) in omega (arith, k, over))
     ] refl
 
+-- a number is below another one, or is not
 pub under_or_over : (q k : ℕ) → (q < k) ⊎ (k ≤ q)
 under_or_over q k = elim (lt_same_gt q k) [ inl l ↦ inl l | inr r ↦ elim r [ inl g ↦ inr (omega (arith, g)) | inr e ↦ inr (omega (arith, e)) ] ]
 
@@ -117,7 +127,8 @@ emails_are_fresh h hs n sound takes q place gone comes = by (under_or_over q h.n
 
 -- ---- the same Email for good
 
-same_immutable_part : (hs : List Held) (o : Option EmailRow) (w : Option EmailRow) (u v : Email) → w ≡ remaining_if hs o → option_map email_of o ≡ Some u → option_map email_of w ≡ Some v → u.immutable ≡ v.immutable
+same_immutable_part : (hs : List Held) (o : Option EmailRow) (w : Option EmailRow) (u v : Email) → w ≡ remaining_if hs o → option_map email_of o ≡ Some u
+    → option_map email_of w ≡ Some v → u.immutable ≡ v.immutable
 same_immutable_part hs None w u v is f g = absurd (let k : None ≡ Some u = f in cc)
 same_immutable_part hs (Some r) w u v is f g = by (shown hs r.mark) (sym (ap (option_map email_of) is) ∙ g)
   where
@@ -130,6 +141,7 @@ same_immutable_part hs (Some r) w u v is f g = by (shown hs r.mark) (sym (ap (op
         let second : email_of (updated r p) ≡ v = let z : Some (email_of (updated r p)) ≡ Some v = k in cc in
         ap (λ (x : Email). x.immutable) (sym first) ∙ ap (λ (x : Email). x.immutable) second
 
+-- a number goes on to name the Email that it named
 pub keeps_immutable : (h : MailHistory) (hs : List Held) (n : NumberedRows) → IsSound h → TakesMail h.numbered hs n → AreRows (served_emails n.rows)
     → KeepsImmutable (gone_on email_tests h.emails (served_emails n.rows))
 keeps_immutable h hs n sound takes rows =
@@ -140,13 +152,15 @@ keeps_immutable h hs n sound takes rows =
 
     keeps : (q : ℕ) (u v : Email) → row_at h.emails.now q ≡ Some u → row_at (served_emails n.rows) q ≡ Some v → u.immutable ≡ v.immutable
     keeps q u v is_u is_v =
-        let was : option_map email_of (row_at h.numbered.rows q) ≡ Some u = sym (row_at-served email_of h.numbered.rows q) ∙ ap (λ (x : List (ℕ × Email)). row_at x q) (sym sound.emails_now) ∙ is_u in
+        let was : option_map email_of (row_at h.numbered.rows q) ≡ Some u = sym (row_at-served email_of h.numbered.rows q)
+        ∙ ap (λ (x : List (ℕ × Email)). row_at x q) (sym sound.emails_now) ∙ is_u in
         let now : option_map email_of (row_at n.rows q) ≡ Some v = sym (row_at-served email_of n.rows q) ∙ is_v in
         let under : q < h.numbered.next = found_under h.numbered.next h.numbered.rows order.under q (λ e. let f : None ≡ Some u = sym (ap (option_map email_of) e) ∙ was in cc) in
         same_immutable_part hs (row_at h.numbered.rows q) (row_at n.rows q) u v (taken_at h.numbered hs n order takes q under) was now
 
 -- ---- the next number
 
+-- the next number rises by no more than the touches of Emails
 pub email_count : (n : NumberedRows) (hs : List Held) (after : NumberedRows) → InOrder n → TakesMail n hs after → after.next ≤ n.next + length (email_touches n.rows after.rows)
 email_count n hs after o takes =
     let more : Rows = added (left n hs) (arrivals n hs) takes.envelopes in
@@ -157,15 +171,19 @@ email_count n hs after o takes =
     let one = length-append (map touch_of_removal (gone_in hs n.rows)) (changes_in hs n.rows ++ map touch_of_addition (keys_of more)) in
     let two = length-append (changes_in hs n.rows) (map touch_of_addition (keys_of more)) in
     let three : length (map touch_of_addition (keys_of more)) ≡ length more = length-map (keys_of more) touch_of_addition ∙ length-map more (λ (e : ℕ × EmailRow). e.0) in
-    let count : length (email_touches n.rows after.rows) ≡ length (map touch_of_removal (gone_in hs n.rows) ++ (changes_in hs n.rows ++ map touch_of_addition (keys_of more))) = ap length all in
+    let count : length (email_touches n.rows after.rows) ≡ length (map touch_of_removal (gone_in hs n.rows) ++ (changes_in hs n.rows ++ map touch_of_addition (keys_of more))) =
+    ap length all in
     omega (arith, next, count, one, two, three)
 
-pub emails_rise : (h : MailHistory) (rows : Rows) → IsSound h → place_now (gone_on email_tests h.emails (served_emails rows)) ≡ place_now h.emails + length (email_touches h.numbered.rows rows)
+-- the place of Emails rises by their touches
+pub emails_rise : (h : MailHistory) (rows : Rows) → IsSound h
+    → place_now (gone_on email_tests h.emails (served_emails rows)) ≡ place_now h.emails + length (email_touches h.numbered.rows rows)
 emails_rise h rows sound =
     rises email_tests h.emails (served_emails rows)
     ∙ ap (λ (es : List Entry). place_now h.emails + length es)
     (ap (λ (x : List (ℕ × Email)). advance_entries email_tests x (served_emails rows)) sound.emails_now ∙ entries_served email_of email_tests h.numbered.rows rows)
 
+-- the next number stays within one of the place of Emails
 pub next_bound : (h : MailHistory) (m : Mail) (n : NumberedRows) → IsSound h → TakesMail h.numbered m.folders n → n.next ≤ place_now (advanced h m n).emails + 1
 next_bound h m n sound takes =
     let count = email_count h.numbered m.folders n (in_order h sound) takes in

@@ -47,22 +47,27 @@ module _ (fs : List Folder) (rows : Rows) where
   box_rows [] a = tt
   box_rows (h ∷ hs) a = (no_box h.folder.number hs a.0, box_rows hs a.1)
 
+-- a number has a Mailbox where it has a folder
 pub mailboxes_have : (m : Mail) (rows : Rows) (q : ℕ) → is_some (row_at (served_mailboxes m rows) q) ≡ is_some (folder_in m.folders q)
 mailboxes_have m rows q = boxes_have (folders_of m.folders) rows m.folders q
 
+-- each folder has one row
 pub mailbox_rows : (m : Mail) (rows : Rows) → IsMail m → AreRows (served_mailboxes m rows)
 mailbox_rows m rows is = box_rows (folders_of m.folders) rows m.folders is.numbers
 
 -- ---- folders are below their counter
 
+-- a number that has a folder is below the folder counter
 pub folder_below : (next : ℕ) (hs : List Held) (q : ℕ) → AllBelow next hs → is_some (folder_in hs q) ≡ true → q < next
 folder_below next [] q below some = absurd (let f : false ≡ true = some in cc)
 folder_below next (h ∷ hs) q below some =
-    elim (nat_eq h.folder.number q) as (λ (b : Bool). nat_eq h.folder.number q ≡ b → is_some (option_map (λ (x : Held). x.folder) (cond b (Some h) (held_in hs q))) ≡ true → q < next) [
+    elim (nat_eq h.folder.number q) as (λ (b : Bool). nat_eq h.folder.number q ≡ b → is_some (option_map (λ (x : Held). x.folder) (cond b (Some h) (held_in hs q))) ≡ true
+    → q < next) [
       | true ↦ λ same e. let k : h.folder.number ≡ q = eqb-true h.folder.number q same in let l = below.0 in omega (arith, k, l)
       | false ↦ λ other e. folder_below next hs q below.1 e
     ] refl some
 
+-- an advance brings back no Mailbox that is gone
 pub mailboxes_are_fresh : (h : MailHistory) (m : Mail) (n : NumberedRows) → IsSound h → IsNextMail h.mail m → AreFresh h.mailboxes (served_mailboxes m n.rows)
 mailboxes_are_fresh h m n sound next q place gone comes =
     let old : is_some (folder_in h.mail.folders q) ≡ false =

@@ -1,6 +1,7 @@
 -- A state that took the rows of other mail, and noted their touches, stands for the history that went on.
-use Rattle.std.proofs.Common.{◌≡◌, ◌↔◌, ℕ, ◌+◌, ◌<◌, ◌≤◌, List, ◌++◌, Bool, true, not, nat_eq, refl, sym, ap, ◌∙◌, subst, arith, length, Option, None}
+use Rattle.std.proofs.Common.{◌≡◌, ◌↔◌, ℕ, ◌+◌, ◌<◌, ◌≤◌, List, ◌++◌, Bool, true, not, nat_eq, refl, sym, ap, ◌∙◌, subst, arith, length, Option, Some, None}
 use Rattle.std.specs.Bool.{IsTrue}
+use Rattle.std.specs.Option.{option_map}
 use Rattle.change_list.specs.Kept.{Kept, IsOf}
 use Rattle.change_list.specs.Advance.{Tests, advance_entries}
 use Rattle.change_list.specs.declared.entries.Entry.{Entry}
@@ -13,19 +14,22 @@ use Rattle.mail_maps.specs.Mailboxes.{mailboxes_of}
 use Rattle.mail_maps.specs.Serve.{mailbox_of, email_of, thread_of, mailbox_tests, email_tests, thread_tests}
 use Rattle.mail_rows.specs.NumberedRows.{NumberedRows}
 use Rattle.mail_rows.specs.Taking.{TakesMail}
+use Rattle.mail_rows.specs.RowTouches.{email_touches}
 use Rattle.mail_rows.proofs.Exact.{exact_mailbox, exact_email, exact_thread}
 use Rattle.mail_state.specs.declared.touches.Advance.{Advance}
+use Rattle.mail_state.specs.declared.error.StateError.{StateError}
+use Rattle.mail_state.specs.declared.error.StateError.TheVariants.{Spent}
 use Rattle.mail_state.specs.History.{MailHistory, IsNextMail, Advances, advanced}
 use Rattle.mail_state.specs.Sound.{IsSound}
 use Rattle.mail_state.specs.State.{ServedRows, ChangeLists, ServedState, IsStateOf, rows_of}
-use Rattle.mail_state.specs.Following.{Touches, touches_between, spent_place, spent_to, Moves, FollowsMail}
-use Rattle.mail_state.specs.reading.Noting.{Noted, AllNoted, StepsRows, moved_by}
+use Rattle.mail_state.specs.Following.{Touches, touches_between, spent_place, spent_to, AllNoted, StepsTo, Moves, FollowsMail}
+use Rattle.mail_state.specs.reading.Noting.{StepsRows, moved_by}
 use Rattle.mail_state.proofs.EmailLemmas.{emails_are_fresh}
 use Rattle.mail_state.proofs.ThreadLemmas.{threads_are_fresh}
 use Rattle.mail_state.proofs.FolderLemmas.{mailboxes_are_fresh}
 use Rattle.mail_state.proofs.SoundLemmas.{taken_sound}
 
-abbrev state_with : ServedState → ServedRows → ChangeLists → ServedState
+abbrev pub state_with : ServedState → ServedRows → ChangeLists → ServedState
 state_with s rows lists = record { epoch = s.epoch; rows = rows; lists = lists }
 
 stands_after : (s : ServedState) (h : MailHistory) (m : Mail) (n : NumberedRows) (lists : ChangeLists) → IsStateOf h s → IsNextMail h.mail m → TakesMail h.numbered m.folders n
@@ -69,11 +73,35 @@ moves s h m n stands = record {
   thread = rose _ _ _ (place_rises thread_of thread_tests s.rows.threads (threads_of n.rows) s.lists.thread h.threads stands.threads);
 }
 
+-- ---- the rows of other mail, with the touches that lead to them
+
+-- rows, boxes and Threads of the mail, with their touches, are a step
+pub steps_rows : (before : ServedRows) (m : Mail) (n : NumberedRows) (boxes : List (ℕ × MailboxRow)) (threads : List (ℕ × List ℕ)) (t : Touches)
+    → TakesMail before.numbered m.folders n → boxes ≡ mailboxes_of m.folders n.rows → threads ≡ threads_of n.rows
+    → t.mailbox ≡ advance_entries (tests_of mailbox_of mailbox_tests) before.mailboxes boxes
+    → t.email ≡ email_touches before.numbered.rows n.rows
+    → t.thread ≡ advance_entries (tests_of thread_of thread_tests) before.threads threads
+    → n.next ≤ before.numbered.next + length t.email → StepsRows before m (record { numbered = n; mailboxes = boxes; threads = threads }) t
+steps_rows before m n boxes threads t takes boxes_are threads_are mailbox email thread counted = record {
+  takes = takes;
+  rows = ap (λ (x : List (ℕ × MailboxRow)). record { numbered = n; mailboxes = x; threads = threads }) boxes_are
+      ∙ ap (λ (x : List (ℕ × List ℕ)). record { numbered = n; mailboxes = mailboxes_of m.folders n.rows; threads = x }) threads_are;
+  touches = ap (λ (x : List Entry). record { mailbox = x; email = t.email; thread = t.thread }) mailbox
+      ∙ ap (λ (x : List Entry). record { mailbox = advance_entries (tests_of mailbox_of mailbox_tests) before.mailboxes boxes; email = x; thread = t.thread }) email
+      ∙ ap (λ (x : List Entry). record {
+        mailbox = advance_entries (tests_of mailbox_of mailbox_tests) before.mailboxes boxes;
+        email = email_touches before.numbered.rows n.rows;
+        thread = x;
+      }) thread;
+  counted = counted;
+}
+
 -- ---- the whole step
 
 touches_are : (before : ServedRows) (m : Mail) (now : ServedRows) (t : Touches) → StepsRows before m now t → t ≡ touches_between before (rows_of m now.numbered)
 touches_are before m now t steps = steps.touches ∙ ap (touches_between before) steps.rows
 
+-- the state stands for the history that went on to the mail
 pub follows : (s : ServedState) (h : MailHistory) (m : Mail) (rows : ServedRows) (t : Touches) (lists : ChangeLists) → IsStateOf h s → IsNextMail h.mail m
     → StepsRows s.rows m rows t → AllNoted s.lists lists t → FollowsMail h m (state_with s rows lists) (moved_by t)
 follows s h m rows t lists stands next steps noted =
@@ -91,9 +119,31 @@ follows s h m rows t lists stands next steps noted =
       moves = subst M (sym are) (moves s h m n stands);
     }
 
-pub spent_is : (s : ServedState) (m : Mail) (rows : ServedRows) (t : Touches) → StepsRows s.rows m rows t → spent_place s.lists t ≡ spent_to s m rows.numbered
-spent_is s m rows t steps = ap (spent_place s.lists) (touches_are s.rows m rows t steps)
+-- the state has the rows of the mail, and has noted the touches
+pub steps_to : (s : ServedState) (m : Mail) (rows : ServedRows) (t : Touches) (lists : ChangeLists) → StepsRows s.rows m rows t → AllNoted s.lists lists t
+    → StepsTo s m (state_with s rows lists)
+steps_to s m rows t lists steps noted =
+    let N : Touches → Type 0 = λ x. AllNoted s.lists lists x in
+    record { epoch = refl; takes = steps.takes; rows = steps.rows; noted = subst N steps.touches noted }
 
-pub next_holds : (s : ServedState) (m : Mail) (rows : ServedRows) (t : Touches) (lists : ChangeLists) → s.rows.numbered.next ≤ s.lists.email.place + 1
-    → StepsRows s.rows m rows t → AllNoted s.lists lists t → rows.numbered.next ≤ lists.email.place + 1
-next_holds s m rows t lists was steps noted = let k = steps.counted in let l = noted.email.place in omega (arith, was, k, l)
+-- ---- room
+
+spent_is : (s : ServedState) (m : Mail) (rows : ServedRows) (t : Touches) → StepsRows s.rows m rows t → spent_to s m rows.numbered ≡ spent_place s.lists t
+spent_is s m rows t steps = sym (ap (spent_place s.lists) (touches_are s.rows m rows t steps))
+
+-- no place would pass the last one
+abbrev pub HasRoom : ServedState → Mail → Type 0
+HasRoom s m = (n : NumberedRows) × TakesMail s.rows.numbered m.folders n × (spent_to s m n ≡ None)
+
+-- touches that have room
+pub has_room : (s : ServedState) (m : Mail) (rows : ServedRows) (t : Touches) → StepsRows s.rows m rows t → spent_place s.lists t ≡ None → HasRoom s m
+has_room s m rows t steps room = (rows.numbered, steps.takes, spent_is s m rows t steps ∙ room)
+
+-- the refusal names a place that would
+abbrev pub HasNoRoom : StateError → ServedState → Mail → Type 0
+HasNoRoom e s m = (n : NumberedRows) × TakesMail s.rows.numbered m.folders n × (option_map Spent (spent_to s m n) ≡ Some e)
+
+-- touches that have none
+pub has_no_room : (e : StateError) (s : ServedState) (m : Mail) (rows : ServedRows) (t : Touches) → StepsRows s.rows m rows t → option_map Spent (spent_place s.lists t) ≡ Some e
+    → HasNoRoom e s m
+has_no_room e s m rows t steps spent = (rows.numbered, steps.takes, ap (option_map Spent) (spent_is s m rows t steps) ∙ spent)

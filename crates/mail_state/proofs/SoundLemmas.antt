@@ -1,5 +1,7 @@
 -- Each history is sound, and no number is used twice.
 use Rattle.std.proofs.Common.{◌≡◌, ◌≢◌, ℕ, ◌+◌, ◌<◌, ◌≤◌, List, [], ◌∷◌, take, refl, sym, ap, ◌∙◌, subst, arith, nat_cmp, zero, suc, All, Option, Some, None}
+use Rattle.std.proofs.Common.{◌↔◌, ◌&&◌, Bool, true, false}
+use Rattle.std.specs.Bool.{IsTrue}
 use Rattle.std.specs.List.Sorted.{IsStrictlySortedBy}
 use Rattle.std.specs.Map.{keys_of}
 use Rattle.std.specs.Option.{option_map}
@@ -15,16 +17,30 @@ use Rattle.told_folder.specs.Folders.{folder_in}
 use Rattle.told_folder.specs.declared.message.Folder.{Folder}
 use Rattle.told_folder.specs.declared.message.Held.{Held}
 use Rattle.told_mail.specs.Mail.{Mail, IsMail}
-use Rattle.mail_maps.specs.Serve.{Immutable, Email, email_of, mailbox_tests, email_tests, thread_tests}
+use Rattle.mail_maps.specs.Serve.{Immutable, Email, ServedMailbox, email_of, same_counts, same_but_counts, mailbox_tests, email_tests, thread_tests}
 use Rattle.mail_rows.specs.NumberedRows.{NumberedRows}
 use Rattle.mail_rows.specs.Taking.{TakesMail}
+use Rattle.mail_rows.proofs.MailLaws.{emails_are_shown}
 use Rattle.mail_rows.proofs.OneTake.{one_take}
 use Rattle.mail_rows.proofs.Exact.{exact_mailbox, exact_email, exact_thread}
 use Rattle.mail_rows.proofs.RowLemmas.{found_under}
-use Rattle.mail_state.specs.History.{MailHistory, IsReached, Begins, Goes, IsNextMail, Advances, advanced, first_mail, first_history, served_mailboxes, served_emails, served_threads}
+use Rattle.mail_state.specs.History.{
+  MailHistory,
+  IsReached,
+  Begins,
+  Goes,
+  IsNextMail,
+  Advances,
+  advanced,
+  first_mail,
+  first_history,
+  served_mailboxes,
+  served_emails,
+  served_threads,
+}
 use Rattle.mail_state.specs.Sound.{IsSound, IsRowOf, KeepsImmutable}
 use Rattle.mail_state.specs.State.{IsStateOf, first_state}
-use Rattle.mail_state.specs.Laws.{ComesNew, UsesOnce, CopiesStay, KeepsCopies}
+use Rattle.mail_state.specs.Laws.{ComesNew, UsesOnce, CopiesStay, KeepsCopies, HasCopyLaws}
 use Rattle.mail_state.proofs.EmailLemmas.{InOrder, in_order, taken_in_order, served_rows, next_rises, next_bound, emails_are_fresh, keeps_immutable}
 use Rattle.mail_state.proofs.ThreadLemmas.{thread_rows, threads_have, threads_are_fresh, threads_below_then, some_is}
 use Rattle.mail_state.proofs.FolderLemmas.{mailbox_rows, mailboxes_have, mailboxes_are_fresh, folder_below}
@@ -53,6 +69,7 @@ no_mail_is = record {
   numbers_below = tt;
 }
 
+-- the first history is sound
 pub first_is_sound : (epoch : ℕ) → IsSound (first_history epoch)
 first_is_sound epoch = record {
   is_mail = no_mail_is;
@@ -69,11 +86,13 @@ first_is_sound epoch = record {
   ascending = nothing_sorted;
   rows = All-nil (IsRowOf []);
   marks = tt;
+  marks_shown = λ mark. refl;
   immutable = λ i j q u v a b. absurd (let f : None ≡ Some u = sym (none_at i q) ∙ a in cc);
 }
 
 -- ---- going on
 
+-- a sound history goes on to a sound one
 pub taken_sound : (h : MailHistory) (m : Mail) (n : NumberedRows) → IsSound h → IsNextMail h.mail m → TakesMail h.numbered m.folders n → IsSound (advanced h m n)
 taken_sound h m n sound next takes =
     let order : InOrder n = taken_in_order h.numbered m.folders n (in_order h sound) takes in
@@ -99,27 +118,32 @@ taken_sound h m n sound next takes =
       ascending = order.sorted;
       rows = rows_are h.mail.folders m h.numbered n next.is_mail sound.rows takes;
       marks = marks_apart m h.numbered n next.is_mail sound.marks takes;
+      marks_shown = λ mark. emails_are_shown h.numbered m.folders n mark takes;
       immutable = keeps_immutable h m.folders n sound takes emails;
     }
   where
     no_email : (q : ℕ) → row_at n.rows q ≡ None → row_at (served_emails n.rows) q ≡ None
     no_email q e = row_at-served email_of n.rows q ∙ ap (option_map email_of) e
 
+-- the same of any history that it advances to
 pub advances_keep_sound : (h after : MailHistory) (m : Mail) → IsSound h → IsNextMail h.mail m → Advances h m after → IsSound after
 advances_keep_sound h after m sound next a = let P : MailHistory → Type 0 = λ x. IsSound x in subst P (sym a.after_is) (taken_sound h m after.numbered sound next a.takes)
 
+-- each history that there is is sound
 pub all_are_sound : (h : MailHistory) → IsReached h → IsSound h
 all_are_sound _ (Begins epoch) = first_is_sound epoch
 all_are_sound _ (Goes h after m reached next a) = advances_keep_sound h after m (all_are_sound h reached) next a
 
 -- ---- one step, and no number twice
 
+-- a history goes on to some mail in one way
 pub one_advance : (h : MailHistory) (m : Mail) (a b : MailHistory) → Advances h m a → Advances h m b → a ≡ b
 one_advance h m a b g k = g.after_is ∙ ap (advanced h m) (one_take h.numbered m.folders a.numbered b.numbered g.takes k.takes) ∙ sym k.after_is
 
 comes_new : {V : Type 0} (tests : Tests V) (p : Past V) (new : List (ℕ × V)) → IsPast p → IsPast (gone_on tests p new) → AreFresh p new → ComesNew p (gone_on tests p new)
 comes_new tests p new past then fresh q gone comes place = fresh q place (past.last q ∙ gone) (λ none. comes (sym (then.last q) ∙ none))
 
+-- no number is used twice
 pub numbers_are_new : (h after : MailHistory) (m : Mail) → IsSound h → IsNextMail h.mail m → Advances h m after → UsesOnce h after
 numbers_are_new h after m sound next a =
     let P : MailHistory → Type 0 = λ k. UsesOnce h k in
@@ -131,6 +155,7 @@ numbers_are_new h after m sound next a =
       threads = comes_new thread_tests h.threads (served_threads n.rows) sound.threads then.threads (threads_are_fresh h m.folders n sound a.takes);
     })
 
+-- a number never names two marks
 pub one_mark : (h : MailHistory) (i j q : ℕ) (u v : Email) → IsSound h → had_at h.emails i q ≡ Some u → had_at h.emails j q ≡ Some v → u.immutable.mark ≡ v.immutable.mark
 one_mark h i j q u v sound at_i at_j = ap (λ (b : Immutable). b.mark) (sound.immutable i j q u v at_i at_j)
 
@@ -139,6 +164,7 @@ one_mark h i j q u v sound at_i at_j = ap (λ (b : Immutable). b.mark) (sound.im
 stays : {V : Type 0} (tests : Tests V) (p : Past V) (new : List (ℕ × V)) → CopiesStay p (gone_on tests p new)
 stays tests p new place copy within is = copies.copies_stay p.touches (advance tests p.now new) place copy within is
 
+-- a copy at a place stays one
 pub copies_stay_right : (h after : MailHistory) (m : Mail) → Advances h m after → KeepsCopies h after
 copies_stay_right h after m a =
     let P : MailHistory → Type 0 = λ k. KeepsCopies h k in
@@ -148,11 +174,39 @@ copies_stay_right h after m a =
       threads = stays thread_tests h.threads (served_threads after.numbered.rows);
     })
 
+-- the laws of copies are those of any history
+pub copy_laws : {V : Type 0} (p : Past V) → HasCopyLaws p
+copy_laws {V} p = record {
+  follow = copies.copies_follow p.touches;
+  last = λ copy. (copies.last_copy_is_map p.touches copy, λ all. record { no_other = λ q none. all q ∙ none; agrees = λ q untouched. all q });
+  takes = copies.copies_take p.touches;
+  drops = copies.copies_drop p.touches;
+  steps = copies.steps_keep p.touches;
+  ends = copies.steps_end p.touches;
+}
+
+-- ---- counts alone
+
+both : (a b : Bool) → (a && b) ≡ true → (a ≡ true) × (b ≡ true)
+both true b e = (refl, e)
+both false b e = absurd (let f : false ≡ true = e in cc)
+
+same_itself : (v : ServedMailbox) → same_counts v.counts v.counts ≡ true
+same_itself v = (both (same_but_counts v v) (same_counts v.counts v.counts) ((exact_mailbox v v).1 refl)).1
+
+-- two Mailboxes are the same but for counts where one with the other's counts is the other
+pub but_for_counts : (u v : ServedMailbox) → IsTrue (mailbox_tests.counts u v) ↔ (record u { counts = v.counts } ≡ v)
+but_for_counts u v = (
+  (λ h. (exact_mailbox (record u { counts = v.counts }) v).0 (ap (λ (b : Bool). b && same_counts v.counts v.counts) h ∙ same_itself v)),
+  (λ e. (both (same_but_counts u v) (same_counts v.counts v.counts) ((exact_mailbox (record u { counts = v.counts }) v).1 e)).0),
+)
+
 -- ---- the first state
 
 none_kept : IsOf none_yet []
 none_kept = record { place = refl; entries = refl }
 
+-- a state without mail stands for the first history
 pub first_stands : (epoch : ℕ) → IsStateOf (first_history epoch) (first_state epoch)
 first_stands epoch = record {
   sound = first_is_sound epoch;
@@ -165,6 +219,7 @@ first_stands epoch = record {
 
 -- ---- mail after mail
 
+-- what comes after mail that a history can go on to is mail that it can go on to
 pub next_mail_joins : (a b c : Mail) → IsNextMail a b → IsNextMail b c → IsNextMail a c
 next_mail_joins a b c f g = record {
   is_mail = g.is_mail;

@@ -1,5 +1,35 @@
 -- Threads as mail changes: no Thread comes back that is gone, and each is below the next number.
-use Rattle.std.proofs.Common.{◌≡◌, ◌≢◌, ℕ, ◌+◌, ◌<◌, ◌≤◌, List, [], ◌∷◌, ◌++◌, Bool, true, false, cond, nat_eq, map, refl, sym, ap, ◌∙◌, subst, arith, nat_cmp, Option, Some, None, is_some, eqb-true, eq-eqb}
+use Rattle.std.proofs.Common.{
+  ◌≡◌,
+  ◌≢◌,
+  ℕ,
+  ◌+◌,
+  ◌<◌,
+  ◌≤◌,
+  List,
+  [],
+  ◌∷◌,
+  ◌++◌,
+  Bool,
+  true,
+  false,
+  cond,
+  nat_eq,
+  map,
+  refl,
+  sym,
+  ap,
+  ◌∙◌,
+  subst,
+  arith,
+  nat_cmp,
+  Option,
+  Some,
+  None,
+  is_some,
+  eqb-true,
+  eq-eqb,
+}
 use Rattle.std.specs.declared.cmp.Ordering.{Ordering}
 use Rattle.std.specs.declared.cmp.Ordering.TheVariants.{Less, Equal, Greater}
 use Rattle.std.specs.Ordering.{match_ordering}
@@ -72,12 +102,15 @@ row_has : {V : Type 0} (f : ℕ → V) (xs : List ℕ) (q : ℕ) → is_some (ro
 row_has f [] q = refl
 row_has {V} f (x ∷ xs) q =
     ap (λ (b : Bool). is_some (cond b (Some (f x)) (row_at (map {B = ℕ × V} (λ t. (t, f t)) xs) q))) (key_test q x)
-    ∙ elim (nat_eq x q) as (λ (b : Bool). is_some (cond b (Some (f x)) (row_at (map {B = ℕ × V} (λ t. (t, f t)) xs) q)) ≡ cond b true (has xs q)) [ true ↦ refl | false ↦ row_has f xs q ]
+    ∙ elim (nat_eq x q) as (λ (b : Bool). is_some (cond b (Some (f x)) (row_at (map {B = ℕ × V} (λ t. (t, f t)) xs) q)) ≡ cond b true (has xs q))
+    [ true ↦ refl | false ↦ row_has f xs q ]
 
+-- serving keeps which numbers are there
 pub served_has : {R V : Type 0} (s : R → V) (rows : List (ℕ × R)) (q : ℕ) → is_some (row_at (served s rows) q) ≡ is_some (row_at rows q)
 served_has s [] q = refl
 served_has s (e ∷ es) q =
-    elim (is_at (nat_cmp q) e.0) as (λ b. is_some (cond b (Some (s e.1)) (row_at (served s es) q)) ≡ is_some (cond b (Some e.1) (row_at es q))) [ true ↦ refl | false ↦ served_has s es q ]
+    elim (is_at (nat_cmp q) e.0) as (λ b. is_some (cond b (Some (s e.1)) (row_at (served s es) q)) ≡ is_some (cond b (Some e.1) (row_at es q)))
+    [ true ↦ refl | false ↦ served_has s es q ]
 
 -- whether an Email is in the Thread
 abbrev pub has_thread : Rows → ℕ → Bool
@@ -88,6 +121,7 @@ mapped_has : (rows : Rows) (q : ℕ) → has (map (λ (e : ℕ × EmailRow). e.1
 mapped_has [] q = refl
 mapped_has (e ∷ es) q = ap (λ (b : Bool). cond (nat_eq e.1.thread q) true b) (mapped_has es q)
 
+-- a Thread is served where an Email is in it
 pub threads_have : (rows : Rows) (q : ℕ) → is_some (row_at (served_threads rows) q) ≡ has_thread rows q
 threads_have rows q =
     served_has thread_of (threads_of rows) q ∙ row_has (emails_in rows) (thread_numbers rows) q
@@ -96,10 +130,12 @@ threads_have rows q =
 put_has : (number : ℕ) (row : EmailRow) (to : Option Placed) (more rest : Rows) (q : ℕ) → (has_thread rest q ≡ false → has_thread more q ≡ false)
     → has_thread ((number, row) ∷ rest) q ≡ false → has_thread (put_remaining number (option_map (updated row) to) more) q ≡ false
 put_has number row None more rest q f e =
-    f (elim (nat_eq row.thread q) as (λ (b : Bool). cond b true (has_thread rest q) ≡ false → has_thread rest q ≡ false) [ true ↦ λ g. absurd (let k : true ≡ false = g in cc) | false ↦ λ g. g ] e)
+    f (elim (nat_eq row.thread q) as (λ (b : Bool). cond b true (has_thread rest q) ≡ false → has_thread rest q ≡ false)
+    [ true ↦ λ g. absurd (let k : true ≡ false = g in cc) | false ↦ λ g. g ] e)
 put_has number row (Some p) more rest q f e =
     elim (nat_eq row.thread q) as (λ (b : Bool). cond b true (has_thread rest q) ≡ false → cond b true (has_thread more q) ≡ false) [ true ↦ λ g. g | false ↦ f ] e
 
+-- what remains is in no Thread in which nothing was
 pub remaining_has : (hs : List Held) (rows : Rows) (q : ℕ) → has_thread rows q ≡ false → has_thread (remaining hs rows) q ≡ false
 remaining_has hs [] q e = refl
 remaining_has hs (r ∷ rows) q e = put_has r.0 r.1 (shown hs r.1.mark) (remaining hs rows) rows q (remaining_has hs rows q) e
@@ -108,13 +144,15 @@ remaining_has hs (r ∷ rows) q e = put_has r.0 r.1 (shown hs r.1.mark) (remaini
 first_there : (base id : List ℕ) (rows : Rows) (t : ℕ) → first_shared base id (members_of rows) ≡ Some t → has_thread rows t ≡ true
 first_there base id [] t e = absurd (let f : None ≡ Some t = e in cc)
 first_there base id (r ∷ rows) t e =
-    elim (shares base id (row_member r.1)) as (λ (b : Bool). cond b (Some r.1.thread) (first_shared base id (members_of rows)) ≡ Some t → cond (nat_eq r.1.thread t) true (has_thread rows t) ≡ true) [
+    elim (shares base id (row_member r.1)) as (λ (b : Bool). cond b (Some r.1.thread) (first_shared base id (members_of rows)) ≡ Some t
+    → cond (nat_eq r.1.thread t) true (has_thread rows t) ≡ true) [
       | true ↦ λ f. ap (λ (b : Bool). cond b true (has_thread rows t)) (eq-eqb r.1.thread t (let g : Some r.1.thread ≡ Some t = f in cc))
       | false ↦ λ f. ap (λ (b : Bool). cond (nat_eq r.1.thread t) true b) (first_there base id rows t f)
           ∙ elim (nat_eq r.1.thread t) as (λ (b : Bool). cond b true true ≡ true) [ true ↦ refl | false ↦ refl ]
     ] e
 
-thread_there : (rows : Rows) (base : List ℕ) (number : ℕ) (ids : List (List ℕ)) → has_thread rows (thread_in (members_of rows) base number ids) ≡ false → thread_in (members_of rows) base number ids ≡ number
+thread_there : (rows : Rows) (base : List ℕ) (number : ℕ) (ids : List (List ℕ)) → has_thread rows (thread_in (members_of rows) base number ids) ≡ false
+    → thread_in (members_of rows) base number ids ≡ number
 thread_there rows base number [] e = refl
 thread_there rows base number (id ∷ ids) e = by (first_shared base id (members_of rows)) refl (thread_there rows base number ids) e
   where
@@ -151,14 +189,17 @@ all_threads n (p ∷ ps) (e ∷ es) q no_one some =
 none_is : {V : Type 0} (o : Option V) → o ≡ None → is_some o ≡ false
 none_is o e = ap is_some e
 
+-- what is not None is Some
 pub some_is : {V : Type 0} (o : Option V) → o ≢ None → is_some o ≡ true
 some_is None e = absurd (e refl)
 some_is (Some v) e = refl
 
+-- what is Some is not None
 pub some_not : {V : Type 0} (o : Option V) → is_some o ≡ true → o ≢ None
 some_not None e f = let g : false ≡ true = e in cc
 some_not (Some v) e f = cc
 
+-- an advance brings back no Thread that is gone
 pub threads_are_fresh : (h : MailHistory) (hs : List Held) (n : NumberedRows) → IsSound h → TakesMail h.numbered hs n → AreFresh h.threads (served_threads n.rows)
 threads_are_fresh h hs n sound takes q place gone comes =
     let old : has_thread h.numbered.rows q ≡ false =
@@ -207,6 +248,7 @@ threads_below_now h sound q some =
     sound.threads_below (place_now h.threads) q (λ e. some_not (row_at (served_threads h.numbered.rows) q) (threads_have h.numbered.rows q ∙ some)
     (ap (λ (x : List (ℕ × List ℕ)). row_at x q) (sym sound.threads_now) ∙ sound.threads.last q ∙ e))
 
+-- after a step each Thread is below the next number
 pub threads_below_then : (h : MailHistory) (hs : List Held) (n : NumberedRows) → IsSound h → TakesMail h.numbered hs n → ThreadsBelow n
 threads_below_then h hs n sound takes =
     let P : NumberedRows → Type 0 = λ x. ThreadsBelow x in
@@ -266,5 +308,6 @@ module _ {V : Type 0} (f : ℕ → V) where
   ascending_rows [] a = tt
   ascending_rows (x ∷ xs) a = (none_above x xs a.0, ascending_rows xs a.1)
 
+-- each Thread has one row
 pub thread_rows : (rows : Rows) → AreRows (served_threads rows)
 thread_rows rows = ascending_rows (emails_in rows) (thread_numbers rows) (sorted_ascending [] (map (λ (e : ℕ × EmailRow). e.1.thread) rows) tt)

@@ -11,6 +11,7 @@ pub enum StateError {
     /// The place of a type would pass 2^53 - 1.
     #[error("the place {place} can't rise so far")]
     Spent { place: u64 },
+    /// There was no memory.
     #[error("out of memory")]
     Memory,
 }

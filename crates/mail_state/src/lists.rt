@@ -1,24 +1,24 @@
 // The last touches of each type.
 ghost use Rattle.std.specs.Prelude.{◌≡◌, ◌<◌, ◌^◌, IfOk, None, length};
 ghost use Rattle.mail_state.specs.State.{first_lists};
-ghost use Rattle.mail_state.specs.Following.{full_place, spent_place};
-ghost use Rattle.mail_state.specs.reading.Noting.{AllNoted, AnswersSpent, Noted};
+ghost use Rattle.mail_state.specs.Following.{AllNoted, Noted, full_place, spent_place};
+ghost use Rattle.mail_state.specs.reading.Noting.{AnswersSpent};
 
 use crate::StateError;
 use crate::touches::StepTouches;
-use change_list::{ChangeList, Entry};
+use change_list::{ChangeList, Entry, MAX_PLACE};
 use served_maps::note::note;
 use std::alloc::{AllocError, Global};
 use std::marker::Model;
 
-/// The greatest place of a type.
-const GREATEST_PLACE: u64 = 9007199254740991;
-
 /// The change lists of the three types.
 #[derive(Drop)]
 pub struct TypeLists {
+    /// Of Mailboxes.
     pub mailbox: ChangeList,
+    /// Of Emails.
     pub email: ChangeList,
+    /// Of Threads.
     pub thread: ChangeList,
 }
 
@@ -30,13 +30,13 @@ impl Model for TypeLists {
     ghost view = { λ a. record { mailbox = a.mailbox; email = a.email; thread = a.thread } };
 }
 
-/// The place of the list, where so many touches more would pass the greatest one.
+/// The place of the list, where so many touches more would pass the last one.
 fn full_place(list: &ChangeList, touches: &[Entry]) -> Option<u64>
     requires { length touches.now < 2 ^ 63 }
     ensures { result ≡ full_place list.now touches.now }
 {
     let place = list.place();
-    if place + touches.len() as u64 > GREATEST_PLACE {
+    if place + touches.len() as u64 > MAX_PLACE {
         Some(place)
     } else {
         None
@@ -82,7 +82,7 @@ impl TypeLists {
         full_place(&self.thread, touches.thread.as_slice())
     }
 
-    /// Notes the touches of each type, unless a place would pass the greatest one. It takes no memory.
+    /// Notes the touches of each type, unless a place would pass the last one. It takes no memory.
     pub fn noting(self, touches: &StepTouches) -> Result<TypeLists, StateError>
         ensures noted { IfOk result (λ l. AllNoted self l touches.now) }
         ensures spent { AnswersSpent result (spent_place self touches.now) }

@@ -15,8 +15,11 @@ use told_mail::Mirror;
 /// The rows of the three types, by number.
 #[derive(Drop)]
 pub struct TypeRows {
+    /// Each Email, with its UID.
     pub emails: Emails,
+    /// Each folder as a Mailbox, with its full name.
     pub mailboxes: BTreeMap<u64, MailboxRow>,
+    /// Each Thread, with the numbers of its Emails.
     pub threads: BTreeMap<u64, Thread>,
 }
 

@@ -8,16 +8,22 @@ use std::marker::Model;
 /// The types whose place rose.
 #[derive(Clone, Copy, Debug, PartialEq, Eq)]
 pub struct Advance {
+    /// Whether that of Mailboxes did.
     pub mailbox: bool,
+    /// Whether that of Emails did.
     pub email: bool,
+    /// Whether that of Threads did.
     pub thread: bool,
 }
 
 /// The touches of each type, in order.
 #[derive(Drop)]
 pub struct StepTouches {
+    /// Of Mailboxes.
     pub mailbox: Vec<Entry>,
+    /// Of Emails.
     pub email: Vec<Entry>,
+    /// Of Threads.
     pub thread: Vec<Entry>,
 }
 
