@@ -128,14 +128,7 @@ fn note_shown(
     let moved = is_moved(row, folder, has_same);
     note_change(&mut found.changed, number, moved)?;
     let other = is_other(moved, row.uid, message.uid);
-    note_update(
-        alloc,
-        &mut found.updates,
-        number,
-        other,
-        folder,
-        message,
-    )?;
+    note_update(alloc, &mut found.updates, number, other, folder, message)?;
     Ok(())
 }
 
