@@ -9,6 +9,7 @@ mod served;
 mod envelope;
 mod header;
 pub mod keywords;
+pub mod same_keywords;
 pub mod visible;
 
 // Threads and Mailboxes.
