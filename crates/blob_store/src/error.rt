@@ -11,6 +11,7 @@ pub enum BlobError {
     /// It has more octets than an upload may have.
     #[error("an upload of {size} octets is too large")]
     TooLarge { size: u64 },
+    /// Out of memory; the store of uploads is as before.
     #[error("out of memory")]
     Memory,
 }

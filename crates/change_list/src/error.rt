@@ -15,6 +15,7 @@ pub enum SinceError {
     #[error("the last place is {place}")]
     AfterEnd { place: u64 },
     #[error("out of memory")]
+    /// An allocation was refused.
     Memory,
 }
 

@@ -19,4 +19,4 @@ pub mod laws;
 pub use answer::Changes;
 pub use entries::{Entry, Kind};
 pub use error::SinceError;
-pub use list::{ChangeList, WINDOW};
+pub use list::{ChangeList, MAX_PLACE, WINDOW};

@@ -1,5 +1,5 @@
 // The list of the last touches of a type.
-ghost use Rattle.std.specs.Prelude.{◌≡◌, ◌+◌, ◌-◌, ◌^◌, ◌<◌, ◌≤◌, ◌↔◌, [], ◌∷◌, ◌++◌, List, length, IsTrue, IfOk};
+ghost use Rattle.std.specs.Prelude.{◌≡◌, ◌+◌, ◌-◌, ◌<◌, ◌≤◌, ◌↔◌, [], ◌∷◌, ◌++◌, List, length, IsTrue, IfOk};
 ghost use Rattle.change_list.specs.Kept.{IsOf, IsKeptPlace, front_of, none_yet, with_touch};
 ghost use Rattle.change_list.specs.Touches.{AreTouches};
 ghost use Rattle.change_list.specs.Changes.{IsChanges};
@@ -19,6 +19,9 @@ use std::marker::Model;
 /// How many touches of a type are kept.
 pub const WINDOW: usize = 8192;
 
+/// The last place: JSON's readers keep integers exactly up to it.
+pub const MAX_PLACE: u64 = 9_007_199_254_740_991;
+
 /// The last touches of a type, and how many there have been.
 #[derive(Drop)]
 pub struct ChangeList {
@@ -28,15 +31,15 @@ pub struct ChangeList {
 }
 
 impl Model for ChangeList {
-    ghost use Rattle.std.specs.Prelude.{◌≡◌, ◌^◌, ◌<◌, min, length};
+    ghost use Rattle.std.specs.Prelude.{◌≡◌, ◌≤◌, min, length};
     ghost use Rattle.change_list.specs.Kept.{Kept};
-    ghost use Rattle.change_list.specs.declared.list.TheConstants.{WINDOW};
+    ghost use Rattle.change_list.specs.declared.list.TheConstants.{MAX_PLACE, WINDOW};
 
     ghost Value = { Kept };
 
     ghost view = { λ a. record { place = a.place; entries = a.ring.items } };
 
-    ghost invariant = { λ a. (a.ring.capacity ≡ WINDOW) × (length a.ring.items ≡ min a.place WINDOW) × (a.place < 2 ^ 53) };
+    ghost invariant = { λ a. (a.ring.capacity ≡ WINDOW) × (length a.ring.items ≡ min a.place WINDOW) × (a.place ≤ MAX_PLACE) };
 }
 
 impl ChangeList {
@@ -54,7 +57,7 @@ impl ChangeList {
 
     /// Notes a touch, in place of the oldest one where the list is full. It takes no memory and always succeeds.
     pub fn touch(&mut self, entry: Entry)
-        requires { self.old.place < 2 ^ 53 - 1 }
+        requires { self.old.place < MAX_PLACE }
         ensures exact { self.new ≡ with_touch self.old entry }
         ensures history { (h : List Entry) → IsOf self.old h → IsOf self.new (h ++ entry ∷ []) }
     {
@@ -66,7 +69,7 @@ impl ChangeList {
     pub fn place(&self) -> u64
         ensures exact { result ≡ self.now.place }
         ensures history { (h : List Entry) → IsOf self.now h → result ≡ length h }
-        ensures small { result < 2 ^ 53 }
+        ensures small { result ≤ MAX_PLACE }
     {
         self.place
     }

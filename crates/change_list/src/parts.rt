@@ -14,8 +14,11 @@ use std::collections::BTreeMap;
 /// Which ids a list of an answer has.
 #[derive(Clone, Copy)]
 pub enum Part {
+    /// Not there before the touches, there after them.
     Created,
+    /// There before and after.
     Updated,
+    /// There before, not there after.
     Destroyed,
     /// Updated by touches of which one changed more than counts.
     Mixed,

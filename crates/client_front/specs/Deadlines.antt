@@ -1,24 +1,26 @@
 -- When what a client owes is due, in milliseconds of the monotonic clock; a sum ends at 2^64 - 1.
 use Rattle.std.specs.Prelude.{◌+◌, ◌-◌, ◌/◌, ◌^◌, ℕ, min, Option, None, Some}
 use Rattle.client_front.specs.declared.pace.Pace.{Pace}
+use Rattle.client_front.specs.declared.pace.TheConstants.{MIN_OCTETS_PER_MILLISECOND, PATIENCE_MILLISECONDS}
 use Rattle.client_front.specs.declared.progress.Stage.{Stage}
 use Rattle.client_front.specs.declared.progress.Stage.TheVariants.{Blank, Body}
 use Rattle.client_front.specs.declared.progress.Progress.{Progress}
+use Rattle.client_front.specs.declared.progress.TheConstants.{HEAD_MILLISECONDS}
 
 abbrev pub capped : ℕ → ℕ
 capped n = min n (2 ^ 64 - 1)
 
--- 60 seconds, and 1 second for each 10,000 octets that have come
+-- `PATIENCE_MILLISECONDS`, and a millisecond for each `MIN_OCTETS_PER_MILLISECOND` that have come
 abbrev pub pace_due : Pace → ℕ
-pace_due pace = capped (capped (pace.since + 60000) + pace.octets / 10)
+pace_due pace = capped (capped (pace.since + PATIENCE_MILLISECONDS) + pace.octets / MIN_OCTETS_PER_MILLISECOND)
 
 abbrev pub with_octets : ℕ → Pace → Pace
 with_octets count pace = record pace { octets = capped (pace.octets + count) }
 
--- a head is due 10 seconds after its client is handed on, and a body by its octets' pace from the head's end
+-- a head is due `HEAD_MILLISECONDS` after its client is handed on, and a body by its octets' pace from the head's end
 abbrev pub due_at : Stage → Pace → ℕ
 due_at Body pace = pace_due pace
-due_at _ pace = capped (pace.since + 10000)
+due_at _ pace = capped (pace.since + HEAD_MILLISECONDS)
 
 abbrev pub due : Progress → ℕ
 due progress = due_at progress.stage progress.pace

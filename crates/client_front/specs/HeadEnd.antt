@@ -1,15 +1,16 @@
 -- Where a head ends: at the first empty line after a line that isn't empty. A line ends in LF, before which a CR may stand (RFC 9112 section 2.2).
 use Rattle.std.specs.Prelude.{ℕ, Bool, true, false, List, [], ◌∷◌, length, ◌==◌, ◌||◌, if◌then◌else◌}
 use Rattle.client_front.specs.Deadlines.{with_octets}
+use Rattle.client_front.specs.declared.octets.TheConstants.{CR, LF}
 use Rattle.client_front.specs.declared.progress.Stage.{Stage}
 use Rattle.client_front.specs.declared.progress.Stage.TheVariants.{Blank, Line, LineStart, Returned, Body}
 use Rattle.client_front.specs.declared.progress.Progress.{Progress}
 
 abbrev pub stage_after : Stage → ℕ → Stage
-stage_after Blank octet = if octet == 13 || octet == 10 then Blank else Line
-stage_after Line octet = if octet == 10 then LineStart else Line
-stage_after LineStart octet = if octet == 10 then Body else (if octet == 13 then Returned else Line)
-stage_after Returned octet = if octet == 10 then Body else Line
+stage_after Blank octet = if octet == CR || octet == LF then Blank else Line
+stage_after Line octet = if octet == LF then LineStart else Line
+stage_after LineStart octet = if octet == LF then Body else (if octet == CR then Returned else Line)
+stage_after Returned octet = if octet == LF then Body else Line
 stage_after Body octet = Body
 
 abbrev pub is_body : Stage → Bool

@@ -5,15 +5,16 @@ use Rattle.std.specs.Option.{option_to_list}
 use Rattle.client_front.specs.declared.sockets.First.{First}
 use Rattle.client_front.specs.declared.sockets.First.TheVariants.{Nothing}
 use Rattle.client_front.specs.declared.waiting.Idle.{Idle}
+use Rattle.client_front.specs.declared.waiting.TheConstants.{IDLE_MILLISECONDS, MAX_HELD_CLIENTS}
 use Rattle.client_front.specs.declared.waiting.Waiting.{Waiting}
 
--- 60 seconds are over since then
+-- `IDLE_MILLISECONDS` are over since then
 abbrev pub has_expired : ℕ → ℕ → Bool
-has_expired now since = nat_le (min (since + 60000) (2 ^ 64 - 1)) now
+has_expired now since = nat_le (min (since + IDLE_MILLISECONDS) (2 ^ 64 - 1)) now
 
--- 1,024 clients are held
+-- `MAX_HELD_CLIENTS` are held
 abbrev pub is_full : {I S : Type 0} → List I → List S → Bool
-is_full idle asking = nat_le 1024 (length idle + length asking)
+is_full idle asking = nat_le MAX_HELD_CLIENTS (length idle + length asking)
 
 abbrev pub in_place_of_oldest : {I : Type 0} → I → List I → List I
 in_place_of_oldest client [] = []

@@ -2,9 +2,7 @@
 ghost use Rattle.std.specs.Prelude.{◌≡◌};
 ghost use Rattle.client_front.specs.FirstOctet as spec;
 
-const CR: u8 = 13;
-
-const LF: u8 = 10;
+use crate::octets::{CR, LF};
 
 /// Octets of a token other than letters and digits (RFC 9110 section 5.6.2).
 const TOKEN_MARKS: &[u8] = b"!#$%&'*+-.^_`|~";

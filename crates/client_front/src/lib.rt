@@ -8,8 +8,11 @@ mod sockets;
 mod streams;
 mod toolchain;
 
-// Clients that wait.
+// Where a head begins, and where it ends.
 mod first_octet;
+mod octets;
+
+// Clients that wait.
 mod waiting;
 
 // The client that is served, and its deadlines.

@@ -3,14 +3,11 @@ ghost use Rattle.std.specs.Prelude.{◌≡◌};
 ghost use Rattle.client_front.specs.Deadlines as spec;
 ghost use Rattle.client_front.specs.HeadEnd as head;
 
+use crate::octets::{CR, LF};
 use crate::pace::Pace;
 
 /// How many milliseconds a head may take.
 pub const HEAD_MILLISECONDS: u64 = 10_000;
-
-const CR: u8 = 13;
-
-const LF: u8 = 10;
 
 /// Where in a request the next octet stands.
 #[derive(Clone, Copy, Debug, PartialEq, Eq)]

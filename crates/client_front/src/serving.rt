@@ -103,7 +103,7 @@ fn drain<S: ClientStream, C: Ticks>(stream: &mut S, clock: &C) -> usize
     dropped
 }
 
-/// Reads and drops one piece of at most so many octets: how many. None where nothing more comes, or not in time.
+/// Reads and drops one piece of at most `most` octets: how many. None where nothing more comes, or not in time.
 fn drain_piece<S: ClientStream, C: Ticks>(
     stream: &mut S,
     clock: &C,

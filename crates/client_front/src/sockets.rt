@@ -46,6 +46,7 @@ pub trait ClientStream: Drop {
 
 /// A listener, which watches the clients that it has accepted.
 pub trait ClientListener {
+    /// A client that was accepted, to receive from and to send to.
     type Stream: ClientStream;
 
     /// The next client that has come, watched from now on under the key. None where none has come. It does not wait.

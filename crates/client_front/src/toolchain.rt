@@ -55,7 +55,7 @@ impl ClientStream for TcpClient {
     }
 }
 
-/// One read of a stream that waits at most so many milliseconds.
+/// One read of a stream that waits at most `limit` milliseconds.
 fn receive_over<S: Read + OpenStream>(stream: &mut S, into: &mut [u8], limit: u64) -> Option<usize>
     ensures bound { IfSome result (λ n. n ≤ length into.new) }
     ensures octets { IfSome result (λ n. Consumes (S.remaining stream.old) (S.remaining stream.new) (take n into.new)) }
@@ -70,7 +70,7 @@ fn receive_over<S: Read + OpenStream>(stream: &mut S, into: &mut [u8], limit: u6
     }
 }
 
-/// One write of a stream that waits at most so many milliseconds and takes an octet at least.
+/// One write of a stream that waits at most `limit` milliseconds and takes an octet at least.
 fn send_over<S: Write + OpenStream>(stream: &mut S, from: &[u8], limit: u64) -> Option<usize>
     ensures bound { IfSome result (λ n. (0 < n) × (n ≤ length from.now)) }
     ensures octets { IfSome result (λ n. Appends (S.contents stream.old) (S.contents stream.new) (take n from.now)) }

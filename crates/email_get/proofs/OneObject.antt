@@ -15,6 +15,7 @@ use Rattle.mail_header.proofs.FieldLemmas.{one_header}
 use Rattle.header_tokens.proofs.LeadingLemmas.{one_leading_lexemes}
 use Rattle.mime_tree.specs.declared.lists.BodyLists.{BodyLists}
 use Rattle.mime_tree.specs.declared.part.Part.{Part, out-Part}
+use Rattle.mime_tree.specs.declared.tree.TheConstants.{MAX_DEPTH}
 use Rattle.mime_tree.specs.Bodies.{encoding_by, HasOctets}
 use Rattle.mime_tree.specs.BodyLists.{start}
 use Rattle.mime_tree.specs.Heads.{is_text, us_ascii}
@@ -154,8 +155,8 @@ one_values b (p ∷ ps) (q ∷ qs) before x y same g h =
 one_body_data : (b : List ℕ) (p q : Part) (x y : BodyData) → IsMessage b p → IsMessage b q → IsBodyOf b p x → IsBodyOf b q y → x ≡ y
 one_body_data b p q x y m n g h =
     let same = one_message b p q m n in
-    let lists = same_lists 64 p q g.lists h.lists same g.are_lists h.are_lists in
-    let all = leaves_kin 64 (p ∷ []) (q ∷ []) g.leaves h.leaves (same, tt) g.are_leaves h.are_leaves in
+    let lists = same_lists MAX_DEPTH p q g.lists h.lists same g.are_lists h.are_lists in
+    let all = leaves_kin MAX_DEPTH (p ∷ []) (q ∷ []) g.leaves h.leaves (same, tt) g.are_leaves h.are_leaves in
     let from = message_from b p m g.leaves g.are_leaves in
     let from' = message_from b q n h.leaves h.are_leaves in
     let inside = walk_inside start (p ∷ []) g.are_lists.parts g.are_lists.walks g.leaves g.are_leaves in

@@ -3,11 +3,8 @@ use Rattle.std.specs.Prelude.{◌≡◌, ℕ, zero, suc, Bool, false, not, if◌
 use Rattle.text_words.specs.Cuts.{back}
 use Rattle.text_words.specs.Octets.{is_white, is_between}
 use Rattle.mime_tree.specs.declared.part.Part.{Part}
+use Rattle.email_get.specs.declared.previews.TheConstants.{MAX_PREVIEW_CHARACTERS}
 use Rattle.email_get.specs.Values.{HasText}
-
--- how many characters a preview has at most
-abbrev pub most_characters : ℕ
-most_characters = 256
 
 abbrev pub begins_word : List ℕ → Bool
 begins_word [] = false
@@ -32,9 +29,9 @@ first_characters n [] = []
 first_characters zero (c ∷ t) = if is_continuation c then c ∷ first_characters zero t else []
 first_characters (suc n) (c ∷ t) = if is_continuation c then c ∷ first_characters (suc n) t else c ∷ first_characters n t
 
--- the words of a text with one space between two, up to n characters
+-- the words of a text with one space between two, up to MAX_PREVIEW_CHARACTERS characters
 abbrev pub preview_of : List ℕ → List ℕ
-preview_of text = first_characters most_characters (single_spaced (back is_white text))
+preview_of text = first_characters MAX_PREVIEW_CHARACTERS (single_spaced (back is_white text))
 
 -- the preview of a part of the octets b
 pub record IsPreviewOf (b : List ℕ) (p : Part) (preview : List ℕ) : Type 0 where

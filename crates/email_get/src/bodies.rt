@@ -22,11 +22,14 @@ use std::alloc::{AllocError, Global};
 /// What an Email object has that doesn't come of the header.
 #[derive(Drop)]
 pub(crate) struct BodyShown {
+    /// EmailBodyPart objects (RFC 8621 section 4.1.4), as in `html` and `text`.
     pub attachments: Vec<Value>,
     pub has_attachment: bool,
     pub html: Vec<Value>,
+    /// That of the first plain text among `text`; empty where there is none.
     pub preview: Bytes,
     pub text: Vec<Value>,
+    /// An EmailBodyValue for each leaf that is a text, by its number in decimal.
     pub values: Map<String, Value>,
 }
 

@@ -17,16 +17,29 @@ use std::alloc::{AllocError, Global};
 /// The convenience properties of a header (RFC 8621 section 4.1.3) as values of JSON.
 #[derive(Drop)]
 pub struct HeaderValues {
+    /// An array of EmailAddress objects (RFC 8621 section 4.1.2.3); null where there is no such field, or it is no list of
+    /// addresses.
     pub bcc: Value,
+    /// As `bcc`, of Cc.
     pub cc: Value,
+    /// As `bcc`, of From.
     pub from: Value,
+    /// An array of ids without angle brackets; null where there is no such field, or it has no ids.
     pub in_reply_to: Value,
+    /// As `in_reply_to`, of Message-ID.
     pub message_id: Value,
+    /// As `in_reply_to`, of References.
     pub references: Value,
+    /// As `bcc`, of Reply-To.
     pub reply_to: Value,
+    /// As `bcc`, of Sender.
     pub sender: Value,
+    /// The moment of Date in its zone, as `2024-01-02T10:00:00+01:00`; null where there is no Date, or it is no date that
+    /// exists.
     pub sent_at: Value,
+    /// The text form; null where there is no such field.
     pub subject: Value,
+    /// As `bcc`, of To.
     pub to: Value,
 }
 

@@ -7,7 +7,7 @@ use std::alloc::{AllocError, Global};
 use text_words::{White, cut, is_white};
 
 /// How many characters a preview has at most.
-const MOST_CHARACTERS: usize = 256;
+pub const MAX_PREVIEW_CHARACTERS: usize = 256;
 
 /// What an octet is in a preview, where `more` follows it: white space is a space where a word follows.
 fn spaced(octet: u8, more: &[u8]) -> Option<u8>
@@ -58,14 +58,15 @@ fn push_octet(preview: &mut Vec<u8>, left: usize, octet: u8) -> Result<Option<us
     Ok(Some(left - 1))
 }
 
-/// The preview of a text: its words with one space between two, up to 256 characters. No more of the text is read.
+/// The preview of a text: its words with one space between two, up to `MAX_PREVIEW_CHARACTERS` characters. No more of
+/// the text is read.
 #[tactic(auto, unfolding(crate::specs::Previews::single_spaced, crate::specs::Previews::first_characters))]
 pub(crate) fn preview_of(alloc: Global, text: &[u8]) -> Result<Bytes, AllocError>
     ensures { IfOk result (λ p. p ≡ previews.preview_of text.now) }
 {
     let (_, words) = cut(&White, text);
     let mut preview = Vec::new(alloc);
-    let mut left = MOST_CHARACTERS;
+    let mut left = MAX_PREVIEW_CHARACTERS;
     let mut rest = words;
     while let [first, more @ ..] = rest {
         match spaced(*first, more) {

@@ -8,10 +8,13 @@ use std::rt::Clock;
 
 /// A host: its network, its clock, its random octets, and the streams and the number of this process.
 pub trait Host: Dialer + Draws + Clock + Clone + Copy + Drop {
+    /// What the client on the standard streams gives.
     type Input: Read + Drop;
 
+    /// What that client takes.
     type Output: Write + Drop;
 
+    /// Where the texts of the console go.
     type Errors: Write + Drop;
 
     /// The standard input.

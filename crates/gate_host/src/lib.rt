@@ -18,8 +18,6 @@ mod tcp_link;
 
 // All of them.
 mod host_world;
-#[cfg(test)]
-mod tests;
 
 pub use chance::random_word;
 pub use clients::Clients;
@@ -27,6 +25,6 @@ pub use error_console::ErrorConsole;
 pub use host::Host;
 pub use host_world::HostWorld;
 pub use listener_front::ListenerFront;
-pub use sockets::{Dialer, Draws};
+pub use sockets::{Dialer, Draws, addresses_over, draw_over};
 pub use standard_front::StandardFront;
 pub use tcp_link::{MAX_ADDRESSES, PATIENCE_SECONDS, TcpLink};

@@ -40,8 +40,9 @@ pub trait Draws {
         ensures { draws self.now result };
 }
 
-/// The toolchain's look-up.
-pub(crate) fn addresses_over<N: Net>(net: &N, store: &str, room: &mut [SocketAddr]) -> Option<usize>
+/// The toolchain's look-up: puts the addresses of a store, `host:port`, at the front of the room, in order, as many as there
+/// is room for; how many, or None where the look-up fails or the store is written otherwise.
+pub fn addresses_over<N: Net>(net: &N, store: &str, room: &mut [SocketAddr]) -> Option<usize>
     ensures { IfSome result (λ n. n ≤ length room.new) }
 {
     let found = store.to_socket_addrs(net).ok()?;
@@ -68,8 +69,8 @@ pub(crate) fn dial_over<N: Net>(
     Some(stream)
 }
 
-/// The toolchain's random octets.
-pub(crate) fn draw_over<R: RandomSource>(source: &R) -> Option<[u8; 8]> {
+/// Eight of the toolchain's random octets; None where the source gives none.
+pub fn draw_over<R: RandomSource>(source: &R) -> Option<[u8; 8]> {
     let mut octets = [0u8; 8];
     source.fill_bytes(&mut octets).ok()?;
     Some(octets)

@@ -1,5 +1,6 @@
 -- How often the mail changed in an epoch, the mail that it came to, and what was told since.
-use Rattle.std.specs.Prelude.{◌≡◌, ◌⊎◌, ◌<◌, ◌+◌, ◌-◌, ◌^◌, ℕ, []}
+use Rattle.std.specs.Prelude.{◌≡◌, ◌⊎◌, ◌<◌, ◌+◌, ℕ, []}
+use Rattle.gate_machine.specs.declared.known.TheConstants.{LAST_PLACE}
 use Rattle.told_mail.specs.Mail.{Mail, SameMail}
 use Rattle.told_mail.specs.Told.{Told}
 
@@ -21,13 +22,9 @@ begun_epoch epoch = record { epoch = epoch; place = 0; mail = no_mail }
 abbrev pub advance : History → Mail → History
 advance h mail = record h { place = h.place + 1; mail = mail }
 
--- the greatest number that JSON's readers keep exactly (RFC 8620 section 1.3)
-abbrev pub last_place : ℕ
-last_place = 2 ^ 53 - 1
-
 -- a further place would pass the last one
 abbrev pub IsSpent : History → Type 0
-IsSpent h = last_place < h.place + 1
+IsSpent h = LAST_PLACE < h.place + 1
 
 -- ---- what is known
 

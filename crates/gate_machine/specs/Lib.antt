@@ -1,3 +1,4 @@
+-- Each module after those that it uses: Beginning has a request's whole way to the mail, Obeying the octets by which the store obeys it.
 pub mod History
 pub mod Machine
 pub mod Progress

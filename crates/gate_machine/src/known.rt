@@ -15,7 +15,7 @@ use std::alloc::Global;
 use std::marker::Model;
 use told_mail::Mirror;
 
-/// The greatest place of a history (RFC 8620 section 1.3).
+/// The greatest place of a history: 2^53 - 1, the greatest number that JSON's readers keep exactly (RFC 8620 section 1.3).
 pub const LAST_PLACE: u64 = 9_007_199_254_740_991;
 
 /// What is known of the mail: the history that is served, and the mail told since.
@@ -32,13 +32,14 @@ pub struct Known {
 impl Model for Known {
     ghost use Rattle.std.specs.Prelude.{◌≡◌, ◌≤◌, ◌<◌, ◌^◌, ◌-◌};
     ghost use Rattle.told_mail.specs.Mail.{SameMail};
-    ghost use Rattle.gate_machine.specs.History.{KnownMail, last_place};
+    ghost use Rattle.gate_machine.specs.History.{KnownMail};
+    ghost use Rattle.gate_machine.specs.declared.known.TheConstants.{LAST_PLACE};
 
     ghost Value = { KnownMail };
 
     ghost view = { λ k. record { history = record { epoch = k.epoch; place = k.place; mail = k.served.mail }; told = k.told } };
 
-    ghost invariant = { λ k. (k.place ≤ last_place) × (k.same_at ≤ k.told.changes)
+    ghost invariant = { λ k. (k.place ≤ LAST_PLACE) × (k.same_at ≤ k.told.changes)
         × (k.told.changes ≡ k.same_at → k.told.changes < 2 ^ 64 - 1 → SameMail k.served.mail k.told.mail) };
 }
 

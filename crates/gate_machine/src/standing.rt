@@ -15,7 +15,9 @@ pub enum Fall {
 pub enum Standing {
     /// All of it does, the round too once it was made.
     Stands,
+    /// Not all of it does, for this reason.
     Fell(Fall),
+    /// Not all of it does, as an allocation was refused.
     OutOfMemory,
 }
 
@@ -24,5 +26,6 @@ pub enum Standing {
 pub enum CommitEnd {
     /// A place would pass the last one.
     Spent,
+    /// Out of memory.
     Memory,
 }

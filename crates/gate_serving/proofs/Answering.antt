@@ -3,7 +3,7 @@ use Rattle.std.proofs.Common.{arith, ◌≡◌, ◌≢◌, ◌⊎◌, ◌++◌, 
 use Rattle.std.specs.Prelude.{IfOk}
 use Rattle.std.specs.declared.alloc.AllocError.{AllocError}
 use Rattle.std.proofs.lemmas.List.{append-nil}
-use Rattle.gate_world.specs.Causes.{Faults, Hidden, RoseBy, Rose, LinkAlone, FrontAlone, NoFault, Later, no_faults}
+use Rattle.gate_world.specs.Causes.{Faults, Hidden, RoseBy, Rose, FrontAlone, NoFault, Later, no_faults}
 use Rattle.gate_world.specs.Sending.{Sends}
 use Rattle.gate_world.specs.declared.event.Event.{Event}
 use Rattle.gate_world.specs.declared.event.Event.TheVariants.{Accepted, NoMore, ClientDone, FrontFailed}
@@ -83,23 +83,9 @@ later_same was now same =
       say = omega (arith, ap (λ (f : Faults). f.say) same);
     }
 
--- where the link alone may have failed, no count has fallen
-pub later_link : (was now : Faults) → LinkAlone was now → Later was now
-later_link was now alone = record { link = alone.link; keep = omega (arith, alone.keep); front = omega (arith, alone.front); say = omega (arith, alone.say) }
-
 -- where the front alone may have failed, no count has fallen
 pub later_front : (was now : Faults) → FrontAlone was now → Later was now
 later_front was now alone = record { link = omega (arith, alone.link); keep = omega (arith, alone.keep); front = alone.front; say = omega (arith, alone.say) }
-
--- counts that have fallen neither before a moment nor after it haven't fallen
-pub later_both : (was mid now : Faults) → Later was mid → Later mid now → Later was now
-later_both was mid now one two =
-    record {
-      link = omega (arith, one.link, two.link);
-      keep = omega (arith, one.keep, two.keep);
-      front = omega (arith, one.front, two.front);
-      say = omega (arith, one.say, two.say);
-    }
 
 -- ---- the work
 

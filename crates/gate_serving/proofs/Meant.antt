@@ -2,15 +2,8 @@
 use Rattle.std.proofs.Common.{◌≡◌, ℕ, List, Result, Ok, Err, ◌∙◌}
 use Rattle.std.specs.Prelude.{IfOk}
 use Rattle.std.specs.declared.alloc.AllocError.{AllocError}
-use Rattle.gate_world.specs.Causes.{Hidden}
 
 -- a text that is another's
 pub meant_as : {X : Type 0} {a b : List ℕ} (f : X → List ℕ) (result : Result X AllocError) → IfOk result (λ x. f x ≡ a) → a ≡ b → IfOk result (λ x. f x ≡ b)
 meant_as f (Ok x) is same = is ∙ same
 meant_as f (Err e) is same = tt
-
--- the same whatever the secrets
-pub meant_always : {X : Type 0} {a : List ℕ} (f : X → List ℕ) (of : Hidden → List ℕ) (result : Result X AllocError) → IfOk result (λ x. f x ≡ a) → ((h : Hidden) → a ≡ of h)
-    → IfOk result (λ x. (h : Hidden) → f x ≡ of h)
-meant_always f of (Ok x) is same = λ h. is ∙ same h
-meant_always f of (Err e) is same = tt

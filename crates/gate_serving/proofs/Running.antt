@@ -10,7 +10,7 @@ use Rattle.gate_serving.specs.declared.served.Served.TheVariants as served
 use Rattle.gate_serving.specs.declared.door.Door.{Door}
 use Rattle.gate_serving.specs.GateState.{GateState}
 use Rattle.gate_serving.specs.Requests.{Account}
-use Rattle.gate_serving.specs.Run.{Begun, Then, sum_of_faults, IsClient, Ends, AllServed, NoneLeft, NotAccepted, StepsTo, RunsTo, IsServingRun}
+use Rattle.gate_serving.specs.Run.{Begun, Then, sum_of_faults, IsClient, Ends, NoneLeft, NotAccepted, StepsTo, RunsTo, IsServingRun}
 
 rose_more : (j k was mid now : ℕ) → RoseBy j was mid → RoseBy k mid now → RoseBy (j + k) was now
 rose_more j k was mid now a b = omega arith
@@ -48,7 +48,7 @@ then_client {door} {account} {s} {t} {u} {was = was} {mid = mid} {now = now} {ho
     (subst (λ (e : Door). StepsTo e b t u mid now how ys) here steps) in
     record {
       went = r.went ++ how ∷ [];
-      run = Then r.run step.segment;
+      run = Then (record { before = t; events = ys; how = how; after = u; segment = step.segment }) r.run;
       came = All-append IsClient r.went (how ∷ []) r.came (all_one how client);
       counted = one_more r.went how ∙ ap (λ (k : ℕ). k + 1) r.counted;
       bears = bears_both _ _ was mid now r.bears step.bears;
@@ -63,7 +63,7 @@ then_last {door} {account} {s} {t} {u} {was = was} {mid = mid} {now = now} {how 
     (subst (λ (e : Door). StepsTo e b t u mid now how ys) here steps) in
     record {
       went = r.went ++ how ∷ [];
-      run = Then r.run step.segment;
+      run = Then (record { before = t; events = ys; how = how; after = u; segment = step.segment }) r.run;
       ends = ends r.went r.came r.counted;
       bears = bears_both _ _ was mid now r.bears step.bears;
     }
@@ -75,8 +75,3 @@ none_left n most less went came counted = NoneLeft went refl came (omega (arith,
 -- a run ends with status 6 where fewer clients came than may, and accepting fails
 pub not_accepted : (n most : ℕ) → n < most → (went : List Served) → All IsClient went → length went ≡ n → Ends most (went ++ served.AcceptFault ∷ []) 6
 not_accepted n most less went came counted = NotAccepted went refl came (omega (arith, counted)) refl
-
--- as many as may come
-pub all_served : {door : Door} {account : Account} {s t : GateState} {n : ℕ} {was now : Faults} {xs : List Event} (most : ℕ) → n ≡ most
-    → RunsTo door account s t n was now xs → IsServingRun door account s t most was now 0 xs
-all_served most is r = record { went = r.went; run = r.run; ends = AllServed r.came (r.counted ∙ is) refl; bears = r.bears }

@@ -96,5 +96,5 @@ ToldLaw = (door : Door) (account : Account) (before : GateState) (events : List 
 pub run_told : ToldLaw → {door : Door} {account : Account} {before after : GateState} {events : List Event} {went : List Served} (run : Run door account before events went after)
     → IsRunTold run
 run_told law Begun = tt
-run_told law {door} {account} (Then {fs = fs} {s = s} {mid = mid} {after = after} run segment) =
-    (run_told law run, λ obeyed none. law door account mid fs s after segment obeyed none)
+run_told law {door} {account} (Then next run) =
+    (run_told law run, λ obeyed none. law door account next.before next.events next.how next.after next.segment obeyed none)

@@ -82,8 +82,8 @@ pub data IsTold (door : Door) (account : Account) (events : List Event) (how : S
 abbrev pub IsRunTold : {door : Door} {account : Account} {before after : GateState} {events : List Event} {went : List Served}
     → Run door account before events went after → Type 0
 IsRunTold Begun = Unit {0}
-IsRunTold {door} {account} (Then {fs = fs} {s = s} {after = after} run segment) =
-    IsRunTold run × (IsSegmentObeyed segment → blamed segment ≡ no_faults → IsTold door account fs s after)
+IsRunTold {door} {account} (Then next run) =
+    IsRunTold run × (IsSegmentObeyed next.segment → blamed next.segment ≡ no_faults → IsTold door account next.events next.how next.after)
 
 -- Each such client of a run of these events is told.
 abbrev pub CompletesRun : Door → Account → List Event → Type 0

@@ -29,17 +29,24 @@ pub record Stood (was now : Faults) : Type 0 where
 
 -- ---- runs
 
+-- one segment more: what the gate holds before and after it, what it adds, and how the client was served
+pub record NextSegment (door : Door) (account : Account) : Type 0 where
+  pub before : GateState
+  pub events : List Event
+  pub how : Served
+  pub after : GateState
+  pub segment : Segment door account before events how after
+
 -- Segments one after another, and how each client was served.
 pub data Run (door : Door) (account : Account) (before : GateState) : List Event → List Served → GateState → Type 0 where
   Begun : Run door account before [] [] before
-  Then : {es fs : List Event} {went : List Served} {s : Served} {mid after : GateState} → Run door account before es went mid
-      → Segment door account mid fs s after
-      → Run door account before (es ++ fs) (went ++ s ∷ []) after
+  Then : {events : List Event} {went : List Served} (next : NextSegment door account) → Run door account before events went next.before
+      → Run door account before (events ++ next.events) (went ++ next.how ∷ []) next.after
 
 abbrev pub run_blamed : {door : Door} {account : Account} {before after : GateState} {events : List Event} {went : List Served}
     → Run door account before events went after → Faults
 run_blamed Begun = no_faults
-run_blamed (Then run segment) = sum_of_faults (run_blamed run) (blamed segment)
+run_blamed (Then next run) = sum_of_faults (run_blamed run) (blamed next.segment)
 
 -- a client came, and the program goes on
 abbrev pub IsClient : Served → Type 0

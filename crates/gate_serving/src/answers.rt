@@ -14,16 +14,23 @@ use crate::calls::{Mailing, responses_to};
 use crate::door::Door;
 use crate::response::Response;
 use crate::upload::Upload;
+use blob_store::MAX_UPLOAD_OCTETS;
 use blob_store::blob_id::blob_id;
 use gate_world::{Bytes, Text};
 use http::StatusCode;
-use http_door::{download_media, json_media, problem_media};
+use http_door::{MAX_REQUEST_OCTETS, download_media, json_media, problem_media};
 use http_service::Refusal;
 use jmap_core::{
-    LimitName, Request, RequestError, problem_text, response_text, session_object, session_state,
+    LimitName, MAX_SIZE_REQUEST, MAX_SIZE_UPLOAD, Request, RequestError, problem_text,
+    response_text, session_object, session_state,
 };
 use serde_json::{Value, json};
 use std::alloc::{AllocError, Global};
+
+// The Session tells the limits that hold.
+const _: () = prove!(MAX_SIZE_REQUEST == MAX_REQUEST_OCTETS);
+
+const _: () = prove!(MAX_SIZE_UPLOAD == MAX_UPLOAD_OCTETS as u64);
 
 fn calls_text(
     alloc: Global,

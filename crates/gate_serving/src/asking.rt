@@ -18,6 +18,7 @@ pub enum Asking {
     Problem(RequestError),
     /// The Session.
     Session,
+    /// Octets to keep (RFC 8620 section 6.1).
     Upload(Upload),
     /// The octets of a blob, as this type where one is named.
     Download { blob: Bytes, media: Option<Bytes> },

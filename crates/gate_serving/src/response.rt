@@ -22,6 +22,7 @@ pub enum Response {
     Line(Bytes),
     /// A line of no octet.
     LineEnd,
+    /// A head, and a body or none.
     Http(HttpResponse),
 }
 

@@ -12,6 +12,7 @@ use told_mail::{Held, Message, Mirror};
 /// The mail over which the calls of a request are answered.
 #[derive(Drop)]
 pub struct ServedMail {
+    /// The history's epoch and place.
     pub state: State,
     /// Of each folder, by number.
     pub counts: Listed<MailboxCounts>,

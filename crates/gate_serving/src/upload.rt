@@ -8,8 +8,11 @@ use gate_world::{Bytes, Text};
 /// Octets that are to be kept, and their type.
 #[derive(Drop)]
 pub struct Upload {
+    /// As the client named it, or `application/octet-stream`.
     pub media: Text,
+    /// At most `MAX_UPLOAD_OCTETS`.
     pub octets: Bytes,
+    /// What `new` makes sure of.
     ghost fits: { length octets ≤ MAX_UPLOAD_OCTETS },
 }
 

@@ -3,7 +3,7 @@ use Rattle.std.proofs.Common.{◌≡◌, inl, inr, ℕ, List, [], ◌∷◌, ◌
 use Rattle.std.proofs.lemmas.Bool.{eqb-true, eq-eqb}
 use Rattle.std.proofs.lemmas.Option.{none-some, same_Some}
 use Rattle.gate_words.specs.Options.{name_text, Setting, joined_text, BeginsWithDash}
-use Rattle.gate_words.specs.Reading.{cut, name_of, named, joined, begins_with_dash}
+use Rattle.gate_words.specs.reading.Words.{cut, name_of, named, joined, begins_with_dash}
 use Rattle.gate_words.specs.declared.option.Name.{Name}
 use Rattle.gate_words.specs.declared.option.Name.TheVariants.{Store, User, Base, Listen, Connections}
 use Rattle.gate_words.proofs.Cut.{cut-is}

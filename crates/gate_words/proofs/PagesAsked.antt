@@ -1,7 +1,7 @@
 -- Words are read as a page exactly where they ask for it.
 use Rattle.std.proofs.Common.{◌≡◌, ◌⊎◌, inl, inr, ℕ, List, [], ◌∷◌, Some, refl, sym, ap, ◌∙◌, codes}
 use Rattle.std.proofs.lemmas.Option.{none-some, same_Some}
-use Rattle.gate_words.specs.Reading.{page_by, page_on, page_of}
+use Rattle.gate_words.specs.reading.Words.{page_by, page_on, page_of}
 use Rattle.gate_words.specs.Task.{AsksFor}
 use Rattle.gate_words.specs.declared.page.Page.{Page}
 use Rattle.gate_words.specs.declared.page.Page.TheVariants.{Program, Serve, Once, Show, Version}

@@ -4,7 +4,7 @@ use Rattle.std.specs.Str.{bytes_eq}
 use Rattle.std.proofs.lemmas.Option.{none-some, same_Some}
 use Rattle.gate_words.specs.Connections.{CountsConnections}
 use Rattle.gate_words.specs.Options.{Setting, SpellsAll, values_of}
-use Rattle.gate_words.specs.Reading.{page_of, settings as read}
+use Rattle.gate_words.specs.reading.Words.{page_of, settings as read}
 use Rattle.gate_words.specs.Task.{NamesPlace, ServesAt, IsServe, IsOnce, Spelled, AsksFor, IsTask}
 use Rattle.gate_words.specs.declared.option.Name.TheVariants as option
 use Rattle.gate_words.specs.declared.page.Page.{Page}

@@ -1,7 +1,7 @@
 -- The values that settings give to an option.
 use Rattle.std.proofs.Common.{◌≡◌, ◌<◌, ◌+◌, ℕ, List, [], ◌∷◌, ◌++◌, length, map, take, get_or, refl, sym, ap, ◌∙◌}
 use Rattle.gate_words.specs.Options.{Setting, value_if, values_of}
-use Rattle.gate_words.specs.Lent.{setting_in, IsGiven}
+use Rattle.gate_words.specs.reading.Lent.{setting_in, IsGiven}
 use Rattle.gate_words.specs.declared.option.Name.{Name}
 use Rattle.std.proofs.lemmas.List.{map_more}
 use Rattle.gate_words.specs.declared.option.LentSetting.{LentSetting}

@@ -1,10 +1,7 @@
 -- How many connections are served.
-use Rattle.std.specs.Prelude.{◌≡◌, ◌≤◌, ◌-◌, ◌^◌, ◌&&◌, ℕ, List, [], ◌∷◌, Bool, false, IsTrue, nat_le}
+use Rattle.std.specs.Prelude.{◌≡◌, ◌≤◌, ◌&&◌, ℕ, List, [], ◌∷◌, Bool, false, IsTrue, nat_le}
 use Rattle.std.specs.Str.Parse.{IsNumeral, digits_value}
-
--- the greatest count, which stands where none is given
-abbrev pub max_connections : ℕ
-max_connections = 2 ^ 63 - 1
+use Rattle.gate_words.specs.declared.connections.TheConstants.{MAX_CONNECTIONS}
 
 -- the first octet is one of `1` to `9`
 abbrev pub begins_with_nonzero_digit : List ℕ → Bool
@@ -16,10 +13,10 @@ pub record IsCount (text : List ℕ) (count : ℕ) : Type 0 where
   pub first : IsTrue (begins_with_nonzero_digit text)
   pub digits : IsNumeral 10 text
   pub value : count ≡ digits_value 10 text
-  pub within : count ≤ max_connections
+  pub within : count ≤ MAX_CONNECTIONS
 
--- the number that the values of the option `--connections` are
+-- the number that the values of the option `--connections` are: `MAX_CONNECTIONS` where there is none
 abbrev pub CountsConnections : List (List ℕ) → ℕ → Type 0
-CountsConnections [] count = count ≡ max_connections
+CountsConnections [] count = count ≡ MAX_CONNECTIONS
 CountsConnections (text ∷ []) count = IsCount text count
 CountsConnections (text ∷ further ∷ texts) count = ⊥

@@ -1,7 +1,7 @@
+-- By name. Task says which words are a task; Lent and Reading are for private clauses.
 pub mod Connections
-pub mod Lent
 pub mod Options
 pub mod Pages
-pub mod Reading
 pub mod Rules
 pub mod Task
+pub mod reading

@@ -1,10 +1,11 @@
 -- Which values are taken.
 use Rattle.std.specs.Prelude.{ℕ, List, length, Bool, not, ◌&&◌, ◌||◌, ◌==◌, nat_eq, nat_lt, codes}
 use Rattle.std.specs.List.{list_any, starts_with, ends_with}
+use Rattle.gate_words.specs.declared.rules.TheConstants.{DELETE}
 
 -- a control character of ASCII
 abbrev pub is_control : ℕ → Bool
-is_control octet = nat_lt octet 32 || octet == 127
+is_control octet = nat_lt octet 32 || octet == DELETE
 
 -- not empty, and no control character
 abbrev pub is_user : List ℕ → Bool

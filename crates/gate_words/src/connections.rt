@@ -2,7 +2,7 @@
 ghost use Rattle.std.specs.Prelude.{◌≡◌, ◌≤◌, ℕ, List, ◌∷◌, [], map, IfSome, IfNone};
 ghost use Rattle.gate_words.specs.Connections.{IsCount, CountsConnections};
 ghost use Rattle.gate_words.specs.Connections as spec;
-ghost use Rattle.gate_words.specs.Lent.{setting_in};
+ghost use Rattle.gate_words.specs.reading.Lent.{setting_in};
 ghost use Rattle.gate_words.specs.Options.{values_of};
 ghost use Rattle.gate_words.specs.declared.option.Name.TheVariants.{Connections};
 

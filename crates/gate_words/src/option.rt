@@ -1,7 +1,7 @@
 // Options, as they are written.
 ghost use Rattle.std.specs.Prelude.{◌≡◌, option_map, true, false, IsTrue, ◌↔◌};
-ghost use Rattle.gate_words.specs.Lent.{setting_in};
-ghost use Rattle.gate_words.specs.Reading as spec;
+ghost use Rattle.gate_words.specs.reading.Lent.{setting_in};
+ghost use Rattle.gate_words.specs.reading.Words as spec;
 
 /// The name of an option.
 #[derive(Clone, Copy, Debug, PartialEq, Eq)]

@@ -95,10 +95,15 @@ pub const VERSION_PAGE: &str = "jmapgate 0.1\n";
 /// A page of help.
 #[derive(Clone, Copy, Debug, PartialEq, Eq)]
 pub enum Page {
+    /// For `--help` alone.
     Program,
+    /// For `serve --help`.
     Serve,
+    /// For `once --help`.
     Once,
+    /// For `show --help`.
     Show,
+    /// For `--version`, alone or after a command: one line.
     Version,
 }
 

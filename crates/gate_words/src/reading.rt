@@ -1,7 +1,7 @@
 // Reading the words of a command.
 ghost use Rattle.std.specs.Prelude.{◌≡◌, List, ℕ, [], ◌∷◌, codes, map, string_bytes, IfOk, IfErr, IfSome, IfNone, IsTrue, None};
-ghost use Rattle.gate_words.specs.Lent.{setting_in, place_in};
-ghost use Rattle.gate_words.specs.Reading as spec;
+ghost use Rattle.gate_words.specs.reading.Lent.{setting_in, place_in};
+ghost use Rattle.gate_words.specs.reading.Words as spec;
 ghost use Rattle.gate_words.specs.Rules as rule;
 ghost use Rattle.gate_words.specs.Task.{IsTask, IsServe, IsOnce, Spelled, NamesPlace};
 ghost use Rattle.gate_words.specs.declared.place.Place.{Place};

@@ -1,8 +1,8 @@
 // The settings that words spell, and the values that they give to an option.
 ghost use Rattle.std.specs.Prelude.{◌≡◌, None, Some, ℕ, List, [], ◌∷◌, ◌++◌, option_map, map, string_bytes, IfOk, IfErr, IfSome, IfNone, IsTrue, ◌↔◌};
-ghost use Rattle.gate_words.specs.Lent.{setting_in, kind_in, IsGiven};
+ghost use Rattle.gate_words.specs.reading.Lent.{setting_in, kind_in, IsGiven};
 ghost use Rattle.gate_words.specs.Options.{values_of};
-ghost use Rattle.gate_words.specs.Reading as spec;
+ghost use Rattle.gate_words.specs.reading.Words as spec;
 ghost use Rattle.gate_words.specs.declared.task.WordsError.TheVariants.{Refused};
 
 use crate::WordsError;

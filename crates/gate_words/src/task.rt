@@ -13,7 +13,9 @@ pub enum Task {
     /// Answers clients over HTTP, at the address `listen`; ends after this many connections.
     Serve {
         place: Place,
+        /// An address, `:` and a port; which text is one isn't looked at here.
         listen: Text,
+        /// From 1 to `MAX_CONNECTIONS`.
         connections: u64,
     },
     /// Answers one request on standard input.
@@ -31,8 +33,10 @@ pub enum Task {
 /// Why words are no task.
 #[derive(Clone, Copy, Debug, PartialEq, Eq, Error)]
 pub enum WordsError {
+    /// No task is spelled so.
     #[error("words refused")]
     Refused,
+    /// Out of memory before it was known whether they are a task.
     #[error("out of memory")]
     Memory,
 }

@@ -5,84 +5,34 @@ use Rattle.std.proofs.lemmas.List.{append-nil}
 use Rattle.std.proofs.lemmas.List.Concat.{flat_map-append}
 use Rattle.std.proofs.lemmas.List.Elements.{All-head, All-tail}
 use Rattle.gate_world.specs.declared.event.Event.{Event}
-use Rattle.gate_world.specs.declared.event.Event.TheVariants.{Accepted, ClientGave, ClientEnded, ClientTook, ClientDone, FrontFailed, Dialed, StoreGave, StoreTook, LinkEnded}
+use Rattle.gate_world.specs.declared.event.Event.TheVariants.{ClientGave, ClientEnded, ClientTook, FrontFailed}
 use Rattle.gate_serving.specs.declared.front.FrontError.{FrontError}
 use Rattle.gate_serving.specs.declared.front.FrontError.TheVariants as error
 use Rattle.gate_serving.specs.declared.front.Input.{Input}
 use Rattle.gate_serving.specs.declared.front.Input.TheVariants.{Whole, Cut}
 use Rattle.gate_serving.specs.Front.{input_octets, GivesInput}
-use Rattle.gate_world.specs.Octets.{store_gave_in, store_took_in, client_gave_in, client_took_in, IsTalk, IsClientGave, IsClientTook}
+use Rattle.gate_world.specs.Octets.{client_gave_in, client_took_in, IsClientGave, IsClientTook}
 
 -- events that all have no octets of a kind
 quiet : (f : Event → List ℕ) (P : Event → Type 0) → ((e : Event) → P e → f e ≡ []) → (es : List Event) → All P es → flat_map f es ≡ []
 quiet f P each [] all = refl
 quiet f P each (e ∷ es) all = (λ i. each e (All-head P e es all) i ++ quiet f P each es (All-tail P e es all) i)
 
-asks_store_gave : (e : Event) → IsClientGave e → store_gave_in e ≡ []
-asks_store_gave (ClientGave octets) here = refl
-asks_store_gave _ never = absurd never
-
-asks_store_took : (e : Event) → IsClientGave e → store_took_in e ≡ []
-asks_store_took (ClientGave octets) here = refl
-asks_store_took _ never = absurd never
-
 asks_client_took : (e : Event) → IsClientGave e → client_took_in e ≡ []
 asks_client_took (ClientGave octets) here = refl
 asks_client_took _ never = absurd never
-
-talk_client_gave : (e : Event) → IsTalk e → client_gave_in e ≡ []
-talk_client_gave (StoreGave octets) here = refl
-talk_client_gave (StoreTook octets) here = refl
-talk_client_gave _ never = absurd never
-
-talk_client_took : (e : Event) → IsTalk e → client_took_in e ≡ []
-talk_client_took (StoreGave octets) here = refl
-talk_client_took (StoreTook octets) here = refl
-talk_client_took _ never = absurd never
 
 heard_client_gave : (e : Event) → IsClientTook e → client_gave_in e ≡ []
 heard_client_gave (ClientTook octets) here = refl
 heard_client_gave _ never = absurd never
 
-heard_store_gave : (e : Event) → IsClientTook e → store_gave_in e ≡ []
-heard_store_gave (ClientTook octets) here = refl
-heard_store_gave _ never = absurd never
-
-heard_store_took : (e : Event) → IsClientTook e → store_took_in e ≡ []
-heard_store_took (ClientTook octets) here = refl
-heard_store_took _ never = absurd never
-
--- events by which the client gives octets have none that the store gives
-pub asks_gave_store : (es : List Event) → All IsClientGave es → flat_map store_gave_in es ≡ []
-asks_gave_store = quiet store_gave_in IsClientGave asks_store_gave
-
--- events by which the client gives octets have none that the store takes
-pub asks_took_store : (es : List Event) → All IsClientGave es → flat_map store_took_in es ≡ []
-asks_took_store = quiet store_took_in IsClientGave asks_store_took
-
 -- events by which the client gives octets have none that the client takes
 pub asks_took_client : (es : List Event) → All IsClientGave es → flat_map client_took_in es ≡ []
 asks_took_client = quiet client_took_in IsClientGave asks_client_took
 
--- events of the link alone have no octets that the client gives
-pub talk_gave_client : (es : List Event) → All IsTalk es → flat_map client_gave_in es ≡ []
-talk_gave_client = quiet client_gave_in IsTalk talk_client_gave
-
--- events of the link alone have no octets that the client takes
-pub talk_took_client : (es : List Event) → All IsTalk es → flat_map client_took_in es ≡ []
-talk_took_client = quiet client_took_in IsTalk talk_client_took
-
 -- events by which the client takes octets have none that the client gives
 pub heard_gave_client : (es : List Event) → All IsClientTook es → flat_map client_gave_in es ≡ []
 heard_gave_client = quiet client_gave_in IsClientTook heard_client_gave
-
--- events by which the client takes octets have none that the store gives
-pub heard_gave_store : (es : List Event) → All IsClientTook es → flat_map store_gave_in es ≡ []
-heard_gave_store = quiet store_gave_in IsClientTook heard_store_gave
-
--- events by which the client takes octets have none that the store takes
-pub heard_took_store : (es : List Event) → All IsClientTook es → flat_map store_took_in es ≡ []
-heard_took_store = quiet store_took_in IsClientTook heard_store_took
 
 -- a list before one event that has none
 pub before_one : (f : Event → List ℕ) (es : List Event) (e : Event) → f e ≡ [] → flat_map f (es ++ e ∷ []) ≡ flat_map f es
@@ -103,13 +53,3 @@ gives_took most (Err error.Memory) es (asks, gave, so, few, inr (is, short)) = a
 pub gives_gave : (most : ℕ) (input : Input) (es : List Event) → GivesInput most (Ok input) es → flat_map client_gave_in es ≡ input_octets input
 gives_gave most (Whole octets) es (asks, is, so, few) = ap (λ (l : List Event). flat_map client_gave_in l) is ∙ before_one client_gave_in asks ClientEnded refl ∙ so.gave_is
 gives_gave most (Cut octets) es (so, many) = so.gave_is
-
--- a whole segment
-pub segment_octets : (f : Event → List ℕ) (request heard : List Event) → f Accepted ≡ [] → f ClientDone ≡ []
-    → flat_map f (Accepted ∷ ((request ++ heard) ++ ClientDone ∷ [])) ≡ flat_map f request ++ flat_map f heard
-segment_octets f request heard accepted done =
-    ap (λ (l : List ℕ). l ++ flat_map f ((request ++ heard) ++ ClientDone ∷ [])) accepted ∙ before_one f (request ++ heard) ClientDone done ∙ flat_map-append f request heard
-
--- a whole link life
-pub life_octets : (f : Event → List ℕ) (talk : List Event) → f Dialed ≡ [] → f LinkEnded ≡ [] → flat_map f (Dialed ∷ (talk ++ LinkEnded ∷ [])) ≡ flat_map f talk
-life_octets f talk dialed ended = ap (λ (l : List ℕ). l ++ flat_map f (talk ++ LinkEnded ∷ [])) dialed ∙ before_one f talk LinkEnded ended

@@ -1,6 +1,6 @@
 -- Who came to a run of the program of which nothing fails is told.
-use Rattle.std.proofs.Common.{◌≡◌, ℕ, List, sym, ◌∙◌}
-use Rattle.gate_world.specs.Causes.{Faults, Hidden, no_faults}
+use Rattle.std.proofs.Common.{ℕ, List}
+use Rattle.gate_world.specs.Causes.{Faults, Hidden}
 use Rattle.gate_world.specs.declared.event.Event.{Event}
 use Rattle.gate_words.specs.declared.task.Task.{Task}
 use Rattle.gate_serving.specs.declared.door.Door.{Door}

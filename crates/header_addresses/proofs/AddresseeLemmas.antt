@@ -46,7 +46,7 @@ inner_grouped phrase _ _ es (EmptyPlace ms inner h) so_far = inner_grouped phras
 inner_grouped phrase _ _ es (NextMailbox m ms inner h) so_far = ap (λ (u : List Mailbox). (Some phrase, u) ∷ grouped_from None [] es) (sym (append_assoc so_far (m ∷ []) ms))
     ∙ inner_grouped phrase ms inner es h (so_far ++ m ∷ [])
 
--- the groups of a list of addresses, behind a run of mailboxes, are what its elements come to behind the same run
+-- the groups of a list of addresses, after a run of mailboxes, are what its elements come to after the same run
 pub groups_are : (who : List Addressee) (es : List Element) → AreAddressees who es → (run : List Mailbox) → groups_from run who ≡ grouped_from None run es
 groups_are _ _ NoAddressees run = refl
 groups_are _ _ (Passed who es h) run = groups_are who es h run

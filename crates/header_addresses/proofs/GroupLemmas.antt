@@ -15,7 +15,7 @@ use Rattle.header_addresses.specs.reading.ElementReading.{group_closed, are_nest
 use Rattle.header_addresses.specs.reading.GroupBuilding.{Has, group_from, are_list, IsList, IsNoList, GroupsIn, NoGroups, Groups}
 use Rattle.header_addresses.proofs.AddresseeLemmas.{is_listed, groups_are, listed, one_elements, elements_here}
 
--- where two lists match element by element, and two others do, the first two with the others behind them match, too
+-- where two lists match element by element, and two others do, the first two with the others after them match, too
 pub zip_append : {A B : Type 0} (R : A → B → Type 0) (xs us : List A) (ys vs : List B) → AllZip R xs ys → AllZip R us vs → AllZip R (xs ++ us) (ys ++ vs)
 zip_append R [] us [] vs h k = k
 zip_append R [] us (y ∷ ys) vs h k = absurd h
@@ -45,7 +45,7 @@ no_members v e = subst (λ (u : List Address). AllZip IsAddress [] u) (sym e) tt
 pub no_groups : (v : List Group) → v ≡ [] → AllZip IsGroup [] v
 no_groups v e = subst (λ (u : List Group). AllZip IsGroup [] u) (sym e) tt
 
--- with one mailbox more, its address stands behind the addresses of the others
+-- with one mailbox more, its address stands after the addresses of the others
 pub one_member_more : (ms : List Mailbox) (m : Mailbox) (old new : List Address) (a : Address) → AllZip IsAddress ms old → IsAddress m a → new ≡ old ++ a ∷ []
     → AllZip IsAddress (ms ++ m ∷ []) new
 one_member_more ms m old new a h k e = subst (λ (u : List Address). AllZip IsAddress (ms ++ m ∷ []) u) (sym e) (zip_append IsAddress ms (m ∷ []) old (a ∷ []) h (k, tt))

@@ -240,7 +240,7 @@ spec_some ts e = by (list_all is_gap ts) refl
 
 -- ---- hops, cut at the first comma
 
--- a part and the tokens behind it are hops exactly where they are a hop up to the first comma of the tokens, and hops behind it
+-- a part and the tokens after it are hops exactly where they are a hop up to the first comma of the tokens, and hops after it
 pub hops_cut : (part ts : List Spelled) → are_hops part ts ≡ (is_hop (part ++ front is_no_comma ts) && are_hops_behind (back is_no_comma ts))
 unfolding front back
 hops_cut part [] = ap is_hop (sym (append-nil part)) ∙ and_true (is_hop (part ++ []))

@@ -32,8 +32,6 @@ phrase_text ts = phrase_from false (back is_gap ts)
 
 -- ---- the text of a comment: without its parentheses, and without white space at its ends
 
--- ---- the text of a comment: without its parentheses, and without white space at its ends
-
 abbrev pub comment_text : List ℕ → List ℕ
 comment_text t = without_white_end (back is_white (unquoted t))
 

@@ -30,6 +30,7 @@ pub(crate) enum Element<'a, 'b> {
     Head(&'b [Token<'a>]),
     /// The semicolon that ends a group.
     End,
+    /// A mailbox, in a group or outside one.
     Member(Mailbox<'a, 'b>),
 }
 

@@ -179,7 +179,7 @@ letters_cut t u a e f n =
     ap runs (front_back is_alpha t ∙ ap (λ (x : List ℕ). x ++ back is_alpha t) (sym e) ∙ ap (λ (x : List ℕ). u ++ x) (sym f))
     ∙ letter_run u a (subst (λ (x : List ℕ). Each is_alpha x) (sym e) (front_each is_alpha t), n) (subst (λ (x : List ℕ). Stops is_alpha x) (sym f) (back_stops is_alpha t))
 
--- a sign and the digits behind it, if there are some, are the first piece of an atom, and the others are those of what follows
+-- a sign and the digits after it, if there are some, are the first piece of an atom, and the others are those of what follows
 pub signed_cut : (c : ℕ) (t u a : List ℕ) → is_plus_or_minus c ≡ true → u ≡ front is_digit t → a ≡ back is_digit t → u ≢ [] → runs (c ∷ t) ≡ Signed c u ∷ runs a
 signed_cut c t u a g e f n =
     ap (λ (x : List ℕ). runs (c ∷ x)) (front_back is_digit t ∙ ap (λ (x : List ℕ). x ++ back is_digit t) (sym e) ∙ ap (λ (x : List ℕ). u ++ x) (sym f))

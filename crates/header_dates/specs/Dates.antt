@@ -8,6 +8,7 @@ use Rattle.header_tokens.specs.declared.token.Kind.TheVariants as kind
 use Rattle.header_dates.specs.declared.date.Clock.{Clock}
 use Rattle.header_dates.specs.declared.date.Day.{Day}
 use Rattle.header_dates.specs.declared.date.Moment.{Moment}
+use Rattle.header_dates.specs.declared.moments.TheConstants.{MAX_YEAR}
 use Rattle.header_tokens.specs.declared.token.Alphabet.TheVariants as alphabet
 use Rattle.header_tokens.specs.Tokens.{Spelled}
 use Rattle.header_tokens.specs.Lexemes.{AreLexemes}
@@ -184,7 +185,7 @@ pub data IsDate (d : Day) (c : Clock) (z : ℤ) : List Spelled → Type 0 where
 
 -- the Gregorian calendar, also before it was in use (ISO 8601)
 abbrev pub day_exists : Day → Bool
-day_exists d = nat_le d.year 9999 && is_between 1 12 d.month && is_between 1 (days_in_month (pos d.year) d.month) d.day
+day_exists d = nat_le d.year MAX_YEAR && is_between 1 12 d.month && is_between 1 (days_in_month (pos d.year) d.month) d.day
 
 -- a leap second is there
 abbrev pub clock_exists : Clock → Bool

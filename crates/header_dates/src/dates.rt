@@ -55,7 +55,7 @@ fn value(digits: &[u8]) -> u32
 {
     let mut value: u32 = 0;
     for digit in digits {
-        value = 10 * value + (*digit as u32).saturating_sub(48);
+        value = 10 * value + (*digit as u32).saturating_sub(b'0' as u32);
     }
     value
 }

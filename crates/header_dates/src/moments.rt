@@ -13,6 +13,15 @@ use jiff_core::civil::Date;
 use mail_header::as_raw;
 use std::alloc::{AllocError, Global};
 
+/// The last year of which there are dates: four digits tell it.
+pub const MAX_YEAR: u32 = 9_999;
+
+const SECONDS_OF_DAY: u32 = 86_400;
+
+const SECONDS_OF_HOUR: u32 = 3_600;
+
+const SECONDS_OF_MINUTE: u32 = 60;
+
 fn clock_exists(clock: Clock) -> bool
     ensures { result ≡ dates.clock_exists clock }
 {
@@ -26,7 +35,7 @@ fn seconds_of_day(clock: Clock) -> u32
     ensures value { result ≡ dates.seconds_of_day clock }
     ensures small { result < 86400 }
 {
-    clock.hour * 3600 + clock.minute * 60 + clock.second.min(59)
+    clock.hour * SECONDS_OF_HOUR + clock.minute * SECONDS_OF_MINUTE + clock.second.min(59)
 }
 
 /// The days since 1970-01-01 of a day, where the calendar has it.
@@ -34,7 +43,7 @@ fn day_number(day: Day) -> Option<i32>
     ensures value { MatchOption result (dates.day_exists day ≡ false) (λ n. (dates.day_exists day ≡ true) × (n ≡ dates.day_number day)) }
     ensures bound { IfSome result IsEpochDay }
 {
-    if day.year > 9999 {
+    if day.year > MAX_YEAR {
         return None;
     }
     if day.month > 12 {
@@ -57,7 +66,8 @@ fn seconds(day_number: i32, seconds_of_day: u32, zone: i32) -> i64
     requires small { seconds_of_day < 86400 }
     ensures { result ≡ day_number *ℤ pos 86400 +ℤ pos seconds_of_day -ℤ (zone *ℤ pos 60) }
 {
-    day_number as i64 * 86400 + seconds_of_day as i64 - zone as i64 * 60
+    day_number as i64 * SECONDS_OF_DAY as i64 + seconds_of_day as i64
+        - zone as i64 * SECONDS_OF_MINUTE as i64
 }
 
 /// The moment of a day, a time and a zone, where they exist.

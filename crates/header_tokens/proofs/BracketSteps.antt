@@ -19,7 +19,7 @@ pub close_escaped : (o c d : ℕ) (x : ℕ) (t : List ℕ) → close_in o c d tr
 unfolding close_in
 close_escaped o c d x t = refl
 
--- a backslash that isn't escaped counts one and escapes the octet behind it
+-- a backslash that isn't escaped counts one and escapes the octet after it
 pub close_slash : (o c d : ℕ) (x : ℕ) (t : List ℕ) → x ≡ 92 → close_in o c d false (x ∷ t) ≡ further 1 (close_in o c d true t)
 unfolding close_in
 close_slash o c d x t e = cond-true (eqb x 92) _ _ (eq-eqb x 92 e)

@@ -38,7 +38,7 @@ leads_done a vs rest t h e = let P : List Spelled → Type 0 = λ x. AreLeading 
 
 -- ---- the whole text is tokens exactly where nothing is left
 
--- where nothing is left behind the tokens at the front, they are the tokens of the whole text
+-- where nothing is left after the tokens at the front, they are the tokens of the whole text
 pub all_read : (a : Alphabet) (vs : List Spelled) (rest t : List ℕ) → AreLeading a vs rest t → rest ≡ [] → AreTokens a vs t
 all_read a [] rest t h e = h.0 ∙ e
 all_read a (v ∷ vs) rest t h e = record { unit = h.unit; rest = h.rest; whole = h.whole; is = h.is; more = all_read a vs rest h.rest h.more e }
@@ -50,7 +50,7 @@ no_unit : (x s : List ℕ) → x ++ s ≡ [] → x ≡ []
 no_unit [] s e = refl
 no_unit (c ∷ x) s e = absurd cc
 
--- where something is left behind the tokens at the front, the whole text is no row of tokens
+-- where something is left after the tokens at the front, the whole text is no row of tokens
 pub not_all : (a : Alphabet) (vs : List Spelled) (rest t : List ℕ) → AreLeading a vs rest t → rest ≢ [] → (us : List Spelled) → AreTokens a us t → ⊥
 not_all a [] rest t h n [] g = n (sym h.0 ∙ g)
 not_all a [] rest t h n (u ∷ us) g = h.1 u g.unit g.rest g.whole g.is

@@ -86,7 +86,7 @@ unfolding tokens_in tokens_within
 tokens_none a [] e = refl
 tokens_none a (c ∷ t) e = ap (λ (o : Option (Spelled × ℕ)). tokens_then o (tokens_within a (length t)) (c ∷ t)) e
 
--- where a token is read, what the tokens at the front leave is what the tokens behind that one leave
+-- where a token is read, what the tokens at the front leave is what the tokens after that one leave
 pub rest_step : (a : Alphabet) (v : Spelled) (n : ℕ) (t : List ℕ) → spelled_in a t ≡ Some (v, n) → rest_in a t ≡ rest_in a (drop n t)
 unfolding rest_in rest_within
 rest_step a v n [] e = let z = none_in_nothing a in absurd cc
@@ -198,7 +198,7 @@ none_is a t e = let P : List Spelled → Type 0 = λ u. AreLeadingLexemes a u t 
 pub next_in : (a : Alphabet) (v : Spelled) (more t : List ℕ) → IsNextLexeme a v more t → lexemes_in a t ≡ v ∷ lexemes_in a more
 next_in a v more t n = one_leading_lexemes a (lexemes_in a t) (v ∷ lexemes_in a more) t (lexemes_are a t) (n.lexemes (lexemes_in a more) (lexemes_are a more))
 
--- the next lexeme of a text is read as its first, with the same text behind it
+-- the next lexeme of a text is read as its first, with the same text after it
 pub reads_next : (a : Alphabet) (v : Spelled) (more t : List ℕ) → IsNextLexeme a v more t → ReadsLexeme a v more t
 reads_next a v more t n = record { lexemes = next_in a v more t n; some = n.some }
 

@@ -19,7 +19,7 @@ use Rattle.header_tokens.proofs.BracketContents.{Apart, closes_again, closed_in}
 
 -- ---- what is spelled is read
 
--- octets of a class at the front of a text, with none of it directly behind them, are those that are counted
+-- octets of a class at the front of a text, with none of it directly after them, are those that are counted
 pub span_is : (p : ℕ → Bool) (x y : List ℕ) → Each p x → Stops p y → span p (x ++ y) ≡ length x
 span_is p x y e s = ap length (front_is p x y e s)
 

@@ -1,3 +1,4 @@
+// Tokens, and the alphabets by which atoms are cut.
 /// Which octets are letters of an atom.
 #[derive(Clone, Copy, PartialEq, Eq, Debug)]
 pub enum Alphabet {
@@ -27,6 +28,8 @@ pub enum Kind {
 /// A token, and the octets that spell it.
 #[derive(Clone, Copy, Debug)]
 pub struct Token<'a> {
+    /// What `text` is, by its alphabet.
     pub kind: Kind,
+    /// At least one octet of the value, as it stands.
     pub text: &'a [u8],
 }

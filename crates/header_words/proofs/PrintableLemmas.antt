@@ -216,7 +216,7 @@ or_false : (p : Bool) → (p || false) ≡ p
 or_false true = refl
 or_false false = refl
 
--- where a piece was read, its octets go behind those written, and there is a problem if there was one or the piece is wrong
+-- where a piece was read, its octets go after those written, and there is a problem if there was one or the piece is wrong
 pub written_more : (octets octets' more rest rest' t : List ℕ) (problem wrong problem' : Bool) → Written octets problem rest t → IsRead (piece_in rest) rest rest' more wrong
     → octets' ≡ octets ++ more → problem' ≡ (problem || wrong) → Written octets' problem' rest' t
 written_more octets octets' more rest rest' t problem wrong problem' w p f e =
@@ -251,7 +251,7 @@ dropped_blanks t rest none e z h = record {
   octets_are = z;
 }
 
--- where the line goes on behind them, blanks stand for themselves
+-- where the line goes on after them, blanks stand for themselves
 pub kept_blanks : (t blanks rest : List ℕ) → blanks ≡ front is_blank t → rest ≡ back is_blank t → ends_line rest ≡ false
     → IsRead (blanks_of (front is_blank t) (back is_blank t)) t rest blanks false
 kept_blanks t blanks rest f e h = record {

@@ -168,7 +168,7 @@ pub record Places (start end : ℕ) (rest : List ℕ) : Type 0 where
   pub end_within : end ≤ length rest
   pub some : 0 < end
 
--- the first encoded word begins and ends within the text, and ends behind at least one octet
+-- the first encoded word begins and ends within the text, and ends after at least one octet
 pub places : (reading rest : List ℕ) (start end : ℕ) → FoundAt reading start end rest → Places start end rest
 places reading rest start end f =
     let w = word_some reading f.word f.first.stands.word in

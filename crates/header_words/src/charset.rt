@@ -11,8 +11,11 @@ use text_words::same_text;
 /// A charset that is read.
 #[derive(Clone, Copy, PartialEq, Eq, Debug)]
 pub enum Charset {
+    /// us-ascii: octets above 127 spell nothing.
     Ascii,
+    /// utf-8 (RFC 3629): invalid sequences spell nothing.
     Utf8,
+    /// iso-8859-1: each octet is a code point.
     Latin1,
     /// Any other, which is read as us-ascii.
     Unknown,

@@ -66,7 +66,9 @@ struct Shape<'a> {
 /// An encoded word's text, and how many octets the word has.
 #[derive(Drop)]
 pub struct Word {
+    /// In UTF-8, decoded from the charset that the word names.
     pub text: Vec<u8>,
+    /// From `=?` up to and with `?=`.
     pub len: usize,
 }
 

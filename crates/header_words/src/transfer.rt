@@ -12,9 +12,13 @@ use text_words::{Class, cut, is_white, same_text};
 /// A Content-Transfer-Encoding (RFC 2045 section 6). 7bit, 8bit and binary are the identity.
 #[derive(Clone, Copy, PartialEq, Eq, Debug)]
 pub enum Encoding {
+    /// The body stands for its own octets.
     Identity,
+    /// RFC 2045 section 6.7.
     QuotedPrintable,
+    /// RFC 2045 section 6.8.
     Base64,
+    /// Any other name, also the empty one: the octets are kept as they stand.
     Unknown,
 }
 

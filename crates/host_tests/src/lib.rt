@@ -15,3 +15,5 @@ mod links;
 mod loopback;
 #[cfg(test)]
 mod silences;
+#[cfg(test)]
+mod sockets;

@@ -53,7 +53,7 @@ impl ClientStream for Hesitant {
     fn end_writing(&mut self) {}
 }
 
-/// A listener to which one client comes. Its waits end for the client's key, so many times; then it fails.
+/// A listener to which one client comes. Its waits end for the client's key, that many times; then it fails.
 #[derive(Drop)]
 struct Waking {
     client: Option<Hesitant>,

@@ -13,13 +13,17 @@ pub enum HttpAsking {
     },
     /// An upload: its type, and its octets, at most `MAX_UPLOAD_OCTETS`.
     Upload {
+        /// The Content-Type, or `application/octet-stream` where there is none.
         media: Text,
         octets: Bytes,
     },
     /// The octets of a blob, under a name, as the type that is asked for.
     Download {
+        /// The blob's id, its escapes undone.
         blob: Bytes,
+        /// The last part of the path, its escapes undone.
         name: Bytes,
+        /// None where no type is asked for. It may have octets that can't stand in a head.
         media: Option<Bytes>,
     },
     /// What is refused without a body.

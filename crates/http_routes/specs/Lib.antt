@@ -1,3 +1,4 @@
+-- Which route a request has stands in Routing; the others are its parts.
 pub mod Accept
 pub mod Parts
 pub mod Paths

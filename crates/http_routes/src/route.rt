@@ -19,8 +19,11 @@ pub enum Route {
     Upload,
     /// The octets of a blob, under a name, as a type.
     Download {
+        /// The blob's id, its escapes undone.
         blob: Bytes,
+        /// The last part of the path, its escapes undone.
         name: Bytes,
+        /// The value of `accept`, its escapes undone; None where the query doesn't begin with it, or it is empty.
         media: Option<Bytes>,
     },
     /// There is no such path, or no such account.

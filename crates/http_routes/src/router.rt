@@ -9,9 +9,13 @@ use std::alloc::{AllocError, Global};
 /// What a path is of.
 #[derive(Clone, Copy, Debug, PartialEq, Eq)]
 pub enum Kind {
+    /// `/.well-known/jmap`
     Session,
+    /// `/jmap/api`
     Api,
+    /// `/jmap/upload/{account}`
     Upload,
+    /// `/jmap/download/{account}/{blob}/{name}`
     Download,
 }
 
@@ -19,6 +23,7 @@ pub enum Kind {
 #[derive(Drop)]
 pub struct Routes {
     router: Router<Kind>,
+    /// Those paths and no others.
     ghost holds: { router ≡ paths },
 }
 

@@ -1,3 +1,4 @@
+-- ReadHead and ReadBody say what reading a request adds to the tape, Responses what a response's head is; reading is for private clauses and proofs.
 pub mod Errors
 pub mod Responses
 pub mod Refusals

@@ -20,8 +20,10 @@ pub enum HttpError {
     /// The client ended its input inside a head or a body.
     #[error("the client ended its input")]
     Short,
+    /// Octets couldn't be read from the client, or `100 Continue` couldn't be sent.
     #[error("the front failed")]
     FrontFault,
+    /// Out of memory.
     #[error("out of memory")]
     Memory,
 }

@@ -27,6 +27,7 @@ pub enum BodyKind {
 /// What a request's head says.
 #[derive(Debug, PartialEq, Drop)]
 pub struct Head {
+    /// As it was sent; case counts (RFC 9110 section 9.1).
     pub method: Bytes,
     /// The target up to its first `?`, without the scheme and authority of a target in absolute form (RFC 9112 section
     /// 3.2.2).
@@ -37,6 +38,7 @@ pub struct Head {
     pub token: Option<Bytes>,
     /// The value of the first Content-Type field.
     pub content_type: Option<Bytes>,
+    /// Of no octets where there is neither Content-Length nor Transfer-Encoding.
     pub body: BodyKind,
     /// Whether the client waits for `100 Continue` before it sends the body.
     pub expects: bool,

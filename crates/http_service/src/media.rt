@@ -5,7 +5,7 @@ ghost use Rattle.http_service.specs.Responses.{IsMediaText, is_media_octet};
 use std::marker::Model;
 use text_words::{Class, are_all};
 
-/// A media type as it stands in a response's head: one or more octets of 33 to 126, so that it ends no line.
+/// A media type as it stands in a response's head: one or more octets of printable ASCII without the space, so that it ends no line.
 #[derive(Drop)]
 pub struct MediaType<'a> {
     text: &'a [u8],
@@ -29,7 +29,7 @@ impl Class<u8> for MediaOctet {
     ghost test = { is_media_octet };
 
     fn has(&self, item: &u8) -> bool {
-        33 <= *item && *item <= 126
+        b'!' <= *item && *item <= b'~'
     }
 }
 

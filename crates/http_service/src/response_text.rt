@@ -13,7 +13,7 @@ use std::alloc::{AllocError, Global};
 fn challenge(status: StatusCode) -> &'static [u8]
     ensures { result.now ≡ texts.challenge status }
 {
-    if status.as_u16() == 401 {
+    if status == StatusCode::UNAUTHORIZED {
         b"WWW-Authenticate: Bearer\r\n"
     } else {
         b""

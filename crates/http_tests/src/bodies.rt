@@ -194,7 +194,7 @@ fn asked_of(front: &[u8], body: &[u8], wanted: &[u8]) -> usize {
     }
 }
 
-/// This is read of a chunked body, and so many of its octets are asked for, one at a time.
+/// This is read of a chunked body, and that many of its octets are asked for, one at a time.
 fn expect_given(rt: &impl Abort, alloc: Global, body: &[u8], wanted: &[u8], asked: usize) {
     let client = posted(rt, alloc, CHUNKED, body);
     let head = client.len().saturating_sub(body.len());

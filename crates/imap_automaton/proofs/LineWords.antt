@@ -21,7 +21,7 @@ use Rattle.imap_syntax.specs.Octets.{is_word, lower}
 use Rattle.imap_syntax.specs.Texts.{Each, Then, crlf, IsWord}
 use Rattle.imap_syntax.specs.Lines.{word_of, Completes, IsRest, IsCodedRest}
 use Rattle.imap_syntax.specs.declared.code.Code.{Code}
-use Rattle.imap_syntax.specs.ReadCodes.{code_in}
+use Rattle.imap_syntax.specs.reading.CodeReading.{code_in}
 use Rattle.imap_syntax.proofs.CodeLemmas.{code_has}
 use Rattle.imap_syntax.specs.Items.{kept, items_of}
 use Rattle.imap_syntax.specs.Folders.{folder_name, IsListLine, told_counts, no_counts, IsStatusLine}

@@ -4,6 +4,7 @@ use imap_keywords::{Key, Pending, Phrase, Place};
 /// Within a line.
 #[derive(Clone, Copy)]
 pub enum Line {
+    /// Before the first octet of a response.
     Start,
     /// Within a tag, after n octets.
     Tag(u8),
@@ -24,6 +25,7 @@ pub enum Line {
 pub enum Words {
     /// After a word.
     More,
+    /// After a space, before the first octet of a word.
     First,
     /// Within a word, after its first octet.
     Rest,
@@ -42,6 +44,7 @@ pub enum Set {
 /// Within text with literals.
 #[derive(Clone, Copy)]
 pub enum Free {
+    /// Outside literals, by the count that stands at the end of the text so far.
     Text(Pending),
     /// After the CR of a literal of n octets.
     Break(u32),
@@ -52,6 +55,7 @@ pub enum Free {
 /// Within the items of a FETCH.
 #[derive(Clone, Copy)]
 pub enum Item {
+    /// Before the opening bracket.
     Open,
     /// After an item.
     More,
@@ -94,11 +98,15 @@ pub enum Date {
 /// Within names in brackets.
 #[derive(Clone, Copy)]
 pub enum Names {
+    /// Before the opening bracket.
     Open,
+    /// After it, before a name or the closing bracket.
     First,
     /// After a name.
     More,
+    /// After a space, before a name.
     Name,
+    /// After the `\` of a name, before its atom.
     Atom,
     /// Within an atom, after its first octet.
     AtomRest,
@@ -128,6 +136,7 @@ pub enum Str {
 /// Within a value.
 #[derive(Clone, Copy)]
 pub enum Value {
+    /// Before the value, outside brackets.
     Start,
     /// After an opening bracket that stands within n others.
     First(u8),
@@ -142,6 +151,7 @@ pub enum Value {
 pub enum Folder {
     /// After the attributes.
     Attributes,
+    /// Before NIL or the opening quote of a delimiter.
     Delimiter,
     /// After the opening quote of a delimiter.
     DelimiterOctet,
@@ -153,7 +163,9 @@ pub enum Folder {
     ListEnd,
     /// After the name of a STATUS.
     Counts,
+    /// After a space, before the opening bracket.
     CountsOpen,
+    /// After the bracket, before a word or the closing bracket.
     FirstCount,
     /// Before a word and its number.
     Count,
@@ -166,18 +178,29 @@ pub enum Folder {
 /// What is still to come: a place within a rule of the grammar.
 #[derive(Clone, Copy)]
 pub enum Sym {
+    /// The front of a line, text without literals up to its end, and fixed texts.
     Line(Line),
     /// Within a word, whose octets so far are the first n of the key's.
     Word(Place, Key, u8),
+    /// The rest of a line that isn't told, and the octets of any literal.
     Free(Free),
+    /// The items of a FETCH with their numbers, and the numbers of a STATUS.
     Item(Item),
+    /// Flags and attributes, and the rest of an atom.
     Names(Names),
+    /// The value of INTERNALDATE.
     Date(Date),
+    /// The name of an item that isn't told.
     ItemName(ItemName),
+    /// What follows CAPABILITY or ENABLED.
     Words(Words),
+    /// What follows VANISHED and its space.
     Set(Set),
+    /// Quoted texts, and literals up to the `}` of their count.
     Str(Str),
+    /// A value that isn't told, with its brackets.
     Value(Value),
+    /// A LIST after its attributes, a STATUS after its name.
     Folder(Folder),
 }
 

@@ -12,6 +12,7 @@ use Rattle.imap_syntax.specs.declared.response.Status.{Status}
 use Rattle.imap_syntax.specs.declared.response.Status.TheVariants as status
 use Rattle.imap_syntax.specs.Commands.{command_pieces, command_text}
 use Rattle.told_folder.specs.declared.exchange.Exchange.{Exchange}
+use Rattle.told_folder.specs.declared.message.Folder.{Folder}
 use Rattle.told_folder.specs.declared.message.Held.{Held}
 use Rattle.told_mail.specs.Mail.{Mail}
 use Rattle.told_mail.specs.Exchanges.{tell}
@@ -30,7 +31,7 @@ use Rattle.imap_client.specs.Plans.{Planned, Ran, Begun, Then, IsEnd, Finished, 
 use Rattle.imap_client.specs.Rounds.{Rounds, RoundState, round_due, round_step, round_from, of_folder, select_of, headers_of, is_sliced, slice_of}
 use Rattle.imap_client.specs.Rounds.{new_of, uid_next_told, tells_validity, selectable_from, selecting, next_stage, fetching, fetched_stage, selected_stage, is_sliced_in}
 use Rattle.imap_client.specs.Rounds.{is_slicing, obeyed, round_after}
-use Rattle.imap_client.specs.WholeRounds.{IsObeyed, FetchesHeaders, Slice, Rest, FetchesFolder, WithModseqs, WithoutModseqs, AsksFolder, Asked, VisitsFrom, NoMore, Visits}
+use Rattle.imap_client.specs.WholeRounds.{IsObeyed, AnsweredAt, FetchesHeaders, Slice, Rest, FetchesFolder, WithModseqs, WithoutModseqs, AsksFolder, Asked, VisitsFrom, NoMore, Visits}
 use Rattle.imap_client.specs.WholeRounds.{IsWholeRound, texts_from, IsFinishedRound}
 
 -- ---- what was asked
@@ -49,7 +50,7 @@ asks_more s (y ∷ ys) x (here, rest) is = (here, asks_more (round_step s y) ys 
 
 ran_asks : (s : RoundState) {life : LinkLife} {xs : List Exchange} {after : LinkLife} {es : List Event} → Ran (round_from s) life xs after es → Asks s xs
 ran_asks s Begun = tt
-ran_asks s (Then {xs} {mid} {after} {es} {fs} asked x ran is c) = asks_more s xs x (ran_asks s ran) (is ∙ ap due.Send (sym c.command_is))
+ran_asks s (Then {heard = xs} next ran) = asks_more s xs next.exchange (ran_asks s ran) (next.asked ∙ ap due.Send (sym next.completes.command_is))
 
 send_same : (c d : Command) → due.Send c ≡ due.Send d → d ≡ c
 send_same c d is = cc
@@ -122,12 +123,18 @@ DoesFrom (stage.Failing why) m xs = ⊥
 obeyed_by : {asked : Command} (m : Mail) (x : Exchange) → due.Send asked ≡ due.Send x.command → x.status ≡ status.Ok → IsObeyed asked m x (tell m x)
 obeyed_by {asked} m x is ok = record { command_is = send_same asked x.command is; ok = ok; told = refl }
 
+-- an exchange about the folder at a place
+abbrev answered_by : {at : ℕ} {command_for : Folder → Command} (m : Mail) (x : Exchange) (h : Held) → slice_get m.folders at ≡ Some h
+    → due.Send (command_for h.folder) ≡ due.Send x.command → x.status ≡ status.Ok → AnsweredAt at command_for m
+answered_by m x h there is ok = record { place = record { held = h; there = there }; exchange = x; after = tell m x; obeyed = obeyed_by m x is ok }
+
 -- the next folders
 visits_by : (from : ℕ) (m : Mail) (xs : List Exchange) (found : Option ℕ) → selectable_from from (drop from m.folders) ≡ found → DoesFrom (selecting found) m xs
     → VisitsFrom from m xs (fold tell m xs)
 visits_by from m xs None is none = subst (λ (l : List Exchange). VisitsFrom from m l (fold tell m l)) (sym none) (NoMore is)
 visits_by from m xs (Some at) is (front, rest, mid, parts, asked, visits) =
-    subst (λ (l : List Exchange). VisitsFrom from m l (fold tell m xs)) (sym parts) (Visits at is asked visits)
+    subst (λ (l : List Exchange). VisitsFrom from m l (fold tell m xs)) (sym parts)
+    (Visits (record { at = at; exchanges = front; after = mid; is_next = is; asks = asked }) visits)
 
 visits_of : (from : ℕ) (m : Mail) (xs : List Exchange) → DoesFrom (next_stage from m) m xs → VisitsFrom from m xs (fold tell m xs)
 visits_of from m xs so = visits_by from m xs (selectable_from from (drop from m.folders)) refl so
@@ -137,9 +144,9 @@ headers_by : (at uid_next : ℕ) (m : Mail) (x : Exchange) (xs : List Exchange) 
     → (if sliced then due.Send (slice_of h.folder) else due.Send (new_of h.folder)) ≡ due.Send x.command → x.status ≡ status.Ok
     → DoesFrom (fetched_stage sliced at uid_next (tell m x)) (tell m x) xs → Parts (FetchesHeaders at uid_next) (at + 1) m (x ∷ xs)
 headers_by at uid_next m x xs h true there is here ok (front, rest, mid, parts, fetches, visits) =
-    (x ∷ front, rest, mid, ap (λ (l : List Exchange). x ∷ l) parts, Slice h x there is (obeyed_by m x here ok) fetches, visits)
+    (x ∷ front, rest, mid, ap (λ (l : List Exchange). x ∷ l) parts, Slice (answered_by m x h there here ok) is fetches, visits)
 headers_by at uid_next m x xs h false there is here ok so =
-    (x ∷ [], xs, tell m x, refl, Rest h x there is (obeyed_by m x here ok), visits_of (at + 1) (tell m x) xs so)
+    (x ∷ [], xs, tell m x, refl, Rest (answered_by m x h there here ok) is, visits_of (at + 1) (tell m x) xs so)
 
 headers_at : (at uid_next : ℕ) (m : Mail) (x : Exchange) (xs : List Exchange) (found : Option Held) → slice_get m.folders at ≡ found
     → of_folder (headers_of uid_next) found ≡ due.Send x.command → x.status ≡ status.Ok
@@ -150,9 +157,17 @@ headers_at at uid_next m x xs (Some h) there here ok so = headers_by at uid_next
 -- a folder was selected
 fetching_by : (at uid_next : ℕ) (m : Mail) (xs : List Exchange) (h : Held) (none : Bool) → slice_get m.folders at ≡ Some h → (h.folder.modseq == 0) ≡ none
     → DoesFrom (if none then stage.FetchingFlags at uid_next else stage.FetchingHeaders at uid_next) m xs → Parts (FetchesFolder at uid_next) (at + 1) m xs
-fetching_by at uid_next m xs h true there is (front, rest, mid, parts, (y, ys, flags, obeyed, fetches), visits) =
-    (front, rest, mid, parts, subst (λ (l : List Exchange). FetchesFolder at uid_next m l mid) (sym flags) (WithoutModseqs h y there (ap not is) obeyed fetches), visits)
-fetching_by at uid_next m xs h false there is (front, rest, mid, parts, fetches, visits) = (front, rest, mid, parts, WithModseqs h there (ap not is) fetches, visits)
+fetching_by at uid_next m xs h true there is (front, rest, mid, parts, (y, ys, flags, obeyed, fetches), visits) = (
+  front,
+  rest,
+  mid,
+  parts,
+  subst (λ (l : List Exchange). FetchesFolder at uid_next m l mid) (sym flags)
+      (WithoutModseqs (record { place = record { held = h; there = there }; exchange = y; after = tell m y; obeyed = obeyed }) (ap not is) fetches),
+  visits,
+)
+fetching_by at uid_next m xs h false there is (front, rest, mid, parts, fetches, visits) =
+    (front, rest, mid, parts, WithModseqs (record { held = h; there = there }) (ap not is) fetches, visits)
 
 fetching_at : (at uid_next : ℕ) (m : Mail) (xs : List Exchange) (found : Option Held) → slice_get m.folders at ≡ found → DoesFrom (fetching at uid_next found) m xs
     → Parts (FetchesFolder at uid_next) (at + 1) m xs
@@ -165,7 +180,7 @@ selected_by_validity : (at : ℕ) (m : Mail) (x : Exchange) (xs : List Exchange)
     → Parts (AsksFolder at) (at + 1) m (x ∷ xs)
 selected_by_validity at m x xs h true there here ok valid so =
     let f = fetching_at at (uid_next_told x.responses) (tell m x) xs (slice_get (tell m x).folders at) refl so in
-    (x ∷ f.0, f.1, f.2, ap (λ (l : List Exchange). x ∷ l) f.3, Asked h x there (obeyed_by m x here ok) valid f.4, f.5)
+    (x ∷ f.0, f.1, f.2, ap (λ (l : List Exchange). x ∷ l) f.3, Asked (answered_by m x h there here ok) valid f.4, f.5)
 selected_by_validity at m x xs h false there here ok valid so = absurd so
 
 selected_at : (at : ℕ) (m : Mail) (x : Exchange) (xs : List Exchange) (found : Option Held) → slice_get m.folders at ≡ found → of_folder select_of found ≡ due.Send x.command
@@ -244,21 +259,26 @@ ok_front (y ∷ ys) x (ok, rest) = let so = ok_front ys x rest in ((ok, so.0), s
 pub ran_exchanges : {plan : Planned} {life : LinkLife} {xs : List Exchange} {after : LinkLife} {es : List Event} → Ran plan life xs after es
     → after.exchanges ≡ life.exchanges ++ xs
 ran_exchanges {life = life} Begun = sym (append-nil life.exchanges)
-ran_exchanges {life = life} (Then {xs} {mid} {after} {es} {fs} asked x ran is c) =
-    ap (λ (l : LinkLife). l.exchanges) c.after_is ∙ ap (λ (l : List Exchange). l ++ x ∷ []) (ran_exchanges ran) ∙ append_assoc life.exchanges xs (x ∷ [])
+ran_exchanges {life = life} (Then {heard = xs} next ran) =
+    ap (λ (l : LinkLife). l.exchanges) next.completes.after_is ∙ ap (λ (l : List Exchange). l ++ next.exchange ∷ []) (ran_exchanges ran)
+    ∙ append_assoc life.exchanges xs (next.exchange ∷ [])
 
 ran_sends : {plan : Planned} {life : LinkLife} {xs : List Exchange} {after : LinkLife} {es : List Event} → Ran plan life xs after es → AllOk xs
     → flat_map store_took_in es ≡ texts_from (next_number life) xs
 ran_sends Begun ok = refl
-ran_sends {life = life} (Then {xs} {mid} {after} {es} {fs} asked x ran is c) ok =
+ran_sends {life = life} (Then {heard = xs} {events = es} next ran) ok =
+    let mid = next.before in
+    let asked = next.command in
+    let x = next.exchange in
+    let c = next.completes in
     let oks = ok_front xs x ok in
     let taken : c.speaks.took ≡ command_text asked (next_number mid) = taken_of x.status oks.1 c.taken in
     let number_is : next_number mid ≡ next_number life + length xs = omega (arith, ap length (ran_exchanges ran), length-append life.exchanges xs) in
-    flat_map-append store_took_in es fs ∙ (λ i. ran_sends ran oks.0 i ++ (spoken_takes c.speaks ∙ taken) i)
+    flat_map-append store_took_in es next.events ∙ (λ i. ran_sends ran oks.0 i ++ (spoken_takes c.speaks ∙ taken) i)
     ∙ (λ i. texts_from (next_number life) xs ++ command_text (sym c.command_is i) (number_is i)) ∙ sym (texts_more (next_number life) xs x)
   where
-    taken_of : (s : Status) → s ≡ status.Ok → IsTaken (command_pieces asked (next_number mid)) x.responses s c.speaks.took
-        → c.speaks.took ≡ command_text asked (next_number mid)
+    taken_of : (s : Status) → s ≡ status.Ok → IsTaken (command_pieces next.command (next_number next.before)) next.exchange.responses s next.completes.speaks.took
+        → next.completes.speaks.took ≡ command_text next.command (next_number next.before)
     taken_of status.Ok is' taken = taken
     taken_of status.No is' taken = absurd (cc is')
     taken_of status.Bad is' taken = absurd (cc is')

@@ -72,21 +72,22 @@ obeyed_next : {plan : Planned} {heard : List Exchange} {mid after : LinkLife} {e
     → plan heard ≡ due.Send command → (c : CompletesExchange mid command x after events)
     → Obeys plan heard (next_number mid) (selected mid) (mid.rest ++ (c.speaks.gave ++ octets)) → Left plan (heard ++ x ∷ []) after (after.rest ++ octets)
 obeyed_next octets command x is c (AllDone over) = absurd (send_not_done command (sym over ∙ is))
-obeyed_next {plan} {heard} {mid} {after} octets command x is c (Answered y rest asked folder_is verdict more) =
-    let command_is : y.command ≡ command = send_same y.command command (sym asked ∙ is) in
-    let there : VerdictOf (next_number mid) command (mid.rest ++ (c.speaks.gave ++ octets)) (Done y.responses y.status y.code rest) = subst
-    (λ (d : Command). VerdictOf (next_number mid) d (mid.rest ++ (c.speaks.gave ++ octets)) (Done y.responses y.status y.code rest)) command_is verdict in
+obeyed_next {plan} {heard} {mid} {after} octets command x is c (Answered next more) =
+    let y = next.exchange in
+    let command_is : y.command ≡ command = send_same y.command command (sym next.asked ∙ is) in
+    let there : VerdictOf (next_number mid) command (mid.rest ++ (c.speaks.gave ++ octets)) (Done y.responses y.status y.code next.rest) = subst
+    (λ (d : Command). VerdictOf (next_number mid) d (mid.rest ++ (c.speaks.gave ++ octets)) (Done y.responses y.status y.code next.rest)) command_is next.verdict in
     let here : VerdictOf (next_number mid) command (mid.rest ++ (c.speaks.gave ++ octets)) (Done x.responses x.status x.code (c.rest ++ octets)) =
     subst (λ (o : List ℕ). VerdictOf (next_number mid) command o (Done x.responses x.status x.code (c.rest ++ octets))) (append_assoc mid.rest c.speaks.gave octets)
     (verdict_more octets c.verdict) in
     let parts = done_same _ _ _ _ _ _ _ _ (one_verdict (tag_of (next_number mid)) (command_pieces command (next_number mid))
     (mid.rest ++ (c.speaks.gave ++ octets)) _ _ there here) in
-    let same : y ≡ x = same_exchange y x (command_is ∙ sym c.command_is) (folder_is ∙ sym c.selected_is) parts.0 parts.1 parts.2 in
+    let same : y ≡ x = same_exchange y x (command_is ∙ sym c.command_is) (next.selected_is ∙ sym c.selected_is) parts.0 parts.1 parts.2 in
     record {
       number = next_number mid + 1;
       folder = selected_by y.command y.status (selected mid);
-      left = rest;
-      obeys = subst (λ (z : Exchange). Obeys plan (heard ++ z ∷ []) (next_number mid + 1) (selected_by y.command y.status (selected mid)) rest) same more;
+      left = next.rest;
+      obeys = subst (λ (z : Exchange). Obeys plan (heard ++ z ∷ []) (next_number mid + 1) (selected_by y.command y.status (selected mid)) next.rest) same more;
       here = λ on. (
         ap (λ (k : ℕ). k + 1) (sym (length-append mid.exchanges (x ∷ []))) ∙ ap next_number (sym c.after_is),
         ap (λ (z : Exchange). selected_by z.command z.status (selected mid)) same ∙ selected_next mid after c.speaks.gave c.speaks.took c.rest x c.on c.after_is on,
@@ -98,7 +99,10 @@ obeyed_next {plan} {heard} {mid} {after} octets command x is c (Answered y rest 
 pub obeyed_so_far : {plan : Planned} {life : LinkLife} {heard : List Exchange} {after : LinkLife} {events : List Event} (octets : List ℕ) → Ran plan life heard after events
     → Obeys plan [] (next_number life) (selected life) (life.rest ++ (flat_map store_gave_in events ++ octets)) → Left plan heard after (after.rest ++ octets)
 obeyed_so_far {life = life} octets Begun o = record { number = next_number life; folder = selected life; left = life.rest ++ octets; obeys = o; here = λ on. (refl, refl, refl) }
-obeyed_so_far {plan} {life} octets (Then {xs} {mid} {after} {es} {fs} command x ran is c) o =
+obeyed_so_far {plan} {life} octets (Then {heard = xs} {events = es} next ran) o =
+    let mid = next.before in
+    let c = next.completes in
+    let fs = next.events in
     let gave_is : flat_map store_gave_in (es ++ fs) ++ octets ≡ flat_map store_gave_in es ++ (c.speaks.gave ++ octets) =
     ap (λ (l : List ℕ). l ++ octets) (flat_map-append store_gave_in es fs) ∙ append_assoc (flat_map store_gave_in es) (flat_map store_gave_in fs) octets ∙ ap
     (λ (l : List ℕ). flat_map store_gave_in es ++ (l ++ octets)) (spoken_gives c.speaks) in
@@ -107,7 +111,7 @@ obeyed_so_far {plan} {life} octets (Then {xs} {mid} {after} {es} {fs} command x 
     let there : Obeys plan xs (next_number mid) (selected mid) (mid.rest ++ (c.speaks.gave ++ octets)) =
     subst (λ (l : List ℕ). Obeys plan xs (next_number mid) (selected mid) l) at.2
     (subst (λ (f : Option (List ℕ)). Obeys plan xs (next_number mid) f so.left) at.1 (subst (λ (n : ℕ). Obeys plan xs n so.folder so.left) at.0 so.obeys)) in
-    obeyed_next octets command x is c there
+    obeyed_next octets next.command next.exchange next.asked c there
 
 -- ---- its end
 
@@ -118,7 +122,7 @@ EndsWell result = (result ≡ Ok tt) ⊎ (result ≡ Err end.Lost) ⊎ (result �
 never_fails : {plan : Planned} {heard : List Exchange} {n : ℕ} {folder : Option (List ℕ)} {octets : List ℕ} (why : Refusal) → plan heard ≡ due.Fails why
     → Obeys plan heard n folder octets → ⊥
 never_fails why is (AllDone over) = let both : due.Done ≡ due.Fails why = sym over ∙ is in cc
-never_fails why is (Answered y rest asked folder_is verdict more) = let both : due.Send y.command ≡ due.Fails why = sym asked ∙ is in cc
+never_fails why is (Answered next more) = let both : due.Send next.exchange.command ≡ due.Fails why = sym next.asked ∙ is in cc
 
 done_not_open : (rs : List Response) (s : Status) (k : Code) (t : List ℕ) → Done rs s k t ≡ Open → ⊥
 done_not_open rs s k t is = cc
@@ -150,10 +154,11 @@ broken_end : {plan : Planned} {heard : List Exchange} {after left : LinkLife} {e
     → (b : Breaks after command e left events)
     → Obeys plan heard (next_number after) (selected after) (after.rest ++ b.speaks.gave) → (e ≡ end.Lost) ⊎ (e ≡ end.Memory)
 broken_end command e is b (AllDone over) = absurd (send_not_done command (sym over ∙ is))
-broken_end {after = after} command e is b (Answered y rest asked folder_is verdict more) =
-    let command_is : y.command ≡ command = send_same y.command command (sym asked ∙ is) in
-    answered_cause after command b.speaks.gave b.speaks.took rest y.responses y.status y.code e
-    (subst (λ (d : Command). VerdictOf (next_number after) d (after.rest ++ b.speaks.gave) (Done y.responses y.status y.code rest)) command_is verdict) b.cause
+broken_end {after = after} command e is b (Answered next more) =
+    let y = next.exchange in
+    let command_is : y.command ≡ command = send_same y.command command (sym next.asked ∙ is) in
+    answered_cause after command b.speaks.gave b.speaks.took next.rest y.responses y.status y.code e
+    (subst (λ (d : Command). VerdictOf (next_number after) d (after.rest ++ b.speaks.gave) (Done y.responses y.status y.code next.rest)) command_is next.verdict) b.cause
 
 either_well : (e : LinkEnd) (result : Result (Unit {0}) LinkEnd) → result ≡ Err e → (e ≡ end.Lost) ⊎ (e ≡ end.Memory) → EndsWell result
 either_well e result is (inl lost) = inr (inl (is ∙ ap Err lost))

@@ -16,7 +16,7 @@ use Rattle.imap_client.specs.declared.plan.Refusal.{Refusal}
 use Rattle.imap_client.specs.Refusals.{refusal_end}
 use Rattle.imap_client.specs.LinkLife.{LinkLife, ClientState, Stands, fresh, hung_up}
 use Rattle.imap_client.specs.Calls.{IsExchanged}
-use Rattle.imap_client.specs.Plans.{Planned, StopsAtRefusal, Ran, Begun, Then, HearsAll, HeardNone, HeardMore, Finished, Failed, Broken, Gone, Wanting, Follows, FollowsTo}
+use Rattle.imap_client.specs.Plans.{Planned, StopsAtRefusal, NextExchange, Ran, Begun, Then, HearsAll, HeardNone, HeardMore, Finished, Failed, Broken, Gone, Wanting, Follows, FollowsTo}
 use Rattle.imap_client.proofs.Lives.{stands_ended, life_hung}
 
 -- what is planned now is the plan after these exchanges
@@ -52,7 +52,8 @@ pub going_more : {plan : Planned} {life : LinkLife} {heard : List Exchange} {cli
     → ((mid : LinkLife) → Stands client mid → (left : LinkLife) × IsExchanged mid command left next (Ok x) ys) → Going plan life (heard ++ x ∷ []) next (xs ++ ys)
 going_more ys command x next is so goes =
     let went = goes so.after so.stands in
-    record { after = went.0; ran = Then command x so.ran is went.1.ends; stands = went.1.stands }
+    let more : NextExchange _ _ = record { before = so.after; command = command; exchange = x; after = went.0; events = ys; asked = is; completes = went.1.ends } in
+    record { after = went.0; ran = Then more so.ran; stands = went.1.stands }
 
 -- ---- a client that isn't alive
 

@@ -1,10 +1,10 @@
 -- Rounds and the fetch of a body, exchange by exchange.
-use Rattle.std.proofs.Common.{◌≡◌, ◌≢◌, ◌<◌, ◌++◌, ◌^◌, ◌-◌, ℕ, false, List, [], ◌∷◌, Option, Some, None, Result, Ok, Err, fold, refl, sym, ◌∙◌, ap, subst, arith}
+use Rattle.std.proofs.Common.{◌≡◌, ◌≢◌, ◌++◌, ◌-◌, ℕ, false, List, [], ◌∷◌, Option, Some, None, Result, Ok, Err, fold, refl, sym, ◌∙◌, ap, subst, arith}
 use Rattle.std.proofs.lemmas.List.Sums.{fold-append}
 use Rattle.told_folder.specs.declared.exchange.Exchange.{Exchange}
 use Rattle.told_mail.specs.Mail.{Mail, folder_in}
 use Rattle.told_folder.specs.declared.message.Folder.{Folder}
-use Rattle.told_mail.specs.Told.{Told, Counts}
+use Rattle.told_mail.specs.Told.{Told}
 use Rattle.told_mail.specs.Exchanges.{tell, TellsKnown}
 use Rattle.gate_world.specs.declared.event.Event.{Event}
 use Rattle.imap_exchange.specs.declared.link_end.LinkEnd.{LinkEnd}
@@ -70,18 +70,6 @@ body_stops folder uid s =
 -- where nothing is told, the count goes on as it should
 pub counts_none : (t : Told) → CountsOn t t
 counts_none t = record { rises = omega arith; stands = λ _ _. refl }
-
--- where the count goes on as it should, it does after one change more that is counted
-pub counts_more : (a b c : Told) → CountsOn a b → Counts b c → CountsOn a c
-counts_more a b c first next =
-    record {
-      rises = omega (arith, first.rises, next.rises);
-      stands = λ same below.
-          let b_is : b.changes ≡ a.changes = omega (arith, first.rises, next.rises, same) in
-          let c_is : c.changes ≡ b.changes = omega (arith, b_is, same) in
-          let b_below : b.changes < 2 ^ 64 - 1 = omega (arith, c_is, below) in
-          next.stands c_is below ∙ first.stands b_is b_below;
-    }
 
 -- of exchanges that all tell what is known, each does
 known_parts : (m : Mail) (xs : List Exchange) (x : Exchange) → AllTellKnown m (xs ++ x ∷ []) → AllTellKnown m xs × TellsKnown (fold tell m xs) x
@@ -166,9 +154,6 @@ done_has_body folder uid bstage.Selecting m is = absurd (select_not_done (folder
 done_has_body folder uid bstage.Fetching m is = absurd (cc is)
 done_has_body folder uid (bstage.Fetched body) m is = tt
 done_has_body folder uid (bstage.Failing why) m is = absurd (cc is)
-
-abbrev pub Bodied : ℕ → ℕ → Mail → Mail → LinkLife → ClientState → Result (List ℕ) LinkEnd → List Event → Type 0
-Bodied folder uid before after life client result es = (left : LinkLife) × FetchesBody folder uid before after life left client result es
 
 abbrev pub FollowsBody : BodyFetch → BodyFetch → LinkLife → LinkLife → ClientState → Result (Unit {0}) LinkEnd → List Event → Type 0
 FollowsBody first last life left client result es = FollowsTo (λ (f : BodyFetch). body_from f.folder f.uid (body_view f)) BodyHears first last life left client result es

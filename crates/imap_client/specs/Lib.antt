@@ -1,3 +1,4 @@
+-- Plans says how what is asked in order is followed; Connecting, Rounds and Bodies are such plans. WholeRounds is for a law.
 pub mod LinkLife
 pub mod Calls
 pub mod Refusals

@@ -22,12 +22,21 @@ Planned = List Exchange → Due
 pub record StopsAtRefusal (plan : Planned) : Type 0 where
   pub stops : (xs : List Exchange) (command : Command) (x : Exchange) → plan xs ≡ due.Send command → x.status ≢ status.Ok → plan (xs ++ x ∷ []) ≢ due.Done
 
+-- the exchange that is due after these, the lives before and after it, and what it adds
+pub record NextExchange (plan : Planned) (heard : List Exchange) : Type 0 where
+  pub before : LinkLife
+  pub command : Command
+  pub exchange : Exchange
+  pub after : LinkLife
+  pub events : List Event
+  pub asked : plan heard ≡ due.Send command
+  pub completes : CompletesExchange before command exchange after events
+
 -- From one life to another by completed exchanges, each of the command that was due.
 pub data Ran (plan : Planned) (life : LinkLife) : List Exchange → LinkLife → List Event → Type 0 where
   Begun : Ran plan life [] life []
-  Then : {xs : List Exchange} {mid after : LinkLife} {es fs : List Event} (command : Command) (x : Exchange) → Ran plan life xs mid es
-      → plan xs ≡ due.Send command
-      → CompletesExchange mid command x after fs → Ran plan life (xs ++ x ∷ []) after (es ++ fs)
+  Then : {heard : List Exchange} {events : List Event} (next : NextExchange plan heard) → Ran plan life heard next.before events
+      → Ran plan life (heard ++ next.exchange ∷ []) next.after (events ++ next.events)
 
 -- The exchanges that a plan heard, from one state of its own to another.
 pub data HearsAll {S : Type 0} (hears : S → Exchange → S → Type 0) (before : S) : List Exchange → S → Type 0 where

@@ -9,6 +9,7 @@ use Rattle.imap_syntax.specs.declared.command.Command.{Command}
 use Rattle.imap_syntax.specs.declared.command.Command.TheVariants as command
 use Rattle.imap_syntax.specs.declared.response.Status.TheVariants as status
 use Rattle.told_folder.specs.declared.exchange.Exchange.{Exchange}
+use Rattle.told_folder.specs.declared.message.Folder.{Folder}
 use Rattle.told_folder.specs.declared.message.Held.{Held}
 use Rattle.told_mail.specs.Mail.{Mail}
 use Rattle.told_mail.specs.Exchanges.{tell}
@@ -21,34 +22,53 @@ pub record IsObeyed (asked : Command) (before : Mail) (x : Exchange) (after : Ma
   pub ok : x.status ≡ status.Ok
   pub told : after ≡ tell before x
 
+-- the folder that is told at this place
+pub record FolderAt (at : ℕ) (mail : Mail) : Type 0 where
+  pub held : Held
+  pub there : slice_get mail.folders at ≡ Some held
+
+-- the exchange of the command for the folder at this place was answered OK, and the mail after it is what it told
+pub record AnsweredAt (at : ℕ) (command_for : Folder → Command) (before : Mail) : Type 0 where
+  pub place : FolderAt at before
+  pub exchange : Exchange
+  pub after : Mail
+  pub obeyed : IsObeyed (command_for place.held.folder) before exchange after
+
 -- The headers that are new in the folder at this place: slices while the UIDNEXT that its SELECT told is further away than a
 -- slice, and then the rest.
 pub data FetchesHeaders (at uid_next : ℕ) : Mail → List Exchange → Mail → Type 0 where
-  Slice : {before mid after : Mail} {xs : List Exchange} (h : Held) (x : Exchange) → slice_get before.folders at ≡ Some h → is_sliced uid_next h.folder ≡ true
-      → IsObeyed (slice_of h.folder) before x mid → FetchesHeaders at uid_next mid xs after → FetchesHeaders at uid_next before (x ∷ xs) after
-  Rest : {before after : Mail} (h : Held) (x : Exchange) → slice_get before.folders at ≡ Some h → is_sliced uid_next h.folder ≡ false
-      → IsObeyed (new_of h.folder) before x after → FetchesHeaders at uid_next before (x ∷ []) after
+  Slice : {before after : Mail} {xs : List Exchange} (slice : AnsweredAt at slice_of before) → is_sliced uid_next slice.place.held.folder ≡ true
+      → FetchesHeaders at uid_next slice.after xs after → FetchesHeaders at uid_next before (slice.exchange ∷ xs) after
+  Rest : {before : Mail} (rest : AnsweredAt at new_of before) → is_sliced uid_next rest.place.held.folder ≡ false
+      → FetchesHeaders at uid_next before (rest.exchange ∷ []) rest.after
 
 -- What is fetched of the folder at this place: all flags first, where it has no mod-sequences.
 pub data FetchesFolder (at uid_next : ℕ) : Mail → List Exchange → Mail → Type 0 where
-  WithModseqs : {before after : Mail} {xs : List Exchange} (h : Held) → slice_get before.folders at ≡ Some h → has_modseqs h.folder ≡ true
+  WithModseqs : {before after : Mail} {xs : List Exchange} (place : FolderAt at before) → has_modseqs place.held.folder ≡ true
       → FetchesHeaders at uid_next before xs after → FetchesFolder at uid_next before xs after
-  WithoutModseqs : {before mid after : Mail} {xs : List Exchange} (h : Held) (x : Exchange) → slice_get before.folders at ≡ Some h
-      → has_modseqs h.folder ≡ false
-      → IsObeyed command.FetchFlags before x mid → FetchesHeaders at uid_next mid xs after → FetchesFolder at uid_next before (x ∷ xs) after
+  WithoutModseqs : {before after : Mail} {xs : List Exchange} (flags : AnsweredAt at (λ _. command.FetchFlags) before)
+      → has_modseqs flags.place.held.folder ≡ false
+      → FetchesHeaders at uid_next flags.after xs after → FetchesFolder at uid_next before (flags.exchange ∷ xs) after
 
 -- The folder at this place: its SELECT, which tells a UIDVALIDITY, and then what is fetched.
 pub data AsksFolder (at : ℕ) : Mail → List Exchange → Mail → Type 0 where
-  Asked : {before mid after : Mail} {xs : List Exchange} (h : Held) (x : Exchange) → slice_get before.folders at ≡ Some h
-      → IsObeyed (command.Select h.folder.name (known_folder h.folder)) before x mid → tells_validity x.responses ≡ true
-      → FetchesFolder at (uid_next_told x.responses) mid xs after → AsksFolder at before (x ∷ xs) after
+  Asked : {before after : Mail} {xs : List Exchange} (select : AnsweredAt at (λ f. command.Select f.name (known_folder f)) before)
+      → tells_validity select.exchange.responses ≡ true
+      → FetchesFolder at (uid_next_told select.exchange.responses) select.after xs after → AsksFolder at before (select.exchange ∷ xs) after
+
+-- the next folder that can be selected from this place on, and what is asked of it
+pub record NextFolder (from : ℕ) (before : Mail) : Type 0 where
+  pub at : ℕ
+  pub exchanges : List Exchange
+  pub after : Mail
+  pub is_next : selectable_from from (drop from before.folders) ≡ Some at
+  pub asks : AsksFolder at before exchanges after
 
 -- Each folder that can be selected from this place on, by number.
 pub data VisitsFrom : ℕ → Mail → List Exchange → Mail → Type 0 where
   NoMore : {from : ℕ} {before : Mail} → selectable_from from (drop from before.folders) ≡ None → VisitsFrom from before [] before
-  Visits : {from : ℕ} {before mid after : Mail} {xs ys : List Exchange} (at : ℕ) → selectable_from from (drop from before.folders) ≡ Some at
-      → AsksFolder at before xs mid
-      → VisitsFrom (at + 1) mid ys after → VisitsFrom from before (xs ++ ys) after
+  Visits : {from : ℕ} {before after : Mail} {xs : List Exchange} (next : NextFolder from before) → VisitsFrom (next.at + 1) next.after xs after
+      → VisitsFrom from before (next.exchanges ++ xs) after
 
 -- A whole round: LIST, and then each folder that can be selected of those that are told then.
 pub record IsWholeRound (before : Mail) (exchanges : List Exchange) (after : Mail) : Type 0 where

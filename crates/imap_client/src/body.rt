@@ -25,9 +25,13 @@ use told_mail::{Exchange, Folder, Mirror, ToldError};
 /// How far the fetch of a body is.
 #[derive(Debug, Drop)]
 pub enum BodyStage {
+    /// SELECT of the folder is due.
     Selecting,
+    /// The folder is selected; FETCH of the body is due.
     Fetching,
+    /// The body's first 50,000,000 octets.
     Fetched(Bytes),
+    /// What the plan ends with.
     Failing(Refusal),
 }
 

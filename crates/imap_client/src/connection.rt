@@ -15,19 +15,28 @@ use told_mail::Exchange;
 pub enum Stage {
     /// Capabilities are asked before LOGIN.
     Asking,
+    /// LOGIN is due.
     LoggingIn,
+    /// CAPABILITY is due once more, after LOGIN or PREAUTH: what it tells now counts.
     AskingAgain,
+    /// The store has IMAP4rev2 and QRESYNC; ENABLE is due.
     Enabling,
+    /// QRESYNC is enabled.
     Connected,
+    /// What the plan ends with.
     Failing(Refusal),
 }
 
 /// CAPABILITY, LOGIN unless the greeting was PREAUTH, CAPABILITY, ENABLE.
 #[derive(Drop)]
 pub struct Connection {
+    /// `Asking` as it begins.
     pub stage: Stage,
+    /// Whether the greeting was PREAUTH.
     pub preauth: bool,
+    /// What LOGIN sends.
     pub user: Bytes,
+    /// What LOGIN sends, one of the world's secrets.
     pub password: Bytes,
 }
 

@@ -12,8 +12,11 @@ use told_mail::Exchange;
 /// Why a plan fails by what the store answered. No other end is a plan's to say.
 #[derive(Clone, Copy, Debug, PartialEq, Eq, Drop)]
 pub enum Refusal {
+    /// NO or BAD to a command that must be obeyed, or LOGIN isn't allowed.
     Refused,
+    /// The store has no IMAP4rev2 or no QRESYNC, or didn't enable QRESYNC.
     NoQresync,
+    /// An OK without what it has to tell, or a folder that isn't there or has another validity.
     Lacks,
 }
 
@@ -31,8 +34,11 @@ pub fn end_of(refusal: Refusal) -> LinkEnd
 /// What is due next.
 #[derive(Debug, Drop)]
 pub enum Due {
+    /// This command, whose exchange is heard next.
     Send(Command),
+    /// No more is asked.
     Done,
+    /// No more is asked, and the link life ends.
     Fails(Refusal),
 }
 

@@ -27,12 +27,17 @@ pub const SLICE_UIDS: u64 = 10_000;
 /// How far a round is. A folder is named by its place among all, by number.
 #[derive(Clone, Copy, Debug, PartialEq, Drop)]
 pub enum RoundStage {
+    /// LIST is due.
     Listing,
+    /// SELECT of the folder is due.
     Selecting(usize),
     /// The UIDNEXT is the one that the folder's SELECT told; 0 where it told none.
     FetchingFlags { at: usize, uid_next: u32 },
+    /// FETCH of headers from the UID on before which all is known, a slice at a time; UIDNEXT as above.
     FetchingHeaders { at: usize, uid_next: u32 },
+    /// No folder is left.
     Finished,
+    /// What the plan ends with.
     Failing(Refusal),
 }
 

@@ -218,12 +218,12 @@ fn text_of(alloc: Global, command: &Command, tag: u64) -> Result<Bytes, AllocErr
     Ok(Bytes::from_vec(out)?)
 }
 
-/// Whether the text may stand in quotes: octets 32 to 126.
+/// Whether the text may stand in quotes: printable ASCII, with the space.
 fn is_printable(text: &[u8]) -> bool
     ensures { result ≡ list_all texts.is_printable text.now }
 {
     for octet in text {
-        if *octet < 32 || 126 < *octet {
+        if *octet < b' ' || b'~' < *octet {
             return false;
         }
     }

@@ -1,5 +1,7 @@
 -- What a store gave in one link life.
 use Rattle.std.specs.Prelude.{ℕ, ◌+◌, ◌-◌, List, [], length}
+use Rattle.gate_world.specs.declared.unread.TheConstants.{MAX_FILL_OCTETS}
+use Rattle.imap_exchange.specs.declared.link_end.TheConstants.{MAX_LIFE_OCTETS}
 
 -- the octets that aren't read yet, and how many were given in all
 pub record Octets : Type 0 where
@@ -10,9 +12,9 @@ pub record Octets : Type 0 where
 abbrev pub nothing_given : Octets
 nothing_given = record { octets = []; given = 0 }
 
--- 2^62 and the octets of one fill: the last fill may go past the limit of a life
+-- the last fill may go past the limit of a life
 abbrev pub most_given : ℕ
-most_given = 4611686018427453440
+most_given = MAX_LIFE_OCTETS + MAX_FILL_OCTETS
 
 -- how many octets of the life can still be read
 abbrev pub room_left : Octets → ℕ

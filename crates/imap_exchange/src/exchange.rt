@@ -24,8 +24,11 @@ use told_folder::Exchange;
 /// What the store answered.
 #[derive(Debug, Drop)]
 pub struct Answer {
+    /// Those before the tagged line, in order, continuations too.
     pub responses: Listed<Response>,
+    /// Of the tagged line: OK, NO or BAD.
     pub status: Status,
+    /// Of the tagged line.
     pub code: Code,
 }
 
@@ -38,9 +41,13 @@ fn tag(alloc: Global, number: u64) -> Result<String, AllocError>
 /// What a response does to the exchange that waits for a tag.
 #[derive(Debug, Drop)]
 pub enum Turn {
+    /// Another response, which is kept.
     Open(Response),
+    /// A continuation, after which the next piece is sent.
     Continue,
+    /// The tagged line that is due.
     Done(Status, Code),
+    /// It ends the link life.
     Ends(LinkEnd),
 }
 

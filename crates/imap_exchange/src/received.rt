@@ -77,7 +77,7 @@ impl Received {
 
     /// Reads further octets from the link, unless too many were given in the exchange or the life. `begun` is what the
     /// life had given before the exchange.
-    pub fn fill<L: Link>(&mut self, link: &mut L, begun: u64) -> Result<(), LinkEnd>
+    pub(crate) fn fill<L: Link>(&mut self, link: &mut L, begun: u64) -> Result<(), LinkEnd>
         requires { begun ≤ self.old.given }
         ensures tape { Adds (L.tape link.old) (L.tape link.new) (Fills begun self.old self.new result) }
         ensures alone { LinkAlone (L.faults link.old) (L.faults link.new) }

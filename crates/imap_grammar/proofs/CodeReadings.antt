@@ -5,7 +5,7 @@ use Rattle.std.proofs.lemmas.Bool.{and_parts, and_from, ltb-true, leb-true, lt-l
 use Rattle.imap_automaton.proofs.Tests.{both}
 use Rattle.imap_syntax.specs.declared.uid_set.UidRange.{UidRange}
 use Rattle.imap_syntax.specs.Numbers.{value_from, IsNonZero, IsLong}
-use Rattle.imap_syntax.specs.ReadCodes.{cut, nonzero_in, long_in, range_in, one_in_set, more_in_set, ranges_in}
+use Rattle.imap_syntax.specs.reading.CodeReading.{cut, nonzero_in, long_in, range_in, one_in_set, more_in_set, ranges_in}
 use Rattle.imap_syntax.proofs.CodeLemmas.{nonzero_sound, nonzero_complete, long_sound, long_complete}
 use Rattle.imap_grammar.specs.reading.Codes.{put_ranges}
 use Rattle.imap_grammar.specs.reading.Reading as reading

@@ -25,7 +25,7 @@ use Rattle.imap_syntax.specs.Octets.{is_digit, is_alnum, is_text, is_word, lower
 use Rattle.imap_syntax.specs.Texts.{Each, Then, plain_of, plain_octets, crlf, IsWord}
 use Rattle.imap_syntax.specs.Numbers.{value_from, IsNumber}
 use Rattle.imap_syntax.specs.Lines.{word_of, IsRest, IsCodedRest, IsTagged, IsWords}
-use Rattle.imap_syntax.specs.ReadCodes.{code_in}
+use Rattle.imap_syntax.specs.reading.CodeReading.{code_in}
 use Rattle.imap_syntax.proofs.CodeLemmas.{has_code}
 use Rattle.imap_syntax.proofs.EachLemmas.{each_to, each_append}
 use Rattle.imap_syntax.specs.declared.code.Code.{Code}

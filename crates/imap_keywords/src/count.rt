@@ -14,8 +14,12 @@ pub const COUNT_DIGITS: u8 = 8;
 /// A count in braces that may stand at the end of a text: none, one with n digits, one with its closing brace.
 #[derive(Clone, Copy)]
 pub enum Pending {
+    /// The text ends in no such count.
     Nothing,
+    /// After `{`: the value of the digits so far, `LITERAL_LIMIT + 1` where it is more than the limit, and how many
+    /// they are.
     Open(u32, u8),
+    /// After the closing brace: the value, as above.
     Closed(u32),
 }
 

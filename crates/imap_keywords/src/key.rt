@@ -2,39 +2,73 @@
 /// A word by which a reader decides.
 #[derive(Clone, Copy)]
 pub enum Key {
+    /// A status, with a tag or without (RFC 9051 section 7.1); `No` and `Bad` likewise.
     Ok,
+    /// The command is refused.
     No,
+    /// The command isn't understood.
     Bad,
+    /// A greeting; only without a tag (RFC 9051 section 7.1.4).
     Preauth,
+    /// The store closes the link; only without a tag (RFC 9051 section 7.1.5).
     Bye,
+    /// Words follow (RFC 9051 section 7.2.2).
     Capability,
+    /// Words follow (RFC 9051 section 7.2.1).
     Enabled,
+    /// A set of UIDs follows (RFC 7162 section 3.2.10).
     Vanished,
+    /// A folder follows (RFC 9051 section 7.3.1).
     List,
+    /// A folder's name and its counts follow (RFC 9051 section 7.3.3).
     Status,
+    /// After the number of messages (RFC 9051 section 7.4.1).
     Exists,
+    /// After a sequence number (RFC 9051 section 7.5.1).
     Expunge,
+    /// After a sequence number; items follow (RFC 9051 section 7.5.2).
     Fetch,
+    /// An item: a number that isn't 0.
     Uid,
+    /// An item, or the first word of a line (RFC 9051 section 7.3.5): names in brackets.
     Flags,
+    /// An item: a long number in brackets (RFC 7162 section 3.1.4.2).
     ModSeq,
+    /// An item: a date in quotes.
     InternalDate,
+    /// `rfc822.size`, an item: a long number.
     Size,
+    /// `body[header]`, an item: a string.
     Header,
+    /// `body[header]<0>`, the item that answers a fetch of the header's first octets.
     HeaderPart,
+    /// `body[]`, an item: a string.
     Body,
+    /// `body[]<0>`, the item that answers a fetch of the message's first octets.
     BodyPart,
+    /// Month 1.
     Jan,
+    /// Month 2.
     Feb,
+    /// Month 3.
     Mar,
+    /// Month 4.
     Apr,
+    /// Month 5.
     May,
+    /// Month 6.
     Jun,
+    /// Month 7.
     Jul,
+    /// Month 8.
     Aug,
+    /// Month 9.
     Sep,
+    /// Month 10.
     Oct,
+    /// Month 11.
     Nov,
+    /// Month 12.
     Dec,
 }
 

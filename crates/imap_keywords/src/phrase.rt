@@ -2,11 +2,17 @@
 /// A fixed text.
 #[derive(Clone, Copy)]
 pub enum Phrase {
+    /// After the `*` that begins a line.
     Space,
+    /// The end of a line.
     Crlf,
+    /// Before the set of a VANISHED (RFC 7162 section 3.2.10).
     Earlier,
+    /// After a mod-sequence.
     Close,
+    /// After the octet of a delimiter.
     Quote,
+    /// No text, or no delimiter (RFC 9051 section 4.5).
     Nil,
 }
 

@@ -7,7 +7,7 @@ use Rattle.std.proofs.lemmas.Bool.{cond-true, cond-false, and_parts, eqb-true, e
 use Rattle.std.proofs.lemmas.Option.{same_Some}
 use Rattle.imap_syntax.specs.Octets.{lower}
 use Rattle.imap_syntax.specs.Texts.{Each}
-use Rattle.imap_syntax.specs.ReadCodes.{cut, put_front}
+use Rattle.imap_syntax.specs.reading.CodeReading.{cut, put_front}
 
 -- ---- tests
 

@@ -6,7 +6,9 @@ use crate::uid_set::UidSet;
 pub enum Code {
     /// No text in brackets stands there.
     Absent,
+    /// RFC 9051 section 7.1. Never 0.
     UidValidity(u32),
+    /// No message to come has a lesser UID (RFC 9051 section 7.1). Never 0.
     UidNext(u32),
     /// RFC 7162 section 3.1.2.1.
     HighestModSeq(u64),

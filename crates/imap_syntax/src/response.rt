@@ -6,16 +6,22 @@ use gate_world::{Bytes, Names};
 /// The status of a tagged or an untagged status response.
 #[derive(Clone, Copy, Debug, PartialEq, Drop)]
 pub enum Status {
+    /// RFC 9051 section 7.1.1. With a tag: the command is done.
     Ok,
+    /// RFC 9051 section 7.1.2. With a tag: the command is refused.
     No,
+    /// RFC 9051 section 7.1.3. With a tag: the command isn't understood.
     Bad,
+    /// A greeting after which no LOGIN is due (RFC 9051 section 7.1.4); it has no tag.
     Preauth,
+    /// The store is about to close the link (RFC 9051 section 7.1.5); it has no tag.
     Bye,
 }
 
 /// The items of a FETCH response, of each the last one told.
 #[derive(Debug, PartialEq, Drop)]
 pub struct FetchItems {
+    /// Never 0. None where it wasn't told; so with each other item.
     pub uid: Option<u32>,
     /// In kept form: lower case, sorted by octets, each once, without `\recent`.
     pub flags: Option<Names>,
@@ -34,8 +40,11 @@ pub struct FetchItems {
 /// The items of a STATUS response, of each the last one told.
 #[derive(Clone, Copy, Debug, PartialEq, Drop)]
 pub struct StatusItems {
+    /// How many the folder has. A value above 2^32 - 1 is passed over; so with both that follow.
     pub messages: Option<u32>,
+    /// UIDNEXT.
     pub uid_next: Option<u32>,
+    /// UIDVALIDITY.
     pub uid_validity: Option<u32>,
     /// The greatest mod-sequence (RFC 7162 section 3.1.2.1).
     pub modseq: Option<u64>,
@@ -44,11 +53,14 @@ pub struct StatusItems {
 /// What one response says.
 #[derive(Debug, PartialEq, Drop)]
 pub enum Response {
+    /// The line that completes a command: OK, NO or BAD.
     Tagged {
+        /// 1 to 32 letters and digits.
         tag: Bytes,
         status: Status,
         code: Code,
     },
+    /// A status line after `* `, of any status.
     Untagged {
         status: Status,
         code: Code,
@@ -74,15 +86,22 @@ pub enum Response {
     },
     /// In kept form, as in a FETCH.
     Flags(Names),
+    /// How many messages the selected folder has (RFC 9051 section 7.4.1).
     Exists(u32),
+    /// The sequence number of a message that is gone (RFC 9051 section 7.5.1).
     Expunge(u32),
+    /// What is told of one message (RFC 9051 section 7.5.2).
     Fetch {
+        /// Its sequence number, which isn't its UID.
         seq: u32,
         items: FetchItems,
     },
+    /// UIDs of messages that are gone (RFC 7162 section 3.2.10).
     Vanished {
+        /// Whether `(EARLIER)` stands before them.
         earlier: bool,
         uids: UidSet,
     },
+    /// An untagged line that begins otherwise. What it says isn't kept.
     Other,
 }

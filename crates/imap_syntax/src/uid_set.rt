@@ -7,13 +7,16 @@ use gate_world::Listed;
 /// The UIDs from `first` to `last`, both among them.
 #[derive(Clone, Copy, Debug, PartialEq, Drop)]
 pub struct UidRange {
+    /// In a set that was read it is not 0, and at most `last`.
     pub first: u32,
+    /// The range holds nothing where it is below `first`.
     pub last: u32,
 }
 
 /// UIDs by ranges, in the order in which they were told.
 #[derive(Debug, PartialEq, Drop)]
 pub struct UidSet {
+    /// They may overlap, and a lesser one may come later.
     pub ranges: Listed<UidRange>,
 }
 

@@ -4,13 +4,42 @@ ghost use Rattle.imap_syntax.specs.DateTimes as dates;
 ghost use Rattle.imap_syntax.specs.Octets as classes;
 ghost use Rattle.imap_values.specs.reading.DateReading as reading;
 
-use crate::dates::{DAYS_TO_EPOCH, SECONDS_OF_DAY, SECONDS_TO_EPOCH};
+use crate::dates::{
+    DAYS_TO_EPOCH, SECONDS_OF_DAY, SECONDS_OF_HOUR, SECONDS_OF_MINUTE, SECONDS_TO_EPOCH,
+};
 use crate::octets::{before, behind, is_key, octet_at};
 use imap_keywords::is_digit;
 use jiff_core::civil::Date;
 
 /// The last second of the year 9999, since the first of the year 0.
 const LAST_SECOND: u64 = 315_569_519_999;
+
+// Where the parts of a date begin, from its quote on.
+const DAY_AT: usize = 1;
+
+const MONTH_AT: usize = 4;
+
+const CENTURY_AT: usize = 8;
+
+const YEAR_AT: usize = 10;
+
+const HOUR_AT: usize = 13;
+
+const MINUTE_AT: usize = 16;
+
+const SECOND_AT: usize = 19;
+
+const SIGN_AT: usize = 22;
+
+const ZONE_HOURS_AT: usize = 23;
+
+const ZONE_MINUTES_AT: usize = 25;
+
+/// The octets of a month's name.
+const MONTH_OCTETS: usize = 3;
+
+/// The years of a century.
+const YEARS_OF_CENTURY: u32 = 100;
 
 /// The digit at a place, or 0.
 fn digit_at(bytes: &[u8], at: usize) -> u32
@@ -119,10 +148,14 @@ fn seconds_of(year: u32, month: u8, day: u32, time: u32, east: bool, zone: u32) 
 pub fn date_in(bytes: &[u8]) -> i64
     ensures { result ≡ reading.date_in bytes.now }
 {
-    let year = 100 * two_at(bytes, 8) + two_at(bytes, 10);
-    let month = month_named(before(behind(bytes, 4), 3));
-    let time = 3600 * two_at(bytes, 13) + 60 * two_at(bytes, 16) + two_at(bytes, 19);
-    let zone = 3600 * two_at(bytes, 23) + 60 * two_at(bytes, 25);
-    let east = octet_at(bytes, 22) == b'+';
-    seconds_of(year, month, two_at(bytes, 1), time, east, zone)
+    let year = YEARS_OF_CENTURY * two_at(bytes, CENTURY_AT) + two_at(bytes, YEAR_AT);
+    let month = month_named(before(behind(bytes, MONTH_AT), MONTH_OCTETS));
+    let day = two_at(bytes, DAY_AT);
+    let time = SECONDS_OF_HOUR * two_at(bytes, HOUR_AT)
+        + SECONDS_OF_MINUTE * two_at(bytes, MINUTE_AT)
+        + two_at(bytes, SECOND_AT);
+    let zone = SECONDS_OF_HOUR * two_at(bytes, ZONE_HOURS_AT)
+        + SECONDS_OF_MINUTE * two_at(bytes, ZONE_MINUTES_AT);
+    let east = octet_at(bytes, SIGN_AT) == b'+';
+    seconds_of(year, month, day, time, east, zone)
 }

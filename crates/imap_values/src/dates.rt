@@ -17,6 +17,15 @@ const LAST_SECOND: i64 = 253_402_300_799;
 /// The seconds of a day.
 pub const SECONDS_OF_DAY: u64 = 86_400;
 
+/// The seconds of an hour.
+pub const SECONDS_OF_HOUR: u32 = 3_600;
+
+/// The seconds of a minute.
+pub const SECONDS_OF_MINUTE: u32 = 60;
+
+/// The minutes of an hour.
+const MINUTES_OF_HOUR: u32 = 60;
+
 /// The seconds from the year 0 on, kept within the years 0 to 9999.
 fn seconds_from(date: i64) -> u64
     ensures value { result ≡ dates.seconds_from date }
@@ -106,11 +115,11 @@ fn push_clock(out: &mut Vec<u8>, seconds: u32) -> Result<(), AllocError>
     requires { seconds ≤ 86399 }
     ensures { OnOk result (out.new.items ≡ out.old.items ++ dates.clock_text seconds) }
 {
-    push_two_digits(out, seconds / 3600)?;
+    push_two_digits(out, seconds / SECONDS_OF_HOUR)?;
     out.push(b':')?;
-    push_two_digits(out, seconds / 60 % 60)?;
+    push_two_digits(out, seconds / SECONDS_OF_MINUTE % MINUTES_OF_HOUR)?;
     out.push(b':')?;
-    push_two_digits(out, seconds % 60)?;
+    push_two_digits(out, seconds % SECONDS_OF_MINUTE)?;
     Ok(())
 }
 

@@ -1,9 +1,10 @@
 -- The arguments that methods share, each with the refusal of a wrong one (RFC 8620 sections 3.6.2 and 5.1).
-use Rattle.std.specs.Prelude.{ℕ, ◌^◌, ◌-◌, List, ℤ, pos, negsuc, nat_lt, if◌then◌else◌, bytes_eq, codes, Option, Some, None, option_map}
+use Rattle.std.specs.Prelude.{ℕ, Bool, ◌&&◌, List, ℤ, pos, neg_ℤ, int_le, nat_lt, if◌then◌else◌, bytes_eq, codes, Option, Some, None, option_map}
 use Rattle.std.specs.Prelude.{option_and_then, Result, Ok, Err, ok_or}
 use Rattle.serde_json.specs.Data.{Num, unsigned, negative, float, Data, null, boolean, number, string, array, object}
 use Rattle.serde_json.specs.Find.{get, as_str}
 use Rattle.jmap_core.specs.Request.{texts_in}
+use Rattle.jmap_core.specs.declared.arguments.TheConstants.{MAX_OBJECTS_IN_GET, MAX_WHOLE_NUMBER}
 use Rattle.jmap_core.specs.declared.method_error.MethodError.{MethodError}
 use Rattle.jmap_core.specs.declared.method_error.MethodError.TheVariants.{InvalidArguments, AccountNotFound, RequestTooLarge}
 
@@ -15,9 +16,9 @@ text_at key d = ok_or (option_and_then as_str (get key d)) InvalidArguments
 abbrev pub account_check : List ℕ → Result (Unit {0}) MethodError
 account_check account = if bytes_eq account (codes "a1") then Ok tt else Err AccountNotFound
 
--- no more than 500 objects are asked for
+-- no more than `MAX_OBJECTS_IN_GET` are asked for
 abbrev pub count_check : ℕ → Result (Unit {0}) MethodError
-count_check count = if nat_lt 500 count then Err RequestTooLarge else Ok tt
+count_check count = if nat_lt MAX_OBJECTS_IN_GET count then Err RequestTooLarge else Ok tt
 
 -- a list of texts, or null, which is also what an argument that isn't there is
 abbrev pub texts_of : Option Data → Result (Option (List (List ℕ))) MethodError
@@ -32,11 +33,14 @@ texts_of (Some (object ms)) = Err InvalidArguments
 abbrev pub texts_at : List ℕ → Data → Result (Option (List (List ℕ))) MethodError
 texts_at key d = texts_of (get key d)
 
--- an integer from -(2^53 - 1) to 2^53 - 1
+-- no further from 0 than `MAX_WHOLE_NUMBER`
+abbrev pub is_within : ℤ → Bool
+is_within z = int_le (neg_ℤ MAX_WHOLE_NUMBER) z && int_le z MAX_WHOLE_NUMBER
+
+-- an integer that JSON's readers keep exactly
 abbrev pub whole_in : Num → Option ℤ
-whole_in (unsigned n) = if nat_lt n (2 ^ 53) then Some (pos n) else None
-whole_in (negative (pos n)) = if nat_lt n (2 ^ 53) then Some (pos n) else None
-whole_in (negative (negsuc n)) = if nat_lt n (2 ^ 53 - 1) then Some (negsuc n) else None
+whole_in (unsigned n) = if is_within (pos n) then Some (pos n) else None
+whole_in (negative z) = if is_within z then Some z else None
 whole_in (float x) = None
 
 -- such an integer, or null, which is also what an argument that isn't there is

@@ -1,3 +1,4 @@
+-- By name. Request says what a body asks, Method and References what calls are, Problem, Response and Session what is answered.
 pub mod Arguments
 pub mod CreatedIds
 pub mod Echo

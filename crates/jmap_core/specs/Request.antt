@@ -14,6 +14,7 @@ use Rattle.jmap_core.specs.declared.request.Using.{Using}
 use Rattle.jmap_core.specs.declared.request.LimitName.TheVariants.{MaxCallsInRequest}
 use Rattle.jmap_core.specs.declared.request.RequestError.{RequestError}
 use Rattle.jmap_core.specs.declared.request.RequestError.TheVariants.{NotJson, NotRequest, UnknownCapability, Limit}
+use Rattle.jmap_core.specs.declared.request_body.TheConstants.{MAX_CALLS_IN_REQUEST}
 
 -- a method call, or the response to one (RFC 8620 section 3.2)
 pub record CallData : Type 0 where
@@ -103,10 +104,10 @@ is_among name names = list_any (λ n. bytes_eq n name) names
 abbrev pub using_of : List (List ℕ) → Using
 using_of names = record { core = is_among core_capability names; mail = is_among mail_capability names }
 
--- the form names no other capability, and has at most 16 calls
+-- the form names no other capability, and has at most `MAX_CALLS_IN_REQUEST`
 abbrev pub admitted : Form → Result RequestData RequestError
 admitted form = if list_all is_capability form.uses
-    then (if nat_lt 16 (length form.calls) then Err (Limit MaxCallsInRequest)
+    then (if nat_lt MAX_CALLS_IN_REQUEST (length form.calls) then Err (Limit MaxCallsInRequest)
     else Ok (record { uses = using_of form.uses; calls = form.calls; created = form.created }))
     else Err UnknownCapability
 

@@ -2,6 +2,10 @@
 use Rattle.std.specs.Prelude.{ℕ, List, [], ◌∷◌, ◌++◌, length, codes, decimal, map, true, false}
 use Rattle.serde_json.specs.Data.{unsigned, Data, null, boolean, number, string, array, object, no_items, no_members, member}
 use Rattle.serde_json.specs.View.{items_of}
+use Rattle.jmap_core.specs.declared.arguments.TheConstants.{MAX_OBJECTS_IN_GET}
+use Rattle.jmap_core.specs.declared.request_body.TheConstants.{MAX_CALLS_IN_REQUEST}
+use Rattle.jmap_core.specs.declared.session.TheConstants.{MAX_SIZE_REQUEST, MAX_SIZE_UPLOAD, MAX_CONCURRENT_REQUESTS, MAX_CONCURRENT_UPLOAD, MAX_OBJECTS_IN_SET}
+use Rattle.jmap_core.specs.declared.session.TheConstants.{MAX_SIZE_ATTACHMENTS_PER_EMAIL, MAX_SIZE_MAILBOX_NAME}
 
 -- The user's length makes it clear where the user ends, so that no two pairs have one text.
 abbrev pub session_state_text : List ℕ → List ℕ → List ℕ
@@ -14,13 +18,13 @@ count n = number (unsigned n)
 abbrev pub core_limits : Data
 core_limits = object
     (member (codes "collationAlgorithms") (array no_items)
-    (member (codes "maxCallsInRequest") (count 16)
-    (member (codes "maxConcurrentRequests") (count 4)
-    (member (codes "maxConcurrentUpload") (count 4)
-    (member (codes "maxObjectsInGet") (count 500)
-    (member (codes "maxObjectsInSet") (count 500)
-    (member (codes "maxSizeRequest") (count 10000000)
-    (member (codes "maxSizeUpload") (count 50000000)
+    (member (codes "maxCallsInRequest") (count MAX_CALLS_IN_REQUEST)
+    (member (codes "maxConcurrentRequests") (count MAX_CONCURRENT_REQUESTS)
+    (member (codes "maxConcurrentUpload") (count MAX_CONCURRENT_UPLOAD)
+    (member (codes "maxObjectsInGet") (count MAX_OBJECTS_IN_GET)
+    (member (codes "maxObjectsInSet") (count MAX_OBJECTS_IN_SET)
+    (member (codes "maxSizeRequest") (count MAX_SIZE_REQUEST)
+    (member (codes "maxSizeUpload") (count MAX_SIZE_UPLOAD)
     no_members))))))))
 
 abbrev pub email_orders : List (List ℕ)
@@ -33,8 +37,8 @@ mail_limits = object
     (member (codes "emailQuerySortOptions") (array (items_of (map string email_orders)))
     (member (codes "maxMailboxDepth") null
     (member (codes "maxMailboxesPerEmail") (count 1)
-    (member (codes "maxSizeAttachmentsPerEmail") (count 50000000)
-    (member (codes "maxSizeMailboxName") (count 255)
+    (member (codes "maxSizeAttachmentsPerEmail") (count MAX_SIZE_ATTACHMENTS_PER_EMAIL)
+    (member (codes "maxSizeMailboxName") (count MAX_SIZE_MAILBOX_NAME)
     (member (codes "mayCreateTopLevelMailbox") (boolean true)
     no_members))))))
 

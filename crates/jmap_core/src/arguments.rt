@@ -38,7 +38,7 @@ pub fn check_account(account: &str) -> Result<(), MethodError>
     }
 }
 
-/// `RequestTooLarge` exactly where more than 500 objects are asked.
+/// `RequestTooLarge` exactly where more than `MAX_OBJECTS_IN_GET` are asked.
 pub fn check_count(count: usize) -> Result<(), MethodError>
     ensures { result ≡ count_check count }
 {
@@ -97,7 +97,7 @@ fn whole_in(value: &Value) -> Option<i64>
     }
 }
 
-/// The integer at the key, from -(2^53 - 1) to 2^53 - 1, `None` where it is null or isn't there, or `InvalidArguments`
+/// The integer at the key, no further from 0 than `MAX_WHOLE_NUMBER`, `None` where it is null or isn't there, or `InvalidArguments`
 /// where something else is.
 pub fn whole_or_null(arguments: &Value, key: &str) -> Result<Option<i64>, MethodError>
     ensures { result ≡ whole_at key.now (view arguments.now) }

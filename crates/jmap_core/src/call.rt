@@ -6,7 +6,10 @@ use serde_json::Value;
 /// has the same three.
 #[derive(Drop)]
 pub struct Call {
+    /// In a response that of its call, or `error`.
     pub name: Text,
+    /// An object.
     pub arguments: Value,
+    /// The client's, which the response repeats.
     pub id: Text,
 }

@@ -35,5 +35,5 @@ pub use references::resolve;
 pub use request::{LimitName, Request, RequestError, Using};
 pub use request_body::{MAX_CALLS_IN_REQUEST, read_request};
 pub use response::{response_text, response_value};
-pub use session::{session_object, session_state};
+pub use session::{MAX_SIZE_REQUEST, MAX_SIZE_UPLOAD, session_object, session_state};
 pub use state::{State, read_state, state_text};

@@ -9,6 +9,23 @@ use crate::{MAX_CALLS_IN_REQUEST, MAX_OBJECTS_IN_GET};
 use serde_json::{Map, Value, json, put};
 use std::alloc::{AllocError, Global};
 
+/// The most octets of a request's body, as the Session tells it (RFC 8620 section 2). The door has the same limit.
+pub const MAX_SIZE_REQUEST: u64 = 10_000_000;
+
+/// The most octets of an upload, as the Session tells it. The store of uploads has the same limit.
+pub const MAX_SIZE_UPLOAD: u64 = 50_000_000;
+
+// Of what no method does yet.
+const MAX_CONCURRENT_REQUESTS: u64 = 4;
+
+const MAX_CONCURRENT_UPLOAD: u64 = 4;
+
+const MAX_OBJECTS_IN_SET: u64 = 500;
+
+const MAX_SIZE_ATTACHMENTS_PER_EMAIL: u64 = 50_000_000;
+
+const MAX_SIZE_MAILBOX_NAME: u64 = 255;
+
 const API_PATH: &str = "/jmap/api";
 
 const DOWNLOAD_PATH: &str = "/jmap/download/{accountId}/{blobId}/{name}?accept={type}";
@@ -31,12 +48,12 @@ fn core_limits(alloc: Global) -> Result<Value, AllocError>
     json!(in alloc; {
         "collationAlgorithms": [],
         "maxCallsInRequest": (MAX_CALLS_IN_REQUEST as u64),
-        "maxConcurrentRequests": 4,
-        "maxConcurrentUpload": 4,
+        "maxConcurrentRequests": MAX_CONCURRENT_REQUESTS,
+        "maxConcurrentUpload": MAX_CONCURRENT_UPLOAD,
         "maxObjectsInGet": (MAX_OBJECTS_IN_GET as u64),
-        "maxObjectsInSet": 500,
-        "maxSizeRequest": 10_000_000,
-        "maxSizeUpload": 50_000_000,
+        "maxObjectsInSet": MAX_OBJECTS_IN_SET,
+        "maxSizeRequest": MAX_SIZE_REQUEST,
+        "maxSizeUpload": MAX_SIZE_UPLOAD,
     })
 }
 
@@ -57,8 +74,8 @@ fn mail_limits(alloc: Global) -> Result<Value, AllocError>
         "emailQuerySortOptions": orders,
         "maxMailboxDepth": null,
         "maxMailboxesPerEmail": 1,
-        "maxSizeAttachmentsPerEmail": 50_000_000,
-        "maxSizeMailboxName": 255,
+        "maxSizeAttachmentsPerEmail": MAX_SIZE_ATTACHMENTS_PER_EMAIL,
+        "maxSizeMailboxName": MAX_SIZE_MAILBOX_NAME,
         "mayCreateTopLevelMailbox": true,
     })
 }

@@ -1,1 +1,2 @@
+-- Which devices of the host the built program is given, by its words.
 pub mod Devices

@@ -82,7 +82,7 @@ stops_name (c ∷ b) v e = blank_no_name c e.0
 pub field_name : (n r b : List ℕ) (f : IsField n r b) → n ≡ front is_name b
 field_name n r b f = sym (front_is is_name n (f.blanks ++ 58 ∷ f.value) f.is_named.0 (stops_name f.blanks f.value f.are_blank)) ∙ ap (front is_name) (sym f.whole)
 
--- behind the name of a field and the white space after it stand the colon and the value
+-- after the name of a field and the white space after it stand the colon and the value
 pub field_rest : (n r b : List ℕ) (f : IsField n r b) → back is_blank (back is_name b) ≡ 58 ∷ f.value
 field_rest n r b f =
     ap (λ (u : List ℕ). back is_blank (back is_name u)) f.whole
@@ -256,13 +256,13 @@ is_field b n r v w en er ev some ew = record {
 
 -- ---- the last of a name
 
--- a field of a name that has no other of that name behind it is the last of the name
+-- a field of a name that has no other of that name after it is the last of the name
 pub last_found : (name : List ℕ) (fs : List NameAndRaw) (f : NameAndRaw) (gs : List NameAndRaw) → is_same_text f.0 name ≡ true → last_named name gs ≡ None
     → last_named name (fs ++ f ∷ gs) ≡ Some f.1
 last_found name [] f gs e n = ap (λ (o : Option (List ℕ)). later_or o (is_same_text f.0 name) f.1) n ∙ cond-true (is_same_text f.0 name) _ _ e
 last_found name (g ∷ fs) f gs e n = ap (λ (o : Option (List ℕ)). later_or o (is_same_text g.0 name) g.1) (last_found name fs f gs e n)
 
--- a field in the list that has the name, where none behind it has, is the last of the name
+-- a field in the list that has the name, where none after it has, is the last of the name
 pub last_at : (name : List ℕ) (l : List Field) (i at : ℕ) (f : Field) → i < length l → at ≡ i + 1 → f ≡ get_or l i f → is_same_text f.name.now name ≡ true
     → last_named name (fields_view (drop at l)) ≡ None → last_named name (fields_view l) ≡ Some f.raw.now
 last_at name l i at f lt n e h none =
@@ -272,7 +272,7 @@ last_at name l i at f lt n e h none =
     ∙ ap (last_named name) (map-append field_view (take i l) (f ∷ drop at l))
     ∙ last_found name (fields_view (take i l)) (field_view f) (fields_view (drop at l)) h none
 
--- the field that is read at a place of the list is the last of the name, where it has the name and none behind it has
+-- the field that is read at a place of the list is the last of the name, where it has the name and none after it has
 pub last_read : (name : List ℕ) (l : List Field) (i at : ℕ) (d : Field) → i < length l → at ≡ i + 1 → is_same_text (get_or l i d).name.now name ≡ true
     → last_named name (fields_view (drop at l)) ≡ None → last_named name (fields_view l) ≡ Some (get_or l i d).raw.now
 last_read name l i at d lt n e none = last_at name l i at (get_or l i d) lt n (get_or_default l i d (get_or l i d) lt) e none
@@ -298,7 +298,7 @@ pub record LastWalked (name : List ℕ) (found : Option (List ℕ)) (rest b : Li
 pub none_walked : (name b : List ℕ) → LastWalked name None b b
 none_walked name b = record { fields = []; walked = nothing_walked b; found_is = refl }
 
--- where the block at the front of the rest was read, the fields are those with its own, if it is a field, and the rest goes on behind it
+-- where the block at the front of the rest was read, the fields are those with its own, if it is a field, and the rest goes on after it
 pub block_walked : (old new : List NameAndRaw) (rest b block more : List ℕ) → Walked old rest b → IsBlockAt rest block more → AddsField block old new → Walked new more b
 block_walked old new rest b block more w i a = walked_block old new rest b block more w i.some i.no_end i.block_is i.rest_is a
 
@@ -309,7 +309,7 @@ last_walked name found new rest b block more w i l =
     let k = l w.fields w.found_is in
     record { fields = k.0; walked = block_walked w.fields k.0 rest b block more w.walked i k.1; found_is = k.2 }
 
--- where a header ends before the rest, it has the fields that were read, and ends behind the empty line, if there is one
+-- where a header ends before the rest, it has the fields that were read, and ends after the empty line, if there is one
 pub walked_done : (fields : List NameAndRaw) (rest b : List ℕ) (n : ℕ) → Walked fields rest b → EndsHeader rest → n ≡ line_end_len rest
     → IsHeader fields (length b - length rest + n) b
 walked_done fields rest b n w (inl e) h =

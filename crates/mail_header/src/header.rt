@@ -8,7 +8,9 @@ use text_words::same_text;
 /// without the last one. Both are parts of the header's octets.
 #[derive(Clone, Copy)]
 pub struct Field<'a> {
+    /// One or more octets from 33 to 126 other than the colon, as they are spelled.
     pub name: &'a [u8],
+    /// With the white space after the colon.
     pub raw: &'a [u8],
 }
 

@@ -7,6 +7,8 @@ use gate_world::{Bytes, Names};
 pub struct Party {
     /// None where the header has no such field.
     pub text: Option<Bytes>,
+    /// The mailbox's name where it has one that isn't empty, and else its address. None where the field is missing, is no
+    /// list of addresses or has no mailbox.
     pub first: Option<Bytes>,
 }
 
@@ -15,9 +17,13 @@ pub struct Party {
 pub struct Envelope {
     /// The text forms of the last fields of these names; None where there is no such field.
     pub subject: Option<Bytes>,
+    /// That of Cc.
     pub cc: Option<Bytes>,
+    /// That of Bcc.
     pub bcc: Option<Bytes>,
+    /// The last From.
     pub from: Party,
+    /// The last To.
     pub to: Party,
     /// The base subject.
     pub base: Bytes,

@@ -91,8 +91,8 @@ pub fn keywords_of(alloc: Global, flags: &Names) -> Result<Names, AllocError>
 {
     let set = keyword_set(alloc, flags.as_slice())?;
     let mut names = Names::new(alloc);
-    for keyword in &set {
-        names.push(Bytes::copy_of(alloc, keyword.as_slice())?)?;
+    for keyword in set {
+        names.push(Bytes::from_vec(keyword)?)?;
     }
     Ok(names)
 }

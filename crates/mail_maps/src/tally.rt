@@ -37,9 +37,13 @@ impl Model for Tally {
 /// The four counts of a Mailbox.
 #[derive(Clone, Copy)]
 pub struct FolderCounts {
+    /// The Emails in it.
     pub total_emails: u64,
+    /// Those of them that have neither `$seen` nor `$draft`.
     pub unread_emails: u64,
+    /// Threads with an Email in it.
     pub total_threads: u64,
+    /// Those of these Threads that have an unread Email, in whatever Mailbox.
     pub unread_threads: u64,
 }
 

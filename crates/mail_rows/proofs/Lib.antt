@@ -11,3 +11,4 @@ pub mod TouchLemmas
 pub mod FollowLemmas
 pub mod LookLemmas
 mod LoopLemmas
+pub mod MailLaws

@@ -4,5 +4,6 @@ mod FolderLemmas
 mod MarkLemmas
 mod NumberLemmas
 mod KeptThreads
+mod TellingLemmas
 mod SoundLemmas
 mod FollowLemmas

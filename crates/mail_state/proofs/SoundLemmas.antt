@@ -18,6 +18,7 @@ use Rattle.told_mail.specs.Mail.{Mail, IsMail}
 use Rattle.mail_maps.specs.Serve.{Immutable, Email, email_of, mailbox_tests, email_tests, thread_tests}
 use Rattle.mail_rows.specs.NumberedRows.{NumberedRows}
 use Rattle.mail_rows.specs.Taking.{TakesMail}
+use Rattle.mail_rows.proofs.MailLaws.{emails_are_shown}
 use Rattle.mail_rows.proofs.OneTake.{one_take}
 use Rattle.mail_rows.proofs.Exact.{exact_mailbox, exact_email, exact_thread}
 use Rattle.mail_rows.proofs.RowLemmas.{found_under}
@@ -42,7 +43,6 @@ use Rattle.mail_state.proofs.EmailLemmas.{InOrder, in_order, taken_in_order, ser
 use Rattle.mail_state.proofs.ThreadLemmas.{thread_rows, threads_have, threads_are_fresh, threads_below_then, some_is}
 use Rattle.mail_state.proofs.FolderLemmas.{mailbox_rows, mailboxes_have, mailboxes_are_fresh, folder_below}
 use Rattle.mail_state.proofs.MarkLemmas.{rows_are, marks_apart}
-use Rattle.mail_state.proofs.NumberLemmas.{visible_known}
 
 -- ---- the first history
 
@@ -84,7 +84,7 @@ first_is_sound epoch = record {
   ascending = nothing_sorted;
   rows = All-nil (IsRowOf []);
   marks = tt;
-  visible = λ mark p is. absurd (let f : None ≡ Some p = is in cc);
+  marks_shown = λ mark. refl;
   immutable = λ i j q u v a b. absurd (let f : None ≡ Some u = sym (none_at i q) ∙ a in cc);
 }
 
@@ -116,7 +116,7 @@ taken_sound h m n sound next takes =
       ascending = order.sorted;
       rows = rows_are h.mail.folders m h.numbered n next.is_mail sound.rows takes;
       marks = marks_apart m h.numbered n next.is_mail sound.marks takes;
-      visible = λ mark p shown. visible_known m.folders h.numbered n mark p takes shown;
+      marks_shown = λ mark. emails_are_shown h.numbered m.folders n mark takes;
       immutable = keeps_immutable h m.folders n sound takes emails;
     }
   where

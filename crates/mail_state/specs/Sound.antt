@@ -1,5 +1,5 @@
 -- What holds of each history.
-use Rattle.std.specs.Prelude.{◌≡◌, ℕ, ◌+◌, ◌≤◌, List, All, true, Some}
+use Rattle.std.specs.Prelude.{◌≡◌, ℕ, ◌+◌, ◌≤◌, List, All, is_some, Some}
 use Rattle.std.specs.List.Sorted.{IsStrictlySortedBy}
 use Rattle.std.specs.Map.{keys_of}
 use Rattle.std.specs.Ordering.{nat_cmp}
@@ -43,6 +43,6 @@ pub record IsSound (h : MailHistory) : Type 0 where
   pub ascending : IsStrictlySortedBy nat_cmp (keys_of h.numbered.rows)
   pub rows : All (IsRowOf h.mail.folders) h.numbered.rows
   pub marks : MarksApart h.numbered.rows
-  -- each visible message has an Email
-  pub visible : (mark : ℕ) (message : Placed) → shown h.mail.folders mark ≡ Some message → knows h.numbered.rows mark ≡ true
+  -- an Email has a mark exactly where the mail shows it
+  pub marks_shown : (mark : ℕ) → knows h.numbered.rows mark ≡ is_some (shown h.mail.folders mark)
   pub immutable : KeepsImmutable h.emails

@@ -1,12 +1,12 @@
 //! The laws of histories and states, as clauses of functions that do nothing.
 ghost use Rattle.std.specs.Prelude.{◌≡◌, ◌↔◌, ℕ, ◌≤◌, ◌<◌, IsTrue, Some};
 ghost use Rattle.change_list.specs.Advance.{IsExact, row_at};
-ghost use Rattle.told_mail.specs.Mail.{Mail};
+ghost use Rattle.told_folder.specs.declared.exchange.Exchange.{Exchange};
+ghost use Rattle.told_mail.specs.Exchanges.{tell};
+ghost use Rattle.told_mail.specs.Mail.{Mail, IsMail};
 ghost use Rattle.served_maps.specs.Past.{had_at};
 ghost use Rattle.mail_maps.specs.declared.row.EmailRow.{EmailRow};
-ghost use Rattle.mail_maps.specs.Visible.{Placed, shown};
 ghost use Rattle.mail_maps.specs.Serve.{Email, ServedMailbox, mailbox_tests, email_tests, thread_tests};
-ghost use Rattle.mail_rows.specs.Remaining.{updated};
 ghost use Rattle.mail_state.specs.History.{MailHistory, IsReached, IsNextMail, Advances, first_history};
 ghost use Rattle.mail_state.specs.Sound.{IsSound};
 ghost use Rattle.mail_state.specs.State.{IsStateOf, first_state};
@@ -27,6 +27,11 @@ pub fn next_mail_joins()
     ensures { (a b c : Mail) → IsNextMail a b → IsNextMail b c → IsNextMail a c }
 {}
 
+/// What an exchange tells is mail that a history can go on to.
+pub fn telling_goes_on()
+    ensures { (m : Mail) (exchange : Exchange) → IsMail (tell m exchange) → IsNextMail m (tell m exchange) }
+{}
+
 /// A history goes on to some mail in one way.
 pub fn one_advance()
     ensures { (h : MailHistory) (m : Mail) (a b : MailHistory) → Advances h m a → Advances h m b → a ≡ b }
@@ -41,13 +46,6 @@ pub fn numbers_are_new()
 pub fn one_mark()
     ensures { (h : MailHistory) (i j q : ℕ) (u v : Email)
         → IsSound h → had_at h.emails i q ≡ Some u → had_at h.emails j q ≡ Some v → u.immutable.mark ≡ v.immutable.mark }
-{}
-
-/// An Email whose mark the mail shows stays under its number, in whatever folder.
-pub fn shown_emails_stay()
-    ensures { (h after : MailHistory) (m : Mail) (q : ℕ) (row : EmailRow) (message : Placed)
-        → IsSound h → Advances h m after → row_at h.numbered.rows q ≡ Some row → shown m.folders row.mark ≡ Some message
-        → row_at after.numbered.rows q ≡ Some (updated row message) }
 {}
 
 /// Of two new Emails the one of the lower number comes first in the mail, by folder number and then UID.

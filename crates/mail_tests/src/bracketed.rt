@@ -23,7 +23,7 @@ const PIECES: [Row; 8] = [
     (b"", 0, b"", b""),
 ];
 
-/// Whether so many names are there, and these are the first and the last.
+/// Whether that many names are there, and these are the first and the last.
 fn are_between(names: &Names, row: &Row) -> bool {
     let last = row.1.saturating_sub(1);
     names.len() == row.1 && names.at(0) == Some(row.2) && names.at(last) == Some(row.3)

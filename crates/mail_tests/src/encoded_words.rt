@@ -132,14 +132,14 @@ fn values_that_are_cut_have_a_text(rt: HostRuntime) {
     }
 }
 
-/// Pieces, ten thousand of which stand between a front and what is behind, and the pieces of their text.
+/// Pieces, ten thousand of which stand between a front and what follows, and the pieces of their text.
 const LONG: [(&str, &str, &str, &str); 3] = [
     ("", "=?", "", "=?"),
     ("", "=? ", "", "=? "),
     ("=?utf-8?Q?", "=C3=A9", "?=", "é"),
 ];
 
-/// The front, ten thousand pieces, and what is behind.
+/// The front, ten thousand pieces, and what follows.
 fn long(rt: &impl Abort, alloc: Global, front: &str, piece: &str, behind: &str) -> String {
     let pieces = piece.repeat(alloc, 10_000).expect(rt, "memory");
     format!(in alloc; "{front}{pieces}{behind}").expect(rt, "memory")

@@ -26,7 +26,7 @@ pub(crate) fn many(rt: &impl Abort, alloc: Global, piece: &[u8], count: usize) -
     text
 }
 
-/// The octets, and more behind them.
+/// The octets, and more after them.
 pub(crate) fn with(rt: &impl Abort, octets: Vec<u8>, behind: &[u8]) -> Vec<u8> {
     let mut octets = octets;
     octets.extend_from_slice(behind).expect(rt, "memory");

@@ -277,13 +277,13 @@ fn parts_have_headers(rt: HostRuntime) {
     expect_headers(&rt, rt.alloc(), &IDS_AND_PLACES);
 }
 
-/// The front, a piece twenty thousand times, and what is behind.
+/// The front, a piece twenty thousand times, and what follows.
 fn long(rt: &impl Abort, alloc: Global, front: &str, piece: &str, behind: &str) -> String {
     let pieces = piece.repeat(alloc, 20_000).expect(rt, "memory");
     format!(in alloc; "{front}{pieces}{behind}").expect(rt, "memory")
 }
 
-/// Pieces of a long type, and whether the charset behind them is read.
+/// Pieces of a long type, and whether the charset after them is read.
 const TYPES: [(&str, &[u8]); 8] = [
     ("; x=y", b"a/b|-|z|-|-|-|-|-|-|"),
     ("  (c)", b"a/b|-|z|-|-|-|-|-|-|"),

@@ -255,7 +255,7 @@ fn parts_above_depth_64_are_split(rt: HostRuntime) {
     );
 }
 
-/// The octets are a multipart of so many parts, of which the last is this text.
+/// The octets are a multipart of `count` parts, of which the last is this text.
 fn expect_parts(rt: &impl Abort, alloc: Global, bytes: &[u8], count: usize, last: &[u8]) {
     let root = tree(rt, alloc, bytes);
     assert_eq!(rt; root.children.len(), count);

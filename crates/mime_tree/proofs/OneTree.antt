@@ -9,6 +9,7 @@ use Rattle.mime_fields.proofs.OneHeader.{one_part_header}
 use Rattle.mime_tree.specs.declared.head.Head.{Head}
 use Rattle.mime_tree.specs.declared.split.Piece.{Piece}
 use Rattle.mime_tree.specs.declared.part.Part.{Part, out-Part}
+use Rattle.mime_tree.specs.declared.tree.TheConstants.{MAX_DEPTH}
 use Rattle.mime_tree.specs.Parts.{children}
 use Rattle.mime_tree.specs.Heads.{IsHead, boundary_of, default_in}
 use Rattle.mime_tree.specs.Trees.{TreeWord, HasHead, IsLeaf, AreTrees, ArePieces, IsPartOf, IsTree, IsMessage}
@@ -114,5 +115,5 @@ one_tree (suc more) b s e d f p q m n g h =
     one_part (IsTree more b) (Same more) (λ s e d f p q m n. one_tree more b s e d f p q m n) g.0 g.2 f p q m n g.4 (subst C (sym r) (subst B w h.4))
 
 -- two parts that are the same message are the same
-pub one_message : (b : List ℕ) (p q : Part) → IsMessage b p → IsMessage b q → Same 64 p q
-one_message b p q g h = (one_tree 64 b 0 (length b) _ 1 p q g.0 h.0 g.1 h.1).1
+pub one_message : (b : List ℕ) (p q : Part) → IsMessage b p → IsMessage b q → Same MAX_DEPTH p q
+one_message b p q g h = (one_tree MAX_DEPTH b 0 (length b) _ 1 p q g.0 h.0 g.1 h.1).1

@@ -3,6 +3,7 @@ use Rattle.std.specs.Prelude.{◌≡◌, ℕ, zero, suc, ◌+◌, true, false, L
 use Rattle.mime_tree.specs.declared.head.Head.{Head}
 use Rattle.mime_tree.specs.declared.split.Piece.{Piece}
 use Rattle.mime_tree.specs.declared.part.Part.{Part, out-Part}
+use Rattle.mime_tree.specs.declared.tree.TheConstants.{MAX_DEPTH}
 use Rattle.mime_tree.specs.Parts.{children}
 use Rattle.mime_tree.specs.Splits.{IsSplit}
 use Rattle.mime_tree.specs.Heads.{IsHead, boundary_of, default_in, leaf_media, leaf_charset, is_multipart, text_plain, seven_bit}
@@ -66,9 +67,9 @@ IsTree (suc more) b s e default first p next =
     (h : Head) × IsHead b s e default h × (qs : Option (List Piece)) × ArePieces (boundary_of h) (slice_range b h.body h.end) qs
     × IsPartOf (IsTree more b) h qs first p next
 
--- the part is the message b, of which a part at depth 64 is a leaf
+-- the part is the message b, of which a part at depth MAX_DEPTH is a leaf
 abbrev pub IsMessage : List ℕ → Part → Type 0
-IsMessage b p = (next : ℕ) × IsTree 64 b 0 (length b) text_plain 1 p next
+IsMessage b p = (next : ℕ) × IsTree MAX_DEPTH b 0 (length b) text_plain 1 p next
 
 -- a part with a number and no parts in it, which is no multipart
 pub record IsSingle (p : Part) : Type 0 where

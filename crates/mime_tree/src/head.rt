@@ -15,12 +15,15 @@ use text_words::{Class, cut, same_text};
 /// What a part's header says, and where the header and the body stand.
 #[derive(Drop)]
 pub struct Head {
+    /// As it is read, without defaults.
     pub header: PartHeader,
     /// The media type that the header names, or else the default one.
     pub media: Bytes,
+    /// The place where the header begins, in octets from the front of the message.
     pub start: usize,
     /// The place after the header, where the body begins.
     pub body: usize,
+    /// The place after the body.
     pub end: usize,
 }
 

@@ -15,9 +15,13 @@ use std::alloc::AllocError;
 /// Body lists that grow while parts are walked.
 #[derive(Drop)]
 pub struct Growing {
+    /// Numbers of leaves, as in the lists below: those shown as plain text, in the order of the walk.
     pub text: Vec<u64>,
+    /// Those shown as HTML.
     pub html: Vec<u64>,
+    /// Those offered as attachments.
     pub attachments: Vec<u64>,
+    /// Whether one of the attachments has a disposition other than inline, or none.
     pub has_attachment: bool,
 }
 

@@ -17,6 +17,7 @@ pub struct BodyLists {
     pub text: Listed<u64>,
     /// What is shown as HTML.
     pub html: Listed<u64>,
+    /// What is offered beside the body; an image, audio or video may be in the other lists too.
     pub attachments: Listed<u64>,
     /// Whether an attachment has a disposition other than inline, or none.
     pub has_attachment: bool,

@@ -10,7 +10,9 @@ use text_words::{cut, same_text};
 /// What a multipart is to the parts in it.
 #[derive(Clone, Copy, PartialEq, Eq, Debug)]
 pub enum Multipart {
+    /// RFC 2046 section 5.1.4: its parts are versions of the same.
     Alternative,
+    /// RFC 2387: a leaf directly in it is inline only as its first part.
     Related,
     /// Any other.
     Mixed,
@@ -19,6 +21,7 @@ pub enum Multipart {
 /// Where a walk over the parts of a multipart stands.
 #[derive(Clone, Copy)]
 pub struct Walk {
+    /// What the parts stand in; Mixed for the root.
     pub multipart: Multipart,
     /// Whether the multipart is an alternative, or stands in one.
     pub within: bool,

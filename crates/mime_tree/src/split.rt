@@ -13,6 +13,7 @@ use text_words::{White, are_all};
 /// What a line is to a multipart.
 #[derive(Clone, Copy, PartialEq, Eq, Debug)]
 pub enum Mark {
+    /// Any other line.
     Plain,
     /// A delimiter line, after which a part begins.
     Opens,
@@ -23,7 +24,9 @@ pub enum Mark {
 /// Where a part stands, in octets.
 #[derive(Clone, Copy, PartialEq, Eq, Debug)]
 pub struct Piece {
+    /// Where it begins, from the front of the octets in which it stands.
     pub start: usize,
+    /// The place after its last octet. The line end before a delimiter line isn't of the part.
     pub end: usize,
 }
 

@@ -15,7 +15,7 @@ use gate_world::{Bytes, Listed};
 use std::alloc::{AllocError, Global};
 
 /// The depth at which each part is a leaf. The root is at depth 0.
-const MAX_DEPTH: usize = 64;
+pub const MAX_DEPTH: usize = 64;
 
 /// The tree of the octets of a message, which may be any. A part without a header takes no memory but its own place.
 pub fn parse(alloc: Global, bytes: &[u8]) -> Result<Part, AllocError>

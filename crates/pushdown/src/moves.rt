@@ -9,6 +9,8 @@ pub enum Move<S> {
     Yield,
     /// The octet ends the symbol.
     End,
+    /// The octet is taken, and this symbol stands in place of the one before.
     One(S),
+    /// The octet is taken; the first of these reads on, and the second reads after it.
     Two(S, S),
 }

@@ -6,6 +6,7 @@ use Rattle.serde_json.specs.Data.{unsigned, Data, number, string, array, object,
 use Rattle.serde_json.specs.View.{items_of}
 use Rattle.jmap_core.specs.Arguments.{text_at, account_check, count_check, texts_at}
 use Rattle.jmap_core.specs.Request.{is_among}
+use Rattle.jmap_core.specs.declared.arguments.TheConstants.{MAX_OBJECTS_IN_GET}
 use Rattle.jmap_core.specs.declared.method_error.MethodError.{MethodError}
 use Rattle.jmap_core.specs.declared.method_error.MethodError.TheVariants.{InvalidArguments, RequestTooLarge}
 use Rattle.read_methods.specs.declared.mailbox_counts.MailboxCounts.{MailboxCounts}
@@ -96,11 +97,11 @@ get_data state list missing = object
     (member (codes "state") (string state)
     no_members))))
 
--- Asked by ids, those that are there, in the order asked; asked by null, all, where they are no more than 500.
+-- Asked by ids, those that are there, in the order asked; asked by null, all, where they are no more than `MAX_OBJECTS_IN_GET`.
 abbrev pub answer_to : List ℕ → List MailboxCounts → Properties → Option (List (List ℕ)) → Result Data MethodError
 answer_to state mailboxes wanted (Some ids) = Ok (get_data state (filter_map (shown wanted mailboxes) (distinct ids))
     (map string (filter (is_missing mailboxes) (distinct ids))))
-answer_to state mailboxes wanted None = if nat_lt 500 (length mailboxes) then Err RequestTooLarge
+answer_to state mailboxes wanted None = if nat_lt MAX_OBJECTS_IN_GET (length mailboxes) then Err RequestTooLarge
     else Ok (get_data state (map (mailbox_data wanted) mailboxes) [])
 
 abbrev pub answered : List ℕ → List MailboxCounts → Result Asked MethodError → Result Data MethodError

@@ -4,6 +4,8 @@
 #[cfg(test)]
 mod asked_words;
 #[cfg(test)]
+mod beginnings;
+#[cfg(test)]
 mod http_clients;
 #[cfg(test)]
 mod scripts;
@@ -11,5 +13,7 @@ mod scripts;
 mod seen;
 #[cfg(test)]
 mod shown_messages;
+#[cfg(test)]
+mod told_pages;
 #[cfg(test)]
 mod whole_runs;

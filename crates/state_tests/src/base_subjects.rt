@@ -76,7 +76,7 @@ fn put_times(rt: &impl Abort, text: &mut Vec<u8>, part: &[u8], times: u32) {
     }
 }
 
-/// `front` so many times, and then `back` as often.
+/// `front` n times, and then `back` as often.
 fn nested(rt: &impl Abort, alloc: Global, front: &[u8], back: &[u8], times: u32) -> Vec<u8> {
     let mut text = Vec::new(alloc);
     put_times(rt, &mut text, front, times);

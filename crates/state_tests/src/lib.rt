@@ -8,12 +8,6 @@ mod change_answers;
 #[cfg(test)]
 mod encoded_subjects;
 #[cfg(test)]
-mod mail_walk;
-#[cfg(test)]
-mod plain_mail;
-#[cfg(test)]
-mod random_mail;
-#[cfg(test)]
 mod random_touches;
 #[cfg(test)]
 mod threads;

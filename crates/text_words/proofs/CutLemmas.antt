@@ -35,14 +35,14 @@ back_stops {A} p (x ∷ t) = by (p x) refl (back_stops p t)
     by true e h = h
     by false e h = e
 
--- elements that pass, with none that passes directly behind them, are the front of a list
+-- elements that pass, with none that passes directly after them, are the front of a list
 pub front_is : {A : Type 0} (p : A → Bool) (x y : List A) → Each p x → Stops p y → front p (x ++ y) ≡ x
 unfolding front
 front_is p [] [] e s = refl
 front_is p [] (c ∷ y) e s = cond-false (p c) _ _ s
 front_is {A} p (c ∷ x) y e s = cond-true (p c) _ _ e.0 ∙ ap (λ (u : List A). c ∷ u) (front_is p x y e.1 s)
 
--- what stands behind elements that pass, and doesn't begin with one that passes, is what is cut off
+-- what stands after elements that pass, and doesn't begin with one that passes, is what is cut off
 pub back_is : {A : Type 0} (p : A → Bool) (x y : List A) → Each p x → Stops p y → back p (x ++ y) ≡ y
 unfolding back
 back_is p [] [] e s = refl

@@ -29,7 +29,7 @@ one_blob s t u d e =
     let c = one_cut is_blank a.gap b.gap t u r.back a.blank d.stops b.blank e.stops in
     c.back
 
--- where octets that may stand in a blob go from "[" up to "]", that blob is dropped with all white space behind it
+-- where octets that may stand in a blob go from "[" up to "]", that blob is dropped with all white space after it
 pub blob_here : (s i g : List ℕ) → s ≡ 91 ∷ i → back is_blob_char i ≡ 93 ∷ g → DropsBlob s (back is_blank g)
 blob_here s i g e f =
     let inside = front is_blob_char i in
@@ -147,7 +147,7 @@ mark_whole s t d =
     d.whole ∙ ap (λ (u : List ℕ). u ++ t) m.whole ∙ append_assoc m.word (m.gap ++ (m.blob ++ 58 ∷ [])) t
     ∙ ap (λ (u : List ℕ). m.word ++ u) (append_assoc m.gap (m.blob ++ 58 ∷ []) t ∙ ap (λ (u : List ℕ). m.gap ++ u) (append_assoc m.blob (58 ∷ []) t))
 
--- of a text with a reply mark, the letters at the front are its word, and behind white space stand a blob, if any, and the colon
+-- of a text with a reply mark, the letters at the front are its word, and after white space stand a blob, if any, and the colon
 pub mark_read : (s t : List ℕ) → Drops IsReplyMark s t → ReadsMark s t
 mark_read s t d =
     let m = d.is in

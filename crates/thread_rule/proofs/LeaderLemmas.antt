@@ -35,7 +35,7 @@ marked_behind s u t d e = record {
   is = BehindBlob d.drops.piece e.piece d.drops.is e.is;
 }
 
--- where a blob is dropped, a reply mark behind blobs can still be dropped, and leaves the same text
+-- where a blob is dropped, a reply mark after blobs can still be dropped, and leaves the same text
 pub marked_past : (s u t : List ℕ) → DropsBlob s u → Drops IsMarkBehindBlobs s t → Drops IsMarkBehindBlobs u t
 marked_past s u t d e = by e.piece e.is e.whole
   where

@@ -57,7 +57,7 @@ pub data Listed (x y : ℕ) (es : List ℕ) : Type 0 where
   First : x ≡ y → Listed x y es
   Behind : list_any (is_at (nat_cmp x)) es ≡ true → Listed x y es
 
--- a number in a list is the first, or is listed behind it
+-- a number in a list is the first, or is listed after it
 pub listed_where : (x y : ℕ) (es : List ℕ) → list_any (is_at (nat_cmp x)) (y ∷ es) ≡ true → Listed x y es
 listed_where x y es e = by (is_at (nat_cmp x) y) refl e
   where

@@ -19,7 +19,7 @@ use Rattle.told_folder.specs.declared.telling.Work.{Work}
 use Rattle.told_folder.proofs.FolderLemmas.{with_twice, held_with}
 use Rattle.told_folder.proofs.IndexLemmas.{mark_of, mark_was, same_or_not, indexed_cut}
 use Rattle.told_folder.proofs.KeyedLemmas.{some_is_not_none, some_same, ascends_cut}
-use Rattle.told_folder.proofs.OpenLemmas.{telling_same, goes_on_to}
+use Rattle.told_folder.proofs.OpenLemmas.{telling_same, goes_on_to, undone}
 use Rattle.told_folder.proofs.StepLemmas.{without_same}
 use Rattle.told_folder.proofs.VanishLemmas.{found_without, filter_short, head_found, head_passed}
 
@@ -171,20 +171,9 @@ lost_goes old new u x found on cut next upd =
 -- out of memory, and the messages stay
 pub lost_fails : (old new : Work) (t : Telling) (e : AllocError) → new.folder ≡ old.folder → new.messages ≡ old.messages → new.marks ≡ old.marks → new.next_mark ≡ old.next_mark
     → new.changes ≡ old.changes → GoesOk old new t (Err e)
-lost_fails old new t e folder messages marks next changes = record {
-  known = λ k. tt;
-  on = record { folder = folder; rises = omega (arith, changes); stands = λ f l. messages; draws = λ f l. next };
-  ascends = λ a. subst (λ (zs : List Message). Ascends uid_of zs) (sym messages) a;
-  told = tt;
-  index = λ hs i. record {
-    there = subst (λ n. is_some (held_in hs n) ≡ true) (sym folder) i.there;
-    indexed =
-        subst (λ n. IsIndexed (with_messages hs n new.messages) new.marks new.next_mark) (sym folder)
-        (subst (λ (zs : List Message). IsIndexed (with_messages hs old.folder zs) new.marks new.next_mark) (sym messages)
-        (subst (λ (m : BTreeMap ℕ (ℕ × ℕ)). IsIndexed (with_messages hs old.folder old.messages) m new.next_mark) (sym marks)
-        (subst (λ n. IsIndexed (with_messages hs old.folder old.messages) old.marks n) (sym next) i.indexed)));
-  };
-}
+lost_fails old new t e folder messages marks next changes =
+    undone old new t e folder messages next changes
+    (λ hs i. subst (λ (m : BTreeMap ℕ (ℕ × ℕ)). IsIndexed (with_messages hs old.folder old.messages) m old.next_mark) (sym marks) i)
 
 -- ---- message by message, and range by range
 

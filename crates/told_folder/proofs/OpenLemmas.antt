@@ -3,7 +3,6 @@ use Rattle.std.proofs.Common.{◌≡◌, ◌≢◌, ℕ, ◌+◌, ◌<◌, ◌�
 use Rattle.std.proofs.Common.{arith, eqb, inl, inr, cond, if◌then◌else◌, nat_cmp, is_some}
 use Rattle.std.specs.BTreeMap.{BTreeMap, get, is_at}
 use Rattle.std.specs.Option.{option_map}
-use Rattle.std.specs.Bool.{OnTrue, Decides}
 use Rattle.told_folder.specs.Keyed.{Ascends, with_key, put_keyed}
 use Rattle.told_folder.specs.Folders.{uid_of, held_in, messages_of, message_in, mark_in, with_messages}
 use Rattle.told_folder.specs.Index.{IsIndexed}
@@ -21,11 +20,6 @@ use Rattle.told_folder.proofs.KeyedLemmas.{found_put, ascends_put, some_same}
 use Rattle.told_folder.proofs.PartLemmas.{some_there, found_key, put_found}
 use Rattle.told_folder.proofs.FolderLemmas.{with_twice, held_with, messages_other, numbers_with, uids_with}
 use Rattle.told_folder.proofs.IndexLemmas.{mark_of, mark_same, mark_was, same_or_not, inverts_same, eqb_same, eqb_apart, indexed_put, indexed_again}
-
--- where a test that decides a statement is true, the statement holds
-pub on_true : (r : Bool) (P : Type 0) → Decides r P → OnTrue r P
-on_true true P d = d.0 refl
-on_true false P d = tt
 
 -- the marks of every place stay, where they stay at each UID of the open folder
 pub marks_stay : (hs : List Held) (n : ℕ) (h : Held) (ys : List Message) → held_in hs n ≡ Some h
@@ -202,13 +196,14 @@ stays old t e = record {
   index = λ hs i. i;
 }
 
--- out of memory, and the mark that was put was cut again
-pub put_fails : (old new : Work) (t : Telling) (k : ℕ) (p : ℕ × ℕ) (marks : BTreeMap ℕ (ℕ × ℕ)) (e : AllocError) → old.next_mark ≤ k → new.folder ≡ old.folder
-    → new.messages ≡ old.messages → new.next_mark ≡ old.next_mark → new.changes ≡ old.changes
-    → ((q : ℕ) → get nat_cmp marks q ≡ cond (is_at (nat_cmp k) q) (Some p) (get nat_cmp old.marks q))
-    → ((q : ℕ) → get nat_cmp new.marks q ≡ cond (is_at (nat_cmp k) q) None (get nat_cmp marks q)) → GoesOk old new t (Err e)
-put_fails old new t k p marks e fresh folder messages next changes upd upd' = record {
-  known = λ e. tt;
+-- out of memory, and all is as it was but the marks, by which the index is right
+pub undone : (old new : Work) (t : Telling) (e : AllocError) → new.folder ≡ old.folder → new.messages ≡ old.messages → new.next_mark ≡ old.next_mark
+    → new.changes ≡ old.changes
+    → ((hs : List Held) → IsIndexed (with_messages hs old.folder old.messages) old.marks old.next_mark
+    → IsIndexed (with_messages hs old.folder old.messages) new.marks old.next_mark)
+    → GoesOk old new t (Err e)
+undone old new t e folder messages next changes marks = record {
+  known = λ k. tt;
   on = record { folder = folder; rises = omega (arith, changes); stands = λ f l. messages; draws = λ f l. next };
   ascends = λ a. subst (λ (zs : List Message). Ascends uid_of zs) (sym messages) a;
   told = tt;
@@ -217,21 +212,23 @@ put_fails old new t k p marks e fresh folder messages next changes upd upd' = re
     indexed =
         subst (λ n. IsIndexed (with_messages hs n new.messages) new.marks new.next_mark) (sym folder)
         (subst (λ (zs : List Message). IsIndexed (with_messages hs old.folder zs) new.marks new.next_mark) (sym messages)
-        (subst (λ n. IsIndexed (with_messages hs old.folder old.messages) new.marks n) (sym next)
-        (indexed_again (with_messages hs old.folder old.messages) old.marks marks new.marks old.next_mark k p i.indexed
-        (λ q f. omega (arith, i.indexed.below q k f, fresh)) upd upd')));
+        (subst (λ n. IsIndexed (with_messages hs old.folder old.messages) new.marks n) (sym next) (marks hs i.indexed)));
   };
 }
 
+-- out of memory, and the mark that was put was cut again
+pub put_fails : (old new : Work) (t : Telling) (k : ℕ) (p : ℕ × ℕ) (marks : BTreeMap ℕ (ℕ × ℕ)) (e : AllocError) → old.next_mark ≤ k → new.folder ≡ old.folder
+    → new.messages ≡ old.messages → new.next_mark ≡ old.next_mark → new.changes ≡ old.changes
+    → ((q : ℕ) → get nat_cmp marks q ≡ cond (is_at (nat_cmp k) q) (Some p) (get nat_cmp old.marks q))
+    → ((q : ℕ) → get nat_cmp new.marks q ≡ cond (is_at (nat_cmp k) q) None (get nat_cmp marks q)) → GoesOk old new t (Err e)
+put_fails old new t k p marks e fresh folder messages next changes upd upd' =
+    undone old new t e folder messages next changes
+    (λ hs i. indexed_again (with_messages hs old.folder old.messages) old.marks marks new.marks old.next_mark k p i
+    (λ q f. omega (arith, i.below q k f, fresh)) upd upd')
+
 -- out of memory, and nothing was changed
 pub fails : (old : Work) (t : Telling) (e : AllocError) → GoesOk old old t (Err e)
-fails old t e = record {
-  known = λ k. tt;
-  on = record { folder = refl; rises = omega arith; stands = λ f l. refl; draws = λ f l. refl };
-  ascends = λ a. a;
-  told = tt;
-  index = λ hs i. i;
-}
+fails old t e = undone old old t e refl refl refl refl (λ hs i. i)
 
 -- ---- what a FETCH comes to
 

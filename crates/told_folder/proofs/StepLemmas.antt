@@ -1,6 +1,6 @@
 -- What holds as responses are read in order, and as a folder comes to what was told of it.
 use Rattle.std.proofs.Common.{◌≡◌, ◌≢◌, ℕ, ◌+◌, ◌-◌, ◌^◌, ◌<◌, ◌≤◌, zero, suc, Bool, true, false, not, List, [], ◌∷◌, Option, Some, None, Result, Ok, Err, OnOk, length}
-use Rattle.std.proofs.Common.{get_or, drop, max, min, refl, sym, ap, ◌∙◌, subst, arith, eqb, unwrap_or, if◌then◌else◌, nat_cmp, ◌||◌}
+use Rattle.std.proofs.Common.{get_or, drop, max, min, refl, sym, ap, ◌∙◌, subst, arith, unwrap_or, if◌then◌else◌, nat_cmp, ◌||◌}
 use Rattle.std.specs.BTreeSet.{BTreeSet, contains}
 use Rattle.std.specs.List.{list_any, filter_map, cons_option}
 use Rattle.std.specs.declared.alloc.AllocError.{AllocError}
@@ -18,6 +18,7 @@ use Rattle.told_folder.specs.declared.message.Held.{Held}
 use Rattle.told_folder.specs.declared.message.Message.{Message}
 use Rattle.told_folder.specs.declared.telling.Work.{Work}
 use Rattle.told_folder.proofs.FolderLemmas.{held_same}
+use Rattle.told_folder.proofs.IndexLemmas.{eqb_apart}
 use Rattle.told_folder.proofs.OpenLemmas.{telling_same, on_ok_map, goes_on_to, known_stays}
 
 -- ---- what is left to read
@@ -82,17 +83,9 @@ module _ (rs : List Response) (i : ℕ) (r : Response) (h : i < length rs) (is :
     outer : (a b c : ℕ) → max a (max b c) ≡ max (max a b) c
     outer a b c = omega arith
 
--- where no response is left, the value told last is the one so far
-pub last_end : (value : Response → Option ℕ) (was : ℕ) (rs : List Response) (i : ℕ) → length rs ≤ i → last_told value was (drop i rs) ≡ was
-last_end value was rs i h = ap (λ (qs : List Response). last_told value was qs) (none_left rs i h)
-
 -- where no response is left, the responses after the last CLOSED are those found so far
 pub closed_end : (after rs : List Response) (i : ℕ) → length rs ≤ i → closed after (drop i rs) ≡ after
 closed_end after rs i h = ap (λ (qs : List Response). closed after qs) (none_left rs i h)
-
--- where no response is left, the number past all UIDs is the one so far
-pub past_end : (xs : List Message) (n : ℕ) (rs : List Response) (i : ℕ) → length rs ≤ i → max n (past_told xs (drop i rs)) ≡ n
-past_end xs n rs i h = ap (λ (qs : List Response). max n (past_told xs qs)) (none_left rs i h) ∙ omega arith
 
 -- ---- the codes of a SELECT
 
@@ -101,13 +94,10 @@ pub without_all : (xs : List Message) → without_those (λ u. true) xs ≡ []
 without_all [] = refl
 without_all (x ∷ xs) = without_all xs
 
--- numbers that differ compare as not equal
-pub keyed_apart : (v w : ℕ) → v ≢ w → eqb v w ≡ false
-keyed_apart v w apart = grind arith
-
 -- under another validity a folder has that validity, its `next` at 1, and no messages
 pub under_other : (v : ℕ) (h : Held) → v ≢ h.folder.validity → under v h ≡ record { folder = record h.folder { validity = v; next = 1 }; messages = [] }
-under_other v h apart = ap (λ b. if b then h else record { folder = record h.folder { validity = v; next = 1 }; messages = [] }) (keyed_apart v h.folder.validity apart)
+under_other v h apart = ap (λ b. if b then h else record { folder = record h.folder { validity = v; next = 1 }; messages = [] })
+    (eqb_apart v h.folder.validity (λ e. apart (sym e)))
 
 validity_of : Held → ℕ
 validity_of h = h.folder.validity
@@ -222,16 +212,3 @@ told_whole old a b d f f1 g c rs adding result start is mid end =
           ∙ ap (λ (zs : List Message). ended_command c rs f zs) messages_h ∙ k.after ∙ held_same _ _ _ _ (sym folder_h) (sym messages_h) in
           on_ok_map result (λ e. e ∙ second ∙ first) (end.known over);
     }
-
--- out of memory within the responses
-pub told_part : (old a b : Work) (f f1 : Folder) (c : Command) (rs : List Response) (Known : Type 0) (t : Telling) (h : Held) (e : AllocError) → Steps old a f f1 h
-    → GoesWith Known a b t (Err e) → Tells old b f f1 c rs (Err e)
-told_part old a b f f1 c rs Known t h e start mid = record {
-  keeps = keeps_on old a b f f1 f1 start.on mid.on start.keeps (record { same = refl; stands = λ x l. refl });
-  on = goes_on_to old a b start.on mid.on;
-  ascends = λ u. mid.ascends (start.ascends u);
-  index = λ hs i. mid.index hs (start.index hs i);
-  told = tt;
-  next_mark = tt;
-  known = λ k. tt;
-}

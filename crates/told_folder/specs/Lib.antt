@@ -1,3 +1,4 @@
+-- What the responses of a command tell of a folder stands in ToldBy. Places and Work are for the steps of the code.
 pub mod Keyed
 pub mod Places
 pub mod Folders

@@ -1,5 +1,5 @@
 -- What the responses of an exchange tell of the messages of one folder (RFC 9051, RFC 7162).
-use Rattle.std.specs.Prelude.{◌≡◌, ℕ, ℤ, ◌+◌, ◌^◌, ◌==◌, ◌&&◌, nat_le, nat_lt, not, Bool, true, false, List, [], ◌∷◌, Option, Some, None, filter, if◌then◌else◌}
+use Rattle.std.specs.Prelude.{◌≡◌, ℕ, ℤ, ◌+◌, ◌==◌, ◌&&◌, nat_le, nat_lt, not, Bool, true, false, List, [], ◌∷◌, Option, Some, None, filter, if◌then◌else◌}
 use Rattle.std.specs.Prelude.{length, take}
 use Rattle.std.specs.List.{list_any}
 use Rattle.imap_syntax.specs.declared.response.Response.{Response}
@@ -8,7 +8,9 @@ use Rattle.imap_syntax.specs.declared.response.FetchItems.{FetchItems}
 use Rattle.imap_syntax.specs.declared.uid_set.UidRange.{UidRange}
 use Rattle.told_folder.specs.Keyed.{with_key, put_keyed}
 use Rattle.told_folder.specs.Folders.{uid_of}
+use Rattle.told_folder.specs.declared.headers.TheConstants.{MAX_HEADER_OCTETS}
 use Rattle.told_folder.specs.declared.message.Message.{Message}
+use Rattle.told_folder.specs.declared.telling.TheConstants.{MAX_MARK}
 
 -- the messages of the folder that is told of, and the next mark
 pub record Telling : Type 0 where
@@ -32,10 +34,6 @@ abbrev pub with_flags : Message → Option (List (List ℕ)) → Message
 with_flags x None = x
 with_flags x (Some flags) = record x { flags = flags }
 
--- the octets of a header that count
-abbrev pub HEADER_OCTETS : ℕ
-HEADER_OCTETS = 32768
-
 -- up to the last line end, and with it
 abbrev pub whole_lines : List ℕ → List ℕ
 whole_lines [] = []
@@ -43,12 +41,12 @@ whole_lines (b ∷ bs) = if list_any (λ c. c == 10) (b ∷ bs) then b ∷ whole
 
 -- a header that was cut loses its last line where that has no line end
 abbrev pub kept_header : List ℕ → List ℕ
-kept_header bs = if nat_lt (length bs) HEADER_OCTETS then bs else whole_lines (take HEADER_OCTETS bs)
+kept_header bs = if nat_lt (length bs) MAX_HEADER_OCTETS then bs else whole_lines (take MAX_HEADER_OCTETS bs)
 
 -- a new message, where all of it is told and a mark is left
 abbrev pub new_message : ℕ → ℕ → Option (List (List ℕ)) → Option ℤ → Option ℕ → Option (List ℕ) → Option Message
 new_message mark uid (Some flags) (Some date) (Some size) (Some header) =
-    if nat_lt mark (2 ^ 53) then Some (record { uid = uid; mark = mark; flags = flags; date = date; size = size; header = kept_header header }) else None
+    if nat_le mark MAX_MARK then Some (record { uid = uid; mark = mark; flags = flags; date = date; size = size; header = kept_header header }) else None
 new_message mark uid _ _ _ _ = None
 
 abbrev pub with_new : Telling → Option Message → Telling

@@ -1,2 +1,3 @@
+-- What loops over responses have gathered: private clauses and proofs alone speak of it.
 pub mod Loops
 pub mod Parts

@@ -9,12 +9,15 @@ use std::alloc::AllocError;
 /// A completed exchange.
 #[derive(Debug, Drop)]
 pub struct Exchange {
+    /// What was asked.
     pub command: Command,
     /// The folder that was selected as the command was sent.
     pub selected: Option<Bytes>,
     /// Those before the tagged line, in order.
     pub responses: Listed<Response>,
+    /// Of the tagged line: OK, NO or BAD.
     pub status: Status,
+    /// Of the tagged line.
     pub code: Code,
 }
 

@@ -6,8 +6,8 @@ ghost use Rattle.told_folder.specs.Tell.{whole_lines};
 use gate_world::Bytes;
 use std::alloc::{AllocError, Global};
 
-/// Octets of a header that count.
-const HEADER_OCTETS: usize = 32_768;
+/// How many octets of a header count.
+pub const MAX_HEADER_OCTETS: usize = 32_768;
 
 const LF: u8 = b'\n';
 
@@ -28,10 +28,10 @@ pub fn kept_header(alloc: Global, header: &Bytes) -> Result<Bytes, AllocError>
     ensures { IfOk result (λ b. b ≡ told.kept_header header.now) }
 {
     let octets = header.as_slice();
-    if octets.len() < HEADER_OCTETS {
+    if octets.len() < MAX_HEADER_OCTETS {
         return header.share();
     }
-    let counted = octets.split_at(HEADER_OCTETS).0;
+    let counted = octets.split_at(MAX_HEADER_OCTETS).0;
     let end = whole_lines_len(counted);
     Bytes::copy_of(alloc, counted.split_at(end).0)
 }

@@ -1,5 +1,5 @@
 // Responses told to the messages of one folder.
-ghost use Rattle.std.specs.Prelude.{◌≡◌, ◌≤◌, ◌+◌, ◌-◌, ◌^◌, ◌<◌, ℕ, ◌∷◌, ◌++◌, length, List, OnOk, IfOk, IsSome, not, slice_get, Some, None, IsTrue, ◌↔◌, Bool, true};
+ghost use Rattle.std.specs.Prelude.{◌≡◌, ◌≤◌, ◌+◌, ◌-◌, ℕ, ◌∷◌, ◌++◌, length, List, OnOk, IfOk, IsSome, not, slice_get, Some, None, IsTrue, ◌↔◌, Bool, true};
 ghost use Rattle.told_folder.specs.Keyed.{Ascends, with_key, put_keyed};
 ghost use Rattle.told_folder.specs.Folders.{uid_of, with_messages};
 ghost use Rattle.told_folder.specs.Tell as told;
@@ -20,16 +20,21 @@ use std::alloc::{AllocError, Global};
 use std::collections::BTreeMap;
 use std::mem;
 
-/// Marks are below this number.
-const MARKS: u64 = 1 << 53;
+/// The last mark: JSON's readers keep integers exactly up to it.
+pub const MAX_MARK: u64 = 9_007_199_254_740_991;
 
 /// A folder's messages while responses are told to it, and what changes with them.
 #[derive(Drop)]
 pub struct Work {
+    /// The folder's number.
     pub folder: u64,
+    /// Those of the folder.
     pub messages: Messages,
+    /// The folder's number and the UID of each mark, those of other folders too.
     pub marks: BTreeMap<u64, (u64, u32)>,
+    /// The mark that the next new message gets.
     pub next_mark: u64,
+    /// How often the mail was changed, up to 2^64 - 1.
     pub changes: u64,
 }
 
@@ -81,7 +86,7 @@ fn put_new(work: &mut Work, message: Message) -> Result<(), AllocError>
     requires ascends { Ascends uid_of work.old.messages }
     requires free { with_key uid_of message.uid work.old.messages ≡ None }
     requires mark { message.mark ≡ work.old.next_mark }
-    requires fits { work.old.next_mark < 2 ^ 53 }
+    requires fits { work.old.next_mark ≤ MAX_MARK }
     ensures { GoesOk work.old work.new (with_new (telling_of work.old) (Some message)) result }
 {
     let mark = message.mark;
@@ -120,7 +125,7 @@ fn message_of(
     let Some(header) = &items.header else {
         return Ok(None);
     };
-    if mark >= MARKS {
+    if mark > MAX_MARK {
         return Ok(None);
     }
     let flags = flags.share(alloc)?;

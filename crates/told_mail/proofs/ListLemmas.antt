@@ -4,8 +4,7 @@ use Rattle.std.specs.BTreeMap.{BTreeMap}
 use Rattle.std.proofs.lemmas.List.{append_assoc, append-nil, take_more}
 use Rattle.std.proofs.lemmas.List.Elements.{filter-append}
 use Rattle.std.proofs.Common.{◌≡◌, ℕ, ◌+◌, ◌<◌, ◌≤◌, zero, suc, true, false, List, [], ◌∷◌, ◌++◌, Option, Some, None, Result, Ok, Err, OnOk, length}
-use Rattle.std.proofs.Common.{get_or, set, take, drop, refl, sym, ap, ◌∙◌, subst, arith, eqb, is_some, if◌then◌else◌}
-use Rattle.std.specs.Cmp.Lexicographic.{pointwise}
+use Rattle.std.proofs.Common.{get_or, set, take, drop, refl, sym, ap, ◌∙◌, subst, arith, is_some, if◌then◌else◌}
 use Rattle.std.specs.declared.alloc.AllocError.{AllocError}
 use Rattle.imap_syntax.specs.declared.command.Command.{Command}
 use Rattle.imap_syntax.specs.declared.response.Response.{Response}
@@ -24,24 +23,8 @@ use Rattle.told_mail.specs.reading.Index.{IsNamedAt}
 use Rattle.told_mail.specs.reading.Lines.{lined, lined_by, lined_here, lined_at, is_listed, AreLinesFrom}
 use Rattle.told_mail.specs.reading.Rises.{Rises}
 use Rattle.told_mail.proofs.LineLemmas.{has_line_is}
-use Rattle.told_mail.proofs.ToldLemmas.{known_at, set_at}
 
 -- ---- the folder of a name
-
--- where the folder at a place has the name, it is the first of the name from there on
-pub named_here : (hs : List Held) (at : ℕ) (x h : Held) (name : List ℕ) → at < length hs → x ≡ get_or hs at x → h ≡ get_or hs at h → pointwise eqb x.folder.name name ≡ true
-    → named (drop at hs) name ≡ Some h
-named_here hs at x h name within is is_h same =
-    ap (λ (zs : List Held). named zs name) (left hs at x within is)
-    ∙ ap (λ b. if b then Some x else named (drop (at + 1) hs) name) same
-    ∙ ap (λ z. Some z) (known_at hs at x h within is is_h)
-
--- where the folder at a place has another name, the first of the name from there on is the first after it
-pub named_on : (hs : List Held) (at : ℕ) (x : Held) (name : List ℕ) → at < length hs → x ≡ get_or hs at x → pointwise eqb x.folder.name name ≡ false
-    → named (drop at hs) name ≡ named (drop (at + 1) hs) name
-named_on hs at x name within is apart =
-    ap (λ (zs : List Held). named zs name) (left hs at x within is)
-    ∙ ap (λ b. if b then Some x else named (drop (at + 1) hs) name) apart
 
 -- what follows from two things that hold at Ok holds at Ok
 pub on_ok_both : {T E : Type 0} (r : Result T E) {P Q R : Type 0} → (P → Q → R) → OnOk r P → OnOk r Q → OnOk r R
@@ -61,10 +44,6 @@ pub named_known : (m : Mail) (c : Command) (rs : List Response) (name : List ℕ
 named_known m c rs name at P result is known k =
     let item = item_at folder_number m.folders at is.within in
     known item.0 item.1 (subst (λ (o : Option Held). KnownOf c rs m.next_mark o) (is.found item.0 item.1) k)
-
--- a name that has a place has a folder
-pub named_some : (hs : List Held) (name : List ℕ) (at : ℕ) → IsNamedAt hs name at → is_some (named hs name) ≡ true
-named_some hs name at is = let item = item_at folder_number hs at is.within in ap is_some (is.found item.0 item.1)
 
 -- two steps in order that each count what changes do so together
 pub rises_on : (a b c : Told) → Rises a b → Rises b c → Rises a c
@@ -98,16 +77,6 @@ pub list_some_ok : (m n : Mail) (rs : List Response) (at : ℕ) (h : Held) (l : 
     → OnOk result ((k : Held) → k ≡ get_or m.folders at k → n ≡ record m { folders = set m.folders at (with_line l k) }) → OnOk result (n ≡ lined_at rs at m)
 list_some_ok m n rs at h l result within is line told = on_ok_map result
     (λ f. f h is ∙ ap (λ (hs : List Held). record m { folders = hs }) (sym (lined_some rs m.folders at h l within is (sym line)))) told
-
--- what follows where a line tells its folder as it is follows where telling the LIST to that folder changes nothing
-pub list_some_known : (m : Mail) (rs : List Response) (at : ℕ) (h : Held) (l : lists.Line) (P : Type 0) → at < length m.folders → h ≡ get_or m.folders at h
-    → Some l ≡ line_for h.folder.name rs → ((k : Held) → k ≡ get_or m.folders at k → with_line l k ≡ k → P) → lined_at rs at m ≡ m → P
-list_some_known m rs at h l P within is line known e =
-    known h is (set_at m.folders at h (with_line l h) within is (sym (lined_some rs m.folders at h l within is (sym line)) ∙ ap (λ (k : Mail). k.folders) e))
-
--- where no line names the folder at a place, telling the LIST to the folder there changes nothing
-pub list_none_ok : (m : Mail) (rs : List Response) (at : ℕ) (h : Held) → at < length m.folders → h ≡ get_or m.folders at h → None ≡ line_for h.folder.name rs → m ≡ lined_at rs at m
-list_none_ok m rs at h within is line = ap (λ (hs : List Held). record m { folders = hs }) (sym (lined_none rs m.folders at h within is (sym line)))
 
 heads : (x y : Held) (xs ys : List Held) → x ∷ xs ≡ y ∷ ys → x ≡ y
 heads x y xs ys f = cc
@@ -144,11 +113,6 @@ lined_all : (rs : List Response) (hs : List Held) → map (lined rs) (take (leng
 lined_all rs [] = refl
 lined_all rs (x ∷ xs) = ap (λ (zs : List Held). lined rs x ∷ zs) (lined_all rs xs)
 
--- a place within the folders is within them after the LIST is told to those before it
-pub lined_within : (rs : List Response) (m now : Mail) (at : ℕ) → at < length m.folders → now ≡ record m { folders = map (lined rs) (take at m.folders) ++ drop at m.folders }
-    → at < length now.folders
-lined_within rs m now at h e = let all : length now.folders ≡ length m.folders = ap (λ (k : Mail). length k.folders) e ∙ lined_length rs m.folders at in omega (arith, all, h)
-
 -- when the LIST is told to the folder at a place after those before it, it is told to all up to it
 pub lined_more : (rs : List Response) (m now new : Mail) (at : ℕ) → at < length m.folders → now ≡ record m { folders = map (lined rs) (take at m.folders) ++ drop at m.folders }
     → new ≡ lined_at rs at now → new ≡ record m { folders = map (lined rs) (take (at + 1) m.folders) ++ drop (at + 1) m.folders }
@@ -161,12 +125,6 @@ pub lined_known : (rs : List Response) (m now : Mail) (at : ℕ) → at < length
 lined_known rs m now at h same e =
     let here : now ≡ m = e ∙ ap (λ (hs : List Held). record m { folders = hs }) (lined_rest rs m.folders at same) in
     lined_more rs m now (lined_at rs at now) at h e refl ∙ ap (λ (hs : List Held). record m { folders = hs }) (lined_rest rs m.folders (at + 1) same) ∙ sym here
-
--- at the end of the folders the LIST is told to all of them
-pub lined_end : (rs : List Response) (m now : Mail) (at : ℕ) → at ≡ length m.folders → now ≡ record m { folders = map (lined rs) (take at m.folders) ++ drop at m.folders }
-    → now ≡ record m { folders = map (lined rs) m.folders }
-lined_end rs m now at h e = e ∙ ap (λ j. record m { folders = map (lined rs) (take j m.folders) ++ drop j m.folders }) h ∙ ap (λ (hs : List Held). record m { folders = hs })
-    (lined_all rs m.folders)
 
 -- ---- folders that no line tells
 

@@ -32,7 +32,8 @@ use Rattle.told_mail.specs.reading.Names.{place_in, AllOther, AreApart, AllFree}
 use Rattle.told_mail.specs.Lists.{is_inbox, inbox_first, listed, put_listed, line_for, with_line, names_told, new_names, new_folder, with_new_folder}
 use Rattle.told_mail.proofs.LineLemmas.{at, at_is, by_items, filter_same, line_name}
 use Rattle.told_folder.proofs.StepLemmas.{left}
-use Rattle.std.proofs.Common.{◌+◌, ◌^◌, ltb}
+use Rattle.std.proofs.Common.{◌+◌, leb}
+use Rattle.told_mail.specs.declared.mirror.listing.TheConstants.{MAX_FOLDER_NUMBER}
 
 -- a name is the same as itself
 pub is_self : (a : List ℕ) → is_same a a ≡ true
@@ -252,7 +253,7 @@ free_added : (m : Mail) (o : Option lists.Line) (name : List ℕ) (qs : List (Li
     → AllFree (with_new_folder m o).folders qs
 free_added m None name qs named f o = f
 free_added m (Some l) name qs named f o =
-    elim (ltb m.next_folder (2 ^ 53)) as (λ b. AllFree (if b then record {
+    elim (leb m.next_folder MAX_FOLDER_NUMBER) as (λ b. AllFree (if b then record {
       folders = m.folders ++ new_folder m.next_folder l ∷ [];
       next_mark = m.next_mark;
       next_folder = m.next_folder + 1;
@@ -275,10 +276,6 @@ free_rest rs m new names i name w is apart f e =
     let here : AllFree m.folders (name ∷ drop (i + 1) names) = subst (λ (qs : List (List ℕ)). AllFree m.folders qs) (left names i name w is) f in
     subst (λ (k : Mail). AllFree k.folders (drop (i + 1) names)) (sym e)
     (free_added m (line_for name rs) name (drop (i + 1) names) (line_name name rs) here.1 (apart_from names i name w is apart))
-
--- the name of the first is free
-pub free_first : (hs : List Held) (names : List (List ℕ)) (i : ℕ) (name : List ℕ) → i < length names → name ≡ get_or names i name → AllFree hs (drop i names) → named hs name ≡ None
-free_first hs names i name w is f = (subst (λ (qs : List (List ℕ)). AllFree hs qs) (left names i name w is) f).0
 
 -- the keys of a map ascend, so that each name is another
 pub apart_sorted : (ks : List (Vec ℕ Global)) → IsStrictlySortedBy by_items ks → AreApart (map (λ (v : Vec ℕ Global). v.items) ks)

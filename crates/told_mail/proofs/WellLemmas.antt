@@ -1,6 +1,6 @@
 -- What telling keeps of well-formed mail.
 use Rattle.std.proofs.Common.{◌≡◌, ◌≢◌, ℕ, ℤ, ◌+◌, ◌≤◌, ◌<◌, ◌^◌, Bool, true, false, not, List, [], ◌∷◌, ◌++◌, Option, Some, None, refl, ◌∙◌, subst, arith, filter}
-use Rattle.std.proofs.Common.{ltb, ltb-true, eqb, is_some, unwrap_or, if◌then◌else◌}
+use Rattle.std.proofs.Common.{leb, leb-true, ltb, eqb, is_some, unwrap_or, if◌then◌else◌}
 use Rattle.std.specs.List.{AllByRecursion, filter_map, cons_option, list_any}
 use Rattle.imap_syntax.specs.declared.command.Command.{Command}
 use Rattle.imap_syntax.specs.declared.command.Command.TheVariants as command
@@ -16,6 +16,8 @@ use Rattle.told_folder.specs.ToldBy.{adds, selected_first, next_after, kept_afte
 use Rattle.told_folder.specs.declared.message.Folder.{Folder}
 use Rattle.told_folder.specs.declared.message.Held.{Held}
 use Rattle.told_folder.specs.declared.message.Message.{Message}
+use Rattle.told_folder.specs.declared.telling.TheConstants.{MAX_MARK}
+use Rattle.told_mail.specs.declared.mirror.listing.TheConstants.{MAX_FOLDER_NUMBER}
 use Rattle.told_folder.proofs.KeyedLemmas.{some_same}
 use Rattle.imap_syntax.specs.declared.response.Status.{Status}
 use Rattle.imap_syntax.specs.declared.response.Status.TheVariants as status
@@ -83,7 +85,7 @@ all_last P (y ∷ ys) x a e =
 
 -- messages and a next mark as they may be
 abbrev IsWellTold : Telling → Type 0
-IsWellTold t = AllByRecursion IsWellFormedMessage t.messages × (0 < t.next_mark) × (t.next_mark ≤ 2 ^ 53)
+IsWellTold t = AllByRecursion IsWellFormedMessage t.messages × (0 < t.next_mark) × (t.next_mark ≤ MAX_MARK + 1)
 
 well_flags : (x : Message) (fl : Option (List (List ℕ))) → ((fs : List (List ℕ)) → fl ≡ Some fs → kept fs ≡ fs) → IsWellFormedMessage x → IsWellFormedMessage (with_flags x fl)
 well_flags x None f m = m
@@ -97,9 +99,9 @@ well_new t uid (Some fl) (Some d) None header f s = s
 well_new t uid (Some fl) (Some d) (Some z) None f s = s
 well_new t uid (Some fl) (Some d) (Some z) (Some h) f s =
     let x : Message = record { uid = uid; mark = t.next_mark; flags = fl; date = d; size = z; header = kept_header h } in
-    elim (ltb t.next_mark (2 ^ 53)) as (λ b. ltb t.next_mark (2 ^ 53) ≡ b → IsWellTold (with_new t (if b then Some x else None))) [
+    elim (leb t.next_mark MAX_MARK) as (λ b. leb t.next_mark MAX_MARK ≡ b → IsWellTold (with_new t (if b then Some x else None))) [
       | true ↦ λ e.
-          let less : t.next_mark < 2 ^ 53 = ltb-true _ _ e in
+          let less : t.next_mark ≤ MAX_MARK = leb-true _ _ e in
           (all_put uid_of IsWellFormedMessage x t.messages (record { marked = s.1; mark = less; flags = f fl refl }) s.0, omega arith, omega (arith, less))
       | false ↦ λ e. s
     ] refl
@@ -184,8 +186,8 @@ well_kept : (c : Command) (rs : List Response) (xs : List Message) → AllByRecu
 well_kept command.FetchFlags rs xs a = all_filter IsWellFormedMessage (λ (x : Message). not (not (is_told rs x.uid))) xs a
 well_kept _ rs xs a = a
 
-well_told : (c : Command) (rs : List Response) (nm : ℕ) (h : Held) → FitsSlice c → AllSpelled rs → 0 < nm → nm ≤ 2 ^ 53 → IsWellFormedHeld h
-    → IsWellFormedHeld (told_by c rs nm h) × (0 < (telling_by c rs nm h).next_mark) × ((telling_by c rs nm h).next_mark ≤ 2 ^ 53)
+well_told : (c : Command) (rs : List Response) (nm : ℕ) (h : Held) → FitsSlice c → AllSpelled rs → 0 < nm → nm ≤ MAX_MARK + 1 → IsWellFormedHeld h
+    → IsWellFormedHeld (told_by c rs nm h) × (0 < (telling_by c rs nm h).next_mark) × ((telling_by c rs nm h).next_mark ≤ MAX_MARK + 1)
 well_told c rs nm h fits sp l m w =
     let first : IsWellFormedHeld (selected_first c rs h) = well_first c rs h w in
     let by : IsWellTold (telling_by c rs nm h) = well_responses (adds c) (telling_in nm (selected_first c rs h)) rs sp (first.messages, l, m) in
@@ -202,7 +204,7 @@ well_told c rs nm h fits sp l m w =
 
 -- folders and counters as they may be
 abbrev IsWellMade : Mail → Type 0
-IsWellMade m = AllByRecursion IsWellFormedHeld m.folders × (0 < m.next_mark) × (m.next_mark ≤ 2 ^ 53) × (0 < m.next_folder) × (m.next_folder ≤ 2 ^ 53)
+IsWellMade m = AllByRecursion IsWellFormedHeld m.folders × (0 < m.next_mark) × (m.next_mark ≤ MAX_MARK + 1) × (0 < m.next_folder) × (m.next_folder ≤ MAX_FOLDER_NUMBER + 1)
 
 well_held : (m : Mail) (c : Command) (rs : List Response) (name : List ℕ) (o : Option Held) → FitsSlice c → AllSpelled rs → named m.folders name ≡ o → IsWellMade m
     → IsWellMade (tell_held m c rs o)
@@ -263,13 +265,13 @@ well_more : (m : Mail) (o : Option lists.Line) → ((l : lists.Line) → o ≡ S
 well_more m None f w = w
 well_more m (Some l) f w =
     let line : IsWellLine l = f l refl in
-    elim (ltb m.next_folder (2 ^ 53)) as (λ b. ltb m.next_folder (2 ^ 53) ≡ b → IsWellMade (if b then record {
+    elim (leb m.next_folder MAX_FOLDER_NUMBER) as (λ b. leb m.next_folder MAX_FOLDER_NUMBER ≡ b → IsWellMade (if b then record {
       folders = m.folders ++ new_folder m.next_folder l ∷ [];
       next_mark = m.next_mark;
       next_folder = m.next_folder + 1;
     } else m)) [
       | true ↦ λ e.
-          let less : m.next_folder < 2 ^ 53 = ltb-true _ _ e in (
+          let less : m.next_folder ≤ MAX_FOLDER_NUMBER = leb-true _ _ e in (
             all_append IsWellFormedHeld m.folders (new_folder m.next_folder l) w.0 (record {
               folder = record { numbered = w.3; number = less; delimiter = line.0; attributes = line.1; begun = omega arith; next = omega arith };
               messages = tt;

@@ -1,5 +1,5 @@
 -- What a LIST tells of the folders (RFC 9051 section 6.3.9).
-use Rattle.std.specs.Prelude.{◌≡◌, ℕ, ◌+◌, ◌^◌, ◌==◌, ◌&&◌, nat_lt, not, Bool, List}
+use Rattle.std.specs.Prelude.{◌≡◌, ℕ, ◌+◌, ◌==◌, ◌&&◌, nat_le, not, Bool, List}
 use Rattle.std.specs.Prelude.{[], ◌∷◌, ◌++◌, Option, Some, None, filter, map, if◌then◌else◌, is_some, codes}
 use Rattle.std.specs.List.{list_all, filter_map}
 use Rattle.std.specs.BTreeSet.{insert_key}
@@ -9,6 +9,7 @@ use Rattle.imap_syntax.specs.declared.response.Response.{Response}
 use Rattle.imap_syntax.specs.declared.response.Response.TheVariants as response
 use Rattle.told_folder.specs.declared.message.Held.{Held}
 use Rattle.told_folder.specs.Keyed.{last_of}
+use Rattle.told_mail.specs.declared.mirror.listing.TheConstants.{MAX_FOLDER_NUMBER}
 use Rattle.told_mail.specs.Mail.{Mail, is_same, named}
 
 pub record Line : Type 0 where
@@ -66,7 +67,7 @@ new_folder n l = record {
 -- a new folder takes the next number, where one is left
 abbrev pub with_new_folder : Mail → Option Line → Mail
 with_new_folder m None = m
-with_new_folder m (Some l) = if nat_lt m.next_folder (2 ^ 53) then record {
+with_new_folder m (Some l) = if nat_le m.next_folder MAX_FOLDER_NUMBER then record {
   folders = m.folders ++ new_folder m.next_folder l ∷ [];
   next_mark = m.next_mark;
   next_folder = m.next_folder + 1;

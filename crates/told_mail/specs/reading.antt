@@ -1,3 +1,4 @@
+-- How a mirror is kept, and how far loops over its folders have come: private clauses and proofs alone speak of it.
 pub mod Index
 pub mod Lines
 pub mod Names

@@ -17,8 +17,11 @@ const LF: u8 = b'\n';
 /// A folder as a LIST tells it.
 #[derive(Clone, Copy, Drop)]
 pub struct Line<'a> {
+    /// As it was told, but `INBOX` whatever the case of its letters. No octet is 0, LF or CR.
     pub name: &'a Bytes,
+    /// None where folders have no hierarchy.
     pub delimiter: Option<u8>,
+    /// In kept form.
     pub attributes: &'a Names,
 }
 

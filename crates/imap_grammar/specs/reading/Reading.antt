@@ -13,7 +13,7 @@ use Rattle.imap_syntax.specs.declared.response.Response.TheVariants.{Tagged, Unt
 use Rattle.imap_syntax.specs.declared.response.Response.TheVariants.{Other}
 use Rattle.imap_syntax.specs.Octets.{is_word, lower}
 use Rattle.imap_syntax.specs.Items.{no_items}
-use Rattle.imap_syntax.specs.ReadCodes.{code_in}
+use Rattle.imap_syntax.specs.reading.CodeReading.{code_in}
 unfoldable pub use Rattle.imap_grammar.specs.reading.ItemReading.{value_in, item_in, items_in}
 
 -- ---- lines

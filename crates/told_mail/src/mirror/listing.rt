@@ -21,8 +21,8 @@ use std::alloc::AllocError;
 use std::collections::BTreeMap;
 use told_folder::puts::one_more;
 
-/// Numbers of folders are below this one.
-const FOLDERS: u64 = 1 << 53;
+/// The last number of a folder: JSON's readers keep integers exactly up to it.
+pub const MAX_FOLDER_NUMBER: u64 = 9_007_199_254_740_991;
 
 impl Mirror {
     /// What a line of a LIST tells of the folder at a place.
@@ -113,7 +113,7 @@ impl Mirror {
     /// Puts a folder of the next number after the others, without messages.
     fn push_folder(&mut self, folder: Folder) -> Result<(), AllocError>
         requires next { folder.number ≡ self.old.mail.next_folder }
-        requires number { folder.number < 2 ^ 53 }
+        requires number { folder.number ≤ MAX_FOLDER_NUMBER }
         requires free { named self.old.mail.folders folder.name ≡ None }
         ensures ok { OnOk result (self.new.mail ≡ with_pushed self.old.mail folder) }
         ensures counted { OnOk result (self.new.changes ≡ counted_up self.old.changes) }
@@ -150,7 +150,7 @@ impl Mirror {
         let Some(line) = line_for(responses, lines, name.as_slice()) else {
             return Ok(());
         };
-        if self.next_folder >= FOLDERS {
+        if self.next_folder > MAX_FOLDER_NUMBER {
             return Ok(());
         }
         let folder = new_folder(self.alloc, self.next_folder, line)?;

@@ -2,6 +2,8 @@
 ghost use Rattle.std.specs.Prelude.{◌≡◌, ◌≢◌, ℕ, ◌+◌, ◌^◌, ◌<◌, ◌≤◌, None, Some, length, IsSome, OnOk, OnErr, IfSome, OnSome, IfNone, take, drop, ◌++◌};
 ghost use Rattle.told_folder.specs.Folders.{folder_number, folder_in, held_in, message_in, mark_in};
 ghost use Rattle.told_folder.specs.Places.{IsHeldAt, IsFreeAt};
+ghost use Rattle.told_folder.specs.declared.telling.TheConstants.{MAX_MARK};
+ghost use Rattle.told_mail.specs.declared.mirror.listing.TheConstants.{MAX_FOLDER_NUMBER};
 ghost use Rattle.told_mail.specs.Mail.{with_folder, with_message, without_folder, Cuts, NameIsFree, IsKept};
 ghost use Rattle.told_mail.specs.Told.{counted_up};
 
@@ -22,7 +24,7 @@ impl Mirror {
         requires new_uid { message_in self.old.mail.folders folder message.uid ≡ None }
         requires new_mark { (p : ℕ × ℕ) → mark_in self.old.mail.folders p ≢ Some message.mark }
         requires positive { 0 < message.mark }
-        requires mark { message.mark < 2 ^ 53 }
+        requires mark { message.mark ≤ MAX_MARK }
         requires flags { IsKept message.flags }
         ensures ok { OnOk result (self.new.mail ≡ with_message self.old.mail folder message) }
         ensures counted { OnOk result (self.new.changes ≡ counted_up self.old.changes) }
@@ -96,7 +98,7 @@ impl Mirror {
     /// Puts a folder of a new number at its place, without messages. A refusal changes nothing.
     fn put_folder_at(&mut self, place: usize, folder: Folder) -> Result<(), AllocError>
         requires free { IsFreeAt folder_number folder.number self.old.mail.folders place }
-        requires number { folder.number < 2 ^ 53 }
+        requires number { folder.number ≤ MAX_FOLDER_NUMBER }
         requires name { NameIsFree self.old.mail.folders folder }
         ensures ok { OnOk result (self.new.mail ≡ with_folder self.old.mail folder) }
         ensures counted { OnOk result (self.new.changes ≡ counted_up self.old.changes) }
@@ -123,7 +125,7 @@ impl Mirror {
     /// A refusal changes nothing.
     pub fn put_folder(&mut self, folder: Folder) -> Result<(), AllocError>
         requires positive { 0 < folder.number }
-        requires number { folder.number < 2 ^ 53 }
+        requires number { folder.number ≤ MAX_FOLDER_NUMBER }
         requires name { NameIsFree self.old.mail.folders folder }
         requires delimiter { folder.delimiter ≢ Some 0 }
         requires next { 0 < folder.next }

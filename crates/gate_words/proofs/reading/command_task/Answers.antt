@@ -1,5 +1,5 @@
 use Rattle.std.proofs.Common.{rules, ◌≡◌, List, ℕ, ◌∷◌, codes, map, string_bytes, sym, ap, subst, ◌∙◌}
-use Rattle.gate_words.specs.Reading.{page_of}
+use Rattle.gate_words.specs.reading.Words.{page_of}
 use Rattle.gate_words.specs.Task.{IsTask}
 use Rattle.gate_words.proofs.Tasks.{err-then, no-serve, no-once}
 use Rattle.gate_words.proofs.reading.command_task.Goals as goal

@@ -1,5 +1,5 @@
 use Rattle.std.proofs.Common.{rules, List, Some, map, string_bytes, ap, ◌∙◌}
-use Rattle.gate_words.specs.Lent.{setting_in}
+use Rattle.gate_words.specs.reading.Lent.{setting_in}
 use Rattle.gate_words.specs.Task.{IsServe}
 use Rattle.gate_words.specs.declared.option.LentSetting.{LentSetting}
 use Rattle.gate_words.proofs.Tasks.{spelled-by, not-spelled, not-meant, ok-then, err-then}

@@ -1,5 +1,5 @@
 use Rattle.std.proofs.Common.{sym, subst}
-use Rattle.gate_words.specs.Lent.{IsGiven}
+use Rattle.gate_words.specs.reading.Lent.{IsGiven}
 use Rattle.gate_words.proofs.Values.{next-values}
 use Rattle.gate_words.proofs.settings.given_values.Goals as goal
 

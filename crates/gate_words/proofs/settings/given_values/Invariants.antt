@@ -1,6 +1,6 @@
 use Rattle.std.proofs.Common.{take, map}
 use Rattle.gate_words.specs.Options.{values_of}
-use Rattle.gate_words.specs.Lent.{setting_in, IsGiven}
+use Rattle.gate_words.specs.reading.Lent.{setting_in, IsGiven}
 use Rattle.gate_words.proofs.settings.given_values.Given as goal
 
 -- the values that the settings so far give

@@ -1,6 +1,6 @@
 use Rattle.std.proofs.Common.{◌≡◌, ◌++◌, None, drop, map, string_bytes, option_map}
-use Rattle.gate_words.specs.Reading.{settings}
-use Rattle.gate_words.specs.Lent.{setting_in}
+use Rattle.gate_words.specs.reading.Words.{settings}
+use Rattle.gate_words.specs.reading.Lent.{setting_in}
 use Rattle.gate_words.proofs.settings.settings_of.Given as goal
 
 -- all words spell the settings so far, and then what the rest spells

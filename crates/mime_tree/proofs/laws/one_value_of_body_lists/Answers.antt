@@ -1,3 +1,4 @@
+use Rattle.mime_tree.specs.declared.tree.TheConstants.{MAX_DEPTH}
 use Rattle.mime_tree.proofs.OneTree.{one_message}
 use Rattle.mime_tree.proofs.OneWalk.{one_value}
 use Rattle.mime_tree.proofs.SameWalks.{same_lists}
@@ -7,4 +8,4 @@ pub returns-clause-part : goal.returns-clause-part
 returns-clause-part c = λ p l m i j. one_value p l m i j
 
 pub returns-clause-message : goal.returns-clause-message
-returns-clause-message c = λ b p q l m one other i j. same_lists 64 p q l m (one_message b p q one other) i j
+returns-clause-message c = λ b p q l m one other i j. same_lists MAX_DEPTH p q l m (one_message b p q one other) i j

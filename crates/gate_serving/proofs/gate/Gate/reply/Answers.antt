@@ -1,4 +1,4 @@
-use Rattle.std.proofs.Common.{◌++◌, refl, subst, inl, inr, Some}
+use Rattle.std.proofs.Common.{refl, subst, inl, inr}
 use Rattle.gate_world.specs.Causes.{Hidden}
 use Rattle.gate_world.proofs.Joins.{join, widen}
 use Rattle.gate_serving.specs.Gates.{account_by, state_of}

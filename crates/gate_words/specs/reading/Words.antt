@@ -1,4 +1,4 @@
--- Reading words one by one, for private clauses.
+-- Reading words one by one.
 use Rattle.std.specs.Prelude.{ℕ, List, [], ◌∷◌, Bool, false, ◌==◌, if◌then◌else◌, bytes_eq, codes, Option, Some, None, option_map}
 use Rattle.std.specs.Prelude.{option_and_then}
 use Rattle.gate_words.specs.Options.{Setting}

@@ -1,7 +1,7 @@
--- What lent values are, for private clauses.
+-- What lent values are.
 use Rattle.std.specs.Prelude.{◌≡◌, ℕ, List, [], ◌∷◌}
 use Rattle.gate_words.specs.Options.{Setting}
-use Rattle.gate_words.specs.Reading.{WordKind, Waits, Sets}
+use Rattle.gate_words.specs.reading.Words.{WordKind, Waits, Sets}
 use Rattle.gate_words.specs.declared.option.LentSetting.{LentSetting}
 use Rattle.gate_words.specs.declared.settings.WordKind.TheVariants as kind
 use Rattle.gate_words.specs.declared.settings.WordKind.{WordKind as LentWordKind}
