@@ -1,5 +1,6 @@
 -- Threads stay as they are where no Email comes or goes, and then there is nothing to touch.
 use Rattle.std.proofs.Common.{◌≡◌, ℕ, ℤ, List, [], ◌∷◌, ◌++◌, Bool, true, false, not, ◌&&◌, cond, nat_eq, map, filter, refl, sym, ap, ◌∙◌, nat_cmp, Option, Some, None, is_some}
+use Rattle.std.proofs.lemmas.List.{append-nil}
 use Rattle.std.specs.List.{list_all}
 use Rattle.std.specs.List.Sorted.{IsStrictlySortedBy}
 use Rattle.std.specs.Map.{keys_of}
@@ -97,10 +98,6 @@ module _ (hs : List Held) where
       ap (λ (ts : List ℕ). map {B = ℕ × List ℕ} (λ t. (t, emails_in (remaining hs rows) t)) (distinct ts)) (same_threads rows none)
       ∙ each_thread rows none (thread_numbers rows)
 
-append_none : {A : Type 0} (xs : List A) → xs ++ [] ≡ xs
-append_none [] = refl
-append_none {A} (x ∷ xs) = ap (λ (r : List A). x ∷ r) (append_none xs)
-
 -- where all touches of Emails are changes, the Threads stay
 pub threads_kept : (n : NumberedRows) (hs : List Held) (after : NumberedRows) → InOrder n → TakesMail n hs after
     → list_all is_change (email_touches n.rows after.rows) ≡ true → threads_of after.rows ≡ threads_of n.rows
@@ -114,7 +111,7 @@ threads_kept n hs after o takes all =
     let none : more ≡ [] = none_added more second.1 in
     ap threads_of rows
     ∙ ap (λ (xs : Rows). threads_of (remaining hs n.rows ++ xs)) none
-    ∙ ap threads_of (append_none (remaining hs n.rows))
+    ∙ ap threads_of (append-nil (remaining hs n.rows))
     ∙ threads_stay hs n.rows (none_removed (gone_in hs n.rows) first.0)
 
 -- ---- what stays has no touches
