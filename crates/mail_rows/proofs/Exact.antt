@@ -15,24 +15,8 @@ use Rattle.mail_maps.specs.declared.row.Role.TheVariants as role
 use Rattle.mail_maps.specs.declared.row.Rights.{Rights}
 use Rattle.mail_maps.specs.declared.tally.FolderCounts.{FolderCounts}
 use Rattle.mail_maps.specs.Roles.{role_number, same_role}
-use Rattle.mail_maps.specs.Serve.{
-  Immutable,
-  Email,
-  ServedMailbox,
-  same_names,
-  same_text,
-  same_party,
-  same_envelope,
-  same_immutable,
-  same_email,
-  same_rights,
-  same_counts,
-  same_but_counts,
-  same_mailbox,
-  mailbox_tests,
-  email_tests,
-  thread_tests,
-}
+use Rattle.mail_maps.specs.Serve.{Immutable, Email, ServedMailbox, same_names, same_text, same_party, same_envelope, same_immutable, same_email, same_rights, same_counts}
+use Rattle.mail_maps.specs.Serve.{same_mailbox, mailbox_tests, email_tests, thread_tests}
 use Rattle.mail_rows.proofs.OneTake.{envelope_same}
 
 option_decides : {X : Type 0} (eq : X → X → Bool) → ((a b : X) → Decides (eq a b) (a ≡ b)) → (o p : Option X) → Decides (option_eq eq o p) (o ≡ p)
@@ -209,24 +193,21 @@ mailbox_same : (a b : List ℕ) (c d : Option ℕ) (e f : Option Role) (g h : Bo
     (record { name = b; parent = d; role = f; subscribed = h; rights = j; counts = l })
 mailbox_same a b c d e f g h i j k l e0 e1 e2 e3 e4 e5 = cc
 
--- two Mailboxes are the same but for counts where one with the other's counts is the other
-pub but_for_counts : (a b : ServedMailbox) → Decides (same_but_counts a b) (record a { counts = b.counts } ≡ b)
-but_for_counts a b =
-    Decides-like (same_but_counts a b)
-    (λ h. mailbox_same a.name b.name a.parent b.parent a.role b.role a.subscribed b.subscribed a.rights b.rights b.counts b.counts h.0 h.1.0 h.1.1.0 h.1.1.1.0 h.1.1.1.1 refl)
-    (λ e. (
-      ap (λ (x : ServedMailbox). x.name) e,
-      (
-        ap (λ (x : ServedMailbox). x.parent) e,
-        (ap (λ (x : ServedMailbox). x.role) e, (ap (λ (x : ServedMailbox). x.subscribed) e, ap (λ (x : ServedMailbox). x.rights) e)),
-      ),
-    ))
-    (Decides-and _ _ (bytes_eq-Decides a.name b.name) (Decides-and _ _ (number a.parent b.parent) (Decides-and _ _ (roles a.role b.role)
-    (Decides-and _ _ (booleans_Decides a.subscribed b.subscribed) (rights a.rights b.rights)))))
-
 -- the test of Mailboxes tells them apart
 pub exact_mailbox : IsExact mailbox_tests
 exact_mailbox a b =
-    Decides-like (same_mailbox a b) (λ h. ap (λ (c : FolderCounts). record a { counts = c }) h.1 ∙ h.0)
-    (λ e. (ap (λ (x : ServedMailbox). record x { counts = b.counts }) e, ap (λ (x : ServedMailbox). x.counts) e))
-    (Decides-and _ _ (but_for_counts a b) (counts a.counts b.counts))
+    Decides-like (same_mailbox a b) (λ h. mailbox_same _ _ _ _ _ _ _ _ _ _ _ _ h.0.0 h.0.1.0 h.0.1.1.0 h.0.1.1.1.0 h.0.1.1.1.1 h.1)
+    (λ e. (
+      (
+        ap (λ (x : ServedMailbox). x.name) e,
+        (
+          ap (λ (x : ServedMailbox). x.parent) e,
+          (ap (λ (x : ServedMailbox). x.role) e, (ap (λ (x : ServedMailbox). x.subscribed) e, ap (λ (x : ServedMailbox). x.rights) e)),
+        ),
+      ),
+      ap (λ (x : ServedMailbox). x.counts) e,
+    ))
+    (Decides-and _ _
+    (Decides-and _ _ (bytes_eq-Decides a.name b.name) (Decides-and _ _ (number a.parent b.parent)
+    (Decides-and _ _ (roles a.role b.role) (Decides-and _ _ (booleans_Decides a.subscribed b.subscribed) (rights a.rights b.rights)))))
+    (counts a.counts b.counts))

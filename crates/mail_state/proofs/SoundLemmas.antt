@@ -1,5 +1,7 @@
 -- Each history is sound, and no number is used twice.
 use Rattle.std.proofs.Common.{◌≡◌, ◌≢◌, ℕ, ◌+◌, ◌<◌, ◌≤◌, List, [], ◌∷◌, take, refl, sym, ap, ◌∙◌, subst, arith, nat_cmp, zero, suc, All, Option, Some, None}
+use Rattle.std.proofs.Common.{◌↔◌, ◌&&◌, Bool, true, false}
+use Rattle.std.specs.Bool.{IsTrue}
 use Rattle.std.specs.List.Sorted.{IsStrictlySortedBy}
 use Rattle.std.specs.Map.{keys_of}
 use Rattle.std.specs.Option.{option_map}
@@ -15,7 +17,7 @@ use Rattle.told_folder.specs.Folders.{folder_in}
 use Rattle.told_folder.specs.declared.message.Folder.{Folder}
 use Rattle.told_folder.specs.declared.message.Held.{Held}
 use Rattle.told_mail.specs.Mail.{Mail, IsMail}
-use Rattle.mail_maps.specs.Serve.{Immutable, Email, email_of, mailbox_tests, email_tests, thread_tests}
+use Rattle.mail_maps.specs.Serve.{Immutable, Email, ServedMailbox, email_of, same_counts, same_but_counts, mailbox_tests, email_tests, thread_tests}
 use Rattle.mail_rows.specs.NumberedRows.{NumberedRows}
 use Rattle.mail_rows.specs.Taking.{TakesMail}
 use Rattle.mail_rows.proofs.MailLaws.{emails_are_shown}
@@ -172,12 +174,32 @@ copies_stay_right h after m a =
       threads = stays thread_tests h.threads (served_threads after.numbered.rows);
     })
 
--- answers take copies on, and a copy at the last place is the last map
+-- the laws of copies are those of any history
 pub copy_laws : {V : Type 0} (p : Past V) → HasCopyLaws p
 copy_laws {V} p = record {
   follow = copies.copies_follow p.touches;
   last = λ copy. (copies.last_copy_is_map p.touches copy, λ all. record { no_other = λ q none. all q ∙ none; agrees = λ q untouched. all q });
+  takes = copies.copies_take p.touches;
+  drops = copies.copies_drop p.touches;
+  steps = copies.steps_keep p.touches;
+  ends = copies.steps_end p.touches;
 }
+
+-- ---- counts alone
+
+both : (a b : Bool) → (a && b) ≡ true → (a ≡ true) × (b ≡ true)
+both true b e = (refl, e)
+both false b e = absurd (let f : false ≡ true = e in cc)
+
+same_itself : (v : ServedMailbox) → same_counts v.counts v.counts ≡ true
+same_itself v = (both (same_but_counts v v) (same_counts v.counts v.counts) ((exact_mailbox v v).1 refl)).1
+
+-- two Mailboxes are the same but for counts where one with the other's counts is the other
+pub but_for_counts : (u v : ServedMailbox) → IsTrue (mailbox_tests.counts u v) ↔ (record u { counts = v.counts } ≡ v)
+but_for_counts u v = (
+  (λ h. (exact_mailbox (record u { counts = v.counts }) v).0 (ap (λ (b : Bool). b && same_counts v.counts v.counts) h ∙ same_itself v)),
+  (λ e. (both (same_but_counts u v) (same_counts v.counts v.counts) ((exact_mailbox (record u { counts = v.counts }) v).1 e)).0),
+)
 
 -- ---- the first state
 

@@ -60,7 +60,7 @@ pub fn copies_stay()
     ensures { (h after : MailHistory) (m : Mail) → Advances h m after → KeepsCopies h after }
 {}
 
-/// Answers of changes take a client's copy on, until it is the last map.
+/// Answers of changes, and values that are fetched, take a client's copy on, until it is the last map.
 pub fn copies_follow()
     ensures mailboxes { (h : MailHistory) → HasCopyLaws h.mailboxes }
     ensures emails { (h : MailHistory) → HasCopyLaws h.emails }

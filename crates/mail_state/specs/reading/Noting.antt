@@ -1,7 +1,6 @@
 -- Touches that are noted in the lists, and a refusal where there is no room.
-use Rattle.std.specs.Prelude.{◌≡◌, ◌≤◌, ◌+◌, ℕ, List, ◌++◌, Bool, ◌==◌, ◌&&◌, not, length, Option, Some, None, Result, Ok, Err}
+use Rattle.std.specs.Prelude.{◌≡◌, ◌≤◌, ◌+◌, ℕ, List, Bool, ◌==◌, ◌&&◌, not, length, Option, Some, None, Result, Ok, Err}
 use Rattle.std.specs.Option.{option_map}
-use Rattle.change_list.specs.Kept.{Kept, IsOf}
 use Rattle.change_list.specs.Advance.{advance_entries}
 use Rattle.change_list.specs.Touches.{finds, leaves}
 use Rattle.change_list.specs.declared.entries.Entry.{Entry}
@@ -15,18 +14,8 @@ use Rattle.told_mail.specs.Mail.{Mail}
 use Rattle.mail_state.specs.declared.touches.Advance.{Advance}
 use Rattle.mail_state.specs.declared.error.StateError.{StateError}
 use Rattle.mail_state.specs.declared.error.StateError.TheVariants.{Spent}
-use Rattle.mail_state.specs.State.{ServedRows, ChangeLists, rows_of}
+use Rattle.mail_state.specs.State.{ServedRows, rows_of}
 use Rattle.mail_state.specs.Following.{Touches, touches_between}
-
--- the touches were noted in the list
-pub record Noted (before now : Kept) (touches : List Entry) : Type 0 where
-  pub place : now.place ≡ before.place + length touches
-  pub noted : (h : List Entry) → IsOf before h → IsOf now (h ++ touches)
-
-pub record AllNoted (before now : ChangeLists) (t : Touches) : Type 0 where
-  pub mailbox : Noted before.mailbox now.mailbox t.mailbox
-  pub email : Noted before.email now.email t.email
-  pub thread : Noted before.thread now.thread t.thread
 
 -- an answer where no place is spent, and a refusal by the place that is
 abbrev pub AnswersSpent : {X : Type 0} → Result X StateError → Option ℕ → Type 0

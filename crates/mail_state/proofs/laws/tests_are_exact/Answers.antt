@@ -1,4 +1,5 @@
-use Rattle.mail_rows.proofs.Exact.{exact_mailbox, exact_email, exact_thread, but_for_counts}
+use Rattle.mail_rows.proofs.Exact.{exact_mailbox, exact_email, exact_thread}
+use Rattle.mail_state.proofs.SoundLemmas.{but_for_counts}
 use Rattle.mail_state.proofs.laws.tests_are_exact.Goals as goal
 
 pub returns : goal.returns
