@@ -4,6 +4,5 @@ mod FolderLemmas
 mod MarkLemmas
 mod NumberLemmas
 mod KeptThreads
-mod TellingLemmas
 mod SoundLemmas
 mod FollowLemmas

@@ -1,9 +1,7 @@
 //! The laws of histories and states, as clauses of functions that do nothing.
 ghost use Rattle.std.specs.Prelude.{◌≡◌, ◌↔◌, ℕ, ◌≤◌, ◌<◌, IsTrue, Some};
 ghost use Rattle.change_list.specs.Advance.{IsExact, row_at};
-ghost use Rattle.told_folder.specs.declared.exchange.Exchange.{Exchange};
-ghost use Rattle.told_mail.specs.Exchanges.{tell};
-ghost use Rattle.told_mail.specs.Mail.{Mail, IsMail};
+ghost use Rattle.told_mail.specs.Mail.{Mail};
 ghost use Rattle.served_maps.specs.Past.{had_at};
 ghost use Rattle.mail_maps.specs.declared.row.EmailRow.{EmailRow};
 ghost use Rattle.mail_maps.specs.Serve.{Email, ServedMailbox, mailbox_tests, email_tests, thread_tests};
@@ -25,11 +23,6 @@ pub fn first_stands()
 /// What comes after mail that a history can go on to is mail that it can go on to.
 pub fn next_mail_joins()
     ensures { (a b c : Mail) → IsNextMail a b → IsNextMail b c → IsNextMail a c }
-{}
-
-/// What an exchange tells is mail that a history can go on to.
-pub fn telling_goes_on()
-    ensures { (m : Mail) (exchange : Exchange) → IsMail (tell m exchange) → IsNextMail m (tell m exchange) }
 {}
 
 /// A history goes on to some mail in one way.
