@@ -60,7 +60,7 @@ module _ (hs : List Held) where
   same_threads [] none = refl
   same_threads (e ∷ es) none =
       elim (shown hs e.1.mark) as (λ (o : Option Placed). map gone_of (cond (not (is_some o)) (e ∷ filter (is_hidden hs) es) (filter (is_hidden hs) es)) ≡ []
-          → map (λ (x : ℕ × EmailRow). x.1.thread) (put_remaining e.0 (option_map (updated e.1) o) (remaining hs es)) ≡ e.1.thread ∷ map (λ (x : ℕ × EmailRow). x.1.thread) es) [
+      → map (λ (x : ℕ × EmailRow). x.1.thread) (put_remaining e.0 (option_map (updated e.1) o) (remaining hs es)) ≡ e.1.thread ∷ map (λ (x : ℕ × EmailRow). x.1.thread) es) [
         | None ↦ λ n. absurd (let f : gone_of e ∷ map gone_of (filter (is_hidden hs) es) ≡ [] = n in cc)
         | Some p ↦ λ n. ap (λ (ts : List ℕ). e.1.thread ∷ ts) (same_threads es n)
       ] none
@@ -69,7 +69,7 @@ module _ (hs : List Held) where
       (e ∷ es) t
   same_with t e p es rest =
       elim (nat_eq e.1.thread t) as (λ (b : Bool). map pair_of (cond b ((e.0, updated e.1 p) ∷ filter (in_thread t) (remaining hs es)) (filter (in_thread t) (remaining hs es)))
-          ≡ map pair_of (cond b (e ∷ filter (in_thread t) es) (filter (in_thread t) es))) [
+      ≡ map pair_of (cond b (e ∷ filter (in_thread t) es) (filter (in_thread t) es))) [
         | true ↦ ap (λ (ps : List (ℤ × ℕ)). pair_of e ∷ ps) rest
         | false ↦ rest
       ]
@@ -78,7 +78,7 @@ module _ (hs : List Held) where
   same_pairs t [] none = refl
   same_pairs t (e ∷ es) none =
       elim (shown hs e.1.mark) as (λ (o : Option Placed). map gone_of (cond (not (is_some o)) (e ∷ filter (is_hidden hs) es) (filter (is_hidden hs) es)) ≡ []
-          → pairs_in (put_remaining e.0 (option_map (updated e.1) o) (remaining hs es)) t ≡ pairs_in (e ∷ es) t) [
+      → pairs_in (put_remaining e.0 (option_map (updated e.1) o) (remaining hs es)) t ≡ pairs_in (e ∷ es) t) [
         | None ↦ λ n. absurd (let f : gone_of e ∷ map gone_of (filter (is_hidden hs) es) ≡ [] = n in cc)
         | Some p ↦ λ n. same_with t e p es (same_pairs t es n)
       ] none
@@ -105,7 +105,7 @@ threads_kept n hs after o takes all =
     let more : Rows = added (left n hs) (arrivals n hs) takes.envelopes in
     let rows : after.rows ≡ remaining hs n.rows ++ more = ap (λ (x : NumberedRows). x.rows) takes.after_is ∙ rows_added (left n hs) (arrivals n hs) takes.envelopes in
     let touches : email_touches n.rows after.rows ≡ map touch_of_removal (gone_in hs n.rows) ++ (changes_in hs n.rows ++ map touch_of_addition (keys_of more)) =
-        ap (email_touches n.rows) rows ∙ touches_are hs n.rows more n.next o.sorted o.under (from_added (left n hs) (arrivals n hs) takes.envelopes) in
+    ap (email_touches n.rows) rows ∙ touches_are hs n.rows more n.next o.sorted o.under (from_added (left n hs) (arrivals n hs) takes.envelopes) in
     let first = all_parts (map touch_of_removal (gone_in hs n.rows)) (changes_in hs n.rows ++ map touch_of_addition (keys_of more)) (sym (ap (list_all is_change) touches) ∙ all) in
     let second = all_parts (changes_in hs n.rows) (map touch_of_addition (keys_of more)) first.1 in
     let none : more ≡ [] = none_added more second.1 in

@@ -3,8 +3,8 @@ ghost use Rattle.std.specs.Prelude.{◌≡◌, ◌≤◌, ◌^◌, IfOk};
 ghost use Rattle.mail_state.specs.State.{no_rows};
 ghost use Rattle.mail_state.specs.reading.Noting.{StepsRows};
 
-use crate::touches::StepTouches;
 use crate::threads::follow_threads;
+use crate::touches::StepTouches;
 use mail_maps::{MailboxRow, Thread, mailboxes_of};
 use mail_rows::Emails;
 use served_maps::steps::steps_between;
@@ -68,8 +68,12 @@ impl TypeRows {
         let (emails, email) = old_emails.follow(alloc, mirror)?;
         let mailboxes = mailboxes_of(alloc, mirror.folders(), emails.rows())?;
         let mailbox = steps_between(alloc, &old_mailboxes, &mailboxes)?;
-        let (threads, thread) =
-            follow_threads(alloc, old_threads, emails.rows(), email.as_slice())?;
+        let (threads, thread) = follow_threads(
+            alloc,
+            old_threads,
+            emails.rows(),
+            email.as_slice(),
+        )?;
         let rows = TypeRows {
             emails,
             mailboxes,

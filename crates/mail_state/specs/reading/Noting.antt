@@ -27,9 +27,9 @@ abbrev pub is_change : Entry → Bool
 is_change e = finds e.kind && leaves e.kind
 
 -- the Threads come to those of the rows, by these touches
-pub record StepsThreads (before : List (ℕ × List ℕ)) (rows : Rows) (now : List (ℕ × List ℕ)) (touches : List Entry) : Type 0 where
+pub record StepsThreads (before : List (ℕ × List ℕ)) (rows : Rows) (now : List (ℕ × List ℕ)) (steps : List Entry) : Type 0 where
   pub threads : now ≡ threads_of rows
-  pub touches : touches ≡ advance_entries (tests_of thread_of thread_tests) before now
+  pub touches : steps ≡ advance_entries (tests_of thread_of thread_tests) before now
 
 -- the types that have touches
 abbrev pub moved_by : Touches → Advance
