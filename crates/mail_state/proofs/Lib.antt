@@ -3,5 +3,6 @@ mod ThreadLemmas
 mod FolderLemmas
 mod MarkLemmas
 mod NumberLemmas
+mod KeptThreads
 mod SoundLemmas
 mod FollowLemmas
