@@ -71,7 +71,8 @@ pub grouped_next : (among : BTreeSet ℕ) (e : ℕ × EmailRow) (es : Rows) (t :
     → grouped now (pairs_among among es t) ≡ grouped group (pairs_among among (e ∷ es) t)
 grouped_next among e es t group now is =
     ap (λ (g : Option (List Pair)). grouped g (pairs_among among es t)) is
-    ∙ elim (contains nat_cmp among t) as (λ (b : Bool). grouped (grouped group (cond b (pairs_in (e ∷ []) t) [])) (cond b (pairs_in es t) []) ≡ grouped group (cond b (pairs_in (e ∷ es) t) [])) [
+    ∙ elim (contains nat_cmp among t) as (λ (b : Bool). grouped (grouped group (cond b (pairs_in (e ∷ []) t) [])) (cond b (pairs_in es t) [])
+    ≡ grouped group (cond b (pairs_in (e ∷ es) t) [])) [
       | true ↦ sym (grouped-append group (pairs_in (e ∷ []) t) (pairs_in es t)) ∙ ap (grouped group) (sym (first_pair e es t))
       | false ↦ refl
     ]

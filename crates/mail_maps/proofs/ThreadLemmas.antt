@@ -112,16 +112,17 @@ all_above : (k x : ℕ) (ys : List ℕ) → nat_cmp k x ≡ Less → AllByRecurs
 all_above k x [] less all = tt
 all_above k x (y ∷ ys) less all = (nat_cmp_total.trans k x y less all.0, all_above k x ys less all.1)
 
+sorted_at : (o : Ordering) (k x : ℕ) (xs : List ℕ) → nat_cmp k x ≡ o → IsStrictlySortedBy nat_cmp (x ∷ xs) → IsStrictlySortedBy nat_cmp (insert_key nat_cmp xs k)
+    → IsStrictlySortedBy nat_cmp (match_ordering o (k ∷ x ∷ xs) (x ∷ xs) (x ∷ insert_key nat_cmp xs k))
+unfolding IsStrictlySortedBy
+sorted_at Less k x xs e s rest = ((e, all_above k x xs e s.0), s)
+sorted_at Equal k x xs e s rest = s
+sorted_at Greater k x xs e s rest = (all_put (λ y. nat_cmp x y ≡ Less) xs k (turned k x Greater e) s.0, rest)
+
 sorted_put : (xs : List ℕ) (k : ℕ) → IsStrictlySortedBy nat_cmp xs → IsStrictlySortedBy nat_cmp (insert_key nat_cmp xs k)
 unfolding IsStrictlySortedBy
 sorted_put [] k s = (tt, tt)
-sorted_put (x ∷ xs) k s = by (nat_cmp k x) refl (sorted_put xs k s.1)
-  where
-    by : (o : Ordering) → nat_cmp k x ≡ o → IsStrictlySortedBy nat_cmp (insert_key nat_cmp xs k)
-        → IsStrictlySortedBy nat_cmp (match_ordering o (k ∷ x ∷ xs) (x ∷ xs) (x ∷ insert_key nat_cmp xs k))
-    by Less e rest = ((e, all_above k x xs e s.0), s)
-    by Equal e rest = s
-    by Greater e rest = (all_put (λ y. nat_cmp x y ≡ Less) xs k (turned k x Greater e) s.0, rest)
+sorted_put (x ∷ xs) k s = sorted_at (nat_cmp k x) k x xs refl s (sorted_put xs k s.1)
 
 sorted_all : (before xs : List ℕ) → IsStrictlySortedBy nat_cmp before → IsStrictlySortedBy nat_cmp (sorted_into nat_cmp before xs)
 sorted_all before [] s = s
