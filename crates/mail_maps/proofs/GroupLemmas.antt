@@ -8,7 +8,7 @@ use Rattle.change_list.specs.Advance.{row_at}
 use Rattle.mail_maps.specs.declared.row.EmailRow.{EmailRow}
 use Rattle.mail_maps.specs.Keywords.{sorted_into}
 use Rattle.mail_maps.specs.Rows.{Rows, in_thread}
-use Rattle.mail_maps.specs.Threads.{pair_cmp, pairs_in, emails_in, where_any, thread_at}
+use Rattle.mail_maps.specs.Threads.{pair_cmp, pairs_in, where_any, thread_at}
 use Rattle.mail_maps.specs.reading.Groups.{listed, keys_at, grouped, pairs_among}
 
 abbrev Pair : Type 0

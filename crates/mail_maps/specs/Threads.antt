@@ -30,7 +30,7 @@ threads_of rows = map {B = ℕ × List ℕ} (λ t. (t, emails_in rows t)) (threa
 -- this, where any of those is there
 abbrev pub where_any : {A B : Type 0} → List A → B → Option B
 where_any [] b = None
-where_any (a ∷ as) b = Some b
+where_any (x ∷ xs) b = Some b
 
 -- the Emails of a Thread, where it has any
 abbrev pub thread_at : Rows → ℕ → Option (List ℕ)

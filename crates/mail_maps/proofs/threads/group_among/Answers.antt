@@ -1,4 +1,4 @@
-use Rattle.std.proofs.Common.{◌≡◌, ◌∙◌, ℕ, List, sym, ap, nat_cmp, None}
+use Rattle.std.proofs.Common.{◌∙◌, sym, ap, nat_cmp}
 use Rattle.std.specs.BTreeMap.{get}
 use Rattle.mail_maps.specs.Rows.{Rows}
 use Rattle.mail_maps.specs.reading.Groups.{keys_at, grouped, pairs_among}
@@ -12,4 +12,7 @@ loop-number-preserved c = λ t.
     ∙ c.loop-number.invariant t
 
 pub returns : goal.returns
-returns c = ?
+returns c = λ t.
+    sym (grouped_end c.args.among.now t (keys_at (get nat_cmp c.loop-number.groups t)))
+    ∙ ap (λ (es : Rows). grouped (keys_at (get nat_cmp c.loop-number.groups t)) (pairs_among c.args.among.now es t)) (sym c.in-None.ensures.steps.0)
+    ∙ c.loop-number.invariant t

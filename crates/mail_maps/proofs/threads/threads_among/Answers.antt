@@ -1,4 +1,4 @@
-use Rattle.std.proofs.Common.{◌∙◌, ap, Option, List, ℕ, ℤ}
+use Rattle.std.proofs.Common.{◌∙◌, ap}
 use Rattle.std.specs.Option.{option_map}
 use Rattle.mail_maps.proofs.GroupLemmas.{seconds, among_is}
 use Rattle.mail_maps.proofs.threads.threads_among.Goals as goal
