@@ -152,7 +152,7 @@ module _ {V : Type 0} where
   none_below : (k : ℕ) (e : ℕ × V) (es : List (ℕ × V)) → nat_cmp k e.0 ≡ Less → IsStrictlySortedBy nat_cmp (keys_of (e ∷ es)) → row_at (e ∷ es) k ≡ None
   none_below k e es less s = none_above k (e ∷ es) (less, all_above k e.0 (keys_of es) less (sorted_head nat_cmp e.0 (keys_of es) s))
 
-  row_same : (j k : ℕ) (v w : V) → j ≡ k → Some v ≡ Some w → (j, v) ≡ (k, w)
+  row_same : (j k : ℕ) (v w : V) → j ≡ k → Some v ≡ Some w → ◌≡◌ {A = ℕ × V} (j, v) (k, w)
   row_same j k v w e f = cc
 
   -- rows in order are those that are found in them
