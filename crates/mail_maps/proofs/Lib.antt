@@ -3,3 +3,5 @@ pub mod Tallied
 pub mod Ordered
 pub mod KeySets
 mod SameKeywords
+pub mod GroupLemmas
+pub mod ThreadLemmas
