@@ -10,7 +10,7 @@ use Rattle.sha2.proofs.Facts256.{length-sha256}
 use Rattle.hex.specs.Hex.{lower_digits}
 use Rattle.hex.proofs.HexLemmas.{length-encode_with}
 use Rattle.blob_store.specs.Uploads.{blob_id, upload_with, octets_in_all}
-use Rattle.blob_store.specs.Kept.{gathered, AreNamed, AreDistinct, AreKept}
+use Rattle.blob_store.specs.reading.Kept.{gathered, AreNamed, AreDistinct, AreKept}
 
 -- an id has 65 octets
 pub length-blob_id : (u : List ℕ) → length (blob_id u) ≡ 65

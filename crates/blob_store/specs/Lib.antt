@@ -1,3 +1,3 @@
--- Which uploads are kept stands in Uploads. Kept is the view of the code's map and queue.
+-- Which uploads are kept stands in Uploads. What the code's map and queue stand for is in reading.
 pub mod Uploads
-pub mod Kept
+pub mod reading

@@ -21,7 +21,7 @@ impl Model for Uploads {
     ghost use Rattle.std.specs.Prelude.{◌≡◌, ◌==◌, List, ℕ};
     ghost use Rattle.std.specs.Cmp.Lexicographic.{pointwise};
     ghost use Rattle.indexmap.specs.IndexMap.{get};
-    ghost use Rattle.blob_store.specs.Kept.{gathered, AreKept};
+    ghost use Rattle.blob_store.specs.reading.Kept.{gathered, AreKept};
     ghost use Rattle.blob_store.specs.Uploads.{octets_in_all};
 
     ghost Value = { List (List ℕ) };

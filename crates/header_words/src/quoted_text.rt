@@ -54,7 +54,7 @@ fn escaped(digits: &[u8]) -> Option<(u8, usize)>
 }
 
 /// The octet that two hexadecimal digits at the front spell.
-pub fn hex_octet(text: &[u8]) -> Option<u8>
+pub(crate) fn hex_octet(text: &[u8]) -> Option<u8>
     ensures value { result ≡ hex_in text.now }
     ensures long { IfSome result (λ _. 2 ≤ length text.now) }
 {

@@ -4,7 +4,7 @@ use Rattle.std.specs.Prelude.{◌==◌}
 use Rattle.std.proofs.lemmas.Bool.{cond-true, cond-false}
 use Rattle.imap_syntax.proofs.EachLemmas.{each_to}
 use Rattle.imap_automaton.proofs.DateForms.{two, four, starts_day, is_sign, time_of, zone_of, seconds_same, DateOctets, octets_of, digit_starts}
-use Rattle.imap_values.specs.reading.DateReading.{month_named, date_in}
+use Rattle.imap_values.specs.Dates.{month_named, date_in}
 use Rattle.imap_values.proofs.Cuts.{small, plain_small, digit_small, small_lower}
 use Rattle.imap_syntax.specs.Octets.{is_digit, lower}
 use Rattle.imap_syntax.specs.Texts.{Each, plain_octets}

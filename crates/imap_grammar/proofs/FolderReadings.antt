@@ -7,8 +7,8 @@ use Rattle.std.proofs.lemmas.List.{length-append, map-append}
 use Rattle.imap_syntax.proofs.EachLemmas.{each_to, each_append}
 use Rattle.pushdown.proofs.Lists.{cons_head}
 use Rattle.imap_automaton.proofs.StringEdges.{no_special}
-use Rattle.imap_values.specs.reading.Spans.{span, long_value, flags_in}
-use Rattle.imap_values.specs.reading.StringReading.{astring_in}
+use Rattle.imap_values.specs.Spans.{span, long_value, flags_in}
+use Rattle.imap_values.specs.Strings.{astring_in}
 use Rattle.imap_grammar.specs.reading.FolderReading.{delimiter_in, list_in, count_in, status_counts, counts_in, status_in}
 use Rattle.imap_values.proofs.Cuts.{small, plain_small, cut_at, digit_small}
 use Rattle.imap_grammar.proofs.ItemReadings.{joined_small, flags_read, long_read}

@@ -17,8 +17,8 @@ use Rattle.imap_keywords.proofs.KeyLemmas.{same_text}
 use Rattle.pushdown.proofs.Lists.{cons_head, cons_tail}
 use Rattle.imap_automaton.proofs.ItemEdges.{stop_no_digit, item_to}
 use Rattle.imap_automaton.proofs.OtherItems.{named_atoms, other_word}
-use Rattle.imap_values.specs.reading.Spans.{span, number_in, long_value}
-use Rattle.imap_values.specs.reading.StringReading.{astring_in}
+use Rattle.imap_values.specs.Spans.{span, number_in, long_value}
+use Rattle.imap_values.specs.Strings.{astring_in}
 use Rattle.imap_grammar.specs.declared.items.Told.{Told}
 use Rattle.imap_grammar.specs.declared.items.Told.TheVariants as names
 use Rattle.imap_grammar.specs.reading.ItemReading.{nstring_in, told_by, value_in, value_or_passed, item_in, items_in}

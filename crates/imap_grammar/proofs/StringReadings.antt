@@ -7,8 +7,8 @@ use Rattle.std.proofs.Math.Seq.{take-append_seam, drop-append_seam}
 use Rattle.imap_syntax.proofs.EachLemmas.{each_to, each_append}
 use Rattle.imap_automaton.proofs.StringEdges.{no_special}
 use Rattle.imap_keywords.proofs.Classes.{atom_apart}
-use Rattle.imap_values.specs.reading.Spans.{span, number_in}
-use Rattle.imap_values.specs.reading.StringReading.{unquoted, literal_in, atom_in, astring_in}
+use Rattle.imap_values.specs.Spans.{span, number_in}
+use Rattle.imap_values.specs.Strings.{unquoted, literal_in, atom_in, astring_in}
 use Rattle.imap_values.proofs.Cuts.{small, plain_small, plain_join, cut_at, number_is, atom_small, digit_small, text_small}
 use Rattle.imap_values.proofs.Lengths.{plain_length}
 use Rattle.imap_values.proofs.StringLemmas.{with_octet}

@@ -2,7 +2,7 @@
 ghost use Rattle.std.specs.Prelude.{◌≡◌, ◌≤◌, IfOk, length, map};
 ghost use Rattle.imap_syntax.specs.Octets as classes;
 ghost use Rattle.imap_syntax.specs.Folders as folders;
-ghost use Rattle.imap_values.specs.reading.Spans as spans;
+ghost use Rattle.imap_values.specs.Spans as spans;
 ghost use Rattle.imap_grammar.specs.reading.FolderReading as reading;
 
 use gate_world::Bytes;

@@ -39,7 +39,7 @@ enum Told {
 
 /// The first n octets of the string at the front, none for NIL, and what follows the string:
 /// "NIL" / quoted / ["~"] literal.
-#[tactic(auto, unfolding(crate::specs::reading::ItemReading::nstring_in, imap_values::specs::reading::StringReading::astring_in))]
+#[tactic(auto, unfolding(crate::specs::reading::ItemReading::nstring_in, imap_values::specs::Strings::astring_in))]
 fn nstring_in(alloc: Global, bytes: &[u8], most: usize) -> Result<(Bytes, &[u8]), AllocError>
     ensures string { IfOk result (λ r. r.0 ≡ take most (reading.nstring_in bytes.now).0) }
     ensures rest { IfOk result (λ r. r.1.now ≡ (reading.nstring_in bytes.now).1) }

@@ -4,7 +4,7 @@ use Rattle.std.specs.Prelude.{nat_lt, nat_le}
 use Rattle.std.proofs.lemmas.Bool.{cond-true, cond-false, leb-true, leb-false, le-leb, false_from_ne_true}
 use Rattle.std.proofs.lemmas.List.{map-append}
 use Rattle.std.proofs.Math.Seq.{take-append_seam, drop-append_seam}
-use Rattle.imap_values.specs.reading.Spans.{span, cap, count_from, number_from, number_in, long_value}
+use Rattle.imap_values.specs.Spans.{span, cap, count_from, number_from, number_in, long_value}
 use Rattle.imap_syntax.specs.Octets.{is_digit, is_text, is_word, is_atom, lower}
 use Rattle.imap_syntax.specs.Texts.{Each, plain_of, plain_octets}
 use Rattle.imap_syntax.specs.Numbers.{value_from}

@@ -7,7 +7,7 @@ use Rattle.std.specs.BTreeSet.{insert_key}
 use Rattle.std.specs.Prelude.{◌==◌}
 use Rattle.std.proofs.lemmas.Bool.{cond-true, cond-false}
 use Rattle.imap_values.proofs.Lengths.{less_one}
-use Rattle.imap_values.specs.reading.Spans.{span, in_name, names_in, flags_in}
+use Rattle.imap_values.specs.Spans.{span, in_name, names_in, flags_in}
 use Rattle.imap_syntax.specs.Octets.{lower}
 use Rattle.imap_syntax.specs.Items.{add_name}
 

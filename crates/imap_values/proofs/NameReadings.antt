@@ -5,7 +5,7 @@ use Rattle.std.specs.Prelude.{◌==◌}
 use Rattle.std.proofs.lemmas.Bool.{cond-true, cond-false}
 use Rattle.std.proofs.lemmas.List.{length-append}
 use Rattle.imap_syntax.proofs.EachLemmas.{each_to, each_append}
-use Rattle.imap_values.specs.reading.Spans.{span, in_name, long_value, names_in, flags_in}
+use Rattle.imap_values.specs.Spans.{span, in_name, long_value, names_in, flags_in}
 use Rattle.imap_values.proofs.Cuts.{small, cut_at, long_is, atom_small}
 use Rattle.imap_values.proofs.Lengths.{spaced_long}
 use Rattle.imap_syntax.specs.Octets.{is_atom, lower}

@@ -5,8 +5,8 @@ use Rattle.std.specs.Prelude.{◌==◌, codes}
 use Rattle.std.proofs.lemmas.Bool.{cond-true, cond-false}
 use Rattle.std.proofs.lemmas.List.{length-append, append-nil}
 use Rattle.imap_syntax.proofs.EachLemmas.{each_to, each_append}
-use Rattle.imap_values.specs.reading.Spans.{span, number_in}
-use Rattle.imap_values.specs.reading.SetReading.{words_in, range_read, ranges_read, vanished_in}
+use Rattle.imap_values.specs.Spans.{span, number_in}
+use Rattle.imap_values.specs.Sets.{words_in, range_read, ranges_read, vanished_in}
 use Rattle.imap_values.proofs.Cuts.{small, plain_small, plain_join, cut_at, number_is, digit_small, word_small}
 use Rattle.imap_values.proofs.Lengths.{less_one, plain_length, spaced_long}
 use Rattle.imap_syntax.specs.declared.response.Response.TheVariants as response

@@ -4,7 +4,7 @@ use Rattle.std.specs.Prelude.{◌==◌}
 use Rattle.std.proofs.lemmas.Bool.{cond-true, cond-false}
 use Rattle.std.proofs.lemmas.List.{drop_all, append-nil}
 use Rattle.imap_keywords.proofs.Texts.{drop_at}
-use Rattle.imap_values.specs.reading.StringReading.{unquoted}
+use Rattle.imap_values.specs.Strings.{unquoted}
 
 -- one octet before what is read
 abbrev pub with_octet : ℕ → List ℕ × List ℕ → List ℕ × List ℕ

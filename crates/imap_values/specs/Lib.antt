@@ -1,2 +1,6 @@
--- What values mean stands in imap_syntax; how they are read back stands in reading, and nobody need believe it.
-pub mod reading
+-- What values mean stands in imap_syntax. Here stands how each is read back from the octets at its place, as the public
+-- calls say it; that it is what the octets mean is proved in imap_grammar.
+pub mod Spans
+pub mod Strings
+pub mod Dates
+pub mod Sets

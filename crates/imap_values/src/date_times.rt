@@ -2,7 +2,7 @@
 ghost use Rattle.std.specs.Prelude.{◌≡◌, ◌≤◌, map, pos, ◌-ℤ◌};
 ghost use Rattle.imap_syntax.specs.DateTimes as dates;
 ghost use Rattle.imap_syntax.specs.Octets as classes;
-ghost use Rattle.imap_values.specs.reading.DateReading as reading;
+ghost use Rattle.imap_values.specs.Dates as reading;
 
 use crate::dates::{
     DAYS_TO_EPOCH, SECONDS_OF_DAY, SECONDS_OF_HOUR, SECONDS_OF_MINUTE, SECONDS_TO_EPOCH,
@@ -64,7 +64,7 @@ fn two_at(bytes: &[u8], at: usize) -> u32
 }
 
 /// A month by its name.
-#[tactic(auto, unfolding(crate::specs::reading::DateReading::month_named))]
+#[tactic(auto, unfolding(crate::specs::Dates::month_named))]
 fn month_named(name: &[u8]) -> u8
     ensures value { result ≡ reading.month_named (map classes.lower name.now) }
     ensures least { 1 ≤ result }
@@ -144,7 +144,7 @@ fn seconds_of(year: u32, month: u8, day: u32, time: u32, east: bool, zone: u32) 
 
 /// The date from its quote on, in seconds since 1970-01-01T00:00:00Z: DQUOTE date-day-fixed "-" date-month "-" 4DIGIT SP
 /// 2DIGIT ":" 2DIGIT ":" 2DIGIT SP ("+" / "-") 4DIGIT DQUOTE.
-#[tactic(auto, unfolding(crate::specs::reading::DateReading::date_in))]
+#[tactic(auto, unfolding(crate::specs::Dates::date_in))]
 pub fn date_in(bytes: &[u8]) -> i64
     ensures { result ≡ reading.date_in bytes.now }
 {

@@ -2,7 +2,7 @@
 ghost use Rattle.std.specs.Prelude.{◌≡◌, [], length, map, drop, bytes_eq, codes, IfOk, OnOk};
 ghost use Rattle.imap_syntax.specs.Octets as classes;
 ghost use Rattle.imap_syntax.specs.Items as items;
-ghost use Rattle.imap_values.specs.reading.Spans as reading;
+ghost use Rattle.imap_values.specs.Spans as reading;
 
 use crate::octets::{before, behind, lower, name_len, octet_at};
 use gate_world::{Bytes, Names};
@@ -49,7 +49,7 @@ fn names_of(alloc: Global, set: BTreeSet<Vec<u8>>) -> Result<Names, AllocError>
 }
 
 /// The names up to the closing bracket, and what follows it.
-#[tactic(auto, unfolding(crate::specs::reading::Spans::names_in))]
+#[tactic(auto, unfolding(crate::specs::Spans::names_in))]
 fn names_in(alloc: Global, bytes: &[u8]) -> Result<(BTreeSet<Vec<u8>>, &[u8]), AllocError>
     ensures names { IfOk result (λ r. map (λ v. v.items) r.0.keys ≡ (reading.names_in (length bytes.now) [] bytes.now).0) }
     ensures rest { IfOk result (λ r. r.1.now ≡ (reading.names_in (length bytes.now) [] bytes.now).1) }
@@ -85,7 +85,7 @@ fn one_name(alloc: Global, name: &[u8]) -> Result<Names, AllocError>
 
 /// The flags from after the opening bracket on, and what follows the closing one. They are in lower case, in order, each
 /// once, and without `\recent`.
-#[tactic(auto, unfolding(crate::specs::reading::Spans::flags_in))]
+#[tactic(auto, unfolding(crate::specs::Spans::flags_in))]
 pub fn flags_in(alloc: Global, bytes: &[u8]) -> Result<(Names, &[u8]), AllocError>
     ensures flags { IfOk result (λ r. r.0 ≡ (reading.flags_in bytes.now).0) }
     ensures rest { IfOk result (λ r. r.1.now ≡ (reading.flags_in bytes.now).1) }

@@ -1,7 +1,7 @@
 // Octets at the front of a spelling.
 ghost use Rattle.std.specs.Prelude.{◌≡◌, take, drop, get_or, length, map, bytes_eq, nat_lt, nat_le, ◌&&◌, ◌≤◌};
 ghost use Rattle.imap_syntax.specs.Octets as classes;
-ghost use Rattle.imap_values.specs.reading.Spans as reading;
+ghost use Rattle.imap_values.specs.Spans as reading;
 
 use imap_keywords::{is_digit, is_word};
 
@@ -179,7 +179,7 @@ fn is_small(word: &[u8]) -> bool
 }
 
 /// Whether the word is a number: one to ten digits, and at most 2^32 - 1.
-#[tactic(auto, unfolding(crate::specs::reading::Spans::is_sequence))]
+#[tactic(auto, unfolding(crate::specs::Spans::is_sequence))]
 pub fn is_sequence(word: &[u8]) -> bool
     ensures { result ≡ reading.is_sequence word.now }
 {

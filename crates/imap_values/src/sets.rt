@@ -2,7 +2,7 @@
 ghost use Rattle.std.specs.Prelude.{◌≡◌, ◌++◌, ◌∷◌, [], length, IfOk};
 ghost use Rattle.imap_syntax.specs.UidSets.{range_of};
 ghost use Rattle.imap_syntax.specs.declared.response.Response.{Response};
-ghost use Rattle.imap_values.specs.reading.SetReading as reading;
+ghost use Rattle.imap_values.specs.Sets as reading;
 
 use crate::octets::{before, behind, digits_len, number_of, octet_at, word_len};
 use gate_world::{Bytes, Listed, Names};
@@ -51,7 +51,7 @@ pub fn range_of(first: u32, second: u32) -> UidRange
 }
 
 /// A range, and what follows it: nz [":" nz].
-#[tactic(auto, unfolding(crate::specs::reading::SetReading::range_read))]
+#[tactic(auto, unfolding(crate::specs::Sets::range_read))]
 fn range_in(bytes: &[u8]) -> (UidRange, &[u8])
     ensures range { result.0 ≡ (reading.range_read bytes.now).0 }
     ensures rest { result.1.now ≡ (reading.range_read bytes.now).1 }
@@ -103,7 +103,7 @@ fn vanished(earlier: bool, ranges: Vec<UidRange>) -> Response
 }
 
 /// What stands after the space after VANISHED: ["(EARLIER)" SP] set CRLF (RFC 7162 section 3.2.10).
-#[tactic(auto, unfolding(crate::specs::reading::SetReading::vanished_in))]
+#[tactic(auto, unfolding(crate::specs::Sets::vanished_in))]
 pub fn vanished_in(alloc: Global, bytes: &[u8]) -> Result<Response, AllocError>
     ensures { IfOk result (λ v. v ≡ reading.vanished_in bytes.now) }
 {

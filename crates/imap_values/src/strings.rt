@@ -1,8 +1,8 @@
 // Strings at the front of octets (RFC 9051 sections 4.3 and 9).
 ghost use Rattle.std.specs.Prelude.{◌≡◌, ◌≤◌, IfOk, length, true, false};
 ghost use Rattle.imap_syntax.specs.Octets as classes;
-ghost use Rattle.imap_values.specs.reading.Spans as spans;
-ghost use Rattle.imap_values.specs.reading.StringReading as reading;
+ghost use Rattle.imap_values.specs.Spans as spans;
+ghost use Rattle.imap_values.specs.Strings as reading;
 
 use crate::octets::{before, behind, digits_len, number_of, octet_at};
 use gate_world::Bytes;
@@ -46,7 +46,7 @@ pub fn unquoted(alloc: Global, bytes: &[u8]) -> Result<(Vec<u8>, &[u8]), AllocEr
 }
 
 /// The octets of a literal from after its opening brace on, and what follows them: 1*8digit "}" CRLF *octet.
-#[tactic(auto, unfolding(crate::specs::reading::StringReading::literal_in))]
+#[tactic(auto, unfolding(crate::specs::Strings::literal_in))]
 pub fn literal_in(bytes: &[u8]) -> (&[u8], &[u8])
     ensures octets { result.0.now ≡ (reading.literal_in bytes.now).0 }
     ensures rest { result.1.now ≡ (reading.literal_in bytes.now).1 }
@@ -58,7 +58,7 @@ pub fn literal_in(bytes: &[u8]) -> (&[u8], &[u8])
 }
 
 /// The atom at the front, and what follows it.
-#[tactic(auto, unfolding(crate::specs::reading::StringReading::atom_in))]
+#[tactic(auto, unfolding(crate::specs::Strings::atom_in))]
 pub fn atom_in(bytes: &[u8]) -> (&[u8], &[u8])
     ensures atom { result.0.now ≡ (reading.atom_in bytes.now).0 }
     ensures rest { result.1.now ≡ (reading.atom_in bytes.now).1 }
@@ -68,7 +68,7 @@ pub fn atom_in(bytes: &[u8]) -> (&[u8], &[u8])
 }
 
 /// The string at the front, and what follows it: atom / quoted / ["~"] literal.
-#[tactic(auto, unfolding(crate::specs::reading::StringReading::astring_in))]
+#[tactic(auto, unfolding(crate::specs::Strings::astring_in))]
 pub fn astring_in(alloc: Global, bytes: &[u8]) -> Result<(Bytes, &[u8]), AllocError>
     ensures string { IfOk result (λ r. r.0 ≡ (reading.astring_in bytes.now).0) }
     ensures rest { IfOk result (λ r. r.1.now ≡ (reading.astring_in bytes.now).1) }

@@ -5,8 +5,8 @@ use Rattle.imap_syntax.specs.declared.response.Response.{Response}
 use Rattle.imap_syntax.specs.declared.response.Response.TheVariants.{List as Listing, StatusItems as Counts}
 use Rattle.imap_syntax.specs.Octets.{is_digit, is_status_word, lower}
 use Rattle.imap_syntax.specs.Folders.{folder_name, told_as, no_counts}
-use Rattle.imap_values.specs.reading.Spans.{span, long_value, flags_in}
-use Rattle.imap_values.specs.reading.StringReading.{astring_in}
+use Rattle.imap_values.specs.Spans.{span, long_value, flags_in}
+use Rattle.imap_values.specs.Strings.{astring_in}
 
 -- ---- LIST
 

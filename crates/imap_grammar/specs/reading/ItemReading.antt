@@ -6,9 +6,9 @@ use Rattle.imap_grammar.specs.declared.items.Told.{Told}
 use Rattle.imap_grammar.specs.declared.items.Told.TheVariants as told
 use Rattle.imap_syntax.specs.Octets.{is_digit, is_atom, lower}
 use Rattle.imap_syntax.specs.Items.{header_limit, body_limit}
-use Rattle.imap_values.specs.reading.Spans.{span, number_in, long_value, flags_in}
-use Rattle.imap_values.specs.reading.StringReading.{astring_in}
-use Rattle.imap_values.specs.reading.DateReading.{date_in}
+use Rattle.imap_values.specs.Spans.{span, number_in, long_value, flags_in}
+use Rattle.imap_values.specs.Strings.{astring_in}
+use Rattle.imap_values.specs.Dates.{date_in}
 use Rattle.imap_grammar.specs.reading.Passing.{passed}
 
 -- NIL, or the string at the front, and what follows it

@@ -2,9 +2,9 @@
 -- law of this crate.
 use Rattle.std.specs.Prelude.{ℕ, ◌+◌, ◌&&◌, ◌==◌, if◌then◌else◌, List, length, map, take, drop, get_or}
 use Rattle.std.specs.Prelude.{codes, bytes_eq, Option, Some, None, unwrap_or}
-pub use Rattle.imap_values.specs.reading.Spans.{in_name, cap, number_from, long_value, number_in}
-unfoldable pub use Rattle.imap_values.specs.reading.Spans.{span, count_from, names_in, flags_in, all_digits, is_sequence}
-unfoldable pub use Rattle.imap_values.specs.reading.SetReading.{words_in, range_read, ranges_read, vanished_in}
+pub use Rattle.imap_values.specs.Spans.{in_name, cap, number_from, long_value, number_in}
+unfoldable pub use Rattle.imap_values.specs.Spans.{span, count_from, names_in, flags_in, all_digits, is_sequence}
+unfoldable pub use Rattle.imap_values.specs.Sets.{words_in, range_read, ranges_read, vanished_in}
 use Rattle.imap_grammar.specs.reading.FolderReading.{list_in, status_in}
 use Rattle.imap_syntax.specs.declared.response.Status.{Status}
 use Rattle.imap_syntax.specs.declared.response.Status.TheVariants as status

@@ -1,6 +1,6 @@
 use Rattle.std.proofs.Common.{◌≡◌, ◌+◌, drop}
 use Rattle.imap_syntax.specs.Octets.{is_status_word}
-use Rattle.imap_values.specs.reading.Spans as spans
+use Rattle.imap_values.specs.Spans as spans
 use Rattle.imap_grammar.proofs.folders.status_word_len.Given as goal
 
 abbrev pub invariant-loop-i : goal.invariant-loop-i

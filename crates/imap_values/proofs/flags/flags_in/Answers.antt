@@ -1,7 +1,7 @@
 use Rattle.std.proofs.Common.{◌≡◌, ◌∙◌, ℕ, ◌+◌, ◌<◌, List, false, length, map, take, drop, get_or, [], ap, sym, arith}
 use Rattle.std.specs.Prelude.{◌==◌}
 use Rattle.std.proofs.lemmas.Bool.{ne_eqb}
-use Rattle.imap_values.specs.reading.Spans.{span, in_name}
+use Rattle.imap_values.specs.Spans.{span, in_name}
 use Rattle.imap_values.proofs.FlagLemmas.{flags_one}
 use Rattle.imap_syntax.specs.Items.{add_name}
 use Rattle.imap_syntax.specs.Octets.{lower}

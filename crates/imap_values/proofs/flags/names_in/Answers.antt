@@ -1,7 +1,7 @@
 use Rattle.std.proofs.Common.{◌≡◌, ◌∙◌, ◌+◌, ◌-◌, ℕ, List, true, false, map, take, drop, get_or, Vec, Global, ap, sym}
 use Rattle.std.specs.Prelude.{◌==◌}
 use Rattle.std.proofs.lemmas.Bool.{eq-eqb, ne_eqb}
-use Rattle.imap_values.specs.reading.Spans.{span, in_name, names_in}
+use Rattle.imap_values.specs.Spans.{span, in_name, names_in}
 use Rattle.imap_values.proofs.FlagLemmas.{names_next, names_last}
 use Rattle.imap_syntax.specs.Items.{add_name}
 use Rattle.imap_syntax.specs.Octets.{lower}

@@ -1,5 +1,5 @@
 use Rattle.std.proofs.Common.{◌≡◌, [], length, map}
-use Rattle.imap_values.specs.reading.Spans as reading
+use Rattle.imap_values.specs.Spans as reading
 use Rattle.imap_values.proofs.flags.names_in.Given as goal
 
 abbrev pub invariant-loop-left : goal.invariant-loop-left

@@ -1,5 +1,5 @@
 use Rattle.std.proofs.Common.{◌≡◌, ◌≤◌, drop}
-use Rattle.imap_values.specs.reading.Spans as reading
+use Rattle.imap_values.specs.Spans as reading
 use Rattle.imap_values.proofs.octets.count_of.Given as goal
 
 abbrev pub invariant-loop-c : goal.invariant-loop-c

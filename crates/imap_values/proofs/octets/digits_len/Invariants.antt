@@ -1,6 +1,6 @@
 use Rattle.std.proofs.Common.{◌≡◌, ◌+◌, drop}
 use Rattle.imap_syntax.specs.Octets.{is_digit}
-use Rattle.imap_values.specs.reading.Spans as reading
+use Rattle.imap_values.specs.Spans as reading
 use Rattle.imap_values.proofs.octets.digits_len.Given as goal
 
 abbrev pub invariant-loop-i : goal.invariant-loop-i

@@ -1,5 +1,5 @@
 use Rattle.std.proofs.Common.{◌≡◌, drop}
-use Rattle.imap_values.specs.reading.Spans.{count_from}
+use Rattle.imap_values.specs.Spans.{count_from}
 use Rattle.imap_values.proofs.octets.long_of.Given as goal
 
 abbrev pub invariant-loop-c : goal.invariant-loop-c

@@ -1,5 +1,5 @@
 use Rattle.std.proofs.Common.{◌≡◌, ◌∙◌, ◌++◌, ℕ, ap, sym, arith}
-use Rattle.imap_values.specs.reading.SetReading.{ranges_read}
+use Rattle.imap_values.specs.Sets.{ranges_read}
 use Rattle.imap_values.proofs.SetReadings.{range_end}
 use Rattle.imap_values.proofs.sets.ranges_in.Goals as goal
 

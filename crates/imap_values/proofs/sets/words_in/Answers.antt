@@ -1,5 +1,5 @@
 use Rattle.std.proofs.Common.{◌≡◌, ◌∙◌, ◌++◌, ℕ, ap, sym, arith}
-use Rattle.imap_values.specs.reading.SetReading.{words_in}
+use Rattle.imap_values.specs.Sets.{words_in}
 use Rattle.imap_values.proofs.SetReadings.{word_end}
 use Rattle.imap_values.proofs.sets.words_in.Goals as goal
 

@@ -1,5 +1,5 @@
 use Rattle.std.proofs.Common.{◌≡◌, ◌++◌, length}
-use Rattle.imap_values.specs.reading.SetReading as reading
+use Rattle.imap_values.specs.Sets as reading
 use Rattle.imap_values.proofs.sets.words_in.Given as goal
 
 abbrev pub invariant-loop-left : goal.invariant-loop-left

@@ -1,6 +1,6 @@
 use Rattle.std.proofs.Common.{◌+◌, Bool, false, List, ℕ, drop, get_or, Vec, Global, ap, sym, ◌∙◌}
 use Rattle.std.proofs.lemmas.Bool.{eq-eqb, ne_eqb}
-use Rattle.imap_values.specs.reading.StringReading.{unquoted}
+use Rattle.imap_values.specs.Strings.{unquoted}
 use Rattle.imap_values.proofs.StringLemmas.{so_far, end_of, close_of, octet_of, pair_of, unquoted_slash}
 use Rattle.imap_values.proofs.strings.unquoted.Goals as goal
 use Rattle.imap_values.proofs.strings.unquoted.Goals.{then-pair+in_ok-push, else-pair+else-c-eq34+then-c-eq92, else-pair+else-c-eq34+else-c-eq92+in_ok-push-2}

@@ -1,5 +1,5 @@
 use Rattle.std.proofs.Common.{◌≡◌, drop, false}
-use Rattle.imap_values.specs.reading.StringReading.{unquoted}
+use Rattle.imap_values.specs.Strings.{unquoted}
 use Rattle.imap_values.proofs.StringLemmas.{so_far}
 use Rattle.imap_values.proofs.strings.unquoted.Given as goal
 

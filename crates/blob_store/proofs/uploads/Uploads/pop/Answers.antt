@@ -2,7 +2,7 @@ use Rattle.std.proofs.Common.{◌≡◌, ◌==◌, ◌-◌, ◌∷◌, Some, len
 use Rattle.std.specs.Cmp.Lexicographic.{pointwise}
 use Rattle.indexmap.specs.IndexMap.{get}
 use Rattle.blob_store.specs.Uploads.{octets_in_all}
-use Rattle.blob_store.specs.Kept.{gathered, AreKept}
+use Rattle.blob_store.specs.reading.Kept.{gathered, AreKept}
 use Rattle.blob_store.proofs.KeptLemmas.{Without, popped}
 use Rattle.blob_store.proofs.uploads.Uploads.pop.Goals as goal
 

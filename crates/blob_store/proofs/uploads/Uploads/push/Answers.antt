@@ -3,7 +3,7 @@ use Rattle.std.specs.Cmp.Lexicographic.{pointwise}
 use Rattle.std.specs.Map.{lookup}
 use Rattle.indexmap.specs.IndexMap.{get}
 use Rattle.blob_store.specs.Uploads.{blob_id, upload_with, octets_in_all}
-use Rattle.blob_store.specs.Kept.{gathered, AreKept}
+use Rattle.blob_store.specs.reading.Kept.{gathered, AreKept}
 use Rattle.blob_store.proofs.KeptLemmas.{With, pushed, octets_of-push}
 use Rattle.blob_store.proofs.uploads.Uploads.push.Goals as goal
 

@@ -5,7 +5,7 @@ use Rattle.imap_syntax.specs.declared.response.Response.TheVariants.{Vanished}
 use Rattle.imap_syntax.specs.declared.uid_set.UidRange.{UidRange}
 use Rattle.imap_syntax.specs.Octets.{is_digit, is_word}
 use Rattle.imap_syntax.specs.UidSets.{range_of}
-use Rattle.imap_values.specs.reading.Spans.{span, number_in}
+use Rattle.imap_values.specs.Spans.{span, number_in}
 
 -- ---- words
 

@@ -1,0 +1,2 @@
+-- What the code keeps: private clauses and proofs alone speak of it.
+pub mod Kept
