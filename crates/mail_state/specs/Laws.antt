@@ -4,7 +4,7 @@ use Rattle.told_mail.specs.Mail.{Mail}
 use Rattle.change_list.specs.Copy.{IsCopy}
 use Rattle.served_maps.specs.Past.{Past, had_at, has_now, place_now}
 use Rattle.mail_maps.specs.Serve.{Email}
-use Rattle.mail_state.specs.History.{MailHistory, IsReached, IsNextMail, Advances}
+use Rattle.mail_state.specs.History.{MailHistory, IsReached, Advances}
 use Rattle.mail_state.specs.Sound.{IsSound}
 
 -- a number that comes in was never there before

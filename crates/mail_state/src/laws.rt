@@ -1,10 +1,10 @@
 //! The laws of histories and states, as clauses of functions that do nothing.
 ghost use Rattle.std.specs.Prelude.{◌≡◌, ℕ, Some};
 ghost use Rattle.change_list.specs.Advance.{IsExact};
-ghost use Rattle.told_mail.specs.Mail.{Mail};
+ghost use Rattle.told_mail.specs.Mail.{Mail, IsNextMail};
 ghost use Rattle.served_maps.specs.Past.{had_at};
 ghost use Rattle.mail_maps.specs.Serve.{Email, mailbox_tests, email_tests, thread_tests};
-ghost use Rattle.mail_state.specs.History.{MailHistory, IsReached, IsNextMail, Advances, first_history};
+ghost use Rattle.mail_state.specs.History.{MailHistory, IsReached, Advances, first_history};
 ghost use Rattle.mail_state.specs.Sound.{IsSound};
 ghost use Rattle.mail_state.specs.State.{IsStateOf, first_state};
 ghost use Rattle.mail_state.specs.Laws.{UsesOnce, KeepsCopies};
@@ -17,11 +17,6 @@ pub fn all_are_sound()
 /// A state without mail stands for the first history.
 pub fn first_stands()
     ensures { (epoch : ℕ) → IsStateOf (first_history epoch) (first_state epoch) }
-{}
-
-/// What comes after mail that a history can go on to is mail that it can go on to.
-pub fn next_mail_joins()
-    ensures { (a b c : Mail) → IsNextMail a b → IsNextMail b c → IsNextMail a c }
 {}
 
 /// A history goes on to some mail in one way.

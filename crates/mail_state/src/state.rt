@@ -3,7 +3,8 @@ ghost use Rattle.std.specs.Prelude.{◌≡◌, ◌≢◌, ℕ, IfOk, MatchOption
 ghost use Rattle.std.specs.Option.{option_copied};
 ghost use Rattle.change_list.specs.Advance.{row_at};
 ghost use Rattle.mail_rows.specs.LookUps.{IsOfMark, NoneHasMark};
-ghost use Rattle.mail_state.specs.History.{MailHistory, IsNextMail};
+ghost use Rattle.told_mail.specs.Mail.{IsNextMail};
+ghost use Rattle.mail_state.specs.History.{MailHistory};
 ghost use Rattle.mail_state.specs.State.{IsStateOf, first_state};
 ghost use Rattle.mail_state.specs.Following.{FollowsMail, RefusesSpent};
 ghost use Rattle.mail_state.specs.LookUps.{numbers_in, touches_kept};
