@@ -74,7 +74,8 @@ pub trait Link: Taped {
 
 /// The clients' side: one client after another, each from an accept to a finish.
 pub trait Front: Taped {
-    /// Waits for the next client. False where no client will come.
+    /// Waits for the next client. False where no client will come. It fails where none can be accepted, as where the listener
+    /// failed.
     fn accept(&mut self) -> Result<bool, Failed>
         ensures ok { IfOk result (λ more. AddsOne (Self.tape self.old) (Self.tape self.new) (if more then Accepted else NoMore)) }
         ensures err { OnErr result (AddsOne (Self.tape self.old) (Self.tape self.new) FrontFailed) }
@@ -83,7 +84,7 @@ pub trait Front: Taped {
         ensures hidden { Self.hidden self.new ≡ Self.hidden self.old };
 
     /// Waits for octets of the client, puts them at the front of `into`, and gives how many: at most the length of `into`, and
-    /// 0 exactly where the client ended its input.
+    /// 0 exactly where the client ended its input. It fails where its stream failed and where the wait is too long.
     fn recv(&mut self, into: &mut [u8]) -> Result<usize, Failed>
         requires { 0 < length into.old }
         ensures bound { IfOk result (λ n. n ≤ length into.new) }

@@ -31,7 +31,8 @@ use Rattle.imap_client.specs.Plans.{Planned, Ran, Begun, Then, IsEnd, Finished, 
 use Rattle.imap_client.specs.Rounds.{Rounds, RoundState, round_due, round_step, round_from, of_folder, select_of, headers_of, is_sliced, slice_of}
 use Rattle.imap_client.specs.Rounds.{new_of, uid_next_told, tells_validity, selectable_from, selecting, next_stage, fetching, fetched_stage, selected_stage, is_sliced_in}
 use Rattle.imap_client.specs.Rounds.{is_slicing, obeyed, round_after}
-use Rattle.imap_client.specs.WholeRounds.{IsObeyed, AnsweredAt, FetchesHeaders, Slice, Rest, FetchesFolder, WithModseqs, WithoutModseqs, AsksFolder, Asked, VisitsFrom, NoMore, Visits}
+use Rattle.imap_client.specs.WholeRounds.{IsObeyed, AnsweredAt, FetchesHeaders, Slice, Rest, FetchesFolder, WithModseqs, WithoutModseqs, AsksFolder, Asked, VisitsFrom, NoMore}
+use Rattle.imap_client.specs.WholeRounds.{Visits}
 use Rattle.imap_client.specs.WholeRounds.{IsWholeRound, texts_from, IsFinishedRound}
 
 -- ---- what was asked

@@ -16,7 +16,8 @@ use Rattle.imap_client.specs.declared.plan.Refusal.{Refusal}
 use Rattle.imap_client.specs.Refusals.{refusal_end}
 use Rattle.imap_client.specs.LinkLife.{LinkLife, ClientState, Stands, fresh, hung_up}
 use Rattle.imap_client.specs.Calls.{IsExchanged}
-use Rattle.imap_client.specs.Plans.{Planned, StopsAtRefusal, NextExchange, Ran, Begun, Then, HearsAll, HeardNone, HeardMore, Finished, Failed, Broken, Gone, Wanting, Follows, FollowsTo}
+use Rattle.imap_client.specs.Plans.{Planned, StopsAtRefusal, NextExchange, Ran, Begun, Then, HearsAll, HeardNone, HeardMore, Finished, Failed, Broken, Gone, Wanting, Follows}
+use Rattle.imap_client.specs.Plans.{FollowsTo}
 use Rattle.imap_client.proofs.Lives.{stands_ended, life_hung}
 
 -- what is planned now is the plan after these exchanges

@@ -15,7 +15,8 @@ use Rattle.imap_syntax.specs.Texts.{Each, IsWord}
 use Rattle.imap_syntax.specs.Numbers.{value_from, IsNonZero, IsLong}
 use Rattle.imap_syntax.specs.UidSets.{range_of, IsRange, IsSet}
 use Rattle.imap_syntax.specs.Codes.{Parted, IsKnown, Bracketed, HasCode}
-use Rattle.imap_syntax.specs.reading.CodeReading.{cut, is_decimal, nonzero_in, long_in, one_range, two_range, range_by, range_in, one_in_set, more_in_set, ranges_in, set_in, bare_code}
+use Rattle.imap_syntax.specs.reading.CodeReading.{cut, is_decimal, nonzero_in, long_in, one_range, two_range, range_by, range_in, one_in_set, more_in_set, ranges_in, set_in}
+use Rattle.imap_syntax.specs.reading.CodeReading.{bare_code}
 use Rattle.imap_syntax.specs.reading.CodeReading.{validity_of, next_of, modseq_of, appended, append_in, copied, sets_in, copy_in, code_with, known_by, known_in, code_by, code_in}
 use Rattle.imap_syntax.proofs.CutLemmas.{by_test, by_some, other, free_of, cut_some, cut_at, cut_free, cut_none}
 use Rattle.imap_syntax.proofs.EachLemmas.{each_to, each_append, each_all, all_each}

@@ -1,4 +1,5 @@
--- Each module after those that it uses: Spells says which octets are a response, Commands which are a command. reading/ has how codes are read, for clauses of imap_grammar.
+-- Each module after those that it uses: Spells says which octets are a response, Commands which are a command. reading/ has how codes are read, for clauses of
+-- imap_grammar.
 pub mod Octets
 pub mod Texts
 pub mod Numbers

@@ -15,7 +15,8 @@ use Rattle.mail_maps.specs.declared.row.Role.TheVariants as role
 use Rattle.mail_maps.specs.declared.row.Rights.{Rights}
 use Rattle.mail_maps.specs.declared.tally.FolderCounts.{FolderCounts}
 use Rattle.mail_maps.specs.Roles.{role_number, same_role}
-use Rattle.mail_maps.specs.Serve.{Immutable, Email, ServedMailbox, same_names, same_text, same_party, same_envelope, same_immutable, same_email, same_rights, same_counts, same_mailbox, mailbox_tests, email_tests, thread_tests}
+use Rattle.mail_maps.specs.Serve.{Immutable, Email, ServedMailbox, same_names, same_text, same_party, same_envelope, same_immutable, same_email, same_rights, same_counts}
+use Rattle.mail_maps.specs.Serve.{same_mailbox, mailbox_tests, email_tests, thread_tests}
 use Rattle.mail_rows.proofs.OneTake.{envelope_same}
 
 option_decides : {X : Type 0} (eq : X → X → Bool) → ((a b : X) → Decides (eq a b) (a ≡ b)) → (o p : Option X) → Decides (option_eq eq o p) (o ≡ p)
@@ -34,28 +35,51 @@ party_same : (a b c d : Option (List ℕ)) → a ≡ b → c ≡ d → ◌≡◌
 party_same a b c d g h = cc
 
 party : (a b : Party) → Decides (same_party a b) (a ≡ b)
-party a b = Decides-like _ (λ h. party_same _ _ _ _ h.0 h.1) (λ e. (ap (λ (x : Party). x.text) e, ap (λ (x : Party). x.first) e)) (Decides-and _ _ (text a.text b.text) (text a.first b.first))
+party a b = Decides-like _ (λ h. party_same _ _ _ _ h.0 h.1) (λ e. (ap (λ (x : Party). x.text) e, ap (λ (x : Party). x.first) e))
+    (Decides-and _ _ (text a.text b.text) (text a.first b.first))
 
 envelope : (a b : Envelope) → Decides (same_envelope a b) (a ≡ b)
 envelope a b =
     Decides-like _ (λ h. envelope_same _ _ _ _ _ _ _ _ _ _ _ _ _ _ _ _ h.0 h.1.0 h.1.1.0 h.1.1.1.0 h.1.1.1.1.0 h.1.1.1.1.1.0 h.1.1.1.1.1.1.0 h.1.1.1.1.1.1.1)
-    (λ e. (ap (λ (x : Envelope). x.subject) e, (ap (λ (x : Envelope). x.cc) e, (ap (λ (x : Envelope). x.bcc) e, (ap (λ (x : Envelope). x.from) e, (ap (λ (x : Envelope). x.to) e, (ap (λ (x : Envelope). x.base) e, (ap (λ (x : Envelope). x.sent_at) e, ap (λ (x : Envelope). x.ids) e))))))))
-    (Decides-and _ _ (text a.subject b.subject) (Decides-and _ _ (text a.cc b.cc) (Decides-and _ _ (text a.bcc b.bcc) (Decides-and _ _ (party a.from b.from) (Decides-and _ _ (party a.to b.to)
+    (λ e. (
+      ap (λ (x : Envelope). x.subject) e,
+      (
+        ap (λ (x : Envelope). x.cc) e,
+        (
+          ap (λ (x : Envelope). x.bcc) e,
+          (
+            ap (λ (x : Envelope). x.from) e,
+            (ap (λ (x : Envelope). x.to) e, (ap (λ (x : Envelope). x.base) e, (ap (λ (x : Envelope). x.sent_at) e, ap (λ (x : Envelope). x.ids) e))),
+          ),
+        ),
+      ),
+    ))
+    (Decides-and _ _ (text a.subject b.subject) (Decides-and _ _ (text a.cc b.cc)
+    (Decides-and _ _ (text a.bcc b.bcc) (Decides-and _ _ (party a.from b.from) (Decides-and _ _ (party a.to b.to)
     (Decides-and _ _ (bytes_eq-Decides a.base b.base) (Decides-and _ _ (option_decides int_eq Decides-int_eq a.sent_at b.sent_at) (names a.ids b.ids))))))))
 
 immutable_same : (m n s t u v : ℕ) (r q : ℤ) (h k : List ℕ) (e f : Envelope) → m ≡ n → r ≡ q → s ≡ t → u ≡ v → h ≡ k → e ≡ f
-    → ◌≡◌ {A = Immutable} (record { mark = m; received = r; size = s; thread = u; header = h; envelope = e }) (record { mark = n; received = q; size = t; thread = v; header = k; envelope = f })
+    → ◌≡◌ {A = Immutable} (record { mark = m; received = r; size = s; thread = u; header = h; envelope = e })
+    (record { mark = n; received = q; size = t; thread = v; header = k; envelope = f })
 immutable_same m n s t u v r q h k e f g0 g1 g2 g3 g4 g5 = cc
 
 -- the test of what an Email never changes tells it apart
 pub immutable : (a b : Immutable) → Decides (same_immutable a b) (a ≡ b)
 immutable a b =
     Decides-like _ (λ h. immutable_same _ _ _ _ _ _ _ _ _ _ _ _ h.0 h.1.0 h.1.1.0 h.1.1.1.0 h.1.1.1.1.0 h.1.1.1.1.1)
-    (λ e. (ap (λ (x : Immutable). x.mark) e, (ap (λ (x : Immutable). x.received) e, (ap (λ (x : Immutable). x.size) e, (ap (λ (x : Immutable). x.thread) e, (ap (λ (x : Immutable). x.header) e, ap (λ (x : Immutable). x.envelope) e))))))
-    (Decides-and _ _ (Decides-eqb a.mark b.mark) (Decides-and _ _ (Decides-int_eq a.received b.received) (Decides-and _ _ (Decides-eqb a.size b.size) (Decides-and _ _ (Decides-eqb a.thread b.thread)
+    (λ e. (
+      ap (λ (x : Immutable). x.mark) e,
+      (
+        ap (λ (x : Immutable). x.received) e,
+        (ap (λ (x : Immutable). x.size) e, (ap (λ (x : Immutable). x.thread) e, (ap (λ (x : Immutable). x.header) e, ap (λ (x : Immutable). x.envelope) e))),
+      ),
+    ))
+    (Decides-and _ _ (Decides-eqb a.mark b.mark) (Decides-and _ _ (Decides-int_eq a.received b.received)
+    (Decides-and _ _ (Decides-eqb a.size b.size) (Decides-and _ _ (Decides-eqb a.thread b.thread)
     (Decides-and _ _ (bytes_eq-Decides a.header b.header) (envelope a.envelope b.envelope))))))
 
-email_same : (b c : Immutable) (f g : ℕ) (k l : List (List ℕ)) → b ≡ c → f ≡ g → k ≡ l → ◌≡◌ {A = Email} (record { immutable = b; folder = f; keywords = k }) (record { immutable = c; folder = g; keywords = l })
+email_same : (b c : Immutable) (f g : ℕ) (k l : List (List ℕ)) → b ≡ c → f ≡ g → k ≡ l → ◌≡◌ {A = Email} (record { immutable = b; folder = f; keywords = k })
+    (record { immutable = c; folder = g; keywords = l })
 email_same b c f g k l e0 e1 e2 = cc
 
 -- the test of Emails tells them apart
@@ -103,8 +127,28 @@ roles a b =
 
 rights_same : (a b c d e f g h i j k l m n o p q r : Bool) → a ≡ b → c ≡ d → e ≡ f → g ≡ h → i ≡ j → k ≡ l → m ≡ n → o ≡ p → q ≡ r
     → ◌≡◌ {A = Rights}
-    (record { may_read_items = a; may_add_items = c; may_remove_items = e; may_set_seen = g; may_set_keywords = i; may_create_child = k; may_rename = m; may_delete = o; may_submit = q })
-    (record { may_read_items = b; may_add_items = d; may_remove_items = f; may_set_seen = h; may_set_keywords = j; may_create_child = l; may_rename = n; may_delete = p; may_submit = r })
+    (record {
+      may_read_items = a;
+      may_add_items = c;
+      may_remove_items = e;
+      may_set_seen = g;
+      may_set_keywords = i;
+      may_create_child = k;
+      may_rename = m;
+      may_delete = o;
+      may_submit = q;
+    })
+    (record {
+      may_read_items = b;
+      may_add_items = d;
+      may_remove_items = f;
+      may_set_seen = h;
+      may_set_keywords = j;
+      may_create_child = l;
+      may_rename = n;
+      may_delete = p;
+      may_submit = r;
+    })
 rights_same a b c d e f g h i j k l m n o p q r e0 e1 e2 e3 e4 e5 e6 e7 e8 = cc
 
 rights : (a b : Rights) → Decides (same_rights a b) (a ≡ b)
@@ -126,28 +170,44 @@ rights a b =
         ),
       ),
     ))
-    (Decides-and _ _ (booleans_Decides _ _) (Decides-and _ _ (booleans_Decides _ _) (Decides-and _ _ (booleans_Decides _ _) (Decides-and _ _ (booleans_Decides _ _) (Decides-and _ _ (booleans_Decides _ _)
+    (Decides-and _ _ (booleans_Decides _ _) (Decides-and _ _ (booleans_Decides _ _)
+    (Decides-and _ _ (booleans_Decides _ _) (Decides-and _ _ (booleans_Decides _ _) (Decides-and _ _ (booleans_Decides _ _)
     (Decides-and _ _ (booleans_Decides _ _) (Decides-and _ _ (booleans_Decides _ _) (Decides-and _ _ (booleans_Decides _ _) (booleans_Decides _ _)))))))))
 
 counts_same : (a b c d e f g h : ℕ) → a ≡ b → c ≡ d → e ≡ f → g ≡ h
-    → ◌≡◌ {A = FolderCounts} (record { total_emails = a; unread_emails = c; total_threads = e; unread_threads = g }) (record { total_emails = b; unread_emails = d; total_threads = f; unread_threads = h })
+    → ◌≡◌ {A = FolderCounts} (record { total_emails = a; unread_emails = c; total_threads = e; unread_threads = g })
+    (record { total_emails = b; unread_emails = d; total_threads = f; unread_threads = h })
 counts_same a b c d e f g h e0 e1 e2 e3 = cc
 
 counts : (a b : FolderCounts) → Decides (same_counts a b) (a ≡ b)
 counts a b =
     Decides-like _ (λ h. counts_same _ _ _ _ _ _ _ _ h.0 h.1.0 h.1.1.0 h.1.1.1)
-    (λ e. (ap (λ (x : FolderCounts). x.total_emails) e, (ap (λ (x : FolderCounts). x.unread_emails) e, (ap (λ (x : FolderCounts). x.total_threads) e, ap (λ (x : FolderCounts). x.unread_threads) e))))
+    (λ e. (
+      ap (λ (x : FolderCounts). x.total_emails) e,
+      (ap (λ (x : FolderCounts). x.unread_emails) e, (ap (λ (x : FolderCounts). x.total_threads) e, ap (λ (x : FolderCounts). x.unread_threads) e)),
+    ))
     (Decides-and _ _ (Decides-eqb _ _) (Decides-and _ _ (Decides-eqb _ _) (Decides-and _ _ (Decides-eqb _ _) (Decides-eqb _ _))))
 
 mailbox_same : (a b : List ℕ) (c d : Option ℕ) (e f : Option Role) (g h : Bool) (i j : Rights) (k l : FolderCounts) → a ≡ b → c ≡ d → e ≡ f → g ≡ h → i ≡ j → k ≡ l
-    → ◌≡◌ {A = ServedMailbox} (record { name = a; parent = c; role = e; subscribed = g; rights = i; counts = k }) (record { name = b; parent = d; role = f; subscribed = h; rights = j; counts = l })
+    → ◌≡◌ {A = ServedMailbox} (record { name = a; parent = c; role = e; subscribed = g; rights = i; counts = k })
+    (record { name = b; parent = d; role = f; subscribed = h; rights = j; counts = l })
 mailbox_same a b c d e f g h i j k l e0 e1 e2 e3 e4 e5 = cc
 
 -- the test of Mailboxes tells them apart
 pub exact_mailbox : IsExact mailbox_tests
 exact_mailbox a b =
     Decides-like (same_mailbox a b) (λ h. mailbox_same _ _ _ _ _ _ _ _ _ _ _ _ h.0.0 h.0.1.0 h.0.1.1.0 h.0.1.1.1.0 h.0.1.1.1.1 h.1)
-    (λ e. ((ap (λ (x : ServedMailbox). x.name) e, (ap (λ (x : ServedMailbox). x.parent) e, (ap (λ (x : ServedMailbox). x.role) e, (ap (λ (x : ServedMailbox). x.subscribed) e, ap (λ (x : ServedMailbox). x.rights) e)))), ap (λ (x : ServedMailbox). x.counts) e))
+    (λ e. (
+      (
+        ap (λ (x : ServedMailbox). x.name) e,
+        (
+          ap (λ (x : ServedMailbox). x.parent) e,
+          (ap (λ (x : ServedMailbox). x.role) e, (ap (λ (x : ServedMailbox). x.subscribed) e, ap (λ (x : ServedMailbox). x.rights) e)),
+        ),
+      ),
+      ap (λ (x : ServedMailbox). x.counts) e,
+    ))
     (Decides-and _ _
-    (Decides-and _ _ (bytes_eq-Decides a.name b.name) (Decides-and _ _ (number a.parent b.parent) (Decides-and _ _ (roles a.role b.role) (Decides-and _ _ (booleans_Decides a.subscribed b.subscribed) (rights a.rights b.rights)))))
+    (Decides-and _ _ (bytes_eq-Decides a.name b.name) (Decides-and _ _ (number a.parent b.parent)
+    (Decides-and _ _ (roles a.role b.role) (Decides-and _ _ (booleans_Decides a.subscribed b.subscribed) (rights a.rights b.rights)))))
     (counts a.counts b.counts))

@@ -1,5 +1,6 @@
 -- The index of marks finds the row of a mark.
-use Rattle.std.proofs.Common.{◌≡◌, ◌≢◌, ◌⊎◌, inl, inr, ℕ, [], ◌∷◌, Bool, true, false, ◌||◌, cond, nat_eq, refl, sym, ap, ◌∙◌, nat_cmp, is_some, Option, Some, None, eqb-true, eq-eqb}
+use Rattle.std.proofs.Common.{◌≡◌, ◌≢◌, ◌⊎◌, inl, inr, ℕ, [], ◌∷◌, Bool, true, false, ◌||◌, cond, nat_eq, refl, sym, ap, ◌∙◌, nat_cmp, is_some, Option, Some, None, eqb-true}
+use Rattle.std.proofs.Common.{eq-eqb}
 use Rattle.std.specs.List.Sorted.{IsStrictlySortedBy}
 use Rattle.std.specs.Map.{keys_of}
 use Rattle.std.specs.Borrow.{Bor}
@@ -41,7 +42,12 @@ is_of_mark es mark n row sorted e there = by (number_found es es None mark n (al
   where
     by : (None ≡ Some n) ⊎ IsNumbered es mark n → IsOfMark es mark row
     by (inl f) = absurd (let g : None ≡ Some n = f in cc)
-    by (inr f) = record { number = n; there = there; marked = ap (λ (r : EmailRow). r.mark) (let g : Some row ≡ Some f.row = sym there ∙ f.there in let k : row ≡ f.row = cc in k) ∙ f.marked }
+    by (inr f) = record {
+      number = n;
+      there = there;
+      marked = ap (λ (r : EmailRow). r.mark) (let g : Some row ≡ Some f.row = sym there ∙ f.there in let k : row ≡ f.row = cc in k)
+          ∙ f.marked;
+    }
 
 -- a number that the index has is that of a row
 pub is_numbered : (es : Rows) (mark n : ℕ) → IsStrictlySortedBy nat_cmp (keys_of es) → number_of es mark ≡ Some n → row_at es n ≢ None

@@ -1,5 +1,6 @@
 -- The rows of some mail: which marks they have, and which of those before stay.
-use Rattle.std.proofs.Common.{◌≡◌, ℕ, ◌∷◌, [], ◌++◌, List, Bool, true, false, not, ◌&&◌, ◌||◌, cond, nat_eq, filter, find, refl, sym, ap, ◌∙◌, nat_cmp, is_some, Option, Some, None, eqb-true}
+use Rattle.std.proofs.Common.{◌≡◌, ℕ, ◌∷◌, [], ◌++◌, List, Bool, true, false, not, ◌&&◌, ◌||◌, cond, nat_eq, filter, find, refl, sym, ap, ◌∙◌, nat_cmp, is_some, Option, Some, None}
+use Rattle.std.proofs.Common.{eqb-true}
 use Rattle.std.specs.List.{list_any}
 use Rattle.std.specs.List.Sorted.{IsStrictlySortedBy}
 use Rattle.std.specs.Map.{keys_of}
@@ -96,7 +97,8 @@ emails_are_shown n hs after mark t =
     ap (λ (rs : Rows). knows rs mark) (rows_after n hs after t)
     ∙ list_any-append (has_row_mark mark) rows (added (left n hs) (arrivals n hs) t.envelopes)
     ∙ ap (λ (k : Bool). knows rows mark || k)
-    (any_added (left n hs) (arrivals n hs) t.envelopes mark t.are_read ∙ any_new rows mark (visible hs) ∙ ap (λ (v : Bool). v && not (knows rows mark)) (sym (some_found mark (visible hs))))
+    (any_added (left n hs) (arrivals n hs) t.envelopes mark t.are_read ∙ any_new rows mark (visible hs) ∙ ap (λ (v : Bool). v && not (knows rows mark))
+    (sym (some_found mark (visible hs))))
     ∙ joined (knows rows mark) (is_some (shown hs mark)) (shown_left hs n.rows mark)
 
 -- ---- rows

@@ -17,7 +17,8 @@ use Rattle.thread_rule.specs.BaseSubject.{IsBaseOf, spaced}
 use Rattle.thread_rule.proofs.NormalForms.{one_normal}
 use Rattle.mail_maps.specs.declared.envelope.Envelope.{Envelope}
 use Rattle.mail_maps.specs.declared.envelope.Party.{Party}
-use Rattle.mail_maps.specs.Envelope.{IsFieldText, NoText, Text, IsFirstOf, NoMailbox, First, first_name, IsPartyOf, IsTimeOf, NoDate, Date, AreIdsOf, NoIds, Ids, AreAllIds, SaysEnvelope, IsEnvelopeOf}
+use Rattle.mail_maps.specs.Envelope.{IsFieldText, NoText, Text, IsFirstOf, NoMailbox, First, first_name, IsPartyOf, IsTimeOf, NoDate, Date, AreIdsOf, NoIds, Ids, AreAllIds}
+use Rattle.mail_maps.specs.Envelope.{SaysEnvelope, IsEnvelopeOf}
 use Rattle.mail_maps.specs.Visible.{Placed}
 use Rattle.told_folder.specs.declared.message.Held.{Held}
 use Rattle.mail_rows.specs.NumberedRows.{NumberedRows}

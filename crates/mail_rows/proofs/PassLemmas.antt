@@ -12,7 +12,8 @@ use Rattle.mail_maps.specs.Rows.{Rows}
 use Rattle.mail_maps.specs.Visible.{Placed, shown}
 use Rattle.mail_maps.proofs.InOrder.{put_next}
 use Rattle.mail_rows.specs.Remaining.{updated, remaining_row, put_remaining, remaining}
-use Rattle.mail_rows.specs.reading.Stays.{PassSoFar, none_passed, gone_of, change_where, is_moved, gather_where, gather_one, gather_all, is_hidden, gone_in, changes_where, changes_in}
+use Rattle.mail_rows.specs.reading.Stays.{PassSoFar, none_passed, gone_of, change_where, is_moved, gather_where, gather_one, gather_all, is_hidden, gone_in, changes_where}
+use Rattle.mail_rows.specs.reading.Stays.{changes_in}
 
 append_none : {A : Type 0} (xs : List A) → xs ++ [] ≡ xs
 append_none [] = refl
@@ -78,7 +79,8 @@ module _ (hs : List Held) where
   -- ---- the loop
 
   -- a turn of the loop: one row is gathered
-  pub pass_more : (g k : PassSoFar) (e : ℕ × EmailRow) (rest rows : Rows) (all : PassSoFar) → rows ≡ e ∷ rest → k ≡ gather_one hs g e → gather_all hs g rows ≡ all → gather_all hs k rest ≡ all
+  pub pass_more : (g k : PassSoFar) (e : ℕ × EmailRow) (rest rows : Rows) (all : PassSoFar) → rows ≡ e ∷ rest → k ≡ gather_one hs g e → gather_all hs g rows ≡ all
+      → gather_all hs k rest ≡ all
   pass_more g k e rest rows all is made so_far = ap (λ (x : PassSoFar). gather_all hs x rest) made ∙ sym (ap (gather_all hs g) is) ∙ so_far
 
   -- the end of the loop: no row is left

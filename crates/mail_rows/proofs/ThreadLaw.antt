@@ -45,7 +45,8 @@ shares_test members base id other m h = ap (λ (q : Bool). q && is_same_text m.b
 at_front : (e : ℕ × Member) (es : Members) (other : ℕ) (m : Member) → is_at (nat_cmp other) e.0 ≡ true → member_at (e ∷ es) other ≡ Some m → e.1 ≡ m
 at_front e es other m is h = let f : Some e.1 ≡ Some m = sym (ap (λ (q : Bool). cond q (Some e.1) (member_at es other)) is) ∙ h in cc
 
-behind : (e : ℕ × Member) (es : Members) (base id : List ℕ) (other : ℕ) (m : Member) → is_at (nat_cmp other) e.0 ≡ false → Shares (e ∷ es) base id other m → Shares es base id other m
+behind : (e : ℕ × Member) (es : Members) (base id : List ℕ) (other : ℕ) (m : Member) → is_at (nat_cmp other) e.0 ≡ false → Shares (e ∷ es) base id other m
+    → Shares es base id other m
 behind e es base id other m is h = record { there = sym (ap (λ (q : Bool). cond q (Some e.1) (member_at es other)) is) ∙ h.there; named = h.named; same = h.same }
 
 not_at : (a b : ℕ) → a < b → is_at (nat_cmp b) a ≡ false
@@ -67,7 +68,12 @@ first_is (e ∷ es) base id s = by (shares base id e.1) refl (first_is es base i
     lift k (Some t) f = record {
       email = f.email;
       member = f.member;
-      shares = record { there = ap (λ (q : Bool). cond q (Some e.1) (member_at es f.email)) (not_at e.0 f.email (above f.email f.member f.shares.there)) ∙ f.shares.there; named = f.shares.named; same = f.shares.same };
+      shares = record {
+        there = ap (λ (q : Bool). cond q (Some e.1) (member_at es f.email)) (not_at e.0 f.email (above f.email f.member f.shares.there)) ∙ f.shares.there;
+        named =
+            f.shares.named;
+        same = f.shares.same;
+      };
       is = f.is;
       least = λ other m h.
           elim (is_at (nat_cmp other) e.0) as (λ (q : Bool). is_at (nat_cmp other) e.0 ≡ q → f.email ≤ other) [
@@ -81,7 +87,12 @@ first_is (e ∷ es) base id s = by (shares base id e.1) refl (first_is es base i
         let p = both (is_among e.1.ids id) (is_same_text e.1.base base) k in record {
           email = e.0;
           member = e.1;
-          shares = record { there = ap (λ (q : Bool). cond q (Some e.1) (member_at es e.0)) (number_test e.0 e.0 ∙ eq-eqb e.0 e.0 refl); named = p.0; same = same_is e.1.base base p.1 };
+          shares = record {
+            there = ap (λ (q : Bool). cond q (Some e.1) (member_at es e.0)) (number_test e.0 e.0 ∙ eq-eqb e.0 e.0 refl);
+            named = p.0;
+            same =
+                same_is e.1.base base p.1;
+          };
           is = refl;
           least = λ other m h.
               elim (is_at (nat_cmp other) e.0) as (λ (q : Bool). is_at (nat_cmp other) e.0 ≡ q → e.0 ≤ other) [
@@ -92,10 +103,12 @@ first_is (e ∷ es) base id s = by (shares base id e.1) refl (first_is es base i
     by false k f = lift k (first_shared base id es) f
 
 -- the Thread that is sought among all members is that of the rule
-pub thread_is : (members : Members) (base : List ℕ) (number : ℕ) (ids : List (List ℕ)) → IsStrictlySortedBy nat_cmp (keys_of members) → IsThreadOf members base number ids (thread_in members base number ids)
+pub thread_is : (members : Members) (base : List ℕ) (number : ℕ) (ids : List (List ℕ)) → IsStrictlySortedBy nat_cmp (keys_of members) → IsThreadOf members base number ids
+    (thread_in members base number ids)
 thread_is members base number [] s = Founds
 thread_is members base number (id ∷ ids) s = by (first_shared base id members) (first_is members base id s) (thread_is members base number ids s)
   where
-    by : (o : Option ℕ) → Finds members base id o → IsThreadOf members base number ids (thread_in members base number ids) → IsThreadOf members base number (id ∷ ids) (unwrap_or o (thread_in members base number ids))
+    by : (o : Option ℕ) → Finds members base id o → IsThreadOf members base number ids (thread_in members base number ids) → IsThreadOf members base number (id ∷ ids)
+        (unwrap_or o (thread_in members base number ids))
     by None f r = Passes id ids (thread_in members base number ids) f r
     by (Some t) f r = let P : ℕ → Type 0 = λ x. IsThreadOf members base number (id ∷ ids) x in subst P (sym f.is) (Joins id ids f.email f.member f.shares f.least)

@@ -1,5 +1,6 @@
 -- The touches of a step are those of what goes, what is changed and what is added.
-use Rattle.std.proofs.Common.{◌≡◌, ℕ, ◌<◌, List, [], ◌∷◌, ◌++◌, Bool, true, false, not, ◌&&◌, ◌||◌, cond, nat_eq, map, filter, refl, sym, ap, ◌∙◌, nat_cmp, is_some, Option, Some, None}
+use Rattle.std.proofs.Common.{◌≡◌, ℕ, ◌<◌, List, [], ◌∷◌, ◌++◌, Bool, true, false, not, ◌&&◌, ◌||◌, cond, nat_eq, map, filter, refl, sym, ap, ◌∙◌, nat_cmp, is_some, Option, Some}
+use Rattle.std.proofs.Common.{None}
 use Rattle.std.specs.declared.cmp.Ordering.TheVariants.{Less}
 use Rattle.std.specs.Option.{option_map, option_or}
 use Rattle.std.specs.List.Sorted.{IsStrictlySortedBy}
@@ -71,12 +72,14 @@ module _ (hs : List Held) (old more : Rows) where
   changes_are new (e ∷ es) found = by (shown hs e.1.mark) (changes_are new es found.1)
     where
       by : (w : Option Placed) → map (change_to old) (filter (is_changed tests.same old) (remaining hs es ++ more)) ≡ changes_in hs es
-          → map (change_to old) (filter (is_changed tests.same old) (put_remaining e.0 (option_map (updated e.1) w) (remaining hs es) ++ more)) ≡ changes_where w e ++ changes_in hs es
+          → map (change_to old) (filter (is_changed tests.same old) (put_remaining e.0 (option_map (updated e.1) w) (remaining hs es) ++ more)) ≡ changes_where w e
+          ++ changes_in hs es
       by None rest = rest
       by (Some p) rest =
           let row : ℕ × EmailRow = (e.0, updated e.1 p) in
           let later : Rows = filter (is_changed tests.same old) (remaining hs es ++ more) in
-          let test : differs tests.same (row_at old e.0) (updated e.1 p) ≡ is_moved e.1 p = ap (λ (o : Option EmailRow). differs tests.same o (updated e.1 p)) found.0 ∙ moved_is e.1 p in
+          let test : differs tests.same (row_at old e.0) (updated e.1 p) ≡ is_moved e.1 p = ap (λ (o : Option EmailRow). differs tests.same o (updated e.1 p)) found.0
+          ∙ moved_is e.1 p in
           ap (λ (b : Bool). map (change_to old) (cond b (row ∷ later) later)) test
           ∙ elim (is_moved e.1 p) as (λ (b : Bool). map (change_to old) (cond b (row ∷ later) later) ≡ change_where b e.0 ++ changes_in hs es) [
             | true ↦ ap (λ (x : Entry). x ∷ map (change_to old) later) (change_is old row) ∙ ap (λ (xs : List Entry). touch_of_change e.0 ∷ xs) rest
@@ -119,7 +122,8 @@ remaining_at hs [] sorted q = refl
 remaining_at hs (e ∷ es) sorted q = by (is_at (nat_cmp q) e.0) refl (shown hs e.1.mark) refl (remaining_at hs es (sorted_tail nat_cmp e.0 (keys_of es) sorted) q)
   where
     none : q ≡ e.0 → row_at (remaining hs es) q ≡ None
-    none same = ap (row_at (remaining hs es)) same ∙ none_above e.0 (remaining hs es) (all_remaining hs (λ y. nat_cmp e.0 y ≡ Less) es (sorted_head nat_cmp e.0 (keys_of es) sorted))
+    none same = ap (row_at (remaining hs es)) same ∙ none_above e.0 (remaining hs es)
+        (all_remaining hs (λ y. nat_cmp e.0 y ≡ Less) es (sorted_head nat_cmp e.0 (keys_of es) sorted))
 
     by : (b : Bool) → is_at (nat_cmp q) e.0 ≡ b → (w : Option Placed) → shown hs e.1.mark ≡ w → row_at (remaining hs es) q ≡ remaining_if hs (row_at es q)
         → row_at (put_remaining e.0 (option_map (updated e.1) (shown hs e.1.mark)) (remaining hs es)) q ≡ remaining_if hs (cond (is_at (nat_cmp q) e.0) (Some e.1) (row_at es q))

@@ -1,5 +1,6 @@
 -- A visible message stands at its place, and the message of a mark is found.
-use Rattle.std.proofs.Common.{◌≡◌, ◌≢◌, ℕ, ◌<◌, List, [], ◌∷◌, ◌++◌, Bool, true, false, cond, nat_eq, map, filter, find, refl, sym, ap, ◌∙◌, subst, arith, Option, Some, None, is_some, eqb-true, eq-eqb}
+use Rattle.std.proofs.Common.{◌≡◌, ◌≢◌, ℕ, ◌<◌, List, [], ◌∷◌, ◌++◌, Bool, true, false, cond, nat_eq, map, filter, find, refl, sym, ap, ◌∙◌, subst, arith, Option, Some, None}
+use Rattle.std.proofs.Common.{is_some, eqb-true, eq-eqb}
 use Rattle.std.specs.Option.{option_map, option_or}
 use Rattle.std.proofs.lemmas.List.Folds.{find-append}
 use Rattle.told_folder.specs.Keyed.{Ascends, AllAbove, with_key}
@@ -36,7 +37,10 @@ AllFound xs (y ∷ ys) = (with_key uid_of y.uid xs ≡ Some y) × AllFound xs ys
 
 found_later : (x : Message) (xs ys : List Message) → AllAbove uid_of x.uid ys → AllFound xs ys → AllFound (x ∷ xs) ys
 found_later x xs [] above found = tt
-found_later x xs (y ∷ ys) above found = (ap (λ (b : Bool). cond b (Some x) (with_key uid_of y.uid xs)) (not_equal x.uid y.uid above.0) ∙ found.0, found_later x xs ys above.1 found.1)
+found_later x xs (y ∷ ys) above found = (
+  ap (λ (b : Bool). cond b (Some x) (with_key uid_of y.uid xs)) (not_equal x.uid y.uid above.0) ∙ found.0,
+  found_later x xs ys above.1 found.1,
+)
 
 all_found : (xs : List Message) → Ascends uid_of xs → AllFound xs xs
 all_found [] a = tt
@@ -91,7 +95,8 @@ record IsVisibleOf (hs : List Held) (mark : ℕ) (p : Placed) : Type 0 where
 among : (hs : List Held) (mark : ℕ) (ps : List Placed) (p : Placed) → AllSeen hs ps → find (λ x. nat_eq x.message.mark mark) ps ≡ Some p → IsVisibleOf hs mark p
 among hs mark [] p seen is = absurd (let f : None ≡ Some p = is in cc)
 among hs mark (x ∷ ps) p seen is =
-    elim (nat_eq x.message.mark mark) as (λ (b : Bool). nat_eq x.message.mark mark ≡ b → cond b (Some x) (find (λ y. nat_eq y.message.mark mark) ps) ≡ Some p → IsVisibleOf hs mark p) [
+    elim (nat_eq x.message.mark mark) as (λ (b : Bool). nat_eq x.message.mark mark ≡ b → cond b (Some x) (find (λ y. nat_eq y.message.mark mark) ps) ≡ Some p
+    → IsVisibleOf hs mark p) [
       | true ↦ λ same e. let P : Placed → Type 0 = λ q. IsVisibleOf hs mark q in subst P (some_is x p e) (record { seen = seen.0; marked = eqb-true x.message.mark mark same })
       | false ↦ λ other e. among hs mark ps p seen.1 e
     ] refl is
@@ -160,11 +165,13 @@ placed_same : (a b : ℕ) (x y : Message) → a ≡ b → x ≡ y → ◌≡◌ 
 placed_same a b x y e f = cc
 
 -- a visible message is the one that its place has
-at_place : (m : Mail) (mark : ℕ) (p : ℕ × ℕ) (x : Message) (q : Placed) → IsMail m → mark_in m.folders p ≡ Some mark → message_in m.folders p.0 p.1 ≡ Some x → shown m.folders mark ≡ Some q
+at_place : (m : Mail) (mark : ℕ) (p : ℕ × ℕ) (x : Message) (q : Placed) → IsMail m → mark_in m.folders p ≡ Some mark → message_in m.folders p.0 p.1 ≡ Some x
+    → shown m.folders mark ≡ Some q
     → (q ≡ record { folder = p.0; message = x }) × (is_served x ≡ true)
 at_place m mark p x q is at held e =
     let f : IsVisibleOf m.folders mark q = found m mark q is e in
-    let place : (q.folder, q.message.uid) ≡ p = is.marks (q.folder, q.message.uid) p mark (marked_at m.folders q.folder q.message.uid q.message f.seen.at ∙ ap (λ (n : ℕ). Some n) f.marked) at in
+    let place : (q.folder, q.message.uid) ≡ p = is.marks (q.folder, q.message.uid) p mark
+    (marked_at m.folders q.folder q.message.uid q.message f.seen.at ∙ ap (λ (n : ℕ). Some n) f.marked) at in
     let same : q.message ≡ x = some_is q.message x (sym f.seen.at ∙ ap (λ (r : ℕ × ℕ). message_in m.folders r.0 r.1) place ∙ held) in
     (placed_same q.folder p.0 q.message x (ap (λ (r : ℕ × ℕ). r.0) place) same, ap is_served (sym same) ∙ f.seen.served)
 

@@ -3,4 +3,5 @@ use Rattle.mail_rows.proofs.LoopLemmas.{mark_forgotten}
 use Rattle.mail_rows.proofs.indexes.forget_marks.Goals as goal
 
 pub loop-email-preserved : goal.loop-email-preserved
-loop-email-preserved c = λ q. mark_forgotten c.args.gone.now c.loop-email.email-index _ q _ _ _ c.loop-email-test.true (get_or-defaults _ _ _ c.loop-email-test.true) (c.remove.ensures.updates.0 q) (c.loop-email.invariant q)
+loop-email-preserved c = λ q. mark_forgotten c.args.gone.now c.loop-email.email-index _ q _ _ _ c.loop-email-test.true (get_or-defaults _ _ _ c.loop-email-test.true)
+    (c.remove.ensures.updates.0 q) (c.loop-email.invariant q)

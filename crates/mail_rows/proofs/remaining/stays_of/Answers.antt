@@ -5,7 +5,8 @@ use Rattle.mail_rows.proofs.remaining.stays_of.Goals as goal
 
 pub loop-number-preserved : goal.loop-number-preserved
 loop-number-preserved c =
-    pass_more c.args.mirror.now.mail.folders (pass_of c.loop-number.stays) _ (c.in-Some.number, c.in-Some.row) _ _ _ c.in-Some.ensures.steps c.in_ok-gather.ensures c.loop-number.invariant
+    pass_more c.args.mirror.now.mail.folders (pass_of c.loop-number.stays) _
+    (c.in-Some.number, c.in-Some.row) _ _ _ c.in-Some.ensures.steps c.in_ok-gather.ensures c.loop-number.invariant
 
 pub returns-clause-rows : goal.returns-clause-rows
 returns-clause-rows c =
