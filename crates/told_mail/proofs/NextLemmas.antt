@@ -1,6 +1,6 @@
 -- What is told, put and taken out leads from what every mirror's mail is to mail that can follow.
-use Rattle.std.proofs.Common.{◌≡◌, ◌≢◌, ◌⊎◌, ℕ, ◌+◌, ◌<◌, ◌≤◌, Bool, true, false, List, [], ◌∷◌, ◌++◌, Option, Some, None, fold, filter, map, max, refl, sym, ap, ◌∙◌, subst, arith, inl, inr}
-use Rattle.std.proofs.Common.{eqb, eqb-true, is_some, leb, not, if◌then◌else◌}
+use Rattle.std.proofs.Common.{◌≡◌, ◌≢◌, ◌⊎◌, ℕ, ◌+◌, ◌<◌, ◌≤◌, Bool, true, false, List, [], ◌∷◌, ◌++◌, Option, Some, None, fold, filter, map}
+use Rattle.std.proofs.Common.{max, refl, sym, ap, ◌∙◌, subst, arith, inl, inr, eqb, eqb-true, is_some, leb, not, if◌then◌else◌}
 use Rattle.std.specs.List.{AllByRecursion, filter_map}
 use Rattle.std.specs.Option.{option_map}
 use Rattle.imap_syntax.specs.declared.command.Command.{Command}
@@ -203,7 +203,8 @@ added_mail rs m (name ∷ names) free apart i =
     (more_mail m (line_for name rs) name (line_name name rs) free.0 i)
 
 apart_names : (hs : List Held) (rs : List Response) → AreApart (new_names hs rs)
-apart_names hs rs = apart_new (λ name. not (is_some (named hs name))) (names_told rs) (sorted_apart (names_told rs) (sorted_names (map (λ (l : lists.Line). l.name) (filter_map line_of rs))))
+apart_names hs rs =
+    apart_new (λ name. not (is_some (named hs name))) (names_told rs) (sorted_apart (names_told rs) (sorted_names (map (λ (l : lists.Line). l.name) (filter_map line_of rs))))
 
 list_mail : (m : Mail) (rs : List Response) → IsMail m → IsMail (tell_list m rs)
 list_mail m rs i = added_mail rs (record m { folders = listed rs m.folders }) (new_names m.folders rs) (free_new rs m.folders) (apart_names m.folders rs) (listed_mail m rs i)

@@ -17,5 +17,5 @@ push_folder-requires-clause-free c =
 
 pub returns-clause-numbers : goal.returns-clause-numbers
 returns-clause-numbers c =
-    numbers_push c.args.self.now c.push_folder.new.self c.in_ok-folder.folder c.push_folder.result (ap (λ (f : Folder). f.number) c.in_ok-folder.ensures ∙ ap (λ (t : Told). t.mail.next_folder) c.self.view_is)
-    c.push_folder.ensures.ok c.push_folder.ensures.err
+    let number = ap (λ (f : Folder). f.number) c.in_ok-folder.ensures ∙ ap (λ (t : Told). t.mail.next_folder) c.self.view_is in
+    numbers_push c.args.self.now c.push_folder.new.self c.in_ok-folder.folder c.push_folder.result number c.push_folder.ensures.ok c.push_folder.ensures.err

@@ -19,5 +19,6 @@ returns-clause-known c = λ e.
 pub returns-clause-numbers : goal.returns-clause-numbers
 returns-clause-numbers c =
     let told : Mail = c.list_told.new.self.mail in
-    let cut : NumbersGoOn told c.cut_ended.new.self.mail = subst (λ (m : Mail). NumbersGoOn told m) (sym c.cut_ended.ensures.mail) (numbers_filter told (is_listed c.args.lines.now)) in
+    let cut : NumbersGoOn told c.cut_ended.new.self.mail =
+    subst (λ (m : Mail). NumbersGoOn told m) (sym c.cut_ended.ensures.mail) (numbers_filter told (is_listed c.args.lines.now)) in
     numbers_on _ _ _ c.in_ok-list_told.ensures.numbers cut
