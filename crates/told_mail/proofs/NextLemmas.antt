@@ -158,11 +158,11 @@ put_mail m k nf rise less up stays only i =
     let ks : List Held = put_keyed folder_number k hs in
     let marks : (p : ℕ × ℕ) (v : ℕ) → mark_in ks p ≡ Some v → mark_in hs p ≡ Some v =
     λ p v e.
-        let x = mark_held ks p v e in
-        elim (stood_put hs k p.0 x.0 i.numbers x.1) [
-          | inl was ↦ mark_was hs p.0 p.1 x.0 was ∙ x.2
-          | inr new ↦ ap (λ q. mark_in hs (q, p.1)) new.0 ∙ stays p.1 v (subst (λ (z : Held). mark_at z.messages p.1 ≡ Some v) new.1 x.2)
-        ] in
+    let x = mark_held ks p v e in
+    elim (stood_put hs k p.0 x.0 i.numbers x.1) [
+      | inl was ↦ mark_was hs p.0 p.1 x.0 was ∙ x.2
+      | inr new ↦ ap (λ q. mark_in hs (q, p.1)) new.0 ∙ stays p.1 v (subst (λ (z : Held). mark_at z.messages p.1 ≡ Some v) new.1 x.2)
+    ] in
     record {
       numbers = ascends_put folder_number k hs i.numbers;
       uids = uids_put k hs up i.uids;
