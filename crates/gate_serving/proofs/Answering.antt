@@ -1,6 +1,6 @@
 -- One client is answered, part by part.
 use Rattle.std.proofs.Common.{arith, ◌≡◌, ◌≢◌, ◌⊎◌, ◌++◌, ◌∷◌, ◌≤◌, ◌+◌, ℕ, Bool, true, false, List, [], Option, Some, None, Result, Ok, Err, refl, sym, ◌∙◌, ap, subst, inl, inr}
-use Rattle.std.specs.Prelude.{IfOk}
+use Rattle.std.specs.Prelude.{IfOk, OnErr}
 use Rattle.std.specs.declared.alloc.AllocError.{AllocError}
 use Rattle.std.proofs.lemmas.List.{append-nil}
 use Rattle.gate_world.specs.Causes.{Faults, Hidden, RoseBy, Rose, FrontAlone, NoFault, Later, no_faults}
@@ -20,10 +20,10 @@ use Rattle.gate_serving.specs.declared.gate.Gate.{Gate}
 use Rattle.gate_serving.specs.declared.response.Response.{Response}
 use Rattle.gate_serving.specs.declared.served.Served.{Served}
 use Rattle.gate_serving.specs.declared.served.Served.TheVariants as served
-use Rattle.gate_serving.specs.Answers.{KeepsUpload, response_of, no_memory_text}
+use Rattle.gate_serving.specs.Answers.{KeepsUpload, TakesMemory, response_of, no_memory_text}
 use Rattle.gate_serving.specs.Calls.{Mailing}
 use Rattle.gate_serving.specs.GateState.{GateState, unready_state}
-use Rattle.gate_serving.specs.Requests.{Account, Asking, ReadsAsking, asks_for_mail}
+use Rattle.gate_serving.specs.Requests.{Account, Asking, Calls, Problem, Session, Upload, Download, Refused, ReadsAsking, asks_for_mail}
 use Rattle.gate_serving.specs.Segment.{Replies, Answered, LacksReading, LacksAnswering, Segment, NoneComes, NotAccepted, Left, Unasked, Replied, reply_blamed, blamed, went, unsent}
 use Rattle.gate_serving.specs.Segment.{blame_front}
 use Rattle.gate_serving.specs.Run.{StepsTo}
@@ -137,10 +137,11 @@ works_visited {machine = machine} {how = how} asks result asks_is v meant memory
 
 is_made : (door : Door) (account : Account) (given mail : Mailing) (asking : Asking) (before after : GateState) (done : Progress) (result : Result Response AllocError)
     → given ≡ mail → done.standing ≢ OutOfMemory → KeepsUpload asking before.uploads after.uploads
-    → IfOk result (λ r. text_sent r ≡ response_of door account given after.uploads asking) → IsMade door account mail asking before after done result
-is_made door account given mail asking before after done (Ok response) same stands kept is =
+    → IfOk result (λ r. text_sent r ≡ response_of door account given after.uploads asking) → OnErr result (TakesMemory asking)
+    → IsMade door account mail asking before after done result
+is_made door account given mail asking before after done (Ok response) same stands kept is takes =
     (is ∙ ap (λ (m : Mailing). response_of door account m after.uploads asking) same, stands, kept)
-is_made door account given mail asking before after done (Err e) same stands kept is = tt
+is_made door account given mail asking before after done (Err e) same stands kept is takes = takes
 
 -- the response that the gate makes, as it stood before
 made_of : (gate before : Gate) (secrets : Hidden) (given : Mailing) (asking : Asking) (result : Result Response AllocError) → RestStays before gate
@@ -156,9 +157,9 @@ pub answers_worked : {machine : Machine} {was now : Faults} {events : List Event
     (result : Result Response AllocError)
     → asks_for_mail asking ≡ asks → WorksTo before.user secrets.password asks before.machine machine was now (Ok given) events → gate.machine ≡ machine
     → KeepsUpload asking before.uploads gate.uploads → RestStays before gate
-    → IfOk result (λ r. (s : Hidden) → text_sent r ≡ response_of gate.door (account_by gate s) given gate.uploads asking)
+    → IfOk result (λ r. (s : Hidden) → text_sent r ≡ response_of gate.door (account_by gate s) given gate.uploads asking) → OnErr result (TakesMemory asking)
     → AnswersTo before.door (account_by before secrets) asking (state_of before) (state_of gate) was now result events
-answers_worked gate before secrets asks asking given result asks_is w machine_is kept rest made =
+answers_worked gate before secrets asks asking given result asks_is w machine_is kept rest made takes =
     record {
       mail = w.mail;
       done = w.done;
@@ -167,16 +168,25 @@ answers_worked gate before secrets asks asking given result asks_is w machine_is
       bears = w.bears;
       may = inr kept;
       made = is_made before.door (account_by before secrets) given w.mail asking (state_of before) (state_of gate) w.done result w.worked.0 w.worked.1 kept
-          (made_of gate before secrets given asking result rest made);
+          (made_of gate before secrets given asking result rest made) takes;
     }
+
+-- what needs the mail takes memory
+pub takes_for_mail : (asking : Asking) (asks : Bool) → asks_for_mail asking ≡ asks → asks ≡ true → TakesMemory asking
+takes_for_mail (Calls request) asks asks_is needs = tt
+takes_for_mail (Problem e) asks asks_is needs = tt
+takes_for_mail Session asks asks_is needs = tt
+takes_for_mail (Upload media octets) asks asks_is needs = tt
+takes_for_mail (Download blob media) asks asks_is needs = tt
+takes_for_mail (Refused refusal) asks asks_is needs = let both : false ≡ true = asks_is ∙ needs in absurd cc
 
 -- there was none for it, or none to keep an upload
 pub answers_lacking : {machine : Machine} {was now : Faults} {events : List Event} (gate before : Gate) (secrets : Hidden) (asks : Bool) (asking : Asking) (e : AllocError)
     (result : Result Mailing AllocError)
     → asks_for_mail asking ≡ asks → WorksTo before.user secrets.password asks before.machine machine was now result events → gate.machine ≡ machine
-    → gate.uploads ≡ before.uploads
+    → gate.uploads ≡ before.uploads → TakesMemory asking
     → AnswersTo before.door (account_by before secrets) asking (state_of before) (state_of gate) was now (Err e) events
-answers_lacking gate before secrets asks asking e result asks_is w machine_is same =
+answers_lacking gate before secrets asks asking e result asks_is w machine_is same takes =
     record {
       mail = w.mail;
       done = w.done;
@@ -184,7 +194,7 @@ answers_lacking gate before secrets asks asking e result asks_is w machine_is sa
       machine_is = machine_is ∙ sym w.machine_is;
       bears = w.bears;
       may = inl same;
-      made = tt;
+      made = takes;
     }
 
 -- ---- the reply to what is asked
@@ -229,6 +239,7 @@ replied_lacking {door} {account} {asking} {before} {mid} {after} {was} {now} {ev
           done = a.done;
           whole = refl;
           reads = reads;
+          takes = a.made;
           work = a.work;
           text_is = text_is;
           machine_is = ap (λ (m : Machine). (unready_state (record { machine = m; uploads = [] })).machine) a.machine_is;

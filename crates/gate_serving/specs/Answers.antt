@@ -89,6 +89,11 @@ abbrev pub spelled : Door → Answer → List ℕ
 spelled Bare answer = answer.body ++ line_end
 spelled Http answer = http_response answer.status answer.media answer.body
 
+-- The response takes memory: each but that to what is refused, which has no body.
+abbrev pub TakesMemory : Asking → Type 0
+TakesMemory (Refused refusal) = ⊥
+TakesMemory _ = Unit {0}
+
 abbrev pub response_of : Door → Account → Mailing → List (List ℕ) → Asking → List ℕ
 response_of door account mail uploads asking = spelled door (answer_over account mail uploads asking)
 

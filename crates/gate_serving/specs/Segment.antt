@@ -12,7 +12,7 @@ use Rattle.gate_machine.specs.declared.standing.Standing.TheVariants.{OutOfMemor
 use Rattle.gate_serving.specs.declared.door.Door.{Door}
 use Rattle.gate_serving.specs.declared.served.Served.{Served}
 use Rattle.gate_serving.specs.declared.served.Served.TheVariants as served
-use Rattle.gate_serving.specs.Answers.{KeepsUpload, MayKeepUpload, response_of, no_memory_text}
+use Rattle.gate_serving.specs.Answers.{KeepsUpload, MayKeepUpload, TakesMemory, response_of, no_memory_text}
 use Rattle.gate_serving.specs.Calls.{Mailing}
 use Rattle.gate_serving.specs.GateState.{GateState, unready_state}
 use Rattle.gate_serving.specs.Requests.{Account, Asking, ReadsAsking}
@@ -38,8 +38,8 @@ pub record AnswersAsking (door : Door) (account : Account) (before : GateState) 
   pub keeps : KeepsUpload asking before.uploads after.uploads
   pub text_is : text ≡ response_of door account mail after.uploads asking
 
--- Memory runs out after the request was read: in the link life, while what it told was to be served, or while the response was
--- made. An upload may be kept then.
+-- Memory runs out after a request was read whose response takes memory: in the link life, while what it told was to be served,
+-- or while the response was made. An upload may be kept then.
 pub record LacksForAsking (door : Door) (account : Account) (before : GateState) (events : List Event) (text : List ℕ) (after : GateState) : Type 0 where
   pub asked : List Event
   pub worked : List Event
@@ -48,6 +48,7 @@ pub record LacksForAsking (door : Door) (account : Account) (before : GateState)
   pub done : Progress
   pub whole : events ≡ asked ++ worked
   pub reads : ReadsAsking door account.token (Ok asking) asked
+  pub takes : TakesMemory asking
   pub work : Work account before.machine asking worked mail done
   pub text_is : text ≡ no_memory_text door
   pub machine_is : after.machine ≡ forgotten_machine done.machine

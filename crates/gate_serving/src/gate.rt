@@ -4,7 +4,7 @@ ghost use Rattle.std.specs.Option.{option_copied};
 ghost use Rattle.gate_world.specs.Causes.{FrontAlone, Hidden, Later, LinkAlone, NoFault, Rose};
 ghost use Rattle.gate_world.specs.Tape.{Adds};
 ghost use Rattle.gate_serving.specs.GateState.{unready_state};
-ghost use Rattle.gate_serving.specs.Answers.{KeepsUpload, no_memory_text, response_of};
+ghost use Rattle.gate_serving.specs.Answers.{KeepsUpload, TakesMemory, no_memory_text, response_of};
 ghost use Rattle.gate_serving.specs.Run.{Opens, StepsTo, account_of};
 ghost use Rattle.gate_serving.specs.declared.door.Door.TheVariants.{Bare};
 ghost use Rattle.gate_serving.specs.reading.Askings.{asking_data};
@@ -161,6 +161,7 @@ impl Gate {
     fn keep(&mut self, asking: &Asking) -> Result<(), AllocError>
         ensures kept { OnOk result (KeepsUpload (asking_data asking.now) self.old.uploads self.new.uploads) }
         ensures refused { OnErr result (self.new.uploads ≡ self.old.uploads) }
+        ensures takes { OnErr result (TakesMemory (asking_data asking.now)) }
         ensures rest { RestStays self.old self.new }
         ensures machine { self.new.machine ≡ self.old.machine }
     {
@@ -173,15 +174,16 @@ impl Gate {
         }
     }
 
-    // The response over this mail and the uploads that are kept.
+    // The response over this mail and the uploads that are kept. What is refused takes no memory.
     fn response(
         &self,
         alloc: Global,
         mail: &Mailing,
         asking: &Asking,
     ) -> Result<Response, AllocError>
-        ensures { IfOk result (λ r. (secrets : Hidden) → text_sent r
+        ensures made { IfOk result (λ r. (secrets : Hidden) → text_sent r
             ≡ response_of self.now.door (account_by self.now secrets) mail.now self.now.uploads (asking_data asking.now)) }
+        ensures takes { OnErr result (TakesMemory (asking_data asking.now)) }
     {
         match asking {
             Asking::Calls(request) => {

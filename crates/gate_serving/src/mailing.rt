@@ -1,5 +1,5 @@
 // The work on a request: a link life where it needs the mail, and what it came to.
-ghost use Rattle.std.specs.Prelude.{◌≡◌, ◌≢◌, IfOk};
+ghost use Rattle.std.specs.Prelude.{◌≡◌, ◌≢◌, IfOk, OnErr, true};
 ghost use Rattle.gate_world.specs.Causes.{LinkAlone};
 ghost use Rattle.gate_world.specs.Tape.{Adds};
 ghost use Rattle.gate_machine.specs.declared.standing.Standing.TheVariants.{OutOfMemory};
@@ -48,6 +48,7 @@ pub fn work<W: World>(
 ) -> Result<Mailing, AllocError>
     ensures run { Adds (W.tape world.old) (W.tape world.new)
         (WorksTo user.now (W.hidden world.old).password asks machine.old machine.new (W.faults world.old) (W.faults world.new) result) }
+    ensures asked { OnErr result (asks ≡ true) }
     ensures alone { LinkAlone (W.faults world.old) (W.faults world.new) }
     ensures hidden { W.hidden world.new ≡ W.hidden world.old }
 {

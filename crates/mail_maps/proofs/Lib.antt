@@ -2,3 +2,6 @@ pub mod InOrder
 pub mod Tallied
 pub mod Ordered
 pub mod KeySets
+mod SameKeywords
+pub mod GroupLemmas
+pub mod ThreadLemmas

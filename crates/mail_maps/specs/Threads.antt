@@ -1,5 +1,5 @@
 -- Threads (RFC 8621 section 3): which Emails each has, by when they were received, then number.
-use Rattle.std.specs.Prelude.{ℕ, ℤ, List, [], map, filter}
+use Rattle.std.specs.Prelude.{ℕ, ℤ, List, [], ◌∷◌, map, filter, Option, Some, None}
 use Rattle.std.specs.declared.cmp.Ordering.{Ordering}
 use Rattle.std.specs.Ordering.{nat_cmp, int_cmp, ordering_then}
 use Rattle.mail_maps.specs.declared.row.EmailRow.{EmailRow}
@@ -26,3 +26,12 @@ thread_numbers rows = distinct (map (λ (e : ℕ × EmailRow). e.1.thread) rows)
 -- each Thread with its Emails, ascending
 abbrev pub threads_of : Rows → List (ℕ × List ℕ)
 threads_of rows = map {B = ℕ × List ℕ} (λ t. (t, emails_in rows t)) (thread_numbers rows)
+
+-- this, where any of those is there
+abbrev pub where_any : {A B : Type 0} → List A → B → Option B
+where_any [] b = None
+where_any (x ∷ xs) b = Some b
+
+-- the Emails of a Thread, where it has any
+abbrev pub thread_at : Rows → ℕ → Option (List ℕ)
+thread_at rows thread = where_any (pairs_in rows thread) (emails_in rows thread)

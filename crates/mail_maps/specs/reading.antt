@@ -2,3 +2,4 @@
 pub mod Groups
 pub mod Tallies
 pub mod Sets
+pub mod Compared

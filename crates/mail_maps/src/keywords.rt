@@ -33,7 +33,7 @@ fn is_system(flag: &[u8]) -> bool
 }
 
 /// The keyword that stands for a flag (RFC 8621 section 4.1.1).
-fn keyword_of(flag: &[u8]) -> Option<&[u8]>
+pub(crate) fn keyword_of(flag: &[u8]) -> Option<&[u8]>
     ensures { option_to_list (option_map (λ k. k.now) result) ≡ keywords.keyword_of flag.now }
 {
     if flag == b"\\seen".as_slice() {

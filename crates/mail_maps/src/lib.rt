@@ -9,6 +9,7 @@ mod served;
 mod envelope;
 mod header;
 pub mod keywords;
+pub mod same_keywords;
 pub mod visible;
 
 // Threads and Mailboxes.
@@ -24,4 +25,4 @@ pub use header::read_envelope;
 pub use mailboxes::mailboxes_of;
 pub use row::{EmailRow, MailboxRow, Rights, Role};
 pub use tally::FolderCounts;
-pub use threads::{Thread, threads_of};
+pub use threads::{Thread, threads_among, threads_of};

@@ -1,5 +1,5 @@
 // Counting the Emails and Threads of each folder, in one pass.
-ghost use Rattle.std.specs.Prelude.{◌≡◌, ◌+◌, ◌^◌, ◌<◌, ◌&&◌, ◌||◌, ℕ, IfOk, OnOk, nat_eq, cond, None};
+ghost use Rattle.std.specs.Prelude.{◌≡◌, ◌+◌, ◌^◌, ◌<◌, ◌&&◌, ◌||◌, ℕ, IfOk, OnOk, nat_eq, cond, Some};
 ghost use Rattle.std.specs.BTreeMap.{get};
 ghost use Rattle.std.specs.BTreeSet.{contains};
 ghost use Rattle.std.specs.List.{list_any};
@@ -59,31 +59,20 @@ impl Tally {
         }
     }
 
-    fn with_row(self, row: &EmailRow, in_unread: bool) -> Result<Tally, AllocError>
-        requires { self.total + 1 < 2 ^ 64 }
-        ensures { IfOk result (λ t. t ≡ tally_one in_unread self row.now) }
+    /// One Email more.
+    fn count(&mut self, row: &EmailRow, in_unread: bool) -> Result<(), AllocError>
+        requires { self.old.total + 1 < 2 ^ 64 }
+        ensures { OnOk result (self.new ≡ tally_one in_unread self.old row.now) }
     {
-        let Tally {
-            total,
-            unread,
-            mut threads,
-            mut unread_threads,
-        } = self;
-        threads.insert(row.thread)?;
+        self.threads.insert(row.thread)?;
         if in_unread {
-            unread_threads.insert(row.thread)?;
+            self.unread_threads.insert(row.thread)?;
         }
-        let now_unread = if is_unread(&row.keywords) {
-            unread + 1
-        } else {
-            unread
-        };
-        Ok(Tally {
-            total: total + 1,
-            unread: now_unread,
-            threads,
-            unread_threads,
-        })
+        self.total += 1;
+        if is_unread(&row.keywords) {
+            self.unread += 1;
+        }
+        Ok(())
     }
 
     fn counts(&self) -> FolderCounts
@@ -122,16 +111,23 @@ fn unread_threads(
     Ok(threads)
 }
 
-fn take_tally(alloc: Global, tallies: &mut BTreeMap<u64, Tally>, folder: u64) -> Tally
-    ensures tally { result ≡ tallied_at (get nat_cmp tallies.old folder) }
-    ensures others { (f : ℕ) → get nat_cmp tallies.new f ≡ cond (nat_eq folder f) None (get nat_cmp tallies.old f) }
+/// The first Email of a folder.
+fn count_first(
+    alloc: Global,
+    tallies: &mut BTreeMap<u64, Tally>,
+    row: &EmailRow,
+    in_unread: bool,
+) -> Result<(), AllocError>
+    ensures { OnOk result ((f : ℕ) → get nat_cmp tallies.new f
+        ≡ cond (nat_eq row.now.folder f) (Some (tally_one in_unread none_tallied row.now)) (get nat_cmp tallies.old f)) }
 {
-    match tallies.remove(&folder) {
-        Some(tally) => tally,
-        None => Tally::new(alloc),
-    }
+    let mut tally = Tally::new(alloc);
+    tally.count(row, in_unread)?;
+    tallies.insert(row.folder, tally)?;
+    Ok(())
 }
 
+/// One Email more in its folder.
 fn count_row(
     alloc: Global,
     tallies: &mut BTreeMap<u64, Tally>,
@@ -142,10 +138,13 @@ fn count_row(
     ensures { OnOk result ((f : ℕ) → let was = tallied_at (get nat_cmp tallies.old f) in
         tallied_at (get nat_cmp tallies.new f) ≡ cond (nat_eq row.now.folder f) (tally_one in_unread was row.now) was) }
 {
-    let tally = take_tally(alloc, tallies, row.folder);
-    let more = tally.with_row(row, in_unread)?;
-    tallies.insert(row.folder, more)?;
-    Ok(())
+    match tallies.get_mut(&row.folder) {
+        Some(tally) => {
+            tally.count(row, in_unread)?;
+            Ok(())
+        }
+        None => count_first(alloc, tallies, row, in_unread),
+    }
 }
 
 /// The counts of each folder that has Emails.

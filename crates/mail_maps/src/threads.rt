@@ -1,11 +1,12 @@
 // Threads: which Emails each has.
-ghost use Rattle.std.specs.Prelude.{◌≡◌, ℕ, [], IfOk, OnOk, map, cond, nat_eq, None};
+ghost use Rattle.std.specs.Prelude.{◌≡◌, ℕ, [], ◌∷◌, IfOk, OnOk, map, cond, nat_eq, Some, None};
+ghost use Rattle.std.specs.Option.{option_map};
 ghost use Rattle.std.specs.BTreeMap.{get};
-ghost use Rattle.std.specs.BTreeSet.{insert_key};
+ghost use Rattle.std.specs.BTreeSet.{contains, insert_key};
 ghost use Rattle.std.specs.Ordering.{nat_cmp};
-ghost use Rattle.mail_maps.specs.Threads.{threads_of, thread_numbers, pairs_in, pair_cmp};
+ghost use Rattle.mail_maps.specs.Threads.{threads_of, thread_numbers, thread_at, pairs_in, pair_cmp};
 ghost use Rattle.mail_maps.specs.Keywords.{sorted_into};
-ghost use Rattle.mail_maps.specs.reading.Groups.{listed};
+ghost use Rattle.mail_maps.specs.reading.Groups.{listed, keys_at, grouped, pairs_among};
 
 use crate::EmailRow;
 use std::alloc::{AllocError, Global};
@@ -72,7 +73,9 @@ fn put_pair(
     thread: u64,
     pair: (i64, u64),
 ) -> Result<(), AllocError>
-    ensures { OnOk result ((t : ℕ) → listed (get nat_cmp groups.new t)
+    ensures groups { OnOk result ((t : ℕ) → keys_at (get nat_cmp groups.new t)
+        ≡ cond (nat_eq thread t) (Some (insert_key pair_cmp (listed (get nat_cmp groups.old thread)) pair)) (keys_at (get nat_cmp groups.old t))) }
+    ensures listed { OnOk result ((t : ℕ) → listed (get nat_cmp groups.new t)
         ≡ cond (nat_eq thread t) (insert_key pair_cmp (listed (get nat_cmp groups.old thread)) pair) (listed (get nat_cmp groups.old t))) }
 {
     let mut group = take_group(alloc, groups, thread);
@@ -134,5 +137,67 @@ pub fn threads_of(
         let thread = group_at(alloc, &groups, *number)?;
         threads.insert(*number, thread)?;
     }
+    Ok(threads)
+}
+
+/// Puts an Email into the group of its Thread, where that is one of these.
+fn put_among(
+    alloc: Global,
+    groups: &mut BTreeMap<u64, BTreeSet<(i64, u64)>>,
+    among: &BTreeSet<u64>,
+    number: u64,
+    row: &EmailRow,
+) -> Result<(), AllocError>
+    ensures { OnOk result ((t : ℕ) → keys_at (get nat_cmp groups.new t)
+        ≡ grouped (keys_at (get nat_cmp groups.old t)) (pairs_among among.now ((number, row.now) ∷ []) t)) }
+{
+    if among.contains(&row.thread) {
+        put_pair(alloc, groups, row.thread, (row.received, number))?;
+    }
+    Ok(())
+}
+
+/// The Emails of these Threads, by their Threads.
+fn group_among(
+    alloc: Global,
+    emails: &BTreeMap<u64, EmailRow>,
+    among: &BTreeSet<u64>,
+) -> Result<BTreeMap<u64, BTreeSet<(i64, u64)>>, AllocError>
+    ensures { IfOk result (λ groups. (t : ℕ) → keys_at (get nat_cmp groups t) ≡ grouped None (pairs_among among.now emails.now.entries t)) }
+{
+    let mut groups = BTreeMap::new(alloc);
+    for (number, row) in emails {
+        put_among(alloc, &mut groups, among, *number, row)?;
+    }
+    Ok(groups)
+}
+
+/// A Thread for each group.
+fn threads_in(
+    alloc: Global,
+    groups: &BTreeMap<u64, BTreeSet<(i64, u64)>>,
+) -> Result<BTreeMap<u64, Thread>, AllocError>
+    ensures { IfOk result (λ threads. (t : ℕ) → get nat_cmp threads t ≡ option_map (map (λ p. p.1)) (keys_at (get nat_cmp groups.now t))) }
+{
+    let mut threads = BTreeMap::new(alloc);
+    let _count = groups.len();
+    for (number, group) in groups {
+        let thread = Thread::of_group(alloc, group)?;
+        threads.insert(*number, thread)?;
+    }
+    Ok(threads)
+}
+
+/// Those of these Threads that have Emails. It costs one pass over the rows, and memory for these Threads alone.
+pub fn threads_among(
+    alloc: Global,
+    emails: &BTreeMap<u64, EmailRow>,
+    among: &BTreeSet<u64>,
+) -> Result<BTreeMap<u64, Thread>, AllocError>
+    ensures { IfOk result (λ threads. (t : ℕ) → get nat_cmp threads t
+        ≡ cond (contains nat_cmp among.now t) (thread_at emails.now.entries t) None) }
+{
+    let groups = group_among(alloc, emails, among)?;
+    let threads = threads_in(alloc, &groups)?;
     Ok(threads)
 }

@@ -10,10 +10,10 @@ use Rattle.mail_maps.specs.declared.envelope.Envelope.{Envelope}
 use Rattle.mail_maps.specs.Envelope.{IsEnvelopeOf}
 use Rattle.mail_maps.specs.Rows.{Rows}
 use Rattle.mail_maps.specs.Visible.{Placed}
-use Rattle.mail_rows.specs.NumberedRows.{NumberedRows}
+use Rattle.mail_rows.specs.NumberedRows.{NumberedRows, AreBelow}
 use Rattle.mail_rows.specs.Joining.{row_member, members_of, thread_in}
 use Rattle.mail_rows.specs.Taking.{new_row}
-use Rattle.mail_rows.specs.reading.Indexes.{AreBelow, AreIndexes, AddsRow, row_for, with_last}
+use Rattle.mail_rows.specs.reading.Indexes.{AreIndexes, AddsRow, row_for, with_last}
 use Rattle.mail_rows.proofs.RowLemmas.{none_over, insert_last}
 use Rattle.mail_rows.proofs.IndexLemmas.{members_under, as_under, indexes_more}
 use Rattle.mail_rows.proofs.ThreadLaw.{thread_is}

@@ -7,13 +7,13 @@ use Rattle.change_list.specs.declared.entries.Entry.{Entry}
 use Rattle.told_folder.specs.declared.message.Held.{Held}
 use Rattle.mail_maps.specs.Rows.{Rows}
 use Rattle.mail_maps.specs.Visible.{Placed}
-use Rattle.mail_rows.specs.NumberedRows.{NumberedRows}
+use Rattle.mail_rows.specs.NumberedRows.{NumberedRows, AreBelow}
 use Rattle.mail_rows.specs.Remaining.{remaining}
 use Rattle.mail_rows.specs.Taking.{newcomers, left, arrivals, TakesMail}
 use Rattle.mail_rows.specs.RowTouches.{email_touches}
 use Rattle.mail_rows.specs.declared.remaining.Gone.{Gone}
 use Rattle.mail_rows.specs.reading.Stays.{touch_of_addition, touch_of_removal, gone_in, changes_in}
-use Rattle.mail_rows.specs.reading.Indexes.{AreBelow, AddsRows, numbers_from}
+use Rattle.mail_rows.specs.reading.Indexes.{AddsRows, numbers_from}
 use Rattle.mail_rows.proofs.IndexLemmas.{as_under}
 use Rattle.mail_rows.proofs.TakingLemmas.{takes_from_adds, added, rows_added, next_added, keys_added, from_added}
 use Rattle.mail_rows.proofs.TouchLemmas.{touches_are}

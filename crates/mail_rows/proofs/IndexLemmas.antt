@@ -15,11 +15,12 @@ use Rattle.told_folder.specs.declared.message.Held.{Held}
 use Rattle.mail_maps.specs.declared.row.EmailRow.{EmailRow}
 use Rattle.mail_maps.specs.Rows.{Rows}
 use Rattle.mail_maps.specs.Visible.{Placed, shown}
+use Rattle.mail_rows.specs.NumberedRows.{AreBelow}
 use Rattle.mail_rows.specs.Remaining.{updated, remaining_row, put_remaining, remaining}
 use Rattle.mail_rows.specs.Joining.{row_member, members_of}
 use Rattle.mail_rows.specs.declared.remaining.Gone.{Gone}
 use Rattle.mail_rows.specs.reading.Stays.{gone_of, is_hidden, gone_in}
-use Rattle.mail_rows.specs.reading.Indexes.{number_after, number_of, AreBelow, AreIndexes, number_left, members_left}
+use Rattle.mail_rows.specs.reading.Indexes.{number_after, number_of, AreIndexes, number_left, members_left}
 use Rattle.mail_rows.proofs.RowLemmas.{is_here, below_is_not, less_is_below, Under, insert_last, under_more}
 
 -- ---- the numbers of marks, as Emails go
@@ -76,8 +77,8 @@ module _ (hs : List Held) (q : ℕ) where
           ∙ none_left (gone_in hs es) q
       by false other g rest =
           ap (λ (b : Bool). number_left (gone_in hs (e ∷ es)) q (number_after (cond b (Some e.0) o) es q)) other
-          ∙ elim (shown hs e.1.mark) as (λ (v : Option Placed). number_left
-          (map gone_of (cond (not (is_some v)) (e ∷ filter (is_hidden hs) es) (filter (is_hidden hs) es))) q o ≡ None
+          ∙ elim (shown hs e.1.mark) as (λ (v : Option Placed).
+          number_left (map gone_of (cond (not (is_some v)) (e ∷ filter (is_hidden hs) es) (filter (is_hidden hs) es))) q o ≡ None
           → number_left (map gone_of (cond (not (is_some v)) (e ∷ filter (is_hidden hs) es) (filter (is_hidden hs) es))) q (number_after o es q) ≡ None) [
             | Some x ↦ λ k. rest k
             | None ↦ λ k.
@@ -89,8 +90,8 @@ module _ (hs : List Held) (q : ℕ) where
   goes_after is [] = refl
   goes_after is (e ∷ es) = by (shown hs e.1.mark) refl (goes_after is es)
     where
-      by : (w : Option Placed) → shown hs e.1.mark ≡ w → number_after None (remaining hs es) q ≡ None → number_after None
-          (put_remaining e.0 (option_map (updated e.1) w) (remaining hs es)) q ≡ None
+      by : (w : Option Placed) → shown hs e.1.mark ≡ w → number_after None (remaining hs es) q ≡ None
+          → number_after None (put_remaining e.0 (option_map (updated e.1) w) (remaining hs es)) q ≡ None
       by None f rest = rest
       by (Some x) f rest =
           elim (nat_eq e.1.mark q) as (λ (b : Bool). nat_eq e.1.mark q ≡ b → number_after (cond b (Some e.0) None) (remaining hs es) q ≡ None) [
@@ -131,8 +132,8 @@ before_more a k m [] h b = tt
 before_more a k m (e ∷ es) h b = (none_more e.0 k m a (less_is_below k e.0 h.0) b.0, before_more a k m es h.1 b.1)
 
 module _ (hs : List Held) where
-  book_left : (a : Members) (es : Rows) → IsStrictlySortedBy nat_cmp (keys_of es) → Before a es → members_left (gone_in hs es) (a ++ members_of es) ≡ a ++ members_of
-      (remaining hs es)
+  book_left : (a : Members) (es : Rows) → IsStrictlySortedBy nat_cmp (keys_of es) → Before a es
+      → members_left (gone_in hs es) (a ++ members_of es) ≡ a ++ members_of (remaining hs es)
   book_left a [] sorted before = refl
   book_left a (e ∷ es) sorted before = by (shown hs e.1.mark) (λ x b. book_left x es (sorted_tail nat_cmp e.0 (keys_of es) sorted) b)
     where

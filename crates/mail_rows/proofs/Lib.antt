@@ -12,3 +12,4 @@ pub mod FollowLemmas
 pub mod LookLemmas
 mod LoopLemmas
 pub mod MailLaws
+mod UpdateLemmas

@@ -42,12 +42,10 @@ is_of_mark es mark n row sorted e there = by (number_found es es None mark n (al
   where
     by : (None ≡ Some n) ⊎ IsNumbered es mark n → IsOfMark es mark row
     by (inl f) = absurd (let g : None ≡ Some n = f in cc)
-    by (inr f) = record {
-      number = n;
-      there = there;
-      marked = ap (λ (r : EmailRow). r.mark) (let g : Some row ≡ Some f.row = sym there ∙ f.there in let k : row ≡ f.row = cc in k)
-          ∙ f.marked;
-    }
+    by (inr f) =
+        let g : Some row ≡ Some f.row = sym there ∙ f.there in
+        let same : row ≡ f.row = cc in
+        record { number = n; there = there; marked = ap (λ (r : EmailRow). r.mark) same ∙ f.marked }
 
 -- a number that the index has is that of a row
 pub is_numbered : (es : Rows) (mark n : ℕ) → IsStrictlySortedBy nat_cmp (keys_of es) → number_of es mark ≡ Some n → row_at es n ≢ None

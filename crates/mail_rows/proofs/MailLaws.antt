@@ -97,8 +97,8 @@ emails_are_shown n hs after mark t =
     ap (λ (rs : Rows). knows rs mark) (rows_after n hs after t)
     ∙ list_any-append (has_row_mark mark) rows (added (left n hs) (arrivals n hs) t.envelopes)
     ∙ ap (λ (k : Bool). knows rows mark || k)
-    (any_added (left n hs) (arrivals n hs) t.envelopes mark t.are_read ∙ any_new rows mark (visible hs) ∙ ap (λ (v : Bool). v && not (knows rows mark))
-    (sym (some_found mark (visible hs))))
+    (any_added (left n hs) (arrivals n hs) t.envelopes mark t.are_read ∙ any_new rows mark (visible hs)
+    ∙ ap (λ (v : Bool). v && not (knows rows mark)) (sym (some_found mark (visible hs))))
     ∙ joined (knows rows mark) (is_some (shown hs mark)) (shown_left hs n.rows mark)
 
 -- ---- rows

@@ -1,19 +1,16 @@
 -- What one pass over the rows has gathered in the end.
-use Rattle.std.proofs.Common.{◌≡◌, ℕ, List, [], ◌∷◌, ◌++◌, not, cond, map, filter, refl, sym, ap, ◌∙◌, subst, nat_cmp, append_assoc, is_some, Option, Some, None}
+use Rattle.std.proofs.Common.{◌≡◌, ℕ, List, [], ◌∷◌, ◌++◌, not, cond, map, filter, refl, sym, ap, ◌∙◌, nat_cmp, append_assoc, is_some, Option, Some, None}
 use Rattle.std.specs.declared.cmp.Ordering.TheVariants.{Less}
-use Rattle.std.specs.Option.{option_map}
 use Rattle.std.specs.List.{AllByRecursion}
 use Rattle.std.specs.List.Sorted.{IsStrictlySortedBy}
 use Rattle.std.specs.Map.{keys_of}
-use Rattle.std.specs.BTreeMap.{insert_entry}
 use Rattle.told_folder.specs.declared.message.Held.{Held}
 use Rattle.mail_maps.specs.declared.row.EmailRow.{EmailRow}
 use Rattle.mail_maps.specs.Rows.{Rows}
 use Rattle.mail_maps.specs.Visible.{Placed, shown}
-use Rattle.mail_maps.proofs.InOrder.{put_next}
-use Rattle.mail_rows.specs.Remaining.{updated, remaining_row, put_remaining, remaining}
-use Rattle.mail_rows.specs.reading.Stays.{PassSoFar, none_passed, gone_of, change_where, is_moved, gather_where, gather_one, gather_all, is_hidden, gone_in, changes_where}
-use Rattle.mail_rows.specs.reading.Stays.{changes_in}
+use Rattle.mail_rows.specs.Remaining.{remaining_row, put_remaining, remaining}
+use Rattle.mail_rows.specs.reading.Stays.{PassSoFar, none_passed, gone_of, change_where, is_moved, is_other, update_where, gather_where, gather_one, gather_all}
+use Rattle.mail_rows.specs.reading.Stays.{is_hidden, gone_in, changes_where, changes_in, updates_where, updates_in}
 
 append_none : {A : Type 0} (xs : List A) → xs ++ [] ≡ xs
 append_none [] = refl
@@ -35,6 +32,14 @@ module _ (hs : List Held) where
       elim (shown hs e.1.mark) as (λ (o : Option Placed). (gather_all hs (gather_where o g e) es).changed ≡ g.changed ++ (changes_where o e ++ changes_in hs es)) [
         | None ↦ changed_are (gather_where None g e) es
         | Some p ↦ changed_are (gather_where (Some p) g e) es ∙ append_assoc g.changed (change_where (is_moved e.1 p) e.0) (changes_in hs es)
+      ]
+
+  updates_are : (g : PassSoFar) (es : Rows) → (gather_all hs g es).updates ≡ g.updates ++ updates_in hs es
+  updates_are g [] = sym (append_none g.updates)
+  updates_are g (e ∷ es) =
+      elim (shown hs e.1.mark) as (λ (o : Option Placed). (gather_all hs (gather_where o g e) es).updates ≡ g.updates ++ (updates_where o e ++ updates_in hs es)) [
+        | None ↦ updates_are (gather_where None g e) es
+        | Some p ↦ updates_are (gather_where (Some p) g e) es ∙ append_assoc g.updates (update_where (is_other e.1 p) e.0 p) (updates_in hs es)
       ]
 
   -- ---- the rows, in order
@@ -61,26 +66,11 @@ module _ (hs : List Held) where
   sorted_remaining (e ∷ es) h =
       sorted_put e.0 (remaining_row hs e.1) (remaining hs es) (all_remaining (λ y. nat_cmp e.0 y ≡ Less) es h.0) (sorted_remaining es h.1)
 
-  rows_are : (g : PassSoFar) (es : Rows) → IsStrictlySortedBy nat_cmp (keys_of (g.rows ++ remaining hs es)) → (gather_all hs g es).rows ≡ g.rows ++ remaining hs es
-  rows_are g [] h = sym (append_none g.rows)
-  rows_are g (e ∷ es) h = by (shown hs e.1.mark) h (λ k sorted. rows_are k es sorted)
-    where
-      by : (o : Option Placed) → IsStrictlySortedBy nat_cmp (keys_of (g.rows ++ put_remaining e.0 (option_map (updated e.1) o) (remaining hs es)))
-          → ((k : PassSoFar) → IsStrictlySortedBy nat_cmp (keys_of (k.rows ++ remaining hs es)) → (gather_all hs k es).rows ≡ k.rows ++ remaining hs es)
-          → (gather_all hs (gather_where o g e) es).rows ≡ g.rows ++ put_remaining e.0 (option_map (updated e.1) o) (remaining hs es)
-      by None sorted rest = rest (gather_where None g e) sorted
-      by (Some p) sorted rest =
-          let w : EmailRow = updated e.1 p in
-          let put : insert_entry nat_cmp g.rows e.0 w ++ remaining hs es ≡ g.rows ++ (e.0, w) ∷ remaining hs es =
-          put_next (g.rows ++ (e.0, w) ∷ remaining hs es) g.rows e.0 w (remaining hs es) (insert_entry nat_cmp g.rows e.0 w) sorted refl refl in
-          let S : Rows → Type 0 = λ rows. IsStrictlySortedBy nat_cmp (keys_of rows) in
-          rest (gather_where (Some p) g e) (subst S (sym put) sorted) ∙ put
-
   -- ---- the loop
 
   -- a turn of the loop: one row is gathered
-  pub pass_more : (g k : PassSoFar) (e : ℕ × EmailRow) (rest rows : Rows) (all : PassSoFar) → rows ≡ e ∷ rest → k ≡ gather_one hs g e → gather_all hs g rows ≡ all
-      → gather_all hs k rest ≡ all
+  pub pass_more : (g k : PassSoFar) (e : ℕ × EmailRow) (rest rows : Rows) (all : PassSoFar) → rows ≡ e ∷ rest → k ≡ gather_one hs g e
+      → gather_all hs g rows ≡ all → gather_all hs k rest ≡ all
   pass_more g k e rest rows all is made so_far = ap (λ (x : PassSoFar). gather_all hs x rest) made ∙ sym (ap (gather_all hs g) is) ∙ so_far
 
   -- the end of the loop: no row is left
@@ -95,6 +85,6 @@ module _ (hs : List Held) where
   pub all_changed : (es : Rows) → (gather_all hs none_passed es).changed ≡ changes_in hs es
   all_changed es = changed_are none_passed es
 
-  -- the pass gathers the rows that remain
-  pub all_rows : (es : Rows) → IsStrictlySortedBy nat_cmp (keys_of es) → (gather_all hs none_passed es).rows ≡ remaining hs es
-  all_rows es sorted = rows_are none_passed es (sorted_remaining es sorted)
+  -- the pass gathers the updates
+  pub all_updates : (es : Rows) → (gather_all hs none_passed es).updates ≡ updates_in hs es
+  all_updates es = updates_are none_passed es

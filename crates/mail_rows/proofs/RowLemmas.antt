@@ -115,8 +115,8 @@ module _ {R : Type 0} where
   all_less k [] f = tt
   all_less k (e ∷ es) f = (below_is_less k e.0 (omega (arith, f.0)), all_less k es f.1)
 
-  less_last : (j k : ℕ) (v : R) (es : List (ℕ × R)) → j < k → AllByRecursion (λ y. nat_cmp j y ≡ Less) (keys_of es) → AllByRecursion (λ y. nat_cmp j y ≡ Less)
-      (keys_of (es ++ (k, v) ∷ []))
+  less_last : (j k : ℕ) (v : R) (es : List (ℕ × R)) → j < k → AllByRecursion (λ y. nat_cmp j y ≡ Less) (keys_of es)
+      → AllByRecursion (λ y. nat_cmp j y ≡ Less) (keys_of (es ++ (k, v) ∷ []))
   less_last j k v [] l h = (below_is_less j k l, tt)
   less_last j k v (e ∷ es) l h = (h.0, less_last j k v es l h.1)
 

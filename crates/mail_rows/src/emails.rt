@@ -5,7 +5,7 @@ ghost use Rattle.std.specs.List.Sorted.{IsStrictlySortedBy};
 ghost use Rattle.std.specs.Map.{keys_of};
 ghost use Rattle.std.specs.Ordering.{nat_cmp};
 ghost use Rattle.change_list.specs.Advance.{row_at};
-ghost use Rattle.mail_rows.specs.NumberedRows.{none_numbered};
+ghost use Rattle.mail_rows.specs.NumberedRows.{none_numbered, AreBelow};
 ghost use Rattle.mail_rows.specs.Joining as joining;
 ghost use Rattle.mail_rows.specs.Taking as taking;
 ghost use Rattle.mail_rows.specs.Taking.{TakesMail};
@@ -122,7 +122,7 @@ impl Emails {
     /// Does nothing, and shows that the rows are in order, and below the next number.
     pub fn are_in_order(&self)
         ensures sorted { IsStrictlySortedBy nat_cmp (keys_of self.now.rows) }
-        ensures below { indexes.AreBelow self.now.next self.now.rows }
+        ensures below { AreBelow self.now.next self.now.rows }
     {
         let _count = self.rows.len();
     }

@@ -38,6 +38,7 @@ pub fn emails_are_shown()
 
 /// An Email whose mark is shown stays under its number, as its message is.
 pub fn an_email_stays()
-    ensures { (n : NumberedRows) (hs : List Held) (after : NumberedRows) (number : ℕ) (row : EmailRow) (p : Placed) → IsStrictlySortedBy nat_cmp (keys_of n.rows)
-        → TakesMail n hs after → row_at n.rows number ≡ Some row → shown hs row.mark ≡ Some p → row_at after.rows number ≡ Some (updated row p) }
+    ensures { (n : NumberedRows) (hs : List Held) (after : NumberedRows) (number : ℕ) (row : EmailRow) (p : Placed)
+        → IsStrictlySortedBy nat_cmp (keys_of n.rows) → TakesMail n hs after → row_at n.rows number ≡ Some row → shown hs row.mark ≡ Some p
+        → row_at after.rows number ≡ Some (updated row p) }
 {}

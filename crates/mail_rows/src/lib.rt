@@ -10,6 +10,3 @@ mod shown;
 mod touches;
 
 pub use emails::Emails;
-
-#[cfg(test)]
-mod tests;

@@ -22,8 +22,8 @@ use Rattle.mail_state.specs.declared.error.StateError.TheVariants.{Spent}
 use Rattle.mail_state.specs.History.{MailHistory, Advances, advanced}
 use Rattle.mail_state.specs.Sound.{IsSound}
 use Rattle.mail_state.specs.State.{ServedRows, ChangeLists, ServedState, IsStateOf, rows_of}
-use Rattle.mail_state.specs.Following.{Touches, touches_between, spent_place, spent_to, Moves, FollowsMail}
-use Rattle.mail_state.specs.reading.Noting.{Noted, AllNoted, StepsRows, moved_by}
+use Rattle.mail_state.specs.Following.{Touches, touches_between, spent_place, spent_to, AllNoted, StepsTo, Moves, FollowsMail}
+use Rattle.mail_state.specs.reading.Noting.{StepsRows, moved_by}
 use Rattle.mail_state.proofs.EmailLemmas.{emails_are_fresh}
 use Rattle.mail_state.proofs.ThreadLemmas.{threads_are_fresh}
 use Rattle.mail_state.proofs.FolderLemmas.{mailboxes_are_fresh}
@@ -118,6 +118,13 @@ follows s h m rows t lists stands next steps noted =
       stands = subst S (sym steps.rows) (stands_after s h m n lists stands next takes (subst N are noted));
       moves = subst M (sym are) (moves s h m n stands);
     }
+
+-- the state has the rows of the mail, and has noted the touches
+pub steps_to : (s : ServedState) (m : Mail) (rows : ServedRows) (t : Touches) (lists : ChangeLists) → StepsRows s.rows m rows t → AllNoted s.lists lists t
+    → StepsTo s m (state_with s rows lists)
+steps_to s m rows t lists steps noted =
+    let N : Touches → Type 0 = λ x. AllNoted s.lists lists x in
+    record { epoch = refl; takes = steps.takes; rows = steps.rows; noted = subst N steps.touches noted }
 
 -- ---- room
 

@@ -58,16 +58,16 @@ use Rattle.mail_state.specs.Sound.{IsRowOf}
 -- ---- visible messages come in order
 
 -- by folder number, and then UID
-abbrev IsBefore : Placed → Placed → Type 0
+abbrev pub IsBefore : Placed → Placed → Type 0
 IsBefore p q = (p.folder < q.folder) ⊎ ((p.folder ≡ q.folder) × (p.message.uid < q.message.uid))
 
-abbrev AllBehind : Placed → List Placed → Type 0
+abbrev pub AllBehind : Placed → List Placed → Type 0
 AllBehind p [] = Unit {0}
 AllBehind p (q ∷ qs) = IsBefore p q × AllBehind p qs
 
-abbrev InOrder : List Placed → Type 0
-InOrder [] = Unit {0}
-InOrder (p ∷ ps) = AllBehind p ps × InOrder ps
+abbrev pub IsOrdered : List Placed → Type 0
+IsOrdered [] = Unit {0}
+IsOrdered (p ∷ ps) = AllBehind p ps × IsOrdered ps
 
 abbrev FoldersAbove : ℕ → List Placed → Type 0
 FoldersAbove k [] = Unit {0}
@@ -85,9 +85,9 @@ behind_filtered f p [] a = tt
 behind_filtered f p (q ∷ ps) a = elim (f q) as (λ (b : Bool). AllBehind p (cond b (q ∷ filter f ps) (filter f ps)))
     [ true ↦ (a.0, behind_filtered f p ps a.1) | false ↦ behind_filtered f p ps a.1 ]
 
-filtered : (f : Placed → Bool) (ps : List Placed) → InOrder ps → InOrder (filter f ps)
+filtered : (f : Placed → Bool) (ps : List Placed) → IsOrdered ps → IsOrdered (filter f ps)
 filtered f [] o = tt
-filtered f (p ∷ ps) o = elim (f p) as (λ (b : Bool). InOrder (cond b (p ∷ filter f ps) (filter f ps)))
+filtered f (p ∷ ps) o = elim (f p) as (λ (b : Bool). IsOrdered (cond b (p ∷ filter f ps) (filter f ps)))
     [ true ↦ (behind_filtered f p ps o.0, filtered f ps o.1) | false ↦ filtered f ps o.1 ]
 
 in_folder_filtered : (f : Placed → Bool) (k : ℕ) (ps : List Placed) → AllInFolder k ps → AllInFolder k (filter f ps)
@@ -104,7 +104,7 @@ uids_behind : (n : ℕ) (x : Message) (xs : List Message) → AllAbove uid_of x.
 uids_behind n x [] a = tt
 uids_behind n x (y ∷ xs) a = (inr (refl, a.0), uids_behind n x xs a.1)
 
-folder_in_order : (n : ℕ) (xs : List Message) → Ascends uid_of xs → InOrder (placed n xs)
+folder_in_order : (n : ℕ) (xs : List Message) → Ascends uid_of xs → IsOrdered (placed n xs)
 folder_in_order n [] a = tt
 folder_in_order n (x ∷ xs) a = (uids_behind n x xs a.0, folder_in_order n xs a.1)
 
@@ -134,11 +134,11 @@ behind_joined : (p : Placed) (ps qs : List Placed) → AllBehind p ps → AllBeh
 behind_joined p [] qs f g = g
 behind_joined p (x ∷ ps) qs f g = (f.0, behind_joined p ps qs f.1 g)
 
-order_joined : (k : ℕ) (ps qs : List Placed) → AllInFolder k ps → FoldersAbove k qs → InOrder ps → InOrder qs → InOrder (ps ++ qs)
+order_joined : (k : ℕ) (ps qs : List Placed) → AllInFolder k ps → FoldersAbove k qs → IsOrdered ps → IsOrdered qs → IsOrdered (ps ++ qs)
 order_joined k [] qs i a o r = r
 order_joined k (p ∷ ps) qs i a o r = (behind_joined p ps qs o.0 (behind_above p k qs i.0 a), order_joined k ps qs i.1 a o.1 r)
 
-visible_in_order : (hs : List Held) → Ascends folder_number hs → AllAscend hs → InOrder (visible hs)
+visible_in_order : (hs : List Held) → Ascends folder_number hs → AllAscend hs → IsOrdered (visible hs)
 visible_in_order [] numbers uids = tt
 visible_in_order (h ∷ hs) numbers uids =
     order_joined h.folder.number (filter is_visible_place (placed_in h)) (visible hs)
@@ -149,7 +149,7 @@ visible_in_order (h ∷ hs) numbers uids =
 
 -- ---- so they have marks of their own
 
-abbrev has_its_mark : List Placed → ℕ → Bool
+abbrev pub has_its_mark : List Placed → ℕ → Bool
 has_its_mark [] q = false
 has_its_mark (p ∷ ps) q = nat_eq p.message.mark q || has_its_mark ps q
 
@@ -178,7 +178,7 @@ apart_behind m p (q ∷ ps) is f seen before =
       | false ↦ λ other. apart_behind m p ps is f seen.1 before.1
     ] refl
 
-apart : (m : Mail) (ps : List Placed) → IsMail m → AllSeen m.folders ps → InOrder ps → AreApart ps
+apart : (m : Mail) (ps : List Placed) → IsMail m → AllSeen m.folders ps → IsOrdered ps → AreApart ps
 apart m [] is seen order = tt
 apart m (p ∷ ps) is seen order = (apart_behind m p ps is seen.0 seen.1 order.0, apart m ps is seen.1 order.1)
 
@@ -190,9 +190,12 @@ seen_filtered hs f (p ∷ ps) s = elim (f p) as (λ (b : Bool). AllSeen hs (cond
 arrivals_seen : (m : Mail) (n : NumberedRows) → IsMail m → AllSeen m.folders (arrivals n m.folders)
 arrivals_seen m n is = seen_filtered m.folders (is_newcomer (remaining m.folders n.rows)) (visible m.folders) (all_seen m.folders is.numbers is.uids)
 
+-- new Emails come by folder number, and then UID
+pub arrivals_ordered : (m : Mail) (n : NumberedRows) → IsMail m → IsOrdered (arrivals n m.folders)
+arrivals_ordered m n is = filtered (is_newcomer (remaining m.folders n.rows)) (visible m.folders) (visible_in_order m.folders is.numbers is.uids)
+
 arrivals_apart : (m : Mail) (n : NumberedRows) → IsMail m → AreApart (arrivals n m.folders)
-arrivals_apart m n is = apart m (arrivals n m.folders) is (arrivals_seen m n is)
-    (filtered (is_newcomer (remaining m.folders n.rows)) (visible m.folders) (visible_in_order m.folders is.numbers is.uids))
+arrivals_apart m n is = apart m (arrivals n m.folders) is (arrivals_seen m n is) (arrivals_ordered m n is)
 
 -- ---- rows as their messages are
 

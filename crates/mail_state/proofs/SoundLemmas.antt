@@ -1,5 +1,7 @@
 -- Each history is sound, and no number is used twice.
-use Rattle.std.proofs.Common.{◌≡◌, ◌≢◌, ℕ, ◌+◌, ◌<◌, ◌≤◌, List, [], ◌∷◌, take, refl, sym, ap, ◌∙◌, subst, arith, nat_cmp, zero, suc, All, Some, None}
+use Rattle.std.proofs.Common.{◌≡◌, ◌≢◌, ℕ, ◌+◌, ◌<◌, ◌≤◌, List, [], ◌∷◌, take, refl, sym, ap, ◌∙◌, subst, arith, nat_cmp, zero, suc, All, Option, Some, None}
+use Rattle.std.proofs.Common.{◌↔◌, ◌&&◌, Bool, true, false}
+use Rattle.std.specs.Bool.{IsTrue}
 use Rattle.std.specs.List.Sorted.{IsStrictlySortedBy}
 use Rattle.std.specs.Map.{keys_of}
 use Rattle.std.specs.Option.{option_map}
@@ -13,9 +15,10 @@ use Rattle.served_maps.proofs.StandsOn.{past_on, row_at-served}
 use Rattle.served_maps.proofs.Between.{ever_below}
 use Rattle.told_folder.specs.declared.message.Held.{Held}
 use Rattle.told_mail.specs.Mail.{Mail, no_mail, IsMail, IsNextMail}
-use Rattle.mail_maps.specs.Serve.{Immutable, Email, email_of, mailbox_tests, email_tests, thread_tests}
+use Rattle.mail_maps.specs.Serve.{Immutable, Email, ServedMailbox, email_of, same_counts, same_but_counts, mailbox_tests, email_tests, thread_tests}
 use Rattle.mail_rows.specs.NumberedRows.{NumberedRows}
 use Rattle.mail_rows.specs.Taking.{TakesMail}
+use Rattle.mail_rows.proofs.MailLaws.{emails_are_shown}
 use Rattle.mail_rows.proofs.OneTake.{one_take}
 use Rattle.mail_rows.proofs.Exact.{exact_mailbox, exact_email, exact_thread}
 use Rattle.mail_rows.proofs.RowLemmas.{found_under}
@@ -33,7 +36,7 @@ use Rattle.mail_state.specs.History.{
 }
 use Rattle.mail_state.specs.Sound.{IsSound, IsRowOf, KeepsImmutable}
 use Rattle.mail_state.specs.State.{IsStateOf, first_state}
-use Rattle.mail_state.specs.Laws.{ComesNew, UsesOnce, CopiesStay, KeepsCopies}
+use Rattle.mail_state.specs.Laws.{ComesNew, UsesOnce, CopiesStay, KeepsCopies, HasCopyLaws}
 use Rattle.mail_state.proofs.EmailLemmas.{InOrder, in_order, taken_in_order, served_rows, next_rises, next_bound, emails_are_fresh, keeps_immutable}
 use Rattle.mail_state.proofs.ThreadLemmas.{thread_rows, threads_have, threads_are_fresh, threads_below_then, some_is}
 use Rattle.mail_state.proofs.FolderLemmas.{mailbox_rows, mailboxes_have, mailboxes_are_fresh, folder_below}
@@ -79,6 +82,7 @@ first_is_sound epoch = record {
   ascending = nothing_sorted;
   rows = All-nil (IsRowOf []);
   marks = tt;
+  marks_shown = λ mark. refl;
   immutable = λ i j q u v a b. absurd (let f : None ≡ Some u = sym (none_at i q) ∙ a in cc);
 }
 
@@ -110,6 +114,7 @@ taken_sound h m n sound next takes =
       ascending = order.sorted;
       rows = rows_are h.mail.folders m h.numbered n next.is_mail sound.rows takes;
       marks = marks_apart m h.numbered n next.is_mail sound.marks takes;
+      marks_shown = λ mark. emails_are_shown h.numbered m.folders n mark takes;
       immutable = keeps_immutable h m.folders n sound takes emails;
     }
   where
@@ -164,6 +169,33 @@ copies_stay_right h after m a =
       emails = stays email_tests h.emails (served_emails after.numbered.rows);
       threads = stays thread_tests h.threads (served_threads after.numbered.rows);
     })
+
+-- the laws of copies are those of any history
+pub copy_laws : {V : Type 0} (p : Past V) → HasCopyLaws p
+copy_laws {V} p = record {
+  follow = copies.copies_follow p.touches;
+  last = λ copy. (copies.last_copy_is_map p.touches copy, λ all. record { no_other = λ q none. all q ∙ none; agrees = λ q untouched. all q });
+  takes = copies.copies_take p.touches;
+  drops = copies.copies_drop p.touches;
+  steps = copies.steps_keep p.touches;
+  ends = copies.steps_end p.touches;
+}
+
+-- ---- counts alone
+
+both : (a b : Bool) → (a && b) ≡ true → (a ≡ true) × (b ≡ true)
+both true b e = (refl, e)
+both false b e = absurd (let f : false ≡ true = e in cc)
+
+same_itself : (v : ServedMailbox) → same_counts v.counts v.counts ≡ true
+same_itself v = (both (same_but_counts v v) (same_counts v.counts v.counts) ((exact_mailbox v v).1 refl)).1
+
+-- two Mailboxes are the same but for counts where one with the other's counts is the other
+pub but_for_counts : (u v : ServedMailbox) → IsTrue (mailbox_tests.counts u v) ↔ (record u { counts = v.counts } ≡ v)
+but_for_counts u v = (
+  (λ h. (exact_mailbox (record u { counts = v.counts }) v).0 (ap (λ (b : Bool). b && same_counts v.counts v.counts) h ∙ same_itself v)),
+  (λ e. (both (same_but_counts u v) (same_counts v.counts v.counts) ((exact_mailbox (record u { counts = v.counts }) v).1 e)).0),
+)
 
 -- ---- the first state
 

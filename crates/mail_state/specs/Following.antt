@@ -1,7 +1,7 @@
 -- A state's step to other mail: its touches, where a place has no room for them, and what comes of it.
-use Rattle.std.specs.Prelude.{◌≡◌, ◌⊎◌, ◌↔◌, ℕ, ◌+◌, ◌<◌, nat_lt, if◌then◌else◌, List, length, Option, Some, None, Result, Ok, Err, IsTrue}
+use Rattle.std.specs.Prelude.{◌≡◌, ◌⊎◌, ◌↔◌, ℕ, ◌+◌, ◌<◌, nat_lt, if◌then◌else◌, List, ◌++◌, length, Option, Some, None, Result, Ok, Err, IsTrue}
 use Rattle.std.specs.Option.{option_map, option_or}
-use Rattle.change_list.specs.Kept.{Kept}
+use Rattle.change_list.specs.Kept.{Kept, IsOf}
 use Rattle.change_list.specs.declared.list.TheConstants.{MAX_PLACE}
 use Rattle.change_list.specs.Advance.{advance_entries}
 use Rattle.change_list.specs.declared.entries.Entry.{Entry}
@@ -49,6 +49,25 @@ spent_to s m n = spent_place s.lists (touches_between s.rows (rows_of m n))
 abbrev pub RefusesSpent : {X : Type 0} → ServedState → Mail → Result X StateError → Type 0
 RefusesSpent s m (Ok x) = (n : NumberedRows) × TakesMail s.rows.numbered m.folders n × (spent_to s m n ≡ None)
 RefusesSpent s m (Err e) = (e ≡ Memory) ⊎ ((n : NumberedRows) × TakesMail s.rows.numbered m.folders n × (option_map Spent (spent_to s m n) ≡ Some e))
+
+-- ---- the step, whatever came before
+
+-- the touches were noted in the list
+pub record Noted (before now : Kept) (touches : List Entry) : Type 0 where
+  pub place : now.place ≡ before.place + length touches
+  pub noted : (h : List Entry) → IsOf before h → IsOf now (h ++ touches)
+
+pub record AllNoted (before now : ChangeLists) (t : Touches) : Type 0 where
+  pub mailbox : Noted before.mailbox now.mailbox t.mailbox
+  pub email : Noted before.email now.email t.email
+  pub thread : Noted before.thread now.thread t.thread
+
+-- the state has the rows of the mail, and its lists have the touches that lead to them
+pub record StepsTo (s : ServedState) (m : Mail) (now : ServedState) : Type 0 where
+  pub epoch : now.epoch ≡ s.epoch
+  pub takes : TakesMail s.rows.numbered m.folders now.rows.numbered
+  pub rows : now.rows ≡ rows_of m now.rows.numbered
+  pub noted : AllNoted s.lists now.lists (touches_between s.rows now.rows)
 
 -- ---- following
 

@@ -1,5 +1,5 @@
 -- What holds of each history.
-use Rattle.std.specs.Prelude.{◌≡◌, ℕ, ◌+◌, ◌≤◌, List, All, Some}
+use Rattle.std.specs.Prelude.{◌≡◌, ℕ, ◌+◌, ◌≤◌, List, All, is_some, Some}
 use Rattle.std.specs.List.Sorted.{IsStrictlySortedBy}
 use Rattle.std.specs.Map.{keys_of}
 use Rattle.std.specs.Ordering.{nat_cmp}
@@ -10,7 +10,7 @@ use Rattle.mail_maps.specs.declared.row.EmailRow.{EmailRow}
 use Rattle.mail_maps.specs.Envelope.{IsEnvelopeOf}
 use Rattle.mail_maps.specs.Visible.{Placed, shown}
 use Rattle.mail_maps.specs.Serve.{Email}
-use Rattle.mail_rows.specs.NumberedRows.{MarksApart}
+use Rattle.mail_rows.specs.NumberedRows.{knows, MarksApart}
 use Rattle.mail_rows.specs.Remaining.{updated}
 use Rattle.mail_state.specs.History.{MailHistory, served_mailboxes, served_emails, served_threads}
 
@@ -43,4 +43,6 @@ pub record IsSound (h : MailHistory) : Type 0 where
   pub ascending : IsStrictlySortedBy nat_cmp (keys_of h.numbered.rows)
   pub rows : All (IsRowOf h.mail.folders) h.numbered.rows
   pub marks : MarksApart h.numbered.rows
+  -- an Email has a mark exactly where the mail shows it
+  pub marks_shown : (mark : ℕ) → knows h.numbered.rows mark ≡ is_some (shown h.mail.folders mark)
   pub immutable : KeepsImmutable h.emails

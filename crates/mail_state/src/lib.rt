@@ -6,6 +6,7 @@ pub mod laws;
 mod lists;
 mod rows;
 mod state;
+mod threads;
 mod touches;
 
 pub use error::StateError;

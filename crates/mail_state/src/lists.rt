@@ -1,8 +1,8 @@
 // The last touches of each type.
 ghost use Rattle.std.specs.Prelude.{◌≡◌, ◌<◌, ◌^◌, IfOk, None, length};
 ghost use Rattle.mail_state.specs.State.{first_lists};
-ghost use Rattle.mail_state.specs.Following.{full_place, spent_place};
-ghost use Rattle.mail_state.specs.reading.Noting.{AllNoted, AnswersSpent, Noted};
+ghost use Rattle.mail_state.specs.Following.{AllNoted, Noted, full_place, spent_place};
+ghost use Rattle.mail_state.specs.reading.Noting.{AnswersSpent};
 
 use crate::StateError;
 use crate::touches::StepTouches;

@@ -3,8 +3,9 @@ ghost use Rattle.std.specs.Prelude.{◌≡◌, ◌≤◌, ◌^◌, IfOk};
 ghost use Rattle.mail_state.specs.State.{no_rows};
 ghost use Rattle.mail_state.specs.reading.Noting.{StepsRows};
 
+use crate::threads::follow_threads;
 use crate::touches::StepTouches;
-use mail_maps::{MailboxRow, Thread, mailboxes_of, threads_of};
+use mail_maps::{MailboxRow, Thread, mailboxes_of};
 use mail_rows::Emails;
 use served_maps::steps::steps_between;
 use std::alloc::{AllocError, Global};
@@ -24,11 +25,15 @@ pub struct TypeRows {
 }
 
 impl Model for TypeRows {
+    ghost use Rattle.std.specs.Prelude.{◌≡◌};
+    ghost use Rattle.mail_maps.specs.Threads.{threads_of};
     ghost use Rattle.mail_state.specs.State.{ServedRows};
 
     ghost Value = { ServedRows };
 
     ghost view = { λ a. record { numbered = a.emails; mailboxes = a.mailboxes.entries; threads = a.threads.entries } };
+
+    ghost invariant = { λ a. a.threads.entries ≡ threads_of a.emails.rows };
 }
 
 impl TypeRows {
@@ -43,7 +48,8 @@ impl TypeRows {
         }
     }
 
-    /// The rows of other mail, with the touches that lead to them. A header is read where its message is new.
+    /// The rows of other mail, with the touches that lead to them. A header is read where its message is new, and Threads are
+    /// gathered where an Email comes or goes.
     pub fn follow(
         self,
         alloc: Global,
@@ -58,11 +64,16 @@ impl TypeRows {
             mailboxes: old_mailboxes,
             threads: old_threads,
         } = self;
+        old_emails.are_in_order();
         let (emails, email) = old_emails.follow(alloc, mirror)?;
         let mailboxes = mailboxes_of(alloc, mirror.folders(), emails.rows())?;
         let mailbox = steps_between(alloc, &old_mailboxes, &mailboxes)?;
-        let threads = threads_of(alloc, emails.rows())?;
-        let thread = steps_between(alloc, &old_threads, &threads)?;
+        let (threads, thread) = follow_threads(
+            alloc,
+            old_threads,
+            emails.rows(),
+            email.as_slice(),
+        )?;
         let rows = TypeRows {
             emails,
             mailboxes,

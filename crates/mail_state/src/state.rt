@@ -1,12 +1,14 @@
 // The state: the rows that are served, and the last touches of each type.
 ghost use Rattle.std.specs.Prelude.{◌≡◌, ◌≢◌, ℕ, IfOk, MatchOption, Some};
+ghost use Rattle.std.specs.List.Sorted.{IsStrictlySortedBy};
 ghost use Rattle.std.specs.Option.{option_copied};
+ghost use Rattle.std.specs.Ordering.{nat_cmp};
 ghost use Rattle.change_list.specs.Advance.{row_at};
 ghost use Rattle.mail_rows.specs.LookUps.{IsOfMark, NoneHasMark};
 ghost use Rattle.told_mail.specs.Mail.{IsNextMail};
 ghost use Rattle.mail_state.specs.History.{MailHistory};
 ghost use Rattle.mail_state.specs.State.{IsStateOf, first_state};
-ghost use Rattle.mail_state.specs.Following.{FollowsMail, RefusesSpent};
+ghost use Rattle.mail_state.specs.Following.{FollowsMail, RefusesSpent, StepsTo};
 ghost use Rattle.mail_state.specs.LookUps.{numbers_in, touches_kept};
 
 use crate::lists::TypeLists;
@@ -66,6 +68,7 @@ impl MailState {
     /// Goes on to the mail that a store told since. The headers of new messages alone are read. No list is touched where one
     /// has no room, and a refusal ends the value.
     pub fn apply(self, mirror: &Mirror) -> Result<(MailState, Advance), StateError>
+        ensures steps { IfOk result (λ r. StepsTo self mirror.now.mail r.0) }
         ensures follows { IfOk result (λ r. (h : MailHistory) → IsStateOf h self → IsNextMail h.mail mirror.now.mail → FollowsMail h mirror.now.mail r.0 r.1) }
         ensures spent { RefusesSpent self mirror.now.mail result }
     {
@@ -128,8 +131,12 @@ impl MailState {
 
     /// The numbers of a type, ascending.
     pub fn numbers(&self, kind: MailType) -> Result<Vec<u64>, AllocError>
-        ensures { IfOk result (λ v. v.items ≡ numbers_in self.now kind) }
+        ensures numbers { IfOk result (λ v. v.items ≡ numbers_in self.now kind) }
+        ensures ascending { IfOk result (λ v. IsStrictlySortedBy nat_cmp v.items) }
     {
+        self.rows.emails.are_in_order();
+        let _mailboxes = self.rows.mailboxes.len();
+        let _threads = self.rows.threads.len();
         match kind {
             MailType::Mailbox => self.rows.mailboxes.keys().copied().collect(self.alloc),
             MailType::Email => self.rows.emails.rows().keys().copied().collect(self.alloc),

@@ -14,7 +14,7 @@ use Rattle.gate_serving.specs.declared.door.Door.{Door}
 use Rattle.gate_serving.specs.declared.response.Response.{Response}
 use Rattle.gate_serving.specs.declared.served.Served.{Served}
 use Rattle.gate_serving.specs.declared.served.Served.TheVariants as served
-use Rattle.gate_serving.specs.Answers.{KeepsUpload, MayKeepUpload, response_of}
+use Rattle.gate_serving.specs.Answers.{KeepsUpload, MayKeepUpload, TakesMemory, response_of}
 use Rattle.gate_serving.specs.Calls.{Mailing}
 use Rattle.gate_serving.specs.GateState.{GateState}
 use Rattle.gate_serving.specs.Requests.{Account, Asking, ReadsAsking, asks_for_mail}
@@ -38,11 +38,11 @@ pub record WorksTo (user password : List ℕ) (asks : Bool) (before machine : Ma
   pub bears : Bears done.blamed was now
   pub worked : IsWorked result mail done
 
--- the response, where there was memory for it
+-- the response; or there was no memory for one that takes memory
 abbrev pub IsMade : Door → Account → Mailing → Asking → GateState → GateState → Progress → Result Response AllocError → Type 0
 IsMade door account mail asking before after done (Ok response) = (text_sent response ≡ response_of door account mail after.uploads asking)
     × (done.standing ≢ OutOfMemory) × KeepsUpload asking before.uploads after.uploads
-IsMade door account mail asking before after done (Err _) = Unit {0}
+IsMade door account mail asking before after done (Err _) = TakesMemory asking
 
 pub record AnswersTo (door : Door) (account : Account) (asking : Asking) (before after : GateState) (was now : Faults) (result : Result Response AllocError)
     (events : List Event) : Type 0 where

@@ -10,7 +10,7 @@ use Rattle.mail_maps.specs.declared.envelope.Envelope.{Envelope}
 use Rattle.mail_maps.specs.Envelope.{IsEnvelopeOf}
 use Rattle.mail_maps.specs.Keywords.{keywords_of}
 use Rattle.mail_maps.specs.Visible.{Placed}
-use Rattle.mail_rows.specs.NumberedRows.{NumberedRows}
+use Rattle.mail_rows.specs.NumberedRows.{NumberedRows, AreBelow}
 use Rattle.mail_rows.specs.Joining.{members_of}
 use Rattle.mail_rows.specs.Taking.{AreEnvelopes, with_row, with_rows}
 use Rattle.mail_rows.specs.declared.remaining.Gone.{Gone}
@@ -22,11 +22,6 @@ number_after was (e ∷ es) mark = number_after (if e.1.mark == mark then Some e
 
 abbrev pub number_of : Rows → ℕ → Option ℕ
 number_of rows mark = number_after None rows mark
-
--- each number is below the next one
-abbrev pub AreBelow : ℕ → Rows → Type 0
-AreBelow next [] = Unit {0}
-AreBelow next (e ∷ es) = (e.0 < next) × AreBelow next es
 
 pub record AreIndexes (rows : Rows) (next : ℕ) (marks : BTreeMap ℕ ℕ) (book : Members) : Type 0 where
   pub below : AreBelow next rows

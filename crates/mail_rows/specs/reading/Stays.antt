@@ -1,6 +1,7 @@
--- One pass over the rows: which remain, which go, and which of those that remain are changed.
+-- One pass over the rows: which go, and which of those that remain are changed; and the rows after it.
 use Rattle.std.specs.Prelude.{ℕ, ◌==◌, List, [], ◌∷◌, ◌++◌, Bool, false, not, ◌||◌, ◌&&◌, if◌then◌else◌, map, filter, is_some, Option, Some, None}
-use Rattle.std.specs.BTreeMap.{BTreeMap, insert_entry, get}
+use Rattle.std.specs.BTreeMap.{BTreeMap, get}
+use Rattle.std.specs.Option.{option_map}
 use Rattle.std.specs.Ordering.{nat_cmp}
 use Rattle.change_list.specs.declared.entries.Entry.{Entry}
 use Rattle.change_list.specs.declared.entries.Kind.TheVariants.{Added, Changed, Removed}
@@ -12,9 +13,9 @@ use Rattle.mail_maps.specs.Rows.{Rows}
 use Rattle.mail_maps.specs.Keywords.{keywords_of}
 use Rattle.mail_maps.specs.Serve.{same_names}
 use Rattle.mail_maps.specs.Visible.{Placed, shown, placed_in, is_served}
-use Rattle.mail_rows.specs.Remaining.{updated}
 use Rattle.mail_rows.specs.declared.remaining.Gone.{Gone}
-use Rattle.mail_rows.specs.declared.remaining.Stays.{Stays}
+use Rattle.mail_rows.specs.declared.remaining.Found.{Found}
+use Rattle.mail_rows.specs.declared.remaining.Update.{Update}
 
 -- ---- messages at their places
 
@@ -38,6 +39,14 @@ is_changed_to row folder keywords = not (row.folder == folder) || not (same_name
 abbrev pub is_moved : EmailRow → Placed → Bool
 is_moved row p = is_changed_to row p.folder (keywords_of p.message.flags)
 
+-- whether the row itself does, its UID with it
+abbrev pub is_other : EmailRow → Placed → Bool
+is_other row p = is_moved row p || not (row.uid == p.message.uid)
+
+-- what the row takes from the message
+abbrev pub update_of : ℕ → Placed → Update
+update_of number p = record { number = number; folder = p.folder; uid = p.message.uid; keywords = keywords_of p.message.flags }
+
 abbrev pub touch_of_change : ℕ → Entry
 touch_of_change number = record { id = number; kind = Changed; counts_only = false }
 
@@ -47,17 +56,17 @@ touch_of_addition number = record { id = number; kind = Added; counts_only = fal
 abbrev pub touch_of_removal : Gone → Entry
 touch_of_removal g = record { id = g.number; kind = Removed; counts_only = false }
 
--- what the pass has gathered
+-- what the pass has found
 pub record PassSoFar : Type 0 where
-  pub rows : Rows
   pub gone : List Gone
   pub changed : List Entry
+  pub updates : List Update
 
 abbrev pub none_passed : PassSoFar
-none_passed = record { rows = []; gone = []; changed = [] }
+none_passed = record { gone = []; changed = []; updates = [] }
 
-abbrev pub pass_of : Stays → PassSoFar
-pass_of s = record { rows = s.rows.entries; gone = s.gone.items; changed = s.changed.items }
+abbrev pub pass_of : Found → PassSoFar
+pass_of f = record { gone = f.gone.items; changed = f.changed.items; updates = f.updates.items }
 
 abbrev pub gone_of : ℕ × EmailRow → Gone
 gone_of e = record { number = e.0; mark = e.1.mark }
@@ -65,11 +74,14 @@ gone_of e = record { number = e.0; mark = e.1.mark }
 abbrev pub change_where : Bool → ℕ → List Entry
 change_where moved number = if moved then touch_of_change number ∷ [] else []
 
+abbrev pub update_where : Bool → ℕ → Placed → List Update
+update_where other number p = if other then update_of number p ∷ [] else []
+
 abbrev pub gather_where : Option Placed → PassSoFar → ℕ × EmailRow → PassSoFar
 gather_where None g e = record g { gone = g.gone ++ gone_of e ∷ [] }
 gather_where (Some p) g e = record g {
-  rows = insert_entry nat_cmp g.rows e.0 (updated e.1 p);
   changed = g.changed ++ change_where (is_moved e.1 p) e.0;
+  updates = g.updates ++ update_where (is_other e.1 p) e.0 p;
 }
 
 abbrev pub gather_one : List Held → PassSoFar → ℕ × EmailRow → PassSoFar
@@ -95,6 +107,30 @@ changes_where (Some p) e = change_where (is_moved e.1 p) e.0
 abbrev pub changes_in : List Held → Rows → List Entry
 changes_in hs [] = []
 changes_in hs (e ∷ es) = changes_where (shown hs e.1.mark) e ++ changes_in hs es
+
+abbrev pub updates_where : Option Placed → ℕ × EmailRow → List Update
+updates_where None e = []
+updates_where (Some p) e = update_where (is_other e.1 p) e.0 p
+
+abbrev pub updates_in : List Held → Rows → List Update
+updates_in hs [] = []
+updates_in hs (e ∷ es) = updates_where (shown hs e.1.mark) e ++ updates_in hs es
+
+-- ---- the row of a number, as rows go and are updated
+
+abbrev pub row_left : List Gone → ℕ → Option EmailRow → Option EmailRow
+row_left [] q o = o
+row_left (g ∷ gs) q o = row_left gs q (if g.number == q then None else o)
+
+abbrev pub row_with : Update → EmailRow → EmailRow
+row_with u row = record row { folder = u.folder; uid = u.uid; keywords = u.keywords }
+
+abbrev pub row_if : Update → ℕ → Option EmailRow → Option EmailRow
+row_if u q o = if u.number == q then option_map (row_with u) o else o
+
+abbrev pub row_updated : List Update → ℕ → Option EmailRow → Option EmailRow
+row_updated [] q o = o
+row_updated (u ∷ us) q o = row_updated us q (row_if u q o)
 
 -- ---- messages without a row, by the index of marks
 

@@ -1,24 +1,13 @@
-use Rattle.std.proofs.Common.{◌∙◌, ap}
-use Rattle.mail_rows.specs.reading.Stays.{PassSoFar, pass_of}
-use Rattle.mail_rows.proofs.PassLemmas.{pass_more, pass_ended, all_gone, all_changed, all_rows}
+use Rattle.std.proofs.Common.{◌∙◌, ap, List, nat_cmp}
+use Rattle.std.specs.BTreeMap.{get}
+use Rattle.mail_rows.specs.declared.remaining.Gone.{Gone}
+use Rattle.mail_rows.specs.reading.Stays.{row_left, row_updated}
+use Rattle.mail_rows.proofs.UpdateLemmas.{rows_remain}
 use Rattle.mail_rows.proofs.remaining.stays_of.Goals as goal
-
-pub loop-number-preserved : goal.loop-number-preserved
-loop-number-preserved c =
-    pass_more c.args.mirror.now.mail.folders (pass_of c.loop-number.stays) _
-    (c.in-Some.number, c.in-Some.row) _ _ _ c.in-Some.ensures.steps c.in_ok-gather.ensures c.loop-number.invariant
 
 pub returns-clause-rows : goal.returns-clause-rows
 returns-clause-rows c =
-    ap (λ (g : PassSoFar). g.rows) (pass_ended c.args.mirror.now.mail.folders (pass_of c.loop-number.stays) _ _ c.in-None.ensures.steps.0 c.loop-number.invariant)
-    ∙ all_rows c.args.mirror.now.mail.folders c.args.rows.entries c.len-count.ensures.ordered
-
-pub returns-clause-gone : goal.returns-clause-gone
-returns-clause-gone c =
-    ap (λ (g : PassSoFar). g.gone) (pass_ended c.args.mirror.now.mail.folders (pass_of c.loop-number.stays) _ _ c.in-None.ensures.steps.0 c.loop-number.invariant)
-    ∙ all_gone c.args.mirror.now.mail.folders c.args.rows.entries
-
-pub returns-clause-changed : goal.returns-clause-changed
-returns-clause-changed c =
-    ap (λ (g : PassSoFar). g.changed) (pass_ended c.args.mirror.now.mail.folders (pass_of c.loop-number.stays) _ _ c.in-None.ensures.steps.0 c.loop-number.invariant)
-    ∙ all_changed c.args.mirror.now.mail.folders c.args.rows.entries
+    rows_remain c.args.mirror.now.mail.folders c.args.rows.entries _ c.in_ok-gone.field-0.gone.items c.in_ok-gone.field-0.updates.items
+    c.len-before.ensures.ordered c.len-after.ensures.ordered c.in_ok-gone.ensures.gone c.in_ok-gone.ensures.updates
+    (λ q. c.update_rows.ensures q ∙ ap (row_updated c.in_ok-gone.field-0.updates.items q)
+    (c.forget_rows.ensures q ∙ ap (λ (gs : List Gone). row_left gs q (get nat_cmp c.args.rows q)) c.as_slice.ensures.value))

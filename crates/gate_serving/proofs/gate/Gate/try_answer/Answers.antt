@@ -2,7 +2,7 @@ use Rattle.std.proofs.Common.{refl, sym}
 use Rattle.std.proofs.lemmas.Result.{err_from_is_err_and}
 use Rattle.gate_world.proofs.Joins.{widen}
 use Rattle.gate_serving.specs.reading.Askings.{asking_data}
-use Rattle.gate_serving.proofs.Answering.{answers_worked, answers_lacking}
+use Rattle.gate_serving.proofs.Answering.{answers_worked, answers_lacking, takes_for_mail}
 use Rattle.gate_serving.proofs.gate.Gate.try_answer.Goals as goal
 
 pub returns-clause-run : goal.returns-clause-run
@@ -10,18 +10,20 @@ returns-clause-run g c =
     let rest = c.keep.ensures.rest in
     widen _ c.in_ok-mail.ensures.run (λ es w.
     answers_worked c.keep.new.self c.args.self.now (g.W.Taped.hidden c.args.world.now) c.needs_mail-asks.result (asking_data c.args.asking.now) c.in_ok-mail.mail c.response.result
-    (sym c.needs_mail-asks.ensures) w c.keep.ensures.machine c.in_ok-keep.ensures.kept (record { door = rest.door; user = rest.user; base = rest.base }) c.response.ensures)
+    (sym c.needs_mail-asks.ensures) w c.keep.ensures.machine c.in_ok-keep.ensures.kept (record { door = rest.door; user = rest.user; base = rest.base })
+    c.response.ensures.made c.response.ensures.takes)
 
 pub returns-in_err-keep-clause-run : goal.returns-in_err-keep-clause-run
 returns-in_err-keep-clause-run g c =
     let ends = err_from_is_err_and c.from_residual-in_err-keep.result c.from_residual-in_err-keep.ensures.1 in
     rw (ends.1) (widen _ c.in_ok-mail.ensures.run (λ es w.
     answers_lacking c.keep.new.self c.args.self.now (g.W.Taped.hidden c.args.world.now) c.needs_mail-asks.result (asking_data c.args.asking.now) ends.0 _
-    (sym c.needs_mail-asks.ensures) w c.keep.ensures.machine c.in_err-keep.ensures.refused))
+    (sym c.needs_mail-asks.ensures) w c.keep.ensures.machine c.in_err-keep.ensures.refused c.in_err-keep.ensures.takes))
 
 pub returns-in_err-mail-clause-run : goal.returns-in_err-mail-clause-run
 returns-in_err-mail-clause-run g c =
     let ends = err_from_is_err_and c.from_residual.result c.from_residual.ensures.1 in
     rw (ends.1) (widen _ c.in_err-mail.ensures.run (λ es w.
     answers_lacking (record c.args.self.now { machine = c.work.new.machine }) c.args.self.now (g.W.Taped.hidden c.args.world.now) c.needs_mail-asks.result
-    (asking_data c.args.asking.now) ends.0 _ (sym c.needs_mail-asks.ensures) w refl refl))
+    (asking_data c.args.asking.now) ends.0 _ (sym c.needs_mail-asks.ensures) w refl refl
+    (takes_for_mail (asking_data c.args.asking.now) c.needs_mail-asks.result (sym c.needs_mail-asks.ensures) c.in_err-mail.ensures.asked)))

@@ -1,8 +1,7 @@
 use Rattle.std.proofs.Common.{subst, nat_cmp}
 use Rattle.std.specs.List.Sorted.{IsStrictlySortedBy}
 use Rattle.std.specs.Map.{keys_of}
-use Rattle.mail_rows.specs.NumberedRows.{NumberedRows}
-use Rattle.mail_rows.specs.reading.Indexes.{AreBelow}
+use Rattle.mail_rows.specs.NumberedRows.{NumberedRows, AreBelow}
 use Rattle.mail_rows.proofs.emails.Emails.are_in_order.Goals as goal
 
 pub returns-clause-sorted : goal.returns-clause-sorted

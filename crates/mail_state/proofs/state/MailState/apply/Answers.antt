@@ -4,8 +4,8 @@ use Rattle.mail_state.specs.declared.touches.Advance.{Advance}
 use Rattle.mail_state.specs.History.{MailHistory}
 use Rattle.told_mail.specs.Mail.{IsNextMail}
 use Rattle.mail_state.specs.State.{ServedState, IsStateOf}
-use Rattle.mail_state.specs.Following.{FollowsMail}
-use Rattle.mail_state.proofs.FollowLemmas.{state_with, follows, HasRoom, has_room, HasNoRoom, has_no_room}
+use Rattle.mail_state.specs.Following.{StepsTo, FollowsMail}
+use Rattle.mail_state.proofs.FollowLemmas.{state_with, follows, steps_to, HasRoom, has_room, HasNoRoom, has_no_room}
 use Rattle.mail_state.proofs.state.MailState.apply.Goals as goal
 
 pub returns-in_err-lists-clause-spent : goal.returns-in_err-lists-clause-spent
@@ -15,6 +15,12 @@ returns-in_err-lists-clause-spent c =
     let is = err_from_is_err_and c.from_residual-in_err-lists.result c.from_residual-in_err-lists.ensures.1 in
     rw (is.1, is.2) (inr (subst S c.self.view_is
     (has_no_room c.in_err-lists.field-0.0 s c.args.mirror.now.mail c.in_ok-rows.rows c.in_ok-rows.touches c.in_ok-rows.ensures c.in_err-lists.ensures.spent)))
+
+pub returns-clause-steps : goal.returns-clause-steps
+returns-clause-steps c =
+    let s : ServedState = record { epoch = c.self.inside.epoch; rows = c.self.inside.rows; lists = c.self.inside.lists } in
+    let S : ServedState → Type 0 = λ x. StepsTo x c.args.mirror.now.mail (state_with s c.in_ok-rows.rows c.in_ok-lists.lists) in
+    subst S c.self.view_is (steps_to s c.args.mirror.now.mail c.in_ok-rows.rows c.in_ok-rows.touches c.in_ok-lists.lists c.in_ok-rows.ensures c.in_ok-lists.ensures.noted)
 
 pub returns-clause-follows : goal.returns-clause-follows
 returns-clause-follows c h stands next =

@@ -1,6 +1,0 @@
-use Rattle.std.proofs.Common.{◌≡◌}
-use Rattle.mail_rows.specs.reading.Stays.{pass_of, gather_all, none_passed}
-use Rattle.mail_rows.proofs.remaining.stays_of.Given as goal
-
-abbrev pub invariant-loop-number : goal.invariant-loop-number
-invariant-loop-number l = gather_all l.mirror.mail.folders (pass_of l.stays) l.number-iterator ≡ gather_all l.mirror.mail.folders none_passed l.fn.rows.entries
