@@ -9,14 +9,14 @@ use Rattle.told_folder.specs.Keyed.{Ascends, AllAbove}
 use Rattle.told_folder.specs.Folders.{folder_number, folder_in, held_in}
 use Rattle.told_folder.specs.declared.message.Folder.{Folder}
 use Rattle.told_folder.specs.declared.message.Held.{Held}
-use Rattle.told_mail.specs.Mail.{Mail, IsMail, AllBelow}
+use Rattle.told_mail.specs.Mail.{Mail, IsMail, IsNextMail, AllBelow}
 use Rattle.mail_maps.specs.declared.row.MailboxRow.{MailboxRow}
 use Rattle.mail_maps.specs.Rows.{Rows}
 use Rattle.mail_maps.specs.Mailboxes.{folders_of, mailbox_row}
 use Rattle.mail_maps.specs.Serve.{ServedMailbox, mailbox_of}
 use Rattle.mail_rows.specs.NumberedRows.{NumberedRows}
 use Rattle.mail_rows.proofs.RowLemmas.{above_is_not}
-use Rattle.mail_state.specs.History.{MailHistory, IsNextMail, served_mailboxes}
+use Rattle.mail_state.specs.History.{MailHistory, served_mailboxes}
 use Rattle.mail_state.specs.Sound.{IsSound}
 use Rattle.mail_state.proofs.EmailLemmas.{never_there}
 use Rattle.mail_state.proofs.ThreadLemmas.{some_is}

@@ -5,7 +5,7 @@ use Rattle.std.specs.Option.{option_map}
 use Rattle.change_list.specs.Kept.{Kept, IsOf}
 use Rattle.change_list.specs.Advance.{Tests, advance_entries}
 use Rattle.change_list.specs.declared.entries.Entry.{Entry}
-use Rattle.told_mail.specs.Mail.{Mail}
+use Rattle.told_mail.specs.Mail.{Mail, IsNextMail}
 use Rattle.served_maps.specs.Past.{Past, StandsFor, gone_on, served, tests_of, place_now}
 use Rattle.served_maps.proofs.StandsOn.{stands_on, entries_served, rises}
 use Rattle.mail_maps.specs.declared.row.MailboxRow.{MailboxRow}
@@ -19,7 +19,7 @@ use Rattle.mail_rows.proofs.Exact.{exact_mailbox, exact_email, exact_thread}
 use Rattle.mail_state.specs.declared.touches.Advance.{Advance}
 use Rattle.mail_state.specs.declared.error.StateError.{StateError}
 use Rattle.mail_state.specs.declared.error.StateError.TheVariants.{Spent}
-use Rattle.mail_state.specs.History.{MailHistory, IsNextMail, Advances, advanced}
+use Rattle.mail_state.specs.History.{MailHistory, Advances, advanced}
 use Rattle.mail_state.specs.Sound.{IsSound}
 use Rattle.mail_state.specs.State.{ServedRows, ChangeLists, ServedState, IsStateOf, rows_of}
 use Rattle.mail_state.specs.Following.{Touches, touches_between, spent_place, spent_to, AllNoted, StepsTo, Moves, FollowsMail}

@@ -4,7 +4,7 @@ use Rattle.std.proofs.Common.{arith, nat_cmp, Option, Some, None}
 use Rattle.std.specs.BTreeMap.{is_at}
 use Rattle.std.specs.Option.{option_or}
 use Rattle.change_list.specs.Advance.{row_at}
-use Rattle.told_mail.specs.Mail.{Mail}
+use Rattle.told_mail.specs.Mail.{Mail, IsNextMail}
 use Rattle.mail_maps.specs.declared.row.EmailRow.{EmailRow}
 use Rattle.mail_maps.specs.declared.envelope.Envelope.{Envelope}
 use Rattle.mail_maps.specs.Rows.{Rows}
@@ -15,7 +15,7 @@ use Rattle.mail_rows.specs.Taking.{left, arrivals, with_row, new_row}
 use Rattle.mail_rows.proofs.RowLemmas.{none_before, none_over, row_at-append, found_is}
 use Rattle.mail_rows.proofs.IndexLemmas.{under_remaining}
 use Rattle.mail_rows.proofs.TakingLemmas.{added, rows_added, from_added}
-use Rattle.mail_state.specs.History.{MailHistory, IsNextMail, Advances}
+use Rattle.mail_state.specs.History.{MailHistory, Advances}
 use Rattle.mail_state.specs.Sound.{IsSound}
 use Rattle.mail_state.specs.Laws.{ComesBefore}
 use Rattle.mail_state.proofs.EmailLemmas.{in_order}

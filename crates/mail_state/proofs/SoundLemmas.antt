@@ -13,10 +13,8 @@ use Rattle.change_list.proofs.CopyLaws as copies
 use Rattle.served_maps.specs.Past.{Past, IsPast, AreFresh, no_past, gone_on, had_at, has_now, place_now}
 use Rattle.served_maps.proofs.StandsOn.{past_on, row_at-served}
 use Rattle.served_maps.proofs.Between.{ever_below}
-use Rattle.told_folder.specs.Folders.{folder_in}
-use Rattle.told_folder.specs.declared.message.Folder.{Folder}
 use Rattle.told_folder.specs.declared.message.Held.{Held}
-use Rattle.told_mail.specs.Mail.{Mail, IsMail}
+use Rattle.told_mail.specs.Mail.{Mail, no_mail, IsMail, IsNextMail}
 use Rattle.mail_maps.specs.Serve.{Immutable, Email, ServedMailbox, email_of, same_counts, same_but_counts, mailbox_tests, email_tests, thread_tests}
 use Rattle.mail_rows.specs.NumberedRows.{NumberedRows}
 use Rattle.mail_rows.specs.Taking.{TakesMail}
@@ -29,10 +27,8 @@ use Rattle.mail_state.specs.History.{
   IsReached,
   Begins,
   Goes,
-  IsNextMail,
   Advances,
   advanced,
-  first_mail,
   first_history,
   served_mailboxes,
   served_emails,
@@ -59,7 +55,7 @@ nothing_sorted : IsStrictlySortedBy {K = ℕ} nat_cmp []
 unfolding IsStrictlySortedBy
 nothing_sorted = tt
 
-no_mail_is : IsMail first_mail
+no_mail_is : IsMail no_mail
 no_mail_is = record {
   numbers = tt;
   uids = tt;
@@ -215,18 +211,4 @@ first_stands epoch = record {
   mailboxes = record { now = refl; kept = none_kept; past = no_past_is };
   emails = record { now = refl; kept = none_kept; past = no_past_is };
   threads = record { now = refl; kept = none_kept; past = no_past_is };
-}
-
--- ---- mail after mail
-
--- what comes after mail that a history can go on to is mail that it can go on to
-pub next_mail_joins : (a b c : Mail) → IsNextMail a b → IsNextMail b c → IsNextMail a c
-next_mail_joins a b c f g = record {
-  is_mail = g.is_mail;
-  counter = (let k = f.counter in let l = g.counter in omega (arith, k, l));
-  new_folders = λ n x there gone.
-      elim (folder_in b.folders n) as (λ (o : Option Folder). folder_in b.folders n ≡ o → a.next_folder ≤ n) [
-        | None ↦ λ e. let k = g.new_folders n x there e in let l = f.counter in omega (arith, k, l)
-        | Some y ↦ λ e. f.new_folders n y e gone
-      ] refl;
 }

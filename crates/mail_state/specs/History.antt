@@ -1,8 +1,6 @@
 -- What has become of the mail since the beginning: a map of each type at each place, and the touches that led from one to the next.
-use Rattle.std.specs.Prelude.{◌≡◌, ℕ, ◌≤◌, List, [], Some, None}
-use Rattle.told_folder.specs.Folders.{folder_in}
-use Rattle.told_folder.specs.declared.message.Folder.{Folder}
-use Rattle.told_mail.specs.Mail.{Mail, IsMail}
+use Rattle.std.specs.Prelude.{◌≡◌, ℕ, List}
+use Rattle.told_mail.specs.Mail.{Mail, no_mail, IsNextMail}
 use Rattle.served_maps.specs.Past.{Past, no_past, gone_on, served}
 use Rattle.mail_maps.specs.Rows.{Rows}
 use Rattle.mail_maps.specs.Threads.{threads_of}
@@ -19,19 +17,10 @@ pub record MailHistory : Type 0 where
   pub emails : Past Email
   pub threads : Past (List ℕ)
 
-abbrev pub first_mail : Mail
-first_mail = record { folders = []; next_mark = 1; next_folder = 1 }
-
 abbrev pub first_history : ℕ → MailHistory
-first_history epoch = record { epoch = epoch; mail = first_mail; numbered = none_numbered; mailboxes = no_past; emails = no_past; threads = no_past }
+first_history epoch = record { epoch = epoch; mail = no_mail; numbered = none_numbered; mailboxes = no_past; emails = no_past; threads = no_past }
 
 -- ---- going on
-
--- mail that a history can go on to: the folder counter didn't fall, and a folder number that is new was never given before
-pub record IsNextMail (before m : Mail) : Type 0 where
-  pub is_mail : IsMail m
-  pub counter : before.next_folder ≤ m.next_folder
-  pub new_folders : (n : ℕ) (f : Folder) → folder_in m.folders n ≡ Some f → folder_in before.folders n ≡ None → before.next_folder ≤ n
 
 abbrev pub served_mailboxes : Mail → Rows → List (ℕ × ServedMailbox)
 served_mailboxes m rows = served mailbox_of (mailboxes_of m.folders rows)

@@ -7,7 +7,7 @@ use Rattle.change_list.specs.History.{entries_of}
 use Rattle.change_list.specs.declared.answer.Changes.{Changes}
 use Rattle.served_maps.specs.Past.{Past, had_at, has_now, place_now}
 use Rattle.mail_maps.specs.declared.row.EmailRow.{EmailRow}
-use Rattle.mail_state.specs.History.{MailHistory, IsReached, IsNextMail, Advances}
+use Rattle.mail_state.specs.History.{MailHistory, IsReached, Advances}
 use Rattle.mail_state.specs.Sound.{IsSound}
 
 -- a number that comes in was never there before

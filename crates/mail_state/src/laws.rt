@@ -1,11 +1,11 @@
 //! The laws of histories and states, as clauses of functions that do nothing.
 ghost use Rattle.std.specs.Prelude.{◌≡◌, ◌↔◌, ℕ, ◌≤◌, ◌<◌, IsTrue, Some};
 ghost use Rattle.change_list.specs.Advance.{IsExact, row_at};
-ghost use Rattle.told_mail.specs.Mail.{Mail};
+ghost use Rattle.told_mail.specs.Mail.{Mail, IsNextMail};
 ghost use Rattle.served_maps.specs.Past.{had_at};
 ghost use Rattle.mail_maps.specs.declared.row.EmailRow.{EmailRow};
 ghost use Rattle.mail_maps.specs.Serve.{Email, ServedMailbox, mailbox_tests, email_tests, thread_tests};
-ghost use Rattle.mail_state.specs.History.{MailHistory, IsReached, IsNextMail, Advances, first_history};
+ghost use Rattle.mail_state.specs.History.{MailHistory, IsReached, Advances, first_history};
 ghost use Rattle.mail_state.specs.Sound.{IsSound};
 ghost use Rattle.mail_state.specs.State.{IsStateOf, first_state};
 ghost use Rattle.mail_state.specs.Laws.{UsesOnce, KeepsCopies, HasCopyLaws, ComesBefore};
@@ -18,11 +18,6 @@ pub fn all_are_sound()
 /// A state without mail stands for the first history.
 pub fn first_stands()
     ensures { (epoch : ℕ) → IsStateOf (first_history epoch) (first_state epoch) }
-{}
-
-/// What comes after mail that a history can go on to is mail that it can go on to.
-pub fn next_mail_joins()
-    ensures { (a b c : Mail) → IsNextMail a b → IsNextMail b c → IsNextMail a c }
 {}
 
 /// A history goes on to some mail in one way.

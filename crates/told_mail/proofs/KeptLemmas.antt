@@ -1,16 +1,19 @@
--- What holds of names in kept form.
+-- What holds of names in kept form, and of names in order.
 use Rattle.std.proofs.Common.{◌≡◌, ℕ, ◌+◌, true, false, List, [], ◌∷◌, ◌++◌, map, refl, sym, ap, ◌∙◌, arith, nat_cmp, if◌then◌else◌, bytes_eq, codes}
 use Rattle.std.proofs.lemmas.Cmp.{nat_list_cmp_total}
 use Rattle.std.proofs.lemmas.List.{append_assoc, append-nil}
+use Rattle.std.proofs.lemmas.Map.Text.{is_eq-slice_cmp}
 use Rattle.std.specs.BTreeSet.{insert_key}
 use Rattle.std.specs.Cmp.Lexicographic.{slice_cmp}
-use Rattle.std.specs.Ordering.{match_ordering, ordering_reverse}
+use Rattle.std.specs.Ordering.{match_ordering, ordering_reverse, is_eq}
 use Rattle.std.specs.declared.cmp.Ordering.TheVariants.{Less, Equal, Greater}
 use Rattle.imap_syntax.specs.Items.{add_name, kept_from, kept}
 use Rattle.imap_syntax.specs.Octets.{lower}
+use Rattle.told_mail.specs.Lists.{in_order}
+use Rattle.told_mail.specs.reading.Names.{AllOther, AreApart}
 
 -- the name is below each of these
-abbrev IsUnder : List ℕ → List (List ℕ) → Type 0
+abbrev pub IsUnder : List ℕ → List (List ℕ) → Type 0
 IsUnder n [] = Unit {0}
 IsUnder n (x ∷ xs) = (slice_cmp nat_cmp n x ≡ Less) × IsUnder n xs
 
@@ -43,6 +46,34 @@ order_insert k (x ∷ xs) low other o =
       | Equal ↦ λ e. o
       | Greater ↦ λ e. (o.0, o.1, under_insert x k xs (turned k x e) o.2, order_insert k xs low other o.3)
     ] refl
+
+-- each name is below those after it
+abbrev pub AreSorted : List (List ℕ) → Type 0
+AreSorted [] = Unit {0}
+AreSorted (x ∷ xs) = IsUnder x xs × AreSorted xs
+
+sorted_insert : (k : List ℕ) (xs : List (List ℕ)) → AreSorted xs → AreSorted (insert_key (slice_cmp nat_cmp) xs k)
+sorted_insert k [] s = (tt, tt)
+sorted_insert k (x ∷ xs) s =
+    elim (slice_cmp nat_cmp k x) as (λ r. slice_cmp nat_cmp k x ≡ r → AreSorted (match_ordering r (k ∷ x ∷ xs) (x ∷ xs) (x ∷ insert_key (slice_cmp nat_cmp) xs k))) [
+      | Less ↦ λ e. ((e, under_more k x xs e s.0), s)
+      | Equal ↦ λ e. s
+      | Greater ↦ λ e. (under_insert x k xs (turned k x e) s.0, sorted_insert k xs s.1)
+    ] refl
+
+-- names in order are sorted
+pub sorted_names : (ns : List (List ℕ)) → AreSorted (in_order ns)
+sorted_names [] = tt
+sorted_names (n ∷ ns) = sorted_insert n (in_order ns) (sorted_names ns)
+
+-- of names that are sorted, each is another
+pub sorted_apart : (ns : List (List ℕ)) → AreSorted ns → AreApart ns
+sorted_apart [] s = tt
+sorted_apart (n ∷ ns) s = (others ns s.0, sorted_apart ns s.1)
+  where
+    others : (xs : List (List ℕ)) → IsUnder n xs → AllOther n xs
+    others [] u = tt
+    others (x ∷ xs) u = (sym (is_eq-slice_cmp n x) ∙ ap is_eq u.0, others xs u.1)
 
 lower_once : (c : ℕ) → lower (lower c) ≡ lower c
 lower_once c = grind arith

@@ -90,7 +90,8 @@ named_name (x ∷ hs) q h e =
       | false ↦ λ t f. named_name hs q h f
     ] refl e
 
-found_above : (k n : ℕ) (hs : List Held) (h : Held) → AllAbove folder_number k hs → held_in hs n ≡ Some h → k < n
+-- a number below those of all folders is below that of each
+pub found_above : (k n : ℕ) (hs : List Held) (h : Held) → AllAbove folder_number k hs → held_in hs n ≡ Some h → k < n
 found_above k n [] h a e = absurd (cc)
 found_above k n (x ∷ hs) h a e =
     elim (same_or_not (folder_number x) n) [
@@ -249,7 +250,8 @@ free_more hs h (q ∷ qs) f o = (named_last hs f.0, free_more hs h qs f.1 o.1) w
         | false ↦ λ g. named_last zs g
       ] e
 
-free_added : (m : Mail) (o : Option lists.Line) (name : List ℕ) (qs : List (List ℕ)) → ((l : lists.Line) → o ≡ Some l → l.name ≡ name) → AllFree m.folders qs → AllOther name qs
+-- names that no folder has, of which each is another than a line's, are free when the line's folder is added
+pub free_added : (m : Mail) (o : Option lists.Line) (name : List ℕ) (qs : List (List ℕ)) → ((l : lists.Line) → o ≡ Some l → l.name ≡ name) → AllFree m.folders qs → AllOther name qs
     → AllFree (with_new_folder m o).folders qs
 free_added m None name qs named f o = f
 free_added m (Some l) name qs named f o =

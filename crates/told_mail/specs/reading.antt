@@ -2,4 +2,5 @@
 pub mod Index
 pub mod Lines
 pub mod Names
+pub mod Numbers
 pub mod Rises

@@ -6,6 +6,7 @@ ghost use Rattle.told_mail.specs.Mail.{named};
 ghost use Rattle.told_mail.specs.Told.{counted_up};
 ghost use Rattle.told_mail.specs.reading.Lines.{value_of, lined, lined_at, is_listed, AreLinesFrom, with_pushed};
 ghost use Rattle.told_mail.specs.reading.Names.{AllFree, AreApart};
+ghost use Rattle.told_mail.specs.reading.Numbers.{NumbersGoOn};
 ghost use Rattle.told_mail.specs.reading.Rises.{Rises};
 
 use super::Mirror;
@@ -31,6 +32,7 @@ impl Mirror {
         ensures ok { OnOk result ((h : Held) → h ≡ slice_index_or self.old.mail.folders at h → self.new.mail ≡ record self.old.mail { folders = slice_set self.old.mail.folders at (with_line (value_of line.entry) h) }) }
         ensures known { (h : Held) → h ≡ slice_index_or self.old.mail.folders at h → with_line (value_of line.entry) h ≡ h → OnOk result (self.new.changes ≡ self.old.changes) }
         ensures counts { Rises self.old self.new }
+        ensures numbers { NumbersGoOn self.old.mail self.new.mail }
     {
         let held = &mut self.folders[at];
         if set_line(self.alloc, &mut held.folder, line)? {
@@ -51,6 +53,7 @@ impl Mirror {
         ensures ok { OnOk result (self.new.mail ≡ lined_at responses.now at self.old.mail) }
         ensures known { lined_at responses.now at self.old.mail ≡ self.old.mail → OnOk result (self.new.changes ≡ self.old.changes) }
         ensures counts { Rises self.old self.new }
+        ensures numbers { NumbersGoOn self.old.mail self.new.mail }
     {
         match line_for(responses, lines, self.folders[at].folder.name.as_slice()) {
             Some(line) => self.set_line_at(at, line),
@@ -68,6 +71,7 @@ impl Mirror {
         ensures ok { OnOk result (self.new.mail ≡ record self.old.mail { folders = map (lined responses.now) self.old.mail.folders }) }
         ensures known { map (lined responses.now) self.old.mail.folders ≡ self.old.mail.folders → OnOk result (self.new.changes ≡ self.old.changes) }
         ensures counts { Rises self.old self.new }
+        ensures numbers { NumbersGoOn self.old.mail self.new.mail }
     {
         for at in 0..self.folders.len() {
             self.list_at(at, responses, lines)?;
@@ -104,6 +108,7 @@ impl Mirror {
         ensures ok { OnOk result (self.new.mail ≡ record self.old.mail { folders = listed responses.now self.old.mail.folders }) }
         ensures known { listed responses.now self.old.mail.folders ≡ self.old.mail.folders → OnOk result (self.new.changes ≡ self.old.changes) }
         ensures counts { Rises self.old self.new }
+        ensures numbers { NumbersGoOn self.old.mail self.new.mail }
     {
         self.list_told(responses, lines)?;
         self.cut_ended(lines);
@@ -146,6 +151,7 @@ impl Mirror {
         requires free { named self.old.mail.folders name.now ≡ None }
         ensures ok { OnOk result (self.new.mail ≡ with_new_folder self.old.mail (lists.line_for name.now responses.now)) }
         ensures counts { Rises self.old self.new }
+        ensures numbers { NumbersGoOn self.old.mail self.new.mail }
     {
         let Some(line) = line_for(responses, lines, name.as_slice()) else {
             return Ok(());
@@ -170,6 +176,7 @@ impl Mirror {
         ensures ok { OnOk result (self.new.mail ≡ with_new_folders responses.now self.old.mail names.now) }
         ensures known { names.now ≡ [] → OnOk result (self.new.changes ≡ self.old.changes) }
         ensures counts { Rises self.old self.new }
+        ensures numbers { NumbersGoOn self.old.mail self.new.mail }
     {
         for name in names {
             self.add_folder(name, responses, lines)?;
@@ -182,6 +189,7 @@ impl Mirror {
         ensures ok { OnOk result (self.new.mail ≡ lists.tell_list self.old.mail responses.now) }
         ensures known { ListsKnown self.old.mail.folders responses.now → OnOk result (self.new.changes ≡ self.old.changes) }
         ensures counts { Rises self.old self.new }
+        ensures numbers { NumbersGoOn self.old.mail self.new.mail }
     {
         let lines = lines_of(self.alloc, responses)?;
         let names = new_names(self.alloc, &self.numbers, &lines)?;

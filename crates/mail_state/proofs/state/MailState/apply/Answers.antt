@@ -1,7 +1,8 @@
 use Rattle.std.proofs.Common.{inr, sym, subst}
 use Rattle.std.proofs.lemmas.Result.{err_from_is_err_and}
 use Rattle.mail_state.specs.declared.touches.Advance.{Advance}
-use Rattle.mail_state.specs.History.{MailHistory, IsNextMail}
+use Rattle.mail_state.specs.History.{MailHistory}
+use Rattle.told_mail.specs.Mail.{IsNextMail}
 use Rattle.mail_state.specs.State.{ServedState, IsStateOf}
 use Rattle.mail_state.specs.Following.{StepsTo, FollowsMail}
 use Rattle.mail_state.proofs.FollowLemmas.{state_with, follows, steps_to, HasRoom, has_room, HasNoRoom, has_no_room}

@@ -4,6 +4,7 @@ use Rattle.told_mail.specs.Lists.{with_new_folders}
 use Rattle.told_mail.specs.Mail.{Mail}
 use Rattle.told_mail.proofs.ListLemmas.{rises_on}
 use Rattle.told_mail.proofs.NameLemmas.{free_rest}
+use Rattle.told_mail.proofs.NumberLemmas.{numbers_on}
 use Rattle.told_mail.proofs.mirror.Mirror.add_folders.Goals as goal
 
 pub loop-name-preserved : goal.loop-name-preserved
@@ -18,6 +19,7 @@ loop-name-preserved c =
           ∙ sym (ap (λ (qs : List (List ℕ)). with_new_folders rs c.loop-name.self.mail qs) here) ∙ c.loop-name.invariant.mail;
       known = λ e. let none : length names ≡ 0 = ap length e in absurd (omega (arith, none, within));
       counts = rises_on _ _ _ c.loop-name.invariant.counts c.in_ok-add_folder.ensures.counts;
+      numbers = numbers_on _ _ _ c.loop-name.invariant.numbers c.in_ok-add_folder.ensures.numbers;
       free = free_rest rs c.loop-name.self.mail c.add_folder.new.self.mail names i c.name-item.result within c.name-item.is c.requires.apart c.loop-name.invariant.free
           c.in_ok-add_folder.ensures.ok;
     }

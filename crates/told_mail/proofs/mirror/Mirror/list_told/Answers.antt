@@ -1,6 +1,7 @@
 use Rattle.std.proofs.Common.{◌<◌, ◌∙◌, length, arith}
 use Rattle.told_mail.specs.Mail.{Mail}
 use Rattle.told_mail.proofs.ListLemmas.{lined_more, lined_known, rises_on}
+use Rattle.told_mail.proofs.NumberLemmas.{numbers_on}
 use Rattle.told_mail.proofs.mirror.Mirror.list_told.Goals as goal
 
 pub loop-at-preserved : goal.loop-at-preserved
@@ -12,4 +13,5 @@ loop-at-preserved c =
       known = λ k. c.in_ok-list_at.ensures.known (lined_known c.args.responses.now m c.loop-at.self.mail c.loop-at.at within k c.loop-at.invariant.mail)
           ∙ c.loop-at.invariant.known k;
       counts = rises_on _ _ _ c.loop-at.invariant.counts c.in_ok-list_at.ensures.counts;
+      numbers = numbers_on _ _ _ c.loop-at.invariant.numbers c.in_ok-list_at.ensures.numbers;
     }

@@ -5,6 +5,7 @@ use Rattle.told_folder.proofs.FolderLemmas.{ascend_in, held_same}
 use Rattle.told_mail.proofs.ListLemmas.{on_ok_both}
 use Rattle.told_mail.proofs.ToldLemmas.{here_at_place, indexed_told, told_at, below_set, below_get, number_kept}
 use Rattle.told_mail.proofs.NameLemmas.{name_set, numbers_same}
+use Rattle.told_mail.proofs.NumberLemmas.{numbers_set}
 use Rattle.told_mail.proofs.mirror.Mirror.tell_at.Goals as goal
 
 pub new-messages-requires : goal.new-messages-requires
@@ -71,3 +72,13 @@ returns-clause-ok c =
     c.tell_exchange-done.new.work c.self.invariant.index.numbers within c.index_mut-held.ensures.value isk c.take_messages-taken.ensures.folder
     (c.new-messages.ensures ∙ c.take_messages-taken.ensures.taken) refl c.tell_exchange-done.ensures.keeps told next
     (held_same _ _ _ _ refl (c.from_vec.ensures ∙ c.into_vec-messages.ensures))) c.tell_exchange-done.ensures.told c.tell_exchange-done.ensures.next_mark)
+
+pub returns-clause-numbers : goal.returns-clause-numbers
+returns-clause-numbers c =
+    let hs : List Held = c.self.inside.folders.items in
+    let within : c.args.at < length hs = rw (← c.self.view_is) at c.requires in
+    rw (← c.self.view_is)
+    (numbers_set hs c.args.at c.index_mut-held.result.now _ c.self.inside.next_mark c.tell_exchange-done.new.work.next_mark c.self.inside.next_folder within
+    c.index_mut-held.ensures.value
+    (number_kept c.take_messages-taken.new.held.folder c.tell_exchange-done.new.folder _ _ _ c.tell_exchange-done.ensures.keeps.same
+    ∙ ap (λ (z : Folder). z.number) c.take_messages-taken.ensures.folder))

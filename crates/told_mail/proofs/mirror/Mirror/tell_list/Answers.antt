@@ -7,6 +7,7 @@ use Rattle.told_mail.specs.Told.{Told}
 use Rattle.told_mail.specs.reading.Names.{names_in, place_in, AllFree}
 use Rattle.told_mail.proofs.LineLemmas.{names_whole}
 use Rattle.told_mail.proofs.NameLemmas.{free_new, new_names_are}
+use Rattle.told_mail.proofs.NumberLemmas.{numbers_on}
 use Rattle.told_mail.proofs.mirror.Mirror.tell_list.Goals as goal
 
 pub add_folders-requires-clause-free : goal.add_folders-requires-clause-free
@@ -39,3 +40,6 @@ returns-clause-known c = λ k.
     c.self.invariant.names c.self.invariant.index.numbers (c.in_ok-lines.ensures.names ∙ names_whole rs) c.in_ok-names.ensures.names in
     let none = c.as_slice.ensures.value ∙ names ∙ ap (λ (t : Told). new_names t.mail.folders rs) c.self.view_is ∙ k.names in
     on_ok_map c.add_folders.result (λ f. f ∙ c.in_ok-list_folders.ensures.known k.folders) (c.add_folders.ensures.known none)
+
+pub returns-clause-numbers : goal.returns-clause-numbers
+returns-clause-numbers c = numbers_on _ _ _ c.in_ok-list_folders.ensures.numbers c.add_folders.ensures.numbers
