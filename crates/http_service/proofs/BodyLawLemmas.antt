@@ -5,15 +5,14 @@ use Rattle.std.proofs.lemmas.List.{append-nil}
 use Rattle.std.proofs.lemmas.List.Concat.{flat_map-append}
 use Rattle.std.proofs.lemmas.List.Elements.{All-head, All-tail}
 use Rattle.std.proofs.lemmas.List.Sums.{sum_by-append, sum_by-cons}
-use Rattle.gate_world.specs.Octets.{Asks, client_gave_in}
+use Rattle.gate_world.specs.Octets.{client_gave_in}
 use Rattle.gate_world.specs.declared.event.Event.{Event}
 use Rattle.gate_world.specs.declared.event.Event.TheVariants.{ClientEnded, FrontFailed}
 use Rattle.http_service.specs.declared.chunks.TheConstants.{MAX_EXCESS_OCTETS}
-use Rattle.http_service.specs.declared.lines.TheConstants.{MAX_HEAD_OCTETS}
 use Rattle.http_service.specs.declared.error.HttpError.{HttpError}
 use Rattle.http_service.specs.declared.error.HttpError.TheVariants as error
-use Rattle.http_service.specs.Taking.{Due, Nothing, Octets, IsMissing, EndsBy, Breaks, window}
-use Rattle.http_service.specs.Chunked.{Chunk, IsChunk, IsLine, IsTrailer, IsChunked, data_of, chunk_text, texts_of, content, excess, excess_of}
+use Rattle.http_service.specs.Taking.{Due, Octets, IsMissing, EndsBy, Breaks, window}
+use Rattle.http_service.specs.Chunked.{Chunk, IsChunk, IsLine, IsTrailer, IsChunked, data_of, texts_of, content, excess, excess_of}
 use Rattle.http_service.specs.ReadChunked.{LineStops, TrailerStops, OctetStops, DataStops, ChunkStops, InData, AtReturn, AtFeed, BodyStops, AtLine, AtExcess, AtLimit}
 use Rattle.http_service.specs.ReadChunked.{InChunk, AtTrailer, AtEnd, ChunksStop}
 use Rattle.http_service.proofs.LawLemmas.{one_line, same_front, in_window, body_text}

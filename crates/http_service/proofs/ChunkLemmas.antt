@@ -7,13 +7,13 @@ use Rattle.std.proofs.lemmas.List.Elements.{All-append, All-cons, All-nil}
 use Rattle.gate_world.specs.declared.event.Event.{Event}
 use Rattle.http_service.specs.declared.error.HttpError.{HttpError}
 use Rattle.http_service.specs.declared.error.HttpError.TheVariants as error
-use Rattle.http_service.specs.Taking.{Nothing, Octets, Takes, Breaks}
+use Rattle.http_service.specs.Taking.{Nothing, Takes, Breaks}
 use Rattle.http_service.specs.declared.chunks.TheConstants.{FREE_LINE_OCTETS, MAX_EXCESS_OCTETS}
 use Rattle.http_service.specs.Chunked.{Chunk, IsChunk, IsLine, data_of, chunk_text, texts_of, content, excess, excess_of}
 use Rattle.std.proofs.lemmas.List.Sums.{sum_by_push}
 use Rattle.http_service.specs.ReadChunked.{ChunkStops, AtReturn, AtFeed, AtLine, AtExcess, AtLimit, InChunk, AtTrailer, AtEnd, ChunksStop, ReadsChunks}
 use Rattle.http_service.specs.ReadBody.{ReadsLength}
-use Rattle.http_service.specs.reading.Steps.{FillsTo, NoLine, NoTrailer, NoOctet, NoData, ReadsLine, ReadsTrailer, ReadsOctet, ReadsData, ReadsChunk}
+use Rattle.http_service.specs.reading.Steps.{FillsTo, NoLine, NoTrailer, NoOctet, ReadsLine, ReadsTrailer, ReadsOctet, ReadsData, ReadsChunk}
 use Rattle.http_service.proofs.TakingLemmas.{then_takes, then_breaks, octets_taken}
 
 -- enough octets stand there: their front is taken
@@ -32,18 +32,6 @@ front_taken {before} {now} {es} size after (takes, enough, few) rest =
     left whole long (inl none) = inl none
     left whole long (inr few) = inr (empty after (omega (arith, few, ap length whole, length-append (take size now) after, long)))
 
--- not enough came
-pub fill_breaks : {before after : List ℕ} (es : List Event) (size : ℕ) (e : HttpError) → FillsTo size before after (Err e) es → Breaks (NoData size) before after e es
-fill_breaks es size e (earlier, takes, ends, stops) = (Octets size, [], earlier, takes, ends, (refl, stops))
-
--- enough came, and memory ran out
-pub fill_memory : {before after : List ℕ} (es : List Event) (size : ℕ) → FillsTo size before after (Ok tt) es → Breaks (NoData size) before after error.Memory es
-fill_memory es size (takes, enough, few) = (Octets size, [], es, takes, inl refl, (refl, refl))
-
--- the body of a length
-pub length_breaks : {before after : List ℕ} (es : List Event) (size : ℕ) (e : HttpError) → Breaks (NoData size) before after e es → ReadsLength size before after (Err e) es
-length_breaks es size e (due, text, earlier, takes, ends, (none, stops)) = (due, text, earlier, takes, ends, inl (none, stops))
-
 -- memory ran out after it was taken
 pub length_memory : {before now : List ℕ} (es : List Event) (size : ℕ) (after : List ℕ) → FillsTo size before now (Ok tt) es → after ≡ drop size now
     → ReadsLength size before after (Err error.Memory) es
@@ -57,21 +45,6 @@ pub length_read : {before now : List ℕ} (es : List Event) (size : ℕ) (after 
 length_read {before} {now} es size after body fills rest is =
     let front = front_taken size after fills rest in
     (subst (λ (l : List ℕ). Takes Nothing l before after es) (sym is) front.0, ap length is ∙ front.1, front.2)
-
--- the octet that is due stands there, or not
-pub octet_breaks : {before after : List ℕ} (es : List Event) (octet : ℕ) (e : HttpError) → FillsTo 1 before after (Err e) es → Breaks (NoOctet octet) before after e es
-octet_breaks es octet error.BadHead (earlier, takes, ends, stops) = absurd stops
-octet_breaks es octet error.HeadTooLarge (earlier, takes, ends, stops) = absurd stops
-octet_breaks es octet (error.TooLarge limit) (earlier, takes, ends, stops) = absurd stops
-octet_breaks es octet error.Short (earlier, takes, ends, stops) = (Octets 1, [], earlier, takes, ends, (refl, refl))
-octet_breaks es octet error.FrontFault (earlier, takes, ends, stops) = (Octets 1, [], earlier, takes, ends, (refl, refl))
-octet_breaks es octet error.Memory (earlier, takes, ends, stops) = (Octets 1, [], earlier, takes, ends, (refl, refl))
-
--- another octet than the one that is due is malformed
-pub octet_differs : {before : List ℕ} (after : List ℕ) (es : List Event) (octet c : ℕ) → FillsTo 1 before after (Ok tt) es → c ≢ octet → (more : List ℕ) → after ≡ c ∷ more
-    → Breaks (NoOctet octet) before after error.BadHead es
-octet_differs after es octet c (takes, enough, few) other more is =
-    (Octets 1, [], es, takes, inl (refl, λ short. absurd (omega (arith, short, ap length is))), (refl, (refl, c, more, is, other)))
 
 -- the data was read, but not the CR after it
 pub return_stops : {a b c octets : List ℕ} {xs : List Event} {e : HttpError} (ys : List Event) (size : ℕ) → Takes Nothing octets a b xs → length octets ≡ size

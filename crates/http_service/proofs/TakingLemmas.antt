@@ -3,20 +3,15 @@ use Rattle.std.proofs.Common.{◌≡◌, ◌<◌, ◌≤◌, ◌++◌, ℕ, Bool
 use Rattle.std.proofs.Common.{Ok, Err}
 use Rattle.std.specs.List.{flat_map}
 use Rattle.std.proofs.lemmas.List.{append-nil}
-use Rattle.std.proofs.lemmas.List.Elements.{All-nil}
 use Rattle.gate_world.specs.declared.event.Event.{Event}
 use Rattle.gate_world.specs.declared.event.Event.TheVariants.{ClientGave, ClientEnded, FrontFailed}
-use Rattle.gate_world.specs.Octets.{Asks, IsClientGave, client_gave_in}
+use Rattle.gate_world.specs.Octets.{Asks, client_gave_in}
 use Rattle.gate_world.proofs.Joins.{Asks-append, Asks-one}
 use Rattle.http_service.specs.declared.lines.TheConstants.{MAX_HEAD_OCTETS}
 use Rattle.http_service.specs.declared.error.HttpError.{HttpError}
 use Rattle.http_service.specs.declared.error.HttpError.TheVariants as error
 use Rattle.http_service.specs.Taking.{Lines, HaveEnd, Due, Nothing, Octets, LinesOf, IsMissing, most, WereMissing, Takes, EndsBy, EndedInside, Breaks}
 use Rattle.http_service.specs.reading.Steps.{Fills, IsOutside}
-
--- nothing was asked for
-pub takes_none : (due : Due) (octets : List ℕ) → Takes due [] octets octets []
-takes_none due octets = record { gave = []; asks = record { kind = All-nil IsClientGave; gave_is = refl }; octets = append-nil octets; missing = inl refl; few = inl refl }
 
 least : (due : Due) → MAX_HEAD_OCTETS ≤ most due
 least Nothing = omega arith

@@ -59,10 +59,6 @@ gains_nothing old =
 pub record SoFar (whole walk : Walk) (all left : List Part) (old now : BodyLists) : Type 0 where
   pub forth : (new : BodyLists) → GainsBy walk left now new → GainsBy whole all old new
 
--- at the beginning all parts are left, and nothing was added
-pub so_far_begun : (walk : Walk) (all : List Part) (old : BodyLists) → SoFar walk walk all all old old
-so_far_begun walk all old = record { forth = λ new w. w }
-
 -- past a multipart, once what the parts in it add was added and spread
 pub so_far_multi : {whole walk : Walk} {all left : List Part} {old now : BodyLists} (p : Part) (ps : List Part) (mid : BodyLists) → left ≡ p ∷ ps
     → SoFar whole walk all left old now → is_leaf p ≡ false → GainsBelow walk p now mid → SoFar whole (next walk) all ps old mid

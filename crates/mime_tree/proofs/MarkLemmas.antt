@@ -24,9 +24,6 @@ behind_is p t = by (bytes_eq (take (length p) t) p) refl
     by true e = Begins (drop (length p) t) (sym (take-append-drop (length p) t) ∙ ap (λ (u : List ℕ). u ++ drop (length p) t) ((bytes_eq-Decides (take (length p) t) p).0 e))
     by false e = BeginsNot (λ r w. let q = (bytes_eq-Decides (take (length p) t) p).1 (ap (take (length p)) w ∙ take_at p r (length p) refl) in absurd cc)
 
-dashes : List ℕ
-dashes = 45 ∷ 45 ∷ []
-
 whites_same : (u w : List ℕ) → Each is_white w → list_all is_white u ≡ false → u ≢ w
 whites_same u w e f g = let t = each_list_all is_white w e in let h = ap (list_all is_white) g in absurd cc
 

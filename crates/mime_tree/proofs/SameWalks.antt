@@ -11,7 +11,7 @@ use Rattle.mime_tree.specs.Parts.{children, part_number}
 use Rattle.mime_tree.specs.SameTrees.{AllSame, SamePart, NoPart, Same}
 use Rattle.mime_tree.specs.Roles as roles
 use Rattle.mime_tree.specs.BodyLists as body
-use Rattle.mime_tree.specs.Roles.{leaf_number, is_downloadable, is_leaf, is_inline, is_alternative, media}
+use Rattle.mime_tree.specs.Roles.{leaf_number, is_downloadable, is_inline, is_alternative, media}
 use Rattle.mime_tree.specs.BodyLists.{PartLists, meeting, start, AreBodyLists, nothing, both, wanted_part, or_else, shared, leaf_lists, into, next, spread, Walks, End, Multi, Leaf}
 use Rattle.mime_tree.proofs.OneWalk.{ends, lists_eq}
 

@@ -105,14 +105,6 @@ pub record Split (begun : Option ℕ) (b y : List ℕ) (ps : List Piece) (at : �
   pub so_far : SoFar begun b y ps at (lines (drop at b)) (lines b)
   pub ordered : IfSome begun (λ start. start ≤ at)
 
--- at offset 0 no piece was found, and no part has begun
-pub split_begins : (b y : List ℕ) → Split None b y [] 0
-split_begins b y = record { so_far = record { forth = λ r q. first r q }; ordered = tt }
-  where
-    first : (r : Option (List Piece)) → HasParts b y r 0 (lines b) → HasParts b y (onto [] r) 0 (lines b)
-    first None q = q
-    first (Some qs) q = q
-
 line_here : (begun : Option ℕ) (b y : List ℕ) (ps : List Piece) (at n : ℕ) (line : List ℕ) → Here b at line n → Split begun b y ps at
     → SoFar begun b y ps at (line ∷ lines (drop (at + n) b)) (lines b)
 line_here begun b y ps at n line h s = let P : List (List ℕ) → Type 0 = λ t. SoFar begun b y ps at t (lines b) in subst P h.first s.so_far

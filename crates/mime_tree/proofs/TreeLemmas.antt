@@ -30,10 +30,6 @@ body_within b s e d h le i =
 pub record ChildrenSo (more : ℕ) (b : List ℕ) (base : ℕ) (d : List ℕ) (ps left : List Piece) (first : ℕ) (cs : List Part) (next : ℕ) : Type 0 where
   pub forth : (ds : List Part) (end : ℕ) → AreTrees (IsTree more b) base d left next ds end → AreTrees (IsTree more b) base d ps first (cs ++ ds) end
 
--- at the beginning there are no children, and all pieces are left
-pub children_begin : (more : ℕ) (b : List ℕ) (base : ℕ) (d : List ℕ) (ps : List Piece) (first : ℕ) → ChildrenSo more b base d ps ps first [] first
-children_begin more b base d ps first = record { forth = λ ds end h. h }
-
 children_more : (more : ℕ) (b : List ℕ) (base : ℕ) (d : List ℕ) (ps : List Piece) (q : Piece) (left : List Piece) (first : ℕ) (cs : List Part) (next : ℕ) (c : Part) (mid : ℕ)
     → ChildrenSo more b base d ps (q ∷ left) first cs next → IsTree more b (base + q.start) (base + q.end) d next c mid → ChildrenSo more b base d ps left first (cs ++ c ∷ []) mid
 children_more more b base d ps q left first cs next c mid h t = record {
@@ -69,10 +65,6 @@ pub record Placed (first next size : ℕ) (left : List Piece) : Type 0 where
   pub behind : AreBehind at left size
   pub few : next ≤ first + at
 
--- at the beginning no octet is passed, and no number is given
-pub placed_begin : (first size : ℕ) (ps : List Piece) → AreBehind 0 ps size → Placed first first size ps
-placed_begin first size ps h = record { at = 0; behind = h; few = omega arith }
-
 -- where pieces lie between two offsets, the first offset is at most the second
 pub behind_end : (at n : ℕ) (ps : List Piece) → AreBehind at ps n → at ≤ n
 behind_end at n [] h = h
@@ -98,10 +90,6 @@ placed_next first next mid size q left all e h m =
     let P : List Piece → Type 0 = λ u. AreBehind h.at u size in
     let b = subst P e h.behind in
     record { at = q.end; behind = b.2; few = omega (arith, b.0, b.1, h.few) }
-
--- no more numbers are given than the body has octets
-pub placed_end : (first next size : ℕ) (left : List Piece) → Placed first next size left → next ≤ first + size
-placed_end first next size left h = let e = behind_end h.at size left h.behind in omega (arith, h.few)
 
 -- ---- a part by its head
 

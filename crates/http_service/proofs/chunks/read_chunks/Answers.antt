@@ -1,4 +1,4 @@
-use Rattle.std.proofs.Common.{◌≡◌, ◌<◌, ◌≤◌, ◌+◌, ◌-◌, ℕ, List, length, subst, sym, ap, arith, rules, Ok}
+use Rattle.std.proofs.Common.{◌≡◌, ◌<◌, ◌≤◌, ◌+◌, ◌-◌, ℕ, List, length, subst, sym, arith, rules, Ok}
 use Rattle.std.proofs.lemmas.Result.{err_from_is_err_and}
 use Rattle.gate_world.proofs.Joins.{join, widen}
 use Rattle.http_service.specs.declared.chunks.TheConstants.{FREE_LINE_OCTETS, MAX_EXCESS_OCTETS}
