@@ -2,7 +2,13 @@
 #![tactic(auto)]
 
 #[cfg(test)]
+mod asked_slices;
+#[cfg(test)]
+mod bodies;
+#[cfg(test)]
 mod dialogues;
+#[cfg(test)]
+mod last_numbers;
 #[cfg(test)]
 mod mirror_calls;
 #[cfg(test)]
