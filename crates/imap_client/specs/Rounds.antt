@@ -13,7 +13,7 @@ use Rattle.imap_syntax.specs.declared.response.Status.TheVariants as status
 use Rattle.told_folder.specs.declared.exchange.Exchange.{Exchange}
 use Rattle.told_folder.specs.declared.message.Folder.{Folder}
 use Rattle.told_folder.specs.declared.message.Held.{Held}
-use Rattle.told_mail.specs.Mail.{Mail, IsMail, IsNextMail}
+use Rattle.told_mail.specs.Mail.{Mail}
 use Rattle.told_mail.specs.Told.{Told}
 use Rattle.told_mail.specs.Exchanges.{after_closed, last_told, tell, TellsKnown, validity_in}
 use Rattle.imap_exchange.specs.declared.link_end.LinkEnd.{LinkEnd}
@@ -34,10 +34,6 @@ use Rattle.imap_client.specs.Plans.{Planned, Follows}
 pub record CountsOn (old new : Told) : Type 0 where
   pub rises : old.changes ≤ new.changes
   pub stands : new.changes ≡ old.changes → new.changes < 2 ^ 64 - 1 → new.mail ≡ old.mail
-
--- so the count goes on, and the mail can follow what it was
-abbrev pub KeepsMirror : Told → Told → Type 0
-KeepsMirror old new = CountsOn old new × (IsMail old.mail → IsNextMail old.mail new.mail)
 
 -- each of these exchanges tells what is known already, where those before it told theirs
 abbrev pub AllTellKnown : Mail → List Exchange → Type 0
