@@ -80,12 +80,12 @@ exchange_takes {life} {command = command} {x = x} false is c =
 ran_takes : {plan : Planned} {life : LinkLife} {xs : List Exchange} {after : LinkLife} {es : List Event} → Ran plan life xs after es
     → TakesFront after.goes_on (flat_map store_took_in es) (due_texts (next_number life) xs)
 ran_takes Begun = record { left = []; front = refl; none = λ _. refl }
-ran_takes {life = life} {after = after} (Then {heard = xs} {events = es} next ran) =
+ran_takes {life = life} (Then {heard = xs} {events = es} next ran) =
     let mid = next.before in
     let x = next.exchange in
     let c = next.completes in
     let so = ran_takes ran in
-    let here = exchange_takes after.goes_on refl c in
+    let here = exchange_takes next.after.goes_on refl c in
     let before : flat_map store_took_in es ≡ due_texts (next_number life) xs =
     sym (append-nil (flat_map store_took_in es)) ∙ ap (λ (l : List ℕ). flat_map store_took_in es ++ l) (sym (so.none c.on)) ∙ so.front in
     let text : joined_pieces (pieces_due (command_pieces next.command (next_number mid)) x.responses)

@@ -150,7 +150,7 @@ ran_number {life = life} {heard = heard} ran = omega (arith, ap length (ran_exch
 ran_answers : {plan : Planned} {life : LinkLife} {heard : List Exchange} {after : LinkLife} {events : List Event} (octets : List ℕ) → Ran plan life heard after events
     → Answers plan life heard after (life.rest ++ (flat_map store_gave_in events ++ octets)) (after.rest ++ octets)
 ran_answers octets Begun = record { all = refl; folder = λ on. refl }
-ran_answers {plan} {life} {heard} {after} octets (Then {heard = xs} {events = es} next ran) =
+ran_answers {plan} {life} octets (Then {heard = xs} {events = es} next ran) =
     let mid = next.before in
     let x = next.exchange in
     let c = next.completes in
@@ -171,7 +171,7 @@ ran_answers {plan} {life} {heard} {after} octets (Then {heard = xs} {events = es
           (life.rest ++ (flat_map store_gave_in (es ++ next.events) ++ octets)) r) (ap (λ (l : LinkLife). l.rest ++ octets) (sym c.after_is))
           (subst (λ (l : List ℕ). AnswersAll plan (next_number life) (selected life) [] (xs ++ x ∷ []) (life.rest ++ l) (c.rest ++ octets)) (sym gave_is) more);
       folder = λ on.
-          sym (selected_next mid after c.speaks.gave c.speaks.took c.rest x c.on c.after_is on)
+          sym (selected_next mid next.after c.speaks.gave c.speaks.took c.rest x c.on c.after_is on)
           ∙ ap (λ (f : Option (List ℕ)). selected_by x.command x.status f) (so.folder c.on) ∙ sym (fold-append selected_after (selected life) xs (x ∷ []));
     }
 

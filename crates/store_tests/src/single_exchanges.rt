@@ -117,8 +117,8 @@ fn steps_of_one_client(rt: HostRuntime) {
     let mut client = Client::new(alloc);
     assert!(rt; client.connect(&mut world, b"alice").is_ok());
     for step in STEPS.iter() {
-        let status = status(&rt, alloc, &mut world, &mut client, step.0);
-        assert_eq!(rt; status, step.2, "{:?}", step.1);
+        let answered = status(&rt, alloc, &mut world, &mut client, step.0);
+        assert_eq!(rt; answered, step.2, "{:?}", step.1);
         assert_eq!(rt; client.selected(), step.3, "{:?}", step.1);
     }
     client.leave(&mut world);
