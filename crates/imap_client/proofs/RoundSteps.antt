@@ -21,7 +21,7 @@ use Rattle.imap_client.specs.declared.plan.Refusal.TheVariants as refusal
 use Rattle.imap_client.specs.Connecting.{is_ok}
 use Rattle.imap_client.specs.Plans.{StopsAtRefusal, HearsAll, HeardNone, HeardMore, Follows, FollowsTo}
 use Rattle.imap_client.specs.LinkLife.{LinkLife, ClientState, selected}
-use Rattle.imap_client.specs.Keeping.{KeepsMirror}
+use Rattle.imap_client.specs.reading.Keeping.{KeepsMirror}
 use Rattle.imap_client.specs.Rounds.{AllTellKnown, CountsOn, KeepsCount, Rounds, RoundState, round_due, round_step, round_from}
 use Rattle.imap_client.specs.Bodies.{BodyState, body_step, body_from, body_due, body_begun, body_start, select_due, HasBody, FetchesBody}
 use Rattle.imap_client.proofs.Connections.{not_ok}

@@ -1,4 +1,4 @@
--- Plans says how what is asked in order is followed; Connecting, Rounds and Bodies are such plans. Sent, Decided and WholeRounds are for laws, Keeping for plans over a mirror.
+-- Plans says how what is asked in order is followed; Connecting, Rounds and Bodies are such plans. Sent, Decided and WholeRounds are for laws.
 pub mod LinkLife
 pub mod Calls
 pub mod Refusals
@@ -8,6 +8,6 @@ pub mod Sent
 pub mod Decided
 pub mod Connecting
 pub mod Rounds
-pub mod Keeping
 pub mod WholeRounds
 pub mod Bodies
+pub mod reading

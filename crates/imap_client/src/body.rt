@@ -8,7 +8,7 @@ ghost use Rattle.told_mail.specs.Mail.{folder_in, IsNextMail};
 ghost use Rattle.imap_client.specs.LinkLife.{LinkLife, Stands, fresh};
 ghost use Rattle.imap_client.specs.Bodies as bodies;
 ghost use Rattle.imap_client.specs.Bodies.{FetchesBody};
-ghost use Rattle.imap_client.specs.Keeping.{KeepsMirror};
+ghost use Rattle.imap_client.specs.reading.Keeping.{KeepsMirror};
 ghost use Rattle.imap_client.specs.Rounds.{CountsOn, KeepsCount};
 
 use crate::client::Client;

@@ -9,7 +9,7 @@ ghost use Rattle.told_mail.specs.Exchanges as telling;
 ghost use Rattle.told_mail.specs.Mail.{IsNextMail};
 ghost use Rattle.imap_client.specs.LinkLife.{LinkLife, Stands, fresh};
 ghost use Rattle.imap_client.specs.Rounds as rounds;
-ghost use Rattle.imap_client.specs.Keeping.{KeepsMirror};
+ghost use Rattle.imap_client.specs.reading.Keeping.{KeepsMirror};
 ghost use Rattle.imap_client.specs.Rounds.{CountsOn, KeepsCount, Rounds};
 
 use crate::client::Client;

@@ -33,13 +33,17 @@ pub follow-result-requires-clause-kept : goal.follow-result-requires-clause-kept
 follow-result-requires-clause-kept g c = keeps_none _
 
 pub returns-in-Err-clause-counts : goal.returns-in-Err-clause-counts
-returns-in-Err-clause-counts g c = kept_counts c.args.mirror.now c.replace.result c.follow-result.new.plan.mirror c.replace.ensures.value c.follow-result.ensures.kept
+returns-in-Err-clause-counts g c =
+    kept_counts c.args.mirror.now c.replace.result c.follow-result.new.plan.mirror c.replace.ensures.value c.follow-result.ensures.kept
 
 pub returns-in-Err-clause-next : goal.returns-in-Err-clause-next
-returns-in-Err-clause-next g c = kept_next c.args.mirror.now c.replace.result c.follow-result.new.plan.mirror c.replace.ensures.value c.each_is_mail.ensures c.follow-result.ensures.kept
+returns-in-Err-clause-next g c =
+    kept_next c.args.mirror.now c.replace.result c.follow-result.new.plan.mirror c.replace.ensures.value c.each_is_mail.ensures c.follow-result.ensures.kept
 
 pub returns-in-Ok-clause-counts : goal.returns-in-Ok-clause-counts
-returns-in-Ok-clause-counts g c = kept_counts c.args.mirror.now c.replace.result c.follow-result.new.plan.mirror c.replace.ensures.value c.follow-result.ensures.kept
+returns-in-Ok-clause-counts g c =
+    kept_counts c.args.mirror.now c.replace.result c.follow-result.new.plan.mirror c.replace.ensures.value c.follow-result.ensures.kept
 
 pub returns-in-Ok-clause-next : goal.returns-in-Ok-clause-next
-returns-in-Ok-clause-next g c = kept_next c.args.mirror.now c.replace.result c.follow-result.new.plan.mirror c.replace.ensures.value c.each_is_mail.ensures c.follow-result.ensures.kept
+returns-in-Ok-clause-next g c =
+    kept_next c.args.mirror.now c.replace.result c.follow-result.new.plan.mirror c.replace.ensures.value c.each_is_mail.ensures c.follow-result.ensures.kept

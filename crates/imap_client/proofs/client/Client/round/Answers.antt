@@ -17,10 +17,12 @@ pub returns-clause-alive : goal.returns-clause-alive
 returns-clause-alive g c = on_ok c.follow-result.result (λ alive. alive (round_stops _)) c.follow-result.ensures.alive
 
 pub returns-clause-counts : goal.returns-clause-counts
-returns-clause-counts g c = kept_counts c.args.mirror.now c.replace.result c.follow-result.new.plan.mirror c.replace.ensures.value c.follow-result.ensures.kept
+returns-clause-counts g c =
+    kept_counts c.args.mirror.now c.replace.result c.follow-result.new.plan.mirror c.replace.ensures.value c.follow-result.ensures.kept
 
 pub returns-clause-next : goal.returns-clause-next
-returns-clause-next g c = kept_next c.args.mirror.now c.replace.result c.follow-result.new.plan.mirror c.replace.ensures.value c.each_is_mail.ensures c.follow-result.ensures.kept
+returns-clause-next g c =
+    kept_next c.args.mirror.now c.replace.result c.follow-result.new.plan.mirror c.replace.ensures.value c.each_is_mail.ensures c.follow-result.ensures.kept
 
 pub follow-result-requires-clause-kept : goal.follow-result-requires-clause-kept
 follow-result-requires-clause-kept g c = keeps_none _
