@@ -119,19 +119,19 @@ end_takes {now} {after} {last = last} (Broken command e is failed b) =
     let held = b.speaks.paced.at_each b.speaks.talk [] (sym (append-nil b.speaks.talk)) in
     let part = part_is_front (command_pieces command (next_number after)) _ (flat_map store_took_in b.speaks.talk) held in
     let same : flat_map store_took_in last ≡ flat_map store_took_in b.speaks.talk = spoken_takes b.speaks ∙ sym b.speaks.said.took_is in
-    inr (b.on, part.0, ap (λ (l : List ℕ). l ++ part.0) same ∙ part.1 ∙ ap (λ (d : Due). next_text d (next_number after)) (sym is))
+    inr (b.on, (part.0, ap (λ (l : List ℕ). l ++ part.0) same ∙ part.1 ∙ ap (λ (d : Due). next_text d (next_number after)) (sym is)))
 end_takes (Gone command is over lost none same) = inl (ap (λ (l : List Event). flat_map store_took_in l) none)
 end_takes {after = after} {last = last} (Wanting memory hangs same) = inl (hangs_takes after.goes_on last hangs)
 
-joined_by : {on : Bool} {now : Due} {n : ℕ} (so_far last whole : List ℕ) → TakesFront on so_far whole → EndTakes on now n last
+joined_by : (on : Bool) (now : Due) (n : ℕ) (so_far last whole : List ℕ) → TakesFront on so_far whole → EndTakes on now n last
     → (left : List ℕ) × ((so_far ++ last) ++ left ≡ whole ++ next_text now n)
-joined_by {now = now} {n = n} so_far last whole so (inl none) = (
+joined_by on now n so_far last whole so (inl none) = (
   so.left ++ next_text now n,
   ap (λ (l : List ℕ). (so_far ++ l) ++ (so.left ++ next_text now n)) none ∙ ap (λ (l : List ℕ). l ++ (so.left ++ next_text now n)) (append-nil so_far)
       ∙ sym (append_assoc so_far so.left (next_text now n)) ∙ ap (λ (l : List ℕ). l ++ next_text now n) so.front,
 )
-joined_by {now = now} {n = n} so_far last whole so (inr (on, left, part)) =
-    let all : so_far ≡ whole = sym (append-nil so_far) ∙ ap (λ (l : List ℕ). so_far ++ l) (sym (so.none on)) ∙ so.front in
+joined_by on now n so_far last whole so (inr (is, (left, part))) =
+    let all : so_far ≡ whole = sym (append-nil so_far) ∙ ap (λ (l : List ℕ). so_far ++ l) (sym (so.none is)) ∙ so.front in
     (left, append_assoc so_far last left ∙ (λ i. all i ++ part i))
 
 -- however a plan ends, what was taken is a front of what is due, in order
@@ -143,5 +143,5 @@ commands_are_sent_in_order plan life left xs client result events f =
     ∙ flat_map-append store_took_in f.so_far f.last in
     let ended : EndTakes f.after.goes_on (plan xs) (next_number life + length xs) (flat_map store_took_in f.last) =
     subst (λ (k : ℕ). EndTakes f.after.goes_on (plan xs) k (flat_map store_took_in f.last)) (ran_number f.ran) (end_takes f.ends) in
-    let so = joined_by (flat_map store_took_in f.so_far) (flat_map store_took_in f.last) (due_texts (next_number life) xs) (ran_takes f.ran) ended in
+    let so = joined_by f.after.goes_on (plan xs) (next_number life + length xs) (flat_map store_took_in f.so_far) (flat_map store_took_in f.last) (due_texts (next_number life) xs) (ran_takes f.ran) ended in
     (so.0, ap (λ (l : List ℕ). l ++ so.0) took_is ∙ so.1)

@@ -203,11 +203,11 @@ further_at {plan} {n} {m} {heard} {also} {octets} number same so =
     subst (λ (l : List Exchange). GoesFurther plan m l octets) same (subst (λ (k : ℕ). GoesFurther plan k heard octets) number so)
 
 -- the same with an exchange in front
-compared_more : {plan : Planned} {n : ℕ} {heard : List Exchange} (x y : Exchange) (xs ys : List Exchange) {r s : List ℕ} → x ≡ y
+compared_more : (plan : Planned) (n : ℕ) (heard : List Exchange) (x y : Exchange) (xs ys : List Exchange) {r s : List ℕ} → x ≡ y
     → Compared plan (n + 1) (heard ++ x ∷ []) xs ys r s → Compared plan n heard (x ∷ xs) (y ∷ ys) r s
-compared_more x y xs ys same (inl both) = inl ((λ i. same i ∷ both.0 i), both.1)
-compared_more {plan} {n} {heard} x y xs ys same (inr (inl so)) = inr (inl (further_at (omega arith) (append_assoc heard (x ∷ []) xs) so))
-compared_more {plan} {n} {heard} x y xs ys same (inr (inr so)) =
+compared_more plan n heard x y xs ys same (inl both) = inl ((λ i. same i ∷ both.0 i), both.1)
+compared_more plan n heard x y xs ys same (inr (inl so)) = inr (inl (further_at (omega arith) (append_assoc heard (x ∷ []) xs) so))
+compared_more plan n heard x y xs ys same (inr (inr so)) =
     inr (inr (further_at (omega arith) (append_assoc heard (x ∷ []) ys ∙ ap (λ (z : Exchange). heard ++ z ∷ ys) same) so))
 
 compared : (plan : Planned) (n : ℕ) (folder : Option (List ℕ)) (heard xs ys : List Exchange) (octets r s : List ℕ) → AnswersAll plan n folder heard xs octets r
@@ -236,7 +236,7 @@ compared plan n folder heard (x ∷ xs) (y ∷ ys) octets r s (mid, asked, sel, 
     let moved : AnswersAll plan (n + 1) (selected_by x.command x.status folder) (heard ++ x ∷ []) ys mid s =
     subst (λ (z : Exchange). AnswersAll plan (n + 1) (selected_by z.command z.status folder) (heard ++ z ∷ []) ys mid s) (sym same)
     (subst (λ (m : List ℕ). AnswersAll plan (n + 1) (selected_by y.command y.status folder) (heard ++ y ∷ []) ys m s) (sym parts.3) more') in
-    compared_more x y xs ys same (compared plan (n + 1) (selected_by x.command x.status folder) (heard ++ x ∷ []) xs ys mid r s more moved)
+    compared_more plan n heard x y xs ys same (compared plan (n + 1) (selected_by x.command x.status folder) (heard ++ x ∷ []) xs ys mid r s more moved)
 
 -- ---- their ends
 
