@@ -1,5 +1,5 @@
 // Clients whose response is whole and that still send: they are closed a short time after it.
-ghost use Rattle.std.specs.Prelude.{◌≡◌, [], IfOk};
+ghost use Rattle.std.specs.Prelude.{◌≡◌, ◌++◌, [], ◌∷◌, IfOk};
 ghost use Rattle.client_front.specs.reading.Lingering as spec;
 
 use std::alloc::{AllocError, Global};
@@ -60,13 +60,20 @@ impl<S: Drop> Lingering<S> {
         self.clients.len() >= MAX_LINGERING_CLIENTS
     }
 
-    /// Keeps one more client open. Where as many are as may be, the one that was finished first is closed.
-    pub(crate) fn add(&mut self, client: Finished<S>) -> Result<(), AllocError>
-        ensures { IfOk result (λ _. self.new.clients.items ≡ spec.added client self.old.clients.items) }
+    /// Closes the client that was finished first, where as many are open as may be.
+    fn make_room(&mut self)
+        ensures { self.new.clients.items ≡ spec.with_room self.old.clients.items }
     {
         if self.is_full() {
             let _ = self.clients.pop_front();
         }
+    }
+
+    /// Leaves one more client open.
+    pub(crate) fn add(&mut self, client: Finished<S>) -> Result<(), AllocError>
+        ensures { IfOk result (λ _. self.new.clients.items ≡ spec.with_room self.old.clients.items ++ client ∷ []) }
+    {
+        self.make_room();
         self.clients.push_back(client)?;
         Ok(())
     }

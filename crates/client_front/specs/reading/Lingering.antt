@@ -1,5 +1,5 @@
 -- Clients whose response is whole, and when they are closed.
-use Rattle.std.specs.Prelude.{◌≡◌, ◌+◌, ◌++◌, ℕ, Bool, false, List, [], ◌∷◌, length, nat_le, if◌then◌else◌, Option, Some}
+use Rattle.std.specs.Prelude.{◌≡◌, ◌+◌, ℕ, Bool, false, List, [], ◌∷◌, length, nat_le, if◌then◌else◌, Option, Some}
 use Rattle.client_front.specs.Deadlines.{capped}
 use Rattle.client_front.specs.declared.lingering.Finished.{Finished}
 use Rattle.client_front.specs.declared.lingering.TheConstants.{MAX_LINGERING_CLIENTS}
@@ -26,6 +26,6 @@ abbrev pub without_first : {C : Type 0} → List C → List C
 without_first [] = []
 without_first (client ∷ clients) = clients
 
--- the clients with one more, for which the first is closed where as many are open as may be
-abbrev pub added : {C : Type 0} → C → List C → List C
-added client clients = (if is_full clients then without_first clients else clients) ++ client ∷ []
+-- the clients without the first, where as many are open as may be
+abbrev pub with_room : {C : Type 0} → List C → List C
+with_room clients = if is_full clients then without_first clients else clients
