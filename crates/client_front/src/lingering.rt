@@ -54,8 +54,8 @@ impl<S: Drop> Lingering<S> {
         }
     }
 
-    fn is_full(&self) -> bool
-        ensures { result ≡ spec.is_full self.now.clients.items }
+    fn has_no_room(&self) -> bool
+        ensures { result ≡ spec.has_no_room self.now.clients.items }
     {
         self.clients.len() >= MAX_LINGERING_CLIENTS
     }
@@ -64,7 +64,7 @@ impl<S: Drop> Lingering<S> {
     fn make_room(&mut self)
         ensures { self.new.clients.items ≡ spec.with_room self.old.clients.items }
     {
-        if self.is_full() {
+        if self.has_no_room() {
             let _ = self.clients.pop_front();
         }
     }

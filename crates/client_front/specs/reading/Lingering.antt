@@ -19,8 +19,8 @@ undue now [] = []
 undue now (client ∷ clients) = if nat_le client.due now then undue now clients else client ∷ clients
 
 -- `MAX_LINGERING_CLIENTS` are open
-abbrev pub is_full : {C : Type 0} → List C → Bool
-is_full clients = nat_le MAX_LINGERING_CLIENTS (length clients)
+abbrev pub has_no_room : {C : Type 0} → List C → Bool
+has_no_room clients = nat_le MAX_LINGERING_CLIENTS (length clients)
 
 abbrev pub without_first : {C : Type 0} → List C → List C
 without_first [] = []
@@ -28,4 +28,4 @@ without_first (client ∷ clients) = clients
 
 -- the clients without the first, where as many are open as may be
 abbrev pub with_room : {C : Type 0} → List C → List C
-with_room clients = if is_full clients then without_first clients else clients
+with_room clients = if has_no_room clients then without_first clients else clients
