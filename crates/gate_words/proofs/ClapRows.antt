@@ -46,6 +46,7 @@ either Listen Listen = inl refl
 either Connections Connections = inl refl
 either _ _ = inr (refl, λ value values. refl)
 
+-- a name's id is its own
 pub id-same : (name : Name) → bytes_eq (id_of name) (id_of name) ≡ true
 id-same Store = refl
 id-same User = refl

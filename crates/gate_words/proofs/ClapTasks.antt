@@ -137,6 +137,7 @@ once-valid settings place names =
 
 -- ---- what clap does with their words
 
+-- the command `serve` takes words whose settings the rule takes
 pub serve-takes : (words : List Text) (settings : List Setting) (place : Place) (listen : List ℕ) (count : ℕ) → SpellsAll settings (drop 1 words)
     → ServesAt settings place listen count → takes serve_app words ≡ true
 serve-takes words settings place listen count spelled means =
@@ -145,11 +146,13 @@ serve-takes words settings place listen count spelled means =
     && level_passes serve_shape [] nothing_held (drop 1 words) (is_some (entered (built serve_app) o))) r.1
     ∙ r.2 (serve-valid settings place listen count means)
 
+-- and has a row for each setting
 pub serve-rows : (words : List Text) (settings : List Setting) (place : Place) (listen : List ℕ) (count : ℕ) → SpellsAll settings (drop 1 words)
     → ServesAt settings place listen count → matches_of serve_app words ≡ map row settings
 serve-rows words settings place listen count spelled means =
     (read serve_shape OfServe serve-options settings (drop 1 words) (serve-single settings place listen count means) spelled (serve-have settings)).0
 
+-- the command `once` takes words whose settings the rule takes
 pub once-takes : (words : List Text) (settings : List Setting) (place : Place) → SpellsAll settings (drop 1 words) → AnswersAt settings place
     → takes once_app words ≡ true
 once-takes words settings place spelled means =
@@ -158,6 +161,7 @@ once-takes words settings place spelled means =
     && level_passes once_shape [] nothing_held (drop 1 words) (is_some (entered (built once_app) o))) r.1
     ∙ r.2 (once-valid settings place means.names)
 
+-- and has a row for each setting
 pub once-rows : (words : List Text) (settings : List Setting) (place : Place) → SpellsAll settings (drop 1 words) → AnswersAt settings place
     → matches_of once_app words ≡ map row settings
 once-rows words settings place spelled means =
@@ -167,6 +171,7 @@ show-none : built_takes (built show_app) nothing_held [] ≡ true
 unfolding clap_on_literals
 show-none = refl
 
+-- the command `show` takes its name alone
 pub show-takes : (words : List Text) → drop 1 words ≡ [] → takes show_app words ≡ true
 show-takes words none = ap (built_takes (built show_app) nothing_held) none ∙ show-none
 
@@ -248,6 +253,7 @@ serve-none settings matches rows none (Once place) means = absurd means
 serve-none settings matches rows none Show means = absurd means
 serve-none settings matches rows none (Explain page) means = absurd means
 
+-- the same of `once`: a task that is found is the one that the settings mean
 pub once-meant : (settings : List Setting) (matches : ArgMatches) (place : Place) → rows_of (found_of matches) ≡ map row settings → AnswersAt settings place
     → (task : Task) → IsOnceIn (value_in matches) task → IsOnce settings task
 once-meant settings matches place rows means (Once finds) given = record {
@@ -259,6 +265,7 @@ once-meant settings matches place rows means (Serve finds hears count) given = a
 once-meant settings matches place rows means Show given = absurd given
 once-meant settings matches place rows means (Explain page) given = absurd given
 
+-- and one that they mean is found
 pub once-none : (settings : List Setting) (matches : ArgMatches) → rows_of (found_of matches) ≡ map row settings
     → ((task : Task) → IsOnceIn (value_in matches) task → ⊥) → (task : Task) → IsOnce settings task → ⊥
 once-none settings matches rows none (Once place) means = none (Once place) (place-in settings matches place rows means.names)

@@ -22,7 +22,7 @@ impl Ticks for Jumping {
     }
 }
 
-/// A client that sends so many octets, and whether its stream is open.
+/// A client with octets that it has yet to send, and an owner of what tells that its stream is open.
 #[derive(Drop)]
 struct Sending {
     left: usize,
@@ -81,7 +81,8 @@ impl ClientListener for OneClient {
 
 type Front = ClientFront<OneClient, Jumping>;
 
-/// A front whose clock jumps after this many looks, with a client that sends so many octets; and whether that is open.
+/// A front whose clock jumps after a number of looks, with a client that sends a number of octets; and what tells that its
+/// stream is open.
 fn front_of(rt: &impl Abort, host: HostRuntime, looks: u64, octets: usize) -> (Front, Weak<u8>) {
     let open = Rc::new(host.alloc(), 0).expect(rt, "memory");
     let seen = Rc::downgrade(&open).expect(rt, "a count");
