@@ -73,7 +73,8 @@ impl<S: ClientStream> Serving<S> {
         ensures { IfSome result (IsDue (C.reads clock.now)) }
     {
         self.stream.end_writing();
-        let due = clock.milliseconds()?.saturating_add(DRAIN_MILLISECONDS);
+        let now = clock.milliseconds()?;
+        let due = now.saturating_add(DRAIN_MILLISECONDS);
         if drain(&mut self.stream, clock, due) < MAX_DRAIN_OCTETS {
             return None;
         }
