@@ -1,9 +1,9 @@
 -- The commands take the words that the rule takes, and find the values that their settings give.
-use Rattle.std.proofs.Common.{◌≡◌, ℕ, ◌≤◌, List, [], ◌∷◌, length, map, drop, Bool, true, false, ◌&&◌, IsTrue, Option, Some, None, is_some, slice_get}
+use Rattle.std.proofs.Common.{◌≡◌, ℕ, ◌≤◌, List, [], ◌∷◌, length, map, drop, codes, true, false, ◌&&◌, IsTrue, Option, Some, None, Result, Ok, Err, IfOk, IfErr, is_some, slice_get}
 use Rattle.std.proofs.Common.{refl, sym, ap, subst, ◌∙◌, arith}
 use Rattle.std.proofs.lemmas.Option.{same_Some}
 use Rattle.clap.specs.Matches.{found_of}
-use Rattle.clap.specs.Simple.{Shape, built, entered, matches_of}
+use Rattle.clap.specs.Simple.{App, HasMatchesOf, Shape, built, entered, is_simple, matches_of, new_app, with_rule}
 use Rattle.clap.specs.Takes.{built_takes, entered_passes, is_valid, level_passes, takes}
 use Rattle.clap.specs.Walk.{Text, arg_by_id, arg_by_long, first_of, nothing_held, rows_of}
 use Rattle.clap.specs.declared.parser.matches.ArgMatches.{ArgMatches}
@@ -13,12 +13,15 @@ use Rattle.gate_words.specs.Connections.{CountsConnections}
 use Rattle.gate_words.specs.Options.{Setting, SpellsAll, value_if, values_of}
 use Rattle.gate_words.specs.Rules.{is_user, is_base}
 use Rattle.gate_words.specs.Task.{AnswersAt, IsOnce, IsServe, NamesPlace, ServesAt}
-use Rattle.gate_words.specs.reading.Commands.{CountsGiven, IsOnceIn, IsServeIn, PlaceIn, ServeIn, id_of, once_app, serve_app, show_app, value_in}
+use Rattle.gate_words.specs.reading.Commands.{CountsGiven, IsOnceIn, IsServeIn, PlaceIn, ServeIn, id_of, once_app, option_rule, serve_app, show_app}
+use Rattle.gate_words.specs.reading.Commands.{value_in, with_place}
 use Rattle.gate_words.specs.declared.option.Name.{Name}
 use Rattle.gate_words.specs.declared.option.Name.TheVariants as option
 use Rattle.gate_words.specs.declared.place.Place.{Place}
 use Rattle.gate_words.specs.declared.task.Task.{Task}
 use Rattle.gate_words.specs.declared.task.Task.TheVariants.{Serve, Once, Show, Explain}
+use Rattle.gate_words.specs.declared.task.WordsError.{WordsError}
+use Rattle.gate_words.specs.declared.task.WordsError.TheVariants.{Refused}
 use Rattle.gate_words.proofs.ClapRows.{AreSingle, filled, first-row, given-row, row}
 use Rattle.gate_words.proofs.ClapWalk.{AllHave, HasOptions, read}
 
@@ -29,6 +32,42 @@ serve_shape = (built serve_app).top
 
 abbrev once_shape : Shape
 once_shape = (built once_app).top
+
+-- what the commands are made of
+pub serve-is : with_rule (with_rule (with_place (new_app (codes "serve"))) (option_rule true (codes "listen"))) (option_rule false (codes "connections")) ≡ serve_app
+unfolding serve_app
+serve-is = refl
+
+-- the same of `once`
+pub once-is : with_place (new_app (codes "once")) ≡ once_app
+unfolding once_app
+once-is = refl
+
+-- and of `show`
+pub show-is : new_app (codes "show") ≡ show_app
+unfolding show_app
+show-is = refl
+
+-- their matches are those of clap's definition
+pub serve-simple : is_simple serve_app ≡ true
+unfolding serve_app
+serve-simple = refl
+
+-- the same of `once`
+pub once-simple : is_simple once_app ≡ true
+unfolding once_app
+once-simple = refl
+
+-- the rows that a command finds, where it is this one
+pub rows-by : (r : Result ArgMatches WordsError) (app this : App) (words : List Text) → app ≡ this → is_simple this ≡ true → IfOk r (HasMatchesOf app words)
+    → IfOk r (λ m. rows_of (found_of m) ≡ matches_of this words)
+rows-by (Ok m) app this words is simple has = (subst (λ (a : App). HasMatchesOf a words m) is has simple).0
+rows-by (Err e) app this words is simple has = tt
+
+-- the words that it doesn't refuse
+pub refused-by : (r : Result ArgMatches WordsError) (app this : App) (words : List Text) → app ≡ this
+    → IfErr r (λ error. error ≡ Refused → takes app words ≡ true → ⊥) → IfErr r (λ error. error ≡ Refused → takes this words ≡ true → ⊥)
+refused-by r app this words is none = subst (λ (a : App). IfErr r (λ error. error ≡ Refused → takes a words ≡ true → ⊥)) is none
 
 abbrev OfServe : Name → Type 0
 OfServe name = Unit {0}
@@ -41,6 +80,7 @@ OfOnce option.Listen = ⊥
 OfOnce option.Connections = ⊥
 
 serve-long : (name : Name) → OfServe name → arg_by_long serve_shape.rules (id_of name) ≡ Some (filled name)
+unfolding serve_app
 serve-long option.Store has = refl
 serve-long option.User has = refl
 serve-long option.Base has = refl
@@ -48,6 +88,7 @@ serve-long option.Listen has = refl
 serve-long option.Connections has = refl
 
 serve-id : (name : Name) → OfServe name → arg_by_id serve_shape.rules (id_of name) ≡ Some (filled name)
+unfolding serve_app
 serve-id option.Store has = refl
 serve-id option.User has = refl
 serve-id option.Base has = refl
@@ -55,6 +96,7 @@ serve-id option.Listen has = refl
 serve-id option.Connections has = refl
 
 once-long : (name : Name) → OfOnce name → arg_by_long once_shape.rules (id_of name) ≡ Some (filled name)
+unfolding once_app
 once-long option.Store has = refl
 once-long option.User has = refl
 once-long option.Base has = refl
@@ -62,6 +104,7 @@ once-long option.Listen has = absurd has
 once-long option.Connections has = absurd has
 
 once-id : (name : Name) → OfOnce name → arg_by_id once_shape.rules (id_of name) ≡ Some (filled name)
+unfolding once_app
 once-id option.Store has = refl
 once-id option.User has = refl
 once-id option.Base has = refl
@@ -69,9 +112,11 @@ once-id option.Listen has = absurd has
 once-id option.Connections has = absurd has
 
 serve-options : HasOptions serve_shape OfServe
+unfolding serve_app
 serve-options = record { by_long = serve-long; by_id = serve-id; empty = (refl, (refl, (refl, (refl, (refl, (refl, tt)))))); defaults = refl }
 
 once-options : HasOptions once_shape OfOnce
+unfolding once_app
 once-options = record { by_long = once-long; by_id = once-id; empty = (refl, (refl, (refl, (refl, tt)))); defaults = refl }
 
 -- ---- settings that the rule takes
@@ -121,6 +166,7 @@ once-have (setting ∷ settings) l c =
 
 serve-valid : (settings : List Setting) (place : Place) (listen : List ℕ) (count : ℕ) → ServesAt settings place listen count
     → is_valid serve_shape (map row settings) false ≡ true
+unfolding serve_app
 serve-valid settings place listen count means =
     let store = given-row option.Store settings place.store [] means.names.store in
     let user = given-row option.User settings place.user [] means.names.user in
@@ -129,6 +175,7 @@ serve-valid settings place listen count means =
     rw (store, user, base, listens) refl
 
 once-valid : (settings : List Setting) (place : Place) → NamesPlace settings place → is_valid once_shape (map row settings) false ≡ true
+unfolding once_app
 once-valid settings place names =
     let store = given-row option.Store settings place.store [] names.store in
     let user = given-row option.User settings place.user [] names.user in
@@ -140,6 +187,7 @@ once-valid settings place names =
 -- the command `serve` takes words whose settings the rule takes
 pub serve-takes : (words : List Text) (settings : List Setting) (place : Place) (listen : List ℕ) (count : ℕ) → SpellsAll settings (drop 1 words)
     → ServesAt settings place listen count → takes serve_app words ≡ true
+unfolding serve_app
 serve-takes words settings place listen count spelled means =
     let r = read serve_shape OfServe serve-options settings (drop 1 words) (serve-single settings place listen count means) spelled (serve-have settings) in
     ap (λ (o : Option (Text × List Text)). entered_passes (built serve_app) o
@@ -149,12 +197,14 @@ serve-takes words settings place listen count spelled means =
 -- and has a row for each setting
 pub serve-rows : (words : List Text) (settings : List Setting) (place : Place) (listen : List ℕ) (count : ℕ) → SpellsAll settings (drop 1 words)
     → ServesAt settings place listen count → matches_of serve_app words ≡ map row settings
+unfolding serve_app
 serve-rows words settings place listen count spelled means =
     (read serve_shape OfServe serve-options settings (drop 1 words) (serve-single settings place listen count means) spelled (serve-have settings)).0
 
 -- the command `once` takes words whose settings the rule takes
 pub once-takes : (words : List Text) (settings : List Setting) (place : Place) → SpellsAll settings (drop 1 words) → AnswersAt settings place
     → takes once_app words ≡ true
+unfolding once_app
 once-takes words settings place spelled means =
     let r = read once_shape OfOnce once-options settings (drop 1 words) (once-single settings place means) spelled (once-have settings means.listens means.counts) in
     ap (λ (o : Option (Text × List Text)). entered_passes (built once_app) o
@@ -164,15 +214,17 @@ once-takes words settings place spelled means =
 -- and has a row for each setting
 pub once-rows : (words : List Text) (settings : List Setting) (place : Place) → SpellsAll settings (drop 1 words) → AnswersAt settings place
     → matches_of once_app words ≡ map row settings
+unfolding once_app
 once-rows words settings place spelled means =
     (read once_shape OfOnce once-options settings (drop 1 words) (once-single settings place means) spelled (once-have settings means.listens means.counts)).0
 
 show-none : built_takes (built show_app) nothing_held [] ≡ true
-unfolding clap_on_literals
+unfolding clap_on_literals show_app
 show-none = refl
 
 -- the command `show` takes its name alone
 pub show-takes : (words : List Text) → drop 1 words ≡ [] → takes show_app words ≡ true
+unfolding show_app
 show-takes words none = ap (built_takes (built show_app) nothing_held) none ∙ show-none
 
 -- ---- the values that it finds

@@ -19,11 +19,14 @@ fn option_with<'a>(alloc: Global, id: &'a str, is_required: bool) -> Arg<'a>
 
 /// The command with the options that name a place.
 fn with_place<'a>(alloc: Global, command: Command<'a>) -> Result<Command<'a>, AllocError>
-    ensures { IfOk result (λ c. app_of c ≡ spec.with_place (app_of command)) }
+    ensures { IfOk result (λ c. app_of c ≡ spec.with_place (app_of command.entry)) }
 {
-    let stored = command.arg(option_with(alloc, "store", true))?;
-    let used = stored.arg(option_with(alloc, "user", true))?;
-    used.arg(option_with(alloc, "base", true))
+    let store = option_with(alloc, "store", true);
+    let user = option_with(alloc, "user", true);
+    let base = option_with(alloc, "base", true);
+    let stored = command.arg(store)?;
+    let used = stored.arg(user)?;
+    used.arg(base)
 }
 
 /// Out of memory, or that the words are refused.
@@ -38,8 +41,8 @@ fn error_of(error: Error) -> WordsError
 
 /// What the command finds in the words, of which the first is its own name.
 fn found<'a>(command: Command<'a>, words: &'a [String]) -> Result<ArgMatches<'a>, WordsError>
-    ensures matches { IfOk result (HasMatchesOf (app_of command) (map string_bytes words.entry.now)) }
-    ensures refused { IfErr result (λ error. error ≡ Refused → takes (app_of command) (map string_bytes words.entry.now) ≡ true → ⊥) }
+    ensures matches { IfOk result (HasMatchesOf (app_of command.entry) (map string_bytes words.entry.now)) }
+    ensures refused { IfErr result (λ error. error ≡ Refused → takes (app_of command.entry) (map string_bytes words.entry.now) ≡ true → ⊥) }
 {
     match command.try_get_matches_from(words) {
         Ok(matches) => Ok(matches),
@@ -55,9 +58,11 @@ pub(crate) fn serve_matches<'a>(
     ensures found { IfOk result (λ m. rows_of (found_of m) ≡ matches_of spec.serve_app (map string_bytes words.entry.now)) }
     ensures refused { IfErr result (λ error. error ≡ Refused → takes spec.serve_app (map string_bytes words.entry.now) ≡ true → ⊥) }
 {
+    let listen = option_with(alloc, "listen", true);
+    let connections = option_with(alloc, "connections", false);
     let placed = with_place(alloc, Command::new(alloc, "serve"))?;
-    let listening = placed.arg(option_with(alloc, "listen", true))?;
-    let command = listening.arg(option_with(alloc, "connections", false))?;
+    let listening = placed.arg(listen)?;
+    let command = listening.arg(connections)?;
     found(command, words)
 }
 

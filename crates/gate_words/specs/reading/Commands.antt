@@ -27,13 +27,13 @@ option_rule required id = record (new_rule id) { long = Some id; required = requ
 abbrev pub with_place : App → App
 with_place app = with_rule (with_rule (with_rule app (option_rule true (codes "store"))) (option_rule true (codes "user"))) (option_rule true (codes "base"))
 
-abbrev pub serve_app : App
+unfoldable pub serve_app : App
 serve_app = with_rule (with_rule (with_place (new_app (codes "serve"))) (option_rule true (codes "listen"))) (option_rule false (codes "connections"))
 
-abbrev pub once_app : App
+unfoldable pub once_app : App
 once_app = with_place (new_app (codes "once"))
 
-abbrev pub show_app : App
+unfoldable pub show_app : App
 show_app = new_app (codes "show")
 
 -- ---- what they find

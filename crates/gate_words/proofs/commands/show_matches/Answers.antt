@@ -1,9 +1,10 @@
-use Rattle.std.proofs.Common.{map, string_bytes, ap, ◌∙◌}
-use Rattle.std.proofs.lemmas.Result.{IfErr-weaker}
-use Rattle.clap.specs.Words.{App, takes}
+use Rattle.std.proofs.Common.{map, string_bytes, ◌∙◌}
+use Rattle.clap.specs.Words.{app_of}
+use Rattle.gate_words.specs.reading.Commands.{show_app}
+use Rattle.gate_words.proofs.ClapTasks.{refused-by, show-is}
 use Rattle.gate_words.proofs.commands.show_matches.Goals as goal
 
 pub returns : goal.returns
-returns c =
-    let words = map string_bytes c.args.words.now in
-    IfErr-weaker c.found.result _ _ (λ error none refused taken. none refused (ap (λ (a : App). takes a words) c.new.ensures.app ∙ taken)) c.found.ensures.refused
+returns c = record {
+  refused = refused-by c.found.result (app_of c.new.result) show_app (map string_bytes c.args.words.now) (c.new.ensures.app ∙ show-is) c.found.ensures.refused;
+}

@@ -1,5 +1,4 @@
-use Rattle.std.proofs.Common.{List, ℕ, None, map, drop, string_bytes}
-use Rattle.gate_words.specs.Options.{Setting}
+use Rattle.std.proofs.Common.{None, map, drop, string_bytes, ◌∙◌}
 use Rattle.gate_words.specs.Task.{ServesAt}
 use Rattle.gate_words.specs.reading.Lent.{place_in, setting_in}
 use Rattle.gate_words.proofs.ClapTasks.{serve-meant, serve-none, serve-rows, serve-takes}
@@ -12,9 +11,9 @@ returns-in-Ok-clause-ok c =
     let settings = map setting_in c.args.settings.now in
     let words = map string_bytes c.args.words.now in
     let place = place_in c.in-Some._place in
-    let listen = c.in-Some-2._listen.now in
-    let count = c.in-Some-3._connections in
-    let means : ServesAt settings place listen count = record { names = c.in-Some.ensures.some; listens = c.in-Some-2.ensures.some; counts = c.in-Some-3.ensures.some } in
+    let listen = c.in-Some-single._listen.now in
+    let count = c.in-Some-connections_in._connections in
+    let means : ServesAt settings place listen count = record { names = c.in-Some.ensures.some; listens = c.in-Some-single.ensures.some; counts = c.in-Some-connections_in.ensures.some } in
     let spelled = spelled-from (drop 1 words) None settings c.requires.spelled in
     let rows = c.in-Ok.ensures.found ∙ serve-rows words settings place listen count spelled means in
     ok-then c.serve_found.result c.serve_found.ensures.ok (λ task given. serve-meant settings c.in-Ok.matches place listen count rows means task given)
@@ -24,9 +23,9 @@ returns-in-Ok-clause-refused c =
     let settings = map setting_in c.args.settings.now in
     let words = map string_bytes c.args.words.now in
     let place = place_in c.in-Some._place in
-    let listen = c.in-Some-2._listen.now in
-    let count = c.in-Some-3._connections in
-    let means : ServesAt settings place listen count = record { names = c.in-Some.ensures.some; listens = c.in-Some-2.ensures.some; counts = c.in-Some-3.ensures.some } in
+    let listen = c.in-Some-single._listen.now in
+    let count = c.in-Some-connections_in._connections in
+    let means : ServesAt settings place listen count = record { names = c.in-Some.ensures.some; listens = c.in-Some-single.ensures.some; counts = c.in-Some-connections_in.ensures.some } in
     let spelled = spelled-from (drop 1 words) None settings c.requires.spelled in
     let rows = c.in-Ok.ensures.found ∙ serve-rows words settings place listen count spelled means in
     err-then c.serve_found.result c.serve_found.ensures.refused (λ error none is. serve-none settings c.in-Ok.matches rows (none is))
@@ -36,8 +35,8 @@ returns-in-Err-clause-refused c = λ is.
     let settings = map setting_in c.args.settings.now in
     let words = map string_bytes c.args.words.now in
     let place = place_in c.in-Some._place in
-    let listen = c.in-Some-2._listen.now in
-    let count = c.in-Some-3._connections in
-    let means : ServesAt settings place listen count = record { names = c.in-Some.ensures.some; listens = c.in-Some-2.ensures.some; counts = c.in-Some-3.ensures.some } in
+    let listen = c.in-Some-single._listen.now in
+    let count = c.in-Some-connections_in._connections in
+    let means : ServesAt settings place listen count = record { names = c.in-Some.ensures.some; listens = c.in-Some-single.ensures.some; counts = c.in-Some-connections_in.ensures.some } in
     let spelled = spelled-from (drop 1 words) None settings c.requires.spelled in
     absurd (c.in-Err.ensures.refused is (serve-takes words settings place listen count spelled means))
