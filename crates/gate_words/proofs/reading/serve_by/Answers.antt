@@ -13,7 +13,8 @@ returns-in-Ok-clause-ok c =
     let place = place_in c.in-Some._place in
     let listen = c.in-Some-single._listen.now in
     let count = c.in-Some-connections_in._connections in
-    let means : ServesAt settings place listen count = record { names = c.in-Some.ensures.some; listens = c.in-Some-single.ensures.some; counts = c.in-Some-connections_in.ensures.some } in
+    let means : ServesAt settings place listen count =
+    record { names = c.in-Some.ensures.some; listens = c.in-Some-single.ensures.some; counts = c.in-Some-connections_in.ensures.some } in
     let spelled = spelled-from (drop 1 words) None settings c.requires.spelled in
     let rows = c.in-Ok.ensures.found ∙ serve-rows words settings place listen count spelled means in
     ok-then c.serve_found.result c.serve_found.ensures.ok (λ task given. serve-meant settings c.in-Ok.matches place listen count rows means task given)
@@ -25,7 +26,8 @@ returns-in-Ok-clause-refused c =
     let place = place_in c.in-Some._place in
     let listen = c.in-Some-single._listen.now in
     let count = c.in-Some-connections_in._connections in
-    let means : ServesAt settings place listen count = record { names = c.in-Some.ensures.some; listens = c.in-Some-single.ensures.some; counts = c.in-Some-connections_in.ensures.some } in
+    let means : ServesAt settings place listen count =
+    record { names = c.in-Some.ensures.some; listens = c.in-Some-single.ensures.some; counts = c.in-Some-connections_in.ensures.some } in
     let spelled = spelled-from (drop 1 words) None settings c.requires.spelled in
     let rows = c.in-Ok.ensures.found ∙ serve-rows words settings place listen count spelled means in
     err-then c.serve_found.result c.serve_found.ensures.refused (λ error none is. serve-none settings c.in-Ok.matches rows (none is))
@@ -37,6 +39,7 @@ returns-in-Err-clause-refused c = λ is.
     let place = place_in c.in-Some._place in
     let listen = c.in-Some-single._listen.now in
     let count = c.in-Some-connections_in._connections in
-    let means : ServesAt settings place listen count = record { names = c.in-Some.ensures.some; listens = c.in-Some-single.ensures.some; counts = c.in-Some-connections_in.ensures.some } in
+    let means : ServesAt settings place listen count =
+    record { names = c.in-Some.ensures.some; listens = c.in-Some-single.ensures.some; counts = c.in-Some-connections_in.ensures.some } in
     let spelled = spelled-from (drop 1 words) None settings c.requires.spelled in
     absurd (c.in-Err.ensures.refused is (serve-takes words settings place listen count spelled means))
