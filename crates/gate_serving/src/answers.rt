@@ -21,7 +21,8 @@ use http::StatusCode;
 use http_door::{MAX_REQUEST_OCTETS, download_media, json_media, problem_media};
 use http_service::Refusal;
 use jmap_core::{
-    LimitName, MAX_SIZE_REQUEST, MAX_SIZE_UPLOAD, Request, RequestError, problem_text, response_text, session_object, session_state,
+    LimitName, MAX_SIZE_REQUEST, MAX_SIZE_UPLOAD, Request, RequestError, problem_text,
+    response_text, session_object, session_state,
 };
 use serde_json::{Value, json};
 use std::alloc::{AllocError, Global};

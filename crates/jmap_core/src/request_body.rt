@@ -13,8 +13,8 @@ ghost use Rattle.jmap_core.specs.declared.request.RequestError.TheVariants.{Memo
 use crate::call::Call;
 use crate::created_ids::CreatedIds;
 use crate::request::{LimitName, Request, RequestError};
-use jmap_methods::{Using, texts_in};
 use gate_world::Text;
+use jmap_methods::{Using, texts_in};
 use serde_json::{Map, Value};
 use std::alloc::{AllocError, Global};
 

@@ -1,6 +1,7 @@
 // Requests: each refusal, beside the next one in their order, and limits at the edge.
 use jmap_core::{
-    Call, CreatedIds, Request, problem_status, problem_text, read_request, response_text, session_object,
+    Call, CreatedIds, Request, problem_status, problem_text, read_request, response_text,
+    session_object,
 };
 use std::alloc::Global;
 use std::process::Abort;
