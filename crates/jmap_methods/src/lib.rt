@@ -1,10 +1,13 @@
 //! What methods of JMAP share (RFC 8620): their names, errors and arguments, the states of types, and Core/echo.
 #![tactic(auto)]
 
-mod arguments;
-mod core_echo;
+// Calls.
 mod method;
 mod method_error;
+
+// Arguments and answers.
+mod arguments;
+mod core_echo;
 mod state;
 
 pub use arguments::{
