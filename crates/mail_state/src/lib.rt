@@ -4,6 +4,7 @@
 mod error;
 pub mod laws;
 mod lists;
+mod mailboxes;
 mod rows;
 mod state;
 mod threads;
