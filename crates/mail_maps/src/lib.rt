@@ -19,6 +19,7 @@ mod rights;
 mod roles;
 mod tally;
 mod threads;
+pub mod laws;
 
 pub use envelope::{Envelope, Party};
 pub use header::read_envelope;

@@ -1,21 +1,17 @@
 -- A Thread in which no Email comes or goes stays as it is, so Threads that are touched alone are gathered anew.
 use Rattle.std.proofs.Common.{◌≡◌, ℕ, ℤ, ◌<◌, List, [], ◌∷◌, ◌++◌, Bool, true, false, not, ◌&&◌, ◌||◌, cond, nat_eq, map, filter, refl, sym, ap, ◌∙◌, subst, nat_cmp, Option, Some}
 use Rattle.std.proofs.Common.{None, is_some, eq-eqb, arith, ◌+◌, drop, get_or, length, add-one, suc}
-use Rattle.std.specs.declared.cmp.Ordering.{Ordering}
-use Rattle.std.specs.declared.cmp.Ordering.TheVariants.{Less, Equal, Greater}
 use Rattle.std.specs.BTreeMap.{is_at}
-use Rattle.std.specs.BTreeSet.{BTreeSet, contains, insert_key}
+use Rattle.std.specs.BTreeSet.{BTreeSet, contains}
 use Rattle.std.specs.List.{list_any}
 use Rattle.std.specs.List.Sorted.{IsStrictlySortedBy}
 use Rattle.std.specs.Map.{keys_of}
 use Rattle.std.specs.Option.{option_map}
-use Rattle.std.specs.Ordering.{match_ordering, int_cmp}
 use Rattle.std.proofs.Math.Seq.{drop-cons}
 use Rattle.std.proofs.lemmas.Grind.{common_steps}
 use Rattle.std.proofs.lemmas.List.{append-nil}
 use Rattle.std.proofs.lemmas.List.Elements.{filter-append}
 use Rattle.std.proofs.lemmas.List.Folds.{list_any-append}
-use Rattle.std.proofs.lemmas.Map.Lookups.{exact_pairs, exact_signed, exact_unsigned}
 use Rattle.change_list.specs.Advance.{row_at, advance_entries}
 use Rattle.change_list.specs.Touches.{leaves}
 use Rattle.change_list.specs.declared.entries.Entry.{Entry}
@@ -27,6 +23,7 @@ use Rattle.mail_maps.specs.Keywords.{sorted_into}
 use Rattle.mail_maps.specs.Threads.{pair_cmp, pairs_in, emails_in, threads_of, where_any, thread_at}
 use Rattle.mail_maps.specs.Serve.{thread_of, thread_tests, same_thread, never}
 use Rattle.mail_maps.specs.Visible.{Placed, shown}
+use Rattle.mail_maps.proofs.MemberLemmas.{any_email}
 use Rattle.mail_maps.proofs.ThreadLemmas.{threads_at, threads_sorted, sorted_same}
 use Rattle.mail_rows.specs.NumberedRows.{NumberedRows}
 use Rattle.mail_rows.specs.Remaining.{updated, put_remaining, remaining}
@@ -55,28 +52,6 @@ any_same : {X : Type 0} (f g : X → Bool) → ((x : X) → f x ≡ g x) → (xs
 any_same f g same [] = refl
 any_same f g same (x ∷ xs) = ap (λ (b : Bool). b || list_any f xs) (same x) ∙ ap (λ (b : Bool). g x || b) (any_same f g same xs)
 
-any_mapped : {X Y : Type 0} (f : Y → Bool) (g : X → Y) (xs : List X) → list_any f (map g xs) ≡ list_any (λ x. f (g x)) xs
-any_mapped f g [] = refl
-any_mapped f g (x ∷ xs) = ap (λ (b : Bool). f (g x) || b) (any_mapped f g xs)
-
--- ---- the Emails of a Thread, whatever their order
-
-twice : (a b : Bool) → (a || b) ≡ (a || (a || b))
-twice true b = refl
-twice false b = refl
-
-swap : (a b c : Bool) → (a || (b || c)) ≡ (b || (a || c))
-swap true true c = refl
-swap true false c = refl
-swap false true c = refl
-swap false false c = refl
-
-either_way : (a b c : Bool) → ((a || b) || c) ≡ (b || (a || c))
-either_way true true c = refl
-either_way true false c = refl
-either_way false true c = refl
-either_way false false c = refl
-
 or_with : (a b : Bool) → b ≡ true → (a || b) ≡ true
 or_with true b e = refl
 or_with false b e = e
@@ -85,27 +60,8 @@ or_none : (b : Bool) → b ≡ (b || false)
 or_none true = refl
 or_none false = refl
 
-module _ (f : ℤ × ℕ → Bool) where
-  any_put : (xs : List (ℤ × ℕ)) (k : ℤ × ℕ) → list_any f (insert_key pair_cmp xs k) ≡ (f k || list_any f xs)
-  any_put [] k = refl
-  any_put (x ∷ xs) k = by (pair_cmp k x) refl (any_put xs k)
-    where
-      by : (r : Ordering) → pair_cmp k x ≡ r → list_any f (insert_key pair_cmp xs k) ≡ (f k || list_any f xs)
-          → list_any f (match_ordering r (k ∷ x ∷ xs) (x ∷ xs) (x ∷ insert_key pair_cmp xs k)) ≡ (f k || (f x || list_any f xs))
-      by Less e g = refl
-      by Equal e g = twice (f x) (list_any f xs) ∙ ap (λ (p : ℤ × ℕ). f p || (f x || list_any f xs)) (sym (exact_pairs int_cmp nat_cmp exact_signed exact_unsigned k x e))
-      by Greater e g = ap (λ (b : Bool). f x || b) g ∙ swap (f x) (f k) (list_any f xs)
-
-  any_sorted : (before xs : List (ℤ × ℕ)) → list_any f (sorted_into pair_cmp before xs) ≡ (list_any f before || list_any f xs)
-  any_sorted before [] = or_none (list_any f before)
-  any_sorted before (x ∷ xs) =
-      any_sorted (insert_key pair_cmp before x) xs ∙ ap (λ (b : Bool). b || list_any f xs) (any_put before x) ∙ either_way (f x) (list_any f before) (list_any f xs)
-
 abbrev number_of : ℤ × ℕ → ℕ
 number_of p = p.1
-
-any_email : (f : ℕ → Bool) (rows : Rows) (t : ℕ) → list_any f (emails_in rows t) ≡ list_any (λ (p : ℤ × ℕ). f p.1) (pairs_in rows t)
-any_email f rows t = any_mapped f number_of (sorted_into pair_cmp [] (pairs_in rows t)) ∙ any_sorted (λ (p : ℤ × ℕ). f p.1) [] (pairs_in rows t)
 
 -- ---- what is said of all Threads is said of one
 

@@ -1,7 +1,5 @@
 // Mailboxes as Emails and folders change.
 ghost use Rattle.std.specs.Prelude.{◌≡◌, ◌↔◌, IfOk, IsTrue};
-ghost use Rattle.told_folder.specs.Folders.{folder_number};
-ghost use Rattle.told_folder.specs.Keyed.{Ascends};
 ghost use Rattle.mail_state.specs.reading.Boxes.{BoxesStay, StepsMailboxes, stripped, stripped_folders};
 
 use change_list::Entry;
@@ -10,6 +8,7 @@ use served_maps::steps::steps_between;
 use std::alloc::{AllocError, Global};
 use std::collections::BTreeMap;
 use told_folder::{Folder, Held};
+use told_mail::Mirror;
 
 /// A folder without what no Mailbox shows of it. Its octets are shared.
 fn stripped_of(alloc: Global, folder: &Folder) -> Result<Folder, AllocError>
@@ -52,21 +51,20 @@ pub fn follow_mailboxes(
     alloc: Global,
     kept: Vec<Folder>,
     old: BTreeMap<u64, MailboxRow>,
-    folders: &[Held],
+    mirror: &Mirror,
     emails: &BTreeMap<u64, EmailRow>,
     touches: &[Entry],
 ) -> Result<(BTreeMap<u64, MailboxRow>, Vec<Entry>, Vec<Folder>), AllocError>
-    requires { Ascends folder_number folders.now }
     ensures steps { IfOk result (λ r. BoxesStay old.entries kept.items emails.now.entries touches.now
-        → StepsMailboxes old.entries folders.now emails.now.entries r.0.entries r.1.items) }
-    ensures folders { IfOk result (λ r. r.2.items ≡ stripped_folders folders.now) }
+        → StepsMailboxes old.entries mirror.now.mail.folders emails.now.entries r.0.entries r.1.items) }
+    ensures folders { IfOk result (λ r. r.2.items ≡ stripped_folders mirror.now.mail.folders) }
 {
-    let stripped = strip(alloc, folders)?;
+    let stripped = strip(alloc, mirror.folders())?;
     let _count = old.len();
     if touches.is_empty() && are_same(stripped.as_slice(), kept.as_slice()) {
         return Ok((old, Vec::new(alloc), stripped));
     }
-    let mailboxes = mailboxes_of(alloc, folders, emails)?;
+    let mailboxes = mailboxes_of(alloc, mirror, emails)?;
     let steps = steps_between(alloc, &old, &mailboxes)?;
     Ok((mailboxes, steps, stripped))
 }

@@ -76,7 +76,7 @@ impl TypeRows {
             alloc,
             old_folders,
             old_mailboxes,
-            mirror.folders(),
+            mirror,
             emails.rows(),
             email.as_slice(),
         )?;
