@@ -8,7 +8,6 @@ use Rattle.std.specs.List.Sorted.{IsStrictlySortedBy}
 use Rattle.std.specs.Map.{keys_of}
 use Rattle.std.specs.Option.{option_map}
 use Rattle.std.proofs.Math.Seq.{drop-cons}
-use Rattle.std.proofs.lemmas.Grind.{common_steps}
 use Rattle.std.proofs.lemmas.List.{append-nil}
 use Rattle.std.proofs.lemmas.List.Elements.{filter-append}
 use Rattle.std.proofs.lemmas.List.Folds.{list_any-append}
@@ -24,7 +23,7 @@ use Rattle.mail_maps.specs.Threads.{pair_cmp, pairs_in, emails_in, threads_of, w
 use Rattle.mail_maps.specs.Serve.{thread_of, thread_tests, same_thread, never}
 use Rattle.mail_maps.specs.Visible.{Placed, shown}
 use Rattle.mail_maps.proofs.MemberLemmas.{any_email}
-use Rattle.mail_maps.proofs.ThreadLemmas.{threads_at, threads_sorted, sorted_same}
+use Rattle.mail_maps.proofs.ThreadLemmas.{key_test, threads_at, threads_sorted, sorted_same}
 use Rattle.mail_rows.specs.NumberedRows.{NumberedRows}
 use Rattle.mail_rows.specs.Remaining.{updated, put_remaining, remaining}
 use Rattle.mail_rows.specs.Taking.{TakesMail, left, arrivals}
@@ -64,9 +63,6 @@ abbrev number_of : ℤ × ℕ → ℕ
 number_of p = p.1
 
 -- ---- what is said of all Threads is said of one
-
-key_test : (q k : ℕ) → is_at (nat_cmp q) k ≡ nat_eq k q
-key_test q k = grind (arith, common_steps)
 
 one_of : (f : List ℕ → Bool) (threads : List (ℕ × List ℕ)) (t : ℕ) (v : List ℕ) → list_any (λ (d : ℕ × List ℕ). nat_eq d.0 t && f d.1) threads ≡ false → row_at threads t ≡ Some v
     → f v ≡ false

@@ -17,7 +17,8 @@ use Rattle.std.proofs.lemmas.Map.Keys.{sorted_head, sorted_tail}
 use Rattle.change_list.specs.Advance.{Tests, row_at, counts_if, differs, is_gone, is_changed, advance_entries}
 use Rattle.change_list.specs.declared.entries.Entry.{Entry}
 use Rattle.change_list.specs.declared.entries.Kind.TheVariants.{Added, Changed, Removed}
-use Rattle.served_maps.specs.Among.{then_at, goes, tested, is_other, change_at, removal_at, addition_at, value_put}
+use Rattle.served_maps.specs.Among.{then_at}
+use Rattle.served_maps.specs.reading.AmongSteps.{goes, tested, is_other, change_at, removal_at, addition_at, value_put}
 
 -- ---- numbers in order
 

@@ -1,42 +1,9 @@
--- Steps from one map to the next where rows differ at some ids alone: at these the next map has what is fresh, and elsewhere what it had.
-use Rattle.std.specs.Prelude.{ℕ, ◌==◌, List, [], ◌∷◌, Bool, false, not, ◌&&◌, cond, if◌then◌else◌, is_some, Option, Some, None}
+-- Rows that differ at some ids alone: at these the next map has what is fresh, and elsewhere what it had.
+use Rattle.std.specs.Prelude.{ℕ, List, cond, Option}
 use Rattle.std.specs.BTreeSet.{BTreeSet, contains}
 use Rattle.std.specs.Ordering.{nat_cmp}
-use Rattle.change_list.specs.Advance.{row_at, counts_if, differs}
-use Rattle.change_list.specs.declared.entries.Entry.{Entry}
-use Rattle.change_list.specs.declared.entries.Kind.TheVariants.{Added, Changed, Removed}
+use Rattle.change_list.specs.Advance.{row_at}
 
-module _ {R : Type 0} where
-  -- what an id has then
-  abbrev pub then_at : BTreeSet ℕ → List (ℕ × R) → List (ℕ × R) → ℕ → Option R
-  then_at among old fresh q = cond (contains nat_cmp among q) (row_at fresh q) (row_at old q)
-
-  -- ---- at one of the ids
-
-  -- whether the id is in the one map, and not in the other
-  abbrev pub goes : List (ℕ × R) → List (ℕ × R) → ℕ → Bool
-  goes old fresh q = is_some (row_at old q) && not (is_some (row_at fresh q))
-
-  -- by a test of the row before and the row then, where both are there
-  abbrev pub tested : (Option R → R → Bool) → Option R → Option R → Bool
-  tested test o None = false
-  tested test o (Some v) = test o v
-
-  abbrev pub is_other : (R → R → Bool) → List (ℕ × R) → List (ℕ × R) → ℕ → Bool
-  is_other same old fresh q = tested (differs same) (row_at old q) (row_at fresh q)
-
-  -- ---- its entry
-
-  abbrev pub change_at : (R → R → Bool) → List (ℕ × R) → List (ℕ × R) → ℕ → Entry
-  change_at counts old fresh q = record { id = q; kind = Changed; counts_only = tested (counts_if counts) (row_at old q) (row_at fresh q) }
-
-abbrev pub removal_at : ℕ → Entry
-removal_at q = record { id = q; kind = Removed; counts_only = false }
-
-abbrev pub addition_at : ℕ → Entry
-addition_at q = record { id = q; kind = Added; counts_only = false }
-
--- what an id has after these rows were put in one after the other
-abbrev pub value_put : {R : Type 0} → Option R → List (ℕ × R) → ℕ → Option R
-value_put was [] q = was
-value_put was (e ∷ es) q = value_put (if e.0 == q then Some e.1 else was) es q
+-- what an id has then
+abbrev pub then_at : {R : Type 0} → BTreeSet ℕ → List (ℕ × R) → List (ℕ × R) → ℕ → Option R
+then_at ids old fresh q = cond (contains nat_cmp ids q) (row_at fresh q) (row_at old q)

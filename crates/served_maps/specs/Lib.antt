@@ -1,3 +1,3 @@
 pub mod Past
-pub mod Steps
 pub mod Among
+pub mod reading

@@ -6,7 +6,8 @@ ghost use Rattle.std.specs.List.Sorted.{IsStrictlySortedBy};
 ghost use Rattle.std.specs.Map.{keys_of};
 ghost use Rattle.std.specs.Ordering.{nat_cmp};
 ghost use Rattle.change_list.specs.Advance.{row_at, differs, counts_if, advance_entries};
-ghost use Rattle.served_maps.specs.Among as at_ids;
+ghost use Rattle.served_maps.specs.Among.{then_at};
+ghost use Rattle.served_maps.specs.reading.AmongSteps as at_ids;
 
 use crate::Row;
 use crate::steps::joined;
@@ -43,7 +44,7 @@ pub fn updated<R: Drop>(
     fresh: BTreeMap<u64, R>,
 ) -> Result<BTreeMap<u64, R>, AllocError>
     ensures { IfOk result (λ rows. ((q : ℕ) → contains nat_cmp ids.now q ≡ false → row_at fresh.entries q ≡ None)
-        → (q : ℕ) → row_at rows.entries q ≡ at_ids.then_at ids.now old.entries fresh.entries q) }
+        → (q : ℕ) → row_at rows.entries q ≡ then_at ids.now old.entries fresh.entries q) }
 {
     let mut rows = old;
     let _count = fresh.len();
@@ -152,7 +153,7 @@ pub fn steps_among<R: Row>(
     ids: &BTreeSet<u64>,
 ) -> Result<Vec<Entry>, AllocError>
     ensures { IfOk result (λ v. (new : List (ℕ × R)) → IsStrictlySortedBy nat_cmp (keys_of new)
-        → ((q : ℕ) → row_at new q ≡ at_ids.then_at ids.now old.now.entries fresh.now.entries q)
+        → ((q : ℕ) → row_at new q ≡ then_at ids.now old.now.entries fresh.now.entries q)
         → ((row : R) → R.same row row ≡ true)
         → v.items ≡ advance_entries (record { same = R.same; counts = R.but_for_counts }) old.now.entries new) }
 {

@@ -1,6 +1,6 @@
 use Rattle.std.proofs.Common.{◌≡◌, ℕ, nat_cmp}
 use Rattle.std.specs.BTreeMap.{get}
-use Rattle.served_maps.specs.Among.{value_put}
+use Rattle.served_maps.specs.reading.AmongSteps.{value_put}
 use Rattle.served_maps.proofs.among.put_rows.Given as goal
 
 abbrev pub invariant-loop-id : goal.invariant-loop-id
