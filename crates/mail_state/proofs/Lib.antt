@@ -8,3 +8,5 @@ mod TouchedThreads
 mod KeptMailboxes
 mod SoundLemmas
 mod FollowLemmas
+mod StayLemmas
+mod ValidityLemmas
