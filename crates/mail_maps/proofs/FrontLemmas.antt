@@ -150,7 +150,7 @@ one_folder hs a b up differ i j same =
     let x = in_held hs a up i in
     let y = in_held hs b up j in
     let number : folder_number x.0 ≡ folder_number y.0 =
-        differ (folder_number x.0) (folder_number y.0) x.0 y.0 x.1 y.1 (ap (λ (f : Folder). f.name) x.2 ∙ same ∙ ap (λ (f : Folder). f.name) (sym y.2)) in
+    differ (folder_number x.0) (folder_number y.0) x.0 y.0 x.1 y.1 (ap (λ (f : Folder). f.name) x.2 ∙ same ∙ ap (λ (f : Folder). f.name) (sym y.2)) in
     let held : x.0 ≡ y.0 = some_same _ _ (sym x.1 ∙ ap (held_in hs) number ∙ y.1) in
     sym x.2 ∙ ap (λ (k : Held). k.folder) held ∙ y.2
 

@@ -84,7 +84,7 @@ module _ (f : Folder) (role : Role) (told : role_told f ≡ Some role) where
       let number : x.folder.number ≡ f.number = ap (λ (g : Folder). g.number) here in
       let above : AllAbove folder_number f.number hs = subst (λ (k : ℕ). AllAbove folder_number k hs) number up.0 in
       sym (ap (λ (b : Bool). (b && same_role (role_told x.folder) (role_told f)) || list_any (test f) (folders_of hs))
-          (not_less f.number x.folder.number (omega (arith, number)))
+      (not_less f.number x.folder.number (omega (arith, number)))
       ∙ none_later f hs above)
   taken_before (x ∷ hs) (suc i) held rest same up is =
       let less : x.folder.number < f.number = subst (λ (g : Folder). x.folder.number < g.number) same (above_found x.folder.number i hs held rest up.0 is) in

@@ -19,6 +19,8 @@ mod rights;
 mod roles;
 mod tally;
 mod threads;
+
+// Laws.
 pub mod laws;
 
 pub use envelope::{Envelope, Party};

@@ -109,7 +109,7 @@ listed_place list p is = is.place ∙ length-entries_from (λ _. None) p.touches
 fits : (list : Kept) (touches : List Entry) → full_place list touches ≡ None → list.place + length touches ≤ MAX_PLACE
 fits list touches none =
     elim (ltb MAX_PLACE (list.place + length touches)) as (λ (b : Bool). ltb MAX_PLACE (list.place + length touches) ≡ b → (if b then Some list.place else None) ≡ None
-        → list.place + length touches ≤ MAX_PLACE) [
+    → list.place + length touches ≤ MAX_PLACE) [
       | true ↦ λ t e. absurd (let f : Some list.place ≡ None = e in cc)
       | false ↦ λ t e. ltb-false _ _ t
     ] refl none

@@ -46,7 +46,7 @@ strip_filter : (f : Folder) (fs : List Folder) → filter (is_above (stripped f)
 strip_filter f [] = refl
 strip_filter f (g ∷ fs) =
     elim (is_above f g) as (λ (b : Bool). cond b (stripped g ∷ filter (is_above (stripped f)) (map stripped fs)) (filter (is_above (stripped f)) (map stripped fs))
-        ≡ map stripped (cond b (g ∷ filter (is_above f) fs) (filter (is_above f) fs))) [
+    ≡ map stripped (cond b (g ∷ filter (is_above f) fs) (filter (is_above f) fs))) [
       | true ↦ ap (λ (gs : List Folder). stripped g ∷ gs) (strip_filter f fs)
       | false ↦ strip_filter f fs
     ]
@@ -81,11 +81,19 @@ role_where taken f = if taken then None else role_told f
 -- a Mailbox of stripped folders is that of the folders
 strip_row : (fs : List Folder) (f : Folder) (c : FolderCounts) → row_with (map stripped fs) (stripped f) c ≡ row_with fs f c
 strip_row fs f c =
-    ap (λ (p : Option Folder). record (row_with fs f c) { name = utf8_lossy (drop (parent_len p) f.name); parent = option_map (λ (g : Folder). g.number) p; role = role_where
-        (is_taken (map stripped fs) (stripped f)) f })
+    ap (λ (p : Option Folder). record (row_with fs f c) {
+      name = utf8_lossy (drop (parent_len p) f.name);
+      parent = option_map (λ (g : Folder). g.number) p;
+      role = role_where
+          (is_taken (map stripped fs) (stripped f)) f;
+    })
     (strip_parent fs f)
-    ∙ ap (λ (n : ℕ). record (row_with fs f c) { name = utf8_lossy (drop n f.name); parent = option_map (λ (g : Folder). g.number) (option_map stripped (parent_in fs f)); role =
-        role_where (is_taken (map stripped fs) (stripped f)) f })
+    ∙ ap (λ (n : ℕ). record (row_with fs f c) {
+      name = utf8_lossy (drop n f.name);
+      parent = option_map (λ (g : Folder). g.number) (option_map stripped (parent_in fs f));
+      role =
+          role_where (is_taken (map stripped fs) (stripped f)) f;
+    })
     (strip_len (parent_in fs f))
     ∙ ap (λ (n : Option ℕ). record (row_with fs f c) { parent = n; role = role_where (is_taken (map stripped fs) (stripped f)) f }) (strip_number (parent_in fs f))
     ∙ ap (λ (b : Bool). record (row_with fs f c) { role = role_where b f }) (strip_taken fs f)
@@ -96,7 +104,7 @@ strip_each : (fs : List Folder) (rows : Rows) (gs : List Folder)
 strip_each fs rows [] = refl
 strip_each fs rows (g ∷ gs) =
     ap (λ (r : MailboxRow). (g.number, r) ∷ map {B = ℕ × MailboxRow} (λ (f : Folder). (f.number, mailbox_row (map stripped fs) rows f)) (map stripped gs))
-        (strip_row fs g (counts_in rows g.number))
+    (strip_row fs g (counts_in rows g.number))
     ∙ ap (λ (es : List (ℕ × MailboxRow)). (g.number, mailbox_row fs rows g) ∷ es) (strip_each fs rows gs)
 
 -- the Mailboxes of stripped folders are those of the folders
@@ -148,7 +156,7 @@ threads_like f g same (a ∷ xs) [] l = absurd l
 threads_like f g same (a ∷ xs) (b ∷ ys) l =
     ap (λ (t : Bool). map (λ (e : ℕ × EmailRow). e.1.thread) (cond t (a ∷ filter f xs) (filter f xs))) (same a b l.0)
     ∙ elim (g b) as (λ (t : Bool). map (λ (e : ℕ × EmailRow). e.1.thread) (cond t (a ∷ filter f xs) (filter f xs)) ≡ map (λ (e : ℕ × EmailRow). e.1.thread)
-        (cond t (b ∷ filter g ys) (filter g ys))) [
+    (cond t (b ∷ filter g ys) (filter g ys))) [
       | true ↦ ap (λ (n : ℕ). n ∷ thread_numbers_in f xs) l.0.thread ∙ ap (λ (ns : List ℕ). b.1.thread ∷ ns) (threads_like f g same xs ys l.1)
       | false ↦ threads_like f g same xs ys l.1
     ]
@@ -164,7 +172,7 @@ there_and_unread_like xs ys all folder a b l =
     ap (λ (t : Bool). t && in_unread_thread xs a) (in_like folder a b l)
     ∙ ap (λ (t : Bool). in_folder folder b && t) (any_like (λ d. in_thread a.1.thread d && unread d) (λ d. in_thread b.1.thread d && unread d)
     (λ c d k. ap (λ (n : ℕ). nat_eq n a.1.thread && unread c) k.thread ∙ ap (λ (n : ℕ). nat_eq d.1.thread n && unread c) l.thread ∙ ap
-        (λ (t : Bool). nat_eq d.1.thread b.1.thread && t) (unread_like c d k)) xs ys all)
+    (λ (t : Bool). nat_eq d.1.thread b.1.thread && t) (unread_like c d k)) xs ys all)
 
 counts_same : (a b c d e f g h : ℕ) → a ≡ b → c ≡ d → e ≡ f → g ≡ h
     → ◌≡◌ {A = FolderCounts} (record { total_emails = a; unread_emails = c; total_threads = e; unread_threads = g })
@@ -176,10 +184,10 @@ counts_like : (xs ys : Rows) → AreLike xs ys → (folder : ℕ) → counts_in 
 counts_like xs ys all folder =
     let total = count_like (in_folder folder) (in_folder folder) (in_like folder) xs ys all in
     let unread_ones = count_like (λ e. in_folder folder e && unread e) (λ e. in_folder folder e && unread e)
-        (λ a b l. ap (λ (t : Bool). t && unread a) (in_like folder a b l) ∙ ap (λ (t : Bool). in_folder folder b && t) (unread_like a b l)) xs ys all in
+    (λ a b l. ap (λ (t : Bool). t && unread a) (in_like folder a b l) ∙ ap (λ (t : Bool). in_folder folder b && t) (unread_like a b l)) xs ys all in
     let threads = ap (λ (ns : List ℕ). length (distinct ns)) (threads_like (in_folder folder) (in_folder folder) (in_like folder) xs ys all) in
     let unread_in = ap (λ (ns : List ℕ). length (distinct ns))
-        (threads_like (λ e. in_folder folder e && in_unread_thread xs e) (λ e. in_folder folder e && in_unread_thread ys e) (there_and_unread_like xs ys all folder) xs ys all) in
+    (threads_like (λ e. in_folder folder e && in_unread_thread xs e) (λ e. in_folder folder e && in_unread_thread ys e) (there_and_unread_like xs ys all folder) xs ys all) in
     counts_same _ _ _ _ _ _ _ _ total unread_ones threads unread_in
 
 boxes_like : (fs gs : List Folder) (xs ys : Rows) → AreLike xs ys
@@ -246,11 +254,11 @@ mailboxes_kept n hs after kept before o takes was none =
     let more : Rows = added (left n hs) (arrivals n hs) takes.envelopes in
     let rows : after.rows ≡ remaining hs n.rows ++ more = ap (λ (x : NumberedRows). x.rows) takes.after_is ∙ rows_added (left n hs) (arrivals n hs) takes.envelopes in
     let touches : email_touches n.rows after.rows ≡ map touch_of_removal (gone_in hs n.rows) ++ (changes_in hs n.rows ++ map touch_of_addition (keys_of more)) =
-        ap (email_touches n.rows) rows ∙ touches_are hs n.rows more n.next o.sorted o.under (from_added (left n hs) (arrivals n hs) takes.envelopes) in
+    ap (email_touches n.rows) rows ∙ touches_are hs n.rows more n.next o.sorted o.under (from_added (left n hs) (arrivals n hs) takes.envelopes) in
     let first = no_parts (map touch_of_removal (gone_in hs n.rows)) (changes_in hs n.rows ++ map touch_of_addition (keys_of more)) (sym touches ∙ none) in
     let second = no_parts (changes_in hs n.rows) (map touch_of_addition (keys_of more)) first.1 in
     let is : remaining hs n.rows ≡ after.rows =
-        sym (rows ∙ ap (λ (xs : Rows). remaining hs n.rows ++ xs) (no_additions more second.1) ∙ append-nil (remaining hs n.rows)) in
+    sym (rows ∙ ap (λ (xs : Rows). remaining hs n.rows ++ xs) (no_additions more second.1) ∙ append-nil (remaining hs n.rows)) in
     let L : Rows → Type 0 = λ xs. AreLike n.rows xs in
     was ∙ boxes_like kept kept n.rows after.rows (subst L is (like_remaining hs n.rows (no_removals (gone_in hs n.rows) first.0) second.0))
 

@@ -167,10 +167,9 @@ told_folder_keeps c rs mark h up =
     let k : Held = selected_first c rs h in
     let first : IsBegun h k = begun_is c rs h in
     let begin : Keeps k.messages mark (telling_in mark k) =
-        record { up = first.up up; rises = omega arith; each = λ u x e. inl (record { was = x; there = e; same = self_same x }) } in
+    record { up = first.up up; rises = omega arith; each = λ u x e. inl (record { was = x; there = e; same = self_same x }) } in
     let told : Keeps k.messages mark (telling_by c rs mark h) = keeps_responses k.messages mark (adds c) (telling_in mark k) rs begin in
-    let after = keeps_after k.messages mark c rs (telling_by c rs mark h) told in
-    (
+    let after = keeps_after k.messages mark c rs (telling_by c rs mark h) told in (
       (λ u x e. elim (after.each u x e) [
         | inl a ↦ (let f = first.each u a.was a.there in inl (record { was = a.was; there = f.0; same = a.same }, f.1))
         | inr l ↦ inr l
@@ -371,7 +370,7 @@ all_more rs m [] = record { folders = self_stay m.folders; next_mark = refl }
 all_more rs m (name ∷ names) =
     let one : ListsOn m (with_new_folder m (line_for name rs)) = one_more m (line_for name rs) in
     let rest : ListsOn (with_new_folder m (line_for name rs)) (with_new_folders rs (with_new_folder m (line_for name rs)) names) =
-        all_more rs (with_new_folder m (line_for name rs)) names in
+    all_more rs (with_new_folder m (line_for name rs)) names in
     record {
       folders = stay_joins m.folders (with_new_folder m (line_for name rs)).folders (with_new_folders rs (with_new_folder m (line_for name rs)) names).folders one.folders rest.folders;
       next_mark = rest.next_mark ∙ one.next_mark;

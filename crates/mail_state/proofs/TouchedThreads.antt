@@ -99,9 +99,9 @@ all_removed hs f (e ∷ es) covers =
           ∙ removed_self e.0 (map touch_of_removal rest) e.0 refl)),
       all_removed hs f es (λ n later. covers n (elim (is_hidden hs e) as (λ (b : Bool).
           list_any (removes n) (map touch_of_removal (map gone_of (cond b (e ∷ filter (is_hidden hs) es) (filter (is_hidden hs) es)))) ≡ true) [
-        | true ↦ or_with (removes n (touch_of_removal (gone_of e))) (list_any (removes n) (map touch_of_removal rest)) later
-        | false ↦ later
-      ])),
+            | true ↦ or_with (removes n (touch_of_removal (gone_of e))) (list_any (removes n) (map touch_of_removal rest)) later
+            | false ↦ later
+          ])),
     )
 
 -- ---- so the Thread has the Emails that it had
@@ -125,7 +125,7 @@ module _ (hs : List Held) (f : ℕ → Bool) (t : ℕ) where
   none_later : (e : ℕ × EmailRow) (es : Rows) → any_of (e ∷ es) ≡ false → any_of es ≡ false
   none_later e es none =
       elim (nat_eq e.1.thread t) as (λ (b : Bool). list_any (λ (p : ℤ × ℕ). f p.1) (map pair_of (cond b (e ∷ filter (in_thread t) es) (filter (in_thread t) es))) ≡ false
-          → any_of es ≡ false) [
+      → any_of es ≡ false) [
         | true ↦ λ n. (neither (f e.0) (any_of es) n).1
         | false ↦ λ n. n
       ] none
@@ -197,22 +197,22 @@ others_stay n hs after o then takes t none =
     let rows : after.rows ≡ remaining hs n.rows ++ more = ap (λ (x : NumberedRows). x.rows) takes.after_is ∙ rows_added (left n hs) (arrivals n hs) takes.envelopes in
     let all : List Entry = removed_in hs n.rows ++ (changes_in hs n.rows ++ map touch_of_addition (keys_of more)) in
     let touches : email_touches n.rows after.rows ≡ all =
-        ap (email_touches n.rows) rows ∙ touches_are hs n.rows more n.next o.sorted o.under (from_added (left n hs) (arrivals n hs) takes.envelopes) in
+    ap (email_touches n.rows) rows ∙ touches_are hs n.rows more n.next o.sorted o.under (from_added (left n hs) (arrivals n hs) takes.envelopes) in
     let halves = neither (list_any (adds_to after.rows t) (email_touches n.rows after.rows)) (list_any (loses (email_touches n.rows after.rows) t) (threads_of n.rows)) none in
     let joins = none_of (adds_to after.rows t) (removed_in hs n.rows) (changes_in hs n.rows ++ map touch_of_addition (keys_of more))
-        (sym (ap (list_any (adds_to after.rows t)) touches) ∙ halves.0) in
+    (sym (ap (list_any (adds_to after.rows t)) touches) ∙ halves.0) in
     let none_added = (none_of (adds_to after.rows t) (changes_in hs n.rows) (map touch_of_addition (keys_of more)) joins.1).1 in
     let found : AllIn after.rows more =
-        let P : Rows → Type 0 = λ xs. AllIn after.rows xs in in_second after.rows (remaining hs n.rows) more (subst P rows (all_in after.rows then.sorted)) in
+    let P : Rows → Type 0 = λ xs. AllIn after.rows xs in in_second after.rows (remaining hs n.rows) more (subst P rows (all_in after.rows then.sorted)) in
     let f : ℕ → Bool = λ k. list_any (removes k) (email_touches n.rows after.rows) in
     let removed : AllRemoved hs f n.rows = all_removed hs f n.rows (λ k is. ap (list_any (removes k)) touches
-        ∙ list_any-append (removes k) (removed_in hs n.rows) (changes_in hs n.rows ++ map touch_of_addition (keys_of more))
-        ∙ ap (λ (b : Bool). b || list_any (removes k) (changes_in hs n.rows ++ map touch_of_addition (keys_of more))) is) in
+    ∙ list_any-append (removes k) (removed_in hs n.rows) (changes_in hs n.rows ++ map touch_of_addition (keys_of more))
+    ∙ ap (λ (b : Bool). b || list_any (removes k) (changes_in hs n.rows ++ map touch_of_addition (keys_of more))) is) in
     let lost : list_any (λ (p : ℤ × ℕ). f p.1) (pairs_in n.rows t) ≡ false = none_lost f n.rows t halves.1 in
     let pairs : pairs_in after.rows t ≡ pairs_in n.rows t =
-        ap (λ (xs : Rows). pairs_in xs t) rows ∙ pairs_joined (remaining hs n.rows) more t
-        ∙ ap (λ (ps : List (ℤ × ℕ)). pairs_in (remaining hs n.rows) t ++ ps) (none_joins after.rows t more found none_added)
-        ∙ append-nil (pairs_in (remaining hs n.rows) t) ∙ pairs_stay hs f t n.rows removed lost in
+    ap (λ (xs : Rows). pairs_in xs t) rows ∙ pairs_joined (remaining hs n.rows) more t
+    ∙ ap (λ (ps : List (ℤ × ℕ)). pairs_in (remaining hs n.rows) t ++ ps) (none_joins after.rows t more found none_added)
+    ∙ append-nil (pairs_in (remaining hs n.rows) t) ∙ pairs_stay hs f t n.rows removed lost in
     threads_at after.rows t ∙ same_thread_at after.rows n.rows t pairs ∙ sym (threads_at n.rows t)
 
 -- ---- one turn of a loop that notes what passes a test
@@ -244,16 +244,16 @@ pub steps_threads : (old fresh threads : List (ℕ × List ℕ)) (rows : Rows) (
     → ((t : ℕ) → row_at fresh t ≡ cond (contains nat_cmp among t) (thread_at rows t) None)
     → (((t : ℕ) → contains nat_cmp among t ≡ false → row_at fresh t ≡ None) → (t : ℕ) → row_at threads t ≡ cond (contains nat_cmp among t) (row_at fresh t) (row_at old t))
     → ((new : List (ℕ × List ℕ)) → IsStrictlySortedBy nat_cmp (keys_of new)
-        → ((t : ℕ) → row_at new t ≡ cond (contains nat_cmp among t) (row_at fresh t) (row_at old t)) → ((v : List ℕ) → same_thread v v ≡ true)
-        → steps ≡ advance_entries (record { same = same_thread; counts = never }) old new)
+    → ((t : ℕ) → row_at new t ≡ cond (contains nat_cmp among t) (row_at fresh t) (row_at old t)) → ((v : List ℕ) → same_thread v v ≡ true)
+    → steps ≡ advance_entries (record { same = same_thread; counts = never }) old new)
     → IsStrictlySortedBy nat_cmp (keys_of threads) → OthersStay old rows touches → StepsThreads old rows threads steps
 steps_threads old fresh threads rows touches steps among covers fresh_are updated_are steps_are sorted stay =
     let within : (t : ℕ) → contains nat_cmp among t ≡ false → row_at fresh t ≡ None = λ t is. fresh_are t ∙ ap (λ (b : Bool). cond b (thread_at rows t) None) is in
     let looked : (t : ℕ) → row_at (threads_of rows) t ≡ cond (contains nat_cmp among t) (row_at fresh t) (row_at old t) =
-        λ t. elim (contains nat_cmp among t) as (λ (b : Bool). contains nat_cmp among t ≡ b → row_at (threads_of rows) t ≡ cond b (row_at fresh t) (row_at old t)) [
-          | true ↦ λ is. threads_at rows t ∙ sym (fresh_are t ∙ ap (λ (b : Bool). cond b (thread_at rows t) None) is)
-          | false ↦ λ is. stay t (sym (covers t) ∙ is)
-        ] refl in
+    λ t. elim (contains nat_cmp among t) as (λ (b : Bool). contains nat_cmp among t ≡ b → row_at (threads_of rows) t ≡ cond b (row_at fresh t) (row_at old t)) [
+      | true ↦ λ is. threads_at rows t ∙ sym (fresh_are t ∙ ap (λ (b : Bool). cond b (thread_at rows t) None) is)
+      | false ↦ λ is. stay t (sym (covers t) ∙ is)
+    ] refl in
     let same : threads ≡ threads_of rows = sorted_same threads (threads_of rows) sorted (threads_sorted rows) (λ t. updated_are within t ∙ sym (looked t)) in
     record {
       threads = same;

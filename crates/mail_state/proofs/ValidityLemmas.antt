@@ -133,13 +133,13 @@ new_ids h after xs f g number row sound a was now other there =
     never : number < h.numbered.next → ⊥
     never under =
         let rest : IsRest m.folders (row_at h.numbered.rows number) row =
-            rest_of m.folders (row_at h.numbered.rows number) row (sym (taken_at h.numbered m.folders after.numbered (in_order h sound) a.takes number under) ∙ there) in
+        rest_of m.folders (row_at h.numbered.rows number) row (sym (taken_at h.numbered m.folders after.numbered (in_order h sound) a.takes number under) ∙ there) in
         let seen : IsVisibleOf m.folders rest.old.mark rest.message = visible_of m rest.old.mark rest.message is_mail rest.is_shown in
         let folder : rest.message.folder ≡ row.folder = ap (λ (r : EmailRow). r.folder) rest.now in
         let at : message_in m.folders row.folder rest.message.message.uid ≡ Some rest.message.message =
-            ap (λ (n : ℕ). message_in m.folders n rest.message.message.uid) (sym folder) ∙ seen.seen.at in
+        ap (λ (n : ℕ). message_in m.folders n rest.message.message.uid) (sym folder) ∙ seen.seen.at in
         let new : h.mail.next_mark ≤ rest.message.message.mark =
-            new_marks h.mail xs row.folder rest.message.message.uid f g rest.message.message sound.is_mail was folder_now other at in
+        new_marks h.mail xs row.folder rest.message.message.uid f g rest.message.message sound.is_mail was folder_now other at in
         let mark : rest.message.message.mark ≡ rest.old.mark = seen.marked in
         let known : is_some (shown h.mail.folders rest.old.mark) ≡ true = sym (sound.marks_shown rest.old.mark) ∙ known_row h.numbered.rows number rest.old rest.there in
         let hidden : shown h.mail.folders rest.old.mark ≡ None = never_shown h.mail rest.old.mark sound.is_mail (omega (arith, new, mark)) in

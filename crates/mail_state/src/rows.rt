@@ -80,8 +80,12 @@ impl TypeRows {
             emails.rows(),
             email.as_slice(),
         )?;
-        let (threads, thread) =
-            follow_threads(alloc, old_threads, emails.rows(), email.as_slice())?;
+        let (threads, thread) = follow_threads(
+            alloc,
+            old_threads,
+            emails.rows(),
+            email.as_slice(),
+        )?;
         let rows = TypeRows {
             emails,
             mailboxes,

@@ -250,17 +250,17 @@ module _ {R : Type 0} (tests : Tests R) (same : (v : R) → tests.same v v ≡ t
       ++ map addition_at (filter (goes fresh old) ids.keys)) ≡ advance_entries tests old new
   steps_are sorted old_sorted new_sorted =
       let removals : filter (goes old fresh) ids.keys ≡ keys_of (filter (is_gone new) old) =
-          same_numbers (filter (goes old fresh) ids.keys) (keys_of (filter (is_gone new) old)) (IsStrictlySortedBy-filter nat_cmp (goes old fresh) ids.keys sorted)
-              (kept_sorted (is_gone new) old old_sorted)
-          (λ q. filter_has (goes old fresh) ids.keys q ∙ removed_at q (contains nat_cmp ids q) refl (row_at old q) refl ∙ sym (kept_has (is_gone new) old old_sorted q)) in
+      same_numbers (filter (goes old fresh) ids.keys) (keys_of (filter (is_gone new) old)) (IsStrictlySortedBy-filter nat_cmp (goes old fresh) ids.keys sorted)
+      (kept_sorted (is_gone new) old old_sorted)
+      (λ q. filter_has (goes old fresh) ids.keys q ∙ removed_at q (contains nat_cmp ids q) refl (row_at old q) refl ∙ sym (kept_has (is_gone new) old old_sorted q)) in
       let changes : filter (is_other tests.same old fresh) ids.keys ≡ keys_of (filter (is_changed tests.same old) new) =
-          same_numbers (filter (is_other tests.same old fresh) ids.keys) (keys_of (filter (is_changed tests.same old) new))
-          (IsStrictlySortedBy-filter nat_cmp (is_other tests.same old fresh) ids.keys sorted) (kept_sorted (is_changed tests.same old) new new_sorted)
-          (λ q. filter_has (is_other tests.same old fresh) ids.keys q ∙ changed_at q (contains nat_cmp ids q) refl ∙ sym (kept_has (is_changed tests.same old) new new_sorted q)) in
+      same_numbers (filter (is_other tests.same old fresh) ids.keys) (keys_of (filter (is_changed tests.same old) new))
+      (IsStrictlySortedBy-filter nat_cmp (is_other tests.same old fresh) ids.keys sorted) (kept_sorted (is_changed tests.same old) new new_sorted)
+      (λ q. filter_has (is_other tests.same old fresh) ids.keys q ∙ changed_at q (contains nat_cmp ids q) refl ∙ sym (kept_has (is_changed tests.same old) new new_sorted q)) in
       let additions : filter (goes fresh old) ids.keys ≡ keys_of (filter (is_gone old) new) =
-          same_numbers (filter (goes fresh old) ids.keys) (keys_of (filter (is_gone old) new)) (IsStrictlySortedBy-filter nat_cmp (goes fresh old) ids.keys sorted)
-              (kept_sorted (is_gone old) new new_sorted)
-          (λ q. filter_has (goes fresh old) ids.keys q ∙ added_at q (contains nat_cmp ids q) refl ∙ sym (kept_has (is_gone old) new new_sorted q)) in
+      same_numbers (filter (goes fresh old) ids.keys) (keys_of (filter (is_gone old) new)) (IsStrictlySortedBy-filter nat_cmp (goes fresh old) ids.keys sorted)
+      (kept_sorted (is_gone old) new new_sorted)
+      (λ q. filter_has (goes fresh old) ids.keys q ∙ added_at q (contains nat_cmp ids q) refl ∙ sym (kept_has (is_gone old) new new_sorted q)) in
       joined _ _ _ _ _ _
       (ap (map removal_at) removals ∙ sym (by_number removal_at (filter (is_gone new) old)))
       (ap (map (change_at tests.counts old fresh)) changes ∙ sym (changes_by new (all_in new new_sorted)))
@@ -300,7 +300,7 @@ module _ {R : Type 0} where
       by : (b : Bool) → contains nat_cmp ids q ≡ b → option_or (row_at fresh q) (cond (contains nat_cmp ids q) None (row_at old q)) ≡ then_at ids old fresh q
       by true is =
           ap (λ (t : Bool). option_or (row_at fresh q) (cond t None (row_at old q))) is ∙ or_none (row_at fresh q) ∙ sym
-              (ap (λ (t : Bool). cond t (row_at fresh q) (row_at old q)) is)
+          (ap (λ (t : Bool). cond t (row_at fresh q) (row_at old q)) is)
       by false is =
           ap (λ (o : Option R). option_or o (cond (contains nat_cmp ids q) None (row_at old q))) (within q is)
           ∙ ap (λ (t : Bool). cond t None (row_at old q)) is ∙ sym (ap (λ (t : Bool). cond t (row_at fresh q) (row_at old q)) is)

@@ -25,10 +25,7 @@ fn clear_among<R: Drop>(rows: &mut BTreeMap<u64, R>, ids: &BTreeSet<u64>)
 }
 
 /// Puts these rows in.
-fn put_rows<R: Drop>(
-    rows: &mut BTreeMap<u64, R>,
-    fresh: BTreeMap<u64, R>,
-) -> Result<(), AllocError>
+fn put_rows<R: Drop>(rows: &mut BTreeMap<u64, R>, fresh: BTreeMap<u64, R>) -> Result<(), AllocError>
     ensures { OnOk result ((q : ℕ) → get nat_cmp rows.new q ≡ at_ids.value_put (get nat_cmp rows.old q) fresh.entries q) }
 {
     for (id, row) in fresh {

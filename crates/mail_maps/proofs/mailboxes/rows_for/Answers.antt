@@ -31,11 +31,11 @@ loop-held-preserved c =
     let within : i < length hs = omega (arith, c.loop-held-test.true) in
     let next : drop i hs ≡ held ∷ drop (i + 1) hs = rw add-one (drop-cons hs i held within ∙ ap (λ (x : Held). x ∷ drop (suc i) hs) (sym c.held-item.is)) in
     let value : c.in_ok-row.row ≡ F held.folder =
-        c.in_ok-row.ensures
-        ∙ ap (λ (xs : List Held). row_as (folders_of xs) held.folder c.in_ok-role.role c.counts_of-counts.result) (sym c.requires.folders)
-        ∙ ap (λ (role : Option Role). row_as (folders_of hs) held.folder role c.counts_of-counts.result)
-        (c.in_ok-role.ensures.role ∙ role_known hs i held (drop (i + 1) hs) c.loop-held.taken c.requires.ascend next c.loop-held.invariant.taken)
-        ∙ ap (row_with (folders_of hs) held.folder) (c.counts_of-counts.ensures ∙ ap counts_told (c.in_ok-tallies.ensures k ∙ counted_is rows k)) in
+    c.in_ok-row.ensures
+    ∙ ap (λ (xs : List Held). row_as (folders_of xs) held.folder c.in_ok-role.role c.counts_of-counts.result) (sym c.requires.folders)
+    ∙ ap (λ (role : Option Role). row_as (folders_of hs) held.folder role c.counts_of-counts.result)
+    (c.in_ok-role.ensures.role ∙ role_known hs i held (drop (i + 1) hs) c.loop-held.taken c.requires.ascend next c.loop-held.invariant.taken)
+    ∙ ap (row_with (folders_of hs) held.folder) (c.counts_of-counts.ensures ∙ ap counts_told (c.in_ok-tallies.ensures k ∙ counted_is rows k)) in
     record {
       rows = put_next (mailboxes_of hs rows) c.loop-held.rows.entries k (F held.folder) (by_number F (drop (i + 1) hs)) c.insert.new.self.entries
           (sorted_by_number F hs c.requires.ascend)

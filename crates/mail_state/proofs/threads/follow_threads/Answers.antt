@@ -9,5 +9,5 @@ returns-then-is_empty c = λ stay.
 pub returns : goal.returns
 returns c = λ stay.
     steps_threads c.args.old.entries c.in_ok-fresh.fresh.entries c.in_ok-threads.threads.entries c.args.emails.now.entries c.args.touches.now c.in_ok-steps.steps.items
-        c.in_ok-among.among
+    c.in_ok-among.among
     c.in_ok-among.ensures c.in_ok-fresh.ensures c.in_ok-threads.ensures c.in_ok-steps.ensures c.len-count.ensures.ordered stay
