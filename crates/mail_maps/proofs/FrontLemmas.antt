@@ -229,7 +229,8 @@ module _ (hs : List Held) (up : Ascends folder_number hs) (differ : NamesDiffer 
       by : (g : Bool) → goes_on d (drop n name) ≡ g → (o : Option Held) → named hs (take n name) ≡ o
           → option_or (if g then option_map (λ (h : Held). h.folder) o else None) (front_below hs name d n) ≡ longest None (filter below (folders_of hs))
       by false ends o is =
-          fronts_are n within_less (shorter n bound (λ h i t len. not_both (goes_on d (drop n name)) (ap (λ (m : ℕ). goes_on d (drop m name)) (sym len) ∙ (below_is name d h.name t).0) ends))
+          fronts_are n within_less
+          (shorter n bound (λ h i t len. not_both (goes_on d (drop n name)) (ap (λ (m : ℕ). goes_on d (drop m name)) (sym len) ∙ (below_is name d h.name t).0) ends))
       by true goes None is = fronts_are n within_less (shorter n bound (not_named n is))
       by true goes (Some k) is = found n k within_less goes is bound
 
@@ -260,7 +261,8 @@ unnamed : (hs : List Held) (q : List ℕ) → list_any (has_length (length q)) h
 unnamed [] q e = refl
 unnamed (h ∷ hs) q e =
     elim (is_same h.folder.name q) as (λ (b : Bool). is_same h.folder.name q ≡ b → (if b then Some h else named hs q) ≡ None) [
-      | true ↦ λ t. absurd (not_both (has_length (length q) h) (eq-eqb _ _ (ap length (same_name h.folder.name q t))) (neither (has_length (length q) h) (list_any (has_length (length q)) hs) e).0)
+      | true ↦ λ t. absurd (not_both (has_length (length q) h) (eq-eqb _ _ (ap length (same_name h.folder.name q t)))
+          (neither (has_length (length q) h) (list_any (has_length (length q)) hs) e).0)
       | false ↦ λ t. unnamed hs q (neither (has_length (length q) h) (list_any (has_length (length q)) hs) e).1
     ] refl
   where

@@ -63,10 +63,13 @@ number_of p = p.1
 pub any_email : (f : ℕ → Bool) (rows : Rows) (t : ℕ) → list_any f (emails_in rows t) ≡ list_any (λ (p : ℤ × ℕ). f p.1) (pairs_in rows t)
 any_email f rows t = any_mapped f number_of (sorted_into pair_cmp [] (pairs_in rows t)) ∙ any_sorted (λ (p : ℤ × ℕ). f p.1) [] (pairs_in rows t)
 
+abbrev pair_of : ℕ × EmailRow → ℤ × ℕ
+pair_of e = (e.1.received, e.0)
+
 any_row : (f : ℕ → Bool) (rows : Rows) (t : ℕ) → list_any (λ (p : ℤ × ℕ). f p.1) (pairs_in rows t) ≡ list_any (λ e. in_thread t e && f e.0) rows
 any_row f [] t = refl
 any_row f (e ∷ es) t =
-    elim (nat_eq e.1.thread t) as (λ (b : Bool). list_any (λ (p : ℤ × ℕ). f p.1) (map {B = ℤ × ℕ} (λ (d : ℕ × EmailRow). (d.1.received, d.0)) (cond b (e ∷ filter (in_thread t) es) (filter (in_thread t) es)))
+    elim (nat_eq e.1.thread t) as (λ (b : Bool). list_any (λ (p : ℤ × ℕ). f p.1) (map pair_of (cond b (e ∷ filter (in_thread t) es) (filter (in_thread t) es)))
     ≡ ((b && f e.0) || list_any (λ d. in_thread t d && f d.0) es)) [
       | true ↦ ap (λ (b : Bool). f e.0 || b) (any_row f es t)
       | false ↦ any_row f es t

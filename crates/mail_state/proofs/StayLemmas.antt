@@ -372,7 +372,9 @@ all_more rs m (name ∷ names) =
     let rest : ListsOn (with_new_folder m (line_for name rs)) (with_new_folders rs (with_new_folder m (line_for name rs)) names) =
     all_more rs (with_new_folder m (line_for name rs)) names in
     record {
-      folders = stay_joins m.folders (with_new_folder m (line_for name rs)).folders (with_new_folders rs (with_new_folder m (line_for name rs)) names).folders one.folders rest.folders;
+      folders =
+          stay_joins m.folders (with_new_folder m (line_for name rs)).folders (with_new_folders rs (with_new_folder m (line_for name rs)) names).folders
+          one.folders rest.folders;
       next_mark = rest.next_mark ∙ one.next_mark;
     }
 

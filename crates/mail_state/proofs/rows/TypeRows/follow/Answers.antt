@@ -34,7 +34,10 @@ returns c =
     let now : ServedRows = record { numbered = c.in_ok-emails.emails; mailboxes = c.in_ok-mailboxes.mailboxes.entries; threads = c.in_ok-threads.threads.entries } in
     let touches : Touches = record { mailbox = c.in_ok-mailboxes.mailbox.items; email = c.in_ok-emails.email.items; thread = c.in_ok-threads.thread.items } in
     let hs : List Held = c.args.mirror.now.mail.folders in
-    let order : InOrder before.numbered = record { sorted = c.are_in_order.ensures.sorted; under = as_under before.numbered.next before.numbered.rows c.are_in_order.ensures.below } in
+    let order : InOrder before.numbered = record {
+      sorted = c.are_in_order.ensures.sorted;
+      under = as_under before.numbered.next before.numbered.rows c.are_in_order.ensures.below;
+    } in
     let boxes = c.in_ok-mailboxes.ensures.steps (boxes_stay before.numbered hs now.numbered c.self.inside.folders.items before.mailboxes _ _ order c.in_ok-emails.ensures.takes
     c.self.invariant.1 c.rows.ensures (c.as_slice.ensures.value ∙ c.in_ok-emails.ensures.touches)) in
     let steps = c.in_ok-threads.ensures (others_follow before.numbered hs now.numbered before.threads _ _ order c.in_ok-emails.ensures.takes
