@@ -1,13 +1,11 @@
 -- The longest folder that is above another is the first that is found by the fronts of its name, the longest first.
 use Rattle.std.proofs.Common.{◌≡◌, ◌⊎◌, ℕ, zero, suc, ◌+◌, ◌<◌, ◌≤◌, List, [], ◌∷◌, Bool, true, false, ◌&&◌, ◌||◌, cond, if◌then◌else◌, Option, Some, None}
-use Rattle.std.proofs.Common.{refl, sym, ap, ◌∙◌, subst, inl, inr, arith, drop, take, filter, length, get_or, add-one, eqb, eq-eqb, ne_eqb, ltb, ltb-true, ltb-false, eqb-true}
+use Rattle.std.proofs.Common.{refl, sym, ap, ◌∙◌, subst, inl, inr, arith, drop, take, filter, length, get_or, add-one, eqb, eq-eqb, ne_eqb, ltb, ltb-true, ltb-false}
 use Rattle.std.proofs.Math.Seq.{drop-cons}
 use Rattle.std.proofs.lemmas.List.{length-take-le}
 use Rattle.std.proofs.lemmas.Slice.Eq.{bytes_eq-Decides}
-use Rattle.std.specs.BTreeSet.{BTreeSet, contains}
-use Rattle.std.specs.List.{AllByRecursion, Contains, list_any}
+use Rattle.std.specs.List.{AllByRecursion, list_any}
 use Rattle.std.specs.Option.{option_map, option_map_or, option_or}
-use Rattle.std.specs.Ordering.{nat_cmp}
 use Rattle.std.specs.Str.{bytes_eq}
 use Rattle.told_folder.specs.Folders.{folder_number, held_in}
 use Rattle.told_folder.specs.Keyed.{Ascends}
@@ -17,7 +15,7 @@ use Rattle.told_folder.proofs.KeyedLemmas.{lt_same_gt, some_same}
 use Rattle.told_mail.specs.Mail.{is_same, named}
 use Rattle.told_mail.proofs.NameLemmas.{same_name, named_name, found_above, named_held, named_there}
 use Rattle.told_mail.proofs.OnceLemmas.{NamesDiffer}
-use Rattle.mail_maps.specs.Hierarchy.{goes_on, begins_with, is_below, is_above, longer, longest, parent_in}
+use Rattle.mail_maps.specs.Hierarchy.{goes_on, begins_with, is_below, longer, longest, parent_in}
 use Rattle.mail_maps.specs.Mailboxes.{folders_of}
 use Rattle.mail_maps.specs.reading.Fronts.{front_at, front_below, has_length}
 
@@ -221,18 +219,15 @@ module _ (hs : List Held) (up : Ascends folder_number hs) (differ : NamesDiffer 
   fronts_are : (n : ℕ) → n ≤ length name → AreShorter n → front_below hs name d n ≡ longest None (filter below (folders_of hs))
   fronts_are zero within bound =
       sym (ap (longest None) (none_filter below (folders_of hs) (λ h i t. let l : length h.name < 0 = bound h i t in omega (arith, l))))
-  fronts_are (suc n) within bound = by (goes_on d (drop n name)) refl (named hs (take n name)) refl
+  fronts_are (suc n) within bound = by (goes_on d (drop n name)) refl (named hs (take n name)) refl (fronts_are n (omega (arith, within)))
     where
-      within_less : n ≤ length name
-      within_less = omega (arith, within)
-
       by : (g : Bool) → goes_on d (drop n name) ≡ g → (o : Option Held) → named hs (take n name) ≡ o
+          → (AreShorter n → front_below hs name d n ≡ longest None (filter below (folders_of hs)))
           → option_or (if g then option_map (λ (h : Held). h.folder) o else None) (front_below hs name d n) ≡ longest None (filter below (folders_of hs))
-      by false ends o is =
-          fronts_are n within_less
-          (shorter n bound (λ h i t len. not_both (goes_on d (drop n name)) (ap (λ (m : ℕ). goes_on d (drop m name)) (sym len) ∙ (below_is name d h.name t).0) ends))
-      by true goes None is = fronts_are n within_less (shorter n bound (not_named n is))
-      by true goes (Some k) is = found n k within_less goes is bound
+      by false ends o is rest =
+          rest (shorter n bound (λ h i t len. not_both (goes_on d (drop n name)) (ap (λ (m : ℕ). goes_on d (drop m name)) (sym len) ∙ (below_is name d h.name t).0) ends))
+      by true goes None is rest = rest (shorter n bound (not_named n is))
+      by true goes (Some k) is rest = found n k (omega (arith, within)) goes is bound
 
 -- the parent of a folder is that of the longest front
 pub parent_found : (hs : List Held) (f : Folder) (d : ℕ) → Ascends folder_number hs → NamesDiffer hs → f.delimiter ≡ Some d
@@ -252,10 +247,21 @@ no_parent fs f is =
 
 -- ---- the code's loop
 
--- one front shorter
-pub front_step : (hs : List Held) (name : List ℕ) (d n : ℕ) (o all : Option Folder) → o ≡ front_at hs name d n → front_below hs name d (n + 1) ≡ all
-    → option_or o (front_below hs name d n) ≡ all
-front_step hs name d n o all is was = rw is (rw add-one at was)
+-- a front that is no folder's name is passed
+pub front_passed : (hs : List Held) (name : List ℕ) (d k n : ℕ) (all : Option Folder) → n ≡ k + 1 → None ≡ front_at hs name d k → front_below hs name d n ≡ all
+    → front_below hs name d k ≡ all
+front_passed hs name d k n all next none was =
+    let S : ℕ → Type 0 = λ m. front_below hs name d m ≡ all in
+    let at : front_below hs name d (suc k) ≡ all = subst S (omega (arith, next)) was in
+    ap (λ (o : Option Folder). option_or o (front_below hs name d k)) none ∙ at
+
+-- the first that is one decides
+pub front_decides : (hs : List Held) (name : List ℕ) (d k n : ℕ) (f : Folder) (all : Option Folder) → n ≡ k + 1 → Some f ≡ front_at hs name d k
+    → front_below hs name d n ≡ all → Some f ≡ all
+front_decides hs name d k n f all next is was =
+    let S : ℕ → Type 0 = λ m. front_below hs name d m ≡ all in
+    let at : front_below hs name d (suc k) ≡ all = subst S (omega (arith, next)) was in
+    ap (λ (o : Option Folder). option_or o (front_below hs name d k)) is ∙ at
 
 unnamed : (hs : List Held) (q : List ℕ) → list_any (has_length (length q)) hs ≡ false → named hs q ≡ None
 unnamed [] q e = refl

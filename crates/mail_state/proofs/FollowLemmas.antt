@@ -1,6 +1,6 @@
 -- A state that took the rows of other mail, and noted their touches, stands for the history that went on.
 use Rattle.std.proofs.Common.{◌≡◌, ◌↔◌, ℕ, ◌+◌, ◌<◌, ◌≤◌, List, ◌++◌, Bool, true, not, nat_eq, refl, sym, ap, ◌∙◌, subst, arith, length}
-use Rattle.std.proofs.Common.{Option, Some, None, Result, Ok, Err, if◌then◌else◌, ltb, ltb-true, ltb-false}
+use Rattle.std.proofs.Common.{false, Option, Some, None, Err, if◌then◌else◌, ltb, ltb-true, ltb-false}
 use Rattle.std.specs.Bool.{IsTrue}
 use Rattle.std.specs.Option.{option_map, option_or}
 use Rattle.change_list.specs.Kept.{Kept, IsOf}

@@ -1,6 +1,6 @@
 -- Each message that exchanges leave stood at its place before, or its mark is new.
-use Rattle.std.proofs.Common.{◌≡◌, ◌≢◌, ◌⊎◌, ℕ, ℤ, ◌+◌, ◌<◌, ◌≤◌, Bool, true, false, List, [], ◌∷◌, ◌++◌, Option, Some, None, refl, sym, ap, ◌∙◌, subst, arith, inl, inr}
-use Rattle.std.proofs.Common.{eqb, eqb-true, eq-eqb, ne_eqb, leb, not, if◌then◌else◌, fold}
+use Rattle.std.proofs.Common.{◌≡◌, ◌⊎◌, ℕ, ℤ, ◌+◌, ◌<◌, ◌≤◌, Bool, true, false, List, [], ◌∷◌, ◌++◌, Option, Some, None, refl, sym, ap, ◌∙◌, subst, arith, inl, inr}
+use Rattle.std.proofs.Common.{eqb, eqb-true, ne_eqb, leb, not, if◌then◌else◌, fold}
 use Rattle.imap_syntax.specs.declared.command.Command.{Command}
 use Rattle.imap_syntax.specs.declared.command.Command.TheVariants as command
 use Rattle.imap_syntax.specs.declared.response.FetchItems.{FetchItems}
@@ -14,7 +14,6 @@ use Rattle.told_folder.specs.Select.{last_told, validity_in, under}
 use Rattle.told_folder.specs.Tell.{Telling, tell_uid, tell_fetch, tell_response, tell_responses, with_flags, with_new, new_message, kept_header, covers, without_those}
 use Rattle.told_folder.specs.ToldBy.{adds, is_told, kept_after, selected_first, telling_in, telling_by, told_by}
 use Rattle.told_folder.specs.declared.exchange.Exchange.{Exchange}
-use Rattle.told_folder.specs.declared.message.Folder.{Folder}
 use Rattle.told_folder.specs.declared.message.Held.{Held}
 use Rattle.told_folder.specs.declared.message.Message.{Message}
 use Rattle.told_folder.specs.declared.telling.TheConstants.{MAX_MARK}
@@ -29,7 +28,7 @@ use Rattle.told_mail.specs.Mail.{Mail, named, IsMail, IsNextMail}
 use Rattle.told_mail.specs.declared.mirror.listing.TheConstants.{MAX_FOLDER_NUMBER}
 use Rattle.told_mail.proofs.NameLemmas.{found_above, named_held}
 use Rattle.told_mail.proofs.NextLemmas.{told_next}
-use Rattle.mail_state.specs.Telling.{IsSameMessage, StoodThere, StaysOrIsNew}
+use Rattle.mail_state.specs.Telling.{IsSameMessage, StaysOrIsNew}
 
 -- ---- messages
 
@@ -265,13 +264,6 @@ named_tells m c rs (Some name) i = held_tells m c rs name (named m.folders name)
 abbrev FoldersStay : List Held → List Held → Type 0
 FoldersStay hs ks = (n : ℕ) (k : Held) (u : ℕ) (x : Message) → held_in ks n ≡ Some k → with_key uid_of u k.messages ≡ Some x
     → (h : Held) × (held_in hs n ≡ Some h) × (with_key uid_of u h.messages ≡ Some x) × (k.folder.validity ≡ h.folder.validity)
-
-folders_tell : (m : Mail) (ks : List Held) (next : ℕ) → FoldersStay m.folders ks → TellsOn m (record { folders = ks; next_mark = m.next_mark; next_folder = next })
-folders_tell m ks next stay = record {
-  stays = λ place k x held there.
-      let r = stay place.0 k place.1 x held there in inl (record { held = r.0; is_held = r.1; valid = r.3; was = x; there = r.2; same = self_same x });
-  rises = omega arith;
-}
 
 above_with : (k : Held) (n : ℕ) (hs : List Held) → AllAbove folder_number n hs → AllAbove folder_number n (with_held hs k)
 above_with k n [] a = tt

@@ -12,7 +12,6 @@ use Rattle.std.proofs.lemmas.List.{append-nil}
 use Rattle.std.proofs.lemmas.List.Elements.{filter-append}
 use Rattle.std.proofs.lemmas.List.Folds.{list_any-append}
 use Rattle.change_list.specs.Advance.{row_at, advance_entries}
-use Rattle.change_list.specs.Touches.{leaves}
 use Rattle.change_list.specs.declared.entries.Entry.{Entry}
 use Rattle.served_maps.specs.Past.{tests_of}
 use Rattle.told_folder.specs.declared.message.Held.{Held}

@@ -1,6 +1,6 @@
 -- A mark names one message for good, and a new validity makes new ids.
-use Rattle.std.proofs.Common.{◌≡◌, ◌≢◌, ◌⊎◌, ℕ, ◌<◌, ◌≤◌, Bool, true, false, ◌||◌, List, [], ◌∷◌, Option, Some, None, is_some}
-use Rattle.std.proofs.Common.{cond, refl, sym, ap, ◌∙◌, subst, arith, inl, inr, nat_cmp, fold, eqb, eq-eqb, nat_eq}
+use Rattle.std.proofs.Common.{◌≡◌, ◌≢◌, ℕ, ◌<◌, ◌≤◌, Bool, true, false, ◌||◌, List, [], ◌∷◌, Option, Some, None, is_some}
+use Rattle.std.proofs.Common.{cond, refl, sym, ap, ◌∙◌, subst, arith, inl, inr, nat_cmp, fold, eq-eqb, nat_eq}
 use Rattle.std.specs.BTreeMap.{is_at}
 use Rattle.std.specs.Option.{option_map}
 use Rattle.change_list.specs.Advance.{row_at}
@@ -11,7 +11,7 @@ use Rattle.told_folder.specs.declared.message.Folder.{Folder}
 use Rattle.told_folder.specs.declared.message.Held.{Held}
 use Rattle.told_folder.specs.declared.message.Message.{Message}
 use Rattle.told_mail.specs.Exchanges.{tell}
-use Rattle.told_mail.specs.Mail.{Mail, IsMail, IsNextMail, mark_in}
+use Rattle.told_mail.specs.Mail.{Mail, IsMail}
 use Rattle.told_mail.proofs.NextLemmas.{all_next}
 use Rattle.mail_maps.specs.declared.row.EmailRow.{EmailRow}
 use Rattle.mail_maps.specs.Rows.{Rows}
@@ -22,7 +22,7 @@ use Rattle.mail_rows.proofs.TouchLemmas.{remaining_if}
 use Rattle.mail_rows.proofs.VisibleLemmas.{IsVisibleOf, visible_of, marked_at, hidden_mark}
 use Rattle.mail_state.specs.History.{MailHistory, Advances}
 use Rattle.mail_state.specs.Sound.{IsSound}
-use Rattle.mail_state.specs.Telling.{IsSameMessage, StoodThere, StaysOrIsNew}
+use Rattle.mail_state.specs.Telling.{IsSameMessage}
 use Rattle.mail_state.proofs.EmailLemmas.{in_order, taken_at, under_or_over}
 use Rattle.mail_state.proofs.StayLemmas.{all_stay}
 

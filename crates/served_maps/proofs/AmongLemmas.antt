@@ -1,5 +1,5 @@
 -- Where two maps differ at some ids alone, the touches between them are at these ids.
-use Rattle.std.proofs.Common.{◌≡◌, ℕ, List, [], ◌∷◌, ◌++◌, Bool, true, false, not, ◌&&◌, ◌||◌, cond, nat_eq, map, filter, refl, sym, ap, ◌∙◌, subst, arith, nat_cmp, is_eq, is_some}
+use Rattle.std.proofs.Common.{◌≡◌, ℕ, List, [], ◌∷◌, ◌++◌, Bool, true, false, not, ◌&&◌, ◌||◌, cond, nat_eq, map, filter, refl, sym, ap, ◌∙◌, arith, nat_cmp, is_eq, is_some}
 use Rattle.std.proofs.Common.{Option, Some, None, if◌then◌else◌}
 use Rattle.std.specs.declared.cmp.Ordering.{Ordering}
 use Rattle.std.specs.declared.cmp.Ordering.TheVariants.{Less, Equal, Greater}
@@ -16,7 +16,7 @@ use Rattle.std.proofs.lemmas.List.Kept.{IsStrictlySortedBy-filter}
 use Rattle.std.proofs.lemmas.Map.Keys.{sorted_head, sorted_tail}
 use Rattle.change_list.specs.Advance.{Tests, row_at, counts_if, differs, is_gone, is_changed, advance_entries}
 use Rattle.change_list.specs.declared.entries.Entry.{Entry}
-use Rattle.change_list.specs.declared.entries.Kind.TheVariants.{Added, Changed, Removed}
+use Rattle.change_list.specs.declared.entries.Kind.TheVariants.{Changed}
 use Rattle.served_maps.specs.Among.{then_at}
 use Rattle.served_maps.specs.reading.AmongSteps.{goes, tested, is_other, change_at, removal_at, addition_at, value_put}
 

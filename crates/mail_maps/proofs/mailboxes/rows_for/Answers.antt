@@ -5,7 +5,6 @@ use Rattle.told_folder.specs.declared.message.Folder.{Folder}
 use Rattle.told_folder.specs.declared.message.Held.{Held}
 use Rattle.mail_maps.specs.declared.row.MailboxRow.{MailboxRow}
 use Rattle.mail_maps.specs.declared.row.Role.{Role}
-use Rattle.mail_maps.specs.declared.tally.FolderCounts.{FolderCounts}
 use Rattle.mail_maps.specs.Mailboxes.{folders_of, mailbox_row, mailboxes_of, row_as, row_with}
 use Rattle.mail_maps.specs.reading.Fronts.{AreLengths}
 use Rattle.mail_maps.specs.reading.Tallies.{counts_told}
