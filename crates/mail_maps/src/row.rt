@@ -52,7 +52,7 @@ pub enum Role {
 /// What the user may do in a Mailbox (RFC 8621 section 2).
 #[derive(Clone, Copy, Debug, PartialEq, Eq)]
 pub struct Rights {
-    /// Its Emails may be keys_listed and fetched.
+    /// Its Emails may be listed and fetched.
     pub may_read_items: bool,
     /// Emails may be created in it or moved to it.
     pub may_add_items: bool,

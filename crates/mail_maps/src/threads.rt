@@ -75,7 +75,7 @@ fn put_pair(
 ) -> Result<(), AllocError>
     ensures groups { OnOk result ((t : ℕ) → keys_at (get nat_cmp groups.new t)
         ≡ cond (nat_eq thread t) (Some (insert_key pair_cmp (keys_listed (get nat_cmp groups.old thread)) pair)) (keys_at (get nat_cmp groups.old t))) }
-    ensures keys_listed { OnOk result ((t : ℕ) → keys_listed (get nat_cmp groups.new t)
+    ensures listed { OnOk result ((t : ℕ) → keys_listed (get nat_cmp groups.new t)
         ≡ cond (nat_eq thread t) (insert_key pair_cmp (keys_listed (get nat_cmp groups.old thread)) pair) (keys_listed (get nat_cmp groups.old t))) }
 {
     let mut group = take_group(alloc, groups, thread);
