@@ -17,6 +17,7 @@ use Rattle.mail_maps.specs.Keywords.{sorted_into}
 use Rattle.mail_maps.specs.Rows.{Rows, in_thread}
 use Rattle.mail_maps.specs.Threads.{pairs_in, emails_in, thread_numbers, threads_of, where_any, thread_at}
 use Rattle.mail_maps.proofs.InOrder.{keys_of-keyed}
+use Rattle.mail_maps.proofs.MemberLemmas.{all_above, into_sorted}
 
 equal_is : (a b : ℕ) → nat_cmp a b ≡ Equal → a ≡ b
 equal_is a b e = grind arith
@@ -102,44 +103,11 @@ threads_at rows t =
 
 -- ---- their order
 
-all_put : (P : ℕ → Type 0) (xs : List ℕ) (k : ℕ) → P k → AllByRecursion P xs → AllByRecursion P (insert_key nat_cmp xs k)
-all_put P [] k p all = (p, tt)
-all_put P (x ∷ xs) k p all = by (nat_cmp k x) (all_put P xs k p all.1)
-  where
-    by : (o : Ordering) → AllByRecursion P (insert_key nat_cmp xs k) → AllByRecursion P (match_ordering o (k ∷ x ∷ xs) (x ∷ xs) (x ∷ insert_key nat_cmp xs k))
-    by Less rest = (p, all)
-    by Equal rest = all
-    by Greater rest = (all.0, rest)
-
-all_above : (k x : ℕ) (ys : List ℕ) → nat_cmp k x ≡ Less → AllByRecursion (λ y. nat_cmp x y ≡ Less) ys → AllByRecursion (λ y. nat_cmp k y ≡ Less) ys
-all_above k x [] less all = tt
-all_above k x (y ∷ ys) less all = (nat_cmp_total.trans k x y less all.0, all_above k x ys less all.1)
-
-sorted_at : (o : Ordering) (k x : ℕ) (xs : List ℕ) → nat_cmp k x ≡ o → IsStrictlySortedBy nat_cmp (x ∷ xs) → IsStrictlySortedBy nat_cmp (insert_key nat_cmp xs k)
-    → IsStrictlySortedBy nat_cmp (match_ordering o (k ∷ x ∷ xs) (x ∷ xs) (x ∷ insert_key nat_cmp xs k))
-unfolding IsStrictlySortedBy
-sorted_at Less k x xs e s rest = ((e, all_above k x xs e s.0), s)
-sorted_at Equal k x xs e s rest = s
-sorted_at Greater k x xs e s rest = (all_put (λ y. nat_cmp x y ≡ Less) xs k (turned k x Greater e) s.0, rest)
-
-sorted_put : (xs : List ℕ) (k : ℕ) → IsStrictlySortedBy nat_cmp xs → IsStrictlySortedBy nat_cmp (insert_key nat_cmp xs k)
-unfolding IsStrictlySortedBy
-sorted_put [] k s = (tt, tt)
-sorted_put (x ∷ xs) k s = sorted_at (nat_cmp k x) k x xs refl s (sorted_put xs k s.1)
-
-sorted_all : (before xs : List ℕ) → IsStrictlySortedBy nat_cmp before → IsStrictlySortedBy nat_cmp (sorted_into nat_cmp before xs)
-sorted_all before [] s = s
-sorted_all before (x ∷ xs) s = sorted_all (insert_key nat_cmp before x) xs (sorted_put before x s)
-
-none_sorted : IsStrictlySortedBy nat_cmp []
-unfolding IsStrictlySortedBy
-none_sorted = tt
-
 -- Threads are in the order of their numbers
 pub threads_sorted : (rows : Rows) → IsStrictlySortedBy nat_cmp (keys_of (threads_of rows))
 threads_sorted rows =
     let S : List ℕ → Type 0 = λ ks. IsStrictlySortedBy nat_cmp ks in
-    subst S (sym (keys_of-keyed (emails_in rows) (thread_numbers rows))) (sorted_all [] (map (λ (e : ℕ × EmailRow). e.1.thread) rows) none_sorted)
+    subst S (sym (keys_of-keyed (emails_in rows) (thread_numbers rows))) (into_sorted nat_cmp nat_cmp_total (map (λ (e : ℕ × EmailRow). e.1.thread) rows))
 
 -- ---- rows in order, by what is found in them
 
@@ -153,7 +121,7 @@ module _ {V : Type 0} where
 
   -- below the first one none is found
   none_below : (k : ℕ) (e : ℕ × V) (es : List (ℕ × V)) → nat_cmp k e.0 ≡ Less → IsStrictlySortedBy nat_cmp (keys_of (e ∷ es)) → row_at (e ∷ es) k ≡ None
-  none_below k e es less s = none_above k (e ∷ es) (less, all_above k e.0 (keys_of es) less (sorted_head nat_cmp e.0 (keys_of es) s))
+  none_below k e es less s = none_above k (e ∷ es) (less, all_above nat_cmp nat_cmp_total k e.0 (keys_of es) less (sorted_head nat_cmp e.0 (keys_of es) s))
 
   row_same : (j k : ℕ) (v w : V) → j ≡ k → Some v ≡ Some w → ◌≡◌ {A = ℕ × V} (j, v) (k, w)
   row_same j k v w e f = cc
