@@ -3,6 +3,10 @@ mod ThreadLemmas
 mod FolderLemmas
 mod MarkLemmas
 mod NumberLemmas
-mod KeptThreads
+mod NoTouches
+mod TouchedThreads
+mod KeptMailboxes
 mod SoundLemmas
 mod FollowLemmas
+mod StayLemmas
+mod ValidityLemmas
