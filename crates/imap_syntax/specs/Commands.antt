@@ -5,7 +5,7 @@ use Rattle.std.specs.Fmt.{decimal}
 use Rattle.imap_syntax.specs.declared.command.Command.{Command}
 use Rattle.imap_syntax.specs.declared.command.Command.TheVariants.{Capability, Login, Enable, List as ListFolders, Select, Unselect, FetchFlags, FetchSlice}
 use Rattle.imap_syntax.specs.declared.command.Command.TheVariants.{FetchNew, FetchBody, Store, Move, Expunge, Append, Create, Delete, Rename, Subscribe}
-use Rattle.imap_syntax.specs.Texts.{Each, crlf}
+use Rattle.imap_syntax.specs.Texts.{crlf}
 pub use Rattle.imap_syntax.specs.Strings.{escaped, quoted}
 use Rattle.imap_syntax.specs.Dates.{date_text}
 
@@ -146,9 +146,3 @@ joined_pieces (p ∷ ps) = p ++ joined_pieces ps
 -- the whole text: the pieces, one after another
 abbrev pub command_text : Command → ℕ → List ℕ
 command_text command tag = joined_pieces (command_pieces command tag)
-
--- a command that needs no literal
-abbrev pub IsQuotable : Command → Type 0
-IsQuotable (Login user password) = Each is_printable user × Each is_printable password
-IsQuotable (Append name flags date message) = ⊥
-IsQuotable _ = Unit {0}
