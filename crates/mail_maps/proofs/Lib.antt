@@ -10,3 +10,4 @@ pub mod MemberLemmas
 mod KeptKeys
 pub mod Tallied
 mod ParentLaws
+mod OnceLaws

@@ -57,6 +57,14 @@ box_taken F es i e q old new r within is made all =
 
 -- ---- all Mailboxes
 
+second : (a b : Bool) → (a || b) ≡ false → b ≡ false
+second true b e = absurd (let f : true ≡ false = e in cc)
+second false b e = e
+
+either : {X : Type 0} (b : Bool) (x : X) → cond b x x ≡ x
+either true x = refl
+either false x = refl
+
 module _ (F : ℕ → FolderCounts) (q : ℕ) where
   twice : (o : Option MailboxRow) → option_map (with_counts (F q)) (option_map (with_counts (F q)) o) ≡ option_map (with_counts (F q)) o
   twice None = refl
@@ -66,60 +74,56 @@ module _ (F : ℕ → FolderCounts) (q : ℕ) where
   set_where : (es : List Entry) (o : Option MailboxRow)
       → rows_recounted F es q o ≡ cond (list_any (λ e. nat_eq e.id q) es) (option_map (with_counts (F q)) o) o
   set_where [] o = refl
-  set_where (e ∷ es) o = by (nat_eq e.id q) refl
+  set_where (e ∷ es) o = by (nat_eq e.id q) refl (set_where es)
     where
-      by : (b : Bool) → nat_eq e.id q ≡ b → rows_recounted F es q (cond b (option_map (with_counts (F e.id)) o) o)
+      by : (b : Bool) → nat_eq e.id q ≡ b
+          → ((p : Option MailboxRow) → rows_recounted F es q p ≡ cond (list_any (λ d. nat_eq d.id q) es) (option_map (with_counts (F q)) p) p)
+          → rows_recounted F es q (cond b (option_map (with_counts (F e.id)) o) o)
           ≡ cond (b || list_any (λ d. nat_eq d.id q) es) (option_map (with_counts (F q)) o) o
-      by true same =
+      by true same later =
           ap (λ (k : ℕ). rows_recounted F es q (option_map (with_counts (F k)) o)) (eqb-true e.id q same)
-          ∙ set_where es (option_map (with_counts (F q)) o)
+          ∙ later (option_map (with_counts (F q)) o)
           ∙ elim (list_any (λ d. nat_eq d.id q) es) as (λ (b : Bool). cond b (option_map (with_counts (F q)) (option_map (with_counts (F q)) o)) (option_map (with_counts (F q)) o)
           ≡ option_map (with_counts (F q)) o) [ true ↦ twice o | false ↦ refl ]
-      by false other = set_where es o
+      by false other later = later o
 
-  -- what has the counts of q is found in all
+  -- what is found among all with their counts
   found_in : (boxes : List (ℕ × MailboxRow)) → row_at (all_recounted F boxes) q ≡ option_map (with_counts (F q)) (row_at boxes q)
   found_in [] = refl
-  found_in (e ∷ es) = by (is_at (nat_cmp q) e.0) refl
+  found_in (e ∷ es) = by (is_at (nat_cmp q) e.0) refl (found_in es)
     where
-      by : (b : Bool) → is_at (nat_cmp q) e.0 ≡ b → cond b (Some (with_counts (F e.0) e.1)) (row_at (all_recounted F es) q) ≡ option_map (with_counts (F q)) (cond b (Some e.1) (row_at es q))
-      by true here = ap (λ (k : ℕ). Some (with_counts (F k) e.1)) (sym (found_is q e.0 here))
-      by false other = found_in es
+      by : (b : Bool) → is_at (nat_cmp q) e.0 ≡ b → row_at (all_recounted F es) q ≡ option_map (with_counts (F q)) (row_at es q)
+          → cond b (Some (with_counts (F e.0) e.1)) (row_at (all_recounted F es) q) ≡ option_map (with_counts (F q)) (cond b (Some e.1) (row_at es q))
+      by true here later = ap (λ (k : ℕ). Some (with_counts (F k) e.1)) (sym (found_is q e.0 here))
+      by false other later = later
+
+  -- the touches where the first Mailbox has its counts, or has others
+  abbrev listed_where : Bool → ℕ × MailboxRow → List (ℕ × MailboxRow) → Bool
+  listed_where same e es = list_any (λ d. nat_eq d.id q) (map touch_of_counts (cond (not same) (e ∷ filter (is_recounted F) es) (filter (is_recounted F) es)))
+
+  own_counts : (e : ℕ × MailboxRow) (es : List (ℕ × MailboxRow)) (b : Bool) → listed_where b e es ≡ false → nat_eq e.0 q ≡ true → b ≡ true
+  own_counts e es true none here = refl
+  own_counts e es false none here =
+      absurd (let f : true ≡ false = sym (ap (λ (t : Bool). t || list_any (λ d. nat_eq d.id q) (map touch_of_counts (filter (is_recounted F) es))) here) ∙ none in cc)
+
+  none_later : (e : ℕ × MailboxRow) (es : List (ℕ × MailboxRow)) (b : Bool) → listed_where b e es ≡ false → list_any (λ d. nat_eq d.id q) (recounts F es) ≡ false
+  none_later e es true none = none
+  none_later e es false none = second (nat_eq e.0 q) (list_any (λ d. nat_eq d.id q) (recounts F es)) none
 
   -- a Mailbox that isn't touched has its counts
   untouched : (boxes : List (ℕ × MailboxRow)) (row : MailboxRow) → row_at boxes q ≡ Some row → list_any (λ e. nat_eq e.id q) (recounts F boxes) ≡ false
       → same_counts (counts_of row) (F q) ≡ true
   untouched [] row there none = absurd (let f : None ≡ Some row = there in cc)
-  untouched (e ∷ es) row there none = at (is_at (nat_cmp q) e.0) refl there
+  untouched (e ∷ es) row there none =
+      at (is_at (nat_cmp q) e.0) refl there (λ found. untouched es row found (none_later e es (same_counts (counts_of e.1) (F e.0)) none))
     where
-      rest : same_counts (counts_of e.1) (F e.0) ≡ true → list_any (λ d. nat_eq d.id q) (recounts F es) ≡ false
-      rest same =
-          sym (ap (λ (b : Bool). list_any (λ d. nat_eq d.id q) (map touch_of_counts (cond (not b) (e ∷ filter (is_recounted F) es) (filter (is_recounted F) es)))) same) ∙ none
-
-      own : (b : Bool) → same_counts (counts_of e.1) (F e.0) ≡ b → nat_eq e.0 q ≡ true → same_counts (counts_of e.1) (F e.0) ≡ true
-      own true is at = is
-      own false is at =
-          absurd (let f : true ≡ false =
-          sym (ap (λ (b : Bool). b || list_any (λ d. nat_eq d.id q) (map touch_of_counts (filter (is_recounted F) es))) at)
-          ∙ sym (ap (λ (b : Bool). list_any (λ d. nat_eq d.id q) (map touch_of_counts (cond (not b) (e ∷ filter (is_recounted F) es) (filter (is_recounted F) es)))) is)
-          ∙ none in cc)
-
-      later : (b : Bool) → same_counts (counts_of e.1) (F e.0) ≡ b → list_any (λ d. nat_eq d.id q) (recounts F es) ≡ false
-      later true is = rest is
-      later false is = second (nat_eq e.0 q) (list_any (λ d. nat_eq d.id q) (map touch_of_counts (filter (is_recounted F) es)))
-          (sym (ap (λ (b : Bool). list_any (λ d. nat_eq d.id q) (map touch_of_counts (cond (not b) (e ∷ filter (is_recounted F) es) (filter (is_recounted F) es)))) is) ∙ none)
-        where
-          second : (a b : Bool) → (a || b) ≡ false → b ≡ false
-          second true b f = absurd (let g : true ≡ false = f in cc)
-          second false b f = f
-
-      at : (b : Bool) → is_at (nat_cmp q) e.0 ≡ b → cond b (Some e.1) (row_at es q) ≡ Some row → same_counts (counts_of row) (F q) ≡ true
-      at true here f =
+      at : (b : Bool) → is_at (nat_cmp q) e.0 ≡ b → cond b (Some e.1) (row_at es q) ≡ Some row → (row_at es q ≡ Some row → same_counts (counts_of row) (F q) ≡ true)
+          → same_counts (counts_of row) (F q) ≡ true
+      at true here f later =
           let row_is : e.1 ≡ row = let g : Some e.1 ≡ Some row = f in cc in
-          let number : q ≡ e.0 = found_is q e.0 here in
-          ap (λ (r : MailboxRow). same_counts (counts_of r) (F q)) (sym row_is) ∙ ap (λ (k : ℕ). same_counts (counts_of e.1) (F k)) number
-          ∙ own (same_counts (counts_of e.1) (F e.0)) refl (sym (turned_test e.0 q) ∙ here)
-      at false other f = untouched es row f (later (same_counts (counts_of e.1) (F e.0)) refl)
+          ap (λ (r : MailboxRow). same_counts (counts_of r) (F q)) (sym row_is) ∙ ap (λ (k : ℕ). same_counts (counts_of e.1) (F k)) (found_is q e.0 here)
+          ∙ own_counts e es (same_counts (counts_of e.1) (F e.0)) none (sym (turned_test e.0 q) ∙ here)
+      at false other f later = later f
 
 both : (a b : Bool) → (a && b) ≡ true → (a ≡ true) × (b ≡ true)
 both true b e = (refl, e)
@@ -152,7 +156,7 @@ set_at F boxes q = set_where F q (recounts F boxes) (row_at boxes q) ∙ by (row
 
     by : (o : Option MailboxRow) → row_at boxes q ≡ o
         → cond (list_any (λ e. nat_eq e.id q) (recounts F boxes)) (option_map (with_counts (F q)) o) o ≡ option_map (with_counts (F q)) o
-    by None is = elim (list_any (λ e. nat_eq e.id q) (recounts F boxes)) as (λ (b : Bool). cond b None None ≡ None {A = MailboxRow}) [ true ↦ refl | false ↦ refl ]
+    by None is = either (list_any (λ e. nat_eq e.id q) (recounts F boxes)) None
     by (Some row) is = kept row is (list_any (λ e. nat_eq e.id q) (recounts F boxes)) refl
 
 keys_recounted : (F : ℕ → FolderCounts) (boxes : List (ℕ × MailboxRow)) → keys_of (all_recounted F boxes) ≡ keys_of boxes

@@ -3,7 +3,7 @@ use Rattle.std.specs.BTreeMap.{get}
 use Rattle.mail_maps.proofs.Tallied.{counts_are}
 use Rattle.mail_maps.proofs.tally.count_emails.Goals as goal
 
-pub returns-then-told_counts : goal.returns-then-told_counts
-returns-then-told_counts c = λ f.
+pub returns : goal.returns
+returns c = λ f.
     counts_are c.in_ok-all.all.unread c.args.emails.now.entries f _ (get nat_cmp c.in_ok-all.all.folders f) c.in_ok-all.ensures.unread (c.told_counts.ensures f)
     (c.in_ok-all.ensures.folders f)
