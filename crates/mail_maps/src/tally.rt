@@ -189,7 +189,8 @@ pub fn count_emails(
     ensures { IfOk result (λ counts. (f : ℕ) → counts_at (get nat_cmp counts f) ≡ counts_in emails.now.entries f) }
 {
     let all = tally_emails(alloc, emails)?;
-    told_counts(alloc, &all.folders, &all.unread)
+    let counts = told_counts(alloc, &all.folders, &all.unread)?;
+    Ok(counts)
 }
 
 /// The counts of a folder, which are 0 where it has no Emails.

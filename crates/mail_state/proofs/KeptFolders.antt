@@ -1,12 +1,12 @@
 -- Folders that are kept without what no Mailbox shows of them, beside others.
-use Rattle.std.proofs.Common.{◌≡◌, ◌↔◌, ℕ, List, [], ◌∷◌, Bool, true, false, ◌&&◌, Option, Some, None, eqb, refl, sym, ap, ◌∙◌}
-use Rattle.std.specs.Bool.{Decides, IsTrue}
+use Rattle.std.proofs.Common.{◌≡◌, ℕ, List, [], ◌∷◌, Bool, true, false, ◌&&◌, Option, Some, None, eqb, refl, ap, ◌∙◌}
+use Rattle.std.specs.Bool.{Decides}
 use Rattle.std.specs.Option.{option_eq}
 use Rattle.std.proofs.lemmas.Slice.Eq.{slice_eq-Decides, bytes_eq-Decides}
 use Rattle.std.proofs.lemmas.Bool.Decides.{Decides-eqb, Decides-and, Decides-like}
 use Rattle.told_folder.specs.declared.message.Folder.{Folder}
 use Rattle.told_folder.specs.declared.message.Held.{Held}
-use Rattle.mail_state.specs.reading.Boxes.{is_stripped, stripped, stripped_folders}
+use Rattle.mail_state.specs.reading.Boxes.{is_stripped, are_stripped, stripped, stripped_folders}
 
 some_is : (x y : ℕ) → Some x ≡ Some y → x ≡ y
 some_is x y e = cc
@@ -46,23 +46,15 @@ stripped_decides k f =
 
 -- ---- one after another
 
-first_is : (k j : Folder) (ks js : List Folder) → k ∷ ks ≡ j ∷ js → k ≡ j
-first_is k j ks js e = cc
+both : (a b : Bool) → (a && b) ≡ true → (a ≡ true) × (b ≡ true)
+both true b e = (refl, e)
+both false b e = absurd (let f : false ≡ true = e in cc)
 
-rest_is : (k j : Folder) (ks js : List Folder) → k ∷ ks ≡ j ∷ js → ks ≡ js
-rest_is k j ks js e = cc
-
--- where the first is that of the first folder, the others decide
-pub one_more : (k : Folder) (ks : List Folder) (h : Held) (hs : List Held) → is_stripped k h.folder ≡ true → (ks ≡ stripped_folders hs) ↔ (k ∷ ks ≡ stripped_folders (h ∷ hs))
-one_more k ks h hs is =
-    let first : k ≡ stripped h.folder = (stripped_decides k h.folder).0 is in (
-      (λ e. ap (λ (x : Folder). x ∷ ks) first ∙ ap (λ (fs : List Folder). stripped h.folder ∷ fs) e),
-      (λ e. rest_is k (stripped h.folder) ks (stripped_folders hs) e),
-    )
-
--- where it isn't, they aren't those of the folders
-pub not_the_first : (k : Folder) (ks : List Folder) (h : Held) (hs : List Held) → is_stripped k h.folder ≡ false → k ∷ ks ≡ stripped_folders (h ∷ hs) → ⊥
-not_the_first k ks h hs isnt e =
-    let is : is_stripped k h.folder ≡ true = (stripped_decides k h.folder).1 (first_is k (stripped h.folder) ks (stripped_folders hs) e) in
-    let f : true ≡ false = sym is ∙ isnt in
-    cc
+-- folders that pass the test are those without what no Mailbox shows of them
+pub stripped_all : (ks : List Folder) (hs : List Held) → are_stripped ks hs ≡ true → ks ≡ stripped_folders hs
+stripped_all [] [] e = refl
+stripped_all [] (h ∷ hs) e = absurd (let f : false ≡ true = e in cc)
+stripped_all (k ∷ ks) [] e = absurd (let f : false ≡ true = e in cc)
+stripped_all (k ∷ ks) (h ∷ hs) e =
+    let parts = both (is_stripped k h.folder) (are_stripped ks hs) e in
+    ap (λ (f : Folder). f ∷ ks) ((stripped_decides k h.folder).0 parts.0) ∙ ap (λ (fs : List Folder). stripped h.folder ∷ fs) (stripped_all ks hs parts.1)

@@ -1,6 +1,6 @@
 // The folders that Mailboxes were made of, without what no Mailbox shows of them.
-ghost use Rattle.std.specs.Prelude.{◌≡◌, ◌↔◌, IfOk, IsTrue};
-ghost use Rattle.mail_state.specs.reading.Boxes.{is_stripped, stripped, stripped_folders};
+ghost use Rattle.std.specs.Prelude.{◌≡◌, IfOk};
+ghost use Rattle.mail_state.specs.reading.Boxes.{are_stripped, is_stripped, stripped, stripped_folders};
 
 use std::alloc::{AllocError, Global};
 use told_folder::{Folder, Held};
@@ -49,7 +49,7 @@ fn is_stripped(kept: &Folder, folder: &Folder) -> bool
 
 /// Whether these are the folders without what no Mailbox shows of them. It takes no memory.
 pub fn are_kept(kept: &[Folder], folders: &[Held]) -> bool
-    ensures { IsTrue result ↔ (kept.now ≡ stripped_folders folders.now) }
+    ensures { result ≡ are_stripped kept.now folders.now }
 {
     let mut left = kept;
     for held in folders {

@@ -25,7 +25,7 @@ fn has_counts(row: &MailboxRow, counts: FolderCounts) -> bool
 }
 
 /// The touches of the Mailboxes that have other counts than these.
-fn recounts(
+fn touches_of(
     alloc: Global,
     mailboxes: &BTreeMap<u64, MailboxRow>,
     counts: &BTreeMap<u64, FolderCounts>,
@@ -79,7 +79,7 @@ pub fn recount(
     ensures touches { IfOk result (λ r. r.1.items ≡ advance_entries (tests_of mailbox_of mailbox_tests) old.entries r.0.entries) }
 {
     let counts = count_emails(alloc, emails)?;
-    let touches = recounts(alloc, &old, &counts)?;
+    let touches = touches_of(alloc, &old, &counts)?;
     let mut mailboxes = old;
     let _before = mailboxes.len();
     set_touched(&mut mailboxes, touches.as_slice(), &counts);

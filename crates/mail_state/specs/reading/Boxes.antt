@@ -1,5 +1,5 @@
 -- What the Mailboxes of a step were made of: folders without what no Mailbox shows of them.
-use Rattle.std.specs.Prelude.{◌≡◌, ℕ, ◌==◌, Bool, ◌&&◌, List, [], map}
+use Rattle.std.specs.Prelude.{◌≡◌, ℕ, ◌==◌, Bool, true, false, ◌&&◌, List, [], ◌∷◌, map}
 use Rattle.std.specs.Option.{option_eq}
 use Rattle.std.specs.Str.{bytes_eq}
 use Rattle.change_list.specs.Advance.{advance_entries}
@@ -24,6 +24,13 @@ abbrev pub is_stripped : Folder → Folder → Bool
 is_stripped kept f =
     kept.number == f.number && (bytes_eq kept.name f.name && (option_eq ◌==◌ kept.delimiter f.delimiter && (same_names kept.attributes f.attributes
     && (kept.validity == 0 && (kept.modseq == 0 && kept.next == 0)))))
+
+-- whether folders are these without those, one by one
+abbrev pub are_stripped : List Folder → List Held → Bool
+are_stripped [] [] = true
+are_stripped [] (h ∷ hs) = false
+are_stripped (k ∷ ks) [] = false
+are_stripped (k ∷ ks) (h ∷ hs) = is_stripped k h.folder && are_stripped ks hs
 
 -- each of these folders as a Mailbox
 abbrev pub boxes_by : List Folder → Rows → List (ℕ × MailboxRow)
