@@ -31,7 +31,8 @@ module _ (p : ℕ → Bool) where
       let above : AllByRecursion (λ y. nat_cmp k y ≡ Less) (x ∷ xs) = (e, all_above nat_cmp nat_cmp_total k x xs e (sorted_head nat_cmp x xs s)) in
       ap (λ (ks : List ℕ). cond (p k) ks (filter p (x ∷ xs))) (sym (put_first k (filter p (x ∷ xs)) (all_kept (λ y. nat_cmp k y ≡ Less) (x ∷ xs) above)))
   kept_at Equal k x xs e s rest =
-      elim (p x) as (λ (b : Bool). cond b (x ∷ filter p xs) (filter p xs) ≡ cond b (insert_key nat_cmp (cond b (x ∷ filter p xs) (filter p xs)) k) (cond b (x ∷ filter p xs) (filter p xs))) [
+      elim (p x) as (λ (b : Bool). cond b (x ∷ filter p xs) (filter p xs)
+      ≡ cond b (insert_key nat_cmp (cond b (x ∷ filter p xs) (filter p xs)) k) (cond b (x ∷ filter p xs) (filter p xs))) [
         | true ↦ sym (ap (λ (o : Ordering). match_ordering o (k ∷ x ∷ filter p xs) (x ∷ filter p xs) (x ∷ insert_key nat_cmp (filter p xs) k)) e)
         | false ↦ refl
       ] ∙ ap (λ (n : ℕ). cond (p n) (insert_key nat_cmp (filter p (x ∷ xs)) k) (filter p (x ∷ xs))) (sym (equal_is k x e))

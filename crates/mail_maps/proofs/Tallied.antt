@@ -1,5 +1,6 @@
 -- Counting one Email after another gives the counts.
-use Rattle.std.proofs.Common.{◌≡◌, ℕ, ◌+◌, List, [], ◌∷◌, Bool, true, false, cond, ◌&&◌, refl, sym, ap, ◌∙◌, map, filter, length, nat_cmp, arith, nat_eq, count_by, Option, Some, None}
+use Rattle.std.proofs.Common.{◌≡◌, ℕ, ◌+◌, List, [], ◌∷◌, Bool, true, false, cond, ◌&&◌, map, filter, length, nat_cmp, nat_eq, count_by, Option, Some, None}
+use Rattle.std.proofs.Common.{refl, sym, ap, ◌∙◌, arith}
 use Rattle.std.specs.BTreeMap.{get, is_at}
 use Rattle.std.specs.BTreeSet.{BTreeSet, contains}
 use Rattle.std.specs.List.{list_any}
@@ -111,7 +112,8 @@ keys_of-told_rows ids (e ∷ es) = ap (λ (ks : List ℕ). e.0 ∷ ks) (keys_of-
 pub told_row_at : (ids : BTreeSet ℕ) (es : List (ℕ × Tallied)) (f : ℕ) → row_at (told_rows ids es) f ≡ option_map (counts_told ids) (row_at es f)
 told_row_at ids [] f = refl
 told_row_at ids (e ∷ es) f =
-    elim (is_at (nat_cmp f) e.0) as (λ (b : Bool). cond b (Some (counts_told ids e.1)) (row_at (told_rows ids es) f) ≡ option_map (counts_told ids) (cond b (Some e.1) (row_at es f))) [
+    elim (is_at (nat_cmp f) e.0) as (λ (b : Bool). cond b (Some (counts_told ids e.1)) (row_at (told_rows ids es) f)
+    ≡ option_map (counts_told ids) (cond b (Some e.1) (row_at es f))) [
       | true ↦ refl
       | false ↦ told_row_at ids es f
     ]

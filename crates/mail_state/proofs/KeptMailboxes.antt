@@ -279,8 +279,9 @@ counted_anew fs was rows [] = refl
 counted_anew fs was rows (g ∷ gs) = ap (λ (es : List (ℕ × MailboxRow)). (g.number, mailbox_row fs rows g) ∷ es) (counted_anew fs was rows gs)
 
 -- Mailboxes of the same folders, with the counts of these rows, are those of the folders and rows
-pub boxes_recounted : (before now : List (ℕ × MailboxRow)) (kept : List Folder) (hs : List Held) (rows : Rows) (touches steps : List Entry) → now ≡ all_recounted (counts_in rows) before
-    → steps ≡ advance_entries (tests_of mailbox_of mailbox_tests) before now → kept ≡ stripped_folders hs → BoxesStay before kept rows touches → StepsMailboxes before hs rows now steps
+pub boxes_recounted : (before now : List (ℕ × MailboxRow)) (kept : List Folder) (hs : List Held) (rows : Rows) (touches steps : List Entry)
+    → now ≡ all_recounted (counts_in rows) before → steps ≡ advance_entries (tests_of mailbox_of mailbox_tests) before now → kept ≡ stripped_folders hs
+    → BoxesStay before kept rows touches → StepsMailboxes before hs rows now steps
 boxes_recounted before now kept hs rows touches steps are steps_are same stays = record {
   mailboxes = are ∙ ap (all_recounted (counts_in rows)) stays.made ∙ counted_anew kept stays.was rows kept ∙ ap (λ (fs : List Folder). boxes_by fs rows) same ∙ strip_boxes hs rows;
   touches = steps_are;
