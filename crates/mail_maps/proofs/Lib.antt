@@ -1,5 +1,4 @@
 pub mod InOrder
-pub mod Tallied
 pub mod Ordered
 pub mod KeySets
 pub mod SameKeywords
@@ -8,4 +7,7 @@ pub mod ThreadLemmas
 pub mod FrontLemmas
 pub mod RoleLemmas
 pub mod MemberLemmas
+mod KeptKeys
+pub mod Tallied
 mod ParentLaws
+mod OnceLaws

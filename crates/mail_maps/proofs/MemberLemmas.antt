@@ -106,7 +106,8 @@ module _ {K : Type 0} (cmp : K → K → Ordering) (total : IsTotalOrder cmp) wh
   sorted_at Equal k x xs e s rest = s
   sorted_at Greater k x xs e s rest = (all_put (λ y. cmp x y ≡ Less) xs k (turned k x Greater e) s.0, rest)
 
-  sorted_put : (xs : List K) (k : K) → IsStrictlySortedBy cmp xs → IsStrictlySortedBy cmp (insert_key cmp xs k)
+  -- an element that is put in keeps the order
+  pub sorted_put : (xs : List K) (k : K) → IsStrictlySortedBy cmp xs → IsStrictlySortedBy cmp (insert_key cmp xs k)
   unfolding IsStrictlySortedBy
   sorted_put [] k s = (tt, tt)
   sorted_put (x ∷ xs) k s = sorted_at (cmp k x) k x xs refl s (sorted_put xs k s.1)
@@ -115,7 +116,8 @@ module _ {K : Type 0} (cmp : K → K → Ordering) (total : IsTotalOrder cmp) wh
   sorted_all before [] s = s
   sorted_all before (x ∷ xs) s = sorted_all (insert_key cmp before x) xs (sorted_put before x s)
 
-  none_sorted : IsStrictlySortedBy cmp []
+  -- no elements are in order
+  pub none_sorted : IsStrictlySortedBy cmp []
   unfolding IsStrictlySortedBy
   none_sorted = tt
 

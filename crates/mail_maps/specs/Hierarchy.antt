@@ -1,5 +1,5 @@
 -- Parents of folders, and the names that are left of them (RFC 9051 section 6.3.9.7).
-use Rattle.std.specs.Prelude.{ℕ, ◌+◌, ◌≤◌, ◌==◌, nat_lt, IsTrue, Bool, false, ◌&&◌, if◌then◌else◌}
+use Rattle.std.specs.Prelude.{◌≡◌, ℕ, ◌+◌, ◌≤◌, ◌==◌, nat_lt, IsTrue, Bool, false, ◌&&◌, if◌then◌else◌}
 use Rattle.std.specs.Prelude.{List, [], ◌∷◌, filter, length, drop, take, Option, Some, None}
 use Rattle.std.specs.List.{AllByRecursion, Contains}
 use Rattle.std.specs.Option.{option_map_or}
@@ -42,6 +42,10 @@ pub record IsParent (fs : List Folder) (f g : Folder) : Type 0 where
   pub there : Contains fs g
   pub above : IsTrue (is_above f g)
   pub longest : AllByRecursion (λ h. IsTrue (is_above f h) → length h.name ≤ length g.name) fs
+
+-- no two of these folders have one name
+abbrev pub NamesDiffer : List Folder → Type 0
+NamesDiffer fs = (a b : Folder) → Contains fs a → Contains fs b → a.name ≡ b.name → a ≡ b
 
 -- how much of a name is its parent's, with the delimiter
 abbrev pub parent_len : Option Folder → ℕ

@@ -1,5 +1,5 @@
 -- Mailboxes (RFC 8621 section 2): one for each folder.
-use Rattle.std.specs.Prelude.{ℕ, List, map, codes, Option}
+use Rattle.std.specs.Prelude.{ℕ, List, map, codes, Option, Some, None}
 use Rattle.std.specs.Option.{option_map}
 use Rattle.told_folder.specs.declared.message.Folder.{Folder}
 use Rattle.told_folder.specs.declared.message.Held.{Held}
@@ -42,6 +42,11 @@ counts_in rows folder = record {
   total_threads = total_threads rows folder;
   unread_threads = unread_threads rows folder;
 }
+
+-- those that are told of a folder, or none
+abbrev pub counts_at : Option FolderCounts → FolderCounts
+counts_at None = record { total_emails = 0; unread_emails = 0; total_threads = 0; unread_threads = 0 }
+counts_at (Some counts) = counts
 
 abbrev pub mailbox_row : List Folder → Rows → Folder → MailboxRow
 mailbox_row fs rows f = row_with fs f (counts_in rows f.number)

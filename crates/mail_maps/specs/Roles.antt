@@ -1,7 +1,7 @@
 -- The roles of Mailboxes (RFC 8621 section 2, RFC 6154).
-use Rattle.std.specs.Prelude.{ℕ, nat_lt, ◌==◌, Bool, ◌&&◌, List, if◌then◌else◌, Option, Some, None, codes}
+use Rattle.std.specs.Prelude.{◌≡◌, ℕ, nat_lt, ◌==◌, Bool, ◌&&◌, List, if◌then◌else◌, Option, Some, None, codes}
 use Rattle.std.specs.Option.{option_map, option_eq}
-use Rattle.std.specs.List.{list_any}
+use Rattle.std.specs.List.{list_any, Contains}
 use Rattle.std.specs.Str.{bytes_eq}
 use Rattle.told_folder.specs.declared.message.Folder.{Folder}
 use Rattle.mail_maps.specs.declared.row.Role.{Role}
@@ -47,3 +47,7 @@ is_taken fs f = list_any (λ g. nat_lt g.number f.number && same_role (role_told
 -- each role once: a folder whose first role is taken has none
 abbrev pub role_in : List Folder → Folder → Option Role
 role_in fs f = if is_taken fs f then None else role_told f
+
+-- no two of these folders have one number
+abbrev pub NumbersDiffer : List Folder → Type 0
+NumbersDiffer fs = (a b : Folder) → Contains fs a → Contains fs b → a.number ≡ b.number → a ≡ b

@@ -1,12 +1,14 @@
 //! The laws of what is served, as clauses of functions that do nothing.
 ghost use Rattle.std.specs.Prelude.{◌≡◌, ◌==◌, ◌&&◌, ℕ, List, [], false, Some, None};
 ghost use Rattle.std.specs.Cmp.Lexicographic.{slice_cmp};
-ghost use Rattle.std.specs.List.{AllByRecursion, flat_map, list_any};
+ghost use Rattle.std.specs.List.{AllByRecursion, Contains, flat_map, list_any};
 ghost use Rattle.std.specs.List.Sorted.{IsStrictlySortedBy};
 ghost use Rattle.std.specs.Ordering.{nat_cmp};
 ghost use Rattle.told_folder.specs.declared.message.Folder.{Folder};
-ghost use Rattle.mail_maps.specs.Hierarchy.{is_above, parent_in, IsParent};
+ghost use Rattle.mail_maps.specs.declared.row.Role.{Role};
+ghost use Rattle.mail_maps.specs.Hierarchy.{is_above, parent_in, IsParent, NamesDiffer};
 ghost use Rattle.mail_maps.specs.Keywords.{has_name, keyword_of, keywords_of, sorted_into};
+ghost use Rattle.mail_maps.specs.Roles.{role_in, NumbersDiffer};
 ghost use Rattle.mail_maps.specs.Rows.{Rows, in_thread};
 ghost use Rattle.mail_maps.specs.Threads.{emails_in, pair_cmp, pairs_in};
 
@@ -14,6 +16,17 @@ ghost use Rattle.mail_maps.specs.Threads.{emails_in, pair_cmp, pairs_in};
 pub fn parents_are_longest()
     ensures some { (fs : List Folder) (f g : Folder) → parent_in fs f ≡ Some g → IsParent fs f g }
     ensures none { (fs : List Folder) (f : Folder) → parent_in fs f ≡ None → AllByRecursion (λ g. is_above f g ≡ false) fs }
+{}
+
+/// Where no two folders have one name, a folder has one parent at most.
+pub fn a_folder_has_one_parent()
+    ensures { (fs : List Folder) (f g h : Folder) → NamesDiffer fs → IsParent fs f g → IsParent fs f h → g ≡ h }
+{}
+
+/// Where no two folders have one number, no two have one role.
+pub fn each_role_is_given_once()
+    ensures { (fs : List Folder) (f g : Folder) (role : Role) → NumbersDiffer fs → Contains fs f → Contains fs g
+        → role_in fs f ≡ Some role → role_in fs g ≡ Some role → f ≡ g }
 {}
 
 /// The keywords of flags are those of each flag, sorted by octets, each once.

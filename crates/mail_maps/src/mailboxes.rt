@@ -67,13 +67,13 @@ fn rows_for(
     requires ascend { Ascends folder_number folders.now }
     ensures { IfOk result (λ rows. rows.entries ≡ mailboxes.mailboxes_of folders.now emails.now.entries) }
 {
-    let tallies = count_emails(alloc, emails)?;
+    let counted = count_emails(alloc, emails)?;
     let lengths = name_lengths(alloc, folders)?;
     let mut taken = BTreeSet::new(alloc);
     let mut rows = BTreeMap::new(alloc);
     for held in folders {
         let folder = &held.folder;
-        let counts = counts_of(alloc, &tallies, folder.number);
+        let counts = counts_of(&counted, folder.number);
         let role = take_role(&mut taken, folder)?;
         let row = row_of(alloc, mirror, &lengths, folder, role, counts)?;
         rows.insert(folder.number, row)?;

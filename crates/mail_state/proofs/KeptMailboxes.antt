@@ -9,6 +9,7 @@ use Rattle.std.specs.Str.Lossy.{utf8_lossy}
 use Rattle.std.proofs.Common.{drop}
 use Rattle.std.proofs.lemmas.Slice.Eq.{slice_eq-Decides, bytes_eq-Decides}
 use Rattle.std.proofs.lemmas.List.{append-nil}
+use Rattle.change_list.specs.Advance.{advance_entries}
 use Rattle.change_list.specs.declared.entries.Entry.{Entry}
 use Rattle.served_maps.specs.Past.{tests_of}
 use Rattle.told_folder.specs.declared.message.Folder.{Folder}
@@ -36,6 +37,7 @@ use Rattle.mail_rows.proofs.Exact.{exact_mailbox}
 use Rattle.mail_rows.proofs.RowLemmas.{all_in}
 use Rattle.mail_rows.proofs.TakingLemmas.{added, rows_added, from_added}
 use Rattle.mail_rows.proofs.TouchLemmas.{touches_are}
+use Rattle.mail_state.specs.reading.Recounts.{all_recounted}
 use Rattle.mail_state.specs.reading.Boxes.{stripped, stripped_folders, boxes_by, StepsMailboxes, BoxesStay}
 use Rattle.mail_state.proofs.EmailLemmas.{InOrder}
 use Rattle.mail_state.proofs.NoTouches.{no_touches}
@@ -249,7 +251,7 @@ like_remaining hs (e ∷ es) gone changed = by (shown hs e.1.mark) gone changed 
 
 -- the Mailboxes of the same folders stay where no Email was touched
 pub mailboxes_kept : (n : NumberedRows) (hs : List Held) (after : NumberedRows) (kept : List Folder) (before : List (ℕ × MailboxRow)) → InOrder n → TakesMail n hs after
-    → before ≡ boxes_by kept n.rows → BoxesStay before kept after.rows (email_touches n.rows after.rows)
+    → before ≡ boxes_by kept n.rows → email_touches n.rows after.rows ≡ [] → before ≡ boxes_by kept after.rows
 mailboxes_kept n hs after kept before o takes was none =
     let more : Rows = added (left n hs) (arrivals n hs) takes.envelopes in
     let rows : after.rows ≡ remaining hs n.rows ++ more = ap (λ (x : NumberedRows). x.rows) takes.after_is ∙ rows_added (left n hs) (arrivals n hs) takes.envelopes in
@@ -264,10 +266,25 @@ mailboxes_kept n hs after kept before o takes was none =
 
 -- Mailboxes that stay as they are are those of the folders and rows, without touches
 pub boxes_step : (before : List (ℕ × MailboxRow)) (kept : List Folder) (hs : List Held) (rows : Rows) (touches : List Entry) → IsStrictlySortedBy nat_cmp (keys_of before)
-    → (steps : List Entry) → steps ≡ [] → touches ≡ [] → stripped_folders hs ≡ kept → BoxesStay before kept rows touches → StepsMailboxes before hs rows before steps
-boxes_step before kept hs rows touches sorted steps empty none same stay = record {
-  mailboxes = stay none ∙ ap (λ (fs : List Folder). boxes_by fs rows) (sym same) ∙ strip_boxes hs rows;
+    → (steps : List Entry) → steps ≡ [] → touches ≡ [] → kept ≡ stripped_folders hs → BoxesStay before kept rows touches → StepsMailboxes before hs rows before steps
+boxes_step before kept hs rows touches sorted steps empty none same stays = record {
+  mailboxes = stays.stay none ∙ ap (λ (fs : List Folder). boxes_by fs rows) same ∙ strip_boxes hs rows;
   touches = empty ∙ sym (no_touches (tests_of mailbox_of mailbox_tests) (λ v. (exact_mailbox (mailbox_of v) (mailbox_of v)).1 refl) before (all_in before sorted));
+}
+
+counted_anew : (fs : List Folder) (was rows : Rows) (gs : List Folder)
+    → all_recounted (counts_in rows) (map {B = ℕ × MailboxRow} (λ (f : Folder). (f.number, mailbox_row fs was f)) gs)
+    ≡ map {B = ℕ × MailboxRow} (λ (f : Folder). (f.number, mailbox_row fs rows f)) gs
+counted_anew fs was rows [] = refl
+counted_anew fs was rows (g ∷ gs) = ap (λ (es : List (ℕ × MailboxRow)). (g.number, mailbox_row fs rows g) ∷ es) (counted_anew fs was rows gs)
+
+-- Mailboxes of the same folders, with the counts of these rows, are those of the folders and rows
+pub boxes_recounted : (before now : List (ℕ × MailboxRow)) (kept : List Folder) (hs : List Held) (rows : Rows) (touches steps : List Entry)
+    → now ≡ all_recounted (counts_in rows) before → steps ≡ advance_entries (tests_of mailbox_of mailbox_tests) before now → kept ≡ stripped_folders hs
+    → BoxesStay before kept rows touches → StepsMailboxes before hs rows now steps
+boxes_recounted before now kept hs rows touches steps are steps_are same stays = record {
+  mailboxes = are ∙ ap (all_recounted (counts_in rows)) stays.made ∙ counted_anew kept stays.was rows kept ∙ ap (λ (fs : List Folder). boxes_by fs rows) same ∙ strip_boxes hs rows;
+  touches = steps_are;
 }
 
 -- a list without elements
@@ -277,11 +294,14 @@ none_in (x ∷ es) e = absurd (let f : suc (length es) ≡ 0 = eqb-true (length 
 
 -- ---- the step of the rows
 
--- after a step in which no Email was touched, the Mailboxes are those of the folders kept and of the rows now
+-- in a step, the Mailboxes are those of the folders kept, and where no Email was touched, of the rows now
 pub boxes_stay : (n : NumberedRows) (hs : List Held) (after : NumberedRows) (kept : List Folder) (before : List (ℕ × MailboxRow)) (rows : Rows) (touches : List Entry)
     → InOrder n → TakesMail n hs after → before ≡ boxes_by kept n.rows → rows ≡ after.rows → touches ≡ email_touches n.rows after.rows → BoxesStay before kept rows touches
-boxes_stay n hs after kept before rows touches o takes was rows_are touches_are = λ none.
-    mailboxes_kept n hs after kept before o takes was (sym touches_are ∙ none) ∙ ap (boxes_by kept) (sym rows_are)
+boxes_stay n hs after kept before rows touches o takes was rows_are touches_are = record {
+  was = n.rows;
+  made = was;
+  stay = λ none. mailboxes_kept n hs after kept before o takes was (sym touches_are ∙ none) ∙ ap (boxes_by kept) (sym rows_are);
+}
 
 -- Mailboxes of folders are those of the folders that are kept of them
 pub boxes_are : (hs : List Held) (rows after : Rows) (kept : List Folder) (boxes : List (ℕ × MailboxRow)) → boxes ≡ mailboxes_of hs rows → kept ≡ stripped_folders hs → rows ≡ after

@@ -5,8 +5,12 @@ mod MarkLemmas
 mod NumberLemmas
 mod NoTouches
 mod TouchedThreads
+mod KeptFolders
 mod KeptMailboxes
+mod RecountLemmas
 mod SoundLemmas
 mod FollowLemmas
 mod StayLemmas
 mod ValidityLemmas
+mod ToldRows
+mod LastLemmas

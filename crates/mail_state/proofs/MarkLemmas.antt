@@ -187,7 +187,8 @@ seen_filtered hs f [] s = tt
 seen_filtered hs f (p ∷ ps) s = elim (f p) as (λ (b : Bool). AllSeen hs (cond b (p ∷ filter f ps) (filter f ps)))
     [ true ↦ (s.0, seen_filtered hs f ps s.1) | false ↦ seen_filtered hs f ps s.1 ]
 
-arrivals_seen : (m : Mail) (n : NumberedRows) → IsMail m → AllSeen m.folders (arrivals n m.folders)
+-- each message that comes stands at its place
+pub arrivals_seen : (m : Mail) (n : NumberedRows) → IsMail m → AllSeen m.folders (arrivals n m.folders)
 arrivals_seen m n is = seen_filtered m.folders (is_newcomer (remaining m.folders n.rows)) (visible m.folders) (all_seen m.folders is.numbers is.uids)
 
 -- new Emails come by folder number, and then UID

@@ -50,9 +50,9 @@ at_place hs n u h x held there = ap (λ (o : Option Held). with_key uid_of u (me
 -- ---- a mark names one message
 
 -- a message after exchanges whose mark a message had before is that one, at its place
-pub one_message : (m : Mail) (xs : List Exchange) (p q : ℕ × ℕ) (a b : Message) → IsMail m → message_in m.folders p.0 p.1 ≡ Some a
+told_message : (m : Mail) (xs : List Exchange) (p q : ℕ × ℕ) (a b : Message) → IsMail m → message_in m.folders p.0 p.1 ≡ Some a
     → message_in (fold tell m xs).folders q.0 q.1 ≡ Some b → b.mark ≡ a.mark → (q ≡ p) × IsSameMessage a b
-one_message m xs p q a b is at_p at_q marks =
+told_message m xs p q a b is at_p at_q marks =
     let k : IsHeldAt (fold tell m xs).folders q.0 q.1 b = held_at (fold tell m xs).folders q.0 q.1 b at_q in
     elim (all_stay m xs is q k.held b k.is_held k.there) [
       | inl stood ↦
@@ -64,6 +64,16 @@ one_message m xs p q a b is at_p at_q marks =
           (place, subst S same stood.same)
       | inr new ↦ absurd (let less : a.mark < m.next_mark = is.marks_below p a.mark (marked_at m.folders p.0 p.1 a at_p) in omega (arith, new, less, marks))
     ]
+
+-- such a message stands at the place of before
+pub one_place : (m : Mail) (xs : List Exchange) (p q : ℕ × ℕ) (a b : Message) → IsMail m → message_in m.folders p.0 p.1 ≡ Some a
+    → message_in (fold tell m xs).folders q.0 q.1 ≡ Some b → b.mark ≡ a.mark → q ≡ p
+one_place m xs p q a b is at_p at_q marks = (told_message m xs p q a b is at_p at_q marks).0
+
+-- and is the same
+pub one_message : (m : Mail) (xs : List Exchange) (p q : ℕ × ℕ) (a b : Message) → IsMail m → message_in m.folders p.0 p.1 ≡ Some a
+    → message_in (fold tell m xs).folders q.0 q.1 ≡ Some b → b.mark ≡ a.mark → IsSameMessage a b
+one_message m xs p q a b is at_p at_q marks = (told_message m xs p q a b is at_p at_q marks).1
 
 -- ---- under another validity
 

@@ -2,3 +2,4 @@
 pub mod Noting
 pub mod ThreadSteps
 pub mod Boxes
+pub mod Recounts

@@ -1,5 +1,5 @@
 //! The laws of histories and states, as clauses of functions that do nothing.
-ghost use Rattle.std.specs.Prelude.{◌≡◌, ◌↔◌, ℕ, ◌≤◌, ◌<◌, ◌≢◌, List, IsTrue, Some, fold};
+ghost use Rattle.std.specs.Prelude.{◌≡◌, ◌↔◌, ℕ, ◌≤◌, ◌<◌, ◌≢◌, List, All, IsTrue, Some, fold};
 ghost use Rattle.change_list.specs.Advance.{IsExact, row_at};
 ghost use Rattle.told_folder.specs.declared.exchange.Exchange.{Exchange};
 ghost use Rattle.told_folder.specs.declared.message.Folder.{Folder};
@@ -12,7 +12,7 @@ ghost use Rattle.mail_maps.specs.Serve.{Email, ServedMailbox, mailbox_tests, ema
 ghost use Rattle.mail_state.specs.History.{MailHistory, IsReached, Advances, first_history};
 ghost use Rattle.mail_state.specs.Sound.{IsSound};
 ghost use Rattle.mail_state.specs.State.{IsStateOf, first_state};
-ghost use Rattle.mail_state.specs.Telling.{IsSameMessage, StaysOrIsNew};
+ghost use Rattle.mail_state.specs.Telling.{HasItsMessage, IsSameMessage, IsTold, NoneMoves, StaysOrIsNew};
 ghost use Rattle.mail_state.specs.Laws.{UsesOnce, KeepsCopies, HasCopyLaws, ComesBefore};
 
 /// Each history that there is is sound.
@@ -41,22 +41,34 @@ pub fn one_mark()
         → IsSound h → had_at h.emails i q ≡ Some u → had_at h.emails j q ≡ Some v → u.immutable.mark ≡ v.immutable.mark }
 {}
 
-/// Each message that exchanges leave stood at its place before, under its folder's validity, or its mark is new.
+/// As long as no MOVE is told, each message that exchanges leave stood at its place before, under its folder's validity, or its
+/// mark is new.
 pub fn messages_stay()
-    ensures { (m : Mail) (xs : List Exchange) → IsMail m → StaysOrIsNew m (fold tell m xs) }
+    ensures { (m : Mail) (xs : List Exchange) → IsMail m → NoneMoves xs → StaysOrIsNew m (fold tell m xs) }
 {}
 
-/// A mark names one message for good: its place, header, date and size stay.
+/// As long as no MOVE is told, a mark that a message had names a message at the same place.
+pub fn told_places_stay()
+    ensures { (m : Mail) (xs : List Exchange) (p q : ℕ × ℕ) (a b : Message) → IsMail m → NoneMoves xs → message_in m.folders p.0 p.1 ≡ Some a
+        → message_in (fold tell m xs).folders q.0 q.1 ≡ Some b → b.mark ≡ a.mark → q ≡ p }
+{}
+
+/// A mark names one message for good: its header, date and size stay.
 pub fn a_mark_names_one_message()
     ensures { (m : Mail) (xs : List Exchange) (p q : ℕ × ℕ) (a b : Message) → IsMail m → message_in m.folders p.0 p.1 ≡ Some a
-        → message_in (fold tell m xs).folders q.0 q.1 ≡ Some b → b.mark ≡ a.mark → (q ≡ p) × IsSameMessage a b }
+        → message_in (fold tell m xs).folders q.0 q.1 ≡ Some b → b.mark ≡ a.mark → IsSameMessage a b }
 {}
 
-/// Where a folder has another validity, none of its Emails has a number of before.
+/// As long as no MOVE is told, no Email of a folder that has another validity has a number of before.
 pub fn a_new_validity_makes_new_ids()
     ensures { (h after : MailHistory) (xs : List Exchange) (f g : Folder) (number : ℕ) (row : EmailRow)
-        → IsSound h → Advances h (fold tell h.mail xs) after → folder_in h.mail.folders row.folder ≡ Some f
+        → IsSound h → NoneMoves xs → Advances h (fold tell h.mail xs) after → folder_in h.mail.folders row.folder ≡ Some f
         → folder_in after.mail.folders row.folder ≡ Some g → f.validity ≢ g.validity → row_at after.numbered.rows number ≡ Some row → h.numbered.next ≤ number }
+{}
+
+/// Each Email of what exchanges told has the header, date and size of the message of its mark, at its folder and UID.
+pub fn emails_have_their_messages()
+    ensures { (h : MailHistory) → IsTold h → All (HasItsMessage h.mail.folders) h.numbered.rows }
 {}
 
 /// Of two new Emails the one of the lower number comes first in the mail, by folder number and then UID.

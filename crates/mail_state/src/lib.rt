@@ -7,7 +7,9 @@ mod lists;
 mod rows;
 
 // What a step does.
+mod kept_folders;
 mod mailboxes;
+mod recount;
 mod threads;
 mod touches;
 

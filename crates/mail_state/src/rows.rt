@@ -54,7 +54,7 @@ impl TypeRows {
     }
 
     /// The rows of other mail, with the touches that lead to them. A header is read where its message is new, a Thread is
-    /// gathered where an Email comes into it or leaves it, and Mailboxes are made where an Email or a folder is another.
+    /// gathered where an Email comes into it or leaves it, Mailboxes are made where a folder is another, and counted where an Email is.
     pub fn follow(
         self,
         alloc: Global,

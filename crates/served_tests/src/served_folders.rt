@@ -1,5 +1,5 @@
 //! Folders as Mailboxes: names, parents, roles and rights.
-use crate::followed_steps::{Step, first, follow};
+use crate::followed_steps::{Step, expect_steps, first, follow};
 use crate::told::{INBOX, Line, Told, tell_all};
 use mail_maps::Rights;
 use told_mail::Mirror;
@@ -8,7 +8,7 @@ const SLASH: Option<u8> = Some(b'/');
 
 /// The parent is the folder with the longest name that, with the delimiter, begins this one. A name is served in UTF-8. What
 /// changes of a folder's name without a change of what is served is no change.
-pub(crate) const NAMES: [Step; 4] = [
+const NAMES: [Step; 4] = [
     (
         &[Told::Folders(&[
             (b"\xff\xfe", SLASH, &[]),
@@ -43,7 +43,7 @@ pub(crate) const NAMES: [Step; 4] = [
 ];
 
 /// A role goes to the folder with the lowest number that has it as its first one, and to no other.
-pub(crate) const ROLES: [Step; 2] = [
+const ROLES: [Step; 2] = [
     (
         &[Told::Folders(&[
             (b"INBOX", SLASH, &[b"\\junk"]),
@@ -78,7 +78,7 @@ const PLAIN: &[u8] = b"\n";
 
 /// Counts alone are told apart from counts with another attribute or another name. Where the name that is served stays, counts
 /// are all that changed.
-pub(crate) const COUNTS_AND_MORE: [Step; 5] = [
+const COUNTS_AND_MORE: [Step; 5] = [
     (
         &[
             Told::Folders(&[(b"INBOX", SLASH, &[b"\\subscribed"]), A]),
@@ -123,7 +123,7 @@ const LONG: &[u8] = b"A/////////////////////////////////////////////////////////
 
 /// Mailboxes stay where nothing of theirs changed, and follow what changes after that. The parent is the folder of the longest
 /// front that is a folder's name.
-pub(crate) const KEPT: [Step; 6] = [
+const KEPT: [Step; 6] = [
     (
         &[
             Told::Folders(&[
@@ -173,6 +173,86 @@ pub(crate) const KEPT: [Step; 6] = [
         b" e1 m1/1 t1 $seen; m1 INBOX: Inbox 1/0 1/0; m4 A/b: 0/0 0/0; m7 m4/c: 0/0 0/0; t1 e1;",
     ),
 ];
+
+/// A step in which nothing is told changes nothing, and one in which only an attribute that no Mailbox shows is another neither.
+/// A folder that differs in one attribute or in its delimiter alone is another Mailbox. Where folders stay, counts alone change.
+const ONE_PART: [Step; 12] = [
+    (
+        &[
+            Told::Folders(&[INBOX, A]),
+            Told::Mail(b"INBOX", (1, &[], 10, PLAIN)),
+        ],
+        b" m+1 m+2 e+1 t+1",
+        b" e1 m1/1 t1; m1 INBOX: Inbox 1/1 1/1; m2 A: 0/0 0/0; t1 e1;",
+    ),
+    (
+        &[],
+        b"",
+        b" e1 m1/1 t1; m1 INBOX: Inbox 1/1 1/1; m2 A: 0/0 0/0; t1 e1;",
+    ),
+    (
+        &[Told::Folders(&[INBOX, A])],
+        b"",
+        b" e1 m1/1 t1; m1 INBOX: Inbox 1/1 1/1; m2 A: 0/0 0/0; t1 e1;",
+    ),
+    (
+        &[Told::Folders(&[INBOX, (b"A", SLASH, &[b"\\subscribed"])])],
+        b" m~2",
+        b" e1 m1/1 t1; m1 INBOX: Inbox 1/1 1/1; m2 A: 0/0 0/0; t1 e1;",
+    ),
+    (
+        &[Told::Folders(&[INBOX, (b"A", SLASH, &[b"\\hasnochildren", b"\\subscribed"])])],
+        b"",
+        b" e1 m1/1 t1; m1 INBOX: Inbox 1/1 1/1; m2 A: 0/0 0/0; t1 e1;",
+    ),
+    (
+        &[Told::Folders(&[INBOX, (b"A", None, &[b"\\hasnochildren", b"\\subscribed"])])],
+        b" m~2",
+        b" e1 m1/1 t1; m1 INBOX: Inbox 1/1 1/1; m2 A: 0/0 0/0; t1 e1;",
+    ),
+    (
+        &[Told::Mail(b"INBOX", (1, &[b"\\seen"], 0, b""))],
+        b" m#1 e~1",
+        b" e1 m1/1 t1 $seen; m1 INBOX: Inbox 1/0 1/0; m2 A: 0/0 0/0; t1 e1;",
+    ),
+    (
+        &[Told::Moved(1, 2, 5)],
+        b" m#1 m#2 e~1",
+        b" e1 m2/5 t1; m1 INBOX: Inbox 0/0 0/0; m2 A: 1/1 1/1; t1 e1;",
+    ),
+    (
+        &[],
+        b"",
+        b" e1 m2/5 t1; m1 INBOX: Inbox 0/0 0/0; m2 A: 1/1 1/1; t1 e1;",
+    ),
+    (
+        &[
+            Told::Folders(&[INBOX, A]),
+            Told::Mail(b"A", (5, &[b"\\seen"], 0, b"")),
+        ],
+        b" m~2 e~1",
+        b" e1 m2/5 t1 $seen; m1 INBOX: Inbox 0/0 0/0; m2 A: 1/0 1/0; t1 e1;",
+    ),
+    (
+        &[Told::Mail(b"A", (5, &[b"\\flagged", b"\\seen"], 0, b""))],
+        b" e~1",
+        b" e1 m2/5 t1 $flagged $seen; m1 INBOX: Inbox 0/0 0/0; m2 A: 1/0 1/0; t1 e1;",
+    ),
+    (
+        &[Told::Folders(&[INBOX])],
+        b" m-2 e-1 t-1",
+        b" m1 INBOX: Inbox 0/0 0/0;",
+    ),
+];
+
+const SCRIPTS: [&[Step]; 5] = [&NAMES, &ROLES, &COUNTS_AND_MORE, &KEPT, &ONE_PART];
+
+#[test]
+fn folders_are_followed(rt: HostRuntime) {
+    for steps in SCRIPTS.iter() {
+        expect_steps(&rt, rt.alloc(), steps);
+    }
+}
 
 /// The rights where a folder can be selected, can have children, and can be renamed and deleted, or can't.
 fn rights(selectable: bool, parent: bool, own: bool) -> Rights {

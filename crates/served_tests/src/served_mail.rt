@@ -1,6 +1,5 @@
 //! What is served as mail comes, changes, moves and goes.
 use crate::followed_steps::{Step, expect_steps};
-use crate::served_folders::{COUNTS_AND_MORE, KEPT, NAMES, ROLES};
 use crate::told::{INBOX, Line, Told};
 
 const ARCHIVE: Line = (b"Archive", Some(b'/'), &[b"\\archive"]);
@@ -335,7 +334,7 @@ const BY_DATE: [Step; 2] = [
     ),
 ];
 
-const SCRIPTS: [&[Step]; 14] = [
+const SCRIPTS: [&[Step]; 10] = [
     &FLAGS,
     &UNREAD_ELSEWHERE,
     &TO_BE_DELETED,
@@ -346,10 +345,6 @@ const SCRIPTS: [&[Step]; 14] = [
     &COMES_AGAIN,
     &SUBJECTS,
     &BY_DATE,
-    &COUNTS_AND_MORE,
-    &KEPT,
-    &NAMES,
-    &ROLES,
 ];
 
 #[test]

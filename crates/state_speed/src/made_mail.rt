@@ -109,6 +109,16 @@ pub fn inbox(alloc: Global, messages: u32, each: u32) -> Result<Mirror, AllocErr
     Ok(mirror)
 }
 
+/// Tells of the message of a number, where conversations have `each` messages.
+pub fn tell_new(
+    alloc: Global,
+    mirror: &mut Mirror,
+    number: u32,
+    each: u32,
+) -> Result<(), AllocError> {
+    tell_slice(alloc, mirror, number, number.saturating_add(1), each)
+}
+
 /// Tells that the message of a UID is seen.
 pub fn tell_seen(alloc: Global, mirror: &mut Mirror, uid: u32) -> Result<(), AllocError> {
     let mut flags = Names::new(alloc);

@@ -1,11 +1,11 @@
 //! What it costs to serve mail. `state_speed MESSAGES EACH` makes mail of MESSAGES messages in memory, with EACH in each
 //! conversation and with headers of some 1,400 octets. It reads their headers alone, takes them into a state, and then takes
-//! changes of one message at a time into it.
+//! changes of one message at a time into it, the same mail again, and one new message at a time.
 #![tactic(auto)]
 
 mod made_mail;
 
-use made_mail::{inbox, tell_seen};
+use made_mail::{inbox, tell_new, tell_seen};
 use mail_header::fields;
 use mail_state::{MailState, MailType};
 use std::alloc::Global;
@@ -13,7 +13,7 @@ use std::time::Instant;
 use std::{env, fs};
 use told_mail::Mirror;
 
-/// How many messages are changed, one at a time.
+/// How many messages are changed, one at a time; how often the same mail is taken in again; and how many messages come.
 const CHANGES: u32 = 5;
 
 /// What the line of this name says in a text of the system; empty where there is none.
@@ -112,17 +112,16 @@ fn take_in(rt: &HostRuntime, mirror: &Mirror, messages: u32) -> Result<MailState
     Ok(state)
 }
 
-/// Takes the change of one message in.
-fn take_change(
+/// Takes what was told in.
+fn take(
     rt: &HostRuntime,
-    mirror: &mut Mirror,
+    mirror: &Mirror,
     state: MailState,
-    uid: u32,
+    what: &str,
 ) -> Result<MailState, anyhow::Error> {
-    tell_seen(rt.alloc(), mirror, uid)?;
     let watch = Watch::start(rt)?;
     let (state, _moved) = state.apply(mirror)?;
-    watch.say(rt, "one message changed")?;
+    watch.say(rt, what)?;
     Ok(state)
 }
 
@@ -147,17 +146,39 @@ fn take_changes(
         let uid = (messages / CHANGES)
             .saturating_mul(change)
             .saturating_add(1);
-        state = take_change(rt, mirror, state, uid)?;
+        tell_seen(rt.alloc(), mirror, uid)?;
+        state = take(rt, mirror, state, "one message changed")?;
     }
     Ok(state)
 }
 
-/// Takes the same mail in again.
-fn take_again(rt: &HostRuntime, mirror: &Mirror, state: MailState) -> Result<(), anyhow::Error> {
-    let watch = Watch::start(rt)?;
-    let (state, _moved) = state.apply(mirror)?;
-    watch.say(rt, "nothing changed")?;
-    say_rows(rt, &state)
+/// Takes new messages in, one at a time.
+fn take_new(
+    rt: &HostRuntime,
+    mirror: &mut Mirror,
+    state: MailState,
+    messages: u32,
+    each: u32,
+) -> Result<MailState, anyhow::Error> {
+    let mut state = state;
+    for more in 0..CHANGES {
+        tell_new(rt.alloc(), mirror, messages.saturating_add(more), each)?;
+        state = take(rt, mirror, state, "one new message")?;
+    }
+    Ok(state)
+}
+
+/// Takes the same mail in again and again.
+fn take_again(
+    rt: &HostRuntime,
+    mirror: &Mirror,
+    state: MailState,
+) -> Result<MailState, anyhow::Error> {
+    let mut state = state;
+    for _ in 0..CHANGES {
+        state = take(rt, mirror, state, "nothing changed")?;
+    }
+    Ok(state)
 }
 
 fn measure(rt: &HostRuntime, messages: u32, each: u32) -> Result<(), anyhow::Error> {
@@ -165,7 +186,9 @@ fn measure(rt: &HostRuntime, messages: u32, each: u32) -> Result<(), anyhow::Err
     say_headers(rt, &mirror)?;
     let state = take_in(rt, &mirror, messages)?;
     let state = take_changes(rt, &mut mirror, state, messages)?;
-    take_again(rt, &mirror, state)
+    let state = take_again(rt, &mirror, state)?;
+    let state = take_new(rt, &mut mirror, state, messages, each)?;
+    say_rows(rt, &state)
 }
 
 fn number(word: String) -> u32 {

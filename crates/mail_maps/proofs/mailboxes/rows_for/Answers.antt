@@ -7,11 +7,9 @@ use Rattle.mail_maps.specs.declared.row.MailboxRow.{MailboxRow}
 use Rattle.mail_maps.specs.declared.row.Role.{Role}
 use Rattle.mail_maps.specs.Mailboxes.{folders_of, mailbox_row, mailboxes_of, row_as, row_with}
 use Rattle.mail_maps.specs.reading.Fronts.{AreLengths}
-use Rattle.mail_maps.specs.reading.Tallies.{counts_told}
 use Rattle.mail_maps.proofs.InOrder.{put_next}
 use Rattle.mail_maps.proofs.Ordered.{by_number, sorted_by_number}
 use Rattle.mail_maps.proofs.RoleLemmas.{role_known, taken_more}
-use Rattle.mail_maps.proofs.Tallied.{counted_is}
 use Rattle.mail_maps.proofs.mailboxes.rows_for.Goals as goal
 
 pub row_of-requires : goal.row_of-requires
@@ -34,7 +32,7 @@ loop-held-preserved c =
     ∙ ap (λ (xs : List Held). row_as (folders_of xs) held.folder c.in_ok-role.role c.counts_of-counts.result) (sym c.requires.folders)
     ∙ ap (λ (role : Option Role). row_as (folders_of hs) held.folder role c.counts_of-counts.result)
     (c.in_ok-role.ensures.role ∙ role_known hs i held (drop (i + 1) hs) c.loop-held.taken c.requires.ascend next c.loop-held.invariant.taken)
-    ∙ ap (row_with (folders_of hs) held.folder) (c.counts_of-counts.ensures ∙ ap counts_told (c.in_ok-tallies.ensures k ∙ counted_is rows k)) in
+    ∙ ap (row_with (folders_of hs) held.folder) (c.counts_of-counts.ensures ∙ c.in_ok-counted.ensures k) in
     record {
       rows = put_next (mailboxes_of hs rows) c.loop-held.rows.entries k (F held.folder) (by_number F (drop (i + 1) hs)) c.insert.new.self.entries
           (sorted_by_number F hs c.requires.ascend)

@@ -2,4 +2,4 @@ use Rattle.mail_state.proofs.StayLemmas.{all_stay}
 use Rattle.mail_state.proofs.laws.messages_stay.Goals as goal
 
 pub returns : goal.returns
-returns c = all_stay
+returns c = λ m xs is none. all_stay m xs is
