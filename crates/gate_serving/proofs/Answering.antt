@@ -9,7 +9,7 @@ use Rattle.gate_world.specs.declared.event.Event.{Event}
 use Rattle.gate_world.specs.declared.event.Event.TheVariants.{Accepted, NoMore, ClientDone, FrontFailed}
 use Rattle.gate_world.specs.declared.outside.Failed.{Failed}
 use Rattle.http_door.specs.declared.asking.AskError.TheVariants as unread
-use Rattle.jmap_core.specs.declared.method_error.MethodError.TheVariants.{ServerUnavailable}
+use Rattle.jmap_methods.specs.declared.method_error.MethodError.TheVariants.{ServerUnavailable}
 use Rattle.gate_machine.specs.Progress.{Progress, Bears, idle}
 use Rattle.gate_machine.specs.Beginning.{Visits}
 use Rattle.gate_machine.specs.declared.machine.Machine.{Machine}

@@ -3,7 +3,7 @@ use Rattle.std.proofs.Common.{◌≡◌, ◌||◌, ◌++◌, ◌+◌, ℕ, Bool,
 use Rattle.std.specs.List.{list_any}
 use Rattle.jmap_core.specs.Request.{CallData, call_data}
 use Rattle.jmap_core.specs.declared.call.Call.{Call}
-use Rattle.jmap_core.specs.declared.request.Using.{Using}
+use Rattle.jmap_methods.specs.declared.method.Using.{Using}
 use Rattle.gate_serving.specs.Calls.{Mailing, call_result, answered_call, responses_after}
 
 -- a test of what is made of each element

@@ -2,15 +2,15 @@
 use Rattle.std.specs.Prelude.{◌++◌, Bool, List, [], ◌∷◌, Result, Ok, Err, codes}
 use Rattle.std.specs.List.{list_any}
 use Rattle.serde_json.specs.Data.{Data}
-use Rattle.jmap_core.specs.Echo.{echoed}
-use Rattle.jmap_core.specs.Method.{method_asked, needs_mail_by, error_data}
+use Rattle.jmap_methods.specs.Echo.{echoed}
+use Rattle.jmap_methods.specs.Method.{method_asked, needs_mail_by, error_data}
 use Rattle.jmap_core.specs.References.{resolved_arguments}
 use Rattle.jmap_core.specs.Request.{CallData}
-use Rattle.jmap_core.specs.declared.method.Method.{Method}
-use Rattle.jmap_core.specs.declared.method.Method.TheVariants.{CoreEcho, MailboxGet}
-use Rattle.jmap_core.specs.declared.method_error.MethodError.{MethodError}
-use Rattle.jmap_core.specs.declared.request.Using.{Using}
-use Rattle.jmap_core.specs.State.{state_text}
+use Rattle.jmap_methods.specs.declared.method.Method.{Method}
+use Rattle.jmap_methods.specs.declared.method.Method.TheVariants.{CoreEcho, MailboxGet}
+use Rattle.jmap_methods.specs.declared.method_error.MethodError.{MethodError}
+use Rattle.jmap_methods.specs.declared.method.Using.{Using}
+use Rattle.jmap_methods.specs.State.{state_text}
 use Rattle.read_methods.specs.Mailboxes.{mailboxes_answer}
 use Rattle.gate_serving.specs.declared.served_mail.ServedMail.{ServedMail}
 

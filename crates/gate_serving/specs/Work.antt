@@ -1,8 +1,8 @@
 -- The work on one request, from its last octet to the first of the response.
 use Rattle.std.specs.Prelude.{◌≡◌, ◌++◌, true, false, List, [], Option, Some, None, Ok, Err}
 use Rattle.gate_world.specs.declared.event.Event.{Event}
-use Rattle.jmap_core.specs.declared.method_error.MethodError.{MethodError}
-use Rattle.jmap_core.specs.declared.method_error.MethodError.TheVariants.{ServerUnavailable, ServerFail}
+use Rattle.jmap_methods.specs.declared.method_error.MethodError.{MethodError}
+use Rattle.jmap_methods.specs.declared.method_error.MethodError.TheVariants.{ServerUnavailable, ServerFail}
 use Rattle.gate_machine.specs.History.{KnownMail}
 use Rattle.imap_exchange.specs.Answering.{HangsUp}
 use Rattle.gate_machine.specs.Progress.{Progress, idle, is_up}

@@ -2,20 +2,19 @@
 ghost use Rattle.std.specs.Prelude.{◌≡◌, [], Err, IfOk, OnOk, All, map, false};
 ghost use Rattle.serde_json.specs.View.{view};
 ghost use Rattle.serde_json.specs.Written.{has_float};
-ghost use Rattle.jmap_core.specs.Outcome.{Agrees};
+ghost use Rattle.jmap_methods.specs.Outcome.{Agrees};
 ghost use Rattle.jmap_core.specs.Request.{call_data};
 ghost use Rattle.jmap_core.specs.Response.{IsWhole};
-ghost use Rattle.jmap_core.specs.declared.method_error.MethodError.TheVariants.{Memory};
-ghost use Rattle.jmap_core.specs.State.{state_text};
+ghost use Rattle.jmap_methods.specs.declared.method_error.MethodError.TheVariants.{Memory};
+ghost use Rattle.jmap_methods.specs.State.{state_text};
 ghost use Rattle.read_methods.specs.Mailboxes.{mailboxes_answer};
 ghost use Rattle.gate_serving.specs.Calls as spec;
 ghost use Rattle.gate_serving.specs.Calls.{answered_call, responses_after};
 
 use crate::served_mail::ServedMail;
 use gate_world::Text;
-use jmap_core::{
-    Call, Method, MethodError, Using, echo, error_arguments, method_named, resolve, state_text,
-};
+use jmap_core::{Call, resolve};
+use jmap_methods::{Method, MethodError, Using, echo, error_arguments, method_named, state_text};
 use read_methods::mailbox_get;
 use serde_json::Value;
 use std::alloc::{AllocError, Global};

@@ -10,7 +10,7 @@ use crate::calls::Mailing;
 use crate::served_mail::served_mail;
 use gate_machine::{Fall, Machine, Standing, visit};
 use gate_world::{Text, World};
-use jmap_core::MethodError;
+use jmap_methods::MethodError;
 use std::alloc::{AllocError, Global};
 
 // The error of calls that need the mail, where it can't be told.

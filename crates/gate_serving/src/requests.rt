@@ -1,7 +1,7 @@
 // Whether requests need the mail.
 ghost use Rattle.std.specs.Prelude.{◌≡◌, map};
 ghost use Rattle.std.specs.List.{list_any};
-ghost use Rattle.jmap_core.specs.Method.{needs_mail_by};
+ghost use Rattle.jmap_methods.specs.Method.{needs_mail_by};
 ghost use Rattle.jmap_core.specs.Request.{call_data};
 ghost use Rattle.gate_serving.specs.Calls.{needs_mail};
 

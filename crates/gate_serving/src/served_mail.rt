@@ -4,7 +4,7 @@ ghost use Rattle.gate_serving.specs.Counts.{has_flag, is_visible as visible, is_
 
 use gate_machine::Known;
 use gate_world::Listed;
-use jmap_core::State;
+use jmap_methods::State;
 use read_methods::MailboxCounts;
 use std::alloc::{AllocError, Global};
 use told_mail::{Held, Message, Mirror};

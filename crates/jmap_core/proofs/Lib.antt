@@ -1,9 +1,5 @@
 pub mod Bodies
 pub mod Capabilities
-pub mod HexReading
-pub mod HexText
 pub mod Ids
 pub mod Paths
-pub mod PlainReading
-pub mod StateParts
 pub mod Whole

@@ -5,8 +5,8 @@ use Rattle.std.specs.List.{find, slice_split}
 use Rattle.serde_json.specs.Data.{Data, null, boolean, number, string, array, object, Items, no_items, item, Members, no_members, member, put}
 use Rattle.serde_json.specs.Find.{get, pointer, as_str, as_array, as_object}
 use Rattle.jmap_core.specs.Request.{CallData}
-use Rattle.jmap_core.specs.declared.method_error.MethodError.{MethodError}
-use Rattle.jmap_core.specs.declared.method_error.MethodError.TheVariants.{InvalidArguments, InvalidResultReference}
+use Rattle.jmap_methods.specs.declared.method_error.MethodError.{MethodError}
+use Rattle.jmap_methods.specs.declared.method_error.MethodError.TheVariants.{InvalidArguments, InvalidResultReference}
 
 -- ---- paths
 

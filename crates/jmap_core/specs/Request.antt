@@ -1,16 +1,17 @@
 -- The request that a body is, or the first reason why it is none (RFC 8620 sections 3.3 and 3.6.1).
 use Rattle.std.specs.Prelude.{ℕ, List, [], ◌∷◌, Bool, ◌||◌, if◌then◌else◌, bytes_eq, codes, nat_lt, length, map, Option, Some, None, option_map}
 use Rattle.std.specs.Prelude.{option_and_then, Result, Ok, Err}
-use Rattle.std.specs.List.{list_any, list_all}
+use Rattle.std.specs.List.{list_all}
 use Rattle.std.specs.Str.{is_utf8}
 use Rattle.serde_json.specs.Data.{Data, null, boolean, number, string, array, object, Items, no_items, item, Members}
 use Rattle.serde_json.specs.Find.{get, as_str, as_array, as_object}
 use Rattle.serde_json.specs.Read.{read}
 use Rattle.serde_json.specs.View.{view}
+use Rattle.jmap_methods.specs.Arguments.{texts_in, is_among}
 use Rattle.jmap_core.specs.CreatedIds.{Ids, given_to}
 use Rattle.jmap_core.specs.declared.call.Call.{Call}
 use Rattle.jmap_core.specs.declared.request.Request.{Request}
-use Rattle.jmap_core.specs.declared.request.Using.{Using}
+use Rattle.jmap_methods.specs.declared.method.Using.{Using}
 use Rattle.jmap_core.specs.declared.request.LimitName.TheVariants.{MaxCallsInRequest}
 use Rattle.jmap_core.specs.declared.request.RequestError.{RequestError}
 use Rattle.jmap_core.specs.declared.request.RequestError.TheVariants.{NotJson, NotRequest, UnknownCapability, Limit}
@@ -40,10 +41,6 @@ pub record Form : Type 0 where
   pub uses : List (List ℕ)
   pub calls : List CallData
   pub created : Option Ids
-
-abbrev pub texts_in : Items → Option (List (List ℕ))
-texts_in no_items = Some []
-texts_in (item d ds) = option_and_then (λ text. option_map (λ texts. text ∷ texts) (texts_in ds)) (as_str d)
 
 -- a call is a text, an object and a text
 abbrev pub call_from : Option (List ℕ) → Data → Option Members → Option (List ℕ) → Option CallData
@@ -97,9 +94,6 @@ mail_capability = codes "urn:ietf:params:jmap:mail"
 
 abbrev pub is_capability : List ℕ → Bool
 is_capability name = bytes_eq name core_capability || bytes_eq name mail_capability
-
-abbrev pub is_among : List ℕ → List (List ℕ) → Bool
-is_among name names = list_any (λ n. bytes_eq n name) names
 
 abbrev pub using_of : List (List ℕ) → Using
 using_of names = record { core = is_among core_capability names; mail = is_among mail_capability names }

@@ -2,4 +2,3 @@
 pub mod Forms
 pub mod Pairs
 pub mod Referring
-pub mod PlainDigits

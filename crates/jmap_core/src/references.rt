@@ -5,16 +5,16 @@ ghost use Rattle.std.specs.Str.{bytes_eq};
 ghost use Rattle.serde_json.specs.Data.{no_members};
 ghost use Rattle.serde_json.specs.Find.{as_str, get};
 ghost use Rattle.serde_json.specs.View.{view, members_view};
-ghost use Rattle.jmap_core.specs.Outcome.{Agrees};
+ghost use Rattle.jmap_methods.specs.Outcome.{Agrees};
 ghost use Rattle.jmap_core.specs.Request.{call_data};
 ghost use Rattle.jmap_core.specs.References.{referring, resolved_arguments};
 ghost use Rattle.jmap_core.specs.References as spec;
 ghost use Rattle.jmap_core.specs.reading.Referring.{reference_data};
-ghost use Rattle.jmap_core.specs.declared.method_error.MethodError.TheVariants.{Memory};
+ghost use Rattle.jmap_methods.specs.declared.method_error.MethodError.TheVariants.{Memory};
 
 use crate::call::Call;
-use crate::method_error::MethodError;
 use crate::pointer::at_path;
+use jmap_methods::MethodError;
 use serde_json::{Map, Value, put};
 use std::alloc::{AllocError, Global};
 

@@ -4,17 +4,9 @@ ghost use Rattle.jmap_core.specs.declared.request.RequestError.TheVariants.{Memo
 
 use crate::call::Call;
 use crate::created_ids::CreatedIds;
+use jmap_methods::Using;
 use std::alloc::AllocError;
 use thiserror::Error;
-
-/// Which capabilities a request uses (RFC 8620 section 3.3).
-#[derive(Clone, Copy, Debug, PartialEq, Eq)]
-pub struct Using {
-    /// `urn:ietf:params:jmap:core`
-    pub core: bool,
-    /// `urn:ietf:params:jmap:mail`
-    pub mail: bool,
-}
 
 /// A request (RFC 8620 section 3.3).
 #[derive(Drop)]

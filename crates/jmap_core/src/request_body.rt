@@ -3,17 +3,18 @@ ghost use Rattle.std.specs.Prelude.{◌≡◌, [], IfOk, map, option_map, option
 ghost use Rattle.serde_json.specs.Find.{get, as_array};
 ghost use Rattle.serde_json.specs.View.{view, items_view, members_view};
 ghost use Rattle.jmap_core.specs.CreatedIds.{given_to};
-ghost use Rattle.jmap_core.specs.Outcome.{Agrees};
+ghost use Rattle.jmap_methods.specs.Arguments.{texts_in};
+ghost use Rattle.jmap_methods.specs.Outcome.{Agrees};
 ghost use Rattle.jmap_core.specs.Request as spec;
 ghost use Rattle.jmap_core.specs.Request.{call_data, request_data, json_in, requested};
 ghost use Rattle.jmap_core.specs.reading.Forms.{form_data, note_capability, known_capabilities};
 ghost use Rattle.jmap_core.specs.declared.request.RequestError.TheVariants.{Memory, NotJson, NotRequest};
 
-use crate::arguments::texts_in;
 use crate::call::Call;
 use crate::created_ids::CreatedIds;
-use crate::request::{LimitName, Request, RequestError, Using};
+use crate::request::{LimitName, Request, RequestError};
 use gate_world::Text;
+use jmap_methods::{Using, texts_in};
 use serde_json::{Map, Value};
 use std::alloc::{AllocError, Global};
 
@@ -121,7 +122,7 @@ fn list_at<'a>(request: &'a Value, key: &str) -> Option<&'a Vec<Value>>
 
 fn names_of<'a>(alloc: Global, request: &'a Value) -> Result<Option<Vec<&'a str>>, AllocError>
     ensures { IfOk result (λ o. option_map (λ v. map (λ t. t.now) v.items) o
-        ≡ option_and_then spec.texts_in (option_and_then as_array (get (codes "using") (view request.now)))) }
+        ≡ option_and_then texts_in (option_and_then as_array (get (codes "using") (view request.now)))) }
 {
     match list_at(request, "using") {
         None => Ok(None),

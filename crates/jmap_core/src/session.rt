@@ -5,7 +5,8 @@ ghost use Rattle.serde_json.specs.View.{view, items_of};
 ghost use Rattle.jmap_core.specs.Session.{session_state_text, core_limits, email_orders, mail_limits, account_data, accounts_data, capabilities_data, primary_accounts_data, session_data};
 ghost use Rattle.jmap_core.specs.Session.{api_path, download_path, events_path, upload_path};
 
-use crate::{MAX_CALLS_IN_REQUEST, MAX_OBJECTS_IN_GET};
+use crate::MAX_CALLS_IN_REQUEST;
+use jmap_methods::MAX_OBJECTS_IN_GET;
 use serde_json::{Map, Value, json, put};
 use std::alloc::{AllocError, Global};
 

@@ -1,6 +1,6 @@
 // Methods by their names, and Mailbox/get.
 use crate::texts::shown;
-use jmap_core::{Method, MethodError, Using, method_named, needs_mail};
+use jmap_methods::{Method, MethodError, Using, method_named, needs_mail};
 use read_methods::{MailboxCounts, mailbox_get};
 use serde_json::Value;
 use std::alloc::Global;

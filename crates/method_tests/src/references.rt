@@ -1,7 +1,8 @@
 // Result references (RFC 8620 section 3.7): the examples of the RFC, and each refusal.
 use crate::texts::shown;
 use gate_world::Text;
-use jmap_core::{Call, echo, resolve, response_value};
+use jmap_core::{Call, resolve, response_value};
+use jmap_methods::echo;
 use serde_json::Value;
 use std::alloc::Global;
 use std::process::Abort;

@@ -1,5 +1,6 @@
 // States' texts, and the ids of what was created.
-use jmap_core::{CreatedIds, read_state, state_text};
+use jmap_core::CreatedIds;
+use jmap_methods::{read_state, state_text};
 use std::alloc::Global;
 use std::process::Abort;
 

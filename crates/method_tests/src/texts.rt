@@ -1,5 +1,5 @@
 // What a method answers, as a text.
-use jmap_core::MethodError;
+use jmap_methods::MethodError;
 use serde_json::Value;
 use std::alloc::Global;
 use std::process::Abort;

@@ -5,9 +5,9 @@ use Rattle.std.specs.Str.{bytes_eq}
 use Rattle.std.proofs.Math.Bool.{or-true, or-false}
 use Rattle.std.proofs.lemmas.Option.{none-some, same_Some}
 use Rattle.gate_world.proofs.Steps.{is_or_not}
-use Rattle.jmap_core.specs.Request.{is_among}
-use Rattle.jmap_core.specs.declared.method_error.MethodError.{MethodError}
-use Rattle.jmap_core.specs.declared.method_error.MethodError.TheVariants.{InvalidArguments}
+use Rattle.jmap_methods.specs.Arguments.{is_among}
+use Rattle.jmap_methods.specs.declared.method_error.MethodError.{MethodError}
+use Rattle.jmap_methods.specs.declared.method_error.MethodError.TheVariants.{InvalidArguments}
 use Rattle.read_methods.specs.Mailboxes.{is_property, properties_of}
 use Rattle.read_methods.specs.reading.Noted.{properties_noted, known_properties}
 use Rattle.read_methods.specs.declared.mailboxes.Properties.{Properties}

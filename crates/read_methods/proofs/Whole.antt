@@ -8,8 +8,8 @@ use Rattle.std.specs.Result.{IfOk}
 use Rattle.serde_json.specs.Data.{Data, number, unsigned, string, Members, no_members, member, put}
 use Rattle.serde_json.specs.View.{items_of}
 use Rattle.serde_json.specs.Written.{has_float, items_have_float, members_have_float}
-use Rattle.jmap_core.specs.declared.method_error.MethodError.{MethodError}
-use Rattle.jmap_core.specs.declared.method_error.MethodError.TheVariants.{RequestTooLarge}
+use Rattle.jmap_methods.specs.declared.method_error.MethodError.{MethodError}
+use Rattle.jmap_methods.specs.declared.method_error.MethodError.TheVariants.{RequestTooLarge}
 use Rattle.read_methods.specs.Mailboxes.{Asked, id_text, put_if, mailbox_data, mailbox_with, shown, is_missing, distinct, get_data, answer_to, answered}
 use Rattle.read_methods.specs.declared.mailbox_counts.MailboxCounts.{MailboxCounts}
 use Rattle.read_methods.specs.declared.mailboxes.Properties.{Properties}

@@ -4,11 +4,10 @@ use Rattle.std.specs.Prelude.{None, option_map, Result, Ok, Err}
 use Rattle.std.specs.List.{list_all, find, filter, filter_map}
 use Rattle.serde_json.specs.Data.{unsigned, Data, number, string, array, object, Members, no_members, member, put}
 use Rattle.serde_json.specs.View.{items_of}
-use Rattle.jmap_core.specs.Arguments.{text_at, account_check, count_check, texts_at}
-use Rattle.jmap_core.specs.Request.{is_among}
-use Rattle.jmap_core.specs.declared.arguments.TheConstants.{MAX_OBJECTS_IN_GET}
-use Rattle.jmap_core.specs.declared.method_error.MethodError.{MethodError}
-use Rattle.jmap_core.specs.declared.method_error.MethodError.TheVariants.{InvalidArguments, RequestTooLarge}
+use Rattle.jmap_methods.specs.Arguments.{account_check, count_check, is_among, text_at, texts_at}
+use Rattle.jmap_methods.specs.declared.arguments.TheConstants.{MAX_OBJECTS_IN_GET}
+use Rattle.jmap_methods.specs.declared.method_error.MethodError.{MethodError}
+use Rattle.jmap_methods.specs.declared.method_error.MethodError.TheVariants.{InvalidArguments, RequestTooLarge}
 use Rattle.read_methods.specs.declared.mailbox_counts.MailboxCounts.{MailboxCounts}
 use Rattle.read_methods.specs.declared.mailboxes.Properties.{Properties}
 

@@ -4,16 +4,15 @@ ghost use Rattle.std.specs.List.{filter, filter_map};
 ghost use Rattle.serde_json.specs.Data.{number, unsigned, string};
 ghost use Rattle.serde_json.specs.View.{view, members_view};
 ghost use Rattle.serde_json.specs.Written.{has_float};
-ghost use Rattle.jmap_core.specs.Arguments.{texts_at};
-ghost use Rattle.jmap_core.specs.Outcome.{Agrees};
-ghost use Rattle.jmap_core.specs.Request.{is_among};
-ghost use Rattle.jmap_core.specs.declared.method_error.MethodError.TheVariants.{Memory, InvalidArguments};
+ghost use Rattle.jmap_methods.specs.Arguments.{is_among, texts_at};
+ghost use Rattle.jmap_methods.specs.Outcome.{Agrees};
+ghost use Rattle.jmap_methods.specs.declared.method_error.MethodError.TheVariants.{Memory, InvalidArguments};
 ghost use Rattle.read_methods.specs.Mailboxes as spec;
 ghost use Rattle.read_methods.specs.Mailboxes.{id_text, mailbox_data, get_data, mailboxes_answer};
 ghost use Rattle.read_methods.specs.reading.Noted.{note_property, known_properties};
 
 use crate::mailbox_counts::MailboxCounts;
-use jmap_core::{MethodError, check_account, check_count, text_at, texts_or_null};
+use jmap_methods::{MethodError, check_account, check_count, text_at, texts_or_null};
 use serde_json::{Map, Value, json, put};
 use std::alloc::{AllocError, Global};
 

@@ -1,5 +1,5 @@
 use Rattle.std.proofs.Common.{sym, ◌∙◌}
-use Rattle.jmap_core.specs.Method.{needs_mail_by}
+use Rattle.jmap_methods.specs.Method.{needs_mail_by}
 use Rattle.jmap_core.specs.Request.{CallData, call_data}
 use Rattle.gate_serving.proofs.Calling.{any_map}
 use Rattle.gate_serving.proofs.requests.needs_mail.Goals as goal

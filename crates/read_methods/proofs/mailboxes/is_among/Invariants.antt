@@ -1,5 +1,5 @@
 use Rattle.std.proofs.Common.{◌≡◌, drop, map}
-use Rattle.jmap_core.specs.Request.{is_among}
+use Rattle.jmap_methods.specs.Arguments.{is_among}
 use Rattle.read_methods.proofs.mailboxes.is_among.Given as goal
 
 abbrev pub invariant-loop-other : goal.invariant-loop-other

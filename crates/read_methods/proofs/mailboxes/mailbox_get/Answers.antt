@@ -4,9 +4,9 @@ use Rattle.serde_json.specs.Data.{Data}
 use Rattle.serde_json.specs.View.{view}
 use Rattle.serde_json.specs.Written.{has_float}
 use Rattle.serde_json.specs.declared.value.Value.{Value}
-use Rattle.jmap_core.specs.Outcome.{Agrees}
-use Rattle.jmap_core.specs.declared.method_error.MethodError.{MethodError}
-use Rattle.jmap_core.specs.declared.method_error.MethodError.TheVariants.{Memory}
+use Rattle.jmap_methods.specs.Outcome.{Agrees}
+use Rattle.jmap_methods.specs.declared.method_error.MethodError.{MethodError}
+use Rattle.jmap_methods.specs.declared.method_error.MethodError.TheVariants.{Memory}
 use Rattle.read_methods.specs.Mailboxes.{asked_of}
 use Rattle.read_methods.proofs.Whole.{whole-answer}
 use Rattle.read_methods.proofs.mailboxes.mailbox_get.Goals as goal

@@ -1,0 +1,4 @@
+pub mod HexReading
+pub mod HexText
+pub mod PlainReading
+pub mod StateParts

@@ -1,0 +1,67 @@
+-- The epoch and the place in a state's text.
+use Rattle.std.proofs.Common.{arith, ◌≡◌, ◌≢◌, ◌<◌, ◌≤◌, ◌+◌, ◌-◌, ◌/◌, ◌%◌, ℕ, zero, suc, List, [], ◌∷◌, ◌++◌, Bool, true, false, nat_lt, if◌then◌else◌, length, get_or, decimal}
+use Rattle.std.proofs.Common.{refl, sym, ap, ◌∙◌}
+use Rattle.std.proofs.Common.{inl, inr}
+use Rattle.std.proofs.Math.ListN.{get_or-append}
+use Rattle.std.proofs.Math.Seq.{get_or-append_seam}
+use Rattle.std.proofs.lemmas.Bool.Decides.{leb_tells}
+use Rattle.std.proofs.lemmas.List.{length-append, get_or-append_right}
+use Rattle.jmap_methods.specs.State.{hex_digit, hex_text, state_text}
+use Rattle.jmap_methods.specs.declared.state.State.{State}
+
+-- no `-` stands in the text
+abbrev pub HasNoDash : List ℕ → Type 0
+HasNoDash text = (i : ℕ) → i < length text → get_or text i 0 ≢ 45
+
+digit_by : (n : ℕ) (low : Bool) → (if low then 48 + n else 87 + n) ≢ 45
+digit_by n true = λ is. absurd (omega (arith, is))
+digit_by n false = λ is. absurd (omega (arith, is))
+
+-- hexadecimal digits have none
+pub hex_has_no_dash : (width n : ℕ) → HasNoDash (hex_text width n)
+unfolding hex_text
+hex_has_no_dash zero n = λ i below. absurd (omega (arith, below))
+hex_has_no_dash (suc width) n = λ i below is.
+    let front = hex_text width (n / 16) in
+    let last = hex_digit (n % 16) in
+    elim (leb_tells (length front) i) [
+      | inr inside ↦
+          let in_front : i < length front = omega (arith, inside.1) in
+          hex_has_no_dash width (n / 16) i in_front (sym (get_or-append front (last ∷ []) 0 i in_front) ∙ is)
+      | inl past ↦
+          let behind : length front ≤ i = past.1 in
+          let none_left : i - length front ≡ 0 = omega (arith, below, behind, length-append front (last ∷ [])) in
+          digit_by (n % 16) (nat_lt (n % 16) 10)
+          (sym (get_or-append_right front (last ∷ []) (length front) i 0 refl behind ∙ ap (λ (k : ℕ). get_or (last ∷ []) k 0) none_left) ∙ is)
+    ]
+
+abbrev head_of : List ℕ → ℕ
+head_of [] = 0
+head_of (c ∷ l) = c
+
+abbrev tail_of : List ℕ → List ℕ
+tail_of [] = []
+tail_of (c ∷ l) = l
+
+-- a text is cut at its first `-` in one way
+pub one_cut : (a b x y : List ℕ) → a ++ 45 ∷ b ≡ x ++ 45 ∷ y → HasNoDash a → HasNoDash x → (a ≡ x) × (b ≡ y)
+one_cut [] b [] y is none none' = (refl, ap tail_of is)
+one_cut [] b (d ∷ x) y is none none' = absurd (none' 0 (omega arith) (sym (ap head_of is)))
+one_cut (c ∷ a) b [] y is none none' = absurd (none 0 (omega arith) (ap head_of is))
+one_cut (c ∷ a) b (d ∷ x) y is none none' =
+    let rest = one_cut a b x y (ap tail_of is) (λ i below. none (suc i) (omega (arith, below))) (λ i below. none' (suc i) (omega (arith, below))) in
+    (ap (λ (o : ℕ). o ∷ a) (ap head_of is) ∙ ap (λ (l : List ℕ). d ∷ l) rest.0, rest.1)
+
+-- a state's text has a `-`
+pub has_dash : (text : List ℕ) (of : State) → HasNoDash text → text ≡ state_text of → ⊥
+has_dash text of none is =
+    let epoch = hex_text 16 of.epoch in
+    let at : get_or text (length epoch) 0 ≡ 45 = ap (λ (t : List ℕ). get_or t (length epoch) 0) is ∙ get_or-append_seam epoch 45 (decimal of.place) 0 in
+    let long : length text ≡ length (epoch ++ 45 ∷ decimal of.place) = ap (λ (t : List ℕ). length t) is in
+    let inside : length epoch < length text = omega (arith, long, length-append epoch (45 ∷ decimal of.place)) in
+    none (length epoch) inside at
+
+-- the parts of a state's text
+pub parts_of : (text epoch place : List ℕ) (of : State) → text ≡ epoch ++ 45 ∷ place → HasNoDash epoch → text ≡ state_text of
+    → (epoch ≡ hex_text 16 of.epoch) × (place ≡ decimal of.place)
+parts_of text epoch place of cut none is = one_cut epoch place (hex_text 16 of.epoch) (decimal of.place) (sym cut ∙ is) none (hex_has_no_dash 16 of.epoch)

@@ -1,0 +1,65 @@
+-- The arguments that methods share, each with the refusal of a wrong one (RFC 8620 sections 3.6.2 and 5.1).
+use Rattle.std.specs.Prelude.{ℕ, Bool, ◌&&◌, List, [], ◌∷◌, ℤ, pos, neg_ℤ, int_le, nat_lt, if◌then◌else◌, bytes_eq, codes, Option, Some, None, option_map}
+use Rattle.std.specs.Prelude.{option_and_then, Result, Ok, Err, ok_or}
+use Rattle.std.specs.List.{list_any}
+use Rattle.serde_json.specs.Data.{Num, unsigned, negative, float, Data, null, boolean, number, string, array, object, Items, no_items, item}
+use Rattle.serde_json.specs.Find.{get, as_str}
+use Rattle.jmap_methods.specs.declared.arguments.TheConstants.{MAX_OBJECTS_IN_GET, MAX_WHOLE_NUMBER}
+use Rattle.jmap_methods.specs.declared.method_error.MethodError.{MethodError}
+use Rattle.jmap_methods.specs.declared.method_error.MethodError.TheVariants.{InvalidArguments, AccountNotFound, RequestTooLarge}
+
+-- the texts that a list has, if it has no other item
+abbrev pub texts_in : Items → Option (List (List ℕ))
+texts_in no_items = Some []
+texts_in (item d ds) = option_and_then (λ text. option_map (λ texts. text ∷ texts) (texts_in ds)) (as_str d)
+
+abbrev pub is_among : List ℕ → List (List ℕ) → Bool
+is_among name names = list_any (λ n. bytes_eq n name) names
+
+-- a text that has to be there
+abbrev pub text_at : List ℕ → Data → Result (List ℕ) MethodError
+text_at key d = ok_or (option_and_then as_str (get key d)) InvalidArguments
+
+-- the account: there is one
+abbrev pub account_check : List ℕ → Result (Unit {0}) MethodError
+account_check account = if bytes_eq account (codes "a1") then Ok tt else Err AccountNotFound
+
+-- no more than `MAX_OBJECTS_IN_GET` are asked for
+abbrev pub count_check : ℕ → Result (Unit {0}) MethodError
+count_check count = if nat_lt MAX_OBJECTS_IN_GET count then Err RequestTooLarge else Ok tt
+
+-- a list of texts, or null, which is also what an argument that isn't there is
+abbrev pub texts_of : Option Data → Result (Option (List (List ℕ))) MethodError
+texts_of None = Ok None
+texts_of (Some null) = Ok None
+texts_of (Some (boolean b)) = Err InvalidArguments
+texts_of (Some (number n)) = Err InvalidArguments
+texts_of (Some (string s)) = Err InvalidArguments
+texts_of (Some (array ds)) = ok_or (option_map Some (texts_in ds)) InvalidArguments
+texts_of (Some (object ms)) = Err InvalidArguments
+
+abbrev pub texts_at : List ℕ → Data → Result (Option (List (List ℕ))) MethodError
+texts_at key d = texts_of (get key d)
+
+-- no further from 0 than `MAX_WHOLE_NUMBER`
+abbrev pub is_within : ℤ → Bool
+is_within z = int_le (neg_ℤ MAX_WHOLE_NUMBER) z && int_le z MAX_WHOLE_NUMBER
+
+-- an integer that JSON's readers keep exactly
+abbrev pub whole_in : Num → Option ℤ
+whole_in (unsigned n) = if is_within (pos n) then Some (pos n) else None
+whole_in (negative z) = if is_within z then Some z else None
+whole_in (float x) = None
+
+-- such an integer, or null, which is also what an argument that isn't there is
+abbrev pub whole_of : Option Data → Result (Option ℤ) MethodError
+whole_of None = Ok None
+whole_of (Some null) = Ok None
+whole_of (Some (boolean b)) = Err InvalidArguments
+whole_of (Some (number n)) = ok_or (option_map Some (whole_in n)) InvalidArguments
+whole_of (Some (string s)) = Err InvalidArguments
+whole_of (Some (array ds)) = Err InvalidArguments
+whole_of (Some (object ms)) = Err InvalidArguments
+
+abbrev pub whole_at : List ℕ → Data → Result (Option ℤ) MethodError
+whole_at key d = whole_of (get key d)

@@ -1,0 +1,57 @@
+-- The methods by their names, and what a call by a name needs (RFC 8620 sections 3.3, 3.6.2 and 4, RFC 8621 section 2).
+use Rattle.std.specs.Prelude.{ℕ, List, Bool, not, if◌then◌else◌, bytes_eq, codes, Option, Some, None, Result, Ok, Err}
+use Rattle.serde_json.specs.Data.{Data, string, object, no_members, member}
+use Rattle.jmap_methods.specs.declared.method.Method.{Method}
+use Rattle.jmap_methods.specs.declared.method.Method.TheVariants.{CoreEcho, MailboxGet}
+use Rattle.jmap_methods.specs.declared.method_error.MethodError.{MethodError}
+use Rattle.jmap_methods.specs.declared.method_error.MethodError.TheVariants as error
+use Rattle.jmap_methods.specs.declared.method.Using.{Using}
+
+abbrev pub name_of : Method → List ℕ
+name_of CoreEcho = codes "Core/echo"
+name_of MailboxGet = codes "Mailbox/get"
+
+-- whether its capability is used
+abbrev pub is_used : Using → Method → Bool
+is_used uses CoreEcho = uses.core
+is_used uses MailboxGet = uses.mail
+
+abbrev pub method_of : List ℕ → Option Method
+method_of name = if bytes_eq name (name_of CoreEcho) then Some CoreEcho else
+    (if bytes_eq name (name_of MailboxGet) then Some MailboxGet else None)
+
+abbrev pub where_used : Using → Option Method → Result Method MethodError
+where_used uses None = Err error.UnknownMethod
+where_used uses (Some method) = if is_used uses method then Ok method else Err error.UnknownMethod
+
+-- the method that a call of this name asks
+abbrev pub method_asked : Using → List ℕ → Result Method MethodError
+method_asked uses name = where_used uses (method_of name)
+
+-- Every call but Core/echo needs the mail, also one that is refused.
+abbrev pub needs_mail_by : List ℕ → Bool
+needs_mail_by name = not (bytes_eq name (name_of CoreEcho))
+
+-- ---- errors
+
+-- Out of memory is answered by no method response; its type is that of a resource that is gone for now.
+abbrev pub error_type : MethodError → List ℕ
+error_type error.ServerUnavailable = codes "serverUnavailable"
+error_type error.ServerFail = codes "serverFail"
+error_type error.ServerPartialFail = codes "serverPartialFail"
+error_type error.UnknownMethod = codes "unknownMethod"
+error_type error.InvalidArguments = codes "invalidArguments"
+error_type error.InvalidResultReference = codes "invalidResultReference"
+error_type error.AccountNotFound = codes "accountNotFound"
+error_type error.RequestTooLarge = codes "requestTooLarge"
+error_type error.StateMismatch = codes "stateMismatch"
+error_type error.CannotCalculateChanges = codes "cannotCalculateChanges"
+error_type error.AnchorNotFound = codes "anchorNotFound"
+error_type error.UnsupportedFilter = codes "unsupportedFilter"
+error_type error.UnsupportedSort = codes "unsupportedSort"
+error_type error.TooManyChanges = codes "tooManyChanges"
+error_type error.Memory = codes "serverUnavailable"
+
+-- the arguments of an `error` response
+abbrev pub error_data : MethodError → Data
+error_data e = object (member (codes "type") (string (error_type e)) no_members)
