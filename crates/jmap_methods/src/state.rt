@@ -98,7 +98,7 @@ fn is_plain(octets: &[u8]) -> bool
 }
 
 /// The number that a text is in decimal, without a sign and without zeros at its front.
-fn decimal_number(text: &str) -> Option<u64>
+pub(crate) fn decimal_number(text: &str) -> Option<u64>
     ensures some { IfSome result (λ n. text.now ≡ decimal n) }
     ensures none { result ≡ None → (n : ℕ) → n < 2 ^ 64 → text.now ≢ decimal n }
 {

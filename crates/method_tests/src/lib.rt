@@ -2,6 +2,10 @@
 #![tactic(auto)]
 
 #[cfg(test)]
+mod dialogues;
+#[cfg(test)]
+mod kept_mail;
+#[cfg(test)]
 mod methods;
 #[cfg(test)]
 mod references;
