@@ -1,5 +1,5 @@
 -- The arguments that methods share, each with the refusal of a wrong one (RFC 8620 sections 1.2, 3.6.2, 5.1 and 5.2).
-use Rattle.std.specs.Prelude.{ℕ, zero, suc, Bool, false, ◌&&◌, List, [], ◌∷◌, ℤ, pos, negsuc, neg_ℤ, int_le, nat_lt, if◌then◌else◌, bytes_eq, codes}
+use Rattle.std.specs.Prelude.{ℕ, zero, suc, Bool, ◌&&◌, List, [], ◌∷◌, ℤ, pos, negsuc, neg_ℤ, int_le, nat_lt, if◌then◌else◌, bytes_eq, codes}
 use Rattle.std.specs.Prelude.{Option, Some, None, option_map, option_and_then, Result, Ok, Err, ok_or}
 use Rattle.std.specs.List.{list_any}
 use Rattle.serde_json.specs.Data.{Num, unsigned, negative, float, Data, null, boolean, number, string, array, object, Items, no_items, item}
@@ -10,10 +10,12 @@ use Rattle.jmap_methods.specs.declared.method_error.MethodError.TheVariants.{Inv
 
 -- ---- texts
 
+-- the texts that a list has, if it has no other item
 abbrev pub texts_in : Items → Option (List (List ℕ))
 texts_in no_items = Some []
 texts_in (item d ds) = option_and_then (λ text. option_map (λ texts. text ∷ texts) (texts_in ds)) (as_str d)
 
+-- whether one of the texts is this one
 abbrev pub is_among : List ℕ → List (List ℕ) → Bool
 is_among name names = list_any (λ n. bytes_eq n name) names
 
@@ -39,31 +41,7 @@ texts_of (Some d) = Err InvalidArguments
 abbrev pub texts_at : List ℕ → Data → Result (Option (List (List ℕ))) MethodError
 texts_at key d = texts_of (get key d)
 
--- a list of texts, which may be left out
-abbrev pub names_of : Option Data → Result (Option (List (List ℕ))) MethodError
-names_of None = Ok None
-names_of (Some (array ds)) = ok_or (option_map Some (texts_in ds)) InvalidArguments
-names_of (Some d) = Err InvalidArguments
-
--- these, where none are given
-abbrev pub or_names : List (List ℕ) → Result (Option (List (List ℕ))) MethodError → Result (List (List ℕ)) MethodError
-or_names defaults (Ok None) = Ok defaults
-or_names defaults (Ok (Some names)) = Ok names
-or_names defaults (Err e) = Err e
-
-abbrev pub names_at : List (List ℕ) → List ℕ → Data → Result (List (List ℕ)) MethodError
-names_at defaults key d = or_names defaults (names_of (get key d))
-
--- a list of texts that has to be there
-abbrev pub needed_texts_of : Option Data → Result (List (List ℕ)) MethodError
-needed_texts_of None = Err InvalidArguments
-needed_texts_of (Some (array ds)) = ok_or (texts_in ds) InvalidArguments
-needed_texts_of (Some d) = Err InvalidArguments
-
-abbrev pub needed_texts_at : List ℕ → Data → Result (List (List ℕ)) MethodError
-needed_texts_at key d = needed_texts_of (get key d)
-
--- ---- numbers and truth values
+-- ---- numbers
 
 -- no further from 0 than `MAX_WHOLE_NUMBER`
 abbrev pub is_within : ℤ → Bool
@@ -95,27 +73,3 @@ most_from (Err e) = Err e
 
 abbrev pub most_at : List ℕ → Data → Result (Option ℕ) MethodError
 most_at key d = most_from (whole_at key d)
-
--- an integer that isn't negative
-abbrev pub natural_from : Option ℤ → Option ℕ
-natural_from None = None
-natural_from (Some (pos n)) = Some n
-natural_from (Some (negsuc n)) = None
-
--- such an integer; 0, where it isn't there
-abbrev pub size_of : Option Data → Result ℕ MethodError
-size_of None = Ok 0
-size_of (Some (number n)) = ok_or (natural_from (whole_in n)) InvalidArguments
-size_of (Some d) = Err InvalidArguments
-
-abbrev pub size_at : List ℕ → Data → Result ℕ MethodError
-size_at key d = size_of (get key d)
-
--- a truth value; false, where it isn't there
-abbrev pub flag_of : Option Data → Result Bool MethodError
-flag_of None = Ok false
-flag_of (Some (boolean b)) = Ok b
-flag_of (Some d) = Err InvalidArguments
-
-abbrev pub flag_at : List ℕ → Data → Result Bool MethodError
-flag_at key d = flag_of (get key d)

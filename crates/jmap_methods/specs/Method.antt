@@ -3,13 +3,13 @@ use Rattle.std.specs.Prelude.{ℕ, List, [], ◌∷◌, Bool, not, if◌then◌e
 use Rattle.std.specs.List.{find}
 use Rattle.serde_json.specs.Data.{Data, string, object, no_members, member}
 use Rattle.jmap_methods.specs.declared.method.Method.{Method}
-use Rattle.jmap_methods.specs.declared.method.Method.TheVariants.{CoreEcho, MailboxGet, MailboxChanges, ThreadGet, ThreadChanges, EmailGet, EmailChanges, EmailParse}
+use Rattle.jmap_methods.specs.declared.method.Method.TheVariants.{CoreEcho, MailboxGet, MailboxChanges, ThreadGet, ThreadChanges, EmailChanges}
 use Rattle.jmap_methods.specs.declared.method.Using.{Using}
 use Rattle.jmap_methods.specs.declared.method_error.MethodError.{MethodError}
 use Rattle.jmap_methods.specs.declared.method_error.MethodError.TheVariants as error
 
 abbrev pub methods : List Method
-methods = CoreEcho ∷ MailboxGet ∷ MailboxChanges ∷ ThreadGet ∷ ThreadChanges ∷ EmailGet ∷ EmailChanges ∷ EmailParse ∷ []
+methods = CoreEcho ∷ MailboxGet ∷ MailboxChanges ∷ ThreadGet ∷ ThreadChanges ∷ EmailChanges ∷ []
 
 abbrev pub name_of : Method → List ℕ
 name_of CoreEcho = codes "Core/echo"
@@ -17,9 +17,7 @@ name_of MailboxGet = codes "Mailbox/get"
 name_of MailboxChanges = codes "Mailbox/changes"
 name_of ThreadGet = codes "Thread/get"
 name_of ThreadChanges = codes "Thread/changes"
-name_of EmailGet = codes "Email/get"
 name_of EmailChanges = codes "Email/changes"
-name_of EmailParse = codes "Email/parse"
 
 -- whether its capability is used
 abbrev pub is_used : Using → Method → Bool

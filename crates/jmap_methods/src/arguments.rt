@@ -1,9 +1,8 @@
 // The arguments that methods share, and the refusals of wrong ones.
-ghost use Rattle.std.specs.Prelude.{◌≡◌, map, option_map, option_and_then, IfOk, Some, Ok};
-ghost use Rattle.serde_json.specs.Find.{get, as_number};
+ghost use Rattle.std.specs.Prelude.{◌≡◌, map, option_map, option_and_then, IfOk, Ok};
+ghost use Rattle.serde_json.specs.Find.{as_number};
 ghost use Rattle.serde_json.specs.View.{view, items_view};
-ghost use Rattle.jmap_methods.specs.Arguments.{text_at, account_check, count_check, texts_at, texts_in, whole_at, whole_in};
-ghost use Rattle.jmap_methods.specs.Arguments as spec;
+ghost use Rattle.jmap_methods.specs.Arguments.{text_at, account_check, count_check, is_among, texts_at, texts_in, whole_at, whole_in, most_from, most_at};
 ghost use Rattle.jmap_methods.specs.Outcome.{Agrees};
 ghost use Rattle.jmap_methods.specs.declared.method_error.MethodError.TheVariants.{Memory};
 
@@ -67,6 +66,18 @@ pub fn texts_in<'a>(
     Ok(Some(texts))
 }
 
+/// Whether one of the texts is this one.
+pub fn is_among(name: &str, names: &Vec<&str>) -> bool
+    ensures { result ≡ is_among name.now (map (λ t. t.now) names.now.items) }
+{
+    for other in names {
+        if *other == name {
+            return true;
+        }
+    }
+    false
+}
+
 /// The list of texts at the key, `None` where it is null or isn't there, or `InvalidArguments` where something else is.
 pub fn texts_or_null<'a>(
     alloc: Global,
@@ -111,38 +122,8 @@ pub fn whole_or_null(arguments: &Value, key: &str) -> Result<Option<i64>, Method
     }
 }
 
-/// The texts at the key, `None` where it isn't there, or `InvalidArguments` where null or something else is.
-pub fn names_or_none<'a>(
-    alloc: Global,
-    arguments: &'a Value,
-    key: &str,
-) -> Result<Option<Vec<&'a str>>, MethodError>
-    ensures { Agrees Memory (λ o. option_map (λ v. map (λ t. t.now) v.items) o) result
-        (spec.names_of (get key.now (view arguments.now))) }
-{
-    match arguments.get(key) {
-        None => Ok(None),
-        Some(Value::Null) => Err(MethodError::InvalidArguments),
-        Some(_) => texts_or_null(alloc, arguments, key),
-    }
-}
-
-/// The texts at the key, which have to be there.
-pub fn needed_texts<'a>(
-    alloc: Global,
-    arguments: &'a Value,
-    key: &str,
-) -> Result<Vec<&'a str>, MethodError>
-    ensures { Agrees Memory (λ v. map (λ t. t.now) v.items) result (spec.needed_texts_at key.now (view arguments.now)) }
-{
-    match texts_or_null(alloc, arguments, key)? {
-        None => Err(MethodError::InvalidArguments),
-        Some(texts) => Ok(texts),
-    }
-}
-
 fn at_least_one(number: Option<i64>) -> Result<Option<u64>, MethodError>
-    ensures { result ≡ spec.most_from (Ok number) }
+    ensures { result ≡ most_from (Ok number) }
 {
     match number {
         None => Ok(None),
@@ -153,38 +134,8 @@ fn at_least_one(number: Option<i64>) -> Result<Option<u64>, MethodError>
 
 /// The integer at the key, from 1 up, `None` where it is null or isn't there, or `InvalidArguments` where something else is.
 pub fn most_or_null(arguments: &Value, key: &str) -> Result<Option<u64>, MethodError>
-    ensures { result ≡ spec.most_at key.now (view arguments.now) }
+    ensures { result ≡ most_at key.now (view arguments.now) }
 {
     let number = whole_or_null(arguments, key)?;
     at_least_one(number)
-}
-
-fn size_in(value: &Value) -> Result<u64, MethodError>
-    ensures { result ≡ spec.size_of (Some (view value.now)) }
-{
-    match whole_in(value) {
-        Some(number) if number >= 0 => Ok(number as u64),
-        _ => Err(MethodError::InvalidArguments),
-    }
-}
-
-/// The integer at the key, from 0 up, which is also what isn't there, or `InvalidArguments` where something else is.
-pub fn size_or_zero(arguments: &Value, key: &str) -> Result<u64, MethodError>
-    ensures { result ≡ spec.size_at key.now (view arguments.now) }
-{
-    match arguments.get(key) {
-        None => Ok(0),
-        Some(value) => size_in(value),
-    }
-}
-
-/// The truth value at the key, false where it isn't there, or `InvalidArguments` where something else is.
-pub fn flag_or_false(arguments: &Value, key: &str) -> Result<bool, MethodError>
-    ensures { result ≡ spec.flag_at key.now (view arguments.now) }
-{
-    match arguments.get(key) {
-        None => Ok(false),
-        Some(Value::Bool(flag)) => Ok(*flag),
-        Some(_) => Err(MethodError::InvalidArguments),
-    }
 }

@@ -1,5 +1,5 @@
 // Ids of Mailboxes, Emails and Threads.
-ghost use Rattle.std.specs.Prelude.{◌≡◌, ◌<◌, ◌^◌, ℕ, ◌≢◌, IfOk, IfSome, None, map, string_bytes};
+ghost use Rattle.std.specs.Prelude.{◌≡◌, ◌≢◌, ◌<◌, ◌^◌, ℕ, IfOk, IfSome, None, string_bytes};
 ghost use Rattle.serde_json.specs.View.{view};
 ghost use Rattle.jmap_methods.specs.Ids as spec;
 
@@ -50,5 +50,6 @@ pub fn read_id(letter: char, text: &str) -> Option<u64>
     ensures some { IfSome result (λ n. text.now ≡ spec.id_text letter n) }
     ensures none { result ≡ None → (n : ℕ) → n < 2 ^ 64 → text.now ≢ spec.id_text letter n }
 {
-    decimal_number(text.strip_prefix(letter)?)
+    let digits = text.strip_prefix(letter)?;
+    decimal_number(digits)
 }

@@ -111,9 +111,10 @@ pub(crate) fn decimal_number(text: &str) -> Option<u64>
     }
 }
 
-/// The state that has the text, where one has. Takes no memory.
+/// The one state that has the text, where one has. Takes no memory.
 pub fn read_state(text: &str) -> Option<State>
     ensures some { IfSome result (λ read. text.now ≡ spec.state_text read) }
+    ensures one { IfSome result (λ read. (of : state) → of.epoch < 2 ^ 64 → of.place < 2 ^ 64 → text.now ≡ spec.state_text of → of ≡ read) }
     ensures none { result ≡ None → (of : state) → of.place < 2 ^ 64 → text.now ≢ spec.state_text of }
 {
     let (epoch, place) = text.split_once('-')?;

@@ -18,10 +18,12 @@ enum Step {
     Ask(&'static str, &'static str, &'static str),
 }
 
-/// INBOX with validity 7.
-const INBOX: &[u8] = b"* LIST () \"/\" INBOX\r\na1 OK done\r\n";
+/// INBOX alone.
+pub(crate) const INBOX: &[u8] = b"* LIST () \"/\" INBOX\r\na1 OK done\r\n";
 
-const VALIDITY: &[u8] = b"* OK [UIDVALIDITY 7] x\r\n* OK [HIGHESTMODSEQ 5] x\r\na1 OK done\r\n";
+/// Its validity is 7.
+pub(crate) const VALIDITY: &[u8] =
+    b"* OK [UIDVALIDITY 7] x\r\n* OK [HIGHESTMODSEQ 5] x\r\na1 OK done\r\n";
 
 const OTHER_VALIDITY: &[u8] =
     b"* OK [UIDVALIDITY 8] x\r\n* OK [HIGHESTMODSEQ 5] x\r\na1 OK done\r\n";
@@ -37,9 +39,9 @@ const TWO: &[u8] =
 const FIVE: &[u8] =
     b"* 1 FETCH (UID 1 FLAGS () INTERNALDATE \"02-Jan-2024 09:00:00 +0000\" RFC822.SIZE 9 BODY[HEADER]<0> \"\")\r\n* 2 FETCH (UID 2 FLAGS () INTERNALDATE \"02-Jan-2024 09:00:00 +0000\" RFC822.SIZE 9 BODY[HEADER]<0> \"\")\r\n* 3 FETCH (UID 3 FLAGS () INTERNALDATE \"02-Jan-2024 09:00:00 +0000\" RFC822.SIZE 9 BODY[HEADER]<0> \"\")\r\n* 4 FETCH (UID 4 FLAGS () INTERNALDATE \"02-Jan-2024 09:00:00 +0000\" RFC822.SIZE 9 BODY[HEADER]<0> \"\")\r\n* 5 FETCH (UID 5 FLAGS () INTERNALDATE \"02-Jan-2024 09:00:00 +0000\" RFC822.SIZE 9 BODY[HEADER]<0> \"\")\r\na1 OK done\r\n";
 
-const SEEN: &[u8] = b"* 1 FETCH (UID 1 FLAGS (\\Seen))\r\na1 OK done\r\n";
+pub(crate) const SEEN: &[u8] = b"* 1 FETCH (UID 1 FLAGS (\\Seen))\r\na1 OK done\r\n";
 
-const UNSEEN: &[u8] = b"* 1 FETCH (UID 1 FLAGS ())\r\na1 OK done\r\n";
+pub(crate) const UNSEEN: &[u8] = b"* 1 FETCH (UID 1 FLAGS ())\r\na1 OK done\r\n";
 
 const COUNTS_OF_INBOX: [Step; 10] = [
     Step::Tell(Asked::List, INBOX),
@@ -211,10 +213,15 @@ const STATES: [Step; 15] = [
     ),
 ];
 
-/// What a method answers.
-fn answer(rt: &impl Abort, alloc: Global, state: &MailState, method: &str, text: &str) -> String {
-    let text = format!(in alloc; "{{\"accountId\":\"a1\"{text}}}").expect(rt, "out of memory");
-    let arguments = Value::from_str(alloc, text.as_str()).expect(rt, "arguments");
+/// What a method answers to these arguments.
+pub(crate) fn answer(
+    rt: &impl Abort,
+    alloc: Global,
+    state: &MailState,
+    method: &str,
+    arguments: &str,
+) -> String {
+    let arguments = Value::from_str(alloc, arguments).expect(rt, "arguments");
     let result = match method {
         "Mailbox/get" => mailbox_get(alloc, state, &arguments),
         "Thread/get" => thread_get(alloc, state, &arguments),
@@ -233,7 +240,8 @@ fn expect_answer(
     arguments: &str,
     wanted: &str,
 ) {
-    let found = answer(rt, alloc, state, method, arguments);
+    let text = format!(in alloc; "{{\"accountId\":\"a1\"{arguments}}}").expect(rt, "out of memory");
+    let found = answer(rt, alloc, state, method, text.as_str());
     let whole = format!(in alloc; "{{\"accountId\":\"a1\",{wanted}").expect(rt, "out of memory");
     let is_right = found.as_str() == wanted || found.as_str() == whole.as_str();
     assert!(rt; is_right, "{method} {arguments}: {found}");

@@ -6,9 +6,13 @@ mod dialogues;
 #[cfg(test)]
 mod kept_mail;
 #[cfg(test)]
+mod limits;
+#[cfg(test)]
 mod methods;
 #[cfg(test)]
 mod references;
+#[cfg(test)]
+mod refusals;
 #[cfg(test)]
 mod requests;
 #[cfg(test)]

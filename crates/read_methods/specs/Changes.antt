@@ -38,11 +38,14 @@ changes_refused d = refusal_of (changes_asked d)
 
 -- ---- the state that is named
 
--- the text is that of this place, whose changes are still kept
+-- the text is that of a place whose later changes are all kept
 pub record IsPlaceOf (epoch last : ℕ) (text : List ℕ) (place : ℕ) : Type 0 where
   pub text_is : text ≡ state_text (record { epoch = epoch; place = place })
   pub from_front : front_of last ≤ place
   pub to_last : place ≤ last
+
+abbrev pub NamesNone : ℕ → ℕ → List ℕ → Type 0
+NamesNone epoch last text = (place : ℕ) → IsPlaceOf epoch last text place → ⊥
 
 -- ---- the answer, over the touches of a type
 
@@ -53,17 +56,17 @@ pub record AnsweredChanges (epoch : ℕ) (h : List Entry) (asked : ChangesAsked)
   pub named : IsPlaceOf epoch (length h) asked.since place
   pub are_changes : IsChanges h place asked.most changes
 
--- the new state is the place to which the ids listed lead, and there are more where that isn't the last; further members follow
-abbrev pub changes_data : ℕ → ℕ → ℕ → List ℕ → Changes → Members → Data
-changes_data letter epoch last since c further = object
-    (member (codes "accountId") (string (codes "a1"))
+-- the new state is the place to which the ids listed lead, and there are more where that isn't the last
+abbrev pub changes_members : ℕ → ℕ → ℕ → List ℕ → Changes → Members → Members
+changes_members letter epoch last since c further =
+    member (codes "accountId") (string (codes "a1"))
     (member (codes "created") (id_list letter c.created)
     (member (codes "destroyed") (id_list letter c.destroyed)
     (member (codes "hasMoreChanges") (boolean (nat_lt c.to last))
     (member (codes "newState") (string (state_text (record { epoch = epoch; place = c.to })))
     (member (codes "oldState") (string since)
     (member (codes "updated") (id_list letter c.updated)
-    further)))))))
+    further))))))
 
 -- what a type adds to the members
 abbrev pub Further : Type 0
@@ -76,13 +79,19 @@ no_further c = no_members
 abbrev pub count_names : Data
 count_names = array (items_of (map string (codes "totalEmails" ∷ codes "unreadEmails" ∷ codes "totalThreads" ∷ codes "unreadThreads" ∷ [])))
 
+abbrev pub names_if : Bool → Data
+names_if counts_only = if counts_only then count_names else null
+
 abbrev pub updated_properties : Further
-updated_properties c = member (codes "updatedProperties") (if c.counts_only then count_names else null) no_members
+updated_properties c = member (codes "updatedProperties") (names_if c.counts_only) no_members
+
+abbrev pub changes_data : ℕ → ℕ → ℕ → List ℕ → Further → Changes → Data
+changes_data letter epoch last since further c = object (changes_members letter epoch last since c (further c))
 
 -- A refusal by the arguments; or the text names no state whose changes are kept, which alone can't be calculated; or what changed.
 pub data AnswersChanges (letter epoch : ℕ) (h : List Entry) (further : Further) (d : Data) : Result Data MethodError → Type 0 where
   Refused : (e : MethodError) → changes_asked d ≡ Err e → AnswersChanges letter epoch h further d (Err e)
-  NoSuchState : (asked : ChangesAsked) → changes_asked d ≡ Ok asked → ((place : ℕ) → IsPlaceOf epoch (length h) asked.since place → ⊥)
+  NoSuchState : (asked : ChangesAsked) → changes_asked d ≡ Ok asked → NamesNone epoch (length h) asked.since
       → AnswersChanges letter epoch h further d (Err CannotCalculateChanges)
   Answered : (asked : ChangesAsked) (a : AnsweredChanges epoch h asked) → changes_asked d ≡ Ok asked
-      → AnswersChanges letter epoch h further d (Ok (changes_data letter epoch (length h) asked.since a.changes (further a.changes)))
+      → AnswersChanges letter epoch h further d (Ok (changes_data letter epoch (length h) asked.since further a.changes))

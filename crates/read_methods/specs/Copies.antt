@@ -1,5 +1,5 @@
 -- Why a client may rely on a /changes: applied to its copy of the state that it named, the answer gives a copy of the new state.
-use Rattle.std.specs.Prelude.{◌≡◌, ℕ, List, ◌++◌, Option, Ok, length}
+use Rattle.std.specs.Prelude.{◌≡◌, ℕ, List, ◌++◌, Option, Ok}
 use Rattle.serde_json.specs.Data.{Data}
 use Rattle.change_list.specs.Copy.{IsCopy, applied}
 use Rattle.change_list.specs.History.{Touch, map_now, entries_of}
@@ -13,7 +13,7 @@ module _ {V : Type 0} where
     pub asked : ChangesAsked
     pub answer : AnsweredChanges epoch (entries_of p.touches) asked
     pub asked_is : changes_asked d ≡ Ok asked
-    pub reply_is : reply ≡ changes_data letter epoch (place_now p) asked.since answer.changes (further answer.changes)
+    pub reply_is : reply ≡ changes_data letter epoch (place_now p) asked.since further answer.changes
     pub copies : (more : List (Touch V)) (copy : ℕ → Option V) → IsCopy copy (p.touches ++ more) answer.place
         → IsCopy (applied answer.changes (map_now (p.touches ++ more)) copy) (p.touches ++ more) answer.changes.to
     pub fresh : answer.changes.to ≡ place_now p → (copy : ℕ → Option V) → IsCopy copy p.touches answer.place

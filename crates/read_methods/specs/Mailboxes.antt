@@ -2,9 +2,8 @@
 use Rattle.std.specs.Prelude.{ℕ, List, [], ◌∷◌, map, bytes_eq, codes, Option, Some, None, option_map, option_and_then, Result, Ok, Err, ok_or}
 use Rattle.std.specs.List.{find}
 use Rattle.serde_json.specs.Data.{unsigned, Data, null, boolean, number, string, object, Members, no_members, member, put}
-use Rattle.json_words.specs.Texts.{text_data}
 use Rattle.jmap_methods.specs.Arguments.{texts_at}
-use Rattle.jmap_methods.specs.Gets.{GetAsked, get_asked, get_answered}
+use Rattle.jmap_methods.specs.Gets.{GetAsked, get_asked, shown_as, get_answered}
 use Rattle.jmap_methods.specs.Ids.{mailbox_letter, id_data}
 use Rattle.jmap_methods.specs.Outcome.{refusal_of}
 use Rattle.jmap_methods.specs.declared.method_error.MethodError.{MethodError}
@@ -76,7 +75,7 @@ count_data n = number (unsigned n)
 
 abbrev pub property_data : ℕ × ServedMailbox → MailboxProperty → Data
 property_data e Id = id_data mailbox_letter e.0
-property_data e Name = text_data e.1.name
+property_data e Name = string e.1.name
 property_data e ParentId = parent_data e.1.parent
 property_data e property.Role = role_data e.1.role
 property_data e SortOrder = count_data 0
@@ -118,6 +117,9 @@ mailboxes_asked d = get_asked (wanted_from (texts_at (codes "properties") d)) d
 abbrev pub mailboxes_refused : Data → Result (Unit {0}) MethodError
 mailboxes_refused d = refusal_of (mailboxes_asked d)
 
+abbrev pub mailbox_objects : List (ℕ × ServedMailbox) → List MailboxProperty → List (ℕ × Data)
+mailbox_objects mailboxes wanted = shown_as (mailbox_data wanted) mailboxes
+
 -- of these Mailboxes, in this state
 abbrev pub mailboxes_answer : List ℕ → List (ℕ × ServedMailbox) → Data → Result Data MethodError
-mailboxes_answer state mailboxes d = get_answered mailbox_letter state mailboxes mailbox_data (mailboxes_asked d)
+mailboxes_answer state mailboxes d = get_answered mailbox_letter state (mailbox_objects mailboxes) (mailboxes_asked d)

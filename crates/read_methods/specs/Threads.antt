@@ -3,7 +3,7 @@ use Rattle.std.specs.Prelude.{ℕ, List, Bool, true, ◌||◌, if◌then◌else�
 use Rattle.std.specs.List.{list_all}
 use Rattle.serde_json.specs.Data.{Data, object, Members, no_members, put}
 use Rattle.jmap_methods.specs.Arguments.{texts_at, is_among}
-use Rattle.jmap_methods.specs.Gets.{GetAsked, get_asked, get_answered}
+use Rattle.jmap_methods.specs.Gets.{GetAsked, get_asked, shown_as, get_answered}
 use Rattle.jmap_methods.specs.Ids.{thread_letter, email_letter, id_data, id_list}
 use Rattle.jmap_methods.specs.Outcome.{refusal_of}
 use Rattle.jmap_methods.specs.declared.method_error.MethodError.{MethodError}
@@ -34,6 +34,9 @@ threads_asked d = get_asked (emails_wanted_from (texts_at (codes "properties") d
 abbrev pub threads_refused : Data → Result (Unit {0}) MethodError
 threads_refused d = refusal_of (threads_asked d)
 
+abbrev pub thread_objects : List (ℕ × List ℕ) → Bool → List (ℕ × Data)
+thread_objects threads wanted = shown_as (thread_data wanted) threads
+
 -- of these Threads, in this state
 abbrev pub threads_answer : List ℕ → List (ℕ × List ℕ) → Data → Result Data MethodError
-threads_answer state threads d = get_answered thread_letter state threads thread_data (threads_asked d)
+threads_answer state threads d = get_answered thread_letter state (thread_objects threads) (threads_asked d)

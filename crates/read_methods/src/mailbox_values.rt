@@ -7,7 +7,6 @@ ghost use Rattle.read_methods.specs.Mailboxes.{parent_data, role_data, role_name
 
 use crate::mailbox_property::{MailboxProperty, name_of};
 use jmap_methods::{MAILBOX_LETTER, id_value};
-use json_words::text_value;
 use mail_maps::{MailboxRow, Rights, Role};
 use serde_json::{Map, Value, json, put};
 use std::alloc::{AllocError, Global};
@@ -72,7 +71,7 @@ fn property_value(
 {
     match property {
         MailboxProperty::Id => id_value(alloc, MAILBOX_LETTER, number),
-        MailboxProperty::Name => text_value(alloc, mailbox.name.as_slice()),
+        MailboxProperty::Name => Value::try_from_str(alloc, mailbox.name.as_str()),
         MailboxProperty::ParentId => parent_value(alloc, mailbox.parent),
         MailboxProperty::Role => role_value(alloc, mailbox.role),
         MailboxProperty::SortOrder => Ok(Value::from(0u64)),

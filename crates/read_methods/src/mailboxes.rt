@@ -4,17 +4,21 @@ ghost use Rattle.serde_json.specs.View.{view};
 ghost use Rattle.serde_json.specs.Written.{has_float};
 ghost use Rattle.jmap_methods.specs.Arguments.{texts_at};
 ghost use Rattle.jmap_methods.specs.Outcome.{Agrees};
+ghost use Rattle.jmap_methods.specs.State.{state_text as text_of_state};
 ghost use Rattle.jmap_methods.specs.declared.method_error.MethodError.TheVariants.{Memory};
+ghost use Rattle.served_maps.specs.Past.{served};
+ghost use Rattle.mail_maps.specs.Serve.{mailbox_of};
 ghost use Rattle.mail_state.specs.History.{MailHistory};
 ghost use Rattle.mail_state.specs.State.{IsStateOf};
 ghost use Rattle.read_methods.specs.Mailboxes as spec;
+ghost use Rattle.read_methods.specs.Mailboxes.{mailbox_objects, mailboxes_answer};
 ghost use Rattle.read_methods.specs.Replies.{mailbox_get_reply};
 
 use crate::mailbox_property::{MailboxProperty, PROPERTIES, mailbox_property_named};
 use crate::mailbox_values::mailbox_value;
 use jmap_methods::{
-    MAILBOX_LETTER, MethodError, State, check_account, check_count, count_of_ids, distinct,
-    get_value, read_id, state_text, text_at, texts_or_null,
+    MAILBOX_LETTER, MethodError, Objects, State, check_account, check_count, count_of_ids,
+    get_objects, state_text, text_at, texts_or_null,
 };
 use mail_state::{MailState, MailType};
 use serde_json::Value;
@@ -61,7 +65,7 @@ fn properties_at(alloc: Global, arguments: &Value) -> Result<Vec<MailboxProperty
 fn asked_of<'a>(alloc: Global, arguments: &'a Value) -> Result<Asked<'a>, MethodError>
     ensures { Agrees Memory (λ a. record {
       ids = option_map (λ v. map (λ t. t.now) v.items) a.ids;
-      properties = a.properties.items;
+      wanted = a.properties.items;
     }) result (spec.mailboxes_asked (view arguments.now)) }
 {
     let account = text_at(arguments, "accountId")?;
@@ -72,90 +76,54 @@ fn asked_of<'a>(alloc: Global, arguments: &'a Value) -> Result<Asked<'a>, Method
     Ok(Asked { ids, properties })
 }
 
-/// The Mailbox of this number with the properties that are wanted, where it is there.
-fn shown(
-    alloc: Global,
-    state: &MailState,
-    wanted: &[MailboxProperty],
-    number: u64,
-) -> Result<Option<Value>, AllocError> {
-    match state.mailbox(number) {
-        None => Ok(None),
-        Some(mailbox) => Ok(Some(mailbox_value(alloc, wanted, number, mailbox)?)),
-    }
+/// The refusal of a Mailbox/get by its arguments alone, which stands whatever mail there is.
+pub fn check_mailbox_get(alloc: Global, arguments: &Value) -> Result<(), MethodError>
+    ensures { Agrees Memory (λ u. u) result (spec.mailboxes_refused (view arguments.now)) }
+{
+    let _asked = asked_of(alloc, arguments)?;
+    Ok(())
 }
 
-/// The same by its id.
-fn shown_by_id(
-    alloc: Global,
-    state: &MailState,
-    wanted: &[MailboxProperty],
-    id: &str,
-) -> Result<Option<Value>, AllocError> {
-    match read_id(MAILBOX_LETTER, id) {
-        None => Ok(None),
-        Some(number) => shown(alloc, state, wanted, number),
-    }
+/// Mailboxes with the properties that are wanted.
+#[derive(Clone, Copy)]
+struct Mailboxes<'a> {
+    state: &'a MailState,
+    wanted: &'a [MailboxProperty],
 }
 
-/// The Mailboxes that were found, and the ids of which there is none.
-#[derive(Drop)]
-struct Found<'a> {
-    list: Vec<Value>,
-    missing: Vec<&'a str>,
-}
+impl Objects for Mailboxes<'_> {
+    ghost objects = { λ m. mailbox_objects (served mailbox_of m.state.now.rows.mailboxes) m.wanted.now };
 
-fn found_of<'a>(
-    alloc: Global,
-    state: &MailState,
-    wanted: &[MailboxProperty],
-    ids: &Vec<&'a str>,
-) -> Result<Found<'a>, AllocError> {
-    let mut list = Vec::new(alloc);
-    let mut missing = Vec::new(alloc);
-    for id in ids {
-        match shown_by_id(alloc, state, wanted, *id)? {
-            None => missing.push(*id)?,
-            Some(mailbox) => list.push(mailbox)?,
+    fn object(&self, alloc: Global, number: u64) -> Result<Option<Value>, AllocError> {
+        match self.state.mailbox(number) {
+            None => Ok(None),
+            Some(mailbox) => Ok(Some(mailbox_value(alloc, self.wanted, number, mailbox)?)),
         }
     }
-    Ok(Found { list, missing })
-}
 
-fn all_of(
-    alloc: Global,
-    state: &MailState,
-    wanted: &[MailboxProperty],
-    numbers: &[u64],
-) -> Result<Vec<Value>, AllocError> {
-    let mut list = Vec::with_capacity(alloc, numbers.len())?;
-    for number in numbers {
-        match shown(alloc, state, wanted, *number)? {
-            None => {}
-            Some(mailbox) => list.push(mailbox)?,
-        }
+    fn numbers(&self) -> Result<Vec<u64>, AllocError> {
+        self.state.numbers(MailType::Mailbox)
     }
-    Ok(list)
+
+    fn last_number(&self) -> Option<u64> {
+        self.state.last_number(MailType::Mailbox)
+    }
 }
 
-fn answer(alloc: Global, state: &MailState, asked: &Asked<'_>) -> Result<Value, MethodError> {
+/// The answer over the rows of the state.
+fn answer(alloc: Global, state: &MailState, arguments: &Value) -> Result<Value, MethodError>
+    ensures { Agrees Memory view result (mailboxes_answer (text_of_state (record { epoch = state.now.epoch; place = state.now.lists.mailbox.place }))
+        (served mailbox_of state.now.rows.mailboxes) (view arguments.now)) }
+{
+    let Asked { ids, properties } = asked_of(alloc, arguments)?;
     let place = state.list(MailType::Mailbox).place();
     let epoch = state.epoch();
     let text = state_text(alloc, State { epoch, place })?;
-    let wanted = asked.properties.as_slice();
-    match &asked.ids {
-        Some(ids) => {
-            let once = distinct(alloc, ids)?;
-            let Found { list, missing } = found_of(alloc, state, wanted, &once)?;
-            Ok(get_value(alloc, text.as_str(), list, &missing)?)
-        }
-        None => {
-            let numbers = state.numbers(MailType::Mailbox)?;
-            check_count(numbers.len())?;
-            let list = all_of(alloc, state, wanted, numbers.as_slice())?;
-            Ok(get_value(alloc, text.as_str(), list, &Vec::new(alloc))?)
-        }
-    }
+    let mailboxes = Mailboxes {
+        state,
+        wanted: properties.as_slice(),
+    };
+    get_objects(alloc, MAILBOX_LETTER, text.as_str(), &mailboxes, &ids)
 }
 
 /// Mailbox/get (RFC 8621 section 2.1): the Mailboxes asked, each once, in the order asked, with the properties asked, and the ids
@@ -169,14 +137,5 @@ pub fn mailbox_get(
     ensures exact { (h : MailHistory) → IsStateOf h state.now → Agrees Memory view result (mailbox_get_reply h (view arguments.now)) }
     ensures whole { IfOk result (λ value. has_float (view value) ≡ false) }
 {
-    let asked = asked_of(alloc, arguments)?;
-    answer(alloc, state, &asked)
-}
-
-/// The refusal of a Mailbox/get by its arguments alone, which stands whatever mail there is.
-pub fn check_mailbox_get(alloc: Global, arguments: &Value) -> Result<(), MethodError>
-    ensures { Agrees Memory (λ u. u) result (spec.mailboxes_refused (view arguments.now)) }
-{
-    let _asked = asked_of(alloc, arguments)?;
-    Ok(())
+    answer(alloc, state, arguments)
 }

@@ -1,0 +1,4 @@
+mod ChangeLemmas
+mod OverHistory
+mod ObjectLemmas
+mod WholeLemmas
