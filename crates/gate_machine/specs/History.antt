@@ -1,11 +1,8 @@
 -- How often the mail changed in an epoch, the mail that it came to, and what was told since.
-use Rattle.std.specs.Prelude.{◌≡◌, ◌⊎◌, ◌<◌, ◌+◌, ℕ, []}
+use Rattle.std.specs.Prelude.{◌≡◌, ◌⊎◌, ◌<◌, ◌+◌, ℕ}
 use Rattle.gate_machine.specs.declared.known.TheConstants.{LAST_PLACE}
-use Rattle.told_mail.specs.Mail.{Mail, SameMail}
+use Rattle.told_mail.specs.Mail.{Mail, SameMail, no_mail}
 use Rattle.told_mail.specs.Told.{Told}
-
-abbrev pub no_mail : Mail
-no_mail = record { folders = []; next_mark = 1; next_folder = 1 }
 
 -- The epoch, a random number; the place, which is how many requests of the epoch found other mail than there was before
 -- them; and the mail as the last of them found it.

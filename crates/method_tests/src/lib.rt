@@ -1,21 +1,26 @@
 //! Tests of JMAP requests, references and methods: tables of bodies and what is answered to them.
 #![tactic(auto)]
 
+// Requests and references.
+#[cfg(test)]
+mod references;
+#[cfg(test)]
+mod requests;
+
+// Methods, and the texts of their answers.
+#[cfg(test)]
+mod methods;
+#[cfg(test)]
+mod refusals;
+#[cfg(test)]
+mod states;
+#[cfg(test)]
+mod texts;
+
+// Methods over mail that is told.
 #[cfg(test)]
 mod dialogues;
 #[cfg(test)]
 mod kept_mail;
 #[cfg(test)]
 mod limits;
-#[cfg(test)]
-mod methods;
-#[cfg(test)]
-mod references;
-#[cfg(test)]
-mod refusals;
-#[cfg(test)]
-mod requests;
-#[cfg(test)]
-mod states;
-#[cfg(test)]
-mod texts;
