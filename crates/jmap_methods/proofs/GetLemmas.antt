@@ -1,21 +1,23 @@
 -- What a /get lists, and that it has integers alone.
-use Rattle.std.proofs.Common.{◌≡◌, ℕ, List, [], ◌∷◌, map, Bool, true, false, cond, if◌then◌else◌, nat_lt, nat_cmp, length, is_none, Option, Some, None, Result, Ok, Err, refl, ap, ◌∙◌, subst}
+use Rattle.std.proofs.Common.{◌≡◌, ℕ, List, [], ◌∷◌, map, Bool, true, false, cond, if◌then◌else◌, nat_lt, nat_cmp, length, is_none, Option, Some, None, Result, Ok, Err, refl, sym, ap, ◌∙◌, subst}
 use Rattle.std.specs.BTreeMap.{is_at}
 use Rattle.std.specs.List.{All, Contains, filter, filter_map, cons_option}
 use Rattle.std.specs.List.Sorted.{IsStrictlySortedBy}
 use Rattle.std.specs.Map.{lookup, keys_of, values_of}
 use Rattle.std.specs.Option.{IfSome}
-use Rattle.std.specs.Result.{IfOk}
+use Rattle.std.specs.Result.{IfOk, MatchResult}
 use Rattle.std.specs.Cmp.{eq_by_cmp_equiv}
 use Rattle.std.proofs.lemmas.Cmp.{nat_cmp_total}
 use Rattle.std.proofs.lemmas.List.Elements.{All-head, All-tail, All-weaker, All-contains_itself}
+use Rattle.std.proofs.lemmas.Map.Entries.{length-keys_of}
 use Rattle.std.proofs.lemmas.Map.Keys.{IsDistinct-from_sorted}
 use Rattle.std.proofs.lemmas.Map.Views.{lookup-from_Contains}
 use Rattle.serde_json.specs.Data.{Data, string}
 use Rattle.serde_json.specs.View.{view, items_of}
 use Rattle.serde_json.specs.Written.{has_float, items_have_float}
 use Rattle.serde_json.specs.declared.value.Value.{Value}
-use Rattle.jmap_methods.specs.Gets.{GetAsked, Found, object_with, distinct_ids, found_in, get_data, get_answer, get_answered}
+use Rattle.jmap_methods.specs.Arguments.{count_check}
+use Rattle.jmap_methods.specs.Gets.{GetAsked, FoundObjects, object_with, distinct_ids, found_in, get_data, get_answer, get_answered}
 use Rattle.jmap_methods.specs.Outcome.{Agrees}
 use Rattle.jmap_methods.specs.declared.method_error.MethodError.{MethodError}
 use Rattle.jmap_methods.specs.declared.method_error.MethodError.TheVariants.{RequestTooLarge, Memory}
@@ -37,6 +39,36 @@ module _ {X : Type 0} where
   all_listed rows sorted = listed rows rows (All-weaker (Contains rows) (IsFoundIn rows)
       (λ e there. lookup-from_Contains (eq_by_cmp_equiv nat_cmp_total) e.0 e.1 rows (IsDistinct-from_sorted nat_cmp (keys_of rows) sorted) there)
       rows (All-contains_itself rows))
+
+-- ---- answers
+
+-- what is answered by ids
+pub got_by_ids : {E : Type 0} (letter : ℕ) (state : List ℕ) (objects : List (ℕ × Data)) (ids once : List (List ℕ)) (list missing : List Data) (r : Result Value E)
+    → once ≡ distinct_ids ids → list ≡ filter_map (object_with letter objects) once → missing ≡ map string (filter (λ id. is_none (object_with letter objects id)) once)
+    → IfOk r (λ value. view value ≡ get_data state list missing)
+    → IfOk r (λ value. get_answer state (found_in letter objects (Some ids)) ≡ Ok (view value))
+got_by_ids letter state objects ids once list missing (Err e) once_is list_is missing_is is = tt
+got_by_ids letter state objects ids once list missing (Ok value) once_is list_is missing_is is =
+    let answer : List (List ℕ) → Result Data MethodError =
+    λ o. Ok (get_data state (filter_map (object_with letter objects) o) (map string (filter (λ id. is_none (object_with letter objects id)) o))) in
+    ap answer (sym once_is) ∙ ap (λ (ds : List Data). let a : Result Data MethodError = Ok (get_data state ds (map string (filter (λ id. is_none (object_with letter objects id)) once))) in a) (sym list_is)
+    ∙ ap (λ (ds : List Data). let a : Result Data MethodError = Ok (get_data state list ds) in a) (sym missing_is)
+    ∙ ap (λ (d : Data). let a : Result Data MethodError = Ok d in a) (sym is)
+
+counted : (b : Bool) (list : List Data) (r : Result (Unit {0}) MethodError) → r ≡ (if b then Err RequestTooLarge else Ok tt)
+    → MatchResult r (λ _. (let a : Result FoundObjects MethodError = if b then Err RequestTooLarge else Ok (record { list = list; missing = [] }) in a) ≡ Ok (record { list = list; missing = [] }))
+    (λ e. (let a : Result FoundObjects MethodError = if b then Err RequestTooLarge else Ok (record { list = list; missing = [] }) in a) ≡ Err e)
+counted true list r is = let P : Result (Unit {0}) MethodError → Type 0 = λ q. MatchResult q (λ _. (let a : Result FoundObjects MethodError = Err RequestTooLarge in a) ≡ Ok (record { list = list; missing = [] }))
+    (λ e. (let a : Result FoundObjects MethodError = Err RequestTooLarge in a) ≡ Err e) in subst P (sym is) refl
+counted false list r is = let P : Result (Unit {0}) MethodError → Type 0 = λ q. MatchResult q (λ _. (let a : Result FoundObjects MethodError = Ok (record { list = list; missing = [] }) in a) ≡ Ok (record { list = list; missing = [] }))
+    (λ e. (let a : Result FoundObjects MethodError = Ok (record { list = list; missing = [] }) in a) ≡ Err e) in subst P (sym is) refl
+
+-- whether all are too many
+pub counted_all : (letter : ℕ) (objects : List (ℕ × Data)) (numbers : List ℕ) (r : Result (Unit {0}) MethodError) → numbers ≡ keys_of objects → r ≡ count_check (length numbers)
+    → MatchResult r (λ _. found_in letter objects None ≡ Ok (record { list = values_of objects; missing = [] })) (λ e. found_in letter objects None ≡ Err e)
+counted_all letter objects numbers r are is =
+    let long : length numbers ≡ length objects = ap (λ (ns : List ℕ). length ns) are ∙ length-keys_of objects in
+    counted (nat_lt 500 (length objects)) (values_of objects) r (is ∙ ap count_check long)
 
 -- ---- integers alone
 
@@ -74,7 +106,7 @@ whole_get : (state : List ℕ) (list missing : List Data) → items_have_float (
 whole_get state list missing whole rest = rw (whole, rest) refl
 
 whole_if : (b : Bool) (state : List ℕ) (list : List Data) (e : MethodError) → items_have_float (items_of list) ≡ false
-    → IfOk (get_answer state (let r : Result Found MethodError = if b then Err e else Ok (record { list = list; missing = [] }) in r)) (λ d. has_float d ≡ false)
+    → IfOk (get_answer state (let r : Result FoundObjects MethodError = if b then Err e else Ok (record { list = list; missing = [] }) in r)) (λ d. has_float d ≡ false)
 whole_if true state list e whole = tt
 whole_if false state list e whole = whole_get state list [] whole refl
 

@@ -58,15 +58,15 @@ abbrev pub object_with : ℕ → List (ℕ × Data) → List ℕ → Option Data
 object_with letter objects id = lookup (λ n. bytes_eq (id_text letter n) id) objects
 
 -- the objects that are shown, and the ids of which there is none
-pub record Found : Type 0 where
+pub record FoundObjects : Type 0 where
   pub list : List Data
   pub missing : List (List ℕ)
 
-abbrev pub found_with : ℕ → List (ℕ × Data) → List (List ℕ) → Found
+abbrev pub found_with : ℕ → List (ℕ × Data) → List (List ℕ) → FoundObjects
 found_with letter objects ids = record { list = filter_map (object_with letter objects) ids; missing = filter (λ id. is_none (object_with letter objects id)) ids }
 
 -- Asked by ids, those that are there, in the order asked; asked by null, all, where they are no more than `MAX_OBJECTS_IN_GET`.
-abbrev pub found_in : ℕ → List (ℕ × Data) → Option (List (List ℕ)) → Result Found MethodError
+abbrev pub found_in : ℕ → List (ℕ × Data) → Option (List (List ℕ)) → Result FoundObjects MethodError
 found_in letter objects (Some ids) = Ok (found_with letter objects (distinct_ids ids))
 found_in letter objects None = if nat_lt MAX_OBJECTS_IN_GET (length objects) then Err RequestTooLarge else Ok (record { list = values_of objects; missing = [] })
 
@@ -80,7 +80,7 @@ get_data state list missing = object
     (member (codes "state") (string state)
     no_members))))
 
-abbrev pub get_answer : List ℕ → Result Found MethodError → Result Data MethodError
+abbrev pub get_answer : List ℕ → Result FoundObjects MethodError → Result Data MethodError
 get_answer state (Ok found) = Ok (get_data state found.list (map string found.missing))
 get_answer state (Err e) = Err e
 

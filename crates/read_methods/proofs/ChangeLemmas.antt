@@ -20,7 +20,7 @@ use Rattle.jmap_methods.specs.declared.method_error.MethodError.TheVariants.{Mem
 use Rattle.served_maps.specs.Past.{Past, StandsFor, has_now, place_now}
 use Rattle.read_methods.specs.Changes.{ChangesAsked, IsPlaceOf, NamesNone, AnsweredChanges, changes_asked, changes_data, Further, AnswersChanges, Refused, NoSuchState, Answered}
 use Rattle.read_methods.specs.Copies.{BringsUpToDate}
-use Rattle.read_methods.specs.reading.Found.{FindsChanges, Found, Finds, AnswersFound, reply_of}
+use Rattle.read_methods.specs.reading.Found.{FindsChanges, FoundSince, Finds, AnswersFound, reply_of}
 use Rattle.read_methods.specs.reading.Found as reading
 use Rattle.read_methods.proofs.WholeLemmas.{AddsWhole, whole_changes}
 
@@ -36,9 +36,9 @@ module _ {V : Type 0} (letter epoch : ℕ) (k : Kept) (p : Past V) (further : Fu
   none_of : (text : List ℕ) → NamesNone epoch k.place text → NamesNone epoch (length (entries_of p.touches)) text
   none_of text none = let P : ℕ → Type 0 = λ n. NamesNone epoch n text in subst P kept.place none
 
-  answers : (found : Result Found MethodError) → Finds epoch k d found → AnswersChanges letter epoch (entries_of p.touches) further d (reply_of letter epoch k.place further found)
-  answers _ (reading.Refused e is) = Refused e is
-  answers _ (reading.NoSuchState asked is none) = NoSuchState asked is (none_of asked.since none)
+  answers : (found : Result FoundSince MethodError) → Finds epoch k d found → AnswersChanges letter epoch (entries_of p.touches) further d (reply_of letter epoch k.place further found)
+  answers _ (reading.Refuses e is) = Refused e is
+  answers _ (reading.NamesNothing asked is none) = NoSuchState asked is (none_of asked.since none)
   answers _ (reading.InKept asked c is found) =
       let P : ℕ → Type 0 = λ n. AnswersChanges letter epoch (entries_of p.touches) further d (Ok (changes_data letter epoch n asked.since further c)) in
       subst P (sym kept.place) (Answered asked (answer_of asked c found) is)
@@ -110,7 +110,7 @@ module _ {V : Type 0} (letter epoch : ℕ) (p : Past V) (further : Further) (d :
 
 -- ---- integers alone
 
-whole_found : (letter epoch : ℕ) (k : Kept) (further : Further) (d : Data) (found : Result Found MethodError) → AddsWhole further
+whole_found : (letter epoch : ℕ) (k : Kept) (further : Further) (d : Data) (found : Result FoundSince MethodError) → AddsWhole further
     → IfOk (reply_of letter epoch k.place further found) (λ reply. has_float reply ≡ false)
 whole_found letter epoch k further d (Err e) whole = tt
 whole_found letter epoch k further d (Ok found) whole = whole_changes letter epoch k.place found.since further found.changes whole

@@ -1,8 +1,8 @@
 -- Mailbox/get (RFC 8621 section 2.1): Mailboxes as objects, with the properties of section 2.
-use Rattle.std.specs.Prelude.{ℕ, List, [], ◌∷◌, map, bytes_eq, codes, Option, Some, None, option_map, option_and_then, Result, Ok, Err, ok_or}
-use Rattle.std.specs.List.{find}
+use Rattle.std.specs.Prelude.{ℕ, List, [], ◌∷◌, Bool, if◌then◌else◌, bytes_eq, codes, Option, Some, None, Result, Ok, Err}
+use Rattle.std.specs.List.{filter, list_all, list_any}
 use Rattle.serde_json.specs.Data.{unsigned, Data, null, boolean, number, string, object, Members, no_members, member, put}
-use Rattle.jmap_methods.specs.Arguments.{texts_at}
+use Rattle.jmap_methods.specs.Arguments.{texts_at, is_among}
 use Rattle.jmap_methods.specs.Gets.{GetAsked, get_asked, shown_as, get_answered}
 use Rattle.jmap_methods.specs.Ids.{mailbox_letter, id_data}
 use Rattle.jmap_methods.specs.Outcome.{refusal_of}
@@ -34,8 +34,13 @@ property_name UnreadThreads = codes "unreadThreads"
 property_name MyRights = codes "myRights"
 property_name IsSubscribed = codes "isSubscribed"
 
-abbrev pub property_named : List ℕ → Option MailboxProperty
-property_named name = find (λ p. bytes_eq name (property_name p)) mailbox_properties
+-- whether the name is that of one of these
+abbrev pub is_name_in : List MailboxProperty → List ℕ → Bool
+is_name_in properties name = list_any (λ p. bytes_eq (property_name p) name) properties
+
+-- those of these that are named
+abbrev pub those_named : List MailboxProperty → List (List ℕ) → List MailboxProperty
+those_named properties names = filter (λ p. is_among (property_name p) names) properties
 
 -- ---- values
 
@@ -97,14 +102,10 @@ mailbox_data wanted e = object (with_properties e (Id ∷ wanted) no_members)
 
 -- ---- the answer
 
-abbrev pub properties_named : List (List ℕ) → Option (List MailboxProperty)
-properties_named [] = Some []
-properties_named (name ∷ names) = option_and_then (λ p. option_map (λ ps. p ∷ ps) (properties_named names)) (property_named name)
-
--- all properties where none are named
+-- all properties where none are named; no name but theirs may stand there
 abbrev pub wanted_of : Option (List (List ℕ)) → Result (List MailboxProperty) MethodError
 wanted_of None = Ok mailbox_properties
-wanted_of (Some names) = ok_or (properties_named names) InvalidArguments
+wanted_of (Some names) = if list_all (is_name_in mailbox_properties) names then Ok (those_named mailbox_properties names) else Err InvalidArguments
 
 abbrev pub wanted_from : Result (Option (List (List ℕ))) MethodError → Result (List MailboxProperty) MethodError
 wanted_from (Ok names) = wanted_of names

@@ -14,7 +14,7 @@ ghost use Rattle.read_methods.specs.Mailboxes as spec;
 ghost use Rattle.read_methods.specs.Mailboxes.{mailbox_objects, mailboxes_answer};
 ghost use Rattle.read_methods.specs.Replies.{mailbox_get_reply};
 
-use crate::mailbox_property::{MailboxProperty, PROPERTIES, mailbox_property_named};
+use crate::mailbox_property::{MailboxProperty, all_properties, are_names_in, those_named};
 use crate::mailbox_values::mailbox_value;
 use jmap_methods::{
     MAILBOX_LETTER, MethodError, Objects, State, check_account, check_count, count_of_ids,
@@ -31,33 +31,18 @@ struct Asked<'a> {
     properties: Vec<MailboxProperty>,
 }
 
-/// The properties that names want, if they name no other.
-fn properties_named(
-    alloc: Global,
-    names: &Vec<&str>,
-) -> Result<Option<Vec<MailboxProperty>>, AllocError>
-    ensures { IfOk result (λ o. option_map (λ v. v.items) o ≡ spec.properties_named (map (λ t. t.now) names.now.items)) }
-{
-    let mut wanted = Vec::with_capacity(alloc, names.len())?;
-    for name in names {
-        let Some(property) = mailbox_property_named(*name) else {
-            return Ok(None);
-        };
-        wanted.push(property)?;
-    }
-    Ok(Some(wanted))
-}
-
 /// The properties that are wanted: all, where none are named.
 fn properties_at(alloc: Global, arguments: &Value) -> Result<Vec<MailboxProperty>, MethodError>
     ensures { Agrees Memory (λ v. v.items) result (spec.wanted_from (texts_at (codes "properties") (view arguments.now))) }
 {
+    let all = all_properties(alloc)?;
     let Some(names) = texts_or_null(alloc, arguments, "properties")? else {
-        return Ok(Vec::from_slice(alloc, PROPERTIES.as_slice())?);
+        return Ok(all);
     };
-    match properties_named(alloc, &names)? {
-        None => Err(MethodError::InvalidArguments),
-        Some(wanted) => Ok(wanted),
+    if are_names_in(all.as_slice(), &names) {
+        Ok(those_named(alloc, all.as_slice(), &names)?)
+    } else {
+        Err(MethodError::InvalidArguments)
     }
 }
 
