@@ -1,4 +1,5 @@
 mod ChangeLemmas
-mod OverHistory
 mod ObjectLemmas
+mod OneAnswer
+mod OverHistory
 mod WholeLemmas

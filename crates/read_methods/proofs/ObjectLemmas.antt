@@ -13,9 +13,10 @@ module _ {R V : Type 0} (serve : R → V) (show : ℕ × V → Data) where
       → lookup (is_at (nat_cmp n)) (shown_as show (served serve rows)) ≡ option_map (λ r. show (n, serve r)) (lookup (is_at (nat_cmp n)) rows)
   object_at [] n = refl
   object_at (e ∷ es) n =
+      let shown : Option R → Option Data = option_map (λ r. show (n, serve r)) in
+      let rest = lookup (is_at (nat_cmp n)) es in
       ap (λ (o : Option Data). cond (is_at (nat_cmp n) e.0) (Some (show (e.0, serve e.1))) o) (object_at es n)
-      ∙ elim (is_at (nat_cmp n) e.0) as (λ b. is_at (nat_cmp n) e.0 ≡ b → cond b (Some (show (e.0, serve e.1))) (option_map (λ r. show (n, serve r)) (lookup (is_at (nat_cmp n)) es))
-      ≡ option_map (λ r. show (n, serve r)) (cond b (Some e.1) (lookup (is_at (nat_cmp n)) es))) [
+      ∙ elim (is_at (nat_cmp n) e.0) as (λ b. is_at (nat_cmp n) e.0 ≡ b → cond b (Some (show (e.0, serve e.1))) (shown rest) ≡ shown (cond b (Some e.1) rest)) [
         | true ↦ λ here. ap (λ (k : ℕ). let o : Option Data = Some (show (k, serve e.1)) in o) (found_is n e.0 here)
         | false ↦ λ other. refl
       ] refl
