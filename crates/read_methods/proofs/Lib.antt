@@ -1,4 +1,5 @@
 mod ChangeLemmas
+mod FindLemmas
 mod ObjectLemmas
 mod OneAnswer
 mod OverHistory
