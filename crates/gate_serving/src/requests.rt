@@ -12,7 +12,7 @@ fn any_needs_mail(calls: &[Call]) -> bool
 {
     calls
         .iter()
-        .any(|call| jmap_core::needs_mail(call.name.as_str()))
+        .any(|call| jmap_methods::needs_mail(call.name.as_str()))
 }
 
 /// Whether one of the calls needs the mail.
