@@ -143,5 +143,6 @@ commands_are_sent_in_order plan life left xs client result events f =
     ∙ flat_map-append store_took_in f.so_far f.last in
     let ended : EndTakes f.after.goes_on (plan xs) (next_number life + length xs) (flat_map store_took_in f.last) =
     subst (λ (k : ℕ). EndTakes f.after.goes_on (plan xs) k (flat_map store_took_in f.last)) (ran_number f.ran) (end_takes f.ends) in
-    let so = joined_by f.after.goes_on (plan xs) (next_number life + length xs) (flat_map store_took_in f.so_far) (flat_map store_took_in f.last) (due_texts (next_number life) xs) (ran_takes f.ran) ended in
+    let so = joined_by f.after.goes_on (plan xs) (next_number life + length xs) (flat_map store_took_in f.so_far) (flat_map store_took_in f.last)
+    (due_texts (next_number life) xs) (ran_takes f.ran) ended in
     (so.0, ap (λ (l : List ℕ). l ++ so.0) took_is ∙ so.1)

@@ -33,7 +33,7 @@ touches_between old new = record {
 
 -- ---- no room
 
--- the place of the list, where so many touches more would pass the last one
+-- the place of the list, where these touches would pass the last one
 abbrev pub full_place : Kept → List Entry → Option ℕ
 full_place list touches = if nat_lt MAX_PLACE (list.place + length touches) then Some list.place else None
 
