@@ -105,13 +105,15 @@ const CLIENTS: [(usize, bool, bool); 4] = [
     (9_000_000, true, false),
 ];
 
-/// A client that sends more than is dropped stays open until two seconds are over.
+/// A client that sends more than is dropped stays open until two seconds are over, also where others are waited for before.
 #[test]
 fn a_client_that_still_sends_lingers(rt: HostRuntime) {
     for row in CLIENTS.iter() {
         let (mut front, open) = front_of(&rt, rt, 1000, row.0);
         assert!(rt; front.accept().is_some());
         front.finish();
+        assert_eq!(rt; open.upgrade().is_some(), row.1, "{}", row.0);
+        assert!(rt; front.accept().is_none());
         assert_eq!(rt; open.upgrade().is_some(), row.1, "{}", row.0);
         for _ in 0..1000 {
             assert!(rt; front.accept().is_none());
