@@ -97,13 +97,14 @@ module _ {V : Type 0} (epoch : ℕ) (p : Past V) (asked : ChangesAsked) (a : Ans
   }
 
 module _ {V : Type 0} (letter epoch : ℕ) (p : Past V) (further : Further) (d : Data) where
-  brings_if : (r : Result Data MethodError) → AnswersChanges letter epoch (entries_of p.touches) further d r → IfOk r (BringsUpToDate letter epoch p further d)
+  -- an answer keeps a copy right
+  pub brings_if : (r : Result Data MethodError) → AnswersChanges letter epoch (entries_of p.touches) further d r → IfOk r (BringsUpToDate letter epoch p further d)
   brings_if _ (Refused e is) = tt
   brings_if _ (NoSuchState asked is none) = tt
   brings_if _ (Answered asked a is) =
       brings epoch p asked a letter further d (changes_data letter epoch (length (entries_of p.touches)) asked.since further a.changes) is refl
 
-  -- what is answered keeps a copy right
+  -- so does a value that answers so
   pub up_to_date : (r : Result Value MethodError) → Meets Memory view r (AnswersChanges letter epoch (entries_of p.touches) further d)
       → IfOk r (λ value. BringsUpToDate letter epoch p further d (view value))
   up_to_date (Ok value) a = brings_if (Ok (view value)) a
