@@ -1,2 +1,6 @@
-pub mod Names
-pub mod Whole
+mod ChangeLemmas
+mod FindLemmas
+mod ObjectLemmas
+mod OneAnswer
+mod OverHistory
+mod WholeLemmas
