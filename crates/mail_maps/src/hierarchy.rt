@@ -5,7 +5,7 @@ ghost use Rattle.std.specs.Str.Lossy.{utf8_lossy};
 ghost use Rattle.mail_maps.specs.Hierarchy as hierarchy;
 ghost use Rattle.mail_maps.specs.Mailboxes.{folders_of};
 
-use gate_world::Bytes;
+use gate_world::Text;
 use std::alloc::{AllocError, Global};
 use told_folder::{Folder, Held};
 
@@ -102,10 +102,10 @@ fn parent_len(parent: Option<&Folder>) -> usize
 }
 
 /// The name that follows that of the parent, in UTF-8.
-pub fn own_name(alloc: Global, parent: Option<&Folder>, child: &Folder) -> Result<Bytes, AllocError>
+pub fn own_name(alloc: Global, parent: Option<&Folder>, child: &Folder) -> Result<Text, AllocError>
     ensures { IfOk result (λ name. name ≡ utf8_lossy (drop (hierarchy.parent_len (option_copied parent.entry)) child.now.name)) }
 {
     let rest = after(child.name.as_slice(), parent_len(parent));
     let text = String::from_utf8_lossy(alloc, rest)?;
-    Ok(Bytes::from_vec(text.into_bytes())?)
+    Ok(Text::from_string(text))
 }

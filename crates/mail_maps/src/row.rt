@@ -1,7 +1,7 @@
 // The rows of the served types.
 
 use crate::Envelope;
-use gate_world::{Bytes, Names};
+use gate_world::{Bytes, Names, Text};
 
 /// An Email (RFC 8621 section 4).
 #[derive(Debug, Drop)]
@@ -77,8 +77,8 @@ pub struct Rights {
 pub struct MailboxRow {
     /// That of its folder, the key of the row.
     pub number: u64,
-    /// In UTF-8: what follows the parent's name and the delimiter.
-    pub name: Bytes,
+    /// What follows the parent's name and the delimiter, in UTF-8.
+    pub name: Text,
     /// The folder's name as the store told it. Not served.
     pub full_name: Bytes,
     /// The number of the folder with the longest name above this one; None where no folder is above.

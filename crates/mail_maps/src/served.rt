@@ -40,7 +40,7 @@ impl Row for MailboxRow {
     }
 
     fn is_same_but_for_counts(&self, other: &MailboxRow) -> bool {
-        self.name.as_slice() == other.name.as_slice()
+        self.name.as_str() == other.name.as_str()
             && self.parent == other.parent
             && same_role(self.role, other.role)
             && self.subscribed == other.subscribed

@@ -30,7 +30,7 @@ fn mailbox_row(rt: &impl Abort, alloc: Global, mailbox: &MailboxRow) -> Row {
         mailbox.total_threads,
         mailbox.unread_threads,
     ];
-    named_row(rt, alloc, &numbers, mailbox.name.as_slice())
+    named_row(rt, alloc, &numbers, mailbox.name.as_str().as_bytes())
 }
 
 fn thread_row(rt: &impl Abort, alloc: Global, thread: u64, emails: &[u64]) -> Row {

@@ -35,7 +35,7 @@ fn put_mailbox(rt: &impl Abort, alloc: Global, out: &mut Vec<u8>, row: &MailboxR
         put_id(rt, alloc, out, "m", parent);
         put(rt, out, b"/");
     }
-    put(rt, out, row.name.as_slice());
+    put(rt, out, row.name.as_str().as_bytes());
     put(rt, out, b":");
     if let Some(role) = row.role {
         let text = format!(in alloc; " {role:?}").expect(rt, "memory");
