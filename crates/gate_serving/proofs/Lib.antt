@@ -5,6 +5,5 @@ pub mod Answering
 mod Gates
 mod Ids
 mod Running
-mod Calling
 mod Needs
 pub mod Told

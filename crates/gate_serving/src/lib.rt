@@ -7,16 +7,13 @@ mod asking;
 mod door;
 mod front;
 mod reading;
-mod requests;
 mod upload;
 
 // The work, and answers.
 mod answers;
-mod calls;
 mod line;
 mod mailing;
 mod response;
-mod served_mail;
 
 // One client after another.
 mod gate;

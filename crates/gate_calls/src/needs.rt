@@ -3,7 +3,7 @@ ghost use Rattle.std.specs.Prelude.{◌≡◌, map};
 ghost use Rattle.std.specs.List.{list_any};
 ghost use Rattle.jmap_methods.specs.Method.{needs_mail_by};
 ghost use Rattle.jmap_core.specs.Request.{call_data};
-ghost use Rattle.gate_serving.specs.Calls.{needs_mail};
+ghost use Rattle.gate_calls.specs.Calls.{needs_mail};
 
 use jmap_core::Call;
 
@@ -12,7 +12,7 @@ fn any_needs_mail(calls: &[Call]) -> bool
 {
     calls
         .iter()
-        .any(|call| jmap_core::needs_mail(call.name.as_str()))
+        .any(|call| jmap_methods::needs_mail(call.name.as_str()))
 }
 
 /// Whether one of the calls needs the mail.
