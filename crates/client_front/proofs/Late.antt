@@ -1,6 +1,6 @@
 -- Idle clients whose time is up.
 use Rattle.std.proofs.Common.{◌≡◌, ℕ, List, [], ◌∷◌, true, false, refl}
-use Rattle.client_front.specs.Waiting.{is_first_late, unexpired}
+use Rattle.client_front.specs.reading.Waiting.{is_first_late, unexpired}
 use Rattle.client_front.specs.declared.waiting.Idle.{Idle}
 
 module _ {S : Type 0} where

@@ -4,7 +4,7 @@ use Rattle.std.specs.List.{remove}
 use Rattle.std.specs.Prelude.{Some}
 use Rattle.std.proofs.Math.Seq.{drop-cons}
 use Rattle.std.proofs.lemmas.List.{length-take-le, take-append-drop, get_or-take}
-use Rattle.client_front.specs.Waiting.{FirstWith, HasSent, IsSilent, IsTaken}
+use Rattle.client_front.specs.reading.Waiting.{FirstWith, HasSent, IsSilent, IsTaken}
 use Rattle.client_front.specs.declared.sockets.First.{First}
 use Rattle.client_front.specs.declared.waiting.Idle.{Idle}
 

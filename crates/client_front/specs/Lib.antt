@@ -2,4 +2,4 @@ pub mod Deadlines
 pub mod FirstOctet
 pub mod Handing
 pub mod HeadEnd
-pub mod Waiting
+pub mod reading

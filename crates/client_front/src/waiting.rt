@@ -1,7 +1,7 @@
 // Clients that came and are not handed on yet.
 ghost use Rattle.std.specs.Prelude.{◌≡◌, ◌≢◌, ◌<◌, ◌↔◌, ℕ, [], ◌∷◌, All, length, slice_index_or, IsTrue, IfOk, OnOk, IfSome, IfNone};
-ghost use Rattle.client_front.specs.Waiting as spec;
-ghost use Rattle.client_front.specs.Waiting.{HasSent, IsTaken, IsAsked};
+ghost use Rattle.client_front.specs.reading.Waiting as spec;
+ghost use Rattle.client_front.specs.reading.Waiting.{HasSent, IsTaken, IsAsked};
 ghost use Rattle.client_front.specs.declared.waiting.Idle.{Idle};
 
 use crate::sockets::{ClientStream, First};

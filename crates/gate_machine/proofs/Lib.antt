@@ -1,3 +1,4 @@
 mod Stages
 mod Owed
 mod Unequal
+mod Keeping

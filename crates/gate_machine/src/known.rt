@@ -1,11 +1,10 @@
 // What is known of the mail.
-ghost use Rattle.std.specs.Prelude.{◌≡◌, ◌≢◌, ◌↔◌, IsTrue, IsErrOf, IfOk, OnOk, OnErr, true};
+ghost use Rattle.std.specs.Prelude.{◌≡◌, ◌↔◌, IsTrue, IsErrOf, IfOk, OnOk, OnErr, true};
 ghost use Rattle.gate_world.specs.Causes.{Rose, LinkAlone};
 ghost use Rattle.gate_world.specs.Tape.{Adds};
 ghost use Rattle.imap_client.specs.LinkLife.{LinkLife, Stands, fresh};
 ghost use Rattle.imap_client.specs.Rounds.{KeepsCount, Rounds};
 ghost use Rattle.mail_state.specs.History.{first_history};
-ghost use Rattle.mail_state.specs.declared.error.StateError.TheVariants as state_error;
 ghost use Rattle.gate_machine.specs.History.{KnownMail, known_mail, Advanced, Commits, IsNewMail, IsSpent};
 ghost use Rattle.gate_machine.specs.Kept.{IsKeptOf};
 ghost use Rattle.told_mail.specs.Mail.{SameMail};
@@ -41,16 +40,6 @@ impl Model for Known {
 
     ghost invariant = { λ k. (k.same_at ≤ k.told.changes)
         × (k.told.changes ≡ k.same_at → k.told.changes < 2 ^ 64 - 1 → SameMail k.served.mail k.told.mail) };
-}
-
-// Why the state doesn't follow the mail.
-fn end_of(error: StateError) -> CommitEnd
-    ensures { result ≡ CommitEnd.Spent → error ≢ state_error.Memory }
-{
-    match error {
-        StateError::Spent { .. } => CommitEnd::Spent,
-        StateError::Memory => CommitEnd::Memory,
-    }
 }
 
 impl Known {
@@ -107,7 +96,8 @@ impl Known {
                 told,
                 same_at,
             }),
-            Err(error) => Err(end_of(error)),
+            Err(StateError::Spent { .. }) => Err(CommitEnd::Spent),
+            Err(StateError::Memory) => Err(CommitEnd::Memory),
         }
     }
 

@@ -1,10 +1,13 @@
 //! The gateway: the top call, a message that is shown, and pages of help.
 #![tactic(auto)]
 
+// A message shown, and pages of help.
 mod explain;
+mod show;
+
+// The top call, and what clients are owed by it.
 mod laws;
 mod program;
-mod show;
 
 pub use gate_words::{Page, Place, Task, WordsError, read_words};
 pub use laws::obeyed_programs_tell;

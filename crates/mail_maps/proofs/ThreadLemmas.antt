@@ -21,7 +21,8 @@ use Rattle.mail_maps.proofs.InOrder.{keys_of-keyed}
 equal_is : (a b : ℕ) → nat_cmp a b ≡ Equal → a ≡ b
 equal_is a b e = grind arith
 
-key_test : (q k : ℕ) → is_at (nat_cmp q) k ≡ nat_eq k q
+-- an entry stands at a number where it has that number
+pub key_test : (q k : ℕ) → is_at (nat_cmp q) k ≡ nat_eq k q
 key_test q k = grind (arith, common_steps)
 
 found_is : (q k : ℕ) → is_at (nat_cmp q) k ≡ true → q ≡ k
@@ -35,7 +36,8 @@ turned a b o e = nat_cmp_total.antisymm b a ∙ ap ordering_reverse e
 
 -- ---- which numbers have a Thread
 
-abbrev has : List ℕ → ℕ → Bool
+-- whether the number is in the list
+abbrev pub has : List ℕ → ℕ → Bool
 has [] q = false
 has (x ∷ xs) q = cond (nat_eq x q) true (has xs q)
 
@@ -65,7 +67,8 @@ inserted (x ∷ xs) k q = by (nat_cmp k x) refl (inserted xs k q)
     by Equal e rest = true_twice (nat_eq x q) (has xs q) ∙ ap (λ (y : ℕ). cond (nat_eq y q) true (cond (nat_eq x q) true (has xs q))) (sym (equal_is k x e))
     by Greater e rest = ap (λ (b : Bool). cond (nat_eq x q) true b) rest ∙ swap (nat_eq x q) (nat_eq k q) (has xs q)
 
-sorted_has : (before xs : List ℕ) (q : ℕ) → has (sorted_into nat_cmp before xs) q ≡ cond (has before q) true (has xs q)
+-- numbers put into a sorted list are there beside those that were
+pub sorted_has : (before xs : List ℕ) (q : ℕ) → has (sorted_into nat_cmp before xs) q ≡ cond (has before q) true (has xs q)
 sorted_has before [] q = elim (has before q) as (λ (b : Bool). b ≡ cond b true false) [ true ↦ refl | false ↦ refl ]
 sorted_has before (x ∷ xs) q =
     sorted_has (insert_key nat_cmp before x) xs q ∙ ap (λ (b : Bool). cond b true (has xs q)) (inserted before x q) ∙ either_way (nat_eq x q) (has before q) (has xs q)

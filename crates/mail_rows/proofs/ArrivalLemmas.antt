@@ -12,8 +12,8 @@ use Rattle.mail_maps.specs.Rows.{Rows}
 use Rattle.mail_maps.specs.Visible.{Placed}
 use Rattle.mail_rows.specs.NumberedRows.{NumberedRows, AreBelow}
 use Rattle.mail_rows.specs.Joining.{row_member, members_of, thread_in}
-use Rattle.mail_rows.specs.Taking.{new_row}
-use Rattle.mail_rows.specs.reading.Indexes.{AreIndexes, AddsRow, row_for, with_last}
+use Rattle.mail_rows.specs.Taking.{new_row, row_for}
+use Rattle.mail_rows.specs.reading.Indexes.{AreIndexes, AddsRow, with_last}
 use Rattle.mail_rows.proofs.RowLemmas.{none_over, insert_last}
 use Rattle.mail_rows.proofs.IndexLemmas.{members_under, as_under, indexes_more}
 use Rattle.mail_rows.proofs.ThreadLaw.{thread_is}
@@ -28,7 +28,7 @@ not_member rows next email marks book is same =
 row_put : (rows all : Rows) (next : ℕ) (row : EmailRow) → AreBelow next rows → all ≡ insert_entry nat_cmp rows next row → all ≡ rows ++ (next, row) ∷ []
 row_put rows all next row below put = put ∙ insert_last rows next row (as_under next rows below)
 
--- the rows with the new one behind them
+-- the rows with the new one after them
 pub rows_put : (rows all : Rows) (next : ℕ) (row : EmailRow) → AreBelow next rows → all ≡ insert_entry nat_cmp rows next row
     → ◌≡◌ {A = NumberedRows} (record { rows = all; next = next + 1 }) (with_last (record { rows = rows; next = next }) row)
 rows_put rows all next row below put = ap (λ (rs : Rows). record { rows = rs; next = next + 1 }) (row_put rows all next row below put)

@@ -206,7 +206,7 @@ from_under k (e ∷ es) u = (u.0, from_under k es u.1)
 mark_test : (a b : ℕ) → is_at (nat_cmp a) b ≡ nat_eq a b
 mark_test a b = grind (arith, common_steps)
 
--- the indexes with a row behind the others, of the next number
+-- the indexes with a row after the others, of the next number
 pub indexes_more : (es : Rows) (k : ℕ) (v : EmailRow) (marks marks' : BTreeMap ℕ ℕ) (book book' : Members)
     → AreIndexes es k marks book
     → ((q : ℕ) → get nat_cmp marks' q ≡ cond (is_at (nat_cmp v.mark) q) (Some k) (get nat_cmp marks q))

@@ -1,4 +1,4 @@
--- Rows in order: what is found in them, and rows that are added behind them.
+-- Rows in order: what is found in them, and rows that are added after them.
 use Rattle.std.proofs.Common.{◌≡◌, ◌≢◌, ℕ, ◌+◌, ◌<◌, ◌≤◌, List, [], ◌∷◌, ◌++◌, Bool, true, false, cond, refl, sym, ap, ◌∙◌, arith, nat_cmp, Some, None}
 use Rattle.std.specs.declared.cmp.Ordering.{Ordering}
 use Rattle.std.specs.declared.cmp.Ordering.TheVariants.{Less, Greater}
@@ -89,7 +89,7 @@ module _ {R : Type 0} where
     found_later e es es (sorted_head nat_cmp e.0 (keys_of es) h) (all_in es (sorted_tail nat_cmp e.0 (keys_of es) h)),
   )
 
-  -- what is found in one list behind another
+  -- what is found in one list after another
   pub row_at-append : (xs ys : List (ℕ × R)) (q : ℕ) → row_at (xs ++ ys) q ≡ option_or (row_at xs q) (row_at ys q)
   row_at-append [] ys q = refl
   row_at-append (x ∷ xs) ys q =
@@ -105,7 +105,7 @@ module _ {R : Type 0} where
       ap (λ (o : Ordering). match_ordering o ((k, v) ∷ e ∷ es) ((e.0, v) ∷ es) (e ∷ insert_entry nat_cmp es k v)) (is_greater e.0 k u.0)
       ∙ ap (λ (r : List (ℕ × R)). e ∷ r) (insert_last es k v u.1)
 
-  -- with the row behind, rows are under the next number
+  -- with the row after them, rows are under the next number
   pub under_more : (es : List (ℕ × R)) (k : ℕ) (v : R) → Under k es → Under (k + 1) (es ++ (k, v) ∷ [])
   under_more [] k v u = (omega arith, tt)
   under_more (e ∷ es) k v u = (omega (arith, u.0), under_more es k v u.1)
@@ -120,7 +120,7 @@ module _ {R : Type 0} where
   less_last j k v [] l h = (below_is_less j k l, tt)
   less_last j k v (e ∷ es) l h = (h.0, less_last j k v es l h.1)
 
-  -- with a row of a higher number behind, rows are in order
+  -- with a row of a higher number after them, rows are in order
   pub sorted_last : (es : List (ℕ × R)) (k : ℕ) (v : R) → IsStrictlySortedBy nat_cmp (keys_of es) → Under k es → IsStrictlySortedBy nat_cmp (keys_of (es ++ (k, v) ∷ []))
   unfolding IsStrictlySortedBy
   sorted_last [] k v h u = (tt, tt)

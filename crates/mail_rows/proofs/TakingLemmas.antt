@@ -71,7 +71,7 @@ adds_more n m p ps after one rest = record {
   after_is = rest.after_is ∙ ap (λ (x : NumberedRows). with_rows x ps rest.envelopes) one.after_is;
 }
 
--- rows that take in the arrivals behind those that remain are those of the mail
+-- rows that take in the arrivals after those that remain are those of the mail
 pub takes_from_adds : (n : NumberedRows) (hs : List Held) (ps : List Placed) (after : NumberedRows) → ps ≡ arrivals n hs → AddsRows (left n hs) ps after → TakesMail n hs after
 takes_from_adds n hs ps after are adds =
     let P : List Placed → Type 0 = λ xs. AddsRows (left n hs) xs after in
@@ -89,7 +89,7 @@ append_none : {A : Type 0} (xs : List A) → xs ++ [] ≡ xs
 append_none [] = refl
 append_none {A} (x ∷ xs) = ap (λ (r : List A). x ∷ r) (append_none xs)
 
--- rows are added behind the others
+-- rows are added after the others
 pub rows_added : (n : NumberedRows) (ps : List Placed) (es : List Envelope) → (with_rows n ps es).rows ≡ n.rows ++ added n ps es
 rows_added n [] es = sym (append_none n.rows)
 rows_added n (p ∷ ps) [] = sym (append_none n.rows)

@@ -21,7 +21,7 @@ use Rattle.mail_maps.specs.Visible.{Placed, shown}
 use Rattle.mail_rows.specs.Remaining.{updated, remaining}
 use Rattle.mail_rows.specs.declared.remaining.Gone.{Gone}
 use Rattle.mail_rows.specs.declared.remaining.Update.{Update}
-use Rattle.mail_rows.specs.reading.Stays.{is_moved, is_other, update_of, update_where, updates_where, updates_in, gone_of, is_hidden, gone_in, row_left, row_with, row_if}
+use Rattle.mail_rows.specs.reading.Stays.{is_moved, is_other, update_of, update_where, updates_where, updates_in, gone_of, is_hidden, gone_in, row_left, with_update, row_if}
 use Rattle.mail_rows.specs.reading.Stays.{row_updated}
 use Rattle.mail_rows.proofs.RowLemmas.{is_here, less_is_below, below_is_less, found_is, none_above}
 use Rattle.mail_rows.proofs.LoopLemmas.{next_left}
@@ -41,22 +41,22 @@ turned_test k q = grind (arith, common_steps)
 
 -- the row of the number is written
 pub row_written : (rows : ℕ → Option EmailRow) (u : Update) (row : EmailRow) (q : ℕ) (new : Option EmailRow) → Some row ≡ rows u.number
-    → new ≡ cond (is_at (nat_cmp u.number) q) (Some (row_with u row)) (rows q) → new ≡ row_if u q (rows q)
+    → new ≡ cond (is_at (nat_cmp u.number) q) (Some (with_update u row)) (rows q) → new ≡ row_if u q (rows q)
 row_written rows u row q new there put =
-    put ∙ ap (λ (b : Bool). cond b (Some (row_with u row)) (rows q)) (number_test u.number q) ∙ by (nat_eq u.number q) refl
+    put ∙ ap (λ (b : Bool). cond b (Some (with_update u row)) (rows q)) (number_test u.number q) ∙ by (nat_eq u.number q) refl
   where
-    by : (b : Bool) → nat_eq u.number q ≡ b → cond b (Some (row_with u row)) (rows q) ≡ cond b (option_map (row_with u) (rows q)) (rows q)
-    by true same = ap (option_map (row_with u)) (there ∙ ap rows (eqb-true u.number q same))
+    by : (b : Bool) → nat_eq u.number q ≡ b → cond b (Some (with_update u row)) (rows q) ≡ cond b (option_map (with_update u) (rows q)) (rows q)
+    by true same = ap (option_map (with_update u)) (there ∙ ap rows (eqb-true u.number q same))
     by false other = refl
 
 -- there is no row of the number
 pub row_absent : (rows : ℕ → Option EmailRow) (u : Update) (q : ℕ) → None ≡ rows u.number → rows q ≡ row_if u q (rows q)
 row_absent rows u q none = by (nat_eq u.number q) refl
   where
-    by : (b : Bool) → nat_eq u.number q ≡ b → rows q ≡ cond b (option_map (row_with u) (rows q)) (rows q)
+    by : (b : Bool) → nat_eq u.number q ≡ b → rows q ≡ cond b (option_map (with_update u) (rows q)) (rows q)
     by true same =
         let here : None ≡ rows q = none ∙ ap rows (eqb-true u.number q same) in
-        sym here ∙ ap (option_map (row_with u)) here
+        sym here ∙ ap (option_map (with_update u)) here
     by false other = refl
 
 -- ---- loops
@@ -108,7 +108,7 @@ none_left (g ∷ gs) q = elim (nat_eq g.number q) as (λ (b : Bool). row_left gs
 none_updated : (us : List Update) (q : ℕ) → row_updated us q None ≡ None
 none_updated [] q = refl
 none_updated (u ∷ us) q =
-    elim (nat_eq u.number q) as (λ (b : Bool). row_updated us q (cond b (option_map (row_with u) None) None) ≡ None) [
+    elim (nat_eq u.number q) as (λ (b : Bool). row_updated us q (cond b (option_map (with_update u) None) None) ≡ None) [
       | true ↦ none_updated us q
       | false ↦ none_updated us q
     ]
@@ -133,7 +133,7 @@ module _ (hs : List Held) (q : ℕ) where
   updated_alone (e ∷ es) o none = by (is_at (nat_cmp q) e.0) refl none (updated_alone es o)
     where
       one : (p : Placed) (t : Bool) → nat_eq e.0 q ≡ false → row_updated (updates_in hs es) q o ≡ o → row_updated (update_where t e.0 p ++ updates_in hs es) q o ≡ o
-      one p true other later = ap (λ (b : Bool). row_updated (updates_in hs es) q (cond b (option_map (row_with (update_of e.0 p)) o) o)) other ∙ later
+      one p true other later = ap (λ (b : Bool). row_updated (updates_in hs es) q (cond b (option_map (with_update (update_of e.0 p)) o) o)) other ∙ later
       one p false other later = later
 
       by : (b : Bool) → is_at (nat_cmp q) e.0 ≡ b → cond b (Some e.1) (row_at es q) ≡ None → (row_at es q ≡ None → row_updated (updates_in hs es) q o ≡ o)
@@ -163,7 +163,7 @@ module _ (hs : List Held) (q : ℕ) where
       -- another row
       passed : (p : Placed) (t : Bool) (o : Option EmailRow) → nat_eq e.0 q ≡ false
           → row_updated (update_where t e.0 p ++ updates_in hs es) q o ≡ row_updated (updates_in hs es) q o
-      passed p true o other = ap (λ (b : Bool). row_updated (updates_in hs es) q (cond b (option_map (row_with (update_of e.0 p)) o) o)) other
+      passed p true o other = ap (λ (b : Bool). row_updated (updates_in hs es) q (cond b (option_map (with_update (update_of e.0 p)) o) o)) other
       passed p false o other = refl
 
       by : (b : Bool) → is_at (nat_cmp q) e.0 ≡ b → (w : Option Placed) → shown hs e.1.mark ≡ w

@@ -1,5 +1,5 @@
 -- What becomes of the Emails as the mail changes: some remain, and what is newly visible becomes new Emails.
-use Rattle.std.specs.Prelude.{◌≡◌, ◌+◌, List, [], ◌∷◌, ◌++◌, Bool, not, filter}
+use Rattle.std.specs.Prelude.{◌≡◌, ℕ, ◌+◌, List, [], ◌∷◌, ◌++◌, Bool, not, filter}
 use Rattle.std.specs.List.{AllZip}
 use Rattle.told_folder.specs.declared.message.Held.{Held}
 use Rattle.mail_maps.specs.declared.row.EmailRow.{EmailRow}
@@ -22,19 +22,23 @@ is_newcomer rows p = not (knows rows p.message.mark)
 abbrev pub newcomers : List Held → Rows → List Placed
 newcomers hs rows = filter (is_newcomer rows) (visible hs)
 
-abbrev pub new_row : NumberedRows → Placed → Envelope → EmailRow
-new_row n p e = record {
-  number = n.next;
+-- the row of a new Email of this number, in this Thread
+abbrev pub row_for : ℕ → ℕ → Placed → Envelope → EmailRow
+row_for number thread p e = record {
+  number = number;
   mark = p.message.mark;
   folder = p.folder;
   uid = p.message.uid;
   keywords = keywords_of p.message.flags;
   received = p.message.date;
   size = p.message.size;
-  thread = thread_for n e;
+  thread = thread;
   header = p.message.header;
   envelope = e;
 }
+
+abbrev pub new_row : NumberedRows → Placed → Envelope → EmailRow
+new_row n p e = row_for n.next (thread_for n e) p e
 
 abbrev pub with_row : NumberedRows → Placed → Envelope → NumberedRows
 with_row n p e = record { rows = n.rows ++ (n.next, new_row n p e) ∷ []; next = n.next + 1 }

@@ -74,7 +74,7 @@ fn row_of(
     arrival: Arrival,
     envelope: Envelope,
 ) -> Result<EmailRow, AllocError>
-    ensures { IfOk result (λ row. row ≡ indexes.row_for number thread arrival envelope) }
+    ensures { IfOk result (λ row. row ≡ taking.row_for number thread arrival envelope) }
 {
     let Arrival { folder, message } = arrival;
     let keywords = keywords_of(alloc, &message.flags)?;

@@ -36,18 +36,17 @@ use Rattle.std.specs.Ordering.{match_ordering}
 use Rattle.std.specs.BTreeSet.{insert_key}
 use Rattle.std.specs.BTreeMap.{is_at}
 use Rattle.std.specs.Option.{option_map, unwrap_or}
-use Rattle.std.proofs.lemmas.Grind.{common_steps}
 use Rattle.change_list.specs.Advance.{row_at, AreRows}
 use Rattle.thread_rule.specs.Threads.{Members}
 use Rattle.served_maps.specs.Past.{Past, served, AreFresh, IsEverBelow, place_now}
 use Rattle.told_folder.specs.declared.message.Held.{Held}
 use Rattle.mail_maps.specs.declared.row.EmailRow.{EmailRow}
 use Rattle.mail_maps.specs.declared.envelope.Envelope.{Envelope}
-use Rattle.mail_maps.specs.Keywords.{sorted_into}
 use Rattle.mail_maps.specs.Rows.{Rows}
 use Rattle.mail_maps.specs.Threads.{thread_numbers, threads_of, emails_in}
 use Rattle.mail_maps.specs.Serve.{thread_of}
 use Rattle.mail_maps.specs.Visible.{Placed, shown}
+use Rattle.mail_maps.proofs.ThreadLemmas.{has, key_test, sorted_has}
 use Rattle.mail_rows.specs.NumberedRows.{NumberedRows}
 use Rattle.mail_rows.specs.Remaining.{updated, put_remaining, remaining}
 use Rattle.mail_rows.specs.Joining.{row_member, members_of, shares, first_shared, thread_in, thread_for}
@@ -56,47 +55,6 @@ use Rattle.mail_rows.proofs.RowLemmas.{above_is_not}
 use Rattle.mail_state.specs.History.{MailHistory, served_threads}
 use Rattle.mail_state.specs.Sound.{IsSound}
 use Rattle.mail_state.proofs.EmailLemmas.{never_there}
-
-abbrev has : List ℕ → ℕ → Bool
-has [] q = false
-has (x ∷ xs) q = cond (nat_eq x q) true (has xs q)
-
-equal_is : (a b : ℕ) → nat_cmp a b ≡ Equal → a ≡ b
-equal_is a b e = grind arith
-
-key_test : (q k : ℕ) → is_at (nat_cmp q) k ≡ nat_eq k q
-key_test q k = grind (arith, common_steps)
-
-either_way : (a b c : Bool) → cond (cond a true b) true c ≡ cond b true (cond a true c)
-either_way true true c = refl
-either_way true false c = refl
-either_way false true c = refl
-either_way false false c = refl
-
-true_twice : (a b : Bool) → cond a true b ≡ cond a true (cond a true b)
-true_twice true b = refl
-true_twice false b = refl
-
-swap : (a b c : Bool) → cond a true (cond b true c) ≡ cond b true (cond a true c)
-swap true true c = refl
-swap true false c = refl
-swap false true c = refl
-swap false false c = refl
-
-inserted : (xs : List ℕ) (k q : ℕ) → has (insert_key nat_cmp xs k) q ≡ cond (nat_eq k q) true (has xs q)
-inserted [] k q = refl
-inserted (x ∷ xs) k q = by (nat_cmp k x) refl (inserted xs k q)
-  where
-    by : (r : Ordering) → nat_cmp k x ≡ r → has (insert_key nat_cmp xs k) q ≡ cond (nat_eq k q) true (has xs q)
-        → has (match_ordering r (k ∷ x ∷ xs) (x ∷ xs) (x ∷ insert_key nat_cmp xs k)) q ≡ cond (nat_eq k q) true (cond (nat_eq x q) true (has xs q))
-    by Less e g = refl
-    by Equal e g = true_twice (nat_eq x q) (has xs q) ∙ ap (λ (y : ℕ). cond (nat_eq y q) true (cond (nat_eq x q) true (has xs q))) (sym (equal_is k x e))
-    by Greater e g = ap (λ (b : Bool). cond (nat_eq x q) true b) g ∙ swap (nat_eq x q) (nat_eq k q) (has xs q)
-
-sorted_has : (before xs : List ℕ) (q : ℕ) → has (sorted_into nat_cmp before xs) q ≡ cond (has before q) true (has xs q)
-sorted_has before [] q = elim (has before q) as (λ (b : Bool). b ≡ cond b true false) [ true ↦ refl | false ↦ refl ]
-sorted_has before (x ∷ xs) q =
-    sorted_has (insert_key nat_cmp before x) xs q ∙ ap (λ (b : Bool). cond b true (has xs q)) (inserted before x q) ∙ either_way (nat_eq x q) (has before q) (has xs q)
 
 row_has : {V : Type 0} (f : ℕ → V) (xs : List ℕ) (q : ℕ) → is_some (row_at (map {B = ℕ × V} (λ t. (t, f t)) xs) q) ≡ has xs q
 row_has f [] q = refl

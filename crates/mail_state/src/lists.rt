@@ -30,7 +30,7 @@ impl Model for TypeLists {
     ghost view = { λ a. record { mailbox = a.mailbox; email = a.email; thread = a.thread } };
 }
 
-/// The place of the list, where so many touches more would pass the last one.
+/// The place of the list, where these touches would pass the last one.
 fn full_place(list: &ChangeList, touches: &[Entry]) -> Option<u64>
     requires { length touches.now < 2 ^ 63 }
     ensures { result ≡ full_place list.now touches.now }

@@ -10,7 +10,7 @@ use Rattle.change_list.specs.Advance.{Tests, IsExact, row_at, AreRows, differs, 
 use Rattle.change_list.specs.Kept.{Kept, IsOf}
 use Rattle.change_list.specs.declared.entries.Entry.{Entry}
 use Rattle.change_list.proofs.AdvanceLaws.{advance_goes_on}
-use Rattle.served_maps.specs.Steps.{removed, changed, added}
+use Rattle.served_maps.specs.reading.Steps.{removed, changed, added}
 use Rattle.served_maps.specs.Past.{Past, IsPast, AreFresh, gone_on, place_now, had_at, served, tests_of, StandsFor}
 
 -- a filter and a map of mapped items

@@ -1,9 +1,14 @@
 //! Served maps: rows by number, the steps from one map to the next, and what has become of a type since its beginning.
 #![tactic(auto)]
 
-pub mod laws;
-pub mod note;
+// Rows, and the touches from one map to the next.
 mod row;
 pub mod steps;
+
+// A list that notes them.
+pub mod note;
+
+// Laws.
+pub mod laws;
 
 pub use row::Row;

@@ -1,7 +1,7 @@
 // The steps from one map of rows to the next, as touches.
 ghost use Rattle.std.specs.Prelude.{◌≡◌, ◌++◌, map, filter, IfOk};
 ghost use Rattle.change_list.specs.Advance.{row_at, counts_if, is_gone, is_changed, advance_entries};
-ghost use Rattle.served_maps.specs.Steps.{removed, changed, added};
+ghost use Rattle.served_maps.specs.reading.Steps.{removed, changed, added};
 
 use crate::Row;
 use change_list::{Entry, Kind};

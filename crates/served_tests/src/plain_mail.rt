@@ -10,22 +10,34 @@ pub type Row = Vec<u64>;
 /// An Email. Its header has one digit each for its own id, the id that it answers and its subject.
 #[derive(Clone, Copy, Debug, PartialEq)]
 pub struct PlainEmail {
+    /// Its number.
     pub number: u64,
+    /// The mark of its message.
     pub mark: u64,
+    /// The number of the folder that its message is in.
     pub folder: u64,
+    /// The UID of its message there.
     pub uid: u32,
+    /// Whether its message has `\Seen`.
     pub is_seen: bool,
+    /// The date of its message, in seconds since 1970-01-01T00:00:00Z.
     pub received: i64,
+    /// The digit of its own id, as an octet.
     pub own: u8,
+    /// The digit of the id that it answers, as an octet.
     pub parent: u8,
+    /// The digit of its subject, as an octet.
     pub subject: u8,
+    /// The number of its Thread.
     pub thread: u64,
 }
 
 /// The Emails, by number, and the next number.
 #[derive(Drop)]
 pub struct PlainMail {
+    /// By ascending number.
     pub emails: Vec<PlainEmail>,
+    /// The number that the next Email gets.
     pub next: u64,
 }
 
@@ -172,6 +184,7 @@ fn threads(rt: &impl Abort, alloc: Global, emails: &[PlainEmail]) -> BTreeSet<u6
     threads
 }
 
+/// The Threads, by number: each with its Emails in the order of their dates.
 pub fn thread_rows(rt: &impl Abort, alloc: Global, emails: &[PlainEmail]) -> Vec<Row> {
     let threads = threads(rt, alloc, emails);
     let mut rows = Vec::new(alloc);
@@ -262,6 +275,7 @@ fn mailbox_row(
     named_row(rt, alloc, &numbers, name.get(from..).unwrap_or(&[]))
 }
 
+/// The Mailboxes, one for each folder, with what is counted of their Emails.
 pub fn mailbox_rows(
     rt: &impl Abort,
     alloc: Global,

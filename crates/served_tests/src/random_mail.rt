@@ -8,12 +8,13 @@ use std::alloc::Global;
 use std::process::Abort;
 use told_mail::{Message, Mirror};
 
-/// From so many messages on, one goes where else one would come.
+/// From this many messages on, one goes where else one would come.
 const MANY: usize = 60;
 
 /// A mirror with what chooses its next change.
 #[derive(Drop)]
 pub struct RandomMail {
+    /// The mail after the steps so far.
     pub mirror: Mirror,
     alloc: Global,
     seed: u64,
@@ -71,6 +72,7 @@ fn told_again(rt: &impl Abort, alloc: Global, messages: &[Message]) -> Vec<Respo
 }
 
 impl RandomMail {
+    /// No mail, and what chooses each change.
     pub fn new(alloc: Global, seed: u64) -> RandomMail {
         RandomMail {
             mirror: Mirror::new(alloc),

@@ -66,7 +66,7 @@ fn envelope(rt: &impl Abort, alloc: Global, read: &Envelope) -> Vec<u8> {
     out
 }
 
-/// Compares what is read of a message with this header, of which so many octets are kept. A keyword stands once.
+/// Compares what is read of a message with this header, of which the first `kept` octets are kept. A keyword stands once.
 fn expect_read(rt: &impl Abort, alloc: Global, header: &[u8], kept: usize, wanted: &[u8]) {
     let mut mirror = inbox(rt, alloc);
     let message = whole(rt, alloc, 1, &[b"$seen", b"\\seen"], -5, header);

@@ -21,7 +21,7 @@ fn own_lines(alloc: Global, number: u32, conversation: u32) -> Result<String, Al
     )
 }
 
-/// The header of the message of this number, where conversations have so many messages.
+/// The header of the message of this number, where conversations have `each` messages.
 fn header(alloc: Global, number: u32, each: u32) -> Result<Bytes, AllocError> {
     let conversation = number.checked_div(each).unwrap_or(0);
     let first = conversation.saturating_mul(each);
@@ -97,7 +97,7 @@ fn tell_slice(
     tell(alloc, mirror, command, responses)
 }
 
-/// A mirror with an INBOX of this many messages in conversations of so many, each with a header of its own.
+/// A mirror with an INBOX of these messages, `each` in a conversation and each with a header of its own.
 pub fn inbox(alloc: Global, messages: u32, each: u32) -> Result<Mirror, AllocError> {
     let mut mirror = Mirror::new(alloc);
     tell_folder(alloc, &mut mirror)?;

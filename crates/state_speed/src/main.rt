@@ -1,4 +1,4 @@
-//! What it costs to serve mail. `state_speed MESSAGES EACH` makes mail of so many messages in memory, with so many in each
+//! What it costs to serve mail. `state_speed MESSAGES EACH` makes mail of MESSAGES messages in memory, with EACH in each
 //! conversation and with headers of some 1,400 octets. It reads their headers alone, takes them into a state, and then takes
 //! changes of one message at a time into it.
 #![tactic(auto)]

@@ -1,21 +1,26 @@
 //! Tests of what exchanges with a store tell, made from the octets that a store sends.
 #![tactic(auto)]
 
+// Exchanges and mail.
 #[cfg(test)]
 mod dialogues;
 #[cfg(test)]
+mod playing;
+#[cfg(test)]
+mod showing;
+
+// What exchanges tell.
+#[cfg(test)]
 mod mirror_calls;
 #[cfg(test)]
-mod playing;
+mod told_exchanges;
+#[cfg(test)]
+mod whole_folders;
+
+// Link lives.
 #[cfg(test)]
 mod rounds;
 #[cfg(test)]
 mod session;
 #[cfg(test)]
-mod showing;
-#[cfg(test)]
 mod single_exchanges;
-#[cfg(test)]
-mod told_exchanges;
-#[cfg(test)]
-mod whole_folders;

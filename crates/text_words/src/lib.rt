@@ -2,10 +2,15 @@
 //! another, classes of octets and ends of lines. Grammars over octets are stated in them.
 #![tactic(auto)]
 
-pub mod class;
+// Octets, and the ends of lines.
 pub mod line_ends;
 pub mod octets;
+
+// Cuts.
+pub mod class;
 pub mod parts;
+
+// Tests.
 #[cfg(test)]
 mod tests;
 

@@ -8,7 +8,6 @@ use Rattle.mail_maps.specs.Rows.{Rows}
 use Rattle.mail_maps.specs.declared.row.EmailRow.{EmailRow}
 use Rattle.mail_maps.specs.declared.envelope.Envelope.{Envelope}
 use Rattle.mail_maps.specs.Envelope.{IsEnvelopeOf}
-use Rattle.mail_maps.specs.Keywords.{keywords_of}
 use Rattle.mail_maps.specs.Visible.{Placed}
 use Rattle.mail_rows.specs.NumberedRows.{NumberedRows, AreBelow}
 use Rattle.mail_rows.specs.Joining.{members_of}
@@ -52,25 +51,10 @@ pub record AddsRow (before : NumberedRows) (p : Placed) (after : NumberedRows) :
   pub is_read : IsEnvelopeOf p.message.header envelope
   pub after_is : after ≡ with_row before p envelope
 
--- so many numbers from this one on
+-- the n numbers from this one on
 abbrev pub numbers_from : ℕ → ℕ → List ℕ
 numbers_from first zero = []
 numbers_from first (suc n) = first ∷ numbers_from (first + 1) n
-
--- the row of a new Email of this number, in this Thread
-abbrev pub row_for : ℕ → ℕ → Placed → Envelope → EmailRow
-row_for number thread p e = record {
-  number = number;
-  mark = p.message.mark;
-  folder = p.folder;
-  uid = p.message.uid;
-  keywords = keywords_of p.message.flags;
-  received = p.message.date;
-  size = p.message.size;
-  thread = thread;
-  header = p.message.header;
-  envelope = e;
-}
 
 abbrev pub with_last : NumberedRows → EmailRow → NumberedRows
 with_last n row = record { rows = n.rows ++ (n.next, row) ∷ []; next = n.next + 1 }

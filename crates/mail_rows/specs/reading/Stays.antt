@@ -122,11 +122,11 @@ abbrev pub row_left : List Gone → ℕ → Option EmailRow → Option EmailRow
 row_left [] q o = o
 row_left (g ∷ gs) q o = row_left gs q (if g.number == q then None else o)
 
-abbrev pub row_with : Update → EmailRow → EmailRow
-row_with u row = record row { folder = u.folder; uid = u.uid; keywords = u.keywords }
+abbrev pub with_update : Update → EmailRow → EmailRow
+with_update u row = record row { folder = u.folder; uid = u.uid; keywords = u.keywords }
 
 abbrev pub row_if : Update → ℕ → Option EmailRow → Option EmailRow
-row_if u q o = if u.number == q then option_map (row_with u) o else o
+row_if u q o = if u.number == q then option_map (with_update u) o else o
 
 abbrev pub row_updated : List Update → ℕ → Option EmailRow → Option EmailRow
 row_updated [] q o = o

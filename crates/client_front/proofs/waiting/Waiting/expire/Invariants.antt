@@ -1,5 +1,5 @@
 use Rattle.std.proofs.Common.{◌≡◌, ◌+◌, length}
-use Rattle.client_front.specs.Waiting.{unexpired}
+use Rattle.client_front.specs.reading.Waiting.{unexpired}
 use Rattle.client_front.proofs.waiting.Waiting.expire.Given as goal
 
 abbrev pub invariant-loop-turn : goal.invariant-loop-turn

@@ -1,0 +1,2 @@
+-- Single touches of a step: private clauses and proofs alone speak of it.
+pub mod Steps
