@@ -1,5 +1,6 @@
 -- What is kept of what is known, as it goes on.
-use Rattle.std.proofs.Common.{arith, ◌≡◌, ◌∙◌, ℕ, Some, None, refl, sym, ap, subst}
+use Rattle.std.proofs.Common.{arith, ◌≡◌, ◌∙◌, ℕ, Some, None, Result, Ok, Err, refl, sym, ap, subst, inr}
+use Rattle.std.specs.Prelude.{IfOk}
 use Rattle.told_folder.specs.declared.message.Folder.{Folder}
 use Rattle.told_mail.specs.Mail.{Mail, IsMail, IsNextMail, no_mail}
 use Rattle.told_mail.specs.Told.{Told}
@@ -7,8 +8,9 @@ use Rattle.mail_state.specs.History.{MailHistory, first_history}
 use Rattle.mail_state.specs.State.{ServedState, IsStateOf, first_state}
 use Rattle.mail_state.specs.Following.{FollowsMail, SpendsPlace}
 use Rattle.mail_state.specs.declared.touches.Advance.{Advance}
-use Rattle.gate_machine.specs.History.{KnownMail, known_mail, Advanced, IsNewMail, IsSpent, served_anew}
+use Rattle.gate_machine.specs.History.{KnownMail, known_mail, Advanced, Commits, IsNewMail, IsSpent, served_anew}
 use Rattle.gate_machine.specs.Kept.{KeptMail, IsKeptOf}
+use Rattle.gate_machine.specs.declared.standing.CommitEnd.{CommitEnd}
 
 not_there : (f : Folder) → Some f ≡ None → ⊥
 not_there f is = cc
@@ -18,13 +20,13 @@ pub next_same : (m : Mail) → IsMail m → IsNextMail m m
 next_same m is = record { is_mail = is; counter = omega arith; new_folders = λ n f there none. absurd (not_there f (sym there ∙ none)) }
 
 -- an epoch begins
-pub begins : (epoch : ℕ) (s : ServedState) → IsStateOf (first_history epoch) (first_state epoch) → s ≡ first_state epoch
-    → IsKeptOf (known_mail (first_history epoch)) (record { state = s; served = no_mail; told = record { mail = no_mail; changes = 0 } })
-begins epoch s stands is =
+pub begins : (epoch : ℕ) (a : KeptMail) → IsStateOf (first_history epoch) (first_state epoch) → a.state ≡ first_state epoch → a.served ≡ no_mail
+    → a.told ≡ record { mail = no_mail; changes = 0 } → IsKeptOf (known_mail (first_history epoch)) a
+begins epoch a stands is served told =
     record {
       state = subst (λ (t : ServedState). IsStateOf (first_history epoch) t) (sym is) stands;
-      served = refl;
-      told = refl;
+      served = served;
+      told = told;
       next = next_same no_mail stands.sound.is_mail;
     }
 
@@ -67,3 +69,10 @@ is_same k a kept same = ap (λ (m : Mail). m.folders) (sym kept.served) ∙ same
 -- mail that is other than the served is new
 pub is_other : (k : KnownMail) (a : KeptMail) → IsKeptOf k a → (a.served.folders ≡ a.told.mail.folders → ⊥) → k.history.mail.folders ≡ k.told.mail.folders → ⊥
 is_other k a kept other same = other (ap (λ (m : Mail). m.folders) kept.served ∙ same ∙ ap (λ (m : Mail). m.folders) (sym (mail_of kept)))
+
+-- what was served where the told mail is new
+pub commits_other : (a : KeptMail) (result : Result KeptMail CommitEnd) → (a.served.folders ≡ a.told.mail.folders → ⊥)
+    → IfOk result (λ b. (k : KnownMail) → IsKeptOf k a → IsNewMail k → (l : KnownMail) × Advanced k l × IsKeptOf l b)
+    → IfOk result (λ b. (k : KnownMail) → IsKeptOf k a → (l : KnownMail) × Commits k l × IsKeptOf l b)
+commits_other a (Ok b) other goes = λ k kept. let to = goes k kept (is_other k a kept other) in (to.0, inr to.1, to.2)
+commits_other a (Err e) other goes = tt
