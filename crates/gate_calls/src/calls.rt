@@ -128,14 +128,7 @@ pub fn responses_to(
 {
     let mut responses = Vec::with_capacity(alloc, calls.len())?;
     for call in calls {
-        let response = response_to(
-            alloc,
-            machine,
-            told,
-            uses,
-            responses.as_slice(),
-            call,
-        )?;
+        let response = response_to(alloc, machine, told, uses, responses.as_slice(), call)?;
         responses.push(response)?;
     }
     Ok(responses)

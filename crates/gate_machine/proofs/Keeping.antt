@@ -43,7 +43,7 @@ pub goes_on : (k : KnownMail) (a b : KeptMail) (moved : Advance) → IsKeptOf k 
     → b.served ≡ a.told.mail → b.told ≡ a.told → (l : KnownMail) × Advanced k l × IsKeptOf l b
 goes_on k a b moved kept new follows served told =
     let f : FollowsMail k.history k.told.mail b.state moved =
-        subst (λ (m : Mail). FollowsMail k.history m b.state moved) (mail_of kept) (follows k.history kept.state (next_of kept)) in
+    subst (λ (m : Mail). FollowsMail k.history m b.state moved) (mail_of kept) (follows k.history kept.state (next_of kept)) in
     let mail_is : f.after.mail ≡ k.told.mail = ap (λ (h : MailHistory). h.mail) f.advances.after_is in (
       served_anew k f.after,
       record { is_new = new; next = f.after; goes_on = record { next = kept.next; advances = f.advances }; room = f.room; after_is = refl },

@@ -190,5 +190,5 @@ pub obeyed_stands : Law → (user password : List ℕ) (before : MachineState) (
     → IsServed after ⊎ (after.standing ≡ OutOfMemory)
 obeyed_stands law user password before events after b obeyed none = elim b.dials [
   | inl skips ↦ inr (by_none b skips.0 skips.2)
-  | inr dials ↦ by_dial law b obeyed dials (connects_end law dials.connects obeyed.welcomes) none
+  | inr dials ↦ by_dial law b obeyed dials (connects_end law dials.connects (obeyed.welcomes dials)) none
 ]

@@ -199,8 +199,8 @@ asked {client} {next} {result} {events} joins goes_on before machine after how w
     let k : KnownMail = of.0 in
     let kept : IsKeptOf k a = of.2 in
     let went : (left : LinkLife) × (rounds : Rounds k.told.mail b.told.mail here.0 left next result events) × KeepsCount k.told b.told result rounds.exchanges =
-        subst (λ (t : Told). (left : LinkLife) × (rounds : Rounds t.mail b.told.mail here.0 left next result events) × KeepsCount t b.told result rounds.exchanges) kept.told
-        (rounds here.0 here.2) in (
+    subst (λ (t : Told). (left : LinkLife) × (rounds : Rounds t.mail b.told.mail here.0 left next result events) × KeepsCount t b.told result rounds.exchanges) kept.told
+    (rounds here.0 here.2) in (
       ended_after result (record before { machine = hearing before.machine k b.told; left = Some went.0 }),
       record {
         known = k;

@@ -72,11 +72,7 @@ impl Machine {
     }
 
     /// Where it isn't ready it draws an epoch, and begins with no mail.
-    pub fn make_ready<C: Chance>(
-        &mut self,
-        alloc: Global,
-        chance: &mut C,
-    ) -> Result<(), AllocError>
+    pub fn make_ready<C: Chance>(&mut self, alloc: Global, chance: &mut C) -> Result<(), AllocError>
         ensures tape { Adds (C.tape chance.old) (C.tape chance.new) (λ es. (before : MachineState) → HoldsMachine before self.old
             → ReadiesTo before self.new result es) }
         ensures ready { OnOk result (IsSome self.new.known) }

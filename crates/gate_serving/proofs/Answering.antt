@@ -183,8 +183,8 @@ made_of : (gate before : Gate) (secrets : Hidden) (told : Result (Unit {0}) Meth
     → (s : GateState) → s.uploads ≡ uploads → IsMade before.door (account_by before secrets) mail asking s (came_to done gate) done result
 made_of gate before secrets told mail asking uploads done (Ok r) rest held mail_is stands kept made takes s same = (
   subst (λ (d : Door). IsResponse d (account_by before secrets) mail gate.uploads asking (text_sent r)) rest.door
-  (subst (λ (a : Account). IsResponse gate.door a mail gate.uploads asking (text_sent r)) (same_account rest refl)
-  (subst (λ (m : Mailing). IsResponse gate.door (account_by gate secrets) m gate.uploads asking (text_sent r)) (sym mail_is) (made secrets done.machine held))),
+      (subst (λ (a : Account). IsResponse gate.door a mail gate.uploads asking (text_sent r)) (same_account rest refl)
+      (subst (λ (m : Mailing). IsResponse gate.door (account_by gate secrets) m gate.uploads asking (text_sent r)) (sym mail_is) (made secrets done.machine held))),
   stands,
   subst (λ (u : List (List ℕ)). KeepsUpload asking u gate.uploads) (sym same) kept,
 )

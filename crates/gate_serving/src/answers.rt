@@ -49,12 +49,7 @@ fn calls_text(
     ensures { IfOk result (λ text. string_bytes text ≡ text_of_calls user.now base.now (map call_data responses.now) (request_data request.now)) }
 {
     let session = session_state(alloc, user.as_str(), base.as_str())?;
-    response_text(
-        alloc,
-        responses,
-        request.created.as_ref(),
-        session.as_str(),
-    )
+    response_text(alloc, responses, request.created.as_ref(), session.as_str())
 }
 
 // JSON, of this status.

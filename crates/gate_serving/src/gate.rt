@@ -134,7 +134,7 @@ impl Gate {
     fn answer<W: World>(&mut self, alloc: Global, world: &mut W, asking: &Asking) -> Response
         ensures run { Adds (W.tape world.old) (W.tape world.new)
             (Comes self.old self.new (λ s t. RepliesToAsking self.old.door (account_by self.old (W.hidden world.old)) (asking_data asking.now) s t
-                (W.faults world.old) (W.faults world.new) (text_sent result))) }
+            (W.faults world.old) (W.faults world.new) (text_sent result))) }
         ensures rest { RestStays self.old self.new }
         ensures alone { LinkAlone (W.faults world.old) (W.faults world.new) }
         ensures hidden { W.hidden world.new ≡ W.hidden world.old }
@@ -154,7 +154,7 @@ impl Gate {
     ) -> Result<Response, AllocError>
         ensures run { Adds (W.tape world.old) (W.tape world.new)
             (Comes self.old self.new (λ s t. AnswersTo self.old.door (account_by self.old (W.hidden world.old)) (asking_data asking.now) s t
-                (W.faults world.old) (W.faults world.new) result)) }
+            (W.faults world.old) (W.faults world.new) result)) }
         ensures rest { RestStays self.old self.new }
         ensures alone { LinkAlone (W.faults world.old) (W.faults world.new) }
         ensures hidden { W.hidden world.new ≡ W.hidden world.old }
@@ -183,12 +183,7 @@ impl Gate {
     }
 
     // The response over the machine's mail, where that was told, and the uploads that are kept. What is refused takes no memory.
-    fn response(
-        &self,
-        alloc: Global,
-        told: &Told,
-        asking: &Asking,
-    ) -> Result<Response, AllocError>
+    fn response(&self, alloc: Global, told: &Told, asking: &Asking) -> Result<Response, AllocError>
         ensures made { IfOk result (λ r. (secrets : Hidden) (m : MachineState) → HoldsMachine m self.now.machine
             → IsResponse self.now.door (account_by self.now secrets) (mail_told told.now m.known) self.now.uploads (asking_data asking.now) (text_sent r)) }
         ensures takes { OnErr result (TakesMemory (asking_data asking.now)) }

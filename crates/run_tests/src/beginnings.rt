@@ -7,9 +7,7 @@ use std::alloc::Global;
 use std::process::Abort;
 
 fn expect_first_place(rt: &impl Abort, state: &MailState, epoch: u64) {
-    assert!(rt;
-        state.epoch() == epoch && state.list(MailType::Mailbox).place() == 1
-    );
+    assert!(rt; state.epoch() == epoch && state.list(MailType::Mailbox).place() == 1);
 }
 
 /// The round of a visit stands, at the first place of Mailboxes in this epoch.

@@ -20,17 +20,23 @@ pub returns-in-AcceptFault-clause-run : goal.returns-in-AcceptFault-clause-run
 returns-in-AcceptFault-clause-run g c =
     join _ c.serving.invariant.run c.in-AcceptFault.ensures.run (λ x y so steps s held.
     let r = so s held in
-    let q = steps r.0 r.1 in
-    (q.0, q.1, then_last c.args.most 6 c.serving.invariant.rest.door (same_account c.serving.invariant.rest c.serving.invariant.hidden)
-    (not_accepted c.serving.count c.args.most c.serving-test.true) r.2 q.2))
+    let q = steps r.0 r.1 in (
+      q.0,
+      q.1,
+      then_last c.args.most 6 c.serving.invariant.rest.door (same_account c.serving.invariant.rest c.serving.invariant.hidden)
+          (not_accepted c.serving.count c.args.most c.serving-test.true) r.2 q.2,
+    ))
 
 pub returns-in-NoMore-clause-run : goal.returns-in-NoMore-clause-run
 returns-in-NoMore-clause-run g c =
     join _ c.serving.invariant.run c.in-NoMore.ensures.run (λ x y so steps s held.
     let r = so s held in
-    let q = steps r.0 r.1 in
-    (q.0, q.1, then_last c.args.most 0 c.serving.invariant.rest.door (same_account c.serving.invariant.rest c.serving.invariant.hidden)
-    (none_left c.serving.count c.args.most c.serving-test.true) r.2 q.2))
+    let q = steps r.0 r.1 in (
+      q.0,
+      q.1,
+      then_last c.args.most 0 c.serving.invariant.rest.door (same_account c.serving.invariant.rest c.serving.invariant.hidden)
+          (none_left c.serving.count c.args.most c.serving-test.true) r.2 q.2,
+    ))
 
 pub serving-preserved : goal.serving-preserved
 serving-preserved g c =

@@ -18,14 +18,14 @@ returns-clause-run g c =
       r.0,
       r.1,
       serves_reply _ _ s r.0 was _ _ x y c.reply-reply.result c.send_reply-served.result c.reply-reply.ensures.later c.send_reply-served.ensures.alone
-      c.send_reply-served.ensures.cause r.2 sends,
+          c.send_reply-served.ensures.cause r.2 sends,
     )) in
     then_one _ sent c.finish.ensures.tape (λ x so s held. let r = so s held in (
       r.0,
       r.1,
       subst (λ (f : Faults). Serves c.args.self.now.door (account_by c.args.self.now (g.W.Taped.hidden c.args.world.now)) s r.0 was f
-      c.send_reply-served.result (x ++ ClientDone ∷ []))
-      (sym c.finish.ensures.cause) r.2,
+          c.send_reply-served.result (x ++ ClientDone ∷ []))
+          (sym c.finish.ensures.cause) r.2,
     ))
 
 pub returns-clause-part : goal.returns-clause-part

@@ -20,8 +20,8 @@ returns-in-Ok-true-clause-run g c =
       r.0,
       r.1,
       subst (λ (h : Hidden). StepsTo c.args.self.now.door (account_by c.args.self.now h) s r.0
-      (g.W.Taped.faults c.args.world.now) (g.W.Taped.faults c.answer_client.new.world) c.answer_client.result (x ++ y)) c.accept.ensures.hidden
-      (steps_client (g.W.Taped.faults c.args.world.now) c.answer_client.result is c.accept.ensures.alone r.2),
+          (g.W.Taped.faults c.args.world.now) (g.W.Taped.faults c.answer_client.new.world) c.answer_client.result (x ++ y)) c.accept.ensures.hidden
+          (steps_client (g.W.Taped.faults c.args.world.now) c.answer_client.result is c.accept.ensures.alone r.2),
     ))
 
 pub returns-in-Ok-true-clause-accepting : goal.returns-in-Ok-true-clause-accepting

@@ -16,9 +16,9 @@ returns-in-Ok-clause-run g c =
       r.0,
       r.1,
       read_asked x (g.W.Taped.faults c.args.world.now) c.answer.result (later_front _ _ c.read_asking.ensures.alone) asked
-      (subst (λ (h : Hidden). RepliesToAsking c.args.self.now.door (account_by c.args.self.now h) (asking_data c.in-Ok.asking) s r.0
-      (g.W.Taped.faults c.read_asking.new.world) (g.W.Taped.faults c.answer.new.world) (text_sent c.answer.result) y)
-      c.read_asking.ensures.hidden r.2),
+          (subst (λ (h : Hidden). RepliesToAsking c.args.self.now.door (account_by c.args.self.now h) (asking_data c.in-Ok.asking) s r.0
+          (g.W.Taped.faults c.read_asking.new.world) (g.W.Taped.faults c.answer.new.world) (text_sent c.answer.result) y)
+          c.read_asking.ensures.hidden r.2),
     ))
 
 pub returns-in-Err-Memory-clause-run : goal.returns-in-Err-Memory-clause-run
