@@ -2,3 +2,4 @@ mod Stages
 mod Owed
 mod Unequal
 mod Keeping
+pub mod Going

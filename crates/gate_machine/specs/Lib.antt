@@ -1,4 +1,4 @@
--- Each module after those that it uses: Beginning has a request's whole way to the mail, Obeying the octets by which the store obeys it.
+-- Each module after those that it uses: Beginning has a request's whole way to the mail, Obeying the octets by which the store obeys it, Going what becomes of what is known.
 pub mod History
 pub mod Machine
 pub mod Kept
@@ -6,3 +6,4 @@ pub mod Holding
 pub mod Progress
 pub mod Beginning
 pub mod Obeying
+pub mod Going

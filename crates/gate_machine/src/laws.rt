@@ -1,8 +1,9 @@
-// What a request is owed.
+// What a request is owed, and what it leaves of the history.
 ghost use Rattle.std.specs.Prelude.{◌≡◌, ◌⊎◌, ℕ, List};
 ghost use Rattle.gate_world.specs.Causes.{no_faults};
 ghost use Rattle.gate_world.specs.declared.event.Event.{Event};
 ghost use Rattle.gate_machine.specs.Beginning.{PreparesMail};
+ghost use Rattle.gate_machine.specs.Going.{KeepsHistory};
 ghost use Rattle.gate_machine.specs.Machine.{MachineState};
 ghost use Rattle.gate_machine.specs.Obeying.{IsObeyedBeginning, IsServed};
 ghost use Rattle.gate_machine.specs.Progress.{Progress};
@@ -18,3 +19,9 @@ pub fn obeyed_rounds_stand()
 {
     obeyed_plans_end_ok();
 }
+
+/// Where a request draws no epoch, the history that is served goes on.
+pub fn requests_keep_history()
+    ensures { (user password : List ℕ) (before : MachineState) (events : List Event) (after : Progress)
+        → PreparesMail user password before events after → KeepsHistory before events after.machine }
+{}

@@ -6,4 +6,5 @@ mod Gates
 mod Ids
 mod Running
 mod Needs
+mod Going
 pub mod Told
