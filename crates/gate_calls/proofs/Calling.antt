@@ -3,6 +3,7 @@ use Rattle.std.proofs.Common.{◌≡◌, ◌≢◌, ◌||◌, ◌++◌, ◌+◌,
 use Rattle.std.specs.Prelude.{IfOk}
 use Rattle.std.specs.List.{list_any}
 use Rattle.std.specs.declared.alloc.AllocError.{AllocError}
+use Rattle.std.proofs.lemmas.List.{map-append}
 use Rattle.serde_json.specs.declared.value.Value.{Value}
 use Rattle.serde_json.specs.Data.{Data}
 use Rattle.serde_json.specs.View.{view}
@@ -62,11 +63,21 @@ all_respond uses told kept earlier call came (Err e) meets is = tt
 
 -- ---- calls
 
+next_call : (uses : Using) (mail : Mailing) (calls responses : List CallData) (call response : CallData) → AnswersCalls uses mail calls responses
+    → RespondsTo uses mail responses call response → AnswersCalls uses mail (calls ++ call ∷ []) (responses ++ response ∷ [])
+next_call uses mail calls responses call response answered next =
+    subst (λ (r : CallData). AnswersCalls uses mail (calls ++ call ∷ []) (responses ++ r ∷ [])) (sym next.response_is)
+    (MoreCalls (record { call = call; result = next.result; answers = next.answers }) answered)
+
 -- one call more is answered
-pub one_more : (uses : Using) (mail : Mailing) (calls more responses : List CallData) (call response : CallData) → AnswersCalls uses mail calls responses
-    → RespondsTo uses mail responses call response → more ≡ calls ++ call ∷ []
-    → AnswersCalls uses mail more (responses ++ response ∷ [])
-one_more uses mail calls more responses call response answered next is =
-    subst (λ (l : List CallData). AnswersCalls uses mail l (responses ++ response ∷ [])) (sym is)
-    (subst (λ (r : CallData). AnswersCalls uses mail (calls ++ call ∷ []) (responses ++ r ∷ [])) (sym next.response_is)
-    (MoreCalls (record { call = call; result = next.result; answers = next.answers }) answered))
+pub one_more : (uses : Using) (mail : Mailing) (done now shown showing : List Call) (call response : Call) → AnswersCalls uses mail (map call_data done) (map call_data shown)
+    → RespondsTo uses mail (map call_data shown) (call_data call) (call_data response) → now ≡ done ++ call ∷ [] → showing ≡ shown ++ response ∷ []
+    → AnswersCalls uses mail (map call_data now) (map call_data showing)
+one_more uses mail done now shown showing call response answered next now_is showing_is =
+    let calls_are : map call_data done ++ call_data call ∷ [] ≡ map call_data now =
+    sym (map-append call_data done (call ∷ [])) ∙ ap (λ (cs : List Call). map call_data cs) (sym now_is) in
+    let responses_are : map call_data shown ++ call_data response ∷ [] ≡ map call_data showing =
+    sym (map-append call_data shown (response ∷ [])) ∙ ap (λ (cs : List Call). map call_data cs) (sym showing_is) in
+    subst (λ (cs : List CallData). AnswersCalls uses mail cs (map call_data showing)) calls_are
+    (subst (λ (rs : List CallData). AnswersCalls uses mail (map call_data done ++ call_data call ∷ []) rs) responses_are
+    (next_call uses mail (map call_data done) (map call_data shown) (call_data call) (call_data response) answered next))
