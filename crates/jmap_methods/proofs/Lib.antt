@@ -1,4 +1,6 @@
+pub mod GetLemmas
 pub mod HexReading
 pub mod HexText
+pub mod IdLemmas
 pub mod PlainReading
 pub mod StateParts

@@ -1,10 +1,13 @@
 -- The epoch and the place in a state's text.
-use Rattle.std.proofs.Common.{arith, ◌≡◌, ◌≢◌, ◌<◌, ◌≤◌, ◌+◌, ◌-◌, ◌/◌, ◌%◌, ℕ, zero, suc, List, [], ◌∷◌, ◌++◌, Bool, true, false, nat_lt, if◌then◌else◌, length, get_or, decimal}
+use Rattle.std.proofs.Common.{arith, ◌≡◌, ◌≢◌, ◌⊎◌, ◌<◌, ◌≤◌, ◌+◌, ◌-◌, ◌/◌, ◌%◌, ◌^◌, ℕ, zero, suc, List, [], ◌∷◌, ◌++◌, Bool, true, false, nat_lt, if◌then◌else◌, length, get_or, decimal}
 use Rattle.std.proofs.Common.{refl, sym, ap, ◌∙◌}
 use Rattle.std.proofs.Common.{inl, inr}
 use Rattle.std.proofs.Math.ListN.{get_or-append}
 use Rattle.std.proofs.Math.Seq.{get_or-append_seam}
+use Rattle.std.proofs.Math.Nat.{pow-suc}
+use Rattle.std.proofs.lemmas.Bool.{ltb-true, ltb-false}
 use Rattle.std.proofs.lemmas.Bool.Decides.{leb_tells}
+use Rattle.std.proofs.lemmas.Fmt.{decimal_injective}
 use Rattle.std.proofs.lemmas.List.{length-append, get_or-append_right}
 use Rattle.jmap_methods.specs.State.{hex_digit, hex_text, state_text}
 use Rattle.jmap_methods.specs.declared.state.State.{State}
@@ -65,3 +68,46 @@ has_dash text of none is =
 pub parts_of : (text epoch place : List ℕ) (of : State) → text ≡ epoch ++ 45 ∷ place → HasNoDash epoch → text ≡ state_text of
     → (epoch ≡ hex_text 16 of.epoch) × (place ≡ decimal of.place)
 parts_of text epoch place of cut none is = one_cut epoch place (hex_text 16 of.epoch) (decimal of.place) (sym cut ∙ is) none (hex_has_no_dash 16 of.epoch)
+
+-- ---- one state
+
+-- lists with one more element each
+pub one_last : (a b : List ℕ) (x y : ℕ) → a ++ x ∷ [] ≡ b ++ y ∷ [] → (a ≡ b) × (x ≡ y)
+one_last [] [] x y is = (refl, ap head_of is)
+one_last [] (d ∷ b) x y is = absurd (omega (arith, ap (λ (l : List ℕ). length l) is, length-append b (y ∷ [])))
+one_last (c ∷ a) [] x y is = absurd (omega (arith, ap (λ (l : List ℕ). length l) is, length-append a (x ∷ [])))
+one_last (c ∷ a) (d ∷ b) x y is =
+    let rest = one_last a b x y (ap tail_of is) in
+    (ap (λ (o : ℕ). o ∷ a) (ap head_of is) ∙ ap (λ (l : List ℕ). d ∷ l) rest.0, rest.1)
+
+abbrev IsDigitOf : ℕ → ℕ → Type 0
+IsDigitOf digit n = ((n < 10) × (digit ≡ 48 + n)) ⊎ ((10 ≤ n) × (digit ≡ 87 + n))
+
+digit_is : (n : ℕ) → IsDigitOf (hex_digit n) n
+digit_is n = elim (nat_lt n 10) as (λ b. nat_lt n 10 ≡ b → IsDigitOf (if b then 48 + n else 87 + n) n) [
+  | true ↦ λ is. inl (ltb-true n 10 is, refl)
+  | false ↦ λ is. inr (ltb-false n 10 is, refl)
+] refl
+
+digits_same : (x y n m : ℕ) → x ≡ y → IsDigitOf x n → IsDigitOf y m → n ≡ m
+digits_same x y n m is (inl a) (inl b) = omega (arith, is, a.1, b.1)
+digits_same x y n m is (inl a) (inr b) = absurd (omega (arith, is, a.0, a.1, b.0, b.1))
+digits_same x y n m is (inr a) (inl b) = absurd (omega (arith, is, a.0, a.1, b.0, b.1))
+digits_same x y n m is (inr a) (inr b) = omega (arith, is, a.1, b.1)
+
+-- hexadecimal digits are those of one number
+one_hex : (width n m : ℕ) → n < 16 ^ width → m < 16 ^ width → hex_text width n ≡ hex_text width m → n ≡ m
+unfolding hex_text
+one_hex zero n m small fits is = omega (arith, small, fits)
+one_hex (suc width) n m small fits is =
+    let ends = one_last (hex_text width (n / 16)) (hex_text width (m / 16)) (hex_digit (n % 16)) (hex_digit (m % 16)) is in
+    let high = one_hex width (n / 16) (m / 16) (omega (arith, small, pow-suc 16 width)) (omega (arith, fits, pow-suc 16 width)) ends.0 in
+    let low = digits_same (hex_digit (n % 16)) (hex_digit (m % 16)) (n % 16) (m % 16) ends.1 (digit_is (n % 16)) (digit_is (m % 16)) in
+    omega (arith, high, low)
+
+-- a text is that of one state
+pub one_state : (a b : State) → a.epoch < 2 ^ 64 → b.epoch < 2 ^ 64 → a.place < 2 ^ 64 → b.place < 2 ^ 64 → state_text a ≡ state_text b
+    → (a.epoch ≡ b.epoch) × (a.place ≡ b.place)
+one_state a b ea eb pa pb is =
+    let cut = one_cut (hex_text 16 a.epoch) (decimal a.place) (hex_text 16 b.epoch) (decimal b.place) is (hex_has_no_dash 16 a.epoch) (hex_has_no_dash 16 b.epoch) in
+    (one_hex 16 a.epoch b.epoch ea eb cut.0, decimal_injective a.place b.place pa pb cut.1)

@@ -1,6 +1,6 @@
--- The arguments that methods share, each with the refusal of a wrong one (RFC 8620 sections 3.6.2 and 5.1).
-use Rattle.std.specs.Prelude.{ℕ, Bool, ◌&&◌, List, [], ◌∷◌, ℤ, pos, neg_ℤ, int_le, nat_lt, if◌then◌else◌, bytes_eq, codes, Option, Some, None, option_map}
-use Rattle.std.specs.Prelude.{option_and_then, Result, Ok, Err, ok_or}
+-- The arguments that methods share, each with the refusal of a wrong one (RFC 8620 sections 1.2, 3.6.2, 5.1 and 5.2).
+use Rattle.std.specs.Prelude.{ℕ, zero, suc, Bool, ◌&&◌, List, [], ◌∷◌, ℤ, pos, negsuc, neg_ℤ, int_le, nat_lt, if◌then◌else◌, bytes_eq, codes}
+use Rattle.std.specs.Prelude.{Option, Some, None, option_map, option_and_then, Result, Ok, Err, ok_or}
 use Rattle.std.specs.List.{list_any}
 use Rattle.serde_json.specs.Data.{Num, unsigned, negative, float, Data, null, boolean, number, string, array, object, Items, no_items, item}
 use Rattle.serde_json.specs.Find.{get, as_str}
@@ -8,11 +8,14 @@ use Rattle.jmap_methods.specs.declared.arguments.TheConstants.{MAX_OBJECTS_IN_GE
 use Rattle.jmap_methods.specs.declared.method_error.MethodError.{MethodError}
 use Rattle.jmap_methods.specs.declared.method_error.MethodError.TheVariants.{InvalidArguments, AccountNotFound, RequestTooLarge}
 
+-- ---- texts
+
 -- the texts that a list has, if it has no other item
 abbrev pub texts_in : Items → Option (List (List ℕ))
 texts_in no_items = Some []
 texts_in (item d ds) = option_and_then (λ text. option_map (λ texts. text ∷ texts) (texts_in ds)) (as_str d)
 
+-- whether one of the texts is this one
 abbrev pub is_among : List ℕ → List (List ℕ) → Bool
 is_among name names = list_any (λ n. bytes_eq n name) names
 
@@ -32,14 +35,13 @@ count_check count = if nat_lt MAX_OBJECTS_IN_GET count then Err RequestTooLarge 
 abbrev pub texts_of : Option Data → Result (Option (List (List ℕ))) MethodError
 texts_of None = Ok None
 texts_of (Some null) = Ok None
-texts_of (Some (boolean b)) = Err InvalidArguments
-texts_of (Some (number n)) = Err InvalidArguments
-texts_of (Some (string s)) = Err InvalidArguments
 texts_of (Some (array ds)) = ok_or (option_map Some (texts_in ds)) InvalidArguments
-texts_of (Some (object ms)) = Err InvalidArguments
+texts_of (Some d) = Err InvalidArguments
 
 abbrev pub texts_at : List ℕ → Data → Result (Option (List (List ℕ))) MethodError
 texts_at key d = texts_of (get key d)
+
+-- ---- numbers
 
 -- no further from 0 than `MAX_WHOLE_NUMBER`
 abbrev pub is_within : ℤ → Bool
@@ -55,11 +57,19 @@ whole_in (float x) = None
 abbrev pub whole_of : Option Data → Result (Option ℤ) MethodError
 whole_of None = Ok None
 whole_of (Some null) = Ok None
-whole_of (Some (boolean b)) = Err InvalidArguments
 whole_of (Some (number n)) = ok_or (option_map Some (whole_in n)) InvalidArguments
-whole_of (Some (string s)) = Err InvalidArguments
-whole_of (Some (array ds)) = Err InvalidArguments
-whole_of (Some (object ms)) = Err InvalidArguments
+whole_of (Some d) = Err InvalidArguments
 
 abbrev pub whole_at : List ℕ → Data → Result (Option ℤ) MethodError
 whole_at key d = whole_of (get key d)
+
+-- the most that may be listed: at least 1 where it is given
+abbrev pub most_from : Result (Option ℤ) MethodError → Result (Option ℕ) MethodError
+most_from (Ok None) = Ok None
+most_from (Ok (Some (pos zero))) = Err InvalidArguments
+most_from (Ok (Some (pos (suc n)))) = Ok (Some (suc n))
+most_from (Ok (Some (negsuc n))) = Err InvalidArguments
+most_from (Err e) = Err e
+
+abbrev pub most_at : List ℕ → Data → Result (Option ℕ) MethodError
+most_at key d = most_from (whole_at key d)

@@ -1,7 +1,9 @@
--- By name. Method says what calls are, Arguments what they share, Outcome when a result is what was meant.
-pub mod Arguments
-pub mod Echo
-pub mod Method
+-- What methods share: errors, arguments, ids, states, and the frame of a /get. Method says which there are.
 pub mod Outcome
+pub mod Method
 pub mod State
+pub mod Ids
+pub mod Arguments
+pub mod Gets
+pub mod Echo
 pub mod reading

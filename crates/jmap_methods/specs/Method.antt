@@ -1,24 +1,31 @@
--- The methods by their names, and what a call by a name needs (RFC 8620 sections 3.3, 3.6.2 and 4, RFC 8621 section 2).
-use Rattle.std.specs.Prelude.{ℕ, List, Bool, not, if◌then◌else◌, bytes_eq, codes, Option, Some, None, Result, Ok, Err}
+-- The methods by their names, and what a call by a name needs (RFC 8620 sections 3.3, 3.6.2 and 4, RFC 8621 sections 2 to 4).
+use Rattle.std.specs.Prelude.{ℕ, List, [], ◌∷◌, Bool, not, if◌then◌else◌, bytes_eq, codes, Option, Some, None, Result, Ok, Err}
+use Rattle.std.specs.List.{find}
 use Rattle.serde_json.specs.Data.{Data, string, object, no_members, member}
 use Rattle.jmap_methods.specs.declared.method.Method.{Method}
-use Rattle.jmap_methods.specs.declared.method.Method.TheVariants.{CoreEcho, MailboxGet}
+use Rattle.jmap_methods.specs.declared.method.Method.TheVariants.{CoreEcho, MailboxGet, MailboxChanges, ThreadGet, ThreadChanges, EmailChanges}
+use Rattle.jmap_methods.specs.declared.method.Using.{Using}
 use Rattle.jmap_methods.specs.declared.method_error.MethodError.{MethodError}
 use Rattle.jmap_methods.specs.declared.method_error.MethodError.TheVariants as error
-use Rattle.jmap_methods.specs.declared.method.Using.{Using}
+
+abbrev pub methods : List Method
+methods = CoreEcho ∷ MailboxGet ∷ MailboxChanges ∷ ThreadGet ∷ ThreadChanges ∷ EmailChanges ∷ []
 
 abbrev pub name_of : Method → List ℕ
 name_of CoreEcho = codes "Core/echo"
 name_of MailboxGet = codes "Mailbox/get"
+name_of MailboxChanges = codes "Mailbox/changes"
+name_of ThreadGet = codes "Thread/get"
+name_of ThreadChanges = codes "Thread/changes"
+name_of EmailChanges = codes "Email/changes"
 
 -- whether its capability is used
 abbrev pub is_used : Using → Method → Bool
 is_used uses CoreEcho = uses.core
-is_used uses MailboxGet = uses.mail
+is_used uses m = uses.mail
 
 abbrev pub method_of : List ℕ → Option Method
-method_of name = if bytes_eq name (name_of CoreEcho) then Some CoreEcho else
-    (if bytes_eq name (name_of MailboxGet) then Some MailboxGet else None)
+method_of name = find (λ m. bytes_eq name (name_of m)) methods
 
 abbrev pub where_used : Using → Option Method → Result Method MethodError
 where_used uses None = Err error.UnknownMethod

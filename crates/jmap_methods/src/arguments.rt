@@ -1,8 +1,8 @@
 // The arguments that methods share, and the refusals of wrong ones.
-ghost use Rattle.std.specs.Prelude.{◌≡◌, map, option_map, option_and_then, IfOk};
+ghost use Rattle.std.specs.Prelude.{◌≡◌, map, option_map, option_and_then, IfOk, Ok};
 ghost use Rattle.serde_json.specs.Find.{as_number};
 ghost use Rattle.serde_json.specs.View.{view, items_view};
-ghost use Rattle.jmap_methods.specs.Arguments.{text_at, account_check, count_check, texts_at, texts_in, whole_at, whole_in};
+ghost use Rattle.jmap_methods.specs.Arguments.{text_at, account_check, count_check, is_among, texts_at, texts_in, whole_at, whole_in, most_from, most_at};
 ghost use Rattle.jmap_methods.specs.Outcome.{Agrees};
 ghost use Rattle.jmap_methods.specs.declared.method_error.MethodError.TheVariants.{Memory};
 
@@ -66,6 +66,18 @@ pub fn texts_in<'a>(
     Ok(Some(texts))
 }
 
+/// Whether one of the texts is this one.
+pub fn is_among(name: &str, names: &Vec<&str>) -> bool
+    ensures { result ≡ is_among name.now (map (λ t. t.now) names.now.items) }
+{
+    for other in names {
+        if *other == name {
+            return true;
+        }
+    }
+    false
+}
+
 /// The list of texts at the key, `None` where it is null or isn't there, or `InvalidArguments` where something else is.
 pub fn texts_or_null<'a>(
     alloc: Global,
@@ -108,4 +120,22 @@ pub fn whole_or_null(arguments: &Value, key: &str) -> Result<Option<i64>, Method
             Some(number) => Ok(Some(number)),
         },
     }
+}
+
+fn at_least_one(number: Option<i64>) -> Result<Option<u64>, MethodError>
+    ensures { result ≡ most_from (Ok number) }
+{
+    match number {
+        None => Ok(None),
+        Some(number) if number >= 1 => Ok(Some(number as u64)),
+        Some(_) => Err(MethodError::InvalidArguments),
+    }
+}
+
+/// The integer at the key, from 1 up, `None` where it is null or isn't there, or `InvalidArguments` where something else is.
+pub fn most_or_null(arguments: &Value, key: &str) -> Result<Option<u64>, MethodError>
+    ensures { result ≡ most_at key.now (view arguments.now) }
+{
+    let number = whole_or_null(arguments, key)?;
+    at_least_one(number)
 }

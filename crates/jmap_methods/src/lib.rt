@@ -1,17 +1,27 @@
-//! What methods of JMAP share (RFC 8620): their names, errors and arguments, the states of types, and Core/echo.
+//! What methods of JMAP share (RFC 8620): their names, errors and arguments, ids, the states of types, what a /get answers, and
+//! Core/echo.
 #![tactic(auto)]
 
-mod arguments;
-mod core_echo;
+// Calls.
 mod method;
 mod method_error;
+
+// Arguments and answers.
+mod arguments;
+mod core_echo;
+mod gets;
+mod ids;
+mod objects;
 mod state;
 
 pub use arguments::{
-    MAX_OBJECTS_IN_GET, MAX_WHOLE_NUMBER, check_account, check_count, text_at, texts_in,
-    texts_or_null, whole_or_null,
+    MAX_OBJECTS_IN_GET, MAX_WHOLE_NUMBER, check_account, check_count, is_among, most_or_null,
+    text_at, texts_in, texts_or_null, whole_or_null,
 };
 pub use core_echo::echo;
+pub use gets::{count_of_ids, get_objects};
+pub use ids::{EMAIL_LETTER, MAILBOX_LETTER, THREAD_LETTER, id_list, id_text, id_value, read_id};
 pub use method::{Method, Using, method_named, needs_mail};
 pub use method_error::{MethodError, error_arguments};
+pub use objects::Objects;
 pub use state::{State, read_state, state_text};

@@ -20,6 +20,14 @@ pub enum Method {
     CoreEcho,
     /// RFC 8621 section 2.1
     MailboxGet,
+    /// RFC 8621 section 2.2
+    MailboxChanges,
+    /// RFC 8621 section 3.1
+    ThreadGet,
+    /// RFC 8621 section 3.2
+    ThreadChanges,
+    /// RFC 8621 section 4.3
+    EmailChanges,
 }
 
 fn method_of(name: &str) -> Option<Method>
@@ -28,6 +36,10 @@ fn method_of(name: &str) -> Option<Method>
     match name {
         "Core/echo" => Some(Method::CoreEcho),
         "Mailbox/get" => Some(Method::MailboxGet),
+        "Mailbox/changes" => Some(Method::MailboxChanges),
+        "Thread/get" => Some(Method::ThreadGet),
+        "Thread/changes" => Some(Method::ThreadChanges),
+        "Email/changes" => Some(Method::EmailChanges),
         _ => None,
     }
 }
@@ -37,7 +49,7 @@ fn is_used(uses: Using, method: Method) -> bool
 {
     match method {
         Method::CoreEcho => uses.core,
-        Method::MailboxGet => uses.mail,
+        _ => uses.mail,
     }
 }
 

@@ -98,7 +98,7 @@ fn is_plain(octets: &[u8]) -> bool
 }
 
 /// The number that a text is in decimal, without a sign and without zeros at its front.
-fn decimal_number(text: &str) -> Option<u64>
+pub(crate) fn decimal_number(text: &str) -> Option<u64>
     ensures some { IfSome result (λ n. text.now ≡ decimal n) }
     ensures none { result ≡ None → (n : ℕ) → n < 2 ^ 64 → text.now ≢ decimal n }
 {
@@ -111,9 +111,10 @@ fn decimal_number(text: &str) -> Option<u64>
     }
 }
 
-/// The state that has the text, where one has. Takes no memory.
+/// The one state that has the text, where one has. Takes no memory.
 pub fn read_state(text: &str) -> Option<State>
     ensures some { IfSome result (λ read. text.now ≡ spec.state_text read) }
+    ensures one { IfSome result (λ read. (of : state) → of.epoch < 2 ^ 64 → of.place < 2 ^ 64 → text.now ≡ spec.state_text of → of ≡ read) }
     ensures none { result ≡ None → (of : state) → of.place < 2 ^ 64 → text.now ≢ spec.state_text of }
 {
     let (epoch, place) = text.split_once('-')?;

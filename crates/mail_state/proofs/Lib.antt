@@ -6,3 +6,4 @@ mod NumberLemmas
 mod KeptThreads
 mod SoundLemmas
 mod FollowLemmas
+mod LastLemmas

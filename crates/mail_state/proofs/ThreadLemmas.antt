@@ -43,6 +43,7 @@ use Rattle.told_folder.specs.declared.message.Held.{Held}
 use Rattle.mail_maps.specs.declared.row.EmailRow.{EmailRow}
 use Rattle.mail_maps.specs.declared.envelope.Envelope.{Envelope}
 use Rattle.mail_maps.specs.Rows.{Rows}
+use Rattle.mail_maps.specs.Keywords.{sorted_into}
 use Rattle.mail_maps.specs.Threads.{thread_numbers, threads_of, emails_in}
 use Rattle.mail_maps.specs.Serve.{thread_of}
 use Rattle.mail_maps.specs.Visible.{Placed, shown}

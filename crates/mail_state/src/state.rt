@@ -1,6 +1,7 @@
 // The state: the rows that are served, and the last touches of each type.
-ghost use Rattle.std.specs.Prelude.{◌≡◌, ◌≢◌, ℕ, IfOk, MatchOption, Some};
+ghost use Rattle.std.specs.Prelude.{◌≡◌, ◌≢◌, ◌<◌, ◌^◌, ℕ, All, IfOk, MatchOption, Some};
 ghost use Rattle.std.specs.List.Sorted.{IsStrictlySortedBy};
+ghost use Rattle.std.specs.Map.{keys_of};
 ghost use Rattle.std.specs.Option.{option_copied};
 ghost use Rattle.std.specs.Ordering.{nat_cmp};
 ghost use Rattle.change_list.specs.Advance.{row_at};
@@ -9,7 +10,7 @@ ghost use Rattle.told_mail.specs.Mail.{IsNextMail};
 ghost use Rattle.mail_state.specs.History.{MailHistory};
 ghost use Rattle.mail_state.specs.State.{IsStateOf, first_state};
 ghost use Rattle.mail_state.specs.Following.{FollowsMail, RefusesSpent, StepsTo};
-ghost use Rattle.mail_state.specs.LookUps.{numbers_in, touches_kept};
+ghost use Rattle.mail_state.specs.LookUps.{IsLast, numbers_in, touches_kept};
 
 use crate::lists::TypeLists;
 use crate::rows::TypeRows;
@@ -17,6 +18,7 @@ use crate::{Advance, StateError};
 use change_list::ChangeList;
 use mail_maps::{EmailRow, MailboxRow};
 use std::alloc::{AllocError, Global};
+use std::collections::BTreeMap;
 use std::marker::Model;
 use told_mail::Mirror;
 
@@ -29,6 +31,17 @@ pub enum MailType {
     Email,
     /// Threads, which are conversations of Emails.
     Thread,
+}
+
+/// The greatest key, which is the last one.
+fn last_key<R>(rows: &BTreeMap<u64, R>) -> Option<u64>
+    ensures last { IsLast (keys_of rows.now.entries) result }
+    ensures small { All (λ n. n < 2 ^ 64) (keys_of rows.now.entries) }
+{
+    match rows.last_key_value() {
+        Some((number, _)) => Some(*number),
+        None => None,
+    }
 }
 
 /// The rows that are served, and what changed in them.
@@ -141,6 +154,18 @@ impl MailState {
             MailType::Mailbox => self.rows.mailboxes.keys().copied().collect(self.alloc),
             MailType::Email => self.rows.emails.rows().keys().copied().collect(self.alloc),
             MailType::Thread => self.rows.threads.keys().copied().collect(self.alloc),
+        }
+    }
+
+    /// The greatest number of a type. No number has more than 64 bits.
+    pub fn last_number(&self, kind: MailType) -> Option<u64>
+        ensures last { IsLast (numbers_in self.now kind) result }
+        ensures small { All (λ n. n < 2 ^ 64) (numbers_in self.now kind) }
+    {
+        match kind {
+            MailType::Mailbox => last_key(&self.rows.mailboxes),
+            MailType::Email => last_key(self.rows.emails.rows()),
+            MailType::Thread => last_key(&self.rows.threads),
         }
     }
 

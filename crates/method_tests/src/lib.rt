@@ -11,6 +11,16 @@ mod requests;
 #[cfg(test)]
 mod methods;
 #[cfg(test)]
+mod refusals;
+#[cfg(test)]
 mod states;
 #[cfg(test)]
 mod texts;
+
+// Methods over mail that is told.
+#[cfg(test)]
+mod dialogues;
+#[cfg(test)]
+mod kept_mail;
+#[cfg(test)]
+mod limits;

@@ -1,2 +1,4 @@
-pub mod Names
-pub mod Whole
+mod ChangeLemmas
+mod OverHistory
+mod ObjectLemmas
+mod WholeLemmas

@@ -1,111 +1,126 @@
--- Mailbox/get (RFC 8620 section 5.1, RFC 8621 section 2.1).
-use Rattle.std.specs.Prelude.{ℕ, List, [], ◌∷◌, ◌++◌, Bool, true, ◌||◌, nat_lt, if◌then◌else◌, bytes_eq, codes, decimal, length, map, is_none, Option, Some}
-use Rattle.std.specs.Prelude.{None, option_map, Result, Ok, Err}
-use Rattle.std.specs.List.{list_all, find, filter, filter_map}
-use Rattle.serde_json.specs.Data.{unsigned, Data, number, string, array, object, Members, no_members, member, put}
-use Rattle.serde_json.specs.View.{items_of}
-use Rattle.jmap_methods.specs.Arguments.{account_check, count_check, is_among, text_at, texts_at}
-use Rattle.jmap_methods.specs.declared.arguments.TheConstants.{MAX_OBJECTS_IN_GET}
+-- Mailbox/get (RFC 8621 section 2.1): Mailboxes as objects, with the properties of section 2.
+use Rattle.std.specs.Prelude.{ℕ, List, [], ◌∷◌, Bool, if◌then◌else◌, bytes_eq, codes, Option, Some, None, Result, Ok, Err}
+use Rattle.std.specs.List.{filter, list_all, list_any}
+use Rattle.serde_json.specs.Data.{unsigned, Data, null, boolean, number, string, object, Members, no_members, member, put}
+use Rattle.jmap_methods.specs.Arguments.{texts_at, is_among}
+use Rattle.jmap_methods.specs.Gets.{GetAsked, get_asked, shown_as, get_answered}
+use Rattle.jmap_methods.specs.Ids.{mailbox_letter, id_data}
+use Rattle.jmap_methods.specs.Outcome.{refusal_of}
 use Rattle.jmap_methods.specs.declared.method_error.MethodError.{MethodError}
-use Rattle.jmap_methods.specs.declared.method_error.MethodError.TheVariants.{InvalidArguments, RequestTooLarge}
-use Rattle.read_methods.specs.declared.mailbox_counts.MailboxCounts.{MailboxCounts}
-use Rattle.read_methods.specs.declared.mailboxes.Properties.{Properties}
+use Rattle.jmap_methods.specs.declared.method_error.MethodError.TheVariants.{InvalidArguments}
+use Rattle.mail_maps.specs.Serve.{ServedMailbox}
+use Rattle.mail_maps.specs.declared.row.Role.{Role}
+use Rattle.mail_maps.specs.declared.row.Role.TheVariants as role
+use Rattle.mail_maps.specs.declared.row.Rights.{Rights}
+use Rattle.read_methods.specs.declared.mailbox_property.MailboxProperty.{MailboxProperty}
+use Rattle.read_methods.specs.declared.mailbox_property.MailboxProperty.TheVariants.{Id, Name, ParentId, SortOrder, TotalEmails, UnreadEmails, TotalThreads, UnreadThreads, MyRights, IsSubscribed}
+use Rattle.read_methods.specs.declared.mailbox_property.MailboxProperty.TheVariants as property
 
--- ---- a Mailbox, as an object with the properties that are wanted; its id always is
+-- ---- properties
 
--- `m` and the number
-abbrev pub id_text : ℕ → List ℕ
-id_text n = 109 ∷ decimal n
+abbrev pub mailbox_properties : List MailboxProperty
+mailbox_properties = Id ∷ Name ∷ ParentId ∷ property.Role ∷ SortOrder ∷ TotalEmails ∷ UnreadEmails ∷ TotalThreads ∷ UnreadThreads ∷ MyRights ∷ IsSubscribed ∷ []
 
-abbrev pub put_if : Bool → List ℕ → Data → Members → Members
-put_if wanted key d members = if wanted then put key d members else members
+abbrev pub property_name : MailboxProperty → List ℕ
+property_name Id = codes "id"
+property_name Name = codes "name"
+property_name ParentId = codes "parentId"
+property_name property.Role = codes "role"
+property_name SortOrder = codes "sortOrder"
+property_name TotalEmails = codes "totalEmails"
+property_name UnreadEmails = codes "unreadEmails"
+property_name TotalThreads = codes "totalThreads"
+property_name UnreadThreads = codes "unreadThreads"
+property_name MyRights = codes "myRights"
+property_name IsSubscribed = codes "isSubscribed"
 
-abbrev pub mailbox_members : Properties → MailboxCounts → Members
-mailbox_members wanted mailbox =
-    put_if wanted.unread_emails (codes "unreadEmails") (number (unsigned mailbox.unread_emails))
-    (put_if wanted.total_emails (codes "totalEmails") (number (unsigned mailbox.total_emails))
-    (put (codes "id") (string (id_text mailbox.number)) no_members))
+-- whether the name is that of one of these
+abbrev pub is_name_in : List MailboxProperty → List ℕ → Bool
+is_name_in properties name = list_any (λ p. bytes_eq (property_name p) name) properties
 
-abbrev pub mailbox_data : Properties → MailboxCounts → Data
-mailbox_data wanted mailbox = object (mailbox_members wanted mailbox)
+-- those of these that are named
+abbrev pub those_named : List MailboxProperty → List (List ℕ) → List MailboxProperty
+those_named properties names = filter (λ p. is_among (property_name p) names) properties
 
--- ---- what is asked, or the first refusal: the arguments' kinds, the account, the count of ids
+-- ---- values
 
-pub record Asked : Type 0 where
-  pub ids : Option (List (List ℕ))
-  pub properties : Properties
+abbrev pub parent_data : Option ℕ → Data
+parent_data None = null
+parent_data (Some parent) = id_data mailbox_letter parent
 
-abbrev pub is_property : List ℕ → Bool
-is_property name = bytes_eq name (codes "id") || bytes_eq name (codes "totalEmails") || bytes_eq name (codes "unreadEmails")
+abbrev pub role_name : Role → List ℕ
+role_name role.Inbox = codes "inbox"
+role_name role.All = codes "all"
+role_name role.Archive = codes "archive"
+role_name role.Drafts = codes "drafts"
+role_name role.Flagged = codes "flagged"
+role_name role.Junk = codes "junk"
+role_name role.Sent = codes "sent"
+role_name role.Trash = codes "trash"
 
--- all properties where none are named
-abbrev pub properties_of : Option (List (List ℕ)) → Result Properties MethodError
-properties_of None = Ok (record { total_emails = true; unread_emails = true })
-properties_of (Some names) = if list_all is_property names
-    then Ok (record { total_emails = is_among (codes "totalEmails") names; unread_emails = is_among (codes "unreadEmails") names })
-    else Err InvalidArguments
+abbrev pub role_data : Option Role → Data
+role_data None = null
+role_data (Some r) = string (role_name r)
 
-abbrev pub properties_from : Result (Option (List (List ℕ))) MethodError → Result Properties MethodError
-properties_from (Ok names) = properties_of names
-properties_from (Err e) = Err e
+abbrev pub rights_data : Rights → Data
+rights_data r = object
+    (member (codes "mayAddItems") (boolean r.may_add_items)
+    (member (codes "mayCreateChild") (boolean r.may_create_child)
+    (member (codes "mayDelete") (boolean r.may_delete)
+    (member (codes "mayReadItems") (boolean r.may_read_items)
+    (member (codes "mayRemoveItems") (boolean r.may_remove_items)
+    (member (codes "mayRename") (boolean r.may_rename)
+    (member (codes "maySetKeywords") (boolean r.may_set_keywords)
+    (member (codes "maySetSeen") (boolean r.may_set_seen)
+    (member (codes "maySubmit") (boolean r.may_submit)
+    no_members)))))))))
 
-abbrev pub count_of_ids : Option (List (List ℕ)) → ℕ
-count_of_ids None = 0
-count_of_ids (Some ids) = length ids
+abbrev pub count_data : ℕ → Data
+count_data n = number (unsigned n)
 
-abbrev pub checked : Result (Unit {0}) MethodError → Result (Unit {0}) MethodError → Asked → Result Asked MethodError
-checked (Ok account) (Ok count) asked = Ok asked
-checked (Ok account) (Err e) asked = Err e
-checked (Err e) count asked = Err e
+abbrev pub property_data : ℕ × ServedMailbox → MailboxProperty → Data
+property_data e Id = id_data mailbox_letter e.0
+property_data e Name = string e.1.name
+property_data e ParentId = parent_data e.1.parent
+property_data e property.Role = role_data e.1.role
+property_data e SortOrder = count_data 0
+property_data e TotalEmails = count_data e.1.counts.total_emails
+property_data e UnreadEmails = count_data e.1.counts.unread_emails
+property_data e TotalThreads = count_data e.1.counts.total_threads
+property_data e UnreadThreads = count_data e.1.counts.unread_threads
+property_data e MyRights = rights_data e.1.rights
+property_data e IsSubscribed = boolean e.1.subscribed
 
-abbrev pub asked_from : Result (List ℕ) MethodError → Result (Option (List (List ℕ))) MethodError → Result Properties MethodError → Result Asked MethodError
-asked_from (Ok account) (Ok ids) (Ok properties) = checked (account_check account) (count_check (count_of_ids ids))
-    (record { ids = ids; properties = properties })
-asked_from (Ok account) (Ok ids) (Err e) = Err e
-asked_from (Ok account) (Err e) properties = Err e
-asked_from (Err e) ids properties = Err e
+-- ---- the object: each property at its name; the id always is among them
 
-abbrev pub asked_of : Data → Result Asked MethodError
-asked_of d = asked_from (text_at (codes "accountId") d) (texts_at (codes "ids") d) (properties_from (texts_at (codes "properties") d))
+abbrev pub with_properties : ℕ × ServedMailbox → List MailboxProperty → Members → Members
+with_properties e [] members = members
+with_properties e (p ∷ ps) members = with_properties e ps (put (property_name p) (property_data e p) members)
+
+abbrev pub mailbox_data : List MailboxProperty → ℕ × ServedMailbox → Data
+mailbox_data wanted e = object (with_properties e (Id ∷ wanted) no_members)
 
 -- ---- the answer
 
--- the ids without those that stand earlier, here or among those before
-abbrev pub once_after : List (List ℕ) → List (List ℕ) → List (List ℕ)
-once_after before [] = []
-once_after before (id ∷ ids) = if is_among id before then once_after before ids else id ∷ once_after (before ++ id ∷ []) ids
+-- all properties where none are named; no name but theirs may stand there
+abbrev pub wanted_of : Option (List (List ℕ)) → Result (List MailboxProperty) MethodError
+wanted_of None = Ok mailbox_properties
+wanted_of (Some names) = if list_all (is_name_in mailbox_properties) names then Ok (those_named mailbox_properties names) else Err InvalidArguments
 
--- each id once, where it stands first
-abbrev pub distinct : List (List ℕ) → List (List ℕ)
-distinct ids = once_after [] ids
+abbrev pub wanted_from : Result (Option (List (List ℕ))) MethodError → Result (List MailboxProperty) MethodError
+wanted_from (Ok names) = wanted_of names
+wanted_from (Err e) = Err e
 
-abbrev pub mailbox_with : List MailboxCounts → List ℕ → Option MailboxCounts
-mailbox_with mailboxes id = find (λ mailbox. bytes_eq (id_text mailbox.number) id) mailboxes
+abbrev pub mailboxes_asked : Data → Result (GetAsked (List MailboxProperty)) MethodError
+mailboxes_asked d = get_asked (wanted_from (texts_at (codes "properties") d)) d
 
-abbrev pub shown : Properties → List MailboxCounts → List ℕ → Option Data
-shown wanted mailboxes id = option_map (mailbox_data wanted) (mailbox_with mailboxes id)
+-- the refusal by the arguments alone
+abbrev pub mailboxes_refused : Data → Result (Unit {0}) MethodError
+mailboxes_refused d = refusal_of (mailboxes_asked d)
 
-abbrev pub is_missing : List MailboxCounts → List ℕ → Bool
-is_missing mailboxes id = is_none (mailbox_with mailboxes id)
+abbrev pub mailbox_objects : List (ℕ × ServedMailbox) → List MailboxProperty → List (ℕ × Data)
+mailbox_objects mailboxes wanted = shown_as (mailbox_data wanted) mailboxes
 
-abbrev pub get_data : List ℕ → List Data → List Data → Data
-get_data state list missing = object
-    (member (codes "accountId") (string (codes "a1"))
-    (member (codes "list") (array (items_of list))
-    (member (codes "notFound") (array (items_of missing))
-    (member (codes "state") (string state)
-    no_members))))
-
--- Asked by ids, those that are there, in the order asked; asked by null, all, where they are no more than `MAX_OBJECTS_IN_GET`.
-abbrev pub answer_to : List ℕ → List MailboxCounts → Properties → Option (List (List ℕ)) → Result Data MethodError
-answer_to state mailboxes wanted (Some ids) = Ok (get_data state (filter_map (shown wanted mailboxes) (distinct ids))
-    (map string (filter (is_missing mailboxes) (distinct ids))))
-answer_to state mailboxes wanted None = if nat_lt MAX_OBJECTS_IN_GET (length mailboxes) then Err RequestTooLarge
-    else Ok (get_data state (map (mailbox_data wanted) mailboxes) [])
-
-abbrev pub answered : List ℕ → List MailboxCounts → Result Asked MethodError → Result Data MethodError
-answered state mailboxes (Ok asked) = answer_to state mailboxes asked.properties asked.ids
-answered state mailboxes (Err e) = Err e
-
-abbrev pub mailboxes_answer : List ℕ → List MailboxCounts → Data → Result Data MethodError
-mailboxes_answer state mailboxes d = answered state mailboxes (asked_of d)
+-- of these Mailboxes, in this state
+abbrev pub mailboxes_answer : List ℕ → List (ℕ × ServedMailbox) → Data → Result Data MethodError
+mailboxes_answer state mailboxes d = get_answered mailbox_letter state (mailbox_objects mailboxes) (mailboxes_asked d)

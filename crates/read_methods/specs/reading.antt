@@ -1,2 +1,2 @@
--- Names noted in turn: private clauses and proofs alone speak of it.
-pub mod Noted
+-- How what changed is found in what is kept: private clauses and proofs alone speak of it.
+pub mod Found

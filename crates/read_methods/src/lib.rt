@@ -1,8 +1,17 @@
-//! Methods that read: what they answer over served mail (RFC 8621).
+//! Methods that read what is served of the mail without asking for bodies: /get and /changes of Mailboxes and Threads, and the
+//! /changes of Emails (RFC 8621).
 #![tactic(auto)]
 
-mod mailbox_counts;
-mod mailboxes;
+// Objects.
+mod mailbox_property;
+mod mailbox_values;
 
-pub use mailbox_counts::MailboxCounts;
-pub use mailboxes::mailbox_get;
+// Methods.
+mod changes;
+mod mailboxes;
+mod threads;
+
+pub use changes::{check_changes, email_changes, mailbox_changes, thread_changes};
+pub use mailbox_property::MailboxProperty;
+pub use mailboxes::{check_mailbox_get, mailbox_get};
+pub use threads::{check_thread_get, thread_get};

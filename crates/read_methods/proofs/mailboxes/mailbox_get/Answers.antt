@@ -1,21 +1,22 @@
-use Rattle.std.proofs.Common.{◌≡◌, false, Result, Ok, Err, subst}
-use Rattle.std.specs.Result.{IfOk}
-use Rattle.serde_json.specs.Data.{Data}
 use Rattle.serde_json.specs.View.{view}
-use Rattle.serde_json.specs.Written.{has_float}
-use Rattle.serde_json.specs.declared.value.Value.{Value}
-use Rattle.jmap_methods.specs.Outcome.{Agrees}
-use Rattle.jmap_methods.specs.declared.method_error.MethodError.{MethodError}
-use Rattle.jmap_methods.specs.declared.method_error.MethodError.TheVariants.{Memory}
-use Rattle.read_methods.specs.Mailboxes.{asked_of}
-use Rattle.read_methods.proofs.Whole.{whole-answer}
+use Rattle.jmap_methods.specs.Ids.{mailbox_letter}
+use Rattle.jmap_methods.specs.State.{state_text}
+use Rattle.jmap_methods.proofs.GetLemmas.{whole_answered, whole_from}
+use Rattle.served_maps.specs.Past.{served}
+use Rattle.mail_maps.specs.Serve.{mailbox_of}
+use Rattle.read_methods.specs.Mailboxes.{mailboxes_asked, mailbox_objects, mailboxes_answer}
+use Rattle.read_methods.proofs.OverHistory.{over_history}
+use Rattle.read_methods.proofs.WholeLemmas.{whole_mailboxes}
 use Rattle.read_methods.proofs.mailboxes.mailbox_get.Goals as goal
 
--- a value that is what was meant is whole where that is
-whole-from : (r : Result Value MethodError) (meant : Result Data MethodError) → Agrees Memory view r meant → IfOk meant (λ d. has_float d ≡ false)
-    → IfOk r (λ value. has_float (view value) ≡ false)
-whole-from (Err e) meant is whole = tt
-whole-from (Ok value) meant is whole = let P : Result Data MethodError → Type 0 = λ m. IfOk m (λ d. has_float d ≡ false) in subst P is whole
+pub returns-clause-exact : goal.returns-clause-exact
+returns-clause-exact c = λ h is.
+    over_history mailbox_of c.args.state.now.rows.mailboxes c.args.state.now.lists.mailbox h h.mailboxes c.args.state.now.epoch (λ text rows. mailboxes_answer text rows (view c.args.arguments.now))
+    c.answer.result is.epoch is.mailboxes c.answer.ensures
 
 pub returns-clause-whole : goal.returns-clause-whole
-returns-clause-whole c = whole-from c.answer.result _ c.answer.ensures (whole-answer c.args.state.now c.args.mailboxes.now (asked_of (view c.args.arguments.now)))
+returns-clause-whole c =
+    let rows = served mailbox_of c.args.state.now.rows.mailboxes in
+    let text = state_text (record { epoch = c.args.state.now.epoch; place = c.args.state.now.lists.mailbox.place }) in
+    whole_from c.answer.result (mailboxes_answer text rows (view c.args.arguments.now)) c.answer.ensures
+    (whole_answered mailbox_letter text (mailbox_objects rows) (mailboxes_asked (view c.args.arguments.now)) (whole_mailboxes rows))

@@ -1,0 +1,23 @@
+use Rattle.serde_json.specs.View.{view}
+use Rattle.jmap_methods.specs.Ids.{email_letter}
+use Rattle.mail_maps.specs.Serve.{email_of}
+use Rattle.mail_state.specs.State.{IsStateOf}
+use Rattle.read_methods.specs.Changes.{no_further}
+use Rattle.read_methods.specs.Replies.{UpdatesEmails}
+use Rattle.read_methods.proofs.ChangeLemmas.{over_history, up_to_date, wholly, under}
+use Rattle.read_methods.proofs.WholeLemmas.{none_whole}
+use Rattle.read_methods.proofs.changes.email_changes.Goals as goal
+
+pub returns-clause-exact : goal.returns-clause-exact
+returns-clause-exact c = λ h is.
+    over_history email_of c.args.state.now.rows.numbered.rows email_letter c.args.state.now.epoch h.epoch c.args.state.now.lists.email h.emails no_further
+    (view c.args.arguments.now) c.plain_changes.result is.epoch is.emails c.plain_changes.ensures
+
+pub returns-clause-copies : goal.returns-clause-copies
+returns-clause-copies c =
+    under (λ h. IsStateOf h c.args.state.now) (λ h value. UpdatesEmails h (view c.args.arguments.now) (view value)) c.plain_changes.result
+    (λ h is. up_to_date email_letter h.epoch h.emails no_further (view c.args.arguments.now) c.plain_changes.result (returns-clause-exact c h is))
+
+pub returns-clause-whole : goal.returns-clause-whole
+returns-clause-whole c =
+    wholly email_letter c.args.state.now.epoch c.args.state.now.lists.email no_further (view c.args.arguments.now) c.plain_changes.result none_whole c.plain_changes.ensures

@@ -1,8 +1,0 @@
-use Rattle.std.proofs.Common.{◌≡◌, [], ◌++◌, drop, map}
-use Rattle.read_methods.specs.Mailboxes.{once_after}
-use Rattle.read_methods.proofs.mailboxes.distinct.Given as goal
-
--- all once are those so far, and then those of the rest that aren't among them
-abbrev pub invariant-loop-id : goal.invariant-loop-id
-invariant-loop-id l = once_after [] (map (λ t. t.now) l.id-items)
-    ≡ map (λ t. t.now) l.once.items ++ once_after (map (λ t. t.now) l.once.items) (map (λ t. t.now) (drop l.id-index l.id-items))
