@@ -5,7 +5,7 @@ use Rattle.gate_calls.proofs.Meaning.{agrees_meets}
 use Rattle.gate_calls.proofs.methods.reply_over.Goals as goal
 
 pub returns-in-CoreEcho-clause-meant : goal.returns-in-CoreEcho-clause-meant
-returns-in-CoreEcho-clause-meant c = λ h held. agrees_meets (echoed (view c.args.arguments)) c.echo.result c.echo.ensures.meant
+returns-in-CoreEcho-clause-meant c = λ h held. agrees_meets (echoed (view c.args.arguments)) c.echo.result c.echo.ensures
 
 pub returns-in-MailboxGet-clause-meant : goal.returns-in-MailboxGet-clause-meant
 returns-in-MailboxGet-clause-meant c = λ h held. agrees_meets (mailbox_get_reply h (view c.args.arguments)) c.mailbox_get.result (c.mailbox_get.ensures.exact h held)

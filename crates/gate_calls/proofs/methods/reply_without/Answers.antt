@@ -7,7 +7,7 @@ use Rattle.gate_calls.proofs.Meaning.{agrees_meets}
 use Rattle.gate_calls.proofs.methods.reply_without.Goals as goal
 
 pub returns-in-CoreEcho-clause-meant : goal.returns-in-CoreEcho-clause-meant
-returns-in-CoreEcho-clause-meant c = agrees_meets (echoed (view c.args.arguments)) c.echo.result c.echo.ensures.meant
+returns-in-CoreEcho-clause-meant c = agrees_meets (echoed (view c.args.arguments)) c.echo.result c.echo.ensures
 
 pub returns-in-MailboxGet-clause-meant : goal.returns-in-MailboxGet-clause-meant
 returns-in-MailboxGet-clause-meant c = c.refusal_or.ensures.meant (mailboxes_refused (view c.args.arguments)) c.check_mailbox_get.ensures
