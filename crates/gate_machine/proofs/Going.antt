@@ -1,8 +1,11 @@
 -- Histories go on where no epoch is drawn.
-use Rattle.std.proofs.Common.{◌≡◌, ◌||◌, ◌++◌, ◌∷◌, ℕ, Bool, true, false, List, [], Option, Some, None, Result, Ok, Err, refl, sym, ◌∙◌, ap, subst, inl, inr}
+use Rattle.std.proofs.Common.{◌≡◌, ◌||◌, ◌++◌, ◌∷◌, ℕ, Bool, true, false, List, [], Option, Some, None, Result, Ok, Err, append_assoc, refl, sym, ◌∙◌, ap, subst, inl, inr}
+use Rattle.std.proofs.lemmas.List.{append-nil}
 use Rattle.std.specs.List.{list_any}
 use Rattle.gate_world.specs.declared.event.Event.{Event}
+use Rattle.change_list.specs.History.{Touch}
 use Rattle.told_mail.specs.Told.{Told}
+use Rattle.served_maps.specs.Past.{Past}
 use Rattle.mail_state.specs.History.{MailHistory}
 use Rattle.imap_exchange.specs.declared.link_end.LinkEnd.{LinkEnd}
 use Rattle.imap_exchange.specs.declared.link_end.LinkEnd.TheVariants as end
@@ -10,7 +13,7 @@ use Rattle.gate_machine.specs.History.{KnownMail}
 use Rattle.gate_machine.specs.Machine.{MachineState, hearing, forgotten}
 use Rattle.gate_machine.specs.Progress.{Progress, machine_by}
 use Rattle.gate_machine.specs.Beginning.{Readies, Ready, Restart, LacksRoom, RunsRound, Settles, Same, Moves, Spends, Lacks, AsksThen, Dials, PreparesMail}
-use Rattle.gate_machine.specs.Going.{HasGoneOn, Still, On, GoesOn, KeepsHistory, is_epoch}
+use Rattle.gate_machine.specs.Going.{HasGoneOn, Still, On, Extends, KeepsTouches, GoesOn, KeepsHistory, is_epoch}
 
 -- ---- events that draw no epoch
 
@@ -146,3 +149,23 @@ goes_on_way user password before events after p drawn =
     let ready = goes_readied p.readies (first_draw_none p.readying (p.connecting ++ p.asking) (ap (λ (es : List Event). list_any is_epoch es) (sym p.whole) ∙ drawn)) in
     let connected = elim p.dials [ inl skips ↦ goes_still (ap (λ (q : Progress). q.machine) skips.2) | inr dials ↦ goes_dialed dials ] in
     goes_both ready (goes_both connected (goes_asking p.asks))
+
+-- ---- what stays
+
+extends_none : {V : Type 0} (p : Past V) → Extends p p
+extends_none p = ([], sym (append-nil p.touches))
+
+extends_more : {V : Type 0} {p q r : Past V} {more : List (Touch V)} → Extends p q → r.touches ≡ q.touches ++ more → Extends p r
+extends_more {V} {p} {more = more} first is = (first.0 ++ more, is ∙ ap (λ (l : List (Touch V)). l ++ more) first.1 ∙ append_assoc p.touches first.0 more)
+
+-- the touches of a history stay as it goes on
+pub keeps_touches : {h after : MailHistory} → HasGoneOn h after → KeepsTouches h after
+keeps_touches {h} Still = record { epoch = refl; mailboxes = extends_none h.mailboxes; emails = extends_none h.emails; threads = extends_none h.threads }
+keeps_touches (On m gone next advances) =
+    let kept = keeps_touches gone in
+    record {
+      epoch = ap (λ (h : MailHistory). h.epoch) advances.after_is ∙ kept.epoch;
+      mailboxes = extends_more kept.mailboxes (ap (λ (h : MailHistory). h.mailboxes.touches) advances.after_is);
+      emails = extends_more kept.emails (ap (λ (h : MailHistory). h.emails.touches) advances.after_is);
+      threads = extends_more kept.threads (ap (λ (h : MailHistory). h.threads.touches) advances.after_is);
+    }

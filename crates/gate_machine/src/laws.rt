@@ -3,7 +3,8 @@ ghost use Rattle.std.specs.Prelude.{◌≡◌, ◌⊎◌, ℕ, List};
 ghost use Rattle.gate_world.specs.Causes.{no_faults};
 ghost use Rattle.gate_world.specs.declared.event.Event.{Event};
 ghost use Rattle.gate_machine.specs.Beginning.{PreparesMail};
-ghost use Rattle.gate_machine.specs.Going.{KeepsHistory};
+ghost use Rattle.mail_state.specs.History.{MailHistory};
+ghost use Rattle.gate_machine.specs.Going.{HasGoneOn, KeepsHistory, KeepsTouches};
 ghost use Rattle.gate_machine.specs.Machine.{MachineState};
 ghost use Rattle.gate_machine.specs.Obeying.{IsObeyedBeginning, IsServed};
 ghost use Rattle.gate_machine.specs.Progress.{Progress};
@@ -24,4 +25,9 @@ pub fn obeyed_rounds_stand()
 pub fn requests_keep_history()
     ensures { (user password : List ℕ) (before : MachineState) (events : List Event) (after : Progress)
         → PreparesMail user password before events after → KeepsHistory before events after.machine }
+{}
+
+/// As a history goes on, its epoch and its touches stay: so a state that a client was sent names the same map ever after.
+pub fn touches_stay()
+    ensures { (h after : MailHistory) → HasGoneOn h after → KeepsTouches h after }
 {}
