@@ -5,3 +5,7 @@ pub mod KeySets
 mod SameKeywords
 pub mod GroupLemmas
 pub mod ThreadLemmas
+pub mod FrontLemmas
+pub mod RoleLemmas
+pub mod MemberLemmas
+mod ParentLaws

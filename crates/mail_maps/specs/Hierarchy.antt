@@ -1,6 +1,7 @@
 -- Parents of folders, and the names that are left of them (RFC 9051 section 6.3.9.7).
-use Rattle.std.specs.Prelude.{ℕ, ◌+◌, ◌==◌, nat_lt, Bool, false, ◌&&◌, if◌then◌else◌}
+use Rattle.std.specs.Prelude.{ℕ, ◌+◌, ◌≤◌, ◌==◌, nat_lt, IsTrue, Bool, false, ◌&&◌, if◌then◌else◌}
 use Rattle.std.specs.Prelude.{List, [], ◌∷◌, filter, length, drop, take, Option, Some, None}
+use Rattle.std.specs.List.{AllByRecursion, Contains}
 use Rattle.std.specs.Option.{option_map_or}
 use Rattle.std.specs.Str.{bytes_eq}
 use Rattle.std.specs.Str.Lossy.{utf8_lossy}
@@ -35,6 +36,12 @@ longest best (g ∷ gs) = longest (Some (longer best g)) gs
 -- the folder with the longest name that is above
 abbrev pub parent_in : List Folder → Folder → Option Folder
 parent_in fs f = longest None (filter (is_above f) fs)
+
+-- a folder of these that is above, and no longer one is
+pub record IsParent (fs : List Folder) (f g : Folder) : Type 0 where
+  pub there : Contains fs g
+  pub above : IsTrue (is_above f g)
+  pub longest : AllByRecursion (λ h. IsTrue (is_above f h) → length h.name ≤ length g.name) fs
 
 -- how much of a name is its parent's, with the delimiter
 abbrev pub parent_len : Option Folder → ℕ

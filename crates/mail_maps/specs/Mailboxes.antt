@@ -1,9 +1,10 @@
 -- Mailboxes (RFC 8621 section 2): one for each folder.
-use Rattle.std.specs.Prelude.{ℕ, List, map, codes}
+use Rattle.std.specs.Prelude.{ℕ, List, map, codes, Option}
 use Rattle.std.specs.Option.{option_map}
 use Rattle.told_folder.specs.declared.message.Folder.{Folder}
 use Rattle.told_folder.specs.declared.message.Held.{Held}
 use Rattle.mail_maps.specs.declared.row.MailboxRow.{MailboxRow}
+use Rattle.mail_maps.specs.declared.row.Role.{Role}
 use Rattle.mail_maps.specs.declared.tally.FolderCounts.{FolderCounts}
 use Rattle.mail_maps.specs.Rows.{Rows}
 use Rattle.mail_maps.specs.Hierarchy.{parent_in, own_name}
@@ -14,14 +15,14 @@ use Rattle.mail_maps.specs.Counts.{total_emails, unread_emails, total_threads, u
 abbrev pub folders_of : List Held → List Folder
 folders_of hs = map (λ (h : Held). h.folder) hs
 
--- the Mailbox of a folder among these, with its counts
-abbrev pub row_with : List Folder → Folder → FolderCounts → MailboxRow
-row_with fs f counts = record {
+-- the Mailbox of a folder among these, with a role and its counts
+abbrev pub row_as : List Folder → Folder → Option Role → FolderCounts → MailboxRow
+row_as fs f role counts = record {
   number = f.number;
   name = own_name fs f;
   full_name = f.name;
   parent = option_map (λ (g : Folder). g.number) (parent_in fs f);
-  role = role_in fs f;
+  role = role;
   subscribed = has_attribute (codes "\\subscribed") f;
   rights = rights_of f;
   total_emails = counts.total_emails;
@@ -29,6 +30,10 @@ row_with fs f counts = record {
   total_threads = counts.total_threads;
   unread_threads = counts.unread_threads;
 }
+
+-- each role once
+abbrev pub row_with : List Folder → Folder → FolderCounts → MailboxRow
+row_with fs f counts = row_as fs f (role_in fs f) counts
 
 abbrev pub counts_in : Rows → ℕ → FolderCounts
 counts_in rows folder = record {

@@ -1,13 +1,37 @@
 // Parents of folders, and the names that are left of them.
-ghost use Rattle.std.specs.Prelude.{◌≡◌, if◌then◌else◌, Some, drop, IfOk};
+ghost use Rattle.std.specs.Prelude.{◌≡◌, ◌<◌, ◌||◌, ℕ, drop, length, IfOk, OnOk};
+ghost use Rattle.std.specs.BTreeSet.{contains};
 ghost use Rattle.std.specs.Option.{option_copied};
+ghost use Rattle.std.specs.Ordering.{nat_cmp};
 ghost use Rattle.std.specs.Str.Lossy.{utf8_lossy};
 ghost use Rattle.mail_maps.specs.Hierarchy as hierarchy;
 ghost use Rattle.mail_maps.specs.Mailboxes.{folders_of};
+ghost use Rattle.mail_maps.specs.reading.Fronts as fronts;
+ghost use Rattle.mail_maps.specs.reading.Fronts.{AreLengths, has_length};
 
 use gate_world::Text;
 use std::alloc::{AllocError, Global};
+use std::collections::BTreeSet;
 use told_folder::{Folder, Held};
+use told_mail::Mirror;
+
+fn note_length(lengths: &mut BTreeSet<usize>, held: &Held) -> Result<(), AllocError>
+    ensures { OnOk result ((q : ℕ) → contains nat_cmp lengths.new q ≡ (contains nat_cmp lengths.old q || has_length q held.now)) }
+{
+    lengths.insert(held.folder.name.as_slice().len())?;
+    Ok(())
+}
+
+/// How long the names of folders are.
+pub fn name_lengths(alloc: Global, folders: &[Held]) -> Result<BTreeSet<usize>, AllocError>
+    ensures { IfOk result (λ lengths. AreLengths lengths folders.now) }
+{
+    let mut lengths = BTreeSet::new(alloc);
+    for held in folders {
+        note_length(&mut lengths, held)?;
+    }
+    Ok(lengths)
+}
 
 /// Whether the delimiter comes, and more follows it.
 fn goes_on(delimiter: u8, rest: &[u8]) -> bool
@@ -19,76 +43,63 @@ fn goes_on(delimiter: u8, rest: &[u8]) -> bool
     }
 }
 
-/// What follows this many octets.
-fn after(name: &[u8], len: usize) -> &[u8]
-    ensures { result.now ≡ drop len name.now }
+/// The folder whose name is so much of this one, where the delimiter and more follow. It is looked up only where a folder has
+/// a name of this length, so a long name costs no more look-ups than there are lengths.
+fn front_at<'a>(
+    mirror: &'a Mirror,
+    lengths: &BTreeSet<usize>,
+    name: &[u8],
+    delimiter: u8,
+    len: usize,
+) -> Option<&'a Folder>
+    requires within { len < length name.now }
+    requires lengths { AreLengths lengths.now mirror.now.mail.folders }
+    ensures { option_copied result ≡ fronts.front_at mirror.now.mail.folders name.now delimiter len }
 {
-    if len <= name.len() {
-        return name.split_at(len).1;
+    let (front, rest) = name.split_at(len);
+    if !goes_on(delimiter, rest) {
+        return None;
     }
-    &[]
-}
-
-fn begins_with(name: &[u8], parent: &[u8]) -> bool
-    ensures { result ≡ hierarchy.begins_with name.now parent.now }
-{
-    parent.len() <= name.len() && parent == name.split_at(parent.len()).0
-}
-
-/// Whether the name is below that of a parent. The name is compared only where the delimiter stands at its place.
-fn is_below(name: &[u8], delimiter: u8, parent: &[u8]) -> bool
-    ensures { result ≡ hierarchy.is_below name.now delimiter parent.now }
-{
-    goes_on(delimiter, after(name, parent.len())) && begins_with(name, parent)
-}
-
-/// Whether the folder is above the child.
-fn is_above(child: &Folder, folder: &Folder) -> bool
-    ensures { result ≡ hierarchy.is_above child.now folder.now }
-{
-    match child.delimiter {
-        Some(delimiter) => is_below(child.name.as_slice(), delimiter, folder.name.as_slice()),
-        None => false,
+    if !lengths.contains(&len) {
+        return None;
     }
+    mirror.named(front)
 }
 
-/// The folder with the longer name, the first where they are equal.
-fn longer<'a>(best: Option<&'a Folder>, folder: &'a Folder) -> &'a Folder
-    ensures { result.now ≡ hierarchy.longer (option_copied best.entry) folder.now }
+/// The folder of the longest front of the name before a delimiter, where one has it as its name.
+fn parent_below<'a>(
+    mirror: &'a Mirror,
+    lengths: &BTreeSet<usize>,
+    name: &[u8],
+    delimiter: u8,
+) -> Option<&'a Folder>
+    requires { AreLengths lengths.now mirror.now.mail.folders }
+    ensures { option_copied result ≡ fronts.front_below mirror.now.mail.folders name.now delimiter (length name.now) }
 {
-    match best {
-        Some(best) => {
-            if best.name.as_slice().len() < folder.name.as_slice().len() {
-                folder
-            } else {
-                best
-            }
+    let mut len = name.len();
+    while 0 < len {
+        len -= 1;
+        if let Some(folder) = front_at(mirror, lengths, name, delimiter, len) {
+            return Some(folder);
         }
-        None => folder,
     }
+    None
 }
 
-/// The best so far, or this folder where it is above the child and its name is longer.
-fn better<'a>(child: &Folder, best: Option<&'a Folder>, folder: &'a Folder) -> Option<&'a Folder>
-    ensures { option_copied result
-        ≡ (if hierarchy.is_above child.now folder.now then Some (hierarchy.longer (option_copied best.entry) folder.now) else option_copied best.entry) }
+/// The folder with the longest name that is above this one. These are the lengths of all names.
+pub fn parent_in<'a>(
+    mirror: &'a Mirror,
+    lengths: &BTreeSet<usize>,
+    child: &Folder,
+) -> Option<&'a Folder>
+    requires { AreLengths lengths.now mirror.now.mail.folders }
+    ensures { option_copied result ≡ hierarchy.parent_in (folders_of mirror.now.mail.folders) child.now }
 {
-    if is_above(child, folder) {
-        Some(longer(best, folder))
-    } else {
-        best
+    mirror.each_is_mail();
+    match child.delimiter {
+        Some(delimiter) => parent_below(mirror, lengths, child.name.as_slice(), delimiter),
+        None => None,
     }
-}
-
-/// The folder with the longest name that is above this one.
-pub fn parent_in<'a>(folders: &'a [Held], child: &Folder) -> Option<&'a Folder>
-    ensures { option_copied result ≡ hierarchy.parent_in (folders_of folders.now) child.now }
-{
-    let mut best = None;
-    for held in folders {
-        best = better(child, best, &held.folder);
-    }
-    best
 }
 
 /// How much of a name is its parent's, with the delimiter.
@@ -99,6 +110,16 @@ fn parent_len(parent: Option<&Folder>) -> usize
         Some(parent) => parent.name.as_slice().len() + 1,
         None => 0,
     }
+}
+
+/// What follows this many octets.
+fn after(name: &[u8], len: usize) -> &[u8]
+    ensures { result.now ≡ drop len name.now }
+{
+    if len <= name.len() {
+        return name.split_at(len).1;
+    }
+    &[]
 }
 
 /// The name that follows that of the parent, in UTF-8.

@@ -20,6 +20,9 @@ mod roles;
 mod tally;
 mod threads;
 
+// Laws.
+pub mod laws;
+
 pub use envelope::{Envelope, Party};
 pub use header::read_envelope;
 pub use mailboxes::mailboxes_of;

@@ -1,12 +1,16 @@
 // Roles of folders.
-ghost use Rattle.std.specs.Prelude.{◌≡◌};
+ghost use Rattle.std.specs.Prelude.{◌≡◌, ◌||◌, ℕ, IfOk, OnOk};
+ghost use Rattle.std.specs.BTreeSet.{contains};
 ghost use Rattle.std.specs.Option.{option_map};
+ghost use Rattle.std.specs.Ordering.{nat_cmp};
 ghost use Rattle.mail_maps.specs.Roles as roles;
-ghost use Rattle.mail_maps.specs.Mailboxes.{folders_of};
+ghost use Rattle.mail_maps.specs.reading.TakenRoles.{role_left, claims};
 
 use crate::Role;
 use crate::keywords::has_name;
-use told_folder::{Folder, Held};
+use std::alloc::AllocError;
+use std::collections::BTreeSet;
+use told_folder::Folder;
 
 /// Whether the folder has the attribute, which is given in lower case.
 pub fn has(attribute: &[u8], folder: &Folder) -> bool
@@ -84,27 +88,16 @@ pub fn same_role(one: Option<Role>, other: Option<Role>) -> bool
     number_in(one) == number_in(other)
 }
 
-/// Whether a folder of a lower number has the role.
-fn is_taken(folders: &[Held], folder: &Folder, role: Option<Role>) -> bool
-    requires { role ≡ roles.role_told folder.now }
-    ensures { result ≡ roles.is_taken (folders_of folders.now) folder.now }
+/// Takes the first role of the folder, unless a folder took it before.
+pub fn take_role(taken: &mut BTreeSet<u8>, folder: &Folder) -> Result<Option<Role>, AllocError>
+    ensures role { IfOk result (λ role. role ≡ role_left taken.old (roles.role_told folder.now)) }
+    ensures taken { OnOk result ((q : ℕ) → contains nat_cmp taken.new q ≡ (contains nat_cmp taken.old q || claims q folder.now)) }
 {
-    let number = folder.number;
-    for held in folders {
-        if held.folder.number < number && same_role(role_told(&held.folder), role) {
-            return true;
+    match role_told(folder) {
+        None => Ok(None),
+        Some(role) => {
+            let is_new = taken.insert(number_of(role))?;
+            if is_new { Ok(Some(role)) } else { Ok(None) }
         }
     }
-    false
-}
-
-/// The role of a folder: each role once.
-pub fn role_in(folders: &[Held], folder: &Folder) -> Option<Role>
-    ensures { result ≡ roles.role_in (folders_of folders.now) folder.now }
-{
-    let role = role_told(folder);
-    if role.is_none() || is_taken(folders, folder, role) {
-        return None;
-    }
-    role
 }

@@ -88,7 +88,7 @@ all_seen (h ∷ hs) numbers uids =
 -- ---- what is found
 
 -- a visible message of the mark
-record IsVisibleOf (hs : List Held) (mark : ℕ) (p : Placed) : Type 0 where
+pub record IsVisibleOf (hs : List Held) (mark : ℕ) (p : Placed) : Type 0 where
   pub seen : IsSeen hs p
   pub marked : p.message.mark ≡ mark
 
@@ -101,8 +101,9 @@ among hs mark (x ∷ ps) p seen is =
       | false ↦ λ other e. among hs mark ps p seen.1 e
     ] refl is
 
-found : (m : Mail) (mark : ℕ) (p : Placed) → IsMail m → shown m.folders mark ≡ Some p → IsVisibleOf m.folders mark p
-found m mark p is e = among m.folders mark (visible m.folders) p (all_seen m.folders is.numbers is.uids) e
+-- what is shown of a mark is a visible message of it
+pub visible_of : (m : Mail) (mark : ℕ) (p : Placed) → IsMail m → shown m.folders mark ≡ Some p → IsVisibleOf m.folders mark p
+visible_of m mark p is e = among m.folders mark (visible m.folders) p (all_seen m.folders is.numbers is.uids) e
 
 -- its mark stands at its place
 pub marked_at : (hs : List Held) (n u : ℕ) (x : Message) → message_in hs n u ≡ Some x → mark_in hs (n, u) ≡ Some x.mark
@@ -169,7 +170,7 @@ at_place : (m : Mail) (mark : ℕ) (p : ℕ × ℕ) (x : Message) (q : Placed) �
     → shown m.folders mark ≡ Some q
     → (q ≡ record { folder = p.0; message = x }) × (is_served x ≡ true)
 at_place m mark p x q is at held e =
-    let f : IsVisibleOf m.folders mark q = found m mark q is e in
+    let f : IsVisibleOf m.folders mark q = visible_of m mark q is e in
     let place : (q.folder, q.message.uid) ≡ p = is.marks (q.folder, q.message.uid) p mark
     (marked_at m.folders q.folder q.message.uid q.message f.seen.at ∙ ap (λ (n : ℕ). Some n) f.marked) at in
     let same : q.message ≡ x = some_is q.message x (sym f.seen.at ∙ ap (λ (r : ℕ × ℕ). message_in m.folders r.0 r.1) place ∙ held) in
@@ -182,7 +183,7 @@ hidden_mark m mark is none = by (shown m.folders mark) refl
     by : (o : Option Placed) → shown m.folders mark ≡ o → shown m.folders mark ≡ None
     by None e = e
     by (Some q) e =
-        let f : IsVisibleOf m.folders mark q = found m mark q is e in
+        let f : IsVisibleOf m.folders mark q = visible_of m mark q is e in
         absurd (none (q.folder, q.message.uid) (marked_at m.folders q.folder q.message.uid q.message f.seen.at ∙ ap (λ (n : ℕ). Some n) f.marked))
 
 shown_if : (m : Mail) (mark : ℕ) (p : ℕ × ℕ) (x : Message) → IsMail m → mark_in m.folders p ≡ Some mark → message_in m.folders p.0 p.1 ≡ Some x

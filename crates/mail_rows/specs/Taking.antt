@@ -1,6 +1,6 @@
 -- What becomes of the Emails as the mail changes: some remain, and what is newly visible becomes new Emails.
-use Rattle.std.specs.Prelude.{◌≡◌, ℕ, ◌+◌, List, [], ◌∷◌, ◌++◌, Bool, not, filter}
-use Rattle.std.specs.List.{AllZip}
+use Rattle.std.specs.Prelude.{◌≡◌, ℕ, ◌+◌, List, [], ◌∷◌, ◌++◌, Bool, not, filter, fold}
+use Rattle.std.specs.List.{AllZip, zip}
 use Rattle.told_folder.specs.declared.message.Held.{Held}
 use Rattle.mail_maps.specs.declared.row.EmailRow.{EmailRow}
 use Rattle.mail_maps.specs.declared.envelope.Envelope.{Envelope}
@@ -45,9 +45,7 @@ with_row n p e = record { rows = n.rows ++ (n.next, new_row n p e) ∷ []; next 
 
 -- they get the next numbers in order, each with its envelope; the Thread of each is sought among the rows before it
 abbrev pub with_rows : NumberedRows → List Placed → List Envelope → NumberedRows
-with_rows n [] es = n
-with_rows n (p ∷ ps) [] = n
-with_rows n (p ∷ ps) (e ∷ es) = with_rows (with_row n p e) ps es
+with_rows n ps es = fold (λ (m : NumberedRows) (pair : Placed × Envelope). with_row m pair.0 pair.1) n (zip ps es)
 
 -- the envelope of each message, from its header
 abbrev pub AreEnvelopes : List Placed → List Envelope → Type 0

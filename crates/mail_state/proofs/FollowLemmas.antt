@@ -1,10 +1,14 @@
 -- A state that took the rows of other mail, and noted their touches, stands for the history that went on.
-use Rattle.std.proofs.Common.{◌≡◌, ◌↔◌, ℕ, ◌+◌, ◌<◌, ◌≤◌, List, ◌++◌, Bool, true, not, nat_eq, refl, sym, ap, ◌∙◌, subst, arith, length, Option, Some, None}
+use Rattle.std.proofs.Common.{◌≡◌, ◌↔◌, ℕ, ◌+◌, ◌<◌, ◌≤◌, List, ◌++◌, Bool, true, not, nat_eq, refl, sym, ap, ◌∙◌, subst, arith, length}
+use Rattle.std.proofs.Common.{false, Option, Some, None, Err, if◌then◌else◌, ltb, ltb-true, ltb-false}
 use Rattle.std.specs.Bool.{IsTrue}
-use Rattle.std.specs.Option.{option_map}
+use Rattle.std.specs.Option.{option_map, option_or}
 use Rattle.change_list.specs.Kept.{Kept, IsOf}
 use Rattle.change_list.specs.Advance.{Tests, advance_entries}
+use Rattle.change_list.specs.History.{entries_of}
 use Rattle.change_list.specs.declared.entries.Entry.{Entry}
+use Rattle.change_list.specs.declared.list.TheConstants.{MAX_PLACE}
+use Rattle.change_list.proofs.HistoryLaws.{length-entries_from}
 use Rattle.told_mail.specs.Mail.{Mail, IsNextMail}
 use Rattle.served_maps.specs.Past.{Past, StandsFor, gone_on, served, tests_of, place_now}
 use Rattle.served_maps.proofs.StandsOn.{stands_on, entries_served, rises}
@@ -18,11 +22,11 @@ use Rattle.mail_rows.specs.RowTouches.{email_touches}
 use Rattle.mail_rows.proofs.Exact.{exact_mailbox, exact_email, exact_thread}
 use Rattle.mail_state.specs.declared.touches.Advance.{Advance}
 use Rattle.mail_state.specs.declared.error.StateError.{StateError}
-use Rattle.mail_state.specs.declared.error.StateError.TheVariants.{Spent}
-use Rattle.mail_state.specs.History.{MailHistory, Advances, advanced}
+use Rattle.mail_state.specs.declared.error.StateError.TheVariants.{Spent, Memory}
+use Rattle.mail_state.specs.History.{MailHistory, Advances, HasRoom, advanced}
 use Rattle.mail_state.specs.Sound.{IsSound}
 use Rattle.mail_state.specs.State.{ServedRows, ChangeLists, ServedState, IsStateOf, rows_of}
-use Rattle.mail_state.specs.Following.{Touches, touches_between, spent_place, spent_to, AllNoted, StepsTo, Moves, FollowsMail}
+use Rattle.mail_state.specs.Following.{Touches, touches_between, full_place, spent_place, spent_to, AllNoted, StepsTo, Moves, FollowsMail, IfSpent, SpendsPlace}
 use Rattle.mail_state.specs.reading.Noting.{StepsRows, moved_by}
 use Rattle.mail_state.proofs.EmailLemmas.{emails_are_fresh}
 use Rattle.mail_state.proofs.ThreadLemmas.{threads_are_fresh}
@@ -96,6 +100,82 @@ steps_rows before m n boxes threads t takes boxes_are threads_are mailbox email 
   counted = counted;
 }
 
+-- ---- room in the places
+
+-- a list stands at the place of its past
+listed_place : {V : Type 0} (list : Kept) (p : Past V) → IsOf list (entries_of p.touches) → list.place ≡ place_now p
+listed_place list p is = is.place ∙ length-entries_from (λ _. None) p.touches
+
+-- where the list has room for the touches, the place doesn't pass the last one
+fits : (list : Kept) (touches : List Entry) → full_place list touches ≡ None → list.place + length touches ≤ MAX_PLACE
+fits list touches none =
+    elim (ltb MAX_PLACE (list.place + length touches)) as (λ (b : Bool). ltb MAX_PLACE (list.place + length touches) ≡ b → (if b then Some list.place else None) ≡ None
+    → list.place + length touches ≤ MAX_PLACE) [
+      | true ↦ λ t e. absurd (let f : Some list.place ≡ None = e in cc)
+      | false ↦ λ t e. ltb-false _ _ t
+    ] refl none
+
+-- where it has none, the place does
+passes : (list : Kept) (touches : List Entry) (place : ℕ) → full_place list touches ≡ Some place → list.place + length touches ≤ MAX_PLACE → ⊥
+passes list touches place some room =
+    elim (ltb MAX_PLACE (list.place + length touches)) as (λ (b : Bool). ltb MAX_PLACE (list.place + length touches) ≡ b → (if b then Some list.place else None) ≡ Some place → ⊥) [
+      | true ↦ λ t e. let less : MAX_PLACE < list.place + length touches = ltb-true _ _ t in omega (arith, less, room)
+      | false ↦ λ t e. let f : None ≡ Some place = e in cc
+    ] refl some
+
+module _ {R V : Type 0} (serve : R → V) (tests : Tests V) (rows new : List (ℕ × R)) (list : Kept) (p : Past V) (stands : StandsFor serve rows list p) where
+  -- the place after the touches
+  place_after : place_now (gone_on tests p (served serve new)) ≡ list.place + length (advance_entries (tests_of serve tests) rows new)
+  place_after = place_rises serve tests rows new list p stands
+      ∙ ap (λ (k : ℕ). k + length (advance_entries (tests_of serve tests) rows new)) (sym (listed_place list p stands.kept))
+
+  has_place : full_place list (advance_entries (tests_of serve tests) rows new) ≡ None → place_now (gone_on tests p (served serve new)) ≤ MAX_PLACE
+  has_place none =
+      let room = fits list (advance_entries (tests_of serve tests) rows new) none in
+      let after = place_after in
+      omega (arith, room, after)
+
+  passes_place : (place : ℕ) → full_place list (advance_entries (tests_of serve tests) rows new) ≡ Some place → place_now (gone_on tests p (served serve new)) ≤ MAX_PLACE → ⊥
+  passes_place place some room =
+      let after = place_after in
+      passes list (advance_entries (tests_of serve tests) rows new) place some (omega (arith, room, after))
+
+-- none of three where none is the first
+none_of_all : (a b c : Option ℕ) → option_or a (option_or b c) ≡ None → (a ≡ None) × (b ≡ None) × (c ≡ None)
+none_of_all None None None e = (refl, refl, refl)
+none_of_all None None (Some z) e = absurd (let f : Some z ≡ None = e in cc)
+none_of_all None (Some y) c e = absurd (let f : Some y ≡ None = e in cc)
+none_of_all (Some x) b c e = absurd (let f : Some x ≡ None = e in cc)
+
+-- where no place is spent, the history that went on has room
+room_after : (s : ServedState) (h : MailHistory) (m : Mail) (n : NumberedRows) → IsStateOf h s → spent_place s.lists (touches_between s.rows (rows_of m n)) ≡ None
+    → HasRoom (advanced h m n)
+room_after s h m n stands none =
+    let t : Touches = touches_between s.rows (rows_of m n) in
+    let each = none_of_all (full_place s.lists.mailbox t.mailbox) (full_place s.lists.email t.email) (full_place s.lists.thread t.thread) none in
+    record {
+      mailboxes = has_place mailbox_of mailbox_tests s.rows.mailboxes (mailboxes_of m.folders n.rows) s.lists.mailbox h.mailboxes stands.mailboxes each.0;
+      emails = has_place email_of email_tests s.rows.numbered.rows n.rows s.lists.email h.emails stands.emails each.1;
+      threads = has_place thread_of thread_tests s.rows.threads (threads_of n.rows) s.lists.thread h.threads stands.threads each.2;
+    }
+
+-- where a place is spent, it has none
+spends_after : (s : ServedState) (h : MailHistory) (m : Mail) (n : NumberedRows) (place : ℕ) → IsStateOf h s
+    → spent_place s.lists (touches_between s.rows (rows_of m n)) ≡ Some place → HasRoom (advanced h m n) → ⊥
+spends_after s h m n place stands some room =
+    by (full_place s.lists.mailbox t.mailbox) refl (full_place s.lists.email t.email) refl (full_place s.lists.thread t.thread) refl some
+  where
+    t : Touches
+    t = touches_between s.rows (rows_of m n)
+
+    by : (a : Option ℕ) → full_place s.lists.mailbox t.mailbox ≡ a → (b : Option ℕ) → full_place s.lists.email t.email ≡ b → (c : Option ℕ)
+        → full_place s.lists.thread t.thread ≡ c → option_or a (option_or b c) ≡ Some place → ⊥
+    by (Some x) is b _ c _ e =
+        passes_place mailbox_of mailbox_tests s.rows.mailboxes (mailboxes_of m.folders n.rows) s.lists.mailbox h.mailboxes stands.mailboxes x is room.mailboxes
+    by None _ (Some y) is c _ e = passes_place email_of email_tests s.rows.numbered.rows n.rows s.lists.email h.emails stands.emails y is room.emails
+    by None _ None _ (Some z) is e = passes_place thread_of thread_tests s.rows.threads (threads_of n.rows) s.lists.thread h.threads stands.threads z is room.threads
+    by None _ None _ None _ e = let f : None ≡ Some place = e in cc
+
 -- ---- the whole step
 
 touches_are : (before : ServedRows) (m : Mail) (now : ServedRows) (t : Touches) → StepsRows before m now t → t ≡ touches_between before (rows_of m now.numbered)
@@ -103,8 +183,8 @@ touches_are before m now t steps = steps.touches ∙ ap (touches_between before)
 
 -- the state stands for the history that went on to the mail
 pub follows : (s : ServedState) (h : MailHistory) (m : Mail) (rows : ServedRows) (t : Touches) (lists : ChangeLists) → IsStateOf h s → IsNextMail h.mail m
-    → StepsRows s.rows m rows t → AllNoted s.lists lists t → FollowsMail h m (state_with s rows lists) (moved_by t)
-follows s h m rows t lists stands next steps noted =
+    → StepsRows s.rows m rows t → AllNoted s.lists lists t → spent_place s.lists t ≡ None → FollowsMail h m (state_with s rows lists) (moved_by t)
+follows s h m rows t lists stands next steps noted room =
     let n : NumberedRows = rows.numbered in
     let T : NumberedRows → Type 0 = λ x. TakesMail x m.folders n in
     let takes : TakesMail h.numbered m.folders n = subst T (ap (λ (x : ServedRows). x.numbered) stands.rows) steps.takes in
@@ -117,6 +197,7 @@ follows s h m rows t lists stands next steps noted =
       advances = record { takes = takes; after_is = refl };
       stands = subst S (sym steps.rows) (stands_after s h m n lists stands next takes (subst N are noted));
       moves = subst M (sym are) (moves s h m n stands);
+      room = room_after s h m n stands (sym (ap (spent_place s.lists) are) ∙ room);
     }
 
 -- the state has the rows of the mail, and has noted the touches
@@ -132,18 +213,40 @@ spent_is : (s : ServedState) (m : Mail) (rows : ServedRows) (t : Touches) → St
 spent_is s m rows t steps = sym (ap (spent_place s.lists) (touches_are s.rows m rows t steps))
 
 -- no place would pass the last one
-abbrev pub HasRoom : ServedState → Mail → Type 0
-HasRoom s m = (n : NumberedRows) × TakesMail s.rows.numbered m.folders n × (spent_to s m n ≡ None)
+abbrev pub FindsRoom : ServedState → Mail → Type 0
+FindsRoom s m = (n : NumberedRows) × TakesMail s.rows.numbered m.folders n × (spent_to s m n ≡ None)
 
 -- touches that have room
-pub has_room : (s : ServedState) (m : Mail) (rows : ServedRows) (t : Touches) → StepsRows s.rows m rows t → spent_place s.lists t ≡ None → HasRoom s m
+pub has_room : (s : ServedState) (m : Mail) (rows : ServedRows) (t : Touches) → StepsRows s.rows m rows t → spent_place s.lists t ≡ None → FindsRoom s m
 has_room s m rows t steps room = (rows.numbered, steps.takes, spent_is s m rows t steps ∙ room)
 
 -- the refusal names a place that would
-abbrev pub HasNoRoom : StateError → ServedState → Mail → Type 0
-HasNoRoom e s m = (n : NumberedRows) × TakesMail s.rows.numbered m.folders n × (option_map Spent (spent_to s m n) ≡ Some e)
+abbrev pub FindsNoRoom : StateError → ServedState → Mail → Type 0
+FindsNoRoom e s m = (n : NumberedRows) × TakesMail s.rows.numbered m.folders n × (option_map Spent (spent_to s m n) ≡ Some e)
 
 -- touches that have none
 pub has_no_room : (e : StateError) (s : ServedState) (m : Mail) (rows : ServedRows) (t : Touches) → StepsRows s.rows m rows t → option_map Spent (spent_place s.lists t) ≡ Some e
-    → HasNoRoom e s m
+    → FindsNoRoom e s m
 has_no_room e s m rows t steps spent = (rows.numbered, steps.takes, ap (option_map Spent) (spent_is s m rows t steps) ∙ spent)
+
+-- the touches that have none lead to a history that has none
+pub spends : (s : ServedState) (h : MailHistory) (m : Mail) (rows : ServedRows) (t : Touches) (place : ℕ) → IsStateOf h s → StepsRows s.rows m rows t
+    → spent_place s.lists t ≡ Some place → SpendsPlace h m
+spends s h m rows t place stands steps spent =
+    let n : NumberedRows = rows.numbered in
+    let T : NumberedRows → Type 0 = λ x. TakesMail x m.folders n in
+    record {
+      after = advanced h m n;
+      advances = record { takes = subst T (ap (λ (x : ServedRows). x.numbered) stands.rows) steps.takes; after_is = refl };
+      passes = spends_after s h m n place stands (sym (ap (spent_place s.lists) (touches_are s.rows m rows t steps)) ∙ spent);
+    }
+
+some_place : (o : Option ℕ) (place : ℕ) → option_map Spent o ≡ Some (Spent place) → o ≡ Some place
+some_place None place e = absurd (let f : None ≡ Some (Spent place) = e in cc)
+some_place (Some x) place e = let f : Some (Spent x) ≡ Some (Spent place) = e in cc
+
+-- what an answer by the touches says of the history
+pub if_spent : {X : Type 0} (s : ServedState) (h : MailHistory) (m : Mail) (rows : ServedRows) (t : Touches) (e : StateError) → IsStateOf h s → StepsRows s.rows m rows t
+    → option_map Spent (spent_place s.lists t) ≡ Some e → IfSpent {X} (Err e) (SpendsPlace h m)
+if_spent s h m rows t Memory stands steps spent = tt
+if_spent s h m rows t (Spent place) stands steps spent = spends s h m rows t place stands steps (some_place (spent_place s.lists t) place spent)

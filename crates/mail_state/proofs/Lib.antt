@@ -3,7 +3,11 @@ mod ThreadLemmas
 mod FolderLemmas
 mod MarkLemmas
 mod NumberLemmas
-mod KeptThreads
+mod NoTouches
+mod TouchedThreads
+mod KeptMailboxes
 mod SoundLemmas
 mod FollowLemmas
 mod LastLemmas
+mod StayLemmas
+mod ValidityLemmas

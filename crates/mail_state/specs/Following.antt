@@ -14,7 +14,7 @@ use Rattle.mail_rows.specs.RowTouches.{email_touches}
 use Rattle.mail_state.specs.declared.touches.Advance.{Advance}
 use Rattle.mail_state.specs.declared.error.StateError.{StateError}
 use Rattle.mail_state.specs.declared.error.StateError.TheVariants.{Spent, Memory}
-use Rattle.mail_state.specs.History.{MailHistory, Advances}
+use Rattle.mail_state.specs.History.{MailHistory, Advances, HasRoom}
 use Rattle.mail_state.specs.State.{ServedRows, ChangeLists, ServedState, IsStateOf, rows_of}
 
 -- ---- the touches of each type
@@ -33,7 +33,7 @@ touches_between old new = record {
 
 -- ---- no room
 
--- the place of the list, where so many touches more would pass the last one
+-- the place of the list, where these touches would pass the last one
 abbrev pub full_place : Kept → List Entry → Option ℕ
 full_place list touches = if nat_lt MAX_PLACE (list.place + length touches) then Some list.place else None
 
@@ -77,9 +77,22 @@ pub record Moves (moved : Advance) (h after : MailHistory) : Type 0 where
   pub email : IsTrue moved.email ↔ (place_now h.emails < place_now after.emails)
   pub thread : IsTrue moved.thread ↔ (place_now h.threads < place_now after.threads)
 
--- the state stands for the history that went on to the mail
+-- the state stands for the history that went on to the mail, whose places have room
 pub record FollowsMail (h : MailHistory) (m : Mail) (now : ServedState) (moved : Advance) : Type 0 where
   pub after : MailHistory
   pub advances : Advances h m after
   pub stands : IsStateOf after now
   pub moves : Moves moved h after
+  pub room : HasRoom after
+
+-- the history goes on to the mail, and a place passes the last one
+pub record SpendsPlace (h : MailHistory) (m : Mail) : Type 0 where
+  pub after : MailHistory
+  pub advances : Advances h m after
+  pub passes : HasRoom after → ⊥
+
+-- what holds where the answer is Spent
+abbrev pub IfSpent : {X : Type 0} → Result X StateError → Type 0 → Type 0
+IfSpent (Ok x) P = Unit {0}
+IfSpent (Err Memory) P = Unit {0}
+IfSpent (Err (Spent place)) P = P

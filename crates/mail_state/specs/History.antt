@@ -1,7 +1,8 @@
 -- What has become of the mail since the beginning: a map of each type at each place, and the touches that led from one to the next.
-use Rattle.std.specs.Prelude.{◌≡◌, ℕ, List}
+use Rattle.std.specs.Prelude.{◌≡◌, ℕ, ◌≤◌, List}
+use Rattle.change_list.specs.declared.list.TheConstants.{MAX_PLACE}
 use Rattle.told_mail.specs.Mail.{Mail, no_mail, IsNextMail}
-use Rattle.served_maps.specs.Past.{Past, no_past, gone_on, served}
+use Rattle.served_maps.specs.Past.{Past, no_past, gone_on, served, place_now}
 use Rattle.mail_maps.specs.Rows.{Rows}
 use Rattle.mail_maps.specs.Threads.{threads_of}
 use Rattle.mail_maps.specs.Mailboxes.{mailboxes_of}
@@ -46,6 +47,12 @@ advanced h m n = record {
 pub record Advances (h : MailHistory) (m : Mail) (after : MailHistory) : Type 0 where
   pub takes : TakesMail h.numbered m.folders after.numbered
   pub after_is : after ≡ advanced h m after.numbered
+
+-- no place has passed the last one
+pub record HasRoom (h : MailHistory) : Type 0 where
+  pub mailboxes : place_now h.mailboxes ≤ MAX_PLACE
+  pub emails : place_now h.emails ≤ MAX_PLACE
+  pub threads : place_now h.threads ≤ MAX_PLACE
 
 -- the histories that there are
 pub data IsReached : MailHistory → Type 0 where

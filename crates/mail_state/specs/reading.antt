@@ -1,2 +1,4 @@
 -- What the code keeps and gathers on its way: private clauses and proofs alone speak of it.
 pub mod Noting
+pub mod ThreadSteps
+pub mod Boxes

@@ -1,13 +1,18 @@
 //! The laws of histories and states, as clauses of functions that do nothing.
-ghost use Rattle.std.specs.Prelude.{◌≡◌, ◌↔◌, ℕ, ◌≤◌, ◌<◌, IsTrue, Some};
+ghost use Rattle.std.specs.Prelude.{◌≡◌, ◌↔◌, ℕ, ◌≤◌, ◌<◌, ◌≢◌, List, IsTrue, Some, fold};
 ghost use Rattle.change_list.specs.Advance.{IsExact, row_at};
-ghost use Rattle.told_mail.specs.Mail.{Mail, IsNextMail};
+ghost use Rattle.told_folder.specs.declared.exchange.Exchange.{Exchange};
+ghost use Rattle.told_folder.specs.declared.message.Folder.{Folder};
+ghost use Rattle.told_folder.specs.declared.message.Message.{Message};
+ghost use Rattle.told_mail.specs.Exchanges.{tell};
+ghost use Rattle.told_mail.specs.Mail.{Mail, IsMail, IsNextMail, folder_in, message_in};
 ghost use Rattle.served_maps.specs.Past.{had_at};
 ghost use Rattle.mail_maps.specs.declared.row.EmailRow.{EmailRow};
 ghost use Rattle.mail_maps.specs.Serve.{Email, ServedMailbox, mailbox_tests, email_tests, thread_tests};
 ghost use Rattle.mail_state.specs.History.{MailHistory, IsReached, Advances, first_history};
 ghost use Rattle.mail_state.specs.Sound.{IsSound};
 ghost use Rattle.mail_state.specs.State.{IsStateOf, first_state};
+ghost use Rattle.mail_state.specs.Telling.{IsSameMessage, StaysOrIsNew};
 ghost use Rattle.mail_state.specs.Laws.{UsesOnce, KeepsCopies, HasCopyLaws, ComesBefore};
 
 /// Each history that there is is sound.
@@ -34,6 +39,24 @@ pub fn numbers_are_new()
 pub fn one_mark()
     ensures { (h : MailHistory) (i j q : ℕ) (u v : Email)
         → IsSound h → had_at h.emails i q ≡ Some u → had_at h.emails j q ≡ Some v → u.immutable.mark ≡ v.immutable.mark }
+{}
+
+/// Each message that exchanges leave stood at its place before, under its folder's validity, or its mark is new.
+pub fn messages_stay()
+    ensures { (m : Mail) (xs : List Exchange) → IsMail m → StaysOrIsNew m (fold tell m xs) }
+{}
+
+/// A mark names one message for good: its place, header, date and size stay.
+pub fn a_mark_names_one_message()
+    ensures { (m : Mail) (xs : List Exchange) (p q : ℕ × ℕ) (a b : Message) → IsMail m → message_in m.folders p.0 p.1 ≡ Some a
+        → message_in (fold tell m xs).folders q.0 q.1 ≡ Some b → b.mark ≡ a.mark → (q ≡ p) × IsSameMessage a b }
+{}
+
+/// Where a folder has another validity, none of its Emails has a number of before.
+pub fn a_new_validity_makes_new_ids()
+    ensures { (h after : MailHistory) (xs : List Exchange) (f g : Folder) (number : ℕ) (row : EmailRow)
+        → IsSound h → Advances h (fold tell h.mail xs) after → folder_in h.mail.folders row.folder ≡ Some f
+        → folder_in after.mail.folders row.folder ≡ Some g → f.validity ≢ g.validity → row_at after.numbered.rows number ≡ Some row → h.numbered.next ≤ number }
 {}
 
 /// Of two new Emails the one of the lower number comes first in the mail, by folder number and then UID.

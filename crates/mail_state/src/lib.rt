@@ -7,6 +7,7 @@ mod lists;
 mod rows;
 
 // What a step does.
+mod mailboxes;
 mod threads;
 mod touches;
 

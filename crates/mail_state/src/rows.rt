@@ -3,14 +3,15 @@ ghost use Rattle.std.specs.Prelude.{◌≡◌, ◌≤◌, ◌^◌, IfOk};
 ghost use Rattle.mail_state.specs.State.{no_rows};
 ghost use Rattle.mail_state.specs.reading.Noting.{StepsRows};
 
+use crate::mailboxes::follow_mailboxes;
 use crate::threads::follow_threads;
 use crate::touches::StepTouches;
-use mail_maps::{MailboxRow, Thread, mailboxes_of};
+use mail_maps::{MailboxRow, Thread};
 use mail_rows::Emails;
-use served_maps::steps::steps_between;
 use std::alloc::{AllocError, Global};
 use std::collections::BTreeMap;
 use std::marker::Model;
+use told_folder::Folder;
 use told_mail::Mirror;
 
 /// The rows of the three types, by number.
@@ -22,18 +23,21 @@ pub struct TypeRows {
     pub mailboxes: BTreeMap<u64, MailboxRow>,
     /// Each Thread, with the numbers of its Emails.
     pub threads: BTreeMap<u64, Thread>,
+    /// The folders that the Mailboxes were made of, without what no Mailbox shows of them.
+    pub folders: Vec<Folder>,
 }
 
 impl Model for TypeRows {
     ghost use Rattle.std.specs.Prelude.{◌≡◌};
     ghost use Rattle.mail_maps.specs.Threads.{threads_of};
     ghost use Rattle.mail_state.specs.State.{ServedRows};
+    ghost use Rattle.mail_state.specs.reading.Boxes.{boxes_by};
 
     ghost Value = { ServedRows };
 
     ghost view = { λ a. record { numbered = a.emails; mailboxes = a.mailboxes.entries; threads = a.threads.entries } };
 
-    ghost invariant = { λ a. a.threads.entries ≡ threads_of a.emails.rows };
+    ghost invariant = { λ a. (a.threads.entries ≡ threads_of a.emails.rows) × (a.mailboxes.entries ≡ boxes_by a.folders.items a.emails.rows) };
 }
 
 impl TypeRows {
@@ -45,11 +49,12 @@ impl TypeRows {
             emails: Emails::new(alloc),
             mailboxes: BTreeMap::new(alloc),
             threads: BTreeMap::new(alloc),
+            folders: Vec::new(alloc),
         }
     }
 
-    /// The rows of other mail, with the touches that lead to them. A header is read where its message is new, and Threads are
-    /// gathered where an Email comes or goes.
+    /// The rows of other mail, with the touches that lead to them. A header is read where its message is new, a Thread is
+    /// gathered where an Email comes into it or leaves it, and Mailboxes are made where an Email or a folder is another.
     pub fn follow(
         self,
         alloc: Global,
@@ -63,11 +68,18 @@ impl TypeRows {
             emails: old_emails,
             mailboxes: old_mailboxes,
             threads: old_threads,
+            folders: old_folders,
         } = self;
         old_emails.are_in_order();
         let (emails, email) = old_emails.follow(alloc, mirror)?;
-        let mailboxes = mailboxes_of(alloc, mirror.folders(), emails.rows())?;
-        let mailbox = steps_between(alloc, &old_mailboxes, &mailboxes)?;
+        let (mailboxes, mailbox, folders) = follow_mailboxes(
+            alloc,
+            old_folders,
+            old_mailboxes,
+            mirror,
+            emails.rows(),
+            email.as_slice(),
+        )?;
         let (threads, thread) = follow_threads(
             alloc,
             old_threads,
@@ -78,6 +90,7 @@ impl TypeRows {
             emails,
             mailboxes,
             threads,
+            folders,
         };
         let touches = StepTouches {
             mailbox,

@@ -9,7 +9,7 @@ ghost use Rattle.mail_rows.specs.LookUps.{IsOfMark, NoneHasMark};
 ghost use Rattle.told_mail.specs.Mail.{IsNextMail};
 ghost use Rattle.mail_state.specs.History.{MailHistory};
 ghost use Rattle.mail_state.specs.State.{IsStateOf, first_state};
-ghost use Rattle.mail_state.specs.Following.{FollowsMail, RefusesSpent, StepsTo};
+ghost use Rattle.mail_state.specs.Following.{FollowsMail, IfSpent, RefusesSpent, SpendsPlace, StepsTo};
 ghost use Rattle.mail_state.specs.LookUps.{IsLast, numbers_in, touches_kept};
 
 use crate::lists::TypeLists;
@@ -84,6 +84,7 @@ impl MailState {
         ensures steps { IfOk result (λ r. StepsTo self mirror.now.mail r.0) }
         ensures follows { IfOk result (λ r. (h : MailHistory) → IsStateOf h self → IsNextMail h.mail mirror.now.mail → FollowsMail h mirror.now.mail r.0 r.1) }
         ensures spent { RefusesSpent self mirror.now.mail result }
+        ensures spends { (h : MailHistory) → IsStateOf h self → IsNextMail h.mail mirror.now.mail → IfSpent result (SpendsPlace h mirror.now.mail) }
     {
         let MailState {
             alloc,

@@ -1,2 +1,3 @@
 pub mod Past
+pub mod Among
 pub mod reading

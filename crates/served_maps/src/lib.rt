@@ -2,6 +2,7 @@
 #![tactic(auto)]
 
 // Rows, and the touches from one map to the next.
+pub mod among;
 mod row;
 pub mod steps;
 

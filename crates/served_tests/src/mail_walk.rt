@@ -2,7 +2,7 @@
 use crate::beside_plain::{KINDS, expect_rows, served_rows};
 use crate::followed_steps::{first, follow, places};
 use crate::plain_mail::{PlainMail, Row};
-use crate::random_mail::RandomMail;
+use crate::random_mail::{Drawn, RandomMail};
 use mail_state::{MailState, MailType};
 use std::alloc::Global;
 use std::process::Abort;
@@ -113,6 +113,17 @@ fn step(
     state
 }
 
+/// Whether each kind of change came, and the frequent ones often.
+fn is_varied(drawn: Drawn) -> bool {
+    500 < drawn.delivered
+        && 300 < drawn.flagged
+        && 200 < drawn.moved
+        && 300 < drawn.gone
+        && 20 < drawn.named
+        && 5 < drawn.cut
+        && 20 < drawn.renewed
+}
+
 /// Three thousand steps. A copy of each type is kept at every fifth, and all of the last hundred are brought up to date.
 #[test]
 fn the_state_follows_mail(rt: HostRuntime) {
@@ -137,4 +148,5 @@ fn the_state_follows_mail(rt: HostRuntime) {
     let (mailboxes, emails, threads) = places(&state);
     assert!(rt; 1000 < mailboxes && 1500 < emails && 1000 < threads);
     assert!(rt; 500 < plain.next);
+    assert!(rt; is_varied(mail.drawn), "{:?}", mail.drawn);
 }

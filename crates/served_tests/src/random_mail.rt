@@ -11,6 +11,18 @@ use told_mail::{Message, Mirror};
 /// From this many messages on, one goes where else one would come.
 const MANY: usize = 60;
 
+/// How often each kind of change came.
+#[derive(Clone, Copy, Debug, PartialEq, Eq)]
+pub struct Drawn {
+    pub delivered: u32,
+    pub flagged: u32,
+    pub moved: u32,
+    pub gone: u32,
+    pub named: u32,
+    pub cut: u32,
+    pub renewed: u32,
+}
+
 /// A mirror with what chooses its next change.
 #[derive(Drop)]
 pub struct RandomMail {
@@ -20,6 +32,7 @@ pub struct RandomMail {
     seed: u64,
     /// How many steps there were: what is made in a step has this number.
     steps: u32,
+    pub drawn: Drawn,
 }
 
 /// Where a message is, with the name of its folder.
@@ -71,6 +84,10 @@ fn told_again(rt: &impl Abort, alloc: Global, messages: &[Message]) -> Vec<Respo
     all
 }
 
+fn one_more(count: u32) -> u32 {
+    count.saturating_add(1)
+}
+
 impl RandomMail {
     /// No mail, and what chooses each change.
     pub fn new(alloc: Global, seed: u64) -> RandomMail {
@@ -79,6 +96,15 @@ impl RandomMail {
             alloc,
             seed,
             steps: 0,
+            drawn: Drawn {
+                delivered: 0,
+                flagged: 0,
+                moved: 0,
+                gone: 0,
+                named: 0,
+                cut: 0,
+                renewed: 0,
+            },
         }
     }
 
@@ -124,6 +150,7 @@ impl RandomMail {
         let message = whole(rt, self.alloc, self.steps, flags, date, header.as_bytes());
         let name = folder.as_slice();
         tell_one(rt, self.alloc, &mut self.mirror, fetch_new(), name, message);
+        self.drawn.delivered = one_more(self.drawn.delivered);
     }
 
     /// A folder has another validity: the same messages are new ones.
@@ -140,6 +167,7 @@ impl RandomMail {
             name,
             messages,
         );
+        self.drawn.renewed = one_more(self.drawn.renewed);
     }
 
     /// The folder of a number, which may be new, gets a name, where no other has it.
@@ -147,6 +175,7 @@ impl RandomMail {
         let name = folder_name(rt, self.alloc, self.random());
         if self.mirror.named(name.as_bytes()).is_none() {
             name_folder(rt, self.alloc, &mut self.mirror, number, name.as_bytes());
+            self.drawn.named = one_more(self.drawn.named);
         }
     }
 
@@ -161,6 +190,7 @@ impl RandomMail {
             5 => {
                 let (number, _) = self.some_folder(rt);
                 self.mirror.cut_folder(number);
+                self.drawn.cut = one_more(self.drawn.cut);
             }
             _ => self.renew(rt),
         }
@@ -177,13 +207,18 @@ impl RandomMail {
                 let flags = flags(self.random());
                 let message = whole(rt, self.alloc, place.uid, flags, 0, b"");
                 tell_one(rt, self.alloc, &mut self.mirror, fetch_new(), name, message);
+                self.drawn.flagged = one_more(self.drawn.flagged);
             }
             45..=59 => {
                 let (number, _) = self.some_folder(rt);
                 let uid = self.steps;
                 move_message(rt, self.alloc, &mut self.mirror, place.mark, number, uid);
+                self.drawn.moved = one_more(self.drawn.moved);
             }
-            _ => tell_gone(rt, self.alloc, &mut self.mirror, name, place.uid),
+            _ => {
+                tell_gone(rt, self.alloc, &mut self.mirror, name, place.uid);
+                self.drawn.gone = one_more(self.drawn.gone);
+            }
         }
     }
 

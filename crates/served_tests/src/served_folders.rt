@@ -118,6 +118,62 @@ pub(crate) const COUNTS_AND_MORE: [Step; 5] = [
     ),
 ];
 
+/// Names of which one is another's with delimiters alone between, or far longer than any other.
+const LONG: &[u8] = b"A////////////////////////////////////////////////////////////B";
+
+/// Mailboxes stay where nothing of theirs changed, and follow what changes after that. The parent is the folder of the longest
+/// front that is a folder's name.
+pub(crate) const KEPT: [Step; 6] = [
+    (
+        &[
+            Told::Folders(&[
+                (b"INBOX", SLASH, &[b"\\subscribed"]),
+                A,
+                (b"A/", SLASH, &[]),
+                (b"A/b/c", SLASH, &[]),
+                (LONG, SLASH, &[]),
+                (b"/x", SLASH, &[]),
+                (b"", SLASH, &[]),
+            ]),
+            Told::Mail(b"INBOX", (1, &[], 10, PLAIN)),
+            Told::Mail(b"INBOX", (2, &[b"\\deleted"], 20, PLAIN)),
+        ],
+        b" m+1 m+2 m+3 m+4 m+5 m+6 m+7 e+1 t+1",
+        b" e1 m1/1 t1; m1 INBOX: Inbox 1/1 1/1; m2 : 0/0 0/0; m3 m2/x: 0/0 0/0; m4 A: 0/0 0/0; m5 A/: 0/0 0/0; m6 m5///////////////////////////////////////////////////////////B: 0/0 0/0; m7 m4/b/c: 0/0 0/0; t1 e1;",
+    ),
+    (
+        &[
+            Told::Validity(b"A", 7),
+            Told::Mail(b"INBOX", (2, &[b"\\deleted", b"\\seen"], 0, b"")),
+        ],
+        b"",
+        b" e1 m1/1 t1; m1 INBOX: Inbox 1/1 1/1; m2 : 0/0 0/0; m3 m2/x: 0/0 0/0; m4 A: 0/0 0/0; m5 A/: 0/0 0/0; m6 m5///////////////////////////////////////////////////////////B: 0/0 0/0; m7 m4/b/c: 0/0 0/0; t1 e1;",
+    ),
+    (
+        &[Told::Folders(&[INBOX, A, (b"A/b/c", Some(b'.'), &[]), (b"", SLASH, &[])])],
+        b" m-3 m-5 m-6 m~1 m~7",
+        b" e1 m1/1 t1; m1 INBOX: Inbox 1/1 1/1; m2 : 0/0 0/0; m4 A: 0/0 0/0; m7 A/b/c: 0/0 0/0; t1 e1;",
+    ),
+    (
+        &[Told::Folders(&[(b"", SLASH, &[]), (b"A/b/c", Some(b'.'), &[]), A, INBOX])],
+        b"",
+        b" e1 m1/1 t1; m1 INBOX: Inbox 1/1 1/1; m2 : 0/0 0/0; m4 A: 0/0 0/0; m7 A/b/c: 0/0 0/0; t1 e1;",
+    ),
+    (
+        &[Told::Renamed(4, b"A/b")],
+        b" m~4",
+        b" e1 m1/1 t1; m1 INBOX: Inbox 1/1 1/1; m2 : 0/0 0/0; m4 A/b: 0/0 0/0; m7 A/b/c: 0/0 0/0; t1 e1;",
+    ),
+    (
+        &[
+            Told::Folders(&[(b"A/b", SLASH, &[]), (b"A/b/c", SLASH, &[]), INBOX]),
+            Told::Mail(b"INBOX", (1, &[b"\\seen"], 0, b"")),
+        ],
+        b" m-2 m#1 m~7 e~1",
+        b" e1 m1/1 t1 $seen; m1 INBOX: Inbox 1/0 1/0; m4 A/b: 0/0 0/0; m7 m4/c: 0/0 0/0; t1 e1;",
+    ),
+];
+
 /// The rights where a folder can be selected, can have children, and can be renamed and deleted, or can't.
 fn rights(selectable: bool, parent: bool, own: bool) -> Rights {
     Rights {

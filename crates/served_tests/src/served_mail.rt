@@ -1,6 +1,6 @@
 //! What is served as mail comes, changes, moves and goes.
 use crate::followed_steps::{Step, expect_steps};
-use crate::served_folders::{COUNTS_AND_MORE, NAMES, ROLES};
+use crate::served_folders::{COUNTS_AND_MORE, KEPT, NAMES, ROLES};
 use crate::told::{INBOX, Line, Told};
 
 const ARCHIVE: Line = (b"Archive", Some(b'/'), &[b"\\archive"]);
@@ -335,7 +335,7 @@ const BY_DATE: [Step; 2] = [
     ),
 ];
 
-const SCRIPTS: [&[Step]; 13] = [
+const SCRIPTS: [&[Step]; 14] = [
     &FLAGS,
     &UNREAD_ELSEWHERE,
     &TO_BE_DELETED,
@@ -347,6 +347,7 @@ const SCRIPTS: [&[Step]; 13] = [
     &SUBJECTS,
     &BY_DATE,
     &COUNTS_AND_MORE,
+    &KEPT,
     &NAMES,
     &ROLES,
 ];

@@ -50,8 +50,7 @@ fn tree(rt: &impl Abort, alloc: Global, mirror: &mut Mirror, depth: usize) {
 fn is_chain(state: &MailState, depth: u64) -> bool {
     (1..depth.saturating_add(1)).all(|number| match state.mailbox(number) {
         Some(row) => {
-            row.name.as_str() == "a"
-                && row.parent.unwrap_or(0) == number.saturating_sub(1)
+            row.name.as_str() == "a" && row.parent.unwrap_or(0) == number.saturating_sub(1)
         }
         None => false,
     })

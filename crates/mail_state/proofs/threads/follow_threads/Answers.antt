@@ -1,9 +1,13 @@
-use Rattle.std.proofs.Common.{sym, ◌∙◌}
-use Rattle.mail_state.proofs.KeptThreads.{no_thread_touches}
+use Rattle.mail_state.proofs.TouchedThreads.{steps_threads, threads_stay}
 use Rattle.mail_state.proofs.threads.follow_threads.Goals as goal
 
-pub returns-then-are_changes : goal.returns-then-are_changes
-returns-then-are_changes c = λ stay. record {
-  threads = sym (stay (sym c.are_changes.ensures ∙ c.if-are_changes.true));
-  touches = c.new.ensures.items ∙ sym (no_thread_touches c.args.old.entries c.len-count.ensures.ordered);
-}
+pub returns-then-is_empty : goal.returns-then-is_empty
+returns-then-is_empty c = λ stay.
+    threads_stay c.args.old.entries c.args.emails.now.entries c.args.touches.now _ c.in_ok-among.among c.in_ok-among.ensures (c.is_empty.ensures.0 c.if-is_empty.true)
+    c.len-before.ensures.ordered c.new.ensures.items stay
+
+pub returns : goal.returns
+returns c = λ stay.
+    steps_threads c.args.old.entries c.in_ok-fresh.fresh.entries c.in_ok-threads.threads.entries c.args.emails.now.entries c.args.touches.now c.in_ok-steps.steps.items
+    c.in_ok-among.among
+    c.in_ok-among.ensures c.in_ok-fresh.ensures c.in_ok-threads.ensures c.in_ok-steps.ensures c.len-count.ensures.ordered stay

@@ -1,0 +1,10 @@
+use Rattle.told_folder.proofs.KeyedLemmas.{get_or-defaults}
+use Rattle.mail_state.specs.reading.ThreadSteps.{adds_to}
+use Rattle.mail_state.proofs.TouchedThreads.{noted_more}
+use Rattle.mail_state.proofs.threads.additions.Goals as goal
+
+pub loop-touch-preserved : goal.loop-touch-preserved
+loop-touch-preserved c =
+    λ t. noted_more (adds_to c.args.emails.now.entries t) c.args.touches.now c.loop-touch.touch-index _ _ _ _ c.loop-touch-test.true (get_or-defaults _ _ _ c.loop-touch-test.true)
+    (c.in_ok-note_addition.ensures t)
+    (c.loop-touch.invariant t)
