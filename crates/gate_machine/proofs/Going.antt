@@ -3,10 +3,13 @@ use Rattle.std.proofs.Common.{◌≡◌, ◌||◌, ◌++◌, ◌∷◌, ℕ, Boo
 use Rattle.std.proofs.lemmas.List.{append-nil}
 use Rattle.std.specs.List.{list_any}
 use Rattle.gate_world.specs.declared.event.Event.{Event}
+use Rattle.change_list.specs.Advance.{Tests, advance}
 use Rattle.change_list.specs.History.{Touch}
 use Rattle.told_mail.specs.Told.{Told}
-use Rattle.served_maps.specs.Past.{Past}
-use Rattle.mail_state.specs.History.{MailHistory}
+use Rattle.served_maps.specs.Past.{Past, gone_on}
+use Rattle.mail_maps.specs.Rows.{Rows}
+use Rattle.mail_maps.specs.Serve.{mailbox_tests, email_tests, thread_tests}
+use Rattle.mail_state.specs.History.{MailHistory, served_mailboxes, served_emails, served_threads}
 use Rattle.imap_exchange.specs.declared.link_end.LinkEnd.{LinkEnd}
 use Rattle.imap_exchange.specs.declared.link_end.LinkEnd.TheVariants as end
 use Rattle.gate_machine.specs.History.{KnownMail}
@@ -17,12 +20,15 @@ use Rattle.gate_machine.specs.Going.{HasGoneOn, Still, On, Extends, KeepsTouches
 
 -- ---- events that draw no epoch
 
+true_is_not : true ≡ false → ⊥
+true_is_not is = cc
+
 or_left : (a b : Bool) → (a || b) ≡ false → a ≡ false
 or_left true b is = is
 or_left false b is = refl
 
 or_right : (a b : Bool) → (a || b) ≡ false → b ≡ false
-or_right true b is = absurd (cc is)
+or_right true b is = absurd (true_is_not is)
 or_right false b is = is
 
 or_both : (a b : Bool) → a ≡ false → b ≡ false → (a || b) ≡ false
@@ -107,7 +113,7 @@ goes_hearing m k told is =
 
 goes_readied : {before : MachineState} {events : List Event} {after : Progress} → Readies before events after → list_any is_epoch events ≡ false → GoesOn before after.machine
 goes_readied (Ready k known none is) drawn = goes_still (ap (λ (p : Progress). p.machine) is)
-goes_readied (Restart epoch none word is) drawn = absurd (cc (ap (λ (es : List Event). list_any is_epoch es) (sym word) ∙ drawn))
+goes_readied (Restart epoch none word is) drawn = absurd (true_is_not (ap (λ (es : List Event). list_any is_epoch es) (sym word) ∙ drawn))
 goes_readied (LacksRoom epoch none word is) drawn = goes_nowhere (ap (λ (p : Progress). p.machine.known) is)
 
 -- what is left by an end
@@ -133,9 +139,9 @@ goes_settled (Spends new spent none is) = goes_nowhere (ap (λ (p : Progress). p
 goes_settled (Lacks stands none is) = goes_nowhere (ap (λ (p : Progress). p.machine.known) is)
 
 goes_asking : {before after : Progress} {events : List Event} → AsksThen before events after → GoesOn before.machine after.machine
-goes_asking a =
-    let first = elim a.asks [ inl skips ↦ goes_still (ap (λ (p : Progress). p.machine) skips.2) | inr asks ↦ goes_asked asks ] in
-    let last = elim a.settles [ inl skips ↦ goes_still (ap (λ (p : Progress). p.machine) skips.2) | inr settles ↦ goes_settled settles ] in
+goes_asking {before} {after} a =
+    let first : GoesOn before.machine a.told.machine = elim a.asks [ inl skips ↦ goes_still (ap (λ (p : Progress). p.machine) skips.2) | inr asks ↦ goes_asked asks ] in
+    let last : GoesOn a.told.machine after.machine = elim a.settles [ inl skips ↦ goes_still (ap (λ (p : Progress). p.machine) skips.2) | inr settles ↦ goes_settled settles ] in
     goes_both first last
 
 goes_dialed : {user password : List ℕ} {before after : Progress} {events : List Event} → Dials user password before events after → GoesOn before.machine after.machine
@@ -146,8 +152,12 @@ goes_dialed {before = before} {after = after} dials =
 pub goes_on_way : (user password : List ℕ) (before : MachineState) (events : List Event) (after : Progress) → PreparesMail user password before events after
     → KeepsHistory before events after.machine
 goes_on_way user password before events after p drawn =
-    let ready = goes_readied p.readies (first_draw_none p.readying (p.connecting ++ p.asking) (ap (λ (es : List Event). list_any is_epoch es) (sym p.whole) ∙ drawn)) in
-    let connected = elim p.dials [ inl skips ↦ goes_still (ap (λ (q : Progress). q.machine) skips.2) | inr dials ↦ goes_dialed dials ] in
+    let none : list_any is_epoch (p.readying ++ (p.connecting ++ p.asking)) ≡ false = ap (λ (es : List Event). list_any is_epoch es) (sym p.whole) ∙ drawn in
+    let ready : GoesOn before p.ready.machine = goes_readied p.readies (first_draw_none p.readying (p.connecting ++ p.asking) none) in
+    let connected : GoesOn p.ready.machine p.connected.machine = elim p.dials [
+      | inl skips ↦ goes_still (ap (λ (q : Progress). q.machine) skips.2)
+      | inr dials ↦ goes_dialed dials
+    ] in
     goes_both ready (goes_both connected (goes_asking p.asks))
 
 -- ---- what stays
@@ -155,17 +165,24 @@ goes_on_way user password before events after p drawn =
 extends_none : {V : Type 0} (p : Past V) → Extends p p
 extends_none p = ([], sym (append-nil p.touches))
 
-extends_more : {V : Type 0} {p q r : Past V} {more : List (Touch V)} → Extends p q → r.touches ≡ q.touches ++ more → Extends p r
-extends_more {V} {p} {more = more} first is = (first.0 ++ more, is ∙ ap (λ (l : List (Touch V)). l ++ more) first.1 ∙ append_assoc p.touches first.0 more)
+extends_on : {V : Type 0} (tests : Tests V) (p q r : Past V) (new : List (ℕ × V)) → Extends p q → r ≡ gone_on tests q new → Extends p r
+extends_on {V} tests p q r new first is =
+    let more : List (Touch V) = advance tests q.now new in (
+      first.0 ++ more,
+      ap (λ (x : Past V). x.touches) is ∙ ap (λ (l : List (Touch V)). l ++ more) first.1 ∙ append_assoc p.touches first.0 more,
+    )
 
 -- the touches of a history stay as it goes on
 pub keeps_touches : {h after : MailHistory} → HasGoneOn h after → KeepsTouches h after
 keeps_touches {h} Still = record { epoch = refl; mailboxes = extends_none h.mailboxes; emails = extends_none h.emails; threads = extends_none h.threads }
-keeps_touches (On m gone next advances) =
-    let kept = keeps_touches gone in
+keeps_touches {h} {after} (On {mid = mid} m gone next advances) =
+    let kept : KeepsTouches h mid = keeps_touches gone in
+    let rows : Rows = after.numbered.rows in
     record {
-      epoch = ap (λ (h : MailHistory). h.epoch) advances.after_is ∙ kept.epoch;
-      mailboxes = extends_more kept.mailboxes (ap (λ (h : MailHistory). h.mailboxes.touches) advances.after_is);
-      emails = extends_more kept.emails (ap (λ (h : MailHistory). h.emails.touches) advances.after_is);
-      threads = extends_more kept.threads (ap (λ (h : MailHistory). h.threads.touches) advances.after_is);
+      epoch = ap (λ (x : MailHistory). x.epoch) advances.after_is ∙ kept.epoch;
+      mailboxes = extends_on mailbox_tests h.mailboxes mid.mailboxes after.mailboxes (served_mailboxes m rows) kept.mailboxes
+          (ap (λ (x : MailHistory). x.mailboxes) advances.after_is);
+      emails = extends_on email_tests h.emails mid.emails after.emails (served_emails rows) kept.emails (ap (λ (x : MailHistory). x.emails) advances.after_is);
+      threads = extends_on thread_tests h.threads mid.threads after.threads (served_threads rows) kept.threads
+          (ap (λ (x : MailHistory). x.threads) advances.after_is);
     }

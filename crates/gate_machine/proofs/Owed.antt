@@ -157,8 +157,8 @@ rounds_end law a obeyed room stands none =
 
 -- ---- the whole way
 
-by_dial : {user password : List ℕ} {before : MachineState} {events : List Event} {after : Progress} → Law → (b : PreparesMail user password before events after) → IsObeyedBeginning b
-    → (dials : Dials user password b.ready b.connecting b.connected) → EndsWell dials.result → after.blamed ≡ no_faults
+by_dial : {user password : List ℕ} {before : MachineState} {events : List Event} {after : Progress} → Law → (b : PreparesMail user password before events after)
+    → IsObeyedBeginning b → (dials : Dials user password b.ready b.connecting b.connected) → EndsWell dials.result → after.blamed ≡ no_faults
     → IsServed after ⊎ (after.standing ≡ OutOfMemory)
 by_dial law b obeyed dials (inl ok) none = rounds_end law b.asks obeyed.round obeyed.room (ap (λ (p : Progress). p.standing) dials.after_is ∙ ap standing_by ok) none
 by_dial {after = after} law b obeyed dials (inr (inl lost)) none =

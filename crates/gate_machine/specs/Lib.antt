@@ -1,4 +1,5 @@
--- Each module after those that it uses: Beginning has a request's whole way to the mail, Obeying the octets by which the store obeys it, Going what becomes of what is known.
+-- Each module after those that it uses: Beginning has a request's whole way to the mail, Obeying the octets by which the store obeys it, Going what stays
+-- of a history.
 pub mod History
 pub mod Machine
 pub mod Kept

@@ -167,7 +167,7 @@ answers_request door user base told kept request responses (Ok r) calls_are show
 answers_request door user base told kept request responses (Err e) calls_are shown_is answered text_is = tt
 
 -- what a gate holds once it was worked for what is asked, and an upload may have been kept
-came_to : Progress → Gate → GateState
+abbrev came_to : Progress → Gate → GateState
 came_to done gate = record { machine = done.machine; uploads = gate.uploads }
 
 holds_after : (done : Progress) (kept : Machine) (gate : Gate) → HoldsMachine done.machine kept → gate.machine ≡ kept → GateHolds (came_to done gate) gate

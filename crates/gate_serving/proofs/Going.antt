@@ -54,5 +54,5 @@ segment_on law (Replied a) drawn =
 pub run_on : Law → {door : Door} {account : Account} {before after : GateState} {events : List Event} {went : List Served} → Run door account before events went after
     → KeepsHistory before.machine events after.machine
 run_on law Begun drawn = goes_still refl
-run_on law (Then next run) drawn =
-    goes_both (run_on law run (first_draw_none _ next.events drawn)) (segment_on law next.segment (last_draw_none _ next.events drawn))
+run_on law (Then {events = events} next run) drawn =
+    goes_both (run_on law run (first_draw_none events next.events drawn)) (segment_on law next.segment (last_draw_none events next.events drawn))

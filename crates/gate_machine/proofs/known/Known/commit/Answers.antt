@@ -4,7 +4,11 @@ use Rattle.gate_machine.proofs.Keeping.{commits_other, is_other, is_same}
 use Rattle.gate_machine.proofs.known.Known.commit.Goals as goal
 
 pub returns-clause-ok : goal.returns-clause-ok
-returns-clause-ok c = λ k kept. (k, inl (is_same k c.args.self kept (c.is_same.ensures.0 c.if-not-is_same.false), refl), record { state = kept.state; served = kept.served; told = kept.told; next = kept.next })
+returns-clause-ok c = λ k kept. (
+  k,
+  inl (is_same k c.args.self kept (c.is_same.ensures.0 c.if-not-is_same.false), refl),
+  record { state = kept.state; served = kept.served; told = kept.told; next = kept.next },
+)
 
 pub returns-then-not-is_same-clause-ok : goal.returns-then-not-is_same-clause-ok
 returns-then-not-is_same-clause-ok c = commits_other c.args.self c.serve_told.result (λ same. c.if-not-is_same.true (c.is_same.ensures.1 same)) c.serve_told.ensures.ok
