@@ -16,7 +16,7 @@ use Rattle.gate_machine.specs.History.{KnownMail}
 use Rattle.gate_machine.specs.Machine.{MachineState, hearing, forgotten}
 use Rattle.gate_machine.specs.Progress.{Progress, machine_by}
 use Rattle.gate_machine.specs.Beginning.{Readies, Ready, Restart, LacksRoom, RunsRound, Settles, Same, Moves, Spends, Lacks, AsksThen, Dials, PreparesMail}
-use Rattle.gate_machine.specs.Going.{HasGoneOn, Still, On, Extends, KeepsTouches, GoesOn, KeepsHistory, is_epoch}
+use Rattle.gate_machine.specs.Going.{HasGoneOn, Still, On, Extends, KeepsTouches, MachineGoesOn, KeepsHistory, is_epoch}
 
 -- ---- events that draw no epoch
 
@@ -65,7 +65,7 @@ known_there None some = absurd (some refl)
 known_there (Some k) some = (k, refl)
 
 -- what goes on up to a moment and after it goes on
-pub goes_both : {a b c : MachineState} → GoesOn a b → GoesOn b c → GoesOn a c
+pub goes_both : {a b c : MachineState} → MachineGoesOn a b → MachineGoesOn b c → MachineGoesOn a c
 goes_both {b = b} one two =
     record {
       unready = λ none. two.unready (one.unready none);
@@ -75,7 +75,7 @@ goes_both {b = b} one two =
     }
 
 -- a machine that stays goes on
-pub goes_still : {a b : MachineState} → b ≡ a → GoesOn a b
+pub goes_still : {a b : MachineState} → b ≡ a → MachineGoesOn a b
 goes_still {a} {b} is =
     record {
       unready = λ none. ap (λ (m : MachineState). m.known) is ∙ none;
@@ -84,12 +84,12 @@ goes_still {a} {b} is =
     }
 
 -- a machine that is forgotten has no history
-pub goes_nowhere : {a b : MachineState} → b.known ≡ None → GoesOn a b
+pub goes_nowhere : {a b : MachineState} → b.known ≡ None → MachineGoesOn a b
 goes_nowhere none = record { unready = λ is. none; history = λ j k first last. absurd (none_known k (sym last ∙ none)) }
 
 -- ---- the way to the mail
 
-goes_by : (result : Result (Unit {0}) LinkEnd) (a b : MachineState) → GoesOn a b → GoesOn a (machine_by result b)
+goes_by : (result : Result (Unit {0}) LinkEnd) (a b : MachineState) → MachineGoesOn a b → MachineGoesOn a (machine_by result b)
 goes_by (Ok u) a b goes = goes
 goes_by (Err end.Lost) a b goes = goes
 goes_by (Err (end.Bad at)) a b goes = goes
@@ -102,7 +102,7 @@ goes_by (Err end.Lacks) a b goes = goes
 goes_by (Err end.Memory) a b goes = goes_nowhere refl
 
 -- what is told is no history yet
-goes_hearing : (m : MachineState) (k : KnownMail) (told : Told) → m.known ≡ Some k → GoesOn m (hearing m k told)
+goes_hearing : (m : MachineState) (k : KnownMail) (told : Told) → m.known ≡ Some k → MachineGoesOn m (hearing m k told)
 goes_hearing m k told is =
     record {
       unready = λ none. absurd (none_known k (sym is ∙ none));
@@ -111,21 +111,21 @@ goes_hearing m k told is =
           (subst (λ (l : KnownMail). HasGoneOn l.history k.history) (one_known k i (sym is ∙ first)) Still);
     }
 
-goes_readied : {before : MachineState} {events : List Event} {after : Progress} → Readies before events after → list_any is_epoch events ≡ false → GoesOn before after.machine
+goes_readied : {before : MachineState} {events : List Event} {after : Progress} → Readies before events after → list_any is_epoch events ≡ false → MachineGoesOn before after.machine
 goes_readied (Ready k known none is) drawn = goes_still (ap (λ (p : Progress). p.machine) is)
 goes_readied (Restart epoch none word is) drawn = absurd (true_is_not (ap (λ (es : List Event). list_any is_epoch es) (sym word) ∙ drawn))
 goes_readied (LacksRoom epoch none word is) drawn = goes_nowhere (ap (λ (p : Progress). p.machine.known) is)
 
 -- what is left by an end
-goes_to : (a : MachineState) (p q : Progress) → q ≡ p → GoesOn a p.machine → GoesOn a q.machine
-goes_to a p q is goes = subst (λ (x : Progress). GoesOn a x.machine) (sym is) goes
+goes_to : (a : MachineState) (p q : Progress) → q ≡ p → MachineGoesOn a p.machine → MachineGoesOn a q.machine
+goes_to a p q is goes = subst (λ (x : Progress). MachineGoesOn a x.machine) (sym is) goes
 
-goes_asked : {before after : Progress} {events : List Event} → RunsRound before events after → GoesOn before.machine after.machine
+goes_asked : {before after : Progress} {events : List Event} → RunsRound before events after → MachineGoesOn before.machine after.machine
 goes_asked {before} {after} asks =
     goes_to before.machine _ after asks.after_is
     (goes_by asks.result before.machine (hearing before.machine asks.known asks.told) (goes_hearing before.machine asks.known asks.told asks.ready))
 
-goes_settled : {before after : Progress} {events : List Event} → Settles before events after → GoesOn before.machine after.machine
+goes_settled : {before after : Progress} {events : List Event} → Settles before events after → MachineGoesOn before.machine after.machine
 goes_settled (Same k stands known same none is) = goes_still (ap (λ (p : Progress). p.machine) is)
 goes_settled {before} {after} (Moves new next goes room none is) =
     record {
@@ -138,13 +138,13 @@ goes_settled {before} {after} (Moves new next goes room none is) =
 goes_settled (Spends new spent none is) = goes_nowhere (ap (λ (p : Progress). p.machine.known) is)
 goes_settled (Lacks stands none is) = goes_nowhere (ap (λ (p : Progress). p.machine.known) is)
 
-goes_asking : {before after : Progress} {events : List Event} → AsksThen before events after → GoesOn before.machine after.machine
+goes_asking : {before after : Progress} {events : List Event} → AsksThen before events after → MachineGoesOn before.machine after.machine
 goes_asking {before} {after} a =
-    let first : GoesOn before.machine a.told.machine = elim a.asks [ inl skips ↦ goes_still (ap (λ (p : Progress). p.machine) skips.2) | inr asks ↦ goes_asked asks ] in
-    let last : GoesOn a.told.machine after.machine = elim a.settles [ inl skips ↦ goes_still (ap (λ (p : Progress). p.machine) skips.2) | inr settles ↦ goes_settled settles ] in
+    let first : MachineGoesOn before.machine a.told.machine = elim a.asks [ inl skips ↦ goes_still (ap (λ (p : Progress). p.machine) skips.2) | inr asks ↦ goes_asked asks ] in
+    let last : MachineGoesOn a.told.machine after.machine = elim a.settles [ inl skips ↦ goes_still (ap (λ (p : Progress). p.machine) skips.2) | inr settles ↦ goes_settled settles ] in
     goes_both first last
 
-goes_dialed : {user password : List ℕ} {before after : Progress} {events : List Event} → Dials user password before events after → GoesOn before.machine after.machine
+goes_dialed : {user password : List ℕ} {before after : Progress} {events : List Event} → Dials user password before events after → MachineGoesOn before.machine after.machine
 goes_dialed {before = before} {after = after} dials =
     goes_to before.machine _ after dials.after_is (goes_by dials.result before.machine before.machine (goes_still refl))
 
@@ -153,8 +153,8 @@ pub goes_on_way : (user password : List ℕ) (before : MachineState) (events : L
     → KeepsHistory before events after.machine
 goes_on_way user password before events after p drawn =
     let none : list_any is_epoch (p.readying ++ (p.connecting ++ p.asking)) ≡ false = ap (λ (es : List Event). list_any is_epoch es) (sym p.whole) ∙ drawn in
-    let ready : GoesOn before p.ready.machine = goes_readied p.readies (first_draw_none p.readying (p.connecting ++ p.asking) none) in
-    let connected : GoesOn p.ready.machine p.connected.machine = elim p.dials [
+    let ready : MachineGoesOn before p.ready.machine = goes_readied p.readies (first_draw_none p.readying (p.connecting ++ p.asking) none) in
+    let connected : MachineGoesOn p.ready.machine p.connected.machine = elim p.dials [
       | inl skips ↦ goes_still (ap (λ (q : Progress). q.machine) skips.2)
       | inr dials ↦ goes_dialed dials
     ] in

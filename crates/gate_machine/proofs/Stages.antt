@@ -169,22 +169,22 @@ in_life None client dead alive = absurd (cc (dead, alive))
 in_life (Some life) client stands alive = (life, refl, stands)
 
 -- what may follow mail follows mail before it
-abbrev pub Joins : Type 0
-Joins = (a b c : Mail) → IsNextMail a b → IsNextMail b c → IsNextMail a c
+abbrev pub NextJoins : Type 0
+NextJoins = (a b c : Mail) → IsNextMail a b → IsNextMail b c → IsNextMail a c
 
 -- what exchanges tell can follow
-abbrev pub GoesOn : Type 0
-GoesOn = (m : Mail) (xs : List Exchange) → IsMail m → IsNextMail m (fold tell m xs)
+abbrev pub TellingGoesOn : Type 0
+TellingGoesOn = (m : Mail) (xs : List Exchange) → IsMail m → IsNextMail m (fold tell m xs)
 
 -- what completed exchanges told can follow what was served
-next_told : Joins → GoesOn → (k : KnownMail) (a : KeptMail) (told : Told) (exchanges : List Exchange) → IsKeptOf k a → told.mail ≡ fold tell k.told.mail exchanges
+next_told : NextJoins → TellingGoesOn → (k : KnownMail) (a : KeptMail) (told : Told) (exchanges : List Exchange) → IsKeptOf k a → told.mail ≡ fold tell k.told.mail exchanges
     → IsNextMail k.history.mail told.mail
 next_told joins goes_on k a told exchanges kept is =
     joins k.history.mail k.told.mail told.mail kept.next
     (subst (λ (m : Mail). IsNextMail k.told.mail m) (sym is) (goes_on k.told.mail exchanges kept.next.is_mail))
 
 -- a round in the life of a client that is alive takes the work to where the round's end leaves it
-pub asked : {client next : ClientState} {result : Result (Unit {0}) LinkEnd} {events : List Event} → Joins → GoesOn → (before : Progress) (machine after : Machine)
+pub asked : {client next : ClientState} {result : Result (Unit {0}) LinkEnd} {events : List Event} → NextJoins → TellingGoesOn → (before : Progress) (machine after : Machine)
     (how : Standing) (was then now : Faults) (a b : KeptMail)
     → CameTo machine client standing.Stands was then before → machine.known ≡ Some a → client.alive ≡ true
     → ((life : LinkLife) → Stands client life → (left : LinkLife) × (rounds : Rounds a.told.mail b.told.mail life left next result events)

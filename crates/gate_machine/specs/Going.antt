@@ -27,7 +27,7 @@ pub record KeepsTouches (h after : MailHistory) : Type 0 where
   pub threads : Extends h.threads after.threads
 
 -- A machine that wasn't ready isn't yet; and where one was ready and is, its history has gone on.
-pub record GoesOn (before after : MachineState) : Type 0 where
+pub record MachineGoesOn (before after : MachineState) : Type 0 where
   pub unready : before.known ≡ None → after.known ≡ None
   pub history : (j k : KnownMail) → before.known ≡ Some j → after.known ≡ Some k → HasGoneOn j.history k.history
 
@@ -37,4 +37,4 @@ is_epoch e = false
 
 -- by events that draw no epoch
 abbrev pub KeepsHistory : MachineState → List Event → MachineState → Type 0
-KeepsHistory before events after = list_any is_epoch events ≡ false → GoesOn before after
+KeepsHistory before events after = list_any is_epoch events ≡ false → MachineGoesOn before after

@@ -31,7 +31,7 @@ use Rattle.gate_serving.specs.GateState.{GateState, unready_state}
 use Rattle.gate_serving.specs.Requests.{Account, Asking, Calls, Problem, Session, Upload, Download, Refused, ReadsAsking, asks_for_mail}
 use Rattle.gate_serving.specs.Segment.{Replies, Answered, LacksReading, LacksAnswering, Segment, NoneComes, NotAccepted, Left, Unasked, Replied, reply_blamed, blamed, went, unsent}
 use Rattle.gate_serving.specs.Segment.{blame_front}
-use Rattle.gate_serving.specs.Run.{StepsTo}
+use Rattle.gate_serving.specs.Run.{AddsSegment}
 use Rattle.gate_serving.specs.Work.{NoMail, WithMail}
 use Rattle.gate_serving.specs.reading.Replying.{IsWorked, WorksTo, IsMade, AnswersTo, RepliesToAsking, IsUnread, RepliesBy, SendsReply, Serves}
 use Rattle.gate_serving.specs.Gates.{GateHolds, RestStays, account_by}
@@ -379,19 +379,19 @@ serves_reply door account before after was mid now xs ys None how later alone ca
 -- one client, or none
 pub steps_fault : {door : Door} {account : Account} {events : List Event} (s : GateState) (was now : Faults) → events ≡ FrontFailed ∷ [] → FrontAlone was now
     → Rose was.front now.front
-    → StepsTo door account s s was now served.AcceptFault events
+    → AddsSegment door account s s was now served.AcceptFault events
 steps_fault s was now is alone rose =
     record { segment = NotAccepted is refl refl; bears = bears_front 1 no_faults was was now (bears_none was was (later_same was was refl)) alone rose }
 
 -- no client comes
 pub steps_none : {door : Door} {account : Account} {events : List Event} (s : GateState) (was now : Faults) → events ≡ NoMore ∷ [] → FrontAlone was now
-    → StepsTo door account s s was now served.NoMore events
+    → AddsSegment door account s s was now served.NoMore events
 steps_none s was now is alone = record { segment = NoneComes is refl refl; bears = bears_none was now (later_front was now alone) }
 
 -- a client comes, and then what serving it adds
 pub steps_client : {door : Door} {account : Account} {before after : GateState} {mid now : Faults} {xs ys : List Event} (was : Faults) (how : Served) → xs ≡ Accepted ∷ []
     → FrontAlone was mid
-    → Serves door account before after mid now how ys → StepsTo door account before after was now how (xs ++ ys)
+    → Serves door account before after mid now how ys → AddsSegment door account before after was now how (xs ++ ys)
 steps_client {mid = mid} {now = now} {xs = xs} {ys = ys} was how is alone serves =
     let here = serves.of (xs ++ ys) (λ i. is i ++ ys) in
     record { segment = here.0; bears = bears_earlier (blamed here.0) was mid now (later_front was mid alone) here.1 }

@@ -5,7 +5,7 @@ use Rattle.gate_world.specs.declared.event.Event.{Event}
 use Rattle.gate_world.specs.declared.event.Event.TheVariants.{ClientDone}
 use Rattle.gate_calls.specs.Mailings.{Mailing}
 use Rattle.gate_machine.specs.Beginning.{PreparesMail}
-use Rattle.gate_machine.specs.Going.{GoesOn, KeepsHistory, is_epoch}
+use Rattle.gate_machine.specs.Going.{MachineGoesOn, KeepsHistory, is_epoch}
 use Rattle.gate_machine.specs.Machine.{MachineState}
 use Rattle.gate_machine.specs.Progress.{Progress}
 use Rattle.gate_machine.proofs.Going.{first_draw_none, last_draw_none, goes_both, goes_nowhere, goes_still}
@@ -30,13 +30,13 @@ works_on : Law → {account : Account} {before : MachineState} {asking : Asking}
     → Work account before asking events mail after → KeepsHistory before events after.machine
 works_on law (NoMail apart none mail is) drawn = goes_still (ap (λ (p : Progress). p.machine) is)
 works_on law {account} {before} (WithMail needs work) drawn =
-    subst (λ (p : Progress). GoesOn before p.machine) (sym work.after_is)
+    subst (λ (p : Progress). MachineGoesOn before p.machine) (sym work.after_is)
     (law account.user account.password before work.beginning work.begun work.prepares (first_draw_none work.beginning work.ending (drawn_by work.whole drawn)))
 
 replies_on : Law → {door : Door} {account : Account} {before after : GateState} {events : List Event} {text : List ℕ} → Replies door account before events text after
     → KeepsHistory before.machine events after.machine
 replies_on law {before = before} (Answered a) drawn =
-    subst (λ (m : MachineState). GoesOn before.machine m) (sym a.machine_is) (works_on law a.work (last_draw_none a.asked a.worked (drawn_by a.whole drawn)))
+    subst (λ (m : MachineState). MachineGoesOn before.machine m) (sym a.machine_is) (works_on law a.work (last_draw_none a.asked a.worked (drawn_by a.whole drawn)))
 replies_on law (LacksReading reads text_is is) drawn = goes_nowhere (ap (λ (s : GateState). s.machine.known) is)
 replies_on law (LacksAnswering a) drawn = goes_nowhere (ap (λ (m : MachineState). m.known) a.machine_is)
 

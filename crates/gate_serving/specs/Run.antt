@@ -64,7 +64,7 @@ pub data Ends (most : ℕ) (went : List Served) (status : ℕ) : Type 0 where
 -- ---- what calls add
 
 -- One segment; the counts bear its blames.
-pub record StepsTo (door : Door) (account : Account) (before after : GateState) (was now : Faults) (how : Served) (events : List Event) : Type 0 where
+pub record AddsSegment (door : Door) (account : Account) (before after : GateState) (was now : Faults) (how : Served) (events : List Event) : Type 0 where
   pub segment : Segment door account before events how after
   pub bears : Bears (blamed segment) was now
 

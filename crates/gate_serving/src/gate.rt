@@ -8,7 +8,7 @@ ghost use Rattle.gate_machine.specs.Machine.{MachineState};
 ghost use Rattle.gate_calls.specs.Mailings.{mail_told};
 ghost use Rattle.gate_serving.specs.GateState.{GateState, unready_state};
 ghost use Rattle.gate_serving.specs.Answers.{IsResponse, KeepsUpload, TakesMemory, no_memory_text};
-ghost use Rattle.gate_serving.specs.Run.{StepsTo, account_of};
+ghost use Rattle.gate_serving.specs.Run.{AddsSegment, account_of};
 ghost use Rattle.gate_serving.specs.declared.door.Door.TheVariants.{Bare};
 ghost use Rattle.gate_serving.specs.reading.Askings.{asking_data};
 ghost use Rattle.gate_serving.specs.Gates.{Comes, GateHolds, OpensTo, RestStays, account_by};
@@ -83,7 +83,7 @@ impl Gate {
     /// Answers one client, where one comes.
     pub fn answer_one<W: World>(&mut self, alloc: Global, world: &mut W) -> Served
         ensures run { Adds (W.tape world.old) (W.tape world.new)
-            (Comes self.old self.new (λ s t. StepsTo self.old.door (account_by self.old (W.hidden world.old)) s t (W.faults world.old) (W.faults world.new) result)) }
+            (Comes self.old self.new (λ s t. AddsSegment self.old.door (account_by self.old (W.hidden world.old)) s t (W.faults world.old) (W.faults world.new) result)) }
         ensures rest { RestStays self.old self.new }
         ensures later { Later (W.faults world.old) (W.faults world.new) }
         ensures accepting { result ≡ Served.AcceptFault → Rose (W.faults world.old).front (W.faults world.new).front }

@@ -1,7 +1,7 @@
 use Rattle.std.proofs.Common.{◌++◌, subst}
 use Rattle.gate_world.specs.Causes.{Hidden}
 use Rattle.gate_world.proofs.Joins.{join, widen}
-use Rattle.gate_serving.specs.Run.{StepsTo}
+use Rattle.gate_serving.specs.Run.{AddsSegment}
 use Rattle.gate_serving.specs.Gates.{account_by}
 use Rattle.gate_serving.proofs.Answering.{steps_fault, steps_none, steps_client, rose_earlier, not_refused}
 use Rattle.gate_serving.proofs.gate.Gate.answer_one.Goals as goal
@@ -19,7 +19,7 @@ returns-in-Ok-true-clause-run g c =
     let r = serves s held in (
       r.0,
       r.1,
-      subst (λ (h : Hidden). StepsTo c.args.self.now.door (account_by c.args.self.now h) s r.0
+      subst (λ (h : Hidden). AddsSegment c.args.self.now.door (account_by c.args.self.now h) s r.0
           (g.W.Taped.faults c.args.world.now) (g.W.Taped.faults c.answer_client.new.world) c.answer_client.result (x ++ y)) c.accept.ensures.hidden
           (steps_client (g.W.Taped.faults c.args.world.now) c.answer_client.result is c.accept.ensures.alone r.2),
     ))
