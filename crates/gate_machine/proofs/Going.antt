@@ -111,7 +111,8 @@ goes_hearing m k told is =
           (subst (λ (l : KnownMail). HasGoneOn l.history k.history) (one_known k i (sym is ∙ first)) Still);
     }
 
-goes_readied : {before : MachineState} {events : List Event} {after : Progress} → Readies before events after → list_any is_epoch events ≡ false → MachineGoesOn before after.machine
+goes_readied : {before : MachineState} {events : List Event} {after : Progress} → Readies before events after → list_any is_epoch events ≡ false
+    → MachineGoesOn before after.machine
 goes_readied (Ready k known none is) drawn = goes_still (ap (λ (p : Progress). p.machine) is)
 goes_readied (Restart epoch none word is) drawn = absurd (true_is_not (ap (λ (es : List Event). list_any is_epoch es) (sym word) ∙ drawn))
 goes_readied (LacksRoom epoch none word is) drawn = goes_nowhere (ap (λ (p : Progress). p.machine.known) is)
@@ -141,7 +142,10 @@ goes_settled (Lacks stands none is) = goes_nowhere (ap (λ (p : Progress). p.mac
 goes_asking : {before after : Progress} {events : List Event} → AsksThen before events after → MachineGoesOn before.machine after.machine
 goes_asking {before} {after} a =
     let first : MachineGoesOn before.machine a.told.machine = elim a.asks [ inl skips ↦ goes_still (ap (λ (p : Progress). p.machine) skips.2) | inr asks ↦ goes_asked asks ] in
-    let last : MachineGoesOn a.told.machine after.machine = elim a.settles [ inl skips ↦ goes_still (ap (λ (p : Progress). p.machine) skips.2) | inr settles ↦ goes_settled settles ] in
+    let last : MachineGoesOn a.told.machine after.machine = elim a.settles [
+      | inl skips ↦ goes_still (ap (λ (p : Progress). p.machine) skips.2)
+      | inr settles ↦ goes_settled settles
+    ] in
     goes_both first last
 
 goes_dialed : {user password : List ℕ} {before after : Progress} {events : List Event} → Dials user password before events after → MachineGoesOn before.machine after.machine

@@ -152,6 +152,39 @@ is_response door account told kept uploads asking answer (Ok r) is_answer text_i
     λ s m held. record { answer = answer; is_answer = is_answer s m held; text_is = text_is }
 is_response door account told kept uploads asking answer (Err e) is_answer text_is = tt
 
+-- the same of a gate that was asked this
+pub made_for : (gate : Gate) (told : Result (Unit {0}) MethodError) (asking asked : Asking) (answer : Answer) (result : Result Response AllocError) → asked ≡ asking
+    → ((s : Hidden) (m : MachineState) → HoldsMachine m gate.machine → IsAnswer (account_by gate s) (mail_told told m.known) gate.uploads asking answer)
+    → IfOk result (λ r. text_sent r ≡ spelled gate.door answer)
+    → IfOk result (λ r. (s : Hidden) (m : MachineState) → HoldsMachine m gate.machine
+    → IsResponse gate.door (account_by gate s) (mail_told told m.known) gate.uploads asked (text_sent r))
+made_for gate told asking asked answer result is is_answer text_is =
+    subst (λ (a : Asking). IfOk result (λ r. (s : Hidden) (m : MachineState) → HoldsMachine m gate.machine
+    → IsResponse gate.door (account_by gate s) (mail_told told m.known) gate.uploads a (text_sent r))) (sym is)
+    (is_response gate.door (λ s. account_by gate s) told gate.machine gate.uploads asking answer result is_answer text_is)
+
+calls_made : (gate : Gate) (told : Result (Unit {0}) MethodError) (request : RequestData) (result : Result Response AllocError)
+    → IfOk result (λ r. (m : MachineState) → HoldsMachine m gate.machine → (responses : List CallData)
+    × AnswersCalls request.uses (mail_told told m.known) request.calls responses
+    × (text_sent r ≡ spelled gate.door (json_answer 200 (calls_text gate.user gate.base responses request))))
+    → IfOk result (λ r. (s : Hidden) (m : MachineState) → HoldsMachine m gate.machine
+    → IsResponse gate.door (account_by gate s) (mail_told told m.known) gate.uploads (Calls request) (text_sent r))
+calls_made gate told request (Ok r) made = λ s m held.
+    let so = made m held in
+    record { answer = json_answer 200 (calls_text gate.user gate.base so.0 request); is_answer = (so.0, so.1, refl); text_is = so.2 }
+calls_made gate told request (Err e) made = tt
+
+-- the response to method calls
+pub made_for_calls : (gate : Gate) (told : Result (Unit {0}) MethodError) (request : RequestData) (asked : Asking) (result : Result Response AllocError) → asked ≡ Calls request
+    → IfOk result (λ r. (m : MachineState) → HoldsMachine m gate.machine → (responses : List CallData)
+    × AnswersCalls request.uses (mail_told told m.known) request.calls responses
+    × (text_sent r ≡ spelled gate.door (json_answer 200 (calls_text gate.user gate.base responses request))))
+    → IfOk result (λ r. (s : Hidden) (m : MachineState) → HoldsMachine m gate.machine
+    → IsResponse gate.door (account_by gate s) (mail_told told m.known) gate.uploads asked (text_sent r))
+made_for_calls gate told request asked result is made =
+    subst (λ (a : Asking). IfOk result (λ r. (s : Hidden) (m : MachineState) → HoldsMachine m gate.machine
+    → IsResponse gate.door (account_by gate s) (mail_told told m.known) gate.uploads a (text_sent r))) (sym is) (calls_made gate told request result made)
+
 -- the text of an answer that has the responses to calls
 pub answers_request : (door : Door) (user base : List ℕ) (told : Result (Unit {0}) MethodError) (kept : Machine) (request : RequestData) {calls shown : List CallData}
     (responses : List CallData) (result : Result Response AllocError) → calls ≡ request.calls → shown ≡ responses

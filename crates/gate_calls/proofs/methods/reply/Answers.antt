@@ -5,7 +5,7 @@ use Rattle.gate_calls.proofs.methods.reply.Goals as goal
 
 pub returns-in-Ok-Some-clause-meant : goal.returns-in-Ok-Some-clause-meant
 returns-in-Ok-Some-clause-meant c = λ m held.
-    reply_ready c.args.method (view c.args.arguments) c.reply_over.result m c.args.machine.now c.in-Ok-Some.known.now held c.in-Ok-Some.is c.reply_over.ensures.meant
+    reply_ready c.args.method (view c.args.arguments) c.reply_over.result m c.args.machine.now c.in-Ok-Some.known held c.in-Ok-Some.is c.reply_over.ensures.meant
 
 pub returns-in-Ok-None-clause-meant : goal.returns-in-Ok-None-clause-meant
 returns-in-Ok-None-clause-meant c = λ m held.
