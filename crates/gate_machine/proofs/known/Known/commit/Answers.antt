@@ -1,5 +1,5 @@
-use Rattle.std.proofs.Common.{refl, inl, inr, Result, Ok, Err}
-use Rattle.std.specs.Prelude.{IfOk}
+use Rattle.std.proofs.Common.{refl, sym, subst, inl}
+use Rattle.gate_machine.specs.Kept.{KeptMail, IsKeptOf}
 use Rattle.gate_machine.proofs.Keeping.{commits_other, is_other, is_same}
 use Rattle.gate_machine.proofs.known.Known.commit.Goals as goal
 
@@ -7,7 +7,7 @@ pub returns-clause-ok : goal.returns-clause-ok
 returns-clause-ok c = λ k kept. (
   k,
   inl (is_same k c.args.self kept (c.is_same.ensures.0 c.if-not-is_same.false), refl),
-  record { state = kept.state; served = kept.served; told = kept.told; next = kept.next },
+  subst (λ (x : KeptMail). IsKeptOf k x) (sym c.known.view_is) kept,
 )
 
 pub returns-then-not-is_same-clause-ok : goal.returns-then-not-is_same-clause-ok
