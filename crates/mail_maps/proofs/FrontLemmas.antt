@@ -23,6 +23,7 @@ both : (a b : Bool) → (a && b) ≡ true → (a ≡ true) × (b ≡ true)
 both true b e = (refl, e)
 both false b e = absurd (let f : false ≡ true = e in cc)
 
+-- a test isn't true and false
 pub not_both : (b : Bool) → b ≡ true → b ≡ false → ⊥
 not_both b t f = let g : true ≡ false = sym t ∙ f in cc
 
@@ -77,6 +78,7 @@ longer_up_to : (g : Folder) (best : Option Folder) (h : Folder) → Fits g best 
 longer_up_to g None h f u = u
 longer_up_to g (Some b) h f u = chosen_up_to g b h f u (ltb (length b.name) (length h.name))
 
+-- equal folders, where both are there
 pub some_folder : (a b : Folder) → Some a ≡ Some b → a ≡ b
 some_folder a b e = cc
 

@@ -9,7 +9,7 @@ use Rattle.mail_maps.specs.declared.row.EmailRow.{EmailRow}
 use Rattle.mail_maps.specs.Keywords.{sorted_into}
 use Rattle.mail_maps.specs.Rows.{Rows, in_thread}
 use Rattle.mail_maps.specs.Threads.{pair_cmp, pairs_in, where_any, thread_at}
-use Rattle.mail_maps.specs.reading.Groups.{listed, keys_at, grouped, pairs_among}
+use Rattle.mail_maps.specs.reading.Groups.{keys_listed, keys_at, grouped, pairs_among}
 
 abbrev Pair : Type 0
 Pair = ℤ × ℕ
@@ -23,21 +23,21 @@ module _ (among : BTreeSet ℕ) (old : ℕ → Option (BTreeSet Pair)) (number :
   abbrev one : ℕ → List Pair
   one t = pairs_among among ((number, row) ∷ []) t
 
-  listed_is : (o : Option (BTreeSet Pair)) → listed o ≡ unwrap_or (keys_at o) []
+  listed_is : (o : Option (BTreeSet Pair)) → keys_listed o ≡ unwrap_or (keys_at o) []
   listed_is None = refl
   listed_is (Some s) = refl
 
   -- the groups after an Email of one of these Threads
   pub put_in : contains nat_cmp among row.thread ≡ true → (t : ℕ) (new : Option (List Pair))
-      → new ≡ cond (nat_eq row.thread t) (Some (insert_key pair_cmp (listed (old row.thread)) (row.received, number))) (keys_at (old t))
+      → new ≡ cond (nat_eq row.thread t) (Some (insert_key pair_cmp (keys_listed (old row.thread)) (row.received, number))) (keys_at (old t))
       → new ≡ grouped (keys_at (old t)) (one t)
   put_in is t new made = made ∙ by (nat_eq row.thread t) refl
     where
-      by : (b : Bool) → nat_eq row.thread t ≡ b → cond b (Some (insert_key pair_cmp (listed (old row.thread)) (row.received, number))) (keys_at (old t))
+      by : (b : Bool) → nat_eq row.thread t ≡ b → cond b (Some (insert_key pair_cmp (keys_listed (old row.thread)) (row.received, number))) (keys_at (old t))
           ≡ grouped (keys_at (old t)) (cond (contains nat_cmp among t) (map {B = Pair} pair_of (cond b ((number, row) ∷ []) [])) [])
       by true same =
           let at : row.thread ≡ t = eqb-true row.thread t same in
-          ap (λ (k : ℕ). Some (insert_key pair_cmp (listed (old k)) (row.received, number))) at
+          ap (λ (k : ℕ). Some (insert_key pair_cmp (keys_listed (old k)) (row.received, number))) at
           ∙ ap (λ (ks : List Pair). Some (insert_key pair_cmp ks (row.received, number))) (listed_is (old t))
           ∙ ap (λ (b : Bool). grouped (keys_at (old t)) (cond b ((row.received, number) ∷ []) [])) (sym (ap (contains nat_cmp among) (sym at) ∙ is))
       by false other =

@@ -2,7 +2,7 @@ pub mod InOrder
 pub mod Tallied
 pub mod Ordered
 pub mod KeySets
-mod SameKeywords
+pub mod SameKeywords
 pub mod GroupLemmas
 pub mod ThreadLemmas
 pub mod FrontLemmas

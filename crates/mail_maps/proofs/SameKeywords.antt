@@ -132,7 +132,8 @@ has_put q (x ∷ xs) k =
       | Greater ↦ λ g. ap (λ (b : Bool). bytes_eq q x || b) (has_put q xs k) ∙ or_turned (bytes_eq q x) (bytes_eq q k) (has_name q xs)
     ] refl
 
-has_all : (q : List ℕ) (before xs : List (List ℕ)) → has_name q (sorted_into cmp before xs) ≡ (has_name q before || has_name q xs)
+-- names that are put in one after another are among them, beside those that were
+pub has_all : (q : List ℕ) (before xs : List (List ℕ)) → has_name q (sorted_into cmp before xs) ≡ (has_name q before || has_name q xs)
 has_all q before [] = or_false (has_name q before)
   where
     or_false : (b : Bool) → b ≡ (b || false)

@@ -2,7 +2,7 @@
 use Rattle.std.specs.Prelude.{Bool, not, ◌&&◌, is_some, codes}
 use Rattle.told_folder.specs.declared.message.Folder.{Folder}
 use Rattle.mail_maps.specs.declared.row.Rights.{Rights}
-use Rattle.mail_maps.specs.Roles.{has_attribute, is_inbox}
+use Rattle.mail_maps.specs.Roles.{has_attribute, is_inbox_folder}
 
 abbrev pub is_selectable : Folder → Bool
 is_selectable f = not (has_attribute (codes "\\noselect") f) && not (has_attribute (codes "\\nonexistent") f)
@@ -13,7 +13,7 @@ takes_children f = is_some f.delimiter && not (has_attribute (codes "\\noinferio
 
 -- whether the folder can be renamed and deleted
 abbrev pub is_own : Folder → Bool
-is_own f = not (is_inbox f) && not (has_attribute (codes "\\nonexistent") f)
+is_own f = not (is_inbox_folder f) && not (has_attribute (codes "\\nonexistent") f)
 
 abbrev pub rights_of : Folder → Rights
 rights_of f = record {

@@ -11,13 +11,13 @@ use Rattle.mail_maps.specs.Keywords.{has_name}
 abbrev pub has_attribute : List ℕ → Folder → Bool
 has_attribute attribute f = has_name attribute f.attributes
 
-abbrev pub is_inbox : Folder → Bool
-is_inbox f = bytes_eq f.name (codes "INBOX")
+abbrev pub is_inbox_folder : Folder → Bool
+is_inbox_folder f = bytes_eq f.name (codes "INBOX")
 
 -- the first of the roles that a folder has
 abbrev pub role_told : Folder → Option Role
 role_told f =
-    if is_inbox f then Some role.Inbox
+    if is_inbox_folder f then Some role.Inbox
     else if has_attribute (codes "\\all") f then Some role.All
     else if has_attribute (codes "\\archive") f then Some role.Archive
     else if has_attribute (codes "\\drafts") f then Some role.Drafts

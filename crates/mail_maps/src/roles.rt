@@ -21,7 +21,7 @@ pub fn has(attribute: &[u8], folder: &Folder) -> bool
 
 /// Whether the folder is INBOX.
 pub fn is_inbox(folder: &Folder) -> bool
-    ensures { result ≡ roles.is_inbox folder.now }
+    ensures { result ≡ roles.is_inbox_folder folder.now }
 {
     folder.name.as_slice() == b"INBOX".as_slice()
 }

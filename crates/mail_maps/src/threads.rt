@@ -6,7 +6,7 @@ ghost use Rattle.std.specs.BTreeSet.{contains, insert_key};
 ghost use Rattle.std.specs.Ordering.{nat_cmp};
 ghost use Rattle.mail_maps.specs.Threads.{threads_of, thread_numbers, thread_at, pairs_in, pair_cmp};
 ghost use Rattle.mail_maps.specs.Keywords.{sorted_into};
-ghost use Rattle.mail_maps.specs.reading.Groups.{listed, keys_at, grouped, pairs_among};
+ghost use Rattle.mail_maps.specs.reading.Groups.{keys_listed, keys_at, grouped, pairs_among};
 
 use crate::EmailRow;
 use std::alloc::{AllocError, Global};
@@ -58,7 +58,7 @@ fn take_group(
     groups: &mut BTreeMap<u64, BTreeSet<(i64, u64)>>,
     thread: u64,
 ) -> BTreeSet<(i64, u64)>
-    ensures keys { result.keys ≡ listed (get nat_cmp groups.old thread) }
+    ensures keys { result.keys ≡ keys_listed (get nat_cmp groups.old thread) }
     ensures others { (t : ℕ) → get nat_cmp groups.new t ≡ cond (nat_eq thread t) None (get nat_cmp groups.old t) }
 {
     match groups.remove(&thread) {
@@ -74,9 +74,9 @@ fn put_pair(
     pair: (i64, u64),
 ) -> Result<(), AllocError>
     ensures groups { OnOk result ((t : ℕ) → keys_at (get nat_cmp groups.new t)
-        ≡ cond (nat_eq thread t) (Some (insert_key pair_cmp (listed (get nat_cmp groups.old thread)) pair)) (keys_at (get nat_cmp groups.old t))) }
-    ensures listed { OnOk result ((t : ℕ) → listed (get nat_cmp groups.new t)
-        ≡ cond (nat_eq thread t) (insert_key pair_cmp (listed (get nat_cmp groups.old thread)) pair) (listed (get nat_cmp groups.old t))) }
+        ≡ cond (nat_eq thread t) (Some (insert_key pair_cmp (keys_listed (get nat_cmp groups.old thread)) pair)) (keys_at (get nat_cmp groups.old t))) }
+    ensures listed { OnOk result ((t : ℕ) → keys_listed (get nat_cmp groups.new t)
+        ≡ cond (nat_eq thread t) (insert_key pair_cmp (keys_listed (get nat_cmp groups.old thread)) pair) (keys_listed (get nat_cmp groups.old t))) }
 {
     let mut group = take_group(alloc, groups, thread);
     group.insert(pair)?;
@@ -88,7 +88,7 @@ fn group_emails(
     alloc: Global,
     emails: &BTreeMap<u64, EmailRow>,
 ) -> Result<BTreeMap<u64, BTreeSet<(i64, u64)>>, AllocError>
-    ensures { IfOk result (λ groups. (t : ℕ) → listed (get nat_cmp groups t) ≡ sorted_into pair_cmp [] (pairs_in emails.now.entries t)) }
+    ensures { IfOk result (λ groups. (t : ℕ) → keys_listed (get nat_cmp groups t) ≡ sorted_into pair_cmp [] (pairs_in emails.now.entries t)) }
 {
     let mut groups = BTreeMap::new(alloc);
     for (number, row) in emails {
@@ -112,7 +112,7 @@ fn group_at(
     groups: &BTreeMap<u64, BTreeSet<(i64, u64)>>,
     thread: u64,
 ) -> Result<Thread, AllocError>
-    ensures { IfOk result (λ t. t ≡ map (λ p. p.1) (listed (get nat_cmp groups.now thread))) }
+    ensures { IfOk result (λ t. t ≡ map (λ p. p.1) (keys_listed (get nat_cmp groups.now thread))) }
 {
     match groups.get(&thread) {
         Some(group) => Thread::of_group(alloc, group),

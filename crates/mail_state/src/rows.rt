@@ -63,7 +63,6 @@ impl TypeRows {
         requires { self.numbered.next ≤ 2 ^ 53 }
         ensures { IfOk result (λ r. StepsRows self mirror.now.mail r.0 r.1) }
     {
-        mirror.each_is_mail();
         let TypeRows {
             emails: old_emails,
             mailboxes: old_mailboxes,
@@ -72,20 +71,16 @@ impl TypeRows {
         } = self;
         old_emails.are_in_order();
         let (emails, email) = old_emails.follow(alloc, mirror)?;
+        let now = emails.rows();
         let (mailboxes, mailbox, folders) = follow_mailboxes(
             alloc,
             old_folders,
             old_mailboxes,
             mirror,
-            emails.rows(),
+            now,
             email.as_slice(),
         )?;
-        let (threads, thread) = follow_threads(
-            alloc,
-            old_threads,
-            emails.rows(),
-            email.as_slice(),
-        )?;
+        let (threads, thread) = follow_threads(alloc, old_threads, now, email.as_slice())?;
         let rows = TypeRows {
             emails,
             mailboxes,

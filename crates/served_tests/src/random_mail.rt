@@ -14,12 +14,19 @@ const MANY: usize = 60;
 /// How often each kind of change came.
 #[derive(Clone, Copy, Debug, PartialEq, Eq)]
 pub struct Drawn {
+    /// Messages that came.
     pub delivered: u32,
+    /// Flags that were told.
     pub flagged: u32,
+    /// Messages that moved.
     pub moved: u32,
+    /// Messages that went.
     pub gone: u32,
+    /// Folders that got a name.
     pub named: u32,
+    /// Folders that were taken out.
     pub cut: u32,
+    /// Folders that got another validity.
     pub renewed: u32,
 }
 
@@ -32,6 +39,7 @@ pub struct RandomMail {
     seed: u64,
     /// How many steps there were: what is made in a step has this number.
     steps: u32,
+    /// What it has changed so far.
     pub drawn: Drawn,
 }
 

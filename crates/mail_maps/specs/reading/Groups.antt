@@ -7,9 +7,9 @@ use Rattle.mail_maps.specs.Rows.{Rows}
 use Rattle.mail_maps.specs.Threads.{pair_cmp, pairs_in}
 
 -- the keys of a set, none where there is no set
-abbrev pub listed : {K : Type 0} → Option (BTreeSet K) → List K
-listed None = []
-listed (Some s) = s.keys
+abbrev pub keys_listed : {K : Type 0} → Option (BTreeSet K) → List K
+keys_listed None = []
+keys_listed (Some s) = s.keys
 
 -- the keys of a set, where there is one
 abbrev pub keys_at : {K : Type 0} → Option (BTreeSet K) → Option (List K)

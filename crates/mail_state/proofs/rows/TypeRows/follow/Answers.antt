@@ -20,12 +20,12 @@ invariant_of-rows c =
     let hs : List Held = c.args.mirror.now.mail.folders in
     let order : InOrder old = record { sorted = c.are_in_order.ensures.sorted; under = as_under old.next old.rows c.are_in_order.ensures.below } in
     let boxes = c.in_ok-mailboxes.ensures.steps (boxes_stay old hs now c.self.inside.folders.items c.self.inside.mailboxes.entries _ _ order c.in_ok-emails.ensures.takes
-    c.self.invariant.1 c.rows.ensures (c.as_slice.ensures.value ∙ c.in_ok-emails.ensures.touches)) in
+    c.self.invariant.1 c.rows-now.ensures (c.as_slice.ensures.value ∙ c.in_ok-emails.ensures.touches)) in
     let steps = c.in_ok-threads.ensures (others_follow old hs now c.self.inside.threads.entries _ _ order c.in_ok-emails.ensures.takes
-    c.self.invariant.0 c.rows-2.ensures (c.as_slice-2.ensures.value ∙ c.in_ok-emails.ensures.touches)) in (
-      steps.threads ∙ ap threads_of c.rows-2.ensures,
-      boxes_are c.folders.result.now c.rows.result.now.entries now.rows c.in_ok-mailboxes.folders.items c.in_ok-mailboxes.mailboxes.entries boxes.mailboxes
-          c.in_ok-mailboxes.ensures.folders c.rows.ensures,
+    c.self.invariant.0 c.rows-now.ensures (c.as_slice-2.ensures.value ∙ c.in_ok-emails.ensures.touches)) in (
+      steps.threads ∙ ap threads_of c.rows-now.ensures,
+      boxes_are hs c.rows-now.result.now.entries now.rows c.in_ok-mailboxes.folders.items c.in_ok-mailboxes.mailboxes.entries boxes.mailboxes
+          c.in_ok-mailboxes.ensures.folders c.rows-now.ensures,
     )
 
 pub returns : goal.returns
@@ -39,12 +39,12 @@ returns c =
       under = as_under before.numbered.next before.numbered.rows c.are_in_order.ensures.below;
     } in
     let boxes = c.in_ok-mailboxes.ensures.steps (boxes_stay before.numbered hs now.numbered c.self.inside.folders.items before.mailboxes _ _ order c.in_ok-emails.ensures.takes
-    c.self.invariant.1 c.rows.ensures (c.as_slice.ensures.value ∙ c.in_ok-emails.ensures.touches)) in
+    c.self.invariant.1 c.rows-now.ensures (c.as_slice.ensures.value ∙ c.in_ok-emails.ensures.touches)) in
     let steps = c.in_ok-threads.ensures (others_follow before.numbered hs now.numbered before.threads _ _ order c.in_ok-emails.ensures.takes
-    c.self.invariant.0 c.rows-2.ensures (c.as_slice-2.ensures.value ∙ c.in_ok-emails.ensures.touches)) in
+    c.self.invariant.0 c.rows-now.ensures (c.as_slice-2.ensures.value ∙ c.in_ok-emails.ensures.touches)) in
     let S : ServedRows → Type 0 = λ s. StepsRows s c.args.mirror.now.mail now touches in
     subst S c.self.view_is (steps_rows before c.args.mirror.now.mail now.numbered now.mailboxes now.threads touches
     c.in_ok-emails.ensures.takes
-    (boxes.mailboxes ∙ ap (λ (xs : List Held). mailboxes_of xs c.rows.result.now.entries) c.folders.ensures ∙ ap (mailboxes_of hs) c.rows.ensures)
-    (steps.threads ∙ ap threads_of c.rows-2.ensures)
+    (boxes.mailboxes ∙ ap (mailboxes_of hs) c.rows-now.ensures)
+    (steps.threads ∙ ap threads_of c.rows-now.ensures)
     boxes.touches c.in_ok-emails.ensures.touches steps.touches c.in_ok-emails.ensures.counted)
