@@ -1,5 +1,6 @@
 -- What a /get lists, and that it has integers alone.
-use Rattle.std.proofs.Common.{◌≡◌, ℕ, List, [], ◌∷◌, map, Bool, true, false, cond, if◌then◌else◌, nat_lt, nat_cmp, length, is_none, Option, Some, None, Result, Ok, Err, refl, sym, ap, ◌∙◌, subst}
+use Rattle.std.proofs.Common.{◌≡◌, ℕ, List, [], ◌∷◌, map, Bool, true, false, cond, if◌then◌else◌, nat_lt, nat_cmp, length, is_none, Option, Some}
+use Rattle.std.proofs.Common.{None, Result, Ok, Err, refl, sym, ap, ◌∙◌, subst}
 use Rattle.std.specs.BTreeMap.{is_at}
 use Rattle.std.specs.List.{All, Contains, filter, filter_map, cons_option}
 use Rattle.std.specs.List.Sorted.{IsStrictlySortedBy}
@@ -49,19 +50,23 @@ pub got_by_ids : {E : Type 0} (letter : ℕ) (state : List ℕ) (objects : List 
     → IfOk r (λ value. get_answer state (found_in letter objects (Some ids)) ≡ Ok (view value))
 got_by_ids letter state objects ids once list missing (Err e) once_is list_is missing_is is = tt
 got_by_ids letter state objects ids once list missing (Ok value) once_is list_is missing_is is =
-    let answer : List (List ℕ) → Result Data MethodError =
-    λ o. Ok (get_data state (filter_map (object_with letter objects) o) (map string (filter (λ id. is_none (object_with letter objects id)) o))) in
-    ap answer (sym once_is) ∙ ap (λ (ds : List Data). let a : Result Data MethodError = Ok (get_data state ds (map string (filter (λ id. is_none (object_with letter objects id)) once))) in a) (sym list_is)
-    ∙ ap (λ (ds : List Data). let a : Result Data MethodError = Ok (get_data state list ds) in a) (sym missing_is)
+    let missing_of : List (List ℕ) → List Data = λ o. map string (filter (λ id. is_none (object_with letter objects id)) o) in
+    let answer : List Data → List Data → Result Data MethodError = λ shown lacking. Ok (get_data state shown lacking) in
+    ap (λ (o : List (List ℕ)). answer (filter_map (object_with letter objects) o) (missing_of o)) (sym once_is)
+    ∙ ap (λ (shown : List Data). answer shown (missing_of once)) (sym list_is)
+    ∙ ap (answer list) (sym missing_is)
     ∙ ap (λ (d : Data). let a : Result Data MethodError = Ok d in a) (sym is)
 
-counted : (b : Bool) (list : List Data) (r : Result (Unit {0}) MethodError) → r ≡ (if b then Err RequestTooLarge else Ok tt)
-    → MatchResult r (λ _. (let a : Result FoundObjects MethodError = if b then Err RequestTooLarge else Ok (record { list = list; missing = [] }) in a) ≡ Ok (record { list = list; missing = [] }))
-    (λ e. (let a : Result FoundObjects MethodError = if b then Err RequestTooLarge else Ok (record { list = list; missing = [] }) in a) ≡ Err e)
-counted true list r is = let P : Result (Unit {0}) MethodError → Type 0 = λ q. MatchResult q (λ _. (let a : Result FoundObjects MethodError = Err RequestTooLarge in a) ≡ Ok (record { list = list; missing = [] }))
-    (λ e. (let a : Result FoundObjects MethodError = Err RequestTooLarge in a) ≡ Err e) in subst P (sym is) refl
-counted false list r is = let P : Result (Unit {0}) MethodError → Type 0 = λ q. MatchResult q (λ _. (let a : Result FoundObjects MethodError = Ok (record { list = list; missing = [] }) in a) ≡ Ok (record { list = list; missing = [] }))
-    (λ e. (let a : Result FoundObjects MethodError = Ok (record { list = list; missing = [] }) in a) ≡ Err e) in subst P (sym is) refl
+-- all of them, where they aren't too many
+abbrev all_if : Bool → List Data → Result FoundObjects MethodError
+all_if many list = if many then Err RequestTooLarge else Ok (record { list = list; missing = [] })
+
+abbrev Counts : Bool → List Data → Result (Unit {0}) MethodError → Type 0
+Counts many list r = MatchResult r (λ _. all_if many list ≡ Ok (record { list = list; missing = [] })) (λ e. all_if many list ≡ Err e)
+
+counted : (many : Bool) (list : List Data) (r : Result (Unit {0}) MethodError) → r ≡ (if many then Err RequestTooLarge else Ok tt) → Counts many list r
+counted true list r is = subst (Counts true list) (sym is) refl
+counted false list r is = subst (Counts false list) (sym is) refl
 
 -- whether all are too many
 pub counted_all : (letter : ℕ) (objects : List (ℕ × Data)) (numbers : List ℕ) (r : Result (Unit {0}) MethodError) → numbers ≡ keys_of objects → r ≡ count_check (length numbers)
@@ -118,8 +123,8 @@ whole_answer letter state objects (Some ids) whole =
 whole_answer letter state objects None whole = whole_if (nat_lt 500 (length objects)) state (values_of objects) RequestTooLarge (whole_values objects whole)
 
 -- an answer over objects that have integers alone has them alone
-pub whole_answered : {W : Type 0} (letter : ℕ) (state : List ℕ) (objects : W → List (ℕ × Data)) (asked : Result (GetAsked W) MethodError) → ((wanted : W) → AreWhole (objects wanted))
-    → IfOk (get_answered letter state objects asked) (λ d. has_float d ≡ false)
+pub whole_answered : {W : Type 0} (letter : ℕ) (state : List ℕ) (objects : W → List (ℕ × Data)) (asked : Result (GetAsked W) MethodError)
+    → ((wanted : W) → AreWhole (objects wanted)) → IfOk (get_answered letter state objects asked) (λ d. has_float d ≡ false)
 whole_answered letter state objects (Err e) whole = tt
 whole_answered letter state objects (Ok asked) whole = whole_answer letter state (objects asked.wanted) asked.ids (whole asked.wanted)
 

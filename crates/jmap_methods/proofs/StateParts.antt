@@ -1,5 +1,6 @@
 -- The epoch and the place in a state's text.
-use Rattle.std.proofs.Common.{arith, ◌≡◌, ◌≢◌, ◌⊎◌, ◌<◌, ◌≤◌, ◌+◌, ◌-◌, ◌/◌, ◌%◌, ◌^◌, ℕ, zero, suc, List, [], ◌∷◌, ◌++◌, Bool, true, false, nat_lt, if◌then◌else◌, length, get_or, decimal}
+use Rattle.std.proofs.Common.{arith, ◌≡◌, ◌≢◌, ◌⊎◌, ◌<◌, ◌≤◌, ◌+◌, ◌-◌, ◌/◌, ◌%◌, ◌^◌, ℕ, zero, suc, List, [], ◌∷◌, ◌++◌, Bool, true, false, nat_lt}
+use Rattle.std.proofs.Common.{if◌then◌else◌, length, get_or, decimal}
 use Rattle.std.proofs.Common.{refl, sym, ap, ◌∙◌}
 use Rattle.std.proofs.Common.{inl, inr}
 use Rattle.std.proofs.Math.ListN.{get_or-append}
@@ -111,3 +112,9 @@ pub one_state : (a b : State) → a.epoch < 2 ^ 64 → b.epoch < 2 ^ 64 → a.pl
 one_state a b ea eb pa pb is =
     let cut = one_cut (hex_text 16 a.epoch) (decimal a.place) (hex_text 16 b.epoch) (decimal b.place) is (hex_has_no_dash 16 a.epoch) (hex_has_no_dash 16 b.epoch) in
     (one_hex 16 a.epoch b.epoch ea eb cut.0, decimal_injective a.place b.place pa pb cut.1)
+
+-- in one epoch it is that of one place
+pub one_place : (epoch p q : ℕ) → p < 2 ^ 64 → q < 2 ^ 64 → state_text (record { epoch = epoch; place = p }) ≡ state_text (record { epoch = epoch; place = q }) → p ≡ q
+one_place epoch p q small fits is =
+    let cut = one_cut (hex_text 16 epoch) (decimal p) (hex_text 16 epoch) (decimal q) is (hex_has_no_dash 16 epoch) (hex_has_no_dash 16 epoch) in
+    decimal_injective p q small fits cut.1

@@ -63,12 +63,16 @@ whole_of (Some d) = Err InvalidArguments
 abbrev pub whole_at : List ℕ → Data → Result (Option ℤ) MethodError
 whole_at key d = whole_of (get key d)
 
+-- the natural number that an integer of 1 or more is
+abbrev pub at_least_one : ℤ → Option ℕ
+at_least_one (pos zero) = None
+at_least_one (pos (suc n)) = Some (suc n)
+at_least_one (negsuc n) = None
+
 -- the most that may be listed: at least 1 where it is given
 abbrev pub most_from : Result (Option ℤ) MethodError → Result (Option ℕ) MethodError
 most_from (Ok None) = Ok None
-most_from (Ok (Some (pos zero))) = Err InvalidArguments
-most_from (Ok (Some (pos (suc n)))) = Ok (Some (suc n))
-most_from (Ok (Some (negsuc n))) = Err InvalidArguments
+most_from (Ok (Some z)) = ok_or (option_map Some (at_least_one z)) InvalidArguments
 most_from (Err e) = Err e
 
 abbrev pub most_at : List ℕ → Data → Result (Option ℕ) MethodError

@@ -63,12 +63,16 @@ pub record FoundObjects : Type 0 where
   pub missing : List (List ℕ)
 
 abbrev pub found_with : ℕ → List (ℕ × Data) → List (List ℕ) → FoundObjects
-found_with letter objects ids = record { list = filter_map (object_with letter objects) ids; missing = filter (λ id. is_none (object_with letter objects id)) ids }
+found_with letter objects ids = record {
+  list = filter_map (object_with letter objects) ids;
+  missing = filter (λ id. is_none (object_with letter objects id)) ids;
+}
 
 -- Asked by ids, those that are there, in the order asked; asked by null, all, where they are no more than `MAX_OBJECTS_IN_GET`.
 abbrev pub found_in : ℕ → List (ℕ × Data) → Option (List (List ℕ)) → Result FoundObjects MethodError
 found_in letter objects (Some ids) = Ok (found_with letter objects (distinct_ids ids))
-found_in letter objects None = if nat_lt MAX_OBJECTS_IN_GET (length objects) then Err RequestTooLarge else Ok (record { list = values_of objects; missing = [] })
+found_in letter objects None =
+    if nat_lt MAX_OBJECTS_IN_GET (length objects) then Err RequestTooLarge else Ok (record { list = values_of objects; missing = [] })
 
 -- ---- the answer
 

@@ -1,8 +1,8 @@
 // The arguments that methods share, and the refusals of wrong ones.
-ghost use Rattle.std.specs.Prelude.{◌≡◌, map, option_map, option_and_then, IfOk, Ok};
+ghost use Rattle.std.specs.Prelude.{◌≡◌, map, option_map, option_and_then, IfOk};
 ghost use Rattle.serde_json.specs.Find.{as_number};
 ghost use Rattle.serde_json.specs.View.{view, items_view};
-ghost use Rattle.jmap_methods.specs.Arguments.{text_at, account_check, count_check, is_among, texts_at, texts_in, whole_at, whole_in, most_from, most_at};
+ghost use Rattle.jmap_methods.specs.Arguments.{text_at, account_check, count_check, is_among, texts_at, texts_in, whole_at, whole_in, at_least_one, most_at};
 ghost use Rattle.jmap_methods.specs.Outcome.{Agrees};
 ghost use Rattle.jmap_methods.specs.declared.method_error.MethodError.TheVariants.{Memory};
 
@@ -122,13 +122,13 @@ pub fn whole_or_null(arguments: &Value, key: &str) -> Result<Option<i64>, Method
     }
 }
 
-fn at_least_one(number: Option<i64>) -> Result<Option<u64>, MethodError>
-    ensures { result ≡ most_from (Ok number) }
+fn at_least_one(number: i64) -> Option<u64>
+    ensures { result ≡ at_least_one number }
 {
-    match number {
-        None => Ok(None),
-        Some(number) if number >= 1 => Ok(Some(number as u64)),
-        Some(_) => Err(MethodError::InvalidArguments),
+    if number < 1 {
+        None
+    } else {
+        Some(number as u64)
     }
 }
 
@@ -136,6 +136,11 @@ fn at_least_one(number: Option<i64>) -> Result<Option<u64>, MethodError>
 pub fn most_or_null(arguments: &Value, key: &str) -> Result<Option<u64>, MethodError>
     ensures { result ≡ most_at key.now (view arguments.now) }
 {
-    let number = whole_or_null(arguments, key)?;
-    at_least_one(number)
+    match whole_or_null(arguments, key)? {
+        None => Ok(None),
+        Some(number) => match at_least_one(number) {
+            None => Err(MethodError::InvalidArguments),
+            Some(most) => Ok(Some(most)),
+        },
+    }
 }

@@ -51,6 +51,7 @@ fn object_with<T: Objects>(
     requires { letter < 128 }
     ensures { IfOk result (λ o. option_map view o ≡ spec.object_with letter (T.objects objects.now) id.now) }
 {
+    // Each number has at most 64 bits, so an id with a longer one is no object's.
     let _last = objects.last_number();
     match read_id(letter, id) {
         Some(number) => objects.object(alloc, number),

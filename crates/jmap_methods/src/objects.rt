@@ -24,7 +24,7 @@ pub trait Objects {
         ensures numbers { IfOk result (λ v. v.items ≡ keys_of (objects self.now)) }
         ensures ascending { IfOk result (λ v. IsStrictlySortedBy nat_cmp v.items) };
 
-    /// The greatest number. No number is one that has more than 64 bits.
+    /// The greatest number. Each has at most 64 bits.
     fn last_number(&self) -> Option<u64>
         ensures { All (λ n. n < 2 ^ 64) (keys_of (objects self.now)) };
 }

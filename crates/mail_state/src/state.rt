@@ -158,7 +158,7 @@ impl MailState {
         }
     }
 
-    /// The greatest number of a type. No number has more than 64 bits.
+    /// The greatest number of a type. Each has at most 64 bits.
     pub fn last_number(&self, kind: MailType) -> Option<u64>
         ensures last { IsLast (numbers_in self.now kind) result }
         ensures small { All (λ n. n < 2 ^ 64) (numbers_in self.now kind) }

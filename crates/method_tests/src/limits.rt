@@ -65,35 +65,42 @@ fn all_mailboxes(rt: &impl Abort, alloc: Global, count: u32) -> String {
     )
 }
 
+/// An account, how many ids are asked, and how the answer begins.
+const BY_IDS: [(&str, u32, &str); 3] = [
+    ("a1", 500, "{\"accountId\":\"a1\",\"list\":[{\"id\":\"m1\""),
+    ("a1", 501, "request too large"),
+    ("a2", 501, "account not found"),
+];
+
+fn expect_by_ids(rt: &impl Abort, alloc: Global, state: &MailState, row: &(&str, u32, &str)) {
+    let found = get_many(rt, alloc, state, row.0, row.1);
+    assert!(rt; found.as_str().starts_with(row.2), "{}: {found}", row.1);
+}
+
 #[test]
 fn as_many_as_may_be_asked(rt: HostRuntime) {
     let state = with_folders(&rt, rt.alloc(), 3);
-    assert!(&rt;
-        get_many(&rt, rt.alloc(), &state, "a1", 500)
-            .as_str()
-            .starts_with("{\"accountId\"")
-    );
-    assert_eq!(&rt;
-        get_many(&rt, rt.alloc(), &state, "a1", 501).as_str(),
-        "request too large"
-    );
-    assert_eq!(&rt;
-        get_many(&rt, rt.alloc(), &state, "a2", 501).as_str(),
-        "account not found"
-    );
+    for row in BY_IDS.iter() {
+        expect_by_ids(&rt, rt.alloc(), &state, row);
+    }
+}
+
+/// How many Mailboxes there are, and how the answer ends where all are asked.
+const ALL: [(u32, &str); 2] = [
+    (500, "\"notFound\":[],\"state\":\"000000000000001f-500\"}"),
+    (501, "request too large"),
+];
+
+fn expect_all(rt: &impl Abort, alloc: Global, row: &(u32, &str)) {
+    let found = all_mailboxes(rt, alloc, row.0);
+    assert!(rt; found.as_str().ends_with(row.1), "{}: {found}", row.0);
 }
 
 #[test]
 fn as_many_as_null_stands_for(rt: HostRuntime) {
-    assert!(&rt;
-        all_mailboxes(&rt, rt.alloc(), 500)
-            .as_str()
-            .ends_with("\"state\":\"000000000000001f-500\"}")
-    );
-    assert_eq!(&rt;
-        all_mailboxes(&rt, rt.alloc(), 501).as_str(),
-        "request too large"
-    );
+    for row in ALL.iter() {
+        expect_all(&rt, rt.alloc(), row);
+    }
 }
 
 const ONE: &[u8] =

@@ -36,7 +36,8 @@ module _ {V : Type 0} (letter epoch : ℕ) (k : Kept) (p : Past V) (further : Fu
   none_of : (text : List ℕ) → NamesNone epoch k.place text → NamesNone epoch (length (entries_of p.touches)) text
   none_of text none = let P : ℕ → Type 0 = λ n. NamesNone epoch n text in subst P kept.place none
 
-  answers : (found : Result FoundSince MethodError) → Finds epoch k d found → AnswersChanges letter epoch (entries_of p.touches) further d (reply_of letter epoch k.place further found)
+  answers : (found : Result FoundSince MethodError) → Finds epoch k d found
+      → AnswersChanges letter epoch (entries_of p.touches) further d (reply_of letter epoch k.place further found)
   answers _ (reading.Refuses e is) = Refused e is
   answers _ (reading.NamesNothing asked is none) = NoSuchState asked is (none_of asked.since none)
   answers _ (reading.InKept asked c is found) =

@@ -1,4 +1,6 @@
 mod ChangeLemmas
-mod OverHistory
+mod FindLemmas
 mod ObjectLemmas
+mod OneAnswer
+mod OverHistory
 mod WholeLemmas

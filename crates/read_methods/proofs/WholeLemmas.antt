@@ -14,7 +14,8 @@ use Rattle.read_methods.specs.Changes.{changes_members, changes_data, Further, n
 use Rattle.read_methods.specs.Mailboxes.{parent_data, role_data, property_name, property_data, with_properties, mailbox_data, mailbox_objects}
 use Rattle.read_methods.specs.Threads.{with_emails, thread_data, thread_objects}
 use Rattle.read_methods.specs.declared.mailbox_property.MailboxProperty.{MailboxProperty}
-use Rattle.read_methods.specs.declared.mailbox_property.MailboxProperty.TheVariants.{Id, Name, ParentId, SortOrder, TotalEmails, UnreadEmails, TotalThreads, UnreadThreads, MyRights, IsSubscribed}
+use Rattle.read_methods.specs.declared.mailbox_property.MailboxProperty.TheVariants.{Id, Name, ParentId, SortOrder, TotalEmails}
+use Rattle.read_methods.specs.declared.mailbox_property.MailboxProperty.TheVariants.{UnreadEmails, TotalThreads, UnreadThreads, MyRights, IsSubscribed}
 use Rattle.read_methods.specs.declared.mailbox_property.MailboxProperty.TheVariants as property
 
 -- ---- members
@@ -96,5 +97,6 @@ whole_names false = refl
 pub names_whole : AddsWhole updated_properties
 names_whole c = rw (whole_names c.counts_only) refl
 
-pub whole_changes : (letter epoch last : ℕ) (since : List ℕ) (further : Further) (c : Changes) → AddsWhole further → has_float (changes_data letter epoch last since further c) ≡ false
+pub whole_changes : (letter epoch last : ℕ) (since : List ℕ) (further : Further) (c : Changes) → AddsWhole further
+    → has_float (changes_data letter epoch last since further c) ≡ false
 whole_changes letter epoch last since further c whole = rw (whole_ids letter c.created, whole_ids letter c.destroyed, whole_ids letter c.updated, whole c) refl

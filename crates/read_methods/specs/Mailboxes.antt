@@ -13,7 +13,8 @@ use Rattle.mail_maps.specs.declared.row.Role.{Role}
 use Rattle.mail_maps.specs.declared.row.Role.TheVariants as role
 use Rattle.mail_maps.specs.declared.row.Rights.{Rights}
 use Rattle.read_methods.specs.declared.mailbox_property.MailboxProperty.{MailboxProperty}
-use Rattle.read_methods.specs.declared.mailbox_property.MailboxProperty.TheVariants.{Id, Name, ParentId, SortOrder, TotalEmails, UnreadEmails, TotalThreads, UnreadThreads, MyRights, IsSubscribed}
+use Rattle.read_methods.specs.declared.mailbox_property.MailboxProperty.TheVariants.{Id, Name, ParentId, SortOrder, TotalEmails}
+use Rattle.read_methods.specs.declared.mailbox_property.MailboxProperty.TheVariants.{UnreadEmails, TotalThreads, UnreadThreads, MyRights, IsSubscribed}
 use Rattle.read_methods.specs.declared.mailbox_property.MailboxProperty.TheVariants as property
 
 -- ---- properties

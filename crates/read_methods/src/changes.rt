@@ -127,8 +127,8 @@ fn new_state(alloc: Global, found: &Found<'_>) -> Result<Value, AllocError>
     ensures { IfOk result (λ value. view value ≡ string (text_of_state (record { epoch = found.now.last.epoch; place = found.now.changes.to }))) }
 {
     let state = State {
+        epoch: found.last.epoch,
         place: found.changes.to,
-        ..found.last
     };
     Ok(Value::String(state_text(alloc, state)?))
 }
@@ -144,7 +144,7 @@ fn members_of(
         ≡ spec.changes_members letter found.now.last.epoch found.now.last.place found.now.since.now found.now.changes no_members) }
 {
     let changes = &found.changes;
-    let new_state = new_state(alloc, found)?;
+    let state = new_state(alloc, found)?;
     let has_more = Value::from(changes.to < found.last.place);
     let mut members = Map::new(alloc);
     put_text(&mut members, alloc, "accountId", "a1")?;
@@ -163,7 +163,7 @@ fn members_of(
         changes.destroyed.as_slice(),
     )?;
     put(&mut members, alloc, "hasMoreChanges", has_more)?;
-    put(&mut members, alloc, "newState", new_state)?;
+    put(&mut members, alloc, "newState", state)?;
     put_text(&mut members, alloc, "oldState", found.since)?;
     put_ids(
         &mut members,

@@ -11,6 +11,9 @@ mod changes;
 mod mailboxes;
 mod threads;
 
+// Laws.
+pub mod laws;
+
 pub use changes::{check_changes, email_changes, mailbox_changes, thread_changes};
 pub use mailbox_property::MailboxProperty;
 pub use mailboxes::{check_mailbox_get, mailbox_get};

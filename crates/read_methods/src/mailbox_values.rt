@@ -91,7 +91,8 @@ fn put_property(
     mailbox: &MailboxRow,
     property: MailboxProperty,
 ) -> Result<(), AllocError>
-    ensures { OnOk result (members_view members.new.entries ≡ spec.with_properties (number, mailbox_of mailbox.now) (property ∷ []) (members_view members.old.entries)) }
+    ensures { OnOk result (members_view members.new.entries
+        ≡ spec.with_properties (number, mailbox_of mailbox.now) (property ∷ []) (members_view members.old.entries)) }
 {
     let value = property_value(alloc, number, mailbox, property)?;
     put(members, alloc, name_of(property), value)

@@ -76,7 +76,7 @@ struct Mailboxes<'a> {
     wanted: &'a [MailboxProperty],
 }
 
-impl Objects for Mailboxes<'_> {
+impl<'a> Objects for Mailboxes<'a> {
     ghost objects = { λ m. mailbox_objects (served mailbox_of m.state.now.rows.mailboxes) m.wanted.now };
 
     fn object(&self, alloc: Global, number: u64) -> Result<Option<Value>, AllocError> {

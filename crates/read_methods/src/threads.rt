@@ -58,7 +58,10 @@ fn emails_wanted(alloc: Global, arguments: &Value) -> Result<bool, MethodError>
 
 /// The checks in order: the arguments' kinds, the account, the count of ids.
 fn asked_of<'a>(alloc: Global, arguments: &'a Value) -> Result<Asked<'a>, MethodError>
-    ensures { Agrees Memory (λ a. record { ids = option_map (λ v. map (λ t. t.now) v.items) a.ids; wanted = a.emails }) result (spec.threads_asked (view arguments.now)) }
+    ensures { Agrees Memory (λ a. record {
+      ids = option_map (λ v. map (λ t. t.now) v.items) a.ids;
+      wanted = a.emails;
+    }) result (spec.threads_asked (view arguments.now)) }
 {
     let account = text_at(arguments, "accountId")?;
     let ids = texts_or_null(alloc, arguments, "ids")?;
@@ -101,7 +104,7 @@ struct Threads<'a> {
     wanted: bool,
 }
 
-impl Objects for Threads<'_> {
+impl<'a> Objects for Threads<'a> {
     ghost objects = { λ t. thread_objects (served thread_of t.state.now.rows.threads) t.wanted };
 
     fn object(&self, alloc: Global, number: u64) -> Result<Option<Value>, AllocError> {

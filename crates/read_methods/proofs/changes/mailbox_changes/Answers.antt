@@ -20,4 +20,5 @@ returns-clause-copies c =
 
 pub returns-clause-whole : goal.returns-clause-whole
 returns-clause-whole c =
-    wholly mailbox_letter c.args.state.now.epoch c.args.state.now.lists.mailbox updated_properties (view c.args.arguments.now) c.changes_with_names.result names_whole c.changes_with_names.ensures
+    wholly mailbox_letter c.args.state.now.epoch c.args.state.now.lists.mailbox updated_properties (view c.args.arguments.now)
+    c.changes_with_names.result names_whole c.changes_with_names.ensures

@@ -11,7 +11,8 @@ use Rattle.read_methods.proofs.mailboxes.mailbox_get.Goals as goal
 
 pub returns-clause-exact : goal.returns-clause-exact
 returns-clause-exact c = λ h is.
-    over_history mailbox_of c.args.state.now.rows.mailboxes c.args.state.now.lists.mailbox h h.mailboxes c.args.state.now.epoch (λ text rows. mailboxes_answer text rows (view c.args.arguments.now))
+    over_history mailbox_of c.args.state.now.rows.mailboxes c.args.state.now.lists.mailbox h h.mailboxes c.args.state.now.epoch
+    (λ text rows. mailboxes_answer text rows (view c.args.arguments.now))
     c.answer.result is.epoch is.mailboxes c.answer.ensures
 
 pub returns-clause-whole : goal.returns-clause-whole

@@ -11,7 +11,8 @@ use Rattle.read_methods.proofs.threads.thread_get.Goals as goal
 
 pub returns-clause-exact : goal.returns-clause-exact
 returns-clause-exact c = λ h is.
-    over_history thread_of c.args.state.now.rows.threads c.args.state.now.lists.thread h h.threads c.args.state.now.epoch (λ text rows. threads_answer text rows (view c.args.arguments.now))
+    over_history thread_of c.args.state.now.rows.threads c.args.state.now.lists.thread h h.threads c.args.state.now.epoch
+    (λ text rows. threads_answer text rows (view c.args.arguments.now))
     c.answer.result is.epoch is.threads c.answer.ensures
 
 pub returns-clause-whole : goal.returns-clause-whole
