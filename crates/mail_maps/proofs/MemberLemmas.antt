@@ -91,7 +91,8 @@ module _ {K : Type 0} (cmp : K → K → Ordering) (total : IsTotalOrder cmp) wh
       by Equal rest = all
       by Greater rest = (all.0, rest)
 
-  all_above : (k x : K) (ys : List K) → cmp k x ≡ Less → AllByRecursion (λ y. cmp x y ≡ Less) ys → AllByRecursion (λ y. cmp k y ≡ Less) ys
+  -- what is above a greater one is above a lower one
+  pub all_above : (k x : K) (ys : List K) → cmp k x ≡ Less → AllByRecursion (λ y. cmp x y ≡ Less) ys → AllByRecursion (λ y. cmp k y ≡ Less) ys
   all_above k x [] less all = tt
   all_above k x (y ∷ ys) less all = (total.trans k x y less all.0, all_above k x ys less all.1)
 

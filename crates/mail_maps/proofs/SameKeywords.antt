@@ -17,6 +17,7 @@ use Rattle.std.proofs.lemmas.Slice.Eq.{bytes_eq-Decides, slice_eq-Decides}
 use Rattle.mail_maps.specs.Keywords.{has_name, sorted_into}
 use Rattle.mail_maps.specs.Serve.{same_names}
 use Rattle.mail_maps.specs.reading.Compared.{ascend_from, ascend, are_among}
+use Rattle.mail_maps.proofs.MemberLemmas.{all_above, into_sorted}
 
 abbrev cmp : List ℕ → List ℕ → Ordering
 cmp = slice_cmp nat_cmp
@@ -63,17 +64,13 @@ less_is Greater e = absurd (let f : false ≡ true = e in cc)
 
 -- ---- order
 
-above_all : (x y : List ℕ) (ys : List (List ℕ)) → cmp x y ≡ Less → AllAbove y ys → AllAbove x ys
-above_all x y [] l a = tt
-above_all x y (z ∷ zs) l a = (nat_list_cmp_total.trans x y z l a.0, above_all x y zs l a.1)
-
 sorted_if : (x : List ℕ) (xs : List (List ℕ)) → ascend_from x xs ≡ true → Sorted (x ∷ xs)
 unfolding IsStrictlySortedBy
 sorted_if x [] e = (tt, tt)
 sorted_if x (y ∷ ys) e =
     let l : cmp x y ≡ Less = less_is (cmp x y) (both (is_lt (cmp x y)) (ascend_from y ys) e).0 in
     let later : Sorted (y ∷ ys) = sorted_if y ys (both (is_lt (cmp x y)) (ascend_from y ys) e).1 in
-    ((l, above_all x y ys l later.0), later)
+    ((l, all_above cmp nat_list_cmp_total x y ys l later.0), later)
 
 if_sorted : (x : List ℕ) (xs : List (List ℕ)) → Sorted (x ∷ xs) → ascend_from x xs ≡ true
 unfolding IsStrictlySortedBy
@@ -93,33 +90,6 @@ sorted_ascend (x ∷ xs) s = if_sorted x xs s
 
 flipped : (x k : List ℕ) → cmp k x ≡ Greater → cmp x k ≡ Less
 flipped x k e = nat_list_cmp_total.antisymm x k ∙ ap ordering_reverse e
-
-all_put : (P : List ℕ → Type 0) (xs : List (List ℕ)) (k : List ℕ) → AllByRecursion P xs → P k → AllByRecursion P (insert_key cmp xs k)
-all_put P [] k a p = (p, tt)
-all_put P (x ∷ xs) k a p =
-    elim (cmp k x) as (λ (o : Ordering). AllByRecursion P (match_ordering o (k ∷ x ∷ xs) (x ∷ xs) (x ∷ insert_key cmp xs k))) [
-      | Less ↦ (p, a)
-      | Equal ↦ a
-      | Greater ↦ (a.0, all_put P xs k a.1 p)
-    ]
-
-sorted_put : (xs : List (List ℕ)) (k : List ℕ) → Sorted xs → Sorted (insert_key cmp xs k)
-unfolding IsStrictlySortedBy
-sorted_put [] k s = (tt, tt)
-sorted_put (x ∷ xs) k s =
-    elim (cmp k x) as (λ (o : Ordering). cmp k x ≡ o → Sorted (match_ordering o (k ∷ x ∷ xs) (x ∷ xs) (x ∷ insert_key cmp xs k))) [
-      | Less ↦ λ l. ((l, above_all k x xs l s.0), s)
-      | Equal ↦ λ e. s
-      | Greater ↦ λ g. (all_put (λ y. cmp x y ≡ Less) xs k s.0 (flipped x k g), sorted_put xs k s.1)
-    ] refl
-
-sorted_none : Sorted []
-unfolding IsStrictlySortedBy
-sorted_none = tt
-
-sorted_all : (before xs : List (List ℕ)) → Sorted before → Sorted (sorted_into cmp before xs)
-sorted_all before [] s = s
-sorted_all before (x ∷ xs) s = sorted_all (insert_key cmp before x) xs (sorted_put before x s)
 
 has_put : (q : List ℕ) (xs : List (List ℕ)) (k : List ℕ) → has_name q (insert_key cmp xs k) ≡ (bytes_eq q k || has_name q xs)
 has_put q [] k = refl
@@ -165,7 +135,7 @@ none_above x (y ∷ ys) a = by (bytes_eq x y) refl (none_above x ys a.1)
 not_below : (x y : List ℕ) (xs ys : List (List ℕ)) → AllAbove y ys → has_name x (x ∷ xs) ≡ has_name x (y ∷ ys) → cmp x y ≡ Less → ⊥
 not_below x y xs ys a same l =
     let there : true ≡ has_name x (y ∷ ys) = sym (ap (λ (b : Bool). b || has_name x xs) (is_itself x)) ∙ same in
-    let none : has_name x (y ∷ ys) ≡ false = none_above x (y ∷ ys) (l, above_all x y ys l a) in
+    let none : has_name x (y ∷ ys) ≡ false = none_above x (y ∷ ys) (l, all_above cmp nat_list_cmp_total x y ys l a) in
     let f : true ≡ false = there ∙ none in cc
 
 same_first : (x y : List ℕ) (xs ys : List (List ℕ)) → AllAbove x xs → AllAbove y ys → ((q : List ℕ) → has_name q (x ∷ xs) ≡ has_name q (y ∷ ys)) → x ≡ y
@@ -225,14 +195,14 @@ module _ (names found : List (List ℕ)) where
   names_same e =
       let p = both (ascend names && are_among names found) (are_among found names) e in
       let o = both (ascend names) (are_among names found) p.0 in
-      same_sets names sorted (ascend_sorted names o.0) (sorted_all [] found sorted_none)
+      same_sets names sorted (ascend_sorted names o.0) (into_sorted cmp nat_list_cmp_total found)
       (λ q. same_bools (has_name q names) (has_name q found) (among found names p.1 q) (among names found o.1 q) ∙ sym (has_all q [] found))
 
   same_names_are : names ≡ sorted → ((ascend names && are_among names found) && are_among found names) ≡ true
   same_names_are e =
       let has : (q : List ℕ) → has_name q names ≡ has_name q found = λ q. ap (has_name q) e ∙ has_all q [] found in
       and_both (ascend names && are_among names found) (are_among found names)
-      (and_both (ascend names) (are_among names found) (ap ascend e ∙ sorted_ascend sorted (sorted_all [] found sorted_none)) (all_among names found (λ q h. has q ∙ h)))
+      (and_both (ascend names) (are_among names found) (ap ascend e ∙ sorted_ascend sorted (into_sorted cmp nat_list_cmp_total found)) (all_among names found (λ q h. has q ∙ h)))
       (all_among found names (λ q h. sym (has q) ∙ h))
 
   -- the test of names that ascend, with both ways of being among others, is whether they are the set

@@ -1,38 +1,23 @@
 -- Threads by their numbers, in order.
-use Rattle.std.proofs.Common.{◌≡◌, ℕ, ℤ, List, [], ◌∷◌, Bool, true, false, cond, nat_eq, map, filter, refl, sym, ap, ◌∙◌, subst, arith, nat_cmp, is_eq, Option, Some, None}
+use Rattle.std.proofs.Common.{◌≡◌, ℕ, ℤ, List, [], ◌∷◌, Bool, true, false, cond, nat_eq, map, filter, refl, sym, ap, ◌∙◌, subst, nat_cmp, Some, None}
 use Rattle.std.proofs.lemmas.Cmp.{nat_cmp_total}
-use Rattle.std.proofs.lemmas.Grind.{common_steps}
 use Rattle.std.specs.declared.cmp.Ordering.{Ordering}
 use Rattle.std.specs.declared.cmp.Ordering.TheVariants.{Less, Equal, Greater}
-use Rattle.std.specs.Ordering.{match_ordering, ordering_reverse}
-use Rattle.std.specs.List.{AllByRecursion}
+use Rattle.std.specs.Ordering.{match_ordering}
 use Rattle.std.specs.List.Sorted.{IsStrictlySortedBy}
 use Rattle.std.specs.Map.{keys_of}
 use Rattle.std.specs.BTreeMap.{is_at}
 use Rattle.std.specs.BTreeSet.{insert_key}
 use Rattle.std.proofs.lemmas.Map.Keys.{sorted_head, sorted_tail}
 use Rattle.change_list.specs.Advance.{row_at}
+use Rattle.served_maps.proofs.AmongLemmas.{equal_is, found_is, is_here, no_row, turned}
+pub use Rattle.served_maps.proofs.AmongLemmas.{key_test}
 use Rattle.mail_maps.specs.declared.row.EmailRow.{EmailRow}
 use Rattle.mail_maps.specs.Keywords.{sorted_into}
 use Rattle.mail_maps.specs.Rows.{Rows, in_thread}
 use Rattle.mail_maps.specs.Threads.{pairs_in, emails_in, thread_numbers, threads_of, where_any, thread_at}
 use Rattle.mail_maps.proofs.InOrder.{keys_of-keyed}
-
-equal_is : (a b : ℕ) → nat_cmp a b ≡ Equal → a ≡ b
-equal_is a b e = grind arith
-
--- an entry stands at a number where it has that number
-pub key_test : (q k : ℕ) → is_at (nat_cmp q) k ≡ nat_eq k q
-key_test q k = grind (arith, common_steps)
-
-found_is : (q k : ℕ) → is_at (nat_cmp q) k ≡ true → q ≡ k
-found_is q k e = grind (arith, common_steps)
-
-is_here : (k : ℕ) → is_at (nat_cmp k) k ≡ true
-is_here k = grind (arith, common_steps)
-
-turned : (a b : ℕ) (o : Ordering) → nat_cmp a b ≡ o → nat_cmp b a ≡ ordering_reverse o
-turned a b o e = nat_cmp_total.antisymm b a ∙ ap ordering_reverse e
+use Rattle.mail_maps.proofs.MemberLemmas.{all_above, into_sorted}
 
 -- ---- which numbers have a Thread
 
@@ -102,58 +87,21 @@ threads_at rows t =
 
 -- ---- their order
 
-all_put : (P : ℕ → Type 0) (xs : List ℕ) (k : ℕ) → P k → AllByRecursion P xs → AllByRecursion P (insert_key nat_cmp xs k)
-all_put P [] k p all = (p, tt)
-all_put P (x ∷ xs) k p all = by (nat_cmp k x) (all_put P xs k p all.1)
-  where
-    by : (o : Ordering) → AllByRecursion P (insert_key nat_cmp xs k) → AllByRecursion P (match_ordering o (k ∷ x ∷ xs) (x ∷ xs) (x ∷ insert_key nat_cmp xs k))
-    by Less rest = (p, all)
-    by Equal rest = all
-    by Greater rest = (all.0, rest)
-
-all_above : (k x : ℕ) (ys : List ℕ) → nat_cmp k x ≡ Less → AllByRecursion (λ y. nat_cmp x y ≡ Less) ys → AllByRecursion (λ y. nat_cmp k y ≡ Less) ys
-all_above k x [] less all = tt
-all_above k x (y ∷ ys) less all = (nat_cmp_total.trans k x y less all.0, all_above k x ys less all.1)
-
-sorted_at : (o : Ordering) (k x : ℕ) (xs : List ℕ) → nat_cmp k x ≡ o → IsStrictlySortedBy nat_cmp (x ∷ xs) → IsStrictlySortedBy nat_cmp (insert_key nat_cmp xs k)
-    → IsStrictlySortedBy nat_cmp (match_ordering o (k ∷ x ∷ xs) (x ∷ xs) (x ∷ insert_key nat_cmp xs k))
-unfolding IsStrictlySortedBy
-sorted_at Less k x xs e s rest = ((e, all_above k x xs e s.0), s)
-sorted_at Equal k x xs e s rest = s
-sorted_at Greater k x xs e s rest = (all_put (λ y. nat_cmp x y ≡ Less) xs k (turned k x Greater e) s.0, rest)
-
-sorted_put : (xs : List ℕ) (k : ℕ) → IsStrictlySortedBy nat_cmp xs → IsStrictlySortedBy nat_cmp (insert_key nat_cmp xs k)
-unfolding IsStrictlySortedBy
-sorted_put [] k s = (tt, tt)
-sorted_put (x ∷ xs) k s = sorted_at (nat_cmp k x) k x xs refl s (sorted_put xs k s.1)
-
-sorted_all : (before xs : List ℕ) → IsStrictlySortedBy nat_cmp before → IsStrictlySortedBy nat_cmp (sorted_into nat_cmp before xs)
-sorted_all before [] s = s
-sorted_all before (x ∷ xs) s = sorted_all (insert_key nat_cmp before x) xs (sorted_put before x s)
-
-none_sorted : IsStrictlySortedBy nat_cmp []
-unfolding IsStrictlySortedBy
-none_sorted = tt
-
 -- Threads are in the order of their numbers
 pub threads_sorted : (rows : Rows) → IsStrictlySortedBy nat_cmp (keys_of (threads_of rows))
 threads_sorted rows =
     let S : List ℕ → Type 0 = λ ks. IsStrictlySortedBy nat_cmp ks in
-    subst S (sym (keys_of-keyed (emails_in rows) (thread_numbers rows))) (sorted_all [] (map (λ (e : ℕ × EmailRow). e.1.thread) rows) none_sorted)
+    subst S (sym (keys_of-keyed (emails_in rows) (thread_numbers rows))) (into_sorted nat_cmp nat_cmp_total (map (λ (e : ℕ × EmailRow). e.1.thread) rows))
 
 -- ---- rows in order, by what is found in them
 
 module _ {V : Type 0} where
-  none_above : (k : ℕ) (es : List (ℕ × V)) → AllByRecursion (λ y. nat_cmp k y ≡ Less) (keys_of es) → row_at es k ≡ None
-  none_above k [] all = refl
-  none_above k (e ∷ es) all = ap (λ (o : Ordering). cond (is_eq o) (Some e.1) (row_at es k)) all.0 ∙ none_above k es all.1
-
   first_at : (e : ℕ × V) (es : List (ℕ × V)) → row_at (e ∷ es) e.0 ≡ Some e.1
   first_at e es = ap (λ (b : Bool). cond b (Some e.1) (row_at es e.0)) (is_here e.0)
 
   -- below the first one none is found
   none_below : (k : ℕ) (e : ℕ × V) (es : List (ℕ × V)) → nat_cmp k e.0 ≡ Less → IsStrictlySortedBy nat_cmp (keys_of (e ∷ es)) → row_at (e ∷ es) k ≡ None
-  none_below k e es less s = none_above k (e ∷ es) (less, all_above k e.0 (keys_of es) less (sorted_head nat_cmp e.0 (keys_of es) s))
+  none_below k e es less s = no_row k (e ∷ es) (less, all_above nat_cmp nat_cmp_total k e.0 (keys_of es) less (sorted_head nat_cmp e.0 (keys_of es) s))
 
   row_same : (j k : ℕ) (v w : V) → j ≡ k → Some v ≡ Some w → ◌≡◌ {A = ℕ × V} (j, v) (k, w)
   row_same j k v w e f = cc
@@ -170,8 +118,8 @@ module _ {V : Type 0} where
           elim (is_at (nat_cmp q) x.0) as (λ (b : Bool). is_at (nat_cmp q) x.0 ≡ b → row_at xs q ≡ row_at ys q) [
             | true ↦ λ here.
                 let k : q ≡ x.0 = found_is q x.0 here in
-                ap (row_at xs) k ∙ none_above x.0 xs (sorted_head nat_cmp x.0 (keys_of xs) s)
-                ∙ sym (ap (row_at ys) (k ∙ e) ∙ none_above y.0 ys (sorted_head nat_cmp y.0 (keys_of ys) t))
+                ap (row_at xs) k ∙ no_row x.0 xs (sorted_head nat_cmp x.0 (keys_of xs) s)
+                ∙ sym (ap (row_at ys) (k ∙ e) ∙ no_row y.0 ys (sorted_head nat_cmp y.0 (keys_of ys) t))
             | false ↦ λ other.
                 sym (ap (λ (b : Bool). cond b (Some x.1) (row_at xs q)) other) ∙ same q
                 ∙ ap (λ (b : Bool). cond b (Some y.1) (row_at ys q)) (ap (is_at (nat_cmp q)) (sym e) ∙ other)

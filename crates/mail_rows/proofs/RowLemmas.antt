@@ -11,10 +11,7 @@ use Rattle.std.specs.BTreeMap.{is_at, insert_entry}
 use Rattle.std.proofs.lemmas.Map.Keys.{sorted_head, sorted_tail}
 use Rattle.std.proofs.lemmas.Grind.{common_steps}
 use Rattle.change_list.specs.Advance.{row_at, AreRows}
-
--- a number is at itself
-pub is_here : (k : ℕ) → is_at (nat_cmp k) k ≡ true
-is_here k = grind (arith, common_steps)
+pub use Rattle.served_maps.proofs.AmongLemmas.{is_here, found_is, AllIn, all_in, no_row as none_above}
 
 -- no number is at a higher one
 pub above_is_not : (a b : ℕ) → a < b → is_at (nat_cmp a) b ≡ false
@@ -36,10 +33,6 @@ below_is_less a b e = grind (arith, common_steps)
 pub is_greater : (a b : ℕ) → a < b → nat_cmp b a ≡ Greater
 is_greater a b h = grind (arith, common_steps)
 
--- a number is at its equal alone
-pub found_is : (q k : ℕ) → is_at (nat_cmp q) k ≡ true → q ≡ k
-found_is q k e = grind (arith, common_steps)
-
 module _ {R : Type 0} where
   -- each number is below this one
   abbrev pub Under : ℕ → List (ℕ × R) → Type 0
@@ -50,16 +43,6 @@ module _ {R : Type 0} where
   abbrev pub From : ℕ → List (ℕ × R) → Type 0
   From first [] = Unit {0}
   From first (e ∷ es) = (first ≤ e.0) × From first es
-
-  -- these rows are found by their numbers
-  abbrev pub AllIn : List (ℕ × R) → List (ℕ × R) → Type 0
-  AllIn rows [] = Unit {0}
-  AllIn rows (e ∷ es) = (row_at rows e.0 ≡ Some e.1) × AllIn rows es
-
-  -- no row is found below the first
-  pub none_above : (k : ℕ) (es : List (ℕ × R)) → AllByRecursion (λ y. nat_cmp k y ≡ Less) (keys_of es) → row_at es k ≡ None
-  none_above k [] h = refl
-  none_above k (e ∷ es) h = ap (λ (b : Bool). cond b (Some e.1) (row_at es k)) (above_is_not k e.0 (less_is_below k e.0 h.0)) ∙ none_above k es h.1
 
   -- rows in order are one each number
   pub rows_sorted : (es : List (ℕ × R)) → IsStrictlySortedBy nat_cmp (keys_of es) → AreRows es
@@ -75,19 +58,6 @@ module _ {R : Type 0} where
   pub none_before : (first q : ℕ) (es : List (ℕ × R)) → From first es → q < first → row_at es q ≡ None
   none_before first q [] f h = refl
   none_before first q (e ∷ es) f h = ap (λ (b : Bool). cond b (Some e.1) (row_at es q)) (above_is_not q e.0 (omega (arith, f.0, h))) ∙ none_before first q es f.1 h
-
-  found_later : (e : ℕ × R) (es xs : List (ℕ × R)) → AllByRecursion (λ y. nat_cmp e.0 y ≡ Less) (keys_of xs) → AllIn es xs → AllIn (e ∷ es) xs
-  found_later e es [] h a = tt
-  found_later e es (x ∷ xs) h a =
-      (ap (λ (b : Bool). cond b (Some e.1) (row_at es x.0)) (below_is_not e.0 x.0 (less_is_below e.0 x.0 h.0)) ∙ a.0, found_later e es xs h.1 a.1)
-
-  -- each row of rows in order is found by its number
-  pub all_in : (es : List (ℕ × R)) → IsStrictlySortedBy nat_cmp (keys_of es) → AllIn es es
-  all_in [] h = tt
-  all_in (e ∷ es) h = (
-    ap (λ (b : Bool). cond b (Some e.1) (row_at es e.0)) (is_here e.0),
-    found_later e es es (sorted_head nat_cmp e.0 (keys_of es) h) (all_in es (sorted_tail nat_cmp e.0 (keys_of es) h)),
-  )
 
   -- what is found in one list after another
   pub row_at-append : (xs ys : List (ℕ × R)) (q : ℕ) → row_at (xs ++ ys) q ≡ option_or (row_at xs q) (row_at ys q)

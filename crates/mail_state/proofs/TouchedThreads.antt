@@ -1,13 +1,12 @@
 -- A Thread in which no Email comes or goes stays as it is, so Threads that are touched alone are gathered anew.
-use Rattle.std.proofs.Common.{◌≡◌, ℕ, ℤ, ◌<◌, List, [], ◌∷◌, ◌++◌, Bool, true, false, not, ◌&&◌, ◌||◌, cond, nat_eq, map, filter, refl, sym, ap, ◌∙◌, subst, nat_cmp, Option, Some}
-use Rattle.std.proofs.Common.{None, is_some, eq-eqb, arith, ◌+◌, drop, get_or, length, add-one, suc}
+use Rattle.std.proofs.Common.{◌≡◌, ℕ, ℤ, List, [], ◌∷◌, ◌++◌, Bool, true, false, not, ◌&&◌, ◌||◌, cond, nat_eq, map, filter, refl, sym, ap, ◌∙◌, subst, nat_cmp, Option, Some}
+use Rattle.std.proofs.Common.{None, is_some, eq-eqb, arith, length, suc}
 use Rattle.std.specs.BTreeMap.{is_at}
 use Rattle.std.specs.BTreeSet.{BTreeSet, contains}
 use Rattle.std.specs.List.{list_any}
 use Rattle.std.specs.List.Sorted.{IsStrictlySortedBy}
 use Rattle.std.specs.Map.{keys_of}
 use Rattle.std.specs.Option.{option_map}
-use Rattle.std.proofs.Math.Seq.{drop-cons}
 use Rattle.std.proofs.lemmas.List.{append-nil}
 use Rattle.std.proofs.lemmas.List.Elements.{filter-append}
 use Rattle.std.proofs.lemmas.List.Folds.{list_any-append}
@@ -213,20 +212,6 @@ others_stay n hs after o then takes t none =
     ∙ ap (λ (ps : List (ℤ × ℕ)). pairs_in (remaining hs n.rows) t ++ ps) (none_joins after.rows t more found none_added)
     ∙ append-nil (pairs_in (remaining hs n.rows) t) ∙ pairs_stay hs f t n.rows removed lost in
     threads_at after.rows t ∙ same_thread_at after.rows n.rows t pairs ∙ sym (threads_at n.rows t)
-
--- ---- one turn of a loop that notes what passes a test
-
-or_joined : (a b c : Bool) → ((a || b) || c) ≡ (a || (b || c))
-or_joined true b c = refl
-or_joined false b c = refl
-
--- what was noted, and what is left, pass as before
-pub noted_more : {X : Type 0} (f : X → Bool) (xs : List X) (i : ℕ) (x : X) (old new all : Bool) → i < length xs → x ≡ get_or xs i x → new ≡ (old || f x)
-    → (old || list_any f (drop i xs)) ≡ all → (new || list_any f (drop (i + 1) xs)) ≡ all
-noted_more {X} f xs i x old new all within is made was =
-    let left_is : drop i xs ≡ x ∷ drop (i + 1) xs = rw add-one (drop-cons xs i x within ∙ ap (λ (y : X). y ∷ drop (suc i) xs) (sym is)) in
-    ap (λ (b : Bool). b || list_any f (drop (i + 1) xs)) made ∙ or_joined old (f x) (list_any f (drop (i + 1) xs))
-    ∙ sym (ap (λ (ys : List X). old || list_any f ys) left_is) ∙ was
 
 -- ---- the step
 

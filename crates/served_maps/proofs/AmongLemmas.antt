@@ -22,19 +22,24 @@ use Rattle.served_maps.specs.reading.AmongSteps.{goes, tested, is_other, change_
 
 -- ---- numbers in order
 
-equal_is : (a b : ℕ) → nat_cmp a b ≡ Equal → a ≡ b
+-- numbers that compare equal are one
+pub equal_is : (a b : ℕ) → nat_cmp a b ≡ Equal → a ≡ b
 equal_is a b e = grind arith
 
-found_is : (q k : ℕ) → is_at (nat_cmp q) k ≡ true → q ≡ k
+-- a number is at its equal alone
+pub found_is : (q k : ℕ) → is_at (nat_cmp q) k ≡ true → q ≡ k
 found_is q k e = grind (arith, common_steps)
 
-is_here : (k : ℕ) → is_at (nat_cmp k) k ≡ true
+-- a number is at itself
+pub is_here : (k : ℕ) → is_at (nat_cmp k) k ≡ true
 is_here k = grind (arith, common_steps)
 
-key_test : (q k : ℕ) → is_at (nat_cmp q) k ≡ nat_eq k q
+-- an entry stands at a number where it has that number
+pub key_test : (q k : ℕ) → is_at (nat_cmp q) k ≡ nat_eq k q
 key_test q k = grind (arith, common_steps)
 
-turned : (a b : ℕ) (o : Ordering) → nat_cmp a b ≡ o → nat_cmp b a ≡ ordering_reverse o
+-- numbers compared the other way round
+pub turned : (a b : ℕ) (o : Ordering) → nat_cmp a b ≡ o → nat_cmp b a ≡ ordering_reverse o
 turned a b o e = nat_cmp_total.antisymm b a ∙ ap ordering_reverse e
 
 -- whether the number is among these
@@ -102,12 +107,13 @@ filter_has p (k ∷ ks) q = by (is_at (nat_cmp q) k) (p k) refl refl (filter_has
 -- ---- rows in order
 
 module _ {R : Type 0} where
-  no_row : (k : ℕ) (es : List (ℕ × R)) → AllByRecursion (λ y. nat_cmp k y ≡ Less) (keys_of es) → row_at es k ≡ None
+  -- no row is found below the first
+  pub no_row : (k : ℕ) (es : List (ℕ × R)) → AllByRecursion (λ y. nat_cmp k y ≡ Less) (keys_of es) → row_at es k ≡ None
   no_row k [] all = refl
   no_row k (e ∷ es) all = ap (λ (o : Ordering). cond (is_eq o) (Some e.1) (row_at es k)) all.0 ∙ no_row k es all.1
 
   -- each of these rows is found by its number
-  abbrev AllIn : List (ℕ × R) → List (ℕ × R) → Type 0
+  abbrev pub AllIn : List (ℕ × R) → List (ℕ × R) → Type 0
   AllIn rows [] = Unit {0}
   AllIn rows (e ∷ es) = (row_at rows e.0 ≡ Some e.1) × AllIn rows es
 
@@ -118,7 +124,8 @@ module _ {R : Type 0} where
   found_later e es [] h a = tt
   found_later e es (x ∷ xs) h a = (ap (λ (b : Bool). cond b (Some e.1) (row_at es x.0)) (below_is_not e.0 x.0 h.0) ∙ a.0, found_later e es xs h.1 a.1)
 
-  all_in : (es : List (ℕ × R)) → IsStrictlySortedBy nat_cmp (keys_of es) → AllIn es es
+  -- each row of rows in order is found by its number
+  pub all_in : (es : List (ℕ × R)) → IsStrictlySortedBy nat_cmp (keys_of es) → AllIn es es
   all_in [] h = tt
   all_in (e ∷ es) h = (
     ap (λ (b : Bool). cond b (Some e.1) (row_at es e.0)) (is_here e.0),

@@ -1,6 +1,6 @@
 use Rattle.told_folder.proofs.KeyedLemmas.{get_or-defaults}
 use Rattle.mail_state.specs.reading.ThreadSteps.{removes}
-use Rattle.mail_state.proofs.TouchedThreads.{noted_more}
+use Rattle.mail_maps.proofs.FrontLemmas.{noted_more}
 use Rattle.mail_state.proofs.threads.removals.Goals as goal
 
 pub loop-touch-preserved : goal.loop-touch-preserved
