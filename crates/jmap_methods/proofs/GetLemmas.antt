@@ -102,7 +102,7 @@ whole_shown letter objects [] whole = refl
 whole_shown letter objects (id ∷ ids) whole =
     whole_one (object_with letter objects id) (filter_map (object_with letter objects) ids) (whole_found _ objects whole) (whole_shown letter objects ids whole)
 
-pub whole_texts : (texts : List (List ℕ)) → items_have_float (items_of (map string texts)) ≡ false
+whole_texts : (texts : List (List ℕ)) → items_have_float (items_of (map string texts)) ≡ false
 whole_texts [] = refl
 whole_texts (text ∷ texts) = whole_texts texts
 

@@ -6,7 +6,7 @@ use std::alloc::Global;
 use std::process::Abort;
 use told_mail::{Exchange, Mirror};
 
-/// So many ids, in the arguments of a /get.
+/// This many ids, in the arguments of a /get.
 fn many_ids(rt: &impl Abort, alloc: Global, account: &str, count: u32) -> String {
     let mut text = format!(in alloc; "{{\"accountId\":\"{account}\",\"ids\":[\"x\"").expect(
         rt,
@@ -30,7 +30,7 @@ fn get_many(
     answer(rt, alloc, state, "Mailbox/get", arguments.as_str())
 }
 
-/// What a store says that has so many folders.
+/// What a store with this many folders says.
 fn many_folders(rt: &impl Abort, alloc: Global, count: u32) -> String {
     let mut text = String::new(alloc);
     for number in 0..count {

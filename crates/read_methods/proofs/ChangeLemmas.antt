@@ -122,6 +122,7 @@ whole_result letter epoch k further d result whole a =
     let P : Result Data MethodError → Type 0 = λ r. IfOk r (λ reply. has_float reply ≡ false) in
     subst P (sym a.reply) (whole_found letter epoch k further d a.found whole)
 
+-- an answer to what is found has integers alone
 pub wholly : (letter epoch : ℕ) (k : Kept) (further : Further) (d : Data) (r : Result Value MethodError) → AddsWhole further
     → Meets Memory view r (AnswersFound letter epoch k further d) → IfOk r (λ value. has_float (view value) ≡ false)
 wholly letter epoch k further d (Ok value) whole a = whole_result letter epoch k further d (Ok (view value)) whole a
@@ -129,6 +130,7 @@ wholly letter epoch k further d (Err e) whole a = tt
 
 -- ---- each history
 
+-- what holds of a value for each x holds for each x of the value
 pub under : {X Y E : Type 0} (H : X → Type 0) (P : X → Y → Type 0) (r : Result Y E) → ((x : X) → H x → IfOk r (P x)) → IfOk r (λ y. (x : X) → H x → P x y)
 under H P (Ok y) each = each
 under H P (Err e) each = tt

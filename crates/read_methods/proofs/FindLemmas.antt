@@ -36,10 +36,11 @@ module _ (epoch : ℕ) (k : Kept) (d : Data) where
       let K : ℕ → Type 0 = λ n. IsKeptPlace k n in
       out (subst K same (record { from_front = named.from_front; to_last = named.to_last })))
 
-  -- below the front, or past the last place
+  -- a place below the front isn't kept
   pub before : (place front : ℕ) → (front ≡ front_of k.place) × (place < front) → IsKeptPlace k place → ⊥
   before place front is there = absurd (omega (arith, is.0, is.1, there.from_front))
 
+  -- nor is one past the last place
   pub past : (place last : ℕ) → (last ≡ k.place) × (last < place) → IsKeptPlace k place → ⊥
   past place last is there = absurd (omega (arith, is.0, is.1, there.to_last))
 

@@ -60,6 +60,7 @@ module _ (letter epoch : ℕ) (h : List Entry) (further : Further) (few : length
   one_of d _ _ (Answered asked a is) (NoSuchState other js none) = absurd (none_found other asked (ok_is other asked (sym js ∙ is)) none a)
   one_of d _ _ (Answered asked a is) (Answered other b js) = both_answered asked other a b (ok_is asked other (sym is ∙ js))
 
+-- touches and a call have one answer
 pub one_changes_answer : (letter epoch : ℕ) (h : List Entry) (further : Further) (d : Data) (r s : Result Data MethodError)
     → length h < 2 ^ 64 → AnswersChanges letter epoch h further d r → AnswersChanges letter epoch h further d s → r ≡ s
 one_changes_answer letter epoch h further d r s few a b = one_of letter epoch h further few d r s a b

@@ -67,6 +67,7 @@ whole_properties e [] ms whole = whole
 whole_properties e (p ∷ ps) ms whole =
     whole_properties e ps (put (property_name p) (property_data e p) ms) (whole_put (property_name p) (property_data e p) ms (whole_property e p) whole)
 
+-- Mailboxes have integers alone
 pub whole_mailboxes : (mailboxes : List (ℕ × ServedMailbox)) (wanted : List MailboxProperty) → AreWhole (mailbox_objects mailboxes wanted)
 whole_mailboxes [] wanted = tt
 whole_mailboxes (e ∷ es) wanted = (whole_properties e (Id ∷ wanted) no_members refl, whole_mailboxes es wanted)
@@ -77,6 +78,7 @@ whole_emails : (wanted : Bool) (emails : List ℕ) (ms : Members) → members_ha
 whole_emails true emails ms whole = whole_put (codes "emailIds") (id_list 101 emails) ms (whole_ids 101 emails) whole
 whole_emails false emails ms whole = whole
 
+-- so have Threads
 pub whole_threads : (threads : List (ℕ × List ℕ)) (wanted : Bool) → AreWhole (thread_objects threads wanted)
 whole_threads [] wanted = tt
 whole_threads (e ∷ es) wanted = (whole_emails wanted e.1 (put (codes "id") (id_data 116 e.0) no_members) refl, whole_threads es wanted)
@@ -87,6 +89,7 @@ whole_threads (e ∷ es) wanted = (whole_emails wanted e.1 (put (codes "id") (id
 abbrev pub AddsWhole : Further → Type 0
 AddsWhole further = (c : Changes) → members_have_float (further c) ≡ false
 
+-- so does one that adds nothing
 pub none_whole : AddsWhole no_further
 none_whole c = refl
 
@@ -94,9 +97,11 @@ whole_names : (counts_only : Bool) → has_float (names_if counts_only) ≡ fals
 whole_names true = refl
 whole_names false = refl
 
+-- and one that adds names of properties
 pub names_whole : AddsWhole updated_properties
 names_whole c = rw (whole_names c.counts_only) refl
 
+-- what changed has integers alone
 pub whole_changes : (letter epoch last : ℕ) (since : List ℕ) (further : Further) (c : Changes) → AddsWhole further
     → has_float (changes_data letter epoch last since further c) ≡ false
 whole_changes letter epoch last since further c whole = rw (whole_ids letter c.created, whole_ids letter c.destroyed, whole_ids letter c.updated, whole c) refl
