@@ -2,13 +2,10 @@
 //! texts of commands.
 #![tactic(auto)]
 
-// How responses are read here.
-#[cfg(test)]
-mod reading;
-
-// Where responses end, and what they say.
 #[cfg(test)]
 mod codes;
+#[cfg(test)]
+mod commands;
 #[cfg(test)]
 mod folders;
 #[cfg(test)]
@@ -16,12 +13,10 @@ mod items;
 #[cfg(test)]
 mod limits;
 #[cfg(test)]
+mod reading;
+#[cfg(test)]
 mod responses;
 #[cfg(test)]
 mod scanning;
 #[cfg(test)]
 mod store_responses;
-
-// Commands.
-#[cfg(test)]
-mod commands;

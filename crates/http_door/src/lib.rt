@@ -1,11 +1,8 @@
 //! A server's door for HTTP: what a client asks, read whole, and the responses that it is sent.
 #![tactic(auto)]
 
-// What is asked.
 mod ask;
 mod asking;
-
-// What is sent.
 mod media;
 mod response;
 

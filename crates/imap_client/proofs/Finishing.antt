@@ -242,7 +242,8 @@ end_takes : (up : Bool) → flat_map store_took_in (end_unless up) ≡ []
 end_takes true = refl
 end_takes false = refl
 
-spoken_takes : {pieces : List (List ℕ)} {before : Octets} {up : Bool} {events : List Event} (s : Speaks pieces before up events) → flat_map store_took_in events ≡ s.took
+-- what was taken in an exchange
+pub spoken_takes : {pieces : List (List ℕ)} {before : Octets} {up : Bool} {events : List Event} (s : Speaks pieces before up events) → flat_map store_took_in events ≡ s.took
 spoken_takes {up = up} s =
     ap (λ (l : List Event). flat_map store_took_in l) s.ended ∙ flat_map-append store_took_in s.talk (end_unless up) ∙ (λ i. s.said.took_is i ++ end_takes up i) ∙ append-nil s.took
 

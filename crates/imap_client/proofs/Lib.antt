@@ -7,3 +7,5 @@ mod RoundSteps
 mod Refutations
 mod Finishing
 mod Obedience
+mod OneRun
+mod InOrder

@@ -33,7 +33,8 @@ end_gives : (up : Bool) → flat_map store_gave_in (end_unless up) ≡ []
 end_gives true = refl
 end_gives false = refl
 
-spoken_gives : {pieces : List (List ℕ)} {before : Octets} {up : Bool} {events : List Event} (s : Speaks pieces before up events) → flat_map store_gave_in events ≡ s.gave
+-- what the events of an exchange gave
+pub spoken_gives : {pieces : List (List ℕ)} {before : Octets} {up : Bool} {events : List Event} (s : Speaks pieces before up events) → flat_map store_gave_in events ≡ s.gave
 spoken_gives {up = up} s =
     ap (λ (l : List Event). flat_map store_gave_in l) s.ended ∙ flat_map-append store_gave_in s.talk (end_unless up) ∙ (λ i. s.said.gave_is i ++ end_gives up i) ∙ append-nil s.gave
 
@@ -47,20 +48,24 @@ pub record Left (plan : Planned) (heard : List Exchange) (after : LinkLife) (oct
   pub obeys : Obeys plan heard number folder left
   pub here : after.goes_on ≡ true → (number ≡ next_number after) × (folder ≡ selected after) × (left ≡ octets)
 
-send_not_done : (c : Command) → due.Done ≡ due.Send c → ⊥
+-- where a command is due not all is done
+pub send_not_done : (c : Command) → due.Done ≡ due.Send c → ⊥
 send_not_done c is = cc
 
-send_same : (c d : Command) → due.Send c ≡ due.Send d → c ≡ d
+-- the command that is due is one
+pub send_same : (c d : Command) → due.Send c ≡ due.Send d → c ≡ d
 send_same c d is = cc
 
-done_same : (rs rs' : List Response) (s s' : Status) (k k' : Code) (t t' : List ℕ) → Done rs s k t ≡ Done rs' s' k' t' → (rs ≡ rs') × (s ≡ s') × (k ≡ k') × (t ≡ t')
+-- two equal answers say the same
+pub done_same : (rs rs' : List Response) (s s' : Status) (k k' : Code) (t t' : List ℕ) → Done rs s k t ≡ Done rs' s' k' t' → (rs ≡ rs') × (s ≡ s') × (k ≡ k') × (t ≡ t')
 done_same rs rs' s s' k k' t t' is = (cc, cc, cc, cc)
 
 -- two exchanges are one where each part is
-same_exchange : (x y : Exchange) → x.command ≡ y.command → x.selected ≡ y.selected → x.responses ≡ y.responses → x.status ≡ y.status → x.code ≡ y.code → x ≡ y
+pub same_exchange : (x y : Exchange) → x.command ≡ y.command → x.selected ≡ y.selected → x.responses ≡ y.responses → x.status ≡ y.status → x.code ≡ y.code → x ≡ y
 same_exchange x y a b c d e = (λ i. record { command = a i; selected = b i; responses = c i; status = d i; code = e i })
 
-selected_next : (mid after : LinkLife) (gave took rest : List ℕ) (x : Exchange) → mid.goes_on ≡ true → after ≡ with_exchange mid gave took x rest after.goes_on
+-- the folder that is selected after an exchange
+pub selected_next : (mid after : LinkLife) (gave took rest : List ℕ) (x : Exchange) → mid.goes_on ≡ true → after ≡ with_exchange mid gave took x rest after.goes_on
     → after.goes_on ≡ true → selected_by x.command x.status (selected mid) ≡ selected after
 selected_next mid after gave took rest x on is on' =
     let next = with_exchange mid gave took x rest after.goes_on in

@@ -1,10 +1,11 @@
 -- Rounds and the fetch of a body, exchange by exchange.
-use Rattle.std.proofs.Common.{◌≡◌, ◌≢◌, ◌++◌, ◌-◌, ℕ, false, List, [], ◌∷◌, Option, Some, None, Result, Ok, Err, fold, refl, sym, ◌∙◌, ap, subst, arith}
+use Rattle.std.proofs.Common.{◌≡◌, ◌≢◌, ◌++◌, ◌-◌, ◌<◌, ◌≤◌, ◌^◌, ℕ, false, List, [], ◌∷◌, Option, Some, None, Result, Ok, Err, fold, refl, sym, ◌∙◌, ap, subst, arith}
 use Rattle.std.proofs.lemmas.List.Sums.{fold-append}
 use Rattle.told_folder.specs.declared.exchange.Exchange.{Exchange}
-use Rattle.told_mail.specs.Mail.{Mail, folder_in}
+use Rattle.told_mail.specs.Mail.{Mail, folder_in, IsMail, IsNextMail}
 use Rattle.told_folder.specs.declared.message.Folder.{Folder}
-use Rattle.told_mail.specs.Told.{Told}
+use Rattle.told_mail.specs.Told.{Told, Counts}
+use Rattle.told_mail.proofs.NumberLemmas.{numbers_stay, next_by, next_mail_joins}
 use Rattle.told_mail.specs.Exchanges.{tell, TellsKnown}
 use Rattle.gate_world.specs.declared.event.Event.{Event}
 use Rattle.imap_exchange.specs.declared.link_end.LinkEnd.{LinkEnd}
@@ -20,6 +21,7 @@ use Rattle.imap_client.specs.declared.plan.Refusal.TheVariants as refusal
 use Rattle.imap_client.specs.Connecting.{is_ok}
 use Rattle.imap_client.specs.Plans.{StopsAtRefusal, HearsAll, HeardNone, HeardMore, Follows, FollowsTo}
 use Rattle.imap_client.specs.LinkLife.{LinkLife, ClientState, selected}
+use Rattle.imap_client.specs.reading.Keeping.{KeepsMirror}
 use Rattle.imap_client.specs.Rounds.{AllTellKnown, CountsOn, KeepsCount, Rounds, RoundState, round_due, round_step, round_from}
 use Rattle.imap_client.specs.Bodies.{BodyState, body_step, body_from, body_due, body_begun, body_start, select_due, HasBody, FetchesBody}
 use Rattle.imap_client.proofs.Connections.{not_ok}
@@ -68,8 +70,36 @@ body_stops folder uid s =
 -- ---- the count of changes
 
 -- where nothing is told, the count goes on as it should
-pub counts_none : (t : Told) → CountsOn t t
+counts_none : (t : Told) → CountsOn t t
 counts_none t = record { rises = omega arith; stands = λ _ _. refl }
+
+-- where nothing is told, the count goes on and the mail can follow
+pub keeps_none : (t : Told) → KeepsMirror t t
+keeps_none t = (counts_none t, λ is. next_by t.mail t.mail is (numbers_stay t.mail))
+
+-- what is told after other exchanges lets the count go on, and leads to mail that can follow
+pub keeps_told : (first old new : Told) → Counts old new → IsNextMail old.mail new.mail → KeepsMirror first old → KeepsMirror first new
+keeps_told first old new counts next kept =
+    let was : first.changes ≤ old.changes = kept.0.rises in
+    let now : old.changes ≤ new.changes = counts.rises in (
+      record {
+        rises = omega (arith, was, now);
+        stands = λ e l.
+            let second : new.changes ≡ old.changes = omega (arith, e, was, now) in
+            let one : old.changes ≡ first.changes = omega (arith, e, was, now) in
+            let less : old.changes < 2 ^ 64 - 1 = omega (arith, second, l) in
+            counts.stands second l ∙ kept.0.stands one less;
+      },
+      λ is. next_mail_joins first.mail old.mail new.mail (kept.1 is) next,
+    )
+
+-- the count goes on since the mirror was this
+pub kept_counts : (before first after : Told) → first ≡ before → KeepsMirror first after → CountsOn before after
+kept_counts before first after is kept = (subst (λ (t : Told). KeepsMirror t after) is kept).0
+
+-- the mail can follow what the mirror had
+pub kept_next : (before first after : Told) → first ≡ before → IsMail before.mail → KeepsMirror first after → IsNextMail before.mail after.mail
+kept_next before first after is mail kept = (subst (λ (t : Told). KeepsMirror t after) is kept).1 mail
 
 -- of exchanges that all tell what is known, each does
 known_parts : (m : Mail) (xs : List Exchange) (x : Exchange) → AllTellKnown m (xs ++ x ∷ []) → AllTellKnown m xs × TellsKnown (fold tell m xs) x

@@ -1,10 +1,13 @@
--- Plans says how what is asked in order is followed; Connecting, Rounds and Bodies are such plans. WholeRounds is for a law.
+-- Plans says how what is asked in order is followed; Connecting, Rounds and Bodies are such plans. Sent, Decided and WholeRounds are for laws.
 pub mod LinkLife
 pub mod Calls
 pub mod Refusals
 pub mod Plans
 pub mod Obeying
+pub mod Sent
+pub mod Decided
 pub mod Connecting
 pub mod Rounds
 pub mod WholeRounds
 pub mod Bodies
+pub mod reading

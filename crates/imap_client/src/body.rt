@@ -4,10 +4,11 @@ ghost use Rattle.std.specs.Option.{option_copied};
 ghost use Rattle.gate_world.specs.Causes.{Rose, LinkAlone};
 ghost use Rattle.gate_world.specs.Tape.{Adds};
 ghost use Rattle.told_mail.specs.Exchanges as telling;
-ghost use Rattle.told_mail.specs.Mail.{folder_in};
+ghost use Rattle.told_mail.specs.Mail.{folder_in, IsNextMail};
 ghost use Rattle.imap_client.specs.LinkLife.{LinkLife, Stands, fresh};
 ghost use Rattle.imap_client.specs.Bodies as bodies;
 ghost use Rattle.imap_client.specs.Bodies.{FetchesBody};
+ghost use Rattle.imap_client.specs.reading.Keeping.{KeepsMirror};
 ghost use Rattle.imap_client.specs.Rounds.{CountsOn, KeepsCount};
 
 use crate::client::Client;
@@ -179,7 +180,7 @@ impl Plan for BodyFetch {
     ghost hears = { λ f x g. (g.folder ≡ f.folder) × (g.uid ≡ f.uid) × (record { stage = g.stage; mail = g.mirror.mail } ≡ bodies.body_step f.folder f.uid (record { stage = f.stage; mail = f.mirror.mail }) x)
         × (telling.TellsKnown f.mirror.mail x → g.mirror.changes ≡ f.mirror.changes) };
 
-    ghost keeps = { λ f g. CountsOn f.mirror g.mirror };
+    ghost keeps = { λ f g. KeepsMirror f.mirror g.mirror };
 
     fn due(&self, _alloc: Global) -> Result<Due, AllocError> {
         match &self.stage {
@@ -231,10 +232,12 @@ impl Client {
         ensures alive { OnOk result (self.new.alive ≡ true) }
         ensures ended { OnErr result (self.new ≡ fresh) }
         ensures counts { CountsOn mirror.old mirror.new }
+        ensures next { IsNextMail mirror.old.mail mirror.new.mail }
         ensures alone { LinkAlone (L.faults link.old) (L.faults link.new) }
         ensures cause { IsErrOf result LinkEnd.Lost → Rose (L.faults link.old).link (L.faults link.new).link }
         ensures hidden { L.hidden link.new ≡ L.hidden link.old }
     {
+        mirror.each_is_mail();
         let empty = Mirror::new(self.allocator());
         let stage = begun(self.selected(), mirror.folder(folder));
         let mut plan = BodyFetch {

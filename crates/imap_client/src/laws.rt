@@ -1,8 +1,8 @@
 // What the definitions rule out, and what they promise.
-ghost use Rattle.std.specs.Prelude.{◌≡◌, ◌⊎◌, ◌++◌, ◌∷◌, [], List, ℕ, Bool, Ok, Err, Result};
+ghost use Rattle.std.specs.Prelude.{◌≡◌, ◌⊎◌, ◌++◌, ◌+◌, ◌∷◌, [], List, ℕ, Bool, Ok, Err, Result, length};
 ghost use Rattle.std.specs.List.{flat_map};
 ghost use Rattle.gate_world.specs.declared.event.Event.{Event};
-ghost use Rattle.gate_world.specs.Octets.{store_gave_in};
+ghost use Rattle.gate_world.specs.Octets.{store_gave_in, store_took_in};
 ghost use Rattle.imap_syntax.specs.declared.response.Response.{Response};
 ghost use Rattle.told_folder.specs.declared.exchange.Exchange.{Exchange};
 ghost use Rattle.imap_exchange.specs.declared.link_end.LinkEnd.{LinkEnd};
@@ -13,7 +13,9 @@ ghost use Rattle.imap_client.specs.Connecting.{GreetsBy, greeting_says};
 ghost use Rattle.imap_client.specs.LinkLife.{LinkLife, ClientState, next_number, selected};
 ghost use Rattle.imap_client.specs.Plans.{Planned, Follows};
 ghost use Rattle.imap_client.specs.Obeying.{Obeys};
+ghost use Rattle.imap_client.specs.Decided.{IsDecided};
 ghost use Rattle.imap_client.specs.Rounds.{Rounds};
+ghost use Rattle.imap_client.specs.Sent.{due_texts, next_text};
 ghost use Rattle.imap_client.specs.WholeRounds.{IsFinishedRound};
 ghost use Rattle.told_mail.specs.Mail.{Mail};
 
@@ -34,4 +36,27 @@ pub fn obeyed_plans_end_ok()
     ensures { (plan : Planned) (life left : LinkLife) (exchanges : List Exchange) (client : ClientState) (result : Result (Unit {0}) LinkEnd) (events : List Event)
         → Follows plan life left exchanges client result events → Obeys plan [] (next_number life) (selected life) (life.rest ++ flat_map store_gave_in events)
         → (result ≡ Ok tt) ⊎ (result ≡ Err ends.Lost) ⊎ (result ≡ Err ends.Memory) }
+{}
+
+/// However a plan ends, the store took a front of what its commands are, in order: of the completed ones what was due by their
+/// responses, which is all where it needs no literal, and then the text of the one that is due.
+pub fn commands_are_sent_in_order()
+    ensures { (plan : Planned) (life left : LinkLife) (xs : List Exchange) (client : ClientState) (result : Result (Unit {0}) LinkEnd) (events : List Event)
+        → Follows plan life left xs client result events
+        → (unsent : List ℕ) × (flat_map store_took_in events ++ unsent ≡ due_texts (next_number life) xs ++ next_text (plan xs) (next_number life + length xs)) }
+{}
+
+/// A plan that is followed twice over one stream of octets completes the same exchanges and ends alike, in whatever pieces they
+/// came, where the octets decide both ends.
+pub fn one_run()
+    ensures { (plan : Planned) (life left other : LinkLife) (xs ys : List Exchange) (client also : ClientState) (r s : Result (Unit {0}) LinkEnd) (es fs : List Event) (more later : List ℕ)
+        → Follows plan life left xs client r es → Follows plan life other ys also s fs
+        → flat_map store_gave_in es ++ more ≡ flat_map store_gave_in fs ++ later → IsDecided r → IsDecided s → (xs ≡ ys) × (r ≡ s) }
+{}
+
+/// A round over one stream of octets comes to one mail and one end, in whatever pieces they came, where the octets decide it.
+pub fn one_round()
+    ensures { (before after mail : Mail) (life left other : LinkLife) (client also : ClientState) (r s : Result (Unit {0}) LinkEnd) (es fs : List Event) (more later : List ℕ)
+        → Rounds before after life left client r es → Rounds before mail life other also s fs
+        → flat_map store_gave_in es ++ more ≡ flat_map store_gave_in fs ++ later → IsDecided r → IsDecided s → (after ≡ mail) × (r ≡ s) }
 {}

@@ -6,8 +6,10 @@ ghost use Rattle.std.specs.Option.{option_copied};
 ghost use Rattle.gate_world.specs.Causes.{Rose, LinkAlone};
 ghost use Rattle.gate_world.specs.Tape.{Adds};
 ghost use Rattle.told_mail.specs.Exchanges as telling;
+ghost use Rattle.told_mail.specs.Mail.{IsNextMail};
 ghost use Rattle.imap_client.specs.LinkLife.{LinkLife, Stands, fresh};
 ghost use Rattle.imap_client.specs.Rounds as rounds;
+ghost use Rattle.imap_client.specs.reading.Keeping.{KeepsMirror};
 ghost use Rattle.imap_client.specs.Rounds.{CountsOn, KeepsCount, Rounds};
 
 use crate::client::Client;
@@ -311,7 +313,7 @@ impl Plan for Round {
     ghost hears = { λ r x s. (record { stage = s.stage; mail = s.mirror.mail } ≡ rounds.round_step (record { stage = r.stage; mail = r.mirror.mail }) x)
         × (telling.TellsKnown r.mirror.mail x → s.mirror.changes ≡ r.mirror.changes) };
 
-    ghost keeps = { λ r s. CountsOn r.mirror s.mirror };
+    ghost keeps = { λ r s. KeepsMirror r.mirror s.mirror };
 
     fn due(&self, _alloc: Global) -> Result<Due, AllocError> {
         match self.stage {
@@ -349,10 +351,12 @@ impl Client {
         ensures alive { OnOk result (self.new.alive ≡ true) }
         ensures ended { OnErr result (self.new ≡ fresh) }
         ensures counts { CountsOn mirror.old mirror.new }
+        ensures next { IsNextMail mirror.old.mail mirror.new.mail }
         ensures alone { LinkAlone (L.faults link.old) (L.faults link.new) }
         ensures cause { IsErrOf result LinkEnd.Lost → Rose (L.faults link.old).link (L.faults link.new).link }
         ensures hidden { L.hidden link.new ≡ L.hidden link.old }
     {
+        mirror.each_is_mail();
         let empty = Mirror::new(self.allocator());
         let mut plan = Round {
             stage: RoundStage::Listing,

@@ -1,11 +1,8 @@
 //! The words by which a reader of a store's responses decides, fixed texts, counts of literals, and classes of octets.
 #![tactic(auto)]
 
-// Octets.
 mod class;
 mod count;
-
-// Words and fixed texts.
 mod key;
 mod phrase;
 

@@ -2,13 +2,10 @@
 //! octets that spell them.
 #![tactic(auto)]
 
-// What a store says.
 mod code;
+mod command;
 mod response;
 mod uid_set;
-
-// What it is sent.
-mod command;
 
 pub use code::Code;
 pub use command::Command;

@@ -1,5 +1,5 @@
 // Exchanges made from octets.
-use gate_world::{Bytes, Listed};
+use gate_world::{Bytes, Listed, Names};
 use imap_commands::Command;
 use imap_grammar::{Response, Scan, decode, scan};
 use std::alloc::Global;
@@ -15,9 +15,20 @@ pub(crate) enum Asked<'a> {
     Slice(u32, u32),
     New(u32),
     Unselect,
+    /// A message of 2 January 2024 without flags, to a folder of this name.
+    Append(&'a [u8], &'a [u8]),
 }
 
-fn command_of(rt: &impl Abort, alloc: Global, asked: Asked<'_>) -> Command {
+fn append_of(rt: &impl Abort, alloc: Global, name: &[u8], message: &[u8]) -> Command {
+    Command::Append {
+        name: Bytes::copy_of(alloc, name).expect(rt, "memory"),
+        flags: Names::new(alloc),
+        date: 1_704_186_000,
+        message: Bytes::copy_of(alloc, message).expect(rt, "memory"),
+    }
+}
+
+pub(crate) fn command_of(rt: &impl Abort, alloc: Global, asked: Asked<'_>) -> Command {
     match asked {
         Asked::List => Command::List,
         Asked::Select(name) => Command::Select {
@@ -32,6 +43,7 @@ fn command_of(rt: &impl Abort, alloc: Global, asked: Asked<'_>) -> Command {
         },
         Asked::New(from) => Command::FetchNew { from, modseq: true },
         Asked::Unselect => Command::Unselect,
+        Asked::Append(name, message) => append_of(rt, alloc, name, message),
     }
 }
 

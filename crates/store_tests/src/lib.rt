@@ -11,6 +11,8 @@ mod showing;
 
 // What exchanges tell.
 #[cfg(test)]
+mod last_numbers;
+#[cfg(test)]
 mod mirror_calls;
 #[cfg(test)]
 mod told_exchanges;
@@ -18,6 +20,10 @@ mod told_exchanges;
 mod whole_folders;
 
 // Link lives.
+#[cfg(test)]
+mod asked_slices;
+#[cfg(test)]
+mod bodies;
 #[cfg(test)]
 mod rounds;
 #[cfg(test)]

@@ -108,8 +108,8 @@ fn put_taken(rt: &impl Abort, took: &mut Vec<u8>, event: &Event) {
     }
 }
 
-/// What the store took.
-fn taken(rt: &impl Abort, alloc: Global, world: &ScriptWorld) -> Vec<u8> {
+/// What the store took, with `|` at each end of a life.
+pub(crate) fn taken(rt: &impl Abort, alloc: Global, world: &ScriptWorld) -> Vec<u8> {
     let mut took = Vec::new(alloc);
     for event in world.events().expect(rt, "a tape") {
         put_taken(rt, &mut took, event);

@@ -20,7 +20,7 @@ type Row = (
     &'static [u8],
 );
 
-const ROUNDS: [Row; 24] = [
+const ROUNDS: [Row; 25] = [
     // an empty folder
     (
         &[
@@ -251,6 +251,17 @@ const ROUNDS: [Row; 24] = [
         b"a5 LIST \"\" \"*\" RETURN (SUBSCRIBED)\r\na6 SELECT \"INBOX\" (QRESYNC (7 4))\r\na7 UID FETCH 1:* (UID FLAGS)\r\na8 UID FETCH 3:* (UID FLAGS INTERNALDATE RFC822.SIZE BODY.PEEK[HEADER]<0.32768>)\r\n|",
         b"1 INBOX 7 0 3: 2#2;",
     ),
+    // past the last UID there is none to ask from
+    (
+        &[
+            b"* LIST () \"/\" INBOX\r\na5 OK x\r\n* OK [UIDVALIDITY 7] x\r\n* OK [HIGHESTMODSEQ 4] x\r\na6 OK x\r\n* 1 FETCH (UID 4294967295 FLAGS () MODSEQ (4) INTERNALDATE \"02-Jan-2024 09:00:00 +0000\" RFC822.SIZE 9 BODY[HEADER]<0> \"\")\r\na7 OK x\r\n",
+            b"* LIST () \"/\" INBOX\r\na5 OK x\r\n* OK [UIDVALIDITY 7] x\r\n* OK [UIDNEXT 4294967295] x\r\n* OK [HIGHESTMODSEQ 4] x\r\na6 OK x\r\n* 1 FETCH (UID 4294967295 FLAGS (\\Seen) MODSEQ (4) INTERNALDATE \"02-Jan-2024 09:00:00 +0000\" RFC822.SIZE 9 BODY[HEADER]<0> \"\")\r\na7 OK x\r\n",
+        ],
+        (1, 0),
+        "ok ok ok ok ",
+        b"a5 LIST \"\" \"*\" RETURN (SUBSCRIBED)\r\na6 SELECT \"INBOX\" (QRESYNC (7 4))\r\na7 UID FETCH 4294967295:* (UID FLAGS MODSEQ INTERNALDATE RFC822.SIZE BODY.PEEK[HEADER]<0.32768>)\r\n|",
+        b"1 INBOX 7 4 4294967296: 4294967295#1\\seen;",
+    ),
 ];
 
 fn joined(rt: &impl Abort, alloc: Global, first: &[u8], rest: &[u8]) -> Vec<u8> {
@@ -335,7 +346,7 @@ const LIFE: [(&[u8], &[u8]); 8] = [
     (b"* 9 EXISTS\r\n", FRESH),
 ];
 
-const FRESH: &[u8] = b"1 INBOX\\subscribed 7 4 5: 1#1\\seen 4#2;2 b 9 0 8: 7#3\\draft;";
+pub(crate) const FRESH: &[u8] = b"1 INBOX\\subscribed 7 4 5: 1#1\\seen 4#2;2 b 9 0 8: 7#3\\draft;";
 
 /// The mail that is told once this many octets of the life came.
 fn told_after(count: usize) -> &'static [u8] {
@@ -350,7 +361,7 @@ fn told_after(count: usize) -> &'static [u8] {
     mail
 }
 
-fn whole_life(rt: &impl Abort, alloc: Global) -> Vec<u8> {
+pub(crate) fn whole_life(rt: &impl Abort, alloc: Global) -> Vec<u8> {
     let mut whole = Vec::new(alloc);
     for row in LIFE.iter() {
         whole.extend_from_slice(row.0).expect(rt, "memory");

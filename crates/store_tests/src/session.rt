@@ -11,7 +11,7 @@ const ALICE: Secrets = (b"alice", b"pw");
 /// What the store gives, the user and the password, the answers, and what the store took, with `|` at each end of a life.
 type Row = (&'static [u8], Secrets, &'static str, &'static [u8]);
 
-const STARTS: [Row; 34] = [
+const STARTS: [Row; 35] = [
     (b"* BYE no\r\n", ALICE, "Bye ", b"|"),
     (
         b"* OK hi\r\na1 NO no\r\n* BYE\r\n",
@@ -73,6 +73,13 @@ const STARTS: [Row; 34] = [
         ALICE,
         "Refused ",
         b"a1 CAPABILITY\r\n|",
+    ),
+    // only a CAPABILITY line tells it
+    (
+        b"* OK [CAPABILITY IMAP4rev2 LOGINDISABLED] hi\r\na1 OK [CAPABILITY LOGINDISABLED] x\r\na2 NO no\r\n",
+        ALICE,
+        "Refused ",
+        b"a1 CAPABILITY\r\na2 LOGIN \"alice\" \"pw\"\r\n|",
     ),
     // after LOGIN it means nothing
     (

@@ -2,15 +2,10 @@
 //! another, classes of octets and ends of lines. Grammars over octets are stated in them.
 #![tactic(auto)]
 
-// Octets, and the ends of lines.
+pub mod class;
 pub mod line_ends;
 pub mod octets;
-
-// Cuts.
-pub mod class;
 pub mod parts;
-
-// Tests.
 #[cfg(test)]
 mod tests;
 
