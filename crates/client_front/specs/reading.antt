@@ -1,2 +1,3 @@
--- Clients that wait, one by one: private clauses and proofs alone speak of it.
+-- Clients that wait, one by one, and those that linger: private clauses and proofs alone speak of it.
 pub mod Waiting
+pub mod Lingering

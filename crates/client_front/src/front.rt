@@ -4,6 +4,7 @@ ghost use Rattle.client_front.specs.Handing.{BothSo, Handed, IfServed, ReceivesI
 
 use crate::clock::Ticks;
 use crate::first_octet::can_begin;
+use crate::lingering::Lingering;
 use crate::serving::Serving;
 use crate::sockets::{ClientListener, ClientStream, First};
 use crate::waiting::{Idle, MAX_HELD_CLIENTS, Waiting};
@@ -21,6 +22,7 @@ pub struct ClientFront<L: ClientListener + Drop, C: Ticks + Drop> {
     listener: L,
     clock: C,
     waiting: Waiting<L::Stream>,
+    lingering: Lingering<L::Stream>,
     next_key: u64,
     current: Option<Serving<L::Stream>>,
 }
@@ -35,6 +37,7 @@ impl<L: ClientListener + Drop, C: Ticks + Drop> ClientFront<L, C> {
             listener,
             clock,
             waiting: Waiting::new(alloc),
+            lingering: Lingering::new(alloc),
             next_key: 0,
             current: None,
         }
@@ -80,10 +83,11 @@ impl<L: ClientListener + Drop, C: Ticks + Drop> ClientFront<L, C> {
         Some(true)
     }
 
-    /// Closes idle clients that are late, holds those that have come, and notes those that have sent something.
+    /// Closes clients that are late, holds those that have come, and notes those that have sent something.
     fn look(&mut self) -> Option<()> {
         let now = self.now()?;
         self.waiting.expire(now);
+        self.lingering.close_due(now);
         let mut room = [0u64; WAIT_KEYS];
         let count = self.wait(&mut room)?;
         let came = self.now()?;
@@ -151,12 +155,21 @@ impl<L: ClientListener + Drop, C: Ticks + Drop> ClientFront<L, C> {
         }
     }
 
-    /// Ends the response to the client that is served, and closes it.
+    /// Ends the response to the client that is served, and closes it, or leaves it open for a short time where it still sends.
     pub fn finish(&mut self)
         ensures { IsNone self.new.current }
     {
         if let Some(serving) = self.current.take() {
-            serving.finish(&self.clock);
+            self.leave(serving);
+        }
+    }
+
+    /// Ends the response to a client.
+    fn leave(&mut self, serving: Serving<L::Stream>)
+        ensures { self.new.current ≡ self.old.current }
+    {
+        if let Some(client) = serving.finish(&self.clock) {
+            let _ = self.lingering.add(client);
         }
     }
 }

@@ -15,7 +15,8 @@ mod octets;
 // Clients that wait.
 mod waiting;
 
-// The client that is served, and its deadlines.
+// The client that is served, and its deadlines; then it lingers.
+mod lingering;
 mod pace;
 mod progress;
 mod serving;
@@ -25,6 +26,7 @@ mod front;
 
 pub use clock::Ticks;
 pub use front::ClientFront;
+pub use lingering::MAX_LINGERING_CLIENTS;
 pub use pace::{MIN_OCTETS_PER_MILLISECOND, PATIENCE_MILLISECONDS};
 pub use progress::HEAD_MILLISECONDS;
 pub use serving::{DRAIN_MILLISECONDS, MAX_DRAIN_OCTETS};

@@ -3,8 +3,10 @@ ghost use Rattle.std.specs.Prelude.{◌≡◌, ◌<◌, ◌≤◌, length, take,
 ghost use Rattle.client_front.specs.Deadlines as spec;
 ghost use Rattle.client_front.specs.Deadlines.{begun};
 ghost use Rattle.client_front.specs.Handing.{ReceivesInTime, SendsInTime};
+ghost use Rattle.client_front.specs.reading.Lingering.{IsDue};
 
 use crate::clock::Ticks;
+use crate::lingering::Finished;
 use crate::pace::{Pace, left};
 use crate::progress::Progress;
 use crate::sockets::ClientStream;
@@ -12,7 +14,7 @@ use crate::sockets::ClientStream;
 /// How many octets are read and dropped at most after the last of the response.
 pub const MAX_DRAIN_OCTETS: usize = 1_048_576;
 
-/// How many milliseconds that takes at most.
+/// How many milliseconds that takes at most; a client that sends more is closed then.
 pub const DRAIN_MILLISECONDS: u64 = 2_000;
 
 /// How many octets one read of that asks for.
@@ -65,10 +67,21 @@ impl<S: ClientStream> Serving<S> {
         Some(count)
     }
 
-    /// Ends the response, and drops what still comes, so that the client reads it to its end.
-    pub(crate) fn finish<C: Ticks>(mut self, clock: &C) {
+    /// Ends the response, and drops what still comes. A client that sends more than is dropped is given back: closed at once,
+    /// it might lose the response before it has read it.
+    pub(crate) fn finish<C: Ticks>(mut self, clock: &C) -> Option<Finished<S>>
+        ensures { IfSome result (IsDue (C.reads clock.now)) }
+    {
         self.stream.end_writing();
-        drain(&mut self.stream, clock);
+        let now = clock.milliseconds()?;
+        let due = now.saturating_add(DRAIN_MILLISECONDS);
+        if drain(&mut self.stream, clock, due) < MAX_DRAIN_OCTETS {
+            return None;
+        }
+        Some(Finished {
+            due,
+            stream: self.stream,
+        })
     }
 }
 
@@ -85,15 +98,11 @@ fn pace_at(sent: Option<Pace>, now: u64) -> Pace
     }
 }
 
-/// Reads and drops what comes, for a short time: how many octets.
-fn drain<S: ClientStream, C: Ticks>(stream: &mut S, clock: &C) -> usize
+/// Reads and drops what comes until then: how many octets.
+fn drain<S: ClientStream, C: Ticks>(stream: &mut S, clock: &C, due: u64) -> usize
     ensures { result ≤ MAX_DRAIN_OCTETS }
 {
     let mut dropped = 0;
-    let Some(now) = clock.milliseconds() else {
-        return dropped;
-    };
-    let due = now.saturating_add(DRAIN_MILLISECONDS);
     while dropped < MAX_DRAIN_OCTETS {
         let Some(count) = drain_piece(stream, clock, due, MAX_DRAIN_OCTETS - dropped) else {
             break;

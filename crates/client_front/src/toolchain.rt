@@ -15,6 +15,9 @@ use std::time::Duration;
 /// How many events one wait gives at most.
 const MAX_EVENTS: usize = 64;
 
+/// How many clients that can't be accepted are passed over for the next that can, in one call.
+const MAX_FAILED_CLIENTS: usize = 64;
+
 /// What the listener itself is watched under.
 const LISTENER: usize = usize::MAX;
 
@@ -118,17 +121,8 @@ impl TcpClients {
         })
     }
 
-    /// The port that it listens at.
-    pub fn port(&self) -> Option<u16> {
-        Some(self.listener.local_addr().ok()?.port())
-    }
-}
-
-impl ClientListener for TcpClients {
-    type Stream = TcpClient;
-
-    fn next_client(&mut self, key: u64) -> Option<TcpClient> {
-        let (stream, _) = self.listener.accept().ok()?;
+    /// A client with this stream, which is watched under the key. None where that can't be.
+    fn watched(&self, stream: TcpStream, key: u64) -> Option<TcpClient> {
         stream.set_nonblocking(true).ok()?;
         self.poll
             .registry()
@@ -139,6 +133,30 @@ impl ClientListener for TcpClients {
             )
             .ok()?;
         Some(TcpClient { stream })
+    }
+
+    /// The port that it listens at.
+    pub fn port(&self) -> Option<u16> {
+        Some(self.listener.local_addr().ok()?.port())
+    }
+}
+
+impl ClientListener for TcpClients {
+    type Stream = TcpClient;
+
+    fn next_client(&mut self, key: u64) -> Option<TcpClient> {
+        for _ in 0..MAX_FAILED_CLIENTS {
+            match self.listener.accept() {
+                Ok((stream, _)) => {
+                    if let Some(client) = self.watched(stream, key) {
+                        return Some(client);
+                    }
+                }
+                Err(error) if error.kind() == ErrorKind::WouldBlock => return None,
+                Err(_) => {}
+            }
+        }
+        None
     }
 
     fn wait(&mut self, limit: u64, room: &mut [u64]) -> Option<usize> {

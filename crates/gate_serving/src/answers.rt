@@ -1,5 +1,5 @@
 // The answers to what clients ask.
-ghost use Rattle.std.specs.Prelude.{◌≡◌, IfOk, All, List, map, string_bytes};
+ghost use Rattle.std.specs.Prelude.{◌≡◌, ℕ, IfOk, All, List, map, string_bytes};
 ghost use Rattle.std.specs.Option.{option_copied};
 ghost use Rattle.serde_json.specs.View.{view};
 ghost use Rattle.serde_json.specs.Written.{compact_text};
@@ -19,7 +19,6 @@ use crate::door::Door;
 use crate::response::Response;
 use crate::upload::Upload;
 use blob_store::MAX_UPLOAD_OCTETS;
-use blob_store::blob_id::blob_id;
 use gate_calls::{Told, responses_to};
 use gate_machine::Machine;
 use gate_world::{Bytes, Text};
@@ -154,17 +153,18 @@ pub fn session_response(
 }
 
 #[tactic(auto, using(crate::proofs::Ids::id_is_text))]
-fn blob_id_text(alloc: Global, octets: &[u8]) -> Result<String, AllocError>
-    ensures { IfOk result (λ text. string_bytes text ≡ id_of octets.now) }
+fn id_text(alloc: Global, id: &[u8]) -> Result<String, AllocError>
+    requires { (octets : List ℕ) × (id.now ≡ id_of octets) }
+    ensures { IfOk result (λ text. string_bytes text ≡ id.now) }
 {
-    let id = blob_id(octets);
-    String::from_utf8_lossy(alloc, &id)
+    String::from_utf8_lossy(alloc, id)
 }
 
-fn upload_value(alloc: Global, upload: &Upload) -> Result<Value, AllocError>
+fn upload_value(alloc: Global, upload: &Upload, id: &Bytes) -> Result<Value, AllocError>
+    requires id { id.now ≡ id_of upload.now.octets }
     ensures { IfOk result (λ value. view value ≡ upload_data upload.now.media upload.now.octets) }
 {
-    let id = blob_id_text(alloc, upload.octets.as_slice())?;
+    let id = id_text(alloc, id.as_slice())?;
     json!(in alloc; {
         "accountId": "a1",
         "blobId": id.as_str(),
@@ -173,11 +173,17 @@ fn upload_value(alloc: Global, upload: &Upload) -> Result<Value, AllocError>
     })
 }
 
-/// What is told of an upload that is kept.
-pub fn upload_response(alloc: Global, door: Door, upload: &Upload) -> Result<Response, AllocError>
+/// What is told of an upload that is kept under this id.
+pub fn upload_response(
+    alloc: Global,
+    door: Door,
+    upload: &Upload,
+    id: &Bytes,
+) -> Result<Response, AllocError>
+    requires id { id.now ≡ id_of upload.now.octets }
     ensures { IfOk result (λ r. text_sent r ≡ spelled door (json_answer 201 (compact_text (upload_data upload.now.media upload.now.octets)))) }
 {
-    let text = upload_value(alloc, upload)?.to_string(alloc)?;
+    let text = upload_value(alloc, upload, id)?.to_string(alloc)?;
     json_response(alloc, door, StatusCode::CREATED, text)
 }
 

@@ -10,7 +10,7 @@ ghost use Rattle.gate_serving.specs.GateState.{GateState, unready_state};
 ghost use Rattle.gate_serving.specs.Answers.{IsResponse, KeepsUpload, TakesMemory, no_memory_text};
 ghost use Rattle.gate_serving.specs.Run.{AddsSegment, account_of};
 ghost use Rattle.gate_serving.specs.declared.door.Door.TheVariants.{Bare};
-ghost use Rattle.gate_serving.specs.reading.Askings.{asking_data};
+ghost use Rattle.gate_serving.specs.reading.Askings.{asking_data, id_asked};
 ghost use Rattle.gate_serving.specs.Gates.{Comes, GateHolds, OpensTo, RestStays, account_by};
 ghost use Rattle.gate_serving.specs.Segment.{went};
 ghost use Rattle.gate_serving.specs.reading.Replying.{AnswersTo, RepliesBy, RepliesToAsking, SendsReply, Serves};
@@ -161,12 +161,13 @@ impl Gate {
     {
         let asks = asking.needs_mail();
         let told = work(alloc, &mut self.machine, world, &self.user, asks)?;
-        self.keep(asking)?;
-        self.response(alloc, &told, asking)
+        let id = self.keep(asking)?;
+        self.response(alloc, &told, asking, &id)
     }
 
-    // Keeps what is uploaded.
-    fn keep(&mut self, asking: &Asking) -> Result<(), AllocError>
+    // Keeps what is uploaded: its id, where something is.
+    fn keep(&mut self, asking: &Asking) -> Result<Option<Bytes>, AllocError>
+        ensures id { IfOk result (λ id. id ≡ id_asked (asking_data asking.now)) }
         ensures kept { OnOk result (KeepsUpload (asking_data asking.now) self.old.uploads self.new.uploads) }
         ensures refused { OnErr result (self.new.uploads ≡ self.old.uploads) }
         ensures takes { OnErr result (TakesMemory (asking_data asking.now)) }
@@ -175,15 +176,23 @@ impl Gate {
     {
         match asking {
             Asking::Upload(upload) => match self.uploads.put(upload.octets.as_slice()) {
-                Ok(_) => Ok(()),
+                Ok(id) => Ok(Some(id)),
                 Err(_) => Err(AllocError),
             },
-            _ => Ok(()),
+            _ => Ok(None),
         }
     }
 
-    // The response over the machine's mail, where that was told, and the uploads that are kept. What is refused takes no memory.
-    fn response(&self, alloc: Global, told: &Told, asking: &Asking) -> Result<Response, AllocError>
+    // The response over the machine's mail, where that was told, and the uploads that are kept, this id being that of what was
+    // uploaded. What is refused takes no memory.
+    fn response(
+        &self,
+        alloc: Global,
+        told: &Told,
+        asking: &Asking,
+        id: &Option<Bytes>,
+    ) -> Result<Response, AllocError>
+        requires id { id.now ≡ id_asked (asking_data asking.now) }
         ensures made { IfOk result (λ r. (secrets : Hidden) (m : MachineState) → HoldsMachine m self.now.machine
             → IsResponse self.now.door (account_by self.now secrets) (mail_told told.now m.known) self.now.uploads (asking_data asking.now) (text_sent r)) }
         ensures takes { OnErr result (TakesMemory (asking_data asking.now)) }
@@ -200,7 +209,10 @@ impl Gate {
             ),
             Asking::Problem(error) => problem_response(alloc, self.door, *error),
             Asking::Session => session_response(alloc, self.door, &self.user, &self.base),
-            Asking::Upload(upload) => upload_response(alloc, self.door, upload),
+            Asking::Upload(upload) => match id {
+                Some(id) => upload_response(alloc, self.door, upload, id),
+                None => unreachable!(),
+            },
             Asking::Download { blob, media } => {
                 let found = self.uploads.get(blob.as_slice());
                 let told = is_told(&self.machine, told);

@@ -1,3 +1,6 @@
+pub mod ClapRows
+pub mod ClapTasks
+pub mod ClapWalk
 pub mod Cut
 pub mod Names
 pub mod PagesAsked

@@ -1,3 +1,4 @@
--- How words are read one by one, and what lent values are: private clauses and proofs alone speak of it.
+-- How words are read one by one, what lent values are, and the commands of clap: private clauses and proofs alone speak of it.
 pub mod Words
 pub mod Lent
+pub mod Commands

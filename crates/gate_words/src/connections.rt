@@ -1,6 +1,7 @@
 // How many connections are served.
-ghost use Rattle.std.specs.Prelude.{◌≡◌, ◌≤◌, ℕ, List, ◌∷◌, [], map, IfSome, IfNone};
+ghost use Rattle.std.specs.Prelude.{◌≡◌, ◌≤◌, ℕ, List, ◌∷◌, [], map, option_copied, IfSome, IfNone};
 ghost use Rattle.gate_words.specs.Connections.{IsCount, CountsConnections};
+ghost use Rattle.gate_words.specs.reading.Commands.{CountsGiven};
 ghost use Rattle.gate_words.specs.Connections as spec;
 ghost use Rattle.gate_words.specs.reading.Lent.{setting_in};
 ghost use Rattle.gate_words.specs.Options.{values_of};
@@ -44,5 +45,16 @@ pub(crate) fn connections_in(settings: &[LentSetting<'_>]) -> Option<u64>
         GivenValues::Absent => Some(MAX_CONNECTIONS),
         GivenValues::Single(value) => count_of(value),
         GivenValues::Several => None,
+    }
+}
+
+/// How many connections a text asks for, where there is one.
+pub(crate) fn connections_given(given: Option<&str>) -> Option<u64>
+    ensures some { IfSome result (CountsGiven (option_copied given.entry)) }
+    ensures none { IfNone result ((count : ℕ) → CountsGiven (option_copied given.entry) count → ⊥) }
+{
+    match given {
+        None => Some(MAX_CONNECTIONS),
+        Some(text) => count_of(text),
     }
 }

@@ -6,11 +6,15 @@ mod page;
 mod place;
 mod task;
 
-// Options and values.
+// Options and values, by the rule.
 mod connections;
 mod option;
 mod rules;
 mod settings;
+
+// What clap finds.
+mod commands;
+mod found;
 
 // Reading.
 mod reading;

@@ -1,5 +1,5 @@
 // Reading the words of a command.
-ghost use Rattle.std.specs.Prelude.{◌≡◌, List, ℕ, [], ◌∷◌, codes, map, string_bytes, IfOk, IfErr, IfSome, IfNone, IsTrue, None};
+ghost use Rattle.std.specs.Prelude.{◌≡◌, List, ℕ, [], ◌∷◌, codes, drop, map, string_bytes, IfOk, IfErr, IfSome, IfNone, IsTrue, None, Some};
 ghost use Rattle.gate_words.specs.reading.Lent.{setting_in, place_in};
 ghost use Rattle.gate_words.specs.reading.Words as spec;
 ghost use Rattle.gate_words.specs.Rules as rule;
@@ -9,21 +9,15 @@ ghost use Rattle.gate_words.specs.declared.task.Task.{Task};
 ghost use Rattle.gate_words.specs.declared.task.Task.TheVariants.{Show};
 ghost use Rattle.gate_words.specs.declared.task.WordsError.TheVariants.{Refused};
 
+use crate::commands::{once_matches, serve_matches, show_matches};
 use crate::connections::connections_in;
+use crate::found::{once_found, serve_found};
 use crate::option::{LentSetting, Name};
+use crate::place::LentPlace;
 use crate::rules::{is_base, is_user};
 use crate::settings::{is_absent, settings_of, single};
-use crate::{Page, Place, Task, WordsError};
-use gate_world::Text;
-use std::alloc::{AllocError, Global};
-
-/// A place whose texts are lent.
-#[derive(Clone, Copy)]
-struct LentPlace<'a> {
-    store: &'a str,
-    user: &'a str,
-    base: &'a str,
-}
+use crate::{Page, Task, WordsError};
+use std::alloc::Global;
 
 /// The place whose user and base are taken.
 fn ruled<'a>(place: LentPlace<'a>) -> Option<LentPlace<'a>>
@@ -48,85 +42,89 @@ fn place_named<'a>(settings: &[LentSetting<'a>]) -> Option<LentPlace<'a>>
     ruled(LentPlace { store, user, base })
 }
 
-/// A copy of the place.
-fn owned(alloc: Global, place: LentPlace<'_>) -> Result<Place, AllocError>
-    ensures { IfOk result (λ p. p ≡ place_in place.entry) }
-{
-    Ok(Place {
-        store: Text::copy_of(alloc, place.store)?,
-        user: Text::copy_of(alloc, place.user)?,
-        base: Text::copy_of(alloc, place.base)?,
-    })
-}
-
-/// The task of the command `serve` with these settings.
-fn serve_by(alloc: Global, settings: &[LentSetting<'_>]) -> Result<Task, WordsError>
+/// The task of the command `serve` that words ask for, which spell these settings.
+fn serve_by(
+    alloc: Global,
+    words: &[String],
+    settings: &[LentSetting<'_>],
+) -> Result<Task, WordsError>
+    requires spelled { spec.settings None (drop 1 (map string_bytes words.now)) ≡ Some (map setting_in settings.now) }
     ensures ok { IfOk result (IsServe (map setting_in settings.now)) }
     ensures refused { IfErr result (λ error. error ≡ Refused → (task : Task) → IsServe (map setting_in settings.now) task → ⊥) }
 {
-    let Some(place) = place_named(settings) else {
+    let Some(_place) = place_named(settings) else {
         return Err(WordsError::Refused);
     };
-    let Some(listen) = single(settings, Name::Listen) else {
+    let Some(_listen) = single(settings, Name::Listen) else {
         return Err(WordsError::Refused);
     };
-    let Some(connections) = connections_in(settings) else {
+    let Some(_connections) = connections_in(settings) else {
         return Err(WordsError::Refused);
     };
-    Ok(Task::Serve {
-        place: owned(alloc, place)?,
-        listen: Text::copy_of(alloc, listen)?,
-        connections,
-    })
+    match serve_matches(alloc, words) {
+        Ok(matches) => serve_found(alloc, &matches),
+        Err(error) => Err(error),
+    }
 }
 
-/// The task of the command `once` with these settings.
-fn once_by(alloc: Global, settings: &[LentSetting<'_>]) -> Result<Task, WordsError>
+/// The task of the command `once` that words ask for, which spell these settings.
+fn once_by(
+    alloc: Global,
+    words: &[String],
+    settings: &[LentSetting<'_>],
+) -> Result<Task, WordsError>
+    requires spelled { spec.settings None (drop 1 (map string_bytes words.now)) ≡ Some (map setting_in settings.now) }
     ensures ok { IfOk result (IsOnce (map setting_in settings.now)) }
     ensures refused { IfErr result (λ error. error ≡ Refused → (task : Task) → IsOnce (map setting_in settings.now) task → ⊥) }
 {
-    let Some(place) = place_named(settings) else {
+    let Some(_place) = place_named(settings) else {
         return Err(WordsError::Refused);
     };
     if !is_absent(settings, Name::Listen) || !is_absent(settings, Name::Connections) {
         return Err(WordsError::Refused);
     }
-    Ok(Task::Once {
-        place: owned(alloc, place)?,
-    })
+    match once_matches(alloc, words) {
+        Ok(matches) => once_found(alloc, &matches),
+        Err(error) => Err(error),
+    }
 }
 
-/// The task of the command `serve` with these options.
-fn serve(alloc: Global, options: &[String]) -> Result<Task, WordsError>
+/// The task of the command `serve`, which the words are with these options.
+fn serve(alloc: Global, words: &[String], options: &[String]) -> Result<Task, WordsError>
+    requires words { drop 1 (map string_bytes words.now) ≡ map string_bytes options.now }
     ensures ok { IfOk result (Spelled IsServe (map string_bytes options.now)) }
     ensures refused { IfErr result (λ error. error ≡ Refused → (task : Task) → Spelled IsServe (map string_bytes options.now) task → ⊥) }
 {
     match settings_of(alloc, options) {
-        Ok(settings) => serve_by(alloc, settings.as_slice()),
+        Ok(settings) => serve_by(alloc, words, settings.as_slice()),
         Err(error) => Err(error),
     }
 }
 
-/// The task of the command `once` with these options.
-fn once(alloc: Global, options: &[String]) -> Result<Task, WordsError>
+/// The task of the command `once`, which the words are with these options.
+fn once(alloc: Global, words: &[String], options: &[String]) -> Result<Task, WordsError>
+    requires words { drop 1 (map string_bytes words.now) ≡ map string_bytes options.now }
     ensures ok { IfOk result (Spelled IsOnce (map string_bytes options.now)) }
     ensures refused { IfErr result (λ error. error ≡ Refused → (task : Task) → Spelled IsOnce (map string_bytes options.now) task → ⊥) }
 {
     match settings_of(alloc, options) {
-        Ok(settings) => once_by(alloc, settings.as_slice()),
+        Ok(settings) => once_by(alloc, words, settings.as_slice()),
         Err(error) => Err(error),
     }
 }
 
-/// The task of the command `show`, which has no options.
-fn show(options: &[String]) -> Result<Task, WordsError>
+/// The task of the command `show`, which the words are with these options: it has none.
+fn show(alloc: Global, words: &[String], options: &[String]) -> Result<Task, WordsError>
+    requires words { drop 1 (map string_bytes words.now) ≡ map string_bytes options.now }
     ensures ok { IfOk result (λ task. (task ≡ Show) × (map string_bytes options.now ≡ [])) }
     ensures refused { IfErr result (λ error. error ≡ Refused → map string_bytes options.now ≡ [] → ⊥) }
 {
-    if options.is_empty() {
-        Ok(Task::Show)
-    } else {
-        Err(WordsError::Refused)
+    if !options.is_empty() {
+        return Err(WordsError::Refused);
+    }
+    match show_matches(alloc, words) {
+        Ok(_) => Ok(Task::Show),
+        Err(error) => Err(error),
     }
 }
 
@@ -175,9 +173,9 @@ fn command_task(alloc: Global, words: &[String]) -> Result<Task, WordsError>
         return Err(WordsError::Refused);
     };
     match command.as_str() {
-        "serve" => serve(alloc, options),
-        "once" => once(alloc, options),
-        "show" => show(options),
+        "serve" => serve(alloc, words, options),
+        "once" => once(alloc, words, options),
+        "show" => show(alloc, words, options),
         _ => Err(WordsError::Refused),
     }
 }

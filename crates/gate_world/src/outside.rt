@@ -124,7 +124,8 @@ pub trait Chance: Taped {
 
 /// Where whoever runs the program is told something.
 pub trait Console: Taped {
-    /// Says the whole text. Where it fails, some of it may have been said.
+    /// Says the whole text. It fails where what takes it doesn't take all, as where it is closed; some of it may have been said
+    /// then.
     fn say(&mut self, text: &[u8]) -> Result<(), Failed>
         ensures ok { OnOk result (AddsOne (Self.tape self.old) (Self.tape self.new) (Said text.now)) }
         ensures err { OnErr result (AddsOne (Self.tape self.old) (Self.tape self.new) SayFailed) }

@@ -21,4 +21,6 @@ mod deadlines;
 #[cfg(test)]
 mod fronts;
 #[cfg(test)]
+mod lingering;
+#[cfg(test)]
 mod silences;

@@ -254,7 +254,8 @@ pub front_passed : (hs : List Held) (name : List ℕ) (d k n : ℕ) (all : Optio
     → front_below hs name d k ≡ all
 front_passed hs name d k n all next none was =
     let S : ℕ → Type 0 = λ m. front_below hs name d m ≡ all in
-    let at : front_below hs name d (suc k) ≡ all = subst S (omega (arith, next)) was in
+    let step : n ≡ suc k = omega (arith, next) in
+    let at : front_below hs name d (suc k) ≡ all = subst S step was in
     ap (λ (o : Option Folder). option_or o (front_below hs name d k)) none ∙ at
 
 -- the first that is one decides
@@ -262,7 +263,8 @@ pub front_decides : (hs : List Held) (name : List ℕ) (d k n : ℕ) (f : Folder
     → front_below hs name d n ≡ all → Some f ≡ all
 front_decides hs name d k n f all next is was =
     let S : ℕ → Type 0 = λ m. front_below hs name d m ≡ all in
-    let at : front_below hs name d (suc k) ≡ all = subst S (omega (arith, next)) was in
+    let step : n ≡ suc k = omega (arith, next) in
+    let at : front_below hs name d (suc k) ≡ all = subst S step was in
     ap (λ (o : Option Folder). option_or o (front_below hs name d k)) is ∙ at
 
 unnamed : (hs : List Held) (q : List ℕ) → list_any (has_length (length q)) hs ≡ false → named hs q ≡ None

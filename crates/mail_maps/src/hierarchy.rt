@@ -79,8 +79,9 @@ fn parent_below<'a>(
     let mut len = name.len();
     while 0 < len {
         len -= 1;
-        if let Some(folder) = front_at(mirror, lengths, name, delimiter, len) {
-            return Some(folder);
+        match front_at(mirror, lengths, name, delimiter, len) {
+            Some(folder) => return Some(folder),
+            None => {}
         }
     }
     None

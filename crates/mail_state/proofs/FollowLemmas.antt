@@ -246,7 +246,7 @@ some_place None place e = absurd (let f : None ≡ Some (Spent place) = e in cc)
 some_place (Some x) place e = let f : Some (Spent x) ≡ Some (Spent place) = e in cc
 
 -- what an answer by the touches says of the history
-pub if_spent : {X : Type 0} (s : ServedState) (h : MailHistory) (m : Mail) (rows : ServedRows) (t : Touches) (e : StateError) → IsStateOf h s → StepsRows s.rows m rows t
-    → option_map Spent (spent_place s.lists t) ≡ Some e → IfSpent {X} (Err e) (SpendsPlace h m)
-if_spent s h m rows t Memory stands steps spent = tt
-if_spent s h m rows t (Spent place) stands steps spent = spends s h m rows t place stands steps (some_place (spent_place s.lists t) place spent)
+pub if_spent : (X : Type 0) (s : ServedState) (h : MailHistory) (m : Mail) (rows : ServedRows) (t : Touches) (e : StateError) → IsStateOf h s → StepsRows s.rows m rows t
+    → option_map Spent (spent_place s.lists t) ≡ Some e → IfSpent {X = X} (Err e) (SpendsPlace h m)
+if_spent X s h m rows t Memory stands steps spent = tt
+if_spent X s h m rows t (Spent place) stands steps spent = spends s h m rows t place stands steps (some_place (spent_place s.lists t) place spent)

@@ -1,6 +1,6 @@
 -- A Mailbox shows a folder's number, name, delimiter and attributes, and what its Emails are but for their UIDs.
 use Rattle.std.proofs.Common.{◌≡◌, ℕ, ◌+◌, List, [], ◌∷◌, ◌++◌, Bool, true, false, not, ◌&&◌, ◌||◌, cond, nat_eq, nat_lt, map, filter, length, refl, sym, ap, ◌∙◌, subst, nat_cmp}
-use Rattle.std.proofs.Common.{Option, Some, None, is_some, eqb-true, count_by, fold, if◌then◌else◌}
+use Rattle.std.proofs.Common.{Option, Some, None, is_some, eqb-true, count_by, fold, if◌then◌else◌, suc, arith}
 use Rattle.std.specs.List.{list_any}
 use Rattle.std.specs.List.Sorted.{IsStrictlySortedBy}
 use Rattle.std.specs.Map.{keys_of}
@@ -273,7 +273,7 @@ boxes_step before kept hs rows touches sorted steps empty none same stay = recor
 -- a list without elements
 pub none_in : (es : List Entry) → nat_eq (length es) 0 ≡ true → es ≡ []
 none_in [] e = refl
-none_in (x ∷ es) e = absurd (let f : false ≡ true = e in cc)
+none_in (x ∷ es) e = absurd (let f : suc (length es) ≡ 0 = eqb-true (length (x ∷ es)) 0 e in omega (arith, f))
 
 -- ---- the step of the rows
 

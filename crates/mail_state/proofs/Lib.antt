@@ -8,6 +8,6 @@ mod TouchedThreads
 mod KeptMailboxes
 mod SoundLemmas
 mod FollowLemmas
-mod LastLemmas
 mod StayLemmas
 mod ValidityLemmas
+mod LastLemmas

@@ -106,6 +106,9 @@ filter_has p (k ∷ ks) q = by (is_at (nat_cmp q) k) (p k) refl refl (filter_has
 
 -- ---- rows in order
 
+below_is_not : (a b : ℕ) → nat_cmp a b ≡ Less → is_at (nat_cmp b) a ≡ false
+below_is_not a b e = ap is_eq (turned a b Less e)
+
 module _ {R : Type 0} where
   -- no row is found below the first
   pub no_row : (k : ℕ) (es : List (ℕ × R)) → AllByRecursion (λ y. nat_cmp k y ≡ Less) (keys_of es) → row_at es k ≡ None
@@ -116,9 +119,6 @@ module _ {R : Type 0} where
   abbrev pub AllIn : List (ℕ × R) → List (ℕ × R) → Type 0
   AllIn rows [] = Unit {0}
   AllIn rows (e ∷ es) = (row_at rows e.0 ≡ Some e.1) × AllIn rows es
-
-  below_is_not : (a b : ℕ) → nat_cmp a b ≡ Less → is_at (nat_cmp b) a ≡ false
-  below_is_not a b e = ap is_eq (turned a b Less e)
 
   found_later : (e : ℕ × R) (es xs : List (ℕ × R)) → AllByRecursion (λ y. nat_cmp e.0 y ≡ Less) (keys_of xs) → AllIn es xs → AllIn (e ∷ es) xs
   found_later e es [] h a = tt
@@ -144,13 +144,13 @@ module _ {R : Type 0} where
     where
       by : (a b : Bool) → is_at (nat_cmp q) e.0 ≡ a → P e ≡ b → has (keys_of (filter P es)) q ≡ passes P q (row_at es q)
           → has (keys_of (cond b (e ∷ filter P es) (filter P es))) q ≡ passes P q (cond a (Some e.1) (row_at es q))
-      by true true here yes rest =
-          ap (λ (c : Bool). c || has (keys_of (filter P es)) q) here ∙ sym (ap (λ (n : ℕ). P (n, e.1)) (found_is q e.0 here) ∙ yes)
-      by true false here no_ rest =
+      by true true here kept rest =
+          ap (λ (c : Bool). c || has (keys_of (filter P es)) q) here ∙ sym (ap (λ (n : ℕ). P (n, e.1)) (found_is q e.0 here) ∙ kept)
+      by true false here dropped rest =
           rest ∙ ap (passes P q) (ap (row_at es) (found_is q e.0 here) ∙ no_row e.0 es (sorted_head nat_cmp e.0 (keys_of es) s))
-          ∙ sym (ap (λ (n : ℕ). P (n, e.1)) (found_is q e.0 here) ∙ no_)
-      by false true other yes rest = ap (λ (c : Bool). c || has (keys_of (filter P es)) q) other ∙ rest
-      by false false other no_ rest = rest
+          ∙ sym (ap (λ (n : ℕ). P (n, e.1)) (found_is q e.0 here) ∙ dropped)
+      by false true other kept rest = ap (λ (c : Bool). c || has (keys_of (filter P es)) q) other ∙ rest
+      by false false other dropped rest = rest
 
   all_kept : (Q : ℕ → Type 0) (P : ℕ × R → Bool) (es : List (ℕ × R)) → AllByRecursion Q (keys_of es) → AllByRecursion Q (keys_of (filter P es))
   all_kept Q P [] all = tt
@@ -275,6 +275,9 @@ module _ {R : Type 0} (tests : Tests R) (same : (v : R) → tests.same v v ≡ t
 
 -- ---- the next map
 
+mark_test : (a b : ℕ) → is_at (nat_cmp a) b ≡ nat_eq a b
+mark_test a b = grind (arith, common_steps)
+
 module _ {R : Type 0} where
   or_none : (o : Option R) → option_or o None ≡ o
   or_none None = refl
@@ -313,9 +316,6 @@ module _ {R : Type 0} where
           ∙ ap (λ (t : Bool). cond t None (row_at old q)) is ∙ sym (ap (λ (t : Bool). cond t (row_at fresh q) (row_at old q)) is)
 
   -- ---- loops
-
-  mark_test : (a b : ℕ) → is_at (nat_cmp a) b ≡ nat_eq a b
-  mark_test a b = grind (arith, common_steps)
 
   -- one id more is taken out
   pub cleared_more : (q id : ℕ) (left rest : List ℕ) (old new all : Option R) → left ≡ id ∷ rest → new ≡ cond (is_at (nat_cmp id) q) None old

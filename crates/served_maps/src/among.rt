@@ -1,5 +1,5 @@
 // The steps from one map of rows to the next, where they differ at some ids alone.
-ghost use Rattle.std.specs.Prelude.{◌≡◌, ◌++◌, ◌&&◌, not, ℕ, List, true, cond, None, map, filter, is_some, IfOk, OnOk};
+ghost use Rattle.std.specs.Prelude.{◌≡◌, ◌++◌, ◌&&◌, not, ℕ, List, true, false, cond, None, map, filter, is_some, IfOk, OnOk};
 ghost use Rattle.std.specs.BTreeMap.{get};
 ghost use Rattle.std.specs.BTreeSet.{contains};
 ghost use Rattle.std.specs.List.Sorted.{IsStrictlySortedBy};

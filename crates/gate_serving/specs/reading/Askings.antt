@@ -1,6 +1,7 @@
 -- What is asked, as the code has it.
-use Rattle.std.specs.Prelude.{◌≡◌, ℕ, List, Result, Ok, Err}
+use Rattle.std.specs.Prelude.{◌≡◌, ℕ, List, Option, Some, None, Result, Ok, Err}
 use Rattle.gate_world.specs.declared.event.Event.{Event}
+use Rattle.blob_store.specs.Uploads.{blob_id}
 use Rattle.http_door.specs.declared.asking.AskError.{AskError}
 use Rattle.http_door.specs.declared.asking.AskError.TheVariants.{Memory}
 use Rattle.http_door.specs.declared.asking.HttpAsking.{HttpAsking}
@@ -20,6 +21,11 @@ asking_data asked.Session = Session
 asking_data (asked.Upload upload) = Upload upload.media upload.octets
 asking_data (asked.Download blob media) = Download blob media
 asking_data (asked.Refused refusal) = Refused refusal
+
+-- the id of what is to be kept, where something is
+abbrev pub id_asked : Asking → Option (List ℕ)
+id_asked (Upload media octets) = Some (blob_id octets)
+id_asked _ = None
 
 abbrev pub read_data : Result Asked AskError → Result Asking AskError
 read_data (Ok asking) = Ok (asking_data asking)

@@ -7,7 +7,7 @@ use Rattle.gate_words.specs.declared.settings.WordKind.TheVariants as kind
 use Rattle.gate_words.specs.declared.settings.WordKind.{WordKind as LentWordKind}
 use Rattle.gate_words.specs.declared.settings.GivenValues.{GivenValues}
 use Rattle.gate_words.specs.declared.settings.GivenValues.TheVariants.{Absent, Single, Several}
-use Rattle.gate_words.specs.declared.reading.LentPlace.{LentPlace}
+use Rattle.gate_words.specs.declared.place.LentPlace.{LentPlace}
 use Rattle.gate_words.specs.declared.place.Place.{Place}
 
 abbrev pub setting_in : LentSetting → Setting

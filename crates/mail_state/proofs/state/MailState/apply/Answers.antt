@@ -21,8 +21,8 @@ returns-in_err-lists-clause-spends c h stands next =
     let s : ServedState = record { epoch = c.self.inside.epoch; rows = c.self.inside.rows; lists = c.self.inside.lists } in
     let S : ServedState → Type 0 = λ x. IsStateOf h x in
     let is = err_from_is_err_and c.from_residual-in_err-lists.result c.from_residual-in_err-lists.ensures.1 in
-    rw (is.1, is.2) (if_spent s h c.args.mirror.now.mail c.in_ok-rows.rows c.in_ok-rows.touches c.in_err-lists.field-0.0 (subst S (sym c.self.view_is) stands) c.in_ok-rows.ensures
-    c.in_err-lists.ensures.spent)
+    rw (is.1, is.2) (if_spent (Unit {0}) s h c.args.mirror.now.mail c.in_ok-rows.rows c.in_ok-rows.touches c.in_err-lists.field-0.0
+    (subst S (sym c.self.view_is) stands) c.in_ok-rows.ensures c.in_err-lists.ensures.spent)
 
 pub returns-clause-steps : goal.returns-clause-steps
 returns-clause-steps c =
