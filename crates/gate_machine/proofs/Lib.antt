@@ -1,3 +1,5 @@
 mod Stages
 mod Owed
 mod Unequal
+mod Keeping
+pub mod Going

@@ -20,11 +20,11 @@ use Rattle.imap_client.specs.Connecting.{GreetsBy, greeting_says, IsNew, connect
 use Rattle.imap_client.specs.LinkLife.{LinkLife, ClientState, next_number, selected, selected_after}
 use Rattle.imap_client.specs.Obeying.{Obeys}
 use Rattle.imap_client.specs.Plans.{Planned, Follows}
-use Rattle.gate_machine.specs.Beginning.{RunsRound, Settles, Same, Moves, Spends, Lacks, AsksThen, PreparesMail}
+use Rattle.gate_machine.specs.Beginning.{Readies, Ready, Restart, LacksRoom, RunsRound, Settles, Same, Moves, Spends, Lacks, Dials, AsksThen, PreparesMail}
 use Rattle.gate_machine.specs.History.{KnownMail, IsSpent, served_anew}
+use Rattle.gate_machine.specs.Machine.{MachineState}
 use Rattle.gate_machine.specs.Obeying.{given_by, ObeysIn, Welcomes, IsRoundObeyed, IsObeyedBeginning, IsServed}
 use Rattle.gate_machine.specs.Progress.{Progress, standing_by, lost_by, blame_link}
-use Rattle.gate_machine.specs.declared.machine.Machine.{Machine}
 use Rattle.gate_machine.specs.declared.standing.Fall.TheVariants.{Linked}
 use Rattle.gate_machine.specs.declared.standing.Standing.TheVariants.{Stands, Fell, OutOfMemory}
 
@@ -106,14 +106,14 @@ connects_end {user} {password} law (Lived life is lives) w = lives_end law lives
 
 settles_from : {before after : Progress} {events : List Event} → Settles before events after → before.standing ≡ Stands
 settles_from (Same k is a b c d) = is
-settles_from (Moves new a b c) = new.stands
+settles_from (Moves new next a b c d) = new.stands
 settles_from (Spends new a b c) = new.stands
 settles_from (Lacks is a b) = is
 
-settled_ends : {before after : Progress} {events : List Event} → Settles before events after → ((k : KnownMail) → before.machine.known ≡ Some k → IsSpent k.history → ⊥)
+settled_ends : {before after : Progress} {events : List Event} → Settles before events after → ((k : KnownMail) → before.machine.known ≡ Some k → IsSpent k → ⊥)
     → IsServed after ⊎ (after.standing ≡ OutOfMemory)
 settled_ends (Same k is known a b c) room = inl (k, ap (λ (p : Progress). p.standing) c ∙ is, ap (λ (p : Progress). p.machine.known) c ∙ known)
-settled_ends (Moves new a b c) room = inl (served_anew new.known, ap (λ (p : Progress). p.standing) c ∙ new.stands, ap (λ (p : Progress). p.machine.known) c)
+settled_ends (Moves new next a b c d) room = inl (served_anew new.known next, ap (λ (p : Progress). p.standing) d ∙ new.stands, ap (λ (p : Progress). p.machine.known) d)
 settled_ends (Spends new spent a b) room = absurd (room new.known new.ready spent)
 settled_ends (Lacks is a b) room = inr (ap (λ (p : Progress). p.standing) b)
 
@@ -132,7 +132,7 @@ blamed_once : (b : Faults) (after told : Progress) → told.blamed ≡ blame_lin
 blamed_once b after told lost is none = omega (arith, ap (λ (f : Faults). f.link) (sym lost ∙ ap (λ (p : Progress). p.blamed) (sym is) ∙ none))
 
 by_round : {before after : Progress} {events : List Event} (a : AsksThen before events after) (asks : RunsRound before a.asking a.told) → EndsWell asks.result
-    → ((k : KnownMail) → a.told.machine.known ≡ Some k → IsSpent k.history → ⊥) → after.blamed ≡ no_faults
+    → ((k : KnownMail) → a.told.machine.known ≡ Some k → IsSpent k → ⊥) → after.blamed ≡ no_faults
     → IsServed after ⊎ (after.standing ≡ OutOfMemory)
 by_round {before} {after} a asks (inl ok) room none =
     let stands : a.told.standing ≡ Stands = ap (λ (p : Progress). p.standing) asks.after_is ∙ ap standing_by ok in
@@ -147,7 +147,7 @@ by_round {before} {after} a asks (inr (inr memory)) room none =
     inr (ap (λ (p : Progress). p.standing) (settles_nothing a (λ is. cc)) ∙ out)
 
 rounds_end : {before after : Progress} {events : List Event} → Law → (a : AsksThen before events after) → ((asks : RunsRound before a.asking a.told) → IsRoundObeyed asks)
-    → ((k : KnownMail) → a.told.machine.known ≡ Some k → IsSpent k.history → ⊥) → before.standing ≡ Stands → after.blamed ≡ no_faults
+    → ((k : KnownMail) → a.told.machine.known ≡ Some k → IsSpent k → ⊥) → before.standing ≡ Stands → after.blamed ≡ no_faults
     → IsServed after ⊎ (after.standing ≡ OutOfMemory)
 rounds_end law a obeyed room stands none =
     elim a.asks [
@@ -157,22 +157,38 @@ rounds_end law a obeyed room stands none =
 
 -- ---- the whole way
 
-by_dial : {user password : List ℕ} {before : Machine} {events : List Event} {after : Progress} → Law → (b : PreparesMail user password before events after) → IsObeyedBeginning b
-    → EndsWell b.dials.result → after.blamed ≡ no_faults
+by_dial : {user password : List ℕ} {before : MachineState} {events : List Event} {after : Progress} → Law → (b : PreparesMail user password before events after)
+    → IsObeyedBeginning b → (dials : Dials user password b.ready b.connecting b.connected) → EndsWell dials.result → after.blamed ≡ no_faults
     → IsServed after ⊎ (after.standing ≡ OutOfMemory)
-by_dial law b obeyed (inl ok) none = rounds_end law b.asks obeyed.round obeyed.room (ap (λ (p : Progress). p.standing) b.dials.after_is ∙ ap standing_by ok) none
-by_dial {after = after} law b obeyed (inr (inl lost)) none =
-    let fell : b.connected.standing ≡ Fell (Linked end.Lost) = ap (λ (p : Progress). p.standing) b.dials.after_is ∙ ap standing_by lost in
-    let blames : b.connected.blamed ≡ blame_link 1 no_faults = ap (λ (p : Progress). p.blamed) b.dials.after_is ∙ ap
-    (λ (r : Result (Unit {0}) LinkEnd). blame_link (lost_by r) no_faults) lost in
-    absurd (blamed_once no_faults after b.connected blames (asks_nothing b.asks (λ is. cc)) none)
-by_dial law b obeyed (inr (inr memory)) none =
-    let out : b.connected.standing ≡ OutOfMemory = ap (λ (p : Progress). p.standing) b.dials.after_is ∙ ap standing_by memory in
+by_dial law b obeyed dials (inl ok) none = rounds_end law b.asks obeyed.round obeyed.room (ap (λ (p : Progress). p.standing) dials.after_is ∙ ap standing_by ok) none
+by_dial {after = after} law b obeyed dials (inr (inl lost)) none =
+    let fell : b.connected.standing ≡ Fell (Linked end.Lost) = ap (λ (p : Progress). p.standing) dials.after_is ∙ ap standing_by lost in
+    let blames : b.connected.blamed ≡ blame_link 1 b.ready.blamed = ap (λ (p : Progress). p.blamed) dials.after_is ∙ ap
+    (λ (r : Result (Unit {0}) LinkEnd). blame_link (lost_by r) b.ready.blamed) lost in
+    absurd (blamed_once b.ready.blamed after b.connected blames (asks_nothing b.asks (λ is. cc)) none)
+by_dial law b obeyed dials (inr (inr memory)) none =
+    let out : b.connected.standing ≡ OutOfMemory = ap (λ (p : Progress). p.standing) dials.after_is ∙ ap standing_by memory in
     inr (ap (λ (p : Progress). p.standing) (asks_nothing b.asks (λ is. cc)) ∙ out)
 
+-- a machine that couldn't be made ready lacks memory
+lacks_room : {before : MachineState} {events : List Event} {ready : Progress} → Readies before events ready → ready.standing ≢ Stands → ready.standing ≡ OutOfMemory
+lacks_room (Ready k known none is) other = absurd (other (ap (λ (p : Progress). p.standing) is))
+lacks_room (Restart epoch none drawn is) other = absurd (other (ap (λ (p : Progress). p.standing) is))
+lacks_room (LacksRoom epoch none drawn is) other = ap (λ (p : Progress). p.standing) is
+
+-- where no link life begins, nothing more is done
+by_none : {user password : List ℕ} {before : MachineState} {events : List Event} {after : Progress} (b : PreparesMail user password before events after)
+    → b.ready.standing ≢ Stands → b.connected ≡ b.ready → after.standing ≡ OutOfMemory
+by_none b other same =
+    let there = ap (λ (p : Progress). p.standing) same in
+    ap (λ (p : Progress). p.standing) (asks_nothing b.asks (λ is. other (sym there ∙ is))) ∙ there ∙ lacks_room b.readies other
+
 -- where the store obeyed, a place was left and no fault is blamed, mail is served or memory ran out
-pub obeyed_stands : Law → (user password : List ℕ) (before : Machine) (events : List Event) (after : Progress) (begins : PreparesMail user password before events after)
+pub obeyed_stands : Law → (user password : List ℕ) (before : MachineState) (events : List Event) (after : Progress) (begins : PreparesMail user password before events after)
     → IsObeyedBeginning begins
     → after.blamed ≡ no_faults
     → IsServed after ⊎ (after.standing ≡ OutOfMemory)
-obeyed_stands law user password before events after b obeyed none = by_dial law b obeyed (connects_end law b.dials.connects obeyed.welcomes) none
+obeyed_stands law user password before events after b obeyed none = elim b.dials [
+  | inl skips ↦ inr (by_none b skips.0 skips.2)
+  | inr dials ↦ by_dial law b obeyed dials (connects_end law dials.connects (obeyed.welcomes dials)) none
+]

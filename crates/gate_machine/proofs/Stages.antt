@@ -1,9 +1,14 @@
 -- A request's way to the mail, stage by stage.
-use Rattle.std.proofs.Common.{arith, ◌≡◌, ◌≢◌, ◌++◌, ◌≤◌, ◌+◌, ℕ, Bool, true, List, [], Option, Some, None, Result, Ok, Err, refl, sym, ◌∙◌, ap, subst, inl, inr}
-use Rattle.std.specs.Prelude.{IsErrOf, OnErr}
+use Rattle.std.proofs.Common.{arith, fold, ◌≡◌, ◌≢◌, ◌++◌, ◌≤◌, ◌+◌, ℕ, Bool, true, false, List, [], Option, Some, None, Result, Ok, Err, refl, sym, ◌∙◌, ap, subst, inl, inr}
+use Rattle.std.specs.Prelude.{◌∷◌, IsErrOf, OnOk, OnErr}
+use Rattle.std.specs.declared.alloc.AllocError.{AllocError}
 use Rattle.std.proofs.lemmas.List.{append-nil}
 use Rattle.gate_world.specs.Causes.{Faults, RoseBy, Rose, LinkAlone, NoFault, no_faults}
 use Rattle.gate_world.specs.declared.event.Event.{Event}
+use Rattle.gate_world.specs.declared.event.Event.TheVariants.{Word}
+use Rattle.told_folder.specs.declared.exchange.Exchange.{Exchange}
+use Rattle.told_mail.specs.Exchanges.{tell}
+use Rattle.told_mail.specs.Mail.{Mail, IsMail, IsNextMail}
 use Rattle.told_mail.specs.Told.{Told}
 use Rattle.imap_exchange.specs.Answering.{HangsUp}
 use Rattle.imap_exchange.specs.declared.link_end.LinkEnd.{LinkEnd}
@@ -11,10 +16,13 @@ use Rattle.imap_exchange.specs.declared.link_end.LinkEnd.TheVariants as end
 use Rattle.imap_client.specs.LinkLife.{LinkLife, ClientState, Stands, fresh}
 use Rattle.imap_client.specs.Connecting.{Connects, Lives, Unready, Undialed, Lived, Unwelcome, Welcome}
 use Rattle.imap_client.specs.Rounds.{KeepsCount, Rounds}
+use Rattle.mail_state.specs.State.{ServedState, IsStateOf}
 use Rattle.gate_machine.specs.History.{KnownMail, Commits, IsNewMail, IsSpent, served_anew}
-use Rattle.gate_machine.specs.Machine.{hearing, committed, forgotten}
-use Rattle.gate_machine.specs.Progress.{Progress, CameTo, Bears, StandsInLife, idle, ended_after, out_of_memory, is_up, standing_by, machine_by, lost_by, blame_link}
-use Rattle.gate_machine.specs.Beginning.{Readies, Dials, RunsRound, Settles, Same, Moves, Spends, Lacks, AsksThen, DialsTo, BeginsTo, Visits}
+use Rattle.gate_machine.specs.Holding.{AreBothReady, HoldsMachine, unready}
+use Rattle.gate_machine.specs.Kept.{KeptMail, IsKeptOf}
+use Rattle.gate_machine.specs.Machine.{MachineState, opened, hearing, committed, forgotten}
+use Rattle.gate_machine.specs.Progress.{Progress, CameTo, Bears, StandsInLife, idle, ended_after, out_of_memory, is_up, standing_by, machine_by, kept_by, lost_by, blame_link}
+use Rattle.gate_machine.specs.Beginning.{Readies, Ready, Restart, LacksRoom, ReadiesTo, Dials, RunsRound, Settles, Same, Moves, Spends, Lacks, AsksThen, DialsTo, BeginsTo, Visits}
 use Rattle.gate_machine.specs.declared.machine.Machine.{Machine}
 use Rattle.gate_machine.specs.declared.standing.Fall.TheVariants.{Spent}
 use Rattle.gate_machine.specs.declared.standing.Standing.{Standing}
@@ -57,39 +65,98 @@ rose_none was = omega arith
 bears_none : (f : Faults) → Bears no_faults f f
 bears_none f = record { link = rose_none f.link; keep = rose_none f.keep; front = rose_none f.front; say = rose_none f.say }
 
+-- ---- the machine that is held
+
+-- what is kept where the code's machine is ready
+both_ready : (m : Option KnownMail) (a : KeptMail) → AreBothReady m (Some a) → (k : KnownMail) × (m ≡ Some k) × IsKeptOf k a
+both_ready None a never = absurd never
+both_ready (Some k) a kept = (k, refl, kept)
+
+-- what the machine knows where the code's machine is ready
+pub held_ready : (m : MachineState) (kept : Machine) (a : KeptMail) → HoldsMachine m kept → kept.known ≡ Some a → (k : KnownMail) × (m.known ≡ Some k) × IsKeptOf k a
+held_ready m kept a held is = both_ready m.known a (subst (λ (o : Option KeptMail). AreBothReady m.known o) is held.ready)
+
+neither_ready : (m : Option KnownMail) → AreBothReady m None → m ≡ None
+neither_ready None here = refl
+neither_ready (Some k) never = absurd never
+
+-- the machine isn't ready where the code's machine isn't
+pub held_unready : (m : MachineState) (kept : Machine) → HoldsMachine m kept → kept.known ≡ None → m.known ≡ None
+held_unready m kept held is = neither_ready m.known (subst (λ (o : Option KeptMail). AreBothReady m.known o) is held.ready)
+
+-- a machine that knows this is held where that is kept of it
+pub holds_ready : (m : MachineState) (kept : Machine) (k : KnownMail) (a : KeptMail) → m.known ≡ Some k → kept.known ≡ Some a → IsKeptOf k a → HoldsMachine m kept
+holds_ready m kept k a is kept_is so =
+    record { ready = subst (λ (o : Option KnownMail). AreBothReady o kept.known) (sym is) (subst (λ (o : Option KeptMail). AreBothReady (Some k) o) (sym kept_is) so) }
+
+-- once it isn't ready
+pub holds_unready : (m : MachineState) (kept : Machine) → HoldsMachine (forgotten m) (unready kept)
+holds_unready m kept = record { ready = tt }
+
+-- once the code's machine isn't ready
+pub holds_none : (m : MachineState) (kept : Machine) → kept.known ≡ None → HoldsMachine (forgotten m) kept
+holds_none m kept is = record { ready = subst (λ (o : Option KeptMail). AreBothReady None o) (sym is) tt }
+
+-- what comes to an end over the link is held by what the code makes of it; where memory ran out, whatever was told
+pub holds_by : (result : Result (Unit {0}) LinkEnd) (m : MachineState) (kept : Machine) → (result ≢ Err end.Memory → HoldsMachine m kept)
+    → HoldsMachine (machine_by result m) (kept_by result kept)
+holds_by (Ok u) m kept held = held (λ is. cc)
+holds_by (Err end.Lost) m kept held = held (λ is. cc)
+holds_by (Err (end.Bad at)) m kept held = held (λ is. cc)
+holds_by (Err end.Stray) m kept held = held (λ is. cc)
+holds_by (Err end.Bye) m kept held = held (λ is. cc)
+holds_by (Err end.TooMuch) m kept held = held (λ is. cc)
+holds_by (Err end.Refused) m kept held = held (λ is. cc)
+holds_by (Err end.NoQresync) m kept held = held (λ is. cc)
+holds_by (Err end.Lacks) m kept held = held (λ is. cc)
+holds_by (Err end.Memory) m kept held = holds_unready m kept
+
+-- a machine that isn't ready was made ready in this epoch, or there was no memory for it
+pub readied : {events : List Event} (result : Result (Unit {0}) AllocError) (epoch : ℕ) (before : MachineState) (old new : Machine) → HoldsMachine before old → old.known ≡ None
+    → events ≡ Word epoch ∷ [] → OnOk result (HoldsMachine (opened epoch) new) → OnErr result (new ≡ old) → ReadiesTo before new result events
+readied (Ok u) epoch before old new held none drawn ok err = (opened epoch, Restart epoch (held_unready before old held none) drawn refl, ok)
+readied (Err e) epoch before old new held none drawn ok err = (
+  LacksRoom epoch (held_unready before old held none) drawn refl,
+  holds_none before new (ap (λ (kept : Machine). kept.known) err ∙ none),
+)
+
+-- a machine that is ready stays as it is
+pub is_readied : (before : MachineState) (kept : Machine) (a : KeptMail) → HoldsMachine before kept → kept.known ≡ Some a → ReadiesTo before kept (Ok tt) []
+is_readied before kept a held is = let here = held_ready before kept a held is in (before, Ready here.0 here.1 refl refl, held)
+
 -- ---- the dial
 
 -- no life is left to a client that isn't alive
-holds_none : (result : Result (Unit {0}) LinkEnd) (e : LinkEnd) (left : Option LinkLife) (client : ClientState) → result ≡ Err e → left ≡ None → OnErr result (client ≡ fresh)
+lives_none : (result : Result (Unit {0}) LinkEnd) (e : LinkEnd) (left : Option LinkLife) (client : ClientState) → result ≡ Err e → left ≡ None → OnErr result (client ≡ fresh)
     → StandsInLife left client
-holds_none result e left client is none ended_after =
+lives_none result e left client is none ended_after =
     let dead : client ≡ fresh = subst (λ (r : Result (Unit {0}) LinkEnd). OnErr r (client ≡ fresh)) is ended_after in
     subst (λ (l : Option LinkLife). StandsInLife l client) (sym none) (ap (λ (c : ClientState). c.alive) dead)
 
 holds_lived : {user password : List ℕ} {left : Option LinkLife} {client : ClientState} {result : Result (Unit {0}) LinkEnd} {events : List Event}
     → Lives user password left client result events → OnErr result (client ≡ fresh) → StandsInLife left client
-holds_lived {left = left} {client = client} {result = result} (Unwelcome e u is none) ended_after = holds_none result e left client is none ended_after
+holds_lived {left = left} {client = client} {result = result} (Unwelcome e u is none) ended_after = lives_none result e left client is none ended_after
 holds_lived {client = client} (Welcome life after u some) ended_after = subst (λ (l : Option LinkLife). StandsInLife l client) (sym some) u.follows.stands
 
 holds_connected : {user password : List ℕ} {left : Option LinkLife} {client : ClientState} {result : Result (Unit {0}) LinkEnd} {events : List Event}
     → Connects user password left client result events → OnErr result (client ≡ fresh) → StandsInLife left client
-holds_connected {left = left} {client = client} {result = result} (Unready a is none) ended_after = holds_none result end.Memory left client is none ended_after
-holds_connected {left = left} {client = client} {result = result} (Undialed a is none) ended_after = holds_none result end.Lost left client is none ended_after
+holds_connected {left = left} {client = client} {result = result} (Unready a is none) ended_after = lives_none result end.Memory left client is none ended_after
+holds_connected {left = left} {client = client} {result = result} (Undialed a is none) ended_after = lives_none result end.Lost left client is none ended_after
 holds_connected (Lived life a lives) ended_after = holds_lived lives ended_after
 
 -- the life begins
-pub dialed : {user password : List ℕ} {left : Option LinkLife} {client : ClientState} {result : Result (Unit {0}) LinkEnd} {events : List Event} (before machine : Machine)
-    (how : Standing) (was now : Faults)
+pub dialed : {user password : List ℕ} {left : Option LinkLife} {client : ClientState} {result : Result (Unit {0}) LinkEnd} {events : List Event} (before : MachineState)
+    (old machine : Machine) (how : Standing) (was now : Faults) → HoldsMachine before old
     → Connects user password left client result events → OnErr result (client ≡ fresh) → LinkAlone was now → (IsErrOf result end.Lost → Rose was.link now.link)
-    → how ≡ standing_by result → machine ≡ machine_by result before
+    → how ≡ standing_by result → machine ≡ kept_by result old
     → (after : Progress) × Dials user password (idle before) events after × CameTo machine client how was now after
-dialed {left = left} {client = client} {result = result} before machine how was now connects over alone cause standing_is machine_is = (
+dialed {left = left} {client = client} {result = result} before old machine how was now held connects over alone cause standing_is machine_is = (
   ended_after result (record (idle before) { left = left }),
   record { client = client; left = left; result = result; stands = refl; connects = connects; after_is = refl },
   record {
-    machine_is = sym machine_is;
+    held = subst (λ (kept : Machine). HoldsMachine (machine_by result before) kept) (sym machine_is) (holds_by result before old (λ some. held));
     standing_is = sym standing_is;
-    holds = holds_connected connects over;
+    in_life = holds_connected connects over;
     bears = bears_end result no_faults was was now (bears_none was) alone cause;
   },
 )
@@ -101,28 +168,49 @@ in_life : (left : Option LinkLife) (client : ClientState) → StandsInLife left 
 in_life None client dead alive = absurd (cc (dead, alive))
 in_life (Some life) client stands alive = (life, refl, stands)
 
+-- what may follow mail follows mail before it
+abbrev pub NextJoins : Type 0
+NextJoins = (a b c : Mail) → IsNextMail a b → IsNextMail b c → IsNextMail a c
+
+-- what exchanges tell can follow
+abbrev pub TellingGoesOn : Type 0
+TellingGoesOn = (m : Mail) (xs : List Exchange) → IsMail m → IsNextMail m (fold tell m xs)
+
+-- what completed exchanges told can follow what was served
+next_told : NextJoins → TellingGoesOn → (k : KnownMail) (a : KeptMail) (told : Told) (exchanges : List Exchange) → IsKeptOf k a → told.mail ≡ fold tell k.told.mail exchanges
+    → IsNextMail k.history.mail told.mail
+next_told joins goes_on k a told exchanges kept is =
+    joins k.history.mail k.told.mail told.mail kept.next
+    (subst (λ (m : Mail). IsNextMail k.told.mail m) (sym is) (goes_on k.told.mail exchanges kept.next.is_mail))
+
 -- a round in the life of a client that is alive takes the work to where the round's end leaves it
-pub asked : {client next : ClientState} {result : Result (Unit {0}) LinkEnd} {events : List Event} (before : Progress) (machine after : Machine) (how : Standing)
-    (was then now : Faults) (k : KnownMail) (told : Told)
-    → CameTo machine client standing.Stands was then before → machine.known ≡ Some k → client.alive ≡ true
-    → ((life : LinkLife) → Stands client life → (left : LinkLife) × (rounds : Rounds k.told.mail told.mail life left next result events)
-    × KeepsCount k.told told result rounds.exchanges)
+pub asked : {client next : ClientState} {result : Result (Unit {0}) LinkEnd} {events : List Event} → NextJoins → TellingGoesOn → (before : Progress) (machine after : Machine)
+    (how : Standing) (was then now : Faults) (a b : KeptMail)
+    → CameTo machine client standing.Stands was then before → machine.known ≡ Some a → client.alive ≡ true
+    → ((life : LinkLife) → Stands client life → (left : LinkLife) × (rounds : Rounds a.told.mail b.told.mail life left next result events)
+    × KeepsCount a.told b.told result rounds.exchanges)
+    → b.state ≡ a.state → b.served ≡ a.served
     → LinkAlone then now → (IsErrOf result end.Lost → Rose then.link now.link)
-    → how ≡ standing_by result → after ≡ machine_by result (hearing machine k told)
+    → how ≡ standing_by result → after ≡ kept_by result (record machine { known = Some b })
     → (p : Progress) × RunsRound before events p × CameTo after next how was now p
-asked {client} {next} {result} before machine after how was then now k told came known alive rounds alone cause standing_is after_is =
-    let here = in_life before.left client came.holds alive in
-    let went = rounds here.0 here.2 in (
-      ended_after result (record before { machine = hearing before.machine k told; left = Some went.0 }),
+asked {client} {next} {result} {events} joins goes_on before machine after how was then now a b came known alive rounds state_is served_is alone cause standing_is after_is =
+    let here = in_life before.left client came.in_life alive in
+    let of = held_ready before.machine machine a came.held known in
+    let k : KnownMail = of.0 in
+    let kept : IsKeptOf k a = of.2 in
+    let went : (left : LinkLife) × (rounds : Rounds k.told.mail b.told.mail here.0 left next result events) × KeepsCount k.told b.told result rounds.exchanges =
+    subst (λ (t : Told). (left : LinkLife) × (rounds : Rounds t.mail b.told.mail here.0 left next result events) × KeepsCount t b.told result rounds.exchanges) kept.told
+    (rounds here.0 here.2) in (
+      ended_after result (record before { machine = hearing before.machine k b.told; left = Some went.0 }),
       record {
         known = k;
-        told = told;
+        told = b.told;
         life = here.0;
         left = went.0;
         client = next;
         result = result;
         stands = came.standing_is;
-        ready = ap (λ (m : Machine). m.known) came.machine_is ∙ known;
+        ready = of.1;
         in_life = here.1;
         goes_on = sym here.2.alive ∙ alive;
         rounds = went.1;
@@ -130,54 +218,79 @@ asked {client} {next} {result} before machine after how was then now k told came
         after_is = refl;
       },
       record {
-        machine_is = ap (λ (m : Machine). machine_by result (hearing m k told)) came.machine_is ∙ sym after_is;
+        held = subst (λ (m : Machine). HoldsMachine (machine_by result (hearing before.machine k b.told)) m) (sym after_is)
+            (holds_by result (hearing before.machine k b.told) (record machine { known = Some b }) (λ some. record {
+              ready = record {
+                state = subst (λ (s : ServedState). IsStateOf k.history s) (sym state_is) kept.state;
+                served = served_is ∙ kept.served;
+                told = refl;
+                next = next_told joins goes_on k a b.told went.1.exchanges kept (went.1.told some);
+              };
+            }));
         standing_is = sym standing_is;
-        holds = went.1.follows.stands;
+        in_life = went.1.follows.stands;
         bears = bears_end result before.blamed was then now came.bears alone cause;
       },
     )
 
 -- ---- what was told is served
 
--- serving the mail that was told, at a further place where it is new, settles the work, which stands
-pub settled : (before : Progress) (client : ClientState) (was now : Faults) (machine after : Machine) (k next : KnownMail)
-    → CameTo machine client standing.Stands was now before → machine.known ≡ Some k → Commits k next → after ≡ record machine { known = Some next }
+-- the told mail was the same, or the history went on to it
+committed_to : (before : Progress) (client : ClientState) (was now : Faults) (machine after : Machine) (k l : KnownMail) (b : KeptMail)
+    → CameTo machine client standing.Stands was now before → before.machine.known ≡ Some k → Commits k l → IsKeptOf l b → after.known ≡ Some b
     → (p : Progress) × Settles before [] p × CameTo after client standing.Stands was now p
-settled before client was now machine after k next came known (inl same) after_is =
-    let is : after ≡ machine = after_is ∙ (λ i. record machine { known = (ap (λ (x : KnownMail). Some x) same.1 ∙ sym known) i }) in (
-      before,
-      Same k came.standing_is (ap (λ (m : Machine). m.known) came.machine_is ∙ known) same.0 refl refl,
-      record { machine_is = came.machine_is ∙ sym is; standing_is = came.standing_is; holds = came.holds; bears = came.bears },
-    )
-settled before client was now machine after k next came known (inr moved) after_is = (
-  record before { machine = committed before.machine (served_anew k) },
-  Moves (record { known = k; stands = came.standing_is; ready = ap (λ (m : Machine). m.known) came.machine_is ∙ known; is_new = moved.0 }) moved.1 refl refl,
+committed_to before client was now machine after k l b came ready (inl same) kept after_is = (
+  before,
+  Same k came.standing_is ready same.0 refl refl,
   record {
-    machine_is = (λ i. record (came.machine_is i) { known = Some (sym moved.2 i) }) ∙ sym after_is;
+    held = holds_ready before.machine after k b ready after_is (subst (λ (x : KnownMail). IsKeptOf x b) same.1 kept);
     standing_is = came.standing_is;
-    holds = came.holds;
+    in_life = came.in_life;
+    bears = came.bears;
+  },
+)
+committed_to before client was now machine after k l b came ready (inr to) kept after_is = (
+  record before { machine = committed before.machine (served_anew k to.next) },
+  Moves (record { known = k; stands = came.standing_is; ready = ready; is_new = to.is_new }) to.next to.goes_on to.room refl refl,
+  record {
+    held = holds_ready (committed before.machine (served_anew k to.next)) after (served_anew k to.next) b refl after_is
+        (subst (λ (x : KnownMail). IsKeptOf x b) to.after_is kept);
+    standing_is = came.standing_is;
+    in_life = came.in_life;
     bears = came.bears;
   },
 )
 
+-- serving the mail that was told, where it is new, settles the work, which stands
+pub settled : (before : Progress) (client : ClientState) (was now : Faults) (machine after : Machine) (a b : KeptMail)
+    → CameTo machine client standing.Stands was now before → machine.known ≡ Some a
+    → ((k : KnownMail) → IsKeptOf k a → (l : KnownMail) × Commits k l × IsKeptOf l b) → after.known ≡ Some b
+    → (p : Progress) × Settles before [] p × CameTo after client standing.Stands was now p
+settled before client was now machine after a b came known commits after_is =
+    let here = held_ready before.machine machine a came.held known in
+    let to = commits here.0 here.2 in
+    committed_to before client was now machine after here.0 to.0 b came here.1 to.1 to.2 after_is
+
 -- where new mail was told and no place is left for it, forgetting the mail settles the work, which fell
-pub spent : (before : Progress) (client : ClientState) (was now : Faults) (machine after : Machine) (k : KnownMail)
-    → CameTo machine client standing.Stands was now before → machine.known ≡ Some k → IsNewMail k → IsSpent k.history → after ≡ forgotten machine
+pub spent : (before : Progress) (client : ClientState) (was now : Faults) (machine after : Machine) (a : KeptMail)
+    → CameTo machine client standing.Stands was now before → machine.known ≡ Some a → ((k : KnownMail) → IsKeptOf k a → IsNewMail k × IsSpent k) → after.known ≡ None
     → (p : Progress) × Settles before [] p × CameTo after client (standing.Fell Spent) was now p
-spent before client was now machine after k came known new spends after_is = (
-  record before { machine = forgotten before.machine; standing = standing.Fell Spent },
-  Spends (record { known = k; stands = came.standing_is; ready = ap (λ (m : Machine). m.known) came.machine_is ∙ known; is_new = new }) spends refl refl,
-  record { machine_is = ap forgotten came.machine_is ∙ sym after_is; standing_is = refl; holds = came.holds; bears = came.bears },
-)
+spent before client was now machine after a came known spends after_is =
+    let here = held_ready before.machine machine a came.held known in
+    let so = spends here.0 here.2 in (
+      record before { machine = forgotten before.machine; standing = standing.Fell Spent },
+      Spends (record { known = here.0; stands = came.standing_is; ready = here.1; is_new = so.0 }) so.1 refl refl,
+      record { held = holds_none before.machine after after_is; standing_is = refl; in_life = came.in_life; bears = came.bears },
+    )
 
 -- where memory ran out for what was told, forgetting the mail settles the work
 pub lacked : (before : Progress) (client : ClientState) (was now : Faults) (machine after : Machine)
-    → CameTo machine client standing.Stands was now before → after ≡ forgotten machine
+    → CameTo machine client standing.Stands was now before → after.known ≡ None
     → (p : Progress) × Settles before [] p × CameTo after client standing.OutOfMemory was now p
 lacked before client was now machine after came after_is = (
   out_of_memory before,
   Lacks came.standing_is refl refl,
-  record { machine_is = ap forgotten came.machine_is ∙ sym after_is; standing_is = refl; holds = came.holds; bears = came.bears },
+  record { held = holds_none before.machine after after_is; standing_is = refl; in_life = came.in_life; bears = came.bears },
 )
 
 -- ---- one after another
@@ -212,7 +325,7 @@ asked_only {events = events} {how = how} other asks = (
 )
 
 -- the dial, and then the round
-pub dialed_then : {user password : List ℕ} {before mid machine : Machine} {client next : ClientState} {how : Standing} {was then now : Faults} {xs ys : List Event}
+pub dialed_then : {user password : List ℕ} {before : MachineState} {mid machine : Machine} {client next : ClientState} {how : Standing} {was then now : Faults} {xs ys : List Event}
     → (p : Progress) × Dials user password (idle before) xs p × CameTo mid client standing.Stands was then p
     → ((p : Progress) (first : Faults) → CameTo mid client standing.Stands first then p → (q : Progress) × AsksThen p ys q × CameTo machine next how first now q)
     → DialsTo user password before machine next how was now (xs ++ ys)
@@ -221,7 +334,7 @@ dialed_then {was = was} {xs = xs} {ys = ys} dials asks =
     record { connected = dials.0; after = a.0; connecting = xs; asking = ys; dials = dials.1; asks = a.1; whole = refl; came = a.2 }
 
 -- the dial, which comes to nothing
-pub dialed_only : {user password : List ℕ} {before machine : Machine} {client : ClientState} {how : Standing} {was now : Faults} {xs : List Event}
+pub dialed_only : {user password : List ℕ} {before : MachineState} {machine : Machine} {client : ClientState} {how : Standing} {was now : Faults} {xs : List Event}
     → (how ≡ standing.Stands → ⊥) → (p : Progress) × Dials user password (idle before) xs p × CameTo machine client how was now p
     → DialsTo user password before machine client how was now xs
 dialed_only {how = how} {xs = xs} other dials =
@@ -238,23 +351,52 @@ dialed_only {how = how} {xs = xs} other dials =
     }
 
 -- the machine is ready, and then the dial
-pub begun_by : {user password : List ℕ} {before ready machine : Machine} {client : ClientState} {how : Standing} {was now : Faults} (xs ys : List Event)
-    → Readies before xs ready → DialsTo user password ready machine client how was now ys → BeginsTo user password before machine client how was now (xs ++ ys)
+pub begun_by : {user password : List ℕ} {before ready : MachineState} {machine : Machine} {client : ClientState} {how : Standing} {was now : Faults} (xs ys : List Event)
+    → Readies before xs (idle ready) → DialsTo user password ready machine client how was now ys → BeginsTo user password before machine client how was now (xs ++ ys)
 begun_by {ready = ready} xs ys readies dials =
     record {
       after = dials.after;
       begins = record {
-        ready = ready;
+        ready = idle ready;
         connected = dials.connected;
         readying = xs;
         connecting = dials.connecting;
         asking = dials.asking;
         readies = readies;
-        dials = dials.dials;
+        dials = inr dials.dials;
         asks = dials.asks;
         whole = ap (λ (l : List Event). xs ++ l) dials.whole;
       };
       came = dials.came;
+    }
+
+-- there is no memory for a machine that is ready, and nothing more is done
+pub begun_only : {user password : List ℕ} {before : MachineState} {machine : Machine} {client : ClientState} (f : Faults) (xs : List Event)
+    → Readies before xs (out_of_memory (idle before)) → HoldsMachine (forgotten before) machine → client.alive ≡ false
+    → BeginsTo user password before machine client standing.OutOfMemory f f xs
+begun_only {before = before} f xs readies held dead =
+    let skips : (out_of_memory (idle before)).standing ≢ standing.Stands = (λ is. cc) in
+    record {
+      after = out_of_memory (idle before);
+      begins = record {
+        ready = out_of_memory (idle before);
+        connected = out_of_memory (idle before);
+        readying = xs;
+        connecting = [];
+        asking = [];
+        readies = readies;
+        dials = inl (skips, refl, refl);
+        asks = record {
+          told = out_of_memory (idle before);
+          asking = [];
+          settling = [];
+          asks = inl (skips, refl, refl);
+          settles = inl (skips, refl, refl);
+          whole = refl;
+        };
+        whole = sym (append-nil xs);
+      };
+      came = record { held = held; standing_is = refl; in_life = dead; bears = bears_none f };
     }
 
 -- whether the link is up is what the client knows
@@ -266,7 +408,7 @@ stays_borne : (b was mid now : Faults) → Bears b was mid → NoFault mid now �
 stays_borne b was mid now bears same = subst (λ (f : Faults). Bears b was f) (sym same) bears
 
 -- the whole way, and the link is hung up
-pub visited : {user password : List ℕ} {before machine : Machine} {client : ClientState} {how : Standing} {was mid now : Faults} (xs ys : List Event)
+pub visited : {user password : List ℕ} {before : MachineState} {machine : Machine} {client : ClientState} {how : Standing} {was mid now : Faults} (xs ys : List Event)
     → BeginsTo user password before machine client how was mid xs → HangsUp client.alive ys → NoFault mid now → Visits user password before machine how was now (xs ++ ys)
 visited {client = client} {was = was} {mid = mid} {now = now} xs ys begins hangs same =
     record {
@@ -274,9 +416,9 @@ visited {client = client} {was = was} {mid = mid} {now = now} xs ys begins hangs
       beginning = xs;
       ending = ys;
       begins = begins.begins;
-      hangs = subst (λ (b : Bool). HangsUp b ys) (up_is begins.after.left client begins.came.holds) hangs;
+      hangs = subst (λ (b : Bool). HangsUp b ys) (up_is begins.after.left client begins.came.in_life) hangs;
       whole = refl;
-      machine_is = begins.came.machine_is;
+      held = begins.came.held;
       standing_is = begins.came.standing_is;
       bears = stays_borne begins.after.blamed was mid now begins.came.bears same;
     }

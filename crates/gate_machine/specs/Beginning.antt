@@ -1,28 +1,32 @@
 -- From a request that needs the mail to the mail that is served: the machine is ready, the request's one link life begins,
 -- the round asks for all mail, and what it told is served from then on.
-use Rattle.std.specs.Prelude.{◌≡◌, ◌≢◌, ◌⊎◌, ◌++◌, ℕ, true, List, [], ◌∷◌, Option, Some, None, Result}
+use Rattle.std.specs.Prelude.{◌≡◌, ◌≢◌, ◌⊎◌, ◌++◌, ℕ, true, List, [], ◌∷◌, Option, Some, None, Result, Ok, Err}
+use Rattle.std.specs.declared.alloc.AllocError.{AllocError}
 use Rattle.gate_world.specs.Causes.{Faults}
 use Rattle.gate_world.specs.declared.event.Event.{Event}
 use Rattle.gate_world.specs.declared.event.Event.TheVariants.{Word}
 use Rattle.told_mail.specs.Mail.{SameMail}
 use Rattle.told_mail.specs.Told.{Told}
+use Rattle.mail_state.specs.History.{MailHistory, HasRoom}
 use Rattle.imap_exchange.specs.Answering.{HangsUp}
 use Rattle.imap_exchange.specs.declared.link_end.LinkEnd.{LinkEnd}
 use Rattle.imap_client.specs.Connecting.{Connects}
 use Rattle.imap_client.specs.LinkLife.{LinkLife, ClientState}
 use Rattle.imap_client.specs.Rounds.{KeepsCount, Rounds}
-use Rattle.gate_machine.specs.History.{KnownMail, IsNewMail, IsSpent, served_anew}
-use Rattle.gate_machine.specs.Machine.{hearing, restarted, committed, forgotten}
+use Rattle.gate_machine.specs.History.{KnownMail, IsNewMail, IsSpent, GoesOnTo, served_anew}
+use Rattle.gate_machine.specs.Holding.{HoldsMachine}
+use Rattle.gate_machine.specs.Machine.{MachineState, opened, hearing, committed, forgotten}
 use Rattle.gate_machine.specs.Progress.{Progress, CameTo, Bears, idle, ended_after, out_of_memory, is_up}
 use Rattle.gate_machine.specs.declared.machine.Machine.{Machine}
 use Rattle.gate_machine.specs.declared.standing.Fall.TheVariants.{Spent}
 use Rattle.gate_machine.specs.declared.standing.Standing.{Standing}
 use Rattle.gate_machine.specs.declared.standing.Standing.TheVariants.{Stands, Fell}
 
--- A machine that isn't ready draws an epoch, and begins with no mail.
-pub data Readies (before : Machine) (events : List Event) (after : Machine) : Type 0 where
-  Ready : (k : KnownMail) → before.known ≡ Some k → events ≡ [] → after ≡ before → Readies before events after
-  Restart : (epoch : ℕ) → before.known ≡ None → events ≡ Word epoch ∷ [] → after ≡ restarted before epoch → Readies before events after
+-- A machine that isn't ready draws an epoch, and begins with no mail; or there is no memory for that.
+pub data Readies (before : MachineState) (events : List Event) (after : Progress) : Type 0 where
+  Ready : (k : KnownMail) → before.known ≡ Some k → events ≡ [] → after ≡ idle before → Readies before events after
+  Restart : (epoch : ℕ) → before.known ≡ None → events ≡ Word epoch ∷ [] → after ≡ idle (opened epoch) → Readies before events after
+  LacksRoom : (epoch : ℕ) → before.known ≡ None → events ≡ Word epoch ∷ [] → after ≡ out_of_memory (idle before) → Readies before events after
 
 -- a step that is passed over, as what was begun doesn't stand
 abbrev pub Skips : Progress → List Event → Progress → Type 0
@@ -61,14 +65,14 @@ pub record HasNewMail (before : Progress) : Type 0 where
   pub ready : before.machine.known ≡ Some known
   pub is_new : IsNewMail known
 
--- The told mail is served, at a further place where it is new. Where no place is left, or there is no memory for it, the
--- machine isn't ready.
+-- The told mail is served: where it is new, the history goes on to it. Where a place would pass the last one, or there is no memory
+-- for it, the machine isn't ready.
 pub data Settles (before : Progress) (events : List Event) (after : Progress) : Type 0 where
   Same : (k : KnownMail) → before.standing ≡ Stands → before.machine.known ≡ Some k → SameMail k.history.mail k.told.mail → events ≡ [] → after ≡ before
       → Settles before events after
-  Moves : (new : HasNewMail before) → (IsSpent new.known.history → ⊥) → events ≡ []
-      → after ≡ record before { machine = committed before.machine (served_anew new.known) } → Settles before events after
-  Spends : (new : HasNewMail before) → IsSpent new.known.history → events ≡ []
+  Moves : (new : HasNewMail before) (next : MailHistory) → GoesOnTo new.known next → HasRoom next → events ≡ []
+      → after ≡ record before { machine = committed before.machine (served_anew new.known next) } → Settles before events after
+  Spends : (new : HasNewMail before) → IsSpent new.known → events ≡ []
       → after ≡ record before { machine = forgotten before.machine; standing = Fell Spent } → Settles before events after
   Lacks : before.standing ≡ Stands → events ≡ [] → after ≡ out_of_memory before → Settles before events after
 
@@ -82,21 +86,26 @@ pub record AsksThen (before : Progress) (events : List Event) (after : Progress)
   pub whole : events ≡ asking ++ settling
 
 -- Ready, dial, round, and the told mail is served, each only after one that stands.
-pub record PreparesMail (user password : List ℕ) (before : Machine) (events : List Event) (after : Progress) : Type 0 where
-  pub ready : Machine
+pub record PreparesMail (user password : List ℕ) (before : MachineState) (events : List Event) (after : Progress) : Type 0 where
+  pub ready : Progress
   pub connected : Progress
   pub readying : List Event
   pub connecting : List Event
   pub asking : List Event
   pub readies : Readies before readying ready
-  pub dials : Dials user password (idle ready) connecting connected
+  pub dials : Skips ready connecting connected ⊎ Dials user password ready connecting connected
   pub asks : AsksThen connected asking after
   pub whole : events ≡ readying ++ (connecting ++ asking)
 
 -- ---- what calls add
 
+-- The machine is made ready, and a machine that is ready is held; or there was no memory for it.
+abbrev pub ReadiesTo : MachineState → Machine → Result (Unit {0}) AllocError → List Event → Type 0
+ReadiesTo before kept (Ok _) events = (m : MachineState) × Readies before events (idle m) × HoldsMachine m kept
+ReadiesTo before kept (Err _) events = Readies before events (out_of_memory (idle before)) × HoldsMachine (forgotten before) kept
+
 -- from a machine that is ready
-pub record DialsTo (user password : List ℕ) (before machine : Machine) (client : ClientState) (how : Standing) (was now : Faults)
+pub record DialsTo (user password : List ℕ) (before : MachineState) (kept : Machine) (client : ClientState) (how : Standing) (was now : Faults)
     (events : List Event) : Type 0 where
   pub connected : Progress
   pub after : Progress
@@ -105,23 +114,23 @@ pub record DialsTo (user password : List ℕ) (before machine : Machine) (client
   pub dials : Dials user password (idle before) connecting connected
   pub asks : AsksThen connected asking after
   pub whole : events ≡ connecting ++ asking
-  pub came : CameTo machine client how was now after
+  pub came : CameTo kept client how was now after
 
 -- the whole way
-pub record BeginsTo (user password : List ℕ) (before machine : Machine) (client : ClientState) (how : Standing) (was now : Faults)
+pub record BeginsTo (user password : List ℕ) (before : MachineState) (kept : Machine) (client : ClientState) (how : Standing) (was now : Faults)
     (events : List Event) : Type 0 where
   pub after : Progress
   pub begins : PreparesMail user password before events after
-  pub came : CameTo machine client how was now after
+  pub came : CameTo kept client how was now after
 
 -- The whole way, and the link is hung up where it is up after it.
-pub record Visits (user password : List ℕ) (before machine : Machine) (how : Standing) (was now : Faults) (events : List Event) : Type 0 where
+pub record Visits (user password : List ℕ) (before : MachineState) (kept : Machine) (how : Standing) (was now : Faults) (events : List Event) : Type 0 where
   pub after : Progress
   pub beginning : List Event
   pub ending : List Event
   pub begins : PreparesMail user password before beginning after
   pub hangs : HangsUp (is_up after.left) ending
   pub whole : events ≡ beginning ++ ending
-  pub machine_is : after.machine ≡ machine
+  pub held : HoldsMachine after.machine kept
   pub standing_is : after.standing ≡ how
   pub bears : Bears after.blamed was now

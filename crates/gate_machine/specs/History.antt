@@ -1,49 +1,44 @@
--- How often the mail changed in an epoch, the mail that it came to, and what was told since.
-use Rattle.std.specs.Prelude.{◌≡◌, ◌⊎◌, ◌<◌, ◌+◌, ℕ}
-use Rattle.gate_machine.specs.declared.known.TheConstants.{LAST_PLACE}
-use Rattle.told_mail.specs.Mail.{Mail, SameMail, no_mail}
+-- What has become of the mail, and what was told since; when that is served.
+use Rattle.std.specs.Prelude.{◌≡◌, ◌⊎◌}
+use Rattle.told_mail.specs.Mail.{SameMail, IsNextMail}
 use Rattle.told_mail.specs.Told.{Told}
-
--- The epoch, a random number; the place, which is how many requests of the epoch found other mail than there was before
--- them; and the mail as the last of them found it.
-pub record History : Type 0 where
-  pub epoch : ℕ
-  pub place : ℕ
-  pub mail : Mail
-
--- an epoch begins
-abbrev pub begun_epoch : ℕ → History
-begun_epoch epoch = record { epoch = epoch; place = 0; mail = no_mail }
-
--- it goes on by other mail
-abbrev pub advance : History → Mail → History
-advance h mail = record h { place = h.place + 1; mail = mail }
-
--- a further place would pass the last one
-abbrev pub IsSpent : History → Type 0
-IsSpent h = LAST_PLACE < h.place + 1
-
--- ---- what is known
+use Rattle.mail_state.specs.History.{MailHistory, Advances, HasRoom}
 
 -- the history that is served, and the mail told since, with the count of its changes
 pub record KnownMail : Type 0 where
-  pub history : History
+  pub history : MailHistory
   pub told : Told
 
 -- nothing was told yet
-abbrev pub known_mail : History → KnownMail
+abbrev pub known_mail : MailHistory → KnownMail
 known_mail h = record { history = h; told = record { mail = h.mail; changes = 0 } }
 
 -- the told mail is other than the mail that is served
 abbrev pub IsNewMail : KnownMail → Type 0
 IsNewMail k = SameMail k.history.mail k.told.mail → ⊥
 
--- the told mail is served, at a further place
-abbrev pub served_anew : KnownMail → KnownMail
-served_anew k = record k { history = advance k.history k.told.mail }
+-- the history goes on to the told mail, which it can go on to
+pub record GoesOnTo (k : KnownMail) (after : MailHistory) : Type 0 where
+  pub next : IsNextMail k.history.mail k.told.mail
+  pub advances : Advances k.history k.told.mail after
 
--- The told mail is served from then on, at a further place where it is new.
+abbrev pub served_anew : KnownMail → MailHistory → KnownMail
+served_anew k after = record k { history = after }
+
+-- a place would pass the last one on the way to the told mail
+pub record IsSpent (k : KnownMail) : Type 0 where
+  pub after : MailHistory
+  pub goes_on : GoesOnTo k after
+  pub passes : HasRoom after → ⊥
+
+-- a step to the told mail, with a place left for it
+pub record Advanced (before after : KnownMail) : Type 0 where
+  pub is_new : IsNewMail before
+  pub next : MailHistory
+  pub goes_on : GoesOnTo before next
+  pub room : HasRoom next
+  pub after_is : after ≡ served_anew before next
+
+-- The told mail is served from then on: the history goes on to it, where it is new.
 abbrev pub Commits : KnownMail → KnownMail → Type 0
-Commits before after =
-    (SameMail before.history.mail before.told.mail × (after ≡ before))
-    ⊎ (IsNewMail before × (IsSpent before.history → ⊥) × (after ≡ served_anew before))
+Commits before after = (SameMail before.history.mail before.told.mail × (after ≡ before)) ⊎ Advanced before after

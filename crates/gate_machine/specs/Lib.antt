@@ -1,6 +1,10 @@
--- Each module after those that it uses: Beginning has a request's whole way to the mail, Obeying the octets by which the store obeys it.
+-- Each module after those that it uses: Beginning has a request's whole way to the mail, Obeying the octets by which the store obeys it, Going what stays
+-- of a history.
 pub mod History
 pub mod Machine
+pub mod Kept
+pub mod Holding
 pub mod Progress
 pub mod Beginning
 pub mod Obeying
+pub mod Going

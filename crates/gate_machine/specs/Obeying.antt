@@ -10,10 +10,10 @@ use Rattle.imap_client.specs.LinkLife.{LinkLife, next_number, selected}
 use Rattle.imap_client.specs.Obeying.{Obeys}
 use Rattle.imap_client.specs.Plans.{Planned}
 use Rattle.imap_client.specs.Rounds.{round_plan}
-use Rattle.gate_machine.specs.Beginning.{RunsRound, PreparesMail}
+use Rattle.gate_machine.specs.Beginning.{Dials, RunsRound, PreparesMail}
 use Rattle.gate_machine.specs.History.{KnownMail, IsSpent}
 use Rattle.gate_machine.specs.Progress.{Progress}
-use Rattle.gate_machine.specs.declared.machine.Machine.{Machine}
+use Rattle.gate_machine.specs.Machine.{MachineState}
 use Rattle.gate_machine.specs.declared.standing.Standing.TheVariants.{Stands}
 
 -- what these events give of the store's octets
@@ -38,11 +38,11 @@ abbrev pub IsRoundObeyed : {before : Progress} {events : List Event} {after : Pr
 IsRoundObeyed {events = events} asks = ObeysIn (round_plan asks.known.told.mail) asks.life events
 
 -- The store obeyed, and a place was left for what it told.
-pub record IsObeyedBeginning {user password : List ℕ} {before : Machine} {events : List Event} {after : Progress}
+pub record IsObeyedBeginning {user password : List ℕ} {before : MachineState} {events : List Event} {after : Progress}
     (begins : PreparesMail user password before events after) : Type 0 where
-  pub welcomes : Welcomes user password (given_by begins.connecting)
+  pub welcomes : Dials user password begins.ready begins.connecting begins.connected → Welcomes user password (given_by begins.connecting)
   pub round : (asks : RunsRound begins.connected begins.asks.asking begins.asks.told) → IsRoundObeyed asks
-  pub room : (k : KnownMail) → begins.asks.told.machine.known ≡ Some k → IsSpent k.history → ⊥
+  pub room : (k : KnownMail) → begins.asks.told.machine.known ≡ Some k → IsSpent k → ⊥
 
 -- the round stands, and mail is served
 abbrev pub IsServed : Progress → Type 0

@@ -4,7 +4,8 @@ use Rattle.gate_world.specs.Causes.{Faults, no_faults, RoseBy}
 use Rattle.imap_exchange.specs.declared.link_end.LinkEnd.{LinkEnd}
 use Rattle.imap_exchange.specs.declared.link_end.LinkEnd.TheVariants as end
 use Rattle.imap_client.specs.LinkLife.{LinkLife, ClientState, Stands}
-use Rattle.gate_machine.specs.Machine.{forgotten}
+use Rattle.gate_machine.specs.Holding.{HoldsMachine, unready}
+use Rattle.gate_machine.specs.Machine.{MachineState, forgotten}
 use Rattle.gate_machine.specs.declared.machine.Machine.{Machine}
 use Rattle.gate_machine.specs.declared.standing.Fall.TheVariants as fall
 use Rattle.gate_machine.specs.declared.standing.Standing.{Standing}
@@ -13,13 +14,13 @@ use Rattle.gate_machine.specs.declared.standing.Standing.TheVariants as standing
 -- The machine; whether all that was begun stands; the link life as it was left, where there was one; and the faults that are
 -- blamed.
 pub record Progress : Type 0 where
-  pub machine : Machine
+  pub machine : MachineState
   pub standing : Standing
   pub left : Option LinkLife
   pub blamed : Faults
 
 -- no work is done
-abbrev pub idle : Machine → Progress
+abbrev pub idle : MachineState → Progress
 idle m = record { machine = m; standing = standing.Stands; left = None; blamed = no_faults }
 
 -- out of memory: the machine isn't ready, and no more is done
@@ -38,7 +39,7 @@ standing_by (Ok _) = standing.Stands
 standing_by (Err end.Memory) = standing.OutOfMemory
 standing_by (Err e) = standing.Fell (fall.Linked e)
 
-abbrev pub machine_by : Result (Unit {0}) LinkEnd → Machine → Machine
+abbrev pub machine_by : Result (Unit {0}) LinkEnd → MachineState → MachineState
 machine_by (Err end.Memory) m = forgotten m
 machine_by _ m = m
 
@@ -73,9 +74,14 @@ abbrev pub StandsInLife : Option LinkLife → ClientState → Type 0
 StandsInLife (Some life) client = Stands client life
 StandsInLife None client = client.alive ≡ false
 
--- The work came so far: by the machine and the client that there are now, and by the counts of faults since it began.
+-- the code's machine after such an end
+abbrev pub kept_by : Result (Unit {0}) LinkEnd → Machine → Machine
+kept_by (Err end.Memory) kept = unready kept
+kept_by _ kept = kept
+
+-- The work came so far: by the machine that is held and the client that there are now, and by the counts of faults since it began.
 pub record CameTo (machine : Machine) (client : ClientState) (how : Standing) (was now : Faults) (p : Progress) : Type 0 where
-  pub machine_is : p.machine ≡ machine
+  pub held : HoldsMachine p.machine machine
   pub standing_is : p.standing ≡ how
-  pub holds : StandsInLife p.left client
+  pub in_life : StandsInLife p.left client
   pub bears : Bears p.blamed was now

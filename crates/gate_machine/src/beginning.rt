@@ -4,6 +4,8 @@ ghost use Rattle.std.specs.Prelude.{◌≡◌, [], true, false, IsSome};
 ghost use Rattle.gate_world.specs.Causes.{Faults, LinkAlone};
 ghost use Rattle.gate_world.specs.Tape.{Adds};
 ghost use Rattle.imap_client.specs.LinkLife.{ClientState};
+ghost use Rattle.gate_machine.specs.Holding.{HoldsMachine};
+ghost use Rattle.gate_machine.specs.Machine.{MachineState};
 ghost use Rattle.gate_machine.specs.Progress.{Progress, CameTo, idle};
 ghost use Rattle.gate_machine.specs.Beginning.{Dials, RunsRound, Settles, AsksThen, DialsTo, BeginsTo, Visits};
 
@@ -12,6 +14,7 @@ use crate::standing::{CommitEnd, Fall, Standing};
 use gate_world::{Chance, Link, Secrets};
 use imap_client::Client;
 use std::alloc::Global;
+use told_mail::laws::{next_mail_joins, telling_goes_on};
 
 // The link life begins.
 fn dial<W: Link + Secrets>(
@@ -21,8 +24,8 @@ fn dial<W: Link + Secrets>(
     user: &[u8],
 ) -> Standing
     requires { client.old.alive ≡ false }
-    ensures run { Adds (W.tape world.old) (W.tape world.new) (λ es. (after : Progress)
-        × Dials user.now (W.hidden world.old).password (idle machine.old) es after
+    ensures run { Adds (W.tape world.old) (W.tape world.new) (λ es. (before : MachineState) → HoldsMachine before machine.old → (after : Progress)
+        × Dials user.now (W.hidden world.old).password (idle before) es after
         × CameTo machine.new client.new result (W.faults world.old) (W.faults world.new) after) }
     ensures alive { result ≡ Standing.Stands → client.new.alive ≡ true }
     ensures machine { result ≡ Standing.Stands → machine.new ≡ machine.old }
@@ -44,6 +47,8 @@ fn ask<L: Link>(machine: &mut Machine, client: &mut Client, link: &mut L) -> Sta
     ensures alone { LinkAlone (L.faults link.old) (L.faults link.new) }
     ensures hidden { L.hidden link.new ≡ L.hidden link.old }
 {
+    telling_goes_on();
+    next_mail_joins();
     let Some(known) = &mut machine.known else {
         unreachable!()
     };
@@ -57,19 +62,16 @@ fn settle(machine: &mut Machine) -> Standing
     ensures { (before : Progress) (client : ClientState) (was now : Faults) → CameTo machine.old client Standing.Stands was now before
         → (after : Progress) × Settles before [] after × CameTo machine.new client result was now after }
 {
-    let Some(known) = &mut machine.known else {
+    let Some(known) = machine.known.take() else {
         unreachable!()
     };
     match known.commit() {
-        Ok(()) => Standing::Stands,
-        Err(CommitEnd::Spent) => {
-            machine.forget();
-            Standing::Fell(Fall::Spent)
+        Ok(known) => {
+            machine.known = Some(known);
+            Standing::Stands
         }
-        Err(CommitEnd::Memory) => {
-            machine.forget();
-            Standing::OutOfMemory
-        }
+        Err(CommitEnd::Spent) => Standing::Fell(Fall::Spent),
+        Err(CommitEnd::Memory) => Standing::OutOfMemory,
     }
 }
 
@@ -99,8 +101,8 @@ fn live<W: Link + Secrets>(
 ) -> Standing
     requires dead { client.old.alive ≡ false }
     requires ready { IsSome machine.old.known }
-    ensures run { Adds (W.tape world.old) (W.tape world.new)
-        (DialsTo user.now (W.hidden world.old).password machine.old machine.new client.new result (W.faults world.old) (W.faults world.new)) }
+    ensures run { Adds (W.tape world.old) (W.tape world.new) (λ es. (before : MachineState) → HoldsMachine before machine.old
+        → DialsTo user.now (W.hidden world.old).password before machine.new client.new result (W.faults world.old) (W.faults world.new) es) }
     ensures alone { LinkAlone (W.faults world.old) (W.faults world.new) }
     ensures hidden { W.hidden world.new ≡ W.hidden world.old }
 {
@@ -121,13 +123,15 @@ pub fn begin<W: Link + Chance + Secrets>(
     user: &[u8],
 ) -> Standing
     requires { client.old.alive ≡ false }
-    ensures run { Adds (W.tape world.old) (W.tape world.new)
-        (BeginsTo user.now (W.hidden world.old).password machine.old machine.new client.new result (W.faults world.old) (W.faults world.new)) }
+    ensures run { Adds (W.tape world.old) (W.tape world.new) (λ es. (before : MachineState) → HoldsMachine before machine.old
+        → BeginsTo user.now (W.hidden world.old).password before machine.new client.new result (W.faults world.old) (W.faults world.new) es) }
     ensures alone { LinkAlone (W.faults world.old) (W.faults world.new) }
     ensures hidden { W.hidden world.new ≡ W.hidden world.old }
 {
-    machine.make_ready(alloc, world);
-    live(machine, client, world, user)
+    match machine.make_ready(alloc, world) {
+        Ok(()) => live(machine, client, world, user),
+        Err(_) => Standing::OutOfMemory,
+    }
 }
 
 /// The link life of a request: it begins, and is over after it. Where the result stands, the mail that is known then is what
@@ -138,8 +142,8 @@ pub fn visit<W: Link + Chance + Secrets>(
     world: &mut W,
     user: &[u8],
 ) -> Standing
-    ensures run { Adds (W.tape world.old) (W.tape world.new)
-        (Visits user.now (W.hidden world.old).password machine.old machine.new result (W.faults world.old) (W.faults world.new)) }
+    ensures run { Adds (W.tape world.old) (W.tape world.new) (λ es. (before : MachineState) → HoldsMachine before machine.old
+        → Visits user.now (W.hidden world.old).password before machine.new result (W.faults world.old) (W.faults world.new) es) }
     ensures alone { LinkAlone (W.faults world.old) (W.faults world.new) }
     ensures hidden { W.hidden world.new ≡ W.hidden world.old }
 {

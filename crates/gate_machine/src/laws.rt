@@ -1,11 +1,13 @@
-// What a request is owed.
+// What a request is owed, and what it leaves of the history.
 ghost use Rattle.std.specs.Prelude.{◌≡◌, ◌⊎◌, ℕ, List};
 ghost use Rattle.gate_world.specs.Causes.{no_faults};
 ghost use Rattle.gate_world.specs.declared.event.Event.{Event};
 ghost use Rattle.gate_machine.specs.Beginning.{PreparesMail};
+ghost use Rattle.mail_state.specs.History.{MailHistory};
+ghost use Rattle.gate_machine.specs.Going.{HasGoneOn, KeepsHistory, KeepsTouches};
+ghost use Rattle.gate_machine.specs.Machine.{MachineState};
 ghost use Rattle.gate_machine.specs.Obeying.{IsObeyedBeginning, IsServed};
 ghost use Rattle.gate_machine.specs.Progress.{Progress};
-ghost use Rattle.gate_machine.specs.declared.machine.Machine.{Machine};
 ghost use Rattle.gate_machine.specs.declared.standing.Standing.TheVariants.{OutOfMemory};
 
 use imap_client::obeyed_plans_end_ok;
@@ -13,8 +15,19 @@ use imap_client::obeyed_plans_end_ok;
 /// Where the store obeys, a place is left and no fault is blamed, the round stands and what it told is served; or memory
 /// ran out.
 pub fn obeyed_rounds_stand()
-    ensures { (user password : List ℕ) (before : Machine) (events : List Event) (after : Progress) (begins : PreparesMail user password before events after)
+    ensures { (user password : List ℕ) (before : MachineState) (events : List Event) (after : Progress) (begins : PreparesMail user password before events after)
         → IsObeyedBeginning begins → after.blamed ≡ no_faults → IsServed after ⊎ (after.standing ≡ OutOfMemory) }
 {
     obeyed_plans_end_ok();
 }
+
+/// Where a request draws no epoch, the history that is served goes on.
+pub fn requests_keep_history()
+    ensures { (user password : List ℕ) (before : MachineState) (events : List Event) (after : Progress)
+        → PreparesMail user password before events after → KeepsHistory before events after.machine }
+{}
+
+/// As a history goes on, its epoch and its touches stay: so a state that a client was sent names the same map ever after.
+pub fn touches_stay()
+    ensures { (h after : MailHistory) → HasGoneOn h after → KeepsTouches h after }
+{}

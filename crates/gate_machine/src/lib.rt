@@ -15,6 +15,6 @@ mod laws;
 
 pub use beginning::{begin, visit};
 pub use known::Known;
-pub use laws::obeyed_rounds_stand;
+pub use laws::{obeyed_rounds_stand, requests_keep_history, touches_stay};
 pub use machine::Machine;
 pub use standing::{CommitEnd, Fall, Standing};

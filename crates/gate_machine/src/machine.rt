@@ -1,16 +1,17 @@
 // What the gateway holds between requests.
-ghost use Rattle.std.specs.Prelude.{◌≡◌, IsSome, Err};
+ghost use Rattle.std.specs.Prelude.{◌≡◌, IfOk, IsSome, OnOk, OnErr, Err};
 ghost use Rattle.gate_world.specs.Causes.{NoFault};
 ghost use Rattle.gate_world.specs.Tape.{Adds};
-ghost use Rattle.gate_machine.specs.Machine.{opened, forgotten};
-ghost use Rattle.gate_machine.specs.Progress.{standing_by, machine_by};
-ghost use Rattle.gate_machine.specs.Beginning.{Readies};
+ghost use Rattle.gate_machine.specs.Holding.{HoldsMachine, unready};
+ghost use Rattle.gate_machine.specs.Machine.{MachineState, opened};
+ghost use Rattle.gate_machine.specs.Progress.{standing_by, kept_by};
+ghost use Rattle.gate_machine.specs.Beginning.{ReadiesTo};
 
 use crate::known::Known;
 use crate::standing::{Fall, Standing};
 use gate_world::Chance;
 use imap_client::LinkEnd;
-use std::alloc::Global;
+use std::alloc::{AllocError, Global};
 
 /// What the gateway holds between requests.
 #[derive(Drop)]
@@ -20,18 +21,17 @@ pub struct Machine {
 }
 
 impl Machine {
-    /// A new machine in this epoch. It takes no memory.
-    pub fn opened(alloc: Global, epoch: u64) -> Machine
-        ensures { result ≡ opened epoch }
+    /// A new machine in this epoch.
+    pub fn opened(alloc: Global, epoch: u64) -> Result<Machine, AllocError>
+        ensures { IfOk result (λ machine. HoldsMachine (opened epoch) machine) }
     {
-        Machine {
-            known: Some(Known::begun(alloc, epoch)),
-        }
+        let known = Known::begun(alloc, epoch)?;
+        Ok(Machine { known: Some(known) })
     }
 
     /// It isn't ready.
     pub fn forget(&mut self)
-        ensures { self.new ≡ forgotten self.old }
+        ensures { self.new ≡ unready self.old }
     {
         self.known = None;
     }
@@ -39,7 +39,7 @@ impl Machine {
     /// What came to this end over the link stands, or not. Out of memory leaves the machine not ready.
     pub(crate) fn end(&mut self, ended: Result<(), LinkEnd>) -> Standing
         ensures standing { result ≡ standing_by ended }
-        ensures machine { self.new ≡ machine_by ended self.old }
+        ensures machine { self.new ≡ kept_by ended self.old }
     {
         match ended {
             Ok(()) => Standing::Stands,
@@ -49,7 +49,7 @@ impl Machine {
 
     fn end_by(&mut self, end: LinkEnd) -> Standing
         ensures standing { result ≡ standing_by (Err end) }
-        ensures machine { self.new ≡ machine_by (Err end) self.old }
+        ensures machine { self.new ≡ kept_by (Err end) self.old }
     {
         match end {
             LinkEnd::Memory => {
@@ -60,18 +60,30 @@ impl Machine {
         }
     }
 
+    // It begins anew in this epoch. An Err changes nothing.
+    fn restart(&mut self, alloc: Global, epoch: u64) -> Result<(), AllocError>
+        ensures ok { OnOk result (HoldsMachine (opened epoch) self.new) }
+        ensures err { OnErr result (self.new ≡ self.old) }
+        ensures ready { OnOk result (IsSome self.new.known) }
+    {
+        let known = Known::begun(alloc, epoch)?;
+        self.known = Some(known);
+        Ok(())
+    }
+
     /// Where it isn't ready it draws an epoch, and begins with no mail.
-    pub fn make_ready<C: Chance>(&mut self, alloc: Global, chance: &mut C)
-        ensures tape { Adds (C.tape chance.old) (C.tape chance.new) (λ es. Readies self.old es self.new) }
-        ensures ready { IsSome self.new.known }
+    pub fn make_ready<C: Chance>(&mut self, alloc: Global, chance: &mut C) -> Result<(), AllocError>
+        ensures tape { Adds (C.tape chance.old) (C.tape chance.new) (λ es. (before : MachineState) → HoldsMachine before self.old
+            → ReadiesTo before self.new result es) }
+        ensures ready { OnOk result (IsSome self.new.known) }
         ensures cause { NoFault (C.faults chance.old) (C.faults chance.new) }
         ensures hidden { C.hidden chance.new ≡ C.hidden chance.old }
     {
         match &self.known {
-            Some(_) => {}
+            Some(_) => Ok(()),
             None => {
                 let epoch = chance.word();
-                self.known = Some(Known::begun(alloc, epoch));
+                self.restart(alloc, epoch)
             }
         }
     }

@@ -9,28 +9,34 @@ use Rattle.gate_world.specs.declared.event.Event.{Event}
 use Rattle.gate_world.specs.declared.event.Event.TheVariants.{Accepted, NoMore, ClientDone, FrontFailed}
 use Rattle.gate_world.specs.declared.outside.Failed.{Failed}
 use Rattle.http_door.specs.declared.asking.AskError.TheVariants as unread
+use Rattle.jmap_methods.specs.declared.method_error.MethodError.{MethodError}
 use Rattle.jmap_methods.specs.declared.method_error.MethodError.TheVariants.{ServerUnavailable}
 use Rattle.gate_machine.specs.Progress.{Progress, Bears, idle}
 use Rattle.gate_machine.specs.Beginning.{Visits}
+use Rattle.gate_machine.specs.Holding.{HoldsMachine}
+use Rattle.gate_machine.specs.Machine.{MachineState, forgotten}
 use Rattle.gate_machine.specs.declared.machine.Machine.{Machine}
 use Rattle.gate_machine.specs.declared.standing.Standing.{Standing}
 use Rattle.gate_machine.specs.declared.standing.Standing.TheVariants.{OutOfMemory}
+use Rattle.jmap_core.specs.Request.{CallData, RequestData}
+use Rattle.gate_calls.specs.Calls.{AnswersCalls}
+use Rattle.gate_calls.specs.Mailings.{Mailing, mail_told, mailing_by}
 use Rattle.gate_serving.specs.declared.door.Door.{Door}
 use Rattle.gate_serving.specs.declared.gate.Gate.{Gate}
 use Rattle.gate_serving.specs.declared.response.Response.{Response}
 use Rattle.gate_serving.specs.declared.served.Served.{Served}
 use Rattle.gate_serving.specs.declared.served.Served.TheVariants as served
-use Rattle.gate_serving.specs.Answers.{KeepsUpload, TakesMemory, response_of, no_memory_text}
-use Rattle.gate_serving.specs.Calls.{Mailing}
+use Rattle.gate_serving.specs.Answers.{Answer, IsAnswer, IsResponse, KeepsUpload, TakesMemory, calls_text, json_answer, no_memory_text, spelled}
 use Rattle.gate_serving.specs.GateState.{GateState, unready_state}
 use Rattle.gate_serving.specs.Requests.{Account, Asking, Calls, Problem, Session, Upload, Download, Refused, ReadsAsking, asks_for_mail}
 use Rattle.gate_serving.specs.Segment.{Replies, Answered, LacksReading, LacksAnswering, Segment, NoneComes, NotAccepted, Left, Unasked, Replied, reply_blamed, blamed, went, unsent}
 use Rattle.gate_serving.specs.Segment.{blame_front}
-use Rattle.gate_serving.specs.Run.{StepsTo}
-use Rattle.gate_serving.specs.Work.{NoMail, WithMail, mailing_by}
+use Rattle.gate_serving.specs.Run.{AddsSegment}
+use Rattle.gate_serving.specs.Work.{NoMail, WithMail}
 use Rattle.gate_serving.specs.reading.Replying.{IsWorked, WorksTo, IsMade, AnswersTo, RepliesToAsking, IsUnread, RepliesBy, SendsReply, Serves}
-use Rattle.gate_serving.specs.Gates.{RestStays, account_by, state_of}
+use Rattle.gate_serving.specs.Gates.{GateHolds, RestStays, account_by}
 use Rattle.gate_serving.specs.reading.Texts.{text_sent}
+use Rattle.gate_serving.proofs.Gates.{same_account}
 
 -- ---- counts
 
@@ -90,31 +96,32 @@ later_front was now alone = record { link = omega (arith, alone.link); keep = om
 -- ---- the work
 
 -- the work on what doesn't need the mail: nothing is done, and there is no mail
-pub works_without : (user password : List ℕ) (asks : Bool) (machine : Machine) (f : Faults) → Later f f → asks ≡ false
-    → WorksTo user password asks machine machine f f (Ok (Err ServerUnavailable)) []
-works_without user password asks machine f same asks_is =
+pub works_without : (user password : List ℕ) (asks : Bool) (before : MachineState) (kept : Machine) (f : Faults) → HoldsMachine before kept → Later f f → asks ≡ false
+    → WorksTo user password asks before kept f f (Ok (Err ServerUnavailable)) []
+works_without user password asks before kept f held same asks_is =
     record {
       mail = Err ServerUnavailable;
-      done = idle machine;
+      done = idle before;
       work = λ token base asking is. NoMail (is ∙ asks_is) refl refl refl;
-      machine_is = refl;
+      held = held;
       bears = bears_none f f same;
       worked = (refl, (λ is. cc));
     }
 
-is_worked : (result : Result Mailing AllocError) (how : Standing) (machine : Machine) (p : Progress) → p.machine ≡ machine → p.standing ≡ how
-    → IfOk result (λ mail. mail ≡ mailing_by how machine.known) → IfOk result (λ mail. how ≢ OutOfMemory)
+is_worked : (result : Result (Result (Unit {0}) MethodError) AllocError) (how : Standing) (p : Progress) → p.standing ≡ how
+    → IfOk result (λ told. (m : MachineState) → mailing_by how m.known ≡ mail_told told m.known) → IfOk result (λ told. how ≢ OutOfMemory)
     → IsWorked result (mailing_by p.standing p.machine.known) (record p { left = None })
-is_worked (Ok mail) how machine p machine_is standing_is meant memory =
-    (meant ∙ (λ i. mailing_by (sym standing_is i) (sym machine_is i).known), (λ out. memory (sym standing_is ∙ out)))
-is_worked (Err e) how machine p machine_is standing_is meant memory = tt
+is_worked (Ok told) how p standing_is meant memory =
+    (ap (λ (s : Standing). mailing_by s p.machine.known) standing_is ∙ meant p.machine, (λ out. memory (sym standing_is ∙ out)))
+is_worked (Err e) how p standing_is meant memory = tt
 
 -- the work on what needs the mail: its link life, and the mail by how that went
-pub works_visited : {user password : List ℕ} {before machine : Machine} {how : Standing} {was now : Faults} {events : List Event} (asks : Bool) (result : Result Mailing AllocError)
-    → asks ≡ true → Visits user password before machine how was now events
-    → IfOk result (λ mail. mail ≡ mailing_by how machine.known) → IfOk result (λ mail. how ≢ OutOfMemory)
-    → WorksTo user password asks before machine was now result events
-works_visited {machine = machine} {how = how} asks result asks_is v meant memory =
+pub works_visited : {user password : List ℕ} {before : MachineState} {kept : Machine} {how : Standing} {was now : Faults} {events : List Event} (asks : Bool)
+    (result : Result (Result (Unit {0}) MethodError) AllocError)
+    → asks ≡ true → Visits user password before kept how was now events
+    → IfOk result (λ told. (m : MachineState) → mailing_by how m.known ≡ mail_told told m.known) → IfOk result (λ told. how ≢ OutOfMemory)
+    → WorksTo user password asks before kept was now result events
+works_visited {how = how} asks result asks_is v meant memory =
     record {
       mail = mailing_by v.after.standing v.after.machine.known;
       done = record v.after { left = None };
@@ -128,48 +135,117 @@ works_visited {machine = machine} {how = how} asks result asks_is v meant memory
         mail_is = refl;
         after_is = refl;
       };
-      machine_is = v.machine_is;
+      held = v.held;
       bears = v.bears;
-      worked = is_worked result how machine v.after v.machine_is v.standing_is meant memory;
+      worked = is_worked result how v.after v.standing_is meant memory;
     }
 
 -- ---- the answer
 
-is_made : (door : Door) (account : Account) (given mail : Mailing) (asking : Asking) (before after : GateState) (done : Progress) (result : Result Response AllocError)
-    → given ≡ mail → done.standing ≢ OutOfMemory → KeepsUpload asking before.uploads after.uploads
-    → IfOk result (λ r. text_sent r ≡ response_of door account given after.uploads asking) → OnErr result (TakesMemory asking)
-    → IsMade door account mail asking before after done result
-is_made door account given mail asking before after done (Ok response) same stands kept is takes =
-    (is ∙ ap (λ (m : Mailing). response_of door account m after.uploads asking) same, stands, kept)
-is_made door account given mail asking before after done (Err e) same stands kept is takes = takes
+-- the response that has this text is one to what is asked, whatever the mail is
+pub is_response : (door : Door) (account : Hidden → Account) (told : Result (Unit {0}) MethodError) (kept : Machine) (uploads : List (List ℕ)) (asking : Asking)
+    (answer : Answer) (result : Result Response AllocError)
+    → ((s : Hidden) (m : MachineState) → HoldsMachine m kept → IsAnswer (account s) (mail_told told m.known) uploads asking answer)
+    → IfOk result (λ r. text_sent r ≡ spelled door answer)
+    → IfOk result (λ r. (s : Hidden) (m : MachineState) → HoldsMachine m kept → IsResponse door (account s) (mail_told told m.known) uploads asking (text_sent r))
+is_response door account told kept uploads asking answer (Ok r) is_answer text_is =
+    λ s m held. record { answer = answer; is_answer = is_answer s m held; text_is = text_is }
+is_response door account told kept uploads asking answer (Err e) is_answer text_is = tt
+
+-- the same of a gate that was asked this
+pub made_for : (gate : Gate) (told : Result (Unit {0}) MethodError) (asking asked : Asking) (answer : Answer) (result : Result Response AllocError) → asked ≡ asking
+    → ((s : Hidden) (m : MachineState) → HoldsMachine m gate.machine → IsAnswer (account_by gate s) (mail_told told m.known) gate.uploads asking answer)
+    → IfOk result (λ r. text_sent r ≡ spelled gate.door answer)
+    → IfOk result (λ r. (s : Hidden) (m : MachineState) → HoldsMachine m gate.machine
+    → IsResponse gate.door (account_by gate s) (mail_told told m.known) gate.uploads asked (text_sent r))
+made_for gate told asking asked answer result is is_answer text_is =
+    subst (λ (a : Asking). IfOk result (λ r. (s : Hidden) (m : MachineState) → HoldsMachine m gate.machine
+    → IsResponse gate.door (account_by gate s) (mail_told told m.known) gate.uploads a (text_sent r))) (sym is)
+    (is_response gate.door (λ s. account_by gate s) told gate.machine gate.uploads asking answer result is_answer text_is)
+
+calls_made : (gate : Gate) (told : Result (Unit {0}) MethodError) (request : RequestData) (result : Result Response AllocError)
+    → IfOk result (λ r. (m : MachineState) → HoldsMachine m gate.machine → (responses : List CallData)
+    × AnswersCalls request.uses (mail_told told m.known) request.calls responses
+    × (text_sent r ≡ spelled gate.door (json_answer 200 (calls_text gate.user gate.base responses request))))
+    → IfOk result (λ r. (s : Hidden) (m : MachineState) → HoldsMachine m gate.machine
+    → IsResponse gate.door (account_by gate s) (mail_told told m.known) gate.uploads (Calls request) (text_sent r))
+calls_made gate told request (Ok r) made = λ s m held.
+    let so = made m held in
+    record { answer = json_answer 200 (calls_text gate.user gate.base so.0 request); is_answer = (so.0, so.1, refl); text_is = so.2 }
+calls_made gate told request (Err e) made = tt
+
+-- the response to method calls
+pub made_for_calls : (gate : Gate) (told : Result (Unit {0}) MethodError) (request : RequestData) (asked : Asking) (result : Result Response AllocError) → asked ≡ Calls request
+    → IfOk result (λ r. (m : MachineState) → HoldsMachine m gate.machine → (responses : List CallData)
+    × AnswersCalls request.uses (mail_told told m.known) request.calls responses
+    × (text_sent r ≡ spelled gate.door (json_answer 200 (calls_text gate.user gate.base responses request))))
+    → IfOk result (λ r. (s : Hidden) (m : MachineState) → HoldsMachine m gate.machine
+    → IsResponse gate.door (account_by gate s) (mail_told told m.known) gate.uploads asked (text_sent r))
+made_for_calls gate told request asked result is made =
+    subst (λ (a : Asking). IfOk result (λ r. (s : Hidden) (m : MachineState) → HoldsMachine m gate.machine
+    → IsResponse gate.door (account_by gate s) (mail_told told m.known) gate.uploads a (text_sent r))) (sym is) (calls_made gate told request result made)
+
+-- the text of an answer that has the responses to calls
+pub answers_request : (door : Door) (user base : List ℕ) (told : Result (Unit {0}) MethodError) (kept : Machine) (request : RequestData) {calls shown : List CallData}
+    (responses : List CallData) (result : Result Response AllocError) → calls ≡ request.calls → shown ≡ responses
+    → ((m : MachineState) → HoldsMachine m kept → AnswersCalls request.uses (mail_told told m.known) calls responses)
+    → IfOk result (λ r. text_sent r ≡ spelled door (json_answer 200 (calls_text user base shown request)))
+    → IfOk result (λ r. (m : MachineState) → HoldsMachine m kept → (responses : List CallData)
+    × AnswersCalls request.uses (mail_told told m.known) request.calls responses × (text_sent r ≡ spelled door (json_answer 200 (calls_text user base responses request))))
+answers_request door user base told kept request responses (Ok r) calls_are shown_is answered text_is = λ m held. (
+  responses,
+  subst (λ (cs : List CallData). AnswersCalls request.uses (mail_told told m.known) cs responses) calls_are (answered m held),
+  text_is ∙ ap (λ (rs : List CallData). spelled door (json_answer 200 (calls_text user base rs request))) shown_is,
+)
+answers_request door user base told kept request responses (Err e) calls_are shown_is answered text_is = tt
+
+-- what a gate holds once it was worked for what is asked, and an upload may have been kept
+abbrev came_to : Progress → Gate → GateState
+came_to done gate = record { machine = done.machine; uploads = gate.uploads }
+
+holds_after : (done : Progress) (kept : Machine) (gate : Gate) → HoldsMachine done.machine kept → gate.machine ≡ kept → GateHolds (came_to done gate) gate
+holds_after done kept gate held is = record { machine = subst (λ (k : Machine). HoldsMachine done.machine k) (sym is) held; uploads = refl }
 
 -- the response that the gate makes, as it stood before
-made_of : (gate before : Gate) (secrets : Hidden) (given : Mailing) (asking : Asking) (result : Result Response AllocError) → RestStays before gate
-    → IfOk result (λ r. (s : Hidden) → text_sent r ≡ response_of gate.door (account_by gate s) given gate.uploads asking)
-    → IfOk result (λ r. text_sent r ≡ response_of before.door (account_by before secrets) given gate.uploads asking)
-made_of gate before secrets given asking (Ok response) rest made =
-    made secrets ∙ (λ i. response_of (rest.door i)
-    (record { user = rest.user i; password = secrets.password; token = secrets.token; base = rest.base i }) given gate.uploads asking)
-made_of gate before secrets given asking (Err e) rest made = tt
+made_of : (gate before : Gate) (secrets : Hidden) (told : Result (Unit {0}) MethodError) (mail : Mailing) (asking : Asking) (uploads : List (List ℕ)) (done : Progress)
+    (result : Result Response AllocError) → RestStays before gate → HoldsMachine done.machine gate.machine → mail ≡ mail_told told done.machine.known
+    → done.standing ≢ OutOfMemory → KeepsUpload asking uploads gate.uploads
+    → IfOk result (λ r. (s : Hidden) (m : MachineState) → HoldsMachine m gate.machine
+    → IsResponse gate.door (account_by gate s) (mail_told told m.known) gate.uploads asking (text_sent r))
+    → OnErr result (TakesMemory asking)
+    → (s : GateState) → s.uploads ≡ uploads → IsMade before.door (account_by before secrets) mail asking s (came_to done gate) done result
+made_of gate before secrets told mail asking uploads done (Ok r) rest held mail_is stands kept made takes s same = (
+  subst (λ (d : Door). IsResponse d (account_by before secrets) mail gate.uploads asking (text_sent r)) rest.door
+      (subst (λ (a : Account). IsResponse gate.door a mail gate.uploads asking (text_sent r)) (same_account rest refl)
+      (subst (λ (m : Mailing). IsResponse gate.door (account_by gate secrets) m gate.uploads asking (text_sent r)) (sym mail_is) (made secrets done.machine held))),
+  stands,
+  subst (λ (u : List (List ℕ)). KeepsUpload asking u gate.uploads) (sym same) kept,
+)
+made_of gate before secrets told mail asking uploads done (Err e) rest held mail_is stands kept made takes s same = takes
 
 -- there was memory for the work
-pub answers_worked : {machine : Machine} {was now : Faults} {events : List Event} (gate before : Gate) (secrets : Hidden) (asks : Bool) (asking : Asking) (given : Mailing)
-    (result : Result Response AllocError)
-    → asks_for_mail asking ≡ asks → WorksTo before.user secrets.password asks before.machine machine was now (Ok given) events → gate.machine ≡ machine
+pub answers_worked : {kept : Machine} {was now : Faults} {events : List Event} (gate before : Gate) (secrets : Hidden) (asks : Bool) (asking : Asking)
+    (told : Result (Unit {0}) MethodError) (result : Result Response AllocError) (s : GateState)
+    → GateHolds s before → asks_for_mail asking ≡ asks → WorksTo before.user secrets.password asks s.machine kept was now (Ok told) events → gate.machine ≡ kept
     → KeepsUpload asking before.uploads gate.uploads → RestStays before gate
-    → IfOk result (λ r. (s : Hidden) → text_sent r ≡ response_of gate.door (account_by gate s) given gate.uploads asking) → OnErr result (TakesMemory asking)
-    → AnswersTo before.door (account_by before secrets) asking (state_of before) (state_of gate) was now result events
-answers_worked gate before secrets asks asking given result asks_is w machine_is kept rest made takes =
-    record {
-      mail = w.mail;
-      done = w.done;
-      work = w.work secrets.token before.base asking asks_is;
-      machine_is = machine_is ∙ sym w.machine_is;
-      bears = w.bears;
-      may = inr kept;
-      made = is_made before.door (account_by before secrets) given w.mail asking (state_of before) (state_of gate) w.done result w.worked.0 w.worked.1 kept
-          (made_of gate before secrets given asking result rest made) takes;
-    }
+    → IfOk result (λ r. (h : Hidden) (m : MachineState) → HoldsMachine m gate.machine
+    → IsResponse gate.door (account_by gate h) (mail_told told m.known) gate.uploads asking (text_sent r))
+    → OnErr result (TakesMemory asking)
+    → (t : GateState) × GateHolds t gate × AnswersTo before.door (account_by before secrets) asking s t was now result events
+answers_worked {kept = kept} gate before secrets asks asking told result s holds asks_is w machine_is keeps rest made takes =
+    let held : GateHolds (came_to w.done gate) gate = holds_after w.done kept gate w.held machine_is in (
+      came_to w.done gate,
+      held,
+      record {
+        mail = w.mail;
+        done = w.done;
+        work = w.work secrets.token before.base asking asks_is;
+        machine_is = refl;
+        bears = w.bears;
+        may = inr (subst (λ (u : List (List ℕ)). KeepsUpload asking u gate.uploads) holds.uploads keeps);
+        made = made_of gate before secrets told w.mail asking before.uploads w.done result rest held.machine w.worked.0 w.worked.1 keeps made takes s (sym holds.uploads);
+      },
+    )
 
 -- what needs the mail takes memory
 pub takes_for_mail : (asking : Asking) (asks : Bool) → asks_for_mail asking ≡ asks → asks ≡ true → TakesMemory asking
@@ -181,21 +257,24 @@ takes_for_mail (Download blob media) asks asks_is needs = tt
 takes_for_mail (Refused refusal) asks asks_is needs = let both : false ≡ true = asks_is ∙ needs in absurd cc
 
 -- there was none for it, or none to keep an upload
-pub answers_lacking : {machine : Machine} {was now : Faults} {events : List Event} (gate before : Gate) (secrets : Hidden) (asks : Bool) (asking : Asking) (e : AllocError)
-    (result : Result Mailing AllocError)
-    → asks_for_mail asking ≡ asks → WorksTo before.user secrets.password asks before.machine machine was now result events → gate.machine ≡ machine
+pub answers_lacking : {kept : Machine} {was now : Faults} {events : List Event} (gate before : Gate) (secrets : Hidden) (asks : Bool) (asking : Asking) (e : AllocError)
+    (result : Result (Result (Unit {0}) MethodError) AllocError) (s : GateState)
+    → GateHolds s before → asks_for_mail asking ≡ asks → WorksTo before.user secrets.password asks s.machine kept was now result events → gate.machine ≡ kept
     → gate.uploads ≡ before.uploads → TakesMemory asking
-    → AnswersTo before.door (account_by before secrets) asking (state_of before) (state_of gate) was now (Err e) events
-answers_lacking gate before secrets asks asking e result asks_is w machine_is same takes =
-    record {
-      mail = w.mail;
-      done = w.done;
-      work = w.work secrets.token before.base asking asks_is;
-      machine_is = machine_is ∙ sym w.machine_is;
-      bears = w.bears;
-      may = inl same;
-      made = takes;
-    }
+    → (t : GateState) × GateHolds t gate × AnswersTo before.door (account_by before secrets) asking s t was now (Err e) events
+answers_lacking {kept = kept} gate before secrets asks asking e result s holds asks_is w machine_is same takes = (
+  came_to w.done gate,
+  holds_after w.done kept gate w.held machine_is,
+  record {
+    mail = w.mail;
+    done = w.done;
+    work = w.work secrets.token before.base asking asks_is;
+    machine_is = refl;
+    bears = w.bears;
+    may = inl (same ∙ holds.uploads);
+    made = takes;
+  },
+)
 
 -- ---- the reply to what is asked
 
@@ -217,18 +296,17 @@ replied {asking = asking} {events = events} response a =
           stands = a.made.1;
           machine_is = a.machine_is;
           keeps = a.made.2;
-          text_is = a.made.0;
+          is_response = a.made.0;
         },
         a.bears,
       );
     }
 
 -- there was no memory for a response: the reply says so, and the machine isn't ready
-pub replied_lacking : {door : Door} {account : Account} {asking : Asking} {before mid after : GateState} {was now : Faults} {events : List Event} (e : AllocError) (text : List ℕ)
-    → text ≡ no_memory_text door → after ≡ unready_state mid → AnswersTo door account asking before mid was now (Err e) events
-    → RepliesToAsking door account asking before after was now text events
-replied_lacking {door} {account} {asking} {before} {mid} {after} {was} {now} {events} e text text_is after_is a =
-    subst (λ (s : GateState). RepliesToAsking door account asking before s was now text events) (sym after_is)
+pub replied_lacking : {door : Door} {account : Account} {asking : Asking} {before mid : GateState} {was now : Faults} {events : List Event} (e : AllocError) (text : List ℕ)
+    → text ≡ no_memory_text door → AnswersTo door account asking before mid was now (Err e) events
+    → RepliesToAsking door account asking before (unready_state mid) was now text events
+replied_lacking {asking = asking} {events = events} e text text_is a =
     record {
       of = λ read reads. (
         LacksAnswering record {
@@ -242,7 +320,7 @@ replied_lacking {door} {account} {asking} {before} {mid} {after} {was} {now} {ev
           takes = a.made;
           work = a.work;
           text_is = text_is;
-          machine_is = ap (λ (m : Machine). (unready_state (record { machine = m; uploads = [] })).machine) a.machine_is;
+          machine_is = ap (λ (m : MachineState). forgotten m) a.machine_is;
           may_keep = a.may;
         },
         a.bears,
@@ -260,10 +338,10 @@ read_asked {mid = mid} {now = now} xs was response later reads replies =
     let r = replies.of xs reads in (r.0, bears_earlier (reply_blamed r.0) was mid now later r.1)
 
 -- memory ran out while the request was read: the reply says so, and the machine isn't ready
-pub read_lacking : {door : Door} {account : Account} {events : List Event} (before after : GateState) (was now : Faults) (response : Response) → Later was now
-    → ReadsAsking door account.token (Err unread.Memory) events → text_sent response ≡ no_memory_text door → after ≡ unready_state before
-    → RepliesBy door account before after was now (Some response) events
-read_lacking before after was now response later reads text_is after_is = (LacksReading reads text_is after_is, bears_none was now later)
+pub read_lacking : {door : Door} {account : Account} {events : List Event} (before : GateState) (was now : Faults) (response : Response) → Later was now
+    → ReadsAsking door account.token (Err unread.Memory) events → text_sent response ≡ no_memory_text door
+    → RepliesBy door account before (unready_state before) was now (Some response) events
+read_lacking before was now response later reads text_is = (LacksReading reads text_is refl, bears_none was now later)
 
 -- ---- sending
 
@@ -334,19 +412,19 @@ serves_reply door account before after was mid now xs ys None how later alone ca
 -- one client, or none
 pub steps_fault : {door : Door} {account : Account} {events : List Event} (s : GateState) (was now : Faults) → events ≡ FrontFailed ∷ [] → FrontAlone was now
     → Rose was.front now.front
-    → StepsTo door account s s was now served.AcceptFault events
+    → AddsSegment door account s s was now served.AcceptFault events
 steps_fault s was now is alone rose =
     record { segment = NotAccepted is refl refl; bears = bears_front 1 no_faults was was now (bears_none was was (later_same was was refl)) alone rose }
 
 -- no client comes
 pub steps_none : {door : Door} {account : Account} {events : List Event} (s : GateState) (was now : Faults) → events ≡ NoMore ∷ [] → FrontAlone was now
-    → StepsTo door account s s was now served.NoMore events
+    → AddsSegment door account s s was now served.NoMore events
 steps_none s was now is alone = record { segment = NoneComes is refl refl; bears = bears_none was now (later_front was now alone) }
 
 -- a client comes, and then what serving it adds
 pub steps_client : {door : Door} {account : Account} {before after : GateState} {mid now : Faults} {xs ys : List Event} (was : Faults) (how : Served) → xs ≡ Accepted ∷ []
     → FrontAlone was mid
-    → Serves door account before after mid now how ys → StepsTo door account before after was now how (xs ++ ys)
+    → Serves door account before after mid now how ys → AddsSegment door account before after was now how (xs ++ ys)
 steps_client {mid = mid} {now = now} {xs = xs} {ys = ys} was how is alone serves =
     let here = serves.of (xs ++ ys) (λ i. is i ++ ys) in
     record { segment = here.0; bears = bears_earlier (blamed here.0) was mid now (later_front was mid alone) here.1 }

@@ -5,6 +5,6 @@ pub mod Answering
 mod Gates
 mod Ids
 mod Running
-mod Calling
 mod Needs
+mod Going
 pub mod Told

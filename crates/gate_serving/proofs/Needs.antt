@@ -3,15 +3,15 @@ use Rattle.std.proofs.Common.{arith, ◌≡◌, ◌-◌, ◌^◌, ◌<◌, ℕ, 
 use Rattle.gate_world.specs.Causes.{Faults, RoseBy, no_faults}
 use Rattle.gate_world.specs.declared.event.Event.{Event}
 use Rattle.gate_machine.specs.Progress.{Bears, Progress}
-use Rattle.gate_machine.specs.declared.machine.Machine.{Machine}
+use Rattle.gate_machine.specs.Machine.{MachineState}
 use Rattle.gate_machine.specs.Beginning.{PreparesMail}
 use Rattle.gate_machine.specs.Obeying.{IsObeyedBeginning, IsServed}
 use Rattle.gate_machine.specs.declared.standing.Standing.TheVariants.{OutOfMemory}
-use Rattle.gate_serving.specs.Calls.{Mailing}
+use Rattle.gate_calls.specs.Mailings.{Mailing, mailing_by}
 use Rattle.gate_serving.specs.Complete.{IsWorkObeyed, IsAnsweredFrom}
 use Rattle.gate_serving.specs.Requests.{Account, Asking, asks_for_mail}
 use Rattle.gate_serving.specs.Run.{Stood}
-use Rattle.gate_serving.specs.Work.{Work, NoMail, WithMail, mailing_by}
+use Rattle.gate_serving.specs.Work.{Work, NoMail, WithMail}
 
 none_of : (b was now : ℕ) → RoseBy b was now → now ≡ was → was < 2 ^ 64 - 1 → b ≡ 0
 none_of b was now rose is less = omega (arith, is)
@@ -27,7 +27,7 @@ unblamed blames was now bears stood =
     }
 
 -- what doesn't need the mail adds no event, and leaves the machine as it was
-pub no_life : (account : Account) (before : Machine) (asking : Asking) (events : List Event) (mail : Mailing) (after : Progress) → Work account before asking events mail after
+pub no_life : (account : Account) (before : MachineState) (asking : Asking) (events : List Event) (mail : Mailing) (after : Progress) → Work account before asking events mail after
     → asks_for_mail asking ≡ false → (events ≡ []) × (after.machine ≡ before)
 no_life account before asking events mail after (NoMail apart none a is) apart_is = (none, ap (λ (p : Progress). p.machine) is)
 no_life account before asking events mail after (WithMail needs work) apart_is = absurd (cc (needs, apart_is))
@@ -35,7 +35,7 @@ no_life account before asking events mail after (WithMail needs work) apart_is =
 -- ---- a store that obeys
 
 abbrev pub Law : Type 0
-Law = (user password : List ℕ) (before : Machine) (events : List Event) (after : Progress) (begins : PreparesMail user password before events after) → IsObeyedBeginning begins
+Law = (user password : List ℕ) (before : MachineState) (events : List Event) (after : Progress) (begins : PreparesMail user password before events after) → IsObeyedBeginning begins
     → after.blamed ≡ no_faults
     → IsServed after ⊎ (after.standing ≡ OutOfMemory)
 
@@ -46,7 +46,7 @@ served_from asking mail begun after mail_is is (inl (k, stands, known)) =
 served_from asking mail begun after mail_is is (inr out) = inr (ap (λ (p : Progress). p.standing) is ∙ out)
 
 -- where the store obeyed and nothing is blamed, calls are answered over the mail that is served then; or memory ran out
-pub answered_from : Law → (account : Account) (before : Machine) (asking : Asking) (events : List Event) (mail : Mailing) (after : Progress)
+pub answered_from : Law → (account : Account) (before : MachineState) (asking : Asking) (events : List Event) (mail : Mailing) (after : Progress)
     (work : Work account before asking events mail after) → IsWorkObeyed work → after.blamed ≡ no_faults → IsAnsweredFrom asking mail after ⊎ (after.standing ≡ OutOfMemory)
 answered_from law account before asking events mail after (NoMail apart a b c) obeyed none = inl (inl apart)
 answered_from law account before asking events mail after (WithMail a work) obeyed none =

@@ -10,7 +10,7 @@ use Rattle.gate_serving.specs.declared.served.Served.TheVariants as served
 use Rattle.gate_serving.specs.declared.door.Door.{Door}
 use Rattle.gate_serving.specs.GateState.{GateState}
 use Rattle.gate_serving.specs.Requests.{Account}
-use Rattle.gate_serving.specs.Run.{Begun, Then, sum_of_faults, IsClient, Ends, NoneLeft, NotAccepted, StepsTo, RunsTo, IsServingRun}
+use Rattle.gate_serving.specs.Run.{Begun, Then, sum_of_faults, IsClient, Ends, NoneLeft, NotAccepted, AddsSegment, RunsTo, IsServingRun}
 
 rose_more : (j k was mid now : ℕ) → RoseBy j was mid → RoseBy k mid now → RoseBy (j + k) was now
 rose_more j k was mid now a b = omega arith
@@ -42,10 +42,10 @@ begun door account s f = record { went = []; run = Begun; came = search rules; c
 
 -- one more that came
 pub then_client : {door : Door} {account : Account} {s t u : GateState} {n : ℕ} {was mid now : Faults} {how : Served} {xs ys : List Event} {d : Door} {b : Account}
-    → d ≡ door → b ≡ account → IsClient how → RunsTo door account s t n was mid xs → StepsTo d b t u mid now how ys → RunsTo door account s u (n + 1) was now (xs ++ ys)
+    → d ≡ door → b ≡ account → IsClient how → RunsTo door account s t n was mid xs → AddsSegment d b t u mid now how ys → RunsTo door account s u (n + 1) was now (xs ++ ys)
 then_client {door} {account} {s} {t} {u} {was = was} {mid = mid} {now = now} {how = how} {ys = ys} {b = b} here same client r steps =
-    let step : StepsTo door account t u mid now how ys = subst (λ (a : Account). StepsTo door a t u mid now how ys) same
-    (subst (λ (e : Door). StepsTo e b t u mid now how ys) here steps) in
+    let step : AddsSegment door account t u mid now how ys = subst (λ (a : Account). AddsSegment door a t u mid now how ys) same
+    (subst (λ (e : Door). AddsSegment e b t u mid now how ys) here steps) in
     record {
       went = r.went ++ how ∷ [];
       run = Then (record { before = t; events = ys; how = how; after = u; segment = step.segment }) r.run;
@@ -57,10 +57,10 @@ then_client {door} {account} {s} {t} {u} {was = was} {mid = mid} {now = now} {ho
 -- the last
 pub then_last : {door : Door} {account : Account} {s t u : GateState} {n : ℕ} {was mid now : Faults} {how : Served} {xs ys : List Event} {d : Door} {b : Account} (most status : ℕ)
     → d ≡ door → b ≡ account → ((went : List Served) → All IsClient went → length went ≡ n → Ends most (went ++ how ∷ []) status) → RunsTo door account s t n was mid xs
-    → StepsTo d b t u mid now how ys → IsServingRun door account s u most was now status (xs ++ ys)
+    → AddsSegment d b t u mid now how ys → IsServingRun door account s u most was now status (xs ++ ys)
 then_last {door} {account} {s} {t} {u} {was = was} {mid = mid} {now = now} {how = how} {ys = ys} {b = b} most status here same ends r steps =
-    let step : StepsTo door account t u mid now how ys = subst (λ (a : Account). StepsTo door a t u mid now how ys) same
-    (subst (λ (e : Door). StepsTo e b t u mid now how ys) here steps) in
+    let step : AddsSegment door account t u mid now how ys = subst (λ (a : Account). AddsSegment door a t u mid now how ys) same
+    (subst (λ (e : Door). AddsSegment e b t u mid now how ys) here steps) in
     record {
       went = r.went ++ how ∷ [];
       run = Then (record { before = t; events = ys; how = how; after = u; segment = step.segment }) r.run;

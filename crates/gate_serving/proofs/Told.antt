@@ -48,11 +48,13 @@ takes door account events replied heard text how before after is a hears whole (
       asking = a.asking;
       mail = a.mail;
       done = a.done;
+      text = text;
       whole = is ∙ (λ i. Accepted ∷ ((a.whole i ++ heard) ++ ClientDone ∷ []));
       reads = a.reads;
       answered = from;
       machine_is = a.machine_is;
-      hears = subst (λ (t : List ℕ). Hears t heard) a.text_is hears;
+      is_response = a.is_response;
+      hears = hears;
     } whole
 takes door account events replied heard text how before after is a hears whole (inr out) = absurd (a.stands out)
 

@@ -1,5 +1,5 @@
 -- What clients are answered (RFC 8620 sections 2, 3.4, 3.6.1, 6.1 and 6.2), and how the answer is spelled.
-use Rattle.std.specs.Prelude.{◌≡◌, ◌⊎◌, ◌++◌, ℕ, List, [], ◌∷◌, length, Option, Some, None, Ok, Err, codes}
+use Rattle.std.specs.Prelude.{◌≡◌, ◌⊎◌, ◌++◌, ℕ, List, [], ◌∷◌, length, Bool, true, false, is_ok, Option, Some, None, codes}
 use Rattle.serde_json.specs.Data.{unsigned, Data, number, string, object, no_members, member}
 use Rattle.serde_json.specs.Written.{compact_text}
 use Rattle.blob_store.specs.Uploads.{blob_id, upload_with, TakesUpload}
@@ -7,12 +7,13 @@ use Rattle.blob_store.specs.declared.store.TheConstants.{MAX_KEPT_OCTETS}
 use Rattle.http_door.specs.Responses.{http_response, json_media, problem_media, download_media}
 use Rattle.http_service.specs.Refusals.{refusal_status}
 use Rattle.jmap_core.specs.Problem.{text_of_problem, status_of as problem_status}
-use Rattle.jmap_core.specs.Request.{RequestData}
+use Rattle.jmap_core.specs.Request.{CallData, RequestData}
 use Rattle.jmap_core.specs.Response.{response_data}
 use Rattle.jmap_core.specs.Session.{session_data, session_state_text}
+use Rattle.gate_calls.specs.Calls.{AnswersCalls}
+use Rattle.gate_calls.specs.Mailings.{Mailing}
 use Rattle.gate_serving.specs.declared.door.Door.{Door}
 use Rattle.gate_serving.specs.declared.door.Door.TheVariants.{Bare, Http}
-use Rattle.gate_serving.specs.Calls.{Mailing, responses_after}
 use Rattle.gate_serving.specs.Requests.{Account, Asking, Calls, Problem, Session, Upload, Download, Refused, account_id}
 
 -- a status of HTTP, and a body of this type
@@ -32,10 +33,9 @@ empty_answer status = record { status = status; media = []; body = [] }
 
 -- ---- method calls
 
--- the responses to a request's calls, with the Session's state of this user and base
-unfoldable pub calls_text : List ℕ → List ℕ → Mailing → RequestData → List ℕ
-calls_text user base mail request =
-    compact_text (response_data (responses_after mail request.uses [] request.calls) request.created (session_state_text user base))
+-- these responses to a request's calls, with the Session's state of this user and base
+unfoldable pub calls_text : List ℕ → List ℕ → List CallData → RequestData → List ℕ
+calls_text user base responses request = compact_text (response_data responses request.created (session_state_text user base))
 
 -- ---- uploads and downloads
 
@@ -65,20 +65,23 @@ abbrev pub found_answer : Option (List ℕ) → Option (List ℕ) → Answer
 found_answer (Some octets) media = record { status = 200; media = download_media media; body = octets }
 found_answer None media = empty_answer 404
 
-abbrev pub blob_answer : Mailing → Option (List ℕ) → Option (List ℕ) → Answer
-blob_answer (Ok mail) found media = found_answer found media
-blob_answer (Err e) found media = problem_answer 404 (compact_text untold_problem)
+-- where the mail is told, or isn't
+abbrev pub blob_answer : Bool → Option (List ℕ) → Option (List ℕ) → Answer
+blob_answer true found media = found_answer found media
+blob_answer false found media = problem_answer 404 (compact_text untold_problem)
 
 -- ---- what is answered
 
--- The answer over this mail and these uploads.
-abbrev pub answer_over : Account → Mailing → List (List ℕ) → Asking → Answer
-answer_over account mail uploads (Calls request) = json_answer 200 (calls_text account.user account.base mail request)
-answer_over account mail uploads (Problem e) = problem_answer (problem_status e) (text_of_problem e)
-answer_over account mail uploads Session = json_answer 200 (compact_text (session_data account.user account.base))
-answer_over account mail uploads (Upload media octets) = json_answer 201 (compact_text (upload_data media octets))
-answer_over account mail uploads (Download blob media) = blob_answer mail (upload_with blob uploads) media
-answer_over account mail uploads (Refused refusal) = empty_answer (refusal_status refusal)
+-- The answer over this mail and these uploads: to method calls it has the responses to them.
+abbrev pub IsAnswer : Account → Mailing → List (List ℕ) → Asking → Answer → Type 0
+IsAnswer account mail uploads (Calls request) answer =
+    (responses : List CallData) × AnswersCalls request.uses mail request.calls responses
+    × (answer ≡ json_answer 200 (calls_text account.user account.base responses request))
+IsAnswer account mail uploads (Problem e) answer = answer ≡ problem_answer (problem_status e) (text_of_problem e)
+IsAnswer account mail uploads Session answer = answer ≡ json_answer 200 (compact_text (session_data account.user account.base))
+IsAnswer account mail uploads (Upload media octets) answer = answer ≡ json_answer 201 (compact_text (upload_data media octets))
+IsAnswer account mail uploads (Download blob media) answer = answer ≡ blob_answer (is_ok mail) (upload_with blob uploads) media
+IsAnswer account mail uploads (Refused refusal) answer = answer ≡ empty_answer (refusal_status refusal)
 
 -- each line ends so
 abbrev pub line_end : List ℕ
@@ -94,8 +97,11 @@ abbrev pub TakesMemory : Asking → Type 0
 TakesMemory (Refused refusal) = ⊥
 TakesMemory _ = Unit {0}
 
-abbrev pub response_of : Door → Account → Mailing → List (List ℕ) → Asking → List ℕ
-response_of door account mail uploads asking = spelled door (answer_over account mail uploads asking)
+-- the text of the answer
+pub record IsResponse (door : Door) (account : Account) (mail : Mailing) (uploads : List (List ℕ)) (asking : Asking) (text : List ℕ) : Type 0 where
+  pub answer : Answer
+  pub is_answer : IsAnswer account mail uploads asking answer
+  pub text_is : text ≡ spelled door answer
 
 -- out of memory (RFC 9110 section 15.6.4)
 abbrev pub no_memory_text : Door → List ℕ

@@ -8,13 +8,12 @@ use Rattle.http_door.specs.declared.asking.AskError.TheVariants as unread
 use Rattle.gate_machine.specs.History.{KnownMail}
 use Rattle.gate_machine.specs.Obeying.{IsObeyedBeginning}
 use Rattle.gate_machine.specs.Progress.{Progress}
-use Rattle.gate_machine.specs.declared.machine.Machine.{Machine}
+use Rattle.gate_machine.specs.Machine.{MachineState}
+use Rattle.gate_calls.specs.Mailings.{Mailing}
 use Rattle.gate_serving.specs.declared.door.Door.{Door}
 use Rattle.gate_serving.specs.declared.served.Served.{Served}
 use Rattle.gate_serving.specs.declared.served.Served.TheVariants as served
-use Rattle.gate_serving.specs.Answers.{response_of, no_memory_text}
-use Rattle.gate_serving.specs.Calls.{Mailing}
-use Rattle.gate_serving.specs.Counts.{served_mail}
+use Rattle.gate_serving.specs.Answers.{IsResponse, no_memory_text}
 use Rattle.gate_serving.specs.GateState.{GateState}
 use Rattle.gate_serving.specs.Requests.{Account, Asking, ReadsAsking, asks_for_mail}
 use Rattle.gate_serving.specs.Run.{Run, Begun, Then}
@@ -24,7 +23,7 @@ use Rattle.gate_serving.specs.Work.{Work, NoMail, WithMail}
 -- ---- a request
 
 -- The store obeyed all that a request asks of it, where it asks anything.
-abbrev pub IsWorkObeyed : {account : Account} {before : Machine} {asking : Asking} {events : List Event} {mail : Mailing} {after : Progress}
+abbrev pub IsWorkObeyed : {account : Account} {before : MachineState} {asking : Asking} {events : List Event} {mail : Mailing} {after : Progress}
     → Work account before asking events mail after → Type 0
 IsWorkObeyed (NoMail a b c d) = Unit {0}
 IsWorkObeyed (WithMail a work) = IsObeyedBeginning work.prepares
@@ -32,7 +31,7 @@ IsWorkObeyed (WithMail a work) = IsObeyedBeginning work.prepares
 -- The calls are answered over the mail that is served then; or none of them needs it.
 abbrev pub IsAnsweredFrom : Asking → Mailing → Progress → Type 0
 IsAnsweredFrom asking mail after =
-    (asks_for_mail asking ≡ false) ⊎ ((k : KnownMail) × (after.machine.known ≡ Some k) × (mail ≡ Ok (served_mail k.history)))
+    (asks_for_mail asking ≡ false) ⊎ ((k : KnownMail) × (after.machine.known ≡ Some k) × (mail ≡ Ok k.history))
 
 -- ---- a client
 
@@ -59,11 +58,13 @@ pub record TakesResponse (door : Door) (account : Account) (events : List Event)
   pub asking : Asking
   pub mail : Mailing
   pub done : Progress
+  pub text : List ℕ
   pub whole : events ≡ Accepted ∷ (((asked ++ worked) ++ heard) ++ ClientDone ∷ [])
   pub reads : ReadsAsking door account.token (Ok asking) asked
   pub answered : IsAnsweredFrom asking mail done
   pub machine_is : after.machine ≡ done.machine
-  pub hears : Hears (response_of door account mail after.uploads asking) heard
+  pub is_response : IsResponse door account mail after.uploads asking text
+  pub hears : Hears text heard
 
 -- What comes of a client of whom nothing fails: it takes the whole response; or memory ran out, and it takes the text of that;
 -- or it ended its input inside its request; or no client comes.

@@ -1,11 +1,10 @@
 -- What a gate holds between clients.
 use Rattle.std.specs.Prelude.{ℕ, List, []}
-use Rattle.gate_machine.specs.Machine.{opened as opened_machine, forgotten as forgotten_machine}
-use Rattle.gate_machine.specs.declared.machine.Machine.{Machine}
+use Rattle.gate_machine.specs.Machine.{MachineState, opened as opened_machine, forgotten as forgotten_machine}
 
 -- the machine, and the uploads that are kept, oldest first
 pub record GateState : Type 0 where
-  pub machine : Machine
+  pub machine : MachineState
   pub uploads : List (List ℕ)
 
 -- a new gate in this epoch

@@ -1,7 +1,5 @@
 -- Each module after those that it uses: Segment has one client, Run clients one after another, Complete what they are owed.
 pub mod Front
-pub mod Counts
-pub mod Calls
 pub mod Requests
 pub mod Answers
 pub mod Work

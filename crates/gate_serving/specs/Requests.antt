@@ -15,7 +15,7 @@ use Rattle.jmap_core.specs.declared.request.LimitName.TheVariants.{MaxSizeReques
 use Rattle.gate_serving.specs.declared.door.Door.{Door}
 use Rattle.gate_serving.specs.declared.door.Door.TheVariants.{Bare, Http}
 use Rattle.gate_serving.specs.declared.front.BodyError.TheVariants.{Failed, TooLarge, Memory}
-use Rattle.gate_serving.specs.Calls.{needs_mail}
+use Rattle.gate_calls.specs.Calls.{needs_mail}
 use Rattle.gate_serving.specs.Front.{GivesRequest}
 
 -- Who is served: the store's user and password, the token that clients show, and the URL that they come by.

@@ -1,5 +1,5 @@
 -- Clients one after another.
-use Rattle.std.specs.Prelude.{◌≡◌, ◌<◌, ◌+◌, ◌-◌, ◌^◌, ◌++◌, ℕ, List, [], ◌∷◌, length, All, Result, Ok, Err}
+use Rattle.std.specs.Prelude.{◌≡◌, ◌⊎◌, ◌<◌, ◌+◌, ◌-◌, ◌^◌, ◌++◌, ℕ, List, [], ◌∷◌, length, All, Result, Ok, Err}
 use Rattle.gate_world.specs.Causes.{Faults, Hidden, no_faults}
 use Rattle.gate_world.specs.declared.event.Event.{Event}
 use Rattle.gate_world.specs.declared.event.Event.TheVariants.{Word}
@@ -64,7 +64,7 @@ pub data Ends (most : ℕ) (went : List Served) (status : ℕ) : Type 0 where
 -- ---- what calls add
 
 -- One segment; the counts bear its blames.
-pub record StepsTo (door : Door) (account : Account) (before after : GateState) (was now : Faults) (how : Served) (events : List Event) : Type 0 where
+pub record AddsSegment (door : Door) (account : Account) (before after : GateState) (was now : Faults) (how : Served) (events : List Event) : Type 0 where
   pub segment : Segment door account before events how after
   pub bears : Bears (blamed segment) was now
 
@@ -88,7 +88,7 @@ pub record IsServingRun (door : Door) (account : Account) (before after : GateSt
 abbrev pub account_of : Place → Hidden → Account
 account_of place secrets = record { user = place.user; password = secrets.password; token = secrets.token; base = place.base }
 
--- What opening a gate adds, and what the gate holds: an epoch is drawn; or there is no memory for it.
+-- What opening a gate adds, and what the gate holds: an epoch is drawn; or there is no memory for it, before that or then.
 abbrev pub Opens : Result GateState OpenError → List Event → Type 0
 Opens (Ok s) events = (epoch : ℕ) × (events ≡ Word epoch ∷ []) × (s ≡ new_state epoch)
-Opens (Err opening.Memory) events = events ≡ []
+Opens (Err opening.Memory) events = (events ≡ []) ⊎ ((epoch : ℕ) × (events ≡ Word epoch ∷ []))

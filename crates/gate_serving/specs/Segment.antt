@@ -9,11 +9,11 @@ use Rattle.http_door.specs.declared.asking.AskError.TheVariants as unread
 use Rattle.gate_machine.specs.Machine.{forgotten as forgotten_machine}
 use Rattle.gate_machine.specs.Progress.{Progress}
 use Rattle.gate_machine.specs.declared.standing.Standing.TheVariants.{OutOfMemory}
+use Rattle.gate_calls.specs.Mailings.{Mailing}
 use Rattle.gate_serving.specs.declared.door.Door.{Door}
 use Rattle.gate_serving.specs.declared.served.Served.{Served}
 use Rattle.gate_serving.specs.declared.served.Served.TheVariants as served
-use Rattle.gate_serving.specs.Answers.{KeepsUpload, MayKeepUpload, TakesMemory, response_of, no_memory_text}
-use Rattle.gate_serving.specs.Calls.{Mailing}
+use Rattle.gate_serving.specs.Answers.{KeepsUpload, MayKeepUpload, TakesMemory, IsResponse, no_memory_text}
 use Rattle.gate_serving.specs.GateState.{GateState, unready_state}
 use Rattle.gate_serving.specs.Requests.{Account, Asking, ReadsAsking}
 use Rattle.gate_serving.specs.Work.{Work}
@@ -36,7 +36,7 @@ pub record AnswersAsking (door : Door) (account : Account) (before : GateState) 
   pub stands : done.standing ≢ OutOfMemory
   pub machine_is : after.machine ≡ done.machine
   pub keeps : KeepsUpload asking before.uploads after.uploads
-  pub text_is : text ≡ response_of door account mail after.uploads asking
+  pub is_response : IsResponse door account mail after.uploads asking text
 
 -- Memory runs out after a request was read whose response takes memory: in the link life, while what it told was to be served,
 -- or while the response was made. An upload may be kept then.

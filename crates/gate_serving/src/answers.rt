@@ -1,26 +1,32 @@
 // The answers to what clients ask.
-ghost use Rattle.std.specs.Prelude.{◌≡◌, ℕ, List, IfOk, string_bytes};
+ghost use Rattle.std.specs.Prelude.{◌≡◌, ℕ, IfOk, All, List, map, string_bytes};
 ghost use Rattle.std.specs.Option.{option_copied};
 ghost use Rattle.serde_json.specs.View.{view};
 ghost use Rattle.serde_json.specs.Written.{compact_text};
 ghost use Rattle.blob_store.specs.Uploads.{blob_id as id_of};
 ghost use Rattle.jmap_core.specs.Problem.{text_of_problem, status_of as status_of_problem};
-ghost use Rattle.jmap_core.specs.Request.{request_data};
+ghost use Rattle.jmap_core.specs.Request.{CallData, call_data, request_data};
+ghost use Rattle.jmap_core.specs.Response.{IsWhole};
 ghost use Rattle.jmap_core.specs.Session.{session_data};
+ghost use Rattle.gate_machine.specs.Holding.{HoldsMachine};
+ghost use Rattle.gate_machine.specs.Machine.{MachineState};
+ghost use Rattle.gate_calls.specs.Calls.{AnswersCalls};
+ghost use Rattle.gate_calls.specs.Mailings.{mail_told};
 ghost use Rattle.gate_serving.specs.Answers.{blob_answer, calls_text as text_of_calls, json_answer, problem_answer, spelled, untold_problem, upload_data};
 ghost use Rattle.gate_serving.specs.reading.Texts.{text_sent};
 
-use crate::calls::{Mailing, responses_to};
 use crate::door::Door;
 use crate::response::Response;
 use crate::upload::Upload;
 use blob_store::MAX_UPLOAD_OCTETS;
+use gate_calls::{Told, responses_to};
+use gate_machine::Machine;
 use gate_world::{Bytes, Text};
 use http::StatusCode;
 use http_door::{MAX_REQUEST_OCTETS, download_media, json_media, problem_media};
 use http_service::Refusal;
 use jmap_core::{
-    LimitName, MAX_SIZE_REQUEST, MAX_SIZE_UPLOAD, Request, RequestError, problem_text,
+    Call, LimitName, MAX_SIZE_REQUEST, MAX_SIZE_UPLOAD, Request, RequestError, problem_text,
     response_text, session_object, session_state,
 };
 use serde_json::{Value, json};
@@ -35,19 +41,14 @@ fn calls_text(
     alloc: Global,
     user: &Text,
     base: &Text,
-    mail: &Mailing,
+    responses: &[Call],
     request: &Request,
 ) -> Result<String, AllocError>
-    ensures { IfOk result (λ text. string_bytes text ≡ text_of_calls user.now base.now mail.now (request_data request.now)) }
+    requires { All IsWhole responses.now }
+    ensures { IfOk result (λ text. string_bytes text ≡ text_of_calls user.now base.now (map call_data responses.now) (request_data request.now)) }
 {
-    let responses = responses_to(alloc, mail, request.using, request.calls.as_slice())?;
     let session = session_state(alloc, user.as_str(), base.as_str())?;
-    response_text(
-        alloc,
-        responses.as_slice(),
-        request.created.as_ref(),
-        session.as_str(),
-    )
+    response_text(alloc, responses, request.created.as_ref(), session.as_str())
 }
 
 // JSON, of this status.
@@ -63,19 +64,45 @@ fn json_response(
     Response::new(alloc, door, status, &json_media(), body)
 }
 
-/// The answer to method calls over this mail.
+// The answer that has these responses.
+fn responses_answer(
+    alloc: Global,
+    door: Door,
+    user: &Text,
+    base: &Text,
+    responses: &[Call],
+    request: &Request,
+) -> Result<Response, AllocError>
+    requires { All IsWhole responses.now }
+    ensures { IfOk result (λ r. text_sent r
+        ≡ spelled door (json_answer 200 (text_of_calls user.now base.now (map call_data responses.now) (request_data request.now)))) }
+{
+    let text = calls_text(alloc, user, base, responses, request)?;
+    json_response(alloc, door, StatusCode::OK, text)
+}
+
+/// The answer to method calls over the mail of the machine, where that was told.
 pub fn calls_response(
     alloc: Global,
     door: Door,
     user: &Text,
     base: &Text,
-    mail: &Mailing,
+    machine: &Machine,
+    told: &Told,
     request: &Request,
 ) -> Result<Response, AllocError>
-    ensures { IfOk result (λ r. text_sent r ≡ spelled door (json_answer 200 (text_of_calls user.now base.now mail.now (request_data request.now)))) }
+    ensures { IfOk result (λ r. (m : MachineState) → HoldsMachine m machine.now → (responses : List CallData)
+        × AnswersCalls (request_data request.now).uses (mail_told told.now m.known) (request_data request.now).calls responses
+        × (text_sent r ≡ spelled door (json_answer 200 (text_of_calls user.now base.now responses (request_data request.now))))) }
 {
-    let text = calls_text(alloc, user, base, mail, request)?;
-    json_response(alloc, door, StatusCode::OK, text)
+    let responses = responses_to(
+        alloc,
+        machine,
+        told,
+        request.using,
+        request.calls.as_slice(),
+    )?;
+    responses_answer(alloc, door, user, base, responses.as_slice(), request)
 }
 
 fn status_of(error: RequestError) -> StatusCode
@@ -176,20 +203,20 @@ fn untold_response(alloc: Global, door: Door) -> Result<Response, AllocError>
     Response::new(alloc, door, StatusCode::NOT_FOUND, &problem_media(), body)
 }
 
-/// The octets of a blob, of which these are found, over this mail.
+/// The octets of a blob, of which these are found, where the mail is told.
 pub fn blob_response(
     alloc: Global,
     door: Door,
-    mail: &Mailing,
+    told: bool,
     found: Option<&Bytes>,
     media: Option<&[u8]>,
 ) -> Result<Response, AllocError>
-    ensures { IfOk result (λ r. text_sent r ≡ spelled door (blob_answer mail.now (option_copied found.entry) (option_copied media.entry))) }
+    ensures { IfOk result (λ r. text_sent r ≡ spelled door (blob_answer told (option_copied found.entry) (option_copied media.entry))) }
 {
-    match (mail, found) {
-        (Err(_), _) => untold_response(alloc, door),
-        (Ok(_), None) => Ok(Response::empty(door, Refusal::NotFound)),
-        (Ok(_), Some(octets)) => {
+    match (told, found) {
+        (false, _) => untold_response(alloc, door),
+        (true, None) => Ok(Response::empty(door, Refusal::NotFound)),
+        (true, Some(octets)) => {
             let body = octets.share()?;
             Response::new(alloc, door, StatusCode::OK, &download_media(media), body)
         }

@@ -3,8 +3,8 @@ ghost use Rattle.std.specs.Prelude.{◌≡◌};
 ghost use Rattle.gate_serving.specs.Requests.{asks_for_mail};
 ghost use Rattle.gate_serving.specs.reading.Askings.{asking_data};
 
-use crate::requests::needs_mail;
 use crate::upload::Upload;
+use gate_calls::needs_mail;
 use gate_world::Bytes;
 use http_service::Refusal;
 use jmap_core::{Request, RequestError};

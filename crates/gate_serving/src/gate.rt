@@ -3,12 +3,15 @@ ghost use Rattle.std.specs.Prelude.{◌≡◌, ◌≢◌, ◌⊎◌, IfOk, OnOk,
 ghost use Rattle.std.specs.Option.{option_copied};
 ghost use Rattle.gate_world.specs.Causes.{FrontAlone, Hidden, Later, LinkAlone, NoFault, Rose};
 ghost use Rattle.gate_world.specs.Tape.{Adds};
-ghost use Rattle.gate_serving.specs.GateState.{unready_state};
-ghost use Rattle.gate_serving.specs.Answers.{KeepsUpload, TakesMemory, no_memory_text, response_of};
-ghost use Rattle.gate_serving.specs.Run.{Opens, StepsTo, account_of};
+ghost use Rattle.gate_machine.specs.Holding.{HoldsMachine};
+ghost use Rattle.gate_machine.specs.Machine.{MachineState};
+ghost use Rattle.gate_calls.specs.Mailings.{mail_told};
+ghost use Rattle.gate_serving.specs.GateState.{GateState, unready_state};
+ghost use Rattle.gate_serving.specs.Answers.{IsResponse, KeepsUpload, TakesMemory, no_memory_text};
+ghost use Rattle.gate_serving.specs.Run.{AddsSegment, account_of};
 ghost use Rattle.gate_serving.specs.declared.door.Door.TheVariants.{Bare};
 ghost use Rattle.gate_serving.specs.reading.Askings.{asking_data, id_asked};
-ghost use Rattle.gate_serving.specs.Gates.{RestStays, account_by, opened_gate, state_of};
+ghost use Rattle.gate_serving.specs.Gates.{Comes, GateHolds, OpensTo, RestStays, account_by};
 ghost use Rattle.gate_serving.specs.Segment.{went};
 ghost use Rattle.gate_serving.specs.reading.Replying.{AnswersTo, RepliesBy, RepliesToAsking, SendsReply, Serves};
 ghost use Rattle.gate_serving.specs.reading.Texts.{text_sent};
@@ -17,13 +20,13 @@ use crate::answers::{
     blob_response, calls_response, problem_response, session_response, upload_response,
 };
 use crate::asking::Asking;
-use crate::calls::Mailing;
 use crate::door::Door;
 use crate::mailing::work;
 use crate::reading::read_asking;
 use crate::response::Response;
 use crate::served::{OpenError, Served};
 use blob_store::BlobStore;
+use gate_calls::{Told, is_told};
 use gate_machine::Machine;
 use gate_words::Place;
 use gate_world::{Bytes, Failed, Front, Text, World};
@@ -52,7 +55,7 @@ impl Gate {
         door: Door,
         place: &Place,
     ) -> Result<Gate, OpenError>
-        ensures run { Adds (W.tape world.old) (W.tape world.new) (Opens (opened_gate result)) }
+        ensures run { Adds (W.tape world.old) (W.tape world.new) (OpensTo result) }
         ensures door { IfOk result (λ gate. gate.door ≡ door) }
         ensures account { IfOk result (λ gate. account_by gate (W.hidden world.old) ≡ account_of place.now (W.hidden world.old)) }
         ensures cause { NoFault (W.faults world.old) (W.faults world.new) }
@@ -61,12 +64,15 @@ impl Gate {
         match parts_of(alloc, place) {
             Ok((user, base, routes)) => {
                 let epoch = world.word();
+                let Ok(machine) = Machine::opened(alloc, epoch) else {
+                    return Err(OpenError::Memory);
+                };
                 Ok(Gate {
                     door,
                     user,
                     base,
                     routes,
-                    machine: Machine::opened(alloc, epoch),
+                    machine,
                     uploads: BlobStore::new(alloc),
                 })
             }
@@ -77,7 +83,7 @@ impl Gate {
     /// Answers one client, where one comes.
     pub fn answer_one<W: World>(&mut self, alloc: Global, world: &mut W) -> Served
         ensures run { Adds (W.tape world.old) (W.tape world.new)
-            (StepsTo self.old.door (account_by self.old (W.hidden world.old)) (state_of self.old) (state_of self.new) (W.faults world.old) (W.faults world.new) result) }
+            (Comes self.old self.new (λ s t. AddsSegment self.old.door (account_by self.old (W.hidden world.old)) s t (W.faults world.old) (W.faults world.new) result)) }
         ensures rest { RestStays self.old self.new }
         ensures later { Later (W.faults world.old) (W.faults world.new) }
         ensures accepting { result ≡ Served.AcceptFault → Rose (W.faults world.old).front (W.faults world.new).front }
@@ -94,7 +100,7 @@ impl Gate {
     // A client that came.
     fn answer_client<W: World>(&mut self, alloc: Global, world: &mut W) -> Served
         ensures run { Adds (W.tape world.old) (W.tape world.new)
-            (Serves self.old.door (account_by self.old (W.hidden world.old)) (state_of self.old) (state_of self.new) (W.faults world.old) (W.faults world.new) result) }
+            (Comes self.old self.new (λ s t. Serves self.old.door (account_by self.old (W.hidden world.old)) s t (W.faults world.old) (W.faults world.new) result)) }
         ensures rest { RestStays self.old self.new }
         ensures later { Later (W.faults world.old) (W.faults world.new) }
         ensures came { (result ≡ Served.Whole) ⊎ (result ≡ Served.Part) }
@@ -110,7 +116,7 @@ impl Gate {
     // Reads what the client asks and makes the response to it, where it gets one. Its link life is over before that.
     fn reply<W: World>(&mut self, alloc: Global, world: &mut W) -> Option<Response>
         ensures run { Adds (W.tape world.old) (W.tape world.new)
-            (RepliesBy self.old.door (account_by self.old (W.hidden world.old)) (state_of self.old) (state_of self.new) (W.faults world.old) (W.faults world.new) result) }
+            (Comes self.old self.new (λ s t. RepliesBy self.old.door (account_by self.old (W.hidden world.old)) s t (W.faults world.old) (W.faults world.new) result)) }
         ensures rest { RestStays self.old self.new }
         ensures later { Later (W.faults world.old) (W.faults world.new) }
         ensures none { self.old.door ≡ Bare → result ≡ None → Rose (W.faults world.old).front (W.faults world.new).front }
@@ -127,7 +133,8 @@ impl Gate {
     // The response to what is asked.
     fn answer<W: World>(&mut self, alloc: Global, world: &mut W, asking: &Asking) -> Response
         ensures run { Adds (W.tape world.old) (W.tape world.new)
-            (RepliesToAsking self.old.door (account_by self.old (W.hidden world.old)) (asking_data asking.now) (state_of self.old) (state_of self.new) (W.faults world.old) (W.faults world.new) (text_sent result)) }
+            (Comes self.old self.new (λ s t. RepliesToAsking self.old.door (account_by self.old (W.hidden world.old)) (asking_data asking.now) s t
+            (W.faults world.old) (W.faults world.new) (text_sent result))) }
         ensures rest { RestStays self.old self.new }
         ensures alone { LinkAlone (W.faults world.old) (W.faults world.new) }
         ensures hidden { W.hidden world.new ≡ W.hidden world.old }
@@ -146,15 +153,16 @@ impl Gate {
         asking: &Asking,
     ) -> Result<Response, AllocError>
         ensures run { Adds (W.tape world.old) (W.tape world.new)
-            (AnswersTo self.old.door (account_by self.old (W.hidden world.old)) (asking_data asking.now) (state_of self.old) (state_of self.new) (W.faults world.old) (W.faults world.new) result) }
+            (Comes self.old self.new (λ s t. AnswersTo self.old.door (account_by self.old (W.hidden world.old)) (asking_data asking.now) s t
+            (W.faults world.old) (W.faults world.new) result)) }
         ensures rest { RestStays self.old self.new }
         ensures alone { LinkAlone (W.faults world.old) (W.faults world.new) }
         ensures hidden { W.hidden world.new ≡ W.hidden world.old }
     {
         let asks = asking.needs_mail();
-        let mail = work(alloc, &mut self.machine, world, &self.user, asks)?;
+        let told = work(alloc, &mut self.machine, world, &self.user, asks)?;
         let id = self.keep(asking)?;
-        self.response(alloc, &mail, asking, &id)
+        self.response(alloc, &told, asking, &id)
     }
 
     // Keeps what is uploaded: its id, where something is.
@@ -175,24 +183,30 @@ impl Gate {
         }
     }
 
-    // The response over this mail and the uploads that are kept, this id being that of what was uploaded. What is refused takes
-    // no memory.
+    // The response over the machine's mail, where that was told, and the uploads that are kept, this id being that of what was
+    // uploaded. What is refused takes no memory.
     fn response(
         &self,
         alloc: Global,
-        mail: &Mailing,
+        told: &Told,
         asking: &Asking,
         id: &Option<Bytes>,
     ) -> Result<Response, AllocError>
         requires id { id.now ≡ id_asked (asking_data asking.now) }
-        ensures made { IfOk result (λ r. (secrets : Hidden) → text_sent r
-            ≡ response_of self.now.door (account_by self.now secrets) mail.now self.now.uploads (asking_data asking.now)) }
+        ensures made { IfOk result (λ r. (secrets : Hidden) (m : MachineState) → HoldsMachine m self.now.machine
+            → IsResponse self.now.door (account_by self.now secrets) (mail_told told.now m.known) self.now.uploads (asking_data asking.now) (text_sent r)) }
         ensures takes { OnErr result (TakesMemory (asking_data asking.now)) }
     {
         match asking {
-            Asking::Calls(request) => {
-                calls_response(alloc, self.door, &self.user, &self.base, mail, request)
-            }
+            Asking::Calls(request) => calls_response(
+                alloc,
+                self.door,
+                &self.user,
+                &self.base,
+                &self.machine,
+                told,
+                request,
+            ),
             Asking::Problem(error) => problem_response(alloc, self.door, *error),
             Asking::Session => session_response(alloc, self.door, &self.user, &self.base),
             Asking::Upload(upload) => match id {
@@ -201,7 +215,8 @@ impl Gate {
             },
             Asking::Download { blob, media } => {
                 let found = self.uploads.get(blob.as_slice());
-                blob_response(alloc, self.door, mail, found, media_of(media))
+                let told = is_told(&self.machine, told);
+                blob_response(alloc, self.door, told, found, media_of(media))
             }
             Asking::Refused(refusal) => Ok(Response::empty(self.door, *refusal)),
         }
@@ -210,7 +225,7 @@ impl Gate {
     // Out of memory: the machine isn't ready.
     fn lack(&mut self) -> Response
         ensures text { text_sent result ≡ no_memory_text self.old.door }
-        ensures state { state_of self.new ≡ unready_state (state_of self.old) }
+        ensures state { (s : GateState) → GateHolds s self.old → GateHolds (unready_state s) self.new }
         ensures rest { RestStays self.old self.new }
     {
         self.machine.forget();

@@ -3,19 +3,20 @@ ghost use Rattle.std.specs.Prelude.{◌≡◌, ◌⊎◌, List, [], false};
 ghost use Rattle.gate_world.specs.Causes.{Faults, no_faults};
 ghost use Rattle.gate_world.specs.declared.event.Event.{Event};
 ghost use Rattle.gate_machine.specs.Progress.{Bears, Progress};
-ghost use Rattle.gate_machine.specs.declared.machine.Machine.{Machine};
+ghost use Rattle.gate_machine.specs.Going.{KeepsHistory};
+ghost use Rattle.gate_machine.specs.Machine.{MachineState};
 ghost use Rattle.gate_machine.specs.declared.standing.Standing.TheVariants.{OutOfMemory};
-ghost use Rattle.gate_serving.specs.Calls.{Mailing};
+ghost use Rattle.gate_calls.specs.Mailings.{Mailing};
 ghost use Rattle.gate_serving.specs.Complete.{CompletesRun, IsAnsweredFrom, IsSegmentObeyed, IsTold, IsWorkObeyed};
 ghost use Rattle.gate_serving.specs.declared.door.Door.{Door};
 ghost use Rattle.gate_serving.specs.GateState.{GateState};
 ghost use Rattle.gate_serving.specs.Requests.{Account, Asking, asks_for_mail};
-ghost use Rattle.gate_serving.specs.Run.{Stood};
+ghost use Rattle.gate_serving.specs.Run.{Run, Stood};
 ghost use Rattle.gate_serving.specs.Segment.{Segment, blamed};
 ghost use Rattle.gate_serving.specs.Work.{Work};
 ghost use Rattle.gate_serving.specs.declared.served.Served.{Served};
 
-use gate_machine::obeyed_rounds_stand;
+use gate_machine::{obeyed_rounds_stand, requests_keep_history};
 
 /// Where no count rose, nothing is blamed.
 pub fn no_fault_no_blame()
@@ -24,14 +25,14 @@ pub fn no_fault_no_blame()
 
 /// A request that doesn't need the mail has no link life, and leaves the machine as it was.
 pub fn no_life_without_need()
-    ensures { (account : Account) (before : Machine) (asking : Asking) (events : List Event) (mail : Mailing) (after : Progress)
+    ensures { (account : Account) (before : MachineState) (asking : Asking) (events : List Event) (mail : Mailing) (after : Progress)
         → Work account before asking events mail after → asks_for_mail asking ≡ false → (events ≡ []) × (after.machine ≡ before) }
 {}
 
 /// Where the store obeys, a place is left and no fault is blamed, calls are answered over the mail that is served then; or
 /// memory ran out.
 pub fn obeyed_requests_answered()
-    ensures { (account : Account) (before : Machine) (asking : Asking) (events : List Event) (mail : Mailing) (after : Progress)
+    ensures { (account : Account) (before : MachineState) (asking : Asking) (events : List Event) (mail : Mailing) (after : Progress)
         (work : Work account before asking events mail after) → IsWorkObeyed work → after.blamed ≡ no_faults
         → IsAnsweredFrom asking mail after ⊎ (after.standing ≡ OutOfMemory) }
 {
@@ -53,4 +54,13 @@ pub fn obeyed_runs_are_told()
     ensures { (door : Door) (account : Account) (events : List Event) → CompletesRun door account events }
 {
     obeyed_clients_are_told();
+}
+
+/// Where a run draws no epoch, the history that is served goes on from client to client: it never has other mail at a place that
+/// a client was told of.
+pub fn histories_go_on()
+    ensures { (door : Door) (account : Account) (before after : GateState) (events : List Event) (went : List Served)
+        → Run door account before events went after → KeepsHistory before.machine events after.machine }
+{
+    requests_keep_history();
 }

@@ -7,16 +7,13 @@ mod asking;
 mod door;
 mod front;
 mod reading;
-mod requests;
 mod upload;
 
 // The work, and answers.
 mod answers;
-mod calls;
 mod line;
 mod mailing;
 mod response;
-mod served_mail;
 
 // One client after another.
 mod gate;
@@ -30,8 +27,8 @@ pub use door::Door;
 pub use front::{FrontError, Input, receive};
 pub use gate::Gate;
 pub use laws::{
-    no_fault_no_blame, no_life_without_need, obeyed_clients_are_told, obeyed_requests_answered,
-    obeyed_runs_are_told,
+    histories_go_on, no_fault_no_blame, no_life_without_need, obeyed_clients_are_told,
+    obeyed_requests_answered, obeyed_runs_are_told,
 };
 pub use line::with_line_end;
 pub use served::{OpenError, Served};

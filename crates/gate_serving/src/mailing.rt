@@ -2,12 +2,13 @@
 ghost use Rattle.std.specs.Prelude.{◌≡◌, ◌≢◌, IfOk, OnErr, true};
 ghost use Rattle.gate_world.specs.Causes.{LinkAlone};
 ghost use Rattle.gate_world.specs.Tape.{Adds};
+ghost use Rattle.gate_machine.specs.Holding.{HoldsMachine};
+ghost use Rattle.gate_machine.specs.Machine.{MachineState};
 ghost use Rattle.gate_machine.specs.declared.standing.Standing.TheVariants.{OutOfMemory};
-ghost use Rattle.gate_serving.specs.Work.{error_of, mailing_by};
+ghost use Rattle.gate_calls.specs.Mailings.{error_of, mail_told, mailing_by};
 ghost use Rattle.gate_serving.specs.reading.Replying.{WorksTo};
 
-use crate::calls::Mailing;
-use crate::served_mail::served_mail;
+use gate_calls::Told;
 use gate_machine::{Fall, Machine, Standing, visit};
 use gate_world::{Text, World};
 use jmap_methods::MethodError;
@@ -23,31 +24,29 @@ fn error_of(why: Fall) -> MethodError
     }
 }
 
-// The mail over which calls are answered, after a link life that came to this.
-fn mailing(alloc: Global, machine: &Machine, standing: Standing) -> Result<Mailing, AllocError>
-    ensures meant { IfOk result (λ mail. mail ≡ mailing_by standing machine.now.known) }
-    ensures memory { IfOk result (λ mail. standing ≢ OutOfMemory) }
+// That the mail was told in a link life that came to this, or the error of calls that need it.
+fn told_by(standing: Standing) -> Result<Told, AllocError>
+    ensures meant { IfOk result (λ told. (m : MachineState) → mailing_by standing m.known ≡ mail_told told m.known) }
+    ensures memory { IfOk result (λ told. standing ≢ OutOfMemory) }
 {
     match standing {
-        Standing::Stands => match &machine.known {
-            Some(known) => Ok(Ok(served_mail(alloc, known)?)),
-            None => Ok(Err(MethodError::ServerUnavailable)),
-        },
+        Standing::Stands => Ok(Ok(())),
         Standing::Fell(why) => Ok(Err(error_of(why))),
         Standing::OutOfMemory => Err(AllocError),
     }
 }
 
-/// The mail over which a client is answered that is to be answered from mail, after its link life.
+/// The link life of a client that is to be answered from mail: that the mail of the machine was told in it, or the error of
+/// calls that need it.
 pub fn work<W: World>(
     alloc: Global,
     machine: &mut Machine,
     world: &mut W,
     user: &Text,
     asks: bool,
-) -> Result<Mailing, AllocError>
-    ensures run { Adds (W.tape world.old) (W.tape world.new)
-        (WorksTo user.now (W.hidden world.old).password asks machine.old machine.new (W.faults world.old) (W.faults world.new) result) }
+) -> Result<Told, AllocError>
+    ensures run { Adds (W.tape world.old) (W.tape world.new) (λ es. (before : MachineState) → HoldsMachine before machine.old
+        → WorksTo user.now (W.hidden world.old).password asks before machine.new (W.faults world.old) (W.faults world.new) result es) }
     ensures asked { OnErr result (asks ≡ true) }
     ensures alone { LinkAlone (W.faults world.old) (W.faults world.new) }
     ensures hidden { W.hidden world.new ≡ W.hidden world.old }
@@ -56,5 +55,5 @@ pub fn work<W: World>(
         return Ok(Err(MethodError::ServerUnavailable));
     }
     let standing = visit(alloc, machine, world, user.as_str().as_bytes());
-    mailing(alloc, machine, standing)
+    told_by(standing)
 }

@@ -4,7 +4,7 @@ ghost use Rattle.gate_world.specs.Causes.{Later, Rose};
 ghost use Rattle.gate_world.specs.Tape.{Adds};
 ghost use Rattle.gate_serving.specs.Complete.{CompletesRun};
 ghost use Rattle.gate_serving.specs.Run.{IsServingRun};
-ghost use Rattle.gate_serving.specs.Gates.{account_by, state_of};
+ghost use Rattle.gate_serving.specs.Gates.{Comes, account_by};
 
 use crate::gate::Gate;
 use crate::laws::obeyed_runs_are_told;
@@ -15,7 +15,7 @@ use std::alloc::Global;
 /// Serves this many clients, or as many as come: 0, or 6 where accepting failed.
 pub fn serve<W: World>(alloc: Global, gate: &mut Gate, world: &mut W, most: u64) -> u8
     ensures run { Adds (W.tape world.old) (W.tape world.new)
-        (IsServingRun gate.old.door (account_by gate.old (W.hidden world.old)) (state_of gate.old) (state_of gate.new) most (W.faults world.old) (W.faults world.new) result) }
+        (Comes gate.old gate.new (λ s t. IsServingRun gate.old.door (account_by gate.old (W.hidden world.old)) s t most (W.faults world.old) (W.faults world.new) result)) }
     // A law over that run: of whom nothing is blamed and for whom the store obeyed takes the whole response that is due, whatever
     // comes of the others.
     ensures complete { Adds (W.tape world.old) (W.tape world.new) (CompletesRun gate.old.door (account_by gate.old (W.hidden world.old))) }

@@ -18,7 +18,7 @@ use Rattle.gate_serving.specs.declared.served.OpenError.{OpenError}
 use Rattle.gate_serving.specs.declared.served.OpenError.TheVariants as opening
 use Rattle.gate_serving.specs.GateState.{GateState}
 use Rattle.gate_serving.specs.Requests.{Account}
-use Rattle.gate_serving.specs.Run.{Opens, StepsTo, IsServingRun, account_of, run_blamed}
+use Rattle.gate_serving.specs.Run.{Opens, AddsSegment, IsServingRun, account_of, run_blamed}
 use Rattle.gate_serving.specs.Segment.{blamed}
 use Rattle.gate_serving.proofs.Answering.{bears_none, bears_later, bears_earlier, later_same, bears_failed}
 use Rattle.gateway.specs.Program.{EndsDone, EndsFailed, EndsOnce, EndsOne, IsAt, IsSaid, one_blamed, words_refused, Unopened, ServedMany, ServedOnce, ShownOne, Explained, Refused}
@@ -34,16 +34,16 @@ pub record Attends (place : Place) (secrets : Hidden) (was now : Faults) (how : 
   pub before : GateState
   pub after : GateState
   pub opens : Opens (Ok before) opened
-  pub step : StepsTo Bare (account_of place secrets) before after was now how segment
+  pub step : AddsSegment Bare (account_of place secrets) before after was now how segment
   pub whole : events ≡ opened ++ segment
 
 -- a gate is opened at the place, and then answers one client, or none comes
 pub attends : {place : Place} {secrets now_secrets : Hidden} {door : Door} {account : Account} {before after : GateState} {was mid now : Faults} {how : Served} (xs ys : List Event)
-    → door ≡ Bare → account ≡ account_of place secrets → now_secrets ≡ secrets → NoFault was mid → Opens (Ok before) xs → StepsTo door account before after mid now how ys
+    → door ≡ Bare → account ≡ account_of place secrets → now_secrets ≡ secrets → NoFault was mid → Opens (Ok before) xs → AddsSegment door account before after mid now how ys
     → Attends place secrets was now how (xs ++ ys)
 attends {place} {secrets} {door = door} {account = account} {before = before} {after = after} {was = was} {mid = mid} {now = now} {how = how} xs ys here same kept none opens step =
-    let there : StepsTo Bare (account_of place secrets) before after mid now how ys = subst (λ (a : Account). StepsTo Bare a before after mid now how ys) same
-    (subst (λ (d : Door). StepsTo d account before after mid now how ys) here step) in
+    let there : AddsSegment Bare (account_of place secrets) before after mid now how ys = subst (λ (a : Account). AddsSegment Bare a before after mid now how ys) same
+    (subst (λ (d : Door). AddsSegment d account before after mid now how ys) here step) in
     record {
       opened = xs;
       segment = ys;

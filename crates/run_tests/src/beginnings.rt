@@ -1,11 +1,16 @@
 // A machine that isn't ready begins anew.
 use crate::scripts::{EMPTY_INBOX, scripted};
 use gate_machine::{Machine, Standing, visit};
+use mail_state::{MailState, MailType};
 use scripted_world::ScriptWorld;
 use std::alloc::Global;
 use std::process::Abort;
 
-/// The round of a visit stands, at the first place of this epoch.
+fn expect_first_place(rt: &impl Abort, state: &MailState, epoch: u64) {
+    assert!(rt; state.epoch() == epoch && state.list(MailType::Mailbox).place() == 1);
+}
+
+/// The round of a visit stands, at the first place of Mailboxes in this epoch.
 fn expect_visited(
     rt: &impl Abort,
     alloc: Global,
@@ -15,7 +20,7 @@ fn expect_visited(
 ) {
     assert!(rt; visit(alloc, machine, world, b"alice") == Standing::Stands);
     match &machine.known {
-        Some(known) => assert!(rt; known.epoch() == epoch && known.place() == 1),
+        Some(known) => expect_first_place(rt, known.state(), epoch),
         None => panic!(rt; "not ready"),
     }
 }
@@ -25,7 +30,7 @@ fn a_machine_that_is_not_ready_begins_anew(rt: HostRuntime) {
     let alloc = rt.alloc();
     let links: [&[&[u8]]; 2] = [EMPTY_INBOX, EMPTY_INBOX];
     let mut world = ScriptWorld::new(alloc, scripted(&rt, alloc, &links, &[], b""));
-    let mut machine = Machine::opened(alloc, 7);
+    let mut machine = Machine::opened(alloc, 7).expect(&rt, "out of memory");
     expect_visited(&rt, alloc, &mut machine, &mut world, 7);
     machine.forget();
     expect_visited(&rt, alloc, &mut machine, &mut world, 31);

@@ -222,7 +222,7 @@ const LOST: &[u8] =
 const OK: &[u8] = b"HTTP/1.1 200 OK\r\n";
 
 const ASKS: &[u8] =
-    b"POST /jmap/api HTTP/1.1\r\nAuthorization: Bearer secret\r\nContent-Length: 123\r\n\r\n{\"using\":[\"urn:ietf:params:jmap:core\",\"urn:ietf:params:jmap:mail\"],\"methodCalls\":[[\"Mailbox/get\",{\"accountId\":\"a1\"},\"c1\"]]}";
+    b"POST /jmap/api HTTP/1.1\r\nAuthorization: Bearer secret\r\nContent-Length: 167\r\n\r\n{\"using\":[\"urn:ietf:params:jmap:core\",\"urn:ietf:params:jmap:mail\"],\"methodCalls\":[[\"Mailbox/get\",{\"accountId\":\"a1\",\"properties\":[\"totalEmails\",\"unreadEmails\"]},\"c1\"]]}";
 
 /// A message came since INBOX was empty.
 const ONE_CAME: &[&[u8]] = &[
@@ -243,6 +243,20 @@ const ONE_THERE: &[u8] =
 const UNAVAILABLE: &[u8] =
     b"Content-Length: 114\r\nContent-Type: application/json\r\n\r\n{\"methodResponses\":[[\"error\",{\"type\":\"serverUnavailable\"},\"c1\"]],\"sessionState\":\"1;5;alice;http://127.0.0.1:8080\"}";
 
+/// What changed since the beginning, and since INBOX was listed.
+const CHANGES: &[u8] =
+    b"POST /jmap/api HTTP/1.1\r\nAuthorization: Bearer secret\r\nContent-Length: 237\r\n\r\n{\"using\":[\"urn:ietf:params:jmap:core\",\"urn:ietf:params:jmap:mail\"],\"methodCalls\":[[\"Mailbox/changes\",{\"accountId\":\"a1\",\"sinceState\":\"000000000000001f-0\"},\"c1\"],[\"Email/changes\",{\"accountId\":\"a1\",\"sinceState\":\"000000000000001f-0\"},\"c2\"]]}";
+
+const LATER_CHANGES: &[u8] =
+    b"POST /jmap/api HTTP/1.1\r\nAuthorization: Bearer secret\r\nContent-Length: 237\r\n\r\n{\"using\":[\"urn:ietf:params:jmap:core\",\"urn:ietf:params:jmap:mail\"],\"methodCalls\":[[\"Mailbox/changes\",{\"accountId\":\"a1\",\"sinceState\":\"000000000000001f-1\"},\"c1\"],[\"Email/changes\",{\"accountId\":\"a1\",\"sinceState\":\"000000000000001f-0\"},\"c2\"]]}";
+
+/// What stands after the fixed fields of the responses to those calls: the folder came, and then its counts changed.
+const INBOX_CAME: &[u8] =
+    b"Content-Length: 441\r\nContent-Type: application/json\r\n\r\n{\"methodResponses\":[[\"Mailbox/changes\",{\"accountId\":\"a1\",\"created\":[\"m1\"],\"destroyed\":[],\"hasMoreChanges\":false,\"newState\":\"000000000000001f-1\",\"oldState\":\"000000000000001f-0\",\"updated\":[],\"updatedProperties\":null},\"c1\"],[\"Email/changes\",{\"accountId\":\"a1\",\"created\":[],\"destroyed\":[],\"hasMoreChanges\":false,\"newState\":\"000000000000001f-0\",\"oldState\":\"000000000000001f-0\",\"updated\":[]},\"c2\"]],\"sessionState\":\"1;5;alice;http://127.0.0.1:8080\"}";
+
+const COUNTS_CHANGED: &[u8] =
+    b"Content-Length: 502\r\nContent-Type: application/json\r\n\r\n{\"methodResponses\":[[\"Mailbox/changes\",{\"accountId\":\"a1\",\"created\":[],\"destroyed\":[],\"hasMoreChanges\":false,\"newState\":\"000000000000001f-2\",\"oldState\":\"000000000000001f-1\",\"updated\":[\"m1\"],\"updatedProperties\":[\"totalEmails\",\"unreadEmails\",\"totalThreads\",\"unreadThreads\"]},\"c1\"],[\"Email/changes\",{\"accountId\":\"a1\",\"created\":[\"e1\"],\"destroyed\":[],\"hasMoreChanges\":false,\"newState\":\"000000000000001f-1\",\"oldState\":\"000000000000001f-0\",\"updated\":[]},\"c2\"]],\"sessionState\":\"1;5;alice;http://127.0.0.1:8080\"}";
+
 const DOWNLOADS_ANY: &[u8] =
     b"GET /jmap/download/a1/u8f434346648f6b96df89dda901c5176b10a6d83961dd3c1ac88b59b2dc327aa4/x HTTP/1.1\r\nAuthorization: Bearer secret\r\n\r\n";
 
@@ -256,7 +270,7 @@ struct Serving {
     took: &'static [&'static [u8]],
 }
 
-const SERVINGS: [Serving; 4] = [
+const SERVINGS: [Serving; 5] = [
     // an upload is kept from client to client, and a client that ends early is sent nothing
     Serving {
         links: &[EMPTY_INBOX, &[b"* OK hi\r\n"]],
@@ -300,6 +314,13 @@ const SERVINGS: [Serving; 4] = [
             FIXED,
             ONE_THERE,
         ],
+    },
+    // changes from a state that a client was told before
+    Serving {
+        links: &[EMPTY_INBOX, ONE_CAME],
+        clients: &[&[CHANGES], &[LATER_CHANGES]],
+        fails_at: 0,
+        took: &[OK, FIXED, INBOX_CAME, OK, FIXED, COUNTS_CHANGED],
     },
     // a download for which no type is asked
     Serving {

@@ -97,10 +97,10 @@ fn counts_of_inbox_in_any_pieces(rt: HostRuntime) {
 
 /// A request for the counts of two folders and of none.
 const ASKS_TWO: &[u8] =
-    b"{\"using\":[\"urn:ietf:params:jmap:core\",\"urn:ietf:params:jmap:mail\"],\"methodCalls\":[[\"Mailbox/get\",{\"accountId\":\"a1\",\"ids\":[\"m2\",\"x\",\"m1\"]},\"c1\"]]}";
+    b"{\"using\":[\"urn:ietf:params:jmap:core\",\"urn:ietf:params:jmap:mail\"],\"methodCalls\":[[\"Mailbox/get\",{\"accountId\":\"a1\",\"ids\":[\"m2\",\"x\",\"m1\"],\"properties\":[\"unreadEmails\",\"totalEmails\"]},\"c1\"]]}";
 
 const TELLS_TWO: &[u8] =
-    b"{\"methodResponses\":[[\"Mailbox/get\",{\"accountId\":\"a1\",\"list\":[{\"id\":\"m2\",\"totalEmails\":0,\"unreadEmails\":0},{\"id\":\"m1\",\"totalEmails\":3,\"unreadEmails\":2}],\"notFound\":[\"x\"],\"state\":\"000000000000001f-1\"},\"c1\"]],\"sessionState\":\"1;5;alice;http://127.0.0.1:8080\"}\n";
+    b"{\"methodResponses\":[[\"Mailbox/get\",{\"accountId\":\"a1\",\"list\":[{\"id\":\"m2\",\"totalEmails\":0,\"unreadEmails\":0},{\"id\":\"m1\",\"totalEmails\":3,\"unreadEmails\":2}],\"notFound\":[\"x\"],\"state\":\"000000000000001f-2\"},\"c1\"]],\"sessionState\":\"1;5;alice;http://127.0.0.1:8080\"}\n";
 
 /// The link life of a store with three messages in INBOX, and an empty folder beside it.
 const TWO_FOLDERS: &[&[u8]] = &[
@@ -113,7 +113,7 @@ const TWO_FOLDERS: &[&[u8]] = &[
 ];
 
 /// What clients give, over which link life, what they are told, and how often the store is dialed.
-const ANSWERS: [(&[u8], &[&[u8]], &[u8], usize); 9] = [
+const ANSWERS: [(&[u8], &[&[u8]], &[u8], usize); 11] = [
     (
         b"{}",
         EMPTY_INBOX,
@@ -158,6 +158,20 @@ const ANSWERS: [(&[u8], &[&[u8]], &[u8], usize); 9] = [
         b"{\"using\":[\"urn:ietf:params:jmap:core\",\"urn:ietf:params:jmap:mail\"],\"methodCalls\":[[\"Mailbox/get\",{\"accountId\":\"a2\"},\"c1\"],[\"Mailbox/get\",{\"accountId\":\"a1\"},\"c2\"]]}",
         &[b"* OK hi\r\n"],
         b"{\"methodResponses\":[[\"error\",{\"type\":\"accountNotFound\"},\"c1\"],[\"error\",{\"type\":\"serverUnavailable\"},\"c2\"]],\"sessionState\":\"1;5;alice;http://127.0.0.1:8080\"}\n",
+        1,
+    ),
+    // what changed since states of this epoch
+    (
+        b"{\"using\":[\"urn:ietf:params:jmap:core\",\"urn:ietf:params:jmap:mail\"],\"methodCalls\":[[\"Email/changes\",{\"accountId\":\"a1\",\"sinceState\":\"000000000000001f-0\"},\"c1\"],[\"Thread/get\",{\"accountId\":\"a1\",\"ids\":[\"t1\",\"t9\"]},\"c2\"],[\"Thread/changes\",{\"accountId\":\"a1\",\"maxChanges\":2,\"sinceState\":\"000000000000001f-0\"},\"c3\"],[\"Mailbox/changes\",{\"accountId\":\"a1\",\"sinceState\":\"000000000000001f-1\"},\"c4\"],[\"Mailbox/changes\",{\"accountId\":\"a1\",\"sinceState\":\"000000000000001f-2\"},\"c5\"]]}",
+        &[CONNECTED, LISTED, SELECTED, THREE, DONE],
+        b"{\"methodResponses\":[[\"Email/changes\",{\"accountId\":\"a1\",\"created\":[\"e1\",\"e2\",\"e3\"],\"destroyed\":[],\"hasMoreChanges\":false,\"newState\":\"000000000000001f-3\",\"oldState\":\"000000000000001f-0\",\"updated\":[]},\"c1\"],[\"Thread/get\",{\"accountId\":\"a1\",\"list\":[{\"emailIds\":[\"e1\"],\"id\":\"t1\"}],\"notFound\":[\"t9\"],\"state\":\"000000000000001f-3\"},\"c2\"],[\"Thread/changes\",{\"accountId\":\"a1\",\"created\":[\"t1\",\"t2\"],\"destroyed\":[],\"hasMoreChanges\":true,\"newState\":\"000000000000001f-2\",\"oldState\":\"000000000000001f-0\",\"updated\":[]},\"c3\"],[\"Mailbox/changes\",{\"accountId\":\"a1\",\"created\":[],\"destroyed\":[],\"hasMoreChanges\":false,\"newState\":\"000000000000001f-1\",\"oldState\":\"000000000000001f-1\",\"updated\":[],\"updatedProperties\":null},\"c4\"],[\"error\",{\"type\":\"cannotCalculateChanges\"},\"c5\"]],\"sessionState\":\"1;5;alice;http://127.0.0.1:8080\"}\n",
+        1,
+    ),
+    // what was created is asked by reference; no reference reaches a later call
+    (
+        b"{\"using\":[\"urn:ietf:params:jmap:core\",\"urn:ietf:params:jmap:mail\"],\"methodCalls\":[[\"Mailbox/changes\",{\"accountId\":\"a1\",\"sinceState\":\"000000000000001f-0\"},\"c1\"],[\"Mailbox/get\",{\"accountId\":\"a1\",\"#ids\":{\"resultOf\":\"c1\",\"name\":\"Mailbox/changes\",\"path\":\"/created\"},\"properties\":[\"name\",\"totalEmails\"]},\"c2\"],[\"Mailbox/get\",{\"accountId\":\"a1\",\"#ids\":{\"resultOf\":\"c4\",\"name\":\"Mailbox/changes\",\"path\":\"/updated\"}},\"c3\"],[\"Mailbox/changes\",{\"accountId\":\"a1\",\"sinceState\":\"000000000000001f-1\"},\"c4\"]]}",
+        &[CONNECTED, LISTED, SELECTED, THREE, DONE],
+        b"{\"methodResponses\":[[\"Mailbox/changes\",{\"accountId\":\"a1\",\"created\":[\"m1\"],\"destroyed\":[],\"hasMoreChanges\":false,\"newState\":\"000000000000001f-1\",\"oldState\":\"000000000000001f-0\",\"updated\":[],\"updatedProperties\":null},\"c1\"],[\"Mailbox/get\",{\"accountId\":\"a1\",\"list\":[{\"id\":\"m1\",\"name\":\"INBOX\",\"totalEmails\":3}],\"notFound\":[],\"state\":\"000000000000001f-1\"},\"c2\"],[\"error\",{\"type\":\"invalidResultReference\"},\"c3\"],[\"Mailbox/changes\",{\"accountId\":\"a1\",\"created\":[],\"destroyed\":[],\"hasMoreChanges\":false,\"newState\":\"000000000000001f-1\",\"oldState\":\"000000000000001f-1\",\"updated\":[],\"updatedProperties\":null},\"c4\"]],\"sessionState\":\"1;5;alice;http://127.0.0.1:8080\"}\n",
         1,
     ),
     // created ids are answered where they were given

@@ -8,39 +8,42 @@ use Rattle.gate_world.specs.declared.event.Event.TheVariants.{Accepted}
 use Rattle.gate_world.specs.declared.outside.Failed.{Failed}
 use Rattle.http_door.specs.declared.asking.AskError.TheVariants as unread
 use Rattle.gate_machine.specs.Progress.{Progress, Bears}
+use Rattle.jmap_methods.specs.declared.method_error.MethodError.{MethodError}
+use Rattle.gate_machine.specs.Holding.{HoldsMachine}
+use Rattle.gate_machine.specs.Machine.{MachineState}
 use Rattle.gate_machine.specs.declared.machine.Machine.{Machine}
 use Rattle.gate_machine.specs.declared.standing.Standing.TheVariants.{OutOfMemory}
+use Rattle.gate_calls.specs.Mailings.{Mailing, mail_told}
 use Rattle.gate_serving.specs.declared.door.Door.{Door}
 use Rattle.gate_serving.specs.declared.response.Response.{Response}
 use Rattle.gate_serving.specs.declared.served.Served.{Served}
 use Rattle.gate_serving.specs.declared.served.Served.TheVariants as served
-use Rattle.gate_serving.specs.Answers.{KeepsUpload, MayKeepUpload, TakesMemory, response_of}
-use Rattle.gate_serving.specs.Calls.{Mailing}
+use Rattle.gate_serving.specs.Answers.{KeepsUpload, MayKeepUpload, TakesMemory, IsResponse}
 use Rattle.gate_serving.specs.GateState.{GateState}
 use Rattle.gate_serving.specs.Requests.{Account, Asking, ReadsAsking, asks_for_mail}
 use Rattle.gate_serving.specs.Segment.{Replies, Segment, reply_blamed, blamed, went}
 use Rattle.gate_serving.specs.Work.{Work}
 use Rattle.gate_serving.specs.reading.Texts.{text_sent}
 
--- the mail that the work gave; or memory ran out in it or after it
-abbrev pub IsWorked : Result Mailing AllocError → Mailing → Progress → Type 0
-IsWorked (Ok given) mail done = (given ≡ mail) × (done.standing ≢ OutOfMemory)
+-- that the work gave the mail, or the error; or memory ran out in it or after it
+abbrev pub IsWorked : Result (Result (Unit {0}) MethodError) AllocError → Mailing → Progress → Type 0
+IsWorked (Ok told) mail done = (mail ≡ mail_told told done.machine.known) × (done.standing ≢ OutOfMemory)
 IsWorked (Err _) mail done = Unit {0}
 
 -- the work on what needs the mail or doesn't
-pub record WorksTo (user password : List ℕ) (asks : Bool) (before machine : Machine) (was now : Faults) (result : Result Mailing AllocError)
-    (events : List Event) : Type 0 where
+pub record WorksTo (user password : List ℕ) (asks : Bool) (before : MachineState) (kept : Machine) (was now : Faults)
+    (result : Result (Result (Unit {0}) MethodError) AllocError) (events : List Event) : Type 0 where
   pub mail : Mailing
   pub done : Progress
   pub work : (token base : List ℕ) (asking : Asking) → asks_for_mail asking ≡ asks
       → Work (record { user = user; password = password; token = token; base = base }) before asking events mail done
-  pub machine_is : done.machine ≡ machine
+  pub held : HoldsMachine done.machine kept
   pub bears : Bears done.blamed was now
   pub worked : IsWorked result mail done
 
 -- the response; or there was no memory for one that takes memory
 abbrev pub IsMade : Door → Account → Mailing → Asking → GateState → GateState → Progress → Result Response AllocError → Type 0
-IsMade door account mail asking before after done (Ok response) = (text_sent response ≡ response_of door account mail after.uploads asking)
+IsMade door account mail asking before after done (Ok response) = IsResponse door account mail after.uploads asking (text_sent response)
     × (done.standing ≢ OutOfMemory) × KeepsUpload asking before.uploads after.uploads
 IsMade door account mail asking before after done (Err _) = TakesMemory asking
 

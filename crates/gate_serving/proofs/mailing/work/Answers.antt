@@ -5,12 +5,13 @@ use Rattle.gate_serving.proofs.Answering.{works_without, works_visited, later_sa
 use Rattle.gate_serving.proofs.mailing.work.Goals as goal
 
 pub returns-then-not-asks-clause-run : goal.returns-then-not-asks-clause-run
-returns-then-not-asks-clause-run g c = none _ _ (works_without _ _ c.args.asks c.args.machine.now _ (later_same _ _ refl) c.if-not-asks.true)
+returns-then-not-asks-clause-run g c =
+    none _ _ (λ before held. works_without _ _ c.args.asks before c.args.machine.now _ held (later_same _ _ refl) c.if-not-asks.true)
 
 pub returns-clause-run : goal.returns-clause-run
 returns-clause-run g c =
     let user = c.as_bytes.ensures.value ∙ c.as_str.ensures in
-    widen _ c.visit-standing.ensures.run (λ es visits. works_visited c.args.asks c.mailing.result c.if-not-asks.false
-    (subst (λ (l : List ℕ). Visits l (g.W.Taped.hidden c.args.world.now).password c.args.machine.now c.visit-standing.new.machine c.visit-standing.result
-    (g.W.Taped.faults c.args.world.now) (g.W.Taped.faults c.visit-standing.new.world) es) user visits)
-    c.mailing.ensures.meant c.mailing.ensures.memory)
+    widen _ c.visit-standing.ensures.run (λ es visits before held. works_visited c.args.asks c.told_by.result c.if-not-asks.false
+    (subst (λ (l : List ℕ). Visits l (g.W.Taped.hidden c.args.world.now).password before c.visit-standing.new.machine c.visit-standing.result
+    (g.W.Taped.faults c.args.world.now) (g.W.Taped.faults c.visit-standing.new.world) es) user (visits before held))
+    c.told_by.ensures.meant c.told_by.ensures.memory)

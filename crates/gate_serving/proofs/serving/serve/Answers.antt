@@ -9,7 +9,7 @@ use Rattle.gate_serving.proofs.serving.serve.Goals as goal
 pub serving-init : goal.serving-init
 serving-init g c =
     record {
-      run = none _ _ (begun _ _ _ _);
+      run = none _ _ (λ s held. (s, held, begun _ _ s _));
       within = omega arith;
       rest = rest_none _;
       later = search rules;
@@ -18,23 +18,35 @@ serving-init g c =
 
 pub returns-in-AcceptFault-clause-run : goal.returns-in-AcceptFault-clause-run
 returns-in-AcceptFault-clause-run g c =
-    join _ c.serving.invariant.run c.in-AcceptFault.ensures.run (λ x y so steps.
-    then_last c.args.most 6 c.serving.invariant.rest.door (same_account c.serving.invariant.rest c.serving.invariant.hidden)
-    (not_accepted c.serving.count c.args.most c.serving-test.true) so steps)
+    join _ c.serving.invariant.run c.in-AcceptFault.ensures.run (λ x y so steps s held.
+    let r = so s held in
+    let q = steps r.0 r.1 in (
+      q.0,
+      q.1,
+      then_last c.args.most 6 c.serving.invariant.rest.door (same_account c.serving.invariant.rest c.serving.invariant.hidden)
+          (not_accepted c.serving.count c.args.most c.serving-test.true) r.2 q.2,
+    ))
 
 pub returns-in-NoMore-clause-run : goal.returns-in-NoMore-clause-run
 returns-in-NoMore-clause-run g c =
-    join _ c.serving.invariant.run c.in-NoMore.ensures.run (λ x y so steps.
-    then_last c.args.most 0 c.serving.invariant.rest.door (same_account c.serving.invariant.rest c.serving.invariant.hidden)
-    (none_left c.serving.count c.args.most c.serving-test.true) so steps)
+    join _ c.serving.invariant.run c.in-NoMore.ensures.run (λ x y so steps s held.
+    let r = so s held in
+    let q = steps r.0 r.1 in (
+      q.0,
+      q.1,
+      then_last c.args.most 0 c.serving.invariant.rest.door (same_account c.serving.invariant.rest c.serving.invariant.hidden)
+          (none_left c.serving.count c.args.most c.serving-test.true) r.2 q.2,
+    ))
 
 pub serving-preserved : goal.serving-preserved
 serving-preserved g c =
     let came : IsClient c.answer_one.result = elim c.match-answer_one.branch
     [ in-Whole w ↦ subst IsClient (sym w.in-Whole.is) tt | in-Part w ↦ subst IsClient (sym w.in-Part.is) tt ] in
     record {
-      run = join _ c.serving.invariant.run c.answer_one.ensures.run (λ x y so steps.
-          then_client c.serving.invariant.rest.door (same_account c.serving.invariant.rest c.serving.invariant.hidden) came so steps);
+      run = join _ c.serving.invariant.run c.answer_one.ensures.run (λ x y so steps s held.
+          let r = so s held in
+          let q = steps r.0 r.1 in
+          (q.0, q.1, then_client c.serving.invariant.rest.door (same_account c.serving.invariant.rest c.serving.invariant.hidden) came r.2 q.2));
       within = omega (arith, c.serving-test.true);
       rest = rest_both c.serving.invariant.rest c.answer_one.ensures.rest;
       later = search rules;

@@ -2,15 +2,15 @@ use Rattle.std.proofs.Common.{◌-◌, ◌≡◌, ◌≤◌}
 use Rattle.gate_world.specs.Causes.{Later}
 use Rattle.gate_world.specs.Tape.{Adds}
 use Rattle.gate_serving.specs.Run.{RunsTo}
-use Rattle.gate_serving.specs.Gates.{RestStays, account_by, state_of}
+use Rattle.gate_serving.specs.Gates.{Comes, RestStays, account_by}
 use Rattle.gate_serving.proofs.serving.serve.Given as goal
 
 abbrev pub invariant-serving : goal.invariant-serving
 invariant-serving g l =
     record {
       run : Adds (g.W.Taped.tape l.fn.world) (g.W.Taped.tape l.world)
-          (RunsTo l.fn.gate.door (account_by l.fn.gate (g.W.Taped.hidden l.fn.world)) (state_of l.fn.gate) (state_of l.gate) l.count (g.W.Taped.faults l.fn.world)
-          (g.W.Taped.faults l.world));
+          (Comes l.fn.gate l.gate (λ s t. RunsTo l.fn.gate.door (account_by l.fn.gate (g.W.Taped.hidden l.fn.world)) s t l.count (g.W.Taped.faults l.fn.world)
+          (g.W.Taped.faults l.world)));
       within : l.count ≤ l.fn.most;
       rest : RestStays l.fn.gate l.gate;
       later : Later (g.W.Taped.faults l.fn.world) (g.W.Taped.faults l.world);

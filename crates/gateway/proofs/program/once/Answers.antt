@@ -16,5 +16,5 @@ returns-in-Ok-clause-run g c =
     c.answer_one-served.result)
     c.in-Ok.ensures.run c.answer_one-served.ensures.run (λ x y opens steps.
     attends x y c.in-Ok.ensures.door (ap (λ (h : Hidden). account_by c.in-Ok.gate h) c.in-Ok.ensures.hidden ∙ c.in-Ok.ensures.account)
-    c.in-Ok.ensures.hidden c.in-Ok.ensures.cause opens steps))
+    c.in-Ok.ensures.hidden c.in-Ok.ensures.cause opens.2 (steps opens.0 opens.1).2))
     c.end_once.ensures.said (λ x y attended ends. performs_once y attended c.end_once.ensures.alone ends)

@@ -16,7 +16,7 @@ returns-in-Ok-clause-run g c =
     c.serve-status.result)
     c.in-Ok.ensures.run c.serve-status.ensures.run (λ x y opens runs.
     attends_all x y c.in-Ok.ensures.door (ap (λ (h : Hidden). account_by c.in-Ok.gate h) c.in-Ok.ensures.hidden ∙ c.in-Ok.ensures.account)
-    c.in-Ok.ensures.hidden c.in-Ok.ensures.cause opens runs))
+    c.in-Ok.ensures.hidden c.in-Ok.ensures.cause opens.2 (runs opens.0 opens.1).2))
     c.end_serving.ensures.said (λ x y attended ends listen. performs_serve c.args.most y listen
     (subst (λ (n : ℕ). AttendsAll c.args.place.now (g.W.Taped.hidden c.args.world.now) c.args.most (g.W.Taped.faults c.args.world.now)
     (g.W.Taped.faults c.serve-status.new.world) n x) (sym c.end_serving.ensures.status) attended)

@@ -1,0 +1,2 @@
+mod Meaning
+mod Calling

@@ -1,0 +1,25 @@
+use Rattle.std.proofs.Common.{arith, rules, ◌≡◌, ◌<◌, ◌+◌, ◌++◌, ◌∷◌, ℕ, List, [], length, take, refl, sym, ◌∙◌, ap}
+use Rattle.std.proofs.lemmas.List.{take_more}
+use Rattle.jmap_core.specs.declared.call.Call.{Call}
+use Rattle.gate_calls.specs.Calls.{NoCalls}
+use Rattle.gate_calls.specs.Mailings.{mail_told}
+use Rattle.gate_calls.proofs.Calling.{one_more}
+use Rattle.gate_calls.proofs.calls.responses_to.Goals as goal
+
+pub loop-call-init : goal.loop-call-init
+loop-call-init c = record { meant = λ m held. NoCalls; whole = search rules }
+
+pub loop-call-preserved : goal.loop-call-preserved
+loop-call-preserved c =
+    let l = c.loop-call in
+    let calls : List Call = c.args.calls.now in
+    let i : ℕ = l.call-index in
+    let call : Call = c.call-item.result in
+    let within : i < length calls = omega (arith, c.loop-call-test.true) in
+    let now_is : take (i + 1) calls ≡ take i calls ++ call ∷ [] = take_more calls i call within ∙ ap (λ (x : Call). take i calls ++ x ∷ []) (sym c.call-item.is) in
+    record {
+      meant = λ m held.
+          one_more c.args.uses (mail_told c.args.told.now m.known) (take i calls) (take (i + 1) calls) l.responses.items c.push.new.self.items call c.in_ok-response.response
+          (l.invariant.meant m held) (c.in_ok-response.ensures.meant m held) now_is c.in_ok-push.ensures.ok;
+      whole = search rules;
+    }

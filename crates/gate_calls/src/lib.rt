@@ -1,0 +1,13 @@
+//! The calls of a request: whether they need the mail, and what each is answered over the mail that the machine serves.
+#![tactic(auto)]
+
+// Methods.
+mod methods;
+
+// Calls, one after another.
+mod calls;
+mod needs;
+
+pub use calls::responses_to;
+pub use methods::{Told, is_told};
+pub use needs::needs_mail;

@@ -1,0 +1,23 @@
+// Whether requests need the mail.
+ghost use Rattle.std.specs.Prelude.{◌≡◌, map};
+ghost use Rattle.std.specs.List.{list_any};
+ghost use Rattle.jmap_methods.specs.Method.{needs_mail_by};
+ghost use Rattle.jmap_core.specs.Request.{call_data};
+ghost use Rattle.gate_calls.specs.Calls.{needs_mail};
+
+use jmap_core::Call;
+
+fn any_needs_mail(calls: &[Call]) -> bool
+    ensures { result ≡ list_any (λ call. needs_mail_by call.name) calls.now }
+{
+    calls
+        .iter()
+        .any(|call| jmap_methods::needs_mail(call.name.as_str()))
+}
+
+/// Whether one of the calls needs the mail.
+pub fn needs_mail(calls: &[Call]) -> bool
+    ensures { result ≡ needs_mail (map call_data calls.now) }
+{
+    any_needs_mail(calls)
+}

@@ -1,8 +1,0 @@
-use Rattle.std.proofs.Common.{sym, ◌∙◌}
-use Rattle.jmap_methods.specs.Method.{needs_mail_by}
-use Rattle.jmap_core.specs.Request.{CallData, call_data}
-use Rattle.gate_serving.proofs.Calling.{any_map}
-use Rattle.gate_serving.proofs.requests.needs_mail.Goals as goal
-
-pub returns : goal.returns
-returns c = c.any_needs_mail.ensures ∙ sym (any_map call_data (λ (d : CallData). needs_mail_by d.name) c.args.calls.now)
