@@ -1,5 +1,5 @@
 -- What is kept of what is known, as it goes on.
-use Rattle.std.proofs.Common.{arith, ◌≡◌, ◌∙◌, ℕ, Some, None, Result, Ok, Err, refl, sym, ap, subst, inr}
+use Rattle.std.proofs.Common.{arith, ◌≡◌, ◌∙◌, ℕ, Bool, true, false, Some, None, Result, Ok, Err, refl, sym, ap, subst, inr}
 use Rattle.std.specs.Prelude.{IfOk}
 use Rattle.told_folder.specs.declared.message.Folder.{Folder}
 use Rattle.told_mail.specs.Mail.{Mail, IsMail, IsNextMail, no_mail}
@@ -69,6 +69,10 @@ is_same k a kept same = ap (λ (m : Mail). m.folders) (sym kept.served) ∙ same
 -- mail that is other than the served is new
 pub is_other : (k : KnownMail) (a : KeptMail) → IsKeptOf k a → (a.served.folders ≡ a.told.mail.folders → ⊥) → k.history.mail.folders ≡ k.told.mail.folders → ⊥
 is_other k a kept other same = other (ap (λ (m : Mail). m.folders) kept.served ∙ same ∙ ap (λ (m : Mail). m.folders) (sym (mail_of kept)))
+
+-- what a test tells apart isn't the same
+pub not_same : {S : Type 0} (same : Bool) → (S → same ≡ true) → same ≡ false → S → ⊥
+not_same same shows other is = cc (shows is, other)
 
 -- what was served where the told mail is new
 pub commits_other : (a : KeptMail) (result : Result KeptMail CommitEnd) → (a.served.folders ≡ a.told.mail.folders → ⊥)
