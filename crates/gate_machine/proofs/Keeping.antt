@@ -6,7 +6,9 @@ use Rattle.told_mail.specs.Mail.{Mail, IsMail, IsNextMail, no_mail}
 use Rattle.told_mail.specs.Told.{Told}
 use Rattle.mail_state.specs.History.{MailHistory, first_history}
 use Rattle.mail_state.specs.State.{ServedState, IsStateOf, first_state}
-use Rattle.mail_state.specs.Following.{FollowsMail, SpendsPlace}
+use Rattle.mail_state.specs.Following.{FollowsMail, IfSpent, SpendsPlace}
+use Rattle.mail_state.specs.declared.error.StateError.{StateError}
+use Rattle.mail_state.specs.declared.error.StateError.TheVariants.{Spent}
 use Rattle.mail_state.specs.declared.touches.Advance.{Advance}
 use Rattle.gate_machine.specs.History.{KnownMail, known_mail, Advanced, Commits, IsNewMail, IsSpent, served_anew}
 use Rattle.gate_machine.specs.Kept.{KeptMail, IsKeptOf}
@@ -54,6 +56,10 @@ goes_on k a b moved kept new follows served told =
         next = subst (λ (m : Mail). IsNextMail m k.told.mail) (sym mail_is) (next_same k.told.mail kept.next.is_mail);
       },
     )
+
+-- what holds where the answer is Spent holds
+pub spent_so : (X : Type 0) {P : Type 0} {e : StateError} {place : ℕ} → e ≡ Spent place → IfSpent {X = X} (Err e) P → P
+spent_so X {P = P} is so = subst (λ (x : StateError). IfSpent {X = X} (Err x) P) is so
 
 -- a place passes the last one on the way to the told mail
 pub spends_place : (k : KnownMail) (a : KeptMail) → IsKeptOf k a → ((h : MailHistory) → IsStateOf h a.state → IsNextMail h.mail a.told.mail → SpendsPlace h a.told.mail)
