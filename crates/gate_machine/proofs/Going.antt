@@ -13,7 +13,7 @@ use Rattle.mail_state.specs.History.{MailHistory, served_mailboxes, served_email
 use Rattle.imap_exchange.specs.declared.link_end.LinkEnd.{LinkEnd}
 use Rattle.imap_exchange.specs.declared.link_end.LinkEnd.TheVariants as end
 use Rattle.gate_machine.specs.History.{KnownMail}
-use Rattle.gate_machine.specs.Machine.{MachineState, hearing, forgotten}
+use Rattle.gate_machine.specs.Machine.{MachineState, hearing}
 use Rattle.gate_machine.specs.Progress.{Progress, machine_by}
 use Rattle.gate_machine.specs.Beginning.{Readies, Ready, Restart, LacksRoom, RunsRound, Settles, Same, Moves, Spends, Lacks, AsksThen, Dials, PreparesMail}
 use Rattle.gate_machine.specs.Going.{HasGoneOn, Still, On, Extends, KeepsTouches, MachineGoesOn, KeepsHistory, is_epoch}

@@ -1,12 +1,14 @@
 -- What is kept of what is known, as it goes on.
-use Rattle.std.proofs.Common.{arith, ◌≡◌, ◌∙◌, ℕ, Some, None, Result, Ok, Err, refl, sym, ap, subst, inr}
+use Rattle.std.proofs.Common.{arith, ◌≡◌, ◌∙◌, ℕ, Bool, true, false, Some, None, Result, Ok, Err, refl, sym, ap, subst, inr}
 use Rattle.std.specs.Prelude.{IfOk}
 use Rattle.told_folder.specs.declared.message.Folder.{Folder}
 use Rattle.told_mail.specs.Mail.{Mail, IsMail, IsNextMail, no_mail}
 use Rattle.told_mail.specs.Told.{Told}
 use Rattle.mail_state.specs.History.{MailHistory, first_history}
 use Rattle.mail_state.specs.State.{ServedState, IsStateOf, first_state}
-use Rattle.mail_state.specs.Following.{FollowsMail, SpendsPlace}
+use Rattle.mail_state.specs.Following.{FollowsMail, IfSpent, SpendsPlace}
+use Rattle.mail_state.specs.declared.error.StateError.{StateError}
+use Rattle.mail_state.specs.declared.error.StateError.TheVariants.{Spent}
 use Rattle.mail_state.specs.declared.touches.Advance.{Advance}
 use Rattle.gate_machine.specs.History.{KnownMail, known_mail, Advanced, Commits, IsNewMail, IsSpent, served_anew}
 use Rattle.gate_machine.specs.Kept.{KeptMail, IsKeptOf}
@@ -55,6 +57,10 @@ goes_on k a b moved kept new follows served told =
       },
     )
 
+-- what holds where the answer is Spent holds
+pub spent_so : (X : Type 0) {P : Type 0} {e : StateError} {place : ℕ} → e ≡ Spent place → IfSpent {X = X} (Err e) P → P
+spent_so X {P = P} is so = subst (λ (x : StateError). IfSpent {X = X} (Err x) P) is so
+
 -- a place passes the last one on the way to the told mail
 pub spends_place : (k : KnownMail) (a : KeptMail) → IsKeptOf k a → ((h : MailHistory) → IsStateOf h a.state → IsNextMail h.mail a.told.mail → SpendsPlace h a.told.mail)
     → IsSpent k
@@ -69,6 +75,10 @@ is_same k a kept same = ap (λ (m : Mail). m.folders) (sym kept.served) ∙ same
 -- mail that is other than the served is new
 pub is_other : (k : KnownMail) (a : KeptMail) → IsKeptOf k a → (a.served.folders ≡ a.told.mail.folders → ⊥) → k.history.mail.folders ≡ k.told.mail.folders → ⊥
 is_other k a kept other same = other (ap (λ (m : Mail). m.folders) kept.served ∙ same ∙ ap (λ (m : Mail). m.folders) (sym (mail_of kept)))
+
+-- what a test tells apart isn't the same
+pub not_same : {S : Type 0} (same : Bool) → (S → same ≡ true) → same ≡ false → S → ⊥
+not_same same shows other is = cc (shows is, other)
 
 -- what was served where the told mail is new
 pub commits_other : (a : KeptMail) (result : Result KeptMail CommitEnd) → (a.served.folders ≡ a.told.mail.folders → ⊥)
