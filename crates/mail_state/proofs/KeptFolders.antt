@@ -1,5 +1,5 @@
 -- Folders that are kept without what no Mailbox shows of them, beside others.
-use Rattle.std.proofs.Common.{◌≡◌, ℕ, List, [], ◌∷◌, Bool, true, false, ◌&&◌, Option, Some, None, eqb, refl, ap, ◌∙◌}
+use Rattle.std.proofs.Common.{◌≡◌, ℕ, zero, suc, ◌≤◌, List, [], ◌∷◌, Bool, true, false, ◌&&◌, Option, Some, None, eqb, nat_eq, length, drop, arith, refl, sym, ap, ◌∙◌}
 use Rattle.std.specs.Bool.{Decides}
 use Rattle.std.specs.Option.{option_eq}
 use Rattle.std.proofs.lemmas.Slice.Eq.{slice_eq-Decides, bytes_eq-Decides}
@@ -58,3 +58,21 @@ stripped_all (k ∷ ks) [] e = absurd (let f : false ≡ true = e in cc)
 stripped_all (k ∷ ks) (h ∷ hs) e =
     let parts = both (is_stripped k h.folder) (are_stripped ks hs) e in
     ap (λ (f : Folder). f ∷ ks) ((stripped_decides k h.folder).0 parts.0) ∙ ap (λ (fs : List Folder). stripped h.folder ∷ fs) (stripped_all ks hs parts.1)
+
+-- the same of folders that are lent
+pub kept_all : (ks lent : List Folder) (hs mail : List Held) (b : Bool) → lent ≡ ks → mail ≡ hs → b ≡ are_stripped lent mail → b ≡ true → ks ≡ stripped_folders hs
+kept_all ks lent hs mail b same there tested is =
+    stripped_all ks hs
+    (ap (λ (fs : List Folder). are_stripped fs hs) (sym same) ∙ ap (are_stripped lent) (sym there) ∙ sym tested ∙ is)
+
+one_more : (n : ℕ) → nat_eq (suc n) 0 ≡ false
+one_more n = grind arith
+
+-- where no folder is left, nothing is left of what is kept
+pub none_left : (ks : List Folder) (hs : List Held) (i : ℕ) → length hs ≤ i → nat_eq (length ks) 0 ≡ are_stripped ks (drop i hs)
+none_left [] [] zero within = refl
+none_left [] [] (suc i) within = refl
+none_left (k ∷ ks) [] zero within = one_more (length ks)
+none_left (k ∷ ks) [] (suc i) within = one_more (length ks)
+none_left ks (h ∷ hs) zero within = absurd (let l : suc (length hs) ≤ 0 = within in omega (arith, l))
+none_left ks (h ∷ hs) (suc i) within = none_left ks hs i (let l : suc (length hs) ≤ suc i = within in omega (arith, l))

@@ -1,11 +1,12 @@
 -- Mailboxes whose counts are set in place are those that are counted, and touched where these are others.
 use Rattle.std.proofs.Common.{◌≡◌, ℕ, ◌+◌, ◌<◌, List, [], ◌∷◌, ◌++◌, Bool, true, false, not, ◌&&◌, ◌||◌, cond, nat_eq, map, filter, drop, length, get_or, refl, sym, ap, ◌∙◌, subst}
-use Rattle.std.proofs.Common.{nat_cmp, arith, is_some, Option, Some, None, eqb-true}
+use Rattle.std.proofs.Common.{nat_cmp, arith, add-one, suc, is_some, Option, Some, None, eqb-true}
 use Rattle.std.specs.BTreeMap.{is_at}
 use Rattle.std.specs.List.{list_any}
 use Rattle.std.specs.List.Sorted.{IsStrictlySortedBy}
 use Rattle.std.specs.Map.{keys_of}
 use Rattle.std.specs.Option.{option_map}
+use Rattle.std.proofs.Math.Seq.{drop-cons}
 use Rattle.std.proofs.lemmas.Grind.{common_steps}
 use Rattle.std.proofs.lemmas.List.{append-nil}
 use Rattle.change_list.specs.Advance.{row_at, advance_entries, counts_if, differs, is_changed, is_gone}
@@ -17,7 +18,6 @@ use Rattle.mail_maps.specs.declared.tally.FolderCounts.{FolderCounts}
 use Rattle.mail_maps.specs.Serve.{ServedMailbox, counts_of, mailbox_of, mailbox_tests, same_but_counts, same_counts, same_mailbox}
 use Rattle.mail_maps.proofs.ThreadLemmas.{sorted_same}
 use Rattle.mail_rows.proofs.Exact.{exact_mailbox}
-use Rattle.mail_rows.proofs.LoopLemmas.{next_left}
 use Rattle.mail_rows.proofs.RowLemmas.{AllIn, all_in, found_is, is_here}
 use Rattle.mail_state.specs.reading.Recounts.{with_counts, recounted, all_recounted, is_recounted, touch_of_counts, recounts, row_recounted, rows_recounted}
 
@@ -49,11 +49,15 @@ box_absent boxes c number q none = by (nat_eq number q) refl
         sym here ∙ ap (option_map (with_counts c)) here
     by false other = refl
 
+next_left : (es : List Entry) (i : ℕ) (e : Entry) → i < length es → e ≡ get_or es i e → drop i es ≡ e ∷ drop (i + 1) es
+next_left es i e within is = rw add-one (drop-cons es i e within ∙ ap (λ (x : Entry). x ∷ drop (suc i) es) (sym is))
+
 -- one touch more
-pub box_taken : (F : ℕ → FolderCounts) (es : List Entry) (i : ℕ) (e : Entry) (q : ℕ) (old new r : Option MailboxRow) → i < length es → e ≡ get_or es i e
-    → new ≡ row_recounted (F e.id) e.id q old → rows_recounted F (drop i es) q old ≡ r → rows_recounted F (drop (i + 1) es) q new ≡ r
-box_taken F es i e q old new r within is made all =
-    ap (rows_recounted F (drop (i + 1) es) q) made ∙ sym (ap (λ (xs : List Entry). rows_recounted F xs q old) (next_left es i e within is)) ∙ all
+pub box_taken : (F : ℕ → FolderCounts) (es : List Entry) (i : ℕ) (e : Entry) (q : ℕ) (c : FolderCounts) (old new r : Option MailboxRow) → i < length es → e ≡ get_or es i e
+    → c ≡ F e.id → new ≡ row_recounted c e.id q old → rows_recounted F (drop i es) q old ≡ r → rows_recounted F (drop (i + 1) es) q new ≡ r
+box_taken F es i e q c old new r within is told made all =
+    ap (rows_recounted F (drop (i + 1) es) q) (made ∙ ap (λ (f : FolderCounts). row_recounted f e.id q old) told)
+    ∙ sym (ap (λ (xs : List Entry). rows_recounted F xs q old) (next_left es i e within is)) ∙ all
 
 -- ---- all Mailboxes
 

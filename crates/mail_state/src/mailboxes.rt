@@ -38,6 +38,6 @@ pub fn follow_mailboxes(
     if touches.is_empty() {
         return Ok((old, Vec::new(alloc), kept));
     }
-    let (mailboxes, steps) = recount(alloc, old, emails)?;
-    Ok((mailboxes, steps, kept))
+    let (recounted, steps) = recount(alloc, old, emails)?;
+    Ok((recounted, steps, kept))
 }
