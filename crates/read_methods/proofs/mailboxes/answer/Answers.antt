@@ -1,4 +1,4 @@
-use Rattle.std.proofs.Common.{List, ℕ, map, option_map, string_bytes, ap, ◌∙◌}
+use Rattle.std.proofs.Common.{map, option_map, string_bytes, ap, ◌∙◌}
 use Rattle.serde_json.specs.View.{view}
 use Rattle.change_list.specs.Kept.{Kept}
 use Rattle.jmap_methods.specs.Ids.{mailbox_letter}
