@@ -38,6 +38,7 @@ module _ {V : Type 0} (letter epoch : ℕ) (k : Kept) (p : Past V) (further : Fu
 
   answers : (found : Result FoundSince MethodError) → Finds epoch k d found
       → AnswersChanges letter epoch (entries_of p.touches) further d (reply_of letter epoch k.place further found)
+  unfolding answer_of
   answers _ (reading.Refuses e is) = Refused e is
   answers _ (reading.NamesNothing asked is none) = NoSuchState asked is (none_of asked.since none)
   answers _ (reading.InKept asked c is found) =
