@@ -113,7 +113,7 @@ const TWO_FOLDERS: &[&[u8]] = &[
 ];
 
 /// What clients give, over which link life, what they are told, and how often the store is dialed.
-const ANSWERS: [(&[u8], &[&[u8]], &[u8], usize); 10] = [
+const ANSWERS: [(&[u8], &[&[u8]], &[u8], usize); 11] = [
     (
         b"{}",
         EMPTY_INBOX,
@@ -165,6 +165,13 @@ const ANSWERS: [(&[u8], &[&[u8]], &[u8], usize); 10] = [
         b"{\"using\":[\"urn:ietf:params:jmap:core\",\"urn:ietf:params:jmap:mail\"],\"methodCalls\":[[\"Email/changes\",{\"accountId\":\"a1\",\"sinceState\":\"000000000000001f-0\"},\"c1\"],[\"Thread/get\",{\"accountId\":\"a1\",\"ids\":[\"t1\",\"t9\"]},\"c2\"],[\"Thread/changes\",{\"accountId\":\"a1\",\"maxChanges\":2,\"sinceState\":\"000000000000001f-0\"},\"c3\"],[\"Mailbox/changes\",{\"accountId\":\"a1\",\"sinceState\":\"000000000000001f-1\"},\"c4\"],[\"Mailbox/changes\",{\"accountId\":\"a1\",\"sinceState\":\"000000000000001f-2\"},\"c5\"]]}",
         &[CONNECTED, LISTED, SELECTED, THREE, DONE],
         b"{\"methodResponses\":[[\"Email/changes\",{\"accountId\":\"a1\",\"created\":[\"e1\",\"e2\",\"e3\"],\"destroyed\":[],\"hasMoreChanges\":false,\"newState\":\"000000000000001f-3\",\"oldState\":\"000000000000001f-0\",\"updated\":[]},\"c1\"],[\"Thread/get\",{\"accountId\":\"a1\",\"list\":[{\"emailIds\":[\"e1\"],\"id\":\"t1\"}],\"notFound\":[\"t9\"],\"state\":\"000000000000001f-3\"},\"c2\"],[\"Thread/changes\",{\"accountId\":\"a1\",\"created\":[\"t1\",\"t2\"],\"destroyed\":[],\"hasMoreChanges\":true,\"newState\":\"000000000000001f-2\",\"oldState\":\"000000000000001f-0\",\"updated\":[]},\"c3\"],[\"Mailbox/changes\",{\"accountId\":\"a1\",\"created\":[],\"destroyed\":[],\"hasMoreChanges\":false,\"newState\":\"000000000000001f-1\",\"oldState\":\"000000000000001f-1\",\"updated\":[],\"updatedProperties\":null},\"c4\"],[\"error\",{\"type\":\"cannotCalculateChanges\"},\"c5\"]],\"sessionState\":\"1;5;alice;http://127.0.0.1:8080\"}\n",
+        1,
+    ),
+    // what was created is asked by reference; no reference reaches a later call
+    (
+        b"{\"using\":[\"urn:ietf:params:jmap:core\",\"urn:ietf:params:jmap:mail\"],\"methodCalls\":[[\"Mailbox/changes\",{\"accountId\":\"a1\",\"sinceState\":\"000000000000001f-0\"},\"c1\"],[\"Mailbox/get\",{\"accountId\":\"a1\",\"#ids\":{\"resultOf\":\"c1\",\"name\":\"Mailbox/changes\",\"path\":\"/created\"},\"properties\":[\"name\",\"totalEmails\"]},\"c2\"],[\"Mailbox/get\",{\"accountId\":\"a1\",\"#ids\":{\"resultOf\":\"c4\",\"name\":\"Mailbox/changes\",\"path\":\"/updated\"}},\"c3\"],[\"Mailbox/changes\",{\"accountId\":\"a1\",\"sinceState\":\"000000000000001f-1\"},\"c4\"]]}",
+        &[CONNECTED, LISTED, SELECTED, THREE, DONE],
+        b"{\"methodResponses\":[[\"Mailbox/changes\",{\"accountId\":\"a1\",\"created\":[\"m1\"],\"destroyed\":[],\"hasMoreChanges\":false,\"newState\":\"000000000000001f-1\",\"oldState\":\"000000000000001f-0\",\"updated\":[],\"updatedProperties\":null},\"c1\"],[\"Mailbox/get\",{\"accountId\":\"a1\",\"list\":[{\"id\":\"m1\",\"name\":\"INBOX\",\"totalEmails\":3}],\"notFound\":[],\"state\":\"000000000000001f-1\"},\"c2\"],[\"error\",{\"type\":\"invalidResultReference\"},\"c3\"],[\"Mailbox/changes\",{\"accountId\":\"a1\",\"created\":[],\"destroyed\":[],\"hasMoreChanges\":false,\"newState\":\"000000000000001f-1\",\"oldState\":\"000000000000001f-1\",\"updated\":[],\"updatedProperties\":null},\"c4\"]],\"sessionState\":\"1;5;alice;http://127.0.0.1:8080\"}\n",
         1,
     ),
     // created ids are answered where they were given
