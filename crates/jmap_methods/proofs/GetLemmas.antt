@@ -1,5 +1,6 @@
 -- What a /get lists, one number after another, and that it has integers alone.
-use Rattle.std.proofs.Common.{◌≡◌, ◌<◌, ◌+◌, ℕ, List, [], ◌∷◌, ◌++◌, map, drop, drop-cons, get_or, add-one, append-nil, append_assoc, option_map, Bool, true, false, cond, if◌then◌else◌, nat_lt, nat_cmp, length, is_none, Option, Some}
+use Rattle.std.proofs.Common.{◌≡◌, ◌<◌, ◌+◌, ℕ, List, [], ◌∷◌, ◌++◌, map, drop, drop-cons, get_or, add-one, append-nil, append_assoc, option_map}
+use Rattle.std.proofs.Common.{Bool, true, false, cond, if◌then◌else◌, nat_lt, nat_cmp, length, is_none, Option, Some}
 use Rattle.std.proofs.Common.{None, Result, Ok, Err, refl, sym, ap, ◌∙◌, subst}
 use Rattle.std.specs.BTreeMap.{is_at}
 use Rattle.std.specs.List.{All, Contains, filter, filter_map, cons_option}

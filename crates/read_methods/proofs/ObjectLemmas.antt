@@ -66,7 +66,8 @@ state_same text bytes epoch place e p same is epoch_is place_is =
 module _ {W : Type 0} (letter : ℕ) (state : List ℕ) (objects : W → List (ℕ × Data)) (asked : Result (GetAsked W) MethodError) where
   -- what is asked of the objects is answered
   pub get_given : (ids : Option (List (List ℕ))) (wanted shown : W) (text : List ℕ) (r : Result Value MethodError) → asked ≡ Ok (record { ids = ids; wanted = wanted })
-      → shown ≡ wanted → text ≡ state → Agrees Memory view r (get_answer text (found_in letter (objects shown) ids)) → Agrees Memory view r (get_answered letter state objects asked)
+      → shown ≡ wanted → text ≡ state → Agrees Memory view r (get_answer text (found_in letter (objects shown) ids))
+      → Agrees Memory view r (get_answered letter state objects asked)
   get_given ids wanted shown text r is same same_text answered =
       let A : Result Data MethodError → Type 0 = λ meant. Agrees Memory view r meant in
       let T : List ℕ → Type 0 = λ t. Agrees Memory view r (get_answer t (found_in letter (objects shown) ids)) in

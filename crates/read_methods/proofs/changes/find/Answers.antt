@@ -31,7 +31,8 @@ returns-in-Err-BeforeFront-clause-finds c =
     let asked : ChangesAsked = record { since = c.in_ok-since.field-0.since.now; most = c.in_ok-since.field-0.most } in
     let small : k.place ≤ MAX_PLACE = omega (arith, c.place.ensures.exact, c.place.ensures.small) in
     let refused = rw c.in-Err-BeforeFront.field-0-is at c.in-Err-BeforeFront.ensures.refused in
-    inr (outside c.args.epoch k d asked c.in-Some.place c.in_ok-since.ensures small c.in-Some.ensures.one (before c.args.epoch k d c.in-Some.place c.in-Err-BeforeFront.field-0-0 refused))
+    inr (outside c.args.epoch k d asked c.in-Some.place c.in_ok-since.ensures small c.in-Some.ensures.one
+    (before c.args.epoch k d c.in-Some.place c.in-Err-BeforeFront.field-0-0 refused))
 
 pub returns-in-Err-AfterEnd-clause-finds : goal.returns-in-Err-AfterEnd-clause-finds
 returns-in-Err-AfterEnd-clause-finds c =
@@ -40,4 +41,5 @@ returns-in-Err-AfterEnd-clause-finds c =
     let asked : ChangesAsked = record { since = c.in_ok-since.field-0.since.now; most = c.in_ok-since.field-0.most } in
     let small : k.place ≤ MAX_PLACE = omega (arith, c.place.ensures.exact, c.place.ensures.small) in
     let refused = rw c.in-Err-AfterEnd.field-0-is at c.in-Err-AfterEnd.ensures.refused in
-    inr (outside c.args.epoch k d asked c.in-Some.place c.in_ok-since.ensures small c.in-Some.ensures.one (past c.args.epoch k d c.in-Some.place c.in-Err-AfterEnd.field-0-0 refused))
+    inr (outside c.args.epoch k d asked c.in-Some.place c.in_ok-since.ensures small c.in-Some.ensures.one
+    (past c.args.epoch k d c.in-Some.place c.in-Err-AfterEnd.field-0-0 refused))

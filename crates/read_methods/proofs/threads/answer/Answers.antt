@@ -15,5 +15,7 @@ returns c =
     let place = c.place-place.ensures.exact ∙ ap (λ (k : Kept). k.place) c.list.ensures in
     let text = state_same c.as_str.result.now (string_bytes c.in_ok-text.text) state.epoch state.lists.thread.place c.epoch-epoch.result c.place-place.result
     c.as_str.ensures.value c.in_ok-text.ensures c.epoch-epoch.ensures place in
-    get_given thread_letter (state_text (record { epoch = state.epoch; place = state.lists.thread.place })) (thread_objects (served thread_of state.rows.threads)) (threads_asked (view c.args.arguments.now))
-    (option_map (λ v. map (λ t. t.now) v.items) c.in_ok-ids.field-0.ids) c.in_ok-ids.field-0.emails c.in_ok-ids.field-0.emails c.as_str.result.now c.get_objects.result c.in_ok-ids.ensures refl text c.get_objects.ensures
+    get_given thread_letter (state_text (record { epoch = state.epoch; place = state.lists.thread.place })) (thread_objects (served thread_of state.rows.threads))
+    (threads_asked (view c.args.arguments.now))
+    (option_map (λ v. map (λ t. t.now) v.items) c.in_ok-ids.field-0.ids) c.in_ok-ids.field-0.emails c.in_ok-ids.field-0.emails
+    c.as_str.result.now c.get_objects.result c.in_ok-ids.ensures refl text c.get_objects.ensures

@@ -9,4 +9,5 @@ returns-in-None c = none_at mailbox_of (mailbox_data c.args.self.now.wanted.now)
 
 pub returns-in_ok-mailbox_value-in-Some : goal.returns-in_ok-mailbox_value-in-Some
 returns-in_ok-mailbox_value-in-Some c =
-    some_at mailbox_of (mailbox_data c.args.self.now.wanted.now) c.args.self.now.state.now.rows.mailboxes c.args.number c.in-Some.mailbox.now (view c.in_ok-mailbox_value-in-Some.field-0) c.in-Some.ensures c.in_ok-mailbox_value-in-Some.ensures
+    some_at mailbox_of (mailbox_data c.args.self.now.wanted.now) c.args.self.now.state.now.rows.mailboxes c.args.number c.in-Some.mailbox.now
+    (view c.in_ok-mailbox_value-in-Some.field-0) c.in-Some.ensures c.in_ok-mailbox_value-in-Some.ensures

@@ -9,4 +9,5 @@ returns-in-None c = none_at thread_of (thread_data c.args.self.now.wanted) c.arg
 
 pub returns-in_ok-thread_value-in-Some : goal.returns-in_ok-thread_value-in-Some
 returns-in_ok-thread_value-in-Some c =
-    some_at thread_of (thread_data c.args.self.now.wanted) c.args.self.now.state.now.rows.threads c.args.number c.in-Some.emails.now (view c.in_ok-thread_value-in-Some.field-0) c.in-Some.ensures c.in_ok-thread_value-in-Some.ensures
+    some_at thread_of (thread_data c.args.self.now.wanted) c.args.self.now.state.now.rows.threads c.args.number c.in-Some.emails.now
+    (view c.in_ok-thread_value-in-Some.field-0) c.in-Some.ensures c.in_ok-thread_value-in-Some.ensures
