@@ -1,5 +1,6 @@
--- What a /get lists, and that it has integers alone.
-use Rattle.std.proofs.Common.{◌≡◌, ℕ, List, [], ◌∷◌, map, Bool, true, false, cond, if◌then◌else◌, nat_lt, nat_cmp, length, is_none, Option, Some}
+-- What a /get lists, one number after another, and that it has integers alone.
+use Rattle.std.proofs.Common.{◌≡◌, ◌<◌, ◌+◌, ℕ, List, [], ◌∷◌, ◌++◌, map, drop, drop-cons, get_or, add-one, append-nil, append_assoc, option_map}
+use Rattle.std.proofs.Common.{Bool, true, false, cond, if◌then◌else◌, nat_lt, nat_cmp, length, is_none, Option, Some}
 use Rattle.std.proofs.Common.{None, Result, Ok, Err, refl, sym, ap, ◌∙◌, subst}
 use Rattle.std.specs.BTreeMap.{is_at}
 use Rattle.std.specs.List.{All, Contains, filter, filter_map, cons_option}
@@ -9,6 +10,7 @@ use Rattle.std.specs.Option.{IfSome}
 use Rattle.std.specs.Result.{IfOk, MatchResult}
 use Rattle.std.specs.Cmp.{eq_by_cmp_equiv}
 use Rattle.std.proofs.lemmas.Cmp.{nat_cmp_total}
+use Rattle.std.proofs.lemmas.List.{map-append}
 use Rattle.std.proofs.lemmas.List.Elements.{All-head, All-tail, All-weaker, All-contains_itself}
 use Rattle.std.proofs.lemmas.Map.Entries.{length-keys_of}
 use Rattle.std.proofs.lemmas.Map.Keys.{IsDistinct-from_sorted}
@@ -40,6 +42,38 @@ module _ {X : Type 0} where
   all_listed rows sorted = listed rows rows (All-weaker (Contains rows) (IsFoundIn rows)
       (λ e there. lookup-from_Contains (eq_by_cmp_equiv nat_cmp_total) e.0 e.1 rows (IsDistinct-from_sorted nat_cmp (keys_of rows) sorted) there)
       rows (All-contains_itself rows))
+
+-- ---- one number more
+
+joined : (shown rest : List Data) (o : Option Data) → shown ++ cons_option o rest ≡ (shown ++ cons_option o []) ++ rest
+joined shown rest None = ap (λ (l : List Data). l ++ rest) (sym (append-nil shown))
+joined shown rest (Some d) = sym (append_assoc shown (d ∷ []) rest)
+
+module _ (found : ℕ → Option Data) (ns : List ℕ) (i : ℕ) (inside : i < length ns) where
+  found_next : filter_map found (drop i ns) ≡ cons_option (found (get_or ns i 0)) (filter_map found (drop (i + 1) ns))
+  found_next =
+      let cut : drop i ns ≡ get_or ns i 0 ∷ drop (i + 1) ns = rw add-one (drop-cons ns i 0 inside) in
+      ap (λ (l : List ℕ). filter_map found l) cut
+
+  with_next : (shown : List Data) (o : Option Data) → o ≡ found (get_or ns i 0) → filter_map found ns ≡ shown ++ filter_map found (drop i ns)
+      → filter_map found ns ≡ (shown ++ cons_option o []) ++ filter_map found (drop (i + 1) ns)
+  with_next shown o is so_far =
+      so_far ∙ ap (λ (l : List Data). shown ++ l) found_next ∙ ap (λ (x : Option Data). shown ++ cons_option x (filter_map found (drop (i + 1) ns))) (sym is)
+      ∙ joined shown (filter_map found (drop (i + 1) ns)) o
+
+  -- a number of which there is no object
+  pub none_listed : (list : List Value) (o : Option Value) → o ≡ None → option_map view o ≡ found (get_or ns i 0)
+      → filter_map found ns ≡ map view list ++ filter_map found (drop i ns) → filter_map found ns ≡ map view list ++ filter_map found (drop (i + 1) ns)
+  none_listed list o none is so_far =
+      with_next (map view list) None (sym (ap (λ (x : Option Value). option_map view x) none) ∙ is) so_far
+      ∙ ap (λ (l : List Data). l ++ filter_map found (drop (i + 1) ns)) (append-nil (map view list))
+
+  -- a number of which there is one
+  pub one_listed : (list next : List Value) (o : Option Value) (object : Value) → o ≡ Some object → next ≡ list ++ object ∷ [] → option_map view o ≡ found (get_or ns i 0)
+      → filter_map found ns ≡ map view list ++ filter_map found (drop i ns) → filter_map found ns ≡ map view next ++ filter_map found (drop (i + 1) ns)
+  one_listed list next o object one more is so_far =
+      with_next (map view list) (Some (view object)) (sym (ap (λ (x : Option Value). option_map view x) one) ∙ is) so_far
+      ∙ ap (λ (l : List Data). l ++ filter_map found (drop (i + 1) ns)) (sym (ap (λ (l : List Value). map view l) more ∙ map-append view list (object ∷ [])))
 
 -- ---- answers
 
@@ -74,6 +108,19 @@ pub counted_all : (letter : ℕ) (objects : List (ℕ × Data)) (numbers : List 
 counted_all letter objects numbers r are is =
     let long : length numbers ≡ length objects = ap (λ (ns : List ℕ). length ns) are ∙ length-keys_of objects in
     counted (nat_lt 500 (length objects)) (values_of objects) r (is ∙ ap count_check long)
+
+-- what is answered where all are asked
+pub got_all : (letter : ℕ) (state : List ℕ) (objects : List (ℕ × Data)) (numbers named : List ℕ) (list missing : List Data) (d : Data)
+    → numbers ≡ keys_of objects → IsStrictlySortedBy nat_cmp numbers → named ≡ numbers → list ≡ filter_map (λ n. lookup (is_at (nat_cmp n)) objects) named → missing ≡ []
+    → found_in letter objects None ≡ Ok (record { list = values_of objects; missing = [] }) → d ≡ get_data state list missing
+    → get_answer state (found_in letter objects None) ≡ Ok d
+got_all letter state objects numbers named list missing d are sorted same list_is none found is =
+    let found_among : List ℕ → List Data = λ ns. filter_map (λ n. lookup (is_at (nat_cmp n)) objects) ns in
+    let S : List ℕ → Type 0 = λ ns. IsStrictlySortedBy nat_cmp ns in
+    let whole : list ≡ values_of objects = list_is ∙ ap found_among (same ∙ are) ∙ all_listed objects (subst S are sorted) in
+    let shown : d ≡ get_data state (values_of objects) [] =
+    is ∙ ap (λ (l : List Data). get_data state l missing) whole ∙ ap (λ (m : List Data). get_data state (values_of objects) m) none in
+    ap (λ (r : Result FoundObjects MethodError). get_answer state r) found ∙ ap (λ (o : Data). let a : Result Data MethodError = Ok o in a) (sym shown)
 
 -- ---- integers alone
 

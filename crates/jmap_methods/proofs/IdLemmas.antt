@@ -18,14 +18,14 @@ abbrev rest_of : List ℕ → List ℕ
 rest_of [] = []
 rest_of (c ∷ cs) = cs
 
--- the number behind the letter is the one that the id names
+-- the number after the letter is the one that the id names
 pub named_by : (letter : ℕ) (text digits : List ℕ) (r : Option ℕ) → text ≡ letter ∷ digits → IfSome r (λ n. digits ≡ decimal n) → IfSome r (λ n. text ≡ id_text letter n)
 named_by letter text digits None cut is = tt
 named_by letter text digits (Some n) cut is = cut ∙ ap (λ (ds : List ℕ). letter ∷ ds) is
 
--- what stands behind the letter
-pub behind : (letter n : ℕ) (text digits : List ℕ) → text ≡ letter ∷ digits → text ≡ id_text letter n → digits ≡ decimal n
-behind letter n text digits cut is = ap rest_of (sym cut ∙ is)
+-- what stands after the letter
+pub digits_of : (letter n : ℕ) (text digits : List ℕ) → text ≡ letter ∷ digits → text ≡ id_text letter n → digits ≡ decimal n
+digits_of letter n text digits cut is = ap rest_of (sym cut ∙ is)
 
 -- an id names one number
 one_number : (letter k n : ℕ) → k < 2 ^ 64 → n < 2 ^ 64 → id_text letter k ≡ id_text letter n → k ≡ n
@@ -63,11 +63,11 @@ module _ {X : Type 0} where
   -- nothing is found by a text that is no number's id
   pub none_by_id : (letter : ℕ) (id : List ℕ) (rows : List (ℕ × X)) → ((n : ℕ) → n < 2 ^ 64 → id ≢ id_text letter n) → All (λ k. k < 2 ^ 64) (keys_of rows)
       → lookup (λ k. bytes_eq (id_text letter k) id) rows ≡ None
-  none_by_id letter id [] no small = refl
-  none_by_id letter id (e ∷ es) no small =
+  none_by_id letter id [] never small = refl
+  none_by_id letter id (e ∷ es) never small =
       ap (λ (b : Bool). cond b (Some e.1) (lookup (λ k. bytes_eq (id_text letter k) id) es))
-      (is_not letter e.0 id (no e.0 (All-head (λ k. k < 2 ^ 64) e.0 (keys_of es) small)))
-      ∙ none_by_id letter id es no (All-tail (λ k. k < 2 ^ 64) e.0 (keys_of es) small)
+      (is_not letter e.0 id (never e.0 (All-head (λ k. k < 2 ^ 64) e.0 (keys_of es) small)))
+      ∙ none_by_id letter id es never (All-tail (λ k. k < 2 ^ 64) e.0 (keys_of es) small)
 
   -- the object of a number is the one with the number's id
   pub shown_by_id : {V E : Type 0} (view : V → X) (letter n : ℕ) (id : List ℕ) (rows : List (ℕ × X)) (r : Result (Option V) E) → n < 2 ^ 64 → All (λ k. k < 2 ^ 64) (keys_of rows)

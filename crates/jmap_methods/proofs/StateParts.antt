@@ -107,11 +107,11 @@ one_hex (suc width) n m small fits is =
     omega (arith, high, low)
 
 -- a text is that of one state
-pub one_state : (a b : State) → a.epoch < 2 ^ 64 → b.epoch < 2 ^ 64 → a.place < 2 ^ 64 → b.place < 2 ^ 64 → state_text a ≡ state_text b
-    → (a.epoch ≡ b.epoch) × (a.place ≡ b.place)
+pub one_state : (a b : State) → a.epoch < 2 ^ 64 → b.epoch < 2 ^ 64 → a.place < 2 ^ 64 → b.place < 2 ^ 64 → state_text a ≡ state_text b → a ≡ b
 one_state a b ea eb pa pb is =
     let cut = one_cut (hex_text 16 a.epoch) (decimal a.place) (hex_text 16 b.epoch) (decimal b.place) is (hex_has_no_dash 16 a.epoch) (hex_has_no_dash 16 b.epoch) in
-    (one_hex 16 a.epoch b.epoch ea eb cut.0, decimal_injective a.place b.place pa pb cut.1)
+    let of : ℕ → ℕ → State = λ epoch place. record { epoch = epoch; place = place } in
+    ap (λ (epoch : ℕ). of epoch a.place) (one_hex 16 a.epoch b.epoch ea eb cut.0) ∙ ap (of b.epoch) (decimal_injective a.place b.place pa pb cut.1)
 
 -- in one epoch it is that of one place
 pub one_place : (epoch p q : ℕ) → p < 2 ^ 64 → q < 2 ^ 64 → state_text (record { epoch = epoch; place = p }) ≡ state_text (record { epoch = epoch; place = q }) → p ≡ q

@@ -1,5 +1,5 @@
 -- The last key of a map.
-use Rattle.std.proofs.Common.{◌≡◌, ◌<◌, ◌≤◌, ◌^◌, ℕ, List, [], ◌∷◌, true, false, Option, Some, length, nat_cmp, refl, ap, arith, is_some}
+use Rattle.std.proofs.Common.{◌≡◌, ◌<◌, ◌≤◌, ◌^◌, ℕ, List, [], ◌∷◌, true, false, Some, length, nat_cmp, refl, ap, arith, is_some}
 use Rattle.std.specs.BTreeMap.{is_at}
 use Rattle.std.specs.List.{All, Contains}
 use Rattle.std.specs.Map.{keys_of, lookup}
@@ -29,3 +29,8 @@ module _ {R : Type 0} where
   pub no_keys : (es : List (ℕ × R)) → (0 < length es → ⊥) → keys_of es ≡ []
   no_keys [] none = refl
   no_keys (e ∷ es) none = absurd (none (omega arith))
+
+-- without keys all have as few bits as are asked
+pub none_small : (ks : List ℕ) → ks ≡ [] → All (λ k. k < 2 ^ 64) ks
+none_small [] none = λ k d below. absurd (omega (arith, below))
+none_small (n ∷ ns) none = absurd (omega (arith, ap (λ (l : List ℕ). length l) none))

@@ -1,5 +1,5 @@
 -- What is found in the last touches of a type is what changed in each history that they are the last of.
-use Rattle.std.proofs.Common.{◌≡◌, ◌⊎◌, inl, inr, ◌≤◌, arith, ℕ, List, ◌++◌, length, take, Option, Result, Ok, Err, refl, sym, ap, ◌∙◌, subst, false}
+use Rattle.std.proofs.Common.{◌≡◌, inl, inr, arith, ℕ, List, ◌++◌, length, Option, Result, Ok, Err, refl, sym, ap, ◌∙◌, subst, false}
 use Rattle.std.proofs.Math.Seq.{take-append_seam, take-length}
 use Rattle.std.proofs.lemmas.List.{length-append}
 use Rattle.std.specs.Result.{IfOk}
@@ -38,6 +38,7 @@ module _ {V : Type 0} (letter epoch : ℕ) (k : Kept) (p : Past V) (further : Fu
 
   answers : (found : Result FoundSince MethodError) → Finds epoch k d found
       → AnswersChanges letter epoch (entries_of p.touches) further d (reply_of letter epoch k.place further found)
+  unfolding answer_of
   answers _ (reading.Refuses e is) = Refused e is
   answers _ (reading.NamesNothing asked is none) = NoSuchState asked is (none_of asked.since none)
   answers _ (reading.InKept asked c is found) =
@@ -97,13 +98,14 @@ module _ {V : Type 0} (epoch : ℕ) (p : Past V) (asked : ChangesAsked) (a : Ans
   }
 
 module _ {V : Type 0} (letter epoch : ℕ) (p : Past V) (further : Further) (d : Data) where
-  brings_if : (r : Result Data MethodError) → AnswersChanges letter epoch (entries_of p.touches) further d r → IfOk r (BringsUpToDate letter epoch p further d)
+  -- an answer keeps a copy right
+  pub brings_if : (r : Result Data MethodError) → AnswersChanges letter epoch (entries_of p.touches) further d r → IfOk r (BringsUpToDate letter epoch p further d)
   brings_if _ (Refused e is) = tt
   brings_if _ (NoSuchState asked is none) = tt
   brings_if _ (Answered asked a is) =
       brings epoch p asked a letter further d (changes_data letter epoch (length (entries_of p.touches)) asked.since further a.changes) is refl
 
-  -- what is answered keeps a copy right
+  -- so does a value that answers so
   pub up_to_date : (r : Result Value MethodError) → Meets Memory view r (AnswersChanges letter epoch (entries_of p.touches) further d)
       → IfOk r (λ value. BringsUpToDate letter epoch p further d (view value))
   up_to_date (Ok value) a = brings_if (Ok (view value)) a

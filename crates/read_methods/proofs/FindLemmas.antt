@@ -1,5 +1,5 @@
 -- How what changed is found in the last touches of a type, and answered.
-use Rattle.std.proofs.Common.{◌≡◌, ◌≢◌, ◌⊎◌, inl, inr, ◌<◌, ◌≤◌, ◌^◌, arith, ℕ, List, Result, Ok, Err, refl, sym, ap, ◌∙◌, subst}
+use Rattle.std.proofs.Common.{◌≡◌, ◌≢◌, ◌⊎◌, inl, inr, ◌<◌, ◌≤◌, ◌^◌, arith, ℕ, List, Result, Ok, Err, refl, ap, ◌∙◌, subst}
 use Rattle.serde_json.specs.Data.{Data, Members, object}
 use Rattle.change_list.specs.Changes.{IsChanges}
 use Rattle.change_list.specs.Kept.{Kept, IsOf, IsKeptPlace, front_of}
@@ -12,10 +12,21 @@ use Rattle.jmap_methods.specs.declared.method_error.MethodError.{MethodError}
 use Rattle.jmap_methods.specs.declared.method_error.MethodError.TheVariants.{Memory, CannotCalculateChanges}
 use Rattle.jmap_methods.specs.declared.state.State.{State}
 use Rattle.read_methods.specs.Changes.{ChangesAsked, changes_asked, changes_members, Further}
-use Rattle.read_methods.specs.reading.Found.{FindsChanges, FoundSince, Finds, Refuses, NamesNothing, InKept, AnswersFound}
+use Rattle.read_methods.specs.reading.Found.{Finds, Refuses, NamesNothing, InKept, AnswersFound}
 
 abbrev text_of : ℕ → ℕ → List ℕ
 text_of epoch place = state_text (record { epoch = epoch; place = place })
+
+-- ---- the state that is named
+
+-- a text that names a place of the epoch has that place's state
+pub named_same : (epoch : ℕ) (text : List ℕ) (named : State) (p : ℕ) → ((of : State) → of.epoch < 2 ^ 64 → of.place < 2 ^ 64 → text ≡ state_text of → of ≡ named)
+    → epoch < 2 ^ 64 → p < 2 ^ 64 → text ≡ text_of epoch p → (epoch ≡ named.epoch) × (p ≡ named.place)
+named_same epoch text named p one fits small is =
+    let same = one (record { epoch = epoch; place = p }) fits small is in
+    (ap (λ (s : State). s.epoch) same, ap (λ (s : State). s.place) same)
+
+-- ---- what is found
 
 module _ (epoch : ℕ) (k : Kept) (d : Data) where
   -- a refusal by the arguments

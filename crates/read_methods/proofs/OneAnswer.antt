@@ -1,15 +1,14 @@
 -- A /changes has one answer.
-use Rattle.std.proofs.Common.{◌≡◌, ◌<◌, ◌≤◌, ◌^◌, arith, ℕ, List, length, Option, Result, Ok, Err, refl, sym, ap, ◌∙◌, subst}
-use Rattle.std.specs.Result.{IfOk, IfErr}
+use Rattle.std.proofs.Common.{◌≡◌, ◌<◌, ◌^◌, arith, ℕ, List, length, Result, Ok, Err, refl, sym, ap, ◌∙◌, subst}
+use Rattle.std.specs.Result.{IfOk}
 use Rattle.serde_json.specs.Data.{Data}
 use Rattle.change_list.specs.Changes.{IsChanges}
 use Rattle.change_list.specs.declared.answer.Changes.{Changes}
 use Rattle.change_list.specs.declared.entries.Entry.{Entry}
 use Rattle.change_list.proofs.AnswerLaws.{one_answer}
 use Rattle.jmap_methods.specs.declared.method_error.MethodError.{MethodError}
-use Rattle.jmap_methods.specs.declared.method_error.MethodError.TheVariants.{CannotCalculateChanges}
 use Rattle.jmap_methods.proofs.StateParts.{one_place}
-use Rattle.read_methods.specs.Changes.{ChangesAsked, changes_asked, IsPlaceOf, NamesNone, AnsweredChanges, changes_data, Further, AnswersChanges, Refused, NoSuchState, Answered}
+use Rattle.read_methods.specs.Changes.{ChangesAsked, IsPlaceOf, NamesNone, AnsweredChanges, changes_data, Further, AnswersChanges, Refused, NoSuchState, Answered}
 
 abbrev Asking : Type 0
 Asking = Result ChangesAsked MethodError

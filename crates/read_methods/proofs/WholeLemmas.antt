@@ -2,7 +2,7 @@
 use Rattle.std.proofs.Common.{◌≡◌, ℕ, List, [], ◌∷◌, map, Bool, true, false, ◌||◌, if◌then◌else◌, Option, Some, None, Ordering, Less, Equal, Greater, nat_cmp, refl, codes}
 use Rattle.std.specs.Cmp.Lexicographic.{slice_cmp}
 use Rattle.std.specs.Ordering.{match_ordering}
-use Rattle.serde_json.specs.Data.{Data, object, Members, no_members, member, put}
+use Rattle.serde_json.specs.Data.{Data, Members, no_members, member, put}
 use Rattle.serde_json.specs.View.{items_of}
 use Rattle.serde_json.specs.Written.{has_float, items_have_float, members_have_float}
 use Rattle.change_list.specs.declared.answer.Changes.{Changes}
@@ -10,9 +10,9 @@ use Rattle.jmap_methods.specs.Ids.{id_data, id_list}
 use Rattle.jmap_methods.proofs.GetLemmas.{AreWhole}
 use Rattle.mail_maps.specs.Serve.{ServedMailbox}
 use Rattle.mail_maps.specs.declared.row.Role.{Role}
-use Rattle.read_methods.specs.Changes.{changes_members, changes_data, Further, no_further, names_if, updated_properties}
-use Rattle.read_methods.specs.Mailboxes.{parent_data, role_data, property_name, property_data, with_properties, mailbox_data, mailbox_objects}
-use Rattle.read_methods.specs.Threads.{with_emails, thread_data, thread_objects}
+use Rattle.read_methods.specs.Changes.{changes_data, Further, no_further, names_if, updated_properties}
+use Rattle.read_methods.specs.Mailboxes.{parent_data, role_data, property_name, property_data, with_properties, mailbox_objects}
+use Rattle.read_methods.specs.Threads.{with_emails, thread_objects}
 use Rattle.read_methods.specs.declared.mailbox_property.MailboxProperty.{MailboxProperty}
 use Rattle.read_methods.specs.declared.mailbox_property.MailboxProperty.TheVariants.{Id, Name, ParentId, SortOrder, TotalEmails}
 use Rattle.read_methods.specs.declared.mailbox_property.MailboxProperty.TheVariants.{UnreadEmails, TotalThreads, UnreadThreads, MyRights, IsSubscribed}

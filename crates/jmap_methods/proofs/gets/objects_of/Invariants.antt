@@ -8,5 +8,5 @@ use Rattle.jmap_methods.proofs.gets.objects_of.Given as goal
 -- what is there of all is what is there so far, and then what is there of the rest
 abbrev pub invariant-loop-number : goal.invariant-loop-number
 invariant-loop-number g l =
-    let found = λ n. lookup (is_at (nat_cmp n)) (g.T.Objects.objects l.objects) in
-    filter_map found l.numbers ≡ map view l.list.items ++ filter_map found (drop l.number-index l.numbers)
+    filter_map (λ n. lookup (is_at (nat_cmp n)) (g.T.Objects.objects l.objects)) l.numbers
+    ≡ map view l.list.items ++ filter_map (λ n. lookup (is_at (nat_cmp n)) (g.T.Objects.objects l.objects)) (drop l.number-index l.numbers)

@@ -1,6 +1,6 @@
 use Rattle.std.proofs.Common.{None, Some, decimal}
 use Rattle.std.proofs.lemmas.Str.Pattern.{strip_prefix_char}
-use Rattle.jmap_methods.proofs.IdLemmas.{named_by, behind}
+use Rattle.jmap_methods.proofs.IdLemmas.{named_by, digits_of}
 use Rattle.jmap_methods.proofs.ids.read_id.Goals as goal
 
 pub returns-in_err-digits-clause-none : goal.returns-in_err-digits-clause-none
@@ -14,4 +14,4 @@ returns-clause-some c =
 pub returns-clause-none : goal.returns-clause-none
 returns-clause-none c = λ none n fits is.
     let cut = strip_prefix_char c.args.letter c.args.text.now (Some c.in_ok-digits.digits) c.in_ok-digits.ensures.cases c.requires in
-    c.decimal_number.ensures.none none n fits (behind c.args.letter n c.args.text.now c.in_ok-digits.digits.now cut is)
+    c.decimal_number.ensures.none none n fits (digits_of c.args.letter n c.args.text.now c.in_ok-digits.digits.now cut is)

@@ -1,8 +1,9 @@
 use Rattle.std.proofs.Common.{arith, ◌≡◌, ◌++◌, ◌∷◌, ℕ, List, length, Some, None, sym, ap, ◌∙◌}
 use Rattle.std.proofs.lemmas.Str.Pattern.{split_parts}
 use Rattle.jmap_methods.specs.State.{hex_text}
+use Rattle.jmap_methods.specs.declared.state.State.{State}
 use Rattle.jmap_methods.proofs.HexReading.{length-hex}
-use Rattle.jmap_methods.proofs.StateParts.{has_dash, parts_of}
+use Rattle.jmap_methods.proofs.StateParts.{has_dash, parts_of, one_state}
 use Rattle.jmap_methods.proofs.state.read_state.Goals as goal
 
 pub returns-in_err-epoch-clause-none : goal.returns-in_err-epoch-clause-none
@@ -37,3 +38,8 @@ returns-clause-some c =
     sym c.as_bytes.ensures.value ∙ c.in_ok-hex_number.ensures.some.1 ∙ ap (λ (k : ℕ). hex_text k c.in_ok-hex_number.field-0) long in
     cut.0 ∙ ap (λ (e : List ℕ). e ++ 45 ∷ c.in_ok-epoch.place.now) epoch_is
     ∙ ap (λ (p : List ℕ). hex_text 16 c.in_ok-hex_number.field-0 ++ 45 ∷ p) c.in_ok-decimal_number.ensures.some
+
+pub returns-clause-one : goal.returns-clause-one
+returns-clause-one c = λ of epoch_fits place_fits is.
+    let read : State = record { epoch = c.in_ok-hex_number.field-0; place = c.in_ok-decimal_number.field-0 } in
+    one_state of read epoch_fits (omega arith) place_fits (omega arith) (sym is ∙ returns-clause-some c)

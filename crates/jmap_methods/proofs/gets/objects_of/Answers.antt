@@ -1,0 +1,19 @@
+use Rattle.std.proofs.Common.{ℕ, Option, nat_cmp}
+use Rattle.std.specs.BTreeMap.{is_at}
+use Rattle.std.specs.Map.{lookup}
+use Rattle.serde_json.specs.Data.{Data}
+use Rattle.jmap_methods.proofs.GetLemmas.{none_listed, one_listed}
+use Rattle.jmap_methods.proofs.gets.objects_of.Goals as goal
+use Rattle.jmap_methods.proofs.gets.objects_of.Goals.{in-None, in-Some+in_ok-push-in-Some}
+
+pub loop-number-preserved : goal.loop-number-preserved
+loop-number-preserved g c =
+    let found : ℕ → Option Data = λ n. lookup (is_at (nat_cmp n)) (g.T.Objects.objects c.args.objects.now) in
+    let numbers = c.args.numbers.now in
+    let i = c.loop-number.number-index in
+    let before = c.loop-number.list.items in
+    elim c.match-branch-3.branch [
+      | in-None w ↦ rw w.list-is (none_listed found numbers i c.loop-number-test.true before c.in_ok-object.field-0 w.in-None.is c.in_ok-object.ensures c.loop-number.invariant)
+      | in-Some+in_ok-push-in-Some w ↦ rw w.list-is (one_listed found numbers i c.loop-number-test.true before w.push.new.self.items c.in_ok-object.field-0 w.in-Some.object
+          w.in-Some.is w.in_ok-push-in-Some.ensures.items c.in_ok-object.ensures c.loop-number.invariant)
+    ]
