@@ -1,9 +1,10 @@
 -- Calls, one after another.
-use Rattle.std.proofs.Common.{◌≡◌, ◌≢◌, ◌||◌, ◌++◌, ◌+◌, ℕ, Bool, List, [], ◌∷◌, map, take, refl, sym, ◌∙◌, ap, subst, inl, inr, Result, Ok, Err}
-use Rattle.std.specs.Prelude.{IfOk}
+use Rattle.std.proofs.Common.{rules, ◌≡◌, ◌||◌, ◌++◌, Bool, List, [], ◌∷◌, map, refl, sym, ◌∙◌, ap, subst, inl, inr, Result, Ok, Err}
+use Rattle.std.specs.Prelude.{All, IfOk}
 use Rattle.std.specs.List.{list_any}
 use Rattle.std.specs.declared.alloc.AllocError.{AllocError}
 use Rattle.std.proofs.lemmas.List.{map-append}
+use Rattle.std.proofs.lemmas.List.Elements.{All-append}
 use Rattle.serde_json.specs.declared.value.Value.{Value}
 use Rattle.serde_json.specs.Data.{Data}
 use Rattle.serde_json.specs.View.{view}
@@ -15,13 +16,14 @@ use Rattle.jmap_methods.specs.declared.method_error.MethodError.{MethodError}
 use Rattle.jmap_methods.specs.declared.method_error.MethodError.TheVariants.{Memory}
 use Rattle.jmap_core.specs.References.{resolved_arguments}
 use Rattle.jmap_core.specs.Request.{CallData, call_data}
+use Rattle.jmap_core.specs.Response.{IsWhole}
 use Rattle.jmap_core.specs.declared.call.Call.{Call}
 use Rattle.gate_machine.specs.Holding.{HoldsMachine}
 use Rattle.gate_machine.specs.Machine.{MachineState}
 use Rattle.gate_machine.specs.declared.machine.Machine.{Machine}
 use Rattle.gate_calls.specs.Mailings.{Mailing, mail_told}
 use Rattle.gate_calls.specs.Methods.{RepliesAtOnce}
-use Rattle.gate_calls.specs.Calls.{AnswersCall, NoMethod, Unresolved, Resolved, NextCall, AnswersCalls, MoreCalls, answered_call}
+use Rattle.gate_calls.specs.Calls.{AnswersCall, Unresolved, Resolved, AnswersCalls, NoCalls, MoreCalls}
 use Rattle.gate_calls.specs.reading.Responding.{IsResponseTo, RespondsTo}
 use Rattle.gate_calls.proofs.Meaning.{meets_more}
 
@@ -62,6 +64,12 @@ all_respond uses told kept earlier call came (Ok r) meets is = λ m held. respon
 all_respond uses told kept earlier call came (Err e) meets is = tt
 
 -- ---- calls
+
+pub none_yet : (uses : Using) (mail : Mailing) (responses : List Call) → responses ≡ [] → AnswersCalls uses mail [] (map call_data responses)
+none_yet uses mail responses none = subst (λ (rs : List Call). AnswersCalls uses mail [] (map call_data rs)) (sym none) NoCalls
+
+pub all_more : (rs now : List Call) (r : Call) → now ≡ rs ++ r ∷ [] → All IsWhole rs → IsWhole r → All IsWhole now
+all_more rs now r is whole one = subst (λ (l : List Call). All IsWhole l) (sym is) (All-append IsWhole rs (r ∷ []) whole (search rules))
 
 next_call : (uses : Using) (mail : Mailing) (calls responses : List CallData) (call response : CallData) → AnswersCalls uses mail calls responses
     → RespondsTo uses mail responses call response → AnswersCalls uses mail (calls ++ call ∷ []) (responses ++ response ∷ [])

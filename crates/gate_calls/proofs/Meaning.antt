@@ -15,7 +15,7 @@ use Rattle.gate_machine.specs.Holding.{AreBothReady, HoldsMachine}
 use Rattle.gate_machine.specs.Kept.{KeptMail}
 use Rattle.gate_machine.specs.Machine.{MachineState}
 use Rattle.gate_machine.specs.declared.machine.Machine.{Machine}
-use Rattle.gate_calls.specs.Mailings.{Mailing, history_of}
+use Rattle.gate_calls.specs.Mailings.{Mailing, history_of, mail_told}
 use Rattle.gate_calls.specs.Methods.{RepliesAtOnce, unless_refused}
 
 -- what is meant may be more
@@ -30,6 +30,11 @@ pub agrees_meets : (due : Result Data MethodError) (result : Result Value Method
 agrees_meets due (Ok value) is = sym is
 agrees_meets due (Err e) (inl out) = inl out
 agrees_meets due (Err e) (inr is) = inr (sym is)
+
+-- a reply of the method that was asked
+pub replies_by : (m asked : Method) (mail : Mailing) (d : Data) (result : Result Value MethodError) → asked ≡ m → Meets Memory view result (RepliesAtOnce m mail d)
+    → Meets Memory view result (RepliesAtOnce asked mail d)
+replies_by m asked mail d result is meets = subst (λ (k : Method). Meets Memory view result (RepliesAtOnce k mail d)) (sym is) meets
 
 -- the error, where the arguments aren't refused
 pub not_refused : (due : Result (Unit {0}) MethodError) (u : Unit {0}) (e : MethodError) → Agrees Memory (λ (x : Unit {0}). x) (Ok u) due
@@ -65,6 +70,12 @@ pub reply_unready : (method : Method) (d : Data) (result : Result Value MethodEr
 reply_unready method d result m kept held is meets =
     let told = told_unready m.known (subst (λ (o : Option KeptMail). AreBothReady m.known o) is held.ready) in
     subst (λ (mail : Mailing). Meets Memory view result (RepliesAtOnce method mail d)) (sym told) meets
+
+-- a reply over the mail where it was told, or where it wasn't
+pub replies_told : (method : Method) (d : Data) (result : Result Value MethodError) (known : Option KnownMail) (told is : Result (Unit {0}) MethodError) → told ≡ is
+    → Meets Memory view result (RepliesAtOnce method (mail_told is known) d) → Meets Memory view result (RepliesAtOnce method (mail_told told known) d)
+replies_told method d result known told is same meets =
+    subst (λ (t : Result (Unit {0}) MethodError). Meets Memory view result (RepliesAtOnce method (mail_told t known) d)) (sym same) meets
 
 -- whether there is mail, by whether the code's machine is ready
 pub told_is : (o : Option KnownMail) (kept : Option KeptMail) → AreBothReady o kept → is_ok (history_of o) ≡ is_some kept

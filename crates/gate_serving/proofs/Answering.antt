@@ -1,6 +1,7 @@
 -- One client is answered, part by part.
-use Rattle.std.proofs.Common.{arith, ◌≡◌, ◌≢◌, ◌⊎◌, ◌++◌, ◌∷◌, ◌≤◌, ◌+◌, ℕ, Bool, true, false, List, [], Option, Some, None, Result, Ok, Err, refl, sym, ◌∙◌, ap, subst, inl, inr}
+use Rattle.std.proofs.Common.{arith, ◌≡◌, ◌≢◌, ◌⊎◌, ◌++◌, ◌∷◌, ◌≤◌, ◌+◌, ℕ, Bool, true, false, List, [], Option, Some, None, MatchOption, Bor, Result, Ok, Err, refl, sym, ◌∙◌, ap, subst, inl, inr}
 use Rattle.std.specs.Prelude.{IfOk, OnErr}
+use Rattle.std.specs.Option.{option_copied}
 use Rattle.std.specs.declared.alloc.AllocError.{AllocError}
 use Rattle.std.proofs.lemmas.List.{append-nil}
 use Rattle.gate_world.specs.Causes.{Faults, Hidden, RoseBy, Rose, FrontAlone, NoFault, Later, no_faults}
@@ -141,6 +142,11 @@ works_visited {how = how} asks result asks_is v meant memory =
     }
 
 -- ---- the answer
+
+-- what is found of what there is
+pub found_is : (r : Option (Bor (List ℕ))) (o : Option (List ℕ)) → MatchOption r (o ≡ None) (λ x. o ≡ Some x.now) → option_copied r ≡ o
+found_is None o is = sym is
+found_is (Some x) o is = sym is
 
 -- the response that has this text is one to what is asked, whatever the mail is
 pub is_response : (door : Door) (account : Hidden → Account) (told : Result (Unit {0}) MethodError) (kept : Machine) (uploads : List (List ℕ)) (asking : Asking)

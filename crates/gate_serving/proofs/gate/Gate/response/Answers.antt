@@ -1,4 +1,4 @@
-use Rattle.std.proofs.Common.{refl, ap, sym, ◌∙◌, Option, Bool, List, ℕ}
+use Rattle.std.proofs.Common.{◌≡◌, refl, ap, sym, ◌∙◌, List, ℕ, Ok}
 use Rattle.std.specs.Option.{option_copied}
 use Rattle.serde_json.specs.Written.{compact_text}
 use Rattle.blob_store.specs.Uploads.{upload_with}
@@ -9,7 +9,7 @@ use Rattle.jmap_core.specs.Session.{session_data}
 use Rattle.gate_serving.specs.Answers.{blob_answer, empty_answer, json_answer, problem_answer, upload_data}
 use Rattle.gate_serving.specs.Requests.{Problem, Session, Upload, Download, Refused}
 use Rattle.gate_serving.specs.reading.Askings.{asking_data}
-use Rattle.gate_serving.proofs.Answering.{made_for, made_for_calls}
+use Rattle.gate_serving.proofs.Answering.{found_is, made_for, made_for_calls}
 use Rattle.gate_serving.proofs.gate.Gate.response.Goals as goal
 
 pub returns-in-Calls-clause-made : goal.returns-in-Calls-clause-made
@@ -29,20 +29,22 @@ returns-in-Session-clause-made c =
     (json_answer 200 (compact_text (session_data c.args.self.now.user c.args.self.now.base))) c.session_response.result (ap asking_data c.in-Session.is) (λ s m held. refl)
     c.session_response.ensures
 
-pub returns-in-Upload-clause-made : goal.returns-in-Upload-clause-made
-returns-in-Upload-clause-made c =
+pub returns-in-Some-clause-made : goal.returns-in-Some-clause-made
+returns-in-Some-clause-made c =
     made_for c.args.self.now c.args.told.now (Upload c.in-Upload.upload.media c.in-Upload.upload.octets) (asking_data c.args.asking.now)
     (json_answer 201 (compact_text (upload_data c.in-Upload.upload.media c.in-Upload.upload.octets))) c.upload_response.result (ap asking_data c.in-Upload.is) (λ s m held. refl)
     c.upload_response.ensures
 
 pub returns-in-Download-clause-made : goal.returns-in-Download-clause-made
 returns-in-Download-clause-made c =
-    let found : Option (List ℕ) = option_copied c.get-found.result in
-    let media : Option (List ℕ) = option_copied c.media_of.result in
-    made_for c.args.self.now c.args.told.now (Download c.in-Download.blob c.in-Download.media) (asking_data c.args.asking.now) (blob_answer c.is_told-told.result found media)
-    c.blob_response.result (ap asking_data c.in-Download.is)
-    (λ s m held. (λ i. blob_answer (sym (c.is_told-told.ensures m held) i) (c.get-found.ensures i) (c.media_of.ensures i)))
-    c.blob_response.ensures
+    let uploads : List (List ℕ) = c.args.self.now.uploads in
+    let found : option_copied c.get-found.result ≡ upload_with c.in-Download.blob uploads =
+    found_is c.get-found.result _ c.get-found.ensures ∙ ap (λ (id : List ℕ). upload_with id uploads) c.as_slice.ensures in
+    made_for c.args.self.now c.args.told.now (Download c.in-Download.blob c.in-Download.media) (asking_data c.args.asking.now)
+    (blob_answer c.is_told-told.result (option_copied c.get-found.result) (option_copied c.media_of.result)) c.blob_response.result (ap asking_data c.in-Download.is)
+    (λ s m held. (λ i. blob_answer (sym (c.is_told-told.ensures m held) i) (found i) (c.media_of.ensures i))) c.blob_response.ensures
 
 pub returns-in-Refused-clause-made : goal.returns-in-Refused-clause-made
-returns-in-Refused-clause-made c = λ s m held. record { answer = empty_answer (refusal_status c.in-Refused.refusal); is_answer = refl; text_is = c.empty.ensures }
+returns-in-Refused-clause-made c =
+    made_for c.args.self.now c.args.told.now (Refused c.in-Refused.refusal) (asking_data c.args.asking.now) (empty_answer (refusal_status c.in-Refused.refusal))
+    (Ok c.empty.result) (ap asking_data c.in-Refused.is) (λ s m held. refl) c.empty.ensures
