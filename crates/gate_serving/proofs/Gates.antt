@@ -1,11 +1,8 @@
--- What stays of a gate, and what it holds.
-use Rattle.std.proofs.Common.{◌≡◌, refl, ◌∙◌, ap, subst}
+-- What stays of a gate.
+use Rattle.std.proofs.Common.{◌≡◌, refl, ◌∙◌}
 use Rattle.gate_world.specs.Causes.{Hidden}
-use Rattle.gate_machine.specs.Holding.{HoldsMachine}
-use Rattle.gate_machine.specs.declared.machine.Machine.{Machine}
 use Rattle.gate_serving.specs.declared.gate.Gate.{Gate}
-use Rattle.gate_serving.specs.Gates.{RestStays, GateHolds, account_by}
-use Rattle.gate_serving.specs.GateState.{GateState}
+use Rattle.gate_serving.specs.Gates.{RestStays, account_by}
 
 -- where a gate stays, all of it but the machine and the uploads stays
 pub rest_none : (gate : Gate) → RestStays gate gate

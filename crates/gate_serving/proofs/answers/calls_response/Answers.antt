@@ -1,4 +1,4 @@
-use Rattle.std.proofs.Common.{◌∙◌, ap, map, List}
+use Rattle.std.proofs.Common.{ap, map, List}
 use Rattle.jmap_core.specs.Request.{call_data, request_data}
 use Rattle.jmap_core.specs.declared.call.Call.{Call}
 use Rattle.gate_serving.proofs.Answering.{answers_request}

@@ -1,4 +1,4 @@
-use Rattle.std.proofs.Common.{◌≡◌, ◌∙◌, List, ℕ, Option, map, refl}
+use Rattle.std.proofs.Common.{◌≡◌, ◌∙◌, List, ℕ, Option, map}
 use Rattle.std.specs.Prelude.{string_bytes}
 use Rattle.serde_json.specs.Written.{compact_text}
 use Rattle.jmap_core.specs.CreatedIds.{Ids}
