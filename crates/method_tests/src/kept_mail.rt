@@ -1,5 +1,5 @@
 // Methods over mail that is told, step by step.
-use crate::dialogues::{Asked, exchange};
+use told_dialogues::{Asked, exchange};
 use crate::texts::shown;
 use mail_state::MailState;
 use read_methods::{email_changes, mailbox_changes, mailbox_get, thread_changes, thread_get};

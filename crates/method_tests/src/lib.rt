@@ -19,8 +19,6 @@ mod texts;
 
 // Methods over mail that is told.
 #[cfg(test)]
-mod dialogues;
-#[cfg(test)]
 mod kept_mail;
 #[cfg(test)]
 mod limits;

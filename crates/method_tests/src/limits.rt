@@ -1,5 +1,5 @@
 // As many objects as may be asked, one more, and as many changes as are kept.
-use crate::dialogues::{Asked, exchange};
+use told_dialogues::{Asked, exchange};
 use crate::kept_mail::{INBOX, SEEN, UNSEEN, VALIDITY, answer};
 use mail_state::MailState;
 use std::alloc::Global;

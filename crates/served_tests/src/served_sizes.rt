@@ -21,16 +21,16 @@ fn many(rt: &impl Abort, alloc: Global, count: u32) -> Vec<Response> {
 }
 
 #[test]
-fn a_thread_has_two_thousand_emails(rt: HostRuntime) {
+fn a_thread_has_fifty_thousand_emails(rt: HostRuntime) {
     let alloc = rt.alloc();
     let mut mirror = inbox(&rt, alloc);
-    let messages = many(&rt, alloc, 2000);
+    let messages = many(&rt, alloc, 50_000);
     tell(&rt, alloc, &mut mirror, fetch_new(), b"INBOX", messages);
     let state = follow(&rt, first(&rt, alloc), &mirror);
-    assert_eq!(rt; state.thread(1).map_or(0, |emails| emails.len()), 2000);
+    assert_eq!(rt; state.thread(1).map_or(0, |emails| emails.len()), 50_000);
     tell_gone(&rt, alloc, &mut mirror, b"INBOX", 1);
     let state = follow(&rt, state, &mirror);
-    assert_eq!(rt; state.thread(1).map_or(0, |emails| emails.len()), 1999);
+    assert_eq!(rt; state.thread(1).map_or(0, |emails| emails.len()), 49_999);
 }
 
 /// `a`, `a/a`, `a/a/a` and so on, told from the longest on.

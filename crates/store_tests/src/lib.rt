@@ -3,8 +3,6 @@
 
 // Exchanges and mail.
 #[cfg(test)]
-mod dialogues;
-#[cfg(test)]
 mod playing;
 #[cfg(test)]
 mod showing;

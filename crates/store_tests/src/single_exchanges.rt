@@ -1,5 +1,5 @@
 // One exchange after another by a client.
-use crate::dialogues::{Asked, command_of};
+use told_dialogues::{Asked, command_of};
 use crate::playing::taken;
 use crate::rounds::CONNECTED;
 use imap_client::Client;

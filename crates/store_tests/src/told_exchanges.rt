@@ -1,5 +1,5 @@
 // What each exchange tells, one after the other.
-use crate::dialogues::{Asked, exchange};
+use told_dialogues::{Asked, exchange};
 use crate::showing::shown;
 use std::alloc::Global;
 use std::process::Abort;

@@ -1,5 +1,5 @@
 // Many messages, and headers that are cut.
-use crate::dialogues::{Asked, exchange};
+use told_dialogues::{Asked, exchange};
 use std::alloc::Global;
 use std::process::Abort;
 use told_mail::Mirror;
