@@ -1,7 +1,7 @@
 // Clients that came and are not handed on yet.
 ghost use Rattle.std.specs.Prelude.{◌≡◌, ◌≢◌, ◌<◌, ◌↔◌, ℕ, [], ◌∷◌, true, false, All, length, slice_index_or, IsTrue, IfOk, OnOk, IfSome, IfNone};
 ghost use Rattle.client_front.specs.reading.Waiting as spec;
-ghost use Rattle.client_front.specs.reading.Waiting.{Admits, Expires, HasSent, IsTaken, IsAsked, MakesRoom, Releases};
+ghost use Rattle.client_front.specs.reading.Waiting.{Admits, Expires, FindsRoom, HasSent, IsTaken, IsAsked, MakesRoom, Releases};
 ghost use Rattle.client_front.specs.declared.waiting.Idle.{Idle};
 
 use crate::sockets::{ClientStream, First};
@@ -148,12 +148,23 @@ impl<S: ClientStream> Waiting<S> {
         Ok(false)
     }
 
+    /// Whether there is room for one more client, where room is made for it if there is none.
+    fn find_room(&mut self) -> Result<bool, AllocError>
+        ensures { IfOk result (λ found. FindsRoom S.shows self.old.idle.items self.old.asking.items found self.new.idle.items self.new.asking.items) }
+    {
+        if self.is_full() {
+            self.make_room()
+        } else {
+            Ok(true)
+        }
+    }
+
     /// Holds one more client. Where as many are held as may be, the oldest idle one that has sent no octet is closed, and where
     /// there is none the new one is.
     pub(crate) fn admit(&mut self, client: Idle<S>) -> Result<(), AllocError>
         ensures { OnOk result (Admits S.shows client self.old.idle.items self.old.asking.items self.new.idle.items self.new.asking.items) }
     {
-        if self.is_full() && !self.make_room()? {
+        if !self.find_room()? {
             return Ok(());
         }
         self.idle.push_back(client)?;

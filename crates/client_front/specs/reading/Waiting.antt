@@ -89,16 +89,19 @@ ClosesFirst shows false idle left = (idle ≡ []) × (left ≡ [])
 abbrev pub MakesRoom : {S : Type 0} → (S → First → Type 0) → List (Idle S) → List S → Bool → List (Idle S) → List S → Type 0
 MakesRoom {S} shows idle asking closed left asks = (rest : List (Idle S)) × AskersLeave shows idle asking rest asks × ClosesFirst shows closed rest left
 
--- the new client is held where one was closed for it
+-- whether there is room for one more client: it is made where there is none
+abbrev pub FindsRoom : {S : Type 0} → (S → First → Type 0) → List (Idle S) → List S → Bool → List (Idle S) → List S → Type 0
+FindsRoom shows idle asking found left asks =
+    ((is_full idle asking ≡ false) × (found ≡ true) × (left ≡ idle) × (asks ≡ asking)) ⊎ ((is_full idle asking ≡ true) × MakesRoom shows idle asking found left asks)
+
 abbrev pub held_if : {I : Type 0} → Bool → I → List I → List I
 held_if true client idle = idle ++ client ∷ []
 held_if false client idle = idle
 
--- One more client is held, where there is room; else room is made for it, and it is closed itself where none can be made.
+-- one more client is held, or is closed itself where there is no room for it
 abbrev pub Admits : {S : Type 0} → (S → First → Type 0) → Idle S → List (Idle S) → List S → List (Idle S) → List S → Type 0
 Admits {S} shows client idle asking left asks =
-    ((is_full idle asking ≡ false) × (left ≡ idle ++ client ∷ []) × (asks ≡ asking))
-    ⊎ ((is_full idle asking ≡ true) × ((closed : Bool) × (kept : List (Idle S)) × MakesRoom shows idle asking closed kept asks × (left ≡ held_if closed client kept)))
+    (found : Bool) × (kept : List (Idle S)) × FindsRoom shows idle asking found kept asks × (left ≡ held_if found client kept)
 
 -- the first client with the key has sent nothing yet
 abbrev pub IsSilent : {S : Type 0} → (S → First → Type 0) → ℕ → List (Idle S) → Type 0
