@@ -1,2 +1,2 @@
-pub mod Late
+pub mod Released
 pub mod Taken

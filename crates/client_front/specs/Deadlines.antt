@@ -1,18 +1,22 @@
 -- When what a client owes is due, in milliseconds of the monotonic clock; a sum ends at 2^64 - 1.
-use Rattle.std.specs.Prelude.{◌+◌, ◌-◌, ◌/◌, ◌^◌, ℕ, min, Option, None, Some}
+use Rattle.std.specs.Prelude.{◌+◌, ◌-◌, ◌/◌, ◌^◌, ℕ, min}
 use Rattle.client_front.specs.declared.pace.Pace.{Pace}
 use Rattle.client_front.specs.declared.pace.TheConstants.{MIN_OCTETS_PER_MILLISECOND, PATIENCE_MILLISECONDS}
 use Rattle.client_front.specs.declared.progress.Stage.{Stage}
 use Rattle.client_front.specs.declared.progress.Stage.TheVariants.{Blank, Body}
 use Rattle.client_front.specs.declared.progress.Progress.{Progress}
 use Rattle.client_front.specs.declared.progress.TheConstants.{HEAD_MILLISECONDS}
+use Rattle.client_front.specs.declared.taking.Taking.{Taking}
 
 abbrev pub capped : ℕ → ℕ
 capped n = min n (2 ^ 64 - 1)
 
--- `PATIENCE_MILLISECONDS`, and a millisecond for each `MIN_OCTETS_PER_MILLISECOND` that have come
+-- how long octets may take, by how many there were: `PATIENCE_MILLISECONDS`, and a millisecond for each `MIN_OCTETS_PER_MILLISECOND`
+abbrev pub patience : ℕ → ℕ
+patience octets = capped (PATIENCE_MILLISECONDS + octets / MIN_OCTETS_PER_MILLISECOND)
+
 abbrev pub pace_due : Pace → ℕ
-pace_due pace = capped (capped (pace.since + PATIENCE_MILLISECONDS) + pace.octets / MIN_OCTETS_PER_MILLISECOND)
+pace_due pace = capped (pace.since + patience pace.octets)
 
 abbrev pub with_octets : ℕ → Pace → Pace
 with_octets count pace = record pace { octets = capped (pace.octets + count) }
@@ -29,7 +33,10 @@ due progress = due_at progress.stage progress.pace
 abbrev pub begun : ℕ → Progress
 begun now = record { stage = Blank; pace = record { since = now; octets = 0 } }
 
--- the pace of a response, which begins with its first octet
-abbrev pub pace_at : ℕ → Option Pace → Pace
-pace_at now None = record { since = now; octets = 0 }
-pace_at now (Some pace) = pace
+-- a client that was sent nothing yet
+abbrev pub untaken : Taking
+untaken = record { waited = 0; octets = 0 }
+
+-- it took octets, for which it was waited for between these moments: what passes between two sends doesn't count
+abbrev pub taken_more : ℕ → ℕ → ℕ → Taking → Taking
+taken_more count since now taking = record { waited = capped (taking.waited + (now - since)); octets = capped (taking.octets + count) }

@@ -1,6 +1,6 @@
 -- Which clients are handed on.
 use Rattle.std.specs.Prelude.{◌≡◌, ◌+◌, ◌<◌, ℕ, List, length, IsTrue, Option, None, Some}
-use Rattle.client_front.specs.Deadlines.{begun, due, pace_at, pace_due, with_octets}
+use Rattle.client_front.specs.Deadlines.{begun, due, patience, taken_more, untaken}
 use Rattle.client_front.specs.FirstOctet.{can_begin}
 use Rattle.client_front.specs.HeadEnd.{noted}
 use Rattle.client_front.specs.declared.serving.Serving.{Serving}
@@ -17,7 +17,7 @@ pub record Handed {S : Type 0} (shows : S → First → Type 0) (reads : Option 
   pub now : ℕ
   pub is_now : reads (Some now)
   pub begins : serving.progress ≡ begun now
-  pub unsent : serving.sent ≡ None
+  pub unsent : serving.taking ≡ untaken
 
 -- a client is served, and has this
 abbrev pub IfServed : {S : Type 0} → (Serving S → Type 0) → Option (Serving S) → Type 0
@@ -38,17 +38,19 @@ pub record ReceivesInTime {S : Type 0} (receives : S → ℕ → Option (List �
   pub is_later : reads (Some later)
   pub notes : new.progress ≡ noted octets later old.progress
 
--- The response was not late when its next octets were given, no longer than until they were due; these were taken, and they are
--- noted.
+-- The client was not late when it was given octets, and it was waited for no longer than it may be in all; these were taken, and they
+-- are noted with the time that it was waited for them.
 pub record SendsInTime {S : Type 0} (sends : S → ℕ → Option (List ℕ) → Type 0) (reads : Option ℕ → Type 0) (octets : List ℕ)
     (old new : Serving S) : Type 0 where
+  pub limit : ℕ
+  pub is_left : old.taking.waited + limit ≡ patience old.taking.octets
+  pub some_left : 0 < limit
+  pub since : ℕ
+  pub is_since : reads (Some since)
+  pub taken : sends old.stream limit (Some octets)
   pub now : ℕ
   pub is_now : reads (Some now)
-  pub limit : ℕ
-  pub is_left : now + limit ≡ pace_due (pace_at now old.sent)
-  pub some_left : 0 < limit
-  pub taken : sends old.stream limit (Some octets)
-  pub notes : new.sent ≡ Some (with_octets (length octets) (pace_at now old.sent))
+  pub notes : new.taking ≡ taken_more (length octets) since now old.taking
 
 -- there is one before and one after, and this relates the two
 abbrev pub BothSo : {A : Type 0} → (A → A → Type 0) → Option A → Option A → Type 0

@@ -6,12 +6,16 @@ use crate::clock::Ticks;
 use crate::first_octet::can_begin;
 use crate::lingering::Lingering;
 use crate::serving::Serving;
-use crate::sockets::{ClientListener, ClientStream, First};
+use crate::sockets::{ClientListener, ClientStream, First, Next};
 use crate::waiting::{Idle, MAX_HELD_CLIENTS, Waiting};
 use std::alloc::Global;
 
 /// How many milliseconds a wait for clients takes at most: then idle ones that are late are closed.
 const LOOK_AGAIN_MILLISECONDS: u64 = 1_000;
+
+/// How many idle clients are closed where one can't be accepted: so many descriptors are free then, for the next clients and
+/// for what the process opens to serve them.
+const SPARED_CLIENTS: usize = 16;
 
 /// How many keys one wait gives at most; further ones come with the next.
 const WAIT_KEYS: usize = 64;
@@ -86,7 +90,7 @@ impl<L: ClientListener + Drop, C: Ticks + Drop> ClientFront<L, C> {
     /// Closes clients that are late, holds those that have come, and notes those that have sent something.
     fn look(&mut self) -> Option<()> {
         let now = self.now()?;
-        self.waiting.expire(now);
+        let _ = self.waiting.expire(now);
         self.lingering.close_due(now);
         let mut room = [0u64; WAIT_KEYS];
         let count = self.wait(&mut room)?;
@@ -114,20 +118,39 @@ impl<L: ClientListener + Drop, C: Ticks + Drop> ClientFront<L, C> {
         }
     }
 
-    /// Holds the clients that have come.
+    /// Holds the clients that have come. Where one can't be accepted, idle ones are closed, and the next wait comes before the
+    /// others.
     fn admit_all(&mut self, now: u64) {
         for _ in 0..MAX_HELD_CLIENTS {
-            let key = self.next_key;
-            let Some(stream) = self.listener.next_client(key) else {
+            match self.listener.next_client(self.next_key) {
+                Next::Client(stream) => self.hold(stream, now),
+                Next::Nobody => return,
+                Next::Refused => {
+                    self.spare();
+                    return;
+                }
+            }
+        }
+    }
+
+    /// Holds a client that is watched under the next key.
+    fn hold(&mut self, stream: L::Stream, now: u64) {
+        let key = self.next_key;
+        self.next_key = key.wrapping_add(1);
+        let client = Idle {
+            key,
+            since: now,
+            stream,
+        };
+        let _ = self.waiting.admit(client);
+    }
+
+    /// Closes some of the oldest idle clients.
+    fn spare(&mut self) {
+        for _ in 0..SPARED_CLIENTS {
+            let Ok(true) = self.waiting.make_room() else {
                 return;
             };
-            self.next_key = key.wrapping_add(1);
-            let client = Idle {
-                key,
-                since: now,
-                stream,
-            };
-            let _ = self.waiting.admit(client);
         }
     }
 

@@ -20,6 +20,7 @@ mod lingering;
 mod pace;
 mod progress;
 mod serving;
+mod taking;
 
 // All of them.
 mod front;
@@ -30,7 +31,7 @@ pub use lingering::MAX_LINGERING_CLIENTS;
 pub use pace::{MIN_OCTETS_PER_MILLISECOND, PATIENCE_MILLISECONDS};
 pub use progress::HEAD_MILLISECONDS;
 pub use serving::{DRAIN_MILLISECONDS, MAX_DRAIN_OCTETS};
-pub use sockets::{ClientListener, ClientStream, First};
+pub use sockets::{ClientListener, ClientStream, First, Next};
 pub use streams::{read_once, write_once};
 pub use toolchain::{TcpClient, TcpClients};
 pub use waiting::{IDLE_MILLISECONDS, MAX_HELD_CLIENTS};

@@ -22,10 +22,7 @@ impl Pace {
     pub(crate) fn due(&self) -> u64
         ensures { result ≡ spec.pace_due self.now }
     {
-        let earned = self.octets / MIN_OCTETS_PER_MILLISECOND;
-        self.since
-            .saturating_add(PATIENCE_MILLISECONDS)
-            .saturating_add(earned)
+        self.since.saturating_add(patience(self.octets))
     }
 
     /// Octets more.
@@ -34,6 +31,13 @@ impl Pace {
     {
         self.octets = self.octets.saturating_add(count as u64);
     }
+}
+
+/// How many milliseconds octets may take, by how many there were.
+pub(crate) fn patience(octets: u64) -> u64
+    ensures { result ≡ spec.patience octets }
+{
+    PATIENCE_MILLISECONDS.saturating_add(octets / MIN_OCTETS_PER_MILLISECOND)
 }
 
 /// How many milliseconds are left until then; none where the moment has come.

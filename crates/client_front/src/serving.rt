@@ -1,15 +1,15 @@
 // The client that is served.
-ghost use Rattle.std.specs.Prelude.{◌≡◌, ◌<◌, ◌≤◌, length, take, None, IfSome};
-ghost use Rattle.client_front.specs.Deadlines as spec;
-ghost use Rattle.client_front.specs.Deadlines.{begun};
+ghost use Rattle.std.specs.Prelude.{◌≡◌, ◌<◌, ◌≤◌, length, take, IfSome};
+ghost use Rattle.client_front.specs.Deadlines.{begun, untaken};
 ghost use Rattle.client_front.specs.Handing.{ReceivesInTime, SendsInTime};
 ghost use Rattle.client_front.specs.reading.Lingering.{IsDue};
 
 use crate::clock::Ticks;
 use crate::lingering::Finished;
-use crate::pace::{Pace, left};
+use crate::pace::left;
 use crate::progress::Progress;
 use crate::sockets::ClientStream;
+use crate::taking::Taking;
 
 /// How many octets are read and dropped at most after the last of the response.
 pub const MAX_DRAIN_OCTETS: usize = 1_048_576;
@@ -20,23 +20,23 @@ pub const DRAIN_MILLISECONDS: u64 = 2_000;
 /// How many octets one read of that asks for.
 const DRAIN_PIECE_OCTETS: usize = 8_192;
 
-/// A client that is served: its stream, how far its request has come, and how its response goes.
+/// A client that is served: its stream, how far its request has come, and how it takes what it is sent.
 #[derive(Drop)]
 pub(crate) struct Serving<S: ClientStream> {
     pub(crate) stream: S,
     pub(crate) progress: Progress,
-    pub(crate) sent: Option<Pace>,
+    pub(crate) taking: Taking,
 }
 
 impl<S: ClientStream> Serving<S> {
     /// A client that is handed on now.
     pub(crate) fn new(stream: S, now: u64) -> Serving<S>
-        ensures { result ≡ record { stream = stream; progress = begun now; sent = None } }
+        ensures { result ≡ record { stream = stream; progress = begun now; taking = untaken } }
     {
         Serving {
             stream,
             progress: Progress::new(now),
-            sent: None,
+            taking: Taking::new(),
         }
     }
 
@@ -52,18 +52,15 @@ impl<S: ClientStream> Serving<S> {
         Some(count)
     }
 
-    /// Gives the client octets of the response, while it is not late in taking them.
+    /// Gives the client octets, while it is not late in taking them.
     pub(crate) fn send<C: Ticks>(&mut self, clock: &C, from: &[u8]) -> Option<usize>
         ensures bound { IfSome result (λ n. (0 < n) × (n ≤ length from.now)) }
         ensures in_time { IfSome result (λ n. SendsInTime S.sends (C.reads clock.now) (take n from.now) self.old self.new) }
     {
-        let now = clock.milliseconds()?;
-        let mut pace = pace_at(self.sent, now);
-        let limit = left(pace.due(), now)?;
+        let limit = self.taking.limit()?;
+        let since = clock.milliseconds()?;
         let count = self.stream.send(from, limit)?;
-        let (octets, _) = from.split_at(count);
-        pace.add(octets.len());
-        self.sent = Some(pace);
+        self.taking.add(count, since, clock.milliseconds()?);
         Some(count)
     }
 
@@ -82,19 +79,6 @@ impl<S: ClientStream> Serving<S> {
             due,
             stream: self.stream,
         })
-    }
-}
-
-/// The pace of a response, which begins with its first octet.
-fn pace_at(sent: Option<Pace>, now: u64) -> Pace
-    ensures { result ≡ spec.pace_at now sent }
-{
-    match sent {
-        Some(pace) => pace,
-        None => Pace {
-            since: now,
-            octets: 0,
-        },
     }
 }
 

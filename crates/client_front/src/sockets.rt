@@ -44,13 +44,24 @@ pub trait ClientStream: Drop {
     fn end_writing(&mut self);
 }
 
+/// What comes of asking a listener for a client.
+#[derive(Drop)]
+pub enum Next<S: Drop> {
+    /// This one has come.
+    Client(S),
+    /// None has come.
+    Nobody,
+    /// One may have come that can't be accepted, as where the process has no descriptor left for it.
+    Refused,
+}
+
 /// A listener, which watches the clients that it has accepted.
 pub trait ClientListener {
     /// A client that was accepted, to receive from and to send to.
     type Stream: ClientStream;
 
-    /// The next client that has come, watched from now on under the key. None where none has come. It does not wait.
-    fn next_client(&mut self, key: u64) -> Option<Self::Stream>;
+    /// The next client that has come, watched from now on under the key. It does not wait.
+    fn next_client(&mut self, key: u64) -> Next<Self::Stream>;
 
     /// Waits until a client comes, or one that is watched has sent something or ended, at most that many milliseconds. It
     /// puts the keys of the latter at the front of the room: how many. None where the listener failed.

@@ -2,7 +2,7 @@
 ghost use Rattle.std.specs.Prelude.{◌<◌, ◌≤◌, length, take, IfSome};
 ghost use Rattle.std.specs.Io.KnownBytes.{Appends, Consumes};
 
-use crate::sockets::{ClientListener, ClientStream, First};
+use crate::sockets::{ClientListener, ClientStream, First, Next};
 use crate::streams::{read_once, write_once};
 use mio::unix::SourceFd;
 use mio::{Events, Interest, Poll, Token};
@@ -15,7 +15,7 @@ use std::time::Duration;
 /// How many events one wait gives at most.
 const MAX_EVENTS: usize = 64;
 
-/// How many clients that can't be accepted are passed over for the next that can, in one call.
+/// How many clients that can't be accepted are passed over for the next that can, in one call; after as many it refuses.
 const MAX_FAILED_CLIENTS: usize = 64;
 
 /// What the listener itself is watched under.
@@ -144,19 +144,19 @@ impl TcpClients {
 impl ClientListener for TcpClients {
     type Stream = TcpClient;
 
-    fn next_client(&mut self, key: u64) -> Option<TcpClient> {
+    fn next_client(&mut self, key: u64) -> Next<TcpClient> {
         for _ in 0..MAX_FAILED_CLIENTS {
             match self.listener.accept() {
                 Ok((stream, _)) => {
                     if let Some(client) = self.watched(stream, key) {
-                        return Some(client);
+                        return Next::Client(client);
                     }
                 }
-                Err(error) if error.kind() == ErrorKind::WouldBlock => return None,
+                Err(error) if error.kind() == ErrorKind::WouldBlock => return Next::Nobody,
                 Err(_) => {}
             }
         }
-        None
+        Next::Refused
     }
 
     fn wait(&mut self, limit: u64, room: &mut [u64]) -> Option<usize> {

@@ -1,7 +1,7 @@
 // Clients that came and are not handed on yet.
-ghost use Rattle.std.specs.Prelude.{◌≡◌, ◌≢◌, ◌<◌, ◌↔◌, ℕ, [], ◌∷◌, All, length, slice_index_or, IsTrue, IfOk, OnOk, IfSome, IfNone};
+ghost use Rattle.std.specs.Prelude.{◌≡◌, ◌≢◌, ◌<◌, ◌↔◌, ℕ, [], ◌∷◌, true, false, All, length, slice_index_or, IsTrue, IfOk, OnOk, IfSome, IfNone};
 ghost use Rattle.client_front.specs.reading.Waiting as spec;
-ghost use Rattle.client_front.specs.reading.Waiting.{HasSent, IsTaken, IsAsked};
+ghost use Rattle.client_front.specs.reading.Waiting.{Admits, Expires, FindsRoom, HasSent, IsTaken, IsAsked, MakesRoom, Releases};
 ghost use Rattle.client_front.specs.declared.waiting.Idle.{Idle};
 
 use crate::sockets::{ClientStream, First};
@@ -62,19 +62,6 @@ impl<S: Drop> Waiting<S> {
         idle >= MAX_HELD_CLIENTS || asking >= MAX_HELD_CLIENTS - idle
     }
 
-    /// Holds one more client. Where as many are held as may be, the oldest idle one is closed, and where there is none the
-    /// new one is.
-    pub(crate) fn admit(&mut self, client: Idle<S>) -> Result<(), AllocError>
-        ensures idle { IfOk result (λ _. self.new.idle.items ≡ spec.admitted client self.old.idle.items self.old.asking.items) }
-        ensures asking { self.new.asking ≡ self.old.asking }
-    {
-        if self.is_full() && self.idle.pop_front().is_none() {
-            return Ok(());
-        }
-        self.idle.push_back(client)?;
-        Ok(())
-    }
-
     /// Whether the idle client that came first is late.
     fn is_first_late(&self, now: u64) -> bool
         ensures { result ≡ spec.is_first_late now self.now.idle.items }
@@ -85,16 +72,16 @@ impl<S: Drop> Waiting<S> {
         }
     }
 
-    /// Closes the idle clients before the first whose time is not up.
-    pub(crate) fn expire(&mut self, now: u64)
-        ensures idle { self.new.idle.items ≡ spec.unexpired now self.old.idle.items }
+    /// The idle client that came first, where it is late; it is held no longer.
+    fn next_late(&mut self, now: u64) -> Option<Idle<S>>
+        ensures some { IfSome result (λ client. (self.old.idle.items ≡ client ∷ self.new.idle.items) × (spec.has_expired now client.since ≡ true)) }
+        ensures none { IfNone result ((self.new.idle.items ≡ self.old.idle.items) × (spec.is_first_late now self.old.idle.items ≡ false)) }
         ensures asking { self.new.asking ≡ self.old.asking }
     {
-        for turn in 0..self.idle.len() {
-            if !self.is_first_late(now) {
-                return;
-            }
-            let _ = self.idle.pop_front();
+        if self.is_first_late(now) {
+            self.idle.pop_front()
+        } else {
+            None
         }
     }
 
@@ -135,6 +122,65 @@ impl<S: Drop> Waiting<S> {
 }
 
 impl<S: ClientStream> Waiting<S> {
+    /// A client that was idle: it asks where it has sent an octet, and is closed where it has sent none. Whether it is closed.
+    fn release(&mut self, client: Idle<S>) -> Result<bool, AllocError>
+        ensures idle { self.new.idle ≡ self.old.idle }
+        ensures released { IfOk result (λ closed. Releases S.shows client.stream closed self.old.asking.items self.new.asking.items) }
+    {
+        match client.stream.first() {
+            First::Octet(_) => {
+                self.asking.push_back(stream_of(client))?;
+                Ok(false)
+            }
+            First::Ended | First::Nothing => Ok(true),
+        }
+    }
+
+    /// Closes the oldest idle client that has sent no octet; those before it ask. Whether there is one.
+    pub(crate) fn make_room(&mut self) -> Result<bool, AllocError>
+        ensures { IfOk result (λ closed. MakesRoom S.shows self.old.idle.items self.old.asking.items closed self.new.idle.items self.new.asking.items) }
+    {
+        'oldest: while let Some(client) = self.idle.pop_front() {
+            if self.release(client)? {
+                return Ok(true);
+            }
+        }
+        Ok(false)
+    }
+
+    /// Whether there is room for one more client, where room is made for it if there is none.
+    fn find_room(&mut self) -> Result<bool, AllocError>
+        ensures { IfOk result (λ found. FindsRoom S.shows self.old.idle.items self.old.asking.items found self.new.idle.items self.new.asking.items) }
+    {
+        if self.is_full() {
+            self.make_room()
+        } else {
+            Ok(true)
+        }
+    }
+
+    /// Holds one more client. Where as many are held as may be, the oldest idle one that has sent no octet is closed, and where
+    /// there is none the new one is.
+    pub(crate) fn admit(&mut self, client: Idle<S>) -> Result<(), AllocError>
+        ensures { OnOk result (Admits S.shows client self.old.idle.items self.old.asking.items self.new.idle.items self.new.asking.items) }
+    {
+        if !self.find_room()? {
+            return Ok(());
+        }
+        self.idle.push_back(client)?;
+        Ok(())
+    }
+
+    /// Closes the idle clients before the first whose time is not up; those of them that have sent an octet ask.
+    pub(crate) fn expire(&mut self, now: u64) -> Result<(), AllocError>
+        ensures { OnOk result (Expires S.shows now self.old.idle.items self.old.asking.items self.new.idle.items self.new.asking.items) }
+    {
+        'late: while let Some(client) = self.next_late(now) {
+            self.release(client)?;
+        }
+        Ok(())
+    }
+
     /// Whether the idle client there has sent something, or ended.
     fn has_sent(&self, at: usize) -> bool
         requires { at < length self.now.idle.items }

@@ -1,5 +1,5 @@
-// A request that comes too slowly.
-use client_front::{ClientFront, ClientListener, ClientStream, First, Ticks};
+// A request that comes too slowly, and what is sent to a client that takes it too slowly.
+use client_front::{ClientFront, ClientListener, ClientStream, First, Next, Ticks};
 use std::alloc::Global;
 use std::cell::Cell;
 use std::process::Abort;
@@ -65,8 +65,11 @@ struct OneClient {
 impl ClientListener for OneClient {
     type Stream = Dripping;
 
-    fn next_client(&mut self, _key: u64) -> Option<Dripping> {
-        self.client.take()
+    fn next_client(&mut self, _key: u64) -> Next<Dripping> {
+        match self.client.take() {
+            Some(client) => Next::Client(client),
+            None => Next::Nobody,
+        }
     }
 
     fn wait(&mut self, _limit: u64, room: &mut [u64]) -> Option<usize> {
@@ -115,4 +118,24 @@ fn a_request_of_one_octet_a_turn_is_late(rt: HostRuntime) {
         assert!(rt; front.accept().is_some());
         assert_eq!(rt; octets_in_time(&mut front), row.1, "{:?}", row.0);
     }
+}
+
+/// How many octets the client takes in time, one a second, 1000 at most.
+fn octets_taken(front: &mut Front) -> usize {
+    for count in 0..1000 {
+        if front.send(b"200").is_none() {
+            return count;
+        }
+    }
+    1000
+}
+
+/// The time between two sends is the gateway's own: what is sent before the request's end, as `100 Continue`, begins no deadline.
+#[test]
+fn a_client_is_late_by_the_time_that_it_is_waited_for(rt: HostRuntime) {
+    let mut front = front_of(rt.alloc(), b"G\n\n");
+    assert!(rt; front.accept().is_some());
+    assert_eq!(rt; front.send(b"100"), Some(1));
+    assert_eq!(rt; octets_in_time(&mut front), 33);
+    assert_eq!(rt; octets_taken(&mut front), 60);
 }

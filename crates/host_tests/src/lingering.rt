@@ -1,5 +1,5 @@
 // A client that still sends after its response.
-use client_front::{ClientFront, ClientListener, ClientStream, First, Ticks};
+use client_front::{ClientFront, ClientListener, ClientStream, First, Next, Ticks};
 use std::cell::Cell;
 use std::process::Abort;
 use std::rc::{Rc, Weak};
@@ -65,8 +65,11 @@ struct OneClient {
 impl ClientListener for OneClient {
     type Stream = Sending;
 
-    fn next_client(&mut self, _key: u64) -> Option<Sending> {
-        self.client.take()
+    fn next_client(&mut self, _key: u64) -> Next<Sending> {
+        match self.client.take() {
+            Some(client) => Next::Client(client),
+            None => Next::Nobody,
+        }
     }
 
     fn wait(&mut self, _limit: u64, room: &mut [u64]) -> Option<usize> {

@@ -352,3 +352,91 @@ fn clients_one_after_another(rt: HostRuntime) {
         expect_served(&rt, rt.alloc(), row);
     }
 }
+
+/// The octets of an upload in two parts: more than three fills of a buffer.
+const LARGE_PARTS: (usize, usize) = (150_000, 50_000);
+
+/// What stands before a large upload, by length and in chunks, between its chunks and behind them; and what it is answered.
+const UPLOADS_LARGE: &[u8] =
+    b"POST /jmap/upload/a1 HTTP/1.1\r\nContent-Length: 200000\r\nAuthorization: Bearer secret\r\n\r\n";
+
+const UPLOADS_CHUNKS: &[u8] =
+    b"POST /jmap/upload/a1 HTTP/1.1\r\nTransfer-Encoding: chunked\r\nAuthorization: Bearer secret\r\n\r\n249f0\r\n";
+
+const NEXT_CHUNK: &[u8] = b"\r\nc350\r\n";
+
+const CHUNKS_END: &[u8] = b"\r\n0\r\n\r\n";
+
+const UPLOADED_LARGE: &[u8] =
+    b"Content-Length: 143\r\nContent-Type: application/json\r\n\r\n{\"accountId\":\"a1\",\"blobId\":\"u91e3faafd322bcdf160f3f0ce886acb092b9b9e2a1e8526b40f21a8898a8700b\",\"size\":200000,\"type\":\"application/octet-stream\"}";
+
+const DOWNLOADS_LARGE: &[u8] =
+    b"GET /jmap/download/a1/u91e3faafd322bcdf160f3f0ce886acb092b9b9e2a1e8526b40f21a8898a8700b/x HTTP/1.1\r\nAuthorization: Bearer secret\r\n\r\n";
+
+const DOWNLOADED_LARGE: &[u8] =
+    b"Content-Length: 200000\r\nContent-Type: application/octet-stream\r\n\r\n";
+
+/// A request with a large text, what stands behind the text, and what it is answered.
+const ECHOES_LARGE: &[u8] =
+    b"POST /jmap/api HTTP/1.1\r\nContent-Length: 200083\r\nAuthorization: Bearer secret\r\n\r\n{\"using\":[\"urn:ietf:params:jmap:core\"],\"methodCalls\":[[\"Core/echo\",{\"a\":\"";
+
+const ECHOES_END: &[u8] = b"\"},\"c1\"]]}";
+
+const ECHOED_LARGE: &[u8] =
+    b"Content-Length: 200098\r\nContent-Type: application/json\r\n\r\n{\"methodResponses\":[[\"Core/echo\",{\"a\":\"";
+
+const ECHOED_END: &[u8] = b"\"},\"c1\"]],\"sessionState\":\"1;5;alice;http://127.0.0.1:8080\"}";
+
+/// As many calls as a request may have, and what they are answered.
+const SIXTEEN_CALLS: &[u8] =
+    b"POST /jmap/api HTTP/1.1\r\nContent-Length: 414\r\nAuthorization: Bearer secret\r\n\r\n{\"using\":[\"urn:ietf:params:jmap:core\"],\"methodCalls\":[[\"Core/echo\",{},\"c1\"],[\"Core/echo\",{},\"c2\"],[\"Core/echo\",{},\"c3\"],[\"Core/echo\",{},\"c4\"],[\"Core/echo\",{},\"c5\"],[\"Core/echo\",{},\"c6\"],[\"Core/echo\",{},\"c7\"],[\"Core/echo\",{},\"c8\"],[\"Core/echo\",{},\"c9\"],[\"Core/echo\",{},\"c10\"],[\"Core/echo\",{},\"c11\"],[\"Core/echo\",{},\"c12\"],[\"Core/echo\",{},\"c13\"],[\"Core/echo\",{},\"c14\"],[\"Core/echo\",{},\"c15\"],[\"Core/echo\",{},\"c16\"]]}";
+
+const SIXTEEN_ANSWERS: &[u8] =
+    b"Content-Length: 429\r\nContent-Type: application/json\r\n\r\n{\"methodResponses\":[[\"Core/echo\",{},\"c1\"],[\"Core/echo\",{},\"c2\"],[\"Core/echo\",{},\"c3\"],[\"Core/echo\",{},\"c4\"],[\"Core/echo\",{},\"c5\"],[\"Core/echo\",{},\"c6\"],[\"Core/echo\",{},\"c7\"],[\"Core/echo\",{},\"c8\"],[\"Core/echo\",{},\"c9\"],[\"Core/echo\",{},\"c10\"],[\"Core/echo\",{},\"c11\"],[\"Core/echo\",{},\"c12\"],[\"Core/echo\",{},\"c13\"],[\"Core/echo\",{},\"c14\"],[\"Core/echo\",{},\"c15\"],[\"Core/echo\",{},\"c16\"]],\"sessionState\":\"1;5;alice;http://127.0.0.1:8080\"}";
+
+const CREATED: &[u8] = b"HTTP/1.1 201 Created\r\n";
+
+/// What is served of clients with large bodies, of which the octets stand in two parts.
+fn expect_large(rt: &impl Abort, alloc: Global, first: &[u8], second: &[u8]) {
+    let clients: [&[&[u8]]; 5] = [
+        &[UPLOADS_LARGE, first, second],
+        &[DOWNLOADS_LARGE],
+        &[UPLOADS_CHUNKS, first, NEXT_CHUNK, second, CHUNKS_END],
+        &[ECHOES_LARGE, first, second, ECHOES_END],
+        &[SIXTEEN_CALLS],
+    ];
+    let script = scripted(rt, alloc, &[EMPTY_INBOX], &clients, b"secret");
+    let seen = follow(rt, alloc, SERVE, script);
+    let took: [&[u8]; 20] = [
+        CREATED,
+        FIXED,
+        UPLOADED_LARGE,
+        OK,
+        FIXED,
+        DOWNLOADED_LARGE,
+        first,
+        second,
+        CREATED,
+        FIXED,
+        UPLOADED_LARGE,
+        OK,
+        FIXED,
+        ECHOED_LARGE,
+        first,
+        second,
+        ECHOED_END,
+        OK,
+        FIXED,
+        SIXTEEN_ANSWERS,
+    ];
+    assert!(rt; seen.status == 0 && seen.dials == 1);
+    expect_parts(rt, alloc, &seen.client_took, &took);
+}
+
+/// Bodies by length and in chunks, a download and a response that are larger than any buffer.
+#[test]
+fn large_bodies_are_served(rt: HostRuntime) {
+    let first = vec![in rt.alloc(); b'x'; LARGE_PARTS.0].expect(&rt, "out of memory");
+    let second = vec![in rt.alloc(); b'x'; LARGE_PARTS.1].expect(&rt, "out of memory");
+    expect_large(&rt, rt.alloc(), &first, &second);
+}

@@ -1,4 +1,4 @@
-//! Tests of the outside in memory: worlds that follow a script, and texts that are sent and written.
+//! Tests of the outside in memory: worlds that follow a script, texts that are sent and written, and octets that came.
 #![tactic(auto)]
 
 #[cfg(test)]
@@ -11,3 +11,5 @@ mod sending;
 mod steady_worlds;
 #[cfg(test)]
 mod telling;
+#[cfg(test)]
+mod unread;

@@ -1,0 +1,43 @@
+// How a client takes what it is sent.
+ghost use Rattle.std.specs.Prelude.{◌≡◌, ◌<◌, ◌≤◌, ◌+◌, ◌-◌, IfSome, IfNone};
+ghost use Rattle.client_front.specs.Deadlines as spec;
+
+use crate::pace::{left, patience};
+
+/// For how long a client was waited for as it was given octets, and how many it took. The time between two sends is the
+/// gateway's own, and doesn't count.
+#[derive(Clone, Copy, Debug, PartialEq, Eq)]
+pub(crate) struct Taking {
+    /// Milliseconds in all.
+    pub(crate) waited: u64,
+    /// How many octets in all.
+    pub(crate) octets: u64,
+}
+
+impl Taking {
+    /// Nothing was sent yet.
+    pub(crate) fn new() -> Taking
+        ensures { result ≡ spec.untaken }
+    {
+        Taking {
+            waited: 0,
+            octets: 0,
+        }
+    }
+
+    /// For how many milliseconds more the client may be waited for; none where it is late.
+    pub(crate) fn limit(&self) -> Option<u64>
+        ensures some { IfSome result (λ limit. (0 < limit) × (self.now.waited + limit ≡ spec.patience self.now.octets)) }
+        ensures none { IfNone result (spec.patience self.now.octets ≤ self.now.waited) }
+    {
+        left(patience(self.octets), self.waited)
+    }
+
+    /// Octets more, for which the client was waited for between these moments.
+    pub(crate) fn add(&mut self, count: usize, since: u64, now: u64)
+        ensures { self.new ≡ spec.taken_more count since now self.old }
+    {
+        self.waited = self.waited.saturating_add(now.saturating_sub(since));
+        self.octets = self.octets.saturating_add(count as u64);
+    }
+}
