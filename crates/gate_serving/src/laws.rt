@@ -3,15 +3,15 @@ ghost use Rattle.std.specs.Prelude.{◌≡◌, ◌⊎◌, List, [], false};
 ghost use Rattle.gate_world.specs.Causes.{Faults, no_faults};
 ghost use Rattle.gate_world.specs.declared.event.Event.{Event};
 ghost use Rattle.gate_machine.specs.Progress.{Bears, Progress};
-ghost use Rattle.gate_machine.specs.Going.{KeepsHistory};
 ghost use Rattle.gate_machine.specs.Machine.{MachineState};
 ghost use Rattle.gate_machine.specs.declared.standing.Standing.TheVariants.{OutOfMemory};
 ghost use Rattle.gate_calls.specs.Mailings.{Mailing};
 ghost use Rattle.gate_serving.specs.Complete.{CompletesRun, IsAnsweredFrom, IsSegmentObeyed, IsTold, IsWorkObeyed};
+ghost use Rattle.gate_serving.specs.Histories.{KeepsHistories};
 ghost use Rattle.gate_serving.specs.declared.door.Door.{Door};
 ghost use Rattle.gate_serving.specs.GateState.{GateState};
 ghost use Rattle.gate_serving.specs.Requests.{Account, Asking, asks_for_mail};
-ghost use Rattle.gate_serving.specs.Run.{Run, Stood};
+ghost use Rattle.gate_serving.specs.Run.{Stood};
 ghost use Rattle.gate_serving.specs.Segment.{Segment, blamed};
 ghost use Rattle.gate_serving.specs.Work.{Work};
 ghost use Rattle.gate_serving.specs.declared.served.Served.{Served};
@@ -56,11 +56,10 @@ pub fn obeyed_runs_are_told()
     obeyed_clients_are_told();
 }
 
-/// Where a run draws no epoch, the history that is served goes on from client to client: it never has other mail at a place that
-/// a client was told of.
+/// From each client of a run to each later one the history that is served goes on, or the epoch that there is then was drawn meanwhile:
+/// no client is answered over other mail at a place that an earlier one was told of.
 pub fn histories_go_on()
-    ensures { (door : Door) (account : Account) (before after : GateState) (events : List Event) (went : List Served)
-        → Run door account before events went after → KeepsHistory before.machine events after.machine }
+    ensures { (door : Door) (account : Account) (events : List Event) → KeepsHistories door account events }
 {
     requests_keep_history();
 }
