@@ -15,12 +15,12 @@ IsTaskKept (ServedOnce place a serves) = Unit {0}
 IsTaskKept (ShownOne a b) = Unit {0}
 IsTaskKept (Explained page a b) = Unit {0}
 
-abbrev pub AreKept : {words : List (List ℕ)} {secrets : Hidden} {status : ℕ} {blames : Faults} {events : List Event}
+abbrev pub IsProgramKept : {words : List (List ℕ)} {secrets : Hidden} {status : ℕ} {blames : Faults} {events : List Event}
     → Runs words secrets status blames events → Type 0
-AreKept (Refused a b c d) = Unit {0}
-AreKept (OutOfMemory a b c) = Unit {0}
-AreKept (Done task a ran) = IsTaskKept ran
+IsProgramKept (Refused a b c d) = Unit {0}
+IsProgramKept (OutOfMemory a b c) = Unit {0}
+IsProgramKept (Done task a ran) = IsTaskKept ran
 
 -- Each run of the program over these events is so.
 abbrev pub KeepsServing : List (List ℕ) → Hidden → ℕ → List Event → Type 0
-KeepsServing words secrets status events = (blames : Faults) (runs : Runs words secrets status blames events) → AreKept runs
+KeepsServing words secrets status events = (blames : Faults) (runs : Runs words secrets status blames events) → IsProgramKept runs
