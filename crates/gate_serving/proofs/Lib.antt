@@ -7,4 +7,5 @@ mod Ids
 mod Running
 mod Needs
 mod Going
+mod OneResponse
 pub mod Told

@@ -1,11 +1,12 @@
 // What the definitions rule out.
-ghost use Rattle.std.specs.Prelude.{◌≡◌, ◌⊎◌, List, [], false};
+ghost use Rattle.std.specs.Prelude.{◌≡◌, ◌⊎◌, ℕ, List, [], false};
 ghost use Rattle.gate_world.specs.Causes.{Faults, no_faults};
 ghost use Rattle.gate_world.specs.declared.event.Event.{Event};
 ghost use Rattle.gate_machine.specs.Progress.{Bears, Progress};
 ghost use Rattle.gate_machine.specs.Machine.{MachineState};
 ghost use Rattle.gate_machine.specs.declared.standing.Standing.TheVariants.{OutOfMemory};
-ghost use Rattle.gate_calls.specs.Mailings.{Mailing};
+ghost use Rattle.gate_calls.specs.Mailings.{HasPlaces, Mailing};
+ghost use Rattle.gate_serving.specs.Answers.{IsResponse};
 ghost use Rattle.gate_serving.specs.Complete.{CompletesRun, IsAnsweredFrom, IsSegmentObeyed, IsTold, IsWorkObeyed};
 ghost use Rattle.gate_serving.specs.Histories.{KeepsHistories};
 ghost use Rattle.gate_serving.specs.declared.door.Door.{Door};
@@ -16,6 +17,7 @@ ghost use Rattle.gate_serving.specs.Segment.{Segment, blamed};
 ghost use Rattle.gate_serving.specs.Work.{Work};
 ghost use Rattle.gate_serving.specs.declared.served.Served.{Served};
 
+use gate_calls::one_list_of_responses;
 use gate_machine::{obeyed_rounds_stand, requests_keep_history};
 
 /// Where no count rose, nothing is blamed.
@@ -62,4 +64,12 @@ pub fn histories_go_on()
     ensures { (door : Door) (account : Account) (events : List Event) → KeepsHistories door account events }
 {
     requests_keep_history();
+}
+
+/// Over some mail and uploads, what is asked has one response at a door.
+pub fn one_response()
+    ensures { (door : Door) (account : Account) (mail : Mailing) (uploads : List (List ℕ)) (asking : Asking) (a b : List ℕ)
+        → HasPlaces mail → IsResponse door account mail uploads asking a → IsResponse door account mail uploads asking b → a ≡ b }
+{
+    one_list_of_responses();
 }
