@@ -1,5 +1,5 @@
 -- Each module after those that it uses: Beginning has a request's whole way to the mail, Obeying the octets by which the store obeys it, Going what stays
--- of a history.
+-- of a history, Sources what is known comes of.
 pub mod History
 pub mod Machine
 pub mod Kept
@@ -8,3 +8,4 @@ pub mod Progress
 pub mod Beginning
 pub mod Obeying
 pub mod Going
+pub mod Sources

@@ -1,13 +1,14 @@
-// What a request is owed, and what it leaves of the history.
+// What a request is owed, what it leaves of the history, and what that comes of.
 ghost use Rattle.std.specs.Prelude.{◌≡◌, ◌⊎◌, ℕ, List};
 ghost use Rattle.gate_world.specs.Causes.{no_faults};
 ghost use Rattle.gate_world.specs.declared.event.Event.{Event};
 ghost use Rattle.gate_machine.specs.Beginning.{PreparesMail};
 ghost use Rattle.mail_state.specs.History.{MailHistory};
 ghost use Rattle.gate_machine.specs.Going.{HasGoneOn, KeepsMaps, KeepsTouches, MachineGoesOn};
-ghost use Rattle.gate_machine.specs.Machine.{MachineState};
+ghost use Rattle.gate_machine.specs.Machine.{MachineState, opened};
 ghost use Rattle.gate_machine.specs.Obeying.{IsObeyedBeginning, IsServed};
 ghost use Rattle.gate_machine.specs.Progress.{Progress};
+ghost use Rattle.gate_machine.specs.Sources.{KnowsExchanges};
 ghost use Rattle.gate_machine.specs.declared.standing.Standing.TheVariants.{OutOfMemory};
 
 use imap_client::obeyed_plans_end_ok;
@@ -31,4 +32,12 @@ pub fn requests_keep_history()
 pub fn touches_stay()
     ensures touches { (h after : MailHistory) → HasGoneOn h after → KeepsTouches h after }
     ensures maps { (h after : MailHistory) → HasGoneOn h after → KeepsMaps h after }
+{}
+
+/// What a machine knows comes of exchanges: once it is opened, and after each request. So what mail_state says of histories of what
+/// exchanges told is said of the history that is served.
+pub fn machines_know_what_was_told()
+    ensures first { (epoch : ℕ) → KnowsExchanges (opened epoch) }
+    ensures next { (user password : List ℕ) (before : MachineState) (events : List Event) (after : Progress)
+        → PreparesMail user password before events after → KnowsExchanges before → KnowsExchanges after.machine }
 {}
