@@ -18,7 +18,8 @@ use Rattle.gate_machine.specs.History.{KnownMail, known_mail}
 use Rattle.gate_machine.specs.Machine.{MachineState, hearing, opened}
 use Rattle.gate_machine.specs.Progress.{Progress, idle, machine_by}
 use Rattle.gate_machine.specs.Beginning.{Readies, Ready, Restart, LacksRoom, RunsRound, Settles, Same, Moves, Spends, Lacks, AsksThen, Dials, PreparesMail}
-use Rattle.gate_machine.specs.Going.{HasGoneOn, Still, On, Extends, KeepsTouches, HasPlacesOf, KeepsMaps, MachineGoesOn}
+use Rattle.gate_machine.specs.Going.{HasGoneOn, Still, On, MachineGoesOn}
+use Rattle.gate_machine.specs.Staying.{Extends, KeepsTouches, HasPlacesOf, KeepsMaps}
 
 -- ---- what stays
 

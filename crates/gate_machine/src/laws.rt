@@ -4,11 +4,12 @@ ghost use Rattle.gate_world.specs.Causes.{no_faults};
 ghost use Rattle.gate_world.specs.declared.event.Event.{Event};
 ghost use Rattle.gate_machine.specs.Beginning.{PreparesMail};
 ghost use Rattle.mail_state.specs.History.{MailHistory};
-ghost use Rattle.gate_machine.specs.Going.{HasGoneOn, KeepsMaps, KeepsTouches, MachineGoesOn};
+ghost use Rattle.gate_machine.specs.Going.{HasGoneOn, MachineGoesOn};
 ghost use Rattle.gate_machine.specs.Machine.{MachineState, opened};
 ghost use Rattle.gate_machine.specs.Obeying.{IsObeyedBeginning, IsServed};
 ghost use Rattle.gate_machine.specs.Progress.{Progress};
 ghost use Rattle.gate_machine.specs.Sources.{KnowsExchanges};
+ghost use Rattle.gate_machine.specs.Staying.{KeepsMaps, KeepsTouches};
 ghost use Rattle.gate_machine.specs.declared.standing.Standing.TheVariants.{OutOfMemory};
 
 use imap_client::obeyed_plans_end_ok;
