@@ -15,7 +15,8 @@ use Rattle.jmap_methods.specs.declared.method.Using.{Using}
 use Rattle.jmap_methods.specs.declared.method_error.MethodError.{MethodError}
 use Rattle.jmap_core.specs.Request.{CallData}
 use Rattle.read_methods.specs.Changes.{AnswersChanges, Further, no_further, updated_properties}
-use Rattle.gate_calls.specs.Mailings.{Mailing, HasPlaces}
+use Rattle.gate_calls.specs.Mailings.{Mailing}
+use Rattle.gate_calls.specs.Places.{HasPlaces}
 use Rattle.gate_calls.specs.Methods.{RepliesAtOnce}
 use Rattle.gate_calls.specs.Calls.{AnswersCall, NoMethod, Unresolved, Resolved, answered_call, NextCall, AnswersCalls, NoCalls, MoreCalls}
 

@@ -2,7 +2,7 @@
 use Rattle.std.specs.Prelude.{Option, Some, None, Result, Ok, Err}
 use Rattle.jmap_methods.specs.declared.method_error.MethodError.{MethodError}
 use Rattle.jmap_methods.specs.declared.method_error.MethodError.TheVariants.{ServerUnavailable, ServerFail}
-use Rattle.mail_state.specs.History.{MailHistory, HasRoom}
+use Rattle.mail_state.specs.History.{MailHistory}
 use Rattle.gate_machine.specs.History.{KnownMail}
 use Rattle.gate_machine.specs.declared.standing.Fall.{Fall}
 use Rattle.gate_machine.specs.declared.standing.Fall.TheVariants.{Linked, Spent}
@@ -32,8 +32,3 @@ mailing_by standing.OutOfMemory known = Err ServerUnavailable
 abbrev pub mail_told : Result (Unit {0}) MethodError → Option KnownMail → Mailing
 mail_told (Ok _) known = history_of known
 mail_told (Err e) known = Err e
-
--- no place of the mail has passed the last one
-abbrev pub HasPlaces : Mailing → Type 0
-HasPlaces (Ok h) = HasRoom h
-HasPlaces (Err e) = Unit {0}

@@ -3,7 +3,8 @@ ghost use Rattle.std.specs.Prelude.{◌≡◌, List};
 ghost use Rattle.jmap_methods.specs.declared.method.Using.{Using};
 ghost use Rattle.jmap_core.specs.Request.{CallData};
 ghost use Rattle.gate_calls.specs.Calls.{AnswersCalls};
-ghost use Rattle.gate_calls.specs.Mailings.{HasPlaces, Mailing};
+ghost use Rattle.gate_calls.specs.Mailings.{Mailing};
+ghost use Rattle.gate_calls.specs.Places.{HasPlaces};
 
 use read_methods::laws::one_changes_answer;
 

@@ -3,4 +3,4 @@ mod Owed
 mod Unequal
 mod Keeping
 pub mod Going
-mod Sources
+pub mod Sources

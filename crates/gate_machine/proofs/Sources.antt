@@ -30,10 +30,10 @@ knows_this : (m : MachineState) (j : KnownMail) → m.known ≡ Some j → IsOfE
 knows_this m j is of = λ k there. subst (λ (l : KnownMail). IsOfExchanges l) (one_known j k (sym is ∙ there)) of
 
 -- nothing is
-knows_nothing : (m : MachineState) → m.known ≡ None → KnowsExchanges m
+pub knows_nothing : (m : MachineState) → m.known ≡ None → KnowsExchanges m
 knows_nothing m none = λ k there. absurd (none_known k (sym there ∙ none))
 
-knows_same : (m n : MachineState) → n ≡ m → KnowsExchanges m → KnowsExchanges n
+pub knows_same : (m n : MachineState) → n ≡ m → KnowsExchanges m → KnowsExchanges n
 knows_same m n is knows = subst (λ (l : MachineState). KnowsExchanges l) (sym is) knows
 
 nothing_passed : 0 ≤ MAX_PLACE

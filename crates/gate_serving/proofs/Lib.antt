@@ -8,4 +8,5 @@ mod Running
 mod Needs
 mod Going
 mod OneResponse
+mod Knowing
 pub mod Told

@@ -3,7 +3,8 @@ use Rattle.std.proofs.Common.{◌≡◌, ℕ, List, sym, ap, ◌∙◌}
 use Rattle.jmap_methods.specs.declared.method.Using.{Using}
 use Rattle.jmap_core.specs.Request.{CallData}
 use Rattle.gate_calls.specs.Calls.{AnswersCalls}
-use Rattle.gate_calls.specs.Mailings.{Mailing, HasPlaces}
+use Rattle.gate_calls.specs.Mailings.{Mailing}
+use Rattle.gate_calls.specs.Places.{HasPlaces}
 use Rattle.gate_serving.specs.declared.door.Door.{Door}
 use Rattle.gate_serving.specs.Answers.{Answer, IsAnswer, IsResponse, calls_text, json_answer, spelled}
 use Rattle.gate_serving.specs.Requests.{Account, Asking, Calls, Problem, Session, Upload, Download, Refused}
