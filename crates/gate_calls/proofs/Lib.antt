@@ -1,2 +1,3 @@
 mod Meaning
 mod Calling
+pub mod OneAnswer

@@ -8,6 +8,10 @@ mod methods;
 mod calls;
 mod needs;
 
+// Laws.
+mod laws;
+
 pub use calls::responses_to;
+pub use laws::one_list_of_responses;
 pub use methods::{Told, is_told};
 pub use needs::needs_mail;

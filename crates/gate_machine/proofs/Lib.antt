@@ -3,3 +3,4 @@ mod Owed
 mod Unequal
 mod Keeping
 pub mod Going
+pub mod Sources

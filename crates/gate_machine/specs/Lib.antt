@@ -1,5 +1,5 @@
--- Each module after those that it uses: Beginning has a request's whole way to the mail, Obeying the octets by which the store obeys it, Going what stays
--- of a history.
+-- Each module after those that it uses: Beginning has a request's whole way to the mail, Obeying the octets by which the store obeys it, Going that the
+-- history goes on, Staying what stays of it then, Sources what it comes of.
 pub mod History
 pub mod Machine
 pub mod Kept
@@ -8,3 +8,5 @@ pub mod Progress
 pub mod Beginning
 pub mod Obeying
 pub mod Going
+pub mod Staying
+pub mod Sources

@@ -1,13 +1,15 @@
-// What a request is owed, and what it leaves of the history.
+// What a request is owed, what it leaves of the history, and what that comes of.
 ghost use Rattle.std.specs.Prelude.{◌≡◌, ◌⊎◌, ℕ, List};
 ghost use Rattle.gate_world.specs.Causes.{no_faults};
 ghost use Rattle.gate_world.specs.declared.event.Event.{Event};
 ghost use Rattle.gate_machine.specs.Beginning.{PreparesMail};
 ghost use Rattle.mail_state.specs.History.{MailHistory};
-ghost use Rattle.gate_machine.specs.Going.{HasGoneOn, KeepsHistory, KeepsTouches};
-ghost use Rattle.gate_machine.specs.Machine.{MachineState};
+ghost use Rattle.gate_machine.specs.Going.{HasGoneOn, MachineGoesOn};
+ghost use Rattle.gate_machine.specs.Machine.{MachineState, opened};
 ghost use Rattle.gate_machine.specs.Obeying.{IsObeyedBeginning, IsServed};
 ghost use Rattle.gate_machine.specs.Progress.{Progress};
+ghost use Rattle.gate_machine.specs.Sources.{KnowsExchanges};
+ghost use Rattle.gate_machine.specs.Staying.{KeepsMaps, KeepsTouches};
 ghost use Rattle.gate_machine.specs.declared.standing.Standing.TheVariants.{OutOfMemory};
 
 use imap_client::obeyed_plans_end_ok;
@@ -21,13 +23,22 @@ pub fn obeyed_rounds_stand()
     obeyed_plans_end_ok();
 }
 
-/// Where a request draws no epoch, the history that is served goes on.
+/// Over a request the history that is served goes on, or the epoch that there is after it was drawn in it.
 pub fn requests_keep_history()
     ensures { (user password : List ℕ) (before : MachineState) (events : List Event) (after : Progress)
-        → PreparesMail user password before events after → KeepsHistory before events after.machine }
+        → PreparesMail user password before events after → MachineGoesOn before events after.machine }
 {}
 
-/// As a history goes on, its epoch and its touches stay: so a state that a client was sent names the same map ever after.
+/// As a history goes on, its epoch and its touches stay, and so do its maps: a state that a client was sent names the same map ever after.
 pub fn touches_stay()
-    ensures { (h after : MailHistory) → HasGoneOn h after → KeepsTouches h after }
+    ensures touches { (h after : MailHistory) → HasGoneOn h after → KeepsTouches h after }
+    ensures maps { (h after : MailHistory) → HasGoneOn h after → KeepsMaps h after }
+{}
+
+/// What a machine knows comes of exchanges: once it is opened, and after each request. So what mail_state says of histories of what
+/// exchanges told is said of the history that is served.
+pub fn machines_know_what_was_told()
+    ensures first { (epoch : ℕ) → KnowsExchanges (opened epoch) }
+    ensures next { (user password : List ℕ) (before : MachineState) (events : List Event) (after : Progress)
+        → PreparesMail user password before events after → KnowsExchanges before → KnowsExchanges after.machine }
 {}

@@ -15,6 +15,8 @@ mod laws;
 
 pub use beginning::{begin, visit};
 pub use known::Known;
-pub use laws::{obeyed_rounds_stand, requests_keep_history, touches_stay};
+pub use laws::{
+    machines_know_what_was_told, obeyed_rounds_stand, requests_keep_history, touches_stay,
+};
 pub use machine::Machine;
 pub use standing::{CommitEnd, Fall, Standing};

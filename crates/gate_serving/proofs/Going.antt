@@ -1,17 +1,17 @@
--- Histories go on from client to client, where no epoch is drawn.
-use Rattle.std.proofs.Common.{◌≡◌, ◌++◌, ◌∷◌, false, List, [], ℕ, refl, sym, ◌∙◌, ap, subst}
-use Rattle.std.specs.List.{list_any}
+-- Histories go on from client to client, unless another epoch is drawn.
+use Rattle.std.proofs.Common.{◌≡◌, ◌++◌, ◌∷◌, List, [], ℕ, refl, sym, ap, subst, inl, inr}
 use Rattle.gate_world.specs.declared.event.Event.{Event}
-use Rattle.gate_world.specs.declared.event.Event.TheVariants.{ClientDone}
+use Rattle.gate_world.specs.declared.event.Event.TheVariants.{Accepted, ClientDone}
 use Rattle.gate_calls.specs.Mailings.{Mailing}
 use Rattle.gate_machine.specs.Beginning.{PreparesMail}
-use Rattle.gate_machine.specs.Going.{MachineGoesOn, KeepsHistory, is_epoch}
+use Rattle.gate_machine.specs.Going.{MachineGoesOn}
 use Rattle.gate_machine.specs.Machine.{MachineState}
 use Rattle.gate_machine.specs.Progress.{Progress}
-use Rattle.gate_machine.proofs.Going.{first_draw_none, last_draw_none, goes_both, goes_nowhere, goes_still}
+use Rattle.gate_machine.proofs.Going.{goes_after, goes_before, goes_both, goes_by_events, goes_nowhere, goes_still}
 use Rattle.gate_serving.specs.declared.door.Door.{Door}
 use Rattle.gate_serving.specs.declared.served.Served.{Served}
 use Rattle.gate_serving.specs.GateState.{GateState}
+use Rattle.gate_serving.specs.Histories.{WasHeld, IsRunKept}
 use Rattle.gate_serving.specs.Requests.{Account, Asking}
 use Rattle.gate_serving.specs.Run.{Run, Begun, Then}
 use Rattle.gate_serving.specs.Segment.{Replies, Answered, LacksReading, LacksAnswering, Segment, NoneComes, NotAccepted, Left, Unasked, Replied}
@@ -20,39 +20,68 @@ use Rattle.gate_serving.specs.Work.{Work, NoMail, WithMail}
 -- what is proved of a request's way to the mail
 abbrev pub Law : Type 0
 Law = (user password : List ℕ) (before : MachineState) (events : List Event) (after : Progress) → PreparesMail user password before events after
-    → KeepsHistory before events after.machine
-
--- events that are these draw no epoch where these draw none
-drawn_by : {xs ys : List Event} → xs ≡ ys → list_any is_epoch xs ≡ false → list_any is_epoch ys ≡ false
-drawn_by is none = ap (λ (es : List Event). list_any is_epoch es) (sym is) ∙ none
+    → MachineGoesOn before events after.machine
 
 works_on : Law → {account : Account} {before : MachineState} {asking : Asking} {events : List Event} {mail : Mailing} {after : Progress}
-    → Work account before asking events mail after → KeepsHistory before events after.machine
-works_on law (NoMail apart none mail is) drawn = goes_still (ap (λ (p : Progress). p.machine) is)
-works_on law {account} {before} (WithMail needs work) drawn =
-    subst (λ (p : Progress). MachineGoesOn before p.machine) (sym work.after_is)
-    (law account.user account.password before work.beginning work.begun work.prepares (first_draw_none work.beginning work.ending (drawn_by work.whole drawn)))
+    → Work account before asking events mail after → MachineGoesOn before events after.machine
+works_on law {before = before} {events = events} {after = after} (NoMail apart none mail is) =
+    goes_still before after.machine events (ap (λ (p : Progress). p.machine) is)
+works_on law {account} {before} {events = events} (WithMail needs work) =
+    let prepared : MachineGoesOn before work.beginning work.begun.machine =
+    law account.user account.password before work.beginning work.begun work.prepares in
+    subst (λ (p : Progress). MachineGoesOn before events p.machine) (sym work.after_is)
+    (goes_by_events before work.begun.machine (work.beginning ++ work.ending) events work.whole
+    (goes_after before work.begun.machine work.beginning work.ending prepared))
 
 replies_on : Law → {door : Door} {account : Account} {before after : GateState} {events : List Event} {text : List ℕ} → Replies door account before events text after
-    → KeepsHistory before.machine events after.machine
-replies_on law {before = before} (Answered a) drawn =
-    subst (λ (m : MachineState). MachineGoesOn before.machine m) (sym a.machine_is) (works_on law a.work (last_draw_none a.asked a.worked (drawn_by a.whole drawn)))
-replies_on law (LacksReading reads text_is is) drawn = goes_nowhere (ap (λ (s : GateState). s.machine.known) is)
-replies_on law (LacksAnswering a) drawn = goes_nowhere (ap (λ (m : MachineState). m.known) a.machine_is)
+    → MachineGoesOn before.machine events after.machine
+replies_on law {before = before} {events = events} (Answered a) =
+    subst (λ (m : MachineState). MachineGoesOn before.machine events m) (sym a.machine_is)
+    (goes_by_events before.machine a.done.machine (a.asked ++ a.worked) events a.whole
+    (goes_before before.machine a.done.machine a.asked a.worked (works_on law a.work)))
+replies_on law {before = before} {after = after} {events = events} (LacksReading reads text_is is) =
+    goes_nowhere before.machine after.machine events (ap (λ (s : GateState). s.machine.known) is)
+replies_on law {before = before} {after = after} {events = events} (LacksAnswering a) =
+    goes_nowhere before.machine after.machine events (ap (λ (m : MachineState). m.known) a.machine_is)
+
+-- what comes after a client was accepted, and before it is done
+goes_within : (a b : MachineState) (replied heard : List Event) → MachineGoesOn a replied b
+    → MachineGoesOn a (Accepted ∷ ((replied ++ heard) ++ ClientDone ∷ [])) b
+goes_within a b replied heard goes =
+    goes_before a b (Accepted ∷ []) ((replied ++ heard) ++ ClientDone ∷ [])
+    (goes_after a b (replied ++ heard) (ClientDone ∷ []) (goes_after a b replied heard goes))
 
 -- one client, or that there is none
 segment_on : Law → {door : Door} {account : Account} {before after : GateState} {events : List Event} {how : Served} → Segment door account before events how after
-    → KeepsHistory before.machine events after.machine
-segment_on law (NoneComes is how_is same) drawn = goes_still (ap (λ (s : GateState). s.machine) same)
-segment_on law (NotAccepted is how_is same) drawn = goes_still (ap (λ (s : GateState). s.machine) same)
-segment_on law (Left asked is reads how_is same) drawn = goes_still (ap (λ (s : GateState). s.machine) same)
-segment_on law (Unasked asked is reads how_is same) drawn = goes_still (ap (λ (s : GateState). s.machine) same)
-segment_on law (Replied a) drawn =
-    replies_on law a.replies (first_draw_none a.replied a.heard (first_draw_none (a.replied ++ a.heard) (ClientDone ∷ []) (drawn_by a.whole drawn)))
+    → MachineGoesOn before.machine events after.machine
+segment_on law {before = before} {after = after} {events = events} (NoneComes is how_is same) =
+    goes_still before.machine after.machine events (ap (λ (s : GateState). s.machine) same)
+segment_on law {before = before} {after = after} {events = events} (NotAccepted is how_is same) =
+    goes_still before.machine after.machine events (ap (λ (s : GateState). s.machine) same)
+segment_on law {before = before} {after = after} {events = events} (Left asked is reads how_is same) =
+    goes_still before.machine after.machine events (ap (λ (s : GateState). s.machine) same)
+segment_on law {before = before} {after = after} {events = events} (Unasked asked is reads how_is same) =
+    goes_still before.machine after.machine events (ap (λ (s : GateState). s.machine) same)
+segment_on law {before = before} {after = after} {events = events} (Replied a) =
+    goes_by_events before.machine after.machine (Accepted ∷ ((a.replied ++ a.heard) ++ ClientDone ∷ [])) events a.whole
+    (goes_within before.machine after.machine a.replied a.heard (replies_on law a.replies))
 
--- clients one after another
-pub run_on : Law → {door : Door} {account : Account} {before after : GateState} {events : List Event} {went : List Served} → Run door account before events went after
-    → KeepsHistory before.machine events after.machine
-run_on law Begun drawn = goes_still refl
-run_on law (Then {events = events} next run) drawn =
-    goes_both (run_on law run (first_draw_none events next.events drawn)) (segment_on law next.segment (last_draw_none events next.events drawn))
+-- from a moment of a run to its end
+held_on : Law → {door : Door} {account : Account} {before after : GateState} {events : List Event} {went : List Served} (run : Run door account before events went after)
+    (s : GateState) (since : List Event) → WasHeld run s since → MachineGoesOn s.machine since after.machine
+held_on law {before = before} Begun s since held =
+    goes_still s.machine before.machine since (ap (λ (t : GateState). t.machine) (sym held.0))
+held_on law (Then next run) s since held = elim held [
+  | inl now ↦ goes_still s.machine next.after.machine since (ap (λ (t : GateState). t.machine) (sym now.0))
+  | inr was ↦ goes_by_events s.machine next.after.machine (was.0 ++ next.events) since was.2
+      (goes_both s.machine next.before.machine next.after.machine was.0 next.events (held_on law run s was.0 was.1) (segment_on law next.segment))
+]
+
+-- from each moment of a run to each later one
+pub run_kept : Law → {door : Door} {account : Account} {before after : GateState} {events : List Event} {went : List Served} (run : Run door account before events went after)
+    → IsRunKept run
+run_kept law Begun = tt
+run_kept law (Then next run) = (
+  run_kept law run,
+  λ s since held. goes_both s.machine next.before.machine next.after.machine since next.events (held_on law run s since held) (segment_on law next.segment),
+)

@@ -7,4 +7,6 @@ mod Ids
 mod Running
 mod Needs
 mod Going
+mod OneResponse
+mod Knowing
 pub mod Told

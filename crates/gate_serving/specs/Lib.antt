@@ -1,4 +1,5 @@
--- Each module after those that it uses: Segment has one client, Run clients one after another, Complete what they are owed.
+-- Each module after those that it uses: Segment has one client, Run clients one after another, Complete what they are owed, Histories what
+-- stays from one to another.
 pub mod Front
 pub mod Requests
 pub mod Answers
@@ -8,4 +9,5 @@ pub mod Segment
 pub mod Run
 pub mod Gates
 pub mod Complete
+pub mod Histories
 pub mod reading

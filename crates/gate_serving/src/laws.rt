@@ -1,13 +1,16 @@
 // What the definitions rule out.
-ghost use Rattle.std.specs.Prelude.{◌≡◌, ◌⊎◌, List, [], false};
+ghost use Rattle.std.specs.Prelude.{◌≡◌, ◌⊎◌, ℕ, List, [], false};
 ghost use Rattle.gate_world.specs.Causes.{Faults, no_faults};
 ghost use Rattle.gate_world.specs.declared.event.Event.{Event};
 ghost use Rattle.gate_machine.specs.Progress.{Bears, Progress};
-ghost use Rattle.gate_machine.specs.Going.{KeepsHistory};
 ghost use Rattle.gate_machine.specs.Machine.{MachineState};
+ghost use Rattle.gate_machine.specs.Sources.{KnowsExchanges};
 ghost use Rattle.gate_machine.specs.declared.standing.Standing.TheVariants.{OutOfMemory};
 ghost use Rattle.gate_calls.specs.Mailings.{Mailing};
+ghost use Rattle.gate_calls.specs.Places.{HasPlaces};
+ghost use Rattle.gate_serving.specs.Answers.{IsResponse};
 ghost use Rattle.gate_serving.specs.Complete.{CompletesRun, IsAnsweredFrom, IsSegmentObeyed, IsTold, IsWorkObeyed};
+ghost use Rattle.gate_serving.specs.Histories.{KeepsHistories};
 ghost use Rattle.gate_serving.specs.declared.door.Door.{Door};
 ghost use Rattle.gate_serving.specs.GateState.{GateState};
 ghost use Rattle.gate_serving.specs.Requests.{Account, Asking, asks_for_mail};
@@ -16,7 +19,8 @@ ghost use Rattle.gate_serving.specs.Segment.{Segment, blamed};
 ghost use Rattle.gate_serving.specs.Work.{Work};
 ghost use Rattle.gate_serving.specs.declared.served.Served.{Served};
 
-use gate_machine::{obeyed_rounds_stand, requests_keep_history};
+use gate_calls::one_list_of_responses;
+use gate_machine::{machines_know_what_was_told, obeyed_rounds_stand, requests_keep_history};
 
 /// Where no count rose, nothing is blamed.
 pub fn no_fault_no_blame()
@@ -56,11 +60,28 @@ pub fn obeyed_runs_are_told()
     obeyed_clients_are_told();
 }
 
-/// Where a run draws no epoch, the history that is served goes on from client to client: it never has other mail at a place that
-/// a client was told of.
+/// From each client of a run to each later one the history that is served goes on, or the epoch that there is then was drawn meanwhile:
+/// no client is answered over other mail at a place that an earlier one was told of.
 pub fn histories_go_on()
-    ensures { (door : Door) (account : Account) (before after : GateState) (events : List Event) (went : List Served)
-        → Run door account before events went after → KeepsHistory before.machine events after.machine }
+    ensures { (door : Door) (account : Account) (events : List Event) → KeepsHistories door account events }
 {
     requests_keep_history();
+}
+
+/// Over some mail and uploads, what is asked has one response at a door.
+pub fn one_response()
+    ensures { (door : Door) (account : Account) (mail : Mailing) (uploads : List (List ℕ)) (asking : Asking) (a b : List ℕ)
+        → HasPlaces mail → IsResponse door account mail uploads asking a → IsResponse door account mail uploads asking b → a ≡ b }
+{
+    one_list_of_responses();
+}
+
+/// What is known after a run comes of exchanges, where it did before. So the mail over which calls are answered has places left.
+pub fn runs_know_what_was_told()
+    ensures machine { (door : Door) (account : Account) (before after : GateState) (events : List Event) (went : List Served)
+        → Run door account before events went after → KnowsExchanges before.machine → KnowsExchanges after.machine }
+    ensures mail { (account : Account) (before : MachineState) (asking : Asking) (events : List Event) (mail : Mailing) (after : Progress)
+        → Work account before asking events mail after → KnowsExchanges before → HasPlaces mail }
+{
+    machines_know_what_was_told();
 }

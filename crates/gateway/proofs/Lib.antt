@@ -4,3 +4,4 @@ mod Explaining
 mod CompletingShow
 mod Performing
 mod Told
+mod Kept

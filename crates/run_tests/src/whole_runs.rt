@@ -113,7 +113,7 @@ const TWO_FOLDERS: &[&[u8]] = &[
 ];
 
 /// What clients give, over which link life, what they are told, and how often the store is dialed.
-const ANSWERS: [(&[u8], &[&[u8]], &[u8], usize); 11] = [
+const ANSWERS: [(&[u8], &[&[u8]], &[u8], usize); 12] = [
     (
         b"{}",
         EMPTY_INBOX,
@@ -158,6 +158,13 @@ const ANSWERS: [(&[u8], &[&[u8]], &[u8], usize); 11] = [
         b"{\"using\":[\"urn:ietf:params:jmap:core\",\"urn:ietf:params:jmap:mail\"],\"methodCalls\":[[\"Mailbox/get\",{\"accountId\":\"a2\"},\"c1\"],[\"Mailbox/get\",{\"accountId\":\"a1\"},\"c2\"]]}",
         &[b"* OK hi\r\n"],
         b"{\"methodResponses\":[[\"error\",{\"type\":\"accountNotFound\"},\"c1\"],[\"error\",{\"type\":\"serverUnavailable\"},\"c2\"]],\"sessionState\":\"1;5;alice;http://127.0.0.1:8080\"}\n",
+        1,
+    ),
+    // so does a call of every other method; and one that isn't refused is told that the store can't be asked
+    (
+        b"{\"using\":[\"urn:ietf:params:jmap:core\",\"urn:ietf:params:jmap:mail\"],\"methodCalls\":[[\"Thread/get\",{\"accountId\":\"a1\",\"properties\":[\"x\"]},\"c1\"],[\"Thread/get\",{\"accountId\":\"a1\"},\"c2\"],[\"Mailbox/changes\",{\"accountId\":\"a1\"},\"c3\"],[\"Email/changes\",{\"accountId\":\"a2\",\"sinceState\":\"x\"},\"c4\"],[\"Thread/changes\",{\"accountId\":\"a1\",\"sinceState\":\"x\"},\"c5\"],[\"Core/echo\",{\"a\":1},\"c6\"]]}",
+        &[b"* OK hi\r\n"],
+        b"{\"methodResponses\":[[\"error\",{\"type\":\"invalidArguments\"},\"c1\"],[\"error\",{\"type\":\"serverUnavailable\"},\"c2\"],[\"error\",{\"type\":\"invalidArguments\"},\"c3\"],[\"error\",{\"type\":\"accountNotFound\"},\"c4\"],[\"error\",{\"type\":\"serverUnavailable\"},\"c5\"],[\"Core/echo\",{\"a\":1},\"c6\"]],\"sessionState\":\"1;5;alice;http://127.0.0.1:8080\"}\n",
         1,
     ),
     // what changed since states of this epoch

@@ -59,3 +59,9 @@ returns-in-AcceptFault-clause-complete g c =
 
 pub returns-in-NoMore-clause-complete : goal.returns-in-NoMore-clause-complete
 returns-in-NoMore-clause-complete g c = join _ c.serving.invariant.run c.in-NoMore.ensures.run (λ x y so steps. c.obeyed_runs_are_told.ensures _ _ (x ++ y))
+
+pub returns-in-AcceptFault-clause-histories : goal.returns-in-AcceptFault-clause-histories
+returns-in-AcceptFault-clause-histories g c = join _ c.serving.invariant.run c.in-AcceptFault.ensures.run (λ x y so steps. c.histories_go_on.ensures _ _ (x ++ y))
+
+pub returns-in-NoMore-clause-histories : goal.returns-in-NoMore-clause-histories
+returns-in-NoMore-clause-histories g c = join _ c.serving.invariant.run c.in-NoMore.ensures.run (λ x y so steps. c.histories_go_on.ensures _ _ (x ++ y))
