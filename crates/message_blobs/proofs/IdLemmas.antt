@@ -84,7 +84,8 @@ numbers_more [] n are some fits = (some, fits, tt)
 numbers_more (m ∷ ns) n are some fits = (are.0, are.1, numbers_more ns n are.2 some fits)
 
 -- a leaf's blob id
-pub leaf_id : (root : BlobRoot) (ns : List ℕ) (n : ℕ) (text : List ℕ) → IsBlobId root ns text → length ns < MAX_LEAVES → 1 ≤ n → n < 2 ^ 64 → IsBlobId root (ns ++ n ∷ []) (text ++ leaf_text n)
+pub leaf_id : (root : BlobRoot) (ns : List ℕ) (n : ℕ) (text : List ℕ) → IsBlobId root ns text → length ns < MAX_LEAVES → 1 ≤ n → n < 2 ^ 64
+    → IsBlobId root (ns ++ n ∷ []) (text ++ leaf_text n)
 leaf_id root ns n text i few some fits = record {
   spelled =
       ap (λ (u : List ℕ). u ++ leaf_text n) i.spelled ∙ append_assoc (root_text root) (flat_map leaf_text ns) (leaf_text n)

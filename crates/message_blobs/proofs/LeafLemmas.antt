@@ -92,17 +92,21 @@ pub record Leads (left within leaves b : List ℕ) : Type 0 where
   pub forth : (s : List ℕ) → NamesOctets left within s → NamesOctets leaves b s
   pub back : (s : List ℕ) → NamesOctets leaves b s → NamesOctets left within s
 
+-- the octets of the leaf are the next message
 pub leads_on : (n : ℕ) (left within inner leaves b : List ℕ) → Leads (n ∷ left) within leaves b → LeafSpells within n inner → Leads left inner leaves b
 leads_on n left within inner leaves b l spells = record {
   forth = λ s h. l.forth s (inner, spells, h);
   back = λ s h. let w = l.back s h in let P : List ℕ → Type 0 = λ u. NamesOctets left u s in subst P (one_leaf within n w.0 inner w.1 spells) w.2;
 }
 
-pub leads_nowhere : (n : ℕ) (left within leaves b : List ℕ) → Leads (n ∷ left) within leaves b → ((s : List ℕ) → LeafSpells within n s → ⊥) → (s : List ℕ) → NamesOctets leaves b s → ⊥
+-- where the message has no such leaf, the numbers name nothing
+pub leads_nowhere : (n : ℕ) (left within leaves b : List ℕ) → Leads (n ∷ left) within leaves b → ((s : List ℕ) → LeafSpells within n s → ⊥)
+    → (s : List ℕ) → NamesOctets leaves b s → ⊥
 leads_nowhere n left within leaves b l none s h = let w = l.back s h in none w.0 w.1
 
 -- the same at a place among the numbers
-pub next_is : (i n : ℕ) (within leaves b : List ℕ) → i < length leaves → n ≡ get_or leaves i n → Leads (drop i leaves) within leaves b → Leads (n ∷ drop (i + 1) leaves) within leaves b
+pub next_is : (i n : ℕ) (within leaves b : List ℕ) → i < length leaves → n ≡ get_or leaves i n → Leads (drop i leaves) within leaves b
+    → Leads (n ∷ drop (i + 1) leaves) within leaves b
 next_is i n within leaves b lt e l =
     let P : List ℕ → Type 0 = λ u. Leads u within leaves b in
     subst P (drop_more leaves i n lt ∙ ap (λ (m : ℕ). m ∷ drop (i + 1) leaves) (sym e)) l

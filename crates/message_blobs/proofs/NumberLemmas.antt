@@ -1,6 +1,6 @@
 -- Numbers of leaves: how one is cut, and that a row of them is read in one way.
-use Rattle.std.proofs.Common.{arith, ◌≡◌, ◌≢◌, ℕ, zero, suc, ◌+◌, ◌-◌, ◌<◌, ◌≤◌, ◌^◌, Bool, true, false, not, ◌==◌, List, [], ◌∷◌, ◌++◌, length, take, drop, get_or, decimal, refl, sym, ap}
-use Rattle.std.proofs.Common.{◌∙◌, subst, eqb, eq-eqb, Option, Some, None}
+use Rattle.std.proofs.Common.{arith, ◌≡◌, ◌≢◌, ℕ, zero, suc, ◌+◌, ◌-◌, ◌<◌, ◌≤◌, ◌^◌, Bool, true, false, not, ◌==◌}
+use Rattle.std.proofs.Common.{List, [], ◌∷◌, ◌++◌, length, take, drop, get_or, decimal, refl, sym, ap, ◌∙◌, subst, eqb, eq-eqb, Option, Some, None}
 use Rattle.std.specs.Int.{IsInRange}
 use Rattle.std.specs.Option.{IfSome, MatchOption}
 use Rattle.std.specs.Str.{IsUtf8}

@@ -11,7 +11,7 @@ use text_words::{Class, are_all, behind, cut};
 pub const EMAIL_ROOT: char = 'r';
 
 /// What the root of an upload begins with; the digits of its digest follow.
-pub const UPLOAD_ROOT: u8 = b'u';
+const UPLOAD_ROOT: u8 = b'u';
 
 /// How many hexadecimal digits a SHA-256 digest has.
 const DIGEST_DIGITS: usize = 64;

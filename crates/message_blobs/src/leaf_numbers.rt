@@ -12,7 +12,7 @@ use text_words::{Class, behind, cut};
 pub const MAX_LEAVES: usize = 8;
 
 /// What stands before the number of each leaf.
-pub const LEAF_MARK: char = '-';
+pub const LEAF_MARK: u8 = b'-';
 
 /// The octets up to the mark of the next leaf.
 pub(crate) struct BeforeMark;
@@ -21,7 +21,7 @@ impl Class<u8> for BeforeMark {
     ghost test = { is_no_mark };
 
     fn has(&self, item: &u8) -> bool {
-        *item != b'-'
+        *item != LEAF_MARK
     }
 }
 
@@ -45,10 +45,10 @@ fn number_at(text: &[u8]) -> Option<(u64, &[u8])>
         (λ r. (x : List ℕ) × (text.now ≡ x ++ r.1.now) × IsNumberBefore r.0 x r.1.now) }
     ensures shorter { IfSome result (λ r. length r.1.now < length text.now) }
 {
-    let digits = behind(b'-', text)?;
+    let digits = behind(LEAF_MARK, text)?;
     let (_, rest) = cut(&BeforeMark, digits);
     let (leaf, rest) = text.split_at(text.len() - rest.len());
-    let number = number_behind(LEAF_MARK, leaf)?;
+    let number = number_behind(LEAF_MARK as char, leaf)?;
     if number == 0 {
         return None;
     }

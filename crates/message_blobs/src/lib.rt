@@ -12,6 +12,6 @@ mod nested_leaves;
 // Laws.
 pub mod laws;
 
-pub use blob_id::{BlobId, EMAIL_ROOT, Root, UPLOAD_ROOT, read_blob_id};
+pub use blob_id::{BlobId, EMAIL_ROOT, Root, read_blob_id};
 pub use leaf_numbers::{LEAF_MARK, MAX_LEAVES};
 pub use nested_leaves::leaf_octets;
