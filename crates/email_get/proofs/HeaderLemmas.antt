@@ -11,7 +11,7 @@ use Rattle.mail_header.specs.Bracketed.{IsNamesForm}
 use Rattle.mail_header.specs.Fields.{NameAndRaw, last_named}
 use Rattle.mail_header.proofs.BracketLemmas.{one_names}
 use Rattle.header_addresses.proofs.FormLemmas.{one_addresses}
-use Rattle.email_get.specs.Texts.{text_data, optional_text}
+use Rattle.json_texts.specs.Texts.{text_data, optional_text}
 use Rattle.email_get.specs.HeaderProperties.{HeaderData, IsHeaderData, IsProperty, IsAddressesData, IsMessageIdsData, IsTextData, IsDateData, IsMomentData, address_data}
 use Rattle.email_get.specs.HeaderProperties.{addresses_data, message_ids_data}
 use Rattle.email_get.specs.MomentText.{IsMomentText}

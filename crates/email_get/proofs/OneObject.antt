@@ -29,7 +29,7 @@ use Rattle.email_get.specs.EmailObjects.{AreObjects, IsPreview, BodyData, IsBody
 use Rattle.email_get.specs.HeaderProperties.{IsHeaderData}
 use Rattle.email_get.specs.PartObjects.{IsLanguage, tags, part_blob_id, part_data, IsPartObject}
 use Rattle.email_get.specs.Previews.{preview_of, IsPreviewOf}
-use Rattle.email_get.specs.Texts.{text_data, optional_text, text_list}
+use Rattle.json_texts.specs.Texts.{text_data, optional_text, text_list}
 use Rattle.email_get.specs.Values.{with_lf, charset_in, HasText}
 use Rattle.email_get.proofs.HeaderLemmas.{one_header_data}
 use Rattle.email_get.proofs.KinLemmas.{Kin, leaves_kin, kin_lists}

@@ -5,7 +5,7 @@ use Rattle.serde_json.specs.Data.{Data}
 use Rattle.mime_fields.specs.Parameters.{is_token}
 use Rattle.header_tokens.specs.Tokens.{Spelled}
 use Rattle.email_get.specs.PartObjects.{tags}
-use Rattle.email_get.specs.Texts.{text_data}
+use Rattle.json_texts.specs.Texts.{text_data}
 
 tags_both : (s : Spelled) (ts : List Spelled) → map text_data (tags (s ∷ ts)) ≡ map text_data (tags (s ∷ [])) ++ map text_data (tags ts)
 tags_both s ts = by (is_token s)

@@ -13,7 +13,7 @@ use Rattle.email_get.specs.BodyValues.{PutsIf, AddsValues}
 use Rattle.email_get.specs.EmailObjects.{AreObjects, BodyData, email_data, IsEmailObject}
 use Rattle.email_get.specs.HeaderProperties.{HeaderData}
 use Rattle.email_get.specs.PartObjects.{IsLanguage, part_data, IsPartObject, tags}
-use Rattle.email_get.specs.Texts.{text_data}
+use Rattle.json_texts.specs.Texts.{text_data}
 use Rattle.email_get.proofs.HeaderLemmas.{items_whole, text_whole, IsWholeHeader, whole_header}
 
 -- ---- members

@@ -5,7 +5,7 @@ use Rattle.serde_json.specs.Data.{Data, boolean, object, Members, no_members, me
 use Rattle.mime_tree.specs.declared.part.Part.{Part}
 use Rattle.mime_tree.specs.Heads.{is_text}
 use Rattle.mime_tree.specs.Roles.{leaf_number, media}
-use Rattle.email_get.specs.Texts.{text_data}
+use Rattle.json_texts.specs.Texts.{text_data}
 use Rattle.email_get.specs.Values.{HasText}
 
 -- a whole value

@@ -11,7 +11,7 @@ use Rattle.mime_tree.specs.declared.part.Part.{Part}
 use Rattle.mime_tree.specs.BodyLists.{AreBodyLists}
 use Rattle.mime_tree.specs.Roles.{is_plain_part}
 use Rattle.mime_tree.specs.Trees.{IsMessage}
-use Rattle.email_get.specs.Texts.{text_data}
+use Rattle.json_texts.specs.Texts.{text_data}
 use Rattle.email_get.specs.Leaves.{AreLeaves}
 use Rattle.email_get.specs.Previews.{IsPreviewOf}
 use Rattle.email_get.specs.PartObjects.{IsPartObject}

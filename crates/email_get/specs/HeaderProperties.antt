@@ -11,7 +11,7 @@ use Rattle.header_addresses.specs.Names.{IsAddressesForm}
 use Rattle.mail_header.specs.RawForms.{IsTextForm}
 use Rattle.email_get.specs.declared.header_properties.HeaderValues.{HeaderValues}
 use Rattle.email_get.specs.MomentText.{IsMomentText}
-use Rattle.email_get.specs.Texts.{text_data, optional_text, text_list}
+use Rattle.json_texts.specs.Texts.{text_data, optional_text, text_list}
 
 -- ---- the data of a raw value, by its form
 

@@ -1,4 +1,3 @@
-pub mod Texts
 pub mod Leaves
 pub mod Values
 pub mod Previews

@@ -9,7 +9,7 @@ use Rattle.mime_fields.specs.Parameters.{is_token}
 use Rattle.mime_tree.specs.declared.part.Part.{Part, out-Part}
 use Rattle.mime_tree.specs.Bodies.{HasOctets}
 use Rattle.mime_tree.specs.Roles.{leaf_number, media}
-use Rattle.email_get.specs.Texts.{text_data, optional_text, text_list}
+use Rattle.json_texts.specs.Texts.{text_data, optional_text, text_list}
 
 -- the texts of the tokens among the lexemes
 abbrev pub tags : List Spelled → List (List ℕ)

@@ -10,7 +10,7 @@ ghost use Rattle.email_get.specs.HeaderProperties.{header_data};
 
 use crate::bodies::{BodyShown, body_of};
 use crate::header_properties::{HeaderValues, header_values};
-use crate::texts::text_value;
+use json_texts::text_value;
 use mail_header::fields;
 use mime_tree::parse;
 use serde_json::{Map, Value, put};

@@ -2,11 +2,11 @@
 ghost use Rattle.std.specs.Prelude.{◌≡◌, IfOk, map};
 ghost use Rattle.mail_header.specs.Fields.{names_and_raws};
 ghost use Rattle.serde_json.specs.View.{view};
-ghost use Rattle.email_get.specs.Texts.{text_data};
+ghost use Rattle.json_texts.specs.Texts.{text_data};
 ghost use Rattle.email_get.specs.HeaderProperties as header;
 
 use crate::moment_text::moment_text;
-use crate::texts::{optional_text_value, text_value};
+use json_texts::{optional_text_value, text_value};
 use gate_world::Bytes;
 use header_addresses::{Address, as_addresses};
 use header_dates::as_date;

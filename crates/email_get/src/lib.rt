@@ -1,9 +1,8 @@
 //! What the octets of a message are as an Email object (RFC 8621).
 #![tactic(auto)]
 
-// Texts and moments.
+// Moments.
 mod moment_text;
-mod texts;
 
 // Parts.
 mod bodies;

@@ -5,13 +5,13 @@ ghost use Rattle.serde_json.specs.View.{view};
 ghost use Rattle.mime_tree.specs.Roles.{leaf_number};
 ghost use Rattle.mime_tree.specs.Parts.{IsWithin};
 ghost use Rattle.email_get.specs.PartObjects as objects;
-ghost use Rattle.email_get.specs.Texts.{text_data};
+ghost use Rattle.json_texts.specs.Texts.{text_data};
 ghost use Rattle.header_tokens.specs.TokenView.{token_view};
 ghost use Rattle.header_tokens.specs.declared.token.Alphabet.TheVariants as alphabet;
 ghost use Rattle.header_tokens.specs.reading.LexemeReading.{lexemes_in};
 
 use crate::leaves::number_text;
-use crate::texts::{optional_text_value, owned_text_value, text_value};
+use json_texts::{optional_text_value, owned_text_value, text_value};
 use gate_world::Bytes;
 use header_tokens::{Alphabet, Token, next_lexeme};
 use mime_fields::is_token;

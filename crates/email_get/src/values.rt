@@ -12,7 +12,7 @@ ghost use Rattle.email_get.specs.BodyValues.{value_data, PutsIf, PutsValue};
 
 use crate::leaves::number_text;
 use crate::previews::preview_of;
-use crate::texts::owned_text_value;
+use json_texts::owned_text_value;
 use gate_world::Bytes;
 use header_words::decode_charset;
 use memchr::memchr;

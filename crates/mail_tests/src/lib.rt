@@ -1,9 +1,11 @@
-//! Tests of encoded words, of the fields of headers, of the trees of parts and of Email objects, over the public calls of
-//! the crates that read them.
+//! Tests of encoded words, of the fields of headers, of the trees of parts, of Email objects and of blob ids, over the public
+//! calls of the crates that read them.
 #![tactic(auto)]
 
 #[cfg(test)]
 mod addresses;
+#[cfg(test)]
+mod blobs;
 #[cfg(test)]
 mod body_lists;
 #[cfg(test)]

@@ -2,7 +2,7 @@
 use Rattle.std.specs.Prelude.{codes}
 use Rattle.serde_json.specs.Data.{boolean, array, object, Members, put}
 use Rattle.serde_json.specs.View.{items_of}
-use Rattle.email_get.specs.Texts.{text_data}
+use Rattle.json_texts.specs.Texts.{text_data}
 use Rattle.email_get.specs.EmailObjects.{BodyData}
 use Rattle.email_get.specs.HeaderProperties.{HeaderData}
 

@@ -1,6 +1,6 @@
 use Rattle.std.proofs.Common.{◌≡◌, map, take}
 use Rattle.serde_json.specs.View.{view}
-use Rattle.email_get.specs.Texts.{text_data}
+use Rattle.json_texts.specs.Texts.{text_data}
 use Rattle.email_get.proofs.header_properties.text_values.Given as goal
 
 abbrev pub invariant-loop-text : goal.invariant-loop-text

@@ -6,7 +6,7 @@ use Rattle.header_tokens.specs.Tokens.{Spelled}
 use Rattle.header_tokens.specs.reading.LexemeReading.{lexemes_in}
 use Rattle.header_tokens.proofs.LexemeLemmas.{next_in, none_in}
 use Rattle.email_get.specs.PartObjects.{tags}
-use Rattle.email_get.specs.Texts.{text_data}
+use Rattle.json_texts.specs.Texts.{text_data}
 use Rattle.email_get.proofs.TagLemmas.{tag_more}
 use Rattle.email_get.proofs.part_objects.tag_values.Goals as goal
 

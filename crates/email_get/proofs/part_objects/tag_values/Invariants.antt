@@ -3,7 +3,7 @@ use Rattle.serde_json.specs.View.{view}
 use Rattle.header_tokens.specs.declared.token.Alphabet.TheVariants as alphabet
 use Rattle.header_tokens.specs.reading.LexemeReading.{lexemes_in}
 use Rattle.email_get.specs.PartObjects.{tags}
-use Rattle.email_get.specs.Texts.{text_data}
+use Rattle.json_texts.specs.Texts.{text_data}
 use Rattle.email_get.proofs.part_objects.tag_values.Given as goal
 
 abbrev pub invariant-tags : goal.invariant-tags

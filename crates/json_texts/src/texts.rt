@@ -1,21 +1,21 @@
 // Octets as texts of JSON.
 ghost use Rattle.std.specs.Prelude.{◌≡◌, IfOk};
 ghost use Rattle.serde_json.specs.View.{view};
-ghost use Rattle.email_get.specs.Texts.{text_data, optional_text};
+ghost use Rattle.json_texts.specs.Texts.{text_data, optional_text};
 
 use gate_world::Bytes;
 use serde_json::Value;
 use std::alloc::{AllocError, Global};
 
 /// The octets as a text: what isn't UTF-8 is U+FFFD.
-pub(crate) fn text_value(alloc: Global, octets: &[u8]) -> Result<Value, AllocError>
+pub fn text_value(alloc: Global, octets: &[u8]) -> Result<Value, AllocError>
     ensures { IfOk result (λ v. view v ≡ text_data octets.now) }
 {
     Ok(Value::String(String::from_utf8_lossy(alloc, octets)?))
 }
 
 /// The same of octets that aren't needed any more. They aren't copied where they are UTF-8.
-pub(crate) fn owned_text_value(alloc: Global, octets: Vec<u8>) -> Result<Value, AllocError>
+pub fn owned_text_value(alloc: Global, octets: Vec<u8>) -> Result<Value, AllocError>
     ensures { IfOk result (λ v. view v ≡ text_data octets.items) }
 {
     match String::from_utf8(octets) {
@@ -25,7 +25,7 @@ pub(crate) fn owned_text_value(alloc: Global, octets: Vec<u8>) -> Result<Value, 
 }
 
 /// The same, and null where there is none.
-pub(crate) fn optional_text_value(alloc: Global, text: &Option<Bytes>) -> Result<Value, AllocError>
+pub fn optional_text_value(alloc: Global, text: &Option<Bytes>) -> Result<Value, AllocError>
     ensures { IfOk result (λ v. view v ≡ optional_text text.now) }
 {
     match text {

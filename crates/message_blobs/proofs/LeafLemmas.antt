@@ -1,0 +1,124 @@
+-- Numbers of leaves name one leaf's octets at most, whichever tree each message is read as.
+use Rattle.std.proofs.Common.{arith, ◌≡◌, ◌≢◌, ℕ, zero, suc, ◌+◌, ◌<◌, ◌≤◌, Bool, List, [], ◌∷◌, length, drop, get_or, Option, Some, refl, sym, ap, ◌∙◌, subst}
+use Rattle.std.specs.Prelude.{slice_range, Contains}
+use Rattle.std.proofs.lemmas.List.{drop_more}
+use Rattle.std.proofs.Math.ListN.{drop_of_length-le}
+use Rattle.header_words.specs.Transfer.{IsBody}
+use Rattle.header_words.specs.declared.transfer.Encoding.{Encoding}
+use Rattle.header_words.proofs.PrintableLemmas.{one_body}
+use Rattle.mime_tree.specs.declared.part.Part.{Part, out-Part}
+use Rattle.mime_tree.specs.declared.tree.TheConstants.{MAX_DEPTH}
+use Rattle.mime_tree.specs.Bodies.{encoding_by, HasOctets}
+use Rattle.mime_tree.specs.Heads.{text_plain}
+use Rattle.mime_tree.specs.Parts.{children, part_number, IsUnder, Itself, Below}
+use Rattle.mime_tree.specs.SameTrees.{AllSame, SamePart, Same}
+use Rattle.mime_tree.specs.Trees.{IsMessage}
+use Rattle.mime_tree.proofs.OneTree.{one_message}
+use Rattle.mime_tree.proofs.SameWalks.{below, same_below}
+use Rattle.mime_tree.proofs.UnderLemmas.{here, later, tree_numbered}
+use Rattle.message_blobs.specs.NestedLeaves.{LeafSpells, NamesOctets}
+
+-- ---- the same leaf in two trees of a message
+
+-- what tells the octets of a part
+record Kin (p q : Part) : Type 0 where
+  number : part_number p ≡ part_number q
+  encoding : (out-Part p).encoding ≡ (out-Part q).encoding
+  start : (out-Part p).start ≡ (out-Part q).start
+  end : (out-Part p).end ≡ (out-Part q).end
+
+kin_of : {S : Part → Part → Type 0} {p q : Part} → SamePart S p q → Kin p q
+kin_of s = record { number = s.number; encoding = s.encoding; start = s.start; end = s.end }
+
+kin : (more : ℕ) (p q : Part) → Same more p q → Kin p q
+unfolding Same
+kin zero p q s = kin_of s
+kin (suc more) p q s = kin_of s
+
+-- a part of one list has its twin in the other
+twin_in : (S : Part → Part → Type 0) (cs ds : List Part) (c : Part) → AllSame S cs ds → Contains cs c → (d : Part) × Contains ds d × S c d
+twin_in S [] ds c same there = absurd (omega (arith, there.1))
+twin_in S (x ∷ cs) [] c same there = absurd same
+twin_in S (x ∷ cs) (y ∷ ds) c same (zero, lt, e) = (y, here y ds, subst (λ (u : Part). S u y) e same.0)
+twin_in S (x ∷ cs) (y ∷ ds) c same (suc k, lt, e) = let w = twin_in S cs ds c same.1 (k, omega arith, e) in (w.0, later y ds w.0 w.1, w.2)
+
+-- a part under one tree has its kin under the other
+kin_under : (r p : Part) → IsUnder r p → (more : ℕ) (q : Part) → Same more p q → (s : Part) × IsUnder s q × Kin r s
+kin_under r _ Itself more q same = (q, Itself, kin more r q same)
+kin_under r _ (Below p c there u) more q same =
+    let d = twin_in (Same (below more)) (children p) (children q) c (same_below more p q same) there in
+    let s = kin_under r c u (below more) d.0 d.2 in
+    (s.0, Below q d.0 d.1 s.1, s.2)
+
+-- kin spell the same octets
+kin_octets : (p q : Part) (b s : List ℕ) (x : Bool) → Kin p q → HasOctets p b s x → HasOctets q b s x
+kin_octets p q b s x k h =
+    let coded : encoding_by (out-Part p).number (out-Part p).encoding ≡ encoding_by (out-Part q).number (out-Part q).encoding =
+    λ i. encoding_by (k.number i) (k.encoding i) in
+    let body : slice_range b (out-Part p).start (out-Part p).end ≡ slice_range b (out-Part q).start (out-Part q).end = λ i. slice_range b (k.start i) (k.end i) in
+    let P : Encoding → Type 0 = λ e. IsBody e s x (slice_range b (out-Part q).start (out-Part q).end) in
+    let Q : List ℕ → Type 0 = λ u. IsBody (encoding_by (out-Part p).number (out-Part p).encoding) s x u in
+    subst P coded (subst Q body h)
+
+-- leaves of one number under a message are the same
+same_leaf : (b : List ℕ) (p q r : Part) (n : ℕ) → IsMessage b p → IsUnder q p → IsUnder r p → part_number q ≡ Some n → part_number r ≡ Some n → q ≡ r
+same_leaf b p q r n h u v i j = (tree_numbered MAX_DEPTH b 0 (length b) text_plain 1 p h.0 h.1).one q r n u v i j
+
+-- where a tree of the message has no leaf of the number, the number names no octets
+pub no_leaf : (b s : List ℕ) (n : ℕ) (p : Part) → IsMessage b p → ((q : Part) → IsUnder q p → part_number q ≢ Some n) → LeafSpells b n s → ⊥
+no_leaf b s n p m none h =
+    let f = kin_under h.leaf h.message h.is_under MAX_DEPTH p (one_message b h.message p h.is_message m) in
+    none f.0 f.1 (sym f.2.number ∙ h.number_is)
+
+-- a number names the octets of one leaf at most
+pub one_leaf : (b : List ℕ) (n : ℕ) (s t : List ℕ) → LeafSpells b n s → LeafSpells b n t → s ≡ t
+one_leaf b n s t g h =
+    let f = kin_under g.leaf g.message g.is_under MAX_DEPTH h.message (one_message b g.message h.message g.is_message h.is_message) in
+    let same = same_leaf b h.message f.0 h.leaf n h.is_message f.1 h.is_under (sym f.2.number ∙ g.number_is) h.number_is in
+    let P : Part → Type 0 = λ u. HasOctets u b s g.problem in
+    (one_body _ s t _ g.problem h.problem (subst P same (kin_octets g.leaf f.0 b s g.problem f.2 g.spelled)) h.spelled).0
+
+-- numbers of leaves name the octets of one leaf at most
+pub one_named : (ns b s t : List ℕ) → NamesOctets ns b s → NamesOctets ns b t → s ≡ t
+one_named [] b s t g h = g ∙ sym h
+one_named (n ∷ ns) b s t g h =
+    let P : List ℕ → Type 0 = λ u. NamesOctets ns u t in
+    one_named ns g.0 s t g.2 (subst P (one_leaf b n h.0 g.0 h.1 g.1) h.2)
+
+-- ---- from one message to the next
+
+-- what the numbers that are left name in these octets is what all of them name in the first
+pub record Leads (left within leaves b : List ℕ) : Type 0 where
+  pub forth : (s : List ℕ) → NamesOctets left within s → NamesOctets leaves b s
+  pub back : (s : List ℕ) → NamesOctets leaves b s → NamesOctets left within s
+
+-- the octets of the leaf are the next message
+pub leads_on : (n : ℕ) (left within inner leaves b : List ℕ) → Leads (n ∷ left) within leaves b → LeafSpells within n inner → Leads left inner leaves b
+leads_on n left within inner leaves b l spells = record {
+  forth = λ s h. l.forth s (inner, spells, h);
+  back = λ s h. let w = l.back s h in let P : List ℕ → Type 0 = λ u. NamesOctets left u s in subst P (one_leaf within n w.0 inner w.1 spells) w.2;
+}
+
+-- where the message has no such leaf, the numbers name nothing
+pub leads_nowhere : (n : ℕ) (left within leaves b : List ℕ) → Leads (n ∷ left) within leaves b → ((s : List ℕ) → LeafSpells within n s → ⊥)
+    → (s : List ℕ) → NamesOctets leaves b s → ⊥
+leads_nowhere n left within leaves b l none s h = let w = l.back s h in none w.0 w.1
+
+-- the same at a place among the numbers
+pub next_is : (i n : ℕ) (within leaves b : List ℕ) → i < length leaves → n ≡ get_or leaves i n → Leads (drop i leaves) within leaves b
+    → Leads (n ∷ drop (i + 1) leaves) within leaves b
+next_is i n within leaves b lt e l =
+    let P : List ℕ → Type 0 = λ u. Leads u within leaves b in
+    subst P (drop_more leaves i n lt ∙ ap (λ (m : ℕ). m ∷ drop (i + 1) leaves) (sym e)) l
+
+-- before the first number
+pub starts : (leaves within b : List ℕ) → within ≡ b → Leads (drop 0 leaves) within leaves b
+starts leaves within b e =
+    let P : List ℕ → Type 0 = λ u. Leads leaves u leaves b in
+    subst P (sym e) (record { forth = λ s h. h; back = λ s h. h })
+
+-- after the last one
+pub ends : (i : ℕ) (within leaves b : List ℕ) → length leaves ≤ i → Leads (drop i leaves) within leaves b → NamesOctets leaves b within
+ends i within leaves b done l =
+    let P : List ℕ → Type 0 = λ u. NamesOctets u within within in
+    l.forth within (subst P (sym (drop_of_length-le leaves done)) refl)

@@ -1,0 +1,4 @@
+pub mod NumberLemmas
+pub mod IdLemmas
+pub mod UploadLemmas
+pub mod LeafLemmas

@@ -1,0 +1,2 @@
+-- How the code reads: private clauses and proofs alone speak of it.
+pub mod NumberReading
