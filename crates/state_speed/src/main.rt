@@ -8,130 +8,71 @@ mod made_mail;
 use made_mail::{inbox, tell_new, tell_seen};
 use mail_header::fields;
 use mail_state::{MailState, MailType};
+use process_watch::{Watch, resident};
 use std::alloc::Global;
-use std::time::Instant;
-use std::{env, fs};
+use std::env;
+use std::process::Abort;
 use told_mail::Mirror;
 
 /// How many messages are changed, one at a time; how often the same mail is taken in again; and how many messages come.
 const CHANGES: u32 = 5;
 
-/// What the line of this name says in a text of the system; empty where there is none.
-fn field<'a>(text: &'a str, name: &str) -> &'a str {
-    for line in text.lines() {
-        if let Some(rest) = line.strip_prefix(name) {
-            return rest.trim();
-        }
-    }
-    ""
-}
+/// Why the program ends where it can't go on.
+const MEMORY: &str = "there is memory";
 
-/// How many microseconds this process has had of a processor.
-fn processor_micros(rt: &HostRuntime) -> Result<u64, anyhow::Error> {
-    let text = fs::read_to_string(rt, "/proc/self/schedstat")?;
-    let nanos = match text.split(' ').next() {
-        Some(word) => word.parse::<u64>().unwrap_or(0),
-        None => 0,
-    };
-    Ok(nanos / 1_000)
-}
-
-/// The octets of memory that this process has.
-fn resident(rt: &HostRuntime) -> Result<u64, anyhow::Error> {
-    let status = fs::read_to_string(rt, "/proc/self/status")?;
-    let kibibytes = match field(&status, "VmRSS:").split(' ').next() {
-        Some(word) => word.parse::<u64>().unwrap_or(0),
-        None => 0,
-    };
-    Ok(kibibytes.saturating_mul(1_024))
-}
-
-/// A clock, and a clock of the processor.
-#[derive(Drop)]
-struct Watch {
-    start: Instant,
-    processor: u64,
-}
-
-impl Watch {
-    fn start(rt: &HostRuntime) -> Result<Watch, anyhow::Error> {
-        Ok(Watch {
-            start: Instant::now(rt)?,
-            processor: processor_micros(rt)?,
-        })
-    }
-
-    /// Says how long this took, and what memory there is.
-    fn say(&self, rt: &HostRuntime, what: &str) -> Result<(), anyhow::Error> {
-        let taken = self.start.elapsed(rt)?.as_micros();
-        let processor = processor_micros(rt)?.saturating_sub(self.processor);
-        let status = fs::read_to_string(rt, "/proc/self/status")?;
-        let now = field(&status, "VmRSS:");
-        let peak = field(&status, "VmHWM:");
-        println!(rt;
-            "{what}: {taken} microseconds, {processor} of a processor; memory {now}, peak {peak}"
-        )?;
-        Ok(())
-    }
-}
+/// The same, of what it says.
+const SAID: &str = "it can be said";
 
 /// How many fields the headers have, and how many octets. Each header is read once.
-fn read_headers(alloc: Global, mirror: &Mirror) -> Result<(usize, usize), anyhow::Error> {
+fn read_headers(rt: &impl Abort, alloc: Global, mirror: &Mirror) -> (usize, usize) {
     let mut count: usize = 0;
     let mut octets: usize = 0;
     for held in mirror.folders() {
         for message in held.messages.as_slice() {
             let header = message.header.as_slice();
-            count = count.saturating_add(fields(alloc, header)?.len());
+            count = count.saturating_add(fields(alloc, header).expect(rt, MEMORY).len());
             octets = octets.saturating_add(header.len());
         }
     }
-    Ok((count, octets))
+    (count, octets)
 }
 
 /// How many Emails and Threads there are.
-fn say_rows(rt: &HostRuntime, state: &MailState) -> Result<(), anyhow::Error> {
-    let emails = state.numbers(MailType::Email)?.len();
-    let threads = state.numbers(MailType::Thread)?.len();
+fn say_rows(rt: &HostRuntime, state: &MailState) {
+    let emails = state.numbers(MailType::Email).expect(rt, MEMORY).len();
+    let threads = state.numbers(MailType::Thread).expect(rt, MEMORY).len();
     let place = state.list(MailType::Email).place();
-    println!(rt; "{emails} Emails, {threads} Threads, place {place}")?;
-    Ok(())
+    println!(rt; "{emails} Emails, {threads} Threads, place {place}").expect(rt, SAID);
 }
 
 /// Takes all messages into a new state.
-fn take_in(rt: &HostRuntime, mirror: &Mirror, messages: u32) -> Result<MailState, anyhow::Error> {
-    let before = resident(rt)?;
-    let state = MailState::new(rt.alloc(), 1)?;
-    let watch = Watch::start(rt)?;
-    let (state, _moved) = state.apply(mirror)?;
-    watch.say(rt, "taken in")?;
-    let more = resident(rt)?.saturating_sub(before);
+fn take_in(rt: &HostRuntime, mirror: &Mirror, messages: u32) -> MailState {
+    let before = resident(rt);
+    let state = MailState::new(rt.alloc(), 1).expect(rt, MEMORY);
+    let watch = Watch::start(rt);
+    let (state, _moved) = state.apply(mirror).expect(rt, MEMORY);
+    watch.say(rt, "taken in");
+    let more = resident(rt).saturating_sub(before);
     let octets = more.checked_div(u64::from(messages)).unwrap_or(0);
-    println!(rt; "{octets} octets of memory a row, beside its header's")?;
-    say_rows(rt, &state)?;
-    Ok(state)
+    println!(rt; "{octets} octets of memory a row, beside its header's").expect(rt, SAID);
+    say_rows(rt, &state);
+    state
 }
 
 /// Takes what was told in.
-fn take(
-    rt: &HostRuntime,
-    mirror: &Mirror,
-    state: MailState,
-    what: &str,
-) -> Result<MailState, anyhow::Error> {
-    let watch = Watch::start(rt)?;
-    let (state, _moved) = state.apply(mirror)?;
-    watch.say(rt, what)?;
-    Ok(state)
+fn take(rt: &HostRuntime, mirror: &Mirror, state: MailState, what: &str) -> MailState {
+    let watch = Watch::start(rt);
+    let (state, _moved) = state.apply(mirror).expect(rt, MEMORY);
+    watch.say(rt, what);
+    state
 }
 
 /// Says how long it takes to read the headers alone.
-fn say_headers(rt: &HostRuntime, mirror: &Mirror) -> Result<(), anyhow::Error> {
-    let watch = Watch::start(rt)?;
-    let (count, octets) = read_headers(rt.alloc(), mirror)?;
-    watch.say(rt, "headers read")?;
-    println!(rt; "{count} fields, {octets} octets of headers")?;
-    Ok(())
+fn say_headers(rt: &HostRuntime, mirror: &Mirror) {
+    let watch = Watch::start(rt);
+    let (count, octets) = read_headers(rt, rt.alloc(), mirror);
+    watch.say(rt, "headers read");
+    println!(rt; "{count} fields, {octets} octets of headers").expect(rt, SAID);
 }
 
 /// Takes changes of one message at a time in.
@@ -140,16 +81,16 @@ fn take_changes(
     mirror: &mut Mirror,
     state: MailState,
     messages: u32,
-) -> Result<MailState, anyhow::Error> {
+) -> MailState {
     let mut state = state;
     for change in 0..CHANGES {
         let uid = (messages / CHANGES)
             .saturating_mul(change)
             .saturating_add(1);
-        tell_seen(rt.alloc(), mirror, uid)?;
-        state = take(rt, mirror, state, "one message changed")?;
+        tell_seen(rt, rt.alloc(), mirror, uid);
+        state = take(rt, mirror, state, "one message changed");
     }
-    Ok(state)
+    state
 }
 
 /// Takes new messages in, one at a time.
@@ -159,50 +100,45 @@ fn take_new(
     state: MailState,
     messages: u32,
     each: u32,
-) -> Result<MailState, anyhow::Error> {
+) -> MailState {
     let mut state = state;
     for more in 0..CHANGES {
-        tell_new(rt.alloc(), mirror, messages.saturating_add(more), each)?;
-        state = take(rt, mirror, state, "one new message")?;
+        tell_new(rt, rt.alloc(), mirror, messages.saturating_add(more), each);
+        state = take(rt, mirror, state, "one new message");
     }
-    Ok(state)
+    state
 }
 
 /// Takes the same mail in again and again.
-fn take_again(
-    rt: &HostRuntime,
-    mirror: &Mirror,
-    state: MailState,
-) -> Result<MailState, anyhow::Error> {
+fn take_again(rt: &HostRuntime, mirror: &Mirror, state: MailState) -> MailState {
     let mut state = state;
     for _ in 0..CHANGES {
-        state = take(rt, mirror, state, "nothing changed")?;
+        state = take(rt, mirror, state, "nothing changed");
     }
-    Ok(state)
+    state
 }
 
-fn measure(rt: &HostRuntime, messages: u32, each: u32) -> Result<(), anyhow::Error> {
-    let mut mirror = inbox(rt.alloc(), messages, each)?;
-    say_headers(rt, &mirror)?;
-    let state = take_in(rt, &mirror, messages)?;
-    let state = take_changes(rt, &mut mirror, state, messages)?;
-    let state = take_again(rt, &mirror, state)?;
-    let state = take_new(rt, &mut mirror, state, messages, each)?;
-    say_rows(rt, &state)
+fn measure(rt: &HostRuntime, messages: u32, each: u32) {
+    let mut mirror = inbox(rt, rt.alloc(), messages, each);
+    say_headers(rt, &mirror);
+    let state = take_in(rt, &mirror, messages);
+    let state = take_changes(rt, &mut mirror, state, messages);
+    let state = take_again(rt, &mirror, state);
+    let state = take_new(rt, &mut mirror, state, messages, each);
+    say_rows(rt, &state);
 }
 
 fn number(word: String) -> u32 {
     word.parse::<u32>().unwrap_or(0)
 }
 
-fn main(rt: HostRuntime) -> Result<(), anyhow::Error> {
-    let mut words = env::args(&rt)?;
+fn main(rt: HostRuntime) {
+    let mut words = env::args(&rt).expect(&rt, MEMORY);
     let _ = words.next();
     match (words.next(), words.next()) {
         (Some(messages), Some(each)) => measure(&rt, number(messages), number(each)),
         _ => {
-            println!(rt; "usage: state_speed MESSAGES EACH")?;
-            Ok(())
+            println!(rt; "usage: state_speed MESSAGES EACH").expect(&rt, SAID);
         }
     }
 }
