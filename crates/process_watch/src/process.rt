@@ -19,24 +19,30 @@ fn first_number(text: &str) -> u64 {
     }
 }
 
-/// How many microseconds this process has had of a processor.
+/// How many microseconds this process has had of a processor; 0 where the system doesn't tell it.
 pub(crate) fn processor_micros(rt: &HostRuntime) -> u64 {
-    let text = fs::read_to_string(rt, "/proc/self/schedstat").expect(rt, "the system tells it");
-    first_number(&text) / 1_000
+    match fs::read_to_string(rt, "/proc/self/schedstat") {
+        Ok(text) => first_number(&text) / 1_000,
+        Err(_) => 0,
+    }
 }
 
-/// The octets of memory that this process has. It ends the process where the system doesn't tell them.
+/// The octets of memory that this process has; 0 where the system doesn't tell it.
 pub fn resident(rt: &HostRuntime) -> u64 {
-    let status = fs::read_to_string(rt, "/proc/self/status").expect(rt, "the system tells it");
-    first_number(field(&status, "VmRSS:")).saturating_mul(1_024)
+    match fs::read_to_string(rt, "/proc/self/status") {
+        Ok(status) => first_number(field(&status, "VmRSS:")).saturating_mul(1_024),
+        Err(_) => 0,
+    }
 }
 
-/// Says what was done, how long it took, and what memory there is.
+/// Says what was done, how long it took, and what memory there is. What can't be said isn't.
 pub(crate) fn say_cost(rt: &HostRuntime, what: &str, taken: u128, processor: u64) {
-    let status = fs::read_to_string(rt, "/proc/self/status").expect(rt, "the system tells it");
+    let Ok(status) = fs::read_to_string(rt, "/proc/self/status") else {
+        return;
+    };
     let now = field(&status, "VmRSS:");
     let peak = field(&status, "VmHWM:");
-    println!(rt;
+    let _said = println!(rt;
         "{what}: {taken} microseconds, {processor} of a processor; memory {now}, peak {peak}"
-    ).expect(rt, "it can be said");
+    );
 }

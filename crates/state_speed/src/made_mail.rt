@@ -1,12 +1,8 @@
 // Mail as a store tells it.
 use gate_world::{Bytes, Listed, Names};
 use imap_syntax::{Code, Command, FetchItems, Response, Status};
-use std::alloc::Global;
-use std::process::Abort;
+use std::alloc::{AllocError, Global};
 use told_mail::{Exchange, Mirror};
-
-/// Why the program ends where it can't go on.
-const MEMORY: &str = "there is memory";
 
 /// Messages that are told at once: few, so that little memory is free again before it's measured.
 const SLICE: u32 = 500;
@@ -19,114 +15,114 @@ const ON_THE_WAY: &[u8] =
     b"Received: from mail.example.com (mail.example.com [192.0.2.17])\r\n\tby mx.example.org (Postfix) with ESMTPS id 4T8xq21sQ3z9vYk\r\n\tfor <alice@example.org>; Tue,  2 Jan 2024 09:00:07 +0000 (UTC)\r\nReceived: from [198.51.100.4] (unknown [198.51.100.4])\r\n\tby mail.example.com (Postfix) with ESMTPSA id 4T8xq11kLmz3hXy\r\n\tfor <alice@example.org>; Tue,  2 Jan 2024 09:00:05 +0000 (UTC)\r\nDKIM-Signature: v=1; a=rsa-sha256; c=relaxed/simple; d=example.com; s=mail;\r\n\tt=1704186005; bh=frcCV1k9oG9oKj3dpUqdJg1PxRT2RSN/XKdLCPjaYaY=;\r\n\th=Date:From:To:Subject:References:In-Reply-To:From;\r\n\tb=gKUb0pQx8ZkXo7l0mQz6y1s5rC3tVwB9dE2fH4jL6nP8qR0sT2uV4wX6yZ8aB0cD\r\n\t 1eF3gH5iJ7kL9mN1oP3qR5sT7uV9wX1yZ3aB5cD7eF9gH1iJ3kL5mN7oP9qR1sT3\r\n\t 5uV7wX9yZ1aB3cD5eF7gH9iJ1kL3mN5oP7qR9sT1uV3wX5yZ7aB9cD1eF3gH5iJ7==\r\nAuthentication-Results: mx.example.org; dkim=pass header.d=example.com\r\nDate: Tue, 2 Jan 2024 09:00:00 +0000\r\nMIME-Version: 1.0\r\nUser-Agent: Mozilla Thunderbird\r\nContent-Language: en-GB\r\nContent-Type: text/plain; charset=UTF-8; format=flowed\r\nContent-Transfer-Encoding: 8bit\r\n";
 
 /// The lines of a message's own, up to the ids of others.
-fn own_lines(rt: &impl Abort, alloc: Global, number: u32, conversation: u32) -> String {
-    let lines = format!(in alloc;
+fn own_lines(alloc: Global, number: u32, conversation: u32) -> Result<String, AllocError> {
+    format!(in alloc;
         "From: \"Bob Example {conversation}\" <bob{conversation}@example.com>\r\nTo: Alice Example <alice@example.org>\r\nCc: Team <team@example.org>, carol@example.net\r\nSubject: Re: [list] Figures of week {conversation}\r\nMessage-ID: <{number}.20240102090000.4711@mail.example.com>\r\nReferences:"
-    );
-    lines.expect(rt, MEMORY)
+    )
 }
 
 /// The header of the message of this number, where conversations have `each` messages.
-fn header(rt: &impl Abort, alloc: Global, number: u32, each: u32) -> Bytes {
+fn header(alloc: Global, number: u32, each: u32) -> Result<Bytes, AllocError> {
     let conversation = number.checked_div(each).unwrap_or(0);
     let first = conversation.saturating_mul(each);
     let mut out = Vec::new(alloc);
-    out.extend_from_slice(ON_THE_WAY).expect(rt, MEMORY);
-    let lines = own_lines(rt, alloc, number, conversation);
-    out.extend_from_slice(lines.as_bytes()).expect(rt, MEMORY);
+    out.extend_from_slice(ON_THE_WAY)?;
+    out.extend_from_slice(own_lines(alloc, number, conversation)?.as_bytes())?;
     for other in number.saturating_sub(NAMED).max(first)..number {
-        let id = format!(in alloc; "\r\n <{other}.20240102090000.4711@mail.example.com>");
-        let id = id.expect(rt, MEMORY);
-        out.extend_from_slice(id.as_bytes()).expect(rt, MEMORY);
+        let id = format!(in alloc; "\r\n <{other}.20240102090000.4711@mail.example.com>")?;
+        out.extend_from_slice(id.as_bytes())?;
     }
-    out.extend_from_slice(b"\r\n\r\n").expect(rt, MEMORY);
-    Bytes::from_vec(out).expect(rt, MEMORY)
+    out.extend_from_slice(b"\r\n\r\n")?;
+    Bytes::from_vec(out)
 }
 
-fn whole(rt: &impl Abort, alloc: Global, number: u32, each: u32) -> Response {
+fn whole(alloc: Global, number: u32, each: u32) -> Result<Response, AllocError> {
     let items = FetchItems {
         uid: Some(number.saturating_add(1)),
         flags: Some(Names::new(alloc)),
         modseq: None,
         date: Some(i64::from(number)),
         size: Some(4000),
-        header: Some(header(rt, alloc, number, each)),
+        header: Some(header(alloc, number, each)?),
         body: None,
     };
-    Response::Fetch { seq: 1, items }
+    Ok(Response::Fetch { seq: 1, items })
 }
 
 fn tell(
-    rt: &impl Abort,
     alloc: Global,
     mirror: &mut Mirror,
     command: Command,
     responses: Vec<Response>,
-) {
+) -> Result<(), AllocError> {
     let exchange = Exchange {
         command,
-        selected: Some(Bytes::copy_of(alloc, b"INBOX").expect(rt, MEMORY)),
+        selected: Some(Bytes::copy_of(alloc, b"INBOX")?),
         responses: Listed::from_vec(responses),
         status: Status::Ok,
         code: Code::Absent,
     };
-    mirror.tell(&exchange).expect(rt, MEMORY);
+    match mirror.tell(&exchange) {
+        Ok(()) => Ok(()),
+        Err(_) => Err(AllocError),
+    }
 }
 
-fn tell_folder(rt: &impl Abort, alloc: Global, mirror: &mut Mirror) {
+fn tell_folder(alloc: Global, mirror: &mut Mirror) -> Result<(), AllocError> {
     let mut responses = Vec::new(alloc);
-    let line = Response::List {
+    responses.push(Response::List {
         attributes: Names::new(alloc),
         delimiter: Some(b'/'),
-        name: Bytes::copy_of(alloc, b"INBOX").expect(rt, MEMORY),
-    };
-    responses.push(line).expect(rt, MEMORY);
-    tell(rt, alloc, mirror, Command::List, responses);
+        name: Bytes::copy_of(alloc, b"INBOX")?,
+    })?;
+    tell(alloc, mirror, Command::List, responses)
 }
 
 /// Tells of the messages from one number to before another.
 fn tell_slice(
-    rt: &impl Abort,
     alloc: Global,
     mirror: &mut Mirror,
     first: u32,
     end: u32,
     each: u32,
-) {
+) -> Result<(), AllocError> {
     let mut responses = Vec::new(alloc);
     for number in first..end {
-        let message = whole(rt, alloc, number, each);
-        responses.push(message).expect(rt, MEMORY);
+        responses.push(whole(alloc, number, each)?)?;
     }
     let command = Command::FetchNew {
         from: 1,
         modseq: true,
     };
-    tell(rt, alloc, mirror, command, responses);
+    tell(alloc, mirror, command, responses)
 }
 
 /// A mirror with an INBOX of these messages, `each` in a conversation and each with a header of its own.
-pub fn inbox(rt: &impl Abort, alloc: Global, messages: u32, each: u32) -> Mirror {
+pub fn inbox(alloc: Global, messages: u32, each: u32) -> Result<Mirror, AllocError> {
     let mut mirror = Mirror::new(alloc);
-    tell_folder(rt, alloc, &mut mirror);
+    tell_folder(alloc, &mut mirror)?;
     for slice in 0..messages.div_ceil(SLICE) {
         let first = slice.saturating_mul(SLICE);
         let end = first.saturating_add(SLICE).min(messages);
-        tell_slice(rt, alloc, &mut mirror, first, end, each);
+        tell_slice(alloc, &mut mirror, first, end, each)?;
     }
-    mirror
+    Ok(mirror)
 }
 
 /// Tells of the message of a number, where conversations have `each` messages.
-pub fn tell_new(rt: &impl Abort, alloc: Global, mirror: &mut Mirror, number: u32, each: u32) {
-    tell_slice(rt, alloc, mirror, number, number.saturating_add(1), each);
+pub fn tell_new(
+    alloc: Global,
+    mirror: &mut Mirror,
+    number: u32,
+    each: u32,
+) -> Result<(), AllocError> {
+    tell_slice(alloc, mirror, number, number.saturating_add(1), each)
 }
 
 /// Tells that the message of a UID is seen.
-pub fn tell_seen(rt: &impl Abort, alloc: Global, mirror: &mut Mirror, uid: u32) {
+pub fn tell_seen(alloc: Global, mirror: &mut Mirror, uid: u32) -> Result<(), AllocError> {
     let mut flags = Names::new(alloc);
-    let seen = Bytes::copy_of(alloc, b"\\seen").expect(rt, MEMORY);
-    flags.push(seen).expect(rt, MEMORY);
+    flags.push(Bytes::copy_of(alloc, b"\\seen")?)?;
     let items = FetchItems {
         uid: Some(uid),
         flags: Some(flags),
@@ -137,7 +133,6 @@ pub fn tell_seen(rt: &impl Abort, alloc: Global, mirror: &mut Mirror, uid: u32) 
         body: None,
     };
     let mut responses = Vec::new(alloc);
-    let line = Response::Fetch { seq: 1, items };
-    responses.push(line).expect(rt, MEMORY);
-    tell(rt, alloc, mirror, Command::Unselect, responses);
+    responses.push(Response::Fetch { seq: 1, items })?;
+    tell(alloc, mirror, Command::Unselect, responses)
 }

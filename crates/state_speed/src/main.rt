@@ -11,68 +11,68 @@ use mail_state::{MailState, MailType};
 use process_watch::{Watch, resident};
 use std::alloc::Global;
 use std::env;
-use std::process::Abort;
 use told_mail::Mirror;
 
 /// How many messages are changed, one at a time; how often the same mail is taken in again; and how many messages come.
 const CHANGES: u32 = 5;
 
-/// Why the program ends where it can't go on.
-const MEMORY: &str = "there is memory";
-
-/// The same, of what it says.
-const SAID: &str = "it can be said";
-
 /// How many fields the headers have, and how many octets. Each header is read once.
-fn read_headers(rt: &impl Abort, alloc: Global, mirror: &Mirror) -> (usize, usize) {
+fn read_headers(alloc: Global, mirror: &Mirror) -> Result<(usize, usize), anyhow::Error> {
     let mut count: usize = 0;
     let mut octets: usize = 0;
     for held in mirror.folders() {
         for message in held.messages.as_slice() {
             let header = message.header.as_slice();
-            count = count.saturating_add(fields(alloc, header).expect(rt, MEMORY).len());
+            count = count.saturating_add(fields(alloc, header)?.len());
             octets = octets.saturating_add(header.len());
         }
     }
-    (count, octets)
+    Ok((count, octets))
 }
 
 /// How many Emails and Threads there are.
-fn say_rows(rt: &HostRuntime, state: &MailState) {
-    let emails = state.numbers(MailType::Email).expect(rt, MEMORY).len();
-    let threads = state.numbers(MailType::Thread).expect(rt, MEMORY).len();
+fn say_rows(rt: &HostRuntime, state: &MailState) -> Result<(), anyhow::Error> {
+    let emails = state.numbers(MailType::Email)?.len();
+    let threads = state.numbers(MailType::Thread)?.len();
     let place = state.list(MailType::Email).place();
-    println!(rt; "{emails} Emails, {threads} Threads, place {place}").expect(rt, SAID);
+    println!(rt; "{emails} Emails, {threads} Threads, place {place}")?;
+    Ok(())
 }
 
 /// Takes all messages into a new state.
-fn take_in(rt: &HostRuntime, mirror: &Mirror, messages: u32) -> MailState {
+fn take_in(rt: &HostRuntime, mirror: &Mirror, messages: u32) -> Result<MailState, anyhow::Error> {
     let before = resident(rt);
-    let state = MailState::new(rt.alloc(), 1).expect(rt, MEMORY);
+    let state = MailState::new(rt.alloc(), 1)?;
     let watch = Watch::start(rt);
-    let (state, _moved) = state.apply(mirror).expect(rt, MEMORY);
+    let (state, _moved) = state.apply(mirror)?;
     watch.say(rt, "taken in");
     let more = resident(rt).saturating_sub(before);
     let octets = more.checked_div(u64::from(messages)).unwrap_or(0);
-    println!(rt; "{octets} octets of memory a row, beside its header's").expect(rt, SAID);
-    say_rows(rt, &state);
-    state
+    println!(rt; "{octets} octets of memory a row, beside its header's")?;
+    say_rows(rt, &state)?;
+    Ok(state)
 }
 
 /// Takes what was told in.
-fn take(rt: &HostRuntime, mirror: &Mirror, state: MailState, what: &str) -> MailState {
+fn take(
+    rt: &HostRuntime,
+    mirror: &Mirror,
+    state: MailState,
+    what: &str,
+) -> Result<MailState, anyhow::Error> {
     let watch = Watch::start(rt);
-    let (state, _moved) = state.apply(mirror).expect(rt, MEMORY);
+    let (state, _moved) = state.apply(mirror)?;
     watch.say(rt, what);
-    state
+    Ok(state)
 }
 
 /// Says how long it takes to read the headers alone.
-fn say_headers(rt: &HostRuntime, mirror: &Mirror) {
+fn say_headers(rt: &HostRuntime, mirror: &Mirror) -> Result<(), anyhow::Error> {
     let watch = Watch::start(rt);
-    let (count, octets) = read_headers(rt, rt.alloc(), mirror);
+    let (count, octets) = read_headers(rt.alloc(), mirror)?;
     watch.say(rt, "headers read");
-    println!(rt; "{count} fields, {octets} octets of headers").expect(rt, SAID);
+    println!(rt; "{count} fields, {octets} octets of headers")?;
+    Ok(())
 }
 
 /// Takes changes of one message at a time in.
@@ -81,16 +81,16 @@ fn take_changes(
     mirror: &mut Mirror,
     state: MailState,
     messages: u32,
-) -> MailState {
+) -> Result<MailState, anyhow::Error> {
     let mut state = state;
     for change in 0..CHANGES {
         let uid = (messages / CHANGES)
             .saturating_mul(change)
             .saturating_add(1);
-        tell_seen(rt, rt.alloc(), mirror, uid);
-        state = take(rt, mirror, state, "one message changed");
+        tell_seen(rt.alloc(), mirror, uid)?;
+        state = take(rt, mirror, state, "one message changed")?;
     }
-    state
+    Ok(state)
 }
 
 /// Takes new messages in, one at a time.
@@ -100,45 +100,50 @@ fn take_new(
     state: MailState,
     messages: u32,
     each: u32,
-) -> MailState {
+) -> Result<MailState, anyhow::Error> {
     let mut state = state;
     for more in 0..CHANGES {
-        tell_new(rt, rt.alloc(), mirror, messages.saturating_add(more), each);
-        state = take(rt, mirror, state, "one new message");
+        tell_new(rt.alloc(), mirror, messages.saturating_add(more), each)?;
+        state = take(rt, mirror, state, "one new message")?;
     }
-    state
+    Ok(state)
 }
 
 /// Takes the same mail in again and again.
-fn take_again(rt: &HostRuntime, mirror: &Mirror, state: MailState) -> MailState {
+fn take_again(
+    rt: &HostRuntime,
+    mirror: &Mirror,
+    state: MailState,
+) -> Result<MailState, anyhow::Error> {
     let mut state = state;
     for _ in 0..CHANGES {
-        state = take(rt, mirror, state, "nothing changed");
+        state = take(rt, mirror, state, "nothing changed")?;
     }
-    state
+    Ok(state)
 }
 
-fn measure(rt: &HostRuntime, messages: u32, each: u32) {
-    let mut mirror = inbox(rt, rt.alloc(), messages, each);
-    say_headers(rt, &mirror);
-    let state = take_in(rt, &mirror, messages);
-    let state = take_changes(rt, &mut mirror, state, messages);
-    let state = take_again(rt, &mirror, state);
-    let state = take_new(rt, &mut mirror, state, messages, each);
-    say_rows(rt, &state);
+fn measure(rt: &HostRuntime, messages: u32, each: u32) -> Result<(), anyhow::Error> {
+    let mut mirror = inbox(rt.alloc(), messages, each)?;
+    say_headers(rt, &mirror)?;
+    let state = take_in(rt, &mirror, messages)?;
+    let state = take_changes(rt, &mut mirror, state, messages)?;
+    let state = take_again(rt, &mirror, state)?;
+    let state = take_new(rt, &mut mirror, state, messages, each)?;
+    say_rows(rt, &state)
 }
 
 fn number(word: String) -> u32 {
     word.parse::<u32>().unwrap_or(0)
 }
 
-fn main(rt: HostRuntime) {
-    let mut words = env::args(&rt).expect(&rt, MEMORY);
+fn main(rt: HostRuntime) -> Result<(), anyhow::Error> {
+    let mut words = env::args(&rt)?;
     let _ = words.next();
     match (words.next(), words.next()) {
         (Some(messages), Some(each)) => measure(&rt, number(messages), number(each)),
         _ => {
-            println!(rt; "usage: state_speed MESSAGES EACH").expect(&rt, SAID);
+            println!(rt; "usage: state_speed MESSAGES EACH")?;
+            Ok(())
         }
     }
 }
