@@ -10,61 +10,12 @@ use gate_host::{Host, HostWorld, StandardFront};
 use gate_world::{Bytes, Link, Secrets, Text, Unread};
 use imap_client::Client;
 use made::MadeLink;
+use process_watch::Watch;
 use std::alloc::{AllocError, Global};
+use std::env;
 use std::env::VarError;
-use std::time::Instant;
-use std::{env, fs};
 use store_octets::two_rounds;
 use told_mail::Mirror;
-
-/// What the line of this name says in a text of the system; empty where there is none.
-fn field<'a>(text: &'a str, name: &str) -> &'a str {
-    for line in text.lines() {
-        if let Some(rest) = line.strip_prefix(name) {
-            return rest.trim();
-        }
-    }
-    ""
-}
-
-/// How many microseconds this process has had of a processor.
-fn processor_micros(rt: &HostRuntime) -> Result<u64, anyhow::Error> {
-    let text = fs::read_to_string(rt, "/proc/self/schedstat")?;
-    let nanos = match text.split(' ').next() {
-        Some(word) => word.parse::<u64>().unwrap_or(0),
-        None => 0,
-    };
-    Ok(nanos / 1_000)
-}
-
-/// A clock, and a clock of the processor.
-#[derive(Drop)]
-struct Watch {
-    start: Instant,
-    processor: u64,
-}
-
-impl Watch {
-    fn start(rt: &HostRuntime) -> Result<Watch, anyhow::Error> {
-        Ok(Watch {
-            start: Instant::now(rt)?,
-            processor: processor_micros(rt)?,
-        })
-    }
-
-    /// Says how long this took, and what memory there is.
-    fn say(&self, rt: &HostRuntime, what: &str) -> Result<(), anyhow::Error> {
-        let taken = self.start.elapsed(rt)?.as_micros();
-        let processor = processor_micros(rt)?.saturating_sub(self.processor);
-        let status = fs::read_to_string(rt, "/proc/self/status")?;
-        let now = field(&status, "VmRSS:");
-        let peak = field(&status, "VmHWM:");
-        println!(rt;
-            "{what}: {taken} microseconds, {processor} of a processor; memory {now}, peak {peak}"
-        )?;
-        Ok(())
-    }
-}
 
 /// How many messages a mirror has, and how many octets of headers.
 fn counted(mirror: &Mirror) -> (usize, usize) {
@@ -91,9 +42,9 @@ fn rounds<W: Link + Secrets>(
     println!(rt; "connect: {connected:?}")?;
     for round in ["first round", "second round"] {
         if client.alive() {
-            let watch = Watch::start(rt)?;
+            let watch = Watch::start(rt);
             let done = client.round(world, &mut mirror);
-            watch.say(rt, round)?;
+            watch.say(rt, round);
             let (messages, octets) = counted(&mirror);
             let folders = mirror.folders().len();
             println!(rt;
@@ -129,9 +80,9 @@ fn in_memory(rt: &HostRuntime, messages: u32) -> Result<(), anyhow::Error> {
     let octets = two_rounds(rt.alloc(), messages)?;
     let count = octets.len();
     let mut link = MadeLink::new(octets);
-    let watch = Watch::start(rt)?;
+    let watch = Watch::start(rt);
     let read = read_plainly(rt.alloc(), &mut link, count);
-    watch.say(rt, "plain reader")?;
+    watch.say(rt, "plain reader");
     println!(rt; "{read} octets")?;
     link.rewind();
     rounds(rt, &mut link, b"alice")

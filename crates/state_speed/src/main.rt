@@ -8,72 +8,13 @@ mod made_mail;
 use made_mail::{inbox, tell_new, tell_seen};
 use mail_header::fields;
 use mail_state::{MailState, MailType};
+use process_watch::{Watch, resident};
 use std::alloc::Global;
-use std::time::Instant;
-use std::{env, fs};
+use std::env;
 use told_mail::Mirror;
 
 /// How many messages are changed, one at a time; how often the same mail is taken in again; and how many messages come.
 const CHANGES: u32 = 5;
-
-/// What the line of this name says in a text of the system; empty where there is none.
-fn field<'a>(text: &'a str, name: &str) -> &'a str {
-    for line in text.lines() {
-        if let Some(rest) = line.strip_prefix(name) {
-            return rest.trim();
-        }
-    }
-    ""
-}
-
-/// How many microseconds this process has had of a processor.
-fn processor_micros(rt: &HostRuntime) -> Result<u64, anyhow::Error> {
-    let text = fs::read_to_string(rt, "/proc/self/schedstat")?;
-    let nanos = match text.split(' ').next() {
-        Some(word) => word.parse::<u64>().unwrap_or(0),
-        None => 0,
-    };
-    Ok(nanos / 1_000)
-}
-
-/// The octets of memory that this process has.
-fn resident(rt: &HostRuntime) -> Result<u64, anyhow::Error> {
-    let status = fs::read_to_string(rt, "/proc/self/status")?;
-    let kibibytes = match field(&status, "VmRSS:").split(' ').next() {
-        Some(word) => word.parse::<u64>().unwrap_or(0),
-        None => 0,
-    };
-    Ok(kibibytes.saturating_mul(1_024))
-}
-
-/// A clock, and a clock of the processor.
-#[derive(Drop)]
-struct Watch {
-    start: Instant,
-    processor: u64,
-}
-
-impl Watch {
-    fn start(rt: &HostRuntime) -> Result<Watch, anyhow::Error> {
-        Ok(Watch {
-            start: Instant::now(rt)?,
-            processor: processor_micros(rt)?,
-        })
-    }
-
-    /// Says how long this took, and what memory there is.
-    fn say(&self, rt: &HostRuntime, what: &str) -> Result<(), anyhow::Error> {
-        let taken = self.start.elapsed(rt)?.as_micros();
-        let processor = processor_micros(rt)?.saturating_sub(self.processor);
-        let status = fs::read_to_string(rt, "/proc/self/status")?;
-        let now = field(&status, "VmRSS:");
-        let peak = field(&status, "VmHWM:");
-        println!(rt;
-            "{what}: {taken} microseconds, {processor} of a processor; memory {now}, peak {peak}"
-        )?;
-        Ok(())
-    }
-}
 
 /// How many fields the headers have, and how many octets. Each header is read once.
 fn read_headers(alloc: Global, mirror: &Mirror) -> Result<(usize, usize), anyhow::Error> {
@@ -100,12 +41,12 @@ fn say_rows(rt: &HostRuntime, state: &MailState) -> Result<(), anyhow::Error> {
 
 /// Takes all messages into a new state.
 fn take_in(rt: &HostRuntime, mirror: &Mirror, messages: u32) -> Result<MailState, anyhow::Error> {
-    let before = resident(rt)?;
+    let before = resident(rt);
     let state = MailState::new(rt.alloc(), 1)?;
-    let watch = Watch::start(rt)?;
+    let watch = Watch::start(rt);
     let (state, _moved) = state.apply(mirror)?;
-    watch.say(rt, "taken in")?;
-    let more = resident(rt)?.saturating_sub(before);
+    watch.say(rt, "taken in");
+    let more = resident(rt).saturating_sub(before);
     let octets = more.checked_div(u64::from(messages)).unwrap_or(0);
     println!(rt; "{octets} octets of memory a row, beside its header's")?;
     say_rows(rt, &state)?;
@@ -119,17 +60,17 @@ fn take(
     state: MailState,
     what: &str,
 ) -> Result<MailState, anyhow::Error> {
-    let watch = Watch::start(rt)?;
+    let watch = Watch::start(rt);
     let (state, _moved) = state.apply(mirror)?;
-    watch.say(rt, what)?;
+    watch.say(rt, what);
     Ok(state)
 }
 
 /// Says how long it takes to read the headers alone.
 fn say_headers(rt: &HostRuntime, mirror: &Mirror) -> Result<(), anyhow::Error> {
-    let watch = Watch::start(rt)?;
+    let watch = Watch::start(rt);
     let (count, octets) = read_headers(rt.alloc(), mirror)?;
-    watch.say(rt, "headers read")?;
+    watch.say(rt, "headers read");
     println!(rt; "{count} fields, {octets} octets of headers")?;
     Ok(())
 }
