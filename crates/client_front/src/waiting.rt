@@ -76,7 +76,7 @@ impl<S: Drop> Waiting<S> {
     fn next_late(&mut self, now: u64) -> Option<Idle<S>>
         ensures some { IfSome result (λ client. (self.old.idle.items ≡ client ∷ self.new.idle.items) × (spec.has_expired now client.since ≡ true)) }
         ensures none { IfNone result ((self.new.idle.items ≡ self.old.idle.items) × (spec.is_first_late now self.old.idle.items ≡ false)) }
-        ensures asking { self.new.asking ≡ self.old.asking }
+        ensures asking { self.new.asking.items ≡ self.old.asking.items }
     {
         if self.is_first_late(now) {
             self.idle.pop_front()
@@ -124,7 +124,7 @@ impl<S: Drop> Waiting<S> {
 impl<S: ClientStream> Waiting<S> {
     /// A client that was idle: it asks where it has sent an octet, and is closed where it has sent none. Whether it is closed.
     fn release(&mut self, client: Idle<S>) -> Result<bool, AllocError>
-        ensures idle { self.new.idle ≡ self.old.idle }
+        ensures idle { self.new.idle.items ≡ self.old.idle.items }
         ensures released { IfOk result (λ closed. Releases S.shows client.stream closed self.old.asking.items self.new.asking.items) }
     {
         match client.stream.first() {
