@@ -8,7 +8,7 @@ use Rattle.gate_world.specs.declared.event.Event.TheVariants.{Word}
 use Rattle.change_list.specs.Advance.{Tests, advance}
 use Rattle.change_list.specs.History.{Touch, value_after}
 use Rattle.told_mail.specs.Told.{Told}
-use Rattle.served_maps.specs.Past.{Past, gone_on, had_at, place_now}
+use Rattle.served_maps.specs.Past.{Past, gone_on}
 use Rattle.mail_maps.specs.Rows.{Rows}
 use Rattle.mail_maps.specs.Serve.{mailbox_tests, email_tests, thread_tests}
 use Rattle.mail_state.specs.History.{MailHistory, first_history, served_mailboxes, served_emails, served_threads}

@@ -8,7 +8,7 @@ use Rattle.told_mail.specs.Exchanges.{tell}
 use Rattle.told_mail.specs.Mail.{Mail}
 use Rattle.told_mail.specs.Told.{Told}
 use Rattle.mail_state.specs.History.{MailHistory, Advances, HasRoom, first_history}
-use Rattle.mail_state.specs.Telling.{IsTold, Begins, Goes}
+use Rattle.mail_state.specs.Telling.{Begins, Goes}
 use Rattle.imap_exchange.specs.declared.link_end.LinkEnd.{LinkEnd}
 use Rattle.imap_exchange.specs.declared.link_end.LinkEnd.TheVariants as end
 use Rattle.gate_machine.specs.History.{KnownMail, known_mail, served_anew}

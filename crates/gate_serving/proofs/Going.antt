@@ -1,5 +1,5 @@
 -- Histories go on from client to client, unless another epoch is drawn.
-use Rattle.std.proofs.Common.{◌≡◌, ◌++◌, ◌∷◌, List, [], ℕ, refl, sym, ap, subst, inl, inr}
+use Rattle.std.proofs.Common.{◌++◌, ◌∷◌, List, [], ℕ, sym, ap, subst, inl, inr}
 use Rattle.gate_world.specs.declared.event.Event.{Event}
 use Rattle.gate_world.specs.declared.event.Event.TheVariants.{Accepted, ClientDone}
 use Rattle.gate_calls.specs.Mailings.{Mailing}
