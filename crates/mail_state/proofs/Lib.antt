@@ -13,4 +13,4 @@ mod FollowLemmas
 mod StayLemmas
 mod ValidityLemmas
 mod ToldRows
-mod LastLemmas
+mod KeyLemmas
