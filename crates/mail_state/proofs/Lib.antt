@@ -8,6 +8,7 @@ mod TouchedThreads
 mod KeptFolders
 mod KeptMailboxes
 mod RecountLemmas
+mod CountLemmas
 mod SoundLemmas
 mod FollowLemmas
 mod StayLemmas
