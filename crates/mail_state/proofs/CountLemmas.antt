@@ -101,8 +101,7 @@ changes_alone : (old : List (ℕ × ServedMailbox)) → ((x y : ServedMailbox) �
     → CountAlone was (map (change mailbox_tests.counts old) es)
 changes_alone old exact was [] rows here = tt
 changes_alone old exact was (e ∷ es) rows here =
-    let first : OldOrNone (row_at old e.0) (was e.0) = here e.0 e.1 (ap (λ (b : Bool). cond b (Some e.1) (row_at es e.0)) (key_is e.0 e.0 ∙ eq-eqb e.0 e.0 refl)) in
-    (
+    let first : OldOrNone (row_at old e.0) (was e.0) = here e.0 e.1 (ap (λ (b : Bool). cond b (Some e.1) (row_at es e.0)) (key_is e.0 e.0 ∙ eq-eqb e.0 e.0 refl)) in (
       one_change (row_at old e.0) (was e.0) e.1 exact first,
       changes_alone old exact (map_then was (change mailbox_tests.counts old e)) es rows.1 (λ q v is.
           elim (nat_eq e.0 q) as (λ b. nat_eq e.0 q ≡ b → OldOrNone (row_at old q) (cond b (Some e.1) (was q))) [

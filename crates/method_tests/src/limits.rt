@@ -109,13 +109,7 @@ fn long_ids(rt: &impl Abort, alloc: Global) -> String {
 fn ids_that_begin_alike(rt: HostRuntime) {
     let state = with_folders(&rt, rt.alloc(), 1);
     let arguments = long_ids(&rt, rt.alloc());
-    let found = answer(
-        &rt,
-        rt.alloc(),
-        &state,
-        "Mailbox/get",
-        arguments.as_str(),
-    );
+    let found = answer(&rt, rt.alloc(), &state, "Mailbox/get", arguments.as_str());
     let front = "{\"accountId\":\"a1\",\"list\":[{\"id\":\"m1\"}],\"notFound\":[\"m000";
     assert!(rt; found.as_str().starts_with(front));
     let names = found.as_str().matches("\"m000").count();
