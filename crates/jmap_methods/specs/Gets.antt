@@ -1,5 +1,6 @@
 -- What a /get asks and answers (RFC 8620 section 5.1), of objects by number.
-use Rattle.std.specs.Prelude.{ℕ, ◌==◌, Bool, not, List, [], ◌∷◌, map, length, nat_lt, if◌then◌else◌, bytes_eq, codes, is_none, Option, Some, None, Result, Ok, Err}
+use Rattle.std.specs.Prelude.{ℕ, ◌==◌, nat_lt, Bool, not, if◌then◌else◌, List, [], ◌∷◌, map, length, bytes_eq, codes}
+use Rattle.std.specs.Prelude.{is_none, Option, Some, None, Result, Ok, Err}
 use Rattle.std.specs.List.{filter, filter_map, find, list_any}
 use Rattle.std.specs.Map.{lookup, values_of}
 use Rattle.serde_json.specs.Data.{Data, string, array, object, no_members, member}

@@ -88,7 +88,10 @@ one_change None was v exact is alone = absurd (let f : false ≡ true = alone in
 one_change (Some x) was v exact (inl same) alone = record {
   now = v;
   value_is = refl;
-  rest = λ u found. let both : Some u ≡ Some x = sym found ∙ same in let at : u ≡ x = cc in ap (λ (y : ServedMailbox). record y { counts = v.counts }) at ∙ exact x v alone;
+  rest = λ u found.
+      let both : Some u ≡ Some x = sym found ∙ same in
+      let at : u ≡ x = cc in
+      ap (λ (y : ServedMailbox). record y { counts = v.counts }) at ∙ exact x v alone;
 }
 one_change (Some x) was v exact (inr none) alone = record {
   now = v;

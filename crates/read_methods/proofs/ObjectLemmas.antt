@@ -61,7 +61,8 @@ module _ {W : Type 0} (letter : ℕ) (state : List ℕ) (objects : W → List (�
       → get_answered letter state objects asked ≡ Ok d
   get_given ids wanted shown there numbers list text d is same there_is sorted numbers_are list_is text_is d_is =
       let S : List ℕ → Type 0 = λ ks. IsStrictlySortedBy nat_cmp ks in
-      let found = found_by_numbers letter (objects shown) ids numbers list (subst S there_is sorted) (ap (λ (ks : List ℕ). numbers_asked letter ks ids) (sym there_is) ∙ numbers_are) list_is in
+      let asked_there = ap (λ (ks : List ℕ). numbers_asked letter ks ids) (sym there_is) ∙ numbers_are in
+      let found = found_by_numbers letter (objects shown) ids numbers list (subst S there_is sorted) asked_there list_is in
       let answer : List ℕ → Result Data MethodError = λ t. Ok (get_data t list (map string numbers.missing)) in
       ap (λ (a : Result (GetAsked W) MethodError). get_answered letter state objects a) is
       ∙ ap (λ (w : W). get_answer state (found_in letter (objects w) ids)) (sym same)

@@ -22,7 +22,8 @@ loop-id-preserved c =
     elim c.if-new.branch [
       | then-new+in_ok-push w ↦
           let new : is_among id keys ≡ false = not_true (is_among id keys) (sym c.in_ok-new.ensures.new ∙ w.if-new.true) in
-          let more : nows w.push.new.self.items ≡ once ++ id ∷ [] = ap nows w.in_ok-push.ensures.items ∙ map-append (λ (t : Bor (List ℕ)). t.now) c.loop-id.once.items (get_or items i none ∷ []) in
+          let more : nows w.push.new.self.items ≡ once ++ id ∷ [] =
+          ap nows w.in_ok-push.ensures.items ∙ map-append (λ (t : Bor (List ℕ)). t.now) c.loop-id.once.items (get_or items i none ∷ []) in
           rw (w.once-is, more) (record {
             seen = λ text. c.in_ok-new.ensures.seen text ∙ seen_too keys once id text (c.loop-id.invariant.seen text);
             once = seen_first (nows items) rest id once so_far (sym (c.loop-id.invariant.seen id) ∙ new);

@@ -16,8 +16,9 @@ returns-in_err-numbers c =
     let state = c.args.state.now in
     let wanted = c.in_ok-ids.field-0.properties.items in
     let is = err_from_is_err_and c.from_residual.result c.from_residual.ensures.1 in
-    rw (is.1, is.2) (get_refused mailbox_letter (state_text (record { epoch = state.epoch; place = state.lists.mailbox.place })) (mailbox_objects (served mailbox_of state.rows.mailboxes))
-    (mailboxes_asked (view c.args.arguments.now)) (option_map (λ v. map (λ t. t.now) v.items) c.in_ok-ids.field-0.ids) wanted (keys_of state.rows.mailboxes) c.in_err-numbers.field-0.0
+    rw (is.1, is.2) (get_refused mailbox_letter (state_text (record { epoch = state.epoch; place = state.lists.mailbox.place }))
+    (mailbox_objects (served mailbox_of state.rows.mailboxes)) (mailboxes_asked (view c.args.arguments.now))
+    (option_map (λ v. map (λ t. t.now) v.items) c.in_ok-ids.field-0.ids) wanted (keys_of state.rows.mailboxes) c.in_err-numbers.field-0.0
     c.in_ok-ids.ensures (sym (keys_of_objects mailbox_of (mailbox_data wanted) state.rows.mailboxes)) c.in_err-numbers.ensures.asked)
 
 pub returns : goal.returns
@@ -27,6 +28,8 @@ returns c =
     let asked = c.in_ok-numbers.field-0 in
     get_given mailbox_letter (state_text (record { epoch = state.epoch; place = state.lists.mailbox.place })) objects (mailboxes_asked (view c.args.arguments.now))
     (option_map (λ v. map (λ t. t.now) v.items) c.in_ok-ids.field-0.ids) c.in_ok-ids.field-0.properties.items c.as_slice.result.now (keys_of state.rows.mailboxes)
-    (record { numbers = asked.numbers.items; missing = map (λ t. t.now) asked.missing.items }) (map view c.in_ok-list.list.items) c.as_str.result.now (view c.in_ok-get_value.field-0)
-    c.in_ok-ids.ensures c.as_slice.ensures.value (sym (keys_of_objects mailbox_of (mailbox_data c.as_slice.result.now) state.rows.mailboxes)) c.asked_numbers.ensures.ascending c.in_ok-numbers.ensures.asked
+    (record { numbers = asked.numbers.items; missing = map (λ t. t.now) asked.missing.items })
+    (map view c.in_ok-list.list.items) c.as_str.result.now (view c.in_ok-get_value.field-0)
+    c.in_ok-ids.ensures c.as_slice.ensures.value (sym (keys_of_objects mailbox_of (mailbox_data c.as_slice.result.now) state.rows.mailboxes))
+    c.asked_numbers.ensures.ascending c.in_ok-numbers.ensures.asked
     (c.in_ok-list.ensures ∙ ap (at_numbers (objects c.as_slice.result.now)) c.as_slice-2.ensures.value) (c.as_str.ensures.value ∙ c.in_ok-text.ensures) c.in_ok-get_value.ensures

@@ -15,8 +15,9 @@ loop-number-preserved c =
     let numbers = c.args.numbers.now in
     let i = c.loop-number.number-index in
     let before = c.loop-number.list.items in
+    let is = c.in_ok-mailbox_at.ensures in
     elim c.match-branch-3.branch [
-      | in-None w ↦ rw w.list-is (none_listed found numbers i c.loop-number-test.true before c.in_ok-mailbox_at.field-0 w.in-None.is c.in_ok-mailbox_at.ensures c.loop-number.invariant)
+      | in-None w ↦ rw w.list-is (none_listed found numbers i c.loop-number-test.true before c.in_ok-mailbox_at.field-0 w.in-None.is is c.loop-number.invariant)
       | in-Some+in_ok-push-in-Some w ↦ rw w.list-is (one_listed found numbers i c.loop-number-test.true before w.push.new.self.items c.in_ok-mailbox_at.field-0 w.in-Some.object
-          w.in-Some.is w.in_ok-push-in-Some.ensures.items c.in_ok-mailbox_at.ensures c.loop-number.invariant)
+          w.in-Some.is w.in_ok-push-in-Some.ensures.items is c.loop-number.invariant)
     ]
