@@ -82,8 +82,8 @@ rows_filtered p (e ∷ es) rows = elim (p e) as (λ c. AreRows (cond c (e ∷ fi
 ]
 
 -- a change that counts alone leaves the rest of what the old map has
-one_change : (old was : Option ServedMailbox) (v : ServedMailbox) → ((x y : ServedMailbox) → mailbox_tests.counts x y ≡ true → record x { counts = y.counts } ≡ y) → OldOrNone old was
-    → counts_if mailbox_tests.counts old v ≡ true → LeavesTheRest was (Some v)
+one_change : (old was : Option ServedMailbox) (v : ServedMailbox) → ((x y : ServedMailbox) → mailbox_tests.counts x y ≡ true → record x { counts = y.counts } ≡ y)
+    → OldOrNone old was → counts_if mailbox_tests.counts old v ≡ true → LeavesTheRest was (Some v)
 one_change None was v exact is alone = absurd (let f : false ≡ true = alone in cc)
 one_change (Some x) was v exact (inl same) alone = record {
   now = v;

@@ -1,4 +1,4 @@
-use Rattle.std.proofs.Common.{map, ◌≡◌, length, arith}
+use Rattle.std.proofs.Common.{map}
 use Rattle.jmap_methods.proofs.GetLemmas.{asked_by_ids, asked_by_null, none_seen}
 use Rattle.jmap_methods.proofs.gets.asked_numbers.Goals as goal
 
@@ -6,7 +6,8 @@ pub returns-in_ok-numbers_with-in-Some-clause-asked : goal.returns-in_ok-numbers
 returns-in_ok-numbers_with-in-Some-clause-asked g c =
     let asked = c.in_ok-numbers_with-in-Some.field-0 in
     asked_by_ids c.args.letter (g.T.Numbers.numbers c.args.there.now) (map (λ t. t.now) c.in-Some.ids.now.items)
-    (map (λ t. t.now) c.in_ok-once-in-Some.once.items) asked.numbers.items (map (λ t. t.now) asked.missing.items) c.in_ok-once-in-Some.ensures c.in_ok-numbers_with-in-Some.ensures.numbers c.in_ok-numbers_with-in-Some.ensures.missing
+    (map (λ t. t.now) c.in_ok-once-in-Some.once.items) asked.numbers.items (map (λ t. t.now) asked.missing.items)
+    c.in_ok-once-in-Some.ensures c.in_ok-numbers_with-in-Some.ensures.numbers c.in_ok-numbers_with-in-Some.ensures.missing
 
 pub returns-in_ok-numbers-in-None-clause-asked : goal.returns-in_ok-numbers-in-None-clause-asked
 returns-in_ok-numbers-in-None-clause-asked g c =
