@@ -1,5 +1,5 @@
 -- Texts, each once: a set of those seen, and those that are left.
-use Rattle.std.proofs.Common.{◌≡◌, ℕ, ◌+◌, List, [], ◌∷◌, ◌++◌, map, drop, Bool, true, false, not, ◌||◌, cond, Bor, Ordering, Less, Equal, Greater, nat_cmp}
+use Rattle.std.proofs.Common.{◌≡◌, ℕ, List, [], ◌∷◌, ◌++◌, map, Bool, true, false, not, ◌||◌, cond, Bor, Ordering, Less, Equal, Greater, nat_cmp}
 use Rattle.std.proofs.Common.{refl, sym, ap, ◌∙◌, append_assoc}
 use Rattle.std.specs.Bool.{one_answer}
 use Rattle.std.specs.BTreeMap.{is_at}
@@ -86,6 +86,11 @@ key_put text key (k ∷ ks) = by (slice_cmp nat_cmp key.now k.now) refl (key_put
 -- those that aren't among these
 abbrev pub left_of : List (List ℕ) → List (List ℕ) → List (List ℕ)
 left_of once ids = filter (λ id. not (is_among id once)) ids
+
+-- of none, all are left
+pub none_left : (ids : List (List ℕ)) → left_of [] ids ≡ ids
+none_left [] = refl
+none_left (x ∷ xs) = ap (λ (rest : List (List ℕ)). x ∷ rest) (none_left xs)
 
 -- those other than this one
 abbrev others : List ℕ → List (List ℕ) → List (List ℕ)

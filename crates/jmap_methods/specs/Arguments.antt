@@ -2,7 +2,7 @@
 use Rattle.std.specs.Prelude.{ℕ, zero, suc, Bool, ◌&&◌, List, [], ◌∷◌, ℤ, pos, negsuc, neg_ℤ, int_le, nat_lt, if◌then◌else◌, bytes_eq, codes}
 use Rattle.std.specs.Prelude.{Option, Some, None, option_map, option_and_then, Result, Ok, Err, ok_or}
 use Rattle.std.specs.List.{list_any}
-use Rattle.serde_json.specs.Data.{Num, unsigned, negative, float, Data, null, boolean, number, string, array, object, Items, no_items, item}
+use Rattle.serde_json.specs.Data.{Num, unsigned, negative, float, Data, null, number, array, Items, no_items, item}
 use Rattle.serde_json.specs.Find.{get, as_str}
 use Rattle.jmap_methods.specs.declared.arguments.TheConstants.{MAX_OBJECTS_IN_GET, MAX_WHOLE_NUMBER}
 use Rattle.jmap_methods.specs.declared.method_error.MethodError.{MethodError}

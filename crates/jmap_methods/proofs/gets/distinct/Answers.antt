@@ -1,15 +1,24 @@
-use Rattle.std.proofs.Common.{◌≡◌, ◌<◌, ℕ, ◌+◌, List, ◌∷◌, ◌++◌, [], Bool, true, false, not, Bor, map, drop, get_or, length, sym, ap, ◌∙◌, arith}
+use Rattle.std.proofs.Common.{◌≡◌, ◌<◌, ℕ, ◌+◌, List, ◌∷◌, ◌++◌, [], true, false, Bor, map, drop, get_or, length, sym, ap, ◌∙◌, arith}
 use Rattle.std.proofs.lemmas.List.{drop_more, map-append}
 use Rattle.jmap_methods.specs.Arguments.{is_among}
 use Rattle.jmap_methods.specs.Gets.{distinct_ids}
-use Rattle.jmap_methods.proofs.OnceLemmas.{left_of, seen_before, seen_first, seen_too, seen_still, not_true, not_false}
+use Rattle.jmap_methods.proofs.OnceLemmas.{left_of, none_left, seen_before, seen_first, seen_too, seen_still, not_true, not_false}
 use Rattle.jmap_methods.proofs.gets.distinct.Goals as goal
 use Rattle.jmap_methods.proofs.gets.distinct.Goals.{then-new+in_ok-push, else-new}
+
+pub loop-id-init : goal.loop-id-init
+loop-id-init c =
+    let nows : List (Bor (List ℕ)) → List (List ℕ) = λ xs. map (λ t. t.now) xs in
+    let all : List (List ℕ) = distinct_ids (nows c.deref-id-items.result.now) in
+    record {
+      seen = λ text. ap (λ (ks : List (Bor (List ℕ))). is_among text (nows ks)) (c.new-seen.ensures.empty ∙ sym c.new-once.ensures.items);
+      once = sym (ap (λ (xs : List (Bor (List ℕ))). nows xs ++ left_of (nows xs) all) c.new-once.ensures.items ∙ none_left all);
+    }
 
 pub loop-id-preserved : goal.loop-id-preserved
 loop-id-preserved c =
     let nows : List (Bor (List ℕ)) → List (List ℕ) = λ xs. map (λ t. t.now) xs in
-    let items : List (Bor (List ℕ)) = c.args.ids.now.items in
+    let items : List (Bor (List ℕ)) = c.deref-id-items.result.now in
     let i = c.loop-id.id-index in
     let none : Bor (List ℕ) = record { ref_ptr = (0, 0); now = [] } in
     let within : i < length items = omega (arith, c.loop-id-test.true) in
