@@ -4,7 +4,7 @@ use Rattle.std.specs.Prelude.{is_ok, is_some}
 use Rattle.serde_json.specs.declared.value.Value.{Value}
 use Rattle.serde_json.specs.Data.{Data}
 use Rattle.serde_json.specs.View.{view}
-use Rattle.jmap_methods.specs.Outcome.{Agrees, Meets}
+use Rattle.jmap_methods.specs.Outcome.{Agrees, IsJust, Meets}
 use Rattle.jmap_methods.specs.declared.method.Method.{Method}
 use Rattle.jmap_methods.specs.declared.method_error.MethodError.{MethodError}
 use Rattle.jmap_methods.specs.declared.method_error.MethodError.TheVariants.{Memory, ServerUnavailable}
@@ -30,6 +30,16 @@ pub agrees_meets : (due : Result Data MethodError) (result : Result Value Method
 agrees_meets due (Ok value) is = sym is
 agrees_meets due (Err e) (inl out) = inl out
 agrees_meets due (Err e) (inr is) = inr (sym is)
+
+-- so does one that is just what is due
+pub just_meets : (due : Result Data MethodError) (result : Result Value MethodError) → IsJust view result due → Meets Memory view result (λ r. r ≡ due)
+just_meets due (Ok value) is = sym is
+just_meets due (Err e) is = inr (sym is)
+
+-- a refusal that is the one that is due agrees with it
+pub is_refusal : (due refused : Result (Unit {0}) MethodError) → refused ≡ due → Agrees Memory (λ u. u) refused due
+is_refusal due (Ok u) is = sym is
+is_refusal due (Err e) is = inr (sym is)
 
 -- a reply of the method that was asked
 pub replies_by : (m asked : Method) (mail : Mailing) (d : Data) (result : Result Value MethodError) → asked ≡ m → Meets Memory view result (RepliesAtOnce m mail d)

@@ -8,9 +8,10 @@ mod TouchedThreads
 mod KeptFolders
 mod KeptMailboxes
 mod RecountLemmas
+mod CountLemmas
 mod SoundLemmas
 mod FollowLemmas
 mod StayLemmas
 mod ValidityLemmas
 mod ToldRows
-mod LastLemmas
+mod KeyLemmas

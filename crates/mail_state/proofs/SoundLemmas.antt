@@ -1,13 +1,15 @@
 -- Each history is sound, and no number is used twice.
 use Rattle.std.proofs.Common.{◌≡◌, ◌≢◌, ℕ, ◌+◌, ◌<◌, ◌≤◌, List, [], ◌∷◌, take, refl, sym, ap, ◌∙◌, subst, arith, nat_cmp, zero, suc, All, Option, Some, None}
-use Rattle.std.proofs.Common.{◌↔◌, ◌&&◌, Bool, true, false}
+use Rattle.std.proofs.Common.{◌↔◌, ◌&&◌, Bool, true, false, Contains}
 use Rattle.std.specs.Bool.{IsTrue}
 use Rattle.std.specs.List.Sorted.{IsStrictlySortedBy}
 use Rattle.std.specs.Map.{keys_of}
 use Rattle.std.specs.Option.{option_map}
 use Rattle.std.proofs.lemmas.List.Elements.{All-nil}
 use Rattle.change_list.specs.Advance.{Tests, row_at, AreRows, advance}
-use Rattle.change_list.specs.History.{map_at}
+use Rattle.change_list.specs.Changes.{IsChanges}
+use Rattle.change_list.specs.History.{map_at, entries_of}
+use Rattle.change_list.specs.declared.answer.Changes.{Changes}
 use Rattle.change_list.specs.Kept.{IsOf, none_yet}
 use Rattle.change_list.proofs.CopyLaws as copies
 use Rattle.served_maps.specs.Past.{Past, IsPast, AreFresh, no_past, gone_on, had_at, has_now, place_now}
@@ -37,6 +39,7 @@ use Rattle.mail_state.specs.History.{
 use Rattle.mail_state.specs.Sound.{IsSound, IsRowOf, KeepsImmutable}
 use Rattle.mail_state.specs.State.{IsStateOf, first_state}
 use Rattle.mail_state.specs.Laws.{ComesNew, UsesOnce, CopiesStay, KeepsCopies, HasCopyLaws}
+use Rattle.mail_state.proofs.CountLemmas.{goes_on_alone, counts_leave}
 use Rattle.mail_state.proofs.EmailLemmas.{InOrder, in_order, taken_in_order, served_rows, next_rises, next_bound, emails_are_fresh, keeps_immutable}
 use Rattle.mail_state.proofs.ThreadLemmas.{thread_rows, threads_have, threads_are_fresh, threads_below_then, some_is}
 use Rattle.mail_state.proofs.FolderLemmas.{mailbox_rows, mailboxes_have, mailboxes_are_fresh, folder_below}
@@ -84,7 +87,24 @@ first_is_sound epoch = record {
   marks = tt;
   marks_shown = λ mark. refl;
   immutable = λ i j q u v a b. absurd (let f : None ≡ Some u = sym (none_at i q) ∙ a in cc);
+  count_alone = tt;
 }
+
+-- ---- Mailboxes that are the same but for counts
+
+both : (a b : Bool) → (a && b) ≡ true → (a ≡ true) × (b ≡ true)
+both true b e = (refl, e)
+both false b e = absurd (let f : false ≡ true = e in cc)
+
+same_itself : (v : ServedMailbox) → same_counts v.counts v.counts ≡ true
+same_itself v = (both (same_but_counts v v) (same_counts v.counts v.counts) ((exact_mailbox v v).1 refl)).1
+
+-- two Mailboxes are the same but for counts where one with the other's counts is the other
+pub but_for_counts : (u v : ServedMailbox) → IsTrue (mailbox_tests.counts u v) ↔ (record u { counts = v.counts } ≡ v)
+but_for_counts u v = (
+  (λ h. (exact_mailbox (record u { counts = v.counts }) v).0 (ap (λ (b : Bool). b && same_counts v.counts v.counts) h ∙ same_itself v)),
+  (λ e. (both (same_but_counts u v) (same_counts v.counts v.counts) ((exact_mailbox (record u { counts = v.counts }) v).1 e)).0),
+)
 
 -- ---- going on
 
@@ -116,6 +136,7 @@ taken_sound h m n sound next takes =
       marks = marks_apart m h.numbered n next.is_mail sound.marks takes;
       marks_shown = λ mark. emails_are_shown h.numbered m.folders n mark takes;
       immutable = keeps_immutable h m.folders n sound takes emails;
+      count_alone = goes_on_alone h.mailboxes (served_mailboxes m n.rows) (λ x y. (but_for_counts x y).0) sound.mailboxes boxes sound.count_alone;
     }
   where
     no_email : (q : ℕ) → row_at n.rows q ≡ None → row_at (served_emails n.rows) q ≡ None
@@ -183,19 +204,12 @@ copy_laws {V} p = record {
 
 -- ---- counts alone
 
-both : (a b : Bool) → (a && b) ≡ true → (a ≡ true) × (b ≡ true)
-both true b e = (refl, e)
-both false b e = absurd (let f : false ≡ true = e in cc)
-
-same_itself : (v : ServedMailbox) → same_counts v.counts v.counts ≡ true
-same_itself v = (both (same_but_counts v v) (same_counts v.counts v.counts) ((exact_mailbox v v).1 refl)).1
-
--- two Mailboxes are the same but for counts where one with the other's counts is the other
-pub but_for_counts : (u v : ServedMailbox) → IsTrue (mailbox_tests.counts u v) ↔ (record u { counts = v.counts } ≡ v)
-but_for_counts u v = (
-  (λ h. (exact_mailbox (record u { counts = v.counts }) v).0 (ap (λ (b : Bool). b && same_counts v.counts v.counts) h ∙ same_itself v)),
-  (λ e. (both (same_but_counts u v) (same_counts v.counts v.counts) ((exact_mailbox (record u { counts = v.counts }) v).1 e)).0),
-)
+-- where an answer says that the counts alone changed, the rest of what was updated is as it was
+pub counts_alone_leave : (h : MailHistory) (s i q : ℕ) (max : Option ℕ) (c : Changes) (u v : ServedMailbox) → IsReached h → IsChanges (entries_of h.mailboxes.touches) s max c
+    → IsTrue c.counts_only → Contains c.updated q → s ≤ i → i ≤ c.to → had_at h.mailboxes s q ≡ Some u → had_at h.mailboxes i q ≡ Some v → record u { counts = v.counts } ≡ v
+counts_alone_leave h s i q max c u v reached changes alone there from to at_first at_last =
+    counts_leave h.mailboxes s i max c q u v (all_are_sound h reached).count_alone changes ((changes.counts_only.0 alone).1 q ((changes.updated.members q).0 there))
+    from to at_first at_last
 
 -- ---- the first state
 

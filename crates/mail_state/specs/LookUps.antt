@@ -1,5 +1,5 @@
 -- What look-ups find in a state.
-use Rattle.std.specs.Prelude.{◌≡◌, ℕ, ◌≤◌, List, [], All, Contains, Option, Some, None}
+use Rattle.std.specs.Prelude.{ℕ, List}
 use Rattle.std.specs.Map.{keys_of}
 use Rattle.change_list.specs.Kept.{Kept}
 use Rattle.mail_state.specs.declared.state.MailType.{MailType}
@@ -11,11 +11,6 @@ abbrev pub numbers_in : ServedState → MailType → List ℕ
 numbers_in s kind.Mailbox = keys_of s.rows.mailboxes
 numbers_in s kind.Email = keys_of s.rows.numbered.rows
 numbers_in s kind.Thread = keys_of s.rows.threads
-
--- the greatest of these numbers, where there are any
-abbrev pub IsLast : List ℕ → Option ℕ → Type 0
-IsLast ns None = ns ≡ []
-IsLast ns (Some n) = Contains ns n × All (λ k. k ≤ n) ns
 
 -- the last touches of a type
 abbrev pub touches_kept : ServedState → MailType → Kept

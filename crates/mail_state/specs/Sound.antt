@@ -1,15 +1,16 @@
 -- What holds of each history.
-use Rattle.std.specs.Prelude.{◌≡◌, ℕ, ◌+◌, ◌≤◌, List, All, is_some, Some}
+use Rattle.std.specs.Prelude.{◌≡◌, ℕ, ◌+◌, ◌≤◌, List, [], ◌∷◌, All, true, is_some, Option, Some, None}
 use Rattle.std.specs.List.Sorted.{IsStrictlySortedBy}
 use Rattle.std.specs.Map.{keys_of}
 use Rattle.std.specs.Ordering.{nat_cmp}
+use Rattle.change_list.specs.History.{Touch, map_then}
 use Rattle.told_folder.specs.declared.message.Held.{Held}
 use Rattle.told_mail.specs.Mail.{IsMail}
 use Rattle.served_maps.specs.Past.{Past, IsPast, IsEverBelow, had_at, place_now}
 use Rattle.mail_maps.specs.declared.row.EmailRow.{EmailRow}
 use Rattle.mail_maps.specs.Envelope.{IsEnvelopeOf}
 use Rattle.mail_maps.specs.Visible.{Placed, shown}
-use Rattle.mail_maps.specs.Serve.{Email}
+use Rattle.mail_maps.specs.Serve.{Email, ServedMailbox}
 use Rattle.mail_rows.specs.NumberedRows.{knows, MarksApart}
 use Rattle.mail_rows.specs.Remaining.{updated}
 use Rattle.mail_state.specs.History.{MailHistory, served_mailboxes, served_emails, served_threads}
@@ -25,6 +26,17 @@ pub record IsRowOf (hs : List Held) (e : ℕ × EmailRow) : Type 0 where
 -- whenever a number names an Email, that is the same one
 abbrev pub KeepsImmutable : Past Email → Type 0
 KeepsImmutable p = (i j q : ℕ) (u v : Email) → had_at p i q ≡ Some u → had_at p j q ≡ Some v → u.immutable ≡ v.immutable
+
+-- a Mailbox comes of a touch that is what the touch finds but for its counts
+pub record LeavesTheRest (was value : Option ServedMailbox) : Type 0 where
+  pub now : ServedMailbox
+  pub value_is : value ≡ Some now
+  pub rest : (u : ServedMailbox) → was ≡ Some u → record u { counts = now.counts } ≡ now
+
+-- each touch that counts alone leaves the rest
+abbrev pub CountAlone : (ℕ → Option ServedMailbox) → List (Touch ServedMailbox) → Type 0
+CountAlone was [] = Unit {0}
+CountAlone was (t ∷ ts) = (t.counts_only ≡ true → LeavesTheRest (was t.id) t.value) × CountAlone (map_then was t) ts
 
 pub record IsSound (h : MailHistory) : Type 0 where
   pub is_mail : IsMail h.mail
@@ -46,3 +58,4 @@ pub record IsSound (h : MailHistory) : Type 0 where
   -- an Email has a mark exactly where the mail shows it
   pub marks_shown : (mark : ℕ) → knows h.numbered.rows mark ≡ is_some (shown h.mail.folders mark)
   pub immutable : KeepsImmutable h.emails
+  pub count_alone : CountAlone (λ _. None) h.mailboxes.touches

@@ -1,6 +1,9 @@
 //! The laws of histories and states, as clauses of functions that do nothing.
-ghost use Rattle.std.specs.Prelude.{◌≡◌, ◌↔◌, ℕ, ◌≤◌, ◌<◌, ◌≢◌, List, All, IsTrue, Some, fold};
+ghost use Rattle.std.specs.Prelude.{◌≡◌, ◌↔◌, ℕ, ◌≤◌, ◌<◌, ◌≢◌, List, All, Contains, IsTrue, Option, Some, fold};
 ghost use Rattle.change_list.specs.Advance.{IsExact, row_at};
+ghost use Rattle.change_list.specs.Changes.{IsChanges};
+ghost use Rattle.change_list.specs.History.{entries_of};
+ghost use Rattle.change_list.specs.declared.answer.Changes.{Changes};
 ghost use Rattle.told_folder.specs.declared.exchange.Exchange.{Exchange};
 ghost use Rattle.told_folder.specs.declared.message.Folder.{Folder};
 ghost use Rattle.told_folder.specs.declared.message.Message.{Message};
@@ -97,4 +100,11 @@ pub fn tests_are_exact()
     ensures emails { IsExact email_tests }
     ensures threads { IsExact thread_tests }
     ensures counts { (u v : ServedMailbox) → IsTrue (mailbox_tests.counts u v) ↔ (record u { counts = v.counts } ≡ v) }
+{}
+
+/// Where an answer of changes says that the counts alone changed, all else of what was updated is as it was.
+pub fn counts_alone_leave_the_rest()
+    ensures { (h : MailHistory) (s i q : ℕ) (max : Option ℕ) (c : Changes) (u v : ServedMailbox)
+        → IsReached h → IsChanges (entries_of h.mailboxes.touches) s max c → IsTrue c.counts_only → Contains c.updated q
+        → s ≤ i → i ≤ c.to → had_at h.mailboxes s q ≡ Some u → had_at h.mailboxes i q ≡ Some v → record u { counts = v.counts } ≡ v }
 {}

@@ -1,5 +1,6 @@
 // The state: the rows that are served, and the last touches of each type.
-ghost use Rattle.std.specs.Prelude.{◌≡◌, ◌≢◌, ◌<◌, ◌^◌, ℕ, All, IfOk, MatchOption, Some};
+ghost use Rattle.std.specs.Prelude.{◌≡◌, ◌≢◌, ◌==◌, ◌<◌, ◌^◌, ℕ, All, IfOk, MatchOption, Some, length};
+ghost use Rattle.std.specs.List.{list_any};
 ghost use Rattle.std.specs.List.Sorted.{IsStrictlySortedBy};
 ghost use Rattle.std.specs.Map.{keys_of};
 ghost use Rattle.std.specs.Option.{option_copied};
@@ -10,7 +11,7 @@ ghost use Rattle.told_mail.specs.Mail.{IsNextMail};
 ghost use Rattle.mail_state.specs.History.{MailHistory};
 ghost use Rattle.mail_state.specs.State.{IsStateOf, first_state};
 ghost use Rattle.mail_state.specs.Following.{FollowsMail, IfSpent, RefusesSpent, SpendsPlace, StepsTo};
-ghost use Rattle.mail_state.specs.LookUps.{IsLast, numbers_in, touches_kept};
+ghost use Rattle.mail_state.specs.LookUps.{numbers_in, touches_kept};
 
 use crate::lists::TypeLists;
 use crate::rows::TypeRows;
@@ -33,15 +34,31 @@ pub enum MailType {
     Thread,
 }
 
-/// The greatest key, which is the last one.
-fn last_key<R>(rows: &BTreeMap<u64, R>) -> Option<u64>
-    ensures last { IsLast (keys_of rows.now.entries) result }
-    ensures small { All (λ n. n < 2 ^ 64) (keys_of rows.now.entries) }
+fn has_key<R>(rows: &BTreeMap<u64, R>, number: u64) -> bool
+    ensures { result ≡ list_any (λ n. n == number) (keys_of rows.now.entries) }
+{
+    rows.contains_key(&number)
+}
+
+/// Does nothing, and shows that each key has at most 64 bits, since the last one has.
+fn keys_are_small<R>(rows: &BTreeMap<u64, R>)
+    ensures { All (λ n. n < 2 ^ 64) (keys_of rows.now.entries) }
 {
     match rows.last_key_value() {
-        Some((number, _)) => Some(*number),
-        None => None,
+        Some((number, _)) => {
+            let _last = *number;
+        }
+        None => {}
     }
+}
+
+fn count_keys<R>(rows: &BTreeMap<u64, R>) -> usize
+    ensures count { result ≡ length (keys_of rows.now.entries) }
+    ensures ascending { IsStrictlySortedBy nat_cmp (keys_of rows.now.entries) }
+    ensures small { All (λ n. n < 2 ^ 64) (keys_of rows.now.entries) }
+{
+    keys_are_small(rows);
+    rows.len()
 }
 
 /// The rows that are served, and what changed in them.
@@ -158,15 +175,27 @@ impl MailState {
         }
     }
 
-    /// The greatest number of a type. Each has at most 64 bits.
-    pub fn last_number(&self, kind: MailType) -> Option<u64>
-        ensures last { IsLast (numbers_in self.now kind) result }
+    /// Whether a type has the number.
+    pub fn has(&self, kind: MailType, number: u64) -> bool
+        ensures { result ≡ list_any (λ n. n == number) (numbers_in self.now kind) }
+    {
+        match kind {
+            MailType::Mailbox => has_key(&self.rows.mailboxes, number),
+            MailType::Email => has_key(self.rows.emails.rows(), number),
+            MailType::Thread => has_key(&self.rows.threads, number),
+        }
+    }
+
+    /// How many numbers a type has. They ascend, and each has at most 64 bits.
+    pub fn count(&self, kind: MailType) -> usize
+        ensures count { result ≡ length (numbers_in self.now kind) }
+        ensures ascending { IsStrictlySortedBy nat_cmp (numbers_in self.now kind) }
         ensures small { All (λ n. n < 2 ^ 64) (numbers_in self.now kind) }
     {
         match kind {
-            MailType::Mailbox => last_key(&self.rows.mailboxes),
-            MailType::Email => last_key(self.rows.emails.rows()),
-            MailType::Thread => last_key(&self.rows.threads),
+            MailType::Mailbox => count_keys(&self.rows.mailboxes),
+            MailType::Email => count_keys(self.rows.emails.rows()),
+            MailType::Thread => count_keys(&self.rows.threads),
         }
     }
 

@@ -43,7 +43,7 @@ pub(crate) const SEEN: &[u8] = b"* 1 FETCH (UID 1 FLAGS (\\Seen))\r\na1 OK done\
 
 pub(crate) const UNSEEN: &[u8] = b"* 1 FETCH (UID 1 FLAGS ())\r\na1 OK done\r\n";
 
-const COUNTS_OF_INBOX: [Step; 10] = [
+const COUNTS_OF_INBOX: [Step; 11] = [
     Step::Tell(Asked::List, INBOX),
     Step::Tell(Asked::Select(b"INBOX"), VALIDITY),
     Step::Serve,
@@ -73,6 +73,30 @@ const COUNTS_OF_INBOX: [Step; 10] = [
         "Thread/get",
         ",\"ids\":[\"t1\"],\"properties\":[]",
         "\"list\":[{\"id\":\"t1\"}],\"notFound\":[],\"state\":\"000000000000001f-3\"}",
+    ),
+    Step::Ask(
+        "Thread/get",
+        ",\"ids\":null",
+        "\"list\":[{\"emailIds\":[\"e1\"],\"id\":\"t1\"},{\"emailIds\":[\"e2\"],\"id\":\"t2\"},{\"emailIds\":[\"e3\"],\"id\":\"t3\"}],\"notFound\":[],\"state\":\"000000000000001f-3\"}",
+    ),
+];
+
+/// Folders below one another, with every role and none.
+const TREE: &[u8] =
+    b"* LIST () \"/\" INBOX\r\n* LIST (\\Sent) \"/\" INBOX/a\r\n* LIST (\\All) \"/\" b\r\n* LIST (\\Archive) \"/\" c\r\n* LIST (\\Drafts) \"/\" d\r\n* LIST (\\Flagged) \"/\" e\r\n* LIST (\\Junk) \"/\" f\r\n* LIST (\\Trash) \"/\" g\r\n* LIST (\\Subscribed) \"/\" h\r\na1 OK done\r\n";
+
+const PARENTS_AND_ROLES: [Step; 4] = [
+    Step::Tell(Asked::List, TREE),
+    Step::Serve,
+    Step::Ask(
+        "Mailbox/get",
+        ",\"ids\":[\"m1\",\"m2\",\"m9\"],\"properties\":[\"name\",\"parentId\",\"role\",\"isSubscribed\"]",
+        "\"list\":[{\"id\":\"m1\",\"isSubscribed\":false,\"name\":\"INBOX\",\"parentId\":null,\"role\":\"inbox\"},{\"id\":\"m2\",\"isSubscribed\":false,\"name\":\"a\",\"parentId\":\"m1\",\"role\":\"sent\"},{\"id\":\"m9\",\"isSubscribed\":true,\"name\":\"h\",\"parentId\":null,\"role\":null}],\"notFound\":[],\"state\":\"000000000000001f-9\"}",
+    ),
+    Step::Ask(
+        "Mailbox/get",
+        ",\"ids\":[\"m3\",\"m4\",\"m5\",\"m6\",\"m7\",\"m8\"],\"properties\":[\"role\"]",
+        "\"list\":[{\"id\":\"m3\",\"role\":\"all\"},{\"id\":\"m4\",\"role\":\"archive\"},{\"id\":\"m5\",\"role\":\"drafts\"},{\"id\":\"m6\",\"role\":\"flagged\"},{\"id\":\"m7\",\"role\":\"junk\"},{\"id\":\"m8\",\"role\":\"trash\"}],\"notFound\":[],\"state\":\"000000000000001f-9\"}",
     ),
 ];
 
@@ -270,6 +294,7 @@ fn take_steps(rt: &impl Abort, alloc: Global, steps: &[Step]) {
 #[test]
 fn answers_over_kept_mail(rt: HostRuntime) {
     take_steps(&rt, rt.alloc(), &COUNTS_OF_INBOX);
+    take_steps(&rt, rt.alloc(), &PARENTS_AND_ROLES);
     take_steps(&rt, rt.alloc(), &NEW_VALIDITY);
     take_steps(&rt, rt.alloc(), &THERE_AND_BACK);
     take_steps(&rt, rt.alloc(), &IN_STEPS);

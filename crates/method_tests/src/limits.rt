@@ -85,6 +85,37 @@ fn as_many_as_may_be_asked(rt: HostRuntime) {
     }
 }
 
+/// The octets by which long ids begin alike.
+const FRONT: usize = 20_000;
+
+/// As many ids as may be asked: one of a Mailbox, and 250 that differ in their last octets alone, most of them twice.
+fn long_ids(rt: &impl Abort, alloc: Global) -> String {
+    let mut front = String::new(alloc);
+    for _ in 0..FRONT {
+        front.push('0').expect(rt, "out of memory");
+    }
+    let text = format!(in alloc; "{{\"accountId\":\"a1\",\"ids\":[\"m1\"");
+    let mut text = text.expect(rt, "out of memory");
+    for number in 1..500u32 {
+        let last = number / 2;
+        write!(text, ",\"m{front}{last}\"").expect(rt, "out of memory");
+    }
+    text.push_str("],\"properties\":[]}")
+        .expect(rt, "out of memory");
+    text
+}
+
+#[test]
+fn ids_that_begin_alike(rt: HostRuntime) {
+    let state = with_folders(&rt, rt.alloc(), 1);
+    let arguments = long_ids(&rt, rt.alloc());
+    let found = answer(&rt, rt.alloc(), &state, "Mailbox/get", arguments.as_str());
+    let front = "{\"accountId\":\"a1\",\"list\":[{\"id\":\"m1\"}],\"notFound\":[\"m000";
+    assert!(rt; found.as_str().starts_with(front));
+    let names = found.as_str().matches("\"m000").count();
+    assert_eq!(rt; names, 250);
+}
+
 /// How many Mailboxes there are, and how the answer ends where all are asked.
 const ALL: [(u32, &str); 2] = [
     (500, "\"notFound\":[],\"state\":\"000000000000001f-500\"}"),

@@ -1,5 +1,7 @@
-// Methods by their names.
-use jmap_methods::{Method, MethodError, Using, method_named, needs_mail};
+// Methods by their names, and errors as they are told.
+use jmap_methods::{Method, MethodError, Using, error_arguments, method_named, needs_mail};
+use std::alloc::Global;
+use std::process::Abort;
 
 const CORE: Using = Using {
     core: true,
@@ -33,4 +35,43 @@ fn names(rt: HostRuntime) {
     }
     assert!(rt; !needs_mail("Core/echo"));
     assert!(rt; needs_mail("Core/Echo"));
+}
+
+/// Why a method has no answer, and the type by which a client is told.
+const ERRORS: [(MethodError, &str); 15] = [
+    (MethodError::ServerUnavailable, "serverUnavailable"),
+    (MethodError::ServerFail, "serverFail"),
+    (MethodError::ServerPartialFail, "serverPartialFail"),
+    (MethodError::UnknownMethod, "unknownMethod"),
+    (MethodError::InvalidArguments, "invalidArguments"),
+    (
+        MethodError::InvalidResultReference,
+        "invalidResultReference",
+    ),
+    (MethodError::AccountNotFound, "accountNotFound"),
+    (MethodError::RequestTooLarge, "requestTooLarge"),
+    (MethodError::StateMismatch, "stateMismatch"),
+    (
+        MethodError::CannotCalculateChanges,
+        "cannotCalculateChanges",
+    ),
+    (MethodError::AnchorNotFound, "anchorNotFound"),
+    (MethodError::UnsupportedFilter, "unsupportedFilter"),
+    (MethodError::UnsupportedSort, "unsupportedSort"),
+    (MethodError::TooManyChanges, "tooManyChanges"),
+    (MethodError::Memory, "serverUnavailable"),
+];
+
+fn expect_told(rt: &impl Abort, alloc: Global, row: &(MethodError, &str)) {
+    let arguments = error_arguments(alloc, row.0).expect(rt, "out of memory");
+    let told = arguments.to_string(alloc).expect(rt, "out of memory");
+    let wanted = format!(in alloc; "{{\"type\":\"{}\"}}", row.1).expect(rt, "out of memory");
+    assert_eq!(rt; told.as_str(), wanted.as_str());
+}
+
+#[test]
+fn errors(rt: HostRuntime) {
+    for row in ERRORS.iter() {
+        expect_told(&rt, rt.alloc(), row);
+    }
 }

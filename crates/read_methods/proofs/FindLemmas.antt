@@ -30,9 +30,8 @@ named_same epoch text named p one fits small is =
 
 module _ (epoch : ℕ) (k : Kept) (d : Data) where
   -- a refusal by the arguments
-  pub refuses : (e : MethodError) → (e ≡ Memory) ⊎ (changes_asked d ≡ Err e) → (e ≡ Memory) ⊎ Finds epoch k d (Err e)
-  refuses e (inl memory) = inl memory
-  refuses e (inr is) = inr (Refuses e is)
+  pub refuses : (e : MethodError) → changes_asked d ≡ Err e → (e ≡ Memory) ⊎ Finds epoch k d (Err e)
+  refuses e is = inr (Refuses e is)
 
   -- the text is that of no state of the epoch
   pub nothing : (asked : ChangesAsked) → changes_asked d ≡ Ok asked → k.place ≤ MAX_PLACE → ((p : ℕ) → p < 2 ^ 64 → asked.since ≢ text_of epoch p)

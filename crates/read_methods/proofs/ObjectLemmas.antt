@@ -1,17 +1,16 @@
 -- Rows that are shown as objects, and what is answered of them.
-use Rattle.std.proofs.Common.{◌≡◌, ℕ, List, [], ◌∷◌, true, false, cond, Option, Some, None, Result, Ok, Err, option_map, nat_cmp, Vec, Global, refl, sym, ap, ◌∙◌, subst}
+use Rattle.std.proofs.Common.{◌≡◌, ◌⊎◌, inl, inr, ℕ, List, [], ◌∷◌, map, true, false, cond, Option, Some, None, Result, Ok, Err, option_map, nat_cmp, refl, sym, ap, ◌∙◌}
+use Rattle.std.proofs.Common.{subst}
 use Rattle.std.specs.BTreeMap.{is_at}
-use Rattle.std.specs.List.{All}
+use Rattle.std.specs.List.Sorted.{IsStrictlySortedBy}
 use Rattle.std.specs.Map.{lookup, keys_of}
 use Rattle.std.specs.Result.{IfOk}
-use Rattle.serde_json.specs.Data.{Data}
-use Rattle.serde_json.specs.View.{view}
-use Rattle.serde_json.specs.declared.value.Value.{Value}
-use Rattle.jmap_methods.specs.Gets.{GetAsked, shown_as, found_in, get_answer, get_answered}
-use Rattle.jmap_methods.specs.Outcome.{Agrees}
+use Rattle.serde_json.specs.Data.{Data, string}
+use Rattle.jmap_methods.specs.Gets.{GetAsked, NumbersAsked, FoundObjects, shown_as, numbers_asked, found_in, get_data, get_answer, get_answered}
 use Rattle.jmap_methods.specs.State.{state_text}
 use Rattle.jmap_methods.specs.declared.method_error.MethodError.{MethodError}
 use Rattle.jmap_methods.specs.declared.method_error.MethodError.TheVariants.{Memory}
+use Rattle.jmap_methods.proofs.GetLemmas.{at_numbers, found_by_numbers, refused_by_numbers}
 use Rattle.jmap_methods.proofs.IdLemmas.{found_is}
 use Rattle.served_maps.specs.Past.{served}
 
@@ -44,32 +43,39 @@ module _ {R V : Type 0} (serve : R → V) (show : ℕ × V → Data) where
   keys_of_objects [] = refl
   keys_of_objects (e ∷ es) = ap (λ (ks : List ℕ). e.0 ∷ ks) (keys_of_objects es)
 
-  -- so numbers of rows are those of the objects
-  pub numbers_are : {E : Type 0} (rows : List (ℕ × R)) (r : Result (Vec ℕ Global) E) → IfOk r (λ v. v.items ≡ keys_of rows)
-      → IfOk r (λ v. v.items ≡ keys_of (shown_as show (served serve rows)))
-  numbers_are rows (Ok v) is = is ∙ sym (keys_of_objects rows)
-  numbers_are rows (Err e) is = tt
-
-  -- and what holds of all of these holds of all of those
-  pub all_numbers : (P : ℕ → Type 0) (rows : List (ℕ × R)) → All P (keys_of rows) → All P (keys_of (shown_as show (served serve rows)))
-  all_numbers P rows all = let A : List ℕ → Type 0 = λ ks. All P ks in subst A (sym (keys_of_objects rows)) all
-
 -- ---- answers
 
 -- the text of a state, from its parts
-pub state_same : (text bytes : List ℕ) (epoch place e p : ℕ) → text ≡ bytes → bytes ≡ state_text (record { epoch = e; place = p }) → e ≡ epoch → p ≡ place
-    → text ≡ state_text (record { epoch = epoch; place = place })
-state_same text bytes epoch place e p same is epoch_is place_is =
-    let of : ℕ → ℕ → List ℕ = λ x y. state_text (record { epoch = x; place = y }) in
-    same ∙ is ∙ ap (λ (x : ℕ). of x p) epoch_is ∙ ap (of epoch) place_is
+pub state_named : {T E : Type 0} (see : T → List ℕ) (r : Result T E) (e p epoch place : ℕ) → e ≡ epoch → p ≡ place
+    → IfOk r (λ text. see text ≡ state_text (record { epoch = e; place = p })) → IfOk r (λ text. see text ≡ state_text (record { epoch = epoch; place = place }))
+state_named see r e p epoch place epoch_is place_is is =
+    let P : ℕ → Type 0 = λ n. IfOk r (λ text. see text ≡ state_text (record { epoch = n; place = place })) in
+    let Q : ℕ → Type 0 = λ n. IfOk r (λ text. see text ≡ state_text (record { epoch = e; place = n })) in
+    subst P epoch_is (subst Q place_is is)
 
 module _ {W : Type 0} (letter : ℕ) (state : List ℕ) (objects : W → List (ℕ × Data)) (asked : Result (GetAsked W) MethodError) where
   -- what is asked of the objects is answered
-  pub get_given : (ids : Option (List (List ℕ))) (wanted shown : W) (text : List ℕ) (r : Result Value MethodError) → asked ≡ Ok (record { ids = ids; wanted = wanted })
-      → shown ≡ wanted → text ≡ state → Agrees Memory view r (get_answer text (found_in letter (objects shown) ids))
-      → Agrees Memory view r (get_answered letter state objects asked)
-  get_given ids wanted shown text r is same same_text answered =
-      let A : Result Data MethodError → Type 0 = λ meant. Agrees Memory view r meant in
-      let T : List ℕ → Type 0 = λ t. Agrees Memory view r (get_answer t (found_in letter (objects shown) ids)) in
-      let S : W → Type 0 = λ w. Agrees Memory view r (get_answer state (found_in letter (objects w) ids)) in
-      subst A (sym (ap (λ (a : Result (GetAsked W) MethodError). get_answered letter state objects a) is)) (subst S same (subst T same_text answered))
+  pub get_given : (ids : Option (List (List ℕ))) (wanted shown : W) (there : List ℕ) (numbers : NumbersAsked) (list : List Data) (text : List ℕ) (d : Data)
+      → asked ≡ Ok (record { ids = ids; wanted = wanted }) → shown ≡ wanted → there ≡ keys_of (objects shown) → IsStrictlySortedBy nat_cmp there
+      → numbers_asked letter there ids ≡ Ok numbers → list ≡ at_numbers (objects shown) numbers.numbers → text ≡ state → d ≡ get_data text list (map string numbers.missing)
+      → get_answered letter state objects asked ≡ Ok d
+  get_given ids wanted shown there numbers list text d is same there_is sorted numbers_are list_is text_is d_is =
+      let S : List ℕ → Type 0 = λ ks. IsStrictlySortedBy nat_cmp ks in
+      let asked_there = ap (λ (ks : List ℕ). numbers_asked letter ks ids) (sym there_is) ∙ numbers_are in
+      let found = found_by_numbers letter (objects shown) ids numbers list (subst S there_is sorted) asked_there list_is in
+      let answer : List ℕ → Result Data MethodError = λ t. Ok (get_data t list (map string numbers.missing)) in
+      ap (λ (a : Result (GetAsked W) MethodError). get_answered letter state objects a) is
+      ∙ ap (λ (w : W). get_answer state (found_in letter (objects w) ids)) (sym same)
+      ∙ ap (λ (r : Result FoundObjects MethodError). get_answer state r) found
+      ∙ ap answer (sym text_is)
+      ∙ ap (λ (o : Data). let a : Result Data MethodError = Ok o in a) (sym d_is)
+
+  -- what is refused of the numbers is refused
+  pub get_refused : (ids : Option (List (List ℕ))) (wanted : W) (there : List ℕ) (e : MethodError)
+      → asked ≡ Ok (record { ids = ids; wanted = wanted }) → there ≡ keys_of (objects wanted) → (e ≡ Memory) ⊎ (numbers_asked letter there ids ≡ Err e)
+      → (e ≡ Memory) ⊎ (get_answered letter state objects asked ≡ Err e)
+  get_refused ids wanted there e is there_is (inl memory) = inl memory
+  get_refused ids wanted there e is there_is (inr refused) =
+      inr (ap (λ (a : Result (GetAsked W) MethodError). get_answered letter state objects a) is
+      ∙ ap (λ (r : Result FoundObjects MethodError). get_answer state r)
+      (refused_by_numbers letter (objects wanted) ids e (ap (λ (ks : List ℕ). numbers_asked letter ks ids) (sym there_is) ∙ refused)))

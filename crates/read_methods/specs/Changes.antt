@@ -6,7 +6,7 @@ use Rattle.change_list.specs.Changes.{IsChanges}
 use Rattle.change_list.specs.Kept.{front_of}
 use Rattle.change_list.specs.declared.answer.Changes.{Changes}
 use Rattle.change_list.specs.declared.entries.Entry.{Entry}
-use Rattle.jmap_methods.specs.Arguments.{text_at, most_at, account_check}
+use Rattle.jmap_methods.specs.Arguments.{text_at, most_at, account_id, account_check}
 use Rattle.jmap_methods.specs.Ids.{id_list}
 use Rattle.jmap_methods.specs.State.{state_text}
 use Rattle.jmap_methods.specs.Outcome.{refusal_of}
@@ -59,7 +59,7 @@ pub record AnsweredChanges (epoch : ℕ) (h : List Entry) (asked : ChangesAsked)
 -- the new state is the place to which the ids listed lead, and there are more where that isn't the last
 abbrev pub changes_members : ℕ → ℕ → ℕ → List ℕ → Changes → Members → Members
 changes_members letter epoch last since c further =
-    member (codes "accountId") (string (codes "a1"))
+    member (codes "accountId") (string account_id)
     (member (codes "created") (id_list letter c.created)
     (member (codes "destroyed") (id_list letter c.destroyed)
     (member (codes "hasMoreChanges") (boolean (nat_lt c.to last))

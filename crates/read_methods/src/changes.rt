@@ -4,7 +4,7 @@ ghost use Rattle.serde_json.specs.Data.{put as put_data, string, no_members};
 ghost use Rattle.serde_json.specs.View.{view, members_view};
 ghost use Rattle.serde_json.specs.Written.{has_float};
 ghost use Rattle.jmap_methods.specs.Ids.{mailbox_letter, id_list as ids_data};
-ghost use Rattle.jmap_methods.specs.Outcome.{Agrees, Meets};
+ghost use Rattle.jmap_methods.specs.Outcome.{IsJust, Meets};
 ghost use Rattle.jmap_methods.specs.State.{state_text as text_of_state};
 ghost use Rattle.jmap_methods.specs.declared.method_error.MethodError.TheVariants.{Memory};
 ghost use Rattle.mail_state.specs.History.{MailHistory};
@@ -17,8 +17,8 @@ ghost use Rattle.read_methods.specs.reading.Found.{Finds, AnswersFound};
 
 use change_list::{ChangeList, Changes, SinceError};
 use jmap_methods::{
-    EMAIL_LETTER, MAILBOX_LETTER, MethodError, State, THREAD_LETTER, check_account, id_list,
-    most_or_null, read_state, state_text, text_at,
+    ACCOUNT_ID, EMAIL_LETTER, MAILBOX_LETTER, MethodError, State, THREAD_LETTER, check_account,
+    id_list, most_or_null, read_state, state_text, text_at,
 };
 use mail_state::{MailState, MailType};
 use serde_json::{Map, Value, json, put};
@@ -33,7 +33,7 @@ struct Asked<'a> {
 
 /// The checks in order: the arguments' kinds, the account.
 fn asked_of(arguments: &Value) -> Result<Asked<'_>, MethodError>
-    ensures { Agrees Memory (λ a. record { since = a.since.now; most = a.most }) result (spec.changes_asked (view arguments.now)) }
+    ensures { IsJust (λ a. record { since = a.since.now; most = a.most }) result (spec.changes_asked (view arguments.now)) }
 {
     let account = text_at(arguments, "accountId")?;
     let since = text_at(arguments, "sinceState")?;
@@ -44,7 +44,7 @@ fn asked_of(arguments: &Value) -> Result<Asked<'_>, MethodError>
 
 /// The refusal of a /changes by its arguments alone, which stands whatever mail there is.
 pub fn check_changes(arguments: &Value) -> Result<(), MethodError>
-    ensures { Agrees Memory (λ u. u) result (spec.changes_refused (view arguments.now)) }
+    ensures { result ≡ spec.changes_refused (view arguments.now) }
 {
     let _asked = asked_of(arguments)?;
     Ok(())
@@ -147,7 +147,7 @@ fn members_of(
     let state = new_state(alloc, found)?;
     let has_more = Value::from(changes.to < found.last.place);
     let mut members = Map::new(alloc);
-    put_text(&mut members, alloc, "accountId", "a1")?;
+    put_text(&mut members, alloc, "accountId", ACCOUNT_ID)?;
     put_ids(
         &mut members,
         alloc,

@@ -1,5 +1,9 @@
 // Mailbox/get.
 ghost use Rattle.std.specs.Prelude.{◌≡◌, false, IfOk, map, option_map, codes};
+ghost use Rattle.std.specs.BTreeMap.{is_at};
+ghost use Rattle.std.specs.List.{filter_map};
+ghost use Rattle.std.specs.Map.{lookup};
+ghost use Rattle.std.specs.Ordering.{nat_cmp};
 ghost use Rattle.serde_json.specs.View.{view};
 ghost use Rattle.serde_json.specs.Written.{has_float};
 ghost use Rattle.jmap_methods.specs.Arguments.{texts_at};
@@ -16,9 +20,10 @@ ghost use Rattle.read_methods.specs.Replies.{mailbox_get_reply};
 
 use crate::mailbox_property::{MailboxProperty, all_properties, are_names_in, those_named};
 use crate::mailbox_values::mailbox_value;
+use crate::types::{TypeNumbers, type_text};
 use jmap_methods::{
-    MAILBOX_LETTER, MethodError, Objects, State, check_account, check_count, count_of_ids,
-    get_objects, state_text, text_at, texts_or_null,
+    AskedNumbers, MAILBOX_LETTER, MethodError, asked_numbers, check_account, check_count,
+    count_of_ids, get_value, text_at, texts_or_null,
 };
 use mail_state::{MailState, MailType};
 use serde_json::Value;
@@ -69,30 +74,40 @@ pub fn check_mailbox_get(alloc: Global, arguments: &Value) -> Result<(), MethodE
     Ok(())
 }
 
-/// Mailboxes with the properties that are wanted.
-#[derive(Clone, Copy)]
-struct Mailboxes<'a> {
-    state: &'a MailState,
-    wanted: &'a [MailboxProperty],
+/// The Mailbox of this number with the properties that are wanted, where there is one.
+fn mailbox_at(
+    alloc: Global,
+    state: &MailState,
+    wanted: &[MailboxProperty],
+    number: u64,
+) -> Result<Option<Value>, AllocError>
+    ensures { IfOk result (λ o. option_map view o
+        ≡ lookup (is_at (nat_cmp number)) (mailbox_objects (served mailbox_of state.now.rows.mailboxes) wanted.now)) }
+{
+    match state.mailbox(number) {
+        None => Ok(None),
+        Some(mailbox) => Ok(Some(mailbox_value(alloc, wanted, number, mailbox)?)),
+    }
 }
 
-impl<'a> Objects for Mailboxes<'a> {
-    ghost objects = { λ m. mailbox_objects (served mailbox_of m.state.now.rows.mailboxes) m.wanted.now };
-
-    fn object(&self, alloc: Global, number: u64) -> Result<Option<Value>, AllocError> {
-        match self.state.mailbox(number) {
-            None => Ok(None),
-            Some(mailbox) => Ok(Some(mailbox_value(alloc, self.wanted, number, mailbox)?)),
+/// The Mailboxes of these numbers.
+fn mailboxes_at(
+    alloc: Global,
+    state: &MailState,
+    wanted: &[MailboxProperty],
+    numbers: &[u64],
+) -> Result<Vec<Value>, AllocError>
+    ensures { IfOk result (λ v. map view v.items
+        ≡ filter_map (λ n. lookup (is_at (nat_cmp n)) (mailbox_objects (served mailbox_of state.now.rows.mailboxes) wanted.now)) numbers.now) }
+{
+    let mut list = Vec::with_capacity(alloc, numbers.len())?;
+    for number in numbers {
+        match mailbox_at(alloc, state, wanted, *number)? {
+            None => {}
+            Some(object) => list.push(object)?,
         }
     }
-
-    fn numbers(&self) -> Result<Vec<u64>, AllocError> {
-        self.state.numbers(MailType::Mailbox)
-    }
-
-    fn last_number(&self) -> Option<u64> {
-        self.state.last_number(MailType::Mailbox)
-    }
+    Ok(list)
 }
 
 /// The answer over the rows of the state.
@@ -101,14 +116,12 @@ fn answer(alloc: Global, state: &MailState, arguments: &Value) -> Result<Value, 
         (served mailbox_of state.now.rows.mailboxes) (view arguments.now)) }
 {
     let Asked { ids, properties } = asked_of(alloc, arguments)?;
-    let place = state.list(MailType::Mailbox).place();
-    let epoch = state.epoch();
-    let text = state_text(alloc, State { epoch, place })?;
-    let mailboxes = Mailboxes {
-        state,
-        wanted: properties.as_slice(),
-    };
-    get_objects(alloc, MAILBOX_LETTER, text.as_str(), &mailboxes, &ids)
+    let kind = MailType::Mailbox;
+    let there = TypeNumbers { state, kind };
+    let AskedNumbers { numbers, missing } = asked_numbers(alloc, MAILBOX_LETTER, &there, &ids)?;
+    let list = mailboxes_at(alloc, state, properties.as_slice(), numbers.as_slice())?;
+    let text = type_text(alloc, state, kind)?;
+    Ok(get_value(alloc, text.as_str(), list, &missing)?)
 }
 
 /// Mailbox/get (RFC 8621 section 2.1): the Mailboxes asked, each once, in the order asked, with the properties asked, and the ids

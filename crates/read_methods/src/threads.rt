@@ -1,6 +1,9 @@
 // Thread/get.
 ghost use Rattle.std.specs.Prelude.{◌≡◌, false, IfOk, map, option_map, codes};
-ghost use Rattle.std.specs.List.{list_all};
+ghost use Rattle.std.specs.BTreeMap.{is_at};
+ghost use Rattle.std.specs.List.{filter_map, list_all};
+ghost use Rattle.std.specs.Map.{lookup};
+ghost use Rattle.std.specs.Ordering.{nat_cmp};
 ghost use Rattle.serde_json.specs.View.{view};
 ghost use Rattle.serde_json.specs.Written.{has_float};
 ghost use Rattle.jmap_methods.specs.Arguments.{texts_at};
@@ -15,9 +18,10 @@ ghost use Rattle.read_methods.specs.Replies.{thread_get_reply};
 ghost use Rattle.read_methods.specs.Threads as spec;
 ghost use Rattle.read_methods.specs.Threads.{is_thread_property, thread_objects, threads_answer};
 
+use crate::types::{TypeNumbers, type_text};
 use jmap_methods::{
-    EMAIL_LETTER, MethodError, Objects, State, THREAD_LETTER, check_account, check_count,
-    count_of_ids, get_objects, id_list, id_value, is_among, state_text, text_at, texts_or_null,
+    AskedNumbers, EMAIL_LETTER, MethodError, THREAD_LETTER, asked_numbers, check_account,
+    check_count, count_of_ids, get_value, id_list, id_value, is_among, text_at, texts_or_null,
 };
 use mail_state::{MailState, MailType};
 use serde_json::{Map, Value, put};
@@ -97,30 +101,40 @@ fn thread_value(
     Ok(Value::Object(members))
 }
 
-/// Threads, with the ids of their Emails where these are wanted.
-#[derive(Clone, Copy)]
-struct Threads<'a> {
-    state: &'a MailState,
+/// The Thread of this number, with the ids of its Emails where these are wanted, where there is one.
+fn thread_at(
+    alloc: Global,
+    state: &MailState,
     wanted: bool,
+    number: u64,
+) -> Result<Option<Value>, AllocError>
+    ensures { IfOk result (λ o. option_map view o
+        ≡ lookup (is_at (nat_cmp number)) (thread_objects (served thread_of state.now.rows.threads) wanted)) }
+{
+    match state.thread(number) {
+        None => Ok(None),
+        Some(emails) => Ok(Some(thread_value(alloc, wanted, number, emails)?)),
+    }
 }
 
-impl<'a> Objects for Threads<'a> {
-    ghost objects = { λ t. thread_objects (served thread_of t.state.now.rows.threads) t.wanted };
-
-    fn object(&self, alloc: Global, number: u64) -> Result<Option<Value>, AllocError> {
-        match self.state.thread(number) {
-            None => Ok(None),
-            Some(emails) => Ok(Some(thread_value(alloc, self.wanted, number, emails)?)),
+/// The Threads of these numbers.
+fn threads_at(
+    alloc: Global,
+    state: &MailState,
+    wanted: bool,
+    numbers: &[u64],
+) -> Result<Vec<Value>, AllocError>
+    ensures { IfOk result (λ v. map view v.items
+        ≡ filter_map (λ n. lookup (is_at (nat_cmp n)) (thread_objects (served thread_of state.now.rows.threads) wanted)) numbers.now) }
+{
+    let mut list = Vec::with_capacity(alloc, numbers.len())?;
+    for number in numbers {
+        match thread_at(alloc, state, wanted, *number)? {
+            None => {}
+            Some(object) => list.push(object)?,
         }
     }
-
-    fn numbers(&self) -> Result<Vec<u64>, AllocError> {
-        self.state.numbers(MailType::Thread)
-    }
-
-    fn last_number(&self) -> Option<u64> {
-        self.state.last_number(MailType::Thread)
-    }
+    Ok(list)
 }
 
 /// The answer over the rows of the state.
@@ -129,14 +143,12 @@ fn answer(alloc: Global, state: &MailState, arguments: &Value) -> Result<Value, 
         (served thread_of state.now.rows.threads) (view arguments.now)) }
 {
     let Asked { ids, emails } = asked_of(alloc, arguments)?;
-    let place = state.list(MailType::Thread).place();
-    let epoch = state.epoch();
-    let text = state_text(alloc, State { epoch, place })?;
-    let threads = Threads {
-        state,
-        wanted: emails,
-    };
-    get_objects(alloc, THREAD_LETTER, text.as_str(), &threads, &ids)
+    let kind = MailType::Thread;
+    let there = TypeNumbers { state, kind };
+    let AskedNumbers { numbers, missing } = asked_numbers(alloc, THREAD_LETTER, &there, &ids)?;
+    let list = threads_at(alloc, state, emails, numbers.as_slice())?;
+    let text = type_text(alloc, state, kind)?;
+    Ok(get_value(alloc, text.as_str(), list, &missing)?)
 }
 
 /// Thread/get (RFC 8621 section 3.1): as `mailbox_get`, of Threads, each with its Emails by when they were received.

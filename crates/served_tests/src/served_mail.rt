@@ -80,6 +80,44 @@ const FLAGS: [Step; 10] = [
     ),
 ];
 
+/// More flags than are compared name by name, of which one isn't served; the same in another order; and with another one.
+const MANY: [&[u8]; 18] = [
+    b"\\other", b"k01", b"k02", b"k03", b"k04", b"k05", b"k06", b"k07", b"k08", b"k09", b"k10",
+    b"k11", b"k12", b"k13", b"k14", b"k15", b"k16", b"k17",
+];
+
+const MANY_AGAIN: [&[u8]; 18] = [
+    b"k17", b"k16", b"k15", b"k14", b"k13", b"k12", b"k11", b"k10", b"k09", b"k08", b"k07", b"k06",
+    b"k05", b"k04", b"k03", b"k02", b"k01", b"\\other",
+];
+
+const MANY_OTHERS: [&[u8]; 17] = [
+    b"k01", b"k02", b"k03", b"k04", b"k05", b"k06", b"k07", b"k08", b"k09", b"k10", b"k11", b"k12",
+    b"k13", b"k14", b"k15", b"k16", b"k18",
+];
+
+/// What is told again as it was changes nothing, however many flags there are.
+const MANY_FLAGS: [Step; 3] = [
+    (
+        &[
+            Told::Folders(&[INBOX]),
+            Told::Mail(b"INBOX", (1, &MANY, 10, PLAIN)),
+        ],
+        b" m+1 e+1 t+1",
+        b" e1 m1/1 t1 k01 k02 k03 k04 k05 k06 k07 k08 k09 k10 k11 k12 k13 k14 k15 k16 k17; m1 INBOX: Inbox 1/1 1/1; t1 e1;",
+    ),
+    (
+        &[Told::Mail(b"INBOX", (1, &MANY_AGAIN, 0, b""))],
+        b"",
+        b" e1 m1/1 t1 k01 k02 k03 k04 k05 k06 k07 k08 k09 k10 k11 k12 k13 k14 k15 k16 k17; m1 INBOX: Inbox 1/1 1/1; t1 e1;",
+    ),
+    (
+        &[Told::Mail(b"INBOX", (1, &MANY_OTHERS, 0, b""))],
+        b" e~1",
+        b" e1 m1/1 t1 k01 k02 k03 k04 k05 k06 k07 k08 k09 k10 k11 k12 k13 k14 k15 k16 k18; m1 INBOX: Inbox 1/1 1/1; t1 e1;",
+    ),
+];
+
 /// A Mailbox has an unread Thread where an Email of it is unread in whatever Mailbox. Emails come by folder, then UID.
 const UNREAD_ELSEWHERE: [Step; 3] = [
     (
@@ -334,8 +372,9 @@ const BY_DATE: [Step; 2] = [
     ),
 ];
 
-const SCRIPTS: [&[Step]; 10] = [
+const SCRIPTS: [&[Step]; 11] = [
     &FLAGS,
+    &MANY_FLAGS,
     &UNREAD_ELSEWHERE,
     &TO_BE_DELETED,
     &NEW_VALIDITY,

@@ -3,13 +3,13 @@ use Rattle.serde_json.specs.View.{view}
 use Rattle.jmap_methods.specs.Echo.{echoed}
 use Rattle.jmap_methods.specs.declared.method.Method.TheVariants.{CoreEcho, MailboxGet, MailboxChanges, ThreadGet, ThreadChanges, EmailChanges}
 use Rattle.read_methods.specs.Replies.{mailbox_get_reply, thread_get_reply}
-use Rattle.gate_calls.proofs.Meaning.{agrees_meets, replies_by}
+use Rattle.gate_calls.proofs.Meaning.{agrees_meets, just_meets, replies_by}
 use Rattle.gate_calls.proofs.methods.reply_over.Goals as goal
 
 pub returns-in-CoreEcho-clause-meant : goal.returns-in-CoreEcho-clause-meant
 returns-in-CoreEcho-clause-meant c = λ h held.
     replies_by CoreEcho c.args.method (Ok h) (view c.args.arguments) c.echo.result c.in-CoreEcho.is
-    (agrees_meets (echoed (view c.args.arguments)) c.echo.result c.echo.ensures)
+    (just_meets (echoed (view c.args.arguments)) c.echo.result c.echo.ensures)
 
 pub returns-in-MailboxGet-clause-meant : goal.returns-in-MailboxGet-clause-meant
 returns-in-MailboxGet-clause-meant c = λ h held.

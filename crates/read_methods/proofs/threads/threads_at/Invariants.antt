@@ -1,0 +1,13 @@
+use Rattle.std.proofs.Common.{◌≡◌, ◌++◌, drop, map}
+use Rattle.serde_json.specs.View.{view}
+use Rattle.jmap_methods.proofs.GetLemmas.{at_numbers}
+use Rattle.served_maps.specs.Past.{served}
+use Rattle.mail_maps.specs.Serve.{thread_of}
+use Rattle.read_methods.specs.Threads.{thread_objects}
+use Rattle.read_methods.proofs.threads.threads_at.Given as goal
+
+-- what is there of all is what is there so far, and then what is there of the rest
+abbrev pub invariant-loop-number : goal.invariant-loop-number
+invariant-loop-number l =
+    let objects = thread_objects (served thread_of l.state.rows.threads) l.wanted in
+    at_numbers objects l.numbers ≡ map view l.list.items ++ at_numbers objects (drop l.number-index l.numbers)
