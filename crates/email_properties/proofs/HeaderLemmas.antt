@@ -26,6 +26,9 @@ record IsEnding (text : List ℕ) (form : HeaderForm) (all : Bool) : Type 0 wher
   text_is : text ≡ suffix ++ all_suffix all
   asks : AsksForm form suffix
 
+abbrev asked_by : Ending → Asked
+asked_by e = (e.1, e.2)
+
 abbrev IsRow : Ending → Type 0
 IsRow e = IsEnding e.0 e.1 e.2
 
@@ -78,9 +81,9 @@ are_rows = (
 -- a row that is found has the text
 found : (es : List Ending) (text : List ℕ) (a : Asked) → AllByRecursion IsRow es → asked_among es text ≡ Some a → IsEnding text a.0 a.1
 found [] text a rows is = absurd cc
-found (e ∷ es) text a rows is = elim (bytes_eq e.0 text) as (λ b. bytes_eq e.0 text ≡ b → cond b (Some (e.1, e.2)) (asked_among es text) ≡ Some a → IsEnding text a.0 a.1) [
+found (e ∷ es) text a rows is = elim (bytes_eq e.0 text) as (λ b. bytes_eq e.0 text ≡ b → cond b (Some (asked_by e)) (asked_among es text) ≡ Some a → IsEnding text a.0 a.1) [
   | true ↦ λ same here.
-      let pair : (e.1, e.2) ≡ a = cc in
+      let pair : asked_by e ≡ a = cc in
       let row = rows.0 in
       record {
         suffix = row.suffix;
@@ -149,7 +152,7 @@ make : (key name : List ℕ) (a : Asked) → (length name == 0) ≡ false → is
 make key name a some takes = cond-false (length name == 0) _ _ some ∙ cond-true (is_permitted name a.0) _ _ takes
 
 is_made : (key name : List ℕ) (a : Asked) (h : HeaderAsked) → header_asked key name (Some a) ≡ Some h → IsMade key name a h
-is_made key name a h is = elim (length name == 0) as (λ b. (length name == 0) ≡ b → cond b None (cond (is_permitted name a.0) (Some (made key name a)) None) ≡ Some h → IsMade key name a h) [
+is_made key name a h is = elim (length name == 0) as (λ b. (length name == 0) ≡ b → cond {A = Option HeaderAsked} b None (cond (is_permitted name a.0) (Some (made key name a)) None) ≡ Some h → IsMade key name a h) [
   | true ↦ λ none i. absurd cc
   | false ↦ λ some i.
       elim (is_permitted name a.0) as (λ b. is_permitted name a.0 ≡ b → cond b (Some (made key name a)) None ≡ Some h → IsMade key name a h) [
