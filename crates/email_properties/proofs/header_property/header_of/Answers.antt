@@ -1,4 +1,4 @@
-use Rattle.std.proofs.Common.{◌≡◌, ℕ, Bool, List, Option, ap, ◌∙◌}
+use Rattle.std.proofs.Common.{ℕ, List, Option, ap, ◌∙◌}
 use Rattle.text_words.specs.Cuts.{front}
 use Rattle.email_properties.specs.HeaderProperties.{is_name_octet, Asked, endings, asked_among, header_asked}
 use Rattle.email_properties.proofs.header_property.header_of.Goals as goal
