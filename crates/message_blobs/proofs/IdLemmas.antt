@@ -11,7 +11,7 @@ use Rattle.text_words.proofs.SequenceLemmas.{one_reading}
 use Rattle.message_blobs.specs.BlobIds.{BlobRoot, OfEmail, OfUpload, root_text, leaf_text, blob_text, is_lower_hex, IsUploadId, IsRoot, AreLeafNumbers, IsBlobId}
 use Rattle.message_blobs.specs.declared.leaf_numbers.TheConstants.{MAX_LEAVES}
 use Rattle.message_blobs.specs.reading.NumberReading.{is_no_mark, IsNumberBefore}
-use Rattle.message_blobs.proofs.NumberLemmas.{decimal_no_mark, stops_number, numbers_determined, numbers_row, row_text, row_numbers, rest_of}
+use Rattle.message_blobs.proofs.NumberLemmas.{decimal_no_mark, stops_number, numbers_determined, numbers_row, row_text, row_numbers, first_of, rest_of}
 
 -- ---- roots
 
@@ -30,13 +30,9 @@ root_no_mark (OfUpload id) is = let P : List ℕ → Type 0 = λ u. Each is_no_m
 -- a text is one root's
 one_root : (r s : BlobRoot) → IsRoot r → IsRoot s → root_text r ≡ root_text s → r ≡ s
 one_root (OfEmail m) (OfEmail n) i j e = ap OfEmail (decimal_injective m n i j (ap rest_of e))
-one_root (OfEmail m) (OfUpload id) i j e = absurd (let w : 114 ∷ decimal m ≡ 117 ∷ j.digits = e ∙ j.whole in cc)
-one_root (OfUpload id) (OfEmail n) i j e = absurd (let w : 117 ∷ i.digits ≡ 114 ∷ decimal n = sym i.whole ∙ e in cc)
+one_root (OfEmail m) (OfUpload id) i j e = absurd (let w = ap first_of (e ∙ j.whole) in omega (arith, w))
+one_root (OfUpload id) (OfEmail n) i j e = absurd (let w = ap first_of (sym i.whole ∙ e) in omega (arith, w))
 one_root (OfUpload a) (OfUpload b) i j e = ap OfUpload e
-
--- digits of a number aren't an upload's
-pub upload_is_none : (n : ℕ) (t : List ℕ) → IsUploadId t → t ≢ 114 ∷ decimal n
-upload_is_none n t u e = let w : 117 ∷ u.digits ≡ 114 ∷ decimal n = sym u.whole ∙ e in cc
 
 -- a text that is no upload's id and no Email's number is no root's
 pub no_root : (t : List ℕ) → (IsUploadId t → ⊥) → ((n : ℕ) → n < 2 ^ 64 → t ≢ 114 ∷ decimal n) → (root : BlobRoot) → IsRoot root → t ≢ root_text root

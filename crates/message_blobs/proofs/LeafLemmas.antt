@@ -1,5 +1,6 @@
 -- Numbers of leaves name one leaf's octets at most, whichever tree each message is read as.
-use Rattle.std.proofs.Common.{arith, ◌≡◌, ◌≢◌, ℕ, zero, suc, ◌+◌, ◌<◌, ◌≤◌, Bool, List, [], ◌∷◌, length, drop, get_or, Option, Some, refl, sym, ap, ◌∙◌, subst}
+use Rattle.std.proofs.Common.{arith, ◌≡◌, ◌≢◌, ℕ, zero, suc, ◌+◌, ◌<◌, ◌≤◌, Bool, List, [], ◌∷◌, length, drop, get_or, Option, Some, None, refl, sym, ap, ◌∙◌, subst}
+use Rattle.std.specs.Option.{MatchOption}
 use Rattle.std.specs.Prelude.{slice_range, Contains}
 use Rattle.std.proofs.lemmas.List.{drop_more}
 use Rattle.std.proofs.Math.ListN.{drop_of_length-le}
@@ -87,29 +88,40 @@ one_named (n ∷ ns) b s t g h =
 
 -- ---- from one message to the next
 
+-- what is said where nothing is given
+pub told_none : {A : Type 0} (r : Option A) (P : Type 0) (Q : A → Type 0) → MatchOption r P Q → r ≡ None → P
+told_none None P Q m e = m
+told_none (Some x) P Q m e = absurd (let w : Some x ≡ None = e in cc)
+
+-- what is said of what is given
+pub told_some : {A : Type 0} (r : Option A) (x : A) (P : Type 0) (Q : A → Type 0) → MatchOption r P Q → r ≡ Some x → Q x
+told_some r x P Q m e = subst (λ o. MatchOption o P Q) e m
+
 -- what the numbers that are left name in these octets is what all of them name in the first
 pub record Leads (left within leaves b : List ℕ) : Type 0 where
   pub forth : (s : List ℕ) → NamesOctets left within s → NamesOctets leaves b s
   pub back : (s : List ℕ) → NamesOctets leaves b s → NamesOctets left within s
 
--- the octets of the leaf are the next message
-pub leads_on : (n : ℕ) (left within inner leaves b : List ℕ) → Leads (n ∷ left) within leaves b → LeafSpells within n inner → Leads left inner leaves b
-leads_on n left within inner leaves b l spells = record {
-  forth = λ s h. l.forth s (inner, spells, h);
-  back = λ s h. let w = l.back s h in let P : List ℕ → Type 0 = λ u. NamesOctets left u s in subst P (one_leaf within n w.0 inner w.1 spells) w.2;
-}
+next_is : (i : ℕ) (within leaves b : List ℕ) → i < length leaves → Leads (drop i leaves) within leaves b → Leads (get_or leaves i 0 ∷ drop (i + 1) leaves) within leaves b
+next_is i within leaves b lt l = let P : List ℕ → Type 0 = λ u. Leads u within leaves b in subst P (drop_more leaves i 0 lt) l
+
+-- the octets of the next leaf are the next message
+pub leads_on : (i : ℕ) (within inner leaves b : List ℕ) → i < length leaves → Leads (drop i leaves) within leaves b → LeafSpells within (get_or leaves i 0) inner
+    → Leads (drop (i + 1) leaves) inner leaves b
+leads_on i within inner leaves b lt before spells =
+    let l = next_is i within leaves b lt before in
+    record {
+      forth = λ s h. l.forth s (inner, spells, h);
+      back = λ s h.
+          let w = l.back s h in
+          let P : List ℕ → Type 0 = λ u. NamesOctets (drop (i + 1) leaves) u s in
+          subst P (one_leaf within (get_or leaves i 0) w.0 inner w.1 spells) w.2;
+    }
 
 -- where the message has no such leaf, the numbers name nothing
-pub leads_nowhere : (n : ℕ) (left within leaves b : List ℕ) → Leads (n ∷ left) within leaves b → ((s : List ℕ) → LeafSpells within n s → ⊥)
+pub leads_nowhere : (i : ℕ) (within leaves b : List ℕ) → i < length leaves → Leads (drop i leaves) within leaves b → ((s : List ℕ) → LeafSpells within (get_or leaves i 0) s → ⊥)
     → (s : List ℕ) → NamesOctets leaves b s → ⊥
-leads_nowhere n left within leaves b l none s h = let w = l.back s h in none w.0 w.1
-
--- the same at a place among the numbers
-pub next_is : (i n : ℕ) (within leaves b : List ℕ) → i < length leaves → n ≡ get_or leaves i n → Leads (drop i leaves) within leaves b
-    → Leads (n ∷ drop (i + 1) leaves) within leaves b
-next_is i n within leaves b lt e l =
-    let P : List ℕ → Type 0 = λ u. Leads u within leaves b in
-    subst P (drop_more leaves i n lt ∙ ap (λ (m : ℕ). m ∷ drop (i + 1) leaves) (sym e)) l
+leads_nowhere i within leaves b lt before none s h = let w = (next_is i within leaves b lt before).back s h in none w.0 w.1
 
 -- before the first number
 pub starts : (leaves within b : List ℕ) → within ≡ b → Leads (drop 0 leaves) within leaves b

@@ -5,6 +5,7 @@ use Rattle.std.specs.Int.{IsInRange}
 use Rattle.std.specs.Option.{IfSome, MatchOption}
 use Rattle.std.specs.Str.{IsUtf8}
 use Rattle.std.specs.List.{flat_map}
+use Rattle.std.proofs.lemmas.Bool.{eqb-false}
 use Rattle.std.proofs.lemmas.Fmt.{digits_decimal, decimal_injective, IsAscii-decimal}
 use Rattle.std.proofs.lemmas.Str.{IsUtf8-from_ascii}
 use Rattle.std.proofs.lemmas.Str.Ascii.{IsAscii-cons}
@@ -15,7 +16,23 @@ use Rattle.text_words.specs.Sequence.{Sequence, SameStart, IsDetermined}
 use Rattle.text_words.proofs.CutLemmas.{SameCut, front_back, front_each, back_stops, one_cut}
 use Rattle.text_words.proofs.SequenceLemmas.{Behind, begins, one_more, all_done}
 use Rattle.message_blobs.specs.BlobIds.{leaf_text, AreLeafNumbers}
+use Rattle.message_blobs.specs.declared.leaf_numbers.TheConstants.{MAX_LEAVES}
 use Rattle.message_blobs.specs.reading.NumberReading.{is_no_mark, IsNumberBefore}
+
+-- what holds where nothing is given
+pub none_given : {A : Type 0} (r : Option A) (P : Type 0) (Q : A → Type 0) → r ≡ None → P → MatchOption r P Q
+none_given None P Q e p = p
+none_given (Some x) P Q e p = absurd (let w : Some x ≡ None = e in cc)
+
+-- the first octet
+abbrev pub first_of : List ℕ → ℕ
+first_of [] = 0
+first_of (c ∷ t) = c
+
+-- what follows it
+abbrev pub rest_of : List ℕ → List ℕ
+rest_of [] = []
+rest_of (c ∷ t) = t
 
 -- ---- decimal numbers
 
@@ -43,10 +60,6 @@ number_is_text letter n t ascii fits is =
     subst P (sym is) (IsUtf8-from_ascii (letter ∷ decimal n) (IsAscii-cons letter (decimal n) ascii (IsAscii-decimal n fits)))
 
 -- ---- the number at the front
-
-abbrev pub rest_of : List ℕ → List ℕ
-rest_of [] = []
-rest_of (c ∷ t) = t
 
 -- what follows the first octet up to the mark isn't the whole text
 pub rest_shorter : (t d rest : List ℕ) → t ≡ 45 ∷ d → rest ≡ back is_no_mark d → length rest < length t
@@ -145,6 +158,14 @@ too_many vs rest b h some all few s = let w = h.back all s in by w.0 w.1 w.2
     by (u ∷ us) w g = omega (arith, few, ap length w, length-append vs (u ∷ us))
 
 -- ---- reading them in turn
+
+-- no number was read
+pub few_read : (vs : List ℕ) → vs ≡ [] → length vs ≤ MAX_LEAVES
+few_read vs e = let n = ap (λ (u : List ℕ). length u) e in omega (arith, n)
+
+-- where fewer than may be were read, one more may be
+pub few_more : (vs ws : List ℕ) (n : ℕ) → ws ≡ vs ++ n ∷ [] → length vs ≤ MAX_LEAVES → eqb (length vs) MAX_LEAVES ≡ false → length ws ≤ MAX_LEAVES
+few_more vs ws n e few other = let k = ap (λ (u : List ℕ). length u) e in omega (arith, k, few, eqb-false _ _ other, length-append vs (n ∷ []))
 
 -- before the first number
 pub none_read : (vs b : List ℕ) → vs ≡ [] → Behind IsNumberBefore vs b b

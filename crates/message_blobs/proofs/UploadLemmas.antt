@@ -1,7 +1,7 @@
 -- The id of an upload is lower-case hexadecimal digits behind its letter.
 use Rattle.std.proofs.Common.{arith, ◌≡◌, ℕ, zero, suc, ◌+◌, ◌*◌, ◌/◌, ◌%◌, ◌<◌, ◌≤◌, Bool, true, List, [], ◌∷◌, ◌++◌, length, get_or, refl, sym, ap, ◌∙◌}
-use Rattle.std.specs.Prelude.{slice_index, w32}
-use Rattle.std.specs.Int.{byte_at, bytes_high_first, to_be_bytes}
+use Rattle.std.specs.Prelude.{slice_index}
+use Rattle.std.specs.Int.{w32, byte_at, bytes_high_first, to_be_bytes}
 use Rattle.std.proofs.lemmas.List.{append-nil}
 use Rattle.hex.specs.Hex.{encode_with, encode_lower, lower_digits}
 use Rattle.hex.proofs.HexLemmas.{length-encode_with}

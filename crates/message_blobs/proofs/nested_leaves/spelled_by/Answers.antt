@@ -7,13 +7,13 @@ returns-in-None c = λ s h. no_leaf c.args.octets.now s c.args.number c.in_ok-me
 pub part_bytes-requires : goal.part_bytes-requires
 part_bytes-requires c = c.in_ok-message.ensures.within c.in-Some.leaf.now c.in-Some.ensures.0
 
-pub returns-in-Some : goal.returns-in-Some
-returns-in-Some c = record {
+pub returns : goal.returns
+returns c = record {
   message = c.in_ok-message.message;
   is_message = c.in_ok-message.ensures.message;
   leaf = c.in-Some.leaf.now;
   is_under = c.in-Some.ensures.0;
   number_is = c.in-Some.ensures.1;
-  problem = c.in_ok-part_bytes.field-0.1;
-  spelled = c.in_ok-part_bytes.ensures;
+  problem = _;
+  spelled = c.in_ok-spelled-in-Some.ensures;
 }
