@@ -1,14 +1,14 @@
 -- Blob ids: where one is cut, that it is one alone, and those of leaves.
-use Rattle.std.proofs.Common.{arith, ◌≡◌, ◌≢◌, ℕ, zero, suc, ◌+◌, ◌<◌, ◌≤◌, ◌^◌, Bool, true, List, [], ◌∷◌, ◌++◌, length, decimal, refl, sym, ap, ◌∙◌, subst, append_assoc}
+use Rattle.std.proofs.Common.{arith, ◌≡◌, ◌≢◌, ℕ, ◌<◌, ◌≤◌, ◌^◌, true, List, [], ◌∷◌, ◌++◌, length, decimal, refl, sym, ap, ◌∙◌, subst, append_assoc}
 use Rattle.std.specs.List.{flat_map}
 use Rattle.std.proofs.lemmas.Fmt.{decimal_injective}
 use Rattle.std.proofs.lemmas.Grind.{flat_map-append}
 use Rattle.std.proofs.lemmas.List.{append-nil, length-append}
-use Rattle.text_words.specs.Cuts.{Each, Stops, front, back}
+use Rattle.text_words.specs.Cuts.{Each, front, back}
 use Rattle.text_words.specs.Sequence.{Sequence}
-use Rattle.text_words.proofs.CutLemmas.{SameCut, front_back, front_each, back_stops, front_is, back_is}
+use Rattle.text_words.proofs.CutLemmas.{SameCut, front_back, front_is, back_is}
 use Rattle.text_words.proofs.SequenceLemmas.{one_reading}
-use Rattle.message_blobs.specs.BlobIds.{BlobRoot, OfEmail, OfUpload, root_text, leaf_text, blob_text, is_lower_hex, IsUploadId, IsRoot, AreLeafNumbers, IsBlobId}
+use Rattle.message_blobs.specs.BlobIds.{BlobRoot, OfEmail, OfUpload, root_text, leaf_text, is_lower_hex, IsUploadId, IsRoot, AreLeafNumbers, IsBlobId}
 use Rattle.message_blobs.specs.declared.leaf_numbers.TheConstants.{MAX_LEAVES}
 use Rattle.message_blobs.specs.reading.NumberReading.{is_no_mark, IsNumberBefore}
 use Rattle.message_blobs.proofs.NumberLemmas.{decimal_no_mark, stops_number, numbers_determined, numbers_row, row_text, row_numbers, first_of, rest_of}

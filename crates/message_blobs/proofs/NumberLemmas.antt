@@ -1,5 +1,5 @@
 -- Numbers of leaves: how one is cut, and that a row of them is read in one way.
-use Rattle.std.proofs.Common.{arith, ◌≡◌, ◌≢◌, ℕ, zero, suc, ◌+◌, ◌-◌, ◌<◌, ◌≤◌, ◌^◌, Bool, true, false, not, ◌==◌}
+use Rattle.std.proofs.Common.{arith, ◌≡◌, ◌≢◌, ℕ, suc, ◌-◌, ◌<◌, ◌≤◌, ◌^◌, true, false}
 use Rattle.std.proofs.Common.{List, [], ◌∷◌, ◌++◌, length, take, drop, get_or, decimal, refl, sym, ap, ◌∙◌, subst, eqb, eq-eqb, Option, Some, None}
 use Rattle.std.specs.Int.{IsInRange}
 use Rattle.std.specs.Option.{IfSome, MatchOption}
@@ -14,7 +14,7 @@ use Rattle.std.proofs.lemmas.List.{length-append, take_at, drop_at}
 use Rattle.text_words.specs.Cuts.{Each, Stops, front, back}
 use Rattle.text_words.specs.Sequence.{Sequence, SameStart, IsDetermined}
 use Rattle.text_words.proofs.CutLemmas.{SameCut, front_back, front_each, back_stops, one_cut}
-use Rattle.text_words.proofs.SequenceLemmas.{Behind, begins, one_more, all_done}
+use Rattle.text_words.proofs.SequenceLemmas.{Behind, begins, one_more}
 use Rattle.message_blobs.specs.BlobIds.{leaf_text, AreLeafNumbers}
 use Rattle.message_blobs.specs.declared.leaf_numbers.TheConstants.{MAX_LEAVES}
 use Rattle.message_blobs.specs.reading.NumberReading.{is_no_mark, IsNumberBefore}

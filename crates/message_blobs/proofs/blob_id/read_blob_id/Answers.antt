@@ -1,4 +1,4 @@
-use Rattle.std.proofs.Common.{◌∙◌, sym}
+use Rattle.std.proofs.Common.{◌∙◌}
 use Rattle.message_blobs.specs.BlobIds.{root_view}
 use Rattle.message_blobs.proofs.NumberLemmas.{none_given}
 use Rattle.message_blobs.proofs.IdLemmas.{id_cut, id_row, id_from}

@@ -1,4 +1,4 @@
-use Rattle.std.proofs.Common.{arith, ◌≡◌, ◌++◌, ◌<◌, length, decimal, ap, subst, ◌∙◌, sym}
+use Rattle.std.proofs.Common.{arith, ◌++◌, decimal}
 use Rattle.message_blobs.proofs.NumberLemmas.{none_given, rest_shorter, split_at_mark, begins_with_mark, number_split, one_split, number_here}
 use Rattle.message_blobs.proofs.leaf_numbers.number_at.Goals as goal
 
@@ -42,5 +42,7 @@ pub returns-clause-shorter : goal.returns-clause-shorter
 returns-clause-shorter c =
     let t = c.args.text.now in
     let d = c.in_ok-digits.digits.now in
-    let cut = split_at_mark t d c.cut.result.1.now c.split_at.result.0.now c.split_at.result.1.now c.in_ok-digits.ensures c.cut.ensures.back c.split_at.ensures.front c.split_at.ensures.back in
-    rest_shorter t d c.split_at.result.1.now c.in_ok-digits.ensures cut.back
+    let leaf = c.split_at.result.0.now in
+    let behind = c.split_at.result.1.now in
+    let cut = split_at_mark t d c.cut.result.1.now leaf behind c.in_ok-digits.ensures c.cut.ensures.back c.split_at.ensures.front c.split_at.ensures.back in
+    rest_shorter t d behind c.in_ok-digits.ensures cut.back
