@@ -1,11 +1,11 @@
 // Methods over mail that is told, step by step.
+use crate::dialogues::{Asked, exchange};
 use crate::texts::shown;
 use mail_state::MailState;
 use read_methods::{email_changes, mailbox_changes, mailbox_get, thread_changes, thread_get};
 use serde_json::Value;
 use std::alloc::Global;
 use std::process::Abort;
-use told_dialogues::{Asked, exchange};
 use told_mail::Mirror;
 
 /// A step: what is told, or what is asked of the state and what is answered.

@@ -25,6 +25,8 @@ mod header_keys;
 
 // Methods over mail that is told.
 #[cfg(test)]
+mod dialogues;
+#[cfg(test)]
 mod kept_mail;
 #[cfg(test)]
 mod limits;

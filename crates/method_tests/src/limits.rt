@@ -1,9 +1,9 @@
 // As many objects as may be asked, one more, and as many changes as are kept.
+use crate::dialogues::{Asked, exchange};
 use crate::kept_mail::{INBOX, SEEN, UNSEEN, VALIDITY, answer};
 use mail_state::MailState;
 use std::alloc::Global;
 use std::process::Abort;
-use told_dialogues::{Asked, exchange};
 use told_mail::{Exchange, Mirror};
 
 /// This many ids, in the arguments of a /get.

@@ -1,11 +1,11 @@
 // Where no number of a folder and no mark is left.
 ghost use Rattle.std.specs.Prelude.{◌≡◌, [], None};
 
+use crate::dialogues::{Asked, exchange};
 use crate::showing::shown;
 use gate_world::{Bytes, Names};
 use std::alloc::Global;
 use std::process::Abort;
-use told_dialogues::{Asked, exchange};
 use told_mail::{Folder, Message, Mirror};
 
 /// The last number but one.

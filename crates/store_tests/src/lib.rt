@@ -3,6 +3,8 @@
 
 // Exchanges and mail.
 #[cfg(test)]
+mod dialogues;
+#[cfg(test)]
 mod playing;
 #[cfg(test)]
 mod showing;

@@ -1,4 +1,5 @@
 // One exchange after another by a client.
+use crate::dialogues::{Asked, command_of};
 use crate::playing::taken;
 use crate::rounds::CONNECTED;
 use imap_client::Client;
@@ -6,7 +7,6 @@ use imap_grammar::Status;
 use scripted_world::{Script, ScriptWorld};
 use std::alloc::Global;
 use std::process::Abort;
-use told_dialogues::{Asked, command_of};
 
 /// A world in which the store gives these octets once it's connected to, and a call fails (0: none).
 fn world_of(rt: &impl Abort, alloc: Global, octets: &[u8], failing: u64) -> ScriptWorld {

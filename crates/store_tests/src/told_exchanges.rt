@@ -1,8 +1,8 @@
 // What each exchange tells, one after the other.
+use crate::dialogues::{Asked, exchange};
 use crate::showing::shown;
 use std::alloc::Global;
 use std::process::Abort;
-use told_dialogues::{Asked, exchange};
 use told_mail::Mirror;
 
 /// What is asked, what the store sends, the mail after it, and whether that is other mail than before.

@@ -1,7 +1,7 @@
 // Many messages, and headers that are cut.
+use crate::dialogues::{Asked, exchange};
 use std::alloc::Global;
 use std::process::Abort;
-use told_dialogues::{Asked, exchange};
 use told_mail::Mirror;
 
 const MESSAGES: u32 = 20_000;

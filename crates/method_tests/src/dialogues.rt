@@ -1,41 +1,23 @@
 // Exchanges made from octets.
-use gate_world::{Bytes, Listed, Names};
+use gate_world::{Bytes, Listed};
 use imap_commands::Command;
 use imap_grammar::{Response, Scan, decode, scan};
 use std::alloc::Global;
 use std::process::Abort;
 use told_mail::Exchange;
 
-/// What the store is asked, with no modseq known and, in the fetches of headers, with modseqs.
+/// What the store is asked.
 #[derive(Clone, Copy, Debug, Drop)]
-pub enum Asked<'a> {
-    /// All folders.
+pub(crate) enum Asked<'a> {
     List,
-    /// The folder of this name.
     Select(&'a [u8]),
-    /// The flags of all messages of the selected folder.
     Flags,
-    /// The headers from the first UID to the second.
     Slice(u32, u32),
-    /// The headers from this UID on.
     New(u32),
-    /// No folder is to be selected.
     Unselect,
-    /// To the folder of this name a message of these octets, of 2 January 2024 and without flags.
-    Append(&'a [u8], &'a [u8]),
 }
 
-fn append_of(rt: &impl Abort, alloc: Global, name: &[u8], message: &[u8]) -> Command {
-    Command::Append {
-        name: Bytes::copy_of(alloc, name).expect(rt, "memory"),
-        flags: Names::new(alloc),
-        date: 1_704_186_000,
-        message: Bytes::copy_of(alloc, message).expect(rt, "memory"),
-    }
-}
-
-/// The command that asks so.
-pub fn command_of(rt: &impl Abort, alloc: Global, asked: Asked<'_>) -> Command {
+fn command_of(rt: &impl Abort, alloc: Global, asked: Asked<'_>) -> Command {
     match asked {
         Asked::List => Command::List,
         Asked::Select(name) => Command::Select {
@@ -50,7 +32,6 @@ pub fn command_of(rt: &impl Abort, alloc: Global, asked: Asked<'_>) -> Command {
         },
         Asked::New(from) => Command::FetchNew { from, modseq: true },
         Asked::Unselect => Command::Unselect,
-        Asked::Append(name, message) => append_of(rt, alloc, name, message),
     }
 }
 
@@ -79,8 +60,8 @@ fn responses(rt: &impl Abort, alloc: Global, octets: &[u8]) -> Vec<Response> {
     responses
 }
 
-/// The exchange that these octets complete, with the folder that was selected before it. They end in the tagged response.
-pub fn exchange(
+/// The exchange that these octets complete, with the folder that was selected before it.
+pub(crate) fn exchange(
     rt: &impl Abort,
     alloc: Global,
     asked: Asked<'_>,
