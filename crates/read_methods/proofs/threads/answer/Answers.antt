@@ -15,7 +15,7 @@ pub returns-in_err-numbers : goal.returns-in_err-numbers
 returns-in_err-numbers c =
     let state = c.args.state.now in
     let wanted = c.in_ok-ids.field-0.emails in
-    let is = err_from_is_err_and c.from_residual-in_err-numbers.result c.from_residual.ensures.1 in
+    let is = err_from_is_err_and c.from_residual-in_err-numbers.result c.from_residual-in_err-numbers.ensures.1 in
     rw (is.1, is.2) (get_refused thread_letter (state_text (record { epoch = state.epoch; place = state.lists.thread.place }))
     (thread_objects (served thread_of state.rows.threads)) (threads_asked (view c.args.arguments.now))
     (option_map (λ v. map (λ t. t.now) v.items) c.in_ok-ids.field-0.ids) wanted (keys_of state.rows.threads) c.in_err-numbers.field-0.0
