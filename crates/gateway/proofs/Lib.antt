@@ -4,4 +4,3 @@ mod Explaining
 mod CompletingShow
 mod Performing
 mod Told
-mod Kept

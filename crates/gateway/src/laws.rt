@@ -3,9 +3,8 @@ ghost use Rattle.std.specs.Prelude.{List, ℕ};
 ghost use Rattle.gate_world.specs.Causes.{Hidden};
 ghost use Rattle.gate_world.specs.declared.event.Event.{Event};
 ghost use Rattle.gateway.specs.Complete.{CompletesServing};
-ghost use Rattle.gateway.specs.Histories.{KeepsServing};
 
-use gate_serving::{histories_go_on, obeyed_clients_are_told, obeyed_runs_are_told};
+use gate_serving::{obeyed_clients_are_told, obeyed_runs_are_told};
 
 /// Each client of a run of the program of whom nothing fails and for whom the store obeyed is told, whatever comes of the others.
 pub fn obeyed_programs_tell()
@@ -13,12 +12,4 @@ pub fn obeyed_programs_tell()
 {
     obeyed_clients_are_told();
     obeyed_runs_are_told();
-}
-
-/// From each client of a run of the program to each later one the history that is served goes on, or the epoch that there is then
-/// was drawn meanwhile.
-pub fn programs_keep_histories()
-    ensures { (words : List (List ℕ)) (secrets : Hidden) (status : ℕ) (events : List Event) → KeepsServing words secrets status events }
-{
-    histories_go_on();
 }

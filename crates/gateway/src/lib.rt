@@ -5,10 +5,10 @@
 mod explain;
 mod show;
 
-// The top call, what clients are owed by it, and what stays from one to another.
+// The top call, and what clients are owed by it.
 mod laws;
 mod program;
 
 pub use gate_words::{Page, Place, Task, WordsError, read_words};
-pub use laws::{obeyed_programs_tell, programs_keep_histories};
+pub use laws::obeyed_programs_tell;
 pub use program::run;

@@ -30,15 +30,6 @@ returns-in-Err-Refused-clause-complete g c = widen _ c.end_refused.ensures.said 
 pub returns-in-Err-Memory-clause-complete : goal.returns-in-Err-Memory-clause-complete
 returns-in-Err-Memory-clause-complete g c = none _ _ (c.obeyed_programs_tell.ensures _ _ _ _)
 
-pub returns-in-Ok-clause-histories : goal.returns-in-Ok-clause-histories
-returns-in-Ok-clause-histories g c = widen _ c.perform.ensures.run (λ x so. c.programs_keep_histories.ensures _ _ _ x)
-
-pub returns-in-Err-Refused-clause-histories : goal.returns-in-Err-Refused-clause-histories
-returns-in-Err-Refused-clause-histories g c = widen _ c.end_refused.ensures.said (λ x said. c.programs_keep_histories.ensures _ _ _ x)
-
-pub returns-in-Err-Memory-clause-histories : goal.returns-in-Err-Memory-clause-histories
-returns-in-Err-Memory-clause-histories g c = none _ _ (c.programs_keep_histories.ensures _ _ _ _)
-
 pub returns-in-Ok-clause-apart : goal.returns-in-Ok-clause-apart
 returns-in-Ok-clause-apart g c =
     λ other is apart. c.perform.ensures.apart (subst (λ (t : Task). IsApart t) (same-task _ other c.in-Ok.task is c.in-Ok.ensures.ok) apart)
