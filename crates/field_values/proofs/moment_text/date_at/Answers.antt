@@ -1,8 +1,8 @@
 use Rattle.std.proofs.Common.{◌≡◌, arith, pos, ◌+ℤ◌}
 use Rattle.std.proofs.lemmas.Int.{ints}
 use Rattle.jiff_core.specs.Date.{epoch_day}
-use Rattle.email_get.proofs.MomentLemmas.{from_year_zero}
-use Rattle.email_get.proofs.moment_text.date_at.Goals as goal
+use Rattle.field_values.proofs.MomentLemmas.{from_year_zero}
+use Rattle.field_values.proofs.moment_text.date_at.Goals as goal
 
 pub returns-clause-year : goal.returns-clause-year
 returns-clause-year c =

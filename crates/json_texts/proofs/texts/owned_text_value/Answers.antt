@@ -7,7 +7,7 @@ use Rattle.std.proofs.lemmas.Str.{utf8_lossy-IsUtf8}
 use Rattle.serde_json.specs.Data.{string}
 use Rattle.serde_json.specs.View.{view}
 use Rattle.serde_json.specs.declared.value.Value.{String as Text, the_lemmas}
-use Rattle.email_get.proofs.texts.owned_text_value.Goals as goal
+use Rattle.json_texts.proofs.texts.owned_text_value.Goals as goal
 
 view-String : (t : String Global) → view (Text t) ≡ string (string_bytes t)
 view-String t = search (rules, the_lemmas)

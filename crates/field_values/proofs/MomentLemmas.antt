@@ -16,7 +16,7 @@ use Rattle.header_dates.specs.declared.date.Moment.{Moment}
 use Rattle.text_words.specs.Octets.{is_between, is_same_text}
 use Rattle.header_tokens.specs.Tokens.{Spelled}
 use Rattle.header_dates.specs.Dates as dates
-use Rattle.email_get.specs.MomentText.{IsMomentText, IsShown, local_text}
+use Rattle.field_values.specs.MomentText.{IsMomentText, IsShown, local_text}
 
 year_zero : day_count (pos 0) 1 1 ≡ 3652425
 year_zero = day_count-early (pos 0) 9999 1 1 refl (omega arith) (omega arith) (omega arith)

@@ -2,7 +2,7 @@
 ghost use Rattle.std.specs.Prelude.{◌≡◌, ◌<◌, ◌≤◌, ◌+◌, ◌/◌, ◌*◌, ◌++◌, ◌∷◌, true, pos, negsuc, ◌+ℤ◌, ◌*ℤ◌, ◌≤ℤ◌, IfOk, OnOk, string_bytes};
 ghost use Rattle.jiff_core.specs.Date.{epoch_day};
 ghost use Rattle.header_dates.specs.Dates as dates;
-ghost use Rattle.email_get.specs.MomentText as texts;
+ghost use Rattle.field_values.specs.MomentText as texts;
 
 use header_dates::{Clock, Day, Moment};
 use jiff_core::civil::Date;

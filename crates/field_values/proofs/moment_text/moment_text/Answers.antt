@@ -2,9 +2,9 @@ use Rattle.std.proofs.Common.{◌≡◌, ◌∙◌, ap, arith, pos, ◌+ℤ◌, 
 use Rattle.std.proofs.lemmas.Int.{to_z-of_z}
 use Rattle.jiff_core.proofs.SignedLemmas.{signed_arith}
 use Rattle.header_dates.specs.Dates as dates
-use Rattle.email_get.specs.MomentText.{local_text}
-use Rattle.email_get.proofs.MomentLemmas.{is_moment}
-use Rattle.email_get.proofs.moment_text.moment_text.Goals as goal
+use Rattle.field_values.specs.MomentText.{local_text}
+use Rattle.field_values.proofs.MomentLemmas.{is_moment}
+use Rattle.field_values.proofs.moment_text.moment_text.Goals as goal
 
 pub returns : goal.returns
 returns c =
