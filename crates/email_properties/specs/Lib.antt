@@ -1,0 +1,2 @@
+pub mod HeaderAsked
+pub mod Wanted

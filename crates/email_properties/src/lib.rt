@@ -1,0 +1,20 @@
+//! What an Email/get or an Email/parse asks of each Email (RFC 8621 sections 4.1, 4.2 and 4.9): its properties, those of the parts of
+//! its body, and which values of the body.
+#![tactic(auto)]
+
+// Properties that header fields give.
+mod header_form;
+mod header_property;
+
+// Properties.
+mod email_property;
+mod part_property;
+
+// What is asked.
+mod wanted;
+
+pub use email_property::EmailProperty;
+pub use header_form::HeaderForm;
+pub use header_property::HeaderProperty;
+pub use part_property::PartProperty;
+pub use wanted::{BodyWanted, EmailWanted};
