@@ -1,0 +1,18 @@
+// Laws of forms and header properties.
+ghost use Rattle.std.specs.Prelude.{◌≡◌, ℕ, List};
+ghost use Rattle.serde_json.specs.Data.{Data};
+ghost use Rattle.mail_header.specs.Fields.{NameAndRaw};
+ghost use Rattle.email_properties.specs.HeaderAsked.{HeaderAsked};
+ghost use Rattle.email_properties.specs.declared.header_form.HeaderForm.{HeaderForm};
+ghost use Rattle.field_values.specs.Forms.{IsFormData};
+ghost use Rattle.field_values.specs.HeaderProperties.{IsHeaderPropertyData};
+
+/// No raw value has two data in one form.
+pub fn one_form_data()
+    ensures { (form : HeaderForm) (raw : List ℕ) (d e : Data) → IsFormData form raw d → IsFormData form raw e → d ≡ e }
+{}
+
+/// No fields have two data of one header property.
+pub fn one_property_data()
+    ensures { (asked : HeaderAsked) (fields : List NameAndRaw) (d e : Data) → IsHeaderPropertyData asked fields d → IsHeaderPropertyData asked fields e → d ≡ e }
+{}
