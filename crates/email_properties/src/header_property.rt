@@ -1,8 +1,12 @@
-// Properties that a header field gives: `header:{name}:as{form}:all`.
-ghost use Rattle.std.specs.Prelude.{◌≡◌};
+// Properties that header fields give: `header:{name}:as{form}:all`.
+ghost use Rattle.std.specs.Prelude.{◌≡◌, map, MatchOption};
+ghost use Rattle.email_properties.specs.HeaderAsked.{HeaderAsked};
+ghost use Rattle.email_properties.specs.HeaderProperties as spec;
+ghost use Rattle.email_properties.specs.HeaderProperties.{IsHeaderProperty, header_in};
 
-use crate::header_form::HeaderForm;
+use crate::header_form::{HeaderForm, is_permitted};
 use std::marker::Model;
+use text_words::{Class, cut};
 
 /// A property `header:{name}`, with `:as{form}` and `:all` where these are asked (RFC 8621 section 4.1.3). Its texts are lent by
 /// what was asked. Contracts see its fields as a record `HeaderAsked`.
@@ -50,4 +54,73 @@ impl<'a> HeaderProperty<'a> {
     {
         self.all
     }
+}
+
+/// What every header property begins with.
+const HEADER: &[u8] = b"header:";
+
+/// The octets of a field's name.
+struct NameOctet;
+
+impl Class<u8> for NameOctet {
+    ghost test = { spec.is_name_octet };
+
+    fn has(&self, item: &u8) -> bool {
+        b'!' <= *item && *item <= b'~' && *item != b':'
+    }
+}
+
+/// What may stand behind the name, the form that it asks, and whether it asks all fields of the name.
+const ENDINGS: [(&[u8], HeaderForm, bool); 16] = [
+    (b"", HeaderForm::Raw, false),
+    (b":asRaw", HeaderForm::Raw, false),
+    (b":asText", HeaderForm::Text, false),
+    (b":asAddresses", HeaderForm::Addresses, false),
+    (b":asGroupedAddresses", HeaderForm::GroupedAddresses, false),
+    (b":asMessageIds", HeaderForm::MessageIds, false),
+    (b":asDate", HeaderForm::Date, false),
+    (b":asURLs", HeaderForm::Urls, false),
+    (b":all", HeaderForm::Raw, true),
+    (b":asRaw:all", HeaderForm::Raw, true),
+    (b":asText:all", HeaderForm::Text, true),
+    (b":asAddresses:all", HeaderForm::Addresses, true),
+    (
+        b":asGroupedAddresses:all",
+        HeaderForm::GroupedAddresses,
+        true,
+    ),
+    (b":asMessageIds:all", HeaderForm::MessageIds, true),
+    (b":asDate:all", HeaderForm::Date, true),
+    (b":asURLs:all", HeaderForm::Urls, true),
+];
+
+/// What is asked by the text, where it is one of these.
+fn asked_among(endings: &[(&[u8], HeaderForm, bool)], text: &[u8]) -> Option<(HeaderForm, bool)>
+    ensures { result ≡ spec.asked_among (map (λ e. (e.0.now, e.1, e.2)) endings.now) text.now }
+{
+    for (ending, form, all) in endings {
+        if *ending == text {
+            return Some((*form, *all));
+        }
+    }
+    None
+}
+
+/// The property that the text is, where it is a header property of a field that takes the form.
+pub fn header_property_named(key: &str) -> Option<HeaderProperty<'_>>
+    ensures value { result ≡ header_in key.now }
+    ensures grammar { MatchOption result ((h : HeaderAsked) → IsHeaderProperty h key.now → ⊥) (λ h. IsHeaderProperty h key.now) }
+{
+    let field = key.as_bytes().strip_prefix(HEADER)?;
+    let (name, ending) = cut(&NameOctet, field);
+    let (form, all) = asked_among(&ENDINGS, ending)?;
+    if name.is_empty() || !is_permitted(name, form) {
+        return None;
+    }
+    Some(HeaderProperty {
+        key,
+        name,
+        form,
+        all,
+    })
 }

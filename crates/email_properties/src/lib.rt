@@ -11,10 +11,16 @@ mod email_property;
 mod part_property;
 
 // What is asked.
+mod defaults;
+mod kinds;
 mod wanted;
 
-pub use email_property::EmailProperty;
-pub use header_form::HeaderForm;
-pub use header_property::HeaderProperty;
-pub use part_property::PartProperty;
-pub use wanted::{BodyWanted, EmailWanted};
+// Laws.
+pub mod laws;
+
+pub use defaults::Defaults;
+pub use email_property::{EmailProperty, email_key, email_property_named};
+pub use header_form::{HeaderForm, is_permitted};
+pub use header_property::{HeaderProperty, header_property_named};
+pub use part_property::{PartProperty, part_key, part_property_named};
+pub use wanted::{BodyWanted, EmailWanted, email_wanted, needs_body};
