@@ -1,8 +1,7 @@
 -- The data of raw values: no number in them has a fraction, and each form gives one.
-use Rattle.std.proofs.Common.{◌≡◌, ◌∙◌, ℕ, false, ◌||◌, refl, sym, ap, subst, List, [], ◌∷◌, Option, Some, None, map}
+use Rattle.std.proofs.Common.{◌≡◌, ◌∙◌, ℕ, false, refl, sym, ap, subst, List, [], Option, Some, None}
 use Rattle.serde_json.specs.Data.{Data, string}
-use Rattle.serde_json.specs.View.{items_of}
-use Rattle.serde_json.specs.Written.{has_float, items_have_float}
+use Rattle.serde_json.specs.Written.{has_float}
 use Rattle.email_properties.specs.declared.header_form.HeaderForm.{HeaderForm}
 use Rattle.email_properties.specs.declared.header_form.HeaderForm.TheVariants.{Raw, Text, Addresses, GroupedAddresses, MessageIds, Date, Urls}
 use Rattle.header_words.proofs.WordLemmas.{one_text}
@@ -13,22 +12,13 @@ use Rattle.header_dates.specs.declared.date.Moment.{Moment}
 use Rattle.header_dates.proofs.DateLemmas.{one_date}
 use Rattle.mail_header.specs.Bracketed.{IsNamesForm}
 use Rattle.mail_header.proofs.BracketLemmas.{one_names}
-use Rattle.json_texts.specs.Texts.{text_data, optional_text}
+use Rattle.json_texts.specs.Texts.{text_data}
+use Rattle.json_texts.proofs.WholeLemmas.{items_whole, text_whole}
 use Rattle.field_values.specs.Forms.{address_data, group_data, addresses_data, groups_data, names_data, IsMomentData, IsFormData}
 use Rattle.field_values.specs.MomentText.{IsMomentText}
 use Rattle.field_values.proofs.MomentLemmas.{one_moment_text}
 
 -- ---- no number has a fraction: there is none
-
--- where nothing that is made of an element has a fraction, a list of it has none
-pub items_whole : {A : Type 0} (f : A → Data) (xs : List A) → ((x : A) → has_float (f x) ≡ false) → items_have_float (items_of (map f xs)) ≡ false
-items_whole f [] h = refl
-items_whole f (x ∷ xs) h = ap (λ b. b || items_have_float (items_of (map f xs))) (h x) ∙ items_whole f xs h
-
--- neither a text nor null has a fraction
-pub text_whole : (t : Option (List ℕ)) → has_float (optional_text t) ≡ false
-text_whole None = refl
-text_whole (Some t) = refl
 
 address_whole : (a : Address) → has_float (address_data a) ≡ false
 address_whole a = rw (text_whole a.name) refl

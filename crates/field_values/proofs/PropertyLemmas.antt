@@ -18,7 +18,8 @@ use Rattle.email_properties.specs.declared.header_form.HeaderForm.{HeaderForm}
 use Rattle.field_values.specs.Forms.{IsFormData}
 use Rattle.field_values.specs.HeaderProperties.{IsLastData, raw_named, raws_named, IsListData, IsHeaderPropertyData, header_data, headers_data}
 use Rattle.field_values.specs.reading.Gathering.{raw_at, AddsData}
-use Rattle.field_values.proofs.FormLemmas.{items_whole, form_whole, one_form_data as one_form}
+use Rattle.json_texts.proofs.WholeLemmas.{items_whole}
+use Rattle.field_values.proofs.FormLemmas.{form_whole, one_form_data as one_form}
 
 -- ---- a field at a place
 
