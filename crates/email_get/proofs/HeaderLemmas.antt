@@ -1,6 +1,7 @@
 -- The members that a header gives: no number in them has a fraction, and fields have each once.
-use Rattle.std.proofs.Common.{◌≡◌, ◌∙◌, ℕ, false, refl, sym, ap, subst, List, [], ◌∷◌, Option, Some, None}
+use Rattle.std.proofs.Common.{◌≡◌, ◌∙◌, ℕ, ◌+◌, ◌<◌, false, refl, sym, ap, subst, List, [], ◌∷◌, ◌++◌, length, take, get_or, Option, Some, None}
 use Rattle.std.specs.Prelude.{MatchOption}
+use Rattle.std.proofs.lemmas.List.{take_more}
 use Rattle.serde_json.specs.Data.{Data, Members, put}
 use Rattle.serde_json.specs.Written.{has_float, members_have_float}
 use Rattle.mail_header.specs.Fields.{NameAndRaw}
@@ -24,6 +25,17 @@ puts_none p fields before e = subst (λ (o : Option (List ℕ × HeaderForm)). P
 pub puts_last : (p : EmailProperty) (fields : List NameAndRaw) (before after : Members) (name : List ℕ) (form : HeaderForm) (d : Data) → convenience p ≡ Some (name, form)
     → IsLastData form name fields d → after ≡ put (email_key p) d before → PutsConvenience p fields before after
 puts_last p fields before after name form d e h is = subst (λ (o : Option (List ℕ × HeaderForm)). PutsAt o p fields before after) (sym e) (d, h, is)
+
+puts_last_of : (ps : List EmailProperty) (p : EmailProperty) (fields : List NameAndRaw) (a b c : Members) → PutsConveniences ps fields a b → PutsConvenience p fields b c
+    → PutsConveniences (ps ++ p ∷ []) fields a c
+puts_last_of [] p fields a b c h one = (c, subst (λ (ms : Members). PutsConvenience p fields ms c) h one, refl)
+puts_last_of (q ∷ ps) p fields a b c h one = (h.0, h.1, puts_last_of ps p fields h.0 b c h.2 one)
+
+-- one property more
+pub puts_more : (ps : List EmailProperty) (i : ℕ) (p : EmailProperty) (fields : List NameAndRaw) (a b c : Members) → i < length ps → PutsConveniences (take i ps) fields a b
+    → PutsConvenience (get_or ps i p) fields b c → PutsConveniences (take (i + 1) ps) fields a c
+puts_more ps i p fields a b c lt h one =
+    subst (λ (u : List EmailProperty). PutsConveniences u fields a c) (sym (take_more ps i p lt)) (puts_last_of (take i ps) (get_or ps i p) fields a b c h one)
 
 -- ---- no number has a fraction
 

@@ -9,7 +9,7 @@ use Rattle.mime_tree.specs.Heads.{is_text}
 use Rattle.mime_tree.specs.Roles.{media}
 use Rattle.email_get.specs.BodyValues.{PutsIf, AddsValues}
 use Rattle.email_get.specs.EmailObjects.{AreObjects, BodyData, with_body, IsEmailObject}
-use Rattle.email_get.specs.HeaderMembers.{conveniences}
+use Rattle.email_properties.specs.EmailProperties.{email_parse_defaults}
 use Rattle.email_get.specs.PartObjects.{IsLanguage, part_data, IsPartObject, tags}
 use Rattle.json_texts.specs.Texts.{text_data}
 use Rattle.json_texts.proofs.WholeLemmas.{items_whole, text_whole, put_whole}
@@ -68,4 +68,4 @@ whole_object b d o =
       text = objects_whole b body.are_lists.parts.text o.body.text body.text;
       values = values_whole b body.leaves _ o.body.values body.values refl;
     } in
-    ap has_float o.is ∙ body_whole o.body o.header whole (header_whole conveniences o.fields no_members o.header o.header_is refl)
+    ap has_float o.is ∙ body_whole o.body o.header whole (header_whole email_parse_defaults o.fields no_members o.header o.header_is refl)

@@ -16,7 +16,8 @@ use Rattle.email_get.specs.Leaves.{AreLeaves}
 use Rattle.email_get.specs.Previews.{IsPreviewOf}
 use Rattle.email_get.specs.PartObjects.{IsPartObject}
 use Rattle.email_get.specs.BodyValues.{AreValues}
-use Rattle.email_get.specs.HeaderMembers.{PutsConveniences, conveniences}
+use Rattle.email_properties.specs.EmailProperties.{email_parse_defaults}
+use Rattle.email_get.specs.HeaderMembers.{PutsConveniences}
 
 -- the objects of these leaves, in their order
 abbrev pub AreObjects : List ℕ → List Part → List Data → Type 0
@@ -68,7 +69,7 @@ pub record IsEmailObject (b : List ℕ) (d : Data) : Type 0 where
   pub header_end : ℕ
   pub is_header : IsHeader fields header_end b
   pub header : Members
-  pub header_is : PutsConveniences conveniences fields no_members header
+  pub header_is : PutsConveniences email_parse_defaults fields no_members header
   pub root : Part
   pub is_message : IsMessage b root
   pub body : BodyData

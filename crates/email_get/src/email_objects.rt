@@ -4,12 +4,12 @@ ghost use Rattle.serde_json.specs.View.{view, members_view};
 ghost use Rattle.serde_json.specs.Written.{has_float};
 ghost use Rattle.mail_header.specs.Fields.{names_and_raws};
 ghost use Rattle.email_get.specs.EmailObjects.{IsEmailObject, with_body};
-ghost use Rattle.email_get.specs.HeaderMembers.{PutsConvenience, PutsConveniences, conveniences};
+ghost use Rattle.email_get.specs.HeaderMembers.{PutsConvenience, PutsConveniences};
 ghost use Rattle.email_get.specs.reading.BodyViews.{body_view};
 ghost use Rattle.email_get.specs.reading.HeaderViews.{HasHeader};
 
 use crate::bodies::{BodyShown, body_of};
-use email_properties::{EmailProperty, email_key};
+use email_properties::{Defaults, EmailProperty, email_defaults, email_key};
 use field_values::{convenience, last_value};
 use json_texts::text_value;
 use mail_header::{Fields, fields};
@@ -60,25 +60,18 @@ fn put_convenience(
     put(members, alloc, email_key(property), value)
 }
 
-/// Puts the convenience properties of the fields.
-fn put_header(
+/// Puts those of these that are convenience properties.
+fn put_conveniences(
     members: &mut Map<String, Value>,
     alloc: Global,
     fields: &Fields<'_>,
+    properties: &[EmailProperty<'_>],
 ) -> Result<(), AllocError>
-    ensures { OnOk result (PutsConveniences conveniences (names_and_raws fields.now) (members_view members.old.entries) (members_view members.new.entries)) }
+    ensures { OnOk result (PutsConveniences properties.now (names_and_raws fields.now) (members_view members.old.entries) (members_view members.new.entries)) }
 {
-    put_convenience(members, alloc, fields, &EmailProperty::MessageId)?;
-    put_convenience(members, alloc, fields, &EmailProperty::InReplyTo)?;
-    put_convenience(members, alloc, fields, &EmailProperty::References)?;
-    put_convenience(members, alloc, fields, &EmailProperty::Sender)?;
-    put_convenience(members, alloc, fields, &EmailProperty::From)?;
-    put_convenience(members, alloc, fields, &EmailProperty::To)?;
-    put_convenience(members, alloc, fields, &EmailProperty::Cc)?;
-    put_convenience(members, alloc, fields, &EmailProperty::Bcc)?;
-    put_convenience(members, alloc, fields, &EmailProperty::ReplyTo)?;
-    put_convenience(members, alloc, fields, &EmailProperty::Subject)?;
-    put_convenience(members, alloc, fields, &EmailProperty::SentAt)?;
+    for property in properties {
+        put_convenience(members, alloc, fields, property)?;
+    }
     Ok(())
 }
 
@@ -87,8 +80,9 @@ fn header_members(alloc: Global, bytes: &[u8]) -> Result<Map<String, Value>, All
     ensures { IfOk result (λ m. HasHeader bytes.now (members_view m.entries)) }
 {
     let fields = fields(alloc, bytes)?;
+    let properties = email_defaults(alloc, Defaults::Parse)?;
     let mut members = Map::new(alloc);
-    put_header(&mut members, alloc, &fields)?;
+    put_conveniences(&mut members, alloc, &fields, properties.as_slice())?;
     Ok(members)
 }
 

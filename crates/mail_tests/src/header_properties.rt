@@ -8,21 +8,9 @@ use std::process::Abort;
 
 /// A form, a raw value, and the text of its data.
 const FORMS: [(HeaderForm, &[u8], &str); 34] = [
-    (
-        HeaderForm::Raw,
-        b" a\x00\r\n \xC3",
-        "\" a\\r\\n \u{FFFD}\"",
-    ),
-    (
-        HeaderForm::Raw,
-        b" =?utf-8?Q?a?=",
-        "\" =?utf-8?Q?a?=\"",
-    ),
-    (
-        HeaderForm::Raw,
-        b"",
-        "\"\"",
-    ),
+    (HeaderForm::Raw, b" a\x00\r\n \xC3", "\" a\\r\\n \u{FFFD}\""),
+    (HeaderForm::Raw, b" =?utf-8?Q?a?=", "\" =?utf-8?Q?a?=\""),
+    (HeaderForm::Raw, b"", "\"\""),
     (
         HeaderForm::Text,
         b" \t=?iso-8859-1?Q?Caf=E9?=\r\n x",
@@ -33,26 +21,14 @@ const FORMS: [(HeaderForm, &[u8], &str); 34] = [
         b"\xE9\x00t =?x-none?Q?=E9?=",
         "\"\u{FFFD}t \u{FFFD}\"",
     ),
-    (
-        HeaderForm::Text,
-        b" ",
-        "\"\"",
-    ),
+    (HeaderForm::Text, b" ", "\"\""),
     (
         HeaderForm::Addresses,
         b" James <james@x>, Friends: jane@x,\r\n =?UTF-8?Q?John_Sm=C3=AEth?= <john@x>;",
         "[{\"email\":\"james@x\",\"name\":\"James\"},{\"email\":\"jane@x\",\"name\":null},{\"email\":\"john@x\",\"name\":\"John Sm\u{EE}th\"}]",
     ),
-    (
-        HeaderForm::Addresses,
-        b"g:;",
-        "[]",
-    ),
-    (
-        HeaderForm::Addresses,
-        b" a b",
-        "null",
-    ),
+    (HeaderForm::Addresses, b"g:;", "[]"),
+    (HeaderForm::Addresses, b" a b", "null"),
     (
         HeaderForm::GroupedAddresses,
         b" James <james@x>, Friends: jane@x,\r\n =?UTF-8?Q?John_Sm=C3=AEth?= <john@x>;",
@@ -63,41 +39,25 @@ const FORMS: [(HeaderForm, &[u8], &str); 34] = [
         b"g:;",
         "[{\"addresses\":[],\"name\":\"g\"}]",
     ),
-    (
-        HeaderForm::GroupedAddresses,
-        b"a@b, c@",
-        "null",
-    ),
+    (HeaderForm::GroupedAddresses, b"a@b, c@", "null"),
     (
         HeaderForm::MessageIds,
         b" <a@x>\r\n <b@\xFF>",
         "[\"a@x\",\"b@\u{FFFD}\"]",
     ),
-    (
-        HeaderForm::MessageIds,
-        b" a@x",
-        "null",
-    ),
+    (HeaderForm::MessageIds, b" a@x", "null"),
     (
         HeaderForm::Urls,
         b" <https://x/?a=b>, <mailto:l@x> (c)",
         "[\"https://x/?a=b\",\"mailto:l@x\"]",
     ),
-    (
-        HeaderForm::Urls,
-        b"",
-        "null",
-    ),
+    (HeaderForm::Urls, b"", "null"),
     (
         HeaderForm::Date,
         b" 1 Jan 70 00:00 EST",
         "\"1970-01-01T00:00:00-05:00\"",
     ),
-    (
-        HeaderForm::Date,
-        b" 29 Feb 2023 00:00 GMT",
-        "null",
-    ),
+    (HeaderForm::Date, b" 29 Feb 2023 00:00 GMT", "null"),
     (
         HeaderForm::Date,
         b" Thu, 13 Feb 1969 23:32:54 -0330",
