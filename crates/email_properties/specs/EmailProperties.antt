@@ -40,18 +40,18 @@ email_key Headers = codes "headers"
 email_key (Header h) = h.key
 
 -- those that have a name of their own
-abbrev pub named_properties : List EmailProperty
-named_properties =
+abbrev pub email_properties : List EmailProperty
+email_properties =
     Id ∷ BlobId ∷ ThreadId ∷ MailboxIds ∷ Keywords ∷ Size ∷ ReceivedAt
     ∷ MessageId ∷ InReplyTo ∷ References ∷ Sender ∷ From ∷ To ∷ Cc ∷ Bcc ∷ ReplyTo ∷ Subject ∷ SentAt
     ∷ HasAttachment ∷ Preview ∷ BodyStructure ∷ BodyValues ∷ TextBody ∷ HtmlBody ∷ Attachments ∷ Headers ∷ []
 
-abbrev pub named_in : List ℕ → Option EmailProperty
-named_in key = find (λ p. bytes_eq key (email_key p)) named_properties
+abbrev pub named_email_property : List ℕ → Option EmailProperty
+named_email_property key = find (λ p. bytes_eq key (email_key p)) email_properties
 
 -- the property that a text asks
 abbrev pub email_property_in : List ℕ → Option EmailProperty
-email_property_in key = option_or (named_in key) (option_map Header (header_in key))
+email_property_in key = option_or (named_email_property key) (option_map Header (header_in key))
 
 -- whether the body of the message is needed for it
 abbrev pub is_of_body : EmailProperty → Bool

@@ -29,13 +29,13 @@ abbrev pub part_defaults : List PartProperty
 part_defaults = PartId ∷ BlobId ∷ Size ∷ Name ∷ property.Type ∷ Charset ∷ Disposition ∷ Cid ∷ Language ∷ Location ∷ []
 
 -- those that have a name of their own
-abbrev pub named_properties : List PartProperty
-named_properties =
+abbrev pub part_properties : List PartProperty
+part_properties =
     PartId ∷ BlobId ∷ Size ∷ Name ∷ property.Type ∷ Charset ∷ Disposition ∷ Cid ∷ Language ∷ Location ∷ SubParts ∷ Headers ∷ []
 
-abbrev pub named_in : List ℕ → Option PartProperty
-named_in key = find (λ p. bytes_eq key (part_key p)) named_properties
+abbrev pub named_part_property : List ℕ → Option PartProperty
+named_part_property key = find (λ p. bytes_eq key (part_key p)) part_properties
 
 -- the property that a text asks
 abbrev pub part_property_in : List ℕ → Option PartProperty
-part_property_in key = option_or (named_in key) (option_map Header (header_in key))
+part_property_in key = option_or (named_part_property key) (option_map Header (header_in key))

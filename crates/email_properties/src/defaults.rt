@@ -93,8 +93,8 @@ pub(crate) fn email_defaults<'a>(
     }
 }
 
-/// The properties of parts of bodies.
-pub(crate) fn part_defaults<'a>(alloc: Global) -> Result<Vec<PartProperty<'a>>, AllocError>
+/// The properties of parts of bodies where none are named (RFC 8621 sections 4.2 and 4.9).
+pub fn part_defaults<'a>(alloc: Global) -> Result<Vec<PartProperty<'a>>, AllocError>
     ensures { IfOk result (λ v. v.items ≡ parts.part_defaults) }
 {
     Ok(Vec::from_array(

@@ -103,7 +103,7 @@ pub fn email_key<'a>(property: &'a EmailProperty<'_>) -> &'a str
 
 /// The property that has this name of its own.
 fn named(key: &str) -> Option<EmailProperty<'_>>
-    ensures { result ≡ spec.named_in key.now }
+    ensures { result ≡ spec.named_email_property key.now }
 {
     match key {
         "id" => Some(EmailProperty::Id),

@@ -2,7 +2,7 @@
 ghost use Rattle.std.specs.Prelude.{◌≡◌, map, MatchOption};
 ghost use Rattle.email_properties.specs.HeaderAsked.{HeaderAsked};
 ghost use Rattle.email_properties.specs.HeaderProperties as spec;
-ghost use Rattle.email_properties.specs.HeaderProperties.{IsHeaderProperty, header_in};
+ghost use Rattle.email_properties.specs.HeaderProperties.{IsHeaderProperty};
 
 use crate::header_form::{HeaderForm, is_permitted};
 use std::marker::Model;
@@ -98,18 +98,16 @@ const ENDINGS: [(&[u8], HeaderForm, bool); 16] = [
 fn asked_among(endings: &[(&[u8], HeaderForm, bool)], text: &[u8]) -> Option<(HeaderForm, bool)>
     ensures { result ≡ spec.asked_among (map (λ e. (e.0.now, e.1, e.2)) endings.now) text.now }
 {
-    for (ending, form, all) in endings {
-        if *ending == text {
-            return Some((*form, *all));
+    for ending in endings {
+        if ending.0 == text {
+            return Some((ending.1, ending.2));
         }
     }
     None
 }
 
-/// The property that the text is, where it is a header property of a field that takes the form.
-pub fn header_property_named(key: &str) -> Option<HeaderProperty<'_>>
-    ensures value { result ≡ header_in key.now }
-    ensures grammar { MatchOption result ((h : HeaderAsked) → IsHeaderProperty h key.now → ⊥) (λ h. IsHeaderProperty h key.now) }
+fn header_in(key: &str) -> Option<HeaderProperty<'_>>
+    ensures { result ≡ spec.header_in key.now }
 {
     let field = key.as_bytes().strip_prefix(HEADER)?;
     let (name, ending) = cut(&NameOctet, field);
@@ -123,4 +121,12 @@ pub fn header_property_named(key: &str) -> Option<HeaderProperty<'_>>
         form,
         all,
     })
+}
+
+/// The property that the text is, where it is a header property of a field that takes the form.
+pub fn header_property_named(key: &str) -> Option<HeaderProperty<'_>>
+    ensures value { result ≡ spec.header_in key.now }
+    ensures grammar { MatchOption result ((h : HeaderAsked) → IsHeaderProperty h key.now → ⊥) (λ h. IsHeaderProperty h key.now) }
+{
+    header_in(key)
 }

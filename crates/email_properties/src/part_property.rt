@@ -61,7 +61,7 @@ pub fn part_key<'a>(property: &'a PartProperty<'_>) -> &'a str
 
 /// The property that has this name of its own.
 fn named(key: &str) -> Option<PartProperty<'_>>
-    ensures { result ≡ spec.named_in key.now }
+    ensures { result ≡ spec.named_part_property key.now }
 {
     match key {
         "partId" => Some(PartProperty::PartId),

@@ -17,6 +17,12 @@ mod states;
 #[cfg(test)]
 mod texts;
 
+// What is asked of Emails.
+#[cfg(test)]
+mod email_arguments;
+#[cfg(test)]
+mod header_keys;
+
 // Methods over mail that is told.
 #[cfg(test)]
 mod dialogues;
