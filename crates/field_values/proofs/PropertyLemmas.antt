@@ -74,6 +74,15 @@ values_more form name fs at before after lt h adds =
     let here = subst (λ (o : Option NameAndRaw). AddsData form (option_and_then (raw_named name) o) before after) (slice_get-get_or fs at ([], []) lt) adds in
     subst (λ (u : List (List ℕ)). AllZip (IsFormData form) u after) (sym more) (added form (raw_named name f) (raws_named name (take at fs)) before after here h)
 
+-- no field adds no EmailHeader, and a field its own
+pub no_header : (fs : List NameAndRaw) (at : ℕ) (ds : List Data) → slice_get fs at ≡ None → ds ≡ ds ++ map header_data (option_to_list (slice_get fs at))
+no_header fs at ds e = sym (ap (λ (o : Option NameAndRaw). ds ++ map header_data (option_to_list o)) e ∙ append-nil ds)
+
+pub header_here : (fs : List NameAndRaw) (at : ℕ) (f : NameAndRaw) (before after : List Data) (d : Data) → slice_get fs at ≡ Some f → d ≡ header_data f → after ≡ before ++ d ∷ []
+    → after ≡ before ++ map header_data (option_to_list (slice_get fs at))
+header_here fs at f before after d e h is =
+    is ∙ ap (λ (x : Data). before ++ x ∷ []) h ∙ sym (ap (λ (o : Option NameAndRaw). before ++ map header_data (option_to_list o)) e)
+
 -- the EmailHeaders of the fields up to a place, and of the one there
 pub headers_more : (fs : List NameAndRaw) (at : ℕ) (before after : List Data) → at < length fs → before ≡ map header_data (take at fs)
     → after ≡ before ++ map header_data (option_to_list (slice_get fs at)) → after ≡ map header_data (take (at + 1) fs)
