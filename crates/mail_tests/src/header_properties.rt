@@ -245,14 +245,24 @@ fn property_of(rt: &impl Abort, alloc: Global, fields: &Fields<'_>, key: &str) -
     }
 }
 
+/// The data of the field and the form that a property is.
+fn last_of(
+    rt: &impl Abort,
+    alloc: Global,
+    fields: &Fields<'_>,
+    property: &EmailProperty<'_>,
+) -> Value {
+    match convenience(property) {
+        None => panic!(rt; "no convenience property"),
+        Some((name, form)) => last_value(alloc, fields, name, form).expect(rt, "memory"),
+    }
+}
+
 /// The data of a convenience property.
 fn convenience_of(rt: &impl Abort, alloc: Global, fields: &Fields<'_>, name: &str) -> Value {
-    let Some(property) = email_property_named(name) else {
-        panic!(rt; "{name}");
-    };
-    match convenience(&property) {
+    match email_property_named(name) {
         None => panic!(rt; "{name}"),
-        Some((field, form)) => last_value(alloc, fields, field, form).expect(rt, "memory"),
+        Some(property) => last_of(rt, alloc, fields, &property),
     }
 }
 
