@@ -80,8 +80,8 @@ fn email_parse_defaults<'a>(alloc: Global) -> Result<Vec<EmailProperty<'a>>, All
     )?)
 }
 
-/// The properties of Emails.
-pub(crate) fn email_defaults<'a>(
+/// The properties of Emails where none are named.
+pub fn email_defaults<'a>(
     alloc: Global,
     defaults: Defaults,
 ) -> Result<Vec<EmailProperty<'a>>, AllocError>

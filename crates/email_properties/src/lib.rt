@@ -18,7 +18,7 @@ mod wanted;
 // Laws.
 pub mod laws;
 
-pub use defaults::{Defaults, part_defaults};
+pub use defaults::{Defaults, email_defaults, part_defaults};
 pub use email_property::{EmailProperty, email_key, email_property_named};
 pub use header_form::{HeaderForm, is_permitted};
 pub use header_property::{HeaderProperty, header_property_named};
