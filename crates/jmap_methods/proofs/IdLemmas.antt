@@ -1,17 +1,16 @@
 -- Ids and the numbers that they name.
-use Rattle.std.proofs.Common.{◌≡◌, ◌≢◌, ◌<◌, ◌^◌, ℕ, List, [], ◌∷◌, Bool, true, false, cond, Option, Some, None, Result, Ok, Err, option_map, decimal}
+use Rattle.std.proofs.Common.{◌≡◌, ◌≢◌, ◌<◌, ◌^◌, inl, inr, ℕ, List, [], ◌∷◌, Bool, true, false, ◌||◌, cond, Option, Some, None, decimal}
 use Rattle.std.proofs.Common.{nat_cmp, refl, sym, ap, ◌∙◌, arith}
-use Rattle.std.specs.Bool.{one_answer}
 use Rattle.std.specs.BTreeMap.{is_at}
-use Rattle.std.specs.List.{All}
-use Rattle.std.specs.Map.{lookup, keys_of}
+use Rattle.std.specs.List.{All, find}
 use Rattle.std.specs.Option.{IfSome}
-use Rattle.std.specs.Result.{IfOk}
 use Rattle.std.specs.Str.{bytes_eq}
+use Rattle.std.proofs.lemmas.Bool.Decides.{eqb_tells}
 use Rattle.std.proofs.lemmas.Fmt.{decimal_injective}
 use Rattle.std.proofs.lemmas.Grind.{common_steps}
 use Rattle.std.proofs.lemmas.List.Elements.{All-head, All-tail}
 use Rattle.std.proofs.lemmas.Slice.Eq.{bytes_eq-Decides}
+use Rattle.jmap_methods.specs.Gets.{is_number}
 use Rattle.jmap_methods.specs.Ids.{id_text}
 
 abbrev rest_of : List ℕ → List ℕ
@@ -35,14 +34,9 @@ one_number letter k n small fits is = decimal_injective k n small fits (ap rest_
 pub found_is : (n k : ℕ) → is_at (nat_cmp n) k ≡ true → k ≡ n
 found_is n k is = grind (arith, common_steps)
 
-is_here : (n k : ℕ) → k ≡ n → is_at (nat_cmp n) k ≡ true
+-- and there it is
+pub is_here : (n k : ℕ) → k ≡ n → is_at (nat_cmp n) k ≡ true
 is_here n k is = grind (arith, common_steps)
-
-same_test : (letter n k : ℕ) → n < 2 ^ 64 → k < 2 ^ 64 → is_at (nat_cmp n) k ≡ bytes_eq (id_text letter k) (id_text letter n)
-same_test letter n k fits small =
-    let texts = bytes_eq-Decides (id_text letter k) (id_text letter n) in
-    one_answer {P = k ≡ n} (is_at (nat_cmp n) k) (bytes_eq (id_text letter k) (id_text letter n)) (found_is n k, is_here n k)
-    (λ same. one_number letter k n small fits (texts.0 same), λ is. texts.1 (ap (λ (m : ℕ). id_text letter m) is))
 
 is_not : (letter k : ℕ) (id : List ℕ) → id ≢ id_text letter k → bytes_eq (id_text letter k) id ≡ false
 is_not letter k id other = elim (bytes_eq (id_text letter k) id) as (λ b. bytes_eq (id_text letter k) id ≡ b → b ≡ false) [
@@ -50,29 +44,42 @@ is_not letter k id other = elim (bytes_eq (id_text letter k) id) as (λ b. bytes
   | false ↦ λ is. refl
 ] refl
 
-module _ {X : Type 0} where
-  -- by its number an object is found as by its id
-  pub found_by_id : (letter n : ℕ) (rows : List (ℕ × X)) → n < 2 ^ 64 → All (λ k. k < 2 ^ 64) (keys_of rows)
-      → lookup (is_at (nat_cmp n)) rows ≡ lookup (λ k. bytes_eq (id_text letter k) (id_text letter n)) rows
-  found_by_id letter n [] fits small = refl
-  found_by_id letter n (e ∷ es) fits small =
-      ap (λ (b : Bool). cond b (Some e.1) (lookup (is_at (nat_cmp n)) es)) (same_test letter n e.0 fits (All-head (λ k. k < 2 ^ 64) e.0 (keys_of es) small))
-      ∙ ap (λ (o : Option X). cond (bytes_eq (id_text letter e.0) (id_text letter n)) (Some e.1) o)
-      (found_by_id letter n es fits (All-tail (λ k. k < 2 ^ 64) e.0 (keys_of es) small))
+-- by its id a number is found where it is there
+found_by_id : (letter n : ℕ) (ks : List ℕ) → n < 2 ^ 64 → All (λ k. k < 2 ^ 64) ks
+    → find (λ k. bytes_eq (id_text letter k) (id_text letter n)) ks ≡ cond (is_number ks n) (Some n) None
+found_by_id letter n [] fits small = refl
+found_by_id letter n (k ∷ ks) fits small =
+    let rest : Option ℕ = find (λ m. bytes_eq (id_text letter m) (id_text letter n)) ks in
+    elim (eqb_tells k n) [
+      | inl is ↦
+          ap (λ (b : Bool). cond b (Some k) rest) ((bytes_eq-Decides (id_text letter k) (id_text letter n)).1 (ap (λ (m : ℕ). id_text letter m) is.1))
+          ∙ ap (λ (m : ℕ). let o : Option ℕ = Some m in o) is.1
+          ∙ sym (ap (λ (b : Bool). cond (b || is_number ks n) (Some n) None) is.0)
+      | inr is ↦
+          ap (λ (b : Bool). cond b (Some k) rest)
+          (is_not letter k (id_text letter n) (λ same. is.1 (sym (one_number letter n k fits (All-head (λ m. m < 2 ^ 64) k ks small) same))))
+          ∙ found_by_id letter n ks fits (All-tail (λ m. m < 2 ^ 64) k ks small)
+          ∙ sym (ap (λ (b : Bool). cond (b || is_number ks n) (Some n) None) is.0)
+    ]
 
-  -- nothing is found by a text that is no number's id
-  pub none_by_id : (letter : ℕ) (id : List ℕ) (rows : List (ℕ × X)) → ((n : ℕ) → n < 2 ^ 64 → id ≢ id_text letter n) → All (λ k. k < 2 ^ 64) (keys_of rows)
-      → lookup (λ k. bytes_eq (id_text letter k) id) rows ≡ None
-  none_by_id letter id [] never small = refl
-  none_by_id letter id (e ∷ es) never small =
-      ap (λ (b : Bool). cond b (Some e.1) (lookup (λ k. bytes_eq (id_text letter k) id) es))
-      (is_not letter e.0 id (never e.0 (All-head (λ k. k < 2 ^ 64) e.0 (keys_of es) small)))
-      ∙ none_by_id letter id es never (All-tail (λ k. k < 2 ^ 64) e.0 (keys_of es) small)
+-- so a number that is there is found by its id
+pub number_found : (letter n : ℕ) (id : List ℕ) (ks : List ℕ) → n < 2 ^ 64 → All (λ k. k < 2 ^ 64) ks → id ≡ id_text letter n → is_number ks n ≡ true
+    → Some n ≡ find (λ k. bytes_eq (id_text letter k) id) ks
+number_found letter n id ks fits small named there =
+    sym (ap (λ (text : List ℕ). find (λ k. bytes_eq (id_text letter k) text) ks) named ∙ found_by_id letter n ks fits small
+    ∙ ap (λ (b : Bool). cond b (Some n) None) there)
 
-  -- the object of a number is the one with the number's id
-  pub shown_by_id : {V E : Type 0} (view : V → X) (letter n : ℕ) (id : List ℕ) (rows : List (ℕ × X)) (r : Result (Option V) E) → n < 2 ^ 64 → All (λ k. k < 2 ^ 64) (keys_of rows)
-      → id ≡ id_text letter n → IfOk r (λ o. option_map view o ≡ lookup (is_at (nat_cmp n)) rows)
-      → IfOk r (λ o. option_map view o ≡ lookup (λ k. bytes_eq (id_text letter k) id) rows)
-  shown_by_id view letter n id rows (Err e) fits small named is = tt
-  shown_by_id view letter n id rows (Ok o) fits small named is =
-      is ∙ found_by_id letter n rows fits small ∙ ap (λ (text : List ℕ). lookup (λ k. bytes_eq (id_text letter k) text) rows) (sym named)
+-- one that isn't there is not
+pub number_missed : (letter n : ℕ) (id : List ℕ) (ks : List ℕ) → n < 2 ^ 64 → All (λ k. k < 2 ^ 64) ks → id ≡ id_text letter n → is_number ks n ≡ false
+    → None ≡ find (λ k. bytes_eq (id_text letter k) id) ks
+number_missed letter n id ks fits small named none =
+    sym (ap (λ (text : List ℕ). find (λ k. bytes_eq (id_text letter k) text) ks) named ∙ found_by_id letter n ks fits small
+    ∙ ap (λ (b : Bool). cond b (Some n) None) none)
+
+-- and no number is found by a text that is none's id
+pub none_by_id : (letter : ℕ) (id : List ℕ) (ks : List ℕ) → ((n : ℕ) → n < 2 ^ 64 → id ≢ id_text letter n) → All (λ k. k < 2 ^ 64) ks
+    → find (λ k. bytes_eq (id_text letter k) id) ks ≡ None
+none_by_id letter id [] never small = refl
+none_by_id letter id (k ∷ ks) never small =
+    ap (λ (b : Bool). cond b (Some k) (find (λ m. bytes_eq (id_text letter m) id) ks)) (is_not letter k id (never k (All-head (λ m. m < 2 ^ 64) k ks small)))
+    ∙ none_by_id letter id ks never (All-tail (λ m. m < 2 ^ 64) k ks small)

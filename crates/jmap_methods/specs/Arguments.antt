@@ -2,7 +2,7 @@
 use Rattle.std.specs.Prelude.{ℕ, zero, suc, Bool, ◌&&◌, List, [], ◌∷◌, ℤ, pos, negsuc, neg_ℤ, int_le, nat_lt, if◌then◌else◌, bytes_eq, codes}
 use Rattle.std.specs.Prelude.{Option, Some, None, option_map, option_and_then, Result, Ok, Err, ok_or}
 use Rattle.std.specs.List.{list_any}
-use Rattle.serde_json.specs.Data.{Num, unsigned, negative, float, Data, null, boolean, number, string, array, object, Items, no_items, item}
+use Rattle.serde_json.specs.Data.{Num, unsigned, negative, float, Data, null, number, array, Items, no_items, item}
 use Rattle.serde_json.specs.Find.{get, as_str}
 use Rattle.jmap_methods.specs.declared.arguments.TheConstants.{MAX_OBJECTS_IN_GET, MAX_WHOLE_NUMBER}
 use Rattle.jmap_methods.specs.declared.method_error.MethodError.{MethodError}
@@ -23,9 +23,13 @@ is_among name names = list_any (λ n. bytes_eq n name) names
 abbrev pub text_at : List ℕ → Data → Result (List ℕ) MethodError
 text_at key d = ok_or (option_and_then as_str (get key d)) InvalidArguments
 
+-- the id of the one account
+abbrev pub account_id : List ℕ
+account_id = codes "a1"
+
 -- the account: there is one
 abbrev pub account_check : List ℕ → Result (Unit {0}) MethodError
-account_check account = if bytes_eq account (codes "a1") then Ok tt else Err AccountNotFound
+account_check account = if bytes_eq account account_id then Ok tt else Err AccountNotFound
 
 -- no more than `MAX_OBJECTS_IN_GET` are asked for
 abbrev pub count_check : ℕ → Result (Unit {0}) MethodError

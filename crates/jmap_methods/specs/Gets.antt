@@ -1,10 +1,11 @@
 -- What a /get asks and answers (RFC 8620 section 5.1), of objects by number.
-use Rattle.std.specs.Prelude.{ℕ, List, [], ◌∷◌, ◌++◌, map, length, nat_lt, if◌then◌else◌, bytes_eq, codes, is_none, Option, Some, None, Result, Ok, Err}
-use Rattle.std.specs.List.{filter, filter_map}
+use Rattle.std.specs.Prelude.{ℕ, ◌==◌, nat_lt, Bool, not, if◌then◌else◌, List, [], ◌∷◌, map, length, bytes_eq, codes}
+use Rattle.std.specs.Prelude.{is_none, Option, Some, None, Result, Ok, Err}
+use Rattle.std.specs.List.{filter, filter_map, find, list_any}
 use Rattle.std.specs.Map.{lookup, values_of}
 use Rattle.serde_json.specs.Data.{Data, string, array, object, no_members, member}
 use Rattle.serde_json.specs.View.{items_of}
-use Rattle.jmap_methods.specs.Arguments.{text_at, texts_at, is_among, account_check, count_check}
+use Rattle.jmap_methods.specs.Arguments.{text_at, texts_at, account_id, account_check, count_check}
 use Rattle.jmap_methods.specs.Ids.{id_text}
 use Rattle.jmap_methods.specs.declared.arguments.TheConstants.{MAX_OBJECTS_IN_GET}
 use Rattle.jmap_methods.specs.declared.method_error.MethodError.{MethodError}
@@ -38,16 +39,39 @@ module _ {W : Type 0} where
   abbrev pub get_asked : Result W MethodError → Data → Result (GetAsked W) MethodError
   get_asked wanted d = get_from (text_at (codes "accountId") d) (texts_at (codes "ids") d) wanted
 
--- ---- which objects are asked
-
--- the ids without those that stand earlier, here or among those before
-abbrev pub once_after : List (List ℕ) → List (List ℕ) → List (List ℕ)
-once_after before [] = []
-once_after before (id ∷ ids) = if is_among id before then once_after before ids else id ∷ once_after (before ++ id ∷ []) ids
+-- ---- which objects are asked, of objects with these numbers
 
 -- each id once, where it stands first
 abbrev pub distinct_ids : List (List ℕ) → List (List ℕ)
-distinct_ids ids = once_after [] ids
+distinct_ids [] = []
+distinct_ids (id ∷ ids) = id ∷ filter (λ other. not (bytes_eq id other)) (distinct_ids ids)
+
+-- whether one of the numbers is this one
+abbrev pub is_number : List ℕ → ℕ → Bool
+is_number numbers n = list_any (λ k. k == n) numbers
+
+-- the number with the id, where it is one of these
+abbrev pub number_with : ℕ → List ℕ → List ℕ → Option ℕ
+number_with letter numbers id = find (λ n. bytes_eq (id_text letter n) id) numbers
+
+-- the numbers of the objects that are asked, and the ids of which there is none
+pub record NumbersAsked : Type 0 where
+  pub numbers : List ℕ
+  pub missing : List (List ℕ)
+
+abbrev pub asked_with : ℕ → List ℕ → List (List ℕ) → NumbersAsked
+asked_with letter numbers ids = record {
+  numbers = filter_map (number_with letter numbers) ids;
+  missing = filter (λ id. is_none (number_with letter numbers id)) ids;
+}
+
+-- Asked by ids, those that are there, in the order asked; asked by null, all, where they are no more than `MAX_OBJECTS_IN_GET`.
+abbrev pub numbers_asked : ℕ → List ℕ → Option (List (List ℕ)) → Result NumbersAsked MethodError
+numbers_asked letter numbers (Some ids) = Ok (asked_with letter numbers (distinct_ids ids))
+numbers_asked letter numbers None =
+    if nat_lt MAX_OBJECTS_IN_GET (length numbers) then Err RequestTooLarge else Ok (record { numbers = numbers; missing = [] })
+
+-- ---- the objects that are asked, where each is known by its number
 
 -- rows by number as objects
 abbrev pub shown_as : {V : Type 0} → (ℕ × V → Data) → List (ℕ × V) → List (ℕ × Data)
@@ -78,7 +102,7 @@ found_in letter objects None =
 
 abbrev pub get_data : List ℕ → List Data → List Data → Data
 get_data state list missing = object
-    (member (codes "accountId") (string (codes "a1"))
+    (member (codes "accountId") (string account_id)
     (member (codes "list") (array (items_of list))
     (member (codes "notFound") (array (items_of missing))
     (member (codes "state") (string state)

@@ -6,7 +6,12 @@ abbrev pub Agrees : {X Y E : Type 0} → E → (X → Y) → Result X E → Resu
 Agrees memory view (Ok x) meant = meant ≡ Ok (view x)
 Agrees memory view (Err e) meant = (e ≡ memory) ⊎ (meant ≡ Err e)
 
--- The same, where each result that is meant may be given.
+-- The same of a call that takes no memory, where no error is free.
+abbrev pub IsJust : {X Y E : Type 0} → (X → Y) → Result X E → Result Y E → Type 0
+IsJust view (Ok x) meant = meant ≡ Ok (view x)
+IsJust view (Err e) meant = meant ≡ Err e
+
+-- As `Agrees`, where each result that is meant may be given.
 abbrev pub Meets : {X Y E : Type 0} → E → (X → Y) → Result X E → (Result Y E → Type 0) → Type 0
 Meets memory view (Ok x) IsMeant = IsMeant (Ok (view x))
 Meets memory view (Err e) IsMeant = (e ≡ memory) ⊎ IsMeant (Err e)

@@ -3,12 +3,15 @@ ghost use Rattle.std.specs.Prelude.{◌≡◌, map, option_map, option_and_then,
 ghost use Rattle.serde_json.specs.Find.{as_number};
 ghost use Rattle.serde_json.specs.View.{view, items_view};
 ghost use Rattle.jmap_methods.specs.Arguments.{text_at, account_check, count_check, is_among, texts_at, texts_in, whole_at, whole_in, at_least_one, most_at};
-ghost use Rattle.jmap_methods.specs.Outcome.{Agrees};
+ghost use Rattle.jmap_methods.specs.Outcome.{Agrees, IsJust};
 ghost use Rattle.jmap_methods.specs.declared.method_error.MethodError.TheVariants.{Memory};
 
 use crate::method_error::MethodError;
 use serde_json::Value;
 use std::alloc::{AllocError, Global};
+
+/// The id of the one account.
+pub const ACCOUNT_ID: &str = "a1";
 
 /// The greatest integer that a number of JMAP may be: 2^53 - 1 (RFC 8620 section 1.3).
 pub const MAX_WHOLE_NUMBER: i64 = 9_007_199_254_740_991;
@@ -18,7 +21,7 @@ pub const MAX_OBJECTS_IN_GET: usize = 500;
 
 /// The text at the key, or `InvalidArguments` where there is none.
 pub fn text_at<'a>(arguments: &'a Value, key: &str) -> Result<&'a str, MethodError>
-    ensures { Agrees Memory (λ text. text.now) result (text_at key.now (view arguments.now)) }
+    ensures { IsJust (λ text. text.now) result (text_at key.now (view arguments.now)) }
 {
     arguments
         .get(key)
@@ -26,11 +29,11 @@ pub fn text_at<'a>(arguments: &'a Value, key: &str) -> Result<&'a str, MethodErr
         .ok_or(MethodError::InvalidArguments)
 }
 
-/// `AccountNotFound` exactly where the account isn't `a1`.
+/// `AccountNotFound` exactly where the account isn't the one that there is.
 pub fn check_account(account: &str) -> Result<(), MethodError>
     ensures { result ≡ account_check account.now }
 {
-    if account == "a1" {
+    if account == ACCOUNT_ID {
         Ok(())
     } else {
         Err(MethodError::AccountNotFound)

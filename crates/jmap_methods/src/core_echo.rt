@@ -3,8 +3,7 @@ ghost use Rattle.std.specs.Prelude.{◌≡◌};
 ghost use Rattle.serde_json.specs.View.{view, items_view, members_view};
 ghost use Rattle.serde_json.specs.Written.{has_float, items_have_float, members_have_float};
 ghost use Rattle.jmap_methods.specs.Echo.{echoed};
-ghost use Rattle.jmap_methods.specs.Outcome.{Agrees};
-ghost use Rattle.jmap_methods.specs.declared.method_error.MethodError.TheVariants.{Memory};
+ghost use Rattle.jmap_methods.specs.Outcome.{IsJust};
 
 use crate::method_error::MethodError;
 use serde_json::{Map, Value};
@@ -49,7 +48,7 @@ fn members_have_fraction(members: &Map<String, Value>) -> bool
 /// Core/echo (RFC 8620 section 4): the arguments as they came, or `InvalidArguments` exactly where a number in them,
 /// at any depth, is no integer.
 pub fn echo(arguments: Value) -> Result<Value, MethodError>
-    ensures { Agrees Memory view result (echoed (view arguments)) }
+    ensures { IsJust view result (echoed (view arguments)) }
 {
     if has_fraction(&arguments) {
         return Err(MethodError::InvalidArguments);

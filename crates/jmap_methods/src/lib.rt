@@ -11,17 +11,17 @@ mod arguments;
 mod core_echo;
 mod gets;
 mod ids;
-mod objects;
+mod numbers;
 mod state;
 
 pub use arguments::{
-    MAX_OBJECTS_IN_GET, MAX_WHOLE_NUMBER, check_account, check_count, is_among, most_or_null,
-    text_at, texts_in, texts_or_null, whole_or_null,
+    ACCOUNT_ID, MAX_OBJECTS_IN_GET, MAX_WHOLE_NUMBER, check_account, check_count, is_among,
+    most_or_null, text_at, texts_in, texts_or_null, whole_or_null,
 };
 pub use core_echo::echo;
-pub use gets::{count_of_ids, get_objects};
+pub use gets::{AskedNumbers, asked_numbers, count_of_ids, get_value};
 pub use ids::{EMAIL_LETTER, MAILBOX_LETTER, THREAD_LETTER, id_list, id_text, id_value, read_id};
 pub use method::{Method, Using, method_named, needs_mail};
 pub use method_error::{MethodError, error_arguments};
-pub use objects::Objects;
+pub use numbers::Numbers;
 pub use state::{State, read_state, state_text};

@@ -9,12 +9,12 @@ use std::alloc::{AllocError, Global};
 
 const EPOCH_DIGITS: u32 = 16;
 
-/// A state of a type (RFC 8620 section 5.1): the epoch of the record, and how many changes it has seen.
+/// A state of a type (RFC 8620 section 5.1): the epoch, and the type's place in it.
 #[derive(Clone, Copy, Debug, PartialEq, Eq)]
 pub struct State {
     /// A random number, drawn as the epoch begins; 16 hexadecimal digits in the text.
     pub epoch: u64,
-    /// How many changes there were in the epoch; in decimal in the text.
+    /// How many touches of the type there were in the epoch; in decimal in the text.
     pub place: u64,
 }
 
