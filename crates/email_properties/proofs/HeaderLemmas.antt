@@ -80,6 +80,7 @@ are_rows = (
 
 -- a row that is found has the text
 found : (es : List Ending) (text : List ℕ) (a : Asked) → AllByRecursion IsRow es → asked_among es text ≡ Some a → IsEnding text a.0 a.1
+unfolding asked_among
 found [] text a rows is = absurd cc
 found (e ∷ es) text a rows is = elim (bytes_eq e.0 text) as (λ b. bytes_eq e.0 text ≡ b → cond b (Some (asked_by e)) (asked_among es text) ≡ Some a → IsEnding text a.0 a.1) [
   | true ↦ λ same here.
@@ -94,6 +95,7 @@ found (e ∷ es) text a rows is = elim (bytes_eq e.0 text) as (λ b. bytes_eq e.
 ] refl is
 
 read_suffix : (form : HeaderForm) (all : Bool) → asked_among endings (form_suffix form ++ all_suffix all) ≡ Some (form, all)
+unfolding asked_among
 read_suffix Raw true = refl
 read_suffix Raw false = refl
 read_suffix Text true = refl
@@ -110,6 +112,7 @@ read_suffix Urls true = refl
 read_suffix Urls false = refl
 
 read_none : (all : Bool) → asked_among endings (all_suffix all) ≡ Some (Raw, all)
+unfolding asked_among
 read_none true = refl
 read_none false = refl
 
@@ -162,8 +165,10 @@ is_made key name a h is = elim (length name == 0) as (λ b. (length name == 0) �
 ] refl is
 
 not_nil : (name : List ℕ) → name ≢ [] → (length name == 0) ≡ false
-not_nil [] some = absurd (some refl)
-not_nil (c ∷ name) some = refl
+not_nil name some = elim (length name == 0) as (λ b. (length name == 0) ≡ b → (length name == 0) ≡ false) [
+  | true ↦ λ none. absurd (some (nil_from_length name (eqb-true (length name) 0 none)))
+  | false ↦ λ is. is
+] refl
 
 -- ---- the law
 
@@ -211,7 +216,7 @@ sound h key is =
     elim (begins_with key first) as (λ b. begins_with key first ≡ b → cond b (header_of key (drop 7 key)) None ≡ Some h → IsHeaderProperty h key) [
       | true ↦ λ begins i.
           let front_is : take 7 key ≡ first = (bytes_eq-Decides (take 7 key) first).0 begins in
-          sound_of h key (drop 7 key) (take-append-drop 7 key ∙ ap (λ (t : List ℕ). t ++ drop 7 key) front_is) i
+          sound_of h key (drop 7 key) (sym (take-append-drop 7 key) ∙ ap (λ (t : List ℕ). t ++ drop 7 key) front_is) i
       | false ↦ λ other i. absurd cc
     ] refl is
 

@@ -45,7 +45,7 @@ url_fields =
 abbrev pub raw_fields : List (List ℕ)
 raw_fields = codes "received" ∷ codes "return-path" ∷ []
 
-abbrev pub is_field_of : List (List ℕ) → List ℕ → Bool
+unfoldable pub is_field_of : List (List ℕ) → List ℕ → Bool
 is_field_of fields name = list_any (is_same_text name) fields
 
 abbrev pub is_named_field : List ℕ → Bool

@@ -47,7 +47,7 @@ endings =
     ∷ ending [] Raw true ∷ suffixed Raw true ∷ suffixed Text true ∷ suffixed Addresses true
     ∷ suffixed GroupedAddresses true ∷ suffixed MessageIds true ∷ suffixed Date true ∷ suffixed Urls true ∷ []
 
-abbrev pub asked_among : List (List ℕ × HeaderForm × Bool) → List ℕ → Option Asked
+unfoldable pub asked_among : List (List ℕ × HeaderForm × Bool) → List ℕ → Option Asked
 asked_among [] text = None
 asked_among (e ∷ es) text = if bytes_eq e.0 text then Some (e.1, e.2) else asked_among es text
 

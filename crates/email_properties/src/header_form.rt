@@ -67,6 +67,7 @@ const URL_FIELDS: [&[u8]; 6] = [
 const RAW_FIELDS: [&[u8]; 2] = [b"received", b"return-path"];
 
 /// Whether the field is one of these, without regard to case.
+#[tactic(auto, unfolding(crate::specs::HeaderForms::is_field_of))]
 fn is_field_of(fields: &[&[u8]], name: &[u8]) -> bool
     ensures { result ≡ forms.is_field_of (map (λ f. f.now) fields.now) name.now }
 {

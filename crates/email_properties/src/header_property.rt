@@ -95,6 +95,7 @@ const ENDINGS: [(&[u8], HeaderForm, bool); 16] = [
 ];
 
 /// What is asked by the text, where it is one of these.
+#[tactic(auto, unfolding(crate::specs::HeaderProperties::asked_among))]
 fn asked_among(endings: &[(&[u8], HeaderForm, bool)], text: &[u8]) -> Option<(HeaderForm, bool)>
     ensures { result ≡ spec.asked_among (map (λ e. (e.0.now, e.1, e.2)) endings.now) text.now }
 {
@@ -106,21 +107,44 @@ fn asked_among(endings: &[(&[u8], HeaderForm, bool)], text: &[u8]) -> Option<(He
     None
 }
 
+/// The property of the field of this name, where the field takes the form that is asked.
+fn header_asked<'a>(
+    key: &'a str,
+    name: &'a [u8],
+    asked: Option<(HeaderForm, bool)>,
+) -> Option<HeaderProperty<'a>>
+    ensures { result ≡ spec.header_asked key.now name.now asked }
+{
+    let (form, all) = asked?;
+    if name.is_empty() {
+        None
+    } else if is_permitted(name, form) {
+        Some(HeaderProperty {
+            key,
+            name,
+            form,
+            all,
+        })
+    } else {
+        None
+    }
+}
+
+/// The property, where the field and what is asked of it stand behind `header:`.
+fn header_of<'a>(key: &'a str, field: &'a [u8]) -> Option<HeaderProperty<'a>>
+    ensures { result ≡ spec.header_of key.now field.now }
+{
+    let (name, ending) = cut(&NameOctet, field);
+    header_asked(key, name, asked_among(&ENDINGS, ending))
+}
+
 fn header_in(key: &str) -> Option<HeaderProperty<'_>>
     ensures { result ≡ spec.header_in key.now }
 {
-    let field = key.as_bytes().strip_prefix(HEADER)?;
-    let (name, ending) = cut(&NameOctet, field);
-    let (form, all) = asked_among(&ENDINGS, ending)?;
-    if name.is_empty() || !is_permitted(name, form) {
-        return None;
+    match key.as_bytes().strip_prefix(HEADER) {
+        None => None,
+        Some(field) => header_of(key, field),
     }
-    Some(HeaderProperty {
-        key,
-        name,
-        form,
-        all,
-    })
 }
 
 /// The property that the text is, where it is a header property of a field that takes the form.
