@@ -6,7 +6,7 @@ use Rattle.std.specs.Str.{bytes_eq}
 use Rattle.std.proofs.lemmas.Bool.{cond-true, cond-false}
 use Rattle.std.proofs.lemmas.List.{take-append-drop, nil_from_length}
 use Rattle.std.proofs.lemmas.Slice.Eq.{bytes_eq-Decides}
-use Rattle.text_words.specs.Cuts.{Each, Stops, front, back}
+use Rattle.text_words.specs.Cuts.{Stops, front, back}
 use Rattle.text_words.proofs.CutLemmas.{front_back, front_each, front_is, back_is}
 use Rattle.email_properties.specs.HeaderAsked.{HeaderAsked}
 use Rattle.email_properties.specs.HeaderForms.{form_suffix, AsksForm, is_permitted}

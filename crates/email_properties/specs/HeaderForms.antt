@@ -41,7 +41,7 @@ abbrev pub url_fields : List (List ℕ)
 url_fields =
     codes "list-help" ∷ codes "list-unsubscribe" ∷ codes "list-subscribe" ∷ codes "list-post" ∷ codes "list-owner" ∷ codes "list-archive" ∷ []
 
--- the fields of RFC 5322 that none of them names
+-- the other fields that RFC 5322 defines
 abbrev pub raw_fields : List (List ℕ)
 raw_fields = codes "received" ∷ codes "return-path" ∷ []
 
@@ -51,11 +51,11 @@ is_field_of fields name = list_any (is_same_text name) fields
 abbrev pub is_named_field : List ℕ → Bool
 is_named_field name =
     is_field_of text_fields name || is_field_of address_fields name || is_field_of message_id_fields name
-    || is_field_of date_fields name || is_field_of url_fields name || is_field_of raw_fields name
+    || is_field_of date_fields name || is_field_of url_fields name
 
--- a form is for its fields, and for each field that isn't named here
+-- a form is for its fields, and for each field that isn't named here and that RFC 5322 doesn't define
 abbrev pub is_for : List (List ℕ) → List ℕ → Bool
-is_for fields name = is_field_of fields name || not (is_named_field name)
+is_for fields name = is_field_of fields name || not (is_named_field name || is_field_of raw_fields name)
 
 -- every field takes Raw
 abbrev pub is_permitted : List ℕ → HeaderForm → Bool

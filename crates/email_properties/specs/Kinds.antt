@@ -1,6 +1,6 @@
 -- Arguments that have a default and can't be null (RFC 8620 section 3.6.2, RFC 8621 section 4.2).
-use Rattle.std.specs.Prelude.{ℕ, Bool, false, List, ℤ, pos, negsuc, Option, Some, None, option_map, Result, Ok, Err, ok_or}
-use Rattle.serde_json.specs.Data.{Data, null, boolean, number, string, array, object}
+use Rattle.std.specs.Prelude.{ℕ, Bool, false, List, ℤ, pos, negsuc, Option, Some, None, Result, Ok, Err, ok_or}
+use Rattle.serde_json.specs.Data.{Data, null}
 use Rattle.serde_json.specs.Find.{get, as_bool}
 use Rattle.jmap_methods.specs.Arguments.{texts_at, whole_at}
 use Rattle.jmap_methods.specs.declared.method_error.MethodError.{MethodError}

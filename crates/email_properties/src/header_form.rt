@@ -63,7 +63,7 @@ const URL_FIELDS: [&[u8]; 6] = [
     b"list-archive",
 ];
 
-/// The other fields of RFC 5322.
+/// The other fields that RFC 5322 defines.
 const RAW_FIELDS: [&[u8]; 2] = [b"received", b"return-path"];
 
 /// Whether the field is one of these, without regard to case.
@@ -79,7 +79,7 @@ fn is_field_of(fields: &[&[u8]], name: &[u8]) -> bool
     false
 }
 
-/// Whether RFC 8621 names forms for the field.
+/// Whether RFC 8621 names the field for a form.
 fn is_named_field(name: &[u8]) -> bool
     ensures { result ≡ forms.is_named_field name.now }
 {
@@ -88,14 +88,13 @@ fn is_named_field(name: &[u8]) -> bool
         || is_field_of(&MESSAGE_ID_FIELDS, name)
         || is_field_of(&DATE_FIELDS, name)
         || is_field_of(&URL_FIELDS, name)
-        || is_field_of(&RAW_FIELDS, name)
 }
 
 /// Whether a form that is named for these fields is for the field.
 fn is_for(fields: &[&[u8]], name: &[u8]) -> bool
     ensures { result ≡ forms.is_for (map (λ f. f.now) fields.now) name.now }
 {
-    is_field_of(fields, name) || !is_named_field(name)
+    is_field_of(fields, name) || !(is_named_field(name) || is_field_of(&RAW_FIELDS, name))
 }
 
 /// Whether the field may be asked in the form (RFC 8621 sections 4.1.2.1 to 4.1.2.7): in Raw always, and else where the form is named
