@@ -1,4 +1,3 @@
-pub mod MomentLemmas
 pub mod HeaderLemmas
 pub mod PlainLemmas
 pub mod LeafLemmas

@@ -25,13 +25,14 @@ use Rattle.mime_tree.specs.Trees.{IsMessage}
 use Rattle.mime_tree.proofs.OneTree.{one_message}
 use Rattle.mime_tree.proofs.SameWalks.{same_lists}
 use Rattle.email_get.specs.BodyValues.{value_data, PutsValue, PutsIf, AddsValues}
-use Rattle.email_get.specs.EmailObjects.{AreObjects, IsPreview, BodyData, IsBodyData as IsBodyOf, email_data, IsEmailObject}
-use Rattle.email_get.specs.HeaderProperties.{IsHeaderData}
+use Rattle.email_get.specs.EmailObjects.{AreObjects, IsPreview, BodyData, IsBodyData as IsBodyOf, with_body, IsEmailObject}
+use Rattle.email_properties.specs.EmailProperties.{email_parse_defaults}
+use Rattle.email_get.specs.HeaderMembers.{PutsConveniences}
 use Rattle.email_get.specs.PartObjects.{IsLanguage, tags, part_blob_id, part_data, IsPartObject}
 use Rattle.email_get.specs.Previews.{preview_of, IsPreviewOf}
 use Rattle.json_texts.specs.Texts.{text_data, optional_text, text_list}
 use Rattle.email_get.specs.Values.{with_lf, charset_in, HasText}
-use Rattle.email_get.proofs.HeaderLemmas.{one_header_data}
+use Rattle.email_get.proofs.HeaderLemmas.{one_members}
 use Rattle.email_get.proofs.KinLemmas.{Kin, leaves_kin, kin_lists}
 use Rattle.email_get.proofs.LeafLemmas.{message_from, walk_inside}
 
@@ -179,7 +180,8 @@ one_body_data b p q x y m n g h =
 pub one_email_object : (b : List ℕ) (d e : Data) → IsEmailObject b d → IsEmailObject b e → d ≡ e
 one_email_object b d e g h =
     let fields = (one_header g.fields h.fields g.header_end h.header_end b g.is_header h.is_header).0 in
-    let header = one_header_data h.fields g.header h.header (subst (λ (fs : List NameAndRaw). IsHeaderData fs g.header) fields g.header_is) h.header_is in
+    let g_is = subst (λ (fs : List NameAndRaw). PutsConveniences email_parse_defaults fs no_members g.header) fields g.header_is in
+    let header = one_members email_parse_defaults h.fields no_members g.header h.header g_is h.header_is in
     let body = one_body_data b g.root h.root g.body h.body g.is_message h.is_message g.is_body h.is_body in
-    let same : email_data g.header g.body ≡ email_data h.header h.body = λ i. email_data (header i) (body i) in
+    let same : object (with_body g.body g.header) ≡ object (with_body h.body h.header) = λ i. object (with_body (body i) (header i)) in
     g.is ∙ same ∙ sym h.is

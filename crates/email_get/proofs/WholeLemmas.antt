@@ -1,46 +1,19 @@
 -- No number of an Email object has a fraction.
-use Rattle.std.proofs.Common.{◌≡◌, ℕ, Bool, true, false, ◌||◌, List, [], ◌∷◌, refl, ap, ◌∙◌, Option, Some, None, Ordering, Less, Equal, Greater, nat_cmp, length}
-use Rattle.std.specs.Ordering.{match_ordering}
-use Rattle.std.specs.Cmp.Lexicographic.{slice_cmp}
+use Rattle.std.proofs.Common.{◌≡◌, ℕ, Bool, true, false, ◌||◌, List, [], ◌∷◌, refl, ap, ◌∙◌, Option, Some, None, length}
 use Rattle.blob_store.specs.Uploads.{blob_id}
-use Rattle.serde_json.specs.Data.{Data, Members, no_members, member, put}
+use Rattle.serde_json.specs.Data.{Data, Members, no_members}
 use Rattle.serde_json.specs.View.{items_of}
 use Rattle.serde_json.specs.Written.{has_float, items_have_float, members_have_float}
 use Rattle.mime_tree.specs.declared.part.Part.{Part, out-Part}
 use Rattle.mime_tree.specs.Heads.{is_text}
 use Rattle.mime_tree.specs.Roles.{media}
 use Rattle.email_get.specs.BodyValues.{PutsIf, AddsValues}
-use Rattle.email_get.specs.EmailObjects.{AreObjects, BodyData, email_data, IsEmailObject}
-use Rattle.email_get.specs.HeaderProperties.{HeaderData}
+use Rattle.email_get.specs.EmailObjects.{AreObjects, BodyData, with_body, IsEmailObject}
+use Rattle.email_properties.specs.EmailProperties.{email_parse_defaults}
 use Rattle.email_get.specs.PartObjects.{IsLanguage, part_data, IsPartObject, tags}
 use Rattle.json_texts.specs.Texts.{text_data}
-use Rattle.email_get.proofs.HeaderLemmas.{items_whole, text_whole, IsWholeHeader, whole_header}
-
--- ---- members
-
-member_whole : (d : Data) (ms : Members) → has_float d ≡ false → members_have_float ms ≡ false → (has_float d || members_have_float ms) ≡ false
-member_whole d ms h k = ap (λ (t : Bool). t || members_have_float ms) h ∙ k
-
-left_whole : (a c : Bool) → (a || c) ≡ false → a ≡ false
-left_whole true c h = h
-left_whole false c h = refl
-
-right_whole : (a c : Bool) → (a || c) ≡ false → c ≡ false
-right_whole true c h = absurd (let e = h in cc)
-right_whole false c h = h
-
-by_order : (o : Ordering) (x y z : Members) → members_have_float x ≡ false → members_have_float y ≡ false → members_have_float z ≡ false
-    → members_have_float (match_ordering o x y z) ≡ false
-by_order Less x y z f g h = f
-by_order Equal x y z f g h = g
-by_order Greater x y z f g h = h
-
-put_whole : (k : List ℕ) (d : Data) (ms : Members) → has_float d ≡ false → members_have_float ms ≡ false → members_have_float (put k d ms) ≡ false
-put_whole k d no_members h g = member_whole d no_members h refl
-put_whole k d (member l e ms) h g =
-    let one = left_whole (has_float e) (members_have_float ms) g in
-    let rest = right_whole (has_float e) (members_have_float ms) g in
-    by_order (slice_cmp nat_cmp k l) _ _ _ (member_whole d (member l e ms) h g) (member_whole d ms h rest) (member_whole e (put k d ms) one (put_whole k d ms h rest))
+use Rattle.json_texts.proofs.WholeLemmas.{items_whole, text_whole, put_whole}
+use Rattle.email_get.proofs.HeaderLemmas.{header_whole}
 
 -- ---- values of texts
 
@@ -80,10 +53,10 @@ pub record IsWholeBody (d : BodyData) : Type 0 where
   pub text : items_have_float (items_of d.text) ≡ false
   pub values : members_have_float d.values ≡ false
 
-email_whole : (h : HeaderData) (d : BodyData) → IsWholeHeader h → IsWholeBody d → has_float (email_data h d) ≡ false
-email_whole h d w v =
-    rw v.attachments (rw w.bcc (rw v.values (rw w.cc (rw w.from
-    (rw v.html (rw w.in_reply_to (rw w.message_id (rw w.references (rw w.reply_to (rw w.sender (rw w.sent_at (rw w.subject (rw v.text (rw w.to refl))))))))))))))
+body_whole : (d : BodyData) (header : Members) → IsWholeBody d → members_have_float header ≡ false → members_have_float (with_body d header) ≡ false
+unfolding with_body
+body_whole d header w h =
+    put_whole _ _ _ w.text (put_whole _ _ _ refl (put_whole _ _ _ w.html (put_whole _ _ _ refl (put_whole _ _ _ w.values (put_whole _ _ header w.attachments h)))))
 
 -- an Email object has no number with a fraction
 pub whole_object : (b : List ℕ) (d : Data) → IsEmailObject b d → has_float d ≡ false
@@ -95,4 +68,4 @@ whole_object b d o =
       text = objects_whole b body.are_lists.parts.text o.body.text body.text;
       values = values_whole b body.leaves _ o.body.values body.values refl;
     } in
-    ap has_float o.is ∙ email_whole o.header o.body (whole_header o.fields o.header o.header_is) whole
+    ap has_float o.is ∙ body_whole o.body o.header whole (header_whole email_parse_defaults o.fields no_members o.header o.header_is refl)

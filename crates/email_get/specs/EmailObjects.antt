@@ -3,7 +3,7 @@
 use Rattle.std.specs.Prelude.{◌≡◌, ℕ, Bool, List, [], ◌∷◌, codes}
 use Rattle.std.specs.Bool.{MatchBool}
 use Rattle.blob_store.specs.Uploads.{blob_id}
-use Rattle.serde_json.specs.Data.{Data, boolean, array, object, Members, no_members, member}
+use Rattle.serde_json.specs.Data.{Data, boolean, array, object, Members, no_members, put}
 use Rattle.serde_json.specs.View.{items_of}
 use Rattle.mail_header.specs.Fields.{NameAndRaw, IsHeader}
 use Rattle.mime_tree.specs.declared.lists.BodyLists.{BodyLists}
@@ -16,7 +16,8 @@ use Rattle.email_get.specs.Leaves.{AreLeaves}
 use Rattle.email_get.specs.Previews.{IsPreviewOf}
 use Rattle.email_get.specs.PartObjects.{IsPartObject}
 use Rattle.email_get.specs.BodyValues.{AreValues}
-use Rattle.email_get.specs.HeaderProperties.{HeaderData, IsHeaderData}
+use Rattle.email_properties.specs.EmailProperties.{email_parse_defaults}
+use Rattle.email_get.specs.HeaderMembers.{PutsConveniences}
 
 -- the objects of these leaves, in their order
 abbrev pub AreObjects : List ℕ → List Part → List Data → Type 0
@@ -52,37 +53,25 @@ pub record IsBodyData (b : List ℕ) (root : Part) (body : BodyData) : Type 0 wh
   pub are_leaves : AreLeaves (root ∷ []) leaves
   pub values : AreValues b leaves body.values
 
-abbrev pub email_data : HeaderData → BodyData → Data
-email_data header body =
-    object
-    (member (codes "attachments") (array (items_of body.attachments))
-    (member (codes "bcc") header.bcc
-    (member (codes "bodyValues") (object body.values)
-    (member (codes "cc") header.cc
-    (member (codes "from") header.from
-    (member (codes "hasAttachment") (boolean body.has_attachment)
-    (member (codes "htmlBody") (array (items_of body.html))
-    (member (codes "inReplyTo") header.in_reply_to
-    (member (codes "messageId") header.message_id
-    (member (codes "preview") (text_data body.preview)
-    (member (codes "references") header.references
-    (member (codes "replyTo") header.reply_to
-    (member (codes "sender") header.sender
-    (member (codes "sentAt") header.sent_at
-    (member (codes "subject") header.subject
-    (member (codes "textBody") (array (items_of body.text))
-    (member (codes "to") header.to
-    no_members)))))))))))))))))
+-- the members of the body, put to those of the header
+unfoldable pub with_body : BodyData → Members → Members
+with_body body header =
+    put (codes "textBody") (array (items_of body.text))
+    (put (codes "preview") (text_data body.preview)
+    (put (codes "htmlBody") (array (items_of body.html))
+    (put (codes "hasAttachment") (boolean body.has_attachment)
+    (put (codes "bodyValues") (object body.values)
+    (put (codes "attachments") (array (items_of body.attachments)) header)))))
 
 -- the octets of a message are this object
 pub record IsEmailObject (b : List ℕ) (d : Data) : Type 0 where
   pub fields : List NameAndRaw
   pub header_end : ℕ
   pub is_header : IsHeader fields header_end b
-  pub header : HeaderData
-  pub header_is : IsHeaderData fields header
+  pub header : Members
+  pub header_is : PutsConveniences email_parse_defaults fields no_members header
   pub root : Part
   pub is_message : IsMessage b root
   pub body : BodyData
   pub is_body : IsBodyData b root body
-  pub is : d ≡ email_data header body
+  pub is : d ≡ object (with_body body header)

@@ -3,7 +3,6 @@ pub mod Values
 pub mod Previews
 pub mod PartObjects
 pub mod BodyValues
-pub mod HeaderProperties
-pub mod MomentText
+pub mod HeaderMembers
 pub mod EmailObjects
 pub mod reading

@@ -1,17 +1,18 @@
 // Email objects of octets (RFC 8621 section 4.9).
 ghost use Rattle.std.specs.Prelude.{◌≡◌, false, IfOk, OnOk};
 ghost use Rattle.serde_json.specs.View.{view, members_view};
-ghost use Rattle.email_get.specs.reading.EmailMembers as email;
-ghost use Rattle.email_get.specs.reading.HeaderViews.{IsHeaderOf};
 ghost use Rattle.serde_json.specs.Written.{has_float};
+ghost use Rattle.mail_header.specs.Fields.{names_and_raws};
+ghost use Rattle.email_get.specs.EmailObjects.{IsEmailObject, with_body};
+ghost use Rattle.email_get.specs.HeaderMembers.{PutsConvenience, PutsConveniences};
 ghost use Rattle.email_get.specs.reading.BodyViews.{body_view};
-ghost use Rattle.email_get.specs.EmailObjects.{IsEmailObject, email_data};
-ghost use Rattle.email_get.specs.HeaderProperties.{header_data};
+ghost use Rattle.email_get.specs.reading.HeaderViews.{HasHeader};
 
 use crate::bodies::{BodyShown, body_of};
-use crate::header_properties::{HeaderValues, header_values};
+use email_properties::{Defaults, EmailProperty, email_defaults, email_key};
+use field_values::{convenience, last_value};
 use json_texts::text_value;
-use mail_header::fields;
+use mail_header::{Fields, fields};
 use mime_tree::parse;
 use serde_json::{Map, Value, put};
 use std::alloc::{AllocError, Global};
@@ -21,7 +22,7 @@ fn put_body(
     alloc: Global,
     body: BodyShown,
 ) -> Result<(), AllocError>
-    ensures { OnOk result (members_view members.new.entries ≡ email.with_body (body_view body) (members_view members.old.entries)) }
+    ensures { OnOk result (members_view members.new.entries ≡ with_body (body_view body) (members_view members.old.entries)) }
 {
     let preview = text_value(alloc, body.preview.as_slice())?;
     put(
@@ -43,42 +44,46 @@ fn put_body(
     Ok(())
 }
 
-fn put_header(
+/// Puts a convenience property of the fields at its key.
+fn put_convenience(
     members: &mut Map<String, Value>,
     alloc: Global,
-    header: HeaderValues,
+    fields: &Fields<'_>,
+    property: &EmailProperty<'_>,
 ) -> Result<(), AllocError>
-    ensures { OnOk result (members_view members.new.entries ≡ email.with_header (header_data header) (members_view members.old.entries)) }
+    ensures { OnOk result (PutsConvenience property.now (names_and_raws fields.now) (members_view members.old.entries) (members_view members.new.entries)) }
 {
-    put(members, alloc, "bcc", header.bcc)?;
-    put(members, alloc, "cc", header.cc)?;
-    put(members, alloc, "from", header.from)?;
-    put(members, alloc, "inReplyTo", header.in_reply_to)?;
-    put(members, alloc, "messageId", header.message_id)?;
-    put(members, alloc, "references", header.references)?;
-    put(members, alloc, "replyTo", header.reply_to)?;
-    put(members, alloc, "sender", header.sender)?;
-    put(members, alloc, "sentAt", header.sent_at)?;
-    put(members, alloc, "subject", header.subject)?;
-    put(members, alloc, "to", header.to)?;
+    let Some((name, form)) = convenience(property) else {
+        return Ok(());
+    };
+    let value = last_value(alloc, fields, name, form)?;
+    put(members, alloc, email_key(property), value)
+}
+
+/// Puts those of these that are convenience properties.
+fn put_conveniences(
+    members: &mut Map<String, Value>,
+    alloc: Global,
+    fields: &Fields<'_>,
+    properties: &[EmailProperty<'_>],
+) -> Result<(), AllocError>
+    ensures { OnOk result (PutsConveniences properties.now (names_and_raws fields.now) (members_view members.old.entries) (members_view members.new.entries)) }
+{
+    for property in properties {
+        put_convenience(members, alloc, fields, property)?;
+    }
     Ok(())
 }
 
-fn email_value(alloc: Global, header: HeaderValues, body: BodyShown) -> Result<Value, AllocError>
-    ensures { IfOk result (λ v. view v ≡ email_data (header_data header) (body_view body)) }
-{
-    let mut members = Map::new(alloc);
-    put_body(&mut members, alloc, body)?;
-    put_header(&mut members, alloc, header)?;
-    Ok(Value::Object(members))
-}
-
-/// The properties of a message's header. The list of its fields is given back, as the tree makes one of its own.
-fn header_of(alloc: Global, bytes: &[u8]) -> Result<HeaderValues, AllocError>
-    ensures { IfOk result (λ h. IsHeaderOf bytes.now (header_data h)) }
+/// The members that the header gives. The list of its fields is given back, as the tree makes one of its own.
+fn header_members(alloc: Global, bytes: &[u8]) -> Result<Map<String, Value>, AllocError>
+    ensures { IfOk result (λ m. HasHeader bytes.now (members_view m.entries)) }
 {
     let fields = fields(alloc, bytes)?;
-    header_values(alloc, &fields)
+    let properties = email_defaults(alloc, Defaults::Parse)?;
+    let mut members = Map::new(alloc);
+    put_conveniences(&mut members, alloc, &fields, properties.as_slice())?;
+    Ok(members)
 }
 
 /// What the octets of a message are as an Email object, which Email/parse answers (RFC 8621 section 4.9): its default
@@ -87,8 +92,9 @@ pub fn email_object(alloc: Global, bytes: &[u8]) -> Result<Value, AllocError>
     ensures object { IfOk result (λ v. IsEmailObject bytes.now (view v)) }
     ensures whole { IfOk result (λ v. has_float (view v) ≡ false) }
 {
-    let header = header_of(alloc, bytes)?;
+    let mut members = header_members(alloc, bytes)?;
     let root = parse(alloc, bytes)?;
     let body = body_of(alloc, bytes, &root)?;
-    email_value(alloc, header, body)
+    put_body(&mut members, alloc, body)?;
+    Ok(Value::Object(members))
 }

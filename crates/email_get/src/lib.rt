@@ -1,9 +1,6 @@
 //! What the octets of a message are as an Email object (RFC 8621).
 #![tactic(auto)]
 
-// Moments.
-mod moment_text;
-
 // Parts.
 mod bodies;
 mod leaves;
@@ -13,11 +10,8 @@ mod values;
 
 // The object.
 mod email_objects;
-pub mod header_properties;
 
-// Laws.
-pub mod header_laws;
+// The law.
 pub mod laws;
 
 pub use email_objects::email_object;
-pub use header_properties::{HeaderValues, header_values};

@@ -4,8 +4,8 @@ use Rattle.serde_json.specs.Data.{Data, boolean, array, object, Members, put}
 use Rattle.serde_json.specs.View.{view, items_view, members_view}
 use Rattle.serde_json.specs.declared.value.Value.{Array, Object, Bool as Truth, the_lemmas}
 use Rattle.serde_json.proofs.Views.{view-Array, view-Object}
-use Rattle.email_get.specs.reading.EmailMembers.{with_body}
 use Rattle.json_texts.specs.Texts.{text_data}
+use Rattle.email_get.specs.EmailObjects.{with_body}
 use Rattle.email_get.proofs.email_objects.put_body.Goals as goal
 
 view-Bool : (t : Bool) → view (Truth t) ≡ boolean t

@@ -1,0 +1,4 @@
+pub mod MomentText
+pub mod Forms
+pub mod HeaderProperties
+pub mod reading

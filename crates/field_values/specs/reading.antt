@@ -1,0 +1,2 @@
+-- What private clauses and proofs read: what a loop over fields has gathered.
+pub mod Gathering

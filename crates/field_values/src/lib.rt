@@ -1,0 +1,17 @@
+//! Fields of a header as values of JSON: in a form, and as properties of an Email or a body part (RFC 8621 sections 4.1.2 and 4.1.3).
+#![tactic(auto)]
+
+// Forms.
+pub mod forms;
+mod moment_text;
+
+// Properties.
+pub mod conveniences;
+pub mod properties;
+
+// Laws.
+pub mod laws;
+
+pub use conveniences::convenience;
+pub use forms::form_value;
+pub use properties::{header_property, headers_value, last_value};
