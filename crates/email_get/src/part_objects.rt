@@ -11,9 +11,9 @@ ghost use Rattle.header_tokens.specs.declared.token.Alphabet.TheVariants as alph
 ghost use Rattle.header_tokens.specs.reading.LexemeReading.{lexemes_in};
 
 use crate::leaves::number_text;
-use json_texts::{optional_text_value, owned_text_value, text_value};
 use gate_world::Bytes;
 use header_tokens::{Alphabet, Token, next_lexeme};
+use json_texts::{optional_text_value, owned_text_value, text_value};
 use mime_fields::is_token;
 use mime_tree::{Part, part_len};
 use serde_json::{Value, json};

@@ -12,9 +12,9 @@ ghost use Rattle.email_get.specs.BodyValues.{value_data, PutsIf, PutsValue};
 
 use crate::leaves::number_text;
 use crate::previews::preview_of;
-use json_texts::owned_text_value;
 use gate_world::Bytes;
 use header_words::decode_charset;
+use json_texts::owned_text_value;
 use memchr::memchr;
 use mime_tree::head::is_text;
 use mime_tree::{Part, part_bytes};
