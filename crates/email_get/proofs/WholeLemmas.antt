@@ -1,7 +1,8 @@
 -- No number of an Email object has a fraction.
 use Rattle.std.proofs.Common.{◌≡◌, ℕ, Bool, true, false, ◌||◌, List, [], ◌∷◌, refl, ap, ◌∙◌, Option, Some, None, length}
 use Rattle.blob_store.specs.Uploads.{blob_id}
-use Rattle.serde_json.specs.Data.{Data, Members, no_members}
+use Rattle.std.specs.Prelude.{codes}
+use Rattle.serde_json.specs.Data.{Data, boolean, array, object, Members, no_members, put}
 use Rattle.serde_json.specs.View.{items_of}
 use Rattle.serde_json.specs.Written.{has_float, items_have_float, members_have_float}
 use Rattle.mime_tree.specs.declared.part.Part.{Part, out-Part}
@@ -56,7 +57,17 @@ pub record IsWholeBody (d : BodyData) : Type 0 where
 body_whole : (d : BodyData) (header : Members) → IsWholeBody d → members_have_float header ≡ false → members_have_float (with_body d header) ≡ false
 unfolding with_body
 body_whole d header w h =
-    put_whole _ _ _ w.text (put_whole _ _ _ refl (put_whole _ _ _ w.html (put_whole _ _ _ refl (put_whole _ _ _ w.values (put_whole _ _ header w.attachments h)))))
+    let one = put (codes "attachments") (array (items_of d.attachments)) header in
+    let two = put (codes "bodyValues") (object d.values) one in
+    let three = put (codes "hasAttachment") (boolean d.has_attachment) two in
+    let four = put (codes "htmlBody") (array (items_of d.html)) three in
+    let five = put (codes "preview") (text_data d.preview) four in
+    put_whole (codes "textBody") (array (items_of d.text)) five w.text
+    (put_whole (codes "preview") (text_data d.preview) four refl
+    (put_whole (codes "htmlBody") (array (items_of d.html)) three w.html
+    (put_whole (codes "hasAttachment") (boolean d.has_attachment) two refl
+    (put_whole (codes "bodyValues") (object d.values) one w.values
+    (put_whole (codes "attachments") (array (items_of d.attachments)) header w.attachments h)))))
 
 -- an Email object has no number with a fraction
 pub whole_object : (b : List ℕ) (d : Data) → IsEmailObject b d → has_float d ≡ false

@@ -16,6 +16,6 @@ returns c =
       end = c.in_ok-fields.fields.end;
       is_header = c.in_ok-fields.ensures;
       header_is = subst (λ (ms : Members). PutsConveniences email_parse_defaults fields ms header) (ap members_view c.new-members.ensures.empty)
-          (subst (λ (ps : List EmailProperty). PutsConveniences ps fields (members_view c.new-members.members.entries) header)
+          (subst (λ (ps : List EmailProperty). PutsConveniences ps fields (members_view c.new-members.result.entries) header)
           (c.as_slice.ensures.value ∙ c.in_ok-properties.ensures) c.in_ok-put_conveniences.ensures);
     }
