@@ -1,4 +1,4 @@
-//! Tests of the outside in memory: worlds that follow a script, texts that are sent and written, and octets that came.
+//! Tests of the outside in memory: worlds that follow a script, and texts that are sent and written.
 #![tactic(auto)]
 
 #[cfg(test)]
@@ -11,5 +11,3 @@ mod sending;
 mod steady_worlds;
 #[cfg(test)]
 mod telling;
-#[cfg(test)]
-mod unread;
