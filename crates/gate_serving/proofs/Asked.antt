@@ -16,7 +16,8 @@ use Rattle.gate_serving.specs.declared.asking.Asking.{Asking as Asked}
 use Rattle.gate_serving.specs.declared.asking.Asking.TheVariants as asked
 use Rattle.gate_serving.specs.declared.door.Door.TheVariants.{Bare, Http}
 use Rattle.gate_serving.specs.Front.{GivesRequest}
-use Rattle.gate_serving.specs.Requests.{Asking, Calls, Problem, Upload, account_id, asked_by, upload_asked}
+use Rattle.gate_serving.specs.Requests.{Asking, Calls, Problem, Upload, asked_by, upload_asked}
+use Rattle.jmap_methods.specs.Arguments.{account_id}
 use Rattle.gate_serving.specs.reading.Askings.{AsksInBody, AsksInVain, AsksOf, ReadsInto}
 
 -- ---- a body

@@ -14,7 +14,8 @@ use Rattle.gate_calls.specs.Calls.{AnswersCalls}
 use Rattle.gate_calls.specs.Mailings.{Mailing}
 use Rattle.gate_serving.specs.declared.door.Door.{Door}
 use Rattle.gate_serving.specs.declared.door.Door.TheVariants.{Bare, Http}
-use Rattle.gate_serving.specs.Requests.{Account, Asking, Calls, Problem, Session, Upload, Download, Refused, account_id}
+use Rattle.gate_serving.specs.Requests.{Account, Asking, Calls, Problem, Session, Upload, Download, Refused}
+use Rattle.jmap_methods.specs.Arguments.{account_id}
 
 -- a status of HTTP, and a body of this type
 pub record Answer : Type 0 where

@@ -1,5 +1,5 @@
 -- What clients ask (RFC 8620 sections 2, 3.3, 6.1 and 6.2), and how it is read.
-use Rattle.std.specs.Prelude.{◌≡◌, ◌⊎◌, ℕ, Bool, true, false, nat_le, List, length, if◌then◌else◌, Option, Result, Ok, Err, codes}
+use Rattle.std.specs.Prelude.{◌≡◌, ◌⊎◌, ℕ, Bool, true, false, nat_le, List, length, if◌then◌else◌, Option, Result, Ok, Err}
 use Rattle.gate_world.specs.declared.event.Event.{Event}
 use Rattle.blob_store.specs.declared.store.TheConstants.{MAX_UPLOAD_OCTETS}
 use Rattle.http_door.specs.Asking.{AsksOverHttp}
@@ -8,6 +8,7 @@ use Rattle.http_door.specs.declared.asking.AskError.TheVariants as unread
 use Rattle.http_door.specs.declared.asking.HttpAsking.{HttpAsking}
 use Rattle.http_door.specs.declared.asking.HttpAsking.TheVariants as http
 use Rattle.http_service.specs.declared.refusal.Refusal.{Refusal}
+use Rattle.jmap_methods.specs.Arguments.{account_id}
 use Rattle.jmap_core.specs.Request.{RequestData, requested}
 use Rattle.jmap_core.specs.declared.request.RequestError.{RequestError}
 use Rattle.jmap_core.specs.declared.request.RequestError.TheVariants.{Limit}
@@ -65,10 +66,6 @@ asked_over_http (http.Download blob name media) = Download blob media
 asked_over_http (http.Refused refusal) = Refused refusal
 asked_over_http http.CallsTooLarge = Problem (Limit MaxSizeRequest)
 asked_over_http http.UploadTooLarge = Problem (Limit MaxSizeUpload)
-
--- the one account
-abbrev pub account_id : List ℕ
-account_id = codes "a1"
 
 -- What reading a client's request adds, by the token that clients must show; or why it isn't read: the client ended its input
 -- inside it, the front failed before its end, or memory ran out on the way or at its end. At the bare door a request is all that

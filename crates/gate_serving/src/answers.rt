@@ -29,6 +29,7 @@ use jmap_core::{
     Call, LimitName, MAX_SIZE_REQUEST, MAX_SIZE_UPLOAD, Request, RequestError, problem_text,
     response_text, session_object, session_state,
 };
+use jmap_methods::ACCOUNT_ID;
 use serde_json::{Value, json};
 use std::alloc::{AllocError, Global};
 
@@ -166,7 +167,7 @@ fn upload_value(alloc: Global, upload: &Upload, id: &Bytes) -> Result<Value, All
 {
     let id = id_text(alloc, id.as_slice())?;
     json!(in alloc; {
-        "accountId": "a1",
+        "accountId": ACCOUNT_ID,
         "blobId": id.as_str(),
         "size": upload.octets.as_slice().len() as u64,
         "type": upload.media.as_str(),

@@ -15,10 +15,8 @@ use gate_world::{Bytes, Front, Secrets, Text};
 use http_door::{AskError, HttpAsking, ask_over_http};
 use http_routes::Routes;
 use jmap_core::{LimitName, RequestError, read_request};
+use jmap_methods::ACCOUNT_ID;
 use std::alloc::Global;
-
-/// The one account.
-const ACCOUNT_ID: &[u8] = b"a1";
 
 fn too_large(name: LimitName) -> Asking
     ensures { asking_data result ≡ Problem (Limit name) }
@@ -104,7 +102,7 @@ fn read_http<W: Front + Secrets>(
     ensures cause { IsErrOf result AskError.Failed → Rose (W.faults world.old).front (W.faults world.new).front }
     ensures hidden { W.hidden world.new ≡ W.hidden world.old }
 {
-    match ask_over_http(alloc, world, routes, ACCOUNT_ID) {
+    match ask_over_http(alloc, world, routes, ACCOUNT_ID.as_bytes()) {
         Ok(asked) => asking_of(alloc, asked),
         Err(error) => Err(error),
     }

@@ -17,7 +17,7 @@ use Rattle.header_tokens.specs.Words.{unquoted, word_text}
 use Rattle.header_addresses.specs.Mailboxes.{is_phrase, Mailbox}
 use Rattle.header_addresses.specs.AddressLists.{Addressee, Grouped, IsAddressList, groups_of}
 
--- ---- the text of a phrase: its words, unquoted, and a space for each gap between them
+-- ---- the text of a phrase: its words, unquoted, with a space for each gap between them, and without white space at its ends
 
 abbrev pub space : Bool → List ℕ
 space gap = if gap then 32 ∷ [] else []
@@ -28,7 +28,7 @@ phrase_from gap [] = []
 phrase_from gap (s ∷ ts) = if is_gap s then phrase_from true ts else space gap ++ (word_text s.kind s.text ++ phrase_from false ts)
 
 abbrev pub phrase_text : List Spelled → List ℕ
-phrase_text ts = phrase_from false (back is_gap ts)
+phrase_text ts = without_white_end (back is_white (phrase_from false (back is_gap ts)))
 
 -- ---- the text of a comment: without its parentheses, and without white space at its ends
 

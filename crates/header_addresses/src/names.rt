@@ -1,6 +1,8 @@
 // Names of mailboxes and groups, and addresses as they are spelled.
 ghost use Rattle.std.specs.Prelude.{◌≡◌, ◌++◌, None, Some, false, IfOk, OnOk, MatchOption};
 ghost use Rattle.std.specs.Option.{option_map};
+ghost use Rattle.text_words.specs.Cuts.{back};
+ghost use Rattle.header_tokens.specs.Kinds.{is_gap as is_gap_token};
 ghost use Rattle.header_tokens.specs.Words as words;
 ghost use Rattle.mail_header.specs.WhiteEnd as white_end;
 ghost use Rattle.header_addresses.specs.Names as names;
@@ -44,9 +46,9 @@ fn push_space(text: &mut Vec<u8>, gap: bool) -> Result<(), AllocError>
     Ok(())
 }
 
-/// The words of a phrase, unquoted, with a space for each gap between them.
-fn phrase_text(alloc: Global, phrase: &[Token<'_>]) -> Result<Vec<u8>, AllocError>
-    ensures { IfOk result (λ v. v.items ≡ names.phrase_text (tokens_view phrase.now)) }
+/// The words of a phrase after its first gap, unquoted, with a space for each gap between them.
+fn phrase_words(alloc: Global, phrase: &[Token<'_>]) -> Result<Vec<u8>, AllocError>
+    ensures { IfOk result (λ v. v.items ≡ names.phrase_from false (back is_gap_token (tokens_view phrase.now))) }
 {
     let (_, words) = cut_tokens(&Gap, phrase);
     let mut text = Vec::new(alloc);
@@ -67,8 +69,9 @@ fn phrase_text(alloc: Global, phrase: &[Token<'_>]) -> Result<Vec<u8>, AllocErro
 pub(crate) fn phrase_name(alloc: Global, phrase: &[Token<'_>]) -> Result<Bytes, AllocError>
     ensures { IfOk result (λ b. IsText false (names.phrase_text (tokens_view phrase.now)) b) }
 {
-    let text = phrase_text(alloc, phrase)?;
-    Ok(Bytes::from_vec(decode_words(alloc, text.as_slice())?)?)
+    let words = phrase_words(alloc, phrase)?;
+    let (_, text) = cut(&White, words.as_slice());
+    Ok(Bytes::from_vec(decode_words(alloc, without_white_end(text))?)?)
 }
 
 /// The first comment after the last lexeme.

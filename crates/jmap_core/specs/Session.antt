@@ -2,6 +2,7 @@
 use Rattle.std.specs.Prelude.{ℕ, List, [], ◌∷◌, ◌++◌, length, codes, decimal, map, true, false}
 use Rattle.serde_json.specs.Data.{unsigned, Data, null, boolean, number, string, array, object, no_items, no_members, member}
 use Rattle.serde_json.specs.View.{items_of}
+use Rattle.jmap_methods.specs.Arguments.{account_id}
 use Rattle.jmap_methods.specs.declared.arguments.TheConstants.{MAX_OBJECTS_IN_GET}
 use Rattle.jmap_core.specs.declared.request_body.TheConstants.{MAX_CALLS_IN_REQUEST}
 use Rattle.jmap_core.specs.declared.session.TheConstants.{MAX_SIZE_REQUEST, MAX_SIZE_UPLOAD, MAX_CONCURRENT_REQUESTS, MAX_CONCURRENT_UPLOAD, MAX_OBJECTS_IN_SET}
@@ -52,7 +53,7 @@ account_data user = object
     no_members))))
 
 abbrev pub accounts_data : List ℕ → Data
-accounts_data user = object (member (codes "a1") (account_data user) no_members)
+accounts_data user = object (member account_id (account_data user) no_members)
 
 abbrev pub capabilities_data : Data
 capabilities_data = object
@@ -61,7 +62,7 @@ capabilities_data = object
     no_members))
 
 abbrev pub primary_accounts_data : Data
-primary_accounts_data = object (member (codes "urn:ietf:params:jmap:mail") (string (codes "a1")) no_members)
+primary_accounts_data = object (member (codes "urn:ietf:params:jmap:mail") (string account_id) no_members)
 
 -- the paths under the base URL
 abbrev pub api_path : List ℕ

@@ -6,7 +6,7 @@ ghost use Rattle.jmap_core.specs.Session.{session_state_text, core_limits, email
 ghost use Rattle.jmap_core.specs.Session.{api_path, download_path, events_path, upload_path};
 
 use crate::MAX_CALLS_IN_REQUEST;
-use jmap_methods::MAX_OBJECTS_IN_GET;
+use jmap_methods::{ACCOUNT_ID, MAX_OBJECTS_IN_GET};
 use serde_json::{Map, Value, json, put};
 use std::alloc::{AllocError, Global};
 
@@ -109,7 +109,9 @@ fn accounts(alloc: Global, user: &str) -> Result<Value, AllocError>
     ensures { IfOk result (λ value. view value ≡ accounts_data user.now) }
 {
     let account = account_value(alloc, user)?;
-    json!(in alloc; {"a1": account})
+    let mut members = Map::new(alloc);
+    put(&mut members, alloc, ACCOUNT_ID, account)?;
+    Ok(Value::Object(members))
 }
 
 fn capabilities(alloc: Global) -> Result<Value, AllocError>
@@ -125,7 +127,7 @@ fn capabilities(alloc: Global) -> Result<Value, AllocError>
 fn primary_accounts(alloc: Global) -> Result<Value, AllocError>
     ensures { IfOk result (λ value. view value ≡ primary_accounts_data) }
 {
-    json!(in alloc; {"urn:ietf:params:jmap:mail": "a1"})
+    json!(in alloc; {"urn:ietf:params:jmap:mail": ACCOUNT_ID})
 }
 
 /// The URLs under a base URL.

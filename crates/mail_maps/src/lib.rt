@@ -28,4 +28,4 @@ pub use header::read_envelope;
 pub use mailboxes::mailboxes_of;
 pub use row::{EmailRow, MailboxRow, Rights, Role};
 pub use tally::{FolderCounts, count_emails, counts_of};
-pub use threads::{Thread, threads_among, threads_of};
+pub use threads::{Thread, threads_among};

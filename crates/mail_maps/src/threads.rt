@@ -4,8 +4,7 @@ ghost use Rattle.std.specs.Option.{option_map};
 ghost use Rattle.std.specs.BTreeMap.{get};
 ghost use Rattle.std.specs.BTreeSet.{contains, insert_key};
 ghost use Rattle.std.specs.Ordering.{nat_cmp};
-ghost use Rattle.mail_maps.specs.Threads.{threads_of, thread_numbers, thread_at, pairs_in, pair_cmp};
-ghost use Rattle.mail_maps.specs.Keywords.{sorted_into};
+ghost use Rattle.mail_maps.specs.Threads.{thread_at, pair_cmp};
 ghost use Rattle.mail_maps.specs.reading.Groups.{keys_listed, keys_at, grouped, pairs_among};
 
 use crate::EmailRow;
@@ -75,69 +74,11 @@ fn put_pair(
 ) -> Result<(), AllocError>
     ensures groups { OnOk result ((t : ℕ) → keys_at (get nat_cmp groups.new t)
         ≡ cond (nat_eq thread t) (Some (insert_key pair_cmp (keys_listed (get nat_cmp groups.old thread)) pair)) (keys_at (get nat_cmp groups.old t))) }
-    ensures listed { OnOk result ((t : ℕ) → keys_listed (get nat_cmp groups.new t)
-        ≡ cond (nat_eq thread t) (insert_key pair_cmp (keys_listed (get nat_cmp groups.old thread)) pair) (keys_listed (get nat_cmp groups.old t))) }
 {
     let mut group = take_group(alloc, groups, thread);
     group.insert(pair)?;
     groups.insert(thread, group)?;
     Ok(())
-}
-
-fn group_emails(
-    alloc: Global,
-    emails: &BTreeMap<u64, EmailRow>,
-) -> Result<BTreeMap<u64, BTreeSet<(i64, u64)>>, AllocError>
-    ensures { IfOk result (λ groups. (t : ℕ) → keys_listed (get nat_cmp groups t) ≡ sorted_into pair_cmp [] (pairs_in emails.now.entries t)) }
-{
-    let mut groups = BTreeMap::new(alloc);
-    for (number, row) in emails {
-        put_pair(alloc, &mut groups, row.thread, (row.received, *number))?;
-    }
-    Ok(groups)
-}
-
-fn numbers_of(alloc: Global, emails: &BTreeMap<u64, EmailRow>) -> Result<BTreeSet<u64>, AllocError>
-    ensures { IfOk result (λ numbers. numbers.keys ≡ thread_numbers emails.now.entries) }
-{
-    let mut numbers = BTreeSet::new(alloc);
-    for (_number, row) in emails {
-        numbers.insert(row.thread)?;
-    }
-    Ok(numbers)
-}
-
-fn group_at(
-    alloc: Global,
-    groups: &BTreeMap<u64, BTreeSet<(i64, u64)>>,
-    thread: u64,
-) -> Result<Thread, AllocError>
-    ensures { IfOk result (λ t. t ≡ map (λ p. p.1) (keys_listed (get nat_cmp groups.now thread))) }
-{
-    match groups.get(&thread) {
-        Some(group) => Thread::of_group(alloc, group),
-        None => Ok(Thread {
-            emails: Vec::new(alloc),
-        }),
-    }
-}
-
-/// Each Thread with its Emails.
-pub fn threads_of(
-    alloc: Global,
-    emails: &BTreeMap<u64, EmailRow>,
-) -> Result<BTreeMap<u64, Thread>, AllocError>
-    ensures { IfOk result (λ threads. threads.entries ≡ threads_of emails.now.entries) }
-{
-    let groups = group_emails(alloc, emails)?;
-    let numbers = numbers_of(alloc, emails)?;
-    let mut threads = BTreeMap::new(alloc);
-    let _count = numbers.len();
-    for number in &numbers {
-        let thread = group_at(alloc, &groups, *number)?;
-        threads.insert(*number, thread)?;
-    }
-    Ok(threads)
 }
 
 /// Puts an Email into the group of its Thread, where that is one of these.
