@@ -1,9 +1,9 @@
 // The object that `show` writes.
-ghost use Rattle.std.specs.Prelude.{◌≡◌, false, IfOk};
+ghost use Rattle.std.specs.Prelude.{◌≡◌, false, Some, IfOk};
 ghost use Rattle.serde_json.specs.View.{view};
 ghost use Rattle.serde_json.specs.Written.{has_float};
 ghost use Rattle.email_properties.specs.Wanted.{body_asked, email_asked};
-ghost use Rattle.email_objects.specs.EmailObjects.{IsShownObject, shown_asked};
+ghost use Rattle.email_objects.specs.EmailObjects.{IsParsedObject, IsShownObject, shown_asked};
 
 use crate::objects::parsed_value;
 use blob_store::blob_id::blob_id;
@@ -34,17 +34,21 @@ fn shown_wanted<'a>(alloc: Global) -> Result<EmailWanted<'a>, AllocError>
     Ok(EmailWanted { properties, body })
 }
 
-/// The object of octets that are no Email, as an Email/parse answers it (RFC 8621 section 4.9) with its default properties and all values
-/// of the body, none of them cut. The octets have the blob id of an upload. Any octets are a message.
-pub fn email_object(alloc: Global, bytes: &[u8]) -> Result<Value, AllocError>
-    ensures object { IfOk result (λ value. IsShownObject bytes.now (view value)) }
+/// The object of octets that have this blob id.
+fn shown_value(alloc: Global, octets: &[u8], id: &[u8]) -> Result<Value, AllocError>
+    ensures object { IfOk result (λ value. IsParsedObject (record { octets = octets.now; id = Some id.now }) shown_asked (view value)) }
     ensures whole { IfOk result (λ value. has_float (view value) ≡ false) }
 {
     let wanted = shown_wanted(alloc)?;
-    let id = blob_id(bytes);
-    let message = Message {
-        octets: bytes,
-        id: Some(id.as_slice()),
-    };
-    parsed_value(alloc, &message, &wanted)
+    let id = Some(id);
+    parsed_value(alloc, &Message { octets, id }, &wanted)
+}
+
+/// The object of octets that are no Email, as an Email/parse answers it (RFC 8621 section 4.9) with its default properties and all values
+/// of the body, none of them cut. The octets have the blob id of an upload. Any octets are a message.
+pub fn email_object(alloc: Global, octets: &[u8]) -> Result<Value, AllocError>
+    ensures object { IfOk result (λ value. IsShownObject octets.now (view value)) }
+    ensures whole { IfOk result (λ value. has_float (view value) ≡ false) }
+{
+    shown_value(alloc, octets, &blob_id(octets))
 }
