@@ -1,5 +1,5 @@
 -- An Email has one object with the properties that are asked, and so have octets that are no Email.
-use Rattle.std.proofs.Common.{◌≡◌, ◌∙◌, ℕ, Bool, true, false, refl, sym, ap, subst, List, [], ◌∷◌, Option, Some, None}
+use Rattle.std.proofs.Common.{◌≡◌, ◌∙◌, ℕ, Bool, true, false, refl, sym, ap, subst, List, ◌∷◌, Option, Some, None}
 use Rattle.std.specs.Prelude.{MatchOption, IsSomeAnd, option_map}
 use Rattle.std.specs.Bool.{MatchBool}
 use Rattle.serde_json.specs.Data.{Data, object, Members, no_members, put}
@@ -18,9 +18,10 @@ use Rattle.field_values.proofs.PropertyLemmas.{one_last, one_property}
 use Rattle.body_parts.specs.BodyProperties.{AddsBodyProperties}
 use Rattle.body_parts.specs.Messages.{MessageData}
 use Rattle.body_parts.proofs.BodyLaws.{one_added}
+use Rattle.body_parts.proofs.StepLemmas.{one_turn}
 use Rattle.email_objects.specs.EmailObjects.{AreFields, without_body, AddsBody, IsObject, IsEmailObject, IsParsedObject}
 use Rattle.email_objects.specs.Facts.{FactsData, row_facts, message_facts, row_message}
-use Rattle.email_objects.specs.Properties.{IsReceivedAt, IsConvenienceData, IsPropertyData, PutsProperties}
+use Rattle.email_objects.specs.Properties.{IsReceivedAt, IsConvenienceData, IsPropertyData, PutsProperty}
 
 -- ---- properties
 
@@ -47,12 +48,8 @@ one_data e Headers x y g h = g ∙ sym h
 one_data e (Header asked) x y g h = one_property asked e.fields x y g h
 one_data e p x y g h = one_convenience e.fields p x y g h
 
-one_puts : (e : FactsData) (ps : List EmailProperty) (before x y : Members) → PutsProperties e ps before x → PutsProperties e ps before y → x ≡ y
-one_puts e [] before x y g h = g ∙ sym h
-one_puts e (p ∷ ps) before x y g h =
-    let same_data = one_data e p g.1.0 h.1.0 g.1.1 h.1.1 in
-    let same = g.1.2 ∙ ap (λ (d : Data). put (email_key p) d before) same_data ∙ sym h.1.2 in
-    one_puts e ps h.0 x y (subst (λ (ms : Members). PutsProperties e ps ms x) same g.2) h.2
+one_put : (e : FactsData) (p : EmailProperty) (before x y : Members) → PutsProperty e p before x → PutsProperty e p before y → x ≡ y
+one_put e p before x y g h = g.2 ∙ ap (λ (d : Data). put (email_key p) d before) (one_data e p g.0 h.0 g.1 h.1) ∙ sym h.2
 
 -- ---- objects
 
@@ -67,7 +64,7 @@ one_body m asked before x y g h = by (needs_body asked) m g h
 
 one_object : (e : FactsData) (ps : List EmailProperty) (m : Option MessageData) (asked : EmailAsked) (x y : Data) → IsObject e ps m asked x → IsObject e ps m asked y → x ≡ y
 one_object e ps m asked x y g h =
-    let told = one_puts e ps no_members g.told h.told g.are_told h.are_told in
+    let told = one_turn (PutsProperty e) (one_put e) ps no_members g.told h.told g.are_told h.are_told in
     let all = one_body m asked h.told g.all h.all (subst (λ (ms : Members). AddsBody m asked ms g.all) told g.with_body) h.with_body in
     g.is ∙ ap (λ (ms : Members). object ms) all ∙ sym h.is
 

@@ -20,9 +20,10 @@ use Rattle.field_values.proofs.PropertyLemmas.{last_whole, property_whole, heade
 use Rattle.body_parts.specs.BodyProperties.{AddsBodyProperties}
 use Rattle.body_parts.specs.Messages.{MessageData}
 use Rattle.body_parts.proofs.BodyLaws.{added_whole}
+use Rattle.body_parts.proofs.StepLemmas.{turn_whole}
 use Rattle.email_objects.specs.EmailObjects.{AddsBody}
 use Rattle.email_objects.specs.Facts.{FactsData}
-use Rattle.email_objects.specs.Properties.{email_id, thread_id, mailbox_ids, with_keywords, keywords, IsReceivedAt, IsConvenienceData, IsPropertyData, PutsProperties}
+use Rattle.email_objects.specs.Properties.{email_id, thread_id, mailbox_ids, with_keywords, keywords, IsReceivedAt, IsConvenienceData, IsPropertyData, PutsProperty, PutsProperties}
 
 -- ---- what is told of an Email alone
 
@@ -72,11 +73,9 @@ data_whole e Headers d h = ap has_float h ∙ headers_whole e.fields
 data_whole e (Header asked) d h = property_whole asked e.fields d h
 data_whole e p d h = convenience_whole e.fields p d h
 
-puts_whole : (e : FactsData) (ps : List EmailProperty) (before after : Members) → PutsProperties e ps before after → members_have_float before ≡ false
+put_one_whole : (e : FactsData) (p : EmailProperty) (before after : Members) → PutsProperty e p before after → members_have_float before ≡ false
     → members_have_float after ≡ false
-puts_whole e [] before after h g = ap members_have_float h ∙ g
-puts_whole e (p ∷ ps) before after h g =
-    puts_whole e ps h.0 after h.2 (ap members_have_float h.1.2 ∙ put_whole (email_key p) h.1.0 before (data_whole e p h.1.0 h.1.1) g)
+put_one_whole e p before after h g = ap members_have_float h.2 ∙ put_whole (email_key p) h.0 before (data_whole e p h.0 h.1) g
 
 -- ---- objects
 
@@ -92,4 +91,4 @@ body_whole m asked before after h g = by (needs_body asked) m h
 -- no number of an object has a fraction
 pub object_whole : (e : FactsData) (ps : List EmailProperty) (m : Option MessageData) (asked : EmailAsked) (told all : Members) → PutsProperties e ps no_members told
     → AddsBody m asked told all → has_float (object all) ≡ false
-object_whole e ps m asked told all h g = body_whole m asked told all g (puts_whole e ps no_members told h refl)
+object_whole e ps m asked told all h g = body_whole m asked told all g (turn_whole (PutsProperty e) (put_one_whole e) ps no_members told h refl)

@@ -1,6 +1,6 @@
 -- The objects of an Email/get (RFC 8621 section 4.2) and of an Email/parse (section 4.9), with the properties that are asked. Members stand
 -- in the order of their names' octets.
-use Rattle.std.specs.Prelude.{◌≡◌, ℕ, true, false, not, if◌then◌else◌, List, [], ◌∷◌, Option, Some, option_map, IsSomeAnd}
+use Rattle.std.specs.Prelude.{◌≡◌, ℕ, Bool, true, false, not, if◌then◌else◌, List, [], ◌∷◌, Option, Some, option_map, IsSomeAnd}
 use Rattle.std.specs.Bool.{MatchBool}
 use Rattle.std.specs.List.{filter}
 use Rattle.serde_json.specs.Data.{Data, object, Members, no_members}
@@ -22,9 +22,12 @@ pub record AreFields (properties : List EmailProperty) (header : List ℕ) (fiel
   pub end : ℕ
   pub is_header : IsHeader fields end (if needs_header properties then header else [])
 
+abbrev pub needs_no_body : EmailProperty → Bool
+needs_no_body p = not (is_of_body p)
+
 -- those of these for which the body isn't needed
 abbrev pub without_body : List EmailProperty → List EmailProperty
-without_body properties = filter (λ p. not (is_of_body p)) properties
+without_body properties = filter needs_no_body properties
 
 -- where a property of the body is asked, the message is there, and those of the body are put
 abbrev pub AddsBody : Option MessageData → EmailAsked → Members → Members → Type 0

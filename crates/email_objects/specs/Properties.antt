@@ -12,6 +12,7 @@ use Rattle.email_properties.specs.declared.email_property.EmailProperty.TheVaria
 use Rattle.json_texts.specs.Texts.{optional_text}
 use Rattle.field_values.specs.HeaderProperties.{convenience, IsLastData, IsHeaderPropertyData, headers_data}
 use Rattle.field_values.specs.UtcDates.{IsUtcData}
+use Rattle.body_parts.specs.Steps.{InTurn}
 use Rattle.email_objects.specs.Facts.{FactsData}
 
 -- ---- what is told of an Email alone; null of other octets
@@ -81,5 +82,4 @@ abbrev pub PutsProperty : FactsData → EmailProperty → Members → Members �
 PutsProperty e p before after = (d : Data) × IsPropertyData e p d × (after ≡ put (email_key p) d before)
 
 abbrev pub PutsProperties : FactsData → List EmailProperty → Members → Members → Type 0
-PutsProperties e [] before after = after ≡ before
-PutsProperties e (p ∷ ps) before after = (one : Members) × PutsProperty e p before one × PutsProperties e ps one after
+PutsProperties e properties before after = InTurn (PutsProperty e) properties before after

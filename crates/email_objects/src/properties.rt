@@ -1,11 +1,12 @@
 // The properties of an Email for which its body isn't needed.
-ghost use Rattle.std.specs.Prelude.{◌≡◌, true, false, None, [], ◌∷◌, IfOk, OnOk, MatchOption};
+ghost use Rattle.std.specs.Prelude.{◌≡◌, true, false, None, IfOk, OnOk, MatchOption};
 ghost use Rattle.serde_json.specs.View.{view, members_view};
 ghost use Rattle.email_properties.specs.EmailProperties.{is_of_body};
 ghost use Rattle.mail_header.specs.Fields.{names_and_raws};
 ghost use Rattle.field_values.specs.HeaderProperties as headers;
-ghost use Rattle.email_objects.specs.EmailObjects.{without_body};
-ghost use Rattle.email_objects.specs.Properties.{IsConvenienceData, IsPropertyData, PutsProperties};
+ghost use Rattle.body_parts.specs.reading.StepsIf.{StepIf};
+ghost use Rattle.email_objects.specs.EmailObjects.{needs_no_body, without_body};
+ghost use Rattle.email_objects.specs.Properties.{IsConvenienceData, IsPropertyData, PutsProperty, PutsProperties};
 ghost use Rattle.email_objects.specs.reading.Views.{facts_data};
 
 use crate::facts::Facts;
@@ -61,7 +62,7 @@ pub(crate) fn put_property(
     facts: &Facts<'_>,
     property: &EmailProperty<'_>,
 ) -> Result<(), AllocError>
-    ensures { OnOk result (PutsProperties (facts_data facts.now) (without_body (property.now ∷ [])) (members_view members.old.entries) (members_view members.new.entries)) }
+    ensures { OnOk result (StepIf needs_no_body (PutsProperty (facts_data facts.now)) property.now (members_view members.old.entries) (members_view members.new.entries)) }
 {
     match property_value(alloc, facts, property) {
         None => Ok(()),
