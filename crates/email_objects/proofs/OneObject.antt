@@ -17,7 +17,7 @@ use Rattle.field_values.proofs.FormLemmas.{one_moment_data}
 use Rattle.field_values.proofs.PropertyLemmas.{one_last, one_property}
 use Rattle.body_parts.specs.BodyProperties.{AddsBodyProperties}
 use Rattle.body_parts.specs.Messages.{MessageData}
-use Rattle.body_parts.proofs.BodyLaws.{one_added}
+use Rattle.body_parts.proofs.OneBody.{one_bodies}
 use Rattle.body_parts.proofs.StepLemmas.{one_turn}
 use Rattle.email_objects.specs.EmailObjects.{AreFields, without_body, AddsBody, IsObject, IsEmailObject, IsParsedObject}
 use Rattle.email_objects.specs.Facts.{FactsData, row_facts, message_facts, row_message}
@@ -59,7 +59,7 @@ one_body m asked before x y g h = by (needs_body asked) m g h
     by : (b : Bool) (m : Option MessageData) → MatchBool b (IsSomeAnd m (λ m. AddsBodyProperties m asked before x)) (x ≡ before)
         → MatchBool b (IsSomeAnd m (λ m. AddsBodyProperties m asked before y)) (y ≡ before) → x ≡ y
     by true None g h = absurd g
-    by true (Some m) g h = one_added m asked before x y g h
+    by true (Some m) g h = one_bodies m asked before x y g h
     by false m g h = g ∙ sym h
 
 one_object : (e : FactsData) (ps : List EmailProperty) (m : Option MessageData) (asked : EmailAsked) (x y : Data) → IsObject e ps m asked x → IsObject e ps m asked y → x ≡ y

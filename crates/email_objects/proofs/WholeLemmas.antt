@@ -19,7 +19,7 @@ use Rattle.field_values.proofs.FormLemmas.{moment_whole}
 use Rattle.field_values.proofs.PropertyLemmas.{last_whole, property_whole, headers_whole}
 use Rattle.body_parts.specs.BodyProperties.{AddsBodyProperties}
 use Rattle.body_parts.specs.Messages.{MessageData}
-use Rattle.body_parts.proofs.BodyLaws.{added_whole}
+use Rattle.body_parts.proofs.WholeLemmas.{bodies_whole}
 use Rattle.body_parts.proofs.StepLemmas.{turn_whole}
 use Rattle.email_objects.specs.EmailObjects.{AddsBody}
 use Rattle.email_objects.specs.Facts.{FactsData}
@@ -85,7 +85,7 @@ body_whole m asked before after h g = by (needs_body asked) m h
   where
     by : (b : Bool) (m : Option MessageData) → MatchBool b (IsSomeAnd m (λ m. AddsBodyProperties m asked before after)) (after ≡ before) → members_have_float after ≡ false
     by true None h = absurd h
-    by true (Some m) h = added_whole m asked before after h g
+    by true (Some m) h = bodies_whole m asked before after h g
     by false m h = ap members_have_float h ∙ g
 
 -- no number of an object has a fraction

@@ -6,11 +6,9 @@ ghost use Rattle.email_properties.specs.Wanted as wants;
 ghost use Rattle.email_properties.specs.Wanted.{email_asked};
 ghost use Rattle.body_parts.specs.Messages.{message_data};
 ghost use Rattle.email_objects.specs.EmailObjects.{AddsBody};
-ghost use Rattle.email_objects.specs.Facts.{row_blob_id, row_message};
 
 use body_parts::{Message, put_body_properties};
 use email_properties::{EmailWanted, needs_body};
-use mail_maps::EmailRow;
 use serde_json::{Map, Value};
 use std::alloc::{AllocError, Global};
 

@@ -11,7 +11,7 @@ ghost use Rattle.email_objects.specs.Facts.{row_blob_id};
 ghost use Rattle.email_objects.specs.reading.RowMembers.{TellsRow};
 
 use crate::bodies::{put_body, put_row_body};
-use crate::facts::{Facts, message_facts, row_facts};
+use crate::facts::{message_facts, row_facts};
 use crate::properties::{put_properties, put_property};
 use body_parts::Message;
 use email_properties::{EmailProperty, EmailWanted};
