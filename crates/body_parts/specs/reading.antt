@@ -1,0 +1,6 @@
+-- What private clauses and proofs read: texts before their line ends are looked at, leaves that are fetched or
+-- referred to, messages that the code has read.
+pub mod Decoded
+pub mod Fetching
+pub mod LeafLists
+pub mod Readings
