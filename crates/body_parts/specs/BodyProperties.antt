@@ -1,7 +1,7 @@
 -- The properties of an Email that its body gives (RFC 8621 section 4.1.4).
 use Rattle.std.specs.Prelude.{◌≡◌, ℕ, List, [], ◌∷◌}
 use Rattle.std.specs.List.{filter}
-use Rattle.serde_json.specs.Data.{Data, boolean, array, object, Members, no_members, put}
+use Rattle.serde_json.specs.Data.{Data, boolean, array, object, Members, put}
 use Rattle.serde_json.specs.View.{items_of}
 use Rattle.email_properties.specs.EmailProperties.{email_key, is_of_body}
 use Rattle.email_properties.specs.Wanted.{BodyAsked, EmailAsked}
@@ -13,11 +13,12 @@ use Rattle.mime_tree.specs.declared.part.Part.{Part}
 use Rattle.mime_tree.specs.BodyLists.{AreBodyLists}
 use Rattle.mime_tree.specs.Trees.{IsMessage}
 use Rattle.json_texts.specs.Texts.{text_data}
-use Rattle.body_parts.specs.BodyValues.{AddsValues, has_value}
+use Rattle.body_parts.specs.BodyValues.{AreValues}
 use Rattle.body_parts.specs.Leaves.{AreLeaves}
 use Rattle.body_parts.specs.Messages.{MessageData}
 use Rattle.body_parts.specs.PartObjects.{AreObjects}
 use Rattle.body_parts.specs.Previews.{IsPreview}
+use Rattle.body_parts.specs.Steps.{InTurn}
 
 -- a list of the objects of these parts
 abbrev pub IsListData : MessageData → List PartProperty → List Part → Data → Type 0
@@ -27,7 +28,7 @@ abbrev pub IsPreviewData : List ℕ → List Part → Data → Type 0
 IsPreviewData b ps d = (preview : List ℕ) × IsPreview b ps preview × (d ≡ text_data preview)
 
 abbrev pub AreValuesData : BodyAsked → BodyLists → List ℕ → List Part → Data → Type 0
-AreValuesData asked lists b leaves d = (values : Members) × AddsValues (has_value asked lists) asked.max_octets b leaves no_members values × (d ≡ object values)
+AreValuesData asked lists b leaves d = (values : Members) × AreValues asked lists b leaves values × (d ≡ object values)
 
 -- the octets as a message: the tree of its parts, the leaves of the tree, and the body lists
 pub record Reading (b : List ℕ) : Type 0 where
@@ -57,10 +58,6 @@ IsBodyProperty m asked p d = (read : Reading m.octets) × IsDataOf m asked read 
 abbrev pub PutsBodyProperty : MessageData → BodyAsked → EmailProperty → Members → Members → Type 0
 PutsBodyProperty m asked p before after = (d : Data) × IsBodyProperty m asked p d × (after ≡ put (email_key p) d before)
 
-abbrev pub PutsBodyProperties : MessageData → BodyAsked → List EmailProperty → Members → Members → Type 0
-PutsBodyProperties m asked [] before after = after ≡ before
-PutsBodyProperties m asked (p ∷ ps) before after = (one : Members) × PutsBodyProperty m asked p before one × PutsBodyProperties m asked ps one after
-
 -- those of the body among the properties that are asked, in the order asked
 abbrev pub AddsBodyProperties : MessageData → EmailAsked → Members → Members → Type 0
-AddsBodyProperties m asked before after = PutsBodyProperties m asked.body (filter is_of_body asked.properties) before after
+AddsBodyProperties m asked before after = InTurn (PutsBodyProperty m asked.body) (filter is_of_body asked.properties) before after

@@ -1,7 +1,6 @@
 -- The values of the texts of a message (RFC 8621 section 4.1.4, bodyValues), by part ids.
-use Rattle.std.specs.Prelude.{◌≡◌, ℕ, Bool, ◌&&◌, ◌||◌, ◌==◌, List, [], ◌∷◌, codes, decimal}
-use Rattle.std.specs.Bool.{MatchBool}
-use Rattle.std.specs.List.{list_any}
+use Rattle.std.specs.Prelude.{◌≡◌, ℕ, Bool, ◌&&◌, ◌||◌, ◌==◌, List, codes, decimal}
+use Rattle.std.specs.List.{filter, list_any}
 use Rattle.serde_json.specs.Data.{Data, boolean, object, Members, no_members, member, put}
 use Rattle.email_properties.specs.Wanted.{BodyAsked}
 use Rattle.mime_tree.specs.declared.lists.BodyLists.{BodyLists}
@@ -10,6 +9,7 @@ use Rattle.mime_tree.specs.Heads.{is_text}
 use Rattle.mime_tree.specs.Roles.{leaf_number, media}
 use Rattle.json_texts.specs.Texts.{text_data}
 use Rattle.body_parts.specs.Cuts.{IsBounded}
+use Rattle.body_parts.specs.Steps.{InTurn}
 use Rattle.body_parts.specs.Texts.{HasText}
 
 -- an EmailBodyValue
@@ -37,14 +37,6 @@ pub record PutsValue (most : ℕ) (b : List ℕ) (p : Part) (before after : Memb
   pub is_value : IsValueData most text problem value
   pub is : after ≡ put (decimal (leaf_number p)) value before
 
-abbrev pub PutsIf : Bool → ℕ → List ℕ → Part → Members → Members → Type 0
-PutsIf has most b p before after = MatchBool has (PutsValue most b p before after) (after ≡ before)
-
--- of these leaves of the octets b the values of those that have one, put to those before
-abbrev pub AddsValues : (Part → Bool) → ℕ → List ℕ → List Part → Members → Members → Type 0
-AddsValues has most b [] before after = after ≡ before
-AddsValues has most b (p ∷ ps) before after = (one : Members) × PutsIf (has p) most b p before one × AddsValues has most b ps one after
-
 -- ---- the values that are asked
 
 abbrev pub is_among : List ℕ → ℕ → Bool
@@ -58,3 +50,7 @@ is_fetched asked lists p =
 -- a leaf has a value where it is a text that is fetched
 abbrev pub has_value : BodyAsked → BodyLists → Part → Bool
 has_value asked lists p = is_text (media p) && is_fetched asked lists p
+
+-- the values of these leaves of the octets b
+abbrev pub AreValues : BodyAsked → BodyLists → List ℕ → List Part → Members → Type 0
+AreValues asked lists b leaves values = InTurn (PutsValue asked.max_octets b) (filter (has_value asked lists) leaves) no_members values

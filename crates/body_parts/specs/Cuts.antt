@@ -12,14 +12,19 @@ abbrev pub begins_character : List ℕ → Bool
 begins_character [] = true
 begins_character (c ∷ t) = not (is_continuation c)
 
--- the text is the front and the rest, between two characters, and the front has at most n octets
+-- the place between these two texts is before or behind a whole text, or between two characters of it
+abbrev pub is_between_characters : List ℕ → List ℕ → Bool
+is_between_characters [] rest = true
+is_between_characters (c ∷ front) rest = begins_character rest
+
+-- whole characters at the front of the text, of at most n octets
 pub record IsFront (n : ℕ) (text front : List ℕ) : Type 0 where
   pub rest : List ℕ
   pub whole : text ≡ front ++ rest
-  pub between : begins_character rest ≡ true
+  pub between : is_between_characters front rest ≡ true
   pub few : length front ≤ n
 
--- the longest run of whole characters at the front of the text that has at most n octets
+-- the longest such front
 pub record IsCut (n : ℕ) (text front : List ℕ) : Type 0 where
   pub is_front : IsFront n text front
   pub longest : (other : List ℕ) → IsFront n text other → length other ≤ length front

@@ -8,7 +8,6 @@ use Rattle.mime_tree.specs.Bodies.{HasLen}
 use Rattle.mime_tree.specs.Parts.{children, part_number}
 use Rattle.mime_tree.specs.Roles.{is_leaf, media}
 use Rattle.json_texts.specs.Texts.{text_data, optional_text}
-use Rattle.message_blobs.specs.BlobIds.{leaf_text}
 use Rattle.email_properties.specs.HeaderAsked.{HeaderAsked}
 use Rattle.email_properties.specs.PartProperties.{part_key}
 use Rattle.email_properties.specs.declared.part_property.PartProperty.{PartProperty}
@@ -16,8 +15,12 @@ use Rattle.email_properties.specs.declared.part_property.PartProperty.TheVariant
 use Rattle.field_values.specs.HeaderProperties.{headers_data, IsHeaderPropertyData}
 use Rattle.body_parts.specs.Languages.{IsLanguage}
 use Rattle.body_parts.specs.Messages.{MessageData}
+use Rattle.body_parts.specs.Steps.{InTurn}
 
 -- ---- one property
+
+abbrev pub leaf_text : ℕ → List ℕ
+leaf_text n = 45 ∷ decimal n
 
 -- the number of a leaf as a text; a multipart has none
 abbrev pub part_id : Option ℕ → Data
@@ -67,8 +70,7 @@ abbrev pub PutsProperty : MessageData → Part → PartProperty → Members → 
 PutsProperty m p asked before after = (d : Data) × IsPropertyData m p asked d × (after ≡ put (part_key asked) d before)
 
 abbrev pub PutsProperties : MessageData → Part → List PartProperty → Members → Members → Type 0
-PutsProperties m p [] before after = after ≡ before
-PutsProperties m p (asked ∷ more) before after = (one : Members) × PutsProperty m p asked before one × PutsProperties m p more one after
+PutsProperties m p asked before after = InTurn (PutsProperty m p) asked before after
 
 pub record OwnMembers (m : MessageData) (asked : List PartProperty) (p : Part) : Type 0 where
   pub members : Members

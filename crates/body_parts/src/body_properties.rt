@@ -7,7 +7,8 @@ ghost use Rattle.body_parts.specs.BodyProperties as spec;
 ghost use Rattle.body_parts.specs.BodyProperties.{AddsBodyProperties};
 ghost use Rattle.body_parts.specs.Messages.{message_data};
 ghost use Rattle.body_parts.specs.reading.LeafLists.{parts_of, parts_at};
-ghost use Rattle.body_parts.specs.reading.Readings.{IsOfBody, IsReadBody, PutsIfOfBody};
+ghost use Rattle.body_parts.specs.reading.Readings.{IsOfBody, IsReadBody};
+ghost use Rattle.body_parts.specs.reading.StepsIf.{StepIf};
 
 use crate::body_values::values_value;
 use crate::leaves::leaves_of;
@@ -97,7 +98,7 @@ fn put_property(
     property: &EmailProperty<'_>,
 ) -> Result<(), AllocError>
     requires { IsReadBody body.now }
-    ensures { OnOk result (PutsIfOfBody (message_data body.now.message.now) (body_asked asked.now) property.now (members_view members.old.entries) (members_view members.new.entries)) }
+    ensures { OnOk result (StepIf is_of_body (spec.PutsBodyProperty (message_data body.now.message.now) (body_asked asked.now)) property.now (members_view members.old.entries) (members_view members.new.entries)) }
 {
     match body_value(alloc, body, asked, property)? {
         None => Ok(()),

@@ -1,14 +1,16 @@
 // The values of the texts of a message (RFC 8621 section 4.1.4, bodyValues).
-ghost use Rattle.std.specs.Prelude.{◌≡◌, ◌||◌, ◌&&◌, ℕ, IfOk, OnOk};
+ghost use Rattle.std.specs.Prelude.{◌≡◌, ◌||◌, ◌&&◌, ◌==◌, ℕ, IfOk, OnOk};
 ghost use Rattle.std.specs.BTreeSet.{contains};
 ghost use Rattle.std.specs.Ordering.{nat_cmp};
 ghost use Rattle.serde_json.specs.View.{view, members_view};
 ghost use Rattle.email_properties.specs.Wanted.{body_asked};
 ghost use Rattle.mime_tree.specs.declared.part.Part.{Part};
 ghost use Rattle.mime_tree.specs.Parts.{IsWithin};
-ghost use Rattle.body_parts.specs.BodyValues as values;
+ghost use Rattle.body_parts.specs.BodyValues as spec;
 ghost use Rattle.body_parts.specs.BodyProperties.{AreValuesData};
 ghost use Rattle.body_parts.specs.reading.LeafLists.{parts_of, AreAllWithin};
+ghost use Rattle.body_parts.specs.reading.StepsIf.{StepIf};
+ghost use Rattle.body_parts.specs.Steps.{InTurn};
 ghost use Rattle.body_parts.specs.reading.Fetching.{is_fetched_in, has_value_in};
 
 use crate::cuts::bounded;
@@ -23,7 +25,7 @@ use std::collections::BTreeSet;
 
 /// An EmailBodyValue of at most that many octets of a text.
 fn value_of(alloc: Global, text: PartText, most: u64) -> Result<Value, AllocError>
-    ensures { IfOk result (λ v. values.IsValueData most text.text.items text.problem (view v)) }
+    ensures { IfOk result (λ v. spec.IsValueData most text.text.items text.problem (view v)) }
 {
     let PartText { text, problem } = text;
     let (front, truncated) = bounded(text, most);
@@ -44,7 +46,7 @@ fn put_text(
     most: u64,
 ) -> Result<(), AllocError>
     requires { IsWithin part.now octets.now }
-    ensures { OnOk result (values.PutsValue most octets.now part.now (members_view values.old.entries) (members_view values.new.entries)) }
+    ensures { OnOk result (spec.PutsValue most octets.now part.now (members_view values.old.entries) (members_view values.new.entries)) }
 {
     let text = text_of(alloc, octets, part)?;
     let value = value_of(alloc, text, most)?;
@@ -62,19 +64,22 @@ pub(crate) struct Fetched {
     pub numbers: BTreeSet<u64>,
 }
 
+fn add_number(fetched: &mut BTreeSet<u64>, number: u64) -> Result<(), AllocError>
+    ensures { OnOk result ((n : ℕ) → contains nat_cmp fetched.new n ≡ (contains nat_cmp fetched.old n || number == n)) }
+{
+    fetched.insert(number)?;
+    Ok(())
+}
+
 /// Adds the numbers to those whose values are fetched, where that is asked.
-fn add_numbers(
-    fetched: &mut BTreeSet<u64>,
-    asked: bool,
-    numbers: &[u64],
-) -> Result<(), AllocError>
-    ensures { OnOk result ((n : ℕ) → contains nat_cmp fetched.new n ≡ (contains nat_cmp fetched.old n || (asked && values.is_among numbers.now n))) }
+fn add_numbers(fetched: &mut BTreeSet<u64>, asked: bool, numbers: &[u64]) -> Result<(), AllocError>
+    ensures { OnOk result ((n : ℕ) → contains nat_cmp fetched.new n ≡ (contains nat_cmp fetched.old n || (asked && spec.is_among numbers.now n))) }
 {
     if !asked {
         return Ok(());
     }
     for number in numbers {
-        fetched.insert(*number)?;
+        add_number(fetched, *number)?;
     }
     Ok(())
 }
@@ -85,7 +90,7 @@ fn fetched_of(
     asked: &BodyWanted<'_>,
     lists: &BodyLists,
 ) -> Result<Fetched, AllocError>
-    ensures { IfOk result (λ f. (p : Part) → is_fetched_in f p ≡ values.is_fetched (body_asked asked.now) lists.now p) }
+    ensures { IfOk result (λ f. (p : Part) → is_fetched_in f p ≡ spec.is_fetched (body_asked asked.now) lists.now p) }
 {
     let mut numbers = BTreeSet::new(alloc);
     add_numbers(&mut numbers, asked.text_values, lists.text.as_slice())?;
@@ -112,7 +117,7 @@ fn put_value(
     most: u64,
 ) -> Result<(), AllocError>
     requires { IsWithin part.now octets.now }
-    ensures { OnOk result (values.PutsIf (has_value_in fetched.now part.now) most octets.now part.now (members_view values.old.entries) (members_view values.new.entries)) }
+    ensures { OnOk result (StepIf (has_value_in fetched.now) (spec.PutsValue most octets.now) part.now (members_view values.old.entries) (members_view values.new.entries)) }
 {
     if is_text(part.media.as_slice()) && is_fetched(fetched, part) {
         return put_text(values, alloc, octets, part, most);
@@ -130,7 +135,7 @@ fn put_values(
     most: u64,
 ) -> Result<(), AllocError>
     requires { AreAllWithin octets.now (parts_of leaves.now) }
-    ensures { OnOk result (values.AddsValues (has_value_in fetched.now) most octets.now (parts_of leaves.now) (members_view values.old.entries) (members_view values.new.entries)) }
+    ensures { OnOk result (InTurn (StepIf (has_value_in fetched.now) (spec.PutsValue most octets.now)) (parts_of leaves.now) (members_view values.old.entries) (members_view values.new.entries)) }
 {
     for part in leaves {
         put_value(values, alloc, octets, *part, fetched, most)?;
@@ -151,6 +156,13 @@ pub(crate) fn values_value(
 {
     let fetched = fetched_of(alloc, asked, lists)?;
     let mut values = Map::new(alloc);
-    put_values(&mut values, alloc, octets, leaves, &fetched, asked.max_octets)?;
+    put_values(
+        &mut values,
+        alloc,
+        octets,
+        leaves,
+        &fetched,
+        asked.max_octets,
+    )?;
     Ok(Value::Object(values))
 }

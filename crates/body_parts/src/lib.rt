@@ -2,19 +2,19 @@
 #![tactic(auto)]
 
 // Messages and their leaves.
-pub mod message;
 mod leaves;
+pub mod message;
 
 // Objects of parts.
 mod languages;
-mod part_values;
 mod part_objects;
+mod part_values;
 
 // Texts of parts.
-mod texts;
+mod body_values;
 mod cuts;
 mod previews;
-mod body_values;
+mod texts;
 
 // The properties.
 mod body_properties;

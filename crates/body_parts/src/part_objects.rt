@@ -6,7 +6,7 @@ ghost use Rattle.mime_tree.specs.Parts.{IsWithin};
 ghost use Rattle.body_parts.specs.Messages.{message_data};
 ghost use Rattle.body_parts.specs.PartObjects as objects;
 ghost use Rattle.body_parts.specs.PartObjects.{AreObjects};
-ghost use Rattle.body_parts.specs.reading.LeafLists.{parts_of, parts_at, AreWithin, IsAllWithin, AreAllWithin};
+ghost use Rattle.body_parts.specs.reading.LeafLists.{parts_of, parts_at, IsAllWithin, AreAllWithin};
 
 use crate::leaves::leaf_at;
 use crate::message::Message;

@@ -5,7 +5,7 @@ ghost use Rattle.serde_json.specs.View.{view};
 ghost use Rattle.mail_header.specs.Fields.{names_and_raws};
 ghost use Rattle.mime_tree.specs.Parts.{IsWithin};
 ghost use Rattle.json_texts.specs.Texts.{text_data};
-ghost use Rattle.message_blobs.specs.BlobIds.{leaf_text};
+ghost use Rattle.body_parts.specs.PartObjects.{leaf_text};
 ghost use Rattle.email_properties.specs.declared.part_property.PartProperty.TheVariants as property;
 ghost use Rattle.body_parts.specs.Messages.{message_data};
 ghost use Rattle.body_parts.specs.PartObjects as objects;
@@ -16,7 +16,6 @@ use email_properties::{HeaderProperty, PartProperty};
 use field_values::{header_property, headers_value};
 use json_texts::{optional_text_value, owned_text_value, text_value};
 use mail_header::{Fields, fields};
-use message_blobs::LEAF_MARK;
 use mime_tree::{Part, part_len};
 use serde_json::Value;
 use std::alloc::{AllocError, Global};
@@ -39,18 +38,14 @@ fn leaf_id_value(alloc: Global, id: &[u8], number: u64) -> Result<Value, AllocEr
     let len = id.len().saturating_add(number.len()).saturating_add(1);
     let mut text = Vec::with_capacity(alloc, len)?;
     text.extend_from_slice(id)?;
-    text.push(LEAF_MARK)?;
+    text.push(b'-')?;
     text.extend_from_slice(number.as_bytes())?;
     owned_text_value(alloc, text)
 }
 
 /// The blob id of a part of this number, or null.
-fn blob_id_value(
-    alloc: Global,
-    id: Option<&[u8]>,
-    number: Option<u64>,
-) -> Result<Value, AllocError>
-    ensures { IfOk result (λ v. view v ≡ objects.part_blob_id (option_copied id) number) }
+fn blob_id_value(alloc: Global, id: Option<&[u8]>, number: Option<u64>) -> Result<Value, AllocError>
+    ensures { IfOk result (λ v. view v ≡ objects.part_blob_id (option_copied id.entry) number) }
 {
     let Some(id) = id else {
         return Ok(Value::Null);
@@ -70,11 +65,7 @@ fn size_value(octets: &[u8], part: &Part) -> Value
 }
 
 /// The fields of a part's own header.
-fn own_fields<'a>(
-    alloc: Global,
-    octets: &'a [u8],
-    part: &Part,
-) -> Result<Fields<'a>, AllocError>
+fn own_fields<'a>(alloc: Global, octets: &'a [u8], part: &Part) -> Result<Fields<'a>, AllocError>
     requires { IsWithin part.now octets.now }
     ensures { IfOk result (λ f. objects.HasHeader octets.now part.now (names_and_raws f)) }
 {

@@ -1,7 +1,6 @@
 -- Messages that the code has read.
 use Rattle.std.specs.Prelude.{◌≡◌, true, List, [], ◌∷◌}
-use Rattle.std.specs.Bool.{MatchBool}
-use Rattle.serde_json.specs.Data.{Data, Members}
+use Rattle.serde_json.specs.Data.{Data}
 use Rattle.email_properties.specs.EmailProperties.{is_of_body}
 use Rattle.email_properties.specs.Wanted.{BodyAsked}
 use Rattle.email_properties.specs.declared.email_property.EmailProperty.{EmailProperty}
@@ -9,7 +8,7 @@ use Rattle.mime_tree.specs.declared.part.Part.{Part}
 use Rattle.mime_tree.specs.BodyLists.{AreBodyLists}
 use Rattle.mime_tree.specs.Trees.{IsMessage}
 use Rattle.body_parts.specs.declared.body_properties.Body.{Body}
-use Rattle.body_parts.specs.BodyProperties.{IsBodyProperty, PutsBodyProperty}
+use Rattle.body_parts.specs.BodyProperties.{IsBodyProperty}
 use Rattle.body_parts.specs.Leaves.{AreLeaves}
 use Rattle.body_parts.specs.Messages.{MessageData}
 use Rattle.body_parts.specs.reading.LeafLists.{parts_of, IsAllWithin}
@@ -24,7 +23,3 @@ pub record IsReadBody (body : Body) : Type 0 where
 -- the data of a property, which is one of the body
 abbrev pub IsOfBody : MessageData → BodyAsked → EmailProperty → Data → Type 0
 IsOfBody m asked p d = (is_of_body p ≡ true) × IsBodyProperty m asked p d
-
--- a property of the body is put, and another isn't
-abbrev pub PutsIfOfBody : MessageData → BodyAsked → EmailProperty → Members → Members → Type 0
-PutsIfOfBody m asked p before after = MatchBool (is_of_body p) (PutsBodyProperty m asked p before after) (after ≡ before)
