@@ -5,3 +5,4 @@ pub mod CutLemmas
 pub mod LeafLemmas
 pub mod ObjectLemmas
 pub mod ValueLemmas
+pub mod SizeLemmas

@@ -3,7 +3,7 @@ use Rattle.std.proofs.Common.{Bor, ◌≡◌, ℕ, zero, suc, ◌+◌, ◌-◌, 
 use Rattle.std.proofs.Common.{Option, Some, None}
 use Rattle.std.specs.Prelude.{slice_get, option_to_list, Contains}
 use Rattle.std.proofs.lemmas.List.{append-nil, take_more}
-use Rattle.serde_json.specs.Data.{Data}
+use Rattle.serde_json.specs.Data.{Data, object, Members, no_members}
 use Rattle.email_properties.specs.declared.part_property.PartProperty.{PartProperty}
 use Rattle.mime_tree.specs.declared.part.Part.{Part}
 use Rattle.mime_tree.specs.Parts.{children, IsUnder, IsWithin, Itself, Below}
@@ -12,7 +12,7 @@ use Rattle.body_parts.specs.Leaves as leaves
 use Rattle.body_parts.specs.Leaves.{AreLeaves}
 use Rattle.body_parts.specs.Messages.{MessageData}
 use Rattle.body_parts.specs.PartObjects as objects
-use Rattle.body_parts.specs.PartObjects.{AreObjects}
+use Rattle.body_parts.specs.PartObjects.{AreObjects, PutsProperties, with_sub_parts}
 use Rattle.body_parts.specs.reading.LeafLists.{parts_of, parts_at, part_at, Gathers, IsAllWithin, AreAllWithin}
 use Rattle.body_parts.proofs.LeafLemmas.{AreFrom, AllIn, place}
 
@@ -95,6 +95,12 @@ within_ref b [] i r h lt = absurd (omega arith)
 within_ref b (x ∷ refs) zero r h lt = h.0
 within_ref b (x ∷ refs) (suc i) r h lt = within_ref b refs i r h.1 (omega arith)
 
+-- the part at a place is that of the reference there
+pub there_ref : (refs : List (Bor Part)) (i : ℕ) (r : Bor Part) (p : Part) → i < length refs → get_or (parts_of refs) i p ≡ (get_or refs i r).now
+there_ref [] i r p lt = absurd (omega arith)
+there_ref (x ∷ refs) zero r p lt = refl
+there_ref (x ∷ refs) (suc i) r p lt = there_ref refs i r p (omega arith)
+
 -- ---- by numbers
 
 there : (ls : List Part) (n : ℕ) → AreFrom 1 ls n → (p : Part) → AllIn (p ∷ []) ls → part_at ls (leaf_number p) ≡ Some p
@@ -130,11 +136,27 @@ module _ (m : MessageData) (asked : List PartProperty) where
   objects_both _ qs _ es (objects.Multi p ps inner behind own no_leaf kids rest) more =
       objects.Multi p (ps ++ qs) inner (behind ++ es) own no_leaf kids (objects_both ps qs behind es rest more)
 
+  -- no parts have no objects
+  pub no_objects : (ds : List Data) → ds ≡ [] → AreObjects m asked [] ds
+  no_objects ds e = subst (λ (u : List Data). AreObjects m asked [] u) (sym e) objects.End
+
+  -- the object of a leaf
+  pub leaf_object : (p : Part) (ms : Members) (d : Data) → is_leaf p ≡ true → PutsProperties m p asked no_members ms → d ≡ object ms → AreObjects m asked (p ∷ []) (d ∷ [])
+  leaf_object p ms d leaf puts is =
+      subst (λ (u : Data). AreObjects m asked (p ∷ []) (u ∷ [])) (sym is) (objects.Leaf p [] [] (record { members = ms; are = puts }) leaf objects.End)
+
+  -- that of a multipart
+  pub multi_object : (p : Part) (ms : Members) (inner : List Data) (d : Data) → is_leaf p ≡ false → PutsProperties m p asked no_members ms → AreObjects m asked (children p) inner
+      → d ≡ object (with_sub_parts inner ms) → AreObjects m asked (p ∷ []) (d ∷ [])
+  multi_object p ms inner d no_leaf puts kids is =
+      subst (λ (u : Data). AreObjects m asked (p ∷ []) (u ∷ [])) (sym is) (objects.Multi p [] inner [] (record { members = ms; are = puts }) no_leaf kids objects.End)
+
   -- with one part more, its object is one more
-  pub objects_next : (ps : List Part) (i : ℕ) (p : Part) (ds : List Data) (d : Data) → i < length ps → AreObjects m asked (take i ps) ds
-      → AreObjects m asked (get_or ps i p ∷ []) (d ∷ []) → AreObjects m asked (take (i + 1) ps) (ds ++ d ∷ [])
-  objects_next ps i p ds d lt all one =
-      subst (λ (u : List Part). AreObjects m asked u (ds ++ d ∷ [])) (sym (take_more ps i p lt)) (objects_both (take i ps) (get_or ps i p ∷ []) ds (d ∷ []) all one)
+  pub objects_next : (ps : List Part) (i : ℕ) (p : Part) (ds : List Data) (d : Data) (after : List Data) → i < length ps → AreObjects m asked (take i ps) ds
+      → AreObjects m asked (get_or ps i p ∷ []) (d ∷ []) → after ≡ ds ++ d ∷ [] → AreObjects m asked (take (i + 1) ps) after
+  objects_next ps i p ds d after lt all one is =
+      subst (λ (u : List Data). AreObjects m asked (take (i + 1) ps) u) (sym is)
+      (subst (λ (u : List Part). AreObjects m asked u (ds ++ d ∷ [])) (sym (take_more ps i p lt)) (objects_both (take i ps) (get_or ps i p ∷ []) ds (d ∷ []) all one))
 
   -- where a number more has a leaf, the leaf's object is one more
   pub objects_more : (ls : List Part) (ns : List ℕ) (i : ℕ) (p : Part) (ds : List Data) (d : Data) → i < length ns → part_at ls (get_or ns i 0) ≡ Some p

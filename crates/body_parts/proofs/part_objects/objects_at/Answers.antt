@@ -6,12 +6,15 @@ use Rattle.serde_json.specs.declared.value.Value.{Value}
 use Rattle.body_parts.specs.Messages.{message_data}
 use Rattle.body_parts.specs.PartObjects.{AreObjects}
 use Rattle.body_parts.specs.reading.LeafLists.{parts_of, parts_at}
-use Rattle.body_parts.proofs.ObjectLemmas.{within_there, objects_more, objects_same}
+use Rattle.body_parts.proofs.ObjectLemmas.{within_there, no_objects, objects_more, objects_same}
 use Rattle.body_parts.proofs.part_objects.objects_at.Goals as goal
 use Rattle.body_parts.proofs.part_objects.objects_at.Goals.{in-None, in-Some+in_ok-part_object-in-Some+in_ok-push-in-Some}
 
 pub part_object-requires : goal.part_object-requires
 part_object-requires c = within_there c.args.message.now.octets.now (parts_of c.args.leaves.now) _ c.in-Some.part.now c.requires c.in-Some.ensures
+
+pub loop-number-init : goal.loop-number-init
+loop-number-init c = no_objects (message_data c.args.message.now) c.args.asked.now _ (ap (λ (vs : List Value). map view vs) c.in_ok-objects.ensures.items)
 
 pub loop-number-preserved : goal.loop-number-preserved
 loop-number-preserved c =
