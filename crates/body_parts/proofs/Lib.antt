@@ -6,3 +6,4 @@ pub mod LeafLemmas
 pub mod ObjectLemmas
 pub mod ValueLemmas
 pub mod SizeLemmas
+pub mod BodyLemmas

@@ -10,5 +10,5 @@ use Rattle.body_parts.proofs.body_properties.put_properties.Given as goal
 
 abbrev pub invariant-loop-property : goal.invariant-loop-property
 invariant-loop-property l =
-    InTurn (StepIf is_of_body (PutsBodyProperty (message_data l.body.message.now) (body_asked l.wanted.body))) (take l.property-index l.wanted.properties.items)
+    InTurn (StepIf is_of_body (PutsBodyProperty (message_data l.body.message.now) (body_asked l.wanted.body))) (take l.property-index l.property-items)
     (members_view l.fn.members.entries) (members_view l.members.entries)
