@@ -7,3 +7,6 @@ pub mod ObjectLemmas
 pub mod ValueLemmas
 pub mod SizeLemmas
 pub mod BodyLemmas
+pub mod KinLemmas
+pub mod WholeLemmas
+pub mod OneBody
