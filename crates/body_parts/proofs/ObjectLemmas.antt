@@ -6,7 +6,7 @@ use Rattle.std.proofs.lemmas.List.{append-nil, take_more}
 use Rattle.serde_json.specs.Data.{Data, object, Members, no_members}
 use Rattle.email_properties.specs.declared.part_property.PartProperty.{PartProperty}
 use Rattle.mime_tree.specs.declared.part.Part.{Part}
-use Rattle.mime_tree.specs.Parts.{children, IsUnder, IsWithin, Itself, Below}
+use Rattle.mime_tree.specs.Parts.{children, IsWithin, Itself, Below}
 use Rattle.mime_tree.specs.Roles.{is_leaf, leaf_number}
 use Rattle.body_parts.specs.Leaves as leaves
 use Rattle.body_parts.specs.Leaves.{AreLeaves}

@@ -1,5 +1,5 @@
 -- No message has two data of one property of its body.
-use Rattle.std.proofs.Common.{◌≡◌, ◌∙◌, ℕ, zero, suc, ◌≤◌, Bool, true, false, cond, ◌||◌, List, [], ◌∷◌, ◌++◌, length, refl, sym, ap, subst, arith, Option, is_some}
+use Rattle.std.proofs.Common.{◌≡◌, ◌∙◌, ℕ, Bool, true, false, cond, ◌||◌, List, [], ◌∷◌, ◌++◌, length, refl, sym, ap, subst, arith, Option, is_some}
 use Rattle.std.proofs.Common.{None, Some}
 use Rattle.std.specs.Prelude.{slice_range, unwrap_or, codes, decimal, nat_lt, ◌&&◌, ◌==◌}
 use Rattle.std.specs.Bool.{MatchBool}
@@ -18,7 +18,6 @@ use Rattle.mail_header.specs.Fields.{NameAndRaw, IsHeader}
 use Rattle.mail_header.proofs.FieldLemmas.{one_header}
 use Rattle.json_texts.specs.Texts.{optional_text, text_data, text_list}
 use Rattle.email_properties.specs.EmailProperties.{email_key, is_of_body}
-use Rattle.email_properties.specs.HeaderAsked.{HeaderAsked}
 use Rattle.email_properties.specs.PartProperties.{part_key}
 use Rattle.email_properties.specs.Wanted.{BodyAsked, EmailAsked}
 use Rattle.email_properties.specs.declared.email_property.EmailProperty.{EmailProperty}
@@ -34,11 +33,11 @@ use Rattle.mime_tree.specs.Bodies.{encoding_by, HasLen, HasOctets}
 use Rattle.mime_tree.specs.BodyLists.{start}
 use Rattle.mime_tree.specs.Heads.{is_text, us_ascii}
 use Rattle.mime_tree.specs.Parts.{children}
-use Rattle.mime_tree.specs.Roles.{leaf_number, media, is_plain_part}
+use Rattle.mime_tree.specs.Roles.{leaf_number, is_plain_part}
 use Rattle.mime_tree.specs.SameTrees.{AllSame}
 use Rattle.mime_tree.proofs.OneTree.{one_message}
 use Rattle.mime_tree.proofs.SameWalks.{same_lists}
-use Rattle.body_parts.specs.BodyProperties.{AddsBodyProperties, AreValuesData, IsBodyProperty, IsDataOf, IsListData, IsPreviewData, PutsBodyProperty, Reading}
+use Rattle.body_parts.specs.BodyProperties.{AddsBodyProperties, AreValuesData, IsBodyProperty, IsDataOf, IsListData, PutsBodyProperty, Reading}
 use Rattle.body_parts.specs.BodyValues.{has_value, IsValueData, is_among, is_fetched, PutsValue, value_data}
 use Rattle.body_parts.specs.Cuts.{IsBounded, IsCut}
 use Rattle.body_parts.specs.Languages.{IsLanguage, tags}

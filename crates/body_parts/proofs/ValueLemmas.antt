@@ -1,5 +1,5 @@
 -- The first plain text, and values that are fetched.
-use Rattle.std.proofs.Common.{Bor, add-one, drop, drop-cons, ◌≡◌, ℕ, ◌+◌, ◌<◌, Bool, true, false, ◌||◌, List, [], ◌∷◌, ◌++◌, length, take, get_or, refl, sym, ap, ◌∙◌, subst, arith}
+use Rattle.std.proofs.Common.{add-one, drop, drop-cons, ◌≡◌, ℕ, ◌+◌, ◌<◌, Bool, true, false, ◌||◌, List, [], ◌∷◌, ◌++◌, length, take, get_or, refl, sym, ap, ◌∙◌, subst}
 use Rattle.std.proofs.Common.{Option, Some, None}
 use Rattle.std.specs.Prelude.{option_to_list, ◌==◌}
 use Rattle.std.specs.Bool.{MatchBool}
@@ -10,7 +10,7 @@ use Rattle.mime_tree.specs.declared.part.Part.{Part}
 use Rattle.mime_tree.specs.Roles.{is_plain_part}
 use Rattle.body_parts.specs.BodyValues.{is_among}
 use Rattle.body_parts.specs.Previews.{IsPreviewOf, IsPreview}
-use Rattle.body_parts.specs.reading.LeafLists.{parts_at, part_at, IsFirstPlain}
+use Rattle.body_parts.specs.reading.LeafLists.{parts_at, part_at}
 
 at_here : (ls : List Part) (ns : List ℕ) (i : ℕ) (o : Option Part) → i < length ns → part_at ls (get_or ns i 0) ≡ o
     → parts_at ls (drop i ns) ≡ option_to_list o ++ parts_at ls (drop (i + 1) ns)

@@ -8,6 +8,7 @@ use Rattle.mime_tree.specs.Bodies.{HasLen}
 use Rattle.mime_tree.specs.Parts.{children, part_number}
 use Rattle.mime_tree.specs.Roles.{is_leaf, media}
 use Rattle.json_texts.specs.Texts.{text_data, optional_text}
+use Rattle.message_blobs.specs.BlobIds.{leaf_text}
 use Rattle.email_properties.specs.HeaderAsked.{HeaderAsked}
 use Rattle.email_properties.specs.PartProperties.{part_key}
 use Rattle.email_properties.specs.declared.part_property.PartProperty.{PartProperty}
@@ -18,9 +19,6 @@ use Rattle.body_parts.specs.Messages.{MessageData}
 use Rattle.body_parts.specs.Steps.{InTurn}
 
 -- ---- one property
-
-abbrev pub leaf_text : ℕ → List ℕ
-leaf_text n = 45 ∷ decimal n
 
 -- the number of a leaf as a text; a multipart has none
 abbrev pub part_id : Option ℕ → Data

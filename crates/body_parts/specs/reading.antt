@@ -3,5 +3,6 @@
 pub mod Decoded
 pub mod Fetching
 pub mod LeafLists
+pub mod OwnHeaders
 pub mod Readings
 pub mod StepsIf

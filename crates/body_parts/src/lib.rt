@@ -7,6 +7,7 @@ pub mod message;
 
 // Objects of parts.
 mod languages;
+mod own_headers;
 mod part_objects;
 mod part_values;
 

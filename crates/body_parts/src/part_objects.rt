@@ -2,16 +2,20 @@
 ghost use Rattle.std.specs.Prelude.{◌≡◌, ◌∷◌, [], IfOk, OnOk, map};
 ghost use Rattle.serde_json.specs.Data.{no_members, object};
 ghost use Rattle.serde_json.specs.View.{view, members_view};
+ghost use Rattle.mail_header.specs.Fields.{names_and_raws};
 ghost use Rattle.mime_tree.specs.Parts.{IsWithin};
 ghost use Rattle.body_parts.specs.Messages.{message_data};
 ghost use Rattle.body_parts.specs.PartObjects as objects;
 ghost use Rattle.body_parts.specs.PartObjects.{AreObjects};
 ghost use Rattle.body_parts.specs.reading.LeafLists.{parts_of, parts_at, IsAllWithin, AreAllWithin};
+ghost use Rattle.body_parts.specs.reading.OwnHeaders.{HasHeaderIf, is_of_header};
 
 use crate::leaves::leaf_at;
 use crate::message::Message;
+use crate::own_headers::own_fields;
 use crate::part_values::property_value;
 use email_properties::{PartProperty, part_key};
+use mail_header::Fields;
 use mime_tree::Part;
 use serde_json::{Map, Value, put};
 use std::alloc::{AllocError, Global};
@@ -22,16 +26,18 @@ fn put_property(
     alloc: Global,
     message: &Message<'_>,
     part: &Part,
+    fields: &Fields<'_>,
     property: &PartProperty<'_>,
 ) -> Result<(), AllocError>
-    requires { IsWithin part.now message.now.octets.now }
+    requires within { IsWithin part.now message.now.octets.now }
+    requires header { HasHeaderIf (is_of_header property.now) message.now.octets.now part.now (names_and_raws fields.now) }
     ensures { OnOk result (objects.PutsProperty (message_data message.now) part.now property.now (members_view members.old.entries) (members_view members.new.entries)) }
 {
-    let value = property_value(alloc, message, part, property)?;
+    let value = property_value(alloc, message, part, fields, property)?;
     put(members, alloc, part_key(property), value)
 }
 
-/// The asked properties of a part, but for the parts in it.
+/// The asked properties of a part, but for the parts in it. Its header is read once, where one of them needs it.
 fn own_members(
     alloc: Global,
     message: &Message<'_>,
@@ -41,9 +47,10 @@ fn own_members(
     requires { IsWithin part.now message.now.octets.now }
     ensures { IfOk result (λ ms. objects.PutsProperties (message_data message.now) part.now asked.now no_members (members_view ms.entries)) }
 {
+    let fields = own_fields(alloc, message.octets, part, asked)?;
     let mut members = Map::new(alloc);
     for property in asked {
-        put_property(&mut members, alloc, message, part, property)?;
+        put_property(&mut members, alloc, message, part, &fields, property)?;
     }
     Ok(members)
 }

@@ -5,17 +5,19 @@ ghost use Rattle.serde_json.specs.View.{view};
 ghost use Rattle.mail_header.specs.Fields.{names_and_raws};
 ghost use Rattle.mime_tree.specs.Parts.{IsWithin};
 ghost use Rattle.json_texts.specs.Texts.{text_data};
-ghost use Rattle.body_parts.specs.PartObjects.{leaf_text};
+ghost use Rattle.message_blobs.specs.BlobIds.{leaf_text};
 ghost use Rattle.email_properties.specs.declared.part_property.PartProperty.TheVariants as property;
 ghost use Rattle.body_parts.specs.Messages.{message_data};
 ghost use Rattle.body_parts.specs.PartObjects as objects;
+ghost use Rattle.body_parts.specs.reading.OwnHeaders.{HasHeaderIf, is_of_header};
 
 use crate::languages::language_value;
 use crate::message::Message;
-use email_properties::{HeaderProperty, PartProperty};
+use email_properties::PartProperty;
 use field_values::{header_property, headers_value};
 use json_texts::{optional_text_value, owned_text_value, text_value};
-use mail_header::{Fields, fields};
+use mail_header::Fields;
+use message_blobs::LEAF_MARK;
 use mime_tree::{Part, part_len};
 use serde_json::Value;
 use std::alloc::{AllocError, Global};
@@ -38,7 +40,7 @@ fn leaf_id_value(alloc: Global, id: &[u8], number: u64) -> Result<Value, AllocEr
     let len = id.len().saturating_add(number.len()).saturating_add(1);
     let mut text = Vec::with_capacity(alloc, len)?;
     text.extend_from_slice(id)?;
-    text.push(b'-')?;
+    text.push(LEAF_MARK)?;
     text.extend_from_slice(number.as_bytes())?;
     owned_text_value(alloc, text)
 }
@@ -64,45 +66,17 @@ fn size_value(octets: &[u8], part: &Part) -> Value
     Value::from(part_len(octets, part) as u64)
 }
 
-/// The fields of a part's own header.
-fn own_fields<'a>(alloc: Global, octets: &'a [u8], part: &Part) -> Result<Fields<'a>, AllocError>
-    requires { IsWithin part.now octets.now }
-    ensures { IfOk result (λ f. objects.HasHeader octets.now part.now (names_and_raws f)) }
-{
-    fields(alloc, &octets[part.head_start..part.end])
-}
-
-/// The fields of a part's own header as EmailHeader objects.
-fn own_headers(alloc: Global, octets: &[u8], part: &Part) -> Result<Value, AllocError>
-    requires { IsWithin part.now octets.now }
-    ensures { IfOk result (λ v. objects.IsHeadersData octets.now part.now (view v)) }
-{
-    let fields = own_fields(alloc, octets, part)?;
-    headers_value(alloc, &fields)
-}
-
-/// A property `header:{name}` of a part's own header.
-fn own_header(
-    alloc: Global,
-    octets: &[u8],
-    part: &Part,
-    asked: &HeaderProperty<'_>,
-) -> Result<Value, AllocError>
-    requires { IsWithin part.now octets.now }
-    ensures { IfOk result (λ v. objects.IsHeaderData octets.now part.now asked.now (view v)) }
-{
-    let fields = own_fields(alloc, octets, part)?;
-    header_property(alloc, &fields, asked)
-}
-
-/// The data of a property of a part of the message, but for the parts in it.
+/// The data of a property of a part of the message, but for the parts in it. The fields are those of the part's own header, where the
+/// property needs them.
 pub(crate) fn property_value(
     alloc: Global,
     message: &Message<'_>,
     part: &Part,
+    fields: &Fields<'_>,
     property: &PartProperty<'_>,
 ) -> Result<Value, AllocError>
-    requires { IsWithin part.now message.now.octets.now }
+    requires within { IsWithin part.now message.now.octets.now }
+    requires header { HasHeaderIf (is_of_header property.now) message.now.octets.now part.now (names_and_raws fields.now) }
     ensures { IfOk result (λ v. objects.IsPropertyData (message_data message.now) part.now property.now (view v)) }
 {
     match property {
@@ -117,7 +91,7 @@ pub(crate) fn property_value(
         PartProperty::Language => language_value(alloc, &part.language),
         PartProperty::Location => optional_text_value(alloc, &part.location),
         PartProperty::SubParts => Ok(Value::Null),
-        PartProperty::Headers => own_headers(alloc, message.octets, part),
-        PartProperty::Header(asked) => own_header(alloc, message.octets, part, asked),
+        PartProperty::Headers => headers_value(alloc, fields),
+        PartProperty::Header(asked) => header_property(alloc, fields, asked),
     }
 }

@@ -1,5 +1,5 @@
 -- Leaves that the code holds, and those that lists name by their numbers.
-use Rattle.std.specs.Prelude.{◌≡◌, ℕ, ◌-◌, true, List, [], ◌∷◌, ◌++◌, map, Option, Some, slice_get, option_to_list}
+use Rattle.std.specs.Prelude.{◌≡◌, ℕ, ◌-◌, List, [], ◌∷◌, ◌++◌, map, Option, Some, slice_get, option_to_list}
 use Rattle.std.proofs.Common.{Bor}
 use Rattle.std.specs.List.{flat_map}
 use Rattle.mime_tree.specs.declared.part.Part.{Part}

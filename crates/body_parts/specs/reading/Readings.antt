@@ -1,10 +1,9 @@
 -- Messages that the code has read.
-use Rattle.std.specs.Prelude.{◌≡◌, true, List, [], ◌∷◌}
+use Rattle.std.specs.Prelude.{◌≡◌, true, [], ◌∷◌}
 use Rattle.serde_json.specs.Data.{Data}
 use Rattle.email_properties.specs.EmailProperties.{is_of_body}
 use Rattle.email_properties.specs.Wanted.{BodyAsked}
 use Rattle.email_properties.specs.declared.email_property.EmailProperty.{EmailProperty}
-use Rattle.mime_tree.specs.declared.part.Part.{Part}
 use Rattle.mime_tree.specs.BodyLists.{AreBodyLists}
 use Rattle.mime_tree.specs.Trees.{IsMessage}
 use Rattle.body_parts.specs.declared.body_properties.Body.{Body}

@@ -1,4 +1,4 @@
-use Rattle.std.proofs.Common.{Bor, ◌≡◌, ◌∙◌, ap, arith, get_or, length, subst, sym, rules}
+use Rattle.std.proofs.Common.{Bor, ◌∙◌, ap, arith, subst, sym}
 use Rattle.std.proofs.lemmas.List.{length-map}
 use Rattle.serde_json.specs.View.{members_view}
 use Rattle.mime_tree.specs.declared.part.Part.{Part}

@@ -1,7 +1,7 @@
-use Rattle.std.proofs.Common.{◌≡◌, ◌∙◌, Bool, List, ap, subst}
+use Rattle.std.proofs.Common.{Bool, List, ap, subst}
 use Rattle.std.specs.Prelude.{◌&&◌}
 use Rattle.std.specs.List.{filter}
-use Rattle.serde_json.specs.Data.{Members, object}
+use Rattle.serde_json.specs.Data.{Members}
 use Rattle.serde_json.specs.View.{members_view}
 use Rattle.serde_json.proofs.Views.{view-Object}
 use Rattle.email_properties.specs.Wanted.{body_asked}
@@ -24,8 +24,7 @@ returns c =
     let asked = has_value (body_asked c.args.asked.now) c.args.lists.now in
     let same = filter_same fetched asked leaves (λ p. ap (λ (b : Bool). is_text (media p) && b) (c.in_ok-fetched.ensures p)) in
     let P : List Part → Type 0 = λ ps. InTurn Step ps (members_view c.new-values.result.entries) (members_view values.entries) in
-    let Q : Members → Type 0 = λ ms. InTurn Step (filter asked leaves) ms (members_view values.entries) in
-    (
+    let Q : Members → Type 0 = λ ms. InTurn Step (filter asked leaves) ms (members_view values.entries) in (
       members_view values.entries,
       subst Q (ap members_view c.new-values.ensures.empty) (subst P same (turn_filter Step fetched leaves _ _ c.in_ok-put_values.ensures)),
       view-Object values,

@@ -49,8 +49,7 @@ part_objects-part_object-requires t c =
     let octets = c.args.message.now.octets.now in
     let P : Part → Type 0 = λ p. IsAllWithin octets p in
     let Q : Part → Type 0 = λ p. the_size p ≤ most the_size c.args.parts.now in
-    let no_greater = subst Q (sym c.part-item.is) (part_no_greater c.args.parts.now c.loop-part.part-index c.part-item.result c.loop-part-test.true) in
-    (
+    let no_greater = subst Q (sym c.part-item.is) (part_no_greater c.args.parts.now c.loop-part.part-index c.part-item.result c.loop-part-test.true) in (
       omega (arith, c.decreases, no_greater),
       subst P (sym c.part-item.is) (within_at octets c.args.parts.now c.loop-part.part-index c.part-item.result c.requires c.loop-part-test.true),
     )
