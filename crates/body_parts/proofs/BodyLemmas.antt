@@ -54,7 +54,8 @@ module _ (m : MessageData) (asked : BodyAsked) (read : Reading m.octets) (p : Em
   list_of : (parts : List PartProperty) (ns ms : List ℕ) (ls : List Part) → parts ≡ asked.parts → ns ≡ ms → parts_at read.leaves ms ≡ ls
       → IsListData m parts (parts_at read.leaves ns) d → IsListData m asked.parts ls d
   list_of parts ns ms ls e f g h =
-      subst (λ (qs : List Part). IsListData m asked.parts qs d) (ap (parts_at read.leaves) f ∙ g) (subst (λ (a : List PartProperty). IsListData m a (parts_at read.leaves ns) d) e h)
+      subst (λ (qs : List Part). IsListData m asked.parts qs d) (ap (parts_at read.leaves) f ∙ g)
+      (subst (λ (a : List PartProperty). IsListData m a (parts_at read.leaves ns) d) e h)
 
   pub structure_of : (parts : List PartProperty) → p ≡ property.BodyStructure → parts ≡ asked.parts → AreObjects m parts (read.root ∷ []) (d ∷ []) → IsOfBody m asked p d
   structure_of parts e f h = data_of property.BodyStructure e refl (subst (λ (a : List PartProperty). AreObjects m a (read.root ∷ []) (d ∷ [])) f h)

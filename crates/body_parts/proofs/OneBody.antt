@@ -161,7 +161,8 @@ ends m asked _ _ (objects.Leaf p ps behind own leaf rest) = tt
 ends m asked _ _ (objects.Multi p ps inner behind own no_leaf kids rest) = tt
 
 -- parts that are alike have equal objects
-one_objects : (m : MessageData) (asked : List PartProperty) (ps qs : List Part) (ds es : List Data) → AllSame Like ps qs → AreObjects m asked ps ds → AreObjects m asked qs es → ds ≡ es
+one_objects : (m : MessageData) (asked : List PartProperty) (ps qs : List Part) (ds es : List Data) → AllSame Like ps qs → AreObjects m asked ps ds
+    → AreObjects m asked qs es → ds ≡ es
 one_objects m asked _ [] _ es same objects.End other = sym (ends m asked [] es other)
 one_objects m asked _ (q ∷ qs) _ es same objects.End other = absurd same
 one_objects m asked _ [] _ es same (objects.Leaf p ps behind own leaf rest) other = absurd same
@@ -267,7 +268,8 @@ like_values most b (p ∷ ps) [] x y same h = absurd same
 like_values most b (p ∷ ps) (q ∷ qs) x y same h = (h.0, kin_value most b p q x h.0 (kin_of_like p q same.0) h.1, like_values most b ps qs h.0 y same.1 h.2)
 
 -- leaves that are alike have values, or have none, alike
-like_filter : (asked : BodyAsked) (lists : BodyLists) (ps qs : List Part) → AllSame Like ps qs → AllSame Like (filter (has_value asked lists) ps) (filter (has_value asked lists) qs)
+like_filter : (asked : BodyAsked) (lists : BodyLists) (ps qs : List Part) → AllSame Like ps qs
+    → AllSame Like (filter (has_value asked lists) ps) (filter (has_value asked lists) qs)
 like_filter asked lists [] [] same = tt
 like_filter asked lists [] (q ∷ qs) same = absurd same
 like_filter asked lists (p ∷ ps) [] same = absurd same
@@ -277,13 +279,15 @@ like_filter asked lists (p ∷ ps) (q ∷ qs) same = by (has_value asked lists p
     k = kin_of_like p q same.0
 
     fetched : is_fetched asked lists p ≡ is_fetched asked lists q
-    fetched = ap (λ (n : Option ℕ). asked.all_values || (asked.text_values && is_among lists.text (unwrap_or n 0) || asked.html_values && is_among lists.html (unwrap_or n 0))) k.number
+    fetched = ap
+        (λ (n : Option ℕ). asked.all_values || (asked.text_values && is_among lists.text (unwrap_or n 0) || asked.html_values && is_among lists.html (unwrap_or n 0))) k.number
 
     both : has_value asked lists p ≡ has_value asked lists q
     both = let t = ap is_text k.media in let f = fetched in λ i. t i && f i
 
     by : (s t : Bool) → s ≡ t → AllSame Like (filter (has_value asked lists) ps) (filter (has_value asked lists) qs)
-        → AllSame Like (cond s (p ∷ filter (has_value asked lists) ps) (filter (has_value asked lists) ps)) (cond t (q ∷ filter (has_value asked lists) qs) (filter (has_value asked lists) qs))
+        → AllSame Like (cond s (p ∷ filter (has_value asked lists) ps) (filter (has_value asked lists) ps))
+        (cond t (q ∷ filter (has_value asked lists) qs) (filter (has_value asked lists) qs))
     by true true e more = (same.0, more)
     by true false e more = absurd (let x = e in cc)
     by false true e more = absurd (let x = e in cc)

@@ -89,7 +89,8 @@ value_whole most b p before after h g = ap members_have_float h.is ∙ put_whole
 data_whole : (m : MessageData) (asked : BodyAsked) (read : Reading m.octets) (p : EmailProperty) (d : Data) → IsDataOf m asked read p d → has_float d ≡ false
 data_whole m asked read email.BodyStructure d h = first_whole d (objects_whole m asked.parts (read.root ∷ []) (d ∷ []) h)
 data_whole m asked read email.BodyValues d h =
-    ap has_float h.2 ∙ turn_whole (PutsValue asked.max_octets m.octets) (value_whole asked.max_octets m.octets) (filter (has_value asked read.lists) read.leaves) no_members h.0 h.1 refl
+    ap has_float h.2
+    ∙ turn_whole (PutsValue asked.max_octets m.octets) (value_whole asked.max_octets m.octets) (filter (has_value asked read.lists) read.leaves) no_members h.0 h.1 refl
 data_whole m asked read email.TextBody d h = ap has_float h.2 ∙ objects_whole m asked.parts _ h.0 h.1
 data_whole m asked read email.HtmlBody d h = ap has_float h.2 ∙ objects_whole m asked.parts _ h.0 h.1
 data_whole m asked read email.Attachments d h = ap has_float h.2 ∙ objects_whole m asked.parts _ h.0 h.1

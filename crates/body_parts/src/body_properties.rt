@@ -98,7 +98,8 @@ fn put_property(
     property: &EmailProperty<'_>,
 ) -> Result<(), AllocError>
     requires { IsReadBody body.now }
-    ensures { OnOk result (StepIf is_of_body (spec.PutsBodyProperty (message_data body.now.message.now) (body_asked asked.now)) property.now (members_view members.old.entries) (members_view members.new.entries)) }
+    ensures { OnOk result (StepIf is_of_body (spec.PutsBodyProperty (message_data body.now.message.now) (body_asked asked.now)) property.now
+        (members_view members.old.entries) (members_view members.new.entries)) }
 {
     match body_value(alloc, body, asked, property)? {
         None => Ok(()),

@@ -25,8 +25,8 @@ preview_value-requires c =
 pub returns-in_ok-part_object-in-BodyStructure : goal.returns-in_ok-part_object-in-BodyStructure
 returns-in_ok-part_object-in-BodyStructure c =
     let body = c.args.body.now in
-    structure_of (message_data body.message.now) (body_asked c.args.asked.now) (reading_of body c.requires) c.args.property.now _ _ c.in-BodyStructure.is c.as_slice-parts.ensures.value
-    c.in_ok-part_object-in-BodyStructure.ensures
+    structure_of (message_data body.message.now) (body_asked c.args.asked.now) (reading_of body c.requires) c.args.property.now _ _ c.in-BodyStructure.is
+    c.as_slice-parts.ensures.value c.in_ok-part_object-in-BodyStructure.ensures
 
 pub returns-in_ok-values_value-in-BodyValues : goal.returns-in_ok-values_value-in-BodyValues
 returns-in_ok-values_value-in-BodyValues c =

@@ -38,7 +38,8 @@ part_object-returns t c =
     let asked = c.args.asked.now in
     let no_leaf : is_leaf c.args.part.now ≡ false = sym c.is_some.ensures ∙ c.if-is_some.false in
     let P : List Part → Type 0 = λ ps. AreObjects m asked ps (map view c.in_ok-inner.inner.items) in
-    IfOk-weaker c.with_sub_parts.result _ _ (λ v e. multi_object m asked c.args.part.now (members_view c.in_ok-members.members.entries) (map view c.in_ok-inner.inner.items) (view v)
+    IfOk-weaker c.with_sub_parts.result _ _ (λ v e.
+    multi_object m asked c.args.part.now (members_view c.in_ok-members.members.entries) (map view c.in_ok-inner.inner.items) (view v)
     no_leaf c.in_ok-members.ensures (subst P c.deref.ensures.value c.in_ok-inner.ensures) e) c.with_sub_parts.ensures
 
 pub part_objects-loop-part-init : goal.part_objects-loop-part-init

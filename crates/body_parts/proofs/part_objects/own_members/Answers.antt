@@ -13,5 +13,5 @@ loop-property-preserved c =
     let part = c.args.part.now in
     let before = members_view c.loop-property.members.entries in
     let after = members_view c.put_property.new.members.entries in
-    turn_more (PutsProperty m part) c.args.asked.now c.loop-property.property-index c.property-item.result no_members before after c.loop-property-test.true c.loop-property.invariant
-    (subst (λ (p : PartProperty). PutsProperty m part p before after) c.property-item.is c.in_ok-put_property.ensures)
+    turn_more (PutsProperty m part) c.args.asked.now c.loop-property.property-index c.property-item.result no_members before after c.loop-property-test.true
+    c.loop-property.invariant (subst (λ (p : PartProperty). PutsProperty m part p before after) c.property-item.is c.in_ok-put_property.ensures)
