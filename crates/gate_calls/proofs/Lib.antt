@@ -1,3 +1,3 @@
 mod Meaning
-mod Calling
+pub mod Calling
 pub mod OneAnswer

@@ -1,29 +1,26 @@
--- What a call gave, and what is meant.
-use Rattle.std.proofs.Common.{◌≡◌, refl, sym, ap, inl, inr, Option, Some, None, Result, Ok, Err, subst}
-use Rattle.std.specs.Prelude.{is_ok, is_some}
+-- What a call gave, and what is meant by the bodies that were asked.
+use Rattle.std.proofs.Common.{◌≡◌, ◌≢◌, ◌⊎◌, ◌++◌, ℕ, List, [], refl, sym, ap, inl, inr, Option, Some, None, Result, Ok, Err, subst}
 use Rattle.serde_json.specs.declared.value.Value.{Value}
 use Rattle.serde_json.specs.Data.{Data}
 use Rattle.serde_json.specs.View.{view}
+use Rattle.email_bodies.specs.Asking.{BodyAsk, Asks, NoneAsked, AsksInVain}
+use Rattle.email_bodies.specs.declared.source.MessagePlace.{MessagePlace}
+use Rattle.email_bodies.proofs.Joins.{asks_join}
+use Rattle.email_methods.specs.Asked.{AsksAnd, AsksAndMeets}
 use Rattle.jmap_methods.specs.Outcome.{Agrees, IsJust, Meets}
-use Rattle.gate_calls.specs.declared.method.Method.{Method}
 use Rattle.jmap_methods.specs.declared.method_error.MethodError.{MethodError}
-use Rattle.jmap_methods.specs.declared.method_error.MethodError.TheVariants.{Memory, ServerUnavailable}
+use Rattle.jmap_methods.specs.declared.method_error.MethodError.TheVariants.{Memory}
+use Rattle.jmap_methods.specs.declared.method_error.MethodError.TheVariants as error
 use Rattle.mail_state.specs.History.{MailHistory}
-use Rattle.mail_state.specs.State.{IsStateOf}
-use Rattle.gate_machine.specs.History.{KnownMail}
-use Rattle.gate_machine.specs.Holding.{AreBothReady, HoldsMachine}
-use Rattle.gate_machine.specs.Kept.{KeptMail}
-use Rattle.gate_machine.specs.Machine.{MachineState}
-use Rattle.gate_machine.specs.declared.machine.Machine.{Machine}
-use Rattle.gate_calls.specs.Mailings.{Mailing, history_of, mail_told}
-use Rattle.gate_calls.specs.Methods.{RepliesAtOnce, unless_refused}
+use Rattle.mail_state.specs.State.{ServedState, IsStateOf}
+use Rattle.gate_calls.specs.declared.mail.Mail.{Mail}
+use Rattle.gate_calls.specs.declared.mail.Mail.TheVariants as code
+use Rattle.gate_calls.specs.declared.mail.Over.{Over}
+use Rattle.gate_calls.specs.declared.method.Method.{Method}
+use Rattle.gate_calls.specs.Mailings.{Mailing, MailAndUploads, IsMailOf, AreOf}
+use Rattle.gate_calls.specs.Methods.{AtOnce, RepliesTo, unless_refused}
 
--- what is meant may be more
-pub meets_more : (P Q : Result Data MethodError → Type 0) (result : Result Value MethodError) → ((r : Result Data MethodError) → P r → Q r) → Meets Memory view result P
-    → Meets Memory view result Q
-meets_more P Q (Ok value) so meets = so (Ok (view value)) meets
-meets_more P Q (Err e) so (inl out) = inl out
-meets_more P Q (Err e) so (inr meets) = inr (so (Err e) meets)
+-- ---- results
 
 -- where one result is meant
 pub agrees_meets : (due : Result Data MethodError) (result : Result Value MethodError) → Agrees Memory view result due → Meets Memory view result (λ r. r ≡ due)
@@ -36,15 +33,17 @@ pub just_meets : (due : Result Data MethodError) (result : Result Value MethodEr
 just_meets due (Ok value) is = sym is
 just_meets due (Err e) is = inr (sym is)
 
+-- what is meant may be more
+pub meant_more : (P Q : Result Data MethodError → Type 0) (result : Result Value MethodError) → ((r : Result Data MethodError) → P r → Q r) → Meets Memory view result P
+    → Meets Memory view result Q
+meant_more P Q (Ok value) so meets = so (Ok (view value)) meets
+meant_more P Q (Err e) so (inl out) = inl out
+meant_more P Q (Err e) so (inr meets) = inr (so (Err e) meets)
+
 -- a refusal that is the one that is due agrees with it
 pub is_refusal : (due refused : Result (Unit {0}) MethodError) → refused ≡ due → Agrees Memory (λ u. u) refused due
 is_refusal due (Ok u) is = sym is
 is_refusal due (Err e) is = inr (sym is)
-
--- a reply of the method that was asked
-pub replies_by : (m asked : Method) (mail : Mailing) (d : Data) (result : Result Value MethodError) → asked ≡ m → Meets Memory view result (RepliesAtOnce m mail d)
-    → Meets Memory view result (RepliesAtOnce asked mail d)
-replies_by m asked mail d result is meets = subst (λ (k : Method). Meets Memory view result (RepliesAtOnce k mail d)) (sym is) meets
 
 -- the error, where the arguments aren't refused
 pub not_refused : (due : Result (Unit {0}) MethodError) (u : Unit {0}) (e : MethodError) → Agrees Memory (λ (x : Unit {0}). x) (Ok u) due
@@ -57,39 +56,116 @@ pub is_refused : (due : Result (Unit {0}) MethodError) (e refusal : MethodError)
 is_refused due e refusal (inl out) = inl out
 is_refused due e refusal (inr is) = inr (sym (ap (λ (r : Result (Unit {0}) MethodError). unless_refused r e) is))
 
--- what a machine serves where the code's machine is ready
-told_ready : (o : Option KnownMail) (a : KeptMail) → AreBothReady o (Some a) → (h : MailHistory) × (history_of o ≡ Ok h) × IsStateOf h a.state
-told_ready None a never = absurd never
-told_ready (Some k) a kept = (k.history, refl, kept.state)
+-- a reply without mail, of the method that was asked
+pub without : (m asked : Method) (over : MailAndUploads) (d : Data) (result : Result Value MethodError) → asked ≡ m
+    → Meets Memory view result (λ r. RepliesTo m over d [] r)
+    → Meets Memory view result (λ r. RepliesTo asked over d [] r)
+without m asked over d result is meets = subst (λ (k : Method). Meets Memory view result (λ r. RepliesTo k over d [] r)) (sym is) meets
 
-told_unready : (o : Option KnownMail) → AreBothReady o None → history_of o ≡ Err ServerUnavailable
-told_unready None here = refl
-told_unready (Some k) never = absurd never
+-- one for which no body is asked
+pub once : (P : Result Data MethodError → Type 0) (result : Result Value MethodError) → Meets Memory view result P → Meets Memory view result (AtOnce P [])
+once P result meets = meant_more P (AtOnce P []) result (λ r is. (refl, is)) meets
 
--- a reply over the state of a machine that is ready
-pub reply_ready : (method : Method) (d : Data) (result : Result Value MethodError) (m : MachineState) (kept : Machine) (a : KeptMail)
-    → HoldsMachine m kept → kept.known ≡ Some a
-    → ((h : MailHistory) → IsStateOf h a.state → Meets Memory view result (RepliesAtOnce method (Ok h) d)) → Meets Memory view result (RepliesAtOnce method (history_of m.known) d)
-reply_ready method d result m kept a held is over =
-    let told = told_ready m.known a (subst (λ (o : Option KeptMail). AreBothReady m.known o) is held.ready) in
-    subst (λ (mail : Mailing). Meets Memory view result (RepliesAtOnce method mail d)) (sym told.1) (over told.0 told.2)
+is_memory : (e : MethodError) → (e ≡ Memory) ⊎ (e ≢ Memory)
+is_memory error.Memory = inl refl
+is_memory error.ServerUnavailable = inr (λ is. cc)
+is_memory error.ServerFail = inr (λ is. cc)
+is_memory error.ServerPartialFail = inr (λ is. cc)
+is_memory error.UnknownMethod = inr (λ is. cc)
+is_memory error.InvalidArguments = inr (λ is. cc)
+is_memory error.InvalidResultReference = inr (λ is. cc)
+is_memory error.AccountNotFound = inr (λ is. cc)
+is_memory error.RequestTooLarge = inr (λ is. cc)
+is_memory error.StateMismatch = inr (λ is. cc)
+is_memory error.CannotCalculateChanges = inr (λ is. cc)
+is_memory error.AnchorNotFound = inr (λ is. cc)
+is_memory error.UnsupportedFilter = inr (λ is. cc)
+is_memory error.UnsupportedSort = inr (λ is. cc)
+is_memory error.TooManyChanges = inr (λ is. cc)
 
--- a reply where the machine isn't ready
-pub reply_unready : (method : Method) (d : Data) (result : Result Value MethodError) (m : MachineState) (kept : Machine) → HoldsMachine m kept → kept.known ≡ None
-    → Meets Memory view result (RepliesAtOnce method (Err ServerUnavailable) d) → Meets Memory view result (RepliesAtOnce method (history_of m.known) d)
-reply_unready method d result m kept held is meets =
-    let told = told_unready m.known (subst (λ (o : Option KeptMail). AreBothReady m.known o) is held.ready) in
-    subst (λ (mail : Mailing). Meets Memory view result (RepliesAtOnce method mail d)) (sym told) meets
+known_meant : (e : MethodError) (P : Type 0) → e ≢ Memory → (e ≡ Memory) ⊎ P → P
+known_meant e P other (inl out) = absurd (other out)
+known_meant e P other (inr meant) = meant
 
--- a reply over the mail where it was told, or where it wasn't
-pub replies_told : (method : Method) (d : Data) (result : Result Value MethodError) (known : Option KnownMail) (told is : Result (Unit {0}) MethodError) → told ≡ is
-    → Meets Memory view result (RepliesAtOnce method (mail_told is known) d) → Meets Memory view result (RepliesAtOnce method (mail_told told known) d)
-replies_told method d result known told is same meets =
-    subst (λ (t : Result (Unit {0}) MethodError). Meets Memory view result (RepliesAtOnce method (mail_told t known) d)) (sym same) meets
+-- ---- what is known of the code's mail
 
--- whether there is mail, by whether the code's machine is ready
-pub told_is : (o : Option KnownMail) (kept : Option KeptMail) → AreBothReady o kept → is_ok (history_of o) ≡ is_some kept
-told_is None None here = refl
-told_is (Some k) (Some a) here = refl
-told_is None (Some a) never = absurd never
-told_is (Some k) None never = absurd never
+-- where the mail can't be told
+pub over_untold : (m : Method) (d : Data) (asks : List BodyAsk) (r : Result Data MethodError) (o : MailAndUploads) (over : Over) (e : MethodError)
+    → ((mail : Mailing) → IsMailOf mail over.mail → mail ≡ Err e) → AreOf o over
+    → RepliesTo m (record { mail = Err e; uploads = o.uploads }) d asks r → RepliesTo m o d asks r
+over_untold m d asks r o over e untold of so =
+    subst (λ (mail : Mailing). RepliesTo m (record { mail = mail; uploads = o.uploads }) d asks r) (sym (untold o.mail of.mail)) so
+
+pub mail_untold : (m : Mail) (e : MethodError) → m ≡ code.Untold e → (mail : Mailing) → IsMailOf mail m → mail ≡ Err e
+mail_untold m e is mail of = by mail (subst (λ (x : Mail). IsMailOf mail x) is of)
+  where
+    by : (mail : Mailing) → IsMailOf mail (code.Untold e) → mail ≡ Err e
+    by (Ok h) never = absurd never
+    by (Err f) same = ap (λ (x : MethodError). let r : Mailing = Err x in r) (sym same)
+
+-- ---- calls that may ask bodies
+
+module _ {S : Type 0} (Answers : S → MessagePlace → Option (List ℕ) → S → Type 0) (Lacks : S → MessagePlace → S → Type 0) where
+  pub in_vain : (s : S) → AsksInVain Answers Lacks s s
+  in_vain s = record { asks = []; mid = s; asked = NoneAsked; ends = inl refl }
+
+  -- out of memory after these
+  pub vain_after : {P : List BodyAsk → Type 0} {before after : S} → AsksAnd Answers Lacks before after P → AsksInVain Answers Lacks before after
+  vain_after {after = after} a = record { asks = a.asks; mid = after; asked = a.asked; ends = inl refl }
+
+  -- and after those before it
+  pub vain_then : {P : List BodyAsk → Type 0} (before mid after : S) → AsksAnd Answers Lacks before mid P → AsksInVain Answers Lacks mid after
+      → AsksInVain Answers Lacks before after
+  vain_then before mid after a vain =
+      record {
+        asks = a.asks ++ vain.asks;
+        mid = vain.mid;
+        asked = asks_join Answers before mid vain.mid a.asks vain.asks a.asked vain.asked;
+        ends = vain.ends;
+      }
+
+  -- one after another
+  pub asks_then : {P Q R : List BodyAsk → Type 0} (before mid after : S) → AsksAnd Answers Lacks before mid P → AsksAnd Answers Lacks mid after Q
+      → ((xs ys : List BodyAsk) → P xs → Q ys → R (xs ++ ys)) → AsksAnd Answers Lacks before after R
+  asks_then before mid after one two both =
+      record {
+        asks = one.asks ++ two.asks;
+        asked = asks_join Answers before mid after one.asks two.asks one.asked two.asked;
+        meant = both one.asks two.asks one.meant two.meant;
+      }
+
+  -- what is meant may be more
+  pub gives_more : (P Q : List BodyAsk → Result Data MethodError → Type 0) (before after : S) (result : Result Value MethodError)
+      → ((asks : List BodyAsk) (r : Result Data MethodError) → P asks r → Q asks r) → AsksAndMeets Answers Lacks before after Memory view result P
+      → AsksAndMeets Answers Lacks before after Memory view result Q
+  gives_more P Q before after (Ok value) so a = record { asks = a.asks; asked = a.asked; meant = so a.asks (Ok (view value)) a.meant }
+  gives_more P Q before after (Err e) so (inl lacks) = inl lacks
+  gives_more P Q before after (Err e) so (inr a) = inr (record { asks = a.asks; asked = a.asked; meant = so a.asks (Err e) a.meant })
+
+  -- where no body is asked
+  pub at_once : {I : Type 0} {J : I → Type 0} (P : I → Result Data MethodError → Type 0) (s : S) (result : Result Value MethodError)
+      → ((i : I) → J i → Meets Memory view result (P i))
+      → AsksAndMeets Answers Lacks s s Memory view result (λ asks r. (i : I) → J i → AtOnce (P i) asks r)
+  at_once P s (Ok value) meets = record { asks = []; asked = NoneAsked; meant = λ i j. (refl, meets i j) }
+  at_once P s (Err e) meets = elim (is_memory e) [
+    | inl lacks ↦ inl (lacks, in_vain s)
+    | inr other ↦ inr (record { asks = []; asked = NoneAsked; meant = λ i j. (refl, known_meant e (P i (Err e)) other (meets i j)) })
+  ]
+
+  -- the same for the reply of a method
+  pub replies_once : {I : Type 0} (P : I → List BodyAsk → Result Data MethodError → Type 0) (s : S) (result : Result Value MethodError)
+      → ((i : I) → Meets Memory view result (P i []))
+      → AsksAndMeets Answers Lacks s s Memory view result (λ asks r. (i : I) → P i asks r)
+  replies_once P s (Ok value) meets = record { asks = []; asked = NoneAsked; meant = λ i. meets i }
+  replies_once P s (Err e) meets = elim (is_memory e) [
+    | inl lacks ↦ inl (lacks, in_vain s)
+    | inr other ↦ inr (record { asks = []; asked = NoneAsked; meant = λ i. known_meant e (P i [] (Err e)) other (meets i) })
+  ]
+
+  -- a reply of the method that was asked
+  pub replies_by : {I : Type 0} (J : I → Type 0) (m asked : Method) (over : I → MailAndUploads) (d : Data) (before after : S) (result : Result Value MethodError)
+      → asked ≡ m
+      → AsksAndMeets Answers Lacks before after Memory view result (λ asks r. (i : I) → J i → RepliesTo m (over i) d asks r)
+      → AsksAndMeets Answers Lacks before after Memory view result (λ asks r. (i : I) → J i → RepliesTo asked (over i) d asks r)
+  replies_by {I} J m asked over d before after result is gives =
+      subst (λ (k : Method). AsksAndMeets Answers Lacks before after Memory view result (λ asks r. (i : I) → J i → RepliesTo k (over i) d asks r)) (sym is) gives

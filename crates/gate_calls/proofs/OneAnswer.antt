@@ -1,7 +1,7 @@
 -- The calls of a request have one list of responses.
-use Rattle.std.proofs.Common.{arith, ◌≡◌, ◌≤◌, ◌<◌, ◌^◌, ◌++◌, ◌∷◌, ℕ, List, [], length, None, Result, Ok, Err, refl, sym, ap, ◌∙◌, subst}
+use Rattle.std.proofs.Common.{arith, ◌≡◌, ◌≤◌, ◌<◌, ◌^◌, ◌++◌, ◌∷◌, ℕ, List, [], length, None, Result, Ok, Err, refl, sym, ap, ◌∙◌, subst, append_assoc}
 use Rattle.std.specs.Result.{IfOk}
-use Rattle.std.proofs.lemmas.List.{length_push, same_from_push}
+use Rattle.std.proofs.lemmas.List.{append_cancel_left, length_push, same_from_push}
 use Rattle.serde_json.specs.Data.{Data}
 use Rattle.change_list.specs.History.{entries_of}
 use Rattle.change_list.specs.declared.entries.Entry.{Entry}
@@ -9,15 +9,20 @@ use Rattle.change_list.specs.declared.list.TheConstants.{MAX_PLACE}
 use Rattle.change_list.proofs.HistoryLaws.{length-entries_from}
 use Rattle.served_maps.specs.Past.{Past, place_now}
 use Rattle.jmap_methods.specs.Ids.{mailbox_letter, thread_letter, email_letter}
+use Rattle.email_bodies.specs.Asking.{BodyAsk}
+use Rattle.email_methods.specs.EmailGet.{RepliesEmailGet}
+use Rattle.email_methods.specs.EmailParse.{RepliesEmailParse}
+use Rattle.mail_state.specs.History.{MailHistory}
 use Rattle.gate_calls.specs.declared.method.Method.{Method}
-use Rattle.gate_calls.specs.declared.method.Method.TheVariants.{CoreEcho, MailboxGet, MailboxChanges, ThreadGet, ThreadChanges, EmailChanges}
+use Rattle.gate_calls.specs.declared.method.Method.TheVariants.{CoreEcho, MailboxGet, MailboxChanges, ThreadGet, ThreadChanges}
+use Rattle.gate_calls.specs.declared.method.Method.TheVariants.{EmailGet, EmailChanges, EmailParse}
 use Rattle.jmap_methods.specs.declared.using.Using.{Using}
 use Rattle.jmap_methods.specs.declared.method_error.MethodError.{MethodError}
 use Rattle.jmap_core.specs.Request.{CallData}
 use Rattle.read_methods.specs.Changes.{AnswersChanges, Further, no_further, updated_properties}
-use Rattle.gate_calls.specs.Mailings.{Mailing}
+use Rattle.gate_calls.specs.Mailings.{Mailing, MailAndUploads}
 use Rattle.gate_calls.specs.Places.{HasPlaces}
-use Rattle.gate_calls.specs.Methods.{RepliesAtOnce}
+use Rattle.gate_calls.specs.Methods.{AtOnce, RepliesTo}
 use Rattle.gate_calls.specs.Calls.{AnswersCall, NoMethod, Unresolved, Resolved, answered_call, NextCall, AnswersCalls, NoCalls, MoreCalls}
 
 -- what is proved of a /changes
@@ -49,45 +54,71 @@ few p room =
     let same : length (entries_of p.touches) ≡ length p.touches = length-entries_from (λ _. None) p.touches in
     omega (arith, small, same)
 
-module _ (law : ChangesLaw) where
+-- what is proved of calls that ask bodies
+abbrev pub IsOneGet : Type 0
+IsOneGet = (h : MailHistory) (d : Data) (asks more also later : List BodyAsk) (r s : Result Data MethodError) → RepliesEmailGet h d asks r → RepliesEmailGet h d also s
+    → asks ++ more ≡ also ++ later → (asks ≡ also) × (r ≡ s)
+
+abbrev pub IsOneParse : Type 0
+IsOneParse = (h : MailHistory) (uploads : List (List ℕ)) (d : Data) (asks more also later : List BodyAsk) (r s : Result Data MethodError)
+    → RepliesEmailParse h uploads d asks r → RepliesEmailParse h uploads d also s → asks ++ more ≡ also ++ later → (asks ≡ also) × (r ≡ s)
+
+-- what is asked first, and what it comes to
+abbrev Same : List BodyAsk → List BodyAsk → Result Data MethodError → Result Data MethodError → Type 0
+Same asks also r s = (asks ≡ also) × (r ≡ s)
+
+module _ (law : ChangesLaw) (gets : IsOneGet) (parses : IsOneParse) where
   -- ---- one call
 
-  one_reply : (m : Method) (mail : Mailing) (d : Data) (r s : Result Data MethodError) → HasPlaces mail → RepliesAtOnce m mail d r → RepliesAtOnce m mail d s → r ≡ s
-  one_reply CoreEcho mail d r s room a b = a ∙ sym b
-  one_reply MailboxGet (Ok h) d r s room a b = a ∙ sym b
-  one_reply MailboxGet (Err e) d r s room a b = a ∙ sym b
-  one_reply MailboxChanges (Ok h) d r s room a b =
-      law mailbox_letter h.epoch (entries_of h.mailboxes.touches) updated_properties d r s (few h.mailboxes room.mailboxes) a b
-  one_reply MailboxChanges (Err e) d r s room a b = a ∙ sym b
-  one_reply ThreadGet (Ok h) d r s room a b = a ∙ sym b
-  one_reply ThreadGet (Err e) d r s room a b = a ∙ sym b
-  one_reply ThreadChanges (Ok h) d r s room a b = law thread_letter h.epoch (entries_of h.threads.touches) no_further d r s (few h.threads room.threads) a b
-  one_reply ThreadChanges (Err e) d r s room a b = a ∙ sym b
-  one_reply EmailChanges (Ok h) d r s room a b = law email_letter h.epoch (entries_of h.emails.touches) no_further d r s (few h.emails room.emails) a b
-  one_reply EmailChanges (Err e) d r s room a b = a ∙ sym b
+  -- for which no body is asked
+  at_once : {asks also : List BodyAsk} {r s : Result Data MethodError} → asks ≡ [] → also ≡ [] → r ≡ s → Same asks also r s
+  at_once none too same = (none ∙ sym too, same)
+
+  one_reply : (m : Method) (o : MailAndUploads) (d : Data) (asks more also later : List BodyAsk) (r s : Result Data MethodError) → HasPlaces o.mail → RepliesTo m o d asks r
+      → RepliesTo m o d also s → asks ++ more ≡ also ++ later → Same asks also r s
+  one_reply m o d asks more also later r s room a b same = by m o.mail room a b
+    where
+      by : (m : Method) (mail : Mailing) → HasPlaces mail → RepliesTo m (record { mail = mail; uploads = o.uploads }) d asks r
+          → RepliesTo m (record { mail = mail; uploads = o.uploads }) d also s → Same asks also r s
+      by CoreEcho mail room a b = at_once a.0 b.0 (a.1 ∙ sym b.1)
+      by MailboxGet (Ok h) room a b = at_once a.0 b.0 (a.1 ∙ sym b.1)
+      by MailboxGet (Err e) room a b = at_once a.0 b.0 (a.1 ∙ sym b.1)
+      by MailboxChanges (Ok h) room a b =
+          at_once a.0 b.0 (law mailbox_letter h.epoch (entries_of h.mailboxes.touches) updated_properties d r s (few h.mailboxes room.mailboxes) a.1 b.1)
+      by MailboxChanges (Err e) room a b = at_once a.0 b.0 (a.1 ∙ sym b.1)
+      by ThreadGet (Ok h) room a b = at_once a.0 b.0 (a.1 ∙ sym b.1)
+      by ThreadGet (Err e) room a b = at_once a.0 b.0 (a.1 ∙ sym b.1)
+      by ThreadChanges (Ok h) room a b = at_once a.0 b.0 (law thread_letter h.epoch (entries_of h.threads.touches) no_further d r s (few h.threads room.threads) a.1 b.1)
+      by ThreadChanges (Err e) room a b = at_once a.0 b.0 (a.1 ∙ sym b.1)
+      by EmailGet (Ok h) room a b = gets h d asks more also later r s a b same
+      by EmailGet (Err e) room a b = at_once a.0 b.0 (a.1 ∙ sym b.1)
+      by EmailChanges (Ok h) room a b = at_once a.0 b.0 (law email_letter h.epoch (entries_of h.emails.touches) no_further d r s (few h.emails room.emails) a.1 b.1)
+      by EmailChanges (Err e) room a b = at_once a.0 b.0 (a.1 ∙ sym b.1)
+      by EmailParse (Ok h) room a b = parses h o.uploads d asks more also later r s a b same
+      by EmailParse (Err e) room a b = at_once a.0 b.0 (a.1 ∙ sym b.1)
 
   -- of the same method over the same arguments
-  one_resolved : (m n : Method) (mail : Mailing) (d c : Data) (r s : Result Data MethodError) → HasPlaces mail → n ≡ m → c ≡ d → RepliesAtOnce m mail d r
-      → RepliesAtOnce n mail c s
-      → r ≡ s
-  one_resolved m n mail d c r s room same_method same_data a b =
-      one_reply m mail d r s room a
-      (subst (λ (k : Method). RepliesAtOnce k mail d s) same_method (subst (λ (e : Data). RepliesAtOnce n mail e s) same_data b))
+  one_resolved : (m n : Method) (o : MailAndUploads) (d c : Data) (asks more also later : List BodyAsk) (r s : Result Data MethodError) → HasPlaces o.mail → n ≡ m → c ≡ d
+      → RepliesTo m o d asks r → RepliesTo n o c also s → asks ++ more ≡ also ++ later → Same asks also r s
+  one_resolved m n o d c asks more also later r s room same_method same_data a b same =
+      one_reply m o d asks more also later r s room a
+      (subst (λ (k : Method). RepliesTo k o d also s) same_method (subst (λ (e : Data). RepliesTo n o e also s) same_data b)) same
 
-  one_result : (uses : Using) (mail : Mailing) (earlier : List CallData) (call : CallData) (r s : Result Data MethodError) → HasPlaces mail
-      → AnswersCall uses mail earlier call r
-      → AnswersCall uses mail earlier call s
-      → r ≡ s
-  one_result uses mail earlier call r s room (NoMethod e is r_is) (NoMethod f js s_is) = both_err e f r s r_is s_is (err_is Method e f (sym is ∙ js))
-  one_result uses mail earlier call r s room (NoMethod e is r_is) (Unresolved n f js ss s_is) = absurd (never_both Method e n (sym is ∙ js))
-  one_result uses mail earlier call r s room (NoMethod e is r_is) (Resolved n c js ss b) = absurd (never_both Method e n (sym is ∙ js))
-  one_result uses mail earlier call r s room (Unresolved m e is rs r_is) (NoMethod f js s_is) = absurd (never_both Method f m (sym js ∙ is))
-  one_result uses mail earlier call r s room (Unresolved m e is rs r_is) (Unresolved n f js ss s_is) = both_err e f r s r_is s_is (err_is Data e f (sym rs ∙ ss))
-  one_result uses mail earlier call r s room (Unresolved m e is rs r_is) (Resolved n c js ss b) = absurd (never_both Data e c (sym rs ∙ ss))
-  one_result uses mail earlier call r s room (Resolved m d is rs a) (NoMethod f js s_is) = absurd (never_both Method f m (sym js ∙ is))
-  one_result uses mail earlier call r s room (Resolved m d is rs a) (Unresolved n f js ss s_is) = absurd (never_both Data f d (sym ss ∙ rs))
-  one_result uses mail earlier call r s room (Resolved m d is rs a) (Resolved n c js ss b) =
-      one_resolved m n mail d c r s room (ok_is Method n m (sym js ∙ is)) (ok_is Data c d (sym ss ∙ rs)) a b
+  same_error : (X : Type 0) (e f : MethodError) → (let x : Result X MethodError = Err e in x) ≡ Err f → (let x : Result Data MethodError = Err e in x) ≡ Err f
+  same_error X e f is = ap (λ (g : MethodError). let x : Result Data MethodError = Err g in x) (err_is X e f is)
+
+  one_result : (uses : Using) (o : MailAndUploads) (earlier : List CallData) (call : CallData) (asks more also later : List BodyAsk) (r s : Result Data MethodError)
+      → HasPlaces o.mail → AnswersCall uses o earlier call asks r → AnswersCall uses o earlier call also s → asks ++ more ≡ also ++ later → Same asks also r s
+  one_result uses o earlier call _ more _ later _ _ room (NoMethod e is) (NoMethod f js) same = (refl, same_error Method e f (sym is ∙ js))
+  one_result uses o earlier call _ more _ later _ _ room (NoMethod e is) (Unresolved n f js ss) same = absurd (never_both Method e n (sym is ∙ js))
+  one_result uses o earlier call _ more _ later _ _ room (NoMethod e is) (Resolved n c js ss b) same = absurd (never_both Method e n (sym is ∙ js))
+  one_result uses o earlier call _ more _ later _ _ room (Unresolved m e is rs) (NoMethod f js) same = absurd (never_both Method f m (sym js ∙ is))
+  one_result uses o earlier call _ more _ later _ _ room (Unresolved m e is rs) (Unresolved n f js ss) same = (refl, same_error Data e f (sym rs ∙ ss))
+  one_result uses o earlier call _ more _ later _ _ room (Unresolved m e is rs) (Resolved n c js ss b) same = absurd (never_both Data e c (sym rs ∙ ss))
+  one_result uses o earlier call _ more _ later _ _ room (Resolved m d is rs a) (NoMethod f js) same = absurd (never_both Method f m (sym js ∙ is))
+  one_result uses o earlier call _ more _ later _ _ room (Resolved m d is rs a) (Unresolved n f js ss) same = absurd (never_both Data f d (sym ss ∙ rs))
+  one_result uses o earlier call asks more also later r s room (Resolved m d is rs a) (Resolved n c js ss b) same =
+      one_resolved m n o d c asks more also later r s room (ok_is Method n m (sym js ∙ is)) (ok_is Data c d (sym ss ∙ rs)) a b same
 
   -- ---- calls
 
@@ -98,25 +129,40 @@ module _ (law : ChangesLaw) where
       omega (arith, long, same)
 
   -- one call more after the same responses
-  one_more : (uses : Using) (mail : Mailing) (xs ys : List CallData) (next : NextCall uses mail xs) (other : NextCall uses mail ys) → HasPlaces mail → xs ≡ ys
-      → next.call ≡ other.call
-      → xs ++ answered_call next.call next.result ∷ [] ≡ ys ++ answered_call other.call other.result ∷ []
-  one_more uses mail xs ys next other room before call =
-      let there : AnswersCall uses mail xs next.call other.result =
-      subst (λ (c : CallData). AnswersCall uses mail xs c other.result) (sym call)
-      (subst (λ (e : List CallData). AnswersCall uses mail e other.call other.result) (sym before) other.answers) in
-      let result : next.result ≡ other.result = one_result uses mail xs next.call next.result other.result room next.answers there in
-      ap (λ (l : List CallData). l ++ answered_call next.call next.result ∷ []) before
-      ∙ ap (λ (c : CallData). ys ++ answered_call c next.result ∷ []) call
-      ∙ ap (λ (r : Result Data MethodError). ys ++ answered_call other.call r ∷ []) result
+  one_more : (uses : Using) (o : MailAndUploads) (xs ys : List CallData) (next : NextCall uses o xs) (other : NextCall uses o ys) (more later : List BodyAsk) → HasPlaces o.mail
+      → xs ≡ ys → next.call ≡ other.call → next.asks ++ more ≡ other.asks ++ later
+      → (next.asks ≡ other.asks) × (xs ++ answered_call next.call next.result ∷ [] ≡ ys ++ answered_call other.call other.result ∷ [])
+  one_more uses o xs ys next other more later room before call same =
+      let there : AnswersCall uses o xs next.call other.asks other.result =
+      subst (λ (c : CallData). AnswersCall uses o xs c other.asks other.result) (sym call)
+      (subst (λ (e : List CallData). AnswersCall uses o e other.call other.asks other.result) (sym before) other.answers) in
+      let result : Same next.asks other.asks next.result other.result =
+      one_result uses o xs next.call next.asks more other.asks later next.result other.result room next.answers there same in (
+        result.0,
+        ap (λ (l : List CallData). l ++ answered_call next.call next.result ∷ []) before
+        ∙ ap (λ (c : CallData). ys ++ answered_call c next.result ∷ []) call
+        ∙ ap (λ (r : Result Data MethodError). ys ++ answered_call other.call r ∷ []) result.1,
+      )
 
-  pub one_list : (uses : Using) (mail : Mailing) → HasPlaces mail → {calls others xs ys : List CallData} → AnswersCalls uses mail calls xs
-      → AnswersCalls uses mail others ys
-      → calls ≡ others
-      → xs ≡ ys
-  one_list uses mail room NoCalls NoCalls is = refl
-  one_list uses mail room NoCalls (MoreCalls {calls = others} other those) is = absurd (nothing_added others other.call is)
-  one_list uses mail room (MoreCalls {calls = calls} next rest) NoCalls is = absurd (nothing_added calls next.call (sym is))
-  one_list uses mail room (MoreCalls {calls = calls} {responses = xs} next rest) (MoreCalls {calls = others} {responses = ys} other those) is =
+  -- whatever is asked after them
+  lists : (uses : Using) (o : MailAndUploads) → HasPlaces o.mail → {calls others xs ys : List CallData} {asks also : List BodyAsk} (more later : List BodyAsk)
+      → AnswersCalls uses o calls asks xs → AnswersCalls uses o others also ys → calls ≡ others → asks ++ more ≡ also ++ later → (asks ≡ also) × (xs ≡ ys)
+  lists uses o room more later NoCalls NoCalls is same = (refl, refl)
+  lists uses o room more later NoCalls (MoreCalls {calls = others} other those) is same = absurd (nothing_added others other.call is)
+  lists uses o room more later (MoreCalls {calls = calls} next rest) NoCalls is same = absurd (nothing_added calls next.call (sym is))
+  lists uses o room more later (MoreCalls {calls = calls} {responses = xs} {asks = asks} next rest) (MoreCalls {calls = others} {responses = ys} {asks = also} other those) is same =
       let both = same_from_push calls others next.call other.call is in
-      one_more uses mail xs ys next other room (one_list uses mail room rest those both.0) both.1
+      let apart : asks ++ (next.asks ++ more) ≡ also ++ (other.asks ++ later) =
+      sym (append_assoc asks next.asks more) ∙ same ∙ append_assoc also other.asks later in
+      let before = lists uses o room (next.asks ++ more) (other.asks ++ later) rest those both.0 apart in
+      let last : next.asks ++ more ≡ other.asks ++ later =
+      append_cancel_left also (next.asks ++ more) (other.asks ++ later)
+      (ap (λ (l : List BodyAsk). l ++ (next.asks ++ more)) (sym before.0) ∙ apart) in
+      let now = one_more uses o xs ys next other more later room before.1 both.1 last in (
+        ap (λ (l : List BodyAsk). l ++ next.asks) before.0 ∙ ap (λ (l : List BodyAsk). also ++ l) now.0,
+        now.1,
+      )
+
+  pub one_list : (uses : Using) (o : MailAndUploads) (calls : List CallData) (asks : List BodyAsk) (xs ys : List CallData) → HasPlaces o.mail
+      → AnswersCalls uses o calls asks xs → AnswersCalls uses o calls asks ys → xs ≡ ys
+  one_list uses o calls asks xs ys room a b = (lists uses o room [] [] a b refl refl).1

@@ -1,7 +1,8 @@
--- The answers to a request's calls, one after another (RFC 8620 sections 3.2 to 3.7).
+-- The answers to a request's calls, one after another, and the bodies that they ask (RFC 8620 sections 3.2 to 3.7).
 use Rattle.std.specs.Prelude.{◌≡◌, ◌++◌, Bool, List, [], ◌∷◌, Result, Ok, Err, codes}
 use Rattle.std.specs.List.{list_any}
 use Rattle.serde_json.specs.Data.{Data}
+use Rattle.email_bodies.specs.Asking.{BodyAsk}
 use Rattle.jmap_methods.specs.Errors.{error_data}
 use Rattle.gate_calls.specs.MethodNames.{method_asked, needs_mail_by}
 use Rattle.gate_calls.specs.declared.method.Method.{Method}
@@ -9,16 +10,16 @@ use Rattle.jmap_methods.specs.declared.using.Using.{Using}
 use Rattle.jmap_methods.specs.declared.method_error.MethodError.{MethodError}
 use Rattle.jmap_core.specs.References.{resolved_arguments}
 use Rattle.jmap_core.specs.Request.{CallData}
-use Rattle.gate_calls.specs.Mailings.{Mailing}
-use Rattle.gate_calls.specs.Methods.{RepliesAtOnce}
+use Rattle.gate_calls.specs.Mailings.{MailAndUploads}
+use Rattle.gate_calls.specs.Methods.{RepliesTo}
 
 -- What a call comes to, after these responses: its name is looked at first, then its references, then the method's own arguments.
-pub data AnswersCall (uses : Using) (mail : Mailing) (earlier : List CallData) (call : CallData) (result : Result Data MethodError) : Type 0 where
-  NoMethod : (e : MethodError) → method_asked uses call.name ≡ Err e → result ≡ Err e → AnswersCall uses mail earlier call result
-  Unresolved : (m : Method) (e : MethodError) → method_asked uses call.name ≡ Ok m → resolved_arguments earlier call.arguments ≡ Err e → result ≡ Err e
-      → AnswersCall uses mail earlier call result
-  Resolved : (m : Method) (d : Data) → method_asked uses call.name ≡ Ok m → resolved_arguments earlier call.arguments ≡ Ok d → RepliesAtOnce m mail d result
-      → AnswersCall uses mail earlier call result
+pub data AnswersCall (uses : Using) (over : MailAndUploads) (earlier : List CallData) (call : CallData) : List BodyAsk → Result Data MethodError → Type 0 where
+  NoMethod : (e : MethodError) → method_asked uses call.name ≡ Err e → AnswersCall uses over earlier call [] (Err e)
+  Unresolved : (m : Method) (e : MethodError) → method_asked uses call.name ≡ Ok m → resolved_arguments earlier call.arguments ≡ Err e
+      → AnswersCall uses over earlier call [] (Err e)
+  Resolved : {asks : List BodyAsk} {result : Result Data MethodError} (m : Method) (d : Data) → method_asked uses call.name ≡ Ok m
+      → resolved_arguments earlier call.arguments ≡ Ok d → RepliesTo m over d asks result → AnswersCall uses over earlier call asks result
 
 -- the one response to a call
 abbrev pub answered_call : CallData → Result Data MethodError → CallData
@@ -26,16 +27,17 @@ answered_call call (Ok arguments) = record call { arguments = arguments }
 answered_call call (Err e) = record { name = codes "error"; arguments = error_data e; id = call.id }
 
 -- one call more, after these responses to those before it
-pub record NextCall (uses : Using) (mail : Mailing) (earlier : List CallData) : Type 0 where
+pub record NextCall (uses : Using) (over : MailAndUploads) (earlier : List CallData) : Type 0 where
   pub call : CallData
+  pub asks : List BodyAsk
   pub result : Result Data MethodError
-  pub answers : AnswersCall uses mail earlier call result
+  pub answers : AnswersCall uses over earlier call asks result
 
--- The responses to the calls of a request in order, each after those to the calls before it.
-pub data AnswersCalls (uses : Using) (mail : Mailing) : List CallData → List CallData → Type 0 where
-  NoCalls : AnswersCalls uses mail [] []
-  MoreCalls : {calls responses : List CallData} (next : NextCall uses mail responses) → AnswersCalls uses mail calls responses
-      → AnswersCalls uses mail (calls ++ next.call ∷ []) (responses ++ answered_call next.call next.result ∷ [])
+-- The responses to the calls of a request in order, each after those to the calls before it, and the bodies that they ask on the way.
+pub data AnswersCalls (uses : Using) (over : MailAndUploads) : List CallData → List BodyAsk → List CallData → Type 0 where
+  NoCalls : AnswersCalls uses over [] [] []
+  MoreCalls : {calls responses : List CallData} {asks : List BodyAsk} (next : NextCall uses over responses) → AnswersCalls uses over calls asks responses
+      → AnswersCalls uses over (calls ++ next.call ∷ []) (asks ++ next.asks) (responses ++ answered_call next.call next.result ∷ [])
 
 -- whether one of them needs the mail
 abbrev pub needs_mail : List CallData → Bool

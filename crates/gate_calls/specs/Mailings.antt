@@ -1,13 +1,17 @@
 -- The mail over which the calls of a request are answered, after its link life (RFC 8620 section 3.6.2).
-use Rattle.std.specs.Prelude.{Option, Some, None, Result, Ok, Err}
+use Rattle.std.specs.Prelude.{◌≡◌, ℕ, List, Option, Some, None, Result, Ok, Err}
 use Rattle.jmap_methods.specs.declared.method_error.MethodError.{MethodError}
 use Rattle.jmap_methods.specs.declared.method_error.MethodError.TheVariants.{ServerUnavailable, ServerFail}
 use Rattle.mail_state.specs.History.{MailHistory}
+use Rattle.mail_state.specs.State.{IsStateOf}
 use Rattle.gate_machine.specs.History.{KnownMail}
 use Rattle.gate_machine.specs.declared.standing.Fall.{Fall}
 use Rattle.gate_machine.specs.declared.standing.Fall.TheVariants.{Linked, Spent}
 use Rattle.gate_machine.specs.declared.standing.Standing.{Standing}
 use Rattle.gate_machine.specs.declared.standing.Standing.TheVariants as standing
+use Rattle.gate_calls.specs.declared.mail.Mail.{Mail}
+use Rattle.gate_calls.specs.declared.mail.Mail.TheVariants as code
+use Rattle.gate_calls.specs.declared.mail.Over.{Over}
 
 -- what has become of the mail; or the error of each call that isn't refused by its name or its arguments
 abbrev pub Mailing : Type 0
@@ -28,7 +32,19 @@ mailing_by standing.Stands known = history_of known
 mailing_by (standing.Fell why) known = Err (error_of why)
 mailing_by standing.OutOfMemory known = Err ServerUnavailable
 
--- the same, where it is said whether the mail was told, or which error there is
-abbrev pub mail_told : Result (Unit {0}) MethodError → Option KnownMail → Mailing
-mail_told (Ok _) known = history_of known
-mail_told (Err e) known = Err e
+-- the mail, and the uploads that are kept
+pub record MailAndUploads : Type 0 where
+  pub mail : Mailing
+  pub uploads : List (List ℕ)
+
+-- ---- the code's mail
+
+-- the state that stands for what has become of the mail; or the same error
+abbrev pub IsMailOf : Mailing → Mail → Type 0
+IsMailOf (Ok h) (code.Told state) = IsStateOf h state.now
+IsMailOf (Err e) (code.Untold error) = error ≡ e
+IsMailOf _ _ = ⊥
+
+pub record AreOf (over : MailAndUploads) (c : Over) : Type 0 where
+  pub mail : IsMailOf over.mail c.mail
+  pub uploads : c.uploads.now ≡ over.uploads

@@ -2,21 +2,21 @@
 ghost use Rattle.std.specs.Prelude.{◌≡◌, Err, Ok, IfOk, All, map, false};
 ghost use Rattle.serde_json.specs.View.{view};
 ghost use Rattle.serde_json.specs.Written.{has_float};
-ghost use Rattle.gate_calls.specs.MethodNames.{method_asked};
-ghost use Rattle.jmap_methods.specs.Outcome.{Meets};
+ghost use Rattle.email_methods.specs.Asked.{AsksAndMeets};
 ghost use Rattle.jmap_methods.specs.declared.using.Using.{Using as using_type};
 ghost use Rattle.jmap_methods.specs.declared.method_error.MethodError.TheVariants.{Memory};
 ghost use Rattle.jmap_core.specs.Request.{call_data};
 ghost use Rattle.jmap_core.specs.Response.{IsWhole};
-ghost use Rattle.gate_machine.specs.Holding.{HoldsMachine};
-ghost use Rattle.gate_machine.specs.Machine.{MachineState};
-ghost use Rattle.gate_calls.specs.Mailings.{mail_told};
+ghost use Rattle.gate_calls.specs.Asking.{AsksAndMakes};
+ghost use Rattle.gate_calls.specs.Mailings.{AreOf, MailAndUploads};
+ghost use Rattle.gate_calls.specs.MethodNames.{method_asked};
 ghost use Rattle.gate_calls.specs.Calls.{AnswersCall, AnswersCalls, answered_call};
 ghost use Rattle.gate_calls.specs.reading.Responding.{IsResponseTo, RespondsTo};
 
+use crate::mail::Over;
 use crate::method::{Method, method_named};
-use crate::methods::{Told, reply};
-use gate_machine::Machine;
+use crate::methods::reply;
+use email_bodies::BodySource;
 use gate_world::Text;
 use jmap_core::{Call, resolve};
 use jmap_methods::{MethodError, Using, error_arguments};
@@ -24,39 +24,42 @@ use serde_json::Value;
 use std::alloc::{AllocError, Global};
 
 // What a call of this method comes to.
-fn method_result(
+fn method_result<W, B: BodySource<W>>(
     alloc: Global,
-    machine: &Machine,
-    told: &Told,
+    over: &Over<'_>,
+    bodies: &mut B,
+    world: &mut W,
     method: Method,
     earlier: &[Call],
     call: &Call,
 ) -> Result<Value, MethodError>
-    ensures meant { (m : MachineState) (uses : using_type) → HoldsMachine m machine.now → method_asked uses call.now.name ≡ Ok method
-        → Meets Memory view result (AnswersCall uses (mail_told told.now m.known) (map call_data earlier.now) (call_data call.now)) }
+    ensures meant { (uses : using_type) → method_asked uses call.now.name ≡ Ok method
+        → AsksAndMeets B.answers B.lacks (bodies.old, world.old) (bodies.new, world.new) Memory view result
+        (λ asks r. (o : MailAndUploads) → AreOf o over.now → AnswersCall uses o (map call_data earlier.now) (call_data call.now) asks r) }
     ensures whole { IfOk result (λ value. has_float (view value) ≡ false) }
 {
     match resolve(alloc, &call.arguments, earlier) {
-        Ok(arguments) => reply(alloc, machine, told, method, arguments),
+        Ok(arguments) => reply(alloc, over, bodies, world, method, arguments),
         Err(error) => Err(error),
     }
 }
 
 // What a call comes to.
-fn call_result(
+fn call_result<W, B: BodySource<W>>(
     alloc: Global,
-    machine: &Machine,
-    told: &Told,
+    over: &Over<'_>,
+    bodies: &mut B,
+    world: &mut W,
     uses: Using,
     earlier: &[Call],
     call: &Call,
 ) -> Result<Value, MethodError>
-    ensures meant { (m : MachineState) → HoldsMachine m machine.now
-        → Meets Memory view result (AnswersCall uses (mail_told told.now m.known) (map call_data earlier.now) (call_data call.now)) }
+    ensures meant { AsksAndMeets B.answers B.lacks (bodies.old, world.old) (bodies.new, world.new) Memory view result
+        (λ asks r. (o : MailAndUploads) → AreOf o over.now → AnswersCall uses o (map call_data earlier.now) (call_data call.now) asks r) }
     ensures whole { IfOk result (λ value. has_float (view value) ≡ false) }
 {
     match method_named(uses, call.name.as_str()) {
-        Ok(method) => method_result(alloc, machine, told, method, earlier, call),
+        Ok(method) => method_result(alloc, over, bodies, world, method, earlier, call),
         Err(error) => Err(error),
     }
 }
@@ -99,37 +102,47 @@ fn response_of(
 }
 
 // The one response to a call.
-fn response_to(
+fn response_to<W, B: BodySource<W>>(
     alloc: Global,
-    machine: &Machine,
-    told: &Told,
+    over: &Over<'_>,
+    bodies: &mut B,
+    world: &mut W,
     uses: Using,
     earlier: &[Call],
     call: &Call,
 ) -> Result<Call, AllocError>
-    ensures meant { IfOk result (λ r. (m : MachineState) → HoldsMachine m machine.now
-        → RespondsTo uses (mail_told told.now m.known) (map call_data earlier.now) (call_data call.now) (call_data r)) }
+    ensures meant { AsksAndMakes B.answers B.lacks (bodies.old, world.old) (bodies.new, world.new) result
+        (λ r asks. (o : MailAndUploads) → AreOf o over.now → RespondsTo uses o (map call_data earlier.now) (call_data call.now) asks (call_data r)) }
     ensures whole { IfOk result IsWhole }
 {
-    let came = call_result(alloc, machine, told, uses, earlier, call);
+    let came = call_result(alloc, over, bodies, world, uses, earlier, call);
     response_of(alloc, call, came)
 }
 
-/// The responses to calls, in order.
-pub fn responses_to(
+/// The responses to calls, in order. Bodies are asked of the source, in the outside, as the calls need them.
+pub fn responses_to<W, B: BodySource<W>>(
     alloc: Global,
-    machine: &Machine,
-    told: &Told,
+    over: &Over<'_>,
+    bodies: &mut B,
+    world: &mut W,
     uses: Using,
     calls: &[Call],
 ) -> Result<Vec<Call>, AllocError>
-    ensures meant { IfOk result (λ v. (m : MachineState) → HoldsMachine m machine.now
-        → AnswersCalls uses (mail_told told.now m.known) (map call_data calls.now) (map call_data v.items)) }
+    ensures meant { AsksAndMakes B.answers B.lacks (bodies.old, world.old) (bodies.new, world.new) result
+        (λ v asks. (o : MailAndUploads) → AreOf o over.now → AnswersCalls uses o (map call_data calls.now) asks (map call_data v.items)) }
     ensures whole { IfOk result (λ v. All IsWhole v.items) }
 {
     let mut responses = Vec::with_capacity(alloc, calls.len())?;
     for call in calls {
-        let response = response_to(alloc, machine, told, uses, responses.as_slice(), call)?;
+        let response = response_to(
+            alloc,
+            over,
+            bodies,
+            world,
+            uses,
+            responses.as_slice(),
+            call,
+        )?;
         responses.push(response)?;
     }
     Ok(responses)

@@ -1,17 +1,21 @@
 //! Laws of answers to calls, as clauses of functions that do nothing.
 ghost use Rattle.std.specs.Prelude.{◌≡◌, List};
+ghost use Rattle.email_bodies.specs.Asking.{BodyAsk};
 ghost use Rattle.jmap_methods.specs.declared.using.Using.{Using};
 ghost use Rattle.jmap_core.specs.Request.{CallData};
 ghost use Rattle.gate_calls.specs.Calls.{AnswersCalls};
-ghost use Rattle.gate_calls.specs.Mailings.{Mailing};
+ghost use Rattle.gate_calls.specs.Mailings.{MailAndUploads};
 ghost use Rattle.gate_calls.specs.Places.{HasPlaces};
 
+use email_methods::laws::{one_get_answer, one_parse_answer};
 use read_methods::laws::one_changes_answer;
 
-/// Over some mail the calls of a request have one list of responses.
+/// Over some mail and uploads, and by what was asked and how it was answered, the calls of a request have one list of responses.
 pub fn one_list_of_responses()
-    ensures { (uses : Using) (mail : Mailing) (calls a b : List CallData)
-        → HasPlaces mail → AnswersCalls uses mail calls a → AnswersCalls uses mail calls b → a ≡ b }
+    ensures { (uses : Using) (over : MailAndUploads) (calls : List CallData) (asks : List BodyAsk) (a b : List CallData)
+        → HasPlaces over.mail → AnswersCalls uses over calls asks a → AnswersCalls uses over calls asks b → a ≡ b }
 {
     one_changes_answer();
+    one_get_answer();
+    one_parse_answer();
 }

@@ -1,7 +1,8 @@
-//! The calls of a request: whether they need the mail, and what each is answered over the mail that the machine serves.
+//! The calls of a request: whether they need the mail, and what each is answered over the mail that is served.
 #![tactic(auto)]
 
-// Methods.
+// Methods, and what they are answered over.
+mod mail;
 mod method;
 mod methods;
 
@@ -14,6 +15,6 @@ mod laws;
 
 pub use calls::responses_to;
 pub use laws::one_list_of_responses;
+pub use mail::{Mail, Over};
 pub use method::{Method, method_named, name_needs_mail};
-pub use methods::{Told, is_told};
 pub use needs::needs_mail;

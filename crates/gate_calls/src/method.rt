@@ -17,8 +17,12 @@ pub enum Method {
     ThreadGet,
     /// RFC 8621 section 3.2
     ThreadChanges,
+    /// RFC 8621 section 4.2
+    EmailGet,
     /// RFC 8621 section 4.3
     EmailChanges,
+    /// RFC 8621 section 4.9
+    EmailParse,
 }
 
 fn method_of(name: &str) -> Option<Method>
@@ -30,7 +34,9 @@ fn method_of(name: &str) -> Option<Method>
         "Mailbox/changes" => Some(Method::MailboxChanges),
         "Thread/get" => Some(Method::ThreadGet),
         "Thread/changes" => Some(Method::ThreadChanges),
+        "Email/get" => Some(Method::EmailGet),
         "Email/changes" => Some(Method::EmailChanges),
+        "Email/parse" => Some(Method::EmailParse),
         _ => None,
     }
 }

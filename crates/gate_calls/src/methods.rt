@@ -1,19 +1,21 @@
 // What methods answer over the mail that is served.
-ghost use Rattle.std.specs.Prelude.{◌≡◌, Err, Ok, IfOk, OnOk, Result as result_type, false, is_ok};
+ghost use Rattle.std.specs.Prelude.{◌≡◌, ℕ, List, [], Err, Ok, IfOk, OnOk, Result as result_type, false};
 ghost use Rattle.serde_json.specs.View.{view};
 ghost use Rattle.serde_json.specs.Written.{has_float};
+ghost use Rattle.email_methods.specs.Asked.{AsksAndMeets};
 ghost use Rattle.jmap_methods.specs.Outcome.{Agrees, Meets};
 ghost use Rattle.jmap_methods.specs.declared.method_error.MethodError.{MethodError as error_type};
 ghost use Rattle.jmap_methods.specs.declared.method_error.MethodError.TheVariants.{Memory};
 ghost use Rattle.mail_state.specs.History.{MailHistory};
 ghost use Rattle.mail_state.specs.State.{IsStateOf};
-ghost use Rattle.gate_machine.specs.Holding.{HoldsMachine};
-ghost use Rattle.gate_machine.specs.Machine.{MachineState};
-ghost use Rattle.gate_calls.specs.Mailings.{mail_told};
-ghost use Rattle.gate_calls.specs.Methods.{RepliesAtOnce, unless_refused};
+ghost use Rattle.gate_calls.specs.Mailings.{AreOf, MailAndUploads};
+ghost use Rattle.gate_calls.specs.Methods.{AtOnce, RepliesTo, unless_refused};
 
+use crate::mail::{Mail, Over};
 use crate::method::Method;
-use gate_machine::Machine;
+use blob_store::BlobStore;
+use email_bodies::BodySource;
+use email_methods::{check_email_get, check_email_parse, email_get, email_parse};
 use jmap_methods::{MethodError, echo};
 use mail_state::MailState;
 use read_methods::{
@@ -22,19 +24,6 @@ use read_methods::{
 };
 use serde_json::Value;
 use std::alloc::Global;
-
-/// That the mail which the machine knows is what the store told in this request; or the error of each call that needs it.
-pub type Told = Result<(), MethodError>;
-
-/// Whether there is mail over which calls are answered.
-pub fn is_told(machine: &Machine, told: &Told) -> bool
-    ensures { (m : MachineState) → HoldsMachine m machine.now → is_ok (mail_told told.now m.known) ≡ result }
-{
-    match told {
-        Ok(_) => machine.known.is_some(),
-        Err(_) => false,
-    }
-}
 
 // The refusal, or the error.
 fn refusal_or(refused: Result<(), MethodError>, error: MethodError) -> Result<Value, MethodError>
@@ -54,7 +43,7 @@ fn reply_without(
     error: MethodError,
     arguments: Value,
 ) -> Result<Value, MethodError>
-    ensures meant { Meets Memory view result (RepliesAtOnce method (Err error) (view arguments)) }
+    ensures meant { (uploads : List (List ℕ)) → Meets Memory view result (RepliesTo method (record { mail = Err error; uploads = uploads }) (view arguments) []) }
     ensures whole { IfOk result (λ value. has_float (view value) ≡ false) }
 {
     match method {
@@ -63,18 +52,24 @@ fn reply_without(
         Method::MailboxChanges => refusal_or(check_changes(&arguments), error),
         Method::ThreadGet => refusal_or(check_thread_get(alloc, &arguments), error),
         Method::ThreadChanges => refusal_or(check_changes(&arguments), error),
+        Method::EmailGet => refusal_or(check_email_get(alloc, &arguments), error),
         Method::EmailChanges => refusal_or(check_changes(&arguments), error),
+        Method::EmailParse => refusal_or(check_email_parse(alloc, &arguments), error),
     }
 }
 
 // A method over the mail that is served.
-fn reply_over(
+fn reply_over<W, B: BodySource<W>>(
     alloc: Global,
     state: &MailState,
+    uploads: &BlobStore,
+    bodies: &mut B,
+    world: &mut W,
     method: Method,
     arguments: Value,
 ) -> Result<Value, MethodError>
-    ensures meant { (h : MailHistory) → IsStateOf h state.now → Meets Memory view result (RepliesAtOnce method (Ok h) (view arguments)) }
+    ensures meant { AsksAndMeets B.answers B.lacks (bodies.old, world.old) (bodies.new, world.new) Memory view result
+        (λ asks r. (h : MailHistory) → IsStateOf h state.now → RepliesTo method (record { mail = Ok h; uploads = uploads.now }) (view arguments) asks r) }
     ensures whole { IfOk result (λ value. has_float (view value) ≡ false) }
 {
     match method {
@@ -83,27 +78,29 @@ fn reply_over(
         Method::MailboxChanges => mailbox_changes(alloc, state, &arguments),
         Method::ThreadGet => thread_get(alloc, state, &arguments),
         Method::ThreadChanges => thread_changes(alloc, state, &arguments),
+        Method::EmailGet => email_get(alloc, state, bodies, world, &arguments),
         Method::EmailChanges => email_changes(alloc, state, &arguments),
+        Method::EmailParse => email_parse(alloc, state, uploads, bodies, world, &arguments),
     }
 }
 
 /// A method over its arguments.
-pub fn reply(
+pub fn reply<W, B: BodySource<W>>(
     alloc: Global,
-    machine: &Machine,
-    told: &Told,
+    over: &Over<'_>,
+    bodies: &mut B,
+    world: &mut W,
     method: Method,
     arguments: Value,
 ) -> Result<Value, MethodError>
-    ensures meant { (m : MachineState) → HoldsMachine m machine.now
-        → Meets Memory view result (RepliesAtOnce method (mail_told told.now m.known) (view arguments)) }
+    ensures meant { AsksAndMeets B.answers B.lacks (bodies.old, world.old) (bodies.new, world.new) Memory view result
+        (λ asks r. (o : MailAndUploads) → AreOf o over.now → RepliesTo method o (view arguments) asks r) }
     ensures whole { IfOk result (λ value. has_float (view value) ≡ false) }
 {
-    match told {
-        Ok(_) => match &machine.known {
-            Some(known) => reply_over(alloc, known.state(), method, arguments),
-            None => reply_without(alloc, method, MethodError::ServerUnavailable, arguments),
-        },
-        Err(error) => reply_without(alloc, method, *error, arguments),
+    match &over.mail {
+        Mail::Told(state) => {
+            reply_over(alloc, *state, over.uploads, bodies, world, method, arguments)
+        }
+        Mail::Untold(error) => reply_without(alloc, method, *error, arguments),
     }
 }

@@ -11,31 +11,48 @@ use Rattle.gate_world.specs.declared.event.Event.{Event}
 use Rattle.gate_world.specs.declared.event.Event.TheVariants.{Accepted, NoMore, ClientDone, FrontFailed}
 use Rattle.gate_world.specs.declared.outside.Failed.{Failed}
 use Rattle.http_door.specs.declared.asking.AskError.TheVariants as unread
+use Rattle.gate_world.specs.Tape.{Adds}
+use Rattle.gate_world.proofs.Joins.{join}
+use Rattle.email_bodies.specs.Asking.{BodyAsk, Asks, NoneAsked, OneMore}
+use Rattle.email_bodies.specs.declared.source.MessagePlace.{MessagePlace}
+use Rattle.imap_exchange.specs.Answering.{HangsUp}
+use Rattle.imap_client.specs.LinkLife.{ClientState}
+use Rattle.imap_client.specs.Rounds.{CountsOn}
+use Rattle.mail_state.specs.History.{MailHistory}
+use Rattle.mail_state.specs.State.{IsStateOf}
 use Rattle.jmap_methods.specs.declared.method_error.MethodError.{MethodError}
 use Rattle.jmap_methods.specs.declared.method_error.MethodError.TheVariants.{ServerUnavailable}
-use Rattle.gate_machine.specs.Progress.{Progress, Bears, idle}
-use Rattle.gate_machine.specs.Beginning.{Visits}
+use Rattle.gate_machine.specs.Progress.{Progress, Bears, CameTo, idle}
+use Rattle.gate_machine.specs.Beginning.{BeginsTo}
+use Rattle.gate_machine.specs.Fetching.{AllAsked, NoBodies}
+use Rattle.gate_machine.specs.History.{KnownMail}
+use Rattle.gate_machine.specs.Kept.{ServedMail}
+use Rattle.gate_machine.specs.Lending.{GoesOn, HoldsSource, IsLentOf, Moment}
 use Rattle.gate_machine.specs.Holding.{HoldsMachine}
 use Rattle.gate_machine.specs.Machine.{MachineState, forgotten}
 use Rattle.gate_machine.specs.declared.machine.Machine.{Machine}
 use Rattle.gate_machine.specs.declared.standing.Standing.{Standing}
-use Rattle.gate_machine.specs.declared.standing.Standing.TheVariants.{OutOfMemory}
-use Rattle.jmap_core.specs.Request.{CallData, RequestData}
-use Rattle.gate_calls.specs.Calls.{AnswersCalls}
-use Rattle.gate_calls.specs.Mailings.{Mailing, mail_told, mailing_by}
+use Rattle.gate_machine.specs.declared.standing.Standing.TheVariants.{Stands, Fell, OutOfMemory}
+use Rattle.gate_machine.specs.declared.standing.Fall.{Fall}
+use Rattle.gate_machine.proofs.Asking.{AsksShort, AsksThese, Answers, Lacks, asked_in_vain, asked_these, bodies_stay}
+use Rattle.gate_machine.proofs.Stages.{holds_none, stays_borne, up_is}
+use Rattle.gate_calls.specs.declared.mail.Over.{Over}
+use Rattle.gate_calls.specs.Asking.{AsksAndMakes}
+use Rattle.gate_calls.specs.Mailings.{Mailing, MailAndUploads, AreOf, error_of, mailing_by}
+use Rattle.gate_calls.proofs.Calling.{none_asked}
 use Rattle.gate_serving.specs.declared.door.Door.{Door}
 use Rattle.gate_serving.specs.declared.gate.Gate.{Gate}
 use Rattle.gate_serving.specs.declared.response.Response.{Response}
 use Rattle.gate_serving.specs.declared.served.Served.{Served}
 use Rattle.gate_serving.specs.declared.served.Served.TheVariants as served
-use Rattle.gate_serving.specs.Answers.{Answer, IsAnswer, IsResponse, KeepsUpload, TakesMemory, calls_text, json_answer, no_memory_text, spelled}
+use Rattle.gate_serving.specs.Answers.{Answer, IsAnswer, IsResponse, KeepsUpload, MayKeepUpload, TakesMemory, no_memory_text, spelled}
 use Rattle.gate_serving.specs.GateState.{GateState, unready_state}
 use Rattle.gate_serving.specs.Requests.{Account, Asking, Calls, Problem, Session, Upload, Download, Refused, ReadsAsking, asks_for_mail}
 use Rattle.gate_serving.specs.Segment.{Replies, Answered, LacksReading, LacksAnswering, Segment, NoneComes, NotAccepted, Left, Unasked, Replied, reply_blamed, blamed, went, unsent}
 use Rattle.gate_serving.specs.Segment.{blame_front}
 use Rattle.gate_serving.specs.Run.{AddsSegment}
 use Rattle.gate_serving.specs.Work.{NoMail, WithMail}
-use Rattle.gate_serving.specs.reading.Replying.{IsWorked, WorksTo, IsMade, AnswersTo, RepliesToAsking, IsUnread, RepliesBy, SendsReply, Serves}
+use Rattle.gate_serving.specs.reading.Replying.{Finishes, IsMadeOver, IsMade, AnswersTo, machine_left, RepliesToAsking, IsUnread, RepliesBy, SendsReply, Serves}
 use Rattle.gate_serving.specs.Gates.{GateHolds, RestStays, account_by}
 use Rattle.gate_serving.specs.reading.Texts.{text_sent}
 use Rattle.gate_serving.proofs.Gates.{same_account}
@@ -97,163 +114,6 @@ later_front was now alone = record { link = omega (arith, alone.link); keep = om
 
 -- ---- the work
 
--- the work on what doesn't need the mail: nothing is done, and there is no mail
-pub works_without : (user password : List ℕ) (asks : Bool) (before : MachineState) (kept : Machine) (f : Faults) → HoldsMachine before kept → Later f f → asks ≡ false
-    → WorksTo user password asks before kept f f (Ok (Err ServerUnavailable)) []
-works_without user password asks before kept f held same asks_is =
-    record {
-      mail = Err ServerUnavailable;
-      done = idle before;
-      work = λ token base asking is. NoMail (is ∙ asks_is) refl refl refl;
-      held = held;
-      bears = bears_none f f same;
-      worked = (refl, (λ is. cc));
-    }
-
-is_worked : (result : Result (Result (Unit {0}) MethodError) AllocError) (how : Standing) (p : Progress) → p.standing ≡ how
-    → IfOk result (λ told. (m : MachineState) → mailing_by how m.known ≡ mail_told told m.known) → IfOk result (λ told. how ≢ OutOfMemory)
-    → IsWorked result (mailing_by p.standing p.machine.known) (record p { left = None })
-is_worked (Ok told) how p standing_is meant memory =
-    (ap (λ (s : Standing). mailing_by s p.machine.known) standing_is ∙ meant p.machine, (λ out. memory (sym standing_is ∙ out)))
-is_worked (Err e) how p standing_is meant memory = tt
-
--- the work on what needs the mail: its link life, and the mail by how that went
-pub works_visited : {user password : List ℕ} {before : MachineState} {kept : Machine} {how : Standing} {was now : Faults} {events : List Event} (asks : Bool)
-    (result : Result (Result (Unit {0}) MethodError) AllocError)
-    → asks ≡ true → Visits user password before kept how was now events
-    → IfOk result (λ told. (m : MachineState) → mailing_by how m.known ≡ mail_told told m.known) → IfOk result (λ told. how ≢ OutOfMemory)
-    → WorksTo user password asks before kept was now result events
-works_visited {how = how} asks result asks_is v meant memory =
-    record {
-      mail = mailing_by v.after.standing v.after.machine.known;
-      done = record v.after { left = None };
-      work = λ token base asking is. WithMail (is ∙ asks_is) record {
-        begun = v.after;
-        beginning = v.beginning;
-        ending = v.ending;
-        prepares = v.begins;
-        hangs_up = v.hangs;
-        whole = v.whole;
-        mail_is = refl;
-        after_is = refl;
-      };
-      held = v.held;
-      bears = v.bears;
-      worked = is_worked result how v.after v.standing_is meant memory;
-    }
-
--- ---- the answer
-
--- what is found of what there is
-pub found_is : (r : Option (Bor (List ℕ))) (o : Option (List ℕ)) → MatchOption r (o ≡ None) (λ x. o ≡ Some x.now) → option_copied r ≡ o
-found_is None o is = sym is
-found_is (Some x) o is = sym is
-
--- the response that has this text is one to what is asked, whatever the mail is
-pub is_response : (door : Door) (account : Hidden → Account) (told : Result (Unit {0}) MethodError) (kept : Machine) (uploads : List (List ℕ)) (asking : Asking)
-    (answer : Answer) (result : Result Response AllocError)
-    → ((s : Hidden) (m : MachineState) → HoldsMachine m kept → IsAnswer (account s) (mail_told told m.known) uploads asking answer)
-    → IfOk result (λ r. text_sent r ≡ spelled door answer)
-    → IfOk result (λ r. (s : Hidden) (m : MachineState) → HoldsMachine m kept → IsResponse door (account s) (mail_told told m.known) uploads asking (text_sent r))
-is_response door account told kept uploads asking answer (Ok r) is_answer text_is =
-    λ s m held. record { answer = answer; is_answer = is_answer s m held; text_is = text_is }
-is_response door account told kept uploads asking answer (Err e) is_answer text_is = tt
-
--- the same of a gate that was asked this
-pub made_for : (gate : Gate) (told : Result (Unit {0}) MethodError) (asking asked : Asking) (answer : Answer) (result : Result Response AllocError) → asked ≡ asking
-    → ((s : Hidden) (m : MachineState) → HoldsMachine m gate.machine → IsAnswer (account_by gate s) (mail_told told m.known) gate.uploads asking answer)
-    → IfOk result (λ r. text_sent r ≡ spelled gate.door answer)
-    → IfOk result (λ r. (s : Hidden) (m : MachineState) → HoldsMachine m gate.machine
-    → IsResponse gate.door (account_by gate s) (mail_told told m.known) gate.uploads asked (text_sent r))
-made_for gate told asking asked answer result is is_answer text_is =
-    subst (λ (a : Asking). IfOk result (λ r. (s : Hidden) (m : MachineState) → HoldsMachine m gate.machine
-    → IsResponse gate.door (account_by gate s) (mail_told told m.known) gate.uploads a (text_sent r))) (sym is)
-    (is_response gate.door (λ s. account_by gate s) told gate.machine gate.uploads asking answer result is_answer text_is)
-
-calls_made : (gate : Gate) (told : Result (Unit {0}) MethodError) (request : RequestData) (result : Result Response AllocError)
-    → IfOk result (λ r. (m : MachineState) → HoldsMachine m gate.machine → (responses : List CallData)
-    × AnswersCalls request.uses (mail_told told m.known) request.calls responses
-    × (text_sent r ≡ spelled gate.door (json_answer 200 (calls_text gate.user gate.base responses request))))
-    → IfOk result (λ r. (s : Hidden) (m : MachineState) → HoldsMachine m gate.machine
-    → IsResponse gate.door (account_by gate s) (mail_told told m.known) gate.uploads (Calls request) (text_sent r))
-calls_made gate told request (Ok r) made = λ s m held.
-    let so = made m held in
-    record { answer = json_answer 200 (calls_text gate.user gate.base so.0 request); is_answer = (so.0, so.1, refl); text_is = so.2 }
-calls_made gate told request (Err e) made = tt
-
--- the response to method calls
-pub made_for_calls : (gate : Gate) (told : Result (Unit {0}) MethodError) (request : RequestData) (asked : Asking) (result : Result Response AllocError) → asked ≡ Calls request
-    → IfOk result (λ r. (m : MachineState) → HoldsMachine m gate.machine → (responses : List CallData)
-    × AnswersCalls request.uses (mail_told told m.known) request.calls responses
-    × (text_sent r ≡ spelled gate.door (json_answer 200 (calls_text gate.user gate.base responses request))))
-    → IfOk result (λ r. (s : Hidden) (m : MachineState) → HoldsMachine m gate.machine
-    → IsResponse gate.door (account_by gate s) (mail_told told m.known) gate.uploads asked (text_sent r))
-made_for_calls gate told request asked result is made =
-    subst (λ (a : Asking). IfOk result (λ r. (s : Hidden) (m : MachineState) → HoldsMachine m gate.machine
-    → IsResponse gate.door (account_by gate s) (mail_told told m.known) gate.uploads a (text_sent r))) (sym is) (calls_made gate told request result made)
-
--- the text of an answer that has the responses to calls
-pub answers_request : (door : Door) (user base : List ℕ) (told : Result (Unit {0}) MethodError) (kept : Machine) (request : RequestData) {calls shown : List CallData}
-    (responses : List CallData) (result : Result Response AllocError) → calls ≡ request.calls → shown ≡ responses
-    → ((m : MachineState) → HoldsMachine m kept → AnswersCalls request.uses (mail_told told m.known) calls responses)
-    → IfOk result (λ r. text_sent r ≡ spelled door (json_answer 200 (calls_text user base shown request)))
-    → IfOk result (λ r. (m : MachineState) → HoldsMachine m kept → (responses : List CallData)
-    × AnswersCalls request.uses (mail_told told m.known) request.calls responses × (text_sent r ≡ spelled door (json_answer 200 (calls_text user base responses request))))
-answers_request door user base told kept request responses (Ok r) calls_are shown_is answered text_is = λ m held. (
-  responses,
-  subst (λ (cs : List CallData). AnswersCalls request.uses (mail_told told m.known) cs responses) calls_are (answered m held),
-  text_is ∙ ap (λ (rs : List CallData). spelled door (json_answer 200 (calls_text user base rs request))) shown_is,
-)
-answers_request door user base told kept request responses (Err e) calls_are shown_is answered text_is = tt
-
--- what a gate holds once it was worked for what is asked, and an upload may have been kept
-abbrev came_to : Progress → Gate → GateState
-came_to done gate = record { machine = done.machine; uploads = gate.uploads }
-
-holds_after : (done : Progress) (kept : Machine) (gate : Gate) → HoldsMachine done.machine kept → gate.machine ≡ kept → GateHolds (came_to done gate) gate
-holds_after done kept gate held is = record { machine = subst (λ (k : Machine). HoldsMachine done.machine k) (sym is) held; uploads = refl }
-
--- the response that the gate makes, as it stood before
-made_of : (gate before : Gate) (secrets : Hidden) (told : Result (Unit {0}) MethodError) (mail : Mailing) (asking : Asking) (uploads : List (List ℕ)) (done : Progress)
-    (result : Result Response AllocError) → RestStays before gate → HoldsMachine done.machine gate.machine → mail ≡ mail_told told done.machine.known
-    → done.standing ≢ OutOfMemory → KeepsUpload asking uploads gate.uploads
-    → IfOk result (λ r. (s : Hidden) (m : MachineState) → HoldsMachine m gate.machine
-    → IsResponse gate.door (account_by gate s) (mail_told told m.known) gate.uploads asking (text_sent r))
-    → OnErr result (TakesMemory asking)
-    → (s : GateState) → s.uploads ≡ uploads → IsMade before.door (account_by before secrets) mail asking s (came_to done gate) done result
-made_of gate before secrets told mail asking uploads done (Ok r) rest held mail_is stands kept made takes s same = (
-  subst (λ (d : Door). IsResponse d (account_by before secrets) mail gate.uploads asking (text_sent r)) rest.door
-      (subst (λ (a : Account). IsResponse gate.door a mail gate.uploads asking (text_sent r)) (same_account rest refl)
-      (subst (λ (m : Mailing). IsResponse gate.door (account_by gate secrets) m gate.uploads asking (text_sent r)) (sym mail_is) (made secrets done.machine held))),
-  stands,
-  subst (λ (u : List (List ℕ)). KeepsUpload asking u gate.uploads) (sym same) kept,
-)
-made_of gate before secrets told mail asking uploads done (Err e) rest held mail_is stands kept made takes s same = takes
-
--- there was memory for the work
-pub answers_worked : {kept : Machine} {was now : Faults} {events : List Event} (gate before : Gate) (secrets : Hidden) (asks : Bool) (asking : Asking)
-    (told : Result (Unit {0}) MethodError) (result : Result Response AllocError) (s : GateState)
-    → GateHolds s before → asks_for_mail asking ≡ asks → WorksTo before.user secrets.password asks s.machine kept was now (Ok told) events → gate.machine ≡ kept
-    → KeepsUpload asking before.uploads gate.uploads → RestStays before gate
-    → IfOk result (λ r. (h : Hidden) (m : MachineState) → HoldsMachine m gate.machine
-    → IsResponse gate.door (account_by gate h) (mail_told told m.known) gate.uploads asking (text_sent r))
-    → OnErr result (TakesMemory asking)
-    → (t : GateState) × GateHolds t gate × AnswersTo before.door (account_by before secrets) asking s t was now result events
-answers_worked {kept = kept} gate before secrets asks asking told result s holds asks_is w machine_is keeps rest made takes =
-    let held : GateHolds (came_to w.done gate) gate = holds_after w.done kept gate w.held machine_is in (
-      came_to w.done gate,
-      held,
-      record {
-        mail = w.mail;
-        done = w.done;
-        work = w.work secrets.token before.base asking asks_is;
-        machine_is = refl;
-        bears = w.bears;
-        may = inr (subst (λ (u : List (List ℕ)). KeepsUpload asking u gate.uploads) holds.uploads keeps);
-        made = made_of gate before secrets told w.mail asking before.uploads w.done result rest held.machine w.worked.0 w.worked.1 keeps made takes s (sym holds.uploads);
-      },
-    )
-
 -- what needs the mail takes memory
 pub takes_for_mail : (asking : Asking) (asks : Bool) → asks_for_mail asking ≡ asks → asks ≡ true → TakesMemory asking
 takes_for_mail (Calls request) asks asks_is needs = tt
@@ -263,25 +123,291 @@ takes_for_mail (Upload media octets) asks asks_is needs = tt
 takes_for_mail (Download blob media) asks asks_is needs = tt
 takes_for_mail (Refused refusal) asks asks_is needs = let both : false ≡ true = asks_is ∙ needs in absurd cc
 
--- there was none for it, or none to keep an upload
-pub answers_lacking : {kept : Machine} {was now : Faults} {events : List Event} (gate before : Gate) (secrets : Hidden) (asks : Bool) (asking : Asking) (e : AllocError)
-    (result : Result (Result (Unit {0}) MethodError) AllocError) (s : GateState)
-    → GateHolds s before → asks_for_mail asking ≡ asks → WorksTo before.user secrets.password asks s.machine kept was now result events → gate.machine ≡ kept
-    → gate.uploads ≡ before.uploads → TakesMemory asking
-    → (t : GateState) × GateHolds t gate × AnswersTo before.door (account_by before secrets) asking s t was now (Err e) events
-answers_lacking {kept = kept} gate before secrets asks asking e result s holds asks_is w machine_is same takes = (
-  came_to w.done gate,
-  holds_after w.done kept gate w.held machine_is,
+keeps_for_mail : (asking : Asking) (uploads : List (List ℕ)) → asks_for_mail asking ≡ true → KeepsUpload asking uploads uploads
+keeps_for_mail (Calls request) uploads needs = refl
+keeps_for_mail (Problem e) uploads needs = refl
+keeps_for_mail Session uploads needs = refl
+keeps_for_mail (Upload media octets) uploads needs = let both : false ≡ true = needs in absurd cc
+keeps_for_mail (Download blob media) uploads needs = refl
+keeps_for_mail (Refused refusal) uploads needs = refl
+
+-- what a gate holds once this was answered, or there was no memory for it
+abbrev came_to : Progress → Result Response AllocError → Gate → GateState
+came_to done result gate = record { machine = machine_left result done.machine; uploads = gate.uploads }
+
+made_over : (door : Door) (account : Account) (asking : Asking) (begun answered : Progress) (asks : List BodyAsk) (before after : GateState) (gone : List (List ℕ))
+    (result : Result Response AllocError) → asks_for_mail asking ≡ true → gone ≡ before.uploads → after.uploads ≡ before.uploads
+    → IsMadeOver door account gone asking begun asks answered result
+    → IsMade door account (mailing_by begun.standing begun.machine.known) asking asks before after (record answered { left = None }) result
+made_over door account asking begun answered asks before after gone (Ok r) needs same stays made = (
+  subst (λ (u : List (List ℕ)). IsResponse door account (record { mail = mailing_by begun.standing begun.machine.known; uploads = u }) asking asks (text_sent r))
+      (same ∙ sym stays) made.0,
+  made.1,
+  subst (λ (u : List (List ℕ)). KeepsUpload asking before.uploads u) (sym stays) (keeps_for_mail asking before.uploads needs),
+)
+made_over door account asking begun answered asks before after gone (Err e) needs same stays made = takes_for_mail asking true needs refl
+
+-- the way to the mail, and then the answer over it
+pub answers_over : {machine : Machine} {client : ClientState} {how : Standing} {was then now : Faults} {xs ys : List Event} (gate before : Gate) (secrets : Hidden)
+    (asking : Asking) (result : Result Response AllocError) (s : GateState) (begun : BeginsTo before.user secrets.password s.machine machine client how was then xs)
+    → Finishes before.door (account_by before secrets) before.uploads asking begun.after gate.machine was now result ys → GateHolds s before
+    → asks_for_mail asking ≡ true → gate.uploads ≡ before.uploads
+    → (t : GateState) × GateHolds t gate × AnswersTo before.door (account_by before secrets) asking s t was now result (xs ++ ys)
+answers_over {xs = xs} gate before secrets asking result s begun finishes holds needs same =
+    let after : GateState = came_to finishes.answered result gate in (
+      after,
+      record { machine = finishes.held; uploads = refl },
+      record {
+        mail = mailing_by begun.after.standing begun.after.machine.known;
+        asks = finishes.asks;
+        done = record finishes.answered { left = None };
+        work = WithMail needs (record {
+          begun = begun.after;
+          answered = finishes.answered;
+          beginning = xs;
+          fetching = finishes.fetching;
+          ending = finishes.ending;
+          prepares = begun.begins;
+          mail_is = refl;
+          calls_ask = finishes.calls_ask;
+          hangs_up = finishes.hangs_up;
+          whole = ap (λ (l : List Event). xs ++ l) finishes.whole;
+          after_is = refl;
+        });
+        machine_is = refl;
+        bears = finishes.bears;
+        may = inl (same ∙ holds.uploads);
+        made = made_over before.door (account_by before secrets) asking begun.after finishes.answered finishes.asks s after before.uploads result needs holds.uploads
+            (same ∙ holds.uploads) finishes.made;
+      },
+    )
+
+-- memory ran out on the way: the link life is over, and the machine isn't ready
+pub finishes_nothing : {door : Door} {account : Account} {uploads : List (List ℕ)} {asking : Asking} {machine : Machine} {client : ClientState} {how : Standing}
+    {p : Progress} {was then now : Faults} {ys : List Event} (kept : Machine) (e : AllocError) → CameTo machine client how was then p → kept.known ≡ None
+    → HangsUp client.alive ys → NoFault then now → Finishes door account uploads asking p kept was now (Err e) ys
+finishes_nothing {client = client} {p = p} {was = was} {then = then} {now = now} {ys = ys} kept e came none hangs same =
+    record {
+      asks = [];
+      answered = p;
+      fetching = [];
+      ending = ys;
+      calls_ask = AllAsked NoBodies;
+      hangs_up = subst (λ (b : Bool). HangsUp b ys) (up_is p.left client came.in_life) hangs;
+      whole = refl;
+      held = holds_none (forgotten p.machine) kept none;
+      bears = stays_borne p.blamed was then now came.bears same;
+      made = tt;
+    }
+
+-- ---- over the mail that was told
+
+holds_stands : (p : Progress) (k : KnownMail) → p.standing ≡ Stands → p.machine.known ≡ Some k → mailing_by p.standing p.machine.known ≡ Ok k.history
+holds_stands p k stands ready = (λ i. mailing_by (stands i) (ready i))
+
+not_lacking : (p q : Progress) → q.standing ≡ p.standing → p.standing ≡ Stands → q.standing ≢ OutOfMemory
+not_lacking p q same stands out = let both : Stands ≡ OutOfMemory = sym (same ∙ stands) ∙ out in cc
+
+-- what was lent, and what was asked of it
+module _ {door : Door} {account : Account} {uploads : List (List ℕ)} {asking : Asking} {machine kept : Machine} {client : ClientState} {served : ServedMail} {over : Over}
+    {m n : Moment} {tape : Option (List Event)} {now : Faults}
+    (lent : (p : Progress) (was then : Faults) → CameTo machine client Stands was then p
+    → (k : KnownMail) × (p.machine.known ≡ Some k) × IsLentOf k served × HoldsSource p m.source was then)
+    (is_over : (k : KnownMail) → IsStateOf k.history served.state → AreOf (record { mail = Ok k.history; uploads = uploads }) over)
+    (hang : Adds n.tape tape (HangsUp n.source.client.alive)) (same : NoFault n.faults now) where
+  pub finished_ok : {asks : List BodyAsk} (r : Response) → AsksThese asks m n
+      → ((o : MailAndUploads) → AreOf o over → IsResponse door account o asking asks (text_sent r))
+      → ((p : Progress) (k : KnownMail) (was then : Faults) → p.machine.known ≡ Some k → IsLentOf k served → HoldsSource p n.source was then → HoldsMachine p.machine kept)
+      → Adds m.tape tape (λ es. (p : Progress) (was : Faults) → CameTo machine client Stands was m.faults p
+      → Finishes door account uploads asking p kept was now (Ok r) es)
+  finished_ok {asks} r these made taken =
+      join _ these.run hang (λ es fs run hangs p was came.
+          let l = lent p was m.faults came in
+          let q = run p was l.3 in
+          let stays = bodies_stay l.0 l.1 q.1 in
+          let held : HoldsMachine q.0.machine kept =
+          taken q.0 stays.known was n.faults stays.ready
+          (record {
+            state = subst (λ (h : MailHistory). IsStateOf h served.state) (sym stays.history) l.2.state;
+            served_is = l.2.served_is ∙ ap (λ (h : MailHistory). h.mail) (sym stays.history);
+          }) q.2 in
+          record {
+            asks = asks;
+            answered = q.0;
+            fetching = es;
+            ending = fs;
+            calls_ask = AllAsked q.1;
+            hangs_up = subst (λ (b : Bool). HangsUp b fs) (up_is q.0.left n.source.client q.2.in_life) hangs;
+            whole = refl;
+            held = held;
+            bears = stays_borne q.0.blamed was n.faults now q.2.bears same;
+            made = (
+              subst (λ (x : Mailing). IsResponse door account (record { mail = x; uploads = uploads }) asking asks (text_sent r))
+                  (sym (holds_stands p l.0 came.standing_is l.1)) (made (record { mail = Ok l.0.history; uploads = uploads }) (is_over l.0 l.2.state)),
+              not_lacking p q.0 stays.standing came.standing_is,
+            );
+          })
+
+  pub finished_err : {asks : List BodyAsk} (e : AllocError) → AsksShort asks m n → kept.known ≡ None
+      → Adds m.tape tape (λ es. (p : Progress) (was : Faults) → CameTo machine client Stands was m.faults p
+      → Finishes door account uploads asking p kept was now (Err e) es)
+  finished_err {asks} e short none =
+      join _ short.run hang (λ es fs run hangs p was came.
+          let l = lent p was m.faults came in
+          let q = run p was l.3 in
+          record {
+            asks = asks;
+            answered = q.0;
+            fetching = es;
+            ending = fs;
+            calls_ask = q.1;
+            hangs_up = subst (λ (b : Bool). HangsUp b fs) (up_is q.0.left n.source.client q.2.in_life) hangs;
+            whole = refl;
+            held = holds_none (forgotten q.0.machine) kept none;
+            bears = stays_borne q.0.blamed was n.faults now q.2.bears same;
+            made = tt;
+          })
+
+-- what asking did, however it came out
+module _ {S : Type 0} (moment : S → Moment) {X : Type 0} {Means : X → List BodyAsk → Type 0} {before after : S} where
+  pub counts_of : (result : Result X AllocError) → AsksAndMakes (Answers moment) (Lacks moment) before after result Means
+      → CountsOn (moment before).source.told (moment after).source.told
+  counts_of (Ok x) makes = (asked_these moment makes.asked).counts
+  counts_of (Err e) makes = (asked_in_vain moment makes).counts
+
+  pub goes_on_of : (result : Result X AllocError) → AsksAndMakes (Answers moment) (Lacks moment) before after result Means → GoesOn (moment before) (moment after)
+  goes_on_of (Ok x) makes = (asked_these moment makes.asked).goes_on
+  goes_on_of (Err e) makes = (asked_in_vain moment makes).goes_on
+
+-- ---- where the mail can't be told
+
+-- of no source nothing comes, and it changes nothing
+abbrev pub NoAnswer : {S : Type 0} → S → MessagePlace → Option (List ℕ) → S → Type 0
+NoAnswer before message body after = (body ≡ None) × (after ≡ before)
+
+abbrev pub NoLack : {S : Type 0} → S → MessagePlace → S → Type 0
+NoLack before message after = after ≡ before
+
+none_changed : {S : Type 0} {before after : S} {asks : List BodyAsk} → Asks NoAnswer before asks after → after ≡ before
+none_changed NoneAsked = refl
+none_changed (OneMore ask asks answers) = answers.1 ∙ none_changed asks
+
+pub nothing_changed : {S X : Type 0} {Means : X → List BodyAsk → Type 0} {before after : S} (result : Result X AllocError)
+    → AsksAndMakes NoAnswer NoLack before after result Means → after ≡ before
+nothing_changed (Ok x) makes = none_changed makes.asked
+nothing_changed (Err e) makes = elim makes.ends [ | inl none ↦ none ∙ none_changed makes.asked | inr one ↦ one.1 ∙ none_changed makes.asked ]
+
+no_asks : (account : Account) (e : MethodError) (uploads : List (List ℕ)) (asking : Asking) (asks : List BodyAsk) (answer : Answer) → asks_for_mail asking ≡ true
+    → IsAnswer account (record { mail = Err e; uploads = uploads }) asking asks answer → asks ≡ []
+no_asks account e uploads (Calls request) asks answer needs is = none_asked is.1
+no_asks account e uploads (Problem p) asks answer needs is = is.0
+no_asks account e uploads Session asks answer needs is = is.0
+no_asks account e uploads (Upload media octets) asks answer needs is = is.0
+no_asks account e uploads (Download blob media) asks answer needs is = is.0
+no_asks account e uploads (Refused refusal) asks answer needs is = is.0
+
+-- the response without mail, once the link life is over
+pub finished_untold : {door : Door} {account : Account} {uploads : List (List ℕ)} {asking : Asking} {machine kept : Machine} {client : ClientState} {how : Fall} {p : Progress}
+    {was then now : Faults} {ys : List Event} {over : Over} (error : MethodError) (result : Result Response AllocError) → asks_for_mail asking ≡ true
+    → CameTo machine client (Fell how) was then p → error ≡ error_of how → HangsUp client.alive ys → NoFault then now
+    → ((r : Response) → result ≡ Ok r → (asks : List BodyAsk) × ((o : MailAndUploads) → AreOf o over → IsResponse door account o asking asks (text_sent r)))
+    → AreOf (record { mail = Err error; uploads = uploads }) over → HoldsMachine (machine_left result p.machine) kept
+    → Finishes door account uploads asking p kept was now result ys
+finished_untold {client = client} {p = p} {was = was} {then = then} {now = now} {ys = ys} error (Err e) needs came is hangs same made of held =
+    record {
+      asks = [];
+      answered = p;
+      fetching = [];
+      ending = ys;
+      calls_ask = AllAsked NoBodies;
+      hangs_up = subst (λ (b : Bool). HangsUp b ys) (up_is p.left client came.in_life) hangs;
+      whole = refl;
+      held = held;
+      bears = stays_borne p.blamed was then now came.bears same;
+      made = tt;
+    }
+finished_untold {door} {account} {uploads} {asking} {client = client} {how = how} {p = p} {was = was} {then = then} {now = now} {ys = ys} error (Ok r) needs came is hangs same made of held =
+    let so = made r refl in
+    let response : IsResponse door account (record { mail = Err error; uploads = uploads }) asking so.0 (text_sent r) = so.1 (record { mail = Err error; uploads = uploads }) of in
+    let none : so.0 ≡ [] = no_asks account error uploads asking so.0 response.answer needs response.is_answer in
+    let mail_is : mailing_by p.standing p.machine.known ≡ Err error =
+    ap (λ (s : Standing). mailing_by s p.machine.known) came.standing_is ∙ ap (λ (x : MethodError). let y : Mailing = Err x in y) (sym is) in
+    record {
+      asks = [];
+      answered = p;
+      fetching = [];
+      ending = ys;
+      calls_ask = AllAsked NoBodies;
+      hangs_up = subst (λ (b : Bool). HangsUp b ys) (up_is p.left client came.in_life) hangs;
+      whole = refl;
+      held = held;
+      bears = stays_borne p.blamed was then now came.bears same;
+      made = (
+        subst (λ (x : Mailing). IsResponse door account (record { mail = x; uploads = uploads }) asking [] (text_sent r)) (sym mail_is)
+            (subst (λ (asks : List BodyAsk). IsResponse door account (record { mail = Err error; uploads = uploads }) asking asks (text_sent r)) none response),
+        (λ out. let both : Fell how ≡ OutOfMemory = sym came.standing_is ∙ out in cc),
+      );
+    }
+
+-- ---- where no mail is needed
+
+-- the response, or none, of what needs no mail
+pub answers_at_once : (gate before : Gate) (secrets : Hidden) (asking : Asking) (result : Result Response AllocError) (f : Faults) (s : GateState) → GateHolds s before
+    → asks_for_mail asking ≡ false → RestStays before gate → HoldsMachine (machine_left result s.machine) gate.machine
+    → MayKeepUpload asking before.uploads gate.uploads
+    → IfOk result (λ r. KeepsUpload asking before.uploads gate.uploads × ((h : Hidden) → (asks : List BodyAsk)
+    × IsResponse gate.door (account_by gate h) (record { mail = Err ServerUnavailable; uploads = gate.uploads }) asking asks (text_sent r)))
+    → OnErr result (TakesMemory asking)
+    → (t : GateState) × GateHolds t gate × AnswersTo before.door (account_by before secrets) asking s t f f result []
+answers_at_once gate before secrets asking (Err e) f s holds needless rest held may made takes = (
+  record { machine = forgotten s.machine; uploads = gate.uploads },
+  record { machine = held; uploads = refl },
   record {
-    mail = w.mail;
-    done = w.done;
-    work = w.work secrets.token before.base asking asks_is;
+    mail = Err ServerUnavailable;
+    asks = [];
+    done = idle s.machine;
+    work = NoMail needless refl refl refl;
     machine_is = refl;
-    bears = w.bears;
-    may = inl (same ∙ holds.uploads);
+    bears = bears_none f f (later_same f f refl);
+    may = subst (λ (u : List (List ℕ)). MayKeepUpload asking u gate.uploads) holds.uploads may;
     made = takes;
   },
 )
+answers_at_once gate before secrets asking (Ok r) f s holds needless rest held may made takes =
+    let response = made.1 secrets in (
+      record { machine = s.machine; uploads = gate.uploads },
+      record { machine = held; uploads = refl },
+      record {
+        mail = Err ServerUnavailable;
+        asks = response.0;
+        done = idle s.machine;
+        work = NoMail needless refl refl refl;
+        machine_is = refl;
+        bears = bears_none f f (later_same f f refl);
+        may = subst (λ (u : List (List ℕ)). MayKeepUpload asking u gate.uploads) holds.uploads may;
+        made = (
+          subst (λ (d : Door). IsResponse d (account_by before secrets) (record { mail = Err ServerUnavailable; uploads = gate.uploads }) asking response.0 (text_sent r)) rest.door
+              (subst (λ (a : Account). IsResponse gate.door a (record { mail = Err ServerUnavailable; uploads = gate.uploads }) asking response.0 (text_sent r))
+              (same_account rest refl) response.1),
+          (λ out. cc),
+          subst (λ (u : List (List ℕ)). KeepsUpload asking u gate.uploads) holds.uploads made.0,
+        );
+      },
+    )
+
+-- ---- the answer
+
+-- what needs no mail is answered so
+pub made_for : (gate : Gate) (asking asked : Asking) (answer : Answer) (result : Result Response AllocError) → asked ≡ asking
+    → ((s : Hidden) → IsAnswer (account_by gate s) (record { mail = Err ServerUnavailable; uploads = gate.uploads }) asking [] answer)
+    → IfOk result (λ r. text_sent r ≡ spelled gate.door answer)
+    → IfOk result (λ r. (s : Hidden) → (asks : List BodyAsk)
+    × IsResponse gate.door (account_by gate s) (record { mail = Err ServerUnavailable; uploads = gate.uploads }) asked asks (text_sent r))
+made_for gate asking asked answer (Ok r) is is_answer text_is = λ s.
+    let made : IsResponse gate.door (account_by gate s) (record { mail = Err ServerUnavailable; uploads = gate.uploads }) asking [] (text_sent r) =
+    record { answer = answer; is_answer = is_answer s; text_is = text_is } in
+    ([], subst (λ (a : Asking). IsResponse gate.door (account_by gate s) (record { mail = Err ServerUnavailable; uploads = gate.uploads }) a [] (text_sent r)) (sym is) made)
+made_for gate asking asked answer (Err e) is is_answer text_is = tt
 
 -- ---- the reply to what is asked
 
@@ -296,6 +422,7 @@ replied {asking = asking} {events = events} response a =
           worked = events;
           asking = asking;
           mail = a.mail;
+          asks = a.asks;
           done = a.done;
           whole = refl;
           reads = reads;
@@ -321,6 +448,7 @@ replied_lacking {asking = asking} {events = events} e text text_is a =
           worked = events;
           asking = asking;
           mail = a.mail;
+          asks = a.asks;
           done = a.done;
           whole = refl;
           reads = reads;

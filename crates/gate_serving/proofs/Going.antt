@@ -3,7 +3,9 @@ use Rattle.std.proofs.Common.{◌++◌, ◌∷◌, List, [], ℕ, sym, ap, subst
 use Rattle.gate_world.specs.declared.event.Event.{Event}
 use Rattle.gate_world.specs.declared.event.Event.TheVariants.{Accepted, ClientDone}
 use Rattle.gate_calls.specs.Mailings.{Mailing}
+use Rattle.email_bodies.specs.Asking.{BodyAsk}
 use Rattle.gate_machine.specs.Beginning.{PreparesMail}
+use Rattle.gate_machine.specs.Fetching.{CallsAsk}
 use Rattle.gate_machine.specs.Going.{MachineGoesOn}
 use Rattle.gate_machine.specs.Machine.{MachineState}
 use Rattle.gate_machine.specs.Progress.{Progress}
@@ -22,26 +24,33 @@ abbrev pub Law : Type 0
 Law = (user password : List ℕ) (before : MachineState) (events : List Event) (after : Progress) → PreparesMail user password before events after
     → MachineGoesOn before events after.machine
 
-works_on : Law → {account : Account} {before : MachineState} {asking : Asking} {events : List Event} {mail : Mailing} {after : Progress}
-    → Work account before asking events mail after → MachineGoesOn before events after.machine
-works_on law {before = before} {events = events} {after = after} (NoMail apart none mail is) =
+-- and of what its calls ask
+abbrev pub CallsLaw : Type 0
+CallsLaw = (before : Progress) (asks : List BodyAsk) (events : List Event) (after : Progress) → CallsAsk before asks events after
+    → MachineGoesOn before.machine events after.machine
+
+works_on : Law → CallsLaw → {account : Account} {before : MachineState} {asking : Asking} {events : List Event} {mail : Mailing} {asks : List BodyAsk} {after : Progress}
+    → Work account before asking events mail asks after → MachineGoesOn before events after.machine
+works_on law calls {before = before} {events = events} {after = after} (NoMail apart none mail is) =
     goes_still before after.machine events (ap (λ (p : Progress). p.machine) is)
-works_on law {account} {before} {events = events} (WithMail needs work) =
+works_on law calls {account} {before} {events = events} {asks = asks} (WithMail needs work) =
     let prepared : MachineGoesOn before work.beginning work.begun.machine =
     law account.user account.password before work.beginning work.begun work.prepares in
+    let answered : MachineGoesOn work.begun.machine work.fetching work.answered.machine = calls work.begun asks work.fetching work.answered work.calls_ask in
     subst (λ (p : Progress). MachineGoesOn before events p.machine) (sym work.after_is)
-    (goes_by_events before work.begun.machine (work.beginning ++ work.ending) events work.whole
-    (goes_after before work.begun.machine work.beginning work.ending prepared))
+    (goes_by_events before work.answered.machine (work.beginning ++ (work.fetching ++ work.ending)) events work.whole
+    (goes_both before work.begun.machine work.answered.machine work.beginning (work.fetching ++ work.ending) prepared
+    (goes_after work.begun.machine work.answered.machine work.fetching work.ending answered)))
 
-replies_on : Law → {door : Door} {account : Account} {before after : GateState} {events : List Event} {text : List ℕ} → Replies door account before events text after
+replies_on : Law → CallsLaw → {door : Door} {account : Account} {before after : GateState} {events : List Event} {text : List ℕ} → Replies door account before events text after
     → MachineGoesOn before.machine events after.machine
-replies_on law {before = before} {events = events} (Answered a) =
+replies_on law calls {before = before} {events = events} (Answered a) =
     subst (λ (m : MachineState). MachineGoesOn before.machine events m) (sym a.machine_is)
     (goes_by_events before.machine a.done.machine (a.asked ++ a.worked) events a.whole
-    (goes_before before.machine a.done.machine a.asked a.worked (works_on law a.work)))
-replies_on law {before = before} {after = after} {events = events} (LacksReading reads text_is is) =
+    (goes_before before.machine a.done.machine a.asked a.worked (works_on law calls a.work)))
+replies_on law calls {before = before} {after = after} {events = events} (LacksReading reads text_is is) =
     goes_nowhere before.machine after.machine events (ap (λ (s : GateState). s.machine.known) is)
-replies_on law {before = before} {after = after} {events = events} (LacksAnswering a) =
+replies_on law calls {before = before} {after = after} {events = events} (LacksAnswering a) =
     goes_nowhere before.machine after.machine events (ap (λ (m : MachineState). m.known) a.machine_is)
 
 -- what comes after a client was accepted, and before it is done
@@ -52,36 +61,36 @@ goes_within a b replied heard goes =
     (goes_after a b (replied ++ heard) (ClientDone ∷ []) (goes_after a b replied heard goes))
 
 -- one client, or that there is none
-segment_on : Law → {door : Door} {account : Account} {before after : GateState} {events : List Event} {how : Served} → Segment door account before events how after
+segment_on : Law → CallsLaw → {door : Door} {account : Account} {before after : GateState} {events : List Event} {how : Served} → Segment door account before events how after
     → MachineGoesOn before.machine events after.machine
-segment_on law {before = before} {after = after} {events = events} (NoneComes is how_is same) =
+segment_on law calls {before = before} {after = after} {events = events} (NoneComes is how_is same) =
     goes_still before.machine after.machine events (ap (λ (s : GateState). s.machine) same)
-segment_on law {before = before} {after = after} {events = events} (NotAccepted is how_is same) =
+segment_on law calls {before = before} {after = after} {events = events} (NotAccepted is how_is same) =
     goes_still before.machine after.machine events (ap (λ (s : GateState). s.machine) same)
-segment_on law {before = before} {after = after} {events = events} (Left asked is reads how_is same) =
+segment_on law calls {before = before} {after = after} {events = events} (Left asked is reads how_is same) =
     goes_still before.machine after.machine events (ap (λ (s : GateState). s.machine) same)
-segment_on law {before = before} {after = after} {events = events} (Unasked asked is reads how_is same) =
+segment_on law calls {before = before} {after = after} {events = events} (Unasked asked is reads how_is same) =
     goes_still before.machine after.machine events (ap (λ (s : GateState). s.machine) same)
-segment_on law {before = before} {after = after} {events = events} (Replied a) =
+segment_on law calls {before = before} {after = after} {events = events} (Replied a) =
     goes_by_events before.machine after.machine (Accepted ∷ ((a.replied ++ a.heard) ++ ClientDone ∷ [])) events a.whole
-    (goes_within before.machine after.machine a.replied a.heard (replies_on law a.replies))
+    (goes_within before.machine after.machine a.replied a.heard (replies_on law calls a.replies))
 
 -- from a moment of a run to its end
-held_on : Law → {door : Door} {account : Account} {before after : GateState} {events : List Event} {went : List Served} (run : Run door account before events went after)
+held_on : Law → CallsLaw → {door : Door} {account : Account} {before after : GateState} {events : List Event} {went : List Served} (run : Run door account before events went after)
     (s : GateState) (since : List Event) → WasHeld run s since → MachineGoesOn s.machine since after.machine
-held_on law {before = before} Begun s since held =
+held_on law calls {before = before} Begun s since held =
     goes_still s.machine before.machine since (ap (λ (t : GateState). t.machine) (sym held.0))
-held_on law (Then next run) s since held = elim held [
+held_on law calls (Then next run) s since held = elim held [
   | inl now ↦ goes_still s.machine next.after.machine since (ap (λ (t : GateState). t.machine) (sym now.0))
   | inr was ↦ goes_by_events s.machine next.after.machine (was.0 ++ next.events) since was.2
-      (goes_both s.machine next.before.machine next.after.machine was.0 next.events (held_on law run s was.0 was.1) (segment_on law next.segment))
+      (goes_both s.machine next.before.machine next.after.machine was.0 next.events (held_on law calls run s was.0 was.1) (segment_on law calls next.segment))
 ]
 
 -- from each moment of a run to each later one
-pub run_kept : Law → {door : Door} {account : Account} {before after : GateState} {events : List Event} {went : List Served} (run : Run door account before events went after)
+pub run_kept : Law → CallsLaw → {door : Door} {account : Account} {before after : GateState} {events : List Event} {went : List Served} (run : Run door account before events went after)
     → IsRunKept run
-run_kept law Begun = tt
-run_kept law (Then next run) = (
-  run_kept law run,
-  λ s since held. goes_both s.machine next.before.machine next.after.machine since next.events (held_on law run s since held) (segment_on law next.segment),
+run_kept law calls Begun = tt
+run_kept law calls (Then next run) = (
+  run_kept law calls run,
+  λ s since held. goes_both s.machine next.before.machine next.after.machine since next.events (held_on law calls run s since held) (segment_on law calls next.segment),
 )

@@ -3,7 +3,9 @@ use Rattle.std.proofs.Common.{◌≡◌, ℕ, List, Option, Some, None, refl, sy
 use Rattle.gate_world.specs.declared.event.Event.{Event}
 use Rattle.gate_calls.specs.Mailings.{Mailing, history_of, mailing_by}
 use Rattle.gate_calls.specs.Places.{HasPlaces}
+use Rattle.email_bodies.specs.Asking.{BodyAsk}
 use Rattle.gate_machine.specs.Beginning.{PreparesMail}
+use Rattle.gate_machine.specs.Fetching.{CallsAsk}
 use Rattle.gate_machine.specs.History.{KnownMail}
 use Rattle.gate_machine.specs.Machine.{MachineState}
 use Rattle.gate_machine.specs.Progress.{Progress}
@@ -25,14 +27,19 @@ NextLaw = (user password : List ℕ) (before : MachineState) (events : List Even
     → KnowsExchanges before
     → KnowsExchanges after.machine
 
+-- and of what its calls ask
+abbrev pub CallsLaw : Type 0
+CallsLaw = (before : Progress) (asks : List BodyAsk) (events : List Event) (after : Progress) → CallsAsk before asks events after → KnowsExchanges before.machine
+    → KnowsExchanges after.machine
+
 -- ---- the work
 
-work_knows : NextLaw → {account : Account} {before : MachineState} {asking : Asking} {events : List Event} {mail : Mailing} {after : Progress}
-    → Work account before asking events mail after → KnowsExchanges before → KnowsExchanges after.machine
-work_knows law {before = before} {after = after} (NoMail apart none mail is) knows = knows_same before after.machine (ap (λ (p : Progress). p.machine) is) knows
-work_knows law {account} {before} {after = after} (WithMail needs work) knows =
-    knows_same work.begun.machine after.machine (ap (λ (p : Progress). p.machine) work.after_is)
-    (law account.user account.password before work.beginning work.begun work.prepares knows)
+work_knows : NextLaw → CallsLaw → {account : Account} {before : MachineState} {asking : Asking} {events : List Event} {mail : Mailing} {asks : List BodyAsk} {after : Progress}
+    → Work account before asking events mail asks after → KnowsExchanges before → KnowsExchanges after.machine
+work_knows law calls {before = before} {after = after} (NoMail apart none mail is) knows = knows_same before after.machine (ap (λ (p : Progress). p.machine) is) knows
+work_knows law calls {account} {before} {asks = asks} {after = after} (WithMail needs work) knows =
+    knows_same work.answered.machine after.machine (ap (λ (p : Progress). p.machine) work.after_is)
+    (calls work.begun asks work.fetching work.answered work.calls_ask (law account.user account.password before work.beginning work.begun work.prepares knows))
 
 places_known : (o : Option KnownMail) → ((k : KnownMail) → o ≡ Some k → IsOfExchanges k) → HasPlaces (history_of o)
 places_known None knows = tt
@@ -44,8 +51,8 @@ places_by (standing.Fell why) m knows = tt
 places_by standing.OutOfMemory m knows = tt
 
 -- the mail over which calls are answered has places left
-pub work_places : NextLaw → {account : Account} {before : MachineState} {asking : Asking} {events : List Event} {mail : Mailing} {after : Progress}
-    → Work account before asking events mail after → KnowsExchanges before → HasPlaces mail
+pub work_places : NextLaw → {account : Account} {before : MachineState} {asking : Asking} {events : List Event} {mail : Mailing} {asks : List BodyAsk} {after : Progress}
+    → Work account before asking events mail asks after → KnowsExchanges before → HasPlaces mail
 work_places law (NoMail apart none mail_is is) knows = subst (λ (m : Mailing). HasPlaces m) (sym mail_is) tt
 work_places law {account} {before} (WithMail needs work) knows =
     subst (λ (m : Mailing). HasPlaces m) (sym work.mail_is)
@@ -53,25 +60,25 @@ work_places law {account} {before} (WithMail needs work) knows =
 
 -- ---- clients
 
-replies_know : NextLaw → {door : Door} {account : Account} {before after : GateState} {events : List Event} {text : List ℕ}
+replies_know : NextLaw → CallsLaw → {door : Door} {account : Account} {before after : GateState} {events : List Event} {text : List ℕ}
     → Replies door account before events text after → KnowsExchanges before.machine → KnowsExchanges after.machine
-replies_know law {after = after} (Answered a) knows = knows_same a.done.machine after.machine a.machine_is (work_knows law a.work knows)
-replies_know law {after = after} (LacksReading reads text_is is) knows = knows_nothing after.machine (ap (λ (s : GateState). s.machine.known) is)
-replies_know law {after = after} (LacksAnswering a) knows = knows_nothing after.machine (ap (λ (m : MachineState). m.known) a.machine_is)
+replies_know law calls {after = after} (Answered a) knows = knows_same a.done.machine after.machine a.machine_is (work_knows law calls a.work knows)
+replies_know law calls {after = after} (LacksReading reads text_is is) knows = knows_nothing after.machine (ap (λ (s : GateState). s.machine.known) is)
+replies_know law calls {after = after} (LacksAnswering a) knows = knows_nothing after.machine (ap (λ (m : MachineState). m.known) a.machine_is)
 
-segment_knows : NextLaw → {door : Door} {account : Account} {before after : GateState} {events : List Event} {how : Served}
+segment_knows : NextLaw → CallsLaw → {door : Door} {account : Account} {before after : GateState} {events : List Event} {how : Served}
     → Segment door account before events how after → KnowsExchanges before.machine → KnowsExchanges after.machine
-segment_knows law {before = before} {after = after} (NoneComes is how_is same) knows =
+segment_knows law calls {before = before} {after = after} (NoneComes is how_is same) knows =
     knows_same before.machine after.machine (ap (λ (s : GateState). s.machine) same) knows
-segment_knows law {before = before} {after = after} (NotAccepted is how_is same) knows =
+segment_knows law calls {before = before} {after = after} (NotAccepted is how_is same) knows =
     knows_same before.machine after.machine (ap (λ (s : GateState). s.machine) same) knows
-segment_knows law {before = before} {after = after} (Left asked is reads how_is same) knows =
+segment_knows law calls {before = before} {after = after} (Left asked is reads how_is same) knows =
     knows_same before.machine after.machine (ap (λ (s : GateState). s.machine) same) knows
-segment_knows law {before = before} {after = after} (Unasked asked is reads how_is same) knows =
+segment_knows law calls {before = before} {after = after} (Unasked asked is reads how_is same) knows =
     knows_same before.machine after.machine (ap (λ (s : GateState). s.machine) same) knows
-segment_knows law (Replied a) knows = replies_know law a.replies knows
+segment_knows law calls (Replied a) knows = replies_know law calls a.replies knows
 
-pub run_knows : NextLaw → {door : Door} {account : Account} {before after : GateState} {events : List Event} {went : List Served}
+pub run_knows : NextLaw → CallsLaw → {door : Door} {account : Account} {before after : GateState} {events : List Event} {went : List Served}
     → Run door account before events went after → KnowsExchanges before.machine → KnowsExchanges after.machine
-run_knows law Begun knows = knows
-run_knows law (Then next run) knows = segment_knows law next.segment (run_knows law run knows)
+run_knows law calls Begun knows = knows
+run_knows law calls (Then next run) knows = segment_knows law calls next.segment (run_knows law calls run knows)

@@ -1,8 +1,15 @@
 -- What is blamed, and what a request without need of the mail adds.
-use Rattle.std.proofs.Common.{arith, ◌≡◌, ◌-◌, ◌^◌, ◌<◌, ℕ, false, List, [], None, ◌⊎◌, inl, inr, sym, ◌∙◌, ap}
+use Rattle.std.proofs.Common.{arith, ◌≡◌, ◌+◌, ◌-◌, ◌^◌, ◌<◌, ℕ, false, List, [], Option, Some, None, Ok, ◌⊎◌, inl, inr, refl, sym, ◌∙◌, ap}
 use Rattle.gate_world.specs.Causes.{Faults, RoseBy, no_faults}
 use Rattle.gate_world.specs.declared.event.Event.{Event}
-use Rattle.gate_machine.specs.Progress.{Bears, Progress}
+use Rattle.email_bodies.specs.Asking.{BodyAsk}
+use Rattle.email_bodies.specs.declared.source.MessagePlace.{MessagePlace}
+use Rattle.mail_state.specs.History.{MailHistory}
+use Rattle.gate_machine.specs.Fetching.{AsksBody, IsKept, Ends, HasEnded, AsksBodies, NoBodies, MoreBodies, LacksBody, CallsAsk, AllAsked, RunsShort}
+use Rattle.gate_machine.specs.Fetching as fetching
+use Rattle.gate_machine.specs.History.{KnownMail}
+use Rattle.gate_machine.proofs.Asking.{bodies_stay}
+use Rattle.gate_machine.specs.Progress.{Bears, Progress, blame_link}
 use Rattle.gate_machine.specs.Machine.{MachineState}
 use Rattle.gate_machine.specs.Beginning.{PreparesMail}
 use Rattle.gate_machine.specs.Obeying.{IsObeyedBeginning, IsServed}
@@ -27,10 +34,11 @@ unblamed blames was now bears stood =
     }
 
 -- what doesn't need the mail adds no event, and leaves the machine as it was
-pub no_life : (account : Account) (before : MachineState) (asking : Asking) (events : List Event) (mail : Mailing) (after : Progress) → Work account before asking events mail after
+pub no_life : (account : Account) (before : MachineState) (asking : Asking) (events : List Event) (mail : Mailing) (asks : List BodyAsk) (after : Progress)
+    → Work account before asking events mail asks after
     → asks_for_mail asking ≡ false → (events ≡ []) × (after.machine ≡ before)
-no_life account before asking events mail after (NoMail apart none a is) apart_is = (none, ap (λ (p : Progress). p.machine) is)
-no_life account before asking events mail after (WithMail needs work) apart_is = absurd (cc (needs, apart_is))
+no_life account before asking events mail asks after (NoMail apart none a is) apart_is = (none, ap (λ (p : Progress). p.machine) is)
+no_life account before asking events mail asks after (WithMail needs work) apart_is = absurd (cc (needs, apart_is))
 
 -- ---- a store that obeys
 
@@ -39,16 +47,81 @@ Law = (user password : List ℕ) (before : MachineState) (events : List Event) (
     → after.blamed ≡ no_faults
     → IsServed after ⊎ (after.standing ≡ OutOfMemory)
 
-served_from : (asking : Asking) (mail : Mailing) (begun after : Progress) → mail ≡ mailing_by begun.standing begun.machine.known → after ≡ record begun { left = None }
+-- ---- what calls ask
+
+no_blame : (n : ℕ) (f : Faults) → blame_link n f ≡ no_faults → f ≡ no_faults
+no_blame n f is = λ i. record {
+  link = let sum : f.link + n ≡ 0 = ap (λ (g : Faults). g.link) is in (let none : f.link ≡ 0 = omega (arith, sum) in none) i;
+  keep = ap (λ (g : Faults). g.keep) is i;
+  front = ap (λ (g : Faults). g.front) is i;
+  say = ap (λ (g : Faults). g.say) is i;
+}
+
+blamed_body : {message : MessagePlace} {p q : Progress} {body : Option (List ℕ)} {events : List Event} → AsksBody message p body events q → q.blamed ≡ no_faults
+    → p.blamed ≡ no_faults
+blamed_body (IsKept octets kept body_is none is) free = ap (λ (x : Progress). x.blamed) (sym is) ∙ free
+blamed_body {p = p} (fetching.IsTold octets asks body_is is) free = no_blame 0 p.blamed (ap (λ (x : Progress). x.blamed) (sym is) ∙ free)
+blamed_body {p = p} (Ends e asks other body_is is) free = no_blame _ p.blamed (ap (λ (x : Progress). x.blamed) (sym is) ∙ free)
+blamed_body (HasEnded kept ended body_is none is) free = ap (λ (x : Progress). x.blamed) (sym is) ∙ free
+
+blamed_bodies : {p q : Progress} {asks : List BodyAsk} {events : List Event} → AsksBodies p asks events q → q.blamed ≡ no_faults → p.blamed ≡ no_faults
+blamed_bodies NoBodies free = free
+blamed_bodies (MoreBodies next bodies) free = blamed_bodies bodies (blamed_body next.asks free)
+
+blamed_lacking : {message : MessagePlace} {p q : Progress} {events : List Event} → LacksBody message p events q → q.blamed ≡ no_faults → p.blamed ≡ no_faults
+blamed_lacking (fetching.Unasked none is) free = ap (λ (x : Progress). x.blamed) (sym is) ∙ free
+blamed_lacking {p = p} (fetching.Asked asks is) free = no_blame _ p.blamed (ap (λ (x : Progress). x.blamed) (sym is) ∙ free)
+blamed_lacking {p = p} (fetching.NotKept octets asks is) free = no_blame _ p.blamed (ap (λ (x : Progress). x.blamed) (sym is) ∙ free)
+
+blamed_calls : {p q : Progress} {asks : List BodyAsk} {events : List Event} → CallsAsk p asks events q → q.blamed ≡ no_faults → p.blamed ≡ no_faults
+blamed_calls (AllAsked bodies) free = blamed_bodies bodies free
+blamed_calls (RunsShort short) free = blamed_bodies short.asked (blamed_lacking short.lacks free)
+
+lacking_out : {message : MessagePlace} {p q : Progress} {events : List Event} → LacksBody message p events q → q.standing ≡ OutOfMemory
+lacking_out (fetching.Unasked none is) = ap (λ (x : Progress). x.standing) is
+lacking_out (fetching.Asked asks is) = ap (λ (x : Progress). x.standing) is
+lacking_out (fetching.NotKept octets asks is) = ap (λ (x : Progress). x.standing) is
+
+-- the history that was served is served still; or memory ran out
+served_still : {p q : Progress} {asks : List BodyAsk} {events : List Event} (k : KnownMail) → p.machine.known ≡ Some k → CallsAsk p asks events q
+    → ((l : KnownMail) × (q.machine.known ≡ Some l) × (l.history ≡ k.history)) ⊎ (q.standing ≡ OutOfMemory)
+served_still k is (AllAsked bodies) = let stays = bodies_stay k is bodies in inl (stays.known, stays.ready, stays.history)
+served_still k is (RunsShort short) = inr (lacking_out short.lacks)
+
+still_out : {p q : Progress} {asks : List BodyAsk} {events : List Event} → p.standing ≡ OutOfMemory → CallsAsk p asks events q → q.standing ≡ OutOfMemory
+still_out out (AllAsked bodies) = still bodies ∙ out
+  where
+    still_body : {message : MessagePlace} {p q : Progress} {body : Option (List ℕ)} {events : List Event} → AsksBody message p body events q → q.standing ≡ p.standing
+    still_body (IsKept octets kept body_is none is) = ap (λ (x : Progress). x.standing) is
+    still_body (fetching.IsTold octets asks body_is is) = ap (λ (x : Progress). x.standing) is
+    still_body (Ends e asks other body_is is) = ap (λ (x : Progress). x.standing) is
+    still_body (HasEnded kept ended body_is none is) = ap (λ (x : Progress). x.standing) is
+
+    still : {p q : Progress} {asks : List BodyAsk} {events : List Event} → AsksBodies p asks events q → q.standing ≡ p.standing
+    still NoBodies = refl
+    still (MoreBodies next bodies) = still_body next.asks ∙ still bodies
+still_out out (RunsShort short) = lacking_out short.lacks
+
+-- ---- what is answered
+
+served_from : (asking : Asking) (mail : Mailing) (asks : List BodyAsk) (events : List Event) (begun answered after : Progress)
+    → mail ≡ mailing_by begun.standing begun.machine.known → CallsAsk begun asks events answered → after ≡ record answered { left = None }
     → IsServed begun ⊎ (begun.standing ≡ OutOfMemory) → IsAnsweredFrom asking mail after ⊎ (after.standing ≡ OutOfMemory)
-served_from asking mail begun after mail_is is (inl (k, stands, known)) =
-    inl (inr (k, ap (λ (p : Progress). p.machine.known) is ∙ known, mail_is ∙ (λ i. mailing_by (stands i) (known i))))
-served_from asking mail begun after mail_is is (inr out) = inr (ap (λ (p : Progress). p.standing) is ∙ out)
+served_from asking mail asks events begun answered after mail_is calls is (inl (k, stands, known)) = elim (served_still k known calls) [
+  | inl still ↦ inl (inr (
+      still.0,
+      ap (λ (p : Progress). p.machine.known) is ∙ still.1,
+      mail_is ∙ (λ i. mailing_by (stands i) (known i)) ∙ ap (λ (h : MailHistory). let x : Mailing = Ok h in x) (sym still.2),
+    ))
+  | inr out ↦ inr (ap (λ (p : Progress). p.standing) is ∙ out)
+]
+served_from asking mail asks events begun answered after mail_is calls is (inr out) = inr (ap (λ (p : Progress). p.standing) is ∙ still_out out calls)
 
 -- where the store obeyed and nothing is blamed, calls are answered over the mail that is served then; or memory ran out
-pub answered_from : Law → (account : Account) (before : MachineState) (asking : Asking) (events : List Event) (mail : Mailing) (after : Progress)
-    (work : Work account before asking events mail after) → IsWorkObeyed work → after.blamed ≡ no_faults → IsAnsweredFrom asking mail after ⊎ (after.standing ≡ OutOfMemory)
-answered_from law account before asking events mail after (NoMail apart a b c) obeyed none = inl (inl apart)
-answered_from law account before asking events mail after (WithMail a work) obeyed none =
-    served_from asking mail work.begun after work.mail_is work.after_is
-    (law account.user account.password before work.beginning work.begun work.prepares obeyed (ap (λ (p : Progress). p.blamed) (sym work.after_is) ∙ none))
+pub answered_from : Law → (account : Account) (before : MachineState) (asking : Asking) (events : List Event) (mail : Mailing) (asks : List BodyAsk) (after : Progress)
+    (work : Work account before asking events mail asks after) → IsWorkObeyed work → after.blamed ≡ no_faults → IsAnsweredFrom asking mail after ⊎ (after.standing ≡ OutOfMemory)
+answered_from law account before asking events mail asks after (NoMail apart a b c) obeyed none = inl (inl apart)
+answered_from law account before asking events mail asks after (WithMail a work) obeyed none =
+    served_from asking mail asks work.fetching work.begun work.answered after work.mail_is work.calls_ask work.after_is
+    (law account.user account.password before work.beginning work.begun work.prepares obeyed
+    (blamed_calls work.calls_ask (ap (λ (p : Progress). p.blamed) (sym work.after_is) ∙ none)))

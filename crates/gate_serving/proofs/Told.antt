@@ -47,6 +47,7 @@ takes door account events replied heard text how before after is a hears whole (
       heard = heard;
       asking = a.asking;
       mail = a.mail;
+      asks = a.asks;
       done = a.done;
       text = text;
       whole = is ∙ (λ i. Accepted ∷ ((a.whole i ++ heard) ++ ClientDone ∷ []));
@@ -63,7 +64,7 @@ told_by : Law → (door : Door) (account : Account) (before : GateState) (events
     → IsReplyObeyed replies → reply_blamed replies ≡ no_faults → IsTold door account events how after
 told_by law door account before events replied heard text how after is (Answered a) hears whole obeyed none =
     takes door account events replied heard text how before after is a hears whole
-    (answered_from law account before.machine a.asking a.worked a.mail a.done a.work obeyed none)
+    (answered_from law account before.machine a.asking a.worked a.mail a.asks a.done a.work obeyed none)
 told_by law door account before events replied heard text how after is (LacksReading reads text_is after_is) hears whole obeyed none =
     LacksMemory replied heard is (subst (λ (t : List ℕ). Hears t heard) text_is hears) whole
 told_by law door account before events replied heard text how after is (LacksAnswering a) hears whole obeyed none =

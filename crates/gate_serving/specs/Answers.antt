@@ -1,8 +1,8 @@
 -- What clients are answered (RFC 8620 sections 2, 3.4, 3.6.1, 6.1 and 6.2), and how the answer is spelled.
-use Rattle.std.specs.Prelude.{◌≡◌, ◌⊎◌, ◌++◌, ℕ, List, [], ◌∷◌, length, Bool, true, false, is_ok, Option, Some, None, codes}
+use Rattle.std.specs.Prelude.{◌≡◌, ◌⊎◌, ◌++◌, ℕ, List, [], ◌∷◌, length, Option, Some, None, Ok, Err, codes}
 use Rattle.serde_json.specs.Data.{unsigned, Data, number, string, object, no_members, member}
 use Rattle.serde_json.specs.Written.{compact_text}
-use Rattle.blob_store.specs.Uploads.{blob_id, upload_with, TakesUpload}
+use Rattle.blob_store.specs.Uploads.{blob_id, TakesUpload}
 use Rattle.blob_store.specs.declared.store.TheConstants.{MAX_KEPT_OCTETS}
 use Rattle.http_door.specs.Responses.{http_response, json_media, problem_media, download_media}
 use Rattle.http_service.specs.Refusals.{refusal_status}
@@ -11,7 +11,9 @@ use Rattle.jmap_core.specs.Request.{CallData, RequestData}
 use Rattle.jmap_core.specs.Response.{response_data}
 use Rattle.jmap_core.specs.Session.{session_data, session_state_text}
 use Rattle.gate_calls.specs.Calls.{AnswersCalls}
-use Rattle.gate_calls.specs.Mailings.{Mailing}
+use Rattle.email_bodies.specs.Asking.{BodyAsk}
+use Rattle.email_methods.specs.Blobs.{FindsBlob, OctetsFound}
+use Rattle.gate_calls.specs.Mailings.{Mailing, MailAndUploads}
 use Rattle.gate_serving.specs.declared.door.Door.{Door}
 use Rattle.gate_serving.specs.declared.door.Door.TheVariants.{Bare, Http}
 use Rattle.gate_serving.specs.Requests.{Account, Asking, Calls, Problem, Session, Upload, Download, Refused}
@@ -62,27 +64,30 @@ MayKeepUpload asking before after = (after ≡ before) ⊎ KeepsUpload asking be
 abbrev pub untold_problem : Data
 untold_problem = object (member (codes "status") (number (unsigned 404)) (member (codes "type") (string (codes "about:blank")) no_members))
 
-abbrev pub found_answer : Option (List ℕ) → Option (List ℕ) → Answer
-found_answer (Some octets) media = record { status = 200; media = download_media media; body = octets }
-found_answer None media = empty_answer 404
+-- the octets that a blob id names, where it names some; a body that doesn't come is as mail that can't be told
+abbrev pub found_answer : OctetsFound → Option (List ℕ) → Answer
+found_answer (Ok (Some octets)) media = record { status = 200; media = download_media media; body = octets }
+found_answer (Ok None) media = empty_answer 404
+found_answer (Err e) media = problem_answer 404 (compact_text untold_problem)
 
--- where the mail is told, or isn't
-abbrev pub blob_answer : Bool → Option (List ℕ) → Option (List ℕ) → Answer
-blob_answer true found media = found_answer found media
-blob_answer false found media = problem_answer 404 (compact_text untold_problem)
+-- a download over this mail and these uploads, for which these bodies are asked
+abbrev pub IsDownload : Mailing → List (List ℕ) → List ℕ → Option (List ℕ) → List BodyAsk → Answer → Type 0
+IsDownload (Ok h) uploads blob media asks answer =
+    (found : OctetsFound) × FindsBlob h.numbered.rows uploads blob asks found × (answer ≡ found_answer found media)
+IsDownload (Err e) uploads blob media asks answer = (asks ≡ []) × (answer ≡ problem_answer 404 (compact_text untold_problem))
 
 -- ---- what is answered
 
--- The answer over this mail and these uploads: to method calls it has the responses to them.
-abbrev pub IsAnswer : Account → Mailing → List (List ℕ) → Asking → Answer → Type 0
-IsAnswer account mail uploads (Calls request) answer =
-    (responses : List CallData) × AnswersCalls request.uses mail request.calls responses
+-- The answer over this mail and these uploads, for which these bodies are asked: to method calls it has the responses to them.
+abbrev pub IsAnswer : Account → MailAndUploads → Asking → List BodyAsk → Answer → Type 0
+IsAnswer account over (Calls request) asks answer =
+    (responses : List CallData) × AnswersCalls request.uses over request.calls asks responses
     × (answer ≡ json_answer 200 (calls_text account.user account.base responses request))
-IsAnswer account mail uploads (Problem e) answer = answer ≡ problem_answer (problem_status e) (text_of_problem e)
-IsAnswer account mail uploads Session answer = answer ≡ json_answer 200 (compact_text (session_data account.user account.base))
-IsAnswer account mail uploads (Upload media octets) answer = answer ≡ json_answer 201 (compact_text (upload_data media octets))
-IsAnswer account mail uploads (Download blob media) answer = answer ≡ blob_answer (is_ok mail) (upload_with blob uploads) media
-IsAnswer account mail uploads (Refused refusal) answer = answer ≡ empty_answer (refusal_status refusal)
+IsAnswer account over (Problem e) asks answer = (asks ≡ []) × (answer ≡ problem_answer (problem_status e) (text_of_problem e))
+IsAnswer account over Session asks answer = (asks ≡ []) × (answer ≡ json_answer 200 (compact_text (session_data account.user account.base)))
+IsAnswer account over (Upload media octets) asks answer = (asks ≡ []) × (answer ≡ json_answer 201 (compact_text (upload_data media octets)))
+IsAnswer account over (Download blob media) asks answer = IsDownload over.mail over.uploads blob media asks answer
+IsAnswer account over (Refused refusal) asks answer = (asks ≡ []) × (answer ≡ empty_answer (refusal_status refusal))
 
 -- each line ends so
 abbrev pub line_end : List ℕ
@@ -98,10 +103,10 @@ abbrev pub TakesMemory : Asking → Type 0
 TakesMemory (Refused refusal) = ⊥
 TakesMemory _ = Unit {0}
 
--- the text of the answer
-pub record IsResponse (door : Door) (account : Account) (mail : Mailing) (uploads : List (List ℕ)) (asking : Asking) (text : List ℕ) : Type 0 where
+-- the text of the answer, for which these bodies are asked
+pub record IsResponse (door : Door) (account : Account) (over : MailAndUploads) (asking : Asking) (asks : List BodyAsk) (text : List ℕ) : Type 0 where
   pub answer : Answer
-  pub is_answer : IsAnswer account mail uploads asking answer
+  pub is_answer : IsAnswer account over asking asks answer
   pub text_is : text ≡ spelled door answer
 
 -- out of memory (RFC 9110 section 15.6.4)

@@ -5,6 +5,7 @@ use Rattle.gate_world.specs.Octets.{Hears}
 use Rattle.gate_world.specs.declared.event.Event.{Event}
 use Rattle.gate_world.specs.declared.event.Event.TheVariants.{Accepted, NoMore, ClientDone}
 use Rattle.http_door.specs.declared.asking.AskError.TheVariants as unread
+use Rattle.email_bodies.specs.Asking.{BodyAsk}
 use Rattle.gate_machine.specs.History.{KnownMail}
 use Rattle.gate_machine.specs.Obeying.{IsObeyedBeginning}
 use Rattle.gate_machine.specs.Progress.{Progress}
@@ -23,8 +24,8 @@ use Rattle.gate_serving.specs.Work.{Work, NoMail, WithMail}
 -- ---- a request
 
 -- The store obeyed all that a request asks of it, where it asks anything.
-abbrev pub IsWorkObeyed : {account : Account} {before : MachineState} {asking : Asking} {events : List Event} {mail : Mailing} {after : Progress}
-    → Work account before asking events mail after → Type 0
+abbrev pub IsWorkObeyed : {account : Account} {before : MachineState} {asking : Asking} {events : List Event} {mail : Mailing} {asks : List BodyAsk} {after : Progress}
+    → Work account before asking events mail asks after → Type 0
 IsWorkObeyed (NoMail a b c d) = Unit {0}
 IsWorkObeyed (WithMail a work) = IsObeyedBeginning work.prepares
 
@@ -57,13 +58,14 @@ pub record TakesResponse (door : Door) (account : Account) (events : List Event)
   pub heard : List Event
   pub asking : Asking
   pub mail : Mailing
+  pub asks : List BodyAsk
   pub done : Progress
   pub text : List ℕ
   pub whole : events ≡ Accepted ∷ (((asked ++ worked) ++ heard) ++ ClientDone ∷ [])
   pub reads : ReadsAsking door account.token (Ok asking) asked
   pub answered : IsAnsweredFrom asking mail done
   pub machine_is : after.machine ≡ done.machine
-  pub is_response : IsResponse door account mail after.uploads asking text
+  pub is_response : IsResponse door account (record { mail = mail; uploads = after.uploads }) asking asks text
   pub hears : Hears text heard
 
 -- What comes of a client of whom nothing fails: it takes the whole response; or memory ran out, and it takes the text of that;

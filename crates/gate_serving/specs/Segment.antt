@@ -6,6 +6,7 @@ use Rattle.gate_world.specs.declared.event.Event.{Event}
 use Rattle.gate_world.specs.declared.event.Event.TheVariants.{Accepted, NoMore, ClientDone, FrontFailed}
 use Rattle.gate_world.specs.declared.outside.Failed.{Failed}
 use Rattle.http_door.specs.declared.asking.AskError.TheVariants as unread
+use Rattle.email_bodies.specs.Asking.{BodyAsk}
 use Rattle.gate_machine.specs.Machine.{forgotten as forgotten_machine}
 use Rattle.gate_machine.specs.Progress.{Progress}
 use Rattle.gate_machine.specs.declared.standing.Standing.TheVariants.{OutOfMemory}
@@ -29,27 +30,29 @@ pub record AnswersAsking (door : Door) (account : Account) (before : GateState) 
   pub worked : List Event
   pub asking : Asking
   pub mail : Mailing
+  pub asks : List BodyAsk
   pub done : Progress
   pub whole : events ≡ asked ++ worked
   pub reads : ReadsAsking door account.token (Ok asking) asked
-  pub work : Work account before.machine asking worked mail done
+  pub work : Work account before.machine asking worked mail asks done
   pub stands : done.standing ≢ OutOfMemory
   pub machine_is : after.machine ≡ done.machine
   pub keeps : KeepsUpload asking before.uploads after.uploads
-  pub is_response : IsResponse door account mail after.uploads asking text
+  pub is_response : IsResponse door account (record { mail = mail; uploads = after.uploads }) asking asks text
 
--- Memory runs out after a request was read whose response takes memory: in the link life, while what it told was to be served,
+-- Memory runs out after a request was read whose response takes memory: in the link life, while what it told was to be served or a body was asked,
 -- or while the response was made. An upload may be kept then.
 pub record LacksForAsking (door : Door) (account : Account) (before : GateState) (events : List Event) (text : List ℕ) (after : GateState) : Type 0 where
   pub asked : List Event
   pub worked : List Event
   pub asking : Asking
   pub mail : Mailing
+  pub asks : List BodyAsk
   pub done : Progress
   pub whole : events ≡ asked ++ worked
   pub reads : ReadsAsking door account.token (Ok asking) asked
   pub takes : TakesMemory asking
-  pub work : Work account before.machine asking worked mail done
+  pub work : Work account before.machine asking worked mail asks done
   pub text_is : text ≡ no_memory_text door
   pub machine_is : after.machine ≡ forgotten_machine done.machine
   pub may_keep : MayKeepUpload asking before.uploads after.uploads

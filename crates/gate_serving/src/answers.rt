@@ -8,19 +8,20 @@ ghost use Rattle.jmap_core.specs.Problem.{text_of_problem, status_of as status_o
 ghost use Rattle.jmap_core.specs.Request.{CallData, call_data, request_data};
 ghost use Rattle.jmap_core.specs.Response.{IsWhole};
 ghost use Rattle.jmap_core.specs.Session.{session_data};
-ghost use Rattle.gate_machine.specs.Holding.{HoldsMachine};
-ghost use Rattle.gate_machine.specs.Machine.{MachineState};
+ghost use Rattle.email_methods.specs.Blobs.{FindsBlob, OctetsFound};
+ghost use Rattle.gate_calls.specs.Asking.{AsksAndMakes};
 ghost use Rattle.gate_calls.specs.Calls.{AnswersCalls};
-ghost use Rattle.gate_calls.specs.Mailings.{mail_told};
-ghost use Rattle.gate_serving.specs.Answers.{blob_answer, calls_text as text_of_calls, json_answer, problem_answer, spelled, untold_problem, upload_data};
+ghost use Rattle.gate_calls.specs.Mailings.{AreOf, MailAndUploads};
+ghost use Rattle.gate_serving.specs.Answers.{Answer, IsDownload, calls_text as text_of_calls, found_answer, json_answer, problem_answer, spelled, untold_problem, upload_data};
 ghost use Rattle.gate_serving.specs.reading.Texts.{text_sent};
 
 use crate::door::Door;
 use crate::response::Response;
 use crate::upload::Upload;
-use blob_store::MAX_UPLOAD_OCTETS;
-use gate_calls::{Told, responses_to};
-use gate_machine::Machine;
+use blob_store::{BlobStore, MAX_UPLOAD_OCTETS};
+use email_bodies::{BodyError, BodySource};
+use email_methods::find_blob;
+use gate_calls::{Mail, Over, responses_to};
 use gate_world::{Bytes, Text};
 use http::StatusCode;
 use http_door::{MAX_REQUEST_OCTETS, download_media, json_media, problem_media};
@@ -30,6 +31,7 @@ use jmap_core::{
     response_text, session_object, session_state,
 };
 use jmap_methods::ACCOUNT_ID;
+use mail_state::MailState;
 use serde_json::{Value, json};
 use std::alloc::{AllocError, Global};
 
@@ -82,24 +84,27 @@ fn responses_answer(
     json_response(alloc, door, StatusCode::OK, text)
 }
 
-/// The answer to method calls over the mail of the machine, where that was told.
-pub fn calls_response(
+/// The answer to method calls over the mail and the uploads. Bodies are asked of the source as the calls need them.
+pub fn calls_response<W, B: BodySource<W>>(
     alloc: Global,
     door: Door,
     user: &Text,
     base: &Text,
-    machine: &Machine,
-    told: &Told,
+    over: &Over<'_>,
+    bodies: &mut B,
+    world: &mut W,
     request: &Request,
 ) -> Result<Response, AllocError>
-    ensures { IfOk result (λ r. (m : MachineState) → HoldsMachine m machine.now → (responses : List CallData)
-        × AnswersCalls (request_data request.now).uses (mail_told told.now m.known) (request_data request.now).calls responses
+    ensures { AsksAndMakes B.answers B.lacks (bodies.old, world.old) (bodies.new, world.new) result
+        (λ r asks. (o : MailAndUploads) → AreOf o over.now → (responses : List CallData)
+        × AnswersCalls (request_data request.now).uses o (request_data request.now).calls asks responses
         × (text_sent r ≡ spelled door (json_answer 200 (text_of_calls user.now base.now responses (request_data request.now))))) }
 {
     let responses = responses_to(
         alloc,
-        machine,
-        told,
+        over,
+        bodies,
+        world,
         request.using,
         request.calls.as_slice(),
     )?;
@@ -204,22 +209,70 @@ fn untold_response(alloc: Global, door: Door) -> Result<Response, AllocError>
     Response::new(alloc, door, StatusCode::NOT_FOUND, &problem_media(), body)
 }
 
-/// The octets of a blob, of which these are found, where the mail is told.
-pub fn blob_response(
+// The octets that a blob id names, where it names some.
+fn found_response(
     alloc: Global,
     door: Door,
-    told: bool,
-    found: Option<&Bytes>,
+    found: Result<Option<Bytes>, BodyError>,
     media: Option<&[u8]>,
 ) -> Result<Response, AllocError>
-    ensures { IfOk result (λ r. text_sent r ≡ spelled door (blob_answer told (option_copied found.entry) (option_copied media.entry))) }
+    ensures { IfOk result (λ r. text_sent r ≡ spelled door (found_answer found (option_copied media.entry))) }
 {
-    match (told, found) {
-        (false, _) => untold_response(alloc, door),
-        (true, None) => Ok(Response::empty(door, Refusal::NotFound)),
-        (true, Some(octets)) => {
-            let body = octets.share()?;
-            Response::new(alloc, door, StatusCode::OK, &download_media(media), body)
+    match found {
+        Ok(Some(octets)) => {
+            Response::new(alloc, door, StatusCode::OK, &download_media(media), octets)
         }
+        Ok(None) => Ok(Response::empty(door, Refusal::NotFound)),
+        Err(_) => untold_response(alloc, door),
+    }
+}
+
+// The same of the mail, where that is told.
+fn told_response<W, B: BodySource<W>>(
+    alloc: Global,
+    door: Door,
+    state: &MailState,
+    uploads: &BlobStore,
+    bodies: &mut B,
+    world: &mut W,
+    blob: &[u8],
+    media: Option<&[u8]>,
+) -> Result<Response, AllocError>
+    ensures { AsksAndMakes B.answers B.lacks (bodies.old, world.old) (bodies.new, world.new) result
+        (λ r asks. (found : OctetsFound) × FindsBlob state.now.rows.numbered.rows uploads.now blob.now asks found
+        × (text_sent r ≡ spelled door (found_answer found (option_copied media.entry)))) }
+{
+    match find_blob(alloc, state, uploads, bodies, world, blob) {
+        Err(BodyError::Memory) => Err(AllocError),
+        found => found_response(alloc, door, found, media),
+    }
+}
+
+/// The octets that a blob id names in the mail and the uploads. The body of an Email is asked of the source.
+pub fn download_response<W, B: BodySource<W>>(
+    alloc: Global,
+    door: Door,
+    over: &Over<'_>,
+    bodies: &mut B,
+    world: &mut W,
+    blob: &[u8],
+    media: Option<&[u8]>,
+) -> Result<Response, AllocError>
+    ensures { AsksAndMakes B.answers B.lacks (bodies.old, world.old) (bodies.new, world.new) result
+        (λ r asks. (o : MailAndUploads) → AreOf o over.now → (answer : Answer)
+        × IsDownload o.mail o.uploads blob.now (option_copied media.entry) asks answer × (text_sent r ≡ spelled door answer)) }
+{
+    match &over.mail {
+        Mail::Told(state) => told_response(
+            alloc,
+            door,
+            *state,
+            over.uploads,
+            bodies,
+            world,
+            blob,
+            media,
+        ),
+        Mail::Untold(_) => untold_response(alloc, door),
     }
 }

@@ -1,11 +1,16 @@
 // What answers one client after another.
-ghost use Rattle.std.specs.Prelude.{◌≡◌, ◌≢◌, ◌⊎◌, IfOk, OnOk, OnErr, None};
+ghost use Rattle.std.specs.Prelude.{◌≡◌, ◌≢◌, ◌⊎◌, [], List, IfOk, IsSome, OnOk, OnErr, None, Err, true, false};
 ghost use Rattle.std.specs.Option.{option_copied};
-ghost use Rattle.gate_world.specs.Causes.{FrontAlone, Hidden, Later, LinkAlone, NoFault, Rose};
+ghost use Rattle.gate_world.specs.Causes.{Faults, FrontAlone, Hidden, Later, LinkAlone, NoFault, Rose};
 ghost use Rattle.gate_world.specs.Tape.{Adds};
-ghost use Rattle.gate_machine.specs.Holding.{HoldsMachine};
-ghost use Rattle.gate_machine.specs.Machine.{MachineState};
-ghost use Rattle.gate_calls.specs.Mailings.{mail_told};
+ghost use Rattle.email_bodies.specs.Asking.{BodyAsk};
+ghost use Rattle.jmap_core.specs.Request.{request_data};
+ghost use Rattle.jmap_methods.specs.declared.method_error.MethodError.TheVariants.{ServerUnavailable};
+ghost use Rattle.gate_machine.specs.Holding.{unready};
+ghost use Rattle.gate_machine.specs.Progress.{CameTo, Progress};
+ghost use Rattle.gate_machine.specs.declared.standing.Standing.TheVariants.{Fell, Stands};
+ghost use Rattle.gate_calls.specs.Asking.{AsksAndMakes};
+ghost use Rattle.gate_calls.specs.Mailings.{AreOf, MailAndUploads, error_of as error_meant};
 ghost use Rattle.gate_serving.specs.GateState.{GateState, unready_state};
 ghost use Rattle.gate_serving.specs.Answers.{IsResponse, KeepsUpload, TakesMemory, no_memory_text};
 ghost use Rattle.gate_serving.specs.Run.{AddsSegment, account_of};
@@ -13,26 +18,31 @@ ghost use Rattle.gate_serving.specs.declared.door.Door.TheVariants.{Bare};
 ghost use Rattle.gate_serving.specs.reading.Askings.{asking_data, id_asked};
 ghost use Rattle.gate_serving.specs.Gates.{Comes, GateHolds, OpensTo, RestStays, account_by};
 ghost use Rattle.gate_serving.specs.Segment.{went};
-ghost use Rattle.gate_serving.specs.reading.Replying.{AnswersTo, RepliesBy, RepliesToAsking, SendsReply, Serves};
+ghost use Rattle.gate_serving.specs.Requests.{Calls, asks_for_mail};
+ghost use Rattle.gate_serving.specs.reading.Replying.{AnswersTo, Finishes, RepliesBy, RepliesToAsking, SendsReply, Serves};
 ghost use Rattle.gate_serving.specs.reading.Texts.{text_sent};
 
 use crate::answers::{
-    blob_response, calls_response, problem_response, session_response, upload_response,
+    calls_response, download_response, problem_response, session_response, upload_response,
 };
 use crate::asking::Asking;
 use crate::door::Door;
-use crate::mailing::work;
+use crate::no_source::NoSource;
 use crate::reading::read_asking;
 use crate::response::Response;
 use crate::served::{OpenError, Served};
 use blob_store::BlobStore;
-use gate_calls::{Told, is_told};
-use gate_machine::Machine;
+use email_bodies::BodySource;
+use gate_calls::{Mail, Over};
+use gate_machine::{Fall, Machine, Standing, begin};
 use gate_words::Place;
 use gate_world::{Bytes, Failed, Front, Text, World};
 use http_door::AskError;
 use http_routes::Routes;
 use http_service::Refusal;
+use imap_client::Client;
+use jmap_core::Request;
+use jmap_methods::MethodError;
 use std::alloc::{AllocError, Global};
 
 /// Answers one client after another.
@@ -159,10 +169,171 @@ impl Gate {
         ensures alone { LinkAlone (W.faults world.old) (W.faults world.new) }
         ensures hidden { W.hidden world.new ≡ W.hidden world.old }
     {
-        let asks = asking.needs_mail();
-        let told = work(alloc, &mut self.machine, world, &self.user, asks)?;
-        let id = self.keep(asking)?;
-        self.response(alloc, &told, asking, &id)
+        if asking.needs_mail() {
+            self.answer_over_mail(alloc, world, asking)
+        } else {
+            self.answer_at_once(alloc, world, asking)
+        }
+    }
+
+    // Where the mail is needed: the way to the mail, the answer over it, and the end of the link life.
+    fn answer_over_mail<W: World>(
+        &mut self,
+        alloc: Global,
+        world: &mut W,
+        asking: &Asking,
+    ) -> Result<Response, AllocError>
+        requires { asks_for_mail (asking_data asking.now) ≡ true }
+        ensures run { Adds (W.tape world.old) (W.tape world.new)
+            (Comes self.old self.new (λ s t. AnswersTo self.old.door (account_by self.old (W.hidden world.old)) (asking_data asking.now) s t
+            (W.faults world.old) (W.faults world.new) result)) }
+        ensures rest { RestStays self.old self.new }
+        ensures alone { LinkAlone (W.faults world.old) (W.faults world.new) }
+        ensures hidden { W.hidden world.new ≡ W.hidden world.old }
+    {
+        let mut client = Client::new(alloc);
+        let user = self.user.as_str().as_bytes();
+        match begin(alloc, &mut self.machine, &mut client, world, user) {
+            Standing::Stands => self.answer_told(alloc, client, world, asking),
+            Standing::Fell(why) => {
+                self.answer_untold(alloc, client, world, asking, error_of(why))
+            }
+            Standing::OutOfMemory => {
+                client.leave(world);
+                self.unless_lacking(Err(AllocError))
+            }
+        }
+    }
+
+    // Over the mail that was told in the client's link life, which is over after it.
+    fn answer_told<W: World>(
+        &mut self,
+        alloc: Global,
+        client: Client,
+        world: &mut W,
+        asking: &Asking,
+    ) -> Result<Response, AllocError>
+        requires needs { asks_for_mail (asking_data asking.now) ≡ true }
+        requires ready { IsSome self.old.machine.known }
+        ensures run { Adds (W.tape world.old) (W.tape world.new) (λ es. (p : Progress) (was : Faults)
+            → CameTo self.old.machine client Stands was (W.faults world.old) p
+            → Finishes self.old.door (account_by self.old (W.hidden world.old)) self.old.uploads (asking_data asking.now) p self.new.machine was
+            (W.faults world.new) result es) }
+        ensures rest { RestStays self.old self.new }
+        ensures uploads { self.new.uploads ≡ self.old.uploads }
+        ensures alone { LinkAlone (W.faults world.old) (W.faults world.new) }
+        ensures hidden { W.hidden world.new ≡ W.hidden world.old }
+    {
+        let (served, mut fetching) = self.machine.lend(client);
+        let over = Over {
+            mail: Mail::Told(served.state()),
+            uploads: &self.uploads,
+        };
+        let made = self.response_over(alloc, &over, &mut fetching, world, asking);
+        let mut client = self.machine.take_back(served, fetching);
+        client.leave(world);
+        self.unless_lacking(made)
+    }
+
+    // Where the mail can't be told; the client's link life is over after it.
+    fn answer_untold<W: World>(
+        &mut self,
+        alloc: Global,
+        client: Client,
+        world: &mut W,
+        asking: &Asking,
+        error: MethodError,
+    ) -> Result<Response, AllocError>
+        requires needs { asks_for_mail (asking_data asking.now) ≡ true }
+        ensures run { Adds (W.tape world.old) (W.tape world.new) (λ es. (p : Progress) (was : Faults) (how : Fall)
+            → CameTo self.old.machine client (Fell how) was (W.faults world.old) p → error ≡ error_meant how
+            → Finishes self.old.door (account_by self.old (W.hidden world.old)) self.old.uploads (asking_data asking.now) p self.new.machine was
+            (W.faults world.new) result es) }
+        ensures rest { RestStays self.old self.new }
+        ensures uploads { self.new.uploads ≡ self.old.uploads }
+        ensures alone { LinkAlone (W.faults world.old) (W.faults world.new) }
+        ensures hidden { W.hidden world.new ≡ W.hidden world.old }
+    {
+        let mut client = client;
+        client.leave(world);
+        let over = Over {
+            mail: Mail::Untold(error),
+            uploads: &self.uploads,
+        };
+        let made = self.response_over(alloc, &over, &mut NoSource, world, asking);
+        self.unless_lacking(made)
+    }
+
+    // The response to what is answered over mail.
+    fn response_over<W, B: BodySource<W>>(
+        &self,
+        alloc: Global,
+        over: &Over<'_>,
+        bodies: &mut B,
+        world: &mut W,
+        asking: &Asking,
+    ) -> Result<Response, AllocError>
+        requires { asks_for_mail (asking_data asking.now) ≡ true }
+        ensures { AsksAndMakes B.answers B.lacks (bodies.old, world.old) (bodies.new, world.new) result
+            (λ r asks. (secrets : Hidden) (o : MailAndUploads) → AreOf o over.now
+            → IsResponse self.now.door (account_by self.now secrets) o (asking_data asking.now) asks (text_sent r)) }
+    {
+        match asking {
+            Asking::Calls(request) => calls_response(
+                alloc,
+                self.door,
+                &self.user,
+                &self.base,
+                over,
+                bodies,
+                world,
+                request,
+            ),
+            Asking::Download { blob, media } => download_response(
+                alloc,
+                self.door,
+                over,
+                bodies,
+                world,
+                blob.as_slice(),
+                media_of(media),
+            ),
+            _ => unreachable!(),
+        }
+    }
+
+    // Where there was no memory for a response the machine isn't ready.
+    fn unless_lacking(&mut self, made: Result<Response, AllocError>) -> Result<Response, AllocError>
+        ensures made { result ≡ made }
+        ensures ok { OnOk result (self.new ≡ self.old) }
+        ensures err { OnErr result (self.new ≡ record self.old { machine = unready self.old.machine }) }
+    {
+        if made.is_err() {
+            self.machine.forget();
+        }
+        made
+    }
+
+    // Where no mail is needed.
+    fn answer_at_once<W: World>(
+        &mut self,
+        alloc: Global,
+        world: &mut W,
+        asking: &Asking,
+    ) -> Result<Response, AllocError>
+        requires { asks_for_mail (asking_data asking.now) ≡ false }
+        ensures run { (s : GateState) → GateHolds s self.old → (t : GateState) × GateHolds t self.new
+            × AnswersTo self.old.door (account_by self.old (W.hidden world.old)) (asking_data asking.now) s t (W.faults world.old) (W.faults world.old) result [] }
+        ensures rest { RestStays self.old self.new }
+        ensures world { world.new ≡ world.old }
+    {
+        match self.keep(asking) {
+            Ok(id) => {
+                let made = self.response(alloc, world, asking, &id);
+                self.unless_lacking(made)
+            }
+            Err(error) => self.unless_lacking(Err(error)),
+        }
     }
 
     // Keeps what is uploaded: its id, where something is.
@@ -183,43 +354,61 @@ impl Gate {
         }
     }
 
-    // The response over the machine's mail, where that was told, and the uploads that are kept, this id being that of what was
-    // uploaded. What is refused takes no memory.
-    fn response(
+    // The response where no mail is needed, this id being that of what was uploaded. What is refused takes no memory.
+    fn response<W>(
         &self,
         alloc: Global,
-        told: &Told,
+        world: &mut W,
         asking: &Asking,
         id: &Option<Bytes>,
     ) -> Result<Response, AllocError>
         requires id { id.now ≡ id_asked (asking_data asking.now) }
-        ensures made { IfOk result (λ r. (secrets : Hidden) (m : MachineState) → HoldsMachine m self.now.machine
-            → IsResponse self.now.door (account_by self.now secrets) (mail_told told.now m.known) self.now.uploads (asking_data asking.now) (text_sent r)) }
+        requires needs { asks_for_mail (asking_data asking.now) ≡ false }
+        ensures made { IfOk result (λ r. (secrets : Hidden) → (asks : List BodyAsk)
+            × IsResponse self.now.door (account_by self.now secrets) (record { mail = Err ServerUnavailable; uploads = self.now.uploads })
+            (asking_data asking.now) asks (text_sent r)) }
         ensures takes { OnErr result (TakesMemory (asking_data asking.now)) }
+        ensures world { world.new ≡ world.old }
     {
         match asking {
-            Asking::Calls(request) => calls_response(
-                alloc,
-                self.door,
-                &self.user,
-                &self.base,
-                &self.machine,
-                told,
-                request,
-            ),
+            Asking::Calls(request) => self.calls_without(alloc, world, request),
             Asking::Problem(error) => problem_response(alloc, self.door, *error),
             Asking::Session => session_response(alloc, self.door, &self.user, &self.base),
             Asking::Upload(upload) => match id {
                 Some(id) => upload_response(alloc, self.door, upload, id),
                 None => unreachable!(),
             },
-            Asking::Download { blob, media } => {
-                let found = self.uploads.get(blob.as_slice());
-                let told = is_told(&self.machine, told);
-                blob_response(alloc, self.door, told, found, media_of(media))
-            }
+            Asking::Download { .. } => unreachable!(),
             Asking::Refused(refusal) => Ok(Response::empty(self.door, *refusal)),
         }
+    }
+
+    // The response to calls that need no mail.
+    fn calls_without<W>(
+        &self,
+        alloc: Global,
+        world: &mut W,
+        request: &Request,
+    ) -> Result<Response, AllocError>
+        ensures made { IfOk result (λ r. (secrets : Hidden) → (asks : List BodyAsk)
+            × IsResponse self.now.door (account_by self.now secrets) (record { mail = Err ServerUnavailable; uploads = self.now.uploads })
+            (Calls (request_data request.now)) asks (text_sent r)) }
+        ensures world { world.new ≡ world.old }
+    {
+        let over = Over {
+            mail: Mail::Untold(MethodError::ServerUnavailable),
+            uploads: &self.uploads,
+        };
+        calls_response(
+            alloc,
+            self.door,
+            &self.user,
+            &self.base,
+            &over,
+            &mut NoSource,
+            world,
+            request,
+        )
     }
 
     // Out of memory: the machine isn't ready.
@@ -230,6 +419,16 @@ impl Gate {
     {
         self.machine.forget();
         Response::empty(self.door, Refusal::Unavailable)
+    }
+}
+
+// The error of calls that need the mail, where it can't be told.
+fn error_of(why: Fall) -> MethodError
+    ensures { result ≡ error_meant why }
+{
+    match why {
+        Fall::Linked(_) => MethodError::ServerUnavailable,
+        Fall::Spent => MethodError::ServerFail,
     }
 }
 

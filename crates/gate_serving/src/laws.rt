@@ -6,7 +6,8 @@ ghost use Rattle.gate_machine.specs.Progress.{Bears, Progress};
 ghost use Rattle.gate_machine.specs.Machine.{MachineState};
 ghost use Rattle.gate_machine.specs.Sources.{KnowsExchanges};
 ghost use Rattle.gate_machine.specs.declared.standing.Standing.TheVariants.{OutOfMemory};
-ghost use Rattle.gate_calls.specs.Mailings.{Mailing};
+ghost use Rattle.email_bodies.specs.Asking.{BodyAsk};
+ghost use Rattle.gate_calls.specs.Mailings.{Mailing, MailAndUploads};
 ghost use Rattle.gate_calls.specs.Places.{HasPlaces};
 ghost use Rattle.gate_serving.specs.Answers.{IsResponse};
 ghost use Rattle.gate_serving.specs.Complete.{CompletesRun, IsAnsweredFrom, IsSegmentObeyed, IsTold, IsWorkObeyed};
@@ -19,8 +20,11 @@ ghost use Rattle.gate_serving.specs.Segment.{Segment, blamed};
 ghost use Rattle.gate_serving.specs.Work.{Work};
 ghost use Rattle.gate_serving.specs.declared.served.Served.{Served};
 
+use email_methods::laws::one_blob_found;
 use gate_calls::one_list_of_responses;
-use gate_machine::{machines_know_what_was_told, obeyed_rounds_stand, requests_keep_history};
+use gate_machine::{
+    calls_keep_history, machines_know_what_was_told, obeyed_rounds_stand, requests_keep_history,
+};
 
 /// Where no count rose, nothing is blamed.
 pub fn no_fault_no_blame()
@@ -29,15 +33,15 @@ pub fn no_fault_no_blame()
 
 /// A request that doesn't need the mail has no link life, and leaves the machine as it was.
 pub fn no_life_without_need()
-    ensures { (account : Account) (before : MachineState) (asking : Asking) (events : List Event) (mail : Mailing) (after : Progress)
-        → Work account before asking events mail after → asks_for_mail asking ≡ false → (events ≡ []) × (after.machine ≡ before) }
+    ensures { (account : Account) (before : MachineState) (asking : Asking) (events : List Event) (mail : Mailing) (asks : List BodyAsk) (after : Progress)
+        → Work account before asking events mail asks after → asks_for_mail asking ≡ false → (events ≡ []) × (after.machine ≡ before) }
 {}
 
 /// Where the store obeys, a place is left and no fault is blamed, calls are answered over the mail that is served then; or
 /// memory ran out.
 pub fn obeyed_requests_answered()
-    ensures { (account : Account) (before : MachineState) (asking : Asking) (events : List Event) (mail : Mailing) (after : Progress)
-        (work : Work account before asking events mail after) → IsWorkObeyed work → after.blamed ≡ no_faults
+    ensures { (account : Account) (before : MachineState) (asking : Asking) (events : List Event) (mail : Mailing) (asks : List BodyAsk) (after : Progress)
+        (work : Work account before asking events mail asks after) → IsWorkObeyed work → after.blamed ≡ no_faults
         → IsAnsweredFrom asking mail after ⊎ (after.standing ≡ OutOfMemory) }
 {
     obeyed_rounds_stand();
@@ -66,22 +70,24 @@ pub fn histories_go_on()
     ensures { (door : Door) (account : Account) (events : List Event) → KeepsHistories door account events }
 {
     requests_keep_history();
+    calls_keep_history();
 }
 
-/// Over some mail and uploads, what is asked has one response at a door.
+/// Over some mail and uploads, and by the bodies that were asked, what is asked has one response at a door.
 pub fn one_response()
-    ensures { (door : Door) (account : Account) (mail : Mailing) (uploads : List (List ℕ)) (asking : Asking) (a b : List ℕ)
-        → HasPlaces mail → IsResponse door account mail uploads asking a → IsResponse door account mail uploads asking b → a ≡ b }
+    ensures { (door : Door) (account : Account) (over : MailAndUploads) (asking : Asking) (asks : List BodyAsk) (a b : List ℕ)
+        → HasPlaces over.mail → IsResponse door account over asking asks a → IsResponse door account over asking asks b → a ≡ b }
 {
     one_list_of_responses();
+    one_blob_found();
 }
 
 /// What is known after a run comes of exchanges, where it did before. So the mail over which calls are answered has places left.
 pub fn runs_know_what_was_told()
     ensures machine { (door : Door) (account : Account) (before after : GateState) (events : List Event) (went : List Served)
         → Run door account before events went after → KnowsExchanges before.machine → KnowsExchanges after.machine }
-    ensures mail { (account : Account) (before : MachineState) (asking : Asking) (events : List Event) (mail : Mailing) (after : Progress)
-        → Work account before asking events mail after → KnowsExchanges before → HasPlaces mail }
+    ensures mail { (account : Account) (before : MachineState) (asking : Asking) (events : List Event) (mail : Mailing) (asks : List BodyAsk) (after : Progress)
+        → Work account before asking events mail asks after → KnowsExchanges before → HasPlaces mail }
 {
     machines_know_what_was_told();
 }

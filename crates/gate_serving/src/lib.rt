@@ -12,7 +12,7 @@ mod upload;
 // The work, and answers.
 mod answers;
 mod line;
-mod mailing;
+mod no_source;
 mod response;
 
 // One client after another.

@@ -1,5 +1,5 @@
 -- What the parts of answering a client add.
-use Rattle.std.specs.Prelude.{◌≡◌, ◌≢◌, ◌⊎◌, ◌++◌, ℕ, Bool, List, [], ◌∷◌, Option, Some, None, Result, Ok, Err}
+use Rattle.std.specs.Prelude.{◌≡◌, ◌≢◌, ◌⊎◌, ◌++◌, ℕ, List, [], ◌∷◌, Option, Some, None, Result, Ok, Err}
 use Rattle.std.specs.declared.alloc.AllocError.{AllocError}
 use Rattle.gate_world.specs.Causes.{Faults, Rose}
 use Rattle.gate_world.specs.Sending.{Sends}
@@ -7,55 +7,69 @@ use Rattle.gate_world.specs.declared.event.Event.{Event}
 use Rattle.gate_world.specs.declared.event.Event.TheVariants.{Accepted}
 use Rattle.gate_world.specs.declared.outside.Failed.{Failed}
 use Rattle.http_door.specs.declared.asking.AskError.TheVariants as unread
-use Rattle.gate_machine.specs.Progress.{Progress, Bears}
-use Rattle.jmap_methods.specs.declared.method_error.MethodError.{MethodError}
+use Rattle.email_bodies.specs.Asking.{BodyAsk}
+use Rattle.imap_exchange.specs.Answering.{HangsUp}
+use Rattle.gate_machine.specs.Fetching.{CallsAsk}
+use Rattle.gate_machine.specs.Progress.{Progress, Bears, is_up}
 use Rattle.gate_machine.specs.Holding.{HoldsMachine}
-use Rattle.gate_machine.specs.Machine.{MachineState}
+use Rattle.gate_machine.specs.Machine.{MachineState, forgotten}
 use Rattle.gate_machine.specs.declared.machine.Machine.{Machine}
 use Rattle.gate_machine.specs.declared.standing.Standing.TheVariants.{OutOfMemory}
-use Rattle.gate_calls.specs.Mailings.{Mailing, mail_told}
+use Rattle.gate_calls.specs.Mailings.{Mailing, mailing_by}
 use Rattle.gate_serving.specs.declared.door.Door.{Door}
 use Rattle.gate_serving.specs.declared.response.Response.{Response}
 use Rattle.gate_serving.specs.declared.served.Served.{Served}
 use Rattle.gate_serving.specs.declared.served.Served.TheVariants as served
 use Rattle.gate_serving.specs.Answers.{KeepsUpload, MayKeepUpload, TakesMemory, IsResponse}
 use Rattle.gate_serving.specs.GateState.{GateState}
-use Rattle.gate_serving.specs.Requests.{Account, Asking, ReadsAsking, asks_for_mail}
+use Rattle.gate_serving.specs.Requests.{Account, Asking, ReadsAsking}
 use Rattle.gate_serving.specs.Segment.{Replies, Segment, reply_blamed, blamed, went}
 use Rattle.gate_serving.specs.Work.{Work}
 use Rattle.gate_serving.specs.reading.Texts.{text_sent}
 
--- that the work gave the mail, or the error; or memory ran out in it or after it
-abbrev pub IsWorked : Result (Result (Unit {0}) MethodError) AllocError → Mailing → Progress → Type 0
-IsWorked (Ok told) mail done = (mail ≡ mail_told told done.machine.known) × (done.standing ≢ OutOfMemory)
-IsWorked (Err _) mail done = Unit {0}
+-- the response that is made over the mail of the work so far; or none
+abbrev pub IsMadeOver : Door → Account → List (List ℕ) → Asking → Progress → List BodyAsk → Progress → Result Response AllocError → Type 0
+IsMadeOver door account uploads asking begun asks answered (Ok response) =
+    IsResponse door account (record { mail = mailing_by begun.standing begun.machine.known; uploads = uploads }) asking asks (text_sent response)
+    × (answered.standing ≢ OutOfMemory)
+IsMadeOver door account uploads asking begun asks answered (Err _) = Unit {0}
 
--- the work on what needs the mail or doesn't
-pub record WorksTo (user password : List ℕ) (asks : Bool) (before : MachineState) (kept : Machine) (was now : Faults)
-    (result : Result (Result (Unit {0}) MethodError) AllocError) (events : List Event) : Type 0 where
-  pub mail : Mailing
-  pub done : Progress
-  pub work : (token base : List ℕ) (asking : Asking) → asks_for_mail asking ≡ asks
-      → Work (record { user = user; password = password; token = token; base = base }) before asking events mail done
-  pub held : HoldsMachine done.machine kept
-  pub bears : Bears done.blamed was now
-  pub worked : IsWorked result mail done
+-- the machine that is left: where there was no response it isn't ready
+abbrev pub machine_left : Result Response AllocError → MachineState → MachineState
+machine_left (Ok response) m = m
+machine_left (Err _) m = forgotten m
+
+-- What is asked is answered in the link life that there is, which is over then.
+pub record Finishes (door : Door) (account : Account) (uploads : List (List ℕ)) (asking : Asking) (begun : Progress) (kept : Machine) (was now : Faults)
+    (result : Result Response AllocError) (events : List Event) : Type 0 where
+  pub asks : List BodyAsk
+  pub answered : Progress
+  pub fetching : List Event
+  pub ending : List Event
+  pub calls_ask : CallsAsk begun asks fetching answered
+  pub hangs_up : HangsUp (is_up answered.left) ending
+  pub whole : events ≡ fetching ++ ending
+  pub held : HoldsMachine (machine_left result answered.machine) kept
+  pub bears : Bears answered.blamed was now
+  pub made : IsMadeOver door account uploads asking begun asks answered result
 
 -- the response; or there was no memory for one that takes memory
-abbrev pub IsMade : Door → Account → Mailing → Asking → GateState → GateState → Progress → Result Response AllocError → Type 0
-IsMade door account mail asking before after done (Ok response) = IsResponse door account mail after.uploads asking (text_sent response)
+abbrev pub IsMade : Door → Account → Mailing → Asking → List BodyAsk → GateState → GateState → Progress → Result Response AllocError → Type 0
+IsMade door account mail asking asks before after done (Ok response) =
+    IsResponse door account (record { mail = mail; uploads = after.uploads }) asking asks (text_sent response)
     × (done.standing ≢ OutOfMemory) × KeepsUpload asking before.uploads after.uploads
-IsMade door account mail asking before after done (Err _) = TakesMemory asking
+IsMade door account mail asking asks before after done (Err _) = TakesMemory asking
 
 pub record AnswersTo (door : Door) (account : Account) (asking : Asking) (before after : GateState) (was now : Faults) (result : Result Response AllocError)
     (events : List Event) : Type 0 where
   pub mail : Mailing
+  pub asks : List BodyAsk
   pub done : Progress
-  pub work : Work account before.machine asking events mail done
-  pub machine_is : after.machine ≡ done.machine
+  pub work : Work account before.machine asking events mail asks done
+  pub machine_is : after.machine ≡ machine_left result done.machine
   pub bears : Bears done.blamed was now
   pub may : MayKeepUpload asking before.uploads after.uploads
-  pub made : IsMade door account mail asking before after done result
+  pub made : IsMade door account mail asking asks before after done result
 
 -- the reply to what is asked, after the events by which it was read
 pub record RepliesToAsking (door : Door) (account : Account) (asking : Asking) (before after : GateState) (was now : Faults) (text : List ℕ)

@@ -1,6 +1,6 @@
-use Rattle.std.proofs.Common.{refl}
 use Rattle.gate_calls.proofs.OneAnswer.{one_list}
 use Rattle.gate_calls.proofs.laws.one_list_of_responses.Goals as goal
 
 pub returns : goal.returns
-returns c = λ uses mail calls a b room first second. one_list c.one_changes_answer.ensures uses mail room first second refl
+returns c = λ uses over calls asks a b room first second.
+    one_list c.one_changes_answer.ensures c.one_get_answer.ensures c.one_parse_answer.ensures uses over calls asks a b room first second

@@ -1,20 +1,15 @@
-use Rattle.std.proofs.Common.{Err, sym, subst}
+use Rattle.std.proofs.Common.{Err, []}
 use Rattle.serde_json.specs.View.{view}
-use Rattle.mail_state.specs.State.{ServedState, IsStateOf}
-use Rattle.gate_calls.proofs.Meaning.{reply_ready, reply_unready, replies_told}
+use Rattle.gate_calls.specs.Mailings.{AreOf, MailAndUploads}
+use Rattle.gate_calls.specs.Methods.{RepliesTo}
+use Rattle.gate_calls.proofs.Meaning.{mail_untold, meant_more, over_untold, replies_once}
 use Rattle.gate_calls.proofs.methods.reply.Goals as goal
 
-pub returns-in-Some-clause-meant : goal.returns-in-Some-clause-meant
-returns-in-Some-clause-meant c = λ m held.
-    replies_told c.args.method (view c.args.arguments) c.reply_over.result m.known c.args.told.now _ c.in-Ok.is
-    (reply_ready c.args.method (view c.args.arguments) c.reply_over.result m c.args.machine.now c.in-Some.known held c.in-Some.is
-    (λ h stands. c.reply_over.ensures.meant h (subst (λ (st : ServedState). IsStateOf h st) (sym c.state.ensures) stands)))
-
-pub returns-in-None-clause-meant : goal.returns-in-None-clause-meant
-returns-in-None-clause-meant c = λ m held.
-    replies_told c.args.method (view c.args.arguments) c.reply_without.result m.known c.args.told.now _ c.in-Ok.is
-    (reply_unready c.args.method (view c.args.arguments) c.reply_without.result m c.args.machine.now held c.in-None.is c.reply_without.ensures.meant)
-
-pub returns-in-Err-clause-meant : goal.returns-in-Err-clause-meant
-returns-in-Err-clause-meant c = λ m held.
-    replies_told c.args.method (view c.args.arguments) c.reply_without-in-Err.result m.known c.args.told.now (Err c.in-Err.error) c.in-Err.is c.reply_without-in-Err.ensures.meant
+pub returns-in-Untold-clause-meant : goal.returns-in-Untold-clause-meant
+returns-in-Untold-clause-meant g c =
+    let d = view c.args.arguments in
+    let e = c.in-Untold.error in
+    replies_once g.B.BodySource.answers g.B.BodySource.lacks (λ (o : MailAndUploads) asks r. AreOf o c.args.over.now → RepliesTo c.args.method o d asks r) _
+    c.reply_without.result (λ o. meant_more (RepliesTo c.args.method (record { mail = Err e; uploads = o.uploads }) d [])
+    (λ r. AreOf o c.args.over.now → RepliesTo c.args.method o d [] r) c.reply_without.result
+    (λ r replies of. over_untold c.args.method d [] r o c.args.over.now e (mail_untold c.args.over.now.mail e c.in-Untold.is) of replies) (c.reply_without.ensures.meant o.uploads))
