@@ -9,4 +9,4 @@ mod tests;
 
 pub use cache::{BodyCache, MAX_BODIES};
 pub use error::BodyError;
-pub use source::BodySource;
+pub use source::{BodySource, MessagePlace};
