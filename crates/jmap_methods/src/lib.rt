@@ -19,7 +19,7 @@ pub use arguments::{
     most_or_null, text_at, texts_in, texts_or_null, whole_or_null,
 };
 pub use core_echo::echo;
-pub use gets::{AskedNumbers, asked_numbers, count_of_ids, distinct, get_value};
+pub use gets::{AskedNumbers, asked_numbers, count_of_ids, get_value};
 pub use ids::{EMAIL_LETTER, MAILBOX_LETTER, THREAD_LETTER, id_list, id_text, id_value, read_id};
 pub use method::{Method, Using, method_named, needs_mail};
 pub use method_error::{MethodError, error_arguments};
