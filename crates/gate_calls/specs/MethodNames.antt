@@ -1,10 +1,9 @@
 -- The methods by their names, and what a call by a name needs (RFC 8620 sections 3.3, 3.6.2 and 4, RFC 8621 sections 2 to 4).
 use Rattle.std.specs.Prelude.{ℕ, List, [], ◌∷◌, Bool, not, if◌then◌else◌, bytes_eq, codes, Option, Some, None, Result, Ok, Err}
 use Rattle.std.specs.List.{find}
-use Rattle.serde_json.specs.Data.{Data, string, object, no_members, member}
-use Rattle.jmap_methods.specs.declared.method.Method.{Method}
-use Rattle.jmap_methods.specs.declared.method.Method.TheVariants.{CoreEcho, MailboxGet, MailboxChanges, ThreadGet, ThreadChanges, EmailChanges}
-use Rattle.jmap_methods.specs.declared.method.Using.{Using}
+use Rattle.gate_calls.specs.declared.method.Method.{Method}
+use Rattle.gate_calls.specs.declared.method.Method.TheVariants.{CoreEcho, MailboxGet, MailboxChanges, ThreadGet, ThreadChanges, EmailChanges}
+use Rattle.jmap_methods.specs.declared.using.Using.{Using}
 use Rattle.jmap_methods.specs.declared.method_error.MethodError.{MethodError}
 use Rattle.jmap_methods.specs.declared.method_error.MethodError.TheVariants as error
 
@@ -38,27 +37,3 @@ method_asked uses name = where_used uses (method_of name)
 -- Every call but Core/echo needs the mail, also one that is refused.
 abbrev pub needs_mail_by : List ℕ → Bool
 needs_mail_by name = not (bytes_eq name (name_of CoreEcho))
-
--- ---- errors
-
--- Out of memory is answered by no method response; its type is that of a resource that is gone for now.
-abbrev pub error_type : MethodError → List ℕ
-error_type error.ServerUnavailable = codes "serverUnavailable"
-error_type error.ServerFail = codes "serverFail"
-error_type error.ServerPartialFail = codes "serverPartialFail"
-error_type error.UnknownMethod = codes "unknownMethod"
-error_type error.InvalidArguments = codes "invalidArguments"
-error_type error.InvalidResultReference = codes "invalidResultReference"
-error_type error.AccountNotFound = codes "accountNotFound"
-error_type error.RequestTooLarge = codes "requestTooLarge"
-error_type error.StateMismatch = codes "stateMismatch"
-error_type error.CannotCalculateChanges = codes "cannotCalculateChanges"
-error_type error.AnchorNotFound = codes "anchorNotFound"
-error_type error.UnsupportedFilter = codes "unsupportedFilter"
-error_type error.UnsupportedSort = codes "unsupportedSort"
-error_type error.TooManyChanges = codes "tooManyChanges"
-error_type error.Memory = codes "serverUnavailable"
-
--- the arguments of an `error` response
-abbrev pub error_data : MethodError → Data
-error_data e = object (member (codes "type") (string (error_type e)) no_members)

@@ -1,17 +1,8 @@
 // The methods by their names.
 ghost use Rattle.std.specs.Prelude.{◌≡◌};
-ghost use Rattle.jmap_methods.specs.Method.{is_used, method_of, method_asked, needs_mail_by};
+ghost use Rattle.gate_calls.specs.MethodNames.{is_used, method_of, method_asked, needs_mail_by};
 
-use crate::method_error::MethodError;
-
-/// Which capabilities a request uses (RFC 8620 section 3.3).
-#[derive(Clone, Copy, Debug, PartialEq, Eq)]
-pub struct Using {
-    /// `urn:ietf:params:jmap:core`
-    pub core: bool,
-    /// `urn:ietf:params:jmap:mail`
-    pub mail: bool,
-}
+use jmap_methods::{MethodError, Using};
 
 /// A method that a call can ask.
 #[derive(Clone, Copy, Debug, PartialEq, Eq)]
@@ -65,7 +56,7 @@ pub fn method_named(uses: Using, name: &str) -> Result<Method, MethodError>
 }
 
 /// Whether a call of this name needs the mail: every one but Core/echo, also one that is refused.
-pub fn needs_mail(name: &str) -> bool
+pub fn name_needs_mail(name: &str) -> bool
     ensures { result ≡ needs_mail_by name.now }
 {
     name != "Core/echo"
