@@ -1,13 +1,23 @@
 -- What comes of a call that asks bodies of a source.
 use Rattle.std.specs.Prelude.{◌≡◌, ◌⊎◌, ℕ, List, Option, Result, Ok, Err}
 use Rattle.email_bodies.specs.Asking.{BodyAsk, Asks, AsksInVain}
+use Rattle.email_bodies.specs.declared.source.MessagePlace.{MessagePlace}
 use Rattle.email_bodies.specs.declared.error.BodyError.{BodyError}
 use Rattle.email_bodies.specs.declared.error.BodyError.TheVariants.{Ended, Memory}
 use Rattle.jmap_methods.specs.declared.method_error.MethodError.{MethodError}
 use Rattle.jmap_methods.specs.declared.method_error.MethodError.TheVariants as method
+use Rattle.mail_maps.specs.declared.row.EmailRow.{EmailRow}
+
+-- where the message of an Email is asked
+abbrev pub place_of : EmailRow → MessagePlace
+place_of row = record { email = row.number; folder = row.folder; uid = row.uid }
+
+-- one ask for it
+abbrev pub ask_for : EmailRow → Option (List ℕ) → BodyAsk
+ask_for row body = record { message = place_of row; body = body }
 
 -- a source that answers so, and lacks memory so, before and after a call
-module _ {S : Type 0} (Answers : S → ℕ → Option (List ℕ) → S → Type 0) (Lacks : S → ℕ → S → Type 0) (before after : S) where
+module _ {S : Type 0} (Answers : S → MessagePlace → Option (List ℕ) → S → Type 0) (Lacks : S → MessagePlace → S → Type 0) (before after : S) where
   -- these bodies were asked, and so much is meant by their answers
   pub record AsksAnd (IsMeant : List BodyAsk → Type 0) : Type 0 where
     pub asks : List BodyAsk

@@ -9,6 +9,7 @@ use Rattle.mail_maps.specs.Rows.{Rows}
 use Rattle.mail_maps.specs.declared.row.EmailRow.{EmailRow}
 use Rattle.message_blobs.specs.BlobIds.{BlobRoot, OfEmail, OfUpload, IsBlobId}
 use Rattle.message_blobs.specs.NestedLeaves.{NamesOctets}
+use Rattle.email_methods.specs.Asked.{ask_for}
 
 -- octets, none where there are none, or why a body didn't come
 abbrev pub OctetsFound : Type 0
@@ -19,8 +20,8 @@ pub data FindsRoot (emails : Rows) (uploads : List (List ℕ)) : BlobRoot → Li
   OfTheUploads : (id : List ℕ) (found : Option (List ℕ)) → upload_with id uploads ≡ found → FindsRoot emails uploads (OfUpload id) [] (Ok found)
   NoSuchEmail : (n : ℕ) → row_at emails n ≡ None → FindsRoot emails uploads (OfEmail n) [] (Ok None)
   BodyComes : (n : ℕ) (row : EmailRow) (octets : List ℕ) → row_at emails n ≡ Some row
-      → FindsRoot emails uploads (OfEmail n) (record { email = n; body = Some octets } ∷ []) (Ok (Some octets))
-  BodyLacks : (n : ℕ) (row : EmailRow) → row_at emails n ≡ Some row → FindsRoot emails uploads (OfEmail n) (record { email = n; body = None } ∷ []) (Err Ended)
+      → FindsRoot emails uploads (OfEmail n) (ask_for row (Some octets) ∷ []) (Ok (Some octets))
+  BodyLacks : (n : ℕ) (row : EmailRow) → row_at emails n ≡ Some row → FindsRoot emails uploads (OfEmail n) (ask_for row None ∷ []) (Err Ended)
 
 -- Those that the numbers of leaves name in what was found of the root.
 pub data FindsLeaf (leaves : List ℕ) : OctetsFound → OctetsFound → Type 0 where

@@ -4,7 +4,7 @@ use Rattle.std.specs.Map.{keys_of}
 use Rattle.serde_json.specs.Data.{Data, string}
 use Rattle.change_list.specs.Advance.{row_at}
 use Rattle.email_bodies.specs.Asking.{BodyAsk}
-use Rattle.email_objects.specs.Objects.{IsEmailObject}
+use Rattle.email_objects.specs.EmailObjects.{IsEmailObject}
 use Rattle.email_properties.specs.Wanted.{EmailAsked, email_wanted_in, needs_body}
 use Rattle.email_properties.specs.declared.defaults.Defaults.TheVariants.{Get}
 use Rattle.jmap_methods.specs.Gets.{GetAsked, NumbersAsked, get_asked, numbers_asked, get_data}
@@ -16,6 +16,7 @@ use Rattle.mail_maps.specs.Rows.{Rows}
 use Rattle.mail_maps.specs.declared.row.EmailRow.{EmailRow}
 use Rattle.mail_state.specs.History.{MailHistory}
 use Rattle.read_methods.specs.Replies.{type_state}
+use Rattle.email_methods.specs.Asked.{ask_for}
 use Rattle.email_methods.specs.Showing.{ShowsAll}
 
 -- ---- what is asked, or the first refusal
@@ -47,16 +48,22 @@ emails_asked numbers d = emails_from numbers (get_emails_asked d)
 -- ---- objects
 
 -- The body of an Email, which is asked exactly where a property that is wanted needs it.
-pub data AsksBody (wanted : EmailAsked) (n : ℕ) : List BodyAsk → Result (Option (List ℕ)) MethodError → Type 0 where
-  NotNeeded : needs_body wanted ≡ false → AsksBody wanted n [] (Ok None)
-  Comes : (octets : List ℕ) → needs_body wanted ≡ true → AsksBody wanted n (record { email = n; body = Some octets } ∷ []) (Ok (Some octets))
-  Lacks : needs_body wanted ≡ true → AsksBody wanted n (record { email = n; body = None } ∷ []) (Err ServerUnavailable)
+pub data AsksBody (wanted : EmailAsked) (row : EmailRow) : List BodyAsk → Result (Option (List ℕ)) MethodError → Type 0 where
+  NotNeeded : needs_body wanted ≡ false → AsksBody wanted row [] (Ok None)
+  Comes : (octets : List ℕ) → needs_body wanted ≡ true → AsksBody wanted row (ask_for row (Some octets) ∷ []) (Ok (Some octets))
+  Lacks : needs_body wanted ≡ true → AsksBody wanted row (ask_for row None ∷ []) (Err ServerUnavailable)
 
--- the Email of a number as an object
-pub data ShowsEmail (emails : Rows) (wanted : EmailAsked) (n : ℕ) : List BodyAsk → Result Data MethodError → Type 0 where
-  AsObject : {asks : List BodyAsk} (row : EmailRow) (body : Option (List ℕ)) (object : Data) → row_at emails n ≡ Some row → AsksBody wanted n asks (Ok body)
-      → IsEmailObject row body wanted object → ShowsEmail emails wanted n asks (Ok object)
-  NoBody : {asks : List BodyAsk} (e : MethodError) → AsksBody wanted n asks (Err e) → ShowsEmail emails wanted n asks (Err e)
+-- an Email as an object
+pub data ShowsRow (wanted : EmailAsked) (row : EmailRow) : List BodyAsk → Result Data MethodError → Type 0 where
+  AsObject : {asks : List BodyAsk} (body : Option (List ℕ)) (object : Data) → AsksBody wanted row asks (Ok body) → IsEmailObject row body wanted object
+      → ShowsRow wanted row asks (Ok object)
+  NoBody : {asks : List BodyAsk} (e : MethodError) → AsksBody wanted row asks (Err e) → ShowsRow wanted row asks (Err e)
+
+-- the Email of a number
+pub record ShowsEmail (emails : Rows) (wanted : EmailAsked) (n : ℕ) (asks : List BodyAsk) (object : Result Data MethodError) : Type 0 where
+  pub row : EmailRow
+  pub there : row_at emails n ≡ Some row
+  pub shows : ShowsRow wanted row asks object
 
 -- ---- the answer
 

@@ -6,7 +6,7 @@ use Rattle.serde_json.specs.View.{items_of}
 use Rattle.body_parts.specs.Messages.{MessageData}
 use Rattle.email_bodies.specs.Asking.{BodyAsk}
 use Rattle.email_bodies.specs.declared.error.BodyError.{BodyError}
-use Rattle.email_objects.specs.Objects.{IsParsedObject}
+use Rattle.email_objects.specs.EmailObjects.{IsParsedObject}
 use Rattle.email_properties.specs.Wanted.{EmailAsked, email_wanted_in}
 use Rattle.email_properties.specs.declared.defaults.Defaults.TheVariants.{Parse}
 use Rattle.jmap_methods.specs.Arguments.{text_at, texts_at, account_id, account_check, count_check}

@@ -1,12 +1,12 @@
 // Email/get.
-ghost use Rattle.std.specs.Prelude.{◌≡◌, ◌∷◌, ◌++◌, [], false, All, IfOk, IsSome, OnOk, map, option_map};
+ghost use Rattle.std.specs.Prelude.{◌≡◌, ◌∷◌, ◌++◌, [], true, false, All, IfOk, IsSome, OnOk, map, option_map};
 ghost use Rattle.std.specs.Map.{keys_of};
 ghost use Rattle.std.specs.Option.{option_copied};
 ghost use Rattle.serde_json.specs.Data.{string};
 ghost use Rattle.serde_json.specs.View.{view, items_of};
 ghost use Rattle.serde_json.specs.Written.{has_float, items_have_float};
 ghost use Rattle.change_list.specs.Advance.{row_at};
-ghost use Rattle.email_properties.specs.Wanted.{email_asked};
+ghost use Rattle.email_properties.specs.Wanted.{email_asked, needs_body as needs};
 ghost use Rattle.jmap_methods.specs.Gets.{get_data};
 ghost use Rattle.jmap_methods.specs.Outcome.{Agrees};
 ghost use Rattle.jmap_methods.specs.State.{state_text as text_of_state};
@@ -14,9 +14,10 @@ ghost use Rattle.jmap_methods.specs.declared.method_error.MethodError.TheVariant
 ghost use Rattle.mail_state.specs.History.{MailHistory};
 ghost use Rattle.mail_state.specs.State.{IsStateOf};
 ghost use Rattle.email_methods.specs.Asked.{AsksAndMeets};
-ghost use Rattle.email_methods.specs.EmailGet.{AsksBody, RepliesEmailGet, ShowsEmail, emails_asked, get_emails_asked, get_emails_refused};
+ghost use Rattle.email_methods.specs.EmailGet.{AsksBody, RepliesEmailGet, ShowsEmail, ShowsRow, emails_asked, get_emails_asked, get_emails_refused};
 ghost use Rattle.email_methods.specs.Showing.{ShowsAll};
 
+use crate::blobs::place_of;
 use crate::refusals::error_of;
 use email_bodies::BodySource;
 use email_objects::email_value;
@@ -26,6 +27,7 @@ use jmap_methods::{
     AskedNumbers, EMAIL_LETTER, MethodError, asked_numbers, check_account, check_count,
     count_of_ids, get_value, text_at, texts_or_null,
 };
+use mail_maps::EmailRow;
 use mail_state::{MailState, MailType};
 use read_methods::{TypeNumbers, type_text};
 use serde_json::Value;
@@ -88,39 +90,38 @@ fn asked_emails<'a>(
 }
 
 /// The body of an Email, where a property that is wanted needs it.
-fn body_for<B: BodySource>(
+fn body_for<W, B: BodySource<W>>(
     bodies: &mut B,
+    world: &mut W,
     wanted: &EmailWanted<'_>,
-    number: u64,
+    row: &EmailRow,
 ) -> Result<Option<Bytes>, MethodError>
-    ensures { AsksAndMeets B.answers B.lacks bodies.old bodies.new Memory (λ o. o) result (AsksBody (email_asked wanted.now) number) }
+    ensures asks { AsksAndMeets B.answers B.lacks (bodies.old, world.old) (bodies.new, world.new) Memory (λ o. o) result
+        (AsksBody (email_asked wanted.now) row.now) }
+    ensures there { IfOk result (λ o. needs (email_asked wanted.now) ≡ true → IsSome o) }
 {
     if !needs_body(wanted) {
         return Ok(None);
     }
-    match bodies.body(number) {
+    match bodies.body(world, place_of(row)) {
         Ok(octets) => Ok(Some(octets)),
         Err(error) => Err(error_of(error)),
     }
 }
 
-/// The Email of a number as an object.
-fn email_at<B: BodySource>(
+/// An Email as an object.
+fn row_value<W, B: BodySource<W>>(
     alloc: Global,
-    state: &MailState,
     bodies: &mut B,
+    world: &mut W,
     wanted: &EmailWanted<'_>,
-    number: u64,
+    row: &EmailRow,
 ) -> Result<Value, MethodError>
-    requires { IsSome (row_at state.now.rows.numbered.rows number) }
-    ensures shows { AsksAndMeets B.answers B.lacks bodies.old bodies.new Memory view result
-        (ShowsEmail state.now.rows.numbered.rows (email_asked wanted.now) number) }
+    ensures shows { AsksAndMeets B.answers B.lacks (bodies.old, world.old) (bodies.new, world.new) Memory view result
+        (ShowsRow (email_asked wanted.now) row.now) }
     ensures whole { IfOk result (λ value. has_float (view value) ≡ false) }
 {
-    let Some(row) = state.email(number) else {
-        unreachable!();
-    };
-    let body = body_for(bodies, wanted, number)?;
+    let body = body_for(bodies, world, wanted, row)?;
     Ok(email_value(alloc, row, octets_of(&body), wanted)?)
 }
 
@@ -141,21 +142,25 @@ fn add_object(list: &mut Vec<Value>, object: Value) -> Result<(), AllocError>
 }
 
 /// The Emails of these numbers as objects.
-fn emails_at<B: BodySource>(
+fn emails_at<W, B: BodySource<W>>(
     alloc: Global,
     state: &MailState,
     bodies: &mut B,
+    world: &mut W,
     wanted: &EmailWanted<'_>,
     numbers: &[u64],
 ) -> Result<Vec<Value>, MethodError>
     requires { All (λ n. IsSome (row_at state.now.rows.numbered.rows n)) numbers.now }
-    ensures shows { AsksAndMeets B.answers B.lacks bodies.old bodies.new Memory (λ v. map view v.items) result
+    ensures shows { AsksAndMeets B.answers B.lacks (bodies.old, world.old) (bodies.new, world.new) Memory (λ v. map view v.items) result
         (ShowsAll (ShowsEmail state.now.rows.numbered.rows (email_asked wanted.now)) numbers.now) }
     ensures whole { IfOk result (λ v. items_have_float (items_of (map view v.items)) ≡ false) }
 {
     let mut list = Vec::with_capacity(alloc, numbers.len())?;
     for number in numbers {
-        let object = email_at(alloc, state, bodies, wanted, *number)?;
+        let Some(row) = state.email(*number) else {
+            unreachable!();
+        };
+        let object = row_value(alloc, bodies, world, wanted, row)?;
         add_object(&mut list, object)?;
     }
     Ok(list)
@@ -179,18 +184,19 @@ fn answer_of(
 /// Email/get (RFC 8621 section 4.2): as `mailbox_get`, of Emails. The body of each Email that is found is asked once, in the order asked,
 /// where a property needs it, and let go before the next one is asked; `ServerUnavailable` comes where one doesn't come, and no further
 /// one is asked.
-pub fn email_get<B: BodySource>(
+pub fn email_get<W, B: BodySource<W>>(
     alloc: Global,
     state: &MailState,
     bodies: &mut B,
+    world: &mut W,
     arguments: &Value,
 ) -> Result<Value, MethodError>
-    ensures exact { AsksAndMeets B.answers B.lacks bodies.old bodies.new Memory view result
+    ensures exact { AsksAndMeets B.answers B.lacks (bodies.old, world.old) (bodies.new, world.new) Memory view result
         (λ asks r. (h : MailHistory) → IsStateOf h state.now → RepliesEmailGet h (view arguments.now) asks r) }
     ensures whole { IfOk result (λ value. has_float (view value) ≡ false) }
 {
     let AskedEmails { asked, wanted } = asked_emails(alloc, state, arguments)?;
     let AskedNumbers { numbers, missing } = asked;
-    let list = emails_at(alloc, state, bodies, &wanted, numbers.as_slice())?;
+    let list = emails_at(alloc, state, bodies, world, &wanted, numbers.as_slice())?;
     Ok(answer_of(alloc, state, list, &missing)?)
 }

@@ -9,6 +9,9 @@ mod emails;
 mod parsing;
 mod refusals;
 
+// Laws.
+pub mod laws;
+
 pub use blobs::find_blob;
 pub use emails::{check_email_get, email_get};
 pub use parsing::{check_email_parse, email_parse};

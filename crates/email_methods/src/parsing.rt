@@ -4,7 +4,7 @@ ghost use Rattle.std.specs.Option.{option_copied};
 ghost use Rattle.serde_json.specs.Data.{string};
 ghost use Rattle.serde_json.specs.View.{view, items_of, members_view};
 ghost use Rattle.serde_json.specs.Written.{has_float, items_have_float, members_have_float};
-ghost use Rattle.email_objects.specs.Objects.{IsParsedObject};
+ghost use Rattle.email_objects.specs.EmailObjects.{IsParsedObject};
 ghost use Rattle.email_properties.specs.Wanted.{email_asked};
 ghost use Rattle.jmap_methods.specs.Arguments.{texts_at};
 ghost use Rattle.jmap_methods.specs.Outcome.{Agrees};
@@ -101,22 +101,23 @@ fn message_value(
 }
 
 /// The message that a blob is as an object, where the blob is found.
-fn parsed_blob<B: BodySource>(
+fn parsed_blob<W, B: BodySource<W>>(
     alloc: Global,
     state: &MailState,
     blobs: &BlobStore,
     bodies: &mut B,
+    world: &mut W,
     wanted: &EmailWanted<'_>,
     id: &str,
 ) -> Result<Option<Value>, MethodError>
-    ensures shows { AsksAndMeets B.answers B.lacks bodies.old bodies.new Memory (λ o. record { id = id.now; found = option_map view o }) result
+    ensures shows { AsksAndMeets B.answers B.lacks (bodies.old, world.old) (bodies.new, world.new) Memory (λ o. record { id = id.now; found = option_map view o }) result
         (ShowsBlob state.now.rows.numbered.rows blobs.now (email_asked wanted.now) id.now) }
     ensures whole { IfOk result (λ o. IfSome o (λ value. has_float (view value) ≡ false)) }
 {
     let Some(blob) = read_blob_id(id.as_bytes()) else {
         return Ok(None);
     };
-    match blob_octets(alloc, state, blobs, bodies, &blob) {
+    match blob_octets(alloc, state, blobs, bodies, world, &blob) {
         Err(error) => Err(error_of(error)),
         Ok(None) => Ok(None),
         Ok(Some(octets)) => Ok(Some(message_value(alloc, wanted, &blob, id, &octets)?)),
@@ -153,15 +154,16 @@ fn add_shown(
 }
 
 /// The blobs with these ids, one after another.
-fn show_blobs<B: BodySource>(
+fn show_blobs<W, B: BodySource<W>>(
     alloc: Global,
     state: &MailState,
     blobs: &BlobStore,
     bodies: &mut B,
+    world: &mut W,
     wanted: &EmailWanted<'_>,
     ids: &Vec<&str>,
 ) -> Result<Shown, MethodError>
-    ensures shows { AsksAndMeets B.answers B.lacks bodies.old bodies.new Memory
+    ensures shows { AsksAndMeets B.answers B.lacks (bodies.old, world.old) (bodies.new, world.new) Memory
         (λ s. record { parsed = members_view s.parsed.entries; missing = map view s.missing.items }) result
         (GathersThese state.now.rows.numbered.rows blobs.now (email_asked wanted.now) (map (λ t. t.now) ids.now.items)) }
     ensures whole_parsed { IfOk result (λ s. members_have_float (members_view s.parsed.entries) ≡ false) }
@@ -172,7 +174,7 @@ fn show_blobs<B: BodySource>(
         missing: Vec::new(alloc),
     };
     for id in ids {
-        let found = parsed_blob(alloc, state, blobs, bodies, wanted, *id)?;
+        let found = parsed_blob(alloc, state, blobs, bodies, world, wanted, *id)?;
         add_shown(&mut shown, alloc, *id, found)?;
     }
     Ok(shown)
@@ -217,19 +219,20 @@ fn answer_of(alloc: Global, shown: Shown) -> Result<Value, AllocError>
 /// that there are none of. Any octets are a message. `InvalidArguments`, `AccountNotFound` and `RequestTooLarge` come in this order, the
 /// last for more than `MAX_OBJECTS_IN_GET` ids. Bodies are asked as by `find_blob`, for each blob anew, in the order asked, and let go
 /// before the next one is asked; `ServerUnavailable` comes where one doesn't come, and no further one is asked.
-pub fn email_parse<B: BodySource>(
+pub fn email_parse<W, B: BodySource<W>>(
     alloc: Global,
     state: &MailState,
     blobs: &BlobStore,
     bodies: &mut B,
+    world: &mut W,
     arguments: &Value,
 ) -> Result<Value, MethodError>
-    ensures exact { AsksAndMeets B.answers B.lacks bodies.old bodies.new Memory view result
+    ensures exact { AsksAndMeets B.answers B.lacks (bodies.old, world.old) (bodies.new, world.new) Memory view result
         (λ asks r. (h : MailHistory) → IsStateOf h state.now → RepliesEmailParse h blobs.now (view arguments.now) asks r) }
     ensures whole { IfOk result (λ value. has_float (view value) ≡ false) }
 {
     let Asked { ids, wanted } = asked_of(alloc, arguments)?;
     let once = distinct(alloc, &ids)?;
-    let shown = show_blobs(alloc, state, blobs, bodies, &wanted, &once)?;
+    let shown = show_blobs(alloc, state, blobs, bodies, world, &wanted, &once)?;
     Ok(answer_of(alloc, shown)?)
 }
