@@ -4,3 +4,5 @@ mod Unequal
 mod Keeping
 pub mod Going
 pub mod Sources
+pub mod Asking
+mod Fetched

@@ -49,7 +49,7 @@ lost_rose (Err end.Lacks) mid now later cause = omega arith
 lost_rose (Err end.Memory) mid now later cause = omega arith
 
 -- the counts bear what the end of a call over the link is blamed on
-bears_end : (result : Result (Unit {0}) LinkEnd) (b was mid now : Faults) → Bears b was mid → LinkAlone mid now → (IsErrOf result end.Lost → Rose mid.link now.link)
+pub bears_end : (result : Result (Unit {0}) LinkEnd) (b was mid now : Faults) → Bears b was mid → LinkAlone mid now → (IsErrOf result end.Lost → Rose mid.link now.link)
     → Bears (blame_link (lost_by result) b) was now
 bears_end result b was mid now bears alone cause =
     record {
@@ -164,7 +164,7 @@ dialed {left = left} {client = client} {result = result} before old machine how 
 -- ---- the round
 
 -- a client that is alive stands in a life that goes on
-in_life : (left : Option LinkLife) (client : ClientState) → StandsInLife left client → client.alive ≡ true → (life : LinkLife) × (left ≡ Some life) × Stands client life
+pub in_life : (left : Option LinkLife) (client : ClientState) → StandsInLife left client → client.alive ≡ true → (life : LinkLife) × (left ≡ Some life) × Stands client life
 in_life None client dead alive = absurd (cc (dead, alive))
 in_life (Some life) client stands alive = (life, refl, stands)
 
@@ -189,11 +189,12 @@ pub asked : {client next : ClientState} {result : Result (Unit {0}) LinkEnd} {ev
     → CameTo machine client standing.Stands was then before → machine.known ≡ Some a → client.alive ≡ true
     → ((life : LinkLife) → Stands client life → (left : LinkLife) × (rounds : Rounds a.told.mail b.told.mail life left next result events)
     × KeepsCount a.told b.told result rounds.exchanges)
-    → b.state ≡ a.state → b.served ≡ a.served
+    → b.state ≡ a.state → b.served ≡ a.served → b.bodies ≡ a.bodies
     → LinkAlone then now → (IsErrOf result end.Lost → Rose then.link now.link)
     → how ≡ standing_by result → after ≡ kept_by result (record machine { known = Some b })
     → (p : Progress) × RunsRound before events p × CameTo after next how was now p
-asked {client} {next} {result} {events} joins goes_on before machine after how was then now a b came known alive rounds state_is served_is alone cause standing_is after_is =
+asked {client} {next} {result} {events} joins goes_on before machine after how was then now a b came known alive rounds state_is served_is bodies_is alone cause standing_is
+    after_is =
     let here = in_life before.left client came.in_life alive in
     let of = held_ready before.machine machine a came.held known in
     let k : KnownMail = of.0 in
@@ -224,6 +225,7 @@ asked {client} {next} {result} {events} joins goes_on before machine after how w
                 state = subst (λ (s : ServedState). IsStateOf k.history s) (sym state_is) kept.state;
                 served = served_is ∙ kept.served;
                 told = refl;
+                bodies = bodies_is ∙ kept.bodies;
                 next = next_told joins goes_on k a b.told went.1.exchanges kept (went.1.told some);
               };
             }));
