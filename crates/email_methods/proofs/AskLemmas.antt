@@ -32,6 +32,11 @@ module _ {S : Type 0} (Answers : S → MessagePlace → Option (List ℕ) → S 
   pub vain_after : (before after : S) (P : List BodyAsk → Type 0) → AsksAnd Answers Lacks before after P → AsksInVain Answers Lacks before after
   vain_after before after P a = record { asks = a.asks; mid = after; asked = a.asked; ends = inl refl }
 
+  -- what is said of the asks says more
+  pub said_more : (before after : S) (P Q : List BodyAsk → Type 0) → ((asks : List BodyAsk) → P asks → Q asks) → AsksAnd Answers Lacks before after P
+      → AsksAnd Answers Lacks before after Q
+  said_more before after P Q so a = record { asks = a.asks; asked = a.asked; meant = so a.asks a.meant }
+
   -- ---- what is meant
 
   module _ {X Y E : Type 0} (memory : E) (see : X → Y) where
