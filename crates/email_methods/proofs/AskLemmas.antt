@@ -1,5 +1,5 @@
 -- Bodies that are asked one after another, and what comes of calls that ask them.
-use Rattle.std.proofs.Common.{◌≡◌, ◌∙◌, ◌⊎◌, inl, inr, ℕ, List, [], ◌∷◌, ◌++◌, Option, Some, None, Result, Ok, Err, refl, sym, subst}
+use Rattle.std.proofs.Common.{◌≡◌, ◌∙◌, ◌⊎◌, inl, inr, ℕ, List, [], ◌∷◌, ◌++◌, Option, Some, None, Result, Ok, Err, refl, sym, ap, subst}
 use Rattle.std.specs.Result.{IsErrAnd, IsErrOf}
 use Rattle.email_bodies.specs.Asking.{BodyAsk, Asks, NoneAsked, OneMore, AsksInVain}
 use Rattle.email_bodies.specs.declared.source.MessagePlace.{MessagePlace}
@@ -112,3 +112,10 @@ module _ {S : Type 0} (Answers : S → MessagePlace → Option (List ℕ) → S 
     same_error before after (Err f) e IsMeant is a =
         let P : E → Type 0 = λ g. ((g ≡ memory) × AsksInVain Answers Lacks before after) ⊎ AsksAnd Answers Lacks before after (λ (asks : List BodyAsk). IsMeant asks (Err g)) in
         subst P (sym is) a
+
+  -- an error that is turned into another one
+  pub turned : {E F : Type 0} (m : E) (n : F) (from : E → F) (before after : S) (e : E) (f : F) (P Q : List BodyAsk → Type 0) → f ≡ from e → from m ≡ n
+      → ((asks : List BodyAsk) → P asks → Q asks) → ((e ≡ m) × AsksInVain Answers Lacks before after) ⊎ AsksAnd Answers Lacks before after P
+      → ((f ≡ n) × AsksInVain Answers Lacks before after) ⊎ AsksAnd Answers Lacks before after Q
+  turned m n from before after e f P Q f_is m_is so (inl lacks) = inl (f_is ∙ ap from lacks.0 ∙ m_is, lacks.1)
+  turned m n from before after e f P Q f_is m_is so (inr a) = inr (said_more before after P Q so a)

@@ -1,6 +1,7 @@
 -- What an Email/get answers over the rows of a state, and that it has integers alone.
-use Rattle.std.proofs.Common.{◌≡◌, ◌∙◌, ℕ, List, [], ◌∷◌, ◌++◌, map, false, true, None, Some, Option, Result, Ok, Err, refl, sym, ap, subst}
+use Rattle.std.proofs.Common.{◌≡◌, ◌∙◌, ℕ, List, [], ◌∷◌, ◌++◌, ◌||◌, map, false, true, Result, Ok, Err, refl, sym, ap, subst}
 use Rattle.std.proofs.lemmas.List.{map-append}
+use Rattle.std.specs.Map.{keys_of}
 use Rattle.serde_json.specs.Data.{Data, string}
 use Rattle.serde_json.specs.View.{view, items_of}
 use Rattle.serde_json.specs.Written.{has_float, items_have_float}
@@ -15,8 +16,8 @@ use Rattle.mail_state.specs.History.{MailHistory}
 use Rattle.mail_state.specs.State.{ServedState, ServedRows, IsStateOf, rows_of}
 use Rattle.served_maps.specs.Past.{place_now}
 use Rattle.read_methods.specs.Replies.{type_state}
-use Rattle.email_methods.specs.EmailGet.{AnswersEmailGet, RepliesEmailGet}
-use Rattle.email_methods.specs.EmailParse.{AnswersEmailParse, RepliesEmailParse}
+use Rattle.email_methods.specs.EmailGet.{EmailsAsked, emails_asked, ShowsEmail, AnswersEmailGet, Refused, Shown, Fails, RepliesEmailGet}
+use Rattle.email_methods.specs.Showing.{ShowsAll}
 
 -- ---- each history
 
@@ -40,10 +41,28 @@ get_over_history s h d asks r stands is =
     let Q : Rows → Type 0 = λ rows. AnswersEmailGet (emails_text s) rows d asks r in
     subst P (same_text s h stands) (subst Q (same_emails s h stands) is)
 
-pub parse_over_history : (s : ServedState) (h : MailHistory) (uploads : List (List ℕ)) (d : Data) (asks : List BodyAsk) (r : Result Data MethodError) → IsStateOf h s
-    → AnswersEmailParse s.rows.numbered.rows uploads d asks r → RepliesEmailParse h uploads d asks r
-parse_over_history s h uploads d asks r stands is =
-    let P : Rows → Type 0 = λ rows. AnswersEmailParse rows uploads d asks r in subst P (same_emails s h stands) is
+-- ---- an Email/get
+
+module _ (s : ServedState) (d : Data) where
+  -- it is refused
+  pub get_refused : (e : MethodError) → emails_asked (keys_of s.rows.numbered.rows) d ≡ Err e → (h : MailHistory) → IsStateOf h s → RepliesEmailGet h d [] (Err e)
+  get_refused e is h stands = get_over_history s h d [] (Err e) stands (Refused e is)
+
+  -- a body didn't come
+  pub get_fails : (a : EmailsAsked) (numbers : List ℕ) (e : MethodError) (asks : List BodyAsk) → emails_asked (keys_of s.rows.numbered.rows) d ≡ Ok a → numbers ≡ a.asked.numbers
+      → ShowsAll (ShowsEmail s.rows.numbered.rows a.wanted) numbers asks (Err e) → (h : MailHistory) → IsStateOf h s → RepliesEmailGet h d asks (Err e)
+  get_fails a numbers e asks is same shows h stands =
+      let P : List ℕ → Type 0 = λ ns. ShowsAll (ShowsEmail s.rows.numbered.rows a.wanted) ns asks (Err e) in
+      get_over_history s h d asks (Err e) stands (Fails a e is (subst P same shows))
+
+  -- the Emails are shown
+  pub get_shown : (a : EmailsAsked) (numbers : List ℕ) (list : List Data) (reply : Data) (asks : List BodyAsk) → emails_asked (keys_of s.rows.numbered.rows) d ≡ Ok a
+      → numbers ≡ a.asked.numbers → reply ≡ get_data (emails_text s) list (map string a.asked.missing)
+      → ShowsAll (ShowsEmail s.rows.numbered.rows a.wanted) numbers asks (Ok list) → (h : MailHistory) → IsStateOf h s → RepliesEmailGet h d asks (Ok reply)
+  get_shown a numbers list reply asks is same reply_is shows h stands =
+      let P : List ℕ → Type 0 = λ ns. ShowsAll (ShowsEmail s.rows.numbered.rows a.wanted) ns asks (Ok list) in
+      let Q : Data → Type 0 = λ r. RepliesEmailGet h d asks (Ok r) in
+      subst Q (sym reply_is) (get_over_history s h d asks (Ok (get_data (emails_text s) list (map string a.asked.missing))) stands (Shown a list is (subst P same shows)))
 
 -- ---- objects in a list
 
@@ -59,7 +78,7 @@ none_seen list none = ap (λ (l : List Value). map view l) none
 
 add_whole : (ds : List Data) (d : Data) → items_have_float (items_of ds) ≡ false → has_float d ≡ false → items_have_float (items_of (ds ++ d ∷ [])) ≡ false
 add_whole [] d rest one = rw one refl
-add_whole (e ∷ es) d rest one = elim (has_float e) as (λ b. (if b then true else items_have_float (items_of es)) ≡ false → (if b then true else items_have_float (items_of (es ++ d ∷ []))) ≡ false) [
+add_whole (e ∷ es) d rest one = elim (has_float e) as (λ b. (b || items_have_float (items_of es)) ≡ false → (b || items_have_float (items_of (es ++ d ∷ []))) ≡ false) [
   | true ↦ λ is. is
   | false ↦ λ is. add_whole es d is one
 ] rest

@@ -14,11 +14,14 @@ module _ {S A D E : Type 0} (Answers : S → MessagePlace → Option (List ℕ) 
   abbrev pub SoFar : S → S → List A → List D → Type 0
   SoFar before mid rest done = AsksAnd Answers Lacks before mid (λ (asks : List BodyAsk). Leads Shows all rest asks done)
 
-  pub begins : (s : S) (done : List D) → done ≡ [] → SoFar s s all done
-  begins s done none = record {
+  pub begins : (s : S) (rest : List A) (done : List D) → rest ≡ all → done ≡ [] → SoFar s s rest done
+  begins s rest done rest_is none = record {
     asks = [];
     asked = NoneAsked;
-    meant = let P : List D → Type 0 = λ l. Leads Shows all all [] l in subst P (sym none) (leads_at_first Shows all);
+    meant =
+        let P : List D → Type 0 = λ l. Leads Shows all rest [] l in
+        let Q : List A → Type 0 = λ l. Leads Shows all l [] [] in
+        subst P (sym none) (subst Q (sym rest_is) (leads_at_first Shows all));
   }
 
   pub continues : (before mid after : S) (rest behind : List A) (x : A) (done next : List D) (d : D) → rest ≡ x ∷ behind → next ≡ done ++ d ∷ [] → SoFar before mid rest done

@@ -69,3 +69,10 @@ module _ {X : Type 0} where
       let same : asked_with letter (keys_of rows) (distinct_ids ids) ≡ asked = cc in
       let P : NumbersAsked → Type 0 = λ a. All (HasRow rows) a.numbers in
       subst P same (by_ids rows letter (distinct_ids ids))
+
+-- a number with a row isn't without one
+pub row_or_none : {X : Type 0} (rows : List (ℕ × X)) (n : ℕ) → HasRow rows n → None ≡ lookup (is_at (nat_cmp n)) rows → ⊥
+row_or_none {X} rows n there none =
+    let P : Option X → Type 0 = λ o. IsSome o in
+    let never : IsSome {T = X} None = subst P (sym none) there in
+    cc

@@ -10,7 +10,7 @@ use Rattle.email_methods.proofs.parsing.show_blobs.Given as goal
 abbrev pub invariant-loop-id : goal.invariant-loop-id
 invariant-loop-id g l = record {
   done : List ShownBlob;
-  shown : SoFar g.B.BodySource.answers g.B.BodySource.lacks (ShowsBlob l.state.rows.numbered.rows l.blobs (email_asked l.wanted)) (map (λ t. t.now) l.id-items)
+  shown : SoFar g.B.BodySource.answers g.B.BodySource.lacks (ShowsBlob l.state.rows.numbered.rows l.blobs (email_asked l.wanted)) (map (λ t. t.now) l.ids.items)
       (l.initial.bodies, l.initial.world) (l.bodies, l.world) (map (λ t. t.now) (drop l.id-index l.id-items)) done;
   gathers : Gathers done (record { parsed = members_view l.shown.parsed.entries; missing = map view l.shown.missing.items });
   whole : members_have_float (members_view l.shown.parsed.entries) ≡ false;
