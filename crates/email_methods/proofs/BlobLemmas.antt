@@ -1,18 +1,17 @@
 -- What is found of a root, and of the leaves in it.
-use Rattle.std.proofs.Common.{◌≡◌, ◌∙◌, ℕ, List, [], ◌∷◌, Bor, Option, Some, None, Ok, Err, refl, sym, ap, subst}
+use Rattle.std.proofs.Common.{◌≡◌, ◌∙◌, ℕ, List, [], ◌∷◌, Bor, Option, Some, None, Ok, Err, sym, subst}
 use Rattle.std.specs.Option.{MatchOption, option_copied}
 use Rattle.blob_store.specs.Uploads.{upload_with}
 use Rattle.change_list.specs.Advance.{row_at}
-use Rattle.email_bodies.specs.Asking.{BodyAsk}
 use Rattle.email_bodies.specs.declared.error.BodyError.TheVariants.{Ended}
 use Rattle.mail_maps.specs.Rows.{Rows}
 use Rattle.mail_maps.specs.declared.row.EmailRow.{EmailRow}
-use Rattle.message_blobs.specs.BlobIds.{BlobRoot, root_view}
+use Rattle.message_blobs.specs.BlobIds.{root_view}
 use Rattle.message_blobs.specs.NestedLeaves.{NamesOctets}
 use Rattle.message_blobs.specs.declared.blob_id.Root.{Root}
 use Rattle.message_blobs.specs.declared.blob_id.Root.TheVariants as code
 use Rattle.email_methods.specs.Asked.{ask_for}
-use Rattle.email_methods.specs.Blobs.{OctetsFound, FindsRoot, OfTheUploads, NoSuchEmail, BodyComes, BodyLacks, FindsLeaf, NoRoot, NoLeaf, Named}
+use Rattle.email_methods.specs.Blobs.{FindsRoot, OfTheUploads, NoSuchEmail, BodyComes, BodyLacks, FindsLeaf, NoRoot, NoLeaf, Named}
 
 found_upload : (id : List ℕ) (uploads : List (List ℕ)) (found : Option (Bor (List ℕ)))
     → MatchOption found (upload_with id uploads ≡ None) (λ octets. upload_with id uploads ≡ Some octets.now) → upload_with id uploads ≡ option_copied found

@@ -13,8 +13,7 @@ use Rattle.jmap_methods.specs.State.{state_text}
 use Rattle.jmap_methods.specs.declared.method_error.MethodError.{MethodError}
 use Rattle.mail_maps.specs.Rows.{Rows}
 use Rattle.mail_state.specs.History.{MailHistory}
-use Rattle.mail_state.specs.State.{ServedState, ServedRows, IsStateOf, rows_of}
-use Rattle.served_maps.specs.Past.{place_now}
+use Rattle.mail_state.specs.State.{ServedState, ServedRows, IsStateOf}
 use Rattle.read_methods.specs.Replies.{type_state}
 use Rattle.email_methods.specs.EmailGet.{EmailsAsked, emails_asked, ShowsEmail, AnswersEmailGet, Refused, Shown, Fails, RepliesEmailGet}
 use Rattle.email_methods.specs.Showing.{ShowsAll}

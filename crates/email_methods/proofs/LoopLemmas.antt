@@ -1,9 +1,9 @@
 -- A loop in which things are shown one after another.
 use Rattle.std.proofs.Common.{◌≡◌, ◌⊎◌, inl, inr, ℕ, List, [], ◌∷◌, ◌++◌, Option, Result, Ok, Err, refl, sym, subst}
-use Rattle.email_bodies.specs.Asking.{BodyAsk, Asks, NoneAsked, AsksInVain}
+use Rattle.email_bodies.specs.Asking.{BodyAsk, NoneAsked, AsksInVain}
 use Rattle.email_bodies.specs.declared.source.MessagePlace.{MessagePlace}
 use Rattle.email_bodies.proofs.Joins.{asks_join}
-use Rattle.email_methods.specs.Asked.{AsksAnd, AsksAndMeets}
+use Rattle.email_methods.specs.Asked.{AsksAnd}
 use Rattle.email_methods.specs.Showing.{ShowsAll}
 use Rattle.email_methods.proofs.AskLemmas.{vain_then}
 use Rattle.email_methods.proofs.ShowingLemmas.{Leads, leads_at_first, leads_on, leads_nowhere, leads_to_all}

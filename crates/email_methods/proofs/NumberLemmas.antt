@@ -1,5 +1,5 @@
 -- The Emails that are asked are there.
-use Rattle.std.proofs.Common.{◌≡◌, arith, ℕ, List, [], ◌∷◌, Bool, true, false, cond, if◌then◌else◌, nat_lt, nat_cmp, length, Option, Some, None, Result, Ok, Err, refl, sym, ap, subst}
+use Rattle.std.proofs.Common.{◌≡◌, arith, ℕ, List, [], ◌∷◌, Bool, true, false, cond, if◌then◌else◌, nat_lt, nat_cmp, length, Option, Some, None, Result, Ok, Err, refl, sym, subst}
 use Rattle.std.specs.BTreeMap.{is_at}
 use Rattle.std.specs.Cmp.{eq_by_cmp_equiv}
 use Rattle.std.specs.List.{All, Contains, filter_map, find, cons_option}

@@ -1,11 +1,9 @@
 -- Email/get and Email/parse have one answer for one list of answers about bodies.
-use Rattle.std.proofs.Common.{◌≡◌, ◌∙◌, ℕ, Bool, true, false, List, [], ◌∷◌, ◌++◌, map, Option, Some, None, Result, Ok, Err, refl, sym, ap, subst}
+use Rattle.std.proofs.Common.{◌≡◌, ◌∙◌, ℕ, true, false, List, [], ◌∷◌, ◌++◌, map, Option, Some, None, Result, Ok, Err, refl, sym, ap, subst}
 use Rattle.std.specs.Map.{keys_of}
 use Rattle.serde_json.specs.Data.{Data, string}
-use Rattle.change_list.specs.Advance.{row_at}
 use Rattle.body_parts.specs.Messages.{MessageData}
 use Rattle.email_bodies.specs.Asking.{BodyAsk}
-use Rattle.email_bodies.specs.declared.error.BodyError.{BodyError}
 use Rattle.email_objects.specs.EmailObjects.{IsEmailObject, IsParsedObject}
 use Rattle.email_objects.proofs.OneObject.{one_email_object, one_parsed_object}
 use Rattle.email_properties.specs.Wanted.{EmailAsked, needs_body}
@@ -16,13 +14,13 @@ use Rattle.mail_maps.specs.declared.row.EmailRow.{EmailRow}
 use Rattle.message_blobs.specs.BlobIds.{BlobRoot, IsBlobId}
 use Rattle.message_blobs.proofs.IdLemmas.{one_leaves_of}
 use Rattle.email_methods.specs.Asked.{ask_for, error_by}
-use Rattle.email_methods.specs.Blobs.{OctetsFound, FindsOctets, FindsBlob, OfBlobId}
+use Rattle.email_methods.specs.Blobs.{OctetsFound, FindsBlob, OfBlobId}
 use Rattle.email_methods.specs.EmailGet.{EmailsAsked, emails_asked, AsksBody, NotNeeded, Comes, Lacks, ShowsRow, AsObject, ShowsEmail, AnswersEmailGet}
 use Rattle.email_methods.specs.EmailGet as get
 use Rattle.email_methods.specs.EmailParse.{ParseAsked, parse_asked, ShownBlob, ShowsBlob, message_id, parse_answer, AnswersEmailParse}
 use Rattle.email_methods.specs.EmailParse as parse
 use Rattle.email_methods.specs.Showing.{ShowsAll}
-use Rattle.email_methods.proofs.OneBlob.{one_ask, came_or_not, same_body, one_blob_found}
+use Rattle.email_methods.proofs.OneBlob.{came_or_not, same_body, one_blob_found}
 use Rattle.email_methods.proofs.ShowingLemmas.{IsOne, one_showing}
 
 -- ---- Email/get

@@ -1,13 +1,10 @@
 -- A blob id names one thing for one list of answers.
-use Rattle.std.proofs.Common.{◌≡◌, ◌∙◌, ℕ, List, [], ◌∷◌, ◌++◌, Option, Some, None, Result, Ok, Err, refl, sym, ap, subst}
-use Rattle.blob_store.specs.Uploads.{upload_with}
+use Rattle.std.proofs.Common.{◌≡◌, ◌∙◌, ℕ, List, [], ◌∷◌, ◌++◌, Option, Some, None, Ok, refl, sym, ap, subst}
 use Rattle.change_list.specs.Advance.{row_at}
 use Rattle.email_bodies.specs.Asking.{BodyAsk}
-use Rattle.email_bodies.specs.declared.error.BodyError.{BodyError}
-use Rattle.email_bodies.specs.declared.error.BodyError.TheVariants.{Ended}
 use Rattle.mail_maps.specs.Rows.{Rows}
 use Rattle.mail_maps.specs.declared.row.EmailRow.{EmailRow}
-use Rattle.message_blobs.specs.BlobIds.{BlobRoot, OfEmail, OfUpload, IsBlobId}
+use Rattle.message_blobs.specs.BlobIds.{BlobRoot}
 use Rattle.message_blobs.proofs.IdLemmas.{one_root_of, one_leaves_of}
 use Rattle.message_blobs.proofs.LeafLemmas.{one_named}
 use Rattle.email_methods.specs.Asked.{ask_for}

@@ -1,5 +1,5 @@
 -- What blobs come to, as it is gathered, and that it has integers alone.
-use Rattle.std.proofs.Common.{◌≡◌, ◌∙◌, ℕ, List, [], ◌∷◌, ◌++◌, append-nil, map, true, false, ◌||◌, Option, Some, None, Result, Ok, Err, String, Global, length, option_map, refl, sym, ap, subst}
+use Rattle.std.proofs.Common.{◌≡◌, ◌∙◌, ℕ, List, [], ◌∷◌, ◌++◌, append-nil, map, false, Option, Some, None, Result, Ok, Err, String, Global, length, option_map, refl, sym, ap, subst}
 use Rattle.std.specs.Option.{IfSome}
 use Rattle.std.proofs.lemmas.Grind.{flat_map-append}
 use Rattle.std.proofs.lemmas.List.{map-append}

@@ -1,5 +1,5 @@
 -- Things that are shown one after another.
-use Rattle.std.proofs.Common.{◌≡◌, ◌∙◌, ℕ, List, [], ◌∷◌, ◌++◌, append-nil, append_assoc, Result, Ok, Err, refl, sym, ap, subst}
+use Rattle.std.proofs.Common.{◌≡◌, ◌∙◌, List, [], ◌∷◌, ◌++◌, append-nil, append_assoc, Result, Ok, Err, refl, sym, ap, subst}
 use Rattle.std.proofs.lemmas.List.{append_cancel_left}
 use Rattle.email_bodies.specs.Asking.{BodyAsk}
 use Rattle.email_methods.specs.Showing.{with_shown, ShowsAll, NoneLeft, OneShown, OneFails}

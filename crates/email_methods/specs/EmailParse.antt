@@ -3,7 +3,6 @@ use Rattle.std.specs.Prelude.{◌≡◌, ℕ, nat_lt, if◌then◌else◌, List,
 use Rattle.std.specs.List.{flat_map}
 use Rattle.serde_json.specs.Data.{Data, null, string, array, object, Members, no_members, member, put}
 use Rattle.serde_json.specs.View.{items_of}
-use Rattle.body_parts.specs.Messages.{MessageData}
 use Rattle.email_bodies.specs.Asking.{BodyAsk}
 use Rattle.email_bodies.specs.declared.error.BodyError.{BodyError}
 use Rattle.email_objects.specs.EmailObjects.{IsParsedObject}

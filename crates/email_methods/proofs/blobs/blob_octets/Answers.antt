@@ -1,4 +1,4 @@
-use Rattle.std.proofs.Common.{List, ℕ, Option, Some, None, Ok, Err}
+use Rattle.std.proofs.Common.{List, ℕ, Option, None, Ok, Err}
 use Rattle.email_bodies.specs.Asking.{BodyAsk}
 use Rattle.email_bodies.specs.declared.error.BodyError.TheVariants.{Memory}
 use Rattle.message_blobs.specs.BlobIds.{root_view}

@@ -1,4 +1,4 @@
-use Rattle.std.proofs.Common.{◌≡◌, List, ℕ, map, Result, Ok, Err}
+use Rattle.std.proofs.Common.{◌≡◌, List, map, Result, Ok, Err}
 use Rattle.std.specs.Map.{keys_of}
 use Rattle.serde_json.specs.Data.{Data}
 use Rattle.serde_json.specs.View.{view}
