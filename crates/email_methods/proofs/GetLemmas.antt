@@ -85,7 +85,8 @@ add_whole (e ∷ es) d rest one = elim (has_float e) as (λ b. (b || items_have_
 -- one object more has them
 pub more_whole : (list next : List Value) (object : Value) → next ≡ list ++ object ∷ [] → items_have_float (items_of (map view list)) ≡ false → has_float (view object) ≡ false
     → items_have_float (items_of (map view next)) ≡ false
-more_whole list next object more rest one = ap (λ (ds : List Data). items_have_float (items_of ds)) (seen-add list next object more) ∙ add_whole (map view list) (view object) rest one
+more_whole list next object more rest one = ap (λ (ds : List Data). items_have_float (items_of ds)) (seen-add list next object more) ∙ add_whole (map view list) (view object)
+    rest one
 
 pub none_whole : (list : List Value) → list ≡ [] → items_have_float (items_of (map view list)) ≡ false
 none_whole list none = ap (λ (l : List Value). items_have_float (items_of (map view l))) none

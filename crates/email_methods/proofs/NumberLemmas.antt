@@ -45,7 +45,8 @@ module _ {X : Type 0} where
 
   by_ids : (rows : List (ℕ × X)) (letter : ℕ) (ids : List (List ℕ)) → All (HasRow rows) (filter_map (number_with letter (keys_of rows)) ids)
   by_ids rows letter [] = λ k d below. absurd (omega (arith, below))
-  by_ids rows letter (id ∷ ids) = with_one rows (number_with letter (keys_of rows) id) (filter_map (number_with letter (keys_of rows)) ids) (by_id rows letter id) (by_ids rows letter ids)
+  by_ids rows letter (id ∷ ids) = with_one rows (number_with letter (keys_of rows) id) (filter_map (number_with letter (keys_of rows)) ids) (by_id rows letter id)
+      (by_ids rows letter ids)
 
   all_rows : (rows : List (ℕ × X)) → All (HasRow rows) (keys_of rows)
   all_rows rows = All-weaker (Contains (keys_of rows)) (HasRow rows) (λ n there. IsSome-lookup_from_Contains (eq_by_cmp_equiv nat_cmp_total) n rows there)

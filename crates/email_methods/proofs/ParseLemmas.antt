@@ -1,5 +1,6 @@
 -- What blobs come to, as it is gathered, and that it has integers alone.
-use Rattle.std.proofs.Common.{◌≡◌, ◌∙◌, ℕ, List, [], ◌∷◌, ◌++◌, append-nil, map, false, Option, Some, None, Result, Ok, Err, String, Global, length, option_map, refl, sym, ap, subst}
+use Rattle.std.proofs.Common.{◌≡◌, ◌∙◌, ℕ, List, [], ◌∷◌, ◌++◌, append-nil, map, false, Option, Some, None, Result, Ok, Err, String, Global, length, option_map, refl}
+use Rattle.std.proofs.Common.{sym, ap, subst}
 use Rattle.std.specs.Option.{IfSome}
 use Rattle.std.proofs.lemmas.Grind.{flat_map-append}
 use Rattle.std.proofs.lemmas.List.{map-append}
@@ -33,7 +34,8 @@ parsed-append (c ∷ cs) b ms = parsed-append cs b (put_found c.id c.found ms)
 
 missing-append : (done : List ShownBlob) (b : ShownBlob) → map string (missing_ids (done ++ b ∷ [])) ≡ map string (missing_ids done) ++ map string (missing_id b.id b.found)
 missing-append done b =
-    ap (map string) (flat_map-append (λ (c : ShownBlob). missing_id c.id c.found) done (b ∷ []) ∙ ap (λ (l : List (List ℕ)). missing_ids done ++ l) (append-nil (missing_id b.id b.found)))
+    ap (map string) (flat_map-append (λ (c : ShownBlob). missing_id c.id c.found) done (b ∷ []) ∙ ap (λ (l : List (List ℕ)). missing_ids done ++ l)
+    (append-nil (missing_id b.id b.found)))
     ∙ map-append string (missing_ids done) (missing_id b.id b.found)
 
 -- one blob more is gathered
@@ -45,7 +47,8 @@ gathers_on done g next b so_far parsed missing = record {
 }
 
 -- what is gathered is that of the blobs
-pub gathered_is : (shown : List ShownBlob) (g : Gathered) → Gathers shown g → parse_data g.parsed g.missing ≡ parse_data (parsed_members shown no_members) (map string (missing_ids shown))
+pub gathered_is : (shown : List ShownBlob) (g : Gathered) → Gathers shown g → parse_data g.parsed g.missing ≡ parse_data (parsed_members shown no_members)
+    (map string (missing_ids shown))
 gathered_is shown g gathers =
     ap (λ (ms : Members). parse_data ms g.missing) gathers.parsed ∙ ap (parse_data (parsed_members shown no_members)) gathers.missing
 

@@ -71,7 +71,8 @@ pub record ShowsEmail (emails : Rows) (wanted : EmailAsked) (n : ℕ) (asks : Li
 pub data AnswersEmailGet (state : List ℕ) (emails : Rows) (d : Data) : List BodyAsk → Result Data MethodError → Type 0 where
   Refused : (e : MethodError) → emails_asked (keys_of emails) d ≡ Err e → AnswersEmailGet state emails d [] (Err e)
   Shown : {asks : List BodyAsk} (a : EmailsAsked) (list : List Data) → emails_asked (keys_of emails) d ≡ Ok a
-      → ShowsAll (ShowsEmail emails a.wanted) a.asked.numbers asks (Ok list) → AnswersEmailGet state emails d asks (Ok (get_data state list (map string a.asked.missing)))
+      → ShowsAll (ShowsEmail emails a.wanted) a.asked.numbers asks (Ok list) → AnswersEmailGet state emails d asks
+      (Ok (get_data state list (map string a.asked.missing)))
   Fails : {asks : List BodyAsk} (a : EmailsAsked) (e : MethodError) → emails_asked (keys_of emails) d ≡ Ok a
       → ShowsAll (ShowsEmail emails a.wanted) a.asked.numbers asks (Err e) → AnswersEmailGet state emails d asks (Err e)
 

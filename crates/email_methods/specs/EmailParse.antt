@@ -64,7 +64,8 @@ message_id leaves id = if nat_lt (length leaves) MAX_LEAVES then Some id else No
 
 -- as an object, where there are octets of the id; any octets are a message
 pub data ShowsBlob (emails : Rows) (uploads : List (List ℕ)) (wanted : EmailAsked) (id : List ℕ) : List BodyAsk → Result ShownBlob MethodError → Type 0 where
-  NotFound : {asks : List BodyAsk} → FindsBlob emails uploads id asks (Ok None) → ShowsBlob emails uploads wanted id asks (Ok (record { id = id; found = None }))
+  NotFound : {asks : List BodyAsk} → FindsBlob emails uploads id asks (Ok None) → ShowsBlob emails uploads wanted id asks
+      (Ok (record { id = id; found = None }))
   Parsed : {asks : List BodyAsk} (root : BlobRoot) (leaves octets : List ℕ) (message : Data) → IsBlobId root leaves id
       → FindsOctets emails uploads root leaves asks (Ok (Some octets)) → IsParsedObject (record { octets = octets; id = message_id leaves id }) wanted message
       → ShowsBlob emails uploads wanted id asks (Ok (record { id = id; found = Some message }))

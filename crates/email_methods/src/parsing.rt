@@ -110,7 +110,8 @@ fn parsed_blob<W, B: BodySource<W>>(
     wanted: &EmailWanted<'_>,
     id: &str,
 ) -> Result<Option<Value>, MethodError>
-    ensures shows { AsksAndMeets B.answers B.lacks (bodies.old, world.old) (bodies.new, world.new) Memory (λ o. record { id = id.now; found = option_map view o }) result
+    ensures shows { AsksAndMeets B.answers B.lacks (bodies.old, world.old) (bodies.new, world.new) Memory
+        (λ o. record { id = id.now; found = option_map view o }) result
         (ShowsBlob state.now.rows.numbered.rows blobs.now (email_asked wanted.now) id.now) }
     ensures whole { IfOk result (λ o. IfSome o (λ value. has_float (view value) ≡ false)) }
 {

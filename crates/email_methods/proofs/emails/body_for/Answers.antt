@@ -20,5 +20,6 @@ returns-in-Ok-clause-asks g c =
 pub returns-in-Err-clause-asks : goal.returns-in-Err-clause-asks
 returns-in-Err-clause-asks g c =
     failed g.B.BodySource.answers g.B.BodySource.lacks Memory (λ (o : Option (List ℕ)). o) error_by (c.args.bodies.now, c.args.world.now) (c.body.new.self, c.body.new.world)
-    c.place_of.result (place_of c.args.row.now) c.in-Err.error c.error_of.result (AsksBody (email_asked c.args.wanted.now) c.args.row.now) c.place_of.ensures c.error_of.ensures refl
+    c.place_of.result (place_of c.args.row.now) c.in-Err.error c.error_of.result (AsksBody (email_asked c.args.wanted.now) c.args.row.now) c.place_of.ensures
+    c.error_of.ensures refl
     c.in-Err.ensures.ended c.in-Err.ensures.memory (Lacks (sym c.needs_body.ensures ∙ c.if-not-needs_body.false))

@@ -56,7 +56,8 @@ returns-in_err-add_object-clause-shows g c =
     c.from_residual-in_err-add_object.result (ShowsAll Shows numbers) c.from_residual-in_err-add_object.ensures.1
     (lacks_behind g.B.BodySource.answers g.B.BodySource.lacks Shows numbers (c.args.bodies.now, c.args.world.now) (c.loop-number.bodies, c.loop-number.world)
     (c.row_value.new.bodies, c.row_value.new.world) (drop c.loop-number.number-index numbers) (map view c.loop-number.list.items)
-    (λ (asks : List BodyAsk). ShowsRow (email_asked c.args.wanted.now) c.in-Some.row.now asks (Ok (view c.in_ok-object.object))) c.loop-number.invariant.shown c.in_ok-object.ensures.shows)
+    (λ (asks : List BodyAsk). ShowsRow (email_asked c.args.wanted.now) c.in-Some.row.now asks (Ok (view c.in_ok-object.object))) c.loop-number.invariant.shown
+    c.in_ok-object.ensures.shows)
 
 pub loop-number-preserved : goal.loop-number-preserved
 loop-number-preserved g c =

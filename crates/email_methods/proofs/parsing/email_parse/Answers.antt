@@ -73,4 +73,5 @@ returns-clause-exact g c =
     let value = c.in_ok-answer_of.field-0 in
     given_after g.B.BodySource.answers g.B.BodySource.lacks Memory view (c.args.bodies.now, c.args.world.now) (c.show_blobs.new.bodies, c.show_blobs.new.world) value
     (Meant s c.args.blobs.now d) (λ (asks : List BodyAsk). GathersThese s.rows.numbered.rows c.args.blobs.now a.wanted once asks (Ok gathered))
-    (λ asks m. parsing_shown s c.args.blobs.now d a once gathered (view value) asks c.in_ok-ids.ensures c.in_ok-once.ensures c.in_ok-answer_of.ensures m) c.in_ok-shown.ensures.shows
+    (λ asks m. parsing_shown s c.args.blobs.now d a once gathered (view value) asks c.in_ok-ids.ensures c.in_ok-once.ensures c.in_ok-answer_of.ensures m)
+    c.in_ok-shown.ensures.shows

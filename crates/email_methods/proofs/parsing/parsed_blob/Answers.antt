@@ -47,7 +47,8 @@ returns-in-Err-clause-shows g c =
     turned g.B.BodySource.answers g.B.BodySource.lacks body.Memory Memory error_by (c.args.bodies.now, c.args.world.now) (c.blob_octets.new.bodies, c.blob_octets.new.world) e f
     (λ (asks : List BodyAsk). FindsOctets emails c.args.blobs.now root leaves asks (Err e)) (λ (asks : List BodyAsk). ShowsBlob emails c.args.blobs.now wanted id asks (Err f))
     c.error_of.ensures refl
-    (λ asks m. blob_fails emails c.args.blobs.now wanted id c.as_bytes.result.now c.as_bytes.ensures.value root leaves c.in-Some.ensures asks e f c.error_of.ensures m) c.in-Err.ensures
+    (λ asks m. blob_fails emails c.args.blobs.now wanted id c.as_bytes.result.now c.as_bytes.ensures.value root leaves c.in-Some.ensures asks e f c.error_of.ensures m)
+    c.in-Err.ensures
 
 pub returns-in-Ok-None-clause-shows : goal.returns-in-Ok-None-clause-shows
 returns-in-Ok-None-clause-shows g c =
@@ -59,7 +60,8 @@ returns-in-Ok-None-clause-shows g c =
     let o = c.in-Ok-None.field-0 in
     given_after g.B.BodySource.answers g.B.BodySource.lacks Memory (shown_as id) (c.args.bodies.now, c.args.world.now) (c.blob_octets.new.bodies, c.blob_octets.new.world)
     None (ShowsBlob emails c.args.blobs.now wanted id) (λ (asks : List BodyAsk). FindsOctets emails c.args.blobs.now root leaves asks (Ok o))
-    (λ asks m. blob_gone emails c.args.blobs.now wanted id c.as_bytes.result.now c.as_bytes.ensures.value root leaves c.in-Some.ensures asks o c.in-Ok-None.field-0-is m) c.in-Ok-None.ensures
+    (λ asks m. blob_gone emails c.args.blobs.now wanted id c.as_bytes.result.now c.as_bytes.ensures.value root leaves c.in-Some.ensures asks o c.in-Ok-None.field-0-is m)
+    c.in-Ok-None.ensures
 
 pub returns-in_ok-message_value-in-Ok-Some-clause-shows : goal.returns-in_ok-message_value-in-Ok-Some-clause-shows
 returns-in_ok-message_value-in-Ok-Some-clause-shows g c =

@@ -26,7 +26,8 @@ no_text = record { ref_ptr = (0, 0); now = [] }
 pub loop-id-init : goal.loop-id-init
 loop-id-init g c = record {
   done = [];
-  shown = begins g.B.BodySource.answers g.B.BodySource.lacks (ShowsBlob c.args.state.now.rows.numbered.rows c.args.blobs.now (email_asked c.args.wanted.now)) (nows c.args.ids.now.items)
+  shown = begins g.B.BodySource.answers g.B.BodySource.lacks (ShowsBlob c.args.state.now.rows.numbered.rows c.args.blobs.now (email_asked c.args.wanted.now))
+      (nows c.args.ids.now.items)
       (c.args.bodies.now, c.args.world.now) (nows c.deref-id-items.result.now) [] (ap nows c.deref-id-items.ensures.value) refl;
   gathers = none_gathered c.new.result.entries c.new-2.result.items c.new.ensures.empty c.new-2.ensures.items;
   whole = members_whole c.new.result.entries c.new.ensures.empty;
@@ -57,7 +58,8 @@ returns-in_err-add_shown-clause-shows g c =
     let i = c.loop-id.id-index in
     let id = (get_or items i no_text).now in
     lacks_memory g.B.BodySource.answers g.B.BodySource.lacks Memory gathered (c.args.bodies.now, c.args.world.now) (c.parsed_blob.new.bodies, c.parsed_blob.new.world)
-    c.from_residual-in_err-add_shown.result (GathersThese c.args.state.now.rows.numbered.rows c.args.blobs.now (email_asked c.args.wanted.now) ids) c.from_residual-in_err-add_shown.ensures.1
+    c.from_residual-in_err-add_shown.result (GathersThese c.args.state.now.rows.numbered.rows c.args.blobs.now (email_asked c.args.wanted.now) ids)
+    c.from_residual-in_err-add_shown.ensures.1
     (lacks_behind g.B.BodySource.answers g.B.BodySource.lacks Shows ids (c.args.bodies.now, c.args.world.now) (c.loop-id.bodies, c.loop-id.world)
     (c.parsed_blob.new.bodies, c.parsed_blob.new.world) (nows (drop i items)) c.loop-id.invariant.done
     (λ (asks : List BodyAsk). Shows id asks (Ok (record { id = id; found = option_map view c.in_ok-found.found }))) c.loop-id.invariant.shown c.in_ok-found.ensures.shows)
