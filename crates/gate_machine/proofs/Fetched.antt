@@ -147,6 +147,7 @@ module _ (joins : NextJoins) {message : MessagePlace} {before after : Moment} {t
               subst (λ (x : SourceState). LeavesSource (out_of_memory (after_asking s.asks)) x was after.faults) (sym after_is)
                   (record { in_life = s.stands; bears = s.bears }),
             ));
+        counts = subst (λ (x : SourceState). CountsOn before.source.told x.told) (sym after_is) came.counts;
         goes_on = goes_on came;
       }
 
@@ -162,6 +163,7 @@ module _ (joins : NextJoins) {message : MessagePlace} {before after : Moment} {t
               subst (λ (x : SourceState). LeavesSource (out_of_memory (after_asking s.asks)) x was after.faults) (sym after_is)
                   (record { in_life = s.stands; bears = s.bears }),
             ));
+        counts = subst (λ (x : SourceState). CountsOn before.source.told x.told) (sym after_is) came.counts;
         goes_on = goes_on came;
       }
 
@@ -214,6 +216,7 @@ pub runs_out_first : (message : MessagePlace) (m : Moment) → RunsOut message m
 runs_out_first message m =
     record {
       run = none m.tape _ (λ p was holds. (out_of_memory p, Unasked refl refl, record { in_life = holds.in_life; bears = holds.bears }));
+      counts = counts_none m.source.told;
       goes_on = goes_on_none m;
     }
 

@@ -1,4 +1,4 @@
-mod Stages
+pub mod Stages
 mod Owed
 mod Unequal
 mod Keeping
@@ -6,3 +6,4 @@ pub mod Going
 pub mod Sources
 pub mod Asking
 mod Fetched
+mod Lent

@@ -1,5 +1,5 @@
 -- A request's way to the mail, stage by stage.
-use Rattle.std.proofs.Common.{arith, fold, ◌≡◌, ◌≢◌, ◌++◌, ◌≤◌, ◌+◌, ℕ, Bool, true, false, List, [], Option, Some, None, Result, Ok, Err, refl, sym, ◌∙◌, ap, subst, inl, inr}
+use Rattle.std.proofs.Common.{arith, fold, ◌≡◌, ◌≢◌, ◌++◌, ◌≤◌, ◌+◌, ℕ, true, false, List, [], Option, Some, None, Result, Ok, Err, refl, sym, ◌∙◌, ap, subst, inl, inr}
 use Rattle.std.specs.Prelude.{◌∷◌, IsErrOf, OnOk, OnErr}
 use Rattle.std.specs.declared.alloc.AllocError.{AllocError}
 use Rattle.std.proofs.lemmas.List.{append-nil}
@@ -10,7 +10,6 @@ use Rattle.told_folder.specs.declared.exchange.Exchange.{Exchange}
 use Rattle.told_mail.specs.Exchanges.{tell}
 use Rattle.told_mail.specs.Mail.{Mail, IsMail, IsNextMail}
 use Rattle.told_mail.specs.Told.{Told}
-use Rattle.imap_exchange.specs.Answering.{HangsUp}
 use Rattle.imap_exchange.specs.declared.link_end.LinkEnd.{LinkEnd}
 use Rattle.imap_exchange.specs.declared.link_end.LinkEnd.TheVariants as end
 use Rattle.imap_client.specs.LinkLife.{LinkLife, ClientState, Stands, fresh}
@@ -22,7 +21,7 @@ use Rattle.gate_machine.specs.Holding.{AreBothReady, HoldsMachine, unready}
 use Rattle.gate_machine.specs.Kept.{KeptMail, IsKeptOf}
 use Rattle.gate_machine.specs.Machine.{MachineState, opened, hearing, committed, forgotten}
 use Rattle.gate_machine.specs.Progress.{Progress, CameTo, Bears, StandsInLife, idle, ended_after, out_of_memory, is_up, standing_by, machine_by, kept_by, lost_by, blame_link}
-use Rattle.gate_machine.specs.Beginning.{Readies, Ready, Restart, LacksRoom, ReadiesTo, Dials, RunsRound, Settles, Same, Moves, Spends, Lacks, AsksThen, DialsTo, BeginsTo, Visits}
+use Rattle.gate_machine.specs.Beginning.{Readies, Ready, Restart, LacksRoom, ReadiesTo, Dials, RunsRound, Settles, Same, Moves, Spends, Lacks, AsksThen, DialsTo, BeginsTo}
 use Rattle.gate_machine.specs.declared.machine.Machine.{Machine}
 use Rattle.gate_machine.specs.declared.standing.Fall.TheVariants.{Spent}
 use Rattle.gate_machine.specs.declared.standing.Standing.{Standing}
@@ -402,25 +401,9 @@ begun_only {before = before} f xs readies held dead =
     }
 
 -- whether the link is up is what the client knows
-up_is : (left : Option LinkLife) (client : ClientState) → StandsInLife left client → client.alive ≡ is_up left
+pub up_is : (left : Option LinkLife) (client : ClientState) → StandsInLife left client → client.alive ≡ is_up left
 up_is None client dead = dead
 up_is (Some life) client stands = stands.alive
 
-stays_borne : (b was mid now : Faults) → Bears b was mid → NoFault mid now → Bears b was now
+pub stays_borne : (b was mid now : Faults) → Bears b was mid → NoFault mid now → Bears b was now
 stays_borne b was mid now bears same = subst (λ (f : Faults). Bears b was f) (sym same) bears
-
--- the whole way, and the link is hung up
-pub visited : {user password : List ℕ} {before : MachineState} {machine : Machine} {client : ClientState} {how : Standing} {was mid now : Faults} (xs ys : List Event)
-    → BeginsTo user password before machine client how was mid xs → HangsUp client.alive ys → NoFault mid now → Visits user password before machine how was now (xs ++ ys)
-visited {client = client} {was = was} {mid = mid} {now = now} xs ys begins hangs same =
-    record {
-      after = begins.after;
-      beginning = xs;
-      ending = ys;
-      begins = begins.begins;
-      hangs = subst (λ (b : Bool). HangsUp b ys) (up_is begins.after.left client begins.came.in_life) hangs;
-      whole = refl;
-      held = begins.came.held;
-      standing_is = begins.came.standing_is;
-      bears = stays_borne begins.after.blamed was mid now begins.came.bears same;
-    }

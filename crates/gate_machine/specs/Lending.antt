@@ -5,12 +5,14 @@ use Rattle.gate_world.specs.Tape.{Adds}
 use Rattle.gate_world.specs.declared.event.Event.{Event}
 use Rattle.told_mail.specs.Mail.{IsNextMail}
 use Rattle.told_mail.specs.Told.{Told}
+use Rattle.mail_state.specs.State.{IsStateOf}
 use Rattle.email_bodies.specs.Keeping.{Bodies}
 use Rattle.email_bodies.specs.declared.source.MessagePlace.{MessagePlace}
 use Rattle.imap_client.specs.LinkLife.{ClientState}
 use Rattle.imap_client.specs.Rounds.{CountsOn}
 use Rattle.gate_machine.specs.Fetching.{AsksBody, LacksBody}
 use Rattle.gate_machine.specs.History.{KnownMail}
+use Rattle.gate_machine.specs.Kept.{ServedMail}
 use Rattle.gate_machine.specs.Progress.{Progress, Bears, StandsInLife}
 
 -- the mail told so far, the bodies that are kept, and the client
@@ -29,7 +31,12 @@ pub record HoldsSource (p : Progress) (source : SourceState) (was now : Faults) 
   pub in_life : StandsInLife p.left source.client
   pub bears : Bears p.blamed was now
 
--- the same once memory ran out
+-- what is lent of what is known beside the source
+pub record IsLentOf (k : KnownMail) (served : ServedMail) : Type 0 where
+  pub state : IsStateOf k.history served.state
+  pub served_is : served.served ≡ k.history.mail
+
+-- where memory ran out the client stands in the link life still
 pub record LeavesSource (p : Progress) (source : SourceState) (was now : Faults) : Type 0 where
   pub in_life : StandsInLife p.left source.client
   pub bears : Bears p.blamed was now
@@ -55,6 +62,7 @@ pub record AnswersBody (message : MessagePlace) (body : Option (List ℕ)) (befo
 
 -- memory runs out as it is asked
 pub record RunsOut (message : MessagePlace) (before after : Moment) : Type 0 where
+  pub counts : CountsOn before.source.told after.source.told
   pub run : Adds before.tape after.tape (λ es. (p : Progress) (was : Faults) → HoldsSource p before.source was before.faults
       → (q : Progress) × LacksBody message p es q × LeavesSource q after.source was after.faults)
   pub goes_on : GoesOn before after

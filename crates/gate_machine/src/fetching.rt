@@ -41,7 +41,7 @@ fn error_of(end: LinkEnd) -> BodyError
 
 impl Fetching {
     /// What is told, the bodies that are kept, and the client.
-    pub fn new(told: Mirror, bodies: BodyCache, client: Client) -> Fetching
+    pub(crate) fn new(told: Mirror, bodies: BodyCache, client: Client) -> Fetching
         ensures { result ≡ record { told = told; bodies = bodies; client = client } }
     {
         Fetching {
@@ -52,7 +52,7 @@ impl Fetching {
     }
 
     /// The same, in parts.
-    pub fn into_parts(self) -> (Mirror, BodyCache, Client)
+    pub(crate) fn into_parts(self) -> (Mirror, BodyCache, Client)
         ensures told { result.0 ≡ self.told }
         ensures bodies { result.1 ≡ self.bodies }
         ensures client { result.2 ≡ self.client }

@@ -170,7 +170,7 @@ impl Served {
 
 impl Known {
     /// What calls may look at, and where they get bodies over this client's link life.
-    pub fn lend(self, client: Client) -> (Served, Fetching)
+    pub(crate) fn lend(self, client: Client) -> (Served, Fetching)
         ensures state { result.0.state ≡ self.state }
         ensures served { result.0.served ≡ self.served }
         ensures fetching { result.1 ≡ record { told = self.told; bodies = self.bodies; client = client } }
@@ -193,7 +193,7 @@ impl Known {
     }
 
     /// What was lent is known again, and the client.
-    pub fn returned(served: Served, fetching: Fetching) -> (Known, Client)
+    pub(crate) fn returned(served: Served, fetching: Fetching) -> (Known, Client)
         requires { IsSameSince served fetching.told }
         ensures known { result.0 ≡ record { state = served.state; served = served.served; told = fetching.told; bodies = fetching.bodies } }
         ensures client { result.1 ≡ fetching.client }

@@ -17,7 +17,7 @@ mod fetching;
 // Laws.
 mod laws;
 
-pub use beginning::{begin, visit};
+pub use beginning::begin;
 pub use fetching::Fetching;
 pub use known::{Known, Served};
 pub use laws::{
