@@ -1,0 +1,9 @@
+mod AskLemmas
+mod ShowingLemmas
+mod LoopLemmas
+mod NumberLemmas
+mod BlobLemmas
+mod GetLemmas
+mod ParseLemmas
+mod OneBlob
+mod OneAnswer
