@@ -1,9 +1,0 @@
-pub mod HeaderLemmas
-pub mod PlainLemmas
-pub mod LeafLemmas
-pub mod ListLemmas
-pub mod WholeLemmas
-pub mod KinLemmas
-pub mod OneObject
-pub mod TextLemmas
-pub mod TagLemmas
